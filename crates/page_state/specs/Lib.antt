@@ -1,3 +1,9 @@
 pub mod Entries
+pub mod Geometries
+pub mod LayoutFaults
 pub mod Map
 pub mod Regions
+pub mod Runs
+pub mod Search
+pub mod Tests
+pub mod Texts

@@ -1,26 +1,63 @@
 //! What a map says of a page.
-ghost use Rattle.std.specs.Prelude.{◌≡◌};
+ghost use Rattle.std.specs.Prelude.{◌≡◌, ◌≤◌, ◌&&◌, ◌↔◌, IsTrue, nat_le};
 ghost use Rattle.page_state.specs.Entries.{advance, CanAdvance, entry_of_word, word_of_entry, entry_of_target, target_of};
+ghost use Rattle.page_state.specs.LayoutFaults.{AreDisjoint};
+ghost use Rattle.page_state.specs.Regions.{is_in_range, end_of};
 
 use descriptor::{Desc, Frame, Kind, Owner, Prot, State};
 
-/// A page of a tree's input: an address divided by 4,096.
-#[derive(Clone, Copy, PartialEq, Eq, PartialOrd, Ord, Debug)]
+/// A page of a tree's input: an input address divided by 4,096 (Arm DDI 0487, D8.2, 4 KiB granule).
+#[derive(Clone, Copy, PartialEq, Debug)]
 pub struct Page(pub u64);
 
-/// `count` pages from `first` on.
-#[derive(Clone, Copy, PartialEq, Eq, Debug)]
+/// `count` pages from `first` on. They may be none, and may end past every number of 64 bits.
+#[derive(Clone, Copy, PartialEq, Debug)]
 pub struct PageRange {
     pub first: Page,
     pub count: u64,
 }
 
-/// What a map says of one page. Malformed stands only in what is read from poked tables.
-#[derive(Clone, Copy, PartialEq, Eq, Debug)]
+impl PageRange {
+    /// Whether a page is one of the range. The range may end past 2^64.
+    pub fn contains(self, page: Page) -> bool
+        ensures { result ≡ is_in_range self page.0 }
+    {
+        page.0 >= self.first.0 && page.0 - self.first.0 < self.count
+    }
+
+    /// Whether no page is in both ranges. They may end past 2^64.
+    pub fn is_disjoint(self, other: PageRange) -> bool
+        ensures { IsTrue result ↔ AreDisjoint self other }
+    {
+        if self.count == 0 || other.count == 0 {
+            true
+        } else if self.first.0 <= other.first.0 {
+            other.first.0 - self.first.0 >= self.count
+        } else {
+            self.first.0 - other.first.0 >= other.count
+        }
+    }
+
+    /// Whether the range begins and ends within the other. They may end past 2^64.
+    pub fn is_within(self, other: PageRange) -> bool
+        ensures { result ≡ (nat_le other.first.0 self.first.0 && nat_le (end_of self) (end_of other)) }
+    {
+        self.first.0 >= other.first.0
+            && self.first.0 - other.first.0 <= other.count
+            && self.count <= other.count - (self.first.0 - other.first.0)
+    }
+}
+
+/// What a map says of one page.
+#[derive(Clone, Copy, PartialEq, Debug)]
 pub enum Entry {
+    /// Nothing maps the page, and nobody is named as its owner.
     Unmapped,
+    /// The page's word is malformed. It stands only in what is read from poked tables.
     Malformed,
+    /// The page is kept for that owner (profile).
     Annotated(Owner),
+    /// The page maps to the frame.
     Leaf {
         frame: Frame,
         prot: Prot,
@@ -30,10 +67,13 @@ pub enum Entry {
 }
 
 /// An entry that isn't Unmapped.
-#[derive(Clone, Copy, PartialEq, Eq, Debug)]
+#[derive(Clone, Copy, PartialEq, Debug)]
 pub enum Target {
+    /// As in `Entry`.
     Malformed,
+    /// As in `Entry`.
     Annotated(Owner),
+    /// As in `Entry`.
     Leaf {
         frame: Frame,
         prot: Prot,
@@ -43,14 +83,14 @@ pub enum Target {
 }
 
 /// A run of pages: the first has `target`, and the frame of a leaf grows with the page.
-#[derive(Clone, Copy, PartialEq, Eq, Debug)]
+#[derive(Clone, Copy, PartialEq, Debug)]
 pub struct Run {
     pub pages: PageRange,
     pub target: Target,
 }
 
 impl Entry {
-    /// The entry `offset` pages further on in a run.
+    /// The entry `offset` pages further on in a run: a leaf's frame grows with the page.
     pub fn advance(self, offset: u64) -> Entry
         requires { CanAdvance self offset }
         ensures { result ≡ advance self offset }
@@ -142,6 +182,7 @@ impl From<Entry> for Desc {
     }
 }
 
+/// The entry of a target.
 impl From<Target> for Entry {
     ghost from_gives = { λ target entry. entry ≡ entry_of_target target };
 

@@ -6,6 +6,7 @@ mod layout;
 mod reply;
 mod row;
 mod step;
+mod text;
 
 pub use descriptor::{Frame, Kind, Owner, Prot, State};
 pub use entry::{Entry, Page, PageRange, Run, Target};
@@ -13,3 +14,6 @@ pub use layout::{Config, Geometry, Layout, LayoutFault, MemoryMap, Region, Regio
 pub use reply::{Call, Refusal, Reply, Value};
 pub use row::{Lent, Row, Usage};
 pub use step::{Step, VmId, VmKind};
+
+#[cfg(test)]
+mod tests;

@@ -1,2 +1,15 @@
-//! (to be written)
+//! Stage 2 tables as trees: looking, and editing with tables from a stock (Arm DDI 0487, D8.2).
 #![tactic(auto)]
+
+mod edit;
+mod stock;
+mod table;
+mod tree;
+mod word;
+
+pub use stock::{Stock, reserve};
+pub use table::{Reads, Slot, Table};
+pub use tree::Tree;
+
+#[cfg(test)]
+mod tests;

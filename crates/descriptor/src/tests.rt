@@ -1,0 +1,76 @@
+use crate::{Desc, Frame, Kind, Level, Owner, Prot, State, block_pages_of, decode, encode};
+
+fn leaf(frame: u64, prot: Prot, kind: Kind, state: State) -> Desc {
+    Desc::Leaf {
+        frame: Frame(frame),
+        prot,
+        kind,
+        state,
+    }
+}
+
+fn owned(frame: u64) -> Desc {
+    leaf(frame, Prot::RWX, Kind::Normal, State::Owned)
+}
+
+#[test]
+fn decodes_at_each_level(rt: HostRuntime) {
+    for (level, word, desc) in [
+        (
+            Level::Three,
+            0x0080_0000_4000_07ff,
+            leaf(0x40000, Prot::RWX, Kind::Normal, State::SharedOwned),
+        ),
+        (Level::Three, 0x0000_0000_4000_07fd, Desc::Malformed),
+        (Level::Two, 0x0000_0000_4000_07fd, owned(0x40000)),
+        (Level::One, 0x0000_0000_4000_07fd, owned(0x40000)),
+        (Level::One, 0x0000_0000_4020_07fd, Desc::Malformed),
+        (Level::Two, 0x104, Desc::Annotated(Owner(65))),
+        (Level::Two, 0x400, Desc::Malformed),
+        (Level::Two, 0x2, Desc::Malformed),
+        (Level::Three, 0x8, Desc::Annotated(Owner(2))),
+    ] {
+        assert_eq!(rt; decode(level, word), desc, "{word:#x} at {level:?}");
+    }
+}
+
+#[test]
+fn reads_and_writes_pages(rt: HostRuntime) {
+    for (word, prot, state) in [
+        (0x0000_0000_4010_07ff, Prot::RWX, State::Owned),
+        (0x0080_0000_4010_07ff, Prot::RWX, State::SharedOwned),
+        (0x0100_0000_4010_07ff, Prot::RWX, State::SharedBorrowed),
+        (0x0040_0000_4010_07ff, Prot::RW, State::Owned),
+        (0x0140_0000_4010_07ff, Prot::RW, State::SharedBorrowed),
+        (0x0100_0000_4010_077f, Prot::RX, State::SharedBorrowed),
+    ] {
+        let desc = leaf(0x40100, prot, Kind::Normal, state);
+        assert_eq!(rt; decode(Level::Three, word), desc, "{word:#x}");
+        assert_eq!(rt; encode(Level::Three, &desc), Some(word), "{word:#x}");
+    }
+}
+
+#[test]
+fn refuses_malformed_pages(rt: HostRuntime) {
+    for word in [
+        0x0080_0000_4010_07fd,
+        0x0080_0000_4010_03ff,
+        0x0080_0000_4010_06ff,
+        0x0080_0000_4010_07df,
+        0x0080_0000_4010_07bf,
+        0x0080_0000_4010_0fff,
+        0x0280_0000_4010_07ff,
+        0x0081_0000_4010_07ff,
+        0x0180_0000_4010_07ff,
+        0x400,
+        0x6,
+    ] {
+        assert_eq!(rt; decode(Level::Three, word), Desc::Malformed, "{word:#x}");
+    }
+}
+
+#[test]
+fn refuses_unaligned_block(rt: HostRuntime) {
+    assert_eq!(rt; encode(Level::Two, &owned(0x40100)), None);
+    assert_eq!(rt; block_pages_of(Level::Two), 512);
+}

@@ -1,0 +1,4 @@
+pub mod Chains
+pub mod Rows
+pub mod Targets
+pub mod View

@@ -1,0 +1,8 @@
+-- What contracts see of maplets.
+use Rattle.std.specs.Prelude.{ℕ, List}
+use Rattle.page_state.specs.declared.entry.Run.{Run}
+
+-- the coarsest list of runs, and for how many more rows there is room
+pub record KeptRuns : Type 0 where
+  pub runs : List Run
+  pub room : ℕ

@@ -1,0 +1,71 @@
+//! The words of the program.
+use clap::error::ErrorKind;
+use clap::{Arg, ArgAction, Error};
+use std::alloc::{AllocError, Global};
+
+/// What the program is to do.
+#[derive(Clone, Copy, PartialEq, Eq, Debug)]
+pub enum Invocation<'a> {
+    /// Run the steps of a trace in order.
+    Replay {
+        /// The path of the trace.
+        file: &'a str,
+    },
+}
+
+/// Why the words were refused.
+#[derive(Drop)]
+pub enum UsageFault {
+    /// (1) The words are no command, or ask for help; the text to show.
+    Usage(Error),
+    /// (2)
+    NoMemory,
+}
+
+impl From<Error> for UsageFault {
+    fn from(error: Error) -> UsageFault {
+        match error.kind() {
+            ErrorKind::OutOfMemory => UsageFault::NoMemory,
+            _ => UsageFault::Usage(error),
+        }
+    }
+}
+
+impl From<AllocError> for UsageFault {
+    fn from(_error: AllocError) -> UsageFault {
+        UsageFault::NoMemory
+    }
+}
+
+/// The form of the words: the program's name and one subcommand.
+fn form<'a>(global: Global) -> Result<clap::Command<'a>, AllocError> {
+    let file = Arg::new(global, "FILE")
+        .required(true)
+        .action(ArgAction::Set)
+        .help("the trace");
+    let replay = clap::Command::new(global, "replay")
+        .about("Runs the steps of a trace in order and reports each reply")
+        .arg(file)?;
+    clap::Command::new(global, "trace_cli")
+        .about("Runs traces of hypercalls on a model of protected KVM's page ownership")
+        .subcommand_required(true)
+        .arg_required_else_help(true)
+        .subcommand(replay)
+}
+
+/// The fault of words that name no subcommand.
+fn no_subcommand(global: Global) -> Result<UsageFault, AllocError> {
+    let error = form(global)?.error(ErrorKind::MissingSubcommand, "a subcommand is needed")?;
+    Ok(UsageFault::Usage(error))
+}
+
+/// Reads the words, the program's name first.
+pub fn command<'a>(global: Global, words: &'a [String]) -> Result<Invocation<'a>, UsageFault> {
+    let matches = form(global)?.try_get_matches_from(words)?;
+    if let Some(("replay", inner)) = matches.subcommand()
+        && let Some(file) = inner.get_str("FILE")
+    {
+        return Ok(Invocation::Replay { file });
+    }
+    Err(no_subcommand(global)?)
+}
