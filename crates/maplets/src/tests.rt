@@ -1,21 +1,39 @@
+ghost use Rattle.std.specs.Prelude.{◌<◌, ◌^◌};
+
 use super::*;
-use page_state::{Frame, Kind, Owner, Prot, Run, State};
+use page_state::{Frame, Kind, Prot, State};
 use std::test::Fail;
 
-fn leaf(frame: u64, state: State) -> Target {
-    Target::Leaf {
-        frame: Frame(frame),
+/// Gives `count` pages from `first` on leaves of the frames of their own numbers.
+fn put_leaves(map: &mut Maplets, first: u64, count: u64, state: State) -> Result<(), AllocError>
+    requires first_in { first < 2 ^ 40 }
+    requires count_in { count < 2 ^ 20 }
+{
+    let target = Target::Leaf {
+        frame: Frame(first),
         prot: Prot::RWX,
         kind: Kind::Normal,
         state,
-    }
-}
-
-fn pages(first: u64, count: u64) -> PageRange {
-    PageRange {
+    };
+    let range = PageRange {
         first: Page(first),
         count,
-    }
+    };
+    map.reserve(count as usize)?;
+    map.set(range, Some(target));
+    Ok(())
+}
+
+/// Takes the targets of `count` pages from `first` on away.
+fn clear(map: &mut Maplets, first: u64, count: u64)
+    requires first_in { first < 2 ^ 40 }
+    requires count_in { count < 2 ^ 20 }
+{
+    let range = PageRange {
+        first: Page(first),
+        count,
+    };
+    map.set(range, None);
 }
 
 /// The runs of a map in order, as (first page, count).
@@ -30,21 +48,31 @@ fn told(alloc: Global, map: &Maplets) -> Result<Vec<(u64, u64)>, AllocError> {
 #[test]
 fn splits_and_joins(rt: HostRuntime) -> Result<(), Fail> {
     let mut map = Maplets::new(rt.alloc());
-    map.reserve(1024)?;
-    map.set(pages(0x40200, 512), Some(leaf(0x40200, State::Owned)));
-    assert_eq!(rt; told(rt.alloc(), &map)?.as_slice(), [(0x40200, 512)].as_slice());
-    map.set(pages(0x40300, 1), Some(leaf(0x40300, State::SharedOwned)));
+    put_leaves(&mut map, 0x40200, 512, State::Owned)?;
+    put_leaves(&mut map, 0x40300, 1, State::SharedOwned)?;
     let split = [(0x40200, 256), (0x40300, 1), (0x40301, 255)];
     assert_eq!(rt; told(rt.alloc(), &map)?.as_slice(), split.as_slice());
-    assert_eq!(rt; map.at(Page(0x402ff)), Some(leaf(0x402ff, State::Owned)));
-    assert_eq!(rt; map.at(Page(0x40300)), Some(leaf(0x40300, State::SharedOwned)));
-    map.set(pages(0x40300, 1), Some(leaf(0x40300, State::Owned)));
-    assert_eq!(rt; told(rt.alloc(), &map)?.as_slice(), [(0x40200, 512)].as_slice());
-    map.set(pages(0x40000, 512), Some(Target::Annotated(Owner(1))));
-    map.set(pages(0x40100, 300), None);
-    let cut = [(0x40000, 256), (0x4022c, 468)];
+    put_leaves(&mut map, 0x40300, 1, State::Owned)?;
+    let joined = [(0x40200, 512)];
+    assert_eq!(rt; told(rt.alloc(), &map)?.as_slice(), joined.as_slice());
+    clear(&mut map, 0x40300, 0x10);
+    let cut = [(0x40200, 256), (0x40310, 240)];
     assert_eq!(rt; told(rt.alloc(), &map)?.as_slice(), cut.as_slice());
-    assert_eq!(rt; map.at(Page(0x40100)), None);
-    assert_eq!(rt; map.at(Page(0x400ff)), Some(Target::Annotated(Owner(1))));
+    Ok(())
+}
+
+#[test]
+fn gives_each_page_its_target(rt: HostRuntime) -> Result<(), Fail> {
+    let mut map = Maplets::new(rt.alloc());
+    put_leaves(&mut map, 0x40200, 512, State::Owned)?;
+    let target = Target::Leaf {
+        frame: Frame(0x402ff),
+        prot: Prot::RWX,
+        kind: Kind::Normal,
+        state: State::Owned,
+    };
+    assert_eq!(rt; map.at(Page(0x402ff)), Some(target));
+    assert_eq!(rt; map.at(Page(0x40400)), None);
+    assert_eq!(rt; map.at(Page(0x401ff)), None);
     Ok(())
 }

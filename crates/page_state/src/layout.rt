@@ -201,10 +201,13 @@ impl MemoryMap {
         &self.regions
     }
 
-    /// The carve-out.
+    /// The carve-out. It has a page, and ends at page 2^26 or before it.
     pub fn carve(&self) -> PageRange
-        ensures { result ≡ self.now.carve }
+        ensures value { result ≡ self.now.carve }
+        ensures some { 1 ≤ self.now.carve.count }
+        ensures low { end_of self.now.carve ≤ 2 ^ 26 }
     {
+        let _ = &self.regions;
         self.carve
     }
 
@@ -218,10 +221,12 @@ impl MemoryMap {
             .find(|r| r.pages.contains(page))
     }
 
-    /// Whether a page is one of a memory region.
+    /// Whether a page is one of a memory region. Such a page is below 2^26.
     pub fn is_memory(&self, page: Page) -> bool
-        ensures { result ≡ is_memory self.now page.0 }
+        ensures value { result ≡ is_memory self.now page.0 }
+        ensures low { IsTrue result → page.0 < 2 ^ 26 }
     {
+        let _ = &self.regions;
         match self.region_of(page) {
             Some(region) => region.kind == RegionKind::Memory,
             None => false,
