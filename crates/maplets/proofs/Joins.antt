@@ -17,7 +17,7 @@ use Rattle.page_state.specs.declared.entry.Target.TheVariants.{Malformed, Annota
 use Rattle.page_state.specs.Entries.{advance, entry_of_target, entry_of}
 use Rattle.page_state.specs.Map.{is_within}
 use Rattle.page_state.specs.Runs.{map_of, entry_on}
-use Rattle.page_state.specs.Tests.{entry_eq, prot_eq, kind_eq, state_eq}
+use Rattle.page_state.specs.EntryTests.{entry_eq, prot_eq, kind_eq, state_eq}
 use Rattle.maplets.specs.declared.PageTarget.{PageTarget}
 use Rattle.maplets.specs.Rows.{target_at, joined, runs_of, grown, run_of, follows}
 use Rattle.maplets.specs.Targets.{advance_target}

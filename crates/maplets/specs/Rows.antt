@@ -4,7 +4,7 @@ use Rattle.page_state.specs.declared.entry.Run.{Run}
 use Rattle.page_state.specs.declared.entry.Target.{Target}
 use Rattle.page_state.specs.Entries.{entry_of_target}
 use Rattle.maplets.specs.Targets.{advance_target, HasFrameBelow}
-use Rattle.page_state.specs.Tests.{entry_eq}
+use Rattle.page_state.specs.EntryTests.{entry_eq}
 use Rattle.maplets.specs.declared.PageTarget.{PageTarget}
 
 -- the target that the rows give a page

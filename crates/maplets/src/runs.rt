@@ -1,7 +1,7 @@
 //! The coarsest runs of rows.
 ghost use Rattle.std.specs.Prelude.{◌≡◌, ◌+◌, ◌^◌, ◌<◌, ◌≤◌, ◌∷◌, length, drop, slice_index_or};
 ghost use Rattle.page_state.specs.Entries.{entry_of_target};
-ghost use Rattle.page_state.specs.Tests.{entry_eq};
+ghost use Rattle.page_state.specs.EntryTests.{entry_eq};
 ghost use Rattle.maplets.specs.Chains.{IsOneRun};
 ghost use Rattle.maplets.specs.Rows.{follows, IsSortedFrom};
 ghost use Rattle.maplets.specs.Targets.{HasFrameBelow};

@@ -1,9 +1,9 @@
 pub mod Entries
+pub mod EntryTests
 pub mod Geometries
 pub mod LayoutFaults
 pub mod Map
 pub mod Regions
 pub mod Runs
 pub mod Search
-pub mod Tests
 pub mod Texts

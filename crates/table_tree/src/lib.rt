@@ -3,11 +3,13 @@
 
 mod edit;
 mod stock;
+mod supply;
 mod table;
 mod tree;
 mod word;
 
-pub use stock::{Stock, reserve};
+pub use stock::Stock;
+pub use supply::reserve;
 pub use table::{Reads, Slot, Table};
 pub use tree::Tree;
 

@@ -1,34 +1,50 @@
 //! Tables in hand, for edits that can't fail.
+ghost use Rattle.std.specs.Prelude.{◌≡◌, ℕ, List, [], ◌∷◌, IfSome, MatchOption};
+ghost use Rattle.table_tree.specs.Meaning.{frame_of};
+ghost use Rattle.table_tree.specs.Shape.{IsWide, IsBlank, IsTableFrame};
+ghost use Rattle.table_tree.specs.Chain.{IsChain, Chained-prop};
+
 use crate::{Slot, Table};
-use descriptor::Frame;
-use std::alloc::{AllocError, Allocator};
+use std::alloc::Allocator;
 use std::mem;
 
 /// Tables of zeros, each but the first in slot 0 of the one before it.
 #[derive(Drop)]
 pub struct Stock<A: Allocator> {
     first: Slot<A>,
+    pub ghost chained: { (fs : List ℕ) × IsChain fs first } by { Chained-prop first },
 }
 
 impl<A: Allocator> Stock<A> {
-    pub fn new() -> Stock<A> {
+    ghost use Rattle.table_tree.specs.Stocks.{frames_of};
+
+    pub fn new() -> Stock<A>
+        ensures { frames_of result ≡ [] }
+    {
         Stock {
             first: Slot::Word(0),
         }
     }
 
-    /// Puts a table in front.
-    pub fn push(&mut self, table: Box<Table<A>, A>) {
+    /// Puts a table of zeros in front.
+    pub fn push(&mut self, table: Box<Table<A>, A>)
+        requires frame { IsTableFrame (frame_of table.value) }
+        requires wide { IsWide table.value }
+        requires blank { IsBlank table.value }
+        ensures { frames_of self.new ≡ frame_of table.value ∷ frames_of self.old }
+    {
         let mut table = table;
-        match mem::replace(&mut self.first, Slot::Word(0)) {
-            Slot::Child(next) => table.attach(0, next),
-            Slot::Word(_) => {}
-        }
+        table.write(0, mem::replace(&mut self.first, Slot::Word(0)));
         self.first = Slot::Child(table);
     }
 
     /// Takes the first table.
-    pub fn pop(&mut self) -> Option<Box<Table<A>, A>> {
+    pub fn pop(&mut self) -> Option<Box<Table<A>, A>>
+        ensures frames { MatchOption result (frames_of self.old ≡ []) (λ b. frames_of self.old ≡ frame_of b.value ∷ frames_of self.new) }
+        ensures frame { IfSome result (λ b. IsTableFrame (frame_of b.value)) }
+        ensures wide { IfSome result (λ b. IsWide b.value) }
+        ensures blank { IfSome result (λ b. IsBlank b.value) }
+    {
         match mem::replace(&mut self.first, Slot::Word(0)) {
             Slot::Child(table) => {
                 let mut table = table;
@@ -38,14 +54,4 @@ impl<A: Allocator> Stock<A> {
             Slot::Word(_) => None,
         }
     }
-}
-
-/// A stock of one table for each frame, the first frame's first. A refusal leaves nothing behind.
-pub fn reserve<A: Allocator + Copy>(alloc: A, frames: &[Frame]) -> Result<Stock<A>, AllocError> {
-    let mut stock = Stock::new();
-    for frame in frames.iter().rev() {
-        let table = Box::new(alloc, Table::new(alloc, *frame)?)?;
-        stock.push(table);
-    }
-    Ok(stock)
 }

@@ -1,2 +1,3 @@
-pub mod Logs
 pub mod Frames
+pub mod Logs
+pub mod Maps

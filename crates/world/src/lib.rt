@@ -1,6 +1,8 @@
 //! The world: memory, its trees and maplets, and the CPUs that make steps on it one after another.
 #![tactic(auto)]
 
+ghost use Rattle.std.specs.Prelude.{◌≡◌, ◌<◌, IfOk};
+
 mod boot;
 mod component;
 mod free;
@@ -14,13 +16,14 @@ pub use free::FreeFrames;
 pub use log::Log;
 use page_state::{Call, Config, MemoryMap, Refusal, Reply, Step};
 pub use parts::{CpuState, Parts, Shared};
+use share::share_hyp;
 use std::alloc::{Allocator, Global};
 
 /// A booted world. `A` is where the tables of all trees lie.
 #[derive(Drop)]
 pub struct World<A: Allocator> {
     alloc: A,
-    parts: Parts<A>,
+    pub parts: Parts<A>,
 }
 
 impl<A: Allocator + Copy> World<A> {
@@ -31,46 +34,55 @@ impl<A: Allocator + Copy> World<A> {
         alloc: A,
         map: &MemoryMap,
         config: Config,
-    ) -> Result<World<A>, BootFault> {
+    ) -> Result<World<A>, BootFault>
+        ensures layout { IfOk result (λ w. w.parts.layout ≡ record { map = map.now; config = config }) }
+    {
         let parts = boot::booted(global, alloc, map, config)?;
         Ok(World { alloc, parts })
     }
 
     /// Makes one step of a CPU, and stores it in the CPU's and the Shared part's log where neither is full.
-    pub fn step(&mut self, cpu: u64, step: Step) -> Reply {
-        let Parts {
-            layout,
-            shared,
-            cpus,
-        } = &mut self.parts;
-        let cpu_state = &mut cpus[cpu as usize];
-        if cpu_state.log.is_full() || shared.log.is_full() {
+    pub fn step(&mut self, cpu: u64, step: Step) -> Reply
+        requires { cpu < self.old.parts.layout.config.cpus }
+        ensures layout { self.new.parts.layout ≡ self.old.parts.layout }
+    {
+        let place = cpu as usize;
+        if self.parts.cpus[place].log.is_full() || self.parts.shared.log.is_full() {
             return Reply::Refused(Refusal::LogFull);
         }
         let reply = match step {
-            Step::ShareHyp { pfn } => share::share_hyp(self.alloc, &layout.map, shared, pfn),
+            Step::ShareHyp { pfn } => share_hyp(
+                self.alloc,
+                &self.parts.layout.map,
+                &mut self.parts.shared,
+                pfn,
+            ),
         };
         let call = Call {
             cpu,
-            number: cpu_state.log.len() as u64 + 1,
+            number: self.parts.cpus[place].log.len() as u64 + 1,
             step,
             reply,
             slot: None,
         };
-        cpu_state.log.store(call);
-        shared.log.store(call);
+        self.parts.cpus[place].log.store(call);
+        self.parts.shared.log.store(call);
         reply
     }
 }
 
 impl<A: Allocator> World<A> {
     /// The number of CPUs, which steps name from 0 on.
-    pub fn cpus(&self) -> u64 {
+    pub fn cpus(&self) -> u64
+        ensures { result ≡ self.now.parts.layout.config.cpus }
+    {
         self.parts.layout.config.cpus
     }
 
     /// All parts, to look at.
-    pub fn parts(&self) -> &Parts<A> {
+    pub fn parts(&self) -> &Parts<A>
+        ensures { result.now ≡ self.now.parts }
+    {
         &self.parts
     }
 }

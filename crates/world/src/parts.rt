@@ -1,4 +1,6 @@
 //! The parts of a world.
+ghost use Rattle.std.specs.Prelude.{◌≡◌, vec_len};
+
 use crate::{Component, FreeFrames, Log};
 use page_state::Layout;
 use std::alloc::Allocator;
@@ -24,4 +26,5 @@ pub struct Parts<A: Allocator> {
     pub layout: Layout,
     pub shared: Shared<A>,
     pub cpus: Vec<CpuState>,
+    pub ghost counted: { vec_len cpus ≡ layout.config.cpus },
 }

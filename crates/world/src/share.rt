@@ -1,4 +1,7 @@
 //! The steps of host and hypervisor.
+ghost use Rattle.std.specs.Prelude.{◌≡◌, ◌+◌, ◌<◌, ◌≤◌, ◌^◌, IsTrue};
+ghost use Rattle.page_state.specs.EntryTests.{is_free_page as is_free_entry, leaf as leaf_of};
+
 use crate::parts::Shared;
 use page_state::{
     Entry, Frame, Kind, MemoryMap, Page, PageRange, Prot, Refusal, Reply, State, Value,
@@ -7,12 +10,17 @@ use std::alloc::Allocator;
 use table_tree::reserve;
 
 /// The hypervisor's page of a frame (profile).
-pub fn hyp_page(frame: u64) -> Page {
+pub fn hyp_page(frame: u64) -> Page
+    requires { frame < 2 ^ 26 }
+    ensures { result.0 ≡ frame + 0x4000000 }
+{
     Page(frame + 0x400_0000)
 }
 
 /// A leaf of normal memory.
-pub fn leaf(frame: u64, prot: Prot, state: State) -> Entry {
+pub fn leaf(frame: u64, prot: Prot, state: State) -> Entry
+    ensures { result ≡ leaf_of prot frame state }
+{
     Entry::Leaf {
         frame: Frame(frame),
         prot,
@@ -22,7 +30,9 @@ pub fn leaf(frame: u64, prot: Prot, state: State) -> Entry {
 }
 
 /// Whether a host page is free to give: unmapped, or the host's own.
-fn is_free_page(entry: Entry) -> bool {
+fn is_free_page(entry: Entry) -> bool
+    ensures { result ≡ is_free_entry entry }
+{
     matches!(
         entry,
         Entry::Unmapped

@@ -1,0 +1,85 @@
+use Rattle.std.proofs.Common.{◌≡◌, ℕ, zero, suc, ◌+◌, ◌-◌, ◌*◌, ◌/◌, ◌%◌, ◌^◌, ◌<◌, ◌≤◌, refl, sym, ap, arith, ◌∙◌, Bool, true, false, ◌==◌}
+use Rattle.std.proofs.lemmas.Bool.Decides.{nat_tests}
+use Rattle.std.proofs.lemmas.Nat.{mod-pow-add, field_of, pow-add, div-mul-add, mod-mul-add}
+use Rattle.std.proofs.Math.Nat.{mod-eq_of_lt, div-lt_iff_lt-mul, div-eq_of_lt}
+use Rattle.table_tree.specs.Meaning.{index_at, block_pages}
+use Rattle.table_tree.specs.Slots.{is_under}
+use Rattle.table_tree.proofs.Slots.{by_eq}
+
+pub size_some : (d : ℕ) → 1 ≤ block_pages d
+size_some zero = omega arith
+size_some (suc d) =
+    let e : 9 * suc d ≡ 9 + 9 * d = omega arith in
+    let x = size_some d in
+    rw (e, pow-add 2 9 (9 * d)) (omega arith)
+
+-- the low digits of a page in a table are its index there and the digits below
+pub digits : (n q : ℕ) → q % block_pages (n + 1) ≡ index_at n q * block_pages n + q % block_pages n
+digits n q = let e : 9 * (n + 1) ≡ 9 + 9 * n = omega arith in rw e (mod-pow-add q 9 (9 * n))
+
+same_tests : (a b c d : ℕ) → (a ≡ b → c ≡ d) → (c ≡ d → a ≡ b) → (a == b) ≡ (c == d)
+same_tests a b c d f g = grind (arith, nat_tests)
+
+pub test_same : (a b : ℕ) → a ≡ b → (a == b) ≡ true
+test_same a b h = grind (arith, nat_tests)
+
+pub test_other : (a b : ℕ) → (a ≡ b → ⊥) → (a == b) ≡ false
+test_other a b h = grind (arith, nat_tests)
+
+-- two pages with one index in a table are one page in it exactly where they are one page in the child
+pub inside : (n q p : ℕ) → index_at n q ≡ index_at n p → (q % block_pages (n + 1) == p % block_pages (n + 1)) ≡ (q % block_pages n == p % block_pages n)
+inside n q p e = same_tests _ _ _ _
+    (λ h. let x = digits n q in let y = digits n p in omega (arith, ap (λ i. i * block_pages n) e))
+    (λ h. rw (digits n q, digits n p, e, h) refl)
+
+pub outside : (n q p : ℕ) → (index_at n q ≡ index_at n p → ⊥) → (q % block_pages (n + 1) == p % block_pages (n + 1)) ≡ false
+outside n q p ne =
+    let e : 9 * (n + 1) ≡ 9 + 9 * n = omega arith in
+    rw e (test_other _ _ (λ h. ne (sym (field_of q 9 (9 * n)) ∙ ap (λ x. x / 2 ^ (9 * n)) h ∙ field_of p 9 (9 * n))))
+
+-- a page's place above a block in a table: its index, and its place in the child
+place : (s t i r : ℕ) → 1 ≤ s → (i * (t * s) + r) / s ≡ i * t + r / s
+place s t i r h =
+    let lt : r % s < s = omega (arith, h) in
+    let e : i * (t * s) + r ≡ (i * t + r / s) * s + r % s = omega (arith, h) in
+    rw e (div-mul-add (i * t + r / s) s (r % s) lt)
+
+split : (n low : ℕ) → low < n → block_pages n ≡ block_pages (n - (low + 1)) * block_pages (low + 1)
+split n low h = let e : 9 * n ≡ 9 * (n - (low + 1)) + 9 * (low + 1) = omega arith in ap (λ x. 2 ^ x) e ∙ pow-add 2 (9 * (n - (low + 1))) (9 * (low + 1))
+
+placed : (n low q : ℕ) → low < n → q % block_pages (n + 1) / block_pages (low + 1) ≡ index_at n q * block_pages (n - (low + 1)) + q % block_pages n / block_pages (low + 1)
+placed n low q h = rw (digits n q) (ap (λ z. (index_at n q * z + q % block_pages n) / block_pages (low + 1)) (split n low h) ∙ place (block_pages (low + 1)) (block_pages (n - (low + 1))) (index_at n q) (q % block_pages n) (size_some (low + 1)))
+
+low_place : (n low q : ℕ) → low < n → q % block_pages n / block_pages (low + 1) < block_pages (n - (low + 1))
+low_place n low q h =
+    let s = size_some (low + 1) in
+    let z = size_some n in
+    let lt : q % block_pages n < block_pages n = omega (arith, z) in
+    let e = split n low h in
+    let lt' : q % block_pages n < block_pages (n - (low + 1)) * block_pages (low + 1) = omega (arith, lt, e) in
+    (div-lt_iff_lt-mul s).1 lt'
+
+-- two numbers with high and low parts are one exactly where both parts are
+high_same : (t i j r s : ℕ) → r < t → s < t → i * t + r ≡ j * t + s → i ≡ j
+high_same t i j r s p q e = sym (div-mul-add i t r p) ∙ ap (λ x. x / t) e ∙ div-mul-add j t s q
+
+pub under_inside : (n low q p : ℕ) → low < n → index_at n q ≡ index_at n p → is_under n low q p ≡ (q % block_pages n / block_pages (low + 1) == p % block_pages n / block_pages (low + 1))
+under_inside n low q p h e =
+    let x = placed n low q h in
+    let y = placed n low p h in
+    same_tests _ _ _ _
+    (λ z. let k = ap (λ i. i * block_pages (n - (low + 1))) e in omega (arith, x, y, z, k))
+    (λ z. rw (x, y, e, z) refl)
+
+pub under_outside : (n low q p : ℕ) → low < n → (index_at n q ≡ index_at n p → ⊥) → is_under n low q p ≡ false
+under_outside n low q p h ne = test_other _ _ (λ z. ne (high_same (block_pages (n - (low + 1))) (index_at n q) (index_at n p) _ _ (low_place n low q h) (low_place n low p h) (sym (placed n low q h) ∙ z ∙ placed n low p h)))
+
+-- a page of a block lies under the block's own table
+pub under_all : (n q p : ℕ) → is_under n n q p ≡ true
+under_all n q p =
+    let x : q % block_pages (n + 1) / block_pages (n + 1) ≡ 0 = div-eq_of_lt (let s = size_some (n + 1) in omega (arith, s)) in
+    let y : p % block_pages (n + 1) / block_pages (n + 1) ≡ 0 = div-eq_of_lt (let s = size_some (n + 1) in omega (arith, s)) in
+    test_same _ _ (x ∙ sym y)
+
+pub index_small : (n q : ℕ) → index_at n q < 512
+index_small n q = omega arith

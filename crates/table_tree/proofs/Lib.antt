@@ -1,0 +1,11 @@
+pub mod Slots
+pub mod Words
+pub mod Digits
+pub mod Steps
+pub mod Sums
+pub mod Standing
+pub mod Opened
+pub mod Edits
+pub mod Views
+pub mod Chains
+pub mod Changes

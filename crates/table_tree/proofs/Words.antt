@@ -1,0 +1,86 @@
+use Rattle.std.proofs.Common.{◌≡◌, ℕ, zero, suc, ◌+◌, ◌*◌, ◌/◌, ◌%◌, ◌^◌, ◌<◌, ◌≤◌, refl, sym, ap, arith, ◌∙◌, add-one, add_assoc}
+use Rattle.descriptor.specs.declared.Level.{Level}
+use Rattle.descriptor.specs.declared.Desc.{Desc}
+use Rattle.descriptor.specs.declared.Desc.TheVariants.{Malformed as malformed_word, Unmapped as unmapped_word, Annotated as annotated_word, Leaf as leaf_word, Table as table_word}
+use Rattle.descriptor.specs.Word.{desc_of, IsSaid, Says, CanBeSaid}
+use Rattle.descriptor.proofs.Unique.{same_as_function}
+use Rattle.page_state.specs.declared.entry.Entry.{Entry}
+use Rattle.page_state.specs.declared.entry.Entry.TheVariants.{Unmapped, Malformed, Annotated, Leaf}
+use Rattle.page_state.specs.Entries.{advance, CanAdvance, entry_of_word, word_of_entry}
+use Rattle.table_tree.specs.Meaning.{level_at, word_entry, block_pages}
+use Rattle.table_tree.specs.Shape.{IsWellFormed, IsEntryWord, HasSmallFrame}
+
+pub said_entry : (l : Level) (w : ℕ) (d : Desc) → IsSaid l w d → IsWellFormed (entry_of_word d) → CanBeSaid l (word_of_entry (entry_of_word d))
+said_entry l w malformed_word h e = absurd e
+said_entry l w unmapped_word h e = tt
+said_entry l w (annotated_word o) h e = (h.from_one, h.byte)
+said_entry l w (leaf_word f p k s) h e = let x = h.frame_is in (omega arith, h.aligned)
+said_entry l w (table_word f) h e = absurd e
+
+pub small_entry : (l : Level) (w : ℕ) (d : Desc) → IsSaid l w d → HasSmallFrame (entry_of_word d)
+small_entry l w malformed_word h = tt
+small_entry l w unmapped_word h = tt
+small_entry l w (annotated_word o) h = tt
+small_entry l w (leaf_word f p k s) h = let x = h.frame_is in omega arith
+small_entry l w (table_word f) h = tt
+
+pub can_advance : (e : Entry) (n : ℕ) → HasSmallFrame e → n < 2 ^ 27 → CanAdvance e n
+can_advance Unmapped n h p = tt
+can_advance Malformed n h p = tt
+can_advance (Annotated o) n h p = tt
+can_advance (Leaf f a k s) n h p = omega arith
+
+pub can_small : (l : Level) (e : Entry) → CanBeSaid l (word_of_entry e) → HasSmallFrame e
+can_small l Unmapped h = tt
+can_small l Malformed h = tt
+can_small l (Annotated o) h = tt
+can_small l (Leaf f a k s) h = h.0
+
+says_said : (l : Level) (w : ℕ) (x : Desc) → Says l w x → IsSaid l w x
+says_said l w malformed_word h = absurd h
+says_said l w unmapped_word h = h
+says_said l w (annotated_word o) h = h
+says_said l w (leaf_word f p k s) h = h
+says_said l w (table_word f) h = h
+
+entry_back : (e : Entry) → entry_of_word (word_of_entry e) ≡ e
+entry_back Unmapped = refl
+entry_back Malformed = refl
+entry_back (Annotated o) = refl
+entry_back (Leaf f p k s) = refl
+
+-- the word that was found says the entry
+pub word_says : (l : Level) (w : ℕ) (e : Entry) → w < 2 ^ 64 → Says l w (word_of_entry e) → entry_of_word (desc_of l w) ≡ e
+word_says l w e r h = ap entry_of_word (sym (same_as_function l w (word_of_entry e) r (says_said l w (word_of_entry e) h))) ∙ entry_back e
+
+pub said_formed : (l : Level) (e : Entry) → CanBeSaid l (word_of_entry e) → IsWellFormed e
+said_formed l Unmapped h = tt
+said_formed l Malformed h = h
+said_formed l (Annotated o) h = tt
+said_formed l (Leaf f p k s) h = tt
+
+-- the parts of what a word says can be said one level below
+can_part : (d i : ℕ) (x : Entry) → d + 1 < 3 → i < 512 → CanBeSaid (level_at (suc d)) (word_of_entry x) → CanBeSaid (level_at d) (word_of_entry (advance x (i * block_pages d)))
+can_part d i Malformed p r h = absurd h
+can_part d i Unmapped p r h = tt
+can_part d i (Annotated o) p r h = h
+can_part zero i (Leaf f a k s) p r h = let x = h.0 in let y = h.1 in (omega arith, omega arith)
+can_part (suc zero) i (Leaf f a k s) p r h = let x = h.0 in let y = h.1 in (omega arith, omega arith)
+can_part (suc (suc d)) i (Leaf f a k s) p r h = absurd (omega arith)
+
+pub part_can : (d i n : ℕ) (x : Entry) → d + 1 < 3 → i < 512 → n ≡ i * block_pages d → CanBeSaid (level_at (d + 1)) (word_of_entry x) → CanBeSaid (level_at d) (word_of_entry (advance x n))
+part_can d i n x p q e h = rw e (can_part d i x p q (rw add-one at h))
+
+pub advance_twice : (x : Entry) (m n : ℕ) → advance (advance x m) n ≡ advance x (m + n)
+advance_twice Malformed m n = refl
+advance_twice Unmapped m n = refl
+advance_twice (Annotated o) m n = refl
+advance_twice (Leaf f p k s) m n = let wrap : ℕ → Entry = λ a. Leaf (record { 0 = a }) p k s in ap wrap (add_assoc f.0 m n)
+
+pub zero_said : (d : ℕ) → IsEntryWord d 0
+unfolding desc_of
+zero_said d = (omega arith, tt)
+
+pub zero_entry : (d q : ℕ) → word_entry d q 0 ≡ Unmapped
+unfolding desc_of
+zero_entry d q = refl

@@ -1,0 +1,15 @@
+use Rattle.std.proofs.Common.{◌≡◌, ◌<◌, ℕ, length, get_or, arith, sym, ◌∙◌}
+use Rattle.std.proofs.Math.ListN.{length-replicate, replicate}
+use Rattle.std.proofs.lemmas.List.{get_or-replicate}
+use Rattle.table_tree.specs.declared.table.Slot.{Slot}
+use Rattle.table_tree.specs.declared.table.Slot.TheVariants.{Word}
+use Rattle.table_tree.proofs.table.Table.new.Goals as goal
+
+made : (g : _) (c : goal.After-loop g) → c.loop.slots.items ≡ replicate 512 (Word 0)
+made g c = let e : c.loop.counter ≡ 512 = omega (arith, c.loop-test.false, c.loop.auto.counter-end) in rw e at c.loop.invariant
+
+pub returns-clause-wide : goal.returns-clause-wide
+returns-clause-wide g c = rw (made g c) (length-replicate {A = Slot g.row.A.Denot} 512 (Word 0))
+
+pub returns-clause-blank : goal.returns-clause-blank
+returns-clause-blank g c i p = rw (made g c) (get_or-replicate 512 i (Word 0) _ p)

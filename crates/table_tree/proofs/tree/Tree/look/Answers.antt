@@ -1,0 +1,12 @@
+use Rattle.std.proofs.Common.{◌≡◌, ◌∙◌, sym, ap, arith}
+use Rattle.table_tree.proofs.Views.{meaning_in, meaning_over}
+use Rattle.table_tree.proofs.tree.Tree.look.Goals as goal
+
+pub look_in-requires-clause-shape : goal.look_in-requires-clause-shape
+look_in-requires-clause-shape g c = rw c.depth_of-depth.ensures.value c.args.self.now.shaped
+
+pub returns-then-page-depth-ne0 : goal.returns-then-page-depth-ne0
+returns-then-page-depth-ne0 g c = meaning_over c.args.self.now c.depth_of-depth.result c.args.page.0 c.depth_of-depth.ensures.value c.if-page-depth-ne0.true
+
+pub returns : goal.returns
+returns g c = c.look_in.ensures ∙ meaning_in c.args.self.now c.depth_of-depth.result c.args.page.0 c.depth_of-depth.ensures.value c.if-page-depth-ne0.false

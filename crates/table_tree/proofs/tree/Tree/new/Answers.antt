@@ -1,0 +1,29 @@
+use Rattle.std.proofs.Common.{◌≡◌, ◌∙◌, sym, ap, arith, refl}
+use Rattle.table_tree.specs.Geometry.{levels_below}
+use Rattle.table_tree.specs.Tables.{is_one}
+use Rattle.table_tree.specs.View.{root_of, uses, tables_of}
+use Rattle.table_tree.proofs.Steps.{blank_shaped, blank_words}
+use Rattle.table_tree.proofs.Sums.{words_tables, words_uses}
+use Rattle.table_tree.proofs.Views.{meaning_is, map_blank, standing_blank}
+use Rattle.table_tree.proofs.tree.Tree.new.Goals as goal
+
+pub invariant_of-result : goal.invariant_of-result
+invariant_of-result g c = record { shaped = blank_shaped (levels_below c.args.geometry) c.in_ok-table.table c.in_ok-table.ensures.wide c.in_ok-table.ensures.blank }
+
+pub returns-clause-map : goal.returns-clause-map
+returns-clause-map g c = meaning_is _ ∙ map_blank c.args.geometry c.in_ok-table.table c.in_ok-table.ensures.blank
+
+pub returns-clause-root : goal.returns-clause-root
+unfolding root_of
+returns-clause-root g c = c.in_ok-table.ensures.frame
+
+pub returns-clause-uses : goal.returns-clause-uses
+unfolding uses
+returns-clause-uses g c f = words_uses (levels_below c.args.geometry) c.in_ok-table.table f c.in_ok-table.ensures.wide (blank_words c.in_ok-table.table c.in_ok-table.ensures.blank) ∙ ap (λ n. is_one n f) c.in_ok-table.ensures.frame
+
+pub returns-clause-tables : goal.returns-clause-tables
+unfolding tables_of
+returns-clause-tables g c = words_tables (levels_below c.args.geometry) c.in_ok-table.table c.in_ok-table.ensures.wide (blank_words c.in_ok-table.table c.in_ok-table.ensures.blank)
+
+pub returns-clause-standing : goal.returns-clause-standing
+returns-clause-standing g c = λ depth number. standing_blank _ c.args.root.0 depth number c.in_ok-table.ensures.blank c.in_ok-table.ensures.frame

@@ -1,0 +1,23 @@
+-- What a change of one slot is to the tree, for tables at any depth.
+use Rattle.std.specs.Prelude.{◌≡◌, ℕ, ◌+◌, ◌<◌, ◌≤◌, ◌==◌, if◌then◌else◌}
+use Rattle.table_tree.specs.declared.table.Table.{Table}
+use Rattle.table_tree.specs.Meaning.{index_at, slot_at, frame_of, word_entry, entry_at}
+use Rattle.table_tree.specs.Shape.{IsTableFrame, IsEntryWord, IsShaped}
+use Rattle.table_tree.specs.Tables.{tables_in, uses_in, table_in}
+
+-- `u` is `t` with another word in slot `i`, which held a word
+pub record IsWritten {A : Type 0} (i word : ℕ) (t u : Table A) : Type 0 where
+  pub map : (depth q : ℕ) → entry_at depth u q ≡ (if index_at depth q == i then word_entry depth q word else entry_at depth t q)
+  pub tables : (depth : ℕ) → tables_in depth u ≡ tables_in depth t
+  pub uses : (depth f : ℕ) → uses_in depth u f ≡ uses_in depth t f
+  pub standing : (depth low q : ℕ) → table_in depth u low q ≡ table_in depth t low q
+  pub shape : (depth : ℕ) → IsShaped depth t → IsEntryWord depth word → IsShaped depth u
+
+-- `u` is `t` with the child `c` in slot `i`, which held a word
+pub record IsAttached {A : Type 0} (i : ℕ) (t u c : Table A) : Type 0 where
+  pub map : (depth q : ℕ) → entry_at (depth + 1) u q ≡ (if index_at (depth + 1) q == i then entry_at depth c q else entry_at (depth + 1) t q)
+  pub tables : (depth : ℕ) → tables_in (depth + 1) u ≡ tables_in (depth + 1) t + tables_in depth c
+  pub uses : (depth f : ℕ) → uses_in (depth + 1) u f ≡ uses_in (depth + 1) t f + uses_in depth c f
+  pub standing : (depth low q : ℕ) → low ≤ depth → table_in (depth + 1) u low q ≡ (if index_at (depth + 1) q == i then table_in depth c low q else table_in (depth + 1) t low q)
+  pub shape : (depth : ℕ) → IsShaped (depth + 1) t → IsTableFrame (frame_of c) → IsShaped depth c → IsShaped (depth + 1) u
+  pub child : (depth : ℕ) → IsShaped (depth + 1) u → IsTableFrame (frame_of c) × IsShaped depth c

@@ -1,0 +1,10 @@
+pub mod Geometry
+pub mod Reading
+pub mod Meaning
+pub mod Shape
+pub mod Tables
+pub mod Chain
+pub mod View
+pub mod Stocks
+pub mod Slots
+pub mod Changes

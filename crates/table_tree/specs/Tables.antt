@@ -1,0 +1,41 @@
+-- The tables of a tree: their number, their frames and where they stand.
+use Rattle.std.specs.Prelude.{◌≡◌, ℕ, zero, suc, ◌+◌, ◌==◌, List, Option, Some, None, if◌then◌else◌, sum_by}
+use Rattle.descriptor.specs.declared.Frame.{Frame}
+use Rattle.table_tree.specs.declared.table.Table.{Table}
+use Rattle.table_tree.specs.Meaning.{index_at, frame_of, slots_of, slot_at, slot_case}
+
+-- the sum of what the children of a table give
+abbrev pub sum_below : {A : Type 0} → (Table A → ℕ) → Table A → ℕ
+sum_below below t = sum_by (slot_case (λ _. 0) below) (slots_of t)
+
+-- 1 where two frames are one
+abbrev pub is_one : ℕ → ℕ → ℕ
+is_one f g = if f == g then 1 else 0
+
+-- the number of tables, the table itself among them
+unfoldable pub tables_in : {A : Type 0} → ℕ → Table A → ℕ
+tables_in zero t = 1
+tables_in (suc depth) t = 1 + sum_below (tables_in depth) t
+
+-- how often a frame is one of a table, the table itself among them
+unfoldable pub uses_in : {A : Type 0} → ℕ → Table A → ℕ → ℕ
+uses_in zero t frame = is_one (frame_of t) frame
+uses_in (suc depth) t frame = is_one (frame_of t) frame + sum_below (λ c. uses_in depth c frame) t
+
+-- the frame of the table with `low` levels below it on a page's path, where one stands
+unfoldable pub table_in : {A : Type 0} → ℕ → Table A → ℕ → ℕ → Option ℕ
+table_in zero t low page = if low == zero then Some (frame_of t) else None
+table_in (suc depth) t low page = if low == suc depth then Some (frame_of t) else slot_case (λ _. None) (λ c. table_in depth c low page) (slot_at t (index_at (suc depth) page))
+
+-- how many tables are missing for a page to have a word of the last level
+unfoldable pub missing_in : {A : Type 0} → ℕ → Table A → ℕ → ℕ
+missing_in zero t page = 0
+missing_in (suc depth) t page = slot_case (λ _. suc depth) (λ c. missing_in depth c page) (slot_at t (index_at (suc depth) page))
+
+-- how often a frame stands in a list
+abbrev pub frame_count : ℕ → List ℕ → ℕ
+frame_count f frames = sum_by (λ g. is_one g f) frames
+
+-- the same in a list of frames
+abbrev pub count_of : ℕ → List Frame → ℕ
+count_of f frames = sum_by (λ g. is_one g.0 f) frames
