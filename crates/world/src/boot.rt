@@ -1,7 +1,14 @@
 //! Booting a world.
+ghost use Rattle.std.specs.Prelude.{◌≡◌, ℕ, ◌+◌, ◌*◌, ◌<◌, ◌≤◌, ◌^◌, ◌↔◌, IfOk, vec_len, length};
+ghost use Rattle.descriptor.specs.Word.{CanBeSaid};
+ghost use Rattle.page_state.specs.Entries.{advance, word_of_entry};
+ghost use Rattle.page_state.specs.Regions.{end_of};
+ghost use Rattle.table_tree.specs.Geometry.{input_pages};
+
 use crate::parts::{CpuState, Parts, Shared};
 use crate::share::{hyp_page, leaf};
 use crate::{Component, FreeFrames, Log};
+use descriptor::Level;
 use page_state::{
     Config, Entry, Frame, Geometry, Layout, MemoryMap, Owner, Page, PageRange, Prot, State,
 };
@@ -63,7 +70,12 @@ fn geometry_of(config: &Config) -> Option<Geometry> {
 }
 
 /// The tables below the root that stand when each page of a range has a word of the last level.
-fn tables_on(depth: u32, range: PageRange) -> u64 {
+fn tables_on(depth: u32, range: PageRange) -> u64
+    requires depth { depth < 4 }
+    requires some { 1 ≤ range.count }
+    requires low { end_of range ≤ 2 ^ 27 }
+    ensures { result ≤ depth * 2 ^ 27 }
+{
     let last = range.first.0 + (range.count - 1);
     let mut tables = 0;
     for below in 0..depth {
@@ -74,7 +86,12 @@ fn tables_on(depth: u32, range: PageRange) -> u64 {
 }
 
 /// The carve-out's pages in the hypervisor's map.
-fn hyp_range(carve: PageRange) -> PageRange {
+fn hyp_range(carve: PageRange) -> PageRange
+    requires some { 1 ≤ carve.count }
+    requires low { end_of carve ≤ 2 ^ 26 }
+    ensures first { result.first.0 ≡ carve.first.0 + 0x4000000 }
+    ensures count { result.count ≡ carve.count }
+{
     PageRange {
         first: hyp_page(carve.first.0),
         count: carve.count,
@@ -88,9 +105,12 @@ fn set_pages<A: Allocator + Copy>(
     pool: &mut FreeFrames,
     range: PageRange,
     entry: Entry,
-) -> Result<(), BootFault> {
-    component.reserve(range.count as usize)?;
+) -> Result<(), BootFault>
+    requires low { end_of range ≤ 2 ^ 27 }
+    requires said { (i : ℕ) → i < range.count → CanBeSaid Level.Three (word_of_entry (advance entry i)) }
+{
     for i in 0..range.count {
+        component.reserve(1)?;
         let page = Page(range.first.0 + i);
         let need = component.tree().missing(page);
         if pool.free() < need {
@@ -110,7 +130,10 @@ fn shared_at_boot<A: Allocator + Copy>(
     carve: PageRange,
     config: Config,
     geometry: Geometry,
-) -> Result<Shared<A>, BootFault> {
+) -> Result<Shared<A>, BootFault>
+    requires tables { 2 ≤ carve.count }
+    requires low { end_of carve ≤ 2 ^ 26 }
+{
     let first = carve.first.0;
     let mut pool = FreeFrames::of(global, carve)?;
     let host_tree = Tree::new(alloc, Frame(first), geometry)?;
@@ -129,13 +152,27 @@ fn shared_at_boot<A: Allocator + Copy>(
     })
 }
 
+/// The CPUs at boot.
+fn cpus_at_boot(global: Global, config: Config) -> Result<Vec<CpuState>, BootFault>
+    ensures { IfOk result (λ cpus. vec_len cpus ≡ config.cpus) }
+{
+    let mut cpus = Vec::with_capacity(global, config.cpus as usize)?;
+    for _made in 0..config.cpus {
+        let log = Log::new(global, config.log)?;
+        cpus.push(CpuState { log }).map_err(AllocError::from)?;
+    }
+    Ok(cpus)
+}
+
 /// The parts of a world at boot.
 pub fn booted<A: Allocator + Copy>(
     global: Global,
     alloc: A,
     map: &MemoryMap,
     config: Config,
-) -> Result<Parts<A>, BootFault> {
+) -> Result<Parts<A>, BootFault>
+    ensures layout { IfOk result (λ parts. parts.layout ≡ record { map = map.now; config = config }) }
+{
     let geometry = geometry_of(&config).ok_or(BootFault::Config)?;
     let carve = map.carve();
     let depth = geometry.depth();
@@ -144,13 +181,7 @@ pub fn booted<A: Allocator + Copy>(
         return Err(BootFault::CarveSmall);
     }
     let shared = shared_at_boot(global, alloc, carve, config, geometry)?;
-    let mut cpus = Vec::with_capacity(global, config.cpus as usize)?;
-    for _ in 0..config.cpus {
-        cpus.push(CpuState {
-            log: Log::new(global, config.log)?,
-        })
-        .map_err(AllocError::from)?;
-    }
+    let cpus = cpus_at_boot(global, config)?;
     Ok(Parts {
         layout: Layout {
             map: map.clone()?,

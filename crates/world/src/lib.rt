@@ -46,27 +46,27 @@ impl<A: Allocator + Copy> World<A> {
         requires { cpu < self.old.parts.layout.config.cpus }
         ensures layout { self.new.parts.layout ≡ self.old.parts.layout }
     {
+        let alloc = self.alloc;
+        let parts = &mut self.parts;
         let place = cpu as usize;
-        if self.parts.cpus[place].log.is_full() || self.parts.shared.log.is_full() {
+        if parts.cpus[place].log.is_full() || parts.shared.log.is_full() {
             return Reply::Refused(Refusal::LogFull);
         }
         let reply = match step {
-            Step::ShareHyp { pfn } => share_hyp(
-                self.alloc,
-                &self.parts.layout.map,
-                &mut self.parts.shared,
-                pfn,
-            ),
+            Step::ShareHyp { pfn } => {
+                share_hyp(alloc, &parts.layout.map, &mut parts.shared, pfn)
+            }
         };
+        let log = &mut parts.cpus[place].log;
         let call = Call {
             cpu,
-            number: self.parts.cpus[place].log.len() as u64 + 1,
+            number: log.len() as u64 + 1,
             step,
             reply,
             slot: None,
         };
-        self.parts.cpus[place].log.store(call);
-        self.parts.shared.log.store(call);
+        log.store(call);
+        parts.shared.log.store(call);
         reply
     }
 }

@@ -1,5 +1,5 @@
 //! Logs of calls, whose room is reserved at boot.
-ghost use Rattle.std.specs.Prelude.{◌≡◌, ◌+◌, ◌-◌, ◌<◌, ◌↔◌, [], ◌∷◌, ◌++◌, length, IfOk, IsTrue};
+ghost use Rattle.std.specs.Prelude.{◌≡◌, ◌+◌, ◌-◌, ◌^◌, ◌<◌, ◌↔◌, [], ◌∷◌, ◌++◌, length, IfOk, IsTrue};
 
 use page_state::Call;
 use std::alloc::{AllocError, Global};
@@ -38,7 +38,8 @@ impl Log {
 
     /// How many calls are stored.
     pub fn len(&self) -> usize
-        ensures { result ≡ length self.now.calls }
+        ensures value { result ≡ length self.now.calls }
+        ensures small { result < 2 ^ 63 }
     {
         self.calls.len()
     }

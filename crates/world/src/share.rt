@@ -49,7 +49,9 @@ pub fn share_hyp<A: Allocator + Copy>(
     map: &MemoryMap,
     shared: &mut Shared<A>,
     pfn: u64,
-) -> Reply {
+) -> Reply
+    ensures log { shared.new.log ≡ shared.old.log }
+{
     match try_share_hyp(alloc, map, shared, pfn) {
         Ok(()) => Reply::Done(Value::Nothing),
         Err(refusal) => Reply::Refused(refusal),
@@ -61,7 +63,9 @@ fn try_share_hyp<A: Allocator + Copy>(
     map: &MemoryMap,
     shared: &mut Shared<A>,
     pfn: u64,
-) -> Result<(), Refusal> {
+) -> Result<(), Refusal>
+    ensures log { shared.new.log ≡ shared.old.log }
+{
     let page = Page(pfn);
     if !map.is_memory(page) {
         return Err(Refusal::Invalid);
