@@ -2,6 +2,7 @@
 #![tactic(auto)]
 
 mod entry;
+pub mod laws;
 mod layout;
 mod reply;
 mod row;

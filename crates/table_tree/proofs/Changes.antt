@@ -1,19 +1,19 @@
-use Rattle.std.proofs.Common.{◌≡◌, ℕ, zero, suc, ◌+◌, ◌-◌, ◌<◌, ◌≤◌, List, length, get_or, refl, sym, ap, arith, ◌∙◌, cond, ◌==◌, Some, None}
+use Rattle.std.proofs.Common.{◌≡◌, ℕ, ◌+◌, ◌-◌, ◌<◌, ◌≤◌, length, refl, sym, ap, arith, ◌∙◌, cond, ◌==◌, Some}
 use Rattle.std.proofs.Math.ListN.{set}
 use Rattle.std.specs.declared.boxed.Box.{Box}
 use Rattle.table_tree.specs.declared.table.Table.{Table}
 use Rattle.table_tree.specs.declared.table.Slot.{Slot}
 use Rattle.table_tree.specs.declared.table.Slot.TheVariants.{Word, Child}
-use Rattle.table_tree.specs.Meaning.{index_at, slot_at, slots_of, frame_of, word_entry, entry_at}
-use Rattle.table_tree.specs.Shape.{IsWide, HoldsWord, IsTableFrame, IsEntryWord, IsShaped}
-use Rattle.table_tree.specs.Tables.{tables_in, uses_in, table_in, is_one}
+use Rattle.table_tree.specs.Meaning.{index_at, slot_at, slots_of, frame_of, entry_at}
+use Rattle.table_tree.specs.Shape.{IsWide, HoldsWord}
+use Rattle.table_tree.specs.Tables.{table_in}
 use Rattle.table_tree.specs.Slots.{slot_entry, slot_table}
-use Rattle.table_tree.specs.Changes.{IsWritten, IsAttached}
-use Rattle.table_tree.proofs.Slots.{by_eq, get_any, set_back, set_here, set_others, set_wide, shaped_set, shaped_slot, slot_word_made, slot_child_made, slot_child_is}
+use Rattle.table_tree.specs.Changes.{IsWritten, IsAttached, IsSeen}
+use Rattle.table_tree.proofs.Slots.{by_eq, get_any, set_back, set_here, set_others, set_wide, shaped_set, shaped_slot, slot_word_made, slot_child_made, slot_child_is, slot_word_is}
 use Rattle.table_tree.proofs.Digits.{test_same, test_other}
 use Rattle.table_tree.proofs.Steps.{entry_step, word_gives, child_gives}
 use Rattle.table_tree.proofs.Sums.{tables_word, tables_child, uses_word, uses_child, tables_set, uses_set}
-use Rattle.table_tree.proofs.Standing.{table_step, table_top, table_below, stand_word, stand_child}
+use Rattle.table_tree.proofs.Standing.{table_top, table_below, stand_word, stand_child}
 
 module _ {A : Type 0} where
   -- a page in the slot that changed, and in another
@@ -62,3 +62,15 @@ module _ {A : Type 0} where
       let q : i < length (slots_of t) = omega (arith, wide) in
       let back : slots_of t ≡ set (slots_of u) i (Child b) = sym (ap (λ l. set l i (Child b)) e ∙ set_back (slots_of t) i (Word 0) (Child b) q (sym h ∙ get_any (slots_of t) i (Word 0) (Child b) q)) in
       attached i u t b p (set_wide t u i (Word 0) e wide) (0, set_here t u i i (Word 0) e p wide refl) back (sym f)
+
+  -- a slot that was looked at
+  pub seen : (i : ℕ) (t : Table A) (s : Slot A) → i < 512 → s ≡ slot_at t i → IsSeen i t s
+  seen i t s p h = record {
+    word = λ w d q e x. entry_step d t q ∙ word_gives d q w (slot_at t (index_at d q)) (ap (λ j. slot_at t j) x ∙ sym h ∙ e);
+    word_shape = λ w d e x. slot_word_is d w (slot_at t i) (shaped_slot d t i x p) (sym h ∙ e);
+    no_table = λ w d low q e x l. table_below d low t q (λ z. let l' : low < d = l in omega arith) ∙ stand_word d w low q (slot_at t (index_at d q)) (ap (λ j. slot_at t j) x ∙ sym h ∙ e);
+    child = λ b d q e x. entry_step (d + 1) t q ∙ child_gives (d + 1) d q b (slot_at t (index_at (d + 1) q)) (omega arith) (ap (λ j. slot_at t j) x ∙ sym h ∙ e);
+    child_shape = λ b d e x. let k : d + 1 - 1 ≡ d = omega arith in let y = slot_child_is (d + 1) b (slot_at t i) (shaped_slot (d + 1) t i x p) (sym h ∙ e) in (y.1.0, rw k at y.1.1);
+    table = λ b d low q e x l. table_below (d + 1) low t q (λ z. let l' : low ≤ d = l in omega arith) ∙ stand_child (d + 1) d low q b (slot_at t (index_at (d + 1) q)) (omega arith) (ap (λ j. slot_at t j) x ∙ sym h ∙ e);
+    last = λ b e x. let y : 1 ≤ 0 = (slot_child_is 0 b (slot_at t i) (shaped_slot 0 t i x p) (sym h ∙ e)).0 in absurd (omega arith);
+  }

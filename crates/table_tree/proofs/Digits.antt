@@ -1,10 +1,9 @@
-use Rattle.std.proofs.Common.{◌≡◌, ℕ, zero, suc, ◌+◌, ◌-◌, ◌*◌, ◌/◌, ◌%◌, ◌^◌, ◌<◌, ◌≤◌, refl, sym, ap, arith, ◌∙◌, Bool, true, false, ◌==◌}
+use Rattle.std.proofs.Common.{◌≡◌, ℕ, zero, suc, ◌+◌, ◌-◌, ◌*◌, ◌/◌, ◌%◌, ◌^◌, ◌<◌, ◌≤◌, refl, sym, ap, arith, ◌∙◌, true, false, ◌==◌}
 use Rattle.std.proofs.lemmas.Bool.Decides.{nat_tests}
-use Rattle.std.proofs.lemmas.Nat.{mod-pow-add, field_of, pow-add, div-mul-add, mod-mul-add}
-use Rattle.std.proofs.Math.Nat.{mod-eq_of_lt, div-lt_iff_lt-mul, div-eq_of_lt}
+use Rattle.std.proofs.lemmas.Nat.{mod-pow-add, field_of, pow-add, div-mul-add}
+use Rattle.std.proofs.Math.Nat.{div-lt_iff_lt-mul, div-eq_of_lt}
 use Rattle.table_tree.specs.Meaning.{index_at, block_pages}
 use Rattle.table_tree.specs.Slots.{is_under}
-use Rattle.table_tree.proofs.Slots.{by_eq}
 
 pub size_some : (d : ℕ) → 1 ≤ block_pages d
 size_some zero = omega arith

@@ -1,4 +1,4 @@
-use Rattle.std.proofs.Common.{◌≡◌, ℕ, zero, suc, ◌+◌, ◌-◌, ◌*◌, ◌^◌, ◌<◌, ◌≤◌, List, [], ◌∷◌, length, refl, sym, ap, arith, ◌∙◌, take, drop}
+use Rattle.std.proofs.Common.{◌≡◌, ℕ, zero, suc, ◌+◌, ◌<◌, ◌≤◌, List, [], ◌∷◌, length, refl, sym, ap, arith, ◌∙◌, drop}
 use Rattle.std.proofs.Common.{length-drop}
 use Rattle.std.proofs.Math.ListN.{set}
 use Rattle.std.specs.declared.boxed.Box.{Box}
@@ -6,10 +6,10 @@ use Rattle.table_tree.specs.declared.table.Table.{Table}
 use Rattle.table_tree.specs.declared.table.Slot.{Slot}
 use Rattle.table_tree.specs.declared.table.Slot.TheVariants.{Word, Child}
 use Rattle.table_tree.specs.Meaning.{index_at, slot_at, slots_of, frame_of}
-use Rattle.table_tree.specs.Shape.{IsWide, HoldsWord, IsEntryWord, IsShaped}
-use Rattle.table_tree.specs.Tables.{tables_in, uses_in, missing_in, frame_count, is_one}
-use Rattle.table_tree.specs.Slots.{IsSlot, fresh, slot_missing, IsOpened, IsEdited}
-use Rattle.table_tree.proofs.Slots.{set_twice, set_here, set_wide, shaped_wide, shaped_set, shaped_slot, slot_word_made, slot_child_made}
+use Rattle.table_tree.specs.Shape.{IsEntryWord, IsShaped}
+use Rattle.table_tree.specs.Tables.{missing_in, is_one}
+use Rattle.table_tree.specs.Slots.{fresh, IsOpened, IsEdited}
+use Rattle.table_tree.proofs.Slots.{set_twice, shaped_wide, shaped_set, slot_word_made, slot_child_made}
 use Rattle.table_tree.proofs.Digits.{index_small}
 use Rattle.table_tree.proofs.Steps.{put_updates, child_updates}
 use Rattle.table_tree.proofs.Sums.{tables_zero, uses_zero, child_tables, child_uses}

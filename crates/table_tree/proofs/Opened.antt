@@ -1,4 +1,4 @@
-use Rattle.std.proofs.Common.{◌≡◌, ℕ, zero, suc, ◌+◌, ◌-◌, ◌*◌, ◌%◌, ◌^◌, ◌<◌, ◌≤◌, List, [], ◌∷◌, length, get_or, refl, sym, ap, arith, ◌∙◌, cond, Option, Some, None, ◌==◌, take, drop}
+use Rattle.std.proofs.Common.{◌≡◌, ℕ, suc, ◌+◌, ◌-◌, ◌%◌, ◌<◌, ◌≤◌, List, [], ◌∷◌, length, refl, sym, ap, arith, ◌∙◌, cond, Option, Some, None, ◌==◌}
 use Rattle.std.specs.Option.{MatchOption, IsSome}
 use Rattle.std.proofs.lemmas.Bool.Decides.{nat_tests}
 use Rattle.std.specs.declared.boxed.Box.{Box}
@@ -10,8 +10,7 @@ use Rattle.table_tree.specs.declared.table.Slot.{Slot}
 use Rattle.table_tree.specs.declared.table.Slot.TheVariants.{Word, Child}
 use Rattle.table_tree.specs.Meaning.{level_at, block_pages, slot_at, frame_of, entry_at}
 use Rattle.table_tree.specs.Shape.{IsWide, HoldsWord, IsTableFrame, IsShaped}
-use Rattle.table_tree.specs.Tables.{tables_in, uses_in, table_in, missing_in, frame_count}
-use Rattle.table_tree.specs.Slots.{IsSlot, slot_entry, slot_tables, slot_uses, slot_table, slot_missing, fresh, given, IsOpened}
+use Rattle.table_tree.specs.Slots.{IsSlot, IsOpened}
 use Rattle.table_tree.proofs.Slots.{slot_child_is}
 use Rattle.table_tree.proofs.Steps.{word_gives, child_gives}
 use Rattle.table_tree.proofs.Sums.{tables_word, tables_child, uses_word, uses_child, fresh_word, fresh_child, words_tables, words_uses}

@@ -1,13 +1,12 @@
-use Rattle.std.proofs.Common.{◌≡◌, ℕ, zero, suc, ◌+◌, ◌-◌, ◌*◌, ◌/◌, ◌%◌, ◌^◌, ◌<◌, ◌≤◌, ◌≢◌, List, [], ◌∷◌, length, get_or, refl, sym, ap, arith, ◌∙◌, cond, Bool, true, false, Option, Some, None, ◌==◌, ◌&&◌, ltb, drop}
+use Rattle.std.proofs.Common.{◌≡◌, ℕ, zero, suc, ◌+◌, ◌-◌, ◌<◌, ◌≤◌, List, get_or, refl, sym, ap, arith, ◌∙◌, cond, Bool, true, false, Option, Some, None, ◌==◌, ltb, drop}
 use Rattle.std.proofs.lemmas.Bool.Decides.{nat_tests}
 use Rattle.std.proofs.Math.ListN.{set}
 use Rattle.std.proofs.lemmas.Grind.{get_or_after_one}
 use Rattle.std.specs.declared.boxed.Box.{Box}
-use native.Mathlib.Numerals.{unary_clauses}
 use Rattle.table_tree.specs.declared.table.Table.{Table}
 use Rattle.table_tree.specs.declared.table.Slot.{Slot}
 use Rattle.table_tree.specs.declared.table.Slot.TheVariants.{Word, Child}
-use Rattle.table_tree.specs.Meaning.{block_pages, index_at, slot_at, slots_of, slot_case, frame_of}
+use Rattle.table_tree.specs.Meaning.{index_at, slot_at, slots_of, frame_of}
 use Rattle.table_tree.specs.Shape.{IsWide, HoldsWord}
 use Rattle.table_tree.specs.Tables.{table_in, missing_in}
 use Rattle.table_tree.specs.Slots.{slot_table, slot_missing, fresh, given, is_under, made}

@@ -1,19 +1,19 @@
-use Rattle.std.proofs.Common.{◌≡◌, ℕ, zero, suc, ◌+◌, ◌-◌, ◌*◌, ◌/◌, ◌%◌, ◌^◌, ◌<◌, ◌≤◌, ◌≢◌, List, [], ◌∷◌, length, get_or, refl, sym, ap, arith, ◌∙◌, cond, Bool, true, false, Option, Some, None, ◌==◌, ltb, take, drop, below_more}
+use Rattle.std.proofs.Common.{◌≡◌, ℕ, zero, suc, ◌+◌, ◌-◌, ◌*◌, ◌%◌, ◌<◌, ◌≤◌, ◌≢◌, List, [], ◌∷◌, length, get_or, refl, sym, ap, arith, ◌∙◌, true, false, Option, Some, None, ◌==◌, ltb, take, drop, below_more}
 use Rattle.std.proofs.lemmas.Bool.Decides.{nat_tests}
 use Rattle.std.proofs.lemmas.List.{take_all}
 use Rattle.std.proofs.Math.ListN.{set}
 use Rattle.std.specs.declared.boxed.Box.{Box}
 use Rattle.descriptor.specs.Word.{desc_of}
 use Rattle.page_state.specs.declared.entry.Entry.{Entry}
-use Rattle.page_state.specs.declared.entry.Entry.TheVariants.{Unmapped, Malformed}
+use Rattle.page_state.specs.declared.entry.Entry.TheVariants.{Unmapped}
 use Rattle.page_state.specs.Entries.{advance, entry_of_word}
 use Rattle.table_tree.specs.declared.table.Table.{Table}
 use Rattle.table_tree.specs.declared.table.Slot.{Slot}
 use Rattle.table_tree.specs.declared.table.Slot.TheVariants.{Word, Child}
-use Rattle.table_tree.specs.Meaning.{level_at, block_pages, index_at, slot_at, slots_of, slot_case, frame_of, word_entry, entry_at, word_at, slot_word, table_word}
-use Rattle.table_tree.specs.Shape.{IsWide, IsBlank, HoldsWord, IsEntryWord, IsTableFrame, IsShaped}
-use Rattle.table_tree.specs.Slots.{IsSlot, slot_entry, updated}
-use Rattle.table_tree.proofs.Slots.{by_eq, by_slot, case_word, case_child, set_here, set_others, shaped_wide, shaped_made, slot_word_made}
+use Rattle.table_tree.specs.Meaning.{level_at, block_pages, index_at, slot_at, slots_of, frame_of, word_entry, entry_at, word_at, slot_word, table_word}
+use Rattle.table_tree.specs.Shape.{IsWide, IsBlank, HoldsWord, IsEntryWord, IsShaped}
+use Rattle.table_tree.specs.Slots.{slot_entry, updated}
+use Rattle.table_tree.proofs.Slots.{by_eq, case_word, case_child, set_here, set_others, shaped_made, slot_word_made}
 use Rattle.table_tree.proofs.Words.{zero_said, zero_entry, advance_twice}
 use Rattle.table_tree.proofs.Digits.{digits, inside, outside, index_small, test_same}
 

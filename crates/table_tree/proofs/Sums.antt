@@ -8,11 +8,11 @@ use Rattle.descriptor.specs.declared.Frame.{Frame}
 use Rattle.table_tree.specs.declared.table.Table.{Table}
 use Rattle.table_tree.specs.declared.table.Slot.{Slot}
 use Rattle.table_tree.specs.declared.table.Slot.TheVariants.{Word, Child}
-use Rattle.table_tree.specs.Meaning.{slot_at, slots_of, slot_case, frame_of}
+use Rattle.table_tree.specs.Meaning.{slot_at, slots_of, frame_of}
 use Rattle.table_tree.specs.Shape.{IsWide, HoldsWord}
 use Rattle.table_tree.specs.Tables.{tables_in, uses_in, is_one, frame_count, count_of}
 use Rattle.table_tree.specs.Slots.{slot_tables, slot_uses, fresh}
-use Rattle.table_tree.proofs.Slots.{case_word, case_child, by_slot}
+use Rattle.table_tree.proofs.Slots.{case_word, case_child}
 
 no_sum : {X : Type 0} (xs : List X) → sum_by (λ _. 0) xs ≡ 0
 no_sum [] = refl

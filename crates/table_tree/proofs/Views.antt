@@ -1,4 +1,4 @@
-use Rattle.std.proofs.Common.{◌≡◌, ℕ, zero, suc, ◌+◌, ◌-◌, ◌*◌, ◌/◌, ◌%◌, ◌^◌, ◌<◌, ◌≤◌, List, [], ◌∷◌, length, get_or, refl, sym, ap, arith, ◌∙◌, cond, Bool, true, false, ◌==◌, ◌&&◌, ltb, leb, Option, Some, None, add-one, add-zero, take, drop}
+use Rattle.std.proofs.Common.{◌≡◌, ℕ, zero, suc, ◌+◌, ◌-◌, ◌*◌, ◌/◌, ◌%◌, ◌^◌, ◌<◌, ◌≤◌, List, get_or, refl, sym, ap, arith, ◌∙◌, cond, Bool, true, false, ◌==◌, ◌&&◌, ltb, leb, Option, Some, None, add-one, add-zero}
 use Rattle.std.proofs.lemmas.Bool.Decides.{nat_tests}
 use Rattle.std.proofs.lemmas.Nat.{div-mul-add}
 use Rattle.std.proofs.Math.Nat.{mod-eq_of_lt, div-eq_of_lt, div-lt_iff_lt-mul, mul-le-mul_right}
@@ -7,31 +7,26 @@ use Rattle.descriptor.specs.Word.{desc_of}
 use Rattle.page_state.specs.declared.entry.Entry.{Entry}
 use Rattle.page_state.specs.declared.entry.Entry.TheVariants.{Unmapped, Malformed, Annotated, Leaf}
 use Rattle.page_state.specs.declared.layout.Geometry.{Geometry}
-use Rattle.page_state.specs.declared.layout.Geometry.TheVariants.{Bits39}
 use Rattle.page_state.specs.Entries.{advance, entry_of_word}
 use Rattle.page_state.specs.Map.{empty_map, update}
 use Rattle.table_tree.specs.declared.table.Table.{Table}
 use Rattle.table_tree.specs.declared.tree.Tree.{Tree}
 use Rattle.table_tree.specs.Geometry.{levels_below, input_pages}
-use Rattle.table_tree.specs.Meaning.{level_at, block_pages, frame_of, word_entry, entry_at, word_at, slot_at}
-use Rattle.table_tree.specs.Shape.{IsBlank, IsWide}
-use Rattle.table_tree.specs.Tables.{tables_in, uses_in, table_in, missing_in, frame_count, is_one}
-use Rattle.table_tree.specs.Slots.{updated, made, is_under, IsEdited}
-use Rattle.table_tree.specs.View.{meaning, word_of, table_at, uses, tables_of, missing_of, root_of}
+use Rattle.table_tree.specs.Meaning.{level_at, block_pages, frame_of, word_entry, entry_at}
+use Rattle.table_tree.specs.Shape.{IsBlank}
+use Rattle.table_tree.specs.Tables.{table_in, missing_in}
+use Rattle.table_tree.specs.Slots.{updated, made, is_under}
+use Rattle.table_tree.specs.View.{meaning, table_at}
 use Rattle.table_tree.proofs.Slots.{by_eq}
 use Rattle.table_tree.proofs.Digits.{size_some, test_same, test_other}
 use Rattle.table_tree.proofs.Steps.{blank_entries, blank_words}
-use Rattle.table_tree.proofs.Sums.{words_tables, words_uses}
-use Rattle.table_tree.proofs.Standing.{missing_most, made_here, made_aside, made_above, words_standing, by_test, by_lt}
+use Rattle.table_tree.proofs.Standing.{made_here, made_aside, made_above, words_standing, by_test, by_lt}
 
 advance_zero : (x : Entry) (n : ℕ) → n ≡ 0 → advance x n ≡ x
 advance_zero Malformed n e = refl
 advance_zero Unmapped n e = refl
 advance_zero (Annotated o) n e = refl
 advance_zero (Leaf f p k s) n e = let wrap : ℕ → Entry = λ a. Leaf (record { 0 = a }) p k s in rw e (ap wrap (add-zero f.0))
-
-small_depth : (g : Geometry) → levels_below g < 3
-small_depth Bits39 = omega arith
 
 less_test : (a b : ℕ) → a < b → ltb a b ≡ true
 less_test a b h = grind (arith, nat_tests)

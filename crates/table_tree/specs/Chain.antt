@@ -1,6 +1,6 @@
 -- Tables of zeros in a chain, each but the first in slot 0 of the one before it.
-use Rattle.std.specs.Prelude.{◌≡◌, ℕ, zero, suc, ◌<◌, ◌≤◌, List, [], ◌∷◌, refl}
-use Rattle.std.specs.Coded.{×_prop, Unit-prop, le_prop, Π_prop}
+use Rattle.std.specs.Prelude.{◌≡◌, ℕ, ◌<◌, ◌≤◌, List, [], ◌∷◌, refl}
+use Rattle.std.specs.Coded.{×_prop, le_prop, Π_prop}
 use Rattle.std.proofs.Math.Nat.{ℕ_set}
 use Rattle.std.proofs.Common.{ap, sym, ◌∙◌}
 use mathlib.Core.HLevel.{is_prop→PathP}

@@ -1,7 +1,10 @@
--- What a change of one slot is to the tree, for tables at any depth.
-use Rattle.std.specs.Prelude.{◌≡◌, ℕ, ◌+◌, ◌<◌, ◌≤◌, ◌==◌, if◌then◌else◌}
+-- What a look at one slot and a change of it are to the tree, for tables at any depth.
+use Rattle.std.specs.Prelude.{◌≡◌, ℕ, ◌+◌, ◌<◌, ◌≤◌, ◌==◌, if◌then◌else◌, None}
+use Rattle.std.specs.declared.boxed.Box.{Box}
 use Rattle.table_tree.specs.declared.table.Table.{Table}
-use Rattle.table_tree.specs.Meaning.{index_at, slot_at, frame_of, word_entry, entry_at}
+use Rattle.table_tree.specs.declared.table.Slot.{Slot}
+use Rattle.table_tree.specs.declared.table.Slot.TheVariants.{Word, Child}
+use Rattle.table_tree.specs.Meaning.{index_at, frame_of, word_entry, entry_at}
 use Rattle.table_tree.specs.Shape.{IsTableFrame, IsEntryWord, IsShaped}
 use Rattle.table_tree.specs.Tables.{tables_in, uses_in, table_in}
 
@@ -21,3 +24,13 @@ pub record IsAttached {A : Type 0} (i : ℕ) (t u c : Table A) : Type 0 where
   pub standing : (depth low q : ℕ) → low ≤ depth → table_in (depth + 1) u low q ≡ (if index_at (depth + 1) q == i then table_in depth c low q else table_in (depth + 1) t low q)
   pub shape : (depth : ℕ) → IsShaped (depth + 1) t → IsTableFrame (frame_of c) → IsShaped depth c → IsShaped (depth + 1) u
   pub child : (depth : ℕ) → IsShaped (depth + 1) u → IsTableFrame (frame_of c) × IsShaped depth c
+
+-- what slot `i` of a table tells of it: `s` is that slot
+pub record IsSeen {A : Type 0} (i : ℕ) (t : Table A) (s : Slot A) : Type 0 where
+  pub word : (w depth q : ℕ) → s ≡ Word w → index_at depth q ≡ i → entry_at depth t q ≡ word_entry depth q w
+  pub word_shape : (w depth : ℕ) → s ≡ Word w → IsShaped depth t → IsEntryWord depth w
+  pub no_table : (w depth low q : ℕ) → s ≡ Word w → index_at depth q ≡ i → low < depth → table_in depth t low q ≡ None
+  pub child : (b : Box (Table A) A) (depth q : ℕ) → s ≡ Child b → index_at (depth + 1) q ≡ i → entry_at (depth + 1) t q ≡ entry_at depth b.value q
+  pub child_shape : (b : Box (Table A) A) (depth : ℕ) → s ≡ Child b → IsShaped (depth + 1) t → IsTableFrame (frame_of b.value) × IsShaped depth b.value
+  pub table : (b : Box (Table A) A) (depth low q : ℕ) → s ≡ Child b → index_at (depth + 1) q ≡ i → low ≤ depth → table_in (depth + 1) t low q ≡ table_in depth b.value low q
+  pub last : (b : Box (Table A) A) → s ≡ Child b → IsShaped 0 t → ⊥

@@ -1,5 +1,5 @@
 -- The tables of a tree: their number, their frames and where they stand.
-use Rattle.std.specs.Prelude.{◌≡◌, ℕ, zero, suc, ◌+◌, ◌==◌, List, Option, Some, None, if◌then◌else◌, sum_by}
+use Rattle.std.specs.Prelude.{ℕ, zero, suc, ◌+◌, ◌==◌, List, Option, Some, None, if◌then◌else◌, sum_by}
 use Rattle.descriptor.specs.declared.Frame.{Frame}
 use Rattle.table_tree.specs.declared.table.Table.{Table}
 use Rattle.table_tree.specs.Meaning.{index_at, frame_of, slots_of, slot_at, slot_case}

@@ -1,8 +1,5 @@
 -- A tree, seen from outside.
-use Rattle.std.specs.Prelude.{◌≡◌, ℕ, zero, suc, ◌+◌, ◌*◌, ◌^◌, nat_lt, List, Option, None, if◌then◌else◌}
-use Rattle.page_state.specs.declared.layout.Geometry.{Geometry}
-use Rattle.page_state.specs.declared.layout.Geometry.TheVariants.{Bits39}
-use Rattle.page_state.specs.declared.entry.Entry.{Entry}
+use Rattle.std.specs.Prelude.{ℕ, zero, suc, ◌*◌, nat_lt, List, Option, None, if◌then◌else◌}
 use Rattle.page_state.specs.declared.entry.Entry.TheVariants.{Unmapped}
 use Rattle.page_state.specs.Map.{Map}
 use Rattle.table_tree.specs.declared.tree.Tree.{Tree}

@@ -1,7 +1,7 @@
 //! One table, and the ways to look at it and to change it.
 ghost use Rattle.std.specs.Prelude.{◌≡◌, ◌+◌, ◌<◌, min, IfOk, IfSome, MatchOption, is_some, if◌then◌else◌, slice_set};
 ghost use Rattle.table_tree.specs.Meaning.{slot_at, slots_of, frame_of};
-ghost use Rattle.table_tree.specs.Changes.{IsWritten, IsAttached};
+ghost use Rattle.table_tree.specs.Changes.{IsWritten, IsAttached, IsSeen};
 ghost use Rattle.table_tree.specs.Shape.{IsWide, IsBlank, HoldsWord};
 
 use descriptor::Frame;
@@ -75,6 +75,7 @@ impl<A: Allocator> Table<A> {
         requires within { i < 512 }
         requires wide { IsWide self.now }
         ensures value { result.now ≡ slot_at self.now i }
+        ensures tree { IsSeen i self.now result.now }
         ensures reads { count_of reads.new ≡ min (count_of reads.old + 1) 18446744073709551615 }
     {
         reads.count = reads.count.saturating_add(1);

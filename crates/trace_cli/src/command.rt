@@ -4,7 +4,7 @@ use clap::{Arg, ArgAction, Error};
 use std::alloc::{AllocError, Global};
 
 /// What the program is to do.
-#[derive(Clone, Copy, PartialEq, Eq, Debug)]
+#[derive(Clone, Copy, PartialEq, Debug)]
 pub enum Invocation<'a> {
     /// Run the steps of a trace in order.
     Replay {

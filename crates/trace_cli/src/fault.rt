@@ -4,7 +4,7 @@ use thiserror::Error;
 use world::BootFault;
 
 /// What is wrong with a line.
-#[derive(Clone, Copy, PartialEq, Eq, Debug, Error)]
+#[derive(Clone, Copy, PartialEq, Debug, Error)]
 pub enum Fault {
     /// Line 1,048,577.
     #[error("lines")]

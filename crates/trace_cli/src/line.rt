@@ -8,7 +8,7 @@ use page_state::{Page, PageRange, Step};
 pub const LAST_LEVEL: u64 = 3;
 
 /// A line that can be carried out.
-#[derive(Clone, Copy, PartialEq, Eq, Debug)]
+#[derive(Clone, Copy, PartialEq, Debug)]
 pub enum Line {
     Geometry(u64),
     Cpus(u64),

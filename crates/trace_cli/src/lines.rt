@@ -6,7 +6,7 @@ use std::io::{BufRead, ErrorKind, Read};
 pub const MOST_BYTES: usize = 256;
 
 /// What was read of a trace.
-#[derive(Clone, Copy, PartialEq, Eq, Debug)]
+#[derive(Clone, Copy, PartialEq, Debug)]
 pub enum ReadLine {
     /// There is no further line.
     End,

@@ -2,7 +2,7 @@
 use thiserror::Error;
 
 /// How a report ends.
-#[derive(Clone, Copy, PartialEq, Eq, Debug)]
+#[derive(Clone, Copy, PartialEq, Debug)]
 pub enum Outcome {
     /// No fault and no disagreement.
     Clean,
@@ -13,7 +13,7 @@ pub enum Outcome {
 }
 
 /// Why a report stops before its end. What was written until then is a beginning of the report.
-#[derive(Clone, Copy, PartialEq, Eq, Debug, Error)]
+#[derive(Clone, Copy, PartialEq, Debug, Error)]
 pub enum EngineFault {
     /// (1)
     #[error("the trace could not be read")]

@@ -21,7 +21,7 @@ pub fn replay<A: Allocator + Copy, R: BufRead, W: Write>(
     let mut session = Session::new(global, alloc);
     let mut line =
         Vec::with_capacity(global, MOST_BYTES + 1).map_err(|_| EngineFault::NoMemory)?;
-    for number in 1..=MOST_LINES {
+    for number in 1..MOST_LINES + 1 {
         let answer = match read_line(reader, &mut line)? {
             ReadLine::End => return ended(&session, writer),
             ReadLine::Long => Err(Stop::Fault(Fault::Long)),

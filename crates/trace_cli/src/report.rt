@@ -4,7 +4,7 @@ use page_state::Reply;
 use std::fmt;
 
 /// A line of a report, without its end.
-#[derive(Clone, Copy, PartialEq, Eq, Debug)]
+#[derive(Clone, Copy, PartialEq, Debug)]
 pub enum ReportLine {
     /// The tables of each tree and the free frames of the shared pool after boot.
     Boot { host: usize, hyp: usize, free: usize },

@@ -1,4 +1,6 @@
 //! What a trace has said so far, and what a line does.
+ghost use Rattle.std.specs.Prelude.{◌≡◌, ◌+◌, ◌<◌, ◌≤◌, ◌^◌, IfOk};
+
 use crate::line::Line;
 use crate::fault::Fault;
 use crate::report::ReportLine;
@@ -11,7 +13,7 @@ use std::alloc::{Allocator, Global};
 use world::World;
 
 /// Why a line ends the run.
-#[derive(Clone, Copy, PartialEq, Eq, Debug)]
+#[derive(Clone, Copy, PartialEq, Debug)]
 pub enum Stop {
     Fault(Fault),
     /// A growth that no line of the report tells of was refused.
@@ -36,7 +38,9 @@ pub struct Session<A: Allocator> {
 
 impl<A: Allocator + Copy> Session<A> {
     /// Nothing said yet.
-    pub fn new(global: Global, alloc: A) -> Session<A> {
+    pub fn new(global: Global, alloc: A) -> Session<A>
+        ensures { result.steps ≡ 0 }
+    {
         Session {
             global,
             alloc,
@@ -47,12 +51,17 @@ impl<A: Allocator + Copy> Session<A> {
     }
 
     /// How many step lines were carried out.
-    pub fn steps(&self) -> u64 {
+    pub fn steps(&self) -> u64
+        ensures { result ≡ self.now.steps }
+    {
         self.steps
     }
 
     /// Carries out the line of this number, and gives the line of the report that it makes, if any.
-    pub fn run(&mut self, number: u64, line: &[u8]) -> Result<Option<ReportLine>, Stop> {
+    pub fn run(&mut self, number: u64, line: &[u8]) -> Result<Option<ReportLine>, Stop>
+        requires { self.old.steps < 2 ^ 63 }
+        ensures { self.new.steps ≤ self.old.steps + 1 }
+    {
         if has_stray_byte(line) {
             return Err(Stop::Fault(Fault::Byte));
         }
@@ -88,7 +97,10 @@ impl<A: Allocator + Copy> Session<A> {
         }
     }
 
-    fn carry_out(&mut self, number: u64, said: Line) -> Result<Option<ReportLine>, Stop> {
+    fn carry_out(&mut self, number: u64, said: Line) -> Result<Option<ReportLine>, Stop>
+        requires { self.old.steps < 2 ^ 63 }
+        ensures { self.new.steps ≤ self.old.steps + 1 }
+    {
         match said {
             Line::Boot => self.boot().map(Some),
             Line::Step { cpu, step } => self.step(number, cpu, step).map(Some),
@@ -101,7 +113,9 @@ impl<A: Allocator + Copy> Session<A> {
         }
     }
     /// Makes the world.
-    fn boot(&mut self) -> Result<ReportLine, Stop> {
+    fn boot(&mut self) -> Result<ReportLine, Stop>
+        ensures { self.new.steps ≡ self.old.steps }
+    {
         let carve = self.settings.carve.ok_or(Stop::Fault(Fault::Place))?;
         let regions = self.settings.regions.as_slice();
         let map = MemoryMap::new(self.global, regions, carve)
@@ -119,7 +133,10 @@ impl<A: Allocator + Copy> Session<A> {
     }
 
     /// Makes one step.
-    fn step(&mut self, line: u64, cpu: u64, step: Step) -> Result<ReportLine, Stop> {
+    fn step(&mut self, line: u64, cpu: u64, step: Step) -> Result<ReportLine, Stop>
+        requires { self.old.steps < 2 ^ 63 }
+        ensures { self.new.steps ≤ self.old.steps + 1 }
+    {
         let world = self
             .world
             .as_mut()
@@ -133,7 +150,7 @@ impl<A: Allocator + Copy> Session<A> {
     }
 
     /// The word on a page's path at a level.
-    fn word(&mut self, tree: TreeName, page: u64, level: u64) -> Result<ReportLine, Stop> {
+    fn word(&self, tree: TreeName, page: u64, level: u64) -> Result<ReportLine, Stop> {
         let world = self
             .world
             .as_ref()
@@ -148,7 +165,7 @@ impl<A: Allocator + Copy> Session<A> {
     }
 
     /// The number of free frames of the shared pool.
-    fn free(&mut self) -> Result<ReportLine, Stop> {
+    fn free(&self) -> Result<ReportLine, Stop> {
         let world = self
             .world
             .as_ref()

@@ -2,20 +2,20 @@
 use crate::words::Words;
 
 /// A tree that a line names.
-#[derive(Clone, Copy, PartialEq, Eq, Debug)]
+#[derive(Clone, Copy, PartialEq, Debug)]
 pub enum TreeName {
     Host,
     Hyp,
 }
 
 /// A call that a step line names.
-#[derive(Clone, Copy, PartialEq, Eq, Debug)]
+#[derive(Clone, Copy, PartialEq, Debug)]
 pub enum CallName {
     ShareHyp,
 }
 
 /// What a line asks for, by its first words.
-#[derive(Clone, Copy, PartialEq, Eq, Debug)]
+#[derive(Clone, Copy, PartialEq, Debug)]
 pub enum Verb {
     Geometry,
     Cpus,

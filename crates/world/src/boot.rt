@@ -26,7 +26,7 @@ const MOST_CALLS: u64 = 1_048_576;
 const HYPERVISOR: Owner = Owner(1);
 
 /// Why a world doesn't boot. The first that is true is told.
-#[derive(Clone, Copy, PartialEq, Eq, Debug, Error)]
+#[derive(Clone, Copy, PartialEq, Debug, Error)]
 pub enum BootFault {
     /// (1)
     #[error("CPUs not 1 to 64, log not 1 to 1048576, or an unknown geometry")]

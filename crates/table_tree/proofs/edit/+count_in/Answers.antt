@@ -1,4 +1,4 @@
-use Rattle.std.proofs.Common.{◌≡◌, ◌≤◌, ◌+◌, ◌*◌, ◌^◌, ◌-◌, ◌∙◌, sym, arith}
+use Rattle.std.proofs.Common.{◌≤◌, ◌*◌, ◌^◌, ◌-◌, ◌∙◌, sym, arith}
 use Rattle.std.proofs.Math.Nat.{mul-le-mul_left, mul-le-mul_right}
 use Rattle.table_tree.proofs.Slots.{shaped_wide, shaped_slot, slot_child_is}
 use Rattle.table_tree.proofs.Sums.{tables_zero, tables_more_word, tables_more_child, tables_all, powers}

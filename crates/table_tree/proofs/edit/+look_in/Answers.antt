@@ -1,4 +1,4 @@
-use Rattle.std.proofs.Common.{◌≡◌, ◌≤◌, ◌-◌, ◌∙◌, sym, arith}
+use Rattle.std.proofs.Common.{◌≤◌, ◌-◌, ◌∙◌, sym, arith}
 use Rattle.table_tree.specs.Shape.{IsShaped, IsTableFrame}
 use Rattle.table_tree.specs.Meaning.{frame_of}
 use Rattle.table_tree.proofs.Slots.{shaped_wide, shaped_slot, slot_child_is}

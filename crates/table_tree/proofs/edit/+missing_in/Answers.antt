@@ -1,6 +1,4 @@
-use Rattle.std.proofs.Common.{◌≡◌, ◌≤◌, ◌-◌, ◌∙◌, sym, arith}
-use Rattle.table_tree.specs.Shape.{IsShaped, IsTableFrame}
-use Rattle.table_tree.specs.Meaning.{frame_of}
+use Rattle.std.proofs.Common.{◌≤◌, ◌∙◌, sym, arith}
 use Rattle.table_tree.proofs.Slots.{shaped_wide, shaped_slot, slot_child_is}
 use Rattle.table_tree.proofs.Standing.{missing_zero, missing_word, missing_child}
 use Rattle.table_tree.proofs.edit.+missing_in.Goals as goal

@@ -1,8 +1,5 @@
-use Rattle.std.proofs.Common.{◌≡◌, ◌≤◌, ◌<◌, ◌-◌, ◌∙◌, sym, arith, ap, Some, get_or, length}
+use Rattle.std.proofs.Common.{◌≤◌, ◌∙◌, arith, ap, Some, get_or}
 use Rattle.std.proofs.lemmas.Bool.Decides.{nat_tests}
-use Rattle.table_tree.specs.Shape.{IsShaped, IsTableFrame}
-use Rattle.table_tree.specs.Meaning.{frame_of}
-use Rattle.table_tree.specs.Slots.{IsSlot}
 use Rattle.table_tree.proofs.Slots.{shaped_wide, shaped_slot, slot_child_is}
 use Rattle.table_tree.proofs.Steps.{path_end, path_over, path_last, path_stop, path_below}
 use Rattle.table_tree.proofs.edit.+word_in.Goals as goal

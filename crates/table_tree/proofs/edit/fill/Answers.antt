@@ -1,7 +1,4 @@
-use Rattle.std.proofs.Common.{◌≡◌, ℕ, ◌<◌, ◌+◌, ◌∙◌, arith}
-use Rattle.descriptor.specs.Word.{desc_of}
-use Rattle.page_state.specs.Entries.{entry_of_word}
-use Rattle.table_tree.specs.Meaning.{level_at}
+use Rattle.std.proofs.Common.{◌∙◌, arith}
 use Rattle.table_tree.specs.declared.table.Slot.TheVariants.{Word}
 use Rattle.table_tree.proofs.Slots.{set_wide}
 use Rattle.table_tree.proofs.Steps.{parts_next, words_next, parts_shaped, parts_entries}

@@ -1,9 +1,8 @@
-use Rattle.std.proofs.Common.{◌≡◌, ℕ, ◌<◌, ◌≤◌, ◌+◌, ◌∙◌, arith, ap, length}
+use Rattle.std.proofs.Common.{◌≤◌, ◌+◌, ◌∙◌, arith, ap, length}
 use Rattle.table_tree.specs.Meaning.{frame_of}
 use Rattle.table_tree.specs.Stocks.{frames_of}
 use Rattle.table_tree.proofs.Slots.{slot_word_is, shaped_wide}
 use Rattle.table_tree.proofs.Sums.{fresh_word}
-use Rattle.table_tree.proofs.Steps.{blank_words}
 use Rattle.table_tree.proofs.Opened.{opened_child, opened_word, popped_some}
 use Rattle.table_tree.proofs.edit.opened.Goals as goal
 

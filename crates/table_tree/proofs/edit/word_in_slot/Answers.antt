@@ -1,4 +1,4 @@
-use Rattle.std.proofs.Common.{◌≡◌, ◌<◌, ◌^◌, ◌*◌, ◌+◌, ◌∙◌, sym, arith, ap}
+use Rattle.std.proofs.Common.{◌≡◌, ◌<◌, ◌^◌, ◌*◌, ◌+◌, ◌∙◌, arith, ap}
 use Rattle.table_tree.specs.Meaning.{frame_of}
 use Rattle.table_tree.proofs.Slots.{slot_child_is}
 use Rattle.table_tree.proofs.Steps.{slot_word_here, slot_word_child}

@@ -1,4 +1,4 @@
-use Rattle.std.proofs.Common.{◌≡◌, ◌<◌, ◌%◌, ◌*◌, ◌^◌, ℕ, zero, suc, arith, refl}
+use Rattle.std.proofs.Common.{◌<◌, ◌%◌, ◌*◌, ◌^◌, ℕ, zero, suc, arith}
 use Rattle.table_tree.proofs.Words.{can_advance}
 use Rattle.table_tree.proofs.word.entry_in.Goals as goal
 

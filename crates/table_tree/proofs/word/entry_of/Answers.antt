@@ -1,8 +1,8 @@
-use Rattle.std.proofs.Common.{◌≡◌, refl}
-use Rattle.descriptor.specs.Word.{IsSaid, CanBeSaid}
-use Rattle.page_state.specs.Entries.{entry_of_word, word_of_entry}
+use Rattle.std.proofs.Common.{refl}
+use Rattle.descriptor.specs.Word.{IsSaid}
+use Rattle.page_state.specs.Entries.{entry_of_word}
 use Rattle.table_tree.specs.Meaning.{level_at}
-use Rattle.table_tree.specs.Shape.{IsWellFormed, IsEntryWord}
+use Rattle.table_tree.specs.Shape.{IsWellFormed}
 use Rattle.table_tree.proofs.Words.{said_entry, small_entry}
 use Rattle.table_tree.proofs.word.entry_of.Goals as goal
 

@@ -1,4 +1,4 @@
-use Rattle.std.proofs.Common.{◌≡◌, refl}
+use Rattle.std.proofs.Common.{◌≡◌}
 use Rattle.descriptor.specs.Word.{desc_of, Says}
 use Rattle.page_state.specs.Entries.{entry_of_word, word_of_entry}
 use Rattle.table_tree.specs.Meaning.{level_at}

@@ -1,4 +1,4 @@
-use Rattle.std.proofs.Common.{◌≡◌, refl, []}
+use Rattle.std.proofs.Common.{refl, []}
 use Rattle.table_tree.specs.declared.table.Slot.TheVariants.{Word}
 use Rattle.table_tree.proofs.Chains.{chain_nil, frames_is}
 use Rattle.table_tree.proofs.stock.Stock.new.Goals as goal

@@ -1,4 +1,4 @@
-use Rattle.std.proofs.Common.{◌≡◌, refl, sym, ap, ◌∙◌, List, [], ◌∷◌, ℕ}
+use Rattle.std.proofs.Common.{sym, ap, ◌∙◌, [], ◌∷◌}
 use Rattle.table_tree.specs.Meaning.{frame_of}
 use Rattle.table_tree.specs.Stocks.{frames_of}
 use Rattle.table_tree.proofs.Chains.{chain_nil, chain_word, chain_first, frames_is, frames_chain, link_blank, link_wide, link_is_wide, link_frame}

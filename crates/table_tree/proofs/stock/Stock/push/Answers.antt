@@ -1,4 +1,4 @@
-use Rattle.std.proofs.Common.{◌≡◌, refl, ◌∷◌, sym, ap, ◌∙◌}
+use Rattle.std.proofs.Common.{refl, ◌∷◌}
 use Rattle.std.specs.Box.{with_value}
 use Rattle.table_tree.specs.Meaning.{frame_of}
 use Rattle.table_tree.specs.Stocks.{frames_of}

@@ -1,4 +1,4 @@
-use Rattle.std.proofs.Common.{◌≡◌, ◌∙◌, sym}
+use Rattle.std.proofs.Common.{◌∙◌, sym}
 use Rattle.table_tree.specs.declared.table.Slot.TheVariants.{Word}
 use Rattle.table_tree.proofs.Slots.{taken_back}
 use Rattle.table_tree.proofs.Changes.{detached}

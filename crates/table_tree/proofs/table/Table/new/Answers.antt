@@ -1,4 +1,4 @@
-use Rattle.std.proofs.Common.{◌≡◌, ◌<◌, ℕ, length, get_or, arith, sym, ◌∙◌}
+use Rattle.std.proofs.Common.{◌≡◌, arith}
 use Rattle.std.proofs.Math.ListN.{length-replicate, replicate}
 use Rattle.std.proofs.lemmas.List.{get_or-replicate}
 use Rattle.table_tree.specs.declared.table.Slot.{Slot}

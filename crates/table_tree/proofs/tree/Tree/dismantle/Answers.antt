@@ -1,6 +1,5 @@
-use Rattle.std.proofs.Common.{◌≡◌, ◌∙◌, ◌+◌, sym, ap, arith, length}
+use Rattle.std.proofs.Common.{ap, arith, length}
 use Rattle.table_tree.specs.View.{uses, tables_of}
-use Rattle.table_tree.specs.Tables.{uses_in, tables_in}
 use Rattle.table_tree.proofs.Sums.{count_none}
 use Rattle.table_tree.proofs.tree.Tree.dismantle.Goals as goal
 

@@ -1,4 +1,4 @@
-use Rattle.std.proofs.Common.{◌≡◌, ◌∙◌, sym, ap, arith}
+use Rattle.std.proofs.Common.{◌∙◌}
 use Rattle.table_tree.proofs.Views.{meaning_in, meaning_over}
 use Rattle.table_tree.proofs.tree.Tree.look.Goals as goal
 

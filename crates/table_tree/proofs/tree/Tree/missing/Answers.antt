@@ -1,4 +1,4 @@
-use Rattle.std.proofs.Common.{◌≡◌, ◌∙◌, sym, ap, arith}
+use Rattle.std.proofs.Common.{◌∙◌, ap, arith}
 use Rattle.table_tree.specs.View.{missing_of}
 use Rattle.table_tree.specs.Tables.{missing_in}
 use Rattle.table_tree.proofs.Standing.{missing_most}

@@ -1,4 +1,4 @@
-use Rattle.std.proofs.Common.{◌≡◌, ◌∙◌, sym, ap, arith, refl}
+use Rattle.std.proofs.Common.{◌∙◌, ap}
 use Rattle.table_tree.specs.Geometry.{levels_below}
 use Rattle.table_tree.specs.Tables.{is_one}
 use Rattle.table_tree.specs.View.{root_of, uses, tables_of}

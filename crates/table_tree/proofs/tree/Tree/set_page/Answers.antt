@@ -1,8 +1,7 @@
-use Rattle.std.proofs.Common.{◌≡◌, ◌∙◌, ◌+◌, ℕ, sym, ap, arith, refl}
+use Rattle.std.proofs.Common.{◌∙◌, sym, ap, arith}
 use Rattle.page_state.specs.Map.{update}
 use Rattle.table_tree.specs.Geometry.{levels_below}
 use Rattle.table_tree.specs.Stocks.{frames_of}
-use Rattle.table_tree.specs.Slots.{IsEdited}
 use Rattle.table_tree.specs.Tables.{frame_count, missing_in}
 use Rattle.table_tree.proofs.Sums.{count_rest}
 use Rattle.table_tree.specs.View.{root_of, uses, tables_of, missing_of}

@@ -1,4 +1,4 @@
-use Rattle.std.proofs.Common.{◌≡◌, ◌∙◌, sym, ap, arith}
+use Rattle.std.proofs.Common.{◌∙◌, ap}
 use Rattle.table_tree.specs.View.{tables_of}
 use Rattle.table_tree.specs.Tables.{tables_in}
 use Rattle.table_tree.proofs.tree.Tree.tables.Goals as goal

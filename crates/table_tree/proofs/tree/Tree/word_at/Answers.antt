@@ -1,4 +1,4 @@
-use Rattle.std.proofs.Common.{◌≡◌, ◌∙◌, sym, ap, arith}
+use Rattle.std.proofs.Common.{◌∙◌, ap}
 use Rattle.table_tree.specs.Meaning.{word_at}
 use Rattle.table_tree.specs.View.{word_of}
 use Rattle.table_tree.proofs.tree.Tree.word_at.Goals as goal
