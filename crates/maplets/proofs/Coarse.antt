@@ -34,7 +34,7 @@ grown_precedes r x n h p =
     let t = follows_entry r x.pages.first.0 x.target h in
     let from : r.page + (x.pages.count + 1) - r.page ≡ 1 + (x.pages.first.0 + x.pages.count - x.pages.first.0) = omega arith in
     let far : entry_on (grown r x) (end_of (grown r x)) ≡ entry_on x (end_of x) =
-        ap (advance (entry_of_target r.target)) from ∙ sym (advance_more (entry_of_target r.target) 1 (x.pages.first.0 + x.pages.count - x.pages.first.0)) ∙ ap (λ e. advance e (x.pages.first.0 + x.pages.count - x.pages.first.0)) t in
+    ap (advance (entry_of_target r.target)) from ∙ sym (advance_more (entry_of_target r.target) 1 (x.pages.first.0 + x.pages.count - x.pages.first.0)) ∙ ap (λ e. advance e (x.pages.first.0 + x.pages.count - x.pages.first.0)) t in
     record { before = omega (arith, p.before); apart = λ e u. p.apart (omega arith) (sym far ∙ u) }
 
 grown_first : (r : PageTarget) (x : Run) (xs : List Run) → follows r x.pages.first.0 x.target ≡ true → PrecedesFirst x xs → PrecedesFirst (grown r x) xs

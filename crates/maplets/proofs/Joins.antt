@@ -165,11 +165,11 @@ grown_more r x xs p h =
     by_eq r.page p
     (λ e. rw (inside_grown r.page x.pages.count p e, eq_true r.page p e, none_between r.page p e) (advance_zero (entry_of_target r.target)))
     (λ n. rw (beside_grown r.page x.pages.first.0 x.pages.count p b n, eq_false r.page p n)
-        (both (is_within x.pages.first.0 x.pages.count p)
-        (λ w. let low = within_low x.pages.first.0 x.pages.count p w in
-            let s : 1 + (p - x.pages.first.0) ≡ p - r.page = omega arith in
-            rw w (ap (advance (entry_of_target r.target)) (sym s) ∙ sym (advance_more (entry_of_target r.target) 1 (p - x.pages.first.0)) ∙ ap (λ e. advance e (p - x.pages.first.0)) t))
-        (λ w. rw w refl)))
+    (both (is_within x.pages.first.0 x.pages.count p)
+    (λ w. let low = within_low x.pages.first.0 x.pages.count p w in
+    let s : 1 + (p - x.pages.first.0) ≡ p - r.page = omega arith in
+    rw w (ap (advance (entry_of_target r.target)) (sym s) ∙ sym (advance_more (entry_of_target r.target) 1 (p - x.pages.first.0)) ∙ ap (λ e. advance e (p - x.pages.first.0)) t))
+    (λ w. rw w refl)))
 
 -- the map of joined runs
 pub joined_more : (r : PageTarget) (xs : List Run) (p : ℕ) → map_of (joined r xs) p ≡ cond (r.page == p) (entry_of_target r.target) (map_of xs p)

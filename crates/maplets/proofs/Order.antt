@@ -168,12 +168,12 @@ module _ (first count from to : ℕ) (rows : List PageTarget) (round : IsRoundRa
       by_lt p first
       (λ low. rw (outside_low first count p low) (ap entry_of (new_low (rows_of first t count) s e p low)))
       (λ from_on. by_lt p (first + count)
-          (λ k. rw (inside first count p from_on k)
-              (ap entry_of (new_inside (rows_of first t count) s e p from_on k
-              ∙ let at : first + (p - first) ≡ p = omega arith in
-              let g : target_at (rows_of first t count) (first + (p - first)) ≡ Some (advance_target t (p - first)) = rows_give first count (p - first) t (omega arith) in
-              rw at at g) ∙ entry_advanced t (p - first)))
-          (λ k. rw (outside_high first count p k) (ap entry_of (new_high (rows_of first t count) s e p k))))
+      (λ k. rw (inside first count p from_on k)
+      (ap entry_of (new_inside (rows_of first t count) s e p from_on k
+      ∙ let at : first + (p - first) ≡ p = omega arith in
+      let g : target_at (rows_of first t count) (first + (p - first)) ≡ Some (advance_target t (p - first)) = rows_give first count (p - first) t (omega arith) in
+      rw at at g) ∙ entry_advanced t (p - first)))
+      (λ k. rw (outside_high first count p k) (ap entry_of (new_high (rows_of first t count) s e p k))))
 
   -- no rows in a range: the update of the map by Unmapped
   pub taken_map : (p : ℕ) → entry_of (target_at (take from rows ++ drop to rows) p) ≡ update (λ q. entry_of (target_at rows q)) first count Unmapped p
@@ -181,8 +181,8 @@ module _ (first count from to : ℕ) (rows : List PageTarget) (round : IsRoundRa
       by_lt p first
       (λ low. rw (outside_low first count p low) (ap entry_of (new_low [] tt tt p low)))
       (λ from_on. by_lt p (first + count)
-          (λ k. rw (inside first count p from_on k) (ap entry_of (new_inside [] tt tt p from_on k)))
-          (λ k. rw (outside_high first count p k) (ap entry_of (new_high [] tt tt p k))))
+      (λ k. rw (inside first count p from_on k) (ap entry_of (new_inside [] tt tt p from_on k)))
+      (λ k. rw (outside_high first count p k) (ap entry_of (new_high [] tt tt p k))))
 
 -- a lower page's place isn't behind a higher one's
 pub places_order : (i j a b : ℕ) (rows : List PageTarget) → i ≤ length rows → a ≤ b → AreBelow a (take i rows) → IsSortedFrom b (drop j rows) → i ≤ j

@@ -97,6 +97,7 @@ impl Iterator for Runs<'_> {
     type Item = Run;
 
     ghost use Rattle.std.specs.Iterator.{YieldsFirst, item_count};
+
     ghost next_gives = { YieldsFirst (λ s. s) };
 
     ghost remaining = { item_count (λ s. s) };

@@ -18,12 +18,10 @@ mod words;
 use command::{Invocation, UsageFault, command};
 use outcome::{EngineFault, Outcome, exit_status};
 use replay::replay;
-use std::env;
-use std::fs;
-use std::io;
 use std::io::{BufReader, BufWriter, Write};
 use std::process::ExitCode;
 use std::rt::{Env, Files};
+use std::{env, fs, io};
 
 /// The status where the words are refused or the file can't be opened.
 const REFUSED: u8 = 2;
@@ -32,11 +30,13 @@ const REFUSED: u8 = 2;
 const FAILED: u8 = 1;
 
 /// Replays an opened trace, and writes its report to standard output.
-fn replay_file<R: AllocGlobal + Print>(rt: &R, file: impl io::Read + Drop) -> Result<Outcome, EngineFault> {
+fn replay_file<R: AllocGlobal + Print>(
+    rt: &R,
+    file: impl io::Read + Drop,
+) -> Result<Outcome, EngineFault> {
     let global = rt.alloc();
     let mut reader = BufReader::new(global, file).map_err(|_| EngineFault::NoMemory)?;
-    let mut writer =
-        BufWriter::new(global, io::writer(rt)).map_err(|_| EngineFault::NoMemory)?;
+    let mut writer = BufWriter::new(global, io::writer(rt)).map_err(|_| EngineFault::NoMemory)?;
     let outcome = replay(global, global, &mut reader, &mut writer)?;
     writer.flush().map_err(|_| EngineFault::Write)?;
     Ok(outcome)

@@ -19,8 +19,7 @@ pub fn replay<A: Allocator + Copy, R: BufRead, W: Write>(
     writer: &mut W,
 ) -> Result<Outcome, EngineFault> {
     let mut session = Session::new(global, alloc);
-    let mut line =
-        Vec::with_capacity(global, MOST_BYTES + 1).map_err(|_| EngineFault::NoMemory)?;
+    let mut line = Vec::with_capacity(global, MOST_BYTES + 1).map_err(|_| EngineFault::NoMemory)?;
     for number in 1..MOST_LINES + 1 {
         let answer = match read_line(reader, &mut line)? {
             ReadLine::End => return ended(&session, writer),
@@ -59,11 +58,7 @@ fn ended<A: Allocator + Copy, W: Write>(
 }
 
 /// Ends the report with a fault.
-fn faulted<W: Write>(
-    writer: &mut W,
-    line: u64,
-    fault: Fault,
-) -> Result<Outcome, EngineFault> {
+fn faulted<W: Write>(writer: &mut W, line: u64, fault: Fault) -> Result<Outcome, EngineFault> {
     tell(writer, ReportLine::Fault { line, fault })?;
     Ok(Outcome::Fault)
 }

@@ -7,17 +7,31 @@ use std::fmt;
 #[derive(Clone, Copy, PartialEq, Debug)]
 pub enum ReportLine {
     /// The tables of each tree and the free frames of the shared pool after boot.
-    Boot { host: usize, hyp: usize, free: usize },
+    Boot {
+        host: usize,
+        hyp: usize,
+        free: usize,
+    },
     /// The reply to the step on a line, counted from 1.
-    Step { line: u64, cpu: u64, reply: Reply },
+    Step {
+        line: u64,
+        cpu: u64,
+        reply: Reply,
+    },
     /// A word of a table.
     Word(u64),
     /// The number of free frames.
     Free(usize),
     /// The fault of a line. It ends the report.
-    Fault { line: u64, fault: Fault },
+    Fault {
+        line: u64,
+        fault: Fault,
+    },
     /// The numbers of step lines and of disagreements. It ends the report.
-    End { steps: u64, disagreements: u64 },
+    End {
+        steps: u64,
+        disagreements: u64,
+    },
 }
 
 impl fmt::Display for ReportLine {

@@ -1,13 +1,13 @@
 //! What a trace has said so far, and what a line does.
 ghost use Rattle.std.specs.Prelude.{◌≡◌, ◌+◌, ◌<◌, ◌≤◌, ◌^◌, IfOk};
 
-use crate::line::Line;
 use crate::fault::Fault;
+use crate::line::Line;
+use crate::paths::word_on;
 use crate::report::ReportLine;
 use crate::settings::Settings;
 use crate::verb::{TreeName, Verb};
 use crate::words::{Words, has_stray_byte, has_stray_space};
-use crate::paths::word_on;
 use page_state::{MemoryMap, Step};
 use std::alloc::{Allocator, Global};
 use world::World;
@@ -118,10 +118,12 @@ impl<A: Allocator + Copy> Session<A> {
     {
         let carve = self.settings.carve.ok_or(Stop::Fault(Fault::Place))?;
         let regions = self.settings.regions.as_slice();
-        let map = MemoryMap::new(self.global, regions, carve)
-            .map_err(|fault| Stop::Fault(Fault::Layout(fault)))?;
-        let world = World::boot(self.global, self.alloc, &map, self.settings.config())
-            .map_err(|fault| Stop::Fault(Fault::Boot(fault)))?;
+        let map = MemoryMap::new(self.global, regions, carve).map_err(|fault| Stop::Fault(
+            Fault::Layout(fault),
+        ))?;
+        let world = World::boot(self.global, self.alloc, &map, self.settings.config()).map_err(
+            |fault| Stop::Fault(Fault::Boot(fault)),
+        )?;
         let shared = &world.parts().shared;
         let line = ReportLine::Boot {
             host: shared.host.tree().tables(),
@@ -137,10 +139,7 @@ impl<A: Allocator + Copy> Session<A> {
         requires { self.old.steps < 2 ^ 63 }
         ensures { self.new.steps ≤ self.old.steps + 1 }
     {
-        let world = self
-            .world
-            .as_mut()
-            .ok_or(Stop::Fault(Fault::Place))?;
+        let world = self.world.as_mut().ok_or(Stop::Fault(Fault::Place))?;
         if cpu >= world.cpus() {
             return Err(Stop::Fault(Fault::Cpu));
         }
@@ -151,10 +150,7 @@ impl<A: Allocator + Copy> Session<A> {
 
     /// The word on a page's path at a level.
     fn word(&self, tree: TreeName, page: u64, level: u64) -> Result<ReportLine, Stop> {
-        let world = self
-            .world
-            .as_ref()
-            .ok_or(Stop::Fault(Fault::Place))?;
+        let world = self.world.as_ref().ok_or(Stop::Fault(Fault::Place))?;
         let shared = &world.parts().shared;
         let tree = match tree {
             TreeName::Host => shared.host.tree(),
@@ -166,10 +162,7 @@ impl<A: Allocator + Copy> Session<A> {
 
     /// The number of free frames of the shared pool.
     fn free(&self) -> Result<ReportLine, Stop> {
-        let world = self
-            .world
-            .as_ref()
-            .ok_or(Stop::Fault(Fault::Place))?;
+        let world = self.world.as_ref().ok_or(Stop::Fault(Fault::Place))?;
         Ok(ReportLine::Free(world.parts().shared.pool.free()))
     }
 }

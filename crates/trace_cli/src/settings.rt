@@ -34,10 +34,7 @@ impl Settings {
             Line::Memory(pages) => self.add_region(RegionKind::Memory, pages)?,
             Line::Device(pages) => self.add_region(RegionKind::Device, pages)?,
             Line::Carve(pages) => self.carve = Some(pages),
-            Line::Boot
-            | Line::Step { .. }
-            | Line::Word { .. }
-            | Line::FreeShared => {}
+            Line::Boot | Line::Step { .. } | Line::Word { .. } | Line::FreeShared => {}
         }
         Ok(())
     }

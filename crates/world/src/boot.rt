@@ -141,7 +141,13 @@ fn shared_at_boot<A: Allocator + Copy>(
     pool.drop_lowest(2);
     let mut host = Component::new(global, host_tree);
     let mut hyp = Component::new(global, hyp_tree);
-    set_pages(alloc, &mut host, &mut pool, carve, Entry::Annotated(HYPERVISOR))?;
+    set_pages(
+        alloc,
+        &mut host,
+        &mut pool,
+        carve,
+        Entry::Annotated(HYPERVISOR),
+    )?;
     let owned = leaf(first, Prot::RW, State::Owned);
     set_pages(alloc, &mut hyp, &mut pool, hyp_range(carve), owned)?;
     Ok(Shared {

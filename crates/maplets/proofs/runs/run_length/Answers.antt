@@ -22,7 +22,7 @@ loop-n-preserved c = record {
   within = omega arith;
   together = λ i h. by_eq (i + 1) c.loop-n.n
       (λ e. let last : c.loop-n.n - 1 ≡ i = omega arith in let next : c.loop-n.n ≡ i + 1 = omega arith in
-          continues_at i c.args.rows.now a_row (omega arith) (rw (last, next) at (sym c.continues.ensures ∙ c.if-continues.true)))
+      continues_at i c.args.rows.now a_row (omega arith) (rw (last, next) at (sym c.continues.ensures ∙ c.if-continues.true)))
       (λ n. c.loop-n.invariant.together i (omega arith));
 }
 
