@@ -1,5 +1,5 @@
 -- The first rows that are one run.
-use Rattle.std.proofs.Common.{◌≡◌, ℕ, zero, suc, ◌+◌, ◌-◌, ◌^◌, ◌<◌, ◌≤◌, Bool, true, false, ◌==◌, List, [], ◌∷◌, length, drop, get_or, refl, sym, ap, ◌∙◌, arith}
+use Rattle.std.proofs.Common.{◌≡◌, ℕ, zero, suc, ◌+◌, ◌<◌, ◌≤◌, true, List, [], ◌∷◌, length, drop, get_or, refl, arith}
 use Rattle.page_state.specs.declared.entry.Run.{Run}
 use Rattle.maplets.specs.declared.PageTarget.{PageTarget}
 use Rattle.maplets.specs.Rows.{joined, runs_of, grown, run_of, follows}

@@ -1,5 +1,5 @@
 -- Rows with a range replaced, as runs.
-use Rattle.std.proofs.Common.{◌≡◌, ℕ, ◌+◌, ◌^◌, ◌<◌, ◌≤◌, List, [], ◌++◌, take, drop, length, refl, sym, ap, ◌∙◌, arith}
+use Rattle.std.proofs.Common.{◌≡◌, ℕ, ◌+◌, ◌^◌, ◌≤◌, List, [], ◌++◌, take, drop, length, refl, sym, ap, ◌∙◌, arith}
 use Rattle.std.proofs.lemmas.List.{take_at, drop_at, length-take-le}
 use mathlib.Core.Path.{fun_ext}
 use Rattle.page_state.specs.declared.entry.Target.{Target}
@@ -7,13 +7,12 @@ use Rattle.page_state.specs.declared.entry.Entry.{Entry}
 use Rattle.page_state.specs.declared.entry.Entry.TheVariants.{Unmapped}
 use Rattle.page_state.specs.Entries.{entry_of, entry_of_target}
 use Rattle.page_state.specs.Map.{update}
-use Rattle.page_state.specs.Runs.{map_of, IsCoarsest}
+use Rattle.page_state.specs.Runs.{map_of}
 use Rattle.maplets.specs.declared.PageTarget.{PageTarget}
 use Rattle.maplets.specs.Rows.{target_at, runs_of, rows_of, IsSortedFrom}
 use Rattle.maplets.specs.Targets.{HasFrameBelow}
 use Rattle.maplets.proofs.Joins.{map_of-runs_of}
 use Rattle.maplets.proofs.Order.{IsRoundRange, given_map, taken_map, new_sorted, rows_sorted, rows_below}
-use Rattle.maplets.proofs.Coarse.{runs_coarsest}
 
 -- a map by rows, changed as an update says, is so by runs
 by_runs : (first count : ℕ) (e : Entry) (rows new : List PageTarget) → ((p : ℕ) → entry_of (target_at new p) ≡ update (λ q. entry_of (target_at rows q)) first count e p) → map_of (runs_of new) ≡ update (map_of (runs_of rows)) first count e

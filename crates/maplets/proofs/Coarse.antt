@@ -1,11 +1,12 @@
 -- The runs of sorted rows are the coarsest list.
-use Rattle.std.proofs.Common.{◌≡◌, ℕ, zero, suc, ◌+◌, ◌-◌, ◌^◌, ◌<◌, ◌≤◌, Bool, true, false, ◌==◌, List, [], ◌∷◌, length, drop, get_or, refl, sym, ap, ◌∙◌, arith}
+use Rattle.std.proofs.Common.{◌≡◌, ℕ, ◌+◌, ◌-◌, ◌≤◌, true, false, List, [], ◌∷◌, sym, ap, ◌∙◌, arith}
 use Rattle.page_state.specs.declared.entry.Run.{Run}
 use Rattle.page_state.specs.Entries.{advance, entry_of_target}
+use Rattle.page_state.proofs.Entries.{advance-more}
 use Rattle.page_state.specs.Runs.{IsCoarsest, Precedes, PrecedesFirst, entry_on, end_of}
 use Rattle.maplets.specs.declared.PageTarget.{PageTarget}
 use Rattle.maplets.specs.Rows.{IsSortedFrom, joined, runs_of, grown, run_of, follows}
-use Rattle.maplets.proofs.Joins.{both, follows_page, follows_entry, follows_found, advance_more}
+use Rattle.maplets.proofs.Joins.{both, follows_page, follows_entry, follows_found}
 
 -- the first run begins at the page or later
 abbrev pub BeginsFrom : ℕ → List Run → Type 0
@@ -34,7 +35,7 @@ grown_precedes r x n h p =
     let t = follows_entry r x.pages.first.0 x.target h in
     let from : r.page + (x.pages.count + 1) - r.page ≡ 1 + (x.pages.first.0 + x.pages.count - x.pages.first.0) = omega arith in
     let far : entry_on (grown r x) (end_of (grown r x)) ≡ entry_on x (end_of x) =
-    ap (advance (entry_of_target r.target)) from ∙ sym (advance_more (entry_of_target r.target) 1 (x.pages.first.0 + x.pages.count - x.pages.first.0)) ∙ ap (λ e. advance e (x.pages.first.0 + x.pages.count - x.pages.first.0)) t in
+    ap (advance (entry_of_target r.target)) from ∙ sym (advance-more (entry_of_target r.target) 1 (x.pages.first.0 + x.pages.count - x.pages.first.0)) ∙ ap (λ e. advance e (x.pages.first.0 + x.pages.count - x.pages.first.0)) t in
     record { before = omega (arith, p.before); apart = λ e u. p.apart (omega arith) (sym far ∙ u) }
 
 grown_first : (r : PageTarget) (x : Run) (xs : List Run) → follows r x.pages.first.0 x.target ≡ true → PrecedesFirst x xs → PrecedesFirst (grown r x) xs

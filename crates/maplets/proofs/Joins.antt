@@ -1,23 +1,14 @@
-use Rattle.std.proofs.Common.{◌≡◌, ℕ, zero, suc, ◌+◌, ◌-◌, ◌<◌, ◌≤◌, Bool, true, false, ◌&&◌, ◌==◌, List, [], ◌∷◌, ◌++◌, Option, Some, None, refl, sym, ap, ◌∙◌, arith, cond, add-zero, inl, inr}
+use Rattle.std.proofs.Common.{◌≡◌, ℕ, ◌+◌, ◌-◌, ◌≤◌, Bool, true, false, ◌&&◌, ◌==◌, List, [], ◌∷◌, Option, Some, refl, sym, ap, ◌∙◌, arith, cond, inl, inr}
 use Rattle.std.proofs.lemmas.Bool.{cases_eq}
 use Rattle.std.proofs.lemmas.Bool.Decides.{nat_tests}
-use Rattle.page_state.specs.declared.entry.Entry.{Entry}
-use Rattle.page_state.specs.declared.entry.Entry.TheVariants.{Unmapped, Malformed as MalformedEntry, Annotated as AnnotatedEntry, Leaf as LeafEntry}
-use Rattle.descriptor.specs.declared.Frame.{Frame}
-use Rattle.descriptor.specs.declared.Owner.{Owner}
-use Rattle.descriptor.specs.declared.Prot.{Prot}
-use Rattle.descriptor.specs.declared.Prot.TheVariants.{R, RW, RX, RWX}
-use Rattle.descriptor.specs.declared.Kind.{Kind}
-use Rattle.descriptor.specs.declared.Kind.TheVariants.{Normal, Device}
-use Rattle.descriptor.specs.declared.State.{State}
-use Rattle.descriptor.specs.declared.State.TheVariants.{Owned, SharedOwned, SharedBorrowed}
 use Rattle.page_state.specs.declared.entry.Run.{Run}
 use Rattle.page_state.specs.declared.entry.Target.{Target}
 use Rattle.page_state.specs.declared.entry.Target.TheVariants.{Malformed, Annotated, Leaf}
 use Rattle.page_state.specs.Entries.{advance, entry_of_target, entry_of}
 use Rattle.page_state.specs.Map.{is_within}
-use Rattle.page_state.specs.Runs.{map_of, entry_on}
-use Rattle.page_state.specs.EntryTests.{entry_eq, prot_eq, kind_eq, state_eq}
+use Rattle.page_state.specs.Runs.{map_of}
+use Rattle.page_state.specs.EntryTests.{entry_eq}
+use Rattle.page_state.proofs.Entries.{advance-none, advance-more, entry_eq-same, entry_eq-self}
 use Rattle.maplets.specs.declared.PageTarget.{PageTarget}
 use Rattle.maplets.specs.Rows.{target_at, joined, runs_of, grown, run_of, follows}
 use Rattle.maplets.specs.Targets.{advance_target}
@@ -34,39 +25,6 @@ entry_advanced Malformed n = refl
 entry_advanced (Annotated o) n = refl
 entry_advanced (Leaf f p k s) n = refl
 
-frame_more : (f : Frame) (p : Prot) (k : Kind) (s : State) (m n : ℕ) → m ≡ n → LeafEntry (record { 0 = m }) p k s ≡ LeafEntry (record { 0 = n }) p k s
-frame_more f p k s m n e = let wrap : ℕ → Entry = λ a. LeafEntry (record { 0 = a }) p k s in ap wrap e
-
-pub advance_zero : (e : Entry) → advance e 0 ≡ e
-advance_zero Unmapped = refl
-advance_zero MalformedEntry = refl
-advance_zero (AnnotatedEntry o) = refl
-advance_zero (LeafEntry f p k s) = frame_more f p k s (f.0 + 0) f.0 (omega arith)
-
-pub advance_more : (e : Entry) (m n : ℕ) → advance (advance e m) n ≡ advance e (m + n)
-advance_more Unmapped m n = refl
-advance_more MalformedEntry m n = refl
-advance_more (AnnotatedEntry o) m n = refl
-advance_more (LeafEntry f p k s) m n = frame_more f p k s (f.0 + m + n) (f.0 + (m + n)) (omega arith)
-
-same_prot : (p q : Prot) → prot_eq p q ≡ true → p ≡ q
-same_prot R R h = refl
-same_prot RW RW h = refl
-same_prot RX RX h = refl
-same_prot RWX RWX h = refl
-same_prot p q h = cc
-
-same_kind : (p q : Kind) → kind_eq p q ≡ true → p ≡ q
-same_kind Normal Normal h = refl
-same_kind Device Device h = refl
-same_kind p q h = cc
-
-same_state : (p q : State) → state_eq p q ≡ true → p ≡ q
-same_state Owned Owned h = refl
-same_state SharedOwned SharedOwned h = refl
-same_state SharedBorrowed SharedBorrowed h = refl
-same_state p q h = cc
-
 left : (a b : Bool) → (a && b) ≡ true → a ≡ true
 left true b h = refl
 left false b h = h
@@ -78,54 +36,18 @@ right false b h = cc
 same_number : (a b : ℕ) → (a == b) ≡ true → a ≡ b
 same_number a b h = grind (arith, nat_tests)
 
-pub same_entry : (a b : Entry) → entry_eq a b ≡ true → a ≡ b
-same_entry Unmapped Unmapped h = refl
-same_entry MalformedEntry MalformedEntry h = refl
-same_entry (AnnotatedEntry o) (AnnotatedEntry q) h =
-    let wrap : ℕ → Entry = λ a. AnnotatedEntry (record { 0 = a }) in ap wrap (same_number o.0 q.0 h)
-same_entry (LeafEntry f p k s) (LeafEntry g q j t) h =
-    let h1 = left ((f.0 == g.0 && prot_eq p q) && kind_eq k j) (state_eq s t) h in
-    let h2 = left (f.0 == g.0 && prot_eq p q) (kind_eq k j) h1 in
-    let ef : LeafEntry f p k s ≡ LeafEntry g p k s = frame_more f p k s f.0 g.0 (same_number f.0 g.0 (left (f.0 == g.0) (prot_eq p q) h2)) in
-    let ep : p ≡ q = same_prot p q (right (f.0 == g.0) (prot_eq p q) h2) in
-    let ek : k ≡ j = same_kind k j (right (f.0 == g.0 && prot_eq p q) (kind_eq k j) h1) in
-    let es : s ≡ t = same_state s t (right ((f.0 == g.0 && prot_eq p q) && kind_eq k j) (state_eq s t) h) in
-    ef ∙ cc
-same_entry a b h = cc
-
-prot_self : (p : Prot) → prot_eq p p ≡ true
-prot_self R = refl
-prot_self RW = refl
-prot_self RX = refl
-prot_self RWX = refl
-
-kind_self : (p : Kind) → kind_eq p p ≡ true
-kind_self Normal = refl
-kind_self Device = refl
-
-state_self : (p : State) → state_eq p p ≡ true
-state_self Owned = refl
-state_self SharedOwned = refl
-state_self SharedBorrowed = refl
-
 number_self : (a : ℕ) → (a == a) ≡ true
 number_self a = grind (arith, nat_tests)
-
-pub entry_self : (a : Entry) → entry_eq a a ≡ true
-entry_self Unmapped = refl
-entry_self MalformedEntry = refl
-entry_self (AnnotatedEntry o) = number_self o.0
-entry_self (LeafEntry f p k s) = rw (number_self f.0, prot_self p, kind_self k, state_self s) refl
 
 -- what a row and what follows it say of each other
 pub follows_page : (r : PageTarget) (page : ℕ) (t : Target) → follows r page t ≡ true → r.page + 1 ≡ page
 follows_page r page t h = same_number (r.page + 1) page (left (r.page + 1 == page) (entry_eq (entry_of_target (advance_target r.target 1)) (entry_of_target t)) h)
 
 pub follows_entry : (r : PageTarget) (page : ℕ) (t : Target) → follows r page t ≡ true → advance (entry_of_target r.target) 1 ≡ entry_of_target t
-follows_entry r page t h = sym (entry_advanced r.target 1) ∙ same_entry (entry_of_target (advance_target r.target 1)) (entry_of_target t) (right (r.page + 1 == page) (entry_eq (entry_of_target (advance_target r.target 1)) (entry_of_target t)) h)
+follows_entry r page t h = sym (entry_advanced r.target 1) ∙ entry_eq-same (entry_of_target (advance_target r.target 1)) (entry_of_target t) (right (r.page + 1 == page) (entry_eq (entry_of_target (advance_target r.target 1)) (entry_of_target t)) h)
 
 pub follows_found : (r : PageTarget) (page : ℕ) (t : Target) → r.page + 1 ≡ page → advance (entry_of_target r.target) 1 ≡ entry_of_target t → follows r page t ≡ true
-follows_found r page t e f = rw (e, entry_advanced r.target 1, f, number_self page) (entry_self (entry_of_target t))
+follows_found r page t e f = rw (e, entry_advanced r.target 1, f, number_self page) (entry_eq-self (entry_of_target t))
 
 inside_one : (a p : ℕ) → a ≡ p → is_within a 1 p ≡ true
 inside_one a p e = grind (arith, nat_tests)
@@ -145,7 +67,7 @@ none_between a p e = omega arith
 -- the map of one row's run in front of runs
 one_more : (r : PageTarget) (xs : List Run) (p : ℕ) → map_of (run_of r ∷ xs) p ≡ cond (r.page == p) (entry_of_target r.target) (map_of xs p)
 one_more r xs p = by_eq r.page p
-    (λ e. rw (inside_one r.page p e, eq_true r.page p e, none_between r.page p e) (advance_zero (entry_of_target r.target)))
+    (λ e. rw (inside_one r.page p e, eq_true r.page p e, none_between r.page p e) (advance-none (entry_of_target r.target)))
     (λ n. rw (outside_one r.page p n, eq_false r.page p n) refl)
 
 inside_grown : (a c p : ℕ) → a ≡ p → is_within a (c + 1) p ≡ true
@@ -163,12 +85,12 @@ grown_more r x xs p h =
     let b : r.page + 1 ≡ x.pages.first.0 = follows_page r x.pages.first.0 x.target h in
     let t = follows_entry r x.pages.first.0 x.target h in
     by_eq r.page p
-    (λ e. rw (inside_grown r.page x.pages.count p e, eq_true r.page p e, none_between r.page p e) (advance_zero (entry_of_target r.target)))
+    (λ e. rw (inside_grown r.page x.pages.count p e, eq_true r.page p e, none_between r.page p e) (advance-none (entry_of_target r.target)))
     (λ n. rw (beside_grown r.page x.pages.first.0 x.pages.count p b n, eq_false r.page p n)
     (both (is_within x.pages.first.0 x.pages.count p)
     (λ w. let low = within_low x.pages.first.0 x.pages.count p w in
     let s : 1 + (p - x.pages.first.0) ≡ p - r.page = omega arith in
-    rw w (ap (advance (entry_of_target r.target)) (sym s) ∙ sym (advance_more (entry_of_target r.target) 1 (p - x.pages.first.0)) ∙ ap (λ e. advance e (p - x.pages.first.0)) t))
+    rw w (ap (advance (entry_of_target r.target)) (sym s) ∙ sym (advance-more (entry_of_target r.target) 1 (p - x.pages.first.0)) ∙ ap (λ e. advance e (p - x.pages.first.0)) t))
     (λ w. rw w refl)))
 
 -- the map of joined runs

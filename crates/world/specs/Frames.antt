@@ -1,6 +1,5 @@
 -- Free frames.
 use Rattle.std.specs.Prelude.{ℕ, zero, suc, ◌+◌, ◌^◌, ◌<◌, List, [], ◌∷◌, All}
-use Rattle.page_state.specs.declared.entry.Page.{Page}
 use Rattle.descriptor.specs.declared.Frame.{Frame}
 
 -- the `n` frames from `first` on, in order

@@ -1,4 +1,4 @@
-use Rattle.std.proofs.Common.{◌≡◌, ◌+◌, ◌≤◌, ◌-◌, ◌++◌, take, drop, vec_len}
+use Rattle.std.proofs.Common.{◌≡◌, ◌+◌, ◌≤◌, ◌++◌, take, drop, vec_len}
 use Rattle.std.specs.Vec.{vec_capacity}
 use Rattle.maplets.specs.Rows.{rows_of}
 use Rattle.maplets.proofs.insert_run.Given as goal

@@ -1,5 +1,4 @@
-use Rattle.std.proofs.Common.{refl, ap, ◌∙◌, sym}
-use Rattle.maplets.specs.Rows.{runs_of}
+use Rattle.std.proofs.Common.{ap, ◌∙◌}
 use Rattle.maplets.proofs.Coarse.{runs_coarsest}
 use Rattle.maplets.proofs.Maplets.iter.Goals as goal
 

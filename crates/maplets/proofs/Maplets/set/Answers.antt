@@ -1,8 +1,5 @@
-use Rattle.std.proofs.Common.{◌≡◌, ◌≤◌, ◌+◌, ◌++◌, take, drop, length, arith, ◌∙◌, ap, sym, refl}
-use Rattle.page_state.specs.Entries.{entry_of}
-use Rattle.page_state.specs.Map.{update}
-use Rattle.page_state.specs.Runs.{map_of}
-use Rattle.maplets.specs.Rows.{rows_of, runs_of}
+use Rattle.std.proofs.Common.{◌≡◌, ◌≤◌, ◌+◌, ◌++◌, take, drop, length, arith, ◌∙◌, refl}
+use Rattle.maplets.specs.Rows.{rows_of}
 use Rattle.maplets.proofs.Order.{IsRoundRange, places_order}
 use Rattle.maplets.proofs.Changes.{put_in, given_runs, taken_runs, given_sorted, taken_sorted}
 use Rattle.maplets.proofs.Coarse.{runs_coarsest}

@@ -1,7 +1,6 @@
-use Rattle.std.proofs.Common.{◌≡◌, ◌+◌, ◌-◌, ◌<◌, ◌≤◌, ℕ, length, drop, sym, ◌∙◌, arith}
+use Rattle.std.proofs.Common.{◌≡◌, ◌+◌, ◌-◌, sym, ◌∙◌, arith}
 use Rattle.page_state.specs.declared.entry.Target.TheVariants.{Malformed}
 use Rattle.maplets.specs.declared.PageTarget.{PageTarget}
-use Rattle.maplets.specs.Chains.{Continues}
 use Rattle.maplets.proofs.Joins.{by_eq}
 use Rattle.maplets.proofs.Places.{at_place}
 use Rattle.maplets.proofs.Chained.{continues_at, ends_last}

@@ -1,4 +1,3 @@
-use Rattle.std.proofs.Common.{◌≡◌, arith}
 use Rattle.world.proofs.FrameLists.{length-frames_from}
 use Rattle.world.proofs.boot.shared_at_boot.Goals as goal
 

@@ -1,6 +1,5 @@
-use Rattle.std.proofs.Common.{◌≡◌, ℕ, ◌==◌, true, ap, List, [], length, drop, take, refl, arith, ◌∙◌, sym, rules, ◌≤◌}
+use Rattle.std.proofs.Common.{◌≡◌, ℕ, ◌==◌, true, ap, [], length, refl, arith, ◌∙◌, sym}
 use Rattle.std.proofs.lemmas.List.{take_rest, nil_from_length}
-use Rattle.std.proofs.lemmas.Grind.{common_steps}
 use Rattle.std.proofs.lemmas.Bool.Decides.{nat_tests}
 use Rattle.page_state.specs.declared.entry.Target.TheVariants.{Malformed}
 use Rattle.maplets.specs.declared.PageTarget.{PageTarget}

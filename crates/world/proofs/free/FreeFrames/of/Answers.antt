@@ -1,4 +1,4 @@
-use Rattle.std.proofs.Common.{◌≡◌, ap, ◌∙◌, arith, rules}
+use Rattle.std.proofs.Common.{arith}
 use Rattle.world.specs.Frames.{frames_from, AreTableFrames}
 use Rattle.world.proofs.FrameLists.{frames_more, frames_small}
 use Rattle.world.proofs.free.FreeFrames.of.Goals as goal
