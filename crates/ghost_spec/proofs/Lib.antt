@@ -1,0 +1,5 @@
+pub mod BlockLists
+pub mod Coarse
+pub mod Entries
+pub mod Overlaid
+pub mod Searches

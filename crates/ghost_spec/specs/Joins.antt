@@ -1,0 +1,23 @@
+-- How a run is put in front of a list of runs.
+use Rattle.std.specs.Prelude.{ℕ, ◌+◌, ◌<◌, ◌≤◌, Bool, ◌&&◌, ◌==◌, List, [], ◌∷◌, if◌then◌else◌}
+use Rattle.page_state.specs.declared.entry.Run.{Run}
+use Rattle.page_state.specs.Entries.{entry_of_target}
+use Rattle.page_state.specs.EntryTests.{entry_eq}
+use Rattle.page_state.specs.Runs.{end_of, entry_on}
+
+-- whether the second run continues the first
+abbrev pub continues : Run → Run → Bool
+continues r n = end_of r == n.pages.first.0 && entry_eq (entry_on r (end_of r)) (entry_of_target n.target)
+
+-- a run with the pages of the run that continues it
+abbrev pub longer : Run → Run → Run
+longer r n = record r { pages = record r.pages { count = r.pages.count + n.pages.count } }
+
+-- a run in front of a list: it takes the pages of the first run where that continues it
+abbrev pub joined : Run → List Run → List Run
+joined r [] = r ∷ []
+joined r (n ∷ rs) = if continues r n then longer r n ∷ rs else r ∷ (n ∷ rs)
+
+-- a run neither begins nor ends between two pages
+abbrev pub HasNoBound : ℕ → ℕ → Run → Type 0
+HasNoBound low high r = (r.pages.first.0 < high → r.pages.first.0 ≤ low) × (end_of r < high → end_of r ≤ low)

@@ -1,0 +1,4 @@
+pub mod Joins
+pub mod Parts
+pub mod Small
+pub mod Trees

@@ -1,0 +1,47 @@
+-- What is left of runs outside a range.
+use Rattle.std.specs.Prelude.{ℕ, ◌+◌, ◌-◌, ◌==◌, min, List, [], ◌∷◌, ◌++◌, Option, Some, None, if◌then◌else◌}
+use Rattle.page_state.specs.declared.entry.Entry.{Entry}
+use Rattle.page_state.specs.declared.entry.PageRange.{PageRange}
+use Rattle.page_state.specs.declared.entry.Run.{Run}
+use Rattle.page_state.specs.declared.entry.Target.{Target}
+use Rattle.page_state.specs.declared.entry.Target.TheVariants.{Malformed, Annotated, Leaf}
+use Rattle.page_state.specs.Entries.{target_of}
+use Rattle.page_state.specs.Regions.{end_of}
+
+-- the target some pages further on in a run
+abbrev pub advance_target : Target → ℕ → Target
+advance_target Malformed offset = Malformed
+advance_target (Annotated owner) offset = Annotated owner
+advance_target (Leaf frame prot kind state) offset = Leaf (record { 0 = frame.0 + offset }) prot kind state
+
+-- a run without its first pages
+abbrev pub run_behind : Run → ℕ → Run
+run_behind r skipped = record {
+  pages = record { first = record { 0 = r.pages.first.0 + skipped }; count = r.pages.count - skipped };
+  target = advance_target r.target skipped;
+}
+
+-- the part of a run before a page
+abbrev pub run_before : Run → ℕ → Run
+run_before r page = record r { pages = record r.pages { count = min (page - r.pages.first.0) r.pages.count } }
+
+-- the part of a run from a page on
+abbrev pub run_from : Run → ℕ → Run
+run_from r page = run_behind r (min (page - r.pages.first.0) r.pages.count)
+
+-- a run alone, or no run where it has no page
+abbrev pub alone : Run → List Run
+alone r = if r.pages.count == 0 then [] else r ∷ []
+
+-- the parts of a run outside a range
+abbrev pub parts_outside : PageRange → Run → List Run
+parts_outside range r = alone (run_before r range.first.0) ++ alone (run_from r (end_of range))
+
+-- the run of a range whose pages have an entry, or no run where nothing is mapped there
+abbrev pub run_of_target : PageRange → Option Target → List Run
+run_of_target range None = []
+run_of_target range (Some target) = record { pages = range; target = target } ∷ []
+
+-- the run of a range with an entry
+abbrev pub run_of : PageRange → Entry → List Run
+run_of range entry = run_of_target range (target_of entry)

@@ -1,0 +1,157 @@
+ghost use Rattle.std.specs.Prelude.{◌<◌, ◌^◌, IfOk};
+ghost use Rattle.ghost_spec.specs.Small.{AreSmall};
+
+use crate::tree::{self, Table, Tree};
+use crate::{blocks, runs};
+use page_state::{Entry, Frame, Kind, Page, PageRange, Prot, Run, State, Target};
+use std::alloc::{AllocError, Global};
+use std::test::Fail;
+
+/// The coarsest runs once `count` pages from `first` on are leaves of the frames of their own numbers.
+fn with_leaves(
+    alloc: Global,
+    runs: &[Run],
+    first: u64,
+    count: u64,
+    state: State,
+) -> Result<Vec<Run>, AllocError>
+    requires runs { AreSmall runs.now }
+    requires first { first < 2 ^ 40 }
+    requires count { count < 2 ^ 20 }
+    ensures { IfOk result (λ v. AreSmall v.items) }
+{
+    let entry = Entry::Leaf {
+        frame: Frame(first),
+        prot: Prot::RWX,
+        kind: Kind::Normal,
+        state,
+    };
+    let range = PageRange {
+        first: Page(first),
+        count,
+    };
+    let new = runs::updated(alloc, runs, range, entry)?;
+    runs::coarsest(alloc, new.as_slice())
+}
+
+/// A run of leaves of the frames of their own numbers.
+fn leaves(first: u64, count: u64, state: State) -> Run {
+    Run {
+        pages: PageRange {
+            first: Page(first),
+            count,
+        },
+        target: Target::Leaf {
+            frame: Frame(first),
+            prot: Prot::RWX,
+            kind: Kind::Normal,
+            state,
+        },
+    }
+}
+
+#[test]
+fn splits_joins_and_cuts(rt: HostRuntime) -> Result<(), Fail> {
+    let alloc = rt.alloc();
+    let none = Vec::new(alloc);
+    let one = with_leaves(alloc, none.as_slice(), 0x40200, 512, State::Owned)?;
+    let whole = [leaves(0x40200, 512, State::Owned)];
+    assert_eq!(rt; one.as_slice(), whole.as_slice());
+    let three = with_leaves(alloc, one.as_slice(), 0x40300, 1, State::SharedOwned)?;
+    let split = [
+        leaves(0x40200, 256, State::Owned),
+        leaves(0x40300, 1, State::SharedOwned),
+        leaves(0x40301, 255, State::Owned),
+    ];
+    assert_eq!(rt; three.as_slice(), split.as_slice());
+    let again = with_leaves(alloc, three.as_slice(), 0x40300, 1, State::Owned)?;
+    assert_eq!(rt; again.as_slice(), whole.as_slice());
+    let range = PageRange {
+        first: Page(0x40300),
+        count: 0x10,
+    };
+    let cut = runs::updated(alloc, again.as_slice(), range, Entry::Unmapped)?;
+    let parts = [
+        leaves(0x40200, 256, State::Owned),
+        leaves(0x40310, 240, State::Owned),
+    ];
+    assert_eq!(rt; cut.as_slice(), parts.as_slice());
+    Ok(())
+}
+
+#[test]
+fn gives_each_page_its_entry(rt: HostRuntime) -> Result<(), Fail> {
+    let alloc = rt.alloc();
+    let none = Vec::new(alloc);
+    let one = with_leaves(alloc, none.as_slice(), 0x40200, 512, State::Owned)?;
+    let entry = Entry::Leaf {
+        frame: Frame(0x402ff),
+        prot: Prot::RWX,
+        kind: Kind::Normal,
+        state: State::Owned,
+    };
+    assert_eq!(rt; runs::at(one.as_slice(), Page(0x402ff)), entry);
+    assert_eq!(rt; runs::at(one.as_slice(), Page(0x40400)), Entry::Unmapped);
+    assert_eq!(rt; runs::at(one.as_slice(), Page(0x401ff)), Entry::Unmapped);
+    Ok(())
+}
+
+/// A tree of 39 bits with its root at 0x40600, in which nothing is mapped.
+fn bare_tree(alloc: Global) -> Result<Tree, AllocError>
+    ensures { IfOk result (λ t. AreSmall t.runs.items) }
+{
+    let mut tables = Vec::new(alloc);
+    tables.push(Table {
+        block: (3, 0),
+        frame: 0x40600,
+    })?;
+    Ok(Tree {
+        runs: Vec::new(alloc),
+        tables,
+    })
+}
+
+#[test]
+fn needs_tables_of_one_page(rt: HostRuntime) -> Result<(), Fail> {
+    let alloc = rt.alloc();
+    let tree = bare_tree(alloc)?;
+    let entry = Entry::Leaf {
+        frame: Frame(0x40100),
+        prot: Prot::RWX,
+        kind: Kind::Normal,
+        state: State::SharedOwned,
+    };
+    let range = PageRange {
+        first: Page(0x40100),
+        count: 1,
+    };
+    let needed = tree::needs(alloc, 2, &tree, range, entry)?;
+    let both = [(2, 1), (1, 0x200)];
+    assert_eq!(rt; needed.as_slice(), both.as_slice());
+    assert_eq!(rt;
+        tree::table_at(tree.tables.as_slice(), (3, 0)),
+        Some(0x40600)
+    );
+    assert_eq!(rt; tree::table_at(tree.tables.as_slice(), (2, 1)), None);
+    Ok(())
+}
+
+#[test]
+fn tells_blocks_of_one_word(rt: HostRuntime) -> Result<(), Fail> {
+    let alloc = rt.alloc();
+    let none = Vec::new(alloc);
+    let two = with_leaves(alloc, none.as_slice(), 0x40200, 0x400, State::Owned)?;
+    assert_eq!(rt; blocks::is_one_word(two.as_slice(), (1, 0x201)), true);
+    let split = with_leaves(alloc, two.as_slice(), 0x40300, 1, State::SharedOwned)?;
+    assert_eq!(rt; blocks::is_one_word(split.as_slice(), (1, 0x201)), false);
+    assert_eq!(rt; blocks::is_empty(split.as_slice(), (1, 0x201)), false);
+    assert_eq!(rt; blocks::is_empty(split.as_slice(), (1, 0x203)), true);
+    let met = PageRange {
+        first: Page(0x403ff),
+        count: 2,
+    };
+    let blocks = blocks::blocks_on(alloc, 2, met)?;
+    let three = [(2, 1), (1, 0x201), (1, 0x202)];
+    assert_eq!(rt; blocks.as_slice(), three.as_slice());
+    Ok(())
+}
