@@ -3,3 +3,5 @@ pub mod Coarse
 pub mod Entries
 pub mod Overlaid
 pub mod Searches
+pub mod Shares
+pub mod TreeLists

@@ -1,4 +1,5 @@
 pub mod Joins
 pub mod Parts
+pub mod Sharing
 pub mod Small
 pub mod Trees

@@ -2,7 +2,9 @@
 #![tactic(auto)]
 
 pub mod blocks;
+pub mod pool;
 pub mod runs;
+pub mod share;
 #[cfg(test)]
 mod tests;
 pub mod tree;

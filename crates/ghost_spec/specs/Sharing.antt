@@ -1,0 +1,65 @@
+-- What a call on the Shared part uses, told as lists, and what the reference step says of it.
+use Rattle.std.specs.Prelude.{◌≡◌, ℕ, ◌+◌, ◌-◌, ◌++◌, drop, false, Option, None}
+use Rattle.page_state.specs.declared.layout.Config.{Config}
+use Rattle.page_state.specs.declared.reply.Refusal.{Refusal}
+use Rattle.page_state.specs.declared.reply.Reply.{Reply}
+use Rattle.page_state.specs.declared.row.Row.{Row}
+use Rattle.page_state.specs.declared.step.Step.TheVariants.{ShareHyp}
+use Rattle.descriptor.specs.declared.Prot.TheVariants.{RW, RWX}
+use Rattle.descriptor.specs.declared.State.TheVariants.{SharedOwned, SharedBorrowed}
+use Rattle.page_state.specs.EntryTests.{leaf}
+use Rattle.page_state.specs.Layouts.{Layout, hyp_page}
+use Rattle.page_state.specs.Parts.{Used}
+use Rattle.page_state.specs.Regions.{Memory}
+use Rattle.page_state.specs.State.{Shared, Cpu, no_vms, no_guest}
+use Rattle.page_state.specs.Step.{predict, refusal}
+use Rattle.page_state.specs.SharedRules.{share_hyp}
+use Rattle.page_state.specs.Tables.{Edit, put, need, edited, returned, all_given}
+use Rattle.ghost_spec.specs.declared.share.Shared.{Shared as SharedOfLists}
+use Rattle.ghost_spec.specs.Small.{AreSmall}
+use Rattle.ghost_spec.specs.Trees.{tree_of}
+
+-- the Shared part that lists stand for, with these rows
+abbrev pub shared_of : (ℕ → Row) → SharedOfLists → Shared
+shared_of row s = record { host = tree_of s.host; hyp = tree_of s.hyp; free = s.free.items; row = row; room = s.room }
+
+-- what a call uses that uses the Shared part alone, with these rows and what else the CPU has
+abbrev pub used_of : (ℕ → Row) → Cpu → SharedOfLists → Used
+used_of row k s = record { vms = no_vms 0; shared = shared_of row s; guest = no_guest 0; cpu = record k { room = s.cpu_room } }
+
+-- the runs of both trees are small
+abbrev pub HasSmallRuns : SharedOfLists → Type 0
+HasSmallRuns s = AreSmall s.host.runs.items × AreSmall s.hyp.runs.items
+
+-- the layout of a memory, a configuration and a depth
+abbrev pub layout_of : Memory → Config → ℕ → Layout
+layout_of m config depth = record { memory = m; config = config; depth = depth }
+
+-- the change of the host's tree
+abbrev pub host_edit : ℕ → Edit
+host_edit pfn = put pfn 1 (leaf RWX pfn SharedOwned)
+
+-- and of the hypervisor's
+abbrev pub hyp_edit : ℕ → Edit
+hyp_edit pfn = put (hyp_page pfn) 1 (leaf RW pfn SharedBorrowed)
+
+-- the lists once the frame is shared: the host's new tables get the lowest free frames, the hypervisor's the next
+pub record IsShared (depth pfn : ℕ) (s t : SharedOfLists) : Type 0 where
+  pub host : tree_of t.host ≡ edited depth (tree_of s.host) (host_edit pfn) s.free.items
+  pub hyp : tree_of t.hyp ≡ edited depth (tree_of s.hyp) (hyp_edit pfn) (drop (need depth (tree_of s.host) (host_edit pfn)) s.free.items)
+  pub free : t.free.items ≡ all_given (returned depth (tree_of s.host) (host_edit pfn) ++ returned depth (tree_of s.hyp) (hyp_edit pfn)) (drop (need depth (tree_of s.host) (host_edit pfn) + need depth (tree_of s.hyp) (hyp_edit pfn)) s.free.items)
+  pub room : t.room ≡ s.room - 1
+  pub cpu_room : t.cpu_room ≡ s.cpu_room - 1
+
+module _ (m : Memory) (depth pfn : ℕ) (s : SharedOfLists) where
+  -- the first test of the rule that fails is this
+  abbrev pub IsRefusal : Option Refusal → Type 0
+  IsRefusal why = (config : Config) (row : ℕ → Row) (k : Cpu) → why ≡ refusal depth (share_hyp (layout_of m config depth) (used_of row k s) pfn) false (used_of row k s)
+
+  -- the reply is that of the reference step, whatever the CPU, the rows and the configuration are
+  abbrev pub IsReply : Reply → Type 0
+  IsReply reply = (config : Config) (cpu : ℕ) (row : ℕ → Row) (k : Cpu) → reply ≡ (predict (layout_of m config depth) cpu None (ShareHyp pfn) (used_of row k s)).0
+
+  -- the lists stand for what is used after the reference step, but for its rows
+  abbrev pub IsNext : SharedOfLists → Type 0
+  IsNext t = (config : Config) (cpu : ℕ) (row : ℕ → Row) (k : Cpu) → let y = (predict (layout_of m config depth) cpu None (ShareHyp pfn) (used_of row k s)).1 in y ≡ used_of y.shared.row k t
