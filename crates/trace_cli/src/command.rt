@@ -14,11 +14,13 @@ pub enum Invocation<'a> {
 }
 
 /// Why the words were refused.
-#[derive(Drop)]
+#[derive(Debug, Drop, thiserror::Error)]
 pub enum UsageFault {
     /// (1) The words are no command, or ask for help; the text to show.
+    #[error(transparent)]
     Usage(Error),
     /// (2)
+    #[error("out of memory")]
     NoMemory,
 }
 
