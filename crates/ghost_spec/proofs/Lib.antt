@@ -1,4 +1,5 @@
 pub mod BlockLists
+pub mod BootLists
 pub mod Coarse
 pub mod Entries
 pub mod Overlaid

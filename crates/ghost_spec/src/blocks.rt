@@ -5,11 +5,11 @@ ghost use Rattle.page_state.specs.Entries.{advance};
 ghost use Rattle.page_state.specs.Regions.{end_of};
 ghost use Rattle.page_state.specs.Runs.{map_of};
 ghost use Rattle.page_state.specs.Search.{all_below};
-ghost use Rattle.page_state.specs.Blocks.{first_page as first_page_of, fits_word as fits_word_of, is_one_word as is_one_word_of, is_empty as is_empty_of, blocks_with, blocks_from, blocks_on as blocks_on_range};
+ghost use Rattle.page_state.specs.Blocks.{first_page as first_page_of, is_one_word as is_one_word_of, is_empty as is_empty_of, blocks_with, blocks_from, blocks_on as blocks_on_range};
 ghost use Rattle.ghost_spec.specs.Small.{HasLowFrames, AreSmall};
 ghost use Rattle.ghost_spec.specs.Trees.{IsLowBlock};
 
-use crate::runs::{at, is_same};
+use crate::runs::at;
 use page_state::{Entry, Page, PageRange, Run};
 use std::alloc::{AllocError, Global};
 
@@ -38,7 +38,7 @@ pub fn is_one_word(runs: &[Run], block: Block) -> bool
 {
     let first = first_page(block);
     let entry = at(runs, Page(first));
-    fits_word(block.0, entry) && has_entry(runs, first, span(block.0), entry)
+    entry.fits_word(block.0 as u32) && has_entry(runs, first, span(block.0), entry)
 }
 
 /// Whether the map of runs maps nothing on a block. It looks at each page of the block.
@@ -96,21 +96,6 @@ fn is_met(block: Block, page: u64, all: bool) -> bool
     all || first_page(block) == page
 }
 
-/// Whether a word with `depth` levels below it can say the entry.
-fn fits_word(depth: u64, entry: Entry) -> bool
-    requires { depth ≤ 3 }
-    ensures { result ≡ fits_word_of depth entry }
-{
-    match entry {
-        Entry::Unmapped => true,
-        Entry::Malformed => false,
-        Entry::Annotated(owner) => owner.0 >= 1 && owner.0 <= 255,
-        Entry::Leaf { frame, .. } => {
-            depth <= 2 && frame.0 < 0x10_0000_0000 && frame.0 % span(depth) == 0
-        }
-    }
-}
-
 /// Whether an entry advances along `count` pages from `first` on.
 fn has_entry(runs: &[Run], first: u64, count: u64, entry: Entry) -> bool
     requires runs { AreSmall runs.now }
@@ -120,7 +105,7 @@ fn has_entry(runs: &[Run], first: u64, count: u64, entry: Entry) -> bool
     ensures { result ≡ all_below count (λ i. entry_eq (map_of runs.now (first + i)) (advance entry i)) }
 {
     for i in 0..count {
-        if !is_same(at(runs, Page(first + i)), entry.advance(i)) {
+        if !at(runs, Page(first + i)).is_same(entry.advance(i)) {
             return false;
         }
     }
@@ -134,7 +119,7 @@ fn has_no_entry(runs: &[Run], first: u64, count: u64) -> bool
     ensures { result ≡ all_below count (λ i. is_unmapped (map_of runs.now (first + i))) }
 {
     for i in 0..count {
-        if !is_same(at(runs, Page(first + i)), Entry::Unmapped) {
+        if !at(runs, Page(first + i)).is_same(Entry::Unmapped) {
             return false;
         }
     }

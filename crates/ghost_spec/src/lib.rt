@@ -2,6 +2,7 @@
 #![tactic(auto)]
 
 pub mod blocks;
+pub mod boot;
 pub mod pool;
 pub mod runs;
 pub mod share;

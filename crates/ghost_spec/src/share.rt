@@ -9,7 +9,7 @@ ghost use Rattle.ghost_spec.specs.Trees.{tree_of};
 
 use crate::pool::give_all;
 use crate::runs::at;
-use crate::tree::{Tree, edited, needs, returned};
+use crate::tree::{self, Tree, edited, returned};
 use page_state::{
     Entry, Frame, Kind, MemoryMap, Page, PageRange, Prot, Refusal, Reply, State, Value,
 };
@@ -143,14 +143,14 @@ fn page_range(page: u64) -> PageRange
 }
 
 /// The frames behind the first `n`.
-fn behind(free: &[u64], n: usize) -> &[u64]
+pub(crate) fn behind(free: &[u64], n: usize) -> &[u64]
     ensures { result.now ≡ drop n free.now }
 {
     &free[n.min(free.len())..]
 }
 
 /// The hypervisor's page of a frame.
-fn hyp_page(pfn: u64) -> u64
+pub(crate) fn hyp_page(pfn: u64) -> u64
     requires { pfn < 2 ^ 26 }
     ensures { result ≡ hyp_page_of pfn }
 {
@@ -226,8 +226,7 @@ fn need(
     requires frames { HasLowFrames entry 1 }
     ensures { IfOk result (λ n. n ≡ need_of depth (tree_of tree.now) (put page 1 entry)) }
 {
-    let needed = needs(alloc, depth, tree, page_range(page), entry)?;
-    Ok(needed.len())
+    tree::need(alloc, depth, tree, page_range(page), entry)
 }
 
 /// Whether there are fewer free frames than both trees need.

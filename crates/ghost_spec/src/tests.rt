@@ -2,12 +2,13 @@ ghost use Rattle.std.specs.Prelude.{◌<◌, ◌^◌, IfOk};
 ghost use Rattle.ghost_spec.specs.Sharing.{HasSmallRuns};
 ghost use Rattle.ghost_spec.specs.Small.{AreSmall, HasLowFrames};
 
+use crate::boot::boot;
 use crate::share::{Shared, share_hyp};
 use crate::tree::{self, Table, Tree};
 use crate::{blocks, pool, runs};
 use page_state::{
-    Entry, Frame, Kind, MemoryMap, Owner, Page, PageRange, Prot, Refusal, Region, RegionKind,
-    Reply, Run, State, Target, Value,
+    Config, Entry, Frame, Kind, MemoryMap, Owner, Page, PageRange, Prot, Refusal, Region,
+    RegionKind, Reply, Run, State, Target, Value,
 };
 use std::alloc::{AllocError, Global};
 use std::test::Fail;
@@ -225,8 +226,8 @@ fn booted(alloc: Global, free: u64, room: u64) -> Result<Shared, AllocError>
     })
 }
 
-/// The memory of the booted state.
-fn memory(alloc: Global) -> Result<MemoryMap, Fail> {
+/// The memory of the booted state, with a carve-out of `count` frames.
+fn memory(alloc: Global, count: u64) -> Result<MemoryMap, Fail> {
     let region = Region {
         kind: RegionKind::Memory,
         pages: PageRange {
@@ -236,7 +237,7 @@ fn memory(alloc: Global) -> Result<MemoryMap, Fail> {
     };
     let carve = PageRange {
         first: Page(0x40600),
-        count: 0x40,
+        count,
     };
     Ok(MemoryMap::new(alloc, [region].as_slice(), carve)?)
 }
@@ -244,7 +245,7 @@ fn memory(alloc: Global) -> Result<MemoryMap, Fail> {
 #[test]
 fn shares_a_frame_once(rt: HostRuntime) -> Result<(), Fail> {
     let alloc = rt.alloc();
-    let memory = memory(alloc)?;
+    let memory = memory(alloc, 0x40)?;
     let mut state = booted(alloc, 58, 9)?;
     let done = share_hyp(alloc, &memory, 2, &mut state, 0x40100)?;
     assert_eq!(rt; done, Reply::Done(Value::Nothing));
@@ -282,7 +283,7 @@ fn shares_a_frame_once(rt: HostRuntime) -> Result<(), Fail> {
 #[test]
 fn refuses_shares(rt: HostRuntime) -> Result<(), Fail> {
     let alloc = rt.alloc();
-    let memory = memory(alloc)?;
+    let memory = memory(alloc, 0x40)?;
     for (free, room, pfn, why) in [
         (58, 9, 0x40600, Refusal::Perm),
         (58, 9, 0x9000, Refusal::Invalid),
@@ -325,5 +326,46 @@ fn gives_back_tables_of_emptied_blocks(rt: HostRuntime) -> Result<(), Fail> {
     pool::give_all(&mut free, back.as_slice())?;
     let three = [0x40602, 0x40603, 0x40604];
     assert_eq!(rt; free.as_slice(), three.as_slice());
+    Ok(())
+}
+
+/// A configuration whose logs store 9 calls.
+const CONFIG: Config = Config {
+    cpus: 1,
+    log: 9,
+    geometry: 39,
+};
+
+#[test]
+fn boots_with_the_lowest_frames(rt: HostRuntime) -> Result<(), Fail> {
+    let alloc = rt.alloc();
+    let memory = memory(alloc, 0x40)?;
+    let state = boot(alloc, &memory, CONFIG, 2)?.expect(&rt, "enough frames");
+    let wanted = booted(alloc, 58, 9)?;
+    assert_eq!(rt; state.host.runs.as_slice(), wanted.host.runs.as_slice());
+    assert_eq!(rt; state.hyp.runs.as_slice(), wanted.hyp.runs.as_slice());
+    assert_eq!(rt; state.free.as_slice(), wanted.free.as_slice());
+    assert_eq!(rt; (state.room, state.cpu_room), (9, 9));
+    assert_eq!(rt; state.host.tables.len(), 3);
+    for table in wanted.host.tables.as_slice() {
+        let frame = tree::table_at(state.host.tables.as_slice(), table.block);
+        assert_eq!(rt; frame, Some(table.frame));
+    }
+    assert_eq!(rt; state.hyp.tables.len(), 3);
+    for table in wanted.hyp.tables.as_slice() {
+        let frame = tree::table_at(state.hyp.tables.as_slice(), table.block);
+        assert_eq!(rt; frame, Some(table.frame));
+    }
+    Ok(())
+}
+
+#[test]
+fn boots_with_a_frame_for_each_table(rt: HostRuntime) -> Result<(), Fail> {
+    let alloc = rt.alloc();
+    let few = memory(alloc, 5)?;
+    assert_eq!(rt; boot(alloc, &few, CONFIG, 2)?.is_none(), true);
+    let enough = memory(alloc, 6)?;
+    let state = boot(alloc, &enough, CONFIG, 2)?.expect(&rt, "enough frames");
+    assert_eq!(rt; state.free.len(), 0);
     Ok(())
 }

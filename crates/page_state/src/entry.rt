@@ -1,6 +1,8 @@
 //! What a map says of a page.
-ghost use Rattle.std.specs.Prelude.{◌≡◌, ◌≤◌, ◌&&◌, ◌↔◌, IsTrue, nat_le};
+ghost use Rattle.std.specs.Prelude.{◌≡◌, ◌≤◌, ◌<◌, ◌^◌, ◌&&◌, ◌↔◌, IsTrue, Decides, nat_le};
 ghost use Rattle.page_state.specs.Entries.{advance, CanAdvance, entry_of_word, word_of_entry, entry_of_target, target_of};
+ghost use Rattle.page_state.specs.EntryTests.{entry_eq};
+ghost use Rattle.page_state.specs.Blocks.{fits_word as fits_word_of};
 ghost use Rattle.page_state.specs.LayoutFaults.{AreDisjoint};
 ghost use Rattle.page_state.specs.Regions.{is_in_range, end_of};
 
@@ -111,6 +113,53 @@ impl Entry {
         }
     }
 
+    /// Whether two entries are the same.
+    pub fn is_same(self, other: Entry) -> bool
+        ensures value { result ≡ entry_eq self other }
+        ensures same { Decides result (self ≡ other) }
+    {
+        match (self, other) {
+            (Entry::Unmapped, Entry::Unmapped) | (Entry::Malformed, Entry::Malformed) => true,
+            (Entry::Annotated(owner), Entry::Annotated(other_owner)) => owner.0 == other_owner.0,
+            (
+                Entry::Leaf {
+                    frame,
+                    prot,
+                    kind,
+                    state,
+                },
+                Entry::Leaf {
+                    frame: other_frame,
+                    prot: other_prot,
+                    kind: other_kind,
+                    state: other_state,
+                },
+            ) => {
+                frame.0 == other_frame.0
+                    && prot == other_prot
+                    && kind == other_kind
+                    && state == other_state
+            }
+            _ => false,
+        }
+    }
+
+    /// Whether a word with `depth` levels below it can say the entry: the frame of a block is aligned to the block's
+    /// pages, and level 0 has no leaf (Arm DDI 0487, D8.3).
+    pub fn fits_word(self, depth: u32) -> bool
+        requires { depth ≤ 3 }
+        ensures { result ≡ fits_word_of depth self }
+    {
+        match self {
+            Entry::Unmapped => true,
+            Entry::Malformed => false,
+            Entry::Annotated(owner) => owner.0 >= 1 && owner.0 <= 255,
+            Entry::Leaf { frame, .. } => {
+                depth <= 2 && frame.0 < 0x10_0000_0000 && frame.0 % pages_under(depth) == 0
+            }
+        }
+    }
+
     /// The target, or None for Unmapped.
     pub fn target(self) -> Option<Target>
         ensures { result ≡ target_of self }
@@ -131,6 +180,20 @@ impl Entry {
                 state,
             }),
         }
+    }
+}
+
+/// The pages under a word with `depth` levels below it.
+fn pages_under(depth: u32) -> u64
+    requires { depth ≤ 3 }
+    ensures value { result ≡ 512 ^ depth }
+    ensures some { 0 < result }
+{
+    match depth {
+        0 => 1,
+        1 => 512,
+        2 => 262_144,
+        _ => 134_217_728,
     }
 }
 

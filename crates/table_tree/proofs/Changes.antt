@@ -1,4 +1,4 @@
-use Rattle.std.proofs.Common.{◌≡◌, ℕ, ◌+◌, ◌-◌, ◌<◌, ◌≤◌, length, refl, sym, ap, arith, ◌∙◌, cond, ◌==◌, Some}
+use Rattle.std.proofs.Common.{◌≡◌, ℕ, ◌+◌, ◌-◌, ◌<◌, ◌≤◌, length, refl, sym, ap, arith, ◌∙◌, cond, ◌==◌, Some, add-one}
 use Rattle.std.proofs.Math.ListN.{set}
 use Rattle.std.specs.declared.boxed.Box.{Box}
 use Rattle.table_tree.specs.declared.table.Table.{Table}
@@ -12,6 +12,7 @@ use Rattle.table_tree.specs.Changes.{IsWritten, IsAttached, IsSeen}
 use Rattle.table_tree.proofs.Slots.{by_eq, get_any, set_back, set_here, set_others, set_wide, shaped_set, shaped_slot, slot_word_made, slot_child_made, slot_child_is, slot_word_is}
 use Rattle.table_tree.proofs.Digits.{test_same, test_other}
 use Rattle.table_tree.proofs.Steps.{entry_step, word_gives, child_gives}
+use Rattle.table_tree.proofs.Tight.{tight_word, tight_attach, tight_child}
 use Rattle.table_tree.proofs.Sums.{tables_word, tables_child, uses_word, uses_child, tables_set, uses_set}
 use Rattle.table_tree.proofs.Standing.{table_top, table_below, stand_word, stand_child}
 
@@ -44,6 +45,7 @@ module _ {A : Type 0} where
     uses = λ d g. omega (arith, uses_set d i g t u (Word word) f wide p e, uses_word d h.0 g (slot_at t i) h.1, uses_word {A = A} d word g (Word word) refl);
     standing = λ d low q. same_table d i low q h.0 word t u wide p e h.1 f;
     shape = λ d x y. shaped_set d t u i (Word word) x p e (slot_word_made d word (Word word) refl y);
+    tight = λ d x. tight_word d t u i word x wide p e;
   }
 
   pub attached : (i : ℕ) (t u : Table A) (b : Box (Table A) A) → i < 512 → IsWide t → HoldsWord (slot_at t i) → slots_of u ≡ set (slots_of t) i (Child b) → frame_of u ≡ frame_of t → IsAttached i t u b.value
@@ -54,6 +56,8 @@ module _ {A : Type 0} where
     standing = λ d low q l. changed_table (d + 1) i low q t u (Child b) wide p e (λ z. let l' : low ≤ d = l in omega arith) ∙ ap (λ x. cond (index_at (d + 1) q == i) x (table_in (d + 1) t low q)) (stand_child (d + 1) d low q b (Child b) (omega arith) refl);
     shape = λ d x y z. shaped_set (d + 1) t u i (Child b) x p e (slot_child_made (d + 1) d b (Child b) (omega arith) refl y z);
     child = λ d x. let k : d + 1 - 1 ≡ d = omega arith in let y = slot_child_is (d + 1) b (slot_at u i) (shaped_slot (d + 1) u i x p) (set_here t u i i (Child b) e p wide refl) in (y.1.0, rw k at y.1.1);
+    tight = λ d x y z. rw add-one (tight_attach d t u i b (rw add-one at x) wide p e y z);
+    child_tight = λ d x. (tight_child d u i b (rw add-one at x) p (set_here t u i i (Child b) e p wide refl)).1;
   }
 
   -- a child taken out, and the word 0 in its place

@@ -1,9 +1,7 @@
 use Rattle.std.proofs.Common.{◌≡◌, ℕ, zero, suc, ◌+◌, ◌-◌, ◌*◌, ◌/◌, ◌%◌, ◌^◌, ◌<◌, ◌≤◌, refl, sym, ap, arith, ◌∙◌, true, false, ◌==◌}
 use Rattle.std.proofs.lemmas.Bool.Decides.{nat_tests}
 use Rattle.std.proofs.lemmas.Nat.{mod-pow-add, field_of, pow-add, div-mul-add}
-use Rattle.std.proofs.Math.Nat.{div-lt_iff_lt-mul, div-eq_of_lt}
 use Rattle.table_tree.specs.Meaning.{index_at, block_pages}
-use Rattle.table_tree.specs.Slots.{is_under}
 
 pub size_some : (d : ℕ) → 1 ≤ block_pages d
 size_some zero = omega arith
@@ -48,37 +46,6 @@ split n low h = let e : 9 * n ≡ 9 * (n - (low + 1)) + 9 * (low + 1) = omega ar
 
 placed : (n low q : ℕ) → low < n → q % block_pages (n + 1) / block_pages (low + 1) ≡ index_at n q * block_pages (n - (low + 1)) + q % block_pages n / block_pages (low + 1)
 placed n low q h = rw (digits n q) (ap (λ z. (index_at n q * z + q % block_pages n) / block_pages (low + 1)) (split n low h) ∙ place (block_pages (low + 1)) (block_pages (n - (low + 1))) (index_at n q) (q % block_pages n) (size_some (low + 1)))
-
-low_place : (n low q : ℕ) → low < n → q % block_pages n / block_pages (low + 1) < block_pages (n - (low + 1))
-low_place n low q h =
-    let s = size_some (low + 1) in
-    let z = size_some n in
-    let lt : q % block_pages n < block_pages n = omega (arith, z) in
-    let e = split n low h in
-    let lt' : q % block_pages n < block_pages (n - (low + 1)) * block_pages (low + 1) = omega (arith, lt, e) in
-    (div-lt_iff_lt-mul s).1 lt'
-
--- two numbers with high and low parts are one exactly where both parts are
-high_same : (t i j r s : ℕ) → r < t → s < t → i * t + r ≡ j * t + s → i ≡ j
-high_same t i j r s p q e = sym (div-mul-add i t r p) ∙ ap (λ x. x / t) e ∙ div-mul-add j t s q
-
-pub under_inside : (n low q p : ℕ) → low < n → index_at n q ≡ index_at n p → is_under n low q p ≡ (q % block_pages n / block_pages (low + 1) == p % block_pages n / block_pages (low + 1))
-under_inside n low q p h e =
-    let x = placed n low q h in
-    let y = placed n low p h in
-    same_tests _ _ _ _
-    (λ z. let k = ap (λ i. i * block_pages (n - (low + 1))) e in omega (arith, x, y, z, k))
-    (λ z. rw (x, y, e, z) refl)
-
-pub under_outside : (n low q p : ℕ) → low < n → (index_at n q ≡ index_at n p → ⊥) → is_under n low q p ≡ false
-under_outside n low q p h ne = test_other _ _ (λ z. ne (high_same (block_pages (n - (low + 1))) (index_at n q) (index_at n p) _ _ (low_place n low q h) (low_place n low p h) (sym (placed n low q h) ∙ z ∙ placed n low p h)))
-
--- a page of a block lies under the block's own table
-pub under_all : (n q p : ℕ) → is_under n n q p ≡ true
-under_all n q p =
-    let x : q % block_pages (n + 1) / block_pages (n + 1) ≡ 0 = div-eq_of_lt (let s = size_some (n + 1) in omega (arith, s)) in
-    let y : p % block_pages (n + 1) / block_pages (n + 1) ≡ 0 = div-eq_of_lt (let s = size_some (n + 1) in omega (arith, s)) in
-    test_same _ _ (x ∙ sym y)
 
 pub index_small : (n q : ℕ) → index_at n q < 512
 index_small n q = omega arith

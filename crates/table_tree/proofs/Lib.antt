@@ -1,11 +1,14 @@
 pub mod Slots
 pub mod Words
 pub mod Digits
+pub mod PathNumbers
 pub mod Steps
 pub mod Sums
 pub mod Standing
-pub mod Opened
-pub mod Edits
+pub mod Paths
+pub mod OnlyWords
 pub mod Views
+pub mod Said
 pub mod Chains
+pub mod Tight
 pub mod Changes

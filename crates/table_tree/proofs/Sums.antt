@@ -1,7 +1,7 @@
 use Rattle.std.proofs.Common.{◌≡◌, ℕ, zero, suc, ◌+◌, ◌-◌, ◌*◌, ◌^◌, ◌<◌, ◌≤◌, List, [], ◌∷◌, ◌++◌, length, get_or, refl, sym, ap, arith, ◌∙◌, sum_by, take, drop}
 use Rattle.std.proofs.Math.ListN.{set}
 use Rattle.std.proofs.lemmas.List.Sums.{sum_by-set, sum_by-append}
-use Rattle.std.proofs.lemmas.List.{take_all, take_more, take-append-drop}
+use Rattle.std.proofs.lemmas.List.{take_all, take_more}
 use Rattle.std.proofs.Math.Seq.{take-add}
 use Rattle.std.specs.declared.boxed.Box.{Box}
 use Rattle.descriptor.specs.declared.Frame.{Frame}
@@ -29,10 +29,6 @@ sum_more f d xs i p = let e = sum_by-append f (take i xs) (get_or xs i d ∷ [])
 -- the counts in the first frames of a list, and in those after them
 pub count_split : (f a b : ℕ) (fs : List ℕ) → frame_count f (take (a + b) fs) ≡ frame_count f (take a fs) + frame_count f (take b (drop a fs))
 count_split f a b fs = rw (take-add a b fs) (sum_by-append (λ g. is_one g f) (take a fs) (take b (drop a fs)))
-
--- the counts in the frames that are taken, and in those that are left
-pub count_rest : (f n : ℕ) (fs : List ℕ) → frame_count f fs ≡ frame_count f (take n fs) + frame_count f (drop n fs)
-count_rest f n fs = ap (λ l. frame_count f l) (sym (take-append-drop n fs)) ∙ sum_by-append (λ g. is_one g f) (take n fs) (drop n fs)
 
 pub count_none : (f : ℕ) (fs : List Frame) → fs ≡ [] → count_of f fs ≡ 0
 count_none f fs e = rw e refl
@@ -104,30 +100,6 @@ module _ {A : Type 0} where
   pub uses_zero : (n : ℕ) (t : Table A) (f : ℕ) → n ≡ 0 → uses_in n t f ≡ is_one (frame_of t) f
   unfolding uses_in
   uses_zero n t f e = rw e refl
-
-  -- a child edited: `more` tables below it, after those that opening its slot took
-  pub child_tables : (n m i more all : ℕ) (t u c : Table A) (b : Box (Table A) A) (s : Slot A) → n ≡ m + 1 → IsWide t → i < 512 → s ≡ slot_at t i → slots_of u ≡ set (slots_of t) i (Child b)
-      → tables_in m c ≡ slot_tables (m + 1) s + fresh s → tables_in m b.value ≡ tables_in m c + more → all ≡ more + fresh s → tables_in n u ≡ tables_in n t + all
-  child_tables n m i more all t u c b s k wide p at e old new sum =
-      let x = tables_set n i t u (Child b) wide p e in
-      let y = tables_child n m b (Child b) (omega arith) refl in
-      let z : slot_tables (m + 1) s ≡ slot_tables n (slot_at t i) = rw (sym k) (ap (λ r. slot_tables n r) at) in
-      omega (arith, x, y, z, old, new, sum)
-
-  pub child_uses : (n m i more all f : ℕ) (fs : List ℕ) (t u c : Table A) (b : Box (Table A) A) (s : Slot A) → n ≡ m + 1 → frame_of u ≡ frame_of t → IsWide t → i < 512 → s ≡ slot_at t i → slots_of u ≡ set (slots_of t) i (Child b)
-      → uses_in m c f ≡ slot_uses (m + 1) s f + frame_count f (take (fresh s) fs) → uses_in m b.value f ≡ uses_in m c f + frame_count f (take more (drop (fresh s) fs)) → all ≡ more + fresh s
-      → uses_in n u f ≡ uses_in n t f + frame_count f (take all fs)
-  child_uses n m i more all f fs t u c b s k same wide p at e old new sum =
-      let x = uses_set n i f t u (Child b) same wide p e in
-      let y = uses_child n m f b (Child b) (omega arith) refl in
-      let z : slot_uses (m + 1) s f ≡ slot_uses n (slot_at t i) f = rw (sym k) (ap (λ r. slot_uses n r f) at) in
-      let o : all ≡ fresh s + more = omega arith in
-      let v = ap (λ j. frame_count f (take j fs)) o ∙ count_split f (fresh s) more fs in
-      omega (arith, x, y, z, v, old, new)
-
-  -- sums along the slots of a table
-  pub count_start : (n : ℕ) (t : Table A) → sum_by (slot_tables n) (take 0 (slots_of t)) ≡ 0
-  count_start n t = refl
 
   tables_more : (n i : ℕ) (t : Table A) → IsWide t → i < 512 → sum_by (slot_tables n) (take (i + 1) (slots_of t)) ≡ sum_by (slot_tables n) (take i (slots_of t)) + slot_tables n (slot_at t i)
   tables_more n i t wide p = sum_more (slot_tables n) (Word 0) (slots_of t) i (omega (arith, wide))

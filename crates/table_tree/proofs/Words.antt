@@ -1,9 +1,8 @@
-use Rattle.std.proofs.Common.{◌≡◌, ℕ, zero, suc, ◌+◌, ◌*◌, ◌^◌, ◌<◌, refl, sym, ap, arith, ◌∙◌, add-one, add_assoc}
+use Rattle.std.proofs.Common.{◌≡◌, ℕ, zero, suc, ◌+◌, ◌*◌, ◌^◌, ◌<◌, refl, ap, arith, add_assoc}
 use Rattle.descriptor.specs.declared.Level.{Level}
 use Rattle.descriptor.specs.declared.Desc.{Desc}
 use Rattle.descriptor.specs.declared.Desc.TheVariants.{Malformed as malformed_word, Unmapped as unmapped_word, Annotated as annotated_word, Leaf as leaf_word, Table as table_word}
-use Rattle.descriptor.specs.Word.{desc_of, IsSaid, Says, CanBeSaid}
-use Rattle.descriptor.proofs.Unique.{same_as_function}
+use Rattle.descriptor.specs.Word.{desc_of, IsSaid, CanBeSaid}
 use Rattle.page_state.specs.declared.entry.Entry.{Entry}
 use Rattle.page_state.specs.declared.entry.Entry.TheVariants.{Unmapped, Malformed, Annotated, Leaf}
 use Rattle.page_state.specs.Entries.{advance, CanAdvance, entry_of_word, word_of_entry}
@@ -30,28 +29,12 @@ can_advance Malformed n h p = tt
 can_advance (Annotated o) n h p = tt
 can_advance (Leaf f a k s) n h p = omega arith
 
-pub can_small : (l : Level) (e : Entry) → CanBeSaid l (word_of_entry e) → HasSmallFrame e
-can_small l Unmapped h = tt
-can_small l Malformed h = tt
-can_small l (Annotated o) h = tt
-can_small l (Leaf f a k s) h = h.0
-
-says_said : (l : Level) (w : ℕ) (x : Desc) → Says l w x → IsSaid l w x
-says_said l w malformed_word h = absurd h
-says_said l w unmapped_word h = h
-says_said l w (annotated_word o) h = h
-says_said l w (leaf_word f p k s) h = h
-says_said l w (table_word f) h = h
-
-entry_back : (e : Entry) → entry_of_word (word_of_entry e) ≡ e
+-- an entry is that of what a word says that gives it
+pub entry_back : (e : Entry) → entry_of_word (word_of_entry e) ≡ e
 entry_back Unmapped = refl
 entry_back Malformed = refl
 entry_back (Annotated o) = refl
 entry_back (Leaf f p k s) = refl
-
--- the word that was found says the entry
-pub word_says : (l : Level) (w : ℕ) (e : Entry) → w < 2 ^ 64 → Says l w (word_of_entry e) → entry_of_word (desc_of l w) ≡ e
-word_says l w e r h = ap entry_of_word (sym (same_as_function l w (word_of_entry e) r (says_said l w (word_of_entry e) h))) ∙ entry_back e
 
 pub said_formed : (l : Level) (e : Entry) → CanBeSaid l (word_of_entry e) → IsWellFormed e
 said_formed l Unmapped h = tt
@@ -67,9 +50,6 @@ can_part d i (Annotated o) p r h = h
 can_part zero i (Leaf f a k s) p r h = let x = h.0 in let y = h.1 in (omega arith, omega arith)
 can_part (suc zero) i (Leaf f a k s) p r h = let x = h.0 in let y = h.1 in (omega arith, omega arith)
 can_part (suc (suc d)) i (Leaf f a k s) p r h = absurd (omega arith)
-
-pub part_can : (d i n : ℕ) (x : Entry) → d + 1 < 3 → i < 512 → n ≡ i * block_pages d → CanBeSaid (level_at (d + 1)) (word_of_entry x) → CanBeSaid (level_at d) (word_of_entry (advance x n))
-part_can d i n x p q e h = rw e (can_part d i x p q (rw add-one at h))
 
 pub advance_twice : (x : Entry) (m n : ℕ) → advance (advance x m) n ≡ advance x (m + n)
 advance_twice Malformed m n = refl

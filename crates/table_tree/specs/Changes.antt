@@ -1,12 +1,14 @@
 -- What a look at one slot and a change of it are to the tree, for tables at any depth.
 use Rattle.std.specs.Prelude.{◌≡◌, ℕ, ◌+◌, ◌<◌, ◌≤◌, ◌==◌, if◌then◌else◌, None}
 use Rattle.std.specs.declared.boxed.Box.{Box}
+use Rattle.page_state.specs.declared.entry.Entry.TheVariants.{Unmapped}
 use Rattle.table_tree.specs.declared.table.Table.{Table}
 use Rattle.table_tree.specs.declared.table.Slot.{Slot}
 use Rattle.table_tree.specs.declared.table.Slot.TheVariants.{Word, Child}
 use Rattle.table_tree.specs.Meaning.{index_at, frame_of, word_entry, entry_at}
-use Rattle.table_tree.specs.Shape.{IsTableFrame, IsEntryWord, IsShaped}
-use Rattle.table_tree.specs.Tables.{tables_in, uses_in, table_in}
+use Rattle.table_tree.specs.Shape.{IsTableFrame, IsBlank, IsEntryWord, IsShaped}
+use Rattle.table_tree.specs.Tight.{IsTight}
+use Rattle.table_tree.specs.Tables.{tables_in, uses_in, table_in, is_one}
 
 -- `u` is `t` with another word in slot `i`, which held a word
 pub record IsWritten {A : Type 0} (i word : ℕ) (t u : Table A) : Type 0 where
@@ -15,6 +17,7 @@ pub record IsWritten {A : Type 0} (i word : ℕ) (t u : Table A) : Type 0 where
   pub uses : (depth f : ℕ) → uses_in depth u f ≡ uses_in depth t f
   pub standing : (depth low q : ℕ) → table_in depth u low q ≡ table_in depth t low q
   pub shape : (depth : ℕ) → IsShaped depth t → IsEntryWord depth word → IsShaped depth u
+  pub tight : (depth : ℕ) → IsTight depth t → IsTight depth u
 
 -- `u` is `t` with the child `c` in slot `i`, which held a word
 pub record IsAttached {A : Type 0} (i : ℕ) (t u c : Table A) : Type 0 where
@@ -24,6 +27,22 @@ pub record IsAttached {A : Type 0} (i : ℕ) (t u c : Table A) : Type 0 where
   pub standing : (depth low q : ℕ) → low ≤ depth → table_in (depth + 1) u low q ≡ (if index_at (depth + 1) q == i then table_in depth c low q else table_in (depth + 1) t low q)
   pub shape : (depth : ℕ) → IsShaped (depth + 1) t → IsTableFrame (frame_of c) → IsShaped depth c → IsShaped (depth + 1) u
   pub child : (depth : ℕ) → IsShaped (depth + 1) u → IsTableFrame (frame_of c) × IsShaped depth c
+  pub tight : (depth : ℕ) → IsTight (depth + 1) t → (IsBlank c → ⊥) → IsTight depth c → IsTight (depth + 1) u
+  pub child_tight : (depth : ℕ) → IsTight (depth + 1) u → IsTight depth c
+
+-- a table of zeros, at any depth
+pub record IsNew {A : Type 0} (t : Table A) : Type 0 where
+  pub map : (depth q : ℕ) → entry_at depth t q ≡ Unmapped
+  pub tables : (depth : ℕ) → tables_in depth t ≡ 1
+  pub uses : (depth f : ℕ) → uses_in depth t f ≡ is_one (frame_of t) f
+  pub standing : (depth low q : ℕ) → low < depth → table_in depth t low q ≡ None
+  pub shape : (depth : ℕ) → IsShaped depth t
+  pub tight : (depth : ℕ) → IsTight depth t
+
+-- the table loses what slot `i` held: the word 0 stands there
+pub record IsCleared {A : Type 0} (t u : Table A) : Type 0 where
+  pub shape : (depth : ℕ) → IsShaped depth t → IsShaped depth u
+  pub tight : (depth : ℕ) → IsTight depth t → IsTight depth u
 
 -- what slot `i` of a table tells of it: `s` is that slot
 pub record IsSeen {A : Type 0} (i : ℕ) (t : Table A) (s : Slot A) : Type 0 where

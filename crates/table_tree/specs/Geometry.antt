@@ -1,11 +1,11 @@
 -- Geometries as numbers.
 use Rattle.std.specs.Prelude.{ℕ, ◌+◌, ◌*◌, ◌^◌}
 use Rattle.page_state.specs.declared.layout.Geometry.{Geometry}
-use Rattle.page_state.specs.declared.layout.Geometry.TheVariants.{Bits39}
+use Rattle.page_state.specs.Geometries.{depth_of}
 
 -- the levels below the root
 abbrev pub levels_below : Geometry → ℕ
-levels_below Bits39 = 2
+levels_below g = depth_of g
 
 -- the number of input pages
 abbrev pub input_pages : Geometry → ℕ

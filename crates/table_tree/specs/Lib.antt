@@ -8,3 +8,5 @@ pub mod View
 pub mod Stocks
 pub mod Slots
 pub mod Changes
+pub mod Tight
+pub mod Said

@@ -27,11 +27,6 @@ unfoldable pub table_in : {A : Type 0} → ℕ → Table A → ℕ → ℕ → O
 table_in zero t low page = if low == zero then Some (frame_of t) else None
 table_in (suc depth) t low page = if low == suc depth then Some (frame_of t) else slot_case (λ _. None) (λ c. table_in depth c low page) (slot_at t (index_at (suc depth) page))
 
--- how many tables are missing for a page to have a word of the last level
-unfoldable pub missing_in : {A : Type 0} → ℕ → Table A → ℕ → ℕ
-missing_in zero t page = 0
-missing_in (suc depth) t page = slot_case (λ _. suc depth) (λ c. missing_in depth c page) (slot_at t (index_at (suc depth) page))
-
 -- how often a frame stands in a list
 abbrev pub frame_count : ℕ → List ℕ → ℕ
 frame_count f frames = sum_by (λ g. is_one g f) frames

@@ -2,9 +2,10 @@
 use Rattle.std.specs.Prelude.{ℕ, zero, suc, ◌*◌, nat_lt, List, Option, None, if◌then◌else◌}
 use Rattle.page_state.specs.declared.entry.Entry.TheVariants.{Unmapped}
 use Rattle.page_state.specs.Map.{Map}
+use Rattle.page_state.specs.State.{Tree as ReferenceTree}
 use Rattle.table_tree.specs.declared.tree.Tree.{Tree}
 use Rattle.table_tree.specs.Meaning.{block_pages, entry_at, word_at, frame_of}
-use Rattle.table_tree.specs.Tables.{tables_in, uses_in, table_in, missing_in}
+use Rattle.table_tree.specs.Tables.{tables_in, uses_in, table_in}
 use Rattle.table_tree.specs.Geometry.{levels_below, input_pages}
 
 -- the map of a tree
@@ -29,10 +30,10 @@ uses t frame = uses_in (levels_below t.geometry) t.table frame
 unfoldable pub tables_of : {A : Type 0} → Tree A → ℕ
 tables_of t = tables_in (levels_below t.geometry) t.table
 
--- how many tables are missing for a page to have a word of the last level
-unfoldable pub missing_of : {A : Type 0} → Tree A → ℕ → ℕ
-missing_of t page = missing_in (levels_below t.geometry) t.table page
-
 -- the frame of the root table
 unfoldable pub root_of : {A : Type 0} → Tree A → ℕ
 root_of t = frame_of t.table
+
+-- the tree of the reference state that a tree is: its map, and the frame of the table at each block
+abbrev pub tree_of : {A : Type 0} → Tree A → ReferenceTree
+tree_of t = record { map = meaning t; table = λ b. table_at t b.0 b.1 }

@@ -1,12 +1,12 @@
 //! Stage 2 tables as trees: looking, and editing with tables from a stock (Arm DDI 0487, D8.2).
 #![tactic(auto)]
 
-mod edit;
+mod look;
 mod stock;
 mod supply;
 mod table;
 mod tree;
-mod word;
+pub mod word;
 
 pub use stock::Stock;
 pub use supply::reserve;

@@ -2,6 +2,7 @@
 ghost use Rattle.std.specs.Prelude.{◌≡◌, ℕ, List, [], ◌∷◌, IfSome, MatchOption};
 ghost use Rattle.table_tree.specs.Meaning.{frame_of};
 ghost use Rattle.table_tree.specs.Shape.{IsWide, IsBlank, IsTableFrame};
+ghost use Rattle.table_tree.specs.Changes.{IsNew};
 ghost use Rattle.table_tree.specs.Chain.{IsChain, Chained-prop};
 
 use crate::{Slot, Table};
@@ -31,7 +32,8 @@ impl<A: Allocator> Stock<A> {
         requires frame { IsTableFrame (frame_of table.value) }
         requires wide { IsWide table.value }
         requires blank { IsBlank table.value }
-        ensures { frames_of self.new ≡ frame_of table.value ∷ frames_of self.old }
+        ensures frames { frames_of self.new ≡ frame_of table.value ∷ frames_of self.old }
+        ensures tree { IsNew table.value }
     {
         let mut table = table;
         table.write(0, mem::replace(&mut self.first, Slot::Word(0)));
@@ -44,6 +46,7 @@ impl<A: Allocator> Stock<A> {
         ensures frame { IfSome result (λ b. IsTableFrame (frame_of b.value)) }
         ensures wide { IfSome result (λ b. IsWide b.value) }
         ensures blank { IfSome result (λ b. IsBlank b.value) }
+        ensures tree { IfSome result (λ b. IsNew b.value) }
     {
         match mem::replace(&mut self.first, Slot::Word(0)) {
             Slot::Child(table) => {

@@ -1,7 +1,7 @@
 //! One table, and the ways to look at it and to change it.
 ghost use Rattle.std.specs.Prelude.{◌≡◌, ◌+◌, ◌<◌, min, IfOk, IfSome, MatchOption, is_some, if◌then◌else◌, slice_set};
 ghost use Rattle.table_tree.specs.Meaning.{slot_at, slots_of, frame_of};
-ghost use Rattle.table_tree.specs.Changes.{IsWritten, IsAttached, IsSeen};
+ghost use Rattle.table_tree.specs.Changes.{IsWritten, IsAttached, IsNew, IsCleared, IsSeen};
 ghost use Rattle.table_tree.specs.Shape.{IsWide, IsBlank, HoldsWord};
 
 use descriptor::Frame;
@@ -54,6 +54,7 @@ impl<A: Allocator> Table<A> {
         ensures frame { IfOk result (λ t. frame_of t ≡ frame.0) }
         ensures wide { IfOk result (λ t. IsWide t) }
         ensures blank { IfOk result (λ t. IsBlank t) }
+        ensures tree { IfOk result (λ t. IsNew t) }
     {
         let mut slots = Vec::with_capacity(alloc, 512)?;
         for _ in 0..512usize {
@@ -124,6 +125,7 @@ impl<A: Allocator> Table<A> {
         ensures slots { slots_of self.new ≡ (if is_some result then slice_set (slots_of self.old) i (Slot.Word 0) else slots_of self.old) }
         ensures frame { frame_of self.new ≡ frame_of self.old }
         ensures tree { IfSome result (λ b. IsAttached i self.new self.old b.value) }
+        ensures rest { IsCleared self.old self.new }
     {
         match self.take(i) {
             Slot::Child(child) => Some(child),

@@ -1,27 +1,25 @@
 //! A tree: its root table, and how many levels are below it.
-ghost use Rattle.std.specs.Prelude.{◌≡◌, ℕ, ◌+◌, ◌-◌, ◌/◌, ◌<◌, ◌≤◌, ◌==◌, ◌&&◌, nat_lt, length, take, drop, slice_index_or, if◌then◌else◌, Some, None, IfOk, IfErr};
-ghost use Rattle.descriptor.specs.Word.{CanBeSaid};
-ghost use Rattle.page_state.specs.Entries.{word_of_entry};
-ghost use Rattle.page_state.specs.Map.{empty_map, update};
-ghost use Rattle.table_tree.specs.Geometry.{levels_below, input_pages};
-ghost use Rattle.table_tree.specs.Meaning.{block_pages, frame_of};
+ghost use Rattle.std.specs.Prelude.{◌≡◌, ℕ, ◌+◌, ◌<◌, ◌==◌, ◌&&◌, ◌↔◌, length, if◌then◌else◌, Some, None, IsSome, IfSome, IfOk, IfErr};
+ghost use Rattle.page_state.specs.Map.{empty_map};
+ghost use Rattle.table_tree.specs.Geometry.{levels_below};
 ghost use Rattle.table_tree.specs.Shape.{IsShaped, IsShaped-prop};
-ghost use Rattle.table_tree.specs.Tables.{frame_count, count_of, is_one};
+ghost use Rattle.table_tree.specs.Tight.{IsTight, IsTight-prop};
+ghost use Rattle.table_tree.specs.Tables.{count_of, is_one};
 
-use crate::edit::{count_in, frames_in, look_in, missing_in, set_in, word_in};
-use crate::word::word_of;
-use crate::{Stock, Table};
+use crate::Table;
+use crate::look::{count_in, frames_in, look_in, word_in};
 use arrayvec::ArrayVec;
-use descriptor::{Frame, Level};
+use descriptor::Frame;
 use page_state::{Entry, Geometry, Page};
 use std::alloc::{AllocError, Allocator, Global};
 
-/// A tree of tables. Its root table has the geometry's levels below it.
+/// A tree of tables. Its root table has the geometry's levels below it, and no table below the root is empty.
 #[derive(Drop)]
 pub struct Tree<A: Allocator> {
     pub geometry: Geometry,
     pub table: Table<A>,
     pub ghost shaped: { IsShaped (levels_below geometry) table } by { IsShaped-prop (levels_below geometry) table },
+    pub ghost tight: { IsTight (levels_below geometry) table } by { IsTight-prop (levels_below geometry) table },
 }
 
 /// The levels below the root.
@@ -35,8 +33,8 @@ fn depth_of(geometry: Geometry) -> u32
 }
 
 impl<A: Allocator> Tree<A> {
-    ghost use Rattle.table_tree.specs.Stocks.{frames_of};
-    ghost use Rattle.table_tree.specs.View.{meaning, word_of as word_at_path, table_at, uses, tables_of, missing_of, root_of};
+    ghost use Rattle.table_tree.specs.View.{meaning, word_of as word_at_path, table_at, uses, tables_of, root_of, tree_of};
+    ghost use Rattle.table_tree.specs.Said.{block_of, HasWord, IsWordOf, IsRunOrTable};
 
     /// A tree of one table, with nothing mapped.
     pub fn new(alloc: A, root: Frame, geometry: Geometry) -> Result<Tree<A>, AllocError>
@@ -77,7 +75,10 @@ impl<A: Allocator> Tree<A> {
     /// The word at a path of indices, the root's first; None where no table stands on the path, or an index is
     /// over 511.
     pub fn word_at(&self, path: &ArrayVec<u16, 4>) -> Option<u64>
-        ensures { result ≡ word_at_path self.now path.now.items }
+        ensures value { result ≡ word_at_path self.now path.now.items }
+        ensures found { IsSome result ↔ HasWord self.now.geometry (tree_of self.now) path.now.items }
+        ensures said { IfSome result (λ w. IsWordOf (tree_of self.now) (block_of self.now.geometry path.now.items) w) }
+        ensures run { IfSome result (λ _. IsRunOrTable (tree_of self.now) (block_of self.now.geometry path.now.items)) }
     {
         word_in(&self.table, depth_of(self.geometry), path.as_slice())
     }
@@ -87,33 +88,6 @@ impl<A: Allocator> Tree<A> {
         ensures { result ≡ tables_of self.now }
     {
         count_in(&self.table, depth_of(self.geometry))
-    }
-
-    /// The number of tables that `set_page` takes.
-    pub fn missing(&self, page: Page) -> usize
-        ensures value { result ≡ missing_of self.now page.0 }
-        ensures most { result ≤ levels_below self.now.geometry }
-    {
-        missing_in(&self.table, depth_of(self.geometry), page.0)
-    }
-
-    /// Gives one page an entry by a word of the last level. A block on the way is split into words that mean the
-    /// same; the new tables are the stock's first, the parent before the child.
-    pub fn set_page(&mut self, page: Page, entry: Entry, stock: &mut Stock<A>)
-        requires page_in { page.0 < input_pages self.old.geometry }
-        requires entry_in { CanBeSaid Level.Three (word_of_entry entry) }
-        requires enough { missing_of self.old page.0 ≤ length (frames_of stock.old) }
-        ensures map { meaning self.new ≡ update (meaning self.old) page.0 1 entry }
-        ensures root { root_of self.new ≡ root_of self.old }
-        ensures geometry { self.new.geometry ≡ self.old.geometry }
-        ensures tables { tables_of self.new ≡ tables_of self.old + missing_of self.old page.0 }
-        ensures uses { (f : ℕ) → uses self.new f ≡ uses self.old f + frame_count f (take (missing_of self.old page.0) (frames_of stock.old)) }
-        ensures distinct { ((f : ℕ) → uses self.old f + frame_count f (frames_of stock.old) ≤ 1) → (f : ℕ) → uses self.new f + frame_count f (frames_of stock.new) ≤ 1 }
-        ensures standing { (low number : ℕ) → table_at self.new (low + 1) number ≡ (if nat_lt low (missing_of self.old page.0) && number == page.0 / block_pages (low + 1) then Some (slice_index_or (frames_of stock.old) (missing_of self.old page.0 - 1 - low) 0) else table_at self.old (low + 1) number) }
-        ensures stock { frames_of stock.new ≡ drop (missing_of self.old page.0) (frames_of stock.old) }
-    {
-        let depth = depth_of(self.geometry);
-        set_in(&mut self.table, depth, page.0, word_of(0, entry), stock);
     }
 
     /// The frames of all tables, the root's first, of a tree that goes.

@@ -30,7 +30,7 @@ pub(crate) fn index_of(depth: u32, page: u64) -> usize
 }
 
 /// What a word gives the first page of its block.
-pub(crate) fn entry_of(depth: u32, word: u64) -> Entry
+pub fn entry_of(depth: u32, word: u64) -> Entry
     requires { IsDepth depth }
     ensures value { result ≡ entry_of_word (desc_of (level_at depth) word) }
     ensures said { IsEntryWord depth word → CanBeSaid (level_at depth) (word_of_entry result) }
@@ -48,7 +48,7 @@ pub(crate) fn entry_in(depth: u32, word: u64, page: u64) -> Entry
 }
 
 /// The word that gives an entry at a level where it can be said.
-pub(crate) fn word_of(depth: u32, entry: Entry) -> u64
+pub fn word_of(depth: u32, entry: Entry) -> u64
     requires depth_in { IsDepth depth }
     requires said { CanBeSaid (level_at depth) (word_of_entry entry) }
     ensures entry { IsEntryWord depth result }
@@ -58,7 +58,7 @@ pub(crate) fn word_of(depth: u32, entry: Entry) -> u64
 }
 
 /// The pages before part `i` of a block, whose parts have `depth` levels below them.
-pub(crate) fn pages_before(depth: u32, i: u64) -> u64
+pub fn pages_before(depth: u32, i: u64) -> u64
     requires depth_in { IsDepth depth }
     requires index_in { i < 512 }
     ensures value { result ≡ i * block_pages depth }

@@ -1,1 +1,3 @@
-pub mod FrameLists
+pub mod Entries
+pub mod Pools
+pub mod Changes

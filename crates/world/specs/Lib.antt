@@ -1,3 +1,3 @@
-pub mod Frames
 pub mod Logs
 pub mod Maps
+pub mod View

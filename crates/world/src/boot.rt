@@ -1,20 +1,23 @@
 //! Booting a world.
-ghost use Rattle.std.specs.Prelude.{◌≡◌, ℕ, ◌+◌, ◌*◌, ◌<◌, ◌≤◌, ◌^◌, ◌↔◌, IfOk, vec_len, length};
-ghost use Rattle.descriptor.specs.Word.{CanBeSaid};
-ghost use Rattle.page_state.specs.Entries.{advance, word_of_entry};
+ghost use Rattle.std.specs.Prelude.{◌≡◌, ◌+◌, ◌<◌, ◌≤◌, ◌^◌, ◌∷◌, IfOk, vec_len};
+ghost use Rattle.hyp_pool.specs.Pools.{IsPool};
+ghost use Rattle.page_state.specs.EntryTests.{leaf as leaf_of, annotation};
+ghost use Rattle.page_state.specs.Layouts.{hyp_page as hyp_page_of};
 ghost use Rattle.page_state.specs.Regions.{end_of};
-ghost use Rattle.table_tree.specs.Geometry.{input_pages};
+ghost use Rattle.world.specs.View.{IsEdit};
 
+use crate::both::change_both;
 use crate::parts::{CpuState, Parts, Shared};
 use crate::share::{hyp_page, leaf};
-use crate::{Component, FreeFrames, Log};
-use descriptor::Level;
+use crate::{Component, Log, PageEdit};
+use hyp_pool::{Pool, PoolFault, laws};
 use page_state::{
     Config, Entry, Frame, Geometry, Layout, MemoryMap, Owner, Page, PageRange, Prot, State,
 };
 use std::alloc::{AllocError, Allocator, Global};
-use table_tree::{Tree, reserve};
+use table_tree::Tree;
 use thiserror::Error;
+use walk_plan::need_of_new;
 
 /// The most CPUs of a world.
 const MOST_CPUS: u64 = 64;
@@ -50,6 +53,15 @@ impl BootFault {
     }
 }
 
+impl From<PoolFault> for BootFault {
+    fn from(fault: PoolFault) -> BootFault {
+        match fault {
+            PoolFault::NoPool => BootFault::CarveSmall,
+            PoolFault::NoMemory => BootFault::NoMemory,
+        }
+    }
+}
+
 impl From<AllocError> for BootFault {
     fn from(_error: AllocError) -> BootFault {
         BootFault::NoMemory
@@ -69,58 +81,55 @@ fn geometry_of(config: &Config) -> Option<Geometry> {
     }
 }
 
-/// The tables below the root that stand when each page of a range has a word of the last level.
-fn tables_on(depth: u32, range: PageRange) -> u64
-    requires depth { depth < 4 }
-    requires some { 1 ≤ range.count }
-    requires low { end_of range ≤ 2 ^ 27 }
-    ensures { result ≤ depth * 2 ^ 27 }
-{
-    let last = range.first.0 + (range.count - 1);
-    let mut tables = 0;
-    for below in 0..depth {
-        let shift = 9 * (below + 1);
-        tables += (last >> shift) - (range.first.0 >> shift) + 1;
-    }
-    tables
-}
-
-/// The carve-out's pages in the hypervisor's map.
-fn hyp_range(carve: PageRange) -> PageRange
-    requires some { 1 ≤ carve.count }
+/// The host's pages of the carve-out become the hypervisor's.
+fn host_edit(carve: PageRange) -> PageEdit
     requires low { end_of carve ≤ 2 ^ 26 }
-    ensures first { result.first.0 ≡ carve.first.0 + 0x4000000 }
-    ensures count { result.count ≡ carve.count }
+    requires some { 1 ≤ carve.count }
+    ensures value { result ≡ record { range = carve; entry = annotation 1 } }
+    ensures edit { (g : Geometry) → IsEdit g result }
 {
-    PageRange {
-        first: hyp_page(carve.first.0),
-        count: carve.count,
+    PageEdit {
+        range: carve,
+        entry: Entry::Annotated(HYPERVISOR),
     }
 }
 
-/// Gives each page of a range an entry, with new tables from the lowest free frames.
-fn set_pages<A: Allocator + Copy>(
-    alloc: A,
-    component: &mut Component<A>,
-    pool: &mut FreeFrames,
-    range: PageRange,
-    entry: Entry,
-) -> Result<(), BootFault>
-    requires low { end_of range ≤ 2 ^ 27 }
-    requires said { (i : ℕ) → i < range.count → CanBeSaid Level.Three (word_of_entry (advance entry i)) }
+/// The hypervisor's pages of the carve-out become RW Normal Owned.
+fn hyp_edit(carve: PageRange) -> PageEdit
+    requires low { end_of carve ≤ 2 ^ 26 }
+    requires some { 1 ≤ carve.count }
+    ensures value { result ≡ record { range = record { first = record { 0 = hyp_page_of carve.first.0 }; count = carve.count }; entry = leaf_of Prot.RW carve.first.0 State.Owned } }
+    ensures edit { (g : Geometry) → IsEdit g result }
 {
-    for i in 0..range.count {
-        component.reserve(1)?;
-        let page = Page(range.first.0 + i);
-        let need = component.tree().missing(page);
-        if pool.free() < need {
-            return Err(BootFault::CarveSmall);
-        }
-        let mut stock = reserve(alloc, &pool.frames()[..need])?;
-        pool.drop_lowest(need);
-        component.set_page(page, entry.advance(i), &mut stock);
+    PageEdit {
+        range: PageRange {
+            first: hyp_page(carve.first.0),
+            count: carve.count,
+        },
+        entry: leaf(carve.first.0, Prot::RW, State::Owned),
     }
-    Ok(())
+}
+
+/// Whether the carve-out has fewer frames than boot needs tables: the roots, and those below them.
+fn is_small(geometry: Geometry, carve: PageRange) -> bool
+    requires low { end_of carve ≤ 2 ^ 26 }
+    requires some { 1 ≤ carve.count }
+{
+    let host = host_edit(carve);
+    let hyp = hyp_edit(carve);
+    let host_need = need_of_new(geometry, host.range, &host.entry) as u64;
+    let hyp_need = need_of_new(geometry, hyp.range, &hyp.entry) as u64;
+    carve.count < 2 || carve.count - 2 < host_need || carve.count - 2 - host_need < hyp_need
+}
+
+/// Takes the lowest frame for a root.
+fn take_root(pool: &mut Pool) -> Result<Frame, BootFault>
+    ensures taken { IfOk result (λ f. pool.old.frames ≡ f.0 ∷ pool.new.frames) }
+    ensures low { IfOk result (λ f. f.0 < 2 ^ 36) }
+    ensures room { pool.new.room ≡ pool.old.room }
+    ensures pool { IsPool pool.new }
+{
+    pool.take().ok_or(BootFault::CarveSmall)
 }
 
 /// The Shared part at boot.
@@ -131,25 +140,24 @@ fn shared_at_boot<A: Allocator + Copy>(
     config: Config,
     geometry: Geometry,
 ) -> Result<Shared<A>, BootFault>
-    requires tables { 2 ≤ carve.count }
+    requires some { 1 ≤ carve.count }
     requires low { end_of carve ≤ 2 ^ 26 }
 {
-    let first = carve.first.0;
-    let mut pool = FreeFrames::of(global, carve)?;
-    let host_tree = Tree::new(alloc, Frame(first), geometry)?;
-    let hyp_tree = Tree::new(alloc, Frame(first + 1), geometry)?;
-    pool.drop_lowest(2);
-    let mut host = Component::new(global, host_tree);
-    let mut hyp = Component::new(global, hyp_tree);
-    set_pages(
+    laws::counted_frames();
+    let mut pool = Pool::of(global, Frame(carve.first.0), carve.count as usize)?;
+    let host_root = take_root(&mut pool)?;
+    let hyp_root = take_root(&mut pool)?;
+    let mut host = Component::new(global, Tree::new(alloc, host_root, geometry)?);
+    let mut hyp = Component::new(global, Tree::new(alloc, hyp_root, geometry)?);
+    change_both(
+        global,
         alloc,
         &mut host,
+        &mut hyp,
         &mut pool,
-        carve,
-        Entry::Annotated(HYPERVISOR),
+        host_edit(carve),
+        hyp_edit(carve),
     )?;
-    let owned = leaf(first, Prot::RW, State::Owned);
-    set_pages(alloc, &mut hyp, &mut pool, hyp_range(carve), owned)?;
     Ok(Shared {
         host,
         hyp,
@@ -181,9 +189,7 @@ pub fn booted<A: Allocator + Copy>(
 {
     let geometry = geometry_of(&config).ok_or(BootFault::Config)?;
     let carve = map.carve();
-    let depth = geometry.depth();
-    let tables = 2 + tables_on(depth, carve) + tables_on(depth, hyp_range(carve));
-    if carve.count < tables {
+    if is_small(geometry, carve) {
         return Err(BootFault::CarveSmall);
     }
     let shared = shared_at_boot(global, alloc, carve, config, geometry)?;

@@ -1,19 +1,27 @@
 //! A tree and the maplets that say the same.
-ghost use Rattle.std.specs.Prelude.{◌≡◌, ◌+◌, ◌<◌, ◌≤◌, ◌^◌, [], length, drop, OnOk, OnErr, IsOk};
-ghost use Rattle.descriptor.specs.Word.{CanBeSaid};
-ghost use Rattle.page_state.specs.Entries.{word_of_entry};
-ghost use Rattle.page_state.specs.Map.{Map, empty_map, update};
+ghost use Rattle.std.specs.Prelude.{◌≡◌, ℕ, ◌+◌, ◌<◌, ◌≤◌, ◌^◌, length, OnOk};
+ghost use Rattle.page_state.specs.Map.{empty_map};
 ghost use Rattle.page_state.specs.Runs.{map_of};
+ghost use Rattle.page_state.specs.Tables.{all_given};
 ghost use Rattle.table_tree.specs.Stocks.{frames_of};
-ghost use Rattle.table_tree.specs.Geometry.{input_pages};
-ghost use Rattle.table_tree.specs.View.{meaning, missing_of};
+ghost use Rattle.table_tree.specs.Tables.{frame_count};
+ghost use Rattle.table_tree.specs.View.{meaning, tree_of, uses, tables_of, root_of};
 ghost use Rattle.world.specs.Maps.{maps_prop};
+ghost use Rattle.world.specs.View.{IsEdit, need_for, tree_after, back_from};
 
-use descriptor::Level;
+use hyp_pool::Pool;
 use maplets::Maplets;
-use page_state::{Entry, Page, PageRange};
+use page_state::{Entry, PageRange};
 use std::alloc::{AllocError, Allocator, Global};
-use table_tree::{Stock, Tree};
+use table_tree::{Reads, Tree};
+use walk_plan::Spare;
+
+/// The entry of a range's first page; it advances along the range.
+#[derive(Clone, Copy)]
+pub struct PageEdit {
+    pub range: PageRange,
+    pub entry: Entry,
+}
 
 /// A tree and its maplets, changed together: both have one meaning.
 #[derive(Drop)]
@@ -23,7 +31,7 @@ pub struct Component<A: Allocator> {
     pub ghost agree: { meaning tree ≡ map_of maplets.runs } by { maps_prop (meaning tree) (map_of maplets.runs) },
 }
 
-impl<A: Allocator + Copy> Component<A> {
+impl<A: Allocator> Component<A> {
     /// A tree in which nothing is mapped, and maplets that say so.
     pub(crate) fn new(global: Global, tree: Tree<A>) -> Component<A>
         requires { meaning tree ≡ empty_map }
@@ -36,33 +44,44 @@ impl<A: Allocator + Copy> Component<A> {
     }
 
     /// Makes room in the maplets for so many pages. A refusal changes nothing.
-    pub(crate) fn reserve(&mut self, pages: usize) -> Result<(), AllocError>
+    pub(crate) fn reserve(&mut self, pages: u64) -> Result<(), AllocError>
         ensures ok { OnOk result (pages ≤ self.new.maplets.room) }
         ensures tree { self.new.tree ≡ self.old.tree }
         ensures runs { self.new.maplets.runs ≡ self.old.maplets.runs }
     {
-        self.maplets.reserve(pages)
+        self.maplets.reserve(pages as usize)
     }
 
-    /// Changes the entry of one page in the tree and in the maplets. It can't fail.
-    pub(crate) fn set_page(&mut self, page: Page, entry: Entry, stock: &mut Stock<A>)
-        requires page_in { page.0 < input_pages self.old.tree.geometry }
-        requires entry_in { CanBeSaid Level.Three (word_of_entry entry) }
-        requires enough { missing_of self.old.tree page.0 ≤ length (frames_of stock.old) }
-        requires room { 1 ≤ self.old.maplets.room }
-        ensures map { meaning self.new.tree ≡ update (meaning self.old.tree) page.0 1 entry }
-        ensures geometry { self.new.tree.geometry ≡ self.old.tree.geometry }
+    /// The tables that a change of the tree needs.
+    pub(crate) fn need(&self, edit: &PageEdit) -> usize
+        requires { IsEdit self.now.tree.geometry edit.now }
+        ensures value { result ≡ need_for self.now.tree edit.now }
+        ensures small { result ≤ 2 ^ 30 }
     {
-        self.tree.set_page(page, entry, stock);
-        let range = PageRange {
-            first: page,
-            count: 1,
-        };
-        self.maplets.set(range, entry.target());
+        let mut reads = Reads::new();
+        walk_plan::need(&self.tree, edit.range, &edit.entry, &mut reads)
     }
-}
 
-impl<A: Allocator> Component<A> {
+    /// Makes a change in the tree and in the maplets, with tables in hand for just this change. It can't fail.
+    pub(crate) fn commit(&mut self, pool: &mut Pool, edit: PageEdit, spare: Spare<A>)
+        requires edit { IsEdit self.old.tree.geometry edit }
+        requires just { length (frames_of spare.stock) ≡ need_for self.old.tree edit }
+        requires distinct { (f : ℕ) → uses self.old.tree f + frame_count f (frames_of spare.stock) + frame_count f pool.old.frames ≤ 1 }
+        requires covered { tables_of self.old.tree + length (frames_of spare.stock) + length pool.old.frames ≤ pool.old.room + 1 }
+        requires room { edit.range.count ≤ self.old.maplets.room }
+        ensures tree { tree_of self.new.tree ≡ tree_after self.old.tree edit (frames_of spare.stock) }
+        ensures geometry { self.new.tree.geometry ≡ self.old.tree.geometry }
+        ensures root { root_of self.new.tree ≡ root_of self.old.tree }
+        ensures pool { pool.new.frames ≡ all_given (back_from self.old.tree edit) pool.old.frames }
+        ensures pool_room { pool.new.room ≡ pool.old.room }
+        ensures frames { (f : ℕ) → uses self.new.tree f + frame_count f pool.new.frames ≡ uses self.old.tree f + frame_count f (frames_of spare.stock) + frame_count f pool.old.frames }
+        ensures tables { tables_of self.new.tree + length pool.new.frames ≡ tables_of self.old.tree + length (frames_of spare.stock) + length pool.old.frames }
+    {
+        let mut reads = Reads::new();
+        walker::set_with(&mut self.tree, pool, edit.range, edit.entry, spare, &mut reads);
+        self.maplets.set(edit.range, edit.entry.target());
+    }
+
     /// The tree.
     pub fn tree(&self) -> &Tree<A>
         ensures { result.now ≡ self.now.tree }

@@ -4,15 +4,14 @@
 ghost use Rattle.std.specs.Prelude.{◌≡◌, ◌<◌, IfOk};
 
 mod boot;
+mod both;
 mod component;
-mod free;
 mod log;
 mod parts;
 mod share;
 
 pub use boot::BootFault;
-pub use component::Component;
-pub use free::FreeFrames;
+pub use component::{Component, PageEdit};
 pub use log::Log;
 use page_state::{Call, Config, MemoryMap, Refusal, Reply, Step};
 pub use parts::{CpuState, Parts, Shared};
@@ -22,6 +21,7 @@ use std::alloc::{Allocator, Global};
 /// A booted world. `A` is where the tables of all trees lie.
 #[derive(Drop)]
 pub struct World<A: Allocator> {
+    global: Global,
     alloc: A,
     pub parts: Parts<A>,
 }
@@ -38,7 +38,11 @@ impl<A: Allocator + Copy> World<A> {
         ensures layout { IfOk result (λ w. w.parts.layout ≡ record { map = map.now; config = config }) }
     {
         let parts = boot::booted(global, alloc, map, config)?;
-        Ok(World { alloc, parts })
+        Ok(World {
+            global,
+            alloc,
+            parts,
+        })
     }
 
     /// Makes one step of a CPU, and stores it in the CPU's and the Shared part's log where neither is full.
@@ -46,6 +50,7 @@ impl<A: Allocator + Copy> World<A> {
         requires { cpu < self.old.parts.layout.config.cpus }
         ensures layout { self.new.parts.layout ≡ self.old.parts.layout }
     {
+        let global = self.global;
         let alloc = self.alloc;
         let parts = &mut self.parts;
         let place = cpu as usize;
@@ -54,7 +59,7 @@ impl<A: Allocator + Copy> World<A> {
         }
         let reply = match step {
             Step::ShareHyp { pfn } => {
-                share_hyp(alloc, &parts.layout.map, &mut parts.shared, pfn)
+                share_hyp(global, alloc, &parts.layout.map, &mut parts.shared, pfn)
             }
         };
         let log = &mut parts.cpus[place].log;

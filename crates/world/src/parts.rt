@@ -1,7 +1,9 @@
 //! The parts of a world.
 ghost use Rattle.std.specs.Prelude.{◌≡◌, vec_len};
+ghost use Rattle.world.specs.View.{IsApart, IsApart-prop};
 
-use crate::{Component, FreeFrames, Log};
+use crate::{Component, Log};
+use hyp_pool::Pool;
 use page_state::Layout;
 use std::alloc::Allocator;
 
@@ -10,8 +12,9 @@ use std::alloc::Allocator;
 pub struct Shared<A: Allocator> {
     pub host: Component<A>,
     pub hyp: Component<A>,
-    pub pool: FreeFrames,
+    pub pool: Pool,
     pub log: Log,
+    pub ghost apart: { IsApart host.tree hyp.tree pool } by { IsApart-prop host.tree hyp.tree pool },
 }
 
 /// One CPU: the log of its own calls.

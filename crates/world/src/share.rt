@@ -1,13 +1,18 @@
 //! The steps of host and hypervisor.
-ghost use Rattle.std.specs.Prelude.{◌≡◌, ◌+◌, ◌<◌, ◌≤◌, ◌^◌, IsTrue};
+ghost use Rattle.std.specs.Prelude.{◌≡◌, ◌+◌, ◌<◌, ◌≤◌, ◌^◌, ◌↔◌, IsTrue, true};
+ghost use Rattle.page_state.specs.declared.entry.Entry.TheVariants.{Unmapped};
+ghost use Rattle.page_state.specs.Layouts.{hyp_page as hyp_page_of};
+ghost use Rattle.table_tree.specs.View.{meaning};
 ghost use Rattle.page_state.specs.EntryTests.{is_free_page as is_free_entry, leaf as leaf_of};
 
+use crate::both::change_both;
+use crate::component::PageEdit;
 use crate::parts::Shared;
+use hyp_pool::PoolFault;
 use page_state::{
     Entry, Frame, Kind, MemoryMap, Page, PageRange, Prot, Refusal, Reply, State, Value,
 };
-use std::alloc::Allocator;
-use table_tree::reserve;
+use std::alloc::{Allocator, Global};
 
 /// The hypervisor's page of a frame (profile).
 pub fn hyp_page(frame: u64) -> Page
@@ -43,8 +48,29 @@ fn is_free_page(entry: Entry) -> bool
     )
 }
 
+/// Whether the host may give its page of a frame away, and the hypervisor's page of it is unmapped.
+fn may_share<A: Allocator>(shared: &Shared<A>, pfn: u64) -> bool
+    requires { pfn < 2 ^ 26 }
+    ensures { IsTrue result ↔ (is_free_entry (meaning shared.now.host.tree pfn) ≡ true) × (meaning shared.now.hyp.tree (hyp_page_of pfn) ≡ Unmapped) }
+{
+    is_free_page(shared.host.tree().look(Page(pfn)))
+        && shared.hyp.tree().look(hyp_page(pfn)).is_same(Entry::Unmapped)
+}
+
+/// The change of one page.
+fn page_edit(page: Page, entry: Entry) -> PageEdit
+    ensures { result ≡ record { range = record { first = page; count = 1 }; entry = entry } }
+{
+    let range = PageRange {
+        first: page,
+        count: 1,
+    };
+    PageEdit { range, entry }
+}
+
 /// The host shares a frame with the hypervisor.
 pub fn share_hyp<A: Allocator + Copy>(
+    global: Global,
     alloc: A,
     map: &MemoryMap,
     shared: &mut Shared<A>,
@@ -52,13 +78,14 @@ pub fn share_hyp<A: Allocator + Copy>(
 ) -> Reply
     ensures log { shared.new.log ≡ shared.old.log }
 {
-    match try_share_hyp(alloc, map, shared, pfn) {
+    match try_share_hyp(global, alloc, map, shared, pfn) {
         Ok(()) => Reply::Done(Value::Nothing),
         Err(refusal) => Reply::Refused(refusal),
     }
 }
 
 fn try_share_hyp<A: Allocator + Copy>(
+    global: Global,
     alloc: A,
     map: &MemoryMap,
     shared: &mut Shared<A>,
@@ -66,30 +93,24 @@ fn try_share_hyp<A: Allocator + Copy>(
 ) -> Result<(), Refusal>
     ensures log { shared.new.log ≡ shared.old.log }
 {
-    let page = Page(pfn);
-    if !map.is_memory(page) {
+    if !map.is_memory(Page(pfn)) {
         return Err(Refusal::Invalid);
     }
-    let hyp_page = hyp_page(pfn);
-    let is_free = is_free_page(shared.host.tree().look(page));
-    if !is_free || shared.hyp.tree().look(hyp_page) != Entry::Unmapped {
+    if !may_share(shared, pfn) {
         return Err(Refusal::Perm);
     }
-    let host_need = shared.host.tree().missing(page);
-    let need = host_need + shared.hyp.tree().missing(hyp_page);
-    if shared.pool.free() < need {
-        return Err(Refusal::NoPool);
+    let host_edit = page_edit(Page(pfn), leaf(pfn, Prot::RWX, State::SharedOwned));
+    let hyp_edit = page_edit(hyp_page(pfn), leaf(pfn, Prot::RW, State::SharedBorrowed));
+    let host = &mut shared.host;
+    let hyp = &mut shared.hyp;
+    let pool = &mut shared.pool;
+    change_both(global, alloc, host, hyp, pool, host_edit, hyp_edit).map_err(refusal_of)
+}
+
+/// What a step answers where its tables can't be had.
+fn refusal_of(fault: PoolFault) -> Refusal {
+    match fault {
+        PoolFault::NoPool => Refusal::NoPool,
+        PoolFault::NoMemory => Refusal::NoMemory,
     }
-    let frames = &shared.pool.frames()[..need];
-    let (host_frames, hyp_frames) = frames.split_at(host_need);
-    let mut host_stock = reserve(alloc, host_frames).map_err(|_| Refusal::NoMemory)?;
-    let mut hyp_stock = reserve(alloc, hyp_frames).map_err(|_| Refusal::NoMemory)?;
-    shared.host.reserve(1).map_err(|_| Refusal::NoMemory)?;
-    shared.hyp.reserve(1).map_err(|_| Refusal::NoMemory)?;
-    shared.pool.drop_lowest(need);
-    let host_leaf = leaf(pfn, Prot::RWX, State::SharedOwned);
-    shared.host.set_page(page, host_leaf, &mut host_stock);
-    let hyp_leaf = leaf(pfn, Prot::RW, State::SharedBorrowed);
-    shared.hyp.set_page(hyp_page, hyp_leaf, &mut hyp_stock);
-    Ok(())
 }

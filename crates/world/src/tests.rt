@@ -1,6 +1,15 @@
+ghost use Rattle.std.specs.Prelude.{◌≡◌, ◌<◌, ◌^◌};
+ghost use Rattle.ghost_spec.specs.Sharing.{HasSmallRuns};
+ghost use Rattle.ghost_spec.specs.Small.{AreSmall};
+
 use super::*;
-use page_state::{Page, PageRange, Region, RegionKind, Value};
+use arrayvec::ArrayVec;
+use descriptor::{Desc, Frame, Level, encode};
+use ghost_spec::blocks::Block;
+use ghost_spec::{boot, runs, share, tree};
+use page_state::{Page, PageRange, Region, RegionKind, Run, Value};
 use std::alloc::AllocError;
+use std::process::Abort;
 use std::test::Fail;
 
 /// 2,048 pages of memory from page 0x40000 on, with a carve-out of `frames` frames at 0x40600.
@@ -51,5 +60,151 @@ fn refuses_small_carve_outs(rt: HostRuntime) -> Result<(), Fail> {
     let map = memory(rt.alloc(), 5)?;
     let world = World::boot(rt.alloc(), rt.alloc(), &map, CONFIG);
     assert_eq!(rt; world.err(), Some(BootFault::CarveSmall));
+    let lists = boot::boot(rt.alloc(), &map, CONFIG, DEPTH)?;
+    assert!(rt; lists.is_none());
+    Ok(())
+}
+
+/// The levels below a root of 39 bits.
+const DEPTH: u64 = 2;
+
+/// Pages at and beside those that the steps below change, in the host's map, and with the hypervisor's offset in its.
+const PAGES: [u64; 11] = [
+    0, 0x40000, 0x400ff, 0x40100, 0x40101, 0x401ff, 0x40200, 0x405ff, 0x40600, 0x4063f, 0x40640,
+];
+
+/// The free frames of a world's pool, the lowest first.
+fn free_frames(alloc: Global, shared: &Shared<Global>) -> Result<Vec<u64>, AllocError> {
+    let mut frames = Vec::new(alloc);
+    for frame in shared.pool.frames() {
+        frames.push(frame.0)?;
+    }
+    Ok(frames)
+}
+
+/// The indices that lead from the root to the word of a block below it.
+fn path_of(block: Block) -> ArrayVec<u16, 4> {
+    let mut path = ArrayVec::new();
+    if block.0 < DEPTH {
+        let _pushed = path.try_push((block.1 >> 9 & 0x1ff) as u16);
+    }
+    let _pushed = path.try_push((block.1 & 0x1ff) as u16);
+    path
+}
+
+/// Compares a tree and its maplets with those that lists stand for: the root, the other tables by the words that
+/// lead to them, the entries of some pages, and the coarsest runs.
+fn compare_component(
+    rt: &impl Abort,
+    alloc: Global,
+    component: &Component<Global>,
+    lists: &tree::Tree,
+    offset: u64,
+) -> Result<(), Fail>
+    requires small { AreSmall lists.now.runs.items }
+    requires offset { offset < 2 ^ 27 }
+{
+    let kept = component.tree();
+    assert_eq!(rt; kept.tables(), lists.tables.len());
+    for table in lists.tables.as_slice() {
+        if table.block.0 > DEPTH {
+            assert_eq!(rt; kept.root().0, table.frame);
+        } else {
+            let word = encode(Level::Two, &Desc::Table(Frame(table.frame)));
+            assert_eq!(rt; kept.word_at(&path_of(table.block)), word);
+        }
+    }
+    for number in PAGES {
+        let page = Page(number + offset);
+        assert_eq!(rt; kept.look(page), runs::at(lists.runs.as_slice(), page));
+    }
+    let told: Vec<Run> = component.maplets().iter().collect(alloc)?;
+    let coarsest = runs::coarsest(alloc, lists.runs.as_slice())?;
+    assert_eq!(rt; told.as_slice(), coarsest.as_slice());
+    Ok(())
+}
+
+/// Compares the Shared part and CPU 0 of a world with lists.
+fn compare(
+    rt: &impl Abort,
+    alloc: Global,
+    world: &World<Global>,
+    lists: &share::Shared,
+) -> Result<(), Fail>
+    requires { HasSmallRuns lists.now }
+{
+    let shared = &world.parts().shared;
+    compare_component(rt, alloc, &shared.host, &lists.host, 0)?;
+    compare_component(rt, alloc, &shared.hyp, &lists.hyp, 0x400_0000)?;
+    let free = free_frames(alloc, shared)?;
+    assert_eq!(rt; free.as_slice(), lists.free.as_slice());
+    assert_eq!(rt; shared.pool.free(), lists.free.len());
+    assert_eq!(rt; shared.log.room(), lists.room);
+    let cpu = world.parts().cpus.first();
+    assert_eq!(rt; cpu.map(|cpu| cpu.log.room()), Some(lists.cpu_room));
+    Ok(())
+}
+
+/// Makes one share on a world and on lists, and compares the replies and what stands afterwards.
+fn share_on_both(
+    rt: &impl Abort,
+    alloc: Global,
+    world: &mut World<Global>,
+    lists: &mut share::Shared,
+    pfn: u64,
+) -> Result<Reply, Fail>
+    requires cpu { 0 < world.old.parts.layout.config.cpus }
+    requires small { HasSmallRuns lists.old }
+    ensures layout { world.new.parts.layout ≡ world.old.parts.layout }
+    ensures small { HasSmallRuns lists.new }
+{
+    let reply = world.step(0, Step::ShareHyp { pfn });
+    let map = &world.parts().layout.map;
+    let foretold = share::share_hyp(alloc, map, DEPTH, lists, pfn)?;
+    assert_eq!(rt; reply, foretold);
+    compare(rt, alloc, world, lists)?;
+    Ok(reply)
+}
+
+#[test]
+fn shares_as_the_definitions_say(rt: HostRuntime) -> Result<(), Fail> {
+    let alloc = rt.alloc();
+    let map = memory(alloc, 0x40)?;
+    let config = Config {
+        cpus: 1,
+        log: 5,
+        geometry: 39,
+    };
+    let mut world = World::boot(alloc, alloc, &map, config)?;
+    let mut lists = boot::boot(alloc, &map, config, DEPTH)?.expect(&rt, "enough frames");
+    assert!(rt; world.cpus() > 0);
+    compare(&rt, alloc, &world, &lists)?;
+    let done = share_on_both(&rt, alloc, &mut world, &mut lists, 0x40100)?;
+    assert_eq!(rt; done, Reply::Done(Value::Nothing));
+    let again = share_on_both(&rt, alloc, &mut world, &mut lists, 0x40100)?;
+    assert_eq!(rt; again, Reply::Refused(Refusal::Perm));
+    let carved = share_on_both(&rt, alloc, &mut world, &mut lists, 0x40600)?;
+    assert_eq!(rt; carved, Reply::Refused(Refusal::Perm));
+    let past = share_on_both(&rt, alloc, &mut world, &mut lists, 0x40800)?;
+    assert_eq!(rt; past, Reply::Refused(Refusal::Invalid));
+    let beside = share_on_both(&rt, alloc, &mut world, &mut lists, 0x40101)?;
+    assert_eq!(rt; beside, Reply::Done(Value::Nothing));
+    let full = share_on_both(&rt, alloc, &mut world, &mut lists, 0x40102)?;
+    assert_eq!(rt; full, Reply::Refused(Refusal::LogFull));
+    Ok(())
+}
+
+#[test]
+fn shares_without_frames_as_the_definitions_say(rt: HostRuntime) -> Result<(), Fail> {
+    let alloc = rt.alloc();
+    let map = memory(alloc, 6)?;
+    let mut world = World::boot(alloc, alloc, &map, CONFIG)?;
+    let mut lists = boot::boot(alloc, &map, CONFIG, DEPTH)?.expect(&rt, "enough frames");
+    assert!(rt; world.cpus() > 0);
+    compare(&rt, alloc, &world, &lists)?;
+    let short = share_on_both(&rt, alloc, &mut world, &mut lists, 0x40100)?;
+    assert_eq!(rt; short, Reply::Refused(Refusal::NoPool));
+    let carved = share_on_both(&rt, alloc, &mut world, &mut lists, 0x40600)?;
+    assert_eq!(rt; carved, Reply::Refused(Refusal::Perm));
     Ok(())
 }

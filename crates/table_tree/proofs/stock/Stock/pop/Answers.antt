@@ -2,6 +2,7 @@ use Rattle.std.proofs.Common.{sym, ap, ◌∙◌, [], ◌∷◌}
 use Rattle.table_tree.specs.Meaning.{frame_of}
 use Rattle.table_tree.specs.Stocks.{frames_of}
 use Rattle.table_tree.proofs.Chains.{chain_nil, chain_word, chain_first, frames_is, frames_chain, link_blank, link_wide, link_is_wide, link_frame}
+use Rattle.table_tree.proofs.Tight.{new_table}
 use Rattle.table_tree.proofs.stock.Stock.pop.Goals as goal
 
 pub take-requires-clause-wide : goal.take-requires-clause-wide
@@ -30,3 +31,6 @@ returns-in-Child-clause-blank g c = link_blank (frame_of c.deref_mut.result.now)
 
 pub returns-in-Word-clause-frames : goal.returns-in-Word-clause-frames
 returns-in-Word-clause-frames g c = chain_word (frames_of c.args.self.now) c.args.self.now.first c.in-Word.field-0 (frames_chain c.args.self.now) (sym c.in-Word.ensures.value)
+
+pub returns-in-Child-clause-tree : goal.returns-in-Child-clause-tree
+returns-in-Child-clause-tree g c = new_table c.take.new.self (returns-in-Child-clause-wide g c) (returns-in-Child-clause-blank g c)

@@ -8,7 +8,7 @@ use Rattle.table_tree.proofs.Views.{meaning_is, map_blank, standing_blank}
 use Rattle.table_tree.proofs.tree.Tree.new.Goals as goal
 
 pub invariant_of-result : goal.invariant_of-result
-invariant_of-result g c = record { shaped = blank_shaped (levels_below c.args.geometry) c.in_ok-table.table c.in_ok-table.ensures.wide c.in_ok-table.ensures.blank }
+invariant_of-result g c = record { shaped = blank_shaped (levels_below c.args.geometry) c.in_ok-table.table c.in_ok-table.ensures.wide c.in_ok-table.ensures.blank; tight = c.in_ok-table.ensures.tree.tight (levels_below c.args.geometry) }
 
 pub returns-clause-map : goal.returns-clause-map
 returns-clause-map g c = meaning_is _ ∙ map_blank c.args.geometry c.in_ok-table.table c.in_ok-table.ensures.blank

@@ -1,0 +1,122 @@
+//! The Shared part at boot, on lists.
+ghost use Rattle.std.specs.Prelude.{◌≡◌, ℕ, ◌+◌, ◌^◌, ◌<◌, ◌≤◌, ◌↔◌, IsTrue, IfOk, IfSome, IsSome};
+ghost use Rattle.page_state.specs.declared.layout.Config.{Config as AnyConfig};
+ghost use Rattle.page_state.specs.Boot.{boot_shared, IsCarveEnough, frames_from as frames_of, root_tree as root_tree_of};
+ghost use Rattle.page_state.specs.EntryTests.{annotation, leaf};
+ghost use Rattle.page_state.specs.Layouts.{hyp_page as hyp_page_of};
+ghost use Rattle.page_state.specs.Regions.{Memory};
+ghost use Rattle.page_state.specs.State.{plain_row};
+ghost use Rattle.ghost_spec.specs.Sharing.{HasSmallRuns, layout_of, shared_of};
+ghost use Rattle.ghost_spec.specs.Small.{AreSmall};
+ghost use Rattle.ghost_spec.specs.Trees.{tree_of};
+
+use crate::share::{Shared, behind, hyp_page};
+use crate::tree::{Table, Tree, edited, need};
+use page_state::{Config, Entry, Frame, Kind, MemoryMap, Owner, Page, PageRange, Prot, State};
+use std::alloc::{AllocError, Global};
+
+/// The Shared part at boot and an empty log of a CPU, in trees of `depth` levels below the root's. None where the
+/// carve-out has fewer frames than boot needs tables. The rows, which lists don't have, are all plain here.
+pub fn boot(
+    alloc: Global,
+    memory: &MemoryMap,
+    config: Config,
+    depth: u64,
+) -> Result<Option<Shared>, AllocError>
+    requires { depth ≤ 3 }
+    ensures enough { IfOk result (λ o. IsSome o ↔ IsCarveEnough (layout_of memory.now config depth)) }
+    ensures shared { IfOk result (λ o. IfSome o (λ s. shared_of (λ f. plain_row) s ≡ boot_shared (layout_of memory.now config depth))) }
+    ensures cpu_room { IfOk result (λ o. IfSome o (λ s. s.cpu_room ≡ config.log)) }
+    ensures small { IfOk result (λ o. IfSome o HasSmallRuns) }
+{
+    let carve = memory.carve();
+    let first = carve.first.0;
+    let hyp_pages = hyp_range(carve);
+    let host_root = root_tree(alloc, depth, first)?;
+    let hyp_root = root_tree(alloc, depth, first + 1)?;
+    let host_need = need(alloc, depth, &host_root, carve, host_entry())?;
+    let hyp_need = need(alloc, depth, &hyp_root, hyp_pages, hyp_entry(first))?;
+    if !is_enough(carve.count, host_need, hyp_need) {
+        return Ok(None);
+    }
+    let frames = frames_from(alloc, first, carve.count)?;
+    let spare = behind(frames.as_slice(), 2);
+    let rest = behind(spare, host_need);
+    let host = edited(alloc, depth, &host_root, carve, host_entry(), spare)?;
+    let hyp = edited(alloc, depth, &hyp_root, hyp_pages, hyp_entry(first), rest)?;
+    Ok(Some(Shared {
+        host,
+        hyp,
+        free: Vec::from_slice(alloc, behind(rest, hyp_need))?,
+        room: config.log,
+        cpu_room: config.log,
+    }))
+}
+
+/// The hypervisor's pages of the carve-out.
+fn hyp_range(carve: PageRange) -> PageRange
+    requires { carve.first.0 < 2 ^ 26 }
+    ensures { result ≡ record { first = record { 0 = hyp_page_of carve.first.0 }; count = carve.count } }
+{
+    PageRange {
+        first: Page(hyp_page(carve.first.0)),
+        count: carve.count,
+    }
+}
+
+/// The host's entry of the hypervisor's own pages.
+fn host_entry() -> Entry
+    ensures { result ≡ annotation 1 }
+{
+    Entry::Annotated(Owner(1))
+}
+
+/// The hypervisor's entry of a frame of its own.
+fn hyp_entry(frame: u64) -> Entry
+    ensures { result ≡ leaf Prot.RW frame State.Owned }
+{
+    Entry::Leaf {
+        frame: Frame(frame),
+        prot: Prot::RW,
+        kind: Kind::Normal,
+        state: State::Owned,
+    }
+}
+
+/// A tree of its root alone, in which nothing is mapped.
+fn root_tree(alloc: Global, depth: u64, root: u64) -> Result<Tree, AllocError>
+    requires { depth ≤ 3 }
+    ensures tree { IfOk result (λ t. (m : Memory) (config : AnyConfig) → tree_of t ≡ root_tree_of (layout_of m config depth) root) }
+    ensures small { IfOk result (λ t. AreSmall t.runs.items) }
+{
+    let mut tables = Vec::new(alloc);
+    tables.push(Table {
+        block: (depth + 1, 0),
+        frame: root,
+    })?;
+    Ok(Tree {
+        runs: Vec::new(alloc),
+        tables,
+    })
+}
+
+/// Whether so many frames are one for each root, and one for each table that the trees need beside it.
+fn is_enough(frames: u64, host_need: usize, hyp_need: usize) -> bool
+    ensures { IsTrue result ↔ (2 + host_need + hyp_need ≤ frames) }
+{
+    frames >= 2
+        && host_need as u64 <= frames - 2
+        && hyp_need as u64 <= frames - 2 - host_need as u64
+}
+
+/// The `count` frames from the first on.
+fn frames_from(alloc: Global, first: u64, count: u64) -> Result<Vec<u64>, AllocError>
+    requires { first + count ≤ 2 ^ 63 }
+    ensures { IfOk result (λ v. v.items ≡ frames_of first count) }
+{
+    let mut frames = Vec::new(alloc);
+    for i in 0..count {
+        frames.push(first + i)?;
+    }
+    Ok(frames)
+}

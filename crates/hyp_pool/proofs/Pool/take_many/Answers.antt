@@ -1,0 +1,27 @@
+use Rattle.std.proofs.Common.{◌≡◌, ◌+◌, ◌-◌, length, vec_len, arith}
+use Rattle.hyp_pool.proofs.Views.{lowest_first-drop, lowest_first-take}
+use Rattle.hyp_pool.proofs.Pools.{pool_take, low_taken}
+use Rattle.hyp_pool.proofs.Pool.take_many.Goals as goal
+
+-- the frames that stay and those that are taken are all
+all_frames : (c : goal.After-move_last) → vec_len c.self.inside.frames - c.args.n + c.args.n ≡ length c.self.inside.frames.items
+all_frames c = omega (arith, c.self.inside.frames.ok, c.if-n-free.false, c.len-free.ensures)
+
+pub invariant_of-self : goal.invariant_of-self
+invariant_of-self c =
+    rw c.move_last.ensures.left (
+      pool_take (vec_len c.self.inside.frames - c.args.n) c.self.inside.room c.self.inside.frames.items (omega (arith, all_frames c)) c.self.invariant.0,
+      omega (arith, c.self.invariant.1, c.move_last.ensures.capacity),
+    )
+
+pub returns-clause-pool : goal.returns-clause-pool
+returns-clause-pool c = (invariant_of-self c).0
+
+pub returns-clause-taken : goal.returns-clause-taken
+returns-clause-taken c = rw (c.move_last.ensures.moved, ← c.self.view_is) (lowest_first-drop (vec_len c.self.inside.frames - c.args.n) c.args.n c.self.inside.frames.items (all_frames c))
+
+pub returns-clause-left : goal.returns-clause-left
+returns-clause-left c = rw (c.move_last.ensures.left, ← c.self.view_is) (lowest_first-take (vec_len c.self.inside.frames - c.args.n) c.args.n c.self.inside.frames.items (all_frames c))
+
+pub returns-clause-low : goal.returns-clause-low
+returns-clause-low c = rw c.move_last.ensures.moved (low_taken (vec_len c.self.inside.frames - c.args.n) c.args.n c.self.inside.frames.items (all_frames c) c.self.invariant.0.low)

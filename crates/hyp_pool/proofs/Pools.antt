@@ -1,0 +1,49 @@
+-- What holds of every pool, after each change.
+use Rattle.std.proofs.Common.{◌≡◌, ℕ, ◌+◌, ◌-◌, ◌^◌, ◌<◌, ◌≤◌, List, length, take, drop, arith}
+use Rattle.std.specs.Prelude.{All, Contains, reverse}
+use Rattle.std.proofs.lemmas.List.{length-drop}
+use Rattle.std.proofs.lemmas.List.Elements.{All-drop, All-take}
+use Rattle.page_state.specs.declared.Frame.{Frame}
+use Rattle.page_state.specs.State.{Pool}
+use Rattle.page_state.specs.Boot.{frames_from}
+use Rattle.page_state.specs.Tables.{given}
+use Rattle.hyp_pool.specs.Pools.{Stored, IsPool, lowest_first}
+use Rattle.hyp_pool.proofs.Given.{given_length}
+use Rattle.hyp_pool.proofs.Order.{rising_drop, rising_given, rising_frames, all_given_one, low_frames, length-frames_from}
+use Rattle.hyp_pool.proofs.Views.{lowest_first-take, lowest_first-drop, all_kept}
+
+-- a pool of these frames, kept with the highest first
+abbrev pub kept : List Frame → ℕ → Stored
+kept fs room = record { frames = lowest_first fs; room = room }
+
+pub pool_of : (first n : ℕ) → first + n ≤ 2 ^ 36 → IsPool (record { frames = frames_from first n; room = n })
+pool_of first n h = record { rising = rising_frames first n; low = low_frames first n h; covered = omega (arith, length-frames_from first n) }
+
+pool_drop : (n : ℕ) (fs : Pool) (room : ℕ) → IsPool (record { frames = fs; room = room }) → IsPool (record { frames = drop n fs; room = room })
+pool_drop n fs room p = record {
+  rising = rising_drop n fs p.rising;
+  low = All-drop (λ f. f < 2 ^ 36) n fs p.low;
+  covered = omega (arith, length-drop n fs, p.covered);
+}
+
+-- the first frames of the list alone
+pub pool_take : (k room : ℕ) (fs : List Frame) → k ≤ length fs → IsPool (kept fs room) → IsPool (kept (take k fs) room)
+pool_take k room fs l p = rw (lowest_first-take k (length fs - k) fs (omega arith)) (pool_drop (length fs - k) (lowest_first fs) room p)
+
+pub pool_given : (f room : ℕ) (fs : Pool) → (Contains fs f → ⊥) → length fs < room → f < 2 ^ 36 → IsPool (record { frames = fs; room = room }) → IsPool (record { frames = given f fs; room = room })
+pool_given f room fs new l h p = record {
+  rising = rising_given f fs new p.rising;
+  low = all_given_one (λ g. g < 2 ^ 36) f fs h p.low;
+  covered = omega (arith, given_length f fs);
+}
+
+-- the last frames of the list, as they are taken
+pub low_taken : (k n : ℕ) (fs : List Frame) → k + n ≡ length fs → All (λ f. f < 2 ^ 36) (lowest_first fs) → All (λ (f : Frame). f.0 < 2 ^ 36) (reverse (drop k fs))
+low_taken k n fs h low = all_kept (λ f. f < 2 ^ 36) (reverse (drop k fs)) (rw (lowest_first-drop k n fs h) (All-take (λ f. f < 2 ^ 36) n (lowest_first fs) low))
+
+-- all frames from the first on, once none is left to make
+pub all_made : (first i k n : ℕ) → i ≤ 0 → k + i ≡ n → frames_from (first + i) k ≡ frames_from first n
+all_made first i k n h e =
+    let start : first + i ≡ first = omega arith in
+    let count : k ≡ n = omega arith in
+    cc

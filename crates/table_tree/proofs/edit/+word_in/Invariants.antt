@@ -1,4 +1,0 @@
-use Rattle.table_tree.proofs.edit.+word_in.Given as goal
-
-abbrev pub decreases-word_in : goal.decreases-word_in
-decreases-word_in g l = l.depth

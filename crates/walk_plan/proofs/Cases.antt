@@ -1,0 +1,23 @@
+-- Cases on tests and numbers.
+use Rattle.std.proofs.Common.{◌≡◌, ℕ, zero, suc, ◌<◌, ◌≤◌, refl, ap, arith, inl, inr, ◌⊎◌, Bool, true, false, Option, Some, None}
+use Rattle.std.proofs.lemmas.Bool.{cases_lt}
+
+pub by_test : {P : Type 0} (b : Bool) → (b ≡ true → P) → (b ≡ false → P) → P
+by_test true f g = f refl
+by_test false f g = g refl
+
+pub by_lt : {P : Type 0} (a b : ℕ) → (a < b → P) → (b ≤ a → P) → P
+by_lt {P} a b f g = elim (cases_lt a b) as (λ _. P) [ inl h ↦ f h | inr h ↦ g h ]
+
+last : (i n : ℕ) → i < suc n → (i < n) ⊎ (i ≡ n)
+last zero zero h = inr refl
+last zero (suc n) h = inl (omega arith)
+last (suc i) zero h = absurd (omega arith)
+last (suc i) (suc n) h = elim (last i n (omega arith)) [ inl x ↦ inl (omega arith) | inr x ↦ inr (ap suc x) ]
+
+pub by_last : {P : Type 0} (i n : ℕ) → i < suc n → (i < n → P) → (i ≡ n → P) → P
+by_last {P} i n h f g = elim (last i n h) as (λ _. P) [ inl x ↦ f x | inr x ↦ g x ]
+
+pub by_option : {P : Type 0} (o : Option ℕ) → ((f : ℕ) → o ≡ Some f → P) → (o ≡ None → P) → P
+by_option (Some f) g h = g f refl
+by_option None g h = h refl

@@ -1,0 +1,182 @@
+-- Entries: how they advance, when they are one, and which a word can say.
+use Rattle.std.proofs.Common.{◌≡◌, ℕ, zero, suc, ◌+◌, ◌*◌, ◌/◌, ◌%◌, ◌^◌, ◌<◌, ◌≤◌, refl, ap, arith, Bool, true, false, ◌&&◌, ◌==◌, nat_le, if◌then◌else◌, Option, Some}
+use Rattle.std.proofs.lemmas.Bool.Decides.{nat_tests}
+use Rattle.descriptor.specs.declared.Frame.{Frame}
+use Rattle.descriptor.specs.declared.Prot.{Prot}
+use Rattle.descriptor.specs.declared.Prot.TheVariants.{R, RW, RX, RWX}
+use Rattle.descriptor.specs.declared.Kind.{Kind}
+use Rattle.descriptor.specs.declared.Kind.TheVariants.{Normal, Device}
+use Rattle.descriptor.specs.declared.State.{State}
+use Rattle.descriptor.specs.declared.State.TheVariants.{Owned, SharedOwned, SharedBorrowed}
+use Rattle.descriptor.specs.declared.Level.{Level}
+use Rattle.descriptor.specs.declared.Desc.{Desc}
+use Rattle.descriptor.specs.declared.Desc.TheVariants.{Table as table_word}
+use Rattle.descriptor.specs.Word.{desc_of, CanBeSaid, block_pages as level_pages, field, is_upper, has_leaf_form, leaf_or_malformed, kind_of_bits, prot_of_bits, state_of_bits}
+use Rattle.page_state.specs.declared.entry.Entry.{Entry}
+use Rattle.page_state.specs.declared.entry.Entry.TheVariants.{Unmapped, Malformed, Annotated, Leaf}
+use Rattle.page_state.specs.Entries.{advance, entry_of_word, word_of_entry}
+use Rattle.page_state.specs.EntryTests.{prot_eq, kind_eq, state_eq, entry_eq}
+use Rattle.page_state.specs.Blocks.{fits_word}
+use Rattle.page_state.specs.Laws.{FitsWord}
+use Rattle.page_state.proofs.Blocks.{fits_each_word}
+use Rattle.table_tree.specs.Meaning.{level_at, block_pages}
+use Rattle.table_tree.specs.Shape.{IsWellFormed, IsEntryWord}
+
+-- tests
+
+pub and_both : (a b : Bool) → a && b ≡ true → (a ≡ true) × (b ≡ true)
+and_both true b h = (refl, h)
+and_both false b h = cc
+
+pub and_join : (a b : Bool) → a ≡ true → b ≡ true → a && b ≡ true
+and_join true b h k = k
+and_join false b h k = cc
+
+pub eq_self : (n : ℕ) → (n == n) ≡ true
+eq_self n = grind (arith, nat_tests)
+
+pub eq_same : (m n : ℕ) → (m == n) ≡ true → m ≡ n
+eq_same m n h = grind (arith, nat_tests)
+
+pub eq_made : (m n : ℕ) → m ≡ n → (m == n) ≡ true
+eq_made m n h = grind (arith, nat_tests)
+
+pub eq_differ : (m n : ℕ) → (m == n) ≡ false → m ≡ n → ⊥
+eq_differ m n h e = let x = eq_made m n e in cc
+
+-- how entries advance
+
+pub advance_twice : (x : Entry) (m n : ℕ) → advance (advance x m) n ≡ advance x (m + n)
+advance_twice Malformed m n = refl
+advance_twice Unmapped m n = refl
+advance_twice (Annotated o) m n = refl
+advance_twice (Leaf f p k s) m n = let e : f.0 + m + n ≡ f.0 + (m + n) = omega arith in ap (λ a. Leaf (record { 0 = a }) p k s) e
+
+pub advance_none : (x : Entry) → advance x 0 ≡ x
+advance_none Malformed = refl
+advance_none Unmapped = refl
+advance_none (Annotated o) = refl
+advance_none (Leaf f p k s) = let e : f.0 + 0 ≡ f.0 = omega arith in ap (λ a. Leaf (record { 0 = a }) p k s) e
+
+leaf_same : {f g : Frame} {p q : Prot} {k j : Kind} {s t : State} → f.0 ≡ g.0 → p ≡ q → k ≡ j → s ≡ t → Leaf f p k s ≡ Leaf g q j t
+leaf_same {f} {g} a b c d = let e : f ≡ g = ap (λ x. record { 0 = x }) a in cc
+
+-- two entries that are one so far on are one
+pub advance_back : (x y : Entry) (n : ℕ) → advance x n ≡ advance y n → x ≡ y
+advance_back (Leaf f p k s) (Leaf g q j t) n h =
+    let wrap : ℕ → Frame = λ a. record { 0 = a } in
+    let e : wrap (f.0 + n) ≡ wrap (g.0 + n) = cc in
+    let d : f.0 + n ≡ g.0 + n = ap (λ (z : Frame). z.0) e in
+    leaf_same (omega arith) (cc) (cc) (cc)
+advance_back (Annotated o) (Annotated q) n h = h
+advance_back Unmapped Unmapped n h = refl
+advance_back Malformed Malformed n h = refl
+advance_back x y n h = cc
+
+-- equality of entries, as a test
+
+prot_eq_same : (p q : Prot) → prot_eq p q ≡ true → p ≡ q
+prot_eq_same R R h = refl
+prot_eq_same RW RW h = refl
+prot_eq_same RX RX h = refl
+prot_eq_same RWX RWX h = refl
+prot_eq_same p q h = cc
+
+prot_eq_self : (p : Prot) → prot_eq p p ≡ true
+prot_eq_self R = refl
+prot_eq_self RW = refl
+prot_eq_self RX = refl
+prot_eq_self RWX = refl
+
+kind_eq_same : (a b : Kind) → kind_eq a b ≡ true → a ≡ b
+kind_eq_same Normal Normal h = refl
+kind_eq_same Device Device h = refl
+kind_eq_same a b h = cc
+
+kind_eq_self : (a : Kind) → kind_eq a a ≡ true
+kind_eq_self Normal = refl
+kind_eq_self Device = refl
+
+state_eq_same : (a b : State) → state_eq a b ≡ true → a ≡ b
+state_eq_same Owned Owned h = refl
+state_eq_same SharedOwned SharedOwned h = refl
+state_eq_same SharedBorrowed SharedBorrowed h = refl
+state_eq_same a b h = cc
+
+state_eq_self : (a : State) → state_eq a a ≡ true
+state_eq_self Owned = refl
+state_eq_self SharedOwned = refl
+state_eq_self SharedBorrowed = refl
+
+pub entry_eq_same : (a b : Entry) → entry_eq a b ≡ true → a ≡ b
+entry_eq_same Unmapped Unmapped h = refl
+entry_eq_same Malformed Malformed h = refl
+entry_eq_same (Annotated o) (Annotated q) h = ap (λ x. Annotated (record { 0 = x })) (eq_same o.0 q.0 h)
+entry_eq_same (Leaf f p k s) (Leaf g q j t) h =
+    let a = and_both (f.0 == g.0 && prot_eq p q && kind_eq k j) (state_eq s t) h in
+    let b = and_both (f.0 == g.0 && prot_eq p q) (kind_eq k j) a.0 in
+    let c = and_both (f.0 == g.0) (prot_eq p q) b.0 in
+    leaf_same (eq_same f.0 g.0 c.0) (prot_eq_same p q c.1) (kind_eq_same k j b.1) (state_eq_same s t a.1)
+entry_eq_same a b h = cc
+
+pub entry_eq_self : (a : Entry) → entry_eq a a ≡ true
+entry_eq_self Unmapped = refl
+entry_eq_self Malformed = refl
+entry_eq_self (Annotated o) = eq_self o.0
+entry_eq_self (Leaf f p k s) = simp (eq_self f.0, prot_eq_self p, kind_eq_self k, state_eq_self s)
+
+-- what words of trees say
+
+record IsSayable (l : Level) (x : Desc) : Type 0 where
+  says : IsWellFormed (entry_of_word x) → CanBeSaid l (word_of_entry (entry_of_word x))
+
+either : (l : Level) (b : Bool) (x y : Desc) → (b ≡ true → IsSayable l x) → (b ≡ false → IsSayable l y) → IsSayable l (if b then x else y)
+either l true x y f g = f refl
+either l false x y f g = g refl
+
+leaf_said : (l : Level) (form : Bool) (k : Option Kind) (p : Option Prot) (s : Option State) (f : ℕ) → (form ≡ true → (f < 2 ^ 36) × (f % level_pages l ≡ 0)) → IsSayable l (leaf_or_malformed form k p s f)
+leaf_said l true (Some k) (Some p) (Some s) f h = record { says = λ e. h refl }
+leaf_said l form k p s f h = record { says = λ e. absurd e }
+
+aligned : (a : Bool) (f s : ℕ) → a && (f % s == 0) ≡ true → f % s ≡ 0
+aligned a f s h = eq_same (f % s) 0 (and_both a (f % s == 0) h).1
+
+owner_said : (w : ℕ) → (w == 0) ≡ false → w % 4 == 0 && nat_le (w / 4) 255 ≡ true → (1 ≤ w / 4) × (w / 4 ≤ 255)
+owner_said w p q =
+    let x = and_both (w % 4 == 0) (nat_le (w / 4) 255) q in
+    let y = eq_same (w % 4) 0 x.0 in
+    let z : w / 4 ≤ 255 = let u : nat_le (w / 4) 255 ≡ true = x.1 in grind (arith, nat_tests) in
+    let v : w ≡ 0 → ⊥ = λ e. let u = eq_made w 0 e in cc in
+    (omega arith, z)
+
+abbrev leaf_of : Level → ℕ → Desc
+leaf_of l w = leaf_or_malformed (has_leaf_form l w && field w 12 36 % level_pages l == 0) (kind_of_bits (field w 2 4)) (prot_of_bits (field w 6 2) (field w 54 1)) (state_of_bits (field w 55 2)) (field w 12 36)
+
+word_said : (l : Level) (w : ℕ) → IsSayable l (desc_of l w)
+unfolding desc_of
+word_said l w =
+    either l (w == 0) _ _ (λ _. record { says = λ _. tt }) (λ p. either l _ _ _ (λ q. record { says = λ e. owner_said w p q })
+    (λ _. either l (is_upper l && field w 0 12 == 3 && field w 48 16 == 0) (table_word (record { 0 = field w 12 36 })) (leaf_of l w) (λ _. record { says = λ e. absurd e })
+    (λ _. leaf_said l _ (kind_of_bits (field w 2 4)) (prot_of_bits (field w 6 2) (field w 54 1)) (state_of_bits (field w 55 2)) (field w 12 36) (λ t. (omega arith, aligned (has_leaf_form l w) (field w 12 36) (level_pages l) t)))))
+
+fits : (d : ℕ) → d < 3 → FitsWord d (level_at d)
+fits zero p = fits_each_word.0
+fits (suc zero) p = fits_each_word.1
+fits (suc (suc zero)) p = fits_each_word.2
+fits (suc (suc (suc d))) p = absurd (omega arith)
+
+-- what a word of a tree gives fits a word of its depth
+pub word_fits : (d w : ℕ) → d < 3 → IsEntryWord d w → fits_word d (entry_of_word (desc_of (level_at d) w)) ≡ true
+word_fits d w p h = (fits d p (entry_of_word (desc_of (level_at d) w))).1 ((word_said (level_at d) w).says h.1)
+
+can_part : (d i : ℕ) (x : Entry) → d + 1 < 3 → i < 512 → CanBeSaid (level_at (suc d)) (word_of_entry x) → CanBeSaid (level_at d) (word_of_entry (advance x (i * block_pages d)))
+can_part d i Malformed p r h = absurd h
+can_part d i Unmapped p r h = tt
+can_part d i (Annotated o) p r h = h
+can_part zero i (Leaf f a k s) p r h = let x = h.0 in let y = h.1 in (omega arith, omega arith)
+can_part (suc zero) i (Leaf f a k s) p r h = let x = h.0 in let y = h.1 in (omega arith, omega arith)
+can_part (suc (suc d)) i (Leaf f a k s) p r h = absurd (omega arith)
+
+-- the parts of what fits a word fit a word one level below
+pub part_fits : (d i : ℕ) (x : Entry) → suc d < 3 → i < 512 → fits_word (suc d) x ≡ true → fits_word d (advance x (i * block_pages d)) ≡ true
+part_fits d i x p r h = (fits d (omega arith) (advance x (i * block_pages d))).1 (can_part d i x (omega arith) r ((fits (suc d) p x).0 h))

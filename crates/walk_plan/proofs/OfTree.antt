@@ -1,0 +1,53 @@
+-- A change of a range of a tree, and the blocks on its range.
+use Rattle.std.proofs.Common.{◌≡◌, ℕ, suc, ◌+◌, ◌-◌, ◌<◌, ◌≤◌, refl, arith, inl, inr, ◌⊎◌, true, false}
+use Rattle.std.proofs.lemmas.Bool.Decides.{nat_tests}
+use Rattle.page_state.specs.declared.entry.Entry.{Entry}
+use Rattle.page_state.specs.declared.layout.Geometry.{Geometry}
+use Rattle.page_state.specs.declared.layout.Geometry.TheVariants.{Bits39}
+use Rattle.page_state.specs.Entries.{advance}
+use Rattle.page_state.specs.Map.{Map, is_within, update}
+use Rattle.page_state.specs.Blocks.{blocks_on}
+use Rattle.table_tree.specs.declared.tree.Tree.{Tree}
+use Rattle.table_tree.specs.Geometry.{levels_below, input_pages}
+use Rattle.table_tree.specs.View.{meaning}
+use Rattle.walk_plan.specs.declared.change.Change.{Change}
+use Rattle.walk_plan.specs.Changes.{part}
+use Rattle.walk_plan.proofs.Numbers.{part_all}
+use Rattle.walk_plan.proofs.Walked.{below}
+use Rattle.walk_plan.proofs.Ordered.{blocks_below}
+use Rattle.walk_plan.proofs.OneWord.{IsMade}
+use Rattle.walk_plan.proofs.Matched.{all_pages}
+
+within_test : (f n q : ℕ) → f ≤ q → q < f + n → is_within f n q ≡ true
+within_test f n q h k = grind (arith, nat_tests)
+
+outside_test : (f n q : ℕ) → (q < f) ⊎ (f + n ≤ q) → is_within f n q ≡ false
+outside_test f n q h = elim h [ inl p ↦ before f n q p | inr p ↦ after f n q p ]
+  where
+    before : (f n q : ℕ) → q < f → is_within f n q ≡ false
+    before f n q h = grind (arith, nat_tests)
+
+    after : (f n q : ℕ) → f + n ≤ q → is_within f n q ≡ false
+    after f n q h = grind (arith, nat_tests)
+
+pub update_inside : (m : Map) (f n : ℕ) (e : Entry) (q : ℕ) → f ≤ q → q < f + n → update m f n e q ≡ advance e (q - f)
+update_inside m f n e q h k = rw (within_test f n q h k) refl
+
+pub update_outside : (m : Map) (f n : ℕ) (e : Entry) (q : ℕ) → (q < f) ⊎ (f + n ≤ q) → update m f n e q ≡ m q
+update_outside m f n e q h = rw (outside_test f n q h) refl
+
+pub low_depth : (g : Geometry) → levels_below g < 3
+low_depth Bits39 = omega arith
+
+module _ {A : Type 0} (t : Tree A) (first count : ℕ) (e : Entry) (c : Change) (some : 0 < count) (within : first + count ≤ input_pages t.geometry) (from : c.first ≡ first) (to : c.end ≡ first + count) (gives : c.entry ≡ e) where
+  pub made_tree : IsMade c (meaning t) (update (meaning t) first count e)
+  made_tree = record {
+    inside = λ q p r. rw (from, gives) (update_inside (meaning t) first count e q (omega arith) (omega arith));
+    outside = λ q h. update_outside (meaning t) first count e q (elim h [ inl p ↦ inl (omega arith) | inr p ↦ inr (omega arith) ]);
+  }
+
+  pub blocks_tree : blocks_on (levels_below t.geometry) first count ≡ below c (levels_below t.geometry) 0
+  blocks_tree = blocks_below c (levels_below t.geometry) first count some (let p = all_pages t in omega arith) from to
+
+  pub whole_part : part (suc (levels_below t.geometry)) 0 c ≡ c
+  whole_part = part_all (suc (levels_below t.geometry)) c (let p = all_pages t in omega arith)

@@ -1,0 +1,16 @@
+use Rattle.std.proofs.Common.{◌≡◌, ℕ, ◌+◌, ◌≤◌, length}
+use Rattle.page_state.specs.Tables.{all_given}
+use Rattle.table_tree.specs.Stocks.{frames_of}
+use Rattle.table_tree.specs.Tables.{frame_count}
+use Rattle.walk_plan.proofs.spare.drain.Given as goal
+
+abbrev pub invariant-loop-table : goal.invariant-loop-table
+invariant-loop-table g l = record {
+  frames : all_given (frames_of l.stock) l.pool.frames ≡ all_given (frames_of l.initial.stock) l.initial.pool.frames;
+  room : l.pool.room ≡ l.initial.pool.room;
+  distinct : (f : ℕ) → frame_count f (frames_of l.stock) + frame_count f l.pool.frames ≤ 1;
+  covered : length (frames_of l.stock) + length l.pool.frames ≤ l.pool.room;
+}
+
+abbrev pub decreases-loop-table : goal.decreases-loop-table
+decreases-loop-table g l = length (frames_of l.stock)

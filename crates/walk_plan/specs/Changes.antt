@@ -1,0 +1,77 @@
+-- Changes of some pages of a block, their parts, and what they need. Depths count the levels below, pages the block's.
+use Rattle.std.specs.Prelude.{ℕ, zero, suc, ◌+◌, ◌-◌, ◌*◌, ◌%◌, ◌^◌, ◌<◌, ◌≤◌, ◌==◌, ◌&&◌, ◌||◌, nat_lt, nat_le, min, Bool, if◌then◌else◌}
+use Rattle.descriptor.specs.Word.{desc_of, CanBeSaid}
+use Rattle.descriptor.specs.declared.Level.TheVariants.{Three}
+use Rattle.page_state.specs.declared.entry.Entry.{Entry}
+use Rattle.page_state.specs.declared.entry.Entry.TheVariants.{Unmapped, Malformed, Annotated, Leaf}
+use Rattle.page_state.specs.Entries.{advance, entry_of_word, word_of_entry}
+use Rattle.page_state.specs.EntryTests.{entry_eq}
+use Rattle.page_state.specs.Blocks.{fits_word}
+use Rattle.table_tree.specs.declared.table.Table.{Table}
+use Rattle.table_tree.specs.declared.table.Slot.{Slot}
+use Rattle.table_tree.specs.Meaning.{level_at, block_pages, slot_at, slot_case}
+use Rattle.walk_plan.specs.declared.change.Change.{Change}
+
+-- an entry that words of the last level can say on `n` pages
+abbrev pub IsRangeEntry : ℕ → Entry → Type 0
+IsRangeEntry n Malformed = ⊥
+IsRangeEntry n Unmapped = Unit {0}
+IsRangeEntry n (Annotated owner) = (1 ≤ owner.0) × (owner.0 ≤ 255)
+IsRangeEntry n (Leaf frame prot kind state) = frame.0 + n ≤ 2 ^ 36
+
+-- words of the last level can say an entry and what it advances to on `n` pages
+abbrev pub CanBeSaidOn : ℕ → Entry → Type 0
+CanBeSaidOn n e = (i : ℕ) → i < n → CanBeSaid Three (word_of_entry (advance e i))
+
+-- a change of some pages of a block
+pub record IsChange (depth : ℕ) (c : Change) : Type 0 where
+  pub some : c.first < c.end
+  pub within : c.end ≤ block_pages depth
+  pub entry : IsRangeEntry (c.end - c.first) c.entry
+
+-- the entries `m` of a block with a change made
+abbrev pub changed : ℕ → (ℕ → Entry) → Change → ℕ → Entry
+changed depth m c q = if nat_le c.first (q % block_pages depth) && nat_lt (q % block_pages depth) c.end then advance c.entry (q % block_pages depth - c.first) else m q
+
+-- what a change does in part `i` of its block, whose parts have `depth` levels below them
+abbrev pub part : ℕ → ℕ → Change → Change
+part depth i c = record { first = c.first - i * block_pages depth; end = min (c.end - i * block_pages depth) (block_pages depth); entry = advance c.entry (i * block_pages depth - c.first) }
+
+-- a change of a whole block to what one word can say
+abbrev pub is_whole : ℕ → Change → Bool
+is_whole depth c = c.first == 0 && c.end == block_pages depth && fits_word depth c.entry
+
+-- a block without a table whose first page has the entry `x` is one word after a change
+abbrev pub is_one_word : ℕ → Entry → Change → Bool
+is_one_word depth x c = is_whole depth c || entry_eq (advance x c.first) c.entry
+
+-- the sum of the first values of a function
+unfoldable pub sum_to : (ℕ → ℕ) → ℕ → ℕ
+sum_to f zero = 0
+sum_to f (suc n) = sum_to f n + f n
+
+-- what `f` gives for part `i`, where the change meets it
+unfoldable pub met : ℕ → Change → (ℕ → Change → ℕ) → ℕ → ℕ
+met depth c f i = if nat_lt (part depth i c).first (part depth i c).end then f i (part depth i c) else 0
+
+-- the tables that a change needs in a block without a table
+unfoldable pub block_need : ℕ → Entry → Change → ℕ
+block_need zero x c = 0
+block_need (suc depth) x c = if is_one_word (suc depth) x c then 0 else 1 + sum_to (met depth c (λ i. block_need depth (advance x (i * block_pages depth)))) 512
+
+-- what it needs in part `i` of such a block
+unfoldable pub block_parts : ℕ → Entry → ℕ → Change → ℕ
+block_parts depth x i c = block_need depth (advance x (i * block_pages depth)) c
+
+-- what it needs in a slot
+unfoldable pub slot_need : {A : Type 0} → ℕ → Slot A → Change → ℕ
+slot_need zero s c = 0
+slot_need (suc depth) s c = slot_case (λ w. block_need (suc depth) (entry_of_word (desc_of (level_at (suc depth)) w)) c) (λ t. sum_to (met depth c (λ i. slot_need depth (slot_at t i))) 512) s
+
+-- what it needs in slot `i` of a table
+unfoldable pub table_parts : {A : Type 0} → ℕ → Table A → ℕ → Change → ℕ
+table_parts depth t i c = slot_need depth (slot_at t i) c
+
+-- what it needs in a table
+abbrev pub table_need : {A : Type 0} → ℕ → Table A → Change → ℕ
+table_need depth t c = sum_to (met depth c (table_parts depth t)) 512

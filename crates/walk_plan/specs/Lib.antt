@@ -1,0 +1,4 @@
+pub mod Changes
+pub mod Ranks
+pub mod Looks
+pub mod NewTree

@@ -1,0 +1,10 @@
+//! What a change of a range of a tree needs, and the tables in hand for it.
+#![tactic(auto)]
+
+mod change;
+mod needs;
+mod spare;
+
+pub use change::Change;
+pub use needs::{need, need_of_block, need_of_new, need_of_table};
+pub use spare::{Spare, drain, release, reserve};

@@ -1,0 +1,108 @@
+-- A tree whose root table was changed is the edited tree.
+use Rattle.std.proofs.Common.{◌≡◌, ℕ, zero, suc, ◌+◌, ◌-◌, ◌*◌, ◌/◌, ◌^◌, ◌<◌, ◌≤◌, refl, sym, ap, arith, ◌∙◌, cond, Option, None, List, [], length, take, drop}
+use Rattle.std.specs.Prelude.{nat_lt}
+use mathlib.Core.Path.{fun_ext}
+use Rattle.std.proofs.lemmas.List.{take_all}
+use Rattle.page_state.specs.declared.entry.Entry.{Entry}
+use Rattle.page_state.specs.declared.entry.Entry.TheVariants.{Unmapped}
+use Rattle.page_state.specs.declared.layout.Geometry.{Geometry}
+use Rattle.page_state.specs.Map.{Map}
+use Rattle.page_state.specs.State.{Block, Pool, Tree as ReferenceTree}
+use Rattle.page_state.specs.Tables.{put, need, returned, edited, all_given}
+use Rattle.hyp_pool.specs.Laws.{GivenCounted}
+use Rattle.table_tree.specs.declared.table.Table.{Table}
+use Rattle.table_tree.specs.declared.tree.Tree.{Tree}
+use Rattle.table_tree.specs.Geometry.{levels_below, input_pages}
+use Rattle.table_tree.specs.Meaning.{block_pages, entry_at, frame_of}
+use Rattle.table_tree.specs.Tables.{tables_in, uses_in, table_in, frame_count}
+use Rattle.table_tree.specs.View.{tree_of, meaning, table_at, uses, tables_of, root_of}
+use Rattle.walk_plan.specs.declared.change.Change.{Change}
+use Rattle.walk_plan.specs.Changes.{table_need}
+use Rattle.walk_plan.specs.Ranks.{table_gone}
+use Rattle.walk_plan.proofs.Needed.{need_walked}
+use Rattle.walk_plan.proofs.Edited.{IsWalked, tree_edited}
+use Rattle.walk_plan.proofs.Gone.{gone_returned}
+use Rattle.walker.proofs.Blank.{unmapped_gone}
+use Rattle.walker.proofs.Slotted.{IsGrown}
+
+same_record : {m n : Map} {a b : Block → Option ℕ} → m ≡ n → a ≡ b → ◌≡◌ {A = ReferenceTree} (record { map = m; table = a }) (record { map = n; table = b })
+same_record e f = rw (e, f) refl
+
+module _ {A : Type 0} where
+  pub root_is : (t u : Tree A) → frame_of u.table ≡ frame_of t.table → root_of u ≡ root_of t
+  unfolding root_of
+  root_is t u h = h
+
+  pub uses_are : (t : Tree A) (f : ℕ) → uses t f ≡ uses_in (levels_below t.geometry) t.table f
+  unfolding uses
+  uses_are t f = refl
+
+  pub tables_are : (t : Tree A) → tables_of t ≡ tables_in (levels_below t.geometry) t.table
+  unfolding tables_of
+  tables_are t = refl
+
+  by_table : {R : Type 0} (t u : Tree A) → t.geometry ≡ u.geometry → t.table ≡ u.table → (of : Geometry → Table A → R) → of t.geometry t.table ≡ of u.geometry u.table
+  by_table t u g h of = ap (λ x. of x t.table) g ∙ ap (λ x. of u.geometry x) h
+
+  same_at : (depth number : ℕ) (t u : Tree A) → t.geometry ≡ u.geometry → t.table ≡ u.table → table_at t depth number ≡ table_at u depth number
+  unfolding table_at
+  same_at zero number t u g h = refl
+  same_at (suc low) number t u g h = by_table t u g h (λ x y. cond (nat_lt (number * block_pages (suc low)) (input_pages x)) (table_in (levels_below x) y low (number * block_pages (suc low))) None)
+
+  -- what contracts see of a tree hangs on its geometry and its root table
+  pub same_tree : (t u : Tree A) → t.geometry ≡ u.geometry → t.table ≡ u.table → tree_of t ≡ tree_of u
+  unfolding meaning table_at
+  same_tree t u g h = same_record (fun_ext (λ page. by_table t u g h (λ x y. cond (nat_lt page (input_pages x)) (entry_at (levels_below x) y page) Unmapped))) (fun_ext (λ b. same_at b.0 b.1 t u g h))
+
+  pub same_uses : (t u : Tree A) → t.geometry ≡ u.geometry → t.table ≡ u.table → (f : ℕ) → uses t f ≡ uses u f
+  same_uses t u g h f = uses_are t f ∙ ap (λ x. uses_in (levels_below x) t.table f) g ∙ ap (λ x. uses_in (levels_below u.geometry) x f) h ∙ sym (uses_are u f)
+
+  pub same_count : (t u : Tree A) → t.geometry ≡ u.geometry → t.table ≡ u.table → tables_of t ≡ tables_of u
+  same_count t u g h = tables_are t ∙ ap (λ x. tables_in (levels_below x) t.table) g ∙ ap (λ x. tables_in (levels_below u.geometry) x) h ∙ sym (tables_are u)
+
+  tables_some : (d : ℕ) (t : Table A) → 1 ≤ tables_in d t
+  unfolding tables_in
+  tables_some zero t = omega arith
+  tables_some (suc d) t = omega arith
+
+  -- a tree has its root
+  pub tree_some : (t : Tree A) → 1 ≤ tables_of t
+  tree_some t = let e = tables_are t in let s = tables_some (levels_below t.geometry) t.table in omega (arith, e, s)
+
+module _ {A : Type 0} (t u : Tree A) (first count : ℕ) (e : Entry) (c : Change) (fs rest : List ℕ) (some : 0 < count) (within : first + count ≤ input_pages t.geometry) (from : c.first ≡ first) (to : c.end ≡ first + count) (gives : c.entry ≡ e)
+    (geometry : u.geometry ≡ t.geometry) (just : length fs ≡ need (levels_below t.geometry) (tree_of t) (put first count e)) (grown : IsGrown (levels_below t.geometry) t.table u.table c fs rest) where
+  need_is : table_need (levels_below t.geometry) t.table c ≡ length fs
+  need_is = need_walked t first count e c some within from to gives ∙ sym just
+
+  walked : IsWalked t u c fs
+  walked = record {
+    geometry = geometry;
+    frame = grown.frame;
+    enough = let n = need_is in omega (arith, n);
+    map = grown.map;
+    kept = grown.kept;
+    gone = λ low q l h. unmapped_gone (levels_below t.geometry) u.table low q grown.shape grown.tight l h;
+    full = λ low q l h. unmapped_gone (levels_below t.geometry) t.table low q t.shaped t.tight l h;
+  }
+
+  pub edited_tree : tree_of u ≡ edited (levels_below t.geometry) (tree_of t) (put first count e) fs
+  edited_tree = tree_edited t u first count e c fs some within from to gives walked
+
+  -- each frame is where it was, or was moved
+  pub moved : (f : ℕ) → uses u f + table_gone (levels_below t.geometry) t.table c f ≡ uses t f + frame_count f fs
+  moved f =
+      let a = uses_are t f in
+      let b : uses u f ≡ uses_in (levels_below t.geometry) u.table f = uses_are u f ∙ ap (λ g. uses_in (levels_below g) u.table f) geometry in
+      let k : frame_count f (take (table_need (levels_below t.geometry) t.table c) fs) ≡ frame_count f fs = ap (λ n. frame_count f (take n fs)) need_is ∙ ap (frame_count f) (take_all (length fs) fs (omega arith)) in
+      omega (arith, a, b, k, grown.uses f)
+
+  pub counted : (before after : ℕ) → tables_in (levels_below t.geometry) u.table + after ≡ tables_in (levels_below t.geometry) t.table + table_need (levels_below t.geometry) t.table c + before → tables_of u + after ≡ tables_of t + length fs + before
+  counted before after h =
+      let a = tables_are t in
+      let b : tables_of u ≡ tables_in (levels_below t.geometry) u.table = tables_are u ∙ ap (λ g. tables_in (levels_below g) u.table) geometry in
+      let n = need_is in
+      omega (arith, a, b, n, h)
+
+  -- the frames that went are those that come back
+  pub came_back : GivenCounted → (gs : List ℕ) (p : Pool) → ((f : ℕ) → frame_count f gs ≡ table_gone (levels_below t.geometry) t.table c f) → all_given gs p ≡ all_given (returned (levels_below t.geometry) (tree_of t) (put first count e)) p
+  came_back law gs p h = law gs (returned (levels_below t.geometry) (tree_of t) (put first count e)) p (λ f. h f ∙ gone_returned t first count e c some within from to gives f)

@@ -1,0 +1,12 @@
+pub mod NoneWord
+pub mod Maps
+pub mod Ranks
+pub mod Parts
+pub mod Blank
+pub mod Emptied
+pub mod Opened
+pub mod Writes
+pub mod Slotted
+pub mod Walked
+pub mod Changed
+pub mod Taken

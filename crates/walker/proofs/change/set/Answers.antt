@@ -1,0 +1,30 @@
+use Rattle.std.proofs.Common.{◌≡◌, ℕ, ◌+◌, ◌≤◌, sym, ap, arith, ◌∙◌, take, drop}
+use Rattle.page_state.specs.Tables.{put, need, edited}
+use Rattle.table_tree.specs.Geometry.{levels_below}
+use Rattle.table_tree.specs.Stocks.{frames_of}
+use Rattle.table_tree.specs.Tables.{frame_count}
+use Rattle.table_tree.specs.View.{tree_of, uses}
+use Rattle.walker.proofs.Taken.{edited_take, count_parts}
+use Rattle.walker.proofs.change.set.Goals as goal
+
+pub set_with-requires-clause-distinct : goal.set_with-requires-clause-distinct
+set_with-requires-clause-distinct g c f =
+    let p = c.args.pool.now.frames in
+    let n = need (levels_below c.args.tree.now.geometry) (tree_of c.args.tree.now) (put c.args.range.first.0 c.args.range.count c.args.entry) in
+    let a : frame_count f (frames_of c.in_ok-spare.spare.stock) ≡ frame_count f (take n p) = ap (frame_count f) c.in_ok-spare.ensures.spare in
+    let b : frame_count f c.reserve.new.pool.frames ≡ frame_count f (drop n p) = ap (frame_count f) c.in_ok-spare.ensures.pool in
+    omega (arith, a, b, count_parts f n p, c.requires.distinct f)
+
+pub returns-clause-tree : goal.returns-clause-tree
+returns-clause-tree g c =
+    let t = c.args.tree.now in
+    let e = put c.args.range.first.0 c.args.range.count c.args.entry in
+    c.set_with.ensures.tree ∙ ap (edited (levels_below t.geometry) (tree_of t) e) c.in_ok-spare.ensures.spare ∙ edited_take (levels_below t.geometry) (tree_of t) e c.args.pool.now.frames
+
+pub returns-clause-frames : goal.returns-clause-frames
+returns-clause-frames g c f =
+    let p = c.args.pool.now.frames in
+    let n = need (levels_below c.args.tree.now.geometry) (tree_of c.args.tree.now) (put c.args.range.first.0 c.args.range.count c.args.entry) in
+    let a : frame_count f (frames_of c.in_ok-spare.spare.stock) ≡ frame_count f (take n p) = ap (frame_count f) c.in_ok-spare.ensures.spare in
+    let b : frame_count f c.reserve.new.pool.frames ≡ frame_count f (drop n p) = ap (frame_count f) c.in_ok-spare.ensures.pool in
+    c.set_with.ensures.frames f ∙ omega (arith, a, b, count_parts f n p)

@@ -1,0 +1,35 @@
+use Rattle.std.proofs.Common.{◌≡◌, ℕ, ◌+◌, ◌-◌, ◌*◌, ◌/◌, ◌^◌, ◌≤◌, ◌<◌, drop, take, length}
+use Rattle.table_tree.specs.Meaning.{index_at, block_pages, slot_at, frame_of, entry_at}
+use Rattle.table_tree.specs.Reading.{count_of}
+use Rattle.table_tree.specs.Shape.{IsShaped}
+use Rattle.table_tree.specs.Stocks.{frames_of}
+use Rattle.table_tree.specs.Tables.{tables_in, uses_in, table_in, frame_count}
+use Rattle.table_tree.specs.Tight.{IsTight}
+use Rattle.walk_plan.specs.Changes.{changed, met, sum_to, table_parts}
+use Rattle.walk_plan.specs.Ranks.{gone_parts}
+use Rattle.walk_plan.proofs.Looks.{done, ends}
+use Rattle.walker.specs.Walks.{upto}
+use Rattle.walker.proofs.Walked.{IsKept}
+use Rattle.walker.proofs.walk.+walk.Given as goal
+
+abbrev pub decreases-set_slot : goal.decreases-set_slot
+decreases-set_slot g l = 2 * l.depth
+
+abbrev pub decreases-set_all : goal.decreases-set_all
+decreases-set_all g l = 2 * l.depth + 1
+
+abbrev pub invariant-set_all-loop-i : goal.invariant-set_all-loop-i
+invariant-set_all-loop-i g l = record {
+  frame : frame_of l.table ≡ frame_of l.initial.table;
+  shape : IsShaped l.depth l.table;
+  tight : IsTight l.depth l.table;
+  map : (q : ℕ) → entry_at l.depth l.table q ≡ changed (l.depth + 1) (entry_at l.depth l.initial.table) (upto l.change (l.i * block_pages l.depth)) q;
+  rest : (k : ℕ) → l.i ≤ k → slot_at l.table k ≡ slot_at l.initial.table k;
+  stand : (low q : ℕ) → low < l.depth → l.i ≤ index_at l.depth q → table_in l.depth l.table low q ≡ table_in l.depth l.initial.table low q;
+  kept : IsKept l.depth l.i l.change (frames_of l.initial.spare) l.initial.table l.table;
+  spare : frames_of l.spare ≡ drop (sum_to (met l.depth l.change (table_parts l.depth l.initial.table)) l.i) (frames_of l.initial.spare);
+  uses : (f : ℕ) → uses_in l.depth l.table f + sum_to (met l.depth l.change (gone_parts l.depth l.initial.table f)) l.i ≡ uses_in l.depth l.initial.table f + frame_count f (take (sum_to (met l.depth l.change (table_parts l.depth l.initial.table)) l.i) (frames_of l.initial.spare));
+  freed : (f : ℕ) → frame_count f (frames_of l.freed) ≡ sum_to (met l.depth l.change (gone_parts l.depth l.initial.table f)) l.i + frame_count f (frames_of l.initial.freed);
+  tables : tables_in l.depth l.table + length (frames_of l.freed) ≡ tables_in l.depth l.initial.table + sum_to (met l.depth l.change (table_parts l.depth l.initial.table)) l.i + length (frames_of l.initial.freed);
+  reads : 2 * count_of l.reads + 3 * (l.i - l.change.first / block_pages l.depth) ≤ 2 * count_of l.initial.reads + 5 * done l.depth l.change l.i + ends (1028 * l.depth) l.depth l.change l.i;
+}

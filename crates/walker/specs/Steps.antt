@@ -1,0 +1,76 @@
+-- What a change does to one slot.
+use Rattle.std.specs.Prelude.{◌≡◌, ◌≢◌, ℕ, ◌+◌, ◌-◌, ◌*◌, ◌%◌, ◌<◌, ◌≤◌, Bool, true, false, List, Some, None, drop, take, slice_set}
+use Rattle.descriptor.specs.Word.{desc_of}
+use Rattle.page_state.specs.declared.entry.Entry.{Entry}
+use Rattle.page_state.specs.Entries.{advance, entry_of_word}
+use Rattle.page_state.specs.EntryTests.{is_unmapped}
+use Rattle.page_state.specs.Search.{all_below}
+use Rattle.table_tree.specs.declared.table.Table.{Table}
+use Rattle.table_tree.specs.declared.table.Slot.{Slot}
+use Rattle.table_tree.specs.declared.table.Slot.TheVariants.{Word}
+use Rattle.table_tree.specs.Meaning.{level_at, index_at, block_pages, slot_at, slots_of, frame_of, word_entry, entry_at}
+use Rattle.table_tree.specs.Shape.{HoldsWord, IsEntryWord, IsTableFrame, IsShaped}
+use Rattle.table_tree.specs.Slots.{fresh}
+use Rattle.table_tree.specs.Tables.{tables_in, uses_in, table_in, frame_count, is_one}
+use Rattle.table_tree.specs.Tight.{IsTight}
+use Rattle.walk_plan.specs.declared.change.Change.{Change}
+use Rattle.walk_plan.specs.Changes.{IsChange, changed, is_one_word, slot_need, table_need}
+use Rattle.walk_plan.specs.Ranks.{given, slot_rank, table_rank, slot_gone, table_gone}
+
+-- a slot holds the word that gives part `k` of a block whose first page has the entry `x`
+unfoldable pub IsPart : {A : Type 0} → ℕ → Entry → ℕ → Slot A → Type 0
+IsPart depth x k s = (w : ℕ) × (s ≡ Word w) × IsEntryWord depth w × (entry_of_word (desc_of (level_at depth) w) ≡ advance x (k * block_pages depth))
+
+-- slot `i` holds a word and is one word after the change as well: the word `w`
+pub record IsRewritten {A : Type 0} (depth i : ℕ) (t : Table A) (c : Change) (w : ℕ) : Type 0 where
+  pub holds : HoldsWord (slot_at t i)
+  pub word : IsEntryWord depth w
+  pub map : (q : ℕ) → index_at depth q ≡ i → word_entry depth q w ≡ changed depth (entry_at depth t) c q
+  pub need : slot_need depth (slot_at t i) c ≡ 0
+  pub rank : (low q : ℕ) → slot_rank depth (slot_at t i) c low q ≡ None
+  pub gone : (f : ℕ) → slot_gone depth (slot_at t i) c f ≡ 0
+
+-- a slot has a child, or a word that is not one word after the change
+pub record IsOpening {A : Type 0} (depth : ℕ) (s : Slot A) (c : Change) : Type 0 where
+  pub deep : 1 ≤ depth
+  pub split : (w : ℕ) → s ≡ Word w → is_one_word depth (entry_of_word (desc_of (level_at depth) w)) c ≡ false
+  pub need : fresh s ≤ slot_need depth s c
+
+-- whether nothing is mapped after the change
+abbrev pub is_emptied : ℕ → (ℕ → Entry) → Change → Bool
+is_emptied depth m c = all_below (block_pages depth) (λ i. is_unmapped (changed depth m c i))
+
+-- what a change finds in the child of slot `i` of `t`, or in the new table that means what the slot's word did; `t` has depth `n` and they `d`
+pub record IsReady {A : Type 0} (n d i : ℕ) (t child : Table A) (before after : List ℕ) (c : Change) : Type 0 where
+  pub need : fresh (slot_at t i) + table_need d child c ≡ slot_need n (slot_at t i) c
+  pub here : (q : ℕ) → index_at n q ≡ i → given before (table_in n t d q) (slot_rank n (slot_at t i) c d q) ≡ Some (frame_of child)
+  pub below : (low q : ℕ) → low < d → index_at n q ≡ i → given after (table_in d child low q) (table_rank d child c low q) ≡ given before (table_in n t low q) (slot_rank n (slot_at t i) c low q)
+  pub stays : (f : ℕ) → is_emptied n (entry_at d child) c ≡ false → slot_gone n (slot_at t i) c f ≡ table_gone d child c f
+  pub goes : (f : ℕ) → is_emptied n (entry_at d child) c ≡ true → slot_gone n (slot_at t i) c f ≡ table_gone d child c f + is_one (frame_of child) f
+
+-- `child` is the child of slot `i` of `t`, or a new table that means what its word did; `u` is `t` without it
+pub record IsOpened {A : Type 0} (n d i : ℕ) (t u child : Table A) (before after : List ℕ) : Type 0 where
+  pub frame : frame_of u ≡ frame_of t
+  pub slots : slots_of u ≡ slice_set (slots_of t) i (Word 0)
+  pub shape : IsShaped n u
+  pub tight : IsTight n u
+  pub other : (q : ℕ) → index_at n q ≢ i → entry_at n u q ≡ entry_at n t q
+  pub stand : (low q : ℕ) → low < n → index_at n q ≢ i → table_in n u low q ≡ table_in n t low q
+  pub child_shape : IsShaped d child
+  pub child_tight : IsTight d child
+  pub child_frame : IsTableFrame (frame_of child)
+  pub map : (q : ℕ) → index_at n q ≡ i → entry_at d child q ≡ entry_at n t q
+  pub uses : (f : ℕ) → uses_in n u f + uses_in d child f ≡ uses_in n t f + frame_count f (take (fresh (slot_at t i)) before)
+  pub tables : tables_in n u + tables_in d child ≡ tables_in n t + fresh (slot_at t i)
+  pub stock : after ≡ drop (fresh (slot_at t i)) before
+  pub ready : (c : Change) → IsChange n c → IsOpening n (slot_at t i) c → IsReady n d i t child before after c
+
+-- a table of words that gives the parts of a block whose first page has the entry `x`
+pub record IsFilled {A : Type 0} (d : ℕ) (x : Entry) (t : Table A) : Type 0 where
+  pub shape : IsShaped d t
+  pub tight : IsTight d t
+  pub map : (q : ℕ) → entry_at d t q ≡ advance x (q % block_pages (d + 1))
+  pub uses : (f : ℕ) → uses_in d t f ≡ is_one (frame_of t) f
+  pub tables : tables_in d t ≡ 1
+  pub standing : (low q : ℕ) → low < d → table_in d t low q ≡ None
+  pub parts : (k : ℕ) → k < 512 → IsPart d x k (slot_at t k)

@@ -1,0 +1,8 @@
+//! A change of a range of a tree, all or nothing, with tables in hand.
+#![tactic(auto)]
+
+mod open;
+mod change;
+mod walk;
+
+pub use change::{set, set_with};

@@ -1,0 +1,155 @@
+//! What a change does to one slot: a word in the place of a word, or a table to go on in.
+ghost use Rattle.std.specs.Prelude.{◌≡◌, ℕ, ◌+◌, ◌<◌, ◌≤◌, None, IfSome, is_some, length, Decides};
+ghost use Rattle.descriptor.specs.Word.{desc_of, CanBeSaid};
+ghost use Rattle.page_state.specs.declared.entry.Entry.TheVariants.{Unmapped};
+ghost use Rattle.page_state.specs.Entries.{advance, entry_of_word, word_of_entry};
+ghost use Rattle.table_tree.specs.Meaning.{IsDepth, level_at, slot_at, frame_of, word_entry};
+ghost use Rattle.table_tree.specs.Changes.{IsNew, IsSeen};
+ghost use Rattle.table_tree.specs.Reading.{count_of};
+ghost use Rattle.table_tree.specs.Shape.{IsWide, IsBlank, HoldsWord, IsEntryWord, IsShaped};
+ghost use Rattle.table_tree.specs.Slots.{fresh};
+ghost use Rattle.table_tree.specs.Stocks.{frames_of};
+ghost use Rattle.table_tree.specs.Tight.{IsTight};
+ghost use Rattle.walk_plan.specs.Changes.{IsChange, changed, is_one_word};
+ghost use Rattle.walker.specs.Steps.{IsRewritten, IsOpening, IsFilled, IsOpened};
+
+use page_state::Entry;
+use std::alloc::Allocator;
+use table_tree::word::{entry_of, pages_before, word_of};
+use table_tree::{Reads, Slot, Stock, Table};
+use walk_plan::Change;
+
+/// The word of a block without a table after a change, where it is one.
+fn word_after(depth: u32, word: u64, change: Change) -> Option<u64>
+    requires depth_in { IsDepth depth }
+    requires word_in { IsEntryWord depth word }
+    requires change_in { IsChange depth change }
+    ensures some { is_some result ≡ is_one_word depth (entry_of_word (desc_of (level_at depth) word)) change }
+    ensures entry { IfSome result (λ w. IsEntryWord depth w) }
+    ensures map { IfSome result (λ w. (q : ℕ) → word_entry depth q w ≡ changed depth (λ p. word_entry depth p word) change q) }
+{
+    page_state::laws::block_tests();
+    if change.is_whole(depth) {
+        return Some(word_of(depth, change.entry));
+    }
+    if entry_of(depth, word).advance(change.first).is_same(change.entry) {
+        return Some(word);
+    }
+    None
+}
+
+/// The word that a slot gets by a change, where it holds a word and goes on doing so.
+pub(crate) fn word_for<A: Allocator>(
+    table: &Table<A>,
+    depth: u32,
+    i: usize,
+    change: Change,
+    reads: &mut Reads,
+) -> Option<u64>
+    requires depth_in { IsDepth depth }
+    requires index_in { i < 512 }
+    requires shape { IsShaped depth table.now }
+    requires change_in { IsChange depth change }
+    ensures some { IfSome result (λ w. IsRewritten depth i table.now change w) }
+    ensures rest { result ≡ None → IsOpening depth (slot_at table.now i) change }
+    ensures reads { count_of reads.new ≤ count_of reads.old + 1 }
+{
+    match table.slot(i, reads) {
+        Slot::Word(word) => word_after(depth, *word, change),
+        Slot::Child(_) => None,
+    }
+}
+
+/// Writes into a table of zeros what an entry gives the parts of its block.
+fn fill<A: Allocator>(table: &mut Table<A>, depth: u32, entry: Entry)
+    requires depth_in { IsDepth (depth + 1) }
+    requires wide { IsWide table.old }
+    requires blank { IsBlank table.old }
+    requires tree { IsNew table.old }
+    requires entry_in { CanBeSaid (level_at (depth + 1)) (word_of_entry entry) }
+    ensures frame { frame_of table.new ≡ frame_of table.old }
+    ensures filled { IsFilled depth entry table.new }
+{
+    for i in 0..512usize {
+        let part = entry.advance(pages_before(depth, i as u64));
+        table.put(i, word_of(depth, part));
+    }
+}
+
+/// What a slot's word gives the first page of its block; None where a child stands.
+fn entry_at_slot<A: Allocator>(
+    table: &Table<A>,
+    depth: u32,
+    i: usize,
+    reads: &mut Reads,
+) -> Option<Entry>
+    requires depth_in { IsDepth depth }
+    requires index_in { i < 512 }
+    requires shape { IsShaped depth table.now }
+    ensures word { IfSome result (λ x. (w : ℕ) × (slot_at table.now i ≡ Slot.Word w) × (x ≡ entry_of_word (desc_of (level_at depth) w))) }
+    ensures said { IfSome result (λ x. CanBeSaid (level_at depth) (word_of_entry x)) }
+    ensures child { result ≡ None → HoldsWord (slot_at table.now i) → ⊥ }
+    ensures seen { IsSeen i table.now (slot_at table.now i) }
+    ensures reads { count_of reads.new ≤ count_of reads.old + 1 }
+{
+    match table.slot(i, reads) {
+        Slot::Word(word) => Some(entry_of(depth, *word)),
+        Slot::Child(_) => None,
+    }
+}
+
+/// Takes the child of a slot out, or makes one that means what the slot's word did; the slot is left 0. The child
+/// has `depth` levels below it, the table one more.
+pub(crate) fn opened<A: Allocator>(
+    table: &mut Table<A>,
+    depth: u32,
+    i: usize,
+    spare: &mut Stock<A>,
+    reads: &mut Reads,
+) -> Box<Table<A>, A>
+    requires depth_in { IsDepth (depth + 1) }
+    requires index_in { i < 512 }
+    requires shape { IsShaped (depth + 1) table.old }
+    requires tight { IsTight (depth + 1) table.old }
+    requires enough { fresh (slot_at table.old i) ≤ length (frames_of spare.old) }
+    ensures opened { IsOpened (depth + 1) depth i table.old table.new result.value (frames_of spare.old) (frames_of spare.new) }
+    ensures reads { count_of reads.new ≤ count_of reads.old + 1 }
+{
+    match entry_at_slot(table, depth + 1, i, reads) {
+        Some(entry) => {
+            table.put(i, 0);
+            let mut child = spare.pop().unwrap();
+            fill(&mut child, depth, entry);
+            child
+        }
+        None => table.detach(i).unwrap(),
+    }
+}
+
+/// Whether all words of a table are 0.
+fn is_blank<A: Allocator>(table: &Table<A>, reads: &mut Reads) -> bool
+    requires wide { IsWide table.now }
+    ensures blank { Decides result (IsBlank table.now) }
+    ensures reads { count_of reads.new ≤ count_of reads.old + 512 }
+{
+    for i in 0..512usize {
+        match table.slot(i, reads) {
+            Slot::Word(0) => {}
+            _ => return false,
+        }
+    }
+    true
+}
+
+/// Whether a change to the entry left all words of a table 0. It looks only where the entry is Unmapped.
+pub(crate) fn is_spent<A: Allocator>(table: &Table<A>, entry: Entry, reads: &mut Reads) -> bool
+    requires wide { IsWide table.now }
+    requires kept { IsBlank table.now → entry ≡ Unmapped }
+    ensures blank { Decides result (IsBlank table.now) }
+    ensures reads { count_of reads.new ≤ count_of reads.old + 512 }
+{
+    match entry {
+        Entry::Unmapped => is_blank(table, reads),
+        _ => false,
+    }
+}

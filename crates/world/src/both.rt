@@ -1,0 +1,105 @@
+//! A change of the host's map and one of the hypervisor's, with tables from their pool.
+ghost use Rattle.std.specs.Prelude.{◌≡◌, ℕ, ◌+◌, ◌<◌, ◌≤◌, ◌↔◌, ◌++◌, length, take, drop, IsOk, IfOk, OnOk, OnErr};
+ghost use Rattle.hyp_pool.specs.Pools.{IsPool};
+ghost use Rattle.page_state.specs.Tables.{all_given};
+ghost use Rattle.table_tree.specs.Stocks.{frames_of};
+ghost use Rattle.table_tree.specs.View.{tree_of, root_of};
+ghost use Rattle.world.specs.View.{IsEdit, IsApart, need_for, tree_after, back_from};
+
+use crate::component::{Component, PageEdit};
+use hyp_pool::{Pool, PoolFault, laws};
+use std::alloc::{Allocator, Global};
+use table_tree::Reads;
+use walk_plan::{Spare, release, reserve};
+
+/// Takes the tables that both changes need, the host's first, or nothing.
+fn reserve_both<A: Allocator + Copy>(
+    global: Global,
+    alloc: A,
+    host: &Component<A>,
+    hyp: &Component<A>,
+    pool: &mut Pool,
+    host_edit: &PageEdit,
+    hyp_edit: &PageEdit,
+) -> Result<(Spare<A>, Spare<A>), PoolFault>
+    requires host_edit { IsEdit host.now.tree.geometry host_edit.now }
+    requires hyp_edit { IsEdit hyp.now.tree.geometry hyp_edit.now }
+    requires pool { IsPool pool.old }
+    requires enough { need_for host.now.tree host_edit.now + need_for hyp.now.tree hyp_edit.now ≤ length pool.old.frames }
+    ensures host { IfOk result (λ s. frames_of s.0.stock ≡ take (need_for host.now.tree host_edit.now) pool.old.frames) }
+    ensures hyp { IfOk result (λ s. frames_of s.1.stock ≡ take (need_for hyp.now.tree hyp_edit.now) (drop (need_for host.now.tree host_edit.now) pool.old.frames)) }
+    ensures left { OnOk result (pool.new.frames ≡ drop (need_for hyp.now.tree hyp_edit.now) (drop (need_for host.now.tree host_edit.now) pool.old.frames)) }
+    ensures nothing { need_for host.now.tree host_edit.now ≡ 0 → need_for hyp.now.tree hyp_edit.now ≡ 0 → IsOk result }
+    ensures no_memory { OnErr result (result ≡ Err PoolFault.NoMemory) }
+    ensures err { OnErr result (pool.new ≡ pool.old) }
+    ensures room { pool.new.room ≡ pool.old.room }
+{
+    laws::given_back();
+    laws::counted_frames();
+    let mut reads = Reads::new();
+    let host_spare = reserve(
+        global,
+        alloc,
+        host.tree(),
+        pool,
+        host_edit.range,
+        &host_edit.entry,
+        &mut reads,
+    )?;
+    match reserve(
+        global,
+        alloc,
+        hyp.tree(),
+        pool,
+        hyp_edit.range,
+        &hyp_edit.entry,
+        &mut reads,
+    ) {
+        Ok(hyp_spare) => Ok((host_spare, hyp_spare)),
+        Err(fault) => {
+            release(host_spare, pool);
+            Err(fault)
+        }
+    }
+}
+
+/// Makes both changes, or none. NoPool is answered exactly where the pool has fewer frames than both need tables,
+/// NoMemory only where memory was refused.
+pub(crate) fn change_both<A: Allocator + Copy>(
+    global: Global,
+    alloc: A,
+    host: &mut Component<A>,
+    hyp: &mut Component<A>,
+    pool: &mut Pool,
+    host_edit: PageEdit,
+    hyp_edit: PageEdit,
+) -> Result<(), PoolFault>
+    requires host_edit { IsEdit host.old.tree.geometry host_edit }
+    requires hyp_edit { IsEdit hyp.old.tree.geometry hyp_edit }
+    requires apart { IsApart host.old.tree hyp.old.tree pool.old }
+    ensures host { OnOk result (tree_of host.new.tree ≡ tree_after host.old.tree host_edit pool.old.frames) }
+    ensures hyp { OnOk result (tree_of hyp.new.tree ≡ tree_after hyp.old.tree hyp_edit (drop (need_for host.old.tree host_edit) pool.old.frames)) }
+    ensures pool { OnOk result (pool.new.frames ≡ all_given (back_from host.old.tree host_edit ++ back_from hyp.old.tree hyp_edit) (drop (need_for host.old.tree host_edit + need_for hyp.old.tree hyp_edit) pool.old.frames)) }
+    ensures no_pool { (result ≡ Err PoolFault.NoPool) ↔ (length pool.old.frames < need_for host.old.tree host_edit + need_for hyp.old.tree hyp_edit) }
+    ensures err_host { OnErr result (host.new.tree ≡ host.old.tree) }
+    ensures err_hyp { OnErr result (hyp.new.tree ≡ hyp.old.tree) }
+    ensures err_pool { OnErr result (pool.new ≡ pool.old) }
+    ensures apart { IsApart host.new.tree hyp.new.tree pool.new }
+    ensures host_geometry { host.new.tree.geometry ≡ host.old.tree.geometry }
+    ensures hyp_geometry { hyp.new.tree.geometry ≡ hyp.old.tree.geometry }
+    ensures host_root { root_of host.new.tree ≡ root_of host.old.tree }
+    ensures hyp_root { root_of hyp.new.tree ≡ root_of hyp.old.tree }
+{
+    laws::given_in_any_order();
+    if pool.free() < host.need(&host_edit) + hyp.need(&hyp_edit) {
+        return Err(PoolFault::NoPool);
+    }
+    host.reserve(host_edit.range.count)?;
+    hyp.reserve(hyp_edit.range.count)?;
+    let (host_spare, hyp_spare) = reserve_both(
+        global, alloc, host, hyp, pool, &host_edit, &hyp_edit,
+    )?;
+    host.commit(pool, host_edit, host_spare);
+    hyp.commit(pool, hyp_edit, hyp_spare);
+    Ok(())
+}
