@@ -1,8 +1,11 @@
 //! A change of a range of a tree, all or nothing, with tables in hand.
 #![tactic(auto)]
 
-mod open;
 mod change;
+mod open;
 mod walk;
 
 pub use change::{set, set_with};
+
+#[cfg(test)]
+mod tests;

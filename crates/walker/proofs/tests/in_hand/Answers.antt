@@ -1,0 +1,28 @@
+use Rattle.std.proofs.Common.{◌≡◌, ap, arith, take, drop, length}
+use Rattle.page_state.specs.Tables.{put, need}
+use Rattle.table_tree.specs.Geometry.{levels_below}
+use Rattle.table_tree.specs.Stocks.{frames_of}
+use Rattle.table_tree.specs.Tables.{frame_count}
+use Rattle.table_tree.specs.View.{tree_of}
+use Rattle.walk_plan.proofs.Given.{take_drop_length}
+use Rattle.walker.proofs.Changed.{tree_some}
+use Rattle.walker.proofs.Taken.{count_parts}
+use Rattle.walker.proofs.tests.in_hand.Goals as goal
+
+pub returns-clause-distinct : goal.returns-clause-distinct
+returns-clause-distinct g c f =
+    let t = c.args.bench.now.tree in
+    let p = c.args.bench.now.pool.frames in
+    let n = need (levels_below t.geometry) (tree_of t) (put c.args.range.first.0 c.args.range.count c.args.entry) in
+    let a : frame_count f (frames_of c.in_ok-spare.spare.stock) ≡ frame_count f (take n p) = ap (frame_count f) c.in_ok-spare.ensures.spare in
+    let b : frame_count f c.reserve.new.pool.frames ≡ frame_count f (drop n p) = ap (frame_count f) c.in_ok-spare.ensures.pool in
+    omega (arith, a, b, count_parts f n p, c.requires.distinct f)
+
+pub returns-clause-room : goal.returns-clause-room
+returns-clause-room g c =
+    let t = c.args.bench.now.tree in
+    let p = c.args.bench.now.pool.frames in
+    let n = need (levels_below t.geometry) (tree_of t) (put c.args.range.first.0 c.args.range.count c.args.entry) in
+    let a : length (frames_of c.in_ok-spare.spare.stock) ≡ length (take n p) = ap length c.in_ok-spare.ensures.spare in
+    let b : length c.reserve.new.pool.frames ≡ length (drop n p) = ap length c.in_ok-spare.ensures.pool in
+    omega (arith, a, b, take_drop_length n p, tree_some t, c.requires.covered, c.reserve.ensures.room)
