@@ -1,27 +1,21 @@
 -- Tables all of whose words are 0, and blocks on which nothing is mapped.
-use Rattle.std.proofs.Common.{◌≡◌, ℕ, zero, suc, ◌+◌, ◌-◌, ◌*◌, ◌/◌, ◌%◌, ◌^◌, ◌<◌, ◌≤◌, refl, sym, ap, arith, ◌∙◌, true, false, ◌==◌, None}
-use Rattle.std.specs.Prelude.{Bool}
-use Rattle.std.proofs.lemmas.Bool.Decides.{nat_tests}
+use Rattle.std.proofs.Common.{◌≡◌, ℕ, zero, suc, ◌+◌, ◌-◌, ◌*◌, ◌/◌, ◌%◌, ◌^◌, ◌<◌, ◌≤◌, refl, sym, ap, arith, ◌∙◌, None}
 use Rattle.std.proofs.lemmas.Nat.{div-mul-add, mod-mul-add, field_of}
 use Rattle.std.proofs.Math.Nat.{mod-eq_of_lt}
 use Rattle.std.specs.declared.boxed.Box.{Box}
-use Rattle.descriptor.specs.Word.{desc_of, IsSaid}
-use Rattle.descriptor.specs.declared.Level.{Level}
-use Rattle.descriptor.specs.declared.Desc.{Desc}
-use Rattle.descriptor.specs.declared.Desc.TheVariants.{Malformed as malformed_word, Unmapped as unmapped_word, Annotated as annotated_word, Leaf as leaf_word, Table as table_word}
+use Rattle.descriptor.specs.Word.{desc_of}
 use Rattle.page_state.specs.declared.entry.Entry.{Entry}
 use Rattle.page_state.specs.declared.entry.Entry.TheVariants.{Malformed, Unmapped, Annotated, Leaf}
 use Rattle.page_state.specs.Entries.{advance, entry_of_word}
 use Rattle.table_tree.specs.declared.table.Table.{Table}
-use Rattle.table_tree.specs.declared.table.Slot.{Slot}
 use Rattle.table_tree.specs.declared.table.Slot.TheVariants.{Word, Child}
 use Rattle.table_tree.specs.declared.table.Slot.TheViews.{outs-Child}
-use Rattle.table_tree.specs.Meaning.{level_at, index_at, block_pages, slot_at, word_entry, entry_at}
-use Rattle.table_tree.specs.Shape.{IsBlank, IsShaped, IsEntryWord, MeetsSlot}
+use Rattle.table_tree.specs.Meaning.{level_at, index_at, slot_at, word_entry, entry_at}
+use Rattle.table_tree.specs.Shape.{IsBlank, IsShaped, MeetsSlot}
 use Rattle.table_tree.specs.Tables.{table_in}
 use Rattle.table_tree.specs.Tight.{IsTight}
-use Rattle.walk_plan.proofs.Slots.{by_eq, by_slot, shaped_slot, slot_word_is, slot_child_is, entry_step, word_gives, child_gives, table_top, table_below, stand_word, stand_child}
-use Rattle.walk_plan.proofs.Ranges.{by_le, size_some}
+use Rattle.walk_plan.proofs.Slots.{by_eq, by_slot, shaped_slot, slot_child_is, entry_step, word_gives, child_gives, table_below, stand_word, stand_child}
+use Rattle.walk_plan.proofs.Ranges.{size_some}
 use Rattle.walker.proofs.NoneWord.{none_word}
 use Rattle.walker.proofs.Maps.{digits}
 use Rattle.walker.proofs.Ranks.{index_same}

@@ -1,5 +1,5 @@
 -- The map of a table as a change goes on, part by part.
-use Rattle.std.proofs.Common.{◌≡◌, ℕ, zero, suc, ◌+◌, ◌-◌, ◌*◌, ◌/◌, ◌%◌, ◌^◌, ◌<◌, ◌≤◌, ◌≢◌, refl, sym, ap, arith, ◌∙◌, cond, Bool, true, false, ◌==◌, ◌&&◌, min, add_assoc}
+use Rattle.std.proofs.Common.{◌≡◌, ℕ, ◌+◌, ◌-◌, ◌*◌, ◌/◌, ◌%◌, ◌^◌, ◌<◌, ◌≤◌, ◌≢◌, refl, sym, ap, arith, ◌∙◌, cond, ◌&&◌, min, add_assoc}
 use Rattle.std.proofs.lemmas.Bool.Decides.{nat_tests}
 use Rattle.std.proofs.lemmas.Nat.{mod-pow-add}
 use Rattle.std.specs.Prelude.{nat_lt, nat_le}
@@ -8,13 +8,12 @@ use Rattle.descriptor.specs.Word.{desc_of}
 use Rattle.page_state.specs.declared.entry.Entry.{Entry}
 use Rattle.page_state.specs.declared.entry.Entry.TheVariants.{Malformed, Unmapped, Annotated, Leaf}
 use Rattle.page_state.specs.Entries.{advance, entry_of_word}
-use Rattle.table_tree.specs.declared.table.Table.{Table}
-use Rattle.table_tree.specs.Meaning.{level_at, index_at, word_entry, entry_at}
+use Rattle.table_tree.specs.Meaning.{level_at, index_at, word_entry}
 use Rattle.walk_plan.specs.declared.change.Change.{Change}
 use Rattle.walk_plan.specs.Changes.{part, changed}
 use Rattle.walker.specs.Walks.{upto}
 use Rattle.walk_plan.proofs.Slots.{by_eq}
-use Rattle.walk_plan.proofs.Ranges.{by_le, size_some, size_next}
+use Rattle.walk_plan.proofs.Ranges.{by_le, size_some}
 
 pub digits : (n q : ℕ) → q % 2 ^ (9 * (n + 1)) ≡ index_at n q * 2 ^ (9 * n) + q % 2 ^ (9 * n)
 digits n q = let e : 9 * (n + 1) ≡ 9 + 9 * n = omega arith in rw e (mod-pow-add q 9 (9 * n))
@@ -118,7 +117,6 @@ end_map d i c m q k p =
     let t : s * ((c.end - 1) / s + 1) ≤ s * i = mul-le-mul_left s p in
     let e : min c.end (i * s) ≡ c.end = omega (arith, t, z) in
     ap (λ n. changed (d + 1) m (record { first = c.first; end = n; entry = c.entry }) q) e
-
 
 -- pages of part `i` and of those after it are as before
 pub untouched : (d i : ℕ) (c : Change) (m : ℕ → Entry) (q : ℕ) → i ≤ index_at d q → changed (d + 1) m (upto c (i * 2 ^ (9 * d))) q ≡ m q

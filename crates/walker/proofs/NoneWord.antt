@@ -1,13 +1,12 @@
 -- The only word that maps none of its pages.
 use Rattle.std.proofs.Common.{◌≡◌, ℕ, ◌/◌, ◌%◌, refl, arith, cond, Bool, true, false, Some, None, Option, ◌&&◌, ◌==◌, nat_le}
 use Rattle.std.proofs.lemmas.Bool.Decides.{nat_tests}
-use Rattle.descriptor.specs.Word.{field, desc_of, kind_of_bits, state_of_bits, prot_of_bits, has_leaf_form, leaf_or_malformed, block_pages, is_upper}
+use Rattle.descriptor.specs.Word.{field, desc_of, leaf_or_malformed, is_upper}
 use Rattle.descriptor.specs.declared.Level.{Level}
 use Rattle.descriptor.specs.declared.Kind.{Kind}
 use Rattle.descriptor.specs.declared.Prot.{Prot}
 use Rattle.descriptor.specs.declared.State.{State}
 use Rattle.descriptor.specs.declared.Desc.{Desc}
-use Rattle.page_state.specs.declared.entry.Entry.{Entry}
 use Rattle.page_state.specs.declared.entry.Entry.TheVariants.{Unmapped}
 use Rattle.page_state.specs.Entries.{entry_of_word}
 

@@ -1,5 +1,5 @@
 -- What a slot needs by a change, and what a change finds in its child.
-use Rattle.std.proofs.Common.{◌≡◌, ◌≢◌, ℕ, zero, suc, ◌+◌, ◌-◌, ◌*◌, ◌%◌, ◌^◌, ◌<◌, ◌≤◌, refl, sym, ap, subst, arith, ◌∙◌, cond, true, false, ◌==◌, ◌||◌, Option, Some, None, List, [], ◌∷◌, drop, take, length, get_or, add-one, sum_by}
+use Rattle.std.proofs.Common.{◌≡◌, ◌≢◌, ℕ, zero, suc, ◌+◌, ◌-◌, ◌*◌, ◌%◌, ◌^◌, ◌<◌, ◌≤◌, refl, sym, ap, subst, arith, ◌∙◌, cond, true, false, ◌==◌, ◌||◌, Option, Some, None, List, [], ◌∷◌, length, add-one}
 use Rattle.std.specs.Prelude.{Bool}
 use Rattle.std.specs.Option.{MatchOption, IsSome, IfSome, is_some}
 use Rattle.std.proofs.lemmas.Bool.Decides.{nat_tests}
@@ -10,7 +10,7 @@ use Rattle.descriptor.specs.Word.{desc_of}
 use Rattle.page_state.specs.declared.entry.Entry.{Entry}
 use Rattle.page_state.specs.declared.entry.Entry.TheVariants.{Malformed, Unmapped, Annotated, Leaf}
 use Rattle.page_state.specs.Entries.{advance, entry_of_word}
-use Rattle.page_state.specs.EntryTests.{entry_eq, is_unmapped}
+use Rattle.page_state.specs.EntryTests.{entry_eq}
 use Rattle.page_state.specs.Blocks.{fits_word}
 use Rattle.table_tree.specs.declared.table.Table.{Table}
 use Rattle.table_tree.specs.declared.table.Slot.{Slot}
@@ -18,20 +18,20 @@ use Rattle.table_tree.specs.declared.table.Slot.TheVariants.{Word, Child}
 use Rattle.table_tree.specs.Meaning.{level_at, index_at, block_pages, slot_at, slots_of, slot_case, frame_of, word_entry, entry_at}
 use Rattle.table_tree.specs.Shape.{IsEntryWord, IsTableFrame, IsShaped}
 use Rattle.table_tree.specs.Slots.{fresh}
-use Rattle.table_tree.specs.Tables.{table_in, is_one, frame_count}
+use Rattle.table_tree.specs.Tables.{table_in}
 use Rattle.table_tree.specs.Tight.{IsTight}
 use Rattle.table_tree.specs.Changes.{IsSeen, IsWritten, IsAttached, IsCleared}
 use Rattle.walk_plan.specs.declared.change.Change.{Change}
-use Rattle.walk_plan.specs.Changes.{IsRangeEntry, IsChange, changed, is_whole, is_one_word, sum_to, met, block_need, block_parts, slot_need, table_need}
-use Rattle.walk_plan.specs.Ranks.{given, later, block_rank, parts_rank, slot_rank, table_rank, slot_gone, table_gone}
+use Rattle.walk_plan.specs.Changes.{IsRangeEntry, IsChange, changed, is_whole, is_one_word, block_need}
+use Rattle.walk_plan.specs.Ranks.{given, later, block_rank, parts_rank, slot_rank}
 use Rattle.walk_plan.proofs.Slots.{by_eq, case_word, case_child, table_top}
 use Rattle.walk_plan.proofs.Ranges.{size_some, block_one, block_split, slot_word, slot_child}
-use Rattle.walk_plan.proofs.Seen.{seen_deep, seen_child}
-use Rattle.walker.specs.Steps.{IsRewritten, IsOpening, IsFilled, IsReady, IsOpened, is_emptied}
+use Rattle.walk_plan.proofs.Seen.{seen_deep}
+use Rattle.walker.specs.Steps.{IsRewritten, IsOpening, IsFilled, IsReady, IsOpened}
 use Rattle.walker.proofs.Maps.{changed_in, changed_before, changed_after, changed_at}
-use Rattle.walker.proofs.Ranks.{given_later, given_none, given_some, block_rank_one, block_rank_split, slot_rank_word, slot_rank_child}
+use Rattle.walker.proofs.Ranks.{given_later, given_some, block_rank_one, block_rank_split, slot_rank_word, slot_rank_child}
 use Rattle.walker.proofs.Parts.{parts_need, parts_ranked, parts_gone, gone_word, gone_child}
-use Rattle.walker.proofs.Blank.{advance_none, zero_entry}
+use Rattle.walker.proofs.Blank.{advance_none}
 use Rattle.walker.proofs.Emptied.{emptied_each}
 
 -- at the last level each change leaves one word

@@ -1,14 +1,13 @@
 -- A slot whose child was changed: gone where all its words are 0, else put back.
-use Rattle.std.proofs.Common.{◌≡◌, ◌≢◌, ℕ, zero, suc, ◌+◌, ◌-◌, ◌*◌, ◌/◌, ◌%◌, ◌^◌, ◌<◌, ◌≤◌, refl, sym, ap, subst, arith, ◌∙◌, cond, true, false, ◌==◌, Option, Some, None, List, [], ◌∷◌, ◌++◌, drop, take, sum_by}
+use Rattle.std.proofs.Common.{◌≡◌, ℕ, suc, ◌+◌, ◌*◌, ◌/◌, ◌%◌, ◌^◌, ◌<◌, refl, sym, ap, arith, ◌∙◌, cond, true, false, Some, List, [], ◌∷◌, drop, take}
 use Rattle.std.specs.Prelude.{Bool}
 use Rattle.std.proofs.Math.Seq.{take-add}
 use Rattle.std.proofs.lemmas.List.{drop-drop}
 use Rattle.std.proofs.lemmas.List.Sums.{sum_by-append}
-use Rattle.std.proofs.Math.ListN.{set}
 use Rattle.page_state.specs.declared.entry.Entry.TheVariants.{Unmapped}
 use Rattle.table_tree.specs.declared.table.Table.{Table}
 use Rattle.table_tree.specs.declared.table.Slot.TheVariants.{Word}
-use Rattle.table_tree.specs.Meaning.{index_at, block_pages, slot_at, slots_of, frame_of, entry_at}
+use Rattle.table_tree.specs.Meaning.{index_at, block_pages, slot_at, frame_of, entry_at}
 use Rattle.table_tree.specs.Shape.{IsWide, IsBlank, IsShaped}
 use Rattle.table_tree.specs.Slots.{fresh}
 use Rattle.table_tree.specs.Tables.{tables_in, uses_in, table_in, is_one, frame_count}

@@ -1,5 +1,5 @@
 -- What is done with the lowest frames of a pool.
-use Rattle.std.proofs.Common.{◌≡◌, ℕ, zero, suc, ◌+◌, ◌≤◌, refl, sym, ap, arith, ◌∙◌, cond, Option, Some, List, [], ◌∷◌, length, take, drop}
+use Rattle.std.proofs.Common.{◌≡◌, ℕ, ◌+◌, refl, ap, cond, Option, Some, List, [], ◌∷◌, length, take, drop}
 use Rattle.std.proofs.lemmas.List.Sums.{sum_by-take-drop}
 use mathlib.Core.Path.{fun_ext}
 use Rattle.page_state.specs.Blocks.{block_eq}

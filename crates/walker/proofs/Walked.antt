@@ -1,5 +1,5 @@
 -- A table as a change goes on, slot by slot.
-use Rattle.std.proofs.Common.{◌≡◌, ◌≢◌, ℕ, zero, suc, ◌+◌, ◌-◌, ◌*◌, ◌/◌, ◌%◌, ◌^◌, ◌<◌, ◌≤◌, refl, sym, ap, arith, ◌∙◌, true, false, Option, None, List, drop, take}
+use Rattle.std.proofs.Common.{◌≡◌, ◌≢◌, ℕ, ◌+◌, ◌-◌, ◌*◌, ◌/◌, ◌%◌, ◌^◌, ◌<◌, ◌≤◌, refl, sym, ap, arith, ◌∙◌, true, false, List, drop, take}
 use Rattle.std.proofs.lemmas.List.{drop-drop}
 use Rattle.std.specs.Prelude.{Bool}
 use Rattle.std.proofs.Math.Nat.{mod-eq_of_lt}
@@ -42,7 +42,7 @@ module _ {A : Type 0} where
   pub kept_next : (d i : ℕ) (c : Change) (o t u : Table A) (fs : List ℕ) → IsChange d (part d i c) → slot_at t i ≡ slot_at o i → IsKept d i c fs o t
       → ((low q : ℕ) → low < d → i ≤ index_at d q → table_in d t low q ≡ table_in d o low q)
       → ((low q p : ℕ) → low < d → p / block_pages (low + 1) ≡ q / block_pages (low + 1) → index_at d q ≡ i → (entry_at d u p ≡ Unmapped → ⊥)
-          → table_in d u low q ≡ given (drop (sum_to (met d c (table_parts d o)) i) fs) (table_in d t low q) (slot_rank d (slot_at t i) (part d i c) low q))
+      → table_in d u low q ≡ given (drop (sum_to (met d c (table_parts d o)) i) fs) (table_in d t low q) (slot_rank d (slot_at t i) (part d i c) low q))
       → ((low q : ℕ) → low < d → index_at d q ≢ i → table_in d u low q ≡ table_in d t low q)
       → ((q : ℕ) → index_at d q ≢ i → entry_at d u q ≡ entry_at d t q)
       → IsKept d (i + 1) c fs o u

@@ -32,7 +32,10 @@ fn word_after(depth: u32, word: u64, change: Change) -> Option<u64>
     if change.is_whole(depth) {
         return Some(word_of(depth, change.entry));
     }
-    if entry_of(depth, word).advance(change.first).is_same(change.entry) {
+    if entry_of(depth, word)
+        .advance(change.first)
+        .is_same(change.entry)
+    {
         return Some(word);
     }
     None

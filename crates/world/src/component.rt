@@ -78,7 +78,14 @@ impl<A: Allocator> Component<A> {
         ensures tables { tables_of self.new.tree + length pool.new.frames ≡ tables_of self.old.tree + length (frames_of spare.stock) + length pool.old.frames }
     {
         let mut reads = Reads::new();
-        walker::set_with(&mut self.tree, pool, edit.range, edit.entry, spare, &mut reads);
+        walker::set_with(
+            &mut self.tree,
+            pool,
+            edit.range,
+            edit.entry,
+            spare,
+            &mut reads,
+        );
         self.maplets.set(edit.range, edit.entry.target());
     }
 

@@ -54,7 +54,11 @@ fn may_share<A: Allocator>(shared: &Shared<A>, pfn: u64) -> bool
     ensures { IsTrue result ↔ (is_free_entry (meaning shared.now.host.tree pfn) ≡ true) × (meaning shared.now.hyp.tree (hyp_page_of pfn) ≡ Unmapped) }
 {
     is_free_page(shared.host.tree().look(Page(pfn)))
-        && shared.hyp.tree().look(hyp_page(pfn)).is_same(Entry::Unmapped)
+        && shared
+            .hyp
+            .tree()
+            .look(hyp_page(pfn))
+            .is_same(Entry::Unmapped)
 }
 
 /// The change of one page.

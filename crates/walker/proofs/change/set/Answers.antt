@@ -1,9 +1,9 @@
-use Rattle.std.proofs.Common.{◌≡◌, ℕ, ◌+◌, ◌≤◌, sym, ap, arith, ◌∙◌, take, drop}
+use Rattle.std.proofs.Common.{◌≡◌, ap, arith, ◌∙◌, take, drop}
 use Rattle.page_state.specs.Tables.{put, need, edited}
 use Rattle.table_tree.specs.Geometry.{levels_below}
 use Rattle.table_tree.specs.Stocks.{frames_of}
 use Rattle.table_tree.specs.Tables.{frame_count}
-use Rattle.table_tree.specs.View.{tree_of, uses}
+use Rattle.table_tree.specs.View.{tree_of}
 use Rattle.walker.proofs.Taken.{edited_take, count_parts}
 use Rattle.walker.proofs.change.set.Goals as goal
 

@@ -1,10 +1,8 @@
-use Rattle.std.proofs.Common.{◌≡◌, ℕ, ◌+◌, ◌-◌, ◌*◌, ◌<◌, ◌≤◌, refl, sym, ap, arith, ◌∙◌, length}
+use Rattle.std.proofs.Common.{◌≡◌, ℕ, ◌+◌, ◌*◌, refl, ap, arith, ◌∙◌, length}
 use Rattle.page_state.specs.Geometries.{depth_of}
-use Rattle.page_state.specs.Tables.{put, returned}
 use Rattle.table_tree.specs.Geometry.{levels_below}
 use Rattle.table_tree.specs.Stocks.{frames_of}
 use Rattle.table_tree.specs.Tables.{frame_count}
-use Rattle.table_tree.specs.View.{tree_of}
 use Rattle.walk_plan.proofs.Looks.{edges_most}
 use Rattle.walk_plan.proofs.Needed.{need_walked}
 use Rattle.walk_plan.proofs.OfTree.{low_depth}
@@ -137,4 +135,3 @@ returns-clause-reads g c =
     let l = low_depth t.geometry in
     let m = edges_most (1028 * c.depth-depth.result) (c.depth-depth.result + 1) (record { first = c.args.range.first.0; end = c.args.range.first.0 + c.args.range.count; entry = c.args.entry }) in
     omega (arith, c.set_all.ensures.reads, m, e, l)
-

@@ -1,6 +1,4 @@
-use Rattle.std.proofs.Common.{sym, ◌∙◌}
 use Rattle.walk_plan.proofs.Slots.{shaped_wide}
-use Rattle.walker.proofs.Opened.{word_not_child}
 use Rattle.walker.proofs.open.entry_at_slot.Goals as goal
 
 pub slot-requires-clause-wide : goal.slot-requires-clause-wide

@@ -1,6 +1,6 @@
-use Rattle.std.proofs.Common.{◌≡◌, ◌≢◌, ℕ, ◌+◌, ◌<◌, ◌≤◌, sym, ap, arith, ◌∙◌, refl}
+use Rattle.std.proofs.Common.{◌≢◌, ◌<◌, ◌≤◌, sym, ap, arith, ◌∙◌, refl}
 use Rattle.table_tree.specs.declared.table.Slot.TheVariants.{Word}
-use Rattle.table_tree.specs.Meaning.{frame_of, index_at}
+use Rattle.table_tree.specs.Meaning.{index_at}
 use Rattle.table_tree.specs.Tables.{is_one}
 use Rattle.walker.proofs.Writes.{set_others, set_wide, written_map, written_parts}
 use Rattle.walker.proofs.open.fill.Goals as goal

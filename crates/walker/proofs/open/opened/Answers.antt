@@ -1,4 +1,4 @@
-use Rattle.std.proofs.Common.{◌≡◌, ℕ, ◌+◌, suc, ◌∷◌, sym, ap, subst, arith, ◌∙◌, add-one, length}
+use Rattle.std.proofs.Common.{◌≡◌, ◌+◌, suc, ◌∷◌, sym, ap, subst, arith, ◌∙◌, add-one}
 use Rattle.table_tree.specs.Meaning.{slot_at, frame_of}
 use Rattle.table_tree.specs.Shape.{IsShaped, IsTableFrame}
 use Rattle.table_tree.specs.Stocks.{frames_of}

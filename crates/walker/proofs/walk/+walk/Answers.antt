@@ -1,19 +1,15 @@
-use Rattle.std.proofs.Common.{◌≡◌, ◌≢◌, ℕ, ◌+◌, ◌-◌, ◌*◌, ◌/◌, ◌^◌, ◌<◌, ◌≤◌, sym, ap, subst, refl, arith, ◌∙◌, length, length-drop}
-use Rattle.page_state.specs.declared.entry.Entry.TheVariants.{Unmapped}
-use Rattle.table_tree.specs.Meaning.{index_at, block_pages, slot_at, entry_at, frame_of}
+use Rattle.std.proofs.Common.{◌≡◌, ◌≢◌, ℕ, ◌+◌, ◌-◌, ◌*◌, ◌<◌, ◌≤◌, sym, ap, subst, refl, arith, ◌∙◌, length, length-drop}
+use Rattle.table_tree.specs.Meaning.{index_at, slot_at, entry_at}
 use Rattle.table_tree.specs.Reading.{count_of}
-use Rattle.table_tree.specs.Shape.{IsBlank, IsShaped}
-use Rattle.table_tree.specs.Slots.{fresh}
 use Rattle.table_tree.specs.Stocks.{frames_of}
 use Rattle.table_tree.specs.declared.table.Slot.TheVariants.{Word}
 use Rattle.walk_plan.specs.Changes.{IsChange, part, met, sum_to, table_parts, slot_need}
 use Rattle.walk_plan.specs.Ranks.{gone_parts}
 use Rattle.walk_plan.proofs.Slots.{shaped_wide}
-use Rattle.walk_plan.proofs.Ranges.{part_in, part_is, met_some, met_start, met_end, sum_next, sum_mono, span, table_parts_is, change_below}
-use Rattle.walk_plan.proofs.Looks.{done, ends, ends_start, ends_next, ends_end, whole_parts, whole_edges, child_reads, some_part}
+use Rattle.walk_plan.proofs.Ranges.{part_in, part_is, met_start, met_end, sum_mono, span, change_below}
+use Rattle.walk_plan.proofs.Looks.{ends_start, ends_next, ends_end, whole_parts, whole_edges, child_reads, some_part}
 use Rattle.walker.specs.Steps.{IsOpening}
-use Rattle.walker.proofs.Maps.{start_map, end_map, next_map, changed_in}
-use Rattle.walker.proofs.Blank.{advance_none, blank_entries}
+use Rattle.walker.proofs.Maps.{start_map, end_map, next_map}
 use Rattle.walker.proofs.Writes.{set_here, set_wide}
 use Rattle.walker.proofs.Slotted.{IsGrown, all_spare, spent_map, spent_kept, spent_uses, spent_freed, spent_tables, back_kept, back_uses, back_freed, back_tables}
 use Rattle.walker.proofs.Walked.{not_both, blank_entry, need_next, gone_next, kept_start, kept_next, kept_end, spare_next, taken_next}
@@ -333,8 +329,10 @@ pub set_all-returns-clause-uses : goal.set_all-returns-clause-uses
 set_all-returns-clause-uses g t c f =
     let s = span c.args.depth c.args.change c.requires.change_in in
     let l : c.loop-i.i ≤ 512 = omega (arith, c.loop-i.auto.i-end s.0, s.1) in
-    rw (met_end c.args.depth c.loop-i.i c.args.change (table_parts c.args.depth c.args.table.now) c.requires.change_in c.loop-i-test.false l,
-    met_end c.args.depth c.loop-i.i c.args.change (gone_parts c.args.depth c.args.table.now f) c.requires.change_in c.loop-i-test.false l) (c.loop-i.invariant.uses f)
+    rw (
+      met_end c.args.depth c.loop-i.i c.args.change (table_parts c.args.depth c.args.table.now) c.requires.change_in c.loop-i-test.false l,
+      met_end c.args.depth c.loop-i.i c.args.change (gone_parts c.args.depth c.args.table.now f) c.requires.change_in c.loop-i-test.false l,
+    ) (c.loop-i.invariant.uses f)
 
 pub set_all-returns-clause-freed : goal.set_all-returns-clause-freed
 set_all-returns-clause-freed g t c f =

@@ -14,10 +14,10 @@ change_both-requires-clause-apart g c = (
       let y = ap (λ t. uses t f) c.new-hyp.ensures ∙ c.in_ok-new-2.ensures.uses f in
       omega (arith, a, b, h, y, c.counted_frames.ensures.once f c.in_ok-pool.pool.frames c.in_ok-pool.ensures.pool.rising),
   let a = ap length c.in_ok-host_root.ensures.taken in
-  let b = ap length c.in_ok-hyp_root.ensures.taken in
-  let h = ap tables_of c.new-host.ensures ∙ c.in_ok-new.ensures.tables in
-  let y = ap tables_of c.new-hyp.ensures ∙ c.in_ok-new-2.ensures.tables in
-  omega (arith, a, b, h, y, c.in_ok-pool.ensures.pool.covered, c.take_root.ensures.room, c.take_root-2.ensures.room),
+      let b = ap length c.in_ok-hyp_root.ensures.taken in
+      let h = ap tables_of c.new-host.ensures ∙ c.in_ok-new.ensures.tables in
+      let y = ap tables_of c.new-hyp.ensures ∙ c.in_ok-new-2.ensures.tables in
+      omega (arith, a, b, h, y, c.in_ok-pool.ensures.pool.covered, c.take_root.ensures.room, c.take_root-2.ensures.room),
 )
 
 pub invariant_of-result-2 : goal.invariant_of-result-2

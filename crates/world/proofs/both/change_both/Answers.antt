@@ -152,9 +152,7 @@ apart_room g c =
     omega (arith, x, y, z, u, v, length_parts n p, length_parts m (drop n p), c.requires.apart.1, c.commit.ensures.tables, c.commit-2.ensures.tables, c.commit.ensures.pool_room, c.commit-2.ensures.pool_room, c.in_ok-host_spare.ensures.room)
 
 pub returns-clause-apart : goal.returns-clause-apart
-returns-clause-apart g c =
-    (
-      λ f. apart_uses g c f,
-      apart_room g c,
-    )
-
+returns-clause-apart g c = (
+  λ f. apart_uses g c f,
+  apart_room g c,
+)
