@@ -2,26 +2,15 @@
 #![tactic(auto)]
 
 mod command;
-mod fault;
-mod line;
-mod lines;
-mod number;
-mod outcome;
-mod paths;
-mod replay;
-mod report;
-mod session;
-mod settings;
-mod verb;
-mod words;
+mod exit_status;
 
 use command::{Invocation, UsageFault, command};
-use outcome::{EngineFault, Outcome, exit_status};
-use replay::replay;
+use exit_status::exit_status;
 use std::io::{BufReader, BufWriter, Write};
 use std::process::ExitCode;
 use std::rt::{Env, Files};
 use std::{env, fs, io};
+use trace_text::{EngineFault, Outcome, replay};
 
 /// The status where the words are refused or the file can't be opened.
 const REFUSED: u8 = 2;

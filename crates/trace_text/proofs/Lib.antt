@@ -1,0 +1,7 @@
+mod Digits
+mod Hexadecimal
+mod KnownBytes
+mod LineLemmas
+mod PathLemmas
+mod ReplayLemmas
+mod Standing

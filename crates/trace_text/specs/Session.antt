@@ -1,0 +1,122 @@
+-- What a line does to a trace that is being carried out, and which line of the report it makes (profile).
+use Rattle.std.specs.Prelude.{◌≡◌, ℕ, ◌+◌, ◌<◌, ◌≤◌, List, Option, Some, None, Result, Ok, Err, ok_or, is_some, option_map, MatchOption, MatchResult}
+use Rattle.page_state.specs.declared.entry.PageRange.{PageRange}
+use Rattle.page_state.specs.declared.layout.LayoutFault.{LayoutFault}
+use Rattle.page_state.specs.declared.layout.LayoutFault.TheVariants as layouts
+use Rattle.page_state.specs.declared.reply.Reply.{Reply}
+use Rattle.page_state.specs.LayoutFaults.{IsAccepted, IsFirstFault}
+use Rattle.page_state.specs.Regions.{Memory, memory_of}
+use Rattle.table_tree.specs.View.{tables_of}
+use Rattle.world.specs.declared.World.{World}
+use Rattle.trace_text.specs.declared.fault.Fault.{Fault}
+use Rattle.trace_text.specs.declared.fault.Fault.TheVariants as faults
+use Rattle.trace_text.specs.declared.line.Line.{Line}
+use Rattle.trace_text.specs.declared.line.Line.TheVariants as lines
+use Rattle.trace_text.specs.declared.report.ReportLine.{ReportLine}
+use Rattle.trace_text.specs.declared.report.ReportLine.TheVariants as report
+use Rattle.trace_text.specs.declared.session.Session.{Session}
+use Rattle.trace_text.specs.declared.session.Stop.{Stop}
+use Rattle.trace_text.specs.declared.session.Stop.TheVariants as stops
+use Rattle.trace_text.specs.declared.verb.TreeName.TheVariants.{Host, Hyp}
+use Rattle.trace_text.specs.Said.{said}
+use Rattle.trace_text.specs.Settings.{Told, told_of, nothing_told, told_after, config_of}
+use Rattle.trace_text.specs.Worlds.{tree_of, free_of, word_on}
+
+-- where a trace stands: what was told, the world once it is booted, and how many step lines were carried out
+pub record Standing (A : Type 0) : Type 0 where
+  pub told : Told
+  pub world : Option (World A)
+  pub steps : ℕ
+
+-- where a session stands
+abbrev pub standing_of : {A : Type 0} → Session A → Standing A
+standing_of s = record { told = told_of s.settings; world = s.world; steps = s.steps }
+
+-- before the first line
+abbrev pub at_start : {A : Type 0} → Standing A
+at_start = record { told = nothing_told; world = None; steps = 0 }
+
+-- what a line answers: a line of the report or none, or why it ends the run
+abbrev pub Answer : Type 0
+Answer = Result (Option ReportLine) Stop
+
+-- a line that ends the run by a fault changes nothing
+abbrev pub Faults : {A : Type 0} → Fault → Standing A → Answer → Standing A → Type 0
+Faults fault old answer new = (answer ≡ Err (stops.Fault fault)) × (new ≡ old)
+
+-- a setting is told, and reports nothing; only memory can be wanting
+abbrev pub Tells : {A : Type 0} → Line → Standing A → Answer → Standing A → Type 0
+Tells line old answer new =
+    MatchResult answer (λ reported. (reported ≡ None) × (new ≡ record old { told = told_after line old.told })) (λ stop. (stop ≡ stops.NoMemory) × (new ≡ old))
+
+-- why memory and carve-out make no layout
+abbrev pub IsRefused : LayoutFault → Memory → Type 0
+IsRefused layouts.NoMemory memory = IsAccepted memory
+IsRefused layouts.TooMany memory = IsFirstFault layouts.TooMany memory
+IsRefused layouts.Empty memory = IsFirstFault layouts.Empty memory
+IsRefused layouts.PastLimit memory = IsFirstFault layouts.PastLimit memory
+IsRefused layouts.Overlap memory = IsFirstFault layouts.Overlap memory
+IsRefused layouts.CarveOutside memory = IsFirstFault layouts.CarveOutside memory
+
+-- why a boot ends the run: by the layout's fault, or, where the layout is accepted, by the world's
+abbrev pub IsNoBoot : Stop → Memory → Type 0
+IsNoBoot (stops.Fault (faults.Layout fault)) memory = IsRefused fault memory
+IsNoBoot (stops.Fault (faults.Boot fault)) memory = IsAccepted memory
+IsNoBoot stop memory = ⊥
+
+-- the world of what was told, and the line that tells its tables and free frames
+pub record IsBooted {A : Type 0} (carve : PageRange) (old : Standing A) (world : World A) (reported : ReportLine) (new : Standing A) : Type 0 where
+  pub layout : world.parts.layout ≡ record { map = memory_of old.told.regions carve; config = config_of old.told }
+  pub line : reported ≡ report.Boot (tables_of (tree_of world Host)) (tables_of (tree_of world Hyp)) (free_of world)
+  pub standing : new ≡ record old { world = Some world }
+
+-- `boot`
+abbrev pub Boots : {A : Type 0} → Standing A → Answer → Standing A → Type 0
+Boots {A} old answer new =
+    MatchOption old.told.carve (Faults faults.Place old answer new) (λ carve.
+    MatchResult answer (λ reported. (world : World A) × (line : ReportLine) × (reported ≡ Some line) × IsBooted carve old world line new)
+    (λ stop. IsNoBoot stop (memory_of old.told.regions carve) × (new ≡ old)))
+
+-- a step of a CPU: the world's reply, and the world after it
+pub record IsStepped {A : Type 0} (number cpu : ℕ) (world : World A) (old : Standing A) (answer : Answer) (new : Standing A) : Type 0 where
+  pub reply : Reply
+  pub next : World A
+  pub layout : next.parts.layout ≡ world.parts.layout
+  pub line : answer ≡ Ok (Some (report.Step number cpu reply))
+  pub standing : new ≡ record old { world = Some next; steps = old.steps + 1 }
+
+-- a step line: its CPU is one of the world's
+abbrev pub Makes : {A : Type 0} → ℕ → ℕ → World A → Standing A → Answer → Standing A → Type 0
+Makes number cpu world old answer new =
+    (world.parts.layout.config.cpus ≤ cpu → Faults faults.Cpu old answer new) × (cpu < world.parts.layout.config.cpus → IsStepped number cpu world old answer new)
+
+-- a question about the world, which changes nothing
+abbrev pub Asks : {A : Type 0} → Option ReportLine → Fault → Standing A → Answer → Standing A → Type 0
+Asks told fault old answer new = (answer ≡ ok_or (option_map Some told) (stops.Fault fault)) × (new ≡ old)
+
+-- what a line does after the boot; before it, it has no place
+abbrev pub InWorld : {A : Type 0} → (World A → Standing A → Answer → Standing A → Type 0) → Standing A → Answer → Standing A → Type 0
+InWorld does old answer new = MatchOption old.world (Faults faults.Place old answer new) (λ world. does world old answer new)
+
+-- what a line does, its number counted from 1
+abbrev pub Does : {A : Type 0} → ℕ → Line → Standing A → Answer → Standing A → Type 0
+Does number (lines.Geometry bits) = Tells (lines.Geometry bits)
+Does number (lines.Cpus cpus) = Tells (lines.Cpus cpus)
+Does number (lines.Log calls) = Tells (lines.Log calls)
+Does number (lines.Memory pages) = Tells (lines.Memory pages)
+Does number (lines.Device pages) = Tells (lines.Device pages)
+Does number (lines.Carve pages) = Tells (lines.Carve pages)
+Does number lines.Boot = Boots
+Does number (lines.Step cpu step) = InWorld (Makes number cpu)
+Does number (lines.Word tree page level) = InWorld (λ world. Asks (option_map report.Word (word_on (tree_of world tree) page level)) faults.Path)
+Does number lines.FreeShared = InWorld (λ world. Asks (Some (report.Free (free_of world))) faults.Place)
+
+-- what follows from what a line says
+abbrev pub Follows : {A : Type 0} → ℕ → Result (Option Line) Fault → Standing A → Answer → Standing A → Type 0
+Follows number (Err fault) old answer new = Faults fault old answer new
+Follows number (Ok None) old answer new = (answer ≡ Ok None) × (new ≡ old)
+Follows number (Ok (Some line)) old answer new = Does number line old answer new
+
+-- what the bytes of a line do
+abbrev pub Runs : {A : Type 0} → ℕ → List ℕ → Standing A → Answer → Standing A → Type 0
+Runs number bytes old answer new = Follows number (said old.told (is_some old.world) bytes) old answer new

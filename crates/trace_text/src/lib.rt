@@ -1,0 +1,19 @@
+//! Traces as text: what their lines say, and the reports of their runs.
+#![tactic(auto)]
+
+mod fault;
+mod line;
+mod lines;
+mod number;
+mod outcome;
+mod paths;
+mod report;
+mod said;
+mod session;
+mod settings;
+mod trace;
+mod verb;
+mod words;
+
+pub use outcome::{EngineFault, Outcome};
+pub use trace::replay;

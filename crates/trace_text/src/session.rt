@@ -1,0 +1,203 @@
+//! What a trace has said so far, and what a line does.
+ghost use Rattle.std.specs.Prelude.{◌≡◌, ◌+◌, ◌<◌, ◌≤◌, ◌^◌, List, Option, Some, is_some, option_map, OnOk, OnErr, MatchResult};
+ghost use Rattle.page_state.specs.LayoutFaults.{IsAccepted};
+ghost use Rattle.page_state.specs.Regions.{memory_of};
+ghost use Rattle.table_tree.specs.View.{tables_of};
+ghost use Rattle.trace_text.specs.Session.{Asks, Boots, Does, InWorld, IsBooted, IsNoBoot, Makes, Runs, Tells, at_start, standing_of};
+ghost use Rattle.trace_text.specs.Settings.{config_of, told_of};
+ghost use Rattle.trace_text.specs.Worlds.{free_of, tree_of, word_on as word_of_path};
+
+use crate::fault::Fault;
+use crate::line::Line;
+use crate::paths::word_on;
+use crate::report::ReportLine;
+use crate::said::said;
+use crate::settings::Settings;
+use crate::verb::TreeName;
+use page_state::{MemoryMap, PageRange, Region, Step};
+use std::alloc::{Allocator, Global};
+use world::World;
+
+/// Why a line ends the run.
+#[derive(Clone, Copy, PartialEq, Debug)]
+pub enum Stop {
+    Fault(Fault),
+    /// A growth that no line of the report tells of was refused.
+    NoMemory,
+}
+
+/// A trace that is being carried out.
+#[derive(Drop)]
+pub struct Session<A: Allocator> {
+    global: Global,
+    alloc: A,
+    settings: Settings,
+    world: Option<World<A>>,
+    steps: u64,
+}
+
+impl<A: Allocator + Copy> Session<A> {
+    /// Nothing said yet.
+    pub fn new(global: Global, alloc: A) -> Session<A>
+        ensures { standing_of result ≡ at_start }
+    {
+        Session {
+            global,
+            alloc,
+            settings: Settings::new(global),
+            world: None,
+            steps: 0,
+        }
+    }
+
+    /// How many step lines were carried out.
+    pub fn steps(&self) -> u64
+        ensures { result ≡ (standing_of self.now).steps }
+    {
+        self.steps
+    }
+
+    /// Carries out the line of this number, and gives the line of the report that it makes, if any. Of a line of over
+    /// 256 bytes any 257 serve.
+    pub fn run(&mut self, number: u64, line: &[u8]) -> Result<Option<ReportLine>, Stop>
+        requires { (standing_of self.old).steps < 2 ^ 63 }
+        ensures done { Runs number line.now (standing_of self.old) result (standing_of self.new) }
+        ensures steps { (standing_of self.new).steps ≤ (standing_of self.old).steps + 1 }
+    {
+        match said(&self.settings, self.world.is_some(), line) {
+            Ok(Some(said)) => self.carry_out(number, said),
+            Ok(None) => Ok(None),
+            Err(fault) => Err(Stop::Fault(fault)),
+        }
+    }
+
+    fn carry_out(&mut self, number: u64, said: Line) -> Result<Option<ReportLine>, Stop>
+        requires { self.old.steps < 2 ^ 63 }
+        ensures done { Does number said (standing_of self.old) result (standing_of self.new) }
+        ensures steps { self.new.steps ≤ self.old.steps + 1 }
+    {
+        match said {
+            Line::Geometry(_)
+            | Line::Cpus(_)
+            | Line::Log(_)
+            | Line::Memory(_)
+            | Line::Device(_)
+            | Line::Carve(_) => self.tell(said),
+            Line::Boot => self.boot(),
+            Line::Step { cpu, step } => self.step(number, cpu, step),
+            Line::Word { tree, page, level } => self.word(tree, page, level),
+            Line::FreeShared => self.free(),
+        }
+    }
+
+    /// Takes up a setting.
+    fn tell(&mut self, said: Line) -> Result<Option<ReportLine>, Stop>
+        ensures done { Tells said (standing_of self.old) result (standing_of self.new) }
+        ensures steps { self.new.steps ≡ self.old.steps }
+    {
+        match self.settings.say(said) {
+            Ok(()) => Ok(None),
+            Err(_) => Err(Stop::NoMemory),
+        }
+    }
+
+    /// Makes the world.
+    fn boot(&mut self) -> Result<Option<ReportLine>, Stop>
+        ensures done { Boots (standing_of self.old) result (standing_of self.new) }
+        ensures steps { self.new.steps ≡ self.old.steps }
+    {
+        let Some(carve) = self.settings.carve else {
+            return Err(Stop::Fault(Fault::Place));
+        };
+        match self.booted(carve) {
+            Ok(world) => {
+                let line = boot_line(&world);
+                self.world = Some(world);
+                Ok(Some(line))
+            }
+            Err(stop) => Err(stop),
+        }
+    }
+
+    /// The world of what was told, with this carve-out.
+    fn booted(&self, carve: PageRange) -> Result<World<A>, Stop>
+        ensures { let told = told_of self.now.settings in MatchResult result (λ w. w.parts.layout ≡ record { map = memory_of told.regions carve; config = config_of told }) (λ stop. IsNoBoot stop (memory_of told.regions carve)) }
+    {
+        let map = told_memory(self.global, self.settings.regions.as_slice(), carve)?;
+        match World::boot(self.global, self.alloc, &map, self.settings.config()) {
+            Ok(world) => Ok(world),
+            Err(fault) => Err(Stop::Fault(Fault::Boot(fault))),
+        }
+    }
+
+    /// Makes one step.
+    fn step(&mut self, number: u64, cpu: u64, step: Step) -> Result<Option<ReportLine>, Stop>
+        requires { self.old.steps < 2 ^ 63 }
+        ensures done { InWorld (Makes number cpu) (standing_of self.old) result (standing_of self.new) }
+        ensures steps { self.new.steps ≤ self.old.steps + 1 }
+    {
+        let Some(world) = self.world.as_mut() else {
+            return Err(Stop::Fault(Fault::Place));
+        };
+        if cpu >= world.cpus() {
+            return Err(Stop::Fault(Fault::Cpu));
+        }
+        let reply = world.step(cpu, step);
+        self.steps += 1;
+        Ok(Some(ReportLine::Step {
+            line: number,
+            cpu,
+            reply,
+        }))
+    }
+
+    /// The word on a page's path at a level.
+    fn word(&self, tree: TreeName, page: u64, level: u64) -> Result<Option<ReportLine>, Stop>
+        ensures { InWorld (λ w. Asks (option_map ReportLine.Word (word_of_path (tree_of w tree) page level)) Fault.Path) (standing_of self.now) result (standing_of self.now) }
+    {
+        let Some(world) = self.world.as_ref() else {
+            return Err(Stop::Fault(Fault::Place));
+        };
+        let shared = &world.parts().shared;
+        let tree = match tree {
+            TreeName::Host => shared.host.tree(),
+            TreeName::Hyp => shared.hyp.tree(),
+        };
+        match word_on(tree, page, level) {
+            Some(word) => Ok(Some(ReportLine::Word(word))),
+            None => Err(Stop::Fault(Fault::Path)),
+        }
+    }
+
+    /// The number of free frames of the shared pool.
+    fn free(&self) -> Result<Option<ReportLine>, Stop>
+        ensures { InWorld (λ w. Asks (Some (ReportLine.Free (free_of w))) Fault.Place) (standing_of self.now) result (standing_of self.now) }
+    {
+        let Some(world) = self.world.as_ref() else {
+            return Err(Stop::Fault(Fault::Place));
+        };
+        Ok(Some(ReportLine::Free(world.parts().shared.pool.free())))
+    }
+}
+
+/// What a report tells of a boot.
+fn boot_line<A: Allocator>(world: &World<A>) -> ReportLine
+    ensures { result ≡ ReportLine.Boot (tables_of (tree_of world.now TreeName.Host)) (tables_of (tree_of world.now TreeName.Hyp)) (free_of world.now) }
+{
+    let shared = &world.parts().shared;
+    ReportLine::Boot {
+        host: shared.host.tree().tables(),
+        hyp: shared.hyp.tree().tables(),
+        free: shared.pool.free(),
+    }
+}
+
+/// The memory of the regions and the carve-out that were told.
+fn told_memory(global: Global, regions: &[Region], carve: PageRange) -> Result<MemoryMap, Stop>
+    ensures { let memory = memory_of regions.now carve in MatchResult result (λ map. (map ≡ memory) × IsAccepted memory) (λ stop. IsNoBoot stop memory) }
+{
+    match MemoryMap::new(global, regions, carve) {
+        Ok(map) => Ok(map),
+        Err(fault) => Err(Stop::Fault(Fault::Layout(fault))),
+    }
+}
