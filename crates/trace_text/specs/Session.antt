@@ -1,13 +1,17 @@
 -- What a line does to a trace that is being carried out, and which line of the report it makes (profile).
 use Rattle.std.specs.Prelude.{◌≡◌, ℕ, ◌+◌, ◌<◌, ◌≤◌, List, Option, Some, None, Result, Ok, Err, ok_or, is_some, option_map, MatchOption, MatchResult}
 use Rattle.page_state.specs.declared.entry.PageRange.{PageRange}
+use Rattle.page_state.specs.declared.layout.Config.{Config}
 use Rattle.page_state.specs.declared.layout.LayoutFault.{LayoutFault}
 use Rattle.page_state.specs.declared.layout.LayoutFault.TheVariants as layouts
 use Rattle.page_state.specs.declared.reply.Reply.{Reply}
 use Rattle.page_state.specs.LayoutFaults.{IsAccepted, IsFirstFault}
 use Rattle.page_state.specs.Regions.{Memory, memory_of}
 use Rattle.table_tree.specs.View.{tables_of}
+use Rattle.page_state.specs.declared.step.Step.{Step}
 use Rattle.world.specs.declared.World.{World}
+use Rattle.world.specs.Boots.{IsBooted, IsNoBoot}
+use Rattle.world.specs.Steps.{IsStep}
 use Rattle.trace_text.specs.declared.fault.Fault.{Fault}
 use Rattle.trace_text.specs.declared.fault.Fault.TheVariants as faults
 use Rattle.trace_text.specs.declared.line.Line.{Line}
@@ -59,14 +63,14 @@ IsRefused layouts.Overlap memory = IsFirstFault layouts.Overlap memory
 IsRefused layouts.CarveOutside memory = IsFirstFault layouts.CarveOutside memory
 
 -- why a boot ends the run: by the layout's fault, or, where the layout is accepted, by the world's
-abbrev pub IsNoBoot : Stop → Memory → Type 0
-IsNoBoot (stops.Fault (faults.Layout fault)) memory = IsRefused fault memory
-IsNoBoot (stops.Fault (faults.Boot fault)) memory = IsAccepted memory
-IsNoBoot stop memory = ⊥
+abbrev pub IsNoWorld : Stop → Memory → Config → Type 0
+IsNoWorld (stops.Fault (faults.Layout fault)) memory config = IsRefused fault memory
+IsNoWorld (stops.Fault (faults.Boot fault)) memory config = IsAccepted memory × IsNoBoot fault memory config
+IsNoWorld stop memory config = ⊥
 
--- the world of what was told, and the line that tells its tables and free frames
-pub record IsBooted {A : Type 0} (carve : PageRange) (old : Standing A) (world : World A) (reported : ReportLine) (new : Standing A) : Type 0 where
-  pub layout : world.parts.layout ≡ record { map = memory_of old.told.regions carve; config = config_of old.told }
+-- the world of what was told has booted, and the line tells its tables and free frames
+pub record HasWorld {A : Type 0} (carve : PageRange) (old : Standing A) (world : World A) (reported : ReportLine) (new : Standing A) : Type 0 where
+  pub booted : IsBooted (memory_of old.told.regions carve) (config_of old.told) world.parts
   pub line : reported ≡ report.Boot (tables_of (tree_of world Host)) (tables_of (tree_of world Hyp)) (free_of world)
   pub standing : new ≡ record old { world = Some world }
 
@@ -74,21 +78,21 @@ pub record IsBooted {A : Type 0} (carve : PageRange) (old : Standing A) (world :
 abbrev pub Boots : {A : Type 0} → Standing A → Answer → Standing A → Type 0
 Boots {A} old answer new =
     MatchOption old.told.carve (Faults faults.Place old answer new) (λ carve.
-    MatchResult answer (λ reported. (world : World A) × (line : ReportLine) × (reported ≡ Some line) × IsBooted carve old world line new)
-    (λ stop. IsNoBoot stop (memory_of old.told.regions carve) × (new ≡ old)))
+    MatchResult answer (λ reported. (world : World A) × (line : ReportLine) × (reported ≡ Some line) × HasWorld carve old world line new)
+    (λ stop. IsNoWorld stop (memory_of old.told.regions carve) (config_of old.told) × (new ≡ old)))
 
--- a step of a CPU: the world's reply, and the world after it
-pub record IsStepped {A : Type 0} (number cpu : ℕ) (world : World A) (old : Standing A) (answer : Answer) (new : Standing A) : Type 0 where
+-- a step of a CPU: the world's reply, and the world after it, by the reference step
+pub record IsStepped {A : Type 0} (number cpu : ℕ) (step : Step) (world : World A) (old : Standing A) (answer : Answer) (new : Standing A) : Type 0 where
   pub reply : Reply
   pub next : World A
-  pub layout : next.parts.layout ≡ world.parts.layout
+  pub made : IsStep world.parts cpu step reply next.parts
   pub line : answer ≡ Ok (Some (report.Step number cpu reply))
   pub standing : new ≡ record old { world = Some next; steps = old.steps + 1 }
 
 -- a step line: its CPU is one of the world's
-abbrev pub Makes : {A : Type 0} → ℕ → ℕ → World A → Standing A → Answer → Standing A → Type 0
-Makes number cpu world old answer new =
-    (world.parts.layout.config.cpus ≤ cpu → Faults faults.Cpu old answer new) × (cpu < world.parts.layout.config.cpus → IsStepped number cpu world old answer new)
+abbrev pub Makes : {A : Type 0} → ℕ → ℕ → Step → World A → Standing A → Answer → Standing A → Type 0
+Makes number cpu step world old answer new =
+    (world.parts.layout.config.cpus ≤ cpu → Faults faults.Cpu old answer new) × (cpu < world.parts.layout.config.cpus → IsStepped number cpu step world old answer new)
 
 -- a question about the world, which changes nothing
 abbrev pub Asks : {A : Type 0} → Option ReportLine → Fault → Standing A → Answer → Standing A → Type 0
@@ -107,7 +111,7 @@ Does number (lines.Memory pages) = Tells (lines.Memory pages)
 Does number (lines.Device pages) = Tells (lines.Device pages)
 Does number (lines.Carve pages) = Tells (lines.Carve pages)
 Does number lines.Boot = Boots
-Does number (lines.Step cpu step) = InWorld (Makes number cpu)
+Does number (lines.Step cpu step) = InWorld (Makes number cpu step)
 Does number (lines.Word tree page level) = InWorld (λ world. Asks (option_map report.Word (word_on (tree_of world tree) page level)) faults.Path)
 Does number lines.FreeShared = InWorld (λ world. Asks (Some (report.Free (free_of world))) faults.Place)
 

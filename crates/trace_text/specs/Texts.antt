@@ -3,18 +3,11 @@ use Rattle.std.specs.Prelude.{ℕ, ◌-◌, List, [], ◌∷◌, ◌++◌, lengt
 use Rattle.std.specs.Fmt.{digits, decimal}
 use Rattle.page_state.specs.LayoutFaults.{fault_number}
 use Rattle.page_state.specs.Texts.{text_of_reply}
-use Rattle.world.specs.declared.boot.BootFault.{BootFault}
-use Rattle.world.specs.declared.boot.BootFault.TheVariants as boots
+use Rattle.world.specs.Boots.{boot_number}
 use Rattle.trace_text.specs.declared.fault.Fault.{Fault}
 use Rattle.trace_text.specs.declared.fault.Fault.TheVariants as faults
 use Rattle.trace_text.specs.declared.report.ReportLine.{ReportLine}
 use Rattle.trace_text.specs.declared.report.ReportLine.TheVariants as report
-
--- the number of a boot fault
-abbrev pub boot_number : BootFault → ℕ
-boot_number boots.Config = 1
-boot_number boots.CarveSmall = 2
-boot_number boots.NoMemory = 3
 
 -- the name of a fault, with its number where it has one
 abbrev pub text_of_fault : Fault → List ℕ

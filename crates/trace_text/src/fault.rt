@@ -1,6 +1,6 @@
 //! Faults of a line. The first that holds is told, in the order of the variants, and ends the run.
-ghost use Rattle.std.specs.Prelude.{◌≡◌, Some};
-ghost use Rattle.trace_text.specs.Texts.{boot_number as boot_fault_number, text_of_fault};
+ghost use Rattle.std.specs.Prelude.{Some};
+ghost use Rattle.trace_text.specs.Texts.{text_of_fault};
 
 use page_state::LayoutFault;
 use std::fmt;
@@ -50,19 +50,8 @@ impl fmt::Display for Fault {
             Fault::Form => write!(f, "form"),
             Fault::Cpu => write!(f, "cpu"),
             Fault::Layout(fault) => write!(f, "layout {}", fault.number()),
-            Fault::Boot(fault) => write!(f, "boot {}", boot_number(*fault)),
+            Fault::Boot(fault) => write!(f, "boot {}", fault.number()),
             Fault::Path => write!(f, "path"),
         }
-    }
-}
-
-/// The number by which reports tell a boot fault (profile).
-fn boot_number(fault: BootFault) -> u64
-    ensures { result ≡ boot_fault_number fault }
-{
-    match fault {
-        BootFault::Config => 1,
-        BootFault::CarveSmall => 2,
-        BootFault::NoMemory => 3,
     }
 }

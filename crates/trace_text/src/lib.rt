@@ -17,3 +17,6 @@ mod words;
 
 pub use outcome::{EngineFault, Outcome};
 pub use trace::replay;
+
+#[cfg(test)]
+mod tests;

@@ -1,10 +1,12 @@
 //! What a trace has said so far, and what a line does.
 ghost use Rattle.std.specs.Prelude.{◌≡◌, ◌+◌, ◌<◌, ◌≤◌, ◌^◌, List, Option, Some, is_some, option_map, OnOk, OnErr, MatchResult};
+ghost use Rattle.page_state.specs.declared.layout.Config.{Config};
 ghost use Rattle.page_state.specs.LayoutFaults.{IsAccepted};
 ghost use Rattle.page_state.specs.Regions.{memory_of};
 ghost use Rattle.table_tree.specs.View.{tables_of};
-ghost use Rattle.trace_text.specs.Session.{Asks, Boots, Does, InWorld, IsBooted, IsNoBoot, Makes, Runs, Tells, at_start, standing_of};
+ghost use Rattle.trace_text.specs.Session.{Asks, Boots, Does, HasWorld, InWorld, IsNoWorld, Makes, Runs, Tells, at_start, standing_of};
 ghost use Rattle.trace_text.specs.Settings.{config_of, told_of};
+ghost use Rattle.world.specs.Boots.{IsBooted};
 ghost use Rattle.trace_text.specs.Worlds.{free_of, tree_of, word_on as word_of_path};
 
 use crate::fault::Fault;
@@ -121,7 +123,7 @@ impl<A: Allocator + Copy> Session<A> {
 
     /// The world of what was told, with this carve-out.
     fn booted(&self, carve: PageRange) -> Result<World<A>, Stop>
-        ensures { let told = told_of self.now.settings in MatchResult result (λ w. w.parts.layout ≡ record { map = memory_of told.regions carve; config = config_of told }) (λ stop. IsNoBoot stop (memory_of told.regions carve)) }
+        ensures { let told = told_of self.now.settings in MatchResult result (λ w. IsBooted (memory_of told.regions carve) (config_of told) w.parts) (λ stop. IsNoWorld stop (memory_of told.regions carve) (config_of told)) }
     {
         let map = told_memory(self.global, self.settings.regions.as_slice(), carve)?;
         match World::boot(self.global, self.alloc, &map, self.settings.config()) {
@@ -133,7 +135,7 @@ impl<A: Allocator + Copy> Session<A> {
     /// Makes one step.
     fn step(&mut self, number: u64, cpu: u64, step: Step) -> Result<Option<ReportLine>, Stop>
         requires { self.old.steps < 2 ^ 63 }
-        ensures done { InWorld (Makes number cpu) (standing_of self.old) result (standing_of self.new) }
+        ensures done { InWorld (Makes number cpu step) (standing_of self.old) result (standing_of self.new) }
         ensures steps { self.new.steps ≤ self.old.steps + 1 }
     {
         let Some(world) = self.world.as_mut() else {
@@ -194,7 +196,7 @@ fn boot_line<A: Allocator>(world: &World<A>) -> ReportLine
 
 /// The memory of the regions and the carve-out that were told.
 fn told_memory(global: Global, regions: &[Region], carve: PageRange) -> Result<MemoryMap, Stop>
-    ensures { let memory = memory_of regions.now carve in MatchResult result (λ map. (map ≡ memory) × IsAccepted memory) (λ stop. IsNoBoot stop memory) }
+    ensures { let memory = memory_of regions.now carve in MatchResult result (λ map. (map ≡ memory) × IsAccepted memory) (λ stop. (config : Config) → IsNoWorld stop memory config) }
 {
     match MemoryMap::new(global, regions, carve) {
         Ok(map) => Ok(map),

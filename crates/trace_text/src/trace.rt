@@ -17,8 +17,10 @@ use std::io::{Read, Write};
 /// The most lines of a trace.
 const MOST_LINES: u64 = 1_048_576;
 
-/// Reads a trace line by line, byte by byte, carries it out, and writes its report. `alloc` is where the tables of the
-/// trees lie. A fault of the trace ends the report, and the report of the lines before it stands.
+/// Reads a trace line by line, carries it out, and writes its report. `alloc` is where the tables of the trees lie. A
+/// fault of the trace ends the report, and the report of the lines before it stands. It reads byte by byte, so the
+/// reader is to be buffered; the writer isn't flushed. Err where reading, writing or memory fails: what was written
+/// until then is a beginning of the report.
 pub fn replay<A: Allocator + Copy, R: Read, W: Write>(
     global: Global,
     alloc: A,

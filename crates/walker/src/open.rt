@@ -1,5 +1,5 @@
 //! What a change does to one slot: a word in the place of a word, or a table to go on in.
-ghost use Rattle.std.specs.Prelude.{◌≡◌, ℕ, ◌+◌, ◌<◌, ◌≤◌, None, IfSome, is_some, length, Decides};
+ghost use Rattle.std.specs.Prelude.{◌≡◌, ◌≢◌, ℕ, ◌+◌, ◌<◌, ◌≤◌, None, IfSome, is_some, length, Decides};
 ghost use Rattle.descriptor.specs.Word.{desc_of, CanBeSaid};
 ghost use Rattle.page_state.specs.declared.entry.Entry.TheVariants.{Unmapped};
 ghost use Rattle.page_state.specs.Entries.{advance, entry_of_word, word_of_entry};
@@ -150,6 +150,7 @@ pub(crate) fn is_spent<A: Allocator>(table: &Table<A>, entry: Entry, reads: &mut
     requires kept { IsBlank table.now → entry ≡ Unmapped }
     ensures blank { Decides result (IsBlank table.now) }
     ensures reads { count_of reads.new ≤ count_of reads.old + 512 }
+    ensures unread { entry ≢ Unmapped → reads.new ≡ reads.old }
 {
     match entry {
         Entry::Unmapped => is_blank(table, reads),

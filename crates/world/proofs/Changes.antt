@@ -1,5 +1,5 @@
 -- A change takes just the frames that it needs.
-use Rattle.std.proofs.Common.{◌≡◌, ℕ, zero, suc, refl, ap, ◌∙◌, cond, Option, Some, List, [], ◌∷◌, length, take}
+use Rattle.std.proofs.Common.{◌≡◌, ℕ, refl, ap, cond, Option, Some, List, [], ◌∷◌, length, take}
 use mathlib.Core.Path.{fun_ext}
 use Rattle.page_state.specs.Blocks.{block_eq}
 use Rattle.page_state.specs.State.{Block, Tree}

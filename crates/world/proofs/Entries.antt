@@ -1,5 +1,5 @@
 -- Entries and their targets, and changes that words can say.
-use Rattle.std.proofs.Common.{◌≡◌, ℕ, ◌+◌, ◌*◌, ◌%◌, ◌^◌, ◌<◌, ◌≤◌, refl, arith}
+use Rattle.std.proofs.Common.{◌≡◌, ◌^◌, ◌≤◌, refl, arith}
 use Rattle.page_state.specs.declared.entry.Entry.{Entry}
 use Rattle.page_state.specs.declared.entry.Entry.TheVariants.{Unmapped, Malformed, Annotated, Leaf}
 use Rattle.page_state.specs.declared.layout.Geometry.{Geometry}

@@ -1,3 +1,12 @@
 pub mod Entries
 pub mod Pools
 pub mod Changes
+pub mod Shares
+pub mod Answers
+pub mod Booted
+pub mod Boots
+pub mod Told
+pub mod Steps
+pub mod Histories
+pub mod Runs
+pub mod Places

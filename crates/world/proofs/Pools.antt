@@ -1,6 +1,6 @@
 -- The lowest frames of a pool, taken and given back.
-use Rattle.std.proofs.Common.{◌≡◌, ℕ, zero, suc, ◌+◌, ◌≤◌, ap, sym, ◌∙◌, arith, length, length-append, take, drop, List, [], ◌∷◌, ◌++◌, sum_by}
-use Rattle.std.proofs.lemmas.List.{take-append-drop, drop-drop}
+use Rattle.std.proofs.Common.{◌≡◌, ℕ, zero, suc, ◌+◌, ◌≤◌, ap, sym, ◌∙◌, arith, length, length-append, take, drop, List, [], ◌∷◌, ◌++◌}
+use Rattle.std.proofs.lemmas.List.{take-append-drop}
 use Rattle.std.proofs.lemmas.List.Sums.{sum_by-append, sum_by-take-drop}
 use Rattle.page_state.specs.State.{Pool}
 use Rattle.page_state.specs.Tables.{all_given}

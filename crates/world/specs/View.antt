@@ -1,5 +1,5 @@
 -- What contracts see of a world, in the words of the reference state.
-use Rattle.std.specs.Prelude.{◌≡◌, ℕ, ◌+◌, ◌≤◌, List, length}
+use Rattle.std.specs.Prelude.{ℕ, ◌+◌, ◌≤◌, List, length}
 use Rattle.std.specs.Coded.{×_prop, le_prop, Π_prop}
 use Rattle.page_state.specs.Regions.{end_of}
 use Rattle.page_state.specs.State.{Tree}

@@ -1,16 +1,24 @@
 //! Booting a world.
-ghost use Rattle.std.specs.Prelude.{◌≡◌, ◌+◌, ◌<◌, ◌≤◌, ◌^◌, ◌∷◌, IfOk, vec_len};
+ghost use Rattle.std.specs.Prelude.{◌≡◌, ◌+◌, ◌<◌, ◌≤◌, ◌^◌, ◌↔◌, [], ◌∷◌, All, IsTrue, IfOk, OnErr, MatchOption, MatchResult, vec_len, length, drop};
 ghost use Rattle.hyp_pool.specs.Pools.{IsPool};
+ghost use Rattle.page_state.specs.Boot.{IsCarveEnough, boot_shared, frames_from};
 ghost use Rattle.page_state.specs.EntryTests.{leaf as leaf_of, annotation};
 ghost use Rattle.page_state.specs.Layouts.{hyp_page as hyp_page_of};
 ghost use Rattle.page_state.specs.Regions.{end_of};
-ghost use Rattle.world.specs.View.{IsEdit};
+ghost use Rattle.page_state.specs.State.{plain_row};
+ghost use Rattle.table_tree.specs.Geometry.{levels_below};
+ghost use Rattle.world.specs.Boots.{IsBooted, IsConfig, IsNoBoot, boot_number, layout_for};
+ghost use Rattle.world.specs.Stands.{shared_of};
+ghost use Rattle.table_tree.specs.View.{tree_of};
+ghost use Rattle.walk_plan.specs.NewTree.{new_tree};
+ghost use Rattle.world.specs.View.{IsApart, IsEdit};
 
 use crate::both::change_both;
 use crate::parts::{CpuState, Parts, Shared};
 use crate::share::{hyp_page, leaf};
 use crate::{Component, Log, PageEdit};
 use hyp_pool::{Pool, PoolFault, laws};
+use page_state::laws::blocks_on_range;
 use page_state::{
     Config, Entry, Frame, Geometry, Layout, MemoryMap, Owner, Page, PageRange, Prot, State,
 };
@@ -44,7 +52,9 @@ pub enum BootFault {
 
 impl BootFault {
     /// The fault's number.
-    pub fn number(self) -> u64 {
+    pub fn number(self) -> u64
+        ensures { result ≡ boot_number self }
+    {
         match self {
             BootFault::Config => 1,
             BootFault::CarveSmall => 2,
@@ -54,6 +64,10 @@ impl BootFault {
 }
 
 impl From<PoolFault> for BootFault {
+    ghost use Rattle.world.specs.Boots.{fault_of_pool};
+
+    ghost from_gives = { λ fault boots. boots ≡ fault_of_pool fault };
+
     fn from(fault: PoolFault) -> BootFault {
         match fault {
             PoolFault::NoPool => BootFault::CarveSmall,
@@ -63,13 +77,19 @@ impl From<PoolFault> for BootFault {
 }
 
 impl From<AllocError> for BootFault {
+    ghost use Rattle.world.specs.declared.boot.BootFault.TheVariants.{NoMemory};
+
+    ghost from_gives = { λ _ fault. fault ≡ NoMemory };
+
     fn from(_error: AllocError) -> BootFault {
         BootFault::NoMemory
     }
 }
 
 /// The geometry of an accepted configuration.
-fn geometry_of(config: &Config) -> Option<Geometry> {
+fn geometry_of(config: &Config) -> Option<Geometry>
+    ensures { MatchOption result ((g : Geometry) → IsConfig config.now g → ⊥) (IsConfig config.now) }
+{
     let is_good = config.cpus >= 1
         && config.cpus <= MOST_CPUS
         && config.log >= 1
@@ -110,45 +130,80 @@ fn hyp_edit(carve: PageRange) -> PageEdit
     }
 }
 
-/// Whether the carve-out has fewer frames than boot needs tables: the roots, and those below them.
-fn is_small(geometry: Geometry, carve: PageRange) -> bool
-    requires low { end_of carve ≤ 2 ^ 26 }
-    requires some { 1 ≤ carve.count }
+/// Whether so many frames are one for each root, and one for each table below them.
+fn is_enough(frames: u64, host_need: usize, hyp_need: usize) -> bool
+    ensures { IsTrue result ↔ (2 + host_need + hyp_need ≤ frames) }
 {
+    frames >= 2
+        && host_need as u64 <= frames - 2
+        && hyp_need as u64 <= frames - 2 - host_need as u64
+}
+
+/// Whether the carve-out has a frame for each table that boot needs.
+fn is_carve_enough(map: &MemoryMap, geometry: Geometry) -> bool
+    ensures { (config : Config) → IsTrue result ↔ IsCarveEnough (layout_for map.now config geometry) }
+{
+    let carve = map.carve();
     let host = host_edit(carve);
     let hyp = hyp_edit(carve);
-    let host_need = need_of_new(geometry, host.range, &host.entry) as u64;
-    let hyp_need = need_of_new(geometry, hyp.range, &hyp.entry) as u64;
-    carve.count < 2 || carve.count - 2 < host_need || carve.count - 2 - host_need < hyp_need
+    let host_need = need_of_new(geometry, host.range, &host.entry);
+    let hyp_need = need_of_new(geometry, hyp.range, &hyp.entry);
+    is_enough(carve.count, host_need, hyp_need)
 }
 
 /// Takes the lowest frame for a root.
-fn take_root(pool: &mut Pool) -> Result<Frame, BootFault>
-    ensures taken { IfOk result (λ f. pool.old.frames ≡ f.0 ∷ pool.new.frames) }
-    ensures low { IfOk result (λ f. f.0 < 2 ^ 36) }
+fn take_root(pool: &mut Pool) -> Frame
+    requires { 0 < length pool.old.frames }
+    ensures taken { pool.old.frames ≡ result.0 ∷ pool.new.frames }
+    ensures low { result.0 < 2 ^ 36 }
     ensures room { pool.new.room ≡ pool.old.room }
     ensures pool { IsPool pool.new }
 {
-    pool.take().ok_or(BootFault::CarveSmall)
+    pool.take().unwrap()
+}
+
+/// Trees of their roots alone, which take the lowest two frames of the carve-out, and the pool of those left.
+fn roots<A: Allocator + Copy>(
+    global: Global,
+    alloc: A,
+    map: &MemoryMap,
+    geometry: Geometry,
+) -> Result<(Component<A>, Component<A>, Pool), AllocError>
+    requires { 2 ≤ map.now.carve.count }
+    ensures host { IfOk result (λ r. tree_of r.0.tree ≡ new_tree (levels_below geometry) map.now.carve.first.0) }
+    ensures hyp { IfOk result (λ r. tree_of r.1.tree ≡ new_tree (levels_below geometry) (map.now.carve.first.0 + 1)) }
+    ensures pool { IfOk result (λ r. r.2.frames ≡ drop 2 (frames_from map.now.carve.first.0 map.now.carve.count)) }
+    ensures host_geometry { IfOk result (λ r. r.0.tree.geometry ≡ geometry) }
+    ensures hyp_geometry { IfOk result (λ r. r.1.tree.geometry ≡ geometry) }
+    ensures apart { IfOk result (λ r. IsApart r.0.tree r.1.tree r.2) }
+{
+    laws::counted_frames();
+    let carve = map.carve();
+    let mut pool = Pool::of(global, Frame(carve.first.0), carve.count as usize)?;
+    let host_root = take_root(&mut pool);
+    let hyp_root = take_root(&mut pool);
+    let host = Component::new(global, Tree::new(alloc, host_root, geometry)?);
+    let hyp = Component::new(global, Tree::new(alloc, hyp_root, geometry)?);
+    Ok((host, hyp, pool))
 }
 
 /// The Shared part at boot.
 fn shared_at_boot<A: Allocator + Copy>(
     global: Global,
     alloc: A,
-    carve: PageRange,
+    map: &MemoryMap,
     config: Config,
     geometry: Geometry,
 ) -> Result<Shared<A>, BootFault>
-    requires some { 1 ≤ carve.count }
-    requires low { end_of carve ≤ 2 ^ 26 }
+    requires { IsCarveEnough (layout_for map.now config geometry) }
+    ensures shared { IfOk result (λ s. shared_of (λ f. plain_row) s ≡ boot_shared (layout_for map.now config geometry)) }
+    ensures depth { IfOk result (λ s. levels_below s.host.tree.geometry ≡ levels_below geometry) }
+    ensures log { IfOk result (λ s. s.log.calls ≡ []) }
+    ensures err { OnErr result (result ≡ Err BootFault.NoMemory) }
 {
-    laws::counted_frames();
-    let mut pool = Pool::of(global, Frame(carve.first.0), carve.count as usize)?;
-    let host_root = take_root(&mut pool)?;
-    let hyp_root = take_root(&mut pool)?;
-    let mut host = Component::new(global, Tree::new(alloc, host_root, geometry)?);
-    let mut hyp = Component::new(global, Tree::new(alloc, hyp_root, geometry)?);
+    blocks_on_range();
+    let carve = map.carve();
+    let (mut host, mut hyp, mut pool) = roots(global, alloc, map, geometry)?;
     change_both(
         global,
         alloc,
@@ -168,7 +223,9 @@ fn shared_at_boot<A: Allocator + Copy>(
 
 /// The CPUs at boot.
 fn cpus_at_boot(global: Global, config: Config) -> Result<Vec<CpuState>, BootFault>
-    ensures { IfOk result (λ cpus. vec_len cpus ≡ config.cpus) }
+    ensures count { IfOk result (λ cpus. vec_len cpus ≡ config.cpus) }
+    ensures logs { IfOk result (λ cpus. All (λ k. (k.log.calls ≡ []) × (k.log.room ≡ config.log)) cpus.items) }
+    ensures err { OnErr result (result ≡ Err BootFault.NoMemory) }
 {
     let mut cpus = Vec::with_capacity(global, config.cpus as usize)?;
     for _made in 0..config.cpus {
@@ -185,14 +242,15 @@ pub fn booted<A: Allocator + Copy>(
     map: &MemoryMap,
     config: Config,
 ) -> Result<Parts<A>, BootFault>
-    ensures layout { IfOk result (λ parts. parts.layout ≡ record { map = map.now; config = config }) }
+    ensures { MatchResult result (IsBooted map.now config) (λ fault. IsNoBoot fault map.now config) }
 {
-    let geometry = geometry_of(&config).ok_or(BootFault::Config)?;
-    let carve = map.carve();
-    if is_small(geometry, carve) {
+    let Some(geometry) = geometry_of(&config) else {
+        return Err(BootFault::Config);
+    };
+    if !is_carve_enough(map, geometry) {
         return Err(BootFault::CarveSmall);
     }
-    let shared = shared_at_boot(global, alloc, carve, config, geometry)?;
+    let shared = shared_at_boot(global, alloc, map, config, geometry)?;
     let cpus = cpus_at_boot(global, config)?;
     Ok(Parts {
         layout: Layout {

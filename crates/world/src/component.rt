@@ -1,5 +1,5 @@
 //! A tree and the maplets that say the same.
-ghost use Rattle.std.specs.Prelude.{◌≡◌, ℕ, ◌+◌, ◌<◌, ◌≤◌, ◌^◌, length, OnOk};
+ghost use Rattle.std.specs.Prelude.{◌≡◌, ℕ, ◌+◌, ◌<◌, ◌≤◌, ◌^◌, length, IsOk, OnOk};
 ghost use Rattle.page_state.specs.Map.{empty_map};
 ghost use Rattle.page_state.specs.Runs.{map_of};
 ghost use Rattle.page_state.specs.Tables.{all_given};
@@ -46,6 +46,7 @@ impl<A: Allocator> Component<A> {
     /// Makes room in the maplets for so many pages. A refusal changes nothing.
     pub(crate) fn reserve(&mut self, pages: u64) -> Result<(), AllocError>
         ensures ok { OnOk result (pages ≤ self.new.maplets.room) }
+        ensures succeeds { pages ≤ self.old.maplets.room → IsOk result }
         ensures tree { self.new.tree ≡ self.old.tree }
         ensures runs { self.new.maplets.runs ≡ self.old.maplets.runs }
     {

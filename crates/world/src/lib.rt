@@ -1,11 +1,15 @@
 //! The world: memory, its trees and maplets, and the CPUs that make steps on it one after another.
 #![tactic(auto)]
 
-ghost use Rattle.std.specs.Prelude.{◌≡◌, ◌<◌, IfOk};
+ghost use Rattle.std.specs.Prelude.{◌≡◌, ◌<◌, MatchResult};
+ghost use Rattle.world.specs.Boots.{IsBooted, IsNoBoot};
+ghost use Rattle.world.specs.Histories.{HasHistory};
+ghost use Rattle.world.specs.Steps.{IsStep};
 
 mod boot;
 mod both;
 mod component;
+pub mod laws;
 mod log;
 mod parts;
 mod share;
@@ -13,17 +17,18 @@ mod share;
 pub use boot::BootFault;
 pub use component::{Component, PageEdit};
 pub use log::Log;
-use page_state::{Call, Config, MemoryMap, Refusal, Reply, Step};
+use page_state::laws::{frame_rule, history_grows};
+use page_state::{Config, MemoryMap, Reply, Step};
 pub use parts::{CpuState, Parts, Shared};
-use share::share_hyp;
 use std::alloc::{Allocator, Global};
 
-/// A booted world. `A` is where the tables of all trees lie.
+/// A booted world, which stands at the end of one legal history. `A` is where the tables of all trees lie.
 #[derive(Drop)]
 pub struct World<A: Allocator> {
     global: Global,
     alloc: A,
     pub parts: Parts<A>,
+    pub ghost history: { ∥ HasHistory parts ∥₁ },
 }
 
 impl<A: Allocator + Copy> World<A> {
@@ -35,8 +40,9 @@ impl<A: Allocator + Copy> World<A> {
         map: &MemoryMap,
         config: Config,
     ) -> Result<World<A>, BootFault>
-        ensures layout { IfOk result (λ w. w.parts.layout ≡ record { map = map.now; config = config }) }
+        ensures { MatchResult result (λ w. IsBooted map.now config w.parts) (λ fault. IsNoBoot fault map.now config) }
     {
+        history_grows();
         let parts = boot::booted(global, alloc, map, config)?;
         Ok(World {
             global,
@@ -49,30 +55,11 @@ impl<A: Allocator + Copy> World<A> {
     pub fn step(&mut self, cpu: u64, step: Step) -> Reply
         requires { cpu < self.old.parts.layout.config.cpus }
         ensures layout { self.new.parts.layout ≡ self.old.parts.layout }
+        ensures step { IsStep self.old.parts cpu step result self.new.parts }
     {
-        let global = self.global;
-        let alloc = self.alloc;
-        let parts = &mut self.parts;
-        let place = cpu as usize;
-        if parts.cpus[place].log.is_full() || parts.shared.log.is_full() {
-            return Reply::Refused(Refusal::LogFull);
-        }
-        let reply = match step {
-            Step::ShareHyp { pfn } => {
-                share_hyp(global, alloc, &parts.layout.map, &mut parts.shared, pfn)
-            }
-        };
-        let log = &mut parts.cpus[place].log;
-        let call = Call {
-            cpu,
-            number: log.len() as u64 + 1,
-            step,
-            reply,
-            slot: None,
-        };
-        log.store(call);
-        parts.shared.log.store(call);
-        reply
+        frame_rule();
+        history_grows();
+        self.parts.step(self.global, self.alloc, cpu, step)
     }
 }
 

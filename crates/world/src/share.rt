@@ -1,16 +1,17 @@
 //! The steps of host and hypervisor.
-ghost use Rattle.std.specs.Prelude.{◌≡◌, ◌+◌, ◌<◌, ◌≤◌, ◌^◌, ◌↔◌, IsTrue, true};
-ghost use Rattle.page_state.specs.declared.entry.Entry.TheVariants.{Unmapped};
+ghost use Rattle.std.specs.Prelude.{◌≡◌, ◌+◌, ◌<◌, ◌≤◌, ◌^◌, not, ◌||◌};
 ghost use Rattle.page_state.specs.Layouts.{hyp_page as hyp_page_of};
+ghost use Rattle.table_tree.specs.Geometry.{levels_below};
 ghost use Rattle.table_tree.specs.View.{meaning};
-ghost use Rattle.page_state.specs.EntryTests.{is_free_page as is_free_entry, leaf as leaf_of};
+ghost use Rattle.page_state.specs.EntryTests.{is_free_page as is_free_entry, is_mapped as is_mapped_entry, leaf as leaf_of};
+ghost use Rattle.world.specs.Sharing.{IsAnswered, IsMade};
 
 use crate::both::change_both;
 use crate::component::PageEdit;
 use crate::parts::Shared;
 use hyp_pool::PoolFault;
 use page_state::{
-    Entry, Frame, Kind, MemoryMap, Page, PageRange, Prot, Refusal, Reply, State, Value,
+    Entry, Frame, Kind, MemoryMap, Page, PageRange, Prot, Refusal, Reply, State, Step, Value,
 };
 use std::alloc::{Allocator, Global};
 
@@ -48,17 +49,20 @@ fn is_free_page(entry: Entry) -> bool
     )
 }
 
+/// Whether something stands at a page.
+fn is_mapped(entry: Entry) -> bool
+    ensures { result ≡ is_mapped_entry entry }
+{
+    !matches!(entry, Entry::Unmapped)
+}
+
 /// Whether the host may give its page of a frame away, and the hypervisor's page of it is unmapped.
 fn may_share<A: Allocator>(shared: &Shared<A>, pfn: u64) -> bool
     requires { pfn < 2 ^ 26 }
-    ensures { IsTrue result ↔ (is_free_entry (meaning shared.now.host.tree pfn) ≡ true) × (meaning shared.now.hyp.tree (hyp_page_of pfn) ≡ Unmapped) }
+    ensures { result ≡ not (not (is_free_entry (meaning shared.now.host.tree pfn)) || is_mapped_entry (meaning shared.now.hyp.tree (hyp_page_of pfn))) }
 {
     is_free_page(shared.host.tree().look(Page(pfn)))
-        && shared
-            .hyp
-            .tree()
-            .look(hyp_page(pfn))
-            .is_same(Entry::Unmapped)
+        && !is_mapped(shared.hyp.tree().look(hyp_page(pfn)))
 }
 
 /// The change of one page.
@@ -72,7 +76,7 @@ fn page_edit(page: Page, entry: Entry) -> PageEdit
     PageEdit { range, entry }
 }
 
-/// The host shares a frame with the hypervisor.
+/// The host shares a frame with the hypervisor. The tests are made in the order Invalid, Perm, NoPool.
 pub fn share_hyp<A: Allocator + Copy>(
     global: Global,
     alloc: A,
@@ -80,41 +84,41 @@ pub fn share_hyp<A: Allocator + Copy>(
     shared: &mut Shared<A>,
     pfn: u64,
 ) -> Reply
+    ensures answer { IsAnswered map.now pfn shared.old result shared.new }
     ensures log { shared.new.log ≡ shared.old.log }
-{
-    match try_share_hyp(global, alloc, map, shared, pfn) {
-        Ok(()) => Reply::Done(Value::Nothing),
-        Err(refusal) => Reply::Refused(refusal),
-    }
-}
-
-fn try_share_hyp<A: Allocator + Copy>(
-    global: Global,
-    alloc: A,
-    map: &MemoryMap,
-    shared: &mut Shared<A>,
-    pfn: u64,
-) -> Result<(), Refusal>
-    ensures log { shared.new.log ≡ shared.old.log }
+    ensures depth { levels_below shared.new.host.tree.geometry ≡ levels_below shared.old.host.tree.geometry }
 {
     if !map.is_memory(Page(pfn)) {
-        return Err(Refusal::Invalid);
+        return Reply::Refused(Refusal::Invalid);
     }
     if !may_share(shared, pfn) {
-        return Err(Refusal::Perm);
+        return Reply::Refused(Refusal::Perm);
     }
     let host_edit = page_edit(Page(pfn), leaf(pfn, Prot::RWX, State::SharedOwned));
     let hyp_edit = page_edit(hyp_page(pfn), leaf(pfn, Prot::RW, State::SharedBorrowed));
     let host = &mut shared.host;
     let hyp = &mut shared.hyp;
     let pool = &mut shared.pool;
-    change_both(global, alloc, host, hyp, pool, host_edit, hyp_edit).map_err(refusal_of)
+    match change_both(global, alloc, host, hyp, pool, host_edit, hyp_edit) {
+        Ok(()) => Reply::Done(Value::Nothing),
+        Err(PoolFault::NoPool) => Reply::Refused(Refusal::NoPool),
+        Err(PoolFault::NoMemory) => Reply::Refused(Refusal::NoMemory),
+    }
 }
 
-/// What a step answers where its tables can't be had.
-fn refusal_of(fault: PoolFault) -> Refusal {
-    match fault {
-        PoolFault::NoPool => Refusal::NoPool,
-        PoolFault::NoMemory => Refusal::NoMemory,
+/// Makes a step on the Shared part.
+pub fn make<A: Allocator + Copy>(
+    global: Global,
+    alloc: A,
+    map: &MemoryMap,
+    shared: &mut Shared<A>,
+    step: Step,
+) -> Reply
+    ensures answer { IsMade map.now step shared.old result shared.new }
+    ensures log { shared.new.log ≡ shared.old.log }
+    ensures depth { levels_below shared.new.host.tree.geometry ≡ levels_below shared.old.host.tree.geometry }
+{
+    match step {
+        Step::ShareHyp { pfn } => share_hyp(global, alloc, map, shared, pfn),
     }
 }

@@ -7,7 +7,7 @@ use arrayvec::ArrayVec;
 use descriptor::{Desc, Frame, Level, encode};
 use ghost_spec::blocks::Block;
 use ghost_spec::{boot, runs, share, tree};
-use page_state::{Page, PageRange, Region, RegionKind, Run, Value};
+use page_state::{Page, PageRange, Refusal, Region, RegionKind, Run, Value};
 use std::alloc::AllocError;
 use std::process::Abort;
 use std::test::Fail;

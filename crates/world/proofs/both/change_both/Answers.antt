@@ -1,4 +1,4 @@
-use Rattle.std.proofs.Common.{◌≡◌, ℕ, ◌+◌, ◌≤◌, ap, sym, subst, ◌∙◌, arith, length, take, drop, ◌++◌}
+use Rattle.std.proofs.Common.{◌≡◌, ℕ, ◌+◌, ◌≤◌, ap, ◌∙◌, arith, length, take, drop, ◌++◌}
 use Rattle.page_state.specs.Tables.{all_given}
 use Rattle.std.proofs.lemmas.List.{drop-drop}
 use Rattle.table_tree.specs.Stocks.{frames_of}

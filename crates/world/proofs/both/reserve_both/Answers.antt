@@ -1,4 +1,4 @@
-use Rattle.std.proofs.Common.{◌≡◌, ℕ, ◌+◌, ◌≤◌, ap, sym, ◌∙◌, arith, length, take, drop}
+use Rattle.std.proofs.Common.{◌≡◌, ap, ◌∙◌, arith, length, take, drop}
 use Rattle.page_state.specs.Tables.{all_given}
 use Rattle.table_tree.specs.Stocks.{frames_of}
 use Rattle.table_tree.specs.Tables.{frame_count}

@@ -5,4 +5,4 @@ use Rattle.trace_text.proofs.session.Session.boot.Goals as goal
 pub returns-in-Ok-clause-done : goal.returns-in-Ok-clause-done
 returns-in-Ok-clause-done g c =
     matched c.args.self.now.settings.carve c.in-Some.carve _ _ (search rules)
-    (c.in-Ok.world, c.boot_line-line.result, refl, record { layout = search rules; line = search rules; standing = refl })
+    (c.in-Ok.world, c.boot_line-line.result, refl, record { booted = search rules; line = search rules; standing = refl })

@@ -1,4 +1,4 @@
-use Rattle.std.proofs.Common.{◌≡◌, ap, sym, ◌∙◌, Option}
+use Rattle.std.proofs.Common.{ap, sym, ◌∙◌, Option}
 use Rattle.page_state.specs.declared.entry.Entry.{Entry}
 use Rattle.page_state.specs.declared.entry.Target.{Target}
 use Rattle.page_state.specs.Entries.{entry_of}

@@ -1,0 +1,50 @@
+-- What a share answers, from what the change of both maps did.
+use Rattle.std.proofs.Common.{◌≡◌, ◌<◌, ℕ, ◌+◌, ◌++◌, Bool, true, false, nat_lt, drop, List, sym, ap, refl, ◌∙◌}
+use Rattle.std.proofs.lemmas.Bool.{ltb-true}
+use Rattle.page_state.specs.declared.row.Row.{Row}
+use Rattle.hyp_pool.specs.Pools.{Stored}
+use Rattle.page_state.specs.Layouts.{Layout}
+use Rattle.page_state.specs.SharedRules.{share_hyp}
+use Rattle.page_state.specs.State.{Shared as ReferenceShared, Cpu, Tree}
+use Rattle.page_state.specs.Step.{shared_after}
+use Rattle.page_state.specs.Tables.{need, edited, returned, all_given}
+use Rattle.table_tree.specs.declared.tree.Tree.{Tree as TableTree}
+use Rattle.table_tree.specs.View.{tree_of}
+use Rattle.world.specs.declared.parts.Shared.{Shared}
+use Rattle.world.specs.Stands.{shared_of}
+use Rattle.world.specs.Sharing.{used_alone, host_change, hyp_change}
+
+only_false : (b : Bool) → (b ≡ true → ⊥) → b ≡ false
+only_false true h = absurd (h refl)
+only_false false h = refl
+
+pub not_less : (a b : ℕ) → (a < b → ⊥) → nat_lt a b ≡ false
+not_less a b h = only_false (nat_lt a b) (λ t. h (ltb-true a b t))
+
+-- parts with the same trees, pool and room
+abbrev pub parts : (ℕ → Row) → Tree → Tree → List ℕ → ℕ → ReferenceShared
+parts row host hyp free room = record { host = host; hyp = hyp; free = free; row = row; room = room }
+
+module _ {A : Type 0} (s : Shared A) (host hyp : TableTree A) (pool : Stored) where
+  -- a part whose trees and pool stay is the same
+  pub same : host ≡ s.host.tree → hyp ≡ s.hyp.tree → pool ≡ s.pool → (row : ℕ → Row) → shared_of row s ≡ record { host = tree_of host; hyp = tree_of hyp; free = pool.frames; row = row; room = s.log.room }
+  same a b c row = sym (
+      ap (λ x. parts row (tree_of x) (tree_of hyp) pool.frames s.log.room) a
+      ∙ ap (λ x. parts row (tree_of s.host.tree) (tree_of x) pool.frames s.log.room) b
+      ∙ ap (λ x. parts row (tree_of s.host.tree) (tree_of s.hyp.tree) x.frames s.log.room) c)
+
+  -- and one whose trees and pool changed as the rule says is the changed one
+  pub changed : (l : Layout) (f : ℕ) (k : Cpu) → let d = l.depth in
+      tree_of host ≡ edited d (tree_of s.host.tree) (host_change f) s.pool.frames
+      → tree_of hyp ≡ edited d (tree_of s.hyp.tree) (hyp_change f) (drop (need d (tree_of s.host.tree) (host_change f)) s.pool.frames)
+      → pool.frames ≡ all_given (returned d (tree_of s.host.tree) (host_change f) ++ returned d (tree_of s.hyp.tree) (hyp_change f)) (drop (need d (tree_of s.host.tree) (host_change f) + need d (tree_of s.hyp.tree) (hyp_change f)) s.pool.frames)
+      → (row : ℕ → Row) → shared_after d (share_hyp l (used_alone (shared_of row s) k) f) (shared_of row s) ≡ record { host = tree_of host; hyp = tree_of hyp; free = pool.frames; row = row; room = s.log.room }
+  unfolding shared_after
+  changed l f k a b c row =
+      let d = l.depth in
+      let n = need d (tree_of s.host.tree) (host_change f) in
+      let host_after = edited d (tree_of s.host.tree) (host_change f) s.pool.frames in
+      let hyp_after = edited d (tree_of s.hyp.tree) (hyp_change f) (drop n s.pool.frames) in
+      sym (ap (λ x. parts row x (tree_of hyp) pool.frames s.log.room) a
+      ∙ ap (λ x. parts row host_after x pool.frames s.log.room) b
+      ∙ ap (λ x. parts row host_after hyp_after x s.log.room) c)

@@ -1,0 +1,21 @@
+-- A law over lists of steps, proved on the contract of the function of its name.
+use Rattle.std.specs.Prelude.{◌≡◌, ◌<◌, List}
+use Rattle.page_state.specs.declared.layout.Config.{Config}
+use Rattle.page_state.specs.declared.reply.Call.{Call}
+use Rattle.page_state.specs.Regions.{Memory}
+use Rattle.page_state.specs.Run.{Runs, IsRun}
+use Rattle.page_state.specs.State.{Reference}
+use Rattle.world.specs.declared.parts.Parts.{Parts}
+use Rattle.world.specs.Boots.{IsBooted}
+use Rattle.world.specs.Stands.{layout_of, state_of}
+use Rattle.world.specs.Steps.{call_of, IsStep}
+
+-- parts go on to others by a step of one of their CPUs, and this is its call, which holds the reply
+pub record Goes {A : Type 0} (p : Parts A) (c : Call) (q : Parts A) : Type 0 where
+  pub inside : c.cpu < p.layout.config.cpus
+  pub call : c ≡ call_of p c.cpu c.step c.reply
+  pub step : IsStep p c.cpu c.step c.reply q
+
+-- after any list of steps from a boot on, the calls are a run of the reference step, and the parts stand for its end
+abbrev pub StepsRun : Type 0 → Type 0
+StepsRun A = (m : Memory) (config : Config) (p q : Parts A) (cs : List Call) → IsBooted m config p → Runs Goes p cs q → (t : Reference) × IsRun (layout_of p) cs t × (t ≡ state_of t.shared.row q)
