@@ -1,10 +1,8 @@
 //! The Shared part at boot, on lists.
 ghost use Rattle.std.specs.Prelude.{◌≡◌, ℕ, ◌+◌, ◌^◌, ◌<◌, ◌≤◌, ◌↔◌, IsTrue, IfOk, IfSome, IsSome};
-ghost use Rattle.page_state.specs.declared.layout.Config.{Config as AnyConfig};
 ghost use Rattle.page_state.specs.Boot.{boot_shared, IsCarveEnough, frames_from as frames_of, root_tree as root_tree_of};
 ghost use Rattle.page_state.specs.EntryTests.{annotation, leaf};
 ghost use Rattle.page_state.specs.Layouts.{hyp_page as hyp_page_of};
-ghost use Rattle.page_state.specs.Regions.{Memory};
 ghost use Rattle.page_state.specs.State.{plain_row};
 ghost use Rattle.ghost_spec.specs.Sharing.{HasSmallRuns, layout_of, shared_of};
 ghost use Rattle.ghost_spec.specs.Small.{AreSmall};
@@ -86,7 +84,7 @@ fn hyp_entry(frame: u64) -> Entry
 /// A tree of its root alone, in which nothing is mapped.
 fn root_tree(alloc: Global, depth: u64, root: u64) -> Result<Tree, AllocError>
     requires { depth ≤ 3 }
-    ensures tree { IfOk result (λ t. (m : Memory) (config : AnyConfig) → tree_of t ≡ root_tree_of (layout_of m config depth) root) }
+    ensures tree { IfOk result (λ t. tree_of t ≡ root_tree_of depth root) }
     ensures small { IfOk result (λ t. AreSmall t.runs.items) }
 {
     let mut tables = Vec::new(alloc);

@@ -207,7 +207,7 @@ pool-place l enough f h =
 host-place : (l : Layout) → IsCarveEnough l → (f : ℕ) (block : Block) → (boot l).shared.host.table block ≡ Some f → (table_of 0 block ≡ place_of l f) × InCarve l f
 host-place l enough f block h =
     let stands : (edited l.depth (host_root l) (host_edit l) (spare l)).table block ≡ Some f = subst (λ (t : Tree). t.table block ≡ Some f) (host-tree l) h in
-    elim (tables-of l (carve_first l) (host_edit l) (carve_first l + 2) (l.memory.carve.count - 2) (spare l) block f (spare-frames l) stands) [
+    elim (tables-of l.depth (carve_first l) (host_edit l) (carve_first l + 2) (l.memory.carve.count - 2) (spare l) block f (spare-frames l) stands) [
       | inl at ↦
           let e : f ≡ carve_first l = at.0 in
           let a : (f == carve_first l) ≡ true = grind (arith, nat_tests) in
@@ -224,7 +224,7 @@ host-place l enough f block h =
 hyp-place : (l : Layout) → IsCarveEnough l → (f : ℕ) (block : Block) → (boot l).shared.hyp.table block ≡ Some f → (table_of 1 block ≡ place_of l f) × InCarve l f
 hyp-place l enough f block h =
     let stands : (edited l.depth (hyp_root l) (hyp_edit l) (drop (host_need l) (spare l))).table block ≡ Some f = subst (λ (t : Tree). t.table block ≡ Some f) (hyp-tree l) h in
-    elim (tables-of l (carve_first l + 1) (hyp_edit l) (hyp_tables l) (l.memory.carve.count - 2 - host_need l) (drop (host_need l) (spare l)) block f (after-host l) stands) [
+    elim (tables-of l.depth (carve_first l + 1) (hyp_edit l) (hyp_tables l) (l.memory.carve.count - 2 - host_need l) (drop (host_need l) (spare l)) block f (after-host l) stands) [
       | inl at ↦
           let e : f ≡ carve_first l + 1 = at.0 in
           let a : (f == carve_first l) ≡ false = grind (arith, nat_tests) in

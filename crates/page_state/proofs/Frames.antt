@@ -157,12 +157,12 @@ root-table depth root b f h = elim (both (b.0 == depth + 1 && b.1 == 0)) [
 ]
 
 -- the tables of a tree whose root alone stood before a change, where the new ones get consecutive frames
-pub tables-of : (l : Layout) (root : ℕ) (e : Edit) (first n : ℕ) (fs : Pool) (b : Block) (f : ℕ) → fs ≡ frames_from first n → (edited l.depth (root_tree l root) e fs).table b ≡ Some f
-    → ((f ≡ root) × (b ≡ (l.depth + 1, 0))) ⊎ ((first ≤ f) × (f < first + need l.depth (root_tree l root) e) × (b ≡ nth (needs l.depth (root_tree l root) e) (f - first)))
+pub tables-of : (d root : ℕ) (e : Edit) (first n : ℕ) (fs : Pool) (b : Block) (f : ℕ) → fs ≡ frames_from first n → (edited d (root_tree d root) e fs).table b ≡ Some f
+    → ((f ≡ root) × (b ≡ (d + 1, 0))) ⊎ ((first ≤ f) × (f < first + need d (root_tree d root) e) × (b ≡ nth (needs d (root_tree d root) e) (f - first)))
 unfolding edited
-tables-of l root e first n fs b f same h =
-    let old = (root_tree l root).table in
-    let new = needs l.depth (root_tree l root) e in
-    let stands : placed new fs old b ≡ Some f = cleared-old (freed l.depth (root_tree l root) e) (placed new fs old) b f h in
+tables-of d root e first n fs b f same h =
+    let old = (root_tree d root).table in
+    let new = needs d (root_tree d root) e in
+    let stands : placed new fs old b ≡ Some f = cleared-old (freed d (root_tree d root) e) (placed new fs old) b f h in
     let row : placed new (frames_from first n) old b ≡ Some f = rw same at stands in
-    elim (placed-frames new first n old b f row) [ inl p ↦ inl (root-table l.depth root b f p) | inr p ↦ inr p ]
+    elim (placed-frames new first n old b f row) [ inl p ↦ inl (root-table d root b f p) | inr p ↦ inr p ]

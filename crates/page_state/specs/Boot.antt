@@ -14,9 +14,9 @@ abbrev pub frames_from : ℕ → ℕ → Pool
 frames_from first zero = []
 frames_from first (suc n) = first ∷ frames_from (first + 1) n
 
--- a tree of its root alone, in which nothing is mapped
-abbrev pub root_tree : Layout → ℕ → Tree
-root_tree l root = record { map = empty_map; table = λ b. if b.0 == l.depth + 1 && b.1 == 0 then Some root else None }
+-- a tree of its root alone, which has so many levels below it, in which nothing is mapped
+abbrev pub root_tree : ℕ → ℕ → Tree
+root_tree depth root = record { map = empty_map; table = λ b. if b.0 == depth + 1 && b.1 == 0 then Some root else None }
 
 module _ (l : Layout) where
   -- the first frame of the carve-out
@@ -33,11 +33,11 @@ module _ (l : Layout) where
 
   -- the host's root takes the lowest frame of the carve-out
   abbrev pub host_root : Tree
-  host_root = root_tree l carve_first
+  host_root = root_tree l.depth carve_first
 
   -- and the hypervisor's the next
   abbrev pub hyp_root : Tree
-  hyp_root = root_tree l (carve_first + 1)
+  hyp_root = root_tree l.depth (carve_first + 1)
 
   -- the frames that are left
   abbrev pub spare : Pool

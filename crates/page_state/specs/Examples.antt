@@ -46,7 +46,7 @@ ok = Done Nothing
 
 -- the need of a change on an empty tree of 39 bits
 abbrev pub need_of : ℕ → ℕ → Entry → ℕ
-need_of first count entry = need 2 (root_tree (layout 64 64) 0) (put first count entry)
+need_of first count entry = need 2 (root_tree 2 0) (put first count entry)
 
 -- two pages on either side of a block's edge need three tables; an aligned block none at its own level, but for a frame that isn't aligned; what isn't mapped needs none
 abbrev pub NeedRow : Type 0
@@ -55,14 +55,14 @@ NeedRow = (need_of 0x401ff 2 (leaf RWX 0x401ff Owned) ≡ 3) × (need_of 0x40200
 -- a page of a mapped block changes: the block is split, and its other pages stay as they were
 abbrev pub SplitRow : Type 0
 SplitRow =
-    let block = edited 2 (root_tree (layout 64 64) 0) (put 0x40200 512 (leaf RWX 0x40200 Owned)) (1 ∷ []) in
+    let block = edited 2 (root_tree 2 0) (put 0x40200 512 (leaf RWX 0x40200 Owned)) (1 ∷ []) in
     let split = edited 2 block (put 0x40300 1 (leaf RWX 0x40300 SharedOwned)) (2 ∷ []) in
     (need 2 block (put 0x40300 1 (leaf RWX 0x40300 SharedOwned)) ≡ 1) × (split.map 0x40301 ≡ leaf RWX 0x40301 Owned) × (split.table (1, 0x201) ≡ Some 2) × (need 2 split (put 0x40300 1 (leaf RWX 0x40300 Owned)) ≡ 0)
 
 -- in trees of one level less: where the last mapped page of a block is unmapped, the block's table goes, and the root stays
 abbrev pub RemovalRow : Type 0
 RemovalRow =
-    let root = root_tree (record (layout 64 64) { depth = 1 }) 0 in
+    let root = root_tree 1 0 in
     let page = edited 1 root (put 0x300 1 (leaf RWX 0x300 Owned)) (1 ∷ []) in
     let gone = edited 1 page (put 0x300 1 Unmapped) [] in
     (page.table (1, 1) ≡ Some 1) × (returned 1 page (put 0x300 1 Unmapped) ≡ 1 ∷ []) × (gone.table (1, 1) ≡ None) × (gone.table (2, 0) ≡ Some 0)

@@ -1,4 +1,3 @@
 pub mod Changes
 pub mod Ranks
 pub mod Looks
-pub mod NewTree

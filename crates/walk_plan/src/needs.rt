@@ -1,6 +1,7 @@
 //! The tables that a change of a range needs.
 ghost use Rattle.std.specs.Prelude.{◌≡◌, ℕ, ◌+◌, ◌-◌, ◌*◌, ◌^◌, ◌<◌, ◌≤◌};
 ghost use Rattle.page_state.specs.declared.entry.Entry.TheVariants.{Unmapped};
+ghost use Rattle.page_state.specs.Boot.{root_tree};
 ghost use Rattle.page_state.specs.Regions.{end_of};
 ghost use Rattle.page_state.specs.Tables.{put, need as need_of};
 ghost use Rattle.table_tree.specs.Geometry.{levels_below, input_pages};
@@ -10,7 +11,6 @@ ghost use Rattle.table_tree.specs.Shape.{IsShaped};
 ghost use Rattle.table_tree.specs.View.{tree_of};
 ghost use Rattle.walk_plan.specs.Changes.{CanBeSaidOn, IsChange, IsRangeEntry, block_need, block_parts, met, sum_to, table_need};
 ghost use Rattle.walk_plan.specs.Looks.{edges};
-ghost use Rattle.walk_plan.specs.NewTree.{new_tree};
 
 use crate::Change;
 use page_state::{Entry, Geometry, PageRange};
@@ -105,7 +105,7 @@ pub fn need_of_new(geometry: Geometry, range: PageRange, entry: &Entry) -> usize
     requires some { 1 ≤ range.count }
     requires within { end_of range ≤ input_pages geometry }
     requires entry_in { CanBeSaidOn range.count entry.now }
-    ensures { (root : ℕ) → result ≡ need_of (levels_below geometry) (new_tree (levels_below geometry) root) (put range.first.0 range.count entry.now) }
+    ensures { (root : ℕ) → result ≡ need_of (levels_below geometry) (root_tree (levels_below geometry) root) (put range.first.0 range.count entry.now) }
 {
     let change = Change {
         first: range.first.0,
