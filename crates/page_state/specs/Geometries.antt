@@ -1,5 +1,5 @@
 -- Geometries: how many levels of tables an input address passes (Arm DDI 0487, D8.2, 4 KiB granule).
-use Rattle.std.specs.Prelude.{ℕ, ◌+◌, ◌^◌, ◌==◌, Option, Some, None, if◌then◌else◌}
+use Rattle.std.specs.Prelude.{ℕ, ◌+◌, ◌*◌, ◌^◌, ◌==◌, Option, Some, None, if◌then◌else◌}
 use Rattle.page_state.specs.declared.layout.Geometry.{Geometry}
 use Rattle.page_state.specs.declared.layout.Geometry.TheVariants.{Bits39}
 
@@ -8,9 +8,13 @@ abbrev pub geometry_of : ℕ → Option Geometry
 geometry_of bits = if bits == 39 then Some Bits39 else None
 
 -- the levels below the root's
-abbrev pub depth_of : Geometry → ℕ
-depth_of Bits39 = 2
+abbrev pub levels_below : Geometry → ℕ
+levels_below Bits39 = 2
 
--- the input pages: each level has tables of 512 words
-abbrev pub pages_of : Geometry → ℕ
-pages_of geometry = 512 ^ (depth_of geometry + 1)
+-- the input pages of a tree whose root has so many levels below it: each level has tables of 2 ^ 9 words
+abbrev pub pages_below : ℕ → ℕ
+pages_below depth = 2 ^ (9 * (depth + 1))
+
+-- the input pages
+abbrev pub input_pages : Geometry → ℕ
+input_pages geometry = pages_below (levels_below geometry)

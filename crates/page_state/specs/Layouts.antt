@@ -1,5 +1,5 @@
 -- The reference layout, which never changes, and what it says of pages.
-use Rattle.std.specs.Prelude.{◌≡◌, ℕ, ◌+◌, ◌*◌, ◌^◌, Bool}
+use Rattle.std.specs.Prelude.{◌≡◌, ℕ, ◌+◌, ◌*◌, Bool}
 use Rattle.page_state.specs.declared.layout.Config.{Config}
 use Rattle.page_state.specs.Regions.{Memory, is_memory as is_memory_page}
 
@@ -12,10 +12,6 @@ pub record Layout : Type 0 where
 -- the depth is that of the told width of input addresses: 12 bits of the page offset, and 9 for each level
 abbrev pub HasItsDepth : Layout → Type 0
 HasItsDepth l = l.config.geometry ≡ 12 + 9 * (l.depth + 1)
-
--- the number of input pages
-abbrev pub input_pages : Layout → ℕ
-input_pages l = 512 ^ (l.depth + 1)
 
 -- a memory frame, which is what a good pfn is
 abbrev pub is_memory : Layout → ℕ → Bool

@@ -14,7 +14,8 @@ use Rattle.page_state.specs.Regions.{is_in_range}
 use Rattle.page_state.specs.EntryTests.{maps_frame}
 use Rattle.page_state.specs.Search.{first_below, count_below}
 use Rattle.page_state.specs.State.{Block, Tree, Pool, Reference}
-use Rattle.page_state.specs.Layouts.{Layout, input_pages}
+use Rattle.page_state.specs.Layouts.{Layout}
+use Rattle.page_state.specs.Geometries.{pages_below}
 
 -- how many blocks of depths 1 to `d` pass the test, in a tree whose root stands at depth `top`
 abbrev pub count_blocks : ℕ → ℕ → (Block → Bool) → ℕ
@@ -42,7 +43,7 @@ is_in_hand (Some r) f = is_in_range r f
 
 -- the first page that maps the frame in the state
 abbrev pub page_of : Layout → Map → State → ℕ → Option ℕ
-page_of l m state f = first_below (input_pages l) (λ page. maps_frame f state (m page))
+page_of l m state f = first_below (pages_below l.depth) (λ page. maps_frame f state (m page))
 
 -- lent to the component of a number, at its page
 abbrev pub lent_at : ℕ → ℕ → Lent

@@ -5,8 +5,8 @@ use Rattle.std.proofs.Math.Nat.{div-div-eq-div-mul}
 use Rattle.descriptor.specs.Word.{desc_of}
 use Rattle.page_state.specs.Entries.{advance, entry_of_word}
 use Rattle.page_state.specs.Blocks.{span, first_page}
+use Rattle.page_state.specs.Geometries.{levels_below, input_pages}
 use Rattle.table_tree.specs.declared.tree.Tree.{Tree}
-use Rattle.table_tree.specs.Geometry.{levels_below, input_pages}
 use Rattle.table_tree.specs.Meaning.{level_at, block_pages, entry_at, word_at}
 use Rattle.table_tree.specs.Tables.{table_in}
 use Rattle.table_tree.specs.View.{meaning, word_of, table_at, tree_of}

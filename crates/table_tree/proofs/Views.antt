@@ -7,9 +7,9 @@ use Rattle.page_state.specs.declared.entry.Entry.TheVariants.{Unmapped, Malforme
 use Rattle.page_state.specs.declared.layout.Geometry.{Geometry}
 use Rattle.page_state.specs.Entries.{advance}
 use Rattle.page_state.specs.Map.{empty_map, update}
+use Rattle.page_state.specs.Geometries.{levels_below, input_pages}
 use Rattle.table_tree.specs.declared.table.Table.{Table}
 use Rattle.table_tree.specs.declared.tree.Tree.{Tree}
-use Rattle.table_tree.specs.Geometry.{levels_below, input_pages}
 use Rattle.table_tree.specs.Meaning.{block_pages, frame_of, entry_at}
 use Rattle.table_tree.specs.Shape.{IsBlank}
 use Rattle.table_tree.specs.Tables.{table_in}

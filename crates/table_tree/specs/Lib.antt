@@ -1,4 +1,3 @@
-pub mod Geometry
 pub mod Reading
 pub mod Meaning
 pub mod Shape

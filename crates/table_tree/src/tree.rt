@@ -1,7 +1,7 @@
 //! A tree: its root table, and how many levels are below it.
 ghost use Rattle.std.specs.Prelude.{◌≡◌, ℕ, ◌+◌, ◌<◌, ◌==◌, ◌&&◌, ◌↔◌, length, if◌then◌else◌, Some, None, IsSome, IfSome, IfOk, IfErr};
 ghost use Rattle.page_state.specs.Map.{empty_map};
-ghost use Rattle.table_tree.specs.Geometry.{levels_below};
+ghost use Rattle.page_state.specs.Geometries.{levels_below};
 ghost use Rattle.table_tree.specs.Shape.{IsShaped, IsShaped-prop};
 ghost use Rattle.table_tree.specs.Tight.{IsTight, IsTight-prop};
 ghost use Rattle.table_tree.specs.Tables.{count_of, is_one};

@@ -3,7 +3,7 @@ use Rattle.std.specs.Prelude.{ℕ, zero, suc, ◌-◌, ◌+◌, nat_le, nat_lt, 
 use Rattle.table_tree.specs.declared.tree.Tree.{Tree}
 use Rattle.table_tree.specs.Meaning.{index_at}
 use Rattle.table_tree.specs.View.{word_of}
-use Rattle.page_state.specs.Geometries.{depth_of, pages_of}
+use Rattle.page_state.specs.Geometries.{levels_below, input_pages}
 use Rattle.world.specs.declared.World.{World}
 use Rattle.trace_text.specs.declared.verb.TreeName.{TreeName}
 use Rattle.trace_text.specs.declared.verb.TreeName.TheVariants.{Host, Hyp}
@@ -26,6 +26,6 @@ path_of page below (suc more) = index_at below page ∷ path_of page (below - 1)
 -- 3 less the levels below it, or no table of the tree has that word
 unfoldable pub word_on : {A : Type 0} → Tree A → ℕ → ℕ → Option ℕ
 word_on tree page level =
-    let depth = depth_of tree.geometry in
-    if nat_lt page (pages_of tree.geometry) && (nat_le (3 - depth) level && nat_le level 3)
+    let depth = levels_below tree.geometry in
+    if nat_lt page (input_pages tree.geometry) && (nat_le (3 - depth) level && nat_le level 3)
     then word_of tree (path_of page depth (level + 1 - (3 - depth))) else None

@@ -10,8 +10,8 @@ use Rattle.page_state.specs.Blocks.{span, first_page, block_eq, is_one_word, is_
 use Rattle.page_state.specs.Tables.{Edit, put, needs, need, freed, placed, cleared, edited}
 use Rattle.page_state.proofs.Blocks.{empty_means}
 use Rattle.page_state.proofs.BlockLists.{blocks_meet}
+use Rattle.page_state.specs.Geometries.{levels_below, input_pages}
 use Rattle.table_tree.specs.declared.tree.Tree.{Tree}
-use Rattle.table_tree.specs.Geometry.{levels_below, input_pages}
 use Rattle.table_tree.specs.Meaning.{block_pages, entry_at, frame_of}
 use Rattle.table_tree.specs.Tables.{table_in}
 use Rattle.table_tree.specs.View.{meaning, table_at, tree_of}

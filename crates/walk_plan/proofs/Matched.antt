@@ -8,11 +8,11 @@ use Rattle.page_state.specs.declared.entry.Entry.TheVariants.{Unmapped}
 use Rattle.page_state.specs.Entries.{advance, entry_of_word}
 use Rattle.page_state.specs.Map.{Map}
 use Rattle.page_state.specs.State.{Block}
+use Rattle.page_state.specs.Geometries.{levels_below, input_pages}
 use Rattle.table_tree.specs.declared.table.Table.{Table}
 use Rattle.table_tree.specs.declared.table.Slot.{Slot}
 use Rattle.table_tree.specs.declared.table.Slot.TheVariants.{Word, Child}
 use Rattle.table_tree.specs.declared.tree.Tree.{Tree}
-use Rattle.table_tree.specs.Geometry.{levels_below, input_pages}
 use Rattle.table_tree.specs.Meaning.{level_at, block_pages, index_at, slot_at, entry_at, frame_of}
 use Rattle.table_tree.specs.Tables.{table_in}
 use Rattle.table_tree.specs.Slots.{slot_entry, slot_table}

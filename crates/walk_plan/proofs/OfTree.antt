@@ -7,8 +7,8 @@ use Rattle.page_state.specs.declared.layout.Geometry.TheVariants.{Bits39}
 use Rattle.page_state.specs.Entries.{advance}
 use Rattle.page_state.specs.Map.{Map, is_within, update}
 use Rattle.page_state.specs.Blocks.{blocks_on}
+use Rattle.page_state.specs.Geometries.{levels_below, input_pages}
 use Rattle.table_tree.specs.declared.tree.Tree.{Tree}
-use Rattle.table_tree.specs.Geometry.{levels_below, input_pages}
 use Rattle.table_tree.specs.View.{meaning}
 use Rattle.walk_plan.specs.declared.change.Change.{Change}
 use Rattle.walk_plan.specs.Changes.{part}

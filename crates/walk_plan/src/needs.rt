@@ -4,7 +4,7 @@ ghost use Rattle.page_state.specs.declared.entry.Entry.TheVariants.{Unmapped};
 ghost use Rattle.page_state.specs.Boot.{root_tree};
 ghost use Rattle.page_state.specs.Regions.{end_of};
 ghost use Rattle.page_state.specs.Tables.{put, need as need_of};
-ghost use Rattle.table_tree.specs.Geometry.{levels_below, input_pages};
+ghost use Rattle.page_state.specs.Geometries.{levels_below, input_pages};
 ghost use Rattle.table_tree.specs.Meaning.{IsDepth, block_pages};
 ghost use Rattle.table_tree.specs.Reading.{count_of};
 ghost use Rattle.table_tree.specs.Shape.{IsShaped};

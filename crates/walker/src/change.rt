@@ -2,7 +2,7 @@
 ghost use Rattle.std.specs.Prelude.{◌≡◌, ℕ, ◌+◌, ◌*◌, ◌<◌, ◌≤◌, ◌↔◌, length, drop, IsOk, OnOk, OnErr};
 ghost use Rattle.page_state.specs.Regions.{end_of};
 ghost use Rattle.page_state.specs.Tables.{put, need, returned, edited, all_given};
-ghost use Rattle.table_tree.specs.Geometry.{levels_below, input_pages};
+ghost use Rattle.page_state.specs.Geometries.{levels_below, input_pages};
 ghost use Rattle.table_tree.specs.Reading.{count_of};
 ghost use Rattle.table_tree.specs.Stocks.{frames_of};
 ghost use Rattle.table_tree.specs.Tables.{frame_count};

@@ -1,7 +1,7 @@
 ghost use Rattle.std.specs.Prelude.{◌≡◌, ℕ, ◌+◌, ◌≤◌, ◌^◌, length, IfOk};
 ghost use Rattle.page_state.specs.Tables.{put, need as need_of};
 ghost use Rattle.page_state.specs.declared.layout.Geometry.TheVariants.{Bits39};
-ghost use Rattle.table_tree.specs.Geometry.{levels_below};
+ghost use Rattle.page_state.specs.Geometries.{levels_below};
 ghost use Rattle.table_tree.specs.Stocks.{frames_of};
 ghost use Rattle.table_tree.specs.Tables.{frame_count};
 ghost use Rattle.table_tree.specs.View.{tree_of, uses, tables_of};

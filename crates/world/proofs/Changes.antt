@@ -4,8 +4,8 @@ use mathlib.Core.Path.{fun_ext}
 use Rattle.page_state.specs.Blocks.{block_eq}
 use Rattle.page_state.specs.State.{Block, Tree}
 use Rattle.page_state.specs.Tables.{Edit, needs, need, freed, placed, cleared, edited, edited_map}
+use Rattle.page_state.specs.Geometries.{levels_below}
 use Rattle.table_tree.specs.declared.tree.Tree.{Tree as TableTree}
-use Rattle.table_tree.specs.Geometry.{levels_below}
 use Rattle.table_tree.specs.View.{tree_of}
 use Rattle.world.specs.declared.component.PageEdit.{PageEdit}
 use Rattle.world.specs.View.{edit_of, need_for, tree_after}

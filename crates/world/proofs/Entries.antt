@@ -5,7 +5,7 @@ use Rattle.page_state.specs.declared.entry.Entry.TheVariants.{Unmapped, Malforme
 use Rattle.page_state.specs.declared.layout.Geometry.{Geometry}
 use Rattle.page_state.specs.declared.layout.Geometry.TheVariants.{Bits39}
 use Rattle.page_state.specs.Entries.{entry_of, target_of}
-use Rattle.table_tree.specs.Geometry.{input_pages}
+use Rattle.page_state.specs.Geometries.{input_pages}
 
 pub entry_back : (e : Entry) → entry_of (target_of e) ≡ e
 entry_back Unmapped = refl

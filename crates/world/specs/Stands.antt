@@ -3,7 +3,7 @@ use Rattle.std.specs.Prelude.{ℕ, Option, Some, None, slice_get}
 use Rattle.page_state.specs.declared.row.Row.{Row}
 use Rattle.page_state.specs.Layouts.{Layout}
 use Rattle.page_state.specs.State.{Shared as ReferenceShared, Cpu, Reference, no_cpu, blank}
-use Rattle.table_tree.specs.Geometry.{levels_below}
+use Rattle.page_state.specs.Geometries.{levels_below}
 use Rattle.table_tree.specs.View.{tree_of}
 use Rattle.world.specs.declared.parts.Shared.{Shared}
 use Rattle.world.specs.declared.parts.CpuState.{CpuState}

@@ -1,6 +1,6 @@
 //! The parts of a world.
 ghost use Rattle.std.specs.Prelude.{◌≡◌, ◌+◌, ◌<◌, ◌==◌, ◌||◌, vec_len, length, slice_get, All};
-ghost use Rattle.table_tree.specs.Geometry.{levels_below};
+ghost use Rattle.page_state.specs.Geometries.{levels_below};
 ghost use Rattle.world.specs.View.{IsApart, IsApart-prop};
 
 use crate::share::make;

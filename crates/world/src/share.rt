@@ -1,7 +1,7 @@
 //! The steps of host and hypervisor.
 ghost use Rattle.std.specs.Prelude.{◌≡◌, ◌+◌, ◌<◌, ◌≤◌, ◌^◌, not, ◌||◌};
 ghost use Rattle.page_state.specs.Layouts.{hyp_page as hyp_page_of};
-ghost use Rattle.table_tree.specs.Geometry.{levels_below};
+ghost use Rattle.page_state.specs.Geometries.{levels_below};
 ghost use Rattle.table_tree.specs.View.{meaning};
 ghost use Rattle.page_state.specs.EntryTests.{is_free_page as is_free_entry, is_mapped as is_mapped_entry, leaf as leaf_of};
 ghost use Rattle.world.specs.Sharing.{IsAnswered, IsMade};

@@ -1,6 +1,5 @@
 use Rattle.std.proofs.Common.{◌≡◌, ℕ, ◌+◌, ◌*◌, refl, ap, arith, ◌∙◌, length}
-use Rattle.page_state.specs.Geometries.{depth_of}
-use Rattle.table_tree.specs.Geometry.{levels_below}
+use Rattle.page_state.specs.Geometries.{levels_below}
 use Rattle.table_tree.specs.Stocks.{frames_of}
 use Rattle.table_tree.specs.Tables.{frame_count}
 use Rattle.walk_plan.proofs.Looks.{edges_most}
@@ -13,14 +12,14 @@ use Rattle.walker.proofs.change.set_with.Goals as goal
 pub set_all-requires-clause-enough : goal.set_all-requires-clause-enough
 set_all-requires-clause-enough g c =
     let t = c.args.tree.now in
-    let e : c.depth-depth.result ≡ levels_below t.geometry = c.depth-depth.ensures ∙ ap depth_of c.geometry.ensures in
+    let e : c.depth-depth.result ≡ levels_below t.geometry = c.depth-depth.ensures ∙ ap levels_below c.geometry.ensures in
     let n = need_walked t c.args.range.first.0 c.args.range.count c.args.entry (record { first = c.args.range.first.0; end = c.args.range.first.0 + c.args.range.count; entry = c.args.entry }) (omega (arith, c.requires.some)) c.requires.within refl refl refl in
     rw e (omega (arith, n, c.requires.just))
 
 pub drain-requires-clause-distinct : goal.drain-requires-clause-distinct
 drain-requires-clause-distinct g c f =
     let t = c.args.tree.now in
-    let e : c.depth-depth.result ≡ levels_below t.geometry = c.depth-depth.ensures ∙ ap depth_of c.geometry.ensures in
+    let e : c.depth-depth.result ≡ levels_below t.geometry = c.depth-depth.ensures ∙ ap levels_below c.geometry.ensures in
     let grown : IsGrown (levels_below t.geometry) t.table c.set_all.new.table (record { first = c.args.range.first.0; end = c.args.range.first.0 + c.args.range.count; entry = c.args.entry }) (frames_of c.args.spare.stock) (frames_of c.set_all.new.spare) = record {
       frame = c.set_all.ensures.frame;
       shape = rw e at c.set_all.ensures.shape;
@@ -38,7 +37,7 @@ drain-requires-clause-distinct g c f =
 pub drain-requires-clause-covered : goal.drain-requires-clause-covered
 drain-requires-clause-covered g c =
     let t = c.args.tree.now in
-    let e : c.depth-depth.result ≡ levels_below t.geometry = c.depth-depth.ensures ∙ ap depth_of c.geometry.ensures in
+    let e : c.depth-depth.result ≡ levels_below t.geometry = c.depth-depth.ensures ∙ ap levels_below c.geometry.ensures in
     let grown : IsGrown (levels_below t.geometry) t.table c.set_all.new.table (record { first = c.args.range.first.0; end = c.args.range.first.0 + c.args.range.count; entry = c.args.entry }) (frames_of c.args.spare.stock) (frames_of c.set_all.new.spare) = record {
       frame = c.set_all.ensures.frame;
       shape = rw e at c.set_all.ensures.shape;
@@ -57,7 +56,7 @@ drain-requires-clause-covered g c =
 pub returns-clause-tree : goal.returns-clause-tree
 returns-clause-tree g c =
     let t = c.args.tree.now in
-    let e : c.depth-depth.result ≡ levels_below t.geometry = c.depth-depth.ensures ∙ ap depth_of c.geometry.ensures in
+    let e : c.depth-depth.result ≡ levels_below t.geometry = c.depth-depth.ensures ∙ ap levels_below c.geometry.ensures in
     let grown : IsGrown (levels_below t.geometry) t.table c.set_all.new.table (record { first = c.args.range.first.0; end = c.args.range.first.0 + c.args.range.count; entry = c.args.entry }) (frames_of c.args.spare.stock) (frames_of c.set_all.new.spare) = record {
       frame = c.set_all.ensures.frame;
       shape = rw e at c.set_all.ensures.shape;
@@ -76,7 +75,7 @@ returns-clause-root g c =
 pub returns-clause-pool : goal.returns-clause-pool
 returns-clause-pool g c =
     let t = c.args.tree.now in
-    let e : c.depth-depth.result ≡ levels_below t.geometry = c.depth-depth.ensures ∙ ap depth_of c.geometry.ensures in
+    let e : c.depth-depth.result ≡ levels_below t.geometry = c.depth-depth.ensures ∙ ap levels_below c.geometry.ensures in
     let grown : IsGrown (levels_below t.geometry) t.table c.set_all.new.table (record { first = c.args.range.first.0; end = c.args.range.first.0 + c.args.range.count; entry = c.args.entry }) (frames_of c.args.spare.stock) (frames_of c.set_all.new.spare) = record {
       frame = c.set_all.ensures.frame;
       shape = rw e at c.set_all.ensures.shape;
@@ -93,7 +92,7 @@ returns-clause-pool g c =
 pub returns-clause-frames : goal.returns-clause-frames
 returns-clause-frames g c f =
     let t = c.args.tree.now in
-    let e : c.depth-depth.result ≡ levels_below t.geometry = c.depth-depth.ensures ∙ ap depth_of c.geometry.ensures in
+    let e : c.depth-depth.result ≡ levels_below t.geometry = c.depth-depth.ensures ∙ ap levels_below c.geometry.ensures in
     let grown : IsGrown (levels_below t.geometry) t.table c.set_all.new.table (record { first = c.args.range.first.0; end = c.args.range.first.0 + c.args.range.count; entry = c.args.entry }) (frames_of c.args.spare.stock) (frames_of c.set_all.new.spare) = record {
       frame = c.set_all.ensures.frame;
       shape = rw e at c.set_all.ensures.shape;
@@ -112,7 +111,7 @@ returns-clause-frames g c f =
 pub returns-clause-tables : goal.returns-clause-tables
 returns-clause-tables g c =
     let t = c.args.tree.now in
-    let e : c.depth-depth.result ≡ levels_below t.geometry = c.depth-depth.ensures ∙ ap depth_of c.geometry.ensures in
+    let e : c.depth-depth.result ≡ levels_below t.geometry = c.depth-depth.ensures ∙ ap levels_below c.geometry.ensures in
     let grown : IsGrown (levels_below t.geometry) t.table c.set_all.new.table (record { first = c.args.range.first.0; end = c.args.range.first.0 + c.args.range.count; entry = c.args.entry }) (frames_of c.args.spare.stock) (frames_of c.set_all.new.spare) = record {
       frame = c.set_all.ensures.frame;
       shape = rw e at c.set_all.ensures.shape;
@@ -131,7 +130,7 @@ returns-clause-tables g c =
 pub returns-clause-reads : goal.returns-clause-reads
 returns-clause-reads g c =
     let t = c.args.tree.now in
-    let e : c.depth-depth.result ≡ levels_below t.geometry = c.depth-depth.ensures ∙ ap depth_of c.geometry.ensures in
+    let e : c.depth-depth.result ≡ levels_below t.geometry = c.depth-depth.ensures ∙ ap levels_below c.geometry.ensures in
     let l = low_depth t.geometry in
     let m = edges_most (1028 * c.depth-depth.result) (c.depth-depth.result + 1) (record { first = c.args.range.first.0; end = c.args.range.first.0 + c.args.range.count; entry = c.args.entry }) in
     omega (arith, c.set_all.ensures.reads, m, e, l)
