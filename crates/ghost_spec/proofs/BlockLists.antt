@@ -4,6 +4,7 @@ use Rattle.std.proofs.lemmas.List.Elements.{All-append, All-nil, All-cons, All-f
 use Rattle.std.proofs.lemmas.Bool.Decides.{nat_tests}
 use Rattle.std.proofs.Math.Nat.{div-mul-le_self}
 use Rattle.page_state.specs.State.{Block}
+use Rattle.page_state.specs.Geometries.{block_pages}
 use Rattle.page_state.specs.Blocks.{first_page, block_at, blocks_with, blocks_from, blocks_along, blocks_on}
 use Rattle.ghost_spec.specs.Trees.{IsLowBlock}
 
@@ -36,17 +37,17 @@ module _ (all : Bool) (page top i : ℕ) (within : i < top) (items : List Block)
   one_less : top - i ≡ suc (top - (i + 1))
   one_less = omega arith
 
-  pub met_more : (all || first_page (top - i, page / 512 ^ (top - i)) == page) ≡ true → (items ++ (top - i, page / 512 ^ (top - i)) ∷ []) ++ met all (top - (i + 1)) page ≡ items ++ met all (top - i) page
-  met_more h = append_assoc items ((top - i, page / 512 ^ (top - i)) ∷ []) (met all (top - (i + 1)) page)
+  pub met_more : (all || first_page (top - i, page / block_pages (top - i)) == page) ≡ true → (items ++ (top - i, page / block_pages (top - i)) ∷ []) ++ met all (top - (i + 1)) page ≡ items ++ met all (top - i) page
+  met_more h = append_assoc items ((top - i, page / block_pages (top - i)) ∷ []) (met all (top - (i + 1)) page)
       ∙ ap (λ xs. items ++ xs) (let g = rw one_less at h in rw one_less (rw g refl))
 
-  pub met_same : (all || first_page (top - i, page / 512 ^ (top - i)) == page) ≡ false → items ++ met all (top - (i + 1)) page ≡ items ++ met all (top - i) page
+  pub met_same : (all || first_page (top - i, page / block_pages (top - i)) == page) ≡ false → items ++ met all (top - (i + 1)) page ≡ items ++ met all (top - i) page
   met_same h = ap (λ xs. items ++ xs) (let g = rw one_less at h in rw one_less (rw g refl))
 
 -- the blocks are low
 
-pub low_block : (d page : ℕ) → d ≤ 3 → page ≤ 2 ^ 63 → IsLowBlock (d, page / 512 ^ d)
-low_block d page h k = (h, omega (arith, div-mul-le_self page (512 ^ d)))
+pub low_block : (d page : ℕ) → d ≤ 3 → page ≤ 2 ^ 63 → IsLowBlock (d, page / block_pages d)
+low_block d page h k = (h, omega (arith, div-mul-le_self page (block_pages d)))
 
 low_with : (d page : ℕ) → d ≤ 3 → page ≤ 2 ^ 63 → All IsLowBlock (blocks_with d page)
 low_with zero page h k = All-nil IsLowBlock

@@ -2,6 +2,7 @@
 ghost use Rattle.std.specs.Prelude.{◌≡◌, ◌+◌, ◌*◌, ◌^◌, ◌<◌, ◌≤◌, ◌++◌, ◌||◌, ◌==◌, All, IfOk, OnOk, filter};
 ghost use Rattle.page_state.specs.EntryTests.{entry_eq, is_unmapped};
 ghost use Rattle.page_state.specs.Entries.{advance};
+ghost use Rattle.page_state.specs.Geometries.{block_pages};
 ghost use Rattle.page_state.specs.Regions.{end_of};
 ghost use Rattle.page_state.specs.Runs.{map_of};
 ghost use Rattle.page_state.specs.Search.{all_below};
@@ -53,7 +54,7 @@ pub fn is_empty(runs: &[Run], block: Block) -> bool
 /// The number of pages of a block.
 fn span(depth: u64) -> u64
     requires { depth ≤ 3 }
-    ensures value { result ≡ 512 ^ depth }
+    ensures value { result ≡ block_pages depth }
     ensures some { 0 < result }
     ensures low { result ≤ 2 ^ 27 }
 {

@@ -1,22 +1,20 @@
 -- The blocks on a range are those that meet it, by page, the parent before the child.
-use Rattle.std.proofs.Common.{◌≡◌, ℕ, zero, suc, ◌+◌, ◌-◌, ◌*◌, ◌/◌, ◌^◌, ◌≤◌, ◌<◌, refl, ap, sym, ◌∙◌, subst, arith, inl, inr, List, [], ◌∷◌, ◌++◌, length, filter, All, Contains, AllPairs, slice_index_or, pow-suc, pow-add, mul_comm, mul_assoc, mul-le-mul_right, div-mul-le_self, mul-div_cancel}
+use Rattle.std.proofs.Common.{◌≡◌, ℕ, zero, suc, ◌+◌, ◌-◌, ◌*◌, ◌/◌, ◌^◌, ◌≤◌, ◌<◌, refl, ap, sym, ◌∙◌, subst, arith, inl, inr, List, [], ◌∷◌, ◌++◌, length, filter, All, Contains, AllPairs, slice_index_or, mul_comm, mul_assoc, mul-le-mul_right, div-mul-le_self, mul-div_cancel}
 use Rattle.std.specs.Prelude.{Bool, true, ◌==◌}
 use Rattle.std.proofs.Math.Nat.{div-div-eq-div-mul, lt-div-mul-add}
 use Rattle.std.proofs.lemmas.Nat.{div-mul-add}
 use Rattle.std.proofs.lemmas.List.Elements.{All-nil, All-cons, All-append, All-weaker, All-contains, All-filter, filter_passes, Contains-append_left, Contains-append_right}
 use Rattle.std.proofs.lemmas.List.Kept.{AllPairs-cons, AllPairs-filter}
 use Rattle.page_state.specs.State.{Block}
+use Rattle.page_state.specs.Geometries.{block_pages}
 use Rattle.page_state.specs.Blocks.{span, first_page, block_at, blocks_with, blocks_from, blocks_along, blocks_on}
 use Rattle.page_state.specs.Laws.{BlocksMeet, ComesBefore, BlocksOrdered}
 use Rattle.page_state.proofs.Common.{both, eq-self, eq-same}
 use Rattle.page_state.proofs.Runs.{order}
 use Rattle.page_state.proofs.Frames.{block-same}
+use Rattle.page_state.proofs.Sizes.{size_some, size_split}
 
 -- numbers
-
-span-pos : (d : ℕ) → 0 < 512 ^ d
-span-pos zero = omega arith
-span-pos (suc d) = let e = pow-suc 512 d in omega (arith, span-pos d)
 
 quotient-once : (q s n : ℕ) → q * s ≤ n → n < q * s + s → q ≡ n / s
 quotient-once q s n low high =
@@ -25,16 +23,13 @@ quotient-once q s n low high =
     sym (ap (λ k. k / s) e ∙ div-mul-add q s (n - q * s) less)
 
 -- the greater block of a page begins no later
-begins-sooner : (page d e : ℕ) → e ≤ d → page / 512 ^ d * 512 ^ d ≤ page / 512 ^ e * 512 ^ e
+begins-sooner : (page d e : ℕ) → e ≤ d → page / block_pages d * block_pages d ≤ page / block_pages e * block_pages e
 begins-sooner page d e h =
-    let s : ℕ = 512 ^ e in
-    let k : ℕ = 512 ^ (d - e) in
-    let depth : d ≡ e + (d - e) = omega arith in
-    let power : 512 ^ d ≡ 512 ^ e * 512 ^ (d - e) = ap (λ n. 512 ^ n) depth ∙ pow-add 512 e (d - e) in
-    let quotient : page / 512 ^ d ≡ page / 512 ^ e / 512 ^ (d - e) = ap (λ n. page / n) power ∙ sym (div-div-eq-div-mul page (512 ^ e) (512 ^ (d - e))) in
-    let product : page / 512 ^ d * 512 ^ d ≡ page / 512 ^ e / 512 ^ (d - e) * 512 ^ (d - e) * 512 ^ e =
-    ap (λ n. n * 512 ^ d) quotient ∙ ap (λ n. page / 512 ^ e / 512 ^ (d - e) * n) (power ∙ mul_comm (512 ^ e) (512 ^ (d - e))) ∙ sym (mul_assoc (page / 512 ^ e / 512 ^ (d - e)) (512 ^ (d - e)) (512 ^ e)) in
-    subst (λ n. n ≤ page / 512 ^ e * 512 ^ e) (sym product) (mul-le-mul_right (512 ^ e) (div-mul-le_self (page / 512 ^ e) (512 ^ (d - e))))
+    let power : block_pages d ≡ block_pages e * block_pages (d - e) = size_split d e h ∙ mul_comm (block_pages (d - e)) (block_pages e) in
+    let quotient : page / block_pages d ≡ page / block_pages e / block_pages (d - e) = ap (λ n. page / n) power ∙ sym (div-div-eq-div-mul page (block_pages e) (block_pages (d - e))) in
+    let product : page / block_pages d * block_pages d ≡ page / block_pages e / block_pages (d - e) * block_pages (d - e) * block_pages e =
+    ap (λ n. n * block_pages d) quotient ∙ ap (λ n. page / block_pages e / block_pages (d - e) * n) (power ∙ mul_comm (block_pages e) (block_pages (d - e))) ∙ sym (mul_assoc (page / block_pages e / block_pages (d - e)) (block_pages (d - e)) (block_pages e)) in
+    subst (λ n. n ≤ page / block_pages e * block_pages e) (sym product) (mul-le-mul_right (block_pages e) (div-mul-le_self (page / block_pages e) (block_pages (d - e))))
 
 -- lists
 
@@ -77,7 +72,7 @@ pairs-append R (x ∷ xs) ys a b c =
 record Holds (d page : ℕ) (b : Block) : Type 0 where
   deep : 1 ≤ b.0
   shallow : b.0 ≤ d
-  at : b.1 ≡ page / 512 ^ b.0
+  at : b.1 ≡ page / block_pages b.0
 
 with-holds : (d page : ℕ) → All (Holds d page) (blocks_with d page)
 with-holds zero page = All-nil (Holds 0 page)
@@ -91,7 +86,7 @@ holds-with zero page b h = absurd (omega (arith, h.deep, h.shallow))
 holds-with (suc d) page b h = elim (order d b.0) [
   | inl p ↦
       let e : suc d ≡ b.0 = omega (arith, h.shallow) in
-      (0, omega arith, block-same e (ap (λ n. page / 512 ^ n) e ∙ sym h.at))
+      (0, omega arith, block-same e (ap (λ n. page / block_pages n) e ∙ sym h.at))
   | inr p ↦ contains-cons (block_at (suc d) page) (blocks_with d page) b (holds-with d page b (record { deep = h.deep; shallow = p; at = h.at }))
 ]
 
@@ -99,11 +94,11 @@ with-ordered : (d page : ℕ) → AllPairs ComesBefore (blocks_with d page)
 with-ordered zero page = pairs-nil ComesBefore
 with-ordered (suc d) page =
     let before : (b : Block) → Holds d page b → ComesBefore (block_at (suc d) page) b = λ b h.
-    let begins : first_page b ≡ page / 512 ^ b.0 * 512 ^ b.0 = ap (λ n. n * 512 ^ b.0) h.at in
-    let sooner : page / 512 ^ suc d * 512 ^ suc d ≤ page / 512 ^ b.0 * 512 ^ b.0 = begins-sooner page (suc d) b.0 (omega (arith, h.shallow)) in
-    elim (order (page / 512 ^ suc d * 512 ^ suc d) (page / 512 ^ b.0 * 512 ^ b.0)) [
-      | inl p ↦ inl (subst (λ n. page / 512 ^ suc d * 512 ^ suc d < n) (sym begins) p)
-      | inr p ↦ let same : page / 512 ^ suc d * 512 ^ suc d ≡ page / 512 ^ b.0 * 512 ^ b.0 = omega arith in inr (same ∙ sym begins, omega (arith, h.shallow))
+    let begins : first_page b ≡ page / block_pages b.0 * block_pages b.0 = ap (λ n. n * block_pages b.0) h.at in
+    let sooner : page / block_pages (suc d) * block_pages (suc d) ≤ page / block_pages b.0 * block_pages b.0 = begins-sooner page (suc d) b.0 (omega (arith, h.shallow)) in
+    elim (order (page / block_pages (suc d) * block_pages (suc d)) (page / block_pages b.0 * block_pages b.0)) [
+      | inl p ↦ inl (subst (λ n. page / block_pages (suc d) * block_pages (suc d) < n) (sym begins) p)
+      | inr p ↦ let same : page / block_pages (suc d) * block_pages (suc d) ≡ page / block_pages b.0 * block_pages b.0 = omega arith in inr (same ∙ sym begins, omega (arith, h.shallow))
     ] in
     AllPairs-cons ComesBefore (block_at (suc d) page) (blocks_with d page) (All-weaker (Holds d page) (ComesBefore (block_at (suc d) page)) before (blocks_with d page) (with-holds d page)) (with-ordered d page)
 
@@ -127,7 +122,7 @@ begins-from top page b h =
     let low : page ≤ first_page b = h.low in
     let high : first_page b < page + 1 = h.high in
     let e : first_page b ≡ page = omega arith in
-    let at : b.1 ≡ page / 512 ^ b.0 = sym (ap (λ n. n / 512 ^ b.0) (sym e) ∙ mul-div_cancel b.1 (span-pos b.0)) in
+    let at : b.1 ≡ page / block_pages b.0 = sym (ap (λ n. n / block_pages b.0) (sym e) ∙ mul-div_cancel b.1 (size_some b.0)) in
     contains-filter (λ b. first_page b == page) (blocks_with top page) b (holds-with top page b (record { deep = h.deep; shallow = h.shallow; at = at })) (rw e (eq-self page))
 
 along-begins : (top page n : ℕ) → All (Begins top page n) (blocks_along top page n)
@@ -174,10 +169,10 @@ abbrev Meets : ℕ → ℕ → ℕ → Block → Type 0
 Meets top first count b = (1 ≤ b.0) × (b.0 ≤ top) × (first_page b < first + count) × (first < first_page b + span b)
 
 holds-low : (d page : ℕ) (b : Block) → Holds d page b → first_page b ≤ page
-holds-low d page b h = subst (λ n. n * 512 ^ b.0 ≤ page) (sym h.at) (div-mul-le_self page (512 ^ b.0))
+holds-low d page b h = subst (λ n. n * block_pages b.0 ≤ page) (sym h.at) (div-mul-le_self page (block_pages b.0))
 
 holds-high : (d page : ℕ) (b : Block) → Holds d page b → page < first_page b + span b
-holds-high d page b h = subst (λ n. page < n * 512 ^ b.0 + 512 ^ b.0) (sym h.at) (lt-div-mul-add {a = page} {b = 512 ^ b.0} (span-pos b.0))
+holds-high d page b h = subst (λ n. page < n * block_pages b.0 + block_pages b.0) (sym h.at) (lt-div-mul-add {a = page} {b = block_pages b.0} (size_some b.0))
 
 on-meets : (top first n : ℕ) → All (Meets top first (suc n)) (blocks_with top first ++ blocks_along top (first + 1) n)
 on-meets top first n =
@@ -193,7 +188,7 @@ meets-on top first n b h =
     let high : first < first_page b + span b = h.3 in
     elim (order first (first_page b)) [
       | inl p ↦ Contains-append_right (blocks_with top first) (blocks_along top (first + 1) n) b (begins-along top (first + 1) n b (record { deep = h.0; shallow = h.1; low = omega arith; high = omega arith }))
-      | inr p ↦ Contains-append_left (blocks_with top first) (blocks_along top (first + 1) n) b (holds-with top first b (record { deep = h.0; shallow = h.1; at = quotient-once b.1 (512 ^ b.0) first p high }))
+      | inr p ↦ Contains-append_left (blocks_with top first) (blocks_along top (first + 1) n) b (holds-with top first b (record { deep = h.0; shallow = h.1; at = quotient-once b.1 (block_pages b.0) first p high }))
     ]
 
 pub blocks_meet : BlocksMeet

@@ -3,6 +3,7 @@ use Rattle.std.proofs.Common.{◌≡◌, ℕ, zero, suc, ◌+◌, ◌-◌, ◌^�
 use Rattle.std.specs.Prelude.{Bool, true, false, ◌&&◌, ◌==◌, nat_lt, ◌⊎◌, Option, Some, None, if◌then◌else◌}
 use Rattle.std.proofs.lemmas.Bool.Decides.{nat_tests}
 use Rattle.page_state.specs.State.{Block, Tree, Pool}
+use Rattle.page_state.specs.Geometries.{block_pages}
 use Rattle.page_state.specs.Layouts.{Layout}
 use Rattle.page_state.specs.Search.{count_below, first_from}
 use Rattle.page_state.specs.Blocks.{block_eq}
@@ -23,7 +24,7 @@ count_below-none (suc n) test h = rw (count_below, h n) (omega (arith, count_bel
 
 pub count_blocks-none : (top d : ℕ) (test : Block → Bool) → ((b : Block) → test b ≡ false) → count_blocks top d test ≡ 0
 count_blocks-none top zero test h = refl
-count_blocks-none top (suc d) test h = omega (arith, count_below-none (512 ^ (top - suc d)) (λ i. test (suc d, i)) (λ i. h (suc d, i)), count_blocks-none top d test h)
+count_blocks-none top (suc d) test h = omega (arith, count_below-none (block_pages (top - suc d)) (λ i. test (suc d, i)) (λ i. h (suc d, i)), count_blocks-none top d test h)
 
 -- a number of which the test holds, where some are counted
 pub count_below-some : (n : ℕ) (test : ℕ → Bool) → 0 < count_below n test → (i : ℕ) × (test i ≡ true)
@@ -35,8 +36,8 @@ count_below-some (suc n) test h = elim (both (test n)) [
 
 pub count_blocks-some : (top d : ℕ) (test : Block → Bool) → 0 < count_blocks top d test → (b : Block) × (test b ≡ true)
 count_blocks-some top zero test h = absurd (omega arith)
-count_blocks-some top (suc d) test h = elim (both (nat_lt 0 (count_below (512 ^ (top - suc d)) (λ i. test (suc d, i))))) [
-  | inl t ↦ let found = count_below-some (512 ^ (top - suc d)) (λ i. test (suc d, i)) (grind (arith, nat_tests)) in ((suc d, found.0), found.1)
+count_blocks-some top (suc d) test h = elim (both (nat_lt 0 (count_below (block_pages (top - suc d)) (λ i. test (suc d, i))))) [
+  | inl t ↦ let found = count_below-some (block_pages (top - suc d)) (λ i. test (suc d, i)) (grind (arith, nat_tests)) in ((suc d, found.0), found.1)
   | inr f ↦ count_blocks-some top d test (grind (arith, nat_tests))
 ]
 

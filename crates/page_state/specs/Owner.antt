@@ -15,12 +15,12 @@ use Rattle.page_state.specs.EntryTests.{maps_frame}
 use Rattle.page_state.specs.Search.{first_below, count_below}
 use Rattle.page_state.specs.State.{Block, Tree, Pool, Reference}
 use Rattle.page_state.specs.Layouts.{Layout}
-use Rattle.page_state.specs.Geometries.{pages_below}
+use Rattle.page_state.specs.Geometries.{block_pages, pages_below}
 
 -- how many blocks of depths 1 to `d` pass the test, in a tree whose root stands at depth `top`
 abbrev pub count_blocks : ℕ → ℕ → (Block → Bool) → ℕ
 count_blocks top zero test = 0
-count_blocks top (suc d) test = count_below (512 ^ (top - suc d)) (λ i. test (suc d, i)) + count_blocks top d test
+count_blocks top (suc d) test = count_below (block_pages (top - suc d)) (λ i. test (suc d, i)) + count_blocks top d test
 
 -- whether a frame, if there is one, is this one
 abbrev pub is_frame : ℕ → Option ℕ → Bool

@@ -1,14 +1,9 @@
 use Rattle.std.proofs.Common.{◌≡◌, ℕ, zero, suc, ◌+◌, ◌-◌, ◌*◌, ◌/◌, ◌%◌, ◌^◌, ◌<◌, ◌≤◌, refl, sym, ap, arith, ◌∙◌, true, false, ◌==◌}
 use Rattle.std.proofs.lemmas.Bool.Decides.{nat_tests}
 use Rattle.std.proofs.lemmas.Nat.{mod-pow-add, field_of, pow-add, div-mul-add}
-use Rattle.table_tree.specs.Meaning.{index_at, block_pages}
-
-pub size_some : (d : ℕ) → 1 ≤ block_pages d
-size_some zero = omega arith
-size_some (suc d) =
-    let e : 9 * suc d ≡ 9 + 9 * d = omega arith in
-    let x = size_some d in
-    rw (e, pow-add 2 9 (9 * d)) (omega arith)
+use Rattle.page_state.specs.Geometries.{block_pages}
+use Rattle.page_state.proofs.Sizes.{size_some, size_split}
+use Rattle.table_tree.specs.Meaning.{index_at}
 
 -- the low digits of a page in a table are its index there and the digits below
 pub digits : (n q : ℕ) → q % block_pages (n + 1) ≡ index_at n q * block_pages n + q % block_pages n
@@ -41,11 +36,8 @@ place s t i r h =
     let e : i * (t * s) + r ≡ (i * t + r / s) * s + r % s = omega (arith, h) in
     rw e (div-mul-add (i * t + r / s) s (r % s) lt)
 
-split : (n low : ℕ) → low < n → block_pages n ≡ block_pages (n - (low + 1)) * block_pages (low + 1)
-split n low h = let e : 9 * n ≡ 9 * (n - (low + 1)) + 9 * (low + 1) = omega arith in ap (λ x. 2 ^ x) e ∙ pow-add 2 (9 * (n - (low + 1))) (9 * (low + 1))
-
 placed : (n low q : ℕ) → low < n → q % block_pages (n + 1) / block_pages (low + 1) ≡ index_at n q * block_pages (n - (low + 1)) + q % block_pages n / block_pages (low + 1)
-placed n low q h = rw (digits n q) (ap (λ z. (index_at n q * z + q % block_pages n) / block_pages (low + 1)) (split n low h) ∙ place (block_pages (low + 1)) (block_pages (n - (low + 1))) (index_at n q) (q % block_pages n) (size_some (low + 1)))
+placed n low q h = rw (digits n q) (ap (λ z. (index_at n q * z + q % block_pages n) / block_pages (low + 1)) (size_split n (low + 1) (omega (arith, h))) ∙ place (block_pages (low + 1)) (block_pages (n - (low + 1))) (index_at n q) (q % block_pages n) (size_some (low + 1)))
 
 pub index_small : (n q : ℕ) → index_at n q < 512
 index_small n q = omega arith

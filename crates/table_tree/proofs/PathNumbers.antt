@@ -2,18 +2,9 @@
 use Rattle.std.proofs.Common.{◌≡◌, ℕ, zero, suc, ◌+◌, ◌-◌, ◌*◌, ◌/◌, ◌^◌, ◌<◌, List, [], ◌∷◌, length, All, refl, sym, ap, arith, ◌∙◌, fold, pow-suc}
 use Rattle.std.proofs.lemmas.Nat.{pow-add}
 use Rattle.std.proofs.Math.Nat.{div-div-eq-div-mul, div-lt_iff_lt-mul}
-use Rattle.table_tree.specs.Meaning.{index_at, block_pages}
-use Rattle.table_tree.proofs.Digits.{size_some}
-
-pub size_step : (d : ℕ) → block_pages (suc d) ≡ 512 * block_pages d
-size_step d = let e : 9 * suc d ≡ 9 + 9 * d = omega arith in rw (e, pow-add 2 9 (9 * d)) refl
-
-pub size_power : (d : ℕ) → block_pages d ≡ 512 ^ d
-size_power zero = refl
-size_power (suc d) = size_step d ∙ ap (λ n. 512 * n) (size_power d) ∙ rw (pow-suc 512 d) (omega arith)
-
-pub size_add : (d e : ℕ) → block_pages (d + e) ≡ block_pages d * block_pages e
-size_add d e = let x : 9 * (d + e) ≡ 9 * d + 9 * e = omega arith in ap (λ n. 2 ^ n) x ∙ pow-add 2 (9 * d) (9 * e)
+use Rattle.page_state.specs.Geometries.{block_pages}
+use Rattle.page_state.proofs.Sizes.{size_some, size_step, size_add}
+use Rattle.table_tree.specs.Meaning.{index_at}
 
 -- the number of the digits after those of `a`
 abbrev pub number_from : ℕ → List ℕ → ℕ

@@ -4,7 +4,8 @@ use Rattle.std.proofs.lemmas.Bool.Decides.{nat_tests}
 use Rattle.std.specs.declared.boxed.Box.{Box}
 use Rattle.table_tree.specs.declared.table.Table.{Table}
 use Rattle.table_tree.specs.declared.table.Slot.TheVariants.{Word, Child}
-use Rattle.table_tree.specs.Meaning.{block_pages, index_at, slot_at, frame_of, word_entry, entry_at, word_at, slot_word, table_word}
+use Rattle.page_state.specs.Geometries.{block_pages}
+use Rattle.table_tree.specs.Meaning.{index_at, slot_at, frame_of, word_entry, entry_at, word_at, slot_word, table_word}
 use Rattle.table_tree.specs.Shape.{IsEntryWord, IsShaped}
 use Rattle.table_tree.specs.Tables.{table_in}
 use Rattle.table_tree.proofs.Slots.{by_eq, by_slot, case_child, shaped_slot, slot_word_is, slot_child_is}

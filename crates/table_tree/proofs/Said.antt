@@ -5,17 +5,17 @@ use Rattle.std.proofs.Math.Nat.{div-div-eq-div-mul}
 use Rattle.descriptor.specs.Word.{desc_of}
 use Rattle.page_state.specs.Entries.{advance, entry_of_word}
 use Rattle.page_state.specs.Blocks.{span, first_page}
-use Rattle.page_state.specs.Geometries.{levels_below, input_pages}
+use Rattle.page_state.specs.Geometries.{levels_below, input_pages, block_pages}
+use Rattle.page_state.proofs.Sizes.{size_some, size_step, size_add}
 use Rattle.table_tree.specs.declared.tree.Tree.{Tree}
-use Rattle.table_tree.specs.Meaning.{level_at, block_pages, entry_at, word_at}
+use Rattle.table_tree.specs.Meaning.{level_at, entry_at, word_at}
 use Rattle.table_tree.specs.Tables.{table_in}
 use Rattle.table_tree.specs.View.{meaning, word_of, table_at, tree_of}
 use Rattle.table_tree.specs.Said.{number_of, block_of, HasWord, IsOnlyWord, IsWordOf, IsRunOrTable}
-use Rattle.table_tree.proofs.Digits.{size_some}
 use Rattle.table_tree.proofs.OnlyWords.{one_word}
 use Rattle.table_tree.proofs.Views.{advance_zero, less_test}
 use Rattle.table_tree.proofs.Standing.{by_lt}
-use Rattle.table_tree.proofs.PathNumbers.{Small, Leads, all_small, small_all, leads, number_small, size_power, size_step, size_add}
+use Rattle.table_tree.proofs.PathNumbers.{Small, Leads, all_small, small_all, leads, number_small}
 use Rattle.table_tree.proofs.Paths.{IsGood, IsRead, IsWordIn, IsPagesWord, good_path, one_index, table_same, read}
 
 if_none : (o : Option ℕ) (P : Type 0) (Q : ℕ → Type 0) → o ≡ None → P → MatchOption o P Q
@@ -132,7 +132,7 @@ module _ {A : Type 0} where
 
     page_is : (i : ℕ) → page i ≡ first_page (m, number_of p) + i
     unfolding page
-    page_is i = ap (λ z. number_of p * z + i) (size_power m)
+    page_is i = refl
 
     first_is : page 0 ≡ first_page (m, number_of p)
     first_is = page_is 0 ∙ (let x : first_page (m, number_of p) + 0 ≡ first_page (m, number_of p) = omega arith in x)
@@ -144,8 +144,7 @@ module _ {A : Type 0} where
 
     one_run : (w : ℕ) → IsPagesWord (levels_below t.geometry) m t.table p w → (i : ℕ) → i < span (m, number_of p) → meaning t (first_page (m, number_of p) + i) ≡ advance (meaning t (first_page (m, number_of p))) i
     one_run w h i l =
-        let l' : i < block_pages m = rw (size_power m) l in
-        ap (λ q. meaning t q) (sym (page_is i)) ∙ given_at w i h l' ∙ ap (λ x. advance x i) (sym (ap (λ q. meaning t q) (sym first_is) ∙ first_at w h))
+        ap (λ q. meaning t q) (sym (page_is i)) ∙ given_at w i h l ∙ ap (λ x. advance x i) (sym (ap (λ q. meaning t q) (sym first_is) ∙ first_at w h))
 
     word_said : (w : ℕ) → IsWordIn (levels_below t.geometry) m t.table p w → IsWordOf (tree_of t) (m, number_of p) w × IsRunOrTable (tree_of t) (m, number_of p)
     word_said w h = elim h.is as (λ _. IsWordOf (tree_of t) (m, number_of p) w × IsRunOrTable (tree_of t) (m, number_of p)) [

@@ -6,7 +6,8 @@ use Rattle.descriptor.specs.Word.{desc_of, IsSaid, CanBeSaid}
 use Rattle.page_state.specs.declared.entry.Entry.{Entry}
 use Rattle.page_state.specs.declared.entry.Entry.TheVariants.{Unmapped, Malformed, Annotated, Leaf}
 use Rattle.page_state.specs.Entries.{advance, CanAdvance, entry_of_word, word_of_entry}
-use Rattle.table_tree.specs.Meaning.{level_at, word_entry, block_pages}
+use Rattle.page_state.specs.Geometries.{block_pages}
+use Rattle.table_tree.specs.Meaning.{level_at, word_entry}
 use Rattle.table_tree.specs.Shape.{IsWellFormed, IsEntryWord, HasSmallFrame}
 
 pub said_entry : (l : Level) (w : ℕ) (d : Desc) → IsSaid l w d → IsWellFormed (entry_of_word d) → CanBeSaid l (word_of_entry (entry_of_word d))

@@ -1,11 +1,12 @@
 -- Slots, and what a table means. Depths count the levels below.
-use Rattle.std.specs.Prelude.{ℕ, zero, suc, ◌+◌, ◌*◌, ◌/◌, ◌%◌, ◌^◌, ◌<◌, List, [], ◌∷◌, slice_index_or, Option, Some, None, nat_lt, if◌then◌else◌}
+use Rattle.std.specs.Prelude.{ℕ, zero, suc, ◌+◌, ◌*◌, ◌/◌, ◌%◌, ◌<◌, List, [], ◌∷◌, slice_index_or, Option, Some, None, nat_lt, if◌then◌else◌}
 use Rattle.descriptor.specs.Word.{desc_of}
 use Rattle.descriptor.specs.declared.Level.{Level}
 use Rattle.descriptor.specs.declared.Level.TheVariants.{One, Two, Three}
 use Rattle.page_state.specs.declared.entry.Entry.{Entry}
 use Rattle.page_state.specs.declared.entry.Entry.TheVariants.{Malformed}
 use Rattle.page_state.specs.Entries.{advance, entry_of_word}
+use Rattle.page_state.specs.Geometries.{block_pages}
 use Rattle.table_tree.specs.declared.table.Table.{Table}
 use Rattle.table_tree.specs.declared.table.Slot.{Slot, out-Slot}
 use Rattle.table_tree.specs.declared.table.Slot.TheOpen.{Word, Child}
@@ -20,10 +21,6 @@ abbrev pub level_at : ℕ → Level
 level_at zero = Three
 level_at (suc zero) = Two
 level_at (suc (suc depth)) = One
-
--- the pages under one word of a table
-abbrev pub block_pages : ℕ → ℕ
-block_pages depth = 2 ^ (9 * depth)
 
 -- the index of a page in a table (Arm DDI 0487, D8.2)
 abbrev pub index_at : ℕ → ℕ → ℕ

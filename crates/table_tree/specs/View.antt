@@ -3,9 +3,9 @@ use Rattle.std.specs.Prelude.{ℕ, zero, suc, ◌*◌, nat_lt, List, Option, Non
 use Rattle.page_state.specs.declared.entry.Entry.TheVariants.{Unmapped}
 use Rattle.page_state.specs.Map.{Map}
 use Rattle.page_state.specs.State.{Tree as ReferenceTree}
-use Rattle.page_state.specs.Geometries.{levels_below, input_pages}
+use Rattle.page_state.specs.Geometries.{levels_below, input_pages, block_pages}
 use Rattle.table_tree.specs.declared.tree.Tree.{Tree}
-use Rattle.table_tree.specs.Meaning.{block_pages, entry_at, word_at, frame_of}
+use Rattle.table_tree.specs.Meaning.{entry_at, word_at, frame_of}
 use Rattle.table_tree.specs.Tables.{tables_in, uses_in, table_in}
 
 -- the map of a tree

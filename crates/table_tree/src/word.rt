@@ -2,7 +2,8 @@
 ghost use Rattle.std.specs.Prelude.{◌≡◌, ℕ, ◌+◌, ◌*◌, ◌^◌, ◌<◌};
 ghost use Rattle.descriptor.specs.Word.{desc_of, CanBeSaid};
 ghost use Rattle.page_state.specs.Entries.{advance, entry_of_word, word_of_entry};
-ghost use Rattle.table_tree.specs.Meaning.{IsDepth, level_at, index_at, word_entry, block_pages};
+ghost use Rattle.page_state.specs.Geometries.{block_pages};
+ghost use Rattle.table_tree.specs.Meaning.{IsDepth, level_at, index_at, word_entry};
 ghost use Rattle.table_tree.specs.Shape.{IsEntryWord, HasSmallFrame};
 
 use descriptor::{Desc, Level, decode, encode};

@@ -7,10 +7,11 @@ use Rattle.descriptor.specs.Word.{desc_of}
 use Rattle.page_state.specs.declared.entry.Entry.{Entry}
 use Rattle.page_state.specs.declared.entry.Entry.TheVariants.{Malformed}
 use Rattle.page_state.specs.Entries.{advance, entry_of_word}
+use Rattle.page_state.specs.Geometries.{block_pages}
 use Rattle.table_tree.specs.declared.table.Table.{Table}
 use Rattle.table_tree.specs.declared.table.Slot.{Slot}
 use Rattle.table_tree.specs.declared.table.Slot.TheVariants.{Word, Child}
-use Rattle.table_tree.specs.Meaning.{level_at, block_pages, index_at, slot_at, entry_at}
+use Rattle.table_tree.specs.Meaning.{level_at, index_at, slot_at, entry_at}
 use Rattle.table_tree.specs.Slots.{slot_entry}
 use Rattle.walk_plan.specs.declared.change.Change.{Change}
 use Rattle.walk_plan.specs.Changes.{changed}

@@ -10,16 +10,15 @@ use Rattle.page_state.specs.Blocks.{span, first_page, block_eq, is_one_word, is_
 use Rattle.page_state.specs.Tables.{Edit, put, needs, need, freed, placed, cleared, edited}
 use Rattle.page_state.proofs.Blocks.{empty_means}
 use Rattle.page_state.proofs.BlockLists.{blocks_meet}
-use Rattle.page_state.specs.Geometries.{levels_below, input_pages}
+use Rattle.page_state.specs.Geometries.{levels_below, input_pages, block_pages}
 use Rattle.table_tree.specs.declared.tree.Tree.{Tree}
-use Rattle.table_tree.specs.Meaning.{block_pages, entry_at, frame_of}
+use Rattle.table_tree.specs.Meaning.{entry_at, frame_of}
 use Rattle.table_tree.specs.Tables.{table_in}
 use Rattle.table_tree.specs.View.{meaning, table_at, tree_of}
 use Rattle.walk_plan.specs.declared.change.Change.{Change}
 use Rattle.walk_plan.specs.Changes.{changed, table_need}
 use Rattle.walk_plan.specs.Ranks.{given, table_rank}
 use Rattle.walk_plan.proofs.Slots.{table_top}
-use Rattle.walk_plan.proofs.Numbers.{size_power}
 use Rattle.walk_plan.proofs.Cases.{by_test, by_lt, by_option}
 use Rattle.walk_plan.proofs.InBlocks.{IsIn, page_under, under_page, block_within}
 use Rattle.walk_plan.proofs.Changed.{changed_inside, changed_outside}
@@ -112,12 +111,6 @@ module _ {A : Type 0} (t u : Tree A) (first count : ℕ) (e : Entry) (c : Change
       abbrev first_of : ℕ
       first_of = j * block_pages (suc low)
 
-      begin_is : first_page (suc low, j) ≡ first_of
-      begin_is = ap (λ z. j * z) (sym (size_power (suc low)))
-
-      size_is : span (suc low, j) ≡ block_pages (suc low)
-      size_is = sym (size_power (suc low))
-
       input_page : (p : ℕ) → IsIn (suc low) j p → p < input_pages t.geometry
       input_page p h = let e = all_pages t in let x = block_within top low j p deep (omega arith) h in omega arith
 
@@ -125,8 +118,6 @@ module _ {A : Type 0} (t u : Tree A) (first count : ℕ) (e : Entry) (c : Change
       module _ (empty : is_empty after (suc low, j) ≡ true) where
         unmapped : (p : ℕ) → IsIn (suc low) j p → after p ≡ Unmapped
         unmapped p h =
-            let x = begin_is in
-            let y = size_is in
             let l = h.low in
             let r = h.high in
             let at : first_page (suc low, j) + (p - first_of) ≡ p = omega arith in
@@ -144,8 +135,6 @@ module _ {A : Type 0} (t u : Tree A) (first count : ℕ) (e : Entry) (c : Change
         -- a change beside it
         left_beside : (first_of < first + count → first < first_of + block_pages (suc low) → ⊥) → left (suc low, j) ≡ None
         left_beside off =
-            let x = begin_is in
-            let y = size_is in
             let side : (p : ℕ) → IsIn (suc low) j p → (p < c.first) ⊎ (c.end ≤ p) = λ p h. let l = h.low in let r = h.high in by_lt p c.first (λ a. inl a) (λ a. by_lt p c.end (λ z. absurd (off (omega arith) (omega arith))) (λ z. inr z)) in
             let was : (p : ℕ) → p / block_pages (low + 1) ≡ first_of / block_pages (low + 1) → entry_at top t.table p ≡ Unmapped =
             λ p h. let k = page_under low j p (rw add-one at h) in sym (meaning_in t p (input_page p k)) ∙ sym (made.outside p (side p k)) ∙ unmapped p k in
@@ -153,8 +142,6 @@ module _ {A : Type 0} (t u : Tree A) (first count : ℕ) (e : Entry) (c : Change
 
         on_range : first_of < first + count → first < first_of + block_pages (suc low) → Contains (blocks_on top first count) (suc low, j)
         on_range p q =
-            let x = begin_is in
-            let y = size_is in
             (blocks_meet top first count (suc low, j) some).1 (omega arith, omega arith, omega arith, omega arith)
 
         left_some : (f : ℕ) → standing (suc low, j) ≡ Some f → left (suc low, j) ≡ None
@@ -175,10 +162,8 @@ module _ {A : Type 0} (t u : Tree A) (first count : ℕ) (e : Entry) (c : Change
       full_now h =
           let x = mapped_page after (suc low, j) h in
           let less : x.0 < span (suc low, j) = x.1 in
-          let y = size_is in
-          let at : first_page (suc low, j) + x.0 ≡ first_of + x.0 = ap (λ z. z + x.0) begin_is in
           let page : IsIn (suc low) j (first_of + x.0) = record { low = omega arith; high = omega arith } in
-          let mapped : entry_at top u.table (first_of + x.0) ≡ Unmapped → ⊥ = λ z. x.2 (ap after at ∙ sym (map_after (first_of + x.0) (input_page (first_of + x.0) page)) ∙ z) in
+          let mapped : entry_at top u.table (first_of + x.0) ≡ Unmapped → ⊥ = λ z. x.2 (sym (map_after (first_of + x.0) (input_page (first_of + x.0) page)) ∙ z) in
           let under : (first_of + x.0) / block_pages (low + 1) ≡ first_of / block_pages (low + 1) = rw add-one (under_page low j (first_of + x.0) page) in
           let enough : need top (tree_of t) edit ≤ length fs = let z = need_walked t first count e c some within from to gives in let k = w.enough in omega arith in
           left_placed (suc low, j) (full_not standing after (suc low, j) h)
@@ -194,7 +179,7 @@ module _ {A : Type 0} (t u : Tree A) (first count : ℕ) (e : Entry) (c : Change
         (λ h. by_lt low top
         (λ l. by_test (is_empty after (suc low, j)) (λ z. empty_now low j l h z ∙ sym (left_none low j l h z)) (λ z. sym (full_now low j l h z)))
         (λ l. table_now low j h ∙ root_now low (j * block_pages (suc low)) l ∙ sym (left_off (suc low, j) (λ k. let m = (blocks_meet top first count (suc low, j) some).0 k in omega (arith, m.1)) ∙ table_at_in t low j h)))
-        (λ h. table_past u low j (let z = same_pages in omega arith) ∙ sym (left_off (suc low, j) (λ k. let m = (blocks_meet top first count (suc low, j) some).0 k in let e = size_power (suc low) in let x = ap (λ z. j * z) e in omega (arith, m.2)) ∙ table_past t low j h))
+        (λ h. table_past u low j (let z = same_pages in omega arith) ∙ sym (left_off (suc low, j) (λ k. let m = (blocks_meet top first count (suc low, j) some).0 k in omega (arith, m.2)) ∙ table_past t low j h))
       where
         root_now : (low q : ℕ) → top ≤ low → table_in top u.table low q ≡ table_in top t.table low q
         root_now low q l = by_lt top low

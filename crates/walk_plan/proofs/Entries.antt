@@ -18,8 +18,9 @@ use Rattle.page_state.specs.Entries.{advance, entry_of_word, word_of_entry}
 use Rattle.page_state.specs.EntryTests.{prot_eq, kind_eq, state_eq, entry_eq}
 use Rattle.page_state.specs.Blocks.{fits_word}
 use Rattle.page_state.specs.Laws.{FitsWord}
+use Rattle.page_state.specs.Geometries.{block_pages}
 use Rattle.page_state.proofs.Blocks.{fits_each_word}
-use Rattle.table_tree.specs.Meaning.{level_at, block_pages}
+use Rattle.table_tree.specs.Meaning.{level_at}
 use Rattle.table_tree.specs.Shape.{IsWellFormed, IsEntryWord}
 
 -- tests

@@ -12,12 +12,12 @@ use Rattle.page_state.specs.Map.{Map, update}
 use Rattle.page_state.specs.State.{Block}
 use Rattle.page_state.specs.Blocks.{is_empty}
 use Rattle.page_state.specs.Tables.{put, freed, returned}
-use Rattle.page_state.specs.Geometries.{levels_below, input_pages}
+use Rattle.page_state.specs.Geometries.{levels_below, input_pages, block_pages}
 use Rattle.table_tree.specs.declared.table.Table.{Table}
 use Rattle.table_tree.specs.declared.table.Slot.{Slot}
 use Rattle.table_tree.specs.declared.table.Slot.TheVariants.{Word, Child}
 use Rattle.table_tree.specs.declared.tree.Tree.{Tree}
-use Rattle.table_tree.specs.Meaning.{level_at, block_pages, slot_at, entry_at, frame_of}
+use Rattle.table_tree.specs.Meaning.{level_at, slot_at, entry_at, frame_of}
 use Rattle.table_tree.specs.Shape.{IsShaped}
 use Rattle.table_tree.specs.Tables.{table_in, is_one, frame_count}
 use Rattle.table_tree.specs.Slots.{IsSlot, slot_entry, slot_table}
@@ -26,7 +26,7 @@ use Rattle.walk_plan.specs.declared.change.Change.{Change}
 use Rattle.walk_plan.specs.Changes.{part, sum_to, met, changed}
 use Rattle.walk_plan.specs.Ranks.{slot_gone, gone_parts, table_gone}
 use Rattle.walk_plan.proofs.Slots.{by_slot, case_word, case_child, shaped_slot, child_shaped}
-use Rattle.walk_plan.proofs.Numbers.{size_power, place_in, place_small}
+use Rattle.walk_plan.proofs.Numbers.{place_in, place_small}
 use Rattle.walk_plan.proofs.Joined.{sum_same, joined, joined_none, filter_joined}
 use Rattle.walk_plan.proofs.Cases.{by_test, by_lt}
 use Rattle.walk_plan.proofs.Walked.{meets, under, under_page, under_met, under_unmet}
@@ -45,10 +45,6 @@ all_same from (suc k) p q h =
     let here : p from ≡ q from = h from (omega arith) (omega arith) in
     let more : all_from (suc from) k p ≡ all_from (suc from) k q = all_same (suc from) k p q (λ i a b. h i (omega arith) (omega arith)) in
     ap (λ t. elim t as (λ _. Bool) [ true ↦ all_from (suc from) k p | false ↦ false ]) here ∙ ap (λ r. elim (q from) as (λ _. Bool) [ true ↦ r | false ↦ false ]) more
-
-is_empty_pages : (n : Map) (d b : ℕ) → is_empty n (d, b) ≡ all_below (block_pages d) (λ i. is_unmapped (n (b * block_pages d + i)))
-unfolding is_empty
-is_empty_pages n d b = ap (λ s. all_below s (λ i. is_unmapped (n (b * s + i)))) (sym (size_power d))
 
 -- the frames of the blocks that lose their table, counted
 module _ (c : Change) (n : Map) (ts : Block → Option ℕ) (f : ℕ) where
@@ -123,9 +119,9 @@ module _ {A : Type 0} (c : Change) (m n : Map) (ts : Block → Option ℕ) (made
       (λ r. made_outside c m n made (suc d) b i p (inr r) ∙ old ∙ sym (changed_outside (suc d) (entry_at d t) c' i p (inr r))))
 
   empty_after : (d b : ℕ) (t : Table A) → Matches m ts d (suc d) b (entry_at d t) (table_in d t) → is_empty n (suc d, b) ≡ all_below (block_pages (suc d)) (λ i. is_unmapped (changed (suc d) (entry_at d t) (part (suc d) b c) i))
+  unfolding is_empty
   empty_after d b t h =
-      is_empty_pages n (suc d) b
-      ∙ all_same 0 (block_pages (suc d)) (λ i. is_unmapped (n (b * block_pages (suc d) + i))) (λ i. is_unmapped (changed (suc d) (entry_at d t) (part (suc d) b c) i)) (λ i l u. let p : i < block_pages (suc d) = omega arith in ap is_unmapped (entry_after d b i t h p))
+      all_same 0 (block_pages (suc d)) (λ i. is_unmapped (n (b * block_pages (suc d) + i))) (λ i. is_unmapped (changed (suc d) (entry_at d t) (part (suc d) b c) i)) (λ i l u. let p : i < block_pages (suc d) = omega arith in ap is_unmapped (entry_after d b i t h p))
 
   gone_word : (d w : ℕ) (s : Slot A) (z : Change) (f : ℕ) → s ≡ Word w → slot_gone (suc d) s z f ≡ 0
   unfolding slot_gone

@@ -2,8 +2,10 @@
 use Rattle.std.proofs.Common.{◌≡◌, ℕ, suc, ◌+◌, ◌-◌, ◌*◌, ◌/◌, ◌%◌, ◌<◌, ◌≤◌, refl, sym, ap, subst, arith, ◌∙◌, mul-le-mul_right}
 use Rattle.std.proofs.Math.Nat.{div-mul-le_self, lt-div-mul-add}
 use Rattle.page_state.specs.State.{Block}
-use Rattle.table_tree.specs.Meaning.{block_pages, index_at}
-use Rattle.walk_plan.proofs.Numbers.{quotient, index_in, size_step, size_some, size_split, less_scaled}
+use Rattle.page_state.specs.Geometries.{block_pages}
+use Rattle.page_state.proofs.Sizes.{size_step, size_some, size_split}
+use Rattle.table_tree.specs.Meaning.{index_at}
+use Rattle.walk_plan.proofs.Numbers.{quotient, index_in, less_scaled}
 
 -- a page lies in a block
 pub record IsIn (d b q : ℕ) : Type 0 where

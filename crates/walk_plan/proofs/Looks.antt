@@ -6,7 +6,8 @@ use Rattle.walk_plan.specs.declared.change.Change.{Change}
 use Rattle.walk_plan.specs.Changes.{IsChange, part}
 use Rattle.walk_plan.specs.Looks.{edge, edges}
 use Rattle.walk_plan.proofs.Slots.{by_eq}
-use Rattle.walk_plan.proofs.Ranges.{by_le, size_some, size_next, first_part, last_part, after_part, before_part}
+use Rattle.page_state.proofs.Sizes.{size_some, size_next}
+use Rattle.walk_plan.proofs.Ranges.{by_le, first_part, last_part, after_part, before_part}
 
 edge_same : (k a b : ℕ) → a ≡ b → edge k a b ≡ 0
 unfolding edge

@@ -8,18 +8,19 @@ use Rattle.page_state.specs.declared.entry.Entry.TheVariants.{Unmapped}
 use Rattle.page_state.specs.Entries.{advance, entry_of_word}
 use Rattle.page_state.specs.Map.{Map}
 use Rattle.page_state.specs.State.{Block}
-use Rattle.page_state.specs.Geometries.{levels_below, input_pages}
+use Rattle.page_state.specs.Geometries.{levels_below, input_pages, block_pages}
+use Rattle.page_state.proofs.Sizes.{size_step, size_some}
 use Rattle.table_tree.specs.declared.table.Table.{Table}
 use Rattle.table_tree.specs.declared.table.Slot.{Slot}
 use Rattle.table_tree.specs.declared.table.Slot.TheVariants.{Word, Child}
 use Rattle.table_tree.specs.declared.tree.Tree.{Tree}
-use Rattle.table_tree.specs.Meaning.{level_at, block_pages, index_at, slot_at, entry_at, frame_of}
+use Rattle.table_tree.specs.Meaning.{level_at, index_at, slot_at, entry_at, frame_of}
 use Rattle.table_tree.specs.Tables.{table_in}
 use Rattle.table_tree.specs.Slots.{slot_entry, slot_table}
 use Rattle.table_tree.specs.View.{meaning, table_at}
 use Rattle.walk_plan.proofs.Slots.{by_slot, entry_step, word_gives, child_gives, table_below, table_top, stand_word, stand_child}
 use Rattle.walk_plan.proofs.Entries.{advance_twice}
-use Rattle.walk_plan.proofs.Numbers.{size_step, size_some, index_in, place_in}
+use Rattle.walk_plan.proofs.Numbers.{index_in, place_in}
 
 -- on a block, the map is `entry`, and the tables with fewer than `k` levels below them stand as `table` says
 pub record Matches (m : Map) (ts : Block → Option ℕ) (k d b : ℕ) (entry : ℕ → Entry) (table : ℕ → ℕ → Option ℕ) : Type 0 where

@@ -8,12 +8,12 @@ use Rattle.page_state.specs.Map.{Map, update}
 use Rattle.page_state.specs.State.{Block}
 use Rattle.page_state.specs.Blocks.{fits_word, is_one_word}
 use Rattle.page_state.specs.Tables.{put, needs, need}
-use Rattle.page_state.specs.Geometries.{levels_below, input_pages}
+use Rattle.page_state.specs.Geometries.{levels_below, input_pages, block_pages}
 use Rattle.table_tree.specs.declared.table.Table.{Table}
 use Rattle.table_tree.specs.declared.table.Slot.{Slot}
 use Rattle.table_tree.specs.declared.table.Slot.TheVariants.{Word, Child}
 use Rattle.table_tree.specs.declared.tree.Tree.{Tree}
-use Rattle.table_tree.specs.Meaning.{level_at, block_pages, slot_at, entry_at}
+use Rattle.table_tree.specs.Meaning.{level_at, slot_at, entry_at}
 use Rattle.table_tree.specs.Shape.{IsShaped}
 use Rattle.table_tree.specs.Tables.{table_in}
 use Rattle.table_tree.specs.Slots.{IsSlot, slot_entry, slot_table}

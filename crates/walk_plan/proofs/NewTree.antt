@@ -6,7 +6,7 @@ use Rattle.page_state.specs.declared.entry.Entry.TheVariants.{Unmapped}
 use Rattle.page_state.specs.Boot.{root_tree}
 use Rattle.page_state.specs.Map.{empty_map, update}
 use Rattle.page_state.specs.Tables.{put, needs, need}
-use Rattle.table_tree.specs.Meaning.{block_pages}
+use Rattle.page_state.specs.Geometries.{block_pages}
 use Rattle.walk_plan.specs.declared.change.Change.{Change}
 use Rattle.walk_plan.specs.Changes.{part, sum_to, met, block_parts}
 use Rattle.walk_plan.proofs.Numbers.{part_all}

@@ -1,29 +1,15 @@
--- Blocks of pages by number: their sizes, and the changes in them.
+-- Blocks of pages by number, and the changes in them.
 use Rattle.std.proofs.Common.{◌≡◌, ℕ, zero, suc, ◌+◌, ◌-◌, ◌*◌, ◌/◌, ◌%◌, ◌^◌, ◌<◌, ◌≤◌, min, refl, sym, ap, arith, ◌∙◌, pow-suc, mul-le-mul_right}
 use Rattle.std.proofs.lemmas.Nat.{pow-add, div-mul-add}
 use Rattle.page_state.specs.declared.entry.Entry.{Entry}
 use Rattle.page_state.specs.Entries.{advance}
-use Rattle.table_tree.specs.Meaning.{block_pages, index_at}
+use Rattle.page_state.specs.Geometries.{block_pages}
+use Rattle.page_state.proofs.Sizes.{size_step}
+use Rattle.table_tree.specs.Meaning.{index_at}
 use Rattle.walk_plan.specs.declared.change.Change.{Change}
 use Rattle.walk_plan.specs.Changes.{part}
 use Rattle.walk_plan.proofs.Cases.{by_lt}
 use Rattle.walk_plan.proofs.Entries.{advance_twice, advance_none}
-
--- sizes of blocks
-
-pub size_step : (d : ℕ) → block_pages (suc d) ≡ 512 * block_pages d
-size_step d = let e : 9 * suc d ≡ 9 + 9 * d = omega arith in rw (e, pow-add 2 9 (9 * d)) refl
-
-pub size_some : (d : ℕ) → 1 ≤ block_pages d
-size_some zero = omega arith
-size_some (suc d) = let x = size_some d in rw (size_step d) (omega arith)
-
-pub size_power : (d : ℕ) → block_pages d ≡ 512 ^ d
-size_power zero = refl
-size_power (suc d) = size_step d ∙ ap (λ n. 512 * n) (size_power d) ∙ rw (pow-suc 512 d) (omega arith)
-
-pub size_split : (d e : ℕ) → e ≤ d → block_pages d ≡ block_pages (d - e) * block_pages e
-size_split d e h = let x : 9 * d ≡ 9 * (d - e) + 9 * e = omega arith in ap (λ n. 2 ^ n) x ∙ pow-add 2 (9 * (d - e)) (9 * e)
 
 -- a page in a block
 

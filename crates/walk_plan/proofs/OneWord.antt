@@ -6,12 +6,12 @@ use Rattle.page_state.specs.Entries.{advance}
 use Rattle.page_state.specs.EntryTests.{entry_eq}
 use Rattle.page_state.specs.Map.{Map}
 use Rattle.page_state.specs.Blocks.{fits_word, is_one_word}
+use Rattle.page_state.specs.Geometries.{block_pages}
 use Rattle.page_state.proofs.Blocks.{one_word_means}
-use Rattle.table_tree.specs.Meaning.{block_pages}
+use Rattle.page_state.proofs.Sizes.{size_step, size_some}
 use Rattle.walk_plan.specs.declared.change.Change.{Change}
 use Rattle.walk_plan.specs.Changes.{part, is_whole, is_one_word as is_one_word_after}
 use Rattle.walk_plan.proofs.Entries.{and_both, and_join, eq_same, eq_made, advance_twice, advance_none, advance_back, entry_eq_same, entry_eq_self, part_fits}
-use Rattle.walk_plan.proofs.Numbers.{size_step, size_some, size_power}
 use Rattle.walk_plan.proofs.Cases.{by_lt}
 use Rattle.walk_plan.proofs.Walked.{meets}
 
@@ -56,14 +56,14 @@ abbrev Along : Map → ℕ → ℕ → ℕ → Type 0
 Along n s d b = (fits_word d (n (b * s)) ≡ true) × ((i : ℕ) → i < s → n (b * s + i) ≡ advance (n (b * s)) i)
 
 one_word_says : (n : Map) (d b : ℕ) → is_one_word n (d, b) ≡ true → Along n (block_pages d) d b
-one_word_says n d b h = subst (λ s. Along n s d b) (sym (size_power d)) ((one_word_means n (d, b)).0 h)
+one_word_says n d b h = (one_word_means n (d, b)).0 h
 
 pub one_word_made : (n : Map) (d b : ℕ) (y : Entry) → fits_word d y ≡ true → ((i : ℕ) → i < block_pages d → n (b * block_pages d + i) ≡ advance y i) → is_one_word n (d, b) ≡ true
 one_word_made n d b y f h =
     let z : b * block_pages d + 0 ≡ b * block_pages d = omega arith in
     let e : n (b * block_pages d) ≡ y = ap n (sym z) ∙ h 0 (size_some d) ∙ advance_none y in
     let along : Along n (block_pages d) d b = (ap (fits_word d) e ∙ f, λ i p. h i p ∙ ap (λ x. advance x i) (sym e)) in
-    (one_word_means n (d, b)).1 (subst (λ s. Along n s d b) (size_power d) along)
+    (one_word_means n (d, b)).1 along
 
 -- the parts of a block that is one word are one word
 pub one_word_part : (n : Map) (d b i : ℕ) → suc d < 3 → i < 512 → is_one_word n (suc d, b) ≡ true → is_one_word n (d, 512 * b + i) ≡ true

@@ -5,10 +5,11 @@ use Rattle.std.proofs.lemmas.List.Kept.{AllPairs-cons}
 use Rattle.page_state.specs.State.{Block}
 use Rattle.page_state.specs.Blocks.{span, first_page, blocks_on}
 use Rattle.page_state.specs.Laws.{ComesBefore}
+use Rattle.page_state.specs.Geometries.{block_pages}
 use Rattle.page_state.proofs.BlockLists.{blocks_meet, blocks_ordered}
-use Rattle.table_tree.specs.Meaning.{block_pages}
+use Rattle.page_state.proofs.Sizes.{size_some, size_split}
 use Rattle.walk_plan.specs.declared.change.Change.{Change}
-use Rattle.walk_plan.proofs.Numbers.{size_some, size_power, size_split, less_scaled}
+use Rattle.walk_plan.proofs.Numbers.{less_scaled}
 use Rattle.walk_plan.proofs.Cases.{by_test, by_lt}
 use Rattle.walk_plan.proofs.Walked.{meets, met_block, block_met, under, below, IsUnder, all_under, part_under, under_in}
 use Rattle.walk_plan.proofs.Joined.{contains_joined, all_joined, pairs_joined, pairs_nil, same_list}
@@ -59,9 +60,6 @@ below_all c d b a some h p =
 
 -- in order
 
-begin_of : (a : Block) → first_page a ≡ a.1 * block_pages a.0
-begin_of a = ap (λ n. a.1 * n) (sym (size_power a.0))
-
 strict : (a b : Block) → ComesBefore a b → ComesBefore b a → ⊥
 strict a b h k = elim h [
   | inl p ↦ elim k [ inl q ↦ omega arith | inr q ↦ omega (arith, q.0) ]
@@ -71,11 +69,9 @@ strict a b h k = elim h [
 head_first : (c : Change) (d b : ℕ) (a : Block) → IsUnder c (suc d) b a → a.0 ≤ d → ComesBefore (suc d, b) a
 head_first c d b a h p =
     let low = h.low in
-    let e : first_page (suc d, b) ≡ b * block_pages (suc d) = begin_of (suc d, b) in
-    let f : first_page a ≡ a.1 * block_pages a.0 = begin_of a in
     by_lt (b * block_pages (suc d)) (a.1 * block_pages a.0)
-    (λ q. inl (rw (e, f) q))
-    (λ q. let same : b * block_pages (suc d) ≡ a.1 * block_pages a.0 = omega arith in inr (e ∙ same ∙ sym f, omega arith))
+    (λ q. inl q)
+    (λ q. let same : b * block_pages (suc d) ≡ a.1 * block_pages a.0 = omega arith in inr (same, omega arith))
 
 parts_first : (c : Change) (d b i j : ℕ) (x y : Block) → i < j → IsUnder c d (512 * b + i) x → IsUnder c d (512 * b + j) y → ComesBefore x y
 parts_first c d b i j x y p h k =
@@ -84,10 +80,7 @@ parts_first c d b i j x y p h k =
     let r = size_some x.0 in
     let q : i + 1 ≤ j = omega arith in
     let z = mul-le-mul_right (block_pages d) q in
-    let e : first_page x ≡ x.1 * block_pages x.0 = begin_of x in
-    let f : first_page y ≡ y.1 * block_pages y.0 = begin_of y in
-    let g : x.1 * block_pages x.0 < y.1 * block_pages y.0 = apart (block_pages d) b i j _ _ (block_pages x.0) r z high low in
-    inl (rw (e, f) g)
+    inl (apart (block_pages d) b i j _ _ (block_pages x.0) r z high low)
   where
     apart : (s b i j x y u : ℕ) → 1 ≤ u → (i + 1) * s ≤ j * s → x + u ≤ (512 * b + i) * s + s → (512 * b + j) * s ≤ y → x < y
     apart s b i j x y u h k p q = omega arith
@@ -119,10 +112,8 @@ module _ (c : Change) (top first count : ℕ) (some : 0 < count) (within : first
 
   on_under : (a : Block) → (1 ≤ a.0) × (a.0 ≤ top) × (first_page a < first + count) × (first < first_page a + span a) → IsUnder c (suc top) 0 a
   on_under a h =
-      let e : first_page a ≡ a.1 * block_pages a.0 = begin_of a in
-      let f : span a ≡ block_pages a.0 = sym (size_power a.0) in
-      let p : a.1 * block_pages a.0 < c.end = rw (e, sym to) at h.2 in
-      let q : c.first < a.1 * block_pages a.0 + block_pages a.0 = rw (e, f, sym from) at h.3 in
+      let p : a.1 * block_pages a.0 < c.end = rw (sym to) at h.2 in
+      let q : c.first < a.1 * block_pages a.0 + block_pages a.0 = rw (sym from) at h.3 in
       let split = size_split (suc top) a.0 (omega (arith, h.1)) in
       let low : a.1 * block_pages a.0 < block_pages (suc top - a.0) * block_pages a.0 = omega arith in
       let less : a.1 + 1 ≤ block_pages (suc top - a.0) = let x = less_scaled a.1 (block_pages (suc top - a.0)) (block_pages a.0) low in omega arith in
@@ -137,12 +128,10 @@ module _ (c : Change) (top first count : ℕ) (some : 0 < count) (within : first
 
   under_on : (a : Block) → IsUnder c (suc top) 0 a → a.0 ≤ top → (1 ≤ a.0) × (a.0 ≤ top) × (first_page a < first + count) × (first < first_page a + span a)
   under_on a h p =
-      let e : first_page a ≡ a.1 * block_pages a.0 = begin_of a in
-      let f : span a ≡ block_pages a.0 = sym (size_power a.0) in
       let m = met_block c a.0 a.1 h.met in
       let x : a.1 * block_pages a.0 < first + count = omega (arith, m.1) in
       let y : first < a.1 * block_pages a.0 + block_pages a.0 = omega (arith, m.0) in
-      (h.deep, p, rw e x, rw (e, f) y)
+      (h.deep, p, x, y)
 
   pub blocks_below : blocks_on top first count ≡ below c top 0
   blocks_below =

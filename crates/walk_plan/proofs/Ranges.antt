@@ -9,6 +9,7 @@ use Rattle.descriptor.specs.Word.{desc_of, CanBeSaid}
 use Rattle.page_state.specs.declared.entry.Entry.{Entry}
 use Rattle.page_state.specs.declared.entry.Entry.TheVariants.{Malformed, Unmapped, Annotated, Leaf}
 use Rattle.page_state.specs.Entries.{advance, entry_of_word, word_of_entry}
+use Rattle.page_state.proofs.Sizes.{size_some, size_next}
 use Rattle.table_tree.specs.declared.table.Table.{Table}
 use Rattle.table_tree.specs.declared.table.Slot.{Slot}
 use Rattle.table_tree.specs.declared.table.Slot.TheVariants.{Word, Child}
@@ -32,12 +33,6 @@ range_advance n m k (Leaf f r q s) h p = omega arith
 
 pub change_small : (d : ℕ) (c : Change) → IsChange d c → HasSmallFrame c.entry
 change_small d c h = range_small (c.end - c.first) c.entry (omega (arith, h.some)) h.entry
-
-pub size_some : (d : ℕ) → 1 ≤ 2 ^ (9 * d)
-size_some d = pow_pos (9 * d)
-
-pub size_next : (d : ℕ) → 2 ^ (9 * (d + 1)) ≡ 512 * 2 ^ (9 * d)
-size_next d = let e : 9 * (d + 1) ≡ 9 + 9 * d = omega arith in rw (e, pow-add 2 9 (9 * d)) refl
 
 pub size_before : (d : ℕ) → 1 ≤ d → 2 ^ (9 * d) ≡ 512 * 2 ^ (9 * (d - 1))
 size_before d k = let e : 9 * d ≡ 9 * ((d - 1) + 1) = omega arith in rw e (size_next (d - 1))

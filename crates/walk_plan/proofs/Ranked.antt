@@ -9,12 +9,13 @@ use Rattle.page_state.specs.Map.{Map, update}
 use Rattle.page_state.specs.State.{Block}
 use Rattle.page_state.specs.Blocks.{fits_word, is_one_word, block_eq, first_page, blocks_on}
 use Rattle.page_state.specs.Tables.{Edit, put, needs, need, placed}
-use Rattle.page_state.specs.Geometries.{levels_below, input_pages}
+use Rattle.page_state.specs.Geometries.{levels_below, input_pages, block_pages}
+use Rattle.page_state.proofs.Sizes.{size_some}
 use Rattle.table_tree.specs.declared.table.Table.{Table}
 use Rattle.table_tree.specs.declared.table.Slot.{Slot}
 use Rattle.table_tree.specs.declared.table.Slot.TheVariants.{Word, Child}
 use Rattle.table_tree.specs.declared.tree.Tree.{Tree}
-use Rattle.table_tree.specs.Meaning.{level_at, block_pages, index_at, slot_at, entry_at, frame_of}
+use Rattle.table_tree.specs.Meaning.{level_at, index_at, slot_at, entry_at, frame_of}
 use Rattle.table_tree.specs.Shape.{IsShaped}
 use Rattle.table_tree.specs.Tables.{table_in}
 use Rattle.table_tree.specs.Slots.{IsSlot, slot_entry, slot_table}
@@ -24,7 +25,7 @@ use Rattle.walk_plan.specs.Changes.{part, sum_to, met, is_one_word as is_one_wor
 use Rattle.walk_plan.specs.Ranks.{given, later, met_at, block_rank, slot_rank, table_rank}
 use Rattle.walk_plan.proofs.Slots.{by_slot, case_word, case_child, shaped_slot, slot_word_is, child_shaped}
 use Rattle.walk_plan.proofs.Entries.{word_fits, part_fits, eq_same, eq_differ}
-use Rattle.walk_plan.proofs.Numbers.{part_part, size_some, size_power}
+use Rattle.walk_plan.proofs.Numbers.{part_part}
 use Rattle.walk_plan.proofs.Joined.{sum_same}
 use Rattle.walk_plan.proofs.Cases.{by_test, by_option}
 use Rattle.walk_plan.proofs.Walked.{meets, under, IsUnder, all_under}
@@ -195,5 +196,4 @@ module _ {A : Type 0} (t : Tree A) (first count : ℕ) (e : Entry) (c : Change) 
   ranked fs (zero, j) p q r enough = absurd (omega arith)
   ranked fs (suc low, j) p q r enough =
       let k : low ≡ suc low - 1 = omega arith in
-      let s : j * block_pages (suc low) ≡ first_page (suc low, j) = ap (λ z. j * z) (size_power (suc low)) in
-      ranked_at fs low j q (rw s r) enough ∙ ap (λ z. given fs (table_at t (suc low) j) (table_rank top t.table c z (j * block_pages (suc low)))) k ∙ ap (λ z. given fs (table_at t (suc low) j) (table_rank top t.table c (suc low - 1) z)) s
+      ranked_at fs low j q r enough ∙ ap (λ z. given fs (table_at t (suc low) j) (table_rank top t.table c z (j * block_pages (suc low)))) k

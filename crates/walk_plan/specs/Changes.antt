@@ -7,9 +7,10 @@ use Rattle.page_state.specs.declared.entry.Entry.TheVariants.{Unmapped, Malforme
 use Rattle.page_state.specs.Entries.{advance, entry_of_word, word_of_entry}
 use Rattle.page_state.specs.EntryTests.{entry_eq}
 use Rattle.page_state.specs.Blocks.{fits_word}
+use Rattle.page_state.specs.Geometries.{block_pages}
 use Rattle.table_tree.specs.declared.table.Table.{Table}
 use Rattle.table_tree.specs.declared.table.Slot.{Slot}
-use Rattle.table_tree.specs.Meaning.{level_at, block_pages, slot_at, slot_case}
+use Rattle.table_tree.specs.Meaning.{level_at, slot_at, slot_case}
 use Rattle.walk_plan.specs.declared.change.Change.{Change}
 
 -- an entry that words of the last level can say on `n` pages

@@ -1,6 +1,6 @@
 -- What the ends of a change cost in looks at slots.
 use Rattle.std.specs.Prelude.{ℕ, ◌+◌, ◌==◌, if◌then◌else◌}
-use Rattle.table_tree.specs.Meaning.{block_pages}
+use Rattle.page_state.specs.Geometries.{block_pages}
 use Rattle.walk_plan.specs.declared.change.Change.{Change}
 
 -- `k`, unless two numbers are equal

@@ -1,6 +1,7 @@
 //! A change of some pages of a block, and its parts.
 ghost use Rattle.std.specs.Prelude.{◌≡◌, ◌<◌};
-ghost use Rattle.table_tree.specs.Meaning.{IsDepth, block_pages};
+ghost use Rattle.page_state.specs.Geometries.{block_pages};
+ghost use Rattle.table_tree.specs.Meaning.{IsDepth};
 ghost use Rattle.table_tree.specs.Shape.{HasSmallFrame};
 ghost use Rattle.walk_plan.specs.Changes.{IsChange, part, is_whole, is_one_word};
 

@@ -7,6 +7,7 @@ use Rattle.descriptor.specs.Word.{desc_of}
 use Rattle.page_state.specs.declared.entry.Entry.{Entry}
 use Rattle.page_state.specs.declared.entry.Entry.TheVariants.{Malformed, Unmapped, Annotated, Leaf}
 use Rattle.page_state.specs.Entries.{advance, entry_of_word}
+use Rattle.page_state.proofs.Sizes.{size_some}
 use Rattle.table_tree.specs.declared.table.Table.{Table}
 use Rattle.table_tree.specs.declared.table.Slot.TheVariants.{Word, Child}
 use Rattle.table_tree.specs.declared.table.Slot.TheViews.{outs-Child}
@@ -15,7 +16,6 @@ use Rattle.table_tree.specs.Shape.{IsBlank, IsShaped, MeetsSlot}
 use Rattle.table_tree.specs.Tables.{table_in}
 use Rattle.table_tree.specs.Tight.{IsTight}
 use Rattle.walk_plan.proofs.Slots.{by_eq, by_slot, shaped_slot, slot_child_is, entry_step, word_gives, child_gives, table_below, stand_word, stand_child}
-use Rattle.walk_plan.proofs.Ranges.{size_some}
 use Rattle.walker.proofs.NoneWord.{none_word}
 use Rattle.walker.proofs.Maps.{digits}
 use Rattle.walker.proofs.Ranks.{index_same}

@@ -8,12 +8,13 @@ use Rattle.descriptor.specs.Word.{desc_of}
 use Rattle.page_state.specs.declared.entry.Entry.{Entry}
 use Rattle.page_state.specs.declared.entry.Entry.TheVariants.{Malformed, Unmapped, Annotated, Leaf}
 use Rattle.page_state.specs.Entries.{advance, entry_of_word}
+use Rattle.page_state.proofs.Sizes.{size_some}
 use Rattle.table_tree.specs.Meaning.{level_at, index_at, word_entry}
 use Rattle.walk_plan.specs.declared.change.Change.{Change}
 use Rattle.walk_plan.specs.Changes.{part, changed}
 use Rattle.walker.specs.Walks.{upto}
 use Rattle.walk_plan.proofs.Slots.{by_eq}
-use Rattle.walk_plan.proofs.Ranges.{by_le, size_some}
+use Rattle.walk_plan.proofs.Ranges.{by_le}
 
 pub digits : (n q : ℕ) → q % 2 ^ (9 * (n + 1)) ≡ index_at n q * 2 ^ (9 * n) + q % 2 ^ (9 * n)
 digits n q = let e : 9 * (n + 1) ≡ 9 + 9 * n = omega arith in rw e (mod-pow-add q 9 (9 * n))

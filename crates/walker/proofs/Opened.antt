@@ -12,10 +12,12 @@ use Rattle.page_state.specs.declared.entry.Entry.TheVariants.{Malformed, Unmappe
 use Rattle.page_state.specs.Entries.{advance, entry_of_word}
 use Rattle.page_state.specs.EntryTests.{entry_eq}
 use Rattle.page_state.specs.Blocks.{fits_word}
+use Rattle.page_state.specs.Geometries.{block_pages}
+use Rattle.page_state.proofs.Sizes.{size_some}
 use Rattle.table_tree.specs.declared.table.Table.{Table}
 use Rattle.table_tree.specs.declared.table.Slot.{Slot}
 use Rattle.table_tree.specs.declared.table.Slot.TheVariants.{Word, Child}
-use Rattle.table_tree.specs.Meaning.{level_at, index_at, block_pages, slot_at, slots_of, slot_case, frame_of, word_entry, entry_at}
+use Rattle.table_tree.specs.Meaning.{level_at, index_at, slot_at, slots_of, slot_case, frame_of, word_entry, entry_at}
 use Rattle.table_tree.specs.Shape.{IsEntryWord, IsTableFrame, IsShaped}
 use Rattle.table_tree.specs.Slots.{fresh}
 use Rattle.table_tree.specs.Tables.{table_in}
@@ -25,7 +27,7 @@ use Rattle.walk_plan.specs.declared.change.Change.{Change}
 use Rattle.walk_plan.specs.Changes.{IsRangeEntry, IsChange, changed, is_whole, is_one_word, block_need}
 use Rattle.walk_plan.specs.Ranks.{given, later, block_rank, parts_rank, slot_rank}
 use Rattle.walk_plan.proofs.Slots.{by_eq, case_word, case_child, table_top}
-use Rattle.walk_plan.proofs.Ranges.{size_some, block_one, block_split, slot_word, slot_child}
+use Rattle.walk_plan.proofs.Ranges.{block_one, block_split, slot_word, slot_child}
 use Rattle.walk_plan.proofs.Seen.{seen_deep}
 use Rattle.walker.specs.Steps.{IsRewritten, IsOpening, IsFilled, IsReady, IsOpened}
 use Rattle.walker.proofs.Maps.{changed_in, changed_before, changed_after, changed_at}

@@ -9,6 +9,7 @@ use Rattle.std.specs.declared.boxed.Box.{Box}
 use Rattle.descriptor.specs.Word.{desc_of}
 use Rattle.page_state.specs.declared.entry.Entry.{Entry}
 use Rattle.page_state.specs.Entries.{entry_of_word}
+use Rattle.page_state.proofs.Sizes.{size_some}
 use Rattle.table_tree.specs.declared.table.Table.{Table}
 use Rattle.table_tree.specs.declared.table.Slot.{Slot}
 use Rattle.table_tree.specs.declared.table.Slot.TheVariants.{Word, Child}
@@ -17,7 +18,7 @@ use Rattle.walk_plan.specs.declared.change.Change.{Change}
 use Rattle.walk_plan.specs.Changes.{IsChange, part, is_one_word, sum_to, met, table_parts}
 use Rattle.walk_plan.specs.Ranks.{given, later, met_at, block_rank, parts_rank, slot_rank, table_rank}
 use Rattle.walk_plan.proofs.Slots.{case_word, case_child}
-use Rattle.walk_plan.proofs.Ranges.{size_some, before_part, after_part}
+use Rattle.walk_plan.proofs.Ranges.{before_part, after_part}
 
 pub later_none : (n : ℕ) (r : Option ℕ) → r ≡ None → later n r ≡ None
 later_none n r e = rw e refl

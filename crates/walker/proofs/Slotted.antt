@@ -5,9 +5,11 @@ use Rattle.std.proofs.Math.Seq.{take-add}
 use Rattle.std.proofs.lemmas.List.{drop-drop}
 use Rattle.std.proofs.lemmas.List.Sums.{sum_by-append}
 use Rattle.page_state.specs.declared.entry.Entry.TheVariants.{Unmapped}
+use Rattle.page_state.specs.Geometries.{block_pages}
+use Rattle.page_state.proofs.Sizes.{size_some}
 use Rattle.table_tree.specs.declared.table.Table.{Table}
 use Rattle.table_tree.specs.declared.table.Slot.TheVariants.{Word}
-use Rattle.table_tree.specs.Meaning.{index_at, block_pages, slot_at, frame_of, entry_at}
+use Rattle.table_tree.specs.Meaning.{index_at, slot_at, frame_of, entry_at}
 use Rattle.table_tree.specs.Shape.{IsWide, IsBlank, IsShaped}
 use Rattle.table_tree.specs.Slots.{fresh}
 use Rattle.table_tree.specs.Tables.{tables_in, uses_in, table_in, is_one, frame_count}
@@ -20,7 +22,6 @@ use Rattle.walk_plan.proofs.Slots.{by_eq, table_top}
 use Rattle.walker.specs.Steps.{IsOpened, IsReady, is_emptied}
 use Rattle.walker.proofs.Maps.{changed_at}
 use Rattle.walker.proofs.Ranks.{index_same}
-use Rattle.walk_plan.proofs.Ranges.{size_some}
 use Rattle.walker.proofs.Blank.{entry_word, zero_entry, entry_in_block, unmapped_blank}
 use Rattle.walker.proofs.Emptied.{emptied_each, emptied_by}
 use Rattle.walker.proofs.Opened.{same_test}

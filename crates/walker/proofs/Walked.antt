@@ -5,9 +5,10 @@ use Rattle.std.specs.Prelude.{Bool}
 use Rattle.std.proofs.Math.Nat.{mod-eq_of_lt}
 use Rattle.page_state.specs.declared.entry.Entry.{Entry}
 use Rattle.page_state.specs.declared.entry.Entry.TheVariants.{Unmapped}
+use Rattle.page_state.specs.Geometries.{block_pages}
 use Rattle.table_tree.specs.Shape.{IsBlank}
 use Rattle.table_tree.specs.declared.table.Table.{Table}
-use Rattle.table_tree.specs.Meaning.{index_at, block_pages, slot_at, entry_at}
+use Rattle.table_tree.specs.Meaning.{index_at, slot_at, entry_at}
 use Rattle.table_tree.specs.Tables.{table_in, frame_count}
 use Rattle.walk_plan.specs.declared.change.Change.{Change}
 use Rattle.walk_plan.specs.Changes.{IsChange, changed, part, sum_to, met, slot_need, table_parts}

@@ -6,10 +6,11 @@ use Rattle.std.proofs.Math.ListN.{set, length-set}
 use Rattle.descriptor.specs.Word.{desc_of}
 use Rattle.page_state.specs.declared.entry.Entry.{Entry}
 use Rattle.page_state.specs.Entries.{advance, entry_of_word}
+use Rattle.page_state.specs.Geometries.{block_pages}
 use Rattle.table_tree.specs.declared.table.Table.{Table}
 use Rattle.table_tree.specs.declared.table.Slot.{Slot}
 use Rattle.table_tree.specs.declared.table.Slot.TheVariants.{Word}
-use Rattle.table_tree.specs.Meaning.{level_at, index_at, block_pages, slot_at, slots_of, word_entry, entry_at}
+use Rattle.table_tree.specs.Meaning.{level_at, index_at, slot_at, slots_of, word_entry, entry_at}
 use Rattle.table_tree.specs.Shape.{IsWide, IsEntryWord}
 use Rattle.table_tree.specs.Changes.{IsWritten}
 use Rattle.walker.specs.Steps.{IsPart}

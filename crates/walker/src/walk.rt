@@ -1,7 +1,8 @@
 //! A change of a table, slot by slot.
 ghost use Rattle.std.specs.Prelude.{◌≡◌, ◌≢◌, ℕ, ◌+◌, ◌-◌, ◌*◌, ◌/◌, ◌<◌, ◌≤◌, length, take, drop};
 ghost use Rattle.page_state.specs.declared.entry.Entry.TheVariants.{Unmapped};
-ghost use Rattle.table_tree.specs.Meaning.{IsDepth, block_pages, index_at, slot_at, frame_of, entry_at};
+ghost use Rattle.page_state.specs.Geometries.{block_pages};
+ghost use Rattle.table_tree.specs.Meaning.{IsDepth, index_at, slot_at, frame_of, entry_at};
 ghost use Rattle.table_tree.specs.Reading.{count_of};
 ghost use Rattle.table_tree.specs.Shape.{IsShaped};
 ghost use Rattle.table_tree.specs.Stocks.{frames_of};

@@ -1,6 +1,5 @@
 use Rattle.std.proofs.Common.{◌≡◌, suc, ◌+◌, ap, refl, arith, ◌∙◌}
-use Rattle.page_state.specs.Geometries.{levels_below, input_pages}
-use Rattle.table_tree.specs.Meaning.{block_pages}
+use Rattle.page_state.specs.Geometries.{levels_below, input_pages, block_pages}
 use Rattle.walk_plan.proofs.OfTree.{low_depth}
 use Rattle.walk_plan.proofs.NewTree.{new_need}
 use Rattle.walk_plan.proofs.needs.need_of_new.Goals as goal

@@ -1,7 +1,8 @@
 use Rattle.std.proofs.Common.{◌≡◌, ℕ, ◌+◌, ◌%◌, ◌<◌, ◌≤◌, None}
 use Rattle.page_state.specs.Entries.{advance}
+use Rattle.page_state.specs.Geometries.{block_pages}
 use Rattle.table_tree.specs.declared.table.Slot.TheVariants.{Word}
-use Rattle.table_tree.specs.Meaning.{index_at, block_pages, slot_at, frame_of, entry_at}
+use Rattle.table_tree.specs.Meaning.{index_at, slot_at, frame_of, entry_at}
 use Rattle.table_tree.specs.Shape.{IsWide, IsShaped}
 use Rattle.table_tree.specs.Tables.{tables_in, uses_in, table_in, is_one}
 use Rattle.table_tree.specs.Tight.{IsTight}

@@ -1,5 +1,6 @@
 use Rattle.std.proofs.Common.{◌≡◌, ℕ, ◌+◌, ◌-◌, ◌*◌, ◌/◌, ◌≤◌, ◌<◌, drop, take, length}
-use Rattle.table_tree.specs.Meaning.{index_at, block_pages, slot_at, frame_of, entry_at}
+use Rattle.page_state.specs.Geometries.{block_pages}
+use Rattle.table_tree.specs.Meaning.{index_at, slot_at, frame_of, entry_at}
 use Rattle.table_tree.specs.Reading.{count_of}
 use Rattle.table_tree.specs.Shape.{IsShaped}
 use Rattle.table_tree.specs.Stocks.{frames_of}
