@@ -5,16 +5,13 @@ use Rattle.page_state.specs.declared.reply.Refusal.{Refusal}
 use Rattle.page_state.specs.declared.reply.Reply.{Reply}
 use Rattle.page_state.specs.declared.row.Row.{Row}
 use Rattle.page_state.specs.declared.step.Step.TheVariants.{ShareHyp}
-use Rattle.descriptor.specs.declared.Prot.TheVariants.{RW, RWX}
-use Rattle.descriptor.specs.declared.State.TheVariants.{SharedOwned, SharedBorrowed}
-use Rattle.page_state.specs.EntryTests.{leaf}
-use Rattle.page_state.specs.Layouts.{Layout, hyp_page}
-use Rattle.page_state.specs.Parts.{Used}
+use Rattle.page_state.specs.Layouts.{Layout}
+use Rattle.page_state.specs.Parts.{Used, used_alone}
 use Rattle.page_state.specs.Regions.{Memory}
-use Rattle.page_state.specs.State.{Shared, Cpu, no_vms, no_guest}
+use Rattle.page_state.specs.State.{Shared, Cpu}
 use Rattle.page_state.specs.Step.{predict, refusal}
-use Rattle.page_state.specs.SharedRules.{share_hyp}
-use Rattle.page_state.specs.Tables.{Edit, put, need, edited, returned, all_given}
+use Rattle.page_state.specs.SharedRules.{host_share, hyp_share, share_hyp}
+use Rattle.page_state.specs.Tables.{need, edited, returned, all_given}
 use Rattle.ghost_spec.specs.declared.share.Shared.{Shared as SharedOfLists}
 use Rattle.ghost_spec.specs.Small.{AreSmall}
 use Rattle.ghost_spec.specs.Trees.{tree_of}
@@ -25,7 +22,7 @@ shared_of row s = record { host = tree_of s.host; hyp = tree_of s.hyp; free = s.
 
 -- what a call uses that uses the Shared part alone, with these rows and what else the CPU has
 abbrev pub used_of : (ℕ → Row) → Cpu → SharedOfLists → Used
-used_of row k s = record { vms = no_vms 0; shared = shared_of row s; guest = no_guest 0; cpu = record k { room = s.cpu_room } }
+used_of row k s = used_alone (shared_of row s) (record k { room = s.cpu_room })
 
 -- the runs of both trees are small
 abbrev pub HasSmallRuns : SharedOfLists → Type 0
@@ -35,19 +32,11 @@ HasSmallRuns s = AreSmall s.host.runs.items × AreSmall s.hyp.runs.items
 abbrev pub layout_of : Memory → Config → ℕ → Layout
 layout_of m config depth = record { memory = m; config = config; depth = depth }
 
--- the change of the host's tree
-abbrev pub host_edit : ℕ → Edit
-host_edit pfn = put pfn 1 (leaf RWX pfn SharedOwned)
-
--- and of the hypervisor's
-abbrev pub hyp_edit : ℕ → Edit
-hyp_edit pfn = put (hyp_page pfn) 1 (leaf RW pfn SharedBorrowed)
-
 -- the lists once the frame is shared: the host's new tables get the lowest free frames, the hypervisor's the next
 pub record IsShared (depth pfn : ℕ) (s t : SharedOfLists) : Type 0 where
-  pub host : tree_of t.host ≡ edited depth (tree_of s.host) (host_edit pfn) s.free.items
-  pub hyp : tree_of t.hyp ≡ edited depth (tree_of s.hyp) (hyp_edit pfn) (drop (need depth (tree_of s.host) (host_edit pfn)) s.free.items)
-  pub free : t.free.items ≡ all_given (returned depth (tree_of s.host) (host_edit pfn) ++ returned depth (tree_of s.hyp) (hyp_edit pfn)) (drop (need depth (tree_of s.host) (host_edit pfn) + need depth (tree_of s.hyp) (hyp_edit pfn)) s.free.items)
+  pub host : tree_of t.host ≡ edited depth (tree_of s.host) (host_share pfn) s.free.items
+  pub hyp : tree_of t.hyp ≡ edited depth (tree_of s.hyp) (hyp_share pfn) (drop (need depth (tree_of s.host) (host_share pfn)) s.free.items)
+  pub free : t.free.items ≡ all_given (returned depth (tree_of s.host) (host_share pfn) ++ returned depth (tree_of s.hyp) (hyp_share pfn)) (drop (need depth (tree_of s.host) (host_share pfn) + need depth (tree_of s.hyp) (hyp_share pfn)) s.free.items)
   pub room : t.room ≡ s.room - 1
   pub cpu_room : t.cpu_room ≡ s.cpu_room - 1
 

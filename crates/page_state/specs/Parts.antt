@@ -68,6 +68,10 @@ pub record Used : Type 0 where
   pub guest : Guest
   pub cpu : Cpu
 
+-- what a call uses that uses the Shared part alone
+abbrev pub used_alone : Shared → Cpu → Used
+used_alone s k = record { vms = no_vms 0; shared = s; guest = no_guest 0; cpu = k }
+
 -- the guest of a slot, where there is one
 abbrev pub guest_at : (ℕ → Guest) → Option ℕ → Guest
 guest_at guests None = no_guest 0

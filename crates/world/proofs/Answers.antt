@@ -4,7 +4,8 @@ use Rattle.std.proofs.lemmas.Bool.{ltb-true}
 use Rattle.page_state.specs.declared.row.Row.{Row}
 use Rattle.hyp_pool.specs.Pools.{Stored}
 use Rattle.page_state.specs.Layouts.{Layout}
-use Rattle.page_state.specs.SharedRules.{share_hyp}
+use Rattle.page_state.specs.Parts.{used_alone}
+use Rattle.page_state.specs.SharedRules.{host_share, hyp_share, share_hyp}
 use Rattle.page_state.specs.State.{Shared as ReferenceShared, Cpu, Tree}
 use Rattle.page_state.specs.Step.{shared_after}
 use Rattle.page_state.specs.Tables.{need, edited, returned, all_given}
@@ -12,7 +13,6 @@ use Rattle.table_tree.specs.declared.tree.Tree.{Tree as TableTree}
 use Rattle.table_tree.specs.View.{tree_of}
 use Rattle.world.specs.declared.parts.Shared.{Shared}
 use Rattle.world.specs.Stands.{shared_of}
-use Rattle.world.specs.Sharing.{used_alone, host_change, hyp_change}
 
 only_false : (b : Bool) → (b ≡ true → ⊥) → b ≡ false
 only_false true h = absurd (h refl)
@@ -35,16 +35,16 @@ module _ {A : Type 0} (s : Shared A) (host hyp : TableTree A) (pool : Stored) wh
 
   -- and one whose trees and pool changed as the rule says is the changed one
   pub changed : (l : Layout) (f : ℕ) (k : Cpu) → let d = l.depth in
-      tree_of host ≡ edited d (tree_of s.host.tree) (host_change f) s.pool.frames
-      → tree_of hyp ≡ edited d (tree_of s.hyp.tree) (hyp_change f) (drop (need d (tree_of s.host.tree) (host_change f)) s.pool.frames)
-      → pool.frames ≡ all_given (returned d (tree_of s.host.tree) (host_change f) ++ returned d (tree_of s.hyp.tree) (hyp_change f)) (drop (need d (tree_of s.host.tree) (host_change f) + need d (tree_of s.hyp.tree) (hyp_change f)) s.pool.frames)
+      tree_of host ≡ edited d (tree_of s.host.tree) (host_share f) s.pool.frames
+      → tree_of hyp ≡ edited d (tree_of s.hyp.tree) (hyp_share f) (drop (need d (tree_of s.host.tree) (host_share f)) s.pool.frames)
+      → pool.frames ≡ all_given (returned d (tree_of s.host.tree) (host_share f) ++ returned d (tree_of s.hyp.tree) (hyp_share f)) (drop (need d (tree_of s.host.tree) (host_share f) + need d (tree_of s.hyp.tree) (hyp_share f)) s.pool.frames)
       → (row : ℕ → Row) → shared_after d (share_hyp l (used_alone (shared_of row s) k) f) (shared_of row s) ≡ record { host = tree_of host; hyp = tree_of hyp; free = pool.frames; row = row; room = s.log.room }
   unfolding shared_after
   changed l f k a b c row =
       let d = l.depth in
-      let n = need d (tree_of s.host.tree) (host_change f) in
-      let host_after = edited d (tree_of s.host.tree) (host_change f) s.pool.frames in
-      let hyp_after = edited d (tree_of s.hyp.tree) (hyp_change f) (drop n s.pool.frames) in
+      let n = need d (tree_of s.host.tree) (host_share f) in
+      let host_after = edited d (tree_of s.host.tree) (host_share f) s.pool.frames in
+      let hyp_after = edited d (tree_of s.hyp.tree) (hyp_share f) (drop n s.pool.frames) in
       sym (ap (λ x. parts row x (tree_of hyp) pool.frames s.log.room) a
       ∙ ap (λ x. parts row host_after x pool.frames s.log.room) b
       ∙ ap (λ x. parts row host_after hyp_after x s.log.room) c)

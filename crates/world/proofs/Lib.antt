@@ -1,7 +1,6 @@
 pub mod Entries
 pub mod Pools
 pub mod Changes
-pub mod Shares
 pub mod Answers
 pub mod Booted
 pub mod Boots

@@ -24,7 +24,7 @@ use Rattle.page_state.specs.Regions.{Memory}
 use Rattle.world.specs.Sharing.{used_alone, layout_with, IsAnswered, IsMade, HasRoomFor}
 use Rattle.world.proofs.Told.{tests}
 use Rattle.world.specs.Steps.{calls_of, calls_at, call_of, is_full, Leads, IsStep}
-use Rattle.world.proofs.Shares.{full, refused, done, changed_is}
+use Rattle.page_state.proofs.Shares.{full, refused, done, changed_is}
 
 -- the state with these rooms, this Shared part and these CPUs
 abbrev pub standing : ℕ → ReferenceShared → (ℕ → Cpu) → Reference

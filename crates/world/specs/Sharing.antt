@@ -7,16 +7,13 @@ use Rattle.page_state.specs.declared.reply.Reply.{Reply}
 use Rattle.page_state.specs.declared.reply.Reply.TheVariants.{Done, Refused}
 use Rattle.page_state.specs.declared.reply.Value.TheVariants.{Nothing}
 use Rattle.page_state.specs.declared.row.Row.{Row}
-use Rattle.descriptor.specs.declared.Prot.TheVariants.{RW, RWX}
-use Rattle.descriptor.specs.declared.State.TheVariants.{SharedOwned, SharedBorrowed}
-use Rattle.page_state.specs.EntryTests.{leaf}
 use Rattle.page_state.specs.declared.step.Step.{Step}
 use Rattle.page_state.specs.declared.step.Step.TheVariants.{ShareHyp}
-use Rattle.page_state.specs.Layouts.{Layout, hyp_page}
-use Rattle.page_state.specs.Parts.{Used}
+use Rattle.page_state.specs.Layouts.{Layout}
+use Rattle.page_state.specs.Parts.{used_alone}
 use Rattle.page_state.specs.Regions.{Memory}
 use Rattle.page_state.specs.SharedRules.{share_hyp}
-use Rattle.page_state.specs.State.{Shared as ReferenceShared, Cpu, no_vms, no_guest}
+use Rattle.page_state.specs.State.{Cpu}
 use Rattle.page_state.specs.Step.{refusal, shared_after}
 use Rattle.page_state.specs.Tables.{Edit, put, need}
 use Rattle.table_tree.specs.Geometry.{levels_below}

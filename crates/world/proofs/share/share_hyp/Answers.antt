@@ -11,7 +11,8 @@ use Rattle.world.specs.Stands.{shared_of}
 use Rattle.world.specs.Sharing.{host_change, hyp_change, layout_with}
 use Rattle.world.specs.declared.component.PageEdit.{PageEdit}
 use Rattle.world.specs.View.{edit_of, need_for}
-use Rattle.world.proofs.Shares.{invalid, perm, no_pool, fine, not_false, not_true}
+use Rattle.page_state.proofs.Common.{not-false, not-true}
+use Rattle.page_state.proofs.Shares.{invalid, perm, no_pool, fine}
 use Rattle.world.proofs.Answers.{not_less, same, changed}
 use Rattle.world.proofs.share.share_hyp.Goals as goal
 
@@ -32,7 +33,7 @@ returns-then-not-is_memory-clause-answer g c =
 pub returns-then-not-may_share-clause-answer : goal.returns-then-not-may_share-clause-answer
 returns-then-not-may_share-clause-answer g c =
     let s = c.args.shared.now in
-    let barred = not_false (not (is_free_page (meaning s.host.tree c.args.pfn)) || is_mapped (meaning s.hyp.tree (hyp_page c.args.pfn))) (sym c.may_share.ensures ∙ c.if-not-may_share.true) in
+    let barred = not-false (not (is_free_page (meaning s.host.tree c.args.pfn)) || is_mapped (meaning s.hyp.tree (hyp_page c.args.pfn))) (sym c.may_share.ensures ∙ c.if-not-may_share.true) in
     inr (inr (Perm, refl, (λ config row k. perm (layout_with c.args.map.now c.args.pfn s config) 0 c.args.pfn (shared_of row s) k (sym c.is_memory.ensures.value ∙ c.if-not-is_memory.false) barred), λ row. refl))
 
 pub returns-in-Ok-clause-answer : goal.returns-in-Ok-clause-answer
@@ -41,9 +42,9 @@ returns-in-Ok-clause-answer g c =
     let d = c.in-Ok.ensures in
     let n = need_for s.host.tree c.page_edit-host_edit.result in
     let m = need_for s.hyp.tree c.page_edit-hyp_edit.result in
-    let host_is : edit_of c.page_edit-host_edit.result ≡ host_change c.args.pfn = rw (c.page_edit-host_edit.ensures, c.leaf.ensures) refl in
-    let hyp_is : edit_of c.page_edit-hyp_edit.result ≡ hyp_change c.args.pfn = rw (c.page_edit-hyp_edit.ensures, c.hyp_page.ensures, c.leaf-2.ensures) refl in
-    let free = not_true (not (is_free_page (meaning s.host.tree c.args.pfn)) || is_mapped (meaning s.hyp.tree (hyp_page c.args.pfn))) (sym c.may_share.ensures ∙ c.if-not-may_share.false) in
+    let host_is : edit_of c.page_edit-host_edit.result ≡ host_share c.args.pfn = rw (c.page_edit-host_edit.ensures, c.leaf.ensures) refl in
+    let hyp_is : edit_of c.page_edit-hyp_edit.result ≡ hyp_share c.args.pfn = rw (c.page_edit-hyp_edit.ensures, c.hyp_page.ensures, c.leaf-2.ensures) refl in
+    let free = not-true (not (is_free_page (meaning s.host.tree c.args.pfn)) || is_mapped (meaning s.hyp.tree (hyp_page c.args.pfn))) (sym c.may_share.ensures ∙ c.if-not-may_share.false) in
     let raw = not_less (length s.pool.frames) (n + m) (λ h. never (d.no_pool.1 h)) in
     let enough = rw (host_is, hyp_is, s.alike) at raw in
     inl (
@@ -58,9 +59,9 @@ returns-in-Err-NoPool-clause-answer g c =
     let d = c.in-Err-NoPool.ensures in
     let n = need_for s.host.tree c.page_edit-host_edit.result in
     let m = need_for s.hyp.tree c.page_edit-hyp_edit.result in
-    let host_is : edit_of c.page_edit-host_edit.result ≡ host_change c.args.pfn = rw (c.page_edit-host_edit.ensures, c.leaf.ensures) refl in
-    let hyp_is : edit_of c.page_edit-hyp_edit.result ≡ hyp_change c.args.pfn = rw (c.page_edit-hyp_edit.ensures, c.hyp_page.ensures, c.leaf-2.ensures) refl in
-    let free = not_true (not (is_free_page (meaning s.host.tree c.args.pfn)) || is_mapped (meaning s.hyp.tree (hyp_page c.args.pfn))) (sym c.may_share.ensures ∙ c.if-not-may_share.false) in
+    let host_is : edit_of c.page_edit-host_edit.result ≡ host_share c.args.pfn = rw (c.page_edit-host_edit.ensures, c.leaf.ensures) refl in
+    let hyp_is : edit_of c.page_edit-hyp_edit.result ≡ hyp_share c.args.pfn = rw (c.page_edit-hyp_edit.ensures, c.hyp_page.ensures, c.leaf-2.ensures) refl in
+    let free = not-true (not (is_free_page (meaning s.host.tree c.args.pfn)) || is_mapped (meaning s.hyp.tree (hyp_page c.args.pfn))) (sym c.may_share.ensures ∙ c.if-not-may_share.false) in
     let raw = lt-ltb (length s.pool.frames) (n + m) (d.no_pool.0 (ap (λ e. Err e) c.in-Err-NoPool.field-0-is)) in
     let short = rw (host_is, hyp_is, s.alike) at raw in
     inr (inr (
@@ -76,9 +77,9 @@ returns-in-Err-NoMemory-clause-answer g c =
     let d = c.in-Err-NoMemory.ensures in
     let n = need_for s.host.tree c.page_edit-host_edit.result in
     let m = need_for s.hyp.tree c.page_edit-hyp_edit.result in
-    let host_is : edit_of c.page_edit-host_edit.result ≡ host_change c.args.pfn = rw (c.page_edit-host_edit.ensures, c.leaf.ensures) refl in
-    let hyp_is : edit_of c.page_edit-hyp_edit.result ≡ hyp_change c.args.pfn = rw (c.page_edit-hyp_edit.ensures, c.hyp_page.ensures, c.leaf-2.ensures) refl in
-    let free = not_true (not (is_free_page (meaning s.host.tree c.args.pfn)) || is_mapped (meaning s.hyp.tree (hyp_page c.args.pfn))) (sym c.may_share.ensures ∙ c.if-not-may_share.false) in
+    let host_is : edit_of c.page_edit-host_edit.result ≡ host_share c.args.pfn = rw (c.page_edit-host_edit.ensures, c.leaf.ensures) refl in
+    let hyp_is : edit_of c.page_edit-hyp_edit.result ≡ hyp_share c.args.pfn = rw (c.page_edit-hyp_edit.ensures, c.hyp_page.ensures, c.leaf-2.ensures) refl in
+    let free = not-true (not (is_free_page (meaning s.host.tree c.args.pfn)) || is_mapped (meaning s.hyp.tree (hyp_page c.args.pfn))) (sym c.may_share.ensures ∙ c.if-not-may_share.false) in
     let raw = not_less (length s.pool.frames) (n + m) (λ h. other (sym c.in-Err-NoMemory.field-0-is ∙ err_is (d.no_pool.1 h))) in
     let enough = rw (host_is, hyp_is, s.alike) at raw in
     inr (inl (

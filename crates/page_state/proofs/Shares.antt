@@ -1,5 +1,5 @@
 -- What the reference step says of a share, test by test.
-use Rattle.std.proofs.Common.{◌≡◌, ℕ, ◌+◌, Bool, true, false, not, ◌||◌, ◌==◌, nat_lt, length, Some, None, [], List, ◌-◌, ap, refl, ◌∙◌, Option}
+use Rattle.std.proofs.Common.{◌≡◌, ℕ, ◌+◌, Bool, true, false, not, ◌||◌, ◌==◌, nat_lt, length, Some, None, [], List, ◌-◌, ap, refl, ◌∙◌, Option, inl, inr}
 use Rattle.page_state.specs.declared.reply.Refusal.{Refusal}
 use Rattle.page_state.specs.declared.reply.Refusal.TheVariants.{Perm, Invalid, NoPool, LogFull}
 use Rattle.page_state.specs.declared.reply.Reply.{Reply}
@@ -8,14 +8,14 @@ use Rattle.page_state.specs.declared.reply.Value.TheVariants.{Nothing}
 use Rattle.page_state.specs.declared.step.Step.TheVariants.{ShareHyp}
 use Rattle.page_state.specs.EntryTests.{is_free_page, is_mapped}
 use Rattle.page_state.specs.Layouts.{Layout, hyp_page, is_memory}
-use Rattle.page_state.specs.Parts.{Used}
+use Rattle.page_state.specs.Parts.{Used, used_alone}
 use Rattle.page_state.specs.Rule.{Rule}
 use Rattle.page_state.specs.Rules.{rule}
-use Rattle.page_state.specs.SharedRules.{share_hyp}
+use Rattle.page_state.specs.SharedRules.{host_share, hyp_share, share_hyp}
 use Rattle.page_state.specs.State.{Shared, Cpu, Tree, no_tree}
 use Rattle.page_state.specs.Step.{predict, answer, refusal, is_full, is_short, stored, with_rows, changed, shared_after, guest_after}
 use Rattle.page_state.specs.Tables.{keep, need, needs, edited, freed, returned}
-use Rattle.world.specs.Sharing.{used_alone, host_change, hyp_change}
+use Rattle.page_state.proofs.Common.{both, or-neither, or-false}
 
 -- no change needs no table
 need_keep : (top : ℕ) (t : Tree) → need top t keep ≡ 0
@@ -31,26 +31,6 @@ returned_keep : (top : ℕ) (t : Tree) → returned top t keep ≡ []
 unfolding returned freed
 returned_keep top t = refl
 
-pub not_false : (b : Bool) → not b ≡ false → b ≡ true
-not_false true h = refl
-not_false false h = cc
-
-pub not_true : (b : Bool) → not b ≡ true → b ≡ false
-not_true true h = cc
-not_true false h = refl
-
-or_false : (b : Bool) → (b || false) ≡ b
-or_false true = refl
-or_false false = refl
-
-pub not_either : (a b : Bool) → (a || b) ≡ false → (a ≡ false) × (b ≡ false)
-not_either true b h = cc
-not_either false b h = (refl, h)
-
-either : (a b : Bool) {P : Type 0} → (a || b) ≡ true → (a ≡ true → P) → (a ≡ false → b ≡ true → P) → P
-either true b h f g = f refl
-either false b h f g = g refl h
-
 module _ (l : Layout) (cpu f : ℕ) (s : Shared) (k : Cpu) where
   abbrev pub x : Used
   x = used_alone s k
@@ -64,15 +44,15 @@ module _ (l : Layout) (cpu f : ℕ) (s : Shared) (k : Cpu) where
 
   -- the need of both trees
   abbrev pub both_need : ℕ
-  both_need = need l.depth s.host (host_change f) + need l.depth s.hyp (hyp_change f)
+  both_need = need l.depth s.host (host_share f) + need l.depth s.hyp (hyp_share f)
 
   pub full : (k.room == 0 || s.room == 0) ≡ true → predict l cpu None (ShareHyp f) x ≡ (Refused LogFull, x)
   unfolding predict is_full
-  full h = either (k.room == 0) (s.room == 0) h (λ c. rw c refl) (λ c g. rw (c, g) refl)
+  full h = elim (both (k.room == 0)) [ inl c ↦ rw c refl | inr c ↦ let g : (s.room == 0) ≡ true = rw c at h in rw (c, g) refl ]
 
   roomy : (k.room == 0 || s.room == 0) ≡ false → predict l cpu None (ShareHyp f) x ≡ answer l cpu None (ShareHyp f) r x
   unfolding predict is_full rule
-  roomy h = let a = not_either (k.room == 0) (s.room == 0) h in rw (a.0, a.1) refl
+  roomy h = let a = or-neither (k.room == 0) (s.room == 0) h in rw (a.0, a.1) refl
 
   -- the answer by the first test that fails
   abbrev by_test : Option Refusal → Reply × Used
@@ -98,7 +78,7 @@ module _ (l : Layout) (cpu f : ℕ) (s : Shared) (k : Cpu) where
 
   short : is_short l.depth r x ≡ nat_lt (length s.free) both_need
   unfolding is_short
-  short = rw (need_keep l.depth no_tree) (or_false (nat_lt (length s.free) both_need))
+  short = rw (need_keep l.depth no_tree) (or-false (nat_lt (length s.free) both_need))
 
   pub no_pool : is_memory l f ≡ true → is_barred ≡ false → nat_lt (length s.free) both_need ≡ true → refusal l.depth r false x ≡ Some NoPool
   unfolding refusal is_short
