@@ -11,9 +11,12 @@ use Rattle.page_state.specs.Entries.{advance, entry_of_target, target_of}
 use Rattle.page_state.specs.EntryTests.{entry_eq}
 use Rattle.page_state.specs.Map.{is_within}
 use Rattle.page_state.specs.Runs.{map_of, entry_on, end_of, IsCoarsest, Precedes, PrecedesFirst}
+use Rattle.page_state.proofs.Cases.{by_test}
+use Rattle.page_state.proofs.Common.{eq-same}
+use Rattle.page_state.proofs.Entries.{advance-more, entry_eq-same, entry_eq-self}
 use Rattle.ghost_spec.specs.Small.{HasLowFrames, IsSmall, AreSmall}
 use Rattle.ghost_spec.specs.Joins.{continues, longer, joined, HasNoBound}
-use Rattle.ghost_spec.proofs.Entries.{both, advance_more, same_entry, entry_self, low_fewer, low_behind, low_before, left, right, same_number, some_target}
+use Rattle.ghost_spec.proofs.Entries.{low_fewer, low_behind, low_before, left, right, some_target}
 use Rattle.ghost_spec.proofs.Overlaid.{within_means}
 
 pub head_of : (P : Run → Type 0) (r : Run) (rs : List Run) → All P (r ∷ rs) → P r
@@ -32,10 +35,10 @@ map_between [] low high p b h k = refl
 map_between (r ∷ rs) low high p b h k =
     let bounds : HasNoBound low high r = head_of (HasNoBound low high) r rs b in
     rw (same_within r.pages.first.0 r.pages.count low high p bounds.0 bounds.1 h k)
-    (both (is_within r.pages.first.0 r.pages.count low)
+    (by_test (is_within r.pages.first.0 r.pages.count low)
     (λ w. let m = within_means r.pages.first.0 r.pages.count low w in
     let e : p - r.pages.first.0 ≡ low - r.pages.first.0 + (p - low) = omega (arith, m.0) in
-    rw w (ap (advance (entry_of_target r.target)) e ∙ sym (advance_more (entry_of_target r.target) (low - r.pages.first.0) (p - low))))
+    rw w (ap (advance (entry_of_target r.target)) e ∙ sym (advance-more (entry_of_target r.target) (low - r.pages.first.0) (p - low))))
     (λ w. rw w (map_between rs low high p (rest_of (HasNoBound low high) r rs b) h k)))
 
 -- a mapped page between bounds: the pages up to the higher bound are in one small run
@@ -44,7 +47,7 @@ small_between [] low high t s b h e = cc
 small_between (r ∷ rs) low high t s b h e =
     let bounds : HasNoBound low high r = head_of (HasNoBound low high) r rs b in
     let small : IsSmall r = head_of IsSmall r rs s in
-    both (is_within r.pages.first.0 r.pages.count low)
+    by_test (is_within r.pages.first.0 r.pages.count low)
     (λ w. let m = within_means r.pages.first.0 r.pages.count low w in
     let far : high ≤ r.pages.first.0 + r.pages.count = dite (dec_le high (r.pages.first.0 + r.pages.count)) (λ k. k) (λ k. let past : r.pages.first.0 + r.pages.count ≤ low = bounds.1 (omega arith) in absurd (omega (arith, m.1))) in (
       omega (arith, small.0),
@@ -66,7 +69,7 @@ map_above (r ∷ rs) p s h =
 -- a run in front of a list
 
 pub continues_page : (r n : Run) → continues r n ≡ true → end_of r ≡ n.pages.first.0
-continues_page r n h = same_number (end_of r) n.pages.first.0 (left (end_of r == n.pages.first.0) (entry_eq (entry_on r (end_of r)) (entry_of_target n.target)) h)
+continues_page r n h = eq-same (end_of r) n.pages.first.0 (left (end_of r == n.pages.first.0) (entry_eq (entry_on r (end_of r)) (entry_of_target n.target)) h)
 
 from_first : (r : Run) → end_of r - r.pages.first.0 ≡ r.pages.count
 from_first r = omega arith
@@ -74,12 +77,12 @@ from_first r = omega arith
 pub continues_entry : (r n : Run) → continues r n ≡ true → advance (entry_of_target r.target) r.pages.count ≡ entry_of_target n.target
 continues_entry r n h =
     ap (advance (entry_of_target r.target)) (sym (from_first r))
-    ∙ same_entry (entry_on r (end_of r)) (entry_of_target n.target) (right (end_of r == n.pages.first.0) (entry_eq (entry_on r (end_of r)) (entry_of_target n.target)) h)
+    ∙ entry_eq-same (entry_on r (end_of r)) (entry_of_target n.target) (right (end_of r == n.pages.first.0) (entry_eq (entry_on r (end_of r)) (entry_of_target n.target)) h)
 
 does_continue : (r n : Run) → end_of r ≡ n.pages.first.0 → entry_on r (end_of r) ≡ entry_of_target n.target → continues r n ≡ true
 does_continue r n e f =
     let p : (end_of r == n.pages.first.0) ≡ true = grind (arith, nat_tests) in
-    rw (p, f) (entry_self (entry_of_target n.target))
+    rw (p, f) (entry_eq-self (entry_of_target n.target))
 
 in_both : (a b c d p : ℕ) → a + c ≡ b → is_within b d p ≡ true → is_within a (c + d) p ≡ true
 in_both a b c d p e h = grind (arith, nat_tests)
@@ -94,18 +97,18 @@ map_of-longer : (r n : Run) (rs : List Run) (p : ℕ) → continues r n ≡ true
 map_of-longer r n rs p h =
     let b : r.pages.first.0 + r.pages.count ≡ n.pages.first.0 = continues_page r n h in
     let t = continues_entry r n h in
-    both (is_within r.pages.first.0 r.pages.count p)
+    by_test (is_within r.pages.first.0 r.pages.count p)
     (λ w. rw (w, in_first r.pages.first.0 r.pages.count n.pages.count p w) refl)
-    (λ w. both (is_within n.pages.first.0 n.pages.count p)
+    (λ w. by_test (is_within n.pages.first.0 n.pages.count p)
     (λ v. let m = within_means n.pages.first.0 n.pages.count p v in
     let e : p - r.pages.first.0 ≡ r.pages.count + (p - n.pages.first.0) = omega (arith, m.0) in
     rw (w, v, in_both r.pages.first.0 n.pages.first.0 r.pages.count n.pages.count p b v)
-    (ap (advance (entry_of_target r.target)) e ∙ sym (advance_more (entry_of_target r.target) r.pages.count (p - n.pages.first.0)) ∙ ap (λ x. advance x (p - n.pages.first.0)) t))
+    (ap (advance (entry_of_target r.target)) e ∙ sym (advance-more (entry_of_target r.target) r.pages.count (p - n.pages.first.0)) ∙ ap (λ x. advance x (p - n.pages.first.0)) t))
     (λ v. rw (w, v, in_neither r.pages.first.0 n.pages.first.0 r.pages.count n.pages.count p b w v) refl))
 
 pub map_of-joined : (r : Run) (rs : List Run) (p : ℕ) → map_of (joined r rs) p ≡ map_of (r ∷ rs) p
 map_of-joined r [] p = refl
-map_of-joined r (n ∷ rs) p = both (continues r n)
+map_of-joined r (n ∷ rs) p = by_test (continues r n)
     (λ h. rw h (map_of-longer r n rs p h))
     (λ h. rw h refl)
 
@@ -113,7 +116,7 @@ pub small_joined : (r : Run) (rs : List Run) → IsSmall r → AreSmall rs → A
 small_joined r [] h s = All-cons IsSmall r [] h (All-nil IsSmall)
 small_joined r (n ∷ rs) h s =
     let next : IsSmall n = head_of IsSmall n rs s in
-    both (continues r n)
+    by_test (continues r n)
     (λ k. let b : r.pages.first.0 + r.pages.count ≡ n.pages.first.0 = continues_page r n k in
     let frames : HasLowFrames (advance (entry_of_target r.target) r.pages.count) n.pages.count = rw (continues_entry r n k) next.1 in
     let long : IsSmall (longer r n) = (omega (arith, next.0), low_before (entry_of_target r.target) r.pages.count n.pages.count frames) in
@@ -127,7 +130,7 @@ BeginsFrom low (r ∷ rs) = low ≤ r.pages.first.0
 
 pub begins_joined : (low : ℕ) (r : Run) (rs : List Run) → low ≤ r.pages.first.0 → BeginsFrom low (joined r rs)
 begins_joined low r [] h = h
-begins_joined low r (n ∷ rs) h = both (continues r n) (λ k. rw k h) (λ k. rw k h)
+begins_joined low r (n ∷ rs) h = by_test (continues r n) (λ k. rw k h) (λ k. rw k h)
 
 pub begins_before : (low high : ℕ) (rs : List Run) → low ≤ high → BeginsFrom high rs → BeginsFrom low rs
 begins_before low high [] h b = tt
@@ -156,7 +159,7 @@ longer_precedes r n m h p =
     let b : r.pages.first.0 + r.pages.count ≡ n.pages.first.0 = continues_page r n h in
     let t = continues_entry r n h in
     let far : entry_on (longer r n) (end_of (longer r n)) ≡ entry_on n (end_of n) =
-    ap (advance (entry_of_target r.target)) (from_first (longer r n)) ∙ sym (advance_more (entry_of_target r.target) r.pages.count n.pages.count)
+    ap (advance (entry_of_target r.target)) (from_first (longer r n)) ∙ sym (advance-more (entry_of_target r.target) r.pages.count n.pages.count)
     ∙ ap (λ x. advance x n.pages.count) t ∙ ap (advance (entry_of_target n.target)) (sym (from_first n)) in
     record { before = omega (arith, p.before); apart = λ e u. p.apart (omega arith) (sym far ∙ u) }
 
@@ -166,7 +169,7 @@ longer_first r n (m ∷ rs) h p = longer_precedes r n m h p
 
 pub joined_coarsest : (r : Run) (rs : List Run) → 0 < r.pages.count → BeginsFrom (end_of r) rs → IsCoarsest rs → IsCoarsest (joined r rs)
 joined_coarsest r [] h b c = (h, tt, tt)
-joined_coarsest r (n ∷ rs) h b c = both (continues r n)
+joined_coarsest r (n ∷ rs) h b c = by_test (continues r n)
     (λ k. rw k (omega arith, longer_first r n rs k c.1, c.2))
     (λ k. rw k (h, precedes r n b k, c))
 

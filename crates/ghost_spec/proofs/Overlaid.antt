@@ -14,9 +14,11 @@ use Rattle.page_state.specs.Entries.{advance, entry_of_target}
 use Rattle.page_state.specs.Map.{update, is_within}
 use Rattle.page_state.specs.Regions.{is_in_range}
 use Rattle.page_state.specs.Runs.{map_of, entry_on}
+use Rattle.page_state.proofs.Cases.{by_test}
+use Rattle.page_state.proofs.Entries.{advance-more}
 use Rattle.ghost_spec.specs.Small.{HasLowFrames, IsSmall, AreSmall}
 use Rattle.ghost_spec.specs.Parts.{run_behind, run_before, run_from, alone, parts_outside, run_of}
-use Rattle.ghost_spec.proofs.Entries.{both, entry_advanced, advance_more, low_fewer, low_behind}
+use Rattle.ghost_spec.proofs.Entries.{entry_advanced, low_fewer, low_behind}
 
 -- the map of a list of runs where another entry stands below them
 abbrev pub over : List Run → Entry → ℕ → Entry
@@ -35,7 +37,7 @@ no_page : (a c p : ℕ) → (c == 0) ≡ true → is_within a c p ≡ false
 no_page a c p h = grind (arith, nat_tests)
 
 over-alone : (r : Run) (d : Entry) (p : ℕ) → over (alone r) d p ≡ over (r ∷ []) d p
-over-alone r d p = both (r.pages.count == 0)
+over-alone r d p = by_test (r.pages.count == 0)
     (λ h. rw (h, no_page r.pages.first.0 r.pages.count p h) refl)
     (λ h. rw h refl)
 
@@ -68,14 +70,14 @@ entry_on_behind : (r : Run) (m p : ℕ) → r.pages.first.0 + m ≤ p → entry_
 entry_on_behind r m p h =
     let e : m + (p - (r.pages.first.0 + m)) ≡ p - r.pages.first.0 = omega arith in
     ap (λ x. advance x (p - (r.pages.first.0 + m))) (entry_advanced r.target m)
-    ∙ advance_more (entry_of_target r.target) m (p - (r.pages.first.0 + m)) ∙ ap (advance (entry_of_target r.target)) e
+    ∙ advance-more (entry_of_target r.target) m (p - (r.pages.first.0 + m)) ∙ ap (advance (entry_of_target r.target)) e
 
 skipped_few : (a c x p : ℕ) → a ≤ p → x ≤ p → a + min (x - a) c ≤ p
 skipped_few a c x p h k = omega arith
 
 over_from : (r : Run) (x : ℕ) (d : Entry) (p : ℕ) → x ≤ p → over (alone (run_from r x)) d p ≡ over (r ∷ []) d p
 over_from r x d p h = over-alone (run_from r x) d p ∙ rw (from_keeps r.pages.first.0 r.pages.count x p h)
-    (both (is_within r.pages.first.0 r.pages.count p)
+    (by_test (is_within r.pages.first.0 r.pages.count p)
     (λ w. rw w (entry_on_behind r (min (x - r.pages.first.0) r.pages.count) p (skipped_few r.pages.first.0 r.pages.count x p (within_means r.pages.first.0 r.pages.count p w).0 h)))
     (λ w. rw w refl))
 
@@ -132,13 +134,13 @@ module _ (range : PageRange) where
   pub map_of-updated : (e : Entry) (rs : List Run) (p : ℕ) → map_of (run_of range e ++ parts_of rs) p ≡ update (map_of rs) range.first.0 range.count e p
   map_of-updated e rs p =
       map_of-over (run_of range e ++ parts_of rs) p ∙ over-append (run_of range e) (parts_of rs) Unmapped p
-      ∙ both (is_within range.first.0 range.count p)
+      ∙ by_test (is_within range.first.0 range.count p)
       (λ h. let w = within_means range.first.0 range.count p h in rw (parts_inside rs Unmapped p w.0 w.1, h) (run_of_inside e p h))
       (λ h. rw (parts_outside_same rs Unmapped p h, h) (run_of_outside e (over rs Unmapped p) p h ∙ sym (map_of-over rs p)))
 
   -- all of them are small
   small_alone : (r : Run) → IsSmall r → All IsSmall (alone r)
-  small_alone r s = both (r.pages.count == 0) (λ h. rw h (All-nil IsSmall)) (λ h. rw h (All-cons IsSmall r [] s (All-nil IsSmall)))
+  small_alone r s = by_test (r.pages.count == 0) (λ h. rw h (All-nil IsSmall)) (λ h. rw h (All-cons IsSmall r [] s (All-nil IsSmall)))
 
   small_before : (r : Run) (x : ℕ) → IsSmall r → IsSmall (run_before r x)
   small_before r x s = (omega (arith, s.0), low_fewer (entry_of_target r.target) (min (x - r.pages.first.0) r.pages.count) r.pages.count (omega arith) s.1)

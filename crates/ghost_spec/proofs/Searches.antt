@@ -5,21 +5,18 @@ use Rattle.page_state.specs.declared.entry.Entry.{Entry}
 use Rattle.page_state.specs.declared.entry.Entry.TheVariants.{Unmapped, Malformed, Annotated, Leaf}
 use Rattle.page_state.specs.EntryTests.{entry_eq, is_unmapped}
 use Rattle.page_state.specs.Entries.{CanAdvance}
+use Rattle.page_state.proofs.Cases.{by_test, by_eq}
+use Rattle.page_state.proofs.Blocks.{all_from-by}
 use Rattle.ghost_spec.specs.Small.{HasLowFrames}
-use Rattle.ghost_spec.proofs.Entries.{both, by_eq}
-
-all_from_true : (from n : ℕ) (test : ℕ → Bool) → ((k : ℕ) → from ≤ k → k < from + n → test k ≡ true) → all_from from n test ≡ true
-all_from_true from zero test h = refl
-all_from_true from (suc n) test h = rw (h from (omega arith) (omega arith), all_from) (all_from_true (suc from) n test (λ k l m. h k (omega arith) (omega arith)))
 
 all_from_false : (from n k : ℕ) (test : ℕ → Bool) → from ≤ k → k < from + n → test k ≡ false → all_from from n test ≡ false
 all_from_false from zero k test l m h = absurd (omega arith)
-all_from_false from (suc n) k test l m h = both (test from)
+all_from_false from (suc n) k test l m h = by_test (test from)
     (λ t. rw (t, all_from) (all_from_false (suc from) n k test (by_eq from k (λ e. let c : true ≡ false = sym t ∙ ap test e ∙ h in cc) (λ e. omega arith)) (omega arith) h))
     (λ t. rw (t, all_from) refl)
 
 pub all_below_true : (n : ℕ) (test : ℕ → Bool) → ((k : ℕ) → k < n → test k ≡ true) → all_below n test ≡ true
-all_below_true n test h = all_from_true 0 n test (λ k l m. h k (omega arith))
+all_below_true n test h = all_from-by 0 n test (λ k l m. h k (omega arith))
 
 pub all_below_false : (n k : ℕ) (test : ℕ → Bool) → k < n → test k ≡ false → all_below n test ≡ false
 all_below_false n k test m h = all_from_false 0 n k test (omega arith) (omega arith) h

@@ -4,9 +4,12 @@ use mathlib.Core.Path.{fun_ext}
 use Rattle.page_state.specs.State.{Block, Pool}
 use Rattle.page_state.specs.Blocks.{block_eq}
 use Rattle.page_state.specs.Tables.{placed, cleared, given, all_given}
+use Rattle.page_state.proofs.Cases.{by_test}
+use Rattle.page_state.proofs.Common.{eq-same}
+use Rattle.page_state.proofs.Frames.{block_eq-same}
 use Rattle.ghost_spec.specs.declared.tree.Table.{Table}
 use Rattle.ghost_spec.specs.Trees.{table_of, tables_with, has_block}
-use Rattle.ghost_spec.proofs.Entries.{both, left, right, same_number}
+use Rattle.ghost_spec.proofs.Entries.{left, right}
 
 no_frames : (bs : List Block) → tables_with bs [] ≡ []
 no_frames [] = refl
@@ -27,13 +30,7 @@ table_of-with (a ∷ bs) (f ∷ fs) ts b = rw (table_of-with bs fs ts b) refl
 
 cleared_any : (bs : List Block) (old : Block → Option ℕ) (b : Block) → cleared bs old b ≡ cond (has_block b bs) None (old b)
 cleared_any [] old b = refl
-cleared_any (a ∷ bs) old b = both (block_eq a b) (λ h. rw h refl) (λ h. rw h (cleared_any bs old b))
-
-same_block : (a b : Block) → block_eq a b ≡ true → a ≡ b
-same_block (d, i) (e, j) h =
-    let p : d ≡ e = same_number d e (left (d == e) (i == j) h) in
-    let q : i ≡ j = same_number i j (right (d == e) (i == j) h) in
-    rw (p, q) refl
+cleared_any (a ∷ bs) old b = by_test (block_eq a b) (λ h. rw h refl) (λ h. rw h (cleared_any bs old b))
 
 -- the tables that are kept
 abbrev pub kept : List Block → List Table → List Table
@@ -43,13 +40,13 @@ pub table_of-kept : (bs : List Block) (ts : List Table) (b : Block) → table_of
 table_of-kept bs ts b = go ts ∙ sym (cleared_any bs (table_of ts) b)
   where
     go : (us : List Table) → table_of (kept bs us) b ≡ cond (has_block b bs) None (table_of us b)
-    go [] = both (has_block b bs) (λ h. rw h refl) (λ h. rw h refl)
-    go (t ∷ us) = both (block_eq t.block b)
-        (λ h. let e = same_block t.block b h in
-        both (has_block b bs)
+    go [] = by_test (has_block b bs) (λ h. rw h refl) (λ h. rw h refl)
+    go (t ∷ us) = by_test (block_eq t.block b)
+        (λ h. let e = block_eq-same t.block b h in
+        by_test (has_block b bs)
         (λ k. rw (e, k) (go us ∙ rw k refl))
         (λ k. let q : block_eq b b ≡ true = rw e at h in rw (e, k, q) refl))
-        (λ h. both (has_block t.block bs) (λ k. rw (k, h) (go us)) (λ k. rw (k, h) (go us)))
+        (λ h. by_test (has_block t.block bs) (λ k. rw (k, h) (go us)) (λ k. rw (k, h) (go us)))
 
 -- the tables afterwards: the needed ones with these frames, without those that go
 pub tables_after : (needed gone : List Block) (fs : List ℕ) (ts : List Table) → table_of (kept gone (tables_with needed fs ++ ts)) ≡ cleared gone (placed needed fs (table_of ts))

@@ -1,5 +1,5 @@
 -- What holds of every pool, after each change.
-use Rattle.std.proofs.Common.{◌≡◌, ℕ, ◌+◌, ◌-◌, ◌^◌, ◌<◌, ◌≤◌, List, length, take, drop, arith}
+use Rattle.std.proofs.Common.{◌≡◌, ℕ, ◌+◌, ◌-◌, ◌^◌, ◌<◌, ◌≤◌, List, length, take, drop, ap, ◌∙◌, arith}
 use Rattle.std.specs.Prelude.{All, Contains, reverse}
 use Rattle.std.proofs.lemmas.List.{length-drop}
 use Rattle.std.proofs.lemmas.List.Elements.{All-drop, All-take}
@@ -47,3 +47,6 @@ all_made first i k n h e =
     let start : first + i ≡ first = omega arith in
     let count : k ≡ n = omega arith in
     cc
+
+pub same_pool : (p q : Stored) → p.frames ≡ q.frames → p.room ≡ q.room → p ≡ q
+same_pool p q a b = let wrap : Pool → ℕ → Stored = λ fs n. record { frames = fs; room = n } in ap (λ fs. wrap fs p.room) a ∙ ap (λ n. wrap q.frames n) b

@@ -7,10 +7,7 @@ use Rattle.page_state.specs.declared.entry.PageRange.{PageRange}
 use Rattle.page_state.specs.declared.layout.Region.{Region}
 use Rattle.page_state.specs.Regions.{Memory, end_of, is_in_range, is_memory_region, is_memory}
 use Rattle.page_state.specs.LayoutFaults.{IsAccepted, is_memory_around}
-
-by_test : {P : Type 0} (b : Bool) → (b ≡ true → P) → (b ≡ false → P) → P
-by_test true f g = f refl
-by_test false f g = g refl
+use Rattle.page_state.proofs.Cases.{by_test}
 
 tail : (P : Region → Type 0) (r : Region) (rs : List Region) → All P (r ∷ rs) → All P rs
 tail P r rs all = λ k d h. all (suc k) d (omega arith)

@@ -43,6 +43,11 @@ pub not-true : (b : Bool) → not b ≡ true → b ≡ false
 not-true true h = cc
 not-true false h = refl
 
+-- a test that doesn't hold
+pub not-holds : (b : Bool) → (b ≡ true → ⊥) → b ≡ false
+not-holds true h = absurd (h refl)
+not-holds false h = refl
+
 pub if-true : {X : Type 0} (b : Bool) (x y : X) → b ≡ true → (if b then x else y) ≡ x
 if-true true x y h = refl
 if-true false x y h = cc

@@ -12,7 +12,7 @@ use Rattle.page_state.specs.declared.entry.Entry.{Entry}
 use Rattle.page_state.specs.declared.entry.Entry.TheVariants.{Unmapped, Malformed, Annotated, Leaf}
 use Rattle.page_state.specs.declared.entry.Target.{Target}
 use Rattle.page_state.specs.declared.entry.Target.TheVariants.{Malformed as malformed_target, Annotated as annotated_target, Leaf as leaf_target}
-use Rattle.page_state.specs.Entries.{advance, entry_of_target}
+use Rattle.page_state.specs.Entries.{advance, entry_of_target, entry_of, target_of}
 use Rattle.page_state.specs.EntryTests.{prot_eq, kind_eq, state_eq, entry_eq}
 use Rattle.page_state.proofs.Common.{eq-self, eq-same, and-both}
 
@@ -49,7 +49,7 @@ state_eq-self Owned = refl
 state_eq-self SharedOwned = refl
 state_eq-self SharedBorrowed = refl
 
-leaf-same : {f g : Frame} {p q : Prot} {k j : Kind} {s t : State} → f.0 ≡ g.0 → p ≡ q → k ≡ j → s ≡ t → Leaf f p k s ≡ Leaf g q j t
+pub leaf-same : {f g : Frame} {p q : Prot} {k j : Kind} {s t : State} → f.0 ≡ g.0 → p ≡ q → k ≡ j → s ≡ t → Leaf f p k s ≡ Leaf g q j t
 leaf-same {f} {g} a b c d = let e : f ≡ g = ap (λ x. record { 0 = x }) a in cc
 
 -- entries that the test says are equal are equal
@@ -95,3 +95,10 @@ target-same malformed_target malformed_target h = refl
 target-same (annotated_target o) (annotated_target q) h = cc
 target-same (leaf_target f p k s) (leaf_target g q j t) h = cc
 target-same a b h = cc
+
+-- the entry of a target that an entry has
+pub entry_of-target_of : (e : Entry) → entry_of (target_of e) ≡ e
+entry_of-target_of Unmapped = refl
+entry_of-target_of Malformed = refl
+entry_of-target_of (Annotated owner) = refl
+entry_of-target_of (Leaf frame prot kind state) = refl

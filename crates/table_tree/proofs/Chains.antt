@@ -2,6 +2,7 @@ use Rattle.std.proofs.Common.{◌≡◌, ℕ, suc, ◌-◌, ◌<◌, ◌≤◌, 
 use Rattle.std.proofs.Math.ListN.{set}
 use Rattle.std.specs.declared.boxed.Box.{Box}
 use Rattle.descriptor.specs.declared.Frame.{Frame}
+use Rattle.page_state.proofs.Cases.{by_eq}
 use Rattle.table_tree.specs.declared.table.Table.{Table}
 use Rattle.table_tree.specs.declared.table.Slot.{Slot}
 use Rattle.table_tree.specs.declared.table.Slot.TheVariants.{Word, Child}
@@ -10,7 +11,7 @@ use Rattle.table_tree.specs.Meaning.{slot_at, slots_of, frame_of}
 use Rattle.table_tree.specs.Shape.{IsWide, IsBlank, IsTableFrame}
 use Rattle.table_tree.specs.Chain.{IsZero, IsLink, IsChain, Chained-prop}
 use Rattle.table_tree.specs.Stocks.{frames_of}
-use Rattle.table_tree.proofs.Slots.{by_eq, by_slot, word_meets, meets_word, meets_child, child_meets, set_here, set_others, set_wide}
+use Rattle.table_tree.proofs.Slots.{by_slot, word_meets, meets_word, meets_child, child_meets, set_here, set_others, set_wide}
 
 -- one more table of a stock that is filled from the last frame on
 pub reserved_next : (xs : List Frame) (i f : ℕ) (fs gs : List ℕ) (d : Frame) → 0 < i → i ≤ length xs → f ≡ (get_or xs (i - 1) d).0 → fs ≡ map (λ (x : Frame). x.0) (drop i xs) → gs ≡ f ∷ fs → gs ≡ map (λ (x : Frame). x.0) (drop (i - 1) xs)

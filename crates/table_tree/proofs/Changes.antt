@@ -1,6 +1,7 @@
 use Rattle.std.proofs.Common.{◌≡◌, ℕ, ◌+◌, ◌-◌, ◌<◌, ◌≤◌, length, refl, sym, ap, arith, ◌∙◌, cond, ◌==◌, Some, add-one}
 use Rattle.std.proofs.Math.ListN.{set}
 use Rattle.std.specs.declared.boxed.Box.{Box}
+use Rattle.page_state.proofs.Cases.{by_eq}
 use Rattle.table_tree.specs.declared.table.Table.{Table}
 use Rattle.table_tree.specs.declared.table.Slot.{Slot}
 use Rattle.table_tree.specs.declared.table.Slot.TheVariants.{Word, Child}
@@ -9,7 +10,7 @@ use Rattle.table_tree.specs.Shape.{IsWide, HoldsWord}
 use Rattle.table_tree.specs.Tables.{table_in}
 use Rattle.table_tree.specs.Slots.{slot_entry, slot_table}
 use Rattle.table_tree.specs.Changes.{IsWritten, IsAttached, IsSeen}
-use Rattle.table_tree.proofs.Slots.{by_eq, get_any, set_back, set_here, set_others, set_wide, shaped_set, shaped_slot, slot_word_made, slot_child_made, slot_child_is, slot_word_is}
+use Rattle.table_tree.proofs.Slots.{get_any, set_back, set_here, set_others, set_wide, shaped_set, shaped_slot, slot_word_made, slot_child_made, slot_child_is, slot_word_is}
 use Rattle.table_tree.proofs.Digits.{test_same, test_other}
 use Rattle.table_tree.proofs.Steps.{entry_step, word_gives, child_gives}
 use Rattle.table_tree.proofs.Tight.{tight_word, tight_attach, tight_child}

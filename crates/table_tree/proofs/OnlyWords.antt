@@ -7,6 +7,7 @@ use Rattle.descriptor.specs.declared.Kind.{Kind}
 use Rattle.descriptor.specs.declared.Prot.{Prot}
 use Rattle.descriptor.specs.declared.State.{State}
 use Rattle.descriptor.specs.declared.Desc.{Desc}
+use Rattle.descriptor.proofs.Unique.{cond_ind, kind_right, state_right, prot_right, form_right}
 use Rattle.page_state.specs.declared.entry.Entry.{Entry}
 use Rattle.page_state.specs.declared.entry.Entry.TheVariants.{Unmapped, Malformed, Annotated, Leaf}
 use Rattle.page_state.specs.Entries.{entry_of_word}
@@ -22,22 +23,6 @@ word_for l (Leaf f p k s) = leaf_word (page_bit l) (kind_bits k) (access_bits p)
 -- the word is that of the entry that it gives, if it gives one
 IsWordFor : Level → ℕ → Desc → Type 0
 IsWordFor l w d = IsWellFormed (entry_of_word d) → w ≡ word_for l (entry_of_word d)
-
-by_cond : {D : Type 0} (P : D → Type 0) (b : Bool) (x y : D) → (b ≡ true → P x) → (b ≡ false → P y) → P (cond b x y)
-by_cond P true x y f g = f refl
-by_cond P false x y f g = g refl
-
-kind_right : (n : ℕ) (k : Kind) → kind_of_bits n ≡ Some k → kind_bits k ≡ n
-kind_right n k e = grind (arith, nat_tests)
-
-state_right : (n : ℕ) (k : State) → state_of_bits n ≡ Some k → state_bits k ≡ n
-state_right n k e = grind (arith, nat_tests)
-
-prot_right : (n m : ℕ) (k : Prot) → prot_of_bits n m ≡ Some k → (access_bits k ≡ n) × (execute_never_bit k ≡ m)
-prot_right n m k e = grind (arith, nat_tests)
-
-form_right : (l : Level) (w : ℕ) → has_leaf_form l w ≡ true → HasLeafForm l w
-form_right l w e = grind (arith, nat_tests)
 
 -- a word from its fields
 whole : (w p k a f x s : ℕ) → w < 2 ^ 64 → field w 0 1 ≡ 1 → field w 1 1 ≡ p → field w 2 4 ≡ k → field w 6 2 ≡ a → field w 8 2 ≡ 3 → field w 10 1 ≡ 1 → field w 11 1 ≡ 0 → field w 12 36 ≡ f → field w 48 6 ≡ 0 → field w 54 1 ≡ x → field w 55 2 ≡ s → field w 57 7 ≡ 0 → w ≡ leaf_word p k a f x s
@@ -59,9 +44,9 @@ leaf_for l w r true (Some k) (Some p) None eb ek ep es = λ h. absurd h
 is_word_for : (l : Level) (w : ℕ) → w < 2 ^ 64 → IsWordFor l w (desc_of l w)
 unfolding desc_of IsWordFor word_for
 is_word_for l w r =
-    by_cond (IsWordFor l w) (w == 0) _ _ (λ z _. grind (arith, nat_tests))
-    (λ nz. by_cond (IsWordFor l w) (w % 4 == 0 && nat_le (w / 4) 255) _ _ (λ a _. grind (arith, nat_tests))
-    (λ na. by_cond (IsWordFor l w) ((is_upper l && field w 0 12 == 3) && field w 48 16 == 0) _ _ (λ t h. absurd h)
+    cond_ind (IsWordFor l w) (w == 0) _ _ (λ z _. grind (arith, nat_tests))
+    (λ nz. cond_ind (IsWordFor l w) (w % 4 == 0 && nat_le (w / 4) 255) _ _ (λ a _. grind (arith, nat_tests))
+    (λ na. cond_ind (IsWordFor l w) ((is_upper l && field w 0 12 == 3) && field w 48 16 == 0) _ _ (λ t h. absurd h)
     (λ nt. leaf_for l w r _ _ _ _ refl refl refl refl)))
 
 -- two words that give one entry are one

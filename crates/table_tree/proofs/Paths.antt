@@ -5,10 +5,11 @@ use Rattle.std.specs.declared.boxed.Box.{Box}
 use Rattle.table_tree.specs.declared.table.Table.{Table}
 use Rattle.table_tree.specs.declared.table.Slot.TheVariants.{Word, Child}
 use Rattle.page_state.specs.Geometries.{block_pages}
+use Rattle.page_state.proofs.Cases.{by_eq}
 use Rattle.table_tree.specs.Meaning.{index_at, slot_at, frame_of, word_entry, entry_at, word_at, slot_word, table_word}
 use Rattle.table_tree.specs.Shape.{IsEntryWord, IsShaped}
 use Rattle.table_tree.specs.Tables.{table_in}
-use Rattle.table_tree.proofs.Slots.{by_eq, by_slot, case_child, shaped_slot, slot_word_is, slot_child_is}
+use Rattle.table_tree.proofs.Slots.{by_slot, case_child, shaped_slot, slot_word_is, slot_child_is}
 use Rattle.table_tree.proofs.Steps.{entry_step, word_gives, child_gives, path_end, path_over, path_stop, slot_word_here, slot_word_child}
 use Rattle.table_tree.proofs.Standing.{table_top, table_below, stand_word, stand_child, by_lt}
 use Rattle.table_tree.proofs.PathNumbers.{Small, Leads, index_same}

@@ -5,6 +5,7 @@ use Rattle.std.proofs.lemmas.Grind.{get_or-set_at}
 use Rattle.std.proofs.Math.ListN.{set, length-set}
 use Rattle.std.specs.declared.boxed.Box.{Box}
 use native.Mathlib.Numerals.{unary_clauses}
+use Rattle.page_state.proofs.Cases.{by_eq}
 use Rattle.table_tree.specs.declared.table.Table.{Table}
 use Rattle.table_tree.specs.declared.table.Slot.{Slot, out-Slot}
 use Rattle.table_tree.specs.declared.table.Slot.TheVariants.{Word, Child}
@@ -13,9 +14,6 @@ use Rattle.table_tree.specs.declared.table.Slot.TheOpen.{Word as OpenWord, Child
 use Rattle.table_tree.specs.Meaning.{slot_at, slots_of, slot_case, frame_of}
 use Rattle.table_tree.specs.Shape.{IsWide, HoldsWord, MeetsSlot, IsEntryWord, IsTableFrame, IsShaped}
 use Rattle.table_tree.specs.Slots.{IsSlot}
-
-pub by_eq : {P : Type 0} (a b : ℕ) → (a ≡ b → P) → ((a ≡ b → ⊥) → P) → P
-by_eq {P} a b f g = elim (cases_eq a b) as (λ _. P) [ inl e ↦ f e | inr e ↦ g e ]
 
 pub set_twice : {X : Type 0} (xs : List X) (i : ℕ) (a s : X) → set (set xs i a) i s ≡ set xs i s
 set_twice [] i a s = refl
@@ -111,8 +109,9 @@ module _ {A : Type 0} where
   slot_child_is zero b s h e = absurd (meets_child (IsEntryWord zero) (λ _. ⊥) b (rw e at h))
   slot_child_is (suc n) b s h e = let x = meets_child (IsEntryWord (suc n)) (λ c. IsTableFrame (frame_of c) × IsShaped n c) b (rw e at h) in (omega arith, (x.0, simp unary_clauses x.1))
 
-  pub zero_holds : (s : Slot A) → IsSlot 0 s → HoldsWord s
-  zero_holds s h = by_slot s (λ w e. (w, e)) (λ b e. let x = slot_child_is 0 b s h e in let y : 1 ≤ 0 = x.0 in absurd (omega arith))
+  pub child_shaped : (n : ℕ) (b : Box (Table A) A) (s : Slot A) → IsSlot (suc n) s → s ≡ Child b → IsShaped n b.value
+  unfolding IsSlot
+  child_shaped n b s h e = (meets_child (IsEntryWord (suc n)) (λ c. IsTableFrame (frame_of c) × IsShaped n c) b (rw e at h)).1
 
   pub shaped_set : (n : ℕ) (t u : Table A) (i : ℕ) (s : Slot A) → IsShaped n t → i < 512 → slots_of u ≡ set (slots_of t) i s → IsSlot n s → IsShaped n u
   shaped_set n t u i s h p e m =

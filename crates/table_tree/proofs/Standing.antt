@@ -1,6 +1,7 @@
 use Rattle.std.proofs.Common.{◌≡◌, ℕ, zero, suc, ◌<◌, refl, ap, arith, ◌∙◌, cond, Bool, true, false, Some, None, ◌==◌, ltb}
 use Rattle.std.proofs.lemmas.Bool.Decides.{nat_tests}
 use Rattle.std.specs.declared.boxed.Box.{Box}
+use Rattle.page_state.proofs.Cases.{by_test}
 use Rattle.table_tree.specs.declared.table.Table.{Table}
 use Rattle.table_tree.specs.declared.table.Slot.{Slot}
 use Rattle.table_tree.specs.declared.table.Slot.TheVariants.{Word, Child}
@@ -35,10 +36,6 @@ module _ {A : Type 0} where
 
   pub words_standing : (n : ℕ) (t : Table A) (low q : ℕ) → ((i : ℕ) → i < 512 → HoldsWord (slot_at t i)) → table_in n t low q ≡ cond (low == n) (Some (frame_of t)) None
   words_standing n t low q h = let x = h (index_at n q) (index_small n q) in table_step n t low q ∙ ap (λ o. cond (low == n) (Some (frame_of t)) o) (stand_word n x.0 low q (slot_at t (index_at n q)) x.1)
-
-pub by_test : {P : Type 0} (b : Bool) → (b ≡ true → P) → (b ≡ false → P) → P
-by_test true f g = f refl
-by_test false f g = g refl
 
 pub by_lt : {P : Type 0} (a b : ℕ) → (a < b → P) → ((a < b → ⊥) → P) → P
 by_lt a b f g = by_test (ltb a b) (λ e. f (grind (arith, nat_tests))) (λ e. g (λ h. grind (arith, nat_tests)))

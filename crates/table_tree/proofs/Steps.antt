@@ -49,18 +49,6 @@ module _ {A : Type 0} where
   pub blank_entries : (n : ℕ) (t : Table A) → IsBlank t → (q : ℕ) → entry_at n t q ≡ Unmapped
   blank_entries n t h q = entry_step n t q ∙ word_gives n q 0 (slot_at t (index_at n q)) (h (index_at n q) (index_small n q)) ∙ zero_entry n q
 
-  -- the slots of a table made of the parts of an entry
-  pub IsPart : ℕ → Entry → ℕ → Slot A → Type 0
-  IsPart n x k s = (w : ℕ) × (s ≡ Word w) × IsEntryWord n w × (entry_of_word (desc_of (level_at n) w) ≡ advance x (k * block_pages n))
-
-  pub part_made : (n k w m : ℕ) (x : Entry) (s : Slot A) → s ≡ Word w → IsEntryWord n w → entry_of_word (desc_of (level_at n) w) ≡ advance x m → m ≡ k * block_pages n → IsPart n x k s
-  unfolding IsPart
-  part_made n k w m x s a b c e = (w, a, b, c ∙ ap (λ y. advance x y) e)
-
-  pub part_holds : (n k : ℕ) (x : Entry) (s : Slot A) → IsPart n x k s → HoldsWord s
-  unfolding IsPart
-  part_holds n k x s h = (h.0, h.1)
-
   -- words at paths
   pub path_end : (t : Table A) (p : List ℕ) → length p < 1 → None ≡ word_at t p
   unfolding word_at

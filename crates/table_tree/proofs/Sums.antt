@@ -1,10 +1,12 @@
 use Rattle.std.proofs.Common.{◌≡◌, ℕ, zero, suc, ◌+◌, ◌-◌, ◌*◌, ◌^◌, ◌<◌, ◌≤◌, List, [], ◌∷◌, ◌++◌, length, get_or, refl, sym, ap, arith, ◌∙◌, sum_by, take, drop}
 use Rattle.std.proofs.Math.ListN.{set}
-use Rattle.std.proofs.lemmas.List.Sums.{sum_by-set, sum_by-append}
+use Rattle.std.proofs.lemmas.List.Sums.{sum_by-set, sum_by-append, sum_by-take-drop}
 use Rattle.std.proofs.lemmas.List.{take_all, take_more}
 use Rattle.std.proofs.Math.Seq.{take-add}
 use Rattle.std.specs.declared.boxed.Box.{Box}
 use Rattle.descriptor.specs.declared.Frame.{Frame}
+use Rattle.page_state.specs.Geometries.{levels_below}
+use Rattle.table_tree.specs.declared.tree.Tree.{Tree}
 use Rattle.table_tree.specs.declared.table.Table.{Table}
 use Rattle.table_tree.specs.declared.table.Slot.{Slot}
 use Rattle.table_tree.specs.declared.table.Slot.TheVariants.{Word, Child}
@@ -12,6 +14,7 @@ use Rattle.table_tree.specs.Meaning.{slot_at, slots_of, frame_of}
 use Rattle.table_tree.specs.Shape.{IsWide, HoldsWord}
 use Rattle.table_tree.specs.Tables.{tables_in, uses_in, is_one, frame_count, count_of}
 use Rattle.table_tree.specs.Slots.{slot_tables, slot_uses, fresh}
+use Rattle.table_tree.specs.View.{tables_of}
 use Rattle.table_tree.proofs.Slots.{case_word, case_child}
 
 no_sum : {X : Type 0} (xs : List X) → sum_by (λ _. 0) xs ≡ 0
@@ -29,6 +32,12 @@ sum_more f d xs i p = let e = sum_by-append f (take i xs) (get_or xs i d ∷ [])
 -- the counts in the first frames of a list, and in those after them
 pub count_split : (f a b : ℕ) (fs : List ℕ) → frame_count f (take (a + b) fs) ≡ frame_count f (take a fs) + frame_count f (take b (drop a fs))
 count_split f a b fs = rw (take-add a b fs) (sum_by-append (λ g. is_one g f) (take a fs) (take b (drop a fs)))
+
+pub count_parts : (f n : ℕ) (fs : List ℕ) → frame_count f (take n fs) + frame_count f (drop n fs) ≡ frame_count f fs
+count_parts f n fs = sum_by-take-drop (λ h. is_one h f) fs n
+
+pub count_next : (f g : ℕ) (gs : List ℕ) → frame_count f (g ∷ gs) ≡ is_one g f + frame_count f gs
+count_next f g gs = let e = sum_by-append (λ h. is_one h f) (g ∷ []) gs in omega (arith, e)
 
 pub count_none : (f : ℕ) (fs : List Frame) → fs ≡ [] → count_of f fs ≡ 0
 count_none f fs e = rw e refl
@@ -134,6 +143,17 @@ module _ {A : Type 0} where
   pub uses_all : (n i f : ℕ) (t : Table A) → IsWide t → 512 ≤ i → is_one (frame_of t) f + uses_before n f t i ≡ uses_in n t f
   unfolding uses_before
   uses_all n i f t wide p = ap (λ l. is_one (frame_of t) f + sum_by (λ s. slot_uses n s f) l) (take_all i (slots_of t) (omega (arith, wide))) ∙ sym (uses_step n t f)
+
+module _ {A : Type 0} where
+  pub tables_some : (d : ℕ) (t : Table A) → 1 ≤ tables_in d t
+  unfolding tables_in
+  tables_some zero t = omega arith
+  tables_some (suc d) t = omega arith
+
+  -- a tree has its root
+  pub tree_some : (t : Tree A) → 1 ≤ tables_of t
+  unfolding tables_of
+  tree_some t = tables_some (levels_below t.geometry) t.table
 
 pub powers : (n : ℕ) → 1 ≤ n → n < 3 → (1024 ^ n ≡ 1024 * 1024 ^ (n - 1)) × ((1 ≤ 1024 ^ (n - 1)) × (1024 ^ (n - 1) ≤ 1024))
 powers zero p q = absurd (omega arith)

@@ -1,13 +1,14 @@
 use Rattle.std.proofs.Common.{◌≡◌, ℕ, zero, suc, ◌<◌, get_or, refl, ap, arith, ◌∙◌, cond, Some, None}
 use Rattle.std.proofs.Math.ListN.{set}
 use Rattle.std.specs.declared.boxed.Box.{Box}
+use Rattle.page_state.proofs.Cases.{by_eq}
 use Rattle.table_tree.specs.declared.table.Table.{Table}
 use Rattle.table_tree.specs.declared.table.Slot.TheVariants.{Word, Child}
 use Rattle.table_tree.specs.Meaning.{slot_at, slots_of, frame_of}
 use Rattle.table_tree.specs.Shape.{IsWide, IsBlank, IsShaped, HoldsWord}
 use Rattle.table_tree.specs.Tight.{IsTight}
 use Rattle.table_tree.specs.Changes.{IsNew, IsCleared}
-use Rattle.table_tree.proofs.Slots.{by_eq, meets_child, word_meets, child_meets, set_here, set_others, shaped_wide, shaped_slot, shaped_made, shaped_set, slot_word_made}
+use Rattle.table_tree.proofs.Slots.{meets_child, word_meets, child_meets, set_here, set_others, shaped_wide, shaped_slot, shaped_made, shaped_set, slot_word_made}
 use Rattle.table_tree.proofs.Words.{zero_said}
 use Rattle.table_tree.proofs.Steps.{blank_words, blank_shaped, blank_entries}
 use Rattle.table_tree.proofs.Sums.{words_tables, words_uses}

@@ -9,13 +9,13 @@ use Rattle.page_state.specs.Entries.{advance}
 use Rattle.page_state.specs.Map.{empty_map, update}
 use Rattle.page_state.specs.Geometries.{levels_below, input_pages, block_pages}
 use Rattle.page_state.proofs.Sizes.{size_some}
+use Rattle.page_state.proofs.Cases.{by_eq}
 use Rattle.table_tree.specs.declared.table.Table.{Table}
 use Rattle.table_tree.specs.declared.tree.Tree.{Tree}
 use Rattle.table_tree.specs.Meaning.{frame_of, entry_at}
 use Rattle.table_tree.specs.Shape.{IsBlank}
 use Rattle.table_tree.specs.Tables.{table_in}
 use Rattle.table_tree.specs.View.{meaning, table_at}
-use Rattle.table_tree.proofs.Slots.{by_eq}
 use Rattle.table_tree.proofs.Digits.{test_same, test_other}
 use Rattle.table_tree.proofs.Steps.{blank_entries, blank_words}
 use Rattle.table_tree.proofs.Standing.{words_standing, by_lt}

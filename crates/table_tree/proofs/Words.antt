@@ -43,21 +43,6 @@ said_formed l Malformed h = h
 said_formed l (Annotated o) h = tt
 said_formed l (Leaf f p k s) h = tt
 
--- the parts of what a word says can be said one level below
-can_part : (d i : ℕ) (x : Entry) → d + 1 < 3 → i < 512 → CanBeSaid (level_at (suc d)) (word_of_entry x) → CanBeSaid (level_at d) (word_of_entry (advance x (i * block_pages d)))
-can_part d i Malformed p r h = absurd h
-can_part d i Unmapped p r h = tt
-can_part d i (Annotated o) p r h = h
-can_part zero i (Leaf f a k s) p r h = let x = h.0 in let y = h.1 in (omega arith, omega arith)
-can_part (suc zero) i (Leaf f a k s) p r h = let x = h.0 in let y = h.1 in (omega arith, omega arith)
-can_part (suc (suc d)) i (Leaf f a k s) p r h = absurd (omega arith)
-
-pub advance_twice : (x : Entry) (m n : ℕ) → advance (advance x m) n ≡ advance x (m + n)
-advance_twice Malformed m n = refl
-advance_twice Unmapped m n = refl
-advance_twice (Annotated o) m n = refl
-advance_twice (Leaf f p k s) m n = let wrap : ℕ → Entry = λ a. Leaf (record { 0 = a }) p k s in ap wrap (add_assoc f.0 m n)
-
 pub zero_said : (d : ℕ) → IsEntryWord d 0
 unfolding desc_of
 zero_said d = (omega arith, tt)

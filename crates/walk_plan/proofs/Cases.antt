@@ -2,13 +2,6 @@
 use Rattle.std.proofs.Common.{◌≡◌, ℕ, zero, suc, ◌<◌, ◌≤◌, refl, ap, arith, inl, inr, ◌⊎◌, Bool, true, false, Option, Some, None}
 use Rattle.std.proofs.lemmas.Bool.{cases_lt}
 
-pub by_test : {P : Type 0} (b : Bool) → (b ≡ true → P) → (b ≡ false → P) → P
-by_test true f g = f refl
-by_test false f g = g refl
-
-pub by_lt : {P : Type 0} (a b : ℕ) → (a < b → P) → (b ≤ a → P) → P
-by_lt {P} a b f g = elim (cases_lt a b) as (λ _. P) [ inl h ↦ f h | inr h ↦ g h ]
-
 last : (i n : ℕ) → i < suc n → (i < n) ⊎ (i ≡ n)
 last zero zero h = inr refl
 last zero (suc n) h = inl (omega arith)

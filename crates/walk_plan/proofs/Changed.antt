@@ -13,9 +13,10 @@ use Rattle.table_tree.specs.declared.table.Slot.{Slot}
 use Rattle.table_tree.specs.declared.table.Slot.TheVariants.{Word, Child}
 use Rattle.table_tree.specs.Meaning.{level_at, index_at, slot_at, entry_at}
 use Rattle.table_tree.specs.Slots.{slot_entry}
+use Rattle.table_tree.proofs.Slots.{by_slot, case_child}
+use Rattle.table_tree.proofs.Steps.{entry_step, word_gives, child_gives}
 use Rattle.walk_plan.specs.declared.change.Change.{Change}
 use Rattle.walk_plan.specs.Changes.{changed}
-use Rattle.walk_plan.proofs.Slots.{by_slot, case_child, entry_step, word_gives, child_gives}
 use Rattle.walk_plan.proofs.Numbers.{place_small}
 
 pub changed_inside : (d : ℕ) (m : ℕ → Entry) (c : Change) (q : ℕ) → q < block_pages d → c.first ≤ q → q < c.end → changed d m c q ≡ advance c.entry (q - c.first)

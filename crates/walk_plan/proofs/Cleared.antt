@@ -8,8 +8,9 @@ use Rattle.page_state.specs.Map.{Map}
 use Rattle.page_state.specs.State.{Block}
 use Rattle.page_state.specs.Blocks.{span, first_page, block_eq, is_empty}
 use Rattle.page_state.specs.Tables.{cleared}
-use Rattle.walk_plan.proofs.Cases.{by_test}
-use Rattle.walk_plan.proofs.Places.{block_same, block_self, block_other}
+use Rattle.page_state.proofs.Cases.{by_test}
+use Rattle.page_state.proofs.Frames.{block_eq-same}
+use Rattle.walk_plan.proofs.Places.{block_self, block_other}
 
 -- a block loses its table: it has one, and nothing is mapped on it in the map `n`
 abbrev pub is_freed : (Block → Option ℕ) → Map → Block → Bool
@@ -44,7 +45,7 @@ cleared_filter : (pass : Block → Bool) (bs : List Block) (old : Block → Opti
 cleared_filter pass [] old b h = inr (All-nil (λ a. block_eq a b ≡ false))
 cleared_filter pass (a ∷ bs) old b h =
     by_test (block_eq a b)
-    (λ e. let t : pass a ≡ true = ap pass (block_same a b e) ∙ h in inl (rw (t, e) refl))
+    (λ e. let t : pass a ≡ true = ap pass (block_eq-same a b e) ∙ h in inl (rw (t, e) refl))
     (λ e. elim (cleared_filter pass bs old b h) [
       | inl p ↦ inl (by_test (pass a) (λ t. rw (t, e) p) (λ t. rw t p))
       | inr p ↦ inr (All-cons (λ a. block_eq a b ≡ false) a bs e p)

@@ -11,15 +11,17 @@ use Rattle.page_state.specs.Tables.{Edit, put, needs, need, freed, placed, clear
 use Rattle.page_state.proofs.Blocks.{empty_means}
 use Rattle.page_state.proofs.BlockLists.{blocks_meet}
 use Rattle.page_state.specs.Geometries.{levels_below, input_pages, block_pages}
+use Rattle.page_state.proofs.Cases.{by_test, by_lt}
+use Rattle.page_state.proofs.Edits.{tree-same}
 use Rattle.table_tree.specs.declared.tree.Tree.{Tree}
 use Rattle.table_tree.specs.Meaning.{entry_at, frame_of}
 use Rattle.table_tree.specs.Tables.{table_in}
 use Rattle.table_tree.specs.View.{meaning, table_at, tree_of}
+use Rattle.table_tree.proofs.Standing.{table_top}
 use Rattle.walk_plan.specs.declared.change.Change.{Change}
 use Rattle.walk_plan.specs.Changes.{changed, table_need}
 use Rattle.walk_plan.specs.Ranks.{given, table_rank}
-use Rattle.walk_plan.proofs.Slots.{table_top}
-use Rattle.walk_plan.proofs.Cases.{by_test, by_lt, by_option}
+use Rattle.walk_plan.proofs.Cases.{by_option}
 use Rattle.walk_plan.proofs.InBlocks.{IsIn, page_under, under_page, block_within}
 use Rattle.walk_plan.proofs.Changed.{changed_inside, changed_outside}
 use Rattle.walk_plan.proofs.OneWord.{IsMade, one_word_made}
@@ -29,9 +31,6 @@ use Rattle.walk_plan.proofs.Needed.{is_needed, one_word_not, need_walked}
 use Rattle.walk_plan.proofs.Places.{place_none, place_filter, placed_old}
 use Rattle.walk_plan.proofs.Cleared.{is_freed, bare_not, full_not, empty_freed, absent, cleared_absent, absent_filter, cleared_present, mapped_page}
 use Rattle.walk_plan.proofs.Ranked.{ranked_at}
-
-same_tree : {m n : Map} {f g : Block → Option ℕ} → m ≡ n → f ≡ g → ◌≡◌ {A = ReferenceTree} (record { map = m; table = f }) (record { map = n; table = g })
-same_tree p q = rw (p, q) refl
 
 -- what the walk leaves of a tree
 pub record IsWalked {A : Type 0} (t u : Tree A) (c : Change) (fs : List ℕ) : Type 0 where
@@ -189,4 +188,4 @@ module _ {A : Type 0} (t u : Tree A) (first count : ℕ) (e : Entry) (c : Change
     -- the tree afterwards
     pub tree_edited : tree_of u ≡ edited top (tree_of t) edit fs
     unfolding edited
-    tree_edited = same_tree (fun_ext meaning_after) (fun_ext tables_after)
+    tree_edited = tree-same (fun_ext meaning_after) (fun_ext tables_after)

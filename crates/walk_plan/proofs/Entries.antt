@@ -20,47 +20,18 @@ use Rattle.page_state.specs.Blocks.{fits_word}
 use Rattle.page_state.specs.Laws.{FitsWord}
 use Rattle.page_state.specs.Geometries.{block_pages}
 use Rattle.page_state.proofs.Blocks.{fits_each_word}
+use Rattle.page_state.proofs.Common.{eq-self, eq-same, and-both}
+use Rattle.page_state.proofs.Entries.{leaf-same}
 use Rattle.table_tree.specs.Meaning.{level_at}
 use Rattle.table_tree.specs.Shape.{IsWellFormed, IsEntryWord}
+use Rattle.table_tree.proofs.Digits.{test_same}
 
 -- tests
 
-pub and_both : (a b : Bool) → a && b ≡ true → (a ≡ true) × (b ≡ true)
-and_both true b h = (refl, h)
-and_both false b h = cc
-
-pub and_join : (a b : Bool) → a ≡ true → b ≡ true → a && b ≡ true
-and_join true b h k = k
-and_join false b h k = cc
-
-pub eq_self : (n : ℕ) → (n == n) ≡ true
-eq_self n = grind (arith, nat_tests)
-
-pub eq_same : (m n : ℕ) → (m == n) ≡ true → m ≡ n
-eq_same m n h = grind (arith, nat_tests)
-
-pub eq_made : (m n : ℕ) → m ≡ n → (m == n) ≡ true
-eq_made m n h = grind (arith, nat_tests)
-
 pub eq_differ : (m n : ℕ) → (m == n) ≡ false → m ≡ n → ⊥
-eq_differ m n h e = let x = eq_made m n e in cc
+eq_differ m n h e = let x = test_same m n e in cc
 
 -- how entries advance
-
-pub advance_twice : (x : Entry) (m n : ℕ) → advance (advance x m) n ≡ advance x (m + n)
-advance_twice Malformed m n = refl
-advance_twice Unmapped m n = refl
-advance_twice (Annotated o) m n = refl
-advance_twice (Leaf f p k s) m n = let e : f.0 + m + n ≡ f.0 + (m + n) = omega arith in ap (λ a. Leaf (record { 0 = a }) p k s) e
-
-pub advance_none : (x : Entry) → advance x 0 ≡ x
-advance_none Malformed = refl
-advance_none Unmapped = refl
-advance_none (Annotated o) = refl
-advance_none (Leaf f p k s) = let e : f.0 + 0 ≡ f.0 = omega arith in ap (λ a. Leaf (record { 0 = a }) p k s) e
-
-leaf_same : {f g : Frame} {p q : Prot} {k j : Kind} {s t : State} → f.0 ≡ g.0 → p ≡ q → k ≡ j → s ≡ t → Leaf f p k s ≡ Leaf g q j t
-leaf_same {f} {g} a b c d = let e : f ≡ g = ap (λ x. record { 0 = x }) a in cc
 
 -- two entries that are one so far on are one
 pub advance_back : (x y : Entry) (n : ℕ) → advance x n ≡ advance y n → x ≡ y
@@ -68,63 +39,13 @@ advance_back (Leaf f p k s) (Leaf g q j t) n h =
     let wrap : ℕ → Frame = λ a. record { 0 = a } in
     let e : wrap (f.0 + n) ≡ wrap (g.0 + n) = cc in
     let d : f.0 + n ≡ g.0 + n = ap (λ (z : Frame). z.0) e in
-    leaf_same (omega arith) (cc) (cc) (cc)
+    leaf-same (omega arith) (cc) (cc) (cc)
 advance_back (Annotated o) (Annotated q) n h = h
 advance_back Unmapped Unmapped n h = refl
 advance_back Malformed Malformed n h = refl
 advance_back x y n h = cc
 
 -- equality of entries, as a test
-
-prot_eq_same : (p q : Prot) → prot_eq p q ≡ true → p ≡ q
-prot_eq_same R R h = refl
-prot_eq_same RW RW h = refl
-prot_eq_same RX RX h = refl
-prot_eq_same RWX RWX h = refl
-prot_eq_same p q h = cc
-
-prot_eq_self : (p : Prot) → prot_eq p p ≡ true
-prot_eq_self R = refl
-prot_eq_self RW = refl
-prot_eq_self RX = refl
-prot_eq_self RWX = refl
-
-kind_eq_same : (a b : Kind) → kind_eq a b ≡ true → a ≡ b
-kind_eq_same Normal Normal h = refl
-kind_eq_same Device Device h = refl
-kind_eq_same a b h = cc
-
-kind_eq_self : (a : Kind) → kind_eq a a ≡ true
-kind_eq_self Normal = refl
-kind_eq_self Device = refl
-
-state_eq_same : (a b : State) → state_eq a b ≡ true → a ≡ b
-state_eq_same Owned Owned h = refl
-state_eq_same SharedOwned SharedOwned h = refl
-state_eq_same SharedBorrowed SharedBorrowed h = refl
-state_eq_same a b h = cc
-
-state_eq_self : (a : State) → state_eq a a ≡ true
-state_eq_self Owned = refl
-state_eq_self SharedOwned = refl
-state_eq_self SharedBorrowed = refl
-
-pub entry_eq_same : (a b : Entry) → entry_eq a b ≡ true → a ≡ b
-entry_eq_same Unmapped Unmapped h = refl
-entry_eq_same Malformed Malformed h = refl
-entry_eq_same (Annotated o) (Annotated q) h = ap (λ x. Annotated (record { 0 = x })) (eq_same o.0 q.0 h)
-entry_eq_same (Leaf f p k s) (Leaf g q j t) h =
-    let a = and_both (f.0 == g.0 && prot_eq p q && kind_eq k j) (state_eq s t) h in
-    let b = and_both (f.0 == g.0 && prot_eq p q) (kind_eq k j) a.0 in
-    let c = and_both (f.0 == g.0) (prot_eq p q) b.0 in
-    leaf_same (eq_same f.0 g.0 c.0) (prot_eq_same p q c.1) (kind_eq_same k j b.1) (state_eq_same s t a.1)
-entry_eq_same a b h = cc
-
-pub entry_eq_self : (a : Entry) → entry_eq a a ≡ true
-entry_eq_self Unmapped = refl
-entry_eq_self Malformed = refl
-entry_eq_self (Annotated o) = eq_self o.0
-entry_eq_self (Leaf f p k s) = simp (eq_self f.0, prot_eq_self p, kind_eq_self k, state_eq_self s)
 
 -- what words of trees say
 
@@ -140,14 +61,14 @@ leaf_said l true (Some k) (Some p) (Some s) f h = record { says = λ e. h refl }
 leaf_said l form k p s f h = record { says = λ e. absurd e }
 
 aligned : (a : Bool) (f s : ℕ) → a && (f % s == 0) ≡ true → f % s ≡ 0
-aligned a f s h = eq_same (f % s) 0 (and_both a (f % s == 0) h).1
+aligned a f s h = eq-same (f % s) 0 (and-both a (f % s == 0) h).1
 
 owner_said : (w : ℕ) → (w == 0) ≡ false → w % 4 == 0 && nat_le (w / 4) 255 ≡ true → (1 ≤ w / 4) × (w / 4 ≤ 255)
 owner_said w p q =
-    let x = and_both (w % 4 == 0) (nat_le (w / 4) 255) q in
-    let y = eq_same (w % 4) 0 x.0 in
+    let x = and-both (w % 4 == 0) (nat_le (w / 4) 255) q in
+    let y = eq-same (w % 4) 0 x.0 in
     let z : w / 4 ≤ 255 = let u : nat_le (w / 4) 255 ≡ true = x.1 in grind (arith, nat_tests) in
-    let v : w ≡ 0 → ⊥ = λ e. let u = eq_made w 0 e in cc in
+    let v : w ≡ 0 → ⊥ = λ e. let u = test_same w 0 e in cc in
     (omega arith, z)
 
 abbrev leaf_of : Level → ℕ → Desc

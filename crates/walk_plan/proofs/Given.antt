@@ -27,9 +27,6 @@ numbers_next fs i d p q =
 pub not_there : CountContains → (f : ℕ) (p : Pool) → frame_count f p ≡ 0 → Contains p f → ⊥
 not_there law f p h k = let x : 0 < frame_count f p = (law f p).0 k in omega arith
 
-pub count_next : (f g : ℕ) (gs : List ℕ) → frame_count f (g ∷ gs) ≡ is_one g f + frame_count f gs
-count_next f g gs = let e = sum_by-append (λ h. is_one h f) (g ∷ []) gs in omega (arith, e)
-
 pub one_self : (f : ℕ) → is_one f f ≡ 1
 one_self f = grind (arith, nat_tests)
 
@@ -39,6 +36,3 @@ count_drop f n fs = let e = sum_by-take-drop (λ h. is_one h f) fs n in omega (a
 
 pub take_drop_length : (n : ℕ) (fs : List ℕ) → length (take n fs) + length (drop n fs) ≡ length fs
 take_drop_length n fs = let e = ap length (take-append-drop n fs) in let a = length-append (take n fs) (drop n fs) in omega (arith, e, a)
-
-pub same_pool : (p q : Stored) → p.frames ≡ q.frames → p.room ≡ q.room → p ≡ q
-same_pool p q a b = let wrap : Pool → ℕ → Stored = λ fs n. record { frames = fs; room = n } in ap (λ fs. wrap fs p.room) a ∙ ap (λ n. wrap q.frames n) b

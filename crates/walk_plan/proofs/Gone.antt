@@ -13,6 +13,7 @@ use Rattle.page_state.specs.State.{Block}
 use Rattle.page_state.specs.Blocks.{is_empty}
 use Rattle.page_state.specs.Tables.{put, freed, returned}
 use Rattle.page_state.specs.Geometries.{levels_below, input_pages, block_pages}
+use Rattle.page_state.proofs.Cases.{by_test, by_lt}
 use Rattle.table_tree.specs.declared.table.Table.{Table}
 use Rattle.table_tree.specs.declared.table.Slot.{Slot}
 use Rattle.table_tree.specs.declared.table.Slot.TheVariants.{Word, Child}
@@ -22,13 +23,12 @@ use Rattle.table_tree.specs.Shape.{IsShaped}
 use Rattle.table_tree.specs.Tables.{table_in, is_one, frame_count}
 use Rattle.table_tree.specs.Slots.{IsSlot, slot_entry, slot_table}
 use Rattle.table_tree.specs.View.{meaning, table_at, tree_of}
+use Rattle.table_tree.proofs.Slots.{by_slot, case_word, case_child, shaped_slot, child_shaped}
 use Rattle.walk_plan.specs.declared.change.Change.{Change}
 use Rattle.walk_plan.specs.Changes.{part, sum_to, met, changed}
 use Rattle.walk_plan.specs.Ranks.{slot_gone, gone_parts, table_gone}
-use Rattle.walk_plan.proofs.Slots.{by_slot, case_word, case_child, shaped_slot, child_shaped}
 use Rattle.walk_plan.proofs.Numbers.{place_in, place_small}
 use Rattle.walk_plan.proofs.Joined.{sum_same, joined, joined_none, filter_joined}
-use Rattle.walk_plan.proofs.Cases.{by_test, by_lt}
 use Rattle.walk_plan.proofs.Walked.{meets, under, under_page, under_met, under_unmet}
 use Rattle.walk_plan.proofs.OneWord.{IsMade, made_inside, made_outside}
 use Rattle.walk_plan.proofs.Matched.{Matches, IsBare, bare_part, bare_here, match_slot, match_child, child_here, match_word, match_tree}

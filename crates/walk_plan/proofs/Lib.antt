@@ -1,4 +1,3 @@
-pub mod Slots
 pub mod Seen
 pub mod Ranges
 pub mod Looks

@@ -5,9 +5,9 @@ use Rattle.std.proofs.Math.Nat.{mul-le-mul_right}
 use Rattle.walk_plan.specs.declared.change.Change.{Change}
 use Rattle.walk_plan.specs.Changes.{IsChange, part}
 use Rattle.walk_plan.specs.Looks.{edge, edges}
-use Rattle.walk_plan.proofs.Slots.{by_eq}
 use Rattle.page_state.proofs.Sizes.{size_some, size_next}
-use Rattle.walk_plan.proofs.Ranges.{by_le, first_part, last_part, after_part, before_part}
+use Rattle.page_state.proofs.Cases.{by_eq, by_lt}
+use Rattle.walk_plan.proofs.Ranges.{first_part, last_part, after_part, before_part}
 
 edge_same : (k a b : ℕ) → a ≡ b → edge k a b ≡ 0
 unfolding edge
@@ -65,7 +65,7 @@ left_next : (k d i : ℕ) (c : Change) → c.first < (i + 1) * 2 ^ (9 * d) → l
 left_next k d i c a =
     let s = 2 ^ (9 * d) in
     let n = left_hi k d (i + 1) c a in
-    by_le c.first (i * s)
+    by_lt c.first (i * s)
     (λ x. omega (arith, n, left_hi k d i c x, edge_same k (part d i c).first 0 (omega (arith, x))))
     (λ x. by_eq (i * s) c.first
     (λ y. omega (arith, n, left_lo k d i c x, edge_same k (part d i c).first 0 (omega (arith, y))))
@@ -75,7 +75,7 @@ right_next : (k d i : ℕ) (c : Change) → i * 2 ^ (9 * d) < c.end → right k 
 right_next k d i c b =
     let s = 2 ^ (9 * d) in
     let n = right_lo k d i c (omega (arith, b)) in
-    by_le c.end ((i + 1) * s)
+    by_lt c.end ((i + 1) * s)
     (λ x. omega (arith, n, right_hi k d (i + 1) c x, edge_other k (part d i c).end s (omega (arith, x, b))))
     (λ x. omega (arith, n, right_lo k d (i + 1) c x, edge_same k (part d i c).end s (omega (arith, x, b))))
 
@@ -89,14 +89,14 @@ ends_next k d i c h p q =
     (omega (arith, left_next k d i c a, right_next k d i c b), omega (arith, a, b, h.some))
 
 left_end : (k d i : ℕ) (c : Change) → left k d c i ≤ edge k c.first 0
-left_end k d i c = by_le c.first (i * 2 ^ (9 * d)) (λ x. omega (arith, left_hi k d i c x)) (λ x. omega (arith, left_lo k d i c x))
+left_end k d i c = by_lt c.first (i * 2 ^ (9 * d)) (λ x. omega (arith, left_hi k d i c x)) (λ x. omega (arith, left_lo k d i c x))
 
 right_end : (k d i : ℕ) (c : Change) → i ≤ 512 → right k d c i ≤ edge k c.end (2 ^ (9 * (d + 1)))
 right_end k d i c p =
     let s = 2 ^ (9 * d) in
     let m : i * s ≤ 512 * s = mul-le-mul_right s p in
     let z = size_next d in
-    by_le c.end (i * s)
+    by_lt c.end (i * s)
     (λ x. omega (arith, right_hi k d i c x, edge_other k c.end (2 ^ (9 * (d + 1))) (omega (arith, x, m, z))))
     (λ x. omega (arith, right_lo k d i c x))
 
@@ -115,7 +115,7 @@ whole_parts d i c a b q =
     let l = after_part s i c.end z (omega (arith, b, n, z)) q in
     let m = λ (x : i + 1 ≤ 512). mul-le-mul_right s x in
     let zero : c.first / s ≡ 0 = by_eq (c.first / s) 0 (λ e. e) (λ e. absurd (let k : 0 < c.first / s = omega (arith, e) in let y = before_part s 0 c.first z k in omega (arith, y, a, z))) in
-    (zero, by_le i 512 (λ x. absurd (omega (arith, m (omega (arith, x)), l, b, n, z))) (λ x. x))
+    (zero, by_lt i 512 (λ x. absurd (omega (arith, m (omega (arith, x)), l, b, n, z))) (λ x. x))
 
 pub whole_edges : (k d : ℕ) (c : Change) → c.first ≡ 0 → c.end ≡ 2 ^ (9 * d) → edges k d c ≡ 0
 whole_edges k d c a b = omega (arith, edge_same k c.first 0 a, edge_same k c.end (2 ^ (9 * d)) b)
@@ -141,7 +141,7 @@ pub some_part : (d : ℕ) (c : Change) → c.first < c.end → c.first / 2 ^ (9 
 some_part d c h =
     let s = 2 ^ (9 * d) in
     let z = size_some d in
-    by_le ((c.end - 1) / s) (c.first / s)
+    by_lt ((c.end - 1) / s) (c.first / s)
     (λ x. let y = before_part s ((c.end - 1) / s) c.first z x in absurd (omega (arith, y, h, z)))
     (λ x. x)
 

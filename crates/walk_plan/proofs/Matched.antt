@@ -10,6 +10,7 @@ use Rattle.page_state.specs.Map.{Map}
 use Rattle.page_state.specs.State.{Block}
 use Rattle.page_state.specs.Geometries.{levels_below, input_pages, block_pages}
 use Rattle.page_state.proofs.Sizes.{size_step, size_some}
+use Rattle.page_state.proofs.Entries.{advance-more}
 use Rattle.table_tree.specs.declared.table.Table.{Table}
 use Rattle.table_tree.specs.declared.table.Slot.{Slot}
 use Rattle.table_tree.specs.declared.table.Slot.TheVariants.{Word, Child}
@@ -18,9 +19,10 @@ use Rattle.table_tree.specs.Meaning.{level_at, index_at, slot_at, entry_at, fram
 use Rattle.table_tree.specs.Tables.{table_in}
 use Rattle.table_tree.specs.Slots.{slot_entry, slot_table}
 use Rattle.table_tree.specs.View.{meaning, table_at}
-use Rattle.walk_plan.proofs.Slots.{by_slot, entry_step, word_gives, child_gives, table_below, table_top, stand_word, stand_child}
-use Rattle.walk_plan.proofs.Entries.{advance_twice}
-use Rattle.walk_plan.proofs.Numbers.{index_in, place_in}
+use Rattle.table_tree.proofs.Slots.{by_slot}
+use Rattle.table_tree.proofs.Steps.{entry_step, word_gives, child_gives}
+use Rattle.table_tree.proofs.Standing.{table_top, table_below, stand_word, stand_child}
+use Rattle.walk_plan.proofs.Numbers.{index_in, place_in, from_part}
 
 -- on a block, the map is `entry`, and the tables with fewer than `k` levels below them stand as `table` says
 pub record Matches (m : Map) (ts : Block → Option ℕ) (k d b : ℕ) (entry : ℕ → Entry) (table : ℕ → ℕ → Option ℕ) : Type 0 where
@@ -30,9 +32,6 @@ pub record Matches (m : Map) (ts : Block → Option ℕ) (k d b : ℕ) (entry : 
 -- a block without a table, whose first page has the entry
 abbrev pub IsBare : Map → (Block → Option ℕ) → ℕ → ℕ → Entry → Type 0
 IsBare m ts d b x = Matches m ts d d b (λ q. advance x (q - b * block_pages d)) (λ low q. None)
-
-from_part : (s z b i x : ℕ) → z ≡ 512 * s → (512 * b + i) * s ≤ x → b * z ≤ x
-from_part s z b i x e h = rw e (omega arith)
 
 to_part : (s z b i x : ℕ) → z ≡ 512 * s → i < 512 → x < (512 * b + i) * s + s → x < b * z + z
 to_part s z b i x e p h = let q : i + 1 ≤ 512 = omega arith in let y = mul-le-mul_right s q in rw e (omega (arith, y))
@@ -52,7 +51,7 @@ module _ (m : Map) (ts : Block → Option ℕ) where
   bare_part d b i x p h =
       let r = match_part d b i (λ q. advance x (q - b * block_pages (suc d))) (λ low q. None) (suc d) p (omega arith) h in
       record {
-        map = λ q l u. r.map q l u ∙ sym (advance_twice x (i * block_pages d) (q - (512 * b + i) * block_pages d) ∙ ap (λ z. advance x z) (part_gap (block_pages d) (block_pages (suc d)) b i q (size_step d) l));
+        map = λ q l u. r.map q l u ∙ sym (advance-more x (i * block_pages d) (q - (512 * b + i) * block_pages d) ∙ ap (λ z. advance x z) (part_gap (block_pages d) (block_pages (suc d)) b i q (size_step d) l));
         tables = r.tables;
       }
 

@@ -9,6 +9,7 @@ use Rattle.page_state.specs.State.{Block}
 use Rattle.page_state.specs.Blocks.{fits_word, is_one_word}
 use Rattle.page_state.specs.Tables.{put, needs, need}
 use Rattle.page_state.specs.Geometries.{levels_below, input_pages, block_pages}
+use Rattle.page_state.proofs.Cases.{by_test}
 use Rattle.table_tree.specs.declared.table.Table.{Table}
 use Rattle.table_tree.specs.declared.table.Slot.{Slot}
 use Rattle.table_tree.specs.declared.table.Slot.TheVariants.{Word, Child}
@@ -18,13 +19,12 @@ use Rattle.table_tree.specs.Shape.{IsShaped}
 use Rattle.table_tree.specs.Tables.{table_in}
 use Rattle.table_tree.specs.Slots.{IsSlot, slot_entry, slot_table}
 use Rattle.table_tree.specs.View.{meaning, table_at, tree_of}
+use Rattle.table_tree.proofs.Slots.{by_slot, case_word, case_child, shaped_slot, slot_word_is, child_shaped}
 use Rattle.walk_plan.specs.declared.change.Change.{Change}
 use Rattle.walk_plan.specs.Changes.{part, sum_to, met, is_one_word as is_one_word_after, block_need, slot_need, table_need, table_parts}
-use Rattle.walk_plan.proofs.Slots.{by_slot, case_word, case_child, shaped_slot, slot_word_is, child_shaped}
 use Rattle.walk_plan.proofs.Entries.{word_fits, part_fits}
 use Rattle.walk_plan.proofs.Numbers.{part_part}
 use Rattle.walk_plan.proofs.Joined.{sum_same, joined, joined_none, length_joined, filter_joined}
-use Rattle.walk_plan.proofs.Cases.{by_test}
 use Rattle.walk_plan.proofs.Walked.{meets, under, under_page, under_met, under_unmet}
 use Rattle.walk_plan.proofs.OneWord.{IsMade, one_word_part, one_word_same}
 use Rattle.walk_plan.proofs.Matched.{Matches, IsBare, bare_part, bare_map, bare_here, match_slot, match_child, child_here, match_word, match_tree}

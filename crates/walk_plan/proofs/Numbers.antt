@@ -5,11 +5,11 @@ use Rattle.page_state.specs.declared.entry.Entry.{Entry}
 use Rattle.page_state.specs.Entries.{advance}
 use Rattle.page_state.specs.Geometries.{block_pages}
 use Rattle.page_state.proofs.Sizes.{size_step}
+use Rattle.page_state.proofs.Cases.{by_lt}
+use Rattle.page_state.proofs.Entries.{advance-none, advance-more}
 use Rattle.table_tree.specs.Meaning.{index_at}
 use Rattle.walk_plan.specs.declared.change.Change.{Change}
 use Rattle.walk_plan.specs.Changes.{part}
-use Rattle.walk_plan.proofs.Cases.{by_lt}
-use Rattle.walk_plan.proofs.Entries.{advance_twice, advance_none}
 
 -- a page in a block
 
@@ -72,8 +72,8 @@ part_part d b i c p =
     same_change
     (begins (block_pages d) (block_pages (suc d)) b i c.first z)
     (ends (block_pages d) (block_pages (suc d)) b i c.end z p)
-    (advance_twice c.entry (b * block_pages (suc d) - c.first) (i * block_pages d - (c.first - b * block_pages (suc d))) ∙ ap (λ n. advance c.entry n) (gaps (block_pages d) (block_pages (suc d)) b i c.first z))
+    (advance-more c.entry (b * block_pages (suc d) - c.first) (i * block_pages d - (c.first - b * block_pages (suc d))) ∙ ap (λ n. advance c.entry n) (gaps (block_pages d) (block_pages (suc d)) b i c.first z))
 
 -- a change of a block is its own part
 pub part_all : (d : ℕ) (c : Change) → c.end ≤ block_pages d → part d 0 c ≡ c
-part_all d c h = same_change (omega arith) (omega arith) (let e : 0 * block_pages d - c.first ≡ 0 = omega arith in rw e (advance_none c.entry))
+part_all d c h = same_change (omega arith) (omega arith) (let e : 0 * block_pages d - c.first ≡ 0 = omega arith in rw e (advance-none c.entry))

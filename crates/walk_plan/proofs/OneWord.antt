@@ -7,12 +7,15 @@ use Rattle.page_state.specs.EntryTests.{entry_eq}
 use Rattle.page_state.specs.Map.{Map}
 use Rattle.page_state.specs.Blocks.{fits_word, is_one_word}
 use Rattle.page_state.specs.Geometries.{block_pages}
-use Rattle.page_state.proofs.Blocks.{one_word_means}
+use Rattle.page_state.proofs.Blocks.{one_word_means, and-join}
 use Rattle.page_state.proofs.Sizes.{size_step, size_some}
+use Rattle.page_state.proofs.Cases.{by_lt}
+use Rattle.page_state.proofs.Common.{eq-same, and-both}
+use Rattle.page_state.proofs.Entries.{advance-none, advance-more, entry_eq-same, entry_eq-self}
+use Rattle.table_tree.proofs.Digits.{test_same}
 use Rattle.walk_plan.specs.declared.change.Change.{Change}
 use Rattle.walk_plan.specs.Changes.{part, is_whole, is_one_word as is_one_word_after}
-use Rattle.walk_plan.proofs.Entries.{and_both, and_join, eq_same, eq_made, advance_twice, advance_none, advance_back, entry_eq_same, entry_eq_self, part_fits}
-use Rattle.walk_plan.proofs.Cases.{by_lt}
+use Rattle.walk_plan.proofs.Entries.{advance_back, part_fits}
 use Rattle.walk_plan.proofs.Walked.{meets}
 
 -- tests
@@ -45,7 +48,7 @@ module _ (c : Change) (m n : Map) (made : IsMade c m n) (d b : ℕ) where
   made_inside i p q =
       let k = b * block_pages d in
       let e : k - c.first + (i - (c.first - k)) ≡ k + i - c.first = omega arith in
-      made.inside (k + i) (omega arith) (omega arith) ∙ sym (advance_twice c.entry (k - c.first) (i - (c.first - k)) ∙ ap (λ z. advance c.entry z) e)
+      made.inside (k + i) (omega arith) (omega arith) ∙ sym (advance-more c.entry (k - c.first) (i - (c.first - k)) ∙ ap (λ z. advance c.entry z) e)
 
   pub made_outside : (i : ℕ) → i < block_pages d → (i < (part d b c).first) ⊎ ((part d b c).end ≤ i) → n (b * block_pages d + i) ≡ m (b * block_pages d + i)
   made_outside i p h = made.outside (b * block_pages d + i) (elim h [ inl q ↦ inl (omega arith) | inr q ↦ inr (omega arith) ])
@@ -61,7 +64,7 @@ one_word_says n d b h = (one_word_means n (d, b)).0 h
 pub one_word_made : (n : Map) (d b : ℕ) (y : Entry) → fits_word d y ≡ true → ((i : ℕ) → i < block_pages d → n (b * block_pages d + i) ≡ advance y i) → is_one_word n (d, b) ≡ true
 one_word_made n d b y f h =
     let z : b * block_pages d + 0 ≡ b * block_pages d = omega arith in
-    let e : n (b * block_pages d) ≡ y = ap n (sym z) ∙ h 0 (size_some d) ∙ advance_none y in
+    let e : n (b * block_pages d) ≡ y = ap n (sym z) ∙ h 0 (size_some d) ∙ advance-none y in
     let along : Along n (block_pages d) d b = (ap (fits_word d) e ∙ f, λ i p. h i p ∙ ap (λ x. advance x i) (sym e)) in
     (one_word_means n (d, b)).1 along
 
@@ -73,7 +76,7 @@ one_word_part n d b i p q h =
     one_word_made n d (512 * b + i) (advance y (i * block_pages d)) (part_fits d i y p q x.0)
     (λ j r.
     let at = places (block_pages d) (block_pages (suc d)) b i j (size_step d) q r in
-    ap n at.0 ∙ x.1 (i * block_pages d + j) at.1 ∙ sym (advance_twice y (i * block_pages d) j))
+    ap n at.0 ∙ x.1 (i * block_pages d + j) at.1 ∙ sym (advance-more y (i * block_pages d) j))
   where
     places : (s z b i j : ℕ) → z ≡ 512 * s → i < 512 → j < s → ((512 * b + i) * s + j ≡ b * z + (i * s + j)) × (i * s + j < z)
     places s z b i j e p q =
@@ -103,10 +106,10 @@ module _ (c : Change) (m n : Map) (made : IsMade c m n) (d b : ℕ) (x : Entry) 
 
   whole_word : is_whole d (part d b c) ≡ true → is_one_word n (d, b) ≡ true
   whole_word h =
-      let t = and_both (f == 0 && e == size) (fits_word d y) h in
-      let u = and_both (f == 0) (e == size) t.0 in
-      let start : f ≡ 0 = eq_same f 0 u.0 in
-      let stop : e ≡ size = eq_same e size u.1 in
+      let t = and-both (f == 0 && e == size) (fits_word d y) h in
+      let u = and-both (f == 0) (e == size) t.0 in
+      let start : f ≡ 0 = eq-same f 0 u.0 in
+      let stop : e ≡ size = eq-same e size u.1 in
       one_word_made n d b y t.1 (λ i q. let z : i - f ≡ i = omega arith in made_inside c m n made d b i (omega arith) (omega arith) ∙ ap (λ k. advance y k) z)
 
   same_word : advance x f ≡ y → is_one_word n (d, b) ≡ true
@@ -115,17 +118,17 @@ module _ (c : Change) (m n : Map) (made : IsMade c m n) (d b : ℕ) (x : Entry) 
       (λ i q. by_lt i f
       (λ r. made_outside c m n made d b i q (inl r) ∙ old i q)
       (λ r. by_lt i e
-      (λ t. let z : f + (i - f) ≡ i = omega arith in made_inside c m n made d b i r t ∙ ap (λ w. advance w (i - f)) (sym h) ∙ advance_twice x f (i - f) ∙ ap (λ k. advance x k) z)
+      (λ t. let z : f + (i - f) ≡ i = omega arith in made_inside c m n made d b i r t ∙ ap (λ w. advance w (i - f)) (sym h) ∙ advance-more x f (i - f) ∙ ap (λ k. advance x k) z)
       (λ t. made_outside c m n made d b i q (inr t) ∙ old i q)))
 
   one_to : is_one_word_after d x (part d b c) ≡ true → is_one_word n (d, b) ≡ true
-  one_to h = by_or (is_whole d (part d b c)) (entry_eq (advance x f) y) h whole_word (λ k. same_word (entry_eq_same (advance x f) y k))
+  one_to h = by_or (is_whole d (part d b c)) (entry_eq (advance x f) y) h whole_word (λ k. same_word (entry_eq-same (advance x f) y k))
 
   at_first : n (b * size + f) ≡ y
-  at_first = let z : f - f ≡ 0 = omega arith in made_inside c m n made d b f (omega arith) some ∙ ap (λ k. advance y k) z ∙ advance_none y
+  at_first = let z : f - f ≡ 0 = omega arith in made_inside c m n made d b f (omega arith) some ∙ ap (λ k. advance y k) z ∙ advance-none y
 
   same_left : advance x f ≡ y → is_one_word_after d x (part d b c) ≡ true
-  same_left h = or_right (is_whole d (part d b c)) (entry_eq (advance x f) y) (rw h (entry_eq_self y))
+  same_left h = or_right (is_whole d (part d b c)) (entry_eq (advance x f) y) (rw h (entry_eq-self y))
 
   -- the change begins with the block
   at_start : is_one_word n (d, b) ≡ true → f ≡ 0 → is_one_word_after d x (part d b c) ≡ true
@@ -140,11 +143,11 @@ module _ (c : Change) (m n : Map) (made : IsMade c m n) (d b : ℕ) (x : Entry) 
       let new : n (b * size + (size - 1)) ≡ advance w (size - 1) = along.1 (size - 1) last in
       let was : n (b * size + (size - 1)) ≡ advance x (size - 1) = made_outside c m n made d b (size - 1) last (inr (omega arith)) ∙ old (size - 1) last in
       let same : x ≡ w = advance_back x w (size - 1) (sym was ∙ new) in
-      same_left (ap (λ k. advance x k) g ∙ advance_none x ∙ same ∙ is))
+      same_left (ap (λ k. advance x k) g ∙ advance-none x ∙ same ∙ is))
       (λ more.
       let stop : e ≡ size = omega arith in
       or_left (is_whole d (part d b c)) (entry_eq (advance x f) y)
-      (and_join (f == 0 && e == size) (fits_word d y) (and_join (f == 0) (e == size) (eq_made f 0 g) (eq_made e size stop)) (ap (fits_word d) (sym is) ∙ along.0)))
+      (and-join (f == 0 && e == size) (fits_word d y) (and-join (f == 0) (e == size) (test_same f 0 g) (test_same e size stop)) (ap (fits_word d) (sym is) ∙ along.0)))
 
   -- it begins later
   past_start : is_one_word n (d, b) ≡ true → 0 < f → is_one_word_after d x (part d b c) ≡ true
@@ -152,7 +155,7 @@ module _ (c : Change) (m n : Map) (made : IsMade c m n) (d b : ℕ) (x : Entry) 
       let w = n (b * size) in
       let along = one_word_says n d b h in
       let z : b * size ≡ b * size + 0 = omega arith in
-      let is : w ≡ x = ap n z ∙ made_outside c m n made d b 0 (size_some d) (inl g) ∙ old 0 (size_some d) ∙ advance_none x in
+      let is : w ≡ x = ap n z ∙ made_outside c m n made d b 0 (size_some d) (inl g) ∙ old 0 (size_some d) ∙ advance-none x in
       same_left (ap (λ v. advance v f) (sym is) ∙ sym (along.1 f (omega (arith, some, within))) ∙ at_first)
 
   pub one_word_same : is_one_word n (d, b) ≡ is_one_word_after d x (part d b c)

@@ -8,9 +8,9 @@ use Rattle.page_state.specs.Laws.{ComesBefore}
 use Rattle.page_state.specs.Geometries.{block_pages}
 use Rattle.page_state.proofs.BlockLists.{blocks_meet, blocks_ordered}
 use Rattle.page_state.proofs.Sizes.{size_some, size_split}
+use Rattle.page_state.proofs.Cases.{by_test, by_lt}
 use Rattle.walk_plan.specs.declared.change.Change.{Change}
 use Rattle.walk_plan.proofs.Numbers.{less_scaled}
-use Rattle.walk_plan.proofs.Cases.{by_test, by_lt}
 use Rattle.walk_plan.proofs.Walked.{meets, met_block, block_met, under, below, IsUnder, all_under, part_under, under_in}
 use Rattle.walk_plan.proofs.Joined.{contains_joined, all_joined, pairs_joined, pairs_nil, same_list}
 

@@ -4,29 +4,24 @@ use Rattle.std.proofs.lemmas.List.Elements.{All-head, All-tail}
 use Rattle.page_state.specs.State.{Block}
 use Rattle.page_state.specs.Blocks.{block_eq}
 use Rattle.page_state.specs.Tables.{placed}
+use Rattle.page_state.proofs.Cases.{by_test}
+use Rattle.page_state.proofs.Common.{eq-self, eq-same, and-both}
+use Rattle.page_state.proofs.Frames.{block_eq-same}
 use Rattle.walk_plan.specs.Changes.{sum_to}
 use Rattle.walk_plan.specs.Ranks.{given, later}
-use Rattle.walk_plan.proofs.Entries.{and_both, eq_same, eq_self}
-use Rattle.walk_plan.proofs.Cases.{by_test, by_last}
+use Rattle.walk_plan.proofs.Cases.{by_last}
 use Rattle.walk_plan.proofs.Joined.{joined, length_joined}
 
 -- one block
 
-pub block_same : (a b : Block) → block_eq a b ≡ true → a ≡ b
-block_same (d, i) (e, j) h =
-    let x = and_both (d == e) (i == j) h in
-    let p = eq_same d e x.0 in
-    let q = eq_same i j x.1 in
-    rw (p, q) refl
-
 pub block_self : (a b : Block) → a ≡ b → block_eq a b ≡ true
-block_self a b h = rw h (both (b.0 == b.0) (b.1 == b.1) (eq_self b.0) (eq_self b.1))
+block_self a b h = rw h (both (b.0 == b.0) (b.1 == b.1) (eq-self b.0) (eq-self b.1))
   where
     both : (x y : Bool) → x ≡ true → y ≡ true → x && y ≡ true
     both x y p q = rw (p, q) refl
 
 pub block_other : (a b : Block) → (a ≡ b → ⊥) → block_eq a b ≡ false
-block_other a b h = by_test (block_eq a b) (λ e. absurd (h (block_same a b e))) (λ e. e)
+block_other a b h = by_test (block_eq a b) (λ e. absurd (h (block_eq-same a b e))) (λ e. e)
 
 -- ranks
 
@@ -66,7 +61,7 @@ place_filter pass [] b h = place_nil b
 place_filter pass (a ∷ bs) b h =
     by_test (pass a)
     (λ t. rw t (by_test (block_eq a b)
-    (λ e. let same : pass a ≡ pass b = ap pass (block_same a b e) in let wrong : true ≡ false = sym t ∙ same ∙ h in cc)
+    (λ e. let same : pass a ≡ pass b = ap pass (block_eq-same a b e) in let wrong : true ≡ false = sym t ∙ same ∙ h in cc)
     (λ e. place_later a b (filter pass bs) e ∙ ap (later 1) (place_filter pass bs b h))))
     (λ t. rw t (place_filter pass bs b h))
 

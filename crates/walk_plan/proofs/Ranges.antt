@@ -10,14 +10,15 @@ use Rattle.page_state.specs.declared.entry.Entry.{Entry}
 use Rattle.page_state.specs.declared.entry.Entry.TheVariants.{Malformed, Unmapped, Annotated, Leaf}
 use Rattle.page_state.specs.Entries.{advance, entry_of_word, word_of_entry}
 use Rattle.page_state.proofs.Sizes.{size_some, size_next}
+use Rattle.page_state.proofs.Cases.{by_eq, by_lt}
 use Rattle.table_tree.specs.declared.table.Table.{Table}
 use Rattle.table_tree.specs.declared.table.Slot.{Slot}
 use Rattle.table_tree.specs.declared.table.Slot.TheVariants.{Word, Child}
 use Rattle.table_tree.specs.Meaning.{slot_at, level_at}
 use Rattle.table_tree.specs.Shape.{HasSmallFrame}
+use Rattle.table_tree.proofs.Slots.{case_word, case_child}
 use Rattle.walk_plan.specs.declared.change.Change.{Change}
 use Rattle.walk_plan.specs.Changes.{IsRangeEntry, IsChange, part, met, sum_to, block_need, slot_need, table_need, is_one_word, block_parts, table_parts}
-use Rattle.walk_plan.proofs.Slots.{by_eq, case_word, case_child}
 
 range_small : (n : ℕ) (e : Entry) → 0 < n → IsRangeEntry n e → HasSmallFrame e
 range_small n Malformed p h = tt
@@ -40,9 +41,6 @@ size_before d k = let e : 9 * d ≡ 9 * ((d - 1) + 1) = omega arith in rw e (siz
 pub block_small : (d : ℕ) (x : Entry) → IsRangeEntry (2 ^ (9 * d)) x → HasSmallFrame x
 block_small d x h = range_small (2 ^ (9 * d)) x (omega (arith, size_some d)) h
 
-pub by_le : {P : Type 0} (a b : ℕ) → (a < b → P) → (b ≤ a → P) → P
-by_le {P} a b f g = elim (dec_lt a b) as (λ _. P) [ yes e ↦ f e | no e ↦ g (omega arith) ]
-
 -- the parts that a change meets
 pub first_part : (s i a : ℕ) → 1 ≤ s → a / s ≤ i → a < (i + 1) * s
 first_part s i a k h = let m : s * (a / s) ≤ s * i = mul-le-mul_left s h in omega (arith, m)
@@ -61,7 +59,7 @@ part_in d i c h q =
     let l = last_part (2 ^ (9 * d)) i c.end (size_some d) (omega (arith, h.some)) q in
     let e = size_next d in
     let m : 512 ≤ i → 512 * 2 ^ (9 * d) ≤ i * 2 ^ (9 * d) = λ z. mul-le-mul_right (2 ^ (9 * d)) z in
-    let w = h.within in by_le i 512 (λ z. z) (λ z. absurd (omega (arith, l, e, w, m z)))
+    let w = h.within in by_lt i 512 (λ z. z) (λ z. absurd (omega (arith, l, e, w, m z)))
 
 pub part_is : (d i : ℕ) (c : Change) → IsChange (d + 1) c → c.first / 2 ^ (9 * d) ≤ i → i < (c.end - 1) / 2 ^ (9 * d) + 1 → IsChange d (part d i c)
 part_is d i c h p q =
@@ -92,7 +90,7 @@ pub sum_next : (f : ℕ → ℕ) (n : ℕ) → sum_to f (n + 1) ≡ sum_to f n +
 unfolding sum_to
 sum_next f n = rw add-one refl
 
-sum_none : (f : ℕ → ℕ) (n : ℕ) → ((k : ℕ) → k < n → f k ≡ 0) → sum_to f n ≡ 0
+pub sum_none : (f : ℕ → ℕ) (n : ℕ) → ((k : ℕ) → k < n → f k ≡ 0) → sum_to f n ≡ 0
 unfolding sum_to
 sum_none f zero h = refl
 sum_none f (suc n) h = omega (arith, sum_none f n (λ k p. h k (omega arith)), h n (omega arith))
@@ -178,7 +176,7 @@ span d c h =
     let b = before_part s ((c.end - 1) / s + 1) c.first (size_some d) in
     let a = after_part s ((c.end - 1) / s + 1) c.end (size_some d) e (omega arith) in
     let l : (c.end - 1) / s < 512 = part_in d ((c.end - 1) / s) c h (omega arith) in (
-      by_le ((c.end - 1) / s + 1) (c.first / s) (λ z. absurd (omega (arith, b z, a, h.some))) (λ z. z),
+      by_lt ((c.end - 1) / s + 1) (c.first / s) (λ z. absurd (omega (arith, b z, a, h.some))) (λ z. z),
       omega (arith, l),
     )
 

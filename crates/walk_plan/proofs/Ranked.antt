@@ -11,6 +11,8 @@ use Rattle.page_state.specs.Blocks.{fits_word, is_one_word, block_eq, first_page
 use Rattle.page_state.specs.Tables.{Edit, put, needs, need, placed}
 use Rattle.page_state.specs.Geometries.{levels_below, input_pages, block_pages}
 use Rattle.page_state.proofs.Sizes.{size_some}
+use Rattle.page_state.proofs.Cases.{by_test}
+use Rattle.page_state.proofs.Common.{eq-same}
 use Rattle.table_tree.specs.declared.table.Table.{Table}
 use Rattle.table_tree.specs.declared.table.Slot.{Slot}
 use Rattle.table_tree.specs.declared.table.Slot.TheVariants.{Word, Child}
@@ -20,14 +22,14 @@ use Rattle.table_tree.specs.Shape.{IsShaped}
 use Rattle.table_tree.specs.Tables.{table_in}
 use Rattle.table_tree.specs.Slots.{IsSlot, slot_entry, slot_table}
 use Rattle.table_tree.specs.View.{meaning, table_at, tree_of}
+use Rattle.table_tree.proofs.Slots.{by_slot, case_word, case_child, shaped_slot, slot_word_is, child_shaped}
 use Rattle.walk_plan.specs.declared.change.Change.{Change}
 use Rattle.walk_plan.specs.Changes.{part, sum_to, met, is_one_word as is_one_word_after, block_parts, table_parts}
 use Rattle.walk_plan.specs.Ranks.{given, later, met_at, block_rank, slot_rank, table_rank}
-use Rattle.walk_plan.proofs.Slots.{by_slot, case_word, case_child, shaped_slot, slot_word_is, child_shaped}
-use Rattle.walk_plan.proofs.Entries.{word_fits, part_fits, eq_same, eq_differ}
+use Rattle.walk_plan.proofs.Entries.{word_fits, part_fits, eq_differ}
 use Rattle.walk_plan.proofs.Numbers.{part_part}
 use Rattle.walk_plan.proofs.Joined.{sum_same}
-use Rattle.walk_plan.proofs.Cases.{by_test, by_option}
+use Rattle.walk_plan.proofs.Cases.{by_option}
 use Rattle.walk_plan.proofs.Walked.{meets, under, IsUnder, all_under}
 use Rattle.walk_plan.proofs.InBlocks.{IsIn, in_part, index_of_in, top_block, top_other, below_top}
 use Rattle.walk_plan.proofs.OneWord.{IsMade, one_word_same}
@@ -61,7 +63,7 @@ module _ {A : Type 0} where
   unfolding slot_rank
   rank_word d w s c low q e = rw e (case_word _ _ w)
 
-  rank_child : (d : ℕ) (b : Box (Table A) A) (s : Slot A) (c : Change) (low q : ℕ) → s ≡ Child b → slot_rank (suc d) s c low q ≡ table_rank d b.value c low q
+  pub rank_child : (d : ℕ) (b : Box (Table A) A) (s : Slot A) (c : Change) (low q : ℕ) → s ≡ Child b → slot_rank (suc d) s c low q ≡ table_rank d b.value c low q
   unfolding slot_rank table_rank
   rank_child d b s c low q e = rw e (case_child _ _ b)
 
@@ -116,7 +118,7 @@ module _ (c : Change) (m n : Map) (ts : Block → Option ℕ) (made : IsMade c m
       (λ u.
       let head = ap (λ xs. place xs (suc low, j)) (needed_head c n ts d b t (is ∙ ap not u)) in
       by_test (low == d)
-      (λ v. head ∙ place_here (suc d, b) (suc low, j) (needed_below c n ts d b) (block_self (suc d, b) (suc low, j) (top_block d b low j (eq_same low d v) in')) ∙ sym (rank_here d x (part (suc d) b c) low at (sym same ∙ u) v))
+      (λ v. head ∙ place_here (suc d, b) (suc low, j) (needed_below c n ts d b) (block_self (suc d, b) (suc low, j) (top_block d b low j (eq-same low d v) in')) ∙ sym (rank_here d x (part (suc d) b c) low at (sym same ∙ u) v))
       (λ v.
       let parts = below_place c n ts low j d b (block_parts d x) (λ i z. block_rank d (advance x (i * block_pages d)) z low at)
       (λ i q. block_count c m n ts made d (512 * b + i) (advance x (i * block_pages d)) (omega arith) (part_fits d i x p q fits) (bare_part m ts d b i x q h))

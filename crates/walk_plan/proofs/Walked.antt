@@ -6,10 +6,10 @@ use Rattle.std.proofs.Math.Nat.{div-mul-le_self, lt-div-mul-add}
 use Rattle.page_state.specs.State.{Block}
 use Rattle.page_state.specs.Geometries.{block_pages}
 use Rattle.page_state.proofs.Sizes.{size_step, size_some, size_split}
+use Rattle.page_state.proofs.Cases.{by_test}
 use Rattle.walk_plan.specs.declared.change.Change.{Change}
 use Rattle.walk_plan.specs.Changes.{part}
 use Rattle.walk_plan.proofs.Numbers.{less_scaled, from_part, to_part}
-use Rattle.walk_plan.proofs.Cases.{by_test}
 use Rattle.walk_plan.proofs.Joined.{joined, all_joined}
 
 -- whether a change meets a block

@@ -8,6 +8,7 @@ use Rattle.page_state.specs.declared.entry.Entry.{Entry}
 use Rattle.page_state.specs.declared.entry.Entry.TheVariants.{Malformed, Unmapped, Annotated, Leaf}
 use Rattle.page_state.specs.Entries.{advance, entry_of_word}
 use Rattle.page_state.proofs.Sizes.{size_some}
+use Rattle.page_state.proofs.Cases.{by_eq}
 use Rattle.table_tree.specs.declared.table.Table.{Table}
 use Rattle.table_tree.specs.declared.table.Slot.TheVariants.{Word, Child}
 use Rattle.table_tree.specs.declared.table.Slot.TheViews.{outs-Child}
@@ -15,20 +16,19 @@ use Rattle.table_tree.specs.Meaning.{level_at, index_at, slot_at, word_entry, en
 use Rattle.table_tree.specs.Shape.{IsBlank, IsShaped, MeetsSlot}
 use Rattle.table_tree.specs.Tables.{table_in}
 use Rattle.table_tree.specs.Tight.{IsTight}
-use Rattle.walk_plan.proofs.Slots.{by_eq, by_slot, shaped_slot, slot_child_is, entry_step, word_gives, child_gives, table_below, stand_word, stand_child}
+use Rattle.table_tree.proofs.Digits.{digits}
+use Rattle.table_tree.proofs.PathNumbers.{index_same}
+use Rattle.table_tree.proofs.Slots.{by_slot, shaped_slot, slot_child_is}
+use Rattle.table_tree.proofs.Steps.{entry_step, word_gives, child_gives}
+use Rattle.table_tree.proofs.Standing.{table_below, stand_word, stand_child}
+use Rattle.table_tree.proofs.Tight.{tight_child}
 use Rattle.walker.proofs.NoneWord.{none_word}
-use Rattle.walker.proofs.Maps.{digits}
-use Rattle.walker.proofs.Ranks.{index_same}
 
 pub advance_none : (e : Entry) (n : ℕ) → advance e n ≡ Unmapped → e ≡ Unmapped
 advance_none Malformed n h = absurd (cc)
 advance_none Unmapped n h = refl
 advance_none (Annotated o) n h = absurd (cc)
 advance_none (Leaf f p k s) n h = absurd (cc)
-
-pub zero_entry : (d q : ℕ) → word_entry d q 0 ≡ Unmapped
-unfolding desc_of
-zero_entry d q = refl
 
 -- the page of part `i` that lies as `q` does in its own part
 part_page : (d i q : ℕ) → i < 512 → (index_at d (i * 2 ^ (9 * d) + q % 2 ^ (9 * d)) ≡ i) × ((i * 2 ^ (9 * d) + q % 2 ^ (9 * d)) % 2 ^ (9 * d) ≡ q % 2 ^ (9 * d))
@@ -49,18 +49,11 @@ index_mod d p q h =
     (i, omega (arith, y, z, h, ap (λ x. x * 2 ^ (9 * d)) i))
 
 module _ {A : Type 0} where
-  tight_child : (d : ℕ) (t : Table A) (i : ℕ) (b : Box (Table A) A) → IsTight (suc d) t → i < 512 → slot_at t i ≡ Child b → (IsBlank b.value → ⊥) × IsTight d b.value
-  unfolding IsTight
-  tight_child d t i b h p e = let x : MeetsSlot (λ _. Unit {0}) (λ c. (IsBlank c → ⊥) × IsTight d c) (Child b) = rw e at (h i p) in rw (outs-Child b, MeetsSlot) at x
-
   pub entry_word : (d : ℕ) (t : Table A) (q w : ℕ) → slot_at t (index_at d q) ≡ Word w → entry_at d t q ≡ word_entry d q w
   entry_word d t q w e = entry_step d t q ∙ word_gives d q w (slot_at t (index_at d q)) e
 
   entry_child : (d : ℕ) (t : Table A) (q : ℕ) (b : Box (Table A) A) → slot_at t (index_at (suc d) q) ≡ Child b → entry_at (suc d) t q ≡ entry_at d b.value q
   entry_child d t q b e = entry_step (suc d) t q ∙ child_gives (suc d) d q b (slot_at t (index_at (suc d) q)) refl e
-
-  pub blank_entries : (d : ℕ) (t : Table A) → IsBlank t → (q : ℕ) → entry_at d t q ≡ Unmapped
-  blank_entries d t h q = entry_word d t q 0 (h (index_at d q) (omega arith)) ∙ zero_entry d q
 
   -- no child at the last level
   no_child : (t : Table A) (i : ℕ) (b : Box (Table A) A) → IsShaped 0 t → i < 512 → slot_at t i ≡ Child b → ⊥

@@ -10,12 +10,14 @@ use Rattle.page_state.specs.Map.{Map}
 use Rattle.page_state.specs.State.{Block, Pool, Tree as ReferenceTree}
 use Rattle.page_state.specs.Tables.{put, need, returned, edited, all_given}
 use Rattle.page_state.specs.Geometries.{levels_below, input_pages, block_pages}
+use Rattle.page_state.proofs.Edits.{tree-same}
 use Rattle.hyp_pool.specs.Laws.{GivenCounted}
 use Rattle.table_tree.specs.declared.table.Table.{Table}
 use Rattle.table_tree.specs.declared.tree.Tree.{Tree}
 use Rattle.table_tree.specs.Meaning.{entry_at, frame_of}
 use Rattle.table_tree.specs.Tables.{tables_in, uses_in, table_in, frame_count}
 use Rattle.table_tree.specs.View.{tree_of, meaning, table_at, uses, tables_of, root_of}
+use Rattle.table_tree.proofs.Sums.{tables_some}
 use Rattle.walk_plan.specs.declared.change.Change.{Change}
 use Rattle.walk_plan.specs.Changes.{table_need}
 use Rattle.walk_plan.specs.Ranks.{table_gone}
@@ -24,9 +26,6 @@ use Rattle.walk_plan.proofs.Edited.{IsWalked, tree_edited}
 use Rattle.walk_plan.proofs.Gone.{gone_returned}
 use Rattle.walker.proofs.Blank.{unmapped_gone}
 use Rattle.walker.proofs.Slotted.{IsGrown}
-
-same_record : {m n : Map} {a b : Block → Option ℕ} → m ≡ n → a ≡ b → ◌≡◌ {A = ReferenceTree} (record { map = m; table = a }) (record { map = n; table = b })
-same_record e f = rw (e, f) refl
 
 module _ {A : Type 0} where
   pub root_is : (t u : Tree A) → frame_of u.table ≡ frame_of t.table → root_of u ≡ root_of t
@@ -52,22 +51,13 @@ module _ {A : Type 0} where
   -- what contracts see of a tree hangs on its geometry and its root table
   pub same_tree : (t u : Tree A) → t.geometry ≡ u.geometry → t.table ≡ u.table → tree_of t ≡ tree_of u
   unfolding meaning table_at
-  same_tree t u g h = same_record (fun_ext (λ page. by_table t u g h (λ x y. cond (nat_lt page (input_pages x)) (entry_at (levels_below x) y page) Unmapped))) (fun_ext (λ b. same_at b.0 b.1 t u g h))
+  same_tree t u g h = tree-same (fun_ext (λ page. by_table t u g h (λ x y. cond (nat_lt page (input_pages x)) (entry_at (levels_below x) y page) Unmapped))) (fun_ext (λ b. same_at b.0 b.1 t u g h))
 
   pub same_uses : (t u : Tree A) → t.geometry ≡ u.geometry → t.table ≡ u.table → (f : ℕ) → uses t f ≡ uses u f
   same_uses t u g h f = uses_are t f ∙ ap (λ x. uses_in (levels_below x) t.table f) g ∙ ap (λ x. uses_in (levels_below u.geometry) x f) h ∙ sym (uses_are u f)
 
   pub same_count : (t u : Tree A) → t.geometry ≡ u.geometry → t.table ≡ u.table → tables_of t ≡ tables_of u
   same_count t u g h = tables_are t ∙ ap (λ x. tables_in (levels_below x) t.table) g ∙ ap (λ x. tables_in (levels_below u.geometry) x) h ∙ sym (tables_are u)
-
-  tables_some : (d : ℕ) (t : Table A) → 1 ≤ tables_in d t
-  unfolding tables_in
-  tables_some zero t = omega arith
-  tables_some (suc d) t = omega arith
-
-  -- a tree has its root
-  pub tree_some : (t : Tree A) → 1 ≤ tables_of t
-  tree_some t = let e = tables_are t in let s = tables_some (levels_below t.geometry) t.table in omega (arith, e, s)
 
 module _ {A : Type 0} (t u : Tree A) (first count : ℕ) (e : Entry) (c : Change) (fs rest : List ℕ) (some : 0 < count) (within : first + count ≤ input_pages t.geometry) (from : c.first ≡ first) (to : c.end ≡ first + count) (gives : c.entry ≡ e)
     (geometry : u.geometry ≡ t.geometry) (just : length fs ≡ need (levels_below t.geometry) (tree_of t) (put first count e)) (grown : IsGrown (levels_below t.geometry) t.table u.table c fs rest) where

@@ -9,4 +9,3 @@ pub mod Writes
 pub mod Slotted
 pub mod Walked
 pub mod Changed
-pub mod Taken

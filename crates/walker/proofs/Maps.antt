@@ -9,21 +9,13 @@ use Rattle.page_state.specs.declared.entry.Entry.{Entry}
 use Rattle.page_state.specs.declared.entry.Entry.TheVariants.{Malformed, Unmapped, Annotated, Leaf}
 use Rattle.page_state.specs.Entries.{advance, entry_of_word}
 use Rattle.page_state.proofs.Sizes.{size_some}
+use Rattle.page_state.proofs.Cases.{by_eq, by_lt}
+use Rattle.page_state.proofs.Entries.{advance-more}
 use Rattle.table_tree.specs.Meaning.{level_at, index_at, word_entry}
+use Rattle.table_tree.proofs.Digits.{digits}
 use Rattle.walk_plan.specs.declared.change.Change.{Change}
 use Rattle.walk_plan.specs.Changes.{part, changed}
 use Rattle.walker.specs.Walks.{upto}
-use Rattle.walk_plan.proofs.Slots.{by_eq}
-use Rattle.walk_plan.proofs.Ranges.{by_le}
-
-pub digits : (n q : ℕ) → q % 2 ^ (9 * (n + 1)) ≡ index_at n q * 2 ^ (9 * n) + q % 2 ^ (9 * n)
-digits n q = let e : 9 * (n + 1) ≡ 9 + 9 * n = omega arith in rw e (mod-pow-add q 9 (9 * n))
-
-pub advance_twice : (x : Entry) (m n : ℕ) → advance (advance x m) n ≡ advance x (m + n)
-advance_twice Malformed m n = refl
-advance_twice Unmapped m n = refl
-advance_twice (Annotated o) m n = refl
-advance_twice (Leaf f p k s) m n = let wrap : ℕ → Entry = λ a. Leaf (record { 0 = a }) p k s in ap wrap (add_assoc f.0 m n)
 
 pub changed_in : (d : ℕ) (m : ℕ → Entry) (c : Change) (q : ℕ) → c.first ≤ q % 2 ^ (9 * d) → q % 2 ^ (9 * d) < c.end → changed d m c q ≡ advance c.entry (q % 2 ^ (9 * d) - c.first)
 changed_in d m c q a b = grind (arith, nat_tests)
@@ -49,9 +41,9 @@ pub same_map : (d w : ℕ) (c : Change) (q : ℕ) → advance (entry_of_word (de
 same_map d w c q e =
     let m = λ (p : ℕ). word_entry d p w in
     let r = q % 2 ^ (9 * d) in
-    by_le r c.first (λ a. sym (changed_before d m c q a))
-    (λ a. by_le r c.end
-    (λ b. let z : c.first + (r - c.first) ≡ r = omega arith in sym (changed_in d m c q a b ∙ rw (← e) (advance_twice (entry_of_word (desc_of (level_at d) w)) c.first (r - c.first)) ∙ ap (λ n. advance (entry_of_word (desc_of (level_at d) w)) n) z))
+    by_lt r c.first (λ a. sym (changed_before d m c q a))
+    (λ a. by_lt r c.end
+    (λ b. let z : c.first + (r - c.first) ≡ r = omega arith in sym (changed_in d m c q a b ∙ rw (← e) (advance-more (entry_of_word (desc_of (level_at d) w)) c.first (r - c.first)) ∙ ap (λ n. advance (entry_of_word (desc_of (level_at d) w)) n) z))
     (λ b. sym (changed_after d m c q b)))
 
 -- a page of part `i` under the whole change, and under the part's
@@ -63,15 +55,15 @@ part_map d i c m n q x e =
     let u = q % 2 ^ (9 * (d + 1)) in
     let k : u ≡ i * s + r = digits d q ∙ ap (λ j. j * s + r) x in
     let l : r < s = omega (arith, z) in
-    by_le u c.first
+    by_lt u c.first
     (λ a. changed_before d m (part d i c) q (omega (arith, k)) ∙ e ∙ sym (changed_before (d + 1) n (upto c ((i + 1) * s)) q a))
-    (λ a. by_le u c.end
+    (λ a. by_lt u c.end
     (λ b.
     let v : c.first - i * s ≤ r = omega (arith, k) in
     let w : r < min (c.end - i * s) s = omega (arith, k) in
     let w' : u < min c.end ((i + 1) * s) = omega (arith, k) in
     let o : (i * s - c.first) + (r - (c.first - i * s)) ≡ u - c.first = omega (arith, k) in
-    changed_in d m (part d i c) q v w ∙ advance_twice c.entry (i * s - c.first) (r - (c.first - i * s)) ∙ ap (λ j. advance c.entry j) o ∙ sym (changed_in (d + 1) n (upto c ((i + 1) * s)) q a w'))
+    changed_in d m (part d i c) q v w ∙ advance-more c.entry (i * s - c.first) (r - (c.first - i * s)) ∙ ap (λ j. advance c.entry j) o ∙ sym (changed_in (d + 1) n (upto c ((i + 1) * s)) q a w'))
     (λ b. changed_after d m (part d i c) q (omega (arith, k)) ∙ e ∙ sym (changed_after (d + 1) n (upto c ((i + 1) * s)) q (omega (arith, b)))))
 
 -- a page of another part
@@ -84,10 +76,10 @@ other_map d i c m q x =
     let u = q % 2 ^ (9 * (d + 1)) in
     let k : u ≡ j * s + r = digits d q in
     let l : r < s = omega (arith, z) in
-    by_le u c.first
+    by_lt u c.first
     (λ a. changed_before (d + 1) m (upto c (i * s)) q a ∙ sym (changed_before (d + 1) m (upto c ((i + 1) * s)) q a))
-    (λ a. by_le u c.end
-    (λ b. by_le j i
+    (λ a. by_lt u c.end
+    (λ b. by_lt j i
     (λ y.
     let p : j + 1 ≤ i = omega arith in
     let t : (j + 1) * s ≤ i * s = mul-le-mul_right s p in
@@ -106,7 +98,7 @@ start_map d c m q =
     let s = 2 ^ (9 * d) in
     let u = q % 2 ^ (9 * (d + 1)) in
     let z = size_some d in
-    by_le u c.first
+    by_lt u c.first
     (λ a. sym (changed_before (d + 1) m (upto c (c.first / s * s)) q a))
     (λ a. sym (changed_after (d + 1) m (upto c (c.first / s * s)) q (omega (arith, z, a))))
 

@@ -7,12 +7,9 @@ use Rattle.descriptor.specs.declared.Kind.{Kind}
 use Rattle.descriptor.specs.declared.Prot.{Prot}
 use Rattle.descriptor.specs.declared.State.{State}
 use Rattle.descriptor.specs.declared.Desc.{Desc}
+use Rattle.descriptor.proofs.Unique.{cond_ind}
 use Rattle.page_state.specs.declared.entry.Entry.TheVariants.{Unmapped}
 use Rattle.page_state.specs.Entries.{entry_of_word}
-
-by_cond : {D : Type 0} (P : D → Type 0) (b : Bool) (x y : D) → (b ≡ true → P x) → (b ≡ false → P y) → P (cond b x y)
-by_cond P true x y f g = f refl
-by_cond P false x y f g = g refl
 
 leaf_maps : (b : Bool) (k : Option Kind) (p : Option Prot) (s : Option State) (f : ℕ) → entry_of_word (leaf_or_malformed b k p s f) ≡ Unmapped → ⊥
 leaf_maps true (Some k) (Some p) (Some s) f h = cc
@@ -26,7 +23,7 @@ pub none_word : (l : Level) (w : ℕ) → entry_of_word (desc_of l w) ≡ Unmapp
 unfolding desc_of
 none_word l w =
     let P : Desc → Type 0 = λ d. entry_of_word d ≡ Unmapped → w ≡ 0 in
-    by_cond P (w == 0) _ _ (λ z _. grind (arith, nat_tests))
-    (λ _. by_cond P (w % 4 == 0 && nat_le (w / 4) 255) _ _ (λ _ h. absurd (cc))
-    (λ _. by_cond P ((is_upper l && field w 0 12 == 3) && field w 48 16 == 0) _ _ (λ _ h. absurd (cc))
+    cond_ind P (w == 0) _ _ (λ z _. grind (arith, nat_tests))
+    (λ _. cond_ind P (w % 4 == 0 && nat_le (w / 4) 255) _ _ (λ _ h. absurd (cc))
+    (λ _. cond_ind P ((is_upper l && field w 0 12 == 3) && field w 48 16 == 0) _ _ (λ _ h. absurd (cc))
     (λ _ h. absurd (leaf_maps _ _ _ _ _ h))))

@@ -14,6 +14,8 @@ use Rattle.page_state.specs.EntryTests.{entry_eq}
 use Rattle.page_state.specs.Blocks.{fits_word}
 use Rattle.page_state.specs.Geometries.{block_pages}
 use Rattle.page_state.proofs.Sizes.{size_some}
+use Rattle.page_state.proofs.Cases.{by_eq}
+use Rattle.page_state.proofs.Common.{or-neither}
 use Rattle.table_tree.specs.declared.table.Table.{Table}
 use Rattle.table_tree.specs.declared.table.Slot.{Slot}
 use Rattle.table_tree.specs.declared.table.Slot.TheVariants.{Word, Child}
@@ -23,15 +25,20 @@ use Rattle.table_tree.specs.Slots.{fresh}
 use Rattle.table_tree.specs.Tables.{table_in}
 use Rattle.table_tree.specs.Tight.{IsTight}
 use Rattle.table_tree.specs.Changes.{IsSeen, IsWritten, IsAttached, IsCleared}
+use Rattle.table_tree.proofs.Digits.{test_same, test_other}
+use Rattle.table_tree.proofs.Slots.{case_word, case_child}
+use Rattle.table_tree.proofs.Standing.{table_top}
+use Rattle.table_tree.proofs.Words.{zero_said}
+use Rattle.table_tree.proofs.Sums.{fresh_word, fresh_child}
 use Rattle.walk_plan.specs.declared.change.Change.{Change}
 use Rattle.walk_plan.specs.Changes.{IsRangeEntry, IsChange, changed, is_whole, is_one_word, block_need}
 use Rattle.walk_plan.specs.Ranks.{given, later, block_rank, parts_rank, slot_rank}
-use Rattle.walk_plan.proofs.Slots.{by_eq, case_word, case_child, table_top}
 use Rattle.walk_plan.proofs.Ranges.{block_one, block_split, slot_word, slot_child}
 use Rattle.walk_plan.proofs.Seen.{seen_deep}
+use Rattle.walk_plan.proofs.Ranked.{rank_child}
 use Rattle.walker.specs.Steps.{IsRewritten, IsOpening, IsFilled, IsReady, IsOpened}
 use Rattle.walker.proofs.Maps.{changed_in, changed_before, changed_after, changed_at}
-use Rattle.walker.proofs.Ranks.{given_later, given_some, block_rank_one, block_rank_split, slot_rank_word, slot_rank_child}
+use Rattle.walker.proofs.Ranks.{given_later, given_some, block_rank_one, block_rank_split, slot_rank_word}
 use Rattle.walker.proofs.Parts.{parts_need, parts_ranked, parts_gone, gone_word, gone_child}
 use Rattle.walker.proofs.Blank.{advance_none}
 use Rattle.walker.proofs.Emptied.{emptied_each}
@@ -51,17 +58,13 @@ zero_word x c h =
     let a : (c.first == 0) ≡ true = let z : c.first ≡ 0 = omega arith in grind (arith, nat_tests) in
     let b : (c.end == 1) ≡ true = let z : c.end ≡ 1 = omega arith in grind (arith, nat_tests) in rw (a, b, k) refl
 
-false_true : {P : Type 0} (b : Bool) → b ≡ true → b ≡ false → P
+pub false_true : {P : Type 0} (b : Bool) → b ≡ true → b ≡ false → P
 false_true true e f = absurd (cc)
 false_true false e f = absurd (cc)
 
 from_one : (d : ℕ) (x : Entry) (c : Change) → IsChange d c → is_one_word d x c ≡ false → 1 ≤ d
 from_one zero x c h z = false_true _ (zero_word x c h) z
 from_one (suc d) x c h z = omega arith
-
-or_false : (a b : Bool) → (a || b) ≡ false → (a ≡ false) × (b ≡ false)
-or_false true b e = absurd (cc)
-or_false false b e = (refl, e)
 
 same_none : (x : Entry) (n : ℕ) → entry_eq (advance x n) Unmapped ≡ false → x ≡ Unmapped → ⊥
 same_none x n h e = let h' = rw e at h in absurd (cc)
@@ -82,7 +85,7 @@ split_some d x c m h z k all =
     let lt : c.first < s = omega arith in
     let f : c.first % s ≡ c.first = mod-eq_of_lt lt in
     let e : c.entry ≡ Unmapped = advance_none c.entry (c.first % s - c.first) (sym (changed_in d m c c.first (omega (arith, f)) (omega (arith, f))) ∙ all c.first lt) in
-    let o = or_false (is_whole d c) (entry_eq (advance x c.first) c.entry) z in
+    let o = or-neither (is_whole d c) (entry_eq (advance x c.first) c.entry) z in
     let n = same_none x c.first (rw e at o.1) in
     by_eq c.first 0
     (λ a. by_eq c.end s
@@ -99,16 +102,6 @@ split_some d x c m h z k all =
 pub popped_some : {X : Type 0} (r : Option X) (fs : List ℕ) (P : X → Type 0) → MatchOption r (fs ≡ []) P → 1 ≤ length fs → IsSome r
 popped_some None fs P h p = absurd (let e : length fs ≡ 0 = ap length h in omega arith)
 popped_some (Some x) fs P h p = refl
-
-pub same_test : (a b : ℕ) → a ≡ b → (a == b) ≡ true
-same_test a b h = grind (arith, nat_tests)
-
-pub other_test : (a b : ℕ) → (a ≡ b → ⊥) → (a == b) ≡ false
-other_test a b h = grind (arith, nat_tests)
-
-zero_said : (d : ℕ) → IsEntryWord d 0
-unfolding desc_of
-zero_said d = (omega arith, tt)
 
 module _ {A : Type 0} where
   -- the word of a slot, and which of the two it is
@@ -131,14 +124,6 @@ module _ {A : Type 0} where
       let a : kind_of_slot s ≡ 0 = ap kind_of_slot x ∙ case_word {A = A} {R = ℕ} (λ _. 0) (λ _. 1) w in
       let e : kind_of_slot s ≡ 1 = ap kind_of_slot y ∙ case_child {A = A} {R = ℕ} (λ _. 0) (λ _. 1) b in
       absurd (omega (arith, a, e))
-
-  pub fresh_word : (w : ℕ) (s : Slot A) → s ≡ Word w → fresh s ≡ 1
-  unfolding fresh
-  fresh_word w s e = rw e (case_word _ _ w)
-
-  pub fresh_child : (b : Box (Table A) A) (s : Slot A) → s ≡ Child b → fresh s ≡ 0
-  unfolding fresh
-  fresh_child b s e = rw e (case_child _ _ b)
 
   -- a word that a change leaves one word
   pub rewritten : (d i w v : ℕ) (t : Table A) (c : Change) → slot_at t i ≡ Word w → IsSeen i t (slot_at t i) → is_one_word d (entry_of_word (desc_of (level_at d) w)) c ≡ true → IsEntryWord d v
@@ -188,7 +173,7 @@ module _ {A : Type 0} where
       record {
         need = let o : suc d - 1 ≡ d = omega arith in let n = rw o at (slot_child (suc d) b (slot_at t i) c k e) in omega (arith, z, n);
         here = λ q x. given_some fs (table_in (suc d) t d q) (slot_rank (suc d) (slot_at t i) c d q) (frame_of b.value) (stand d q (omega arith) x ∙ table_top d d b.value q refl);
-        below = λ low q l x. rw (stand low q (omega arith) x, slot_rank_child d b (slot_at t i) c low q e) refl;
+        below = λ low q l x. rw (stand low q (omega arith) x, rank_child d b (slot_at t i) c low q e) refl;
         stays = λ f y. g f ∙ rw y (omega arith);
         goes = λ f y. g f ∙ rw y (omega arith);
       }
@@ -200,18 +185,18 @@ module _ {A : Type 0} where
       let z = fresh_child b (slot_at t i) e in
       let map = rw o at (h.map d) in
       let stand = rw o at (h.standing d) in
-      let here : (low q : ℕ) → low ≤ d → index_at (suc d) q ≡ i → table_in (suc d) t low q ≡ table_in d b.value low q = λ low q l x. stand low q l ∙ ap (λ a. cond a (table_in d b.value low q) (table_in (suc d) u low q)) (same_test (index_at (suc d) q) i x) in
+      let here : (low q : ℕ) → low ≤ d → index_at (suc d) q ≡ i → table_in (suc d) t low q ≡ table_in d b.value low q = λ low q l x. stand low q l ∙ ap (λ a. cond a (table_in d b.value low q) (table_in (suc d) u low q)) (test_same (index_at (suc d) q) i x) in
       record {
         frame = frame;
         slots = slots;
         shape = rest.shape (suc d) shape;
         tight = rest.tight (suc d) tight;
-        other = λ q x. sym (map q ∙ ap (λ a. cond a (entry_at d b.value q) (entry_at (suc d) u q)) (other_test (index_at (suc d) q) i x));
-        stand = λ low q l x. sym (stand low q (let l' : low < suc d = l in omega arith) ∙ ap (λ a. cond a (table_in d b.value low q) (table_in (suc d) u low q)) (other_test (index_at (suc d) q) i x));
+        other = λ q x. sym (map q ∙ ap (λ a. cond a (entry_at d b.value q) (entry_at (suc d) u q)) (test_other (index_at (suc d) q) i x));
+        stand = λ low q l x. sym (stand low q (let l' : low < suc d = l in omega arith) ∙ ap (λ a. cond a (table_in d b.value low q) (table_in (suc d) u low q)) (test_other (index_at (suc d) q) i x));
         child_shape = (h.child d (subst (λ n. IsShaped n t) (sym o) shape)).1;
         child_tight = h.child_tight d (subst (λ n. IsTight n t) (sym o) tight);
         child_frame = (h.child d (subst (λ n. IsShaped n t) (sym o) shape)).0;
-        map = λ q x. sym (map q ∙ ap (λ a. cond a (entry_at d b.value q) (entry_at (suc d) u q)) (same_test (index_at (suc d) q) i x));
+        map = λ q x. sym (map q ∙ ap (λ a. cond a (entry_at d b.value q) (entry_at (suc d) u q)) (test_same (index_at (suc d) q) i x));
         uses = λ f. rw z (let y = rw o at (h.uses d f) in omega (arith, y));
         tables = let y = rw o at (h.tables d) in omega (arith, y, z);
         stock = rw z refl;
@@ -234,12 +219,12 @@ module _ {A : Type 0} where
       let n : suc d ≡ d + 1 = omega arith in
       record {
         need = omega (arith, z, need', parts_need d x child filled.parts c);
-        here = λ q y. rw (none d q (omega arith) y) (ap (λ r. given (frame_of child ∷ after) None r) (rank d q ∙ ap (λ a. cond a (Some 0) (later 1 (parts_rank d x c d q))) (same_test d d refl)));
+        here = λ q y. rw (none d q (omega arith) y) (ap (λ r. given (frame_of child ∷ after) None r) (rank d q ∙ ap (λ a. cond a (Some 0) (later 1 (parts_rank d x c d q))) (test_same d d refl)));
         below = λ low q l y.
             let l' : low < suc d = omega arith in
             let ne : low ≢ d = omega arith in
             rw (none low q l' y, filled.standing low q l) (ap (λ r. given after None r) (parts_ranked d x child filled.parts c low q) ∙ given_later (frame_of child ∷ after) 1 None (parts_rank d x c low q)
-            ∙ sym (ap (λ r. given (frame_of child ∷ after) None r) (rank low q ∙ ap (λ a. cond a (Some 0) (later 1 (parts_rank d x c low q))) (other_test low d ne))));
+            ∙ sym (ap (λ r. given (frame_of child ∷ after) None r) (rank low q ∙ ap (λ a. cond a (Some 0) (later 1 (parts_rank d x c low q))) (test_other low d ne))));
         stays = λ f y. omega (arith, gone f, none_gone f);
         goes = λ f y. absurd (split_some (suc d) x c (entry_at d child) h split (λ q. filled.map q ∙ ap (λ m. advance x (q % block_pages m)) (sym n)) (emptied_each (suc d) (entry_at d child) c y));
       }
@@ -255,7 +240,7 @@ module _ {A : Type 0} where
         slots = slots;
         shape = h.shape (suc d) shape (zero_said (suc d));
         tight = h.tight (suc d) tight;
-        other = λ q y. h.map (suc d) q ∙ ap (λ a. cond a (word_entry (suc d) q 0) (entry_at (suc d) t q)) (other_test (index_at (suc d) q) i y);
+        other = λ q y. h.map (suc d) q ∙ ap (λ a. cond a (word_entry (suc d) q 0) (entry_at (suc d) t q)) (test_other (index_at (suc d) q) i y);
         stand = λ low q l y. h.standing (suc d) low q;
         child_shape = filled.shape;
         child_tight = filled.tight;

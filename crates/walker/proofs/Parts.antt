@@ -12,23 +12,14 @@ use Rattle.table_tree.specs.declared.table.Slot.TheVariants.{Word, Child}
 use Rattle.table_tree.specs.Meaning.{slot_at, level_at, index_at, frame_of, entry_at}
 use Rattle.table_tree.specs.Shape.{HoldsWord, IsEntryWord}
 use Rattle.table_tree.specs.Tables.{is_one}
+use Rattle.table_tree.proofs.Slots.{case_word, case_child}
 use Rattle.walk_plan.specs.declared.change.Change.{Change}
 use Rattle.walk_plan.specs.Changes.{part, sum_to, met, block_need, block_parts, slot_need, table_parts, table_need}
 use Rattle.walk_plan.specs.Ranks.{later, block_rank, parts_rank, slot_rank, table_rank, slot_gone, gone_parts, table_gone}
-use Rattle.walk_plan.proofs.Slots.{case_word, case_child}
-use Rattle.walk_plan.proofs.Ranges.{slot_word}
+use Rattle.walk_plan.proofs.Ranges.{slot_word, sum_none}
+use Rattle.walk_plan.proofs.Joined.{sum_same}
 use Rattle.walker.specs.Steps.{IsPart, is_emptied}
 use Rattle.walker.proofs.Ranks.{slot_rank_word, met_at_same}
-
-sum_same : (f g : ℕ → ℕ) (n : ℕ) → ((k : ℕ) → k < n → f k ≡ g k) → sum_to f n ≡ sum_to g n
-unfolding sum_to
-sum_same f g zero h = refl
-sum_same f g (suc n) h = omega (arith, sum_same f g n (λ k p. h k (omega arith)), h n (omega arith))
-
-pub sum_zero : (f : ℕ → ℕ) (n : ℕ) → ((k : ℕ) → k < n → f k ≡ 0) → sum_to f n ≡ 0
-unfolding sum_to
-sum_zero f zero h = refl
-sum_zero f (suc n) h = omega (arith, sum_zero f n (λ k p. h k (omega arith)), h n (omega arith))
 
 zero_either : (b : Bool) (x : ℕ) → x ≡ 0 → cond b x 0 ≡ 0
 zero_either true x e = e
@@ -38,10 +29,6 @@ module _ {A : Type 0} where
   pub part_made : (n k w m : ℕ) (x : Entry) (s : Slot A) → s ≡ Word w → IsEntryWord n w → entry_of_word (desc_of (level_at n) w) ≡ advance x m → m ≡ k * block_pages n → IsPart n x k s
   unfolding IsPart
   part_made n k w m x s a b c e = (w, a, b, c ∙ ap (λ y. advance x y) e)
-
-  pub part_holds : (n k : ℕ) (x : Entry) (s : Slot A) → IsPart n x k s → HoldsWord s
-  unfolding IsPart
-  part_holds n k x s h = (h.0, h.1)
 
   part_need : (n k : ℕ) (x : Entry) (s : Slot A) (c : Change) → IsPart n x k s → slot_need n s c ≡ block_need n (advance x (k * block_pages n)) c
   unfolding IsPart
@@ -82,4 +69,4 @@ module _ {A : Type 0} where
 
   pub parts_gone : (n f : ℕ) (x : Entry) (t : Table A) → ((k : ℕ) → k < 512 → IsPart n x k (slot_at t k)) → (c : Change) → table_gone n t c f ≡ 0
   unfolding met gone_parts
-  parts_gone n f x t h c = sum_zero _ 512 (λ k p. zero_either (nat_lt (part n k c).first (part n k c).end) _ (part_gone n k f x (slot_at t k) (part n k c) (h k p)))
+  parts_gone n f x t h c = sum_none _ 512 (λ k p. zero_either (nat_lt (part n k c).first (part n k c).end) _ (part_gone n k f x (slot_at t k) (part n k c) (h k p)))

@@ -14,10 +14,10 @@ use Rattle.table_tree.specs.declared.table.Table.{Table}
 use Rattle.table_tree.specs.declared.table.Slot.{Slot}
 use Rattle.table_tree.specs.declared.table.Slot.TheVariants.{Word, Child}
 use Rattle.table_tree.specs.Meaning.{slot_at, level_at, index_at}
+use Rattle.table_tree.proofs.Slots.{case_word, case_child}
 use Rattle.walk_plan.specs.declared.change.Change.{Change}
 use Rattle.walk_plan.specs.Changes.{IsChange, part, is_one_word, sum_to, met, table_parts}
 use Rattle.walk_plan.specs.Ranks.{given, later, met_at, block_rank, parts_rank, slot_rank, table_rank}
-use Rattle.walk_plan.proofs.Slots.{case_word, case_child}
 use Rattle.walk_plan.proofs.Ranges.{before_part, after_part}
 
 pub later_none : (n : ℕ) (r : Option ℕ) → r ≡ None → later n r ≡ None
@@ -45,16 +45,6 @@ met_at_some d i c f h = let s : (part d i c).first < (part d i c).end = h.some i
 pub met_at_same : (d i : ℕ) (c : Change) (f g : ℕ → Change → Option ℕ) → f i (part d i c) ≡ g i (part d i c) → met_at d c f i ≡ met_at d c g i
 met_at_same d i c f g e = ap (λ r. cond (nat_lt (part d i c).first (part d i c).end) r None) e
 
-halves : (d low p : ℕ) → low < d → p / 2 ^ (9 * d) ≡ p / 2 ^ (9 * (low + 1)) / 2 ^ (9 * (d - (low + 1)))
-halves d low p h =
-    let n : 9 * d ≡ 9 * (low + 1) + 9 * (d - (low + 1)) = omega arith in
-    let m : 2 ^ (9 * d) ≡ 2 ^ (9 * (low + 1)) * 2 ^ (9 * (d - (low + 1))) = ap (λ x. 2 ^ x) n ∙ pow-add 2 (9 * (low + 1)) (9 * (d - (low + 1))) in
-    ap (λ x. p / x) m ∙ sym (div-div-eq-div-mul p (2 ^ (9 * (low + 1))) (2 ^ (9 * (d - (low + 1)))))
-
--- pages of one block lie under one slot above it
-pub index_same : (d low p q : ℕ) → low < d → p / 2 ^ (9 * (low + 1)) ≡ q / 2 ^ (9 * (low + 1)) → index_at d p ≡ index_at d q
-index_same d low p q h e = ap (λ x. x % 512) (halves d low p h ∙ ap (λ x. x / 2 ^ (9 * (d - (low + 1)))) e ∙ sym (halves d low q h))
-
 unmet_before : (d k : ℕ) (c : Change) → k < c.first / 2 ^ (9 * d) → (part d k c).end ≤ (part d k c).first
 unmet_before d k c h = let b = before_part (2 ^ (9 * d)) k c.first (size_some d) h in omega (arith, b)
 
@@ -75,10 +65,6 @@ module _ {A : Type 0} where
   unfolding slot_rank block_rank
   slot_rank_word zero w s c low q e = refl
   slot_rank_word (suc d) w s c low q e = rw e (case_word _ _ w)
-
-  pub slot_rank_child : (d : ℕ) (b : Box (Table A) A) (s : Slot A) (c : Change) (low q : ℕ) → s ≡ Child b → slot_rank (suc d) s c low q ≡ table_rank d b.value c low q
-  unfolding slot_rank table_rank
-  slot_rank_child d b s c low q e = rw e (case_child _ _ b)
 
   -- of a slot that the change doesn't meet
   unmet_rank : (d k : ℕ) (c : Change) (o : Table A) (low q : ℕ) → index_at d q ≡ k → (part d k c).end ≤ (part d k c).first → table_rank d o c low q ≡ None

@@ -7,6 +7,8 @@ use Rattle.std.proofs.lemmas.List.Sums.{sum_by-append}
 use Rattle.page_state.specs.declared.entry.Entry.TheVariants.{Unmapped}
 use Rattle.page_state.specs.Geometries.{block_pages}
 use Rattle.page_state.proofs.Sizes.{size_some}
+use Rattle.page_state.proofs.Cases.{by_eq}
+use Rattle.page_state.proofs.Common.{not-holds}
 use Rattle.table_tree.specs.declared.table.Table.{Table}
 use Rattle.table_tree.specs.declared.table.Slot.TheVariants.{Word}
 use Rattle.table_tree.specs.Meaning.{index_at, slot_at, frame_of, entry_at}
@@ -15,28 +17,19 @@ use Rattle.table_tree.specs.Slots.{fresh}
 use Rattle.table_tree.specs.Tables.{tables_in, uses_in, table_in, is_one, frame_count}
 use Rattle.table_tree.specs.Tight.{IsTight}
 use Rattle.table_tree.specs.Changes.{IsAttached, IsNew}
+use Rattle.table_tree.proofs.Digits.{test_same}
+use Rattle.table_tree.proofs.PathNumbers.{index_same}
+use Rattle.table_tree.proofs.Slots.{set_here}
+use Rattle.table_tree.proofs.Standing.{table_top}
+use Rattle.table_tree.proofs.Words.{zero_entry}
+use Rattle.table_tree.proofs.Sums.{count_split, count_next}
 use Rattle.walk_plan.specs.declared.change.Change.{Change}
 use Rattle.walk_plan.specs.Changes.{changed, slot_need, table_need}
 use Rattle.walk_plan.specs.Ranks.{given, slot_rank, table_rank, slot_gone, table_gone}
-use Rattle.walk_plan.proofs.Slots.{by_eq, table_top}
 use Rattle.walker.specs.Steps.{IsOpened, IsReady, is_emptied}
 use Rattle.walker.proofs.Maps.{changed_at}
-use Rattle.walker.proofs.Ranks.{index_same}
-use Rattle.walker.proofs.Blank.{entry_word, zero_entry, entry_in_block, unmapped_blank}
+use Rattle.walker.proofs.Blank.{entry_word, entry_in_block, unmapped_blank}
 use Rattle.walker.proofs.Emptied.{emptied_each, emptied_by}
-use Rattle.walker.proofs.Opened.{same_test}
-use Rattle.walker.proofs.Writes.{set_here}
-
--- the counts in the first frames of a list
-pub count_split : (f a b : ℕ) (fs : List ℕ) → frame_count f (take (a + b) fs) ≡ frame_count f (take a fs) + frame_count f (take b (drop a fs))
-count_split f a b fs = rw (take-add a b fs) (sum_by-append (λ g. is_one g f) (take a fs) (take b (drop a fs)))
-
-pub count_next : (f g : ℕ) (gs : List ℕ) → frame_count f (g ∷ gs) ≡ is_one g f + frame_count f gs
-count_next f g gs = let e = sum_by-append (λ h. is_one h f) (g ∷ []) gs in omega (arith, e)
-
-not_true : (b : Bool) → (b ≡ true → ⊥) → b ≡ false
-not_true true h = absurd (h refl)
-not_true false h = refl
 
 module _ {A : Type 0} where
   -- the child as it was changed
@@ -89,14 +82,14 @@ module _ {A : Type 0} where
       unmapped_all z q = entry_in_block d b' q g.shape ∙ g.map (q % 2 ^ (9 * (d + 1))) ∙ emptied_each (d + 1) (entry_at d b) c z (q % 2 ^ (9 * (d + 1))) (let s = size_some (d + 1) in omega (arith, s))
 
       back_gone : (f : ℕ) → slot_gone (d + 1) (slot_at t i) c f ≡ table_gone d b c f
-      back_gone f = r.stays f (not_true (is_emptied (d + 1) (entry_at d b) c) (λ z. some (unmapped_blank d b' g.shape g.tight (λ q. unmapped_all z q))))
+      back_gone f = r.stays f (not-holds (is_emptied (d + 1) (entry_at d b) c) (λ z. some (unmapped_blank d b' g.shape g.tight (λ q. unmapped_all z q))))
 
       pub back_kept : (low q p : ℕ) → low < d + 1 → p / block_pages (low + 1) ≡ q / block_pages (low + 1) → index_at (d + 1) q ≡ i → (entry_at (d + 1) v p ≡ Unmapped → ⊥)
           → table_in (d + 1) v low q ≡ given fs (table_in (d + 1) t low q) (slot_rank (d + 1) (slot_at t i) c low q)
       back_kept low q p h e x n =
           let y : index_at (d + 1) p ≡ i = index_same (d + 1) low p q h e ∙ x in
-          let here : entry_at (d + 1) v p ≡ entry_at d b' p = a.map d p ∙ ap (λ z. cond z (entry_at d b' p) (entry_at (d + 1) u p)) (same_test (index_at (d + 1) p) i y) in
-          let stand : table_in (d + 1) v low q ≡ table_in d b' low q = a.standing d low q (omega arith) ∙ ap (λ z. cond z (table_in d b' low q) (table_in (d + 1) u low q)) (same_test (index_at (d + 1) q) i x) in
+          let here : entry_at (d + 1) v p ≡ entry_at d b' p = a.map d p ∙ ap (λ z. cond z (entry_at d b' p) (entry_at (d + 1) u p)) (test_same (index_at (d + 1) p) i y) in
+          let stand : table_in (d + 1) v low q ≡ table_in d b' low q = a.standing d low q (omega arith) ∙ ap (λ z. cond z (table_in d b' low q) (table_in (d + 1) u low q)) (test_same (index_at (d + 1) q) i x) in
           by_eq low d
           (λ z. stand ∙ table_top d low b' q z ∙ ap Some g.frame ∙ sym (r.here q x) ∙ ap (λ l. given fs (table_in (d + 1) t l q) (slot_rank (d + 1) (slot_at t i) c l q)) (sym z))
           (λ z. let l : low < d = omega arith in stand ∙ g.kept low q p l e (λ w. n (here ∙ w)) ∙ r.below low q l x)

@@ -6,19 +6,21 @@ use Rattle.std.proofs.Math.Nat.{mod-eq_of_lt}
 use Rattle.page_state.specs.declared.entry.Entry.{Entry}
 use Rattle.page_state.specs.declared.entry.Entry.TheVariants.{Unmapped}
 use Rattle.page_state.specs.Geometries.{block_pages}
+use Rattle.page_state.proofs.Cases.{by_eq, by_lt}
 use Rattle.table_tree.specs.Shape.{IsBlank}
 use Rattle.table_tree.specs.declared.table.Table.{Table}
 use Rattle.table_tree.specs.Meaning.{index_at, slot_at, entry_at}
 use Rattle.table_tree.specs.Tables.{table_in, frame_count}
+use Rattle.table_tree.proofs.PathNumbers.{index_same}
+use Rattle.table_tree.proofs.Steps.{blank_entries}
+use Rattle.table_tree.proofs.Sums.{count_split}
 use Rattle.walk_plan.specs.declared.change.Change.{Change}
 use Rattle.walk_plan.specs.Changes.{IsChange, changed, part, sum_to, met, slot_need, table_parts}
 use Rattle.walk_plan.specs.Ranks.{given, later, slot_rank, table_rank, slot_gone, gone_parts}
-use Rattle.walk_plan.proofs.Slots.{by_eq}
-use Rattle.walk_plan.proofs.Ranges.{by_le, met_some, sum_next, table_parts_is}
-use Rattle.walker.proofs.Ranks.{given_later, given_none, index_same, rank_before, rank_after, rank_met}
-use Rattle.walker.proofs.Slotted.{count_split}
+use Rattle.walk_plan.proofs.Ranges.{met_some, sum_next, table_parts_is}
+use Rattle.walker.proofs.Ranks.{given_later, given_none, rank_before, rank_after, rank_met}
 use Rattle.walker.proofs.Maps.{changed_in}
-use Rattle.walker.proofs.Blank.{advance_none, blank_entries}
+use Rattle.walker.proofs.Blank.{advance_none}
 
 -- the tables of the slots before slot `i`, as far as something is mapped there
 pub IsKept : {A : Type 0} → ℕ → ℕ → Change → List ℕ → Table A → Table A → Type 0
@@ -59,7 +61,7 @@ module _ {A : Type 0} where
       → (low q p : ℕ) → low < d → p / block_pages (low + 1) ≡ q / block_pages (low + 1) → (entry_at d t p ≡ Unmapped → ⊥) → table_in d t low q ≡ given fs (table_in d o low q) (table_rank d o c low q)
   unfolding IsKept
   kept_end d i c o t fs some last before stand low q p l e n =
-      by_le (index_at d q) i
+      by_lt (index_at d q) i
       (λ y. before low q p l e y n)
       (λ y. stand low q l y ∙ sym (given_none fs (table_in d o low q) (table_rank d o c low q) (rank_after d c o low q some (omega (arith, last, y)))))
 
@@ -69,10 +71,6 @@ spare_next n m k fs gs hs a b e = b ∙ ap (λ l. drop m l) a ∙ drop-drop m n 
 
 pub taken_next : (f n m k : ℕ) (fs gs : List ℕ) → gs ≡ drop n fs → k ≡ n + m → frame_count f (take k fs) ≡ frame_count f (take n fs) + frame_count f (take m gs)
 taken_next f n m k fs gs a e = ap (λ j. frame_count f (take j fs)) e ∙ count_split f n m fs ∙ ap (λ l. frame_count f (take n fs) + frame_count f (take m l)) (sym a)
-
-pub not_both : {P : Type 0} (b : Bool) → b ≡ true → b ≡ false → P
-not_both true e f = absurd (cc)
-not_both false e f = absurd (cc)
 
 -- a change that leaves all words 0 is one to Unmapped
 pub blank_entry : {A : Type 0} (d : ℕ) (t : Table A) (m : ℕ → Entry) (c : Change) → IsChange (d + 1) c → IsBlank t → ((q : ℕ) → entry_at d t q ≡ changed (d + 1) m c q) → c.entry ≡ Unmapped

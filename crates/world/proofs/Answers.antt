@@ -9,17 +9,14 @@ use Rattle.page_state.specs.SharedRules.{host_share, hyp_share, share_hyp}
 use Rattle.page_state.specs.State.{Shared as ReferenceShared, Cpu, Tree}
 use Rattle.page_state.specs.Step.{shared_after}
 use Rattle.page_state.specs.Tables.{need, edited, returned, all_given}
+use Rattle.page_state.proofs.Common.{not-holds}
 use Rattle.table_tree.specs.declared.tree.Tree.{Tree as TableTree}
 use Rattle.table_tree.specs.View.{tree_of}
 use Rattle.world.specs.declared.parts.Shared.{Shared}
 use Rattle.world.specs.Stands.{shared_of}
 
-only_false : (b : Bool) → (b ≡ true → ⊥) → b ≡ false
-only_false true h = absurd (h refl)
-only_false false h = refl
-
 pub not_less : (a b : ℕ) → (a < b → ⊥) → nat_lt a b ≡ false
-not_less a b h = only_false (nat_lt a b) (λ t. h (ltb-true a b t))
+not_less a b h = not-holds (nat_lt a b) (λ t. h (ltb-true a b t))
 
 -- parts with the same trees, pool and room
 abbrev pub parts : (ℕ → Row) → Tree → Tree → List ℕ → ℕ → ReferenceShared

@@ -1,4 +1,3 @@
-pub mod Entries
 pub mod Pools
 pub mod Changes
 pub mod Answers

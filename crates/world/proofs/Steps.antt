@@ -55,7 +55,7 @@ module _ {A : Type 0} (p q : Parts A) (cpu f : ℕ) (reply : Reply) (k k' : CpuS
 
   -- the CPUs with this one replaced
   cpu_at : (y : Cpu) → y ≡ no_cpu k'.log.room → (j : ℕ) → put_at (λ i. cpu_of p.layout.config.log (slice_get p.cpus.items i)) cpu y j ≡ cpu_of q.layout.config.log (slice_get q.cpus.items j)
-  cpu_at y e j = both (j == cpu)
+  cpu_at y e j = by_test (j == cpu)
       (λ h. let here : j ≡ cpu = grind (arith, nat_tests) in rw h (e ∙ sym (ap (cpu_of q.layout.config.log) (ap (slice_get q.cpus.items) here ∙ after))))
       (λ h. rw h (sym (ap (cpu_of q.layout.config.log) (others j h) ∙ ap (λ n. cpu_of n (slice_get p.cpus.items j)) log)))
 

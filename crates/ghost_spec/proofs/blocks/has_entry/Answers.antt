@@ -2,7 +2,7 @@ use Rattle.std.proofs.Common.{◌≡◌, ◌+◌, true, false, sym, ◌∙◌, a
 use Rattle.page_state.specs.Entries.{advance}
 use Rattle.page_state.specs.EntryTests.{entry_eq}
 use Rattle.page_state.specs.Runs.{map_of}
-use Rattle.ghost_spec.proofs.Entries.{by_eq}
+use Rattle.page_state.proofs.Cases.{by_eq}
 use Rattle.ghost_spec.proofs.Searches.{all_below_true, all_below_false}
 use Rattle.ghost_spec.proofs.blocks.has_entry.Goals as goal
 

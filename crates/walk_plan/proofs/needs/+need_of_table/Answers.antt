@@ -4,7 +4,7 @@ use Rattle.walk_plan.specs.Changes.{part, met, table_parts}
 use Rattle.walk_plan.proofs.Ranges.{part_in, part_is, met_some, met_start, met_end, sum_next, change_below, span, table_parts_is, said_range, slot_word, slot_child, powers_next}
 use Rattle.walk_plan.proofs.Looks.{ends_start, ends_next, ends_end, whole_parts, whole_edges, child_looks, some_part}
 use Rattle.table_tree.specs.Reading.{count_of}
-use Rattle.walk_plan.proofs.Slots.{shaped_wide}
+use Rattle.table_tree.proofs.Slots.{shaped_wide}
 use Rattle.walk_plan.proofs.Seen.{seen_deep, seen_child}
 use Rattle.walk_plan.proofs.needs.+need_of_table.Goals as goal
 use Rattle.walk_plan.proofs.needs.+need_of_table.Goals.{in-Word, in-Child}

@@ -3,7 +3,8 @@ use Rattle.page_state.specs.Tables.{all_given}
 use Rattle.table_tree.specs.Meaning.{frame_of}
 use Rattle.table_tree.specs.Stocks.{frames_of}
 use Rattle.table_tree.specs.Tables.{frame_count}
-use Rattle.walk_plan.proofs.Given.{given_through, not_there, count_next, one_self}
+use Rattle.table_tree.proofs.Sums.{count_next}
+use Rattle.walk_plan.proofs.Given.{given_through, not_there, one_self}
 use Rattle.walk_plan.proofs.spare.drain.Goals as goal
 
 pub give-requires-clause-new : goal.give-requires-clause-new

@@ -3,9 +3,10 @@ use Rattle.std.proofs.lemmas.List.{length-map}
 use Rattle.std.proofs.lemmas.List.Sums.{sum_by-take-drop}
 use Rattle.descriptor.specs.declared.Frame.{Frame}
 use Rattle.hyp_pool.specs.Pools.{numbers}
+use Rattle.hyp_pool.proofs.Pools.{same_pool}
 use Rattle.page_state.specs.Tables.{all_given}
 use Rattle.table_tree.specs.Tables.{frame_count, is_one}
-use Rattle.walk_plan.proofs.Given.{take_drop_length, same_pool}
+use Rattle.walk_plan.proofs.Given.{take_drop_length}
 use Rattle.walk_plan.proofs.spare.reserve.Goals as goal
 
 pub give_back-requires-clause-distinct : goal.give_back-requires-clause-distinct

@@ -2,11 +2,12 @@ use Rattle.std.proofs.Common.{◌≡◌, ℕ, ◌+◌, ◌*◌, refl, ap, arith,
 use Rattle.page_state.specs.Geometries.{levels_below}
 use Rattle.table_tree.specs.Stocks.{frames_of}
 use Rattle.table_tree.specs.Tables.{frame_count}
+use Rattle.table_tree.proofs.Sums.{tree_some}
 use Rattle.walk_plan.proofs.Looks.{edges_most}
 use Rattle.walk_plan.proofs.Needed.{need_walked}
 use Rattle.walk_plan.proofs.OfTree.{low_depth}
 use Rattle.walker.proofs.Slotted.{IsGrown}
-use Rattle.walker.proofs.Changed.{root_is, same_tree, same_uses, same_count, tree_some, edited_tree, moved, counted, came_back}
+use Rattle.walker.proofs.Changed.{root_is, same_tree, same_uses, same_count, edited_tree, moved, counted, came_back}
 use Rattle.walker.proofs.change.set_with.Goals as goal
 
 pub set_all-requires-clause-enough : goal.set_all-requires-clause-enough

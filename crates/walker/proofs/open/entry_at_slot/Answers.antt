@@ -1,4 +1,4 @@
-use Rattle.walk_plan.proofs.Slots.{shaped_wide}
+use Rattle.table_tree.proofs.Slots.{shaped_wide}
 use Rattle.walker.proofs.open.entry_at_slot.Goals as goal
 
 pub slot-requires-clause-wide : goal.slot-requires-clause-wide

@@ -2,7 +2,8 @@ use Rattle.std.proofs.Common.{◌≢◌, ◌<◌, ◌≤◌, sym, ap, arith, ◌
 use Rattle.table_tree.specs.declared.table.Slot.TheVariants.{Word}
 use Rattle.table_tree.specs.Meaning.{index_at}
 use Rattle.table_tree.specs.Tables.{is_one}
-use Rattle.walker.proofs.Writes.{set_others, set_wide, written_map, written_parts}
+use Rattle.table_tree.proofs.Slots.{set_others, set_wide}
+use Rattle.walker.proofs.Writes.{written_map, written_parts}
 use Rattle.walker.proofs.open.fill.Goals as goal
 
 pub loop-i-init : goal.loop-i-init

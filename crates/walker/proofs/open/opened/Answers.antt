@@ -3,9 +3,10 @@ use Rattle.table_tree.specs.Meaning.{slot_at, frame_of}
 use Rattle.table_tree.specs.Shape.{IsShaped, IsTableFrame}
 use Rattle.table_tree.specs.Stocks.{frames_of}
 use Rattle.table_tree.specs.Tight.{IsTight}
-use Rattle.walk_plan.proofs.Slots.{shaped_wide}
+use Rattle.table_tree.proofs.Slots.{shaped_wide}
+use Rattle.table_tree.proofs.Sums.{fresh_word}
 use Rattle.walker.specs.Steps.{IsOpened}
-use Rattle.walker.proofs.Opened.{popped_some, fresh_word, opened_word, opened_child}
+use Rattle.walker.proofs.Opened.{popped_some, opened_word, opened_child}
 use Rattle.walker.proofs.open.opened.Goals as goal
 
 pub put-requires-clause-wide : goal.put-requires-clause-wide

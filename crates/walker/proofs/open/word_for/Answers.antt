@@ -1,7 +1,7 @@
 use Rattle.std.proofs.Common.{sym, ap, ◌∙◌}
 use Rattle.std.specs.Option.{is_some}
 use Rattle.table_tree.specs.Meaning.{slot_at}
-use Rattle.walk_plan.proofs.Slots.{shaped_wide}
+use Rattle.table_tree.proofs.Slots.{shaped_wide}
 use Rattle.walker.proofs.Opened.{some_rewritten, opening_word, opening_child}
 use Rattle.walker.proofs.open.word_for.Goals as goal
 

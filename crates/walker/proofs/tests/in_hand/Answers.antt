@@ -4,9 +4,8 @@ use Rattle.page_state.specs.Geometries.{levels_below}
 use Rattle.table_tree.specs.Stocks.{frames_of}
 use Rattle.table_tree.specs.Tables.{frame_count}
 use Rattle.table_tree.specs.View.{tree_of}
+use Rattle.table_tree.proofs.Sums.{count_parts, tree_some}
 use Rattle.walk_plan.proofs.Given.{take_drop_length}
-use Rattle.walker.proofs.Changed.{tree_some}
-use Rattle.walker.proofs.Taken.{count_parts}
 use Rattle.walker.proofs.tests.in_hand.Goals as goal
 
 pub returns-clause-distinct : goal.returns-clause-distinct

@@ -3,17 +3,17 @@ use Rattle.table_tree.specs.Meaning.{index_at, slot_at, entry_at}
 use Rattle.table_tree.specs.Reading.{count_of}
 use Rattle.table_tree.specs.Stocks.{frames_of}
 use Rattle.table_tree.specs.declared.table.Slot.TheVariants.{Word}
+use Rattle.table_tree.proofs.Slots.{shaped_wide, set_here, set_wide}
 use Rattle.walk_plan.specs.Changes.{IsChange, part, met, sum_to, table_parts, slot_need}
 use Rattle.walk_plan.specs.Ranks.{gone_parts}
-use Rattle.walk_plan.proofs.Slots.{shaped_wide}
 use Rattle.walk_plan.proofs.Ranges.{part_in, part_is, met_start, met_end, sum_mono, span, change_below}
 use Rattle.walk_plan.proofs.Looks.{ends_start, ends_next, ends_end, whole_parts, whole_edges, child_reads, some_part}
 use Rattle.walker.specs.Steps.{IsOpening}
 use Rattle.walker.proofs.Maps.{start_map, end_map, next_map}
-use Rattle.walker.proofs.Writes.{set_here, set_wide}
 use Rattle.walker.proofs.Slotted.{IsGrown, all_spare, spent_map, spent_kept, spent_uses, spent_freed, spent_tables, back_kept, back_uses, back_freed, back_tables}
-use Rattle.walker.proofs.Walked.{not_both, blank_entry, need_next, gone_next, kept_start, kept_next, kept_end, spare_next, taken_next}
+use Rattle.walker.proofs.Walked.{blank_entry, need_next, gone_next, kept_start, kept_next, kept_end, spare_next, taken_next}
 use Rattle.walker.proofs.walk.+walk.Goals as goal
+use Rattle.walker.proofs.Opened.{false_true}
 
 pub set_slot-put-requires-clause-wide : goal.set_slot-put-requires-clause-wide
 set_slot-put-requires-clause-wide g t c = shaped_wide c.args.depth c.args.table.now c.requires.shape
@@ -146,7 +146,7 @@ set_slot-returns-else-is_spent-clause-kept g t c =
       spare = rw c.deref_mut.ensures.value at c.set_all.ensures.spare;
       uses = rw c.deref_mut.ensures.value at c.set_all.ensures.uses;
     } in
-    rw o at (back_kept (n - 1) c.args.i c.args.table.now c.opened-child.new.table c.opened-child.result.value c.set_all.new.table c.args.change (frames_of c.args.spare.now) (frames_of c.opened-child.new.spare) (frames_of c.set_all.new.spare) opened ready grown c.attach.new.self c.attach.ensures.tree (λ blank. not_both c.is_spent.result (c.is_spent.ensures.blank.1 (rw c.deref.ensures blank)) c.if-is_spent.false))
+    rw o at (back_kept (n - 1) c.args.i c.args.table.now c.opened-child.new.table c.opened-child.result.value c.set_all.new.table c.args.change (frames_of c.args.spare.now) (frames_of c.opened-child.new.spare) (frames_of c.set_all.new.spare) opened ready grown c.attach.new.self c.attach.ensures.tree (λ blank. false_true c.is_spent.result (c.is_spent.ensures.blank.1 (rw c.deref.ensures blank)) c.if-is_spent.false))
 
 pub set_slot-returns-else-is_spent-clause-uses : goal.set_slot-returns-else-is_spent-clause-uses
 set_slot-returns-else-is_spent-clause-uses g t c =
@@ -164,7 +164,7 @@ set_slot-returns-else-is_spent-clause-uses g t c =
       spare = rw c.deref_mut.ensures.value at c.set_all.ensures.spare;
       uses = rw c.deref_mut.ensures.value at c.set_all.ensures.uses;
     } in
-    rw o at (back_uses (n - 1) c.args.i c.args.table.now c.opened-child.new.table c.opened-child.result.value c.set_all.new.table c.args.change (frames_of c.args.spare.now) (frames_of c.opened-child.new.spare) (frames_of c.set_all.new.spare) opened ready grown c.attach.new.self c.attach.ensures.tree (λ blank. not_both c.is_spent.result (c.is_spent.ensures.blank.1 (rw c.deref.ensures blank)) c.if-is_spent.false))
+    rw o at (back_uses (n - 1) c.args.i c.args.table.now c.opened-child.new.table c.opened-child.result.value c.set_all.new.table c.args.change (frames_of c.args.spare.now) (frames_of c.opened-child.new.spare) (frames_of c.set_all.new.spare) opened ready grown c.attach.new.self c.attach.ensures.tree (λ blank. false_true c.is_spent.result (c.is_spent.ensures.blank.1 (rw c.deref.ensures blank)) c.if-is_spent.false))
 
 pub set_slot-returns-else-is_spent-clause-freed : goal.set_slot-returns-else-is_spent-clause-freed
 set_slot-returns-else-is_spent-clause-freed g t c f =
@@ -182,7 +182,7 @@ set_slot-returns-else-is_spent-clause-freed g t c f =
       spare = rw c.deref_mut.ensures.value at c.set_all.ensures.spare;
       uses = rw c.deref_mut.ensures.value at c.set_all.ensures.uses;
     } in
-    rw o at (back_freed (n - 1) c.args.i c.args.table.now c.opened-child.new.table c.opened-child.result.value c.set_all.new.table c.args.change (frames_of c.args.spare.now) (frames_of c.opened-child.new.spare) (frames_of c.set_all.new.spare) opened ready grown c.attach.new.self c.attach.ensures.tree (λ blank. not_both c.is_spent.result (c.is_spent.ensures.blank.1 (rw c.deref.ensures blank)) c.if-is_spent.false) f (frames_of c.args.freed.now) (frames_of c.set_all.new.freed) (rw c.deref_mut.ensures.value at (c.set_all.ensures.freed f)))
+    rw o at (back_freed (n - 1) c.args.i c.args.table.now c.opened-child.new.table c.opened-child.result.value c.set_all.new.table c.args.change (frames_of c.args.spare.now) (frames_of c.opened-child.new.spare) (frames_of c.set_all.new.spare) opened ready grown c.attach.new.self c.attach.ensures.tree (λ blank. false_true c.is_spent.result (c.is_spent.ensures.blank.1 (rw c.deref.ensures blank)) c.if-is_spent.false) f (frames_of c.args.freed.now) (frames_of c.set_all.new.freed) (rw c.deref_mut.ensures.value at (c.set_all.ensures.freed f)))
 
 pub set_slot-returns-else-is_spent-clause-tables : goal.set_slot-returns-else-is_spent-clause-tables
 set_slot-returns-else-is_spent-clause-tables g t c =
@@ -200,7 +200,7 @@ set_slot-returns-else-is_spent-clause-tables g t c =
       spare = rw c.deref_mut.ensures.value at c.set_all.ensures.spare;
       uses = rw c.deref_mut.ensures.value at c.set_all.ensures.uses;
     } in
-    rw o at (back_tables (n - 1) c.args.i c.args.table.now c.opened-child.new.table c.opened-child.result.value c.set_all.new.table c.args.change (frames_of c.args.spare.now) (frames_of c.opened-child.new.spare) (frames_of c.set_all.new.spare) opened ready grown c.attach.new.self c.attach.ensures.tree (λ blank. not_both c.is_spent.result (c.is_spent.ensures.blank.1 (rw c.deref.ensures blank)) c.if-is_spent.false) (length (frames_of c.args.freed.now)) (length (frames_of c.set_all.new.freed)) (rw c.deref_mut.ensures.value at c.set_all.ensures.tables))
+    rw o at (back_tables (n - 1) c.args.i c.args.table.now c.opened-child.new.table c.opened-child.result.value c.set_all.new.table c.args.change (frames_of c.args.spare.now) (frames_of c.opened-child.new.spare) (frames_of c.set_all.new.spare) opened ready grown c.attach.new.self c.attach.ensures.tree (λ blank. false_true c.is_spent.result (c.is_spent.ensures.blank.1 (rw c.deref.ensures blank)) c.if-is_spent.false) (length (frames_of c.args.freed.now)) (length (frames_of c.set_all.new.freed)) (rw c.deref_mut.ensures.value at c.set_all.ensures.tables))
 
 pub set_slot-returns-else-is_spent-clause-reads : goal.set_slot-returns-else-is_spent-clause-reads
 set_slot-returns-else-is_spent-clause-reads g t c =

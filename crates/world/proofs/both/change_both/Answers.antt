@@ -4,8 +4,10 @@ use Rattle.std.proofs.lemmas.List.{drop-drop}
 use Rattle.table_tree.specs.Stocks.{frames_of}
 use Rattle.table_tree.specs.Tables.{frame_count}
 use Rattle.table_tree.specs.View.{uses, tables_of}
+use Rattle.table_tree.proofs.Sums.{count_parts, tree_some}
+use Rattle.walk_plan.proofs.Given.{take_drop_length}
 use Rattle.world.specs.View.{need_for, tree_after, back_from}
-use Rattle.world.proofs.Pools.{count_parts, length_parts, given_both, tree_some}
+use Rattle.world.proofs.Pools.{given_both}
 use Rattle.world.proofs.Changes.{after_take}
 use Rattle.world.proofs.both.change_both.Goals as goal
 
@@ -41,7 +43,7 @@ commit-requires-clause-covered g c =
     let z = ap length l in
     let u = ap tables_of host in
     let v = ap tables_of hyp in
-    omega (arith, x, z, u, length_parts n p, length_parts m (drop n p), c.requires.apart.1, tree_some c.args.hyp.now.tree, c.in_ok-host_spare.ensures.room)
+    omega (arith, x, z, u, take_drop_length n p, take_drop_length m (drop n p), c.requires.apart.1, tree_some c.args.hyp.now.tree, c.in_ok-host_spare.ensures.room)
 
 pub commit-requires-2-clause-distinct : goal.commit-requires-2-clause-distinct
 commit-requires-2-clause-distinct g c f =
@@ -75,7 +77,7 @@ commit-requires-2-clause-covered g c =
     let z = ap length l in
     let u = ap tables_of host in
     let v = ap tables_of hyp in
-    omega (arith, x, y, z, u, v, length_parts n p, length_parts m (drop n p), c.requires.apart.1, tree_some c.commit.new.self.tree, c.commit.ensures.tables, c.commit.ensures.pool_room, c.in_ok-host_spare.ensures.room)
+    omega (arith, x, y, z, u, v, take_drop_length n p, take_drop_length m (drop n p), c.requires.apart.1, tree_some c.commit.new.self.tree, c.commit.ensures.tables, c.commit.ensures.pool_room, c.in_ok-host_spare.ensures.room)
 
 pub returns-clause-host : goal.returns-clause-host
 returns-clause-host g c =
@@ -149,7 +151,7 @@ apart_room g c =
     let z = ap length l in
     let u = ap tables_of host in
     let v = ap tables_of hyp in
-    omega (arith, x, y, z, u, v, length_parts n p, length_parts m (drop n p), c.requires.apart.1, c.commit.ensures.tables, c.commit-2.ensures.tables, c.commit.ensures.pool_room, c.commit-2.ensures.pool_room, c.in_ok-host_spare.ensures.room)
+    omega (arith, x, y, z, u, v, take_drop_length n p, take_drop_length m (drop n p), c.requires.apart.1, c.commit.ensures.tables, c.commit-2.ensures.tables, c.commit.ensures.pool_room, c.commit-2.ensures.pool_room, c.in_ok-host_spare.ensures.room)
 
 pub returns-clause-apart : goal.returns-clause-apart
 returns-clause-apart g c = (

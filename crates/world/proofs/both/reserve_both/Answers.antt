@@ -1,9 +1,11 @@
 use Rattle.std.proofs.Common.{◌≡◌, ap, ◌∙◌, arith, length, take, drop}
 use Rattle.page_state.specs.Tables.{all_given}
+use Rattle.hyp_pool.proofs.Pools.{same_pool}
 use Rattle.table_tree.specs.Stocks.{frames_of}
 use Rattle.table_tree.specs.Tables.{frame_count}
+use Rattle.table_tree.proofs.Sums.{count_parts}
+use Rattle.walk_plan.proofs.Given.{take_drop_length}
 use Rattle.world.specs.View.{need_for}
-use Rattle.world.proofs.Pools.{count_parts, length_parts, same_pool}
 use Rattle.world.proofs.both.reserve_both.Goals as goal
 
 pub release-requires-clause-distinct : goal.release-requires-clause-distinct
@@ -20,7 +22,7 @@ release-requires-clause-covered g c =
     let n = need_for c.args.host.now.tree c.args.host_edit.now in
     let a : length (frames_of c.in_ok-host_spare.host_spare.stock) ≡ length (take n p) = ap length (rw c.tree.ensures at c.in_ok-host_spare.ensures.spare) in
     let b : length c.reserve-2.new.pool.frames ≡ length (drop n p) = ap (λ q. length q.frames) c.in-Err.ensures.err ∙ ap length (rw c.tree.ensures at c.in_ok-host_spare.ensures.pool) in
-    omega (arith, a, b, length_parts n p, c.requires.pool.covered, c.reserve.ensures.room, c.reserve-2.ensures.room)
+    omega (arith, a, b, take_drop_length n p, c.requires.pool.covered, c.reserve.ensures.room, c.reserve-2.ensures.room)
 
 pub returns-in-Err-clause-err : goal.returns-in-Err-clause-err
 returns-in-Err-clause-err g c =
