@@ -12,11 +12,12 @@ use Rattle.page_state.specs.EntryTests.{entry_eq}
 use Rattle.page_state.specs.Map.{is_within}
 use Rattle.page_state.specs.Runs.{map_of, entry_on, end_of, IsCoarsest, Precedes, PrecedesFirst}
 use Rattle.page_state.proofs.Cases.{by_test}
-use Rattle.page_state.proofs.Common.{eq-same}
+use Rattle.page_state.proofs.Common.{eq-same, and-left, and-right}
 use Rattle.page_state.proofs.Entries.{advance-more, entry_eq-same, entry_eq-self}
+use Rattle.page_state.proofs.Updates.{below_test, above_test}
 use Rattle.ghost_spec.specs.Small.{HasLowFrames, IsSmall, AreSmall}
 use Rattle.ghost_spec.specs.Joins.{continues, longer, joined, HasNoBound}
-use Rattle.ghost_spec.proofs.Entries.{low_fewer, low_behind, low_before, left, right, some_target}
+use Rattle.ghost_spec.proofs.Entries.{low_fewer, low_behind, low_before, some_target}
 use Rattle.ghost_spec.proofs.Overlaid.{within_means}
 
 pub head_of : (P : Run → Type 0) (r : Run) (rs : List Run) → All P (r ∷ rs) → P r
@@ -57,19 +58,16 @@ small_between (r ∷ rs) low high t s b h e =
     (λ w. let f : target_of (map_of rs low) ≡ Some t = rw w at e in
     rw w (small_between rs low high t (rest_of IsSmall r rs s) (rest_of (HasNoBound low high) r rs b) h f))
 
-no_page_above : (a c p : ℕ) → a + c ≤ p → is_within a c p ≡ false
-no_page_above a c p h = grind (arith, nat_tests)
-
 pub map_above : (rs : List Run) (p : ℕ) → AreSmall rs → 2 ^ 63 ≤ p → map_of rs p ≡ Unmapped
 map_above [] p s h = refl
 map_above (r ∷ rs) p s h =
     let small : IsSmall r = head_of IsSmall r rs s in
-    rw (no_page_above r.pages.first.0 r.pages.count p (omega (arith, small.0))) (map_above rs p (rest_of IsSmall r rs s) h)
+    rw (above_test r.pages.first.0 r.pages.count p (omega (arith, small.0))) (map_above rs p (rest_of IsSmall r rs s) h)
 
 -- a run in front of a list
 
 pub continues_page : (r n : Run) → continues r n ≡ true → end_of r ≡ n.pages.first.0
-continues_page r n h = eq-same (end_of r) n.pages.first.0 (left (end_of r == n.pages.first.0) (entry_eq (entry_on r (end_of r)) (entry_of_target n.target)) h)
+continues_page r n h = eq-same (end_of r) n.pages.first.0 (and-left (end_of r == n.pages.first.0) (entry_eq (entry_on r (end_of r)) (entry_of_target n.target)) h)
 
 from_first : (r : Run) → end_of r - r.pages.first.0 ≡ r.pages.count
 from_first r = omega arith
@@ -77,7 +75,7 @@ from_first r = omega arith
 pub continues_entry : (r n : Run) → continues r n ≡ true → advance (entry_of_target r.target) r.pages.count ≡ entry_of_target n.target
 continues_entry r n h =
     ap (advance (entry_of_target r.target)) (sym (from_first r))
-    ∙ entry_eq-same (entry_on r (end_of r)) (entry_of_target n.target) (right (end_of r == n.pages.first.0) (entry_eq (entry_on r (end_of r)) (entry_of_target n.target)) h)
+    ∙ entry_eq-same (entry_on r (end_of r)) (entry_of_target n.target) (and-right (end_of r == n.pages.first.0) (entry_eq (entry_on r (end_of r)) (entry_of_target n.target)) h)
 
 does_continue : (r n : Run) → end_of r ≡ n.pages.first.0 → entry_on r (end_of r) ≡ entry_of_target n.target → continues r n ≡ true
 does_continue r n e f =
@@ -140,13 +138,10 @@ begins_next : (r : Run) (rs : List Run) → PrecedesFirst r rs → BeginsFrom (e
 begins_next r [] p = tt
 begins_next r (n ∷ rs) p = p.before
 
-no_page_below : (a c p : ℕ) → p < a → is_within a c p ≡ false
-no_page_below a c p h = grind (arith, nat_tests)
-
 pub map_below : (low p : ℕ) (rs : List Run) → IsCoarsest rs → BeginsFrom low rs → p < low → map_of rs p ≡ Unmapped
 map_below low p [] c b h = refl
 map_below low p (r ∷ rs) c b h =
-    rw (no_page_below r.pages.first.0 r.pages.count p (omega arith)) (map_below (end_of r) p rs c.2 (begins_next r rs c.1) (omega arith))
+    rw (below_test r.pages.first.0 r.pages.count p (omega arith)) (map_below (end_of r) p rs c.2 (begins_next r rs c.1) (omega arith))
 
 precedes : (r n : Run) → end_of r ≤ n.pages.first.0 → continues r n ≡ false → Precedes r n
 precedes r n h f = record {

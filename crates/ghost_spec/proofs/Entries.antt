@@ -13,28 +13,14 @@ use Rattle.descriptor.specs.declared.State.{State}
 use Rattle.descriptor.specs.declared.State.TheVariants.{Owned, SharedOwned, SharedBorrowed}
 use Rattle.page_state.specs.declared.entry.Target.{Target}
 use Rattle.page_state.specs.declared.entry.Target.TheVariants.{Malformed, Annotated, Leaf}
-use Rattle.page_state.specs.Entries.{advance, entry_of_target, entry_of, target_of}
+use Rattle.page_state.specs.Entries.{advance, entry_of_target, entry_of, target_of, advance_target}
 use Rattle.page_state.specs.EntryTests.{entry_eq, prot_eq, kind_eq, state_eq}
 use Rattle.page_state.proofs.Common.{eq-self, eq-same}
 use Rattle.page_state.proofs.Entries.{entry_of-target_of}
-use Rattle.ghost_spec.specs.Parts.{advance_target}
 use Rattle.ghost_spec.specs.Small.{HasLowFrames}
-
-pub entry_advanced : (t : Target) (n : ℕ) → entry_of_target (advance_target t n) ≡ advance (entry_of_target t) n
-entry_advanced Malformed n = refl
-entry_advanced (Annotated o) n = refl
-entry_advanced (Leaf f p k s) n = refl
 
 frame_more : (f : Frame) (p : Prot) (k : Kind) (s : State) (m n : ℕ) → m ≡ n → LeafEntry (record { 0 = m }) p k s ≡ LeafEntry (record { 0 = n }) p k s
 frame_more f p k s m n e = let wrap : ℕ → Entry = λ a. LeafEntry (record { 0 = a }) p k s in ap wrap e
-
-pub left : (a b : Bool) → (a && b) ≡ true → a ≡ true
-left true b h = refl
-left false b h = h
-
-pub right : (a b : Bool) → (a && b) ≡ true → b ≡ true
-right true b h = h
-right false b h = cc
 
 pub some_target : (e : Entry) (t : Target) → target_of e ≡ Some t → entry_of_target t ≡ e
 some_target e t h = sym (ap entry_of h) ∙ entry_of-target_of e

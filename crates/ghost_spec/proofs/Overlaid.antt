@@ -15,10 +15,10 @@ use Rattle.page_state.specs.Map.{update, is_within}
 use Rattle.page_state.specs.Regions.{is_in_range}
 use Rattle.page_state.specs.Runs.{map_of, entry_on}
 use Rattle.page_state.proofs.Cases.{by_test}
-use Rattle.page_state.proofs.Entries.{advance-more}
+use Rattle.page_state.proofs.Entries.{advance-more, entry_advanced}
 use Rattle.ghost_spec.specs.Small.{HasLowFrames, IsSmall, AreSmall}
 use Rattle.ghost_spec.specs.Parts.{run_behind, run_before, run_from, alone, parts_outside, run_of}
-use Rattle.ghost_spec.proofs.Entries.{entry_advanced, low_fewer, low_behind}
+use Rattle.ghost_spec.proofs.Entries.{low_fewer, low_behind}
 
 -- the map of a list of runs where another entry stands below them
 abbrev pub over : List Run → Entry → ℕ → Entry

@@ -5,11 +5,10 @@ use Rattle.page_state.specs.State.{Block, Pool}
 use Rattle.page_state.specs.Blocks.{block_eq}
 use Rattle.page_state.specs.Tables.{placed, cleared, given, all_given}
 use Rattle.page_state.proofs.Cases.{by_test}
-use Rattle.page_state.proofs.Common.{eq-same}
+use Rattle.page_state.proofs.Common.{eq-same, and-left, and-right}
 use Rattle.page_state.proofs.Frames.{block_eq-same}
 use Rattle.ghost_spec.specs.declared.tree.Table.{Table}
 use Rattle.ghost_spec.specs.Trees.{table_of, tables_with, has_block}
-use Rattle.ghost_spec.proofs.Entries.{left, right}
 
 no_frames : (bs : List Block) → tables_with bs [] ≡ []
 no_frames [] = refl

@@ -4,15 +4,8 @@ use Rattle.page_state.specs.declared.entry.Entry.{Entry}
 use Rattle.page_state.specs.declared.entry.PageRange.{PageRange}
 use Rattle.page_state.specs.declared.entry.Run.{Run}
 use Rattle.page_state.specs.declared.entry.Target.{Target}
-use Rattle.page_state.specs.declared.entry.Target.TheVariants.{Malformed, Annotated, Leaf}
-use Rattle.page_state.specs.Entries.{target_of}
+use Rattle.page_state.specs.Entries.{target_of, advance_target}
 use Rattle.page_state.specs.Regions.{end_of}
-
--- the target some pages further on in a run
-abbrev pub advance_target : Target → ℕ → Target
-advance_target Malformed offset = Malformed
-advance_target (Annotated owner) offset = Annotated owner
-advance_target (Leaf frame prot kind state) offset = Leaf (record { 0 = frame.0 + offset }) prot kind state
 
 -- a run without its first pages
 abbrev pub run_behind : Run → ℕ → Run

@@ -6,7 +6,9 @@ use Rattle.std.proofs.lemmas.Bool.Decides.{nat_tests}
 use Rattle.std.proofs.lemmas.List.Sums.{sum_by-cons}
 use Rattle.page_state.specs.State.{Pool}
 use Rattle.page_state.specs.Tables.{given}
-use Rattle.hyp_pool.specs.Laws.{count_of, GivenSwap, GivenLength, GivenCount, GivenContains}
+use Rattle.page_state.specs.Counts.{frame_count}
+use Rattle.page_state.proofs.Counts.{count_next}
+use Rattle.hyp_pool.specs.Laws.{GivenSwap, GivenLength, GivenCount, GivenContains}
 
 -- a frame below the first goes to the front
 pub given-front : (f g : ℕ) (p : Pool) → f < g → given f (g ∷ p) ≡ f ∷ (g ∷ p)
@@ -65,15 +67,11 @@ given_length f (g ∷ gs) = elim (cases_lt f g) [
   | inr h ↦ rw (given-behind f g gs h) (omega (arith, given_length f gs))
 ]
 
--- a frame in front of a list counts for itself
-pub count_cons : (f g : ℕ) (fs : List ℕ) → count_of f (g ∷ fs) ≡ (if g == f then 1 else 0) + count_of f fs
-count_cons f g fs = sum_by-cons (λ h. if h == f then 1 else 0) g fs
-
 pub given_count : GivenCount
 given_count f g [] = refl
 given_count f g (x ∷ xs) = elim (cases_lt f x) [
   | inl h ↦ rw (given-front f x xs h) refl
-  | inr h ↦ rw (given-behind f x xs h) (omega (arith, given_count f g xs, count_cons g x (given f xs), count_cons g f (x ∷ xs), count_cons g x xs, count_cons g f xs))
+  | inr h ↦ rw (given-behind f x xs h) (omega (arith, given_count f g xs, count_next g x (given f xs), count_next g f (x ∷ xs), count_next g x xs, count_next g f xs))
 ]
 
 -- a list contains its first element, and what the rest contains

@@ -1,12 +1,9 @@
 -- Laws of giving frames to a pool, each proved on the contract of a function of `laws`.
-use Rattle.std.specs.Prelude.{◌≡◌, ℕ, ◌+◌, ◌<◌, ◌≤◌, ◌==◌, ◌⊎◌, ◌↔◌, List, ◌∷◌, ◌++◌, length, take, drop, sum_by, Contains, if◌then◌else◌}
+use Rattle.std.specs.Prelude.{◌≡◌, ℕ, ◌+◌, ◌<◌, ◌≤◌, ◌⊎◌, ◌↔◌, List, ◌∷◌, ◌++◌, length, take, drop, Contains}
 use Rattle.std.specs.List.Sorted.{IsStrictlyIncreasing}
+use Rattle.page_state.specs.Counts.{frame_count}
 use Rattle.page_state.specs.State.{Pool}
 use Rattle.page_state.specs.Tables.{given, all_given}
-
--- how often a frame stands in a list
-abbrev pub count_of : ℕ → List ℕ → ℕ
-count_of f fs = sum_by (λ g. if g == f then 1 else 0) fs
 
 -- two frames can be given in either order
 abbrev pub GivenSwap : Type 0
@@ -14,7 +11,7 @@ GivenSwap = (f g : ℕ) (p : Pool) → given f (given g p) ≡ given g (given f 
 
 -- lists that have each frame equally often make one pool
 abbrev pub GivenCounted : Type 0
-GivenCounted = (fs gs : List ℕ) (p : Pool) → ((f : ℕ) → count_of f fs ≡ count_of f gs) → all_given fs p ≡ all_given gs p
+GivenCounted = (fs gs : List ℕ) (p : Pool) → ((f : ℕ) → frame_count f fs ≡ frame_count f gs) → all_given fs p ≡ all_given gs p
 
 -- two lists one after the other: the second is given first
 abbrev pub GivenAppend : Type 0
@@ -30,7 +27,7 @@ GivenLength = (f : ℕ) (p : Pool) → length (given f p) ≡ length p + 1
 
 -- the frame is there once more, and each other as often as before
 abbrev pub GivenCount : Type 0
-GivenCount = (f g : ℕ) (p : Pool) → count_of g (given f p) ≡ count_of g (f ∷ p)
+GivenCount = (f g : ℕ) (p : Pool) → frame_count g (given f p) ≡ frame_count g (f ∷ p)
 
 -- and many frames are as many more
 abbrev pub AllGivenLength : Type 0
@@ -38,7 +35,7 @@ AllGivenLength = (fs : List ℕ) (p : Pool) → length (all_given fs p) ≡ leng
 
 -- each of them as often as in both together
 abbrev pub AllGivenCount : Type 0
-AllGivenCount = (f : ℕ) (fs : List ℕ) (p : Pool) → count_of f (all_given fs p) ≡ count_of f fs + count_of f p
+AllGivenCount = (f : ℕ) (fs : List ℕ) (p : Pool) → frame_count f (all_given fs p) ≡ frame_count f fs + frame_count f p
 
 -- the frames of the pool are those from before and the given one
 abbrev pub GivenContains : Type 0
@@ -46,8 +43,8 @@ GivenContains = (f g : ℕ) (p : Pool) → Contains (given f p) g ↔ ((f ≡ g)
 
 -- a frame stands in a list where its count isn't 0
 abbrev pub CountContains : Type 0
-CountContains = (f : ℕ) (fs : List ℕ) → Contains fs f ↔ (0 < count_of f fs)
+CountContains = (f : ℕ) (fs : List ℕ) → Contains fs f ↔ (0 < frame_count f fs)
 
 -- in a pool each frame stands once at most
 abbrev pub CountOnce : Type 0
-CountOnce = (f : ℕ) (p : Pool) → IsStrictlyIncreasing p → count_of f p ≤ 1
+CountOnce = (f : ℕ) (p : Pool) → IsStrictlyIncreasing p → frame_count f p ≤ 1

@@ -1,10 +1,10 @@
 -- The first rows that are one run.
 use Rattle.std.proofs.Common.{◌≡◌, ℕ, zero, suc, ◌+◌, ◌<◌, ◌≤◌, true, List, [], ◌∷◌, length, drop, get_or, refl, arith}
 use Rattle.page_state.specs.declared.entry.Run.{Run}
+use Rattle.page_state.proofs.Cases.{by_test}
 use Rattle.maplets.specs.declared.PageTarget.{PageTarget}
 use Rattle.maplets.specs.Rows.{joined, runs_of, grown, run_of, follows}
 use Rattle.maplets.specs.Chains.{Continues, IsOneRun}
-use Rattle.maplets.proofs.Joins.{both}
 
 -- the run of the first `n` rows
 abbrev pub first_run : ℕ → PageTarget → Run
@@ -13,14 +13,14 @@ first_run n r = record { pages = record { first = record { 0 = r.page }; count =
 -- the runs of rows begin with the first row
 head_run : (r : PageTarget) (xs : List Run) → (x : Run) × (ys : List Run) × (joined r xs ≡ x ∷ ys) × (x.pages.first.0 ≡ r.page) × (x.target ≡ r.target)
 head_run r [] = (run_of r, [], refl, refl, refl)
-head_run r (x ∷ xs) = both (follows r x.pages.first.0 x.target)
+head_run r (x ∷ xs) = by_test (follows r x.pages.first.0 x.target)
     (λ h. (grown r x, xs, rw h refl, refl, refl))
     (λ h. (run_of r, x ∷ xs, rw h refl, refl, refl))
 
 alone : (r x : PageTarget) (xs : List Run) → (follows r x.page x.target ≡ true → ⊥) → joined r (joined x xs) ≡ run_of r ∷ joined x xs
 alone r x xs h =
     let p = head_run x xs in
-    both (follows r x.page x.target) (λ t. absurd (h t)) (λ f. rw p.2 (rw (p.3, p.4, f) refl))
+    by_test (follows r x.page x.target) (λ t. absurd (h t)) (λ f. rw p.2 (rw (p.3, p.4, f) refl))
 
 pub one_run : (n : ℕ) (r : PageTarget) (rows : List PageTarget) → n ≤ length rows → IsOneRun (suc n) (r ∷ rows) → runs_of (r ∷ rows) ≡ first_run (suc n) r ∷ runs_of (drop n rows)
 unfolding runs_of

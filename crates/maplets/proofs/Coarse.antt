@@ -4,9 +4,10 @@ use Rattle.page_state.specs.declared.entry.Run.{Run}
 use Rattle.page_state.specs.Entries.{advance, entry_of_target}
 use Rattle.page_state.proofs.Entries.{advance-more}
 use Rattle.page_state.specs.Runs.{IsCoarsest, Precedes, PrecedesFirst, entry_on, end_of}
+use Rattle.page_state.proofs.Cases.{by_test}
 use Rattle.maplets.specs.declared.PageTarget.{PageTarget}
 use Rattle.maplets.specs.Rows.{IsSortedFrom, joined, runs_of, grown, run_of, follows}
-use Rattle.maplets.proofs.Joins.{both, follows_page, follows_entry, follows_found}
+use Rattle.maplets.proofs.Joins.{follows_page, follows_entry, follows_found}
 
 -- the first run begins at the page or later
 abbrev pub BeginsFrom : ℕ → List Run → Type 0
@@ -15,7 +16,7 @@ BeginsFrom low (x ∷ xs) = low ≤ x.pages.first.0
 
 joined_begins : (low : ℕ) (r : PageTarget) (xs : List Run) → low ≤ r.page → BeginsFrom low (joined r xs)
 joined_begins low r [] h = h
-joined_begins low r (x ∷ xs) h = both (follows r x.pages.first.0 x.target) (λ f. rw f h) (λ f. rw f h)
+joined_begins low r (x ∷ xs) h = by_test (follows r x.pages.first.0 x.target) (λ f. rw f h) (λ f. rw f h)
 
 runs_begin : (low : ℕ) (rows : List PageTarget) → IsSortedFrom low rows → BeginsFrom low (runs_of rows)
 unfolding runs_of
@@ -44,7 +45,7 @@ grown_first r x (n ∷ xs) h p = grown_precedes r x n h p
 
 joined_coarsest : (r : PageTarget) (xs : List Run) → BeginsFrom (r.page + 1) xs → IsCoarsest xs → IsCoarsest (joined r xs)
 joined_coarsest r [] b c = (omega arith, tt, tt)
-joined_coarsest r (x ∷ xs) b c = both (follows r x.pages.first.0 x.target)
+joined_coarsest r (x ∷ xs) b c = by_test (follows r x.pages.first.0 x.target)
     (λ h. rw h (omega arith, grown_first r x xs h c.1, c.2))
     (λ h. rw h (omega arith, run_precedes r x b h, c))
 

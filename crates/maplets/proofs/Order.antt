@@ -6,11 +6,14 @@ use Rattle.page_state.specs.declared.entry.Target.{Target}
 use Rattle.page_state.specs.declared.entry.Target.TheVariants.{Malformed, Annotated, Leaf}
 use Rattle.maplets.specs.declared.PageTarget.{PageTarget}
 use Rattle.maplets.specs.Rows.{target_at, IsSortedFrom, AreBelow, rows_of, row_of}
-use Rattle.maplets.specs.Targets.{advance_target, HasFrameBelow}
-use Rattle.maplets.proofs.Joins.{by_eq, eq_true, eq_false, entry_advanced}
+use Rattle.maplets.specs.Targets.{HasFrameBelow}
 use Rattle.page_state.specs.declared.entry.Entry.TheVariants.{Unmapped}
-use Rattle.page_state.specs.Entries.{entry_of, entry_of_target}
+use Rattle.page_state.specs.Entries.{entry_of, entry_of_target, advance_target}
 use Rattle.page_state.specs.Map.{is_within, update}
+use Rattle.page_state.proofs.Updates.{within_test, below_test, above_test}
+use Rattle.page_state.proofs.Entries.{entry_advanced}
+use Rattle.page_state.proofs.Cases.{by_eq, by_lt}
+use Rattle.page_state.proofs.Common.{eq-made, eq-other}
 use Rattle.std.proofs.lemmas.List.{take-append-drop}
 use native.Mathlib.Decide.{dec_le}
 use mathlib.Core.Logic.{dite}
@@ -39,17 +42,17 @@ below_more m n (x ∷ xs) h a = (omega (arith, a.0), below_more m n xs h a.1)
 -- what rows below or from a page on give
 pub none_below : (m p : ℕ) (xs : List PageTarget) → m ≤ p → AreBelow m xs → target_at xs p ≡ None
 none_below m p [] h a = refl
-none_below m p (x ∷ xs) h a = rw (eq_false x.page p (λ e. omega (arith, a.0))) (none_below m p xs h a.1)
+none_below m p (x ∷ xs) h a = rw (eq-other x.page p (λ e. omega (arith, a.0))) (none_below m p xs h a.1)
 
 pub none_above : (n p : ℕ) (xs : List PageTarget) → p < n → IsSortedFrom n xs → target_at xs p ≡ None
 none_above n p [] h s = refl
-none_above n p (x ∷ xs) h s = rw (eq_false x.page p (λ e. omega (arith, s.0))) (none_above (x.page + 1) p xs (omega (arith, s.0)) s.3)
+none_above n p (x ∷ xs) h s = rw (eq-other x.page p (λ e. omega (arith, s.0))) (none_above (x.page + 1) p xs (omega (arith, s.0)) s.3)
 
 pub append_right : (xs ys : List PageTarget) (p : ℕ) → target_at xs p ≡ None → target_at (xs ++ ys) p ≡ target_at ys p
 append_right [] ys p h = refl
 append_right (x ∷ xs) ys p h = by_eq x.page p
-    (λ e. let k : Some x.target ≡ None = rw (eq_true x.page p e) at h in cc)
-    (λ n. let k : target_at xs p ≡ None = rw (eq_false x.page p n) at h in rw (eq_false x.page p n) (append_right xs ys p k))
+    (λ e. let k : Some x.target ≡ None = rw (eq-made x.page p e) at h in cc)
+    (λ n. let k : target_at xs p ≡ None = rw (eq-other x.page p n) at h in rw (eq-other x.page p n) (append_right xs ys p k))
 
 pub append_left : (xs ys : List PageTarget) (p : ℕ) → target_at ys p ≡ None → target_at (xs ++ ys) p ≡ target_at xs p
 append_left [] ys p h = h
@@ -81,20 +84,20 @@ rows_sorted first (suc n) t h f =
 pub rows_give : (first n i : ℕ) (t : Target) → i < n → target_at (rows_of first t n) (first + i) ≡ Some (advance_target t i)
 rows_give first zero i t h = absurd (omega arith)
 rows_give first (suc n) i t h = by_eq i n
-    (λ e. append_right (rows_of first t n) (row_of first t n ∷ []) (first + i) (none_below (first + n) (first + i) (rows_of first t n) (omega arith) (rows_below first n t)) ∙ rw (e, eq_true (first + n) (first + n) refl) refl)
-    (λ ne. append_left (rows_of first t n) (row_of first t n ∷ []) (first + i) (rw (eq_false (first + n) (first + i) (λ e. ne (omega arith))) refl) ∙ rows_give first n i t (omega arith))
+    (λ e. append_right (rows_of first t n) (row_of first t n ∷ []) (first + i) (none_below (first + n) (first + i) (rows_of first t n) (omega arith) (rows_below first n t)) ∙ rw (e, eq-made (first + n) (first + n) refl) refl)
+    (λ ne. append_left (rows_of first t n) (row_of first t n ∷ []) (first + i) (rw (eq-other (first + n) (first + i) (λ e. ne (omega arith))) refl) ∙ rows_give first n i t (omega arith))
 
 -- what a place in sorted rows says of a page
 
 pub found : (i p : ℕ) (rows : List PageTarget) (d : PageTarget) → AreBelow p (take i rows) → i < length rows → (get_or rows i d).page ≡ p → target_at rows p ≡ Some (get_or rows i d).target
 found i p [] d a h e = absurd (omega arith)
-found zero p (r ∷ rs) d a h e = rw (eq_true r.page p e) refl
-found (suc i) p (r ∷ rs) d a h e = rw (eq_false r.page p (λ z. omega (arith, a.0))) (found i p rs d a.1 (omega arith) e)
+found zero p (r ∷ rs) d a h e = rw (eq-made r.page p e) refl
+found (suc i) p (r ∷ rs) d a h e = rw (eq-other r.page p (λ z. omega (arith, a.0))) (found i p rs d a.1 (omega arith) e)
 
 pub not_found : (i p : ℕ) (rows : List PageTarget) (d : PageTarget) → AreBelow p (take i rows) → IsSortedFrom p (drop i rows) → (i < length rows → (get_or rows i d).page ≡ p → ⊥) → target_at rows p ≡ None
 not_found i p [] d a s n = refl
-not_found zero p (r ∷ rs) d a s n = let k = n (omega arith) in rw (eq_false r.page p k) (none_above (r.page + 1) p rs (omega (arith, s.0)) s.3)
-not_found (suc i) p (r ∷ rs) d a s n = rw (eq_false r.page p (λ z. omega (arith, a.0))) (not_found i p rs d a.1 s (λ h. n (omega arith)))
+not_found zero p (r ∷ rs) d a s n = let k = n (omega arith) in rw (eq-other r.page p k) (none_above (r.page + 1) p rs (omega (arith, s.0)) s.3)
+not_found (suc i) p (r ∷ rs) d a s n = rw (eq-other r.page p (λ z. omega (arith, a.0))) (not_found i p rs d a.1 s (λ h. n (omega arith)))
 
 -- a run put in row by row
 
@@ -110,18 +113,6 @@ insert_more ts ds xs first i at t e f =
     rw (g, take_at (ts ++ rows_of first t i) ds (at + i) n, drop_at (ts ++ rows_of first t i) ds (at + i) n, add-one) (simp append_assoc)
 
 -- the map of rows with a range replaced
-
-by_lt : {P : Type 0} (a b : ℕ) → (a < b → P) → (b ≤ a → P) → P
-by_lt a b f g = dite (dec_le (suc a) b) (λ h. f (omega arith)) (λ h. g (omega arith))
-
-outside_low : (first count p : ℕ) → p < first → is_within first count p ≡ false
-outside_low first count p h = grind (arith, nat_tests)
-
-outside_high : (first count p : ℕ) → first + count ≤ p → is_within first count p ≡ false
-outside_high first count p h = grind (arith, nat_tests)
-
-inside : (first count p : ℕ) → first ≤ p → p < first + count → is_within first count p ≡ true
-inside first count p h k = grind (arith, nat_tests)
 
 -- the parts of rows round a range: those below it, those at it or after it, and so at its end
 pub record IsRoundRange (first count from to : ℕ) (rows : List PageTarget) : Type 0 where
@@ -166,23 +157,23 @@ module _ (first count from to : ℕ) (rows : List PageTarget) (round : IsRoundRa
       let s = rows_sorted first count t h f in
       let e = rows_below first count t in
       by_lt p first
-      (λ low. rw (outside_low first count p low) (ap entry_of (new_low (rows_of first t count) s e p low)))
+      (λ low. rw (below_test first count p low) (ap entry_of (new_low (rows_of first t count) s e p low)))
       (λ from_on. by_lt p (first + count)
-      (λ k. rw (inside first count p from_on k)
+      (λ k. rw (within_test first count p from_on k)
       (ap entry_of (new_inside (rows_of first t count) s e p from_on k
       ∙ let at : first + (p - first) ≡ p = omega arith in
       let g : target_at (rows_of first t count) (first + (p - first)) ≡ Some (advance_target t (p - first)) = rows_give first count (p - first) t (omega arith) in
       rw at at g) ∙ entry_advanced t (p - first)))
-      (λ k. rw (outside_high first count p k) (ap entry_of (new_high (rows_of first t count) s e p k))))
+      (λ k. rw (above_test first count p k) (ap entry_of (new_high (rows_of first t count) s e p k))))
 
   -- no rows in a range: the update of the map by Unmapped
   pub taken_map : (p : ℕ) → entry_of (target_at (take from rows ++ drop to rows) p) ≡ update (λ q. entry_of (target_at rows q)) first count Unmapped p
   taken_map p =
       by_lt p first
-      (λ low. rw (outside_low first count p low) (ap entry_of (new_low [] tt tt p low)))
+      (λ low. rw (below_test first count p low) (ap entry_of (new_low [] tt tt p low)))
       (λ from_on. by_lt p (first + count)
-      (λ k. rw (inside first count p from_on k) (ap entry_of (new_inside [] tt tt p from_on k)))
-      (λ k. rw (outside_high first count p k) (ap entry_of (new_high [] tt tt p k))))
+      (λ k. rw (within_test first count p from_on k) (ap entry_of (new_inside [] tt tt p from_on k)))
+      (λ k. rw (above_test first count p k) (ap entry_of (new_high [] tt tt p k))))
 
 -- a lower page's place isn't behind a higher one's
 pub places_order : (i j a b : ℕ) (rows : List PageTarget) → i ≤ length rows → a ≤ b → AreBelow a (take i rows) → IsSortedFrom b (drop j rows) → i ≤ j

@@ -2,8 +2,8 @@
 use Rattle.std.specs.Prelude.{ℕ, zero, suc, ◌+◌, ◌^◌, ◌<◌, ◌≤◌, Bool, ◌&&◌, ◌==◌, List, [], ◌∷◌, ◌++◌, Option, Some, None, if◌then◌else◌}
 use Rattle.page_state.specs.declared.entry.Run.{Run}
 use Rattle.page_state.specs.declared.entry.Target.{Target}
-use Rattle.page_state.specs.Entries.{entry_of_target}
-use Rattle.maplets.specs.Targets.{advance_target, HasFrameBelow}
+use Rattle.page_state.specs.Entries.{entry_of_target, advance_target}
+use Rattle.maplets.specs.Targets.{HasFrameBelow}
 use Rattle.page_state.specs.EntryTests.{entry_eq}
 use Rattle.maplets.specs.declared.PageTarget.{PageTarget}
 

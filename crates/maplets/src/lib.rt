@@ -6,11 +6,11 @@ mod runs;
 ghost use Rattle.std.specs.Prelude.{◌≡◌, ◌+◌, ◌^◌, ◌<◌, ◌≤◌, [], ◌++◌, IsOk, IsSome, OnOk, OnErr, length, take, drop, vec_len};
 ghost use Rattle.std.specs.Vec.{vec_capacity};
 ghost use Rattle.std.specs.Option.{ForSome};
-ghost use Rattle.page_state.specs.Entries.{entry_of, entry_of_target};
+ghost use Rattle.page_state.specs.Entries.{entry_of, entry_of_target, advance_target};
 ghost use Rattle.page_state.specs.Map.{update};
 ghost use Rattle.page_state.specs.Runs.{map_of, IsCoarsest};
 ghost use Rattle.maplets.specs.Rows.{AreBelow, IsSortedFrom, rows_of};
-ghost use Rattle.maplets.specs.Targets.{advance_target, HasFrameBelow};
+ghost use Rattle.maplets.specs.Targets.{HasFrameBelow};
 
 use page_state::{Frame, Page, PageRange, Target};
 pub use runs::Runs;

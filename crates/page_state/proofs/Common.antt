@@ -20,12 +20,21 @@ eq-self n = grind (arith, nat_tests)
 pub eq-same : (m n : ℕ) → (m == n) ≡ true → m ≡ n
 eq-same m n h = grind (arith, nat_tests)
 
+pub eq-made : (m n : ℕ) → m ≡ n → (m == n) ≡ true
+eq-made m n h = grind (arith, nat_tests)
+
 pub eq-other : (m n : ℕ) → m ≢ n → (m == n) ≡ false
 eq-other m n h = grind (arith, nat_tests)
 
 pub and-both : (a b : Bool) → a && b ≡ true → (a ≡ true) × (b ≡ true)
 and-both true b h = (refl, h)
 and-both false b h = cc
+
+pub and-left : (a b : Bool) → (a && b) ≡ true → a ≡ true
+and-left a b h = (and-both a b h).0
+
+pub and-right : (a b : Bool) → (a && b) ≡ true → b ≡ true
+and-right a b h = (and-both a b h).1
 
 pub or-neither : (a b : Bool) → (a || b) ≡ false → (a ≡ false) × (b ≡ false)
 or-neither true b h = cc

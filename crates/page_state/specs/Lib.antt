@@ -1,5 +1,6 @@
 pub mod Blocks
 pub mod Boot
+pub mod Counts
 pub mod Entries
 pub mod EntryTests
 pub mod Examples

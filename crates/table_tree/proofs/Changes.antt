@@ -2,6 +2,7 @@ use Rattle.std.proofs.Common.{◌≡◌, ℕ, ◌+◌, ◌-◌, ◌<◌, ◌≤�
 use Rattle.std.proofs.Math.ListN.{set}
 use Rattle.std.specs.declared.boxed.Box.{Box}
 use Rattle.page_state.proofs.Cases.{by_eq}
+use Rattle.page_state.proofs.Common.{eq-made, eq-other}
 use Rattle.table_tree.specs.declared.table.Table.{Table}
 use Rattle.table_tree.specs.declared.table.Slot.{Slot}
 use Rattle.table_tree.specs.declared.table.Slot.TheVariants.{Word, Child}
@@ -11,7 +12,6 @@ use Rattle.table_tree.specs.Tables.{table_in}
 use Rattle.table_tree.specs.Slots.{slot_entry, slot_table}
 use Rattle.table_tree.specs.Changes.{IsWritten, IsAttached, IsSeen}
 use Rattle.table_tree.proofs.Slots.{get_any, set_back, set_here, set_others, set_wide, shaped_set, shaped_slot, slot_word_made, slot_child_made, slot_child_is, slot_word_is}
-use Rattle.table_tree.proofs.Digits.{test_same, test_other}
 use Rattle.table_tree.proofs.Steps.{entry_step, word_gives, child_gives}
 use Rattle.table_tree.proofs.Tight.{tight_word, tight_attach, tight_child}
 use Rattle.table_tree.proofs.Sums.{tables_word, tables_child, uses_word, uses_child, tables_set, uses_set}
@@ -22,14 +22,14 @@ module _ {A : Type 0} where
   changed_entry : (d i q : ℕ) (t u : Table A) (s : Slot A) → IsWide t → i < 512 → slots_of u ≡ set (slots_of t) i s → entry_at d u q ≡ cond (index_at d q == i) (slot_entry d s q) (entry_at d t q)
   changed_entry d i q t u s wide p e =
       by_eq (index_at d q) i
-      (λ z. entry_step d u q ∙ ap (λ r. slot_entry d r q) (set_here t u i (index_at d q) s e p wide z) ∙ sym (ap (λ b. cond b (slot_entry d s q) (entry_at d t q)) (test_same (index_at d q) i z)))
-      (λ z. entry_step d u q ∙ ap (λ r. slot_entry d r q) (set_others t u i (index_at d q) s e z) ∙ sym (entry_step d t q) ∙ sym (ap (λ b. cond b (slot_entry d s q) (entry_at d t q)) (test_other (index_at d q) i z)))
+      (λ z. entry_step d u q ∙ ap (λ r. slot_entry d r q) (set_here t u i (index_at d q) s e p wide z) ∙ sym (ap (λ b. cond b (slot_entry d s q) (entry_at d t q)) (eq-made (index_at d q) i z)))
+      (λ z. entry_step d u q ∙ ap (λ r. slot_entry d r q) (set_others t u i (index_at d q) s e z) ∙ sym (entry_step d t q) ∙ sym (ap (λ b. cond b (slot_entry d s q) (entry_at d t q)) (eq-other (index_at d q) i z)))
 
   changed_table : (d i low q : ℕ) (t u : Table A) (s : Slot A) → IsWide t → i < 512 → slots_of u ≡ set (slots_of t) i s → (low ≡ d → ⊥) → table_in d u low q ≡ cond (index_at d q == i) (slot_table d s low q) (table_in d t low q)
   changed_table d i low q t u s wide p e ne =
       by_eq (index_at d q) i
-      (λ z. table_below d low u q ne ∙ ap (λ r. slot_table d r low q) (set_here t u i (index_at d q) s e p wide z) ∙ sym (ap (λ b. cond b (slot_table d s low q) (table_in d t low q)) (test_same (index_at d q) i z)))
-      (λ z. table_below d low u q ne ∙ ap (λ r. slot_table d r low q) (set_others t u i (index_at d q) s e z) ∙ sym (table_below d low t q ne) ∙ sym (ap (λ b. cond b (slot_table d s low q) (table_in d t low q)) (test_other (index_at d q) i z)))
+      (λ z. table_below d low u q ne ∙ ap (λ r. slot_table d r low q) (set_here t u i (index_at d q) s e p wide z) ∙ sym (ap (λ b. cond b (slot_table d s low q) (table_in d t low q)) (eq-made (index_at d q) i z)))
+      (λ z. table_below d low u q ne ∙ ap (λ r. slot_table d r low q) (set_others t u i (index_at d q) s e z) ∙ sym (table_below d low t q ne) ∙ sym (ap (λ b. cond b (slot_table d s low q) (table_in d t low q)) (eq-other (index_at d q) i z)))
 
   same_table : (d i low q w v : ℕ) (t u : Table A) → IsWide t → i < 512 → slots_of u ≡ set (slots_of t) i (Word v) → slot_at t i ≡ Word w → frame_of u ≡ frame_of t → table_in d u low q ≡ table_in d t low q
   same_table d i low q w v t u wide p e h f =

@@ -3,6 +3,7 @@ use Rattle.std.proofs.lemmas.Bool.Decides.{nat_tests}
 use Rattle.std.proofs.lemmas.Nat.{mod-pow-add, field_of, pow-add, div-mul-add}
 use Rattle.page_state.specs.Geometries.{block_pages}
 use Rattle.page_state.proofs.Sizes.{size_some, size_split}
+use Rattle.page_state.proofs.Common.{eq-other}
 use Rattle.table_tree.specs.Meaning.{index_at}
 
 -- the low digits of a page in a table are its index there and the digits below
@@ -11,12 +12,6 @@ digits n q = let e : 9 * (n + 1) ≡ 9 + 9 * n = omega arith in rw e (mod-pow-ad
 
 same_tests : (a b c d : ℕ) → (a ≡ b → c ≡ d) → (c ≡ d → a ≡ b) → (a == b) ≡ (c == d)
 same_tests a b c d f g = grind (arith, nat_tests)
-
-pub test_same : (a b : ℕ) → a ≡ b → (a == b) ≡ true
-test_same a b h = grind (arith, nat_tests)
-
-pub test_other : (a b : ℕ) → (a ≡ b → ⊥) → (a == b) ≡ false
-test_other a b h = grind (arith, nat_tests)
 
 -- two pages with one index in a table are one page in it exactly where they are one page in the child
 pub inside : (n q p : ℕ) → index_at n q ≡ index_at n p → (q % block_pages (n + 1) == p % block_pages (n + 1)) ≡ (q % block_pages n == p % block_pages n)
@@ -27,7 +22,7 @@ inside n q p e = same_tests _ _ _ _
 pub outside : (n q p : ℕ) → (index_at n q ≡ index_at n p → ⊥) → (q % block_pages (n + 1) == p % block_pages (n + 1)) ≡ false
 outside n q p ne =
     let e : 9 * (n + 1) ≡ 9 + 9 * n = omega arith in
-    rw e (test_other _ _ (λ h. ne (sym (field_of q 9 (9 * n)) ∙ ap (λ x. x / 2 ^ (9 * n)) h ∙ field_of p 9 (9 * n))))
+    rw e (eq-other _ _ (λ h. ne (sym (field_of q 9 (9 * n)) ∙ ap (λ x. x / 2 ^ (9 * n)) h ∙ field_of p 9 (9 * n))))
 
 -- a page's place above a block in a table: its index, and its place in the child
 place : (s t i r : ℕ) → 1 ≤ s → (i * (t * s) + r) / s ≡ i * t + r / s

@@ -2,6 +2,7 @@ use Rattle.std.proofs.Common.{◌≡◌, ℕ, zero, suc, ◌<◌, refl, ap, arit
 use Rattle.std.proofs.lemmas.Bool.Decides.{nat_tests}
 use Rattle.std.specs.declared.boxed.Box.{Box}
 use Rattle.page_state.proofs.Cases.{by_test}
+use Rattle.page_state.proofs.Common.{eq-made, eq-other}
 use Rattle.table_tree.specs.declared.table.Table.{Table}
 use Rattle.table_tree.specs.declared.table.Slot.{Slot}
 use Rattle.table_tree.specs.declared.table.Slot.TheVariants.{Word, Child}
@@ -10,7 +11,7 @@ use Rattle.table_tree.specs.Shape.{HoldsWord}
 use Rattle.table_tree.specs.Tables.{table_in}
 use Rattle.table_tree.specs.Slots.{slot_table}
 use Rattle.table_tree.proofs.Slots.{case_word, case_child}
-use Rattle.table_tree.proofs.Digits.{index_small, test_same, test_other}
+use Rattle.table_tree.proofs.Digits.{index_small}
 
 module _ {A : Type 0} where
   -- where tables stand
@@ -20,10 +21,10 @@ module _ {A : Type 0} where
   table_step (suc n) t low q = refl
 
   pub table_top : (n low : ℕ) (t : Table A) (q : ℕ) → low ≡ n → table_in n t low q ≡ Some (frame_of t)
-  table_top n low t q e = table_step n t low q ∙ ap (λ b. cond b (Some (frame_of t)) (slot_table n (slot_at t (index_at n q)) low q)) (test_same low n e)
+  table_top n low t q e = table_step n t low q ∙ ap (λ b. cond b (Some (frame_of t)) (slot_table n (slot_at t (index_at n q)) low q)) (eq-made low n e)
 
   pub table_below : (n low : ℕ) (t : Table A) (q : ℕ) → (low ≡ n → ⊥) → table_in n t low q ≡ slot_table n (slot_at t (index_at n q)) low q
-  table_below n low t q e = table_step n t low q ∙ ap (λ b. cond b (Some (frame_of t)) (slot_table n (slot_at t (index_at n q)) low q)) (test_other low n e)
+  table_below n low t q e = table_step n t low q ∙ ap (λ b. cond b (Some (frame_of t)) (slot_table n (slot_at t (index_at n q)) low q)) (eq-other low n e)
 
   pub stand_word : (n w low q : ℕ) (s : Slot A) → s ≡ Word w → slot_table n s low q ≡ None
   unfolding slot_table

@@ -6,13 +6,14 @@ use Rattle.std.proofs.Math.Seq.{take-add}
 use Rattle.std.specs.declared.boxed.Box.{Box}
 use Rattle.descriptor.specs.declared.Frame.{Frame}
 use Rattle.page_state.specs.Geometries.{levels_below}
+use Rattle.page_state.specs.Counts.{is_one, frame_count}
 use Rattle.table_tree.specs.declared.tree.Tree.{Tree}
 use Rattle.table_tree.specs.declared.table.Table.{Table}
 use Rattle.table_tree.specs.declared.table.Slot.{Slot}
 use Rattle.table_tree.specs.declared.table.Slot.TheVariants.{Word, Child}
 use Rattle.table_tree.specs.Meaning.{slot_at, slots_of, frame_of}
 use Rattle.table_tree.specs.Shape.{IsWide, HoldsWord}
-use Rattle.table_tree.specs.Tables.{tables_in, uses_in, is_one, frame_count, count_of}
+use Rattle.table_tree.specs.Tables.{tables_in, uses_in, count_of}
 use Rattle.table_tree.specs.Slots.{slot_tables, slot_uses, fresh}
 use Rattle.table_tree.specs.View.{tables_of}
 use Rattle.table_tree.proofs.Slots.{case_word, case_child}
@@ -28,16 +29,6 @@ zero_sum f d (x ∷ xs) h = let z : f x ≡ 0 = h 0 (omega arith) in rw z (zero_
 -- the sum over one more slot
 pub sum_more : {X : Type 0} (f : X → ℕ) (d : X) (xs : List X) (i : ℕ) → i < length xs → sum_by f (take (i + 1) xs) ≡ sum_by f (take i xs) + f (get_or xs i d)
 sum_more f d xs i p = let e = sum_by-append f (take i xs) (get_or xs i d ∷ []) in rw (take_more xs i d p) (omega (arith, e))
-
--- the counts in the first frames of a list, and in those after them
-pub count_split : (f a b : ℕ) (fs : List ℕ) → frame_count f (take (a + b) fs) ≡ frame_count f (take a fs) + frame_count f (take b (drop a fs))
-count_split f a b fs = rw (take-add a b fs) (sum_by-append (λ g. is_one g f) (take a fs) (take b (drop a fs)))
-
-pub count_parts : (f n : ℕ) (fs : List ℕ) → frame_count f (take n fs) + frame_count f (drop n fs) ≡ frame_count f fs
-count_parts f n fs = sum_by-take-drop (λ h. is_one h f) fs n
-
-pub count_next : (f g : ℕ) (gs : List ℕ) → frame_count f (g ∷ gs) ≡ is_one g f + frame_count f gs
-count_next f g gs = let e = sum_by-append (λ h. is_one h f) (g ∷ []) gs in omega (arith, e)
 
 pub count_none : (f : ℕ) (fs : List Frame) → fs ≡ [] → count_of f fs ≡ 0
 count_none f fs e = rw e refl

@@ -2,6 +2,7 @@ use Rattle.std.proofs.Common.{◌≡◌, ℕ, zero, suc, ◌<◌, get_or, refl, 
 use Rattle.std.proofs.Math.ListN.{set}
 use Rattle.std.specs.declared.boxed.Box.{Box}
 use Rattle.page_state.proofs.Cases.{by_eq}
+use Rattle.page_state.proofs.Common.{eq-other}
 use Rattle.table_tree.specs.declared.table.Table.{Table}
 use Rattle.table_tree.specs.declared.table.Slot.TheVariants.{Word, Child}
 use Rattle.table_tree.specs.Meaning.{slot_at, slots_of, frame_of}
@@ -13,7 +14,6 @@ use Rattle.table_tree.proofs.Words.{zero_said}
 use Rattle.table_tree.proofs.Steps.{blank_words, blank_shaped, blank_entries}
 use Rattle.table_tree.proofs.Sums.{words_tables, words_uses}
 use Rattle.table_tree.proofs.Standing.{words_standing}
-use Rattle.table_tree.proofs.Digits.{test_other}
 
 module _ {A : Type 0} where
   pub tight_word : (d : ℕ) (t u : Table A) (i w : ℕ) → IsTight d t → IsWide t → i < 512 → slots_of u ≡ set (slots_of t) i (Word w) → IsTight d u
@@ -53,7 +53,7 @@ module _ {A : Type 0} where
         map = λ d q. blank_entries d t h q;
         tables = λ d. words_tables d t w words;
         uses = λ d f. words_uses d t f w words;
-        standing = λ d low q l. words_standing d t low q words ∙ ap (λ b. cond b (Some (frame_of t)) None) (test_other low d (λ e. let l' : low < d = l in omega arith));
+        standing = λ d low q l. words_standing d t low q words ∙ ap (λ b. cond b (Some (frame_of t)) None) (eq-other low d (λ e. let l' : low < d = l in omega arith));
         shape = λ d. blank_shaped d t w h;
         tight = λ d. words_tight d t words;
       }

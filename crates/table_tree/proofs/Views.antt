@@ -10,13 +10,13 @@ use Rattle.page_state.specs.Map.{empty_map, update}
 use Rattle.page_state.specs.Geometries.{levels_below, input_pages, block_pages}
 use Rattle.page_state.proofs.Sizes.{size_some}
 use Rattle.page_state.proofs.Cases.{by_eq}
+use Rattle.page_state.proofs.Common.{eq-made, eq-other}
 use Rattle.table_tree.specs.declared.table.Table.{Table}
 use Rattle.table_tree.specs.declared.tree.Tree.{Tree}
 use Rattle.table_tree.specs.Meaning.{frame_of, entry_at}
 use Rattle.table_tree.specs.Shape.{IsBlank}
 use Rattle.table_tree.specs.Tables.{table_in}
 use Rattle.table_tree.specs.View.{meaning, table_at}
-use Rattle.table_tree.proofs.Digits.{test_same, test_other}
 use Rattle.table_tree.proofs.Steps.{blank_entries, blank_words}
 use Rattle.table_tree.proofs.Standing.{words_standing, by_lt}
 
@@ -90,20 +90,20 @@ module _ {A : Type 0} where
 
   pub standing_blank : (t : Tree A) (root depth number : ℕ) → IsBlank t.table → frame_of t.table ≡ root → table_at t depth number ≡ cond (depth == levels_below t.geometry + 1 && number == 0) (Some root) None
   unfolding table_at
-  standing_blank t root zero number h e = let z : (0 == levels_below t.geometry + 1) ≡ false = test_other 0 (levels_below t.geometry + 1) (λ y. omega arith) in rw z refl
+  standing_blank t root zero number h e = let z : (0 == levels_below t.geometry + 1) ≡ false = eq-other 0 (levels_below t.geometry + 1) (λ y. omega arith) in rw z refl
   standing_blank t root (suc low) number h e =
       let n = levels_below t.geometry in
       let s = block_pages (suc low) in
       let first = words_standing (levels_below t.geometry) t.table low (number * block_pages (suc low)) (blank_words t.table h) in
       by_eq low (levels_below t.geometry)
-      (λ z. let a : (suc low == levels_below t.geometry + 1) ≡ true = test_same (suc low) (levels_below t.geometry + 1) (omega arith) in
+      (λ z. let a : (suc low == levels_below t.geometry + 1) ≡ true = eq-made (suc low) (levels_below t.geometry + 1) (omega arith) in
       let o : suc low ≡ levels_below t.geometry + 1 = omega arith in
       by_eq number 0
-      (λ y. let b = test_same number 0 y in
+      (λ y. let b = eq-made number 0 y in
       let l : number * block_pages (suc low) < input_pages t.geometry = let x = size_some (levels_below t.geometry + 1) in rw y (omega (arith, x)) in
-      ap (λ v. cond v (table_in n t.table low (number * s)) None) (less_test _ _ l) ∙ first ∙ ap (λ v. cond v (Some (frame_of t.table)) None) (test_same low n z) ∙ ap Some e ∙ sym (both_true _ _ _ _ a b))
-      (λ y. let b = test_other number 0 y in
+      ap (λ v. cond v (table_in n t.table low (number * s)) None) (less_test _ _ l) ∙ first ∙ ap (λ v. cond v (Some (frame_of t.table)) None) (eq-made low n z) ∙ ap Some e ∙ sym (both_true _ _ _ _ a b))
+      (λ y. let b = eq-other number 0 y in
       let l : number * block_pages (suc low) < input_pages t.geometry → ⊥ = λ x. too_far number (block_pages (suc low)) (input_pages t.geometry) y (ap block_pages o) x in
       ap (λ v. cond v (table_in n t.table low (number * s)) None) (more_test _ _ l) ∙ sym (left_right _ _ _ _ b)))
-      (λ z. let a : (suc low == levels_below t.geometry + 1) ≡ false = test_other (suc low) (levels_below t.geometry + 1) (λ y. z (omega arith)) in
-      none_cond (ltb (number * s) (input_pages t.geometry)) (table_in n t.table low (number * s)) (first ∙ ap (λ v. cond v (Some (frame_of t.table)) None) (test_other low n z)) ∙ sym (left_out _ _ _ _ a))
+      (λ z. let a : (suc low == levels_below t.geometry + 1) ≡ false = eq-other (suc low) (levels_below t.geometry + 1) (λ y. z (omega arith)) in
+      none_cond (ltb (number * s) (input_pages t.geometry)) (table_in n t.table low (number * s)) (first ∙ ap (λ v. cond v (Some (frame_of t.table)) None) (eq-other low n z)) ∙ sym (left_out _ _ _ _ a))

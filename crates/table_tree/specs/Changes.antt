@@ -2,13 +2,14 @@
 use Rattle.std.specs.Prelude.{◌≡◌, ℕ, ◌+◌, ◌<◌, ◌≤◌, ◌==◌, if◌then◌else◌, None}
 use Rattle.std.specs.declared.boxed.Box.{Box}
 use Rattle.page_state.specs.declared.entry.Entry.TheVariants.{Unmapped}
+use Rattle.page_state.specs.Counts.{is_one}
 use Rattle.table_tree.specs.declared.table.Table.{Table}
 use Rattle.table_tree.specs.declared.table.Slot.{Slot}
 use Rattle.table_tree.specs.declared.table.Slot.TheVariants.{Word, Child}
 use Rattle.table_tree.specs.Meaning.{index_at, frame_of, word_entry, entry_at}
 use Rattle.table_tree.specs.Shape.{IsTableFrame, IsBlank, IsEntryWord, IsShaped}
 use Rattle.table_tree.specs.Tight.{IsTight}
-use Rattle.table_tree.specs.Tables.{tables_in, uses_in, table_in, is_one}
+use Rattle.table_tree.specs.Tables.{tables_in, uses_in, table_in}
 
 -- `u` is `t` with another word in slot `i`, which held a word
 pub record IsWritten {A : Type 0} (i word : ℕ) (t u : Table A) : Type 0 where

@@ -1,16 +1,13 @@
 -- The tables of a tree: their number, their frames and where they stand.
 use Rattle.std.specs.Prelude.{ℕ, zero, suc, ◌+◌, ◌==◌, List, Option, Some, None, if◌then◌else◌, sum_by}
 use Rattle.descriptor.specs.declared.Frame.{Frame}
+use Rattle.page_state.specs.Counts.{is_one}
 use Rattle.table_tree.specs.declared.table.Table.{Table}
 use Rattle.table_tree.specs.Meaning.{index_at, frame_of, slots_of, slot_at, slot_case}
 
 -- the sum of what the children of a table give
 abbrev pub sum_below : {A : Type 0} → (Table A → ℕ) → Table A → ℕ
 sum_below below t = sum_by (slot_case (λ _. 0) below) (slots_of t)
-
--- 1 where two frames are one
-abbrev pub is_one : ℕ → ℕ → ℕ
-is_one f g = if f == g then 1 else 0
 
 -- the number of tables, the table itself among them
 unfoldable pub tables_in : {A : Type 0} → ℕ → Table A → ℕ
@@ -27,10 +24,6 @@ unfoldable pub table_in : {A : Type 0} → ℕ → Table A → ℕ → ℕ → O
 table_in zero t low page = if low == zero then Some (frame_of t) else None
 table_in (suc depth) t low page = if low == suc depth then Some (frame_of t) else slot_case (λ _. None) (λ c. table_in depth c low page) (slot_at t (index_at (suc depth) page))
 
--- how often a frame stands in a list
-abbrev pub frame_count : ℕ → List ℕ → ℕ
-frame_count f frames = sum_by (λ g. is_one g f) frames
-
--- the same in a list of frames
+-- how often a frame stands in a list of frames
 abbrev pub count_of : ℕ → List Frame → ℕ
 count_of f frames = sum_by (λ g. is_one g.0 f) frames

@@ -3,9 +3,10 @@ ghost use Rattle.std.specs.Prelude.{◌≡◌, ℕ, ◌+◌, ◌-◌, ◌*◌, �
 ghost use Rattle.descriptor.specs.Word.{CanBeSaid};
 ghost use Rattle.page_state.specs.Entries.{advance, word_of_entry};
 ghost use Rattle.page_state.specs.Geometries.{block_pages};
+ghost use Rattle.page_state.specs.Counts.{frame_count};
 ghost use Rattle.table_tree.specs.Meaning.{IsDepth, level_at, word_entry, entry_at, word_at, slot_word, slot_at, slots_of, frame_of};
 ghost use Rattle.table_tree.specs.Shape.{IsWide, IsShaped, IsBlank, IsEntryWord, IsTableFrame, HoldsWord};
-ghost use Rattle.table_tree.specs.Tables.{tables_in, uses_in, table_in, frame_count, count_of};
+ghost use Rattle.table_tree.specs.Tables.{tables_in, uses_in, table_in, count_of};
 ghost use Rattle.table_tree.specs.Slots.{IsSlot, fresh};
 ghost use Rattle.table_tree.specs.Stocks.{frames_of};
 

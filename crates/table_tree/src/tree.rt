@@ -2,9 +2,10 @@
 ghost use Rattle.std.specs.Prelude.{◌≡◌, ℕ, ◌+◌, ◌<◌, ◌==◌, ◌&&◌, ◌↔◌, length, if◌then◌else◌, Some, None, IsSome, IfSome, IfOk, IfErr};
 ghost use Rattle.page_state.specs.Map.{empty_map};
 ghost use Rattle.page_state.specs.Geometries.{levels_below};
+ghost use Rattle.page_state.specs.Counts.{is_one};
 ghost use Rattle.table_tree.specs.Shape.{IsShaped, IsShaped-prop};
 ghost use Rattle.table_tree.specs.Tight.{IsTight, IsTight-prop};
-ghost use Rattle.table_tree.specs.Tables.{count_of, is_one};
+ghost use Rattle.table_tree.specs.Tables.{count_of};
 
 use crate::Table;
 use crate::look::{count_in, frames_in, look_in, word_in};

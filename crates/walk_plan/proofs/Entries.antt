@@ -20,16 +20,15 @@ use Rattle.page_state.specs.Blocks.{fits_word}
 use Rattle.page_state.specs.Laws.{FitsWord}
 use Rattle.page_state.specs.Geometries.{block_pages}
 use Rattle.page_state.proofs.Blocks.{fits_each_word}
-use Rattle.page_state.proofs.Common.{eq-self, eq-same, and-both}
+use Rattle.page_state.proofs.Common.{eq-self, eq-same, and-both, eq-made}
 use Rattle.page_state.proofs.Entries.{leaf-same}
 use Rattle.table_tree.specs.Meaning.{level_at}
 use Rattle.table_tree.specs.Shape.{IsWellFormed, IsEntryWord}
-use Rattle.table_tree.proofs.Digits.{test_same}
 
 -- tests
 
 pub eq_differ : (m n : ℕ) → (m == n) ≡ false → m ≡ n → ⊥
-eq_differ m n h e = let x = test_same m n e in cc
+eq_differ m n h e = let x = eq-made m n e in cc
 
 -- how entries advance
 
@@ -68,7 +67,7 @@ owner_said w p q =
     let x = and-both (w % 4 == 0) (nat_le (w / 4) 255) q in
     let y = eq-same (w % 4) 0 x.0 in
     let z : w / 4 ≤ 255 = let u : nat_le (w / 4) 255 ≡ true = x.1 in grind (arith, nat_tests) in
-    let v : w ≡ 0 → ⊥ = λ e. let u = test_same w 0 e in cc in
+    let v : w ≡ 0 → ⊥ = λ e. let u = eq-made w 0 e in cc in
     (omega arith, z)
 
 abbrev leaf_of : Level → ℕ → Desc

@@ -7,9 +7,9 @@ use Rattle.std.proofs.lemmas.List.Sums.{sum_by-append, sum_by-take-drop}
 use Rattle.descriptor.specs.declared.Frame.{Frame}
 use Rattle.page_state.specs.State.{Pool}
 use Rattle.page_state.specs.Tables.{given, all_given}
+use Rattle.page_state.specs.Counts.{frame_count, is_one}
 use Rattle.hyp_pool.specs.Pools.{Stored, numbers}
 use Rattle.hyp_pool.specs.Laws.{GivenSwap, CountContains}
-use Rattle.table_tree.specs.Tables.{frame_count, is_one}
 
 -- a frame given first or last
 pub given_through : GivenSwap → (fs : List ℕ) (f : ℕ) (p : Pool) → all_given fs (given f p) ≡ given f (all_given fs p)

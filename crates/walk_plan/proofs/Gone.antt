@@ -13,6 +13,7 @@ use Rattle.page_state.specs.State.{Block}
 use Rattle.page_state.specs.Blocks.{is_empty}
 use Rattle.page_state.specs.Tables.{put, freed, returned}
 use Rattle.page_state.specs.Geometries.{levels_below, input_pages, block_pages}
+use Rattle.page_state.specs.Counts.{is_one, frame_count}
 use Rattle.page_state.proofs.Cases.{by_test, by_lt}
 use Rattle.table_tree.specs.declared.table.Table.{Table}
 use Rattle.table_tree.specs.declared.table.Slot.{Slot}
@@ -20,7 +21,7 @@ use Rattle.table_tree.specs.declared.table.Slot.TheVariants.{Word, Child}
 use Rattle.table_tree.specs.declared.tree.Tree.{Tree}
 use Rattle.table_tree.specs.Meaning.{level_at, slot_at, entry_at, frame_of}
 use Rattle.table_tree.specs.Shape.{IsShaped}
-use Rattle.table_tree.specs.Tables.{table_in, is_one, frame_count}
+use Rattle.table_tree.specs.Tables.{table_in}
 use Rattle.table_tree.specs.Slots.{IsSlot, slot_entry, slot_table}
 use Rattle.table_tree.specs.View.{meaning, table_at, tree_of}
 use Rattle.table_tree.proofs.Slots.{by_slot, case_word, case_child, shaped_slot, child_shaped}

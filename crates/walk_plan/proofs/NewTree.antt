@@ -7,6 +7,7 @@ use Rattle.page_state.specs.Boot.{root_tree}
 use Rattle.page_state.specs.Map.{empty_map, update}
 use Rattle.page_state.specs.Tables.{put, needs, need}
 use Rattle.page_state.specs.Geometries.{block_pages}
+use Rattle.page_state.proofs.Updates.{update_inside, update_outside}
 use Rattle.walk_plan.specs.declared.change.Change.{Change}
 use Rattle.walk_plan.specs.Changes.{part, sum_to, met, block_parts}
 use Rattle.walk_plan.proofs.Numbers.{part_all}
@@ -15,7 +16,6 @@ use Rattle.walk_plan.proofs.Walked.{under}
 use Rattle.walk_plan.proofs.Ordered.{blocks_below}
 use Rattle.walk_plan.proofs.OneWord.{IsMade}
 use Rattle.walk_plan.proofs.Matched.{IsBare}
-use Rattle.walk_plan.proofs.OfTree.{update_inside, update_outside}
 use Rattle.walk_plan.proofs.Needed.{is_needed, needed_below, count_below, block_count}
 
 not_root : (d low root j : ℕ) → low < d → (root_tree d root).table (suc low, j) ≡ None

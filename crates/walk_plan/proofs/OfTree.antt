@@ -8,6 +8,7 @@ use Rattle.page_state.specs.Entries.{advance}
 use Rattle.page_state.specs.Map.{Map, is_within, update}
 use Rattle.page_state.specs.Blocks.{blocks_on}
 use Rattle.page_state.specs.Geometries.{levels_below, input_pages}
+use Rattle.page_state.proofs.Updates.{update_inside, update_outside}
 use Rattle.table_tree.specs.declared.tree.Tree.{Tree}
 use Rattle.table_tree.specs.View.{meaning}
 use Rattle.walk_plan.specs.declared.change.Change.{Change}
@@ -17,24 +18,6 @@ use Rattle.walk_plan.proofs.Walked.{below}
 use Rattle.walk_plan.proofs.Ordered.{blocks_below}
 use Rattle.walk_plan.proofs.OneWord.{IsMade}
 use Rattle.walk_plan.proofs.Matched.{all_pages}
-
-within_test : (f n q : ℕ) → f ≤ q → q < f + n → is_within f n q ≡ true
-within_test f n q h k = grind (arith, nat_tests)
-
-outside_test : (f n q : ℕ) → (q < f) ⊎ (f + n ≤ q) → is_within f n q ≡ false
-outside_test f n q h = elim h [ inl p ↦ before f n q p | inr p ↦ after f n q p ]
-  where
-    before : (f n q : ℕ) → q < f → is_within f n q ≡ false
-    before f n q h = grind (arith, nat_tests)
-
-    after : (f n q : ℕ) → f + n ≤ q → is_within f n q ≡ false
-    after f n q h = grind (arith, nat_tests)
-
-pub update_inside : (m : Map) (f n : ℕ) (e : Entry) (q : ℕ) → f ≤ q → q < f + n → update m f n e q ≡ advance e (q - f)
-update_inside m f n e q h k = rw (within_test f n q h k) refl
-
-pub update_outside : (m : Map) (f n : ℕ) (e : Entry) (q : ℕ) → (q < f) ⊎ (f + n ≤ q) → update m f n e q ≡ m q
-update_outside m f n e q h = rw (outside_test f n q h) refl
 
 pub low_depth : (g : Geometry) → levels_below g < 3
 low_depth Bits39 = omega arith

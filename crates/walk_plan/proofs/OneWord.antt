@@ -10,9 +10,8 @@ use Rattle.page_state.specs.Geometries.{block_pages}
 use Rattle.page_state.proofs.Blocks.{one_word_means, and-join}
 use Rattle.page_state.proofs.Sizes.{size_step, size_some}
 use Rattle.page_state.proofs.Cases.{by_lt}
-use Rattle.page_state.proofs.Common.{eq-same, and-both}
+use Rattle.page_state.proofs.Common.{eq-same, and-both, eq-made}
 use Rattle.page_state.proofs.Entries.{advance-none, advance-more, entry_eq-same, entry_eq-self}
-use Rattle.table_tree.proofs.Digits.{test_same}
 use Rattle.walk_plan.specs.declared.change.Change.{Change}
 use Rattle.walk_plan.specs.Changes.{part, is_whole, is_one_word as is_one_word_after}
 use Rattle.walk_plan.proofs.Entries.{advance_back, part_fits}
@@ -147,7 +146,7 @@ module _ (c : Change) (m n : Map) (made : IsMade c m n) (d b : ℕ) (x : Entry) 
       (λ more.
       let stop : e ≡ size = omega arith in
       or_left (is_whole d (part d b c)) (entry_eq (advance x f) y)
-      (and-join (f == 0 && e == size) (fits_word d y) (and-join (f == 0) (e == size) (test_same f 0 g) (test_same e size stop)) (ap (fits_word d) (sym is) ∙ along.0)))
+      (and-join (f == 0 && e == size) (fits_word d y) (and-join (f == 0) (e == size) (eq-made f 0 g) (eq-made e size stop)) (ap (fits_word d) (sym is) ∙ along.0)))
 
   -- it begins later
   past_start : is_one_word n (d, b) ≡ true → 0 < f → is_one_word_after d x (part d b c) ≡ true

@@ -6,10 +6,10 @@ use Rattle.page_state.specs.Entries.{advance, entry_of_word}
 use Rattle.page_state.specs.EntryTests.{is_unmapped}
 use Rattle.page_state.specs.Search.{all_below}
 use Rattle.page_state.specs.Geometries.{block_pages}
+use Rattle.page_state.specs.Counts.{is_one}
 use Rattle.table_tree.specs.declared.table.Table.{Table}
 use Rattle.table_tree.specs.declared.table.Slot.{Slot}
 use Rattle.table_tree.specs.Meaning.{level_at, index_at, slot_at, slot_case, entry_at, frame_of}
-use Rattle.table_tree.specs.Tables.{is_one}
 use Rattle.walk_plan.specs.declared.change.Change.{Change}
 use Rattle.walk_plan.specs.Changes.{part, is_one_word, changed, sum_to, met, block_parts, table_parts}
 

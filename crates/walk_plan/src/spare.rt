@@ -4,9 +4,9 @@ ghost use Rattle.hyp_pool.specs.Pools.{numbers};
 ghost use Rattle.page_state.specs.Regions.{end_of};
 ghost use Rattle.page_state.specs.Tables.{put, need as need_of, all_given};
 ghost use Rattle.page_state.specs.Geometries.{levels_below, input_pages};
+ghost use Rattle.page_state.specs.Counts.{frame_count};
 ghost use Rattle.table_tree.specs.Reading.{count_of};
 ghost use Rattle.table_tree.specs.Stocks.{frames_of};
-ghost use Rattle.table_tree.specs.Tables.{frame_count};
 ghost use Rattle.table_tree.specs.View.{tree_of};
 ghost use Rattle.walk_plan.specs.Changes.{CanBeSaidOn};
 

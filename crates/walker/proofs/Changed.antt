@@ -10,12 +10,13 @@ use Rattle.page_state.specs.Map.{Map}
 use Rattle.page_state.specs.State.{Block, Pool, Tree as ReferenceTree}
 use Rattle.page_state.specs.Tables.{put, need, returned, edited, all_given}
 use Rattle.page_state.specs.Geometries.{levels_below, input_pages, block_pages}
+use Rattle.page_state.specs.Counts.{frame_count}
 use Rattle.page_state.proofs.Edits.{tree-same}
 use Rattle.hyp_pool.specs.Laws.{GivenCounted}
 use Rattle.table_tree.specs.declared.table.Table.{Table}
 use Rattle.table_tree.specs.declared.tree.Tree.{Tree}
 use Rattle.table_tree.specs.Meaning.{entry_at, frame_of}
-use Rattle.table_tree.specs.Tables.{tables_in, uses_in, table_in, frame_count}
+use Rattle.table_tree.specs.Tables.{tables_in, uses_in, table_in}
 use Rattle.table_tree.specs.View.{tree_of, meaning, table_at, uses, tables_of, root_of}
 use Rattle.table_tree.proofs.Sums.{tables_some}
 use Rattle.walk_plan.specs.declared.change.Change.{Change}

@@ -15,7 +15,7 @@ use Rattle.page_state.specs.Blocks.{fits_word}
 use Rattle.page_state.specs.Geometries.{block_pages}
 use Rattle.page_state.proofs.Sizes.{size_some}
 use Rattle.page_state.proofs.Cases.{by_eq}
-use Rattle.page_state.proofs.Common.{or-neither}
+use Rattle.page_state.proofs.Common.{or-neither, eq-made, eq-other}
 use Rattle.table_tree.specs.declared.table.Table.{Table}
 use Rattle.table_tree.specs.declared.table.Slot.{Slot}
 use Rattle.table_tree.specs.declared.table.Slot.TheVariants.{Word, Child}
@@ -25,7 +25,6 @@ use Rattle.table_tree.specs.Slots.{fresh}
 use Rattle.table_tree.specs.Tables.{table_in}
 use Rattle.table_tree.specs.Tight.{IsTight}
 use Rattle.table_tree.specs.Changes.{IsSeen, IsWritten, IsAttached, IsCleared}
-use Rattle.table_tree.proofs.Digits.{test_same, test_other}
 use Rattle.table_tree.proofs.Slots.{case_word, case_child}
 use Rattle.table_tree.proofs.Standing.{table_top}
 use Rattle.table_tree.proofs.Words.{zero_said}
@@ -185,18 +184,18 @@ module _ {A : Type 0} where
       let z = fresh_child b (slot_at t i) e in
       let map = rw o at (h.map d) in
       let stand = rw o at (h.standing d) in
-      let here : (low q : ℕ) → low ≤ d → index_at (suc d) q ≡ i → table_in (suc d) t low q ≡ table_in d b.value low q = λ low q l x. stand low q l ∙ ap (λ a. cond a (table_in d b.value low q) (table_in (suc d) u low q)) (test_same (index_at (suc d) q) i x) in
+      let here : (low q : ℕ) → low ≤ d → index_at (suc d) q ≡ i → table_in (suc d) t low q ≡ table_in d b.value low q = λ low q l x. stand low q l ∙ ap (λ a. cond a (table_in d b.value low q) (table_in (suc d) u low q)) (eq-made (index_at (suc d) q) i x) in
       record {
         frame = frame;
         slots = slots;
         shape = rest.shape (suc d) shape;
         tight = rest.tight (suc d) tight;
-        other = λ q x. sym (map q ∙ ap (λ a. cond a (entry_at d b.value q) (entry_at (suc d) u q)) (test_other (index_at (suc d) q) i x));
-        stand = λ low q l x. sym (stand low q (let l' : low < suc d = l in omega arith) ∙ ap (λ a. cond a (table_in d b.value low q) (table_in (suc d) u low q)) (test_other (index_at (suc d) q) i x));
+        other = λ q x. sym (map q ∙ ap (λ a. cond a (entry_at d b.value q) (entry_at (suc d) u q)) (eq-other (index_at (suc d) q) i x));
+        stand = λ low q l x. sym (stand low q (let l' : low < suc d = l in omega arith) ∙ ap (λ a. cond a (table_in d b.value low q) (table_in (suc d) u low q)) (eq-other (index_at (suc d) q) i x));
         child_shape = (h.child d (subst (λ n. IsShaped n t) (sym o) shape)).1;
         child_tight = h.child_tight d (subst (λ n. IsTight n t) (sym o) tight);
         child_frame = (h.child d (subst (λ n. IsShaped n t) (sym o) shape)).0;
-        map = λ q x. sym (map q ∙ ap (λ a. cond a (entry_at d b.value q) (entry_at (suc d) u q)) (test_same (index_at (suc d) q) i x));
+        map = λ q x. sym (map q ∙ ap (λ a. cond a (entry_at d b.value q) (entry_at (suc d) u q)) (eq-made (index_at (suc d) q) i x));
         uses = λ f. rw z (let y = rw o at (h.uses d f) in omega (arith, y));
         tables = let y = rw o at (h.tables d) in omega (arith, y, z);
         stock = rw z refl;
@@ -219,12 +218,12 @@ module _ {A : Type 0} where
       let n : suc d ≡ d + 1 = omega arith in
       record {
         need = omega (arith, z, need', parts_need d x child filled.parts c);
-        here = λ q y. rw (none d q (omega arith) y) (ap (λ r. given (frame_of child ∷ after) None r) (rank d q ∙ ap (λ a. cond a (Some 0) (later 1 (parts_rank d x c d q))) (test_same d d refl)));
+        here = λ q y. rw (none d q (omega arith) y) (ap (λ r. given (frame_of child ∷ after) None r) (rank d q ∙ ap (λ a. cond a (Some 0) (later 1 (parts_rank d x c d q))) (eq-made d d refl)));
         below = λ low q l y.
             let l' : low < suc d = omega arith in
             let ne : low ≢ d = omega arith in
             rw (none low q l' y, filled.standing low q l) (ap (λ r. given after None r) (parts_ranked d x child filled.parts c low q) ∙ given_later (frame_of child ∷ after) 1 None (parts_rank d x c low q)
-            ∙ sym (ap (λ r. given (frame_of child ∷ after) None r) (rank low q ∙ ap (λ a. cond a (Some 0) (later 1 (parts_rank d x c low q))) (test_other low d ne))));
+            ∙ sym (ap (λ r. given (frame_of child ∷ after) None r) (rank low q ∙ ap (λ a. cond a (Some 0) (later 1 (parts_rank d x c low q))) (eq-other low d ne))));
         stays = λ f y. omega (arith, gone f, none_gone f);
         goes = λ f y. absurd (split_some (suc d) x c (entry_at d child) h split (λ q. filled.map q ∙ ap (λ m. advance x (q % block_pages m)) (sym n)) (emptied_each (suc d) (entry_at d child) c y));
       }
@@ -240,7 +239,7 @@ module _ {A : Type 0} where
         slots = slots;
         shape = h.shape (suc d) shape (zero_said (suc d));
         tight = h.tight (suc d) tight;
-        other = λ q y. h.map (suc d) q ∙ ap (λ a. cond a (word_entry (suc d) q 0) (entry_at (suc d) t q)) (test_other (index_at (suc d) q) i y);
+        other = λ q y. h.map (suc d) q ∙ ap (λ a. cond a (word_entry (suc d) q 0) (entry_at (suc d) t q)) (eq-other (index_at (suc d) q) i y);
         stand = λ low q l y. h.standing (suc d) low q;
         child_shape = filled.shape;
         child_tight = filled.tight;

@@ -6,23 +6,23 @@ use Rattle.std.proofs.lemmas.List.{drop-drop}
 use Rattle.std.proofs.lemmas.List.Sums.{sum_by-append}
 use Rattle.page_state.specs.declared.entry.Entry.TheVariants.{Unmapped}
 use Rattle.page_state.specs.Geometries.{block_pages}
+use Rattle.page_state.specs.Counts.{is_one, frame_count}
+use Rattle.page_state.proofs.Counts.{count_split, count_next}
 use Rattle.page_state.proofs.Sizes.{size_some}
 use Rattle.page_state.proofs.Cases.{by_eq}
-use Rattle.page_state.proofs.Common.{not-holds}
+use Rattle.page_state.proofs.Common.{not-holds, eq-made}
 use Rattle.table_tree.specs.declared.table.Table.{Table}
 use Rattle.table_tree.specs.declared.table.Slot.TheVariants.{Word}
 use Rattle.table_tree.specs.Meaning.{index_at, slot_at, frame_of, entry_at}
 use Rattle.table_tree.specs.Shape.{IsWide, IsBlank, IsShaped}
 use Rattle.table_tree.specs.Slots.{fresh}
-use Rattle.table_tree.specs.Tables.{tables_in, uses_in, table_in, is_one, frame_count}
+use Rattle.table_tree.specs.Tables.{tables_in, uses_in, table_in}
 use Rattle.table_tree.specs.Tight.{IsTight}
 use Rattle.table_tree.specs.Changes.{IsAttached, IsNew}
-use Rattle.table_tree.proofs.Digits.{test_same}
 use Rattle.table_tree.proofs.PathNumbers.{index_same}
 use Rattle.table_tree.proofs.Slots.{set_here}
 use Rattle.table_tree.proofs.Standing.{table_top}
 use Rattle.table_tree.proofs.Words.{zero_entry}
-use Rattle.table_tree.proofs.Sums.{count_split, count_next}
 use Rattle.walk_plan.specs.declared.change.Change.{Change}
 use Rattle.walk_plan.specs.Changes.{changed, slot_need, table_need}
 use Rattle.walk_plan.specs.Ranks.{given, slot_rank, table_rank, slot_gone, table_gone}
@@ -88,8 +88,8 @@ module _ {A : Type 0} where
           → table_in (d + 1) v low q ≡ given fs (table_in (d + 1) t low q) (slot_rank (d + 1) (slot_at t i) c low q)
       back_kept low q p h e x n =
           let y : index_at (d + 1) p ≡ i = index_same (d + 1) low p q h e ∙ x in
-          let here : entry_at (d + 1) v p ≡ entry_at d b' p = a.map d p ∙ ap (λ z. cond z (entry_at d b' p) (entry_at (d + 1) u p)) (test_same (index_at (d + 1) p) i y) in
-          let stand : table_in (d + 1) v low q ≡ table_in d b' low q = a.standing d low q (omega arith) ∙ ap (λ z. cond z (table_in d b' low q) (table_in (d + 1) u low q)) (test_same (index_at (d + 1) q) i x) in
+          let here : entry_at (d + 1) v p ≡ entry_at d b' p = a.map d p ∙ ap (λ z. cond z (entry_at d b' p) (entry_at (d + 1) u p)) (eq-made (index_at (d + 1) p) i y) in
+          let stand : table_in (d + 1) v low q ≡ table_in d b' low q = a.standing d low q (omega arith) ∙ ap (λ z. cond z (table_in d b' low q) (table_in (d + 1) u low q)) (eq-made (index_at (d + 1) q) i x) in
           by_eq low d
           (λ z. stand ∙ table_top d low b' q z ∙ ap Some g.frame ∙ sym (r.here q x) ∙ ap (λ l. given fs (table_in (d + 1) t l q) (slot_rank (d + 1) (slot_at t i) c l q)) (sym z))
           (λ z. let l : low < d = omega arith in stand ∙ g.kept low q p l e (λ w. n (here ∙ w)) ∙ r.below low q l x)

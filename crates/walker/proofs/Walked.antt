@@ -6,14 +6,15 @@ use Rattle.std.proofs.Math.Nat.{mod-eq_of_lt}
 use Rattle.page_state.specs.declared.entry.Entry.{Entry}
 use Rattle.page_state.specs.declared.entry.Entry.TheVariants.{Unmapped}
 use Rattle.page_state.specs.Geometries.{block_pages}
+use Rattle.page_state.specs.Counts.{frame_count}
+use Rattle.page_state.proofs.Counts.{count_split}
 use Rattle.page_state.proofs.Cases.{by_eq, by_lt}
 use Rattle.table_tree.specs.Shape.{IsBlank}
 use Rattle.table_tree.specs.declared.table.Table.{Table}
 use Rattle.table_tree.specs.Meaning.{index_at, slot_at, entry_at}
-use Rattle.table_tree.specs.Tables.{table_in, frame_count}
+use Rattle.table_tree.specs.Tables.{table_in}
 use Rattle.table_tree.proofs.PathNumbers.{index_same}
 use Rattle.table_tree.proofs.Steps.{blank_entries}
-use Rattle.table_tree.proofs.Sums.{count_split}
 use Rattle.walk_plan.specs.declared.change.Change.{Change}
 use Rattle.walk_plan.specs.Changes.{IsChange, changed, part, sum_to, met, slot_need, table_parts}
 use Rattle.walk_plan.specs.Ranks.{given, later, slot_rank, table_rank, slot_gone, gone_parts}

@@ -6,13 +6,14 @@ use Rattle.page_state.specs.Entries.{advance, entry_of_word}
 use Rattle.page_state.specs.EntryTests.{is_unmapped}
 use Rattle.page_state.specs.Search.{all_below}
 use Rattle.page_state.specs.Geometries.{block_pages}
+use Rattle.page_state.specs.Counts.{frame_count, is_one}
 use Rattle.table_tree.specs.declared.table.Table.{Table}
 use Rattle.table_tree.specs.declared.table.Slot.{Slot}
 use Rattle.table_tree.specs.declared.table.Slot.TheVariants.{Word}
 use Rattle.table_tree.specs.Meaning.{level_at, index_at, slot_at, slots_of, frame_of, word_entry, entry_at}
 use Rattle.table_tree.specs.Shape.{HoldsWord, IsEntryWord, IsTableFrame, IsShaped}
 use Rattle.table_tree.specs.Slots.{fresh}
-use Rattle.table_tree.specs.Tables.{tables_in, uses_in, table_in, frame_count, is_one}
+use Rattle.table_tree.specs.Tables.{tables_in, uses_in, table_in}
 use Rattle.table_tree.specs.Tight.{IsTight}
 use Rattle.walk_plan.specs.declared.change.Change.{Change}
 use Rattle.walk_plan.specs.Changes.{IsChange, changed, is_one_word, slot_need, table_need}

@@ -3,9 +3,9 @@ ghost use Rattle.std.specs.Prelude.{◌≡◌, ℕ, ◌+◌, ◌*◌, ◌<◌, �
 ghost use Rattle.page_state.specs.Regions.{end_of};
 ghost use Rattle.page_state.specs.Tables.{put, need, returned, edited, all_given};
 ghost use Rattle.page_state.specs.Geometries.{levels_below, input_pages};
+ghost use Rattle.page_state.specs.Counts.{frame_count};
 ghost use Rattle.table_tree.specs.Reading.{count_of};
 ghost use Rattle.table_tree.specs.Stocks.{frames_of};
-ghost use Rattle.table_tree.specs.Tables.{frame_count};
 ghost use Rattle.table_tree.specs.View.{tree_of, uses, tables_of, root_of};
 ghost use Rattle.walk_plan.specs.Changes.{CanBeSaidOn};
 

@@ -2,8 +2,8 @@ ghost use Rattle.std.specs.Prelude.{◌≡◌, ℕ, ◌+◌, ◌≤◌, ◌^◌,
 ghost use Rattle.page_state.specs.Tables.{put, need as need_of};
 ghost use Rattle.page_state.specs.declared.layout.Geometry.TheVariants.{Bits39};
 ghost use Rattle.page_state.specs.Geometries.{levels_below};
+ghost use Rattle.page_state.specs.Counts.{frame_count};
 ghost use Rattle.table_tree.specs.Stocks.{frames_of};
-ghost use Rattle.table_tree.specs.Tables.{frame_count};
 ghost use Rattle.table_tree.specs.View.{tree_of, uses, tables_of};
 ghost use Rattle.walk_plan.specs.Changes.{CanBeSaidOn, IsRangeEntry};
 

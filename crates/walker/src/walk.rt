@@ -2,11 +2,12 @@
 ghost use Rattle.std.specs.Prelude.{◌≡◌, ◌≢◌, ℕ, ◌+◌, ◌-◌, ◌*◌, ◌/◌, ◌<◌, ◌≤◌, length, take, drop};
 ghost use Rattle.page_state.specs.declared.entry.Entry.TheVariants.{Unmapped};
 ghost use Rattle.page_state.specs.Geometries.{block_pages};
+ghost use Rattle.page_state.specs.Counts.{frame_count};
 ghost use Rattle.table_tree.specs.Meaning.{IsDepth, index_at, slot_at, frame_of, entry_at};
 ghost use Rattle.table_tree.specs.Reading.{count_of};
 ghost use Rattle.table_tree.specs.Shape.{IsShaped};
 ghost use Rattle.table_tree.specs.Stocks.{frames_of};
-ghost use Rattle.table_tree.specs.Tables.{tables_in, uses_in, table_in, frame_count};
+ghost use Rattle.table_tree.specs.Tables.{tables_in, uses_in, table_in};
 ghost use Rattle.table_tree.specs.Tight.{IsTight};
 ghost use Rattle.walk_plan.specs.Changes.{IsChange, changed, slot_need, table_need};
 ghost use Rattle.walk_plan.specs.Looks.{edges};

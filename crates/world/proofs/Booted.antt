@@ -13,11 +13,15 @@ use Rattle.page_state.specs.Geometries.{geometry_of}
 use Rattle.page_state.specs.Layouts.{Layout, HasItsDepth}
 use Rattle.page_state.specs.Regions.{Memory}
 use Rattle.page_state.specs.State.{Shared, plain_row, no_cpu}
-use Rattle.table_tree.specs.Geometry.{levels_below}
+use Rattle.page_state.specs.Geometries.{levels_below}
+use Rattle.std.specs.Prelude.{Result, Ok, Err, IsErrAnd, MatchResult}
+use Rattle.world.specs.declared.boot.BootFault.{BootFault}
+use Rattle.world.specs.declared.boot.BootFault.TheVariants.{NoMemory}
 use Rattle.world.specs.declared.parts.CpuState.{CpuState}
 use Rattle.world.specs.declared.parts.Parts.{Parts}
-use Rattle.world.proofs.Steps.{both, standing}
-use Rattle.world.specs.Boots.{IsConfig, IsBooted, layout_for}
+use Rattle.page_state.proofs.Cases.{by_test}
+use Rattle.world.proofs.Steps.{standing}
+use Rattle.world.specs.Boots.{IsConfig, IsBooted, IsNoBoot, layout_for}
 use Rattle.world.specs.Stands.{layout_of, shared_of, cpu_of, state_of}
 use Rattle.world.specs.Steps.{calls_at}
 
@@ -27,7 +31,7 @@ IsFresh c k = (k.log.calls ≡ []) × (k.log.room ≡ c.log)
 
 -- the depth of a known geometry is that of its width
 width : (bits : ℕ) (g : Geometry) → geometry_of bits ≡ Some g → bits ≡ 12 + 9 * (levels_below g + 1)
-width bits Bits39 h = both (bits == 39) (λ e. grind (arith, nat_tests)) (λ e. let no : None ≡ Some Bits39 = rw e at h in absurd cc)
+width bits Bits39 h = by_test (bits == 39) (λ e. grind (arith, nat_tests)) (λ e. let no : None ≡ Some Bits39 = rw e at h in absurd cc)
 
 -- what a world was made with, by its parts
 abbrev pub told : Config → Memory → ToldLayout
@@ -84,3 +88,11 @@ module _ {A : Type 0} (m : Memory) (c : Config) (g : Geometry) (p : Parts A)
       shared_log = calls;
       own_logs = calls_are;
     }
+
+pub err_is : {X : Type 0} {a b : BootFault} → ◌≡◌ {A = Result X BootFault} (Err a) (Err b) → a ≡ b
+err_is h = cc
+
+-- want of memory, where no test fails
+pub no_memory : {A : Type 0} (m : Memory) (c : Config) (g : Geometry) (r : Result (Parts A) BootFault) → IsConfig c g → IsCarveEnough (layout_for m c g) → IsErrAnd r (λ f. f ≡ NoMemory) → MatchResult r (IsBooted m c) (λ fault. IsNoBoot fault m c)
+no_memory m c g (Ok p) accepted enough h = absurd h
+no_memory m c g (Err f) accepted enough h = subst (λ x. IsNoBoot x m c) (sym h) (g, accepted, enough)

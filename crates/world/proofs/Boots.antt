@@ -22,12 +22,12 @@ use Rattle.world.specs.declared.boot.BootFault.TheVariants.{NoMemory}
 use Rattle.world.specs.Boots.{fault_of_pool}
 use Rattle.hyp_pool.proofs.Order.{length-frames_from}
 use Rattle.table_tree.specs.declared.tree.Tree.{Tree as TableTree}
-use Rattle.table_tree.specs.Geometry.{levels_below}
+use Rattle.page_state.specs.Geometries.{levels_below}
 use Rattle.table_tree.specs.View.{meaning, table_at, tree_of}
 use Rattle.page_state.specs.declared.row.Row.{Row}
 use Rattle.world.proofs.Answers.{parts}
 use Rattle.world.specs.declared.component.PageEdit.{PageEdit}
-use Rattle.walk_plan.specs.NewTree.{new_tree}
+use Rattle.page_state.specs.Boot.{root_tree}
 use Rattle.world.specs.View.{edit_of, need_for, tree_after, back_from}
 
 -- a test that no element passes
@@ -38,7 +38,7 @@ filter_none p (x ∷ xs) h =
     rw here (filter_none p xs (λ k d less. h (suc k) d (omega (arith, less))))
 
 -- a new tree has no table below its root
-not_root : (l : Layout) (root : ℕ) (b : Block) → b.0 ≤ l.depth → (root_tree l root).table b ≡ None
+not_root : (l : Layout) (root : ℕ) (b : Block) → b.0 ≤ l.depth → (root_tree l.depth root).table b ≡ None
 not_root l root b h = let e : (b.0 == l.depth + 1) ≡ false = grind (arith, nat_tests) in rw e refl
 
 module _ (meet : BlocksMeet) where
@@ -46,12 +46,12 @@ module _ (meet : BlocksMeet) where
   low_blocks top first count some = All-weaker (Contains (blocks_on top first count)) (λ b. b.0 ≤ top) (λ b h. ((meet top first count b some).0 h).1) (blocks_on top first count) (All-contains_itself (blocks_on top first count))
 
   -- a change of a new tree gives no frame back
-  pub none_back : (l : Layout) (root first count : ℕ) (e : Entry) → 0 < count → returned l.depth (root_tree l root) (put first count e) ≡ []
+  pub none_back : (l : Layout) (root first count : ℕ) (e : Entry) → 0 < count → returned l.depth (root_tree l.depth root) (put first count e) ≡ []
   unfolding returned freed
   none_back l root first count e some =
-      let goes : Block → Bool = λ b. elim (is_some ((root_tree l root).table b)) [ true ↦ is_needless (edited_map empty_map (put first count e)) b | false ↦ false ] in
+      let goes : Block → Bool = λ b. elim (is_some ((root_tree l.depth root).table b)) [ true ↦ is_needless (edited_map empty_map (put first count e)) b | false ↦ false ] in
       let bs = blocks_on l.depth first count in
-      ap (filter_map (root_tree l root).table) (filter_none goes bs (All-weaker (λ b. b.0 ≤ l.depth) (λ b. goes b ≡ false) (λ b h. rw (not_root l root b h) refl) bs (low_blocks l.depth first count some)))
+      ap (filter_map (root_tree l.depth root).table) (filter_none goes bs (All-weaker (λ b. b.0 ≤ l.depth) (λ b. goes b ≡ false) (λ b h. rw (not_root l root b h) refl) bs (low_blocks l.depth first count some)))
 
 -- the two lowest frames are those of the roots
 pub two_taken : (first n a b : ℕ) (once twice : List ℕ) → 2 ≤ n → frames_from first n ≡ a ∷ once → once ≡ b ∷ twice → (a ≡ first) × (b ≡ first + 1) × (twice ≡ drop 2 (frames_from first n))
@@ -67,7 +67,7 @@ abbrev tree : Map → (Block → Option ℕ) → Tree
 tree m t = record { map = m; table = t }
 
 -- a tree without an entry, whose one table is the root's, is a new one
-pub new_is : {A : Type 0} (d : ℕ) (t : TableTree A) (root : ℕ) → meaning t ≡ empty_map → ((depth number : ℕ) → table_at t depth number ≡ (if depth == d + 1 && number == 0 then Some root else None)) → tree_of t ≡ new_tree d root
+pub new_is : {A : Type 0} (d : ℕ) (t : TableTree A) (root : ℕ) → meaning t ≡ empty_map → ((depth number : ℕ) → table_at t depth number ≡ (if depth == d + 1 && number == 0 then Some root else None)) → tree_of t ≡ root_tree d root
 new_is d t root m h = ap (λ x. tree x (λ b. table_at t b.0 b.1)) m ∙ ap (tree empty_map) (fun_ext (λ (b : Block). h b.0 b.1))
 
 module _ {A : Type 0} (l : Layout) where

@@ -19,7 +19,7 @@ use Rattle.world.specs.Boots.{IsBooted}
 use Rattle.world.specs.Histories.{kept_of, HasHistory}
 use Rattle.world.specs.Stands.{layout_of, cpu_of, state_of}
 use Rattle.world.specs.Steps.{calls_of, calls_at, call_of, is_full, IsStep}
-use Rattle.world.proofs.Steps.{both}
+use Rattle.page_state.proofs.Cases.{by_test}
 
 pair : {X Y : Type 0} {a b : X} {c d : Y} → a ≡ b → c ≡ d → ◌≡◌ {A = X × Y} (a, c) (b, d)
 pair {a = a} {d = d} e f = ap (λ y. (a, y)) f ∙ ap (λ x. (x, d)) e
@@ -73,7 +73,7 @@ module _ (reads : StepReads) (grows : HistoryGrows) {A : Type 0} (p q : Parts A)
       vms = ap (λ (x : Layout). (no_vms x.config.log, [])) made.layout;
       shared = pair (sym (ap (λ (s : Reference). s.shared) stands) ∙ sym (same.shared refl)) (made.shared_log roomy);
       guest = λ v. ap (λ (x : Layout). (no_guest x.config.log, [])) made.layout;
-      cpu = λ k. both (cpu == k) (λ e. rw e (own t u stands same k (grind (arith, nat_tests)))) (λ e. rw e (beside t k (grind (arith, nat_tests))));
+      cpu = λ k. by_test (cpu == k) (λ e. rw e (own t u stands same k (grind (arith, nat_tests)))) (λ e. rw e (beside t k (grind (arith, nat_tests))));
     }
 
     stored : HasHistory q
@@ -85,4 +85,4 @@ module _ (reads : StepReads) (grows : HistoryGrows) {A : Type 0} (p q : Parts A)
 
   -- the history grows by the call of a step, or stays where a log is full
   pub after_step : (step : Step) (reply : Reply) → IsStep p cpu step reply q → HasHistory p → HasHistory q
-  after_step (ShareHyp f) reply made h = both (is_full p cpu) (λ e. subst HasHistory (sym (made.full e)) h) (λ e. stored f reply made e h)
+  after_step (ShareHyp f) reply made h = by_test (is_full p cpu) (λ e. subst HasHistory (sym (made.full e)) h) (λ e. stored f reply made e h)

@@ -5,11 +5,12 @@ use Rattle.std.proofs.lemmas.List.Sums.{sum_by-append, sum_by-take-drop}
 use Rattle.page_state.specs.State.{Pool}
 use Rattle.page_state.specs.Tables.{all_given}
 use Rattle.page_state.specs.Geometries.{levels_below}
+use Rattle.page_state.specs.Counts.{frame_count, is_one}
 use Rattle.hyp_pool.specs.Laws.{GivenCounted, GivenAppend}
 use Rattle.hyp_pool.specs.Pools.{Stored}
 use Rattle.table_tree.specs.declared.tree.Tree.{Tree}
 use Rattle.table_tree.specs.declared.table.Table.{Table}
-use Rattle.table_tree.specs.Tables.{tables_in, frame_count, is_one}
+use Rattle.table_tree.specs.Tables.{tables_in}
 use Rattle.table_tree.specs.View.{tables_of}
 use Rattle.table_tree.proofs.Sums.{tables_some}
 

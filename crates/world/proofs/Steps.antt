@@ -11,7 +11,7 @@ use Rattle.page_state.specs.declared.row.Row.{Row}
 use Rattle.page_state.specs.declared.step.Step.{Step}
 use Rattle.page_state.specs.declared.step.Step.TheVariants.{ShareHyp}
 use Rattle.page_state.specs.Layouts.{Layout}
-use Rattle.page_state.specs.Parts.{Used, used_of, put_back}
+use Rattle.page_state.specs.Parts.{Used, used_alone, used_of, put_back}
 use Rattle.page_state.specs.SharedRules.{share_hyp}
 use Rattle.page_state.specs.State.{Reference, Shared as ReferenceShared, Cpu, no_cpu, no_vms, no_guest, plain_row, put_at}
 use Rattle.page_state.specs.Step.{IsDone, Steps, StepsOn, used_by, with_used, stored, with_rows, changed}
@@ -21,18 +21,15 @@ use Rattle.world.specs.Stands.{layout_of, shared_of, cpu_of, state_of}
 use Rattle.world.specs.declared.parts.Shared.{Shared}
 use Rattle.page_state.specs.History.{IsStored}
 use Rattle.page_state.specs.Regions.{Memory}
-use Rattle.world.specs.Sharing.{used_alone, layout_with, IsAnswered, IsMade, HasRoomFor}
+use Rattle.world.specs.Sharing.{layout_with, IsAnswered, IsMade, HasRoomFor}
 use Rattle.world.proofs.Told.{tests}
 use Rattle.world.specs.Steps.{calls_of, calls_at, call_of, is_full, Leads, IsStep}
+use Rattle.page_state.proofs.Cases.{by_test}
 use Rattle.page_state.proofs.Shares.{full, refused, done, changed_is}
 
 -- the state with these rooms, this Shared part and these CPUs
 abbrev pub standing : ℕ → ReferenceShared → (ℕ → Cpu) → Reference
 standing n sh cs = record { vms = no_vms n; shared = sh; guest = λ v. no_guest n; cpu = cs }
-
-pub both : {P : Type 0} (b : Bool) → (b ≡ true → P) → (b ≡ false → P) → P
-both true f g = f refl
-both false f g = g refl
 
 clash : {b : Bool} → b ≡ true → b ≡ false → ⊥
 clash h o = cc

@@ -12,32 +12,20 @@ use Rattle.page_state.specs.declared.step.Step.TheVariants.{ShareHyp}
 use Rattle.page_state.specs.Layouts.{Layout}
 use Rattle.page_state.specs.Parts.{used_alone}
 use Rattle.page_state.specs.Regions.{Memory}
-use Rattle.page_state.specs.SharedRules.{share_hyp}
+use Rattle.page_state.specs.SharedRules.{share_hyp, host_share, hyp_share}
 use Rattle.page_state.specs.State.{Cpu}
 use Rattle.page_state.specs.Step.{refusal, shared_after}
-use Rattle.page_state.specs.Tables.{Edit, put, need}
-use Rattle.table_tree.specs.Geometry.{levels_below}
+use Rattle.page_state.specs.Tables.{need}
+use Rattle.page_state.specs.Geometries.{levels_below}
 use Rattle.table_tree.specs.View.{tree_of}
 use Rattle.world.specs.declared.parts.Shared.{Shared}
 use Rattle.world.specs.Stands.{shared_of}
-
--- the change of the host's tree
-abbrev pub host_change : ℕ → Edit
-host_change f = put f 1 (leaf RWX f SharedOwned)
-
--- and of the hypervisor's
-abbrev pub hyp_change : ℕ → Edit
-hyp_change f = put (hyp_page f) 1 (leaf RW f SharedBorrowed)
-
--- what a call uses that uses the Shared part alone
-abbrev pub used_alone : ReferenceShared → Cpu → Used
-used_alone s k = record { vms = no_vms 0; shared = s; guest = no_guest 0; cpu = k }
 
 -- no growth can be needed: both trees have their tables, and both maplets room for a page
 abbrev pub HasRoom : {A : Type 0} → ℕ → Shared A → Type 0
 HasRoom f s =
     let d = levels_below s.host.tree.geometry in
-    (1 ≤ s.host.maplets.room) × (1 ≤ s.hyp.maplets.room) × (need d (tree_of s.host.tree) (host_change f) ≡ 0) × (need d (tree_of s.hyp.tree) (hyp_change f) ≡ 0)
+    (1 ≤ s.host.maplets.room) × (1 ≤ s.hyp.maplets.room) × (need d (tree_of s.host.tree) (host_share f) ≡ 0) × (need d (tree_of s.hyp.tree) (hyp_share f) ≡ 0)
 
 module _ {A : Type 0} (m : Memory) (f : ℕ) (s : Shared A) where
   -- the layout, with any configuration

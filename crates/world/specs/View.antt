@@ -6,9 +6,9 @@ use Rattle.page_state.specs.State.{Tree}
 use Rattle.page_state.specs.Tables.{Edit, put, need, returned, edited}
 use Rattle.page_state.specs.declared.layout.Geometry.{Geometry}
 use Rattle.page_state.specs.Geometries.{levels_below, input_pages}
+use Rattle.page_state.specs.Counts.{frame_count}
 use Rattle.hyp_pool.specs.Pools.{Stored}
 use Rattle.table_tree.specs.declared.tree.Tree.{Tree as TableTree}
-use Rattle.table_tree.specs.Tables.{frame_count}
 use Rattle.table_tree.specs.View.{tree_of, uses, tables_of}
 use Rattle.walk_plan.specs.Changes.{CanBeSaidOn}
 use Rattle.world.specs.declared.component.PageEdit.{PageEdit}

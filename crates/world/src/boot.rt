@@ -6,11 +6,11 @@ ghost use Rattle.page_state.specs.EntryTests.{leaf as leaf_of, annotation};
 ghost use Rattle.page_state.specs.Layouts.{hyp_page as hyp_page_of};
 ghost use Rattle.page_state.specs.Regions.{end_of};
 ghost use Rattle.page_state.specs.State.{plain_row};
-ghost use Rattle.table_tree.specs.Geometry.{levels_below};
+ghost use Rattle.page_state.specs.Geometries.{levels_below};
 ghost use Rattle.world.specs.Boots.{IsBooted, IsConfig, IsNoBoot, boot_number, layout_for};
 ghost use Rattle.world.specs.Stands.{shared_of};
 ghost use Rattle.table_tree.specs.View.{tree_of};
-ghost use Rattle.walk_plan.specs.NewTree.{new_tree};
+ghost use Rattle.page_state.specs.Boot.{root_tree};
 ghost use Rattle.world.specs.View.{IsApart, IsEdit};
 
 use crate::both::change_both;
@@ -170,8 +170,8 @@ fn roots<A: Allocator + Copy>(
     geometry: Geometry,
 ) -> Result<(Component<A>, Component<A>, Pool), AllocError>
     requires { 2 ≤ map.now.carve.count }
-    ensures host { IfOk result (λ r. tree_of r.0.tree ≡ new_tree (levels_below geometry) map.now.carve.first.0) }
-    ensures hyp { IfOk result (λ r. tree_of r.1.tree ≡ new_tree (levels_below geometry) (map.now.carve.first.0 + 1)) }
+    ensures host { IfOk result (λ r. tree_of r.0.tree ≡ root_tree (levels_below geometry) map.now.carve.first.0) }
+    ensures hyp { IfOk result (λ r. tree_of r.1.tree ≡ root_tree (levels_below geometry) (map.now.carve.first.0 + 1)) }
     ensures pool { IfOk result (λ r. r.2.frames ≡ drop 2 (frames_from map.now.carve.first.0 map.now.carve.count)) }
     ensures host_geometry { IfOk result (λ r. r.0.tree.geometry ≡ geometry) }
     ensures hyp_geometry { IfOk result (λ r. r.1.tree.geometry ≡ geometry) }

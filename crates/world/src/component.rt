@@ -3,8 +3,8 @@ ghost use Rattle.std.specs.Prelude.{◌≡◌, ℕ, ◌+◌, ◌<◌, ◌≤◌,
 ghost use Rattle.page_state.specs.Map.{empty_map};
 ghost use Rattle.page_state.specs.Runs.{map_of};
 ghost use Rattle.page_state.specs.Tables.{all_given};
+ghost use Rattle.page_state.specs.Counts.{frame_count};
 ghost use Rattle.table_tree.specs.Stocks.{frames_of};
-ghost use Rattle.table_tree.specs.Tables.{frame_count};
 ghost use Rattle.table_tree.specs.View.{meaning, tree_of, uses, tables_of, root_of};
 ghost use Rattle.world.specs.Maps.{maps_prop};
 ghost use Rattle.world.specs.View.{IsEdit, need_for, tree_after, back_from};

@@ -1,7 +1,7 @@
 use Rattle.std.proofs.Common.{◌≡◌, ◌+◌, ◌-◌, sym, ◌∙◌, arith}
 use Rattle.page_state.specs.declared.entry.Target.TheVariants.{Malformed}
+use Rattle.page_state.proofs.Cases.{by_eq}
 use Rattle.maplets.specs.declared.PageTarget.{PageTarget}
-use Rattle.maplets.proofs.Joins.{by_eq}
 use Rattle.maplets.proofs.Places.{at_place}
 use Rattle.maplets.proofs.Chained.{continues_at, ends_last}
 use Rattle.maplets.proofs.runs.run_length.Goals as goal

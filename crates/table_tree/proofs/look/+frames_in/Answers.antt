@@ -1,5 +1,5 @@
 use Rattle.std.proofs.Common.{◌≡◌, ◌≤◌, [], ◌∷◌, arith, ap, length, length-append}
-use Rattle.table_tree.specs.Tables.{is_one}
+use Rattle.page_state.specs.Counts.{is_one}
 use Rattle.table_tree.specs.Meaning.{frame_of}
 use Rattle.table_tree.proofs.Slots.{shaped_wide, shaped_slot, slot_child_is}
 use Rattle.table_tree.proofs.Sums.{tables_zero, uses_zero, tables_more_word, tables_more_child, tables_all, uses_more_word, uses_more_child, uses_all, uses_start, count_push}

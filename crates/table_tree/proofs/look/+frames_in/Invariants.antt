@@ -1,6 +1,7 @@
 use Rattle.std.proofs.Common.{◌≡◌, ℕ, ◌+◌, sum_by, take, length}
 use Rattle.table_tree.specs.Meaning.{slots_of, frame_of}
-use Rattle.table_tree.specs.Tables.{is_one, count_of}
+use Rattle.page_state.specs.Counts.{is_one}
+use Rattle.table_tree.specs.Tables.{count_of}
 use Rattle.table_tree.specs.Slots.{slot_tables}
 use Rattle.table_tree.proofs.Sums.{uses_before}
 use Rattle.table_tree.proofs.look.+frames_in.Given as goal

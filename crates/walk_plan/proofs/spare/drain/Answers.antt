@@ -1,9 +1,9 @@
 use Rattle.std.proofs.Common.{◌≡◌, ◌∷◌, sym, ap, arith, ◌∙◌, length}
 use Rattle.page_state.specs.Tables.{all_given}
+use Rattle.page_state.specs.Counts.{frame_count}
+use Rattle.page_state.proofs.Counts.{count_next}
 use Rattle.table_tree.specs.Meaning.{frame_of}
 use Rattle.table_tree.specs.Stocks.{frames_of}
-use Rattle.table_tree.specs.Tables.{frame_count}
-use Rattle.table_tree.proofs.Sums.{count_next}
 use Rattle.walk_plan.proofs.Given.{given_through, not_there, one_self}
 use Rattle.walk_plan.proofs.spare.drain.Goals as goal
 

@@ -1,7 +1,7 @@
 use Rattle.std.proofs.Common.{◌≡◌, ℕ, ◌+◌, ◌≤◌, length}
 use Rattle.page_state.specs.Tables.{all_given}
+use Rattle.page_state.specs.Counts.{frame_count}
 use Rattle.table_tree.specs.Stocks.{frames_of}
-use Rattle.table_tree.specs.Tables.{frame_count}
 use Rattle.walk_plan.proofs.spare.drain.Given as goal
 
 abbrev pub invariant-loop-table : goal.invariant-loop-table

@@ -2,8 +2,8 @@ use Rattle.std.proofs.Common.{◌-◌, ap, arith, ◌∙◌, get_or, drop}
 use Rattle.std.proofs.lemmas.List.{drop-map}
 use Rattle.descriptor.specs.declared.Frame.{Frame}
 use Rattle.hyp_pool.specs.Pools.{numbers}
-use Rattle.table_tree.specs.Tables.{frame_count}
-use Rattle.table_tree.proofs.Sums.{count_next}
+use Rattle.page_state.specs.Counts.{frame_count}
+use Rattle.page_state.proofs.Counts.{count_next}
 use Rattle.walk_plan.proofs.Given.{numbers_next, not_there, one_self, count_drop}
 use Rattle.walk_plan.proofs.spare.give_back.Goals as goal
 

@@ -5,7 +5,7 @@ use Rattle.descriptor.specs.declared.Frame.{Frame}
 use Rattle.hyp_pool.specs.Pools.{numbers}
 use Rattle.hyp_pool.proofs.Pools.{same_pool}
 use Rattle.page_state.specs.Tables.{all_given}
-use Rattle.table_tree.specs.Tables.{frame_count, is_one}
+use Rattle.page_state.specs.Counts.{frame_count, is_one}
 use Rattle.walk_plan.proofs.Given.{take_drop_length}
 use Rattle.walk_plan.proofs.spare.reserve.Goals as goal
 

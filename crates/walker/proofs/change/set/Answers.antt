@@ -1,11 +1,11 @@
 use Rattle.std.proofs.Common.{◌≡◌, ap, arith, ◌∙◌, take, drop}
 use Rattle.page_state.specs.Tables.{put, need, edited}
 use Rattle.page_state.specs.Geometries.{levels_below}
+use Rattle.page_state.specs.Counts.{frame_count}
+use Rattle.page_state.proofs.Counts.{count_parts}
 use Rattle.page_state.proofs.Edits.{edited_take}
 use Rattle.table_tree.specs.Stocks.{frames_of}
-use Rattle.table_tree.specs.Tables.{frame_count}
 use Rattle.table_tree.specs.View.{tree_of}
-use Rattle.table_tree.proofs.Sums.{count_parts}
 use Rattle.walker.proofs.change.set.Goals as goal
 
 pub set_with-requires-clause-distinct : goal.set_with-requires-clause-distinct

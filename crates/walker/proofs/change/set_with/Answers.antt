@@ -1,7 +1,7 @@
 use Rattle.std.proofs.Common.{◌≡◌, ℕ, ◌+◌, ◌*◌, refl, ap, arith, ◌∙◌, length}
 use Rattle.page_state.specs.Geometries.{levels_below}
+use Rattle.page_state.specs.Counts.{frame_count}
 use Rattle.table_tree.specs.Stocks.{frames_of}
-use Rattle.table_tree.specs.Tables.{frame_count}
 use Rattle.table_tree.proofs.Sums.{tree_some}
 use Rattle.walk_plan.proofs.Looks.{edges_most}
 use Rattle.walk_plan.proofs.Needed.{need_walked}

@@ -1,7 +1,7 @@
 use Rattle.std.proofs.Common.{◌≢◌, ◌<◌, ◌≤◌, sym, ap, arith, ◌∙◌, refl}
 use Rattle.table_tree.specs.declared.table.Slot.TheVariants.{Word}
 use Rattle.table_tree.specs.Meaning.{index_at}
-use Rattle.table_tree.specs.Tables.{is_one}
+use Rattle.page_state.specs.Counts.{is_one}
 use Rattle.table_tree.proofs.Slots.{set_others, set_wide}
 use Rattle.walker.proofs.Writes.{written_map, written_parts}
 use Rattle.walker.proofs.open.fill.Goals as goal

@@ -1,10 +1,11 @@
 use Rattle.std.proofs.Common.{◌≡◌, ℕ, ◌+◌, ◌%◌, ◌<◌, ◌≤◌, None}
 use Rattle.page_state.specs.Entries.{advance}
 use Rattle.page_state.specs.Geometries.{block_pages}
+use Rattle.page_state.specs.Counts.{is_one}
 use Rattle.table_tree.specs.declared.table.Slot.TheVariants.{Word}
 use Rattle.table_tree.specs.Meaning.{index_at, slot_at, frame_of, entry_at}
 use Rattle.table_tree.specs.Shape.{IsWide, IsShaped}
-use Rattle.table_tree.specs.Tables.{tables_in, uses_in, table_in, is_one}
+use Rattle.table_tree.specs.Tables.{tables_in, uses_in, table_in}
 use Rattle.table_tree.specs.Tight.{IsTight}
 use Rattle.walker.specs.Steps.{IsPart}
 use Rattle.walker.proofs.open.fill.Given as goal

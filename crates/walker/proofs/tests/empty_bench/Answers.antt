@@ -1,6 +1,6 @@
 use Rattle.std.proofs.Common.{◌≡◌, ◌∷◌, ap, arith, ◌∙◌}
-use Rattle.table_tree.specs.Tables.{frame_count}
-use Rattle.table_tree.proofs.Sums.{count_next}
+use Rattle.page_state.specs.Counts.{frame_count}
+use Rattle.page_state.proofs.Counts.{count_next}
 use Rattle.walker.proofs.tests.empty_bench.Goals as goal
 
 pub returns-clause-distinct : goal.returns-clause-distinct

@@ -1,10 +1,11 @@
 use Rattle.std.proofs.Common.{◌≡◌, ap, arith, take, drop, length}
 use Rattle.page_state.specs.Tables.{put, need}
 use Rattle.page_state.specs.Geometries.{levels_below}
+use Rattle.page_state.specs.Counts.{frame_count}
+use Rattle.page_state.proofs.Counts.{count_parts}
 use Rattle.table_tree.specs.Stocks.{frames_of}
-use Rattle.table_tree.specs.Tables.{frame_count}
 use Rattle.table_tree.specs.View.{tree_of}
-use Rattle.table_tree.proofs.Sums.{count_parts, tree_some}
+use Rattle.table_tree.proofs.Sums.{tree_some}
 use Rattle.walk_plan.proofs.Given.{take_drop_length}
 use Rattle.walker.proofs.tests.in_hand.Goals as goal
 

@@ -1,10 +1,11 @@
 use Rattle.std.proofs.Common.{◌≡◌, ℕ, ◌+◌, ◌-◌, ◌*◌, ◌/◌, ◌≤◌, ◌<◌, drop, take, length}
 use Rattle.page_state.specs.Geometries.{block_pages}
+use Rattle.page_state.specs.Counts.{frame_count}
 use Rattle.table_tree.specs.Meaning.{index_at, slot_at, frame_of, entry_at}
 use Rattle.table_tree.specs.Reading.{count_of}
 use Rattle.table_tree.specs.Shape.{IsShaped}
 use Rattle.table_tree.specs.Stocks.{frames_of}
-use Rattle.table_tree.specs.Tables.{tables_in, uses_in, table_in, frame_count}
+use Rattle.table_tree.specs.Tables.{tables_in, uses_in, table_in}
 use Rattle.table_tree.specs.Tight.{IsTight}
 use Rattle.walk_plan.specs.Changes.{changed, met, sum_to, table_parts}
 use Rattle.walk_plan.specs.Ranks.{gone_parts}

@@ -8,7 +8,7 @@ use Rattle.page_state.specs.EntryTests.{annotation, leaf}
 use Rattle.page_state.specs.Layouts.{Layout, hyp_page}
 use Rattle.page_state.specs.State.{plain_row}
 use Rattle.page_state.specs.Tables.{put}
-use Rattle.table_tree.specs.Geometry.{levels_below}
+use Rattle.page_state.specs.Geometries.{levels_below}
 use Rattle.table_tree.specs.View.{tree_of}
 use Rattle.world.specs.Boots.{layout_for}
 use Rattle.world.specs.View.{IsApart, edit_of}

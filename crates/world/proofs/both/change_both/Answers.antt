@@ -1,10 +1,11 @@
 use Rattle.std.proofs.Common.{◌≡◌, ℕ, ◌+◌, ◌≤◌, ap, ◌∙◌, arith, length, take, drop, ◌++◌}
 use Rattle.page_state.specs.Tables.{all_given}
+use Rattle.page_state.specs.Counts.{frame_count}
+use Rattle.page_state.proofs.Counts.{count_parts}
 use Rattle.std.proofs.lemmas.List.{drop-drop}
 use Rattle.table_tree.specs.Stocks.{frames_of}
-use Rattle.table_tree.specs.Tables.{frame_count}
 use Rattle.table_tree.specs.View.{uses, tables_of}
-use Rattle.table_tree.proofs.Sums.{count_parts, tree_some}
+use Rattle.table_tree.proofs.Sums.{tree_some}
 use Rattle.walk_plan.proofs.Given.{take_drop_length}
 use Rattle.world.specs.View.{need_for, tree_after, back_from}
 use Rattle.world.proofs.Pools.{given_both}

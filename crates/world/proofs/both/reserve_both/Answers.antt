@@ -1,9 +1,9 @@
 use Rattle.std.proofs.Common.{◌≡◌, ap, ◌∙◌, arith, length, take, drop}
 use Rattle.page_state.specs.Tables.{all_given}
+use Rattle.page_state.specs.Counts.{frame_count}
+use Rattle.page_state.proofs.Counts.{count_parts}
 use Rattle.hyp_pool.proofs.Pools.{same_pool}
 use Rattle.table_tree.specs.Stocks.{frames_of}
-use Rattle.table_tree.specs.Tables.{frame_count}
-use Rattle.table_tree.proofs.Sums.{count_parts}
 use Rattle.walk_plan.proofs.Given.{take_drop_length}
 use Rattle.world.specs.View.{need_for}
 use Rattle.world.proofs.both.reserve_both.Goals as goal

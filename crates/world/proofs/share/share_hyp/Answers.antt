@@ -5,10 +5,11 @@ use Rattle.hyp_pool.specs.declared.PoolFault.TheVariants.{NoPool, NoMemory}
 use Rattle.page_state.specs.EntryTests.{is_free_page, is_mapped}
 use Rattle.page_state.specs.Layouts.{hyp_page}
 use Rattle.page_state.specs.Tables.{need}
-use Rattle.table_tree.specs.Geometry.{levels_below}
+use Rattle.page_state.specs.Geometries.{levels_below}
 use Rattle.table_tree.specs.View.{meaning, tree_of}
 use Rattle.world.specs.Stands.{shared_of}
-use Rattle.world.specs.Sharing.{host_change, hyp_change, layout_with}
+use Rattle.page_state.specs.SharedRules.{host_share, hyp_share}
+use Rattle.world.specs.Sharing.{layout_with}
 use Rattle.world.specs.declared.component.PageEdit.{PageEdit}
 use Rattle.world.specs.View.{edit_of, need_for}
 use Rattle.page_state.proofs.Common.{not-false, not-true}

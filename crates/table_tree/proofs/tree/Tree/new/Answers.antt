@@ -1,6 +1,6 @@
 use Rattle.std.proofs.Common.{◌∙◌, ap}
 use Rattle.page_state.specs.Geometries.{levels_below}
-use Rattle.table_tree.specs.Tables.{is_one}
+use Rattle.page_state.specs.Counts.{is_one}
 use Rattle.table_tree.specs.View.{root_of, uses, tables_of}
 use Rattle.table_tree.proofs.Steps.{blank_shaped, blank_words}
 use Rattle.table_tree.proofs.Sums.{words_tables, words_uses}

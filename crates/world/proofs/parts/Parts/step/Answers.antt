@@ -8,7 +8,7 @@ use Rattle.world.specs.declared.parts.Parts.{Parts}
 use Rattle.world.specs.Stands.{shared_of}
 use Rattle.world.specs.Steps.{calls_of, calls_at}
 use Rattle.world.proofs.Places.{written, kept}
-use Rattle.world.proofs.Shares.{not_either}
+use Rattle.page_state.proofs.Common.{or-neither}
 use Rattle.world.proofs.Steps.{full_step, stored_step}
 use Rattle.world.proofs.parts.Parts.step.Goals as goal
 
@@ -32,7 +32,7 @@ store-requires g c =
     let before : slice_get p.cpus.items c.args.cpu ≡ Some k = slice_get_read p.cpus.items (length p.cpus.items) c.args.cpu k refl (within p c.args.cpu c.requires) c.index_mut.ensures.value in
     let closed = sym c.is_full.ensures ∙ c.if-is_full.false in
     let free = rw before at closed in
-    let room = (not_either (k.log.room == 0) (p.shared.log.room == 0) free).0 in
+    let room = (or-neither (k.log.room == 0) (p.shared.log.room == 0) free).0 in
     grind (arith, nat_tests)
 
 pub returns-clause-step : goal.returns-clause-step
