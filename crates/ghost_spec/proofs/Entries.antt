@@ -1,21 +1,13 @@
 -- Entries: equality, entries along a run, and frames below 2^63.
-use Rattle.std.proofs.Common.{◌≡◌, ℕ, ◌+◌, ◌≤◌, Bool, true, false, ◌&&◌, ◌==◌, Some, None, refl, sym, ap, ◌∙◌, arith, inl, inr}
-use Rattle.std.proofs.lemmas.Bool.{cases_eq}
-use Rattle.std.proofs.lemmas.Bool.Decides.{nat_tests}
+use Rattle.std.proofs.Common.{◌≡◌, ℕ, ◌+◌, ◌≤◌, Some, None, sym, ap, ◌∙◌, arith}
 use Rattle.page_state.specs.declared.entry.Entry.{Entry}
 use Rattle.page_state.specs.declared.entry.Entry.TheVariants.{Unmapped, Malformed as MalformedEntry, Annotated as AnnotatedEntry, Leaf as LeafEntry}
 use Rattle.descriptor.specs.declared.Frame.{Frame}
 use Rattle.descriptor.specs.declared.Prot.{Prot}
-use Rattle.descriptor.specs.declared.Prot.TheVariants.{R, RW, RX, RWX}
 use Rattle.descriptor.specs.declared.Kind.{Kind}
-use Rattle.descriptor.specs.declared.Kind.TheVariants.{Normal, Device}
 use Rattle.descriptor.specs.declared.State.{State}
-use Rattle.descriptor.specs.declared.State.TheVariants.{Owned, SharedOwned, SharedBorrowed}
 use Rattle.page_state.specs.declared.entry.Target.{Target}
-use Rattle.page_state.specs.declared.entry.Target.TheVariants.{Malformed, Annotated, Leaf}
-use Rattle.page_state.specs.Entries.{advance, entry_of_target, entry_of, target_of, advance_target}
-use Rattle.page_state.specs.EntryTests.{entry_eq, prot_eq, kind_eq, state_eq}
-use Rattle.page_state.proofs.Common.{eq-self, eq-same}
+use Rattle.page_state.specs.Entries.{advance, entry_of_target, entry_of, target_of}
 use Rattle.page_state.proofs.Entries.{entry_of-target_of}
 use Rattle.ghost_spec.specs.Small.{HasLowFrames}
 

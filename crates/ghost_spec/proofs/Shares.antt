@@ -8,7 +8,7 @@ use Rattle.page_state.specs.Parts.{Used}
 use Rattle.page_state.specs.Regions.{Memory}
 use Rattle.page_state.specs.Rule.{Rule}
 use Rattle.page_state.specs.SharedRules.{share_hyp}
-use Rattle.page_state.specs.State.{Shared, Cpu}
+use Rattle.page_state.specs.State.{Cpu}
 use Rattle.page_state.specs.Step.{stored, with_rows, changed, shared_after}
 use Rattle.page_state.proofs.Shares.{changed_is}
 use Rattle.ghost_spec.specs.declared.share.Shared.{Shared as SharedOfLists}

@@ -1,7 +1,6 @@
 -- Sorted rows, and the targets that they give.
-use Rattle.std.proofs.Common.{◌≡◌, ℕ, zero, suc, ◌+◌, ◌-◌, ◌^◌, ◌<◌, ◌≤◌, true, false, ◌==◌, List, [], ◌∷◌, ◌++◌, take, drop, length, get_or, Some, None, refl, sym, ap, ◌∙◌, arith, cond, append_assoc, add-one, length-append}
+use Rattle.std.proofs.Common.{◌≡◌, ℕ, zero, suc, ◌+◌, ◌-◌, ◌^◌, ◌<◌, ◌≤◌, ◌==◌, List, [], ◌∷◌, ◌++◌, take, drop, length, get_or, Some, None, refl, sym, ap, ◌∙◌, arith, cond, append_assoc, add-one, length-append}
 use Rattle.std.proofs.lemmas.List.{take_at, drop_at}
-use Rattle.std.proofs.lemmas.Bool.Decides.{nat_tests}
 use Rattle.page_state.specs.declared.entry.Target.{Target}
 use Rattle.page_state.specs.declared.entry.Target.TheVariants.{Malformed, Annotated, Leaf}
 use Rattle.maplets.specs.declared.PageTarget.{PageTarget}
@@ -9,14 +8,12 @@ use Rattle.maplets.specs.Rows.{target_at, IsSortedFrom, AreBelow, rows_of, row_o
 use Rattle.maplets.specs.Targets.{HasFrameBelow}
 use Rattle.page_state.specs.declared.entry.Entry.TheVariants.{Unmapped}
 use Rattle.page_state.specs.Entries.{entry_of, entry_of_target, advance_target}
-use Rattle.page_state.specs.Map.{is_within, update}
+use Rattle.page_state.specs.Map.{update}
 use Rattle.page_state.proofs.Updates.{within_test, below_test, above_test}
 use Rattle.page_state.proofs.Entries.{entry_advanced}
 use Rattle.page_state.proofs.Cases.{by_eq, by_lt}
 use Rattle.page_state.proofs.Common.{eq-made, eq-other}
 use Rattle.std.proofs.lemmas.List.{take-append-drop}
-use native.Mathlib.Decide.{dec_le}
-use mathlib.Core.Logic.{dite}
 
 pub sorted_low : (m n : ℕ) (rows : List PageTarget) → m ≤ n → IsSortedFrom n rows → IsSortedFrom m rows
 sorted_low m n [] h s = tt

@@ -1,7 +1,7 @@
 -- Targets along a run.
 use Rattle.std.specs.Prelude.{ℕ, ◌+◌, ◌^◌, ◌≤◌}
 use Rattle.page_state.specs.declared.entry.Target.{Target}
-use Rattle.page_state.specs.declared.entry.Target.TheVariants.{Malformed, Annotated, Leaf}
+use Rattle.page_state.specs.declared.entry.Target.TheVariants.{Leaf}
 
 -- a leaf's frame is below 2^63
 abbrev pub HasFrameBelow : Target → ℕ → Type 0

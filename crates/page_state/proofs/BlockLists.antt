@@ -1,5 +1,5 @@
 -- The blocks on a range are those that meet it, by page, the parent before the child.
-use Rattle.std.proofs.Common.{◌≡◌, ℕ, zero, suc, ◌+◌, ◌-◌, ◌*◌, ◌/◌, ◌^◌, ◌≤◌, ◌<◌, refl, ap, sym, ◌∙◌, subst, arith, inl, inr, List, [], ◌∷◌, ◌++◌, length, filter, All, Contains, AllPairs, slice_index_or, mul_comm, mul_assoc, mul-le-mul_right, div-mul-le_self, mul-div_cancel}
+use Rattle.std.proofs.Common.{◌≡◌, ℕ, zero, suc, ◌+◌, ◌-◌, ◌*◌, ◌/◌, ◌≤◌, ◌<◌, refl, ap, sym, ◌∙◌, subst, arith, inl, inr, List, [], ◌∷◌, ◌++◌, length, filter, All, Contains, AllPairs, slice_index_or, mul_comm, mul_assoc, mul-le-mul_right, div-mul-le_self, mul-div_cancel}
 use Rattle.std.specs.Prelude.{Bool, true, ◌==◌}
 use Rattle.std.proofs.Math.Nat.{div-div-eq-div-mul, lt-div-mul-add}
 use Rattle.std.proofs.lemmas.Nat.{div-mul-add}

@@ -1,7 +1,7 @@
 -- At most one word gives its first page an entry.
-use Rattle.std.proofs.Common.{◌≡◌, ℕ, ◌*◌, ◌/◌, ◌%◌, ◌^◌, ◌<◌, refl, sym, arith, ◌∙◌, cond, Bool, true, false, Some, None, Option, ◌&&◌, ◌==◌, nat_le}
+use Rattle.std.proofs.Common.{◌≡◌, ℕ, ◌*◌, ◌/◌, ◌%◌, ◌^◌, ◌<◌, refl, sym, arith, ◌∙◌, Bool, true, false, Some, None, Option, ◌&&◌, ◌==◌, nat_le}
 use Rattle.std.proofs.lemmas.Bool.Decides.{nat_tests}
-use Rattle.descriptor.specs.Word.{field, page_bit, kind_bits, access_bits, execute_never_bit, state_bits, leaf_word, desc_of, kind_of_bits, state_of_bits, prot_of_bits, has_leaf_form, HasLeafForm, leaf_or_malformed, block_pages, is_upper}
+use Rattle.descriptor.specs.Word.{field, page_bit, kind_bits, access_bits, execute_never_bit, state_bits, leaf_word, desc_of, kind_of_bits, state_of_bits, prot_of_bits, has_leaf_form, leaf_or_malformed, block_pages, is_upper}
 use Rattle.descriptor.specs.declared.Level.{Level}
 use Rattle.descriptor.specs.declared.Kind.{Kind}
 use Rattle.descriptor.specs.declared.Prot.{Prot}

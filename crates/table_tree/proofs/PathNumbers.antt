@@ -1,6 +1,5 @@
 -- The numbers of paths, and the pages under them.
-use Rattle.std.proofs.Common.{◌≡◌, ℕ, zero, suc, ◌+◌, ◌-◌, ◌*◌, ◌/◌, ◌^◌, ◌<◌, List, [], ◌∷◌, length, All, refl, sym, ap, arith, ◌∙◌, fold, pow-suc}
-use Rattle.std.proofs.lemmas.Nat.{pow-add}
+use Rattle.std.proofs.Common.{◌≡◌, ℕ, zero, suc, ◌+◌, ◌-◌, ◌*◌, ◌/◌, ◌<◌, List, [], ◌∷◌, length, All, refl, sym, ap, arith, ◌∙◌, fold}
 use Rattle.std.proofs.Math.Nat.{div-div-eq-div-mul, div-lt_iff_lt-mul}
 use Rattle.page_state.specs.Geometries.{block_pages}
 use Rattle.page_state.proofs.Sizes.{size_some, size_step, size_add}

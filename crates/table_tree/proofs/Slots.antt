@@ -1,5 +1,4 @@
 use Rattle.std.proofs.Common.{◌≡◌, ℕ, zero, suc, ◌-◌, ◌<◌, ◌≤◌, ◌≢◌, List, [], ◌∷◌, length, get_or, refl, sym, ap, arith, ◌∙◌, inl, inr, ◌⊎◌}
-use Rattle.std.proofs.lemmas.Bool.{cases_eq}
 use Rattle.std.proofs.lemmas.List.{get_or_read_under, get_or-set_other, set-get_or}
 use Rattle.std.proofs.lemmas.Grind.{get_or-set_at}
 use Rattle.std.proofs.Math.ListN.{set, length-set}
@@ -12,7 +11,7 @@ use Rattle.table_tree.specs.declared.table.Slot.TheVariants.{Word, Child}
 use Rattle.table_tree.specs.declared.table.Slot.TheViews.{outs-Word, outs-Child, roll-out-Slot, roll-Slot, rolls-Word, rolls-Child}
 use Rattle.table_tree.specs.declared.table.Slot.TheOpen.{Word as OpenWord, Child as OpenChild}
 use Rattle.table_tree.specs.Meaning.{slot_at, slots_of, slot_case, frame_of}
-use Rattle.table_tree.specs.Shape.{IsWide, HoldsWord, MeetsSlot, IsEntryWord, IsTableFrame, IsShaped}
+use Rattle.table_tree.specs.Shape.{IsWide, MeetsSlot, IsEntryWord, IsTableFrame, IsShaped}
 use Rattle.table_tree.specs.Slots.{IsSlot}
 
 pub set_twice : {X : Type 0} (xs : List X) (i : ℕ) (a s : X) → set (set xs i a) i s ≡ set xs i s

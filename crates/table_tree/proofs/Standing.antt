@@ -1,4 +1,4 @@
-use Rattle.std.proofs.Common.{◌≡◌, ℕ, zero, suc, ◌<◌, refl, ap, arith, ◌∙◌, cond, Bool, true, false, Some, None, ◌==◌, ltb}
+use Rattle.std.proofs.Common.{◌≡◌, ℕ, zero, suc, ◌<◌, refl, ap, arith, ◌∙◌, cond, Some, None, ◌==◌, ltb}
 use Rattle.std.proofs.lemmas.Bool.Decides.{nat_tests}
 use Rattle.std.specs.declared.boxed.Box.{Box}
 use Rattle.page_state.proofs.Cases.{by_test}

@@ -1,17 +1,13 @@
-use Rattle.std.proofs.Common.{◌≡◌, ℕ, zero, suc, ◌-◌, ◌*◌, ◌<◌, ◌≤◌, List, [], ◌∷◌, length, get_or, refl, sym, ap, arith, ◌∙◌, true, false, Option, Some, None, ltb, take, drop}
+use Rattle.std.proofs.Common.{◌≡◌, ℕ, zero, suc, ◌-◌, ◌<◌, ◌≤◌, List, [], ◌∷◌, length, get_or, refl, sym, ap, arith, ◌∙◌, true, false, Option, Some, None, ltb, take, drop}
 use Rattle.std.proofs.lemmas.Bool.Decides.{nat_tests}
 use Rattle.std.proofs.lemmas.List.{take_all}
 use Rattle.std.specs.declared.boxed.Box.{Box}
-use Rattle.descriptor.specs.Word.{desc_of}
-use Rattle.page_state.specs.declared.entry.Entry.{Entry}
 use Rattle.page_state.specs.declared.entry.Entry.TheVariants.{Unmapped}
-use Rattle.page_state.specs.Entries.{advance, entry_of_word}
-use Rattle.page_state.specs.Geometries.{block_pages}
 use Rattle.table_tree.specs.declared.table.Table.{Table}
 use Rattle.table_tree.specs.declared.table.Slot.{Slot}
 use Rattle.table_tree.specs.declared.table.Slot.TheVariants.{Word, Child}
-use Rattle.table_tree.specs.Meaning.{level_at, index_at, slot_at, frame_of, word_entry, entry_at, word_at, slot_word, table_word}
-use Rattle.table_tree.specs.Shape.{IsWide, IsBlank, HoldsWord, IsEntryWord, IsShaped}
+use Rattle.table_tree.specs.Meaning.{index_at, slot_at, frame_of, word_entry, entry_at, word_at, slot_word, table_word}
+use Rattle.table_tree.specs.Shape.{IsWide, IsBlank, HoldsWord, IsShaped}
 use Rattle.table_tree.specs.Slots.{slot_entry}
 use Rattle.table_tree.proofs.Slots.{case_word, case_child, shaped_made, slot_word_made}
 use Rattle.table_tree.proofs.Words.{zero_said, zero_entry}

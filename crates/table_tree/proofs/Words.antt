@@ -1,13 +1,12 @@
-use Rattle.std.proofs.Common.{◌≡◌, ℕ, zero, suc, ◌+◌, ◌*◌, ◌^◌, ◌<◌, refl, ap, arith, add_assoc}
+use Rattle.std.proofs.Common.{◌≡◌, ℕ, ◌^◌, ◌<◌, refl, arith}
 use Rattle.descriptor.specs.declared.Level.{Level}
 use Rattle.descriptor.specs.declared.Desc.{Desc}
 use Rattle.descriptor.specs.declared.Desc.TheVariants.{Malformed as malformed_word, Unmapped as unmapped_word, Annotated as annotated_word, Leaf as leaf_word, Table as table_word}
 use Rattle.descriptor.specs.Word.{desc_of, IsSaid, CanBeSaid}
 use Rattle.page_state.specs.declared.entry.Entry.{Entry}
 use Rattle.page_state.specs.declared.entry.Entry.TheVariants.{Unmapped, Malformed, Annotated, Leaf}
-use Rattle.page_state.specs.Entries.{advance, CanAdvance, entry_of_word, word_of_entry}
-use Rattle.page_state.specs.Geometries.{block_pages}
-use Rattle.table_tree.specs.Meaning.{level_at, word_entry}
+use Rattle.page_state.specs.Entries.{CanAdvance, entry_of_word, word_of_entry}
+use Rattle.table_tree.specs.Meaning.{word_entry}
 use Rattle.table_tree.specs.Shape.{IsWellFormed, IsEntryWord, HasSmallFrame}
 
 pub said_entry : (l : Level) (w : ℕ) (d : Desc) → IsSaid l w d → IsWellFormed (entry_of_word d) → CanBeSaid l (word_of_entry (entry_of_word d))

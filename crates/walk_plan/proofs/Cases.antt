@@ -1,6 +1,5 @@
 -- Cases on tests and numbers.
-use Rattle.std.proofs.Common.{◌≡◌, ℕ, zero, suc, ◌<◌, ◌≤◌, refl, ap, arith, inl, inr, ◌⊎◌, Bool, true, false, Option, Some, None}
-use Rattle.std.proofs.lemmas.Bool.{cases_lt}
+use Rattle.std.proofs.Common.{◌≡◌, ℕ, zero, suc, ◌<◌, refl, ap, arith, inl, inr, ◌⊎◌, Option, Some, None}
 
 last : (i n : ℕ) → i < suc n → (i < n) ⊎ (i ≡ n)
 last zero zero h = inr refl

@@ -3,11 +3,8 @@ use Rattle.std.proofs.Common.{◌≡◌, ℕ, zero, suc, ◌+◌, ◌*◌, ◌/�
 use Rattle.std.proofs.lemmas.Bool.Decides.{nat_tests}
 use Rattle.descriptor.specs.declared.Frame.{Frame}
 use Rattle.descriptor.specs.declared.Prot.{Prot}
-use Rattle.descriptor.specs.declared.Prot.TheVariants.{R, RW, RX, RWX}
 use Rattle.descriptor.specs.declared.Kind.{Kind}
-use Rattle.descriptor.specs.declared.Kind.TheVariants.{Normal, Device}
 use Rattle.descriptor.specs.declared.State.{State}
-use Rattle.descriptor.specs.declared.State.TheVariants.{Owned, SharedOwned, SharedBorrowed}
 use Rattle.descriptor.specs.declared.Level.{Level}
 use Rattle.descriptor.specs.declared.Desc.{Desc}
 use Rattle.descriptor.specs.declared.Desc.TheVariants.{Table as table_word}
@@ -15,12 +12,11 @@ use Rattle.descriptor.specs.Word.{desc_of, CanBeSaid, block_pages as level_pages
 use Rattle.page_state.specs.declared.entry.Entry.{Entry}
 use Rattle.page_state.specs.declared.entry.Entry.TheVariants.{Unmapped, Malformed, Annotated, Leaf}
 use Rattle.page_state.specs.Entries.{advance, entry_of_word, word_of_entry}
-use Rattle.page_state.specs.EntryTests.{prot_eq, kind_eq, state_eq, entry_eq}
 use Rattle.page_state.specs.Blocks.{fits_word}
 use Rattle.page_state.specs.Laws.{FitsWord}
 use Rattle.page_state.specs.Geometries.{block_pages}
 use Rattle.page_state.proofs.Blocks.{fits_each_word}
-use Rattle.page_state.proofs.Common.{eq-self, eq-same, and-both, eq-made}
+use Rattle.page_state.proofs.Common.{eq-same, and-both, eq-made}
 use Rattle.page_state.proofs.Entries.{leaf-same}
 use Rattle.table_tree.specs.Meaning.{level_at}
 use Rattle.table_tree.specs.Shape.{IsWellFormed, IsEntryWord}

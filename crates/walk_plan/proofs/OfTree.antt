@@ -1,11 +1,9 @@
 -- A change of a range of a tree, and the blocks on its range.
-use Rattle.std.proofs.Common.{◌≡◌, ℕ, suc, ◌+◌, ◌-◌, ◌<◌, ◌≤◌, refl, arith, inl, inr, ◌⊎◌, true, false}
-use Rattle.std.proofs.lemmas.Bool.Decides.{nat_tests}
+use Rattle.std.proofs.Common.{◌≡◌, ℕ, suc, ◌+◌, ◌<◌, ◌≤◌, arith, inl, inr}
 use Rattle.page_state.specs.declared.entry.Entry.{Entry}
 use Rattle.page_state.specs.declared.layout.Geometry.{Geometry}
 use Rattle.page_state.specs.declared.layout.Geometry.TheVariants.{Bits39}
-use Rattle.page_state.specs.Entries.{advance}
-use Rattle.page_state.specs.Map.{Map, is_within, update}
+use Rattle.page_state.specs.Map.{update}
 use Rattle.page_state.specs.Blocks.{blocks_on}
 use Rattle.page_state.specs.Geometries.{levels_below, input_pages}
 use Rattle.page_state.proofs.Updates.{update_inside, update_outside}

@@ -1,12 +1,13 @@
 -- The place of a block in a list, and the frame that it gets there.
-use Rattle.std.proofs.Common.{◌≡◌, ℕ, zero, suc, ◌+◌, ◌<◌, ◌≤◌, refl, sym, ap, arith, ◌∙◌, Bool, true, false, ◌&&◌, ◌==◌, cond, Option, Some, None, List, [], ◌∷◌, ◌++◌, length, filter, get_or, All}
+use Rattle.std.proofs.Common.{◌≡◌, ℕ, zero, suc, ◌+◌, ◌<◌, ◌≤◌, refl, sym, ap, arith, ◌∙◌, Bool, true, false, ◌==◌, cond, Option, Some, None, List, [], ◌∷◌, ◌++◌, length, filter, get_or, All}
 use Rattle.std.proofs.lemmas.List.Elements.{All-head, All-tail}
 use Rattle.page_state.specs.State.{Block}
 use Rattle.page_state.specs.Blocks.{block_eq}
 use Rattle.page_state.specs.Tables.{placed}
 use Rattle.page_state.proofs.Cases.{by_test}
-use Rattle.page_state.proofs.Common.{eq-self, eq-same, and-both}
+use Rattle.page_state.proofs.Common.{eq-self}
 use Rattle.page_state.proofs.Frames.{block_eq-same}
+use Rattle.page_state.proofs.Blocks.{and-join}
 use Rattle.walk_plan.specs.Changes.{sum_to}
 use Rattle.walk_plan.specs.Ranks.{given, later}
 use Rattle.walk_plan.proofs.Cases.{by_last}
@@ -15,10 +16,7 @@ use Rattle.walk_plan.proofs.Joined.{joined, length_joined}
 -- one block
 
 pub block_self : (a b : Block) → a ≡ b → block_eq a b ≡ true
-block_self a b h = rw h (both (b.0 == b.0) (b.1 == b.1) (eq-self b.0) (eq-self b.1))
-  where
-    both : (x y : Bool) → x ≡ true → y ≡ true → x && y ≡ true
-    both x y p q = rw (p, q) refl
+block_self a b h = rw h (and-join (b.0 == b.0) (b.1 == b.1) (eq-self b.0) (eq-self b.1))
 
 pub block_other : (a b : Block) → (a ≡ b → ⊥) → block_eq a b ≡ false
 block_other a b h = by_test (block_eq a b) (λ e. absurd (h (block_eq-same a b e))) (λ e. e)

@@ -11,9 +11,8 @@ use Rattle.page_state.proofs.Sizes.{size_some}
 use Rattle.page_state.proofs.Cases.{by_eq}
 use Rattle.table_tree.specs.declared.table.Table.{Table}
 use Rattle.table_tree.specs.declared.table.Slot.TheVariants.{Word, Child}
-use Rattle.table_tree.specs.declared.table.Slot.TheViews.{outs-Child}
 use Rattle.table_tree.specs.Meaning.{level_at, index_at, slot_at, word_entry, entry_at}
-use Rattle.table_tree.specs.Shape.{IsBlank, IsShaped, MeetsSlot}
+use Rattle.table_tree.specs.Shape.{IsBlank, IsShaped}
 use Rattle.table_tree.specs.Tables.{table_in}
 use Rattle.table_tree.specs.Tight.{IsTight}
 use Rattle.table_tree.proofs.Digits.{digits}

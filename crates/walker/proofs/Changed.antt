@@ -1,13 +1,12 @@
 -- A tree whose root table was changed is the edited tree.
-use Rattle.std.proofs.Common.{◌≡◌, ℕ, zero, suc, ◌+◌, ◌*◌, ◌<◌, ◌≤◌, refl, sym, ap, arith, ◌∙◌, cond, Option, None, List, length, take}
+use Rattle.std.proofs.Common.{◌≡◌, ℕ, zero, suc, ◌+◌, ◌*◌, ◌<◌, ◌≤◌, refl, sym, ap, arith, ◌∙◌, cond, None, List, length, take}
 use Rattle.std.specs.Prelude.{nat_lt}
 use mathlib.Core.Path.{fun_ext}
 use Rattle.std.proofs.lemmas.List.{take_all}
 use Rattle.page_state.specs.declared.entry.Entry.{Entry}
 use Rattle.page_state.specs.declared.entry.Entry.TheVariants.{Unmapped}
 use Rattle.page_state.specs.declared.layout.Geometry.{Geometry}
-use Rattle.page_state.specs.Map.{Map}
-use Rattle.page_state.specs.State.{Block, Pool, Tree as ReferenceTree}
+use Rattle.page_state.specs.State.{Pool}
 use Rattle.page_state.specs.Tables.{put, need, returned, edited, all_given}
 use Rattle.page_state.specs.Geometries.{levels_below, input_pages, block_pages}
 use Rattle.page_state.specs.Counts.{frame_count}
@@ -18,7 +17,6 @@ use Rattle.table_tree.specs.declared.tree.Tree.{Tree}
 use Rattle.table_tree.specs.Meaning.{entry_at, frame_of}
 use Rattle.table_tree.specs.Tables.{tables_in, uses_in, table_in}
 use Rattle.table_tree.specs.View.{tree_of, meaning, table_at, uses, tables_of, root_of}
-use Rattle.table_tree.proofs.Sums.{tables_some}
 use Rattle.walk_plan.specs.declared.change.Change.{Change}
 use Rattle.walk_plan.specs.Changes.{table_need}
 use Rattle.walk_plan.specs.Ranks.{table_gone}

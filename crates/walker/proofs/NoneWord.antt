@@ -1,5 +1,5 @@
 -- The only word that maps none of its pages.
-use Rattle.std.proofs.Common.{◌≡◌, ℕ, ◌/◌, ◌%◌, refl, arith, cond, Bool, true, false, Some, None, Option, ◌&&◌, ◌==◌, nat_le}
+use Rattle.std.proofs.Common.{◌≡◌, ℕ, ◌/◌, ◌%◌, arith, Bool, true, false, Some, None, Option, ◌&&◌, ◌==◌, nat_le}
 use Rattle.std.proofs.lemmas.Bool.Decides.{nat_tests}
 use Rattle.descriptor.specs.Word.{field, desc_of, leaf_or_malformed, is_upper}
 use Rattle.descriptor.specs.declared.Level.{Level}

@@ -1,5 +1,5 @@
 -- What a slot needs by a change, and what a change finds in its child.
-use Rattle.std.proofs.Common.{◌≡◌, ◌≢◌, ℕ, zero, suc, ◌+◌, ◌-◌, ◌*◌, ◌%◌, ◌^◌, ◌<◌, ◌≤◌, refl, sym, ap, subst, arith, ◌∙◌, cond, true, false, ◌==◌, ◌||◌, Option, Some, None, List, [], ◌∷◌, length, add-one}
+use Rattle.std.proofs.Common.{◌≡◌, ◌≢◌, ℕ, zero, suc, ◌+◌, ◌-◌, ◌*◌, ◌%◌, ◌^◌, ◌<◌, ◌≤◌, refl, sym, ap, subst, arith, ◌∙◌, cond, true, false, ◌==◌, Option, Some, None, List, [], ◌∷◌, length, add-one}
 use Rattle.std.specs.Prelude.{Bool}
 use Rattle.std.specs.Option.{MatchOption, IsSome, IfSome, is_some}
 use Rattle.std.proofs.lemmas.Bool.Decides.{nat_tests}
@@ -21,7 +21,6 @@ use Rattle.table_tree.specs.declared.table.Slot.{Slot}
 use Rattle.table_tree.specs.declared.table.Slot.TheVariants.{Word, Child}
 use Rattle.table_tree.specs.Meaning.{level_at, index_at, slot_at, slots_of, slot_case, frame_of, word_entry, entry_at}
 use Rattle.table_tree.specs.Shape.{IsEntryWord, IsTableFrame, IsShaped}
-use Rattle.table_tree.specs.Slots.{fresh}
 use Rattle.table_tree.specs.Tables.{table_in}
 use Rattle.table_tree.specs.Tight.{IsTight}
 use Rattle.table_tree.specs.Changes.{IsSeen, IsWritten, IsAttached, IsCleared}

@@ -11,7 +11,7 @@ use Rattle.table_tree.specs.declared.table.Table.{Table}
 use Rattle.table_tree.specs.declared.table.Slot.{Slot}
 use Rattle.table_tree.specs.declared.table.Slot.TheVariants.{Word, Child}
 use Rattle.table_tree.specs.Meaning.{slot_at, level_at, index_at, frame_of, entry_at}
-use Rattle.table_tree.specs.Shape.{HoldsWord, IsEntryWord}
+use Rattle.table_tree.specs.Shape.{IsEntryWord}
 use Rattle.table_tree.proofs.Slots.{case_word, case_child}
 use Rattle.walk_plan.specs.declared.change.Change.{Change}
 use Rattle.walk_plan.specs.Changes.{part, sum_to, met, block_need, block_parts, slot_need, table_parts, table_need}

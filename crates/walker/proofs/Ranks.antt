@@ -1,20 +1,17 @@
 -- Which new table stands at a block, slot by slot.
-use Rattle.std.proofs.Common.{◌≡◌, ℕ, zero, suc, ◌+◌, ◌-◌, ◌*◌, ◌/◌, ◌%◌, ◌^◌, ◌<◌, ◌≤◌, refl, sym, ap, arith, ◌∙◌, cond, true, false, ◌==◌, Option, Some, None, List, drop}
+use Rattle.std.proofs.Common.{◌≡◌, ℕ, zero, suc, ◌+◌, ◌-◌, ◌*◌, ◌/◌, ◌^◌, ◌<◌, ◌≤◌, refl, ap, arith, cond, true, false, ◌==◌, Option, Some, None, List, drop}
 use Rattle.std.proofs.lemmas.Bool.Decides.{nat_tests}
 use Rattle.std.proofs.lemmas.List.{get_or-drop}
 use Rattle.std.specs.Prelude.{nat_lt}
-use Rattle.std.proofs.Math.Nat.{div-div-eq-div-mul}
-use Rattle.std.proofs.lemmas.Nat.{pow-add}
-use Rattle.std.specs.declared.boxed.Box.{Box}
 use Rattle.descriptor.specs.Word.{desc_of}
 use Rattle.page_state.specs.declared.entry.Entry.{Entry}
 use Rattle.page_state.specs.Entries.{entry_of_word}
 use Rattle.page_state.proofs.Sizes.{size_some}
 use Rattle.table_tree.specs.declared.table.Table.{Table}
 use Rattle.table_tree.specs.declared.table.Slot.{Slot}
-use Rattle.table_tree.specs.declared.table.Slot.TheVariants.{Word, Child}
+use Rattle.table_tree.specs.declared.table.Slot.TheVariants.{Word}
 use Rattle.table_tree.specs.Meaning.{slot_at, level_at, index_at}
-use Rattle.table_tree.proofs.Slots.{case_word, case_child}
+use Rattle.table_tree.proofs.Slots.{case_word}
 use Rattle.walk_plan.specs.declared.change.Change.{Change}
 use Rattle.walk_plan.specs.Changes.{IsChange, part, is_one_word, sum_to, met, table_parts}
 use Rattle.walk_plan.specs.Ranks.{given, later, met_at, block_rank, parts_rank, slot_rank, table_rank}

@@ -1,9 +1,6 @@
 -- A slot whose child was changed: gone where all its words are 0, else put back.
-use Rattle.std.proofs.Common.{◌≡◌, ℕ, suc, ◌+◌, ◌*◌, ◌/◌, ◌%◌, ◌^◌, ◌<◌, refl, sym, ap, arith, ◌∙◌, cond, true, false, Some, List, [], ◌∷◌, drop, take}
-use Rattle.std.specs.Prelude.{Bool}
-use Rattle.std.proofs.Math.Seq.{take-add}
+use Rattle.std.proofs.Common.{◌≡◌, ℕ, suc, ◌+◌, ◌*◌, ◌/◌, ◌%◌, ◌^◌, ◌<◌, sym, ap, arith, ◌∙◌, cond, true, Some, List, ◌∷◌, drop, take}
 use Rattle.std.proofs.lemmas.List.{drop-drop}
-use Rattle.std.proofs.lemmas.List.Sums.{sum_by-append}
 use Rattle.page_state.specs.declared.entry.Entry.TheVariants.{Unmapped}
 use Rattle.page_state.specs.Geometries.{block_pages}
 use Rattle.page_state.specs.Counts.{is_one, frame_count}

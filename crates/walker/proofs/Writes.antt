@@ -1,8 +1,6 @@
 -- A table after a write of one slot.
-use Rattle.std.proofs.Common.{◌≡◌, ◌≢◌, ℕ, zero, suc, ◌+◌, ◌*◌, ◌%◌, ◌<◌, List, [], ◌∷◌, refl, sym, ap, arith, ◌∙◌, cond}
-use Rattle.std.proofs.lemmas.List.{get_or-set_other}
-use Rattle.std.proofs.lemmas.Grind.{get_or-set_at}
-use Rattle.std.proofs.Math.ListN.{set, length-set}
+use Rattle.std.proofs.Common.{◌≡◌, ℕ, ◌+◌, ◌*◌, ◌%◌, ◌<◌, sym, ap, arith, ◌∙◌, cond}
+use Rattle.std.proofs.Math.ListN.{set}
 use Rattle.descriptor.specs.Word.{desc_of}
 use Rattle.page_state.specs.declared.entry.Entry.{Entry}
 use Rattle.page_state.specs.Entries.{advance, entry_of_word}
@@ -11,7 +9,6 @@ use Rattle.page_state.proofs.Cases.{by_eq}
 use Rattle.page_state.proofs.Entries.{advance-more}
 use Rattle.page_state.proofs.Common.{eq-made, eq-other}
 use Rattle.table_tree.specs.declared.table.Table.{Table}
-use Rattle.table_tree.specs.declared.table.Slot.{Slot}
 use Rattle.table_tree.specs.declared.table.Slot.TheVariants.{Word}
 use Rattle.table_tree.specs.Meaning.{level_at, index_at, slot_at, slots_of, word_entry, entry_at}
 use Rattle.table_tree.specs.Shape.{IsWide, IsEntryWord}
