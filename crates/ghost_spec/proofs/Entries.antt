@@ -1,18 +1,11 @@
--- Entries: equality, entries along a run, and frames below 2^63.
+-- Targets of entries, and frames below 2^63.
 use Rattle.std.proofs.Common.{◌≡◌, ℕ, ◌+◌, ◌≤◌, Some, None, sym, ap, ◌∙◌, arith}
 use Rattle.page_state.specs.declared.entry.Entry.{Entry}
 use Rattle.page_state.specs.declared.entry.Entry.TheVariants.{Unmapped, Malformed as MalformedEntry, Annotated as AnnotatedEntry, Leaf as LeafEntry}
-use Rattle.descriptor.specs.declared.Frame.{Frame}
-use Rattle.descriptor.specs.declared.Prot.{Prot}
-use Rattle.descriptor.specs.declared.Kind.{Kind}
-use Rattle.descriptor.specs.declared.State.{State}
 use Rattle.page_state.specs.declared.entry.Target.{Target}
 use Rattle.page_state.specs.Entries.{advance, entry_of_target, entry_of, target_of}
 use Rattle.page_state.proofs.Entries.{entry_of-target_of}
 use Rattle.ghost_spec.specs.Small.{HasLowFrames}
-
-frame_more : (f : Frame) (p : Prot) (k : Kind) (s : State) (m n : ℕ) → m ≡ n → LeafEntry (record { 0 = m }) p k s ≡ LeafEntry (record { 0 = n }) p k s
-frame_more f p k s m n e = let wrap : ℕ → Entry = λ a. LeafEntry (record { 0 = a }) p k s in ap wrap e
 
 pub some_target : (e : Entry) (t : Target) → target_of e ≡ Some t → entry_of_target t ≡ e
 some_target e t h = sym (ap entry_of h) ∙ entry_of-target_of e

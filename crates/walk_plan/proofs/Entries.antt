@@ -40,8 +40,6 @@ advance_back Unmapped Unmapped n h = refl
 advance_back Malformed Malformed n h = refl
 advance_back x y n h = cc
 
--- equality of entries, as a test
-
 -- what words of trees say
 
 record IsSayable (l : Level) (x : Desc) : Type 0 where

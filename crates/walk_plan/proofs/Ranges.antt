@@ -13,16 +13,9 @@ use Rattle.table_tree.specs.declared.table.Table.{Table}
 use Rattle.table_tree.specs.declared.table.Slot.{Slot}
 use Rattle.table_tree.specs.declared.table.Slot.TheVariants.{Word, Child}
 use Rattle.table_tree.specs.Meaning.{slot_at, level_at}
-use Rattle.table_tree.specs.Shape.{HasSmallFrame}
 use Rattle.table_tree.proofs.Slots.{case_word, case_child}
 use Rattle.walk_plan.specs.declared.change.Change.{Change}
 use Rattle.walk_plan.specs.Changes.{IsRangeEntry, IsChange, part, met, sum_to, block_need, slot_need, table_need, is_one_word, block_parts, table_parts}
-
-range_small : (n : ℕ) (e : Entry) → 0 < n → IsRangeEntry n e → HasSmallFrame e
-range_small n Malformed p h = tt
-range_small n Unmapped p h = tt
-range_small n (Annotated o) p h = tt
-range_small n (Leaf f r k s) p h = omega arith
 
 pub range_advance : (n m k : ℕ) (e : Entry) → IsRangeEntry n e → k + m ≤ n → IsRangeEntry m (advance e k)
 range_advance n m k Malformed h p = h
@@ -30,14 +23,8 @@ range_advance n m k Unmapped h p = h
 range_advance n m k (Annotated o) h p = h
 range_advance n m k (Leaf f r q s) h p = omega arith
 
-pub change_small : (d : ℕ) (c : Change) → IsChange d c → HasSmallFrame c.entry
-change_small d c h = range_small (c.end - c.first) c.entry (omega (arith, h.some)) h.entry
-
 pub size_before : (d : ℕ) → 1 ≤ d → 2 ^ (9 * d) ≡ 512 * 2 ^ (9 * (d - 1))
 size_before d k = let e : 9 * d ≡ 9 * ((d - 1) + 1) = omega arith in rw e (size_next (d - 1))
-
-pub block_small : (d : ℕ) (x : Entry) → IsRangeEntry (2 ^ (9 * d)) x → HasSmallFrame x
-block_small d x h = range_small (2 ^ (9 * d)) x (omega (arith, size_some d)) h
 
 -- the parts that a change meets
 pub first_part : (s i a : ℕ) → 1 ≤ s → a / s ≤ i → a < (i + 1) * s
@@ -128,10 +115,6 @@ block_split zero x c k e = absurd (omega arith)
 block_split (suc n) x c k e = rw e (simp unary_clauses)
 
 module _ {A : Type 0} where
-  pub slot_zero : (n : ℕ) (s : Slot A) (c : Change) → n ≡ 0 → slot_need n s c ≡ 0
-  unfolding slot_need
-  slot_zero n s c e = rw e refl
-
   pub slot_word : (n w : ℕ) (s : Slot A) (c : Change) → s ≡ Word w → slot_need n s c ≡ block_need n (entry_of_word (desc_of (level_at n) w)) c
   unfolding slot_need block_need
   slot_word zero w s c e = refl

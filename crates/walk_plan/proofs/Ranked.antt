@@ -1,5 +1,5 @@
 -- The tables that a change makes stand where its walk ranks them.
-use Rattle.std.proofs.Common.{◌≡◌, ℕ, zero, suc, ◌+◌, ◌-◌, ◌*◌, ◌<◌, ◌≤◌, refl, sym, ap, subst, arith, ◌∙◌, true, false, not, ◌==◌, cond, nat_lt, Option, Some, None, List, length}
+use Rattle.std.proofs.Common.{◌≡◌, ℕ, zero, suc, ◌+◌, ◌*◌, ◌<◌, ◌≤◌, refl, sym, ap, subst, arith, ◌∙◌, true, false, not, ◌==◌, cond, nat_lt, Option, Some, None, List, length}
 use Rattle.std.specs.declared.boxed.Box.{Box}
 use Rattle.std.proofs.lemmas.List.Elements.{All-weaker, All-filter}
 use Rattle.descriptor.specs.Word.{desc_of}
@@ -7,7 +7,7 @@ use Rattle.page_state.specs.declared.entry.Entry.{Entry}
 use Rattle.page_state.specs.Entries.{advance, entry_of_word}
 use Rattle.page_state.specs.Map.{Map, update}
 use Rattle.page_state.specs.State.{Block}
-use Rattle.page_state.specs.Blocks.{fits_word, is_one_word, block_eq, first_page, blocks_on}
+use Rattle.page_state.specs.Blocks.{fits_word, is_one_word, block_eq, blocks_on}
 use Rattle.page_state.specs.Tables.{Edit, put, needs, need, placed}
 use Rattle.page_state.specs.Geometries.{levels_below, input_pages, block_pages}
 use Rattle.page_state.proofs.Sizes.{size_some}
@@ -192,10 +192,3 @@ module _ {A : Type 0} (t : Tree A) (first count : ℕ) (e : Entry) (c : Change) 
       by_option (table_at t (suc low) j)
       (λ f h. placed_kept fs (suc low, j) f h ∙ ap (λ o. given fs o (table_rank top t.table c low (j * block_pages (suc low)))) (sym h))
       (λ h. placed_made fs low j p q enough h ∙ ap (λ o. given fs o (table_rank top t.table c low (j * block_pages (suc low)))) (sym h))
-
-  pub ranked : (fs : List ℕ) (b : Block) → 1 ≤ b.0 → b.0 ≤ top → first_page b < input_pages t.geometry → need top (tree_of t) edit ≤ length fs
-      → placed (needs top (tree_of t) edit) fs (tree_of t).table b ≡ given fs (table_at t b.0 b.1) (table_rank top t.table c (b.0 - 1) (first_page b))
-  ranked fs (zero, j) p q r enough = absurd (omega arith)
-  ranked fs (suc low, j) p q r enough =
-      let k : low ≡ suc low - 1 = omega arith in
-      ranked_at fs low j q r enough ∙ ap (λ z. given fs (table_at t (suc low) j) (table_rank top t.table c z (j * block_pages (suc low)))) k
