@@ -1,3 +1,4 @@
+mod Asked
 mod Digits
 mod Hexadecimal
 mod KnownBytes
@@ -5,3 +6,4 @@ mod LineLemmas
 mod PathLemmas
 mod ReplayLemmas
 mod Standing
+mod ToldRuns

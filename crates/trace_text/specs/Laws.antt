@@ -1,0 +1,105 @@
+-- Laws of reports.
+use Rattle.std.specs.Prelude.{◌≡◌, ℕ, true, ◌⊎◌, List, [], ◌∷◌, ◌++◌, map, filter_map, Option, Some, None, Result, Ok, Err}
+use Rattle.page_state.specs.declared.entry.PageRange.{PageRange}
+use Rattle.page_state.specs.declared.reply.Call.{Call}
+use Rattle.page_state.specs.declared.reply.Reply.{Reply}
+use Rattle.page_state.specs.declared.row.Row.{Row}
+use Rattle.page_state.specs.declared.step.Step.{Step}
+use Rattle.page_state.specs.Run.{Runs}
+use Rattle.page_state.specs.State.{Reference}
+use Rattle.page_state.specs.Step.{Steps}
+use Rattle.world.specs.declared.parts.Parts.{Parts}
+use Rattle.world.specs.declared.World.{World}
+use Rattle.world.specs.Stands.{layout_of, state_of}
+use Rattle.trace_text.specs.declared.fault.Fault.{Fault}
+use Rattle.trace_text.specs.declared.line.Line.{Line}
+use Rattle.trace_text.specs.declared.line.Line.TheVariants as lines
+use Rattle.trace_text.specs.declared.outcome.Outcome.{Outcome}
+use Rattle.trace_text.specs.declared.outcome.Outcome.TheVariants as outcomes
+use Rattle.trace_text.specs.declared.report.ReportLine.{ReportLine}
+use Rattle.trace_text.specs.declared.report.ReportLine.TheVariants as report
+use Rattle.trace_text.specs.Replay.{IsReport}
+use Rattle.trace_text.specs.Said.{said}
+use Rattle.trace_text.specs.Session.{Standing, IsBooted, at_start}
+use Rattle.trace_text.specs.Settings.{nothing_told}
+
+-- the CPU and the reply that a line of a report tells, if it is a step's
+abbrev pub reply_told : ReportLine → Option (ℕ × Reply)
+reply_told (report.Boot host hyp free) = None
+reply_told (report.Step number cpu reply) = Some (cpu, reply)
+reply_told (report.Word word) = None
+reply_told (report.Free free) = None
+reply_told (report.Fault number fault) = None
+reply_told (report.End steps disagreements) = None
+
+-- those of all step lines of a report, in order
+abbrev pub replies_told : List ReportLine → List (ℕ × Reply)
+replies_told reported = filter_map reply_told reported
+
+-- the CPU and the step that a line asks for, if it is a step line
+abbrev pub step_said : Result (Option Line) Fault → Option (ℕ × Step)
+step_said (Err fault) = None
+step_said (Ok None) = None
+step_said (Ok (Some (lines.Geometry bits))) = None
+step_said (Ok (Some (lines.Cpus cpus))) = None
+step_said (Ok (Some (lines.Log calls))) = None
+step_said (Ok (Some (lines.Memory pages))) = None
+step_said (Ok (Some (lines.Device pages))) = None
+step_said (Ok (Some (lines.Carve pages))) = None
+step_said (Ok (Some lines.Boot)) = None
+step_said (Ok (Some (lines.Step cpu step))) = Some (cpu, step)
+step_said (Ok (Some (lines.Word tree page level))) = None
+step_said (Ok (Some lines.FreeShared)) = None
+
+-- the CPU and the step that the bytes of a line ask for; what was told before has no part in it
+abbrev pub step_asked : List ℕ → Option (ℕ × Step)
+step_asked line = step_said (said nothing_told true line)
+
+-- those of all step lines of a trace, in order
+abbrev pub steps_asked : List (List ℕ) → List (ℕ × Step)
+steps_asked trace = filter_map step_asked trace
+
+-- the calls lead by reference steps from the state that the parts stand for to the one that the other parts stand for
+abbrev pub Leads : {A : Type 0} → Parts A → List Call → Parts A → Type 0
+Leads p cs q = (row : ℕ → Row) → (t : Reference) × Runs (Steps (layout_of p)) (state_of row p) cs t × (t ≡ state_of t.shared.row q)
+
+-- a report tells a run of the reference step from these parts: of the steps that the trace asks for those before its first fault,
+-- which are all where the report is clean, are made, and what its step lines tell are their CPUs and replies
+pub record TellsRun {A : Type 0} (p : Parts A) (trace : List (List ℕ)) (reported : List ReportLine) (outcome : Outcome) : Type 0 where
+  pub calls : List Call
+  pub last : Parts A
+  pub leads : Leads p calls last
+  pub replies : replies_told reported ≡ map (λ c. (c.cpu, c.reply)) calls
+  -- the steps behind the fault
+  pub left : List (ℕ × Step)
+  pub steps : steps_asked trace ≡ map (λ c. (c.cpu, c.step)) calls ++ left
+  pub all : outcome ≡ outcomes.Clean → left ≡ []
+
+-- a report without a boot: one line, which isn't a step's, and where it is clean no step was asked for
+pub record TellsNoBoot (trace : List (List ℕ)) (reported : List ReportLine) (outcome : Outcome) : Type 0 where
+  pub line : ReportLine
+  pub alone : reported ≡ line ∷ []
+  pub no_step : reply_told line ≡ None
+  pub all : outcome ≡ outcomes.Clean → steps_asked trace ≡ []
+
+-- a report whose first line tells of a boot, and the other lines of a run of the booted world
+pub record TellsBoot (A : Type 0) (trace : List (List ℕ)) (reported : List ReportLine) (outcome : Outcome) : Type 0 where
+  pub carve : PageRange
+  pub old : Standing A
+  pub world : World A
+  pub line : ReportLine
+  pub new : Standing A
+  pub booted : IsBooted carve old world line new
+  pub more : List ReportLine
+  pub first : reported ≡ line ∷ more
+  pub run : TellsRun world.parts trace more outcome
+
+-- where a world stands, the report of the lines from there on tells a run of the reference step
+abbrev pub WorldRuns : Type 0 → Type 0
+WorldRuns A = (number : ℕ) (old : Standing A) (world : World A) (trace : List (List ℕ)) (reported : List ReportLine) (outcome : Outcome)
+    → old.world ≡ Some world → IsReport number old trace reported outcome → TellsRun world.parts trace reported outcome
+
+-- the report of a trace tells of no boot, or of one and then of a run from there
+abbrev pub TraceRuns : Type 0 → Type 0
+TraceRuns A = (trace : List (List ℕ)) (reported : List ReportLine) (outcome : Outcome)
+    → IsReport {A = A} 1 at_start trace reported outcome → TellsNoBoot trace reported outcome ⊎ TellsBoot A trace reported outcome
