@@ -1,5 +1,5 @@
 -- What a line says before and after the boot, and the step that its bytes ask for.
-use Rattle.std.proofs.Common.{◌≡◌, ℕ, refl, Bool, true, false, not, ◌==◌, ◌&&◌, List, [], ◌∷◌, length, Option, Some, None, Result, Ok, Err, IfSome, option_map, option_and_then}
+use Rattle.std.proofs.Common.{◌≡◌, ℕ, refl, Bool, true, false, not, ◌==◌, List, length, Option, Some, None, Result, Ok, Err, IfSome, option_map, option_and_then}
 use Rattle.std.specs.Prelude.{ok_or, if◌then◌else◌, is_none, is_some, nat_lt}
 use Rattle.page_state.specs.declared.step.Step.{Step}
 use Rattle.trace_text.specs.declared.fault.Fault.{Fault}
@@ -11,9 +11,9 @@ use Rattle.trace_text.specs.declared.verb.Verb.{Verb}
 use Rattle.trace_text.specs.declared.verb.Verb.TheVariants as verbs
 use Rattle.trace_text.specs.Laws.{step_said, step_asked}
 use Rattle.trace_text.specs.Lines.{line_of, number_at, range_of, step_of, in_levels}
-use Rattle.trace_text.specs.Said.{said, said_by_words, said_by_verb, may_stand}
+use Rattle.trace_text.specs.Said.{said, said_by_words, said_by_verb}
 use Rattle.trace_text.specs.Settings.{Told, nothing_told}
-use Rattle.trace_text.specs.Verbs.{verb_of, word_count}
+use Rattle.trace_text.specs.Verbs.{verb_of}
 use Rattle.trace_text.specs.Words.{words_of, has_stray_byte, is_silent, has_stray_space}
 
 -- settings and the boot stand before the boot and ask for no step, all else stands behind it, and a step line asks for its step

@@ -1,16 +1,13 @@
 -- The run that a report tells.
-use Rattle.std.proofs.Common.{◌≡◌, ℕ, ◌+◌, ◌<◌, ◌≤◌, refl, sym, subst, ◌∙◌, ap, Bool, true, false, List, [], ◌∷◌, ◌++◌, map, Option, Some, None, Result, Ok, Err, IfSome, MatchOption, MatchResult, option_map, is_some, inl, inr}
+use Rattle.std.proofs.Common.{◌≡◌, ℕ, ◌+◌, refl, sym, subst, arith, ◌∙◌, ap, true, false, List, [], ◌∷◌, Option, Some, None, Result, Ok, Err, IfSome, MatchOption, MatchResult, option_map, is_some, inl, inr}
 use Rattle.std.specs.Prelude.{◌⊎◌, ok_or}
 use Rattle.std.proofs.lemmas.Bool.{cases_lt}
 use Rattle.page_state.specs.declared.entry.PageRange.{PageRange}
 use Rattle.page_state.specs.declared.reply.Call.{Call}
 use Rattle.page_state.specs.declared.reply.Reply.{Reply}
-use Rattle.page_state.specs.declared.row.Row.{Row}
 use Rattle.page_state.specs.declared.step.Step.{Step}
-use Rattle.page_state.specs.Layouts.{Layout}
 use Rattle.page_state.specs.Regions.{memory_of}
 use Rattle.page_state.specs.Run.{Runs as RunsBy}
-use Rattle.page_state.specs.State.{Reference}
 use Rattle.page_state.specs.Step.{Steps}
 use Rattle.world.specs.declared.parts.Parts.{Parts}
 use Rattle.world.specs.declared.World.{World}
@@ -24,12 +21,11 @@ use Rattle.trace_text.specs.declared.outcome.Outcome.{Outcome}
 use Rattle.trace_text.specs.declared.outcome.Outcome.TheVariants as outcomes
 use Rattle.trace_text.specs.declared.report.ReportLine.{ReportLine}
 use Rattle.trace_text.specs.declared.report.ReportLine.TheVariants as report
-use Rattle.trace_text.specs.declared.session.Stop.{Stop}
 use Rattle.trace_text.specs.declared.session.Stop.TheVariants as stops
-use Rattle.trace_text.specs.Laws.{reply_told, step_asked, steps_asked, Leads, TellsRun, TellsNoBoot, TellsBoot, WorldRuns, TraceRuns}
+use Rattle.trace_text.specs.Laws.{reply_told, step_asked, steps_asked, Leads, TellsRun, TellsNoBoot, TellsBoot, TraceRuns}
 use Rattle.trace_text.specs.Replay.{IsPlayed, Begins, IsReport}
 use Rattle.trace_text.specs.Said.{said}
-use Rattle.trace_text.specs.Session.{Standing, Answer, Follows, Tells, Boots, IsBooted, IsNoBoot, Asks, Makes, at_start}
+use Rattle.trace_text.specs.Session.{Standing, Answer, Follows, Tells, IsBooted, IsNoBoot, Asks, Makes, at_start}
 use Rattle.trace_text.specs.Worlds.{tree_of, free_of, word_on}
 use Rattle.trace_text.proofs.Asked.{Fits, fits, mapped}
 
@@ -175,91 +171,106 @@ world_runs (line ∷ rest) number old world reported outcome stands (answer, new
     ]
 
 -- a report that tells of no boot, or of one and a run from there
-abbrev Told : Type 0 → List (List ℕ) → List ReportLine → Outcome → Type 0
-Told A trace reported outcome = TellsNoBoot trace reported outcome ⊎ TellsBoot A trace reported outcome
-
-passes_before : {A : Type 0} (line : List ℕ) (rest : List (List ℕ)) (reported : List ReportLine) (outcome : Outcome)
-    → step_asked line ≡ None → Told A rest reported outcome → Told A (line ∷ rest) reported outcome
-passes_before line rest reported outcome e (inl none) = inl (record { line = none.line; alone = none.alone; no_step = none.no_step; all = λ clean. rw e (none.all clean) })
-passes_before line rest reported outcome e (inr boot) = inr (record {
-  carve = boot.carve;
-  old = boot.old;
-  world = boot.world;
-  line = boot.line;
-  new = boot.new;
-  booted = boot.booted;
-  more = boot.more;
-  first = boot.first;
-  run = passes boot.world.parts line rest boot.more outcome e boot.run;
-})
+abbrev Told : {A : Type 0} → ℕ → Standing A → List (List ℕ) → List ReportLine → Outcome → Type 0
+Told number start trace reported outcome = TellsNoBoot trace reported outcome ⊎ TellsBoot number start trace reported outcome
 
 module _ {A : Type 0} (number : ℕ) (line : List ℕ) (rest : List (List ℕ)) (old new : Standing A) (reported : List ReportLine) (outcome : Outcome)
     (unbooted : old.world ≡ None)
-    (follows : (more : List ReportLine) → new.world ≡ None → IsReport (number + 1) new rest more outcome → Told A rest more outcome) where
+    (follows : (more : List ReportLine) → new.world ≡ None → IsReport (number + 1) new rest more outcome → Told (number + 1) new rest more outcome) where
   abbrev Reports : Answer → Type 0
   Reports answer = Begins number answer (λ more end. IsReport (number + 1) new rest more end) reported outcome
 
-  fault_alone : (answer : Answer) (fault : Fault) → Reports answer → answer ≡ Err (stops.Fault fault) → Told A (line ∷ rest) reported outcome
+  abbrev Plays : Answer → Type 0
+  Plays answer = IsPlayed number line old answer new
+
+  passes_before : Plays (Ok None) → step_asked line ≡ None → Told (number + 1) new rest reported outcome → Told number old (line ∷ rest) reported outcome
+  passes_before played e (inl none) = inl (record { line = none.line; alone = none.alone; no_step = none.no_step; all = λ clean. rw e (none.all clean) })
+  passes_before played e (inr boot) = inr (record {
+    front = line ∷ boot.front;
+    boot = boot.boot;
+    rest = boot.rest;
+    lines = ap (λ ls. line ∷ ls) boot.lines;
+    old = boot.old;
+    prepared = (new, played, boot.prepared);
+    carve = boot.carve;
+    world = boot.world;
+    line = boot.line;
+    new = boot.new;
+    played = subst (λ n. IsPlayed n boot.boot boot.old (Ok (Some boot.line)) boot.new) (omega arith) boot.played;
+    booted = boot.booted;
+    more = boot.more;
+    first = boot.first;
+    run = passes boot.world.parts line rest boot.more outcome e boot.run;
+  })
+
+  fault_alone : (answer : Answer) (fault : Fault) → Reports answer → answer ≡ Err (stops.Fault fault) → Told number old (line ∷ rest) reported outcome
   fault_alone answer fault begins e =
       let b = rw e at begins in
       inl (record { line = report.Fault number fault; alone = b.0; no_step = refl; all = λ clean. absurd (unclean outcome b.1 clean) })
 
-  told : (said : Line) (answer : Answer) → Reports answer → Tells said old answer new → step_asked line ≡ None → Told A (line ∷ rest) reported outcome
-  told said (Err (stops.Fault fault)) begins h silent = fault_alone (Err (stops.Fault fault)) fault begins refl
-  told said (Err stops.NoMemory) begins h silent = absurd begins
-  told said (Ok None) begins h silent = passes_before line rest reported outcome silent (follows reported (ap (λ (s : Standing A). s.world) h.1 ∙ unbooted) begins)
-  told said (Ok (Some says)) begins h silent = absurd (let e = h.0 in cc)
+  told : (said : Line) (answer : Answer) → Plays answer → Reports answer → Tells said old answer new → step_asked line ≡ None → Told number old (line ∷ rest) reported outcome
+  told said (Err (stops.Fault fault)) played begins h silent = fault_alone (Err (stops.Fault fault)) fault begins refl
+  told said (Err stops.NoMemory) played begins h silent = absurd begins
+  told said (Ok None) played begins h silent = passes_before played silent (follows reported (ap (λ (s : Standing A). s.world) h.1 ∙ unbooted) begins)
+  told said (Ok (Some says)) played begins h silent = absurd (let e = h.0 in cc)
 
-  boots_by : (carve : PageRange) (answer : Answer) → Reports answer
+  boots_by : (carve : PageRange) (answer : Answer) → Plays answer → Reports answer
       → MatchResult answer (λ says. (world : World A) × (says_line : ReportLine) × (says ≡ Some says_line) × IsBooted carve old world says_line new) (λ stop. IsNoBoot stop (memory_of old.told.regions carve) × (new ≡ old))
-      → step_asked line ≡ None → Told A (line ∷ rest) reported outcome
-  boots_by carve (Err (stops.Fault fault)) begins h silent = fault_alone (Err (stops.Fault fault)) fault begins refl
-  boots_by carve (Err stops.NoMemory) begins h silent = absurd begins
-  boots_by carve (Ok None) begins h silent = absurd (let e = h.2 in cc)
-  boots_by carve (Ok (Some says)) begins h silent = inr (record {
-    carve = carve;
+      → step_asked line ≡ None → Told number old (line ∷ rest) reported outcome
+  boots_by carve (Err (stops.Fault fault)) played begins h silent = fault_alone (Err (stops.Fault fault)) fault begins refl
+  boots_by carve (Err stops.NoMemory) played begins h silent = absurd begins
+  boots_by carve (Ok None) played begins h silent = absurd (let e = h.2 in cc)
+  boots_by carve (Ok (Some says)) played begins h silent = inr (record {
+    front = [];
+    boot = line;
+    rest = rest;
+    lines = refl;
     old = old;
+    prepared = refl;
+    carve = carve;
     world = h.0;
     line = h.1;
     new = new;
+    played = subst (λ n. IsPlayed n line old (Ok (Some h.1)) new) (omega arith) (subst (λ l. IsPlayed number line old (Ok (Some l)) new) (some_is h.2) played);
     booted = h.3;
     more = begins.0;
     first = begins.1 ∙ ap (λ l. l ∷ begins.0) (some_is h.2);
     run = passes h.0.parts line rest begins.0 outcome silent (world_runs rest (number + 1) new h.0 begins.0 outcome (ap (λ (s : Standing A). s.world) h.3.standing) begins.2);
   })
 
-  boots : (carve : Option PageRange) (answer : Answer) → Reports answer
+  boots : (carve : Option PageRange) (answer : Answer) → Plays answer → Reports answer
       → MatchOption carve ((answer ≡ Err (stops.Fault faults.Place)) × (new ≡ old)) (λ carve. MatchResult answer (λ says. (world : World A) × (says_line : ReportLine) × (says ≡ Some says_line) × IsBooted carve old world says_line new) (λ stop. IsNoBoot stop (memory_of old.told.regions carve) × (new ≡ old)))
-      → step_asked line ≡ None → Told A (line ∷ rest) reported outcome
-  boots None answer begins h silent = fault_alone answer faults.Place begins h.0
-  boots (Some carve) answer begins h silent = boots_by carve answer begins h silent
+      → step_asked line ≡ None → Told number old (line ∷ rest) reported outcome
+  boots None answer played begins h silent = fault_alone answer faults.Place begins h.0
+  boots (Some carve) answer played begins h silent = boots_by carve answer played begins h silent
 
-  before_boot : (answer : Answer) → Reports answer → (r : Result (Option Line) Fault) → Fits false r (step_asked line) → Follows number r old answer new → Told A (line ∷ rest) reported outcome
-  before_boot answer begins (Err fault) fit f = fault_alone answer fault begins f.0
-  before_boot answer begins (Ok None) fit f =
+  before_boot : (answer : Answer) → Plays answer → Reports answer → (r : Result (Option Line) Fault) → Fits false r (step_asked line) → Follows number r old answer new → Told number old (line ∷ rest) reported outcome
+  before_boot answer played begins (Err fault) fit f = fault_alone answer fault begins f.0
+  before_boot answer played begins (Ok None) fit f =
       let b = rw f.0 at begins in
-      passes_before line rest reported outcome fit (follows reported (ap (λ (s : Standing A). s.world) f.1 ∙ unbooted) b)
-  before_boot answer begins (Ok (Some (lines.Geometry bits))) fit f = told (lines.Geometry bits) answer begins f fit.1
-  before_boot answer begins (Ok (Some (lines.Cpus cpus))) fit f = told (lines.Cpus cpus) answer begins f fit.1
-  before_boot answer begins (Ok (Some (lines.Log calls))) fit f = told (lines.Log calls) answer begins f fit.1
-  before_boot answer begins (Ok (Some (lines.Memory pages))) fit f = told (lines.Memory pages) answer begins f fit.1
-  before_boot answer begins (Ok (Some (lines.Device pages))) fit f = told (lines.Device pages) answer begins f fit.1
-  before_boot answer begins (Ok (Some (lines.Carve pages))) fit f = told (lines.Carve pages) answer begins f fit.1
-  before_boot answer begins (Ok (Some lines.Boot)) fit f = boots old.told.carve answer begins f fit.1
-  before_boot answer begins (Ok (Some (lines.Step cpu step))) fit f = absurd (on fit.0)
-  before_boot answer begins (Ok (Some (lines.Word tree page level))) fit f = absurd (on fit.0)
-  before_boot answer begins (Ok (Some lines.FreeShared)) fit f = absurd (on fit.0)
+      passes_before (subst Plays f.0 played) fit (follows reported (ap (λ (s : Standing A). s.world) f.1 ∙ unbooted) b)
+  before_boot answer played begins (Ok (Some (lines.Geometry bits))) fit f = told (lines.Geometry bits) answer played begins f fit.1
+  before_boot answer played begins (Ok (Some (lines.Cpus cpus))) fit f = told (lines.Cpus cpus) answer played begins f fit.1
+  before_boot answer played begins (Ok (Some (lines.Log calls))) fit f = told (lines.Log calls) answer played begins f fit.1
+  before_boot answer played begins (Ok (Some (lines.Memory pages))) fit f = told (lines.Memory pages) answer played begins f fit.1
+  before_boot answer played begins (Ok (Some (lines.Device pages))) fit f = told (lines.Device pages) answer played begins f fit.1
+  before_boot answer played begins (Ok (Some (lines.Carve pages))) fit f = told (lines.Carve pages) answer played begins f fit.1
+  before_boot answer played begins (Ok (Some lines.Boot)) fit f = boots old.told.carve answer played begins f fit.1
+  before_boot answer played begins (Ok (Some (lines.Step cpu step))) fit f = absurd (on fit.0)
+  before_boot answer played begins (Ok (Some (lines.Word tree page level))) fit f = absurd (on fit.0)
+  before_boot answer played begins (Ok (Some lines.FreeShared)) fit f = absurd (on fit.0)
 
 unbooted_runs : {A : Type 0} (trace : List (List ℕ)) (number : ℕ) (old : Standing A) (reported : List ReportLine) (outcome : Outcome)
-    → old.world ≡ None → IsReport number old trace reported outcome → Told A trace reported outcome
+    → old.world ≡ None → IsReport number old trace reported outcome → Told number old trace reported outcome
 unbooted_runs [] number old reported outcome unbooted h = inl (record { line = report.End old.steps 0; alone = h.0; no_step = refl; all = λ clean. refl })
-unbooted_runs {A} (line ∷ rest) number old reported outcome unbooted (answer, new, played, begins) =
-    let follows : (more : List ReportLine) → new.world ≡ None → IsReport (number + 1) new rest more outcome → Told A rest more outcome
+unbooted_runs (line ∷ rest) number old reported outcome unbooted (answer, new, played, begins) =
+    let follows : (more : List ReportLine) → new.world ≡ None → IsReport (number + 1) new rest more outcome → Told (number + 1) new rest more outcome
           = λ more at report. unbooted_runs rest (number + 1) new more outcome at report in
     elim (cases_lt 1048576 number) [
       | inl many ↦ let x = played.past many in fault_alone number line rest old new reported outcome unbooted follows answer faults.Lines begins x.0
       | inr few ↦
-          before_boot number line rest old new reported outcome unbooted follows answer begins (said old.told false line) (fits old.told false line) (subst (λ b. Follows number (said old.told b line) old answer new) (ap (λ o. is_some o) unbooted) (played.runs few))
+          before_boot number line rest old new reported outcome unbooted follows answer played begins (said old.told false line) (fits old.told false line)
+          (subst (λ b. Follows number (said old.told b line) old answer new) (ap (λ o. is_some o) unbooted) (played.runs few))
     ]
 
 pub trace_runs : (A : Type 0) → TraceRuns A

@@ -1,5 +1,5 @@
 -- Laws of reports.
-use Rattle.std.specs.Prelude.{◌≡◌, ℕ, true, ◌⊎◌, List, [], ◌∷◌, ◌++◌, map, filter_map, Option, Some, None, Result, Ok, Err}
+use Rattle.std.specs.Prelude.{◌≡◌, ℕ, ◌+◌, true, ◌⊎◌, List, [], ◌∷◌, ◌++◌, length, map, filter_map, Option, Some, None, Result, Ok, Err}
 use Rattle.page_state.specs.declared.entry.PageRange.{PageRange}
 use Rattle.page_state.specs.declared.reply.Call.{Call}
 use Rattle.page_state.specs.declared.reply.Reply.{Reply}
@@ -18,7 +18,7 @@ use Rattle.trace_text.specs.declared.outcome.Outcome.{Outcome}
 use Rattle.trace_text.specs.declared.outcome.Outcome.TheVariants as outcomes
 use Rattle.trace_text.specs.declared.report.ReportLine.{ReportLine}
 use Rattle.trace_text.specs.declared.report.ReportLine.TheVariants as report
-use Rattle.trace_text.specs.Replay.{IsReport}
+use Rattle.trace_text.specs.Replay.{IsPlayed, IsReport}
 use Rattle.trace_text.specs.Said.{said}
 use Rattle.trace_text.specs.Session.{Standing, IsBooted, at_start}
 use Rattle.trace_text.specs.Settings.{nothing_told}
@@ -82,13 +82,25 @@ pub record TellsNoBoot (trace : List (List ℕ)) (reported : List ReportLine) (o
   pub no_step : reply_told line ≡ None
   pub all : outcome ≡ outcomes.Clean → steps_asked trace ≡ []
 
--- a report whose first line tells of a boot, and the other lines of a run of the booted world
-pub record TellsBoot (A : Type 0) (trace : List (List ℕ)) (reported : List ReportLine) (outcome : Outcome) : Type 0 where
-  pub carve : PageRange
+-- lines, from a number on, that report nothing and lead from one standing to another
+abbrev pub Prepares : {A : Type 0} → ℕ → Standing A → List (List ℕ) → Standing A → Type 0
+Prepares number old [] new = new ≡ old
+Prepares {A} number old (line ∷ rest) new = (next : Standing A) × IsPlayed number line old (Ok None) next × Prepares (number + 1) next rest new
+
+-- a report, from a line of the trace on, whose first line tells of a boot, and the other lines of a run of the booted world:
+-- the lines in front of the boot line have told its settings
+pub record TellsBoot {A : Type 0} (number : ℕ) (start : Standing A) (trace : List (List ℕ)) (reported : List ReportLine) (outcome : Outcome) : Type 0 where
+  pub front : List (List ℕ)
+  pub boot : List ℕ
+  pub rest : List (List ℕ)
+  pub lines : trace ≡ front ++ boot ∷ rest
   pub old : Standing A
+  pub prepared : Prepares number start front old
+  pub carve : PageRange
   pub world : World A
   pub line : ReportLine
   pub new : Standing A
+  pub played : IsPlayed (number + length front) boot old (Ok (Some line)) new
   pub booted : IsBooted carve old world line new
   pub more : List ReportLine
   pub first : reported ≡ line ∷ more
@@ -102,4 +114,4 @@ WorldRuns A = (number : ℕ) (old : Standing A) (world : World A) (trace : List 
 -- the report of a trace tells of no boot, or of one and then of a run from there
 abbrev pub TraceRuns : Type 0 → Type 0
 TraceRuns A = (trace : List (List ℕ)) (reported : List ReportLine) (outcome : Outcome)
-    → IsReport {A = A} 1 at_start trace reported outcome → TellsNoBoot trace reported outcome ⊎ TellsBoot A trace reported outcome
+    → IsReport {A = A} 1 at_start trace reported outcome → TellsNoBoot trace reported outcome ⊎ TellsBoot {A = A} 1 at_start trace reported outcome
