@@ -3,6 +3,7 @@ mod Digits
 mod Hexadecimal
 mod KnownBytes
 mod LineLemmas
+mod OneLine
 mod PathLemmas
 mod ReplayLemmas
 mod Standing

@@ -1,18 +1,18 @@
 -- The run that a report tells.
-use Rattle.std.proofs.Common.{◌≡◌, ℕ, ◌+◌, refl, sym, subst, arith, ◌∙◌, ap, true, false, List, [], ◌∷◌, Option, Some, None, Result, Ok, Err, IfSome, MatchOption, MatchResult, option_map, is_some, inl, inr}
-use Rattle.std.specs.Prelude.{◌⊎◌, ok_or}
+use Rattle.std.proofs.Common.{◌≡◌, ℕ, ◌+◌, refl, sym, subst, arith, ◌∙◌, ap, true, false, List, [], ◌∷◌, ◌++◌, Option, Some, None, Result, Ok, Err, MatchOption, MatchResult, is_some, inl, inr}
+use Rattle.std.specs.Prelude.{◌⊎◌}
+use Rattle.std.specs.List.{cons_option}
 use Rattle.std.proofs.lemmas.Bool.{cases_lt}
 use Rattle.page_state.specs.declared.entry.PageRange.{PageRange}
 use Rattle.page_state.specs.declared.reply.Call.{Call}
 use Rattle.page_state.specs.declared.reply.Reply.{Reply}
-use Rattle.page_state.specs.declared.step.Step.{Step}
 use Rattle.page_state.specs.Regions.{memory_of}
 use Rattle.page_state.specs.Run.{Runs as RunsBy}
 use Rattle.page_state.specs.Step.{Steps}
 use Rattle.world.specs.declared.parts.Parts.{Parts}
 use Rattle.world.specs.declared.World.{World}
 use Rattle.world.specs.Stands.{layout_of, state_of}
-use Rattle.world.specs.Steps.{call_of, IsStep, Leads as LeadsBy}
+use Rattle.world.specs.Steps.{call_of, Leads as LeadsBy}
 use Rattle.trace_text.specs.declared.fault.Fault.{Fault}
 use Rattle.trace_text.specs.declared.fault.Fault.TheVariants as faults
 use Rattle.trace_text.specs.declared.line.Line.{Line}
@@ -22,12 +22,14 @@ use Rattle.trace_text.specs.declared.outcome.Outcome.TheVariants as outcomes
 use Rattle.trace_text.specs.declared.report.ReportLine.{ReportLine}
 use Rattle.trace_text.specs.declared.report.ReportLine.TheVariants as report
 use Rattle.trace_text.specs.declared.session.Stop.TheVariants as stops
-use Rattle.trace_text.specs.Laws.{reply_told, step_asked, steps_asked, Leads, TellsRun, TellsNoBoot, TellsBoot, TraceRuns}
+use Rattle.trace_text.specs.Laws.{reply_told, replies_told, step_asked, steps_asked, Leads, TellsRun, StopsIn, Reaches, TellsNoBoot, TellsBoot, TraceRuns}
 use Rattle.trace_text.specs.Replay.{IsPlayed, Begins, IsReport}
 use Rattle.trace_text.specs.Said.{said}
-use Rattle.trace_text.specs.Session.{Standing, Answer, Follows, Tells, IsBooted, IsNoBoot, Asks, Makes, at_start}
-use Rattle.trace_text.specs.Worlds.{tree_of, free_of, word_on}
-use Rattle.trace_text.proofs.Asked.{Fits, fits, mapped}
+use Rattle.trace_text.specs.Session.{Standing, Answer, Follows, Tells, IsBooted, IsNoBoot, at_start}
+use Rattle.trace_text.proofs.Asked.{Fits, fits}
+
+use Rattle.std.proofs.lemmas.List.{append_assoc}
+use Rattle.trace_text.proofs.OneLine.{one_line}
 
 nowhere : {A : Type 0} (p : Parts A) → Leads p [] p
 nowhere p row = (state_of row p, refl, refl)
@@ -42,20 +44,25 @@ onward p q r c cs layout first rest row =
 unclean : (outcome : Outcome) → outcome ≡ outcomes.Fault → outcome ≡ outcomes.Clean → ⊥
 unclean outcome e h = cc
 
--- a fault ends it
-ends : {A : Type 0} (p : Parts A) (trace : List (List ℕ)) (reported : List ReportLine) (outcome : Outcome) (number : ℕ) (fault : Fault)
-    → reported ≡ report.Fault number fault ∷ [] → outcome ≡ outcomes.Fault → TellsRun p trace reported outcome
-ends p trace reported outcome number fault e o = record {
-  calls = [];
-  last = p;
-  leads = nowhere p;
-  replies = rw e refl;
-  left = steps_asked trace;
-  steps = refl;
-  all = λ clean. absurd (unclean outcome o clean);
-}
+some_is : {X : Type 0} {x y : X} → Some x ≡ Some y → x ≡ y
+some_is h = cc
 
--- a line of the trace that asks for no step
+on : false ≡ true → ⊥
+on h = cc
+
+-- the replies of a list in two parts
+replies_cons : (o : Option (ℕ × Reply)) (xs ys : List (ℕ × Reply)) → cons_option o (xs ++ ys) ≡ cons_option o xs ++ ys
+replies_cons None xs ys = refl
+replies_cons (Some x) xs ys = refl
+
+replies_append : (xs ys : List ReportLine) → replies_told (xs ++ ys) ≡ replies_told xs ++ replies_told ys
+replies_append [] ys = refl
+replies_append (x ∷ xs) ys = ap (cons_option (reply_told x)) (replies_append xs ys) ∙ replies_cons (reply_told x) (replies_told xs) (replies_told ys)
+
+behind : (says more : List ReportLine) → replies_told says ≡ [] → replies_told (says ++ more) ≡ replies_told more
+behind says more e = replies_append says more ∙ ap (λ xs. xs ++ replies_told more) e
+
+-- a line of the trace that asks for no step, and what it reports
 passes : {A : Type 0} (p : Parts A) (line : List ℕ) (rest : List (List ℕ)) (reported : List ReportLine) (outcome : Outcome)
     → step_asked line ≡ None → TellsRun p rest reported outcome → TellsRun p (line ∷ rest) reported outcome
 passes p line rest reported outcome e run = record {
@@ -68,88 +75,6 @@ passes p line rest reported outcome e run = record {
   all = run.all;
 }
 
--- a line of the report that isn't a step's
-tells : {A : Type 0} (p : Parts A) (trace : List (List ℕ)) (says : ReportLine) (reported more : List ReportLine) (outcome : Outcome)
-    → reported ≡ says ∷ more → reply_told says ≡ None → TellsRun p trace more outcome → TellsRun p trace reported outcome
-tells p trace says reported more outcome e n run = record {
-  calls = run.calls;
-  last = run.last;
-  leads = run.leads;
-  replies = rw (e, n) run.replies;
-  left = run.left;
-  steps = run.steps;
-  all = run.all;
-}
-
--- a step
-stepped : {A : Type 0} (p q : Parts A) (cpu : ℕ) (step : Step) (reply : Reply) (number : ℕ) (line : List ℕ) (rest : List (List ℕ)) (reported more : List ReportLine) (outcome : Outcome)
-    → step_asked line ≡ Some (cpu, step) → reported ≡ report.Step number cpu reply ∷ more → IsStep p cpu step reply q → TellsRun q rest more outcome
-    → TellsRun p (line ∷ rest) reported outcome
-stepped p q cpu step reply number line rest reported more outcome asked e made run = record {
-  calls = call_of p cpu step reply ∷ run.calls;
-  last = run.last;
-  leads = onward p q run.last (call_of p cpu step reply) run.calls made.layout made.leads run.leads;
-  replies = rw e (ap (λ xs. (cpu, reply) ∷ xs) run.replies);
-  left = run.left;
-  steps = rw asked (ap (λ xs. (cpu, step) ∷ xs) run.steps);
-  all = run.all;
-}
-
-of_some : {X : Type 0} (o : Option X) (x : X) (P : Type 0) (Q : X → Type 0) → o ≡ Some x → MatchOption o P Q → Q x
-of_some o x P Q e h = rw e at h
-
-some_is : {X : Type 0} {x y : X} → Some x ≡ Some y → x ≡ y
-some_is h = cc
-
-off : true ≡ false → ⊥
-off h = cc
-
-on : false ≡ true → ⊥
-on h = cc
-
-module _ {A : Type 0} (number : ℕ) (line : List ℕ) (rest : List (List ℕ)) (old new : Standing A) (answer : Answer) (reported : List ReportLine) (outcome : Outcome)
-    (begins : Begins number answer (λ more end. IsReport (number + 1) new rest more end) reported outcome) where
-  module _ (world : World A) (stands : old.world ≡ Some world)
-      (follows : (next : World A) (more : List ReportLine) → new.world ≡ Some next → IsReport (number + 1) new rest more outcome → TellsRun next.parts rest more outcome) where
-    fault_ends : (fault : Fault) → answer ≡ Err (stops.Fault fault) → TellsRun world.parts (line ∷ rest) reported outcome
-    fault_ends fault e = let b = rw e at begins in ends world.parts (line ∷ rest) reported outcome number fault b.0 b.1
-
-    still : new ≡ old → new.world ≡ Some world
-    still e = ap (λ (s : Standing A). s.world) e ∙ stands
-
-    asks : (o : Option ReportLine) (fault : Fault) → IfSome o (λ says. reply_told says ≡ None) → answer ≡ ok_or (option_map Some o) (stops.Fault fault) → new ≡ old → step_asked line ≡ None
-        → TellsRun world.parts (line ∷ rest) reported outcome
-    asks None fault n e same silent = fault_ends fault e
-    asks (Some says) fault n e same silent =
-        let b = rw e at begins in
-        passes world.parts line rest reported outcome silent (tells world.parts rest says reported b.0 outcome b.1 n (follows world b.0 (still same) b.2))
-
-    by_said : (r : Result (Option Line) Fault) → Fits true r (step_asked line) → Follows number r old answer new → TellsRun world.parts (line ∷ rest) reported outcome
-    by_said (Err fault) fit f = fault_ends fault f.0
-    by_said (Ok None) fit f = let b = rw f.0 at begins in passes world.parts line rest reported outcome fit (follows world reported (still f.1) b)
-    by_said (Ok (Some (lines.Geometry bits))) fit f = absurd (off fit.0)
-    by_said (Ok (Some (lines.Cpus cpus))) fit f = absurd (off fit.0)
-    by_said (Ok (Some (lines.Log calls))) fit f = absurd (off fit.0)
-    by_said (Ok (Some (lines.Memory pages))) fit f = absurd (off fit.0)
-    by_said (Ok (Some (lines.Device pages))) fit f = absurd (off fit.0)
-    by_said (Ok (Some (lines.Carve pages))) fit f = absurd (off fit.0)
-    by_said (Ok (Some lines.Boot)) fit f = absurd (off fit.0)
-    by_said (Ok (Some (lines.Step cpu step))) fit f =
-        let m = of_some old.world world _ (λ w. Makes number cpu step w old answer new) stands f in
-        elim (cases_lt cpu world.parts.layout.config.cpus) [
-          | inr over ↦ let x = m.0 over in fault_ends faults.Cpu x.0
-          | inl less ↦
-              let s = m.1 less in
-              let b = rw s.line at begins in
-              stepped world.parts s.next.parts cpu step s.reply number line rest reported b.0 outcome fit.1 b.1 s.made (follows s.next b.0 (ap (λ (z : Standing A). z.world) s.standing) b.2)
-        ]
-    by_said (Ok (Some (lines.Word tree page level))) fit f =
-        let m = of_some old.world world _ (λ w. Asks (option_map report.Word (word_on (tree_of w tree) page level)) faults.Path old answer new) stands f in
-        asks (option_map report.Word (word_on (tree_of world tree) page level)) faults.Path (mapped (λ says. reply_told says ≡ None) report.Word (λ w. refl) (word_on (tree_of world tree) page level)) m.0 m.1 fit.1
-    by_said (Ok (Some lines.FreeShared)) fit f =
-        let m = of_some old.world world _ (λ w. Asks (Some (report.Free (free_of w))) faults.Place old answer new) stands f in
-        asks (Some (report.Free (free_of world))) faults.Place refl m.0 m.1 fit.1
-
 pub world_runs : {A : Type 0} (trace : List (List ℕ)) (number : ℕ) (old : Standing A) (world : World A) (reported : List ReportLine) (outcome : Outcome)
     → old.world ≡ Some world → IsReport number old trace reported outcome → TellsRun world.parts trace reported outcome
 world_runs [] number old world reported outcome stands h = record {
@@ -161,13 +86,103 @@ world_runs [] number old world reported outcome stands h = record {
   steps = refl;
   all = λ clean. refl;
 }
-world_runs (line ∷ rest) number old world reported outcome stands (answer, new, played, begins) =
-    let follows : (next : World _) (more : List ReportLine) → new.world ≡ Some next → IsReport (number + 1) new rest more outcome → TellsRun next.parts rest more outcome
-          = λ next more at report. world_runs rest (number + 1) new next more outcome at report in
-    elim (cases_lt 1048576 number) [
-      | inl many ↦ let x = played.past many in fault_ends number line rest old new answer reported outcome begins world stands follows faults.Lines x.0
-      | inr few ↦
-          by_said number line rest old new answer reported outcome begins world stands follows (said old.told true line) (fits old.told true line) (subst (λ b. Follows number (said old.told b line) old answer new) (ap (λ o. is_some o) stands) (played.runs few))
+world_runs (line ∷ rest) number old world reported outcome stands h =
+    elim (one_line number old world line rest reported outcome stands h) [
+      | inl f ↦ record {
+          calls = [];
+          last = world.parts;
+          leads = nowhere world.parts;
+          replies = rw f.alone refl;
+          left = steps_asked (line ∷ rest);
+          steps = refl;
+          all = λ clean. absurd (unclean outcome f.ended clean);
+        }
+      | inr (inl p) ↦
+          let run = world_runs rest (number + 1) p.new world p.more outcome p.stands p.report in
+          record {
+            calls = run.calls;
+            last = run.last;
+            leads = run.leads;
+            replies = ap replies_told p.is ∙ behind p.says p.more p.no_step ∙ run.replies;
+            left = run.left;
+            steps = rw p.silent run.steps;
+            all = run.all;
+          }
+      | inr (inr s) ↦
+          let run = world_runs rest (number + 1) s.new s.next s.more outcome s.stands s.report in
+          record {
+            calls = call_of world.parts s.cpu s.step s.reply ∷ run.calls;
+            last = run.last;
+            leads = onward world.parts s.next.parts run.last (call_of world.parts s.cpu s.step s.reply) run.calls s.made.layout s.made.leads run.leads;
+            replies = rw s.is (ap (λ xs. (s.cpu, s.reply) ∷ xs) run.replies);
+            left = run.left;
+            steps = rw s.asked (ap (λ xs. (s.cpu, s.step) ∷ xs) run.steps);
+            all = run.all;
+          }
+    ]
+
+pub world_reaches : {A : Type 0} (front rest : List (List ℕ)) (number : ℕ) (old : Standing A) (world : World A) (reported : List ReportLine) (outcome : Outcome)
+    → old.world ≡ Some world → IsReport number old (front ++ rest) reported outcome → StopsIn number front reported outcome ⊎ Reaches number world.parts front rest reported outcome
+world_reaches [] rest number old world reported outcome stands h = inr (record {
+  told = [];
+  more = reported;
+  lines = refl;
+  calls = [];
+  new = old;
+  world = world;
+  stands = stands;
+  leads = nowhere world.parts;
+  replies = refl;
+  steps = refl;
+  report = subst (λ n. IsReport n old rest reported outcome) (omega arith) h;
+})
+world_reaches (line ∷ front) rest number old world reported outcome stands h =
+    elim (one_line number old world line (front ++ rest) reported outcome stands h) [
+      | inl f ↦ inl (record { told = []; line = number; fault = f.fault; lines = f.alone; inside = omega arith })
+      | inr (inl p) ↦ elim (world_reaches front rest (number + 1) p.new world p.more outcome p.stands p.report) [
+          | inl stop ↦ inl (record {
+              told = p.says ++ stop.told;
+              line = stop.line;
+              fault = stop.fault;
+              lines = p.is ∙ ap (λ ls. p.says ++ ls) stop.lines ∙ sym (rw append_assoc refl);
+              inside = let i = stop.inside in omega (arith, i);
+            })
+          | inr r ↦ inr (record {
+              told = p.says ++ r.told;
+              more = r.more;
+              lines = p.is ∙ ap (λ ls. p.says ++ ls) r.lines ∙ sym (rw append_assoc refl);
+              calls = r.calls;
+              new = r.new;
+              world = r.world;
+              stands = r.stands;
+              leads = r.leads;
+              replies = behind p.says r.told p.no_step ∙ r.replies;
+              steps = rw p.silent r.steps;
+              report = subst (λ n. IsReport n r.new rest r.more outcome) (omega arith) r.report;
+            })
+        ]
+      | inr (inr s) ↦ elim (world_reaches front rest (number + 1) s.new s.next s.more outcome s.stands s.report) [
+          | inl stop ↦ inl (record {
+              told = report.Step number s.cpu s.reply ∷ stop.told;
+              line = stop.line;
+              fault = stop.fault;
+              lines = s.is ∙ ap (λ ls. report.Step number s.cpu s.reply ∷ ls) stop.lines;
+              inside = let i = stop.inside in omega (arith, i);
+            })
+          | inr r ↦ inr (record {
+              told = report.Step number s.cpu s.reply ∷ r.told;
+              more = r.more;
+              lines = s.is ∙ ap (λ ls. report.Step number s.cpu s.reply ∷ ls) r.lines;
+              calls = call_of world.parts s.cpu s.step s.reply ∷ r.calls;
+              new = r.new;
+              world = r.world;
+              stands = r.stands;
+              leads = onward world.parts s.next.parts r.world.parts (call_of world.parts s.cpu s.step s.reply) r.calls s.made.layout s.made.leads r.leads;
+              replies = ap (λ xs. (s.cpu, s.reply) ∷ xs) r.replies;
+              steps = rw s.asked (ap (λ xs. (s.cpu, s.step) ∷ xs) r.steps);
+              report = subst (λ n. IsReport n r.new rest r.more outcome) (omega arith) r.report;
+            })
+        ]
     ]
 
 -- a report that tells of no boot, or of one and a run from there

@@ -1,5 +1,5 @@
 -- Laws of reports.
-use Rattle.std.specs.Prelude.{◌≡◌, ℕ, ◌+◌, true, ◌⊎◌, List, [], ◌∷◌, ◌++◌, length, map, filter_map, Option, Some, None, Result, Ok, Err}
+use Rattle.std.specs.Prelude.{◌≡◌, ℕ, ◌+◌, ◌<◌, true, ◌⊎◌, List, [], ◌∷◌, ◌++◌, length, map, filter_map, Option, Some, None, Result, Ok, Err}
 use Rattle.page_state.specs.declared.entry.PageRange.{PageRange}
 use Rattle.page_state.specs.declared.reply.Call.{Call}
 use Rattle.page_state.specs.declared.reply.Reply.{Reply}
@@ -110,6 +110,34 @@ pub record TellsBoot {A : Type 0} (number : ℕ) (start : Standing A) (trace : L
 abbrev pub WorldRuns : Type 0 → Type 0
 WorldRuns A = (number : ℕ) (old : Standing A) (world : World A) (trace : List (List ℕ)) (reported : List ReportLine) (outcome : Outcome)
     → old.world ≡ Some world → IsReport number old trace reported outcome → TellsRun world.parts trace reported outcome
+
+-- a report that a fault among these lines ends, the first of which has the number
+pub record StopsIn (number : ℕ) (front : List (List ℕ)) (reported : List ReportLine) (outcome : Outcome) : Type 0 where
+  pub told : List ReportLine
+  pub line : ℕ
+  pub fault : Fault
+  pub lines : reported ≡ told ++ report.Fault line fault ∷ []
+  pub inside : line < number + length front
+
+-- a report in which the lines in front, from a number on, are carried out: their report, the run of the reference step that it tells,
+-- the world that stands for its end, and the report of the other lines from there
+pub record Reaches {A : Type 0} (number : ℕ) (p : Parts A) (front rest : List (List ℕ)) (reported : List ReportLine) (outcome : Outcome) : Type 0 where
+  pub told : List ReportLine
+  pub more : List ReportLine
+  pub lines : reported ≡ told ++ more
+  pub calls : List Call
+  pub new : Standing A
+  pub world : World A
+  pub stands : new.world ≡ Some world
+  pub leads : Leads p calls world.parts
+  pub replies : replies_told told ≡ map (λ c. (c.cpu, c.reply)) calls
+  pub steps : steps_asked front ≡ map (λ c. (c.cpu, c.step)) calls
+  pub report : IsReport (number + length front) new rest more outcome
+
+-- at each line that is reached the world stands for the state that the run of the steps before it leads to
+abbrev pub WorldReaches : Type 0 → Type 0
+WorldReaches A = (number : ℕ) (old : Standing A) (world : World A) (front rest : List (List ℕ)) (reported : List ReportLine) (outcome : Outcome)
+    → old.world ≡ Some world → IsReport number old (front ++ rest) reported outcome → StopsIn number front reported outcome ⊎ Reaches number world.parts front rest reported outcome
 
 -- the report of a trace tells of no boot, or of one and then of a run from there
 abbrev pub TraceRuns : Type 0 → Type 0

@@ -1,0 +1,118 @@
+-- What the next line of a trace does where a world stands.
+use Rattle.std.proofs.Common.{◌≡◌, ℕ, ◌+◌, refl, subst, ◌∙◌, ap, true, false, List, [], ◌∷◌, ◌++◌, Option, Some, None, Result, Ok, Err, IfSome, MatchOption, option_map, is_some, inl, inr}
+use Rattle.std.specs.Prelude.{◌⊎◌, ok_or}
+use Rattle.std.proofs.lemmas.Bool.{cases_lt}
+use Rattle.page_state.specs.declared.reply.Reply.{Reply}
+use Rattle.page_state.specs.declared.step.Step.{Step}
+use Rattle.world.specs.declared.World.{World}
+use Rattle.world.specs.Steps.{IsStep}
+use Rattle.trace_text.specs.declared.fault.Fault.{Fault}
+use Rattle.trace_text.specs.declared.fault.Fault.TheVariants as faults
+use Rattle.trace_text.specs.declared.line.Line.{Line}
+use Rattle.trace_text.specs.declared.line.Line.TheVariants as lines
+use Rattle.trace_text.specs.declared.outcome.Outcome.{Outcome}
+use Rattle.trace_text.specs.declared.outcome.Outcome.TheVariants as outcomes
+use Rattle.trace_text.specs.declared.report.ReportLine.{ReportLine}
+use Rattle.trace_text.specs.declared.report.ReportLine.TheVariants as report
+use Rattle.trace_text.specs.declared.session.Stop.TheVariants as stops
+use Rattle.trace_text.specs.Laws.{reply_told, replies_told, step_asked}
+use Rattle.trace_text.specs.Replay.{Begins, IsReport}
+use Rattle.trace_text.specs.Said.{said}
+use Rattle.trace_text.specs.Session.{Standing, Answer, Follows, Asks, Makes}
+use Rattle.trace_text.specs.Worlds.{tree_of, free_of, word_on}
+use Rattle.trace_text.proofs.Asked.{Fits, fits, mapped}
+
+
+-- it is a fault
+pub record Faulted (number : ℕ) (reported : List ReportLine) (outcome : Outcome) : Type 0 where
+  pub fault : Fault
+  pub alone : reported ≡ report.Fault number fault ∷ []
+  pub ended : outcome ≡ outcomes.Fault
+
+-- it is no step line, and the world stays
+pub record Passed {A : Type 0} (number : ℕ) (world : World A) (line : List ℕ) (rest : List (List ℕ)) (reported : List ReportLine) (outcome : Outcome) : Type 0 where
+  pub new : Standing A
+  pub stands : new.world ≡ Some world
+  pub silent : step_asked line ≡ None
+  pub says : List ReportLine
+  pub more : List ReportLine
+  pub is : reported ≡ says ++ more
+  pub no_step : replies_told says ≡ []
+  pub report : IsReport (number + 1) new rest more outcome
+
+-- it is a step line, and the step is made
+pub record Stepped {A : Type 0} (number : ℕ) (world : World A) (line : List ℕ) (rest : List (List ℕ)) (reported : List ReportLine) (outcome : Outcome) : Type 0 where
+  pub cpu : ℕ
+  pub step : Step
+  pub asked : step_asked line ≡ Some (cpu, step)
+  pub reply : Reply
+  pub next : World A
+  pub made : IsStep world.parts cpu step reply next.parts
+  pub new : Standing A
+  pub stands : new.world ≡ Some next
+  pub more : List ReportLine
+  pub is : reported ≡ report.Step number cpu reply ∷ more
+  pub report : IsReport (number + 1) new rest more outcome
+
+abbrev pub OneLine : {A : Type 0} → ℕ → World A → List ℕ → List (List ℕ) → List ReportLine → Outcome → Type 0
+OneLine number world line rest reported outcome = Faulted number reported outcome ⊎ (Passed number world line rest reported outcome ⊎ Stepped number world line rest reported outcome)
+
+of_some : {X : Type 0} (o : Option X) (x : X) (P : Type 0) (Q : X → Type 0) → o ≡ Some x → MatchOption o P Q → Q x
+of_some o x P Q e h = rw e at h
+
+off : true ≡ false → ⊥
+off h = cc
+
+module _ {A : Type 0} (number : ℕ) (line : List ℕ) (rest : List (List ℕ)) (old new : Standing A) (answer : Answer) (reported : List ReportLine) (outcome : Outcome)
+    (begins : Begins number answer (λ more end. IsReport (number + 1) new rest more end) reported outcome)
+    (world : World A) (stands : old.world ≡ Some world) where
+  fault_ends : (fault : Fault) → answer ≡ Err (stops.Fault fault) → OneLine number world line rest reported outcome
+  fault_ends fault e = let b = rw e at begins in inl (record { fault = fault; alone = b.0; ended = b.1 })
+
+  still : new ≡ old → new.world ≡ Some world
+  still e = ap (λ (s : Standing A). s.world) e ∙ stands
+
+  asks : (o : Option ReportLine) (fault : Fault) → IfSome o (λ says. reply_told says ≡ None) → answer ≡ ok_or (option_map Some o) (stops.Fault fault) → new ≡ old → step_asked line ≡ None
+      → OneLine number world line rest reported outcome
+  asks None fault n e same silent = fault_ends fault e
+  asks (Some says) fault n e same silent =
+      let b = rw e at begins in
+      inr (inl (record { new = new; stands = still same; silent = silent; says = says ∷ []; more = b.0; is = b.1; no_step = rw n refl; report = b.2 }))
+
+  by_said : (r : Result (Option Line) Fault) → Fits true r (step_asked line) → Follows number r old answer new → OneLine number world line rest reported outcome
+  by_said (Err fault) fit f = fault_ends fault f.0
+  by_said (Ok None) fit f =
+      let b = rw f.0 at begins in
+      inr (inl (record { new = new; stands = still f.1; silent = fit; says = []; more = reported; is = refl; no_step = refl; report = b }))
+  by_said (Ok (Some (lines.Geometry bits))) fit f = absurd (off fit.0)
+  by_said (Ok (Some (lines.Cpus cpus))) fit f = absurd (off fit.0)
+  by_said (Ok (Some (lines.Log calls))) fit f = absurd (off fit.0)
+  by_said (Ok (Some (lines.Memory pages))) fit f = absurd (off fit.0)
+  by_said (Ok (Some (lines.Device pages))) fit f = absurd (off fit.0)
+  by_said (Ok (Some (lines.Carve pages))) fit f = absurd (off fit.0)
+  by_said (Ok (Some lines.Boot)) fit f = absurd (off fit.0)
+  by_said (Ok (Some (lines.Step cpu step))) fit f =
+      let m = of_some old.world world _ (λ w. Makes number cpu step w old answer new) stands f in
+      elim (cases_lt cpu world.parts.layout.config.cpus) [
+        | inr over ↦ let x = m.0 over in fault_ends faults.Cpu x.0
+        | inl less ↦
+            let s = m.1 less in
+            let b = rw s.line at begins in
+            inr (inr (record { cpu = cpu; step = step; asked = fit.1; reply = s.reply; next = s.next; made = s.made; new = new; stands = ap (λ (z : Standing A). z.world) s.standing; more = b.0; is = b.1; report = b.2 }))
+      ]
+  by_said (Ok (Some (lines.Word tree page level))) fit f =
+      let m = of_some old.world world _ (λ w. Asks (option_map report.Word (word_on (tree_of w tree) page level)) faults.Path old answer new) stands f in
+      asks (option_map report.Word (word_on (tree_of world tree) page level)) faults.Path (mapped (λ says. reply_told says ≡ None) report.Word (λ w. refl) (word_on (tree_of world tree) page level)) m.0 m.1 fit.1
+  by_said (Ok (Some lines.FreeShared)) fit f =
+      let m = of_some old.world world _ (λ w. Asks (Some (report.Free (free_of w))) faults.Place old answer new) stands f in
+      asks (Some (report.Free (free_of world))) faults.Place refl m.0 m.1 fit.1
+
+pub one_line : {A : Type 0} (number : ℕ) (old : Standing A) (world : World A) (line : List ℕ) (rest : List (List ℕ)) (reported : List ReportLine) (outcome : Outcome)
+    → old.world ≡ Some world → IsReport number old (line ∷ rest) reported outcome → OneLine number world line rest reported outcome
+one_line number old world line rest reported outcome stands (answer, new, played, begins) =
+    elim (cases_lt 1048576 number) [
+      | inl many ↦ let x = played.past many in fault_ends number line rest old new answer reported outcome begins world stands faults.Lines x.0
+      | inr few ↦
+          by_said number line rest old new answer reported outcome begins world stands (said old.told true line) (fits old.told true line)
+          (subst (λ b. Follows number (said old.told b line) old answer new) (ap (λ o. is_some o) stands) (played.runs few))
+    ]
