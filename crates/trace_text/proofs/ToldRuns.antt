@@ -7,6 +7,7 @@ use Rattle.page_state.specs.declared.entry.PageRange.{PageRange}
 use Rattle.page_state.specs.declared.reply.Call.{Call}
 use Rattle.page_state.specs.declared.reply.Reply.{Reply}
 use Rattle.page_state.specs.Regions.{memory_of}
+use Rattle.page_state.specs.Boot.{boot as boot_state}
 use Rattle.page_state.specs.Run.{Runs as RunsBy}
 use Rattle.page_state.specs.Step.{Steps}
 use Rattle.world.specs.declared.parts.Parts.{Parts}
@@ -22,7 +23,7 @@ use Rattle.trace_text.specs.declared.outcome.Outcome.TheVariants as outcomes
 use Rattle.trace_text.specs.declared.report.ReportLine.{ReportLine}
 use Rattle.trace_text.specs.declared.report.ReportLine.TheVariants as report
 use Rattle.trace_text.specs.declared.session.Stop.TheVariants as stops
-use Rattle.trace_text.specs.Laws.{reply_told, replies_told, step_asked, steps_asked, Leads, TellsRun, StopsIn, Reaches, TellsNoBoot, TellsBoot, TraceRuns}
+use Rattle.trace_text.specs.Laws.{reply_told, replies_told, step_asked, steps_asked, Leads, TellsRun, StopsIn, Reaches, TellsNoBoot, TellsBoot, TraceRuns, BootRuns}
 use Rattle.trace_text.specs.Replay.{IsPlayed, Begins, IsReport}
 use Rattle.trace_text.specs.Said.{said}
 use Rattle.trace_text.specs.Session.{Standing, Answer, Follows, Tells, IsBooted, IsNoBoot, at_start}
@@ -208,6 +209,7 @@ module _ {A : Type 0} (number : ℕ) (line : List ℕ) (rest : List (List ℕ)) 
     old = boot.old;
     prepared = (new, played, boot.prepared);
     carve = boot.carve;
+    carved = boot.carved;
     world = boot.world;
     line = boot.line;
     new = boot.new;
@@ -229,13 +231,13 @@ module _ {A : Type 0} (number : ℕ) (line : List ℕ) (rest : List (List ℕ)) 
   told said (Ok None) played begins h silent = passes_before played silent (follows reported (ap (λ (s : Standing A). s.world) h.1 ∙ unbooted) begins)
   told said (Ok (Some says)) played begins h silent = absurd (let e = h.0 in cc)
 
-  boots_by : (carve : PageRange) (answer : Answer) → Plays answer → Reports answer
+  boots_by : (carve : PageRange) (answer : Answer) → old.told.carve ≡ Some carve → Plays answer → Reports answer
       → MatchResult answer (λ says. (world : World A) × (says_line : ReportLine) × (says ≡ Some says_line) × IsBooted carve old world says_line new) (λ stop. IsNoBoot stop (memory_of old.told.regions carve) × (new ≡ old))
       → step_asked line ≡ None → Told number old (line ∷ rest) reported outcome
-  boots_by carve (Err (stops.Fault fault)) played begins h silent = fault_alone (Err (stops.Fault fault)) fault begins refl
-  boots_by carve (Err stops.NoMemory) played begins h silent = absurd begins
-  boots_by carve (Ok None) played begins h silent = absurd (let e = h.2 in cc)
-  boots_by carve (Ok (Some says)) played begins h silent = inr (record {
+  boots_by carve (Err (stops.Fault fault)) at played begins h silent = fault_alone (Err (stops.Fault fault)) fault begins refl
+  boots_by carve (Err stops.NoMemory) at played begins h silent = absurd begins
+  boots_by carve (Ok None) at played begins h silent = absurd (let e = h.2 in cc)
+  boots_by carve (Ok (Some says)) at played begins h silent = inr (record {
     front = [];
     boot = line;
     rest = rest;
@@ -243,6 +245,7 @@ module _ {A : Type 0} (number : ℕ) (line : List ℕ) (rest : List (List ℕ)) 
     old = old;
     prepared = refl;
     carve = carve;
+    carved = at;
     world = h.0;
     line = h.1;
     new = new;
@@ -253,11 +256,11 @@ module _ {A : Type 0} (number : ℕ) (line : List ℕ) (rest : List (List ℕ)) 
     run = passes h.0.parts line rest begins.0 outcome silent (world_runs rest (number + 1) new h.0 begins.0 outcome (ap (λ (s : Standing A). s.world) h.3.standing) begins.2);
   })
 
-  boots : (carve : Option PageRange) (answer : Answer) → Plays answer → Reports answer
+  boots : (carve : Option PageRange) (answer : Answer) → old.told.carve ≡ carve → Plays answer → Reports answer
       → MatchOption carve ((answer ≡ Err (stops.Fault faults.Place)) × (new ≡ old)) (λ carve. MatchResult answer (λ says. (world : World A) × (says_line : ReportLine) × (says ≡ Some says_line) × IsBooted carve old world says_line new) (λ stop. IsNoBoot stop (memory_of old.told.regions carve) × (new ≡ old)))
       → step_asked line ≡ None → Told number old (line ∷ rest) reported outcome
-  boots None answer played begins h silent = fault_alone answer faults.Place begins h.0
-  boots (Some carve) answer played begins h silent = boots_by carve answer played begins h silent
+  boots None answer at played begins h silent = fault_alone answer faults.Place begins h.0
+  boots (Some carve) answer at played begins h silent = boots_by carve answer at played begins h silent
 
   before_boot : (answer : Answer) → Plays answer → Reports answer → (r : Result (Option Line) Fault) → Fits false r (step_asked line) → Follows number r old answer new → Told number old (line ∷ rest) reported outcome
   before_boot answer played begins (Err fault) fit f = fault_alone answer fault begins f.0
@@ -270,7 +273,7 @@ module _ {A : Type 0} (number : ℕ) (line : List ℕ) (rest : List (List ℕ)) 
   before_boot answer played begins (Ok (Some (lines.Memory pages))) fit f = told (lines.Memory pages) answer played begins f fit.1
   before_boot answer played begins (Ok (Some (lines.Device pages))) fit f = told (lines.Device pages) answer played begins f fit.1
   before_boot answer played begins (Ok (Some (lines.Carve pages))) fit f = told (lines.Carve pages) answer played begins f fit.1
-  before_boot answer played begins (Ok (Some lines.Boot)) fit f = boots old.told.carve answer played begins f fit.1
+  before_boot answer played begins (Ok (Some lines.Boot)) fit f = boots old.told.carve answer refl played begins f fit.1
   before_boot answer played begins (Ok (Some (lines.Step cpu step))) fit f = absurd (on fit.0)
   before_boot answer played begins (Ok (Some (lines.Word tree page level))) fit f = absurd (on fit.0)
   before_boot answer played begins (Ok (Some lines.FreeShared)) fit f = absurd (on fit.0)
@@ -290,3 +293,8 @@ unbooted_runs (line ∷ rest) number old reported outcome unbooted (answer, new,
 
 pub trace_runs : (A : Type 0) → TraceRuns A
 trace_runs A trace reported outcome h = unbooted_runs trace 1 at_start reported outcome refl h
+
+pub boot_runs : (A : Type 0) → BootRuns A
+boot_runs A p q cs h leads =
+    let r = leads (boot_state (layout_of p)).shared.row in
+    (r.0, subst (λ s. RunsBy (Steps (layout_of p)) s cs r.0) (sym h) r.1, r.2)

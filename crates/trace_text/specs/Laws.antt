@@ -5,7 +5,8 @@ use Rattle.page_state.specs.declared.reply.Call.{Call}
 use Rattle.page_state.specs.declared.reply.Reply.{Reply}
 use Rattle.page_state.specs.declared.row.Row.{Row}
 use Rattle.page_state.specs.declared.step.Step.{Step}
-use Rattle.page_state.specs.Run.{Runs}
+use Rattle.page_state.specs.Boot.{boot as boot_state}
+use Rattle.page_state.specs.Run.{Runs, IsRun}
 use Rattle.page_state.specs.State.{Reference}
 use Rattle.page_state.specs.Step.{Steps}
 use Rattle.world.specs.declared.parts.Parts.{Parts}
@@ -97,6 +98,7 @@ pub record TellsBoot {A : Type 0} (number : ℕ) (start : Standing A) (trace : L
   pub old : Standing A
   pub prepared : Prepares number start front old
   pub carve : PageRange
+  pub carved : old.told.carve ≡ Some carve
   pub world : World A
   pub line : ReportLine
   pub new : Standing A
@@ -143,3 +145,8 @@ WorldReaches A = (number : ℕ) (old : Standing A) (world : World A) (front rest
 abbrev pub TraceRuns : Type 0 → Type 0
 TraceRuns A = (trace : List (List ℕ)) (reported : List ReportLine) (outcome : Outcome)
     → IsReport {A = A} 1 at_start trace reported outcome → TellsNoBoot trace reported outcome ⊎ TellsBoot {A = A} 1 at_start trace reported outcome
+
+-- where parts stand for the boot state, what leads on from them is a run
+abbrev pub BootRuns : Type 0 → Type 0
+BootRuns A = (p q : Parts A) (cs : List Call) → boot_state (layout_of p) ≡ state_of (boot_state (layout_of p)).shared.row p → Leads p cs q
+    → (t : Reference) × IsRun (layout_of p) cs t × (t ≡ state_of t.shared.row q)

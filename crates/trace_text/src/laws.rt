@@ -1,5 +1,5 @@
 //! Laws of reports. Each function does nothing, and its contract is the law.
-ghost use Rattle.trace_text.specs.Laws.{TraceRuns, WorldReaches, WorldRuns};
+ghost use Rattle.trace_text.specs.Laws.{BootRuns, TraceRuns, WorldReaches, WorldRuns};
 
 use std::alloc::Allocator;
 
@@ -8,4 +8,5 @@ pub fn replies_run<A: Allocator>()
     ensures world { WorldRuns A }
     ensures reached { WorldReaches A }
     ensures trace { TraceRuns A }
+    ensures boot { BootRuns A }
 {}
