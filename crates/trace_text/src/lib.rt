@@ -1,6 +1,7 @@
 //! Traces as text: what their lines say, and the reports of their runs.
 #![tactic(auto)]
 
+mod buffered;
 mod fault;
 pub mod laws;
 mod line;
@@ -16,6 +17,7 @@ mod trace;
 mod verb;
 mod words;
 
+pub use buffered::replay_buffered;
 pub use outcome::{EngineFault, Outcome};
 pub use trace::replay;
 
