@@ -94,3 +94,15 @@ fn tells_failed_reads_and_writes(rt: HostRuntime) -> Result<(), Fail> {
     assert!(rt; ended == Err(EngineFault::Write));
     Ok(())
 }
+
+#[test]
+fn writes_all_that_buffers_hold(rt: HostRuntime) -> Result<(), Fail> {
+    let writer = Vec::new(rt.alloc());
+    let (outcome, written) = replay_buffered(rt.alloc(), rt.alloc(), Cursor::new(BOOT), writer)?;
+    assert!(rt; outcome == Outcome::Clean);
+    let wanted: &[u8] = b"boot host 3 hyp 3 free 58\nend steps 0 disagreements 0\n";
+    assert!(rt; written.as_slice() == wanted);
+    let ended = replay_buffered(rt.alloc(), rt.alloc(), Cursor::new(BOOT), Full);
+    assert!(rt; matches!(ended, Err(EngineFault::Write)));
+    Ok(())
+}
