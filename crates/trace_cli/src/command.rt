@@ -1,4 +1,8 @@
 //! The words of the program.
+ghost use Rattle.std.specs.Prelude.{◌≡◌, IfOk, map};
+ghost use Rattle.clap.specs.Words.{app_of};
+ghost use Rattle.trace_cli.specs.Words.{IsRead, program};
+
 use clap::error::ErrorKind;
 use clap::{Arg, ArgAction, Error};
 use std::alloc::{AllocError, Global};
@@ -40,7 +44,9 @@ impl From<AllocError> for UsageFault {
 }
 
 /// The form of the words: the program's name and one subcommand.
-fn form<'a>(global: Global) -> Result<clap::Command<'a>, AllocError> {
+fn form<'a>(global: Global) -> Result<clap::Command<'a>, AllocError>
+    ensures { IfOk result (λ c. app_of c ≡ program) }
+{
     let file = Arg::new(global, "FILE")
         .required(true)
         .action(ArgAction::Set)
@@ -62,7 +68,9 @@ fn no_subcommand(global: Global) -> Result<UsageFault, AllocError> {
 }
 
 /// Reads the words, the program's name first.
-pub fn command<'a>(global: Global, words: &'a [String]) -> Result<Invocation<'a>, UsageFault> {
+pub fn command<'a>(global: Global, words: &'a [String]) -> Result<Invocation<'a>, UsageFault>
+    ensures { IfOk result (IsRead (map (λ w. w.bytes.items) words.entry.now)) }
+{
     let matches = form(global)?.try_get_matches_from(words)?;
     if let Some(("replay", inner)) = matches.subcommand()
         && let Some(file) = inner.get_str("FILE")
