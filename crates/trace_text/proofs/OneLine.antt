@@ -22,7 +22,6 @@ use Rattle.trace_text.specs.Session.{Standing, Answer, Follows, Asks, Makes}
 use Rattle.trace_text.specs.Worlds.{tree_of, free_of, word_on}
 use Rattle.trace_text.proofs.Asked.{Fits, fits, mapped}
 
-
 -- it is a fault
 pub record Faulted (number : ℕ) (reported : List ReportLine) (outcome : Outcome) : Type 0 where
   pub fault : Fault

@@ -28,7 +28,6 @@ use Rattle.trace_text.specs.Replay.{IsPlayed, Begins, IsReport}
 use Rattle.trace_text.specs.Said.{said}
 use Rattle.trace_text.specs.Session.{Standing, Answer, Follows, Tells, IsBooted, IsNoBoot, at_start}
 use Rattle.trace_text.proofs.Asked.{Fits, fits}
-
 use Rattle.std.proofs.lemmas.List.{append_assoc}
 use Rattle.trace_text.proofs.OneLine.{one_line}
 
@@ -90,14 +89,14 @@ world_runs [] number old world reported outcome stands h = record {
 world_runs (line ∷ rest) number old world reported outcome stands h =
     elim (one_line number old world line rest reported outcome stands h) [
       | inl f ↦ record {
-          calls = [];
-          last = world.parts;
-          leads = nowhere world.parts;
-          replies = rw f.alone refl;
-          left = steps_asked (line ∷ rest);
-          steps = refl;
-          all = λ clean. absurd (unclean outcome f.ended clean);
-        }
+        calls = [];
+        last = world.parts;
+        leads = nowhere world.parts;
+        replies = rw f.alone refl;
+        left = steps_asked (line ∷ rest);
+        steps = refl;
+        all = λ clean. absurd (unclean outcome f.ended clean);
+      }
       | inr (inl p) ↦
           let run = world_runs rest (number + 1) p.new world p.more outcome p.stands p.report in
           record {
@@ -141,49 +140,49 @@ world_reaches (line ∷ front) rest number old world reported outcome stands h =
     elim (one_line number old world line (front ++ rest) reported outcome stands h) [
       | inl f ↦ inl (record { told = []; line = number; fault = f.fault; lines = f.alone; inside = omega arith })
       | inr (inl p) ↦ elim (world_reaches front rest (number + 1) p.new world p.more outcome p.stands p.report) [
-          | inl stop ↦ inl (record {
-              told = p.says ++ stop.told;
-              line = stop.line;
-              fault = stop.fault;
-              lines = p.is ∙ ap (λ ls. p.says ++ ls) stop.lines ∙ sym (rw append_assoc refl);
-              inside = let i = stop.inside in omega (arith, i);
-            })
-          | inr r ↦ inr (record {
-              told = p.says ++ r.told;
-              more = r.more;
-              lines = p.is ∙ ap (λ ls. p.says ++ ls) r.lines ∙ sym (rw append_assoc refl);
-              calls = r.calls;
-              new = r.new;
-              world = r.world;
-              stands = r.stands;
-              leads = r.leads;
-              replies = behind p.says r.told p.no_step ∙ r.replies;
-              steps = rw p.silent r.steps;
-              report = subst (λ n. IsReport n r.new rest r.more outcome) (omega arith) r.report;
-            })
-        ]
+        | inl stop ↦ inl (record {
+          told = p.says ++ stop.told;
+          line = stop.line;
+          fault = stop.fault;
+          lines = p.is ∙ ap (λ ls. p.says ++ ls) stop.lines ∙ sym (rw append_assoc refl);
+          inside = let i = stop.inside in omega (arith, i);
+        })
+        | inr r ↦ inr (record {
+          told = p.says ++ r.told;
+          more = r.more;
+          lines = p.is ∙ ap (λ ls. p.says ++ ls) r.lines ∙ sym (rw append_assoc refl);
+          calls = r.calls;
+          new = r.new;
+          world = r.world;
+          stands = r.stands;
+          leads = r.leads;
+          replies = behind p.says r.told p.no_step ∙ r.replies;
+          steps = rw p.silent r.steps;
+          report = subst (λ n. IsReport n r.new rest r.more outcome) (omega arith) r.report;
+        })
+      ]
       | inr (inr s) ↦ elim (world_reaches front rest (number + 1) s.new s.next s.more outcome s.stands s.report) [
-          | inl stop ↦ inl (record {
-              told = report.Step number s.cpu s.reply ∷ stop.told;
-              line = stop.line;
-              fault = stop.fault;
-              lines = s.is ∙ ap (λ ls. report.Step number s.cpu s.reply ∷ ls) stop.lines;
-              inside = let i = stop.inside in omega (arith, i);
-            })
-          | inr r ↦ inr (record {
-              told = report.Step number s.cpu s.reply ∷ r.told;
-              more = r.more;
-              lines = s.is ∙ ap (λ ls. report.Step number s.cpu s.reply ∷ ls) r.lines;
-              calls = call_of world.parts s.cpu s.step s.reply ∷ r.calls;
-              new = r.new;
-              world = r.world;
-              stands = r.stands;
-              leads = onward world.parts s.next.parts r.world.parts (call_of world.parts s.cpu s.step s.reply) r.calls s.made.layout s.made.leads r.leads;
-              replies = ap (λ xs. (s.cpu, s.reply) ∷ xs) r.replies;
-              steps = rw s.asked (ap (λ xs. (s.cpu, s.step) ∷ xs) r.steps);
-              report = subst (λ n. IsReport n r.new rest r.more outcome) (omega arith) r.report;
-            })
-        ]
+        | inl stop ↦ inl (record {
+          told = report.Step number s.cpu s.reply ∷ stop.told;
+          line = stop.line;
+          fault = stop.fault;
+          lines = s.is ∙ ap (λ ls. report.Step number s.cpu s.reply ∷ ls) stop.lines;
+          inside = let i = stop.inside in omega (arith, i);
+        })
+        | inr r ↦ inr (record {
+          told = report.Step number s.cpu s.reply ∷ r.told;
+          more = r.more;
+          lines = s.is ∙ ap (λ ls. report.Step number s.cpu s.reply ∷ ls) r.lines;
+          calls = call_of world.parts s.cpu s.step s.reply ∷ r.calls;
+          new = r.new;
+          world = r.world;
+          stands = r.stands;
+          leads = onward world.parts s.next.parts r.world.parts (call_of world.parts s.cpu s.step s.reply) r.calls s.made.layout s.made.leads r.leads;
+          replies = ap (λ xs. (s.cpu, s.reply) ∷ xs) r.replies;
+          steps = rw s.asked (ap (λ xs. (s.cpu, s.step) ∷ xs) r.steps);
+          report = subst (λ n. IsReport n r.new rest r.more outcome) (omega arith) r.report;
+        })
+      ]
     ]
 
 -- a report that tells of no boot, or of one and a run from there
@@ -283,7 +282,7 @@ unbooted_runs : {A : Type 0} (trace : List (List ℕ)) (number : ℕ) (old : Sta
 unbooted_runs [] number old reported outcome unbooted h = inl (record { line = report.End old.steps 0; alone = h.0; no_step = refl; all = λ clean. refl })
 unbooted_runs (line ∷ rest) number old reported outcome unbooted (answer, new, played, begins) =
     let follows : (more : List ReportLine) → new.world ≡ None → IsReport (number + 1) new rest more outcome → Told (number + 1) new rest more outcome
-          = λ more at report. unbooted_runs rest (number + 1) new more outcome at report in
+    = λ more at report. unbooted_runs rest (number + 1) new more outcome at report in
     elim (cases_lt 1048576 number) [
       | inl many ↦ let x = played.past many in fault_alone number line rest old new reported outcome unbooted follows answer faults.Lines begins x.0
       | inr few ↦
