@@ -12,6 +12,7 @@ use Rattle.page_state.specs.Run.{Runs as RunsBy}
 use Rattle.page_state.specs.Step.{Steps}
 use Rattle.world.specs.declared.parts.Parts.{Parts}
 use Rattle.world.specs.declared.World.{World}
+use Rattle.world.specs.Laws.{EndsRun}
 use Rattle.world.specs.Stands.{layout_of, state_of}
 use Rattle.world.specs.Steps.{call_of, Leads as LeadsBy}
 use Rattle.trace_text.specs.declared.fault.Fault.{Fault}
@@ -23,10 +24,11 @@ use Rattle.trace_text.specs.declared.outcome.Outcome.TheVariants as outcomes
 use Rattle.trace_text.specs.declared.report.ReportLine.{ReportLine}
 use Rattle.trace_text.specs.declared.report.ReportLine.TheVariants as report
 use Rattle.trace_text.specs.declared.session.Stop.TheVariants as stops
-use Rattle.trace_text.specs.Laws.{reply_told, replies_told, step_asked, steps_asked, Leads, TellsRun, StopsIn, Reaches, TellsNoBoot, TellsBoot, TraceRuns, BootRuns}
+use Rattle.trace_text.specs.Laws.{reply_told, replies_told, step_asked, steps_asked, Leads, TellsRun, StopsIn, Reaches, TellsNoBoot, TellsBoot, TraceRuns}
 use Rattle.trace_text.specs.Replay.{IsPlayed, Begins, IsReport}
 use Rattle.trace_text.specs.Said.{said}
-use Rattle.trace_text.specs.Session.{Standing, Answer, Follows, Tells, IsBooted, IsNoBoot, at_start}
+use Rattle.trace_text.specs.Session.{Standing, Answer, Follows, Tells, HasWorld, IsNoWorld, at_start}
+use Rattle.trace_text.specs.Settings.{config_of}
 use Rattle.trace_text.proofs.Asked.{Fits, fits}
 use Rattle.std.proofs.lemmas.List.{append_assoc}
 use Rattle.trace_text.proofs.OneLine.{one_line}
@@ -185,6 +187,12 @@ world_reaches (line ∷ front) rest number old world reported outcome stands h =
       ]
     ]
 
+-- where parts stand for the boot state, what leads on from them is a run
+boot_runs : {A : Type 0} (p q : Parts A) (cs : List Call) → boot_state (layout_of p) ≡ state_of (boot_state (layout_of p)).shared.row p → Leads p cs q → EndsRun (layout_of p) cs q
+boot_runs p q cs h leads =
+    let r = leads (boot_state (layout_of p)).shared.row in
+    (r.0, subst (λ s. RunsBy (Steps (layout_of p)) s cs r.0) (sym h) r.1, r.2)
+
 -- a report that tells of no boot, or of one and a run from there
 abbrev Told : {A : Type 0} → ℕ → Standing A → List (List ℕ) → List ReportLine → Outcome → Type 0
 Told number start trace reported outcome = TellsNoBoot trace reported outcome ⊎ TellsBoot number start trace reported outcome
@@ -217,6 +225,7 @@ module _ {A : Type 0} (number : ℕ) (line : List ℕ) (rest : List (List ℕ)) 
     more = boot.more;
     first = boot.first;
     run = passes boot.world.parts line rest boot.more outcome e boot.run;
+    ends = let r = passes boot.world.parts line rest boot.more outcome e boot.run in boot_runs boot.world.parts r.last r.calls boot.booted.booted.stands r.leads;
   })
 
   fault_alone : (answer : Answer) (fault : Fault) → Reports answer → answer ≡ Err (stops.Fault fault) → Told number old (line ∷ rest) reported outcome
@@ -231,32 +240,35 @@ module _ {A : Type 0} (number : ℕ) (line : List ℕ) (rest : List (List ℕ)) 
   told said (Ok (Some says)) played begins h silent = absurd (let e = h.0 in cc)
 
   boots_by : (carve : PageRange) (answer : Answer) → old.told.carve ≡ Some carve → Plays answer → Reports answer
-      → MatchResult answer (λ says. (world : World A) × (says_line : ReportLine) × (says ≡ Some says_line) × IsBooted carve old world says_line new) (λ stop. IsNoBoot stop (memory_of old.told.regions carve) × (new ≡ old))
+      → MatchResult answer (λ says. (world : World A) × (says_line : ReportLine) × (says ≡ Some says_line) × HasWorld carve old world says_line new) (λ stop. IsNoWorld stop (memory_of old.told.regions carve) (config_of old.told) × (new ≡ old))
       → step_asked line ≡ None → Told number old (line ∷ rest) reported outcome
   boots_by carve (Err (stops.Fault fault)) at played begins h silent = fault_alone (Err (stops.Fault fault)) fault begins refl
   boots_by carve (Err stops.NoMemory) at played begins h silent = absurd begins
   boots_by carve (Ok None) at played begins h silent = absurd (let e = h.2 in cc)
-  boots_by carve (Ok (Some says)) at played begins h silent = inr (record {
-    front = [];
-    boot = line;
-    rest = rest;
-    lines = refl;
-    old = old;
-    prepared = refl;
-    carve = carve;
-    carved = at;
-    world = h.0;
-    line = h.1;
-    new = new;
-    played = subst (λ n. IsPlayed n line old (Ok (Some h.1)) new) (omega arith) (subst (λ l. IsPlayed number line old (Ok (Some l)) new) (some_is h.2) played);
-    booted = h.3;
-    more = begins.0;
-    first = begins.1 ∙ ap (λ l. l ∷ begins.0) (some_is h.2);
-    run = passes h.0.parts line rest begins.0 outcome silent (world_runs rest (number + 1) new h.0 begins.0 outcome (ap (λ (s : Standing A). s.world) h.3.standing) begins.2);
-  })
+  boots_by carve (Ok (Some says)) at played begins h silent =
+      let run = passes h.0.parts line rest begins.0 outcome silent (world_runs rest (number + 1) new h.0 begins.0 outcome (ap (λ (s : Standing A). s.world) h.3.standing) begins.2) in
+      inr (record {
+        front = [];
+        boot = line;
+        rest = rest;
+        lines = refl;
+        old = old;
+        prepared = refl;
+        carve = carve;
+        carved = at;
+        world = h.0;
+        line = h.1;
+        new = new;
+        played = subst (λ n. IsPlayed n line old (Ok (Some h.1)) new) (omega arith) (subst (λ l. IsPlayed number line old (Ok (Some l)) new) (some_is h.2) played);
+        booted = h.3;
+        more = begins.0;
+        first = begins.1 ∙ ap (λ l. l ∷ begins.0) (some_is h.2);
+        run = run;
+        ends = boot_runs h.0.parts run.last run.calls h.3.booted.stands run.leads;
+      })
 
   boots : (carve : Option PageRange) (answer : Answer) → old.told.carve ≡ carve → Plays answer → Reports answer
-      → MatchOption carve ((answer ≡ Err (stops.Fault faults.Place)) × (new ≡ old)) (λ carve. MatchResult answer (λ says. (world : World A) × (says_line : ReportLine) × (says ≡ Some says_line) × IsBooted carve old world says_line new) (λ stop. IsNoBoot stop (memory_of old.told.regions carve) × (new ≡ old)))
+      → MatchOption carve ((answer ≡ Err (stops.Fault faults.Place)) × (new ≡ old)) (λ carve. MatchResult answer (λ says. (world : World A) × (says_line : ReportLine) × (says ≡ Some says_line) × HasWorld carve old world says_line new) (λ stop. IsNoWorld stop (memory_of old.told.regions carve) (config_of old.told) × (new ≡ old)))
       → step_asked line ≡ None → Told number old (line ∷ rest) reported outcome
   boots None answer at played begins h silent = fault_alone answer faults.Place begins h.0
   boots (Some carve) answer at played begins h silent = boots_by carve answer at played begins h silent
@@ -292,8 +304,3 @@ unbooted_runs (line ∷ rest) number old reported outcome unbooted (answer, new,
 
 pub trace_runs : (A : Type 0) → TraceRuns A
 trace_runs A trace reported outcome h = unbooted_runs trace 1 at_start reported outcome refl h
-
-pub boot_runs : (A : Type 0) → BootRuns A
-boot_runs A p q cs h leads =
-    let r = leads (boot_state (layout_of p)).shared.row in
-    (r.0, subst (λ s. RunsBy (Steps (layout_of p)) s cs r.0) (sym h) r.1, r.2)

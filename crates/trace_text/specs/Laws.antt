@@ -5,12 +5,12 @@ use Rattle.page_state.specs.declared.reply.Call.{Call}
 use Rattle.page_state.specs.declared.reply.Reply.{Reply}
 use Rattle.page_state.specs.declared.row.Row.{Row}
 use Rattle.page_state.specs.declared.step.Step.{Step}
-use Rattle.page_state.specs.Boot.{boot as boot_state}
-use Rattle.page_state.specs.Run.{Runs, IsRun}
+use Rattle.page_state.specs.Run.{Runs}
 use Rattle.page_state.specs.State.{Reference}
 use Rattle.page_state.specs.Step.{Steps}
 use Rattle.world.specs.declared.parts.Parts.{Parts}
 use Rattle.world.specs.declared.World.{World}
+use Rattle.world.specs.Laws.{EndsRun}
 use Rattle.world.specs.Stands.{layout_of, state_of}
 use Rattle.trace_text.specs.declared.fault.Fault.{Fault}
 use Rattle.trace_text.specs.declared.line.Line.{Line}
@@ -21,7 +21,7 @@ use Rattle.trace_text.specs.declared.report.ReportLine.{ReportLine}
 use Rattle.trace_text.specs.declared.report.ReportLine.TheVariants as report
 use Rattle.trace_text.specs.Replay.{IsPlayed, IsReport}
 use Rattle.trace_text.specs.Said.{said}
-use Rattle.trace_text.specs.Session.{Standing, IsBooted, at_start}
+use Rattle.trace_text.specs.Session.{Standing, HasWorld, at_start}
 use Rattle.trace_text.specs.Settings.{nothing_told}
 
 -- the CPU and the reply that a line of a report tells, if it is a step's
@@ -103,10 +103,12 @@ pub record TellsBoot {A : Type 0} (number : ℕ) (start : Standing A) (trace : L
   pub line : ReportLine
   pub new : Standing A
   pub played : IsPlayed (number + length front) boot old (Ok (Some line)) new
-  pub booted : IsBooted carve old world line new
+  pub booted : HasWorld carve old world line new
   pub more : List ReportLine
   pub first : reported ≡ line ∷ more
   pub run : TellsRun world.parts trace more outcome
+  -- from the boot state
+  pub ends : EndsRun (layout_of world.parts) run.calls run.last
 
 -- where a world stands, the report of the lines from there on tells a run of the reference step
 abbrev pub WorldRuns : Type 0 → Type 0
@@ -145,8 +147,3 @@ WorldReaches A = (number : ℕ) (old : Standing A) (world : World A) (front rest
 abbrev pub TraceRuns : Type 0 → Type 0
 TraceRuns A = (trace : List (List ℕ)) (reported : List ReportLine) (outcome : Outcome)
     → IsReport {A = A} 1 at_start trace reported outcome → TellsNoBoot trace reported outcome ⊎ TellsBoot {A = A} 1 at_start trace reported outcome
-
--- where parts stand for the boot state, what leads on from them is a run
-abbrev pub BootRuns : Type 0 → Type 0
-BootRuns A = (p q : Parts A) (cs : List Call) → boot_state (layout_of p) ≡ state_of (boot_state (layout_of p)).shared.row p → Leads p cs q
-    → (t : Reference) × IsRun (layout_of p) cs t × (t ≡ state_of t.shared.row q)

@@ -2,6 +2,7 @@
 use Rattle.std.specs.Prelude.{◌≡◌, ◌<◌, List}
 use Rattle.page_state.specs.declared.layout.Config.{Config}
 use Rattle.page_state.specs.declared.reply.Call.{Call}
+use Rattle.page_state.specs.Layouts.{Layout}
 use Rattle.page_state.specs.Regions.{Memory}
 use Rattle.page_state.specs.Run.{Runs, IsRun}
 use Rattle.page_state.specs.State.{Reference}
@@ -16,6 +17,10 @@ pub record Goes {A : Type 0} (p : Parts A) (c : Call) (q : Parts A) : Type 0 whe
   pub call : c ≡ call_of p c.cpu c.step c.reply
   pub step : IsStep p c.cpu c.step c.reply q
 
--- after any list of steps from a boot on, the calls are a run of the reference step, and the parts stand for its end
+-- the calls are a run of the reference step from the boot state, and these parts stand for its end
+abbrev pub EndsRun : {A : Type 0} → Layout → List Call → Parts A → Type 0
+EndsRun l cs q = (t : Reference) × IsRun l cs t × (t ≡ state_of t.shared.row q)
+
+-- after any list of steps from a boot on, the calls are a run, and the parts stand for its end
 abbrev pub StepsRun : Type 0 → Type 0
-StepsRun A = (m : Memory) (config : Config) (p q : Parts A) (cs : List Call) → IsBooted m config p → Runs Goes p cs q → (t : Reference) × IsRun (layout_of p) cs t × (t ≡ state_of t.shared.row q)
+StepsRun A = (m : Memory) (config : Config) (p q : Parts A) (cs : List Call) → IsBooted m config p → Runs Goes p cs q → EndsRun (layout_of p) cs q

@@ -1,4 +1,4 @@
-use Rattle.trace_text.proofs.ToldRuns.{world_runs, world_reaches, trace_runs, boot_runs}
+use Rattle.trace_text.proofs.ToldRuns.{world_runs, world_reaches, trace_runs}
 use Rattle.trace_text.proofs.laws.replies_run.Goals as goal
 
 pub returns-clause-world : goal.returns-clause-world
@@ -9,6 +9,3 @@ returns-clause-reached g c number old world front rest reported outcome = world_
 
 pub returns-clause-trace : goal.returns-clause-trace
 returns-clause-trace g c = trace_runs _
-
-pub returns-clause-boot : goal.returns-clause-boot
-returns-clause-boot g c = boot_runs _
