@@ -1,13 +1,11 @@
 -- Searches through all numbers of a range.
-use Rattle.std.proofs.Common.{◌≡◌, ℕ, zero, suc, ◌+◌, ◌^◌, ◌<◌, ◌≤◌, Bool, true, false, refl, sym, ap, ◌∙◌, arith}
+use Rattle.std.proofs.Common.{◌≡◌, ℕ, zero, suc, ◌+◌, ◌<◌, ◌≤◌, Bool, true, false, refl, sym, ap, ◌∙◌, arith}
 use Rattle.page_state.specs.Search.{all_from, all_below}
 use Rattle.page_state.specs.declared.entry.Entry.{Entry}
 use Rattle.page_state.specs.declared.entry.Entry.TheVariants.{Unmapped, Malformed, Annotated, Leaf}
 use Rattle.page_state.specs.EntryTests.{entry_eq, is_unmapped}
-use Rattle.page_state.specs.Entries.{CanAdvance}
 use Rattle.page_state.proofs.Cases.{by_test, by_eq}
 use Rattle.page_state.proofs.Blocks.{all_from-by}
-use Rattle.ghost_spec.specs.Small.{HasLowFrames}
 
 all_from_false : (from n k : ℕ) (test : ℕ → Bool) → from ≤ k → k < from + n → test k ≡ false → all_from from n test ≡ false
 all_from_false from zero k test l m h = absurd (omega arith)
@@ -27,10 +25,3 @@ same_as_unmapped Unmapped = refl
 same_as_unmapped Malformed = refl
 same_as_unmapped (Annotated o) = refl
 same_as_unmapped (Leaf f p k s) = refl
-
--- an entry of a low frame can advance along a block
-pub can_advance : (e : Entry) (n : ℕ) → HasLowFrames e 1 → n < 2 ^ 63 → CanAdvance e n
-can_advance Unmapped n h l = tt
-can_advance Malformed n h l = tt
-can_advance (Annotated o) n h l = tt
-can_advance (Leaf f p k s) n h l = omega arith

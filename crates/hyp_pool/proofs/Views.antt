@@ -20,9 +20,6 @@ number f = f.0
 pub lowest_first-append : (fs gs : List Frame) → lowest_first (fs ++ gs) ≡ lowest_first gs ++ lowest_first fs
 lowest_first-append fs gs = ap numbers (reverse-append fs gs) ∙ map-append number (reverse gs) (reverse fs)
 
-pub lowest_first-push : (fs : List Frame) (f : Frame) → lowest_first (fs ++ f ∷ []) ≡ f.0 ∷ lowest_first fs
-lowest_first-push fs f = lowest_first-append fs (f ∷ [])
-
 lowest_first-cons : (f : Frame) (fs : List Frame) → lowest_first (f ∷ fs) ≡ lowest_first fs ++ f.0 ∷ []
 lowest_first-cons f fs = lowest_first-append (f ∷ []) fs
 

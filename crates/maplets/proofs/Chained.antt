@@ -42,14 +42,6 @@ continues_at (suc i) (r ∷ rows) d h f =
     let e : suc i + 1 ≡ suc (i + 1) = omega arith in
     continues_at i rows d (omega arith) (rw e at f)
 
-pub continues_means : (i : ℕ) (rows : List PageTarget) (d : PageTarget) → i + 1 < length rows → Continues (drop i rows) → follows (get_or rows i d) (get_or rows (i + 1) d).page (get_or rows (i + 1) d).target ≡ true
-continues_means i [] d h f = absurd (omega arith)
-continues_means zero (r ∷ []) d h f = absurd (omega arith)
-continues_means zero (r ∷ (x ∷ rows)) d h f = f
-continues_means (suc i) (r ∷ rows) d h f =
-    let e : suc i + 1 ≡ suc (i + 1) = omega arith in
-    rw e (continues_means i rows d (omega arith) f)
-
 pub ends_last : (i : ℕ) (rows : List PageTarget) → length rows ≤ i + 1 → Continues (drop i rows) → ⊥
 ends_last zero [] h f = f
 ends_last (suc i) [] h f = f

@@ -40,8 +40,3 @@ module _ {A : Type 0} where
 
 pub by_lt : {P : Type 0} (a b : ℕ) → (a < b → P) → ((a < b → ⊥) → P) → P
 by_lt a b f g = by_test (ltb a b) (λ e. f (grind (arith, nat_tests))) (λ e. g (λ h. grind (arith, nat_tests)))
-
-module _ {A : Type 0} where
-  only_table : (n low q : ℕ) (t u : Table A) → n ≡ 0 → frame_of u ≡ frame_of t → table_in n u low q ≡ table_in n t low q
-  unfolding table_in
-  only_table n low q t u k f = rw (k, f) refl

@@ -1,4 +1,4 @@
-use Rattle.std.proofs.Common.{◌≡◌, ℕ, zero, suc, ◌+◌, ◌-◌, ◌*◌, ◌/◌, ◌^◌, ◌<◌, ◌≤◌, refl, sym, ap, arith, ◌∙◌, cond, Bool, true, false, ◌==◌, ◌&&◌, ltb, leb, Option, Some, None, add-zero}
+use Rattle.std.proofs.Common.{◌≡◌, ℕ, zero, suc, ◌+◌, ◌*◌, ◌/◌, ◌^◌, ◌<◌, ◌≤◌, refl, sym, ap, arith, ◌∙◌, cond, Bool, true, false, ◌==◌, ◌&&◌, ltb, Option, Some, None, add-zero}
 use Rattle.std.proofs.lemmas.Bool.Decides.{nat_tests}
 use Rattle.std.proofs.Math.Nat.{div-eq_of_lt, div-lt_iff_lt-mul, mul-le-mul_right}
 use mathlib.Core.Path.{fun_ext}
@@ -6,7 +6,7 @@ use Rattle.page_state.specs.declared.entry.Entry.{Entry}
 use Rattle.page_state.specs.declared.entry.Entry.TheVariants.{Unmapped, Malformed, Annotated, Leaf}
 use Rattle.page_state.specs.declared.layout.Geometry.{Geometry}
 use Rattle.page_state.specs.Entries.{advance}
-use Rattle.page_state.specs.Map.{empty_map, update}
+use Rattle.page_state.specs.Map.{empty_map}
 use Rattle.page_state.specs.Geometries.{levels_below, input_pages, block_pages}
 use Rattle.page_state.proofs.Sizes.{size_some}
 use Rattle.page_state.proofs.Cases.{by_eq}
@@ -31,9 +31,6 @@ less_test a b h = grind (arith, nat_tests)
 
 more_test : (a b : ℕ) → (a < b → ⊥) → ltb a b ≡ false
 more_test a b h = grind (arith, nat_tests)
-
-at_first : (m : ℕ → Entry) (page q : ℕ) (e : Entry) → q ≡ page → update m page 1 e q ≡ e
-at_first m page q e h = let z : (leb page q && ltb q (page + 1)) ≡ true = grind (arith, nat_tests) in rw z (advance_zero e (q - page) (omega arith))
 
 both_true : (a b : Bool) (x y : Option ℕ) → a ≡ true → b ≡ true → cond (a && b) x y ≡ x
 both_true a b x y e f = rw (e, f) refl

@@ -43,9 +43,6 @@ value_of-take-le base xs i h =
 pub in_64_bits-above : (n : ℕ) → 2 ^ 64 ≤ n → in_64_bits n ≡ None
 in_64_bits-above n h = grind (arith, nat_tests)
 
-pub in_64_bits-below : (n : ℕ) → n < 2 ^ 64 → in_64_bits n ≡ Some n
-in_64_bits-below n h = grind (arith, nat_tests)
-
 pub above-in_64_bits : (n : ℕ) → in_64_bits n ≡ None → 2 ^ 64 ≤ n
 above-in_64_bits n e = grind (arith, nat_tests)
 

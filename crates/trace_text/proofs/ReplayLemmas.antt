@@ -1,6 +1,6 @@
 -- The report so far, and what the rest of the trace adds to it.
 use Rattle.std.proofs.Common.{◌≡◌, ℕ, ◌+◌, ◌<◌, ◌≤◌, refl, sym, ◌∙◌, ap, arith, Bool, true, false, List, [], ◌∷◌, ◌++◌, length, take, Option, Some, None, Result, Ok, Err, IsOk, IfOk, IfSome, IsSomeAnd, is_some, nat_lt, inl, inr}
-use Rattle.std.proofs.lemmas.List.{append_assoc, append-nil, length-take-le, take_all}
+use Rattle.std.proofs.lemmas.List.{append_assoc, length-take-le, take_all}
 use Rattle.std.proofs.lemmas.Bool.{lt-ltb, cases_lt}
 use Rattle.std.specs.Io.KnownBytes.{Appends}
 use Rattle.trace_text.specs.declared.fault.Fault.{Fault}
@@ -33,17 +33,6 @@ pub record SoFar {A : Type 0} (all left before now : Option (List ℕ)) (number 
   pub told : List ReportLine
   pub written : Appends before now (text_of_report told)
   pub leads : Leads all left number standing told
-
-appends_none : (a : Option (List ℕ)) → Appends a a []
-appends_none None = tt
-appends_none (Some xs) = sym (append-nil xs)
-
-leads_start : (A : Type 0) (all : Option (List ℕ)) → Leads {A = A} all all 1 at_start []
-leads_start A None = tt
-leads_start A (Some bytes) = λ more outcome h. h
-
-pub starts : (A : Type 0) (all before : Option (List ℕ)) → SoFar {A = A} all all before before 1 at_start
-starts A all before = record { told = []; written = appends_none before; leads = leads_start A all }
 
 -- what is long has a fault
 said-long : (told : Told) (booted : Bool) (line : List ℕ) → 256 < length line → said told booted line ≡ Err faults.Long

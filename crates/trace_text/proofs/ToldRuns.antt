@@ -209,18 +209,20 @@ module _ {A : Type 0} (number : ℕ) (line : List ℕ) (rest : List (List ℕ)) 
   passes_before : Plays (Ok None) → step_asked line ≡ None → Told (number + 1) new rest reported outcome → Told number old (line ∷ rest) reported outcome
   passes_before played e (inl none) = inl (record { line = none.line; alone = none.alone; no_step = none.no_step; all = λ clean. rw e (none.all clean) })
   passes_before played e (inr boot) = inr (record {
-    front = line ∷ boot.front;
-    boot = boot.boot;
-    rest = boot.rest;
-    lines = ap (λ ls. line ∷ ls) boot.lines;
-    old = boot.old;
-    prepared = (new, played, boot.prepared);
-    carve = boot.carve;
-    carved = boot.carved;
+    at = record {
+      front = line ∷ boot.at.front;
+      boot = boot.at.boot;
+      rest = boot.at.rest;
+      lines = ap (λ ls. line ∷ ls) boot.at.lines;
+      old = boot.at.old;
+      prepared = (new, played, boot.at.prepared);
+      carve = boot.at.carve;
+      carved = boot.at.carved;
+    };
     world = boot.world;
     line = boot.line;
     new = boot.new;
-    played = subst (λ n. IsPlayed n boot.boot boot.old (Ok (Some boot.line)) boot.new) (omega arith) boot.played;
+    played = subst (λ n. IsPlayed n boot.at.boot boot.at.old (Ok (Some boot.line)) boot.new) (omega arith) boot.played;
     booted = boot.booted;
     more = boot.more;
     first = boot.first;
@@ -248,14 +250,16 @@ module _ {A : Type 0} (number : ℕ) (line : List ℕ) (rest : List (List ℕ)) 
   boots_by carve (Ok (Some says)) at played begins h silent =
       let run = passes h.0.parts line rest begins.0 outcome silent (world_runs rest (number + 1) new h.0 begins.0 outcome (ap (λ (s : Standing A). s.world) h.3.standing) begins.2) in
       inr (record {
-        front = [];
-        boot = line;
-        rest = rest;
-        lines = refl;
-        old = old;
-        prepared = refl;
-        carve = carve;
-        carved = at;
+        at = record {
+          front = [];
+          boot = line;
+          rest = rest;
+          lines = refl;
+          old = old;
+          prepared = refl;
+          carve = carve;
+          carved = at;
+        };
         world = h.0;
         line = h.1;
         new = new;

@@ -88,9 +88,8 @@ abbrev pub Prepares : {A : Type 0} → ℕ → Standing A → List (List ℕ) �
 Prepares number old [] new = new ≡ old
 Prepares {A} number old (line ∷ rest) new = (next : Standing A) × IsPlayed number line old (Ok None) next × Prepares (number + 1) next rest new
 
--- a report, from a line of the trace on, whose first line tells of a boot, and the other lines of a run of the booted world:
--- the lines in front of the boot line have told its settings
-pub record TellsBoot {A : Type 0} (number : ℕ) (start : Standing A) (trace : List (List ℕ)) (reported : List ReportLine) (outcome : Outcome) : Type 0 where
+-- a boot line of a trace, from a line of the trace on: the lines in front of it have told its settings, a carve-out among them
+pub record BootLine {A : Type 0} (number : ℕ) (start : Standing A) (trace : List (List ℕ)) : Type 0 where
   pub front : List (List ℕ)
   pub boot : List ℕ
   pub rest : List (List ℕ)
@@ -99,15 +98,18 @@ pub record TellsBoot {A : Type 0} (number : ℕ) (start : Standing A) (trace : L
   pub prepared : Prepares number start front old
   pub carve : PageRange
   pub carved : old.told.carve ≡ Some carve
+
+-- a report, from a line of the trace on, whose first line tells of a boot, and the other lines of a run of the booted world from the boot state
+pub record TellsBoot {A : Type 0} (number : ℕ) (start : Standing A) (trace : List (List ℕ)) (reported : List ReportLine) (outcome : Outcome) : Type 0 where
+  pub at : BootLine number start trace
   pub world : World A
   pub line : ReportLine
   pub new : Standing A
-  pub played : IsPlayed (number + length front) boot old (Ok (Some line)) new
-  pub booted : HasWorld carve old world line new
+  pub played : IsPlayed (number + length at.front) at.boot at.old (Ok (Some line)) new
+  pub booted : HasWorld at.carve at.old world line new
   pub more : List ReportLine
   pub first : reported ≡ line ∷ more
   pub run : TellsRun world.parts trace more outcome
-  -- from the boot state
   pub ends : EndsRun (layout_of world.parts) run.calls run.last
 
 -- where a world stands, the report of the lines from there on tells a run of the reference step

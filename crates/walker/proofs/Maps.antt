@@ -1,15 +1,14 @@
 -- The map of a table as a change goes on, part by part.
-use Rattle.std.proofs.Common.{◌≡◌, ℕ, ◌+◌, ◌-◌, ◌*◌, ◌/◌, ◌%◌, ◌^◌, ◌<◌, ◌≤◌, ◌≢◌, refl, sym, ap, arith, ◌∙◌, cond, ◌&&◌, min}
+use Rattle.std.proofs.Common.{◌≡◌, ℕ, ◌+◌, ◌-◌, ◌*◌, ◌/◌, ◌%◌, ◌^◌, ◌<◌, ◌≤◌, ◌≢◌, sym, ap, arith, ◌∙◌, cond, ◌&&◌, min}
 use Rattle.std.proofs.lemmas.Bool.Decides.{nat_tests}
 use Rattle.std.specs.Prelude.{nat_lt, nat_le}
 use Rattle.std.proofs.Math.Nat.{mul-le-mul_left, mul-le-mul_right}
-use Rattle.descriptor.specs.Word.{desc_of}
 use Rattle.page_state.specs.declared.entry.Entry.{Entry}
-use Rattle.page_state.specs.Entries.{advance, entry_of_word}
+use Rattle.page_state.specs.Entries.{advance}
 use Rattle.page_state.proofs.Sizes.{size_some}
 use Rattle.page_state.proofs.Cases.{by_eq, by_lt}
 use Rattle.page_state.proofs.Entries.{advance-more}
-use Rattle.table_tree.specs.Meaning.{level_at, index_at, word_entry}
+use Rattle.table_tree.specs.Meaning.{index_at}
 use Rattle.table_tree.proofs.Digits.{digits}
 use Rattle.walk_plan.specs.declared.change.Change.{Change}
 use Rattle.walk_plan.specs.Changes.{part, changed}
@@ -26,23 +25,6 @@ changed_after d m c q a = grind (arith, nat_tests)
 
 pub changed_at : (d : ℕ) (m n : ℕ → Entry) (c : Change) (q : ℕ) → m q ≡ n q → changed d m c q ≡ changed d n c q
 changed_at d m n c q e = ap (λ x. cond (nat_le c.first (q % 2 ^ (9 * d)) && nat_lt (q % 2 ^ (9 * d)) c.end) (advance c.entry (q % 2 ^ (9 * d) - c.first)) x) e
-
-pub whole_map : (d w : ℕ) (c : Change) (m : ℕ → Entry) (q : ℕ) → c.first ≡ 0 → c.end ≡ 2 ^ (9 * d) → entry_of_word (desc_of (level_at d) w) ≡ c.entry → word_entry d q w ≡ changed d m c q
-whole_map d w c m q a b e =
-    let s = size_some d in
-    let l : c.first ≤ q % 2 ^ (9 * d) = omega arith in
-    let k : q % 2 ^ (9 * d) < c.end = omega (arith, s, b) in
-    let z : q % 2 ^ (9 * d) - c.first ≡ q % 2 ^ (9 * d) = omega arith in
-    sym (changed_in d m c q l k ∙ rw (z, e) refl)
-
-pub same_map : (d w : ℕ) (c : Change) (q : ℕ) → advance (entry_of_word (desc_of (level_at d) w)) c.first ≡ c.entry → word_entry d q w ≡ changed d (λ p. word_entry d p w) c q
-same_map d w c q e =
-    let m = λ (p : ℕ). word_entry d p w in
-    let r = q % 2 ^ (9 * d) in
-    by_lt r c.first (λ a. sym (changed_before d m c q a))
-    (λ a. by_lt r c.end
-    (λ b. let z : c.first + (r - c.first) ≡ r = omega arith in sym (changed_in d m c q a b ∙ rw (← e) (advance-more (entry_of_word (desc_of (level_at d) w)) c.first (r - c.first)) ∙ ap (λ n. advance (entry_of_word (desc_of (level_at d) w)) n) z))
-    (λ b. sym (changed_after d m c q b)))
 
 -- a page of part `i` under the whole change, and under the part's
 pub part_map : (d i : ℕ) (c : Change) (m n : ℕ → Entry) (q : ℕ) → index_at d q ≡ i → m q ≡ n q → changed d m (part d i c) q ≡ changed (d + 1) n (upto c ((i + 1) * 2 ^ (9 * d))) q

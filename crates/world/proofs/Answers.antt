@@ -1,5 +1,5 @@
 -- What a share answers, from what the change of both maps did.
-use Rattle.std.proofs.Common.{◌≡◌, ◌<◌, ℕ, ◌+◌, ◌++◌, Bool, true, false, nat_lt, drop, List, sym, ap, refl, ◌∙◌}
+use Rattle.std.proofs.Common.{◌≡◌, ◌<◌, ℕ, ◌+◌, ◌++◌, false, nat_lt, drop, List, sym, ap, ◌∙◌}
 use Rattle.std.proofs.lemmas.Bool.{ltb-true}
 use Rattle.page_state.specs.declared.row.Row.{Row}
 use Rattle.hyp_pool.specs.Pools.{Stored}

@@ -1,9 +1,5 @@
 -- A change takes just the frames that it needs.
-use Rattle.std.proofs.Common.{◌≡◌, ℕ, refl, ap, cond, Option, Some, List, [], ◌∷◌, length, take}
-use mathlib.Core.Path.{fun_ext}
-use Rattle.page_state.specs.Blocks.{block_eq}
-use Rattle.page_state.specs.State.{Block, Tree}
-use Rattle.page_state.specs.Tables.{Edit, needs, need, freed, placed, cleared, edited, edited_map}
+use Rattle.std.proofs.Common.{◌≡◌, ℕ, List, take}
 use Rattle.page_state.specs.Geometries.{levels_below}
 use Rattle.page_state.proofs.Edits.{edited_take}
 use Rattle.table_tree.specs.declared.tree.Tree.{Tree as TableTree}

@@ -25,9 +25,6 @@ pair : {X Y : Type 0} {a b : X} {c d : Y} → a ≡ b → c ≡ d → ◌≡◌ 
 pair {a = a} {d = d} e f = ap (λ y. (a, y)) f ∙ ap (λ x. (x, d)) e
 
 module _ (begins : HistoryBegins) {A : Type 0} (m : Memory) (c : Config) (p : Parts A) (booted : IsBooted m c p) where
-  l : Layout
-  l = layout_of p
-
   -- what there is of a state whose logs are empty
   abbrev fresh : Reference → Kept
   fresh s = record { vms = (s.vms, []); shared = (s.shared, []); guest = λ v. (s.guest v, []); cpu = λ k. (s.cpu k, []) }

@@ -92,10 +92,6 @@ module _ {A : Type 0} (p q : Parts A) (cpu f : ℕ) (reply : Reply) (k k' : CpuS
       unfolding stored
       stored_cpu row = ap no_cpu (sym less)
 
-      row_stays : (row : ℕ → Row) → (stored (x row)).shared.row ≡ row
-      unfolding stored
-      row_stays row = refl
-
       -- a step that changes nothing but the logs
       kept : (row : ℕ → Row) → StepsOn (layout_of p) c (x row) (stored (x row)) → shared_of row p.shared ≡ shared_of row t → (u : Reference) × Steps (layout_of p) (state_of row p) c u × (u ≡ state_of u.shared.row q)
       unfolding stored
