@@ -7,4 +7,4 @@ mod spare;
 
 pub use change::Change;
 pub use needs::{need, need_of_block, need_of_new, need_of_table};
-pub use spare::{Spare, drain, release, reserve};
+pub use spare::{Spare, drain, release, reserve, reserve_tables};

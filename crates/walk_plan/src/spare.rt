@@ -45,7 +45,26 @@ pub fn reserve<A: Allocator + Copy>(
     ensures reads { 2 * count_of reads.new ≤ 2 * count_of reads.old + 3 * range.count + 8 }
 {
     let need = need(tree, range, entry, reads);
-    let frames = pool.take_many(global, need)?;
+    reserve_tables(global, alloc, pool, need)
+}
+
+/// Takes the lowest `count` frames out of the pool and makes a table for each: `reserve` for who has counted the need
+/// already. NoMemory is answered only where memory was refused.
+pub fn reserve_tables<A: Allocator + Copy>(
+    global: Global,
+    alloc: A,
+    pool: &mut Pool,
+    count: usize,
+) -> Result<Spare<A>, PoolFault>
+    ensures spare { IfOk result (λ s. frames_of s.stock ≡ take count pool.old.frames) }
+    ensures pool { OnOk result (pool.new.frames ≡ drop count pool.old.frames) }
+    ensures enough { OnOk result (count ≤ length pool.old.frames) }
+    ensures no_pool { (result ≡ Err PoolFault.NoPool) ↔ (length pool.old.frames < count) }
+    ensures nothing { count ≡ 0 → IsOk result }
+    ensures err { OnErr result (pool.new ≡ pool.old) }
+    ensures room { pool.new.room ≡ pool.old.room }
+{
+    let frames = pool.take_many(global, count)?;
     match table_tree::reserve(alloc, frames.as_slice()) {
         Ok(stock) => Ok(Spare { stock }),
         Err(error) => {

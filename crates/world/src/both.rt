@@ -9,52 +9,30 @@ ghost use Rattle.world.specs.View.{IsEdit, IsApart, need_for, tree_after, back_f
 use crate::component::{Component, PageEdit};
 use hyp_pool::{Pool, PoolFault, laws};
 use std::alloc::{Allocator, Global};
-use table_tree::Reads;
-use walk_plan::{Spare, release, reserve};
+use walk_plan::{Spare, release, reserve_tables};
 
 /// Takes the tables that both changes need, the host's first, or nothing.
 fn reserve_both<A: Allocator + Copy>(
     global: Global,
     alloc: A,
-    host: &Component<A>,
-    hyp: &Component<A>,
     pool: &mut Pool,
-    host_edit: &PageEdit,
-    hyp_edit: &PageEdit,
+    host_need: usize,
+    hyp_need: usize,
 ) -> Result<(Spare<A>, Spare<A>), PoolFault>
-    requires host_edit { IsEdit host.now.tree.geometry host_edit.now }
-    requires hyp_edit { IsEdit hyp.now.tree.geometry hyp_edit.now }
     requires pool { IsPool pool.old }
-    requires enough { need_for host.now.tree host_edit.now + need_for hyp.now.tree hyp_edit.now ≤ length pool.old.frames }
-    ensures host { IfOk result (λ s. frames_of s.0.stock ≡ take (need_for host.now.tree host_edit.now) pool.old.frames) }
-    ensures hyp { IfOk result (λ s. frames_of s.1.stock ≡ take (need_for hyp.now.tree hyp_edit.now) (drop (need_for host.now.tree host_edit.now) pool.old.frames)) }
-    ensures left { OnOk result (pool.new.frames ≡ drop (need_for hyp.now.tree hyp_edit.now) (drop (need_for host.now.tree host_edit.now) pool.old.frames)) }
-    ensures nothing { need_for host.now.tree host_edit.now ≡ 0 → need_for hyp.now.tree hyp_edit.now ≡ 0 → IsOk result }
+    requires enough { host_need + hyp_need ≤ length pool.old.frames }
+    ensures host { IfOk result (λ s. frames_of s.0.stock ≡ take host_need pool.old.frames) }
+    ensures hyp { IfOk result (λ s. frames_of s.1.stock ≡ take hyp_need (drop host_need pool.old.frames)) }
+    ensures left { OnOk result (pool.new.frames ≡ drop hyp_need (drop host_need pool.old.frames)) }
+    ensures nothing { host_need ≡ 0 → hyp_need ≡ 0 → IsOk result }
     ensures no_memory { OnErr result (result ≡ Err PoolFault.NoMemory) }
     ensures err { OnErr result (pool.new ≡ pool.old) }
     ensures room { pool.new.room ≡ pool.old.room }
 {
     laws::given_back();
     laws::counted_frames();
-    let mut reads = Reads::new();
-    let host_spare = reserve(
-        global,
-        alloc,
-        host.tree(),
-        pool,
-        host_edit.range,
-        &host_edit.entry,
-        &mut reads,
-    )?;
-    match reserve(
-        global,
-        alloc,
-        hyp.tree(),
-        pool,
-        hyp_edit.range,
-        &hyp_edit.entry,
-        &mut reads,
-    ) {
+    let host_spare = reserve_tables(global, alloc, pool, host_need)?;
+    match reserve_tables(global, alloc, pool, hyp_need) {
         Ok(hyp_spare) => Ok((host_spare, hyp_spare)),
         Err(fault) => {
             release(host_spare, pool);
@@ -92,14 +70,14 @@ pub(crate) fn change_both<A: Allocator + Copy>(
     ensures hyp_root { root_of hyp.new.tree ≡ root_of hyp.old.tree }
 {
     laws::given_in_any_order();
-    if pool.free() < host.need(&host_edit) + hyp.need(&hyp_edit) {
+    let host_need = host.need(&host_edit);
+    let hyp_need = hyp.need(&hyp_edit);
+    if pool.free() < host_need + hyp_need {
         return Err(PoolFault::NoPool);
     }
     host.reserve(host_edit.range.count)?;
     hyp.reserve(hyp_edit.range.count)?;
-    let (host_spare, hyp_spare) = reserve_both(
-        global, alloc, host, hyp, pool, &host_edit, &hyp_edit,
-    )?;
+    let (host_spare, hyp_spare) = reserve_both(global, alloc, pool, host_need, hyp_need)?;
     host.commit(pool, host_edit, host_spare);
     hyp.commit(pool, hyp_edit, hyp_spare);
     Ok(())

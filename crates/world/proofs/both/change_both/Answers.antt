@@ -16,34 +16,26 @@ pub commit-requires-clause-distinct : goal.commit-requires-clause-distinct
 commit-requires-clause-distinct g c f =
     let p = c.args.pool.now.frames in
     let host = c.in_ok-reserve.ensures.tree in
-    let hyp = c.in_ok-reserve-2.ensures.tree in
     let n = need_for c.args.host.now.tree c.args.host_edit in
     let m = need_for c.args.hyp.now.tree c.args.hyp_edit in
-    let a : frames_of c.in_ok-host_spare.host_spare.stock ≡ take n p = rw host at c.in_ok-host_spare.ensures.host in
-    let b : frames_of c.in_ok-host_spare.hyp_spare.stock ≡ take m (drop n p) = rw (host, hyp) at c.in_ok-host_spare.ensures.hyp in
-    let l : c.reserve_both.new.pool.frames ≡ drop m (drop n p) = rw (host, hyp) at c.in_ok-host_spare.ensures.left in
+    let a : frames_of c.in_ok-host_spare.host_spare.stock ≡ take n p = rw c.need-host_need.ensures.value at c.in_ok-host_spare.ensures.host in
+    let l : c.reserve_both.new.pool.frames ≡ drop m (drop n p) = rw (c.need-host_need.ensures.value, c.need-hyp_need.ensures.value) at c.in_ok-host_spare.ensures.left in
     let x = ap (frame_count f) a in
-    let y = ap (frame_count f) b in
     let z = ap (frame_count f) l in
     let u = ap (λ t. uses t f) host in
-    let v = ap (λ t. uses t f) hyp in
     omega (arith, x, z, u, count_parts f n p, count_parts f m (drop n p), c.requires.apart.0 f)
 
 pub commit-requires-clause-covered : goal.commit-requires-clause-covered
 commit-requires-clause-covered g c =
     let p = c.args.pool.now.frames in
     let host = c.in_ok-reserve.ensures.tree in
-    let hyp = c.in_ok-reserve-2.ensures.tree in
     let n = need_for c.args.host.now.tree c.args.host_edit in
     let m = need_for c.args.hyp.now.tree c.args.hyp_edit in
-    let a : frames_of c.in_ok-host_spare.host_spare.stock ≡ take n p = rw host at c.in_ok-host_spare.ensures.host in
-    let b : frames_of c.in_ok-host_spare.hyp_spare.stock ≡ take m (drop n p) = rw (host, hyp) at c.in_ok-host_spare.ensures.hyp in
-    let l : c.reserve_both.new.pool.frames ≡ drop m (drop n p) = rw (host, hyp) at c.in_ok-host_spare.ensures.left in
+    let a : frames_of c.in_ok-host_spare.host_spare.stock ≡ take n p = rw c.need-host_need.ensures.value at c.in_ok-host_spare.ensures.host in
+    let l : c.reserve_both.new.pool.frames ≡ drop m (drop n p) = rw (c.need-host_need.ensures.value, c.need-hyp_need.ensures.value) at c.in_ok-host_spare.ensures.left in
     let x = ap length a in
-    let y = ap length b in
     let z = ap length l in
     let u = ap tables_of host in
-    let v = ap tables_of hyp in
     omega (arith, x, z, u, take_drop_length n p, take_drop_length m (drop n p), c.requires.apart.1, tree_some c.args.hyp.now.tree, c.in_ok-host_spare.ensures.room)
 
 pub commit-requires-2-clause-distinct : goal.commit-requires-2-clause-distinct
@@ -53,9 +45,9 @@ commit-requires-2-clause-distinct g c f =
     let hyp = c.in_ok-reserve-2.ensures.tree in
     let n = need_for c.args.host.now.tree c.args.host_edit in
     let m = need_for c.args.hyp.now.tree c.args.hyp_edit in
-    let a : frames_of c.in_ok-host_spare.host_spare.stock ≡ take n p = rw host at c.in_ok-host_spare.ensures.host in
-    let b : frames_of c.in_ok-host_spare.hyp_spare.stock ≡ take m (drop n p) = rw (host, hyp) at c.in_ok-host_spare.ensures.hyp in
-    let l : c.reserve_both.new.pool.frames ≡ drop m (drop n p) = rw (host, hyp) at c.in_ok-host_spare.ensures.left in
+    let a : frames_of c.in_ok-host_spare.host_spare.stock ≡ take n p = rw c.need-host_need.ensures.value at c.in_ok-host_spare.ensures.host in
+    let b : frames_of c.in_ok-host_spare.hyp_spare.stock ≡ take m (drop n p) = rw (c.need-host_need.ensures.value, c.need-hyp_need.ensures.value) at c.in_ok-host_spare.ensures.hyp in
+    let l : c.reserve_both.new.pool.frames ≡ drop m (drop n p) = rw (c.need-host_need.ensures.value, c.need-hyp_need.ensures.value) at c.in_ok-host_spare.ensures.left in
     let x = ap (frame_count f) a in
     let y = ap (frame_count f) b in
     let z = ap (frame_count f) l in
@@ -70,9 +62,9 @@ commit-requires-2-clause-covered g c =
     let hyp = c.in_ok-reserve-2.ensures.tree in
     let n = need_for c.args.host.now.tree c.args.host_edit in
     let m = need_for c.args.hyp.now.tree c.args.hyp_edit in
-    let a : frames_of c.in_ok-host_spare.host_spare.stock ≡ take n p = rw host at c.in_ok-host_spare.ensures.host in
-    let b : frames_of c.in_ok-host_spare.hyp_spare.stock ≡ take m (drop n p) = rw (host, hyp) at c.in_ok-host_spare.ensures.hyp in
-    let l : c.reserve_both.new.pool.frames ≡ drop m (drop n p) = rw (host, hyp) at c.in_ok-host_spare.ensures.left in
+    let a : frames_of c.in_ok-host_spare.host_spare.stock ≡ take n p = rw c.need-host_need.ensures.value at c.in_ok-host_spare.ensures.host in
+    let b : frames_of c.in_ok-host_spare.hyp_spare.stock ≡ take m (drop n p) = rw (c.need-host_need.ensures.value, c.need-hyp_need.ensures.value) at c.in_ok-host_spare.ensures.hyp in
+    let l : c.reserve_both.new.pool.frames ≡ drop m (drop n p) = rw (c.need-host_need.ensures.value, c.need-hyp_need.ensures.value) at c.in_ok-host_spare.ensures.left in
     let x = ap length a in
     let y = ap length b in
     let z = ap length l in
@@ -84,24 +76,17 @@ pub returns-clause-host : goal.returns-clause-host
 returns-clause-host g c =
     let p = c.args.pool.now.frames in
     let host = c.in_ok-reserve.ensures.tree in
-    let hyp = c.in_ok-reserve-2.ensures.tree in
     let n = need_for c.args.host.now.tree c.args.host_edit in
-    let m = need_for c.args.hyp.now.tree c.args.hyp_edit in
-    let a : frames_of c.in_ok-host_spare.host_spare.stock ≡ take n p = rw host at c.in_ok-host_spare.ensures.host in
-    let b : frames_of c.in_ok-host_spare.hyp_spare.stock ≡ take m (drop n p) = rw (host, hyp) at c.in_ok-host_spare.ensures.hyp in
-    let l : c.reserve_both.new.pool.frames ≡ drop m (drop n p) = rw (host, hyp) at c.in_ok-host_spare.ensures.left in
+    let a : frames_of c.in_ok-host_spare.host_spare.stock ≡ take n p = rw c.need-host_need.ensures.value at c.in_ok-host_spare.ensures.host in
     rw host at c.commit.ensures.tree ∙ ap (tree_after c.args.host.now.tree c.args.host_edit) a ∙ after_take c.args.host.now.tree c.args.host_edit p
 
 pub returns-clause-hyp : goal.returns-clause-hyp
 returns-clause-hyp g c =
     let p = c.args.pool.now.frames in
-    let host = c.in_ok-reserve.ensures.tree in
     let hyp = c.in_ok-reserve-2.ensures.tree in
     let n = need_for c.args.host.now.tree c.args.host_edit in
     let m = need_for c.args.hyp.now.tree c.args.hyp_edit in
-    let a : frames_of c.in_ok-host_spare.host_spare.stock ≡ take n p = rw host at c.in_ok-host_spare.ensures.host in
-    let b : frames_of c.in_ok-host_spare.hyp_spare.stock ≡ take m (drop n p) = rw (host, hyp) at c.in_ok-host_spare.ensures.hyp in
-    let l : c.reserve_both.new.pool.frames ≡ drop m (drop n p) = rw (host, hyp) at c.in_ok-host_spare.ensures.left in
+    let b : frames_of c.in_ok-host_spare.hyp_spare.stock ≡ take m (drop n p) = rw (c.need-host_need.ensures.value, c.need-hyp_need.ensures.value) at c.in_ok-host_spare.ensures.hyp in
     rw hyp at c.commit-2.ensures.tree ∙ ap (tree_after c.args.hyp.now.tree c.args.hyp_edit) b ∙ after_take c.args.hyp.now.tree c.args.hyp_edit (drop n p)
 
 pub returns-clause-pool : goal.returns-clause-pool
@@ -111,9 +96,7 @@ returns-clause-pool g c =
     let hyp = c.in_ok-reserve-2.ensures.tree in
     let n = need_for c.args.host.now.tree c.args.host_edit in
     let m = need_for c.args.hyp.now.tree c.args.hyp_edit in
-    let a : frames_of c.in_ok-host_spare.host_spare.stock ≡ take n p = rw host at c.in_ok-host_spare.ensures.host in
-    let b : frames_of c.in_ok-host_spare.hyp_spare.stock ≡ take m (drop n p) = rw (host, hyp) at c.in_ok-host_spare.ensures.hyp in
-    let l : c.reserve_both.new.pool.frames ≡ drop m (drop n p) = rw (host, hyp) at c.in_ok-host_spare.ensures.left in
+    let l : c.reserve_both.new.pool.frames ≡ drop m (drop n p) = rw (c.need-host_need.ensures.value, c.need-hyp_need.ensures.value) at c.in_ok-host_spare.ensures.left in
     let first = rw host at c.commit.ensures.pool in
     let second = rw hyp at c.commit-2.ensures.pool in
     let fs = back_from c.args.host.now.tree c.args.host_edit in
@@ -127,9 +110,9 @@ apart_uses g c f =
     let hyp = c.in_ok-reserve-2.ensures.tree in
     let n = need_for c.args.host.now.tree c.args.host_edit in
     let m = need_for c.args.hyp.now.tree c.args.hyp_edit in
-    let a : frames_of c.in_ok-host_spare.host_spare.stock ≡ take n p = rw host at c.in_ok-host_spare.ensures.host in
-    let b : frames_of c.in_ok-host_spare.hyp_spare.stock ≡ take m (drop n p) = rw (host, hyp) at c.in_ok-host_spare.ensures.hyp in
-    let l : c.reserve_both.new.pool.frames ≡ drop m (drop n p) = rw (host, hyp) at c.in_ok-host_spare.ensures.left in
+    let a : frames_of c.in_ok-host_spare.host_spare.stock ≡ take n p = rw c.need-host_need.ensures.value at c.in_ok-host_spare.ensures.host in
+    let b : frames_of c.in_ok-host_spare.hyp_spare.stock ≡ take m (drop n p) = rw (c.need-host_need.ensures.value, c.need-hyp_need.ensures.value) at c.in_ok-host_spare.ensures.hyp in
+    let l : c.reserve_both.new.pool.frames ≡ drop m (drop n p) = rw (c.need-host_need.ensures.value, c.need-hyp_need.ensures.value) at c.in_ok-host_spare.ensures.left in
     let x = ap (frame_count f) a in
     let y = ap (frame_count f) b in
     let z = ap (frame_count f) l in
@@ -144,9 +127,9 @@ apart_room g c =
     let hyp = c.in_ok-reserve-2.ensures.tree in
     let n = need_for c.args.host.now.tree c.args.host_edit in
     let m = need_for c.args.hyp.now.tree c.args.hyp_edit in
-    let a : frames_of c.in_ok-host_spare.host_spare.stock ≡ take n p = rw host at c.in_ok-host_spare.ensures.host in
-    let b : frames_of c.in_ok-host_spare.hyp_spare.stock ≡ take m (drop n p) = rw (host, hyp) at c.in_ok-host_spare.ensures.hyp in
-    let l : c.reserve_both.new.pool.frames ≡ drop m (drop n p) = rw (host, hyp) at c.in_ok-host_spare.ensures.left in
+    let a : frames_of c.in_ok-host_spare.host_spare.stock ≡ take n p = rw c.need-host_need.ensures.value at c.in_ok-host_spare.ensures.host in
+    let b : frames_of c.in_ok-host_spare.hyp_spare.stock ≡ take m (drop n p) = rw (c.need-host_need.ensures.value, c.need-hyp_need.ensures.value) at c.in_ok-host_spare.ensures.hyp in
+    let l : c.reserve_both.new.pool.frames ≡ drop m (drop n p) = rw (c.need-host_need.ensures.value, c.need-hyp_need.ensures.value) at c.in_ok-host_spare.ensures.left in
     let x = ap length a in
     let y = ap length b in
     let z = ap length l in
