@@ -39,3 +39,14 @@ pub sorted_drop : (i low : ℕ) (rows : List PageTarget) → IsSortedFrom low ro
 sorted_drop zero low rows s = s
 sorted_drop (suc i) low [] s = tt
 sorted_drop (suc i) low (r ∷ rs) s = sorted_low low (r.page + 1) (drop i rs) (omega (arith, s.0)) (sorted_drop i (r.page + 1) rs s.3)
+
+pub below_next : (i p : ℕ) (rows : List PageTarget) (d : PageTarget) → i < length rows → AreBelow p (take i rows) → (get_or rows i d).page < p → AreBelow p (take (suc i) rows)
+below_next i p [] d h b l = absurd (omega arith)
+below_next zero p (r ∷ rs) d h b l = (l, tt)
+below_next (suc i) p (r ∷ rs) d h b l = (b.0, below_next i p rs d (omega arith) b.1 l)
+
+pub sorted_at : (i p low : ℕ) (rows : List PageTarget) (d : PageTarget) → IsSortedFrom low rows → (i < length rows → p ≤ (get_or rows i d).page) → IsSortedFrom p (drop i rows)
+sorted_at zero p low [] d s l = tt
+sorted_at zero p low (r ∷ rs) d s l = (l (omega arith), s.1, s.2, s.3)
+sorted_at (suc i) p low [] d s l = tt
+sorted_at (suc i) p low (r ∷ rs) d s l = sorted_at i p (r.page + 1) rs d s.3 (λ h. l (omega arith))

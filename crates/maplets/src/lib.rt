@@ -103,7 +103,7 @@ impl Maplets {
     {
         let first = range.first.0;
         let from = first_from(self.rows.as_slice(), first);
-        let to = first_from(self.rows.as_slice(), first + range.count);
+        let to = next_from(self.rows.as_slice(), from, first + range.count);
         remove_rows(&mut self.rows, from, to);
         if let Some(target) = target {
             insert_run(&mut self.rows, from, first, target, range.count);
@@ -138,6 +138,23 @@ fn first_from(rows: &[PageTarget], page: u64) -> usize
     ensures from { IsSortedFrom page (drop result rows.now) }
 {
     rows.partition_point(|row| row.page < page)
+}
+
+/// The same where the rows before place `from` are of earlier pages. It looks at the rows from there on one by one, which
+/// is quick where the range is short.
+fn next_from(rows: &[PageTarget], from: usize, page: u64) -> usize
+    requires sorted { IsSortedFrom 0 rows.now }
+    requires within { from ≤ length rows.now }
+    requires before { AreBelow page (take from rows.now) }
+    ensures within { result ≤ length rows.now }
+    ensures before { AreBelow page (take result rows.now) }
+    ensures from { IsSortedFrom page (drop result rows.now) }
+{
+    let mut to = from;
+    while to < rows.len() && rows[to].page < page {
+        to += 1;
+    }
+    to
 }
 
 /// Takes the rows of places `from` to `to` out.
