@@ -1,26 +1,21 @@
 -- What a parse found, and its rows.
-use Rattle.std.proofs.Common.{◌≡◌, refl, sym, ap, ap₂, ◌∙◌, List, [], ◌∷◌, map, Option, Some, None, option_map, option_and_then, slice_get, find}
+use Rattle.std.proofs.Common.{◌≡◌, refl, ap, ◌∙◌, List, [], ◌∷◌, map, Option, Some, None, codes, option_map, option_and_then, slice_get, find}
 use Rattle.std.specs.Borrow.{Bor}
 use Rattle.std.specs.Str.{bytes_eq}
 use Rattle.clap.specs.Facts.{Entry}
-use Rattle.clap.specs.Walk.{row_of}
+use Rattle.clap.specs.Walk.{Row, row_of}
 use Rattle.clap.specs.Words.{Text, first_of, first_value, rows_of}
 use Rattle.clap.specs.declared.parser.matches.Found.{Found}
 use Rattle.clap.proofs.WalkLemmas.{find_row}
+use Rattle.trace_cli.specs.Words.{file_in}
 
-some_is : {X : Type 0} {x y : X} → Some x ≡ Some y → x ≡ y
+pub some_is : {X : Type 0} {x y : X} → Some x ≡ Some y → x ≡ y
 some_is h = cc
 
-abbrev pub both : {X Y Z : Type 0} → (X → Y) → (X → Z) → X → Y × Z
-both f g x = (f x, g x)
-
--- two parts of one option
-pub pair_is : {X Y Z : Type 0} (f : X → Y) (g : X → Z) (o : Option X) (y : Y) (z : Z)
-    → Some y ≡ option_map f o → Some z ≡ option_map (λ (p : Y × Z). p.1) (option_map (both f g) o) → option_map (both f g) o ≡ Some (y, z)
-pair_is f g None y z a b = absurd (let e = a in cc)
-pair_is {X} {Y} {Z} f g (Some x) y z a b =
-    let pair : Y → Z → Y × Z = λ u v. (u, v) in
-    ap Some (ap₂ pair (sym (some_is a)) (sym (some_is b)))
+-- the file in the rows of a subcommand
+pub file_of : (o : Option (Text × List Row)) (rows : List Row) (path : Text) → Some rows ≡ option_map (λ p. p.1) o → option_map file_in o ≡ Some (codes "replay", Some path) → first_of (codes "FILE") rows ≡ Some path
+file_of None rows path a b = absurd (let e = a in cc)
+file_of (Some p) rows path a b = ap (first_of (codes "FILE")) (some_is a) ∙ ap (λ q. q.1) (some_is b)
 
 first_text : (xs : List (Bor Text)) → slice_get (map (λ s. s.now) xs) 0 ≡ option_map (λ s. s.now) (slice_get xs 0)
 first_text [] = refl

@@ -1,9 +1,13 @@
 -- The words of the program, as clap reads them.
-use Rattle.std.specs.Prelude.{◌≡◌, true, List, Option, Some, codes, option_map}
+use Rattle.std.specs.Prelude.{◌≡◌, ◌≢◌, ⊤, true, List, [], Option, Result, Some, Ok, Err, codes, option_map}
 use Rattle.clap.specs.declared.builder.ArgAction.TheVariants.{Set}
-use Rattle.clap.specs.Words.{App, Row, Rule, Text, first_of, new_app, new_rule, subcommand_of, with_rule, with_subcommand}
+use Rattle.clap.specs.declared.error.Error.{Error}
+use Rattle.clap.specs.declared.error.kind.ErrorKind.TheVariants.{OutOfMemory}
+use Rattle.clap.specs.Words.{App, IsAmong, Row, Rule, Text, fault_of, first_of, kind_of, new_app, new_rule, subcommand_of, with_rule, with_subcommand}
 use Rattle.trace_cli.specs.declared.command.Invocation.{Invocation}
 use Rattle.trace_cli.specs.declared.command.Invocation.TheVariants.{Replay}
+use Rattle.trace_cli.specs.declared.command.UsageFault.{UsageFault}
+use Rattle.trace_cli.specs.declared.command.UsageFault.TheVariants.{Usage, NoMemory}
 
 -- the file of `replay`
 abbrev pub file : Rule
@@ -21,6 +25,19 @@ program = with_subcommand (record (new_app (codes "trace_cli")) { top = record (
 abbrev pub file_in : Text × List Row → Text × Option Text
 file_in found = (found.0, first_of (codes "FILE") found.1)
 
--- what was read is the file that clap finds in the words
-abbrev pub IsRead : List Text → Invocation → Type 0
-IsRead words (Replay path) = option_map file_in (subcommand_of program words) ≡ Some (codes "replay", Some path.now)
+-- clap finds no fault in the words, and this file
+pub record Names (words : List Text) (path : Text) : Type 0 where
+  pub faultless : fault_of program words ≡ []
+  pub file : option_map file_in (subcommand_of program words) ≡ Some (codes "replay", Some path)
+
+-- what was read: the file that the words name, a fault that clap finds in them, or that memory was
+-- refused
+abbrev pub IsRead : List Text → Result Invocation UsageFault → Type 0
+IsRead words (Ok (Replay path)) = Names words path.now
+IsRead words (Err (Usage error)) = IsAmong (kind_of error) (fault_of program words)
+IsRead words (Err NoMemory) = ⊤
+
+-- the fault that stands for an error of clap's
+abbrev pub StandsFor : Error → UsageFault → Type 0
+StandsFor error (Usage shown) = (shown ≡ error) × (kind_of error ≢ OutOfMemory)
+StandsFor error NoMemory = kind_of error ≡ OutOfMemory

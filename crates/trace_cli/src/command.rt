@@ -1,7 +1,8 @@
 //! The words of the program.
 ghost use Rattle.std.specs.Prelude.{◌≡◌, IfOk, map};
 ghost use Rattle.clap.specs.Words.{app_of};
-ghost use Rattle.trace_cli.specs.Words.{IsRead, program};
+ghost use Rattle.trace_cli.specs.Words.{IsRead, StandsFor, program};
+ghost use Rattle.trace_cli.specs.declared.command.UsageFault.TheVariants.{NoMemory};
 
 use clap::error::ErrorKind;
 use clap::{Arg, ArgAction, Error};
@@ -29,6 +30,8 @@ pub enum UsageFault {
 }
 
 impl From<Error> for UsageFault {
+    ghost from_gives = { StandsFor };
+
     fn from(error: Error) -> UsageFault {
         match error.kind() {
             ErrorKind::OutOfMemory => UsageFault::NoMemory,
@@ -38,6 +41,8 @@ impl From<Error> for UsageFault {
 }
 
 impl From<AllocError> for UsageFault {
+    ghost from_gives = { λ _ fault. fault ≡ NoMemory };
+
     fn from(_error: AllocError) -> UsageFault {
         UsageFault::NoMemory
     }
@@ -61,21 +66,13 @@ fn form<'a>(global: Global) -> Result<clap::Command<'a>, AllocError>
         .subcommand(replay)
 }
 
-/// The fault of words that name no subcommand.
-fn no_subcommand(global: Global) -> Result<UsageFault, AllocError> {
-    let error = form(global)?.error(ErrorKind::MissingSubcommand, "a subcommand is needed")?;
-    Ok(UsageFault::Usage(error))
-}
-
 /// Reads the words, the program's name first.
 pub fn command<'a>(global: Global, words: &'a [String]) -> Result<Invocation<'a>, UsageFault>
-    ensures { IfOk result (IsRead (map (λ w. w.bytes.items) words.entry.now)) }
+    ensures { IsRead (map (λ w. w.bytes.items) words.entry.now) result }
 {
     let matches = form(global)?.try_get_matches_from(words)?;
-    if let Some(("replay", inner)) = matches.subcommand()
-        && let Some(file) = inner.get_str("FILE")
-    {
-        return Ok(Invocation::Replay { file });
-    }
-    Err(no_subcommand(global)?)
+    // Words in which clap finds no fault name the one subcommand, `replay`, and its file.
+    let (_, inner) = matches.subcommand().unwrap();
+    let file = inner.get_str("FILE").unwrap();
+    Ok(Invocation::Replay { file })
 }

@@ -1,19 +1,35 @@
-use Rattle.std.proofs.Common.{◌≡◌, List, sym, ap, codes, ◌∙◌, map, Option, Some, option_map}
-use Rattle.std.specs.Box.{box_value}
-use Rattle.clap.specs.Walk.{Row}
-use Rattle.clap.specs.Words.{App, Text, found_of, is_simple, rows_of, subcommand_of, subcommand_rows_of}
-use Rattle.clap.specs.declared.parser.matches.ArgMatches.TheViews.{out-ArgMatches, out-SubCommand}
-use Rattle.trace_cli.specs.Words.{file_in}
-use Rattle.trace_cli.proofs.Values.{pair_is, first_is}
+use Rattle.std.proofs.Common.{◌≡◌, List, [], refl, sym, ap, codes, ◌∙◌, map, subst, Some, option_map}
+use Rattle.clap.proofs.CallerLemmas.{some_of_text}
+use Rattle.clap.specs.Words.{App, Text, fault_of, first_value, found_of, is_simple, is_simple_and_free, rows_of, subcommand_of, subcommand_rows_of}
+use Rattle.clap.specs.declared.parser.matches.ArgMatches.{ArgMatches}
+use Rattle.clap.specs.declared.parser.matches.Found.{Found}
+use Rattle.trace_cli.specs.Words.{Names, file_in, program}
+use Rattle.trace_cli.proofs.Taken.{file_taken, is_free}
+use Rattle.trace_cli.proofs.Values.{file_of, first_is, some_is}
 use Rattle.trace_cli.proofs.command.command.Goals as goal
+
+-- the file in the matches of the subcommand that a parse entered
+found_by : (words : List Text) (a : App) (m : ArgMatches) (inner : Found) → a ≡ program → fault_of a words ≡ [] → subcommand_rows_of m ≡ subcommand_of a words
+    → Some (rows_of inner) ≡ option_map (λ p. p.1) (subcommand_rows_of m) → (path : Text) × (first_value inner (codes "FILE") ≡ Some path) × Names words path
+found_by words a m inner is none told rows =
+    let faultless : fault_of program words ≡ [] = ap (λ (b : App). fault_of b words) (sym is) ∙ none in
+    let here : subcommand_rows_of m ≡ subcommand_of program words = told ∙ ap (λ (b : App). subcommand_of b words) is in
+    let taken = file_taken words faultless in
+    (taken.0, sym (first_is inner (codes "FILE")) ∙ file_of (subcommand_rows_of m) (rows_of inner) taken.0 rows (ap (option_map file_in) here ∙ taken.1), record { faultless = faultless; file = taken.1 })
+
+pub unwrap-file-requires : goal.unwrap-file-requires
+unwrap-file-requires c =
+    let is = c.in_ok-form.ensures in
+    let parse = c.in_ok-matches.ensures in
+    let found = found_by (map (λ w. w.bytes.items) c.args.words.now) _ c.in_ok-matches.matches (found_of c.unwrap.result.1.now) is (parse.kinds (ap is_simple_and_free is ∙ is_free)) (parse.matches (ap is_simple is)).1
+    (sym (ap (option_map (λ p. rows_of (found_of p.1.now))) c.unwrap.ensures) ∙ c.subcommand.ensures.rows) in
+    some_of_text (λ s. s.now) c.get_str.result (Some found.0) (c.get_str.ensures ∙ found.1) refl
 
 pub returns : goal.returns
 returns c =
-    let m = c.in_ok-matches.matches in
-    let form_is = c.in_ok-form.ensures in
-    let told = (c.in_ok-matches.ensures.matches (ap is_simple form_is)).1 ∙ ap (λ (a : App). subcommand_of a (map (λ w. w.bytes.items) c.args.words.now)) form_is in
-    let found = c.in-Some-replay-default.ensures in
-    let name : Text → Option (Text × List Row) = λ n. Some (n, rows_of (found_of c.in-Some-replay-default.inner.now)) in
-    let rows : subcommand_rows_of m ≡ name (codes "replay") = pair_is (λ b. (out-SubCommand (box_value b)).name.now) (λ b. rows_of (found_of (out-SubCommand (box_value b)).matches)) (out-ArgMatches m).subcommand _ _ found.name found.rows ∙ ap name c.in-Some-replay-default.is-replay in
-    sym (ap (option_map file_in) told) ∙ ap (option_map file_in) rows
-    ∙ ap (λ v. Some (codes "replay", v)) (first_is (found_of c.in-Some-replay-default.inner.now) (codes "FILE") ∙ sym c.in-Some.ensures)
+    let is = c.in_ok-form.ensures in
+    let words = map (λ w. w.bytes.items) c.args.words.now in
+    let parse = c.in_ok-matches.ensures in
+    let found = found_by words _ c.in_ok-matches.matches (found_of c.unwrap.result.1.now) is (parse.kinds (ap is_simple_and_free is ∙ is_free)) (parse.matches (ap is_simple is)).1
+    (sym (ap (option_map (λ p. rows_of (found_of p.1.now))) c.unwrap.ensures) ∙ c.subcommand.ensures.rows) in
+    subst (Names words) (some_is (sym found.1 ∙ sym c.get_str.ensures ∙ ap (option_map (λ s. s.now)) c.unwrap-file.ensures)) found.2
