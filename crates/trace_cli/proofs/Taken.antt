@@ -278,7 +278,7 @@ first_given (Some r) full given = first_in r.values full
 -- ---- `replay`
 
 -- `replay` and `help` as the program has them once it is built
-abbrev replays : Shape
+abbrev pub replays : Shape
 replays = built_leaf (inherited (with_leaf_noted (marked_built program.top)) replay.top)
 
 abbrev helps : Shape

@@ -1,5 +1,5 @@
 -- The words of the program, as clap reads them.
-use Rattle.std.specs.Prelude.{◌≡◌, ◌≢◌, ⊤, true, List, [], Option, Result, Some, Ok, Err, codes, option_map}
+use Rattle.std.specs.Prelude.{◌≡◌, ◌≢◌, ⊤, true, List, [], ◌∷◌, Option, Result, Some, Ok, Err, codes, option_map, slice_get}
 use Rattle.clap.specs.declared.builder.ArgAction.TheVariants.{Set}
 use Rattle.clap.specs.declared.error.Error.{Error}
 use Rattle.clap.specs.declared.error.kind.ErrorKind.TheVariants.{OutOfMemory}
@@ -36,6 +36,16 @@ abbrev pub IsRead : List Text → Result Invocation UsageFault → Type 0
 IsRead words (Ok (Replay path)) = Names words path.now
 IsRead words (Err (Usage error)) = IsAmong (kind_of error) (fault_of program words)
 IsRead words (Err NoMemory) = ⊤
+
+-- the file is what was read, unless memory was refused
+abbrev pub GivesFile : Text → Result Invocation UsageFault → Type 0
+GivesFile path (Ok (Replay file)) = file.now ≡ path
+GivesFile path (Err (Usage error)) = ⊥
+GivesFile path (Err NoMemory) = ⊤
+
+-- the words `NAME replay FILE` give that file, where it begins with no hyphen (45)
+abbrev pub TakesFile : List Text → Result Invocation UsageFault → Type 0
+TakesFile words r = (name path : Text) → words ≡ name ∷ codes "replay" ∷ path ∷ [] → slice_get path 0 ≢ Some 45 → GivesFile path r
 
 -- the fault that stands for an error of clap's
 abbrev pub StandsFor : Error → UsageFault → Type 0

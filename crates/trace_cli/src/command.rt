@@ -1,7 +1,7 @@
 //! The words of the program.
 ghost use Rattle.std.specs.Prelude.{◌≡◌, IfOk, map};
 ghost use Rattle.clap.specs.Words.{app_of};
-ghost use Rattle.trace_cli.specs.Words.{IsRead, StandsFor, program};
+ghost use Rattle.trace_cli.specs.Words.{IsRead, StandsFor, TakesFile, program};
 ghost use Rattle.trace_cli.specs.declared.command.UsageFault.TheVariants.{NoMemory};
 
 use clap::error::ErrorKind;
@@ -68,7 +68,8 @@ fn form<'a>(global: Global) -> Result<clap::Command<'a>, AllocError>
 
 /// Reads the words, the program's name first.
 pub fn command<'a>(global: Global, words: &'a [String]) -> Result<Invocation<'a>, UsageFault>
-    ensures { IsRead (map (λ w. w.bytes.items) words.entry.now) result }
+    ensures read { IsRead (map (λ w. w.bytes.items) words.entry.now) result }
+    ensures file { TakesFile (map (λ w. w.bytes.items) words.entry.now) result }
 {
     let matches = form(global)?.try_get_matches_from(words)?;
     // Words in which clap finds no fault name the one subcommand, `replay`, and its file.

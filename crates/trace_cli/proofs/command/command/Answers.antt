@@ -1,8 +1,10 @@
-use Rattle.std.proofs.Common.{◌≡◌, List, [], refl, sym, ap, codes, ◌∙◌, map, subst, Some, option_map}
+use Rattle.trace_cli.proofs.Plain.{takes_file}
+use Rattle.std.proofs.Common.{◌≡◌, List, [], refl, sym, ap, codes, ◌∙◌, map, subst, rules, Some, Ok, option_map}
 use Rattle.clap.proofs.CallerLemmas.{some_of_text}
 use Rattle.clap.specs.Words.{App, Text, fault_of, first_value, found_of, is_simple, is_simple_and_free, rows_of, subcommand_of, subcommand_rows_of}
 use Rattle.clap.specs.declared.parser.matches.ArgMatches.{ArgMatches}
 use Rattle.clap.specs.declared.parser.matches.Found.{Found}
+use Rattle.trace_cli.specs.declared.command.Invocation.TheVariants.{Replay}
 use Rattle.trace_cli.specs.Words.{Names, file_in, program}
 use Rattle.trace_cli.proofs.Taken.{file_taken, is_free}
 use Rattle.trace_cli.proofs.Values.{file_of, first_is, some_is}
@@ -32,4 +34,8 @@ returns c =
     let parse = c.in_ok-matches.ensures in
     let found = found_by words _ c.in_ok-matches.matches (found_of c.unwrap.result.1.now) is (parse.kinds (ap is_simple_and_free is ∙ is_free)) (parse.matches (ap is_simple is)).1
     (sym (ap (option_map (λ p. rows_of (found_of p.1.now))) c.unwrap.ensures) ∙ c.subcommand.ensures.rows) in
-    subst (Names words) (some_is (sym found.1 ∙ sym c.get_str.ensures ∙ ap (option_map (λ s. s.now)) c.unwrap-file.ensures)) found.2
+    let read = subst (Names words) (some_is (sym found.1 ∙ sym c.get_str.ensures ∙ ap (option_map (λ s. s.now)) c.unwrap-file.ensures)) found.2 in
+    record { read = read; file = takes_file words (Ok (Replay c.unwrap-file.result)) read }
+
+pub returns-in_err-matches-clause-file : goal.returns-in_err-matches-clause-file
+returns-in_err-matches-clause-file c = takes_file (map (λ w. w.bytes.items) c.args.words.now) c.from_residual-in_err-matches.result (search rules)
