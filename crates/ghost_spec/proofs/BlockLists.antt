@@ -3,7 +3,7 @@ use Rattle.std.proofs.Common.{◌≡◌, ℕ, zero, suc, ◌+◌, ◌-◌, ◌/�
 use Rattle.std.proofs.lemmas.List.Elements.{All-append, All-nil, All-cons, All-filter}
 use Rattle.std.proofs.lemmas.Bool.Decides.{nat_tests}
 use Rattle.std.proofs.Math.Nat.{div-mul-le_self}
-use Rattle.page_state.specs.State.{Block}
+use Rattle.page_state.specs.Trees.{Block}
 use Rattle.page_state.specs.Geometries.{block_pages}
 use Rattle.page_state.specs.Blocks.{first_page, block_at, blocks_with, blocks_from, blocks_along, blocks_on}
 use Rattle.ghost_spec.specs.Trees.{IsLowBlock}

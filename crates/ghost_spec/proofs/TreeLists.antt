@@ -1,11 +1,11 @@
 -- Tables of lists: those that are put, and those that go.
 use Rattle.std.proofs.Common.{◌≡◌, ℕ, zero, suc, ◌≤◌, true, not, min, List, [], ◌∷◌, ◌++◌, drop, filter, length, Option, None, refl, sym, ap, ◌∙◌, arith, cond}
 use mathlib.Core.Path.{fun_ext}
-use Rattle.page_state.specs.State.{Block, Pool}
+use Rattle.page_state.specs.Trees.{Block, Pool}
 use Rattle.page_state.specs.Blocks.{block_eq}
 use Rattle.page_state.specs.Tables.{placed, cleared, given, all_given}
 use Rattle.page_state.proofs.Cases.{by_test}
-use Rattle.page_state.proofs.Frames.{block_eq-same}
+use Rattle.page_state.proofs.BlockTests.{block_eq-same}
 use Rattle.ghost_spec.specs.declared.tree.Table.{Table}
 use Rattle.ghost_spec.specs.Trees.{table_of, tables_with, has_block}
 

@@ -6,11 +6,12 @@ use Rattle.page_state.specs.declared.reply.Reply.{Reply}
 use Rattle.page_state.specs.declared.row.Row.{Row}
 use Rattle.page_state.specs.declared.step.Step.TheVariants.{ShareHyp}
 use Rattle.page_state.specs.Layouts.{Layout}
-use Rattle.page_state.specs.Parts.{Used, used_alone}
+use Rattle.reference_model.specs.Used.{Used, UsedRooms, used_alone, rooms_alone}
+use Rattle.reference_model.specs.Changes.{edit_of}
 use Rattle.page_state.specs.Regions.{Memory}
-use Rattle.page_state.specs.State.{Shared, Cpu}
-use Rattle.page_state.specs.Step.{predict, refusal}
-use Rattle.page_state.specs.SharedRules.{host_share, hyp_share, share_hyp}
+use Rattle.reference_model.specs.State.{Shared, Cpu}
+use Rattle.reference_model.specs.Step.{predict, refusal}
+use Rattle.reference_model.specs.SharedRules.{host_share, hyp_share, share_hyp}
 use Rattle.page_state.specs.Tables.{need, edited, returned, all_given}
 use Rattle.ghost_spec.specs.declared.share.Shared.{Shared as SharedOfLists}
 use Rattle.ghost_spec.specs.Small.{AreSmall}
@@ -18,11 +19,15 @@ use Rattle.ghost_spec.specs.Trees.{tree_of}
 
 -- the Shared part that lists stand for, with these rows
 abbrev pub shared_of : (ℕ → Row) → SharedOfLists → Shared
-shared_of row s = record { host = tree_of s.host; hyp = tree_of s.hyp; free = s.free.items; row = row; room = s.room }
+shared_of row s = record { host = tree_of s.host; hyp = tree_of s.hyp; free = s.free.items; row = row }
 
--- what a call uses that uses the Shared part alone, with these rows and what else the CPU has
+-- what a call uses that uses the Shared part alone, with these rows
 abbrev pub used_of : (ℕ → Row) → Cpu → SharedOfLists → Used
-used_of row k s = used_alone (shared_of row s) (record k { room = s.cpu_room })
+used_of row k s = used_alone (shared_of row s) k
+
+-- the rooms of the logs that store it
+abbrev pub rooms_of : SharedOfLists → UsedRooms
+rooms_of s = rooms_alone s.room s.cpu_room
 
 -- the runs of both trees are small
 abbrev pub HasSmallRuns : SharedOfLists → Type 0
@@ -34,9 +39,9 @@ layout_of m config depth = record { memory = m; config = config; depth = depth }
 
 -- the lists once the frame is shared: the host's new tables get the lowest free frames, the hypervisor's the next
 pub record IsShared (depth pfn : ℕ) (s t : SharedOfLists) : Type 0 where
-  pub host : tree_of t.host ≡ edited depth (tree_of s.host) (host_share pfn) s.free.items
-  pub hyp : tree_of t.hyp ≡ edited depth (tree_of s.hyp) (hyp_share pfn) (drop (need depth (tree_of s.host) (host_share pfn)) s.free.items)
-  pub free : t.free.items ≡ all_given (returned depth (tree_of s.host) (host_share pfn) ++ returned depth (tree_of s.hyp) (hyp_share pfn)) (drop (need depth (tree_of s.host) (host_share pfn) + need depth (tree_of s.hyp) (hyp_share pfn)) s.free.items)
+  pub host : tree_of t.host ≡ edited depth (tree_of s.host) (edit_of (host_share pfn)) s.free.items
+  pub hyp : tree_of t.hyp ≡ edited depth (tree_of s.hyp) (edit_of (hyp_share pfn)) (drop (need depth (tree_of s.host) (edit_of (host_share pfn))) s.free.items)
+  pub free : t.free.items ≡ all_given (returned depth (tree_of s.host) (edit_of (host_share pfn)) ++ returned depth (tree_of s.hyp) (edit_of (hyp_share pfn))) (drop (need depth (tree_of s.host) (edit_of (host_share pfn)) + need depth (tree_of s.hyp) (edit_of (hyp_share pfn))) s.free.items)
   pub room : t.room ≡ s.room - 1
   pub cpu_room : t.cpu_room ≡ s.cpu_room - 1
 
@@ -47,8 +52,10 @@ module _ (m : Memory) (depth pfn : ℕ) (s : SharedOfLists) where
 
   -- the reply is that of the reference step, whatever the CPU, the rows and the configuration are
   abbrev pub IsReply : Reply → Type 0
-  IsReply reply = (config : Config) (cpu : ℕ) (row : ℕ → Row) (k : Cpu) → reply ≡ (predict (layout_of m config depth) cpu None (ShareHyp pfn) (used_of row k s)).0
+  IsReply reply = (config : Config) (cpu : ℕ) (row : ℕ → Row) (k : Cpu) → reply ≡ (predict (layout_of m config depth) cpu None (ShareHyp pfn) (used_of row k s) (rooms_of s)).0
 
-  -- the lists stand for what is used after the reference step, but for its rows
+  -- the lists stand for what is used after the reference step, but for its rows, and for the rooms of its logs
   abbrev pub IsNext : SharedOfLists → Type 0
-  IsNext t = (config : Config) (cpu : ℕ) (row : ℕ → Row) (k : Cpu) → let y = (predict (layout_of m config depth) cpu None (ShareHyp pfn) (used_of row k s)).1 in y ≡ used_of y.shared.row k t
+  IsNext t = (config : Config) (cpu : ℕ) (row : ℕ → Row) (k : Cpu) →
+      let said = predict (layout_of m config depth) cpu None (ShareHyp pfn) (used_of row k s) (rooms_of s) in
+      (said.1 ≡ used_of said.1.shared.row k t) × (said.2 ≡ rooms_of t)

@@ -1,7 +1,7 @@
 -- The tree that lists of runs and of tables stand for.
 use Rattle.std.specs.Prelude.{ℕ, Bool, true, false, not, is_some, ◌^◌, ◌≤◌, List, [], ◌∷◌, Option, Some, None, if◌then◌else◌}
 use Rattle.std.specs.List.{list_any}
-use Rattle.page_state.specs.State.{Block, Tree}
+use Rattle.page_state.specs.Trees.{Block, Tree}
 use Rattle.page_state.specs.Blocks.{block_eq, first_page, is_one_word, is_needless}
 use Rattle.page_state.specs.Map.{Map}
 use Rattle.page_state.specs.Runs.{map_of}

@@ -1,9 +1,10 @@
 //! The Shared part at boot, on lists.
 ghost use Rattle.std.specs.Prelude.{◌≡◌, ℕ, ◌+◌, ◌^◌, ◌<◌, ◌≤◌, ◌↔◌, IsTrue, IfOk, IfSome, IsSome};
-ghost use Rattle.page_state.specs.Boot.{boot_shared, IsCarveEnough, frames_from as frames_of, root_tree as root_tree_of};
+ghost use Rattle.page_state.specs.Trees.{frames_from as frames_of, root_tree as root_tree_of};
+ghost use Rattle.reference_model.specs.Boot.{boot_shared, IsCarveEnough};
 ghost use Rattle.page_state.specs.EntryTests.{annotation, leaf};
 ghost use Rattle.page_state.specs.Layouts.{hyp_page as hyp_page_of};
-ghost use Rattle.page_state.specs.State.{plain_row};
+ghost use Rattle.reference_model.specs.State.{plain_row};
 ghost use Rattle.ghost_spec.specs.Sharing.{HasSmallRuns, layout_of, shared_of};
 ghost use Rattle.ghost_spec.specs.Small.{AreSmall};
 ghost use Rattle.ghost_spec.specs.Trees.{tree_of};
@@ -24,6 +25,7 @@ pub fn boot(
     requires { depth ≤ 3 }
     ensures enough { IfOk result (λ o. IsSome o ↔ IsCarveEnough (layout_of memory.now config depth)) }
     ensures shared { IfOk result (λ o. IfSome o (λ s. shared_of (λ f. plain_row) s ≡ boot_shared (layout_of memory.now config depth))) }
+    ensures room { IfOk result (λ o. IfSome o (λ s. s.room ≡ config.log)) }
     ensures cpu_room { IfOk result (λ o. IfSome o (λ s. s.cpu_room ≡ config.log)) }
     ensures small { IfOk result (λ o. IfSome o HasSmallRuns) }
 {

@@ -2,7 +2,7 @@
 use Rattle.std.proofs.Common.{◌≡◌, ℕ, suc, ◌+◌, ◌<◌, ◌≤◌, List, [], ◌∷◌, refl, ap, sym, ◌∙◌, arith, inl, inr}
 use Rattle.std.specs.Prelude.{◌⊎◌, ◌↔◌, ◌==◌, Contains, if◌then◌else◌}
 use Rattle.std.proofs.lemmas.Bool.{cases_eq, eq-eqb, ne_eqb}
-use Rattle.page_state.specs.State.{Pool}
+use Rattle.page_state.specs.Trees.{Pool}
 use Rattle.page_state.specs.Tables.{given, all_given}
 use Rattle.page_state.specs.Counts.{frame_count}
 use Rattle.page_state.proofs.Counts.{count_next}

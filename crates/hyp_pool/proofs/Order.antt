@@ -4,8 +4,7 @@ use Rattle.std.specs.Prelude.{Contains, All, take}
 use Rattle.std.specs.List.Sorted.{IsStrictlyIncreasing}
 use Rattle.std.proofs.lemmas.Bool.{cases_lt, cases_eq}
 use Rattle.std.proofs.lemmas.List.Elements.{All-nil, All-cons, All-head, All-tail}
-use Rattle.page_state.specs.State.{Pool}
-use Rattle.page_state.specs.Boot.{frames_from}
+use Rattle.page_state.specs.Trees.{Pool, frames_from}
 use Rattle.page_state.specs.Tables.{given, all_given}
 use Rattle.hyp_pool.specs.Laws.{GivenBack}
 use Rattle.hyp_pool.proofs.Given.{given-front, given-behind, contains_cons}

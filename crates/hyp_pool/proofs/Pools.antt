@@ -4,8 +4,7 @@ use Rattle.std.specs.Prelude.{All, Contains, reverse}
 use Rattle.std.proofs.lemmas.List.{length-drop}
 use Rattle.std.proofs.lemmas.List.Elements.{All-drop, All-take}
 use Rattle.page_state.specs.declared.Frame.{Frame}
-use Rattle.page_state.specs.State.{Pool}
-use Rattle.page_state.specs.Boot.{frames_from}
+use Rattle.page_state.specs.Trees.{Pool, frames_from}
 use Rattle.page_state.specs.Tables.{given}
 use Rattle.hyp_pool.specs.Pools.{Stored, IsPool, lowest_first}
 use Rattle.hyp_pool.proofs.Given.{given_length}

@@ -9,7 +9,7 @@ use Rattle.std.proofs.lemmas.List.Elements.{All-head, All-tail, All-map}
 use Rattle.std.proofs.lemmas.List.Kept.{AllPairs-from_increasing}
 use Rattle.std.proofs.lemmas.List.Sorted.{All-permutation, IsPermutation-reverse}
 use Rattle.page_state.specs.declared.Frame.{Frame}
-use Rattle.page_state.specs.State.{Pool}
+use Rattle.page_state.specs.Trees.{Pool}
 use Rattle.page_state.specs.Tables.{given}
 use Rattle.hyp_pool.specs.Pools.{numbers, lowest_first}
 use Rattle.hyp_pool.proofs.Given.{given-front, given-behind}

@@ -2,7 +2,7 @@
 use Rattle.std.specs.Prelude.{◌≡◌, ℕ, ◌+◌, ◌<◌, ◌≤◌, ◌⊎◌, ◌↔◌, List, ◌∷◌, ◌++◌, length, take, drop, Contains}
 use Rattle.std.specs.List.Sorted.{IsStrictlyIncreasing}
 use Rattle.page_state.specs.Counts.{frame_count}
-use Rattle.page_state.specs.State.{Pool}
+use Rattle.page_state.specs.Trees.{Pool}
 use Rattle.page_state.specs.Tables.{given, all_given}
 
 -- two frames can be given in either order

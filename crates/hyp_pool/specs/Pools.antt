@@ -2,7 +2,7 @@
 use Rattle.std.specs.Prelude.{ℕ, ◌^◌, ◌<◌, ◌≤◌, List, length, map, reverse, All}
 use Rattle.std.specs.List.Sorted.{IsStrictlyIncreasing}
 use Rattle.page_state.specs.declared.Frame.{Frame}
-use Rattle.page_state.specs.State.{Pool}
+use Rattle.page_state.specs.Trees.{Pool}
 
 -- what contracts see of a pool: its free frames, in increasing order, and for how many frames there is room
 pub record Stored : Type 0 where

@@ -3,7 +3,7 @@
 
 ghost use Rattle.std.specs.Prelude.{◌≡◌, ◌+◌, ◌-◌, ◌^◌, ◌<◌, ◌≤◌, ◌↔◌, [], ◌∷◌, length, take, drop, reverse, max, vec_len, All, Contains, IsOk, IfOk, OnOk, OnErr, IfSome, IfNone, MatchOption};
 ghost use Rattle.std.specs.Vec.{vec_capacity};
-ghost use Rattle.page_state.specs.Boot.{frames_from};
+ghost use Rattle.page_state.specs.Trees.{frames_from};
 ghost use Rattle.page_state.specs.Tables.{given};
 ghost use Rattle.hyp_pool.specs.Pools.{IsPool, numbers};
 

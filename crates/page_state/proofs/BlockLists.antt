@@ -5,13 +5,13 @@ use Rattle.std.proofs.Math.Nat.{div-div-eq-div-mul, lt-div-mul-add}
 use Rattle.std.proofs.lemmas.Nat.{div-mul-add}
 use Rattle.std.proofs.lemmas.List.Elements.{All-nil, All-cons, All-append, All-weaker, All-contains, All-filter, filter_passes, Contains-append_left, Contains-append_right}
 use Rattle.std.proofs.lemmas.List.Kept.{AllPairs-cons, AllPairs-filter}
-use Rattle.page_state.specs.State.{Block}
+use Rattle.page_state.specs.Trees.{Block}
 use Rattle.page_state.specs.Geometries.{block_pages}
 use Rattle.page_state.specs.Blocks.{span, first_page, block_at, blocks_with, blocks_from, blocks_along, blocks_on}
 use Rattle.page_state.specs.Laws.{BlocksMeet, ComesBefore, BlocksOrdered}
 use Rattle.page_state.proofs.Common.{both, eq-self, eq-same}
 use Rattle.page_state.proofs.Runs.{order}
-use Rattle.page_state.proofs.Frames.{block-same}
+use Rattle.page_state.proofs.BlockTests.{block-same}
 use Rattle.page_state.proofs.Sizes.{size_some, size_split}
 
 -- numbers
@@ -49,7 +49,7 @@ filter-at p [] x k less e t = absurd (omega arith)
 filter-at p (y ∷ xs) x zero less e t = filter-here p x y xs e t
 filter-at p (y ∷ xs) x (suc k) less e t = filter-later p x y xs (filter-at p xs x k (omega arith) e t)
 
-contains-filter : {X : Type 0} (p : X → Bool) (xs : List X) (x : X) → Contains xs x → p x ≡ true → Contains (filter p xs) x
+pub contains-filter : {X : Type 0} (p : X → Bool) (xs : List X) (x : X) → Contains xs x → p x ≡ true → Contains (filter p xs) x
 contains-filter p xs x h t = filter-at p xs x h.0 h.1 h.2 t
 
 pairs-head : {X : Type 0} (R : X → X → Type 0) (x : X) (xs : List X) → AllPairs R (x ∷ xs) → All (R x) xs

@@ -6,7 +6,7 @@ use Rattle.page_state.specs.declared.entry.Entry.{Entry}
 use Rattle.page_state.specs.declared.layout.Geometry.{Geometry}
 use Rattle.page_state.specs.Entries.{advance, entry_of_word}
 use Rattle.page_state.specs.Blocks.{span, first_page}
-use Rattle.page_state.specs.State.{Block, Tree as ReferenceTree}
+use Rattle.page_state.specs.Trees.{Block, Tree as ReferenceTree}
 use Rattle.page_state.specs.Geometries.{levels_below}
 use Rattle.table_tree.specs.Meaning.{level_at, table_word}
 

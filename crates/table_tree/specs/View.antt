@@ -2,7 +2,7 @@
 use Rattle.std.specs.Prelude.{ℕ, zero, suc, ◌*◌, nat_lt, List, Option, None, if◌then◌else◌}
 use Rattle.page_state.specs.declared.entry.Entry.TheVariants.{Unmapped}
 use Rattle.page_state.specs.Map.{Map}
-use Rattle.page_state.specs.State.{Tree as ReferenceTree}
+use Rattle.page_state.specs.Trees.{Tree as ReferenceTree}
 use Rattle.page_state.specs.Geometries.{levels_below, input_pages, block_pages}
 use Rattle.table_tree.specs.declared.tree.Tree.{Tree}
 use Rattle.table_tree.specs.Meaning.{entry_at, word_at, frame_of}

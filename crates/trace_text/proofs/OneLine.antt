@@ -1,5 +1,5 @@
 -- What the next line of a trace does where a world stands.
-use Rattle.std.proofs.Common.{◌≡◌, ℕ, ◌+◌, refl, subst, ◌∙◌, ap, true, false, List, [], ◌∷◌, ◌++◌, Option, Some, None, Result, Ok, Err, IfSome, MatchOption, option_map, is_some, inl, inr}
+use Rattle.std.proofs.Common.{◌≡◌, ◌<◌, ℕ, ◌+◌, refl, subst, ◌∙◌, ap, true, false, List, [], ◌∷◌, ◌++◌, Option, Some, None, Result, Ok, Err, IfSome, MatchOption, option_map, is_some, inl, inr}
 use Rattle.std.specs.Prelude.{◌⊎◌, ok_or}
 use Rattle.std.proofs.lemmas.Bool.{cases_lt}
 use Rattle.page_state.specs.declared.reply.Reply.{Reply}
@@ -44,6 +44,7 @@ pub record Stepped {A : Type 0} (number : ℕ) (world : World A) (line : List �
   pub cpu : ℕ
   pub step : Step
   pub asked : step_asked line ≡ Some (cpu, step)
+  pub known : cpu < world.parts.layout.config.cpus
   pub reply : Reply
   pub next : World A
   pub made : IsStep world.parts cpu step reply next.parts
@@ -97,7 +98,7 @@ module _ {A : Type 0} (number : ℕ) (line : List ℕ) (rest : List (List ℕ)) 
         | inl less ↦
             let s = m.1 less in
             let b = rw s.line at begins in
-            inr (inr (record { cpu = cpu; step = step; asked = fit.1; reply = s.reply; next = s.next; made = s.made; new = new; stands = ap (λ (z : Standing A). z.world) s.standing; more = b.0; is = b.1; report = b.2 }))
+            inr (inr (record { cpu = cpu; step = step; asked = fit.1; known = less; reply = s.reply; next = s.next; made = s.made; new = new; stands = ap (λ (z : Standing A). z.world) s.standing; more = b.0; is = b.1; report = b.2 }))
       ]
   by_said (Ok (Some (lines.Word tree page level))) fit f =
       let m = of_some old.world world _ (λ w. Asks (option_map report.Word (word_on (tree_of w tree) page level)) faults.Path old answer new) stands f in

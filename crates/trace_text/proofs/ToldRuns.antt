@@ -1,15 +1,16 @@
 -- The run that a report tells.
-use Rattle.std.proofs.Common.{◌≡◌, ℕ, ◌+◌, refl, sym, subst, arith, ◌∙◌, ap, true, false, List, [], ◌∷◌, ◌++◌, Option, Some, None, Result, Ok, Err, MatchOption, MatchResult, is_some, inl, inr}
+use Rattle.std.proofs.Common.{◌≡◌, ◌<◌, ℕ, zero, suc, All, ◌+◌, refl, sym, subst, arith, ◌∙◌, ap, true, false, List, [], ◌∷◌, ◌++◌, Option, Some, None, Result, Ok, Err, MatchOption, MatchResult, is_some, inl, inr}
 use Rattle.std.specs.Prelude.{◌⊎◌}
 use Rattle.std.specs.List.{cons_option}
 use Rattle.std.proofs.lemmas.Bool.{cases_lt}
 use Rattle.page_state.specs.declared.entry.PageRange.{PageRange}
 use Rattle.page_state.specs.declared.reply.Call.{Call}
 use Rattle.page_state.specs.declared.reply.Reply.{Reply}
+use Rattle.page_state.specs.declared.row.Row.{Row}
 use Rattle.page_state.specs.Regions.{memory_of}
-use Rattle.page_state.specs.Boot.{boot as boot_state}
-use Rattle.page_state.specs.Run.{Runs as RunsBy}
-use Rattle.page_state.specs.Step.{Steps}
+use Rattle.reference_model.specs.Boot.{boot as boot_state}
+use Rattle.reference_model.specs.Run.{Runs as RunsBy}
+use Rattle.reference_model.specs.Step.{Steps}
 use Rattle.world.specs.declared.parts.Parts.{Parts}
 use Rattle.world.specs.declared.World.{World}
 use Rattle.world.specs.Laws.{EndsRun}
@@ -34,14 +35,23 @@ use Rattle.std.proofs.lemmas.List.{append_assoc}
 use Rattle.trace_text.proofs.OneLine.{one_line}
 
 nowhere : {A : Type 0} (p : Parts A) → Leads p [] p
-nowhere p row = (state_of row p, refl, refl)
+nowhere p = record { cpus = λ k d less. absurd (omega (arith, less)); runs = λ row. (state_of row p, refl, refl) }
 
-onward : {A : Type 0} (p q r : Parts A) (c : Call) (cs : List Call) → layout_of q ≡ layout_of p → LeadsBy p c q → Leads q cs r → Leads p (c ∷ cs) r
-onward p q r c cs layout first rest row =
-    let a = first row in
-    let b = rest a.0.shared.row in
-    let same : RunsBy (Steps (layout_of p)) (state_of a.0.shared.row q) cs b.0 = subst (λ l. RunsBy (Steps l) (state_of a.0.shared.row q) cs b.0) layout b.1 in
-    (b.0, (a.0, a.1, subst (λ s. RunsBy (Steps (layout_of p)) s cs b.0) (sym a.2) same), b.2)
+-- a list of calls with one more in front
+both_known : (n : ℕ) (c : Call) (cs : List Call) → c.cpu < n → All (λ x. x.cpu < n) cs → All (λ x. x.cpu < n) (c ∷ cs)
+both_known n c cs first rest zero d less = first
+both_known n c cs first rest (suc k) d less = rest k d (omega (arith, less))
+
+onward : {A : Type 0} (p q r : Parts A) (c : Call) (cs : List Call) → c.cpu < p.layout.config.cpus → layout_of q ≡ layout_of p → ((row : ℕ → Row) → LeadsBy p row c q) → Leads q cs r → Leads p (c ∷ cs) r
+onward p q r c cs known layout first rest = record {
+  cpus = both_known p.layout.config.cpus c cs known (subst (λ n. All (λ x. x.cpu < n) cs) (ap (λ l. l.config.cpus) layout) rest.cpus);
+  runs = λ row.
+      let a = first row in
+      let now : ℕ → Row = a.next.contents.shared.row in
+      let b = rest.runs now in
+      let same : RunsBy (Steps (layout_of p)) (state_of now q) cs b.0 = subst (λ l. RunsBy (Steps l) (state_of now q) cs b.0) layout b.1 in
+      (b.0, (a.next, a.steps, subst (λ s. RunsBy (Steps (layout_of p)) s cs b.0) (sym a.stands) same), b.2);
+}
 
 unclean : (outcome : Outcome) → outcome ≡ outcomes.Fault → outcome ≡ outcomes.Clean → ⊥
 unclean outcome e h = cc
@@ -115,7 +125,7 @@ world_runs (line ∷ rest) number old world reported outcome stands h =
           record {
             calls = call_of world.parts s.cpu s.step s.reply ∷ run.calls;
             last = run.last;
-            leads = onward world.parts s.next.parts run.last (call_of world.parts s.cpu s.step s.reply) run.calls s.made.layout s.made.leads run.leads;
+            leads = onward world.parts s.next.parts run.last (call_of world.parts s.cpu s.step s.reply) run.calls s.known s.made.layout s.made.leads run.leads;
             replies = rw s.is (ap (λ xs. (s.cpu, s.reply) ∷ xs) run.replies);
             left = run.left;
             steps = rw s.asked (ap (λ xs. (s.cpu, s.step) ∷ xs) run.steps);
@@ -179,7 +189,7 @@ world_reaches (line ∷ front) rest number old world reported outcome stands h =
           new = r.new;
           world = r.world;
           stands = r.stands;
-          leads = onward world.parts s.next.parts r.world.parts (call_of world.parts s.cpu s.step s.reply) r.calls s.made.layout s.made.leads r.leads;
+          leads = onward world.parts s.next.parts r.world.parts (call_of world.parts s.cpu s.step s.reply) r.calls s.known s.made.layout s.made.leads r.leads;
           replies = ap (λ xs. (s.cpu, s.reply) ∷ xs) r.replies;
           steps = rw s.asked (ap (λ xs. (s.cpu, s.step) ∷ xs) r.steps);
           report = subst (λ n. IsReport n r.new rest r.more outcome) (omega arith) r.report;
@@ -188,10 +198,10 @@ world_reaches (line ∷ front) rest number old world reported outcome stands h =
     ]
 
 -- where parts stand for the boot state, what leads on from them is a run
-boot_runs : {A : Type 0} (p q : Parts A) (cs : List Call) → boot_state (layout_of p) ≡ state_of (boot_state (layout_of p)).shared.row p → Leads p cs q → EndsRun (layout_of p) cs q
+boot_runs : {A : Type 0} (p q : Parts A) (cs : List Call) → boot_state (layout_of p) ≡ state_of (boot_state (layout_of p)).contents.shared.row p → Leads p cs q → EndsRun (layout_of p) cs q
 boot_runs p q cs h leads =
-    let r = leads (boot_state (layout_of p)).shared.row in
-    (r.0, subst (λ s. RunsBy (Steps (layout_of p)) s cs r.0) (sym h) r.1, r.2)
+    let r = leads.runs (boot_state (layout_of p)).contents.shared.row in
+    (r.0, record { cpus = leads.cpus; leads = subst (λ s. RunsBy (Steps (layout_of p)) s cs r.0) (sym h) r.1 }, r.2)
 
 -- a report that tells of no boot, or of one and a run from there
 abbrev Told : {A : Type 0} → ℕ → Standing A → List (List ℕ) → List ReportLine → Outcome → Type 0

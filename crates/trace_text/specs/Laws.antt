@@ -1,13 +1,13 @@
 -- Laws of reports.
-use Rattle.std.specs.Prelude.{◌≡◌, ℕ, ◌+◌, ◌<◌, true, ◌⊎◌, List, [], ◌∷◌, ◌++◌, length, map, filter_map, Option, Some, None, Result, Ok, Err}
+use Rattle.std.specs.Prelude.{◌≡◌, ℕ, ◌+◌, ◌<◌, true, ◌⊎◌, List, [], ◌∷◌, ◌++◌, length, map, filter_map, All, Option, Some, None, Result, Ok, Err}
 use Rattle.page_state.specs.declared.entry.PageRange.{PageRange}
 use Rattle.page_state.specs.declared.reply.Call.{Call}
 use Rattle.page_state.specs.declared.reply.Reply.{Reply}
 use Rattle.page_state.specs.declared.row.Row.{Row}
 use Rattle.page_state.specs.declared.step.Step.{Step}
-use Rattle.page_state.specs.Run.{Runs}
-use Rattle.page_state.specs.State.{Reference}
-use Rattle.page_state.specs.Step.{Steps}
+use Rattle.reference_model.specs.Run.{Runs}
+use Rattle.reference_model.specs.State.{Reference}
+use Rattle.reference_model.specs.Step.{Steps}
 use Rattle.world.specs.declared.parts.Parts.{Parts}
 use Rattle.world.specs.declared.World.{World}
 use Rattle.world.specs.Laws.{EndsRun}
@@ -60,9 +60,10 @@ step_asked line = step_said (said nothing_told true line)
 abbrev pub steps_asked : List (List ℕ) → List (ℕ × Step)
 steps_asked trace = filter_map step_asked trace
 
--- the calls lead by reference steps from the state that the parts stand for to the one that the other parts stand for
-abbrev pub Leads : {A : Type 0} → Parts A → List Call → Parts A → Type 0
-Leads p cs q = (row : ℕ → Row) → (t : Reference) × Runs (Steps (layout_of p)) (state_of row p) cs t × (t ≡ state_of t.shared.row q)
+-- the calls are of CPUs of the layout, and lead by reference steps from the state that the parts stand for to the one that the other parts stand for
+pub record Leads {A : Type 0} (p : Parts A) (cs : List Call) (q : Parts A) : Type 0 where
+  pub cpus : All (λ c. c.cpu < p.layout.config.cpus) cs
+  pub runs : (row : ℕ → Row) → (t : Reference) × Runs (Steps (layout_of p)) (state_of row p) cs t × (t ≡ state_of t.contents.shared.row q)
 
 -- a report tells a run of the reference step from these parts: of the steps that the trace asks for those before its first fault,
 -- which are all where the report is clean, are made, and what its step lines tell are their CPUs and replies

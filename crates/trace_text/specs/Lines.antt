@@ -9,6 +9,7 @@ use Rattle.trace_text.specs.declared.verb.CallName.{CallName}
 use Rattle.trace_text.specs.declared.verb.CallName.TheVariants as calls
 use Rattle.trace_text.specs.declared.verb.Verb.{Verb}
 use Rattle.trace_text.specs.declared.verb.Verb.TheVariants as verbs
+use Rattle.world.specs.Steps.{IsServed}
 use Rattle.trace_text.specs.Numbers.{number_of}
 
 -- the number that stands at a place, the first place being 0
@@ -23,6 +24,11 @@ range_of words =
 -- the step of a call, whose arguments stand from the third word on
 abbrev pub step_of : CallName → List (List ℕ) → Option Step
 step_of calls.ShareHyp words = option_map ShareHyp (number_at words 2)
+
+-- what the line asks for is a call that the world has, where it asks for one
+abbrev pub IsServedLine : Line → Type 0
+IsServedLine (lines.Step cpu step) = IsServed step
+IsServedLine other = Unit {0}
 
 -- a level of a tree
 abbrev pub in_levels : ℕ → Option ℕ

@@ -1,7 +1,8 @@
 //! Lines whose words have the form that their place asks.
-ghost use Rattle.std.specs.Prelude.{◌≡◌, option_and_then};
-ghost use Rattle.trace_text.specs.Lines.{in_levels, line_of, number_at as number_at_place, range_of as range_by, step_of as step_by};
+ghost use Rattle.std.specs.Prelude.{◌≡◌, option_and_then, IfSome};
+ghost use Rattle.trace_text.specs.Lines.{IsServedLine, in_levels, line_of, number_at as number_at_place, range_of as range_by, step_of as step_by};
 ghost use Rattle.trace_text.specs.Words.{words_of};
+ghost use Rattle.world.specs.Steps.{IsServed};
 
 use crate::number::number;
 use crate::verb::{CallName, TreeName, Verb};
@@ -38,7 +39,8 @@ impl Line {
     /// What a line with this verb says. None where a word is missing or not of the form that its place asks.
     #[tactic(auto, unfolding(crate::specs::Lines::line_of))]
     pub fn of(verb: Verb, words: Words<'_>) -> Option<Line>
-        ensures { result ≡ line_of verb (words_of words.entry.line.now) }
+        ensures value { result ≡ line_of verb (words_of words.entry.line.now) }
+        ensures served { IfSome result IsServedLine }
     {
         match verb {
             Verb::Geometry => Some(Line::Geometry(number_at(words, 1)?)),
@@ -65,7 +67,8 @@ impl Line {
 
 /// The step of a call and its arguments, which stand from the third word on.
 fn step_of(call: CallName, words: Words<'_>) -> Option<Step>
-    ensures { result ≡ step_by call (words_of words.entry.line.now) }
+    ensures value { result ≡ step_by call (words_of words.entry.line.now) }
+    ensures served { IfSome result IsServed }
 {
     match call {
         CallName::ShareHyp => Some(Step::ShareHyp {

@@ -1,5 +1,6 @@
 //! What a line of a trace says.
-ghost use Rattle.std.specs.Prelude.{◌≡◌};
+ghost use Rattle.std.specs.Prelude.{◌≡◌, IfOk, IfSome};
+ghost use Rattle.trace_text.specs.Lines.{IsServedLine};
 ghost use Rattle.trace_text.specs.Said.{may_stand, said as said_by, said_by_words as said_by_verb_words};
 ghost use Rattle.trace_text.specs.Settings.{told_of};
 ghost use Rattle.trace_text.specs.Verbs.{verb_of};
@@ -15,7 +16,8 @@ use crate::words::{Words, has_stray_byte, has_stray_space};
 /// What a line says, after the settings that were told and before or after the boot: nothing, a line, or its first fault.
 #[tactic(auto, unfolding(crate::specs::Said::said))]
 pub fn said(settings: &Settings, is_booted: bool, line: &[u8]) -> Result<Option<Line>, Fault>
-    ensures { result ≡ said_by (told_of settings.now) is_booted line.now }
+    ensures value { result ≡ said_by (told_of settings.now) is_booted line.now }
+    ensures served { IfOk result (λ o. IfSome o IsServedLine) }
 {
     if line.len() > MOST_BYTES {
         return Err(Fault::Long);
@@ -44,7 +46,8 @@ fn said_by_words(
     is_booted: bool,
     words: Words<'_>,
 ) -> Result<Option<Line>, Fault>
-    ensures { let all = words_of words.entry.line.now in result ≡ said_by_verb_words (told_of settings.now) is_booted all (verb_of all) }
+    ensures value { let all = words_of words.entry.line.now in result ≡ said_by_verb_words (told_of settings.now) is_booted all (verb_of all) }
+    ensures served { IfOk result (λ o. IfSome o IsServedLine) }
 {
     let verb = Verb::of(words).ok_or(Fault::Word)?;
     if !allows(settings, is_booted, verb) {

@@ -7,6 +7,8 @@ ghost use Rattle.table_tree.specs.View.{tables_of};
 ghost use Rattle.trace_text.specs.Session.{Asks, Boots, Does, HasWorld, InWorld, IsNoWorld, Makes, Runs, Tells, at_start, standing_of};
 ghost use Rattle.trace_text.specs.Settings.{config_of, told_of};
 ghost use Rattle.world.specs.Boots.{IsBooted};
+ghost use Rattle.trace_text.specs.Lines.{IsServedLine};
+ghost use Rattle.world.specs.Steps.{IsServed};
 ghost use Rattle.trace_text.specs.Worlds.{free_of, tree_of, word_on as word_of_path};
 
 use crate::fault::Fault;
@@ -74,7 +76,8 @@ impl<A: Allocator + Copy> Session<A> {
     }
 
     fn carry_out(&mut self, number: u64, said: Line) -> Result<Option<ReportLine>, Stop>
-        requires { self.old.steps < 2 ^ 63 }
+        requires few { self.old.steps < 2 ^ 63 }
+        requires served { IsServedLine said }
         ensures done { Does number said (standing_of self.old) result (standing_of self.new) }
         ensures steps { self.new.steps ≤ self.old.steps + 1 }
     {
@@ -134,7 +137,8 @@ impl<A: Allocator + Copy> Session<A> {
 
     /// Makes one step.
     fn step(&mut self, number: u64, cpu: u64, step: Step) -> Result<Option<ReportLine>, Stop>
-        requires { self.old.steps < 2 ^ 63 }
+        requires few { self.old.steps < 2 ^ 63 }
+        requires served { IsServed step }
         ensures done { InWorld (Makes number cpu step) (standing_of self.old) result (standing_of self.new) }
         ensures steps { self.new.steps ≤ self.old.steps + 1 }
     {

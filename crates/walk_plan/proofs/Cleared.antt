@@ -5,11 +5,11 @@ use Rattle.page_state.specs.declared.entry.Entry.TheVariants.{Unmapped}
 use Rattle.page_state.specs.EntryTests.{is_unmapped}
 use Rattle.page_state.specs.Search.{all_from}
 use Rattle.page_state.specs.Map.{Map}
-use Rattle.page_state.specs.State.{Block}
+use Rattle.page_state.specs.Trees.{Block}
 use Rattle.page_state.specs.Blocks.{span, first_page, block_eq, is_empty}
 use Rattle.page_state.specs.Tables.{cleared}
 use Rattle.page_state.proofs.Cases.{by_test}
-use Rattle.page_state.proofs.Frames.{block_eq-same}
+use Rattle.page_state.proofs.BlockTests.{block_eq-same}
 use Rattle.walk_plan.proofs.Places.{block_self, block_other}
 
 -- a block loses its table: it has one, and nothing is mapped on it in the map `n`

@@ -5,7 +5,7 @@ use mathlib.Core.Path.{fun_ext}
 use Rattle.page_state.specs.declared.entry.Entry.{Entry}
 use Rattle.page_state.specs.declared.entry.Entry.TheVariants.{Unmapped}
 use Rattle.page_state.specs.Map.{Map, update}
-use Rattle.page_state.specs.State.{Block}
+use Rattle.page_state.specs.Trees.{Block}
 use Rattle.page_state.specs.Blocks.{span, first_page, block_eq, is_one_word, is_empty, blocks_on}
 use Rattle.page_state.specs.Tables.{Edit, put, needs, need, freed, placed, cleared, edited}
 use Rattle.page_state.proofs.Blocks.{empty_means}

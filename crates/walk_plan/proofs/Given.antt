@@ -5,7 +5,7 @@ use Rattle.std.proofs.lemmas.Bool.Decides.{nat_tests}
 use Rattle.std.proofs.lemmas.List.{take-append-drop}
 use Rattle.std.proofs.lemmas.List.Sums.{sum_by-take-drop}
 use Rattle.descriptor.specs.declared.Frame.{Frame}
-use Rattle.page_state.specs.State.{Pool}
+use Rattle.page_state.specs.Trees.{Pool}
 use Rattle.page_state.specs.Tables.{given, all_given}
 use Rattle.page_state.specs.Counts.{frame_count, is_one}
 use Rattle.hyp_pool.specs.Pools.{numbers}

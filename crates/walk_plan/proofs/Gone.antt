@@ -9,7 +9,7 @@ use Rattle.page_state.specs.Entries.{advance, entry_of_word}
 use Rattle.page_state.specs.EntryTests.{is_unmapped}
 use Rattle.page_state.specs.Search.{all_from, all_below}
 use Rattle.page_state.specs.Map.{Map, update}
-use Rattle.page_state.specs.State.{Block}
+use Rattle.page_state.specs.Trees.{Block}
 use Rattle.page_state.specs.Blocks.{is_empty}
 use Rattle.page_state.specs.Tables.{put, freed, returned}
 use Rattle.page_state.specs.Geometries.{levels_below, input_pages, block_pages}

@@ -1,7 +1,7 @@
 -- Pages in blocks, and blocks in blocks.
 use Rattle.std.proofs.Common.{◌≡◌, ℕ, suc, ◌+◌, ◌-◌, ◌*◌, ◌/◌, ◌%◌, ◌<◌, ◌≤◌, refl, sym, ap, subst, arith, ◌∙◌, mul-le-mul_right}
 use Rattle.std.proofs.Math.Nat.{div-mul-le_self, lt-div-mul-add}
-use Rattle.page_state.specs.State.{Block}
+use Rattle.page_state.specs.Trees.{Block}
 use Rattle.page_state.specs.Geometries.{block_pages}
 use Rattle.page_state.proofs.Sizes.{size_step, size_some, size_split}
 use Rattle.table_tree.specs.Meaning.{index_at}

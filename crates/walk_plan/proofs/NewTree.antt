@@ -3,7 +3,7 @@ use Rattle.std.proofs.Common.{◌≡◌, ℕ, suc, ◌+◌, ◌*◌, ◌<◌, �
 use Rattle.std.proofs.lemmas.Bool.Decides.{nat_tests}
 use Rattle.page_state.specs.declared.entry.Entry.{Entry}
 use Rattle.page_state.specs.declared.entry.Entry.TheVariants.{Unmapped}
-use Rattle.page_state.specs.Boot.{root_tree}
+use Rattle.page_state.specs.Trees.{root_tree}
 use Rattle.page_state.specs.Map.{empty_map, update}
 use Rattle.page_state.specs.Tables.{put, needs, need}
 use Rattle.page_state.specs.Geometries.{block_pages}

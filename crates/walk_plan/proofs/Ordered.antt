@@ -2,7 +2,7 @@
 use Rattle.std.proofs.Common.{◌≡◌, ℕ, zero, suc, ◌+◌, ◌-◌, ◌*◌, ◌<◌, ◌≤◌, refl, sym, subst, arith, inl, inr, true, All, Contains, AllPairs, mul-le-mul_right}
 use Rattle.std.proofs.lemmas.List.Elements.{All-weaker, All-contains}
 use Rattle.std.proofs.lemmas.List.Kept.{AllPairs-cons}
-use Rattle.page_state.specs.State.{Block}
+use Rattle.page_state.specs.Trees.{Block}
 use Rattle.page_state.specs.Blocks.{span, first_page, blocks_on}
 use Rattle.page_state.specs.Laws.{ComesBefore}
 use Rattle.page_state.specs.Geometries.{block_pages}

@@ -1,12 +1,12 @@
 -- The place of a block in a list, and the frame that it gets there.
 use Rattle.std.proofs.Common.{◌≡◌, ℕ, zero, suc, ◌+◌, ◌<◌, ◌≤◌, refl, sym, ap, arith, ◌∙◌, Bool, true, false, ◌==◌, cond, Option, Some, None, List, [], ◌∷◌, ◌++◌, length, filter, get_or, All}
 use Rattle.std.proofs.lemmas.List.Elements.{All-head, All-tail}
-use Rattle.page_state.specs.State.{Block}
+use Rattle.page_state.specs.Trees.{Block}
 use Rattle.page_state.specs.Blocks.{block_eq}
 use Rattle.page_state.specs.Tables.{placed}
 use Rattle.page_state.proofs.Cases.{by_test}
 use Rattle.page_state.proofs.Common.{eq-self}
-use Rattle.page_state.proofs.Frames.{block_eq-same}
+use Rattle.page_state.proofs.BlockTests.{block_eq-same}
 use Rattle.page_state.proofs.Blocks.{and-join}
 use Rattle.walk_plan.specs.Changes.{sum_to}
 use Rattle.walk_plan.specs.Ranks.{given, later}

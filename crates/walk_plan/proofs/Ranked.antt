@@ -6,7 +6,7 @@ use Rattle.descriptor.specs.Word.{desc_of}
 use Rattle.page_state.specs.declared.entry.Entry.{Entry}
 use Rattle.page_state.specs.Entries.{advance, entry_of_word}
 use Rattle.page_state.specs.Map.{Map, update}
-use Rattle.page_state.specs.State.{Block}
+use Rattle.page_state.specs.Trees.{Block}
 use Rattle.page_state.specs.Blocks.{fits_word, is_one_word, block_eq, blocks_on}
 use Rattle.page_state.specs.Tables.{Edit, put, needs, need, placed}
 use Rattle.page_state.specs.Geometries.{levels_below, input_pages, block_pages}

@@ -1,7 +1,7 @@
 //! The tables that a change of a range needs.
 ghost use Rattle.std.specs.Prelude.{◌≡◌, ℕ, ◌+◌, ◌-◌, ◌*◌, ◌^◌, ◌<◌, ◌≤◌};
 ghost use Rattle.page_state.specs.declared.entry.Entry.TheVariants.{Unmapped};
-ghost use Rattle.page_state.specs.Boot.{root_tree};
+ghost use Rattle.page_state.specs.Trees.{root_tree};
 ghost use Rattle.page_state.specs.Regions.{end_of};
 ghost use Rattle.page_state.specs.Tables.{put, need as need_of};
 ghost use Rattle.page_state.specs.Geometries.{levels_below, input_pages, block_pages};

@@ -6,13 +6,14 @@ use mathlib.Core.Path.{fun_ext}
 use Rattle.page_state.specs.Blocks.{blocks_on, is_needless}
 use Rattle.descriptor.specs.declared.Prot.TheVariants.{RW}
 use Rattle.descriptor.specs.declared.State.TheVariants.{Owned}
-use Rattle.page_state.specs.Boot.{frames_from, root_tree, carve_first, host_root, host_edit, host_need, hyp_root, hyp_edit, hyp_need, spare, boot_shared, IsCarveEnough}
+use Rattle.page_state.specs.Trees.{frames_from, root_tree, Block, Tree}
+use Rattle.reference_model.specs.Boot.{carve_first, host_root, host_edit, host_need, hyp_root, hyp_edit, hyp_need, spare, boot_shared, IsCarveEnough}
 use Rattle.page_state.specs.EntryTests.{annotation, leaf}
 use Rattle.page_state.specs.declared.entry.Entry.{Entry}
 use Rattle.page_state.specs.Laws.{BlocksMeet}
 use Rattle.page_state.specs.Layouts.{Layout, hyp_page}
 use Rattle.page_state.specs.Map.{Map, empty_map}
-use Rattle.page_state.specs.State.{Block, Tree, plain_row}
+use Rattle.reference_model.specs.State.{plain_row}
 use Rattle.page_state.specs.Tables.{Edit, put, need, edited, returned, freed, edited_map, all_given}
 use Rattle.std.specs.Prelude.{Result, Ok, Err, IsErrAnd, OnErr}
 use Rattle.hyp_pool.specs.declared.PoolFault.{PoolFault}
@@ -27,7 +28,6 @@ use Rattle.table_tree.specs.View.{meaning, table_at, tree_of}
 use Rattle.page_state.specs.declared.row.Row.{Row}
 use Rattle.world.proofs.Answers.{parts}
 use Rattle.world.specs.declared.component.PageEdit.{PageEdit}
-use Rattle.page_state.specs.Boot.{root_tree}
 use Rattle.world.specs.View.{edit_of, need_for, tree_after, back_from}
 
 -- a test that no element passes
@@ -103,7 +103,7 @@ module _ {A : Type 0} (l : Layout) where
         → tree_of host' ≡ tree_after host he free
         → tree_of hyp' ≡ tree_after hyp ye (drop (need_for host he) free)
         → free' ≡ all_given (back_from host he ++ back_from hyp ye) (drop (need_for host he + need_for hyp ye) free)
-        → parts (λ f. plain_row) (tree_of host') (tree_of hyp') free' l.config.log ≡ boot_shared l
+        → parts (λ f. plain_row) (tree_of host') (tree_of hyp') free' ≡ boot_shared l
     shared_is meet some host' hyp' free' a b c =
         let host_at : tree_of host' ≡ edited l.depth (host_root l) (host_edit l) (spare l) =
         a ∙ after_is host he (host_root l) (host_edit l) host_depth host_tree host_is free ∙ ap (edited l.depth (host_root l) (host_edit l)) left in
@@ -120,9 +120,9 @@ module _ {A : Type 0} (l : Layout) where
         ∙ ap (λ k. drop (host_need l + k) free) hyp_needs
         ∙ ap (drop (host_need l + hyp_need l)) left in
         let rows : ℕ → Row = λ f. plain_row in
-        ap (λ x. parts rows x (tree_of hyp') free' l.config.log) host_at
-        ∙ ap (λ x. parts rows (edited l.depth (host_root l) (host_edit l) (spare l)) x free' l.config.log) hyp_at
-        ∙ ap (λ x. parts rows (edited l.depth (host_root l) (host_edit l) (spare l)) (edited l.depth (hyp_root l) (hyp_edit l) (drop (host_need l) (spare l))) x l.config.log) free_at
+        ap (λ x. parts rows x (tree_of hyp') free') host_at
+        ∙ ap (λ x. parts rows (edited l.depth (host_root l) (host_edit l) (spare l)) x free') hyp_at
+        ∙ ap (λ x. parts rows (edited l.depth (host_root l) (host_edit l) (spare l)) (edited l.depth (hyp_root l) (hyp_edit l) (drop (host_need l) (spare l))) x) free_at
 
 -- a fault that isn't want of frames is want of memory
 pub told : {T : Type 0} (r : Result T BootFault) (f : PoolFault) → (f ≡ pools.NoPool → ⊥) → IsErrAnd r (λ b. b ≡ fault_of_pool f) → OnErr r (r ≡ Err NoMemory)

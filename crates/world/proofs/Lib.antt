@@ -3,7 +3,6 @@ pub mod Changes
 pub mod Answers
 pub mod Booted
 pub mod Boots
-pub mod Told
 pub mod Steps
 pub mod Histories
 pub mod Runs

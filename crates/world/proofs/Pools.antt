@@ -1,7 +1,7 @@
 -- The lowest frames of a pool, taken and given back.
 use Rattle.std.proofs.Common.{◌≡◌, ℕ, sym, ◌∙◌, arith, List, ◌++◌}
 use Rattle.std.proofs.lemmas.List.Sums.{sum_by-append}
-use Rattle.page_state.specs.State.{Pool}
+use Rattle.page_state.specs.Trees.{Pool}
 use Rattle.page_state.specs.Tables.{all_given}
 use Rattle.page_state.specs.Counts.{is_one}
 use Rattle.hyp_pool.specs.Laws.{GivenCounted, GivenAppend}

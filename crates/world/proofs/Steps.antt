@@ -1,7 +1,6 @@
 -- The parts after a step stand for the state after the reference step.
-use Rattle.std.proofs.Common.{◌≡◌, ℕ, ◌+◌, ◌-◌, Bool, true, false, ◌||◌, ◌==◌, Some, None, inl, inr, arith, ap, sym, subst, refl, ◌∙◌, slice_get, length, [], ◌∷◌, ◌++◌}
+use Rattle.std.proofs.Common.{◌≡◌, ℕ, ◌+◌, ◌-◌, ◌≤◌, Bool, true, false, ◌||◌, ◌==◌, List, ◌∷◌, ◌++◌, [], length, Some, None, inl, inr, arith, ap, sym, subst, refl, ◌∙◌, slice_get}
 use Rattle.std.proofs.lemmas.Bool.Decides.{nat_tests}
-use mathlib.Core.Path.{fun_ext}
 use Rattle.page_state.specs.declared.reply.Call.{Call}
 use Rattle.page_state.specs.declared.reply.Refusal.{Refusal}
 use Rattle.page_state.specs.declared.reply.Refusal.TheVariants.{NoMemory, LogFull}
@@ -11,173 +10,144 @@ use Rattle.page_state.specs.declared.row.Row.{Row}
 use Rattle.page_state.specs.declared.step.Step.{Step}
 use Rattle.page_state.specs.declared.step.Step.TheVariants.{ShareHyp}
 use Rattle.page_state.specs.Layouts.{Layout}
-use Rattle.page_state.specs.Parts.{Used, used_alone, used_of, put_back}
-use Rattle.page_state.specs.SharedRules.{share_hyp}
-use Rattle.page_state.specs.State.{Reference, Shared as ReferenceShared, Cpu, no_cpu, no_vms, no_guest, plain_row, put_at}
-use Rattle.page_state.specs.Step.{IsDone, Steps, StepsOn, used_by, with_used, stored, with_rows, changed}
+use Rattle.page_state.proofs.Cases.{by_test}
+use Rattle.page_state.proofs.Common.{or-false, both, if-true, eq-self, eq-same}
+use Rattle.reference_model.specs.History.{IsStored, Kept}
+use Rattle.reference_model.specs.Held.{held_state, left_of}
+use Rattle.reference_model.specs.Laws.{StoresCall}
+use Rattle.reference_model.specs.Parts.{shared}
+use Rattle.reference_model.specs.State.{Reference, Cpu, no_guest, plain_row, put_at}
+use Rattle.reference_model.specs.Step.{Steps, StepsOn, Answered, is_full as has_full_log, stored, used_by, rooms_by, with_used}
+use Rattle.reference_model.specs.Used.{Used, used_of, used_alone, rooms_of, rooms_alone, put_back}
+use Rattle.reference_model.proofs.Answers.{answer_steps, full_steps, used_steps, answer-stored}
+use Rattle.reference_model.proofs.HeldStored.{held_stored}
+use Rattle.reference_model.proofs.Steps.{log_full_keeps}
 use Rattle.world.specs.declared.parts.CpuState.{CpuState}
 use Rattle.world.specs.declared.parts.Parts.{Parts}
-use Rattle.world.specs.Stands.{layout_of, shared_of, cpu_of, state_of}
-use Rattle.world.specs.declared.parts.Shared.{Shared}
-use Rattle.page_state.specs.History.{IsStored}
-use Rattle.page_state.specs.Regions.{Memory}
-use Rattle.world.specs.Sharing.{layout_with, IsAnswered, IsMade, HasRoomFor}
-use Rattle.world.proofs.Told.{tests}
-use Rattle.world.specs.Steps.{calls_of, calls_at, call_of, is_full, Leads, IsStep}
-use Rattle.page_state.proofs.Cases.{by_test}
-use Rattle.page_state.proofs.Shares.{full, refused, done, changed_is}
+use Rattle.world.specs.declared.parts.SharedPart.{SharedPart}
+use Rattle.world.specs.Sharing.{HasRoom, IsAnswered}
+use Rattle.world.specs.Stands.{layout_of, shared_of, cpu_of, calls_of, guest_calls_of, kept_of, state_of}
+use Rattle.world.specs.Steps.{calls_at, call_of, is_full, Leads, IsStep}
 
--- the state with these rooms, this Shared part and these CPUs
-abbrev pub standing : ℕ → ReferenceShared → (ℕ → Cpu) → Reference
-standing n sh cs = record { vms = no_vms n; shared = sh; guest = λ v. no_guest n; cpu = cs }
+-- no room in the logs of a call that uses the Shared part alone
+full-alone : (room own : ℕ) → has_full_log shared None (rooms_alone room own) ≡ (own == 0 || room == 0)
+unfolding has_full_log
+full-alone room own = elim (both (own == 0)) [ inl h ↦ rw h refl | inr h ↦ rw h (or-false (room == 0)) ]
 
-clash : {b : Bool} → b ≡ true → b ≡ false → ⊥
+clash : {b : Bool} {P : Type 0} → b ≡ true → b ≡ false → P
 clash h o = cc
 
-module _ {A : Type 0} (p q : Parts A) (cpu f : ℕ) (reply : Reply) (k k' : CpuState)
-    (before : slice_get p.cpus.items cpu ≡ Some k)
-    (after : slice_get q.cpus.items cpu ≡ Some k')
-    (others : (c : ℕ) → (c == cpu) ≡ false → slice_get q.cpus.items c ≡ slice_get p.cpus.items c)
-    (log : q.layout.config.log ≡ p.layout.config.log) where
-  abbrev c : Call
-  c = call_of p cpu (ShareHyp f) reply
+module _ {A : Type 0} (p : Parts A) (cpu f : ℕ) where
+  -- the room of the CPU's log, and of the Shared part's, as their calls leave it
+  abbrev pub own_left : ℕ
+  own_left = left_of (layout_of p) (calls_at p cpu)
 
-  -- what the call uses
-  abbrev x : (ℕ → Row) → Used
-  x row = used_alone (shared_of row p.shared) (no_cpu k.log.room)
+  abbrev pub shared_left : ℕ
+  shared_left = left_of (layout_of p) p.shared.log.calls
 
-  used : (row : ℕ → Row) → x row ≡ used_by c (state_of row p)
-  unfolding used_of
-  used row = ap (λ o. used_alone (shared_of row p.shared) (cpu_of p.layout.config.log o)) (sym before)
+  pub full-is : is_full p cpu (ShareHyp f) ≡ (own_left == 0 || shared_left == 0)
+  unfolding rooms_of
+  full-is = full-alone shared_left own_left
 
-  -- the CPUs with this one replaced
-  cpu_at : (y : Cpu) → y ≡ no_cpu k'.log.room → (j : ℕ) → put_at (λ i. cpu_of p.layout.config.log (slice_get p.cpus.items i)) cpu y j ≡ cpu_of q.layout.config.log (slice_get q.cpus.items j)
-  cpu_at y e j = by_test (j == cpu)
-      (λ h. let here : j ≡ cpu = grind (arith, nat_tests) in rw h (e ∙ sym (ap (cpu_of q.layout.config.log) (ap (slice_get q.cpus.items) here ∙ after))))
-      (λ h. rw h (sym (ap (cpu_of q.layout.config.log) (others j h) ∙ ap (λ n. cpu_of n (slice_get p.cpus.items j)) log)))
+  -- and so by the rooms that the logs tell
+  pub full-told : (k : CpuState) → slice_get p.cpus.items cpu ≡ Some k → length k.log.calls + k.log.room ≡ p.layout.config.log → length p.shared.log.calls + p.shared.log.room ≡ p.layout.config.log
+      → is_full p cpu (ShareHyp f) ≡ (k.log.room == 0 || p.shared.log.room == 0)
+  full-told k before own others =
+      let a : length (calls_at p cpu) ≡ length k.log.calls = ap (λ o. length (calls_of o)) before in
+      let m : own_left ≡ k.log.room = omega (arith, a, own) in
+      let n : shared_left ≡ p.shared.log.room = omega (arith, others) in
+      full-is ∙ rw (m, n) refl
 
-  back : (row : ℕ → Row) (y : Used) → y.shared ≡ shared_of y.shared.row q.shared → y.cpu ≡ no_cpu k'.log.room → with_used c (state_of row p) y ≡ state_of y.shared.row q
-  unfolding put_back
-  back row y a b =
-      let cs : ℕ → Cpu = put_at (λ i. cpu_of p.layout.config.log (slice_get p.cpus.items i)) cpu y.cpu in
-      ap (λ sh. standing p.layout.config.log sh cs) a
-      ∙ ap (standing p.layout.config.log (shared_of y.shared.row q.shared)) (fun_ext (cpu_at y.cpu b))
-      ∙ ap (λ n. standing n (shared_of y.shared.row q.shared) (λ j. cpu_of q.layout.config.log (slice_get q.cpus.items j))) (sym log)
-
-  -- a step on what the call uses is a step on the state
-  finish : (row : ℕ → Row) (y : Used) → StepsOn (layout_of p) c (x row) y → y.shared ≡ shared_of y.shared.row q.shared → y.cpu ≡ no_cpu k'.log.room
-      → (t : Reference) × Steps (layout_of p) (state_of row p) c t × (t ≡ state_of t.shared.row q)
-  unfolding put_back
-  finish row y on a b = (with_used c (state_of row p) y, record { after = y; on = subst (λ z. StepsOn (layout_of p) c z y) (used row) on; next = refl }, back row y a b)
-
-  module _ (counted : length k.log.calls + k.log.room ≡ p.layout.config.log) where
-    -- the call's number
-    number : length (calls_at p cpu) + 1 ≡ p.layout.config.log - k.log.room + 1
-    number = let a : length (calls_at p cpu) ≡ length k.log.calls = ap (λ o. length (calls_of o)) before in omega (arith, a, counted)
-
-    -- a step that a full log stops
-    pub stopped : reply ≡ Refused LogFull → (k.log.room == 0 || p.shared.log.room == 0) ≡ true → k'.log.room ≡ k.log.room → ((row : ℕ → Row) → shared_of row p.shared ≡ shared_of row q.shared) → Leads p c q
-    stopped e h room stays row =
-        let d = full (layout_of p) cpu f (shared_of row p.shared) (no_cpu k.log.room) h in
-        finish row (x row) (record { slot = refl; number = number; answers = inl (record { reply = e ∙ sym (ap (λ a. a.0) d); next = sym (ap (λ a. a.1) d) }) }) (stays row) (ap no_cpu (sym room))
-
-    module _ (t : Shared A) (roomy : (k.log.room == 0 || p.shared.log.room == 0) ≡ false) (less : k'.log.room ≡ k.log.room - 1)
-        (put_in : (row : ℕ → Row) → shared_of row q.shared ≡ record (shared_of row t) { room = p.shared.log.room - 1 }) where
-      -- the part where the call is stored and nothing else changes
-      stays_stored : (row : ℕ → Row) → shared_of row p.shared ≡ shared_of row t → (stored (x row)).shared ≡ shared_of row q.shared
-      unfolding stored
-      stays_stored row same = ap (λ (v : ReferenceShared). record v { room = p.shared.log.room - 1 }) same ∙ sym (put_in row)
-
-      stored_cpu : (row : ℕ → Row) → (stored (x row)).cpu ≡ no_cpu k'.log.room
-      unfolding stored
-      stored_cpu row = ap no_cpu (sym less)
-
-      -- a step that changes nothing but the logs
-      kept : (row : ℕ → Row) → StepsOn (layout_of p) c (x row) (stored (x row)) → shared_of row p.shared ≡ shared_of row t → (u : Reference) × Steps (layout_of p) (state_of row p) c u × (u ≡ state_of u.shared.row q)
-      unfolding stored
-      kept row on same = finish row (stored (x row)) on (stays_stored row same) (stored_cpu row)
-
-      pub answered : IsAnswered p.layout.map f p.shared reply t → Leads p c q
-      unfolding with_rows
-      answered h row =
-          let l = layout_of p in
-          let sh = shared_of row p.shared in
-          let cp = no_cpu k.log.room in
-          let config = p.layout.config in
-          elim h [
-            | inl made ↦
-                let d = done l cpu f sh cp roomy (made.1 config row cp) in
-                let r = share_hyp l (x row) f in
-                let z = changed l.depth r (stored (x row)) in
-                let y = with_rows l cpu None (ShareHyp f) r z in
-                let is = changed_is l cpu f sh cp in
-                finish row y (record { slot = refl; number = number; answers = inl (record { reply = made.0 ∙ sym (ap (λ a. a.0) d); next = sym (ap (λ a. a.1) d) }) })
-                (ap (λ (v : ReferenceShared). record v { row = y.shared.row }) (ap (λ (u : Used). u.shared) is ∙ ap (λ (v : ReferenceShared). record v { room = p.shared.log.room - 1 }) (made.2 config row cp) ∙ sym (put_in row)))
-                (ap (λ (u : Used). u.cpu) is ∙ stored_cpu row)
-            | inr (inl wanted) ↦
-                let d = done l cpu f sh cp roomy (wanted.1 config row cp) in
-                kept row (record { slot = refl; number = number; answers = inr (record { grows = refl; done = subst (λ (a : Reply × Used). IsDone a.0) (sym d) _; reply = wanted.0; next = refl }) }) (wanted.2 row)
-            | inr (inr (why, e, test, same)) ↦
-                let d = refused l cpu f sh cp why roomy (test config row cp) in
-                kept row (record { slot = refl; number = number; answers = inl (record { reply = e ∙ sym (ap (λ a. a.0) d); next = sym (ap (λ a. a.1) d) }) }) (same row)
-          ]
-
-refused_is : {a b : Refusal} → Refused a ≡ Refused b → a ≡ b
-refused_is h = cc
-
--- the reply of a step on the Shared part is stored, and wants memory only where a growth can be needed
-made_tells : {A : Type 0} (step : Step) (m : Memory) (s : Shared A) (reply : Reply) (t : Shared A) → IsMade m step s reply t → IsStored reply × (reply ≡ Refused NoMemory → HasRoomFor step s → ⊥)
-made_tells (ShareHyp f) m s reply t h =
-    elim h [
-      | inl made ↦ rw made.0 (_, λ e. cc)
-      | inr (inl wanted) ↦ rw wanted.0 (_, λ e. wanted.3)
-      | inr (inr (why, e, test, same)) ↦
-          let l = layout_with m f s (record { cpus = 0; log = 0; geometry = 0 }) in
-          let x = used_alone (shared_of (λ g. plain_row) s) (no_cpu 0) in
-          let is = tests l.depth (share_hyp l x f) false x why (test l.config (λ g. plain_row) (no_cpu 0)) in
-          rw e (is.0, λ h. absurd (is.1 (refused_is h)))
-    ]
-
-module _ {A : Type 0} (p : Parts A) (cpu : ℕ) (k : CpuState) (before : slice_get p.cpus.items cpu ≡ Some k) (counted : length k.log.calls + k.log.room ≡ p.layout.config.log) (step : Step) where
-  -- a step where a log is full
-  pub full_step : is_full p cpu ≡ true → IsStep p cpu step (Refused LogFull) p
-  full_step h =
-      let h' : (k.log.room == 0 || p.shared.log.room == 0) ≡ true = rw before at h in
+  -- a step that a full log stops
+  pub full_step : length (calls_at p cpu) ≤ p.layout.config.log → is_full p cpu (ShareHyp f) ≡ true → IsStep p cpu (ShareHyp f) (Refused LogFull) p
+  unfolding rooms_of used_of
+  full_step counted h =
+      let c : Call = call_of p cpu (ShareHyp f) (Refused LogFull) in
       record {
         layout = refl;
-        leads = elim step as (λ s. Leads p (call_of p cpu s (Refused LogFull)) p) [ ShareHyp f ↦ stopped p p cpu f (Refused LogFull) k k before before (λ c h. refl) refl counted refl h' refl (λ row. refl) ];
+        leads = λ row.
+            let s = state_of row p in
+            let on = full_steps (layout_of p) c (used_by c s) (rooms_by c s) refl (omega (arith, counted)) h refl in
+            let step = used_steps (layout_of p) s c (used_by c s) (rooms_by c s) on in
+            let same : with_used c s (used_by c s) (rooms_by c s) ≡ s = log_full_keeps (layout_of p) s (with_used c s (used_by c s) (rooms_by c s)) c step refl in
+            record { next = s; steps = subst (Steps (layout_of p) s c) same step; stands = refl; stores = λ x. absurd x };
         full = λ _. refl;
-        stored = λ o. absurd (clash h o);
-        wants = λ e. cc;
-        shared_log = λ o. absurd (clash h o);
-        own_log = λ o. absurd (clash h o);
-        others = λ c h. refl;
+        stored = λ o. clash h o;
+        wants = λ x. cc;
       }
 
-  module _ (q : Parts A) (reply : Reply) (k' : CpuState) (after : slice_get q.cpus.items cpu ≡ Some k') (roomy : is_full p cpu ≡ false) (t : Shared A) where
-    abbrev call : Call
-    call = call_of p cpu step reply
+  module _ (q : Parts A) (reply : Reply) (k k' : CpuState) (t : SharedPart A)
+      (counted : length k.log.calls + k.log.room ≡ p.layout.config.log)
+      (before : slice_get p.cpus.items cpu ≡ Some k)
+      (after : slice_get q.cpus.items cpu ≡ Some k')
+      (others : (c : ℕ) → (c == cpu) ≡ false → slice_get q.cpus.items c ≡ slice_get p.cpus.items c)
+      (own : cpu_of (Some k') ≡ cpu_of (Some k))
+      (layout : layout_of q ≡ layout_of p)
+      (vms : q.vms ≡ p.vms) (guests : q.guests.items ≡ p.guests.items)
+      (put_in : (row : ℕ → Row) → shared_of row q.shared ≡ shared_of row t) where
+    abbrev c : Call
+    c = call_of p cpu (ShareHyp f) reply
 
-    -- a step whose call is stored
-    pub stored_step : IsMade p.layout.map step p.shared reply t
-        → layout_of q ≡ layout_of p
-        → ((c : ℕ) → (c == cpu) ≡ false → slice_get q.cpus.items c ≡ slice_get p.cpus.items c)
-        → ((row : ℕ → Row) → shared_of row q.shared ≡ record (shared_of row t) { room = p.shared.log.room - 1 })
-        → k'.log.room ≡ k.log.room - 1
-        → q.shared.log.calls ≡ p.shared.log.calls ++ call ∷ []
-        → k'.log.calls ≡ k.log.calls ++ call ∷ []
-        → IsStep p cpu step reply q
-    stored_step made layout others put_in less shared_log own_log =
-        let roomy' : (k.log.room == 0 || p.shared.log.room == 0) ≡ false = rw before at roomy in
-        record {
-          layout = layout;
-          leads = (elim step as (λ s. IsMade p.layout.map s p.shared reply t → Leads p (call_of p cpu s reply) q) [
-            | ShareHyp f ↦ λ m. answered p q cpu f reply k k' before after others (ap (λ (l : Layout). l.config.log) layout) counted t roomy' less put_in m
-          ]) made;
-          full = λ h. absurd (clash h roomy);
-          stored = λ _. (made_tells step p.layout.map p.shared reply t made).0;
-          wants = (made_tells step p.layout.map p.shared reply t made).1;
-          shared_log = λ _. shared_log;
-          own_log = λ _. ap calls_of after ∙ own_log ∙ ap (λ cs. cs ++ call ∷ []) (sym (ap calls_of before));
-          others = others;
-        }
+    -- the call's number is one more than the log held
+    number : length (calls_at p cpu) + 1 ≡ p.layout.config.log - (p.layout.config.log - length (calls_at p cpu)) + 1
+    number = let a : length (calls_at p cpu) ≡ length k.log.calls = ap (λ o. length (calls_of o)) before in omega (arith, a, counted)
+
+    module _ (shared_log : q.shared.log.calls ≡ p.shared.log.calls ++ c ∷ []) (own_log : k'.log.calls ≡ k.log.calls ++ c ∷ []) (row now : ℕ → Row) where
+      abbrev y : Used
+      y = used_alone (shared_of now t) (cpu_of (Some k))
+
+      abbrev s : Reference
+      s = state_of row p
+
+      -- the state after the call is stored
+      abbrev next : Reference
+      next = with_used c s y (stored (rooms_by c s))
+
+      pair : {X Y : Type 0} {a b : X} {d e : Y} → a ≡ b → d ≡ e → ◌≡◌ {A = X × Y} (a, d) (b, e)
+      pair m n = cc
+
+      own_here : (kept_of now q).cpu cpu ≡ (next.contents.cpu cpu, ((kept_of row p).cpu cpu).1 ++ c ∷ [])
+      unfolding put_back
+      own_here = pair (ap cpu_of after ∙ own ∙ sym (if-true (cpu == cpu) (cpu_of (Some k)) _ (eq-self cpu))) (ap calls_of after ∙ own_log ∙ ap (λ o. calls_of o ++ c ∷ []) (sym before))
+
+      own_stored : (j : ℕ) → (cpu == j) ≡ true → (kept_of now q).cpu j ≡ (next.contents.cpu j, ((kept_of row p).cpu j).1 ++ c ∷ [])
+      own_stored j e = subst (λ i. (kept_of now q).cpu i ≡ (next.contents.cpu i, ((kept_of row p).cpu i).1 ++ c ∷ [])) (eq-same cpu j e) own_here
+
+      beside : (j : ℕ) → (cpu == j) ≡ false → (kept_of now q).cpu j ≡ (kept_of row p).cpu j
+      beside j e = let other : (j == cpu) ≡ false = grind (arith, nat_tests) in pair (ap cpu_of (others j other)) (ap calls_of (others j other))
+
+      stores : StoresCall c next.contents (kept_of row p) (kept_of now q)
+      unfolding put_back
+      stores = record {
+        vms = ap (λ v. ((kept_of row p).vms.0, v.log.calls)) vms;
+        shared = pair (put_in now) shared_log;
+        guest = λ v. ap (λ gs. (no_guest, guest_calls_of (slice_get gs v))) guests;
+        cpu = λ j. by_test (cpu == j) (λ e. rw e (own_stored j e)) (λ e. rw e (beside j e));
+      }
+
+      leads : is_full p cpu (ShareHyp f) ≡ false → Answered (layout_of p) cpu None (ShareHyp f) true (used_alone (shared_of row p.shared) (cpu_of (Some k))) reply y → Leads p row c q
+      unfolding put_back used_of rooms_of
+      leads roomy answered =
+          let here : Answered (layout_of p) cpu None (ShareHyp f) true (used_by c s) reply y = subst (λ o. Answered (layout_of p) cpu None (ShareHyp f) true (used_alone (shared_of row p.shared) (cpu_of o)) reply y) (sym before) answered in
+          let on = answer_steps (layout_of p) c true (used_by c s) (rooms_by c s) y refl number roomy here in
+          record {
+            next = next;
+            steps = used_steps (layout_of p) s c y (stored (rooms_by c s)) on;
+            stands = sym (subst (λ (l : Layout). held_state l (kept_of now q) ≡ next) (sym layout) (held_stored (layout_of p) (kept_of row p) (kept_of now q) c y stores));
+            stores = λ x. stores;
+          }
+
+    -- a step that is answered and stored
+    stored_step : q.shared.log.calls ≡ p.shared.log.calls ++ c ∷ [] → k'.log.calls ≡ k.log.calls ++ c ∷ [] → is_full p cpu (ShareHyp f) ≡ false
+        → IsAnswered p.layout.map f p.shared reply t → (reply ≡ Refused NoMemory → HasRoom f p.shared → ⊥) → IsStep p cpu (ShareHyp f) reply q
+    stored_step shared_log own_log roomy answered wants = record {
+      layout = layout;
+      leads = λ row. let a = answered p.layout.config cpu row (cpu_of (Some k)) in leads shared_log own_log row a.0 roomy a.1;
+      full = λ h. clash h roomy;
+      stored = λ h. let a = answered p.layout.config cpu (λ f. plain_row) (cpu_of (Some k)) in answer-stored (layout_of p) cpu None (ShareHyp f) true _ reply _ a.1;
+      wants = wants;
+    }
+
+    pub stored_step_of : (step : Step) → step ≡ ShareHyp f → q.shared.log.calls ≡ p.shared.log.calls ++ c ∷ [] → k'.log.calls ≡ k.log.calls ++ c ∷ [] → is_full p cpu (ShareHyp f) ≡ false
+        → IsAnswered p.layout.map f p.shared reply t → (reply ≡ Refused NoMemory → HasRoom f p.shared → ⊥) → IsStep p cpu step reply q
+    stored_step_of step e shared_log own_log roomy answered wants = subst (λ (s : Step). IsStep p cpu s reply q) (sym e) (stored_step shared_log own_log roomy answered wants)

@@ -4,8 +4,8 @@ use Rattle.page_state.specs.declared.layout.Config.{Config}
 use Rattle.page_state.specs.declared.reply.Call.{Call}
 use Rattle.page_state.specs.Layouts.{Layout}
 use Rattle.page_state.specs.Regions.{Memory}
-use Rattle.page_state.specs.Run.{Runs, IsRun}
-use Rattle.page_state.specs.State.{Reference}
+use Rattle.reference_model.specs.Run.{Runs, IsRun}
+use Rattle.reference_model.specs.State.{Reference}
 use Rattle.world.specs.declared.parts.Parts.{Parts}
 use Rattle.world.specs.Boots.{IsBooted}
 use Rattle.world.specs.Stands.{layout_of, state_of}
@@ -19,7 +19,7 @@ pub record Goes {A : Type 0} (p : Parts A) (c : Call) (q : Parts A) : Type 0 whe
 
 -- the calls are a run of the reference step from the boot state, and these parts stand for its end
 abbrev pub EndsRun : {A : Type 0} → Layout → List Call → Parts A → Type 0
-EndsRun l cs q = (t : Reference) × IsRun l cs t × (t ≡ state_of t.shared.row q)
+EndsRun l cs q = (t : Reference) × IsRun l cs t × (t ≡ state_of t.contents.shared.row q)
 
 -- after any list of steps from a boot on, the calls are a run, and the parts stand for its end
 abbrev pub StepsRun : Type 0 → Type 0

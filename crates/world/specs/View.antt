@@ -2,7 +2,7 @@
 use Rattle.std.specs.Prelude.{ℕ, ◌+◌, ◌≤◌, List, length}
 use Rattle.std.specs.Coded.{×_prop, le_prop, Π_prop}
 use Rattle.page_state.specs.Regions.{end_of}
-use Rattle.page_state.specs.State.{Tree}
+use Rattle.page_state.specs.Trees.{Tree}
 use Rattle.page_state.specs.Tables.{Edit, put, need, returned, edited}
 use Rattle.page_state.specs.declared.layout.Geometry.{Geometry}
 use Rattle.page_state.specs.Geometries.{levels_below, input_pages}

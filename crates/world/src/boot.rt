@@ -1,20 +1,22 @@
 //! Booting a world.
 ghost use Rattle.std.specs.Prelude.{◌≡◌, ◌+◌, ◌<◌, ◌≤◌, ◌^◌, ◌↔◌, [], ◌∷◌, All, IsTrue, IfOk, OnErr, MatchOption, MatchResult, vec_len, length, drop};
 ghost use Rattle.hyp_pool.specs.Pools.{IsPool};
-ghost use Rattle.page_state.specs.Boot.{IsCarveEnough, boot_shared, frames_from};
+ghost use Rattle.page_state.specs.Trees.{frames_from, root_tree};
+ghost use Rattle.reference_model.specs.Boot.{IsCarveEnough, boot_shared};
+ghost use Rattle.page_state.specs.Accepted.{IsAcceptedConfig};
 ghost use Rattle.page_state.specs.EntryTests.{leaf as leaf_of, annotation};
 ghost use Rattle.page_state.specs.Layouts.{hyp_page as hyp_page_of};
 ghost use Rattle.page_state.specs.Regions.{end_of};
-ghost use Rattle.page_state.specs.State.{plain_row};
+ghost use Rattle.reference_model.specs.State.{plain_row};
 ghost use Rattle.page_state.specs.Geometries.{levels_below};
-ghost use Rattle.world.specs.Boots.{IsBooted, IsConfig, IsNoBoot, boot_number, layout_for};
+ghost use Rattle.world.specs.Logs.{IsNewLog};
+ghost use Rattle.world.specs.Boots.{IsBooted, IsConfig, IsIdle, IsNoBoot, boot_number, layout_for};
 ghost use Rattle.world.specs.Stands.{shared_of};
 ghost use Rattle.table_tree.specs.View.{tree_of};
-ghost use Rattle.page_state.specs.Boot.{root_tree};
 ghost use Rattle.world.specs.View.{IsApart, IsEdit};
 
 use crate::both::change_both;
-use crate::parts::{CpuState, Parts, Shared};
+use crate::parts::{CpuState, GuestPart, Parts, SharedPart, VmPart};
 use crate::share::{hyp_page, leaf};
 use crate::{Component, Log, PageEdit};
 use hyp_pool::{Pool, PoolFault, laws};
@@ -32,6 +34,9 @@ const MOST_CPUS: u64 = 64;
 
 /// The most calls of a log.
 const MOST_CALLS: u64 = 1_048_576;
+
+/// The slots of VMs (profile).
+const SLOTS: u64 = 64;
 
 /// The hypervisor's owner number (profile).
 const HYPERVISOR: Owner = Owner(1);
@@ -64,6 +69,7 @@ impl BootFault {
 }
 
 impl From<PoolFault> for BootFault {
+    ghost use Rattle.world.specs.Logs.{IsNewLog};
     ghost use Rattle.world.specs.Boots.{fault_of_pool};
 
     ghost from_gives = { λ fault boots. boots ≡ fault_of_pool fault };
@@ -88,7 +94,7 @@ impl From<AllocError> for BootFault {
 
 /// The geometry of an accepted configuration.
 fn geometry_of(config: &Config) -> Option<Geometry>
-    ensures { MatchOption result ((g : Geometry) → IsConfig config.now g → ⊥) (IsConfig config.now) }
+    ensures { MatchOption result (IsAcceptedConfig config.now → ⊥) (IsConfig config.now) }
 {
     let is_good = config.cpus >= 1
         && config.cpus <= MOST_CPUS
@@ -194,11 +200,11 @@ fn shared_at_boot<A: Allocator + Copy>(
     map: &MemoryMap,
     config: Config,
     geometry: Geometry,
-) -> Result<Shared<A>, BootFault>
+) -> Result<SharedPart<A>, BootFault>
     requires { IsCarveEnough (layout_for map.now config geometry) }
     ensures shared { IfOk result (λ s. shared_of (λ f. plain_row) s ≡ boot_shared (layout_for map.now config geometry)) }
     ensures depth { IfOk result (λ s. levels_below s.host.tree.geometry ≡ levels_below geometry) }
-    ensures log { IfOk result (λ s. s.log.calls ≡ []) }
+    ensures log { IfOk result (λ s. IsNewLog config.log s.log) }
     ensures err { OnErr result (result ≡ Err BootFault.NoMemory) }
 {
     blocks_on_range();
@@ -213,7 +219,7 @@ fn shared_at_boot<A: Allocator + Copy>(
         host_edit(carve),
         hyp_edit(carve),
     )?;
-    Ok(Shared {
+    Ok(SharedPart {
         host,
         hyp,
         pool,
@@ -221,16 +227,43 @@ fn shared_at_boot<A: Allocator + Copy>(
     })
 }
 
+/// The VM part at boot.
+fn vms_at_boot(global: Global, calls: u64) -> Result<VmPart, AllocError>
+    ensures { IfOk result (λ vms. IsNewLog calls vms.log) }
+{
+    Ok(VmPart {
+        log: Log::new(global, calls)?,
+    })
+}
+
+/// The Guest parts at boot.
+fn guests_at_boot(global: Global, calls: u64) -> Result<Vec<GuestPart>, AllocError>
+    ensures count { IfOk result (λ guests. vec_len guests ≡ 64) }
+    ensures logs { IfOk result (λ guests. All (λ g. IsNewLog calls g.log) guests.items) }
+{
+    let mut guests = Vec::with_capacity(global, SLOTS as usize)?;
+    for _made in 0..SLOTS {
+        let log = Log::new(global, calls)?;
+        guests.push(GuestPart { log }).map_err(AllocError::from)?;
+    }
+    Ok(guests)
+}
+
 /// The CPUs at boot.
-fn cpus_at_boot(global: Global, config: Config) -> Result<Vec<CpuState>, BootFault>
+fn cpus_at_boot(global: Global, config: Config) -> Result<Vec<CpuState>, AllocError>
     ensures count { IfOk result (λ cpus. vec_len cpus ≡ config.cpus) }
-    ensures logs { IfOk result (λ cpus. All (λ k. (k.log.calls ≡ []) × (k.log.room ≡ config.log)) cpus.items) }
-    ensures err { OnErr result (result ≡ Err BootFault.NoMemory) }
+    ensures idle { IfOk result (λ cpus. All (λ k. IsIdle config.log k) cpus.items) }
 {
     let mut cpus = Vec::with_capacity(global, config.cpus as usize)?;
     for _made in 0..config.cpus {
         let log = Log::new(global, config.log)?;
-        cpus.push(CpuState { log }).map_err(AllocError::from)?;
+        let cpu = CpuState {
+            loaded: None,
+            hand: None,
+            ticket: None,
+            log,
+        };
+        cpus.push(cpu).map_err(AllocError::from)?;
     }
     Ok(cpus)
 }
@@ -250,14 +283,19 @@ pub fn booted<A: Allocator + Copy>(
     if !is_carve_enough(map, geometry) {
         return Err(BootFault::CarveSmall);
     }
+    let _ = map.regions();
     let shared = shared_at_boot(global, alloc, map, config, geometry)?;
+    let vms = vms_at_boot(global, config.log)?;
+    let guests = guests_at_boot(global, config.log)?;
     let cpus = cpus_at_boot(global, config)?;
     Ok(Parts {
         layout: Layout {
             map: map.clone()?,
             config,
         },
+        vms,
         shared,
+        guests,
         cpus,
     })
 }

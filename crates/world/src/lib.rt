@@ -4,7 +4,7 @@
 ghost use Rattle.std.specs.Prelude.{◌≡◌, ◌<◌, MatchResult};
 ghost use Rattle.world.specs.Boots.{IsBooted, IsNoBoot};
 ghost use Rattle.world.specs.Histories.{HasHistory};
-ghost use Rattle.world.specs.Steps.{IsStep};
+ghost use Rattle.world.specs.Steps.{IsServed, IsStep};
 
 mod boot;
 mod both;
@@ -17,9 +17,8 @@ mod share;
 pub use boot::BootFault;
 pub use component::{Component, PageEdit};
 pub use log::Log;
-use page_state::laws::{frame_rule, history_grows};
 use page_state::{Config, MemoryMap, Reply, Step};
-pub use parts::{CpuState, Parts, Shared};
+pub use parts::{CpuState, GuestPart, Parts, SharedPart, VmPart};
 use std::alloc::{Allocator, Global};
 
 /// A booted world, which stands at the end of one legal history. `A` is where the tables of all trees lie.
@@ -42,7 +41,6 @@ impl<A: Allocator + Copy> World<A> {
     ) -> Result<World<A>, BootFault>
         ensures { MatchResult result (λ w. IsBooted map.now config w.parts) (λ fault. IsNoBoot fault map.now config) }
     {
-        history_grows();
         let parts = boot::booted(global, alloc, map, config)?;
         Ok(World {
             global,
@@ -51,14 +49,14 @@ impl<A: Allocator + Copy> World<A> {
         })
     }
 
-    /// Makes one step of a CPU, and stores it in the CPU's and the Shared part's log where neither is full.
+    /// Makes one step of a CPU, and stores it in the CPU's log and those of the parts that it uses, where none is
+    /// full. It asks for a call that the world has: `share_hyp`.
     pub fn step(&mut self, cpu: u64, step: Step) -> Reply
-        requires { cpu < self.old.parts.layout.config.cpus }
+        requires known { cpu < self.old.parts.layout.config.cpus }
+        requires served { IsServed step }
         ensures layout { self.new.parts.layout ≡ self.old.parts.layout }
         ensures step { IsStep self.old.parts cpu step result self.new.parts }
     {
-        frame_rule();
-        history_grows();
         self.parts.step(self.global, self.alloc, cpu, step)
     }
 }

@@ -1,4 +1,5 @@
 //! Logs of calls, whose room is reserved at boot.
+ghost use Rattle.world.specs.Logs.{IsNewLog};
 ghost use Rattle.std.specs.Prelude.{◌≡◌, ◌+◌, ◌-◌, ◌^◌, ◌<◌, ◌↔◌, [], ◌∷◌, ◌++◌, length, IfOk, IsTrue};
 
 use page_state::Call;
@@ -27,8 +28,7 @@ impl Model for Log {
 impl Log {
     /// An empty log that can store `calls` calls.
     pub fn new(alloc: Global, calls: u64) -> Result<Log, AllocError>
-        ensures empty { IfOk result (λ log. log.calls ≡ []) }
-        ensures room { IfOk result (λ log. log.room ≡ calls) }
+        ensures { IfOk result (IsNewLog calls) }
     {
         Ok(Log {
             calls: Vec::with_capacity(alloc, calls as usize)?,

@@ -4,14 +4,14 @@ ghost use Rattle.page_state.specs.Layouts.{hyp_page as hyp_page_of};
 ghost use Rattle.page_state.specs.Geometries.{levels_below};
 ghost use Rattle.table_tree.specs.View.{meaning};
 ghost use Rattle.page_state.specs.EntryTests.{is_free_page as is_free_entry, is_mapped as is_mapped_entry, leaf as leaf_of};
-ghost use Rattle.world.specs.Sharing.{IsAnswered, IsMade};
+ghost use Rattle.world.specs.Sharing.{HasRoom, IsAnswered};
 
 use crate::both::change_both;
 use crate::component::PageEdit;
-use crate::parts::Shared;
+use crate::parts::SharedPart;
 use hyp_pool::PoolFault;
 use page_state::{
-    Entry, Frame, Kind, MemoryMap, Page, PageRange, Prot, Refusal, Reply, State, Step, Value,
+    Entry, Frame, Kind, MemoryMap, Page, PageRange, Prot, Refusal, Reply, State, Value,
 };
 use std::alloc::{Allocator, Global};
 
@@ -57,7 +57,7 @@ fn is_mapped(entry: Entry) -> bool
 }
 
 /// Whether the host may give its page of a frame away, and the hypervisor's page of it is unmapped.
-fn may_share<A: Allocator>(shared: &Shared<A>, pfn: u64) -> bool
+fn may_share<A: Allocator>(shared: &SharedPart<A>, pfn: u64) -> bool
     requires { pfn < 2 ^ 26 }
     ensures { result ≡ not (not (is_free_entry (meaning shared.now.host.tree pfn)) || is_mapped_entry (meaning shared.now.hyp.tree (hyp_page_of pfn))) }
 {
@@ -81,10 +81,11 @@ pub fn share_hyp<A: Allocator + Copy>(
     global: Global,
     alloc: A,
     map: &MemoryMap,
-    shared: &mut Shared<A>,
+    shared: &mut SharedPart<A>,
     pfn: u64,
 ) -> Reply
     ensures answer { IsAnswered map.now pfn shared.old result shared.new }
+    ensures wants { result ≡ Reply.Refused Refusal.NoMemory → HasRoom pfn shared.old → ⊥ }
     ensures log { shared.new.log ≡ shared.old.log }
     ensures depth { levels_below shared.new.host.tree.geometry ≡ levels_below shared.old.host.tree.geometry }
 {
@@ -103,22 +104,5 @@ pub fn share_hyp<A: Allocator + Copy>(
         Ok(()) => Reply::Done(Value::Nothing),
         Err(PoolFault::NoPool) => Reply::Refused(Refusal::NoPool),
         Err(PoolFault::NoMemory) => Reply::Refused(Refusal::NoMemory),
-    }
-}
-
-/// Makes a step on the Shared part.
-pub fn make<A: Allocator + Copy>(
-    global: Global,
-    alloc: A,
-    map: &MemoryMap,
-    shared: &mut Shared<A>,
-    step: Step,
-) -> Reply
-    ensures answer { IsMade map.now step shared.old result shared.new }
-    ensures log { shared.new.log ≡ shared.old.log }
-    ensures depth { levels_below shared.new.host.tree.geometry ≡ levels_below shared.old.host.tree.geometry }
-{
-    match step {
-        Step::ShareHyp { pfn } => share_hyp(global, alloc, map, shared, pfn),
     }
 }

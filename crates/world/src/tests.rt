@@ -74,7 +74,7 @@ const PAGES: [u64; 11] = [
 ];
 
 /// The free frames of a world's pool, the lowest first.
-fn free_frames(alloc: Global, shared: &Shared<Global>) -> Result<Vec<u64>, AllocError> {
+fn free_frames(alloc: Global, shared: &SharedPart<Global>) -> Result<Vec<u64>, AllocError> {
     let mut frames = Vec::new(alloc);
     for frame in shared.pool.frames() {
         frames.push(frame.0)?;

@@ -1,5 +1,5 @@
 use Rattle.std.proofs.Common.{◌≡◌}
-use Rattle.page_state.specs.Boot.{frames_from}
+use Rattle.page_state.specs.Trees.{frames_from}
 use Rattle.ghost_spec.proofs.boot.frames_from.Given as goal
 
 abbrev pub invariant-loop-i : goal.invariant-loop-i

@@ -1,5 +1,5 @@
 use Rattle.std.proofs.Common.{◌≡◌, ◌∙◌, vec_len}
-use Rattle.page_state.specs.Boot.{frames_from}
+use Rattle.page_state.specs.Trees.{frames_from}
 use Rattle.hyp_pool.specs.Pools.{lowest_first}
 use Rattle.hyp_pool.proofs.Pools.{pool_of, all_made}
 use Rattle.hyp_pool.proofs.Pool.of.Goals as goal

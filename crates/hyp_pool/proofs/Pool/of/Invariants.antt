@@ -1,6 +1,6 @@
 use Rattle.std.proofs.Common.{◌≡◌, ◌+◌, ◌≤◌, vec_len}
 use Rattle.std.specs.Vec.{vec_capacity}
-use Rattle.page_state.specs.Boot.{frames_from}
+use Rattle.page_state.specs.Trees.{frames_from}
 use Rattle.hyp_pool.specs.Pools.{lowest_first}
 use Rattle.hyp_pool.proofs.Pool.of.Given as goal
 

@@ -4,5 +4,5 @@ use Rattle.world.proofs.World.step.Goals as goal
 
 pub invariant_of-self : goal.invariant_of-self
 invariant_of-self g c = record {
-  history = ∥∥₁_map c.args.self.now.history (after_step c.frame_rule.ensures.reads c.history_grows.ensures.grows c.args.self.now.parts c.step.new.self c.args.cpu c.requires c.args.step c.step.result c.step.ensures.step);
+  history = ∥∥₁_map c.args.self.now.history (after_step c.args.self.now.parts c.step.new.self c.args.cpu c.requires.known c.args.step c.step.result c.step.ensures.step);
 }

@@ -6,7 +6,7 @@ use Rattle.world.proofs.boot.booted.Goals as goal
 pub returns : goal.returns
 returns g c =
     let x = c.in_ok-clone.ensures.cases in
-    has_booted c.args.map.now c.args.config c.in-Some.geometry _ (ap (told c.args.config) x) c.in_ok-shared.ensures.depth c.in_ok-cpus.ensures.logs c.in_ok-shared.ensures.shared c.in-Some.ensures ((c.is_carve_enough.ensures c.args.config).0 c.if-not-is_carve_enough.false) c.in_ok-shared.ensures.log
+    has_booted c.args.map.now c.args.config c.in-Some.geometry _ (ap (told c.args.config) x) c.in_ok-shared.ensures.depth c.in_ok-vms.ensures c.in_ok-shared.ensures.log c.in_ok-guests.ensures.logs c.in_ok-cpus.ensures.idle c.in_ok-shared.ensures.shared c.regions.ensures.accepted c.in-Some.ensures ((c.is_carve_enough.ensures c.args.config).0 c.if-not-is_carve_enough.false)
 
 pub shared_at_boot-requires : goal.shared_at_boot-requires
 shared_at_boot-requires g c = (c.is_carve_enough.ensures c.args.config).0 c.if-not-is_carve_enough.false
@@ -17,8 +17,14 @@ returns-then-not-is_carve_enough g c = (c.in-Some.geometry, c.in-Some.ensures, �
 pub returns-in_err-shared : goal.returns-in_err-shared
 returns-in_err-shared g c = no_memory c.args.map.now c.args.config c.in-Some.geometry c.from_residual.result c.in-Some.ensures ((c.is_carve_enough.ensures c.args.config).0 c.if-not-is_carve_enough.false) (subst (λ e. IsErrAnd c.from_residual.result (λ f. f ≡ e)) (err_is c.in_err-shared.ensures.err) c.from_residual.ensures.1)
 
-pub returns-in_err-cpus : goal.returns-in_err-cpus
-returns-in_err-cpus g c = no_memory c.args.map.now c.args.config c.in-Some.geometry c.from_residual-in_err-cpus.result c.in-Some.ensures ((c.is_carve_enough.ensures c.args.config).0 c.if-not-is_carve_enough.false) (subst (λ e. IsErrAnd c.from_residual-in_err-cpus.result (λ f. f ≡ e)) (err_is c.in_err-cpus.ensures.err) c.from_residual-in_err-cpus.ensures.1)
-
 pub returns-in_err-clone : goal.returns-in_err-clone
 returns-in_err-clone g c = no_memory c.args.map.now c.args.config c.in-Some.geometry c.from_residual-in_err-clone.result c.in-Some.ensures ((c.is_carve_enough.ensures c.args.config).0 c.if-not-is_carve_enough.false) c.from_residual-in_err-clone.ensures.1
+
+pub returns-in_err-vms : goal.returns-in_err-vms
+returns-in_err-vms g c = no_memory c.args.map.now c.args.config c.in-Some.geometry c.from_residual-in_err-vms.result c.in-Some.ensures ((c.is_carve_enough.ensures c.args.config).0 c.if-not-is_carve_enough.false) c.from_residual-in_err-vms.ensures.1
+
+pub returns-in_err-guests : goal.returns-in_err-guests
+returns-in_err-guests g c = no_memory c.args.map.now c.args.config c.in-Some.geometry c.from_residual-in_err-guests.result c.in-Some.ensures ((c.is_carve_enough.ensures c.args.config).0 c.if-not-is_carve_enough.false) c.from_residual-in_err-guests.ensures.1
+
+pub returns-in_err-cpus : goal.returns-in_err-cpus
+returns-in_err-cpus g c = no_memory c.args.map.now c.args.config c.in-Some.geometry c.from_residual-in_err-cpus.result c.in-Some.ensures ((c.is_carve_enough.ensures c.args.config).0 c.if-not-is_carve_enough.false) c.from_residual-in_err-cpus.ensures.1

@@ -2,7 +2,7 @@ use Rattle.std.proofs.Common.{◌≡◌, ◌+◌, ap, ◌∙◌, arith}
 use Rattle.page_state.specs.declared.entry.PageRange.{PageRange}
 use Rattle.descriptor.specs.declared.Prot.TheVariants.{RW}
 use Rattle.descriptor.specs.declared.State.TheVariants.{Owned}
-use Rattle.page_state.specs.Boot.{host_need, hyp_need, host_root, hyp_root}
+use Rattle.reference_model.specs.Boot.{host_need, hyp_need, host_root, hyp_root}
 use Rattle.page_state.specs.EntryTests.{annotation, leaf}
 use Rattle.page_state.specs.Layouts.{Layout, hyp_page}
 use Rattle.page_state.specs.Tables.{need, put}

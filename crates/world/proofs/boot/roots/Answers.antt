@@ -1,11 +1,10 @@
 use Rattle.std.proofs.Common.{◌≡◌, ◌+◌, ap, sym, ◌∙◌, arith, length, drop}
 use Rattle.hyp_pool.proofs.Order.{length-frames_from}
-use Rattle.page_state.specs.Boot.{frames_from}
+use Rattle.page_state.specs.Trees.{frames_from, root_tree}
 use Rattle.page_state.specs.declared.entry.PageRange.{PageRange}
 use Rattle.page_state.specs.Geometries.{levels_below}
 use Rattle.page_state.specs.Counts.{frame_count}
 use Rattle.table_tree.specs.View.{tree_of, uses, tables_of}
-use Rattle.page_state.specs.Boot.{root_tree}
 use Rattle.world.proofs.Boots.{two_taken, new_is}
 use Rattle.page_state.proofs.Counts.{count_next}
 use Rattle.world.proofs.boot.roots.Given.{Over}

@@ -3,10 +3,10 @@ use Rattle.hyp_pool.specs.Pools.{Stored}
 use Rattle.descriptor.specs.declared.Prot.TheVariants.{RW}
 use Rattle.descriptor.specs.declared.State.TheVariants.{Owned}
 use Rattle.page_state.specs.declared.entry.PageRange.{PageRange}
-use Rattle.page_state.specs.Boot.{host_edit, hyp_edit}
+use Rattle.reference_model.specs.Boot.{host_edit, hyp_edit}
 use Rattle.page_state.specs.EntryTests.{annotation, leaf}
 use Rattle.page_state.specs.Layouts.{Layout, hyp_page}
-use Rattle.page_state.specs.State.{plain_row}
+use Rattle.reference_model.specs.State.{plain_row}
 use Rattle.page_state.specs.Tables.{put}
 use Rattle.page_state.specs.Geometries.{levels_below}
 use Rattle.table_tree.specs.View.{tree_of}
@@ -35,6 +35,4 @@ returns-clause-shared g c =
     let some = ap (λ (r : PageRange). r.count) c.carve-carve.ensures.value in
     let is = shared_is l c.in_ok-host.host.tree c.in_ok-host.hyp.tree c.host_edit.result c.hyp_edit.result c.in_ok-host.pool.frames (ap levels_below c.in_ok-host.ensures.host_geometry) (ap levels_below c.in_ok-host.ensures.hyp_geometry) c.in_ok-host.ensures.host c.in_ok-host.ensures.hyp host_is hyp_is c.in_ok-host.ensures.pool
     c.blocks_on_range.ensures.meet (omega (arith, c.requires)) c.change_both.new.host.tree c.change_both.new.hyp.tree c.change_both.new.pool.frames c.in_ok-change_both.ensures.host c.in_ok-change_both.ensures.hyp c.in_ok-change_both.ensures.pool in
-    ap (λ (p : Stored). parts (λ f. plain_row) (tree_of c.change_both.new.host.tree) (tree_of c.change_both.new.hyp.tree) p.frames c.in_ok-new.field-0.room) c.pool.view_is
-    ∙ ap (parts (λ f. plain_row) (tree_of c.change_both.new.host.tree) (tree_of c.change_both.new.hyp.tree) c.change_both.new.pool.frames) c.in_ok-new.ensures.room
-    ∙ is
+    ap (λ (p : Stored). parts (λ f. plain_row) (tree_of c.change_both.new.host.tree) (tree_of c.change_both.new.hyp.tree) p.frames) c.pool.view_is ∙ is

@@ -4,7 +4,7 @@ use Rattle.page_state.specs.declared.entry.Target.{Target}
 use Rattle.page_state.specs.Entries.{entry_of}
 use Rattle.page_state.specs.Runs.{map_of}
 use Rattle.page_state.specs.Map.{Map, update}
-use Rattle.page_state.specs.State.{Tree}
+use Rattle.page_state.specs.Trees.{Tree}
 use Rattle.page_state.specs.Tables.{edited}
 use Rattle.page_state.proofs.Entries.{entry_of-target_of}
 use Rattle.world.proofs.component.Component.commit.Goals as goal

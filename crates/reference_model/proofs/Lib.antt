@@ -1,0 +1,14 @@
+pub mod Answers
+pub mod Boot
+pub mod Ends
+pub mod Examples
+pub mod Frames
+pub mod Held
+pub mod HeldStored
+pub mod History
+pub mod Lives
+pub mod PutAt
+pub mod RoomLaws
+pub mod Shares
+pub mod Steps
+pub mod conditions

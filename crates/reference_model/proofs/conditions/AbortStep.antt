@@ -1,0 +1,226 @@
+-- host_abort, and the steps that only read the Shared part, keep the invariant.
+use Rattle.std.proofs.Common.{◌≡◌, ℕ, ◌+◌, ◌-◌, ◌≤◌, ◌<◌, refl, ap, sym, ◌∙◌, subst, arith, inl, inr}
+use Rattle.std.specs.Prelude.{Bool, true, false, ◌&&◌, nat_le, Option, Some, None, if◌then◌else◌}
+use Rattle.std.proofs.lemmas.Bool.Decides.{nat_tests}
+use Rattle.descriptor.specs.declared.Prot.TheVariants.{RWX}
+use Rattle.descriptor.specs.declared.State.TheVariants.{Owned}
+use Rattle.page_state.specs.declared.entry.Entry.{Entry}
+use Rattle.page_state.specs.declared.entry.Entry.TheVariants.{Unmapped}
+use Rattle.page_state.specs.declared.layout.Region.{Region}
+use Rattle.page_state.specs.declared.step.Step.{Step}
+use Rattle.page_state.specs.declared.step.Step.TheVariants.{HostAbort, HostTranslate, HypTranslate, OwnerOf}
+use Rattle.page_state.specs.declared.reply.Value.{Value}
+use Rattle.page_state.specs.declared.reply.Value.TheVariants.{Nothing}
+use Rattle.page_state.specs.Blocks.{block_at, first_page, span, is_empty}
+use Rattle.page_state.specs.Entries.{advance}
+use Rattle.page_state.specs.EntryTests.{is_unmapped, is_free_page, leaf, device_leaf}
+use Rattle.page_state.specs.Geometries.{pages_below}
+use Rattle.page_state.specs.Map.{Map, is_within}
+use Rattle.page_state.specs.Regions.{region_of, is_memory_kind, is_memory_region, end_of, is_in_range}
+use Rattle.page_state.specs.Trees.{Block}
+use Rattle.reference_model.specs.State.{Contents}
+use Rattle.page_state.proofs.Sizes.{size_some}
+use Rattle.page_state.specs.Layouts.{Layout, is_memory}
+use Rattle.reference_model.specs.Parts.{names, shared}
+use Rattle.reference_model.specs.Used.{used_of}
+use Rattle.reference_model.specs.Rule.{Rule, fine}
+use Rattle.reference_model.specs.SharedRules.{host_abort, host_translate, hyp_translate, owner_of, abort_edit, abort_leaf, abort_depth, may_map}
+use Rattle.reference_model.specs.Step.{refusal}
+use Rattle.reference_model.specs.declared.changes.MapChange.{MapChange}
+use Rattle.reference_model.specs.Changes.{change, no_changes}
+use Rattle.reference_model.specs.RowChanges.{told_row}
+use Rattle.reference_model.specs.ConditionChanges.{told_condition}
+use Rattle.reference_model.specs.Conditions.{row_in, Condition, outside, hosts, HostFits, hyp_says, Legal, IsUsable, in_shared, in_hand, is_inside, IsGood}
+use Rattle.page_state.proofs.Blocks.{empty_means}
+use Rattle.page_state.proofs.Common.{both, if-true, if-false}
+use Rattle.reference_model.proofs.conditions.Moves.{outside-is, is_calm, host-moved, moved-out, moved-fact}
+use Rattle.reference_model.proofs.conditions.SharedMoves.{StepKept, x_of, SharedMove, shared-keeps}
+use Rattle.reference_model.proofs.conditions.SharedSteps.{Passed, passed, within-is, one-within, advance-leaf, range-in, hands-stay, free-hosts}
+
+-- a rule that changes the host's map alone
+abbrev pub host_rule : Bool → Bool → Option MapChange → Value → Rule
+host_rule invalid perm e value = record fine { invalid = invalid; perm = perm; changes = record no_changes { host = e; value = value } }
+
+none-within : (q : ℕ) → is_within 0 0 q ≡ false
+none-within q = grind (arith, nat_tests)
+
+module _ (l : Layout) (s : Contents) (legal : Legal l s) (usable : IsUsable l) (cpu : ℕ) (invalid perm : Bool) (value : Value) where
+  -- nothing changes
+  still-move : Passed l.depth (host_rule invalid perm None value) false (x_of cpu s) → SharedMove l s legal.condition cpu (host_rule invalid perm None value).changes 0 0 hosts
+  unfolding used_of
+  still-move p = record {
+    inside = λ q w. absurd (off q w);
+    good = tt;
+    move = record { calm = refl; was_calm = λ q w. absurd (off q w) };
+    same_use = λ q w. absurd (off q w);
+    host = λ q. subst (λ c. HostFits q c (s.shared.host.map q)) (sym (moved-out hosts 0 0 legal.condition q (none-within q))) (legal.maps.host q);
+    hyp = λ q. legal.maps.hyp q ∙ ap (hyp_says q) (sym (moved-out hosts 0 0 legal.condition q (none-within q)));
+    hyp_below = legal.maps.hyp_below;
+    touched = λ q. sym (none-within q);
+    told = λ q w. absurd (off q w);
+    goes = λ q w m. absurd (off q w);
+    host_range = tt;
+    hyp_range = tt;
+    enough = p.shared_enough;
+    hand = hands-stay l s legal usable cpu hosts 0 0 (λ d q w. absurd (off q w));
+    own_hand = λ d h. cc;
+    loaded = λ k. refl;
+    ticket = λ k. refl;
+    some_hand = legal.slots.some_hand cpu;
+  }
+    where
+      off : (q : ℕ) → is_within 0 0 q ≡ true → ⊥
+      off q w = let z : true ≡ false = sym w ∙ none-within q in cc
+
+  -- a range of pages that the host has unmapped, of one kind, gets leaves
+  map-move : (first n : ℕ) (e : Entry) (c : Condition) → 1 ≤ n → first + n ≤ pages_below l.depth → is_calm c ≡ true → in_shared c ≡ false → ((d : ℕ) → in_hand d c ≡ false) → IsGood l c
+      → ((q : ℕ) → is_within first n q ≡ true → legal.condition q ≡ c) → ((q : ℕ) → is_within first n q ≡ true → HostFits q c (advance e (q - first))) → ((q : ℕ) → is_within first n q ≡ true → row_in q c ≡ told_row cpu None (host_rule invalid perm (change first n e) value).changes q)
+      → ((q : ℕ) → is_within first n q ≡ true → is_memory l q ≡ true → c ≡ told_condition cpu None (host_rule invalid perm (change first n e) value).changes)
+      → Passed l.depth (host_rule invalid perm (change first n e) value) false (x_of cpu s) → SharedMove l s legal.condition cpu (host_rule invalid perm (change first n e) value).changes first n c
+  unfolding used_of
+  map-move first n e c some range calm unused hand good was new told goes p = record {
+    inside = λ q w. sym (legal.of_layout.inside q) ∙ ap is_inside (was q w);
+    good = good;
+    move = record { calm = calm; was_calm = λ q w. ap is_calm (was q w) ∙ calm };
+    same_use = λ q w. ap in_shared (was q w);
+    host = host-moved s.shared.host.map first n e c legal.condition new legal.maps.host;
+    hyp = λ q. legal.maps.hyp q ∙ moved-fact (hyp_says q) c first n legal.condition q (λ w. ap (hyp_says q) (was q w));
+    hyp_below = legal.maps.hyp_below;
+    touched = λ q. refl;
+    told = told;
+    goes = goes;
+    host_range = range;
+    hyp_range = tt;
+    enough = p.shared_enough;
+    hand = hands-stay l s legal usable cpu c first n (λ d q w. ap (in_hand d) (was q w));
+    own_hand = λ d h. let z : true ≡ false = sym h ∙ hand d in cc;
+    loaded = λ k. refl;
+    ticket = λ k. refl;
+    some_hand = legal.slots.some_hand cpu;
+  }
+
+  -- what a step with this edit leaves is legal
+  abbrev IsKept : Step → Option MapChange → Type 0
+  IsKept step e = Passed l.depth (host_rule invalid perm e value) false (x_of cpu s) → StepKept l s legal.condition shared None cpu step (host_rule invalid perm e value).changes
+
+  still-keeps : (step : Step) → names step ≡ shared → IsKept step None
+  still-keeps step named p = shared-keeps l s legal usable cpu step named (host_rule invalid perm None value).changes 0 0 hosts (still-move p)
+
+  unmapped-hosts : (q : ℕ) → is_memory l q ≡ true → s.shared.host.map q ≡ Unmapped → legal.condition q ≡ hosts
+  unmapped-hosts q m h = free-hosts q (legal.condition q) (s.shared.host.map q) (legal.of_layout.inside q ∙ m) (legal.maps.host q) (ap is_free_page h)
+
+  -- a block of unmapped pages of a memory region
+  block-keeps : (page first n : ℕ) (r : Region) → 1 ≤ n → is_memory_kind r.kind ≡ true → ((q : ℕ) → is_within first n q ≡ true → (region_of l.memory q ≡ Some r) × (s.shared.host.map q ≡ Unmapped)) → IsKept (HostAbort page) (change first n (leaf RWX first Owned))
+  block-keeps page first n r some kind each p =
+      let mem : (q : ℕ) → is_within first n q ≡ true → is_memory l q ≡ true = λ q w. ap is_memory_region (each q w).0 ∙ kind in
+      let low = range-in l usable first n some mem in
+      shared-keeps l s legal usable cpu (HostAbort page) refl (host_rule invalid perm (change first n (leaf RWX first Owned)) value).changes first n hosts
+      (map-move first n (leaf RWX first Owned) hosts some (omega arith) refl refl (λ d. refl) tt (λ q w. unmapped-hosts q (mem q w) (each q w).1) (λ q w. inr (advance-leaf RWX first n q Owned w)) (λ q w. refl) (λ q w m. refl) p)
+
+  -- a page of a device region
+  device-keeps : (page : ℕ) (r : Region) → is_memory_kind r.kind ≡ false → region_of l.memory page ≡ Some r → IsKept (HostAbort page) (change page 1 (device_leaf page))
+  device-keeps page r kind at p =
+      let less = usable.below page r at in
+      let not-memory : is_memory l page ≡ false = ap is_memory_region at ∙ kind in
+      let was : legal.condition page ≡ outside = outside-is (legal.condition page) (legal.of_layout.inside page ∙ not-memory) in
+      shared-keeps l s legal usable cpu (HostAbort page) refl (host_rule invalid perm (change page 1 (device_leaf page)) value).changes page 1 outside
+      (map-move page 1 (device_leaf page) outside (omega arith) (omega arith) refl refl (λ d. refl) tt (λ q w. subst (λ k. legal.condition k ≡ outside) (one-within page q w) was) (λ q w. inr (device-advance page q w)) (λ q w. refl)
+      (λ q w m. let bad : true ≡ false = sym m ∙ ap (is_memory l) (sym (one-within page q w)) ∙ not-memory in cc) p)
+    where
+      device-advance : (page q : ℕ) → is_within page 1 q ≡ true → advance (device_leaf page) (q - page) ≡ device_leaf q
+      device-advance page q w = let same = one-within page q w in let e : page + (q - page) ≡ q = omega arith in ap device_leaf e
+
+-- the block of a depth, where it may be mapped
+may-map : (m : Map) (r : Region) (d page : ℕ) → may_map m r d page ≡ true → (is_memory_kind r.kind ≡ true) × ((q : ℕ) → is_within (first_page (block_at d page)) (span (block_at d page)) q ≡ true → (is_in_range r.pages q ≡ true) × (m q ≡ Unmapped))
+may-map m r d page h =
+    let b = block_at d page in
+    let t = four (is_memory_kind r.kind) (nat_le r.pages.first.0 (first_page b)) (nat_le (first_page b + span b) (end_of r.pages)) (is_empty m b) h in
+    (t.0, λ q w. (in-region r.pages.first.0 r.pages.count (first_page b) (span b) q t.1 t.2 w, unmapped b t.3 q w))
+  where
+    four : (a b c d : Bool) → (a && b && c && d) ≡ true → (a ≡ true) × (b ≡ true) × (c ≡ true) × (d ≡ true)
+    four true true true d h = (refl, refl, refl, h)
+    four true true false d h = cc
+    four true false c d h = cc
+    four false b c d h = cc
+
+    in-region : (first count f n q : ℕ) → nat_le first f ≡ true → nat_le (f + n) (first + count) ≡ true → is_within f n q ≡ true → is_within first count q ≡ true
+    in-region first count f n q a b w = grind (arith, nat_tests)
+
+    unmapped : (b : Block) → is_empty m b ≡ true → (q : ℕ) → is_within (first_page b) (span b) q ≡ true → m q ≡ Unmapped
+    unmapped b e q w =
+        let at = within-is (first_page b) (span b) q w in
+        let low : first_page b ≤ q = at.0 in
+        let high : q < first_page b + span b = at.1 in
+        let is : first_page b + (q - first_page b) ≡ q = omega arith in
+        ap m (sym is) ∙ (empty_means m b).0 e (q - first_page b) (omega arith)
+
+page-first : (page : ℕ) → first_page (block_at 0 page) ≡ page
+page-first page = omega arith
+
+-- the entry of an edit, by the kind of the region
+abort-memory : (r : Region) (first : ℕ) → is_memory_kind r.kind ≡ true → abort_leaf r first ≡ leaf RWX first Owned
+abort-memory r first h = if-true (is_memory_kind r.kind) (leaf RWX first Owned) (device_leaf first) h
+
+abort-device : (r : Region) (first : ℕ) → is_memory_kind r.kind ≡ false → abort_leaf r first ≡ device_leaf first
+abort-device r first h = if-false (is_memory_kind r.kind) (leaf RWX first Owned) (device_leaf first) h
+
+unmapped-is : (e : Entry) → is_unmapped e ≡ true → e ≡ Unmapped
+unmapped-is Unmapped h = refl
+unmapped-is e h = cc
+
+module _ (l : Layout) (s : Contents) (legal : Legal l s) (usable : IsUsable l) (cpu page : ℕ) (invalid perm : Bool) where
+  abbrev Kept : Option MapChange → Type 0
+  Kept e = Passed l.depth (host_rule invalid perm e Nothing) false (x_of cpu s) → StepKept l s legal.condition shared None cpu (HostAbort page) (host_rule invalid perm e Nothing).changes
+
+  -- a block of a depth at which it may be mapped, and the page alone
+  deep : (r : Region) (d : ℕ) → region_of l.memory page ≡ Some r → may_map s.shared.host.map r d page ≡ true → Kept (change (first_page (block_at d page)) (span (block_at d page)) (abort_leaf r (first_page (block_at d page))))
+  deep r d at may =
+      let t = may-map s.shared.host.map r d page may in
+      subst (λ e. Kept (change (first_page (block_at d page)) (span (block_at d page)) e)) (sym (abort-memory r (first_page (block_at d page)) t.0))
+      (block-keeps l s legal usable cpu invalid perm Nothing page (first_page (block_at d page)) (span (block_at d page)) r (size_some d) t.0 (λ q w. (usable.regions page q r at (t.1 q w).0, (t.1 q w).1)))
+
+  flat : (r : Region) → region_of l.memory page ≡ Some r → s.shared.host.map page ≡ Unmapped → Kept (change (first_page (block_at 0 page)) (span (block_at 0 page)) (abort_leaf r (first_page (block_at 0 page))))
+  flat r at bare = subst (λ n. Kept (change n 1 (abort_leaf r n))) (sym (page-first page)) (elim (both (is_memory_kind r.kind)) [
+    | inl h ↦ subst (λ e. Kept (change page 1 e)) (sym (abort-memory r page h)) (block-keeps l s legal usable cpu invalid perm Nothing page page 1 r (omega arith) h (λ q w. (ap (region_of l.memory) (sym (one-within page q w)) ∙ at, ap s.shared.host.map (sym (one-within page q w)) ∙ bare)))
+    | inr h ↦ subst (λ e. Kept (change page 1 e)) (sym (abort-device r page h)) (device-keeps l s legal usable cpu invalid perm Nothing page r h at)
+  ])
+
+  abbrev block_edit : Region → ℕ → Option MapChange
+  block_edit r d = change (first_page (block_at d page)) (span (block_at d page)) (abort_leaf r (first_page (block_at d page)))
+
+  by-depth : (r : Region) → region_of l.memory page ≡ Some r → s.shared.host.map page ≡ Unmapped → Kept (block_edit r (abort_depth s.shared.host.map r page))
+  by-depth r at bare = elim (both (may_map s.shared.host.map r 2 page)) [
+    | inl h ↦ subst (λ d. Kept (block_edit r d)) (sym (if-true (may_map s.shared.host.map r 2 page) 2 (if may_map s.shared.host.map r 1 page then 1 else 0) h)) (deep r 2 at h)
+    | inr h ↦ subst (λ d. Kept (block_edit r d)) (sym (if-false (may_map s.shared.host.map r 2 page) 2 (if may_map s.shared.host.map r 1 page then 1 else 0) h)) (elim (both (may_map s.shared.host.map r 1 page)) [
+      | inl k ↦ subst (λ d. Kept (block_edit r d)) (sym (if-true (may_map s.shared.host.map r 1 page) 1 0 k)) (deep r 1 at k)
+      | inr k ↦ subst (λ d. Kept (block_edit r d)) (sym (if-false (may_map s.shared.host.map r 1 page) 1 0 k)) (flat r at bare)
+    ])
+  ]
+
+  by-page : (r : Region) → region_of l.memory page ≡ Some r → Kept (if is_unmapped (s.shared.host.map page) then block_edit r (abort_depth s.shared.host.map r page) else None)
+  by-page r at = elim (both (is_unmapped (s.shared.host.map page))) [
+    | inl h ↦ subst Kept (sym (if-true (is_unmapped (s.shared.host.map page)) (block_edit r (abort_depth s.shared.host.map r page)) None h)) (by-depth r at (unmapped-is (s.shared.host.map page) h))
+    | inr h ↦ subst Kept (sym (if-false (is_unmapped (s.shared.host.map page)) (block_edit r (abort_depth s.shared.host.map r page)) None h)) (still-keeps l s legal usable cpu invalid perm Nothing (HostAbort page) refl)
+  ]
+
+  pub abort-kept : (o : Option Region) → region_of l.memory page ≡ o → Kept (abort_edit s.shared.host.map o page)
+  unfolding abort_edit
+  abort-kept (Some r) at = by-page r at
+  abort-kept None at = still-keeps l s legal usable cpu invalid perm Nothing (HostAbort page) refl
+
+module _ (l : Layout) (s : Contents) (legal : Legal l s) (usable : IsUsable l) (cpu page : ℕ) where
+  abbrev After : Step → Rule → Type 0
+  After step r = StepKept l s legal.condition shared None cpu step r.changes
+
+  pub host_abort-keeps : refusal l.depth (host_abort l (x_of cpu s) page) false (x_of cpu s) ≡ None → After (HostAbort page) (host_abort l (x_of cpu s) page)
+  unfolding used_of
+  host_abort-keeps h = abort-kept l s legal usable cpu page _ _ (region_of l.memory page) refl (passed l.depth (host_abort l (x_of cpu s) page) false (x_of cpu s) h)
+
+  pub host_translate-keeps : refusal l.depth (host_translate l (x_of cpu s) page) false (x_of cpu s) ≡ None → After (HostTranslate page) (host_translate l (x_of cpu s) page)
+  host_translate-keeps h = still-keeps l s legal usable cpu _ _ _ (HostTranslate page) refl (passed l.depth (host_translate l (x_of cpu s) page) false (x_of cpu s) h)
+
+  pub hyp_translate-keeps : refusal l.depth (hyp_translate l (x_of cpu s) page) false (x_of cpu s) ≡ None → After (HypTranslate page) (hyp_translate l (x_of cpu s) page)
+  hyp_translate-keeps h = still-keeps l s legal usable cpu _ _ _ (HypTranslate page) refl (passed l.depth (hyp_translate l (x_of cpu s) page) false (x_of cpu s) h)
+
+  pub owner_of-keeps : refusal l.depth (owner_of l (x_of cpu s) page) false (x_of cpu s) ≡ None → After (OwnerOf page) (owner_of l (x_of cpu s) page)
+  owner_of-keeps h = still-keeps l s legal usable cpu _ _ _ (OwnerOf page) refl (passed l.depth (owner_of l (x_of cpu s) page) false (x_of cpu s) h)

@@ -1,0 +1,392 @@
+-- The made steps that change a host page and a guest page keep the invariant.
+use Rattle.std.proofs.Common.{◌≡◌, ◌≢◌, ℕ, ◌+◌, ◌-◌, ◌<◌, refl, ap, sym, ◌∙◌, subst, arith, inl, inr}
+use Rattle.std.specs.Prelude.{Bool, true, false, not, ◌||◌, ◌==◌, ◌⊎◌, nat_le, Some, None, if◌then◌else◌}
+use Rattle.std.proofs.lemmas.Bool.Decides.{nat_tests}
+use Rattle.descriptor.specs.declared.Prot.{Prot}
+use Rattle.descriptor.specs.declared.Prot.TheVariants.{RWX}
+use Rattle.descriptor.specs.declared.State.{State}
+use Rattle.descriptor.specs.declared.State.TheVariants.{Owned, SharedOwned, SharedBorrowed}
+use Rattle.page_state.specs.declared.entry.Entry.{Entry}
+use Rattle.page_state.specs.declared.entry.Entry.TheVariants.{Unmapped}
+use Rattle.page_state.specs.declared.step.Step.TheVariants.{ShareGuest, UnshareGuest, DonateGuest, GuestShareHost, GuestUnshareHost, ReclaimPage}
+use Rattle.page_state.specs.declared.step.VmId.{VmId}
+use Rattle.page_state.specs.Entries.{advance}
+use Rattle.page_state.specs.EntryTests.{is_unmapped, is_mapped, is_in, is_free_page, leaf, annotation, frame_of, with_state}
+use Rattle.page_state.specs.Geometries.{pages_below}
+use Rattle.reference_model.specs.GuestRules.{share_guest, unshare_guest, donate_guest, guest_share_host, guest_unshare_host, reclaim_page, is_guest, phase_eq, two_pages}
+use Rattle.page_state.specs.Map.{is_within}
+use Rattle.reference_model.specs.State.{Guest, Contents, empty, live, dying, plain_row}
+use Rattle.page_state.specs.Layouts.{Layout, is_memory, is_good_page}
+use Rattle.reference_model.specs.Parts.{shared_and_guest}
+use Rattle.reference_model.specs.Used.{Used, used_of}
+use Rattle.reference_model.specs.Step.{refusal}
+use Rattle.reference_model.specs.ConditionChanges.{told_condition}
+use Rattle.reference_model.specs.RowChanges.{told_row}
+use Rattle.page_state.specs.declared.row.Usage.TheVariants.{Plain}
+use Rattle.reference_model.specs.Owner.{lent_at}
+use Rattle.reference_model.specs.Conditions.{row_in, Condition, hosts, with_guest, guests, lent_back, HostFits, hyp_says, guest_condition, IsGuestLeaf, IsLeaf, Legal, IsUsable, in_shared, in_vm, in_hand, is_inside, IsGood}
+use Rattle.reference_model.proofs.conditions.SharedMoves.{StepKept}
+use Rattle.page_state.proofs.Common.{eq-self, and-both, or-neither, not-false}
+use Rattle.reference_model.proofs.conditions.GuestMoves.{only, g_of, guest-keeps}
+use Rattle.reference_model.proofs.conditions.OfLegal.{state_eq-same}
+use Rattle.reference_model.proofs.conditions.PageMoves.{PageMove, page-move}
+use Rattle.reference_model.proofs.conditions.SharedSteps.{range-advance, one-within, passed, advance-leaf, free-hosts}
+
+-- conditions that name a guest's page
+
+gc-inside : (a : State) (v g : ℕ) → is_inside (guest_condition a v g) ≡ true
+gc-inside Owned v g = refl
+gc-inside SharedOwned v g = refl
+gc-inside SharedBorrowed v g = refl
+
+gc-only : (a : State) (v g : ℕ) → only v (guest_condition a v g) ≡ true
+gc-only Owned v g = eq-self v
+gc-only SharedOwned v g = eq-self v
+gc-only SharedBorrowed v g = eq-self v
+
+gc-shared : (a : State) (v g : ℕ) → in_shared (guest_condition a v g) ≡ false
+gc-shared Owned v g = refl
+gc-shared SharedOwned v g = refl
+gc-shared SharedBorrowed v g = refl
+
+pub gc-vm : (a : State) (u v g : ℕ) → in_vm u (guest_condition a v g) ≡ false
+gc-vm Owned u v g = refl
+gc-vm SharedOwned u v g = refl
+gc-vm SharedBorrowed u v g = refl
+
+pub gc-hand : (a : State) (d v g : ℕ) → in_hand d (guest_condition a v g) ≡ false
+gc-hand Owned d v g = refl
+gc-hand SharedOwned d v g = refl
+gc-hand SharedBorrowed d v g = refl
+
+gc-hyp : (a : State) (f v g : ℕ) → hyp_says f (guest_condition a v g) ≡ Unmapped
+gc-hyp Owned f v g = refl
+gc-hyp SharedOwned f v g = refl
+gc-hyp SharedBorrowed f v g = refl
+
+gc-good : (l : Layout) (a : State) (v g : ℕ) → v < 64 → g < pages_below l.depth → IsGood l (guest_condition a v g)
+gc-good l Owned v g p q = (p, q)
+gc-good l SharedOwned v g p q = (p, q)
+gc-good l SharedBorrowed v g p q = (p, q)
+
+gc-page : (a b : State) (v g p : ℕ) → guest_condition a v g ≡ guest_condition b v p → (p ≡ g) × (b ≡ a)
+gc-page Owned Owned v g p h = (sym (ap (λ c. page c) h), refl)
+  where
+    page : Condition → ℕ
+    page (guests u q) = q
+    page c = 0
+gc-page SharedOwned SharedOwned v g p h = (sym (ap (λ c. page c) h), refl)
+  where
+    page : Condition → ℕ
+    page (lent_back u q) = q
+    page c = 0
+gc-page SharedBorrowed SharedBorrowed v g p h = (sym (ap (λ c. page c) h), refl)
+  where
+    page : Condition → ℕ
+    page (with_guest u q) = q
+    page c = 0
+gc-page a b v g p h = cc
+
+hosts-named : {P : Type 0} (a : State) (v g : ℕ) → hosts ≡ guest_condition a v g → P
+hosts-named Owned v g h = cc
+hosts-named SharedOwned v g h = cc
+hosts-named SharedBorrowed v g h = cc
+
+-- a frame and a guest's page before, and after, a step: the frame is the host's and nothing stands at the page, or the condition names the page
+
+data Side : Type 0 where
+  apart : Side
+  joined : State → Side
+
+abbrev side_condition : Side → ℕ → ℕ → Condition
+side_condition apart v g = hosts
+side_condition (joined a) v g = guest_condition a v g
+
+abbrev SideFits : Side → ℕ → Entry → Type 0
+SideFits apart f e = e ≡ Unmapped
+SideFits (joined a) f e = IsLeaf f a e
+
+record SideMove (l : Layout) (s : Contents) (condition : ℕ → Condition) (v f : ℕ) (e : Entry) (g : ℕ) (e' : Entry) (old new : Side) : Type 0 where
+  memory : is_memory l f ≡ true
+  slot : v < 64
+  page : g < pages_below l.depth
+  alive : (s.guest v).phase ≢ empty
+  was : condition f ≡ side_condition old v g
+  stood : SideFits old f ((s.guest v).tree.map g)
+  stands : SideFits new f e'
+  host : (p : ℕ) → is_within f 1 p ≡ true → HostFits p (side_condition new v g) (advance e (p - f))
+  told : (cpu q : ℕ) → is_within f 1 q ≡ true → row_in q (side_condition new v g) ≡ told_row cpu (Some v) (two_pages f e g e') q
+  goes : (cpu : ℕ) → side_condition new v g ≡ told_condition cpu (Some v) (two_pages f e g e')
+
+side-only : (a : Side) (v g : ℕ) → only v (side_condition a v g) ≡ true
+side-only apart v g = refl
+side-only (joined a) v g = gc-only a v g
+
+side-shared : (a : Side) (v g : ℕ) → in_shared (side_condition a v g) ≡ false
+side-shared apart v g = refl
+side-shared (joined a) v g = gc-shared a v g
+
+side-vm : (a : Side) (u v g : ℕ) → in_vm u (side_condition a v g) ≡ false
+side-vm apart u v g = refl
+side-vm (joined a) u v g = gc-vm a u v g
+
+side-hand : (a : Side) (d v g : ℕ) → in_hand d (side_condition a v g) ≡ false
+side-hand apart d v g = refl
+side-hand (joined a) d v g = gc-hand a d v g
+
+side-hyp : (a : Side) (f v g : ℕ) → hyp_says f (side_condition a v g) ≡ Unmapped
+side-hyp apart f v g = refl
+side-hyp (joined a) f v g = gc-hyp a f v g
+
+side-inside : (a : Side) (v g : ℕ) → is_inside (side_condition a v g) ≡ true
+side-inside apart v g = refl
+side-inside (joined a) v g = gc-inside a v g
+
+side-good : (l : Layout) (a : Side) (v g : ℕ) → v < 64 → g < pages_below l.depth → IsGood l (side_condition a v g)
+side-good l apart v g p q = tt
+side-good l (joined a) v g p q = gc-good l a v g p q
+
+side-page : (a : Side) (v g p : ℕ) (b : State) → side_condition a v g ≡ guest_condition b v p → (p ≡ g) × (a ≡ joined b)
+side-page apart v g p b h = hosts-named b v p h
+side-page (joined a) v g p b h = let k = gc-page a b v g p h in (k.0, ap joined (sym k.1))
+
+side-new : (a : Side) (v f g : ℕ) (e : Entry) → SideFits a f e → (e ≡ Unmapped) ⊎ ((prot : Prot) × (state : State) × (e ≡ leaf prot f state) × (side_condition a v g ≡ guest_condition state v g))
+side-new apart v f g e h = inl h
+side-new (joined a) v f g e h = inr (h.0, a, h.1, refl)
+
+-- the frame that stands at the page
+side-frame : (a : Side) (f q : ℕ) (b : State) (e : Entry) → SideFits a f e → IsLeaf q b e → q ≡ f
+side-frame apart f q b e h k = let bad : Unmapped ≡ leaf k.0 q b = sym h ∙ k.1 in cc
+side-frame (joined a) f q b e h k = ap frame_of (sym k.1 ∙ h.1)
+
+side-move : (l : Layout) (s : Contents) (legal : Legal l s) (v f : ℕ) (e : Entry) (g : ℕ) (e' : Entry) (old new : Side) → SideMove l s legal.condition v f e g e' old new → PageMove l s legal.condition v f e g e' (side_condition new v g)
+side-move l s legal v f e g e' old new m = record {
+  memory = m.memory;
+  page = m.page;
+  alive = m.alive;
+  good = side-good l new v g m.slot m.page;
+  some = side-inside new v g;
+  only_new = side-only new v g;
+  only_old = ap (only v) m.was ∙ side-only old v g;
+  same_shared = ap in_shared m.was ∙ side-shared old v g ∙ sym (side-shared new v g);
+  same_vm = ap (in_vm v) m.was ∙ side-vm old v v g ∙ sym (side-vm new v v g);
+  same_hand = λ d. ap (in_hand d) m.was ∙ side-hand old d v g ∙ sym (side-hand new d v g);
+  no_hand = λ d. side-hand new d v g;
+  same_hyp = ap (hyp_says f) m.was ∙ side-hyp old f v g ∙ sym (side-hyp new f v g);
+  host = m.host;
+  told = m.told;
+  goes = m.goes;
+  old_page = λ p state h. (side-page old v g p state (sym m.was ∙ h)).0;
+  old_frame = λ q state h. side-frame old f q state ((s.guest v).tree.map g) m.stood (legal.maps.guest_has v g q state h);
+  new_page = side-new new v f g e' m.stands;
+  new_has = λ p state h. let k = side-page new v g p state h in (k.0, subst (λ a. SideFits a f e') k.1 m.stands);
+}
+
+-- what the guest's entry tells of the frame
+
+record Named (s : Contents) (condition : ℕ → Condition) (v g : ℕ) (state : State) : Type 0 where
+  named : condition (frame_of ((s.guest v).tree.map g)) ≡ guest_condition state v g
+  is_leaf : IsLeaf (frame_of ((s.guest v).tree.map g)) state ((s.guest v).tree.map g)
+
+leaf-named : (s : Contents) (condition : ℕ → Condition) (v g : ℕ) → (h : IsGuestLeaf condition v g ((s.guest v).tree.map g)) → Named s condition v g h.state
+leaf-named s condition v g h =
+    let frame : frame_of ((s.guest v).tree.map g) ≡ h.frame = ap frame_of h.leaf_is in
+    record { named = ap condition frame ∙ h.named; is_leaf = (h.prot, h.leaf_is ∙ ap (λ n. leaf h.prot n h.state) (sym frame)) }
+
+in-named : (l : Layout) (s : Contents) (legal : Legal l s) (v g : ℕ) (state : State) → is_in state ((s.guest v).tree.map g) ≡ true → Named s legal.condition v g state
+in-named l s legal v g state t = elim (legal.maps.guest v g) [
+  | inl h ↦ let bad : false ≡ true = sym (ap (is_in state) h) ∙ t in cc
+  | inr h ↦ let is : h.state ≡ state = state_eq-same h.state state (sym (ap (is_in state) h.leaf_is) ∙ t) in subst (Named s legal.condition v g) is (leaf-named s legal.condition v g h)
+]
+
+mapped-named : (l : Layout) (s : Contents) (legal : Legal l s) (v g : ℕ) → is_unmapped ((s.guest v).tree.map g) ≡ false → (state : State) × Named s legal.condition v g state
+mapped-named l s legal v g t = elim (legal.maps.guest v g) [
+  | inl h ↦ let bad : true ≡ false = sym (ap is_unmapped h) ∙ t in cc
+  | inr h ↦ (h.state, leaf-named s legal.condition v g h)
+]
+
+named-memory : (l : Layout) (s : Contents) (legal : Legal l s) (f v g : ℕ) (state : State) → legal.condition f ≡ guest_condition state v g → is_memory l f ≡ true
+named-memory l s legal f v g state h = sym (legal.of_layout.inside f) ∙ ap is_inside h ∙ gc-inside state v g
+
+pub good-page : (l : Layout) (g : ℕ) → not (is_good_page l g) ≡ false → g < pages_below l.depth
+good-page l g h = let t : is_good_page l g ≡ true = not-false (is_good_page l g) h in grind (arith, nat_tests)
+
+unmapped-entry : (e : Entry) → is_mapped e ≡ false → e ≡ Unmapped
+unmapped-entry Unmapped h = refl
+unmapped-entry e h = cc
+
+-- a guest of a phase that a call asks isn't Empty
+pub live-alive : (vm : VmId) (g : Guest) → is_guest live vm g ≡ true → g.phase ≢ empty
+live-alive vm g h e = let t = (and-both (phase_eq g.phase live) (g.generation == vm.generation) h).0 in let bad : false ≡ true = sym (ap (λ p. phase_eq p live) e) ∙ t in cc
+
+pub dying-alive : (vm : VmId) (g : Guest) → is_guest dying vm g ≡ true → g.phase ≢ empty
+dying-alive vm g h e = let t = (and-both (phase_eq g.phase dying) (g.generation == vm.generation) h).0 in let bad : false ≡ true = sym (ap (λ p. phase_eq p dying) e) ∙ t in cc
+
+page-advance : (f q g : ℕ) → is_within f 1 q ≡ true → g ≡ g + (q - f)
+page-advance f q g w = let same = one-within f q w in omega arith
+
+module _ (l : Layout) (s : Contents) (legal : Legal l s) (usable : IsUsable l) (cpu v : ℕ) (slot : v < 64) where
+  told-back : (b : Bool) (f d q g : ℕ) → plain_row ≡ told_row d (Some v) (two_pages f (if b then Unmapped else leaf RWX f Owned) g Unmapped) q
+  told-back true f d q g = refl
+  told-back false f d q g = refl
+
+  goes-back : (b : Bool) (f d g : ℕ) → hosts ≡ told_condition d (Some v) (two_pages f (if b then Unmapped else leaf RWX f Owned) g Unmapped)
+  goes-back true f d g = refl
+  goes-back false f d g = refl
+
+  free-is : (f : ℕ) → is_memory l f ≡ true → is_free_page (s.shared.host.map f) ≡ true → legal.condition f ≡ hosts
+  free-is f m h = free-hosts f (legal.condition f) (s.shared.host.map f) (legal.of_layout.inside f ∙ m) (legal.maps.host f) h
+
+  abbrev pub x : Used
+  x = g_of v cpu s
+
+  three : {a b c : Bool} → (a || b || c) ≡ false → (a ≡ false) × (b ≡ false) × (c ≡ false)
+  three {a = false} {b = false} h = (refl, refl, h)
+  three {a = true} h = cc
+  three {a = false} {b = true} h = cc
+
+  module _ (alive : (s.guest v).phase ≢ empty) where
+    pub donate_guest-keeps : (f g : ℕ) → refusal l.depth (donate_guest l (Some v) x f g) false x ≡ None → StepKept l s legal.condition shared_and_guest (Some v) cpu (DonateGuest f g) (donate_guest l (Some v) x f g).changes
+    unfolding used_of
+    donate_guest-keeps f g h =
+        let p = passed l.depth (donate_guest l (Some v) x f g) false x h in
+        let args = or-neither (not (is_memory l f)) (not (is_good_page l g)) p.invalid in
+        let tests = three p.perm in
+        let mem : is_memory l f ≡ true = not-false (is_memory l f) args.0 in
+        let was : legal.condition f ≡ hosts = free-is f mem (not-false (is_free_page (s.shared.host.map f)) tests.1) in
+        let move : SideMove l s legal.condition v f (annotation (2 + v)) g (leaf RWX f Owned) apart (joined Owned) = record {
+          memory = mem;
+          slot = slot;
+          page = good-page l g args.1;
+          alive = alive;
+          was = was;
+          stood = unmapped-entry ((s.guest v).tree.map g) tests.2;
+          stands = (RWX, refl);
+          host = λ q w. refl;
+          told = λ d q w. refl;
+          goes = λ d. refl;
+        } in
+        guest-keeps l s legal usable cpu v (DonateGuest f g) refl (donate_guest l (Some v) x f g).changes f 1 (guests v g)
+        (page-move l s legal usable cpu v _ _ _ f (annotation (2 + v)) g (leaf RWX f Owned) (guests v g) (side-move l s legal v f (annotation (2 + v)) g (leaf RWX f Owned) apart (joined Owned) move) p)
+
+    pub share_guest-keeps : (f g : ℕ) (rights : Prot) → refusal l.depth (share_guest l x f g rights) false x ≡ None → StepKept l s legal.condition shared_and_guest (Some v) cpu (ShareGuest f g rights) (share_guest l x f g rights).changes
+    unfolding used_of
+    share_guest-keeps f g rights h =
+        let p = passed l.depth (share_guest l x f g rights) false x h in
+        let args = or-neither (not (is_memory l f)) (not (is_good_page l g)) p.invalid in
+        let tests = three p.perm in
+        let mem : is_memory l f ≡ true = not-false (is_memory l f) args.0 in
+        let was : legal.condition f ≡ hosts = free-is f mem (not-false (is_free_page (s.shared.host.map f)) tests.1) in
+        let move : SideMove l s legal.condition v f (leaf RWX f SharedOwned) g (leaf rights f SharedBorrowed) apart (joined SharedBorrowed) = record {
+          memory = mem;
+          slot = slot;
+          page = good-page l g args.1;
+          alive = alive;
+          was = was;
+          stood = unmapped-entry ((s.guest v).tree.map g) tests.2;
+          stands = (rights, refl);
+          host = λ q w. advance-leaf RWX f 1 q SharedOwned w;
+          told = λ d q w. ap (λ p. record plain_row { lent = Some (lent_at (2 + v) p) }) (page-advance f q g w);
+          goes = λ d. refl;
+        } in
+        guest-keeps l s legal usable cpu v (ShareGuest f g rights) refl (share_guest l x f g rights).changes f 1 (with_guest v g)
+        (page-move l s legal usable cpu v _ _ _ f (leaf RWX f SharedOwned) g (leaf rights f SharedBorrowed) (with_guest v g) (side-move l s legal v f (leaf RWX f SharedOwned) g (leaf rights f SharedBorrowed) apart (joined SharedBorrowed) move) p)
+
+    pub guest_share_host-keeps : (g : ℕ) → refusal l.depth (guest_share_host l x g) false x ≡ None → StepKept l s legal.condition shared_and_guest (Some v) cpu (GuestShareHost g) (guest_share_host l x g).changes
+    unfolding used_of
+    guest_share_host-keeps g h =
+        let p = passed l.depth (guest_share_host l x g) false x h in
+        let e = (s.guest v).tree.map g in
+        let f = frame_of e in
+        let at = in-named l s legal v g Owned (not-false (is_in Owned e) p.perm) in
+        let move : SideMove l s legal.condition v f (leaf RWX f SharedBorrowed) g (with_state SharedOwned e) (joined Owned) (joined SharedOwned) = record {
+          memory = named-memory l s legal f v g Owned at.named;
+          slot = slot;
+          page = good-page l g p.invalid;
+          alive = alive;
+          was = at.named;
+          stood = at.is_leaf;
+          stands = (at.is_leaf.0, ap (with_state SharedOwned) at.is_leaf.1);
+          host = λ q w. advance-leaf RWX f 1 q SharedBorrowed w;
+          told = λ d q w. ap (λ p. record { owner = record { 0 = 2 + v }; lent = Some (lent_at 0 p); usage = Plain }) (range-advance f 1 q w);
+          goes = λ d. refl;
+        } in
+        guest-keeps l s legal usable cpu v (GuestShareHost g) refl (guest_share_host l x g).changes f 1 (lent_back v g)
+        (page-move l s legal usable cpu v _ _ _ f (leaf RWX f SharedBorrowed) g (with_state SharedOwned e) (lent_back v g) (side-move l s legal v f (leaf RWX f SharedBorrowed) g (with_state SharedOwned e) (joined Owned) (joined SharedOwned) move) p)
+
+    pub guest_unshare_host-keeps : (g : ℕ) → refusal l.depth (guest_unshare_host l (Some v) x g) false x ≡ None → StepKept l s legal.condition shared_and_guest (Some v) cpu (GuestUnshareHost g) (guest_unshare_host l (Some v) x g).changes
+    unfolding used_of
+    guest_unshare_host-keeps g h =
+        let p = passed l.depth (guest_unshare_host l (Some v) x g) false x h in
+        let e = (s.guest v).tree.map g in
+        let f = frame_of e in
+        let at = in-named l s legal v g SharedOwned (not-false (is_in SharedOwned e) p.perm) in
+        let move : SideMove l s legal.condition v f (annotation (2 + v)) g (with_state Owned e) (joined SharedOwned) (joined Owned) = record {
+          memory = named-memory l s legal f v g SharedOwned at.named;
+          slot = slot;
+          page = good-page l g p.invalid;
+          alive = alive;
+          was = at.named;
+          stood = at.is_leaf;
+          stands = (at.is_leaf.0, ap (with_state Owned) at.is_leaf.1);
+          host = λ q w. refl;
+          told = λ d q w. refl;
+          goes = λ d. refl;
+        } in
+        guest-keeps l s legal usable cpu v (GuestUnshareHost g) refl (guest_unshare_host l (Some v) x g).changes f 1 (guests v g)
+        (page-move l s legal usable cpu v _ _ _ f (annotation (2 + v)) g (with_state Owned e) (guests v g) (side-move l s legal v f (annotation (2 + v)) g (with_state Owned e) (joined SharedOwned) (joined Owned) move) p)
+
+  pub unshare_guest-keeps : (vm : VmId) (g : ℕ) → refusal l.depth (unshare_guest l x vm g) false x ≡ None → StepKept l s legal.condition shared_and_guest (Some v) cpu (UnshareGuest vm g) (unshare_guest l x vm g).changes
+  unfolding used_of
+  unshare_guest-keeps vm g h =
+      let p = passed l.depth (unshare_guest l x vm g) false x h in
+      let args = or-neither (nat_le 64 vm.slot) (not (is_good_page l g)) p.invalid in
+      let alive = live-alive vm (s.guest v) (not-false (is_guest live vm (s.guest v)) p.no_vm) in
+      let e = (s.guest v).tree.map g in
+      let f = frame_of e in
+      let at = in-named l s legal v g SharedBorrowed (not-false (is_in SharedBorrowed e) p.perm) in
+      let move : SideMove l s legal.condition v f (leaf RWX f Owned) g Unmapped (joined SharedBorrowed) apart = record {
+        memory = named-memory l s legal f v g SharedBorrowed at.named;
+        slot = slot;
+        page = good-page l g args.1;
+        alive = alive;
+        was = at.named;
+        stood = at.is_leaf;
+        stands = refl;
+        host = λ q w. inr (advance-leaf RWX f 1 q Owned w);
+        told = λ d q w. refl;
+        goes = λ d. refl;
+      } in
+      guest-keeps l s legal usable cpu v (UnshareGuest vm g) refl (unshare_guest l x vm g).changes f 1 hosts
+      (page-move l s legal usable cpu v _ _ _ f (leaf RWX f Owned) g Unmapped hosts (side-move l s legal v f (leaf RWX f Owned) g Unmapped (joined SharedBorrowed) apart move) p)
+
+  -- what the host gets back
+  reclaimed : (b : Bool) (f q : ℕ) → is_within f 1 q ≡ true → HostFits q hosts (advance (if b then Unmapped else leaf RWX f Owned) (q - f))
+  reclaimed true f q w = inl refl
+  reclaimed false f q w = inr (advance-leaf RWX f 1 q Owned w)
+
+  pub reclaim_page-keeps : (vm : VmId) (g : ℕ) → refusal l.depth (reclaim_page l x vm g) false x ≡ None → StepKept l s legal.condition shared_and_guest (Some v) cpu (ReclaimPage vm g) (reclaim_page l x vm g).changes
+  unfolding used_of
+  reclaim_page-keeps vm g h =
+      let p = passed l.depth (reclaim_page l x vm g) false x h in
+      let args = or-neither (nat_le 64 vm.slot) (not (is_good_page l g)) p.invalid in
+      let alive = dying-alive vm (s.guest v) (not-false (is_guest dying vm (s.guest v)) p.no_vm) in
+      let e = (s.guest v).tree.map g in
+      let f = frame_of e in
+      let back = if is_in Owned e then Unmapped else leaf RWX f Owned in
+      let found = mapped-named l s legal v g p.perm in
+      let at = found.1 in
+      let move : SideMove l s legal.condition v f back g Unmapped (joined found.0) apart = record {
+        memory = named-memory l s legal f v g found.0 at.named;
+        slot = slot;
+        page = good-page l g args.1;
+        alive = alive;
+        was = at.named;
+        stood = at.is_leaf;
+        stands = refl;
+        host = λ q w. reclaimed (is_in Owned e) f q w;
+        told = λ d q w. told-back (is_in Owned e) f d q g;
+        goes = λ d. goes-back (is_in Owned e) f d g;
+      } in
+      guest-keeps l s legal usable cpu v (ReclaimPage vm g) refl (reclaim_page l x vm g).changes f 1 hosts
+      (page-move l s legal usable cpu v _ _ _ f back g Unmapped hosts (side-move l s legal v f back g Unmapped (joined found.0) apart move) p)

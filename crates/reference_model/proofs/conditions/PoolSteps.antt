@@ -1,0 +1,365 @@
+-- The made steps that move frames into and out of a guest's pool and root keep the invariant.
+use Rattle.std.proofs.Common.{◌≡◌, ◌≢◌, ℕ, zero, suc, ◌+◌, ◌-◌, ◌*◌, ◌≤◌, ◌<◌, refl, ap, sym, ◌∙◌, subst, arith, inl, inr, [], ◌∷◌, length, mul-le-mul_right}
+use Rattle.std.specs.Prelude.{Bool, true, false, not, ◌&&◌, ◌==◌, nat_lt, unwrap_or, Option, Some, None}
+use Rattle.std.proofs.lemmas.Bool.Decides.{nat_tests}
+use Rattle.descriptor.specs.declared.State.{State}
+use Rattle.descriptor.specs.declared.State.TheVariants.{Owned, SharedOwned, SharedBorrowed}
+use Rattle.reference_model.specs.declared.changes.Ticket.{Ticket}
+use Rattle.reference_model.specs.declared.changes.Stage.{Stage}
+use Rattle.reference_model.specs.declared.changes.Stage.TheVariants.{DyingVm as dying_vm, Finished as finished}
+use Rattle.page_state.specs.declared.entry.Entry.{Entry}
+use Rattle.page_state.specs.declared.entry.Entry.TheVariants.{Unmapped}
+use Rattle.page_state.specs.declared.entry.PageRange.{PageRange}
+use Rattle.page_state.specs.declared.row.Usage.TheVariants.{VmPool}
+use Rattle.page_state.specs.declared.step.Step.TheVariants.{ReclaimPool, FinishGuest}
+use Rattle.page_state.specs.declared.step.VmId.{VmId}
+use Rattle.page_state.specs.declared.step.VmKind.TheVariants.{Plain as PlainVm}
+use Rattle.page_state.specs.Blocks.{first_page, span}
+use Rattle.page_state.specs.Trees.{frames_from, root_tree, Block, Tree, Pool}
+use Rattle.page_state.specs.Counts.{is_one, frame_count}
+use Rattle.page_state.specs.EntryTests.{is_unmapped, leaf}
+use Rattle.page_state.specs.Geometries.{block_pages, pages_below}
+use Rattle.reference_model.specs.GuestRules.{reclaim_pool, finish_guest, is_guest, least}
+use Rattle.reference_model.specs.Changes.{rest}
+use Rattle.page_state.specs.Map.{is_within}
+use Rattle.page_state.specs.Search.{all_below}
+use Rattle.reference_model.specs.State.{Guest, Cpu, Contents, empty, dying, put_at, no_guest}
+use Rattle.page_state.specs.Layouts.{Layout, is_memory}
+use Rattle.reference_model.specs.Owner.{is_frame, is_in_hand}
+use Rattle.reference_model.specs.Parts.{shared_and_guest}
+use Rattle.reference_model.specs.Used.{Used, used_of}
+use Rattle.reference_model.specs.Sound.{Fits}
+use Rattle.reference_model.specs.Step.{refusal, guest_after}
+use Rattle.page_state.specs.Tables.{needs, freed, returned, edited}
+use Rattle.reference_model.specs.Conditions.{Condition, hosts, hyps, guest_condition, GuestFits, Legal, IsUsable, in_shared, in_vm, in_hand, one, table_uses, guest_uses, IsTidy, IsInTree, is_inside, moved_to, SlotsFit, IsGood}
+use Rattle.page_state.proofs.Blocks.{all_from-each, empty_means, is_unmapped-same}
+use Rattle.page_state.proofs.Cases.{by_eq, by_lt}
+use Rattle.page_state.proofs.Common.{both, eq-same, eq-self, eq-made, if-true, if-false, and-both, or-neither, not-false}
+use Rattle.page_state.proofs.Counts.{count_next}
+use Rattle.page_state.proofs.BlockTests.{block-same}
+use Rattle.reference_model.proofs.Frames.{count_blocks-none}
+use Rattle.page_state.proofs.Sizes.{size_some, size_split}
+use Rattle.reference_model.proofs.Steps.{state_of}
+use Rattle.reference_model.proofs.conditions.Tables.{uses_of, uses-put}
+use Rattle.reference_model.proofs.conditions.Moves.{host-moved, hyp-moved, hyp-below, moved-in, moved-out, moved-fact, SameSlots, same-agree, cpu-fact}
+use Rattle.reference_model.proofs.conditions.SharedMoves.{StepKept, no-uses}
+use Rattle.reference_model.proofs.conditions.GuestMoves.{only, g_of, new_guest, new_cpu, GuestMove, guest-fact, guest-keeps}
+use Rattle.reference_model.proofs.conditions.PageSteps.{dying-alive, gc-vm}
+use Rattle.reference_model.proofs.conditions.SharedSteps.{Passed, passed, within-made, one-within, range-in}
+use Rattle.reference_model.proofs.conditions.Slots.{put-fact, slots-turn}
+
+-- counts
+
+pub count-frames : (first n f : ℕ) → frame_count f (frames_from first n) ≡ one (is_within first n f)
+count-frames first zero f = let w : is_within first 0 f ≡ false = grind (arith, nat_tests) in sym (ap one w)
+count-frames first (suc n) f =
+    let next = count_next f first (frames_from (first + 1) n) in
+    let more = count-frames (first + 1) n f in
+    by_eq first f
+    (λ e.
+    let a : is_one first f ≡ 1 = ap one (eq-made first f e) in
+    let b : is_within (first + 1) n f ≡ false = grind (arith, nat_tests) in
+    let c : is_within first (suc n) f ≡ true = within-made first (suc n) f (omega arith) (omega arith) in
+    let d : one (is_within (first + 1) n f) ≡ 0 = ap one b in
+    let z : one (is_within first (suc n) f) ≡ 1 = ap one c in
+    omega arith)
+    (λ ne.
+    let a : is_one first f ≡ 0 = ap one (eq-off first f ne) in
+    let c : is_within first (suc n) f ≡ is_within (first + 1) n f = same-within first n f ne in
+    let z : one (is_within first (suc n) f) ≡ one (is_within (first + 1) n f) = ap one c in
+    omega arith)
+  where
+    eq-off : (a b : ℕ) → (a ≡ b → ⊥) → (a == b) ≡ false
+    eq-off a b h = grind (arith, nat_tests)
+
+    same-within : (a n b : ℕ) → (a ≡ b → ⊥) → is_within a (suc n) b ≡ is_within (a + 1) n b
+    same-within a n b h = elim (both (is_within (a + 1) n b)) [
+      | inl e ↦ let x : is_within a (suc n) b ≡ true = grind (arith, nat_tests) in x ∙ sym e
+      | inr e ↦ let x : is_within a (suc n) b ≡ false = grind (arith, nat_tests) in x ∙ sym e
+    ]
+
+abbrev pub root_block : ℕ → Block
+root_block depth = (depth + 1, 0)
+
+pub root-inside : (depth : ℕ) → IsInTree depth (root_block depth)
+root-inside depth = record { some = omega arith; top = omega arith; index = size_some (depth + 1 - (depth + 1)) }
+
+-- a tree of its root alone uses that frame
+pub root-uses : (depth root f : ℕ) (table : Block → Option ℕ) → ((b : Block) → (b ≡ root_block depth → ⊥) → table b ≡ None) → table (root_block depth) ≡ Some root → uses_of depth table f ≡ is_one root f
+unfolding uses_of
+root-uses depth root f table none h =
+    let put = uses-put depth f (root_block depth) table (λ b. None) (root-inside depth) none in
+    let nothing : uses_of depth (λ b. None) f ≡ 0 = count_blocks-none (depth + 1) (depth + 1) (λ b. is_frame f None) (λ b. refl) in
+    let is : one (is_frame f (table (root_block depth))) ≡ is_one root f = ap (λ o. one (is_frame f o)) h in
+    sum (uses_of depth table f) (uses_of depth (λ b. None) f) (one (is_frame f (table (root_block depth)))) (is_one root f) put nothing is
+  where
+    sum : (a b c d : ℕ) → a + 0 ≡ b + c → b ≡ 0 → c ≡ d → a ≡ d
+    sum a b c d p q r = omega arith
+
+pub root-none : (depth root : ℕ) (b : Block) → (b ≡ root_block depth → ⊥) → (root_tree depth root).table b ≡ None
+root-none depth root b h = elim (both (b.0 == depth + 1 && b.1 == 0)) [
+  | inl e ↦ absurd (let k = and-both (b.0 == depth + 1) (b.1 == 0) e in h (block-same (eq-same b.0 (depth + 1) k.0) (eq-same b.1 0 k.1)))
+  | inr e ↦ if-false (b.0 == depth + 1 && b.1 == 0) (Some root) None e
+]
+
+pub root-here : (depth root : ℕ) → (root_tree depth root).table (root_block depth) ≡ Some root
+root-here depth root = if-true (depth + 1 == depth + 1 && 0 == 0) (Some root) None (go (depth + 1 == depth + 1) (eq-self (depth + 1)))
+  where
+    go : (a : Bool) → a ≡ true → (a && (0 == 0)) ≡ true
+    go true e = refl
+    go false e = cc
+
+pub root-tidy : (depth root : ℕ) → IsTidy depth (root_tree depth root)
+root-tidy depth root = record {
+  inside = λ b f h. subst (IsInTree depth) (sym (at b f h)) (root-inside depth);
+  full = λ b f h low. absurd (let e : b.0 ≡ depth + 1 = ap (λ (x : Block). x.0) (at b f h) in omega arith);
+}
+  where
+    at : (b : Block) (f : ℕ) → (root_tree depth root).table b ≡ Some f → b ≡ root_block depth
+    at b f h = elim (both (b.0 == depth + 1 && b.1 == 0)) [
+      | inl e ↦ let k = and-both (b.0 == depth + 1) (b.1 == 0) e in block-same (eq-same b.0 (depth + 1) k.0) (eq-same b.1 0 k.1)
+      | inr e ↦ let bad : None ≡ Some f = sym (if-false (b.0 == depth + 1 && b.1 == 0) (Some root) None e) ∙ h in cc
+    ]
+
+-- a tidy tree in which nothing is mapped has no table but its root
+pages-of : (depth : ℕ) (b : Block) (i : ℕ) → IsInTree depth b → i < span b → first_page b + i < pages_below depth
+pages-of depth b i inside less =
+    let size : block_pages (depth + 1) ≡ block_pages (depth + 1 - b.0) * block_pages b.0 = size_split (depth + 1) (b.0) inside.top in
+    let up : (b.1 + 1) * block_pages b.0 ≤ block_pages (depth + 1 - b.0) * block_pages b.0 = mul-le-mul_right (block_pages b.0) (let k = inside.index in omega arith) in
+    omega arith
+
+pub bare-tree : (depth : ℕ) (t : Tree) → IsTidy depth t → ((p : ℕ) → p < pages_below depth → t.map p ≡ Unmapped) → (b : Block) → (b ≡ root_block depth → ⊥) → t.table b ≡ None
+bare-tree depth t tidy bare b off = go (t.table b) refl
+  where
+    go : (o : Option ℕ) → t.table b ≡ o → o ≡ None
+    go None h = refl
+    go (Some f) h =
+        let inside = tidy.inside b f h in
+        by_lt b.0 (depth + 1)
+        (λ low. let z : true ≡ false = sym ((empty_means t.map b).1 (λ i less. bare (first_page b + i) (pages-of depth b i inside less))) ∙ tidy.full b f h (omega arith) in cc)
+        (λ high.
+        let top : b.0 ≡ depth + 1 = let k = inside.top in omega arith in
+        let zero-index : b.1 ≡ 0 = let k : b.1 < block_pages (depth + 1 - (depth + 1)) = subst (λ d. b.1 < block_pages (depth + 1 - d)) top inside.index in let z : depth + 1 - (depth + 1) ≡ 0 = omega arith in let m : b.1 < 1 = subst (λ d. b.1 < block_pages d) z k in omega arith in
+        absurd (off (block-same top zero-index)))
+
+-- pools
+
+pool-some : (free : Pool) → (length free == 0) ≡ false → free ≡ least free ∷ rest free
+pool-some [] h = cc
+pool-some (f ∷ fs) h = refl
+
+in_vm-hyps : (v : ℕ) (c : Condition) → in_vm v c ≡ true → c ≡ hyps (VmPool v)
+in_vm-hyps v (hyps (VmPool u)) h = ap (λ n. hyps (VmPool n)) (eq-same u v h)
+in_vm-hyps v c h = cc
+
+one-off : (f q : ℕ) → is_within f 1 q ≡ false → (f == q) ≡ false
+one-off f q w = elim (both (f == q)) [ inr e ↦ e | inl e ↦ (let same : f ≡ q = eq-same f q e in let z : true ≡ false = sym (within-made f 1 q (omega arith) (omega arith)) ∙ w in cc) ]
+
+one-some : (b : Bool) (n : ℕ) → n ≡ one b → 1 ≤ n → b ≡ true
+one-some true n h k = refl
+one-some false n h k = absurd (omega arith)
+
+empty-uses : (depth q f root : ℕ) (g : Guest) → f ≡ root → g.free ≡ [] → ((b : Block) → (b ≡ root_block depth → ⊥) → g.tree.table b ≡ None) → g.tree.table (root_block depth) ≡ Some root → guest_uses depth g q ≡ is_one f q
+unfolding table_uses uses_of
+empty-uses depth q f root g is pool none h =
+    let a = root-uses depth root q g.tree.table none h in
+    let b : frame_count q g.free ≡ 0 = ap (frame_count q) pool in
+    let c : is_one f q ≡ is_one root q = ap (λ n. is_one n q) is in
+    omega arith
+
+named-page : (l : Layout) (a : State) (v p : ℕ) → IsGood l (guest_condition a v p) → p < pages_below l.depth
+named-page l Owned v p h = h.1
+named-page l SharedOwned v p h = h.1
+named-page l SharedBorrowed v p h = h.1
+
+abbrev pub turn : Stage → Option Ticket → Option Ticket
+turn b o = Some (record { vm = elim o [ Some t ↦ t.vm | None ↦ record { slot = 0; generation = 0 } ]; kind = elim o [ Some t ↦ t.kind | None ↦ PlainVm ]; stage = b })
+
+-- the ticket after it goes on to a stage
+pub turned : (o : Option Ticket) (t : Ticket) (b : Stage) → o ≡ Some t → turn b o ≡ Some (record { vm = t.vm; kind = t.kind; stage = b })
+turned o t b h = ap (turn b) h
+
+module _ (l : Layout) (s : Contents) (legal : Legal l s) (usable : IsUsable l) (cpu v : ℕ) (slot : v < 64) where
+  abbrev pub x : Used
+  x = g_of v cpu s
+
+  -- the guest's slot, where its phase stays and the CPU keeps what it has loaded and its ticket
+  pub slots-stay : (g' : Guest) (k' : Cpu) → g'.phase ≡ (s.guest v).phase → g'.generation ≡ (s.guest v).generation → g'.kind ≡ (s.guest v).kind → k'.loaded ≡ (s.cpu cpu).loaded → k'.ticket ≡ (s.cpu cpu).ticket → ((h : PageRange) → k'.hand ≡ Some h → 1 ≤ h.count) → SlotsFit (state_of s.vms s.shared (put_at s.guest v g') (put_at s.cpu cpu k'))
+  unfolding state_of
+  slots-stay g' k' phase generation kind loaded ticket hand =
+      let same : SameSlots s (state_of s.vms s.shared (put_at s.guest v g') (put_at s.cpu cpu k')) = record {
+        slot = λ u. refl;
+        phase = guest-fact (λ u d. d.phase ≡ (s.guest u).phase) s.guest v g' phase (λ u d. refl);
+        generation = guest-fact (λ u d. d.generation ≡ (s.guest u).generation) s.guest v g' generation (λ u d. refl);
+        kind = guest-fact (λ u d. d.kind ≡ (s.guest u).kind) s.guest v g' kind (λ u d. refl);
+        loaded = λ d. cpu-fact (λ (j : Cpu). j.loaded) s.cpu cpu k' d loaded;
+        ticket = λ d. cpu-fact (λ (j : Cpu). j.ticket) s.cpu cpu k' d ticket;
+      } in
+      record { agree = same-agree s _ same legal.slots.agree; few_slots = legal.slots.few_slots; few_vcpus = legal.slots.few_vcpus; some_hand = put-fact (λ c (d : Cpu). (h : PageRange) → d.hand ≡ Some h → 1 ≤ h.count) s.cpu cpu k' hand (λ c e. legal.slots.some_hand c) }
+
+  -- the maps, where a frame that the guest held goes back to the host
+  module _ (f : ℕ) (was : legal.condition f ≡ hyps (VmPool v)) where
+    returned-memory : (q : ℕ) → is_within f 1 q ≡ true → is_memory l q ≡ true
+    returned-memory q w = sym (legal.of_layout.inside q) ∙ ap (λ k. is_inside (legal.condition k)) (sym (one-within f q w)) ∙ ap is_inside was
+
+    at-range : {X : Type 0} (see : Condition → X) (q : ℕ) → is_within f 1 q ≡ true → see (legal.condition q) ≡ see (hyps (VmPool v))
+    at-range see q w = ap (λ k. see (legal.condition k)) (sym (one-within f q w)) ∙ ap see was
+
+    no-leaf : (u p q : ℕ) (state : State) → is_within f 1 q ≡ true → legal.condition q ≡ guest_condition state u p → ⊥
+    no-leaf u p q state w h = let z : true ≡ false = sym (at-range (in_vm v) q w ∙ eq-self v) ∙ ap (in_vm v) h ∙ gc-vm state v u p in cc
+
+    pool-guest : (p : ℕ) (e : Entry) → GuestFits legal.condition v p e → GuestFits (moved_to hosts f 1 legal.condition) v p e
+    pool-guest p e (inl h) = inl h
+    pool-guest p e (inr h) = inr (record {
+      frame = h.frame;
+      prot = h.prot;
+      state = h.state;
+      leaf_is = h.leaf_is;
+      named = elim (both (is_within f 1 h.frame)) [
+        | inl w ↦ absurd (no-leaf v p h.frame h.state w h.named)
+        | inr w ↦ moved-out hosts f 1 legal.condition h.frame w ∙ h.named
+      ];
+    })
+
+    pool-has : (p q : ℕ) (state : State) → moved_to hosts f 1 legal.condition q ≡ guest_condition state v p → legal.condition q ≡ guest_condition state v p
+    pool-has p q state h = elim (both (is_within f 1 q)) [
+      | inl w ↦ absurd (hosts-not state v p (sym (moved-in hosts f 1 legal.condition q w) ∙ h))
+      | inr w ↦ sym (moved-out hosts f 1 legal.condition q w) ∙ h
+    ]
+      where
+        hosts-not : (a : State) (u p : ℕ) → hosts ≡ guest_condition a u p → ⊥
+        hosts-not Owned u p h = cc
+        hosts-not SharedOwned u p h = cc
+        hosts-not SharedBorrowed u p h = cc
+
+  reclaim_pool-move : (vm : VmId) → Passed l.depth (reclaim_pool l x vm) false x → GuestMove l s legal.condition cpu v (reclaim_pool l x vm).changes (least (s.guest v).free) 1 hosts
+  unfolding used_of guest_after edited freed needs returned
+  reclaim_pool-move vm p =
+      let f = least (s.guest v).free in
+      let split = pool-some (s.guest v).free p.perm in
+      let alive = dying-alive vm (s.guest v) (not-false (is_guest dying vm (s.guest v)) p.no_vm) in
+      let next : (q : ℕ) → frame_count q (s.guest v).free ≡ is_one f q + frame_count q (rest (s.guest v).free) = λ q. ap (frame_count q) split ∙ count_next q f (rest (s.guest v).free) in
+      let mine : is_one f f ≡ 1 = ap one (eq-self f) in
+      let old = legal.held.vm v f in
+      let at : in_vm v (legal.condition f) ≡ true = one-some (in_vm v (legal.condition f)) (guest_uses l.depth (s.guest v) f) old (let n = next f in omega arith) in
+      let was : legal.condition f ≡ hyps (VmPool v) = in_vm-hyps v (legal.condition f) at in
+      let all = returned-memory f was in
+      let low = range-in l usable f 1 (omega arith) all in
+      let host_low : f + 1 ≤ pages_below l.depth = omega arith in
+      record {
+        inside = all;
+        good = tt;
+        only_new = refl;
+        only_old = λ q w. at-range f was (only v) q w ∙ eq-self v;
+        same_use = at-range f was in_shared;
+        host = host-moved s.shared.host.map f 1 Unmapped hosts legal.condition (λ q w. inl refl) legal.maps.host;
+        hyp = hyp-moved s.shared.hyp.map f 1 Unmapped hosts legal.condition (λ q w. refl) legal.maps.hyp;
+        hyp_below = hyp-below s.shared.hyp.map f 1 Unmapped legal.maps.hyp_below;
+        touched = λ q. refl;
+        told = λ q w. refl;
+        goes = λ q w m. refl;
+        host_range = host_low;
+        hyp_range = low;
+        enough = p.shared_enough;
+        guest = λ q. pool-guest f was q ((s.guest v).tree.map q) (legal.maps.guest v q);
+        guest_has = λ q w state h. legal.maps.guest_has v q w state (pool-has f was q w state h);
+        held = λ q. pool-held f was q (next q) mine;
+        tidy = legal.trees.guest v;
+        blank = λ k. absurd (alive k);
+        rooted = legal.guest_parts.rooted v;
+        hand = λ d q. ap (λ o. is_in_hand o q) (cpu-fact (λ (j : Cpu). j.hand) s.cpu cpu (new_cpu s cpu (reclaim_pool l x vm).changes) d refl) ∙ legal.held.hand d q ∙ moved-fact (in_hand d) hosts f 1 legal.condition q (at-range f was (in_hand d) q);
+        own_hand = λ d h. cc;
+        slots = slots-stay (new_guest l s v (reclaim_pool l x vm).changes) (new_cpu s cpu (reclaim_pool l x vm).changes) refl refl refl refl refl (legal.slots.some_hand cpu);
+      }
+    where
+      pool-held : (f : ℕ) → legal.condition f ≡ hyps (VmPool v) → (q : ℕ) → frame_count q (s.guest v).free ≡ is_one f q + frame_count q (rest (s.guest v).free) → is_one f f ≡ 1 → frame_count q (rest (s.guest v).free) + table_uses l.depth (s.guest v).tree q ≡ one (in_vm v (moved_to hosts f 1 legal.condition q))
+      pool-held f was q next mine = elim (both (is_within f 1 q)) [
+        | inl w ↦
+            let same : f ≡ q = one-within f q w in
+            let here : is_one f q ≡ 1 = ap (is_one f) (sym same) ∙ mine in
+            let old = legal.held.vm v q in
+            let was-one : one (in_vm v (legal.condition q)) ≡ 1 = ap (λ k. one (in_vm v (legal.condition k))) (sym same) ∙ ap (λ k. one (in_vm v k)) was ∙ ap one (eq-self v) in
+            let now : one (in_vm v (moved_to hosts f 1 legal.condition q)) ≡ 0 = ap (λ k. one (in_vm v k)) (moved-in hosts f 1 legal.condition q w) in
+            omega arith
+        | inr w ↦
+            let ne : (f == q) ≡ false = one-off f q w in let off : is_one f q ≡ 0 = ap one ne in
+            let old = legal.held.vm v q in
+            let now : one (in_vm v (moved_to hosts f 1 legal.condition q)) ≡ one (in_vm v (legal.condition q)) = ap (λ k. one (in_vm v k)) (moved-out hosts f 1 legal.condition q w) in
+            omega arith
+      ]
+
+  pub reclaim_pool-keeps : (vm : VmId) → refusal l.depth (reclaim_pool l x vm) false x ≡ None → StepKept l s legal.condition shared_and_guest (Some v) cpu (ReclaimPool vm) (reclaim_pool l x vm).changes
+  reclaim_pool-keeps vm h = guest-keeps l s legal usable cpu v (ReclaimPool vm) refl (reclaim_pool l x vm).changes (least (s.guest v).free) 1 hosts (reclaim_pool-move vm (passed l.depth (reclaim_pool l x vm) false x h))
+
+  -- finish_guest: the root goes back
+
+  finish_guest-move : (t : Ticket) → (s.cpu cpu).ticket ≡ Some t → t.vm.slot ≡ v → t.stage ≡ dying_vm → Passed l.depth (finish_guest l x) false x → GuestMove l s legal.condition cpu v (finish_guest l x).changes (unwrap_or ((s.guest v).tree.table (l.depth + 1, 0)) 0) 1 hosts
+  unfolding used_of guest_after edited freed needs returned
+  finish_guest-move t has at-slot stage p =
+      let f = unwrap_or ((s.guest v).tree.table (l.depth + 1, 0)) 0 in
+      let fits = legal.slots.agree.tickets.ticket cpu t has in
+      let here : Fits dying_vm (s.vms.slot v).stand (s.guest v).phase = subst (λ u. Fits dying_vm (s.vms.slot u).stand (s.guest u).phase) at-slot (subst (λ g. Fits g (s.vms.slot t.vm.slot).stand (s.guest t.vm.slot).phase) stage fits.fits) in
+      let alive : (s.guest v).phase ≢ empty = λ e. (let z : dying ≡ empty = sym here.1 ∙ e in cc) in
+      let root = legal.guest_parts.rooted v alive in
+      let is : f ≡ root.0 = ap (λ o. unwrap_or o 0) root.1 in
+      let tests = or-neither (not (all_below (pages_below l.depth) (λ g. is_unmapped ((s.guest v).tree.map g)))) (nat_lt 0 (length (s.guest v).free)) p.perm in
+      let bare : (q : ℕ) → q < pages_below l.depth → (s.guest v).tree.map q ≡ Unmapped = λ q less. is_unmapped-same ((s.guest v).tree.map q) (all_from-each 0 (pages_below l.depth) (λ g. is_unmapped ((s.guest v).tree.map g)) (not-false (all_below (pages_below l.depth) (λ g. is_unmapped ((s.guest v).tree.map g))) tests.0) q (omega arith) (omega arith)) in
+      let uses : (q : ℕ) → guest_uses l.depth (s.guest v) q ≡ is_one f q = λ q. empty-uses l.depth q f root.0 (s.guest v) is (no-pool (s.guest v).free tests.1) (bare-tree l.depth (s.guest v).tree (legal.trees.guest v) bare) root.1 in
+      let mine : is_one f f ≡ 1 = ap one (eq-self f) in
+      let at : in_vm v (legal.condition f) ≡ true = one-some (in_vm v (legal.condition f)) (guest_uses l.depth (s.guest v) f) (legal.held.vm v f) (let n = uses f in omega arith) in
+      let was : legal.condition f ≡ hyps (VmPool v) = in_vm-hyps v (legal.condition f) at in
+      let all = returned-memory f was in
+      let low = range-in l usable f 1 (omega arith) all in
+      let host_low : f + 1 ≤ pages_below l.depth = omega arith in
+      let none : (q : ℕ) → one (in_vm v (moved_to hosts f 1 legal.condition q)) ≡ 0 = λ q. none-left f q (uses q) in
+      record {
+        inside = all;
+        good = tt;
+        only_new = refl;
+        only_old = λ q w. at-range f was (only v) q w ∙ eq-self v;
+        same_use = at-range f was in_shared;
+        host = host-moved s.shared.host.map f 1 Unmapped hosts legal.condition (λ q w. inl refl) legal.maps.host;
+        hyp = hyp-moved s.shared.hyp.map f 1 Unmapped hosts legal.condition (λ q w. refl) legal.maps.hyp;
+        hyp_below = hyp-below s.shared.hyp.map f 1 Unmapped legal.maps.hyp_below;
+        touched = λ q. refl;
+        told = λ q w. refl;
+        goes = λ q w m. refl;
+        host_range = host_low;
+        hyp_range = low;
+        enough = p.shared_enough;
+        guest = λ q. inl refl;
+        guest_has = λ q w state h. absurd (unnamed q w state (pool-has f was q w state h) bare);
+        held = λ q. blank-uses q ∙ sym (none q);
+        tidy = record { inside = λ b w h. cc; full = λ b w h. cc };
+        blank = λ k. refl;
+        rooted = λ k. absurd (k refl);
+        hand = λ d q. ap (λ o. is_in_hand o q) (cpu-fact (λ (j : Cpu). j.hand) s.cpu cpu (new_cpu s cpu (finish_guest l x).changes) d refl) ∙ legal.held.hand d q ∙ moved-fact (in_hand d) hosts f 1 legal.condition q (at-range f was (in_hand d) q);
+        own_hand = λ d h. cc;
+        slots = slots-turn s legal.slots cpu v t (new_guest l s v (finish_guest l x).changes) (new_cpu s cpu (finish_guest l x).changes) finished has at-slot (here.0, refl) (λ k. absurd (k refl)) refl (turned (s.cpu cpu).ticket t finished has) (legal.slots.some_hand cpu);
+      }
+    where
+      no-pool : (free : Pool) → nat_lt 0 (length free) ≡ false → free ≡ []
+      no-pool [] h = refl
+      no-pool (g ∷ gs) h = absurd (let z : nat_lt 0 (length (g ∷ gs)) ≡ true = grind (arith, nat_tests) in let w : true ≡ false = sym z ∙ h in cc)
+
+      none-left : (f q : ℕ) → guest_uses l.depth (s.guest v) q ≡ is_one f q → one (in_vm v (moved_to hosts f 1 legal.condition q)) ≡ 0
+      none-left f q uses = elim (both (is_within f 1 q)) [
+        | inl w ↦ ap (λ k. one (in_vm v k)) (moved-in hosts f 1 legal.condition q w)
+        | inr w ↦
+            let ne : (f == q) ≡ false = one-off f q w in
+            let off : is_one f q ≡ 0 = ap one ne in
+            ap (λ k. one (in_vm v k)) (moved-out hosts f 1 legal.condition q w) ∙ sym (legal.held.vm v q) ∙ uses ∙ off
+      ]
+
+      unnamed : (q w : ℕ) (state : State) → legal.condition w ≡ guest_condition state v q → ((p : ℕ) → p < pages_below l.depth → (s.guest v).tree.map p ≡ Unmapped) → ⊥
+      unnamed q w state h bare =
+          let k = legal.maps.guest_has v q w state h in
+          let less = named-page l state v q (subst (IsGood l) h (legal.of_layout.good w)) in
+          let z : Unmapped ≡ leaf k.0 w state = sym (bare q less) ∙ k.1 in
+          cc
+
+      blank-uses : (q : ℕ) → guest_uses l.depth no_guest q ≡ 0
+      blank-uses q = let e = no-uses l.depth q in omega arith
+
+  pub finish_guest-keeps : (t : Ticket) → (s.cpu cpu).ticket ≡ Some t → t.vm.slot ≡ v → t.stage ≡ dying_vm → refusal l.depth (finish_guest l x) false x ≡ None → StepKept l s legal.condition shared_and_guest (Some v) cpu FinishGuest (finish_guest l x).changes
+  finish_guest-keeps t has at stage h = guest-keeps l s legal usable cpu v FinishGuest refl (finish_guest l x).changes (unwrap_or ((s.guest v).tree.table (l.depth + 1, 0)) 0) 1 hosts (finish_guest-move t has at stage (passed l.depth (finish_guest l x) false x h))

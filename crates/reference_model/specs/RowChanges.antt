@@ -1,0 +1,63 @@
+-- The row that a call's changes give to the frames that they touch, told by the changes alone.
+use Rattle.std.specs.Prelude.{ℕ, true, false, ◌+◌, ◌-◌, ◌&&◌, option_map, unwrap_or, Option, Some, None}
+use Rattle.descriptor.specs.declared.State.TheVariants.{SharedOwned, SharedBorrowed}
+use Rattle.reference_model.specs.declared.changes.Changes.{Changes}
+use Rattle.reference_model.specs.declared.changes.Update.{Update}
+use Rattle.reference_model.specs.declared.changes.Update.TheVariants.{Becomes}
+use Rattle.page_state.specs.declared.entry.Entry.{Entry}
+use Rattle.page_state.specs.declared.entry.Entry.TheVariants.{Annotated, Leaf}
+use Rattle.page_state.specs.declared.entry.PageRange.{PageRange}
+use Rattle.page_state.specs.declared.row.Lent.{Lent}
+use Rattle.page_state.specs.declared.row.Row.{Row}
+use Rattle.page_state.specs.declared.row.Usage.{Usage}
+use Rattle.page_state.specs.declared.row.Usage.TheVariants.{Plain, VmPool, InHand}
+use Rattle.reference_model.specs.Changes.{touched}
+use Rattle.reference_model.specs.GuestRules.{guest_owner}
+use Rattle.page_state.specs.Layouts.{Layout, is_memory}
+use Rattle.reference_model.specs.Owner.{lent_at}
+use Rattle.reference_model.specs.State.{plain_row}
+use Rattle.reference_model.specs.Step.{is_touched}
+use Rattle.reference_model.specs.Used.{Used}
+
+-- the use of frames that the hypervisor gets: they are in the hand that the CPU gets, or in none
+abbrev pub use_by : ℕ → Update (Option PageRange) → Usage
+use_by cpu (Becomes (Some hand)) = InHand cpu
+use_by cpu other = Plain
+
+-- the borrower of what the host shares: the hypervisor at its page, or the guest at its page
+abbrev pub borrower : Option ℕ → Changes → Option Lent
+borrower slot h = elim (h.hyp) [
+  | Some c ↦ Some (lent_at 1 c.range.first.0)
+  | None ↦ option_map (λ c. lent_at (guest_owner slot) c.range.first.0) h.guest
+]
+
+-- the row of the first frame, by what the host's page gets
+abbrev pub row_by : ℕ → Option ℕ → Changes → ℕ → Entry → Row
+row_by cpu slot h f (Annotated owner) = record { owner = owner; lent = None; usage = use_by cpu h.cpu.hand }
+row_by cpu slot h f (Leaf frame prot kind SharedOwned) = record plain_row { lent = borrower slot h }
+row_by cpu slot h f (Leaf frame prot kind SharedBorrowed) = record { owner = record { 0 = guest_owner slot }; lent = Some (lent_at 0 f); usage = Plain }
+row_by cpu slot h f other = plain_row
+
+-- the row of the first frame; where the host's map stays, the frames go to the guest's pool
+abbrev pub first_row : ℕ → Option ℕ → Changes → Row
+first_row cpu slot h = elim (h.host) [
+  | Some c ↦ row_by cpu slot h c.range.first.0 c.entry
+  | None ↦ record { owner = record { 0 = 1 }; lent = None; usage = VmPool (unwrap_or slot 0) }
+]
+
+-- a row that advances along a range: the borrower's page does
+abbrev pub advance_row : Row → ℕ → Row
+advance_row r k = record r { lent = option_map (λ (x : Lent). lent_at x.owner.0 (x.page + k)) r.lent }
+
+-- the first frame of a range
+abbrev pub first_of : Option PageRange → ℕ
+first_of None = 0
+first_of (Some r) = r.first.0
+
+-- the row of a touched frame
+abbrev pub told_row : ℕ → Option ℕ → Changes → ℕ → Row
+told_row cpu slot h f = advance_row (first_row cpu slot h) (f - first_of (touched h))
+
+-- what is used with the told rows at the touched range, where that is memory
+unfoldable pub with_told : Layout → ℕ → Option ℕ → Changes → Used → Used
+with_told l cpu slot h x = record x { shared = record x.shared { row = λ f. elim (is_memory l (first_of (touched h)) && is_touched h f) [ true ↦ told_row cpu slot h f | false ↦ x.shared.row f ] } }

@@ -1,0 +1,68 @@
+-- STUDY: what is proved of the invariant.
+use Rattle.std.specs.Prelude.{◌≡◌, ℕ, ◌≤◌, ◌<◌, true, List, Option, Some, None}
+use Rattle.reference_model.specs.State.{Contents, Reference}
+use Rattle.page_state.specs.Layouts.{Layout, is_memory}
+use Rattle.reference_model.specs.Owner.{row_of}
+use Rattle.reference_model.specs.Sound.{Sound}
+use Rattle.page_state.specs.declared.reply.Call.{Call}
+use Rattle.reference_model.specs.Step.{rule_of, fails, made, changed, Steps}
+use Rattle.page_state.specs.declared.step.Step.{Step}
+use Rattle.reference_model.specs.Parts.{names, guest_slot}
+use Rattle.reference_model.specs.Used.{used_of}
+use Rattle.reference_model.specs.RowChanges.{with_told}
+use Rattle.reference_model.specs.Run.{IsRun}
+use Rattle.page_state.specs.Accepted.{IsAcceptedConfig, IsAcceptedLayout}
+use Rattle.page_state.specs.LayoutFaults.{IsAccepted}
+use Rattle.page_state.specs.Regions.{Memory}
+use Rattle.page_state.specs.declared.layout.Config.{Config}
+use Rattle.page_state.specs.Geometries.{geometry_of, levels_below}
+use Rattle.page_state.specs.declared.layout.Geometry.{Geometry}
+use Rattle.reference_model.specs.Boot.{boot, IsCarveEnough, CanBoot}
+use Rattle.reference_model.specs.Conditions.{Legal, IsUsable, row_in}
+
+-- the row of each frame from scratch is that of its condition
+abbrev pub LegalRows : Type 0
+LegalRows = (l : Layout) (s : Contents) (legal : Legal l s) → IsUsable l → (f : ℕ) → row_of l s f ≡ row_in f (legal.condition f)
+
+-- a legal state is sound
+abbrev pub LegalSound : Type 0
+LegalSound = (l : Layout) (s : Contents) → Legal l s → IsUsable l → Sound l s
+
+-- the boot state is legal
+abbrev pub BootLegal : Type 0
+BootLegal = (l : Layout) → IsCarveEnough l → IsUsable l → Legal l (boot l).contents
+
+-- each reference step of a CPU of the layout keeps the invariant
+abbrev pub LegalKeeps : Type 0
+LegalKeeps = (l : Layout) (s t : Reference) (c : Call) → IsUsable l → c.cpu < l.config.cpus → Legal l s.contents → Steps l s c t → Legal l t.contents
+
+-- each state of a run is legal
+abbrev pub RunLegal : Type 0
+RunLegal = (l : Layout) (cs : List Call) (t : Reference) → CanBoot l → IsRun l cs t → Legal l t.contents
+
+-- each state of a run is sound
+abbrev pub RunSound : Type 0
+RunSound = (l : Layout) (cs : List Call) (t : Reference) → CanBoot l → IsRun l cs t → Sound l t.contents
+
+-- and its kept rows are those from scratch
+abbrev pub RunRows : Type 0
+RunRows = (l : Layout) (cs : List Call) (t : Reference) → CanBoot l → IsRun l cs t → (f : ℕ) → is_memory l f ≡ true → t.contents.shared.row f ≡ row_of l t.contents f
+
+-- what is asked of a layout holds of each that is accepted
+abbrev pub AcceptedUsable : Type 0
+AcceptedUsable = (l : Layout) → IsAcceptedLayout l → IsUsable l
+
+-- the depth of an accepted layout is that of its geometry, and its trees have three levels or more
+abbrev pub AcceptedDepth : Type 0
+AcceptedDepth = (l : Layout) (g : Geometry) → IsAcceptedLayout l → geometry_of l.config.geometry ≡ Some g → (l.depth ≡ levels_below g) × (2 ≤ l.depth)
+
+-- accepted memory and an accepted configuration make an accepted layout, whose depth is that of the geometry
+abbrev pub AcceptedMade : Type 0
+AcceptedMade = (m : Memory) (c : Config) (g : Geometry) → IsAccepted m → IsAcceptedConfig c → geometry_of c.geometry ≡ Some g → IsAcceptedLayout (record { memory = m; config = c; depth = levels_below g })
+
+-- what a made step leaves of a legal state is told by its changes, the rows too: each memory frame of the touched range has the told row, which advances
+abbrev pub RowsTold : Type 0
+RowsTold = (l : Layout) (s : Contents) (cpu : ℕ) (slot : Option ℕ) (step : Step) → IsUsable l → cpu < l.config.cpus → Legal l s → slot ≡ guest_slot (s.cpu cpu) step →
+    let x = used_of (names step) slot cpu s in
+    let h = (rule_of l cpu slot step x).changes in
+    fails l cpu slot step x ≡ None → made l cpu slot step x ≡ with_told l cpu slot h (changed l.depth h x)

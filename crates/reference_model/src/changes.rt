@@ -1,0 +1,127 @@
+//! What a call changes on Ok, as data.
+use page_state::{Entry, PageRange, Value, VmId, VmKind};
+
+/// A change of a map: the pages of a range get an entry, which advances along the range.
+#[derive(Clone, Copy, PartialEq, Debug)]
+pub struct MapChange {
+    /// The pages.
+    pub range: PageRange,
+    /// The entry of the first page.
+    pub entry: Entry,
+}
+
+/// What a field becomes.
+#[derive(Clone, Copy, PartialEq, Debug)]
+pub enum Update<T> {
+    /// What it was.
+    Keep,
+    /// This value.
+    Becomes(T),
+}
+
+/// What else than its map changes of the Guest part that a call uses.
+#[derive(Clone, Copy, PartialEq, Debug)]
+pub enum GuestChange {
+    /// Nothing.
+    Keep,
+    /// It becomes Live, with the hand's first frame as its root and the others as its pool.
+    Install {
+        kind: VmKind,
+        generation: u64,
+        hand: PageRange,
+    },
+    /// Its pool gets the frames of the range.
+    Gain(PageRange),
+    /// Its pool loses its lowest frame.
+    LoseLowest,
+    /// It becomes Dying.
+    Die,
+    /// It becomes Empty.
+    Empty,
+}
+
+/// What changes of the slots of the VM part.
+#[derive(Clone, Copy, PartialEq, Debug)]
+pub enum SlotChange {
+    /// Nothing.
+    Keep,
+    /// The slot becomes Reserved for a VM of the kind with so many vCPUs.
+    Reserve { slot: u64, kind: VmKind, vcpus: u64 },
+    /// The slot becomes Open.
+    Open { slot: u64 },
+    /// The slot becomes Closing.
+    Close { slot: u64 },
+    /// The slot becomes Empty, with the generation after the VM's.
+    Release { vm: VmId },
+    /// The CPU has the vCPU loaded.
+    Load { slot: u64, vcpu: u64, cpu: u64 },
+    /// No CPU has the vCPU loaded.
+    Unload { slot: u64, vcpu: u64 },
+}
+
+/// How far a ticket has come.
+#[derive(Clone, Copy, PartialEq, Debug)]
+pub enum Stage {
+    /// The slot is reserved.
+    Booked,
+    /// The guest is Live.
+    Installed,
+    /// The slot is Closing.
+    ClosingVm,
+    /// The guest is Dying.
+    DyingVm,
+    /// The guest is Empty again.
+    Finished,
+}
+
+/// A CPU's ticket: the VM that it is making or ending.
+#[derive(Clone, Copy, PartialEq, Debug)]
+pub struct Ticket {
+    /// The VM.
+    pub vm: VmId,
+    /// Its kind.
+    pub kind: VmKind,
+    /// How far it has come.
+    pub stage: Stage,
+}
+
+/// A vCPU that a CPU has loaded.
+#[derive(Clone, Copy, PartialEq, Debug)]
+pub struct Loaded {
+    /// Its VM.
+    pub vm: VmId,
+    /// Its number there.
+    pub vcpu: u64,
+}
+
+/// What changes of the CPU's own state.
+#[derive(Clone, Copy, PartialEq, Debug)]
+pub struct CpuChange {
+    /// The vCPU that it has loaded.
+    pub loaded: Update<Option<Loaded>>,
+    /// Its hand: a range of funded frames.
+    pub hand: Update<Option<PageRange>>,
+    /// Its ticket.
+    pub ticket: Update<Option<Ticket>>,
+}
+
+/// All that a call changes on Ok, and what it gives.
+#[derive(Clone, Copy, PartialEq, Debug)]
+pub struct Changes {
+    /// The host's map.
+    pub host: Option<MapChange>,
+    /// The hypervisor's map.
+    pub hyp: Option<MapChange>,
+    /// The guest's map.
+    pub guest: Option<MapChange>,
+    /// What else of the guest.
+    pub part: GuestChange,
+    /// The slots of the VM part.
+    pub slot: SlotChange,
+    /// The CPU's own state.
+    pub cpu: CpuChange,
+    /// The frames that change use where the host's map stays.
+    pub moved: Option<PageRange>,
+    /// The value of Ok.
+    pub value: Value,
+}

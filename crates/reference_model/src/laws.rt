@@ -1,0 +1,176 @@
+//! Laws of the reference model. Each function does nothing, and its contract is the law.
+ghost use Rattle.reference_model.specs.Laws.{RefusalKeeps, LogFullKeeps, StepExists, StepOnce, ReplyOnce, EndOnce, PartsEnd, StepChanges, StepReads, StepAgrees, HistoryBegins, HistoryGrows, BootSound};
+ghost use Rattle.reference_model.specs.Answers.{BarredAnswers, CarriedAnswers, AnswerSteps, FullSteps, UsedSteps};
+ghost use Rattle.reference_model.specs.Held.{HistorySteps, CallGrows, HeldStored};
+ghost use Rattle.reference_model.specs.Lives.{MakeRow, NoHandRow, PageRow, EndRow, PoolRow};
+ghost use Rattle.reference_model.specs.RoomLaws.{StoredFalls, RunRooms};
+ghost use Rattle.reference_model.specs.Examples.{NeedRow, SplitRow, RemovalRow, CanBootRow, BootRow, WideBootRow, ShareRow, BesideRow, NearRow, AgainRow, CarveRow, DeviceRow, PastRow, NoFrameRow, OneFrameRow, FullLogRow, FullSharedRow, RoomRow, OwnerRow};
+ghost use Rattle.reference_model.specs.RunLaws.{LegalRows, LegalSound, BootLegal, LegalKeeps, RunLegal, RunSound, RunRows, AcceptedUsable, AcceptedDepth, AcceptedMade, RowsTold};
+ghost use Rattle.reference_model.specs.RowLaws.{LegalRowsTrue, RunRowsTrue, RowOnce};
+ghost use Rattle.reference_model.specs.ConditionChanges.{ConditionOnce, ConditionsMove};
+ghost use Rattle.reference_model.specs.PoolOrder.{RunInOrder};
+ghost use Rattle.reference_model.specs.Bounds.{BoundedKeeps, RunBounded};
+ghost use Rattle.reference_model.specs.Isolation.{Isolated, RunIsolated, OthersKeptOut, RunKeptOut};
+
+/// A step that refuses leaves the state but for the rooms of logs, and with LogFull these too.
+pub fn refusal_keeps()
+    ensures state { RefusalKeeps }
+    ensures log_full { LogFullKeeps }
+{}
+
+/// The reference step is defined for every state and step, and each reply has one next state.
+pub fn step_defined()
+    ensures exists { StepExists }
+    ensures once { StepOnce }
+    ensures reply { ReplyOnce }
+{}
+
+/// Two ends of runs with the same calls and replies are equal, and so are two whose parts are the same.
+pub fn end_once()
+    ensures calls { EndOnce }
+    ensures parts { PartsEnd }
+{}
+
+/// The frame rule: a step reads and changes only the parts that it uses and its CPU's own state.
+pub fn frame_rule()
+    ensures changes { StepChanges }
+    ensures reads { StepReads }
+    ensures agrees { StepAgrees }
+{}
+
+/// What is decided, carried out and stored is a reference step.
+pub fn answers()
+    ensures barred { BarredAnswers }
+    ensures carried { CarriedAnswers }
+    ensures steps { AnswerSteps }
+    ensures full { FullSteps }
+    ensures used { UsedSteps }
+    ensures history { HistorySteps }
+    ensures call { CallGrows }
+    ensures held { HeldStored }
+{}
+
+/// Each stored call lowers just the rooms of its used logs by one, so a log's room is told by its calls.
+pub fn rooms()
+    ensures falls { StoredFalls }
+    ensures told { RunRooms }
+{}
+
+/// One legal history is empty at boot, and grows by each call that leads on from its end and is stored where it is used.
+pub fn history_grows()
+    ensures begins { HistoryBegins }
+    ensures grows { HistoryGrows }
+{}
+
+/// The boot state is sound.
+pub fn boot_sound()
+    ensures { BootSound }
+{}
+
+/// What the definitions answer on worked rows: changes of trees, boots, and shares that are made and refused.
+pub fn worked_rows()
+    ensures need { NeedRow }
+    ensures split { SplitRow }
+    ensures removal { RemovalRow }
+    ensures can_boot { CanBootRow }
+    ensures boot { BootRow }
+    ensures wide_boot { WideBootRow }
+    ensures share { ShareRow }
+    ensures beside { BesideRow }
+    ensures near { NearRow }
+    ensures again { AgainRow }
+    ensures carve { CarveRow }
+    ensures device { DeviceRow }
+    ensures past { PastRow }
+    ensures no_frame { NoFrameRow }
+    ensures one_frame { OneFrameRow }
+    ensures full_log { FullLogRow }
+    ensures full_shared { FullSharedRow }
+    ensures room { RoomRow }
+    ensures owner { OwnerRow }
+{}
+
+/// What the definitions answer on the life of a VM.
+pub fn worked_lives()
+    ensures make { MakeRow }
+    ensures no_hand { NoHandRow }
+    ensures page { PageRow }
+    ensures end { EndRow }
+    ensures pool { PoolRow }
+{}
+
+/// The row of a frame from scratch is that of its condition.
+pub fn legal_rows()
+    ensures { LegalRows }
+{}
+
+/// A legal state is sound.
+pub fn legal_sound()
+    ensures { LegalSound }
+{}
+
+/// The boot state is legal.
+pub fn boot_legal()
+    ensures { BootLegal }
+{}
+
+/// Each reference step keeps the invariant.
+pub fn legal_keeps()
+    ensures { LegalKeeps }
+{}
+
+/// Each state of a run is legal.
+pub fn run_legal()
+    ensures { RunLegal }
+{}
+
+/// Each state of a run is sound, and its kept rows are those from scratch.
+pub fn run_sound()
+    ensures sound { RunSound }
+    ensures rows { RunRows }
+{}
+
+/// What is asked of a layout holds of each that is accepted, and its depth is that of its geometry.
+pub fn accepted_usable()
+    ensures usable { AcceptedUsable }
+    ensures depth { AcceptedDepth }
+    ensures made { AcceptedMade }
+{}
+
+/// The rows that a made step finds again are told by its changes.
+pub fn rows_told()
+    ensures { RowsTold }
+{}
+
+/// No step takes a frame from a Live guest or changes its page, and nobody else maps it but the host while the guest shares it.
+pub fn isolation()
+    ensures isolated { Isolated }
+    ensures run { RunIsolated }
+    ensures kept_out { OthersKeptOut }
+    ensures run_kept_out { RunKeptOut }
+{}
+
+/// The numbers in a state of a run are bounded.
+pub fn bounds()
+    ensures keeps { BoundedKeeps }
+    ensures run { RunBounded }
+{}
+
+/// A kept row says of its frame what is so: who owns it, who borrows it and where, and which place holds it.
+/// No other row does.
+pub fn row_laws()
+    ensures legal { LegalRowsTrue }
+    ensures run { RunRowsTrue }
+    ensures once { RowOnce }
+{}
+
+/// A state determines the condition of each frame, and a made step moves it as its changes tell.
+pub fn conditions()
+    ensures once { ConditionOnce }
+    ensures moved { ConditionsMove }
+{}
+
+/// The free frames of each pool are in order in each state of a run, so that its first are its lowest.
+pub fn pools_in_order()
+    ensures { RunInOrder }
+{}

@@ -1,0 +1,10 @@
+//! The reference model: the state that all parts of the hypervisor's memory core make up, what each call answers and
+//! changes, and the laws of states and runs.
+#![tactic(auto)]
+
+mod changes;
+pub mod laws;
+
+pub use changes::{
+    Changes, CpuChange, GuestChange, Loaded, MapChange, SlotChange, Stage, Ticket, Update,
+};
