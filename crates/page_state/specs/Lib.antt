@@ -9,6 +9,7 @@ pub mod LayoutFaults
 pub mod Layouts
 pub mod Map
 pub mod Regions
+pub mod Rows
 pub mod Runs
 pub mod Search
 pub mod Tables

@@ -13,6 +13,7 @@ use Rattle.page_state.specs.declared.row.Usage.{Usage}
 use Rattle.page_state.specs.declared.row.Usage.TheVariants.{Plain, VmPool, InHand}
 use Rattle.reference_model.specs.Changes.{touched}
 use Rattle.reference_model.specs.GuestRules.{guest_owner}
+use Rattle.page_state.specs.Rows.{advance_row}
 use Rattle.page_state.specs.Layouts.{Layout, is_memory}
 use Rattle.reference_model.specs.Owner.{lent_at}
 use Rattle.reference_model.specs.State.{plain_row}
@@ -44,10 +45,6 @@ first_row cpu slot h = elim (h.host) [
   | Some c ↦ row_by cpu slot h c.range.first.0 c.entry
   | None ↦ record { owner = record { 0 = 1 }; lent = None; usage = VmPool (unwrap_or slot 0) }
 ]
-
--- a row that advances along a range: the borrower's page does
-abbrev pub advance_row : Row → ℕ → Row
-advance_row r k = record r { lent = option_map (λ (x : Lent). lent_at x.owner.0 (x.page + k)) r.lent }
 
 -- the first frame of a range
 abbrev pub first_of : Option PageRange → ℕ

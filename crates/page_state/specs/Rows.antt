@@ -1,0 +1,13 @@
+-- Owner rows along a range of frames.
+use Rattle.std.specs.Prelude.{ℕ, ◌+◌, Option, Some, None}
+use Rattle.page_state.specs.declared.row.Lent.{Lent}
+use Rattle.page_state.specs.declared.row.Row.{Row}
+
+-- a loan so many frames further on: the borrower's page grows with the frame
+abbrev pub advance_lent : Option Lent → ℕ → Option Lent
+advance_lent None n = None
+advance_lent (Some l) n = Some (record { owner = l.owner; page = l.page + n })
+
+-- a row so many frames further on: a loan advances, and all else stays
+abbrev pub advance_row : Row → ℕ → Row
+advance_row r n = record { owner = r.owner; lent = advance_lent r.lent n; usage = r.usage }
