@@ -43,11 +43,28 @@ fn reads_and_writes_pages(rt: HostRuntime) {
         (0x0040_0000_4010_07ff, Prot::RW, State::Owned),
         (0x0140_0000_4010_07ff, Prot::RW, State::SharedBorrowed),
         (0x0100_0000_4010_077f, Prot::RX, State::SharedBorrowed),
+        (0x0140_0000_4010_077f, Prot::R, State::SharedBorrowed),
+        (0x0040_0000_4010_077f, Prot::R, State::Owned),
     ] {
         let desc = leaf(0x40100, prot, Kind::Normal, state);
         assert_eq!(rt; decode(Level::Three, word), desc, "{word:#x}");
         assert_eq!(rt; encode(Level::Three, &desc), Some(word), "{word:#x}");
     }
+}
+
+#[test]
+fn reads_and_writes_device_pages(rt: HostRuntime) {
+    for (word, prot) in [
+        (0x0040_0000_0900_07c7, Prot::RW),
+        (0x0040_0000_0900_0747, Prot::R),
+        (0x0000_0000_0900_07c7, Prot::RWX),
+    ] {
+        let desc = leaf(0x9000, prot, Kind::Device, State::Owned);
+        assert_eq!(rt; decode(Level::Three, word), desc, "{word:#x}");
+        assert_eq!(rt; encode(Level::Three, &desc), Some(word), "{word:#x}");
+    }
+    let block = leaf(0x9000, Prot::RW, Kind::Device, State::Owned);
+    assert_eq!(rt; decode(Level::Two, 0x0040_0000_0900_07c5), block);
 }
 
 #[test]

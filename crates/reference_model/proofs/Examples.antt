@@ -6,24 +6,20 @@ use Rattle.page_state.specs.LayoutFaults.{IsAccepted, AreDisjoint}
 use Rattle.page_state.specs.Map.{is_within}
 use Rattle.page_state.specs.Regions.{end_of}
 use Rattle.page_state.specs.Blocks.{is_one_word, is_empty, blocks_on}
-use Rattle.page_state.specs.Tables.{needs, freed, returned, edited}
-use Rattle.reference_model.specs.Owner.{row_of}
-use Rattle.reference_model.specs.Used.{used_of, put_back, rooms_of, put_rooms}
-use Rattle.reference_model.specs.Rules.{rule}
-use Rattle.reference_model.specs.Step.{stored, is_full, is_short, refusal, shared_after, guest_after, changed, own_row, with_rows, fails, made, answer, predict, foretell}
-use Rattle.reference_model.specs.Boot.{booted}
+use Rattle.page_state.specs.Tables.{needs}
 use Rattle.reference_model.specs.Examples.{layout, NeedRow, SplitRow, RemovalRow, CanBootRow, BootRow, WideBootRow, ShareRow, BesideRow, NearRow, AgainRow, CarveRow, DeviceRow, PastRow, NoFrameRow, OneFrameRow, FullLogRow, FullSharedRow, RoomRow, OwnerRow}
+use Rattle.reference_model.proofs.Foretold.{computing}
 
 pub need_row : NeedRow
-unfolding used_of put_back rooms_of put_rooms stored is_full is_short refusal shared_after guest_after changed own_row with_rows fails made answer predict foretell rule row_of edited needs freed returned is_one_word is_empty blocks_on booted
+unfolding computing
 need_row = (refl, refl, refl, refl)
 
 pub split_row : SplitRow
-unfolding used_of put_back rooms_of put_rooms stored is_full is_short refusal shared_after guest_after changed own_row with_rows fails made answer predict foretell rule row_of edited needs freed returned is_one_word is_empty blocks_on booted
+unfolding computing
 split_row = (refl, refl, refl, refl)
 
 pub removal_row : RemovalRow
-unfolding used_of put_back rooms_of put_rooms stored is_full is_short refusal shared_after guest_after changed own_row with_rows fails made answer predict foretell rule row_of edited needs freed returned is_one_word is_empty blocks_on booted
+unfolding computing
 removal_row = (refl, refl, refl, refl)
 
 -- what holds of two regions
@@ -58,61 +54,61 @@ can_boot_row = (
 )
 
 pub boot_row : BootRow
-unfolding used_of put_back rooms_of put_rooms stored is_full is_short refusal shared_after guest_after changed own_row with_rows fails made answer predict foretell rule row_of edited needs freed returned is_one_word is_empty blocks_on booted
+unfolding computing
 boot_row = refl
 
 pub wide_boot_row : WideBootRow
-unfolding used_of put_back rooms_of put_rooms stored is_full is_short refusal shared_after guest_after changed own_row with_rows fails made answer predict foretell rule row_of edited needs freed returned is_one_word is_empty blocks_on booted
+unfolding computing
 wide_boot_row = refl
 
 pub share_row : ShareRow
-unfolding used_of put_back rooms_of put_rooms stored is_full is_short refusal shared_after guest_after changed own_row with_rows fails made answer predict foretell rule row_of edited needs freed returned is_one_word is_empty blocks_on booted
+unfolding computing
 share_row = (refl, refl, refl, refl)
 
 pub beside_row : BesideRow
-unfolding used_of put_back rooms_of put_rooms stored is_full is_short refusal shared_after guest_after changed own_row with_rows fails made answer predict foretell rule row_of edited needs freed returned is_one_word is_empty blocks_on booted
+unfolding computing
 beside_row = (refl, refl, refl)
 
 pub near_row : NearRow
-unfolding used_of put_back rooms_of put_rooms stored is_full is_short refusal shared_after guest_after changed own_row with_rows fails made answer predict foretell rule row_of edited needs freed returned is_one_word is_empty blocks_on booted
+unfolding computing
 near_row = (refl, refl)
 
 pub again_row : AgainRow
-unfolding used_of put_back rooms_of put_rooms stored is_full is_short refusal shared_after guest_after changed own_row with_rows fails made answer predict foretell rule row_of edited needs freed returned is_one_word is_empty blocks_on booted
+unfolding computing
 again_row = (refl, refl)
 
 pub carve_row : CarveRow
-unfolding used_of put_back rooms_of put_rooms stored is_full is_short refusal shared_after guest_after changed own_row with_rows fails made answer predict foretell rule row_of edited needs freed returned is_one_word is_empty blocks_on booted
+unfolding computing
 carve_row = refl
 
 pub device_row : DeviceRow
-unfolding used_of put_back rooms_of put_rooms stored is_full is_short refusal shared_after guest_after changed own_row with_rows fails made answer predict foretell rule row_of edited needs freed returned is_one_word is_empty blocks_on booted
+unfolding computing
 device_row = refl
 
 pub past_row : PastRow
-unfolding used_of put_back rooms_of put_rooms stored is_full is_short refusal shared_after guest_after changed own_row with_rows fails made answer predict foretell rule row_of edited needs freed returned is_one_word is_empty blocks_on booted
+unfolding computing
 past_row = refl
 
 pub no_frame_row : NoFrameRow
-unfolding used_of put_back rooms_of put_rooms stored is_full is_short refusal shared_after guest_after changed own_row with_rows fails made answer predict foretell rule row_of edited needs freed returned is_one_word is_empty blocks_on booted
+unfolding computing
 no_frame_row = (refl, refl, refl)
 
 pub one_frame_row : OneFrameRow
-unfolding used_of put_back rooms_of put_rooms stored is_full is_short refusal shared_after guest_after changed own_row with_rows fails made answer predict foretell rule row_of edited needs freed returned is_one_word is_empty blocks_on booted
+unfolding computing
 one_frame_row = (refl, refl)
 
 pub full_log_row : FullLogRow
-unfolding used_of put_back rooms_of put_rooms stored is_full is_short refusal shared_after guest_after changed own_row with_rows fails made answer predict foretell rule row_of edited needs freed returned is_one_word is_empty blocks_on booted
+unfolding computing
 full_log_row = refl
 
 pub full_shared_row : FullSharedRow
-unfolding used_of put_back rooms_of put_rooms stored is_full is_short refusal shared_after guest_after changed own_row with_rows fails made answer predict foretell rule row_of edited needs freed returned is_one_word is_empty blocks_on booted
+unfolding computing
 full_shared_row = refl
 
 pub room_row : RoomRow
-unfolding used_of put_back rooms_of put_rooms stored is_full is_short refusal shared_after guest_after changed own_row with_rows fails made answer predict foretell rule row_of edited needs freed returned is_one_word is_empty blocks_on booted
+unfolding computing
 room_row = (refl, refl, refl)
 
 pub owner_row : OwnerRow
-unfolding row_of
+unfolding computing
 owner_row = refl

@@ -1,5 +1,5 @@
 -- The row that a call's changes give to the frames that they touch, told by the changes alone.
-use Rattle.std.specs.Prelude.{ℕ, true, false, ◌+◌, ◌-◌, ◌&&◌, option_map, unwrap_or, Option, Some, None}
+use Rattle.std.specs.Prelude.{ℕ, true, false, ◌-◌, ◌&&◌, option_map, unwrap_or, Option, Some, None}
 use Rattle.descriptor.specs.declared.State.TheVariants.{SharedOwned, SharedBorrowed}
 use Rattle.reference_model.specs.declared.changes.Changes.{Changes}
 use Rattle.reference_model.specs.declared.changes.Update.{Update}

@@ -4,6 +4,7 @@
 
 mod changes;
 pub mod laws;
+pub mod rows;
 
 pub use changes::{
     Changes, CpuChange, GuestChange, Loaded, MapChange, SlotChange, Stage, Ticket, Update,
