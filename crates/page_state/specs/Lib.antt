@@ -7,6 +7,7 @@ pub mod Geometries
 pub mod Laws
 pub mod LayoutFaults
 pub mod Layouts
+pub mod Limits
 pub mod Map
 pub mod Regions
 pub mod Rows

@@ -1,4 +1,5 @@
 //! Laws of the definitions. Each function does nothing, and its contract is the law.
+ghost use Rattle.page_state.specs.Limits.{LargestRow, PastLimitsRow};
 ghost use Rattle.page_state.specs.Laws.{UpdateInside, UpdateOutside, CoarsestOnce, CoarsestOfMap, CoarsestExists, FitsEachWord, OneWordMeans, EmptyMeans, BlocksMeet, BlocksOrdered};
 
 /// An update reads as the advanced entry inside its range, and as the map before outside of it.
@@ -25,4 +26,10 @@ pub fn block_tests()
 pub fn blocks_on_range()
     ensures meet { BlocksMeet }
     ensures ordered { BlocksOrdered }
+{}
+
+/// What acceptance answers at the limits of memory, CPUs and logs, and past them.
+pub fn limits()
+    ensures largest { LargestRow }
+    ensures past { PastLimitsRow }
 {}
