@@ -73,9 +73,9 @@ all_given_one P f (x ∷ xs) h all = elim (cases_lt f x) [
   | inr l ↦ rw (given-behind f x xs l) (All-cons P x (given f xs) (All-head P x xs all) (all_given_one P f xs h (All-tail P x xs all)))
 ]
 
-pub low_frames : (first n : ℕ) → first + n ≤ 2 ^ 36 → All (λ f. f < 2 ^ 36) (frames_from first n)
+pub low_frames : (first n : ℕ) → ((i : ℕ) → i < n → first + i < 2 ^ 36) → All (λ f. f < 2 ^ 36) (frames_from first n)
 low_frames first zero h = All-nil (λ f. f < 2 ^ 36)
-low_frames first (suc n) h = All-cons (λ f. f < 2 ^ 36) first (frames_from (first + 1) n) (omega arith) (low_frames (first + 1) n (omega arith))
+low_frames first (suc n) h = All-cons (λ f. f < 2 ^ 36) first (frames_from (first + 1) n) (omega (arith, h 0 (omega arith))) (low_frames (first + 1) n (λ i l. omega (arith, h (i + 1) (omega arith))))
 
 pub length-frames_from : (first n : ℕ) → length (frames_from first n) ≡ n
 length-frames_from first zero = refl
@@ -93,3 +93,21 @@ back (suc n) low (x ∷ xs) r = ap (given x) (back n (x + 1) xs r.1) ∙ given-l
 
 pub given_back : GivenBack
 given_back n p r = back n 0 p (rise p r)
+
+-- the frames of a rising list are above what it rises from
+above : (x low : ℕ) (xs : Pool) → x < low → Rise low xs → All (λ g. x < g) xs
+above x low [] l r = All-nil (λ g. x < g)
+above x low (y ∷ ys) l r = All-cons (λ g. x < g) y ys (omega (arith, r.0)) (above x (y + 1) ys (omega (arith, r.0)) r.1)
+
+-- the first frame is the least
+pub least_first : (x : ℕ) (xs : Pool) → IsStrictlyIncreasing (x ∷ xs) → All (λ g. x < g) xs
+least_first x xs r = above x (x + 1) xs (omega arith) (rise (x ∷ xs) r).1
+
+least_front : (n low : ℕ) (p : Pool) → Rise low p → All (λ f. All (λ g. f < g) (drop n p)) (take n p)
+least_front zero low p r = All-nil (λ f. All (λ g. f < g) p)
+least_front (suc n) low [] r = All-nil (λ f. All (λ g. f < g) [])
+least_front (suc n) low (x ∷ xs) r = All-cons (λ f. All (λ g. f < g) (drop n xs)) x (take n xs) (above x (x + 1) (drop n xs) (omega arith) (rise_drop n (x + 1) xs r.1)) (least_front n (x + 1) xs r.1)
+
+-- the first frames are below all others
+pub least_taken : (n : ℕ) (p : Pool) → IsStrictlyIncreasing p → All (λ f. All (λ g. f < g) (drop n p)) (take n p)
+least_taken n p r = least_front n 0 p (rise p r)
