@@ -1,9 +1,9 @@
 -- Frames in increasing order.
-use Rattle.std.proofs.Common.{◌≡◌, ℕ, zero, suc, ◌+◌, ◌^◌, ◌<◌, ◌≤◌, [], ◌∷◌, length, drop, refl, ap, ◌∙◌, arith, inl, inr, add-one}
+use Rattle.std.proofs.Common.{◌≡◌, ℕ, zero, suc, ◌+◌, ◌<◌, ◌≤◌, [], ◌∷◌, length, drop, refl, ap, ◌∙◌, arith, inl, inr, add-one}
 use Rattle.std.specs.Prelude.{Contains, All, take}
 use Rattle.std.specs.List.Sorted.{IsStrictlyIncreasing}
 use Rattle.std.proofs.lemmas.Bool.{cases_lt, cases_eq}
-use Rattle.std.proofs.lemmas.List.Elements.{All-nil, All-cons, All-head, All-tail}
+use Rattle.std.proofs.lemmas.List.Elements.{All-nil, All-cons}
 use Rattle.page_state.specs.State.{Pool}
 use Rattle.page_state.specs.Boot.{frames_from}
 use Rattle.page_state.specs.Tables.{given, all_given}
@@ -64,18 +64,6 @@ rise_frames first (suc n) = (omega arith, rise_frames (first + 1) n)
 
 pub rising_frames : (first n : ℕ) → IsStrictlyIncreasing (frames_from first n)
 rising_frames first n = rising first (frames_from first n) (rise_frames first n)
-
--- what holds of each frame, and of the given one
-pub all_given_one : (P : ℕ → Type 0) (f : ℕ) (xs : Pool) → P f → All P xs → All P (given f xs)
-all_given_one P f [] h all = All-cons P f [] h all
-all_given_one P f (x ∷ xs) h all = elim (cases_lt f x) [
-  | inl l ↦ rw (given-front f x xs l) (All-cons P f (x ∷ xs) h all)
-  | inr l ↦ rw (given-behind f x xs l) (All-cons P x (given f xs) (All-head P x xs all) (all_given_one P f xs h (All-tail P x xs all)))
-]
-
-pub low_frames : (first n : ℕ) → ((i : ℕ) → i < n → first + i < 2 ^ 36) → All (λ f. f < 2 ^ 36) (frames_from first n)
-low_frames first zero h = All-nil (λ f. f < 2 ^ 36)
-low_frames first (suc n) h = All-cons (λ f. f < 2 ^ 36) first (frames_from (first + 1) n) (omega (arith, h 0 (omega arith))) (low_frames (first + 1) n (λ i l. omega (arith, h (i + 1) (omega arith))))
 
 pub length-frames_from : (first n : ℕ) → length (frames_from first n) ≡ n
 length-frames_from first zero = refl

@@ -91,7 +91,6 @@ impl Pool {
     /// The free frames, the lowest first.
     pub fn frames(&self) -> Frames<'_>
         ensures value { numbers result ≡ self.now.frames }
-        ensures low { All (λ f. f.0 < 2 ^ 36) result }
         ensures pool { IsPool self.now }
     {
         Frames::new(self.frames.as_slice())
@@ -103,7 +102,6 @@ impl Pool {
         ensures least { IfSome result (λ f. All (λ other. f.0 < other) self.new.frames) }
         ensures none { IfNone result (self.new.frames ≡ []) }
         ensures room { self.new.room ≡ self.old.room }
-        ensures low { IfSome result (λ f. f.0 < 2 ^ 36) }
         ensures pool { IsPool self.new }
     {
         self.frames.pop()
@@ -120,7 +118,6 @@ impl Pool {
         ensures nothing { n ≡ 0 → IsOk result }
         ensures err { OnErr result (self.new ≡ self.old) }
         ensures room { self.new.room ≡ self.old.room }
-        ensures low { IfOk result (λ v. All (λ f. f.0 < 2 ^ 36) v.items) }
         ensures was { IsPool self.old }
         ensures pool { IsPool self.new }
     {
@@ -152,7 +149,6 @@ impl Pool {
     pub fn give(&mut self, frame: Frame)
         requires new { ¬ Contains self.old.frames frame.0 }
         requires room { length self.old.frames < self.old.room }
-        requires low { frame.0 < 2 ^ 36 }
         ensures frames { self.new.frames ≡ given frame.0 self.old.frames }
         ensures room { self.new.room ≡ self.old.room }
         ensures pool { IsPool self.new }

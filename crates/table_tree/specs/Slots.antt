@@ -3,14 +3,14 @@ use Rattle.std.specs.Prelude.{ℕ, zero, suc, Option, None}
 use Rattle.page_state.specs.declared.entry.Entry.{Entry}
 use Rattle.page_state.specs.declared.entry.Entry.TheVariants.{Malformed}
 use Rattle.table_tree.specs.declared.table.Slot.{Slot}
-use Rattle.table_tree.specs.Meaning.{frame_of, slot_case, word_entry, entry_at}
-use Rattle.table_tree.specs.Shape.{IsEntryWord, IsTableFrame, IsShaped, MeetsSlot}
+use Rattle.table_tree.specs.Meaning.{slot_case, word_entry, entry_at}
+use Rattle.table_tree.specs.Shape.{IsEntryWord, IsShaped, MeetsSlot}
 use Rattle.table_tree.specs.Tables.{tables_in, uses_in, table_in}
 
 -- a slot of a table of a tree
 unfoldable pub IsSlot : {A : Type 0} → ℕ → Slot A → Type 0
 IsSlot zero s = MeetsSlot (IsEntryWord zero) (λ _. ⊥) s
-IsSlot (suc depth) s = MeetsSlot (IsEntryWord (suc depth)) (λ c. IsTableFrame (frame_of c) × IsShaped depth c) s
+IsSlot (suc depth) s = MeetsSlot (IsEntryWord (suc depth)) (λ c. IsShaped depth c) s
 
 -- what a slot of a table gives a page
 unfoldable pub slot_entry : {A : Type 0} → ℕ → Slot A → ℕ → Entry

@@ -5,7 +5,7 @@ ghost use Rattle.page_state.specs.Entries.{advance, word_of_entry};
 ghost use Rattle.page_state.specs.Geometries.{block_pages};
 ghost use Rattle.page_state.specs.Counts.{frame_count};
 ghost use Rattle.table_tree.specs.Meaning.{IsDepth, level_at, word_entry, entry_at, word_at, slot_word, slot_at, slots_of, frame_of};
-ghost use Rattle.table_tree.specs.Shape.{IsWide, IsShaped, IsBlank, IsEntryWord, IsTableFrame, HoldsWord};
+ghost use Rattle.table_tree.specs.Shape.{IsWide, IsShaped, IsBlank, IsEntryWord, HoldsWord};
 ghost use Rattle.table_tree.specs.Tables.{tables_in, uses_in, table_in, count_of};
 ghost use Rattle.table_tree.specs.Slots.{IsSlot, fresh};
 ghost use Rattle.table_tree.specs.Stocks.{frames_of};
@@ -34,7 +34,7 @@ fn word_in_slot<A: Allocator>(slot: &Slot<A>, depth: u32) -> u64
 {
     match slot {
         Slot::Word(word) => *word,
-        Slot::Child(child) => child.frame().0 * 4096 + 3,
+        Slot::Child(child) => child.frame().0 % (1 << 36) * 4096 + 3,
     }
 }
 
