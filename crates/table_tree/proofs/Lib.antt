@@ -12,3 +12,5 @@ pub mod Said
 pub mod Chains
 pub mod Tight
 pub mod Changes
+pub mod Joined
+pub mod AllFrames

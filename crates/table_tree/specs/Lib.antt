@@ -9,3 +9,4 @@ pub mod Slots
 pub mod Changes
 pub mod Tight
 pub mod Said
+pub mod AllBlocks

@@ -1,5 +1,5 @@
 //! A tree: its root table, and how many levels are below it.
-ghost use Rattle.std.specs.Prelude.{◌≡◌, ℕ, ◌+◌, ◌<◌, ◌==◌, ◌&&◌, ◌↔◌, length, if◌then◌else◌, Some, None, IsSome, IfSome, IfOk, IfErr};
+ghost use Rattle.std.specs.Prelude.{◌≡◌, ℕ, ◌+◌, ◌<◌, ◌==◌, ◌&&◌, ◌↔◌, length, map, slice_get, if◌then◌else◌, Some, None, IsSome, IfSome, IfOk, IfErr};
 ghost use Rattle.page_state.specs.Map.{empty_map};
 ghost use Rattle.page_state.specs.Geometries.{levels_below};
 ghost use Rattle.page_state.specs.Counts.{is_one};
@@ -35,6 +35,7 @@ fn depth_of(geometry: Geometry) -> u32
 
 impl<A: Allocator> Tree<A> {
     ghost use Rattle.table_tree.specs.View.{meaning, word_of as word_at_path, table_at, uses, tables_of, root_of, tree_of};
+    ghost use Rattle.table_tree.specs.AllBlocks.{table_count, table_frames};
     ghost use Rattle.table_tree.specs.Said.{block_of, HasWord, IsWordOf, IsRunOrTable};
 
     /// A tree of one table, with nothing mapped.
@@ -50,8 +51,10 @@ impl<A: Allocator> Tree<A> {
         Ok(Tree { geometry, table })
     }
 
+    /// The frame of the root's table, which stands at the block of all input pages.
     pub fn root(&self) -> Frame
-        ensures { result.0 ≡ root_of self.now }
+        ensures value { result.0 ≡ root_of self.now }
+        ensures standing { (tree_of self.now).table (levels_below self.now.geometry + 1, 0) ≡ Some result.0 }
     {
         self.table.frame()
     }
@@ -84,15 +87,18 @@ impl<A: Allocator> Tree<A> {
         word_in(&self.table, depth_of(self.geometry), path.as_slice())
     }
 
-    /// The number of tables.
+    /// The number of tables: that of the blocks that have one.
     pub fn tables(&self) -> usize
-        ensures { result ≡ tables_of self.now }
+        ensures value { result ≡ tables_of self.now }
+        ensures count { result ≡ table_count self.now.geometry (tree_of self.now) }
     {
         count_in(&self.table, depth_of(self.geometry))
     }
 
-    /// The frames of all tables, the root's first, of a tree that goes.
+    /// The frames of all tables of a tree that goes: those that stand at its blocks, in their order, the root's first.
     pub fn dismantle(self, alloc: Global) -> Result<Vec<Frame>, (Tree<A>, AllocError)>
+        ensures frames { IfOk result (λ v. map (λ f. f.0) v.items ≡ table_frames self.geometry (tree_of self)) }
+        ensures root { IfOk result (λ v. slice_get (map (λ f. f.0) v.items) 0 ≡ Some (root_of self)) }
         ensures uses { IfOk result (λ v. (f : ℕ) → count_of f v.items ≡ uses self f) }
         ensures len { IfOk result (λ v. length v.items ≡ tables_of self) }
         ensures refused { IfErr result (λ e. e.0 ≡ self) }
