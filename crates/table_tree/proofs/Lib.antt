@@ -14,3 +14,4 @@ pub mod Tight
 pub mod Changes
 pub mod Joined
 pub mod AllFrames
+pub mod OnPage

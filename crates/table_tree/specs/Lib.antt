@@ -10,3 +10,4 @@ pub mod Changes
 pub mod Tight
 pub mod Said
 pub mod AllBlocks
+pub mod OnPage

@@ -28,3 +28,7 @@ returns-in-Ok-clause-frames g c =
 
 pub returns-in-Ok-clause-root : goal.returns-in-Ok-clause-root
 returns-in-Ok-clause-root g c = rw (returns-in-Ok-clause-frames g c) (root_first c.args.self)
+
+pub returns-in-Ok-clause-distinct : goal.returns-in-Ok-clause-distinct
+unfolding uses
+returns-in-Ok-clause-distinct g c f = omega (arith, returns-in-Ok-clause-uses g c f, c.args.self.distinct f)
