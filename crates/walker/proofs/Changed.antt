@@ -19,8 +19,8 @@ use Rattle.table_tree.specs.Meaning.{entry_at, frame_of}
 use Rattle.table_tree.specs.Tables.{tables_in, uses_in, table_in, AreDistinct}
 use Rattle.table_tree.specs.View.{tree_of, meaning, table_at, uses, tables_of, root_of}
 use Rattle.walk_plan.specs.declared.change.Change.{Change}
-use Rattle.walk_plan.specs.Changes.{table_need}
-use Rattle.walk_plan.specs.Ranks.{table_gone}
+use Rattle.walk_plan.specs.inner.Needs.{table_need}
+use Rattle.walk_plan.specs.inner.Ranks.{table_gone}
 use Rattle.walk_plan.proofs.Needed.{need_walked}
 use Rattle.walk_plan.proofs.Edited.{IsWalked, tree_edited}
 use Rattle.walk_plan.proofs.Gone.{gone_returned}

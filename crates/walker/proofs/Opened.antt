@@ -29,12 +29,13 @@ use Rattle.table_tree.proofs.Standing.{table_top}
 use Rattle.table_tree.proofs.Words.{zero_said}
 use Rattle.table_tree.proofs.Sums.{fresh_word, fresh_child}
 use Rattle.walk_plan.specs.declared.change.Change.{Change}
-use Rattle.walk_plan.specs.Changes.{IsRangeEntry, IsChange, changed, is_whole, is_one_word, block_need}
-use Rattle.walk_plan.specs.Ranks.{given, later, block_rank, parts_rank, slot_rank}
+use Rattle.walk_plan.specs.Changes.{IsRangeEntry, IsChange, changed, is_whole, is_one_word}
+use Rattle.walk_plan.specs.inner.Needs.{block_need}
+use Rattle.walk_plan.specs.inner.Ranks.{given, later, block_rank, parts_rank, slot_rank}
 use Rattle.walk_plan.proofs.Ranges.{block_one, block_split, slot_word, slot_child}
 use Rattle.walk_plan.proofs.Seen.{seen_deep}
 use Rattle.walk_plan.proofs.Ranked.{rank_child}
-use Rattle.walker.specs.Steps.{IsRewritten, IsOpening, IsFilled, IsReady, IsOpened}
+use Rattle.walker.specs.inner.Steps.{IsRewritten, IsOpening, IsFilled, IsReady, IsOpened}
 use Rattle.walker.proofs.Maps.{changed_in, changed_before, changed_after, changed_at}
 use Rattle.walker.proofs.Ranks.{given_later, given_some, block_rank_one, block_rank_split, slot_rank_word}
 use Rattle.walker.proofs.Parts.{parts_need, parts_ranked, parts_gone, gone_word, gone_child}

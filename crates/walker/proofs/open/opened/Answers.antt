@@ -5,7 +5,7 @@ use Rattle.table_tree.specs.Stocks.{frames_of}
 use Rattle.table_tree.specs.Tight.{IsTight}
 use Rattle.table_tree.proofs.Slots.{shaped_wide}
 use Rattle.table_tree.proofs.Sums.{fresh_word}
-use Rattle.walker.specs.Steps.{IsOpened}
+use Rattle.walker.specs.inner.Steps.{IsOpened}
 use Rattle.walker.proofs.Opened.{popped_some, opened_word, opened_child}
 use Rattle.walker.proofs.open.opened.Goals as goal
 

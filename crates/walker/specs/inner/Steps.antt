@@ -16,8 +16,9 @@ use Rattle.table_tree.specs.Slots.{fresh}
 use Rattle.table_tree.specs.Tables.{tables_in, uses_in, table_in}
 use Rattle.table_tree.specs.Tight.{IsTight}
 use Rattle.walk_plan.specs.declared.change.Change.{Change}
-use Rattle.walk_plan.specs.Changes.{IsChange, changed, is_one_word, slot_need, table_need}
-use Rattle.walk_plan.specs.Ranks.{given, slot_rank, table_rank, slot_gone, table_gone}
+use Rattle.walk_plan.specs.Changes.{IsChange, changed, is_one_word}
+use Rattle.walk_plan.specs.inner.Needs.{slot_need, table_need}
+use Rattle.walk_plan.specs.inner.Ranks.{given, slot_rank, table_rank, slot_gone, table_gone}
 
 -- a slot holds the word that gives part `k` of a block whose first page has the entry `x`
 unfoldable pub IsPart : {A : Type 0} → ℕ → Entry → ℕ → Slot A → Type 0
