@@ -1,9 +1,9 @@
 -- Frames in increasing order.
-use Rattle.std.proofs.Common.{◌≡◌, ℕ, zero, suc, ◌+◌, ◌^◌, ◌<◌, ◌≤◌, [], ◌∷◌, length, drop, refl, ap, ◌∙◌, arith, inl, inr, add-one}
+use Rattle.std.proofs.Common.{◌≡◌, ℕ, zero, suc, ◌+◌, ◌<◌, ◌≤◌, [], ◌∷◌, length, drop, refl, ap, ◌∙◌, arith, inl, inr, add-one}
 use Rattle.std.specs.Prelude.{Contains, All, take}
 use Rattle.std.specs.List.Sorted.{IsStrictlyIncreasing}
 use Rattle.std.proofs.lemmas.Bool.{cases_lt, cases_eq}
-use Rattle.std.proofs.lemmas.List.Elements.{All-nil, All-cons, All-head, All-tail}
+use Rattle.std.proofs.lemmas.List.Elements.{All-nil, All-cons}
 use Rattle.page_state.specs.Trees.{Pool, frames_from}
 use Rattle.page_state.specs.Tables.{given, all_given}
 use Rattle.hyp_pool.specs.Laws.{GivenBack}
@@ -64,18 +64,6 @@ rise_frames first (suc n) = (omega arith, rise_frames (first + 1) n)
 pub rising_frames : (first n : ℕ) → IsStrictlyIncreasing (frames_from first n)
 rising_frames first n = rising first (frames_from first n) (rise_frames first n)
 
--- what holds of each frame, and of the given one
-pub all_given_one : (P : ℕ → Type 0) (f : ℕ) (xs : Pool) → P f → All P xs → All P (given f xs)
-all_given_one P f [] h all = All-cons P f [] h all
-all_given_one P f (x ∷ xs) h all = elim (cases_lt f x) [
-  | inl l ↦ rw (given-front f x xs l) (All-cons P f (x ∷ xs) h all)
-  | inr l ↦ rw (given-behind f x xs l) (All-cons P x (given f xs) (All-head P x xs all) (all_given_one P f xs h (All-tail P x xs all)))
-]
-
-pub low_frames : (first n : ℕ) → first + n ≤ 2 ^ 36 → All (λ f. f < 2 ^ 36) (frames_from first n)
-low_frames first zero h = All-nil (λ f. f < 2 ^ 36)
-low_frames first (suc n) h = All-cons (λ f. f < 2 ^ 36) first (frames_from (first + 1) n) (omega arith) (low_frames (first + 1) n (omega arith))
-
 pub length-frames_from : (first n : ℕ) → length (frames_from first n) ≡ n
 length-frames_from first zero = refl
 length-frames_from first (suc n) = ap (λ k. suc k) (length-frames_from (first + 1) n)
@@ -92,3 +80,21 @@ back (suc n) low (x ∷ xs) r = ap (given x) (back n (x + 1) xs r.1) ∙ given-l
 
 pub given_back : GivenBack
 given_back n p r = back n 0 p (rise p r)
+
+-- the frames of a rising list are above what it rises from
+above : (x low : ℕ) (xs : Pool) → x < low → Rise low xs → All (λ g. x < g) xs
+above x low [] l r = All-nil (λ g. x < g)
+above x low (y ∷ ys) l r = All-cons (λ g. x < g) y ys (omega (arith, r.0)) (above x (y + 1) ys (omega (arith, r.0)) r.1)
+
+-- the first frame is the least
+pub least_first : (x : ℕ) (xs : Pool) → IsStrictlyIncreasing (x ∷ xs) → All (λ g. x < g) xs
+least_first x xs r = above x (x + 1) xs (omega arith) (rise (x ∷ xs) r).1
+
+least_front : (n low : ℕ) (p : Pool) → Rise low p → All (λ f. All (λ g. f < g) (drop n p)) (take n p)
+least_front zero low p r = All-nil (λ f. All (λ g. f < g) p)
+least_front (suc n) low [] r = All-nil (λ f. All (λ g. f < g) [])
+least_front (suc n) low (x ∷ xs) r = All-cons (λ f. All (λ g. f < g) (drop n xs)) x (take n xs) (above x (x + 1) (drop n xs) (omega arith) (rise_drop n (x + 1) xs r.1)) (least_front n (x + 1) xs r.1)
+
+-- the first frames are below all others
+pub least_taken : (n : ℕ) (p : Pool) → IsStrictlyIncreasing p → All (λ f. All (λ g. f < g) (drop n p)) (take n p)
+least_taken n p r = least_front n 0 p (rise p r)

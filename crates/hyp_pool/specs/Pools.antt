@@ -1,5 +1,5 @@
 -- Pools of frames.
-use Rattle.std.specs.Prelude.{ℕ, ◌^◌, ◌<◌, ◌≤◌, List, length, map, reverse, All}
+use Rattle.std.specs.Prelude.{ℕ, ◌≤◌, List, length, map, reverse}
 use Rattle.std.specs.List.Sorted.{IsStrictlyIncreasing}
 use Rattle.page_state.specs.declared.Frame.{Frame}
 use Rattle.page_state.specs.Trees.{Pool}
@@ -12,7 +12,6 @@ pub record Stored : Type 0 where
 -- what holds of every pool
 pub record IsPool (p : Stored) : Type 0 where
   pub rising : IsStrictlyIncreasing p.frames
-  pub low : All (λ f. f < 2 ^ 36) p.frames
   pub covered : length p.frames ≤ p.room
 
 -- the numbers of frames

@@ -1,7 +1,7 @@
 //! Pools of frames: the free frames, of which the lowest are taken first, and the room for frames that come back.
 #![tactic(auto)]
 
-ghost use Rattle.std.specs.Prelude.{◌≡◌, ◌+◌, ◌-◌, ◌^◌, ◌<◌, ◌≤◌, ◌↔◌, [], ◌∷◌, length, take, drop, reverse, max, vec_len, All, Contains, IsOk, IfOk, OnOk, OnErr, IfSome, IfNone, MatchOption};
+ghost use Rattle.std.specs.Prelude.{◌≡◌, ℕ, ◌+◌, ◌-◌, ◌^◌, ◌<◌, ◌≤◌, ◌↔◌, [], ◌∷◌, length, take, drop, reverse, max, vec_len, All, Contains, IsOk, IfOk, OnOk, OnErr, IfSome, IfNone, MatchOption};
 ghost use Rattle.std.specs.Vec.{vec_capacity};
 ghost use Rattle.page_state.specs.Trees.{frames_from};
 ghost use Rattle.page_state.specs.Tables.{given};
@@ -58,9 +58,9 @@ impl Model for Pool {
 }
 
 impl Pool {
-    /// A pool of the `n` frames from `first` on, with room for as many.
+    /// A pool of the `n` frames from `first` on, with room for as many. It asks that all of them are below 2^36.
     pub fn of(alloc: Global, first: Frame, n: usize) -> Result<Pool, AllocError>
-        requires { first.0 + n ≤ 2 ^ 36 }
+        requires { (i : ℕ) → i < n → first.0 + i < 2 ^ 36 }
         ensures frames { IfOk result (λ pool. pool.frames ≡ frames_from first.0 n) }
         ensures room { IfOk result (λ pool. pool.room ≡ n) }
         ensures pool { IfOk result IsPool }
@@ -91,18 +91,17 @@ impl Pool {
     /// The free frames, the lowest first.
     pub fn frames(&self) -> Frames<'_>
         ensures value { numbers result ≡ self.now.frames }
-        ensures low { All (λ f. f.0 < 2 ^ 36) result }
         ensures pool { IsPool self.now }
     {
         Frames::new(self.frames.as_slice())
     }
 
-    /// Takes the lowest frame.
+    /// Takes the least frame: every other is greater.
     pub fn take(&mut self) -> Option<Frame>
         ensures taken { MatchOption result (self.old.frames ≡ []) (λ f. self.old.frames ≡ f.0 ∷ self.new.frames) }
+        ensures least { IfSome result (λ f. All (λ other. f.0 < other) self.new.frames) }
         ensures none { IfNone result (self.new.frames ≡ []) }
         ensures room { self.new.room ≡ self.old.room }
-        ensures low { IfSome result (λ f. f.0 < 2 ^ 36) }
         ensures pool { IsPool self.new }
     {
         self.frames.pop()
@@ -112,13 +111,13 @@ impl Pool {
     pub fn take_many(&mut self, alloc: Global, n: usize) -> Result<Vec<Frame>, PoolFault>
         ensures taken { IfOk result (λ v. numbers v.items ≡ take n self.old.frames) }
         ensures left { OnOk result (self.new.frames ≡ drop n self.old.frames) }
+        ensures least { IfOk result (λ v. All (λ f. All (λ other. f.0 < other) self.new.frames) v.items) }
         ensures count { IfOk result (λ v. vec_len v ≡ n) }
         ensures enough { OnOk result (n ≤ length self.old.frames) }
         ensures no_pool { (result ≡ Err PoolFault.NoPool) ↔ (length self.old.frames < n) }
         ensures nothing { n ≡ 0 → IsOk result }
         ensures err { OnErr result (self.new ≡ self.old) }
         ensures room { self.new.room ≡ self.old.room }
-        ensures low { IfOk result (λ v. All (λ f. f.0 < 2 ^ 36) v.items) }
         ensures was { IsPool self.old }
         ensures pool { IsPool self.new }
     {
@@ -150,7 +149,6 @@ impl Pool {
     pub fn give(&mut self, frame: Frame)
         requires new { ¬ Contains self.old.frames frame.0 }
         requires room { length self.old.frames < self.old.room }
-        requires low { frame.0 < 2 ^ 36 }
         ensures frames { self.new.frames ≡ given frame.0 self.old.frames }
         ensures room { self.new.room ≡ self.old.room }
         ensures pool { IsPool self.new }

@@ -4,3 +4,4 @@ pub mod Places
 pub mod Coarse
 pub mod Changes
 pub mod Chained
+pub mod Pages

@@ -11,6 +11,7 @@ ghost use Rattle.page_state.specs.Map.{update};
 ghost use Rattle.page_state.specs.Runs.{map_of, IsCoarsest};
 ghost use Rattle.maplets.specs.Rows.{AreBelow, IsSortedFrom, rows_of};
 ghost use Rattle.maplets.specs.Targets.{HasFrameBelow};
+ghost use Rattle.maplets.specs.View.{pages_of};
 
 use page_state::{Frame, Page, PageRange, Target};
 pub use runs::Runs;
@@ -81,25 +82,29 @@ impl Maplets {
         self.rows.capacity() - self.rows.len()
     }
 
-    /// Makes the room at least `extra`. A refusal changes nothing.
+    /// Makes the room at least `extra`. A refusal changes nothing: runs and room are as they were.
     pub fn reserve(&mut self, extra: usize) -> Result<(), AllocError>
         ensures ok { OnOk result (extra ≤ self.new.room) }
         ensures succeeds { extra ≤ self.old.room → IsOk result }
         ensures runs { self.new.runs ≡ self.old.runs }
         ensures err { OnErr result (self.new ≡ self.old) }
+        ensures err_runs { OnErr result (self.new.runs ≡ self.old.runs) }
+        ensures err_room { OnErr result (self.new.room ≡ self.old.room) }
         ensures grows { self.old.room ≤ self.new.room }
     {
         self.rows.reserve(extra)
     }
 
     /// Gives the pages of a range a target, which advances along it, or none.
-    /// Where it gives one it asks for room of as many rows as the range has pages, and takes no memory.
+    /// Where it gives one it asks for room of as many rows as the range has pages, and takes no memory. Room and pages with a
+    /// target are together what they were.
     pub fn set(&mut self, range: PageRange, target: Option<Target>)
         requires pages { range.first.0 + range.count ≤ 2 ^ 63 }
         requires frames { ForSome target (λ t. HasFrameBelow t range.count) }
         requires room { IsSome target → range.count ≤ self.old.room }
         ensures map { map_of self.new.runs ≡ update (map_of self.old.runs) range.first.0 range.count (entry_of target) }
         ensures coarsest { IsCoarsest self.new.runs }
+        ensures room { self.new.room + pages_of self.new.runs ≡ self.old.room + pages_of self.old.runs }
     {
         let first = range.first.0;
         let from = first_from(self.rows.as_slice(), first);
@@ -174,7 +179,8 @@ fn insert_run(rows: &mut Vec<PageTarget>, at: usize, first: u64, target: Target,
     requires pages { first + count ≤ 2 ^ 63 }
     requires frames { HasFrameBelow target count }
     requires room { vec_len rows.old + count ≤ vec_capacity rows.old }
-    ensures { rows.new.items ≡ take at rows.old.items ++ (rows_of first target count ++ drop at rows.old.items) }
+    ensures items { rows.new.items ≡ take at rows.old.items ++ (rows_of first target count ++ drop at rows.old.items) }
+    ensures capacity { vec_capacity rows.new ≡ vec_capacity rows.old }
 {
     for i in 0..count {
         let row = PageTarget {

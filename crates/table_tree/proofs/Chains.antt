@@ -8,7 +8,7 @@ use Rattle.table_tree.specs.declared.table.Slot.{Slot}
 use Rattle.table_tree.specs.declared.table.Slot.TheVariants.{Word, Child}
 use Rattle.table_tree.specs.declared.stock.Stock.{Stock}
 use Rattle.table_tree.specs.Meaning.{slot_at, slots_of, frame_of}
-use Rattle.table_tree.specs.Shape.{IsWide, IsBlank, IsTableFrame}
+use Rattle.table_tree.specs.Shape.{IsWide, IsBlank}
 use Rattle.table_tree.specs.Chain.{IsZero, IsLink, IsChain, Chained-prop}
 use Rattle.table_tree.specs.Stocks.{frames_of}
 use Rattle.table_tree.proofs.Slots.{by_slot, word_meets, meets_word, meets_child, child_meets, set_here, set_others, set_wide}
@@ -42,13 +42,12 @@ module _ {A : Type 0} where
   chain_child [] s b h e = absurd (meets_child (λ w. w ≡ 0) (λ _. ⊥) b (rw e at h))
   chain_child (f ∷ fs) s b h e =
       let x = meets_child (λ _. ⊥) (λ t. IsLink f t × IsChain fs (slot_at t 0)) b (rw e at h) in
-      let small : IsTableFrame (frame_of b.value) = let y = x.0.1.0 in let z = x.0.0 in omega arith in
-      let l : IsLink (frame_of b.value) b.value = (refl, (small, x.0.1.1)) in
+      let l : IsLink (frame_of b.value) b.value = (refl, x.0.1) in
       (fs, ap (λ g. g ∷ fs) (sym x.0.0), l, x.1)
 
-  pub chain_cons : (gs : List ℕ) (b : Box (Table A) A) (s : Slot A) → s ≡ Child b → IsTableFrame (frame_of b.value) → IsWide b.value → ((i : ℕ) → 1 ≤ i → i < 512 → slot_at b.value i ≡ Word 0) → IsChain gs (slot_at b.value 0) → IsChain (frame_of b.value ∷ gs) s
+  pub chain_cons : (gs : List ℕ) (b : Box (Table A) A) (s : Slot A) → s ≡ Child b → IsWide b.value → ((i : ℕ) → 1 ≤ i → i < 512 → slot_at b.value i ≡ Word 0) → IsChain gs (slot_at b.value 0) → IsChain (frame_of b.value ∷ gs) s
   unfolding IsChain
-  chain_cons gs b s e f w z h = rw e (child_meets (λ _. ⊥) (λ t. IsLink (frame_of b.value) t × IsChain gs (slot_at t 0)) b ((refl, (f, (w, λ i p q. zero_made (slot_at b.value i) (z i p q)))), h))
+  chain_cons gs b s e w z h = rw e (child_meets (λ _. ⊥) (λ t. IsLink (frame_of b.value) t × IsChain gs (slot_at t 0)) b ((refl, (w, λ i p q. zero_made (slot_at b.value i) (z i p q))), h))
 
   -- a table of zeros before a chain
   pub chain_push : (gs : List ℕ) (t u : Table A) (s : Slot A) → slots_of u ≡ set (slots_of t) 0 s → IsWide t → IsBlank t → IsChain gs s → ((i : ℕ) → 1 ≤ i → i < 512 → slot_at u i ≡ Word 0) × IsChain gs (slot_at u 0)
@@ -60,17 +59,14 @@ module _ {A : Type 0} where
   -- a table of a chain, with the next taken out
   pub link_blank : (f : ℕ) (t u : Table A) → IsLink f t → slots_of u ≡ set (slots_of t) 0 (Word 0) → IsBlank u
   link_blank f t u h e i p =
-      by_eq i 0 (λ z. set_here t u 0 i (Word 0) e (omega arith) h.1.1.0 z)
-      (λ z. set_others t u 0 i (Word 0) e z ∙ zero_is (slot_at t i) (h.1.1.1 i (omega arith) p))
+      by_eq i 0 (λ z. set_here t u 0 i (Word 0) e (omega arith) h.1.0 z)
+      (λ z. set_others t u 0 i (Word 0) e z ∙ zero_is (slot_at t i) (h.1.1 i (omega arith) p))
 
   pub link_wide : (f : ℕ) (t u : Table A) → IsLink f t → slots_of u ≡ set (slots_of t) 0 (Word 0) → IsWide u
-  link_wide f t u h e = set_wide t u 0 (Word 0) e h.1.1.0
+  link_wide f t u h e = set_wide t u 0 (Word 0) e h.1.0
 
   pub link_is_wide : (f : ℕ) (t : Table A) → IsLink f t → IsWide t
-  link_is_wide f t h = h.1.1.0
-
-  pub link_frame : (f : ℕ) (t : Table A) → IsLink f t → IsTableFrame f
-  link_frame f t h = h.1.0
+  link_is_wide f t h = h.1.0
 
   -- a stock's frames are those of any chain that it is
   pub frames_is : (s : Stock A) (fs : List ℕ) → IsChain fs s.first → frames_of s ≡ fs
@@ -87,10 +83,10 @@ module _ {A : Type 0} where
 
   -- a stock with one more table
   pub chain_pushed : (s : Stock A) (t u : Table A) (b c : Box (Table A) A) (r : Slot A) → t ≡ b.value → c.value ≡ u → r ≡ s.first → slots_of u ≡ set (slots_of t) 0 r → frame_of u ≡ frame_of t
-      → IsTableFrame (frame_of b.value) → IsWide b.value → IsBlank b.value → IsChain (frame_of b.value ∷ frames_of s) (Child c)
-  chain_pushed s t u b c r e k x y f small wide blank =
+      → IsWide b.value → IsBlank b.value → IsChain (frame_of b.value ∷ frames_of s) (Child c)
+  chain_pushed s t u b c r e k x y f wide blank =
       let wide' : IsWide t = rw e wide in
       let blank' : IsBlank t = rw e blank in
       let h = chain_push (frames_of s) t u r y wide' blank' (rw x (frames_chain s)) in
       let same : frame_of c.value ≡ frame_of b.value = ap (λ a. frame_of a) k ∙ f ∙ ap (λ a. frame_of a) e in
-      rw (sym same) (chain_cons (frames_of s) c (Child c) refl (rw same small) (rw k (set_wide t u 0 r y wide')) (rw k h.0) (rw k h.1))
+      rw (sym same) (chain_cons (frames_of s) c (Child c) refl (rw k (set_wide t u 0 r y wide')) (rw k h.0) (rw k h.1))

@@ -55,8 +55,8 @@ module _ {A : Type 0} where
     tables = λ d. omega (arith, tables_set (d + 1) i t u (Child b) wide p e, tables_word (d + 1) h.0 (slot_at t i) h.1, tables_child (d + 1) d b (Child b) (omega arith) refl);
     uses = λ d g. omega (arith, uses_set (d + 1) i g t u (Child b) f wide p e, uses_word (d + 1) h.0 g (slot_at t i) h.1, uses_child (d + 1) d g b (Child b) (omega arith) refl);
     standing = λ d low q l. changed_table (d + 1) i low q t u (Child b) wide p e (λ z. let l' : low ≤ d = l in omega arith) ∙ ap (λ x. cond (index_at (d + 1) q == i) x (table_in (d + 1) t low q)) (stand_child (d + 1) d low q b (Child b) (omega arith) refl);
-    shape = λ d x y z. shaped_set (d + 1) t u i (Child b) x p e (slot_child_made (d + 1) d b (Child b) (omega arith) refl y z);
-    child = λ d x. let k : d + 1 - 1 ≡ d = omega arith in let y = slot_child_is (d + 1) b (slot_at u i) (shaped_slot (d + 1) u i x p) (set_here t u i i (Child b) e p wide refl) in (y.1.0, rw k at y.1.1);
+    shape = λ d x y. shaped_set (d + 1) t u i (Child b) x p e (slot_child_made (d + 1) d b (Child b) (omega arith) refl y);
+    child = λ d x. let k : d + 1 - 1 ≡ d = omega arith in let y = slot_child_is (d + 1) b (slot_at u i) (shaped_slot (d + 1) u i x p) (set_here t u i i (Child b) e p wide refl) in rw k at y.1;
     tight = λ d x y z. rw add-one (tight_attach d t u i b (rw add-one at x) wide p e y z);
     child_tight = λ d x. (tight_child d u i b (rw add-one at x) p (set_here t u i i (Child b) e p wide refl)).1;
   }
@@ -75,7 +75,7 @@ module _ {A : Type 0} where
     word_shape = λ w d e x. slot_word_is d w (slot_at t i) (shaped_slot d t i x p) (sym h ∙ e);
     no_table = λ w d low q e x l. table_below d low t q (λ z. let l' : low < d = l in omega arith) ∙ stand_word d w low q (slot_at t (index_at d q)) (ap (λ j. slot_at t j) x ∙ sym h ∙ e);
     child = λ b d q e x. entry_step (d + 1) t q ∙ child_gives (d + 1) d q b (slot_at t (index_at (d + 1) q)) (omega arith) (ap (λ j. slot_at t j) x ∙ sym h ∙ e);
-    child_shape = λ b d e x. let k : d + 1 - 1 ≡ d = omega arith in let y = slot_child_is (d + 1) b (slot_at t i) (shaped_slot (d + 1) t i x p) (sym h ∙ e) in (y.1.0, rw k at y.1.1);
+    child_shape = λ b d e x. let k : d + 1 - 1 ≡ d = omega arith in let y = slot_child_is (d + 1) b (slot_at t i) (shaped_slot (d + 1) t i x p) (sym h ∙ e) in rw k at y.1;
     table = λ b d low q e x l. table_below (d + 1) low t q (λ z. let l' : low ≤ d = l in omega arith) ∙ stand_child (d + 1) d low q b (slot_at t (index_at (d + 1) q)) (omega arith) (ap (λ j. slot_at t j) x ∙ sym h ∙ e);
     last = λ b e x. let y : 1 ≤ 0 = (slot_child_is 0 b (slot_at t i) (shaped_slot 0 t i x p) (sym h ∙ e)).0 in absurd (omega arith);
   }

@@ -12,3 +12,6 @@ pub mod Said
 pub mod Chains
 pub mod Tight
 pub mod Changes
+pub mod Joined
+pub mod AllFrames
+pub mod OnPage

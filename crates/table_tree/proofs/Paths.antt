@@ -20,7 +20,7 @@ IsGood n p = (1 ≤ length p) × ((length p ≤ n + 1) × Small p)
 
 module _ {A : Type 0} where
   child_shape : (n : ℕ) (t : Table A) (i : ℕ) (b : Box (Table A) A) → IsShaped n t → i < 512 → slot_at t i ≡ Child b → (1 ≤ n) × IsShaped (n - 1) b.value
-  child_shape n t i b h p e = let x = slot_child_is n b (slot_at t i) (shaped_slot n t i h p) e in (x.0, x.1.1)
+  child_shape n t i b h p e = let x = slot_child_is n b (slot_at t i) (shaped_slot n t i h p) e in (x.0, x.1)
 
   next_child : (t : Table A) (i j : ℕ) (r : List ℕ) (b : Box (Table A) A) → i < 512 → slot_at t i ≡ Child b → word_at t (i ∷ j ∷ r) ≡ word_at b.value (j ∷ r)
   unfolding word_at

@@ -69,7 +69,7 @@ module _ (n m : ℕ) (p : List ℕ) (e : m + length p ≡ n + 1) (s : Small p) w
       ap (λ k. k / block_pages (m + 1)) (let a : number_of p / 512 * block_pages (m + 1) ≡ number_of p / 512 * block_pages (m + 1) + 0 = omega arith in a) ∙ x ∙ sym v
 
 module _ {A : Type 0} where
-  table_at_in : (t : Tree A) (d low number : ℕ) → d ≡ suc low → number * block_pages d < input_pages t.geometry → table_at t d number ≡ table_in (levels_below t.geometry) t.table low (number * block_pages d)
+  pub table_at_in : (t : Tree A) (d low number : ℕ) → d ≡ suc low → number * block_pages d < input_pages t.geometry → table_at t d number ≡ table_in (levels_below t.geometry) t.table low (number * block_pages d)
   unfolding table_at
   table_at_in t d low number z h =
       let h' : number * block_pages (suc low) < input_pages t.geometry = rw z at h in

@@ -10,8 +10,8 @@ use Rattle.table_tree.specs.declared.table.Slot.{Slot, out-Slot}
 use Rattle.table_tree.specs.declared.table.Slot.TheVariants.{Word, Child}
 use Rattle.table_tree.specs.declared.table.Slot.TheViews.{outs-Word, outs-Child, roll-out-Slot, roll-Slot, rolls-Word, rolls-Child}
 use Rattle.table_tree.specs.declared.table.Slot.TheOpen.{Word as OpenWord, Child as OpenChild}
-use Rattle.table_tree.specs.Meaning.{slot_at, slots_of, slot_case, frame_of}
-use Rattle.table_tree.specs.Shape.{IsWide, MeetsSlot, IsEntryWord, IsTableFrame, IsShaped}
+use Rattle.table_tree.specs.Meaning.{slot_at, slots_of, slot_case}
+use Rattle.table_tree.specs.Shape.{IsWide, MeetsSlot, IsEntryWord, IsShaped}
 use Rattle.table_tree.specs.Slots.{IsSlot}
 
 pub set_twice : {X : Type 0} (xs : List X) (i : ℕ) (a s : X) → set (set xs i a) i s ≡ set xs i s
@@ -91,26 +91,26 @@ module _ {A : Type 0} where
   pub slot_word_made : (n w : ℕ) (s : Slot A) → s ≡ Word w → IsEntryWord n w → IsSlot n s
   unfolding IsSlot
   slot_word_made zero w s e h = rw e (word_meets (IsEntryWord zero) (λ _. ⊥) w h)
-  slot_word_made (suc n) w s e h = rw e (word_meets (IsEntryWord (suc n)) (λ c. IsTableFrame (frame_of c) × IsShaped n c) w h)
+  slot_word_made (suc n) w s e h = rw e (word_meets (IsEntryWord (suc n)) (λ c. IsShaped n c) w h)
 
-  pub slot_child_made : (n m : ℕ) (b : Box (Table A) A) (s : Slot A) → n ≡ suc m → s ≡ Child b → IsTableFrame (frame_of b.value) → IsShaped m b.value → IsSlot n s
+  pub slot_child_made : (n m : ℕ) (b : Box (Table A) A) (s : Slot A) → n ≡ suc m → s ≡ Child b → IsShaped m b.value → IsSlot n s
   unfolding IsSlot
-  slot_child_made n m b s k e f h = rw (k, e) (child_meets (IsEntryWord (suc m)) (λ c. IsTableFrame (frame_of c) × IsShaped m c) b (f, h))
+  slot_child_made n m b s k e h = rw (k, e) (child_meets (IsEntryWord (suc m)) (λ c. IsShaped m c) b h)
 
   pub slot_word_is : (n w : ℕ) (s : Slot A) → IsSlot n s → s ≡ Word w → IsEntryWord n w
   unfolding IsSlot
   slot_word_is zero w s h e = meets_word (IsEntryWord zero) (λ _. ⊥) w (rw e at h)
-  slot_word_is (suc n) w s h e = meets_word (IsEntryWord (suc n)) (λ c. IsTableFrame (frame_of c) × IsShaped n c) w (rw e at h)
+  slot_word_is (suc n) w s h e = meets_word (IsEntryWord (suc n)) (λ c. IsShaped n c) w (rw e at h)
 
   -- what a child of a shaped table meets
-  pub slot_child_is : (n : ℕ) (b : Box (Table A) A) (s : Slot A) → IsSlot n s → s ≡ Child b → (1 ≤ n) × (IsTableFrame (frame_of b.value) × IsShaped (n - 1) b.value)
+  pub slot_child_is : (n : ℕ) (b : Box (Table A) A) (s : Slot A) → IsSlot n s → s ≡ Child b → (1 ≤ n) × IsShaped (n - 1) b.value
   unfolding IsSlot
   slot_child_is zero b s h e = absurd (meets_child (IsEntryWord zero) (λ _. ⊥) b (rw e at h))
-  slot_child_is (suc n) b s h e = let x = meets_child (IsEntryWord (suc n)) (λ c. IsTableFrame (frame_of c) × IsShaped n c) b (rw e at h) in (omega arith, (x.0, simp unary_clauses x.1))
+  slot_child_is (suc n) b s h e = let x = meets_child (IsEntryWord (suc n)) (λ c. IsShaped n c) b (rw e at h) in (omega arith, simp unary_clauses x)
 
   pub child_shaped : (n : ℕ) (b : Box (Table A) A) (s : Slot A) → IsSlot (suc n) s → s ≡ Child b → IsShaped n b.value
   unfolding IsSlot
-  child_shaped n b s h e = (meets_child (IsEntryWord (suc n)) (λ c. IsTableFrame (frame_of c) × IsShaped n c) b (rw e at h)).1
+  child_shaped n b s h e = (meets_child (IsEntryWord (suc n)) (λ c. IsShaped n c) b (rw e at h))
 
   pub shaped_set : (n : ℕ) (t u : Table A) (i : ℕ) (s : Slot A) → IsShaped n t → i < 512 → slots_of u ≡ set (slots_of t) i s → IsSlot n s → IsShaped n u
   shaped_set n t u i s h p e m =

@@ -1,4 +1,4 @@
-use Rattle.std.proofs.Common.{◌≡◌, ℕ, zero, suc, ◌+◌, ◌-◌, ◌*◌, ◌^◌, ◌<◌, ◌≤◌, List, [], ◌∷◌, ◌++◌, length, get_or, refl, sym, ap, arith, ◌∙◌, sum_by, take}
+use Rattle.std.proofs.Common.{◌≡◌, ℕ, zero, suc, ◌+◌, ◌-◌, ◌*◌, ◌^◌, ◌<◌, ◌≤◌, List, [], ◌∷◌, ◌++◌, length, get_or, refl, sym, ap, arith, ◌∙◌, sum_by, take, ◌==◌}
 use Rattle.std.proofs.Math.ListN.{set}
 use Rattle.std.proofs.lemmas.List.Sums.{sum_by-set, sum_by-append}
 use Rattle.std.proofs.lemmas.List.{take_all, take_more}
@@ -6,6 +6,7 @@ use Rattle.std.specs.declared.boxed.Box.{Box}
 use Rattle.descriptor.specs.declared.Frame.{Frame}
 use Rattle.page_state.specs.Geometries.{levels_below}
 use Rattle.page_state.specs.Counts.{is_one}
+use Rattle.page_state.proofs.Cases.{by_test}
 use Rattle.table_tree.specs.declared.tree.Tree.{Tree}
 use Rattle.table_tree.specs.declared.table.Table.{Table}
 use Rattle.table_tree.specs.declared.table.Slot.{Slot}
@@ -28,6 +29,9 @@ zero_sum f d (x ∷ xs) h = let z : f x ≡ 0 = h 0 (omega arith) in rw z (zero_
 -- the sum over one more slot
 pub sum_more : {X : Type 0} (f : X → ℕ) (d : X) (xs : List X) (i : ℕ) → i < length xs → sum_by f (take (i + 1) xs) ≡ sum_by f (take i xs) + f (get_or xs i d)
 sum_more f d xs i p = let e = sum_by-append f (take i xs) (get_or xs i d ∷ []) in rw (take_more xs i d p) (omega (arith, e))
+
+pub one_most : (f g : ℕ) → is_one f g ≤ 1
+one_most f g = by_test (f == g) (λ e. rw e (omega arith)) (λ e. rw e (omega arith))
 
 pub count_none : (f : ℕ) (fs : List Frame) → fs ≡ [] → count_of f fs ≡ 0
 count_none f fs e = rw e refl

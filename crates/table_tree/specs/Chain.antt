@@ -1,6 +1,6 @@
 -- Tables of zeros in a chain, each but the first in slot 0 of the one before it.
 use Rattle.std.specs.Prelude.{◌≡◌, ℕ, ◌<◌, ◌≤◌, List, [], ◌∷◌, refl}
-use Rattle.std.specs.Coded.{×_prop, le_prop, Π_prop}
+use Rattle.std.specs.Coded.{×_prop, Π_prop}
 use Rattle.std.proofs.Math.Nat.{ℕ_set}
 use Rattle.std.proofs.Common.{ap, sym, ◌∙◌}
 use mathlib.Core.HLevel.{is_prop→PathP}
@@ -8,7 +8,7 @@ use Rattle.table_tree.specs.declared.table.Table.{Table}
 use Rattle.table_tree.specs.declared.table.Slot.{Slot, out-Slot}
 use Rattle.table_tree.specs.declared.table.Slot.TheOpen.{Word, Child}
 use Rattle.table_tree.specs.Meaning.{slot_at, frame_of}
-use Rattle.table_tree.specs.Shape.{IsWide, IsTableFrame, MeetsSlot, MeetsSlot-prop}
+use Rattle.table_tree.specs.Shape.{IsWide, MeetsSlot, MeetsSlot-prop}
 
 -- a slot holds the word 0
 abbrev pub IsZero : {A : Type 0} → Slot A → Type 0
@@ -16,7 +16,7 @@ IsZero s = MeetsSlot (λ w. w ≡ 0) (λ _. ⊥) s
 
 -- a table of the chain: only slot 0 may hold another
 abbrev pub IsLink : {A : Type 0} → ℕ → Table A → Type 0
-IsLink frame t = (frame_of t ≡ frame) × (IsTableFrame frame × (IsWide t × ((i : ℕ) → 1 ≤ i → i < 512 → IsZero (slot_at t i))))
+IsLink frame t = (frame_of t ≡ frame) × (IsWide t × ((i : ℕ) → 1 ≤ i → i < 512 → IsZero (slot_at t i)))
 
 -- the chain of the tables with these frames
 unfoldable pub IsChain : {A : Type 0} → List ℕ → Slot A → Type 0
@@ -30,7 +30,7 @@ IsChain-prop : {A : Type 0} (fs : List ℕ) (s : Slot A) → IsProp (IsChain fs 
 unfolding IsChain
 IsChain-prop [] s = IsZero-prop s
 IsChain-prop (f ∷ fs) s = MeetsSlot-prop (λ _. ⊥) (λ t. IsLink f t × IsChain fs (slot_at t 0)) (λ _ a. absurd a)
-    (λ t. ×_prop (×_prop (ℕ_set _ _) (×_prop le_prop (×_prop (ℕ_set _ _) (Π_prop (λ i. Π_prop (λ _. Π_prop (λ _. IsZero-prop (slot_at t i)))))))) (IsChain-prop fs (slot_at t 0))) s
+    (λ t. ×_prop (×_prop (ℕ_set _ _) (×_prop (ℕ_set _ _) (Π_prop (λ i. Π_prop (λ _. Π_prop (λ _. IsZero-prop (slot_at t i))))))) (IsChain-prop fs (slot_at t 0))) s
 
 chain_ends : {A : Type 0} (P : Table A → Type 0) (s : Slot A) → IsZero s → MeetsSlot (λ _. ⊥) P s → ⊥
 chain_ends {A} P s = elim (out-Slot A s) as (λ o. elim o [ Word w ↦ w ≡ 0 | Child b ↦ ⊥ ] → elim o [ Word w ↦ ⊥ | Child b ↦ P b.value ] → ⊥) [ Word w ↦ λ a b. b | Child b ↦ λ a c. a ]

@@ -7,7 +7,7 @@ use Rattle.table_tree.specs.declared.table.Table.{Table}
 use Rattle.table_tree.specs.declared.table.Slot.{Slot}
 use Rattle.table_tree.specs.declared.table.Slot.TheVariants.{Word, Child}
 use Rattle.table_tree.specs.Meaning.{index_at, frame_of, word_entry, entry_at}
-use Rattle.table_tree.specs.Shape.{IsTableFrame, IsBlank, IsEntryWord, IsShaped}
+use Rattle.table_tree.specs.Shape.{IsBlank, IsEntryWord, IsShaped}
 use Rattle.table_tree.specs.Tight.{IsTight}
 use Rattle.table_tree.specs.Tables.{tables_in, uses_in, table_in}
 
@@ -26,8 +26,8 @@ pub record IsAttached {A : Type 0} (i : ℕ) (t u c : Table A) : Type 0 where
   pub tables : (depth : ℕ) → tables_in (depth + 1) u ≡ tables_in (depth + 1) t + tables_in depth c
   pub uses : (depth f : ℕ) → uses_in (depth + 1) u f ≡ uses_in (depth + 1) t f + uses_in depth c f
   pub standing : (depth low q : ℕ) → low ≤ depth → table_in (depth + 1) u low q ≡ (if index_at (depth + 1) q == i then table_in depth c low q else table_in (depth + 1) t low q)
-  pub shape : (depth : ℕ) → IsShaped (depth + 1) t → IsTableFrame (frame_of c) → IsShaped depth c → IsShaped (depth + 1) u
-  pub child : (depth : ℕ) → IsShaped (depth + 1) u → IsTableFrame (frame_of c) × IsShaped depth c
+  pub shape : (depth : ℕ) → IsShaped (depth + 1) t → IsShaped depth c → IsShaped (depth + 1) u
+  pub child : (depth : ℕ) → IsShaped (depth + 1) u → IsShaped depth c
   pub tight : (depth : ℕ) → IsTight (depth + 1) t → (IsBlank c → ⊥) → IsTight depth c → IsTight (depth + 1) u
   pub child_tight : (depth : ℕ) → IsTight (depth + 1) u → IsTight depth c
 
@@ -51,6 +51,6 @@ pub record IsSeen {A : Type 0} (i : ℕ) (t : Table A) (s : Slot A) : Type 0 whe
   pub word_shape : (w depth : ℕ) → s ≡ Word w → IsShaped depth t → IsEntryWord depth w
   pub no_table : (w depth low q : ℕ) → s ≡ Word w → index_at depth q ≡ i → low < depth → table_in depth t low q ≡ None
   pub child : (b : Box (Table A) A) (depth q : ℕ) → s ≡ Child b → index_at (depth + 1) q ≡ i → entry_at (depth + 1) t q ≡ entry_at depth b.value q
-  pub child_shape : (b : Box (Table A) A) (depth : ℕ) → s ≡ Child b → IsShaped (depth + 1) t → IsTableFrame (frame_of b.value) × IsShaped depth b.value
+  pub child_shape : (b : Box (Table A) A) (depth : ℕ) → s ≡ Child b → IsShaped (depth + 1) t → IsShaped depth b.value
   pub table : (b : Box (Table A) A) (depth low q : ℕ) → s ≡ Child b → index_at (depth + 1) q ≡ i → low ≤ depth → table_in (depth + 1) t low q ≡ table_in depth b.value low q
   pub last : (b : Box (Table A) A) → s ≡ Child b → IsShaped 0 t → ⊥

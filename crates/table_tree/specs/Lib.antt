@@ -9,3 +9,5 @@ pub mod Slots
 pub mod Changes
 pub mod Tight
 pub mod Said
+pub mod AllBlocks
+pub mod OnPage

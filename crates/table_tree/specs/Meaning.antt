@@ -1,5 +1,5 @@
 -- Slots, and what a table means. Depths count the levels below.
-use Rattle.std.specs.Prelude.{ℕ, zero, suc, ◌+◌, ◌*◌, ◌/◌, ◌%◌, ◌<◌, List, [], ◌∷◌, slice_index_or, Option, Some, None, nat_lt, if◌then◌else◌}
+use Rattle.std.specs.Prelude.{ℕ, zero, suc, ◌+◌, ◌*◌, ◌/◌, ◌%◌, ◌^◌, ◌<◌, List, [], ◌∷◌, slice_index_or, Option, Some, None, nat_lt, if◌then◌else◌}
 use Rattle.descriptor.specs.Word.{desc_of}
 use Rattle.descriptor.specs.declared.Level.{Level}
 use Rattle.descriptor.specs.declared.Level.TheVariants.{One, Two, Three}
@@ -51,9 +51,9 @@ unfoldable pub entry_at : {A : Type 0} → ℕ → Table A → ℕ → Entry
 entry_at zero t page = slot_case (word_entry zero page) (λ _. Malformed) (slot_at t (index_at zero page))
 entry_at (suc depth) t page = slot_case (word_entry (suc depth) page) (λ c. entry_at depth c page) (slot_at t (index_at (suc depth) page))
 
--- the word that leads to a table (Arm DDI 0487, D8.3, table descriptor)
+-- the word that leads to a table: the 36 bits of its frame's number in bits 47:12 (Arm DDI 0487, D8.3, table descriptor)
 abbrev pub table_word : ℕ → ℕ
-table_word frame = frame * 4096 + 3
+table_word frame = frame % 2 ^ 36 * 4096 + 3
 
 -- the word of a slot
 abbrev pub slot_word : {A : Type 0} → Slot A → ℕ

@@ -10,7 +10,7 @@ use Rattle.table_tree.specs.declared.table.Table.{Table}
 use Rattle.table_tree.specs.declared.table.Slot.{Slot, out-Slot}
 use Rattle.table_tree.specs.declared.table.Slot.TheOpen.{Word, Child}
 use Rattle.table_tree.specs.declared.table.Slot.TheVariants.{Word as word_slot}
-use Rattle.table_tree.specs.Meaning.{level_at, slot_at, slots_of, frame_of}
+use Rattle.table_tree.specs.Meaning.{level_at, slot_at, slots_of}
 
 -- a table has 512 slots
 abbrev pub IsWide : {A : Type 0} → Table A → Type 0
@@ -23,10 +23,6 @@ HoldsWord s = (w : ℕ) × (s ≡ word_slot w)
 -- all words are 0
 abbrev pub IsBlank : {A : Type 0} → Table A → Type 0
 IsBlank t = (i : ℕ) → i < 512 → slot_at t i ≡ word_slot 0
-
--- a frame that a table word can say
-abbrev pub IsTableFrame : ℕ → Type 0
-IsTableFrame frame = frame < 2 ^ 36
 
 -- an entry that a word gives its pages
 abbrev pub IsWellFormed : Entry → Type 0
@@ -51,7 +47,7 @@ MeetsSlot {A} here below s = elim (out-Slot A s) [ Word w ↦ here w | Child b �
 -- a table of a tree: 512 slots, words that give entries, and children only above the last level
 unfoldable pub IsShaped : {A : Type 0} → ℕ → Table A → Type 0
 IsShaped zero t = IsWide t × ((i : ℕ) → i < 512 → MeetsSlot (IsEntryWord zero) (λ _. ⊥) (slot_at t i))
-IsShaped (suc depth) t = IsWide t × ((i : ℕ) → i < 512 → MeetsSlot (IsEntryWord (suc depth)) (λ c. IsTableFrame (frame_of c) × IsShaped depth c) (slot_at t i))
+IsShaped (suc depth) t = IsWide t × ((i : ℕ) → i < 512 → MeetsSlot (IsEntryWord (suc depth)) (λ c. IsShaped depth c) (slot_at t i))
 
 pub MeetsSlot-prop : {A : Type 0} (here : ℕ → Type 0) (below : Table A → Type 0) → ((w : ℕ) → IsProp (here w)) → ((t : Table A) → IsProp (below t)) → (s : Slot A) → IsProp (MeetsSlot here below s)
 MeetsSlot-prop {A} here below p q s =
@@ -69,4 +65,4 @@ IsEntryWord-prop n w = ×_prop le_prop (IsWellFormed-prop (entry_of_word (desc_o
 pub IsShaped-prop : {A : Type 0} (n : ℕ) (t : Table A) → IsProp (IsShaped n t)
 unfolding IsShaped
 IsShaped-prop zero t = ×_prop (ℕ_set _ _) (Π_prop (λ i. Π_prop (λ _. MeetsSlot-prop (IsEntryWord zero) (λ _. ⊥) (IsEntryWord-prop zero) (λ _ a. absurd a) (slot_at t i))))
-IsShaped-prop (suc n) t = ×_prop (ℕ_set _ _) (Π_prop (λ i. Π_prop (λ _. MeetsSlot-prop (IsEntryWord (suc n)) (λ c. IsTableFrame (frame_of c) × IsShaped n c) (IsEntryWord-prop (suc n)) (λ c. ×_prop le_prop (IsShaped-prop n c)) (slot_at t i))))
+IsShaped-prop (suc n) t = ×_prop (ℕ_set _ _) (Π_prop (λ i. Π_prop (λ _. MeetsSlot-prop (IsEntryWord (suc n)) (λ c. IsShaped n c) (IsEntryWord-prop (suc n)) (λ c. IsShaped-prop n c) (slot_at t i))))

@@ -1,16 +1,16 @@
 -- What slots give.
-use Rattle.std.specs.Prelude.{ℕ, zero, suc, Option, None}
+use Rattle.std.specs.Prelude.{ℕ, zero, suc, List, [], Option, None}
 use Rattle.page_state.specs.declared.entry.Entry.{Entry}
 use Rattle.page_state.specs.declared.entry.Entry.TheVariants.{Malformed}
 use Rattle.table_tree.specs.declared.table.Slot.{Slot}
-use Rattle.table_tree.specs.Meaning.{frame_of, slot_case, word_entry, entry_at}
-use Rattle.table_tree.specs.Shape.{IsEntryWord, IsTableFrame, IsShaped, MeetsSlot}
-use Rattle.table_tree.specs.Tables.{tables_in, uses_in, table_in}
+use Rattle.table_tree.specs.Meaning.{slot_case, word_entry, entry_at}
+use Rattle.table_tree.specs.Shape.{IsEntryWord, IsShaped, MeetsSlot}
+use Rattle.table_tree.specs.Tables.{tables_in, uses_in, all_frames_in, table_in}
 
 -- a slot of a table of a tree
 unfoldable pub IsSlot : {A : Type 0} → ℕ → Slot A → Type 0
 IsSlot zero s = MeetsSlot (IsEntryWord zero) (λ _. ⊥) s
-IsSlot (suc depth) s = MeetsSlot (IsEntryWord (suc depth)) (λ c. IsTableFrame (frame_of c) × IsShaped depth c) s
+IsSlot (suc depth) s = MeetsSlot (IsEntryWord (suc depth)) (λ c. IsShaped depth c) s
 
 -- what a slot of a table gives a page
 unfoldable pub slot_entry : {A : Type 0} → ℕ → Slot A → ℕ → Entry
@@ -26,6 +26,11 @@ slot_tables (suc depth) s = slot_case (λ _. 0) (tables_in depth) s
 unfoldable pub slot_uses : {A : Type 0} → ℕ → Slot A → ℕ → ℕ
 slot_uses zero s frame = 0
 slot_uses (suc depth) s frame = slot_case (λ _. 0) (λ c. uses_in depth c frame) s
+
+-- the frames of the tables below a slot
+unfoldable pub slot_frames : {A : Type 0} → ℕ → Slot A → List ℕ
+slot_frames zero s = []
+slot_frames (suc depth) s = slot_case (λ _. []) (all_frames_in depth) s
 
 -- the frame of the table with `low` levels below it that stands below a slot on a page's path
 unfoldable pub slot_table : {A : Type 0} → ℕ → Slot A → ℕ → ℕ → Option ℕ

@@ -2,6 +2,7 @@
 #![tactic(auto)]
 
 mod look;
+mod path;
 mod stock;
 mod supply;
 mod table;

@@ -1,12 +1,12 @@
 //! Looks at a tree, by recursion on the levels below a table.
-ghost use Rattle.std.specs.Prelude.{◌≡◌, ℕ, ◌+◌, ◌-◌, ◌*◌, ◌%◌, ◌^◌, ◌<◌, ◌≤◌, ◌==◌, ◌&&◌, nat_lt, List, length, take, drop, slice_index_or, OnOk, if◌then◌else◌, Option, Some};
+ghost use Rattle.std.specs.Prelude.{◌≡◌, ℕ, ◌+◌, ◌-◌, ◌*◌, ◌%◌, ◌^◌, ◌<◌, ◌≤◌, ◌==◌, ◌&&◌, nat_lt, List, ◌++◌, map, length, take, drop, slice_index_or, OnOk, if◌then◌else◌, Option, Some};
 ghost use Rattle.descriptor.specs.Word.{CanBeSaid};
 ghost use Rattle.page_state.specs.Entries.{advance, word_of_entry};
 ghost use Rattle.page_state.specs.Geometries.{block_pages};
 ghost use Rattle.page_state.specs.Counts.{frame_count};
 ghost use Rattle.table_tree.specs.Meaning.{IsDepth, level_at, word_entry, entry_at, word_at, slot_word, slot_at, slots_of, frame_of};
-ghost use Rattle.table_tree.specs.Shape.{IsWide, IsShaped, IsBlank, IsEntryWord, IsTableFrame, HoldsWord};
-ghost use Rattle.table_tree.specs.Tables.{tables_in, uses_in, table_in, count_of};
+ghost use Rattle.table_tree.specs.Shape.{IsWide, IsShaped, IsBlank, IsEntryWord, HoldsWord};
+ghost use Rattle.table_tree.specs.Tables.{tables_in, uses_in, all_frames_in, table_in, count_of};
 ghost use Rattle.table_tree.specs.Slots.{IsSlot, fresh};
 ghost use Rattle.table_tree.specs.Stocks.{frames_of};
 
@@ -34,7 +34,7 @@ fn word_in_slot<A: Allocator>(slot: &Slot<A>, depth: u32) -> u64
 {
     match slot {
         Slot::Word(word) => *word,
-        Slot::Child(child) => child.frame().0 * 4096 + 3,
+        Slot::Child(child) => child.frame().0 % (1 << 36) * 4096 + 3,
     }
 }
 
@@ -87,6 +87,7 @@ pub(crate) fn frames_in<A: Allocator>(
     requires shape { IsShaped depth table.now }
     ensures count { OnOk result ((f : ℕ) → count_of f frames.new.items ≡ count_of f frames.old.items + uses_in depth table.now f) }
     ensures len { OnOk result (length frames.new.items ≡ length frames.old.items + tables_in depth table.now) }
+    ensures frames { OnOk result (map (λ f. f.0) frames.new.items ≡ map (λ f. f.0) frames.old.items ++ all_frames_in depth table.now) }
 {
     frames.push(table.frame())?;
     if depth == 0 {

@@ -1,7 +1,7 @@
 //! Tables in hand, for edits that can't fail.
 ghost use Rattle.std.specs.Prelude.{◌≡◌, ℕ, List, [], ◌∷◌, IfSome, MatchOption};
 ghost use Rattle.table_tree.specs.Meaning.{frame_of};
-ghost use Rattle.table_tree.specs.Shape.{IsWide, IsBlank, IsTableFrame};
+ghost use Rattle.table_tree.specs.Shape.{IsWide, IsBlank};
 ghost use Rattle.table_tree.specs.Changes.{IsNew};
 ghost use Rattle.table_tree.specs.Chain.{IsChain, Chained-prop};
 
@@ -29,7 +29,6 @@ impl<A: Allocator> Stock<A> {
 
     /// Puts a table of zeros in front.
     pub fn push(&mut self, table: Box<Table<A>, A>)
-        requires frame { IsTableFrame (frame_of table.value) }
         requires wide { IsWide table.value }
         requires blank { IsBlank table.value }
         ensures frames { frames_of self.new ≡ frame_of table.value ∷ frames_of self.old }
@@ -43,7 +42,6 @@ impl<A: Allocator> Stock<A> {
     /// Takes the first table.
     pub fn pop(&mut self) -> Option<Box<Table<A>, A>>
         ensures frames { MatchOption result (frames_of self.old ≡ []) (λ b. frames_of self.old ≡ frame_of b.value ∷ frames_of self.new) }
-        ensures frame { IfSome result (λ b. IsTableFrame (frame_of b.value)) }
         ensures wide { IfSome result (λ b. IsWide b.value) }
         ensures blank { IfSome result (λ b. IsBlank b.value) }
         ensures tree { IfSome result (λ b. IsNew b.value) }

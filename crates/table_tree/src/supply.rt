@@ -1,5 +1,5 @@
 //! Stocks with frames of their own.
-ghost use Rattle.std.specs.Prelude.{◌≡◌, ◌<◌, ◌^◌, All, IfOk, IsOk, length, map};
+ghost use Rattle.std.specs.Prelude.{◌≡◌, IfOk, IsOk, length, map};
 ghost use Rattle.table_tree.specs.Stocks.{frames_of};
 
 use crate::{Stock, Table};
@@ -8,7 +8,6 @@ use std::alloc::{AllocError, Allocator};
 
 /// A stock of one table for each frame, the first frame's first. A refusal leaves nothing behind.
 pub fn reserve<A: Allocator + Copy>(alloc: A, frames: &[Frame]) -> Result<Stock<A>, AllocError>
-    requires { All (λ f. f.0 < 2 ^ 36) frames.now }
     ensures frames { IfOk result (λ s. frames_of s ≡ map (λ f. f.0) frames.now) }
     ensures nothing { length frames.now ≡ 0 → IsOk result }
 {

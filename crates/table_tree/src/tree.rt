@@ -1,26 +1,29 @@
 //! A tree: its root table, and how many levels are below it.
-ghost use Rattle.std.specs.Prelude.{◌≡◌, ℕ, ◌+◌, ◌<◌, ◌==◌, ◌&&◌, ◌↔◌, length, if◌then◌else◌, Some, None, IsSome, IfSome, IfOk, IfErr};
+ghost use Rattle.std.specs.Prelude.{◌≡◌, ℕ, ◌+◌, ◌-◌, ◌<◌, ◌≤◌, ◌==◌, ◌&&◌, ◌↔◌, length, map, slice_get, if◌then◌else◌, Some, None, IsSome, IfSome, IfOk, IfErr};
 ghost use Rattle.page_state.specs.Map.{empty_map};
 ghost use Rattle.page_state.specs.Geometries.{levels_below};
 ghost use Rattle.page_state.specs.Counts.{is_one};
 ghost use Rattle.table_tree.specs.Shape.{IsShaped, IsShaped-prop};
 ghost use Rattle.table_tree.specs.Tight.{IsTight, IsTight-prop};
-ghost use Rattle.table_tree.specs.Tables.{count_of};
+ghost use Rattle.table_tree.specs.Tables.{count_of, AreDistinct, AreDistinct-prop};
 
 use crate::Table;
 use crate::look::{count_in, frames_in, look_in, word_in};
+use crate::path::path_to;
 use arrayvec::ArrayVec;
 use descriptor::Frame;
 use page_state::{Entry, Geometry, Page};
 use std::alloc::{AllocError, Allocator, Global};
 
-/// A tree of tables. Its root table has the geometry's levels below it, and no table below the root is empty.
+/// A tree of tables. Its root table has the geometry's levels below it, no table below the root is empty, and no two tables
+/// have one frame.
 #[derive(Drop)]
 pub struct Tree<A: Allocator> {
     pub geometry: Geometry,
     pub table: Table<A>,
     pub ghost shaped: { IsShaped (levels_below geometry) table } by { IsShaped-prop (levels_below geometry) table },
     pub ghost tight: { IsTight (levels_below geometry) table } by { IsTight-prop (levels_below geometry) table },
+    pub ghost distinct: { AreDistinct (levels_below geometry) table } by { AreDistinct-prop (levels_below geometry) table },
 }
 
 /// The levels below the root.
@@ -35,6 +38,9 @@ fn depth_of(geometry: Geometry) -> u32
 
 impl<A: Allocator> Tree<A> {
     ghost use Rattle.table_tree.specs.View.{meaning, word_of as word_at_path, table_at, uses, tables_of, root_of, tree_of};
+    ghost use Rattle.page_state.specs.Blocks.{block_at};
+    ghost use Rattle.table_tree.specs.OnPage.{word_on as word_on_page};
+    ghost use Rattle.table_tree.specs.AllBlocks.{table_count, table_frames};
     ghost use Rattle.table_tree.specs.Said.{block_of, HasWord, IsWordOf, IsRunOrTable};
 
     /// A tree of one table, with nothing mapped.
@@ -50,8 +56,10 @@ impl<A: Allocator> Tree<A> {
         Ok(Tree { geometry, table })
     }
 
+    /// The frame of the root's table, which stands at the block of all input pages.
     pub fn root(&self) -> Frame
-        ensures { result.0 ≡ root_of self.now }
+        ensures value { result.0 ≡ root_of self.now }
+        ensures standing { (tree_of self.now).table (levels_below self.now.geometry + 1, 0) ≡ Some result.0 }
     {
         self.table.frame()
     }
@@ -84,16 +92,35 @@ impl<A: Allocator> Tree<A> {
         word_in(&self.table, depth_of(self.geometry), path.as_slice())
     }
 
-    /// The number of tables.
+    /// The word on a page's path at a level. None where the page isn't an input page, the level isn't one of the tree's, or no
+    /// table stands there. It is the word of the level's block that holds the page.
+    #[tactic(auto, unfolding(crate::specs::OnPage::word_on))]
+    pub fn word_on(&self, page: Page, level: u64) -> Option<u64>
+        ensures value { result ≡ word_on_page self.now page.0 level }
+        ensures said { IfSome result (λ w. IsWordOf (tree_of self.now) (block_at (3 - level) page.0) w) }
+        ensures run { IfSome result (λ _. IsRunOrTable (tree_of self.now) (block_at (3 - level) page.0)) }
+    {
+        let top = 3 - depth_of(self.geometry);
+        if page.0 >= self.geometry.pages() || level < u64::from(top) || level > 3 {
+            return None;
+        }
+        self.word_at(&path_to(page.0, top, level as u32))
+    }
+
+    /// The number of tables: that of the blocks that have one.
     pub fn tables(&self) -> usize
-        ensures { result ≡ tables_of self.now }
+        ensures value { result ≡ tables_of self.now }
+        ensures count { result ≡ table_count self.now.geometry (tree_of self.now) }
     {
         count_in(&self.table, depth_of(self.geometry))
     }
 
-    /// The frames of all tables, the root's first, of a tree that goes.
+    /// The frames of all tables of a tree that goes: those that stand at its blocks, in their order, the root's first.
     pub fn dismantle(self, alloc: Global) -> Result<Vec<Frame>, (Tree<A>, AllocError)>
+        ensures frames { IfOk result (λ v. map (λ f. f.0) v.items ≡ table_frames self.geometry (tree_of self)) }
+        ensures root { IfOk result (λ v. slice_get (map (λ f. f.0) v.items) 0 ≡ Some (root_of self)) }
         ensures uses { IfOk result (λ v. (f : ℕ) → count_of f v.items ≡ uses self f) }
+        ensures distinct { IfOk result (λ v. (f : ℕ) → count_of f v.items ≤ 1) }
         ensures len { IfOk result (λ v. length v.items ≡ tables_of self) }
         ensures refused { IfErr result (λ e. e.0 ≡ self) }
     {

@@ -4,7 +4,6 @@ mod Hexadecimal
 mod KnownBytes
 mod LineLemmas
 mod OneLine
-mod PathLemmas
 mod ReplayLemmas
 mod Standing
 mod ToldRuns

@@ -19,7 +19,8 @@ use Rattle.trace_text.specs.Laws.{reply_told, replies_told, step_asked}
 use Rattle.trace_text.specs.Replay.{Begins, IsReport}
 use Rattle.trace_text.specs.Said.{said}
 use Rattle.trace_text.specs.Session.{Standing, Answer, Follows, Asks, Makes}
-use Rattle.trace_text.specs.Worlds.{tree_of, free_of, word_on}
+use Rattle.table_tree.specs.OnPage.{word_on}
+use Rattle.trace_text.specs.Worlds.{tree_of, free_of}
 use Rattle.trace_text.proofs.Asked.{Fits, fits, mapped}
 
 -- it is a fault

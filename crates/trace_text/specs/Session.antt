@@ -24,7 +24,8 @@ use Rattle.trace_text.specs.declared.session.Stop.TheVariants as stops
 use Rattle.trace_text.specs.declared.verb.TreeName.TheVariants.{Host, Hyp}
 use Rattle.trace_text.specs.Said.{said}
 use Rattle.trace_text.specs.Settings.{Told, told_of, nothing_told, told_after, config_of}
-use Rattle.trace_text.specs.Worlds.{tree_of, free_of, word_on}
+use Rattle.table_tree.specs.OnPage.{word_on}
+use Rattle.trace_text.specs.Worlds.{tree_of, free_of}
 
 -- where a trace stands: what was told, the world once it is booted, and how many step lines were carried out
 pub record Standing (A : Type 0) : Type 0 where

@@ -8,7 +8,6 @@ mod line;
 mod lines;
 mod number;
 mod outcome;
-mod paths;
 mod report;
 mod said;
 mod session;

@@ -7,18 +7,18 @@ ghost use Rattle.table_tree.specs.View.{tables_of};
 ghost use Rattle.trace_text.specs.Session.{Asks, Boots, Does, HasWorld, InWorld, IsNoWorld, Makes, Runs, Tells, at_start, standing_of};
 ghost use Rattle.trace_text.specs.Settings.{config_of, told_of};
 ghost use Rattle.world.specs.Boots.{IsBooted};
+ghost use Rattle.table_tree.specs.OnPage.{word_on as word_of_path};
 ghost use Rattle.trace_text.specs.Lines.{IsServedLine};
 ghost use Rattle.world.specs.Steps.{IsServed};
-ghost use Rattle.trace_text.specs.Worlds.{free_of, tree_of, word_on as word_of_path};
+ghost use Rattle.trace_text.specs.Worlds.{free_of, tree_of};
 
 use crate::fault::Fault;
 use crate::line::Line;
-use crate::paths::word_on;
 use crate::report::ReportLine;
 use crate::said::said;
 use crate::settings::Settings;
 use crate::verb::TreeName;
-use page_state::{MemoryMap, PageRange, Region, Step};
+use page_state::{MemoryMap, Page, PageRange, Region, Step};
 use std::alloc::{Allocator, Global};
 use world::World;
 
@@ -169,7 +169,7 @@ impl<A: Allocator + Copy> Session<A> {
             TreeName::Host => shared.host.tree(),
             TreeName::Hyp => shared.hyp.tree(),
         };
-        match word_on(tree, page, level) {
+        match tree.word_on(Page(page), level) {
             Some(word) => Ok(Some(ReportLine::Word(word))),
             None => Err(Stop::Fault(Fault::Path)),
         }

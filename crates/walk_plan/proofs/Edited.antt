@@ -19,8 +19,9 @@ use Rattle.table_tree.specs.Tables.{table_in}
 use Rattle.table_tree.specs.View.{meaning, table_at, tree_of}
 use Rattle.table_tree.proofs.Standing.{table_top}
 use Rattle.walk_plan.specs.declared.change.Change.{Change}
-use Rattle.walk_plan.specs.Changes.{changed, table_need}
-use Rattle.walk_plan.specs.Ranks.{given, table_rank}
+use Rattle.walk_plan.specs.Changes.{changed}
+use Rattle.walk_plan.specs.inner.Needs.{table_need}
+use Rattle.walk_plan.specs.inner.Ranks.{given, table_rank}
 use Rattle.walk_plan.proofs.Cases.{by_option}
 use Rattle.walk_plan.proofs.InBlocks.{IsIn, page_under, under_page, block_within}
 use Rattle.walk_plan.proofs.Changed.{changed_inside, changed_outside}

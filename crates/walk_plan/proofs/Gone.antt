@@ -26,10 +26,13 @@ use Rattle.table_tree.specs.Slots.{IsSlot, slot_entry, slot_table}
 use Rattle.table_tree.specs.View.{meaning, table_at, tree_of}
 use Rattle.table_tree.proofs.Slots.{by_slot, case_word, case_child, shaped_slot, child_shaped}
 use Rattle.walk_plan.specs.declared.change.Change.{Change}
-use Rattle.walk_plan.specs.Changes.{part, sum_to, met, changed}
-use Rattle.walk_plan.specs.Ranks.{slot_gone, gone_parts, table_gone}
+use Rattle.walk_plan.specs.Changes.{part, changed}
+use Rattle.walk_plan.specs.inner.Needs.{sum_to, met}
+use Rattle.walk_plan.specs.inner.Ranks.{slot_gone, gone_parts, table_gone}
 use Rattle.walk_plan.proofs.Numbers.{place_in, place_small}
-use Rattle.walk_plan.proofs.Joined.{sum_same, joined, joined_none, filter_joined}
+use Rattle.table_tree.specs.AllBlocks.{joined}
+use Rattle.table_tree.proofs.Joined.{joined_none}
+use Rattle.walk_plan.proofs.Joined.{sum_same, filter_joined}
 use Rattle.walk_plan.proofs.Walked.{meets, under, under_page, under_met, under_unmet}
 use Rattle.walk_plan.proofs.OneWord.{IsMade, made_inside, made_outside}
 use Rattle.walk_plan.proofs.Matched.{Matches, IsBare, bare_part, bare_here, match_slot, match_child, child_here, match_word, match_tree}

@@ -2,7 +2,8 @@
 use Rattle.std.proofs.Common.{◌≡◌, ℕ, zero, suc, ◌+◌, ◌<◌, refl, sym, ap, subst, arith, ◌∙◌, inl, inr, ◌⊎◌, Bool, List, [], ◌∷◌, ◌++◌, length, length-append, filter, All, Contains, AllPairs, slice_index_or}
 use Rattle.std.proofs.lemmas.List.Elements.{All-nil, All-append, All-contains, Contains-append_left, Contains-append_right, filter-append}
 use Rattle.std.proofs.lemmas.List.Kept.{AllPairs-cons}
-use Rattle.walk_plan.specs.Changes.{sum_to}
+use Rattle.table_tree.specs.AllBlocks.{joined}
+use Rattle.walk_plan.specs.inner.Needs.{sum_to}
 use Rattle.walk_plan.proofs.Cases.{by_last}
 
 -- sums
@@ -14,16 +15,7 @@ sum_same f g (suc n) h = let x = sum_same f g n (λ i p. h i (omega arith)) in l
 
 -- joined parts
 
-unfoldable pub joined : {X : Type 0} → (ℕ → List X) → ℕ → List X
-joined f zero = []
-joined f (suc n) = joined f n ++ f n
-
 module _ {X : Type 0} where
-  pub joined_none : (f : ℕ → List X) (n : ℕ) → ((i : ℕ) → i < n → f i ≡ []) → joined f n ≡ []
-  unfolding joined
-  joined_none f zero h = refl
-  joined_none f (suc n) h = rw (joined_none f n (λ i p. h i (omega arith)), h n (omega arith)) refl
-
   pub length_joined : (f : ℕ → List X) (n : ℕ) → length (joined f n) ≡ sum_to (λ i. length (f i)) n
   unfolding joined sum_to
   length_joined f zero = refl

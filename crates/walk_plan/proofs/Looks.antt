@@ -4,7 +4,7 @@ use Rattle.std.specs.Prelude.{nat_lt, nat_le}
 use Rattle.std.proofs.Math.Nat.{mul-le-mul_right}
 use Rattle.walk_plan.specs.declared.change.Change.{Change}
 use Rattle.walk_plan.specs.Changes.{IsChange, part}
-use Rattle.walk_plan.specs.Looks.{edge, edges}
+use Rattle.walk_plan.specs.inner.Looks.{edge, edges}
 use Rattle.page_state.proofs.Sizes.{size_some, size_next}
 use Rattle.page_state.proofs.Cases.{by_eq, by_lt}
 use Rattle.walk_plan.proofs.Ranges.{first_part, last_part, after_part, before_part}

@@ -21,10 +21,13 @@ use Rattle.table_tree.specs.Slots.{IsSlot, slot_entry, slot_table}
 use Rattle.table_tree.specs.View.{meaning, table_at, tree_of}
 use Rattle.table_tree.proofs.Slots.{by_slot, case_word, case_child, shaped_slot, slot_word_is, child_shaped}
 use Rattle.walk_plan.specs.declared.change.Change.{Change}
-use Rattle.walk_plan.specs.Changes.{part, sum_to, met, is_one_word as is_one_word_after, block_need, slot_need, table_need, table_parts}
+use Rattle.walk_plan.specs.Changes.{part, is_one_word as is_one_word_after}
+use Rattle.walk_plan.specs.inner.Needs.{sum_to, met, block_need, slot_need, table_need, table_parts}
 use Rattle.walk_plan.proofs.Entries.{word_fits, part_fits}
 use Rattle.walk_plan.proofs.Numbers.{part_part}
-use Rattle.walk_plan.proofs.Joined.{sum_same, joined, joined_none, length_joined, filter_joined}
+use Rattle.table_tree.specs.AllBlocks.{joined}
+use Rattle.table_tree.proofs.Joined.{joined_none}
+use Rattle.walk_plan.proofs.Joined.{sum_same, length_joined, filter_joined}
 use Rattle.walk_plan.proofs.Walked.{meets, under, under_page, under_met, under_unmet}
 use Rattle.walk_plan.proofs.OneWord.{IsMade, one_word_part, one_word_same}
 use Rattle.walk_plan.proofs.Matched.{Matches, IsBare, bare_part, bare_map, bare_here, match_slot, match_child, child_here, match_word, match_tree}

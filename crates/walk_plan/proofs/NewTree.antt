@@ -9,7 +9,8 @@ use Rattle.page_state.specs.Tables.{put, needs, need}
 use Rattle.page_state.specs.Geometries.{block_pages}
 use Rattle.page_state.proofs.Updates.{update_inside, update_outside}
 use Rattle.walk_plan.specs.declared.change.Change.{Change}
-use Rattle.walk_plan.specs.Changes.{part, sum_to, met, block_parts}
+use Rattle.walk_plan.specs.Changes.{part}
+use Rattle.walk_plan.specs.inner.Needs.{sum_to, met, block_parts}
 use Rattle.walk_plan.proofs.Numbers.{part_all}
 use Rattle.walk_plan.proofs.Joined.{filter_joined}
 use Rattle.walk_plan.proofs.Walked.{under}

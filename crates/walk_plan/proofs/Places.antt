@@ -8,10 +8,11 @@ use Rattle.page_state.proofs.Cases.{by_test}
 use Rattle.page_state.proofs.Common.{eq-self}
 use Rattle.page_state.proofs.BlockTests.{block_eq-same}
 use Rattle.page_state.proofs.Blocks.{and-join}
-use Rattle.walk_plan.specs.Changes.{sum_to}
-use Rattle.walk_plan.specs.Ranks.{given, later}
+use Rattle.walk_plan.specs.inner.Needs.{sum_to}
+use Rattle.walk_plan.specs.inner.Ranks.{given, later}
 use Rattle.walk_plan.proofs.Cases.{by_last}
-use Rattle.walk_plan.proofs.Joined.{joined, length_joined}
+use Rattle.table_tree.specs.AllBlocks.{joined}
+use Rattle.walk_plan.proofs.Joined.{length_joined}
 
 -- one block
 

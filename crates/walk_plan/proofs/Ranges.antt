@@ -15,7 +15,8 @@ use Rattle.table_tree.specs.declared.table.Slot.TheVariants.{Word, Child}
 use Rattle.table_tree.specs.Meaning.{slot_at, level_at}
 use Rattle.table_tree.proofs.Slots.{case_word, case_child}
 use Rattle.walk_plan.specs.declared.change.Change.{Change}
-use Rattle.walk_plan.specs.Changes.{IsRangeEntry, IsChange, part, met, sum_to, block_need, slot_need, table_need, is_one_word, block_parts, table_parts}
+use Rattle.walk_plan.specs.Changes.{IsRangeEntry, IsChange, part, is_one_word}
+use Rattle.walk_plan.specs.inner.Needs.{met, sum_to, block_need, slot_need, table_need, block_parts, table_parts}
 
 pub range_advance : (n m k : ℕ) (e : Entry) → IsRangeEntry n e → k + m ≤ n → IsRangeEntry m (advance e k)
 range_advance n m k Malformed h p = h

@@ -24,8 +24,9 @@ use Rattle.table_tree.specs.Slots.{IsSlot, slot_entry, slot_table}
 use Rattle.table_tree.specs.View.{meaning, table_at, tree_of}
 use Rattle.table_tree.proofs.Slots.{by_slot, case_word, case_child, shaped_slot, slot_word_is, child_shaped}
 use Rattle.walk_plan.specs.declared.change.Change.{Change}
-use Rattle.walk_plan.specs.Changes.{part, sum_to, met, is_one_word as is_one_word_after, block_parts, table_parts}
-use Rattle.walk_plan.specs.Ranks.{given, later, met_at, block_rank, slot_rank, table_rank}
+use Rattle.walk_plan.specs.Changes.{part, is_one_word as is_one_word_after}
+use Rattle.walk_plan.specs.inner.Needs.{sum_to, met, block_parts, table_parts}
+use Rattle.walk_plan.specs.inner.Ranks.{given, later, met_at, block_rank, slot_rank, table_rank}
 use Rattle.walk_plan.proofs.Entries.{word_fits, part_fits, eq_differ}
 use Rattle.walk_plan.proofs.Numbers.{part_part}
 use Rattle.walk_plan.proofs.Joined.{sum_same}

@@ -15,4 +15,4 @@ module _ {A : Type 0} where
 
   -- and is a table of a tree
   pub seen_child : (n i : ℕ) (t : Table A) (s : Slot A) (b : Box (Table A) A) → IsSeen i t s → s ≡ Child b → IsShaped n t → IsShaped (n - 1) b.value
-  seen_child n i t s b h e x = let k : n ≡ n - 1 + 1 = let y = seen_deep n i t s b h e x in omega arith in (h.child_shape b (n - 1) e (rw (sym k) x)).1
+  seen_child n i t s b h e x = let k : n ≡ n - 1 + 1 = let y = seen_deep n i t s b h e x in omega arith in (h.child_shape b (n - 1) e (rw (sym k) x))

@@ -10,7 +10,8 @@ use Rattle.page_state.proofs.Cases.{by_test}
 use Rattle.walk_plan.specs.declared.change.Change.{Change}
 use Rattle.walk_plan.specs.Changes.{part}
 use Rattle.walk_plan.proofs.Numbers.{less_scaled, from_part, to_part}
-use Rattle.walk_plan.proofs.Joined.{joined, all_joined}
+use Rattle.table_tree.specs.AllBlocks.{joined}
+use Rattle.walk_plan.proofs.Joined.{all_joined}
 
 -- whether a change meets a block
 abbrev pub meets : Change → ℕ → ℕ → Bool

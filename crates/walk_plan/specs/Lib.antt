@@ -1,3 +1,2 @@
 pub mod Changes
-pub mod Ranks
-pub mod Looks
+pub mod inner

@@ -6,5 +6,5 @@ mod needs;
 mod spare;
 
 pub use change::Change;
-pub use needs::{need, need_of_block, need_of_new, need_of_table};
+pub use needs::{need, need_of_new};
 pub use spare::{Spare, drain, release, reserve, reserve_tables};

@@ -9,8 +9,9 @@ ghost use Rattle.table_tree.specs.Meaning.{IsDepth};
 ghost use Rattle.table_tree.specs.Reading.{count_of};
 ghost use Rattle.table_tree.specs.Shape.{IsShaped};
 ghost use Rattle.table_tree.specs.View.{tree_of};
-ghost use Rattle.walk_plan.specs.Changes.{CanBeSaidOn, IsChange, IsRangeEntry, block_need, block_parts, met, sum_to, table_need};
-ghost use Rattle.walk_plan.specs.Looks.{edges};
+ghost use Rattle.walk_plan.specs.Changes.{CanBeSaidOn, IsChange, IsRangeEntry};
+ghost use Rattle.walk_plan.specs.inner.Needs.{block_need, block_parts, met, sum_to, table_need};
+ghost use Rattle.walk_plan.specs.inner.Looks.{edges};
 
 use crate::Change;
 use page_state::{Entry, Geometry, PageRange};
@@ -19,7 +20,7 @@ use table_tree::word::{entry_of, pages_before};
 use table_tree::{Reads, Slot, Table, Tree};
 
 /// The tables that a change needs in a block without a table, whose first page has the entry `old`.
-pub fn need_of_block(depth: u32, old: Entry, change: Change) -> usize
+fn need_of_block(depth: u32, old: Entry, change: Change) -> usize
     requires depth_in { IsDepth depth }
     requires change_in { IsChange depth change }
     requires old_in { IsRangeEntry (block_pages depth) old }
@@ -39,7 +40,7 @@ pub fn need_of_block(depth: u32, old: Entry, change: Change) -> usize
 }
 
 /// The tables that a change needs in a table.
-pub fn need_of_table<A: Allocator>(
+fn need_of_table<A: Allocator>(
     table: &Table<A>,
     depth: u32,
     change: Change,

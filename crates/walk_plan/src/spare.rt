@@ -80,7 +80,6 @@ pub fn reserve_tables<A: Allocator + Copy>(
 fn give_back(pool: &mut Pool, frames: &[Frame])
     requires distinct { (f : ℕ) → frame_count f (numbers frames.now) + frame_count f pool.old.frames ≤ 1 }
     requires covered { length frames.now + length pool.old.frames ≤ pool.old.room }
-    requires low { All (λ f. f.0 < 2 ^ 36) frames.now }
     ensures frames { pool.new.frames ≡ all_given (numbers frames.now) pool.old.frames }
     ensures room { pool.new.room ≡ pool.old.room }
 {

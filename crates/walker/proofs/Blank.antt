@@ -59,7 +59,7 @@ module _ {A : Type 0} where
   no_child t i b h p e = let y : 1 ≤ 0 = (slot_child_is 0 b (slot_at t i) (shaped_slot 0 t i h p) e).0 in absurd (omega arith)
 
   child_shape : (d : ℕ) (t : Table A) (i : ℕ) (b : Box (Table A) A) → IsShaped (suc d) t → i < 512 → slot_at t i ≡ Child b → IsShaped d b.value
-  child_shape d t i b h p e = let x = slot_child_is (suc d) b (slot_at t i) (shaped_slot (suc d) t i h p) e in let k : suc d - 1 ≡ d = omega arith in rw k at x.1.1
+  child_shape d t i b h p e = let x = slot_child_is (suc d) b (slot_at t i) (shaped_slot (suc d) t i h p) e in let k : suc d - 1 ≡ d = omega arith in rw k at x.1
 
   -- the entry of a page hangs on what is left of it in its block
   same_word : (d : ℕ) (t : Table A) (p q w : ℕ) → index_at d p ≡ index_at d q → p % 2 ^ (9 * d) ≡ q % 2 ^ (9 * d) → slot_at t (index_at d p) ≡ Word w → entry_at d t p ≡ entry_at d t q

@@ -3,23 +3,24 @@ use Rattle.std.proofs.Common.{◌≡◌, ℕ, zero, suc, ◌+◌, ◌*◌, ◌<�
 use Rattle.std.specs.Prelude.{nat_lt}
 use mathlib.Core.Path.{fun_ext}
 use Rattle.std.proofs.lemmas.List.{take_all}
+use Rattle.std.proofs.lemmas.List.Sums.{sum_by-take-le}
 use Rattle.page_state.specs.declared.entry.Entry.{Entry}
 use Rattle.page_state.specs.declared.entry.Entry.TheVariants.{Unmapped}
 use Rattle.page_state.specs.declared.layout.Geometry.{Geometry}
 use Rattle.page_state.specs.Trees.{Pool}
 use Rattle.page_state.specs.Tables.{put, need, returned, edited, all_given}
 use Rattle.page_state.specs.Geometries.{levels_below, input_pages, block_pages}
-use Rattle.page_state.specs.Counts.{frame_count}
+use Rattle.page_state.specs.Counts.{is_one, frame_count}
 use Rattle.page_state.proofs.Edits.{tree-same}
 use Rattle.hyp_pool.specs.Laws.{GivenCounted}
 use Rattle.table_tree.specs.declared.table.Table.{Table}
 use Rattle.table_tree.specs.declared.tree.Tree.{Tree}
 use Rattle.table_tree.specs.Meaning.{entry_at, frame_of}
-use Rattle.table_tree.specs.Tables.{tables_in, uses_in, table_in}
+use Rattle.table_tree.specs.Tables.{tables_in, uses_in, table_in, AreDistinct}
 use Rattle.table_tree.specs.View.{tree_of, meaning, table_at, uses, tables_of, root_of}
 use Rattle.walk_plan.specs.declared.change.Change.{Change}
-use Rattle.walk_plan.specs.Changes.{table_need}
-use Rattle.walk_plan.specs.Ranks.{table_gone}
+use Rattle.walk_plan.specs.inner.Needs.{table_need}
+use Rattle.walk_plan.specs.inner.Ranks.{table_gone}
 use Rattle.walk_plan.proofs.Needed.{need_walked}
 use Rattle.walk_plan.proofs.Edited.{IsWalked, tree_edited}
 use Rattle.walk_plan.proofs.Gone.{gone_returned}
@@ -46,6 +47,15 @@ module _ {A : Type 0} where
   unfolding table_at
   same_at zero number t u g h = refl
   same_at (suc low) number t u g h = by_table t u g h (λ x y. cond (nat_lt (number * block_pages (suc low)) (input_pages x)) (table_in (levels_below x) y low (number * block_pages (suc low))) None)
+
+  -- tables that a change makes have frames of their own
+  pub still_distinct : (t : Tree A) (b : Table A) (c : Change) (fs rest : List ℕ) (free : Pool) → IsGrown (levels_below t.geometry) t.table b c fs rest → ((f : ℕ) → uses t f + frame_count f fs + frame_count f free ≤ 1) → AreDistinct (levels_below t.geometry) b
+  still_distinct t b c fs rest free grown apart f =
+      omega (arith, grown.uses f, uses_are t f, apart f, sum_by-take-le (λ g. is_one g f) fs (table_need (levels_below t.geometry) t.table c))
+
+  -- the tree with the root table that a change makes
+  abbrev pub after : (t : Tree A) (b : Table A) (c : Change) (fs rest : List ℕ) (free : Pool) → IsGrown (levels_below t.geometry) t.table b c fs rest → ((f : ℕ) → uses t f + frame_count f fs + frame_count f free ≤ 1) → Tree A
+  after t b c fs rest free grown apart = record { geometry = t.geometry; table = b; shaped = grown.shape; tight = grown.tight; distinct = still_distinct t b c fs rest free grown apart }
 
   -- what contracts see of a tree hangs on its geometry and its root table
   pub same_tree : (t u : Tree A) → t.geometry ≡ u.geometry → t.table ≡ u.table → tree_of t ≡ tree_of u

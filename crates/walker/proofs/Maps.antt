@@ -12,7 +12,7 @@ use Rattle.table_tree.specs.Meaning.{index_at}
 use Rattle.table_tree.proofs.Digits.{digits}
 use Rattle.walk_plan.specs.declared.change.Change.{Change}
 use Rattle.walk_plan.specs.Changes.{part, changed}
-use Rattle.walker.specs.Walks.{upto}
+use Rattle.walker.specs.inner.Walks.{upto}
 
 pub changed_in : (d : ℕ) (m : ℕ → Entry) (c : Change) (q : ℕ) → c.first ≤ q % 2 ^ (9 * d) → q % 2 ^ (9 * d) < c.end → changed d m c q ≡ advance c.entry (q % 2 ^ (9 * d) - c.first)
 changed_in d m c q a b = grind (arith, nat_tests)

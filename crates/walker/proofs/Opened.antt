@@ -20,7 +20,7 @@ use Rattle.table_tree.specs.declared.table.Table.{Table}
 use Rattle.table_tree.specs.declared.table.Slot.{Slot}
 use Rattle.table_tree.specs.declared.table.Slot.TheVariants.{Word, Child}
 use Rattle.table_tree.specs.Meaning.{level_at, index_at, slot_at, slots_of, slot_case, frame_of, word_entry, entry_at}
-use Rattle.table_tree.specs.Shape.{IsEntryWord, IsTableFrame, IsShaped}
+use Rattle.table_tree.specs.Shape.{IsEntryWord, IsShaped}
 use Rattle.table_tree.specs.Tables.{table_in}
 use Rattle.table_tree.specs.Tight.{IsTight}
 use Rattle.table_tree.specs.Changes.{IsSeen, IsWritten, IsAttached, IsCleared}
@@ -29,12 +29,13 @@ use Rattle.table_tree.proofs.Standing.{table_top}
 use Rattle.table_tree.proofs.Words.{zero_said}
 use Rattle.table_tree.proofs.Sums.{fresh_word, fresh_child}
 use Rattle.walk_plan.specs.declared.change.Change.{Change}
-use Rattle.walk_plan.specs.Changes.{IsRangeEntry, IsChange, changed, is_whole, is_one_word, block_need}
-use Rattle.walk_plan.specs.Ranks.{given, later, block_rank, parts_rank, slot_rank}
+use Rattle.walk_plan.specs.Changes.{IsRangeEntry, IsChange, changed, is_whole, is_one_word}
+use Rattle.walk_plan.specs.inner.Needs.{block_need}
+use Rattle.walk_plan.specs.inner.Ranks.{given, later, block_rank, parts_rank, slot_rank}
 use Rattle.walk_plan.proofs.Ranges.{block_one, block_split, slot_word, slot_child}
 use Rattle.walk_plan.proofs.Seen.{seen_deep}
 use Rattle.walk_plan.proofs.Ranked.{rank_child}
-use Rattle.walker.specs.Steps.{IsRewritten, IsOpening, IsFilled, IsReady, IsOpened}
+use Rattle.walker.specs.inner.Steps.{IsRewritten, IsOpening, IsFilled, IsReady, IsOpened}
 use Rattle.walker.proofs.Maps.{changed_in, changed_before, changed_after, changed_at}
 use Rattle.walker.proofs.Ranks.{given_later, given_some, block_rank_one, block_rank_split, slot_rank_word}
 use Rattle.walker.proofs.Parts.{parts_need, parts_ranked, parts_gone, gone_word, gone_child}
@@ -191,9 +192,8 @@ module _ {A : Type 0} where
         tight = rest.tight (suc d) tight;
         other = λ q x. sym (map q ∙ ap (λ a. cond a (entry_at d b.value q) (entry_at (suc d) u q)) (eq-other (index_at (suc d) q) i x));
         stand = λ low q l x. sym (stand low q (let l' : low < suc d = l in omega arith) ∙ ap (λ a. cond a (table_in d b.value low q) (table_in (suc d) u low q)) (eq-other (index_at (suc d) q) i x));
-        child_shape = (h.child d (subst (λ n. IsShaped n t) (sym o) shape)).1;
+        child_shape = h.child d (subst (λ n. IsShaped n t) (sym o) shape);
         child_tight = h.child_tight d (subst (λ n. IsTight n t) (sym o) tight);
-        child_frame = (h.child d (subst (λ n. IsShaped n t) (sym o) shape)).0;
         map = λ q x. sym (map q ∙ ap (λ a. cond a (entry_at d b.value q) (entry_at (suc d) u q)) (eq-made (index_at (suc d) q) i x));
         uses = λ f. rw z (let y = rw o at (h.uses d f) in omega (arith, y));
         tables = let y = rw o at (h.tables d) in omega (arith, y, z);
@@ -228,8 +228,8 @@ module _ {A : Type 0} where
       }
 
   pub opened_word : (d i w : ℕ) (t u child : Table A) (x : Entry) (before after : List ℕ) → slot_at t i ≡ Word w → x ≡ entry_of_word (desc_of (level_at (suc d)) w) → IsSeen i t (slot_at t i) → IsWritten i 0 t u
-      → slots_of u ≡ set (slots_of t) i (Word 0) → frame_of u ≡ frame_of t → IsShaped (suc d) t → IsTight (suc d) t → before ≡ frame_of child ∷ after → IsTableFrame (frame_of child) → IsFilled d x child → IsOpened (suc d) d i t u child before after
-  opened_word d i w t u child x before after e k seen h slots frame shape tight stock small filled =
+      → slots_of u ≡ set (slots_of t) i (Word 0) → frame_of u ≡ frame_of t → IsShaped (suc d) t → IsTight (suc d) t → before ≡ frame_of child ∷ after → IsFilled d x child → IsOpened (suc d) d i t u child before after
+  opened_word d i w t u child x before after e k seen h slots frame shape tight stock filled =
       let z = fresh_word w (slot_at t i) e in
       let n : suc d ≡ d + 1 = omega arith in
       let none : (low q : ℕ) → low < suc d → index_at (suc d) q ≡ i → table_in (suc d) t low q ≡ None = λ low q l y. seen.no_table w (suc d) low q e y l in
@@ -242,7 +242,6 @@ module _ {A : Type 0} where
         stand = λ low q l y. h.standing (suc d) low q;
         child_shape = filled.shape;
         child_tight = filled.tight;
-        child_frame = small;
         map = λ q y. filled.map q ∙ ap (λ m. advance x (q % block_pages m)) (sym n) ∙ ap (λ a. advance a (q % block_pages (suc d))) k ∙ sym (seen.word w (suc d) q e y);
         uses = λ f. rw (z, stock) (let a = filled.uses f in let b = h.uses (suc d) f in omega (arith, a, b));
         tables = omega (arith, filled.tables, h.tables (suc d), z);

@@ -14,11 +14,12 @@ use Rattle.table_tree.specs.Meaning.{slot_at, level_at, index_at, frame_of, entr
 use Rattle.table_tree.specs.Shape.{IsEntryWord}
 use Rattle.table_tree.proofs.Slots.{case_word, case_child}
 use Rattle.walk_plan.specs.declared.change.Change.{Change}
-use Rattle.walk_plan.specs.Changes.{part, sum_to, met, block_need, block_parts, slot_need, table_parts, table_need}
-use Rattle.walk_plan.specs.Ranks.{later, block_rank, parts_rank, slot_rank, table_rank, slot_gone, gone_parts, table_gone}
+use Rattle.walk_plan.specs.Changes.{part}
+use Rattle.walk_plan.specs.inner.Needs.{sum_to, met, block_need, block_parts, slot_need, table_parts, table_need}
+use Rattle.walk_plan.specs.inner.Ranks.{later, block_rank, parts_rank, slot_rank, table_rank, slot_gone, gone_parts, table_gone}
 use Rattle.walk_plan.proofs.Ranges.{slot_word, sum_none}
 use Rattle.walk_plan.proofs.Joined.{sum_same}
-use Rattle.walker.specs.Steps.{IsPart, is_emptied}
+use Rattle.walker.specs.inner.Steps.{IsPart, is_emptied}
 use Rattle.walker.proofs.Ranks.{slot_rank_word, met_at_same}
 
 zero_either : (b : Bool) (x : ℕ) → x ≡ 0 → cond b x 0 ≡ 0

@@ -13,8 +13,9 @@ use Rattle.table_tree.specs.declared.table.Slot.TheVariants.{Word}
 use Rattle.table_tree.specs.Meaning.{slot_at, level_at, index_at}
 use Rattle.table_tree.proofs.Slots.{case_word}
 use Rattle.walk_plan.specs.declared.change.Change.{Change}
-use Rattle.walk_plan.specs.Changes.{IsChange, part, is_one_word, sum_to, met, table_parts}
-use Rattle.walk_plan.specs.Ranks.{given, later, met_at, block_rank, parts_rank, slot_rank, table_rank}
+use Rattle.walk_plan.specs.Changes.{IsChange, part, is_one_word}
+use Rattle.walk_plan.specs.inner.Needs.{sum_to, met, table_parts}
+use Rattle.walk_plan.specs.inner.Ranks.{given, later, met_at, block_rank, parts_rank, slot_rank, table_rank}
 use Rattle.walk_plan.proofs.Ranges.{before_part, after_part}
 
 pub later_none : (n : ℕ) (r : Option ℕ) → r ≡ None → later n r ≡ None

@@ -21,9 +21,10 @@ use Rattle.table_tree.proofs.Slots.{set_here}
 use Rattle.table_tree.proofs.Standing.{table_top}
 use Rattle.table_tree.proofs.Words.{zero_entry}
 use Rattle.walk_plan.specs.declared.change.Change.{Change}
-use Rattle.walk_plan.specs.Changes.{changed, slot_need, table_need}
-use Rattle.walk_plan.specs.Ranks.{given, slot_rank, table_rank, slot_gone, table_gone}
-use Rattle.walker.specs.Steps.{IsOpened, IsReady, is_emptied}
+use Rattle.walk_plan.specs.Changes.{changed}
+use Rattle.walk_plan.specs.inner.Needs.{slot_need, table_need}
+use Rattle.walk_plan.specs.inner.Ranks.{given, slot_rank, table_rank, slot_gone, table_gone}
+use Rattle.walker.specs.inner.Steps.{IsOpened, IsReady, is_emptied}
 use Rattle.walker.proofs.Maps.{changed_at}
 use Rattle.walker.proofs.Blank.{entry_word, entry_in_block, unmapped_blank}
 use Rattle.walker.proofs.Emptied.{emptied_each, emptied_by}

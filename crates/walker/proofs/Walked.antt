@@ -15,8 +15,9 @@ use Rattle.table_tree.specs.Tables.{table_in}
 use Rattle.table_tree.proofs.PathNumbers.{index_same}
 use Rattle.table_tree.proofs.Steps.{blank_entries}
 use Rattle.walk_plan.specs.declared.change.Change.{Change}
-use Rattle.walk_plan.specs.Changes.{IsChange, changed, part, sum_to, met, slot_need, table_parts}
-use Rattle.walk_plan.specs.Ranks.{given, later, slot_rank, table_rank, slot_gone, gone_parts}
+use Rattle.walk_plan.specs.Changes.{IsChange, changed, part}
+use Rattle.walk_plan.specs.inner.Needs.{sum_to, met, slot_need, table_parts}
+use Rattle.walk_plan.specs.inner.Ranks.{given, later, slot_rank, table_rank, slot_gone, gone_parts}
 use Rattle.walk_plan.proofs.Ranges.{met_some, sum_next, table_parts_is}
 use Rattle.walker.proofs.Ranks.{given_later, given_none, rank_before, rank_after, rank_met}
 use Rattle.walker.proofs.Maps.{changed_in}

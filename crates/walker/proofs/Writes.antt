@@ -15,7 +15,7 @@ use Rattle.table_tree.specs.Shape.{IsWide, IsEntryWord}
 use Rattle.table_tree.specs.Changes.{IsWritten}
 use Rattle.table_tree.proofs.Digits.{digits}
 use Rattle.table_tree.proofs.Slots.{set_here, set_others}
-use Rattle.walker.specs.Steps.{IsPart}
+use Rattle.walker.specs.inner.Steps.{IsPart}
 use Rattle.walker.proofs.Parts.{part_made}
 
 module _ {A : Type 0} where

@@ -11,7 +11,7 @@ ghost use Rattle.table_tree.specs.Slots.{fresh};
 ghost use Rattle.table_tree.specs.Stocks.{frames_of};
 ghost use Rattle.table_tree.specs.Tight.{IsTight};
 ghost use Rattle.walk_plan.specs.Changes.{IsChange, changed, is_one_word};
-ghost use Rattle.walker.specs.Steps.{IsRewritten, IsOpening, IsFilled, IsOpened};
+ghost use Rattle.walker.specs.inner.Steps.{IsRewritten, IsOpening, IsFilled, IsOpened};
 
 use page_state::Entry;
 use std::alloc::Allocator;

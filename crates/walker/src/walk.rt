@@ -9,9 +9,10 @@ ghost use Rattle.table_tree.specs.Shape.{IsShaped};
 ghost use Rattle.table_tree.specs.Stocks.{frames_of};
 ghost use Rattle.table_tree.specs.Tables.{tables_in, uses_in, table_in};
 ghost use Rattle.table_tree.specs.Tight.{IsTight};
-ghost use Rattle.walk_plan.specs.Changes.{IsChange, changed, slot_need, table_need};
-ghost use Rattle.walk_plan.specs.Looks.{edges};
-ghost use Rattle.walk_plan.specs.Ranks.{given, slot_rank, table_rank, slot_gone, table_gone};
+ghost use Rattle.walk_plan.specs.Changes.{IsChange, changed};
+ghost use Rattle.walk_plan.specs.inner.Needs.{slot_need, table_need};
+ghost use Rattle.walk_plan.specs.inner.Looks.{edges};
+ghost use Rattle.walk_plan.specs.inner.Ranks.{given, slot_rank, table_rank, slot_gone, table_gone};
 
 use crate::open::{is_spent, opened, word_for};
 use std::alloc::Allocator;

@@ -161,7 +161,6 @@ fn is_carve_enough(map: &MemoryMap, geometry: Geometry) -> bool
 fn take_root(pool: &mut Pool) -> Frame
     requires { 0 < length pool.old.frames }
     ensures taken { pool.old.frames ≡ result.0 ∷ pool.new.frames }
-    ensures low { result.0 < 2 ^ 36 }
     ensures room { pool.new.room ≡ pool.old.room }
     ensures pool { IsPool pool.new }
 {

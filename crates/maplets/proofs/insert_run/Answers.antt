@@ -11,5 +11,5 @@ loop-i-preserved c = record {
       let row = rw c.advanced.ensures at old in
       row ∙ insert_more _ _ c.loop-i.rows.items c.args.first c.loop-i.i c.args.at c.args.target at c.loop-i.invariant.items;
   len = let old = rw c.unwrap.ensures at c.insert.ensures.len in omega (arith, old, c.loop-i.invariant.len);
-  room = omega (arith, c.insert.ensures.capacity, c.loop-i.invariant.room);
+  capacity = (c.insert.ensures.in_place (omega (arith, c.loop-i.invariant.capacity, c.loop-i.invariant.len, c.requires.room, c.loop-i-test.true))).1.0 ∙ c.loop-i.invariant.capacity;
 }

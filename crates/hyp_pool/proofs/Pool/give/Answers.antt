@@ -36,7 +36,7 @@ invariant_of-self c =
     let new : Contains (lowest_first c.self.inside.frames.items) c.args.frame.0 → ⊥ = rw (← c.self.view_is) at c.requires.new in
     let room : length (lowest_first c.self.inside.frames.items) < c.self.inside.room = rw (← c.self.view_is) at c.requires.room in
     rw (given_now c) (
-      pool_given c.args.frame.0 c.self.inside.room (lowest_first c.self.inside.frames.items) new room c.requires.low c.self.invariant.0,
+      pool_given c.args.frame.0 c.self.inside.room (lowest_first c.self.inside.frames.items) new room c.self.invariant.0,
       omega (arith, c.self.invariant.1, c.insert.ensures.capacity),
     )
 

@@ -1,6 +1,6 @@
 use Rattle.std.proofs.Common.{◌≡◌, ◌+◌, ◌-◌, length, vec_len, arith}
 use Rattle.hyp_pool.proofs.Views.{lowest_first-drop, lowest_first-take}
-use Rattle.hyp_pool.proofs.Pools.{pool_take, low_taken}
+use Rattle.hyp_pool.proofs.Pools.{pool_take, least_moved}
 use Rattle.hyp_pool.proofs.Pool.take_many.Goals as goal
 
 -- the frames that stay and those that are taken are all
@@ -23,5 +23,5 @@ returns-clause-taken c = rw (c.move_last.ensures.moved, ← c.self.view_is) (low
 pub returns-clause-left : goal.returns-clause-left
 returns-clause-left c = rw (c.move_last.ensures.left, ← c.self.view_is) (lowest_first-take (vec_len c.self.inside.frames - c.args.n) c.args.n c.self.inside.frames.items (all_frames c))
 
-pub returns-clause-low : goal.returns-clause-low
-returns-clause-low c = rw c.move_last.ensures.moved (low_taken (vec_len c.self.inside.frames - c.args.n) c.args.n c.self.inside.frames.items (all_frames c) c.self.invariant.0.low)
+pub returns-clause-least : goal.returns-clause-least
+returns-clause-least c = rw (c.move_last.ensures.moved, c.move_last.ensures.left) (least_moved (vec_len c.self.inside.frames - c.args.n) c.args.n c.self.inside.frames.items (all_frames c) c.self.invariant.0.rising)

@@ -1,8 +1,10 @@
-use Rattle.std.proofs.Common.{◌≡◌, ◌≤◌, ◌+◌, ◌++◌, take, drop, length, arith, ◌∙◌, refl}
+use Rattle.std.proofs.Common.{◌≡◌, ◌≤◌, ◌+◌, ◌++◌, take, drop, length, arith, ◌∙◌, refl, vec_len}
+use Rattle.std.specs.Vec.{vec_capacity}
 use Rattle.maplets.specs.Rows.{AreBelow, rows_of}
 use Rattle.maplets.proofs.Order.{IsRoundRange, places_order, below_more}
 use Rattle.maplets.proofs.Changes.{put_in, given_runs, taken_runs, given_sorted, taken_sorted}
 use Rattle.maplets.proofs.Coarse.{runs_coarsest}
+use Rattle.maplets.proofs.Pages.{room_kept}
 use Rattle.maplets.proofs.Maplets.set.Goals as goal
 
 round : (c : goal.After-remove_rows-arg-1) → IsRoundRange c.args.range.first.0 c.args.range.count c.first_from-from.result c.next_from-to.result c.self.inside.rows.items
@@ -38,7 +40,7 @@ round_given c = record {
 given : (c : goal.After-insert_run) → c.insert_run.new.rows.items ≡ take c.first_from-from.result c.self.inside.rows.items ++ (rows_of c.args.range.first.0 c.in-Some.target c.args.range.count ++ drop c.next_from-to.result c.self.inside.rows.items)
 given c =
     let within : c.first_from-from.result ≤ length c.self.inside.rows.items = rw c.as_slice.ensures.value at c.first_from-from.ensures.within in
-    put_in c.args.range.first.0 c.args.range.count c.first_from-from.result c.next_from-to.result c.self.inside.rows.items (round_given c) within c.in-Some.target c.remove_rows.new.rows.items c.insert_run.new.rows.items c.remove_rows.ensures.items c.insert_run.ensures
+    put_in c.args.range.first.0 c.args.range.count c.first_from-from.result c.next_from-to.result c.self.inside.rows.items (round_given c) within c.in-Some.target c.remove_rows.new.rows.items c.insert_run.new.rows.items c.remove_rows.ensures.items c.insert_run.ensures.items
 
 pub invariant_of-self : goal.invariant_of-self
 invariant_of-self c = given_sorted c.args.range.first.0 c.args.range.count c.first_from-from.result c.next_from-to.result c.self.inside.rows.items (round_given c) (rw c.as_slice.ensures.value at c.first_from-from.ensures.within) c.in-Some.target c.insert_run.new.rows.items c.requires.pages (c.requires.frames c.in-Some.target c.in-Some.is) c.self.invariant (given c)
@@ -69,3 +71,11 @@ returns-in_default-clause-map c =
 
 pub returns-in_default-clause-coarsest : goal.returns-in_default-clause-coarsest
 returns-in_default-clause-coarsest c = runs_coarsest 0 c.remove_rows.new.rows.items (invariant_of-self-in_default c)
+
+pub returns-in-Some-clause-room : goal.returns-in-Some-clause-room
+returns-in-Some-clause-room c =
+    rw (← c.self.view_is) (room_kept c.self.inside.rows.items c.insert_run.new.rows.items (vec_len c.self.inside.rows) (vec_len c.insert_run.new.rows) (vec_capacity c.self.inside.rows) (vec_capacity c.insert_run.new.rows) (omega arith) (omega arith) (omega arith) (omega arith) (c.insert_run.ensures.capacity ∙ c.remove_rows.ensures.capacity))
+
+pub returns-in_default-clause-room : goal.returns-in_default-clause-room
+returns-in_default-clause-room c =
+    rw (← c.self.view_is) (room_kept c.self.inside.rows.items c.remove_rows.new.rows.items (vec_len c.self.inside.rows) (vec_len c.remove_rows.new.rows) (vec_capacity c.self.inside.rows) (vec_capacity c.remove_rows.new.rows) (omega arith) (omega arith) (omega arith) (omega arith) c.remove_rows.ensures.capacity)

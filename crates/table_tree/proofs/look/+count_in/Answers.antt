@@ -15,7 +15,7 @@ pub count_in-count-requires : goal.count_in-count-requires
 count_in-count-requires g t c κs within =
     let h = slot_child_is c.args.depth c.in-Child.child c.read.result.now (rw c.read.ensures (shaped_slot c.args.depth c.args.table.now c.loop-i.i c.requires.shape c.loop-i-test.true)) c.in-Child.is in
     let le : 1 ≤ c.args.depth = h.0 in
-    (omega (arith, c.decreases), (within, (omega (arith, c.requires.depth_in), rw c.deref.ensures h.1.1)))
+    (omega (arith, c.decreases), (within, (omega (arith, c.requires.depth_in), rw c.deref.ensures h.1)))
 
 pub overflow_add-count : goal.overflow_add-count
 overflow_add-count g t c =

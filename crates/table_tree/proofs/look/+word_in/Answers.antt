@@ -27,7 +27,7 @@ pub word_in-requires : goal.word_in-requires
 word_in-requires g t c κs within =
     let h = slot_child_is c.args.depth c.in-Child.child c.read-slot.result.now (rw c.read-slot.ensures (shaped_slot c.args.depth c.args.table.now (get_or c.args.path.now 0 0) c.requires.shape c.if-path-ge512.false)) c.in-Child.is in
     let le : 1 ≤ c.args.depth = h.0 in
-    (omega (arith, c.decreases), (within, (omega (arith, c.requires.depth_in), rw c.deref.ensures h.1.1)))
+    (omega (arith, c.decreases), (within, (omega (arith, c.requires.depth_in), rw c.deref.ensures h.1)))
 
 pub returns-in-Word : goal.returns-in-Word
 returns-in-Word g t c = path_stop c.args.table.now c.args.path.now c.read-slot.result.now c.in-Word.field-0 (grind (arith, nat_tests, c.if-is_empty.ensures, c.if-path-eq1.false)) c.if-path-ge512.false c.read-slot.ensures c.in-Word.is

@@ -1,6 +1,7 @@
 use Rattle.std.proofs.Common.{ℕ, ◌-◌, ◌*◌, ◌^◌, ◌≤◌, sym, ◌∙◌, arith}
 use Rattle.std.proofs.Math.Nat.{mul-le-mul_left, mul-le-mul_right}
-use Rattle.walk_plan.specs.Changes.{IsChange, part, met, block_parts}
+use Rattle.walk_plan.specs.Changes.{IsChange, part}
+use Rattle.walk_plan.specs.inner.Needs.{met, block_parts}
 use Rattle.walk_plan.proofs.Ranges.{part_in, part_is, met_some, met_start, met_end, sum_next, block_none, block_one, block_split, powers, change_below, block_part, thousand, span, block_parts_is}
 use Rattle.walk_plan.proofs.needs.+need_of_block.Goals as goal
 use Rattle.walk_plan.proofs.needs.+need_of_block.Goals.{then-depth-eq0-via-then-depth-eq0, then-depth-eq0-via-else-depth-eq0+then-is_one_word}

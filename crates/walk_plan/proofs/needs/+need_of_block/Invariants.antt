@@ -1,5 +1,5 @@
 use Rattle.std.proofs.Common.{◌≡◌, ◌+◌, ◌*◌, ◌^◌, ◌≤◌}
-use Rattle.walk_plan.specs.Changes.{met, sum_to, block_parts}
+use Rattle.walk_plan.specs.inner.Needs.{met, sum_to, block_parts}
 use Rattle.walk_plan.proofs.needs.+need_of_block.Given as goal
 
 abbrev pub decreases-need_of_block : goal.decreases-need_of_block

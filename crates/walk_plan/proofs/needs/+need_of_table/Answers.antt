@@ -1,6 +1,7 @@
 use Rattle.std.proofs.Common.{◌≡◌, ◌+◌, ◌-◌, ◌*◌, ◌^◌, ◌≤◌, sym, ap, ◌∙◌, arith}
 use Rattle.std.proofs.Math.Nat.{mul-le-mul_left, mul-le-mul_right}
-use Rattle.walk_plan.specs.Changes.{part, met, table_parts}
+use Rattle.walk_plan.specs.Changes.{part}
+use Rattle.walk_plan.specs.inner.Needs.{met, table_parts}
 use Rattle.walk_plan.proofs.Ranges.{part_in, part_is, met_some, met_start, met_end, sum_next, change_below, span, table_parts_is, said_range, slot_word, slot_child, powers_next}
 use Rattle.walk_plan.proofs.Looks.{ends_start, ends_next, ends_end, whole_parts, whole_edges, child_looks, some_part}
 use Rattle.table_tree.specs.Reading.{count_of}

@@ -1,6 +1,6 @@
 use Rattle.std.proofs.Common.{◌≡◌, ◌+◌, ◌*◌, ◌^◌, ◌≤◌, ◌-◌, ◌/◌}
 use Rattle.table_tree.specs.Reading.{count_of}
-use Rattle.walk_plan.specs.Changes.{met, sum_to, table_parts}
+use Rattle.walk_plan.specs.inner.Needs.{met, sum_to, table_parts}
 use Rattle.walk_plan.proofs.Looks.{done, ends}
 use Rattle.walk_plan.proofs.needs.+need_of_table.Given as goal
 

@@ -1,7 +1,8 @@
 use Rattle.std.proofs.Common.{◌*◌, ◌^◌, ◌≤◌, arith}
 use Rattle.std.proofs.Math.Nat.{mul-le-mul_left}
 use Rattle.page_state.specs.declared.entry.Entry.TheVariants.{Unmapped}
-use Rattle.walk_plan.specs.Changes.{part, met, block_parts}
+use Rattle.walk_plan.specs.Changes.{part}
+use Rattle.walk_plan.specs.inner.Needs.{met, block_parts}
 use Rattle.walk_plan.proofs.Ranges.{part_in, part_is, met_some, met_start, met_end, sum_next, span, block_parts_is, powers_next}
 use Rattle.walk_plan.proofs.needs.need_of_empty.Goals as goal
 

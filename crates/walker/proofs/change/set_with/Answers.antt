@@ -7,7 +7,7 @@ use Rattle.walk_plan.proofs.Looks.{edges_most}
 use Rattle.walk_plan.proofs.Needed.{need_walked}
 use Rattle.walk_plan.proofs.OfTree.{low_depth}
 use Rattle.walker.proofs.Slotted.{IsGrown}
-use Rattle.walker.proofs.Changed.{root_is, same_tree, same_uses, same_count, edited_tree, moved, counted, came_back}
+use Rattle.walker.proofs.Changed.{root_is, after, still_distinct, same_tree, same_uses, same_count, edited_tree, moved, counted, came_back}
 use Rattle.walker.proofs.change.set_with.Goals as goal
 
 pub set_all-requires-clause-enough : goal.set_all-requires-clause-enough
@@ -32,7 +32,7 @@ drain-requires-clause-distinct g c f =
     } in
     let none = λ (f : ℕ). ap (frame_count f) c.new-freed.ensures in
     let gone = λ (f : ℕ). (rw e at (c.set_all.ensures.freed f)) in
-    let m = moved t (record { geometry = t.geometry; table = c.set_all.new.table; shaped = grown.shape; tight = grown.tight }) c.args.range.first.0 c.args.range.count c.args.entry (record { first = c.args.range.first.0; end = c.args.range.first.0 + c.args.range.count; entry = c.args.entry }) (frames_of c.args.spare.stock) (frames_of c.set_all.new.spare) (omega (arith, c.requires.some)) c.requires.within refl refl refl refl c.requires.just grown f in
+    let m = moved t (after t c.set_all.new.table (record { first = c.args.range.first.0; end = c.args.range.first.0 + c.args.range.count; entry = c.args.entry }) (frames_of c.args.spare.stock) (frames_of c.set_all.new.spare) c.args.pool.now.frames grown c.requires.distinct) c.args.range.first.0 c.args.range.count c.args.entry (record { first = c.args.range.first.0; end = c.args.range.first.0 + c.args.range.count; entry = c.args.entry }) (frames_of c.args.spare.stock) (frames_of c.set_all.new.spare) (omega (arith, c.requires.some)) c.requires.within refl refl refl refl c.requires.just grown f in
     omega (arith, m, none f, gone f, c.requires.distinct f)
 
 pub drain-requires-clause-covered : goal.drain-requires-clause-covered
@@ -50,8 +50,8 @@ drain-requires-clause-covered g c =
     } in
     let tables = rw e at c.set_all.ensures.tables in
     let zero = ap length c.new-freed.ensures in
-    let n = counted t (record { geometry = t.geometry; table = c.set_all.new.table; shaped = grown.shape; tight = grown.tight }) c.args.range.first.0 c.args.range.count c.args.entry (record { first = c.args.range.first.0; end = c.args.range.first.0 + c.args.range.count; entry = c.args.entry }) (frames_of c.args.spare.stock) (frames_of c.set_all.new.spare) (omega (arith, c.requires.some)) c.requires.within refl refl refl refl c.requires.just grown (length (frames_of c.new-freed.result)) (length (frames_of c.set_all.new.freed)) tables in
-    let s = tree_some (record { geometry = t.geometry; table = c.set_all.new.table; shaped = grown.shape; tight = grown.tight }) in
+    let n = counted t (after t c.set_all.new.table (record { first = c.args.range.first.0; end = c.args.range.first.0 + c.args.range.count; entry = c.args.entry }) (frames_of c.args.spare.stock) (frames_of c.set_all.new.spare) c.args.pool.now.frames grown c.requires.distinct) c.args.range.first.0 c.args.range.count c.args.entry (record { first = c.args.range.first.0; end = c.args.range.first.0 + c.args.range.count; entry = c.args.entry }) (frames_of c.args.spare.stock) (frames_of c.set_all.new.spare) (omega (arith, c.requires.some)) c.requires.within refl refl refl refl c.requires.just grown (length (frames_of c.new-freed.result)) (length (frames_of c.set_all.new.freed)) tables in
+    let s = tree_some (after t c.set_all.new.table (record { first = c.args.range.first.0; end = c.args.range.first.0 + c.args.range.count; entry = c.args.entry }) (frames_of c.args.spare.stock) (frames_of c.set_all.new.spare) c.args.pool.now.frames grown c.requires.distinct) in
     omega (arith, n, s, zero, c.requires.covered)
 
 pub returns-clause-tree : goal.returns-clause-tree
@@ -67,7 +67,7 @@ returns-clause-tree g c =
       spare = rw e at c.set_all.ensures.spare;
       uses = rw e at c.set_all.ensures.uses;
     } in
-    same_tree _ (record { geometry = t.geometry; table = c.set_all.new.table; shaped = grown.shape; tight = grown.tight }) refl refl ∙ edited_tree t (record { geometry = t.geometry; table = c.set_all.new.table; shaped = grown.shape; tight = grown.tight }) c.args.range.first.0 c.args.range.count c.args.entry (record { first = c.args.range.first.0; end = c.args.range.first.0 + c.args.range.count; entry = c.args.entry }) (frames_of c.args.spare.stock) (frames_of c.set_all.new.spare) (omega (arith, c.requires.some)) c.requires.within refl refl refl refl c.requires.just grown
+    same_tree _ (after t c.set_all.new.table (record { first = c.args.range.first.0; end = c.args.range.first.0 + c.args.range.count; entry = c.args.entry }) (frames_of c.args.spare.stock) (frames_of c.set_all.new.spare) c.args.pool.now.frames grown c.requires.distinct) refl refl ∙ edited_tree t (after t c.set_all.new.table (record { first = c.args.range.first.0; end = c.args.range.first.0 + c.args.range.count; entry = c.args.entry }) (frames_of c.args.spare.stock) (frames_of c.set_all.new.spare) c.args.pool.now.frames grown c.requires.distinct) c.args.range.first.0 c.args.range.count c.args.entry (record { first = c.args.range.first.0; end = c.args.range.first.0 + c.args.range.count; entry = c.args.entry }) (frames_of c.args.spare.stock) (frames_of c.set_all.new.spare) (omega (arith, c.requires.some)) c.requires.within refl refl refl refl c.requires.just grown
 
 pub returns-clause-root : goal.returns-clause-root
 returns-clause-root g c =
@@ -88,7 +88,7 @@ returns-clause-pool g c =
     } in
     let none = λ (f : ℕ). ap (frame_count f) c.new-freed.ensures in
     let gone = λ (f : ℕ). (rw e at (c.set_all.ensures.freed f)) in
-    c.drain.ensures.frames ∙ came_back t (record { geometry = t.geometry; table = c.set_all.new.table; shaped = grown.shape; tight = grown.tight }) c.args.range.first.0 c.args.range.count c.args.entry (record { first = c.args.range.first.0; end = c.args.range.first.0 + c.args.range.count; entry = c.args.entry }) (frames_of c.args.spare.stock) (frames_of c.set_all.new.spare) (omega (arith, c.requires.some)) c.requires.within refl refl refl refl c.requires.just grown c.given_in_any_order.ensures.counted (frames_of c.set_all.new.freed) c.args.pool.now.frames (λ f. omega (arith, none f, gone f))
+    c.drain.ensures.frames ∙ came_back t (after t c.set_all.new.table (record { first = c.args.range.first.0; end = c.args.range.first.0 + c.args.range.count; entry = c.args.entry }) (frames_of c.args.spare.stock) (frames_of c.set_all.new.spare) c.args.pool.now.frames grown c.requires.distinct) c.args.range.first.0 c.args.range.count c.args.entry (record { first = c.args.range.first.0; end = c.args.range.first.0 + c.args.range.count; entry = c.args.entry }) (frames_of c.args.spare.stock) (frames_of c.set_all.new.spare) (omega (arith, c.requires.some)) c.requires.within refl refl refl refl c.requires.just grown c.given_in_any_order.ensures.counted (frames_of c.set_all.new.freed) c.args.pool.now.frames (λ f. omega (arith, none f, gone f))
 
 pub returns-clause-frames : goal.returns-clause-frames
 returns-clause-frames g c f =
@@ -105,9 +105,9 @@ returns-clause-frames g c f =
     } in
     let none = λ (f : ℕ). ap (frame_count f) c.new-freed.ensures in
     let gone = λ (f : ℕ). (rw e at (c.set_all.ensures.freed f)) in
-    let m = moved t (record { geometry = t.geometry; table = c.set_all.new.table; shaped = grown.shape; tight = grown.tight }) c.args.range.first.0 c.args.range.count c.args.entry (record { first = c.args.range.first.0; end = c.args.range.first.0 + c.args.range.count; entry = c.args.entry }) (frames_of c.args.spare.stock) (frames_of c.set_all.new.spare) (omega (arith, c.requires.some)) c.requires.within refl refl refl refl c.requires.just grown f in
+    let m = moved t (after t c.set_all.new.table (record { first = c.args.range.first.0; end = c.args.range.first.0 + c.args.range.count; entry = c.args.entry }) (frames_of c.args.spare.stock) (frames_of c.set_all.new.spare) c.args.pool.now.frames grown c.requires.distinct) c.args.range.first.0 c.args.range.count c.args.entry (record { first = c.args.range.first.0; end = c.args.range.first.0 + c.args.range.count; entry = c.args.entry }) (frames_of c.args.spare.stock) (frames_of c.set_all.new.spare) (omega (arith, c.requires.some)) c.requires.within refl refl refl refl c.requires.just grown f in
     let p = ap (frame_count f) c.drain.ensures.frames ∙ c.given_many.ensures.count f (frames_of c.set_all.new.freed) c.args.pool.now.frames in
-    ap (λ n. n + frame_count f c.drain.new.pool.frames) (same_uses _ (record { geometry = t.geometry; table = c.set_all.new.table; shaped = grown.shape; tight = grown.tight }) refl refl f) ∙ omega (arith, m, none f, gone f, p)
+    ap (λ n. n + frame_count f c.drain.new.pool.frames) (same_uses _ (after t c.set_all.new.table (record { first = c.args.range.first.0; end = c.args.range.first.0 + c.args.range.count; entry = c.args.entry }) (frames_of c.args.spare.stock) (frames_of c.set_all.new.spare) c.args.pool.now.frames grown c.requires.distinct) refl refl f) ∙ omega (arith, m, none f, gone f, p)
 
 pub returns-clause-tables : goal.returns-clause-tables
 returns-clause-tables g c =
@@ -124,9 +124,9 @@ returns-clause-tables g c =
     } in
     let tables = rw e at c.set_all.ensures.tables in
     let zero = ap length c.new-freed.ensures in
-    let n = counted t (record { geometry = t.geometry; table = c.set_all.new.table; shaped = grown.shape; tight = grown.tight }) c.args.range.first.0 c.args.range.count c.args.entry (record { first = c.args.range.first.0; end = c.args.range.first.0 + c.args.range.count; entry = c.args.entry }) (frames_of c.args.spare.stock) (frames_of c.set_all.new.spare) (omega (arith, c.requires.some)) c.requires.within refl refl refl refl c.requires.just grown (length (frames_of c.new-freed.result)) (length (frames_of c.set_all.new.freed)) tables in
+    let n = counted t (after t c.set_all.new.table (record { first = c.args.range.first.0; end = c.args.range.first.0 + c.args.range.count; entry = c.args.entry }) (frames_of c.args.spare.stock) (frames_of c.set_all.new.spare) c.args.pool.now.frames grown c.requires.distinct) c.args.range.first.0 c.args.range.count c.args.entry (record { first = c.args.range.first.0; end = c.args.range.first.0 + c.args.range.count; entry = c.args.entry }) (frames_of c.args.spare.stock) (frames_of c.set_all.new.spare) (omega (arith, c.requires.some)) c.requires.within refl refl refl refl c.requires.just grown (length (frames_of c.new-freed.result)) (length (frames_of c.set_all.new.freed)) tables in
     let p = ap length c.drain.ensures.frames ∙ c.given_many.ensures.length (frames_of c.set_all.new.freed) c.args.pool.now.frames in
-    ap (λ n. n + length c.drain.new.pool.frames) (same_count _ (record { geometry = t.geometry; table = c.set_all.new.table; shaped = grown.shape; tight = grown.tight }) refl refl) ∙ omega (arith, n, zero, p)
+    ap (λ n. n + length c.drain.new.pool.frames) (same_count _ (after t c.set_all.new.table (record { first = c.args.range.first.0; end = c.args.range.first.0 + c.args.range.count; entry = c.args.entry }) (frames_of c.args.spare.stock) (frames_of c.set_all.new.spare) c.args.pool.now.frames grown c.requires.distinct) refl refl) ∙ omega (arith, n, zero, p)
 
 pub returns-clause-reads : goal.returns-clause-reads
 returns-clause-reads g c =
@@ -135,3 +135,18 @@ returns-clause-reads g c =
     let l = low_depth t.geometry in
     let m = edges_most (1028 * c.depth-depth.result) (c.depth-depth.result + 1) (record { first = c.args.range.first.0; end = c.args.range.first.0 + c.args.range.count; entry = c.args.entry }) in
     omega (arith, c.set_all.ensures.reads, m, e, l)
+
+pub invariant_of-tree-clause-distinct : goal.invariant_of-tree-clause-distinct
+invariant_of-tree-clause-distinct g c =
+    let t = c.args.tree.now in
+    let e : c.depth-depth.result ≡ levels_below t.geometry = c.depth-depth.ensures ∙ ap levels_below c.geometry.ensures in
+    let grown : IsGrown (levels_below t.geometry) t.table c.set_all.new.table (record { first = c.args.range.first.0; end = c.args.range.first.0 + c.args.range.count; entry = c.args.entry }) (frames_of c.args.spare.stock) (frames_of c.set_all.new.spare) = record {
+      frame = c.set_all.ensures.frame;
+      shape = rw e at c.set_all.ensures.shape;
+      tight = rw e at c.set_all.ensures.tight;
+      map = rw e at c.set_all.ensures.map;
+      kept = rw e at c.set_all.ensures.kept;
+      spare = rw e at c.set_all.ensures.spare;
+      uses = rw e at c.set_all.ensures.uses;
+    } in
+    still_distinct t c.set_all.new.table (record { first = c.args.range.first.0; end = c.args.range.first.0 + c.args.range.count; entry = c.args.entry }) (frames_of c.args.spare.stock) (frames_of c.set_all.new.spare) c.args.pool.now.frames grown c.requires.distinct

@@ -7,7 +7,7 @@ use Rattle.table_tree.specs.Meaning.{index_at, slot_at, frame_of, entry_at}
 use Rattle.table_tree.specs.Shape.{IsWide, IsShaped}
 use Rattle.table_tree.specs.Tables.{tables_in, uses_in, table_in}
 use Rattle.table_tree.specs.Tight.{IsTight}
-use Rattle.walker.specs.Steps.{IsPart}
+use Rattle.walker.specs.inner.Steps.{IsPart}
 use Rattle.walker.proofs.open.fill.Given as goal
 
 abbrev pub invariant-loop-i : goal.invariant-loop-i

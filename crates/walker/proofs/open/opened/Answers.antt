@@ -1,11 +1,11 @@
 use Rattle.std.proofs.Common.{◌≡◌, ◌+◌, suc, ◌∷◌, sym, ap, subst, arith, ◌∙◌, add-one}
 use Rattle.table_tree.specs.Meaning.{slot_at, frame_of}
-use Rattle.table_tree.specs.Shape.{IsShaped, IsTableFrame}
+use Rattle.table_tree.specs.Shape.{IsShaped}
 use Rattle.table_tree.specs.Stocks.{frames_of}
 use Rattle.table_tree.specs.Tight.{IsTight}
 use Rattle.table_tree.proofs.Slots.{shaped_wide}
 use Rattle.table_tree.proofs.Sums.{fresh_word}
-use Rattle.walker.specs.Steps.{IsOpened}
+use Rattle.walker.specs.inner.Steps.{IsOpened}
 use Rattle.walker.proofs.Opened.{popped_some, opened_word, opened_child}
 use Rattle.walker.proofs.open.opened.Goals as goal
 
@@ -28,11 +28,10 @@ returns-in-Some-clause-opened g c =
     let t = c.args.table.now in
     let frame : frame_of c.fill.new.table ≡ frame_of c.unwrap-child.result.value = c.fill.ensures.frame ∙ ap (λ a. frame_of a) c.deref_mut.ensures.value in
     let frames = rw c.unwrap-child.ensures at c.pop.ensures.frames in
-    let small = rw c.unwrap-child.ensures at c.pop.ensures.frame in
     subst (λ n. IsOpened n d c.args.i t c.put.new.self c.fill.new.table (frames_of c.args.spare.now) (frames_of c.pop.new.self)) (sym o)
     (opened_word d c.args.i w.0 t c.put.new.self c.fill.new.table c.in-Some.entry (frames_of c.args.spare.now) (frames_of c.pop.new.self) w.1 (rw o at w.2) c.in-Some.ensures.seen c.put.ensures.tree
     c.put.ensures.slots c.put.ensures.frame (subst (λ n. IsShaped n t) o c.requires.shape) (subst (λ n. IsTight n t) o c.requires.tight)
-    (frames ∙ ap (λ f. f ∷ frames_of c.pop.new.self) (sym frame)) (subst IsTableFrame (sym frame) small) c.fill.ensures.filled)
+    (frames ∙ ap (λ f. f ∷ frames_of c.pop.new.self) (sym frame)) c.fill.ensures.filled)
 
 pub returns-in-None-clause-opened : goal.returns-in-None-clause-opened
 returns-in-None-clause-opened g c =

@@ -4,11 +4,12 @@ use Rattle.table_tree.specs.Reading.{count_of}
 use Rattle.table_tree.specs.Stocks.{frames_of}
 use Rattle.table_tree.specs.declared.table.Slot.TheVariants.{Word}
 use Rattle.table_tree.proofs.Slots.{shaped_wide, set_here, set_wide}
-use Rattle.walk_plan.specs.Changes.{IsChange, part, met, sum_to, table_parts, slot_need}
-use Rattle.walk_plan.specs.Ranks.{gone_parts}
+use Rattle.walk_plan.specs.Changes.{IsChange, part}
+use Rattle.walk_plan.specs.inner.Needs.{met, sum_to, table_parts, slot_need}
+use Rattle.walk_plan.specs.inner.Ranks.{gone_parts}
 use Rattle.walk_plan.proofs.Ranges.{part_in, part_is, met_start, met_end, sum_mono, span, change_below}
 use Rattle.walk_plan.proofs.Looks.{ends_start, ends_next, ends_end, whole_parts, whole_edges, child_reads, some_part}
-use Rattle.walker.specs.Steps.{IsOpening}
+use Rattle.walker.specs.inner.Steps.{IsOpening}
 use Rattle.walker.proofs.Maps.{start_map, end_map, next_map}
 use Rattle.walker.proofs.Slotted.{IsGrown, all_spare, spent_map, spent_kept, spent_uses, spent_freed, spent_tables, back_kept, back_uses, back_freed, back_tables}
 use Rattle.walker.proofs.Walked.{blank_entry, need_next, gone_next, kept_start, kept_next, kept_end, spare_next, taken_next}

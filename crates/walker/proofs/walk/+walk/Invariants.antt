@@ -7,10 +7,11 @@ use Rattle.table_tree.specs.Shape.{IsShaped}
 use Rattle.table_tree.specs.Stocks.{frames_of}
 use Rattle.table_tree.specs.Tables.{tables_in, uses_in, table_in}
 use Rattle.table_tree.specs.Tight.{IsTight}
-use Rattle.walk_plan.specs.Changes.{changed, met, sum_to, table_parts}
-use Rattle.walk_plan.specs.Ranks.{gone_parts}
+use Rattle.walk_plan.specs.Changes.{changed}
+use Rattle.walk_plan.specs.inner.Needs.{met, sum_to, table_parts}
+use Rattle.walk_plan.specs.inner.Ranks.{gone_parts}
 use Rattle.walk_plan.proofs.Looks.{done, ends}
-use Rattle.walker.specs.Walks.{upto}
+use Rattle.walker.specs.inner.Walks.{upto}
 use Rattle.walker.proofs.Walked.{IsKept}
 use Rattle.walker.proofs.walk.+walk.Given as goal
 

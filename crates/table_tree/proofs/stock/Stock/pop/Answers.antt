@@ -1,7 +1,7 @@
 use Rattle.std.proofs.Common.{sym, ap, ◌∙◌, [], ◌∷◌}
 use Rattle.table_tree.specs.Meaning.{frame_of}
 use Rattle.table_tree.specs.Stocks.{frames_of}
-use Rattle.table_tree.proofs.Chains.{chain_nil, chain_word, chain_first, frames_is, frames_chain, link_blank, link_wide, link_is_wide, link_frame}
+use Rattle.table_tree.proofs.Chains.{chain_nil, chain_word, chain_first, frames_is, frames_chain, link_blank, link_wide, link_is_wide}
 use Rattle.table_tree.proofs.Tight.{new_table}
 use Rattle.table_tree.proofs.stock.Stock.pop.Goals as goal
 
@@ -19,9 +19,6 @@ returns-in-Child-clause-frames g c =
     let x = chain_first c.args.self.now c.deref_mut.result.now c.in-Child.table c.deref_mut.ensures.value c.in-Child.ensures.value in
     let y = frames_is _ x.0 (rw c.take.ensures.value x.3) in
     x.1 ∙ ap (λ f. f ∷ x.0) (sym c.take.ensures.frame) ∙ ap (λ gs. frame_of c.take.new.self ∷ gs) (sym y)
-
-pub returns-in-Child-clause-frame : goal.returns-in-Child-clause-frame
-returns-in-Child-clause-frame g c = rw c.take.ensures.frame (link_frame (frame_of c.deref_mut.result.now) c.deref_mut.result.now (chain_first c.args.self.now c.deref_mut.result.now c.in-Child.table c.deref_mut.ensures.value c.in-Child.ensures.value).2)
 
 pub returns-in-Child-clause-wide : goal.returns-in-Child-clause-wide
 returns-in-Child-clause-wide g c = link_wide (frame_of c.deref_mut.result.now) c.deref_mut.result.now c.take.new.self (chain_first c.args.self.now c.deref_mut.result.now c.in-Child.table c.deref_mut.ensures.value c.in-Child.ensures.value).2 c.take.ensures.slots

@@ -1,14 +1,15 @@
-use Rattle.std.proofs.Common.{◌∙◌, ap}
+use Rattle.std.proofs.Common.{◌∙◌, ap, arith}
+use Rattle.table_tree.specs.Meaning.{frame_of}
 use Rattle.page_state.specs.Geometries.{levels_below}
 use Rattle.page_state.specs.Counts.{is_one}
 use Rattle.table_tree.specs.View.{root_of, uses, tables_of}
 use Rattle.table_tree.proofs.Steps.{blank_shaped, blank_words}
-use Rattle.table_tree.proofs.Sums.{words_tables, words_uses}
+use Rattle.table_tree.proofs.Sums.{words_tables, words_uses, one_most}
 use Rattle.table_tree.proofs.Views.{meaning_is, map_blank, standing_blank}
 use Rattle.table_tree.proofs.tree.Tree.new.Goals as goal
 
 pub invariant_of-result : goal.invariant_of-result
-invariant_of-result g c = record { shaped = blank_shaped (levels_below c.args.geometry) c.in_ok-table.table c.in_ok-table.ensures.wide c.in_ok-table.ensures.blank; tight = c.in_ok-table.ensures.tree.tight (levels_below c.args.geometry) }
+invariant_of-result g c = record { shaped = blank_shaped (levels_below c.args.geometry) c.in_ok-table.table c.in_ok-table.ensures.wide c.in_ok-table.ensures.blank; tight = c.in_ok-table.ensures.tree.tight (levels_below c.args.geometry); distinct = λ f. omega (arith, words_uses (levels_below c.args.geometry) c.in_ok-table.table f c.in_ok-table.ensures.wide (blank_words c.in_ok-table.table c.in_ok-table.ensures.blank), one_most (frame_of c.in_ok-table.table) f) }
 
 pub returns-clause-map : goal.returns-clause-map
 returns-clause-map g c = meaning_is _ ∙ map_blank c.args.geometry c.in_ok-table.table c.in_ok-table.ensures.blank

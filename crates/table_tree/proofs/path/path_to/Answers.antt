@@ -1,6 +1,6 @@
 use Rattle.std.proofs.Common.{arith}
-use Rattle.trace_text.proofs.PathLemmas.{path_of-further}
-use Rattle.trace_text.proofs.paths.path_to.Goals as goal
+use Rattle.table_tree.proofs.OnPage.{path_of-further}
+use Rattle.table_tree.proofs.path.path_to.Goals as goal
 
 pub loop-upper-preserved : goal.loop-upper-preserved
 loop-upper-preserved c =

@@ -11,7 +11,8 @@ use Rattle.table_tree.specs.declared.table.Table.{Table}
 use Rattle.table_tree.specs.declared.table.Slot.{Slot}
 use Rattle.table_tree.specs.Meaning.{level_at, index_at, slot_at, slot_case, entry_at, frame_of}
 use Rattle.walk_plan.specs.declared.change.Change.{Change}
-use Rattle.walk_plan.specs.Changes.{part, is_one_word, changed, sum_to, met, block_parts, table_parts}
+use Rattle.walk_plan.specs.Changes.{part, is_one_word, changed}
+use Rattle.walk_plan.specs.inner.Needs.{sum_to, met, block_parts, table_parts}
 
 -- the table that stood, or the one that was made
 abbrev pub given : List ℕ → Option ℕ → Option ℕ → Option ℕ

@@ -1,7 +1,7 @@
 use Rattle.std.proofs.Common.{◌≡◌, ◌≤◌, ◌-◌}
 use Rattle.arrayvec.specs.ArrayVec.{array_vec_len}
-use Rattle.trace_text.specs.Worlds.{path_of}
-use Rattle.trace_text.proofs.paths.path_to.Given as goal
+use Rattle.table_tree.specs.OnPage.{path_of}
+use Rattle.table_tree.proofs.path.path_to.Given as goal
 
 abbrev pub invariant-loop-upper : goal.invariant-loop-upper
 invariant-loop-upper l =

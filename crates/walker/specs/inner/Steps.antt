@@ -11,13 +11,14 @@ use Rattle.table_tree.specs.declared.table.Table.{Table}
 use Rattle.table_tree.specs.declared.table.Slot.{Slot}
 use Rattle.table_tree.specs.declared.table.Slot.TheVariants.{Word}
 use Rattle.table_tree.specs.Meaning.{level_at, index_at, slot_at, slots_of, frame_of, word_entry, entry_at}
-use Rattle.table_tree.specs.Shape.{HoldsWord, IsEntryWord, IsTableFrame, IsShaped}
+use Rattle.table_tree.specs.Shape.{HoldsWord, IsEntryWord, IsShaped}
 use Rattle.table_tree.specs.Slots.{fresh}
 use Rattle.table_tree.specs.Tables.{tables_in, uses_in, table_in}
 use Rattle.table_tree.specs.Tight.{IsTight}
 use Rattle.walk_plan.specs.declared.change.Change.{Change}
-use Rattle.walk_plan.specs.Changes.{IsChange, changed, is_one_word, slot_need, table_need}
-use Rattle.walk_plan.specs.Ranks.{given, slot_rank, table_rank, slot_gone, table_gone}
+use Rattle.walk_plan.specs.Changes.{IsChange, changed, is_one_word}
+use Rattle.walk_plan.specs.inner.Needs.{slot_need, table_need}
+use Rattle.walk_plan.specs.inner.Ranks.{given, slot_rank, table_rank, slot_gone, table_gone}
 
 -- a slot holds the word that gives part `k` of a block whose first page has the entry `x`
 unfoldable pub IsPart : {A : Type 0} → ℕ → Entry → ℕ → Slot A → Type 0
@@ -60,7 +61,6 @@ pub record IsOpened {A : Type 0} (n d i : ℕ) (t u child : Table A) (before aft
   pub stand : (low q : ℕ) → low < n → index_at n q ≢ i → table_in n u low q ≡ table_in n t low q
   pub child_shape : IsShaped d child
   pub child_tight : IsTight d child
-  pub child_frame : IsTableFrame (frame_of child)
   pub map : (q : ℕ) → index_at n q ≡ i → entry_at d child q ≡ entry_at n t q
   pub uses : (f : ℕ) → uses_in n u f + uses_in d child f ≡ uses_in n t f + frame_count f (take (fresh (slot_at t i)) before)
   pub tables : tables_in n u + tables_in d child ≡ tables_in n t + fresh (slot_at t i)
