@@ -16,7 +16,6 @@ use Rattle.page_state.specs.Counts.{frame_count}
 use Rattle.page_state.specs.EntryTests.{leaf, device_leaf, annotation}
 use Rattle.page_state.specs.Geometries.{block_pages, pages_below}
 use Rattle.page_state.specs.Layouts.{Layout, is_memory, hyp_page}
-use Rattle.page_state.specs.Map.{is_within}
 use Rattle.reference_model.specs.Owner.{count_blocks, is_frame, is_in_hand, lent_at}
 use Rattle.page_state.specs.Regions.{region_of, is_in_range}
 use Rattle.reference_model.specs.Sound.{SlotsAgree}
@@ -194,7 +193,3 @@ pub record IsUsable (l : Layout) : Type 0 where
   pub regions : (page p : ℕ) (r : Region) → region_of l.memory page ≡ Some r → is_in_range r.pages p ≡ true → region_of l.memory p ≡ Some r
   pub below : (page : ℕ) (r : Region) → region_of l.memory page ≡ Some r → page < pages_below l.depth
   pub carve : (f : ℕ) → is_in_range l.memory.carve f ≡ true → is_memory l f ≡ true
-
--- the conditions with another one on a range
-abbrev pub moved_to : Condition → ℕ → ℕ → (ℕ → Condition) → ℕ → Condition
-moved_to c first count condition f = if is_within first count f then c else condition f

@@ -1,4 +1,4 @@
--- STUDY: what is proved of the invariant.
+-- Laws of the invariant of runs, each proved on the contract of a law function.
 use Rattle.std.specs.Prelude.{◌≡◌, ℕ, ◌≤◌, ◌<◌, true, List, Option, Some, None}
 use Rattle.reference_model.specs.State.{Contents, Reference}
 use Rattle.page_state.specs.Layouts.{Layout, is_memory}

@@ -20,14 +20,14 @@ use Rattle.reference_model.specs.Step.{is_touched, changed, with_rows, own_row, 
 use Rattle.page_state.specs.Tables.{edited_map, edited, need}
 use Rattle.reference_model.specs.ConditionChanges.{told_condition}
 use Rattle.reference_model.specs.RowChanges.{told_row, first_of}
-use Rattle.reference_model.specs.Conditions.{Condition, outside, hosts, with_hyp, hyps, with_guest, guests, lent_back, HostFits, hyp_says, guest_condition, GuestFits, IsLeaf, MapsFit, HeldFit, IsOfLayout, Legal, IsUsable, row_in, in_shared, in_vm, in_hand, one, guest_uses, IsTidy, AreTidy, GuestsFit, SlotsFit, RowsFit, is_inside, IsGood, moved_to}
+use Rattle.reference_model.specs.Conditions.{Condition, outside, hosts, with_hyp, hyps, with_guest, guests, lent_back, HostFits, hyp_says, guest_condition, GuestFits, IsLeaf, MapsFit, HeldFit, IsOfLayout, Legal, IsUsable, row_in, in_shared, in_vm, in_hand, one, guest_uses, IsTidy, AreTidy, GuestsFit, SlotsFit, RowsFit, is_inside, IsGood}
 use Rattle.page_state.proofs.Common.{both, eq-same, eq-self, if-true, if-false}
 use Rattle.reference_model.proofs.Steps.{state_of}
 use Rattle.reference_model.proofs.conditions.Stands.{SharedStands, GuestsStand, HandsStand, row-stands}
 use Rattle.reference_model.proofs.conditions.OfLegal.{shared-of, guests-of}
 use Rattle.reference_model.proofs.conditions.Tables.{IsInRange}
 use Rattle.reference_model.proofs.conditions.Conserved.{shared-conserved, edited-tidy}
-use Rattle.reference_model.proofs.conditions.Moves.{moved-in, moved-out, moved-told, moved-fact, moved-all, SameSlots, same-agree, rows-moved}
+use Rattle.reference_model.proofs.conditions.Moves.{moved_to, moved-in, moved-out, moved-told, moved-fact, moved-all, SameSlots, same-agree, rows-moved}
 use Rattle.reference_model.proofs.conditions.SharedMoves.{first-touched, StepKept, no-uses, not-in}
 
 -- a condition that names no guest but this one

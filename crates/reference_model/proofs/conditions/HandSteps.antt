@@ -29,12 +29,12 @@ use Rattle.reference_model.specs.Used.{Used, used_of}
 use Rattle.reference_model.specs.Sound.{Fits}
 use Rattle.reference_model.specs.Step.{refusal, guest_after}
 use Rattle.page_state.specs.Tables.{all_given, needs, freed, returned, edited}
-use Rattle.reference_model.specs.Conditions.{Condition, hyps, HostFits, hyp_says, guest_condition, GuestFits, Legal, IsUsable, in_shared, in_vm, in_hand, one, table_uses, guest_uses, is_inside, moved_to}
+use Rattle.reference_model.specs.Conditions.{Condition, hyps, HostFits, hyp_says, guest_condition, GuestFits, Legal, IsUsable, in_shared, in_vm, in_hand, one, table_uses, guest_uses, is_inside}
 use Rattle.page_state.proofs.Common.{both, eq-same, eq-self, if-true, if-false, or-neither, not-false}
 use Rattle.page_state.proofs.Counts.{count_next}
 use Rattle.reference_model.proofs.conditions.Conserved.{all_given-count}
 use Rattle.reference_model.proofs.conditions.Tables.{uses_of}
-use Rattle.reference_model.proofs.conditions.Moves.{moved-in, moved-out, moved-fact}
+use Rattle.reference_model.proofs.conditions.Moves.{moved_to, moved-in, moved-out, moved-fact}
 use Rattle.reference_model.proofs.conditions.SharedMoves.{StepKept, no-uses}
 use Rattle.reference_model.proofs.conditions.GuestMoves.{only, g_of, new_guest, new_cpu, GuestMove, guest-keeps}
 use Rattle.reference_model.proofs.conditions.PageSteps.{live-alive, gc-hand}

@@ -14,8 +14,12 @@ use Rattle.page_state.specs.Map.{Map, update, is_within}
 use Rattle.reference_model.specs.State.{Cpu, Slot, Contents, put_at, empty}
 use Rattle.page_state.specs.Layouts.{Layout, is_memory, hyp_page}
 use Rattle.reference_model.specs.Sound.{IsOne, SlotsAgree, LoadsAgree, GuestsAgree, TicketsAgree, IsTicketOf, IsGuestOf, HasTicket, Fits}
-use Rattle.reference_model.specs.Conditions.{Condition, outside, hosts, with_hyp, hyps, with_guest, guests, lent_back, HostFits, hyp_says, guest_condition, GuestFits, row_in, in_vm, is_inside, Legal, moved_to}
+use Rattle.reference_model.specs.Conditions.{Condition, outside, hosts, with_hyp, hyps, with_guest, guests, lent_back, HostFits, hyp_says, guest_condition, GuestFits, row_in, in_vm, is_inside, Legal}
 use Rattle.page_state.proofs.Common.{both, eq-same, if-true, if-false}
+
+-- the conditions with another one on a range
+abbrev pub moved_to : Condition → ℕ → ℕ → (ℕ → Condition) → ℕ → Condition
+moved_to c first count condition f = if is_within first count f then c else condition f
 
 -- maps
 

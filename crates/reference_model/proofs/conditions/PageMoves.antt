@@ -19,10 +19,10 @@ use Rattle.reference_model.specs.Step.{guest_after}
 use Rattle.page_state.specs.Tables.{put, edited}
 use Rattle.reference_model.specs.ConditionChanges.{told_condition}
 use Rattle.reference_model.specs.RowChanges.{told_row}
-use Rattle.reference_model.specs.Conditions.{row_in, Condition, HostFits, hyp_says, guest_condition, GuestFits, IsLeaf, Legal, IsUsable, in_shared, in_vm, in_hand, one, SlotsFit, is_inside, IsGood, moved_to}
+use Rattle.reference_model.specs.Conditions.{row_in, Condition, HostFits, hyp_says, guest_condition, GuestFits, IsLeaf, Legal, IsUsable, in_shared, in_vm, in_hand, one, SlotsFit, is_inside, IsGood}
 use Rattle.page_state.proofs.Common.{both, if-true, if-false}
 use Rattle.reference_model.proofs.Steps.{state_of}
-use Rattle.reference_model.proofs.conditions.Moves.{host-moved, moved-in, moved-out, moved-fact, SameSlots, same-agree, cpu-fact}
+use Rattle.reference_model.proofs.conditions.Moves.{moved_to, host-moved, moved-in, moved-out, moved-fact, SameSlots, same-agree, cpu-fact}
 use Rattle.reference_model.proofs.conditions.GuestMoves.{only, g_of, new_guest, new_cpu, GuestMove, guest-fact}
 use Rattle.reference_model.proofs.conditions.Conserved.{tree-conserved, edited-tidy, edited-root}
 use Rattle.reference_model.proofs.conditions.SharedSteps.{Passed, within-made, one-within, range-in}

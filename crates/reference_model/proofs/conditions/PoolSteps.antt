@@ -31,7 +31,7 @@ use Rattle.reference_model.specs.Used.{Used, used_of}
 use Rattle.reference_model.specs.Sound.{Fits}
 use Rattle.reference_model.specs.Step.{refusal, guest_after}
 use Rattle.page_state.specs.Tables.{needs, freed, returned, edited}
-use Rattle.reference_model.specs.Conditions.{Condition, hosts, hyps, guest_condition, GuestFits, Legal, IsUsable, in_shared, in_vm, in_hand, one, table_uses, guest_uses, IsTidy, IsInTree, is_inside, moved_to, SlotsFit, IsGood}
+use Rattle.reference_model.specs.Conditions.{Condition, hosts, hyps, guest_condition, GuestFits, Legal, IsUsable, in_shared, in_vm, in_hand, one, table_uses, guest_uses, IsTidy, IsInTree, is_inside, SlotsFit, IsGood}
 use Rattle.page_state.proofs.Blocks.{all_from-each, empty_means, is_unmapped-same}
 use Rattle.page_state.proofs.Cases.{by_eq, by_lt}
 use Rattle.page_state.proofs.Common.{both, eq-same, eq-self, eq-made, if-true, if-false, and-both, or-neither, not-false}
@@ -41,7 +41,7 @@ use Rattle.reference_model.proofs.Frames.{count_blocks-none}
 use Rattle.page_state.proofs.Sizes.{size_some, size_split}
 use Rattle.reference_model.proofs.Steps.{state_of}
 use Rattle.reference_model.proofs.conditions.Tables.{uses_of, uses-put}
-use Rattle.reference_model.proofs.conditions.Moves.{host-moved, hyp-moved, hyp-below, moved-in, moved-out, moved-fact, SameSlots, same-agree, cpu-fact}
+use Rattle.reference_model.proofs.conditions.Moves.{moved_to, host-moved, hyp-moved, hyp-below, moved-in, moved-out, moved-fact, SameSlots, same-agree, cpu-fact}
 use Rattle.reference_model.proofs.conditions.SharedMoves.{StepKept, no-uses}
 use Rattle.reference_model.proofs.conditions.GuestMoves.{only, g_of, new_guest, new_cpu, GuestMove, guest-fact, guest-keeps}
 use Rattle.reference_model.proofs.conditions.PageSteps.{dying-alive, gc-vm}

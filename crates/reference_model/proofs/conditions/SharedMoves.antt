@@ -19,14 +19,14 @@ use Rattle.reference_model.specs.Step.{is_touched, changed, with_rows, own_row, 
 use Rattle.page_state.specs.Tables.{edited_map, edited, need}
 use Rattle.reference_model.specs.ConditionChanges.{conditions_after, told_condition}
 use Rattle.reference_model.specs.RowChanges.{told_row, first_of}
-use Rattle.reference_model.specs.Conditions.{Condition, HostFits, hyp_says, MapsFit, HeldFit, IsOfLayout, Legal, IsUsable, row_in, in_shared, in_vm, in_hand, one, table_uses, AreTidy, GuestsFit, SlotsFit, RowsFit, is_inside, IsGood, moved_to}
+use Rattle.reference_model.specs.Conditions.{Condition, HostFits, hyp_says, MapsFit, HeldFit, IsOfLayout, Legal, IsUsable, row_in, in_shared, in_vm, in_hand, one, table_uses, AreTidy, GuestsFit, SlotsFit, RowsFit, is_inside, IsGood}
 use Rattle.page_state.proofs.Common.{both, eq-same, eq-self, if-true, if-false}
 use Rattle.reference_model.proofs.Frames.{count_blocks-none}
 use Rattle.reference_model.proofs.conditions.Stands.{SharedStands, GuestsStand, row-stands}
 use Rattle.reference_model.proofs.conditions.OfLegal.{shared-of}
 use Rattle.reference_model.proofs.conditions.Tables.{IsInRange}
 use Rattle.reference_model.proofs.conditions.Conserved.{shared-conserved, edited-tidy}
-use Rattle.reference_model.proofs.conditions.Moves.{is_calm, calm-named, calm-vm, CalmMove, guest-calm, guest-has-calm, moved-in, moved-out, moved-told, moved-fact, moved-all, SameSlots, same-agree, cpu-fact, rows-moved}
+use Rattle.reference_model.proofs.conditions.Moves.{moved_to, is_calm, calm-named, calm-vm, CalmMove, guest-calm, guest-has-calm, moved-in, moved-out, moved-told, moved-fact, moved-all, SameSlots, same-agree, cpu-fact, rows-moved}
 
 -- the part of a state that a call on the Shared part uses
 abbrev pub x_of : ℕ → Contents → Used

@@ -27,10 +27,10 @@ use Rattle.reference_model.specs.Used.{Used, used_of}
 use Rattle.reference_model.specs.Rule.{Rule}
 use Rattle.reference_model.specs.SharedRules.{share_hyp, unshare_hyp, donate_hyp, hyp_donate_host, fund, unfund, may_donate, may_return, is_plain, hand_of, no_range}
 use Rattle.reference_model.specs.Step.{own_row, first_test, or_else, refusal, is_short, changed, shared_need, guest_need}
-use Rattle.reference_model.specs.Conditions.{Condition, outside, hosts, with_hyp, hyps, with_guest, guests, lent_back, HostFits, hyp_says, Legal, IsUsable, row_in, in_shared, in_hand, is_inside, moved_to}
+use Rattle.reference_model.specs.Conditions.{Condition, outside, hosts, with_hyp, hyps, with_guest, guests, lent_back, HostFits, hyp_says, Legal, IsUsable, row_in, in_shared, in_hand, is_inside}
 use Rattle.page_state.proofs.Blocks.{all_from-each}
 use Rattle.page_state.proofs.Common.{both, eq-same, eq-self, if-true, if-false, and-both, or-neither, not-false}
-use Rattle.reference_model.proofs.conditions.Moves.{is_calm, host-moved, hyp-moved, hyp-below, moved-in, moved-out, moved-fact, cpu-fact}
+use Rattle.reference_model.proofs.conditions.Moves.{moved_to, is_calm, host-moved, hyp-moved, hyp-below, moved-in, moved-out, moved-fact, cpu-fact}
 use Rattle.reference_model.proofs.conditions.SharedMoves.{StepKept, x_of, SharedMove, shared-keeps, own-row}
 
 -- what a call that isn't refused has passed
