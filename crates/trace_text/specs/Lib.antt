@@ -1,3 +1,4 @@
+pub mod Failures
 pub mod Laws
 pub mod Lines
 pub mod Numbers

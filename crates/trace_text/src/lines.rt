@@ -1,5 +1,5 @@
 //! Reading a trace line by line.
-ghost use Rattle.std.specs.Prelude.{IfOk, IfNone, option_to_list};
+ghost use Rattle.std.specs.Prelude.{◌≢◌, Err, IfOk, IfNone, option_to_list};
 ghost use Rattle.std.specs.Io.KnownBytes.{Consumes, IsAtEnd};
 ghost use Rattle.trace_text.specs.Reading.{ReadsLine};
 
@@ -16,6 +16,7 @@ const MOST_TRIES: usize = 1 << 32;
 fn read_byte<R: Read>(reader: &mut R) -> Result<Option<u8>, EngineFault>
     ensures bytes { IfOk result (λ byte. Consumes (R.remaining reader.old) (R.remaining reader.new) (option_to_list byte)) }
     ensures end { IfOk result (λ byte. IfNone byte (IsAtEnd (R.remaining reader.old))) }
+    ensures err { result ≢ Err EngineFault.Write }
 {
     let mut byte = [0u8];
     for _ in 0..MOST_TRIES {
@@ -35,7 +36,8 @@ fn read_byte<R: Read>(reader: &mut R) -> Result<Option<u8>, EngineFault>
 /// Reads the next line into `line`, without its end, and says whether there was one. The last may lack its end. Of a
 /// line of over 256 bytes the first 257 are read.
 pub fn read_line<R: Read>(reader: &mut R, line: &mut Vec<u8>) -> Result<bool, EngineFault>
-    ensures { IfOk result (λ found. ReadsLine found (R.remaining reader.old) (R.remaining reader.new) line.new.items) }
+    ensures err { result ≢ Err EngineFault.Write }
+    ensures ok { IfOk result (λ found. ReadsLine found (R.remaining reader.old) (R.remaining reader.new) line.new.items) }
 {
     line.clear();
     for _ in 0..MOST_BYTES + 1 {

@@ -32,6 +32,31 @@ impl Read for Cut {
     }
 }
 
+/// A reader whose every other read is interrupted.
+#[derive(Drop)]
+struct Interrupted {
+    bytes: &'static [u8],
+    ready: bool,
+}
+
+impl Read for Interrupted {
+    fn read(&mut self, buf: &mut [u8]) -> Result<usize, Error> {
+        if buf.is_empty() {
+            return Ok(0);
+        }
+        self.ready = !self.ready;
+        if self.ready {
+            return Err(Error::from(ErrorKind::Interrupted));
+        }
+        let Some((first, rest)) = self.bytes.split_first() else {
+            return Ok(0);
+        };
+        buf[0] = *first;
+        self.bytes = rest;
+        Ok(1)
+    }
+}
+
 /// A writer that takes no byte.
 #[derive(Drop)]
 struct Full;
@@ -92,6 +117,20 @@ fn tells_failed_reads_and_writes(rt: HostRuntime) -> Result<(), Fail> {
     assert!(rt; written.is_empty());
     let ended = replay(rt.alloc(), rt.alloc(), &mut Cursor::new(BOOT), &mut Full);
     assert!(rt; ended == Err(EngineFault::Write));
+    Ok(())
+}
+
+#[test]
+fn reads_on_after_interrupted_reads(rt: HostRuntime) -> Result<(), Fail> {
+    let mut written = Vec::new(rt.alloc());
+    let mut reader = Interrupted {
+        bytes: BOOT,
+        ready: false,
+    };
+    let ended = replay(rt.alloc(), rt.alloc(), &mut reader, &mut written);
+    assert!(rt; ended == Ok(Outcome::Clean));
+    let wanted: &[u8] = b"boot host 3 hyp 3 free 58\nend steps 0 disagreements 0\n";
+    assert!(rt; written.as_slice() == wanted);
     Ok(())
 }
 

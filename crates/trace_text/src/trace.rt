@@ -1,6 +1,7 @@
 //! Replaying a trace.
-ghost use Rattle.std.specs.Prelude.{◌≡◌, ◌<◌, ◌≤◌, ◌+◌, ◌^◌, [], ◌∷◌, IfOk, OnOk};
+ghost use Rattle.std.specs.Prelude.{◌≡◌, ◌<◌, ◌≤◌, ◌+◌, ◌^◌, [], ◌∷◌, Err, IfOk, OnErr, OnOk};
 ghost use Rattle.std.specs.Io.KnownBytes.{Appends};
+ghost use Rattle.trace_text.specs.Failures.{FailsSo};
 ghost use Rattle.trace_text.specs.Replay.{IsReplayed};
 ghost use Rattle.trace_text.specs.Played.{Plays};
 ghost use Rattle.trace_text.specs.Session.{standing_of};
@@ -55,6 +56,7 @@ fn play<A: Allocator + Copy, W: Write>(
     requires { (standing_of session.old).steps < 2 ^ 63 }
     ensures played { IfOk result (λ ended. Plays number line.now (standing_of session.old) (standing_of session.new) (W.contents writer.old) (W.contents writer.new) ended) }
     ensures steps { (standing_of session.new).steps ≤ (standing_of session.old).steps + 1 }
+    ensures err { OnErr result (FailsSo result (W.contents writer.old) (W.contents writer.new)) }
 {
     match session.run(number, line) {
         Ok(None) => Ok(None),
@@ -72,7 +74,8 @@ fn play<A: Allocator + Copy, W: Write>(
 
 /// Writes a line of the report.
 fn tell<W: Write>(writer: &mut W, told: ReportLine) -> Result<(), EngineFault>
-    ensures { OnOk result (Appends (W.contents writer.old) (W.contents writer.new) (text_of_report (told ∷ []))) }
+    ensures ok { OnOk result (Appends (W.contents writer.old) (W.contents writer.new) (text_of_report (told ∷ []))) }
+    ensures err { OnErr result (result ≡ Err EngineFault.Write) }
 {
     match writer.writeln(told) {
         Ok(()) => Ok(()),
@@ -85,7 +88,8 @@ fn ended<A: Allocator + Copy, W: Write>(
     session: &Session<A>,
     writer: &mut W,
 ) -> Result<Outcome, EngineFault>
-    ensures { IfOk result (λ outcome. (outcome ≡ Outcome.Clean) × Appends (W.contents writer.old) (W.contents writer.new) (text_of_report (ReportLine.End (standing_of session.now).steps 0 ∷ []))) }
+    ensures err { OnErr result (result ≡ Err EngineFault.Write) }
+    ensures ok { IfOk result (λ outcome. (outcome ≡ Outcome.Clean) × Appends (W.contents writer.old) (W.contents writer.new) (text_of_report (ReportLine.End (standing_of session.now).steps 0 ∷ []))) }
 {
     let told = ReportLine::End {
         steps: session.steps(),
@@ -97,7 +101,8 @@ fn ended<A: Allocator + Copy, W: Write>(
 
 /// Ends the report with a fault.
 fn faulted<W: Write>(writer: &mut W, line: u64, fault: Fault) -> Result<Outcome, EngineFault>
-    ensures { IfOk result (λ outcome. (outcome ≡ Outcome.Fault) × Appends (W.contents writer.old) (W.contents writer.new) (text_of_report (ReportLine.Fault line fault ∷ []))) }
+    ensures err { OnErr result (result ≡ Err EngineFault.Write) }
+    ensures ok { IfOk result (λ outcome. (outcome ≡ Outcome.Fault) × Appends (W.contents writer.old) (W.contents writer.new) (text_of_report (ReportLine.Fault line fault ∷ []))) }
 {
     tell(writer, ReportLine::Fault { line, fault })?;
     Ok(Outcome::Fault)

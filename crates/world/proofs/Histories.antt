@@ -29,7 +29,7 @@ module _ {A : Type 0} (m : Memory) (c : Config) (p : Parts A) (booted : IsBooted
   abbrev with_calls : Reference → List Call → List Call → (ℕ → List Call) → (ℕ → List Call) → Kept
   with_calls s vms shared guest own = record { vms = (s.contents.vms, vms); shared = (s.contents.shared, shared); guest = λ v. (s.contents.guest v, guest v); cpu = λ k. (s.contents.cpu k, own k) }
 
-  ready : CanBoot (layout_of p)
+  pub ready : CanBoot (layout_of p)
   ready = subst CanBoot (sym booted.layout) (record { accepted = record { memory = booted.memory; config = booted.accepted.accepted; depth = subst HasItsDepth booted.layout booted.depth }; enough = booted.enough })
 
   -- the parts that have booted have the empty history

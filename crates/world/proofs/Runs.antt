@@ -4,10 +4,13 @@ use Rattle.page_state.specs.declared.reply.Call.{Call}
 use Rattle.reference_model.specs.Boot.{boot}
 use Rattle.page_state.specs.Layouts.{Layout}
 use Rattle.reference_model.specs.Run.{Runs}
+use Rattle.reference_model.specs.Sound.{Sound}
 use Rattle.reference_model.specs.State.{Reference}
+use Rattle.reference_model.proofs.conditions.RunsLegal.{run_sound}
+use Rattle.world.proofs.Histories.{ready}
 use Rattle.reference_model.specs.Step.{Steps}
 use Rattle.world.specs.declared.parts.Parts.{Parts}
-use Rattle.world.specs.Laws.{Goes, StepsRun}
+use Rattle.world.specs.Laws.{Goes, StepsRun, StepsSound}
 use Rattle.world.specs.Stands.{layout_of, state_of}
 
 module _ {A : Type 0} where
@@ -32,3 +35,8 @@ module _ {A : Type 0} where
   steps_run m config p q cs booted h =
       let run = runs_from cs p q (boot (layout_of p)) booted.stands h in
       (run.0, record { cpus = known cs p q h; leads = run.1 }, run.2)
+
+  pub steps_sound : StepsSound A
+  steps_sound m config p q cs booted h =
+      let run = steps_run m config p q cs booted h in
+      (run.0.contents.shared.row, subst (λ (s : Reference). Sound (layout_of p) s.contents) run.2 (run_sound (layout_of p) cs run.0 (ready m config p booted) run.1))

@@ -1,10 +1,12 @@
--- A law over lists of steps, proved on the contract of the function of its name.
-use Rattle.std.specs.Prelude.{◌≡◌, ◌<◌, List}
+-- Laws over lists of steps, each proved on the contract of the function of its name.
+use Rattle.std.specs.Prelude.{◌≡◌, ◌<◌, ℕ, List}
 use Rattle.page_state.specs.declared.layout.Config.{Config}
 use Rattle.page_state.specs.declared.reply.Call.{Call}
 use Rattle.page_state.specs.Layouts.{Layout}
 use Rattle.page_state.specs.Regions.{Memory}
 use Rattle.reference_model.specs.Run.{Runs, IsRun}
+use Rattle.page_state.specs.declared.row.Row.{Row}
+use Rattle.reference_model.specs.Sound.{Sound}
 use Rattle.reference_model.specs.State.{Reference}
 use Rattle.world.specs.declared.parts.Parts.{Parts}
 use Rattle.world.specs.Boots.{IsBooted}
@@ -24,3 +26,7 @@ EndsRun l cs q = (t : Reference) × IsRun l cs t × (t ≡ state_of t.contents.s
 -- after any list of steps from a boot on, the calls are a run, and the parts stand for its end
 abbrev pub StepsRun : Type 0 → Type 0
 StepsRun A = (m : Memory) (config : Config) (p q : Parts A) (cs : List Call) → IsBooted m config p → Runs Goes p cs q → EndsRun (layout_of p) cs q
+
+-- and the state that they stand for, with the rows of the run's end, is sound
+abbrev pub StepsSound : Type 0 → Type 0
+StepsSound A = (m : Memory) (config : Config) (p q : Parts A) (cs : List Call) → IsBooted m config p → Runs Goes p cs q → (row : ℕ → Row) × Sound (layout_of p) (state_of row q).contents

@@ -1,5 +1,5 @@
-//! A law over lists of steps. The function does nothing, and its contract is the law.
-ghost use Rattle.world.specs.Laws.{StepsRun};
+//! Laws over lists of steps. Each function does nothing, and its contract is the law.
+ghost use Rattle.world.specs.Laws.{StepsRun, StepsSound};
 
 use std::alloc::Allocator;
 
@@ -7,4 +7,10 @@ use std::alloc::Allocator;
 /// that were given.
 pub fn steps_run<A: Allocator>()
     ensures { StepsRun A }
+{}
+
+/// After any list of steps of any CPUs the state that the world stands for is sound: each memory frame has one owner,
+/// each frame at most one borrower, and what is in use is held once.
+pub fn steps_sound<A: Allocator>()
+    ensures { StepsSound A }
 {}

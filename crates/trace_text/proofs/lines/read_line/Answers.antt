@@ -7,13 +7,13 @@ use Rattle.trace_text.proofs.lines.read_line.Goals as goal
 pub loop-init : goal.loop-init
 loop-init g c = rw c.clear.ensures.items (record { bytes = consumes_none (g.R.Read.remaining c.args.reader.now); plain = tt; length = refl })
 
-pub returns-in-Some-eq10 : goal.returns-in-Some-eq10
-returns-in-Some-eq10 g c =
+pub returns-in-Some-eq10-clause-ok : goal.returns-in-Some-eq10-clause-ok
+returns-in-Some-eq10-clause-ok g c =
     let byte = rw (c.in-Some-eq10.is, c.in-Some-eq10.field-0-test) at c.in_ok-read_byte.ensures.bytes in
     read_end _ _ c.loop.line.items (consumes_both _ (g.R.Read.remaining c.loop.reader) _ c.loop.line.items (10 ∷ []) c.loop.invariant.bytes byte) c.loop.invariant.plain (omega arith)
 
-pub returns-in-None : goal.returns-in-None
-returns-in-None g c =
+pub returns-in-None-clause-ok : goal.returns-in-None-clause-ok
+returns-in-None-clause-ok g c =
     let none = rw c.in-None.is at c.in_ok-read_byte.ensures.bytes in
     let end = rw c.in-None.is at c.in_ok-read_byte.ensures.end in
     read_last _ (g.R.Read.remaining c.loop.reader) _ c.loop.line.items _ c.loop.invariant.bytes none end c.loop.invariant.plain (omega arith) (ap not (search rules))
@@ -29,5 +29,5 @@ loop-preserved g c =
       length = search rules;
     })
 
-pub returns : goal.returns
-returns g c = read_long _ (g.R.Read.remaining c.loop.reader) _ c.loop.invariant.bytes c.loop.invariant.plain (omega arith)
+pub returns-clause-ok : goal.returns-clause-ok
+returns-clause-ok g c = read_long _ (g.R.Read.remaining c.loop.reader) _ c.loop.invariant.bytes c.loop.invariant.plain (omega arith)
