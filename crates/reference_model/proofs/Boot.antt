@@ -15,7 +15,7 @@ use Rattle.page_state.specs.Geometries.{pages_below}
 use Rattle.page_state.specs.Trees.{Block, Tree, no_tree, frames_from}
 use Rattle.reference_model.specs.State.{vacant, reserved, opened, closing}
 use Rattle.page_state.specs.Layouts.{Layout, is_memory, hyp_page}
-use Rattle.reference_model.specs.Owner.{row_of, is_free, is_table_frame, is_in_hand, is_in_shared_pool, vm_pool_of, hand_of, is_lent_to_host, sharer, owner_by}
+use Rattle.reference_model.specs.Owner.{row_of, is_free, is_table_frame, is_in_hand, is_in_shared_pool, vm_pool_of, holding_cpu, is_lent_to_host, sharer, owner_by}
 use Rattle.page_state.specs.Tables.{needs, edited}
 use Rattle.reference_model.specs.Sound.{IsOne, IsLeafOf, Maps, Holds, IsHostsOwn, owner, usage, OneOwner, OneBorrower, Place, shared_pool, vm_pool, table_of, hand, IsHeld, HeldOnce, SlotsAgree}
 use Rattle.reference_model.specs.Boot.{carve_first, host_edit, hyp_edit, host_root, hyp_root, spare, host_need, hyp_need, IsCarveEnough, booted}
@@ -274,12 +274,12 @@ held-place l enough f (hand c) h = let no_hand : false ≡ true = sym (ap (λ r.
 vm_pool-none : (l : Layout) (f : ℕ) → vm_pool_of l (booted l) f ≡ None
 vm_pool-none l f = first_from-none 0 64 (λ v. is_free ((booted l).guest v).free f || is_table_frame l ((booted l).guest v).tree f) (λ v. rw (guest-pool l v, guest-tree l v) (is_table_frame-none l no_tree f (λ b. refl)))
 
-hand-none : (l : Layout) (f : ℕ) → hand_of l (booted l) f ≡ None
+hand-none : (l : Layout) (f : ℕ) → holding_cpu l (booted l) f ≡ None
 hand-none l f = first_from-none 0 l.config.cpus (λ c. is_in_hand ((booted l).cpu c).hand f) (λ c. rw (hand-at l c))
 
 usage-plain : (l : Layout) (f : ℕ) → is_in_shared_pool l (booted l) f ≡ false → usage l (booted l) f ≡ Plain
 unfolding row_of
-usage-plain l f h = go (is_in_shared_pool l (booted l) f) (vm_pool_of l (booted l) f) (hand_of l (booted l) f) h (vm_pool-none l f) (hand-none l f)
+usage-plain l f h = go (is_in_shared_pool l (booted l) f) (vm_pool_of l (booted l) f) (holding_cpu l (booted l) f) h (vm_pool-none l f) (hand-none l f)
   where
     go : (a : Bool) (v c : Option ℕ) → a ≡ false → v ≡ None → c ≡ None → elim a [ true ↦ SharedPool | false ↦ elim v [ Some u ↦ VmPool u | None ↦ elim c [ Some d ↦ InHand d | None ↦ Plain ] ] ] ≡ Plain
     go a v c p q r = rw (p, q, r)

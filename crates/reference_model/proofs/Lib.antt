@@ -16,7 +16,6 @@ pub mod Held
 pub mod HeldStored
 pub mod History
 pub mod LargeRows
-pub mod Lives
 pub mod LoadedRows
 pub mod NumberRows
 pub mod OwnerRows

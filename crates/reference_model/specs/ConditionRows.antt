@@ -58,17 +58,17 @@ KeepersRow = (map (λ u. in_shared (hyps u)) (Plain ∷ (SharedPool ∷ (VmPool 
     × (map (λ u. in_hand 3 (hyps u)) (Plain ∷ (VmPool 3 ∷ (InHand 3 ∷ (InHand 2 ∷ [])))) ≡ false ∷ (false ∷ (true ∷ (false ∷ []))))
 
 -- the condition that changes of CPU 3 with the guest of slot 2 move a frame to
-abbrev pub told : Changes → Condition
-told h = told_condition 3 (Some 2) h
+abbrev pub moves_to : Changes → Condition
+moves_to h = told_condition 3 (Some 2) h
 
 -- a page of the host, and page 9 of the guest
-abbrev pub pages : Entry → Entry → Changes
-pages e g = two_pages 5 e 9 g
+abbrev pub two_sides : Entry → Entry → Changes
+two_sides e g = two_pages 5 e 9 g
 
 -- where calls move a frame: shares, donations, funds and what is taken back
 abbrev pub MovesRow : Type 0
-MovesRow = (told (record no_changes { host = change 5 1 (leaf RWX 5 SharedOwned); hyp = change 0x4000005 1 (leaf RW 5 SharedBorrowed) }) ≡ with_hyp)
-    × (told (to_hyp 5 1) ≡ hyps Plain) × (told (record (to_hyp 5 1) { cpu = hand_becomes (Some (record { first = record { 0 = 5 }; count = 1 })) }) ≡ hyps (InHand 3)) × (told (to_host 5 1) ≡ hosts)
-    × (told (record no_changes { moved = Some (record { first = record { 0 = 5 }; count = 1 }) }) ≡ hyps (VmPool 2))
-    × (told (pages (leaf RWX 5 SharedOwned) (leaf RW 5 SharedBorrowed)) ≡ with_guest 2 9) × (told (pages (annotation 4) (leaf RWX 5 Owned)) ≡ guests 2 9)
-    × (told (pages (leaf RWX 5 SharedBorrowed) (leaf RWX 5 SharedOwned)) ≡ lent_back 2 9) × (told (pages (leaf RWX 5 Owned) Unmapped) ≡ hosts) × (told (pages Unmapped Unmapped) ≡ hosts)
+MovesRow = (moves_to (record no_changes { host = change 5 1 (leaf RWX 5 SharedOwned); hyp = change 0x4000005 1 (leaf RW 5 SharedBorrowed) }) ≡ with_hyp)
+    × (moves_to (to_hyp 5 1) ≡ hyps Plain) × (moves_to (record (to_hyp 5 1) { cpu = hand_becomes (Some (record { first = record { 0 = 5 }; count = 1 })) }) ≡ hyps (InHand 3)) × (moves_to (to_host 5 1) ≡ hosts)
+    × (moves_to (record no_changes { moved = Some (record { first = record { 0 = 5 }; count = 1 }) }) ≡ hyps (VmPool 2))
+    × (moves_to (two_sides (leaf RWX 5 SharedOwned) (leaf RW 5 SharedBorrowed)) ≡ with_guest 2 9) × (moves_to (two_sides (annotation 4) (leaf RWX 5 Owned)) ≡ guests 2 9)
+    × (moves_to (two_sides (leaf RWX 5 SharedBorrowed) (leaf RWX 5 SharedOwned)) ≡ lent_back 2 9) × (moves_to (two_sides (leaf RWX 5 Owned) Unmapped) ≡ hosts) × (moves_to (two_sides Unmapped Unmapped) ≡ hosts)

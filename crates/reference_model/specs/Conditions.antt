@@ -67,8 +67,8 @@ abbrev pub GuestFits : (ℕ → Condition) → ℕ → ℕ → Entry → Type 0
 GuestFits condition v g e = (e ≡ Unmapped) ⊎ IsGuestLeaf condition v g e
 
 -- a leaf of the frame in the state, with some rights
-abbrev pub IsLeaf : ℕ → State → Entry → Type 0
-IsLeaf f state e = (prot : Prot) × (e ≡ leaf prot f state)
+abbrev pub IsMemoryLeaf : ℕ → State → Entry → Type 0
+IsMemoryLeaf f state e = (prot : Prot) × (e ≡ leaf prot f state)
 
 -- all maps say what the conditions ask, and nothing else is mapped
 pub record MapsFit (s : Contents) (condition : ℕ → Condition) : Type 0 where
@@ -76,7 +76,7 @@ pub record MapsFit (s : Contents) (condition : ℕ → Condition) : Type 0 where
   pub hyp : (f : ℕ) → s.shared.hyp.map (hyp_page f) ≡ hyp_says f (condition f)
   pub hyp_below : (p : ℕ) → p < hyp_page 0 → s.shared.hyp.map p ≡ Unmapped
   pub guest : (v g : ℕ) → GuestFits condition v g ((s.guest v).tree.map g)
-  pub guest_has : (v g f : ℕ) (state : State) → condition f ≡ guest_condition state v g → IsLeaf f state ((s.guest v).tree.map g)
+  pub guest_has : (v g f : ℕ) (state : State) → condition f ≡ guest_condition state v g → IsMemoryLeaf f state ((s.guest v).tree.map g)
 
 -- a condition is a memory frame's
 abbrev pub is_inside : Condition → Bool

@@ -14,7 +14,7 @@ use Rattle.reference_model.specs.State.{dying, Guest, no_guest}
 use Rattle.page_state.specs.Map.{Map}
 use Rattle.reference_model.specs.Step.{foretell}
 use Rattle.reference_model.specs.Scene.{small, ok, vm, pages, tables, at, Refuses, GuestAlone}
-use Rattle.reference_model.specs.SceneState.{scene, protected_guest, dying_guest, bare_guest, low_tree, ticketed, with_free, with_guest}
+use Rattle.reference_model.specs.SceneState.{scene, protected_guest, dying_guest, bare_guest, low_tree, ticketed, with_free, with_guest_part}
 
 -- a Live guest of a Closing VM becomes Dying, and the ticket goes on; nothing else changes
 abbrev pub MarkDyingMade : Type 0
@@ -48,7 +48,7 @@ ReclaimPageShared =
 abbrev pub ReclaimPageRemoves : Type 0
 ReclaimPageRemoves =
     let last = record dying_guest { tree = low_tree 0x1721 0x1723 (pages ((1, leaf RWX 0x100a Owned) ∷ [])) } in
-    let r = foretell (small 1) (with_guest 5 last scene) 2 (ReclaimPage (vm 5 3) 1) in
+    let r = foretell (small 1) (with_guest_part 5 last scene) 2 (ReclaimPage (vm 5 3) 1) in
     (r.0 ≡ ok) × ((r.1.contents.guest 5).tree.table (1, 0) ≡ None) × ((r.1.contents.guest 5).tree.table (2, 0) ≡ Some 0x1721) × ((r.1.contents.guest 5).free ≡ 0x1722 ∷ 0x1723 ∷ 0x1724 ∷ [])
 
 -- it is refused: no such slot or guest page, though the guest is Live; a Live guest, another generation, an Empty guest; a page that isn't mapped
@@ -70,7 +70,7 @@ ReclaimPoolMade =
 abbrev pub ReclaimPoolRefused : Type 0
 ReclaimPoolRefused =
     Refuses (small 1) scene 2 (ReclaimPool (vm 64 3)) Invalid × Refuses (small 1) scene 2 (ReclaimPool (vm 3 5)) NoVm × Refuses (small 1) scene 2 (ReclaimPool (vm 5 4)) NoVm
-    × Refuses (small 1) scene 2 (ReclaimPool (vm 6 0)) NoVm × Refuses (small 1) (with_guest 5 (record dying_guest { free = [] }) scene) 2 (ReclaimPool (vm 5 3)) Perm
+    × Refuses (small 1) scene 2 (ReclaimPool (vm 6 0)) NoVm × Refuses (small 1) (with_guest_part 5 (record dying_guest { free = [] }) scene) 2 (ReclaimPool (vm 5 3)) Perm
     × Refuses (small 1) (with_free (0x1610 ∷ []) scene) 2 (ReclaimPool (vm 5 3)) NoPool
 
 -- a Dying guest of the root 0x1741 in a tree of one level, with these pages and free frames
@@ -80,7 +80,7 @@ flat_guest map free = record (bare_guest 0x1741) { phase = dying; free = free; t
 -- a finished guest is Empty; its root's frame is unmapped on both sides, and the ticket goes on
 abbrev pub FinishGuestMade : Type 0
 FinishGuestMade =
-    let r = foretell (small 0) (with_guest 8 (flat_guest (pages []) []) scene) 6 FinishGuest in
+    let r = foretell (small 0) (with_guest_part 8 (flat_guest (pages []) []) scene) 6 FinishGuest in
     (r.0 ≡ ok) × (r.1.contents.guest 8 ≡ no_guest) × (r.1.contents.cpu 6 ≡ ticketed 8 1 Finished) × (r.1.contents.guest 3 ≡ protected_guest)
     × (at r.1.contents.shared.host.map (0x1740 ∷ 0x1741 ∷ 0x1742 ∷ []) ≡ annotation 1 ∷ Unmapped ∷ annotation 1 ∷ []) × (r.1.contents.vms ≡ scene.contents.vms)
     × (at r.1.contents.shared.hyp.map (0x4001740 ∷ 0x4001741 ∷ 0x4001742 ∷ []) ≡ leaf RW 0x1740 Owned ∷ Unmapped ∷ leaf RW 0x1742 Owned ∷ [])
@@ -90,6 +90,6 @@ FinishGuestMade =
 abbrev pub FinishGuestRefused : Type 0
 FinishGuestRefused =
     Refuses (small 0) scene 2 FinishGuest NoVm × Refuses (small 0) scene 5 FinishGuest NoVm × Refuses (small 0) scene 8 FinishGuest NoVm
-    × Refuses (small 0) (with_guest 8 (flat_guest (pages ((3, leaf RWX 0x100a Owned) ∷ [])) []) scene) 6 FinishGuest Perm
-    × Refuses (small 0) (with_guest 8 (flat_guest (pages ((511, leaf RW 0x100c SharedBorrowed) ∷ [])) []) scene) 6 FinishGuest Perm
-    × Refuses (small 0) (with_guest 8 (flat_guest (pages []) (0x1744 ∷ [])) scene) 6 FinishGuest Perm
+    × Refuses (small 0) (with_guest_part 8 (flat_guest (pages ((3, leaf RWX 0x100a Owned) ∷ [])) []) scene) 6 FinishGuest Perm
+    × Refuses (small 0) (with_guest_part 8 (flat_guest (pages ((511, leaf RW 0x100c SharedBorrowed) ∷ [])) []) scene) 6 FinishGuest Perm
+    × Refuses (small 0) (with_guest_part 8 (flat_guest (pages []) (0x1744 ∷ [])) scene) 6 FinishGuest Perm

@@ -19,6 +19,7 @@ use Rattle.reference_model.specs.State.{Reference, put_at, no_guest, no_shared, 
 use Rattle.page_state.specs.Layouts.{Layout}
 use Rattle.page_state.specs.Tables.{put, need, returned, edited}
 use Rattle.reference_model.specs.Step.{foretell}
+use Rattle.reference_model.specs.Scene.{ok}
 use Rattle.reference_model.specs.Boot.{boot, CanBoot}
 
 -- 0x800 frames of memory from 0x40000 on and 16 device pages, with a carve-out of so many frames from 0x40600 on, and logs of so many calls
@@ -43,10 +44,6 @@ share l s cpu f = foretell l s cpu (ShareHyp f)
 -- the reply to a first share after the boot, and the state after it
 abbrev pub first_share : Layout → ℕ → Reply × Reference
 first_share l f = share l (boot l) 0 f
-
--- Ok with no value
-abbrev pub ok : Reply
-ok = Done Nothing
 
 -- the need of a change on an empty tree of 39 bits
 abbrev pub need_of : ℕ → ℕ → Entry → ℕ

@@ -8,7 +8,7 @@ use Rattle.page_state.specs.declared.step.Step.TheVariants.{ShareGuest, UnshareG
 use Rattle.page_state.specs.EntryTests.{leaf, annotation}
 use Rattle.reference_model.specs.Step.{foretell}
 use Rattle.reference_model.specs.Scene.{small, ok, vm, at, Refuses}
-use Rattle.reference_model.specs.SceneState.{scene, protected_guest, plain_guest, with_free, with_guest}
+use Rattle.reference_model.specs.SceneState.{scene, protected_guest, plain_guest, with_free, with_guest_part}
 
 -- a share with a plain guest marks the host's page and the guest's with the told rights alone; the tables come from their own pools
 abbrev pub ShareGuestMade : Type 0
@@ -24,7 +24,7 @@ ShareGuestMade =
 abbrev pub ShareGuestNear : Type 0
 ShareGuestNear =
     let r = foretell (small 1) scene 1 (ShareGuest 0x1000 17 RX) in
-    let s = with_free (0x1610 ∷ []) (with_guest 4 (record plain_guest { free = 0x1714 ∷ [] }) scene) in
+    let s = with_free (0x1610 ∷ []) (with_guest_part 4 (record plain_guest { free = 0x1714 ∷ [] }) scene) in
     let q = foretell (small 1) s 1 (ShareGuest 0x1401 0x3ffff R) in
     (r.0 ≡ ok) × (at r.1.contents.shared.host.map (0xfff ∷ 0x1000 ∷ 0x1001 ∷ []) ≡ Unmapped ∷ leaf RWX 0x1000 SharedOwned ∷ leaf RWX 0x1001 SharedOwned ∷ [])
     × (at (r.1.contents.guest 4).tree.map (16 ∷ 17 ∷ 18 ∷ []) ≡ leaf RX 0x1006 SharedBorrowed ∷ leaf RX 0x1000 SharedBorrowed ∷ Unmapped ∷ [])
@@ -37,7 +37,7 @@ ShareGuestRefused =
     Refuses (small 1) scene 2 (ShareGuest 0x900 17 RW) Invalid × Refuses (small 1) scene 1 (ShareGuest 0x1000 0x40000 RW) Invalid × Refuses (small 1) scene 2 (ShareGuest 0x1001 17 RW) NoVm
     × Refuses (small 1) scene 0 (ShareGuest 0x1000 17 RW) Perm × Refuses (small 1) scene 1 (ShareGuest 0x1001 17 RW) Perm × Refuses (small 1) scene 1 (ShareGuest 0x1007 17 RW) Perm
     × Refuses (small 1) scene 1 (ShareGuest 0x1009 17 RW) Perm × Refuses (small 1) scene 1 (ShareGuest 0x1000 16 RW) Perm × Refuses (small 1) (with_free [] scene) 1 (ShareGuest 0x1300 17 RW) Perm
-    × Refuses (small 1) (with_free [] scene) 1 (ShareGuest 0x1401 17 RW) NoPool × Refuses (small 1) (with_guest 4 (record plain_guest { free = [] }) scene) 1 (ShareGuest 0x1000 0x300 RW) NoPool
+    × Refuses (small 1) (with_free [] scene) 1 (ShareGuest 0x1401 17 RW) NoPool × Refuses (small 1) (with_guest_part 4 (record plain_guest { free = [] }) scene) 1 (ShareGuest 0x1000 0x300 RW) NoPool
 
 -- the guest's page is unmapped, and the host has its page for itself; the guest's emptied table goes, and its frame comes back to its place in the guest's own pool
 abbrev pub UnshareGuestMade : Type 0

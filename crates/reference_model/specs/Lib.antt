@@ -19,7 +19,6 @@ pub mod History
 pub mod Isolation
 pub mod LargeRows
 pub mod Laws
-pub mod Lives
 pub mod LoadedRows
 pub mod NumberRows
 pub mod Owner

@@ -10,7 +10,7 @@ use Rattle.page_state.specs.declared.step.Step.TheVariants.{DonateGuest, GuestSh
 use Rattle.page_state.specs.EntryTests.{leaf, annotation, join}
 use Rattle.reference_model.specs.Step.{foretell}
 use Rattle.reference_model.specs.Scene.{small, ok, vm, at, Refuses, GuestAlone}
-use Rattle.reference_model.specs.SceneState.{scene, protected_guest, with_free, with_guest}
+use Rattle.reference_model.specs.SceneState.{scene, protected_guest, with_free, with_guest_part}
 
 -- a donation is refused: a bad frame or guest page, though no vCPU is loaded; none loaded, though the page isn't free; a plain VM; a page that isn't free; a guest page that is mapped; too few free frames in either pool
 abbrev pub DonateGuestRefused : Type 0
@@ -18,7 +18,7 @@ DonateGuestRefused =
     Refuses (small 1) scene 2 (DonateGuest 0x900 9) Invalid × Refuses (small 1) scene 0 (DonateGuest 0x1000 0x40000) Invalid × Refuses (small 1) scene 2 (DonateGuest 0x1001 9) NoVm
     × Refuses (small 1) scene 1 (DonateGuest 0x1000 17) Perm × Refuses (small 1) scene 0 (DonateGuest 0x1001 9) Perm × Refuses (small 1) scene 0 (DonateGuest 0x1007 9) Perm
     × Refuses (small 1) scene 0 (DonateGuest 0x1009 9) Perm × Refuses (small 1) scene 0 (DonateGuest 0x1000 7) Perm × Refuses (small 1) (with_free [] scene) 0 (DonateGuest 0x1300 9) Perm
-    × Refuses (small 1) (with_free [] scene) 0 (DonateGuest 0x1401 9) NoPool × Refuses (small 1) (with_guest 3 (record protected_guest { free = [] }) scene) 0 (DonateGuest 0x1000 0x300) NoPool
+    × Refuses (small 1) (with_free [] scene) 0 (DonateGuest 0x1401 9) NoPool × Refuses (small 1) (with_guest_part 3 (record protected_guest { free = [] }) scene) 0 (DonateGuest 0x1000 0x300) NoPool
 
 -- a guest shares a page: its own entry changes its state and nothing else, and the host borrows the frame
 abbrev pub GuestShareHostMade : Type 0

@@ -91,14 +91,14 @@ module _ (l : Layout) (s : Contents) (f : ℕ) where
   vm_pool_of = first_below 64 (λ v. is_free (s.guest v).free f || is_table_frame l (s.guest v).tree f)
 
   -- the first CPU in whose hand the frame lies
-  abbrev pub hand_of : Option ℕ
-  hand_of = first_below l.config.cpus (λ c. is_in_hand (s.cpu c).hand f)
+  abbrev pub holding_cpu : Option ℕ
+  holding_cpu = first_below l.config.cpus (λ c. is_in_hand (s.cpu c).hand f)
 
   -- the use of the frame
   abbrev pub usage_of : Usage
   usage_of = elim is_in_shared_pool [
     | true ↦ SharedPool
-    | false ↦ elim vm_pool_of [ Some v ↦ VmPool v | None ↦ elim hand_of [ Some c ↦ InHand c | None ↦ Plain ] ]
+    | false ↦ elim vm_pool_of [ Some v ↦ VmPool v | None ↦ elim holding_cpu [ Some c ↦ InHand c | None ↦ Plain ] ]
   ]
 
   -- the owner row of the frame, from scratch

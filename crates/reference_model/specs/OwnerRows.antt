@@ -15,7 +15,7 @@ use Rattle.reference_model.specs.Rules.{rule}
 use Rattle.reference_model.specs.State.{Reference, plain_row}
 use Rattle.reference_model.specs.Used.{used_of}
 use Rattle.reference_model.specs.Scene.{small, vm, pages, at, row, old_row}
-use Rattle.reference_model.specs.SceneState.{scene, with_guest, with_rows}
+use Rattle.reference_model.specs.SceneState.{scene, with_guest_part, with_kept_rows}
 
 -- the row of a frame after a step, as the step's changes tell it
 abbrev pub told : Layout → Reference → ℕ → Step → ℕ → Row
@@ -26,7 +26,7 @@ told l s cpu step f =
 
 -- the same from the scene, in trees of two levels, where each frame has an old row
 abbrev pub here : ℕ → Step → ℕ → Row
-here cpu step f = told (small 1) (with_rows (λ g. old_row) scene) cpu step f
+here cpu step f = told (small 1) (with_kept_rows (λ g. old_row) scene) cpu step f
 
 -- the row of a frame of this owner, lent to this component's page
 abbrev pub lent_row : ℕ → ℕ → ℕ → Row
@@ -78,7 +78,7 @@ PoolRows =
 -- what comes back from a Dying guest is the host's alone: its pages, its pool's frames, its root
 abbrev pub EndedRows : Type 0
 EndedRows =
-    let s = with_rows (λ f. old_row) (with_guest 8 (flat_guest (pages []) []) scene) in
+    let s = with_kept_rows (λ f. old_row) (with_guest_part 8 (flat_guest (pages []) []) scene) in
     (told (small 1) s 2 (ReclaimPage (vm 5 3) 1) 0x100a ≡ plain_row) × (told (small 1) s 2 (ReclaimPage (vm 5 3) 2) 0x100b ≡ plain_row) × (told (small 1) s 2 (ReclaimPage (vm 5 3) 3) 0x100c ≡ plain_row)
     × (at (told (small 1) s 2 (ReclaimPool (vm 5 3))) (0x1721 ∷ 0x1722 ∷ 0x1723 ∷ []) ≡ old_row ∷ plain_row ∷ old_row ∷ [])
     × (at (told (small 0) s 6 FinishGuest) (0x1740 ∷ 0x1741 ∷ 0x1742 ∷ []) ≡ old_row ∷ plain_row ∷ old_row ∷ [])

@@ -14,9 +14,9 @@ use Rattle.reference_model.specs.SceneState.{scene}
 abbrev pub rooms : Reference → ℕ → ℕ → List ℕ
 rooms s cpu v = s.rooms.vms ∷ s.rooms.shared ∷ s.rooms.guest v ∷ s.rooms.cpu cpu ∷ s.rooms.cpu (cpu + 1) ∷ []
 
--- the same after a step in trees of one level, where each log could store 64 calls
-abbrev pub after : ℕ → Step → ℕ → List ℕ
-after cpu step v = rooms (foretell (small 0) scene cpu step).1 cpu v
+-- the same rooms_after a step in trees of one level, where each log could store 64 calls
+abbrev pub rooms_after : ℕ → Step → ℕ → List ℕ
+rooms_after cpu step v = rooms (foretell (small 0) scene cpu step).1 cpu v
 
 -- stored in the CPU's own log alone
 abbrev pub own_log : List ℕ
@@ -41,34 +41,34 @@ vms_log = 63 ∷ 64 ∷ 64 ∷ 63 ∷ 64 ∷ []
 -- the calls of the Shared part use it alone, whatever they answer
 abbrev pub SharedUses : Type 0
 SharedUses =
-    (after 2 (ShareHyp 0x1401) 0 ≡ shared_log) × (after 2 (UnshareHyp 0x1001) 0 ≡ shared_log) × (after 2 (DonateHyp 0x1410 3) 0 ≡ shared_log) × (after 2 (HypDonateHost 0x1002 2) 0 ≡ shared_log)
-    × (after 2 (HostAbort 0x1001) 0 ≡ shared_log) × (after 2 (HostTranslate 0) 0 ≡ shared_log) × (after 2 (HypTranslate 0) 0 ≡ shared_log) × (after 2 (OwnerOf 0x1000) 0 ≡ shared_log)
-    × (after 2 (Fund 0x1410 3) 0 ≡ shared_log) × (after 2 Unfund 0 ≡ shared_log) × (after 2 (ShareHyp 0x900) 0 ≡ shared_log) × (after 0 (ShareHyp 0x1401) 3 ≡ shared_log)
+    (rooms_after 2 (ShareHyp 0x1401) 0 ≡ shared_log) × (rooms_after 2 (UnshareHyp 0x1001) 0 ≡ shared_log) × (rooms_after 2 (DonateHyp 0x1410 3) 0 ≡ shared_log) × (rooms_after 2 (HypDonateHost 0x1002 2) 0 ≡ shared_log)
+    × (rooms_after 2 (HostAbort 0x1001) 0 ≡ shared_log) × (rooms_after 2 (HostTranslate 0) 0 ≡ shared_log) × (rooms_after 2 (HypTranslate 0) 0 ≡ shared_log) × (rooms_after 2 (OwnerOf 0x1000) 0 ≡ shared_log)
+    × (rooms_after 2 (Fund 0x1410 3) 0 ≡ shared_log) × (rooms_after 2 Unfund 0 ≡ shared_log) × (rooms_after 2 (ShareHyp 0x900) 0 ≡ shared_log) × (rooms_after 0 (ShareHyp 0x1401) 3 ≡ shared_log)
 
 -- the calls of a guest and the Shared part use both: the guest that the CPU has loaded, that the call names, or that the CPU's ticket names
 abbrev pub GuestUses : Type 0
 GuestUses =
-    (after 1 (ShareGuest 0x1401 17 RW) 4 ≡ both_logs) × (after 2 (UnshareGuest (vm 4 2) 16) 4 ≡ both_logs) × (after 0 (DonateGuest 0x1401 9) 3 ≡ both_logs) × (after 0 (GuestShareHost 7) 3 ≡ both_logs)
-    × (after 0 (GuestUnshareHost 8) 3 ≡ both_logs) × (after 4 Install 6 ≡ both_logs) × (after 3 (Topup (vm 3 5)) 3 ≡ both_logs) × (after 2 (ReclaimPage (vm 5 3) 1) 5 ≡ both_logs)
-    × (after 2 (ReclaimPool (vm 5 3)) 5 ≡ both_logs) × (after 6 FinishGuest 8 ≡ both_logs) × (after 2 (Topup (vm 63 1)) 63 ≡ both_logs) × (after 0 (Topup (vm 4 2)) 3 ≡ shared_log)
+    (rooms_after 1 (ShareGuest 0x1401 17 RW) 4 ≡ both_logs) × (rooms_after 2 (UnshareGuest (vm 4 2) 16) 4 ≡ both_logs) × (rooms_after 0 (DonateGuest 0x1401 9) 3 ≡ both_logs) × (rooms_after 0 (GuestShareHost 7) 3 ≡ both_logs)
+    × (rooms_after 0 (GuestUnshareHost 8) 3 ≡ both_logs) × (rooms_after 4 Install 6 ≡ both_logs) × (rooms_after 3 (Topup (vm 3 5)) 3 ≡ both_logs) × (rooms_after 2 (ReclaimPage (vm 5 3) 1) 5 ≡ both_logs)
+    × (rooms_after 2 (ReclaimPool (vm 5 3)) 5 ≡ both_logs) × (rooms_after 6 FinishGuest 8 ≡ both_logs) × (rooms_after 2 (Topup (vm 63 1)) 63 ≡ both_logs) × (rooms_after 0 (Topup (vm 4 2)) 3 ≡ shared_log)
 
 -- the calls of a guest alone use it alone
 abbrev pub GuestAloneUses : Type 0
-GuestAloneUses = (after 1 (GuestRelax 16 RW) 4 ≡ guest_log) × (after 2 (GuestTranslate (vm 3 5) 8) 3 ≡ guest_log) × (after 5 MarkDying 7 ≡ guest_log) × (after 0 (GuestTranslate (vm 4 2) 8) 3 ≡ own_log)
+GuestAloneUses = (rooms_after 1 (GuestRelax 16 RW) 4 ≡ guest_log) × (rooms_after 2 (GuestTranslate (vm 3 5) 8) 3 ≡ guest_log) × (rooms_after 5 MarkDying 7 ≡ guest_log) × (rooms_after 0 (GuestTranslate (vm 4 2) 8) 3 ≡ own_log)
 
 -- the calls of the VM part use it alone
 abbrev pub VmsUses : Type 0
 VmsUses =
-    (after 2 (VmReserve Protected 3) 12 ≡ vms_log) × (after 7 VmOpen 9 ≡ vms_log) × (after 2 (VcpuLoad (vm 2 4) 0) 2 ≡ vms_log) × (after 0 VcpuPut 3 ≡ vms_log)
-    × (after 2 (Teardown (vm 0 1)) 0 ≡ vms_log) × (after 4 VmRelease 6 ≡ vms_log) × (after 2 (VcpuLoad (vm 63 1) 8) 63 ≡ vms_log) × (after 2 (Teardown (vm 63 1)) 63 ≡ vms_log)
+    (rooms_after 2 (VmReserve Protected 3) 12 ≡ vms_log) × (rooms_after 7 VmOpen 9 ≡ vms_log) × (rooms_after 2 (VcpuLoad (vm 2 4) 0) 2 ≡ vms_log) × (rooms_after 0 VcpuPut 3 ≡ vms_log)
+    × (rooms_after 2 (Teardown (vm 0 1)) 0 ≡ vms_log) × (rooms_after 4 VmRelease 6 ≡ vms_log) × (rooms_after 2 (VcpuLoad (vm 63 1) 8) 63 ≡ vms_log) × (rooms_after 2 (Teardown (vm 63 1)) 63 ≡ vms_log)
 
 -- a call that lacks its slot uses no part: nothing loaded, no ticket of the stage, or a slot of 64
 abbrev pub NoneUsed : Type 0
 NoneUsed =
-    (after 2 (ShareGuest 0x1401 17 RW) 0 ≡ own_log) × (after 2 (DonateGuest 0x1401 9) 0 ≡ own_log) × (after 2 (GuestShareHost 7) 0 ≡ own_log) × (after 2 (GuestUnshareHost 8) 0 ≡ own_log)
-    × (after 2 (GuestRelax 16 RW) 0 ≡ own_log) × (after 7 Install 9 ≡ own_log) × (after 5 FinishGuest 7 ≡ own_log) × (after 6 MarkDying 8 ≡ own_log) × (after 2 (UnshareGuest (vm 64 1) 16) 64 ≡ own_log)
-    × (after 2 (Topup (vm 64 1)) 64 ≡ own_log) × (after 2 (ReclaimPage (vm 64 1) 1) 64 ≡ own_log) × (after 2 (ReclaimPool (vm 64 1)) 64 ≡ own_log) × (after 2 (GuestTranslate (vm 64 1) 8) 64 ≡ own_log)
-    × (after 2 (VcpuLoad (vm 64 1) 0) 64 ≡ own_log) × (after 2 (Teardown (vm 64 1)) 64 ≡ own_log)
+    (rooms_after 2 (ShareGuest 0x1401 17 RW) 0 ≡ own_log) × (rooms_after 2 (DonateGuest 0x1401 9) 0 ≡ own_log) × (rooms_after 2 (GuestShareHost 7) 0 ≡ own_log) × (rooms_after 2 (GuestUnshareHost 8) 0 ≡ own_log)
+    × (rooms_after 2 (GuestRelax 16 RW) 0 ≡ own_log) × (rooms_after 7 Install 9 ≡ own_log) × (rooms_after 5 FinishGuest 7 ≡ own_log) × (rooms_after 6 MarkDying 8 ≡ own_log) × (rooms_after 2 (UnshareGuest (vm 64 1) 16) 64 ≡ own_log)
+    × (rooms_after 2 (Topup (vm 64 1)) 64 ≡ own_log) × (rooms_after 2 (ReclaimPage (vm 64 1) 1) 64 ≡ own_log) × (rooms_after 2 (ReclaimPool (vm 64 1)) 64 ≡ own_log) × (rooms_after 2 (GuestTranslate (vm 64 1) 8) 64 ≡ own_log)
+    × (rooms_after 2 (VcpuLoad (vm 64 1) 0) 64 ≡ own_log) × (rooms_after 2 (Teardown (vm 64 1)) 64 ≡ own_log)
 
 -- the scene with these rooms
 abbrev pub with_rooms : Rooms → Reference

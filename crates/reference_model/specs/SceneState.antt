@@ -32,8 +32,8 @@ hyp_map = update (update (pages (
     ∷ [])) 0x4001200 512 (leaf RW 0x1200 Owned)) 0x4001600 512 (leaf RW 0x1600 Owned)
 
 -- the Shared part: tables where single pages are mapped, none on the blocks, and three free frames
-abbrev pub shared : Shared
-shared = record {
+abbrev pub scene_shared : Shared
+scene_shared = record {
   host = record { map = host_map; table = tables (((2, 0), 0x1600) ∷ ((1, 8), 0x1602) ∷ []) };
   hyp = record { map = hyp_map; table = tables (((2, 0), 0x1601) ∷ ((1, 0x20008), 0x1611) ∷ []) };
   free = 0x1610 ∷ 0x1612 ∷ 0x1620 ∷ [];
@@ -112,7 +112,7 @@ abbrev pub scene : Reference
 scene = record {
   contents = record {
     vms = record { slot = slots };
-    shared = shared;
+    shared = scene_shared;
     cpu = cpus;
     guest = listed ((3, protected_guest) ∷ (4, plain_guest) ∷ (5, dying_guest) ∷ (7, bare_guest 0x1740) ∷ (8, record (bare_guest 0x1741) { phase = dying }) ∷ (9, bare_guest 0x1742) ∷ []) no_guest;
   };
@@ -127,7 +127,7 @@ with_free free s = record s { contents = record s.contents { shared = record s.c
 abbrev pub lonely : Reference
 lonely = record scene {
   contents = record scene.contents {
-    shared = record shared {
+    shared = record scene_shared {
       host = record { map = pages ((0x1001, leaf RWX 0x1001 SharedOwned) ∷ (0x1405, annotation 1) ∷ []); table = tables (((2, 0), 0x1600) ∷ ((1, 8), 0x1602) ∷ ((1, 10), 0x1618) ∷ []) };
       hyp = record { map = pages ((0x4001001, leaf RW 0x1001 SharedBorrowed) ∷ (0x4001405, leaf RW 0x1405 Owned) ∷ []); table = tables (((2, 0), 0x1601) ∷ ((1, 0x20008), 0x1611) ∷ ((1, 0x2000a), 0x1608) ∷ []) };
     };
@@ -139,13 +139,13 @@ abbrev pub with_cpu : ℕ → Cpu → Reference → Reference
 with_cpu c k s = record s { contents = record s.contents { cpu = put_at s.contents.cpu c k } }
 
 -- a state with this guest in a slot
-abbrev pub with_guest : ℕ → Guest → Reference → Reference
-with_guest v g s = record s { contents = record s.contents { guest = put_at s.contents.guest v g } }
+abbrev pub with_guest_part : ℕ → Guest → Reference → Reference
+with_guest_part v g s = record s { contents = record s.contents { guest = put_at s.contents.guest v g } }
 
 -- a state with these slots
 abbrev pub with_slots : (ℕ → Slot) → Reference → Reference
 with_slots slots s = record s { contents = record s.contents { vms = record { slot = slots } } }
 
 -- a state with these owner rows
-abbrev pub with_rows : (ℕ → Row) → Reference → Reference
-with_rows row s = record s { contents = record s.contents { shared = record s.contents.shared { row = row } } }
+abbrev pub with_kept_rows : (ℕ → Row) → Reference → Reference
+with_kept_rows row s = record s { contents = record s.contents { shared = record s.contents.shared { row = row } } }

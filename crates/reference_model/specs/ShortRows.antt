@@ -7,13 +7,13 @@ use Rattle.page_state.specs.declared.step.Step.TheVariants.{UnshareHyp, UnshareG
 use Rattle.page_state.specs.EntryTests.{leaf}
 use Rattle.reference_model.specs.State.{Reference}
 use Rattle.reference_model.specs.Scene.{small, vm, pages, tables, Refuses}
-use Rattle.reference_model.specs.SceneState.{host_map, hyp_map, shared, plain_guest, scene, with_guest}
+use Rattle.reference_model.specs.SceneState.{host_map, hyp_map, scene_shared, plain_guest, scene, with_guest_part}
 
 -- the scene with the roots as the only tables of the host and the hypervisor, and no free frame
 abbrev pub bare : Reference
 bare = record scene {
   contents = record scene.contents {
-    shared = record shared {
+    shared = record scene_shared {
       host = record { map = host_map; table = tables (((2, 0), 0x1600) ∷ []) };
       hyp = record { map = hyp_map; table = tables (((2, 0), 0x1601) ∷ []) };
       free = [];
@@ -23,7 +23,7 @@ bare = record scene {
 
 -- the scene with the root as the only table of the plain guest, which has no free frame
 abbrev pub bare_plain : Reference
-bare_plain = with_guest 4 (record plain_guest { free = []; tree = record { map = pages ((16, leaf RX 0x1006 SharedBorrowed) ∷ []); table = tables (((2, 0), 0x1711) ∷ []) } }) scene
+bare_plain = with_guest_part 4 (record plain_guest { free = []; tree = record { map = pages ((16, leaf RX 0x1006 SharedBorrowed) ∷ []); table = tables (((2, 0), 0x1711) ∷ []) } }) scene
 
 -- a change of one page needs a table there, and none is free
 abbrev pub TablesShort : Type 0

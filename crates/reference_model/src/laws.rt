@@ -2,7 +2,6 @@
 ghost use Rattle.reference_model.specs.Laws.{RefusalKeeps, LogFullKeeps, StepExists, StepOnce, ReplyOnce, EndOnce, PartsEnd, StepChanges, StepReads, StepAgrees, HistoryBegins, HistoryGrows, BootSound};
 ghost use Rattle.reference_model.specs.Answers.{BarredAnswers, CarriedAnswers, AnswerSteps, FullSteps, UsedSteps};
 ghost use Rattle.reference_model.specs.Held.{HistorySteps, CallGrows, HeldStored};
-ghost use Rattle.reference_model.specs.Lives.{MakeRow, NoHandRow, PageRow, EndRow, PoolRow};
 ghost use Rattle.reference_model.specs.RoomLaws.{StoredFalls, RunRooms};
 ghost use Rattle.reference_model.specs.Examples.{NeedRow, SplitRow, RemovalRow, CanBootRow, BootRow, WideBootRow, ShareRow, BesideRow, NearRow, AgainRow, CarveRow, DeviceRow, PastRow, NoFrameRow, OneFrameRow, FullLogRow, FullSharedRow, RoomRow, OwnerRow};
 ghost use Rattle.reference_model.specs.RunLaws.{LegalRows, LegalSound, BootLegal, LegalKeeps, RunLegal, RunSound, RunRows, AcceptedUsable, AcceptedDepth, AcceptedMade, RowsTold};
@@ -88,15 +87,6 @@ pub fn worked_rows()
     ensures full_shared { FullSharedRow }
     ensures room { RoomRow }
     ensures owner { OwnerRow }
-{}
-
-/// What the definitions answer on the life of a VM.
-pub fn worked_lives()
-    ensures make { MakeRow }
-    ensures no_hand { NoHandRow }
-    ensures page { PageRow }
-    ensures end { EndRow }
-    ensures pool { PoolRow }
 {}
 
 /// The row of a frame from scratch is that of its condition.

@@ -20,7 +20,7 @@ use Rattle.reference_model.specs.Used.{Used, used_of, put_back}
 use Rattle.reference_model.specs.Sound.{Fits}
 use Rattle.reference_model.specs.Step.{refusal, changed, with_rows, guest_after}
 use Rattle.page_state.specs.Tables.{put, needs, freed, returned, edited}
-use Rattle.reference_model.specs.Conditions.{guest_condition, GuestFits, IsLeaf, Legal, IsUsable, in_vm, one, guest_uses, IsTidy, SlotsFit}
+use Rattle.reference_model.specs.Conditions.{guest_condition, GuestFits, IsMemoryLeaf, Legal, IsUsable, in_vm, one, guest_uses, IsTidy, SlotsFit}
 use Rattle.page_state.proofs.Common.{both, if-true, if-false}
 use Rattle.reference_model.proofs.Steps.{state_of}
 use Rattle.reference_model.proofs.conditions.Conserved.{tree-conserved, edited-tidy, edited-root}
@@ -34,7 +34,7 @@ use Rattle.reference_model.proofs.conditions.PoolSteps.{slots-stay, turned}
 
 -- a state of which one guest and a CPU changed, but no hand and no condition
 pub alone-legal : (l : Layout) (s : Contents) (legal : Legal l s) (cpu v : ℕ) (g : Guest) (k : Cpu)
-    → ((p : ℕ) → GuestFits legal.condition v p (g.tree.map p)) → ((p f : ℕ) (state : State) → legal.condition f ≡ guest_condition state v p → IsLeaf f state (g.tree.map p))
+    → ((p : ℕ) → GuestFits legal.condition v p (g.tree.map p)) → ((p f : ℕ) (state : State) → legal.condition f ≡ guest_condition state v p → IsMemoryLeaf f state (g.tree.map p))
     → ((f : ℕ) → guest_uses l.depth g f ≡ one (in_vm v (legal.condition f))) → IsTidy l.depth g.tree → (g.phase ≡ empty → g ≡ no_guest) → (g.phase ≢ empty → (root : ℕ) × (g.tree.table (l.depth + 1, 0) ≡ Some root))
     → k.hand ≡ (s.cpu cpu).hand → SlotsFit (state_of s.vms s.shared (put_at s.guest v g) (put_at s.cpu cpu k))
     → LegalAlone l s legal (record { vms = s.vms; shared = s.shared; guest = put_at s.guest v g; cpu = put_at s.cpu cpu k })
@@ -48,7 +48,7 @@ alone-legal l s legal cpu v g k fits has held tidy blank rooted same slots = (
       hyp = legal.maps.hyp;
       hyp_below = legal.maps.hyp_below;
       guest = guest-fact (λ u x. (p : ℕ) → GuestFits legal.condition u p (x.tree.map p)) s.guest v g fits (λ u d. legal.maps.guest u);
-      guest_has = guest-fact (λ u x. (p f : ℕ) (state : State) → legal.condition f ≡ guest_condition state u p → IsLeaf f state (x.tree.map p)) s.guest v g has (λ u d. legal.maps.guest_has u);
+      guest_has = guest-fact (λ u x. (p f : ℕ) (state : State) → legal.condition f ≡ guest_condition state u p → IsMemoryLeaf f state (x.tree.map p)) s.guest v g has (λ u d. legal.maps.guest_has u);
     };
     held = record {
       shared = legal.held.shared;
@@ -85,7 +85,7 @@ module _ (l : Layout) (s : Contents) (legal : Legal l s) (usable : IsUsable l) (
         | inr w ↦ subst (GuestFits legal.condition v p) (sym (if-false (is_within g 1 p) (advance (with_rights rights (m g)) (p - g)) (m p) w)) (legal.maps.guest v p)
       ]
 
-  relaxed-has : (g : ℕ) (rights : Prot) (p f : ℕ) (state : State) → legal.condition f ≡ guest_condition state v p → IsLeaf f state (update (s.guest v).tree.map g 1 (with_rights rights ((s.guest v).tree.map g)) p)
+  relaxed-has : (g : ℕ) (rights : Prot) (p f : ℕ) (state : State) → legal.condition f ≡ guest_condition state v p → IsMemoryLeaf f state (update (s.guest v).tree.map g 1 (with_rights rights ((s.guest v).tree.map g)) p)
   relaxed-has g rights p f state h =
       let m : Map = (s.guest v).tree.map in
       let old = legal.maps.guest_has v p f state h in

@@ -20,7 +20,7 @@ use Rattle.reference_model.specs.Step.{is_touched, changed, with_rows, own_row, 
 use Rattle.page_state.specs.Tables.{edited_map, edited, need}
 use Rattle.reference_model.specs.ConditionChanges.{told_condition}
 use Rattle.reference_model.specs.RowChanges.{told_row, first_of}
-use Rattle.reference_model.specs.Conditions.{Condition, outside, hosts, with_hyp, hyps, with_guest, guests, lent_back, HostFits, hyp_says, guest_condition, GuestFits, IsLeaf, MapsFit, HeldFit, IsOfLayout, Legal, IsUsable, row_in, in_shared, in_vm, in_hand, one, guest_uses, IsTidy, AreTidy, GuestsFit, SlotsFit, RowsFit, is_inside, IsGood}
+use Rattle.reference_model.specs.Conditions.{Condition, outside, hosts, with_hyp, hyps, with_guest, guests, lent_back, HostFits, hyp_says, guest_condition, GuestFits, IsMemoryLeaf, MapsFit, HeldFit, IsOfLayout, Legal, IsUsable, row_in, in_shared, in_vm, in_hand, one, guest_uses, IsTidy, AreTidy, GuestsFit, SlotsFit, RowsFit, is_inside, IsGood}
 use Rattle.page_state.proofs.Common.{both, eq-same, eq-self, if-true, if-false}
 use Rattle.reference_model.proofs.Steps.{state_of}
 use Rattle.reference_model.proofs.conditions.Stands.{SharedStands, GuestsStand, HandsStand, row-stands}
@@ -84,7 +84,7 @@ pub record GuestMove (l : Layout) (s : Contents) (condition : ℕ → Condition)
   pub hyp_range : IsInRange l.depth (edit_of r.hyp)
   pub enough : shared_need l.depth r s.shared ≤ length s.shared.free
   pub guest : (p : ℕ) → GuestFits (moved_to c first n condition) v p ((new_guest l s v r).tree.map p)
-  pub guest_has : (p f : ℕ) (state : State) → moved_to c first n condition f ≡ guest_condition state v p → IsLeaf f state ((new_guest l s v r).tree.map p)
+  pub guest_has : (p f : ℕ) (state : State) → moved_to c first n condition f ≡ guest_condition state v p → IsMemoryLeaf f state ((new_guest l s v r).tree.map p)
   pub held : (f : ℕ) → guest_uses l.depth (new_guest l s v r) f ≡ one (in_vm v (moved_to c first n condition f))
   pub tidy : IsTidy l.depth (new_guest l s v r).tree
   pub blank : (new_guest l s v r).phase ≡ empty → new_guest l s v r ≡ no_guest
@@ -166,7 +166,7 @@ module _ (l : Layout) (s : Contents) (legal : Legal l s) (usable : IsUsable l) (
     hyp = m.hyp;
     hyp_below = m.hyp_below;
     guest = guest-fact (λ u g. (p : ℕ) → GuestFits after u p (g.tree.map p)) s.guest v (new_guest l s v r) m.guest (λ u d p. other-fits u p ((s.guest u).tree.map p) d (legal.maps.guest u p));
-    guest_has = guest-fact (λ u g. (p f : ℕ) (state : State) → after f ≡ guest_condition state u p → IsLeaf f state (g.tree.map p)) s.guest v (new_guest l s v r) m.guest_has (λ u d p f state h. legal.maps.guest_has u p f state (other-has u p f state d h));
+    guest_has = guest-fact (λ u g. (p f : ℕ) (state : State) → after f ≡ guest_condition state u p → IsMemoryLeaf f state (g.tree.map p)) s.guest v (new_guest l s v r) m.guest_has (λ u d p f state h. legal.maps.guest_has u p f state (other-has u p f state d h));
   }
 
   held : HeldFit l t after

@@ -19,7 +19,7 @@ use Rattle.reference_model.specs.Step.{guest_after}
 use Rattle.page_state.specs.Tables.{put, edited}
 use Rattle.reference_model.specs.ConditionChanges.{told_condition}
 use Rattle.reference_model.specs.RowChanges.{told_row}
-use Rattle.reference_model.specs.Conditions.{row_in, Condition, HostFits, hyp_says, guest_condition, GuestFits, IsLeaf, Legal, IsUsable, in_shared, in_vm, in_hand, one, SlotsFit, is_inside, IsGood}
+use Rattle.reference_model.specs.Conditions.{row_in, Condition, HostFits, hyp_says, guest_condition, GuestFits, IsMemoryLeaf, Legal, IsUsable, in_shared, in_vm, in_hand, one, SlotsFit, is_inside, IsGood}
 use Rattle.page_state.proofs.Common.{both, if-true, if-false}
 use Rattle.reference_model.proofs.Steps.{state_of}
 use Rattle.reference_model.proofs.conditions.Moves.{moved_to, host-moved, moved-in, moved-out, moved-fact, SameSlots, same-agree, cpu-fact}
@@ -52,7 +52,7 @@ pub record PageMove (l : Layout) (s : Contents) (condition : ℕ → Condition) 
   pub old_page : (p : ℕ) (state : State) → condition f ≡ guest_condition state v p → p ≡ g
   pub old_frame : (q : ℕ) (state : State) → condition q ≡ guest_condition state v g → q ≡ f
   pub new_page : (e' ≡ Unmapped) ⊎ ((prot : Prot) × (state : State) × (e' ≡ leaf prot f state) × (c ≡ guest_condition state v g))
-  pub new_has : (p : ℕ) (state : State) → c ≡ guest_condition state v p → (p ≡ g) × IsLeaf f state e'
+  pub new_has : (p : ℕ) (state : State) → c ≡ guest_condition state v p → (p ≡ g) × IsMemoryLeaf f state e'
 
 pub advance-none : (e : Entry) (g : ℕ) → advance e (g - g) ≡ e
 advance-none Unmapped g = refl
@@ -110,7 +110,7 @@ module _ (l : Layout) (s : Contents) (legal : Legal l s) (usable : IsUsable l) (
         ]
   ]
 
-  guest_has : (p q : ℕ) (state : State) → after q ≡ guest_condition state v p → IsLeaf q state (update (s.guest v).tree.map g 1 e' p)
+  guest_has : (p q : ℕ) (state : State) → after q ≡ guest_condition state v p → IsMemoryLeaf q state (update (s.guest v).tree.map g 1 e' p)
   unfolding after
   guest_has p q state h = elim (both (is_within f 1 q)) [
     | inl k ↦

@@ -24,7 +24,7 @@ use Rattle.reference_model.specs.ConditionChanges.{told_condition}
 use Rattle.reference_model.specs.RowChanges.{told_row}
 use Rattle.page_state.specs.declared.row.Usage.TheVariants.{Plain}
 use Rattle.reference_model.specs.Owner.{lent_at}
-use Rattle.reference_model.specs.Conditions.{row_in, Condition, hosts, with_guest, guests, lent_back, HostFits, hyp_says, guest_condition, IsGuestLeaf, IsLeaf, Legal, IsUsable, in_shared, in_vm, in_hand, is_inside, IsGood}
+use Rattle.reference_model.specs.Conditions.{row_in, Condition, hosts, with_guest, guests, lent_back, HostFits, hyp_says, guest_condition, IsGuestLeaf, IsMemoryLeaf, Legal, IsUsable, in_shared, in_vm, in_hand, is_inside, IsGood}
 use Rattle.reference_model.proofs.conditions.SharedMoves.{StepKept}
 use Rattle.page_state.proofs.Common.{eq-self, and-both, or-neither, not-false}
 use Rattle.reference_model.proofs.conditions.GuestMoves.{only, g_of, guest-keeps}
@@ -104,7 +104,7 @@ side_condition (joined a) v g = guest_condition a v g
 
 abbrev SideFits : Side → ℕ → Entry → Type 0
 SideFits apart f e = e ≡ Unmapped
-SideFits (joined a) f e = IsLeaf f a e
+SideFits (joined a) f e = IsMemoryLeaf f a e
 
 record SideMove (l : Layout) (s : Contents) (condition : ℕ → Condition) (v f : ℕ) (e : Entry) (g : ℕ) (e' : Entry) (old new : Side) : Type 0 where
   memory : is_memory l f ≡ true
@@ -155,7 +155,7 @@ side-new apart v f g e h = inl h
 side-new (joined a) v f g e h = inr (h.0, a, h.1, refl)
 
 -- the frame that stands at the page
-side-frame : (a : Side) (f q : ℕ) (b : State) (e : Entry) → SideFits a f e → IsLeaf q b e → q ≡ f
+side-frame : (a : Side) (f q : ℕ) (b : State) (e : Entry) → SideFits a f e → IsMemoryLeaf q b e → q ≡ f
 side-frame apart f q b e h k = let bad : Unmapped ≡ leaf k.0 q b = sym h ∙ k.1 in cc
 side-frame (joined a) f q b e h k = ap frame_of (sym k.1 ∙ h.1)
 
@@ -186,7 +186,7 @@ side-move l s legal v f e g e' old new m = record {
 
 record Named (s : Contents) (condition : ℕ → Condition) (v g : ℕ) (state : State) : Type 0 where
   named : condition (frame_of ((s.guest v).tree.map g)) ≡ guest_condition state v g
-  is_leaf : IsLeaf (frame_of ((s.guest v).tree.map g)) state ((s.guest v).tree.map g)
+  is_leaf : IsMemoryLeaf (frame_of ((s.guest v).tree.map g)) state ((s.guest v).tree.map g)
 
 leaf-named : (s : Contents) (condition : ℕ → Condition) (v g : ℕ) → (h : IsGuestLeaf condition v g ((s.guest v).tree.map g)) → Named s condition v g h.state
 leaf-named s condition v g h =

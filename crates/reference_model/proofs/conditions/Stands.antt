@@ -17,7 +17,7 @@ use Rattle.page_state.specs.Search.{first_from, first_below}
 use Rattle.page_state.specs.Trees.{Tree}
 use Rattle.reference_model.specs.State.{Shared, Guest, Cpu, Contents}
 use Rattle.page_state.specs.Layouts.{Layout, hyp_page}
-use Rattle.reference_model.specs.Owner.{page_of, is_free, is_in_hand, is_table_frame, guest_with, is_lent_to_host, sharer, owner_by, lent_to, lent_at, is_in_shared_pool, vm_pool_of, hand_of, usage_of, row_of}
+use Rattle.reference_model.specs.Owner.{page_of, is_free, is_in_hand, is_table_frame, guest_with, is_lent_to_host, sharer, owner_by, lent_to, lent_at, is_in_shared_pool, vm_pool_of, holding_cpu, usage_of, row_of}
 use Rattle.reference_model.specs.Conditions.{Condition, outside, hosts, with_hyp, hyps, with_guest, guests, lent_back, HostFits, hyp_says, guest_condition, IsGood, in_shared, in_vm, in_hand, one, is_inside, table_uses, shared_uses, guest_uses, row_in}
 use Rattle.page_state.proofs.Common.{both, eq-same, eq-made, eq-self, same3}
 use Rattle.page_state.proofs.Counts.{count_next}
@@ -289,8 +289,8 @@ usage-go f (with_guest v g) a b d p q r = rw (p, q, r)
 usage-go f (guests v g) a b d p q r = rw (p, q, r)
 usage-go f (lent_back v g) a b d p q r = rw (p, q, r)
 
-usage-is : (l : Layout) (s : Contents) (f : ℕ) (c : Condition) → is_in_shared_pool l s f ≡ in_shared c → vm_pool_of l s f ≡ vm_of c → hand_of l s f ≡ cpu_of c → usage_of l s f ≡ (row_in f c).usage
-usage-is l s f c p q r = usage-go f c (is_in_shared_pool l s f) (vm_pool_of l s f) (hand_of l s f) p q r
+usage-is : (l : Layout) (s : Contents) (f : ℕ) (c : Condition) → is_in_shared_pool l s f ≡ in_shared c → vm_pool_of l s f ≡ vm_of c → holding_cpu l s f ≡ cpu_of c → usage_of l s f ≡ (row_in f c).usage
+usage-is l s f c p q r = usage-go f c (is_in_shared_pool l s f) (vm_pool_of l s f) (holding_cpu l s f) p q r
 
 make_row : ℕ → Option Lent → Usage → Row
 make_row owner lent usage = record { owner = record { 0 = owner }; lent = lent; usage = usage }
@@ -320,7 +320,7 @@ module _ (l : Layout) (s : Contents) (f : ℕ) (c : Condition) (x : SharedStands
       pool-test : (v : ℕ) → (is_free (s.guest v).free f || is_table_frame l (s.guest v).tree f) ≡ in_vm v c
       pool-test v = rw (is_free-count (s.guest v).free f, is_table_frame-uses l (s.guest v).tree f) (two-tests (frame_count f (s.guest v).free) (table_uses l.depth (s.guest v).tree f) (in_vm v c) (g.held v))
 
-  hand-search : hand_of l s f ≡ cpu_of c
+  hand-search : holding_cpu l s f ≡ cpu_of c
   hand-search = search-option l.config.cpus (λ cpu. is_in_hand (s.cpu cpu).hand f) (cpu_of c)
       (λ v t. cpu_of-in c v (sym (k v) ∙ t))
       (λ v h. (k v ∙ in-cpu_of c v h, cpu-good l c v good h))
