@@ -1,7 +1,12 @@
--- Owner rows along a range of frames.
+-- Owner rows: the plain one, and how a row goes on along a range of frames.
 use Rattle.std.specs.Prelude.{ℕ, ◌+◌, Option, Some, None}
 use Rattle.page_state.specs.declared.row.Lent.{Lent}
 use Rattle.page_state.specs.declared.row.Row.{Row}
+use Rattle.page_state.specs.declared.row.Usage.TheVariants.{Plain}
+
+-- the row of a frame that is the host's, lent to nobody, and in no other use
+abbrev pub plain_row : Row
+plain_row = record { owner = record { 0 = 0 }; lent = None; usage = Plain }
 
 -- a loan so many frames further on: the borrower's page grows with the frame
 abbrev pub advance_lent : Option Lent → ℕ → Option Lent

@@ -4,9 +4,9 @@ use Rattle.reference_model.specs.declared.changes.Ticket.{Ticket}
 use Rattle.reference_model.specs.declared.changes.Loaded.{Loaded}
 use Rattle.page_state.specs.declared.entry.PageRange.{PageRange}
 use Rattle.page_state.specs.declared.row.Row.{Row}
-use Rattle.page_state.specs.declared.row.Usage.TheVariants.{Plain}
 use Rattle.page_state.specs.declared.step.VmKind.{VmKind}
 use Rattle.page_state.specs.declared.step.VmKind.TheVariants.{Plain as PlainVm}
+pub use Rattle.page_state.specs.Rows.{plain_row}
 use Rattle.page_state.specs.Trees.{Tree, Pool, no_tree}
 
 -- the Shared part: both trees, their pool and the owner rows
@@ -77,10 +77,6 @@ pub record Reference : Type 0 where
 -- a function with another value at one number
 abbrev pub put_at : {X : Type 0} → (ℕ → X) → ℕ → X → ℕ → X
 put_at f k x j = if j == k then x else f j
-
--- the row of a frame that is the host's, lent to nobody, and in no other use
-abbrev pub plain_row : Row
-plain_row = record { owner = record { 0 = 0 }; lent = None; usage = Plain }
 
 -- an Empty guest
 abbrev pub no_guest : Guest

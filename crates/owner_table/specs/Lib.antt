@@ -1,0 +1,3 @@
+pub mod Filling
+pub mod Room
+pub mod Rows
