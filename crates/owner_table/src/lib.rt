@@ -4,7 +4,7 @@
 ghost use Rattle.std.specs.Prelude.{◌≡◌, ◌+◌, ◌^◌, ◌≤◌, None, Some, IsSome, IfOk, All, length, if◌then◌else◌};
 ghost use Rattle.page_state.specs.Regions.{end_of, is_memory_kind, memory_pages};
 ghost use Rattle.page_state.specs.Rows.{advance_row, plain_row};
-ghost use Rattle.run_list.specs.OwnerRows.{HasPageBelow};
+ghost use Rattle.page_state.specs.Rows.{HasPageBelow};
 ghost use Rattle.run_list.specs.Runs.{run_map, IsCoarsest};
 ghost use Rattle.owner_table.specs.Rows.{row_at, IsOf, HasRows, HasSameFrames, rows_set};
 ghost use Rattle.owner_table.specs.Room.{HasRoom, frame_limit};

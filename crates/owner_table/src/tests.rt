@@ -1,6 +1,6 @@
 ghost use Rattle.std.specs.Prelude.{ℕ, ◌<◌, ◌^◌, IsTrue};
 ghost use Rattle.page_state.specs.Regions.{end_of};
-ghost use Rattle.run_list.specs.OwnerRows.{HasPageBelow};
+ghost use Rattle.page_state.specs.Rows.{HasPageBelow};
 ghost use Rattle.owner_table.specs.Rows.{HasRows};
 
 use super::*;

@@ -36,7 +36,7 @@ told-err r lacks why h = go (first_test r lacks) h
     go (Some found) e = cc
     go None e = cc
 
-told-ok : (r : Rule) (lacks : Bool) (h : Changes) → decided r lacks ≡ Ok h → (first_test r lacks ≡ None) × (r.changes ≡ h)
+pub told-ok : (r : Rule) (lacks : Bool) (h : Changes) → decided r lacks ≡ Ok h → (first_test r lacks ≡ None) × (r.changes ≡ h)
 told-ok r lacks h k = go (first_test r lacks) k
   where
     go : (o : Option Refusal) → result-of r o ≡ Ok h → (o ≡ None) × (r.changes ≡ h)

@@ -2,6 +2,7 @@ pub mod AbortRows
 pub mod Answers
 pub mod Boot
 pub mod BootRows
+pub mod ChangesUsed
 pub mod ConditionRows
 pub mod EndRows
 pub mod Ends

@@ -7,8 +7,7 @@ use Rattle.page_state.specs.declared.entry.Entry.TheVariants.{Unmapped}
 use Rattle.page_state.specs.declared.layout.RegionKind.TheVariants.{Memory as MemoryKind, Device}
 use Rattle.page_state.specs.declared.reply.Refusal.TheVariants.{Perm, Invalid, NoPool, LogFull}
 use Rattle.page_state.specs.declared.reply.Reply.{Reply}
-use Rattle.page_state.specs.declared.reply.Reply.TheVariants.{Done, Refused}
-use Rattle.page_state.specs.declared.reply.Value.TheVariants.{Nothing}
+use Rattle.page_state.specs.declared.reply.Reply.TheVariants.{Refused}
 use Rattle.page_state.specs.declared.step.Step.TheVariants.{ShareHyp}
 use Rattle.page_state.specs.EntryTests.{leaf, annotation}
 use Rattle.page_state.specs.declared.row.Usage.TheVariants.{Plain}

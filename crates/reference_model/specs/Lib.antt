@@ -3,6 +3,7 @@ pub mod Answers
 pub mod Boot
 pub mod BootRows
 pub mod Bounds
+pub mod ChangeLaws
 pub mod Changes
 pub mod ConditionChanges
 pub mod ConditionRows

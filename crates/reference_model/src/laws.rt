@@ -1,6 +1,7 @@
 //! Laws of the reference model. Each function does nothing, and its contract is the law.
 ghost use Rattle.reference_model.specs.Laws.{RefusalKeeps, LogFullKeeps, StepExists, StepOnce, ReplyOnce, EndOnce, PartsEnd, StepChanges, StepReads, StepAgrees, HistoryBegins, HistoryGrows, BootSound};
 ghost use Rattle.reference_model.specs.Answers.{BarredAnswers, CarriedAnswers, AnswerSteps, FullSteps, UsedSteps};
+ghost use Rattle.reference_model.specs.ChangeLaws.{ChangesUsed, ChangesFit, TouchedWhole};
 ghost use Rattle.reference_model.specs.Held.{HistorySteps, CallGrows, HeldStored};
 ghost use Rattle.reference_model.specs.RoomLaws.{StoredFalls, RunRooms};
 ghost use Rattle.reference_model.specs.Examples.{NeedRow, SplitRow, RemovalRow, CanBootRow, BootRow, WideBootRow, ShareRow, BesideRow, NearRow, AgainRow, CarveRow, DeviceRow, PastRow, NoFrameRow, OneFrameRow, FullLogRow, FullSharedRow, RoomRow, OwnerRow};
@@ -47,6 +48,13 @@ pub fn answers()
     ensures history { HistorySteps }
     ensures call { CallGrows }
     ensures held { HeldStored }
+{}
+
+/// What a rule changes is of parts that its step uses, can be written, and touches memory frames alone or none.
+pub fn change_laws()
+    ensures used { ChangesUsed }
+    ensures fit { ChangesFit }
+    ensures touched { TouchedWhole }
 {}
 
 /// Each stored call lowers just the rooms of its used logs by one, so a log's room is told by its calls.

@@ -1,21 +1,13 @@
 -- Owner rows go on along a run: a lent page grows with the frame, and all else stays.
-use Rattle.std.specs.Prelude.{◌≡◌, ℕ, ◌+◌, ◌^◌, ◌≤◌, Bool, true, false, ◌&&◌, ◌==◌, Option, Some, None, refl}
+use Rattle.std.specs.Prelude.{◌≡◌, ℕ, ◌+◌, ◌≤◌, Bool, true, false, ◌&&◌, ◌==◌, Option, Some, None, refl}
 use Rattle.std.proofs.Common.{ap, ◌∙◌, add_assoc, add-zero, arith}
 use Rattle.page_state.specs.declared.row.Row.{Row}
 use Rattle.page_state.specs.declared.row.Lent.{Lent}
 use Rattle.page_state.specs.declared.row.Usage.{Usage}
 use Rattle.page_state.specs.declared.row.Usage.TheVariants.{Plain, SharedPool, VmPool, InHand}
-use Rattle.page_state.specs.Rows.{advance_lent, advance_row}
+use Rattle.page_state.specs.Rows.{advance_lent, advance_row, HasLentBelow, HasPageBelow}
 use Rattle.page_state.proofs.Common.{and-both, eq-same, eq-self}
 use Rattle.run_list.specs.Advance.{AdvanceLaws}
-
--- a lent page stays below 2^63 so many frames on
-abbrev pub HasLentBelow : Option Lent → ℕ → Type 0
-HasLentBelow None n = Unit {0}
-HasLentBelow (Some l) n = l.page + n ≤ 2 ^ 63
-
-abbrev pub HasPageBelow : Row → ℕ → Type 0
-HasPageBelow r n = HasLentBelow r.lent n
 
 -- equality of loans, usages and rows, as tests
 

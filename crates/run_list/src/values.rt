@@ -3,7 +3,8 @@ ghost use Rattle.std.specs.Prelude.{◌≡◌};
 ghost use Rattle.page_state.specs.Entries.{advance_target};
 ghost use Rattle.page_state.specs.Rows.{advance_row};
 ghost use Rattle.run_list.specs.Targets.{HasFrameBelow, target_eq, target_laws};
-ghost use Rattle.run_list.specs.OwnerRows.{HasPageBelow, lent_eq, usage_eq, row_eq, row_laws};
+ghost use Rattle.page_state.specs.Rows.{HasPageBelow};
+ghost use Rattle.run_list.specs.OwnerRows.{lent_eq, usage_eq, row_eq, row_laws};
 
 use crate::Advance;
 use page_state::{Frame, Lent, Row, Target, Usage};

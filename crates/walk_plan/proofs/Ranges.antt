@@ -6,7 +6,7 @@ use Rattle.std.specs.declared.boxed.Box.{Box}
 use Rattle.descriptor.specs.Word.{desc_of, CanBeSaid}
 use Rattle.page_state.specs.declared.entry.Entry.{Entry}
 use Rattle.page_state.specs.declared.entry.Entry.TheVariants.{Malformed, Unmapped, Annotated, Leaf}
-use Rattle.page_state.specs.Entries.{advance, entry_of_word, word_of_entry}
+use Rattle.page_state.specs.Entries.{advance, IsRangeEntry, entry_of_word, word_of_entry}
 use Rattle.page_state.proofs.Sizes.{size_some, size_next}
 use Rattle.page_state.proofs.Cases.{by_eq, by_lt}
 use Rattle.table_tree.specs.declared.table.Table.{Table}
@@ -15,7 +15,7 @@ use Rattle.table_tree.specs.declared.table.Slot.TheVariants.{Word, Child}
 use Rattle.table_tree.specs.Meaning.{slot_at, level_at}
 use Rattle.table_tree.proofs.Slots.{case_word, case_child}
 use Rattle.walk_plan.specs.declared.change.Change.{Change}
-use Rattle.walk_plan.specs.Changes.{IsRangeEntry, IsChange, part, is_one_word}
+use Rattle.walk_plan.specs.Changes.{IsChange, part, is_one_word}
 use Rattle.walk_plan.specs.inner.Needs.{met, sum_to, block_need, slot_need, table_need, block_parts, table_parts}
 
 pub range_advance : (n m k : ℕ) (e : Entry) → IsRangeEntry n e → k + m ≤ n → IsRangeEntry m (advance e k)

@@ -1,10 +1,9 @@
 -- Changes of some pages of a block, their parts, and what they need. Depths count the levels below, pages the block's.
-use Rattle.std.specs.Prelude.{ℕ, zero, suc, ◌+◌, ◌-◌, ◌*◌, ◌%◌, ◌^◌, ◌<◌, ◌≤◌, ◌==◌, ◌&&◌, ◌||◌, nat_lt, nat_le, min, Bool, if◌then◌else◌}
+use Rattle.std.specs.Prelude.{ℕ, ◌-◌, ◌*◌, ◌%◌, ◌<◌, ◌≤◌, ◌==◌, ◌&&◌, ◌||◌, nat_lt, nat_le, min, Bool, if◌then◌else◌}
 use Rattle.descriptor.specs.Word.{desc_of, CanBeSaid}
 use Rattle.descriptor.specs.declared.Level.TheVariants.{Three}
 use Rattle.page_state.specs.declared.entry.Entry.{Entry}
-use Rattle.page_state.specs.declared.entry.Entry.TheVariants.{Unmapped, Malformed, Annotated, Leaf}
-use Rattle.page_state.specs.Entries.{advance, entry_of_word, word_of_entry}
+use Rattle.page_state.specs.Entries.{advance, IsRangeEntry, word_of_entry}
 use Rattle.page_state.specs.EntryTests.{entry_eq}
 use Rattle.page_state.specs.Blocks.{fits_word}
 use Rattle.page_state.specs.Geometries.{block_pages}
@@ -12,13 +11,6 @@ use Rattle.table_tree.specs.declared.table.Table.{Table}
 use Rattle.table_tree.specs.declared.table.Slot.{Slot}
 use Rattle.table_tree.specs.Meaning.{level_at, slot_at, slot_case}
 use Rattle.walk_plan.specs.declared.change.Change.{Change}
-
--- an entry that words of the last level can say on `n` pages
-abbrev pub IsRangeEntry : ℕ → Entry → Type 0
-IsRangeEntry n Malformed = ⊥
-IsRangeEntry n Unmapped = Unit {0}
-IsRangeEntry n (Annotated owner) = (1 ≤ owner.0) × (owner.0 ≤ 255)
-IsRangeEntry n (Leaf frame prot kind state) = frame.0 + n ≤ 2 ^ 36
 
 -- words of the last level can say an entry and what it advances to on `n` pages
 abbrev pub CanBeSaidOn : ℕ → Entry → Type 0

@@ -1,6 +1,7 @@
 //! The tables that a change of a range needs.
 ghost use Rattle.std.specs.Prelude.{◌≡◌, ℕ, ◌+◌, ◌-◌, ◌*◌, ◌^◌, ◌<◌, ◌≤◌};
 ghost use Rattle.page_state.specs.declared.entry.Entry.TheVariants.{Unmapped};
+ghost use Rattle.page_state.specs.Entries.{IsRangeEntry};
 ghost use Rattle.page_state.specs.Trees.{root_tree};
 ghost use Rattle.page_state.specs.Regions.{end_of};
 ghost use Rattle.page_state.specs.Tables.{put, need as need_of};
@@ -9,7 +10,7 @@ ghost use Rattle.table_tree.specs.Meaning.{IsDepth};
 ghost use Rattle.table_tree.specs.Reading.{count_of};
 ghost use Rattle.table_tree.specs.Shape.{IsShaped};
 ghost use Rattle.table_tree.specs.View.{tree_of};
-ghost use Rattle.walk_plan.specs.Changes.{CanBeSaidOn, IsChange, IsRangeEntry};
+ghost use Rattle.walk_plan.specs.Changes.{CanBeSaidOn, IsChange};
 ghost use Rattle.walk_plan.specs.inner.Needs.{block_need, block_parts, met, sum_to, table_need};
 ghost use Rattle.walk_plan.specs.inner.Looks.{edges};
 

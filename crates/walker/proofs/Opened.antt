@@ -9,7 +9,7 @@ use Rattle.std.specs.declared.boxed.Box.{Box}
 use Rattle.descriptor.specs.Word.{desc_of}
 use Rattle.page_state.specs.declared.entry.Entry.{Entry}
 use Rattle.page_state.specs.declared.entry.Entry.TheVariants.{Malformed, Unmapped, Annotated, Leaf}
-use Rattle.page_state.specs.Entries.{advance, entry_of_word}
+use Rattle.page_state.specs.Entries.{advance, IsRangeEntry, entry_of_word}
 use Rattle.page_state.specs.EntryTests.{entry_eq}
 use Rattle.page_state.specs.Blocks.{fits_word}
 use Rattle.page_state.specs.Geometries.{block_pages}
@@ -29,7 +29,7 @@ use Rattle.table_tree.proofs.Standing.{table_top}
 use Rattle.table_tree.proofs.Words.{zero_said}
 use Rattle.table_tree.proofs.Sums.{fresh_word, fresh_child}
 use Rattle.walk_plan.specs.declared.change.Change.{Change}
-use Rattle.walk_plan.specs.Changes.{IsRangeEntry, IsChange, changed, is_whole, is_one_word}
+use Rattle.walk_plan.specs.Changes.{IsChange, changed, is_whole, is_one_word}
 use Rattle.walk_plan.specs.inner.Needs.{block_need}
 use Rattle.walk_plan.specs.inner.Ranks.{given, later, block_rank, parts_rank, slot_rank}
 use Rattle.walk_plan.proofs.Ranges.{block_one, block_split, slot_word, slot_child}

@@ -1,11 +1,12 @@
 ghost use Rattle.std.specs.Prelude.{◌≡◌, ℕ, ◌+◌, ◌≤◌, ◌^◌, length, IfOk};
+ghost use Rattle.page_state.specs.Entries.{IsRangeEntry};
 ghost use Rattle.page_state.specs.Tables.{put, need as need_of};
 ghost use Rattle.page_state.specs.declared.layout.Geometry.TheVariants.{Bits39};
 ghost use Rattle.page_state.specs.Geometries.{levels_below};
 ghost use Rattle.page_state.specs.Counts.{frame_count};
 ghost use Rattle.table_tree.specs.Stocks.{frames_of};
 ghost use Rattle.table_tree.specs.View.{tree_of, uses, tables_of};
-ghost use Rattle.walk_plan.specs.Changes.{CanBeSaidOn, IsRangeEntry};
+ghost use Rattle.walk_plan.specs.Changes.{CanBeSaidOn};
 
 use super::*;
 use arrayvec::ArrayVec;

@@ -1,6 +1,6 @@
 -- host_abort, and the steps that only read the Shared part, keep the invariant.
 use Rattle.std.proofs.Common.{◌≡◌, ℕ, ◌+◌, ◌-◌, ◌≤◌, ◌<◌, refl, ap, sym, ◌∙◌, subst, arith, inl, inr}
-use Rattle.std.specs.Prelude.{Bool, true, false, ◌&&◌, nat_le, Option, Some, None, if◌then◌else◌}
+use Rattle.std.specs.Prelude.{Bool, true, false, ◌&&◌, nat_le, is_none, Option, Some, None, if◌then◌else◌}
 use Rattle.std.proofs.lemmas.Bool.Decides.{nat_tests}
 use Rattle.descriptor.specs.declared.Prot.TheVariants.{RWX}
 use Rattle.descriptor.specs.declared.State.TheVariants.{Owned}
@@ -13,7 +13,7 @@ use Rattle.page_state.specs.declared.reply.Value.{Value}
 use Rattle.page_state.specs.declared.reply.Value.TheVariants.{Nothing}
 use Rattle.page_state.specs.Blocks.{block_at, first_page, span, is_empty}
 use Rattle.page_state.specs.Entries.{advance}
-use Rattle.page_state.specs.EntryTests.{is_unmapped, is_free_page, leaf, device_leaf}
+use Rattle.page_state.specs.EntryTests.{is_unmapped, is_annotated, is_free_page, leaf, device_leaf}
 use Rattle.page_state.specs.Geometries.{pages_below}
 use Rattle.page_state.specs.Map.{Map, is_within}
 use Rattle.page_state.specs.Regions.{region_of, is_memory_kind, is_memory_region, end_of, is_in_range}
@@ -168,45 +168,45 @@ unmapped-is : (e : Entry) → is_unmapped e ≡ true → e ≡ Unmapped
 unmapped-is Unmapped h = refl
 unmapped-is e h = cc
 
-module _ (l : Layout) (s : Contents) (legal : Legal l s) (usable : IsUsable l) (cpu page : ℕ) (invalid perm : Bool) where
-  abbrev Kept : Option MapChange → Type 0
-  Kept e = Passed l.depth (host_rule invalid perm e Nothing) false (x_of cpu s) → StepKept l s legal.condition shared None cpu (HostAbort page) (host_rule invalid perm e Nothing).changes
-
+-- what holds where nothing changes, of each block of unmapped pages of a memory region, and of a device page holds of what host_abort changes
+module _ (l : Layout) (usable : IsUsable l) (m : Map) (page : ℕ) (P : Option MapChange → Type 0) (still : P None)
+    (block : (first n : ℕ) (r : Region) → 1 ≤ n → is_memory_kind r.kind ≡ true → ((q : ℕ) → is_within first n q ≡ true → (region_of l.memory q ≡ Some r) × (m q ≡ Unmapped)) → P (change first n (leaf RWX first Owned)))
+    (device : (r : Region) → is_memory_kind r.kind ≡ false → region_of l.memory page ≡ Some r → P (change page 1 (device_leaf page))) where
   -- a block of a depth at which it may be mapped, and the page alone
-  deep : (r : Region) (d : ℕ) → region_of l.memory page ≡ Some r → may_map s.shared.host.map r d page ≡ true → Kept (change (first_page (block_at d page)) (span (block_at d page)) (abort_leaf r (first_page (block_at d page))))
+  deep : (r : Region) (d : ℕ) → region_of l.memory page ≡ Some r → may_map m r d page ≡ true → P (change (first_page (block_at d page)) (span (block_at d page)) (abort_leaf r (first_page (block_at d page))))
   deep r d at may =
-      let t = may-map s.shared.host.map r d page may in
-      subst (λ e. Kept (change (first_page (block_at d page)) (span (block_at d page)) e)) (sym (abort-memory r (first_page (block_at d page)) t.0))
-      (block-keeps l s legal usable cpu invalid perm Nothing page (first_page (block_at d page)) (span (block_at d page)) r (size_some d) t.0 (λ q w. (usable.regions page q r at (t.1 q w).0, (t.1 q w).1)))
+      let t = may-map m r d page may in
+      subst (λ e. P (change (first_page (block_at d page)) (span (block_at d page)) e)) (sym (abort-memory r (first_page (block_at d page)) t.0))
+      (block (first_page (block_at d page)) (span (block_at d page)) r (size_some d) t.0 (λ q w. (usable.regions page q r at (t.1 q w).0, (t.1 q w).1)))
 
-  flat : (r : Region) → region_of l.memory page ≡ Some r → s.shared.host.map page ≡ Unmapped → Kept (change (first_page (block_at 0 page)) (span (block_at 0 page)) (abort_leaf r (first_page (block_at 0 page))))
-  flat r at bare = subst (λ n. Kept (change n 1 (abort_leaf r n))) (sym (page-first page)) (elim (both (is_memory_kind r.kind)) [
-    | inl h ↦ subst (λ e. Kept (change page 1 e)) (sym (abort-memory r page h)) (block-keeps l s legal usable cpu invalid perm Nothing page page 1 r (omega arith) h (λ q w. (ap (region_of l.memory) (sym (one-within page q w)) ∙ at, ap s.shared.host.map (sym (one-within page q w)) ∙ bare)))
-    | inr h ↦ subst (λ e. Kept (change page 1 e)) (sym (abort-device r page h)) (device-keeps l s legal usable cpu invalid perm Nothing page r h at)
+  flat : (r : Region) → region_of l.memory page ≡ Some r → m page ≡ Unmapped → P (change (first_page (block_at 0 page)) (span (block_at 0 page)) (abort_leaf r (first_page (block_at 0 page))))
+  flat r at bare = subst (λ n. P (change n 1 (abort_leaf r n))) (sym (page-first page)) (elim (both (is_memory_kind r.kind)) [
+    | inl h ↦ subst (λ e. P (change page 1 e)) (sym (abort-memory r page h)) (block page 1 r (omega arith) h (λ q w. (ap (region_of l.memory) (sym (one-within page q w)) ∙ at, ap m (sym (one-within page q w)) ∙ bare)))
+    | inr h ↦ subst (λ e. P (change page 1 e)) (sym (abort-device r page h)) (device r h at)
   ])
 
   abbrev block_edit : Region → ℕ → Option MapChange
   block_edit r d = change (first_page (block_at d page)) (span (block_at d page)) (abort_leaf r (first_page (block_at d page)))
 
-  by-depth : (r : Region) → region_of l.memory page ≡ Some r → s.shared.host.map page ≡ Unmapped → Kept (block_edit r (abort_depth s.shared.host.map r page))
-  by-depth r at bare = elim (both (may_map s.shared.host.map r 2 page)) [
-    | inl h ↦ subst (λ d. Kept (block_edit r d)) (sym (if-true (may_map s.shared.host.map r 2 page) 2 (if may_map s.shared.host.map r 1 page then 1 else 0) h)) (deep r 2 at h)
-    | inr h ↦ subst (λ d. Kept (block_edit r d)) (sym (if-false (may_map s.shared.host.map r 2 page) 2 (if may_map s.shared.host.map r 1 page then 1 else 0) h)) (elim (both (may_map s.shared.host.map r 1 page)) [
-      | inl k ↦ subst (λ d. Kept (block_edit r d)) (sym (if-true (may_map s.shared.host.map r 1 page) 1 0 k)) (deep r 1 at k)
-      | inr k ↦ subst (λ d. Kept (block_edit r d)) (sym (if-false (may_map s.shared.host.map r 1 page) 1 0 k)) (flat r at bare)
+  by-depth : (r : Region) → region_of l.memory page ≡ Some r → m page ≡ Unmapped → P (block_edit r (abort_depth m r page))
+  by-depth r at bare = elim (both (may_map m r 2 page)) [
+    | inl h ↦ subst (λ d. P (block_edit r d)) (sym (if-true (may_map m r 2 page) 2 (if may_map m r 1 page then 1 else 0) h)) (deep r 2 at h)
+    | inr h ↦ subst (λ d. P (block_edit r d)) (sym (if-false (may_map m r 2 page) 2 (if may_map m r 1 page then 1 else 0) h)) (elim (both (may_map m r 1 page)) [
+      | inl k ↦ subst (λ d. P (block_edit r d)) (sym (if-true (may_map m r 1 page) 1 0 k)) (deep r 1 at k)
+      | inr k ↦ subst (λ d. P (block_edit r d)) (sym (if-false (may_map m r 1 page) 1 0 k)) (flat r at bare)
     ])
   ]
 
-  by-page : (r : Region) → region_of l.memory page ≡ Some r → Kept (if is_unmapped (s.shared.host.map page) then block_edit r (abort_depth s.shared.host.map r page) else None)
-  by-page r at = elim (both (is_unmapped (s.shared.host.map page))) [
-    | inl h ↦ subst Kept (sym (if-true (is_unmapped (s.shared.host.map page)) (block_edit r (abort_depth s.shared.host.map r page)) None h)) (by-depth r at (unmapped-is (s.shared.host.map page) h))
-    | inr h ↦ subst Kept (sym (if-false (is_unmapped (s.shared.host.map page)) (block_edit r (abort_depth s.shared.host.map r page)) None h)) (still-keeps l s legal usable cpu invalid perm Nothing (HostAbort page) refl)
+  by-page : (r : Region) → region_of l.memory page ≡ Some r → P (if is_unmapped (m page) then block_edit r (abort_depth m r page) else None)
+  by-page r at = elim (both (is_unmapped (m page))) [
+    | inl h ↦ subst P (sym (if-true (is_unmapped (m page)) (block_edit r (abort_depth m r page)) None h)) (by-depth r at (unmapped-is (m page) h))
+    | inr h ↦ subst P (sym (if-false (is_unmapped (m page)) (block_edit r (abort_depth m r page)) None h)) still
   ]
 
-  pub abort-kept : (o : Option Region) → region_of l.memory page ≡ o → Kept (abort_edit s.shared.host.map o page)
+  pub abort-edit : (o : Option Region) → region_of l.memory page ≡ o → P (abort_edit m o page)
   unfolding abort_edit
-  abort-kept (Some r) at = by-page r at
-  abort-kept None at = still-keeps l s legal usable cpu invalid perm Nothing (HostAbort page) refl
+  abort-edit (Some r) at = by-page r at
+  abort-edit None at = still
 
 module _ (l : Layout) (s : Contents) (legal : Legal l s) (usable : IsUsable l) (cpu page : ℕ) where
   abbrev After : Step → Rule → Type 0
@@ -214,7 +214,12 @@ module _ (l : Layout) (s : Contents) (legal : Legal l s) (usable : IsUsable l) (
 
   pub host_abort-keeps : refusal l.depth (host_abort l (x_of cpu s) page) false (x_of cpu s) ≡ None → After (HostAbort page) (host_abort l (x_of cpu s) page)
   unfolding used_of
-  host_abort-keeps h = abort-kept l s legal usable cpu page _ _ (region_of l.memory page) refl (passed l.depth (host_abort l (x_of cpu s) page) false (x_of cpu s) h)
+  host_abort-keeps h =
+      let m = s.shared.host.map in
+      let invalid = is_none (region_of l.memory page) in
+      let perm = is_annotated (m page) in
+      abort-edit l usable m page (IsKept l s legal usable cpu invalid perm Nothing (HostAbort page)) (still-keeps l s legal usable cpu invalid perm Nothing (HostAbort page) refl) (block-keeps l s legal usable cpu invalid perm Nothing page) (device-keeps l s legal usable cpu invalid perm Nothing page)
+      (region_of l.memory page) refl (passed l.depth (host_abort l (x_of cpu s) page) false (x_of cpu s) h)
 
   pub host_translate-keeps : refusal l.depth (host_translate l (x_of cpu s) page) false (x_of cpu s) ≡ None → After (HostTranslate page) (host_translate l (x_of cpu s) page)
   host_translate-keeps h = still-keeps l s legal usable cpu _ _ _ (HostTranslate page) refl (passed l.depth (host_translate l (x_of cpu s) page) false (x_of cpu s) h)

@@ -17,7 +17,6 @@ use Rattle.page_state.specs.Layouts.{Layout}
 use Rattle.reference_model.specs.Owner.{is_in_hand}
 use Rattle.reference_model.specs.Parts.{guest}
 use Rattle.reference_model.specs.Used.{Used, used_of, put_back}
-use Rattle.reference_model.specs.Sound.{Fits}
 use Rattle.reference_model.specs.Step.{refusal, changed, with_rows, guest_after}
 use Rattle.page_state.specs.Tables.{put, needs, freed, returned, edited}
 use Rattle.reference_model.specs.Conditions.{guest_condition, GuestFits, IsMemoryLeaf, Legal, IsUsable, in_vm, one, guest_uses, IsTidy, SlotsFit}
@@ -29,7 +28,7 @@ use Rattle.reference_model.proofs.conditions.GuestMoves.{new_guest, new_cpu, gue
 use Rattle.reference_model.proofs.conditions.PageMoves.{advance-none}
 use Rattle.reference_model.proofs.conditions.PageSteps.{good-page}
 use Rattle.reference_model.proofs.conditions.SharedSteps.{passed, one-within}
-use Rattle.reference_model.proofs.conditions.Slots.{slots-turn}
+use Rattle.reference_model.proofs.conditions.Slots.{ticket-fits, slots-turn}
 use Rattle.reference_model.proofs.conditions.PoolSteps.{slots-stay, turned}
 
 -- a state of which one guest and a CPU changed, but no hand and no condition
@@ -125,8 +124,7 @@ module _ (l : Layout) (s : Contents) (legal : Legal l s) (usable : IsUsable l) (
   pub mark_dying-keeps : (t : Ticket) → (s.cpu cpu).ticket ≡ Some t → t.vm.slot ≡ v → t.stage ≡ closing_vm → refusal l.depth (mark_dying x) false x ≡ None → LegalAlone l s legal (put_back guest (Some v) cpu s (with_rows l cpu (Some v) MarkDying (mark_dying x).changes (changed l.depth (mark_dying x).changes x)))
   unfolding used_of put_back with_rows changed guest_after edited needs freed returned
   mark_dying-keeps t has at-slot stage h =
-      let fits = legal.slots.agree.tickets.ticket cpu t has in
-      let here : Fits closing_vm (s.vms.slot v).stand (s.guest v).phase = subst (λ u. Fits closing_vm (s.vms.slot u).stand (s.guest u).phase) at-slot (subst (λ g. Fits g (s.vms.slot t.vm.slot).stand (s.guest t.vm.slot).phase) stage fits.fits) in
+      let here = ticket-fits s legal.slots cpu v closing_vm t has at-slot stage in
       let alive : (s.guest v).phase ≢ empty = λ e. (let z : live ≡ empty = sym here.1 ∙ e in cc) in
       let of = legal.slots.agree.guests.same_vm v alive in
       alone-legal l s legal cpu v (new_guest l s v (mark_dying x).changes) (new_cpu s cpu (mark_dying x).changes) (legal.maps.guest v) (legal.maps.guest_has v) (legal.held.vm v) (legal.trees.guest v)

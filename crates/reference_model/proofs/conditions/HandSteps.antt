@@ -26,7 +26,6 @@ use Rattle.page_state.specs.Layouts.{Layout, is_memory, hyp_page}
 use Rattle.reference_model.specs.Owner.{is_in_hand}
 use Rattle.reference_model.specs.Parts.{shared_and_guest}
 use Rattle.reference_model.specs.Used.{Used, used_of}
-use Rattle.reference_model.specs.Sound.{Fits}
 use Rattle.reference_model.specs.Step.{refusal, guest_after}
 use Rattle.page_state.specs.Tables.{all_given, needs, freed, returned, edited}
 use Rattle.reference_model.specs.Conditions.{Condition, hyps, HostFits, hyp_says, guest_condition, GuestFits, Legal, IsUsable, in_shared, in_vm, in_hand, one, table_uses, guest_uses, is_inside}
@@ -39,7 +38,7 @@ use Rattle.reference_model.proofs.conditions.SharedMoves.{StepKept, no-uses}
 use Rattle.reference_model.proofs.conditions.GuestMoves.{only, g_of, new_guest, new_cpu, GuestMove, guest-keeps}
 use Rattle.reference_model.proofs.conditions.PageSteps.{live-alive, gc-hand}
 use Rattle.reference_model.proofs.conditions.SharedSteps.{Passed, passed, hand-range, hand-some, in_hand-hyps}
-use Rattle.reference_model.proofs.conditions.Slots.{slots-turn}
+use Rattle.reference_model.proofs.conditions.Slots.{ticket-fits, slots-turn}
 use Rattle.reference_model.proofs.conditions.PoolSteps.{count-frames, root-uses, root-none, root-here, root-tidy, slots-stay, turned}
 
 pub root-table-uses : (depth root f : ℕ) → table_uses depth (root_tree depth root) f ≡ is_one root f
@@ -187,7 +186,7 @@ module _ (l : Layout) (s : Contents) (legal : Legal l s) (usable : IsUsable l) (
   install-move t has at-slot stage p =
       let some : is_none (s.cpu cpu).hand ≡ false = p.perm in
       let fits = legal.slots.agree.tickets.ticket cpu t has in
-      let here : Fits booked (s.vms.slot v).stand (s.guest v).phase = subst (λ u. Fits booked (s.vms.slot u).stand (s.guest u).phase) at-slot (subst (λ g. Fits g (s.vms.slot t.vm.slot).stand (s.guest t.vm.slot).phase) stage fits.fits) in
+      let here = ticket-fits s legal.slots cpu v booked t has at-slot stage in
       let blank = legal.guest_parts.blank v here.1 in
       let generation : (ticket_vm (s.cpu cpu)).generation ≡ (s.vms.slot v).generation = ap (λ o. (vm-of o).generation) has ∙ fits.generation ∙ ap (λ u. (s.vms.slot u).generation) at-slot in
       let kind : ticket_kind (s.cpu cpu) ≡ (s.vms.slot v).kind = ap kind-of has ∙ fits.kind ∙ ap (λ u. (s.vms.slot u).kind) at-slot in

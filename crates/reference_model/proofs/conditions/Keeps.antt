@@ -78,13 +78,13 @@ module _ (l : Layout) (usable : IsUsable l) (s : Contents) (legal : Legal l s) (
   lacking : {P : Type 0} (r : Rule) (x : Used) → refusal l.depth r true x ≡ None → P
   lacking r x h = let bad : true ≡ false = (passed l.depth r true x h).lacks_none in cc
 
-  loaded-at : (v : ℕ) → loaded_slot (s.cpu cpu) ≡ Some v → (v < 64) × ((s.guest v).phase ≢ empty)
+  pub loaded-at : (v : ℕ) → loaded_slot (s.cpu cpu) ≡ Some v → (v < 64) × ((s.guest v).phase ≢ empty)
   loaded-at v h =
       let j = loaded-slot (s.cpu cpu) v h in
       let o = loaded-open s legal.slots cpu j.0 j.1 in
       (subst (λ n. n < 64) j.2 o.1, subst (λ n. (s.guest n).phase ≢ empty) j.2 o.2)
 
-  staged-at : (stage : Stage) (v : ℕ) → ticket_slot stage (s.cpu cpu) ≡ Some v → (v < 64) × ((t : Ticket) × ((s.cpu cpu).ticket ≡ Some t) × (t.vm.slot ≡ v) × (t.stage ≡ stage))
+  pub staged-at : (stage : Stage) (v : ℕ) → ticket_slot stage (s.cpu cpu) ≡ Some v → (v < 64) × ((t : Ticket) × ((s.cpu cpu).ticket ≡ Some t) × (t.vm.slot ≡ v) × (t.stage ≡ stage))
   staged-at stage v h = let t = stage-slot stage (s.cpu cpu) v h in (subst (λ n. n < 64) t.2 (ticket-slot s legal.slots cpu t.0 t.1), t)
 
   -- the VM part, where a VmId names one of its slots

@@ -184,9 +184,9 @@ side-move l s legal v f e g e' old new m = record {
 
 -- what the guest's entry tells of the frame
 
-record Named (s : Contents) (condition : ℕ → Condition) (v g : ℕ) (state : State) : Type 0 where
-  named : condition (frame_of ((s.guest v).tree.map g)) ≡ guest_condition state v g
-  is_leaf : IsMemoryLeaf (frame_of ((s.guest v).tree.map g)) state ((s.guest v).tree.map g)
+pub record Named (s : Contents) (condition : ℕ → Condition) (v g : ℕ) (state : State) : Type 0 where
+  pub named : condition (frame_of ((s.guest v).tree.map g)) ≡ guest_condition state v g
+  pub is_leaf : IsMemoryLeaf (frame_of ((s.guest v).tree.map g)) state ((s.guest v).tree.map g)
 
 leaf-named : (s : Contents) (condition : ℕ → Condition) (v g : ℕ) → (h : IsGuestLeaf condition v g ((s.guest v).tree.map g)) → Named s condition v g h.state
 leaf-named s condition v g h =
@@ -199,13 +199,13 @@ in-named l s legal v g state t = elim (legal.maps.guest v g) [
   | inr h ↦ let is : h.state ≡ state = state_eq-same h.state state (sym (ap (is_in state) h.leaf_is) ∙ t) in subst (Named s legal.condition v g) is (leaf-named s legal.condition v g h)
 ]
 
-mapped-named : (l : Layout) (s : Contents) (legal : Legal l s) (v g : ℕ) → is_unmapped ((s.guest v).tree.map g) ≡ false → (state : State) × Named s legal.condition v g state
+pub mapped-named : (l : Layout) (s : Contents) (legal : Legal l s) (v g : ℕ) → is_unmapped ((s.guest v).tree.map g) ≡ false → (state : State) × Named s legal.condition v g state
 mapped-named l s legal v g t = elim (legal.maps.guest v g) [
   | inl h ↦ let bad : true ≡ false = sym (ap is_unmapped h) ∙ t in cc
   | inr h ↦ (h.state, leaf-named s legal.condition v g h)
 ]
 
-named-memory : (l : Layout) (s : Contents) (legal : Legal l s) (f v g : ℕ) (state : State) → legal.condition f ≡ guest_condition state v g → is_memory l f ≡ true
+pub named-memory : (l : Layout) (s : Contents) (legal : Legal l s) (f v g : ℕ) (state : State) → legal.condition f ≡ guest_condition state v g → is_memory l f ≡ true
 named-memory l s legal f v g state h = sym (legal.of_layout.inside f) ∙ ap is_inside h ∙ gc-inside state v g
 
 pub good-page : (l : Layout) (g : ℕ) → not (is_good_page l g) ≡ false → g < pages_below l.depth

@@ -28,7 +28,6 @@ use Rattle.page_state.specs.Layouts.{Layout, is_memory}
 use Rattle.reference_model.specs.Owner.{is_frame, is_in_hand}
 use Rattle.reference_model.specs.Parts.{shared_and_guest}
 use Rattle.reference_model.specs.Used.{Used, used_of}
-use Rattle.reference_model.specs.Sound.{Fits}
 use Rattle.reference_model.specs.Step.{refusal, guest_after}
 use Rattle.page_state.specs.Tables.{needs, freed, returned, edited}
 use Rattle.reference_model.specs.Conditions.{Condition, hosts, hyps, guest_condition, GuestFits, Legal, IsUsable, in_shared, in_vm, in_hand, one, table_uses, guest_uses, IsTidy, IsInTree, is_inside, SlotsFit, IsGood}
@@ -46,7 +45,7 @@ use Rattle.reference_model.proofs.conditions.SharedMoves.{StepKept, no-uses}
 use Rattle.reference_model.proofs.conditions.GuestMoves.{only, g_of, new_guest, new_cpu, GuestMove, guest-fact, guest-keeps}
 use Rattle.reference_model.proofs.conditions.PageSteps.{dying-alive, gc-vm}
 use Rattle.reference_model.proofs.conditions.SharedSteps.{Passed, passed, within-made, one-within, range-in}
-use Rattle.reference_model.proofs.conditions.Slots.{put-fact, slots-turn}
+use Rattle.reference_model.proofs.conditions.Slots.{ticket-fits, put-fact, slots-turn}
 
 -- counts
 
@@ -144,6 +143,10 @@ bare-tree depth t tidy bare b off = go (t.table b) refl
 
 -- pools
 
+no-pool : (free : Pool) → nat_lt 0 (length free) ≡ false → free ≡ []
+no-pool [] h = refl
+no-pool (g ∷ gs) h = absurd (let z : nat_lt 0 (length (g ∷ gs)) ≡ true = grind (arith, nat_tests) in let w : true ≡ false = sym z ∙ h in cc)
+
 pool-some : (free : Pool) → (length free == 0) ≡ false → free ≡ least free ∷ rest free
 pool-some [] h = cc
 pool-some (f ∷ fs) h = refl
@@ -199,7 +202,7 @@ module _ (l : Layout) (s : Contents) (legal : Legal l s) (usable : IsUsable l) (
 
   -- the maps, where a frame that the guest held goes back to the host
   module _ (f : ℕ) (was : legal.condition f ≡ hyps (VmPool v)) where
-    returned-memory : (q : ℕ) → is_within f 1 q ≡ true → is_memory l q ≡ true
+    pub returned-memory : (q : ℕ) → is_within f 1 q ≡ true → is_memory l q ≡ true
     returned-memory q w = sym (legal.of_layout.inside q) ∙ ap (λ k. is_inside (legal.condition k)) (sym (one-within f q w)) ∙ ap is_inside was
 
     at-range : {X : Type 0} (see : Condition → X) (q : ℕ) → is_within f 1 q ≡ true → see (legal.condition q) ≡ see (hyps (VmPool v))
@@ -232,6 +235,14 @@ module _ (l : Layout) (s : Contents) (legal : Legal l s) (usable : IsUsable l) (
         hosts-not SharedOwned u p h = cc
         hosts-not SharedBorrowed u p h = cc
 
+  -- the least free frame of the guest's pool
+  pub least-was : (length (s.guest v).free == 0) ≡ false → legal.condition (least (s.guest v).free) ≡ hyps (VmPool v)
+  least-was some =
+      let f = least (s.guest v).free in
+      let next : frame_count f (s.guest v).free ≡ is_one f f + frame_count f (rest (s.guest v).free) = ap (frame_count f) (pool-some (s.guest v).free some) ∙ count_next f f (rest (s.guest v).free) in
+      let mine : is_one f f ≡ 1 = ap one (eq-self f) in
+      in_vm-hyps v (legal.condition f) (one-some (in_vm v (legal.condition f)) (guest_uses l.depth (s.guest v) f) (legal.held.vm v f) (omega arith))
+
   reclaim_pool-move : (vm : VmId) → Passed l.depth (reclaim_pool l x vm) false x → GuestMove l s legal.condition cpu v (reclaim_pool l x vm).changes (least (s.guest v).free) 1 hosts
   unfolding used_of guest_after edited freed needs returned
   reclaim_pool-move vm p =
@@ -240,9 +251,7 @@ module _ (l : Layout) (s : Contents) (legal : Legal l s) (usable : IsUsable l) (
       let alive = dying-alive vm (s.guest v) (not-false (is_guest dying vm (s.guest v)) p.no_vm) in
       let next : (q : ℕ) → frame_count q (s.guest v).free ≡ is_one f q + frame_count q (rest (s.guest v).free) = λ q. ap (frame_count q) split ∙ count_next q f (rest (s.guest v).free) in
       let mine : is_one f f ≡ 1 = ap one (eq-self f) in
-      let old = legal.held.vm v f in
-      let at : in_vm v (legal.condition f) ≡ true = one-some (in_vm v (legal.condition f)) (guest_uses l.depth (s.guest v) f) old (let n = next f in omega arith) in
-      let was : legal.condition f ≡ hyps (VmPool v) = in_vm-hyps v (legal.condition f) at in
+      let was = least-was p.perm in
       let all = returned-memory f was in
       let low = range-in l usable f 1 (omega arith) all in
       let host_low : f + 1 ≤ pages_below l.depth = omega arith in
@@ -293,25 +302,37 @@ module _ (l : Layout) (s : Contents) (legal : Legal l s) (usable : IsUsable l) (
 
   -- finish_guest: the root goes back
 
+  -- a guest of which the root alone is left
+  pub record IsRootLeft (f : ℕ) : Type 0 where
+    pub bare : (q : ℕ) → q < pages_below l.depth → (s.guest v).tree.map q ≡ Unmapped
+    pub uses : (q : ℕ) → guest_uses l.depth (s.guest v) q ≡ is_one f q
+    pub was : legal.condition f ≡ hyps (VmPool v)
+
+  pub root-left : (s.guest v).phase ≡ dying → (finish_guest l x).perm ≡ false → IsRootLeft (unwrap_or ((s.guest v).tree.table (l.depth + 1, 0)) 0)
+  unfolding used_of
+  root-left here perm =
+      let f = unwrap_or ((s.guest v).tree.table (l.depth + 1, 0)) 0 in
+      let alive : (s.guest v).phase ≢ empty = λ e. (let z : dying ≡ empty = sym here ∙ e in cc) in
+      let root = legal.guest_parts.rooted v alive in
+      let is : f ≡ root.0 = ap (λ o. unwrap_or o 0) root.1 in
+      let tests = or-neither (not (all_below (pages_below l.depth) (λ g. is_unmapped ((s.guest v).tree.map g)))) (nat_lt 0 (length (s.guest v).free)) perm in
+      let bare : (q : ℕ) → q < pages_below l.depth → (s.guest v).tree.map q ≡ Unmapped = λ q less. is_unmapped-same ((s.guest v).tree.map q) (all_from-each 0 (pages_below l.depth) (λ g. is_unmapped ((s.guest v).tree.map g)) (not-false (all_below (pages_below l.depth) (λ g. is_unmapped ((s.guest v).tree.map g))) tests.0) q (omega arith) (omega arith)) in
+      let uses : (q : ℕ) → guest_uses l.depth (s.guest v) q ≡ is_one f q = λ q. empty-uses l.depth q f root.0 (s.guest v) is (no-pool (s.guest v).free tests.1) (bare-tree l.depth (s.guest v).tree (legal.trees.guest v) bare) root.1 in
+      let mine : is_one f f ≡ 1 = ap one (eq-self f) in
+      let n = uses f in
+      record { bare = bare; uses = uses; was = in_vm-hyps v (legal.condition f) (one-some (in_vm v (legal.condition f)) (guest_uses l.depth (s.guest v) f) (legal.held.vm v f) (omega arith)) }
+
   finish_guest-move : (t : Ticket) → (s.cpu cpu).ticket ≡ Some t → t.vm.slot ≡ v → t.stage ≡ dying_vm → Passed l.depth (finish_guest l x) false x → GuestMove l s legal.condition cpu v (finish_guest l x).changes (unwrap_or ((s.guest v).tree.table (l.depth + 1, 0)) 0) 1 hosts
   unfolding used_of guest_after edited freed needs returned
   finish_guest-move t has at-slot stage p =
       let f = unwrap_or ((s.guest v).tree.table (l.depth + 1, 0)) 0 in
-      let fits = legal.slots.agree.tickets.ticket cpu t has in
-      let here : Fits dying_vm (s.vms.slot v).stand (s.guest v).phase = subst (λ u. Fits dying_vm (s.vms.slot u).stand (s.guest u).phase) at-slot (subst (λ g. Fits g (s.vms.slot t.vm.slot).stand (s.guest t.vm.slot).phase) stage fits.fits) in
-      let alive : (s.guest v).phase ≢ empty = λ e. (let z : dying ≡ empty = sym here.1 ∙ e in cc) in
-      let root = legal.guest_parts.rooted v alive in
-      let is : f ≡ root.0 = ap (λ o. unwrap_or o 0) root.1 in
-      let tests = or-neither (not (all_below (pages_below l.depth) (λ g. is_unmapped ((s.guest v).tree.map g)))) (nat_lt 0 (length (s.guest v).free)) p.perm in
-      let bare : (q : ℕ) → q < pages_below l.depth → (s.guest v).tree.map q ≡ Unmapped = λ q less. is_unmapped-same ((s.guest v).tree.map q) (all_from-each 0 (pages_below l.depth) (λ g. is_unmapped ((s.guest v).tree.map g)) (not-false (all_below (pages_below l.depth) (λ g. is_unmapped ((s.guest v).tree.map g))) tests.0) q (omega arith) (omega arith)) in
-      let uses : (q : ℕ) → guest_uses l.depth (s.guest v) q ≡ is_one f q = λ q. empty-uses l.depth q f root.0 (s.guest v) is (no-pool (s.guest v).free tests.1) (bare-tree l.depth (s.guest v).tree (legal.trees.guest v) bare) root.1 in
-      let mine : is_one f f ≡ 1 = ap one (eq-self f) in
-      let at : in_vm v (legal.condition f) ≡ true = one-some (in_vm v (legal.condition f)) (guest_uses l.depth (s.guest v) f) (legal.held.vm v f) (let n = uses f in omega arith) in
-      let was : legal.condition f ≡ hyps (VmPool v) = in_vm-hyps v (legal.condition f) at in
+      let here = ticket-fits s legal.slots cpu v dying_vm t has at-slot stage in
+      let left = root-left here.1 p.perm in
+      let was = left.was in
       let all = returned-memory f was in
       let low = range-in l usable f 1 (omega arith) all in
       let host_low : f + 1 ≤ pages_below l.depth = omega arith in
-      let none : (q : ℕ) → one (in_vm v (moved_to hosts f 1 legal.condition q)) ≡ 0 = λ q. none-left f q (uses q) in
+      let none : (q : ℕ) → one (in_vm v (moved_to hosts f 1 legal.condition q)) ≡ 0 = λ q. none-left f q (left.uses q) in
       record {
         inside = all;
         good = tt;
@@ -328,7 +349,7 @@ module _ (l : Layout) (s : Contents) (legal : Legal l s) (usable : IsUsable l) (
         hyp_range = low;
         enough = p.shared_enough;
         guest = λ q. inl refl;
-        guest_has = λ q w state h. absurd (unnamed q w state (pool-has f was q w state h) bare);
+        guest_has = λ q w state h. absurd (unnamed q w state (pool-has f was q w state h) left.bare);
         held = λ q. blank-uses q ∙ sym (none q);
         tidy = record { inside = λ b w h. cc; full = λ b w h. cc };
         blank = λ k. refl;
@@ -338,10 +359,6 @@ module _ (l : Layout) (s : Contents) (legal : Legal l s) (usable : IsUsable l) (
         slots = slots-turn s legal.slots cpu v t (new_guest l s v (finish_guest l x).changes) (new_cpu s cpu (finish_guest l x).changes) finished has at-slot (here.0, refl) (λ k. absurd (k refl)) refl (turned (s.cpu cpu).ticket t finished has) (legal.slots.some_hand cpu);
       }
     where
-      no-pool : (free : Pool) → nat_lt 0 (length free) ≡ false → free ≡ []
-      no-pool [] h = refl
-      no-pool (g ∷ gs) h = absurd (let z : nat_lt 0 (length (g ∷ gs)) ≡ true = grind (arith, nat_tests) in let w : true ≡ false = sym z ∙ h in cc)
-
       none-left : (f q : ℕ) → guest_uses l.depth (s.guest v) q ≡ is_one f q → one (in_vm v (moved_to hosts f 1 legal.condition q)) ≡ 0
       none-left f q uses = elim (both (is_within f 1 q)) [
         | inl w ↦ ap (λ k. one (in_vm v k)) (moved-in hosts f 1 legal.condition q w)

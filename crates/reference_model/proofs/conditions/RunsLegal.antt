@@ -9,6 +9,7 @@ use Rattle.page_state.specs.declared.reply.Call.{Call}
 use Rattle.page_state.specs.declared.layout.Geometry.{Geometry}
 use Rattle.page_state.specs.declared.layout.Geometry.TheVariants.{Bits39}
 use Rattle.reference_model.specs.Boot.{boot, CanBoot}
+use Rattle.page_state.specs.Accepted.{IsAcceptedLayout}
 use Rattle.page_state.specs.Geometries.{geometry_of, levels_below, block_pages, pages_below}
 use Rattle.page_state.specs.LayoutFaults.{IsAccepted, AreDisjoint, is_memory_around}
 use Rattle.page_state.specs.Regions.{is_in_range, end_of, is_memory_kind, is_memory_region, find_region, region_of}
@@ -144,12 +145,19 @@ accepted_depth l g accepted h =
 pub accepted_made : AcceptedMade
 accepted_made m c g memory config h = record { memory = memory; config = config; depth = width-is c.geometry g h }
 
+geometry-some : (o : Option Geometry) → IsSome o → (g : Geometry) × (o ≡ Some g)
+geometry-some (Some g) h = (g, refl)
+geometry-some None h = cc
+
 pub accepted_usable : AcceptedUsable
 accepted_usable l accepted = let g = geometry-some (geometry_of l.config.geometry) accepted.config.known in usable_of l accepted.memory (accepted_depth l g.0 accepted g.1).1
+
+-- the pages of an accepted layout's trees have numbers of 36 bits
+pub few-pages : (l : Layout) → IsAcceptedLayout l → pages_below l.depth ≤ 2 ^ 36
+few-pages l accepted = let g = geometry-some (geometry_of l.config.geometry) accepted.config.known in subst (λ d. pages_below d ≤ 2 ^ 36) (sym (accepted_depth l g.0 accepted g.1).0) (few g.0)
   where
-    geometry-some : (o : Option Geometry) → IsSome o → (g : Geometry) × (o ≡ Some g)
-    geometry-some (Some g) h = (g, refl)
-    geometry-some None h = cc
+    few : (g : Geometry) → pages_below (levels_below g) ≤ 2 ^ 36
+    few Bits39 = omega arith
 
 pub ready-usable : (l : Layout) → CanBoot l → IsUsable l
 ready-usable l ready = accepted_usable l ready.accepted

@@ -47,6 +47,10 @@ ticket-open s a c t h o = elim (fits-closed t.stage (s.vms.slot t.vm.slot).stand
 pub ticket-vacant : (s : Contents) → TicketsAgree s → (c : ℕ) (t : Ticket) → (s.cpu c).ticket ≡ Some t → (s.vms.slot t.vm.slot).stand ≡ vacant → ⊥
 ticket-vacant s a c t h o = elim (fits-closed t.stage (s.vms.slot t.vm.slot).stand (s.guest t.vm.slot).phase (a.ticket c t h).fits) [ inl e ↦ (let bad : reserved ≡ vacant = sym e ∙ o in cc) | inr e ↦ (let bad : closing ≡ vacant = sym e ∙ o in cc) ]
 
+-- a ticket's stage tells how its slot and its guest stand
+pub ticket-fits : (s : Contents) → SlotsFit s → (c v : ℕ) (stage : Stage) (t : Ticket) → (s.cpu c).ticket ≡ Some t → t.vm.slot ≡ v → t.stage ≡ stage → Fits stage (s.vms.slot v).stand (s.guest v).phase
+ticket-fits s fit c v stage t h at is = subst (λ u. Fits stage (s.vms.slot u).stand (s.guest u).phase) at (subst (λ g. Fits g (s.vms.slot t.vm.slot).stand (s.guest t.vm.slot).phase) is (fit.agree.tickets.ticket c t h).fits)
+
 -- a ticket's slot is one of the 64
 pub ticket-slot : (s : Contents) → SlotsFit s → (c : ℕ) (t : Ticket) → (s.cpu c).ticket ≡ Some t → t.vm.slot < 64
 ticket-slot s fit c t h = by_lt t.vm.slot 64 (λ k. k) (λ k. absurd (ticket-vacant s fit.agree.tickets c t h (fit.few_slots t.vm.slot k)))
