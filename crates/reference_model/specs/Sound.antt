@@ -92,12 +92,12 @@ abbrev pub HasTicket : Contents → ℕ → ℕ → Type 0
 HasTicket s v c = (t : Ticket) × ((s.cpu c).ticket ≡ Some t) × (t.vm.slot ≡ v)
 
 -- how a ticket's slot stands and which phase its guest has, by the ticket's stage
-abbrev pub Fits : Stage → Stand → Phase → Type 0
-Fits booked stand phase = (stand ≡ reserved) × (phase ≡ empty)
-Fits installed stand phase = (stand ≡ reserved) × (phase ≡ live)
-Fits closing_vm stand phase = (stand ≡ closing) × (phase ≡ live)
-Fits dying_vm stand phase = (stand ≡ closing) × (phase ≡ dying)
-Fits finished stand phase = (stand ≡ closing) × (phase ≡ empty)
+abbrev pub StageFits : Stage → Stand → Phase → Type 0
+StageFits booked stand phase = (stand ≡ reserved) × (phase ≡ empty)
+StageFits installed stand phase = (stand ≡ reserved) × (phase ≡ live)
+StageFits closing_vm stand phase = (stand ≡ closing) × (phase ≡ live)
+StageFits dying_vm stand phase = (stand ≡ closing) × (phase ≡ dying)
+StageFits finished stand phase = (stand ≡ closing) × (phase ≡ empty)
 
 -- slots and loads agree: a CPU has a vCPU loaded exactly where the VM part names it, and the slot is then Open, of that generation
 pub record LoadsAgree (s : Contents) : Type 0 where
@@ -117,7 +117,7 @@ pub record GuestsAgree (s : Contents) : Type 0 where
 
 -- a ticket's slot stands as its stage says, with its generation and kind
 pub record IsTicketOf (s : Contents) (t : Ticket) : Type 0 where
-  pub fits : Fits t.stage (s.vms.slot t.vm.slot).stand (s.guest t.vm.slot).phase
+  pub fits : StageFits t.stage (s.vms.slot t.vm.slot).stand (s.guest t.vm.slot).phase
   pub generation : t.vm.generation ≡ (s.vms.slot t.vm.slot).generation
   pub kind : t.kind ≡ (s.vms.slot t.vm.slot).kind
 

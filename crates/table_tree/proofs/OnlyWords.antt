@@ -1,7 +1,7 @@
 -- At most one word gives its first page an entry.
 use Rattle.std.proofs.Common.{◌≡◌, ℕ, ◌*◌, ◌/◌, ◌%◌, ◌^◌, ◌<◌, refl, sym, arith, ◌∙◌, Bool, true, false, Some, None, Option, ◌&&◌, ◌==◌, nat_le}
 use Rattle.std.proofs.lemmas.Bool.Decides.{nat_tests}
-use Rattle.descriptor.specs.Word.{field, page_bit, kind_bits, access_bits, execute_never_bit, state_bits, leaf_word, desc_of, kind_of_bits, state_of_bits, prot_of_bits, has_leaf_form, leaf_or_malformed, block_pages, is_upper}
+use Rattle.descriptor.specs.Word.{field, page_bit, kind_bits, access_bits, execute_never_bit, state_bits, leaf_word, desc_of, kind_of_bits, state_of_bits, prot_of_bits, has_leaf_form, leaf_or_malformed, level_pages, is_upper}
 use Rattle.descriptor.specs.declared.Level.{Level}
 use Rattle.descriptor.specs.declared.Kind.{Kind}
 use Rattle.descriptor.specs.declared.Prot.{Prot}
@@ -29,7 +29,7 @@ whole : (w p k a f x s : ℕ) → w < 2 ^ 64 → field w 0 1 ≡ 1 → field w 1
 whole w p k a f x s r f0 f1 f2 f6 f8 f10 f11 f12 f48 f54 f55 f57 = omega arith
 
 leaf_for : (l : Level) (w : ℕ) → w < 2 ^ 64 → (b : Bool) (k : Option Kind) (p : Option Prot) (s : Option State)
-    → has_leaf_form l w && field w 12 36 % block_pages l == 0 ≡ b → kind_of_bits (field w 2 4) ≡ k → prot_of_bits (field w 6 2) (field w 54 1) ≡ p → state_of_bits (field w 55 2) ≡ s
+    → has_leaf_form l w && field w 12 36 % level_pages l == 0 ≡ b → kind_of_bits (field w 2 4) ≡ k → prot_of_bits (field w 6 2) (field w 54 1) ≡ p → state_of_bits (field w 55 2) ≡ s
     → IsWordFor l w (leaf_or_malformed b k p s (field w 12 36))
 unfolding IsWordFor word_for
 leaf_for l w r true (Some k) (Some p) (Some s) eb ek ep es = λ _.

@@ -8,7 +8,7 @@ use Rattle.descriptor.specs.declared.State.{State}
 use Rattle.descriptor.specs.declared.Level.{Level}
 use Rattle.descriptor.specs.declared.Desc.{Desc}
 use Rattle.descriptor.specs.declared.Desc.TheVariants.{Table as table_word}
-use Rattle.descriptor.specs.Word.{desc_of, CanBeSaid, block_pages as level_pages, field, is_upper, has_leaf_form, leaf_or_malformed, kind_of_bits, prot_of_bits, state_of_bits}
+use Rattle.descriptor.specs.Word.{desc_of, CanBeSaid, level_pages, field, is_upper, has_leaf_form, leaf_or_malformed, kind_of_bits, prot_of_bits, state_of_bits}
 use Rattle.page_state.specs.declared.entry.Entry.{Entry}
 use Rattle.page_state.specs.declared.entry.Entry.TheVariants.{Unmapped, Malformed, Annotated, Leaf}
 use Rattle.page_state.specs.Entries.{advance, entry_of_word, word_of_entry}

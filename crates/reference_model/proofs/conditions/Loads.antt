@@ -11,7 +11,7 @@ use Rattle.reference_model.specs.State.{Cpu, Slot, Contents, empty, opened, put_
 use Rattle.page_state.specs.Layouts.{Layout}
 use Rattle.reference_model.specs.Parts.{vms}
 use Rattle.reference_model.specs.Used.{Used, used_of, put_back}
-use Rattle.reference_model.specs.Sound.{IsOne, LoadsAgree, IsTicketOf, IsGuestOf, HasTicket, Fits}
+use Rattle.reference_model.specs.Sound.{IsOne, LoadsAgree, IsTicketOf, IsGuestOf, HasTicket, StageFits}
 use Rattle.reference_model.specs.Step.{refusal, changed, with_rows}
 use Rattle.reference_model.specs.VmRules.{vcpu_load, vcpu_put, stand_eq, is_open, load_of}
 use Rattle.reference_model.specs.Conditions.{Legal, SlotsFit}
@@ -37,7 +37,7 @@ module _ (s : Contents) (fit : SlotsFit s) (cpu : ℕ) (z : ℕ → Slot) (k : C
 
   ticket-of : (c : ℕ) (t : Ticket) → (put_at s.cpu cpu k c).ticket ≡ Some t → IsTicketOf s' t
   ticket-of c t h = let x = fit.agree.tickets.ticket c t (sym (ticket-same c) ∙ h) in record {
-    fits = subst (λ a. Fits t.stage a (s.guest t.vm.slot).phase) (sym (stand t.vm.slot)) x.fits;
+    fits = subst (λ a. StageFits t.stage a (s.guest t.vm.slot).phase) (sym (stand t.vm.slot)) x.fits;
     generation = x.generation ∙ sym (generation t.vm.slot);
     kind = x.kind ∙ sym (kind t.vm.slot);
   }

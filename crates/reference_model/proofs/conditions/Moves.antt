@@ -13,7 +13,7 @@ use Rattle.page_state.specs.Entries.{advance}
 use Rattle.page_state.specs.Map.{Map, update, is_within}
 use Rattle.reference_model.specs.State.{Cpu, Slot, Contents, put_at, empty}
 use Rattle.page_state.specs.Layouts.{Layout, is_memory, hyp_page}
-use Rattle.reference_model.specs.Sound.{IsOne, SlotsAgree, LoadsAgree, GuestsAgree, TicketsAgree, IsTicketOf, IsGuestOf, HasTicket, Fits}
+use Rattle.reference_model.specs.Sound.{IsOne, SlotsAgree, LoadsAgree, GuestsAgree, TicketsAgree, IsTicketOf, IsGuestOf, HasTicket, StageFits}
 use Rattle.reference_model.specs.Conditions.{Condition, outside, hosts, with_hyp, hyps, with_guest, guests, lent_back, HostFits, hyp_says, guest_condition, GuestFits, row_in, in_vm, is_inside, Legal}
 use Rattle.page_state.proofs.Common.{both, eq-same, if-true, if-false}
 
@@ -195,7 +195,7 @@ same-agree s t e a = record { loads = loads; guests = phases; tickets = tickets 
 
     ticket : (c : ℕ) (k : Ticket) → (t.cpu c).ticket ≡ Some k → IsTicketOf t k
     ticket c k h = let x = a.tickets.ticket c k (sym (e.ticket c) ∙ h) in record {
-      fits = subst (λ stand. Fits k.stage stand (t.guest k.vm.slot).phase) (sym (ap (λ (y : Slot). y.stand) (e.slot k.vm.slot))) (subst (Fits k.stage (s.vms.slot k.vm.slot).stand) (sym (e.phase k.vm.slot)) x.fits);
+      fits = subst (λ stand. StageFits k.stage stand (t.guest k.vm.slot).phase) (sym (ap (λ (y : Slot). y.stand) (e.slot k.vm.slot))) (subst (StageFits k.stage (s.vms.slot k.vm.slot).stand) (sym (e.phase k.vm.slot)) x.fits);
       generation = x.generation ∙ sym (ap (λ (y : Slot). y.generation) (e.slot k.vm.slot));
       kind = x.kind ∙ sym (ap (λ (y : Slot). y.kind) (e.slot k.vm.slot));
     }

@@ -7,7 +7,7 @@ use Rattle.reference_model.specs.declared.changes.Loaded.{Loaded}
 use Rattle.reference_model.specs.declared.changes.Stage.TheVariants.{Booked as booked, Installed as installed, ClosingVm as closing_vm, DyingVm as dying_vm, Finished as finished}
 use Rattle.page_state.specs.declared.entry.PageRange.{PageRange}
 use Rattle.reference_model.specs.State.{Guest, Cpu, Contents, Phase, empty, live, Stand, vacant, opened, reserved, closing, put_at}
-use Rattle.reference_model.specs.Sound.{IsOne, TicketsAgree, IsTicketOf, IsGuestOf, HasTicket, Fits}
+use Rattle.reference_model.specs.Sound.{IsOne, TicketsAgree, IsTicketOf, IsGuestOf, HasTicket, StageFits}
 use Rattle.reference_model.specs.Conditions.{SlotsFit}
 use Rattle.page_state.proofs.Common.{both, eq-same, eq-self, eq-made, if-true, if-false}
 use Rattle.page_state.proofs.Cases.{by_lt}
@@ -29,7 +29,7 @@ put-there g v new u e = if-false (u == v) new (g u) e
 pub apart : (u v : ℕ) → (u == v) ≡ false → u ≡ v → ⊥
 apart u v e h = let t : true ≡ false = sym (eq-made u v h) ∙ e in cc
 
-fits-closed : (stage : Stage) (stand : Stand) (phase : Phase) → Fits stage stand phase → (stand ≡ reserved) ⊎ (stand ≡ closing)
+fits-closed : (stage : Stage) (stand : Stand) (phase : Phase) → StageFits stage stand phase → (stand ≡ reserved) ⊎ (stand ≡ closing)
 fits-closed booked stand phase h = inl h.0
 fits-closed installed stand phase h = inl h.0
 fits-closed closing_vm stand phase h = inr h.0
@@ -48,8 +48,8 @@ pub ticket-vacant : (s : Contents) → TicketsAgree s → (c : ℕ) (t : Ticket)
 ticket-vacant s a c t h o = elim (fits-closed t.stage (s.vms.slot t.vm.slot).stand (s.guest t.vm.slot).phase (a.ticket c t h).fits) [ inl e ↦ (let bad : reserved ≡ vacant = sym e ∙ o in cc) | inr e ↦ (let bad : closing ≡ vacant = sym e ∙ o in cc) ]
 
 -- a ticket's stage tells how its slot and its guest stand
-pub ticket-fits : (s : Contents) → SlotsFit s → (c v : ℕ) (stage : Stage) (t : Ticket) → (s.cpu c).ticket ≡ Some t → t.vm.slot ≡ v → t.stage ≡ stage → Fits stage (s.vms.slot v).stand (s.guest v).phase
-ticket-fits s fit c v stage t h at is = subst (λ u. Fits stage (s.vms.slot u).stand (s.guest u).phase) at (subst (λ g. Fits g (s.vms.slot t.vm.slot).stand (s.guest t.vm.slot).phase) is (fit.agree.tickets.ticket c t h).fits)
+pub ticket-fits : (s : Contents) → SlotsFit s → (c v : ℕ) (stage : Stage) (t : Ticket) → (s.cpu c).ticket ≡ Some t → t.vm.slot ≡ v → t.stage ≡ stage → StageFits stage (s.vms.slot v).stand (s.guest v).phase
+ticket-fits s fit c v stage t h at is = subst (λ u. StageFits stage (s.vms.slot u).stand (s.guest u).phase) at (subst (λ g. StageFits g (s.vms.slot t.vm.slot).stand (s.guest t.vm.slot).phase) is (fit.agree.tickets.ticket c t h).fits)
 
 -- a ticket's slot is one of the 64
 pub ticket-slot : (s : Contents) → SlotsFit s → (c : ℕ) (t : Ticket) → (s.cpu c).ticket ≡ Some t → t.vm.slot < 64
@@ -67,7 +67,7 @@ some-ticket h = cc
 
 -- a ticket goes on to another stage, and its guest to another phase
 module _ (s : Contents) (fit : SlotsFit s) (cpu v : ℕ) (t : Ticket) (g' : Guest) (k' : Cpu) (b : Stage) (has : (s.cpu cpu).ticket ≡ Some t) (at : t.vm.slot ≡ v)
-    (fits' : Fits b (s.vms.slot v).stand g'.phase) (same : g'.phase ≢ empty → (g'.generation ≡ (s.vms.slot v).generation) × (g'.kind ≡ (s.vms.slot v).kind))
+    (fits' : StageFits b (s.vms.slot v).stand g'.phase) (same : g'.phase ≢ empty → (g'.generation ≡ (s.vms.slot v).generation) × (g'.kind ≡ (s.vms.slot v).kind))
     (loads' : k'.loaded ≡ (s.cpu cpu).loaded) (ticket' : k'.ticket ≡ Some (record { vm = t.vm; kind = t.kind; stage = b })) (hand' : (h : PageRange) → k'.hand ≡ Some h → 1 ≤ h.count) where
   new : Ticket
   new = record { vm = t.vm; kind = t.kind; stage = b }
@@ -109,8 +109,8 @@ module _ (s : Contents) (fit : SlotsFit s) (cpu v : ℕ) (t : Ticket) (g' : Gues
     | inl e ↦
         let x : new ≡ k = some-ticket (sym ticket' ∙ ap (λ (d : Cpu). d.ticket) (sym (if-true (c == cpu) k' (s.cpu c) e)) ∙ h) in
         let old = tickets.ticket cpu t has in
-        let fits : Fits b (s.vms.slot t.vm.slot).stand (put_at s.guest v g' t.vm.slot).phase =
-        subst (λ u. Fits b (s.vms.slot u).stand (put_at s.guest v g' u).phase) (sym at) (subst (λ (d : Guest). Fits b (s.vms.slot v).stand d.phase) (sym (put-here s.guest v g')) fits') in
+        let fits : StageFits b (s.vms.slot t.vm.slot).stand (put_at s.guest v g' t.vm.slot).phase =
+        subst (λ u. StageFits b (s.vms.slot u).stand (put_at s.guest v g' u).phase) (sym at) (subst (λ (d : Guest). StageFits b (s.vms.slot v).stand d.phase) (sym (put-here s.guest v g')) fits') in
         let made : IsTicketOf s' new = record { fits = fits; generation = old.generation; kind = old.kind } in
         subst (IsTicketOf s') x made
     | inr e ↦
@@ -124,7 +124,7 @@ module _ (s : Contents) (fit : SlotsFit s) (cpu v : ℕ) (t : Ticket) (g' : Gues
               let mine : HasTicket s t.vm.slot cpu = (t, has, refl) in
               absurd (apart c cpu e (one.2 c here ∙ sym (one.2 cpu mine)))
         ] in
-        record { fits = subst (λ (d : Guest). Fits k.stage (s.vms.slot k.vm.slot).stand d.phase) (sym (put-there s.guest v g' k.vm.slot off)) old.fits; generation = old.generation; kind = old.kind }
+        record { fits = subst (λ (d : Guest). StageFits k.stage (s.vms.slot k.vm.slot).stand d.phase) (sym (put-there s.guest v g' k.vm.slot off)) old.fits; generation = old.generation; kind = old.kind }
   ]
 
   pub slots-turn : SlotsFit (state_of s.vms s.shared (put_at s.guest v g') (put_at s.cpu cpu k'))

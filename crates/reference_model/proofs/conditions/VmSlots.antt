@@ -5,7 +5,7 @@ use Rattle.reference_model.specs.declared.changes.Ticket.{Ticket}
 use Rattle.reference_model.specs.declared.changes.Loaded.{Loaded}
 use Rattle.page_state.specs.declared.entry.PageRange.{PageRange}
 use Rattle.reference_model.specs.State.{Cpu, Vms, Slot, Contents, empty, live, vacant, opened, reserved, closing, put_at}
-use Rattle.reference_model.specs.Sound.{IsOne, IsTicketOf, IsGuestOf, HasLoaded, HasTicket, Fits}
+use Rattle.reference_model.specs.Sound.{IsOne, IsTicketOf, IsGuestOf, HasLoaded, HasTicket, StageFits}
 use Rattle.reference_model.specs.Conditions.{SlotsFit}
 use Rattle.page_state.proofs.Common.{both, eq-same, if-true}
 use Rattle.reference_model.proofs.conditions.Slots.{put-fact, put-here, put-there, apart}
@@ -22,7 +22,7 @@ pub record SlotMove (s : Contents) (cpu v : ℕ) (y : Slot) (k : Cpu) : Type 0 w
   pub same_vm : (s.guest v).phase ≢ empty → ((s.guest v).generation ≡ y.generation) × ((s.guest v).kind ≡ y.kind)
   pub open_live : y.stand ≡ opened → (s.guest v).phase ≡ live
   pub vacant_empty : y.stand ≡ vacant → (s.guest v).phase ≡ empty
-  pub mine : (t : Ticket) → k.ticket ≡ Some t → (t.vm.slot ≡ v) × Fits t.stage y.stand (s.guest v).phase × (t.vm.generation ≡ y.generation) × (t.kind ≡ y.kind)
+  pub mine : (t : Ticket) → k.ticket ≡ Some t → (t.vm.slot ≡ v) × StageFits t.stage y.stand (s.guest v).phase × (t.vm.generation ≡ y.generation) × (t.kind ≡ y.kind)
   pub others : (c : ℕ) → (c == cpu) ≡ false → HasTicket s v c → ⊥
   pub mine_before : (u : ℕ) → HasTicket s u cpu → u ≡ v
   pub named : (y.stand ≡ reserved) ⊎ (y.stand ≡ closing) → (t : Ticket) × (k.ticket ≡ Some t)
@@ -72,7 +72,7 @@ module _ (s : Contents) (fit : SlotsFit s) (cpu v : ℕ) (y : Slot) (k : Cpu) (m
         let x = m.mine t (ap (λ (d : Cpu). d.ticket) (sym (if-true (c == cpu) k (s.cpu c) e)) ∙ h) in
         let is : put_at s.vms.slot v y t.vm.slot ≡ y = ap (put_at s.vms.slot v y) x.0 ∙ put-here s.vms.slot v y in
         record {
-          fits = subst (λ (z : Slot). Fits t.stage z.stand (s.guest t.vm.slot).phase) (sym is) (subst (λ u. Fits t.stage y.stand (s.guest u).phase) (sym x.0) x.1);
+          fits = subst (λ (z : Slot). StageFits t.stage z.stand (s.guest t.vm.slot).phase) (sym is) (subst (λ u. StageFits t.stage y.stand (s.guest u).phase) (sym x.0) x.1);
           generation = x.2 ∙ ap (λ (z : Slot). z.generation) (sym is);
           kind = x.3 ∙ ap (λ (z : Slot). z.kind) (sym is);
         }
@@ -81,7 +81,7 @@ module _ (s : Contents) (fit : SlotsFit s) (cpu v : ℕ) (y : Slot) (k : Cpu) (m
         let old = fit.agree.tickets.ticket c t was in
         let is = slot-there t.vm.slot (λ n. m.others c e (t, was, n)) in
         record {
-          fits = subst (λ (z : Slot). Fits t.stage z.stand (s.guest t.vm.slot).phase) (sym is) old.fits;
+          fits = subst (λ (z : Slot). StageFits t.stage z.stand (s.guest t.vm.slot).phase) (sym is) old.fits;
           generation = old.generation ∙ ap (λ (z : Slot). z.generation) (sym is);
           kind = old.kind ∙ ap (λ (z : Slot). z.kind) (sym is);
         }

@@ -15,7 +15,7 @@ use Rattle.page_state.specs.Layouts.{Layout}
 use Rattle.reference_model.specs.Owner.{is_in_hand}
 use Rattle.reference_model.specs.Parts.{vms, has_stage, stage_eq}
 use Rattle.reference_model.specs.Used.{Used, used_of, put_back}
-use Rattle.reference_model.specs.Sound.{Fits}
+use Rattle.reference_model.specs.Sound.{StageFits}
 use Rattle.reference_model.specs.Step.{refusal, changed, with_rows}
 use Rattle.reference_model.specs.VmRules.{vm_reserve, vm_open, teardown, vm_release, stand_eq, is_open, is_any_loaded, vacant_slot}
 use Rattle.reference_model.specs.Conditions.{Legal, SlotsFit}
@@ -134,7 +134,7 @@ module _ (l : Layout) (s : Contents) (legal : Legal l s) (cpu : ℕ) where
       let t = found.0 in
       let has = found.1 in
       let old = fit-of t has in
-      let here : Fits installed (s.vms.slot t.vm.slot).stand (s.guest t.vm.slot).phase = subst (λ g. Fits g (s.vms.slot t.vm.slot).stand (s.guest t.vm.slot).phase) found.2 old in
+      let here : StageFits installed (s.vms.slot t.vm.slot).stand (s.guest t.vm.slot).phase = subst (λ g. StageFits g (s.vms.slot t.vm.slot).stand (s.guest t.vm.slot).phase) found.2 old in
       let v = (ticket_vm (s.cpu cpu)).slot in
       let at : t.vm.slot ≡ v = ap (λ (n : VmId). n.slot) (sym (ticket-vm t has)) in
       let k : Cpu = record (s.cpu cpu) { ticket = None } in
@@ -143,7 +143,7 @@ module _ (l : Layout) (s : Contents) (legal : Legal l s) (cpu : ℕ) where
       let moved : SlotMove s cpu v (record (s.vms.slot v) { stand = opened }) k = subst (λ n. SlotMove s cpu n (record (s.vms.slot n) { stand = opened }) k) at move in
       vm-legal l s legal cpu (put_at s.vms.slot v (record (s.vms.slot v) { stand = opened })) k refl (slots-moved s legal.slots cpu v (record (s.vms.slot v) { stand = opened }) k moved)
     where
-      fit-of : (t : Ticket) → (s.cpu cpu).ticket ≡ Some t → Fits t.stage (s.vms.slot t.vm.slot).stand (s.guest t.vm.slot).phase
+      fit-of : (t : Ticket) → (s.cpu cpu).ticket ≡ Some t → StageFits t.stage (s.vms.slot t.vm.slot).stand (s.guest t.vm.slot).phase
       fit-of t has = (legal.slots.agree.tickets.ticket cpu t has).fits
 
   pub vm_release-keeps : refusal l.depth (vm_release x) false x ≡ None → LegalAlone l s legal (put_back vms None cpu s (with_rows l cpu None VmRelease (vm_release x).changes (changed l.depth (vm_release x).changes x)))
@@ -151,8 +151,8 @@ module _ (l : Layout) (s : Contents) (legal : Legal l s) (cpu : ℕ) where
   vm_release-keeps h =
       let p = passed l.depth (vm_release x) false x h in
       let found = elim (one-of (has_stage booked (s.cpu cpu)) (has_stage finished (s.cpu cpu)) (not-false (has_stage booked (s.cpu cpu) || has_stage finished (s.cpu cpu)) p.no_vm)) as (λ _. (t : Ticket) × ((s.cpu cpu).ticket ≡ Some t) × ((s.guest t.vm.slot).phase ≡ empty)) [
-        | inl e ↦ (let f = has_stage-is booked (s.cpu cpu) e in (f.0, f.1, (subst (λ g. Fits g (s.vms.slot f.0.vm.slot).stand (s.guest f.0.vm.slot).phase) f.2 (fit-of f.0 f.1)).1))
-        | inr e ↦ (let f = has_stage-is finished (s.cpu cpu) e in (f.0, f.1, (subst (λ g. Fits g (s.vms.slot f.0.vm.slot).stand (s.guest f.0.vm.slot).phase) f.2 (fit-of f.0 f.1)).1))
+        | inl e ↦ (let f = has_stage-is booked (s.cpu cpu) e in (f.0, f.1, (subst (λ g. StageFits g (s.vms.slot f.0.vm.slot).stand (s.guest f.0.vm.slot).phase) f.2 (fit-of f.0 f.1)).1))
+        | inr e ↦ (let f = has_stage-is finished (s.cpu cpu) e in (f.0, f.1, (subst (λ g. StageFits g (s.vms.slot f.0.vm.slot).stand (s.guest f.0.vm.slot).phase) f.2 (fit-of f.0 f.1)).1))
       ] in
       let t = found.0 in
       let has = found.1 in
@@ -164,7 +164,7 @@ module _ (l : Layout) (s : Contents) (legal : Legal l s) (cpu : ℕ) where
       let moved : SlotMove s cpu v y k = subst (λ n. SlotMove s cpu n y k) at move in
       vm-legal l s legal cpu (put_at s.vms.slot v y) k refl (slots-moved s legal.slots cpu v y k moved)
     where
-      fit-of : (t : Ticket) → (s.cpu cpu).ticket ≡ Some t → Fits t.stage (s.vms.slot t.vm.slot).stand (s.guest t.vm.slot).phase
+      fit-of : (t : Ticket) → (s.cpu cpu).ticket ≡ Some t → StageFits t.stage (s.vms.slot t.vm.slot).stand (s.guest t.vm.slot).phase
       fit-of t has = (legal.slots.agree.tickets.ticket cpu t has).fits
 
       one-of : (a b : Bool) → a || b ≡ true → (a ≡ true) ⊎ (b ≡ true)
@@ -193,7 +193,7 @@ module _ (l : Layout) (s : Contents) (legal : Legal l s) (cpu : ℕ) where
         same_vm = λ n. absurd (n phase);
         open_live = λ e. cc;
         vacant_empty = λ e. phase;
-        mine = λ u e. let same : t ≡ u = some-ticket e in subst (λ (w : Ticket). (w.vm.slot ≡ v) × Fits w.stage reserved (s.guest v).phase × (w.vm.generation ≡ (s.vms.slot v).generation) × (w.kind ≡ kind)) same (refl, (refl, phase), refl, refl);
+        mine = λ u e. let same : t ≡ u = some-ticket e in subst (λ (w : Ticket). (w.vm.slot ≡ v) × StageFits w.stage reserved (s.guest v).phase × (w.vm.generation ≡ (s.vms.slot v).generation) × (w.kind ≡ kind)) same (refl, (refl, phase), refl, refl);
         others = λ c e j. ticket-vacant s legal.slots.agree.tickets c j.0 j.1 (ap (λ u. (s.vms.slot u).stand) j.2 ∙ stands);
         mine_before = λ u j. no-ticket (sym free ∙ j.1);
         named = λ e. (t, refl);
@@ -226,7 +226,7 @@ module _ (l : Layout) (s : Contents) (legal : Legal l s) (cpu : ℕ) where
         same_vm = λ n. let o = legal.slots.agree.guests.same_vm v n in (o.generation, o.kind);
         open_live = λ e. phase;
         vacant_empty = λ e. cc;
-        mine = λ u e. let same : t ≡ u = some-ticket e in subst (λ (w : Ticket). (w.vm.slot ≡ v) × Fits w.stage closing (s.guest v).phase × (w.vm.generation ≡ (s.vms.slot v).generation) × (w.kind ≡ (s.vms.slot v).kind)) same (refl, (refl, phase), sym (eq-same (s.vms.slot v).generation vm.generation up.1), refl);
+        mine = λ u e. let same : t ≡ u = some-ticket e in subst (λ (w : Ticket). (w.vm.slot ≡ v) × StageFits w.stage closing (s.guest v).phase × (w.vm.generation ≡ (s.vms.slot v).generation) × (w.kind ≡ (s.vms.slot v).kind)) same (refl, (refl, phase), sym (eq-same (s.vms.slot v).generation vm.generation up.1), refl);
         others = λ c e j. ticket-open s legal.slots.agree.tickets c j.0 j.1 (ap (λ u. (s.vms.slot u).stand) j.2 ∙ stands);
         mine_before = λ u j. no-ticket (sym free ∙ j.1);
         named = λ e. (t, refl);
