@@ -18,7 +18,7 @@ use Rattle.reference_model.specs.Used.{Used}
 use Rattle.reference_model.specs.VmRules.{vcpu_load, teardown}
 use Rattle.page_state.proofs.Common.{or-neither}
 use Rattle.reference_model.proofs.Answers.{told-ok}
-use Rattle.reference_model.proofs.conditions.SharedSteps.{tested}
+use Rattle.reference_model.proofs.conditions.Tests.{tested}
 
 -- changes by the parts that a step names
 

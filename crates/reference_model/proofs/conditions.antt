@@ -5,6 +5,7 @@ pub mod Bounding
 pub mod ChangesFit
 pub mod ConditionFacts
 pub mod Conserved
+pub mod FrameMoves
 pub mod GuestMoves
 pub mod HandSteps
 pub mod InOrder
@@ -16,6 +17,7 @@ pub mod OfLegal
 pub mod PageMoves
 pub mod PageSteps
 pub mod PoolSteps
+pub mod RangeMoves
 pub mod RowFacts
 pub mod RunsLegal
 pub mod SharedMoves
@@ -24,5 +26,6 @@ pub mod Slots
 pub mod SoundOf
 pub mod Stands
 pub mod Tables
+pub mod Tests
 pub mod VmSlots
 pub mod VmSteps

@@ -25,17 +25,21 @@ use Rattle.reference_model.specs.Parts.{names, shared}
 use Rattle.reference_model.specs.Used.{used_of}
 use Rattle.reference_model.specs.Rule.{Rule, fine}
 use Rattle.reference_model.specs.SharedRules.{host_abort, host_translate, hyp_translate, owner_of, abort_edit, abort_leaf, abort_depth, may_map}
-use Rattle.reference_model.specs.Step.{refusal}
+use Rattle.reference_model.specs.Step.{refusal, is_touched}
+use Rattle.page_state.specs.Tables.{edited_map}
 use Rattle.reference_model.specs.declared.changes.MapChange.{MapChange}
-use Rattle.reference_model.specs.Changes.{change, no_changes}
+use Rattle.reference_model.specs.Changes.{change, edit_of, same_cpu, no_changes}
 use Rattle.reference_model.specs.RowChanges.{told_row}
 use Rattle.reference_model.specs.ConditionChanges.{told_condition}
 use Rattle.reference_model.specs.Conditions.{row_in, Condition, outside, hosts, HostFits, hyp_says, Legal, IsUsable, in_shared, in_hand, is_inside, IsGood}
 use Rattle.page_state.proofs.Blocks.{empty_means}
 use Rattle.page_state.proofs.Common.{both, if-true, if-false}
-use Rattle.reference_model.proofs.conditions.Moves.{outside-is, is_calm, host-moved, moved-out, moved-fact}
-use Rattle.reference_model.proofs.conditions.SharedMoves.{StepKept, x_of, SharedMove, shared-keeps}
-use Rattle.reference_model.proofs.conditions.SharedSteps.{Passed, passed, within-is, one-within, advance-leaf, range-in, hands-stay, free-hosts}
+use Rattle.reference_model.proofs.conditions.Moves.{moved_to, outside-is, is_calm, host-moved, moved-out, moved-fact}
+use Rattle.reference_model.proofs.conditions.FrameMoves.{StepKept}
+use Rattle.reference_model.proofs.conditions.RangeMoves.{within-is, one-within, one-frame, advance-leaf, range-in, free-is, hands-stay}
+use Rattle.reference_model.proofs.conditions.SharedMoves.{x_of, shared-keeps}
+use Rattle.reference_model.proofs.conditions.Tables.{IsInRange}
+use Rattle.reference_model.proofs.conditions.Tests.{Passed, passed}
 
 -- a rule that changes the host's map alone
 abbrev pub host_rule : Bool → Bool → Option MapChange → Value → Rule
@@ -45,87 +49,64 @@ none-within : (q : ℕ) → is_within 0 0 q ≡ false
 none-within q = grind (arith, nat_tests)
 
 module _ (l : Layout) (s : Contents) (legal : Legal l s) (usable : IsUsable l) (cpu : ℕ) (invalid perm : Bool) (value : Value) where
-  -- nothing changes
-  still-move : Passed l.depth (host_rule invalid perm None value) false (x_of cpu s) → SharedMove l s legal.condition cpu (host_rule invalid perm None value).changes 0 0 hosts
-  unfolding used_of
-  still-move p = record {
-    inside = λ q w. absurd (off q w);
-    good = tt;
-    move = record { calm = refl; was_calm = λ q w. absurd (off q w) };
-    same_use = λ q w. absurd (off q w);
-    host = λ q. subst (λ c. HostFits q c (s.shared.host.map q)) (sym (moved-out hosts 0 0 legal.condition q (none-within q))) (legal.maps.host q);
-    hyp = λ q. legal.maps.hyp q ∙ ap (hyp_says q) (sym (moved-out hosts 0 0 legal.condition q (none-within q)));
-    hyp_below = legal.maps.hyp_below;
-    touched = λ q. sym (none-within q);
-    told = λ q w. absurd (off q w);
-    goes = λ q w m. absurd (off q w);
-    host_range = tt;
-    hyp_range = tt;
-    enough = p.shared_enough;
-    hand = hands-stay l s legal usable cpu hosts 0 0 (λ d q w. absurd (off q w));
-    own_hand = λ d h. cc;
-    loaded = λ k. refl;
-    ticket = λ k. refl;
-    some_hand = legal.slots.some_hand cpu;
-  }
-    where
-      off : (q : ℕ) → is_within 0 0 q ≡ true → ⊥
-      off q w = let z : true ≡ false = sym w ∙ none-within q in cc
-
-  -- a range of pages that the host has unmapped, of one kind, gets leaves
-  map-move : (first n : ℕ) (e : Entry) (c : Condition) → 1 ≤ n → first + n ≤ pages_below l.depth → is_calm c ≡ true → in_shared c ≡ false → ((d : ℕ) → in_hand d c ≡ false) → IsGood l c
-      → ((q : ℕ) → is_within first n q ≡ true → legal.condition q ≡ c) → ((q : ℕ) → is_within first n q ≡ true → HostFits q c (advance e (q - first))) → ((q : ℕ) → is_within first n q ≡ true → row_in q c ≡ told_row cpu None (host_rule invalid perm (change first n e) value).changes q)
-      → ((q : ℕ) → is_within first n q ≡ true → is_memory l q ≡ true → c ≡ told_condition cpu None (host_rule invalid perm (change first n e) value).changes)
-      → Passed l.depth (host_rule invalid perm (change first n e) value) false (x_of cpu s) → SharedMove l s legal.condition cpu (host_rule invalid perm (change first n e) value).changes first n c
-  unfolding used_of
-  map-move first n e c some range calm unused hand good was new told goes p = record {
-    inside = λ q w. sym (legal.of_layout.inside q) ∙ ap is_inside (was q w);
-    good = good;
-    move = record { calm = calm; was_calm = λ q w. ap is_calm (was q w) ∙ calm };
-    same_use = λ q w. ap in_shared (was q w);
-    host = host-moved s.shared.host.map first n e c legal.condition new legal.maps.host;
-    hyp = λ q. legal.maps.hyp q ∙ moved-fact (hyp_says q) c first n legal.condition q (λ w. ap (hyp_says q) (was q w));
-    hyp_below = legal.maps.hyp_below;
-    touched = λ q. refl;
-    told = told;
-    goes = goes;
-    host_range = range;
-    hyp_range = tt;
-    enough = p.shared_enough;
-    hand = hands-stay l s legal usable cpu c first n (λ d q w. ap (in_hand d) (was q w));
-    own_hand = λ d h. let z : true ≡ false = sym h ∙ hand d in cc;
-    loaded = λ k. refl;
-    ticket = λ k. refl;
-    some_hand = legal.slots.some_hand cpu;
-  }
-
   -- what a step with this edit leaves is legal
   abbrev IsKept : Step → Option MapChange → Type 0
   IsKept step e = Passed l.depth (host_rule invalid perm e value) false (x_of cpu s) → StepKept l s legal.condition shared None cpu step (host_rule invalid perm e value).changes
 
+  -- frames of one condition keep it, where the host's map changes or stays
+  same-keeps : (step : Step) → names step ≡ shared → (e : Option MapChange) (first n : ℕ) (c : Condition) → is_calm c ≡ true → in_shared c ≡ false → ((d : ℕ) → in_hand d c ≡ false) → IsGood l c → IsInRange l.depth (edit_of e) → ((q : ℕ) → is_touched (host_rule invalid perm e value).changes q ≡ is_within first n q)
+      → ((q : ℕ) → is_within first n q ≡ true → legal.condition q ≡ c) → ((q : ℕ) → HostFits q (moved_to c first n legal.condition q) (edited_map s.shared.host.map (edit_of e) q))
+      → ((q : ℕ) → is_within first n q ≡ true → row_in q c ≡ told_row cpu None (host_rule invalid perm e value).changes q) → ((q : ℕ) → is_within first n q ≡ true → is_memory l q ≡ true → c ≡ told_condition cpu None (host_rule invalid perm e value).changes) → IsKept step e
+  unfolding used_of
+  same-keeps step named e first n c calm unused hand good range touched was fits told goes p = shared-keeps l s legal usable cpu step named (host_rule invalid perm e value).changes first n c (record {
+    frames = record {
+      inside = λ q w. sym (legal.of_layout.inside q) ∙ ap is_inside (was q w);
+      good = good;
+      same_use = λ q w. ap in_shared (was q w);
+      host = fits;
+      hyp = λ q. legal.maps.hyp q ∙ moved-fact (hyp_says q) c first n legal.condition q (λ w. ap (hyp_says q) (was q w));
+      hyp_below = legal.maps.hyp_below;
+      touched = touched;
+      told = told;
+      goes = goes;
+      host_range = range;
+      hyp_range = tt;
+      hand = hands-stay legal cpu same_cpu c first n refl (λ d q w. ap (in_hand d) (was q w));
+      own_hand = λ d h. let z : true ≡ false = sym h ∙ hand d in cc;
+    };
+    calm = record { calm = calm; was_calm = λ q w. ap is_calm (was q w) ∙ calm };
+    loaded = refl;
+    ticket = refl;
+    some_hand = legal.slots.some_hand cpu;
+  }) p.shared_enough
+
   still-keeps : (step : Step) → names step ≡ shared → IsKept step None
-  still-keeps step named p = shared-keeps l s legal usable cpu step named (host_rule invalid perm None value).changes 0 0 hosts (still-move p)
+  still-keeps step named = same-keeps step named None 0 0 hosts refl refl (λ d. refl) tt tt (λ q. sym (none-within q)) (λ q w. absurd (off q w))
+      (λ q. subst (λ c. HostFits q c (s.shared.host.map q)) (sym (moved-out hosts 0 0 legal.condition q (none-within q))) (legal.maps.host q)) (λ q w. absurd (off q w)) (λ q w m. absurd (off q w))
+    where
+      off : (q : ℕ) → is_within 0 0 q ≡ true → ⊥
+      off q w = let z : true ≡ false = sym w ∙ none-within q in cc
 
   unmapped-hosts : (q : ℕ) → is_memory l q ≡ true → s.shared.host.map q ≡ Unmapped → legal.condition q ≡ hosts
-  unmapped-hosts q m h = free-hosts q (legal.condition q) (s.shared.host.map q) (legal.of_layout.inside q ∙ m) (legal.maps.host q) (ap is_free_page h)
+  unmapped-hosts q m h = free-is legal q m (ap is_free_page h)
 
   -- a block of unmapped pages of a memory region
   block-keeps : (page first n : ℕ) (r : Region) → 1 ≤ n → is_memory_kind r.kind ≡ true → ((q : ℕ) → is_within first n q ≡ true → (region_of l.memory q ≡ Some r) × (s.shared.host.map q ≡ Unmapped)) → IsKept (HostAbort page) (change first n (leaf RWX first Owned))
-  block-keeps page first n r some kind each p =
+  block-keeps page first n r some kind each =
       let mem : (q : ℕ) → is_within first n q ≡ true → is_memory l q ≡ true = λ q w. ap is_memory_region (each q w).0 ∙ kind in
       let low = range-in l usable first n some mem in
-      shared-keeps l s legal usable cpu (HostAbort page) refl (host_rule invalid perm (change first n (leaf RWX first Owned)) value).changes first n hosts
-      (map-move first n (leaf RWX first Owned) hosts some (omega arith) refl refl (λ d. refl) tt (λ q w. unmapped-hosts q (mem q w) (each q w).1) (λ q w. inr (advance-leaf RWX first n q Owned w)) (λ q w. refl) (λ q w m. refl) p)
+      same-keeps (HostAbort page) refl (change first n (leaf RWX first Owned)) first n hosts refl refl (λ d. refl) tt (let e : first + n ≤ pages_below l.depth = omega arith in e) (λ q. refl)
+      (λ q w. unmapped-hosts q (mem q w) (each q w).1) (host-moved s.shared.host.map first n (leaf RWX first Owned) hosts legal.condition (λ q w. inr (advance-leaf RWX first n q Owned w)) legal.maps.host) (λ q w. refl) (λ q w m. refl)
 
   -- a page of a device region
   device-keeps : (page : ℕ) (r : Region) → is_memory_kind r.kind ≡ false → region_of l.memory page ≡ Some r → IsKept (HostAbort page) (change page 1 (device_leaf page))
-  device-keeps page r kind at p =
+  device-keeps page r kind at =
       let less = usable.below page r at in
       let not-memory : is_memory l page ≡ false = ap is_memory_region at ∙ kind in
       let was : legal.condition page ≡ outside = outside-is (legal.condition page) (legal.of_layout.inside page ∙ not-memory) in
-      shared-keeps l s legal usable cpu (HostAbort page) refl (host_rule invalid perm (change page 1 (device_leaf page)) value).changes page 1 outside
-      (map-move page 1 (device_leaf page) outside (omega arith) (omega arith) refl refl (λ d. refl) tt (λ q w. subst (λ k. legal.condition k ≡ outside) (one-within page q w) was) (λ q w. inr (device-advance page q w)) (λ q w. refl)
-      (λ q w m. let bad : true ≡ false = sym m ∙ ap (is_memory l) (sym (one-within page q w)) ∙ not-memory in cc) p)
+      same-keeps (HostAbort page) refl (change page 1 (device_leaf page)) page 1 outside refl refl (λ d. refl) tt (let e : page + 1 ≤ pages_below l.depth = omega arith in e) (λ q. refl)
+      (one-frame page (λ q. legal.condition q ≡ outside) was) (host-moved s.shared.host.map page 1 (device_leaf page) outside legal.condition (λ q w. inr (device-advance page q w)) legal.maps.host) (λ q w. refl)
+      (λ q w m. let bad : true ≡ false = sym m ∙ one-frame page (λ q. is_memory l q ≡ false) not-memory q w in cc)
     where
       device-advance : (page q : ℕ) → is_within page 1 q ≡ true → advance (device_leaf page) (q - page) ≡ device_leaf q
       device-advance page q w = let same = one-within page q w in let e : page + (q - page) ≡ q = omega arith in ap device_leaf e

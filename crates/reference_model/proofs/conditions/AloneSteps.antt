@@ -24,12 +24,13 @@ use Rattle.page_state.proofs.Common.{both, if-true, if-false}
 use Rattle.reference_model.proofs.Steps.{state_of}
 use Rattle.reference_model.proofs.conditions.Conserved.{tree-conserved, edited-tidy, edited-root}
 use Rattle.reference_model.proofs.conditions.Moves.{LegalAlone, same-agree, cpu-fact}
-use Rattle.reference_model.proofs.conditions.GuestMoves.{new_guest, new_cpu, guest-fact}
+use Rattle.reference_model.proofs.conditions.GuestMoves.{new_guest, new_cpu, guest-fact, slots-stay}
 use Rattle.reference_model.proofs.conditions.PageMoves.{advance-none}
 use Rattle.reference_model.proofs.conditions.PageSteps.{good-page}
-use Rattle.reference_model.proofs.conditions.SharedSteps.{passed, one-within}
+use Rattle.reference_model.proofs.conditions.RangeMoves.{one-within}
+use Rattle.reference_model.proofs.conditions.Tests.{passed}
 use Rattle.reference_model.proofs.conditions.Slots.{ticket-fits, slots-turn}
-use Rattle.reference_model.proofs.conditions.PoolSteps.{slots-stay, turned}
+use Rattle.reference_model.proofs.conditions.PoolSteps.{turned}
 
 -- a state of which one guest and a CPU changed, but no hand and no condition
 pub alone-legal : (l : Layout) (s : Contents) (legal : Legal l s) (cpu v : ℕ) (g : Guest) (k : Cpu)
@@ -111,7 +112,7 @@ module _ (l : Layout) (s : Contents) (legal : Legal l s) (usable : IsUsable l) (
       (λ k. absurd (alive k))
       (λ k. let old = legal.guest_parts.rooted v k in (old.0, edited-root l.depth (put g 1 e) (s.guest v).tree (s.guest v).free range ∙ old.1))
       refl
-      (slots-stay l s legal usable cpu v slot (new_guest l s v r.changes) (new_cpu s cpu r.changes) refl refl refl refl refl (legal.slots.some_hand cpu))
+      (slots-stay legal cpu v (new_guest l s v r.changes) (new_cpu s cpu r.changes) refl refl refl refl refl (legal.slots.some_hand cpu))
 
   pub guest_translate-keeps : (vm : VmId) (g : ℕ) → refusal l.depth (guest_translate l x vm g) false x ≡ None → LegalAlone l s legal (put_back guest (Some v) cpu s (with_rows l cpu (Some v) (GuestTranslate vm g) (guest_translate l x vm g).changes (changed l.depth (guest_translate l x vm g).changes x)))
   unfolding used_of put_back with_rows changed guest_after edited needs freed returned
@@ -119,7 +120,7 @@ module _ (l : Layout) (s : Contents) (legal : Legal l s) (usable : IsUsable l) (
       let r = guest_translate l x vm g in
       alone-legal l s legal cpu v (new_guest l s v r.changes) (new_cpu s cpu r.changes) (legal.maps.guest v) (legal.maps.guest_has v) (legal.held.vm v) (legal.trees.guest v)
       (legal.guest_parts.blank v) (legal.guest_parts.rooted v) refl
-      (slots-stay l s legal usable cpu v slot (new_guest l s v r.changes) (new_cpu s cpu r.changes) refl refl refl refl refl (legal.slots.some_hand cpu))
+      (slots-stay legal cpu v (new_guest l s v r.changes) (new_cpu s cpu r.changes) refl refl refl refl refl (legal.slots.some_hand cpu))
 
   pub mark_dying-keeps : (t : Ticket) → (s.cpu cpu).ticket ≡ Some t → t.vm.slot ≡ v → t.stage ≡ closing_vm → refusal l.depth (mark_dying x) false x ≡ None → LegalAlone l s legal (put_back guest (Some v) cpu s (with_rows l cpu (Some v) MarkDying (mark_dying x).changes (changed l.depth (mark_dying x).changes x)))
   unfolding used_of put_back with_rows changed guest_after edited needs freed returned

@@ -30,9 +30,9 @@ use Rattle.reference_model.proofs.conditions.Stands.{row-stands}
 use Rattle.reference_model.proofs.conditions.OfLegal.{shared-of, guests-of}
 use Rattle.reference_model.proofs.conditions.Tables.{IsInRange, edited-uses, freed-below}
 use Rattle.reference_model.proofs.conditions.Conserved.{edited-tidy, length-drop}
-use Rattle.reference_model.proofs.conditions.Moves.{is_calm, calm-named, calm-vm}
-use Rattle.reference_model.proofs.conditions.SharedMoves.{no-uses}
-use Rattle.reference_model.proofs.conditions.SharedSteps.{range-in, within-is}
+use Rattle.reference_model.proofs.conditions.Moves.{pageless-named, is_calm, calm-pageless, calm-vm}
+use Rattle.reference_model.proofs.conditions.FrameMoves.{no-uses}
+use Rattle.reference_model.proofs.conditions.RangeMoves.{range-in, within-is}
 use Rattle.reference_model.proofs.conditions.PoolSteps.{count-frames, root-none, root-tidy}
 use Rattle.reference_model.proofs.conditions.HandSteps.{root-table-uses}
 
@@ -123,7 +123,7 @@ module _ (l : Layout) (enough : IsCarveEnough l) (usable : IsUsable l) where
         let e : Entry = Leaf (record { 0 = carve_first l + (p - hyp_page (carve_first l)) }) RW Normal Owned in
         if-false (is_within (hyp_page (carve_first l)) l.memory.carve.count p) e Unmapped out;
     guest = λ v g. inl refl;
-    guest_has = λ v g f state h. calm-named (boot_condition l f) state v g (calm f) h;
+    guest_has = λ v g f state h. pageless-named (boot_condition l f) state v g (calm-pageless (boot_condition l f) (calm f)) h;
   }
     where
       host : (a b : Bool) (p : ℕ) → HostFits p (if a then hyps SharedPool else (if b then hosts else outside)) (if a then annotation 1 else Unmapped)

@@ -13,7 +13,7 @@ use Rattle.page_state.specs.declared.entry.PageRange.{PageRange}
 use Rattle.page_state.specs.declared.reply.Call.{Call}
 use Rattle.page_state.specs.declared.reply.Refusal.TheVariants.{NoMemory}
 use Rattle.page_state.specs.declared.step.Step.{Step}
-use Rattle.page_state.specs.declared.step.Step.TheVariants.{ShareHyp, UnshareHyp, DonateHyp, HypDonateHost, HostAbort, HostTranslate, HypTranslate, OwnerOf, Fund, Unfund, ShareGuest, UnshareGuest, DonateGuest, GuestShareHost, GuestUnshareHost, Install, Topup, ReclaimPage, ReclaimPool, FinishGuest, GuestRelax, GuestTranslate, MarkDying, VmReserve, VmOpen, VcpuLoad, VcpuPut, Teardown, VmRelease}
+use Rattle.page_state.specs.declared.step.Step.TheVariants.{Fund, ShareGuest, UnshareGuest, DonateGuest, GuestShareHost, GuestUnshareHost, Install, Topup, ReclaimPage, GuestRelax, VmReserve, VcpuLoad, VmRelease}
 use Rattle.page_state.specs.declared.step.VmId.{VmId}
 use Rattle.page_state.specs.Trees.{frames_from, root_tree, Block, Tree, Pool}
 use Rattle.reference_model.specs.Boot.{boot, booted}
@@ -47,8 +47,9 @@ use Rattle.reference_model.proofs.Steps.{refusal_keeps, log_full_keeps, answered
 use Rattle.reference_model.proofs.conditions.BootLegal.{boot_legal}
 use Rattle.reference_model.proofs.conditions.Keeps.{legal_keeps}
 use Rattle.reference_model.proofs.conditions.RunsLegal.{ready-usable}
-use Rattle.reference_model.proofs.conditions.SharedSteps.{Passed, passed, hand-some}
-use Rattle.reference_model.proofs.conditions.Slots.{put-fact}
+use Rattle.reference_model.proofs.conditions.RangeMoves.{hand-some}
+use Rattle.reference_model.proofs.conditions.Tests.{Passed, passed}
+use Rattle.reference_model.proofs.conditions.Slots.{put-fact, ticket-told}
 use Rattle.reference_model.proofs.conditions.VmSteps.{has_stage-is, stand_eq-same, first-spec, some-is}
 
 -- what a rule's changes keep of the bounds
@@ -199,12 +200,6 @@ good-count l f n h = go (nat_le 1 n) (nat_le n 512) (all_below n (λ i. is_memor
     go true false c e k = cc
     go false b c e k = cc
 
-ticket-vm : (k : Cpu) (t : Ticket) → k.ticket ≡ Some t → ticket_vm k ≡ t.vm
-ticket-vm k t has = ap (λ o. the-vm o) has
-  where
-    the-vm : Option Ticket → VmId
-    the-vm o = elim o [ Some u ↦ u.vm | None ↦ record { slot = 0; generation = 0 } ]
-
 module _ (l : Layout) (s : Contents) (legal : Legal l s) (cpu : ℕ) (hands : (r : PageRange) → (s.cpu cpu).hand ≡ Some r → r.count ≤ 512) where
   abbrev x_at : Option ℕ → Step → Used
   x_at slot step = used_of (names step) slot cpu s
@@ -217,7 +212,7 @@ module _ (l : Layout) (s : Contents) (legal : Legal l s) (cpu : ℕ) (hands : (r
   pass slot step h = passed l.depth (h_at slot step) (lacks_slot (names step) slot) (x_at slot step) h
 
   held : (t : Ticket) → (s.cpu cpu).ticket ≡ Some t → (s.vms.slot (ticket_vm (s.cpu cpu)).slot).generation ≡ (ticket_vm (s.cpu cpu)).generation
-  held t has = subst (λ (vm : VmId). (s.vms.slot vm.slot).generation ≡ vm.generation) (sym (ticket-vm (s.cpu cpu) t has)) (sym (legal.slots.agree.tickets.ticket cpu t has).generation)
+  held t has = subst (λ (vm : VmId). (s.vms.slot vm.slot).generation ≡ vm.generation) (sym (ticket-told (s.cpu cpu) t has).0) (sym (legal.slots.agree.tickets.ticket cpu t has).generation)
 
   released : (a b : Bool) → has_stage Booked (s.cpu cpu) ≡ a → has_stage Finished (s.cpu cpu) ≡ b → (a || b) ≡ true → (s.vms.slot (ticket_vm (s.cpu cpu)).slot).generation ≡ (ticket_vm (s.cpu cpu)).generation
   released true b p q h = let t = has_stage-is Booked (s.cpu cpu) p in held t.0 t.1
@@ -242,16 +237,7 @@ module _ (l : Layout) (s : Contents) (legal : Legal l s) (cpu : ℕ) (hands : (r
 
   modest : (step : Step) (slot : Option ℕ) → fails l cpu slot step (x_at slot step) ≡ None → Modest l (x_at slot step) (h_at slot step).changes
   unfolding rule ModestSlot ModestHand ModestPart used_of
-  modest (ShareHyp f) o h = record { slot = tt; hand = tt; range = tt; part = tt }
-  modest (UnshareHyp f) o h = record { slot = tt; hand = tt; range = tt; part = tt }
-  modest (DonateHyp f n) o h = record { slot = tt; hand = tt; range = tt; part = tt }
-  modest (HypDonateHost f n) o h = record { slot = tt; hand = tt; range = tt; part = tt }
-  modest (HostAbort p) o h = record { slot = tt; hand = tt; range = tt; part = tt }
-  modest (HostTranslate p) o h = record { slot = tt; hand = tt; range = tt; part = tt }
-  modest (HypTranslate p) o h = record { slot = tt; hand = tt; range = tt; part = tt }
-  modest (OwnerOf p) o h = record { slot = tt; hand = tt; range = tt; part = tt }
   modest (Fund f n) o h = record { slot = tt; hand = good-count l f n (not-false (is_good_range l f n) (pass o (Fund f n) h).invalid); range = tt; part = tt }
-  modest Unfund o h = record { slot = tt; hand = tt; range = tt; part = tt }
   modest (ShareGuest f g p) o h = record { slot = tt; hand = tt; range = page-range l g (or-neither (not (is_memory l f)) (not (is_good_page l g)) (pass o (ShareGuest f g p) h).invalid).1; part = tt }
   modest (UnshareGuest vm g) o h = record { slot = tt; hand = tt; range = page-range l g (or-neither (nat_le 64 vm.slot) (not (is_good_page l g)) (pass o (UnshareGuest vm g) h).invalid).1; part = tt }
   modest (DonateGuest f g) o h = record { slot = tt; hand = tt; range = page-range l g (or-neither (not (is_memory l f)) (not (is_good_page l g)) (pass o (DonateGuest f g) h).invalid).1; part = tt }
@@ -260,17 +246,11 @@ module _ (l : Layout) (s : Contents) (legal : Legal l s) (cpu : ℕ) (hands : (r
   modest Install o h = record { slot = tt; hand = tt; range = tt; part = (hand-some (s.cpu cpu).hand (pass o Install h).perm (legal.slots.some_hand cpu), hand-few (s.cpu cpu).hand (pass o Install h).perm hands) }
   modest (Topup vm) o h = record { slot = tt; hand = tt; range = tt; part = at-most 512 (frames l (x_at o (Topup vm)).guest + (hand_of (s.cpu cpu)).count) (or-neither (is_none (s.cpu cpu).hand) (nat_lt 512 (frames l (x_at o (Topup vm)).guest + (hand_of (s.cpu cpu)).count)) (pass o (Topup vm) h).perm).1 }
   modest (ReclaimPage vm g) o h = record { slot = tt; hand = tt; range = page-range l g (or-neither (nat_le 64 vm.slot) (not (is_good_page l g)) (pass o (ReclaimPage vm g) h).invalid).1; part = tt }
-  modest (ReclaimPool vm) o h = record { slot = tt; hand = tt; range = tt; part = tt }
-  modest FinishGuest o h = record { slot = tt; hand = tt; range = tt; part = tt }
   modest (GuestRelax g p) o h = record { slot = tt; hand = tt; range = page-range l g (pass o (GuestRelax g p) h).invalid; part = tt }
-  modest (GuestTranslate vm g) o h = record { slot = tt; hand = tt; range = tt; part = tt }
-  modest MarkDying o h = record { slot = tt; hand = tt; range = tt; part = tt }
   modest (VmReserve kind n) o h = let p = pass o (VmReserve kind n) h in record { slot = (few n p.invalid, none-loaded (or-neither (is_some (s.cpu cpu).ticket) (is_none (vacant_slot s.vms)) p.busy).1); hand = tt; range = tt; part = tt }
-  modest VmOpen o h = record { slot = tt; hand = tt; range = tt; part = tt }
   modest (VcpuLoad vm i) o h = record { slot = at-least ((x_at o (VcpuLoad vm i)).vms.slot vm.slot).vcpus i (pass o (VcpuLoad vm i) h).perm; hand = tt; range = tt; part = tt }
-  modest VcpuPut o h = record { slot = tt; hand = tt; range = tt; part = tt }
-  modest (Teardown vm) o h = record { slot = tt; hand = tt; range = tt; part = tt }
   modest VmRelease o h = record { slot = released (has_stage Booked (s.cpu cpu)) (has_stage Finished (s.cpu cpu)) refl refl (not-false (has_stage Booked (s.cpu cpu) || has_stage Finished (s.cpu cpu)) (pass o VmRelease h).no_vm); hand = tt; range = tt; part = tt }
+  modest step o h = record { slot = tt; hand = tt; range = tt; part = tt }
 
 -- the VM part where a call may use it
 grown-if : (b : Bool) (z : Vms) (h : SlotChange) → ModestSlot (if b then z else no_vms) h → (v : ℕ) → ((if b then vms_by h (if b then z else no_vms) else z).slot v).generation ≤ (z.slot v).generation + one b

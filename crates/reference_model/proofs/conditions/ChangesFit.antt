@@ -10,6 +10,7 @@ use Rattle.page_state.specs.declared.entry.Entry.TheVariants.{Unmapped, Malforme
 use Rattle.page_state.specs.declared.entry.PageRange.{PageRange}
 use Rattle.page_state.specs.declared.layout.Region.{Region}
 use Rattle.page_state.specs.declared.reply.Value.{Value}
+use Rattle.page_state.specs.declared.row.Usage.TheVariants.{VmPool, InHand}
 use Rattle.page_state.specs.declared.step.Step.{Step}
 use Rattle.page_state.specs.declared.step.Step.TheVariants.{ShareHyp, UnshareHyp, DonateHyp, HypDonateHost, HostAbort, HostTranslate, HypTranslate, OwnerOf, Fund, Unfund, ShareGuest, UnshareGuest, DonateGuest, GuestShareHost, GuestUnshareHost, Install, Topup, ReclaimPage, ReclaimPool, FinishGuest, GuestRelax, GuestTranslate, MarkDying, VmReserve, VmOpen, VcpuLoad, VcpuPut, Teardown, VmRelease}
 use Rattle.page_state.specs.Accepted.{IsAcceptedLayout}
@@ -29,8 +30,7 @@ use Rattle.reference_model.specs.declared.changes.Stage.TheVariants.{DyingVm as 
 use Rattle.reference_model.specs.Answers.{decides}
 use Rattle.reference_model.specs.ChangeLaws.{FitsWhere, AllFit, ChangesFit, TouchedFits, TouchedWhole}
 use Rattle.reference_model.specs.Changes.{change, no_changes}
-use Rattle.reference_model.specs.Conditions.{Legal, IsUsable, is_inside}
-use Rattle.reference_model.specs.GuestRules.{least}
+use Rattle.reference_model.specs.Conditions.{hyps, Legal, IsUsable}
 use Rattle.reference_model.specs.Parts.{names, guest_slot, lacks_slot}
 use Rattle.reference_model.specs.Rule.{Rule}
 use Rattle.reference_model.specs.Rules.{rule}
@@ -45,10 +45,11 @@ use Rattle.reference_model.proofs.ChangesUsed.{lacking}
 use Rattle.reference_model.proofs.conditions.AbortStep.{abort-edit}
 use Rattle.reference_model.proofs.conditions.Keeps.{named-slot, loaded-at, staged-at}
 use Rattle.reference_model.proofs.conditions.PageSteps.{mapped-named, named-memory, good-page}
-use Rattle.reference_model.proofs.conditions.PoolSteps.{least-was, root-left, returned-memory}
+use Rattle.reference_model.proofs.conditions.PoolSteps.{least-was, root-left}
 use Rattle.reference_model.proofs.conditions.RunsLegal.{accepted_usable, few-pages}
 use Rattle.reference_model.proofs.conditions.Slots.{ticket-fits}
-use Rattle.reference_model.proofs.conditions.SharedSteps.{Tested, tested, within-made, one-within, range-in, good-range, hand-range, hand-some, in_hand-hyps}
+use Rattle.reference_model.proofs.conditions.RangeMoves.{within-made, one-within, one-frame, range-in, good-range, hand-some, hand-was, memory-of}
+use Rattle.reference_model.proofs.conditions.Tests.{Tested, tested}
 
 -- the row of the first frame of a host's change, by the loan that the changes tell
 row-below : (cpu : ℕ) (slot : Option ℕ) (h : Changes) (f n : ℕ) (e : Entry) → HasLentBelow (borrower slot h) n → f + n ≤ 2 ^ 63 → HasPageBelow (row_by cpu slot h f e) n
@@ -62,6 +63,10 @@ row-below cpu slot h f n (Leaf g p k SharedBorrowed) b low = low
 of-some : {X : Type 0} (P : X → Type 0) (x y : X) → P x → Some x ≡ Some y → P y
 of-some P x y p e = let same : x ≡ y = cc in subst P same p
 
+-- changes of maps, and of all else
+abbrev changing : (host hyp guest : Option MapChange) (moved : Option PageRange) (part : GuestChange) (slots : SlotChange) (k : CpuChange) (value : Value) → Changes
+changing host hyp guest moved part slots k value = record { host = host; hyp = hyp; guest = guest; part = part; slot = slots; cpu = k; moved = moved; value = value }
+
 -- what the changes write
 record Writes (l : Layout) (cpu : ℕ) (slot : Option ℕ) (h : Changes) : Type 0 where
   fit : AllFit l.depth h
@@ -70,11 +75,11 @@ record Writes (l : Layout) (cpu : ℕ) (slot : Option ℕ) (h : Changes) : Type 
 module _ (l : Layout) (usable : IsUsable l) (few : pages_below l.depth ≤ 2 ^ 36) (cpu : ℕ) (slot : Option ℕ) {part : GuestChange} {slots : SlotChange} {k : CpuChange} {value : Value} where
   -- the host's range changes, and what fits of the other maps
   host-writes : (f n : ℕ) (e : Entry) (hyp guest : Option MapChange) →
-      let h : Changes = record { host = change f n e; hyp = hyp; guest = guest; part = part; slot = slots; cpu = k; moved = None; value = value } in
+      let h : Changes = changing (change f n e) hyp guest None part slots k value in
       1 ≤ n → f + n ≤ pages_below l.depth → IsRangeEntry n e → FitsWhere l.depth hyp → FitsWhere l.depth guest → HasLentBelow (borrower slot h) n → ((q : ℕ) → is_within f n q ≡ true → is_memory l q ≡ is_memory l f) → Writes l cpu slot h
   host-writes f n e hyp guest some low entry a b lent whole =
       let range : PageRange = record { first = record { 0 = f }; count = n } in
-      let h : Changes = record { host = change f n e; hyp = hyp; guest = guest; part = part; slot = slots; cpu = k; moved = None; value = value } in
+      let h : Changes = changing (change f n e) hyp guest None part slots k value in
       let small : f + n ≤ 2 ^ 63 = omega arith in
       record {
         fit = record { host = record { some = some; within = low; entry = entry }; hyp = a; guest = b };
@@ -87,7 +92,7 @@ module _ (l : Layout) (usable : IsUsable l) (few : pages_below l.depth ≤ 2 ^ 3
 
   -- a range of memory and its pages of the hypervisor
   range-writes : (f n : ℕ) (e e' : Entry) → 1 ≤ n → ((q : ℕ) → is_within f n q ≡ true → is_memory l q ≡ true) → (f + n ≤ 2 ^ 36 → IsRangeEntry n e) → (f + n ≤ 2 ^ 36 → IsRangeEntry n e')
-      → Writes l cpu slot (record { host = change f n e; hyp = change (hyp_page f) n e'; guest = None; part = part; slot = slots; cpu = k; moved = None; value = value })
+      → Writes l cpu slot (changing (change f n e) (change (hyp_page f) n e') None None part slots k value)
   range-writes f n e e' some all a b =
       let low = range-in l usable f n some all in
       let first : is_memory l f ≡ true = all f (within-made f n f (omega arith) (omega arith)) in
@@ -95,28 +100,28 @@ module _ (l : Layout) (usable : IsUsable l) (few : pages_below l.depth ≤ 2 ^ 3
 
   -- a memory frame's page and its page of the hypervisor
   frame-writes : (f : ℕ) (e e' : Entry) → is_memory l f ≡ true → (f + 1 ≤ 2 ^ 36 → IsRangeEntry 1 e) → (f + 1 ≤ 2 ^ 36 → IsRangeEntry 1 e')
-      → Writes l cpu slot (record { host = change f 1 e; hyp = change (hyp_page f) 1 e'; guest = None; part = part; slot = slots; cpu = k; moved = None; value = value })
-  frame-writes f e e' memory = range-writes f 1 e e' (omega arith) (λ q w. subst (λ j. is_memory l j ≡ true) (one-within f q w) memory)
+      → Writes l cpu slot (changing (change f 1 e) (change (hyp_page f) 1 e') None None part slots k value)
+  frame-writes f e e' memory = range-writes f 1 e e' (omega arith) (one-frame f (λ q. is_memory l q ≡ true) memory)
 
   -- a good range and its pages of the hypervisor
   good-writes : (f n : ℕ) (e e' : Entry) → not (is_good_range l f n) ≡ false → (f + n ≤ 2 ^ 36 → IsRangeEntry n e) → (f + n ≤ 2 ^ 36 → IsRangeEntry n e')
-      → Writes l cpu slot (record { host = change f n e; hyp = change (hyp_page f) n e'; guest = None; part = part; slot = slots; cpu = k; moved = None; value = value })
+      → Writes l cpu slot (changing (change f n e) (change (hyp_page f) n e') None None part slots k value)
   good-writes f n e e' good = let g = good-range l f n (not-false (is_good_range l f n) good) in range-writes f n e e' g.0 g.1
 
   -- a memory frame's page and a page of the guest
   pages-writes : (f : ℕ) (e : Entry) (g : ℕ) (e' : Entry) → is_memory l f ≡ true → g < pages_below l.depth → (f + 1 ≤ 2 ^ 36 → IsRangeEntry 1 e) → (f + 1 ≤ 2 ^ 36 → IsRangeEntry 1 e')
-      → Writes l cpu slot (record { host = change f 1 e; hyp = None; guest = change g 1 e'; part = part; slot = slots; cpu = k; moved = None; value = value })
+      → Writes l cpu slot (changing (change f 1 e) None (change g 1 e') None part slots k value)
   pages-writes f e g e' memory page a b =
-      let all : (q : ℕ) → is_within f 1 q ≡ true → is_memory l q ≡ true = λ q w. subst (λ j. is_memory l j ≡ true) (one-within f q w) memory in
+      let all : (q : ℕ) → is_within f 1 q ≡ true → is_memory l q ≡ true = one-frame f (λ q. is_memory l q ≡ true) memory in
       let low = range-in l usable f 1 (omega arith) all in
       host-writes f 1 e None (change g 1 e') (omega arith) (omega arith) (a (omega arith)) tt (record { some = omega arith; within = omega arith; entry = b (omega arith) }) (let small : g + 1 ≤ 2 ^ 63 = omega arith in small) (λ q w. all q w ∙ sym memory)
 
   -- the host's map stays
-  still-writes : (guest : Option MapChange) → FitsWhere l.depth guest → Writes l cpu slot (record { host = None; hyp = None; guest = guest; part = part; slot = slots; cpu = k; moved = None; value = value })
+  still-writes : (guest : Option MapChange) → FitsWhere l.depth guest → Writes l cpu slot (changing None None guest None part slots k value)
   still-writes guest a = record { fit = record { host = tt; hyp = tt; guest = a }; touched = record { whole = λ f h. cc; small = λ r h. cc; row = λ r h. cc } }
 
   -- memory frames change use
-  moved-writes : (o : Option PageRange) → 1 ≤ (unwrap_or o no_range).count → ((q : ℕ) → is_within (unwrap_or o no_range).first.0 (unwrap_or o no_range).count q ≡ true → is_memory l q ≡ true) → Writes l cpu slot (record { host = None; hyp = None; guest = None; part = part; slot = slots; cpu = k; moved = o; value = value })
+  moved-writes : (o : Option PageRange) → 1 ≤ (unwrap_or o no_range).count → ((q : ℕ) → is_within (unwrap_or o no_range).first.0 (unwrap_or o no_range).count q ≡ true → is_memory l q ≡ true) → Writes l cpu slot (changing None None None o part slots k value)
   moved-writes None some all = still-writes None tt
   moved-writes (Some r) some all =
       let low = range-in l usable r.first.0 r.count some all in
@@ -143,17 +148,24 @@ module _ (l : Layout) (s : Contents) (legal : Legal l s) (usable : IsUsable l) (
   abbrev WritesAt : Option ℕ → Step → Type 0
   WritesAt slot step = first_test (r_at slot step) (lacks_slot (names step) slot) ≡ None → Writes l cpu slot (r_at slot step).changes
 
+  -- a guest's entry of a page, and the frame that it maps
+  abbrev entry_at : ℕ → ℕ → Entry
+  entry_at v g = (s.guest v).tree.map g
+
+  abbrev frame_at : ℕ → ℕ → ℕ
+  frame_at v g = frame_of (entry_at v g)
+
   -- what a guest's page maps is memory
-  mapped-memory : (v g : ℕ) → is_unmapped ((s.guest v).tree.map g) ≡ false → is_memory l (frame_of ((s.guest v).tree.map g)) ≡ true
-  mapped-memory v g h = let at = mapped-named l s legal v g h in named-memory l s legal (frame_of ((s.guest v).tree.map g)) v g at.0 at.1.named
+  mapped-memory : (v g : ℕ) → is_unmapped (entry_at v g) ≡ false → is_memory l (frame_at v g) ≡ true
+  mapped-memory v g h = let at = mapped-named l s legal v g h in named-memory l s legal (frame_at v g) v g at.0 at.1.named
 
   -- an entry that is a leaf of that frame too can be said where the frame's leaf can
-  turned : (v g : ℕ) (turn : Entry → Entry) → ((p : Prot) (n : ℕ) (state : State) → n + 1 ≤ 2 ^ 36 → IsRangeEntry 1 (turn (leaf p n state))) → is_unmapped ((s.guest v).tree.map g) ≡ false → frame_of ((s.guest v).tree.map g) + 1 ≤ 2 ^ 36 → IsRangeEntry 1 (turn ((s.guest v).tree.map g))
-  turned v g turn says h low = let at = mapped-named l s legal v g h in subst (λ e. IsRangeEntry 1 (turn e)) (sym at.1.is_leaf.1) (says at.1.is_leaf.0 (frame_of ((s.guest v).tree.map g)) at.0 low)
+  turned : (v g : ℕ) (turn : Entry → Entry) → ((p : Prot) (n : ℕ) (state : State) → n + 1 ≤ 2 ^ 36 → IsRangeEntry 1 (turn (leaf p n state))) → is_unmapped (entry_at v g) ≡ false → frame_at v g + 1 ≤ 2 ^ 36 → IsRangeEntry 1 (turn (entry_at v g))
+  turned v g turn says h low = let at = mapped-named l s legal v g h in subst (λ e. IsRangeEntry 1 (turn e)) (sym at.1.is_leaf.1) (says at.1.is_leaf.0 (frame_at v g) at.0 low)
 
   -- the hand's frames are memory
   hand-memory : is_none (s.cpu cpu).hand ≡ false → (q : ℕ) → is_within (hand_of (s.cpu cpu)).first.0 (hand_of (s.cpu cpu)).count q ≡ true → is_memory l q ≡ true
-  hand-memory some q w = sym (legal.of_layout.inside q) ∙ ap is_inside (in_hand-hyps cpu (legal.condition q) (sym (legal.held.hand cpu q) ∙ hand-range (s.cpu cpu).hand q some ∙ w))
+  hand-memory some = memory-of legal (hyps (InHand cpu)) refl (hand_of (s.cpu cpu)).first.0 (hand_of (s.cpu cpu)).count (hand-was legal cpu some)
 
   hand-count : is_none (s.cpu cpu).hand ≡ false → 1 ≤ (hand_of (s.cpu cpu)).count
   hand-count some = hand-some (s.cpu cpu).hand some (legal.slots.some_hand cpu)
@@ -188,10 +200,14 @@ module _ (l : Layout) (s : Contents) (legal : Legal l s) (usable : IsUsable l) (
   pass slot step h = tested (r_at slot step) (lacks_slot (names step) slot) h
 
   -- the page of a guest's frame in a state, and the guest's page
-  guest-writes : {part : GuestChange} {slots : SlotChange} {k : CpuChange} {value : Value} (v g : ℕ) (e e' : Entry) (state : State) → not (is_in state ((s.guest v).tree.map g)) ≡ false → not (is_good_page l g) ≡ false
-      → (frame_of ((s.guest v).tree.map g) + 1 ≤ 2 ^ 36 → IsRangeEntry 1 e) → (frame_of ((s.guest v).tree.map g) + 1 ≤ 2 ^ 36 → IsRangeEntry 1 e')
-      → Writes l cpu (Some v) (record { host = change (frame_of ((s.guest v).tree.map g)) 1 e; hyp = None; guest = change g 1 e'; part = part; slot = slots; cpu = k; moved = None; value = value })
-  guest-writes v g e e' state perm good = pages-writes l usable few cpu (Some v) (frame_of ((s.guest v).tree.map g)) e g e' (mapped-memory v g (in-mapped state ((s.guest v).tree.map g) (not-false (is_in state ((s.guest v).tree.map g)) perm))) (good-page l g good)
+  guest-writes : {part : GuestChange} {slots : SlotChange} {k : CpuChange} {value : Value} (v g : ℕ) (e e' : Entry) (state : State) → not (is_in state (entry_at v g)) ≡ false → not (is_good_page l g) ≡ false
+      → (frame_at v g + 1 ≤ 2 ^ 36 → IsRangeEntry 1 e) → (frame_at v g + 1 ≤ 2 ^ 36 → IsRangeEntry 1 e')
+      → Writes l cpu (Some v) (changing (change (frame_at v g) 1 e) None (change g 1 e') None part slots k value)
+  guest-writes v g e e' state perm good = pages-writes l usable few cpu (Some v) (frame_at v g) e g e' (mapped-memory v g (in-mapped state (entry_at v g) (not-false (is_in state (entry_at v g)) perm))) (good-page l g good)
+
+  -- a frame that a guest's pool or root gives back
+  held-writes : {part : GuestChange} {slots : SlotChange} {k : CpuChange} {value : Value} (v f : ℕ) → legal.condition f ≡ hyps (VmPool v) → Writes l cpu (Some v) (changing (change f 1 Unmapped) (change (hyp_page f) 1 Unmapped) None None part slots k value)
+  held-writes v f was = range-writes l usable few cpu (Some v) f 1 Unmapped Unmapped (omega arith) (memory-of legal (hyps (VmPool v)) refl f 1 (one-frame f (λ q. legal.condition q ≡ hyps (VmPool v)) was)) (λ k. tt) (λ k. tt)
 
   each : (step : Step) (o : Option ℕ) → o ≡ guest_slot (s.cpu cpu) step → WritesAt o step
   unfolding rule used_of
@@ -209,27 +225,27 @@ module _ (l : Layout) (s : Contents) (legal : Legal l s) (usable : IsUsable l) (
       guest-writes v g _ _ SharedBorrowed p.perm (or-neither (nat_le 64 vm.slot) (not (is_good_page l g)) p.invalid).1 (λ k. k) (λ k. tt)
   each (GuestShareHost g) (Some v) e h =
       let p = pass (Some v) (GuestShareHost g) h in
-      guest-writes v g _ _ Owned p.perm p.invalid (λ k. k) (turned v g (with_state SharedOwned) (λ p n state k. k) (in-mapped Owned _ (not-false (is_in Owned ((s.guest v).tree.map g)) p.perm)))
+      guest-writes v g _ _ Owned p.perm p.invalid (λ k. k) (turned v g (with_state SharedOwned) (λ p n state k. k) (in-mapped Owned _ (not-false (is_in Owned (entry_at v g)) p.perm)))
   each (GuestUnshareHost g) (Some v) e h =
       let p = pass (Some v) (GuestUnshareHost g) h in
-      guest-writes v g _ _ SharedOwned p.perm p.invalid (for-guest v _ (loaded-at l usable s legal cpu known v (sym e)).0) (turned v g (with_state Owned) (λ p n state k. k) (in-mapped SharedOwned _ (not-false (is_in SharedOwned ((s.guest v).tree.map g)) p.perm)))
+      guest-writes v g _ _ SharedOwned p.perm p.invalid (for-guest v _ (loaded-at l usable s legal cpu known v (sym e)).0) (turned v g (with_state Owned) (λ p n state k. k) (in-mapped SharedOwned _ (not-false (is_in SharedOwned (entry_at v g)) p.perm)))
   each (ReclaimPage vm g) (Some v) e h =
       let p = pass (Some v) (ReclaimPage vm g) h in
-      pages-writes l usable few cpu (Some v) _ _ g _ (mapped-memory v g p.perm) (good-page l g (or-neither (nat_le 64 vm.slot) (not (is_good_page l g)) p.invalid).1) (reclaimed (is_in Owned ((s.guest v).tree.map g)) (frame_of ((s.guest v).tree.map g))) (λ k. tt)
+      pages-writes l usable few cpu (Some v) _ _ g _ (mapped-memory v g p.perm) (good-page l g (or-neither (nat_le 64 vm.slot) (not (is_good_page l g)) p.invalid).1) (reclaimed (is_in Owned (entry_at v g)) (frame_at v g)) (λ k. tt)
   each Install (Some v) e h = let some = (pass (Some v) Install h).perm in moved-writes l usable few cpu (Some v) (s.cpu cpu).hand (hand-count some) (hand-memory some)
   each (Topup vm) (Some v) e h = let some = (or-neither (is_none (s.cpu cpu).hand) _ (pass (Some v) (Topup vm) h).perm).0 in moved-writes l usable few cpu (Some v) (s.cpu cpu).hand (hand-count some) (hand-memory some)
   each (ReclaimPool vm) (Some v) e h =
       let slot = named-slot vm v (sym e) in
-      range-writes l usable few cpu (Some v) (least (s.guest v).free) 1 Unmapped Unmapped (omega arith) (returned-memory l s legal usable cpu v slot (least (s.guest v).free) (least-was l s legal usable cpu v slot (pass (Some v) (ReclaimPool vm) h).perm)) (λ k. tt) (λ k. tt)
+      held-writes v _ (least-was l s legal usable cpu v slot (pass (Some v) (ReclaimPool vm) h).perm)
   each FinishGuest (Some v) e h =
       let a = staged-at l usable s legal cpu known dying_vm v (sym e) in
       let here = ticket-fits s legal.slots cpu v dying_vm a.1.0 a.1.1 a.1.2 a.1.3 in
-      range-writes l usable few cpu (Some v) _ 1 Unmapped Unmapped (omega arith) (returned-memory l s legal usable cpu v a.0 _ (root-left l s legal usable cpu v a.0 here.1 (pass (Some v) FinishGuest h).perm).was) (λ k. tt) (λ k. tt)
+      held-writes v _ (root-left l s legal usable cpu v a.0 here.1 (pass (Some v) FinishGuest h).perm).was
   each (GuestRelax g p) (Some v) e h =
       let t = pass (Some v) (GuestRelax g p) h in
       let low = good-page l g t.invalid in
-      let mapped = in-mapped SharedBorrowed ((s.guest v).tree.map g) (not-false (is_in SharedBorrowed ((s.guest v).tree.map g)) t.perm) in
-      let memory = usable.pages (frame_of ((s.guest v).tree.map g)) (mapped-memory v g mapped) in
+      let mapped = in-mapped SharedBorrowed (entry_at v g) (not-false (is_in SharedBorrowed (entry_at v g)) t.perm) in
+      let memory = usable.pages (frame_at v g) (mapped-memory v g mapped) in
       still-writes l usable few cpu (Some v) _ (record { some = omega arith; within = omega arith; entry = turned v g (with_rights p) (λ p n state k. k) mapped (omega arith) })
   each (GuestTranslate vm g) (Some v) e h = still-writes l usable few cpu (Some v) None tt
   each MarkDying (Some v) e h = still-writes l usable few cpu (Some v) None tt

@@ -1,34 +1,31 @@
 -- A made step on the Shared part and a guest that moves a range of frames to one condition that names no other guest.
-use Rattle.std.proofs.Common.{◌≡◌, ◌≢◌, ℕ, ◌+◌, ◌≤◌, ◌<◌, refl, ap, sym, ◌∙◌, subst, arith, inl, inr, length, drop}
+use Rattle.std.proofs.Common.{◌≡◌, ◌≢◌, ℕ, ◌+◌, ◌≤◌, refl, ap, sym, ◌∙◌, subst, arith, inl, inr, length}
 use Rattle.std.specs.Prelude.{Bool, true, false, ◌==◌, Some}
 use Rattle.descriptor.specs.declared.State.{State}
 use Rattle.descriptor.specs.declared.State.TheVariants.{Owned, SharedOwned, SharedBorrowed}
 use Rattle.page_state.specs.declared.entry.Entry.{Entry}
-use Rattle.page_state.specs.declared.entry.Entry.TheVariants.{Unmapped}
+use Rattle.page_state.specs.declared.entry.PageRange.{PageRange}
 use Rattle.page_state.specs.declared.row.Usage.TheVariants.{Plain, SharedPool, VmPool, InHand}
 use Rattle.page_state.specs.declared.step.Step.{Step}
 use Rattle.page_state.specs.EntryTests.{maps_frame}
 use Rattle.page_state.specs.Map.{is_within}
-use Rattle.reference_model.specs.State.{Guest, Cpu, Contents, empty, put_at, no_guest, no_cpu, blank}
-use Rattle.page_state.specs.Layouts.{Layout, is_memory, hyp_page}
-use Rattle.reference_model.specs.Owner.{row_of, is_in_hand}
+use Rattle.reference_model.specs.State.{Guest, Cpu, Contents, empty, put_at, no_guest, blank}
+use Rattle.page_state.specs.Layouts.{Layout, is_memory}
+use Rattle.reference_model.specs.Owner.{row_of}
 use Rattle.reference_model.specs.Parts.{names, shared_and_guest}
 use Rattle.reference_model.specs.Used.{Used, used_of, put_back}
 use Rattle.reference_model.specs.declared.changes.Changes.{Changes}
-use Rattle.reference_model.specs.Changes.{edit_of, cpu_by, touched}
-use Rattle.reference_model.specs.Step.{is_touched, changed, with_rows, own_row, shared_after, shared_need, guest_after}
-use Rattle.page_state.specs.Tables.{edited_map, edited, need}
-use Rattle.reference_model.specs.ConditionChanges.{told_condition}
-use Rattle.reference_model.specs.RowChanges.{told_row, first_of}
-use Rattle.reference_model.specs.Conditions.{Condition, outside, hosts, with_hyp, hyps, with_guest, guests, lent_back, HostFits, hyp_says, guest_condition, GuestFits, IsMemoryLeaf, MapsFit, HeldFit, IsOfLayout, Legal, IsUsable, row_in, in_shared, in_vm, in_hand, one, guest_uses, IsTidy, AreTidy, GuestsFit, SlotsFit, RowsFit, is_inside, IsGood}
+use Rattle.reference_model.specs.Changes.{cpu_by}
+use Rattle.reference_model.specs.Step.{changed, with_rows, own_row, shared_after, shared_need, guest_after}
+use Rattle.page_state.specs.Tables.{edited}
+use Rattle.reference_model.specs.Conditions.{Condition, outside, hosts, with_hyp, hyps, with_guest, guests, lent_back, guest_condition, GuestFits, IsMemoryLeaf, MapsFit, HeldFit, Legal, IsUsable, row_in, in_vm, one, guest_uses, IsTidy, AreTidy, GuestsFit, SlotsFit, RowsFit}
 use Rattle.page_state.proofs.Common.{both, eq-same, eq-self, if-true, if-false}
 use Rattle.reference_model.proofs.Steps.{state_of}
-use Rattle.reference_model.proofs.conditions.Stands.{SharedStands, GuestsStand, HandsStand, row-stands}
-use Rattle.reference_model.proofs.conditions.OfLegal.{shared-of, guests-of}
-use Rattle.reference_model.proofs.conditions.Tables.{IsInRange}
-use Rattle.reference_model.proofs.conditions.Conserved.{shared-conserved, edited-tidy}
-use Rattle.reference_model.proofs.conditions.Moves.{moved_to, moved-in, moved-out, moved-told, moved-fact, moved-all, SameSlots, same-agree, rows-moved}
-use Rattle.reference_model.proofs.conditions.SharedMoves.{first-touched, StepKept, no-uses, not-in}
+use Rattle.reference_model.proofs.conditions.Slots.{put-fact}
+use Rattle.reference_model.proofs.conditions.Stands.{GuestsStand, row-stands}
+use Rattle.reference_model.proofs.conditions.OfLegal.{guests-of}
+use Rattle.reference_model.proofs.conditions.Moves.{moved_to, moved-in, moved-out, moved-fact, SameSlots, same-agree, cpu-fact}
+use Rattle.reference_model.proofs.conditions.FrameMoves.{StepKept, FramesMove, no-uses, layout-after, held-after, host-tidy, hyp-tidy, rows-after, shared-stands, hand-stands, kept-after}
 
 -- a condition that names no guest but this one
 abbrev pub only : ℕ → Condition → Bool
@@ -67,30 +64,17 @@ new_guest l s v r = guest_after l.depth r (s.guest v)
 abbrev pub new_cpu : Contents → ℕ → Changes → Cpu
 new_cpu s cpu r = cpu_by r.cpu (s.cpu cpu)
 
--- what a rule on the Shared part and a guest does to the conditions
+-- what a rule on the Shared part and a guest does to the conditions: a range of frames goes from conditions that name no other guest to one such condition
 pub record GuestMove (l : Layout) (s : Contents) (condition : ℕ → Condition) (cpu v : ℕ) (r : Changes) (first n : ℕ) (c : Condition) : Type 0 where
-  pub inside : (f : ℕ) → is_within first n f ≡ true → is_memory l f ≡ is_inside c
-  pub good : IsGood l c
+  pub frames : FramesMove l s condition cpu (Some v) r first n c
   pub only_new : only v c ≡ true
   pub only_old : (f : ℕ) → is_within first n f ≡ true → only v (condition f) ≡ true
-  pub same_use : (f : ℕ) → is_within first n f ≡ true → in_shared (condition f) ≡ in_shared c
-  pub host : (p : ℕ) → HostFits p (moved_to c first n condition p) (edited_map s.shared.host.map (edit_of r.host) p)
-  pub hyp : (f : ℕ) → edited_map s.shared.hyp.map (edit_of r.hyp) (hyp_page f) ≡ hyp_says f (moved_to c first n condition f)
-  pub hyp_below : (p : ℕ) → p < hyp_page 0 → edited_map s.shared.hyp.map (edit_of r.hyp) p ≡ Unmapped
-  pub touched : (f : ℕ) → is_touched r f ≡ is_within first n f
-  pub told : (f : ℕ) → is_within first n f ≡ true → row_in f c ≡ told_row cpu (Some v) r f
-  pub goes : (f : ℕ) → is_within first n f ≡ true → is_memory l f ≡ true → c ≡ told_condition cpu (Some v) r
-  pub host_range : IsInRange l.depth (edit_of r.host)
-  pub hyp_range : IsInRange l.depth (edit_of r.hyp)
-  pub enough : shared_need l.depth r s.shared ≤ length s.shared.free
   pub guest : (p : ℕ) → GuestFits (moved_to c first n condition) v p ((new_guest l s v r).tree.map p)
   pub guest_has : (p f : ℕ) (state : State) → moved_to c first n condition f ≡ guest_condition state v p → IsMemoryLeaf f state ((new_guest l s v r).tree.map p)
   pub held : (f : ℕ) → guest_uses l.depth (new_guest l s v r) f ≡ one (in_vm v (moved_to c first n condition f))
   pub tidy : IsTidy l.depth (new_guest l s v r).tree
   pub blank : (new_guest l s v r).phase ≡ empty → new_guest l s v r ≡ no_guest
   pub rooted : (new_guest l s v r).phase ≢ empty → (root : ℕ) × ((new_guest l s v r).tree.table (l.depth + 1, 0) ≡ Some root)
-  pub hand : (d f : ℕ) → is_in_hand (put_at s.cpu cpu (new_cpu s cpu r) d).hand f ≡ in_hand d (moved_to c first n condition f)
-  pub own_hand : (d : ℕ) → in_hand d c ≡ true → d ≡ cpu
   pub slots : SlotsFit (state_of s.vms s.shared (put_at s.guest v (new_guest l s v r)) (put_at s.cpu cpu (new_cpu s cpu r)))
 
 -- what each guest is after one changed
@@ -99,6 +83,20 @@ guest-fact P g v new here there u = elim (both (u == v)) [
   | inl e ↦ subst (P u) (sym (if-true (u == v) new (g u) e)) (subst (λ w. P w new) (sym (eq-same u v e)) here)
   | inr e ↦ subst (P u) (sym (if-false (u == v) new (g u) e)) (there u e)
 ]
+
+-- the guest's slot, where its phase stays and the CPU keeps what it has loaded and its ticket
+pub slots-stay : {l : Layout} {s : Contents} (legal : Legal l s) (cpu v : ℕ) (g' : Guest) (k' : Cpu) → g'.phase ≡ (s.guest v).phase → g'.generation ≡ (s.guest v).generation → g'.kind ≡ (s.guest v).kind → k'.loaded ≡ (s.cpu cpu).loaded → k'.ticket ≡ (s.cpu cpu).ticket → ((h : PageRange) → k'.hand ≡ Some h → 1 ≤ h.count) → SlotsFit (state_of s.vms s.shared (put_at s.guest v g') (put_at s.cpu cpu k'))
+unfolding state_of
+slots-stay {l} {s} legal cpu v g' k' phase generation kind loaded ticket hand =
+    let same : SameSlots s (state_of s.vms s.shared (put_at s.guest v g') (put_at s.cpu cpu k')) = record {
+      slot = λ u. refl;
+      phase = guest-fact (λ u d. d.phase ≡ (s.guest u).phase) s.guest v g' phase (λ u d. refl);
+      generation = guest-fact (λ u d. d.generation ≡ (s.guest u).generation) s.guest v g' generation (λ u d. refl);
+      kind = guest-fact (λ u d. d.kind ≡ (s.guest u).kind) s.guest v g' kind (λ u d. refl);
+      loaded = λ d. cpu-fact (λ (j : Cpu). j.loaded) s.cpu cpu k' d loaded;
+      ticket = λ d. cpu-fact (λ (j : Cpu). j.ticket) s.cpu cpu k' d ticket;
+    } in
+    record { agree = same-agree s _ same legal.slots.agree; few_slots = legal.slots.few_slots; few_vcpus = legal.slots.few_vcpus; some_hand = put-fact (λ c (d : Cpu). (h : PageRange) → d.hand ≡ Some h → 1 ≤ h.count) s.cpu cpu k' hand (λ c e. legal.slots.some_hand c) }
 
 -- the blank guests but one say of the frame what its condition says, where that names no other
 only-guests : (l : Layout) (f v : ℕ) (c : Condition) (g : Guest) → only v c ≡ true
@@ -127,8 +125,8 @@ only-guests l f v c g o has alone held = record { has = λ u p state. has-at u p
       | inr e ↦ ap (λ (x : Guest). guest_uses l.depth x f) (if-false (u == v) g no_guest e) ∙ none ∙ ap one (sym (only-vm v u c o e))
     ]
 
-module _ (l : Layout) (s : Contents) (legal : Legal l s) (usable : IsUsable l) (cpu v : ℕ) (step : Step) (named : names step ≡ shared_and_guest) (r : Changes) (first n : ℕ) (c : Condition) (m : GuestMove l s legal.condition cpu v r first n c) where
-  after : ℕ → Condition
+module _ (l : Layout) (s : Contents) (legal : Legal l s) (usable : IsUsable l) (cpu v : ℕ) (step : Step) (named : names step ≡ shared_and_guest) (r : Changes) (first n : ℕ) (c : Condition) (m : GuestMove l s legal.condition cpu v r first n c) (enough : shared_need l.depth r s.shared ≤ length s.shared.free) where
+  abbrev after : ℕ → Condition
   after = moved_to c first n legal.condition
 
   y : Used
@@ -139,7 +137,6 @@ module _ (l : Layout) (s : Contents) (legal : Legal l s) (usable : IsUsable l) (
 
   -- another guest's entries
   other-fits : (u p : ℕ) (e : Entry) → (u == v) ≡ false → GuestFits legal.condition u p e → GuestFits after u p e
-  unfolding after
   other-fits u p e d (inl h) = inl h
   other-fits u p e d (inr h) = inr (record {
     frame = h.frame;
@@ -153,42 +150,35 @@ module _ (l : Layout) (s : Contents) (legal : Legal l s) (usable : IsUsable l) (
   })
 
   other-has : (u p f : ℕ) (state : State) → (u == v) ≡ false → after f ≡ guest_condition state u p → legal.condition f ≡ guest_condition state u p
-  unfolding after
   other-has u p f state d h = elim (both (is_within first n f)) [
     | inl w ↦ absurd (let same = only-named v c state u p m.only_new (sym (moved-in c first n legal.condition f w) ∙ h) in let bad : true ≡ false = sym (ap (λ z. z == v) same ∙ eq-self v) ∙ d in cc)
     | inr w ↦ sym (moved-out c first n legal.condition f w) ∙ h
   ]
 
   maps : MapsFit t after
-  unfolding t y after put_back with_rows changed used_of shared_after edited other-fits other-has
+  unfolding t y put_back with_rows changed used_of shared_after edited other-fits other-has
   maps = record {
-    host = m.host;
-    hyp = m.hyp;
-    hyp_below = m.hyp_below;
+    host = m.frames.host;
+    hyp = m.frames.hyp;
+    hyp_below = m.frames.hyp_below;
     guest = guest-fact (λ u g. (p : ℕ) → GuestFits after u p (g.tree.map p)) s.guest v (new_guest l s v r) m.guest (λ u d p. other-fits u p ((s.guest u).tree.map p) d (legal.maps.guest u p));
     guest_has = guest-fact (λ u g. (p f : ℕ) (state : State) → after f ≡ guest_condition state u p → IsMemoryLeaf f state (g.tree.map p)) s.guest v (new_guest l s v r) m.guest_has (λ u d p f state h. legal.maps.guest_has u p f state (other-has u p f state d h));
   }
 
   held : HeldFit l t after
-  unfolding t y after put_back with_rows changed used_of shared_after
+  unfolding t y put_back with_rows changed used_of shared_after
   held = record {
-    shared = λ f. shared-conserved l.depth r s.shared f m.host_range m.hyp_range m.enough ∙ legal.held.shared f ∙ ap one (moved-fact in_shared c first n legal.condition f (m.same_use f));
+    shared = held-after legal m.frames enough;
     vm = guest-fact (λ u g. (f : ℕ) → guest_uses l.depth g f ≡ one (in_vm u (after f))) s.guest v (new_guest l s v r) m.held
         (λ u d f. legal.held.vm u f ∙ ap one (moved-fact (in_vm u) c first n legal.condition f (λ w. only-vm v u (legal.condition f) (m.only_old f w) d ∙ sym (only-vm v u c m.only_new d))));
-    hand = m.hand;
+    hand = m.frames.hand;
   }
-
-  stands : (f : ℕ) → is_within first n f ≡ true → SharedStands l y.shared f c
-  unfolding t y after put_back with_rows changed used_of shared_after
-  stands f w =
-      let st = shared-of t after maps f l held in
-      subst (SharedStands l y.shared f) (moved-in c first n legal.condition f w) (record { host = st.host; host_alone = st.host_alone; hyp = st.hyp; hyp_alone = st.hyp_alone; held = st.held })
 
   guest-same : put_at s.guest v (new_guest l s v r) v ≡ new_guest l s v r
   guest-same = if-true (v == v) (new_guest l s v r) (s.guest v) (eq-self v)
 
   guest-stands : (f : ℕ) → is_within first n f ≡ true → GuestsStand l (put_at (λ u. no_guest) v y.guest) f c
-  unfolding t y after put_back with_rows changed used_of shared_after
+  unfolding t y put_back with_rows changed used_of shared_after
   guest-stands f w =
       let st = guests-of t after maps f l held in
       let at = moved-in c first n legal.condition f w in
@@ -197,27 +187,16 @@ module _ (l : Layout) (s : Contents) (legal : Legal l s) (usable : IsUsable l) (
       (λ p state e. sym at ∙ st.alone v p state (ap (λ (x : Guest). maps_frame f state (x.tree.map p)) guest-same ∙ e))
       (m.held f ∙ ap (λ d. one (in_vm v d)) at)
 
-  hand-stands : (f : ℕ) → is_within first n f ≡ true → HandsStand (put_at (λ d. no_cpu) cpu y.cpu) f c
-  unfolding y changed used_of
-  hand-stands f w d =
-      let k = new_cpu s cpu r in
-      let at = moved-in c first n legal.condition f w in
-      elim (both (d == cpu)) [
-        | inl e ↦ ap (λ (j : Cpu). is_in_hand j.hand f) (if-true (d == cpu) k no_cpu e) ∙ ap (λ (j : Cpu). is_in_hand j.hand f) (sym (if-true (d == cpu) k (s.cpu d) e)) ∙ m.hand d f ∙ ap (in_hand d) at
-        | inr e ↦ ap (λ (j : Cpu). is_in_hand j.hand f) (if-false (d == cpu) k no_cpu e) ∙ sym (not-in d c (λ h. let same = m.own_hand d h in let bad : true ≡ false = sym (ap (λ z. z == cpu) same ∙ eq-self cpu) ∙ e in cc))
-      ]
-
-  own-guest : (f : ℕ) → is_memory l f ≡ true → is_within first n f ≡ true → row_of l (put_back shared_and_guest (Some v) cpu blank y) f ≡ row_in f c
-  unfolding put_back
-  own-guest f mem w = row-stands l (put_back shared_and_guest (Some v) cpu blank y) f c (stands f w) (guest-stands f w) (hand-stands f w) m.good (λ i. usable.pages f mem)
-
   own : (f : ℕ) → is_memory l f ≡ true → is_within first n f ≡ true → own_row l cpu (Some v) step y f ≡ row_in f c
-  unfolding own_row
-  own f mem w = ap (λ k. row_of l (put_back k (Some v) cpu blank y) f) named ∙ own-guest f mem w
+  unfolding own_row t y put_back with_rows changed used_of shared_after
+  own f mem w =
+      let st = shared-stands legal m.frames t maps held f w in
+      ap (λ k. row_of l (put_back k (Some v) cpu blank y) f) named
+      ∙ row-stands l (put_back shared_and_guest (Some v) cpu blank y) f c (record { host = st.host; host_alone = st.host_alone; hyp = st.hyp; hyp_alone = st.hyp_alone; held = st.held }) (guest-stands f w) (hand-stands legal m.frames f w) m.frames.good (λ i. usable.pages f mem)
 
   rows : RowsFit l t after
-  unfolding t y after put_back with_rows changed used_of shared_after
-  rows f mem = rows-moved l (own_row l cpu (Some v) step y) s.shared.row (is_touched r f) c first n legal.condition f mem (m.touched f) (own f mem) (legal.rows f mem)
+  unfolding t y put_back with_rows changed used_of shared_after
+  rows = rows-after legal m.frames (own_row l cpu (Some v) step y) own
 
   slots : SlotsFit t
   unfolding t y put_back with_rows changed used_of state_of
@@ -226,12 +205,8 @@ module _ (l : Layout) (s : Contents) (legal : Legal l s) (usable : IsUsable l) (
       record { agree = same-agree _ t same m.slots.agree; few_slots = m.slots.few_slots; few_vcpus = m.slots.few_vcpus; some_hand = m.slots.some_hand }
 
   trees : AreTidy l t
-  unfolding t y put_back with_rows changed used_of shared_after
-  trees = record {
-    host = edited-tidy l.depth (edit_of r.host) s.shared.host s.shared.free m.host_range legal.trees.host;
-    hyp = edited-tidy l.depth (edit_of r.hyp) s.shared.hyp (drop (need l.depth s.shared.host (edit_of r.host)) s.shared.free) m.hyp_range legal.trees.hyp;
-    guest = guest-fact (λ u g. IsTidy l.depth g.tree) s.guest v (new_guest l s v r) m.tidy (λ u d. legal.trees.guest u);
-  }
+  unfolding t y put_back with_rows changed used_of
+  trees = record { host = host-tidy legal m.frames; hyp = hyp-tidy legal m.frames; guest = guest-fact (λ u g. IsTidy l.depth g.tree) s.guest v (new_guest l s v r) m.tidy (λ u d. legal.trees.guest u) }
 
   parts : GuestsFit l t
   unfolding t y put_back with_rows changed used_of
@@ -240,27 +215,7 @@ module _ (l : Layout) (s : Contents) (legal : Legal l s) (usable : IsUsable l) (
     rooted = guest-fact (λ u g. g.phase ≢ empty → (root : ℕ) × (g.tree.table (l.depth + 1, 0) ≡ Some root)) s.guest v (new_guest l s v r) m.rooted (λ u d. legal.guest_parts.rooted u);
   }
 
-  layout : IsOfLayout l after
-  unfolding after
-  layout = record {
-    inside = λ f. elim (both (is_within first n f)) [
-      | inl w ↦ ap is_inside (moved-in c first n legal.condition f w) ∙ sym (m.inside f w)
-      | inr w ↦ ap is_inside (moved-out c first n legal.condition f w) ∙ legal.of_layout.inside f
-    ];
-    good = λ f. moved-all (IsGood l) c first n legal.condition f m.good (legal.of_layout.good f);
-  }
-
   -- the step keeps the invariant
   pub guest-keeps : StepKept l s legal.condition shared_and_guest (Some v) cpu step r
-  unfolding t y after
-  guest-keeps = record {
-    legal = record { condition = after; of_layout = layout; maps = maps; held = held; rows = rows; trees = trees; guest_parts = parts; slots = slots };
-    told = λ f mem k. let w = sym (m.touched f) ∙ k in own f mem w ∙ m.told f w;
-    moved = λ f. moved-told l c (told_condition cpu (Some v) r) first n legal.condition f (is_touched r f) (m.touched f) (m.inside f) (legal.of_layout.inside f) (m.goes f);
-    whole = λ f k. m.inside f (sym (m.touched f) ∙ k) ∙ sym (m.inside (first_of (touched r)) (sym (m.touched (first_of (touched r))) ∙ first-touched (touched r) f k));
-  }
-
-  -- the row that the step finds again for a frame of the range is that of its new condition
-  pub own-row : (f : ℕ) → is_memory l f ≡ true → is_within first n f ≡ true → own_row l cpu (Some v) step (changed l.depth r (g_of v cpu s)) f ≡ row_in f c
-  unfolding y
-  own-row = own
+  unfolding t y
+  guest-keeps = kept-after legal m.frames shared_and_guest step (record { condition = after; of_layout = layout-after legal m.frames; maps = maps; held = held; rows = rows; trees = trees; guest_parts = parts; slots = slots }) (λ f. refl) own

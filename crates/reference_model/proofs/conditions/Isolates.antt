@@ -24,7 +24,7 @@ use Rattle.page_state.specs.Map.{Map, update, is_within}
 use Rattle.reference_model.specs.Parts.{names, guest_slot, loaded_slot, lacks_slot}
 use Rattle.reference_model.specs.Rules.{rule}
 use Rattle.reference_model.specs.Rule.{Rule}
-use Rattle.reference_model.specs.Sound.{owner, IsLeafOf, Maps, Holds, HasLoaded, StageFits}
+use Rattle.reference_model.specs.Sound.{owner, IsLeafOf, Maps, Holds, HasLoaded}
 use Rattle.reference_model.specs.State.{Guest, empty, live, dying, Contents, Reference}
 use Rattle.reference_model.specs.Step.{fails, made, Answered, guest_after, changed, with_rows, used_by}
 use Rattle.page_state.specs.Tables.{edited}
@@ -35,7 +35,9 @@ use Rattle.reference_model.proofs.conditions.Keeps.{legal_keeps, loaded-slot, st
 use Rattle.reference_model.proofs.conditions.OfLegal.{legal_rows, leaf-maps}
 use Rattle.reference_model.proofs.conditions.PageMoves.{advance-none}
 use Rattle.reference_model.proofs.conditions.RunsLegal.{ready-usable, run_legal}
-use Rattle.reference_model.proofs.conditions.SharedSteps.{Passed, passed, one-within}
+use Rattle.reference_model.proofs.conditions.Slots.{ticket-fits}
+use Rattle.reference_model.proofs.conditions.RangeMoves.{one-within}
+use Rattle.reference_model.proofs.conditions.Tests.{Passed, passed}
 use Rattle.reference_model.proofs.conditions.SoundOf.{two-more, holds-state, leaf-is}
 
 -- the guest has the frame as its own at the page: a leaf in state Owned or SharedOwned
@@ -100,18 +102,11 @@ module _ (l : Layout) (s : Contents) (legal : Legal l s) (cpu v g f : ℕ) (aliv
       let t = (and-both (phase_eq (s.guest v).phase dying) ((s.guest v).generation == vm.generation) (not-false (is_guest dying vm (s.guest v)) h)).0 in
       let bad : false ≡ true = sym (ap (λ p. phase_eq p dying) alive) ∙ t in cc
 
-  phase-of : (t : Ticket) → (s.cpu cpu).ticket ≡ Some t → t.vm.slot ≡ v → StageFits t.stage (s.vms.slot v).stand (s.guest v).phase
-  phase-of t has at = subst (λ u. StageFits t.stage (s.vms.slot u).stand (s.guest u).phase) at (legal.slots.agree.tickets.ticket cpu t has).fits
-
   not-booked : (t : Ticket) → (s.cpu cpu).ticket ≡ Some t → t.vm.slot ≡ v → t.stage ≡ Booked → ⊥
-  not-booked t has at stage =
-      let h : StageFits Booked (s.vms.slot v).stand (s.guest v).phase = subst (λ x. StageFits x (s.vms.slot v).stand (s.guest v).phase) stage (phase-of t has at) in
-      let bad : live ≡ empty = sym alive ∙ h.1 in cc
+  not-booked t has at stage = let bad : live ≡ empty = sym alive ∙ (ticket-fits s legal.slots cpu v Booked t has at stage).1 in cc
 
   not-ending : (t : Ticket) → (s.cpu cpu).ticket ≡ Some t → t.vm.slot ≡ v → t.stage ≡ DyingVm → ⊥
-  not-ending t has at stage =
-      let h : StageFits DyingVm (s.vms.slot v).stand (s.guest v).phase = subst (λ x. StageFits x (s.vms.slot v).stand (s.guest v).phase) stage (phase-of t has at) in
-      let bad : live ≡ dying = sym alive ∙ h.1 in cc
+  not-ending t has at stage = let bad : live ≡ dying = sym alive ∙ (ticket-fits s legal.slots cpu v DyingVm t has at stage).1 in cc
 
   abbrev x_at : Step → Used
   x_at step = used_of (names step) (Some v) cpu s

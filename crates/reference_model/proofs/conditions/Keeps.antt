@@ -29,8 +29,9 @@ use Rattle.reference_model.specs.RunLaws.{LegalKeeps, RowsTold}
 use Rattle.page_state.proofs.Common.{both, or-neither}
 use Rattle.reference_model.proofs.Steps.{used-self}
 use Rattle.reference_model.proofs.conditions.Moves.{LegalAlone, moved-none}
-use Rattle.reference_model.proofs.conditions.SharedMoves.{StepKept}
-use Rattle.reference_model.proofs.conditions.SharedSteps.{passed, share_hyp-keeps, unshare_hyp-keeps, donate_hyp-keeps, hyp_donate_host-keeps, fund-keeps, unfund-keeps}
+use Rattle.reference_model.proofs.conditions.FrameMoves.{StepKept}
+use Rattle.reference_model.proofs.conditions.SharedSteps.{share_hyp-keeps, unshare_hyp-keeps, donate_hyp-keeps, hyp_donate_host-keeps, fund-keeps, unfund-keeps}
+use Rattle.reference_model.proofs.conditions.Tests.{passed}
 use Rattle.reference_model.proofs.conditions.AbortStep.{host_abort-keeps, host_translate-keeps, hyp_translate-keeps, owner_of-keeps}
 use Rattle.reference_model.proofs.conditions.PageSteps.{donate_guest-keeps, share_guest-keeps, guest_share_host-keeps, guest_unshare_host-keeps, unshare_guest-keeps, reclaim_page-keeps}
 use Rattle.reference_model.proofs.conditions.PoolSteps.{reclaim_pool-keeps, finish_guest-keeps}
@@ -142,35 +143,8 @@ module _ (l : Layout) (usable : IsUsable l) (s : Contents) (legal : Legal l s) (
   each VcpuPut None e h = alone (vcpu_put-keeps l s legal cpu h) (λ f k. cc)
   each (Teardown vm) None e h = alone (keeps-if (Teardown vm) (λ x. teardown x vm) vm (λ x k. k) (teardown-made l s legal cpu vm) h) (λ f k. cc)
   each VmRelease None e h = alone (vm_release-keeps l s legal cpu h) (λ f k. cc)
-  each (ShareGuest f g p) None e h = lacking _ _ h
-  each (UnshareGuest vm g) None e h = lacking _ _ h
-  each (DonateGuest f g) None e h = lacking _ _ h
-  each (GuestShareHost g) None e h = lacking _ _ h
-  each (GuestUnshareHost g) None e h = lacking _ _ h
-  each Install None e h = lacking _ _ h
-  each (Topup vm) None e h = lacking _ _ h
-  each (ReclaimPage vm g) None e h = lacking _ _ h
-  each (ReclaimPool vm) None e h = lacking _ _ h
-  each FinishGuest None e h = lacking _ _ h
-  each (GuestRelax g p) None e h = lacking _ _ h
-  each (GuestTranslate vm g) None e h = lacking _ _ h
-  each MarkDying None e h = lacking _ _ h
-  each (ShareHyp f) (Some v) e h = cc
-  each (UnshareHyp f) (Some v) e h = cc
-  each (DonateHyp f n) (Some v) e h = cc
-  each (HypDonateHost f n) (Some v) e h = cc
-  each (HostAbort p) (Some v) e h = cc
-  each (HostTranslate p) (Some v) e h = cc
-  each (HypTranslate p) (Some v) e h = cc
-  each (OwnerOf p) (Some v) e h = cc
-  each (Fund f n) (Some v) e h = cc
-  each Unfund (Some v) e h = cc
-  each (VmReserve kind vcpus) (Some v) e h = cc
-  each VmOpen (Some v) e h = cc
-  each (VcpuLoad vm i) (Some v) e h = cc
-  each VcpuPut (Some v) e h = cc
-  each (Teardown vm) (Some v) e h = cc
-  each VmRelease (Some v) e h = cc
+  each step None e h = lacking (rule l cpu None step (x_at None step)) (x_at None step) h
+  each step (Some v) e h = cc
 
 -- what an answered call leaves
 answered : (l : Layout) (w : Bool) (s : Contents) (c : Call) (x y : Used) → Legal l (put_back (names c.step) c.slot c.cpu s x) → (fails l c.cpu c.slot c.step x ≡ None → Legal l (put_back (names c.step) c.slot c.cpu s (made l c.cpu c.slot c.step x))) → Answered l c.cpu c.slot c.step w x c.reply y → Legal l (put_back (names c.step) c.slot c.cpu s y)

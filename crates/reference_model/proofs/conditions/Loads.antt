@@ -17,7 +17,7 @@ use Rattle.reference_model.specs.VmRules.{vcpu_load, vcpu_put, stand_eq, is_open
 use Rattle.reference_model.specs.Conditions.{Legal, SlotsFit}
 use Rattle.reference_model.proofs.conditions.Moves.{LegalAlone}
 use Rattle.page_state.proofs.Common.{both, eq-same, if-true, if-false, and-both, or-neither, not-false}
-use Rattle.reference_model.proofs.conditions.SharedSteps.{passed}
+use Rattle.reference_model.proofs.conditions.Tests.{passed}
 use Rattle.reference_model.proofs.conditions.Slots.{put-fact, put-here, put-there, apart}
 use Rattle.reference_model.proofs.conditions.VmSteps.{vm-legal, stand_eq-same, none-is}
 

@@ -94,18 +94,55 @@ hyp-moved m first n e c condition new old f = elim (both (is_within first n f)) 
 pub hyp-below : (m : Map) (first n : ℕ) (e : Entry) → ((p : ℕ) → p < hyp_page 0 → m p ≡ Unmapped) → (p : ℕ) → p < hyp_page 0 → update m (hyp_page first) n e p ≡ Unmapped
 hyp-below m first n e old p less = let out : is_within (hyp_page first) n p ≡ false = grind (arith, nat_tests) in if-false (is_within (hyp_page first) n p) (advance e (p - hyp_page first)) (m p) out ∙ old p less
 
+-- a condition that names no page of a guest
+abbrev pub is_pageless : Condition → Bool
+is_pageless (with_guest v g) = false
+is_pageless (guests v g) = false
+is_pageless (lent_back v g) = false
+is_pageless other = true
+
+pub pageless-named : {P : Type 0} (c : Condition) (state : State) (v g : ℕ) → is_pageless c ≡ true → c ≡ guest_condition state v g → P
+pageless-named c Owned v g h e = let bad : true ≡ false = sym h ∙ ap is_pageless e in cc
+pageless-named c SharedOwned v g h e = let bad : true ≡ false = sym h ∙ ap is_pageless e in cc
+pageless-named c SharedBorrowed v g h e = let bad : true ≡ false = sym h ∙ ap is_pageless e in cc
+
+-- guests' entries, where frames go from conditions that name no page of a guest to such a condition
+
+pub guest-kept : (c : Condition) (first n : ℕ) (condition : ℕ → Condition) → ((f : ℕ) → is_within first n f ≡ true → is_pageless (condition f) ≡ true) → (v g : ℕ) (e : Entry) → GuestFits condition v g e → GuestFits (moved_to c first n condition) v g e
+guest-kept c first n condition was v g e (inl h) = inl h
+guest-kept c first n condition was v g e (inr h) = inr (record {
+  frame = h.frame;
+  prot = h.prot;
+  state = h.state;
+  leaf_is = h.leaf_is;
+  named = elim (both (is_within first n h.frame)) [
+    | inl w ↦ pageless-named (condition h.frame) h.state v g (was h.frame w) h.named
+    | inr w ↦ moved-out c first n condition h.frame w ∙ h.named
+  ];
+})
+
+pub has-kept : (c : Condition) (first n : ℕ) (condition : ℕ → Condition) → is_pageless c ≡ true → (v g f : ℕ) (state : State) → moved_to c first n condition f ≡ guest_condition state v g → condition f ≡ guest_condition state v g
+has-kept c first n condition new v g f state h = elim (both (is_within first n f)) [
+  | inl w ↦ pageless-named c state v g new (sym (moved-in c first n condition f w) ∙ h)
+  | inr w ↦ sym (moved-out c first n condition f w) ∙ h
+]
+
 -- a condition that names no guest
 abbrev pub is_calm : Condition → Bool
 is_calm (hyps (VmPool v)) = false
-is_calm (with_guest v g) = false
-is_calm (guests v g) = false
-is_calm (lent_back v g) = false
-is_calm other = true
+is_calm c = is_pageless c
 
-pub calm-named : {P : Type 0} (c : Condition) (state : State) (v g : ℕ) → is_calm c ≡ true → c ≡ guest_condition state v g → P
-calm-named c Owned v g h e = let bad : true ≡ false = sym h ∙ ap is_calm e in cc
-calm-named c SharedOwned v g h e = let bad : true ≡ false = sym h ∙ ap is_calm e in cc
-calm-named c SharedBorrowed v g h e = let bad : true ≡ false = sym h ∙ ap is_calm e in cc
+pub calm-pageless : (c : Condition) → is_calm c ≡ true → is_pageless c ≡ true
+calm-pageless (hyps (VmPool v)) h = cc
+calm-pageless (hyps Plain) h = h
+calm-pageless (hyps SharedPool) h = h
+calm-pageless (hyps (InHand d)) h = h
+calm-pageless outside h = h
+calm-pageless hosts h = h
+calm-pageless with_hyp h = h
+calm-pageless (with_guest v g) h = h
+calm-pageless (guests v g) h = h
+calm-pageless (lent_back v g) h = h
 
 pub calm-vm : (v : ℕ) (c : Condition) → is_calm c ≡ true → in_vm v c ≡ false
 calm-vm v (hyps (VmPool u)) h = cc
@@ -123,25 +160,6 @@ calm-vm v (lent_back u g) h = refl
 pub record CalmMove (c : Condition) (first n : ℕ) (condition : ℕ → Condition) : Type 0 where
   pub calm : is_calm c ≡ true
   pub was_calm : (f : ℕ) → is_within first n f ≡ true → is_calm (condition f) ≡ true
-
-pub guest-calm : (c : Condition) (first n : ℕ) (condition : ℕ → Condition) → CalmMove c first n condition → (v g : ℕ) (e : Entry) → GuestFits condition v g e → GuestFits (moved_to c first n condition) v g e
-guest-calm c first n condition move v g e (inl h) = inl h
-guest-calm c first n condition move v g e (inr h) = inr (record {
-  frame = h.frame;
-  prot = h.prot;
-  state = h.state;
-  leaf_is = h.leaf_is;
-  named = elim (both (is_within first n h.frame)) [
-    | inl w ↦ calm-named (condition h.frame) h.state v g (move.was_calm h.frame w) h.named
-    | inr w ↦ moved-out c first n condition h.frame w ∙ h.named
-  ];
-})
-
-pub guest-has-calm : (c : Condition) (first n : ℕ) (condition : ℕ → Condition) → CalmMove c first n condition → (v g f : ℕ) (state : State) → moved_to c first n condition f ≡ guest_condition state v g → condition f ≡ guest_condition state v g
-guest-has-calm c first n condition move v g f state h = elim (both (is_within first n f)) [
-  | inl w ↦ calm-named c state v g move.calm (sym (moved-in c first n condition f w) ∙ h)
-  | inr w ↦ sym (moved-out c first n condition f w) ∙ h
-]
 
 -- a fact on the condition of each frame, where a move doesn't change it
 pub moved-fact : {X : Type 0} (see : Condition → X) (c : Condition) (first n : ℕ) (condition : ℕ → Condition) (f : ℕ) → (is_within first n f ≡ true → see (condition f) ≡ see c) → see (condition f) ≡ see (moved_to c first n condition f)

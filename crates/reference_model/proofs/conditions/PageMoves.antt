@@ -1,6 +1,6 @@
 -- A made step that changes one frame's host page and one page of a guest.
-use Rattle.std.proofs.Common.{◌≡◌, ◌≢◌, ℕ, ◌+◌, ◌-◌, ◌≤◌, ◌<◌, refl, ap, sym, ◌∙◌, subst, arith, inl, inr}
-use Rattle.std.specs.Prelude.{Some, Bool, true, false, ◌⊎◌}
+use Rattle.std.proofs.Common.{length, ◌≡◌, ◌≢◌, ℕ, ◌+◌, ◌-◌, ◌≤◌, ◌<◌, refl, ap, sym, ◌∙◌, subst, arith, inl, inr}
+use Rattle.std.specs.Prelude.{Some, true, false, ◌⊎◌}
 use Rattle.descriptor.specs.declared.Prot.{Prot}
 use Rattle.descriptor.specs.declared.State.{State}
 use Rattle.page_state.specs.declared.entry.Entry.{Entry}
@@ -9,27 +9,21 @@ use Rattle.page_state.specs.Entries.{advance}
 use Rattle.page_state.specs.EntryTests.{leaf}
 use Rattle.page_state.specs.Geometries.{pages_below}
 use Rattle.page_state.specs.Map.{update, is_within}
-use Rattle.reference_model.specs.State.{Cpu, Contents, empty, put_at}
+use Rattle.reference_model.specs.State.{Contents, empty}
 use Rattle.page_state.specs.Layouts.{Layout, is_memory}
-use Rattle.reference_model.specs.Owner.{is_in_hand}
-use Rattle.reference_model.specs.Used.{used_of}
 use Rattle.reference_model.specs.GuestRules.{two_pages}
-use Rattle.reference_model.specs.Rule.{Rule, fine}
-use Rattle.reference_model.specs.Step.{guest_after}
+use Rattle.reference_model.specs.declared.changes.Changes.{Changes}
+use Rattle.reference_model.specs.Changes.{same_cpu}
+use Rattle.reference_model.specs.Step.{guest_after, guest_need}
 use Rattle.page_state.specs.Tables.{put, edited}
 use Rattle.reference_model.specs.ConditionChanges.{told_condition}
 use Rattle.reference_model.specs.RowChanges.{told_row}
-use Rattle.reference_model.specs.Conditions.{row_in, Condition, HostFits, hyp_says, guest_condition, GuestFits, IsMemoryLeaf, Legal, IsUsable, in_shared, in_vm, in_hand, one, SlotsFit, is_inside, IsGood}
+use Rattle.reference_model.specs.Conditions.{row_in, Condition, HostFits, hyp_says, guest_condition, GuestFits, IsMemoryLeaf, Legal, IsUsable, in_shared, in_vm, in_hand, one, is_inside, IsGood}
 use Rattle.page_state.proofs.Common.{both, if-true, if-false}
-use Rattle.reference_model.proofs.Steps.{state_of}
-use Rattle.reference_model.proofs.conditions.Moves.{moved_to, host-moved, moved-in, moved-out, moved-fact, SameSlots, same-agree, cpu-fact}
-use Rattle.reference_model.proofs.conditions.GuestMoves.{only, g_of, new_guest, new_cpu, GuestMove, guest-fact}
+use Rattle.reference_model.proofs.conditions.Moves.{moved_to, host-moved, moved-in, moved-out, moved-fact}
+use Rattle.reference_model.proofs.conditions.GuestMoves.{only, new_guest, new_cpu, GuestMove, slots-stay}
 use Rattle.reference_model.proofs.conditions.Conserved.{tree-conserved, edited-tidy, edited-root}
-use Rattle.reference_model.proofs.conditions.SharedSteps.{Passed, within-made, one-within, range-in}
-
--- a rule that changes the host's page of a frame and a page of the guest
-abbrev pub page_rule : Bool → Bool → Bool → ℕ → Entry → ℕ → Entry → Rule
-page_rule invalid no_vm perm f e g e' = record fine { invalid = invalid; no_vm = no_vm; perm = perm; changes = two_pages f e g e' }
+use Rattle.reference_model.proofs.conditions.RangeMoves.{within-made, one-within, one-frame, range-in, hands-stay}
 
 -- where the frame and the page stand before, and how after
 pub record PageMove (l : Layout) (s : Contents) (condition : ℕ → Condition) (v f : ℕ) (e : Entry) (g : ℕ) (e' : Entry) (c : Condition) : Type 0 where
@@ -60,9 +54,9 @@ advance-none Malformed g = refl
 advance-none (Annotated o) g = refl
 advance-none (Leaf frame prot kind state) g = let z : frame.0 + (g - g) ≡ frame.0 = omega arith in ap (λ n. Leaf (record { 0 = n }) prot kind state) z
 
-module _ (l : Layout) (s : Contents) (legal : Legal l s) (usable : IsUsable l) (cpu v : ℕ) (invalid no_vm perm : Bool) (f : ℕ) (e : Entry) (g : ℕ) (e' : Entry) (c : Condition) (m : PageMove l s legal.condition v f e g e' c) where
-  r : Rule
-  r = page_rule invalid no_vm perm f e g e'
+module _ (l : Layout) (s : Contents) (legal : Legal l s) (usable : IsUsable l) (cpu v : ℕ) (f : ℕ) (e : Entry) (g : ℕ) (e' : Entry) (c : Condition) (m : PageMove l s legal.condition v f e g e' c) where
+  abbrev r : Changes
+  r = two_pages f e g e'
 
   after : ℕ → Condition
   after = moved_to c f 1 legal.condition
@@ -128,54 +122,36 @@ module _ (l : Layout) (s : Contents) (legal : Legal l s) (usable : IsUsable l) (
         ]
   ]
 
-  slots : SlotsFit (state_of s.vms s.shared (put_at s.guest v (new_guest l s v r.changes)) (put_at s.cpu cpu (new_cpu s cpu r.changes)))
-  unfolding state_of guest_after r
-  slots =
-      let same : SameSlots s (state_of s.vms s.shared (put_at s.guest v (new_guest l s v r.changes)) (put_at s.cpu cpu (new_cpu s cpu r.changes))) = record {
-        slot = λ u. refl;
-        phase = guest-fact (λ u x. x.phase ≡ (s.guest u).phase) s.guest v (new_guest l s v r.changes) refl (λ u d. refl);
-        generation = guest-fact (λ u x. x.generation ≡ (s.guest u).generation) s.guest v (new_guest l s v r.changes) refl (λ u d. refl);
-        kind = guest-fact (λ u x. x.kind ≡ (s.guest u).kind) s.guest v (new_guest l s v r.changes) refl (λ u d. refl);
-        loaded = λ d. cpu-fact (λ (j : Cpu). j.loaded) s.cpu cpu (new_cpu s cpu r.changes) d refl;
-        ticket = λ d. cpu-fact (λ (j : Cpu). j.ticket) s.cpu cpu (new_cpu s cpu r.changes) d refl;
-      } in
-      record {
-        agree = same-agree s _ same legal.slots.agree;
-        few_slots = legal.slots.few_slots;
-        few_vcpus = legal.slots.few_vcpus;
-        some_hand = λ d h k. legal.slots.some_hand d h (sym (cpu-fact (λ (j : Cpu). j.hand) s.cpu cpu (new_cpu s cpu r.changes) d refl) ∙ k);
-      }
-
-  pub page-move : Passed l.depth (page_rule invalid no_vm perm f e g e') false (g_of v cpu s) → GuestMove l s legal.condition cpu v (page_rule invalid no_vm perm f e g e').changes f 1 c
-  unfolding used_of guest_after edited after r
-  page-move p =
-      let all : (q : ℕ) → is_within f 1 q ≡ true → is_memory l q ≡ true = λ q w. subst (λ k. is_memory l k ≡ true) (one-within f q w) m.memory in
+  pub page-move : guest_need l.depth r (s.guest v) ≤ length (s.guest v).free → GuestMove l s legal.condition cpu v r f 1 c
+  unfolding guest_after edited after
+  page-move enough =
+      let all = one-frame f (λ q. is_memory l q ≡ true) m.memory in
       let low = range-in l usable f 1 (omega arith) all in
       let page = m.page in
       let range : g + 1 ≤ pages_below l.depth = omega arith in
-      let host_low : f + 1 ≤ pages_below l.depth = omega arith in
       record {
-        inside = λ q w. all q w ∙ sym m.some;
-        good = m.good;
+        frames = record {
+          inside = λ q w. all q w ∙ sym m.some;
+          good = m.good;
+          same_use = one-frame f (λ q. in_shared (legal.condition q) ≡ in_shared c) m.same_shared;
+          host = host-moved s.shared.host.map f 1 e c legal.condition m.host legal.maps.host;
+          hyp = λ q. legal.maps.hyp q ∙ moved-fact (hyp_says q) c f 1 legal.condition q (one-frame f (λ q. hyp_says q (legal.condition q) ≡ hyp_says q c) m.same_hyp q);
+          hyp_below = legal.maps.hyp_below;
+          touched = λ q. refl;
+          told = m.told cpu;
+          goes = λ q w k. m.goes cpu;
+          host_range = let e : f + 1 ≤ pages_below l.depth = omega arith in e;
+          hyp_range = tt;
+          hand = hands-stay legal cpu same_cpu c f 1 refl (λ d. one-frame f (λ q. in_hand d (legal.condition q) ≡ in_hand d c) (m.same_hand d));
+          own_hand = λ d h. let z : true ≡ false = sym h ∙ m.no_hand d in cc;
+        };
         only_new = m.only_new;
-        only_old = λ q w. subst (λ k. only v (legal.condition k) ≡ true) (one-within f q w) m.only_old;
-        same_use = λ q w. subst (λ k. in_shared (legal.condition k) ≡ in_shared c) (one-within f q w) m.same_shared;
-        host = host-moved s.shared.host.map f 1 e c legal.condition m.host legal.maps.host;
-        hyp = λ q. legal.maps.hyp q ∙ moved-fact (hyp_says q) c f 1 legal.condition q (λ w. subst (λ k. hyp_says k (legal.condition k) ≡ hyp_says k c) (one-within f q w) m.same_hyp);
-        hyp_below = legal.maps.hyp_below;
-        touched = λ q. refl;
-        told = λ q w. m.told cpu q w;
-        goes = λ q w k. m.goes cpu;
-        host_range = host_low;
-        hyp_range = tt;
-        enough = p.shared_enough;
+        only_old = one-frame f (λ q. only v (legal.condition q) ≡ true) m.only_old;
         guest = guest;
         guest_has = guest_has;
-        held = λ q. tree-conserved l.depth (put g 1 e') (s.guest v).tree (s.guest v).free q range p.guest_enough ∙ legal.held.vm v q ∙ ap one (see (in_vm v) q m.same_vm);
+        held = λ q. tree-conserved l.depth (put g 1 e') (s.guest v).tree (s.guest v).free q range enough ∙ legal.held.vm v q ∙ ap one (see (in_vm v) q m.same_vm);
         tidy = edited-tidy l.depth (put g 1 e') (s.guest v).tree (s.guest v).free range (legal.trees.guest v);
         blank = λ k. absurd (m.alive k);
         rooted = λ k. let old = legal.guest_parts.rooted v k in (old.0, edited-root l.depth (put g 1 e') (s.guest v).tree (s.guest v).free range ∙ old.1);
-        hand = λ d q. ap (λ o. is_in_hand o q) (cpu-fact (λ (j : Cpu). j.hand) s.cpu cpu (new_cpu s cpu r.changes) d refl) ∙ legal.held.hand d q ∙ see (in_hand d) q (m.same_hand d);
-        own_hand = λ d h. let z : true ≡ false = sym h ∙ m.no_hand d in cc;
-        slots = slots;
+        slots = slots-stay legal cpu v (new_guest l s v r) (new_cpu s cpu r) refl refl refl refl refl (legal.slots.some_hand cpu);
       }

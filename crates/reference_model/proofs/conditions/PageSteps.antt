@@ -1,5 +1,5 @@
 -- The made steps that change a host page and a guest page keep the invariant.
-use Rattle.std.proofs.Common.{◌≡◌, ◌≢◌, ℕ, ◌+◌, ◌-◌, ◌<◌, refl, ap, sym, ◌∙◌, subst, arith, inl, inr}
+use Rattle.std.proofs.Common.{◌≤◌, length, ◌≡◌, ◌≢◌, ℕ, ◌+◌, ◌-◌, ◌<◌, refl, ap, sym, ◌∙◌, subst, arith, inl, inr}
 use Rattle.std.specs.Prelude.{Bool, true, false, not, ◌||◌, ◌==◌, ◌⊎◌, nat_le, Some, None, if◌then◌else◌}
 use Rattle.std.proofs.lemmas.Bool.Decides.{nat_tests}
 use Rattle.descriptor.specs.declared.Prot.{Prot}
@@ -8,29 +8,31 @@ use Rattle.descriptor.specs.declared.State.{State}
 use Rattle.descriptor.specs.declared.State.TheVariants.{Owned, SharedOwned, SharedBorrowed}
 use Rattle.page_state.specs.declared.entry.Entry.{Entry}
 use Rattle.page_state.specs.declared.entry.Entry.TheVariants.{Unmapped}
+use Rattle.page_state.specs.declared.step.Step.{Step}
 use Rattle.page_state.specs.declared.step.Step.TheVariants.{ShareGuest, UnshareGuest, DonateGuest, GuestShareHost, GuestUnshareHost, ReclaimPage}
 use Rattle.page_state.specs.declared.step.VmId.{VmId}
 use Rattle.page_state.specs.Entries.{advance}
-use Rattle.page_state.specs.EntryTests.{is_unmapped, is_mapped, is_in, is_free_page, leaf, annotation, frame_of, with_state}
+use Rattle.page_state.specs.EntryTests.{is_unmapped, is_mapped, is_in, is_free_page, leaf, frame_of, with_state}
 use Rattle.page_state.specs.Geometries.{pages_below}
 use Rattle.reference_model.specs.GuestRules.{share_guest, unshare_guest, donate_guest, guest_share_host, guest_unshare_host, reclaim_page, is_guest, phase_eq, two_pages}
 use Rattle.page_state.specs.Map.{is_within}
 use Rattle.reference_model.specs.State.{Guest, Contents, empty, live, dying, plain_row}
 use Rattle.page_state.specs.Layouts.{Layout, is_memory, is_good_page}
-use Rattle.reference_model.specs.Parts.{shared_and_guest}
+use Rattle.reference_model.specs.Parts.{names, shared_and_guest}
 use Rattle.reference_model.specs.Used.{Used, used_of}
-use Rattle.reference_model.specs.Step.{refusal}
+use Rattle.reference_model.specs.Step.{refusal, shared_need, guest_need}
 use Rattle.reference_model.specs.ConditionChanges.{told_condition}
 use Rattle.reference_model.specs.RowChanges.{told_row}
 use Rattle.page_state.specs.declared.row.Usage.TheVariants.{Plain}
 use Rattle.reference_model.specs.Owner.{lent_at}
 use Rattle.reference_model.specs.Conditions.{row_in, Condition, hosts, with_guest, guests, lent_back, HostFits, hyp_says, guest_condition, IsGuestLeaf, IsMemoryLeaf, Legal, IsUsable, in_shared, in_vm, in_hand, is_inside, IsGood}
-use Rattle.reference_model.proofs.conditions.SharedMoves.{StepKept}
+use Rattle.reference_model.proofs.conditions.FrameMoves.{StepKept}
 use Rattle.page_state.proofs.Common.{eq-self, and-both, or-neither, not-false}
 use Rattle.reference_model.proofs.conditions.GuestMoves.{only, g_of, guest-keeps}
 use Rattle.reference_model.proofs.conditions.OfLegal.{state_eq-same}
 use Rattle.reference_model.proofs.conditions.PageMoves.{PageMove, page-move}
-use Rattle.reference_model.proofs.conditions.SharedSteps.{range-advance, one-within, passed, advance-leaf, free-hosts}
+use Rattle.reference_model.proofs.conditions.RangeMoves.{range-advance, one-within, advance-leaf, free-is}
+use Rattle.reference_model.proofs.conditions.Tests.{passed}
 
 -- conditions that name a guest's page
 
@@ -106,13 +108,16 @@ abbrev SideFits : Side → ℕ → Entry → Type 0
 SideFits apart f e = e ≡ Unmapped
 SideFits (joined a) f e = IsMemoryLeaf f a e
 
-record SideMove (l : Layout) (s : Contents) (condition : ℕ → Condition) (v f : ℕ) (e : Entry) (g : ℕ) (e' : Entry) (old new : Side) : Type 0 where
+-- the memory frame and the page before
+record SideBefore (l : Layout) (s : Contents) (condition : ℕ → Condition) (v f g : ℕ) (old : Side) : Type 0 where
   memory : is_memory l f ≡ true
-  slot : v < 64
   page : g < pages_below l.depth
   alive : (s.guest v).phase ≢ empty
   was : condition f ≡ side_condition old v g
   stood : SideFits old f ((s.guest v).tree.map g)
+
+-- and after a change of the host's page and the guest's
+record SideAfter (v f : ℕ) (e : Entry) (g : ℕ) (e' : Entry) (new : Side) : Type 0 where
   stands : SideFits new f e'
   host : (p : ℕ) → is_within f 1 p ≡ true → HostFits p (side_condition new v g) (advance e (p - f))
   told : (cpu q : ℕ) → is_within f 1 q ≡ true → row_in q (side_condition new v g) ≡ told_row cpu (Some v) (two_pages f e g e') q
@@ -159,25 +164,25 @@ side-frame : (a : Side) (f q : ℕ) (b : State) (e : Entry) → SideFits a f e �
 side-frame apart f q b e h k = let bad : Unmapped ≡ leaf k.0 q b = sym h ∙ k.1 in cc
 side-frame (joined a) f q b e h k = ap frame_of (sym k.1 ∙ h.1)
 
-side-move : (l : Layout) (s : Contents) (legal : Legal l s) (v f : ℕ) (e : Entry) (g : ℕ) (e' : Entry) (old new : Side) → SideMove l s legal.condition v f e g e' old new → PageMove l s legal.condition v f e g e' (side_condition new v g)
-side-move l s legal v f e g e' old new m = record {
-  memory = m.memory;
-  page = m.page;
-  alive = m.alive;
-  good = side-good l new v g m.slot m.page;
+side-move : (l : Layout) (s : Contents) (legal : Legal l s) {v f : ℕ} {e : Entry} {g : ℕ} {e' : Entry} {old new : Side} → v < 64 → SideBefore l s legal.condition v f g old → SideAfter v f e g e' new → PageMove l s legal.condition v f e g e' (side_condition new v g)
+side-move l s legal {v} {f} {e} {g} {e'} {old} {new} slot b m = record {
+  memory = b.memory;
+  page = b.page;
+  alive = b.alive;
+  good = side-good l new v g slot b.page;
   some = side-inside new v g;
   only_new = side-only new v g;
-  only_old = ap (only v) m.was ∙ side-only old v g;
-  same_shared = ap in_shared m.was ∙ side-shared old v g ∙ sym (side-shared new v g);
-  same_vm = ap (in_vm v) m.was ∙ side-vm old v v g ∙ sym (side-vm new v v g);
-  same_hand = λ d. ap (in_hand d) m.was ∙ side-hand old d v g ∙ sym (side-hand new d v g);
+  only_old = ap (only v) b.was ∙ side-only old v g;
+  same_shared = ap in_shared b.was ∙ side-shared old v g ∙ sym (side-shared new v g);
+  same_vm = ap (in_vm v) b.was ∙ side-vm old v v g ∙ sym (side-vm new v v g);
+  same_hand = λ d. ap (in_hand d) b.was ∙ side-hand old d v g ∙ sym (side-hand new d v g);
   no_hand = λ d. side-hand new d v g;
-  same_hyp = ap (hyp_says f) m.was ∙ side-hyp old f v g ∙ sym (side-hyp new f v g);
+  same_hyp = ap (hyp_says f) b.was ∙ side-hyp old f v g ∙ sym (side-hyp new f v g);
   host = m.host;
   told = m.told;
   goes = m.goes;
-  old_page = λ p state h. (side-page old v g p state (sym m.was ∙ h)).0;
-  old_frame = λ q state h. side-frame old f q state ((s.guest v).tree.map g) m.stood (legal.maps.guest_has v g q state h);
+  old_page = λ p state h. (side-page old v g p state (sym b.was ∙ h)).0;
+  old_frame = λ q state h. side-frame old f q state ((s.guest v).tree.map g) b.stood (legal.maps.guest_has v g q state h);
   new_page = side-new new v f g e' m.stands;
   new_has = λ p state h. let k = side-page new v g p state h in (k.0, subst (λ a. SideFits a f e') k.1 m.stands);
 }
@@ -226,167 +231,95 @@ page-advance : (f q g : ℕ) → is_within f 1 q ≡ true → g ≡ g + (q - f)
 page-advance f q g w = let same = one-within f q w in omega arith
 
 module _ (l : Layout) (s : Contents) (legal : Legal l s) (usable : IsUsable l) (cpu v : ℕ) (slot : v < 64) where
-  told-back : (b : Bool) (f d q g : ℕ) → plain_row ≡ told_row d (Some v) (two_pages f (if b then Unmapped else leaf RWX f Owned) g Unmapped) q
-  told-back true f d q g = refl
-  told-back false f d q g = refl
-
-  goes-back : (b : Bool) (f d g : ℕ) → hosts ≡ told_condition d (Some v) (two_pages f (if b then Unmapped else leaf RWX f Owned) g Unmapped)
-  goes-back true f d g = refl
-  goes-back false f d g = refl
-
-  free-is : (f : ℕ) → is_memory l f ≡ true → is_free_page (s.shared.host.map f) ≡ true → legal.condition f ≡ hosts
-  free-is f m h = free-hosts f (legal.condition f) (s.shared.host.map f) (legal.of_layout.inside f ∙ m) (legal.maps.host f) h
-
   abbrev pub x : Used
   x = g_of v cpu s
+
+  -- the guest's entry of a page, and the frame that it maps
+  abbrev entry_at : ℕ → Entry
+  entry_at g = (s.guest v).tree.map g
+
+  abbrev frame_at : ℕ → ℕ
+  frame_at g = frame_of (entry_at g)
 
   three : {a b c : Bool} → (a || b || c) ≡ false → (a ≡ false) × (b ≡ false) × (c ≡ false)
   three {a = false} {b = false} h = (refl, refl, h)
   three {a = true} h = cc
   three {a = false} {b = true} h = cc
 
+  -- a free frame of the host and a page at which nothing stands
+  free-before : (f g : ℕ) → (s.guest v).phase ≢ empty → (not (is_memory l f) || not (is_good_page l g)) ≡ false → not (is_free_page (s.shared.host.map f)) ≡ false → is_mapped (entry_at g) ≡ false → SideBefore l s legal.condition v f g apart
+  free-before f g alive args free bare =
+      let a = or-neither (not (is_memory l f)) (not (is_good_page l g)) args in
+      let mem : is_memory l f ≡ true = not-false (is_memory l f) a.0 in
+      record { memory = mem; page = good-page l g a.1; alive = alive; was = free-is legal f mem (not-false (is_free_page (s.shared.host.map f)) free); stood = unmapped-entry (entry_at g) bare }
+
+  -- a page and the frame that it maps
+  named-before : (g : ℕ) (state : State) → (s.guest v).phase ≢ empty → not (is_good_page l g) ≡ false → Named s legal.condition v g state → SideBefore l s legal.condition v (frame_at g) g (joined state)
+  named-before g state alive good at = record { memory = named-memory l s legal (frame_at g) v g state at.named; page = good-page l g good; alive = alive; was = at.named; stood = at.is_leaf }
+
+  in-before : (g : ℕ) (state : State) → (s.guest v).phase ≢ empty → not (is_good_page l g) ≡ false → not (is_in state (entry_at g)) ≡ false → SideBefore l s legal.condition v (frame_at g) g (joined state)
+  in-before g state alive good t = named-before g state alive good (in-named l s legal v g state (not-false (is_in state (entry_at g)) t))
+
+  -- such a frame and page change, where the pools have the frames that are needed
+  side-keeps : (step : Step) → names step ≡ shared_and_guest → {f : ℕ} {e : Entry} {g : ℕ} {e' : Entry} {old new : Side} → SideBefore l s legal.condition v f g old → SideAfter v f e g e' new
+      → shared_need l.depth (two_pages f e g e') s.shared ≤ length s.shared.free → guest_need l.depth (two_pages f e g e') (s.guest v) ≤ length (s.guest v).free → StepKept l s legal.condition shared_and_guest (Some v) cpu step (two_pages f e g e')
+  side-keeps step named {f} {e} {g} {e'} {old} {new} b m enough own = guest-keeps l s legal usable cpu v step named (two_pages f e g e') f 1 (side_condition new v g) (page-move l s legal usable cpu v f e g e' (side_condition new v g) (side-move l s legal slot b m) own) enough
+
   module _ (alive : (s.guest v).phase ≢ empty) where
     pub donate_guest-keeps : (f g : ℕ) → refusal l.depth (donate_guest l (Some v) x f g) false x ≡ None → StepKept l s legal.condition shared_and_guest (Some v) cpu (DonateGuest f g) (donate_guest l (Some v) x f g).changes
     unfolding used_of
     donate_guest-keeps f g h =
         let p = passed l.depth (donate_guest l (Some v) x f g) false x h in
-        let args = or-neither (not (is_memory l f)) (not (is_good_page l g)) p.invalid in
         let tests = three p.perm in
-        let mem : is_memory l f ≡ true = not-false (is_memory l f) args.0 in
-        let was : legal.condition f ≡ hosts = free-is f mem (not-false (is_free_page (s.shared.host.map f)) tests.1) in
-        let move : SideMove l s legal.condition v f (annotation (2 + v)) g (leaf RWX f Owned) apart (joined Owned) = record {
-          memory = mem;
-          slot = slot;
-          page = good-page l g args.1;
-          alive = alive;
-          was = was;
-          stood = unmapped-entry ((s.guest v).tree.map g) tests.2;
-          stands = (RWX, refl);
-          host = λ q w. refl;
-          told = λ d q w. refl;
-          goes = λ d. refl;
-        } in
-        guest-keeps l s legal usable cpu v (DonateGuest f g) refl (donate_guest l (Some v) x f g).changes f 1 (guests v g)
-        (page-move l s legal usable cpu v _ _ _ f (annotation (2 + v)) g (leaf RWX f Owned) (guests v g) (side-move l s legal v f (annotation (2 + v)) g (leaf RWX f Owned) apart (joined Owned) move) p)
+        side-keeps (DonateGuest f g) refl {new = joined Owned} (free-before f g alive p.invalid tests.1 tests.2) (record { stands = (RWX, refl); host = λ q w. refl; told = λ d q w. refl; goes = λ d. refl }) p.shared_enough p.guest_enough
 
     pub share_guest-keeps : (f g : ℕ) (rights : Prot) → refusal l.depth (share_guest l x f g rights) false x ≡ None → StepKept l s legal.condition shared_and_guest (Some v) cpu (ShareGuest f g rights) (share_guest l x f g rights).changes
     unfolding used_of
     share_guest-keeps f g rights h =
         let p = passed l.depth (share_guest l x f g rights) false x h in
-        let args = or-neither (not (is_memory l f)) (not (is_good_page l g)) p.invalid in
         let tests = three p.perm in
-        let mem : is_memory l f ≡ true = not-false (is_memory l f) args.0 in
-        let was : legal.condition f ≡ hosts = free-is f mem (not-false (is_free_page (s.shared.host.map f)) tests.1) in
-        let move : SideMove l s legal.condition v f (leaf RWX f SharedOwned) g (leaf rights f SharedBorrowed) apart (joined SharedBorrowed) = record {
-          memory = mem;
-          slot = slot;
-          page = good-page l g args.1;
-          alive = alive;
-          was = was;
-          stood = unmapped-entry ((s.guest v).tree.map g) tests.2;
+        side-keeps (ShareGuest f g rights) refl {new = joined SharedBorrowed} (free-before f g alive p.invalid tests.1 tests.2) (record {
           stands = (rights, refl);
           host = λ q w. advance-leaf RWX f 1 q SharedOwned w;
           told = λ d q w. ap (λ p. record plain_row { lent = Some (lent_at (2 + v) p) }) (page-advance f q g w);
           goes = λ d. refl;
-        } in
-        guest-keeps l s legal usable cpu v (ShareGuest f g rights) refl (share_guest l x f g rights).changes f 1 (with_guest v g)
-        (page-move l s legal usable cpu v _ _ _ f (leaf RWX f SharedOwned) g (leaf rights f SharedBorrowed) (with_guest v g) (side-move l s legal v f (leaf RWX f SharedOwned) g (leaf rights f SharedBorrowed) apart (joined SharedBorrowed) move) p)
+        }) p.shared_enough p.guest_enough
 
     pub guest_share_host-keeps : (g : ℕ) → refusal l.depth (guest_share_host l x g) false x ≡ None → StepKept l s legal.condition shared_and_guest (Some v) cpu (GuestShareHost g) (guest_share_host l x g).changes
     unfolding used_of
     guest_share_host-keeps g h =
         let p = passed l.depth (guest_share_host l x g) false x h in
-        let e = (s.guest v).tree.map g in
-        let f = frame_of e in
-        let at = in-named l s legal v g Owned (not-false (is_in Owned e) p.perm) in
-        let move : SideMove l s legal.condition v f (leaf RWX f SharedBorrowed) g (with_state SharedOwned e) (joined Owned) (joined SharedOwned) = record {
-          memory = named-memory l s legal f v g Owned at.named;
-          slot = slot;
-          page = good-page l g p.invalid;
-          alive = alive;
-          was = at.named;
-          stood = at.is_leaf;
-          stands = (at.is_leaf.0, ap (with_state SharedOwned) at.is_leaf.1);
-          host = λ q w. advance-leaf RWX f 1 q SharedBorrowed w;
-          told = λ d q w. ap (λ p. record { owner = record { 0 = 2 + v }; lent = Some (lent_at 0 p); usage = Plain }) (range-advance f 1 q w);
+        let b = in-before g Owned alive p.invalid p.perm in
+        side-keeps (GuestShareHost g) refl {new = joined SharedOwned} b (record {
+          stands = (b.stood.0, ap (with_state SharedOwned) b.stood.1);
+          host = λ q w. advance-leaf RWX (frame_at g) 1 q SharedBorrowed w;
+          told = λ d q w. ap (λ p. record { owner = record { 0 = 2 + v }; lent = Some (lent_at 0 p); usage = Plain }) (range-advance (frame_at g) 1 q w);
           goes = λ d. refl;
-        } in
-        guest-keeps l s legal usable cpu v (GuestShareHost g) refl (guest_share_host l x g).changes f 1 (lent_back v g)
-        (page-move l s legal usable cpu v _ _ _ f (leaf RWX f SharedBorrowed) g (with_state SharedOwned e) (lent_back v g) (side-move l s legal v f (leaf RWX f SharedBorrowed) g (with_state SharedOwned e) (joined Owned) (joined SharedOwned) move) p)
+        }) p.shared_enough p.guest_enough
 
     pub guest_unshare_host-keeps : (g : ℕ) → refusal l.depth (guest_unshare_host l (Some v) x g) false x ≡ None → StepKept l s legal.condition shared_and_guest (Some v) cpu (GuestUnshareHost g) (guest_unshare_host l (Some v) x g).changes
     unfolding used_of
     guest_unshare_host-keeps g h =
         let p = passed l.depth (guest_unshare_host l (Some v) x g) false x h in
-        let e = (s.guest v).tree.map g in
-        let f = frame_of e in
-        let at = in-named l s legal v g SharedOwned (not-false (is_in SharedOwned e) p.perm) in
-        let move : SideMove l s legal.condition v f (annotation (2 + v)) g (with_state Owned e) (joined SharedOwned) (joined Owned) = record {
-          memory = named-memory l s legal f v g SharedOwned at.named;
-          slot = slot;
-          page = good-page l g p.invalid;
-          alive = alive;
-          was = at.named;
-          stood = at.is_leaf;
-          stands = (at.is_leaf.0, ap (with_state Owned) at.is_leaf.1);
-          host = λ q w. refl;
-          told = λ d q w. refl;
-          goes = λ d. refl;
-        } in
-        guest-keeps l s legal usable cpu v (GuestUnshareHost g) refl (guest_unshare_host l (Some v) x g).changes f 1 (guests v g)
-        (page-move l s legal usable cpu v _ _ _ f (annotation (2 + v)) g (with_state Owned e) (guests v g) (side-move l s legal v f (annotation (2 + v)) g (with_state Owned e) (joined SharedOwned) (joined Owned) move) p)
+        let b = in-before g SharedOwned alive p.invalid p.perm in
+        side-keeps (GuestUnshareHost g) refl {new = joined Owned} b (record { stands = (b.stood.0, ap (with_state Owned) b.stood.1); host = λ q w. refl; told = λ d q w. refl; goes = λ d. refl }) p.shared_enough p.guest_enough
 
   pub unshare_guest-keeps : (vm : VmId) (g : ℕ) → refusal l.depth (unshare_guest l x vm g) false x ≡ None → StepKept l s legal.condition shared_and_guest (Some v) cpu (UnshareGuest vm g) (unshare_guest l x vm g).changes
   unfolding used_of
   unshare_guest-keeps vm g h =
       let p = passed l.depth (unshare_guest l x vm g) false x h in
-      let args = or-neither (nat_le 64 vm.slot) (not (is_good_page l g)) p.invalid in
-      let alive = live-alive vm (s.guest v) (not-false (is_guest live vm (s.guest v)) p.no_vm) in
-      let e = (s.guest v).tree.map g in
-      let f = frame_of e in
-      let at = in-named l s legal v g SharedBorrowed (not-false (is_in SharedBorrowed e) p.perm) in
-      let move : SideMove l s legal.condition v f (leaf RWX f Owned) g Unmapped (joined SharedBorrowed) apart = record {
-        memory = named-memory l s legal f v g SharedBorrowed at.named;
-        slot = slot;
-        page = good-page l g args.1;
-        alive = alive;
-        was = at.named;
-        stood = at.is_leaf;
-        stands = refl;
-        host = λ q w. inr (advance-leaf RWX f 1 q Owned w);
-        told = λ d q w. refl;
-        goes = λ d. refl;
-      } in
-      guest-keeps l s legal usable cpu v (UnshareGuest vm g) refl (unshare_guest l x vm g).changes f 1 hosts
-      (page-move l s legal usable cpu v _ _ _ f (leaf RWX f Owned) g Unmapped hosts (side-move l s legal v f (leaf RWX f Owned) g Unmapped (joined SharedBorrowed) apart move) p)
+      let b = in-before g SharedBorrowed (live-alive vm (s.guest v) (not-false (is_guest live vm (s.guest v)) p.no_vm)) (or-neither (nat_le 64 vm.slot) (not (is_good_page l g)) p.invalid).1 p.perm in
+      side-keeps (UnshareGuest vm g) refl {new = apart} b (record { stands = refl; host = λ q w. inr (advance-leaf RWX (frame_at g) 1 q Owned w); told = λ d q w. refl; goes = λ d. refl }) p.shared_enough p.guest_enough
 
   -- what the host gets back
-  reclaimed : (b : Bool) (f q : ℕ) → is_within f 1 q ≡ true → HostFits q hosts (advance (if b then Unmapped else leaf RWX f Owned) (q - f))
-  reclaimed true f q w = inl refl
-  reclaimed false f q w = inr (advance-leaf RWX f 1 q Owned w)
+  reclaimed : (b : Bool) (f g : ℕ) → SideAfter v f (if b then Unmapped else leaf RWX f Owned) g Unmapped apart
+  reclaimed true f g = record { stands = refl; host = λ q w. inl refl; told = λ d q w. refl; goes = λ d. refl }
+  reclaimed false f g = record { stands = refl; host = λ q w. inr (advance-leaf RWX f 1 q Owned w); told = λ d q w. refl; goes = λ d. refl }
 
   pub reclaim_page-keeps : (vm : VmId) (g : ℕ) → refusal l.depth (reclaim_page l x vm g) false x ≡ None → StepKept l s legal.condition shared_and_guest (Some v) cpu (ReclaimPage vm g) (reclaim_page l x vm g).changes
   unfolding used_of
   reclaim_page-keeps vm g h =
       let p = passed l.depth (reclaim_page l x vm g) false x h in
-      let args = or-neither (nat_le 64 vm.slot) (not (is_good_page l g)) p.invalid in
-      let alive = dying-alive vm (s.guest v) (not-false (is_guest dying vm (s.guest v)) p.no_vm) in
-      let e = (s.guest v).tree.map g in
-      let f = frame_of e in
-      let back = if is_in Owned e then Unmapped else leaf RWX f Owned in
       let found = mapped-named l s legal v g p.perm in
-      let at = found.1 in
-      let move : SideMove l s legal.condition v f back g Unmapped (joined found.0) apart = record {
-        memory = named-memory l s legal f v g found.0 at.named;
-        slot = slot;
-        page = good-page l g args.1;
-        alive = alive;
-        was = at.named;
-        stood = at.is_leaf;
-        stands = refl;
-        host = λ q w. reclaimed (is_in Owned e) f q w;
-        told = λ d q w. told-back (is_in Owned e) f d q g;
-        goes = λ d. goes-back (is_in Owned e) f d g;
-      } in
-      guest-keeps l s legal usable cpu v (ReclaimPage vm g) refl (reclaim_page l x vm g).changes f 1 hosts
-      (page-move l s legal usable cpu v _ _ _ f back g Unmapped hosts (side-move l s legal v f back g Unmapped (joined found.0) apart move) p)
+      let b = named-before g found.0 (dying-alive vm (s.guest v) (not-false (is_guest dying vm (s.guest v)) p.no_vm)) (or-neither (nat_le 64 vm.slot) (not (is_good_page l g)) p.invalid).1 found.1 in
+      side-keeps (ReclaimPage vm g) refl b (reclaimed (is_in Owned (entry_at g)) (frame_at g) g) p.shared_enough p.guest_enough

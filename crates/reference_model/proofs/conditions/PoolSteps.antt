@@ -9,7 +9,6 @@ use Rattle.reference_model.specs.declared.changes.Stage.{Stage}
 use Rattle.reference_model.specs.declared.changes.Stage.TheVariants.{DyingVm as dying_vm, Finished as finished}
 use Rattle.page_state.specs.declared.entry.Entry.{Entry}
 use Rattle.page_state.specs.declared.entry.Entry.TheVariants.{Unmapped}
-use Rattle.page_state.specs.declared.entry.PageRange.{PageRange}
 use Rattle.page_state.specs.declared.row.Usage.TheVariants.{VmPool}
 use Rattle.page_state.specs.declared.step.Step.TheVariants.{ReclaimPool, FinishGuest}
 use Rattle.page_state.specs.declared.step.VmId.{VmId}
@@ -19,18 +18,23 @@ use Rattle.page_state.specs.Trees.{frames_from, root_tree, Block, Tree, Pool}
 use Rattle.page_state.specs.Counts.{is_one, frame_count}
 use Rattle.page_state.specs.EntryTests.{is_unmapped, leaf}
 use Rattle.page_state.specs.Geometries.{block_pages, pages_below}
-use Rattle.reference_model.specs.GuestRules.{reclaim_pool, finish_guest, is_guest, least}
-use Rattle.reference_model.specs.Changes.{rest}
+use Rattle.reference_model.specs.GuestRules.{moved_on, reclaim_pool, finish_guest, is_guest, least}
+use Rattle.page_state.specs.declared.reply.Value.{Value}
+use Rattle.page_state.specs.declared.reply.Value.TheVariants.{Nothing, Frame as FrameOf}
+use Rattle.reference_model.specs.declared.changes.CpuChange.{CpuChange}
+use Rattle.reference_model.specs.declared.changes.GuestChange.{GuestChange}
+use Rattle.reference_model.specs.declared.changes.GuestChange.TheVariants.{LoseLowest, Empty}
+use Rattle.reference_model.specs.Changes.{cpu_by, same_cpu, rest}
 use Rattle.page_state.specs.Map.{is_within}
 use Rattle.page_state.specs.Search.{all_below}
-use Rattle.reference_model.specs.State.{Guest, Cpu, Contents, empty, dying, put_at, no_guest}
-use Rattle.page_state.specs.Layouts.{Layout, is_memory}
-use Rattle.reference_model.specs.Owner.{is_frame, is_in_hand}
+use Rattle.reference_model.specs.State.{Guest, Contents, empty, dying, no_guest}
+use Rattle.page_state.specs.Layouts.{Layout}
+use Rattle.reference_model.specs.Owner.{is_frame}
 use Rattle.reference_model.specs.Parts.{shared_and_guest}
 use Rattle.reference_model.specs.Used.{Used, used_of}
 use Rattle.reference_model.specs.Step.{refusal, guest_after}
 use Rattle.page_state.specs.Tables.{needs, freed, returned, edited}
-use Rattle.reference_model.specs.Conditions.{Condition, hosts, hyps, guest_condition, GuestFits, Legal, IsUsable, in_shared, in_vm, in_hand, one, table_uses, guest_uses, IsTidy, IsInTree, is_inside, SlotsFit, IsGood}
+use Rattle.reference_model.specs.Conditions.{Condition, hosts, hyps, guest_condition, GuestFits, Legal, IsUsable, in_vm, in_hand, one, table_uses, guest_uses, IsTidy, IsInTree, IsGood}
 use Rattle.page_state.proofs.Blocks.{all_from-each, empty_means, is_unmapped-same}
 use Rattle.page_state.proofs.Cases.{by_eq, by_lt}
 use Rattle.page_state.proofs.Common.{both, eq-same, eq-self, eq-made, if-true, if-false, and-both, or-neither, not-false}
@@ -38,14 +42,14 @@ use Rattle.page_state.proofs.Counts.{count_next}
 use Rattle.page_state.proofs.BlockTests.{block-same}
 use Rattle.reference_model.proofs.Frames.{count_blocks-none}
 use Rattle.page_state.proofs.Sizes.{size_some, size_split}
-use Rattle.reference_model.proofs.Steps.{state_of}
 use Rattle.reference_model.proofs.conditions.Tables.{uses_of, uses-put}
-use Rattle.reference_model.proofs.conditions.Moves.{moved_to, host-moved, hyp-moved, hyp-below, moved-in, moved-out, moved-fact, SameSlots, same-agree, cpu-fact}
-use Rattle.reference_model.proofs.conditions.SharedMoves.{StepKept, no-uses}
-use Rattle.reference_model.proofs.conditions.GuestMoves.{only, g_of, new_guest, new_cpu, GuestMove, guest-fact, guest-keeps}
-use Rattle.reference_model.proofs.conditions.PageSteps.{dying-alive, gc-vm}
-use Rattle.reference_model.proofs.conditions.SharedSteps.{Passed, passed, within-made, one-within, range-in}
-use Rattle.reference_model.proofs.conditions.Slots.{ticket-fits, put-fact, slots-turn}
+use Rattle.reference_model.proofs.conditions.Moves.{moved_to, is_pageless, guest-kept, has-kept, moved-in, moved-out}
+use Rattle.reference_model.proofs.conditions.FrameMoves.{StepKept, FramesMove, no-uses}
+use Rattle.reference_model.proofs.conditions.GuestMoves.{only, g_of, new_guest, new_cpu, GuestMove, guest-keeps, slots-stay}
+use Rattle.reference_model.proofs.conditions.PageSteps.{dying-alive}
+use Rattle.reference_model.proofs.conditions.RangeMoves.{range_changes, within-made, one-within, one-frame, hands-stay, back-frames}
+use Rattle.reference_model.proofs.conditions.Tests.{Passed, passed}
+use Rattle.reference_model.proofs.conditions.Slots.{ticket-fits, slots-turn}
 
 -- counts
 
@@ -186,54 +190,19 @@ module _ (l : Layout) (s : Contents) (legal : Legal l s) (usable : IsUsable l) (
   abbrev pub x : Used
   x = g_of v cpu s
 
-  -- the guest's slot, where its phase stays and the CPU keeps what it has loaded and its ticket
-  pub slots-stay : (g' : Guest) (k' : Cpu) → g'.phase ≡ (s.guest v).phase → g'.generation ≡ (s.guest v).generation → g'.kind ≡ (s.guest v).kind → k'.loaded ≡ (s.cpu cpu).loaded → k'.ticket ≡ (s.cpu cpu).ticket → ((h : PageRange) → k'.hand ≡ Some h → 1 ≤ h.count) → SlotsFit (state_of s.vms s.shared (put_at s.guest v g') (put_at s.cpu cpu k'))
-  unfolding state_of
-  slots-stay g' k' phase generation kind loaded ticket hand =
-      let same : SameSlots s (state_of s.vms s.shared (put_at s.guest v g') (put_at s.cpu cpu k')) = record {
-        slot = λ u. refl;
-        phase = guest-fact (λ u d. d.phase ≡ (s.guest u).phase) s.guest v g' phase (λ u d. refl);
-        generation = guest-fact (λ u d. d.generation ≡ (s.guest u).generation) s.guest v g' generation (λ u d. refl);
-        kind = guest-fact (λ u d. d.kind ≡ (s.guest u).kind) s.guest v g' kind (λ u d. refl);
-        loaded = λ d. cpu-fact (λ (j : Cpu). j.loaded) s.cpu cpu k' d loaded;
-        ticket = λ d. cpu-fact (λ (j : Cpu). j.ticket) s.cpu cpu k' d ticket;
-      } in
-      record { agree = same-agree s _ same legal.slots.agree; few_slots = legal.slots.few_slots; few_vcpus = legal.slots.few_vcpus; some_hand = put-fact (λ c (d : Cpu). (h : PageRange) → d.hand ≡ Some h → 1 ≤ h.count) s.cpu cpu k' hand (λ c e. legal.slots.some_hand c) }
-
-  -- the maps, where a frame that the guest held goes back to the host
+  -- a frame that the guest held goes back to the host
   module _ (f : ℕ) (was : legal.condition f ≡ hyps (VmPool v)) where
-    pub returned-memory : (q : ℕ) → is_within f 1 q ≡ true → is_memory l q ≡ true
-    returned-memory q w = sym (legal.of_layout.inside q) ∙ ap (λ k. is_inside (legal.condition k)) (sym (one-within f q w)) ∙ ap is_inside was
-
     at-range : {X : Type 0} (see : Condition → X) (q : ℕ) → is_within f 1 q ≡ true → see (legal.condition q) ≡ see (hyps (VmPool v))
-    at-range see q w = ap (λ k. see (legal.condition k)) (sym (one-within f q w)) ∙ ap see was
+    at-range see = one-frame f (λ q. see (legal.condition q) ≡ see (hyps (VmPool v))) (ap see was)
 
-    no-leaf : (u p q : ℕ) (state : State) → is_within f 1 q ≡ true → legal.condition q ≡ guest_condition state u p → ⊥
-    no-leaf u p q state w h = let z : true ≡ false = sym (at-range (in_vm v) q w ∙ eq-self v) ∙ ap (in_vm v) h ∙ gc-vm state v u p in cc
+    root-frames : (part : GuestChange) (k : CpuChange) (value : Value) → (cpu_by k (s.cpu cpu)).hand ≡ (s.cpu cpu).hand → FramesMove l s legal.condition cpu (Some v) (range_changes f 1 Unmapped Unmapped part k value) f 1 hosts
+    root-frames part k value same = back-frames legal usable cpu (Some v) part k value f 1 (VmPool v) (omega arith) (at-range (λ c. c)) refl (hands-stay legal cpu k hosts f 1 same (λ d. at-range (in_hand d)))
 
     pool-guest : (p : ℕ) (e : Entry) → GuestFits legal.condition v p e → GuestFits (moved_to hosts f 1 legal.condition) v p e
-    pool-guest p e (inl h) = inl h
-    pool-guest p e (inr h) = inr (record {
-      frame = h.frame;
-      prot = h.prot;
-      state = h.state;
-      leaf_is = h.leaf_is;
-      named = elim (both (is_within f 1 h.frame)) [
-        | inl w ↦ absurd (no-leaf v p h.frame h.state w h.named)
-        | inr w ↦ moved-out hosts f 1 legal.condition h.frame w ∙ h.named
-      ];
-    })
+    pool-guest = guest-kept hosts f 1 legal.condition (at-range is_pageless) v
 
     pool-has : (p q : ℕ) (state : State) → moved_to hosts f 1 legal.condition q ≡ guest_condition state v p → legal.condition q ≡ guest_condition state v p
-    pool-has p q state h = elim (both (is_within f 1 q)) [
-      | inl w ↦ absurd (hosts-not state v p (sym (moved-in hosts f 1 legal.condition q w) ∙ h))
-      | inr w ↦ sym (moved-out hosts f 1 legal.condition q w) ∙ h
-    ]
-      where
-        hosts-not : (a : State) (u p : ℕ) → hosts ≡ guest_condition a u p → ⊥
-        hosts-not Owned u p h = cc
-        hosts-not SharedOwned u p h = cc
-        hosts-not SharedBorrowed u p h = cc
+    pool-has p q state = has-kept hosts f 1 legal.condition refl v p q state
 
   -- the least free frame of the guest's pool
   pub least-was : (length (s.guest v).free == 0) ≡ false → legal.condition (least (s.guest v).free) ≡ hyps (VmPool v)
@@ -247,38 +216,20 @@ module _ (l : Layout) (s : Contents) (legal : Legal l s) (usable : IsUsable l) (
   unfolding used_of guest_after edited freed needs returned
   reclaim_pool-move vm p =
       let f = least (s.guest v).free in
-      let split = pool-some (s.guest v).free p.perm in
       let alive = dying-alive vm (s.guest v) (not-false (is_guest dying vm (s.guest v)) p.no_vm) in
-      let next : (q : ℕ) → frame_count q (s.guest v).free ≡ is_one f q + frame_count q (rest (s.guest v).free) = λ q. ap (frame_count q) split ∙ count_next q f (rest (s.guest v).free) in
-      let mine : is_one f f ≡ 1 = ap one (eq-self f) in
+      let next : (q : ℕ) → frame_count q (s.guest v).free ≡ is_one f q + frame_count q (rest (s.guest v).free) = λ q. ap (frame_count q) (pool-some (s.guest v).free p.perm) ∙ count_next q f (rest (s.guest v).free) in
       let was = least-was p.perm in
-      let all = returned-memory f was in
-      let low = range-in l usable f 1 (omega arith) all in
-      let host_low : f + 1 ≤ pages_below l.depth = omega arith in
       record {
-        inside = all;
-        good = tt;
+        frames = root-frames f was LoseLowest same_cpu (FrameOf (record { 0 = f })) refl;
         only_new = refl;
         only_old = λ q w. at-range f was (only v) q w ∙ eq-self v;
-        same_use = at-range f was in_shared;
-        host = host-moved s.shared.host.map f 1 Unmapped hosts legal.condition (λ q w. inl refl) legal.maps.host;
-        hyp = hyp-moved s.shared.hyp.map f 1 Unmapped hosts legal.condition (λ q w. refl) legal.maps.hyp;
-        hyp_below = hyp-below s.shared.hyp.map f 1 Unmapped legal.maps.hyp_below;
-        touched = λ q. refl;
-        told = λ q w. refl;
-        goes = λ q w m. refl;
-        host_range = host_low;
-        hyp_range = low;
-        enough = p.shared_enough;
         guest = λ q. pool-guest f was q ((s.guest v).tree.map q) (legal.maps.guest v q);
         guest_has = λ q w state h. legal.maps.guest_has v q w state (pool-has f was q w state h);
-        held = λ q. pool-held f was q (next q) mine;
+        held = λ q. pool-held f was q (next q) (ap one (eq-self f));
         tidy = legal.trees.guest v;
         blank = λ k. absurd (alive k);
         rooted = legal.guest_parts.rooted v;
-        hand = λ d q. ap (λ o. is_in_hand o q) (cpu-fact (λ (j : Cpu). j.hand) s.cpu cpu (new_cpu s cpu (reclaim_pool l x vm).changes) d refl) ∙ legal.held.hand d q ∙ moved-fact (in_hand d) hosts f 1 legal.condition q (at-range f was (in_hand d) q);
-        own_hand = λ d h. cc;
-        slots = slots-stay (new_guest l s v (reclaim_pool l x vm).changes) (new_cpu s cpu (reclaim_pool l x vm).changes) refl refl refl refl refl (legal.slots.some_hand cpu);
+        slots = slots-stay legal cpu v (new_guest l s v (reclaim_pool l x vm).changes) (new_cpu s cpu (reclaim_pool l x vm).changes) refl refl refl refl refl (legal.slots.some_hand cpu);
       }
     where
       pool-held : (f : ℕ) → legal.condition f ≡ hyps (VmPool v) → (q : ℕ) → frame_count q (s.guest v).free ≡ is_one f q + frame_count q (rest (s.guest v).free) → is_one f f ≡ 1 → frame_count q (rest (s.guest v).free) + table_uses l.depth (s.guest v).tree q ≡ one (in_vm v (moved_to hosts f 1 legal.condition q))
@@ -298,7 +249,10 @@ module _ (l : Layout) (s : Contents) (legal : Legal l s) (usable : IsUsable l) (
       ]
 
   pub reclaim_pool-keeps : (vm : VmId) → refusal l.depth (reclaim_pool l x vm) false x ≡ None → StepKept l s legal.condition shared_and_guest (Some v) cpu (ReclaimPool vm) (reclaim_pool l x vm).changes
-  reclaim_pool-keeps vm h = guest-keeps l s legal usable cpu v (ReclaimPool vm) refl (reclaim_pool l x vm).changes (least (s.guest v).free) 1 hosts (reclaim_pool-move vm (passed l.depth (reclaim_pool l x vm) false x h))
+  unfolding used_of
+  reclaim_pool-keeps vm h =
+      let p = passed l.depth (reclaim_pool l x vm) false x h in
+      guest-keeps l s legal usable cpu v (ReclaimPool vm) refl (reclaim_pool l x vm).changes (least (s.guest v).free) 1 hosts (reclaim_pool-move vm p) p.shared_enough
 
   -- finish_guest: the root goes back
 
@@ -328,34 +282,16 @@ module _ (l : Layout) (s : Contents) (legal : Legal l s) (usable : IsUsable l) (
       let f = unwrap_or ((s.guest v).tree.table (l.depth + 1, 0)) 0 in
       let here = ticket-fits s legal.slots cpu v dying_vm t has at-slot stage in
       let left = root-left here.1 p.perm in
-      let was = left.was in
-      let all = returned-memory f was in
-      let low = range-in l usable f 1 (omega arith) all in
-      let host_low : f + 1 ≤ pages_below l.depth = omega arith in
-      let none : (q : ℕ) → one (in_vm v (moved_to hosts f 1 legal.condition q)) ≡ 0 = λ q. none-left f q (left.uses q) in
       record {
-        inside = all;
-        good = tt;
+        frames = root-frames f left.was Empty (moved_on finished (s.cpu cpu)) Nothing refl;
         only_new = refl;
-        only_old = λ q w. at-range f was (only v) q w ∙ eq-self v;
-        same_use = at-range f was in_shared;
-        host = host-moved s.shared.host.map f 1 Unmapped hosts legal.condition (λ q w. inl refl) legal.maps.host;
-        hyp = hyp-moved s.shared.hyp.map f 1 Unmapped hosts legal.condition (λ q w. refl) legal.maps.hyp;
-        hyp_below = hyp-below s.shared.hyp.map f 1 Unmapped legal.maps.hyp_below;
-        touched = λ q. refl;
-        told = λ q w. refl;
-        goes = λ q w m. refl;
-        host_range = host_low;
-        hyp_range = low;
-        enough = p.shared_enough;
+        only_old = λ q w. at-range f left.was (only v) q w ∙ eq-self v;
         guest = λ q. inl refl;
-        guest_has = λ q w state h. absurd (unnamed q w state (pool-has f was q w state h) left.bare);
-        held = λ q. blank-uses q ∙ sym (none q);
+        guest_has = λ q w state h. absurd (unnamed q w state (pool-has f left.was q w state h) left.bare);
+        held = λ q. blank-uses q ∙ sym (none-left f q (left.uses q));
         tidy = record { inside = λ b w h. cc; full = λ b w h. cc };
         blank = λ k. refl;
         rooted = λ k. absurd (k refl);
-        hand = λ d q. ap (λ o. is_in_hand o q) (cpu-fact (λ (j : Cpu). j.hand) s.cpu cpu (new_cpu s cpu (finish_guest l x).changes) d refl) ∙ legal.held.hand d q ∙ moved-fact (in_hand d) hosts f 1 legal.condition q (at-range f was (in_hand d) q);
-        own_hand = λ d h. cc;
         slots = slots-turn s legal.slots cpu v t (new_guest l s v (finish_guest l x).changes) (new_cpu s cpu (finish_guest l x).changes) finished has at-slot (here.0, refl) (λ k. absurd (k refl)) refl (turned (s.cpu cpu).ticket t finished has) (legal.slots.some_hand cpu);
       }
     where
@@ -379,4 +315,7 @@ module _ (l : Layout) (s : Contents) (legal : Legal l s) (usable : IsUsable l) (
       blank-uses q = let e = no-uses l.depth q in omega arith
 
   pub finish_guest-keeps : (t : Ticket) → (s.cpu cpu).ticket ≡ Some t → t.vm.slot ≡ v → t.stage ≡ dying_vm → refusal l.depth (finish_guest l x) false x ≡ None → StepKept l s legal.condition shared_and_guest (Some v) cpu FinishGuest (finish_guest l x).changes
-  finish_guest-keeps t has at stage h = guest-keeps l s legal usable cpu v FinishGuest refl (finish_guest l x).changes (unwrap_or ((s.guest v).tree.table (l.depth + 1, 0)) 0) 1 hosts (finish_guest-move t has at stage (passed l.depth (finish_guest l x) false x h))
+  unfolding used_of
+  finish_guest-keeps t has at stage h =
+      let p = passed l.depth (finish_guest l x) false x h in
+      guest-keeps l s legal usable cpu v FinishGuest refl (finish_guest l x).changes (unwrap_or ((s.guest v).tree.table (l.depth + 1, 0)) 0) 1 hosts (finish_guest-move t has at stage p) p.shared_enough

@@ -1,6 +1,6 @@
 -- Slots, loads and tickets through each step that changes them.
 use Rattle.std.proofs.Common.{◌≡◌, ◌≢◌, ℕ, ◌≤◌, ◌<◌, refl, ap, sym, ◌∙◌, subst, inl, inr}
-use Rattle.std.specs.Prelude.{true, false, ◌==◌, ◌⊎◌, Some}
+use Rattle.std.specs.Prelude.{true, false, ◌==◌, ◌⊎◌, Option, Some, None}
 use Rattle.reference_model.specs.declared.changes.Ticket.{Ticket}
 use Rattle.reference_model.specs.declared.changes.Stage.{Stage}
 use Rattle.reference_model.specs.declared.changes.Loaded.{Loaded}
@@ -8,7 +8,11 @@ use Rattle.reference_model.specs.declared.changes.Stage.TheVariants.{Booked as b
 use Rattle.page_state.specs.declared.entry.PageRange.{PageRange}
 use Rattle.reference_model.specs.State.{Guest, Cpu, Contents, Phase, empty, live, Stand, vacant, opened, reserved, closing, put_at}
 use Rattle.reference_model.specs.Sound.{IsOne, TicketsAgree, IsTicketOf, IsGuestOf, HasTicket, StageFits}
+use Rattle.page_state.specs.declared.step.VmId.{VmId}
+use Rattle.page_state.specs.declared.step.VmKind.{VmKind}
+use Rattle.page_state.specs.declared.step.VmKind.TheVariants.{Plain as PlainVm}
 use Rattle.reference_model.specs.Conditions.{SlotsFit}
+use Rattle.reference_model.specs.GuestRules.{ticket_vm, ticket_kind}
 use Rattle.page_state.proofs.Common.{both, eq-same, eq-self, eq-made, if-true, if-false}
 use Rattle.page_state.proofs.Cases.{by_lt}
 use Rattle.reference_model.proofs.Steps.{state_of}
@@ -46,6 +50,16 @@ ticket-open s a c t h o = elim (fits-closed t.stage (s.vms.slot t.vm.slot).stand
 
 pub ticket-vacant : (s : Contents) → TicketsAgree s → (c : ℕ) (t : Ticket) → (s.cpu c).ticket ≡ Some t → (s.vms.slot t.vm.slot).stand ≡ vacant → ⊥
 ticket-vacant s a c t h o = elim (fits-closed t.stage (s.vms.slot t.vm.slot).stand (s.guest t.vm.slot).phase (a.ticket c t h).fits) [ inl e ↦ (let bad : reserved ≡ vacant = sym e ∙ o in cc) | inr e ↦ (let bad : closing ≡ vacant = sym e ∙ o in cc) ]
+
+-- what the rules read of a CPU's ticket
+pub ticket-told : (k : Cpu) (t : Ticket) → k.ticket ≡ Some t → (ticket_vm k ≡ t.vm) × (ticket_kind k ≡ t.kind)
+ticket-told k t has = (ap (λ o. the-vm o) has, ap (λ o. the-kind o) has)
+  where
+    the-vm : Option Ticket → VmId
+    the-vm o = elim o [ Some u ↦ u.vm | None ↦ record { slot = 0; generation = 0 } ]
+
+    the-kind : Option Ticket → VmKind
+    the-kind o = elim o [ Some u ↦ u.kind | None ↦ PlainVm ]
 
 -- a ticket's stage tells how its slot and its guest stand
 pub ticket-fits : (s : Contents) → SlotsFit s → (c v : ℕ) (stage : Stage) (t : Ticket) → (s.cpu c).ticket ≡ Some t → t.vm.slot ≡ v → t.stage ≡ stage → StageFits stage (s.vms.slot v).stand (s.guest v).phase

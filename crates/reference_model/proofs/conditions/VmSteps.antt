@@ -15,15 +15,15 @@ use Rattle.page_state.specs.Layouts.{Layout}
 use Rattle.reference_model.specs.Owner.{is_in_hand}
 use Rattle.reference_model.specs.Parts.{vms, has_stage, stage_eq}
 use Rattle.reference_model.specs.Used.{Used, used_of, put_back}
-use Rattle.reference_model.specs.Sound.{StageFits}
+use Rattle.reference_model.specs.Sound.{HasTicket, StageFits}
 use Rattle.reference_model.specs.Step.{refusal, changed, with_rows}
 use Rattle.reference_model.specs.VmRules.{vm_reserve, vm_open, teardown, vm_release, stand_eq, is_open, is_any_loaded, vacant_slot}
 use Rattle.reference_model.specs.Conditions.{Legal, SlotsFit}
 use Rattle.page_state.proofs.Blocks.{all_from-each}
 use Rattle.page_state.proofs.Common.{both, eq-same, and-both, or-neither, not-false}
 use Rattle.reference_model.proofs.conditions.Moves.{LegalAlone, same-agree, cpu-fact}
-use Rattle.reference_model.proofs.conditions.SharedSteps.{passed}
-use Rattle.reference_model.proofs.conditions.Slots.{ticket-once, ticket-open, ticket-vacant, ticket-slot, apart}
+use Rattle.reference_model.proofs.conditions.Tests.{passed}
+use Rattle.reference_model.proofs.conditions.Slots.{ticket-told, ticket-fits, ticket-once, ticket-open, ticket-vacant, ticket-slot, apart}
 use Rattle.reference_model.proofs.conditions.VmSlots.{SlotMove, slots-moved}
 
 -- a state whose VM part and CPU changed, but no hand
@@ -117,14 +117,27 @@ module _ (l : Layout) (s : Contents) (legal : Legal l s) (cpu : ℕ) where
     hand = hand;
   }
 
+  -- a CPU with no ticket gets one, of a slot of which no vCPU is loaded and that no ticket names
+  given : (v : ℕ) (y : Slot) (t : Ticket) (k : Cpu) → v < 64 → (s.cpu cpu).ticket ≡ None → ((i c : ℕ) → (s.vms.slot v).loaded i ≡ Some c → ⊥) → ((i c : ℕ) → y.loaded i ≡ Some c → ⊥) → ((c : ℕ) → HasTicket s v c → ⊥)
+      → ((s.guest v).phase ≢ empty → ((s.guest v).generation ≡ y.generation) × ((s.guest v).kind ≡ y.kind)) → (y.stand ≡ opened → (s.guest v).phase ≡ live) → (y.stand ≡ vacant → (s.guest v).phase ≡ empty)
+      → (t.vm.slot ≡ v) × StageFits t.stage y.stand (s.guest v).phase × (t.vm.generation ≡ y.generation) × (t.kind ≡ y.kind) → k.ticket ≡ Some t → k.loaded ≡ (s.cpu cpu).loaded → k.hand ≡ (s.cpu cpu).hand → SlotMove s cpu v y k
+  given v y t k low free none none' unnamed same up down fits ticket loaded hand = record {
+    low = low;
+    none_before = none;
+    none_after = none';
+    same_vm = same;
+    open_live = up;
+    vacant_empty = down;
+    mine = λ u e. subst (λ (w : Ticket). (w.vm.slot ≡ v) × StageFits w.stage y.stand (s.guest v).phase × (w.vm.generation ≡ y.generation) × (w.kind ≡ y.kind)) (some-ticket (sym ticket ∙ e)) fits;
+    others = λ c e j. unnamed c j;
+    mine_before = λ u j. no-ticket (sym free ∙ j.1);
+    named = λ e. (t, ticket);
+    loaded = loaded;
+    hand = hand;
+  }
+
   unloaded : (t : Ticket) → (s.cpu cpu).ticket ≡ Some t → (i c : ℕ) → (s.vms.slot t.vm.slot).loaded i ≡ Some c → ⊥
   unloaded t has i c h = ticket-open s legal.slots.agree.tickets cpu t has (legal.slots.agree.loads.loads t.vm.slot i c h).0
-
-  ticket-vm : (t : Ticket) → (s.cpu cpu).ticket ≡ Some t → ticket_vm (s.cpu cpu) ≡ t.vm
-  ticket-vm t has = ap (λ o. the-vm o) has
-    where
-      the-vm : Option Ticket → VmId
-      the-vm o = elim o [ Some u ↦ u.vm | None ↦ record { slot = 0; generation = 0 } ]
 
   pub vm_open-keeps : refusal l.depth (vm_open x) false x ≡ None → LegalAlone l s legal (put_back vms None cpu s (with_rows l cpu None VmOpen (vm_open x).changes (changed l.depth (vm_open x).changes x)))
   unfolding used_of put_back with_rows changed
@@ -133,40 +146,33 @@ module _ (l : Layout) (s : Contents) (legal : Legal l s) (cpu : ℕ) where
       let found = has_stage-is installed (s.cpu cpu) (not-false (has_stage installed (s.cpu cpu)) p.no_vm) in
       let t = found.0 in
       let has = found.1 in
-      let old = fit-of t has in
-      let here : StageFits installed (s.vms.slot t.vm.slot).stand (s.guest t.vm.slot).phase = subst (λ g. StageFits g (s.vms.slot t.vm.slot).stand (s.guest t.vm.slot).phase) found.2 old in
+      let here = ticket-fits s legal.slots cpu t.vm.slot installed t has refl found.2 in
       let v = (ticket_vm (s.cpu cpu)).slot in
-      let at : t.vm.slot ≡ v = ap (λ (n : VmId). n.slot) (sym (ticket-vm t has)) in
+      let at : t.vm.slot ≡ v = ap (λ (n : VmId). n.slot) (sym (ticket-told (s.cpu cpu) t has).0) in
       let k : Cpu = record (s.cpu cpu) { ticket = None } in
       let move : SlotMove s cpu t.vm.slot (record (s.vms.slot t.vm.slot) { stand = opened }) k = given-up t has (record (s.vms.slot t.vm.slot) { stand = opened }) k (unloaded t has)
       (λ n. let o = legal.slots.agree.guests.same_vm t.vm.slot n in (o.generation, o.kind)) (λ e. here.1) (λ e. cc) (λ e. cc) (λ e. cc) refl refl refl in
       let moved : SlotMove s cpu v (record (s.vms.slot v) { stand = opened }) k = subst (λ n. SlotMove s cpu n (record (s.vms.slot n) { stand = opened }) k) at move in
       vm-legal l s legal cpu (put_at s.vms.slot v (record (s.vms.slot v) { stand = opened })) k refl (slots-moved s legal.slots cpu v (record (s.vms.slot v) { stand = opened }) k moved)
-    where
-      fit-of : (t : Ticket) → (s.cpu cpu).ticket ≡ Some t → StageFits t.stage (s.vms.slot t.vm.slot).stand (s.guest t.vm.slot).phase
-      fit-of t has = (legal.slots.agree.tickets.ticket cpu t has).fits
 
   pub vm_release-keeps : refusal l.depth (vm_release x) false x ≡ None → LegalAlone l s legal (put_back vms None cpu s (with_rows l cpu None VmRelease (vm_release x).changes (changed l.depth (vm_release x).changes x)))
   unfolding used_of put_back with_rows changed
   vm_release-keeps h =
       let p = passed l.depth (vm_release x) false x h in
       let found = elim (one-of (has_stage booked (s.cpu cpu)) (has_stage finished (s.cpu cpu)) (not-false (has_stage booked (s.cpu cpu) || has_stage finished (s.cpu cpu)) p.no_vm)) as (λ _. (t : Ticket) × ((s.cpu cpu).ticket ≡ Some t) × ((s.guest t.vm.slot).phase ≡ empty)) [
-        | inl e ↦ (let f = has_stage-is booked (s.cpu cpu) e in (f.0, f.1, (subst (λ g. StageFits g (s.vms.slot f.0.vm.slot).stand (s.guest f.0.vm.slot).phase) f.2 (fit-of f.0 f.1)).1))
-        | inr e ↦ (let f = has_stage-is finished (s.cpu cpu) e in (f.0, f.1, (subst (λ g. StageFits g (s.vms.slot f.0.vm.slot).stand (s.guest f.0.vm.slot).phase) f.2 (fit-of f.0 f.1)).1))
+        | inl e ↦ (let f = has_stage-is booked (s.cpu cpu) e in (f.0, f.1, (ticket-fits s legal.slots cpu f.0.vm.slot booked f.0 f.1 refl f.2).1))
+        | inr e ↦ (let f = has_stage-is finished (s.cpu cpu) e in (f.0, f.1, (ticket-fits s legal.slots cpu f.0.vm.slot finished f.0 f.1 refl f.2).1))
       ] in
       let t = found.0 in
       let has = found.1 in
       let v = (ticket_vm (s.cpu cpu)).slot in
-      let at : t.vm.slot ≡ v = ap (λ (n : VmId). n.slot) (sym (ticket-vm t has)) in
+      let at : t.vm.slot ≡ v = ap (λ (n : VmId). n.slot) (sym (ticket-told (s.cpu cpu) t has).0) in
       let k : Cpu = record (s.cpu cpu) { ticket = None } in
       let y : Slot = no_slot ((ticket_vm (s.cpu cpu)).generation + 1) in
       let move : SlotMove s cpu t.vm.slot y k = given-up t has y k (λ i c e. cc) (λ n. absurd (n found.2)) (λ e. cc) (λ e. found.2) (λ e. cc) (λ e. cc) refl refl refl in
       let moved : SlotMove s cpu v y k = subst (λ n. SlotMove s cpu n y k) at move in
       vm-legal l s legal cpu (put_at s.vms.slot v y) k refl (slots-moved s legal.slots cpu v y k moved)
     where
-      fit-of : (t : Ticket) → (s.cpu cpu).ticket ≡ Some t → StageFits t.stage (s.vms.slot t.vm.slot).stand (s.guest t.vm.slot).phase
-      fit-of t has = (legal.slots.agree.tickets.ticket cpu t has).fits
-
       one-of : (a b : Bool) → a || b ≡ true → (a ≡ true) ⊎ (b ≡ true)
       one-of true b h = inl refl
       one-of false b h = inr h
@@ -186,20 +192,7 @@ module _ (l : Layout) (s : Contents) (legal : Legal l s) (cpu : ℕ) where
       let t : Ticket = record { vm = record { slot = v; generation = (s.vms.slot v).generation }; kind = kind; stage = booked } in
       let k : Cpu = record (s.cpu cpu) { ticket = Some t } in
       let phase = legal.slots.agree.guests.vacant_empty v stands in
-      let move : SlotMove s cpu v y k = record {
-        low = omega arith;
-        none_before = none;
-        none_after = none;
-        same_vm = λ n. absurd (n phase);
-        open_live = λ e. cc;
-        vacant_empty = λ e. phase;
-        mine = λ u e. let same : t ≡ u = some-ticket e in subst (λ (w : Ticket). (w.vm.slot ≡ v) × StageFits w.stage reserved (s.guest v).phase × (w.vm.generation ≡ (s.vms.slot v).generation) × (w.kind ≡ kind)) same (refl, (refl, phase), refl, refl);
-        others = λ c e j. ticket-vacant s legal.slots.agree.tickets c j.0 j.1 (ap (λ u. (s.vms.slot u).stand) j.2 ∙ stands);
-        mine_before = λ u j. no-ticket (sym free ∙ j.1);
-        named = λ e. (t, refl);
-        loaded = refl;
-        hand = refl;
-      } in
+      let move = given v y t k (omega arith) free none none (λ c j. ticket-vacant s legal.slots.agree.tickets c j.0 j.1 (ap (λ u. (s.vms.slot u).stand) j.2 ∙ stands)) (λ n. absurd (n phase)) (λ e. cc) (λ e. phase) (refl, (refl, phase), refl, refl) refl refl refl in
       vm-legal l s legal cpu (put_at s.vms.slot v y) k refl (slots-moved s legal.slots cpu v y k move)
 
   -- as if the VM part is used: a VmId's slot is one of the 64
@@ -219,20 +212,8 @@ module _ (l : Layout) (s : Contents) (legal : Legal l s) (cpu : ℕ) where
       let k : Cpu = record (s.cpu cpu) { ticket = Some t } in
       let phase = legal.slots.agree.guests.open_live v stands in
       let low : v < 64 = below (nat_le 64 v) p.invalid refl in
-      let move : SlotMove s cpu v y k = record {
-        low = low;
-        none_before = none;
-        none_after = none;
-        same_vm = λ n. let o = legal.slots.agree.guests.same_vm v n in (o.generation, o.kind);
-        open_live = λ e. phase;
-        vacant_empty = λ e. cc;
-        mine = λ u e. let same : t ≡ u = some-ticket e in subst (λ (w : Ticket). (w.vm.slot ≡ v) × StageFits w.stage closing (s.guest v).phase × (w.vm.generation ≡ (s.vms.slot v).generation) × (w.kind ≡ (s.vms.slot v).kind)) same (refl, (refl, phase), sym (eq-same (s.vms.slot v).generation vm.generation up.1), refl);
-        others = λ c e j. ticket-open s legal.slots.agree.tickets c j.0 j.1 (ap (λ u. (s.vms.slot u).stand) j.2 ∙ stands);
-        mine_before = λ u j. no-ticket (sym free ∙ j.1);
-        named = λ e. (t, refl);
-        loaded = refl;
-        hand = refl;
-      } in
+      let same : (s.guest v).phase ≢ empty → ((s.guest v).generation ≡ y.generation) × ((s.guest v).kind ≡ y.kind) = λ n. (let o = legal.slots.agree.guests.same_vm v n in (o.generation, o.kind)) in
+      let move = given v y t k low free none none (λ c j. ticket-open s legal.slots.agree.tickets c j.0 j.1 (ap (λ u. (s.vms.slot u).stand) j.2 ∙ stands)) same (λ e. phase) (λ e. cc) (refl, (refl, phase), sym (eq-same (s.vms.slot v).generation vm.generation up.1), refl) refl refl refl in
       vm-legal l s legal cpu (put_at s.vms.slot v y) k refl (slots-moved s legal.slots cpu v y k move)
     where
       below : (b : Bool) → b ≡ false → nat_le 64 vm.slot ≡ b → vm.slot < 64

@@ -1,0 +1,57 @@
+-- What a step's tests say where they pass.
+use Rattle.std.proofs.Common.{◌≡◌, ℕ, ◌≤◌, refl, arith, length}
+use Rattle.std.specs.Prelude.{Bool, true, false, ◌||◌, nat_lt, Option, Some, None, if◌then◌else◌}
+use Rattle.std.proofs.lemmas.Bool.Decides.{nat_tests}
+use Rattle.page_state.specs.declared.reply.Refusal.{Refusal}
+use Rattle.page_state.specs.declared.reply.Refusal.TheVariants.{NoPool}
+use Rattle.reference_model.specs.Rule.{Rule}
+use Rattle.reference_model.specs.Step.{first_test, or_else, refusal, is_short, shared_need, guest_need}
+use Rattle.reference_model.specs.Used.{Used}
+use Rattle.page_state.proofs.Common.{or-neither}
+
+-- what a step that decides to change has passed
+pub record Tested (r : Rule) (lacks : Bool) : Type 0 where
+  pub invalid : r.invalid ≡ false
+  pub lacks_none : lacks ≡ false
+  pub no_vm : r.no_vm ≡ false
+  pub busy : r.busy ≡ false
+  pub perm : r.perm ≡ false
+
+-- and what a call that isn't refused has
+pub record Passed (depth : ℕ) (r : Rule) (lacks : Bool) (x : Used) : Type 0 where
+  pub invalid : r.invalid ≡ false
+  pub lacks_none : lacks ≡ false
+  pub no_vm : r.no_vm ≡ false
+  pub busy : r.busy ≡ false
+  pub perm : r.perm ≡ false
+  pub shared_enough : shared_need depth r.changes x.shared ≤ length x.shared.free
+  pub guest_enough : guest_need depth r.changes x.guest ≤ length x.guest.free
+
+pass-test : (b : Bool) (why : Refusal) (rest : Option Refusal) → (if b then Some why else rest) ≡ None → (b ≡ false) × (rest ≡ None)
+pass-test true why rest h = cc
+pass-test false why rest h = (refl, h)
+
+pass-both : (o : Option Refusal) (rest : Option Refusal) → or_else o rest ≡ None → (o ≡ None) × (rest ≡ None)
+pass-both (Some why) rest h = cc
+pass-both None rest h = (refl, h)
+
+pub tested : (r : Rule) (lacks : Bool) → first_test r lacks ≡ None → Tested r lacks
+tested r lacks h =
+    let a = pass-test r.invalid _ _ h in
+    let b = pass-test (lacks || r.no_vm) _ _ a.1 in
+    let vm = or-neither lacks r.no_vm b.0 in
+    let c = pass-test r.busy _ _ b.1 in
+    let d = pass-test r.perm _ _ c.1 in
+    record { invalid = a.0; lacks_none = vm.0; no_vm = vm.1; busy = c.0; perm = d.0 }
+
+pub passed : (depth : ℕ) (r : Rule) (lacks : Bool) (x : Used) → refusal depth r lacks x ≡ None → Passed depth r lacks x
+unfolding refusal is_short
+passed depth r lacks x h =
+    let all = pass-both (first_test r lacks) (if is_short depth r.changes x then Some NoPool else None) h in
+    let t = tested r lacks all.0 in
+    let e = pass-test (is_short depth r.changes x) _ _ all.1 in
+    let n = or-neither (nat_lt (length x.shared.free) (shared_need depth r.changes x.shared)) (nat_lt (length x.guest.free) (guest_need depth r.changes x.guest)) e.0 in
+    record { invalid = t.invalid; lacks_none = t.lacks_none; no_vm = t.no_vm; busy = t.busy; perm = t.perm; shared_enough = enough (length x.shared.free) (shared_need depth r.changes x.shared) n.0; guest_enough = enough (length x.guest.free) (guest_need depth r.changes x.guest) n.1 }
+  where
+    enough : (m n : ℕ) → nat_lt m n ≡ false → n ≤ m
+    enough m n h = grind (arith, nat_tests)
