@@ -6,7 +6,7 @@ ghost use Rattle.run_list.specs.Targets.{HasFrameBelow, target_eq, target_laws};
 ghost use Rattle.run_list.specs.OwnerRows.{HasPageBelow, lent_eq, usage_eq, row_eq, row_laws};
 
 use crate::Advance;
-use page_state::{Frame, Lent, Row, Target, Usage};
+use page_state::{Entry, Frame, Lent, Row, Target, Usage};
 
 impl Advance for Target {
     ghost advance = { advance_target };
@@ -35,30 +35,7 @@ impl Advance for Target {
     }
 
     fn is_same(self, other: Target) -> bool {
-        match (self, other) {
-            (Target::Malformed, Target::Malformed) => true,
-            (Target::Annotated(a), Target::Annotated(b)) => a.0 == b.0,
-            (
-                Target::Leaf {
-                    frame,
-                    prot,
-                    kind,
-                    state,
-                },
-                Target::Leaf {
-                    frame: other_frame,
-                    prot: other_prot,
-                    kind: other_kind,
-                    state: other_state,
-                },
-            ) => {
-                frame.0 == other_frame.0
-                    && prot == other_prot
-                    && kind == other_kind
-                    && state == other_state
-            }
-            _ => false,
-        }
+        Entry::from(self).is_same(Entry::from(other))
     }
 }
 
