@@ -6,7 +6,7 @@ ghost use Rattle.run_list.specs.Targets.{HasFrameBelow, target_eq, target_laws};
 ghost use Rattle.run_list.specs.OwnerRows.{HasPageBelow, lent_eq, usage_eq, row_eq, row_laws};
 
 use crate::Advance;
-use page_state::{Entry, Frame, Lent, Row, Target, Usage};
+use page_state::{Entry, Lent, Row, Target, Usage};
 
 impl Advance for Target {
     ghost advance = { advance_target };
@@ -18,20 +18,7 @@ impl Advance for Target {
     ghost laws = { target_laws };
 
     fn advanced(self, pages: u64) -> Target {
-        match self {
-            Target::Leaf {
-                frame,
-                prot,
-                kind,
-                state,
-            } => Target::Leaf {
-                frame: Frame(frame.0 + pages),
-                prot,
-                kind,
-                state,
-            },
-            other => other,
-        }
+        self.advance(pages)
     }
 
     fn is_same(self, other: Target) -> bool {
