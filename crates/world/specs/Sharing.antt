@@ -18,11 +18,11 @@ use Rattle.table_tree.specs.View.{tree_of}
 use Rattle.world.specs.declared.parts.SharedPart.{SharedPart}
 use Rattle.world.specs.Stands.{shared_of}
 
--- no growth can be needed for a share: both trees have their tables, and both maplets room for a page
+-- no growth can be needed for a share: both trees have their tables, and both maplets room of two runs
 abbrev pub HasRoom : {A : Type 0} → ℕ → SharedPart A → Type 0
 HasRoom f s =
     let d = levels_below s.host.tree.geometry in
-    (1 ≤ s.host.maplets.room) × (1 ≤ s.hyp.maplets.room) × (need d (tree_of s.host.tree) (edit_of (host_share f)) ≡ 0) × (need d (tree_of s.hyp.tree) (edit_of (hyp_share f)) ≡ 0)
+    (2 ≤ s.host.maplets.room) × (2 ≤ s.hyp.maplets.room) × (need d (tree_of s.host.tree) (edit_of (host_share f)) ≡ 0) × (need d (tree_of s.hyp.tree) (edit_of (hyp_share f)) ≡ 0)
 
 -- no growth can be needed for a step
 abbrev pub HasRoomFor : {A : Type 0} → Step → SharedPart A → Type 0

@@ -59,7 +59,7 @@ pub(crate) fn change_both<A: Allocator + Copy>(
     ensures hyp { OnOk result (tree_of hyp.new.tree ≡ tree_after hyp.old.tree hyp_edit (drop (need_for host.old.tree host_edit) pool.old.frames)) }
     ensures pool { OnOk result (pool.new.frames ≡ all_given (back_from host.old.tree host_edit ++ back_from hyp.old.tree hyp_edit) (drop (need_for host.old.tree host_edit + need_for hyp.old.tree hyp_edit) pool.old.frames)) }
     ensures no_pool { (result ≡ Err PoolFault.NoPool) ↔ (length pool.old.frames < need_for host.old.tree host_edit + need_for hyp.old.tree hyp_edit) }
-    ensures nothing { host_edit.range.count ≤ host.old.maplets.room → hyp_edit.range.count ≤ hyp.old.maplets.room → need_for host.old.tree host_edit ≡ 0 → need_for hyp.old.tree hyp_edit ≡ 0 → IsOk result }
+    ensures nothing { 2 ≤ host.old.maplets.room → 2 ≤ hyp.old.maplets.room → need_for host.old.tree host_edit ≡ 0 → need_for hyp.old.tree hyp_edit ≡ 0 → IsOk result }
     ensures err_host { OnErr result (host.new.tree ≡ host.old.tree) }
     ensures err_hyp { OnErr result (hyp.new.tree ≡ hyp.old.tree) }
     ensures err_pool { OnErr result (pool.new ≡ pool.old) }
@@ -75,8 +75,8 @@ pub(crate) fn change_both<A: Allocator + Copy>(
     if pool.free() < host_need + hyp_need {
         return Err(PoolFault::NoPool);
     }
-    host.reserve(host_edit.range.count)?;
-    hyp.reserve(hyp_edit.range.count)?;
+    host.reserve()?;
+    hyp.reserve()?;
     let (host_spare, hyp_spare) = reserve_both(global, alloc, pool, host_need, hyp_need)?;
     host.commit(pool, host_edit, host_spare);
     hyp.commit(pool, hyp_edit, hyp_spare);

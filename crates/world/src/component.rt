@@ -43,14 +43,14 @@ impl<A: Allocator> Component<A> {
         }
     }
 
-    /// Makes room in the maplets for so many pages. A refusal changes nothing.
-    pub(crate) fn reserve(&mut self, pages: u64) -> Result<(), AllocError>
-        ensures ok { OnOk result (pages ≤ self.new.maplets.room) }
-        ensures succeeds { pages ≤ self.old.maplets.room → IsOk result }
+    /// Makes room in the maplets for a change: two runs. A refusal changes nothing.
+    pub(crate) fn reserve(&mut self) -> Result<(), AllocError>
+        ensures ok { OnOk result (2 ≤ self.new.maplets.room) }
+        ensures succeeds { 2 ≤ self.old.maplets.room → IsOk result }
         ensures tree { self.new.tree ≡ self.old.tree }
         ensures runs { self.new.maplets.runs ≡ self.old.maplets.runs }
     {
-        self.maplets.reserve(pages as usize)
+        self.maplets.reserve(2)
     }
 
     /// The tables that a change of the tree needs.
@@ -69,7 +69,7 @@ impl<A: Allocator> Component<A> {
         requires just { length (frames_of spare.stock) ≡ need_for self.old.tree edit }
         requires distinct { (f : ℕ) → uses self.old.tree f + frame_count f (frames_of spare.stock) + frame_count f pool.old.frames ≤ 1 }
         requires covered { tables_of self.old.tree + length (frames_of spare.stock) + length pool.old.frames ≤ pool.old.room + 1 }
-        requires room { edit.range.count ≤ self.old.maplets.room }
+        requires room { 2 ≤ self.old.maplets.room }
         ensures tree { tree_of self.new.tree ≡ tree_after self.old.tree edit (frames_of spare.stock) }
         ensures geometry { self.new.tree.geometry ≡ self.old.tree.geometry }
         ensures root { root_of self.new.tree ≡ root_of self.old.tree }
