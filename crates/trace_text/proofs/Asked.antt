@@ -2,19 +2,19 @@
 use Rattle.std.proofs.Common.{◌≡◌, ℕ, refl, Bool, true, false, not, ◌==◌, List, length, Option, Some, None, Result, Ok, Err, IfSome, option_map, option_and_then}
 use Rattle.std.specs.Prelude.{ok_or, if◌then◌else◌, is_none, is_some, nat_lt}
 use Rattle.page_state.specs.declared.step.Step.{Step}
-use Rattle.trace_text.specs.declared.fault.Fault.{Fault}
-use Rattle.trace_text.specs.declared.fault.Fault.TheVariants.{Long, Byte, Space, Place, Count, Form}
-use Rattle.trace_text.specs.declared.line.Line.{Line}
-use Rattle.trace_text.specs.declared.line.Line.TheVariants as lines
-use Rattle.trace_text.specs.declared.verb.CallName.TheVariants as calls
-use Rattle.trace_text.specs.declared.verb.Verb.{Verb}
-use Rattle.trace_text.specs.declared.verb.Verb.TheVariants as verbs
+use Rattle.trace_lines.specs.declared.fault.LineFault.{LineFault}
+use Rattle.trace_lines.specs.declared.fault.LineFault.TheVariants.{Long, Byte, Space, Place, Count, Form}
+use Rattle.trace_lines.specs.declared.line.Line.{Line}
+use Rattle.trace_lines.specs.declared.line.Line.TheVariants as lines
+use Rattle.trace_lines.specs.declared.verb.CallName.TheVariants as calls
+use Rattle.trace_lines.specs.declared.verb.Verb.{Verb}
+use Rattle.trace_lines.specs.declared.verb.Verb.TheVariants as verbs
 use Rattle.trace_text.specs.Laws.{step_said, step_asked}
-use Rattle.trace_text.specs.Lines.{line_of, number_at, range_of, step_of, in_levels}
-use Rattle.trace_text.specs.Said.{said, said_by_words, said_by_verb}
-use Rattle.trace_text.specs.Settings.{Told, nothing_told}
-use Rattle.trace_text.specs.Verbs.{verb_of}
-use Rattle.trace_text.specs.Words.{words_of, has_stray_byte, is_silent, has_stray_space}
+use Rattle.trace_lines.specs.Lines.{line_of, number_at, range_of, step_of, in_levels}
+use Rattle.trace_lines.specs.Said.{said, said_by_words, said_by_verb}
+use Rattle.trace_lines.specs.Settings.{Told, nothing_told}
+use Rattle.trace_lines.specs.Verbs.{verb_of}
+use Rattle.trace_lines.specs.Words.{words_of, has_stray_byte, is_silent, has_stray_space}
 
 -- settings and the boot stand before the boot and ask for no step, all else stands behind it, and a step line asks for its step
 abbrev pub FitsLine : Bool → Option (ℕ × Step) → Line → Type 0
@@ -29,7 +29,7 @@ FitsLine booted asked (lines.Step cpu step) = (booted ≡ true) × (asked ≡ So
 FitsLine booted asked (lines.Word tree page level) = (booted ≡ true) × (asked ≡ None)
 FitsLine booted asked lines.FreeShared = (booted ≡ true) × (asked ≡ None)
 
-abbrev pub Fits : Bool → Result (Option Line) Fault → Option (ℕ × Step) → Type 0
+abbrev pub Fits : Bool → Result (Option Line) LineFault → Option (ℕ × Step) → Type 0
 Fits booted (Err fault) asked = Unit {0}
 Fits booted (Ok None) asked = asked ≡ None
 Fits booted (Ok (Some line)) asked = FitsLine booted asked line
@@ -38,7 +38,7 @@ pub mapped : {X Y : Type 0} (P : Y → Type 0) (f : X → Y) → ((x : X) → P 
 mapped P f h None = tt
 mapped P f h (Some x) = h x
 
-chained : {X Y : Type 0} (P : Y → Type 0) (f : X → Option Y) → ((x : X) → IfSome (f x) P) → (o : Option X) → IfSome (option_and_then f o) P
+pub chained : {X Y : Type 0} (P : Y → Type 0) (f : X → Option Y) → ((x : X) → IfSome (f x) P) → (o : Option X) → IfSome (option_and_then f o) P
 chained P f h None = tt
 chained P f h (Some x) = h x
 
@@ -88,7 +88,7 @@ by_words told booted words None = tt
 by_words told booted words (Some verb) = by_verb told booted words verb
 
 -- the tests of bytes and spaces in front
-behind : (booted long stray silent spaced : Bool) (x y : Result (Option Line) Fault) → Fits booted x (step_said y)
+behind : (booted long stray silent spaced : Bool) (x y : Result (Option Line) LineFault) → Fits booted x (step_said y)
     → Fits booted (if long then Err Long else (if stray then Err Byte else (if silent then Ok None else (if spaced then Err Space else x))))
     (step_said (if long then Err Long else (if stray then Err Byte else (if silent then Ok None else (if spaced then Err Space else y)))))
 behind booted true stray silent spaced x y h = tt

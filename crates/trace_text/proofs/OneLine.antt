@@ -7,17 +7,19 @@ use Rattle.page_state.specs.declared.step.Step.{Step}
 use Rattle.world.specs.declared.World.{World}
 use Rattle.world.specs.Steps.{IsStep}
 use Rattle.trace_text.specs.declared.fault.Fault.{Fault}
+use Rattle.trace_lines.specs.declared.fault.LineFault.{LineFault}
+use Rattle.trace_lines.specs.declared.fault.LineFault.TheVariants.{Place}
 use Rattle.trace_text.specs.declared.fault.Fault.TheVariants as faults
-use Rattle.trace_text.specs.declared.line.Line.{Line}
-use Rattle.trace_text.specs.declared.line.Line.TheVariants as lines
-use Rattle.trace_text.specs.declared.outcome.Outcome.{Outcome}
-use Rattle.trace_text.specs.declared.outcome.Outcome.TheVariants as outcomes
+use Rattle.trace_lines.specs.declared.line.Line.{Line}
+use Rattle.trace_lines.specs.declared.line.Line.TheVariants as lines
+use Rattle.trace_lines.specs.declared.outcome.Outcome.{Outcome}
+use Rattle.trace_lines.specs.declared.outcome.Outcome.TheVariants as outcomes
 use Rattle.trace_text.specs.declared.report.ReportLine.{ReportLine}
 use Rattle.trace_text.specs.declared.report.ReportLine.TheVariants as report
 use Rattle.trace_text.specs.declared.session.Stop.TheVariants as stops
 use Rattle.trace_text.specs.Laws.{reply_told, replies_told, step_asked}
 use Rattle.trace_text.specs.Replay.{Begins, IsReport}
-use Rattle.trace_text.specs.Said.{said}
+use Rattle.trace_lines.specs.Said.{said}
 use Rattle.trace_text.specs.Session.{Standing, Answer, Follows, Asks, Makes}
 use Rattle.table_tree.specs.OnPage.{word_on}
 use Rattle.trace_text.specs.Worlds.{tree_of, free_of}
@@ -80,8 +82,8 @@ module _ {A : Type 0} (number : ℕ) (line : List ℕ) (rest : List (List ℕ)) 
       let b = rw e at begins in
       inr (inl (record { new = new; stands = still same; silent = silent; says = says ∷ []; more = b.0; is = b.1; no_step = rw n refl; report = b.2 }))
 
-  by_said : (r : Result (Option Line) Fault) → Fits true r (step_asked line) → Follows number r old answer new → OneLine number world line rest reported outcome
-  by_said (Err fault) fit f = fault_ends fault f.0
+  by_said : (r : Result (Option Line) LineFault) → Fits true r (step_asked line) → Follows number r old answer new → OneLine number world line rest reported outcome
+  by_said (Err fault) fit f = fault_ends (faults.Line fault) f.0
   by_said (Ok None) fit f =
       let b = rw f.0 at begins in
       inr (inl (record { new = new; stands = still f.1; silent = fit; says = []; more = reported; is = refl; no_step = refl; report = b }))
@@ -105,8 +107,8 @@ module _ {A : Type 0} (number : ℕ) (line : List ℕ) (rest : List (List ℕ)) 
       let m = of_some old.world world _ (λ w. Asks (option_map report.Word (word_on (tree_of w tree) page level)) faults.Path old answer new) stands f in
       asks (option_map report.Word (word_on (tree_of world tree) page level)) faults.Path (mapped (λ says. reply_told says ≡ None) report.Word (λ w. refl) (word_on (tree_of world tree) page level)) m.0 m.1 fit.1
   by_said (Ok (Some lines.FreeShared)) fit f =
-      let m = of_some old.world world _ (λ w. Asks (Some (report.Free (free_of w))) faults.Place old answer new) stands f in
-      asks (Some (report.Free (free_of world))) faults.Place refl m.0 m.1 fit.1
+      let m = of_some old.world world _ (λ w. Asks (Some (report.Free (free_of w))) (faults.Line Place) old answer new) stands f in
+      asks (Some (report.Free (free_of world))) (faults.Line Place) refl m.0 m.1 fit.1
 
 pub one_line : {A : Type 0} (number : ℕ) (old : Standing A) (world : World A) (line : List ℕ) (rest : List (List ℕ)) (reported : List ReportLine) (outcome : Outcome)
     → old.world ≡ Some world → IsReport number old (line ∷ rest) reported outcome → OneLine number world line rest reported outcome

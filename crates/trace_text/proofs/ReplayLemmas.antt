@@ -4,20 +4,22 @@ use Rattle.std.proofs.lemmas.List.{append_assoc, length-take-le, take_all}
 use Rattle.std.proofs.lemmas.Bool.{lt-ltb, cases_lt}
 use Rattle.std.specs.Io.KnownBytes.{Appends}
 use Rattle.trace_text.specs.declared.fault.Fault.{Fault}
+use Rattle.trace_lines.specs.declared.fault.LineFault.TheVariants.{Long}
 use Rattle.trace_text.specs.declared.fault.Fault.TheVariants as faults
-use Rattle.trace_text.specs.declared.outcome.Outcome.{Outcome}
-use Rattle.trace_text.specs.declared.outcome.Outcome.TheVariants as outcomes
+use Rattle.trace_lines.specs.declared.outcome.Outcome.{Outcome}
+use Rattle.trace_lines.specs.declared.outcome.Outcome.TheVariants as outcomes
 use Rattle.trace_text.specs.declared.report.ReportLine.{ReportLine}
 use Rattle.trace_text.specs.declared.report.ReportLine.TheVariants as report
 use Rattle.trace_text.specs.declared.session.Stop.TheVariants as stops
 use Rattle.trace_text.specs.Played.{Plays, Writes}
-use Rattle.trace_text.specs.Reading.{IsFirstLine, ReadsLine}
-use Rattle.trace_text.specs.Replay.{lines_of, IsPlayed, IsReport, IsReplayed}
-use Rattle.trace_text.specs.Said.{said}
+use Rattle.trace_lines.specs.Reading.{IsFirstLine, ReadsLine}
+use Rattle.trace_lines.specs.Reading.{lines_of}
+use Rattle.trace_text.specs.Replay.{IsPlayed, IsReport, IsReplayed}
+use Rattle.trace_lines.specs.Said.{said}
 use Rattle.trace_text.specs.Session.{Standing, Answer, Runs, at_start}
-use Rattle.trace_text.specs.Settings.{Told}
+use Rattle.trace_lines.specs.Settings.{Told}
 use Rattle.trace_text.specs.Texts.{text_of, text_of_report}
-use Rattle.trace_text.proofs.KnownBytes.{appends_both}
+use Rattle.trace_lines.proofs.KnownBytes.{appends_both}
 
 text_of_report-append : (xs ys : List ReportLine) → text_of_report (xs ++ ys) ≡ text_of_report xs ++ text_of_report ys
 text_of_report-append [] ys = refl
@@ -35,7 +37,7 @@ pub record SoFar {A : Type 0} (all left before now : Option (List ℕ)) (number 
   pub leads : Leads all left number standing told
 
 -- what is long has a fault
-said-long : (told : Told) (booted : Bool) (line : List ℕ) → 256 < length line → said told booted line ≡ Err faults.Long
+said-long : (told : Told) (booted : Bool) (line : List ℕ) → 256 < length line → said told booted line ≡ Err Long
 unfolding said
 said-long told booted line h = let long : nat_lt 256 (length line) ≡ true = lt-ltb 256 (length line) h in rw long refl
 

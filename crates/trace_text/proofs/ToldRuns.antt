@@ -17,19 +17,21 @@ use Rattle.world.specs.Laws.{EndsRun}
 use Rattle.world.specs.Stands.{layout_of, state_of}
 use Rattle.world.specs.Steps.{call_of, Leads as LeadsBy}
 use Rattle.trace_text.specs.declared.fault.Fault.{Fault}
+use Rattle.trace_lines.specs.declared.fault.LineFault.{LineFault}
+use Rattle.trace_lines.specs.declared.fault.LineFault.TheVariants.{Place}
 use Rattle.trace_text.specs.declared.fault.Fault.TheVariants as faults
-use Rattle.trace_text.specs.declared.line.Line.{Line}
-use Rattle.trace_text.specs.declared.line.Line.TheVariants as lines
-use Rattle.trace_text.specs.declared.outcome.Outcome.{Outcome}
-use Rattle.trace_text.specs.declared.outcome.Outcome.TheVariants as outcomes
+use Rattle.trace_lines.specs.declared.line.Line.{Line}
+use Rattle.trace_lines.specs.declared.line.Line.TheVariants as lines
+use Rattle.trace_lines.specs.declared.outcome.Outcome.{Outcome}
+use Rattle.trace_lines.specs.declared.outcome.Outcome.TheVariants as outcomes
 use Rattle.trace_text.specs.declared.report.ReportLine.{ReportLine}
 use Rattle.trace_text.specs.declared.report.ReportLine.TheVariants as report
 use Rattle.trace_text.specs.declared.session.Stop.TheVariants as stops
 use Rattle.trace_text.specs.Laws.{reply_told, replies_told, step_asked, steps_asked, Leads, TellsRun, StopsIn, Reaches, TellsNoBoot, TellsBoot, TraceRuns}
 use Rattle.trace_text.specs.Replay.{IsPlayed, Begins, IsReport}
-use Rattle.trace_text.specs.Said.{said}
+use Rattle.trace_lines.specs.Said.{said}
 use Rattle.trace_text.specs.Session.{Standing, Answer, Follows, Tells, HasWorld, IsNoWorld, at_start}
-use Rattle.trace_text.specs.Settings.{config_of}
+use Rattle.trace_lines.specs.Settings.{config_of}
 use Rattle.trace_text.proofs.Asked.{Fits, fits}
 use Rattle.std.proofs.lemmas.List.{append_assoc}
 use Rattle.trace_text.proofs.OneLine.{one_line}
@@ -282,13 +284,13 @@ module _ {A : Type 0} (number : ℕ) (line : List ℕ) (rest : List (List ℕ)) 
       })
 
   boots : (carve : Option PageRange) (answer : Answer) → old.told.carve ≡ carve → Plays answer → Reports answer
-      → MatchOption carve ((answer ≡ Err (stops.Fault faults.Place)) × (new ≡ old)) (λ carve. MatchResult answer (λ says. (world : World A) × (says_line : ReportLine) × (says ≡ Some says_line) × HasWorld carve old world says_line new) (λ stop. IsNoWorld stop (memory_of old.told.regions carve) (config_of old.told) × (new ≡ old)))
+      → MatchOption carve ((answer ≡ Err (stops.Fault (faults.Line Place))) × (new ≡ old)) (λ carve. MatchResult answer (λ says. (world : World A) × (says_line : ReportLine) × (says ≡ Some says_line) × HasWorld carve old world says_line new) (λ stop. IsNoWorld stop (memory_of old.told.regions carve) (config_of old.told) × (new ≡ old)))
       → step_asked line ≡ None → Told number old (line ∷ rest) reported outcome
-  boots None answer at played begins h silent = fault_alone answer faults.Place begins h.0
+  boots None answer at played begins h silent = fault_alone answer (faults.Line Place) begins h.0
   boots (Some carve) answer at played begins h silent = boots_by carve answer at played begins h silent
 
-  before_boot : (answer : Answer) → Plays answer → Reports answer → (r : Result (Option Line) Fault) → Fits false r (step_asked line) → Follows number r old answer new → Told number old (line ∷ rest) reported outcome
-  before_boot answer played begins (Err fault) fit f = fault_alone answer fault begins f.0
+  before_boot : (answer : Answer) → Plays answer → Reports answer → (r : Result (Option Line) LineFault) → Fits false r (step_asked line) → Follows number r old answer new → Told number old (line ∷ rest) reported outcome
+  before_boot answer played begins (Err fault) fit f = fault_alone answer (faults.Line fault) begins f.0
   before_boot answer played begins (Ok None) fit f =
       let b = rw f.0 at begins in
       passes_before (subst Plays f.0 played) fit (follows reported (ap (λ (s : Standing A). s.world) f.1 ∙ unbooted) b)

@@ -13,16 +13,17 @@ use Rattle.world.specs.declared.World.{World}
 use Rattle.world.specs.Laws.{EndsRun}
 use Rattle.world.specs.Stands.{layout_of, state_of}
 use Rattle.trace_text.specs.declared.fault.Fault.{Fault}
-use Rattle.trace_text.specs.declared.line.Line.{Line}
-use Rattle.trace_text.specs.declared.line.Line.TheVariants as lines
-use Rattle.trace_text.specs.declared.outcome.Outcome.{Outcome}
-use Rattle.trace_text.specs.declared.outcome.Outcome.TheVariants as outcomes
+use Rattle.trace_lines.specs.declared.fault.LineFault.{LineFault}
+use Rattle.trace_lines.specs.declared.line.Line.{Line}
+use Rattle.trace_lines.specs.declared.line.Line.TheVariants as lines
+use Rattle.trace_lines.specs.declared.outcome.Outcome.{Outcome}
+use Rattle.trace_lines.specs.declared.outcome.Outcome.TheVariants as outcomes
 use Rattle.trace_text.specs.declared.report.ReportLine.{ReportLine}
 use Rattle.trace_text.specs.declared.report.ReportLine.TheVariants as report
 use Rattle.trace_text.specs.Replay.{IsPlayed, IsReport}
-use Rattle.trace_text.specs.Said.{said}
+use Rattle.trace_lines.specs.Said.{said}
 use Rattle.trace_text.specs.Session.{Standing, HasWorld, at_start}
-use Rattle.trace_text.specs.Settings.{nothing_told}
+use Rattle.trace_lines.specs.Settings.{nothing_told}
 
 -- the CPU and the reply that a line of a report tells, if it is a step's
 abbrev pub reply_told : ReportLine → Option (ℕ × Reply)
@@ -38,7 +39,7 @@ abbrev pub replies_told : List ReportLine → List (ℕ × Reply)
 replies_told reported = filter_map reply_told reported
 
 -- the CPU and the step that a line asks for, if it is a step line
-abbrev pub step_said : Result (Option Line) Fault → Option (ℕ × Step)
+abbrev pub step_said : Result (Option Line) LineFault → Option (ℕ × Step)
 step_said (Err fault) = None
 step_said (Ok None) = None
 step_said (Ok (Some (lines.Geometry bits))) = None

@@ -14,16 +14,18 @@ use Rattle.world.specs.Boots.{IsBooted, IsNoBoot}
 use Rattle.world.specs.Steps.{IsStep}
 use Rattle.trace_text.specs.declared.fault.Fault.{Fault}
 use Rattle.trace_text.specs.declared.fault.Fault.TheVariants as faults
-use Rattle.trace_text.specs.declared.line.Line.{Line}
-use Rattle.trace_text.specs.declared.line.Line.TheVariants as lines
+use Rattle.trace_lines.specs.declared.fault.LineFault.{LineFault}
+use Rattle.trace_lines.specs.declared.fault.LineFault.TheVariants.{Place}
+use Rattle.trace_lines.specs.declared.line.Line.{Line}
+use Rattle.trace_lines.specs.declared.line.Line.TheVariants as lines
 use Rattle.trace_text.specs.declared.report.ReportLine.{ReportLine}
 use Rattle.trace_text.specs.declared.report.ReportLine.TheVariants as report
 use Rattle.trace_text.specs.declared.session.Session.{Session}
 use Rattle.trace_text.specs.declared.session.Stop.{Stop}
 use Rattle.trace_text.specs.declared.session.Stop.TheVariants as stops
-use Rattle.trace_text.specs.declared.verb.TreeName.TheVariants.{Host, Hyp}
-use Rattle.trace_text.specs.Said.{said}
-use Rattle.trace_text.specs.Settings.{Told, told_of, nothing_told, told_after, config_of}
+use Rattle.trace_lines.specs.declared.verb.TreeName.TheVariants.{Host, Hyp}
+use Rattle.trace_lines.specs.Said.{said}
+use Rattle.trace_lines.specs.Settings.{Told, told_of, nothing_told, told_after, config_of}
 use Rattle.table_tree.specs.OnPage.{word_on}
 use Rattle.trace_text.specs.Worlds.{tree_of, free_of}
 
@@ -78,7 +80,7 @@ pub record HasWorld {A : Type 0} (carve : PageRange) (old : Standing A) (world :
 -- `boot`
 abbrev pub Boots : {A : Type 0} → Standing A → Answer → Standing A → Type 0
 Boots {A} old answer new =
-    MatchOption old.told.carve (Faults faults.Place old answer new) (λ carve.
+    MatchOption old.told.carve (Faults (faults.Line Place) old answer new) (λ carve.
     MatchResult answer (λ reported. (world : World A) × (line : ReportLine) × (reported ≡ Some line) × HasWorld carve old world line new)
     (λ stop. IsNoWorld stop (memory_of old.told.regions carve) (config_of old.told) × (new ≡ old)))
 
@@ -101,7 +103,7 @@ Asks told fault old answer new = (answer ≡ ok_or (option_map Some told) (stops
 
 -- what a line does after the boot; before it, it has no place
 abbrev pub InWorld : {A : Type 0} → (World A → Standing A → Answer → Standing A → Type 0) → Standing A → Answer → Standing A → Type 0
-InWorld does old answer new = MatchOption old.world (Faults faults.Place old answer new) (λ world. does world old answer new)
+InWorld does old answer new = MatchOption old.world (Faults (faults.Line Place) old answer new) (λ world. does world old answer new)
 
 -- what a line does, its number counted from 1
 abbrev pub Does : {A : Type 0} → ℕ → Line → Standing A → Answer → Standing A → Type 0
@@ -114,11 +116,11 @@ Does number (lines.Carve pages) = Tells (lines.Carve pages)
 Does number lines.Boot = Boots
 Does number (lines.Step cpu step) = InWorld (Makes number cpu step)
 Does number (lines.Word tree page level) = InWorld (λ world. Asks (option_map report.Word (word_on (tree_of world tree) page level)) faults.Path)
-Does number lines.FreeShared = InWorld (λ world. Asks (Some (report.Free (free_of world))) faults.Place)
+Does number lines.FreeShared = InWorld (λ world. Asks (Some (report.Free (free_of world))) (faults.Line Place))
 
 -- what follows from what a line says
-abbrev pub Follows : {A : Type 0} → ℕ → Result (Option Line) Fault → Standing A → Answer → Standing A → Type 0
-Follows number (Err fault) old answer new = Faults fault old answer new
+abbrev pub Follows : {A : Type 0} → ℕ → Result (Option Line) LineFault → Standing A → Answer → Standing A → Type 0
+Follows number (Err fault) old answer new = Faults (faults.Line fault) old answer new
 Follows number (Ok None) old answer new = (answer ≡ Ok None) × (new ≡ old)
 Follows number (Ok (Some line)) old answer new = Does number line old answer new
 

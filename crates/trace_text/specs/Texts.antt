@@ -3,6 +3,7 @@ use Rattle.std.specs.Prelude.{ℕ, ◌-◌, List, [], ◌∷◌, ◌++◌, lengt
 use Rattle.std.specs.Fmt.{digits, decimal}
 use Rattle.page_state.specs.LayoutFaults.{fault_number}
 use Rattle.page_state.specs.Texts.{text_of_reply}
+use Rattle.trace_lines.specs.Texts.{text_of_line_fault}
 use Rattle.world.specs.Boots.{boot_number}
 use Rattle.trace_text.specs.declared.fault.Fault.{Fault}
 use Rattle.trace_text.specs.declared.fault.Fault.TheVariants as faults
@@ -12,13 +13,7 @@ use Rattle.trace_text.specs.declared.report.ReportLine.TheVariants as report
 -- the name of a fault, with its number where it has one
 abbrev pub text_of_fault : Fault → List ℕ
 text_of_fault faults.Lines = codes "lines"
-text_of_fault faults.Long = codes "long"
-text_of_fault faults.Byte = codes "byte"
-text_of_fault faults.Space = codes "space"
-text_of_fault faults.Word = codes "word"
-text_of_fault faults.Place = codes "place"
-text_of_fault faults.Count = codes "count"
-text_of_fault faults.Form = codes "form"
+text_of_fault (faults.Line fault) = text_of_line_fault fault
 text_of_fault faults.Cpu = codes "cpu"
 text_of_fault (faults.Layout fault) = codes "layout " ++ decimal (fault_number fault)
 text_of_fault (faults.Boot fault) = codes "boot " ++ decimal (boot_number fault)

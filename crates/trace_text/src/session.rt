@@ -5,21 +5,19 @@ ghost use Rattle.page_state.specs.LayoutFaults.{IsAccepted};
 ghost use Rattle.page_state.specs.Regions.{memory_of};
 ghost use Rattle.table_tree.specs.View.{tables_of};
 ghost use Rattle.trace_text.specs.Session.{Asks, Boots, Does, HasWorld, InWorld, IsNoWorld, Makes, Runs, Tells, at_start, standing_of};
-ghost use Rattle.trace_text.specs.Settings.{config_of, told_of};
+ghost use Rattle.trace_lines.specs.Settings.{config_of, told_of};
 ghost use Rattle.world.specs.Boots.{IsBooted};
 ghost use Rattle.table_tree.specs.OnPage.{word_on as word_of_path};
-ghost use Rattle.trace_text.specs.Lines.{IsServedLine};
+ghost use Rattle.trace_text.specs.Served.{IsServedLine};
 ghost use Rattle.world.specs.Steps.{IsServed};
 ghost use Rattle.trace_text.specs.Worlds.{free_of, tree_of};
 
 use crate::fault::Fault;
-use crate::line::Line;
 use crate::report::ReportLine;
-use crate::said::said;
-use crate::settings::Settings;
-use crate::verb::TreeName;
 use page_state::{MemoryMap, Page, PageRange, Region, Step};
 use std::alloc::{Allocator, Global};
+use trace_lines::said::said;
+use trace_lines::{Line, LineFault, Settings, TreeName};
 use world::World;
 
 /// Why a line ends the run.
@@ -71,7 +69,7 @@ impl<A: Allocator + Copy> Session<A> {
         match said(&self.settings, self.world.is_some(), line) {
             Ok(Some(said)) => self.carry_out(number, said),
             Ok(None) => Ok(None),
-            Err(fault) => Err(Stop::Fault(fault)),
+            Err(fault) => Err(Stop::Fault(Fault::Line(fault))),
         }
     }
 
@@ -112,7 +110,7 @@ impl<A: Allocator + Copy> Session<A> {
         ensures steps { self.new.steps ≡ self.old.steps }
     {
         let Some(carve) = self.settings.carve else {
-            return Err(Stop::Fault(Fault::Place));
+            return Err(Stop::Fault(Fault::Line(LineFault::Place)));
         };
         match self.booted(carve) {
             Ok(world) => {
@@ -143,7 +141,7 @@ impl<A: Allocator + Copy> Session<A> {
         ensures steps { self.new.steps ≤ self.old.steps + 1 }
     {
         let Some(world) = self.world.as_mut() else {
-            return Err(Stop::Fault(Fault::Place));
+            return Err(Stop::Fault(Fault::Line(LineFault::Place)));
         };
         if cpu >= world.cpus() {
             return Err(Stop::Fault(Fault::Cpu));
@@ -162,7 +160,7 @@ impl<A: Allocator + Copy> Session<A> {
         ensures { InWorld (λ w. Asks (option_map ReportLine.Word (word_of_path (tree_of w tree) page level)) Fault.Path) (standing_of self.now) result (standing_of self.now) }
     {
         let Some(world) = self.world.as_ref() else {
-            return Err(Stop::Fault(Fault::Place));
+            return Err(Stop::Fault(Fault::Line(LineFault::Place)));
         };
         let shared = &world.parts().shared;
         let tree = match tree {
@@ -177,10 +175,10 @@ impl<A: Allocator + Copy> Session<A> {
 
     /// The number of free frames of the shared pool.
     fn free(&self) -> Result<Option<ReportLine>, Stop>
-        ensures { InWorld (λ w. Asks (Some (ReportLine.Free (free_of w))) Fault.Place) (standing_of self.now) result (standing_of self.now) }
+        ensures { InWorld (λ w. Asks (Some (ReportLine.Free (free_of w))) (Fault.Line LineFault.Place)) (standing_of self.now) result (standing_of self.now) }
     {
         let Some(world) = self.world.as_ref() else {
-            return Err(Stop::Fault(Fault::Place));
+            return Err(Stop::Fault(Fault::Line(LineFault::Place)));
         };
         Ok(Some(ReportLine::Free(world.parts().shared.pool.free())))
     }

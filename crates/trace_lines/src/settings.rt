@@ -1,0 +1,68 @@
+//! What a trace says before its boot.
+ghost use Rattle.std.specs.Prelude.{◌≡◌, [], ◌∷◌, ◌++◌, OnOk, OnErr};
+ghost use Rattle.trace_lines.specs.Settings.{config_of, nothing_told, told_after, told_of};
+
+use crate::line::Line;
+use page_state::{Config, PageRange, Region, RegionKind};
+use std::alloc::{AllocError, Global};
+
+/// What was said before boot. What wasn't said has its default at boot.
+#[derive(Drop)]
+pub struct Settings {
+    pub geometry: Option<u64>,
+    pub cpus: Option<u64>,
+    pub log: Option<u64>,
+    pub regions: Vec<Region>,
+    pub carve: Option<PageRange>,
+}
+
+impl Settings {
+    /// Nothing said.
+    pub fn new(global: Global) -> Settings
+        ensures { told_of result ≡ nothing_told }
+    {
+        Settings {
+            geometry: None,
+            cpus: None,
+            log: None,
+            regions: Vec::new(global),
+            carve: None,
+        }
+    }
+
+    /// Takes up a line that stands before boot. Other lines say nothing here.
+    pub fn say(&mut self, said: Line) -> Result<(), AllocError>
+        ensures ok { OnOk result (told_of self.new ≡ told_after said (told_of self.old)) }
+        ensures err { OnErr result (told_of self.new ≡ told_of self.old) }
+    {
+        match said {
+            Line::Geometry(bits) => self.geometry = Some(bits),
+            Line::Cpus(cpus) => self.cpus = Some(cpus),
+            Line::Log(calls) => self.log = Some(calls),
+            Line::Memory(pages) => self.add_region(RegionKind::Memory, pages)?,
+            Line::Device(pages) => self.add_region(RegionKind::Device, pages)?,
+            Line::Carve(pages) => self.carve = Some(pages),
+            Line::Boot | Line::Step { .. } | Line::Word { .. } | Line::FreeShared => {}
+        }
+        Ok(())
+    }
+
+    fn add_region(&mut self, kind: RegionKind, pages: PageRange) -> Result<(), AllocError>
+        ensures ok { OnOk result (told_of self.new ≡ record (told_of self.old) { regions = self.old.regions.items ++ record { kind = kind; pages = pages } ∷ [] }) }
+        ensures err { OnErr result (told_of self.new ≡ told_of self.old) }
+    {
+        self.regions.push(Region { kind, pages })?;
+        Ok(())
+    }
+
+    /// The configuration, with the defaults: 39 bits, one CPU, logs of 1,024 calls.
+    pub fn config(&self) -> Config
+        ensures { result ≡ config_of (told_of self.now) }
+    {
+        Config {
+            cpus: self.cpus.unwrap_or(1),
+            log: self.log.unwrap_or(1024),
+            geometry: self.geometry.unwrap_or(39),
+        }
+    }
+}
