@@ -4,8 +4,8 @@ use Rattle.page_state.specs.declared.entry.PageRange.{PageRange}
 use Rattle.page_state.specs.declared.layout.Config.{Config}
 use Rattle.page_state.specs.declared.layout.Region.{Region}
 use Rattle.page_state.specs.declared.layout.RegionKind.TheVariants as kinds
-use Rattle.trace_lines.specs.declared.line.Line.{Line}
-use Rattle.trace_lines.specs.declared.line.Line.TheVariants as lines
+use Rattle.trace_lines.specs.declared.line.Setting.{Setting}
+use Rattle.trace_lines.specs.declared.line.Setting.TheVariants as settings
 use Rattle.trace_lines.specs.declared.settings.Settings.{Settings}
 
 -- what was told: the width of input addresses, the CPUs, the calls of a log, the regions in order, and the carve-out
@@ -24,18 +24,14 @@ told_of s = record { geometry = s.geometry; cpus = s.cpus; log = s.log; regions 
 abbrev pub nothing_told : Told
 nothing_told = record { geometry = None; cpus = None; log = None; regions = []; carve = None }
 
--- what is told after a line
-abbrev pub told_after : Line → Told → Told
-told_after (lines.Geometry bits) told = record told { geometry = Some bits }
-told_after (lines.Cpus cpus) told = record told { cpus = Some cpus }
-told_after (lines.Log calls) told = record told { log = Some calls }
-told_after (lines.Memory pages) told = record told { regions = told.regions ++ record { kind = kinds.Memory; pages = pages } ∷ [] }
-told_after (lines.Device pages) told = record told { regions = told.regions ++ record { kind = kinds.Device; pages = pages } ∷ [] }
-told_after (lines.Carve pages) told = record told { carve = Some pages }
-told_after lines.Boot told = told
-told_after (lines.Step cpu step) told = told
-told_after (lines.Word tree page level) told = told
-told_after lines.FreeShared told = told
+-- what is told after a setting
+abbrev pub told_after : Setting → Told → Told
+told_after (settings.Geometry bits) told = record told { geometry = Some bits }
+told_after (settings.Cpus cpus) told = record told { cpus = Some cpus }
+told_after (settings.Log calls) told = record told { log = Some calls }
+told_after (settings.Memory pages) told = record told { regions = told.regions ++ record { kind = kinds.Memory; pages = pages } ∷ [] }
+told_after (settings.Device pages) told = record told { regions = told.regions ++ record { kind = kinds.Device; pages = pages } ∷ [] }
+told_after (settings.Carve pages) told = record told { carve = Some pages }
 
 -- the configuration that was told: where nothing was, one CPU, logs of 1,024 calls, and 39 bits
 abbrev pub config_of : Told → Config

@@ -1,19 +1,25 @@
-//! Lines of a trace: how they are read, what they say, and their faults.
+//! Lines of a trace: how they are read, what they say, their faults, and what they report.
 #![tactic(auto)]
 
+mod argument;
+mod asked;
+mod call;
 mod fault;
+mod grammar;
 mod line;
 mod lines;
 mod number;
 mod outcome;
-pub mod said;
+mod place;
+mod response;
 mod settings;
-mod verb;
 mod words;
 
 pub use fault::LineFault;
-pub use line::Line;
+pub use grammar::said;
+pub use line::{Line, Query, Setting, TreeName};
 pub use lines::{MOST_BYTES, read_line};
 pub use outcome::{EngineFault, Outcome};
+pub use place::Allows;
+pub use response::Response;
 pub use settings::Settings;
-pub use verb::{CallName, TreeName, Verb};

@@ -2,7 +2,7 @@
 ghost use Rattle.std.specs.Prelude.{◌≡◌, [], ◌∷◌, ◌++◌, OnOk, OnErr};
 ghost use Rattle.trace_lines.specs.Settings.{config_of, nothing_told, told_after, told_of};
 
-use crate::line::Line;
+use crate::line::Setting;
 use page_state::{Config, PageRange, Region, RegionKind};
 use std::alloc::{AllocError, Global};
 
@@ -30,19 +30,18 @@ impl Settings {
         }
     }
 
-    /// Takes up a line that stands before boot. Other lines say nothing here.
-    pub fn say(&mut self, said: Line) -> Result<(), AllocError>
+    /// Takes up a setting.
+    pub fn say(&mut self, said: Setting) -> Result<(), AllocError>
         ensures ok { OnOk result (told_of self.new ≡ told_after said (told_of self.old)) }
         ensures err { OnErr result (told_of self.new ≡ told_of self.old) }
     {
         match said {
-            Line::Geometry(bits) => self.geometry = Some(bits),
-            Line::Cpus(cpus) => self.cpus = Some(cpus),
-            Line::Log(calls) => self.log = Some(calls),
-            Line::Memory(pages) => self.add_region(RegionKind::Memory, pages)?,
-            Line::Device(pages) => self.add_region(RegionKind::Device, pages)?,
-            Line::Carve(pages) => self.carve = Some(pages),
-            Line::Boot | Line::Step { .. } | Line::Word { .. } | Line::FreeShared => {}
+            Setting::Geometry(bits) => self.geometry = Some(bits),
+            Setting::Cpus(cpus) => self.cpus = Some(cpus),
+            Setting::Log(calls) => self.log = Some(calls),
+            Setting::Memory(pages) => self.add_region(RegionKind::Memory, pages)?,
+            Setting::Device(pages) => self.add_region(RegionKind::Device, pages)?,
+            Setting::Carve(pages) => self.carve = Some(pages),
         }
         Ok(())
     }

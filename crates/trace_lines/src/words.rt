@@ -1,5 +1,6 @@
 //! The words of a line.
 ghost use Rattle.std.specs.Prelude.{◌≡◌, length, slice_get, option_copied};
+ghost use Rattle.std.specs.Str.{bytes_eq};
 ghost use Rattle.trace_lines.specs.Words.{has_stray_byte as has_stray_byte_in, has_stray_space as has_stray_space_in, words_of};
 
 /// A line as words, which are separated by one space each.
@@ -29,6 +30,13 @@ impl<'a> Words<'a> {
     {
         self.line.split(|byte| *byte == b' ').nth(place)
     }
+}
+
+/// Whether a word is this name.
+pub fn is_name(word: &[u8], name: &[u8]) -> bool
+    ensures { result ≡ bytes_eq word.now name.now }
+{
+    word == name
 }
 
 /// Whether a line has a space first, last, or twice in a row.

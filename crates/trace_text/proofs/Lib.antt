@@ -1,5 +1,4 @@
 mod Asked
-mod Hexadecimal
 mod OneLine
 mod ReplayLemmas
 mod Served

@@ -2,7 +2,6 @@ pub mod Failures
 pub mod Laws
 pub mod Played
 pub mod Replay
-pub mod Served
 pub mod Session
 pub mod Texts
 pub mod Worlds

@@ -1,5 +1,5 @@
 -- The lines of a trace, and its report (profile).
-use Rattle.std.specs.Prelude.{◌≡◌, ℕ, ◌+◌, ◌<◌, ◌≤◌, List, [], ◌∷◌, Option, Some, None, Ok, Err, IfSome}
+use Rattle.std.specs.Prelude.{◌≡◌, ℕ, ◌+◌, ◌<◌, ◌≤◌, List, [], ◌∷◌, ◌++◌, map, Option, Ok, Err, IfSome}
 use Rattle.std.specs.Io.KnownBytes.{Appends}
 use Rattle.trace_text.specs.declared.fault.Fault.TheVariants as faults
 use Rattle.trace_lines.specs.Reading.{lines_of}
@@ -20,8 +20,7 @@ pub record IsPlayed {A : Type 0} (number : ℕ) (line : List ℕ) (old : Standin
 abbrev pub Begins : ℕ → Answer → (List ReportLine → Outcome → Type 0) → List ReportLine → Outcome → Type 0
 Begins number (Err (stops.Fault fault)) follows lines outcome = (lines ≡ report.Fault number fault ∷ []) × (outcome ≡ outcomes.Fault)
 Begins number (Err stops.NoMemory) follows lines outcome = ⊥
-Begins number (Ok None) follows lines outcome = follows lines outcome
-Begins number (Ok (Some line)) follows lines outcome = (more : List ReportLine) × (lines ≡ line ∷ more) × follows more outcome
+Begins number (Ok told) follows lines outcome = (more : List ReportLine) × (lines ≡ map report.Response told ++ more) × follows more outcome
 
 -- the report of a trace's lines from a number on: line after line, and at the end the number of step lines
 abbrev pub IsReport : {A : Type 0} → ℕ → Standing A → List (List ℕ) → List ReportLine → Outcome → Type 0

@@ -2,8 +2,8 @@
 use Rattle.std.specs.Prelude.{ℕ, length}
 use Rattle.table_tree.specs.declared.tree.Tree.{Tree}
 use Rattle.world.specs.declared.World.{World}
-use Rattle.trace_lines.specs.declared.verb.TreeName.{TreeName}
-use Rattle.trace_lines.specs.declared.verb.TreeName.TheVariants.{Host, Hyp}
+use Rattle.trace_lines.specs.declared.line.TreeName.{TreeName}
+use Rattle.trace_lines.specs.declared.line.TreeName.TheVariants.{Host, Hyp}
 
 -- a named tree
 abbrev pub tree_of : {A : Type 0} → World A → TreeName → Tree A

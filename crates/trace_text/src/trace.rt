@@ -60,7 +60,7 @@ fn play<A: Allocator + Copy, W: Write>(
     match session.run(number, line) {
         Ok(None) => Ok(None),
         Ok(Some(told)) => {
-            tell(writer, told)?;
+            tell(writer, ReportLine::Response(told))?;
             Ok(None)
         }
         Err(Stop::Fault(fault)) => {

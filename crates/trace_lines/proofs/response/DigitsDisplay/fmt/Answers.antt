@@ -1,5 +1,5 @@
-use Rattle.trace_text.proofs.Hexadecimal.{zeros_before}
-use Rattle.trace_text.proofs.report.DigitsDisplay.fmt.Goals as goal
+use Rattle.trace_lines.proofs.Hexadecimal.{zeros_before}
+use Rattle.trace_lines.proofs.response.DigitsDisplay.fmt.Goals as goal
 
 pub returns-clause-writes : goal.returns-clause-writes
 returns-clause-writes g c plain ok =
