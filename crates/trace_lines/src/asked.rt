@@ -11,7 +11,7 @@ ghost use Rattle.trace_lines.specs.Asked.{
   tree_names,
 };
 ghost use Rattle.trace_lines.specs.Calls.{called as called_by};
-ghost use Rattle.trace_lines.specs.Words.{named, words_of};
+ghost use Rattle.trace_lines.specs.Words.{named};
 
 use crate::argument::{level_at, number_at, range_of};
 use crate::call::Called;
@@ -34,8 +34,8 @@ impl Asked {
     /// What a line asks for. None where its first word, its call, or the tree or pool that it names is unknown or
     /// missing. A line whose first word begins with a digit is a step line.
     #[tactic(auto, unfolding(crate::specs::Asked::asked))]
-    pub fn of(words: Words<'_>) -> Option<Asked>
-        ensures { result ≡ asked_by (words_of words.entry.line.now) }
+    pub fn of(words: &Words<'_>) -> Option<Asked>
+        ensures { result ≡ asked_by words.now }
     {
         let first = words.get(0)?;
         if begins_with_digit(first) {
@@ -58,8 +58,8 @@ fn begins_with_digit(word: &[u8]) -> bool
 }
 
 /// The lines whose first word says all of what is asked.
-fn header(first: &[u8], words: Words<'_>) -> Option<Asked>
-    ensures { result ≡ named (headers (words_of words.entry.line.now)) first.now }
+fn header(first: &[u8], words: &Words<'_>) -> Option<Asked>
+    ensures { result ≡ named (headers words.now) first.now }
 {
     if is_name(first, b"geometry") {
         let setting = number_at(words, 1).map(Setting::Geometry);
@@ -102,8 +102,8 @@ fn setting_line(name: SettingName, words: usize, setting: Option<Setting>) -> As
 }
 
 /// A step line of the call of this name.
-fn call(name: &[u8], words: Words<'_>) -> Option<Asked>
-    ensures { let all = words_of words.entry.line.now in result ≡ option_map (of_call_by all) (called_by all name.now) }
+fn call(name: &[u8], words: &Words<'_>) -> Option<Asked>
+    ensures { result ≡ option_map (of_call_by words.now) (called_by words.now name.now) }
 {
     let called = Called::of(name, words)?;
     Some(Asked {
@@ -113,8 +113,8 @@ fn call(name: &[u8], words: Words<'_>) -> Option<Asked>
     })
 }
 
-fn step_line(words: Words<'_>, step: Option<Step>) -> Option<Line>
-    ensures { result ≡ option_and_then (λ cpu. option_map (Line.Step cpu) step) (number_at_place (words_of words.entry.line.now) 0) }
+fn step_line(words: &Words<'_>, step: Option<Step>) -> Option<Line>
+    ensures { result ≡ option_and_then (λ cpu. option_map (Line.Step cpu) step) (number_at_place words.now 0) }
 {
     let cpu = number_at(words, 0)?;
     let step = step?;
@@ -122,8 +122,8 @@ fn step_line(words: Words<'_>, step: Option<Step>) -> Option<Line>
 }
 
 /// `word` of the tree of this name.
-fn tree(name: &[u8], words: Words<'_>) -> Option<Asked>
-    ensures { let all = words_of words.entry.line.now in result ≡ option_map (of_tree_by all) (named tree_names name.now) }
+fn tree(name: &[u8], words: &Words<'_>) -> Option<Asked>
+    ensures { result ≡ option_map (of_tree_by words.now) (named tree_names name.now) }
 {
     let tree = tree_name(name)?;
     Some(Asked {
@@ -133,8 +133,8 @@ fn tree(name: &[u8], words: Words<'_>) -> Option<Asked>
     })
 }
 
-fn word_line(tree: TreeName, words: Words<'_>) -> Option<Line>
-    ensures { let all = words_of words.entry.line.now in result ≡ option_and_then (λ page. option_map (λ level. Line.Query (Query.Word tree page level)) (level_at_place all 3)) (number_at_place all 2) }
+fn word_line(tree: TreeName, words: &Words<'_>) -> Option<Line>
+    ensures { result ≡ option_and_then (λ page. option_map (λ level. Line.Query (Query.Word tree page level)) (level_at_place words.now 3)) (number_at_place words.now 2) }
 {
     let page = number_at(words, 2)?;
     let level = level_at(words, 3)?;

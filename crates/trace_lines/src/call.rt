@@ -1,7 +1,6 @@
 //! The calls that a step line can name.
 ghost use Rattle.std.specs.Prelude.{◌≡◌, option_map, Some};
 ghost use Rattle.trace_lines.specs.Calls.{called as called_by};
-ghost use Rattle.trace_lines.specs.Words.{words_of};
 
 use crate::argument::number_at;
 use crate::words::{Words, is_name};
@@ -19,8 +18,8 @@ pub struct Called {
 impl Called {
     /// The calls of the grammar, a row for each: its name, the number of its words, and the step that they make.
     #[tactic(auto, unfolding(crate::specs::Calls::called))]
-    pub fn of(name: &[u8], words: Words<'_>) -> Option<Called>
-        ensures { result ≡ called_by (words_of words.entry.line.now) name.now }
+    pub fn of(name: &[u8], words: &Words<'_>) -> Option<Called>
+        ensures { result ≡ called_by words.now name.now }
     {
         if is_name(name, b"share_hyp") {
             return row(3, number_at(words, 2).map(|pfn| Step::ShareHyp { pfn }));

@@ -3,7 +3,7 @@ ghost use Rattle.std.specs.Prelude.{◌≡◌, IfOk, IfSome};
 ghost use Rattle.trace_lines.specs.Places.{IsAllowed};
 ghost use Rattle.trace_lines.specs.Said.{said as said_by, said_by_words as said_by_all_words};
 ghost use Rattle.trace_lines.specs.Settings.{told_of};
-ghost use Rattle.trace_lines.specs.Words.{is_silent as is_silent_line, words_of};
+ghost use Rattle.trace_lines.specs.Words.{is_silent as is_silent_line};
 
 use crate::asked::Asked;
 use crate::fault::LineFault;
@@ -32,7 +32,7 @@ pub fn said(allows: Allows, settings: &Settings, line: &[u8]) -> Result<Option<L
     if has_stray_space(line) {
         return Err(LineFault::Space);
     }
-    said_by_words(allows, settings, Words::of(line))
+    said_by_words(allows, settings, &Words::of(line))
 }
 
 /// An empty line, and one that begins with `#`.
@@ -45,9 +45,9 @@ fn is_silent(line: &[u8]) -> bool
 fn said_by_words(
     allows: Allows,
     settings: &Settings,
-    words: Words<'_>,
+    words: &Words<'_>,
 ) -> Result<Option<Line>, LineFault>
-    ensures { result ≡ said_by_all_words allows (told_of settings.now) (words_of words.entry.line.now) }
+    ensures { result ≡ said_by_all_words allows (told_of settings.now) words.now }
 {
     let asked = Asked::of(words).ok_or(LineFault::Word)?;
     if !may_stand(allows, settings, asked.verb) {

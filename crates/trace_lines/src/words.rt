@@ -3,30 +3,41 @@ ghost use Rattle.std.specs.Prelude.{◌≡◌, length, slice_get, option_copied}
 ghost use Rattle.std.specs.Str.{bytes_eq};
 ghost use Rattle.trace_lines.specs.Words.{has_stray_byte as has_stray_byte_in, has_stray_space as has_stray_space_in, words_of};
 
+use std::marker::Model;
+
 /// A line as words, which are separated by one space each.
-#[derive(Clone, Copy)]
+#[derive(Drop)]
 pub struct Words<'a> {
     line: &'a [u8],
+}
+
+impl<'a> Model for Words<'a> {
+    ghost use Rattle.std.specs.Prelude.{ℕ, List};
+    ghost use Rattle.trace_lines.specs.Words.{words_of};
+
+    ghost Value = { List (List ℕ) };
+
+    ghost view = { λ words. words_of words.line.now };
 }
 
 impl<'a> Words<'a> {
     /// The words of a line.
     pub fn of(line: &'a [u8]) -> Words<'a>
-        ensures { result.line.now ≡ line.now }
+        ensures { result ≡ words_of line.now }
     {
         Words { line }
     }
 
     /// How many words there are.
     pub fn count(&self) -> usize
-        ensures { result ≡ length (words_of self.now.line.now) }
+        ensures { result ≡ length self.now }
     {
         self.line.split(|byte| *byte == b' ').count()
     }
 
     /// The word at a place, counted from 0.
     pub fn get(&self, place: usize) -> Option<&'a [u8]>
-        ensures { option_copied result ≡ slice_get (words_of self.now.line.now) place }
+        ensures { option_copied result ≡ slice_get self.now place }
     {
         self.line.split(|byte| *byte == b' ').nth(place)
     }

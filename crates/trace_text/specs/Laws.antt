@@ -27,13 +27,14 @@ use Rattle.trace_lines.specs.Said.{said}
 use Rattle.trace_text.specs.Session.{Standing, HasWorld, allowed, at_start}
 use Rattle.trace_lines.specs.Settings.{nothing_told}
 
--- the CPU and the reply that a line of a report tells, if it is a step's
+-- the CPU and the reply that a response tells, if it is a step's
 abbrev pub reply_of : Response → Option (ℕ × Reply)
 reply_of (responses.Boot host hyp free) = None
 reply_of (responses.Step number cpu reply) = Some (cpu, reply)
 reply_of (responses.Word word) = None
 reply_of (responses.Free free) = None
 
+-- those that a line of a report tells
 abbrev pub reply_told : ReportLine → Option (ℕ × Reply)
 reply_told (report.Response response) = reply_of response
 reply_told (report.Fault number fault) = None
