@@ -1,5 +1,5 @@
 //! The calls that a step line can name.
-ghost use Rattle.std.specs.Prelude.{◌≡◌, option_map, Some};
+ghost use Rattle.std.specs.Prelude.{◌≡◌, Some};
 ghost use Rattle.trace_lines.specs.Calls.{called as called_by};
 
 use crate::argument::number_at;
