@@ -1,7 +1,1 @@
-pub mod Joins
-pub mod Order
-pub mod Places
-pub mod Coarse
-pub mod Changes
-pub mod Chained
-pub mod Pages
+pub mod TargetRuns

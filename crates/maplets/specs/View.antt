@@ -1,12 +1,18 @@
 -- What contracts see of maplets.
-use Rattle.std.specs.Prelude.{ℕ, List, sum_by}
+use Rattle.std.specs.Prelude.{ℕ, List, map}
 use Rattle.page_state.specs.declared.entry.Run.{Run}
+use Rattle.page_state.specs.declared.entry.Target.{Target}
+use Rattle.run_list.specs.declared.run.Run.{Run as ListRun}
 
--- the coarsest list of runs, and for how many more rows there is room
+-- the coarsest list of runs, and for how many more runs there is room
 pub record KeptRuns : Type 0 where
   pub runs : List Run
   pub room : ℕ
 
--- the number of pages of all runs
-abbrev pub pages_of : List Run → ℕ
-pages_of runs = sum_by (λ r. r.pages.count) runs
+-- a kept run of a target, as a run of the map
+abbrev pub target_run : ListRun Target → Run
+target_run r = record { pages = r.pages; target = r.value }
+
+-- the kept runs, as runs of the map
+abbrev pub target_runs : List (ListRun Target) → List Run
+target_runs runs = map target_run runs

@@ -1,5 +1,5 @@
 -- The worked rows of the limits, computed.
-use Rattle.std.proofs.Common.{◌≡◌, ℕ, zero, suc, ◌^◌, ◌≤◌, refl, arith, [], ◌∷◌, All, AllPairs}
+use Rattle.std.proofs.Common.{zero, suc, ◌^◌, ◌≤◌, refl, arith, [], ◌∷◌, All, AllPairs}
 use Rattle.page_state.specs.declared.layout.Region.{Region}
 use Rattle.page_state.specs.LayoutFaults.{IsAccepted, AreDisjoint}
 use Rattle.page_state.specs.Regions.{end_of}

@@ -6,6 +6,7 @@ pub mod EntryTests
 pub mod Geometries
 pub mod Laws
 pub mod LayoutFaults
+pub mod LayoutView
 pub mod Layouts
 pub mod Limits
 pub mod Map

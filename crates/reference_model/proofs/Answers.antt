@@ -49,7 +49,7 @@ barred_answers l cpu slot step wants x why h = inr (inl (record { why = why; fai
 
 module _ (l : Layout) (cpu : ℕ) (slot : Option ℕ) (step : Step) (wants : Bool) (reply : Reply) (x y : Used) (free : first_test (rule_of l cpu slot step x) (lacks_slot (names step) slot) ≡ None) where
   -- the rule's changes, where a made step's rows are told by them
-  carried-by : (fails l cpu slot step x ≡ None → made l cpu slot step x ≡ with_told l cpu slot (rule_of l cpu slot step x).changes (changed l.depth (rule_of l cpu slot step x).changes x)) → CarriesOut l cpu slot step wants (rule_of l cpu slot step x).changes x reply y → Answered l cpu slot step wants x reply y
+  pub carried-by : (fails l cpu slot step x ≡ None → made l cpu slot step x ≡ with_told l cpu slot (rule_of l cpu slot step x).changes (changed l.depth (rule_of l cpu slot step x).changes x)) → CarriesOut l cpu slot step wants (rule_of l cpu slot step x).changes x reply y → Answered l cpu slot step wants x reply y
   unfolding fails refusal
   carried-by rows (inl p) =
       let passes = next-told _ _ free ∙ if-false _ (Some NoPool) None p.enough in

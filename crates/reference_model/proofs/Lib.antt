@@ -30,3 +30,4 @@ pub mod ShortRows
 pub mod Steps
 pub mod VmRows
 pub mod conditions
+pub mod Rely

@@ -1,14 +1,20 @@
 -- The boot state (profile).
-use Rattle.std.specs.Prelude.{ℕ, true, false, ◌+◌, ◌≤◌, drop}
+use Rattle.std.specs.Prelude.{ℕ, true, false, ◌+◌, ◌≤◌, drop, None}
 use Rattle.descriptor.specs.declared.Prot.TheVariants.{RW}
 use Rattle.descriptor.specs.declared.State.TheVariants.{Owned}
 use Rattle.page_state.specs.Accepted.{IsAcceptedLayout}
+use Rattle.page_state.specs.declared.row.Row.{Row}
+use Rattle.page_state.specs.declared.row.Usage.TheVariants.{SharedPool}
 use Rattle.page_state.specs.EntryTests.{leaf, annotation}
 use Rattle.page_state.specs.Trees.{Tree, Pool, root_tree, frames_from}
 use Rattle.reference_model.specs.State.{Shared, Contents, Reference, plain_row, blank, all_rooms}
 use Rattle.page_state.specs.Layouts.{Layout, is_memory, hyp_page}
 use Rattle.reference_model.specs.Owner.{row_of}
 use Rattle.page_state.specs.Tables.{Edit, put, need, edited}
+
+-- the row of a frame that the Shared part holds: the hypervisor's, lent to nobody, in the shared pool
+abbrev pub pool_row : Row
+pool_row = record { owner = record { 0 = 1 }; lent = None; usage = SharedPool }
 
 module _ (l : Layout) where
   -- the first frame of the carve-out

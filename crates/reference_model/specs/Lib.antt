@@ -27,6 +27,7 @@ pub mod OwnerRows
 pub mod PartRows
 pub mod Parts
 pub mod PoolOrder
+pub mod Rely
 pub mod RoomLaws
 pub mod RowChanges
 pub mod RowLaws

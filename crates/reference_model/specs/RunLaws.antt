@@ -1,6 +1,6 @@
 -- Laws of the invariant of runs, each proved on the contract of a law function.
-use Rattle.std.specs.Prelude.{◌≡◌, ℕ, ◌≤◌, ◌<◌, true, List, Option, Some, None}
-use Rattle.reference_model.specs.State.{Contents, Reference}
+use Rattle.std.specs.Prelude.{◌≡◌, ℕ, ◌≤◌, ◌<◌, true, List, Option, Some, None, if◌then◌else◌}
+use Rattle.reference_model.specs.State.{Contents, Reference, plain_row}
 use Rattle.page_state.specs.Layouts.{Layout, is_memory}
 use Rattle.reference_model.specs.Owner.{row_of}
 use Rattle.reference_model.specs.Sound.{Sound}
@@ -13,11 +13,11 @@ use Rattle.reference_model.specs.RowChanges.{with_told}
 use Rattle.reference_model.specs.Run.{IsRun}
 use Rattle.page_state.specs.Accepted.{IsAcceptedConfig, IsAcceptedLayout}
 use Rattle.page_state.specs.LayoutFaults.{IsAccepted}
-use Rattle.page_state.specs.Regions.{Memory}
+use Rattle.page_state.specs.Regions.{Memory, is_in_range}
 use Rattle.page_state.specs.declared.layout.Config.{Config}
 use Rattle.page_state.specs.Geometries.{geometry_of, levels_below}
 use Rattle.page_state.specs.declared.layout.Geometry.{Geometry}
-use Rattle.reference_model.specs.Boot.{boot, IsCarveEnough, CanBoot}
+use Rattle.reference_model.specs.Boot.{boot, pool_row, IsCarveEnough, CanBoot}
 use Rattle.reference_model.specs.Conditions.{Legal, IsUsable, row_in}
 
 -- the row of each frame from scratch is that of its condition
@@ -31,6 +31,10 @@ LegalSound = (l : Layout) (s : Contents) → Legal l s → IsUsable l → Sound 
 -- the boot state is legal
 abbrev pub BootLegal : Type 0
 BootLegal = (l : Layout) → IsCarveEnough l → IsUsable l → Legal l (boot l).contents
+
+-- at boot the frames of the carve-out are the hypervisor's, in the shared pool or a table, and all other memory is the host's
+abbrev pub BootRowsTold : Type 0
+BootRowsTold = (l : Layout) (f : ℕ) → IsCarveEnough l → IsUsable l → (boot l).contents.shared.row f ≡ (if is_in_range l.memory.carve f then pool_row else plain_row)
 
 -- each reference step of a CPU of the layout keeps the invariant
 abbrev pub LegalKeeps : Type 0

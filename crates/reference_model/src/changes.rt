@@ -125,3 +125,26 @@ pub struct Changes {
     /// The value of Ok.
     pub value: Value,
 }
+
+impl CpuChange {
+    /// The CPU's own state stays.
+    pub const NONE: CpuChange = CpuChange {
+        loaded: Update::Keep,
+        hand: Update::Keep,
+        ticket: Update::Keep,
+    };
+}
+
+impl Changes {
+    /// Nothing changes, and Ok has no value.
+    pub const NONE: Changes = Changes {
+        host: None,
+        hyp: None,
+        guest: None,
+        part: GuestChange::Keep,
+        slot: SlotChange::Keep,
+        cpu: CpuChange::NONE,
+        moved: None,
+        value: Value::Nothing,
+    };
+}

@@ -3,9 +3,10 @@ ghost use Rattle.reference_model.specs.Laws.{RefusalKeeps, LogFullKeeps, StepExi
 ghost use Rattle.reference_model.specs.Answers.{BarredAnswers, CarriedAnswers, AnswerSteps, FullSteps, UsedSteps};
 ghost use Rattle.reference_model.specs.ChangeLaws.{ChangesUsed, ChangesFit, TouchedWhole};
 ghost use Rattle.reference_model.specs.Held.{HistorySteps, CallGrows, HeldStored};
+ghost use Rattle.reference_model.specs.Rely.{ReachedRelies, RelyingAnswers};
 ghost use Rattle.reference_model.specs.RoomLaws.{StoredFalls, RunRooms};
 ghost use Rattle.reference_model.specs.Examples.{NeedRow, SplitRow, RemovalRow, CanBootRow, BootRow, WideBootRow, ShareRow, BesideRow, NearRow, AgainRow, CarveRow, DeviceRow, PastRow, NoFrameRow, OneFrameRow, FullLogRow, FullSharedRow, RoomRow, OwnerRow};
-ghost use Rattle.reference_model.specs.RunLaws.{LegalRows, LegalSound, BootLegal, LegalKeeps, RunLegal, RunSound, RunRows, AcceptedUsable, AcceptedDepth, AcceptedMade, RowsTold};
+ghost use Rattle.reference_model.specs.RunLaws.{LegalRows, LegalSound, BootLegal, BootRowsTold, LegalKeeps, RunLegal, RunSound, RunRows, AcceptedUsable, AcceptedDepth, AcceptedMade, RowsTold};
 ghost use Rattle.reference_model.specs.RowLaws.{LegalRowsTrue, RunRowsTrue, RowOnce};
 ghost use Rattle.reference_model.specs.ConditionChanges.{ConditionOnce, ConditionsMove};
 ghost use Rattle.reference_model.specs.PoolOrder.{RunInOrder};
@@ -107,9 +108,10 @@ pub fn legal_sound()
     ensures { LegalSound }
 {}
 
-/// The boot state is legal.
+/// The boot state is legal, and its rows say that the carve-out is the hypervisor's and all other memory the host's.
 pub fn boot_legal()
-    ensures { BootLegal }
+    ensures legal { BootLegal }
+    ensures rows { BootRowsTold }
 {}
 
 /// Each reference step keeps the invariant.
@@ -171,4 +173,10 @@ pub fn conditions()
 /// The free frames of each pool are in order in each state of a run, so that its first are its lowest.
 pub fn pools_in_order()
     ensures { RunInOrder }
+{}
+
+/// What a step may rely on where what it uses stands in a state that a run leaves.
+pub fn relies()
+    ensures relies { ReachedRelies }
+    ensures answers { RelyingAnswers }
 {}

@@ -7,7 +7,7 @@ ghost use Rattle.page_state.specs.Rows.{HasPageBelow};
 ghost use Rattle.run_list.specs.OwnerRows.{lent_eq, usage_eq, row_eq, row_laws};
 
 use crate::Advance;
-use page_state::{Frame, Lent, Row, Target, Usage};
+use page_state::{Entry, Lent, Row, Target, Usage};
 
 impl Advance for Target {
     ghost advance = { advance_target };
@@ -19,47 +19,11 @@ impl Advance for Target {
     ghost laws = { target_laws };
 
     fn advanced(self, pages: u64) -> Target {
-        match self {
-            Target::Leaf {
-                frame,
-                prot,
-                kind,
-                state,
-            } => Target::Leaf {
-                frame: Frame(frame.0 + pages),
-                prot,
-                kind,
-                state,
-            },
-            other => other,
-        }
+        self.advance(pages)
     }
 
     fn is_same(self, other: Target) -> bool {
-        match (self, other) {
-            (Target::Malformed, Target::Malformed) => true,
-            (Target::Annotated(a), Target::Annotated(b)) => a.0 == b.0,
-            (
-                Target::Leaf {
-                    frame,
-                    prot,
-                    kind,
-                    state,
-                },
-                Target::Leaf {
-                    frame: other_frame,
-                    prot: other_prot,
-                    kind: other_kind,
-                    state: other_state,
-                },
-            ) => {
-                frame.0 == other_frame.0
-                    && prot == other_prot
-                    && kind == other_kind
-                    && state == other_state
-            }
-            _ => false,
-        }
+        Entry::from(self).is_same(Entry::from(other))
     }
 }
 

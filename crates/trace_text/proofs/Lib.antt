@@ -1,9 +1,6 @@
 mod Asked
-mod Digits
-mod Hexadecimal
-mod KnownBytes
-mod LineLemmas
 mod OneLine
 mod ReplayLemmas
+mod Served
 mod Standing
 mod ToldRuns

@@ -5,23 +5,29 @@ use Rattle.std.proofs.lemmas.Bool.{cases_lt}
 use Rattle.page_state.specs.declared.reply.Reply.{Reply}
 use Rattle.page_state.specs.declared.step.Step.{Step}
 use Rattle.world.specs.declared.World.{World}
-use Rattle.world.specs.Steps.{IsStep}
+use Rattle.hypercalls.specs.Whole.{IsStep}
 use Rattle.trace_text.specs.declared.fault.Fault.{Fault}
+use Rattle.trace_lines.specs.declared.fault.LineFault.{LineFault}
+use Rattle.trace_lines.specs.declared.fault.LineFault.TheVariants.{Place}
 use Rattle.trace_text.specs.declared.fault.Fault.TheVariants as faults
-use Rattle.trace_text.specs.declared.line.Line.{Line}
-use Rattle.trace_text.specs.declared.line.Line.TheVariants as lines
-use Rattle.trace_text.specs.declared.outcome.Outcome.{Outcome}
-use Rattle.trace_text.specs.declared.outcome.Outcome.TheVariants as outcomes
+use Rattle.trace_lines.specs.declared.line.Line.{Line}
+use Rattle.trace_lines.specs.declared.line.Line.TheVariants as lines
+use Rattle.trace_lines.specs.declared.line.Query.{Query}
+use Rattle.trace_lines.specs.declared.line.Query.TheVariants as queries
+use Rattle.trace_lines.specs.declared.response.Response.{Response}
+use Rattle.trace_lines.specs.declared.response.Response.TheVariants as responses
+use Rattle.trace_lines.specs.declared.outcome.Outcome.{Outcome}
+use Rattle.trace_lines.specs.declared.outcome.Outcome.TheVariants as outcomes
 use Rattle.trace_text.specs.declared.report.ReportLine.{ReportLine}
 use Rattle.trace_text.specs.declared.report.ReportLine.TheVariants as report
 use Rattle.trace_text.specs.declared.session.Stop.TheVariants as stops
-use Rattle.trace_text.specs.Laws.{reply_told, replies_told, step_asked}
+use Rattle.trace_text.specs.Laws.{reply_of, replies_told, step_asked}
 use Rattle.trace_text.specs.Replay.{Begins, IsReport}
-use Rattle.trace_text.specs.Said.{said}
-use Rattle.trace_text.specs.Session.{Standing, Answer, Follows, Asks, Makes}
-use Rattle.table_tree.specs.OnPage.{word_on}
-use Rattle.trace_text.specs.Worlds.{tree_of, free_of}
-use Rattle.trace_text.proofs.Asked.{Fits, fits, mapped}
+use Rattle.trace_lines.specs.Said.{said}
+use Rattle.trace_text.specs.Session.{Standing, Answer, Answers, Follows, Makes, allowed}
+use Rattle.trace_text.specs.Worlds.{word_of, free_of}
+use Rattle.trace_text.proofs.Asked.{Fits, fits}
+use Rattle.trace_lines.proofs.Saying.{mapped}
 
 -- it is a fault
 pub record Faulted (number : ℕ) (reported : List ReportLine) (outcome : Outcome) : Type 0 where
@@ -52,7 +58,7 @@ pub record Stepped {A : Type 0} (number : ℕ) (world : World A) (line : List �
   pub new : Standing A
   pub stands : new.world ≡ Some next
   pub more : List ReportLine
-  pub is : reported ≡ report.Step number cpu reply ∷ more
+  pub is : reported ≡ report.Response (responses.Step number cpu reply) ∷ more
   pub report : IsReport (number + 1) new rest more outcome
 
 abbrev pub OneLine : {A : Type 0} → ℕ → World A → List ℕ → List (List ℕ) → List ReportLine → Outcome → Type 0
@@ -73,24 +79,24 @@ module _ {A : Type 0} (number : ℕ) (line : List ℕ) (rest : List (List ℕ)) 
   still : new ≡ old → new.world ≡ Some world
   still e = ap (λ (s : Standing A). s.world) e ∙ stands
 
-  asks : (o : Option ReportLine) (fault : Fault) → IfSome o (λ says. reply_told says ≡ None) → answer ≡ ok_or (option_map Some o) (stops.Fault fault) → new ≡ old → step_asked line ≡ None
+  asks : (o : Option Response) (fault : Fault) → IfSome o (λ says. reply_of says ≡ None) → answer ≡ ok_or (option_map (λ line. line ∷ []) o) (stops.Fault fault) → new ≡ old → step_asked line ≡ None
       → OneLine number world line rest reported outcome
   asks None fault n e same silent = fault_ends fault e
   asks (Some says) fault n e same silent =
       let b = rw e at begins in
-      inr (inl (record { new = new; stands = still same; silent = silent; says = says ∷ []; more = b.0; is = b.1; no_step = rw n refl; report = b.2 }))
+      inr (inl (record { new = new; stands = still same; silent = silent; says = report.Response says ∷ []; more = b.0; is = b.1; no_step = rw n refl; report = b.2 }))
 
-  by_said : (r : Result (Option Line) Fault) → Fits true r (step_asked line) → Follows number r old answer new → OneLine number world line rest reported outcome
-  by_said (Err fault) fit f = fault_ends fault f.0
+  by_query : (query : Query) → Answers query world old answer new → step_asked line ≡ None → OneLine number world line rest reported outcome
+  by_query (queries.Word tree page level) m silent =
+      asks (option_map responses.Word (word_of world tree page level)) faults.Path (mapped (λ says. reply_of says ≡ None) responses.Word (λ w. refl) (word_of world tree page level)) m.0 m.1 silent
+  by_query queries.FreeShared m silent = asks (Some (responses.Free (free_of world))) (faults.Line Place) refl m.0 m.1 silent
+
+  by_said : (r : Result (Option Line) LineFault) → Fits true r (step_asked line) → Follows number r old answer new → OneLine number world line rest reported outcome
+  by_said (Err fault) fit f = fault_ends (faults.Line fault) f.0
   by_said (Ok None) fit f =
       let b = rw f.0 at begins in
-      inr (inl (record { new = new; stands = still f.1; silent = fit; says = []; more = reported; is = refl; no_step = refl; report = b }))
-  by_said (Ok (Some (lines.Geometry bits))) fit f = absurd (off fit.0)
-  by_said (Ok (Some (lines.Cpus cpus))) fit f = absurd (off fit.0)
-  by_said (Ok (Some (lines.Log calls))) fit f = absurd (off fit.0)
-  by_said (Ok (Some (lines.Memory pages))) fit f = absurd (off fit.0)
-  by_said (Ok (Some (lines.Device pages))) fit f = absurd (off fit.0)
-  by_said (Ok (Some (lines.Carve pages))) fit f = absurd (off fit.0)
+      inr (inl (record { new = new; stands = still f.1; silent = fit; says = []; more = b.0; is = b.1; no_step = refl; report = b.2 }))
+  by_said (Ok (Some (lines.Setting setting))) fit f = absurd (off fit.0)
   by_said (Ok (Some lines.Boot)) fit f = absurd (off fit.0)
   by_said (Ok (Some (lines.Step cpu step))) fit f =
       let m = of_some old.world world _ (λ w. Makes number cpu step w old answer new) stands f in
@@ -101,12 +107,7 @@ module _ {A : Type 0} (number : ℕ) (line : List ℕ) (rest : List (List ℕ)) 
             let b = rw s.line at begins in
             inr (inr (record { cpu = cpu; step = step; asked = fit.1; known = less; reply = s.reply; next = s.next; made = s.made; new = new; stands = ap (λ (z : Standing A). z.world) s.standing; more = b.0; is = b.1; report = b.2 }))
       ]
-  by_said (Ok (Some (lines.Word tree page level))) fit f =
-      let m = of_some old.world world _ (λ w. Asks (option_map report.Word (word_on (tree_of w tree) page level)) faults.Path old answer new) stands f in
-      asks (option_map report.Word (word_on (tree_of world tree) page level)) faults.Path (mapped (λ says. reply_told says ≡ None) report.Word (λ w. refl) (word_on (tree_of world tree) page level)) m.0 m.1 fit.1
-  by_said (Ok (Some lines.FreeShared)) fit f =
-      let m = of_some old.world world _ (λ w. Asks (Some (report.Free (free_of w))) faults.Place old answer new) stands f in
-      asks (Some (report.Free (free_of world))) faults.Place refl m.0 m.1 fit.1
+  by_said (Ok (Some (lines.Query query))) fit f = by_query query (of_some old.world world _ (λ w. Answers query w old answer new) stands f) fit.1
 
 pub one_line : {A : Type 0} (number : ℕ) (old : Standing A) (world : World A) (line : List ℕ) (rest : List (List ℕ)) (reported : List ReportLine) (outcome : Outcome)
     → old.world ≡ Some world → IsReport number old (line ∷ rest) reported outcome → OneLine number world line rest reported outcome
@@ -114,6 +115,6 @@ one_line number old world line rest reported outcome stands (answer, new, played
     elim (cases_lt 1048576 number) [
       | inl many ↦ let x = played.past many in fault_ends number line rest old new answer reported outcome begins world stands faults.Lines x.0
       | inr few ↦
-          by_said number line rest old new answer reported outcome begins world stands (said old.told true line) (fits old.told true line)
-          (subst (λ b. Follows number (said old.told b line) old answer new) (ap (λ o. is_some o) stands) (played.runs few))
+          by_said number line rest old new answer reported outcome begins world stands (said (allowed true) old.told line) (fits old.told true line)
+          (subst (λ b. Follows number (said (allowed b) old.told line) old answer new) (ap (λ o. is_some o) stands) (played.runs few))
     ]

@@ -1,23 +1,27 @@
 -- The report so far, and what the rest of the trace adds to it.
-use Rattle.std.proofs.Common.{◌≡◌, ℕ, ◌+◌, ◌<◌, ◌≤◌, refl, sym, ◌∙◌, ap, arith, Bool, true, false, List, [], ◌∷◌, ◌++◌, length, take, Option, Some, None, Result, Ok, Err, IsOk, IfOk, IfSome, IsSomeAnd, is_some, nat_lt, inl, inr}
-use Rattle.std.proofs.lemmas.List.{append_assoc, length-take-le, take_all}
+use Rattle.std.proofs.Common.{◌≡◌, ℕ, ◌+◌, ◌<◌, ◌≤◌, refl, sym, ◌∙◌, ap, arith, true, false, List, [], ◌∷◌, ◌++◌, length, map, subst, take, Option, Some, None, Result, Ok, Err, IsOk, IfOk, IfSome, IsSomeAnd, is_some, nat_lt, inl, inr}
+use Rattle.std.proofs.lemmas.List.{append_assoc, append-nil, length-take-le, take_all}
 use Rattle.std.proofs.lemmas.Bool.{lt-ltb, cases_lt}
 use Rattle.std.specs.Io.KnownBytes.{Appends}
 use Rattle.trace_text.specs.declared.fault.Fault.{Fault}
+use Rattle.trace_lines.specs.declared.fault.LineFault.TheVariants.{Long}
 use Rattle.trace_text.specs.declared.fault.Fault.TheVariants as faults
-use Rattle.trace_text.specs.declared.outcome.Outcome.{Outcome}
-use Rattle.trace_text.specs.declared.outcome.Outcome.TheVariants as outcomes
+use Rattle.trace_lines.specs.declared.place.Allows.{Allows}
+use Rattle.trace_lines.specs.declared.response.Response.{Response}
+use Rattle.trace_lines.specs.declared.outcome.Outcome.{Outcome}
+use Rattle.trace_lines.specs.declared.outcome.Outcome.TheVariants as outcomes
 use Rattle.trace_text.specs.declared.report.ReportLine.{ReportLine}
 use Rattle.trace_text.specs.declared.report.ReportLine.TheVariants as report
 use Rattle.trace_text.specs.declared.session.Stop.TheVariants as stops
 use Rattle.trace_text.specs.Played.{Plays, Writes}
-use Rattle.trace_text.specs.Reading.{IsFirstLine, ReadsLine}
-use Rattle.trace_text.specs.Replay.{lines_of, IsPlayed, IsReport, IsReplayed}
-use Rattle.trace_text.specs.Said.{said}
-use Rattle.trace_text.specs.Session.{Standing, Answer, Runs, at_start}
-use Rattle.trace_text.specs.Settings.{Told}
+use Rattle.trace_lines.specs.Reading.{IsFirstLine, ReadsLine}
+use Rattle.trace_lines.specs.Reading.{lines_of}
+use Rattle.trace_text.specs.Replay.{IsPlayed, IsReport, IsReplayed}
+use Rattle.trace_lines.specs.Said.{said}
+use Rattle.trace_text.specs.Session.{Standing, Answer, Runs, allowed, at_start}
+use Rattle.trace_lines.specs.Settings.{Told}
 use Rattle.trace_text.specs.Texts.{text_of, text_of_report}
-use Rattle.trace_text.proofs.KnownBytes.{appends_both}
+use Rattle.trace_lines.proofs.KnownBytes.{appends_both}
 
 text_of_report-append : (xs ys : List ReportLine) → text_of_report (xs ++ ys) ≡ text_of_report xs ++ text_of_report ys
 text_of_report-append [] ys = refl
@@ -35,18 +39,18 @@ pub record SoFar {A : Type 0} (all left before now : Option (List ℕ)) (number 
   pub leads : Leads all left number standing told
 
 -- what is long has a fault
-said-long : (told : Told) (booted : Bool) (line : List ℕ) → 256 < length line → said told booted line ≡ Err faults.Long
+said-long : (allows : Allows) (told : Told) (line : List ℕ) → 256 < length line → said allows told line ≡ Err Long
 unfolding said
-said-long told booted line h = let long : nat_lt 256 (length line) ≡ true = lt-ltb 256 (length line) h in rw long refl
+said-long allows told line h = let long : nat_lt 256 (length line) ≡ true = lt-ltb 256 (length line) h in rw long refl
 
 -- a line of which enough was read says what all of it says
-said-front : (told : Told) (booted : Bool) (whole : List ℕ) → said told booted (take 257 whole) ≡ said told booted whole
-said-front told booted whole =
+said-front : (allows : Allows) (told : Told) (whole : List ℕ) → said allows told (take 257 whole) ≡ said allows told whole
+said-front allows told whole =
     elim (cases_lt 257 (length whole)) [
-      | inr short ↦ ap (said told booted) (take_all 257 whole short)
+      | inr short ↦ ap (said allows told) (take_all 257 whole short)
       | inl long ↦
           let cut : length (take 257 whole) ≡ 257 = length-take-le 257 whole (omega arith) in
-          said-long told booted (take 257 whole) (omega arith) ∙ sym (said-long told booted whole (omega arith))
+          said-long allows told (take 257 whole) (omega arith) ∙ sym (said-long allows told whole (omega arith))
     ]
 
 -- a line that was read, carried out
@@ -59,7 +63,7 @@ pub record Goes {A : Type 0} (bytes : List ℕ) (left : Option (List ℕ)) (numb
 
 runs-front : {A : Type 0} (number : ℕ) (whole : List ℕ) (old : Standing A) (answer : Answer) (new : Standing A)
     → Runs number (take 257 whole) old answer new → Runs number whole old answer new
-runs-front number whole old answer new h = rw (said-front old.told (is_some old.world) whole) at h
+runs-front number whole old answer new h = rw (said-front (allowed (is_some old.world)) old.told whole) at h
 
 -- what goes on was no long line
 short : {A : Type 0} (number : ℕ) (whole : List ℕ) (old : Standing A) (answer : Answer) (new : Standing A)
@@ -68,7 +72,7 @@ short number whole old answer new h ok =
     elim (cases_lt 256 (length whole)) [
       | inr fits ↦ fits
       | inl long ↦
-          let fault = rw (said-long old.told (is_some old.world) whole (omega arith)) at h in
+          let fault = rw (said-long (allowed (is_some old.world)) old.told whole (omega arith)) at h in
           absurd (let no = rw fault.0 at ok in cc)
     ]
 
@@ -84,29 +88,18 @@ goes bytes line left number old answer new first few runs =
       next = λ ok. first.next (short number first.whole old answer new all ok);
     }
 
--- a line that reports nothing
-leads_none : {A : Type 0} (all left next : Option (List ℕ)) (line : List ℕ) (number : ℕ) (old new : Standing A) (told : List ReportLine)
-    → Leads all left number old told → ReadsLine true left next line → number ≤ 1048576 → Runs number line old (Ok None) new → Leads all next (number + 1) new told
-leads_none None left next line number old new told h first few runs = tt
-leads_none (Some bytes) None next line number old new told h first few runs = absurd h
-leads_none (Some bytes) (Some rest) None line number old new told h first few runs =
-    let on = goes rest line None number old (Ok None) new first few runs in absurd (on.next refl)
-leads_none (Some bytes) (Some rest) (Some last) line number old new told h first few runs =
-    let on = goes rest line (Some last) number old (Ok None) new first few runs in
-    λ more outcome report. h more outcome (rw on.lines (Ok None, new, on.played, rw (on.next refl) at report))
-
--- a line that reports a line
-leads_some : {A : Type 0} (all left next : Option (List ℕ)) (line : List ℕ) (number : ℕ) (old new : Standing A) (told : List ReportLine) (says : ReportLine)
-    → Leads all left number old told → ReadsLine true left next line → number ≤ 1048576 → Runs number line old (Ok (Some says)) new
-    → Leads all next (number + 1) new (told ++ says ∷ [])
-leads_some None left next line number old new told says h first few runs = tt
-leads_some (Some bytes) None next line number old new told says h first few runs = absurd h
-leads_some (Some bytes) (Some rest) None line number old new told says h first few runs =
-    let on = goes rest line None number old (Ok (Some says)) new first few runs in absurd (on.next refl)
-leads_some (Some bytes) (Some rest) (Some last) line number old new told says h first few runs =
-    let on = goes rest line (Some last) number old (Ok (Some says)) new first few runs in
-    λ more outcome report. rw append_assoc
-    (h (says ∷ more) outcome (rw on.lines (Ok (Some says), new, on.played, (more, refl, rw (on.next refl) at report))))
+-- a line that is carried out, and what it reports
+leads_on : {A : Type 0} (all left next : Option (List ℕ)) (line : List ℕ) (number : ℕ) (old new : Standing A) (told : List ReportLine) (says : List Response)
+    → Leads all left number old told → ReadsLine true left next line → number ≤ 1048576 → Runs number line old (Ok says) new
+    → Leads all next (number + 1) new (told ++ map report.Response says)
+leads_on None left next line number old new told says h first few runs = tt
+leads_on (Some bytes) None next line number old new told says h first few runs = absurd h
+leads_on (Some bytes) (Some rest) None line number old new told says h first few runs =
+    let on = goes rest line None number old (Ok says) new first few runs in absurd (on.next refl)
+leads_on (Some bytes) (Some rest) (Some last) line number old new told says h first few runs =
+    let on = goes rest line (Some last) number old (Ok says) new first few runs in
+    λ more outcome reports. rw append_assoc
+    (h (map report.Response says ++ more) outcome (rw on.lines (Ok says, new, on.played, (more, refl, rw (on.next refl) at reports))))
 
 -- a line that ends the run by a fault
 leads_fault : {A : Type 0} (all left next : Option (List ℕ)) (line : List ℕ) (number : ℕ) (old new : Standing A) (told : List ReportLine) (fault : Fault)
@@ -154,15 +147,15 @@ plays all left next before now last line number old new so_far first few played 
     onward : (answer : Answer) → Runs number line old answer new → Writes number answer now last None → SoFar all next before last (number + 1) new
     onward (Err (stops.Fault fault)) runs writes = absurd (let e = writes.1 in cc)
     onward (Err stops.NoMemory) runs writes = absurd writes
-    onward (Ok None) runs writes = record {
+    onward (Ok []) runs writes = record {
       told = so_far.told;
       written = rw writes.0 so_far.written;
-      leads = leads_none all left next line number old new so_far.told so_far.leads first few runs;
+      leads = subst (Leads all next (number + 1) new) (append-nil so_far.told) (leads_on all left next line number old new so_far.told [] so_far.leads first few runs);
     }
-    onward (Ok (Some says)) runs writes = record {
-      told = so_far.told ++ says ∷ [];
-      written = appends_lines before now last so_far.told (says ∷ []) so_far.written writes.0;
-      leads = leads_some all left next line number old new so_far.told says so_far.leads first few runs;
+    onward (Ok (says ∷ more)) runs writes = record {
+      told = so_far.told ++ map report.Response (says ∷ more);
+      written = appends_lines before now last so_far.told (map report.Response (says ∷ more)) so_far.written writes.0;
+      leads = leads_on all left next line number old new so_far.told (says ∷ more) so_far.leads first few runs;
     }
 
 -- the line that ends the run
@@ -181,8 +174,8 @@ faults_at {A} all left next before now last line number old new outcome so_far f
           report = leads_fault all left next line number old new so_far.told fault so_far.leads first few runs;
         })
     ending (Err stops.NoMemory) runs writes = absurd writes
-    ending (Ok None) runs writes = absurd (let e = writes.1 in cc)
-    ending (Ok (Some says)) runs writes = absurd (let e = writes.1 in cc)
+    ending (Ok []) runs writes = absurd (let e = writes.1 in cc)
+    ending (Ok (says ∷ more)) runs writes = absurd (let e = writes.1 in cc)
 
 -- one line too many
 pub too_many : {A : Type 0} (all left next before now last : Option (List ℕ)) (line : List ℕ) (number : ℕ) (old : Standing A) (outcome : Outcome)

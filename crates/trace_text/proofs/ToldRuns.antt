@@ -6,58 +6,54 @@ use Rattle.std.proofs.lemmas.Bool.{cases_lt}
 use Rattle.page_state.specs.declared.entry.PageRange.{PageRange}
 use Rattle.page_state.specs.declared.reply.Call.{Call}
 use Rattle.page_state.specs.declared.reply.Reply.{Reply}
-use Rattle.page_state.specs.declared.row.Row.{Row}
 use Rattle.page_state.specs.Regions.{memory_of}
 use Rattle.reference_model.specs.Boot.{boot as boot_state}
 use Rattle.reference_model.specs.Run.{Runs as RunsBy}
 use Rattle.reference_model.specs.Step.{Steps}
-use Rattle.world.specs.declared.parts.Parts.{Parts}
+use Rattle.hypercalls.specs.declared.parts.Parts.{Parts}
 use Rattle.world.specs.declared.World.{World}
 use Rattle.world.specs.Laws.{EndsRun}
-use Rattle.world.specs.Stands.{layout_of, state_of}
-use Rattle.world.specs.Steps.{call_of, Leads as LeadsBy}
+use Rattle.hypercalls.specs.Stands.{layout_of, state_of}
+use Rattle.hypercalls.specs.Whole.{call_of}
 use Rattle.trace_text.specs.declared.fault.Fault.{Fault}
+use Rattle.trace_lines.specs.declared.fault.LineFault.{LineFault}
+use Rattle.trace_lines.specs.declared.fault.LineFault.TheVariants.{Place}
 use Rattle.trace_text.specs.declared.fault.Fault.TheVariants as faults
-use Rattle.trace_text.specs.declared.line.Line.{Line}
-use Rattle.trace_text.specs.declared.line.Line.TheVariants as lines
-use Rattle.trace_text.specs.declared.outcome.Outcome.{Outcome}
-use Rattle.trace_text.specs.declared.outcome.Outcome.TheVariants as outcomes
+use Rattle.trace_lines.specs.declared.line.Line.{Line}
+use Rattle.trace_lines.specs.declared.line.Line.TheVariants as lines
+use Rattle.trace_lines.specs.declared.line.Setting.{Setting}
+use Rattle.trace_lines.specs.declared.response.Response.{Response}
+use Rattle.trace_lines.specs.declared.response.Response.TheVariants as responses
+use Rattle.trace_lines.specs.declared.outcome.Outcome.{Outcome}
+use Rattle.trace_lines.specs.declared.outcome.Outcome.TheVariants as outcomes
 use Rattle.trace_text.specs.declared.report.ReportLine.{ReportLine}
 use Rattle.trace_text.specs.declared.report.ReportLine.TheVariants as report
 use Rattle.trace_text.specs.declared.session.Stop.TheVariants as stops
 use Rattle.trace_text.specs.Laws.{reply_told, replies_told, step_asked, steps_asked, Leads, TellsRun, StopsIn, Reaches, TellsNoBoot, TellsBoot, TraceRuns}
 use Rattle.trace_text.specs.Replay.{IsPlayed, Begins, IsReport}
-use Rattle.trace_text.specs.Said.{said}
-use Rattle.trace_text.specs.Session.{Standing, Answer, Follows, Tells, HasWorld, IsNoWorld, at_start}
-use Rattle.trace_text.specs.Settings.{config_of}
+use Rattle.trace_lines.specs.Said.{said}
+use Rattle.trace_text.specs.Session.{Standing, Answer, Follows, Tells, HasWorld, IsNoWorld, allowed, at_start}
+use Rattle.trace_lines.specs.Settings.{config_of}
 use Rattle.trace_text.proofs.Asked.{Fits, fits}
 use Rattle.std.proofs.lemmas.List.{append_assoc}
 use Rattle.trace_text.proofs.OneLine.{one_line}
 
 nowhere : {A : Type 0} (p : Parts A) → Leads p [] p
-nowhere p = record { cpus = λ k d less. absurd (omega (arith, less)); runs = λ row. (state_of row p, refl, refl) }
+nowhere p = record { cpus = λ k d less. absurd (omega (arith, less)); runs = refl }
 
 -- a list of calls with one more in front
 both_known : (n : ℕ) (c : Call) (cs : List Call) → c.cpu < n → All (λ x. x.cpu < n) cs → All (λ x. x.cpu < n) (c ∷ cs)
 both_known n c cs first rest zero d less = first
 both_known n c cs first rest (suc k) d less = rest k d (omega (arith, less))
 
-onward : {A : Type 0} (p q r : Parts A) (c : Call) (cs : List Call) → c.cpu < p.layout.config.cpus → layout_of q ≡ layout_of p → ((row : ℕ → Row) → LeadsBy p row c q) → Leads q cs r → Leads p (c ∷ cs) r
+onward : {A : Type 0} (p q r : Parts A) (c : Call) (cs : List Call) → c.cpu < p.layout.config.cpus → layout_of q ≡ layout_of p → Steps (layout_of p) (state_of p) c (state_of q) → Leads q cs r → Leads p (c ∷ cs) r
 onward p q r c cs known layout first rest = record {
   cpus = both_known p.layout.config.cpus c cs known (subst (λ n. All (λ x. x.cpu < n) cs) (ap (λ l. l.config.cpus) layout) rest.cpus);
-  runs = λ row.
-      let a = first row in
-      let now : ℕ → Row = a.next.contents.shared.row in
-      let b = rest.runs now in
-      let same : RunsBy (Steps (layout_of p)) (state_of now q) cs b.0 = subst (λ l. RunsBy (Steps l) (state_of now q) cs b.0) layout b.1 in
-      (b.0, (a.next, a.steps, subst (λ s. RunsBy (Steps (layout_of p)) s cs b.0) (sym a.stands) same), b.2);
+  runs = (state_of q, first, subst (λ l. RunsBy (Steps l) (state_of q) cs (state_of r)) layout rest.runs);
 }
 
 unclean : (outcome : Outcome) → outcome ≡ outcomes.Fault → outcome ≡ outcomes.Clean → ⊥
 unclean outcome e h = cc
-
-some_is : {X : Type 0} {x y : X} → Some x ≡ Some y → x ≡ y
-some_is h = cc
 
 on : false ≡ true → ⊥
 on h = cc
@@ -125,7 +121,7 @@ world_runs (line ∷ rest) number old world reported outcome stands h =
           record {
             calls = call_of world.parts s.cpu s.step s.reply ∷ run.calls;
             last = run.last;
-            leads = onward world.parts s.next.parts run.last (call_of world.parts s.cpu s.step s.reply) run.calls s.known s.made.layout s.made.leads run.leads;
+            leads = onward world.parts s.next.parts run.last (call_of world.parts s.cpu s.step s.reply) run.calls s.known s.made.layout s.made.steps run.leads;
             replies = rw s.is (ap (λ xs. (s.cpu, s.reply) ∷ xs) run.replies);
             left = run.left;
             steps = rw s.asked (ap (λ xs. (s.cpu, s.step) ∷ xs) run.steps);
@@ -175,21 +171,21 @@ world_reaches (line ∷ front) rest number old world reported outcome stands h =
       ]
       | inr (inr s) ↦ elim (world_reaches front rest (number + 1) s.new s.next s.more outcome s.stands s.report) [
         | inl stop ↦ inl (record {
-          told = report.Step number s.cpu s.reply ∷ stop.told;
+          told = report.Response (responses.Step number s.cpu s.reply) ∷ stop.told;
           line = stop.line;
           fault = stop.fault;
-          lines = s.is ∙ ap (λ ls. report.Step number s.cpu s.reply ∷ ls) stop.lines;
+          lines = s.is ∙ ap (λ ls. report.Response (responses.Step number s.cpu s.reply) ∷ ls) stop.lines;
           inside = let i = stop.inside in omega (arith, i);
         })
         | inr r ↦ inr (record {
-          told = report.Step number s.cpu s.reply ∷ r.told;
+          told = report.Response (responses.Step number s.cpu s.reply) ∷ r.told;
           more = r.more;
-          lines = s.is ∙ ap (λ ls. report.Step number s.cpu s.reply ∷ ls) r.lines;
+          lines = s.is ∙ ap (λ ls. report.Response (responses.Step number s.cpu s.reply) ∷ ls) r.lines;
           calls = call_of world.parts s.cpu s.step s.reply ∷ r.calls;
           new = r.new;
           world = r.world;
           stands = r.stands;
-          leads = onward world.parts s.next.parts r.world.parts (call_of world.parts s.cpu s.step s.reply) r.calls s.known s.made.layout s.made.leads r.leads;
+          leads = onward world.parts s.next.parts r.world.parts (call_of world.parts s.cpu s.step s.reply) r.calls s.known s.made.layout s.made.steps r.leads;
           replies = ap (λ xs. (s.cpu, s.reply) ∷ xs) r.replies;
           steps = rw s.asked (ap (λ xs. (s.cpu, s.step) ∷ xs) r.steps);
           report = subst (λ n. IsReport n r.new rest r.more outcome) (omega arith) r.report;
@@ -198,10 +194,8 @@ world_reaches (line ∷ front) rest number old world reported outcome stands h =
     ]
 
 -- where parts stand for the boot state, what leads on from them is a run
-boot_runs : {A : Type 0} (p q : Parts A) (cs : List Call) → boot_state (layout_of p) ≡ state_of (boot_state (layout_of p)).contents.shared.row p → Leads p cs q → EndsRun (layout_of p) cs q
-boot_runs p q cs h leads =
-    let r = leads.runs (boot_state (layout_of p)).contents.shared.row in
-    (r.0, record { cpus = leads.cpus; leads = subst (λ s. RunsBy (Steps (layout_of p)) s cs r.0) (sym h) r.1 }, r.2)
+boot_runs : {A : Type 0} (p q : Parts A) (cs : List Call) → boot_state (layout_of p) ≡ state_of p → Leads p cs q → EndsRun (layout_of p) cs q
+boot_runs p q cs h leads = record { cpus = leads.cpus; leads = subst (λ s. RunsBy (Steps (layout_of p)) s cs (state_of q)) (sym h) leads.runs }
 
 -- a report that tells of no boot, or of one and a run from there
 abbrev Told : {A : Type 0} → ℕ → Standing A → List (List ℕ) → List ReportLine → Outcome → Type 0
@@ -216,7 +210,7 @@ module _ {A : Type 0} (number : ℕ) (line : List ℕ) (rest : List (List ℕ)) 
   abbrev Plays : Answer → Type 0
   Plays answer = IsPlayed number line old answer new
 
-  passes_before : Plays (Ok None) → step_asked line ≡ None → Told (number + 1) new rest reported outcome → Told number old (line ∷ rest) reported outcome
+  passes_before : Plays (Ok []) → step_asked line ≡ None → Told (number + 1) new rest reported outcome → Told number old (line ∷ rest) reported outcome
   passes_before played e (inl none) = inl (record { line = none.line; alone = none.alone; no_step = none.no_step; all = λ clean. rw e (none.all clean) })
   passes_before played e (inr boot) = inr (record {
     at = record {
@@ -232,7 +226,7 @@ module _ {A : Type 0} (number : ℕ) (line : List ℕ) (rest : List (List ℕ)) 
     world = boot.world;
     line = boot.line;
     new = boot.new;
-    played = subst (λ n. IsPlayed n boot.at.boot boot.at.old (Ok (Some boot.line)) boot.new) (omega arith) boot.played;
+    played = subst (λ n. IsPlayed n boot.at.boot boot.at.old (Ok (boot.line ∷ [])) boot.new) (omega arith) boot.played;
     booted = boot.booted;
     more = boot.more;
     first = boot.first;
@@ -245,20 +239,25 @@ module _ {A : Type 0} (number : ℕ) (line : List ℕ) (rest : List (List ℕ)) 
       let b = rw e at begins in
       inl (record { line = report.Fault number fault; alone = b.0; no_step = refl; all = λ clean. absurd (unclean outcome b.1 clean) })
 
-  told : (said : Line) (answer : Answer) → Plays answer → Reports answer → Tells said old answer new → step_asked line ≡ None → Told number old (line ∷ rest) reported outcome
-  told said (Err (stops.Fault fault)) played begins h silent = fault_alone (Err (stops.Fault fault)) fault begins refl
-  told said (Err stops.NoMemory) played begins h silent = absurd begins
-  told said (Ok None) played begins h silent = passes_before played silent (follows reported (ap (λ (s : Standing A). s.world) h.1 ∙ unbooted) begins)
-  told said (Ok (Some says)) played begins h silent = absurd (let e = h.0 in cc)
+  -- a line that reports nothing, and the report behind it
+  passes_on : (answer : Answer) → answer ≡ Ok [] → Plays answer → Reports answer → step_asked line ≡ None → new.world ≡ None → Told number old (line ∷ rest) reported outcome
+  passes_on answer e played begins silent unbooted =
+      let b = rw e at begins in
+      passes_before (subst Plays e played) silent (subst (λ r. Told (number + 1) new rest r outcome) (sym b.1) (follows b.0 unbooted b.2))
+
+  told : (setting : Setting) (answer : Answer) → Plays answer → Reports answer → Tells setting old answer new → step_asked line ≡ None → Told number old (line ∷ rest) reported outcome
+  told setting (Err (stops.Fault fault)) played begins h silent = fault_alone (Err (stops.Fault fault)) fault begins refl
+  told setting (Err stops.NoMemory) played begins h silent = absurd begins
+  told setting (Ok says) played begins h silent = passes_on (Ok says) (ap Ok h.0) played begins silent (ap (λ (s : Standing A). s.world) h.1 ∙ unbooted)
 
   boots_by : (carve : PageRange) (answer : Answer) → old.told.carve ≡ Some carve → Plays answer → Reports answer
-      → MatchResult answer (λ says. (world : World A) × (says_line : ReportLine) × (says ≡ Some says_line) × HasWorld carve old world says_line new) (λ stop. IsNoWorld stop (memory_of old.told.regions carve) (config_of old.told) × (new ≡ old))
+      → MatchResult answer (λ says. (world : World A) × (says_line : Response) × (says ≡ says_line ∷ []) × HasWorld carve old world says_line new) (λ stop. IsNoWorld stop (memory_of old.told.regions carve) (config_of old.told) × (new ≡ old))
       → step_asked line ≡ None → Told number old (line ∷ rest) reported outcome
   boots_by carve (Err (stops.Fault fault)) at played begins h silent = fault_alone (Err (stops.Fault fault)) fault begins refl
   boots_by carve (Err stops.NoMemory) at played begins h silent = absurd begins
-  boots_by carve (Ok None) at played begins h silent = absurd (let e = h.2 in cc)
-  boots_by carve (Ok (Some says)) at played begins h silent =
-      let run = passes h.0.parts line rest begins.0 outcome silent (world_runs rest (number + 1) new h.0 begins.0 outcome (ap (λ (s : Standing A). s.world) h.3.standing) begins.2) in
+  boots_by carve (Ok says) at played begins h silent =
+      let b = rw h.2 at begins in
+      let run = passes h.0.parts line rest b.0 outcome silent (world_runs rest (number + 1) new h.0 b.0 outcome (ap (λ (s : Standing A). s.world) h.3.standing) b.2) in
       inr (record {
         at = record {
           front = [];
@@ -273,35 +272,27 @@ module _ {A : Type 0} (number : ℕ) (line : List ℕ) (rest : List (List ℕ)) 
         world = h.0;
         line = h.1;
         new = new;
-        played = subst (λ n. IsPlayed n line old (Ok (Some h.1)) new) (omega arith) (subst (λ l. IsPlayed number line old (Ok (Some l)) new) (some_is h.2) played);
+        played = subst (λ n. IsPlayed n line old (Ok (h.1 ∷ [])) new) (omega arith) (subst (λ ls. IsPlayed number line old (Ok ls) new) h.2 played);
         booted = h.3;
-        more = begins.0;
-        first = begins.1 ∙ ap (λ l. l ∷ begins.0) (some_is h.2);
+        more = b.0;
+        first = b.1;
         run = run;
         ends = boot_runs h.0.parts run.last run.calls h.3.booted.stands run.leads;
       })
 
   boots : (carve : Option PageRange) (answer : Answer) → old.told.carve ≡ carve → Plays answer → Reports answer
-      → MatchOption carve ((answer ≡ Err (stops.Fault faults.Place)) × (new ≡ old)) (λ carve. MatchResult answer (λ says. (world : World A) × (says_line : ReportLine) × (says ≡ Some says_line) × HasWorld carve old world says_line new) (λ stop. IsNoWorld stop (memory_of old.told.regions carve) (config_of old.told) × (new ≡ old)))
+      → MatchOption carve ((answer ≡ Err (stops.Fault (faults.Line Place))) × (new ≡ old)) (λ carve. MatchResult answer (λ says. (world : World A) × (says_line : Response) × (says ≡ says_line ∷ []) × HasWorld carve old world says_line new) (λ stop. IsNoWorld stop (memory_of old.told.regions carve) (config_of old.told) × (new ≡ old)))
       → step_asked line ≡ None → Told number old (line ∷ rest) reported outcome
-  boots None answer at played begins h silent = fault_alone answer faults.Place begins h.0
+  boots None answer at played begins h silent = fault_alone answer (faults.Line Place) begins h.0
   boots (Some carve) answer at played begins h silent = boots_by carve answer at played begins h silent
 
-  before_boot : (answer : Answer) → Plays answer → Reports answer → (r : Result (Option Line) Fault) → Fits false r (step_asked line) → Follows number r old answer new → Told number old (line ∷ rest) reported outcome
-  before_boot answer played begins (Err fault) fit f = fault_alone answer fault begins f.0
-  before_boot answer played begins (Ok None) fit f =
-      let b = rw f.0 at begins in
-      passes_before (subst Plays f.0 played) fit (follows reported (ap (λ (s : Standing A). s.world) f.1 ∙ unbooted) b)
-  before_boot answer played begins (Ok (Some (lines.Geometry bits))) fit f = told (lines.Geometry bits) answer played begins f fit.1
-  before_boot answer played begins (Ok (Some (lines.Cpus cpus))) fit f = told (lines.Cpus cpus) answer played begins f fit.1
-  before_boot answer played begins (Ok (Some (lines.Log calls))) fit f = told (lines.Log calls) answer played begins f fit.1
-  before_boot answer played begins (Ok (Some (lines.Memory pages))) fit f = told (lines.Memory pages) answer played begins f fit.1
-  before_boot answer played begins (Ok (Some (lines.Device pages))) fit f = told (lines.Device pages) answer played begins f fit.1
-  before_boot answer played begins (Ok (Some (lines.Carve pages))) fit f = told (lines.Carve pages) answer played begins f fit.1
+  before_boot : (answer : Answer) → Plays answer → Reports answer → (r : Result (Option Line) LineFault) → Fits false r (step_asked line) → Follows number r old answer new → Told number old (line ∷ rest) reported outcome
+  before_boot answer played begins (Err fault) fit f = fault_alone answer (faults.Line fault) begins f.0
+  before_boot answer played begins (Ok None) fit f = passes_on answer f.0 played begins fit (ap (λ (s : Standing A). s.world) f.1 ∙ unbooted)
+  before_boot answer played begins (Ok (Some (lines.Setting setting))) fit f = told setting answer played begins f fit.1
   before_boot answer played begins (Ok (Some lines.Boot)) fit f = boots old.told.carve answer refl played begins f fit.1
   before_boot answer played begins (Ok (Some (lines.Step cpu step))) fit f = absurd (on fit.0)
-  before_boot answer played begins (Ok (Some (lines.Word tree page level))) fit f = absurd (on fit.0)
-  before_boot answer played begins (Ok (Some lines.FreeShared)) fit f = absurd (on fit.0)
+  before_boot answer played begins (Ok (Some (lines.Query query))) fit f = absurd (on fit.0)
 
 unbooted_runs : {A : Type 0} (trace : List (List ℕ)) (number : ℕ) (old : Standing A) (reported : List ReportLine) (outcome : Outcome)
     → old.world ≡ None → IsReport number old trace reported outcome → Told number old trace reported outcome
@@ -312,8 +303,8 @@ unbooted_runs (line ∷ rest) number old reported outcome unbooted (answer, new,
     elim (cases_lt 1048576 number) [
       | inl many ↦ let x = played.past many in fault_alone number line rest old new reported outcome unbooted follows answer faults.Lines begins x.0
       | inr few ↦
-          before_boot number line rest old new reported outcome unbooted follows answer played begins (said old.told false line) (fits old.told false line)
-          (subst (λ b. Follows number (said old.told b line) old answer new) (ap (λ o. is_some o) unbooted) (played.runs few))
+          before_boot number line rest old new reported outcome unbooted follows answer played begins (said (allowed false) old.told line) (fits old.told false line)
+          (subst (λ b. Follows number (said (allowed b) old.told line) old answer new) (ap (λ o. is_some o) unbooted) (played.runs few))
     ]
 
 pub trace_runs : (A : Type 0) → TraceRuns A

@@ -3,33 +3,38 @@ use Rattle.std.specs.Prelude.{◌≡◌, ℕ, ◌+◌, ◌<◌, true, ◌⊎◌,
 use Rattle.page_state.specs.declared.entry.PageRange.{PageRange}
 use Rattle.page_state.specs.declared.reply.Call.{Call}
 use Rattle.page_state.specs.declared.reply.Reply.{Reply}
-use Rattle.page_state.specs.declared.row.Row.{Row}
 use Rattle.page_state.specs.declared.step.Step.{Step}
 use Rattle.reference_model.specs.Run.{Runs}
-use Rattle.reference_model.specs.State.{Reference}
 use Rattle.reference_model.specs.Step.{Steps}
-use Rattle.world.specs.declared.parts.Parts.{Parts}
+use Rattle.hypercalls.specs.declared.parts.Parts.{Parts}
 use Rattle.world.specs.declared.World.{World}
 use Rattle.world.specs.Laws.{EndsRun}
-use Rattle.world.specs.Stands.{layout_of, state_of}
+use Rattle.hypercalls.specs.Stands.{layout_of, state_of}
 use Rattle.trace_text.specs.declared.fault.Fault.{Fault}
-use Rattle.trace_text.specs.declared.line.Line.{Line}
-use Rattle.trace_text.specs.declared.line.Line.TheVariants as lines
-use Rattle.trace_text.specs.declared.outcome.Outcome.{Outcome}
-use Rattle.trace_text.specs.declared.outcome.Outcome.TheVariants as outcomes
+use Rattle.trace_lines.specs.declared.fault.LineFault.{LineFault}
+use Rattle.trace_lines.specs.declared.line.Line.{Line}
+use Rattle.trace_lines.specs.declared.line.Line.TheVariants as lines
+use Rattle.trace_lines.specs.declared.response.Response.{Response}
+use Rattle.trace_lines.specs.declared.response.Response.TheVariants as responses
+use Rattle.trace_lines.specs.declared.outcome.Outcome.{Outcome}
+use Rattle.trace_lines.specs.declared.outcome.Outcome.TheVariants as outcomes
 use Rattle.trace_text.specs.declared.report.ReportLine.{ReportLine}
 use Rattle.trace_text.specs.declared.report.ReportLine.TheVariants as report
 use Rattle.trace_text.specs.Replay.{IsPlayed, IsReport}
-use Rattle.trace_text.specs.Said.{said}
-use Rattle.trace_text.specs.Session.{Standing, HasWorld, at_start}
-use Rattle.trace_text.specs.Settings.{nothing_told}
+use Rattle.trace_lines.specs.Said.{said}
+use Rattle.trace_text.specs.Session.{Standing, HasWorld, allowed, at_start}
+use Rattle.trace_lines.specs.Settings.{nothing_told}
 
--- the CPU and the reply that a line of a report tells, if it is a step's
+-- the CPU and the reply that a response tells, if it is a step's
+abbrev pub reply_of : Response → Option (ℕ × Reply)
+reply_of (responses.Boot host hyp free) = None
+reply_of (responses.Step number cpu reply) = Some (cpu, reply)
+reply_of (responses.Word word) = None
+reply_of (responses.Free free) = None
+
+-- those that a line of a report tells
 abbrev pub reply_told : ReportLine → Option (ℕ × Reply)
-reply_told (report.Boot host hyp free) = None
-reply_told (report.Step number cpu reply) = Some (cpu, reply)
-reply_told (report.Word word) = None
-reply_told (report.Free free) = None
+reply_told (report.Response response) = reply_of response
 reply_told (report.Fault number fault) = None
 reply_told (report.End steps disagreements) = None
 
@@ -38,23 +43,17 @@ abbrev pub replies_told : List ReportLine → List (ℕ × Reply)
 replies_told reported = filter_map reply_told reported
 
 -- the CPU and the step that a line asks for, if it is a step line
-abbrev pub step_said : Result (Option Line) Fault → Option (ℕ × Step)
+abbrev pub step_said : Result (Option Line) LineFault → Option (ℕ × Step)
 step_said (Err fault) = None
 step_said (Ok None) = None
-step_said (Ok (Some (lines.Geometry bits))) = None
-step_said (Ok (Some (lines.Cpus cpus))) = None
-step_said (Ok (Some (lines.Log calls))) = None
-step_said (Ok (Some (lines.Memory pages))) = None
-step_said (Ok (Some (lines.Device pages))) = None
-step_said (Ok (Some (lines.Carve pages))) = None
+step_said (Ok (Some (lines.Setting setting))) = None
 step_said (Ok (Some lines.Boot)) = None
 step_said (Ok (Some (lines.Step cpu step))) = Some (cpu, step)
-step_said (Ok (Some (lines.Word tree page level))) = None
-step_said (Ok (Some lines.FreeShared)) = None
+step_said (Ok (Some (lines.Query query))) = None
 
 -- the CPU and the step that the bytes of a line ask for; what was told before has no part in it
 abbrev pub step_asked : List ℕ → Option (ℕ × Step)
-step_asked line = step_said (said nothing_told true line)
+step_asked line = step_said (said (allowed true) nothing_told line)
 
 -- those of all step lines of a trace, in order
 abbrev pub steps_asked : List (List ℕ) → List (ℕ × Step)
@@ -63,7 +62,7 @@ steps_asked trace = filter_map step_asked trace
 -- the calls are of CPUs of the layout, and lead by reference steps from the state that the parts stand for to the one that the other parts stand for
 pub record Leads {A : Type 0} (p : Parts A) (cs : List Call) (q : Parts A) : Type 0 where
   pub cpus : All (λ c. c.cpu < p.layout.config.cpus) cs
-  pub runs : (row : ℕ → Row) → (t : Reference) × Runs (Steps (layout_of p)) (state_of row p) cs t × (t ≡ state_of t.contents.shared.row q)
+  pub runs : Runs (Steps (layout_of p)) (state_of p) cs (state_of q)
 
 -- a report tells a run of the reference step from these parts: of the steps that the trace asks for those before its first fault,
 -- which are all where the report is clean, are made, and what its step lines tell are their CPUs and replies
@@ -87,7 +86,7 @@ pub record TellsNoBoot (trace : List (List ℕ)) (reported : List ReportLine) (o
 -- lines, from a number on, that report nothing and lead from one standing to another
 abbrev pub Prepares : {A : Type 0} → ℕ → Standing A → List (List ℕ) → Standing A → Type 0
 Prepares number old [] new = new ≡ old
-Prepares {A} number old (line ∷ rest) new = (next : Standing A) × IsPlayed number line old (Ok None) next × Prepares (number + 1) next rest new
+Prepares {A} number old (line ∷ rest) new = (next : Standing A) × IsPlayed number line old (Ok []) next × Prepares (number + 1) next rest new
 
 -- a boot line of a trace, from a line of the trace on: the lines in front of it have told its settings, a carve-out among them
 pub record BootLine {A : Type 0} (number : ℕ) (start : Standing A) (trace : List (List ℕ)) : Type 0 where
@@ -104,12 +103,12 @@ pub record BootLine {A : Type 0} (number : ℕ) (start : Standing A) (trace : Li
 pub record TellsBoot {A : Type 0} (number : ℕ) (start : Standing A) (trace : List (List ℕ)) (reported : List ReportLine) (outcome : Outcome) : Type 0 where
   pub at : BootLine number start trace
   pub world : World A
-  pub line : ReportLine
+  pub line : Response
   pub new : Standing A
-  pub played : IsPlayed (number + length at.front) at.boot at.old (Ok (Some line)) new
+  pub played : IsPlayed (number + length at.front) at.boot at.old (Ok (line ∷ [])) new
   pub booted : HasWorld at.carve at.old world line new
   pub more : List ReportLine
-  pub first : reported ≡ line ∷ more
+  pub first : reported ≡ report.Response line ∷ more
   pub run : TellsRun world.parts trace more outcome
   pub ends : EndsRun (layout_of world.parts) run.calls run.last
 

@@ -1,14 +1,7 @@
 pub mod Failures
 pub mod Laws
-pub mod Lines
-pub mod Numbers
 pub mod Played
-pub mod Reading
 pub mod Replay
-pub mod Said
 pub mod Session
-pub mod Settings
 pub mod Texts
-pub mod Verbs
-pub mod Words
 pub mod Worlds

@@ -1,25 +1,15 @@
 -- The lines of a trace, and its report (profile).
-use Rattle.std.specs.Prelude.{◌≡◌, ℕ, ◌+◌, ◌<◌, ◌≤◌, ◌==◌, List, [], ◌∷◌, length, Option, Some, None, Ok, Err, IfSome, if◌then◌else◌}
-use Rattle.std.specs.List.{slice_split}
+use Rattle.std.specs.Prelude.{◌≡◌, ℕ, ◌+◌, ◌<◌, ◌≤◌, List, [], ◌∷◌, ◌++◌, map, Option, Ok, Err, IfSome}
 use Rattle.std.specs.Io.KnownBytes.{Appends}
 use Rattle.trace_text.specs.declared.fault.Fault.TheVariants as faults
-use Rattle.trace_text.specs.declared.outcome.Outcome.{Outcome}
-use Rattle.trace_text.specs.declared.outcome.Outcome.TheVariants as outcomes
+use Rattle.trace_lines.specs.Reading.{lines_of}
+use Rattle.trace_lines.specs.declared.outcome.Outcome.{Outcome}
+use Rattle.trace_lines.specs.declared.outcome.Outcome.TheVariants as outcomes
 use Rattle.trace_text.specs.declared.report.ReportLine.{ReportLine}
 use Rattle.trace_text.specs.declared.report.ReportLine.TheVariants as report
 use Rattle.trace_text.specs.declared.session.Stop.TheVariants as stops
 use Rattle.trace_text.specs.Session.{Standing, Answer, Faults, Runs, at_start}
 use Rattle.trace_text.specs.Texts.{text_of_report}
-
--- parts but for a last one that has no byte
-abbrev pub without_empty_last : List (List ℕ) → List (List ℕ)
-without_empty_last [] = []
-without_empty_last (part ∷ []) = if length part == 0 then [] else part ∷ []
-without_empty_last (part ∷ next ∷ parts) = part ∷ without_empty_last (next ∷ parts)
-
--- the lines of a trace without their ends, the byte 10: the last may lack its end, and nothing behind the last end is no line
-unfoldable pub lines_of : List ℕ → List (List ℕ)
-lines_of bytes = without_empty_last (slice_split (λ byte. byte == 10) bytes)
 
 -- what a line does by its place: the first 1,048,576 lines are carried out, the next is a fault
 pub record IsPlayed {A : Type 0} (number : ℕ) (line : List ℕ) (old : Standing A) (answer : Answer) (new : Standing A) : Type 0 where
@@ -30,8 +20,7 @@ pub record IsPlayed {A : Type 0} (number : ℕ) (line : List ℕ) (old : Standin
 abbrev pub Begins : ℕ → Answer → (List ReportLine → Outcome → Type 0) → List ReportLine → Outcome → Type 0
 Begins number (Err (stops.Fault fault)) follows lines outcome = (lines ≡ report.Fault number fault ∷ []) × (outcome ≡ outcomes.Fault)
 Begins number (Err stops.NoMemory) follows lines outcome = ⊥
-Begins number (Ok None) follows lines outcome = follows lines outcome
-Begins number (Ok (Some line)) follows lines outcome = (more : List ReportLine) × (lines ≡ line ∷ more) × follows more outcome
+Begins number (Ok told) follows lines outcome = (more : List ReportLine) × (lines ≡ map report.Response told ++ more) × follows more outcome
 
 -- the report of a trace's lines from a number on: line after line, and at the end the number of step lines
 abbrev pub IsReport : {A : Type 0} → ℕ → Standing A → List (List ℕ) → List ReportLine → Outcome → Type 0

@@ -2,10 +2,10 @@
 ghost use Rattle.std.specs.Prelude.{IfOk};
 ghost use Rattle.trace_text.specs.Replay.{IsReplayed};
 
-use crate::outcome::{EngineFault, Outcome};
 use crate::trace::replay;
 use std::alloc::{Allocator, Global};
 use std::io::{BufReader, BufWriter, Read, Write};
+use trace_lines::{EngineFault, Outcome};
 
 /// Replays a trace through buffers, and gives the writer back with the whole report written to it.
 pub fn replay_buffered<A: Allocator + Copy, R: Read + Drop, W: Write + Drop>(

@@ -4,21 +4,13 @@
 mod buffered;
 mod fault;
 pub mod laws;
-mod line;
-mod lines;
-mod number;
-mod outcome;
 mod report;
-mod said;
 mod session;
-mod settings;
 mod trace;
-mod verb;
-mod words;
 
 pub use buffered::replay_buffered;
-pub use outcome::{EngineFault, Outcome};
 pub use trace::replay;
+pub use trace_lines::{EngineFault, Outcome};
 
 #[cfg(test)]
 mod tests;

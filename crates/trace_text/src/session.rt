@@ -1,25 +1,19 @@
 //! What a trace has said so far, and what a line does.
-ghost use Rattle.std.specs.Prelude.{◌≡◌, ◌+◌, ◌<◌, ◌≤◌, ◌^◌, List, Option, Some, is_some, option_map, OnOk, OnErr, MatchResult};
+ghost use Rattle.std.specs.Prelude.{◌≡◌, ◌+◌, ◌<◌, ◌≤◌, ◌^◌, List, Option, Some, is_some, OnOk, OnErr, MatchResult};
 ghost use Rattle.page_state.specs.declared.layout.Config.{Config};
 ghost use Rattle.page_state.specs.LayoutFaults.{IsAccepted};
 ghost use Rattle.page_state.specs.Regions.{memory_of};
-ghost use Rattle.table_tree.specs.View.{tables_of};
-ghost use Rattle.trace_text.specs.Session.{Asks, Boots, Does, HasWorld, InWorld, IsNoWorld, Makes, Runs, Tells, at_start, standing_of};
-ghost use Rattle.trace_text.specs.Settings.{config_of, told_of};
+ghost use Rattle.trace_text.specs.Session.{Answers, Boots, Does, HasWorld, InWorld, IsNoWorld, Makes, Runs, Tells, allowed, answer_of, at_start, standing_of};
+ghost use Rattle.trace_lines.specs.Settings.{config_of, told_of};
 ghost use Rattle.world.specs.Boots.{IsBooted};
-ghost use Rattle.table_tree.specs.OnPage.{word_on as word_of_path};
-ghost use Rattle.trace_text.specs.Lines.{IsServedLine};
-ghost use Rattle.world.specs.Steps.{IsServed};
-ghost use Rattle.trace_text.specs.Worlds.{free_of, tree_of};
+ghost use Rattle.trace_lines.specs.Said.{StepHas};
+ghost use Rattle.hypercalls.specs.Served.{IsServed};
+ghost use Rattle.trace_text.specs.Worlds.{free_of, tables_in, word_of};
 
 use crate::fault::Fault;
-use crate::line::Line;
-use crate::report::ReportLine;
-use crate::said::said;
-use crate::settings::Settings;
-use crate::verb::TreeName;
 use page_state::{MemoryMap, Page, PageRange, Region, Step};
 use std::alloc::{Allocator, Global};
+use trace_lines::{Allows, Line, LineFault, Query, Response, Setting, Settings, TreeName, said};
 use world::World;
 
 /// Why a line ends the run.
@@ -61,58 +55,68 @@ impl<A: Allocator + Copy> Session<A> {
         self.steps
     }
 
-    /// Carries out the line of this number, and gives the line of the report that it makes, if any. Of a line of over
-    /// 256 bytes any 257 serve.
-    pub fn run(&mut self, number: u64, line: &[u8]) -> Result<Option<ReportLine>, Stop>
-        requires { (standing_of self.old).steps < 2 ^ 63 }
-        ensures done { Runs number line.now (standing_of self.old) result (standing_of self.new) }
-        ensures steps { (standing_of self.new).steps ≤ (standing_of self.old).steps + 1 }
+    /// What `replay` allows where the session stands.
+    fn allows(&self) -> Allows
+        ensures { result ≡ allowed (is_some (standing_of self.now).world) }
     {
-        match said(&self.settings, self.world.is_some(), line) {
-            Ok(Some(said)) => self.carry_out(number, said),
-            Ok(None) => Ok(None),
-            Err(fault) => Err(Stop::Fault(fault)),
+        if self.world.is_some() {
+            Allows {
+                settings: false,
+                boot: false,
+                steps: true,
+                queries: true,
+            }
+        } else {
+            Allows::before_boot()
         }
     }
 
-    fn carry_out(&mut self, number: u64, said: Line) -> Result<Option<ReportLine>, Stop>
+    /// Carries out the line of this number, and gives the line of the report that it makes, if any. Of a line of over
+    /// 256 bytes any 257 serve.
+    pub fn run(&mut self, number: u64, line: &[u8]) -> Result<Option<Response>, Stop>
+        requires { (standing_of self.old).steps < 2 ^ 63 }
+        ensures done { Runs number line.now (standing_of self.old) (answer_of result) (standing_of self.new) }
+        ensures steps { (standing_of self.new).steps ≤ (standing_of self.old).steps + 1 }
+    {
+        match said(self.allows(), &self.settings, line) {
+            Ok(Some(said)) => self.carry_out(number, said),
+            Ok(None) => Ok(None),
+            Err(fault) => Err(Stop::Fault(Fault::Line(fault))),
+        }
+    }
+
+    fn carry_out(&mut self, number: u64, said: Line) -> Result<Option<Response>, Stop>
         requires few { self.old.steps < 2 ^ 63 }
-        requires served { IsServedLine said }
-        ensures done { Does number said (standing_of self.old) result (standing_of self.new) }
+        requires served { StepHas IsServed said }
+        ensures done { Does number said (standing_of self.old) (answer_of result) (standing_of self.new) }
         ensures steps { self.new.steps ≤ self.old.steps + 1 }
     {
         match said {
-            Line::Geometry(_)
-            | Line::Cpus(_)
-            | Line::Log(_)
-            | Line::Memory(_)
-            | Line::Device(_)
-            | Line::Carve(_) => self.tell(said),
+            Line::Setting(setting) => self.tell(setting),
             Line::Boot => self.boot(),
             Line::Step { cpu, step } => self.step(number, cpu, step),
-            Line::Word { tree, page, level } => self.word(tree, page, level),
-            Line::FreeShared => self.free(),
+            Line::Query(query) => self.ask(query),
         }
     }
 
     /// Takes up a setting.
-    fn tell(&mut self, said: Line) -> Result<Option<ReportLine>, Stop>
-        ensures done { Tells said (standing_of self.old) result (standing_of self.new) }
+    fn tell(&mut self, setting: Setting) -> Result<Option<Response>, Stop>
+        ensures done { Tells setting (standing_of self.old) (answer_of result) (standing_of self.new) }
         ensures steps { self.new.steps ≡ self.old.steps }
     {
-        match self.settings.say(said) {
+        match self.settings.say(setting) {
             Ok(()) => Ok(None),
             Err(_) => Err(Stop::NoMemory),
         }
     }
 
     /// Makes the world.
-    fn boot(&mut self) -> Result<Option<ReportLine>, Stop>
-        ensures done { Boots (standing_of self.old) result (standing_of self.new) }
+    fn boot(&mut self) -> Result<Option<Response>, Stop>
+        ensures done { Boots (standing_of self.old) (answer_of result) (standing_of self.new) }
         ensures steps { self.new.steps ≡ self.old.steps }
     {
         let Some(carve) = self.settings.carve else {
-            return Err(Stop::Fault(Fault::Place));
+            return Err(Stop::Fault(Fault::Line(LineFault::Place)));
         };
         match self.booted(carve) {
             Ok(world) => {
@@ -136,62 +140,62 @@ impl<A: Allocator + Copy> Session<A> {
     }
 
     /// Makes one step.
-    fn step(&mut self, number: u64, cpu: u64, step: Step) -> Result<Option<ReportLine>, Stop>
+    fn step(&mut self, number: u64, cpu: u64, step: Step) -> Result<Option<Response>, Stop>
         requires few { self.old.steps < 2 ^ 63 }
         requires served { IsServed step }
-        ensures done { InWorld (Makes number cpu step) (standing_of self.old) result (standing_of self.new) }
+        ensures done { InWorld (Makes number cpu step) (standing_of self.old) (answer_of result) (standing_of self.new) }
         ensures steps { self.new.steps ≤ self.old.steps + 1 }
     {
         let Some(world) = self.world.as_mut() else {
-            return Err(Stop::Fault(Fault::Place));
+            return Err(Stop::Fault(Fault::Line(LineFault::Place)));
         };
         if cpu >= world.cpus() {
             return Err(Stop::Fault(Fault::Cpu));
         }
         let reply = world.step(cpu, step);
         self.steps += 1;
-        Ok(Some(ReportLine::Step {
+        Ok(Some(Response::Step {
             line: number,
             cpu,
             reply,
         }))
     }
 
-    /// The word on a page's path at a level.
-    fn word(&self, tree: TreeName, page: u64, level: u64) -> Result<Option<ReportLine>, Stop>
-        ensures { InWorld (λ w. Asks (option_map ReportLine.Word (word_of_path (tree_of w tree) page level)) Fault.Path) (standing_of self.now) result (standing_of self.now) }
+    /// Answers a query.
+    fn ask(&self, query: Query) -> Result<Option<Response>, Stop>
+        ensures { InWorld (Answers query) (standing_of self.now) (answer_of result) (standing_of self.now) }
     {
         let Some(world) = self.world.as_ref() else {
-            return Err(Stop::Fault(Fault::Place));
+            return Err(Stop::Fault(Fault::Line(LineFault::Place)));
         };
-        let shared = &world.parts().shared;
-        let tree = match tree {
-            TreeName::Host => shared.host.tree(),
-            TreeName::Hyp => shared.hyp.tree(),
-        };
-        match tree.word_on(Page(page), level) {
-            Some(word) => Ok(Some(ReportLine::Word(word))),
-            None => Err(Stop::Fault(Fault::Path)),
+        match query {
+            Query::Word { tree, page, level } => match word_on(world, tree, page, level) {
+                Some(word) => Ok(Some(Response::Word(word))),
+                None => Err(Stop::Fault(Fault::Path)),
+            },
+            Query::FreeShared => Ok(Some(Response::Free(world.parts().shared().pool.free()))),
         }
-    }
-
-    /// The number of free frames of the shared pool.
-    fn free(&self) -> Result<Option<ReportLine>, Stop>
-        ensures { InWorld (λ w. Asks (Some (ReportLine.Free (free_of w))) Fault.Place) (standing_of self.now) result (standing_of self.now) }
-    {
-        let Some(world) = self.world.as_ref() else {
-            return Err(Stop::Fault(Fault::Place));
-        };
-        Ok(Some(ReportLine::Free(world.parts().shared.pool.free())))
     }
 }
 
-/// What a report tells of a boot.
-fn boot_line<A: Allocator>(world: &World<A>) -> ReportLine
-    ensures { result ≡ ReportLine.Boot (tables_of (tree_of world.now TreeName.Host)) (tables_of (tree_of world.now TreeName.Hyp)) (free_of world.now) }
+/// The word on a page's path at a level.
+fn word_on<A: Allocator>(world: &World<A>, tree: TreeName, page: u64, level: u64) -> Option<u64>
+    ensures { result ≡ word_of world.now tree page level }
 {
-    let shared = &world.parts().shared;
-    ReportLine::Boot {
+    let shared = world.parts().shared();
+    let tree = match tree {
+        TreeName::Host => shared.host.tree(),
+        TreeName::Hyp => shared.hyp.tree(),
+    };
+    tree.word_on(Page(page), level)
+}
+
+/// What a report tells of a boot.
+fn boot_line<A: Allocator>(world: &World<A>) -> Response
+    ensures { result ≡ Response.Boot (tables_in world.now TreeName.Host) (tables_in world.now TreeName.Hyp) (free_of world.now) }
+{
+    let shared = world.parts().shared();
+    Response::Boot {
         host: shared.host.tree().tables(),
         hyp: shared.hyp.tree().tables(),
         free: shared.pool.free(),

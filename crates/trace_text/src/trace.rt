@@ -8,12 +8,11 @@ ghost use Rattle.trace_text.specs.Session.{standing_of};
 ghost use Rattle.trace_text.specs.Texts.{text_of_report};
 
 use crate::fault::Fault;
-use crate::lines::{MOST_BYTES, read_line};
-use crate::outcome::{EngineFault, Outcome};
 use crate::report::ReportLine;
 use crate::session::{Session, Stop};
 use std::alloc::{Allocator, Global};
 use std::io::{Read, Write};
+use trace_lines::{EngineFault, MOST_BYTES, Outcome, read_line};
 
 /// The most lines of a trace.
 const MOST_LINES: u64 = 1_048_576;
@@ -61,7 +60,7 @@ fn play<A: Allocator + Copy, W: Write>(
     match session.run(number, line) {
         Ok(None) => Ok(None),
         Ok(Some(told)) => {
-            tell(writer, told)?;
+            tell(writer, ReportLine::Response(told))?;
             Ok(None)
         }
         Err(Stop::Fault(fault)) => {

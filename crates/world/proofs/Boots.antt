@@ -1,5 +1,5 @@
 -- The boot state, from what the changes of both new trees did.
-use Rattle.std.proofs.Common.{◌≡◌, ℕ, ◌+◌, ◌≤◌, ◌<◌, Bool, true, false, ◌==◌, ◌++◌, [], ◌∷◌, List, length, drop, filter, filter_map, is_some, All, zero, suc, ◌-◌, ◌&&◌, if◌then◌else◌, slice_index_or, length-drop, Option, Some, None, Contains, refl, ap, sym, ◌∙◌, arith}
+use Rattle.std.proofs.Common.{◌≡◌, ℕ, ◌+◌, ◌≤◌, ◌<◌, Bool, true, false, ◌==◌, ◌++◌, [], ◌∷◌, List, length, drop, filter, filter_map, is_some, All, zero, suc, ◌-◌, ◌&&◌, if◌then◌else◌, slice_index_or, length-drop, Option, Some, None, IsSome, Contains, refl, ap, sym, subst, ◌∙◌, arith}
 use Rattle.std.proofs.lemmas.Bool.Decides.{nat_tests}
 use Rattle.std.proofs.lemmas.List.Elements.{All-weaker, All-contains_itself}
 use mathlib.Core.Path.{fun_ext}
@@ -7,28 +7,39 @@ use Rattle.page_state.specs.Blocks.{blocks_on, is_needless}
 use Rattle.descriptor.specs.declared.Prot.TheVariants.{RW}
 use Rattle.descriptor.specs.declared.State.TheVariants.{Owned}
 use Rattle.page_state.specs.Trees.{frames_from, root_tree, Block, Tree}
-use Rattle.reference_model.specs.Boot.{carve_first, host_root, host_edit, host_need, hyp_root, hyp_edit, hyp_need, spare, boot_shared, IsCarveEnough}
+use Rattle.reference_model.specs.Boot.{carve_first, host_root, host_edit, host_need, hyp_root, hyp_edit, hyp_need, spare, boot_shared, booted, pool_row, IsCarveEnough}
 use Rattle.page_state.specs.EntryTests.{annotation, leaf}
 use Rattle.page_state.specs.declared.entry.Entry.{Entry}
 use Rattle.page_state.specs.Laws.{BlocksMeet}
 use Rattle.page_state.specs.Layouts.{Layout, hyp_page}
-use Rattle.page_state.specs.Map.{Map, empty_map}
-use Rattle.reference_model.specs.State.{plain_row}
+use Rattle.page_state.specs.Map.{Map, empty_map, is_within}
+use Rattle.reference_model.specs.declared.changes.Changes.{Changes}
+use Rattle.reference_model.specs.Changes.{edit_of}
+use Rattle.reference_model.specs.Conditions.{IsUsable}
+use Rattle.reference_model.specs.RunLaws.{BootRowsTold}
+use Rattle.reference_model.specs.State.{Shared, plain_row}
+use Rattle.reference_model.specs.Step.{shared_need, shared_after}
+use Rattle.page_state.specs.declared.layout.Config.{Config}
+use Rattle.page_state.specs.declared.layout.Geometry.{Geometry}
+use Rattle.page_state.specs.Regions.{Memory, end_of}
+use Rattle.guest_steps.specs.MemoryRows.{HasMemoryRows}
+use Rattle.guest_steps.specs.View.{rows_given}
+use Rattle.owner_table.specs.Rows.{row_at}
+use Rattle.page_state.specs.declared.entry.PageRange.{PageRange}
+use Rattle.reference_model.specs.declared.changes.MapChange.{MapChange}
+use Rattle.run_list.specs.declared.run.Run.{Run}
 use Rattle.page_state.specs.Tables.{Edit, put, need, edited, returned, freed, edited_map, all_given}
 use Rattle.std.specs.Prelude.{Result, Ok, Err, IsErrAnd, OnErr}
 use Rattle.hyp_pool.specs.declared.PoolFault.{PoolFault}
 use Rattle.hyp_pool.specs.declared.PoolFault.TheVariants as pools
 use Rattle.world.specs.declared.boot.BootFault.{BootFault}
 use Rattle.world.specs.declared.boot.BootFault.TheVariants.{NoMemory}
-use Rattle.world.specs.Boots.{fault_of_pool}
+use Rattle.world.specs.Boots.{fault_of_pool, layout_for, new_shared_of}
 use Rattle.hyp_pool.proofs.Order.{length-frames_from}
 use Rattle.table_tree.specs.declared.tree.Tree.{Tree as TableTree}
 use Rattle.page_state.specs.Geometries.{levels_below}
 use Rattle.table_tree.specs.View.{meaning, table_at, tree_of}
 use Rattle.page_state.specs.declared.row.Row.{Row}
-use Rattle.world.proofs.Answers.{parts}
-use Rattle.world.specs.declared.component.PageEdit.{PageEdit}
-use Rattle.world.specs.View.{edit_of, need_for, tree_after, back_from}
 
 -- a test that no element passes
 filter_none : {X : Type 0} (p : X → Bool) (xs : List X) → All (λ x. p x ≡ false) xs → filter p xs ≡ []
@@ -70,59 +81,70 @@ tree m t = record { map = m; table = t }
 pub new_is : {A : Type 0} (d : ℕ) (t : TableTree A) (root : ℕ) → meaning t ≡ empty_map → ((depth number : ℕ) → table_at t depth number ≡ (if depth == d + 1 && number == 0 then Some root else None)) → tree_of t ≡ root_tree d root
 new_is d t root m h = ap (λ x. tree x (λ b. table_at t b.0 b.1)) m ∙ ap (tree empty_map) (fun_ext (λ (b : Block). h b.0 b.1))
 
-module _ {A : Type 0} (l : Layout) where
-  module _ (t : TableTree A) (e : PageEdit) (u : Tree) (d : Edit) (depth : levels_below t.geometry ≡ l.depth) (tree : tree_of t ≡ u) (edit : edit_of e ≡ d) where
-    need_is : need_for t e ≡ need l.depth u d
-    need_is = ap (λ x. need x (tree_of t) (edit_of e)) depth ∙ ap (λ x. need l.depth x (edit_of e)) tree ∙ ap (need l.depth u) edit
+-- the Shared part after the changes of boot
+module _ (meet : BlocksMeet) (m : Memory) (c : Config) (g : Geometry) (h : Changes) (host_is : edit_of h.host ≡ host_edit (layout_for m c g)) (hyp_is : edit_of h.hyp ≡ hyp_edit (layout_for m c g)) where
+  abbrev l : Layout
+  l = layout_for m c g
 
-    back_is : back_from t e ≡ returned l.depth u d
-    back_is = ap (λ x. returned x (tree_of t) (edit_of e)) depth ∙ ap (λ x. returned l.depth x (edit_of e)) tree ∙ ap (returned l.depth u) edit
+  pub need_is : shared_need (levels_below g) h (new_shared_of m g) ≡ host_need l + hyp_need l
+  need_is = ap (λ e. need l.depth (host_root l) e + need l.depth (hyp_root l) (edit_of h.hyp)) host_is ∙ ap (λ e. host_need l + need l.depth (hyp_root l) e) hyp_is
 
-    after_is : (fs : List ℕ) → tree_after t e fs ≡ edited l.depth u d fs
-    after_is fs = ap (λ x. edited x (tree_of t) (edit_of e) fs) depth ∙ ap (λ x. edited l.depth x (edit_of e) fs) tree ∙ ap (λ x. edited l.depth u x fs) edit
+  -- the pool has a frame for each table
+  pub enough : IsCarveEnough l → shared_need (levels_below g) h (new_shared_of m g) ≤ length (new_shared_of m g).free
+  enough k =
+      let n : length (spare l) ≡ m.carve.count - 2 = length-drop 2 (frames_from (carve_first l) m.carve.count) ∙ ap (λ x. x - 2) (length-frames_from (carve_first l) m.carve.count) in
+      omega (arith, k, n, need_is)
 
-  module _ (host hyp : TableTree A) (he ye : PageEdit) (free : List ℕ)
-      (host_depth : levels_below host.geometry ≡ l.depth) (hyp_depth : levels_below hyp.geometry ≡ l.depth)
-      (host_tree : tree_of host ≡ host_root l) (hyp_tree : tree_of hyp ≡ hyp_root l)
-      (host_is : edit_of he ≡ host_edit l) (hyp_is : edit_of ye ≡ hyp_edit l)
-      (left : free ≡ spare l) where
-    host_needs : need_for host he ≡ host_need l
-    host_needs = need_is host he (host_root l) (host_edit l) host_depth host_tree host_is
+  -- the same of what is one
+  pub enough_at : (d : ℕ) (x : Shared) → d ≡ levels_below g → x ≡ new_shared_of m g → IsCarveEnough l → shared_need d h x ≤ length x.free
+  enough_at d x a b k = let n = enough k in subst (λ (y : Shared). shared_need d h y ≤ length y.free) (sym b) (subst (λ e. shared_need e h (new_shared_of m g) ≤ length (new_shared_of m g).free) (sym a) n)
 
-    hyp_needs : need_for hyp ye ≡ hyp_need l
-    hyp_needs = need_is hyp ye (hyp_root l) (hyp_edit l) hyp_depth hyp_tree hyp_is
+  pub after_is : 0 < m.carve.count → shared_after (levels_below g) h (new_shared_of m g) ≡ boot_shared l
+  unfolding shared_after
+  after_is some =
+      let d = l.depth in
+      let host_back : returned d (host_root l) (host_edit l) ≡ [] = none_back meet l (carve_first l) (carve_first l) m.carve.count (annotation 1) some in
+      let hyp_back : returned d (hyp_root l) (hyp_edit l) ≡ [] = none_back meet l (carve_first l + 1) (hyp_page (carve_first l)) m.carve.count (leaf RW (carve_first l) Owned) some in
+      ap (λ e. after_by e (edit_of h.hyp)) host_is ∙ ap (after_by (host_edit l)) hyp_is
+      ∙ ap (λ bs. pooled (all_given (bs ++ returned d (hyp_root l) (hyp_edit l)) (drop (host_need l + hyp_need l) (spare l)))) host_back
+      ∙ ap (λ bs. pooled (all_given bs (drop (host_need l + hyp_need l) (spare l)))) hyp_back
+    where
+      after_by : Edit → Edit → Shared
+      after_by e f = record {
+        host = edited l.depth (host_root l) e (spare l);
+        hyp = edited l.depth (hyp_root l) f (drop (need l.depth (host_root l) e) (spare l));
+        free = all_given (returned l.depth (host_root l) e ++ returned l.depth (hyp_root l) f) (drop (need l.depth (host_root l) e + need l.depth (hyp_root l) f) (spare l));
+        row = λ x. plain_row;
+      }
 
-    -- the pool has a frame for each table
-    pub enough : IsCarveEnough l → need_for host he + need_for hyp ye ≤ length free
-    enough h =
-        let n : length free ≡ l.memory.carve.count - 2 = ap length left ∙ length-drop 2 (frames_from (carve_first l) l.memory.carve.count) ∙ ap (λ k. k - 2) (length-frames_from (carve_first l) l.memory.carve.count) in
-        omega (arith, h, n, host_needs, hyp_needs)
+      pooled : List ℕ → Shared
+      pooled free = record (boot_shared l) { free = free }
 
-    -- the Shared part after both changes
-    pub shared_is : BlocksMeet → 0 < l.memory.carve.count → (host' hyp' : TableTree A) (free' : List ℕ)
-        → tree_of host' ≡ tree_after host he free
-        → tree_of hyp' ≡ tree_after hyp ye (drop (need_for host he) free)
-        → free' ≡ all_given (back_from host he ++ back_from hyp ye) (drop (need_for host he + need_for hyp ye) free)
-        → parts (λ f. plain_row) (tree_of host') (tree_of hyp') free' ≡ boot_shared l
-    shared_is meet some host' hyp' free' a b c =
-        let host_at : tree_of host' ≡ edited l.depth (host_root l) (host_edit l) (spare l) =
-        a ∙ after_is host he (host_root l) (host_edit l) host_depth host_tree host_is free ∙ ap (edited l.depth (host_root l) (host_edit l)) left in
-        let hyp_at : tree_of hyp' ≡ edited l.depth (hyp_root l) (hyp_edit l) (drop (host_need l) (spare l)) =
-        b ∙ after_is hyp ye (hyp_root l) (hyp_edit l) hyp_depth hyp_tree hyp_is (drop (need_for host he) free) ∙ ap (λ n. edited l.depth (hyp_root l) (hyp_edit l) (drop n free)) host_needs ∙ ap (λ fs. edited l.depth (hyp_root l) (hyp_edit l) (drop (host_need l) fs)) left in
-        let host_back : back_from host he ≡ [] = back_is host he (host_root l) (host_edit l) host_depth host_tree host_is ∙ none_back meet l (carve_first l) (carve_first l) l.memory.carve.count (annotation 1) some in
-        let hyp_back : back_from hyp ye ≡ [] = back_is hyp ye (hyp_root l) (hyp_edit l) hyp_depth hyp_tree hyp_is ∙ none_back meet l (carve_first l + 1) (hyp_page (carve_first l)) l.memory.carve.count (leaf RW (carve_first l) Owned) some in
-        let n : ℕ = need_for host he + need_for hyp ye in
-        let free_at : free' ≡ drop (host_need l + hyp_need l) (spare l) =
-        c
-        ∙ ap (λ bs. all_given (bs ++ back_from hyp ye) (drop n free)) host_back
-        ∙ ap (λ bs. all_given bs (drop n free)) hyp_back
-        ∙ ap (λ k. drop (k + need_for hyp ye) free) host_needs
-        ∙ ap (λ k. drop (host_need l + k) free) hyp_needs
-        ∙ ap (drop (host_need l + hyp_need l)) left in
-        let rows : ℕ → Row = λ f. plain_row in
-        ap (λ x. parts rows x (tree_of hyp') free') host_at
-        ∙ ap (λ x. parts rows (edited l.depth (host_root l) (host_edit l) (spare l)) x free') hyp_at
-        ∙ ap (λ x. parts rows (edited l.depth (host_root l) (host_edit l) (spare l)) (edited l.depth (hyp_root l) (hyp_edit l) (drop (host_need l) (spare l))) x) free_at
+-- the rows of the carve-out are those of the boot state
+pub rows_are : BootRowsTold → (l : Layout) → IsCarveEnough l → IsUsable l → rows_given l.memory.carve pool_row (boot_shared l) ≡ (booted l).shared
+unfolding booted
+rows_are told l enough usable = ap (λ (r : ℕ → Row). record (boot_shared l) { row = r }) (fun_ext (λ f. sym (told l f enough usable)))
+
+-- the changes of boot, by the carve-out
+pub host_edit_is : (m : Memory) (c : Config) (g : Geometry) (r : PageRange) (h : MapChange) → r ≡ m.carve → h ≡ (record { range = r; entry = annotation 1 }) → edit_of (Some h) ≡ host_edit (layout_for m c g)
+host_edit_is m c g r h a b = ap (λ x. edit_of (Some x)) b ∙ ap (λ (x : PageRange). put x.first.0 x.count (annotation 1)) a
+
+pub hyp_edit_is : (m : Memory) (c : Config) (g : Geometry) (r : PageRange) (h : MapChange) → r ≡ m.carve → h ≡ (record { range = record { first = record { 0 = hyp_page r.first.0 }; count = r.count }; entry = leaf RW r.first.0 Owned }) → edit_of (Some h) ≡ hyp_edit (layout_for m c g)
+hyp_edit_is m c g r h a b = ap (λ x. edit_of (Some x)) b ∙ ap (λ (x : PageRange). put (hyp_page x.first.0) x.count (leaf RW x.first.0 Owned)) a
+
+has_some : {P : Type 0} (o : Option P) → is_some o ≡ true → IsSome o
+has_some None h = cc
+has_some (Some p) h = refl
+
+-- the frames of the carve-out have a row
+pub known_rows : (m : Memory) (c : Config) (g : Geometry) (r : PageRange) (rows : List (Run Row)) → r ≡ m.carve → IsUsable (layout_for m c g) → HasMemoryRows m rows → (f : ℕ) → r.first.0 ≤ f → f < end_of r → IsSome (row_at rows f)
+known_rows m c g r rows a usable has f low high =
+    let first = ap (λ (x : PageRange). x.first.0) a in
+    let count = ap (λ (x : PageRange). x.count) a in
+    let lower : m.carve.first.0 ≤ f = omega (arith, first, low) in
+    let upper : f < m.carve.first.0 + m.carve.count = omega (arith, first, count, high) in
+    let inside : is_within m.carve.first.0 m.carve.count f ≡ true = grind (arith, nat_tests) in
+    has_some (row_at rows f) (has f ∙ usable.carve f inside)
 
 -- a fault that isn't want of frames is want of memory
 pub told : {T : Type 0} (r : Result T BootFault) (f : PoolFault) → (f ≡ pools.NoPool → ⊥) → IsErrAnd r (λ b. b ≡ fault_of_pool f) → OnErr r (r ≡ Err NoMemory)

@@ -1,9 +1,4 @@
-pub mod Pools
-pub mod Changes
-pub mod Answers
+pub mod AtBoot
 pub mod Booted
 pub mod Boots
-pub mod Steps
-pub mod Histories
 pub mod Runs
-pub mod Places

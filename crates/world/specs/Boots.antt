@@ -1,5 +1,5 @@
 -- Booting: which configurations are accepted, when a boot fails, and what a booted world has.
-use Rattle.std.specs.Prelude.{◌≡◌, ℕ, ◌≤◌, [], Some, slice_get}
+use Rattle.std.specs.Prelude.{◌≡◌, ℕ, ◌+◌, ◌≤◌, [], Some, drop}
 use Rattle.page_state.specs.declared.layout.Config.{Config}
 use Rattle.page_state.specs.declared.layout.Geometry.{Geometry}
 use Rattle.reference_model.specs.Boot.{boot, IsCarveEnough}
@@ -8,16 +8,17 @@ use Rattle.page_state.specs.Geometries.{geometry_of, levels_below}
 use Rattle.page_state.specs.LayoutFaults.{IsAccepted}
 use Rattle.page_state.specs.Layouts.{Layout, HasItsDepth}
 use Rattle.page_state.specs.Regions.{Memory}
+use Rattle.page_state.specs.Trees.{frames_from, root_tree}
 use Rattle.hyp_pool.specs.declared.PoolFault.{PoolFault}
 use Rattle.hyp_pool.specs.declared.PoolFault.TheVariants as pools
 use Rattle.world.specs.declared.boot.BootFault.{BootFault}
 use Rattle.world.specs.declared.boot.BootFault.TheVariants.{Config as config_fault, CarveSmall, NoMemory}
-use Rattle.reference_model.specs.State.{no_cpu}
-use Rattle.world.specs.declared.parts.CpuState.{CpuState}
-use Rattle.world.specs.declared.parts.Parts.{Parts}
-use Rattle.world.specs.Logs.{IsNewLog}
-use Rattle.world.specs.Stands.{layout_of, cpu_of, guest_calls_of, state_of}
-use Rattle.world.specs.Steps.{calls_at}
+use Rattle.reference_model.specs.State.{Shared, no_cpu, plain_row}
+use Rattle.guest_steps.specs.declared.parts.CpuState.{CpuState}
+use Rattle.guest_steps.specs.Logs.{IsNewLog}
+use Rattle.guest_steps.specs.View.{cpu_of}
+use Rattle.hypercalls.specs.declared.parts.Parts.{Parts}
+use Rattle.hypercalls.specs.Stands.{layout_of, kept_of, state_of}
 
 -- the number of a fault in a report (profile)
 abbrev pub boot_number : BootFault → ℕ
@@ -39,6 +40,15 @@ pub record IsConfig (c : Config) (g : Geometry) : Type 0 where
 abbrev pub layout_for : Memory → Config → Geometry → Layout
 layout_for m c g = record { memory = m; config = c; depth = levels_below g }
 
+-- the Shared part of two roots alone, which take the lowest two frames of the carve-out
+abbrev pub new_shared_of : Memory → Geometry → Shared
+new_shared_of m g = record {
+  host = root_tree (levels_below g) m.carve.first.0;
+  hyp = root_tree (levels_below g) (m.carve.first.0 + 1);
+  free = drop 2 (frames_from m.carve.first.0 m.carve.count);
+  row = λ f. plain_row;
+}
+
 -- why a world doesn't boot: the first test that fails, or, where none does, that memory was refused
 abbrev pub IsNoBoot : BootFault → Memory → Config → Type 0
 IsNoBoot config_fault m c = IsAcceptedConfig c → ⊥
@@ -47,15 +57,15 @@ IsNoBoot NoMemory m c = (g : Geometry) × IsConfig c g × IsCarveEnough (layout_
 
 -- a CPU that does nothing, with an empty log of so many calls
 pub record IsIdle (calls : ℕ) (k : CpuState) : Type 0 where
-  pub idle : cpu_of (Some k) ≡ no_cpu
+  pub idle : cpu_of k ≡ no_cpu
   pub log : IsNewLog calls k.log
 
 -- all logs are empty
 pub record HasNoCalls {A : Type 0} (p : Parts A) : Type 0 where
-  pub vms : p.vms.log.calls ≡ []
-  pub shared : p.shared.log.calls ≡ []
-  pub guests : (v : ℕ) → guest_calls_of (slice_get p.guests.items v) ≡ []
-  pub cpus : (cpu : ℕ) → calls_at p cpu ≡ []
+  pub vms : (kept_of p).vms.1 ≡ []
+  pub shared : (kept_of p).shared.1 ≡ []
+  pub guests : (v : ℕ) → ((kept_of p).guest v).1 ≡ []
+  pub cpus : (cpu : ℕ) → ((kept_of p).cpu cpu).1 ≡ []
 
 -- the parts of a world that has booted, where no test failed: they stand for the boot state, and all logs are empty
 pub record IsBooted {A : Type 0} (m : Memory) (c : Config) (p : Parts A) : Type 0 where
@@ -65,5 +75,5 @@ pub record IsBooted {A : Type 0} (m : Memory) (c : Config) (p : Parts A) : Type 
   pub enough : IsCarveEnough (layout_for m c geometry)
   pub layout : layout_of p ≡ layout_for m c geometry
   pub depth : HasItsDepth (layout_of p)
-  pub stands : boot (layout_of p) ≡ state_of (boot (layout_of p)).contents.shared.row p
+  pub stands : boot (layout_of p) ≡ state_of p
   pub no_calls : HasNoCalls p

@@ -1,17 +1,16 @@
 -- Laws over lists of steps, each proved on the contract of the function of its name.
-use Rattle.std.specs.Prelude.{◌≡◌, ◌<◌, ℕ, List}
+use Rattle.std.specs.Prelude.{◌≡◌, ◌<◌, ℕ, true, List}
 use Rattle.page_state.specs.declared.layout.Config.{Config}
 use Rattle.page_state.specs.declared.reply.Call.{Call}
-use Rattle.page_state.specs.Layouts.{Layout}
+use Rattle.page_state.specs.Layouts.{Layout, is_memory}
 use Rattle.page_state.specs.Regions.{Memory}
+use Rattle.reference_model.specs.Owner.{row_of}
 use Rattle.reference_model.specs.Run.{Runs, IsRun}
-use Rattle.page_state.specs.declared.row.Row.{Row}
 use Rattle.reference_model.specs.Sound.{Sound}
-use Rattle.reference_model.specs.State.{Reference}
-use Rattle.world.specs.declared.parts.Parts.{Parts}
+use Rattle.hypercalls.specs.declared.parts.Parts.{Parts}
+use Rattle.hypercalls.specs.Stands.{layout_of, state_of}
+use Rattle.hypercalls.specs.Whole.{call_of, IsStep}
 use Rattle.world.specs.Boots.{IsBooted}
-use Rattle.world.specs.Stands.{layout_of, state_of}
-use Rattle.world.specs.Steps.{call_of, IsStep}
 
 -- parts go on to others by a step of one of their CPUs, and this is its call, which holds the reply
 pub record Goes {A : Type 0} (p : Parts A) (c : Call) (q : Parts A) : Type 0 where
@@ -21,12 +20,16 @@ pub record Goes {A : Type 0} (p : Parts A) (c : Call) (q : Parts A) : Type 0 whe
 
 -- the calls are a run of the reference step from the boot state, and these parts stand for its end
 abbrev pub EndsRun : {A : Type 0} → Layout → List Call → Parts A → Type 0
-EndsRun l cs q = (t : Reference) × IsRun l cs t × (t ≡ state_of t.contents.shared.row q)
+EndsRun l cs q = IsRun l cs (state_of q)
 
 -- after any list of steps from a boot on, the calls are a run, and the parts stand for its end
 abbrev pub StepsRun : Type 0 → Type 0
 StepsRun A = (m : Memory) (config : Config) (p q : Parts A) (cs : List Call) → IsBooted m config p → Runs Goes p cs q → EndsRun (layout_of p) cs q
 
--- and the state that they stand for, with the rows of the run's end, is sound
+-- and the state that they stand for is sound
 abbrev pub StepsSound : Type 0 → Type 0
-StepsSound A = (m : Memory) (config : Config) (p q : Parts A) (cs : List Call) → IsBooted m config p → Runs Goes p cs q → (row : ℕ → Row) × Sound (layout_of p) (state_of row q).contents
+StepsSound A = (m : Memory) (config : Config) (p q : Parts A) (cs : List Call) → IsBooted m config p → Runs Goes p cs q → Sound (layout_of p) (state_of q).contents
+
+-- and their owner row of each memory frame is the one that looking through all tables finds
+abbrev pub StepsRows : Type 0 → Type 0
+StepsRows A = (m : Memory) (config : Config) (p q : Parts A) (cs : List Call) (f : ℕ) → IsBooted m config p → Runs Goes p cs q → is_memory (layout_of p) f ≡ true → (state_of q).contents.shared.row f ≡ row_of (layout_of p) (state_of q).contents f

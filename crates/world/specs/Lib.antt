@@ -1,10 +1,2 @@
 pub mod Boots
-pub mod Histories
 pub mod Laws
-pub mod Logs
-pub mod Maps
-pub mod Rooms
-pub mod Sharing
-pub mod Stands
-pub mod Steps
-pub mod View

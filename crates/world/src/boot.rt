@@ -2,28 +2,32 @@
 ghost use Rattle.std.specs.Prelude.{◌≡◌, ◌+◌, ◌<◌, ◌≤◌, ◌^◌, ◌↔◌, [], ◌∷◌, All, IsTrue, IfOk, OnErr, MatchOption, MatchResult, vec_len, length, drop};
 ghost use Rattle.hyp_pool.specs.Pools.{IsPool};
 ghost use Rattle.page_state.specs.Trees.{frames_from, root_tree};
-ghost use Rattle.reference_model.specs.Boot.{IsCarveEnough, boot_shared};
+ghost use Rattle.reference_model.specs.Boot.{IsCarveEnough, booted as booted_of, pool_row as pool_row_of};
+ghost use Rattle.reference_model.specs.ChangeLaws.{Fits};
+ghost use Rattle.reference_model.specs.Conditions.{IsUsable};
+ghost use Rattle.guest_steps.specs.Apart.{IsApart};
+ghost use Rattle.guest_steps.specs.Logs.{IsNewLog};
+ghost use Rattle.guest_steps.specs.MemoryRows.{HasMemoryRows};
+ghost use Rattle.guest_steps.specs.View.{depth_of, shared_of};
 ghost use Rattle.page_state.specs.Accepted.{IsAcceptedConfig};
 ghost use Rattle.page_state.specs.EntryTests.{leaf as leaf_of, annotation};
 ghost use Rattle.page_state.specs.Layouts.{hyp_page as hyp_page_of};
 ghost use Rattle.page_state.specs.Regions.{end_of};
-ghost use Rattle.reference_model.specs.State.{plain_row};
 ghost use Rattle.page_state.specs.Geometries.{levels_below};
-ghost use Rattle.world.specs.Logs.{IsNewLog};
-ghost use Rattle.world.specs.Boots.{IsBooted, IsConfig, IsIdle, IsNoBoot, boot_number, layout_for};
-ghost use Rattle.world.specs.Stands.{shared_of};
+ghost use Rattle.world.specs.Boots.{IsBooted, IsConfig, IsIdle, IsNoBoot, boot_number, layout_for, new_shared_of};
 ghost use Rattle.table_tree.specs.View.{tree_of};
-ghost use Rattle.world.specs.View.{IsApart, IsEdit};
 
-use crate::both::change_both;
-use crate::parts::{CpuState, GuestPart, Parts, SharedPart, VmPart};
-use crate::share::{hyp_page, leaf};
-use crate::{Component, Log, PageEdit};
+use component::Component;
+use guest_steps::{CpuState, GuestPart, Log, SharedPart, VmPart};
 use hyp_pool::{Pool, PoolFault, laws};
+use hypercalls::{Parts, hyp_page, leaf};
+use owner_table::OwnerTable;
 use page_state::laws::blocks_on_range;
 use page_state::{
-    Config, Entry, Frame, Geometry, Layout, MemoryMap, Owner, Page, PageRange, Prot, State,
+    Config, Entry, Frame, Geometry, Layout, MemoryMap, Owner, PageRange, Prot, Row, State, Usage,
 };
+use reference_model::laws::accepted_usable;
+use reference_model::{Changes, MapChange};
 use std::alloc::{AllocError, Allocator, Global};
 use table_tree::Tree;
 use thiserror::Error;
@@ -69,7 +73,6 @@ impl BootFault {
 }
 
 impl From<PoolFault> for BootFault {
-    ghost use Rattle.world.specs.Logs.{IsNewLog};
     ghost use Rattle.world.specs.Boots.{fault_of_pool};
 
     ghost from_gives = { λ fault boots. boots ≡ fault_of_pool fault };
@@ -108,31 +111,42 @@ fn geometry_of(config: &Config) -> Option<Geometry>
 }
 
 /// The host's pages of the carve-out become the hypervisor's.
-fn host_edit(carve: PageRange) -> PageEdit
+fn host_change(carve: PageRange) -> MapChange
     requires low { end_of carve ≤ 2 ^ 26 }
     requires some { 1 ≤ carve.count }
     ensures value { result ≡ record { range = carve; entry = annotation 1 } }
-    ensures edit { (g : Geometry) → IsEdit g result }
+    ensures fits { (g : Geometry) → Fits (levels_below g) result }
 {
-    PageEdit {
+    MapChange {
         range: carve,
         entry: Entry::Annotated(HYPERVISOR),
     }
 }
 
 /// The hypervisor's pages of the carve-out become RW Normal Owned.
-fn hyp_edit(carve: PageRange) -> PageEdit
+fn hyp_change(carve: PageRange) -> MapChange
     requires low { end_of carve ≤ 2 ^ 26 }
     requires some { 1 ≤ carve.count }
     ensures value { result ≡ record { range = record { first = record { 0 = hyp_page_of carve.first.0 }; count = carve.count }; entry = leaf_of Prot.RW carve.first.0 State.Owned } }
-    ensures edit { (g : Geometry) → IsEdit g result }
+    ensures fits { (g : Geometry) → Fits (levels_below g) result }
 {
-    PageEdit {
+    MapChange {
         range: PageRange {
             first: hyp_page(carve.first.0),
             count: carve.count,
         },
         entry: leaf(carve.first.0, Prot::RW, State::Owned),
+    }
+}
+
+/// The row of a frame that the Shared part holds.
+fn pool_row() -> Row
+    ensures { result ≡ pool_row_of }
+{
+    Row {
+        owner: HYPERVISOR,
+        lent: None,
+        usage: Usage::SharedPool,
     }
 }
 
@@ -150,8 +164,8 @@ fn is_carve_enough(map: &MemoryMap, geometry: Geometry) -> bool
     ensures { (config : Config) → IsTrue result ↔ IsCarveEnough (layout_for map.now config geometry) }
 {
     let carve = map.carve();
-    let host = host_edit(carve);
-    let hyp = hyp_edit(carve);
+    let host = host_change(carve);
+    let hyp = hyp_change(carve);
     let host_need = need_of_new(geometry, host.range, &host.entry);
     let hyp_need = need_of_new(geometry, hyp.range, &hyp.entry);
     is_enough(carve.count, host_need, hyp_need)
@@ -192,6 +206,30 @@ fn roots<A: Allocator + Copy>(
     Ok((host, hyp, pool))
 }
 
+/// The Shared part before its first change.
+fn new_shared<A: Allocator + Copy>(
+    global: Global,
+    alloc: A,
+    map: &MemoryMap,
+    calls: u64,
+    geometry: Geometry,
+) -> Result<SharedPart<A>, AllocError>
+    requires { 2 ≤ map.now.carve.count }
+    ensures shared { IfOk result (λ s. shared_of s ≡ new_shared_of map.now geometry) }
+    ensures depth { IfOk result (λ s. depth_of s ≡ levels_below geometry) }
+    ensures rows { IfOk result (λ s. HasMemoryRows map.now s.rows) }
+    ensures log { IfOk result (λ s. IsNewLog calls s.log) }
+{
+    let (host, hyp, pool) = roots(global, alloc, map, geometry)?;
+    Ok(SharedPart {
+        host,
+        hyp,
+        pool,
+        rows: OwnerTable::of(global, map)?,
+        log: Log::new(global, calls)?,
+    })
+}
+
 /// The Shared part at boot.
 fn shared_at_boot<A: Allocator + Copy>(
     global: Global,
@@ -200,39 +238,49 @@ fn shared_at_boot<A: Allocator + Copy>(
     config: Config,
     geometry: Geometry,
 ) -> Result<SharedPart<A>, BootFault>
-    requires { IsCarveEnough (layout_for map.now config geometry) }
-    ensures shared { IfOk result (λ s. shared_of (λ f. plain_row) s ≡ boot_shared (layout_for map.now config geometry)) }
-    ensures depth { IfOk result (λ s. levels_below s.host.tree.geometry ≡ levels_below geometry) }
+    requires enough { IsCarveEnough (layout_for map.now config geometry) }
+    requires usable { IsUsable (layout_for map.now config geometry) }
+    ensures shared { IfOk result (λ s. shared_of s ≡ (booted_of (layout_for map.now config geometry)).shared) }
+    ensures depth { IfOk result (λ s. depth_of s ≡ levels_below geometry) }
+    ensures rows { IfOk result (λ s. HasMemoryRows map.now s.rows) }
     ensures log { IfOk result (λ s. IsNewLog config.log s.log) }
     ensures err { OnErr result (result ≡ Err BootFault.NoMemory) }
 {
     blocks_on_range();
+    reference_model::laws::boot_legal();
     let carve = map.carve();
-    let (mut host, mut hyp, mut pool) = roots(global, alloc, map, geometry)?;
-    change_both(
-        global,
-        alloc,
-        &mut host,
-        &mut hyp,
-        &mut pool,
-        host_edit(carve),
-        hyp_edit(carve),
-    )?;
-    Ok(SharedPart {
-        host,
-        hyp,
-        pool,
-        log: Log::new(global, config.log)?,
-    })
+    let changes = Changes {
+        host: Some(host_change(carve)),
+        hyp: Some(hyp_change(carve)),
+        ..Changes::NONE
+    };
+    let mut shared = new_shared(global, alloc, map, config.log, geometry)?;
+    shared.change(global, alloc, &changes)?;
+    shared.give_rows(carve, pool_row());
+    Ok(shared)
 }
 
-/// The VM part at boot.
-fn vms_at_boot(global: Global, calls: u64) -> Result<VmPart, AllocError>
-    ensures { IfOk result (λ vms. IsNewLog calls vms.log) }
+/// The VM part at boot, as a list of one.
+fn vms_at_boot(global: Global, calls: u64) -> Result<Vec<VmPart>, AllocError>
+    ensures count { IfOk result (λ vms. vec_len vms ≡ 1) }
+    ensures logs { IfOk result (λ vms. All (λ v. IsNewLog calls v.log) vms.items) }
 {
-    Ok(VmPart {
-        log: Log::new(global, calls)?,
-    })
+    let mut vms = Vec::with_capacity(global, 1)?;
+    let log = Log::new(global, calls)?;
+    vms.push(VmPart { log }).map_err(AllocError::from)?;
+    Ok(vms)
+}
+
+/// The Shared part as a list of one.
+fn list_of<A: Allocator>(
+    global: Global,
+    shared: SharedPart<A>,
+) -> Result<Vec<SharedPart<A>>, AllocError>
+    ensures { IfOk result (λ parts. parts.items ≡ shared ∷ []) }
+{
+    let mut parts = Vec::with_capacity(global, 1)?;
+    parts.push(shared).map_err(AllocError::from)?;
+    Ok(parts)
 }
 
 /// The Guest parts at boot.
@@ -283,7 +331,9 @@ pub fn booted<A: Allocator + Copy>(
         return Err(BootFault::CarveSmall);
     }
     let _ = map.regions();
+    accepted_usable();
     let shared = shared_at_boot(global, alloc, map, config, geometry)?;
+    let shared = list_of(global, shared)?;
     let vms = vms_at_boot(global, config.log)?;
     let guests = guests_at_boot(global, config.log)?;
     let cpus = cpus_at_boot(global, config)?;
@@ -291,6 +341,7 @@ pub fn booted<A: Allocator + Copy>(
         layout: Layout {
             map: map.clone()?,
             config,
+            geometry,
         },
         vms,
         shared,

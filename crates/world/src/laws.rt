@@ -1,5 +1,5 @@
 //! Laws over lists of steps. Each function does nothing, and its contract is the law.
-ghost use Rattle.world.specs.Laws.{StepsRun, StepsSound};
+ghost use Rattle.world.specs.Laws.{StepsRun, StepsRows, StepsSound};
 
 use std::alloc::Allocator;
 
@@ -10,7 +10,8 @@ pub fn steps_run<A: Allocator>()
 {}
 
 /// After any list of steps of any CPUs the state that the world stands for is sound: each memory frame has one owner,
-/// each frame at most one borrower, and what is in use is held once.
+/// each frame at most one borrower, and what is in use is held once. Its owner rows are those from scratch.
 pub fn steps_sound<A: Allocator>()
-    ensures { StepsSound A }
+    ensures sound { StepsSound A }
+    ensures rows { StepsRows A }
 {}

@@ -2,23 +2,17 @@
 #![tactic(auto)]
 
 ghost use Rattle.std.specs.Prelude.{◌≡◌, ◌<◌, MatchResult};
+ghost use Rattle.hypercalls.specs.Served.{IsServed};
+ghost use Rattle.hypercalls.specs.Stands.{HasHistory};
+ghost use Rattle.hypercalls.specs.Whole.{IsStep};
 ghost use Rattle.world.specs.Boots.{IsBooted, IsNoBoot};
-ghost use Rattle.world.specs.Histories.{HasHistory};
-ghost use Rattle.world.specs.Steps.{IsServed, IsStep};
 
 mod boot;
-mod both;
-mod component;
 pub mod laws;
-mod log;
-mod parts;
-mod share;
 
 pub use boot::BootFault;
-pub use component::{Component, PageEdit};
-pub use log::Log;
+use hypercalls::Parts;
 use page_state::{Config, MemoryMap, Reply, Step};
-pub use parts::{CpuState, GuestPart, Parts, SharedPart, VmPart};
 use std::alloc::{Allocator, Global};
 
 /// A booted world, which stands at the end of one legal history. `A` is where the tables of all trees lie.
@@ -32,7 +26,7 @@ pub struct World<A: Allocator> {
 
 impl<A: Allocator + Copy> World<A> {
     /// Boots a world on accepted memory. The tests, in their order: the configuration, that the carve-out has
-    /// a frame for each table, and memory for trees, maplets and logs.
+    /// a frame for each table, and memory for trees, maplets, rows and logs.
     pub fn boot(
         global: Global,
         alloc: A,
@@ -50,7 +44,7 @@ impl<A: Allocator + Copy> World<A> {
     }
 
     /// Makes one step of a CPU, and stores it in the CPU's log and those of the parts that it uses, where none is
-    /// full. It asks for a call that the world has: `share_hyp`.
+    /// full. It asks for a call that is served.
     pub fn step(&mut self, cpu: u64, step: Step) -> Reply
         requires known { cpu < self.old.parts.layout.config.cpus }
         requires served { IsServed step }

@@ -4,9 +4,11 @@ ghost use Rattle.ghost_spec.specs.Small.{AreSmall};
 
 use super::*;
 use arrayvec::ArrayVec;
+use component::Component;
 use descriptor::{Desc, Frame, Level, encode};
 use ghost_spec::blocks::Block;
 use ghost_spec::{boot, runs, share, tree};
+use guest_steps::SharedPart;
 use page_state::{Page, PageRange, Refusal, Region, RegionKind, Run, Value};
 use std::alloc::AllocError;
 use std::process::Abort;
@@ -38,7 +40,7 @@ const CONFIG: Config = Config {
 fn shares_until_the_log_is_full(rt: HostRuntime) -> Result<(), Fail> {
     let map = memory(rt.alloc(), 0x40)?;
     let mut world = World::boot(rt.alloc(), rt.alloc(), &map, CONFIG)?;
-    assert_eq!(rt; world.parts().shared.pool.free(), 58);
+    assert_eq!(rt; world.parts().shared().pool.free(), 58);
     assert_eq!(rt; world.cpus(), 1);
     let replies = [
         (0x40100, Reply::Done(Value::Nothing)),
@@ -50,8 +52,8 @@ fn shares_until_the_log_is_full(rt: HostRuntime) -> Result<(), Fail> {
         assert!(rt; world.cpus() > 0);
         assert_eq!(rt; world.step(0, Step::ShareHyp { pfn }), reply);
     }
-    assert_eq!(rt; world.parts().shared.pool.free(), 56);
-    assert_eq!(rt; world.parts().shared.log.len(), 3);
+    assert_eq!(rt; world.parts().shared().pool.free(), 56);
+    assert_eq!(rt; world.parts().shared().log.len(), 3);
     Ok(())
 }
 
@@ -133,7 +135,7 @@ fn compare(
 ) -> Result<(), Fail>
     requires { HasSmallRuns lists.now }
 {
-    let shared = &world.parts().shared;
+    let shared = world.parts().shared();
     compare_component(rt, alloc, &shared.host, &lists.host, 0)?;
     compare_component(rt, alloc, &shared.hyp, &lists.hyp, 0x400_0000)?;
     let free = free_frames(alloc, shared)?;

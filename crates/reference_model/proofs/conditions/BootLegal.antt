@@ -11,7 +11,7 @@ use Rattle.page_state.specs.declared.entry.Entry.{Entry}
 use Rattle.page_state.specs.declared.entry.Entry.TheVariants.{Unmapped, Leaf}
 use Rattle.page_state.specs.declared.row.Usage.TheVariants.{SharedPool}
 use Rattle.page_state.specs.Trees.{frames_from, root_tree, Block}
-use Rattle.reference_model.specs.Boot.{carve_first, host_edit, hyp_edit, host_root, hyp_root, spare, host_need, hyp_need, IsCarveEnough, boot_without_rows, booted}
+use Rattle.reference_model.specs.Boot.{pool_row, carve_first, host_edit, hyp_edit, host_root, hyp_root, spare, host_need, hyp_need, IsCarveEnough, boot_without_rows, booted}
 use Rattle.page_state.specs.Counts.{is_one, frame_count}
 use Rattle.page_state.specs.EntryTests.{annotation, leaf}
 use Rattle.page_state.specs.Geometries.{pages_below}
@@ -22,7 +22,7 @@ use Rattle.page_state.specs.Layouts.{Layout, is_memory, hyp_page}
 use Rattle.reference_model.specs.Owner.{row_of}
 use Rattle.page_state.specs.Tables.{Edit, freed, returned, edited}
 use Rattle.reference_model.specs.Conditions.{Condition, outside, hosts, hyps, HostFits, hyp_says, MapsFit, HeldFit, Legal, IsUsable, row_in, in_shared, in_vm, in_hand, one, table_uses, is_inside, IsGood}
-use Rattle.reference_model.specs.RunLaws.{BootLegal}
+use Rattle.reference_model.specs.RunLaws.{BootLegal, BootRowsTold}
 use Rattle.reference_model.proofs.Boot.{spare-frames, boot_sound}
 use Rattle.page_state.proofs.Common.{both, if-true, if-false}
 use Rattle.page_state.proofs.Counts.{count_next, count_parts, count_split}
@@ -218,3 +218,13 @@ module _ (l : Layout) (enough : IsCarveEnough l) (usable : IsUsable l) where
 
 pub boot_legal : BootLegal
 boot_legal l enough usable = legal l enough usable
+
+boot-row : (c m : Bool) (scratch : Row) (f : ℕ) → (c ≡ true → m ≡ true) → (m ≡ true → scratch ≡ row_in f (if c then hyps SharedPool else (if m then hosts else outside))) → (elim m [ true ↦ scratch | false ↦ plain_row ]) ≡ (if c then pool_row else plain_row)
+boot-row true true r f h e = e refl
+boot-row true false r f h e = let bad : false ≡ true = h refl in cc
+boot-row false true r f h e = e refl
+boot-row false false r f h e = refl
+
+pub boot_rows : BootRowsTold
+unfolding booted
+boot_rows l f enough usable = boot-row (in_carve l f) (is_memory l f) (row_of l (boot_without_rows l) f) f (usable.carve f) (row-at l enough usable f)

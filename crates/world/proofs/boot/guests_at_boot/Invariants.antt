@@ -1,5 +1,5 @@
 use Rattle.std.proofs.Common.{◌≡◌, vec_len, All}
-use Rattle.world.specs.Logs.{IsNewLog}
+use Rattle.guest_steps.specs.Logs.{IsNewLog}
 use Rattle.world.proofs.boot.guests_at_boot.Given as goal
 
 abbrev pub invariant-loop-made : goal.invariant-loop-made

@@ -1,0 +1,54 @@
+-- The Shared part after its changes, in words of the reference state.
+use Rattle.std.proofs.Common.{◌≡◌, ℕ, ◌+◌, ◌-◌, ◌++◌, Bool, true, false, List, drop, unwrap_or, Option, Some, Result, Ok, Err, OnOk, refl, ap, ◌∙◌, if◌then◌else◌}
+use mathlib.Core.Path.{fun_ext}
+use Rattle.hyp_pool.specs.declared.PoolFault.{PoolFault}
+use Rattle.hyp_pool.specs.Pools.{Stored}
+use Rattle.owner_table.specs.Rows.{row_at, rows_set}
+use Rattle.page_state.specs.declared.entry.PageRange.{PageRange}
+use Rattle.page_state.specs.declared.row.Row.{Row}
+use Rattle.page_state.specs.Regions.{is_in_range}
+use Rattle.page_state.specs.Rows.{advance_row}
+use Rattle.page_state.specs.Tables.{need, edited, returned, all_given}
+use Rattle.page_state.specs.Trees.{Tree}
+use Rattle.reference_model.specs.declared.changes.Changes.{Changes}
+use Rattle.reference_model.specs.Changes.{edit_of}
+use Rattle.reference_model.specs.State.{Shared, plain_row}
+use Rattle.reference_model.specs.Step.{shared_after}
+use Rattle.run_list.specs.declared.run.Run.{Run}
+use Rattle.table_tree.specs.declared.tree.Tree.{Tree as TableTree}
+use Rattle.table_tree.specs.View.{tree_of}
+use Rattle.component.specs.View.{need_for, tree_after, back_from}
+use Rattle.guest_steps.specs.declared.parts.SharedPart.{SharedPart}
+use Rattle.guest_steps.specs.View.{shared_of, depth_of, rows_given}
+
+-- a Shared part by what it has
+abbrev pub shared : (ℕ → Row) → Tree → Tree → List ℕ → Shared
+shared row host hyp free = record { host = host; hyp = hyp; free = free; row = row }
+
+same_row : (b : Bool) (old : Option Row) (new : Row) → unwrap_or (if b then Some new else old) plain_row ≡ (if b then new else unwrap_or old plain_row)
+same_row true old new = refl
+same_row false old new = refl
+
+module _ {A : Type 0} (s : SharedPart A) where
+  -- rows of a range that were replaced
+  pub given : (frames : PageRange) (row : Row) (rows : List (Run Row)) → row_at rows ≡ rows_set (row_at s.rows) frames row
+      → shared (λ f. unwrap_or (row_at rows f) plain_row) (tree_of s.host.tree) (tree_of s.hyp.tree) s.pool.frames ≡ rows_given frames row (shared_of s)
+  given frames row rows e =
+      ap (λ r. shared r (tree_of s.host.tree) (tree_of s.hyp.tree) s.pool.frames)
+      (fun_ext (λ f. ap (λ m. unwrap_or (m f) plain_row) e ∙ same_row (is_in_range frames f) (row_at s.rows f) (advance_row row (f - frames.first.0))))
+
+  -- both maps that were changed
+  pub changed : (result : Result (Unit {0}) PoolFault) (h : Changes) (host hyp : TableTree A) (pool : Stored)
+      → OnOk result (tree_of host ≡ tree_after s.host.tree h.host s.pool.frames)
+      → OnOk result (tree_of hyp ≡ tree_after s.hyp.tree h.hyp (drop (need_for s.host.tree h.host) s.pool.frames))
+      → OnOk result (pool.frames ≡ all_given (back_from s.host.tree h.host ++ back_from s.hyp.tree h.hyp) (drop (need_for s.host.tree h.host + need_for s.hyp.tree h.hyp) s.pool.frames))
+      → OnOk result (shared (λ f. unwrap_or (row_at s.rows f) plain_row) (tree_of host) (tree_of hyp) pool.frames ≡ shared_after (depth_of s) h (shared_of s))
+  unfolding shared_after
+  changed (Err e) h host hyp pool a b c = _
+  changed (Ok x) h host hyp pool a b c =
+      let r : ℕ → Row = λ f. unwrap_or (row_at s.rows f) plain_row in
+      let same = s.alike in
+      let back = ap (λ d. all_given (back_from s.host.tree h.host ++ returned d (tree_of s.hyp.tree) (edit_of h.hyp)) (drop (need_for s.host.tree h.host + need d (tree_of s.hyp.tree) (edit_of h.hyp)) s.pool.frames)) same in
+      ap (λ x. shared r x (tree_of hyp) pool.frames) a
+      ∙ ap (λ x. shared r (tree_after s.host.tree h.host s.pool.frames) x pool.frames) (b ∙ ap (λ d. edited d (tree_of s.hyp.tree) (edit_of h.hyp) (drop (need_for s.host.tree h.host) s.pool.frames)) same)
+      ∙ ap (λ x. shared r (tree_after s.host.tree h.host s.pool.frames) (edited (depth_of s) (tree_of s.hyp.tree) (edit_of h.hyp) (drop (need_for s.host.tree h.host) s.pool.frames)) x) (c ∙ back)

@@ -1,0 +1,5 @@
+pub mod Apart
+pub mod Lent
+pub mod Logs
+pub mod MemoryRows
+pub mod View

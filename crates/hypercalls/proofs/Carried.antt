@@ -1,0 +1,143 @@
+-- Changes that were carried out, in words of the reference state.
+use Rattle.std.proofs.Common.{◌≡◌, ℕ, ◌<◌, ◌↔◌, Bool, true, false, ◌&&◌, ◌||◌, nat_lt, length, List, [], ◌∷◌, Option, Some, None, Result, Ok, Err, OnOk, refl, ap, sym, ◌∙◌, subst, arith, inl, inr}
+use mathlib.Core.Path.{fun_ext}
+use Rattle.hyp_pool.specs.declared.PoolFault.{PoolFault}
+use Rattle.hyp_pool.specs.declared.PoolFault.TheVariants.{NoPool}
+use Rattle.page_state.specs.declared.entry.PageRange.{PageRange}
+use Rattle.page_state.specs.declared.row.Row.{Row}
+use Rattle.page_state.specs.declared.reply.Refusal.TheVariants.{NoMemory, NoPool as NoPoolReply}
+use Rattle.page_state.specs.declared.reply.Reply.TheVariants.{Done, Refused}
+use Rattle.page_state.specs.declared.step.Step.{Step}
+use Rattle.page_state.specs.Layouts.{Layout, is_memory}
+use Rattle.page_state.specs.Tables.{needs, edited, freed, returned}
+use Rattle.page_state.proofs.Common.{or-false, not-holds}
+use Rattle.reference_model.specs.declared.changes.Changes.{Changes}
+use Rattle.reference_model.specs.declared.changes.MapChange.{MapChange}
+use Rattle.reference_model.specs.Answers.{CarriesOut}
+use Rattle.reference_model.specs.Rules.{may_grow}
+use Rattle.reference_model.specs.Changes.{touched, cpu_by, vms_by}
+use Rattle.reference_model.specs.Owner.{is_in_hand}
+use Rattle.reference_model.specs.RowChanges.{first_of, told_row, with_told}
+use Rattle.reference_model.specs.State.{Vms, Shared, Guest, Cpu, no_shared, no_vms, no_guest}
+use Rattle.reference_model.specs.Step.{shared_need, shared_after, guest_after, is_short, changed}
+use Rattle.reference_model.specs.Used.{Used}
+use Rattle.guest_steps.specs.declared.parts.SharedPart.{SharedPart}
+use Rattle.std.proofs.lemmas.Bool.{ltb-true, lt-ltb}
+use Rattle.component.specs.View.{HasRoomFor}
+use Rattle.guest_steps.specs.declared.parts.CpuState.{CpuState}
+use Rattle.guest_steps.specs.Lent.{Each, lent, one, used_in}
+use Rattle.guest_steps.specs.View.{shared_of, cpu_of}
+use Rattle.hypercalls.specs.Carried.{GrowsOnly, IsRoomy, IsUnfilled, LeavesShared, OnlyLent, rows_told}
+
+row_kept : (b t : Bool) (x y : Row) → t ≡ false → y ≡ (elim (b && t) [ true ↦ x | false ↦ y ])
+row_kept true t x y h = rw h refl
+row_kept false t x y h = refl
+
+-- where nothing changes of the Shared part
+module _ (l : Layout) (h : Changes) (leaves : LeavesShared h) where
+  no_need : shared_need l.depth h no_shared ≡ 0
+  unfolding needs
+  no_need = rw (leaves.host, leaves.hyp) refl
+
+  same_after : shared_after l.depth h no_shared ≡ no_shared
+  unfolding shared_after needs edited freed returned
+  same_after = rw (leaves.host, leaves.hyp) refl
+
+  untouched : (f : ℕ) → is_in_hand (touched h) f ≡ false
+  untouched f = ap (λ (o : Option PageRange). is_in_hand o f) leaves.moved
+
+  pub none_made : (id : ℕ) (slot : Option ℕ) → no_shared ≡ rows_told l id slot h (shared_after l.depth h no_shared)
+  none_made id slot =
+      ap (λ (r : ℕ → Row). record no_shared { row = r }) (fun_ext (λ f. row_kept (is_memory l (first_of (touched h))) (is_in_hand (touched h) f) (told_row id slot h f) (no_shared.row f) (untouched f)))
+      ∙ ap (rows_told l id slot h) (sym same_after)
+
+  pub none_short : (◌≡◌ {A = Result (Unit {0}) PoolFault} (Ok tt) (Err NoPool)) ↔ (length no_shared.free < shared_need l.depth h no_shared)
+  none_short = (λ e. cc, λ less. absurd (omega (arith, less, no_need)))
+
+-- a list of the Shared part, or of none
+module _ {A : Type 0} (l : Layout) (id : ℕ) (slot : Option ℕ) (h : Changes) where
+  pub made_of_none : (ss : List (SharedPart A)) → OnlyLent h ss → (length ss ≡ 1 → ⊥) → one no_shared shared_of ss ≡ rows_told l id slot h (shared_after l.depth h (one no_shared shared_of ss))
+  made_of_none [] only many = none_made l h only id slot
+  made_of_none (s ∷ []) only many = absurd (many refl)
+  made_of_none (s ∷ (t ∷ ss)) only many = absurd only
+
+  pub short_of_none : (ss : List (SharedPart A)) → OnlyLent h ss → (length ss ≡ 1 → ⊥) → (◌≡◌ {A = Result (Unit {0}) PoolFault} (Ok tt) (Err NoPool)) ↔ (length (one no_shared shared_of ss).free < shared_need l.depth h (one no_shared shared_of ss))
+  short_of_none [] only many = none_short l h only
+  short_of_none (s ∷ []) only many = absurd (many refl)
+  short_of_none (s ∷ (t ∷ ss)) only many = absurd only
+
+-- what is used, by the Shared part and the CPU alone
+abbrev pub used_by_both : Shared → Cpu → Used
+used_by_both s k = record { vms = no_vms; shared = s; guest = no_guest; cpu = k }
+
+same_used : (v v' : Vms) (s s' : Shared) (g g' : Guest) (k k' : Cpu) → v ≡ v' → s ≡ s' → g ≡ g' → k ≡ k' → ◌≡◌ {A = Used} (record { vms = v; shared = s; guest = g; cpu = k }) (record { vms = v'; shared = s'; guest = g'; cpu = k' })
+same_used v v' s s' g g' k k' a b c d = cc
+
+-- what no call fills yet stays
+module _ (l : Layout) (h : Changes) (stays : IsUnfilled h) where
+  pub short_is : (s : Shared) (k : Cpu) → is_short l.depth h (used_by_both s k) ≡ nat_lt (length s.free) (shared_need l.depth h s)
+  unfolding is_short needs
+  short_is s k = rw stays.guest (or-false (nat_lt (length s.free) (shared_need l.depth h s)))
+
+  guest_same : guest_after l.depth h no_guest ≡ no_guest
+  unfolding guest_after needs edited freed returned
+  guest_same = rw (stays.guest, stays.part) refl
+
+  pub all_made : (id : ℕ) (slot : Option ℕ) (s t : Shared) (k j : Cpu) → t ≡ rows_told l id slot h (shared_after l.depth h s) → j ≡ cpu_by h.cpu k → used_by_both t j ≡ with_told l id slot h (changed l.depth h (used_by_both s k))
+  unfolding with_told changed
+  all_made id slot s t k j a b = same_used no_vms (vms_by h.slot no_vms) t (rows_told l id slot h (shared_after l.depth h s)) no_guest (guest_after l.depth h no_guest) j (cpu_by h.cpu k) (sym (ap (λ c. vms_by c no_vms) stays.slot)) a (sym guest_same) b
+
+-- where neither map changes, no growth can be needed
+pub roomy_of_none : {A : Type 0} (d : ℕ) (h : Changes) → h.host ≡ None → h.hyp ≡ None → (ss : List (SharedPart A)) → Each (IsRoomy d h) ss
+unfolding needs
+roomy_of_none d h a b [] = tt
+roomy_of_none d h a b (s ∷ ss) = (
+  record {
+    host = subst (λ (o : Option MapChange). HasRoomFor o s.host.maplets) (sym a) tt;
+    hyp = subst (λ (o : Option MapChange). HasRoomFor o s.hyp.maplets) (sym b) tt;
+    need = rw (a, b) refl;
+  },
+  roomy_of_none d h a b ss,
+)
+
+-- a step whose change wanted memory may grow
+pub grows_by : {A : Type 0} (d : ℕ) (h : Changes) (step : Step) (ss : List (SharedPart A)) → GrowsOnly step h → (Each (IsRoomy d h) ss → ⊥) → may_grow step ≡ true
+grows_by d h step ss only short = go (may_grow step) only
+  where
+    go : (b : Bool) → (b ≡ false → (h.host ≡ None) × (h.hyp ≡ None)) → b ≡ true
+    go true k = refl
+    go false k = absurd (short (roomy_of_none d h (k refl).0 (k refl).1 ss))
+
+-- a list of the Shared part that was changed, or wasn't
+module _ {A : Type 0} (l : Layout) (id : ℕ) (slot : Option ℕ) (step : Step) (h : Changes) (stays : IsUnfilled h) (ss ts : List (SharedPart A)) (k j : CpuState) where
+  abbrev before : Used
+  before = used_in (lent [] ss [] k)
+
+  abbrev after : Used
+  after = used_in (lent [] ts [] j)
+
+  pub carried : (length (one no_shared shared_of ss).free < shared_need l.depth h (one no_shared shared_of ss) → ⊥) → one no_shared shared_of ts ≡ rows_told l id slot h (shared_after l.depth h (one no_shared shared_of ss)) → cpu_of j ≡ cpu_by h.cpu (cpu_of k)
+      → CarriesOut l id slot step true h before (Done h.value) after
+  carried enough a b = inl (record {
+    enough = short_is l h stays (one no_shared shared_of ss) (cpu_of k) ∙ not-holds (nat_lt (length (one no_shared shared_of ss).free) (shared_need l.depth h (one no_shared shared_of ss))) (λ t. enough (ltb-true _ _ t));
+    reply_is = refl;
+    next = all_made l h stays id slot (one no_shared shared_of ss) (one no_shared shared_of ts) (cpu_of k) (cpu_of j) a b;
+  })
+
+  pub short : length (one no_shared shared_of ss).free < shared_need l.depth h (one no_shared shared_of ss) → one no_shared shared_of ts ≡ one no_shared shared_of ss → cpu_of j ≡ cpu_of k
+      → CarriesOut l id slot step true h before (Refused NoPoolReply) after
+  short few a b = inr (inl (record {
+    short = short_is l h stays (one no_shared shared_of ss) (cpu_of k) ∙ lt-ltb _ _ few;
+    reply_is = refl;
+    next = ap (λ x. used_by_both x (cpu_of j)) a ∙ ap (used_by_both (one no_shared shared_of ss)) b;
+  }))
+
+  pub halted : (length (one no_shared shared_of ss).free < shared_need l.depth h (one no_shared shared_of ss) → ⊥) → may_grow step ≡ true → one no_shared shared_of ts ≡ one no_shared shared_of ss → cpu_of j ≡ cpu_of k
+      → CarriesOut l id slot step true h before (Refused NoMemory) after
+  halted enough grows a b = inr (inr (record {
+    enough = short_is l h stays (one no_shared shared_of ss) (cpu_of k) ∙ not-holds (nat_lt (length (one no_shared shared_of ss).free) (shared_need l.depth h (one no_shared shared_of ss))) (λ t. enough (ltb-true _ _ t));
+    grows = grows;
+    wanted = refl;
+    reply_is = refl;
+    next = ap (λ x. used_by_both x (cpu_of j)) a ∙ ap (used_by_both (one no_shared shared_of ss)) b;
+  }))

@@ -1,0 +1,32 @@
+use Rattle.std.proofs.Common.{Ok, Err, Result, ◌≡◌, refl, ap, sym, ◌∙◌}
+use Rattle.hyp_pool.specs.declared.PoolFault.TheVariants.{NoPool, NoMemory}
+use Rattle.page_state.specs.Geometries.{levels_below}
+use Rattle.page_state.specs.LayoutView.{layout_of}
+use Rattle.hypercalls.proofs.Carried.{carried, short, halted, grows_by}
+use Rattle.hypercalls.proofs.carry.carry_out.Goals as goal
+
+never : {X E : Type 0} {x : X} {e : E} → ◌≡◌ {A = Result X E} (Ok x) (Err e) → ⊥
+never h = cc
+
+other : NoMemory ≡ NoPool → ⊥
+other h = cc
+
+err_is : {X E : Type 0} {a b : E} → ◌≡◌ {A = Result X E} (Err a) (Err b) → a ≡ b
+err_is h = cc
+
+pub returns-in-Ok-clause-carried : goal.returns-in-Ok-clause-carried
+returns-in-Ok-clause-carried g c = λ step grows.
+    carried (layout_of c.args.layout.now) c.args.id c.args.slot step c.args.changes.now c.requires.unfilled c.args.shared.now c.change_shared.new.shared c.args.cpu.now c.change.new.self
+    (λ few. never (c.in-Ok.ensures.no_pool.1 few)) c.in-Ok.ensures.made c.change.ensures.made
+
+pub returns-in-Err-NoPool-clause-carried : goal.returns-in-Err-NoPool-clause-carried
+returns-in-Err-NoPool-clause-carried g c = λ step grows.
+    short (layout_of c.args.layout.now) c.args.id c.args.slot step c.args.changes.now c.requires.unfilled c.args.shared.now c.change_shared.new.shared c.args.cpu.now c.args.cpu.now
+    (c.in-Err-NoPool.ensures.no_pool.0 (ap (λ e. Err e) c.in-Err-NoPool.field-0-is)) c.in-Err-NoPool.ensures.err refl
+
+pub returns-in-Err-NoMemory-clause-carried : goal.returns-in-Err-NoMemory-clause-carried
+returns-in-Err-NoMemory-clause-carried g c = λ step grows.
+    halted (layout_of c.args.layout.now) c.args.id c.args.slot step c.args.changes.now c.requires.unfilled c.args.shared.now c.change_shared.new.shared c.args.cpu.now c.args.cpu.now
+    (λ few. other (sym c.in-Err-NoMemory.field-0-is ∙ err_is (c.in-Err-NoMemory.ensures.no_pool.1 few)))
+    (grows_by (levels_below c.args.layout.now.geometry) c.args.changes.now step c.args.shared.now grows (λ r. let no = c.in-Err-NoMemory.ensures.nothing r in cc))
+    c.in-Err-NoMemory.ensures.err refl

@@ -1,0 +1,34 @@
+use Rattle.std.proofs.Common.{sym, ap, subst, ◌∙◌}
+use Rattle.page_state.specs.LayoutView.{layout_of}
+use Rattle.reference_model.specs.declared.changes.Changes.{Changes}
+use Rattle.reference_model.specs.Parts.{names}
+use Rattle.guest_steps.specs.Lent.{Each, lent, used_in}
+use Rattle.hypercalls.specs.Carried.{IsRoomy}
+use Rattle.hypercalls.proofs.Stepping.{only_lent, ok_is}
+use Rattle.hypercalls.proofs.lent.answer.Goals as goal
+
+pub carry_out-requires-clause-lent : goal.carry_out-requires-clause-lent
+carry_out-requires-clause-lent g c =
+    let x = used_in (lent c.args.vms.now c.args.shared.now c.args.guest.now c.args.cpu.now) in
+    only_lent (names c.args.step) c.args.slot c.in-Ok.changes (c.change_laws.ensures.used (layout_of c.args.layout.now) c.args.id c.args.slot c.args.step x c.in-Ok.changes (sym c.in-Ok.ensures.decided)) c.args.shared.now c.requires.lent.shared
+
+pub carry_out-requires-clause-fit : goal.carry_out-requires-clause-fit
+carry_out-requires-clause-fit g c = c.requires.rely.fit c.in-Ok.changes (sym c.in-Ok.ensures.decided)
+
+pub carry_out-requires-clause-touched : goal.carry_out-requires-clause-touched
+carry_out-requires-clause-touched g c = c.requires.rely.touched c.in-Ok.changes (sym c.in-Ok.ensures.decided)
+
+pub returns-in-Ok-clause-answered : goal.returns-in-Ok-clause-answered
+returns-in-Ok-clause-answered g c =
+    let l = layout_of c.args.layout.now in
+    let x = used_in (lent c.args.vms.now c.args.shared.now c.args.guest.now c.args.cpu.now) in
+    let y = used_in (lent c.args.vms.now c.carry_out.new.shared c.args.guest.now c.carry_out.new.cpu) in
+    c.relies.ensures.answers l c.args.id c.args.slot c.args.step x _ c.in-Ok.changes c.carry_out.result y c.requires.rely (sym c.in-Ok.ensures.decided) (c.carry_out.ensures.carried c.args.step c.in-Ok.ensures.grows)
+
+pub returns-in-Ok-clause-wants : goal.returns-in-Ok-clause-wants
+returns-in-Ok-clause-wants g c = λ told h is roomy.
+    let same = ok_is c.in-Ok.changes h (c.in-Ok.ensures.decided ∙ is) in
+    c.carry_out.ensures.wants told (subst (λ (k : Changes). Each (IsRoomy (layout_of c.args.layout.now).depth k) c.args.shared.now) (sym same) roomy)
+
+pub returns-in-Err-clause-answered : goal.returns-in-Err-clause-answered
+returns-in-Err-clause-answered g c = c.answers.ensures.barred (layout_of c.args.layout.now) c.args.id c.args.slot c.args.step _ (used_in (lent c.args.vms.now c.args.shared.now c.args.guest.now c.args.cpu.now)) c.in-Err.why (sym c.in-Err.ensures.decided)

@@ -1,0 +1,47 @@
+-- How changes are carried out on lent parts.
+use Rattle.std.specs.Prelude.{◌≡◌, ℕ, true, false, ◌&&◌, List, [], ◌∷◌, Option, None}
+use Rattle.page_state.specs.declared.step.Step.{Step}
+use Rattle.page_state.specs.Layouts.{Layout, is_memory}
+use Rattle.component.specs.View.{HasRoomFor}
+use Rattle.guest_steps.specs.declared.parts.SharedPart.{SharedPart}
+use Rattle.guest_steps.specs.View.{shared_of}
+use Rattle.reference_model.specs.declared.changes.Changes.{Changes}
+use Rattle.reference_model.specs.declared.changes.GuestChange.TheVariants.{Keep as KeepGuest}
+use Rattle.reference_model.specs.declared.changes.SlotChange.TheVariants.{Keep as KeepSlots}
+use Rattle.reference_model.specs.Changes.{touched}
+use Rattle.reference_model.specs.RowChanges.{first_of, told_row}
+use Rattle.reference_model.specs.Rules.{may_grow}
+use Rattle.reference_model.specs.State.{Shared}
+use Rattle.reference_model.specs.Step.{is_touched, shared_need}
+
+-- what no call fills yet stays
+pub record IsUnfilled (h : Changes) : Type 0 where
+  pub guest : h.guest ≡ None
+  pub part : h.part ≡ KeepGuest
+  pub slot : h.slot ≡ KeepSlots
+
+-- nothing changes of the Shared part
+pub record LeavesShared (h : Changes) : Type 0 where
+  pub host : h.host ≡ None
+  pub hyp : h.hyp ≡ None
+  pub moved : touched h ≡ None
+
+-- the Shared part is lent where something of it changes, and at most one is
+abbrev pub OnlyLent : {A : Type 0} → Changes → List (SharedPart A) → Type 0
+OnlyLent h [] = LeavesShared h
+OnlyLent h (s ∷ []) = Unit {0}
+OnlyLent h (s ∷ (t ∷ ss)) = ⊥
+
+-- a step that takes no memory changes neither map
+abbrev pub GrowsOnly : Step → Changes → Type 0
+GrowsOnly step h = may_grow step ≡ false → (h.host ≡ None) × (h.hyp ≡ None)
+
+-- no growth can be needed: both maplets have the room that a change asks, and no tree needs a table
+pub record IsRoomy {A : Type 0} (d : ℕ) (h : Changes) (s : SharedPart A) : Type 0 where
+  pub host : HasRoomFor h.host s.host.maplets
+  pub hyp : HasRoomFor h.hyp s.hyp.maplets
+  pub need : shared_need d h (shared_of s) ≡ 0
+
+-- the Shared part with the told rows at the touched range, where that is memory
+abbrev pub rows_told : Layout → ℕ → Option ℕ → Changes → Shared → Shared
+rows_told l cpu slot h x = record x { row = λ f. elim (is_memory l (first_of (touched h)) && is_touched h f) [ true ↦ told_row cpu slot h f | false ↦ x.row f ] }

@@ -1,0 +1,57 @@
+-- The reference state that all parts stand for, and their history.
+use Rattle.std.specs.Prelude.{ℕ, ◌+◌, Bool, true, false, List, [], ◌∷◌, Option, Some, None, slice_get}
+use Rattle.page_state.specs.declared.reply.Call.{Call}
+use Rattle.page_state.specs.LayoutView.{layout_of as layout_told}
+use Rattle.page_state.specs.Layouts.{Layout}
+use Rattle.reference_model.specs.Boot.{CanBoot}
+use Rattle.reference_model.specs.Held.{held_state}
+use Rattle.reference_model.specs.History.{Kept, IsHistory}
+use Rattle.reference_model.specs.State.{Reference, no_vms, no_shared, no_guest, no_cpu}
+use Rattle.guest_steps.specs.declared.parts.CpuState.{CpuState}
+use Rattle.guest_steps.specs.declared.parts.GuestPart.{GuestPart}
+use Rattle.guest_steps.specs.Lent.{one}
+use Rattle.guest_steps.specs.View.{shared_of, cpu_of}
+use Rattle.hypercalls.specs.declared.parts.Parts.{Parts}
+
+-- a list's length where its one part is used
+abbrev pub count_of : Bool → ℕ
+count_of true = 1
+count_of false = 0
+
+-- the range of a slot in the list of all guests, or an empty one
+abbrev pub from_of : Option ℕ → ℕ
+from_of None = 0
+from_of (Some v) = v
+
+abbrev pub to_of : Option ℕ → ℕ
+to_of None = 0
+to_of (Some v) = v + 1
+
+-- what stands at a place of a list, or what stands for none
+abbrev pub at_place : {P X : Type 0} → X → (P → X) → Option P → X
+at_place blank f None = blank
+at_place blank f (Some p) = f p
+
+module _ {A : Type 0} (p : Parts A) where
+  -- the reference layout
+  abbrev pub layout_of : Layout
+  layout_of = layout_told p.layout
+
+  -- what the parts have: their contents and their logs. No call fills the VM part or a guest yet
+  abbrev pub kept_of : Kept
+  kept_of = record {
+    vms = (no_vms, one [] (λ v. v.log.calls) p.vms.items);
+    shared = (one no_shared shared_of p.shared.items, one [] (λ s. s.log.calls) p.shared.items);
+    guest = λ v. (no_guest, at_place [] (λ g. g.log.calls) (slice_get p.guests.items v));
+    cpu = λ c. (at_place no_cpu cpu_of (slice_get p.cpus.items c), at_place [] (λ k. k.log.calls) (slice_get p.cpus.items c));
+  }
+
+  -- the state: a log's room is what its calls leave
+  abbrev pub state_of : Reference
+  state_of = held_state layout_of kept_of
+
+  -- one legal history: the parts stand at the end of a run of the reference step from the boot state, and its calls are those of their logs
+  pub record HasHistory : Type 0 where
+    pub ready : CanBoot layout_of
+    pub log : List Call
+    pub history : IsHistory layout_of kept_of log

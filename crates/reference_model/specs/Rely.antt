@@ -1,0 +1,39 @@
+-- What a step may rely on where what it uses stands in a state that a run leaves.
+use Rattle.std.specs.Prelude.{◌≡◌, ℕ, ◌<◌, Bool, List, Option, Some, None, Ok}
+use Rattle.page_state.specs.declared.reply.Call.{Call}
+use Rattle.page_state.specs.declared.reply.Reply.{Reply}
+use Rattle.page_state.specs.declared.step.Step.{Step}
+use Rattle.page_state.specs.Layouts.{Layout}
+use Rattle.reference_model.specs.declared.changes.Changes.{Changes}
+use Rattle.reference_model.specs.Answers.{decides, CarriesOut}
+use Rattle.reference_model.specs.Boot.{CanBoot}
+use Rattle.reference_model.specs.ChangeLaws.{AllFit, TouchedFits}
+use Rattle.reference_model.specs.Parts.{Names, names, guest_slot}
+use Rattle.reference_model.specs.RowChanges.{with_told}
+use Rattle.reference_model.specs.Run.{IsRun}
+use Rattle.reference_model.specs.State.{Reference}
+use Rattle.reference_model.specs.Step.{rule_of, fails, made, changed, Answered}
+use Rattle.reference_model.specs.Used.{Used, used_of}
+
+-- what a call uses stands in some state that a run leaves
+pub record IsReached (l : Layout) (n : Names) (slot : Option ℕ) (cpu : ℕ) (x : Used) : Type 0 where
+  pub ready : CanBoot l
+  pub log : List Call
+  pub state : Reference
+  pub run : IsRun l log state
+  pub used : x ≡ used_of n slot cpu state.contents
+
+-- what a step may rely on: its slot is one of the 64, what it decides to change can be written, and the rows that it finds again are those that its changes tell
+pub record CanRely (l : Layout) (cpu : ℕ) (slot : Option ℕ) (step : Step) (x : Used) : Type 0 where
+  pub slot_low : (v : ℕ) → slot ≡ Some v → v < 64
+  pub fit : (h : Changes) → decides l cpu slot step x ≡ Ok h → AllFit l.depth h
+  pub touched : (h : Changes) → decides l cpu slot step x ≡ Ok h → TouchedFits l cpu slot h
+  pub rows : fails l cpu slot step x ≡ None → made l cpu slot step x ≡ with_told l cpu slot (rule_of l cpu slot step x).changes (changed l.depth (rule_of l cpu slot step x).changes x)
+
+-- so it may where a run leaves what it uses
+abbrev pub ReachedRelies : Type 0
+ReachedRelies = (l : Layout) (cpu : ℕ) (slot : Option ℕ) (step : Step) (x : Used) → cpu < l.config.cpus → slot ≡ guest_slot x.cpu step → ∥ IsReached l (names step) slot cpu x ∥₁ → CanRely l cpu slot step x
+
+-- and then carrying out what is decided answers the step
+abbrev pub RelyingAnswers : Type 0
+RelyingAnswers = (l : Layout) (cpu : ℕ) (slot : Option ℕ) (step : Step) (x : Used) (wants : Bool) (h : Changes) (reply : Reply) (y : Used) → CanRely l cpu slot step x → decides l cpu slot step x ≡ Ok h → CarriesOut l cpu slot step wants h x reply y → Answered l cpu slot step wants x reply y

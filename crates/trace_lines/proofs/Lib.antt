@@ -1,0 +1,5 @@
+mod Digits
+mod Hexadecimal
+pub mod KnownBytes
+mod LineLemmas
+pub mod Saying

@@ -1,0 +1,213 @@
+-- What can be said: each line is of the kind that its words ask for, and allowed, and each step is that of a call of the grammar.
+use Rattle.std.proofs.Common.{ℕ, ◌+◌, refl, Bool, true, false, not, cond, List, [], ◌∷◌, length, Option, Some, None, Result, Ok, Err, IfOk, IfSome, option_map, option_and_then}
+use Rattle.std.specs.Prelude.{ok_or, if◌then◌else◌, nat_lt, slice_get, codes, ◌==◌, ◌&&◌, IsTrue, is_some}
+use Rattle.std.specs.Str.{bytes_eq}
+use Rattle.std.specs.Map.{lookup}
+use Rattle.page_state.specs.declared.entry.PageRange.{PageRange}
+use Rattle.page_state.specs.declared.step.Step.{Step}
+use Rattle.trace_lines.specs.declared.asked.Asked.{Asked}
+use Rattle.trace_lines.specs.declared.call.Called.{Called}
+use Rattle.trace_lines.specs.declared.fault.LineFault.{LineFault}
+use Rattle.trace_lines.specs.declared.fault.LineFault.TheVariants.{Long, Byte, Space, Place, Count, Form}
+use Rattle.trace_lines.specs.declared.line.Line.{Line}
+use Rattle.trace_lines.specs.declared.line.Line.TheVariants as lines
+use Rattle.trace_lines.specs.declared.line.Query.{Query}
+use Rattle.trace_lines.specs.declared.line.Query.TheVariants as queries
+use Rattle.trace_lines.specs.declared.line.Setting.{Setting}
+use Rattle.trace_lines.specs.declared.line.Setting.TheVariants as settings
+use Rattle.trace_lines.specs.declared.line.TreeName.{TreeName}
+use Rattle.trace_lines.specs.declared.place.Allows.{Allows}
+use Rattle.trace_lines.specs.declared.place.SettingName.{SettingName}
+use Rattle.trace_lines.specs.declared.place.SettingName.TheVariants as names
+use Rattle.trace_lines.specs.declared.place.Verb.{Verb}
+use Rattle.trace_lines.specs.declared.place.Verb.TheVariants as verbs
+use Rattle.trace_lines.specs.Arguments.{number_at, range_of, level_at}
+use Rattle.trace_lines.specs.Asked.{asked, asked_from, begins_with_digit, headers, of_call, of_number, of_range, of_tree, pools, tree_names}
+use Rattle.trace_lines.specs.Calls.{Argument, number, Makes, Shape, calls, called as called_by, step_from}
+use Rattle.trace_lines.specs.Places.{IsAllowed, may_stand, may_tell}
+use Rattle.trace_lines.specs.Said.{StepHas, said, said_by_asked, said_by_words}
+use Rattle.trace_lines.specs.Settings.{Told}
+use Rattle.trace_lines.specs.Words.{named, words_of, has_stray_byte, is_silent, has_stray_space}
+
+pub mapped : {X Y : Type 0} (P : Y → Type 0) (f : X → Y) → ((x : X) → P (f x)) → (o : Option X) → IfSome (option_map f o) P
+mapped P f h None = tt
+mapped P f h (Some x) = h x
+
+pub chained : {X Y : Type 0} (P : Y → Type 0) (f : X → Option Y) → ((x : X) → IfSome (f x) P) → (o : Option X) → IfSome (option_and_then f o) P
+chained P f h None = tt
+chained P f h (Some x) = h x
+
+-- all that names stand for
+abbrev Each : {X : Type 0} → (X → Type 0) → List (List ℕ × X) → Type 0
+Each P [] = Unit {0}
+Each P (name ∷ names) = P name.1 × Each P names
+
+found : {X : Type 0} (P : X → Type 0) (names : List (List ℕ × X)) (word : List ℕ) → Each P names → IfSome (named names word) P
+found P [] word h = tt
+found P (name ∷ names) word h =
+    elim (bytes_eq word name.0) as (λ b. IfSome (cond b (Some name.1) (lookup (bytes_eq word) names)) P)
+    [ true ↦ h.0 | false ↦ found P names word h.1 ]
+
+-- a property of each step that arguments make
+abbrev pub OfEach : (Step → Type 0) → (arguments : List Argument) → Makes arguments → Type 0
+OfEach P [] step = P step
+OfEach P (number ∷ more) make = (n : ℕ) → OfEach P more (make n)
+
+-- a property of each step that a call of the grammar makes
+abbrev pub OfCalls : (Step → Type 0) → Type 0
+OfCalls P = Each (λ (shape : Shape). OfEach P shape.arguments shape.step) calls
+
+-- what holds of every step
+module _ (P : Step → Type 0) (h : (step : Step) → P step) where
+  of_each : (arguments : List Argument) (make : Makes arguments) → OfEach P arguments make
+  of_each [] step = h step
+  of_each (number ∷ more) make = λ n. of_each more (make n)
+
+  of_names : (names : List (List ℕ × Shape)) → Each (λ (shape : Shape). OfEach P shape.arguments shape.step) names
+  of_names [] = tt
+  of_names (name ∷ names) = (of_each name.1.arguments name.1.step, of_names names)
+
+from_words : (P : Step → Type 0) (arguments : List Argument) (make : Makes arguments) (words : List (List ℕ)) (place : ℕ)
+    → OfEach P arguments make → IfSome (step_from arguments make words place) P
+from_words P [] step words place h = h
+from_words P (number ∷ more) make words place h =
+    chained P (λ n. step_from more (make n) words (place + 1)) (λ n. from_words P more (make n) words (place + 1) (h n)) (number_at words place)
+
+called_has : (P : Step → Type 0) → OfCalls P → (words : List (List ℕ)) (name : List ℕ) → IfSome (called_by words name) (λ called. IfSome called.step P)
+unfolding called_by
+called_has P h words name = onward (named calls name) (found _ calls name h)
+  where
+    onward : (o : Option Shape) → IfSome o (λ shape. OfEach P shape.arguments shape.step)
+        → IfSome (option_map (λ shape. record { words = 2 + length shape.arguments; step = step_from shape.arguments shape.step words 2 }) o) (λ (called : Called). IfSome called.step P)
+    onward None k = tt
+    onward (Some shape) k = from_words P shape.arguments shape.step words 2 k
+
+-- what holds of the lines of each row, by their verb
+module _ (R : Verb → Line → Type 0) (of_setting : (name : SettingName) (setting : Setting) → R (verbs.Setting name) (lines.Setting setting)) (of_boot : R verbs.Boot lines.Boot)
+    (of_step : OfCalls (λ step. (cpu : ℕ) → R verbs.Step (lines.Step cpu step))) (of_query : (query : Query) → R verbs.Query (lines.Query query)) (words : List (List ℕ)) where
+  abbrev Holds : Asked → Type 0
+  Holds a = IfSome a.line (R a.verb)
+
+  number_row : (name : SettingName) (make : ℕ → Setting) → Holds (of_number words name make)
+  number_row name make = mapped _ (λ n. lines.Setting (make n)) (λ n. of_setting name (make n)) (number_at words 1)
+
+  range_row : (name : SettingName) (make : PageRange → Setting) → Holds (of_range words name make)
+  range_row name make = mapped _ (λ r. lines.Setting (make r)) (λ r. of_setting name (make r)) (range_of words)
+
+  header_rows : Each Holds (headers words)
+  header_rows = (
+    number_row names.Geometry settings.Geometry,
+    (
+      number_row names.Cpus settings.Cpus,
+      (
+        number_row names.Log settings.Log,
+        (range_row names.Memory settings.Memory, (range_row names.Device settings.Device, (range_row names.Carve settings.Carve, (of_boot, tt)))),
+      ),
+    ),
+  )
+
+  call_row : (o : Option Called) → IfSome o (λ called. IfSome called.step (λ step. (cpu : ℕ) → R verbs.Step (lines.Step cpu step))) → IfSome (option_map (of_call words) o) Holds
+  call_row None h = tt
+  call_row (Some called) h = chained _ (λ cpu. option_map (lines.Step cpu) called.step) (λ cpu. turned cpu called.step h) (number_at words 0)
+    where
+      turned : (cpu : ℕ) (o : Option Step) → IfSome o (λ step. (cpu : ℕ) → R verbs.Step (lines.Step cpu step)) → IfSome (option_map (lines.Step cpu) o) (R verbs.Step)
+      turned cpu None k = tt
+      turned cpu (Some step) k = k cpu
+
+  by_call : (second : Option (List ℕ)) → IfSome (option_map (of_call words) (option_and_then (called_by words) second)) Holds
+  by_call None = tt
+  by_call (Some name) = call_row (called_by words name) (called_has (λ step. (cpu : ℕ) → R verbs.Step (lines.Step cpu step)) of_step words name)
+
+  tree_row : (tree : TreeName) → Holds (of_tree words tree)
+  tree_row tree =
+      chained _ (λ page. option_map (λ level. lines.Query (queries.Word tree page level)) (level_at words 3))
+      (λ page. mapped _ (λ level. lines.Query (queries.Word tree page level)) (λ level. of_query (queries.Word tree page level)) (level_at words 3)) (number_at words 2)
+
+  by_first : (first : List ℕ) (second : Option (List ℕ)) → IfSome (asked_from words first second) Holds
+  by_first first second =
+      either (begins_with_digit first) _ _ (by_call second)
+      (either (bytes_eq first (codes "word")) _ _ (mapped Holds (of_tree words) tree_row (option_and_then (named tree_names) second))
+      (either (bytes_eq first (codes "free")) _ _ (chained Holds (named pools) (λ name. found Holds pools name (of_query queries.FreeShared, tt)) second)
+      (found Holds (headers words) first header_rows)))
+    where
+      either : (b : Bool) (x y : Option Asked) → IfSome x Holds → IfSome y Holds → IfSome (if b then x else y) Holds
+      either true x y h k = h
+      either false x y h k = k
+
+  pub of_asked : IfSome (asked words) Holds
+  unfolding asked
+  of_asked = chained Holds (λ first. asked_from words first (slice_get words 1)) (λ first. by_first first (slice_get words 1)) (slice_get words 0)
+
+-- a line is of the kind that is asked for
+abbrev pub IsOf : Verb → Line → Type 0
+IsOf (verbs.Setting name) (lines.Setting setting) = Unit {0}
+IsOf verbs.Boot lines.Boot = Unit {0}
+IsOf verbs.Step (lines.Step cpu step) = Unit {0}
+IsOf verbs.Query (lines.Query query) = Unit {0}
+IsOf verb line = ⊥
+
+pub asked_suits : (words : List (List ℕ)) → IfSome (asked words) (λ a. IfSome a.line (IsOf a.verb))
+asked_suits words = of_asked IsOf (λ name setting. tt) tt (of_names (λ step. (cpu : ℕ) → Unit {0}) (λ step cpu. tt) calls) (λ query. tt) words
+
+-- the line that words say has a property, where that of what they ask for has it in its place
+module _ (Q : Line → Type 0) (allows : Allows) (told : Told) where
+  tested : (may counted : Bool) (o : Option Line) → (IsTrue may → IfSome o Q)
+      → IfOk (if not may then Err Place else (if not counted then Err Count else ok_or (option_map Some o) Form)) (λ said. IfSome said Q)
+  tested false counted o h = tt
+  tested true false o h = tt
+  tested true true None h = tt
+  tested true true (Some line) h = h refl
+
+  by_asked : (count : ℕ) (o : Option Asked) → IfSome o (λ a. IsTrue (may_stand allows told a.verb) → IfSome a.line Q)
+      → IfOk (said_by_asked allows told count o) (λ said. IfSome said Q)
+  by_asked count None h = tt
+  by_asked count (Some a) h = tested (may_stand allows told a.verb) (count == a.words) a.line h
+
+-- what words say is allowed
+first : (a b : Bool) → IsTrue (a && b) → IsTrue a
+first true b h = refl
+first false b h = absurd (let e = h in cc)
+
+stands : (allows : Allows) (told : Told) (verb : Verb) (line : Line) → IsOf verb line → IsTrue (may_stand allows told verb) → IsAllowed allows line
+stands allows told (verbs.Setting name) (lines.Setting setting) h may = first allows.settings (may_tell told name) may
+stands allows told verbs.Boot lines.Boot h may = first allows.boot (is_some told.carve) may
+stands allows told verbs.Step (lines.Step cpu step) h may = may
+stands allows told verbs.Query (lines.Query query) h may = may
+stands allows told verb line h may = absurd h
+
+pub words_allowed : (allows : Allows) (told : Told) (words : List (List ℕ)) → IfOk (said_by_words allows told words) (λ said. IfSome said (IsAllowed allows))
+words_allowed allows told words = by_asked (IsAllowed allows) allows told (length words) (asked words) (every (asked words) (asked_suits words))
+  where
+    each : (verb : Verb) (o : Option Line) → IfSome o (IsOf verb) → IsTrue (may_stand allows told verb) → IfSome o (IsAllowed allows)
+    each verb None h may = tt
+    each verb (Some line) h may = stands allows told verb line h may
+
+    every : (o : Option Asked) → IfSome o (λ a. IfSome a.line (IsOf a.verb)) → IfSome o (λ a. IsTrue (may_stand allows told a.verb) → IfSome a.line (IsAllowed allows))
+    every None h = tt
+    every (Some a) h = each a.verb a.line h
+
+-- the tests of bytes and spaces in front
+behind : (Q : Line → Type 0) (long stray silent spaced : Bool) (x : Result (Option Line) LineFault) → IfOk x (λ said. IfSome said Q)
+    → IfOk (if long then Err Long else (if stray then Err Byte else (if silent then Ok None else (if spaced then Err Space else x)))) (λ said. IfSome said Q)
+behind Q true stray silent spaced x h = tt
+behind Q false true silent spaced x h = tt
+behind Q false false true spaced x h = tt
+behind Q false false false true x h = tt
+behind Q false false false false x h = h
+
+-- what holds of the steps of all calls holds of the step that a line says
+module _ (P : Step → Type 0) (holds : OfCalls (λ step. (cpu : ℕ) → P step)) where
+  step_asked : (words : List (List ℕ)) → IfSome (asked words) (λ a. IfSome a.line (StepHas P))
+  step_asked words = of_asked (λ verb. StepHas P) (λ name setting. tt) tt holds (λ query. tt) words
+
+  step_words : (allows : Allows) (told : Told) (words : List (List ℕ)) → IfOk (said_by_words allows told words) (λ said. IfSome said (StepHas P))
+  step_words allows told words = by_asked (StepHas P) allows told (length words) (asked words) (every (asked words) (step_asked words))
+    where
+      every : (o : Option Asked) → IfSome o (λ a. IfSome a.line (StepHas P)) → IfSome o (λ a. IsTrue (may_stand allows told a.verb) → IfSome a.line (StepHas P))
+      every None h = tt
+      every (Some a) h = λ may. h
+
+  pub said_step : (allows : Allows) (told : Told) (line : List ℕ) → IfOk (said allows told line) (λ said. IfSome said (StepHas P))
+  unfolding said
+  said_step allows told line =
+      behind (StepHas P) (nat_lt 256 (length line)) (has_stray_byte line) (is_silent line) (has_stray_space line) (said_by_words allows told (words_of line)) (step_words allows told (words_of line))

@@ -1,0 +1,36 @@
+-- The calls that a step line can name, a row for each (profile).
+use Rattle.std.specs.Prelude.{ℕ, ◌+◌, List, [], ◌∷◌, length, codes, Option, Some, option_map, option_and_then}
+use Rattle.page_state.specs.declared.step.Step.{Step}
+use Rattle.page_state.specs.declared.step.Step.TheVariants as steps
+use Rattle.trace_lines.specs.declared.call.Called.{Called}
+use Rattle.trace_lines.specs.Arguments.{number_at}
+use Rattle.trace_lines.specs.Words.{named}
+
+-- what an argument is: a number
+pub data Argument : Type 0 where
+  number : Argument
+
+-- what makes a step of the values of such arguments, in order
+abbrev pub Makes : List Argument → Type 0
+Makes [] = Step
+Makes (number ∷ more) = ℕ → Makes more
+
+-- what a call's name stands for: its arguments, and the step that they make
+pub record Shape : Type 0 where
+  pub arguments : List Argument
+  pub step : Makes arguments
+
+-- the calls of the grammar
+abbrev pub calls : List (List ℕ × Shape)
+calls =
+    (codes "share_hyp", record { arguments = number ∷ []; step = steps.ShareHyp })
+    ∷ []
+
+-- the step that the words from a place on make
+abbrev pub step_from : (arguments : List Argument) → Makes arguments → List (List ℕ) → ℕ → Option Step
+step_from [] step words place = Some step
+step_from (number ∷ more) make words place = option_and_then (λ n. step_from more (make n) words (place + 1)) (number_at words place)
+
+-- what a step line has whose call has this name: its CPU, the name and the arguments, and the step that these make
+unfoldable pub called : List (List ℕ) → List ℕ → Option Called
+called words name = option_map (λ shape. record { words = 2 + length shape.arguments; step = step_from shape.arguments shape.step words 2 }) (named calls name)

@@ -1,0 +1,10 @@
+pub mod Arguments
+pub mod Asked
+pub mod Calls
+pub mod Numbers
+pub mod Places
+pub mod Reading
+pub mod Said
+pub mod Settings
+pub mod Texts
+pub mod Words

@@ -1,0 +1,37 @@
+-- Where a line may stand (profile).
+use Rattle.std.specs.Prelude.{Bool, true, false, ◌&&◌, is_some, is_none, IsTrue}
+use Rattle.trace_lines.specs.declared.line.Line.{Line}
+use Rattle.trace_lines.specs.declared.line.Line.TheVariants as lines
+use Rattle.trace_lines.specs.declared.place.Allows.{Allows}
+use Rattle.trace_lines.specs.declared.place.SettingName.{SettingName}
+use Rattle.trace_lines.specs.declared.place.SettingName.TheVariants.{Geometry, Cpus, Log, Memory, Device, Carve}
+use Rattle.trace_lines.specs.declared.place.Verb.{Verb}
+use Rattle.trace_lines.specs.declared.place.Verb.TheVariants.{Setting, Boot, Step, Query}
+use Rattle.trace_lines.specs.Settings.{Told}
+
+-- what each program allows before the boot
+abbrev pub before_boot : Allows
+before_boot = record { settings = true; boot = true; steps = false; queries = false }
+
+-- whether a setting may be told after these: any number of regions, and all else once
+abbrev pub may_tell : Told → SettingName → Bool
+may_tell told Geometry = is_none told.geometry
+may_tell told Cpus = is_none told.cpus
+may_tell told Log = is_none told.log
+may_tell told Memory = true
+may_tell told Device = true
+may_tell told Carve = is_none told.carve
+
+-- whether a line may stand after these settings where the program allows these lines: the boot after the carve-out
+abbrev pub may_stand : Allows → Told → Verb → Bool
+may_stand allows told (Setting name) = allows.settings && may_tell told name
+may_stand allows told Boot = allows.boot && is_some told.carve
+may_stand allows told Step = allows.steps
+may_stand allows told Query = allows.queries
+
+-- a line of a kind that the program allows
+abbrev pub IsAllowed : Allows → Line → Type 0
+IsAllowed allows (lines.Setting setting) = IsTrue allows.settings
+IsAllowed allows lines.Boot = IsTrue allows.boot
+IsAllowed allows (lines.Step cpu step) = IsTrue allows.steps
+IsAllowed allows (lines.Query query) = IsTrue allows.queries

@@ -1,0 +1,169 @@
+//! What the first words of a line ask for.
+ghost use Rattle.std.specs.Prelude.{◌≡◌, option_and_then, option_map};
+ghost use Rattle.trace_lines.specs.Arguments.{level_at as level_at_place, number_at as number_at_place};
+ghost use Rattle.trace_lines.specs.Asked.{
+  asked as asked_by,
+  begins_with_digit as begins_with_digit_byte,
+  headers,
+  of_call as of_call_by,
+  of_tree as of_tree_by,
+  pools,
+  tree_names,
+};
+ghost use Rattle.trace_lines.specs.Calls.{called as called_by};
+ghost use Rattle.trace_lines.specs.Words.{named};
+
+use crate::argument::{level_at, number_at, range_of};
+use crate::call::Called;
+use crate::line::{Line, Query, Setting, TreeName};
+use crate::place::{SettingName, Verb};
+use crate::words::{Words, is_name};
+use page_state::Step;
+
+/// What a line asks for by its first words, and what all of them say.
+#[derive(Clone, Copy, PartialEq, Debug)]
+pub struct Asked {
+    pub verb: Verb,
+    /// How many words such a line has.
+    pub words: usize,
+    /// None where a word is missing or not of the form that its place asks.
+    pub line: Option<Line>,
+}
+
+impl Asked {
+    /// What a line asks for. None where its first word, its call, or the tree or pool that it names is unknown or
+    /// missing. A line whose first word begins with a digit is a step line.
+    #[tactic(auto, unfolding(crate::specs::Asked::asked))]
+    pub fn of(words: &Words<'_>) -> Option<Asked>
+        ensures { result ≡ asked_by words.now }
+    {
+        let first = words.get(0)?;
+        if begins_with_digit(first) {
+            return call(words.get(1)?, words);
+        }
+        if is_name(first, b"word") {
+            return tree(words.get(1)?, words);
+        }
+        if is_name(first, b"free") {
+            return pool(words.get(1)?);
+        }
+        header(first, words)
+    }
+}
+
+fn begins_with_digit(word: &[u8]) -> bool
+    ensures { result ≡ begins_with_digit_byte word.now }
+{
+    matches!(word, [b'0'..=b'9', ..])
+}
+
+/// The lines whose first word says all of what is asked.
+fn header(first: &[u8], words: &Words<'_>) -> Option<Asked>
+    ensures { result ≡ named (headers words.now) first.now }
+{
+    if is_name(first, b"geometry") {
+        let setting = number_at(words, 1).map(Setting::Geometry);
+        Some(setting_line(SettingName::Geometry, 2, setting))
+    } else if is_name(first, b"cpus") {
+        let setting = number_at(words, 1).map(Setting::Cpus);
+        Some(setting_line(SettingName::Cpus, 2, setting))
+    } else if is_name(first, b"log") {
+        let setting = number_at(words, 1).map(Setting::Log);
+        Some(setting_line(SettingName::Log, 2, setting))
+    } else if is_name(first, b"memory") {
+        let setting = range_of(words).map(Setting::Memory);
+        Some(setting_line(SettingName::Memory, 3, setting))
+    } else if is_name(first, b"device") {
+        let setting = range_of(words).map(Setting::Device);
+        Some(setting_line(SettingName::Device, 3, setting))
+    } else if is_name(first, b"carve") {
+        let setting = range_of(words).map(Setting::Carve);
+        Some(setting_line(SettingName::Carve, 3, setting))
+    } else if is_name(first, b"boot") {
+        Some(Asked {
+            verb: Verb::Boot,
+            words: 1,
+            line: Some(Line::Boot),
+        })
+    } else {
+        None
+    }
+}
+
+/// A line that tells a setting.
+fn setting_line(name: SettingName, words: usize, setting: Option<Setting>) -> Asked
+    ensures { result ≡ record { verb = Verb.Setting name; words = words; line = option_map Line.Setting setting } }
+{
+    Asked {
+        verb: Verb::Setting(name),
+        words,
+        line: setting.map(Line::Setting),
+    }
+}
+
+/// A step line of the call of this name.
+fn call(name: &[u8], words: &Words<'_>) -> Option<Asked>
+    ensures { result ≡ option_map (of_call_by words.now) (called_by words.now name.now) }
+{
+    let called = Called::of(name, words)?;
+    Some(Asked {
+        verb: Verb::Step,
+        words: called.words,
+        line: step_line(words, called.step),
+    })
+}
+
+fn step_line(words: &Words<'_>, step: Option<Step>) -> Option<Line>
+    ensures { result ≡ option_and_then (λ cpu. option_map (Line.Step cpu) step) (number_at_place words.now 0) }
+{
+    let cpu = number_at(words, 0)?;
+    let step = step?;
+    Some(Line::Step { cpu, step })
+}
+
+/// `word` of the tree of this name.
+fn tree(name: &[u8], words: &Words<'_>) -> Option<Asked>
+    ensures { result ≡ option_map (of_tree_by words.now) (named tree_names name.now) }
+{
+    let tree = tree_name(name)?;
+    Some(Asked {
+        verb: Verb::Query,
+        words: 4,
+        line: word_line(tree, words),
+    })
+}
+
+fn word_line(tree: TreeName, words: &Words<'_>) -> Option<Line>
+    ensures { result ≡ option_and_then (λ page. option_map (λ level. Line.Query (Query.Word tree page level)) (level_at_place words.now 3)) (number_at_place words.now 2) }
+{
+    let page = number_at(words, 2)?;
+    let level = level_at(words, 3)?;
+    Some(Line::Query(Query::Word { tree, page, level }))
+}
+
+fn tree_name(word: &[u8]) -> Option<TreeName>
+    ensures { result ≡ named tree_names word.now }
+{
+    if is_name(word, b"host") {
+        Some(TreeName::Host)
+    } else if is_name(word, b"hyp") {
+        Some(TreeName::Hyp)
+    } else {
+        None
+    }
+}
+
+/// `free` of the pool of this name.
+fn pool(name: &[u8]) -> Option<Asked>
+    ensures { result ≡ named pools name.now }
+{
+    if is_name(name, b"shared") {
+        Some(Asked {
+            verb: Verb::Query,
+            words: 2,
+            line: Some(Line::Query(Query::FreeShared)),
+        })
+    } else {
+        None
+    }
+}

@@ -1,0 +1,40 @@
+//! Faults of a line by itself. The first that holds is told, in the order of the variants.
+ghost use Rattle.std.specs.Prelude.{Some};
+ghost use Rattle.trace_lines.specs.Texts.{text_of_line_fault};
+
+use std::fmt;
+
+/// What is wrong with a line, by its bytes, its place, and its words.
+#[derive(Clone, Copy, PartialEq, Debug)]
+pub enum LineFault {
+    /// Over 256 bytes before the line's end.
+    Long,
+    /// A byte outside 0x20 to 0x7e.
+    Byte,
+    /// A space first, last, or twice in a row.
+    Space,
+    /// The first word is unknown, or the call, tree or pool after it is unknown or missing.
+    Word,
+    /// The line stands where it isn't allowed, or `boot` without a carve-out.
+    Place,
+    /// Too few or too many words.
+    Count,
+    /// A word not of the form that its place asks.
+    Form,
+}
+
+impl fmt::Display for LineFault {
+    ghost output = { λ fault. Some (text_of_line_fault fault) };
+
+    fn fmt<W: fmt::Write>(&self, f: &mut fmt::Formatter<W>) -> fmt::Result {
+        match self {
+            LineFault::Long => write!(f, "long"),
+            LineFault::Byte => write!(f, "byte"),
+            LineFault::Space => write!(f, "space"),
+            LineFault::Word => write!(f, "word"),
+            LineFault::Place => write!(f, "place"),
+            LineFault::Count => write!(f, "count"),
+            LineFault::Form => write!(f, "form"),
+        }
+    }
+}

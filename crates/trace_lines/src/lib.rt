@@ -1,0 +1,25 @@
+//! Lines of a trace: how they are read, what they say, their faults, and what they report.
+#![tactic(auto)]
+
+mod argument;
+mod asked;
+mod call;
+mod fault;
+mod grammar;
+mod line;
+mod lines;
+mod number;
+mod outcome;
+mod place;
+mod response;
+mod settings;
+mod words;
+
+pub use fault::LineFault;
+pub use grammar::said;
+pub use line::{Line, Query, Setting, TreeName};
+pub use lines::{MOST_BYTES, read_line};
+pub use outcome::{EngineFault, Outcome};
+pub use place::Allows;
+pub use response::Response;
+pub use settings::Settings;

@@ -1,0 +1,52 @@
+//! What a line of a trace can say.
+use page_state::{PageRange, Step};
+
+/// A line that can be carried out.
+#[derive(Clone, Copy, PartialEq, Debug)]
+pub enum Line {
+    /// What is told before the boot.
+    Setting(Setting),
+    /// The boot.
+    Boot,
+    /// A call of a CPU.
+    Step { cpu: u64, step: Step },
+    /// A question about a booted world.
+    Query(Query),
+}
+
+/// A setting of a trace.
+#[derive(Clone, Copy, PartialEq, Debug)]
+pub enum Setting {
+    /// The width of input addresses in bits.
+    Geometry(u64),
+    /// The number of CPUs.
+    Cpus(u64),
+    /// The calls of a log.
+    Log(u64),
+    /// A region of memory.
+    Memory(PageRange),
+    /// A region of device pages.
+    Device(PageRange),
+    /// The carve-out.
+    Carve(PageRange),
+}
+
+/// A question.
+#[derive(Clone, Copy, PartialEq, Debug)]
+pub enum Query {
+    /// The word on a page's path, at a level of 0 to 3.
+    Word {
+        tree: TreeName,
+        page: u64,
+        level: u64,
+    },
+    /// The number of free frames of the shared pool.
+    FreeShared,
+}
+
+/// A tree that a line names.
+#[derive(Clone, Copy, PartialEq, Debug)]
+pub enum TreeName {
+    Host,
+    Hyp,
+}

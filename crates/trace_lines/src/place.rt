@@ -1,0 +1,74 @@
+//! Where a line may stand.
+ghost use Rattle.std.specs.Prelude.{◌≡◌};
+ghost use Rattle.trace_lines.specs.Places.{before_boot as before_boot_by, may_stand as may_stand_by, may_tell as may_tell_by};
+ghost use Rattle.trace_lines.specs.Settings.{told_of};
+
+use crate::settings::Settings;
+
+/// Which lines a program allows at a place of a trace.
+#[derive(Clone, Copy, PartialEq, Debug)]
+pub struct Allows {
+    pub settings: bool,
+    pub boot: bool,
+    pub steps: bool,
+    pub queries: bool,
+}
+
+impl Allows {
+    /// What each program allows before the boot.
+    pub fn before_boot() -> Allows
+        ensures { result ≡ before_boot_by }
+    {
+        Allows {
+            settings: true,
+            boot: true,
+            steps: false,
+            queries: false,
+        }
+    }
+}
+
+/// The name of a setting.
+#[derive(Clone, Copy, PartialEq, Debug)]
+pub enum SettingName {
+    Geometry,
+    Cpus,
+    Log,
+    Memory,
+    Device,
+    Carve,
+}
+
+/// What a line asks for, as far as its place goes.
+#[derive(Clone, Copy, PartialEq, Debug)]
+pub enum Verb {
+    Setting(SettingName),
+    Boot,
+    Step,
+    Query,
+}
+
+/// Whether a line may stand after these settings, where the program allows these lines.
+pub fn may_stand(allows: Allows, settings: &Settings, verb: Verb) -> bool
+    ensures { result ≡ may_stand_by allows (told_of settings.now) verb }
+{
+    match verb {
+        Verb::Setting(name) => allows.settings && may_tell(settings, name),
+        Verb::Boot => allows.boot && settings.carve.is_some(),
+        Verb::Step => allows.steps,
+        Verb::Query => allows.queries,
+    }
+}
+
+/// Whether a setting may be told after these: any number of regions, and all else once.
+fn may_tell(settings: &Settings, name: SettingName) -> bool
+    ensures { result ≡ may_tell_by (told_of settings.now) name }
+{
+    match name {
+        SettingName::Geometry => settings.geometry.is_none(),
+        SettingName::Cpus => settings.cpus.is_none(),
+        SettingName::Log => settings.log.is_none(),
+        SettingName::Carve => settings.carve.is_none(),
+        SettingName::Memory | SettingName::Device => true,
+    }
+}

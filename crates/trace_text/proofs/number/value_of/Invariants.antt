@@ -1,6 +1,0 @@
-use Rattle.std.proofs.Common.{◌≡◌, ◌<◌, ◌^◌, take}
-use Rattle.trace_text.specs.Numbers.{value_of}
-use Rattle.trace_text.proofs.number.value_of.Given as goal
-
-abbrev pub invariant-loop-byte : goal.invariant-loop-byte
-invariant-loop-byte l = (l.value ≡ value_of l.base (take l.byte-index l.digits)) × (l.value < 2 ^ 64)
