@@ -3,14 +3,14 @@ use Rattle.std.specs.Prelude.{ℕ, ◌≤◌, List, Option, Some, None}
 use Rattle.page_state.specs.Trees.{Tree}
 use Rattle.page_state.specs.Tables.{need, returned, edited}
 use Rattle.page_state.specs.Geometries.{levels_below}
-use Rattle.maplets.specs.View.{KeptRuns}
+use Rattle.maplets.specs.View.{KeptMaplets}
 use Rattle.reference_model.specs.declared.changes.MapChange.{MapChange}
 use Rattle.reference_model.specs.Changes.{edit_of}
 use Rattle.table_tree.specs.declared.tree.Tree.{Tree as TableTree}
 use Rattle.table_tree.specs.View.{tree_of}
 
 -- the maplets have the room that a change asks
-abbrev pub HasRoomFor : Option MapChange → KeptRuns → Type 0
+abbrev pub HasRoomFor : Option MapChange → KeptMaplets → Type 0
 HasRoomFor None m = Unit {0}
 HasRoomFor (Some c) m = 2 ≤ m.room
 

@@ -10,7 +10,7 @@ use Rattle.page_state.specs.declared.entry.Target.{Target}
 use Rattle.page_state.specs.Entries.{advance, entry_of_target, target_of}
 use Rattle.page_state.specs.EntryTests.{entry_eq}
 use Rattle.page_state.specs.Map.{is_within}
-use Rattle.page_state.specs.Runs.{map_of, entry_on, end_of, IsCoarsest, Precedes, PrecedesFirst}
+use Rattle.page_state.specs.Runs.{map_of, entry_on, run_end, IsCoarsest, Precedes, PrecedesFirst}
 use Rattle.page_state.proofs.Cases.{by_test}
 use Rattle.page_state.proofs.Common.{eq-same, and-left, and-right}
 use Rattle.page_state.proofs.Entries.{advance-more, entry_eq-same, entry_eq-self}
@@ -66,20 +66,20 @@ map_above (r ∷ rs) p s h =
 
 -- a run in front of a list
 
-pub continues_page : (r n : Run) → continues r n ≡ true → end_of r ≡ n.pages.first.0
-continues_page r n h = eq-same (end_of r) n.pages.first.0 (and-left (end_of r == n.pages.first.0) (entry_eq (entry_on r (end_of r)) (entry_of_target n.target)) h)
+pub continues_page : (r n : Run) → continues r n ≡ true → run_end r ≡ n.pages.first.0
+continues_page r n h = eq-same (run_end r) n.pages.first.0 (and-left (run_end r == n.pages.first.0) (entry_eq (entry_on r (run_end r)) (entry_of_target n.target)) h)
 
-from_first : (r : Run) → end_of r - r.pages.first.0 ≡ r.pages.count
+from_first : (r : Run) → run_end r - r.pages.first.0 ≡ r.pages.count
 from_first r = omega arith
 
 pub continues_entry : (r n : Run) → continues r n ≡ true → advance (entry_of_target r.target) r.pages.count ≡ entry_of_target n.target
 continues_entry r n h =
     ap (advance (entry_of_target r.target)) (sym (from_first r))
-    ∙ entry_eq-same (entry_on r (end_of r)) (entry_of_target n.target) (and-right (end_of r == n.pages.first.0) (entry_eq (entry_on r (end_of r)) (entry_of_target n.target)) h)
+    ∙ entry_eq-same (entry_on r (run_end r)) (entry_of_target n.target) (and-right (run_end r == n.pages.first.0) (entry_eq (entry_on r (run_end r)) (entry_of_target n.target)) h)
 
-does_continue : (r n : Run) → end_of r ≡ n.pages.first.0 → entry_on r (end_of r) ≡ entry_of_target n.target → continues r n ≡ true
+does_continue : (r n : Run) → run_end r ≡ n.pages.first.0 → entry_on r (run_end r) ≡ entry_of_target n.target → continues r n ≡ true
 does_continue r n e f =
-    let p : (end_of r == n.pages.first.0) ≡ true = grind (arith, nat_tests) in
+    let p : (run_end r == n.pages.first.0) ≡ true = grind (arith, nat_tests) in
     rw (p, f) (entry_eq-self (entry_of_target n.target))
 
 in_both : (a b c d p : ℕ) → a + c ≡ b → is_within b d p ≡ true → is_within a (c + d) p ≡ true
@@ -134,16 +134,16 @@ pub begins_before : (low high : ℕ) (rs : List Run) → low ≤ high → Begins
 begins_before low high [] h b = tt
 begins_before low high (r ∷ rs) h b = omega arith
 
-begins_next : (r : Run) (rs : List Run) → PrecedesFirst r rs → BeginsFrom (end_of r) rs
+begins_next : (r : Run) (rs : List Run) → PrecedesFirst r rs → BeginsFrom (run_end r) rs
 begins_next r [] p = tt
 begins_next r (n ∷ rs) p = p.before
 
 pub map_below : (low p : ℕ) (rs : List Run) → IsCoarsest rs → BeginsFrom low rs → p < low → map_of rs p ≡ Unmapped
 map_below low p [] c b h = refl
 map_below low p (r ∷ rs) c b h =
-    rw (below_test r.pages.first.0 r.pages.count p (omega arith)) (map_below (end_of r) p rs c.2 (begins_next r rs c.1) (omega arith))
+    rw (below_test r.pages.first.0 r.pages.count p (omega arith)) (map_below (run_end r) p rs c.2 (begins_next r rs c.1) (omega arith))
 
-precedes : (r n : Run) → end_of r ≤ n.pages.first.0 → continues r n ≡ false → Precedes r n
+precedes : (r n : Run) → run_end r ≤ n.pages.first.0 → continues r n ≡ false → Precedes r n
 precedes r n h f = record {
   before = h;
   apart = λ e t. let k : true ≡ false = sym (does_continue r n e t) ∙ f in cc;
@@ -153,7 +153,7 @@ longer_precedes : (r n m : Run) → continues r n ≡ true → Precedes n m → 
 longer_precedes r n m h p =
     let b : r.pages.first.0 + r.pages.count ≡ n.pages.first.0 = continues_page r n h in
     let t = continues_entry r n h in
-    let far : entry_on (longer r n) (end_of (longer r n)) ≡ entry_on n (end_of n) =
+    let far : entry_on (longer r n) (run_end (longer r n)) ≡ entry_on n (run_end n) =
     ap (advance (entry_of_target r.target)) (from_first (longer r n)) ∙ sym (advance-more (entry_of_target r.target) r.pages.count n.pages.count)
     ∙ ap (λ x. advance x n.pages.count) t ∙ ap (advance (entry_of_target n.target)) (sym (from_first n)) in
     record { before = omega (arith, p.before); apart = λ e u. p.apart (omega arith) (sym far ∙ u) }
@@ -162,7 +162,7 @@ longer_first : (r n : Run) (rs : List Run) → continues r n ≡ true → Preced
 longer_first r n [] h p = tt
 longer_first r n (m ∷ rs) h p = longer_precedes r n m h p
 
-pub joined_coarsest : (r : Run) (rs : List Run) → 0 < r.pages.count → BeginsFrom (end_of r) rs → IsCoarsest rs → IsCoarsest (joined r rs)
+pub joined_coarsest : (r : Run) (rs : List Run) → 0 < r.pages.count → BeginsFrom (run_end r) rs → IsCoarsest rs → IsCoarsest (joined r rs)
 joined_coarsest r [] h b c = (h, tt, tt)
 joined_coarsest r (n ∷ rs) h b c = by_test (continues r n)
     (λ k. rw k (omega arith, longer_first r n rs k c.1, c.2))
@@ -189,7 +189,7 @@ module _ (rs out : List Run) (low high : ℕ) (none : All (HasNoBound low high) 
       (λ k. let l : p < high = omega arith in map_below high p out coarse begins l ∙ sym (map_between rs low high p none h l ∙ ap (λ x. advance x (p - low)) e))
 
   pub coarsest_after : (t : Target) → IsCoarsest (joined (next_run t) out)
-  coarsest_after t = joined_coarsest (next_run t) out (omega arith) (begins_before (end_of (next_run t)) high out (omega arith) begins) coarse
+  coarsest_after t = joined_coarsest (next_run t) out (omega arith) (begins_before (run_end (next_run t)) high out (omega arith) begins) coarse
 
   pub small_next : (t : Target) → AreSmall rs → target_of (map_of rs low) ≡ Some t → IsSmall (next_run t)
   small_next t s e =

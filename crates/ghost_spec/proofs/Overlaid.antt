@@ -17,7 +17,7 @@ use Rattle.page_state.specs.Runs.{map_of, entry_on}
 use Rattle.page_state.proofs.Cases.{by_test}
 use Rattle.page_state.proofs.Entries.{advance-more, entry_advanced}
 use Rattle.ghost_spec.specs.Small.{HasLowFrames, IsSmall, AreSmall}
-use Rattle.ghost_spec.specs.Parts.{run_behind, run_before, run_from, alone, parts_outside, run_of}
+use Rattle.ghost_spec.specs.Parts.{run_behind, run_before, run_from, alone, parts_outside, runs_for}
 use Rattle.ghost_spec.proofs.Entries.{low_fewer, low_behind}
 
 -- the map of a list of runs where another entry stands below them
@@ -112,13 +112,13 @@ module _ (range : PageRange) where
       ∙ over_from r (range.first.0 + range.count) (over (parts_of rs) d p) p h
       ∙ rw (parts_high rs d p h) refl
 
-  run_of_inside : (e : Entry) (p : ℕ) → is_within range.first.0 range.count p ≡ true → over (run_of range e) Unmapped p ≡ advance e (p - range.first.0)
+  run_of_inside : (e : Entry) (p : ℕ) → is_within range.first.0 range.count p ≡ true → over (runs_for range e) Unmapped p ≡ advance e (p - range.first.0)
   run_of_inside Unmapped p h = refl
   run_of_inside Malformed p h = rw h refl
   run_of_inside (Annotated o) p h = rw h refl
   run_of_inside (Leaf f q k s) p h = rw h refl
 
-  run_of_outside : (e d : Entry) (p : ℕ) → is_within range.first.0 range.count p ≡ false → over (run_of range e) d p ≡ d
+  run_of_outside : (e d : Entry) (p : ℕ) → is_within range.first.0 range.count p ≡ false → over (runs_for range e) d p ≡ d
   run_of_outside Unmapped d p h = refl
   run_of_outside Malformed d p h = rw h refl
   run_of_outside (Annotated o) d p h = rw h refl
@@ -131,9 +131,9 @@ module _ (range : PageRange) where
   parts_outside_same rs d p h = dite (dec_le range.first.0 p) (λ k. parts_high rs d p (outside_means p h k)) (λ k. parts_low rs d p (omega arith))
 
   -- the runs of an entry and of the parts outside its range: the updated map
-  pub map_of-updated : (e : Entry) (rs : List Run) (p : ℕ) → map_of (run_of range e ++ parts_of rs) p ≡ update (map_of rs) range.first.0 range.count e p
+  pub map_of-updated : (e : Entry) (rs : List Run) (p : ℕ) → map_of (runs_for range e ++ parts_of rs) p ≡ update (map_of rs) range.first.0 range.count e p
   map_of-updated e rs p =
-      map_of-over (run_of range e ++ parts_of rs) p ∙ over-append (run_of range e) (parts_of rs) Unmapped p
+      map_of-over (runs_for range e ++ parts_of rs) p ∙ over-append (runs_for range e) (parts_of rs) Unmapped p
       ∙ by_test (is_within range.first.0 range.count p)
       (λ h. let w = within_means range.first.0 range.count p h in rw (parts_inside rs Unmapped p w.0 w.1, h) (run_of_inside e p h))
       (λ h. rw (parts_outside_same rs Unmapped p h, h) (run_of_outside e (over rs Unmapped p) p h ∙ sym (map_of-over rs p)))
@@ -159,11 +159,11 @@ module _ (range : PageRange) where
   small_parts_of [] s = All-nil IsSmall
   small_parts_of (r ∷ rs) s = All-append IsSmall (parts_outside range r) (parts_of rs) (small_parts r (s 0 r (omega arith))) (small_parts_of rs (λ k d h. s (suc k) d (omega arith)))
 
-  small_run_of : (e : Entry) → range.first.0 + range.count ≤ 2 ^ 63 → HasLowFrames e range.count → AreSmall (run_of range e)
+  small_run_of : (e : Entry) → range.first.0 + range.count ≤ 2 ^ 63 → HasLowFrames e range.count → AreSmall (runs_for range e)
   small_run_of Unmapped h l = All-nil IsSmall
   small_run_of Malformed h l = All-cons IsSmall (record { pages = range; target = MalformedTarget }) [] (h, tt) (All-nil IsSmall)
   small_run_of (Annotated o) h l = All-cons IsSmall (record { pages = range; target = AnnotatedTarget o }) [] (h, tt) (All-nil IsSmall)
   small_run_of (Leaf f p k s) h l = All-cons IsSmall (record { pages = range; target = LeafTarget f p k s }) [] (h, l) (All-nil IsSmall)
 
-  pub small_updated : (e : Entry) (rs : List Run) → range.first.0 + range.count ≤ 2 ^ 63 → HasLowFrames e range.count → AreSmall rs → AreSmall (run_of range e ++ parts_of rs)
-  small_updated e rs h l s = All-append IsSmall (run_of range e) (parts_of rs) (small_run_of e h l) (small_parts_of rs s)
+  pub small_updated : (e : Entry) (rs : List Run) → range.first.0 + range.count ≤ 2 ^ 63 → HasLowFrames e range.count → AreSmall rs → AreSmall (runs_for range e ++ parts_of rs)
+  small_updated e rs h l s = All-append IsSmall (runs_for range e) (parts_of rs) (small_run_of e h l) (small_parts_of rs s)

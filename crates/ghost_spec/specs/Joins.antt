@@ -3,11 +3,11 @@ use Rattle.std.specs.Prelude.{ℕ, ◌+◌, ◌<◌, ◌≤◌, Bool, ◌&&◌, 
 use Rattle.page_state.specs.declared.entry.Run.{Run}
 use Rattle.page_state.specs.Entries.{entry_of_target}
 use Rattle.page_state.specs.EntryTests.{entry_eq}
-use Rattle.page_state.specs.Runs.{end_of, entry_on}
+use Rattle.page_state.specs.Runs.{run_end, entry_on}
 
 -- whether the second run continues the first
 abbrev pub continues : Run → Run → Bool
-continues r n = end_of r == n.pages.first.0 && entry_eq (entry_on r (end_of r)) (entry_of_target n.target)
+continues r n = run_end r == n.pages.first.0 && entry_eq (entry_on r (run_end r)) (entry_of_target n.target)
 
 -- a run with the pages of the run that continues it
 abbrev pub longer : Run → Run → Run
@@ -20,4 +20,4 @@ joined r (n ∷ rs) = if continues r n then longer r n ∷ rs else r ∷ (n ∷ 
 
 -- a run neither begins nor ends between two pages
 abbrev pub HasNoBound : ℕ → ℕ → Run → Type 0
-HasNoBound low high r = (r.pages.first.0 < high → r.pages.first.0 ≤ low) × (end_of r < high → end_of r ≤ low)
+HasNoBound low high r = (r.pages.first.0 < high → r.pages.first.0 ≤ low) × (run_end r < high → run_end r ≤ low)

@@ -36,5 +36,5 @@ run_of_target range None = []
 run_of_target range (Some target) = record { pages = range; target = target } ∷ []
 
 -- the run of a range with an entry
-abbrev pub run_of : PageRange → Entry → List Run
-run_of range entry = run_of_target range (target_of entry)
+abbrev pub runs_for : PageRange → Entry → List Run
+runs_for range entry = run_of_target range (target_of entry)

@@ -4,7 +4,7 @@ use Rattle.page_state.specs.declared.entry.Entry.{Entry}
 use Rattle.page_state.specs.declared.entry.Entry.TheVariants.{Leaf}
 use Rattle.page_state.specs.declared.entry.Run.{Run}
 use Rattle.page_state.specs.Entries.{entry_of_target}
-use Rattle.page_state.specs.Runs.{end_of}
+use Rattle.page_state.specs.Runs.{run_end}
 
 -- the frames of a leaf and of the pages behind it, so many in all, are below 2^63
 abbrev pub HasLowFrames : Entry → ℕ → Type 0
@@ -13,7 +13,7 @@ HasLowFrames other count = Unit {0}
 
 -- the pages and the frames of a run are below 2^63
 abbrev pub IsSmall : Run → Type 0
-IsSmall r = (end_of r ≤ 2 ^ 63) × HasLowFrames (entry_of_target r.target) r.pages.count
+IsSmall r = (run_end r ≤ 2 ^ 63) × HasLowFrames (entry_of_target r.target) r.pages.count
 
 -- those of each run of a list
 abbrev pub AreSmall : List Run → Type 0

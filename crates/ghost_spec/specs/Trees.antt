@@ -14,8 +14,8 @@ table_of [] b = None
 table_of (t ∷ ts) b = if block_eq t.block b then Some t.frame else table_of ts b
 
 -- the tree of runs and tables
-abbrev pub tree_of : TreeOfLists → Tree
-tree_of t = record { map = map_of t.runs.items; table = table_of t.tables.items }
+abbrev pub tree_in_lists : TreeOfLists → Tree
+tree_in_lists t = record { map = map_of t.runs.items; table = table_of t.tables.items }
 
 -- a block of pages below 2^64, of a depth that trees have
 abbrev pub IsLowBlock : Block → Type 0

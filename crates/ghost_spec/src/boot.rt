@@ -5,9 +5,9 @@ ghost use Rattle.reference_model.specs.Boot.{boot_shared, IsCarveEnough};
 ghost use Rattle.page_state.specs.EntryTests.{annotation, leaf};
 ghost use Rattle.page_state.specs.Layouts.{hyp_page as hyp_page_of};
 ghost use Rattle.reference_model.specs.State.{plain_row};
-ghost use Rattle.ghost_spec.specs.Sharing.{HasSmallRuns, layout_of, shared_of};
+ghost use Rattle.ghost_spec.specs.Sharing.{HasSmallRuns, layout_with, shared_in_lists};
 ghost use Rattle.ghost_spec.specs.Small.{AreSmall};
-ghost use Rattle.ghost_spec.specs.Trees.{tree_of};
+ghost use Rattle.ghost_spec.specs.Trees.{tree_in_lists};
 
 use crate::share::{Shared, behind, hyp_page};
 use crate::tree::{Table, Tree, edited, need};
@@ -23,8 +23,8 @@ pub fn boot(
     depth: u64,
 ) -> Result<Option<Shared>, AllocError>
     requires { depth ≤ 3 }
-    ensures enough { IfOk result (λ o. IsSome o ↔ IsCarveEnough (layout_of memory.now config depth)) }
-    ensures shared { IfOk result (λ o. IfSome o (λ s. shared_of (λ f. plain_row) s ≡ boot_shared (layout_of memory.now config depth))) }
+    ensures enough { IfOk result (λ o. IsSome o ↔ IsCarveEnough (layout_with memory.now config depth)) }
+    ensures shared { IfOk result (λ o. IfSome o (λ s. shared_in_lists (λ f. plain_row) s ≡ boot_shared (layout_with memory.now config depth))) }
     ensures room { IfOk result (λ o. IfSome o (λ s. s.room ≡ config.log)) }
     ensures cpu_room { IfOk result (λ o. IfSome o (λ s. s.cpu_room ≡ config.log)) }
     ensures small { IfOk result (λ o. IfSome o HasSmallRuns) }
@@ -86,7 +86,7 @@ fn hyp_entry(frame: u64) -> Entry
 /// A tree of its root alone, in which nothing is mapped.
 fn root_tree(alloc: Global, depth: u64, root: u64) -> Result<Tree, AllocError>
     requires { depth ≤ 3 }
-    ensures tree { IfOk result (λ t. tree_of t ≡ root_tree_of depth root) }
+    ensures tree { IfOk result (λ t. tree_in_lists t ≡ root_tree_of depth root) }
     ensures small { IfOk result (λ t. AreSmall t.runs.items) }
 {
     let mut tables = Vec::new(alloc);

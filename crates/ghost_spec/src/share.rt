@@ -5,7 +5,7 @@ ghost use Rattle.page_state.specs.Layouts.{hyp_page as hyp_page_of};
 ghost use Rattle.page_state.specs.Runs.{map_of};
 ghost use Rattle.page_state.specs.Tables.{put, need as need_of};
 ghost use Rattle.ghost_spec.specs.Small.{AreSmall, HasLowFrames};
-ghost use Rattle.ghost_spec.specs.Trees.{tree_of};
+ghost use Rattle.ghost_spec.specs.Trees.{tree_in_lists};
 
 use crate::pool::give_all;
 use crate::runs::at;
@@ -224,7 +224,7 @@ fn need(
     requires runs { AreSmall tree.now.runs.items }
     requires page { page < 2 ^ 63 }
     requires frames { HasLowFrames entry 1 }
-    ensures { IfOk result (λ n. n ≡ need_of depth (tree_of tree.now) (put page 1 entry)) }
+    ensures { IfOk result (λ n. n ≡ need_of depth (tree_in_lists tree.now) (put page 1 entry)) }
 {
     tree::need(alloc, depth, tree, page_range(page), entry)
 }

@@ -2,7 +2,7 @@
 use Rattle.std.proofs.Common.{◌≡◌, ℕ, ◌+◌, ◌-◌, ◌++◌, Bool, true, false, List, drop, unwrap_or, Option, Some, Result, Ok, Err, OnOk, refl, ap, ◌∙◌, if◌then◌else◌}
 use mathlib.Core.Path.{fun_ext}
 use Rattle.hyp_pool.specs.declared.PoolFault.{PoolFault}
-use Rattle.hyp_pool.specs.Pools.{Stored}
+use Rattle.hyp_pool.specs.Pools.{StoredFrames}
 use Rattle.owner_table.specs.Rows.{row_at, rows_set}
 use Rattle.page_state.specs.declared.entry.PageRange.{PageRange}
 use Rattle.page_state.specs.declared.row.Row.{Row}
@@ -38,7 +38,7 @@ module _ {A : Type 0} (s : SharedPart A) where
       (fun_ext (λ f. ap (λ m. unwrap_or (m f) plain_row) e ∙ same_row (is_in_range frames f) (row_at s.rows f) (advance_row row (f - frames.first.0))))
 
   -- both maps that were changed
-  pub changed : (result : Result (Unit {0}) PoolFault) (h : Changes) (host hyp : TableTree A) (pool : Stored)
+  pub changed : (result : Result (Unit {0}) PoolFault) (h : Changes) (host hyp : TableTree A) (pool : StoredFrames)
       → OnOk result (tree_of host ≡ tree_after s.host.tree h.host s.pool.frames)
       → OnOk result (tree_of hyp ≡ tree_after s.hyp.tree h.hyp (drop (need_for s.host.tree h.host) s.pool.frames))
       → OnOk result (pool.frames ≡ all_given (back_from s.host.tree h.host ++ back_from s.hyp.tree h.hyp) (drop (need_for s.host.tree h.host + need_for s.hyp.tree h.hyp) s.pool.frames))

@@ -11,7 +11,7 @@ use Rattle.guest_steps.specs.declared.parts.VmPart.{VmPart}
 use Rattle.guest_steps.specs.declared.parts.SharedPart.{SharedPart}
 use Rattle.guest_steps.specs.declared.parts.GuestPart.{GuestPart}
 use Rattle.guest_steps.specs.declared.parts.CpuState.{CpuState}
-use Rattle.guest_steps.specs.Logs.{Stored, IsOfSize}
+use Rattle.guest_steps.specs.Logs.{StoredCalls, IsOfSize}
 use Rattle.guest_steps.specs.MemoryRows.{HasMemoryRows}
 use Rattle.guest_steps.specs.View.{shared_of, cpu_of, depth_of}
 
@@ -27,10 +27,10 @@ abbrev pub lent : {A : Type 0} → List VmPart → List (SharedPart A) → List 
 lent v s g k = record { vms = v; shared = s; guest = g; cpu = k }
 
 -- a list of one where the part is used, and of none where it isn't
-abbrev pub IsOne : {P : Type 0} → Bool → List P → Type 0
-IsOne used [] = used ≡ false
-IsOne used (p ∷ []) = used ≡ true
-IsOne used (p ∷ (q ∷ ps)) = ⊥
+abbrev pub IsOneWhere : {P : Type 0} → Bool → List P → Type 0
+IsOneWhere used [] = used ≡ false
+IsOneWhere used (p ∷ []) = used ≡ true
+IsOneWhere used (p ∷ (q ∷ ps)) = ⊥
 
 -- so it is with each of a list
 abbrev pub Each : {P : Type 0} → (P → Type 0) → List P → Type 0
@@ -52,9 +52,9 @@ slot_in x step = guest_slot (cpu_of x.cpu) step
 
 -- just the parts that a step uses are lent
 pub record IsLent {A : Type 0} (n : Names) (slot : Option ℕ) (x : Lent A) : Type 0 where
-  pub vms : IsOne (uses_vms n) x.vms
-  pub shared : IsOne (uses_shared n slot) x.shared
-  pub guest : IsOne (is_some slot) x.guest
+  pub vms : IsOneWhere (uses_vms n) x.vms
+  pub shared : IsOneWhere (uses_shared n slot) x.shared
+  pub guest : IsOneWhere (is_some slot) x.guest
 
 -- a Shared part of the layout: trees of its depth, a row for each memory frame and for no other, and a log of its size
 pub record SharedSuits {A : Type 0} (l : Layout) (s : SharedPart A) : Type 0 where
@@ -71,10 +71,10 @@ pub record Suits {A : Type 0} (l : Layout) (x : Lent A) : Type 0 where
 
 -- the logs of what is lent
 pub record LentLogs : Type 0 where
-  pub vms : List Stored
-  pub shared : List Stored
-  pub guest : List Stored
-  pub cpu : Stored
+  pub vms : List StoredCalls
+  pub shared : List StoredCalls
+  pub guest : List StoredCalls
+  pub cpu : StoredCalls
 
 abbrev pub logs_in : {A : Type 0} → Lent A → LentLogs
 logs_in x = record { vms = map (λ p. p.log) x.vms; shared = map (λ p. p.log) x.shared; guest = map (λ p. p.log) x.guest; cpu = x.cpu.log }
@@ -84,7 +84,7 @@ abbrev pub rooms_in : LentLogs → UsedRooms
 rooms_in g = record { vms = one 0 (λ s. s.room) g.vms; shared = one 0 (λ s. s.room) g.shared; guest = one 0 (λ s. s.room) g.guest; cpu = g.cpu.room }
 
 -- a log with a call at its end
-abbrev pub with_call : Call → Stored → Stored
+abbrev pub with_call : Call → StoredCalls → StoredCalls
 with_call c g = record { calls = g.calls ++ c ∷ []; room = g.room - 1 }
 
 -- each log with a call at its end

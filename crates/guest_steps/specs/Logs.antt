@@ -3,15 +3,15 @@ use Rattle.std.specs.Prelude.{◌≡◌, ℕ, ◌+◌, List, [], length}
 use Rattle.page_state.specs.declared.reply.Call.{Call}
 
 -- the stored calls, the oldest first, and how many more can be stored
-pub record Stored : Type 0 where
+pub record StoredCalls : Type 0 where
   pub calls : List Call
   pub room : ℕ
 
 -- a log that can store so many calls in all
-abbrev pub IsOfSize : ℕ → Stored → Type 0
+abbrev pub IsOfSize : ℕ → StoredCalls → Type 0
 IsOfSize most log = length log.calls + log.room ≡ most
 
 -- a log in which no call is stored yet
-pub record IsNewLog (most : ℕ) (log : Stored) : Type 0 where
+pub record IsNewLog (most : ℕ) (log : StoredCalls) : Type 0 where
   pub empty : log.calls ≡ []
   pub size : IsOfSize most log

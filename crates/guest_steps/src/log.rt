@@ -16,9 +16,9 @@ pub struct Log {
 impl Model for Log {
     ghost use Rattle.std.specs.Prelude.{◌≤◌, ◌-◌, vec_len};
     ghost use Rattle.std.specs.Vec.{vec_capacity};
-    ghost use Rattle.guest_steps.specs.Logs.{Stored};
+    ghost use Rattle.guest_steps.specs.Logs.{StoredCalls};
 
-    ghost Value = { Stored };
+    ghost Value = { StoredCalls };
 
     ghost view = { λ log. record { calls = log.calls.items; room = log.most - vec_len log.calls } };
 

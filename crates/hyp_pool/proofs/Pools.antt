@@ -6,13 +6,13 @@ use Rattle.std.specs.List.Sorted.{IsStrictlyIncreasing}
 use Rattle.page_state.specs.declared.Frame.{Frame}
 use Rattle.page_state.specs.Trees.{Pool, frames_from}
 use Rattle.page_state.specs.Tables.{given}
-use Rattle.hyp_pool.specs.Pools.{Stored, IsPool, lowest_first}
+use Rattle.hyp_pool.specs.Pools.{StoredFrames, IsPool, lowest_first}
 use Rattle.hyp_pool.proofs.Given.{given_length}
 use Rattle.hyp_pool.proofs.Order.{rising_drop, rising_given, rising_frames, length-frames_from, least_first, least_taken}
 use Rattle.hyp_pool.proofs.Views.{lowest_first-append, lowest_first-take, lowest_first-drop, all_kept}
 
 -- a pool of these frames, kept with the highest first
-abbrev pub kept : List Frame → ℕ → Stored
+abbrev pub kept : List Frame → ℕ → StoredFrames
 kept fs room = record { frames = lowest_first fs; room = room }
 
 pub pool_of : (first n : ℕ) → IsPool (record { frames = frames_from first n; room = n })
@@ -50,5 +50,5 @@ all_made first i k n h e =
     let count : k ≡ n = omega arith in
     cc
 
-pub same_pool : (p q : Stored) → p.frames ≡ q.frames → p.room ≡ q.room → p ≡ q
-same_pool p q a b = let wrap : Pool → ℕ → Stored = λ fs n. record { frames = fs; room = n } in ap (λ fs. wrap fs p.room) a ∙ ap (λ n. wrap q.frames n) b
+pub same_pool : (p q : StoredFrames) → p.frames ≡ q.frames → p.room ≡ q.room → p ≡ q
+same_pool p q a b = let wrap : Pool → ℕ → StoredFrames = λ fs n. record { frames = fs; room = n } in ap (λ fs. wrap fs p.room) a ∙ ap (λ n. wrap q.frames n) b

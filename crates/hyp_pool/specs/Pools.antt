@@ -5,12 +5,12 @@ use Rattle.page_state.specs.declared.Frame.{Frame}
 use Rattle.page_state.specs.Trees.{Pool}
 
 -- what contracts see of a pool: its free frames, in increasing order, and for how many frames there is room
-pub record Stored : Type 0 where
+pub record StoredFrames : Type 0 where
   pub frames : Pool
   pub room : ℕ
 
 -- what holds of every pool
-pub record IsPool (p : Stored) : Type 0 where
+pub record IsPool (p : StoredFrames) : Type 0 where
   pub rising : IsStrictlyIncreasing p.frames
   pub covered : length p.frames ≤ p.room
 

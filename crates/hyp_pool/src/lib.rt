@@ -48,9 +48,9 @@ pub struct Pool {
 impl Model for Pool {
     ghost use Rattle.std.specs.Prelude.{◌≤◌};
     ghost use Rattle.std.specs.Vec.{vec_capacity};
-    ghost use Rattle.hyp_pool.specs.Pools.{Stored, IsPool, lowest_first};
+    ghost use Rattle.hyp_pool.specs.Pools.{StoredFrames, IsPool, lowest_first};
 
-    ghost Value = { Stored };
+    ghost Value = { StoredFrames };
 
     ghost view = { λ pool. record { frames = lowest_first pool.frames.items; room = pool.room } };
 

@@ -9,12 +9,12 @@ use Rattle.guest_steps.specs.declared.parts.VmPart.{VmPart}
 use Rattle.guest_steps.specs.declared.parts.SharedPart.{SharedPart}
 use Rattle.guest_steps.specs.declared.parts.GuestPart.{GuestPart}
 use Rattle.guest_steps.specs.declared.parts.CpuState.{CpuState}
-use Rattle.guest_steps.specs.Lent.{Lent, IsLent, IsOne, Suits, SharedSuits, Each, lent, used_in}
+use Rattle.guest_steps.specs.Lent.{Lent, IsLent, IsOneWhere, Suits, SharedSuits, Each, lent, used_in}
 use Rattle.guest_steps.specs.Logs.{IsOfSize}
 use Rattle.guest_steps.specs.MemoryRows.{HasMemoryRows}
 use Rattle.guest_steps.specs.View.{cpu_of}
 use Rattle.hypercalls.specs.declared.parts.Parts.{Parts}
-use Rattle.hypercalls.specs.Stands.{count_of, from_of, to_of, layout_of, HasHistory}
+use Rattle.hypercalls.specs.Stands.{one_where, from_of, to_of, parts_layout, HasHistory}
 use Rattle.hypercalls.proofs.Ranges.{when, Inside, inside_of, range_at, one_range, put_list, lent_one, is_one, is_range, cut, place}
 use Rattle.hypercalls.proofs.Whole.{x as lent_of, reached}
 
@@ -54,22 +54,22 @@ each_range Is xs None h e = tt
 each_range Is xs (Some v) h e = subst (Each Is) (sym (one_range xs v h)) (get_all Is xs v (place xs v h).0 e (place xs v h).2, tt)
 
 module _ {A : Type 0} (p : Parts A) where
-  suits_by : (ss : List (SharedPart A)) → Each (λ s. levels_below s.host.tree.geometry ≡ levels_below p.layout.geometry) ss → Each (λ s. HasMemoryRows p.layout.map s.rows) ss → Each (λ s. IsOfSize p.layout.config.log s.log) ss → Each (SharedSuits (layout_of p)) ss
+  suits_by : (ss : List (SharedPart A)) → Each (λ s. levels_below s.host.tree.geometry ≡ levels_below p.layout.geometry) ss → Each (λ s. HasMemoryRows p.layout.map s.rows) ss → Each (λ s. IsOfSize p.layout.config.log s.log) ss → Each (SharedSuits (parts_layout p)) ss
   suits_by [] d r h = tt
   suits_by (s ∷ ss) d r h = (record { depth = d.0; rows = r.0; log = h.0 }, suits_by ss d.1 r.1 h.1)
 
-  pub shared_suits : Each (SharedSuits (layout_of p)) p.shared.items
+  pub shared_suits : Each (SharedSuits (parts_layout p)) p.shared.items
   shared_suits = suits_by p.shared.items (each_all _ p.shared.items p.depth) (each_all _ p.shared.items p.rows) (each_all _ p.shared.items p.shared_log)
 
-  pub depths : (ss : List (SharedPart A)) → Each (SharedSuits (layout_of p)) ss → Each (λ s. levels_below s.host.tree.geometry ≡ levels_below p.layout.geometry) ss
+  pub depths : (ss : List (SharedPart A)) → Each (SharedSuits (parts_layout p)) ss → Each (λ s. levels_below s.host.tree.geometry ≡ levels_below p.layout.geometry) ss
   depths [] h = tt
   depths (s ∷ ss) h = (h.0.depth, depths ss h.1)
 
-  pub all_rows : (ss : List (SharedPart A)) → Each (SharedSuits (layout_of p)) ss → Each (λ s. HasMemoryRows p.layout.map s.rows) ss
+  pub all_rows : (ss : List (SharedPart A)) → Each (SharedSuits (parts_layout p)) ss → Each (λ s. HasMemoryRows p.layout.map s.rows) ss
   all_rows [] h = tt
   all_rows (s ∷ ss) h = (h.0.rows, all_rows ss h.1)
 
-  pub shared_logs : (ss : List (SharedPart A)) → Each (SharedSuits (layout_of p)) ss → Each (λ s. IsOfSize p.layout.config.log s.log) ss
+  pub shared_logs : (ss : List (SharedPart A)) → Each (SharedSuits (parts_layout p)) ss → Each (λ s. IsOfSize p.layout.config.log s.log) ss
   shared_logs [] h = tt
   shared_logs (s ∷ ss) h = (h.0.log, shared_logs ss h.1)
 
@@ -87,7 +87,7 @@ module _ {A : Type 0} (p : Parts A) where
     pub fits : IsLent (names step) slot x
     fits = record { vms = is_one (uses_vms (names step)) p.vms.items vms_one; shared = is_one (uses_shared (names step) slot) p.shared.items shared_one; guest = is_range p.guests.items slot inner }
 
-    pub suits : Suits (layout_of p) x
+    pub suits : Suits (parts_layout p) x
     suits = record {
       vms = each_when _ (uses_vms (names step)) p.vms.items (each_all _ p.vms.items p.vm_log);
       shared = each_when _ (uses_shared (names step) slot) p.shared.items shared_suits;
@@ -96,7 +96,7 @@ module _ {A : Type 0} (p : Parts A) where
     }
 
     -- the same, by the ranges that code lends
-    pub lent_is : (vs : List VmPart) (ss : List (SharedPart A)) (gs : List GuestPart) (nv ns a b : ℕ) → vs ≡ p.vms.items → ss ≡ p.shared.items → gs ≡ p.guests.items → nv ≡ count_of (uses_vms (names step)) → ns ≡ count_of (uses_shared (names step) slot) → a ≡ from_of slot → b ≡ to_of slot
+    pub lent_is : (vs : List VmPart) (ss : List (SharedPart A)) (gs : List GuestPart) (nv ns a b : ℕ) → vs ≡ p.vms.items → ss ≡ p.shared.items → gs ≡ p.guests.items → nv ≡ one_where (uses_vms (names step)) → ns ≡ one_where (uses_shared (names step) slot) → a ≡ from_of slot → b ≡ to_of slot
         → x ≡ lent (take (nv - 0) vs) (take (ns - 0) ss) (take (b - a) (drop a gs)) k
     lent_is vs ss gs nv ns a b ev es eg cv cs ea eb =
         let v = lent_one (uses_vms (names step)) p.vms.items vs nv vms_one ev cv in

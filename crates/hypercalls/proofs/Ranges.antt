@@ -7,9 +7,9 @@ use Rattle.page_state.specs.declared.reply.Call.{Call}
 use Rattle.reference_model.specs.Laws.{Stores}
 use Rattle.reference_model.specs.Parts.{is_slot}
 use Rattle.reference_model.specs.State.{put_at}
-use Rattle.guest_steps.specs.Lent.{IsOne, Each, one, with_call}
-use Rattle.guest_steps.specs.Logs.{Stored}
-use Rattle.hypercalls.specs.Stands.{at_place, count_of, from_of, to_of}
+use Rattle.guest_steps.specs.Lent.{IsOneWhere, Each, one, with_call}
+use Rattle.guest_steps.specs.Logs.{StoredCalls}
+use Rattle.hypercalls.specs.Stands.{at_place, one_where, from_of, to_of}
 
 -- a list where it is used, and else none
 abbrev pub when : {P : Type 0} → Bool → List P → List P
@@ -17,19 +17,19 @@ when used xs = if used then xs else []
 
 -- a list of one, lent where it is used
 module _ {P : Type 0} where
-  pub lent_one : (used : Bool) (xs zs : List P) (n : ℕ) → length xs ≡ 1 → zs ≡ xs → n ≡ count_of used → take (n - 0) zs ≡ when used xs
+  pub lent_one : (used : Bool) (xs zs : List P) (n : ℕ) → length xs ≡ 1 → zs ≡ xs → n ≡ one_where used → take (n - 0) zs ≡ when used xs
   lent_one true [] zs n h e c = absurd (omega (arith, h))
   lent_one true (x ∷ []) zs n h e c = rw (c, e) refl
   lent_one true (x ∷ (y ∷ xs)) zs n h e c = absurd (omega (arith, h))
   lent_one false xs zs n h e c = rw c refl
 
-  pub is_one : (used : Bool) (xs : List P) → length xs ≡ 1 → IsOne used (when used xs)
+  pub is_one : (used : Bool) (xs : List P) → length xs ≡ 1 → IsOneWhere used (when used xs)
   is_one true [] h = absurd (omega (arith, h))
   is_one true (x ∷ []) h = refl
   is_one true (x ∷ (y ∷ xs)) h = absurd (omega (arith, h))
   is_one false xs h = refl
 
-  pub back_one : (used : Bool) (xs zs ys : List P) (n : ℕ) → length xs ≡ 1 → zs ≡ xs → n ≡ count_of used → length ys ≡ length (when used xs) → ys ++ drop (n - 0) (drop 0 zs) ≡ (if used then ys else xs)
+  pub back_one : (used : Bool) (xs zs ys : List P) (n : ℕ) → length xs ≡ 1 → zs ≡ xs → n ≡ one_where used → length ys ≡ length (when used xs) → ys ++ drop (n - 0) (drop 0 zs) ≡ (if used then ys else xs)
   back_one true [] zs ys n h e c k = absurd (omega (arith, h))
   back_one true (x ∷ []) zs (y ∷ []) n h e c k = rw (c, e) refl
   back_one true (x ∷ []) zs [] n h e c k = absurd (omega (arith, k))
@@ -95,9 +95,9 @@ module _ {P : Type 0} (xs : List P) where
   pub one_range : (v : ℕ) (h : v < length xs) → range_at (Some v) ≡ (place xs v h).0 ∷ []
   one_range v h = rw (one_past v, (place xs v h).1) refl
 
-  pub is_range : (slot : Option ℕ) → Inside slot (length xs) → IsOne (is_some slot) (range_at slot)
+  pub is_range : (slot : Option ℕ) → Inside slot (length xs) → IsOneWhere (is_some slot) (range_at slot)
   is_range None h = refl
-  is_range (Some v) h = subst (IsOne true) (sym (one_range v h)) refl
+  is_range (Some v) h = subst (IsOneWhere true) (sym (one_range v h)) refl
 
   pub put_length : (slot : Option ℕ) (ys : List P) → length (put_list xs slot ys) ≡ length xs
   put_length None ys = refl
@@ -130,7 +130,7 @@ module _ {P : Type 0} (xs : List P) where
   came_back zs ys slot a b same from to h n = (let e : take a zs ++ (ys ++ drop (b - a) (drop a zs)) ≡ take (from_of slot) xs ++ (ys ++ drop (to_of slot - from_of slot) (drop (from_of slot) xs)) = cc in e) ∙ put_range slot ys h n
 
 -- what stands at each place of a list, and its calls
-module _ {P X : Type 0} (blank : X) (f : P → X) (log : P → Stored) where
+module _ {P X : Type 0} (blank : X) (f : P → X) (log : P → StoredCalls) where
   abbrev pub all_of : List P → X × List Call
   all_of xs = (one blank f xs, one [] (λ p. (log p).calls) xs)
 
@@ -143,7 +143,7 @@ module _ {P X : Type 0} (blank : X) (f : P → X) (log : P → Stored) where
   calls_with : (c : Call) (xs ys : List P) → map log ys ≡ map (with_call c) (map log xs) → length xs ≡ 1 → one [] (λ p. (log p).calls) ys ≡ one [] (λ p. (log p).calls) xs ++ c ∷ []
   calls_with c [] ys e h = absurd (omega (arith, h))
   calls_with c (x ∷ xs) [] e h = absurd (let n = ap length e in cc)
-  calls_with c (x ∷ xs) (y ∷ ys) e h = ap (one [] (λ (g : Stored). g.calls)) e
+  calls_with c (x ∷ xs) (y ∷ ys) e h = ap (one [] (λ (g : StoredCalls). g.calls)) e
 
   -- a list of one stores a call where it is used
   pub stores_one : (c : Call) (used : Bool) (xs ys : List P) → length xs ≡ 1 → map log ys ≡ map (with_call c) (map log (when used xs)) → Stores used c (if used then one blank f ys else one blank f xs) (all_of xs) (all_of (if used then ys else xs))
@@ -156,7 +156,7 @@ module _ {P X : Type 0} (blank : X) (f : P → X) (log : P → Stored) where
   stores_at c xs [] (Some u) h e v = absurd (let n = ap length (e ∙ ap (λ l. map (with_call c) (map log l)) (one_range xs u h)) in cc)
   stores_at c xs (y ∷ ys) (Some u) h e v =
       let r = place xs u h in
-      let calls : (log y).calls ≡ (log r.0).calls ++ c ∷ [] = ap (one [] (λ (g : Stored). g.calls)) (e ∙ ap (λ l. map (with_call c) (map log l)) (one_range xs u h)) in
+      let calls : (log y).calls ≡ (log r.0).calls ++ c ∷ [] = ap (one [] (λ (g : StoredCalls). g.calls)) (e ∙ ap (λ l. map (with_call c) (map log l)) (one_range xs u h)) in
       by_test (v == u)
       (λ t. let i : v ≡ u = grind (arith, nat_tests) in rw t (
       let now = ap (slice_get (slice_set xs u y)) i ∙ written xs u y h in

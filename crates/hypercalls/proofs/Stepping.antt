@@ -10,8 +10,8 @@ use Rattle.page_state.specs.declared.step.Step.{Step}
 use Rattle.page_state.specs.Layouts.{Layout}
 use Rattle.guest_steps.specs.declared.parts.SharedPart.{SharedPart}
 use Rattle.guest_steps.specs.declared.parts.CpuState.{CpuState}
-use Rattle.guest_steps.specs.Lent.{Each, IsOne, LentLogs, Lent, IsLent, SharedSuits, Suits, lent, with_call, all_with, call_in, one, rooms_in, logs_in, slot_in, used_in}
-use Rattle.guest_steps.specs.Logs.{Stored, IsOfSize}
+use Rattle.guest_steps.specs.Lent.{Each, IsOneWhere, LentLogs, Lent, IsLent, SharedSuits, Suits, lent, with_call, all_with, call_in, one, rooms_in, logs_in, slot_in, used_in}
+use Rattle.guest_steps.specs.Logs.{StoredCalls, IsOfSize}
 use Rattle.guest_steps.specs.View.{depth_of}
 use Rattle.reference_model.specs.declared.changes.Changes.{Changes}
 use Rattle.reference_model.specs.Answers.{AnswerSteps, FullSteps}
@@ -21,7 +21,7 @@ use Rattle.reference_model.specs.Parts.{Names, names, uses_vms, uses_shared}
 use Rattle.reference_model.specs.Step.{is_full, stored as stored_rooms, Answered, StepsOn}
 use Rattle.reference_model.specs.Used.{UsedRooms}
 use Rattle.hypercalls.specs.Carried.{OnlyLent}
-use Rattle.hypercalls.specs.Steps.{any_full, CanWant, IsStepOn}
+use Rattle.hypercalls.specs.Steps.{any_full, CanWantOn, IsStepOn}
 
 or_parts : (a b c d : Bool) → (a || b || c || d) ≡ false → (a ≡ false) × (b ≡ false) × (c ≡ false) × (d ≡ false)
 or_parts true b c d h = cc
@@ -34,28 +34,28 @@ or_parts false false false false h = (refl, refl, refl, refl)
 pub any_parts : (x : LentLogs) → any_full x ≡ false → ((x.cpu.room == 0) ≡ false) × (one false (λ g. g.room == 0) x.vms ≡ false) × (one false (λ g. g.room == 0) x.shared ≡ false) × (one false (λ g. g.room == 0) x.guest ≡ false)
 any_parts x h = or_parts (x.cpu.room == 0) (one false (λ g. g.room == 0) x.vms) (one false (λ g. g.room == 0) x.shared) (one false (λ g. g.room == 0) x.guest) h
 
-abbrev stored_of : List Call → ℕ → Stored
+abbrev stored_of : List Call → ℕ → StoredCalls
 stored_of calls room = record { calls = calls; room = room }
 
 -- a log with a call at its end, by its calls and its room
-pub eq_with : (c : Call) (g h : Stored) → h.calls ≡ g.calls ++ c ∷ [] → h.room + 1 ≡ g.room → h ≡ with_call c g
+pub eq_with : (c : Call) (g h : StoredCalls) → h.calls ≡ g.calls ++ c ∷ [] → h.room + 1 ≡ g.room → h ≡ with_call c g
 eq_with c g h a b =
     let r : h.room ≡ g.room - 1 = omega (arith, b) in
     ap (λ x. stored_of x h.room) a ∙ ap (stored_of (g.calls ++ c ∷ [])) r
 
 -- it keeps its size
-pub size_kept : (c : Call) (most : ℕ) (g h : Stored) → h ≡ with_call c g → (g.room == 0) ≡ false → IsOfSize most g → IsOfSize most h
+pub size_kept : (c : Call) (most : ℕ) (g h : StoredCalls) → h ≡ with_call c g → (g.room == 0) ≡ false → IsOfSize most g → IsOfSize most h
 size_kept c most g h e some size =
     let room : 1 ≤ g.room = grind (arith, nat_tests) in
     let n = length-append g.calls (c ∷ []) in
-    let a = ap (λ (x : Stored). length x.calls) e in
-    let b = ap (λ (x : Stored). x.room) e in
+    let a = ap (λ (x : StoredCalls). length x.calls) e in
+    let b = ap (λ (x : StoredCalls). x.room) e in
     omega (arith, room, n, a, b, size)
 
 head_is : {X : Type 0} (x y : X) → ◌≡◌ {A = List X} (x ∷ []) (y ∷ []) → x ≡ y
 head_is x y e = ap (one x (λ z. z)) e
 
-pub each_kept : {P : Type 0} (log : P → Stored) (c : Call) (most : ℕ) (xs ys : List P) → map log ys ≡ map (with_call c) (map log xs) → length xs ≤ 1 → one false (λ g. g.room == 0) (map log xs) ≡ false → Each (λ p. IsOfSize most (log p)) xs → Each (λ p. IsOfSize most (log p)) ys
+pub each_kept : {P : Type 0} (log : P → StoredCalls) (c : Call) (most : ℕ) (xs ys : List P) → map log ys ≡ map (with_call c) (map log xs) → length xs ≤ 1 → one false (λ g. g.room == 0) (map log xs) ≡ false → Each (λ p. IsOfSize most (log p)) xs → Each (λ p. IsOfSize most (log p)) ys
 each_kept log c most [] [] e few some h = tt
 each_kept log c most [] (y ∷ ys) e few some h = absurd (let n = ap length e in cc)
 each_kept log c most (x ∷ []) [] e few some h = tt
@@ -79,12 +79,12 @@ shared_kept l c (x ∷ []) (y ∷ (z ∷ ys)) e r d few some h = absurd (let n =
 shared_kept l c (x ∷ (w ∷ xs)) ys e r d few some h = absurd (omega (arith, few))
 
 -- the tests of the lent logs are those of the logs that are used
-used_full : (used : Bool) (xs : List Stored) → IsOne used xs → one false (λ g. g.room == 0) xs ≡ (used && (one 0 (λ g. g.room) xs == 0))
+used_full : (used : Bool) (xs : List StoredCalls) → IsOneWhere used xs → one false (λ g. g.room == 0) xs ≡ (used && (one 0 (λ g. g.room) xs == 0))
 used_full used [] h = rw h refl
 used_full used (x ∷ []) h = rw h refl
 used_full used (x ∷ (y ∷ xs)) h = absurd h
 
-map_one : {P : Type 0} (log : P → Stored) (used : Bool) (xs : List P) → IsOne used xs → IsOne used (map log xs)
+map_one : {P : Type 0} (log : P → StoredCalls) (used : Bool) (xs : List P) → IsOneWhere used xs → IsOneWhere used (map log xs)
 map_one log used [] h = h
 map_one log used (x ∷ []) h = h
 map_one log used (x ∷ (y ∷ xs)) h = absurd h
@@ -97,12 +97,12 @@ full_is n slot x h =
     let d = used_full (is_some slot) (map (λ p. p.log) x.guest) (map_one (λ p. p.log) (is_some slot) x.guest h.guest) in
     cc
 
-pub few_of : {P : Type 0} (used : Bool) (xs : List P) → IsOne used xs → length xs ≤ 1
+pub few_of : {P : Type 0} (used : Bool) (xs : List P) → IsOneWhere used xs → length xs ≤ 1
 few_of used [] h = omega arith
 few_of used (x ∷ []) h = omega arith
 few_of used (x ∷ (y ∷ xs)) h = absurd h
 
-one_stored : (c : Call) (xs : List Stored) → one 0 (λ g. g.room) (map (with_call c) xs) ≡ one 0 (λ g. g.room) xs - 1
+one_stored : (c : Call) (xs : List StoredCalls) → one 0 (λ g. g.room) (map (with_call c) xs) ≡ one 0 (λ g. g.room) xs - 1
 one_stored c [] = refl
 one_stored c (x ∷ xs) = refl
 
@@ -112,7 +112,7 @@ unfolding stored_rooms
 rooms_stored c x = let a = one_stored c x.vms in let b = one_stored c x.shared in let d = one_stored c x.guest in cc
 
 -- what is changed of the Shared part is lent
-pub only_lent : {A : Type 0} (n : Names) (slot : Option ℕ) (h : Changes) → OnlyUses n slot h → (ss : List (SharedPart A)) → IsOne (uses_shared n slot) ss → OnlyLent h ss
+pub only_lent : {A : Type 0} (n : Names) (slot : Option ℕ) (h : Changes) → OnlyUses n slot h → (ss : List (SharedPart A)) → IsOneWhere (uses_shared n slot) ss → OnlyLent h ss
 only_lent n slot h only [] one = record { host = only.host one; hyp = only.hyp one; moved = only.moved one }
 only_lent n slot h only (s ∷ []) one = tt
 only_lent n slot h only (s ∷ (t ∷ ss)) one = absurd one
@@ -137,7 +137,7 @@ module _ {A : Type 0} (l : Layout) (id : ℕ) (step : Step) (x : Lent A) (fits :
 
   -- and else the answered call is stored
   pub stored_step : AnswerSteps → (reply : Reply) (m y : Lent A) → any_full (logs_in x) ≡ false → Answered l id (slot_in x step) step true (used_in x) reply (used_in m) → logs_in m ≡ logs_in x → used_in y ≡ used_in m → logs_in y ≡ all_with (call_in x id step reply) (logs_in m)
-      → (reply ≡ Refused NoMemory → CanWant l id (slot_in x step) step x) → IsStepOn l id step x reply y
+      → (reply ≡ Refused NoMemory → CanWantOn l id (slot_in x step) step x) → IsStepOn l id step x reply y
   stored_step steps reply m y h answered kept same logs wants =
       let c = call_in x id step reply in
       let at = steps l c true (used_in x) (rooms_in (logs_in x)) (used_in m) refl (number_is reply) (full_is (names step) (slot_in x step) x fits ∙ h) answered in
@@ -151,7 +151,7 @@ module _ {A : Type 0} (l : Layout) (id : ℕ) (step : Step) (x : Lent A) (fits :
         wants = wants;
       }
 
-pub few_logs : {A : Type 0} (used : Bool) (ss ts : List (SharedPart A)) → IsOne used ss → map (λ p. p.log) ts ≡ map (λ p. p.log) ss → length ts ≤ 1
+pub few_logs : {A : Type 0} (used : Bool) (ss ts : List (SharedPart A)) → IsOneWhere used ss → map (λ p. p.log) ts ≡ map (λ p. p.log) ss → length ts ≤ 1
 few_logs used ss [] h e = omega arith
 few_logs used ss (t ∷ []) h e = omega arith
 few_logs used [] (t ∷ (u ∷ ts)) h e = absurd (let n = ap length e in cc)

@@ -32,13 +32,13 @@ use Rattle.guest_steps.specs.declared.parts.SharedPart.{SharedPart}
 use Rattle.guest_steps.specs.declared.parts.GuestPart.{GuestPart}
 use Rattle.guest_steps.specs.declared.parts.CpuState.{CpuState}
 use Rattle.guest_steps.specs.Lent.{Lent, LentLogs, IsLent, Suits, SharedSuits, Each, lent, used_in, slot_in, logs_in, rooms_in, one, call_in, all_with, with_call}
-use Rattle.guest_steps.specs.Logs.{Stored, IsOfSize}
+use Rattle.guest_steps.specs.Logs.{StoredCalls, IsOfSize}
 use Rattle.guest_steps.specs.View.{shared_of, cpu_of}
 use Rattle.hypercalls.specs.Carried.{IsRoomy}
 use Rattle.hypercalls.specs.declared.parts.Parts.{Parts}
-use Rattle.hypercalls.specs.Stands.{at_place, layout_of, kept_of, state_of, HasHistory}
+use Rattle.hypercalls.specs.Stands.{at_place, parts_layout, kept_of, state_of, HasHistory}
 use Rattle.hypercalls.specs.Steps.{IsStepOn, any_full}
-use Rattle.hypercalls.specs.Whole.{slot_at, call_of, is_full, IsStep}
+use Rattle.hypercalls.specs.Whole.{slot_here, call_of, is_log_full, IsStep}
 use Rattle.hypercalls.proofs.Ranges.{when, Inside, inside_of, range_at, one_range, put_list, put_same, set_same, all_of, each_of, stores_one, stores_at, place}
 use Rattle.hypercalls.proofs.Stepping.{full_is, rooms_stored}
 
@@ -54,12 +54,12 @@ vms_none : (used : Bool) → no_vms ≡ (if used then no_vms else no_vms)
 vms_none true = refl
 vms_none false = refl
 
-room_when : {P : Type 0} (log : P → Stored) (limit : ℕ) (used : Bool) (xs : List P) → length xs ≡ 1 → Each (λ p. IsOfSize limit (log p)) xs → one 0 (λ g. g.room) (map log (when used xs)) ≡ (if used then limit - length (one [] (λ p. (log p).calls) xs) else 0)
+room_when : {P : Type 0} (log : P → StoredCalls) (limit : ℕ) (used : Bool) (xs : List P) → length xs ≡ 1 → Each (λ p. IsOfSize limit (log p)) xs → one 0 (λ g. g.room) (map log (when used xs)) ≡ (if used then limit - length (one [] (λ p. (log p).calls) xs) else 0)
 room_when log limit true [] n h = absurd (omega (arith, n))
 room_when log limit true (x ∷ xs) n h = let e : length (log x).calls + (log x).room ≡ limit = h.0 in omega (arith, e)
 room_when log limit false xs n h = refl
 
-room_range : {P : Type 0} (log : P → Stored) (limit : ℕ) (xs : List P) (slot : Option ℕ) → Inside slot (length xs) → Each (λ p. IsOfSize limit (log p)) (range_at xs slot) → one 0 (λ g. g.room) (map log (range_at xs slot)) ≡ room_at (λ v. limit - length (at_place [] (λ p. (log p).calls) (slice_get xs v))) slot
+room_range : {P : Type 0} (log : P → StoredCalls) (limit : ℕ) (xs : List P) (slot : Option ℕ) → Inside slot (length xs) → Each (λ p. IsOfSize limit (log p)) (range_at xs slot) → one 0 (λ g. g.room) (map log (range_at xs slot)) ≡ room_at (λ v. limit - length (at_place [] (λ p. (log p).calls) (slice_get xs v))) slot
 room_range log limit xs None h e = refl
 room_range log limit xs (Some v) h e =
     let r = place xs v h in
@@ -105,11 +105,11 @@ const_list b [] = refl
 const_list b (x ∷ xs) = refl
 
 -- a part that no call fills yet
-const_one : {P X : Type 0} (c : Call) (used : Bool) (log : P → Stored) (b : X) (xs ys : List P) → Stores used c (if used then one b (λ w. b) ys else one b (λ w. b) xs) (all_of b (λ w. b) log xs) (all_of b (λ w. b) log (if used then ys else xs)) → Stores used c (if used then b else b) (b, one [] (λ p. (log p).calls) xs) (b, one [] (λ p. (log p).calls) (if used then ys else xs))
+const_one : {P X : Type 0} (c : Call) (used : Bool) (log : P → StoredCalls) (b : X) (xs ys : List P) → Stores used c (if used then one b (λ w. b) ys else one b (λ w. b) xs) (all_of b (λ w. b) log xs) (all_of b (λ w. b) log (if used then ys else xs)) → Stores used c (if used then b else b) (b, one [] (λ p. (log p).calls) xs) (b, one [] (λ p. (log p).calls) (if used then ys else xs))
 const_one c true log b xs ys h = ap (λ z. (b, z)) (ap (λ q. q.1) h)
 const_one c false log b xs ys h = refl
 
-const_at : {P X : Type 0} (c : Call) (log : P → Stored) (b : X) (xs ys : List P) (slot : Option ℕ) (v : ℕ) → Stores (is_slot slot v) c (if is_slot slot v then one b (λ w. b) ys else at_place b (λ w. b) (slice_get xs v)) (each_of b (λ w. b) log xs v) (each_of b (λ w. b) log (put_list xs slot ys) v)
+const_at : {P X : Type 0} (c : Call) (log : P → StoredCalls) (b : X) (xs ys : List P) (slot : Option ℕ) (v : ℕ) → Stores (is_slot slot v) c (if is_slot slot v then one b (λ w. b) ys else at_place b (λ w. b) (slice_get xs v)) (each_of b (λ w. b) log xs v) (each_of b (λ w. b) log (put_list xs slot ys) v)
     → Stores (is_slot slot v) c b (b, at_place [] (λ p. (log p).calls) (slice_get xs v)) (b, at_place [] (λ p. (log p).calls) (slice_get (put_list xs slot ys) v))
 const_at c log b xs ys slot v h = go (is_slot slot v) h
   where
@@ -126,13 +126,13 @@ module _ {A : Type 0} (p : Parts A) (cpu : ℕ) (step : Step) (k : CpuState) (at
   slot = guest_slot (cpu_of k) step
 
   abbrev l : Layout
-  l = layout_of p
+  l = parts_layout p
 
   -- what is lent
   abbrev pub x : Lent A
   x = lent (when (uses_vms n) p.vms.items) (when (uses_shared n slot) p.shared.items) (range_at p.guests.items slot) k
 
-  slot_is : slot_at p cpu step ≡ slot
+  slot_is : slot_here p cpu step ≡ slot
   slot_is = ap (λ o. guest_slot (at_place no_cpu cpu_of o) step) at
 
   call_is : (reply : Reply) → call_of p cpu step reply ≡ call_in x cpu step reply
@@ -174,7 +174,7 @@ module _ {A : Type 0} (p : Parts A) (cpu : ℕ) (step : Step) (k : CpuState) (at
         (room_range (λ g. g.log) l.config.log p.guests.items slot inner suits.guest)
         (own ∙ sym (ap (λ o. l.config.log - length (at_place [] (λ (j : CpuState). j.log.calls) o)) at))
 
-    full_same : is_full p cpu step ≡ any_full (logs_in x)
+    full_same : is_log_full p cpu step ≡ any_full (logs_in x)
     full_same = ap (λ o. has_full_log n o (rooms_of n o cpu (state_of p).rooms)) slot_is ∙ ap (has_full_log n slot) (sym rooms_is) ∙ full_is n slot x fits
 
     -- what came back
@@ -304,4 +304,4 @@ pub slot_below : {A : Type 0} (p : Parts A) (cpu : ℕ) (step : Step) (k : CpuSt
 slot_below p cpu step k at known past v e = ∥∥₁_elim past le_prop (λ h.
     let s = h.history.end.contents in
     let own : s.cpu cpu ≡ cpu_of k = sym (ap (λ q. q.0) (h.history.cpu cpu known)) ∙ ap (at_place no_cpu cpu_of) at in
-    slot-low (layout_of p) s (run_legal (layout_of p) h.log h.history.end h.ready h.history.run) cpu v step (ap (λ (o : Cpu). guest_slot o step) own ∙ e))
+    slot-low (parts_layout p) s (run_legal (parts_layout p) h.log h.history.end h.ready h.history.run) cpu v step (ap (λ (o : Cpu). guest_slot o step) own ∙ e))

@@ -14,9 +14,9 @@ use Rattle.guest_steps.specs.View.{shared_of, cpu_of}
 use Rattle.hypercalls.specs.declared.parts.Parts.{Parts}
 
 -- a list's length where its one part is used
-abbrev pub count_of : Bool → ℕ
-count_of true = 1
-count_of false = 0
+abbrev pub one_where : Bool → ℕ
+one_where true = 1
+one_where false = 0
 
 -- the range of a slot in the list of all guests, or an empty one
 abbrev pub from_of : Option ℕ → ℕ
@@ -34,8 +34,8 @@ at_place blank f (Some p) = f p
 
 module _ {A : Type 0} (p : Parts A) where
   -- the reference layout
-  abbrev pub layout_of : Layout
-  layout_of = layout_told p.layout
+  abbrev pub parts_layout : Layout
+  parts_layout = layout_told p.layout
 
   -- what the parts have: their contents and their logs. No call fills the VM part or a guest yet
   abbrev pub kept_of : Kept
@@ -48,10 +48,10 @@ module _ {A : Type 0} (p : Parts A) where
 
   -- the state: a log's room is what its calls leave
   abbrev pub state_of : Reference
-  state_of = held_state layout_of kept_of
+  state_of = held_state parts_layout kept_of
 
   -- one legal history: the parts stand at the end of a run of the reference step from the boot state, and its calls are those of their logs
   pub record HasHistory : Type 0 where
-    pub ready : CanBoot layout_of
+    pub ready : CanBoot parts_layout
     pub log : List Call
-    pub history : IsHistory layout_of kept_of log
+    pub history : IsHistory parts_layout kept_of log

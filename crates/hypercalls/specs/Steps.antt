@@ -17,8 +17,8 @@ abbrev pub any_full : LentLogs → Bool
 any_full g = g.cpu.room == 0 || one false (λ s. s.room == 0) g.vms || one false (λ s. s.room == 0) g.shared || one false (λ s. s.room == 0) g.guest
 
 -- memory can be wanted: what is decided can need a growth
-abbrev pub CanWant : {A : Type 0} → Layout → ℕ → Option ℕ → Step → Lent A → Type 0
-CanWant l id slot step x = (h : Changes) → decides l id slot step (used_in x) ≡ Ok h → Each (IsRoomy l.depth h) x.shared → ⊥
+abbrev pub CanWantOn : {A : Type 0} → Layout → ℕ → Option ℕ → Step → Lent A → Type 0
+CanWantOn l id slot step x = (h : Changes) → decides l id slot step (used_in x) ≡ Ok h → Each (IsRoomy l.depth h) x.shared → ⊥
 
 -- the step of a CPU on what is lent: it is the reference step there, and the call is stored in each log where none is full, and else nothing changes. Memory is wanted only where it can be
 pub record IsStepOn {A : Type 0} (l : Layout) (id : ℕ) (step : Step) (x : Lent A) (reply : Reply) (y : Lent A) : Type 0 where
@@ -26,4 +26,4 @@ pub record IsStepOn {A : Type 0} (l : Layout) (id : ℕ) (step : Step) (x : Lent
   pub logs : logs_in y ≡ (if any_full (logs_in x) then logs_in x else all_with (call_in x id step reply) (logs_in x))
   pub full : any_full (logs_in x) ≡ true → y ≡ x
   pub stored : any_full (logs_in x) ≡ false → IsStored reply
-  pub wants : reply ≡ Refused NoMemory → CanWant l id (slot_in x step) step x
+  pub wants : reply ≡ Refused NoMemory → CanWantOn l id (slot_in x step) step x

@@ -15,30 +15,30 @@ use Rattle.reference_model.specs.Used.{used_of, rooms_of}
 use Rattle.guest_steps.specs.Lent.{Each}
 use Rattle.hypercalls.specs.Carried.{IsRoomy}
 use Rattle.hypercalls.specs.declared.parts.Parts.{Parts}
-use Rattle.hypercalls.specs.Stands.{layout_of, kept_of, state_of}
+use Rattle.hypercalls.specs.Stands.{parts_layout, kept_of, state_of}
 
 module _ {A : Type 0} (p : Parts A) (cpu : ℕ) (step : Step) where
   -- the slot of the Guest part that a step of a CPU uses
-  abbrev pub slot_at : Option ℕ
-  slot_at = guest_slot ((kept_of p).cpu cpu).0 step
+  abbrev pub slot_here : Option ℕ
+  slot_here = guest_slot ((kept_of p).cpu cpu).0 step
 
   -- the call of a step: its number is one more than its CPU's log holds
   abbrev pub call_of : Reply → Call
-  call_of reply = record { cpu = cpu; number = length ((kept_of p).cpu cpu).1 + 1; step = step; reply = reply; slot = slot_at }
+  call_of reply = record { cpu = cpu; number = length ((kept_of p).cpu cpu).1 + 1; step = step; reply = reply; slot = slot_here }
 
   -- a log that would store the call of a step is full
-  abbrev pub is_full : Bool
-  is_full = has_full_log (names step) slot_at (rooms_of (names step) slot_at cpu (state_of p).rooms)
+  abbrev pub is_log_full : Bool
+  is_log_full = has_full_log (names step) slot_here (rooms_of (names step) slot_here cpu (state_of p).rooms)
 
   -- memory can be wanted: what is decided can need a growth
   abbrev pub CanWant : Type 0
-  CanWant = (h : Changes) → decides (layout_of p) cpu slot_at step (used_of (names step) slot_at cpu (state_of p).contents) ≡ Ok h → Each (IsRoomy (layout_of p).depth h) p.shared.items → ⊥
+  CanWant = (h : Changes) → decides (parts_layout p) cpu slot_here step (used_of (names step) slot_here cpu (state_of p).contents) ≡ Ok h → Each (IsRoomy (parts_layout p).depth h) p.shared.items → ⊥
 
   -- the parts after a step, and its reply: those after the reference step. Where a log is full nothing changes, and else the call is stored in the logs of the parts that it uses and of its CPU. Memory is wanted only where it can be
   pub record IsStep (reply : Reply) (q : Parts A) : Type 0 where
-    pub layout : layout_of q ≡ layout_of p
-    pub steps : Steps (layout_of p) (state_of p) (call_of reply) (state_of q)
-    pub full : is_full ≡ true → kept_of q ≡ kept_of p
-    pub stored : is_full ≡ false → IsStored reply
-    pub stores : is_full ≡ false → StoresCall (call_of reply) (state_of q).contents (kept_of p) (kept_of q)
+    pub layout : parts_layout q ≡ parts_layout p
+    pub steps : Steps (parts_layout p) (state_of p) (call_of reply) (state_of q)
+    pub full : is_log_full ≡ true → kept_of q ≡ kept_of p
+    pub stored : is_log_full ≡ false → IsStored reply
+    pub stores : is_log_full ≡ false → StoresCall (call_of reply) (state_of q).contents (kept_of p) (kept_of q)
     pub wants : reply ≡ Refused NoMemory → CanWant

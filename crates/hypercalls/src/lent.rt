@@ -3,7 +3,7 @@ ghost use Rattle.std.specs.Prelude.{◌≡◌, ◌<◌, ◌≤◌, ◌==◌, tru
 ghost use Rattle.guest_steps.specs.Lent.{Each, IsLent, SharedSuits, Suits, all_with, lent, logs_in, one, slot_in, used_in, with_call};
 ghost use Rattle.guest_steps.specs.View.{cpu_of, depth_of, shared_of};
 ghost use Rattle.hypercalls.specs.Served.{IsServed};
-ghost use Rattle.hypercalls.specs.Steps.{CanWant, IsStepOn, any_full};
+ghost use Rattle.hypercalls.specs.Steps.{CanWantOn, IsStepOn, any_full};
 ghost use Rattle.page_state.specs.LayoutView.{layout_of};
 ghost use Rattle.page_state.specs.Layouts.{Layout as ReferenceLayout};
 ghost use Rattle.reference_model.specs.Parts.{guest_slot as guest_slot_of, names, slot_of as slot_of_vm, stage_eq, ticket_slot as ticket_slot_of};
@@ -205,7 +205,7 @@ fn answer<A: Allocator + Copy>(
     requires suits { Each (SharedSuits (layout_of layout.now)) shared.old }
     requires rely { CanRely (layout_of layout.now) id slot step (used_in (lent vms.now shared.old guest.now cpu.old)) }
     ensures answered { Answered (layout_of layout.now) id slot step true (used_in (lent vms.now shared.old guest.now cpu.old)) result (used_in (lent vms.now shared.new guest.now cpu.new)) }
-    ensures wants { result ≡ Reply.Refused Refusal.NoMemory → CanWant (layout_of layout.now) id slot step (lent vms.now shared.old guest.now cpu.old) }
+    ensures wants { result ≡ Reply.Refused Refusal.NoMemory → CanWantOn (layout_of layout.now) id slot step (lent vms.now shared.old guest.now cpu.old) }
     ensures suits { Each (SharedSuits (layout_of layout.now)) shared.new }
     ensures log { map (λ p. p.log) shared.new ≡ map (λ p. p.log) shared.old }
     ensures own_log { cpu.new.log ≡ cpu.old.log }

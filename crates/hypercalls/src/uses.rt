@@ -1,6 +1,6 @@
 //! Which parts a step uses.
 ghost use Rattle.std.specs.Prelude.{◌≡◌, ◌<◌, ◌≤◌, Some};
-ghost use Rattle.hypercalls.specs.Stands.{count_of as count_where, from_of, to_of};
+ghost use Rattle.hypercalls.specs.Stands.{one_where as count_where, from_of, to_of};
 ghost use Rattle.reference_model.specs.Parts.{names, uses_shared as uses_shared_part, uses_vms as uses_vm_part};
 
 use page_state::Step;

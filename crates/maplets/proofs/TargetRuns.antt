@@ -7,10 +7,10 @@ use Rattle.page_state.specs.declared.entry.Entry.{Entry}
 use Rattle.page_state.specs.Entries.{advance, advance_target, entry_of, entry_of_target}
 use Rattle.page_state.specs.Map.{is_within, update}
 use Rattle.page_state.specs.Regions.{is_in_range}
-use Rattle.page_state.specs.Runs.{map_of, end_of, entry_on, PrecedesFirst, IsCoarsest}
+use Rattle.page_state.specs.Runs.{map_of, run_end, entry_on, PrecedesFirst, IsCoarsest}
 use Rattle.page_state.proofs.Entries.{entry_advanced, target-same}
 use Rattle.run_list.specs.declared.run.Run.{Run as ListRun}
-use Rattle.run_list.specs.Runs.{run_map, updated, option_advance, value_on, PrecedesFirst as ListPrecedesFirst, IsCoarsest as IsCoarsestList}
+use Rattle.run_list.specs.Runs.{run_map, map_updated, option_advance, value_on, PrecedesFirst as ListPrecedesFirst, IsCoarsest as IsCoarsestList}
 use Rattle.maplets.specs.View.{target_run, target_runs}
 
 if_both : (b : Bool) (o q : Option Target) (e m : Entry) → entry_of o ≡ e → entry_of q ≡ m → entry_of (if b then o else q) ≡ (if b then e else m)
@@ -25,7 +25,7 @@ advance_targets : (o : Option Target) (n : ℕ) → entry_of (option_advance adv
 advance_targets None n = refl
 advance_targets (Some t) n = entry_advanced t n
 
-pub update_targets : (old new : List (ListRun Target)) (first count : ℕ) (o : Option Target) → run_map advance_target new ≡ updated advance_target (run_map advance_target old) first count o → map_of (target_runs new) ≡ update (map_of (target_runs old)) first count (entry_of o)
+pub update_targets : (old new : List (ListRun Target)) (first count : ℕ) (o : Option Target) → run_map advance_target new ≡ map_updated advance_target (run_map advance_target old) first count o → map_of (target_runs new) ≡ update (map_of (target_runs old)) first count (entry_of o)
 update_targets old new first count o e =
     fun_ext (λ p.
     sym (map_targets new p) ∙ ap (λ m. entry_of (m p)) e
@@ -36,7 +36,7 @@ first_targets r [] h = tt
 first_targets r (n ∷ rs) h = record {
   before = h.before;
   apart = λ e f.
-      let k : end_of (target_run r) - r.pages.first.0 ≡ r.pages.count = omega arith in
+      let k : run_end (target_run r) - r.pages.first.0 ≡ r.pages.count = omega arith in
       let g : entry_of_target (advance_target r.value r.pages.count) ≡ entry_of_target n.value = entry_advanced r.value r.pages.count ∙ ap (advance (entry_of_target r.value)) (sym k) ∙ f in
       h.apart e (target-same (advance_target r.value r.pages.count) n.value g);
 }

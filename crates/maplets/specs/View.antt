@@ -5,7 +5,7 @@ use Rattle.page_state.specs.declared.entry.Target.{Target}
 use Rattle.run_list.specs.declared.run.Run.{Run as ListRun}
 
 -- the coarsest list of runs, and for how many more runs there is room
-pub record KeptRuns : Type 0 where
+pub record KeptMaplets : Type 0 where
   pub runs : List Run
   pub room : ℕ
 

@@ -24,9 +24,9 @@ pub struct Maplets {
 
 impl Model for Maplets {
     ghost use Rattle.page_state.specs.Runs.{IsCoarsest};
-    ghost use Rattle.maplets.specs.View.{KeptRuns, target_runs};
+    ghost use Rattle.maplets.specs.View.{KeptMaplets, target_runs};
 
-    ghost Value = { KeptRuns };
+    ghost Value = { KeptMaplets };
 
     ghost view = { λ m. record { runs = target_runs m.list.runs; room = m.list.room } };
 

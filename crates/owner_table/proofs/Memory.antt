@@ -6,7 +6,7 @@ use Rattle.page_state.specs.declared.entry.PageRange.{PageRange}
 use Rattle.page_state.specs.declared.layout.Region.{Region}
 use Rattle.page_state.specs.declared.row.Row.{Row}
 use Rattle.page_state.specs.LayoutFaults.{AreDisjoint, IsAccepted}
-use Rattle.page_state.specs.Regions.{Memory, find_region, is_in_range, is_memory, is_memory_kind, is_memory_region}
+use Rattle.page_state.specs.Regions.{Memory, find_region, is_in_range, has_memory, is_memory_kind, is_memory_region}
 use Rattle.page_state.specs.Rows.{plain_row}
 use Rattle.page_state.proofs.Common.{not-holds}
 use Rattle.owner_table.specs.Filling.{filled, filled_all}
@@ -66,5 +66,5 @@ memory-any (r ∷ rs) pairs f =
     (apart-none r.pages rs (λ k d l. pairs 0 (suc k) d (omega arith) (omega arith)) f)
     (memory-any rs (λ i j d below l. pairs (suc i) (suc j) d (omega arith) (omega arith)) f)
 
-pub filled-memory : (m : Memory) → IsAccepted m → (f : ℕ) → filled_all m.regions (λ _. None) f ≡ (if is_memory m f then Some plain_row else None)
+pub filled-memory : (m : Memory) → IsAccepted m → (f : ℕ) → filled_all m.regions (λ _. None) f ≡ (if has_memory m f then Some plain_row else None)
 filled-memory m a f = filled_all-at m.regions (λ _. None) f ∙ ap (λ b. if b then Some plain_row else None) (sym (memory-any m.regions a.disjoint f))

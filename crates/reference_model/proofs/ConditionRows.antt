@@ -3,7 +3,7 @@ use Rattle.std.proofs.Common.{◌≡◌, ℕ, ◌+◌, refl, ap, arith, inl, inr
 use Rattle.std.specs.Prelude.{◌⊎◌}
 use Rattle.page_state.specs.declared.entry.Entry.{Entry}
 use Rattle.page_state.specs.declared.entry.Entry.TheVariants.{Annotated}
-use Rattle.page_state.specs.EntryTests.{frame_of, annotation}
+use Rattle.page_state.specs.EntryTests.{entry_frame, annotation}
 use Rattle.reference_model.specs.ConditionRows.{HostAloneRow, HostSharedRow, HypRow, GuestRow, RowsOfEach, KeepersRow, MovesRow}
 
 -- an entry that is neither of two
@@ -12,8 +12,8 @@ neither p q (inl h) = p h
 neither p q (inr h) = q h
 
 -- entries of other frames, and annotations of other numbers
-other-frame : {e d : Entry} → e ≡ d → (frame_of e ≡ frame_of d → ⊥) → ⊥
-other-frame h n = n (ap frame_of h)
+other-frame : {e d : Entry} → e ≡ d → (entry_frame e ≡ entry_frame d → ⊥) → ⊥
+other-frame h n = n (ap entry_frame h)
 
 abbrev number_of : Entry → ℕ
 number_of (Annotated owner) = owner.0

@@ -4,7 +4,7 @@ use Rattle.page_state.specs.declared.entry.PageRange.{PageRange}
 use Rattle.page_state.specs.declared.reply.Call.{Call}
 use Rattle.reference_model.specs.Boot.{CanBoot}
 use Rattle.reference_model.specs.Conditions.{Legal}
-use Rattle.reference_model.specs.GuestRules.{table_count}
+use Rattle.reference_model.specs.GuestRules.{guest_table_count}
 use Rattle.page_state.specs.Layouts.{Layout}
 use Rattle.reference_model.specs.Run.{IsRun}
 use Rattle.reference_model.specs.State.{Reference}
@@ -15,7 +15,7 @@ pub record Bounded (l : Layout) (s : Reference) : Type 0 where
   pub hands : (c : ℕ) (r : PageRange) → (s.contents.cpu c).hand ≡ Some r → r.count ≤ 512
   pub generations : (v : ℕ) → (s.contents.vms.slot v).generation + s.rooms.vms ≤ l.config.log + 1
   pub vcpus : (v : ℕ) → (s.contents.vms.slot v).vcpus ≤ 8
-  pub guests : (v : ℕ) → table_count l (s.contents.guest v).tree + length (s.contents.guest v).free ≤ 512
+  pub guests : (v : ℕ) → guest_table_count l (s.contents.guest v).tree + length (s.contents.guest v).free ≤ 512
   pub loads : (v i c : ℕ) → (s.contents.vms.slot v).loaded i ≡ Some c → i < (s.contents.vms.slot v).vcpus
 
 -- a step from a legal state keeps the bounds

@@ -11,7 +11,7 @@ use Rattle.page_state.specs.declared.step.VmId.{VmId}
 use Rattle.page_state.specs.declared.step.VmKind.{VmKind}
 use Rattle.page_state.specs.declared.step.VmKind.TheVariants.{Protected, Plain as PlainVm}
 use Rattle.page_state.specs.declared.reply.Value.TheVariants.{Frame as FrameOf, Entry as EntryOf}
-use Rattle.page_state.specs.EntryTests.{is_mapped, is_unmapped, is_in, is_free_page, leaf, annotation, frame_of, with_state, with_rights}
+use Rattle.page_state.specs.EntryTests.{is_mapped, is_unmapped, is_in, is_free_page, leaf, annotation, entry_frame, with_state, with_rights}
 use Rattle.page_state.specs.Geometries.{pages_below}
 use Rattle.page_state.specs.Layouts.{Layout, is_memory, is_good_page}
 use Rattle.reference_model.specs.Owner.{count_blocks}
@@ -73,8 +73,8 @@ least [] = 0
 least (f ∷ fs) = f
 
 -- how many tables a tree has
-abbrev pub table_count : Layout → Tree → ℕ
-table_count l t = count_blocks (l.depth + 1) (l.depth + 1) (λ b. is_some (t.table b))
+abbrev pub guest_table_count : Layout → Tree → ℕ
+guest_table_count l t = count_blocks (l.depth + 1) (l.depth + 1) (λ b. is_some (t.table b))
 
 -- a page of the host and a page of the guest change
 abbrev pub two_pages : ℕ → Entry → ℕ → Entry → Changes
@@ -94,7 +94,7 @@ unshare_guest l x vm g = record fine {
   invalid = nat_le 64 vm.slot || not (is_good_page l g);
   no_vm = not (is_guest live vm x.guest);
   perm = not (is_in SharedBorrowed (guest_entry x g));
-  changes = two_pages (frame_of (guest_entry x g)) (leaf RWX (frame_of (guest_entry x g)) Owned) g Unmapped;
+  changes = two_pages (entry_frame (guest_entry x g)) (leaf RWX (entry_frame (guest_entry x g)) Owned) g Unmapped;
 }
 
 -- the host gives the frame to the guest
@@ -110,7 +110,7 @@ abbrev pub guest_share_host : Layout → Used → ℕ → Rule
 guest_share_host l x g = record fine {
   invalid = not (is_good_page l g);
   perm = not (is_in Owned (guest_entry x g));
-  changes = two_pages (frame_of (guest_entry x g)) (leaf RWX (frame_of (guest_entry x g)) SharedBorrowed) g (with_state SharedOwned (guest_entry x g));
+  changes = two_pages (entry_frame (guest_entry x g)) (leaf RWX (entry_frame (guest_entry x g)) SharedBorrowed) g (with_state SharedOwned (guest_entry x g));
 }
 
 -- the guest takes back a page that it shared
@@ -118,7 +118,7 @@ abbrev pub guest_unshare_host : Layout → Option ℕ → Used → ℕ → Rule
 guest_unshare_host l slot x g = record fine {
   invalid = not (is_good_page l g);
   perm = not (is_in SharedOwned (guest_entry x g));
-  changes = two_pages (frame_of (guest_entry x g)) (annotation (guest_owner slot)) g (with_state Owned (guest_entry x g));
+  changes = two_pages (entry_frame (guest_entry x g)) (annotation (guest_owner slot)) g (with_state Owned (guest_entry x g));
 }
 
 -- the guest becomes Live, with the hand as its root and pool
@@ -137,7 +137,7 @@ abbrev pub topup : Layout → Used → VmId → Rule
 topup l x vm = record fine {
   invalid = nat_le 64 vm.slot;
   no_vm = not (is_guest live vm x.guest);
-  perm = is_none x.cpu.hand || nat_lt 512 (table_count l x.guest.tree + length x.guest.free + (hand_of x.cpu).count);
+  perm = is_none x.cpu.hand || nat_lt 512 (guest_table_count l x.guest.tree + length x.guest.free + (hand_of x.cpu).count);
   changes = record no_changes { part = Gain (hand_of x.cpu); cpu = hand_becomes None; moved = x.cpu.hand };
 }
 
@@ -147,7 +147,7 @@ reclaim_page l x vm g = record fine {
   invalid = nat_le 64 vm.slot || not (is_good_page l g);
   no_vm = not (is_guest dying vm x.guest);
   perm = is_unmapped (guest_entry x g);
-  changes = two_pages (frame_of (guest_entry x g)) (if is_in Owned (guest_entry x g) then Unmapped else leaf RWX (frame_of (guest_entry x g)) Owned) g Unmapped;
+  changes = two_pages (entry_frame (guest_entry x g)) (if is_in Owned (guest_entry x g) then Unmapped else leaf RWX (entry_frame (guest_entry x g)) Owned) g Unmapped;
 }
 
 -- the host gets a frame of a Dying guest's pool back

@@ -16,17 +16,17 @@ use Rattle.reference_model.specs.State.{Contents, Reference, live}
 use Rattle.reference_model.specs.Step.{Steps}
 
 -- the guest's entry of a page
-abbrev pub entry_at : Contents → ℕ → ℕ → Entry
-entry_at s v g = (s.guest v).tree.map g
+abbrev pub guest_entry_at : Contents → ℕ → ℕ → Entry
+guest_entry_at s v g = (s.guest v).tree.map g
 
 -- the guest itself shares the page with the host, or takes it back, on a CPU that has a vCPU of it loaded: the entry's state alone changes
 pub record SharesBack (s t : Contents) (cpu : ℕ) (step : Step) (v g : ℕ) : Type 0 where
   pub loaded : (i : ℕ) × HasLoaded s v i cpu
-  pub made : ((step ≡ GuestShareHost g) × (entry_at t v g ≡ with_state SharedOwned (entry_at s v g))) ⊎ ((step ≡ GuestUnshareHost g) × (entry_at t v g ≡ with_state Owned (entry_at s v g)))
+  pub made : ((step ≡ GuestShareHost g) × (guest_entry_at t v g ≡ with_state SharedOwned (guest_entry_at s v g))) ⊎ ((step ≡ GuestUnshareHost g) × (guest_entry_at t v g ≡ with_state Owned (guest_entry_at s v g)))
 
 -- a guest's own page stays, or the guest itself shares it or takes it back
 abbrev pub PageStays : Contents → Contents → ℕ → Step → ℕ → ℕ → Type 0
-PageStays s t cpu step v g = (entry_at t v g ≡ entry_at s v g) ⊎ SharesBack s t cpu step v g
+PageStays s t cpu step v g = (guest_entry_at t v g ≡ guest_entry_at s v g) ⊎ SharesBack s t cpu step v g
 
 -- a frame of a guest stays its own, and the guest's page of it stays
 pub record FrameStays (l : Layout) (s t : Contents) (c : Call) (v f : ℕ) : Type 0 where

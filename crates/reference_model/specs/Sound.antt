@@ -20,10 +20,10 @@ abbrev pub IsOne : {X : Type 0} → (X → Type 0) → Type 0
 IsOne {X} P = (x : X) × P x × ((y : X) → P y → y ≡ x)
 
 -- the tree of a component, by its number as an owner
-abbrev pub tree_of : Contents → ℕ → Tree
-tree_of s zero = s.shared.host
-tree_of s (suc zero) = s.shared.hyp
-tree_of s (suc (suc v)) = (s.guest v).tree
+abbrev pub tree_at : Contents → ℕ → Tree
+tree_at s zero = s.shared.host
+tree_at s (suc zero) = s.shared.hyp
+tree_at s (suc (suc v)) = (s.guest v).tree
 
 -- an entry is a leaf of the frame in the state
 abbrev pub IsLeafOf : ℕ → State → Entry → Type 0
@@ -32,7 +32,7 @@ IsLeafOf f state other = ⊥
 
 -- a component maps the frame at the page, in the state
 abbrev pub Maps : Contents → ℕ → ℕ → ℕ → State → Type 0
-Maps s component page f state = IsLeafOf f state ((tree_of s component).map page)
+Maps s component page f state = IsLeafOf f state ((tree_at s component).map page)
 
 -- a component has an entry of the frame that its owner alone has
 abbrev pub Holds : Contents → ℕ → ℕ → ℕ → Type 0
@@ -76,7 +76,7 @@ pub data Place : Type 0 where
 abbrev pub IsHeld : Contents → ℕ → Place → Type 0
 IsHeld s f shared_pool = Contains s.shared.free f
 IsHeld s f (vm_pool v) = Contains (s.guest v).free f
-IsHeld s f (table_of component b) = (tree_of s component).table b ≡ Some f
+IsHeld s f (table_of component b) = (tree_at s component).table b ≡ Some f
 IsHeld s f (hand c) = IsTrue (is_in_hand (s.cpu c).hand f)
 
 -- held once: a frame whose use isn't Plain is the hypervisor's, and is held in exactly one place

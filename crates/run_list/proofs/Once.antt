@@ -3,7 +3,7 @@ use Rattle.std.proofs.Common.{◌≡◌, ℕ, ◌-◌, ◌<◌, ◌≤◌, Bool,
 use Rattle.page_state.proofs.Cases.{by_lt}
 use Rattle.run_list.specs.declared.run.Run.{Run}
 use Rattle.run_list.specs.Advance.{AdvanceLaws}
-use Rattle.run_list.specs.Runs.{end_of, PrecedesFirst, IsCoarsest, run_map}
+use Rattle.run_list.specs.Runs.{run_end, PrecedesFirst, IsCoarsest, run_map}
 use Rattle.run_list.proofs.Maps.{run_in, run_high, none_low, starts_behind}
 
 none-some : {V : Type 0} (v : V) (o : Option V) → o ≡ None → o ≡ Some v → ⊥
@@ -28,14 +28,14 @@ module _ {V : Type 0} (advance : V → ℕ → V) (can : V → ℕ → Type 0) (
       run_in advance r rs r.pages.first.0 (omega arith) (omega arith) ∙ ap Some (ap (advance r.value) k ∙ laws.none r.value)
 
   -- behind a run of a coarsest list the map doesn't go on as the run would
-  stops : (r : Run V) (rs : List (Run V)) → PrecedesFirst advance r rs → IsCoarsest advance rs → run_map advance rs (end_of r) ≡ Some (advance r.value r.pages.count) → ⊥
+  stops : (r : Run V) (rs : List (Run V)) → PrecedesFirst advance r rs → IsCoarsest advance rs → run_map advance rs (run_end r) ≡ Some (advance r.value r.pages.count) → ⊥
   stops r [] p c h = none-some (advance r.value r.pages.count) None refl h
   stops r (n ∷ rs) p c h =
-      by_lt (end_of r) n.pages.first.0
-      (λ l. none-some (advance r.value r.pages.count) (run_map advance (n ∷ rs) (end_of r)) (none_low advance n.pages.first.0 (end_of r) (n ∷ rs) c (omega arith) l) h)
+      by_lt (run_end r) n.pages.first.0
+      (λ l. none-some (advance r.value r.pages.count) (run_map advance (n ∷ rs) (run_end r)) (none_low advance n.pages.first.0 (run_end r) (n ∷ rs) c (omega arith) l) h)
       (λ g.
-      let e : end_of r ≡ n.pages.first.0 = omega (arith, p.before) in
-      let here : run_map advance (n ∷ rs) (end_of r) ≡ Some n.value = ap (run_map advance (n ∷ rs)) e ∙ first-value n rs c.0 in
+      let e : run_end r ≡ n.pages.first.0 = omega (arith, p.before) in
+      let here : run_map advance (n ∷ rs) (run_end r) ≡ Some n.value = ap (run_map advance (n ∷ rs)) e ∙ first-value n rs c.0 in
       p.apart e (some-same (advance r.value r.pages.count) n.value (sym h ∙ here)))
 
   first-below : (r s : Run V) (rs ss : List (Run V)) → IsCoarsest advance (r ∷ rs) → IsCoarsest advance (s ∷ ss) → SameMap (r ∷ rs) (s ∷ ss) → s.pages.first.0 ≤ r.pages.first.0
@@ -48,9 +48,9 @@ module _ {V : Type 0} (advance : V → ℕ → V) (can : V → ℕ → Type 0) (
   count-below r s rs ss a f t m =
       by_lt r.pages.count s.pages.count
       (λ l.
-      let k : end_of r - s.pages.first.0 ≡ r.pages.count = omega arith in
-      let there : run_map advance (s ∷ ss) (end_of r) ≡ Some (advance r.value r.pages.count) = run_in advance s ss (end_of r) (omega arith) (omega arith) ∙ ap Some (ap (advance s.value) k ∙ ap (λ v. advance v r.pages.count) (sym t)) in
-      absurd (stops r rs a.1 a.2 (sym (run_high advance r rs (end_of r) (omega arith)) ∙ m (end_of r) ∙ there)))
+      let k : run_end r - s.pages.first.0 ≡ r.pages.count = omega arith in
+      let there : run_map advance (s ∷ ss) (run_end r) ≡ Some (advance r.value r.pages.count) = run_in advance s ss (run_end r) (omega arith) (omega arith) ∙ ap Some (ap (advance s.value) k ∙ ap (λ v. advance v r.pages.count) (sym t)) in
+      absurd (stops r rs a.1 a.2 (sym (run_high advance r rs (run_end r) (omega arith)) ∙ m (run_end r) ∙ there)))
       (λ g. g)
 
   first-same : (r s : Run V) (rs ss : List (Run V)) → IsCoarsest advance (r ∷ rs) → IsCoarsest advance (s ∷ ss) → SameMap (r ∷ rs) (s ∷ ss) → r ≡ s
@@ -66,9 +66,9 @@ module _ {V : Type 0} (advance : V → ℕ → V) (can : V → ℕ → Type 0) (
 
   rest-same : (r s : Run V) (rs ss : List (Run V)) → IsCoarsest advance (r ∷ rs) → IsCoarsest advance (s ∷ ss) → r ≡ s → SameMap (r ∷ rs) (s ∷ ss) → SameMap rs ss
   rest-same r s rs ss a b e m p =
-      let ends : end_of s ≡ end_of r = ap end_of (sym e) in
-      by_lt p (end_of r)
-      (λ l. none_low advance (end_of r) p rs a.2 (starts_behind advance r rs a.1) l ∙ sym (none_low advance (end_of s) p ss b.2 (starts_behind advance s ss b.1) (omega arith)))
+      let ends : run_end s ≡ run_end r = ap run_end (sym e) in
+      by_lt p (run_end r)
+      (λ l. none_low advance (run_end r) p rs a.2 (starts_behind advance r rs a.1) l ∙ sym (none_low advance (run_end s) p ss b.2 (starts_behind advance s ss b.1) (omega arith)))
       (λ g. sym (run_high advance r rs p g) ∙ m p ∙ run_high advance s ss p (omega arith))
 
   pub once : (rs ss : List (Run V)) → IsCoarsest advance rs → IsCoarsest advance ss → SameMap rs ss → rs ≡ ss

@@ -13,7 +13,7 @@ use Rattle.table_tree.specs.declared.table.Table.{Table}
 use Rattle.table_tree.specs.declared.table.Slot.{Slot}
 use Rattle.table_tree.specs.declared.table.Slot.TheVariants.{Word, Child}
 use Rattle.table_tree.specs.declared.tree.Tree.{Tree}
-use Rattle.table_tree.specs.AllBlocks.{joined, blocks_in, all_blocks, table_count, table_frames}
+use Rattle.table_tree.specs.AllBlocks.{gathered, blocks_in, all_blocks, table_count, table_frames}
 use Rattle.table_tree.specs.Meaning.{index_at, slot_at, slots_of, frame_of}
 use Rattle.table_tree.specs.Shape.{IsWide, IsShaped}
 use Rattle.table_tree.specs.Slots.{IsSlot, slot_frames, slot_tables, slot_table}
@@ -46,7 +46,7 @@ div_mul : (s q : ℕ) → 1 ≤ s → q / s * s ≤ q
 div_mul s q h = omega arith
 
 module _ {A : Type 0} where
-  pub frames_step : (n : ℕ) (t : Table A) → all_frames_in n t ≡ frame_of t ∷ joined (λ i. slot_frames n (slot_at t i)) 512
+  pub frames_step : (n : ℕ) (t : Table A) → all_frames_in n t ≡ frame_of t ∷ gathered (λ i. slot_frames n (slot_at t i)) 512
   unfolding all_frames_in slot_frames
   frames_step zero t = ap (λ xs. frame_of t ∷ xs) (sym (joined_none (λ _. []) 512 (λ i p. refl)))
   frames_step (suc n) t = refl
@@ -70,7 +70,7 @@ module _ {A : Type 0} where
 
   -- the frames below the first slots
   pub frames_before : ℕ → Table A → ℕ → List ℕ
-  frames_before n t i = joined (λ j. slot_frames n (slot_at t j)) i
+  frames_before n t i = gathered (λ j. slot_frames n (slot_at t j)) i
 
   pub frames_start : (n : ℕ) (t : Table A) → frames_before n t 0 ≡ []
   unfolding frames_before
@@ -86,7 +86,7 @@ module _ {A : Type 0} where
 
   pub frames_all : (n i : ℕ) (t : Table A) → i ≤ 512 → 512 ≤ i → frame_of t ∷ frames_before n t i ≡ all_frames_in n t
   unfolding frames_before
-  frames_all n i t p q = let e : i ≡ 512 = omega arith in ap (λ k. frame_of t ∷ joined (λ j. slot_frames n (slot_at t j)) k) e ∙ sym (frames_step n t)
+  frames_all n i t p q = let e : i ≡ 512 = omega arith in ap (λ k. frame_of t ∷ gathered (λ j. slot_frames n (slot_at t j)) k) e ∙ sym (frames_step n t)
 
   no_child : (b : Box (Table A) A) (s : Slot A) → IsSlot 0 s → s ≡ Child b → ⊥
   no_child b s h e = let x = (slot_child_is 0 b s h e).0 in omega arith
@@ -97,11 +97,11 @@ module _ {A : Type 0} where
   slots_counted d zero t wide p h = ap length (joined_start (λ j. slot_frames d (slot_at t j)))
   slots_counted d (suc n) t wide p h =
       let more = joined_more (λ j. slot_frames d (slot_at t j)) n in
-      let here : length (joined (λ j. slot_frames d (slot_at t j)) (n + 1)) ≡ length (frames_before d t n) + length (slot_frames d (slot_at t n)) = ap length more ∙ length-append (joined (λ j. slot_frames d (slot_at t j)) n) (slot_frames d (slot_at t n)) in
+      let here : length (gathered (λ j. slot_frames d (slot_at t j)) (n + 1)) ≡ length (frames_before d t n) + length (slot_frames d (slot_at t n)) = ap length more ∙ length-append (gathered (λ j. slot_frames d (slot_at t j)) n) (slot_frames d (slot_at t n)) in
       let there = sum_more (slot_tables d) (Word 0) (slots_of t) n (omega (arith, wide)) in
       let old = slots_counted d n t wide (omega arith) (λ i l. h i (omega arith)) in
       let one = h n (omega arith) in
-      let last : length (joined (λ j. slot_frames d (slot_at t j)) (n + 1)) ≡ sum_by (slot_tables d) (take (n + 1) (slots_of t)) = omega (arith, here, there, old, one) in
+      let last : length (gathered (λ j. slot_frames d (slot_at t j)) (n + 1)) ≡ sum_by (slot_tables d) (take (n + 1) (slots_of t)) = omega (arith, here, there, old, one) in
       rw add-one at last
 
   counted : (d : ℕ) (t : Table A) → IsWide t → ((i : ℕ) → i < 512 → length (slot_frames d (slot_at t i)) ≡ slot_tables d (slot_at t i)) → length (all_frames_in d t) ≡ tables_in d t
@@ -142,8 +142,8 @@ bare_frames ts zero b h = refl
 bare_frames ts (suc d) b h =
     let here : ts (suc d, b) ≡ None = ap (λ n. ts (suc d, n)) (sym (own (suc d) b)) ∙ h d (b * block_pages (suc d) + 0) (omega arith) (own (suc d) b) in
     let part = λ (i : ℕ) (p : i < 512). bare_frames ts d (512 * b + i) (λ low q l e. h low q (omega arith) (up d q b i p e)) in
-    let rest : filter_map ts (joined (λ i. blocks_in d (512 * b + i)) 512) ≡ [] = filter_map_joined ts (λ i. blocks_in d (512 * b + i)) 512 ∙ joined_none (λ i. filter_map ts (blocks_in d (512 * b + i))) 512 part in
-    ap (λ o. cons_option o (filter_map ts (joined (λ i. blocks_in d (512 * b + i)) 512))) here ∙ rest
+    let rest : filter_map ts (gathered (λ i. blocks_in d (512 * b + i)) 512) ≡ [] = filter_map_joined ts (λ i. blocks_in d (512 * b + i)) 512 ∙ joined_none (λ i. filter_map ts (blocks_in d (512 * b + i))) 512 part in
+    ap (λ o. cons_option o (filter_map ts (gathered (λ i. blocks_in d (512 * b + i)) 512))) here ∙ rest
 
 module _ {A : Type 0} where
   -- a slot shows the tables in a block
@@ -163,9 +163,9 @@ module _ {A : Type 0} where
   unfolding blocks_in
   table_of ts d b t h parts =
       let here : ts (suc d, b) ≡ Some (frame_of t) = ap (λ n. ts (suc d, n)) (sym (own (suc d) b)) ∙ h d (b * block_pages (suc d) + 0) (omega arith) (own (suc d) b) ∙ table_top d d t (b * block_pages (suc d) + 0) refl in
-      let rest : filter_map ts (joined (λ i. blocks_in d (512 * b + i)) 512) ≡ joined (λ i. slot_frames d (slot_at t i)) 512 =
+      let rest : filter_map ts (gathered (λ i. blocks_in d (512 * b + i)) 512) ≡ gathered (λ i. slot_frames d (slot_at t i)) 512 =
       filter_map_joined ts (λ i. blocks_in d (512 * b + i)) 512 ∙ joined_same (λ i. filter_map ts (blocks_in d (512 * b + i))) (λ i. slot_frames d (slot_at t i)) 512 parts in
-      ap (λ o. cons_option o (filter_map ts (joined (λ i. blocks_in d (512 * b + i)) 512))) here ∙ ap (λ xs. frame_of t ∷ xs) rest ∙ sym (frames_step d t)
+      ap (λ o. cons_option o (filter_map ts (gathered (λ i. blocks_in d (512 * b + i)) 512))) here ∙ ap (λ xs. frame_of t ∷ xs) rest ∙ sym (frames_step d t)
 
   slot_shown : (ts : Block → Option ℕ) (d b : ℕ) (s : Slot A) → IsSlotOf ts d b s → filter_map ts (blocks_in d b) ≡ slot_frames d s
   slot_shown ts zero b s h = bare_frames ts zero b (λ low q l e. absurd (omega arith)) ∙ sym (no_frames s)

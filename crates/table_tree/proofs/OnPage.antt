@@ -7,7 +7,7 @@ use Rattle.page_state.specs.Blocks.{block_at}
 use Rattle.page_state.specs.Geometries.{levels_below, input_pages, block_pages}
 use Rattle.page_state.proofs.Sizes.{size_next}
 use Rattle.table_tree.specs.Meaning.{index_at}
-use Rattle.table_tree.specs.Said.{number_of, block_of}
+use Rattle.table_tree.specs.Said.{block_number, block_of}
 use Rattle.table_tree.specs.OnPage.{path_of}
 use Rattle.table_tree.proofs.PathNumbers.{number_from}
 
@@ -53,6 +53,6 @@ page_block g path q top level e some l h inside is =
     let path' : path ≡ path_of q (levels_below g) (level + 1 - top) = is ∙ ap (λ n. path_of q n (level + 1 - top)) e in
     let depth : levels_below g + 1 - length path ≡ 3 - level = omega (arith, ap length path', path_length q (levels_below g) (level + 1 - top)) in
     let below : levels_below g + 1 - (level + 1 - top) ≡ 3 - level = omega arith in
-    let number : number_of path ≡ q / block_pages (3 - level) = ap number_of path' ∙ path_number q (levels_below g) (level + 1 - top) 0 (omega arith) (sym (div-eq_of_lt inside)) ∙ ap (λ n. q / block_pages n) below in
+    let number : block_number path ≡ q / block_pages (3 - level) = ap block_number path' ∙ path_number q (levels_below g) (level + 1 - top) 0 (omega arith) (sym (div-eq_of_lt inside)) ∙ ap (λ n. q / block_pages n) below in
     let block : ℕ → ℕ → Block = λ d n. (d, n) in
-    ap (λ d. block d (number_of path)) depth ∙ ap (λ n. block (3 - level) n) number
+    ap (λ d. block d (block_number path)) depth ∙ ap (λ n. block (3 - level) n) number

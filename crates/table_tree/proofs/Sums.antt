@@ -13,7 +13,7 @@ use Rattle.table_tree.specs.declared.table.Slot.{Slot}
 use Rattle.table_tree.specs.declared.table.Slot.TheVariants.{Word, Child}
 use Rattle.table_tree.specs.Meaning.{slot_at, slots_of, frame_of}
 use Rattle.table_tree.specs.Shape.{IsWide, HoldsWord}
-use Rattle.table_tree.specs.Tables.{tables_in, uses_in, count_of}
+use Rattle.table_tree.specs.Tables.{tables_in, uses_in, frame_times}
 use Rattle.table_tree.specs.Slots.{slot_tables, slot_uses, fresh}
 use Rattle.table_tree.specs.View.{tables_of}
 use Rattle.table_tree.proofs.Slots.{case_word, case_child}
@@ -33,10 +33,10 @@ sum_more f d xs i p = let e = sum_by-append f (take i xs) (get_or xs i d ∷ [])
 pub one_most : (f g : ℕ) → is_one f g ≤ 1
 one_most f g = by_test (f == g) (λ e. rw e (omega arith)) (λ e. rw e (omega arith))
 
-pub count_none : (f : ℕ) (fs : List Frame) → fs ≡ [] → count_of f fs ≡ 0
+pub count_none : (f : ℕ) (fs : List Frame) → fs ≡ [] → frame_times f fs ≡ 0
 count_none f fs e = rw e refl
 
-pub count_push : (f : ℕ) (fs gs : List Frame) (x : Frame) → gs ≡ fs ++ x ∷ [] → count_of f gs ≡ count_of f fs + is_one x.0 f
+pub count_push : (f : ℕ) (fs gs : List Frame) (x : Frame) → gs ≡ fs ++ x ∷ [] → frame_times f gs ≡ frame_times f fs + is_one x.0 f
 count_push f fs gs x e = let z = sum_by-append (λ (g : Frame). is_one g.0 f) fs (x ∷ []) in rw e (omega (arith, z))
 
 module _ {A : Type 0} where

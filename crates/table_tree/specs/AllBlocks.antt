@@ -5,14 +5,14 @@ use Rattle.page_state.specs.Trees.{Block, Tree as ReferenceTree}
 use Rattle.page_state.specs.Geometries.{levels_below}
 
 -- the lists that a function gives the first numbers, one after the other
-unfoldable pub joined : {X : Type 0} → (ℕ → List X) → ℕ → List X
-joined f zero = []
-joined f (suc n) = joined f n ++ f n
+unfoldable pub gathered : {X : Type 0} → (ℕ → List X) → ℕ → List X
+gathered f zero = []
+gathered f (suc n) = gathered f n ++ f n
 
 -- a block and all blocks in it, by page, the greater before those in it
 unfoldable pub blocks_in : ℕ → ℕ → List Block
 blocks_in zero number = []
-blocks_in (suc depth) number = (suc depth, number) ∷ joined (λ i. blocks_in depth (512 * number + i)) 512
+blocks_in (suc depth) number = (suc depth, number) ∷ gathered (λ i. blocks_in depth (512 * number + i)) 512
 
 -- all blocks at which a table may stand, the root's first
 abbrev pub all_blocks : Geometry → List Block

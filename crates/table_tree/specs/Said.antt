@@ -11,12 +11,12 @@ use Rattle.page_state.specs.Geometries.{levels_below}
 use Rattle.table_tree.specs.Meaning.{level_at, table_word}
 
 -- the number whose digits of base 512 the indices are
-abbrev pub number_of : List ℕ → ℕ
-number_of path = fold (λ n i. n * 512 + i) 0 path
+abbrev pub block_number : List ℕ → ℕ
+block_number path = fold (λ n i. n * 512 + i) 0 path
 
 -- the block that a path of indices leads to from the root, the block of all pages (Arm DDI 0487, D8.2)
 abbrev pub block_of : Geometry → List ℕ → Block
-block_of geometry path = (levels_below geometry + 1 - length path, number_of path)
+block_of geometry path = (levels_below geometry + 1 - length path, block_number path)
 
 -- the block whose table has the word of a block
 abbrev pub block_above : Block → Block

@@ -4,7 +4,7 @@ use Rattle.std.specs.Coded.{le_prop, Π_prop}
 use Rattle.descriptor.specs.declared.Frame.{Frame}
 use Rattle.page_state.specs.Counts.{is_one}
 use Rattle.table_tree.specs.declared.table.Table.{Table}
-use Rattle.table_tree.specs.AllBlocks.{joined}
+use Rattle.table_tree.specs.AllBlocks.{gathered}
 use Rattle.table_tree.specs.Meaning.{index_at, frame_of, slots_of, slot_at, slot_case}
 
 -- the sum of what the children of a table give
@@ -36,8 +36,8 @@ AreDistinct-prop depth t = Π_prop (λ f. le_prop)
 -- the frames of the tables, the table itself first, then those below its slots, in order
 unfoldable pub all_frames_in : {A : Type 0} → ℕ → Table A → List ℕ
 all_frames_in zero t = frame_of t ∷ []
-all_frames_in (suc depth) t = frame_of t ∷ joined (λ i. slot_case (λ _. []) (all_frames_in depth) (slot_at t i)) 512
+all_frames_in (suc depth) t = frame_of t ∷ gathered (λ i. slot_case (λ _. []) (all_frames_in depth) (slot_at t i)) 512
 
 -- how often a frame stands in a list of frames
-abbrev pub count_of : ℕ → List Frame → ℕ
-count_of f frames = sum_by (λ g. is_one g.0 f) frames
+abbrev pub frame_times : ℕ → List Frame → ℕ
+frame_times f frames = sum_by (λ g. is_one g.0 f) frames

@@ -6,7 +6,7 @@ ghost use Rattle.page_state.specs.Geometries.{block_pages};
 ghost use Rattle.page_state.specs.Counts.{frame_count};
 ghost use Rattle.table_tree.specs.Meaning.{IsDepth, level_at, word_entry, entry_at, word_at, slot_word, slot_at, slots_of, frame_of};
 ghost use Rattle.table_tree.specs.Shape.{IsWide, IsShaped, IsBlank, IsEntryWord, HoldsWord};
-ghost use Rattle.table_tree.specs.Tables.{tables_in, uses_in, all_frames_in, table_in, count_of};
+ghost use Rattle.table_tree.specs.Tables.{tables_in, uses_in, all_frames_in, table_in, frame_times};
 ghost use Rattle.table_tree.specs.Slots.{IsSlot, fresh};
 ghost use Rattle.table_tree.specs.Stocks.{frames_of};
 
@@ -85,7 +85,7 @@ pub(crate) fn frames_in<A: Allocator>(
 ) -> Result<(), AllocError>
     requires depth_in { IsDepth depth }
     requires shape { IsShaped depth table.now }
-    ensures count { OnOk result ((f : ℕ) → count_of f frames.new.items ≡ count_of f frames.old.items + uses_in depth table.now f) }
+    ensures count { OnOk result ((f : ℕ) → frame_times f frames.new.items ≡ frame_times f frames.old.items + uses_in depth table.now f) }
     ensures len { OnOk result (length frames.new.items ≡ length frames.old.items + tables_in depth table.now) }
     ensures frames { OnOk result (map (λ f. f.0) frames.new.items ≡ map (λ f. f.0) frames.old.items ++ all_frames_in depth table.now) }
 {

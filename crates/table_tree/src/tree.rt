@@ -5,7 +5,7 @@ ghost use Rattle.page_state.specs.Geometries.{levels_below};
 ghost use Rattle.page_state.specs.Counts.{is_one};
 ghost use Rattle.table_tree.specs.Shape.{IsShaped, IsShaped-prop};
 ghost use Rattle.table_tree.specs.Tight.{IsTight, IsTight-prop};
-ghost use Rattle.table_tree.specs.Tables.{count_of, AreDistinct, AreDistinct-prop};
+ghost use Rattle.table_tree.specs.Tables.{frame_times, AreDistinct, AreDistinct-prop};
 
 use crate::Table;
 use crate::look::{count_in, frames_in, look_in, word_in};
@@ -119,8 +119,8 @@ impl<A: Allocator> Tree<A> {
     pub fn dismantle(self, alloc: Global) -> Result<Vec<Frame>, (Tree<A>, AllocError)>
         ensures frames { IfOk result (λ v. map (λ f. f.0) v.items ≡ table_frames self.geometry (tree_of self)) }
         ensures root { IfOk result (λ v. slice_get (map (λ f. f.0) v.items) 0 ≡ Some (root_of self)) }
-        ensures uses { IfOk result (λ v. (f : ℕ) → count_of f v.items ≡ uses self f) }
-        ensures distinct { IfOk result (λ v. (f : ℕ) → count_of f v.items ≤ 1) }
+        ensures uses { IfOk result (λ v. (f : ℕ) → frame_times f v.items ≡ uses self f) }
+        ensures distinct { IfOk result (λ v. (f : ℕ) → frame_times f v.items ≤ 1) }
         ensures len { IfOk result (λ v. length v.items ≡ tables_of self) }
         ensures refused { IfErr result (λ e. e.0 ≡ self) }
     {

@@ -26,14 +26,14 @@ abbrev pub file_in : Text × List Row → Text × Option Text
 file_in found = (found.0, first_of (codes "FILE") found.1)
 
 -- clap finds no fault in the words, and this file
-pub record Names (words : List Text) (path : Text) : Type 0 where
+pub record NamesFile (words : List Text) (path : Text) : Type 0 where
   pub faultless : fault_of program words ≡ []
   pub file : option_map file_in (subcommand_of program words) ≡ Some (codes "replay", Some path)
 
 -- what was read: the file that the words name, a fault that clap finds in them, or that memory was
 -- refused
 abbrev pub IsRead : List Text → Result Invocation UsageFault → Type 0
-IsRead words (Ok (Replay path)) = Names words path.now
+IsRead words (Ok (Replay path)) = NamesFile words path.now
 IsRead words (Err (Usage error)) = IsAmong (kind_of error) (fault_of program words)
 IsRead words (Err NoMemory) = ⊤
 

@@ -21,9 +21,9 @@ use Rattle.trace_lines.specs.declared.place.SettingName.{SettingName}
 use Rattle.trace_lines.specs.declared.place.SettingName.TheVariants as names
 use Rattle.trace_lines.specs.declared.place.Verb.{Verb}
 use Rattle.trace_lines.specs.declared.place.Verb.TheVariants as verbs
-use Rattle.trace_lines.specs.Arguments.{number_at, range_of, level_at}
+use Rattle.trace_lines.specs.Arguments.{number_at, range_of, level_word_at}
 use Rattle.trace_lines.specs.Asked.{asked, asked_from, begins_with_digit, headers, of_call, of_number, of_range, of_tree, pools, tree_names}
-use Rattle.trace_lines.specs.Calls.{Argument, number, Makes, Shape, calls, called as called_by, step_from}
+use Rattle.trace_lines.specs.Calls.{Argument, number, StepMaker, Shape, calls, called as called_by, step_from}
 use Rattle.trace_lines.specs.Places.{IsAllowed, may_stand, may_tell}
 use Rattle.trace_lines.specs.Said.{StepHas, said, said_by_asked, said_by_words}
 use Rattle.trace_lines.specs.Settings.{Told}
@@ -49,7 +49,7 @@ found P (name ∷ names) word h =
     [ true ↦ h.0 | false ↦ found P names word h.1 ]
 
 -- a property of each step that arguments make
-abbrev pub OfEach : (Step → Type 0) → (arguments : List Argument) → Makes arguments → Type 0
+abbrev pub OfEach : (Step → Type 0) → (arguments : List Argument) → StepMaker arguments → Type 0
 OfEach P [] step = P step
 OfEach P (number ∷ more) make = (n : ℕ) → OfEach P more (make n)
 
@@ -59,7 +59,7 @@ OfCalls P = Each (λ (shape : Shape). OfEach P shape.arguments shape.step) calls
 
 -- what holds of every step
 module _ (P : Step → Type 0) (h : (step : Step) → P step) where
-  of_each : (arguments : List Argument) (make : Makes arguments) → OfEach P arguments make
+  of_each : (arguments : List Argument) (make : StepMaker arguments) → OfEach P arguments make
   of_each [] step = h step
   of_each (number ∷ more) make = λ n. of_each more (make n)
 
@@ -67,7 +67,7 @@ module _ (P : Step → Type 0) (h : (step : Step) → P step) where
   of_names [] = tt
   of_names (name ∷ names) = (of_each name.1.arguments name.1.step, of_names names)
 
-from_words : (P : Step → Type 0) (arguments : List Argument) (make : Makes arguments) (words : List (List ℕ)) (place : ℕ)
+from_words : (P : Step → Type 0) (arguments : List Argument) (make : StepMaker arguments) (words : List (List ℕ)) (place : ℕ)
     → OfEach P arguments make → IfSome (step_from arguments make words place) P
 from_words P [] step words place h = h
 from_words P (number ∷ more) make words place h =
@@ -120,8 +120,8 @@ module _ (R : Verb → Line → Type 0) (of_setting : (name : SettingName) (sett
 
   tree_row : (tree : TreeName) → Holds (of_tree words tree)
   tree_row tree =
-      chained _ (λ page. option_map (λ level. lines.Query (queries.Word tree page level)) (level_at words 3))
-      (λ page. mapped _ (λ level. lines.Query (queries.Word tree page level)) (λ level. of_query (queries.Word tree page level)) (level_at words 3)) (number_at words 2)
+      chained _ (λ page. option_map (λ level. lines.Query (queries.Word tree page level)) (level_word_at words 3))
+      (λ page. mapped _ (λ level. lines.Query (queries.Word tree page level)) (λ level. of_query (queries.Word tree page level)) (level_word_at words 3)) (number_at words 2)
 
   by_first : (first : List ℕ) (second : Option (List ℕ)) → IfSome (asked_from words first second) Holds
   by_first first second =

@@ -17,5 +17,5 @@ abbrev pub in_levels : ℕ → Option ℕ
 in_levels level = if nat_le level 3 then Some level else None
 
 -- the level that stands at a place
-abbrev pub level_at : List (List ℕ) → ℕ → Option ℕ
-level_at words place = option_and_then in_levels (number_at words place)
+abbrev pub level_word_at : List (List ℕ) → ℕ → Option ℕ
+level_word_at words place = option_and_then in_levels (number_at words place)

@@ -13,7 +13,7 @@ use Rattle.trace_lines.specs.declared.line.TreeName.TheVariants.{Host, Hyp}
 use Rattle.trace_lines.specs.declared.place.SettingName.{SettingName}
 use Rattle.trace_lines.specs.declared.place.SettingName.TheVariants as names
 use Rattle.trace_lines.specs.declared.place.Verb.TheVariants as verbs
-use Rattle.trace_lines.specs.Arguments.{number_at, range_of, level_at}
+use Rattle.trace_lines.specs.Arguments.{number_at, range_of, level_word_at}
 use Rattle.trace_lines.specs.Calls.{called as called_by}
 use Rattle.trace_lines.specs.Numbers.{is_decimal_digit}
 use Rattle.trace_lines.specs.Words.{named}
@@ -56,7 +56,7 @@ module _ (words : List (List ℕ)) where
   of_tree tree = record {
     verb = verbs.Query;
     words = 4;
-    line = option_and_then (λ page. option_map (λ level. lines.Query (queries.Word tree page level)) (level_at words 3)) (number_at words 2);
+    line = option_and_then (λ page. option_map (λ level. lines.Query (queries.Word tree page level)) (level_word_at words 3)) (number_at words 2);
   }
 
   -- what the first word and the one after it ask for

@@ -11,14 +11,14 @@ pub data Argument : Type 0 where
   number : Argument
 
 -- what makes a step of the values of such arguments, in order
-abbrev pub Makes : List Argument → Type 0
-Makes [] = Step
-Makes (number ∷ more) = ℕ → Makes more
+abbrev pub StepMaker : List Argument → Type 0
+StepMaker [] = Step
+StepMaker (number ∷ more) = ℕ → StepMaker more
 
 -- what a call's name stands for: its arguments, and the step that they make
 pub record Shape : Type 0 where
   pub arguments : List Argument
-  pub step : Makes arguments
+  pub step : StepMaker arguments
 
 -- the calls of the grammar
 abbrev pub calls : List (List ℕ × Shape)
@@ -27,7 +27,7 @@ calls =
     ∷ []
 
 -- the step that the words from a place on make
-abbrev pub step_from : (arguments : List Argument) → Makes arguments → List (List ℕ) → ℕ → Option Step
+abbrev pub step_from : (arguments : List Argument) → StepMaker arguments → List (List ℕ) → ℕ → Option Step
 step_from [] step words place = Some step
 step_from (number ∷ more) make words place = option_and_then (λ n. step_from more (make n) words (place + 1)) (number_at words place)
 

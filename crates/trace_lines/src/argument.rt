@@ -1,6 +1,6 @@
 //! Words that stand for numbers, ranges and levels.
 ghost use Rattle.std.specs.Prelude.{◌≡◌};
-ghost use Rattle.trace_lines.specs.Arguments.{level_at as level_at_place, number_at as number_at_place, range_of as range_by};
+ghost use Rattle.trace_lines.specs.Arguments.{level_word_at as level_at_place, number_at as number_at_place, range_of as range_by};
 
 use crate::number::number;
 use crate::words::Words;

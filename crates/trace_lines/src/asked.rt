@@ -1,6 +1,6 @@
 //! What the first words of a line ask for.
 ghost use Rattle.std.specs.Prelude.{◌≡◌, option_and_then, option_map};
-ghost use Rattle.trace_lines.specs.Arguments.{level_at as level_at_place, number_at as number_at_place};
+ghost use Rattle.trace_lines.specs.Arguments.{level_word_at as level_at_place, number_at as number_at_place};
 ghost use Rattle.trace_lines.specs.Asked.{
   asked as asked_by,
   begins_with_digit as begins_with_digit_byte,

@@ -24,8 +24,8 @@ use Rattle.trace_text.specs.declared.session.Stop.TheVariants as stops
 use Rattle.trace_text.specs.Laws.{reply_of, replies_told, step_asked}
 use Rattle.trace_text.specs.Replay.{Begins, IsReport}
 use Rattle.trace_lines.specs.Said.{said}
-use Rattle.trace_text.specs.Session.{Standing, Answer, Answers, Follows, Makes, allowed}
-use Rattle.trace_text.specs.Worlds.{word_of, free_of}
+use Rattle.trace_text.specs.Session.{Standing, Answer, Answers, Follows, MakesStep, allowed}
+use Rattle.trace_text.specs.Worlds.{word_told, free_told}
 use Rattle.trace_text.proofs.Asked.{Fits, fits}
 use Rattle.trace_lines.proofs.Saying.{mapped}
 
@@ -88,8 +88,8 @@ module _ {A : Type 0} (number : ℕ) (line : List ℕ) (rest : List (List ℕ)) 
 
   by_query : (query : Query) → Answers query world old answer new → step_asked line ≡ None → OneLine number world line rest reported outcome
   by_query (queries.Word tree page level) m silent =
-      asks (option_map responses.Word (word_of world tree page level)) faults.Path (mapped (λ says. reply_of says ≡ None) responses.Word (λ w. refl) (word_of world tree page level)) m.0 m.1 silent
-  by_query queries.FreeShared m silent = asks (Some (responses.Free (free_of world))) (faults.Line Place) refl m.0 m.1 silent
+      asks (option_map responses.Word (word_told world tree page level)) faults.Path (mapped (λ says. reply_of says ≡ None) responses.Word (λ w. refl) (word_told world tree page level)) m.0 m.1 silent
+  by_query queries.FreeShared m silent = asks (Some (responses.Free (free_told world))) (faults.Line Place) refl m.0 m.1 silent
 
   by_said : (r : Result (Option Line) LineFault) → Fits true r (step_asked line) → Follows number r old answer new → OneLine number world line rest reported outcome
   by_said (Err fault) fit f = fault_ends (faults.Line fault) f.0
@@ -99,7 +99,7 @@ module _ {A : Type 0} (number : ℕ) (line : List ℕ) (rest : List (List ℕ)) 
   by_said (Ok (Some (lines.Setting setting))) fit f = absurd (off fit.0)
   by_said (Ok (Some lines.Boot)) fit f = absurd (off fit.0)
   by_said (Ok (Some (lines.Step cpu step))) fit f =
-      let m = of_some old.world world _ (λ w. Makes number cpu step w old answer new) stands f in
+      let m = of_some old.world world _ (λ w. MakesStep number cpu step w old answer new) stands f in
       elim (cases_lt cpu world.parts.layout.config.cpus) [
         | inr over ↦ let x = m.0 over in fault_ends faults.Cpu x.0
         | inl less ↦

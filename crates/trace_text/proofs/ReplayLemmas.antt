@@ -18,7 +18,7 @@ use Rattle.trace_lines.specs.Reading.{IsFirstLine, ReadsLine}
 use Rattle.trace_lines.specs.Reading.{lines_of}
 use Rattle.trace_text.specs.Replay.{IsPlayed, IsReport, IsReplayed}
 use Rattle.trace_lines.specs.Said.{said}
-use Rattle.trace_text.specs.Session.{Standing, Answer, Runs, allowed, at_start}
+use Rattle.trace_text.specs.Session.{Standing, Answer, RunsLine, allowed, at_start}
 use Rattle.trace_lines.specs.Settings.{Told}
 use Rattle.trace_text.specs.Texts.{text_of, text_of_report}
 use Rattle.trace_lines.proofs.KnownBytes.{appends_both}
@@ -62,12 +62,12 @@ pub record Goes {A : Type 0} (bytes : List ℕ) (left : Option (List ℕ)) (numb
   pub next : IsOk answer → IsSomeAnd left (λ more. lines_of more ≡ rest)
 
 runs-front : {A : Type 0} (number : ℕ) (whole : List ℕ) (old : Standing A) (answer : Answer) (new : Standing A)
-    → Runs number (take 257 whole) old answer new → Runs number whole old answer new
+    → RunsLine number (take 257 whole) old answer new → RunsLine number whole old answer new
 runs-front number whole old answer new h = rw (said-front (allowed (is_some old.world)) old.told whole) at h
 
 -- what goes on was no long line
 short : {A : Type 0} (number : ℕ) (whole : List ℕ) (old : Standing A) (answer : Answer) (new : Standing A)
-    → Runs number whole old answer new → IsOk answer → length whole ≤ 256
+    → RunsLine number whole old answer new → IsOk answer → length whole ≤ 256
 short number whole old answer new h ok =
     elim (cases_lt 256 (length whole)) [
       | inr fits ↦ fits
@@ -77,7 +77,7 @@ short number whole old answer new h ok =
     ]
 
 goes : {A : Type 0} (bytes line : List ℕ) (left : Option (List ℕ)) (number : ℕ) (old : Standing A) (answer : Answer) (new : Standing A)
-    → IsFirstLine bytes line left → number ≤ 1048576 → Runs number line old answer new → Goes bytes left number old answer new
+    → IsFirstLine bytes line left → number ≤ 1048576 → RunsLine number line old answer new → Goes bytes left number old answer new
 goes bytes line left number old answer new first few runs =
     let all = runs-front number first.whole old answer new (rw first.read at runs) in
     record {
@@ -90,7 +90,7 @@ goes bytes line left number old answer new first few runs =
 
 -- a line that is carried out, and what it reports
 leads_on : {A : Type 0} (all left next : Option (List ℕ)) (line : List ℕ) (number : ℕ) (old new : Standing A) (told : List ReportLine) (says : List Response)
-    → Leads all left number old told → ReadsLine true left next line → number ≤ 1048576 → Runs number line old (Ok says) new
+    → Leads all left number old told → ReadsLine true left next line → number ≤ 1048576 → RunsLine number line old (Ok says) new
     → Leads all next (number + 1) new (told ++ map report.Response says)
 leads_on None left next line number old new told says h first few runs = tt
 leads_on (Some bytes) None next line number old new told says h first few runs = absurd h
@@ -103,7 +103,7 @@ leads_on (Some bytes) (Some rest) (Some last) line number old new told says h fi
 
 -- a line that ends the run by a fault
 leads_fault : {A : Type 0} (all left next : Option (List ℕ)) (line : List ℕ) (number : ℕ) (old new : Standing A) (told : List ReportLine) (fault : Fault)
-    → Leads all left number old told → ReadsLine true left next line → number ≤ 1048576 → Runs number line old (Err (stops.Fault fault)) new
+    → Leads all left number old told → ReadsLine true left next line → number ≤ 1048576 → RunsLine number line old (Err (stops.Fault fault)) new
     → IfSome all (λ bytes. IsReport {A = A} 1 at_start (lines_of bytes) (told ++ report.Fault number fault ∷ []) outcomes.Fault)
 leads_fault None left next line number old new told fault h first few runs = tt
 leads_fault (Some bytes) None next line number old new told fault h first few runs = absurd h
@@ -144,7 +144,7 @@ pub plays : {A : Type 0} (all left next before now last : Option (List ℕ)) (li
 plays all left next before now last line number old new so_far first few played =
     onward played.answer played.runs played.writes
   where
-    onward : (answer : Answer) → Runs number line old answer new → Writes number answer now last None → SoFar all next before last (number + 1) new
+    onward : (answer : Answer) → RunsLine number line old answer new → Writes number answer now last None → SoFar all next before last (number + 1) new
     onward (Err (stops.Fault fault)) runs writes = absurd (let e = writes.1 in cc)
     onward (Err stops.NoMemory) runs writes = absurd writes
     onward (Ok []) runs writes = record {
@@ -165,7 +165,7 @@ pub faults_at : {A : Type 0} (all left next before now last : Option (List ℕ))
 faults_at {A} all left next before now last line number old new outcome so_far first few played =
     ending played.answer played.runs played.writes
   where
-    ending : (answer : Answer) → Runs number line old answer new → Writes number answer now last (Some outcome) → IsReplayed A all before last outcome
+    ending : (answer : Answer) → RunsLine number line old answer new → Writes number answer now last (Some outcome) → IsReplayed A all before last outcome
     ending (Err (stops.Fault fault)) runs writes =
         let is : outcome ≡ outcomes.Fault = let e = writes.1 in cc in
         rw is (record {

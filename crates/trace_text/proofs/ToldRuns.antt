@@ -13,7 +13,7 @@ use Rattle.reference_model.specs.Step.{Steps}
 use Rattle.hypercalls.specs.declared.parts.Parts.{Parts}
 use Rattle.world.specs.declared.World.{World}
 use Rattle.world.specs.Laws.{EndsRun}
-use Rattle.hypercalls.specs.Stands.{layout_of, state_of}
+use Rattle.hypercalls.specs.Stands.{parts_layout, state_of}
 use Rattle.hypercalls.specs.Whole.{call_of}
 use Rattle.trace_text.specs.declared.fault.Fault.{Fault}
 use Rattle.trace_lines.specs.declared.fault.LineFault.{LineFault}
@@ -46,7 +46,7 @@ both_known : (n : ℕ) (c : Call) (cs : List Call) → c.cpu < n → All (λ x. 
 both_known n c cs first rest zero d less = first
 both_known n c cs first rest (suc k) d less = rest k d (omega (arith, less))
 
-onward : {A : Type 0} (p q r : Parts A) (c : Call) (cs : List Call) → c.cpu < p.layout.config.cpus → layout_of q ≡ layout_of p → Steps (layout_of p) (state_of p) c (state_of q) → Leads q cs r → Leads p (c ∷ cs) r
+onward : {A : Type 0} (p q r : Parts A) (c : Call) (cs : List Call) → c.cpu < p.layout.config.cpus → parts_layout q ≡ parts_layout p → Steps (parts_layout p) (state_of p) c (state_of q) → Leads q cs r → Leads p (c ∷ cs) r
 onward p q r c cs known layout first rest = record {
   cpus = both_known p.layout.config.cpus c cs known (subst (λ n. All (λ x. x.cpu < n) cs) (ap (λ l. l.config.cpus) layout) rest.cpus);
   runs = (state_of q, first, subst (λ l. RunsBy (Steps l) (state_of q) cs (state_of r)) layout rest.runs);
@@ -194,8 +194,8 @@ world_reaches (line ∷ front) rest number old world reported outcome stands h =
     ]
 
 -- where parts stand for the boot state, what leads on from them is a run
-boot_runs : {A : Type 0} (p q : Parts A) (cs : List Call) → boot_state (layout_of p) ≡ state_of p → Leads p cs q → EndsRun (layout_of p) cs q
-boot_runs p q cs h leads = record { cpus = leads.cpus; leads = subst (λ s. RunsBy (Steps (layout_of p)) s cs (state_of q)) (sym h) leads.runs }
+boot_runs : {A : Type 0} (p q : Parts A) (cs : List Call) → boot_state (parts_layout p) ≡ state_of p → Leads p cs q → EndsRun (parts_layout p) cs q
+boot_runs p q cs h leads = record { cpus = leads.cpus; leads = subst (λ s. RunsBy (Steps (parts_layout p)) s cs (state_of q)) (sym h) leads.runs }
 
 -- a report that tells of no boot, or of one and a run from there
 abbrev Told : {A : Type 0} → ℕ → Standing A → List (List ℕ) → List ReportLine → Outcome → Type 0

@@ -9,7 +9,7 @@ use Rattle.reference_model.specs.Step.{Steps}
 use Rattle.hypercalls.specs.declared.parts.Parts.{Parts}
 use Rattle.world.specs.declared.World.{World}
 use Rattle.world.specs.Laws.{EndsRun}
-use Rattle.hypercalls.specs.Stands.{layout_of, state_of}
+use Rattle.hypercalls.specs.Stands.{parts_layout, state_of}
 use Rattle.trace_text.specs.declared.fault.Fault.{Fault}
 use Rattle.trace_lines.specs.declared.fault.LineFault.{LineFault}
 use Rattle.trace_lines.specs.declared.line.Line.{Line}
@@ -62,7 +62,7 @@ steps_asked trace = filter_map step_asked trace
 -- the calls are of CPUs of the layout, and lead by reference steps from the state that the parts stand for to the one that the other parts stand for
 pub record Leads {A : Type 0} (p : Parts A) (cs : List Call) (q : Parts A) : Type 0 where
   pub cpus : All (λ c. c.cpu < p.layout.config.cpus) cs
-  pub runs : Runs (Steps (layout_of p)) (state_of p) cs (state_of q)
+  pub runs : Runs (Steps (parts_layout p)) (state_of p) cs (state_of q)
 
 -- a report tells a run of the reference step from these parts: of the steps that the trace asks for those before its first fault,
 -- which are all where the report is clean, are made, and what its step lines tell are their CPUs and replies
@@ -110,7 +110,7 @@ pub record TellsBoot {A : Type 0} (number : ℕ) (start : Standing A) (trace : L
   pub more : List ReportLine
   pub first : reported ≡ report.Response line ∷ more
   pub run : TellsRun world.parts trace more outcome
-  pub ends : EndsRun (layout_of world.parts) run.calls run.last
+  pub ends : EndsRun (parts_layout world.parts) run.calls run.last
 
 -- where a world stands, the report of the lines from there on tells a run of the reference step
 abbrev pub WorldRuns : Type 0 → Type 0

@@ -5,7 +5,7 @@ use Rattle.trace_lines.specs.declared.outcome.Outcome.{Outcome}
 use Rattle.trace_lines.specs.declared.outcome.Outcome.TheVariants as outcomes
 use Rattle.trace_text.specs.declared.report.ReportLine.TheVariants as report
 use Rattle.trace_text.specs.declared.session.Stop.TheVariants as stops
-use Rattle.trace_text.specs.Session.{Standing, Answer, Runs}
+use Rattle.trace_text.specs.Session.{Standing, Answer, RunsLine}
 use Rattle.trace_text.specs.Texts.{text_of_report}
 
 -- what an answer writes, and the outcome where it ends the run
@@ -18,5 +18,5 @@ Writes number (Ok (line ∷ lines)) old new ended = Appends old new (text_of_rep
 -- a line that was carried out, from one standing to another, and reported
 pub record Plays {A : Type 0} (number : ℕ) (line : List ℕ) (before after : Standing A) (old new : Option (List ℕ)) (ended : Option Outcome) : Type 0 where
   pub answer : Answer
-  pub runs : Runs number line before answer after
+  pub runs : RunsLine number line before answer after
   pub writes : Writes number answer old new ended

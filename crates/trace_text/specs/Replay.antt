@@ -8,12 +8,12 @@ use Rattle.trace_lines.specs.declared.outcome.Outcome.TheVariants as outcomes
 use Rattle.trace_text.specs.declared.report.ReportLine.{ReportLine}
 use Rattle.trace_text.specs.declared.report.ReportLine.TheVariants as report
 use Rattle.trace_text.specs.declared.session.Stop.TheVariants as stops
-use Rattle.trace_text.specs.Session.{Standing, Answer, Faults, Runs, at_start}
+use Rattle.trace_text.specs.Session.{Standing, Answer, Faults, RunsLine, at_start}
 use Rattle.trace_text.specs.Texts.{text_of_report}
 
 -- what a line does by its place: the first 1,048,576 lines are carried out, the next is a fault
 pub record IsPlayed {A : Type 0} (number : ℕ) (line : List ℕ) (old : Standing A) (answer : Answer) (new : Standing A) : Type 0 where
-  pub runs : number ≤ 1048576 → Runs number line old answer new
+  pub runs : number ≤ 1048576 → RunsLine number line old answer new
   pub past : 1048576 < number → Faults faults.Lines old answer new
 
 -- the lines of a report that an answer begins: a fault ends it, else the report of what follows stands behind it

@@ -30,7 +30,7 @@ use Rattle.trace_text.specs.declared.session.Stop.TheVariants as stops
 use Rattle.trace_lines.specs.Places.{before_boot}
 use Rattle.trace_lines.specs.Said.{said}
 use Rattle.trace_lines.specs.Settings.{Told, told_of, nothing_told, told_after, config_of}
-use Rattle.trace_text.specs.Worlds.{word_of, tables_in, free_of}
+use Rattle.trace_text.specs.Worlds.{word_told, tables_told, free_told}
 
 -- where a trace stands: what was told, the world once it is booted, and how many step lines were carried out
 pub record Standing (A : Type 0) : Type 0 where
@@ -70,24 +70,24 @@ Tells setting old answer new =
     MatchResult answer (λ reported. (reported ≡ []) × (new ≡ record old { told = told_after setting old.told })) (λ stop. (stop ≡ stops.NoMemory) × (new ≡ old))
 
 -- why memory and carve-out make no layout
-abbrev pub IsRefused : LayoutFault → Memory → Type 0
-IsRefused layouts.NoMemory memory = IsAccepted memory
-IsRefused layouts.TooMany memory = IsFirstFault layouts.TooMany memory
-IsRefused layouts.Empty memory = IsFirstFault layouts.Empty memory
-IsRefused layouts.PastLimit memory = IsFirstFault layouts.PastLimit memory
-IsRefused layouts.Overlap memory = IsFirstFault layouts.Overlap memory
-IsRefused layouts.CarveOutside memory = IsFirstFault layouts.CarveOutside memory
+abbrev pub IsNoLayout : LayoutFault → Memory → Type 0
+IsNoLayout layouts.NoMemory memory = IsAccepted memory
+IsNoLayout layouts.TooMany memory = IsFirstFault layouts.TooMany memory
+IsNoLayout layouts.Empty memory = IsFirstFault layouts.Empty memory
+IsNoLayout layouts.PastLimit memory = IsFirstFault layouts.PastLimit memory
+IsNoLayout layouts.Overlap memory = IsFirstFault layouts.Overlap memory
+IsNoLayout layouts.CarveOutside memory = IsFirstFault layouts.CarveOutside memory
 
 -- why a boot ends the run: by the layout's fault, or, where the layout is accepted, by the world's
 abbrev pub IsNoWorld : Stop → Memory → Config → Type 0
-IsNoWorld (stops.Fault (faults.Layout fault)) memory config = IsRefused fault memory
+IsNoWorld (stops.Fault (faults.Layout fault)) memory config = IsNoLayout fault memory
 IsNoWorld (stops.Fault (faults.Boot fault)) memory config = IsAccepted memory × IsNoBoot fault memory config
 IsNoWorld stop memory config = ⊥
 
 -- the world of what was told has booted, and the line tells its tables and free frames
 pub record HasWorld {A : Type 0} (carve : PageRange) (old : Standing A) (world : World A) (reported : Response) (new : Standing A) : Type 0 where
   pub booted : IsBooted (memory_of old.told.regions carve) (config_of old.told) world.parts
-  pub line : reported ≡ responses.Boot (tables_in world Host) (tables_in world Hyp) (free_of world)
+  pub line : reported ≡ responses.Boot (tables_told world Host) (tables_told world Hyp) (free_told world)
   pub standing : new ≡ record old { world = Some world }
 
 -- `boot`
@@ -106,8 +106,8 @@ pub record IsStepped {A : Type 0} (number cpu : ℕ) (step : Step) (world : Worl
   pub standing : new ≡ record old { world = Some next; steps = old.steps + 1 }
 
 -- a step line: its CPU is one of the world's
-abbrev pub Makes : {A : Type 0} → ℕ → ℕ → Step → World A → Standing A → Answer → Standing A → Type 0
-Makes number cpu step world old answer new =
+abbrev pub MakesStep : {A : Type 0} → ℕ → ℕ → Step → World A → Standing A → Answer → Standing A → Type 0
+MakesStep number cpu step world old answer new =
     (world.parts.layout.config.cpus ≤ cpu → Faults faults.Cpu old answer new) × (cpu < world.parts.layout.config.cpus → IsStepped number cpu step world old answer new)
 
 -- a question about the world, which changes nothing
@@ -120,22 +120,22 @@ InWorld does old answer new = MatchOption old.world (Faults (faults.Line Place) 
 
 -- a query
 abbrev pub Answers : {A : Type 0} → Query → World A → Standing A → Answer → Standing A → Type 0
-Answers (queries.Word tree page level) world = Asks (option_map responses.Word (word_of world tree page level)) faults.Path
-Answers queries.FreeShared world = Asks (Some (responses.Free (free_of world))) (faults.Line Place)
+Answers (queries.Word tree page level) world = Asks (option_map responses.Word (word_told world tree page level)) faults.Path
+Answers queries.FreeShared world = Asks (Some (responses.Free (free_told world))) (faults.Line Place)
 
 -- what a line does, its number counted from 1
-abbrev pub Does : {A : Type 0} → ℕ → Line → Standing A → Answer → Standing A → Type 0
-Does number (lines.Setting setting) = Tells setting
-Does number lines.Boot = Boots
-Does number (lines.Step cpu step) = InWorld (Makes number cpu step)
-Does number (lines.Query query) = InWorld (Answers query)
+abbrev pub DoesLine : {A : Type 0} → ℕ → Line → Standing A → Answer → Standing A → Type 0
+DoesLine number (lines.Setting setting) = Tells setting
+DoesLine number lines.Boot = Boots
+DoesLine number (lines.Step cpu step) = InWorld (MakesStep number cpu step)
+DoesLine number (lines.Query query) = InWorld (Answers query)
 
 -- what follows from what a line says
 abbrev pub Follows : {A : Type 0} → ℕ → Result (Option Line) LineFault → Standing A → Answer → Standing A → Type 0
 Follows number (Err fault) old answer new = Faults (faults.Line fault) old answer new
 Follows number (Ok None) old answer new = (answer ≡ Ok []) × (new ≡ old)
-Follows number (Ok (Some line)) old answer new = Does number line old answer new
+Follows number (Ok (Some line)) old answer new = DoesLine number line old answer new
 
 -- what the bytes of a line do
-abbrev pub Runs : {A : Type 0} → ℕ → List ℕ → Standing A → Answer → Standing A → Type 0
-Runs number bytes old answer new = Follows number (said (allowed (is_some old.world)) old.told bytes) old answer new
+abbrev pub RunsLine : {A : Type 0} → ℕ → List ℕ → Standing A → Answer → Standing A → Type 0
+RunsLine number bytes old answer new = Follows number (said (allowed (is_some old.world)) old.told bytes) old answer new

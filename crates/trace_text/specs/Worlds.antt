@@ -15,13 +15,13 @@ tree_in Host s = s.host.tree
 tree_in Hyp s = s.hyp.tree
 
 -- the word on a page's path at a level
-abbrev pub word_of : {A : Type 0} → World A → TreeName → ℕ → ℕ → Option ℕ
-word_of w tree page level = one None (λ s. word_on (tree_in tree s) page level) w.parts.shared.items
+abbrev pub word_told : {A : Type 0} → World A → TreeName → ℕ → ℕ → Option ℕ
+word_told w tree page level = one None (λ s. word_on (tree_in tree s) page level) w.parts.shared.items
 
 -- the number of a tree's tables
-abbrev pub tables_in : {A : Type 0} → World A → TreeName → ℕ
-tables_in w tree = one 0 (λ s. tables_of (tree_in tree s)) w.parts.shared.items
+abbrev pub tables_told : {A : Type 0} → World A → TreeName → ℕ
+tables_told w tree = one 0 (λ s. tables_of (tree_in tree s)) w.parts.shared.items
 
 -- the number of free frames of the shared pool
-abbrev pub free_of : {A : Type 0} → World A → ℕ
-free_of w = one 0 (λ s. length s.pool.frames) w.parts.shared.items
+abbrev pub free_told : {A : Type 0} → World A → ℕ
+free_told w = one 0 (λ s. length s.pool.frames) w.parts.shared.items

@@ -3,12 +3,12 @@ ghost use Rattle.std.specs.Prelude.{◌≡◌, ◌+◌, ◌<◌, ◌≤◌, ◌^
 ghost use Rattle.page_state.specs.declared.layout.Config.{Config};
 ghost use Rattle.page_state.specs.LayoutFaults.{IsAccepted};
 ghost use Rattle.page_state.specs.Regions.{memory_of};
-ghost use Rattle.trace_text.specs.Session.{Answers, Boots, Does, HasWorld, InWorld, IsNoWorld, Makes, Runs, Tells, allowed, answer_of, at_start, standing_of};
+ghost use Rattle.trace_text.specs.Session.{Answers, Boots, DoesLine, HasWorld, InWorld, IsNoWorld, MakesStep, RunsLine, Tells, allowed, answer_of, at_start, standing_of};
 ghost use Rattle.trace_lines.specs.Settings.{config_of, told_of};
 ghost use Rattle.world.specs.Boots.{IsBooted};
 ghost use Rattle.trace_lines.specs.Said.{StepHas};
 ghost use Rattle.hypercalls.specs.Served.{IsServed};
-ghost use Rattle.trace_text.specs.Worlds.{free_of, tables_in, word_of};
+ghost use Rattle.trace_text.specs.Worlds.{free_told, tables_told, word_told};
 
 use crate::fault::Fault;
 use page_state::{MemoryMap, Page, PageRange, Region, Step};
@@ -75,7 +75,7 @@ impl<A: Allocator + Copy> Session<A> {
     /// 256 bytes any 257 serve.
     pub fn run(&mut self, number: u64, line: &[u8]) -> Result<Option<Response>, Stop>
         requires { (standing_of self.old).steps < 2 ^ 63 }
-        ensures done { Runs number line.now (standing_of self.old) (answer_of result) (standing_of self.new) }
+        ensures done { RunsLine number line.now (standing_of self.old) (answer_of result) (standing_of self.new) }
         ensures steps { (standing_of self.new).steps ≤ (standing_of self.old).steps + 1 }
     {
         match said(self.allows(), &self.settings, line) {
@@ -88,7 +88,7 @@ impl<A: Allocator + Copy> Session<A> {
     fn carry_out(&mut self, number: u64, said: Line) -> Result<Option<Response>, Stop>
         requires few { self.old.steps < 2 ^ 63 }
         requires served { StepHas IsServed said }
-        ensures done { Does number said (standing_of self.old) (answer_of result) (standing_of self.new) }
+        ensures done { DoesLine number said (standing_of self.old) (answer_of result) (standing_of self.new) }
         ensures steps { self.new.steps ≤ self.old.steps + 1 }
     {
         match said {
@@ -143,7 +143,7 @@ impl<A: Allocator + Copy> Session<A> {
     fn step(&mut self, number: u64, cpu: u64, step: Step) -> Result<Option<Response>, Stop>
         requires few { self.old.steps < 2 ^ 63 }
         requires served { IsServed step }
-        ensures done { InWorld (Makes number cpu step) (standing_of self.old) (answer_of result) (standing_of self.new) }
+        ensures done { InWorld (MakesStep number cpu step) (standing_of self.old) (answer_of result) (standing_of self.new) }
         ensures steps { self.new.steps ≤ self.old.steps + 1 }
     {
         let Some(world) = self.world.as_mut() else {
@@ -180,7 +180,7 @@ impl<A: Allocator + Copy> Session<A> {
 
 /// The word on a page's path at a level.
 fn word_on<A: Allocator>(world: &World<A>, tree: TreeName, page: u64, level: u64) -> Option<u64>
-    ensures { result ≡ word_of world.now tree page level }
+    ensures { result ≡ word_told world.now tree page level }
 {
     let shared = world.parts().shared();
     let tree = match tree {
@@ -192,7 +192,7 @@ fn word_on<A: Allocator>(world: &World<A>, tree: TreeName, page: u64, level: u64
 
 /// What a report tells of a boot.
 fn boot_line<A: Allocator>(world: &World<A>) -> Response
-    ensures { result ≡ Response.Boot (tables_in world.now TreeName.Host) (tables_in world.now TreeName.Hyp) (free_of world.now) }
+    ensures { result ≡ Response.Boot (tables_told world.now TreeName.Host) (tables_told world.now TreeName.Hyp) (free_told world.now) }
 {
     let shared = world.parts().shared();
     Response::Boot {

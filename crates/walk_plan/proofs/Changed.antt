@@ -16,16 +16,16 @@ use Rattle.table_tree.specs.Slots.{slot_entry}
 use Rattle.table_tree.proofs.Slots.{by_slot, case_child}
 use Rattle.table_tree.proofs.Steps.{entry_step, word_gives, child_gives}
 use Rattle.walk_plan.specs.declared.change.Change.{Change}
-use Rattle.walk_plan.specs.Changes.{changed}
+use Rattle.walk_plan.specs.Changes.{changed_entry}
 use Rattle.walk_plan.proofs.Numbers.{place_small}
 
-pub changed_inside : (d : ℕ) (m : ℕ → Entry) (c : Change) (q : ℕ) → q < block_pages d → c.first ≤ q → q < c.end → changed d m c q ≡ advance c.entry (q - c.first)
+pub changed_inside : (d : ℕ) (m : ℕ → Entry) (c : Change) (q : ℕ) → q < block_pages d → c.first ≤ q → q < c.end → changed_entry d m c q ≡ advance c.entry (q - c.first)
 changed_inside d m c q p l h =
     let e : q % block_pages d ≡ q = place_small d q p in
     let t : nat_le c.first q && nat_lt q c.end ≡ true = grind (arith, nat_tests) in
     rw (e, t) refl
 
-pub changed_outside : (d : ℕ) (m : ℕ → Entry) (c : Change) (q : ℕ) → q < block_pages d → (q < c.first) ⊎ (c.end ≤ q) → changed d m c q ≡ m q
+pub changed_outside : (d : ℕ) (m : ℕ → Entry) (c : Change) (q : ℕ) → q < block_pages d → (q < c.first) ⊎ (c.end ≤ q) → changed_entry d m c q ≡ m q
 changed_outside d m c q p h =
     let e : q % block_pages d ≡ q = place_small d q p in
     let t : nat_le c.first q && nat_lt q c.end ≡ false = elim h [ inl l ↦ before c.first c.end q l | inr u ↦ after c.first c.end q u ] in

@@ -19,9 +19,9 @@ use Rattle.table_tree.specs.Tables.{table_in}
 use Rattle.table_tree.specs.View.{meaning, table_at, tree_of}
 use Rattle.table_tree.proofs.Standing.{table_top}
 use Rattle.walk_plan.specs.declared.change.Change.{Change}
-use Rattle.walk_plan.specs.Changes.{changed}
+use Rattle.walk_plan.specs.Changes.{changed_entry}
 use Rattle.walk_plan.specs.inner.Needs.{table_need}
-use Rattle.walk_plan.specs.inner.Ranks.{given, table_rank}
+use Rattle.walk_plan.specs.inner.Ranks.{given_rank, table_rank}
 use Rattle.walk_plan.proofs.Cases.{by_option}
 use Rattle.walk_plan.proofs.InBlocks.{IsIn, page_under, under_page, block_within}
 use Rattle.walk_plan.proofs.Changed.{changed_inside, changed_outside}
@@ -38,9 +38,9 @@ pub record IsWalked {A : Type 0} (t u : Tree A) (c : Change) (fs : List ℕ) : T
   pub geometry : u.geometry ≡ t.geometry
   pub frame : frame_of u.table ≡ frame_of t.table
   pub enough : table_need (levels_below t.geometry) t.table c ≤ length fs
-  pub map : (q : ℕ) → entry_at (levels_below t.geometry) u.table q ≡ changed (levels_below t.geometry + 1) (entry_at (levels_below t.geometry) t.table) c q
+  pub map : (q : ℕ) → entry_at (levels_below t.geometry) u.table q ≡ changed_entry (levels_below t.geometry + 1) (entry_at (levels_below t.geometry) t.table) c q
   pub kept : (low q p : ℕ) → low < levels_below t.geometry → p / block_pages (low + 1) ≡ q / block_pages (low + 1) → (entry_at (levels_below t.geometry) u.table p ≡ Unmapped → ⊥)
-      → table_in (levels_below t.geometry) u.table low q ≡ given fs (table_in (levels_below t.geometry) t.table low q) (table_rank (levels_below t.geometry) t.table c low q)
+      → table_in (levels_below t.geometry) u.table low q ≡ given_rank fs (table_in (levels_below t.geometry) t.table low q) (table_rank (levels_below t.geometry) t.table c low q)
   pub gone : (low q : ℕ) → low < levels_below t.geometry → ((p : ℕ) → p / block_pages (low + 1) ≡ q / block_pages (low + 1) → entry_at (levels_below t.geometry) u.table p ≡ Unmapped) → table_in (levels_below t.geometry) u.table low q ≡ None
   pub full : (low q : ℕ) → low < levels_below t.geometry → ((p : ℕ) → p / block_pages (low + 1) ≡ q / block_pages (low + 1) → entry_at (levels_below t.geometry) t.table p ≡ Unmapped) → table_in (levels_below t.geometry) t.table low q ≡ None
 
@@ -168,7 +168,7 @@ module _ {A : Type 0} (t u : Tree A) (first count : ℕ) (e : Entry) (c : Change
           let enough : need top (tree_of t) edit ≤ length fs = let z = need_walked t first count e c some within from to gives in let k = w.enough in omega arith in
           left_placed (suc low, j) (full_not standing after (suc low, j) h)
           ∙ ranked_at t first count e c some within from to gives fs low j deep begins enough
-          ∙ ap (λ o. given fs o (table_rank top t.table c low first_of)) (table_at_in t low j begins)
+          ∙ ap (λ o. given_rank fs o (table_rank top t.table c low first_of)) (table_at_in t low j begins)
           ∙ sym (table_now low j begins ∙ w.kept low first_of (first_of + x.0) deep under mapped)
 
     -- the tables afterwards

@@ -26,11 +26,11 @@ use Rattle.table_tree.specs.Slots.{IsSlot, slot_entry, slot_table}
 use Rattle.table_tree.specs.View.{meaning, table_at, tree_of}
 use Rattle.table_tree.proofs.Slots.{by_slot, case_word, case_child, shaped_slot, child_shaped}
 use Rattle.walk_plan.specs.declared.change.Change.{Change}
-use Rattle.walk_plan.specs.Changes.{part, changed}
+use Rattle.walk_plan.specs.Changes.{part, changed_entry}
 use Rattle.walk_plan.specs.inner.Needs.{sum_to, met}
 use Rattle.walk_plan.specs.inner.Ranks.{slot_gone, gone_parts, table_gone}
 use Rattle.walk_plan.proofs.Numbers.{place_in, place_small}
-use Rattle.table_tree.specs.AllBlocks.{joined}
+use Rattle.table_tree.specs.AllBlocks.{gathered}
 use Rattle.table_tree.proofs.Joined.{joined_none}
 use Rattle.walk_plan.proofs.Joined.{sum_same, filter_joined}
 use Rattle.walk_plan.proofs.Walked.{meets, under, under_page, under_met, under_unmet}
@@ -56,17 +56,17 @@ module _ (c : Change) (n : Map) (ts : Block → Option ℕ) (f : ℕ) where
   lost d b = filter (is_freed ts n) (under c d b)
 
   abbrev pub lost_below : ℕ → ℕ → List Block
-  lost_below d b = joined (λ i. lost d (512 * b + i)) 512
+  lost_below d b = gathered (λ i. lost d (512 * b + i)) 512
 
   abbrev pub frames : List Block → ℕ
   frames bs = frame_count f (filter_map ts bs)
 
-  frames_joined : (g : ℕ → List Block) (k : ℕ) → frames (joined g k) ≡ sum_to (λ i. frames (g i)) k
-  unfolding joined sum_to
+  frames_joined : (g : ℕ → List Block) (k : ℕ) → frames (gathered g k) ≡ sum_to (λ i. frames (g i)) k
+  unfolding gathered sum_to
   frames_joined g zero = refl
   frames_joined g (suc k) =
-      ap (frame_count f) (filter_map-append ts (joined g k) (g k))
-      ∙ sum_by-append (λ (x : ℕ). is_one x f) (filter_map ts (joined g k)) (filter_map ts (g k))
+      ap (frame_count f) (filter_map-append ts (gathered g k) (g k))
+      ∙ sum_by-append (λ (x : ℕ). is_one x f) (filter_map ts (gathered g k)) (filter_map ts (g k))
       ∙ ap (λ z. z + frames (g k)) (frames_joined g k)
 
   frames_below : (d b : ℕ) (g : ℕ → Change → ℕ) → ((i : ℕ) → i < 512 → frames (lost d (512 * b + i)) ≡ cond (meets c d (512 * b + i)) (g i (part d (512 * b + i) c)) 0) → frames (lost_below d b) ≡ sum_to (met d (part (suc d) b c) g) 512
@@ -107,7 +107,7 @@ module _ (c : Change) (n : Map) (ts : Block → Option ℕ) (f : ℕ) where
 
 -- the test of a walk is that of the block
 module _ {A : Type 0} (c : Change) (m n : Map) (ts : Block → Option ℕ) (made : IsMade c m n) where
-  entry_after : (d b i : ℕ) (t : Table A) → Matches m ts d (suc d) b (entry_at d t) (table_in d t) → i < block_pages (suc d) → n (b * block_pages (suc d) + i) ≡ changed (suc d) (entry_at d t) (part (suc d) b c) i
+  entry_after : (d b i : ℕ) (t : Table A) → Matches m ts d (suc d) b (entry_at d t) (table_in d t) → i < block_pages (suc d) → n (b * block_pages (suc d) + i) ≡ changed_entry (suc d) (entry_at d t) (part (suc d) b c) i
   entry_after d b i t h p =
       let s = block_pages (suc d) in
       let from : b * s ≤ b * s + i = omega arith in
@@ -122,16 +122,16 @@ module _ {A : Type 0} (c : Change) (m n : Map) (ts : Block → Option ℕ) (made
       (λ r. made_inside c m n made (suc d) b i l r ∙ sym (changed_inside (suc d) (entry_at d t) c' i p l r))
       (λ r. made_outside c m n made (suc d) b i p (inr r) ∙ old ∙ sym (changed_outside (suc d) (entry_at d t) c' i p (inr r))))
 
-  empty_after : (d b : ℕ) (t : Table A) → Matches m ts d (suc d) b (entry_at d t) (table_in d t) → is_empty n (suc d, b) ≡ all_below (block_pages (suc d)) (λ i. is_unmapped (changed (suc d) (entry_at d t) (part (suc d) b c) i))
+  empty_after : (d b : ℕ) (t : Table A) → Matches m ts d (suc d) b (entry_at d t) (table_in d t) → is_empty n (suc d, b) ≡ all_below (block_pages (suc d)) (λ i. is_unmapped (changed_entry (suc d) (entry_at d t) (part (suc d) b c) i))
   unfolding is_empty
   empty_after d b t h =
-      all_same 0 (block_pages (suc d)) (λ i. is_unmapped (n (b * block_pages (suc d) + i))) (λ i. is_unmapped (changed (suc d) (entry_at d t) (part (suc d) b c) i)) (λ i l u. let p : i < block_pages (suc d) = omega arith in ap is_unmapped (entry_after d b i t h p))
+      all_same 0 (block_pages (suc d)) (λ i. is_unmapped (n (b * block_pages (suc d) + i))) (λ i. is_unmapped (changed_entry (suc d) (entry_at d t) (part (suc d) b c) i)) (λ i l u. let p : i < block_pages (suc d) = omega arith in ap is_unmapped (entry_after d b i t h p))
 
   gone_word : (d w : ℕ) (s : Slot A) (z : Change) (f : ℕ) → s ≡ Word w → slot_gone (suc d) s z f ≡ 0
   unfolding slot_gone
   gone_word d w s z f e = rw e (case_word _ _ w)
 
-  gone_child : (d : ℕ) (x : Box (Table A) A) (s : Slot A) (z : Change) (f : ℕ) → s ≡ Child x → slot_gone (suc d) s z f ≡ table_gone d x.value z f + cond (all_below (block_pages (suc d)) (λ i. is_unmapped (changed (suc d) (entry_at d x.value) z i))) (is_one (frame_of x.value) f) 0
+  gone_child : (d : ℕ) (x : Box (Table A) A) (s : Slot A) (z : Change) (f : ℕ) → s ≡ Child x → slot_gone (suc d) s z f ≡ table_gone d x.value z f + cond (all_below (block_pages (suc d)) (λ i. is_unmapped (changed_entry (suc d) (entry_at d x.value) z i))) (is_one (frame_of x.value) f) 0
   unfolding slot_gone gone_parts
   gone_child d x s z f e = rw e (case_child _ _ x)
 

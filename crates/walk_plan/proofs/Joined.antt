@@ -2,7 +2,7 @@
 use Rattle.std.proofs.Common.{◌≡◌, ℕ, zero, suc, ◌+◌, ◌<◌, refl, sym, ap, subst, arith, ◌∙◌, inl, inr, ◌⊎◌, Bool, List, [], ◌∷◌, ◌++◌, length, length-append, filter, All, Contains, AllPairs, slice_index_or}
 use Rattle.std.proofs.lemmas.List.Elements.{All-nil, All-append, All-contains, Contains-append_left, Contains-append_right, filter-append}
 use Rattle.std.proofs.lemmas.List.Kept.{AllPairs-cons}
-use Rattle.table_tree.specs.AllBlocks.{joined}
+use Rattle.table_tree.specs.AllBlocks.{gathered}
 use Rattle.walk_plan.specs.inner.Needs.{sum_to}
 use Rattle.walk_plan.proofs.Cases.{by_last}
 
@@ -16,28 +16,28 @@ sum_same f g (suc n) h = let x = sum_same f g n (λ i p. h i (omega arith)) in l
 -- joined parts
 
 module _ {X : Type 0} where
-  pub length_joined : (f : ℕ → List X) (n : ℕ) → length (joined f n) ≡ sum_to (λ i. length (f i)) n
-  unfolding joined sum_to
+  pub length_joined : (f : ℕ → List X) (n : ℕ) → length (gathered f n) ≡ sum_to (λ i. length (f i)) n
+  unfolding gathered sum_to
   length_joined f zero = refl
-  length_joined f (suc n) = length-append (joined f n) (f n) ∙ ap (λ k. k + length (f n)) (length_joined f n)
+  length_joined f (suc n) = length-append (gathered f n) (f n) ∙ ap (λ k. k + length (f n)) (length_joined f n)
 
-  pub filter_joined : (p : X → Bool) (f : ℕ → List X) (n : ℕ) → filter p (joined f n) ≡ joined (λ i. filter p (f i)) n
-  unfolding joined
+  pub filter_joined : (p : X → Bool) (f : ℕ → List X) (n : ℕ) → filter p (gathered f n) ≡ gathered (λ i. filter p (f i)) n
+  unfolding gathered
   filter_joined p f zero = refl
-  filter_joined p f (suc n) = filter-append p (joined f n) (f n) ∙ ap (λ xs. xs ++ filter p (f n)) (filter_joined p f n)
+  filter_joined p f (suc n) = filter-append p (gathered f n) (f n) ∙ ap (λ xs. xs ++ filter p (f n)) (filter_joined p f n)
 
-  pub all_joined : (P : X → Type 0) (f : ℕ → List X) (n : ℕ) → ((i : ℕ) → i < n → All P (f i)) → All P (joined f n)
-  unfolding joined
+  pub all_joined : (P : X → Type 0) (f : ℕ → List X) (n : ℕ) → ((i : ℕ) → i < n → All P (f i)) → All P (gathered f n)
+  unfolding gathered
   all_joined P f zero h = All-nil P
-  all_joined P f (suc n) h = All-append P (joined f n) (f n) (all_joined P f n (λ i p. h i (omega arith))) (h n (omega arith))
+  all_joined P f (suc n) h = All-append P (gathered f n) (f n) (all_joined P f n (λ i p. h i (omega arith))) (h n (omega arith))
 
-  pub contains_joined : (f : ℕ → List X) (n i : ℕ) (x : X) → i < n → Contains (f i) x → Contains (joined f n) x
-  unfolding joined
+  pub contains_joined : (f : ℕ → List X) (n i : ℕ) (x : X) → i < n → Contains (f i) x → Contains (gathered f n) x
+  unfolding gathered
   contains_joined f zero i x p h = absurd (omega arith)
   contains_joined f (suc n) i x p h =
       by_last i n p
-      (λ q. Contains-append_left (joined f n) (f n) x (contains_joined f n i x q h))
-      (λ q. Contains-append_right (joined f n) (f n) x (subst (λ k. Contains (f k) x) q h))
+      (λ q. Contains-append_left (gathered f n) (f n) x (contains_joined f n i x q h))
+      (λ q. Contains-append_right (gathered f n) (f n) x (subst (λ k. Contains (f k) x) q h))
 
   -- lists in order
 
@@ -56,11 +56,11 @@ module _ {X : Type 0} where
       let more : AllPairs R (xs ++ ys) = pairs_append R xs ys (pairs_tail R x xs a) b (λ k d less. c (suc k) d (omega arith)) in
       AllPairs-cons R x (xs ++ ys) (All-append (R x) xs ys (pairs_head R x xs a) (c 0 x (omega arith))) more
 
-  pub pairs_joined : (R : X → X → Type 0) (f : ℕ → List X) (n : ℕ) → ((i : ℕ) → i < n → AllPairs R (f i)) → ((i j : ℕ) → i < j → j < n → All (λ x. All (R x) (f j)) (f i)) → AllPairs R (joined f n)
-  unfolding joined
+  pub pairs_joined : (R : X → X → Type 0) (f : ℕ → List X) (n : ℕ) → ((i : ℕ) → i < n → AllPairs R (f i)) → ((i j : ℕ) → i < j → j < n → All (λ x. All (R x) (f j)) (f i)) → AllPairs R (gathered f n)
+  unfolding gathered
   pairs_joined R f zero h k = pairs_nil R
   pairs_joined R f (suc n) h k =
-      pairs_append R (joined f n) (f n) (pairs_joined R f n (λ i p. h i (omega arith)) (λ i j p q. k i j p (omega arith))) (h n (omega arith)) (all_joined (λ x. All (R x) (f n)) f n (λ i p. k i n p (omega arith)))
+      pairs_append R (gathered f n) (f n) (pairs_joined R f n (λ i p. h i (omega arith)) (λ i j p q. k i j p (omega arith))) (h n (omega arith)) (all_joined (λ x. All (R x) (f n)) f n (λ i p. k i n p (omega arith)))
 
   contains_cases : (x : X) (xs : List X) (y : X) → Contains (x ∷ xs) y → (x ≡ y) ⊎ Contains xs y
   contains_cases x xs y h = at h.0 h.1 h.2

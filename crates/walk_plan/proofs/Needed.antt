@@ -21,11 +21,11 @@ use Rattle.table_tree.specs.Slots.{IsSlot, slot_entry, slot_table}
 use Rattle.table_tree.specs.View.{meaning, table_at, tree_of}
 use Rattle.table_tree.proofs.Slots.{by_slot, case_word, case_child, shaped_slot, slot_word_is, child_shaped}
 use Rattle.walk_plan.specs.declared.change.Change.{Change}
-use Rattle.walk_plan.specs.Changes.{part, is_one_word as is_one_word_after}
+use Rattle.walk_plan.specs.Changes.{part, stays_one_word as is_one_word_after}
 use Rattle.walk_plan.specs.inner.Needs.{sum_to, met, block_need, slot_need, table_need, table_parts}
 use Rattle.walk_plan.proofs.Entries.{word_fits, part_fits}
 use Rattle.walk_plan.proofs.Numbers.{part_part}
-use Rattle.table_tree.specs.AllBlocks.{joined}
+use Rattle.table_tree.specs.AllBlocks.{gathered}
 use Rattle.table_tree.proofs.Joined.{joined_none}
 use Rattle.walk_plan.proofs.Joined.{sum_same, length_joined, filter_joined}
 use Rattle.walk_plan.proofs.Walked.{meets, under, under_page, under_met, under_unmet}
@@ -63,7 +63,7 @@ module _ (c : Change) (n : Map) (ts : Block → Option ℕ) where
   needed d b = filter (is_needed ts n) (under c d b)
 
   abbrev pub needed_below : ℕ → ℕ → List Block
-  needed_below d b = joined (λ i. needed d (512 * b + i)) 512
+  needed_below d b = gathered (λ i. needed d (512 * b + i)) 512
 
   -- one word, so not needed
   pub one_word_not : (b : Block) → is_one_word n b ≡ true → is_needed ts n b ≡ false

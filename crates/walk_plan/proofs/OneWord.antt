@@ -13,7 +13,7 @@ use Rattle.page_state.proofs.Cases.{by_lt}
 use Rattle.page_state.proofs.Common.{eq-same, and-both, eq-made}
 use Rattle.page_state.proofs.Entries.{advance-none, advance-more, entry_eq-same, entry_eq-self}
 use Rattle.walk_plan.specs.declared.change.Change.{Change}
-use Rattle.walk_plan.specs.Changes.{part, is_whole, is_one_word as is_one_word_after}
+use Rattle.walk_plan.specs.Changes.{part, is_whole, stays_one_word as is_one_word_after}
 use Rattle.walk_plan.proofs.Entries.{advance_back, part_fits}
 use Rattle.walk_plan.proofs.Walked.{meets}
 

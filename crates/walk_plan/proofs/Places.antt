@@ -9,9 +9,9 @@ use Rattle.page_state.proofs.Common.{eq-self}
 use Rattle.page_state.proofs.BlockTests.{block_eq-same}
 use Rattle.page_state.proofs.Blocks.{and-join}
 use Rattle.walk_plan.specs.inner.Needs.{sum_to}
-use Rattle.walk_plan.specs.inner.Ranks.{given, later}
+use Rattle.walk_plan.specs.inner.Ranks.{given_rank, later}
 use Rattle.walk_plan.proofs.Cases.{by_last}
-use Rattle.table_tree.specs.AllBlocks.{joined}
+use Rattle.table_tree.specs.AllBlocks.{gathered}
 use Rattle.walk_plan.proofs.Joined.{length_joined}
 
 -- one block
@@ -85,29 +85,29 @@ place_right (x ∷ xs) ys b h =
     let n : 1 + length xs ≡ suc (length xs) = omega arith in
     place_later x b (xs ++ ys) e ∙ ap (later 1) (place_right xs ys b more) ∙ later_twice 1 (length xs) (place ys b) ∙ ap (λ k. later k (place ys b)) n)
 
-pub place_joined_none : (f : ℕ → List Block) (n : ℕ) (b : Block) → ((k : ℕ) → k < n → place (f k) b ≡ None) → place (joined f n) b ≡ None
-unfolding joined
+pub place_joined_none : (f : ℕ → List Block) (n : ℕ) (b : Block) → ((k : ℕ) → k < n → place (f k) b ≡ None) → place (gathered f n) b ≡ None
+unfolding gathered
 place_joined_none f zero b h = place_nil b
-place_joined_none f (suc n) b h = place_left (joined f n) (f n) b (h n (omega arith)) ∙ place_joined_none f n b (λ k p. h k (omega arith))
+place_joined_none f (suc n) b h = place_left (gathered f n) (f n) b (h n (omega arith)) ∙ place_joined_none f n b (λ k p. h k (omega arith))
 
 -- the place of a block that is in one part alone
-pub place_joined : (f : ℕ → List Block) (n i : ℕ) (b : Block) → i < n → ((k : ℕ) → k < n → (k ≡ i → ⊥) → place (f k) b ≡ None) → place (joined f n) b ≡ later (sum_to (λ k. length (f k)) i) (place (f i) b)
-unfolding joined
+pub place_joined : (f : ℕ → List Block) (n i : ℕ) (b : Block) → i < n → ((k : ℕ) → k < n → (k ≡ i → ⊥) → place (f k) b ≡ None) → place (gathered f n) b ≡ later (sum_to (λ k. length (f k)) i) (place (f i) b)
+unfolding gathered
 place_joined f zero i b p h = absurd (omega arith)
 place_joined f (suc n) i b p h =
     by_last i n p
-    (λ q. let ne : n ≡ i → ⊥ = λ e. omega arith in place_left (joined f n) (f n) b (h n (omega arith) ne) ∙ place_joined f n i b q (λ k r. h k (omega arith)))
+    (λ q. let ne : n ≡ i → ⊥ = λ e. omega arith in place_left (gathered f n) (f n) b (h n (omega arith) ne) ∙ place_joined f n i b q (λ k r. h k (omega arith)))
     (λ q.
     let none = place_joined_none f n b (λ k r. h k (omega arith) (λ e. omega arith)) in
-    place_right (joined f n) (f n) b none ∙ ap (λ k. later k (place (f n) b)) (length_joined f n) ∙ ap (λ k. later (sum_to (λ j. length (f j)) k) (place (f k) b)) (sym q))
+    place_right (gathered f n) (f n) b none ∙ ap (λ k. later k (place (f n) b)) (length_joined f n) ∙ ap (λ k. later (sum_to (λ j. length (f j)) k) (place (f k) b)) (sym q))
 
 -- the frame that a block gets
 
-later_given : (f : ℕ) (fs : List ℕ) (p : Option ℕ) → given (f ∷ fs) None (later 1 p) ≡ given fs None p
+later_given : (f : ℕ) (fs : List ℕ) (p : Option ℕ) → given_rank (f ∷ fs) None (later 1 p) ≡ given_rank fs None p
 later_given f fs None = refl
 later_given f fs (Some r) = let e : 1 + r ≡ suc r = omega arith in ap (λ k. Some (get_or (f ∷ fs) k 0)) e
 
-pub placed_given : (bs : List Block) (fs : List ℕ) (old : Block → Option ℕ) (b : Block) → length bs ≤ length fs → old b ≡ None → placed bs fs old b ≡ given fs None (place bs b)
+pub placed_given : (bs : List Block) (fs : List ℕ) (old : Block → Option ℕ) (b : Block) → length bs ≤ length fs → old b ≡ None → placed bs fs old b ≡ given_rank fs None (place bs b)
 unfolding place
 placed_given [] fs old b p h = h
 placed_given (a ∷ bs) [] old b p h = absurd (omega arith)

@@ -15,7 +15,7 @@ use Rattle.table_tree.specs.declared.table.Slot.TheVariants.{Word, Child}
 use Rattle.table_tree.specs.Meaning.{slot_at, level_at}
 use Rattle.table_tree.proofs.Slots.{case_word, case_child}
 use Rattle.walk_plan.specs.declared.change.Change.{Change}
-use Rattle.walk_plan.specs.Changes.{IsChange, part, is_one_word}
+use Rattle.walk_plan.specs.Changes.{IsChange, part, stays_one_word}
 use Rattle.walk_plan.specs.inner.Needs.{met, sum_to, block_need, slot_need, table_need, block_parts, table_parts}
 
 pub range_advance : (n m k : ℕ) (e : Entry) → IsRangeEntry n e → k + m ≤ n → IsRangeEntry m (advance e k)
@@ -105,12 +105,12 @@ pub block_none : (n : ℕ) (x : Entry) (c : Change) → n ≡ 0 → block_need n
 unfolding block_need
 block_none n x c e = rw e refl
 
-pub block_one : (n : ℕ) (x : Entry) (c : Change) → is_one_word n x c ≡ true → block_need n x c ≡ 0
+pub block_one : (n : ℕ) (x : Entry) (c : Change) → stays_one_word n x c ≡ true → block_need n x c ≡ 0
 unfolding block_need
 block_one zero x c e = refl
 block_one (suc n) x c e = rw e refl
 
-pub block_split : (n : ℕ) (x : Entry) (c : Change) → 1 ≤ n → is_one_word n x c ≡ false → block_need n x c ≡ 1 + sum_to (met (n - 1) c (block_parts (n - 1) x)) 512
+pub block_split : (n : ℕ) (x : Entry) (c : Change) → 1 ≤ n → stays_one_word n x c ≡ false → block_need n x c ≡ 1 + sum_to (met (n - 1) c (block_parts (n - 1) x)) 512
 unfolding block_need block_parts
 block_split zero x c k e = absurd (omega arith)
 block_split (suc n) x c k e = rw e (simp unary_clauses)

@@ -24,9 +24,9 @@ use Rattle.table_tree.specs.Slots.{IsSlot, slot_entry, slot_table}
 use Rattle.table_tree.specs.View.{meaning, table_at, tree_of}
 use Rattle.table_tree.proofs.Slots.{by_slot, case_word, case_child, shaped_slot, slot_word_is, child_shaped}
 use Rattle.walk_plan.specs.declared.change.Change.{Change}
-use Rattle.walk_plan.specs.Changes.{part, is_one_word as is_one_word_after}
+use Rattle.walk_plan.specs.Changes.{part, stays_one_word as is_one_word_after}
 use Rattle.walk_plan.specs.inner.Needs.{sum_to, met, block_parts, table_parts}
-use Rattle.walk_plan.specs.inner.Ranks.{given, later, met_at, block_rank, slot_rank, table_rank}
+use Rattle.walk_plan.specs.inner.Ranks.{given_rank, later, met_at, block_rank, slot_rank, table_rank}
 use Rattle.walk_plan.proofs.Entries.{word_fits, part_fits, eq_differ}
 use Rattle.walk_plan.proofs.Numbers.{part_part}
 use Rattle.walk_plan.proofs.Joined.{sum_same}
@@ -174,7 +174,7 @@ module _ {A : Type 0} (t : Tree A) (first count : ℕ) (e : Entry) (c : Change) 
       placed_old (needs top (tree_of t) edit) fs ts b (place_filter (is_needed ts n) (blocks_on top first count) b (table_not c n ts b f h)) ∙ h
 
   placed_made : (fs : List ℕ) (low j : ℕ) → low < top → j * block_pages (suc low) < input_pages t.geometry → need top (tree_of t) edit ≤ length fs → table_at t (suc low) j ≡ None
-      → placed (needs top (tree_of t) edit) fs (tree_of t).table (suc low, j) ≡ given fs None (table_rank top t.table c low (j * block_pages (suc low)))
+      → placed (needs top (tree_of t) edit) fs (tree_of t).table (suc low, j) ≡ given_rank fs None (table_rank top t.table c low (j * block_pages (suc low)))
   placed_made fs low j p q enough h =
       let m = meaning t in
       let n = update m first count e in
@@ -183,13 +183,13 @@ module _ {A : Type 0} (t : Tree A) (first count : ℕ) (e : Entry) (c : Change) 
       let pages = all_pages t in
       let rank = table_place c m n ts made low j top 0 t.table (low_depth t.geometry) t.shaped (match_tree t) p (record { low = omega arith; high = omega arith }) h in
       placed_given (needs top (tree_of t) edit) fs ts (suc low, j) enough h
-      ∙ ap (λ bs. given fs None (place bs (suc low, j))) (needs_walked t first count e c some within from to gives)
-      ∙ ap (given fs None) rank
-      ∙ ap (λ z. given fs None (table_rank top t.table z low (j * block_pages (suc low)))) (whole_part t first count e c some within from to gives)
+      ∙ ap (λ bs. given_rank fs None (place bs (suc low, j))) (needs_walked t first count e c some within from to gives)
+      ∙ ap (given_rank fs None) rank
+      ∙ ap (λ z. given_rank fs None (table_rank top t.table z low (j * block_pages (suc low)))) (whole_part t first count e c some within from to gives)
 
   pub ranked_at : (fs : List ℕ) (low j : ℕ) → low < top → j * block_pages (suc low) < input_pages t.geometry → need top (tree_of t) edit ≤ length fs
-      → placed (needs top (tree_of t) edit) fs (tree_of t).table (suc low, j) ≡ given fs (table_at t (suc low) j) (table_rank top t.table c low (j * block_pages (suc low)))
+      → placed (needs top (tree_of t) edit) fs (tree_of t).table (suc low, j) ≡ given_rank fs (table_at t (suc low) j) (table_rank top t.table c low (j * block_pages (suc low)))
   ranked_at fs low j p q enough =
       by_option (table_at t (suc low) j)
-      (λ f h. placed_kept fs (suc low, j) f h ∙ ap (λ o. given fs o (table_rank top t.table c low (j * block_pages (suc low)))) (sym h))
-      (λ h. placed_made fs low j p q enough h ∙ ap (λ o. given fs o (table_rank top t.table c low (j * block_pages (suc low)))) (sym h))
+      (λ f h. placed_kept fs (suc low, j) f h ∙ ap (λ o. given_rank fs o (table_rank top t.table c low (j * block_pages (suc low)))) (sym h))
+      (λ h. placed_made fs low j p q enough h ∙ ap (λ o. given_rank fs o (table_rank top t.table c low (j * block_pages (suc low)))) (sym h))

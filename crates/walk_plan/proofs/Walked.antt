@@ -10,7 +10,7 @@ use Rattle.page_state.proofs.Cases.{by_test}
 use Rattle.walk_plan.specs.declared.change.Change.{Change}
 use Rattle.walk_plan.specs.Changes.{part}
 use Rattle.walk_plan.proofs.Numbers.{less_scaled, from_part, to_part}
-use Rattle.table_tree.specs.AllBlocks.{joined}
+use Rattle.table_tree.specs.AllBlocks.{gathered}
 use Rattle.walk_plan.proofs.Joined.{all_joined}
 
 -- whether a change meets a block
@@ -32,11 +32,11 @@ block_met c d b p q r = pages_meet c.first c.end (b * block_pages d) (block_page
 -- a block and those below it that a change meets
 unfoldable pub under : Change → ℕ → ℕ → List Block
 under c zero b = []
-under c (suc d) b = cond (meets c (suc d) b) ((suc d, b) ∷ joined (λ i. under c d (512 * b + i)) 512) []
+under c (suc d) b = cond (meets c (suc d) b) ((suc d, b) ∷ gathered (λ i. under c d (512 * b + i)) 512) []
 
 -- those below it
 abbrev pub below : Change → ℕ → ℕ → List Block
-below c d b = joined (λ i. under c d (512 * b + i)) 512
+below c d b = gathered (λ i. under c d (512 * b + i)) 512
 
 pub under_page : (c : Change) (b : ℕ) → under c 0 b ≡ []
 unfolding under

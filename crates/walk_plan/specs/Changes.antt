@@ -23,8 +23,8 @@ pub record IsChange (depth : ℕ) (c : Change) : Type 0 where
   pub entry : IsRangeEntry (c.end - c.first) c.entry
 
 -- the entries `m` of a block with a change made
-abbrev pub changed : ℕ → (ℕ → Entry) → Change → ℕ → Entry
-changed depth m c q = if nat_le c.first (q % block_pages depth) && nat_lt (q % block_pages depth) c.end then advance c.entry (q % block_pages depth - c.first) else m q
+abbrev pub changed_entry : ℕ → (ℕ → Entry) → Change → ℕ → Entry
+changed_entry depth m c q = if nat_le c.first (q % block_pages depth) && nat_lt (q % block_pages depth) c.end then advance c.entry (q % block_pages depth - c.first) else m q
 
 -- what a change does in part `i` of its block, whose parts have `depth` levels below them
 abbrev pub part : ℕ → ℕ → Change → Change
@@ -35,5 +35,5 @@ abbrev pub is_whole : ℕ → Change → Bool
 is_whole depth c = c.first == 0 && c.end == block_pages depth && fits_word depth c.entry
 
 -- a block without a table whose first page has the entry `x` is one word after a change
-abbrev pub is_one_word : ℕ → Entry → Change → Bool
-is_one_word depth x c = is_whole depth c || entry_eq (advance x c.first) c.entry
+abbrev pub stays_one_word : ℕ → Entry → Change → Bool
+stays_one_word depth x c = is_whole depth c || entry_eq (advance x c.first) c.entry

@@ -3,7 +3,7 @@ ghost use Rattle.std.specs.Prelude.{◌≡◌, ◌<◌};
 ghost use Rattle.page_state.specs.Geometries.{block_pages};
 ghost use Rattle.table_tree.specs.Meaning.{IsDepth};
 ghost use Rattle.table_tree.specs.Shape.{HasSmallFrame};
-ghost use Rattle.walk_plan.specs.Changes.{IsChange, part, is_whole, is_one_word};
+ghost use Rattle.walk_plan.specs.Changes.{IsChange, part, is_whole, stays_one_word};
 
 use page_state::Entry;
 
@@ -45,7 +45,7 @@ impl Change {
         requires depth_in { IsDepth depth }
         requires change_in { IsChange depth self }
         requires small { HasSmallFrame old }
-        ensures { result ≡ is_one_word depth old self }
+        ensures { result ≡ stays_one_word depth old self }
     {
         self.is_whole(depth) || old.advance(self.first).is_same(self.entry)
     }

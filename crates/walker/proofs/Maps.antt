@@ -11,23 +11,23 @@ use Rattle.page_state.proofs.Entries.{advance-more}
 use Rattle.table_tree.specs.Meaning.{index_at}
 use Rattle.table_tree.proofs.Digits.{digits}
 use Rattle.walk_plan.specs.declared.change.Change.{Change}
-use Rattle.walk_plan.specs.Changes.{part, changed}
+use Rattle.walk_plan.specs.Changes.{part, changed_entry}
 use Rattle.walker.specs.inner.Walks.{upto}
 
-pub changed_in : (d : ℕ) (m : ℕ → Entry) (c : Change) (q : ℕ) → c.first ≤ q % 2 ^ (9 * d) → q % 2 ^ (9 * d) < c.end → changed d m c q ≡ advance c.entry (q % 2 ^ (9 * d) - c.first)
+pub changed_in : (d : ℕ) (m : ℕ → Entry) (c : Change) (q : ℕ) → c.first ≤ q % 2 ^ (9 * d) → q % 2 ^ (9 * d) < c.end → changed_entry d m c q ≡ advance c.entry (q % 2 ^ (9 * d) - c.first)
 changed_in d m c q a b = grind (arith, nat_tests)
 
-pub changed_before : (d : ℕ) (m : ℕ → Entry) (c : Change) (q : ℕ) → q % 2 ^ (9 * d) < c.first → changed d m c q ≡ m q
+pub changed_before : (d : ℕ) (m : ℕ → Entry) (c : Change) (q : ℕ) → q % 2 ^ (9 * d) < c.first → changed_entry d m c q ≡ m q
 changed_before d m c q a = grind (arith, nat_tests)
 
-pub changed_after : (d : ℕ) (m : ℕ → Entry) (c : Change) (q : ℕ) → c.end ≤ q % 2 ^ (9 * d) → changed d m c q ≡ m q
+pub changed_after : (d : ℕ) (m : ℕ → Entry) (c : Change) (q : ℕ) → c.end ≤ q % 2 ^ (9 * d) → changed_entry d m c q ≡ m q
 changed_after d m c q a = grind (arith, nat_tests)
 
-pub changed_at : (d : ℕ) (m n : ℕ → Entry) (c : Change) (q : ℕ) → m q ≡ n q → changed d m c q ≡ changed d n c q
+pub changed_at : (d : ℕ) (m n : ℕ → Entry) (c : Change) (q : ℕ) → m q ≡ n q → changed_entry d m c q ≡ changed_entry d n c q
 changed_at d m n c q e = ap (λ x. cond (nat_le c.first (q % 2 ^ (9 * d)) && nat_lt (q % 2 ^ (9 * d)) c.end) (advance c.entry (q % 2 ^ (9 * d) - c.first)) x) e
 
 -- a page of part `i` under the whole change, and under the part's
-pub part_map : (d i : ℕ) (c : Change) (m n : ℕ → Entry) (q : ℕ) → index_at d q ≡ i → m q ≡ n q → changed d m (part d i c) q ≡ changed (d + 1) n (upto c ((i + 1) * 2 ^ (9 * d))) q
+pub part_map : (d i : ℕ) (c : Change) (m n : ℕ → Entry) (q : ℕ) → index_at d q ≡ i → m q ≡ n q → changed_entry d m (part d i c) q ≡ changed_entry (d + 1) n (upto c ((i + 1) * 2 ^ (9 * d))) q
 part_map d i c m n q x e =
     let s = 2 ^ (9 * d) in
     let z = size_some d in
@@ -47,7 +47,7 @@ part_map d i c m n q x e =
     (λ b. changed_after d m (part d i c) q (omega (arith, k)) ∙ e ∙ sym (changed_after (d + 1) n (upto c ((i + 1) * s)) q (omega (arith, b)))))
 
 -- a page of another part
-pub other_map : (d i : ℕ) (c : Change) (m : ℕ → Entry) (q : ℕ) → index_at d q ≢ i → changed (d + 1) m (upto c (i * 2 ^ (9 * d))) q ≡ changed (d + 1) m (upto c ((i + 1) * 2 ^ (9 * d))) q
+pub other_map : (d i : ℕ) (c : Change) (m : ℕ → Entry) (q : ℕ) → index_at d q ≢ i → changed_entry (d + 1) m (upto c (i * 2 ^ (9 * d))) q ≡ changed_entry (d + 1) m (upto c ((i + 1) * 2 ^ (9 * d))) q
 other_map d i c m q x =
     let s = 2 ^ (9 * d) in
     let z = size_some d in
@@ -73,7 +73,7 @@ other_map d i c m q x =
     (λ b. changed_after (d + 1) m (upto c (i * s)) q (omega (arith, b)) ∙ sym (changed_after (d + 1) m (upto c ((i + 1) * s)) q (omega (arith, b)))))
 
 -- nothing is done before the first part
-pub start_map : (d : ℕ) (c : Change) (m : ℕ → Entry) (q : ℕ) → m q ≡ changed (d + 1) m (upto c (c.first / 2 ^ (9 * d) * 2 ^ (9 * d))) q
+pub start_map : (d : ℕ) (c : Change) (m : ℕ → Entry) (q : ℕ) → m q ≡ changed_entry (d + 1) m (upto c (c.first / 2 ^ (9 * d) * 2 ^ (9 * d))) q
 start_map d c m q =
     let s = 2 ^ (9 * d) in
     let u = q % 2 ^ (9 * (d + 1)) in
@@ -83,25 +83,25 @@ start_map d c m q =
     (λ a. sym (changed_after (d + 1) m (upto c (c.first / s * s)) q (omega (arith, z, a))))
 
 -- all is done after the last one
-pub end_map : (d i : ℕ) (c : Change) (m : ℕ → Entry) (q : ℕ) → 1 ≤ c.end → (c.end - 1) / 2 ^ (9 * d) + 1 ≤ i → changed (d + 1) m (upto c (i * 2 ^ (9 * d))) q ≡ changed (d + 1) m c q
+pub end_map : (d i : ℕ) (c : Change) (m : ℕ → Entry) (q : ℕ) → 1 ≤ c.end → (c.end - 1) / 2 ^ (9 * d) + 1 ≤ i → changed_entry (d + 1) m (upto c (i * 2 ^ (9 * d))) q ≡ changed_entry (d + 1) m c q
 end_map d i c m q k p =
     let s = 2 ^ (9 * d) in
     let z = size_some d in
     let t : s * ((c.end - 1) / s + 1) ≤ s * i = mul-le-mul_left s p in
     let e : min c.end (i * s) ≡ c.end = omega (arith, t, z) in
-    ap (λ n. changed (d + 1) m (record { first = c.first; end = n; entry = c.entry }) q) e
+    ap (λ n. changed_entry (d + 1) m (record { first = c.first; end = n; entry = c.entry }) q) e
 
 -- pages of part `i` and of those after it are as before
-pub untouched : (d i : ℕ) (c : Change) (m : ℕ → Entry) (q : ℕ) → i ≤ index_at d q → changed (d + 1) m (upto c (i * 2 ^ (9 * d))) q ≡ m q
+pub untouched : (d i : ℕ) (c : Change) (m : ℕ → Entry) (q : ℕ) → i ≤ index_at d q → changed_entry (d + 1) m (upto c (i * 2 ^ (9 * d))) q ≡ m q
 untouched d i c m q h =
     let k = digits d q in
     let t : i * 2 ^ (9 * d) ≤ index_at d q * 2 ^ (9 * d) = mul-le-mul_right (2 ^ (9 * d)) h in
     changed_after (d + 1) m (upto c (i * 2 ^ (9 * d))) q (omega (arith, k, t))
 
 -- one more part is done
-pub next_map : (d i : ℕ) (c : Change) (o m n : ℕ → Entry) → ((q : ℕ) → m q ≡ changed (d + 1) o (upto c (i * 2 ^ (9 * d))) q)
-    → ((q : ℕ) → index_at d q ≡ i → n q ≡ changed d m (part d i c) q) → ((q : ℕ) → index_at d q ≢ i → n q ≡ m q)
-    → (q : ℕ) → n q ≡ changed (d + 1) o (upto c ((i + 1) * 2 ^ (9 * d))) q
+pub next_map : (d i : ℕ) (c : Change) (o m n : ℕ → Entry) → ((q : ℕ) → m q ≡ changed_entry (d + 1) o (upto c (i * 2 ^ (9 * d))) q)
+    → ((q : ℕ) → index_at d q ≡ i → n q ≡ changed_entry d m (part d i c) q) → ((q : ℕ) → index_at d q ≢ i → n q ≡ m q)
+    → (q : ℕ) → n q ≡ changed_entry (d + 1) o (upto c ((i + 1) * 2 ^ (9 * d))) q
 next_map d i c o m n before here other q =
     by_eq (index_at d q) i
     (λ x. here q x ∙ part_map d i c m o q x (before q ∙ untouched d i c o q (omega (arith, x))))

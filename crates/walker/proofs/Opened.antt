@@ -29,9 +29,9 @@ use Rattle.table_tree.proofs.Standing.{table_top}
 use Rattle.table_tree.proofs.Words.{zero_said}
 use Rattle.table_tree.proofs.Sums.{fresh_word, fresh_child}
 use Rattle.walk_plan.specs.declared.change.Change.{Change}
-use Rattle.walk_plan.specs.Changes.{IsChange, changed, is_whole, is_one_word}
+use Rattle.walk_plan.specs.Changes.{IsChange, changed_entry, is_whole, stays_one_word}
 use Rattle.walk_plan.specs.inner.Needs.{block_need}
-use Rattle.walk_plan.specs.inner.Ranks.{given, later, block_rank, parts_rank, slot_rank}
+use Rattle.walk_plan.specs.inner.Ranks.{given_rank, later, block_rank, parts_rank, slot_rank}
 use Rattle.walk_plan.proofs.Ranges.{block_one, block_split, slot_word, slot_child}
 use Rattle.walk_plan.proofs.Seen.{seen_deep}
 use Rattle.walk_plan.proofs.Ranked.{rank_child}
@@ -49,7 +49,7 @@ can_last n Unmapped p h = refl
 can_last n (Annotated o) p h = let a = h.0 in let b = h.1 in grind (arith, nat_tests)
 can_last n (Leaf f r k s) p h = let a : f.0 < 2 ^ 36 = omega arith in let b : f.0 % 1 ≡ 0 = omega arith in grind (arith, nat_tests)
 
-zero_word : (x : Entry) (c : Change) → IsChange 0 c → is_one_word 0 x c ≡ true
+zero_word : (x : Entry) (c : Change) → IsChange 0 c → stays_one_word 0 x c ≡ true
 zero_word x c h =
     let some = h.some in
     let within : c.end ≤ 1 = h.within in
@@ -61,7 +61,7 @@ pub false_true : {P : Type 0} (b : Bool) → b ≡ true → b ≡ false → P
 false_true true e f = absurd (cc)
 false_true false e f = absurd (cc)
 
-from_one : (d : ℕ) (x : Entry) (c : Change) → IsChange d c → is_one_word d x c ≡ false → 1 ≤ d
+from_one : (d : ℕ) (x : Entry) (c : Change) → IsChange d c → stays_one_word d x c ≡ false → 1 ≤ d
 from_one zero x c h z = false_true _ (zero_word x c h) z
 from_one (suc d) x c h z = omega arith
 
@@ -75,7 +75,7 @@ whole_none d c e a b z =
     let z' = rw (a', b', e) at z in absurd (cc)
 
 -- what a split block has afterwards is not empty
-split_some : (d : ℕ) (x : Entry) (c : Change) (m : ℕ → Entry) → IsChange d c → is_one_word d x c ≡ false → ((q : ℕ) → m q ≡ advance x (q % 2 ^ (9 * d))) → ((q : ℕ) → q < 2 ^ (9 * d) → changed d m c q ≡ Unmapped) → ⊥
+split_some : (d : ℕ) (x : Entry) (c : Change) (m : ℕ → Entry) → IsChange d c → stays_one_word d x c ≡ false → ((q : ℕ) → m q ≡ advance x (q % 2 ^ (9 * d))) → ((q : ℕ) → q < 2 ^ (9 * d) → changed_entry d m c q ≡ Unmapped) → ⊥
 split_some d x c m h z k all =
     let s = 2 ^ (9 * d) in
     let p = size_some d in
@@ -125,8 +125,8 @@ module _ {A : Type 0} where
       absurd (omega (arith, a, e))
 
   -- a word that a change leaves one word
-  pub rewritten : (d i w v : ℕ) (t : Table A) (c : Change) → slot_at t i ≡ Word w → IsSeen i t (slot_at t i) → is_one_word d (entry_of_word (desc_of (level_at d) w)) c ≡ true → IsEntryWord d v
-      → ((q : ℕ) → word_entry d q v ≡ changed d (λ p. word_entry d p w) c q) → IsRewritten d i t c v
+  pub rewritten : (d i w v : ℕ) (t : Table A) (c : Change) → slot_at t i ≡ Word w → IsSeen i t (slot_at t i) → stays_one_word d (entry_of_word (desc_of (level_at d) w)) c ≡ true → IsEntryWord d v
+      → ((q : ℕ) → word_entry d q v ≡ changed_entry d (λ p. word_entry d p w) c q) → IsRewritten d i t c v
   rewritten d i w v t c e h one said map = record {
     holds = (w, e);
     word = said;
@@ -136,13 +136,13 @@ module _ {A : Type 0} where
     gone = λ f. gone_word d w f (slot_at t i) c e;
   }
 
-  pub some_rewritten : (r : Option ℕ) (d i w : ℕ) (t : Table A) (c : Change) → slot_at t i ≡ Word w → IsSeen i t (slot_at t i) → is_some r ≡ is_one_word d (entry_of_word (desc_of (level_at d) w)) c → IfSome r (λ v. IsEntryWord d v)
-      → IfSome r (λ v. (q : ℕ) → word_entry d q v ≡ changed d (λ p. word_entry d p w) c q) → IfSome r (λ v. IsRewritten d i t c v)
+  pub some_rewritten : (r : Option ℕ) (d i w : ℕ) (t : Table A) (c : Change) → slot_at t i ≡ Word w → IsSeen i t (slot_at t i) → is_some r ≡ stays_one_word d (entry_of_word (desc_of (level_at d) w)) c → IfSome r (λ v. IsEntryWord d v)
+      → IfSome r (λ v. (q : ℕ) → word_entry d q v ≡ changed_entry d (λ p. word_entry d p w) c q) → IfSome r (λ v. IsRewritten d i t c v)
   some_rewritten None d i w t c e h one said map = tt
   some_rewritten (Some v) d i w t c e h one said map = rewritten d i w v t c e h (sym one) said map
 
   -- a word that it splits
-  pub opening_word : (d w : ℕ) (s : Slot A) (c : Change) → s ≡ Word w → IsChange d c → is_one_word d (entry_of_word (desc_of (level_at d) w)) c ≡ false → IsOpening d s c
+  pub opening_word : (d w : ℕ) (s : Slot A) (c : Change) → s ≡ Word w → IsChange d c → stays_one_word d (entry_of_word (desc_of (level_at d) w)) c ≡ false → IsOpening d s c
   opening_word d w s c e h z =
       let x = entry_of_word (desc_of (level_at d) w) in
       let k = from_one d x c h z in
@@ -150,7 +150,7 @@ module _ {A : Type 0} where
       let f = fresh_word w s e in
       record {
         deep = k;
-        split = λ v y. subst (λ n. is_one_word d (entry_of_word (desc_of (level_at d) n)) c ≡ false) (same_word w v s e y) z;
+        split = λ v y. subst (λ n. stays_one_word d (entry_of_word (desc_of (level_at d) n)) c ≡ false) (same_word w v s e y) z;
         need = omega (arith, n, f);
       }
 
@@ -207,7 +207,7 @@ module _ {A : Type 0} where
       → IsReady (suc d) d i t child (frame_of child ∷ after) after c
   ready_word d i w t child x after c e k none filled h opening =
       let z = fresh_word w (slot_at t i) e in
-      let split : is_one_word (suc d) x c ≡ false = rw k (opening.split w e) in
+      let split : stays_one_word (suc d) x c ≡ false = rw k (opening.split w e) in
       let need = slot_word (suc d) w (slot_at t i) c e ∙ ap (λ y. block_need (suc d) y c) (sym k) ∙ block_split (suc d) x c (omega arith) split in
       let o : suc d - 1 ≡ d = omega arith in
       let need' = rw o at need in
@@ -217,12 +217,12 @@ module _ {A : Type 0} where
       let n : suc d ≡ d + 1 = omega arith in
       record {
         need = omega (arith, z, need', parts_need d x child filled.parts c);
-        here = λ q y. rw (none d q (omega arith) y) (ap (λ r. given (frame_of child ∷ after) None r) (rank d q ∙ ap (λ a. cond a (Some 0) (later 1 (parts_rank d x c d q))) (eq-made d d refl)));
+        here = λ q y. rw (none d q (omega arith) y) (ap (λ r. given_rank (frame_of child ∷ after) None r) (rank d q ∙ ap (λ a. cond a (Some 0) (later 1 (parts_rank d x c d q))) (eq-made d d refl)));
         below = λ low q l y.
             let l' : low < suc d = omega arith in
             let ne : low ≢ d = omega arith in
-            rw (none low q l' y, filled.standing low q l) (ap (λ r. given after None r) (parts_ranked d x child filled.parts c low q) ∙ given_later (frame_of child ∷ after) 1 None (parts_rank d x c low q)
-            ∙ sym (ap (λ r. given (frame_of child ∷ after) None r) (rank low q ∙ ap (λ a. cond a (Some 0) (later 1 (parts_rank d x c low q))) (eq-other low d ne))));
+            rw (none low q l' y, filled.standing low q l) (ap (λ r. given_rank after None r) (parts_ranked d x child filled.parts c low q) ∙ given_later (frame_of child ∷ after) 1 None (parts_rank d x c low q)
+            ∙ sym (ap (λ r. given_rank (frame_of child ∷ after) None r) (rank low q ∙ ap (λ a. cond a (Some 0) (later 1 (parts_rank d x c low q))) (eq-other low d ne))));
         stays = λ f y. omega (arith, gone f, none_gone f);
         goes = λ f y. absurd (split_some (suc d) x c (entry_at d child) h split (λ q. filled.map q ∙ ap (λ m. advance x (q % block_pages m)) (sym n)) (emptied_each (suc d) (entry_at d child) c y));
       }

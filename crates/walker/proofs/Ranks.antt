@@ -13,25 +13,25 @@ use Rattle.table_tree.specs.declared.table.Slot.TheVariants.{Word}
 use Rattle.table_tree.specs.Meaning.{slot_at, level_at, index_at}
 use Rattle.table_tree.proofs.Slots.{case_word}
 use Rattle.walk_plan.specs.declared.change.Change.{Change}
-use Rattle.walk_plan.specs.Changes.{IsChange, part, is_one_word}
+use Rattle.walk_plan.specs.Changes.{IsChange, part, stays_one_word}
 use Rattle.walk_plan.specs.inner.Needs.{sum_to, met, table_parts}
-use Rattle.walk_plan.specs.inner.Ranks.{given, later, met_at, block_rank, parts_rank, slot_rank, table_rank}
+use Rattle.walk_plan.specs.inner.Ranks.{given_rank, later, met_at, block_rank, parts_rank, slot_rank, table_rank}
 use Rattle.walk_plan.proofs.Ranges.{before_part, after_part}
 
 pub later_none : (n : ℕ) (r : Option ℕ) → r ≡ None → later n r ≡ None
 later_none n r e = rw e refl
 
 -- a stock of which `n` were taken
-pub given_later : (fs : List ℕ) (n : ℕ) (o r : Option ℕ) → given (drop n fs) o r ≡ given fs o (later n r)
+pub given_later : (fs : List ℕ) (n : ℕ) (o r : Option ℕ) → given_rank (drop n fs) o r ≡ given_rank fs o (later n r)
 given_later fs n (Some x) r = refl
 given_later fs n None None = refl
 given_later fs n None (Some r) = ap Some (get_or-drop n fs r 0)
 
-pub given_none : (fs : List ℕ) (o r : Option ℕ) → r ≡ None → given fs o r ≡ o
+pub given_none : (fs : List ℕ) (o r : Option ℕ) → r ≡ None → given_rank fs o r ≡ o
 given_none fs (Some x) r e = refl
 given_none fs None r e = rw e refl
 
-pub given_some : (fs : List ℕ) (o r : Option ℕ) (f : ℕ) → o ≡ Some f → given fs o r ≡ Some f
+pub given_some : (fs : List ℕ) (o r : Option ℕ) (f : ℕ) → o ≡ Some f → given_rank fs o r ≡ Some f
 given_some fs o r f e = rw e refl
 
 met_at_none : (d i : ℕ) (c : Change) (f : ℕ → Change → Option ℕ) → (part d i c).end ≤ (part d i c).first → met_at d c f i ≡ None
@@ -49,12 +49,12 @@ unmet_before d k c h = let b = before_part (2 ^ (9 * d)) k c.first (size_some d)
 unmet_after : (d k : ℕ) (c : Change) → 1 ≤ c.end → (c.end - 1) / 2 ^ (9 * d) + 1 ≤ k → (part d k c).end ≤ (part d k c).first
 unmet_after d k c e h = let b = after_part (2 ^ (9 * d)) k c.end (size_some d) e h in omega (arith, b)
 
-pub block_rank_one : (d : ℕ) (x : Entry) (c : Change) (low q : ℕ) → is_one_word d x c ≡ true → block_rank d x c low q ≡ None
+pub block_rank_one : (d : ℕ) (x : Entry) (c : Change) (low q : ℕ) → stays_one_word d x c ≡ true → block_rank d x c low q ≡ None
 unfolding block_rank
 block_rank_one zero x c low q e = refl
 block_rank_one (suc d) x c low q e = rw e refl
 
-pub block_rank_split : (d : ℕ) (x : Entry) (c : Change) (low q : ℕ) → is_one_word (suc d) x c ≡ false → block_rank (suc d) x c low q ≡ cond (low == d) (Some 0) (later 1 (parts_rank d x c low q))
+pub block_rank_split : (d : ℕ) (x : Entry) (c : Change) (low q : ℕ) → stays_one_word (suc d) x c ≡ false → block_rank (suc d) x c low q ≡ cond (low == d) (Some 0) (later 1 (parts_rank d x c low q))
 unfolding block_rank parts_rank
 block_rank_split d x c low q e = rw e refl
 

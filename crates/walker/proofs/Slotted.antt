@@ -21,9 +21,9 @@ use Rattle.table_tree.proofs.Slots.{set_here}
 use Rattle.table_tree.proofs.Standing.{table_top}
 use Rattle.table_tree.proofs.Words.{zero_entry}
 use Rattle.walk_plan.specs.declared.change.Change.{Change}
-use Rattle.walk_plan.specs.Changes.{changed}
+use Rattle.walk_plan.specs.Changes.{changed_entry}
 use Rattle.walk_plan.specs.inner.Needs.{slot_need, table_need}
-use Rattle.walk_plan.specs.inner.Ranks.{given, slot_rank, table_rank, slot_gone, table_gone}
+use Rattle.walk_plan.specs.inner.Ranks.{given_rank, slot_rank, table_rank, slot_gone, table_gone}
 use Rattle.walker.specs.inner.Steps.{IsOpened, IsReady, is_emptied}
 use Rattle.walker.proofs.Maps.{changed_at}
 use Rattle.walker.proofs.Blank.{entry_word, entry_in_block, unmapped_blank}
@@ -35,8 +35,8 @@ module _ {A : Type 0} where
     pub frame : frame_of b' ≡ frame_of b
     pub shape : IsShaped d b'
     pub tight : IsTight d b'
-    pub map : (q : ℕ) → entry_at d b' q ≡ changed (d + 1) (entry_at d b) c q
-    pub kept : (low q p : ℕ) → low < d → p / block_pages (low + 1) ≡ q / block_pages (low + 1) → (entry_at d b' p ≡ Unmapped → ⊥) → table_in d b' low q ≡ given before (table_in d b low q) (table_rank d b c low q)
+    pub map : (q : ℕ) → entry_at d b' q ≡ changed_entry (d + 1) (entry_at d b) c q
+    pub kept : (low q p : ℕ) → low < d → p / block_pages (low + 1) ≡ q / block_pages (low + 1) → (entry_at d b' p ≡ Unmapped → ⊥) → table_in d b' low q ≡ given_rank before (table_in d b low q) (table_rank d b c low q)
     pub spare : after ≡ drop (table_need d b c) before
     pub uses : (f : ℕ) → uses_in d b' f + table_gone d b c f ≡ uses_in d b f + frame_count f (take (table_need d b c) before)
 
@@ -45,7 +45,7 @@ module _ {A : Type 0} where
     spent_entry p wide q x = entry_word (d + 1) u q 0 (set_here t u i (index_at (d + 1) q) (Word 0) o.slots p wide x) ∙ zero_entry (d + 1) q
 
     -- what is done to the pages of the slot
-    pub grown_map : (q : ℕ) → index_at (d + 1) q ≡ i → entry_at d b' q ≡ changed (d + 1) (entry_at (d + 1) t) c q
+    pub grown_map : (q : ℕ) → index_at (d + 1) q ≡ i → entry_at d b' q ≡ changed_entry (d + 1) (entry_at (d + 1) t) c q
     grown_map q x = g.map q ∙ changed_at (d + 1) (entry_at d b) (entry_at (d + 1) t) c q (o.map q x)
 
     pub all_spare : hs ≡ drop (slot_need (d + 1) (slot_at t i) c) fs
@@ -55,11 +55,11 @@ module _ {A : Type 0} where
     all_taken f = ap (λ n. frame_count f (take n fs)) (sym r.need) ∙ count_split f (fresh (slot_at t i)) (table_need d b c) fs ∙ ap (λ l. frame_count f (take (fresh (slot_at t i)) fs) + frame_count f (take (table_need d b c) l)) (sym o.stock)
 
     -- a child that went
-    pub spent_map : IsNew b' → i < 512 → IsWide t → (q : ℕ) → index_at (d + 1) q ≡ i → entry_at (d + 1) u q ≡ changed (d + 1) (entry_at (d + 1) t) c q
+    pub spent_map : IsNew b' → i < 512 → IsWide t → (q : ℕ) → index_at (d + 1) q ≡ i → entry_at (d + 1) u q ≡ changed_entry (d + 1) (entry_at (d + 1) t) c q
     spent_map new p wide q x = spent_entry p wide q x ∙ sym (new.map d q) ∙ grown_map q x
 
     pub spent_kept : i < 512 → IsWide t → (low q p : ℕ) → low < d + 1 → p / block_pages (low + 1) ≡ q / block_pages (low + 1) → index_at (d + 1) q ≡ i → (entry_at (d + 1) u p ≡ Unmapped → ⊥)
-        → table_in (d + 1) u low q ≡ given fs (table_in (d + 1) t low q) (slot_rank (d + 1) (slot_at t i) c low q)
+        → table_in (d + 1) u low q ≡ given_rank fs (table_in (d + 1) t low q) (slot_rank (d + 1) (slot_at t i) c low q)
     spent_kept l wide low q p h e x n = absurd (n (spent_entry l wide p (index_same (d + 1) low p q h e ∙ x)))
 
     spent_gone : IsNew b' → (f : ℕ) → slot_gone (d + 1) (slot_at t i) c f ≡ table_gone d b c f + is_one (frame_of b) f
@@ -83,13 +83,13 @@ module _ {A : Type 0} where
       back_gone f = r.stays f (not-holds (is_emptied (d + 1) (entry_at d b) c) (λ z. some (unmapped_blank d b' g.shape g.tight (λ q. unmapped_all z q))))
 
       pub back_kept : (low q p : ℕ) → low < d + 1 → p / block_pages (low + 1) ≡ q / block_pages (low + 1) → index_at (d + 1) q ≡ i → (entry_at (d + 1) v p ≡ Unmapped → ⊥)
-          → table_in (d + 1) v low q ≡ given fs (table_in (d + 1) t low q) (slot_rank (d + 1) (slot_at t i) c low q)
+          → table_in (d + 1) v low q ≡ given_rank fs (table_in (d + 1) t low q) (slot_rank (d + 1) (slot_at t i) c low q)
       back_kept low q p h e x n =
           let y : index_at (d + 1) p ≡ i = index_same (d + 1) low p q h e ∙ x in
           let here : entry_at (d + 1) v p ≡ entry_at d b' p = a.map d p ∙ ap (λ z. cond z (entry_at d b' p) (entry_at (d + 1) u p)) (eq-made (index_at (d + 1) p) i y) in
           let stand : table_in (d + 1) v low q ≡ table_in d b' low q = a.standing d low q (omega arith) ∙ ap (λ z. cond z (table_in d b' low q) (table_in (d + 1) u low q)) (eq-made (index_at (d + 1) q) i x) in
           by_eq low d
-          (λ z. stand ∙ table_top d low b' q z ∙ ap Some g.frame ∙ sym (r.here q x) ∙ ap (λ l. given fs (table_in (d + 1) t l q) (slot_rank (d + 1) (slot_at t i) c l q)) (sym z))
+          (λ z. stand ∙ table_top d low b' q z ∙ ap Some g.frame ∙ sym (r.here q x) ∙ ap (λ l. given_rank fs (table_in (d + 1) t l q) (slot_rank (d + 1) (slot_at t i) c l q)) (sym z))
           (λ z. let l : low < d = omega arith in stand ∙ g.kept low q p l e (λ w. n (here ∙ w)) ∙ r.below low q l x)
 
       pub back_uses : (f : ℕ) → uses_in (d + 1) v f + slot_gone (d + 1) (slot_at t i) c f ≡ uses_in (d + 1) t f + frame_count f (take (slot_need (d + 1) (slot_at t i) c) fs)

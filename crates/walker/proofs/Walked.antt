@@ -15,9 +15,9 @@ use Rattle.table_tree.specs.Tables.{table_in}
 use Rattle.table_tree.proofs.PathNumbers.{index_same}
 use Rattle.table_tree.proofs.Steps.{blank_entries}
 use Rattle.walk_plan.specs.declared.change.Change.{Change}
-use Rattle.walk_plan.specs.Changes.{IsChange, changed, part}
+use Rattle.walk_plan.specs.Changes.{IsChange, changed_entry, part}
 use Rattle.walk_plan.specs.inner.Needs.{sum_to, met, slot_need, table_parts}
-use Rattle.walk_plan.specs.inner.Ranks.{given, later, slot_rank, table_rank, slot_gone, gone_parts}
+use Rattle.walk_plan.specs.inner.Ranks.{given_rank, later, slot_rank, table_rank, slot_gone, gone_parts}
 use Rattle.walk_plan.proofs.Ranges.{met_some, sum_next, table_parts_is}
 use Rattle.walker.proofs.Ranks.{given_later, given_none, rank_before, rank_after, rank_met}
 use Rattle.walker.proofs.Maps.{changed_in}
@@ -25,7 +25,7 @@ use Rattle.walker.proofs.Blank.{advance_none}
 
 -- the tables of the slots before slot `i`, as far as something is mapped there
 pub IsKept : {A : Type 0} → ℕ → ℕ → Change → List ℕ → Table A → Table A → Type 0
-IsKept d i c fs o t = (low q p : ℕ) → low < d → p / block_pages (low + 1) ≡ q / block_pages (low + 1) → index_at d q < i → (entry_at d t p ≡ Unmapped → ⊥) → table_in d t low q ≡ given fs (table_in d o low q) (table_rank d o c low q)
+IsKept d i c fs o t = (low q p : ℕ) → low < d → p / block_pages (low + 1) ≡ q / block_pages (low + 1) → index_at d q < i → (entry_at d t p ≡ Unmapped → ⊥) → table_in d t low q ≡ given_rank fs (table_in d o low q) (table_rank d o c low q)
 
 module _ {A : Type 0} where
   gone_parts_is : (d f : ℕ) (t : Table A) (i : ℕ) (c : Change) → gone_parts d t f i c ≡ slot_gone d (slot_at t i) c f
@@ -46,7 +46,7 @@ module _ {A : Type 0} where
   pub kept_next : (d i : ℕ) (c : Change) (o t u : Table A) (fs : List ℕ) → IsChange d (part d i c) → slot_at t i ≡ slot_at o i → IsKept d i c fs o t
       → ((low q : ℕ) → low < d → i ≤ index_at d q → table_in d t low q ≡ table_in d o low q)
       → ((low q p : ℕ) → low < d → p / block_pages (low + 1) ≡ q / block_pages (low + 1) → index_at d q ≡ i → (entry_at d u p ≡ Unmapped → ⊥)
-      → table_in d u low q ≡ given (drop (sum_to (met d c (table_parts d o)) i) fs) (table_in d t low q) (slot_rank d (slot_at t i) (part d i c) low q))
+      → table_in d u low q ≡ given_rank (drop (sum_to (met d c (table_parts d o)) i) fs) (table_in d t low q) (slot_rank d (slot_at t i) (part d i c) low q))
       → ((low q : ℕ) → low < d → index_at d q ≢ i → table_in d u low q ≡ table_in d t low q)
       → ((q : ℕ) → index_at d q ≢ i → entry_at d u q ≡ entry_at d t q)
       → IsKept d (i + 1) c fs o u
@@ -54,12 +54,12 @@ module _ {A : Type 0} where
   kept_next d i c o t u fs h slot before stand here aside other low q p l e x n =
       by_eq (index_at d q) i
       (λ y. here low q p l e y n ∙ given_later fs (sum_to (met d c (table_parts d o)) i) (table_in d t low q) (slot_rank d (slot_at t i) (part d i c) low q)
-      ∙ ap (λ s. given fs (table_in d t low q) (later (sum_to (met d c (table_parts d o)) i) (slot_rank d s (part d i c) low q))) slot
-      ∙ ap (λ r. given fs (table_in d t low q) r) (sym (rank_met d i c o low q h y)) ∙ ap (λ a. given fs a (table_rank d o c low q)) (stand low q l (omega (arith, y))))
+      ∙ ap (λ s. given_rank fs (table_in d t low q) (later (sum_to (met d c (table_parts d o)) i) (slot_rank d s (part d i c) low q))) slot
+      ∙ ap (λ r. given_rank fs (table_in d t low q) r) (sym (rank_met d i c o low q h y)) ∙ ap (λ a. given_rank fs a (table_rank d o c low q)) (stand low q l (omega (arith, y))))
       (λ y. let z : index_at d p ≢ i = λ w. y (sym (index_same d low p q l e) ∙ w) in aside low q l y ∙ before low q p l e (omega (arith, x, y)) (λ w. n (other p z ∙ w)))
 
   pub kept_end : (d i : ℕ) (c : Change) (o t : Table A) (fs : List ℕ) → 1 ≤ c.end → (c.end - 1) / 2 ^ (9 * d) + 1 ≤ i → IsKept d i c fs o t → ((low q : ℕ) → low < d → i ≤ index_at d q → table_in d t low q ≡ table_in d o low q)
-      → (low q p : ℕ) → low < d → p / block_pages (low + 1) ≡ q / block_pages (low + 1) → (entry_at d t p ≡ Unmapped → ⊥) → table_in d t low q ≡ given fs (table_in d o low q) (table_rank d o c low q)
+      → (low q p : ℕ) → low < d → p / block_pages (low + 1) ≡ q / block_pages (low + 1) → (entry_at d t p ≡ Unmapped → ⊥) → table_in d t low q ≡ given_rank fs (table_in d o low q) (table_rank d o c low q)
   unfolding IsKept
   kept_end d i c o t fs some last before stand low q p l e n =
       by_lt (index_at d q) i
@@ -74,7 +74,7 @@ pub taken_next : (f n m k : ℕ) (fs gs : List ℕ) → gs ≡ drop n fs → k �
 taken_next f n m k fs gs a e = ap (λ j. frame_count f (take j fs)) e ∙ count_split f n m fs ∙ ap (λ l. frame_count f (take n fs) + frame_count f (take m l)) (sym a)
 
 -- a change that leaves all words 0 is one to Unmapped
-pub blank_entry : {A : Type 0} (d : ℕ) (t : Table A) (m : ℕ → Entry) (c : Change) → IsChange (d + 1) c → IsBlank t → ((q : ℕ) → entry_at d t q ≡ changed (d + 1) m c q) → c.entry ≡ Unmapped
+pub blank_entry : {A : Type 0} (d : ℕ) (t : Table A) (m : ℕ → Entry) (c : Change) → IsChange (d + 1) c → IsBlank t → ((q : ℕ) → entry_at d t q ≡ changed_entry (d + 1) m c q) → c.entry ≡ Unmapped
 blank_entry d t m c h blank map =
     let some = h.some in
     let within = h.within in

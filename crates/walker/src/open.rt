@@ -10,7 +10,7 @@ ghost use Rattle.table_tree.specs.Shape.{IsWide, IsBlank, HoldsWord, IsEntryWord
 ghost use Rattle.table_tree.specs.Slots.{fresh};
 ghost use Rattle.table_tree.specs.Stocks.{frames_of};
 ghost use Rattle.table_tree.specs.Tight.{IsTight};
-ghost use Rattle.walk_plan.specs.Changes.{IsChange, changed, is_one_word};
+ghost use Rattle.walk_plan.specs.Changes.{IsChange, changed_entry, stays_one_word};
 ghost use Rattle.walker.specs.inner.Steps.{IsRewritten, IsOpening, IsFilled, IsOpened};
 
 use page_state::Entry;
@@ -24,9 +24,9 @@ fn word_after(depth: u32, word: u64, change: Change) -> Option<u64>
     requires depth_in { IsDepth depth }
     requires word_in { IsEntryWord depth word }
     requires change_in { IsChange depth change }
-    ensures some { is_some result ≡ is_one_word depth (entry_of_word (desc_of (level_at depth) word)) change }
+    ensures some { is_some result ≡ stays_one_word depth (entry_of_word (desc_of (level_at depth) word)) change }
     ensures entry { IfSome result (λ w. IsEntryWord depth w) }
-    ensures map { IfSome result (λ w. (q : ℕ) → word_entry depth q w ≡ changed depth (λ p. word_entry depth p word) change q) }
+    ensures map { IfSome result (λ w. (q : ℕ) → word_entry depth q w ≡ changed_entry depth (λ p. word_entry depth p word) change q) }
 {
     page_state::laws::block_tests();
     if change.is_whole(depth) {

@@ -9,10 +9,10 @@ ghost use Rattle.table_tree.specs.Shape.{IsShaped};
 ghost use Rattle.table_tree.specs.Stocks.{frames_of};
 ghost use Rattle.table_tree.specs.Tables.{tables_in, uses_in, table_in};
 ghost use Rattle.table_tree.specs.Tight.{IsTight};
-ghost use Rattle.walk_plan.specs.Changes.{IsChange, changed};
+ghost use Rattle.walk_plan.specs.Changes.{IsChange, changed_entry};
 ghost use Rattle.walk_plan.specs.inner.Needs.{slot_need, table_need};
 ghost use Rattle.walk_plan.specs.inner.Looks.{edges};
-ghost use Rattle.walk_plan.specs.inner.Ranks.{given, slot_rank, table_rank, slot_gone, table_gone};
+ghost use Rattle.walk_plan.specs.inner.Ranks.{given_rank, slot_rank, table_rank, slot_gone, table_gone};
 
 use crate::open::{is_spent, opened, word_for};
 use std::alloc::Allocator;
@@ -40,9 +40,9 @@ fn set_slot<A: Allocator>(
     ensures shape { IsShaped depth table.new }
     ensures tight { IsTight depth table.new }
     ensures others { (j : ℕ) → j ≢ i → slot_at table.new j ≡ slot_at table.old j }
-    ensures map { (q : ℕ) → index_at depth q ≡ i → entry_at depth table.new q ≡ changed depth (entry_at depth table.old) change q }
+    ensures map { (q : ℕ) → index_at depth q ≡ i → entry_at depth table.new q ≡ changed_entry depth (entry_at depth table.old) change q }
     ensures other { (q : ℕ) → index_at depth q ≢ i → entry_at depth table.new q ≡ entry_at depth table.old q }
-    ensures kept { (low q p : ℕ) → low < depth → p / block_pages (low + 1) ≡ q / block_pages (low + 1) → index_at depth q ≡ i → (entry_at depth table.new p ≡ Unmapped → ⊥) → table_in depth table.new low q ≡ given (frames_of spare.old) (table_in depth table.old low q) (slot_rank depth (slot_at table.old i) change low q) }
+    ensures kept { (low q p : ℕ) → low < depth → p / block_pages (low + 1) ≡ q / block_pages (low + 1) → index_at depth q ≡ i → (entry_at depth table.new p ≡ Unmapped → ⊥) → table_in depth table.new low q ≡ given_rank (frames_of spare.old) (table_in depth table.old low q) (slot_rank depth (slot_at table.old i) change low q) }
     ensures stand { (low q : ℕ) → low < depth → index_at depth q ≢ i → table_in depth table.new low q ≡ table_in depth table.old low q }
     ensures spare { frames_of spare.new ≡ drop (slot_need depth (slot_at table.old i) change) (frames_of spare.old) }
     ensures uses { (f : ℕ) → uses_in depth table.new f + slot_gone depth (slot_at table.old i) change f ≡ uses_in depth table.old f + frame_count f (take (slot_need depth (slot_at table.old i) change) (frames_of spare.old)) }
@@ -81,8 +81,8 @@ pub(crate) fn set_all<A: Allocator>(
     ensures frame { frame_of table.new ≡ frame_of table.old }
     ensures shape { IsShaped depth table.new }
     ensures tight { IsTight depth table.new }
-    ensures map { (q : ℕ) → entry_at depth table.new q ≡ changed (depth + 1) (entry_at depth table.old) change q }
-    ensures kept { (low q p : ℕ) → low < depth → p / block_pages (low + 1) ≡ q / block_pages (low + 1) → (entry_at depth table.new p ≡ Unmapped → ⊥) → table_in depth table.new low q ≡ given (frames_of spare.old) (table_in depth table.old low q) (table_rank depth table.old change low q) }
+    ensures map { (q : ℕ) → entry_at depth table.new q ≡ changed_entry (depth + 1) (entry_at depth table.old) change q }
+    ensures kept { (low q p : ℕ) → low < depth → p / block_pages (low + 1) ≡ q / block_pages (low + 1) → (entry_at depth table.new p ≡ Unmapped → ⊥) → table_in depth table.new low q ≡ given_rank (frames_of spare.old) (table_in depth table.old low q) (table_rank depth table.old change low q) }
     ensures spare { frames_of spare.new ≡ drop (table_need depth table.old change) (frames_of spare.old) }
     ensures uses { (f : ℕ) → uses_in depth table.new f + table_gone depth table.old change f ≡ uses_in depth table.old f + frame_count f (take (table_need depth table.old change) (frames_of spare.old)) }
     ensures freed { (f : ℕ) → frame_count f (frames_of freed.new) ≡ table_gone depth table.old change f + frame_count f (frames_of freed.old) }

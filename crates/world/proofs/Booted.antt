@@ -23,10 +23,10 @@ use Rattle.guest_steps.specs.declared.parts.GuestPart.{GuestPart}
 use Rattle.guest_steps.specs.declared.parts.SharedPart.{SharedPart}
 use Rattle.guest_steps.specs.declared.parts.VmPart.{VmPart}
 use Rattle.guest_steps.specs.Lent.{one}
-use Rattle.guest_steps.specs.Logs.{Stored, IsNewLog}
+use Rattle.guest_steps.specs.Logs.{StoredCalls, IsNewLog}
 use Rattle.guest_steps.specs.View.{shared_of, cpu_of}
 use Rattle.hypercalls.specs.declared.parts.Parts.{Parts}
-use Rattle.hypercalls.specs.Stands.{at_place, layout_of, kept_of}
+use Rattle.hypercalls.specs.Stands.{at_place, parts_layout, kept_of}
 use Rattle.page_state.proofs.Cases.{by_test}
 use Rattle.world.specs.Boots.{IsConfig, IsIdle, HasNoCalls, IsBooted, IsNoBoot, layout_for}
 
@@ -44,11 +44,11 @@ minus-none n = omega arith
 pair : {X Y : Type 0} {a b : X} {d e : Y} → a ≡ b → d ≡ e → ◌≡◌ {A = X × Y} (a, d) (b, e)
 pair m n = cc
 
-one_empty : {P : Type 0} (log : P → Stored) (n : ℕ) (xs : List P) → All (λ p. IsNewLog n (log p)) xs → one [] (λ p. (log p).calls) xs ≡ []
+one_empty : {P : Type 0} (log : P → StoredCalls) (n : ℕ) (xs : List P) → All (λ p. IsNewLog n (log p)) xs → one [] (λ p. (log p).calls) xs ≡ []
 one_empty log n [] h = refl
 one_empty log n (x ∷ xs) h = (h 0 x (omega arith)).empty
 
-each_empty : {P : Type 0} (log : P → Stored) (n : ℕ) (xs : List P) (v : ℕ) → All (λ p. IsNewLog n (log p)) xs → at_place [] (λ p. (log p).calls) (slice_get xs v) ≡ []
+each_empty : {P : Type 0} (log : P → StoredCalls) (n : ℕ) (xs : List P) (v : ℕ) → All (λ p. IsNewLog n (log p)) xs → at_place [] (λ p. (log p).calls) (slice_get xs v) ≡ []
 each_empty log n xs v h = elim (slice_get_cases xs v).1 [
   | inl (k, inside, at, is) ↦ rw at (subst (λ x. (log x).calls ≡ []) is (h v k inside).empty)
   | inr past ↦ rw past.1 refl
@@ -66,7 +66,7 @@ module _ {A : Type 0} (m : Memory) (c : Config) (g : Geometry) (p : Parts A) (s 
   abbrev l : Layout
   l = layout_for m c g
 
-  layout_is : layout_of p ≡ l
+  layout_is : parts_layout p ≡ l
   layout_is = ap (λ x. layout x p.layout.config (levels_below p.layout.geometry)) mapped ∙ ap (λ x. layout m x (levels_below p.layout.geometry)) configured ∙ ap (λ x. layout m c (levels_below x)) deep
 
   cpu_is : (cpu : ℕ) → at_place no_cpu cpu_of (slice_get p.cpus.items cpu) ≡ no_cpu

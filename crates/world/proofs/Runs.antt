@@ -8,16 +8,16 @@ use Rattle.reference_model.specs.State.{Reference}
 use Rattle.reference_model.proofs.conditions.RunsLegal.{run_sound, run_rows}
 use Rattle.reference_model.specs.Step.{Steps}
 use Rattle.hypercalls.specs.declared.parts.Parts.{Parts}
-use Rattle.hypercalls.specs.Stands.{layout_of, state_of}
+use Rattle.hypercalls.specs.Stands.{parts_layout, state_of}
 use Rattle.world.specs.Laws.{Goes, StepsRun, StepsSound, StepsRows}
 use Rattle.world.proofs.AtBoot.{ready}
 
 module _ {A : Type 0} where
   -- from the state that the parts stand for
-  pub runs_from : (cs : List Call) (p q : Parts A) → Runs Goes p cs q → Runs (Steps (layout_of p)) (state_of p) cs (state_of q)
+  pub runs_from : (cs : List Call) (p q : Parts A) → Runs Goes p cs q → Runs (Steps (parts_layout p)) (state_of p) cs (state_of q)
   runs_from [] p q h = ap state_of h
   runs_from (c ∷ cs) p q (b, go, rest) =
-      let first : Steps (layout_of p) (state_of p) c (state_of b) = subst (λ (x : Call). Steps (layout_of p) (state_of p) x (state_of b)) (sym go.call) go.step.steps in
+      let first : Steps (parts_layout p) (state_of p) c (state_of b) = subst (λ (x : Call). Steps (parts_layout p) (state_of p) x (state_of b)) (sym go.call) go.step.steps in
       (state_of b, first, subst (λ (l : Layout). Runs (Steps l) (state_of b) cs (state_of q)) go.step.layout (runs_from cs b q rest))
 
   -- the calls are of CPUs of the layout
@@ -29,10 +29,10 @@ module _ {A : Type 0} where
       subst (λ n. (slice_index_or cs k d).cpu < n) same (known cs b q rest k d (omega (arith, less)))
 
   pub steps_run : StepsRun A
-  steps_run m config p q cs booted h = record { cpus = known cs p q h; leads = subst (λ (s : Reference). Runs (Steps (layout_of p)) s cs (state_of q)) (sym booted.stands) (runs_from cs p q h) }
+  steps_run m config p q cs booted h = record { cpus = known cs p q h; leads = subst (λ (s : Reference). Runs (Steps (parts_layout p)) s cs (state_of q)) (sym booted.stands) (runs_from cs p q h) }
 
   pub steps_sound : StepsSound A
-  steps_sound m config p q cs booted h = run_sound (layout_of p) cs (state_of q) (ready m config p booted) (steps_run m config p q cs booted h)
+  steps_sound m config p q cs booted h = run_sound (parts_layout p) cs (state_of q) (ready m config p booted) (steps_run m config p q cs booted h)
 
   pub steps_rows : StepsRows A
-  steps_rows m config p q cs f booted h memory = run_rows (layout_of p) cs (state_of q) (ready m config p booted) (steps_run m config p q cs booted h) f memory
+  steps_rows m config p q cs f booted h memory = run_rows (parts_layout p) cs (state_of q) (ready m config p booted) (steps_run m config p q cs booted h) f memory

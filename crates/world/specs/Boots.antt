@@ -18,7 +18,7 @@ use Rattle.guest_steps.specs.declared.parts.CpuState.{CpuState}
 use Rattle.guest_steps.specs.Logs.{IsNewLog}
 use Rattle.guest_steps.specs.View.{cpu_of}
 use Rattle.hypercalls.specs.declared.parts.Parts.{Parts}
-use Rattle.hypercalls.specs.Stands.{layout_of, kept_of, state_of}
+use Rattle.hypercalls.specs.Stands.{parts_layout, kept_of, state_of}
 
 -- the number of a fault in a report (profile)
 abbrev pub boot_number : BootFault → ℕ
@@ -73,7 +73,7 @@ pub record IsBooted {A : Type 0} (m : Memory) (c : Config) (p : Parts A) : Type 
   pub memory : IsAccepted m
   pub accepted : IsConfig c geometry
   pub enough : IsCarveEnough (layout_for m c geometry)
-  pub layout : layout_of p ≡ layout_for m c geometry
-  pub depth : HasItsDepth (layout_of p)
-  pub stands : boot (layout_of p) ≡ state_of p
+  pub layout : parts_layout p ≡ layout_for m c geometry
+  pub depth : HasItsDepth (parts_layout p)
+  pub stands : boot (parts_layout p) ≡ state_of p
   pub no_calls : HasNoCalls p

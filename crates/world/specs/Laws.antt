@@ -8,7 +8,7 @@ use Rattle.reference_model.specs.Owner.{row_of}
 use Rattle.reference_model.specs.Run.{Runs, IsRun}
 use Rattle.reference_model.specs.Sound.{Sound}
 use Rattle.hypercalls.specs.declared.parts.Parts.{Parts}
-use Rattle.hypercalls.specs.Stands.{layout_of, state_of}
+use Rattle.hypercalls.specs.Stands.{parts_layout, state_of}
 use Rattle.hypercalls.specs.Whole.{call_of, IsStep}
 use Rattle.world.specs.Boots.{IsBooted}
 
@@ -24,12 +24,12 @@ EndsRun l cs q = IsRun l cs (state_of q)
 
 -- after any list of steps from a boot on, the calls are a run, and the parts stand for its end
 abbrev pub StepsRun : Type 0 → Type 0
-StepsRun A = (m : Memory) (config : Config) (p q : Parts A) (cs : List Call) → IsBooted m config p → Runs Goes p cs q → EndsRun (layout_of p) cs q
+StepsRun A = (m : Memory) (config : Config) (p q : Parts A) (cs : List Call) → IsBooted m config p → Runs Goes p cs q → EndsRun (parts_layout p) cs q
 
 -- and the state that they stand for is sound
 abbrev pub StepsSound : Type 0 → Type 0
-StepsSound A = (m : Memory) (config : Config) (p q : Parts A) (cs : List Call) → IsBooted m config p → Runs Goes p cs q → Sound (layout_of p) (state_of q).contents
+StepsSound A = (m : Memory) (config : Config) (p q : Parts A) (cs : List Call) → IsBooted m config p → Runs Goes p cs q → Sound (parts_layout p) (state_of q).contents
 
 -- and their owner row of each memory frame is the one that looking through all tables finds
 abbrev pub StepsRows : Type 0 → Type 0
-StepsRows A = (m : Memory) (config : Config) (p q : Parts A) (cs : List Call) (f : ℕ) → IsBooted m config p → Runs Goes p cs q → is_memory (layout_of p) f ≡ true → (state_of q).contents.shared.row f ≡ row_of (layout_of p) (state_of q).contents f
+StepsRows A = (m : Memory) (config : Config) (p q : Parts A) (cs : List Call) (f : ℕ) → IsBooted m config p → Runs Goes p cs q → is_memory (parts_layout p) f ≡ true → (state_of q).contents.shared.row f ≡ row_of (parts_layout p) (state_of q).contents f

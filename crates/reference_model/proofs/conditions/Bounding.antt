@@ -30,7 +30,7 @@ use Rattle.reference_model.proofs.conditions.PageSteps.{good-page}
 use Rattle.reference_model.proofs.conditions.PoolSteps.{root_block, root-inside, root-none, root-here}
 use Rattle.reference_model.proofs.conditions.Tables.{IsInRange, some_of, some-put, edited-some}
 use Rattle.reference_model.specs.Conditions.{Legal, IsUsable, one}
-use Rattle.reference_model.specs.GuestRules.{ticket_vm, table_count}
+use Rattle.reference_model.specs.GuestRules.{ticket_vm, guest_table_count}
 use Rattle.page_state.specs.Layouts.{Layout, is_memory, is_good_range, is_good_page}
 use Rattle.reference_model.specs.Parts.{names, lacks_slot, uses_vms, has_stage}
 use Rattle.reference_model.specs.Rules.{rule}
@@ -105,7 +105,7 @@ hand-bound (Becomes None) old m b r e = cc
 
 -- how many frames a guest holds
 abbrev frames : Layout → Guest → ℕ
-frames l g = table_count l g.tree + length g.free
+frames l g = guest_table_count l g.tree + length g.free
 
 ModestPart : GuestChange → ℕ → Type 0
 ModestPart (Grow range) n = n + range.count ≤ 512
@@ -131,14 +131,14 @@ length-rest : (p : Pool) → length (rest p) ≡ length p - 1
 length-rest [] = refl
 length-rest (f ∷ fs) = omega arith
 
-tables : (l : Layout) (t : Tree) → table_count l t ≡ some_of l.depth t.table
+tables : (l : Layout) (t : Tree) → guest_table_count l t ≡ some_of l.depth t.table
 unfolding some_of
 tables l t = refl
 
 no-table : Block → Bool
 no-table b = let o : Option ℕ = None in is_some o
 
-one-root : (l : Layout) (root : ℕ) → table_count l (root_tree l.depth root) ≡ 1
+one-root : (l : Layout) (root : ℕ) → guest_table_count l (root_tree l.depth root) ≡ 1
 unfolding some_of no-table
 one-root l root =
     let put = some-put l.depth (root_block l.depth) (root_tree l.depth root).table (λ b. None) (root-inside l.depth) (root-none l.depth root) in
@@ -160,7 +160,7 @@ edited-frames l g e range less =
     let d = length-drop (need l.depth g.tree e) g.free in
     let p = tables l (edited l.depth g.tree e g.free) in
     let q = tables l g.tree in
-    sum (table_count l (edited l.depth g.tree e g.free)) (some_of l.depth (edited l.depth g.tree e g.free).table) (table_count l g.tree) (some_of l.depth g.tree.table) (length (all_given (returned l.depth g.tree e) (drop (need l.depth g.tree e) g.free))) (length (returned l.depth g.tree e)) (length (drop (need l.depth g.tree e) g.free)) (need l.depth g.tree e) (length g.free) p q a b d less
+    sum (guest_table_count l (edited l.depth g.tree e g.free)) (some_of l.depth (edited l.depth g.tree e g.free).table) (guest_table_count l g.tree) (some_of l.depth g.tree.table) (length (all_given (returned l.depth g.tree e) (drop (need l.depth g.tree e) g.free))) (length (returned l.depth g.tree e)) (length (drop (need l.depth g.tree e) g.free)) (need l.depth g.tree e) (length g.free) p q a b d less
   where
     sum : (t' s' t s free' r left n free : ℕ) → t' ≡ s' → t ≡ s → s' + r ≡ s + n → free' ≡ r + left → left ≡ free - n → n ≤ free → t' + free' ≡ t + free
     sum t' s' t s free' r left n free p q a b d less = omega arith

@@ -15,7 +15,7 @@ use Rattle.page_state.specs.declared.step.Step.{Step}
 use Rattle.page_state.specs.declared.step.Step.TheVariants.{ShareHyp, UnshareHyp, DonateHyp, HypDonateHost, HostAbort, HostTranslate, HypTranslate, OwnerOf, Fund, Unfund, ShareGuest, UnshareGuest, DonateGuest, GuestShareHost, GuestUnshareHost, Install, Topup, ReclaimPage, ReclaimPool, FinishGuest, GuestRelax, GuestTranslate, MarkDying, VmReserve, VmOpen, VcpuLoad, VcpuPut, Teardown, VmRelease}
 use Rattle.page_state.specs.Accepted.{IsAcceptedLayout}
 use Rattle.page_state.specs.Entries.{IsRangeEntry}
-use Rattle.page_state.specs.EntryTests.{is_unmapped, is_in, leaf, device_leaf, annotation, frame_of, with_state, with_rights}
+use Rattle.page_state.specs.EntryTests.{is_unmapped, is_in, leaf, device_leaf, annotation, entry_frame, with_state, with_rights}
 use Rattle.page_state.specs.Geometries.{pages_below}
 use Rattle.page_state.specs.Layouts.{Layout, is_memory, is_good_range, is_good_page, hyp_page}
 use Rattle.page_state.specs.Map.{is_within}
@@ -153,7 +153,7 @@ module _ (l : Layout) (s : Contents) (legal : Legal l s) (usable : IsUsable l) (
   entry_at v g = (s.guest v).tree.map g
 
   abbrev frame_at : ℕ → ℕ → ℕ
-  frame_at v g = frame_of (entry_at v g)
+  frame_at v g = entry_frame (entry_at v g)
 
   -- what a guest's page maps is memory
   mapped-memory : (v g : ℕ) → is_unmapped (entry_at v g) ≡ false → is_memory l (frame_at v g) ≡ true

@@ -12,7 +12,7 @@ use Rattle.page_state.specs.declared.step.VmId.{VmId}
 use Rattle.page_state.specs.Trees.{frames_from, root_tree}
 use Rattle.page_state.specs.Counts.{is_one, frame_count}
 use Rattle.page_state.specs.EntryTests.{leaf}
-use Rattle.reference_model.specs.GuestRules.{moved_on, install, topup, is_guest, table_count, ticket_vm, ticket_kind}
+use Rattle.reference_model.specs.GuestRules.{moved_on, install, topup, is_guest, guest_table_count, ticket_vm, ticket_kind}
 use Rattle.reference_model.specs.declared.changes.CpuChange.{CpuChange}
 use Rattle.reference_model.specs.declared.changes.GuestChange.{GuestChange}
 use Rattle.reference_model.specs.declared.changes.GuestChange.TheVariants.{Install as Begin, Gain}
@@ -112,7 +112,7 @@ module _ (l : Layout) (s : Contents) (legal : Legal l s) (usable : IsUsable l) (
   topup-move : (vm : VmId) → Passed l.depth (topup l x vm) false x → GuestMove l s legal.condition cpu v (topup l x vm).changes hand.first.0 hand.count (hyps (VmPool v))
   unfolding used_of guest_after edited freed needs returned
   topup-move vm p =
-      let some : is_none (s.cpu cpu).hand ≡ false = (or-neither (is_none (s.cpu cpu).hand) (nat_lt 512 (table_count l (s.guest v).tree + length (s.guest v).free + hand.count)) p.perm).0 in
+      let some : is_none (s.cpu cpu).hand ≡ false = (or-neither (is_none (s.cpu cpu).hand) (nat_lt 512 (guest_table_count l (s.guest v).tree + length (s.guest v).free + hand.count)) p.perm).0 in
       let alive = live-alive vm (s.guest v) (not-false (is_guest live vm (s.guest v)) p.no_vm) in
       record {
         frames = hand-frames some (Gain hand) (hand_becomes None) refl;

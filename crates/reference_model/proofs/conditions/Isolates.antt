@@ -16,7 +16,7 @@ use Rattle.page_state.specs.declared.step.Step.TheVariants.{ShareHyp, UnshareHyp
 use Rattle.page_state.specs.declared.step.VmId.{VmId}
 use Rattle.reference_model.specs.Conditions.{Condition, outside, hosts, with_hyp, hyps, with_guest, guests, lent_back, HostFits, hyp_says, guest_condition, Legal, IsUsable, row_in}
 use Rattle.page_state.specs.Entries.{advance}
-use Rattle.page_state.specs.EntryTests.{is_in, is_free_page, with_rights, is_mapped, leaf, frame_of, state_eq, with_state}
+use Rattle.page_state.specs.EntryTests.{is_in, is_free_page, with_rights, is_mapped, leaf, entry_frame, state_eq, with_state}
 use Rattle.reference_model.specs.GuestRules.{is_guest, phase_eq, is_protected}
 use Rattle.reference_model.specs.Isolation.{PageStays, Isolated, RunIsolated, OthersKeptOut, RunKeptOut, SharesWithHost}
 use Rattle.page_state.specs.Layouts.{Layout, hyp_page}
@@ -216,7 +216,7 @@ state-in other = Owned
 
 leaf-same : (p q : Prot) (f w : ℕ) (a b : State) → leaf p f a ≡ leaf q w b → (f ≡ w) × (a ≡ b)
 unfolding state-in
-leaf-same p q f w a b h = (ap frame_of h, ap state-in h)
+leaf-same p q f w a b h = (ap entry_frame h, ap state-in h)
 
 owned-row : (f v g : ℕ) (c : Condition) (state : State) → state ≢ SharedBorrowed → c ≡ guest_condition state v g → (row_in f c).owner.0 ≡ 2 + v
 owned-row f v g c Owned n h = ap (λ d. (row_in f d).owner.0) h

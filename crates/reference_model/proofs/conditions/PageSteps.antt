@@ -12,7 +12,7 @@ use Rattle.page_state.specs.declared.step.Step.{Step}
 use Rattle.page_state.specs.declared.step.Step.TheVariants.{ShareGuest, UnshareGuest, DonateGuest, GuestShareHost, GuestUnshareHost, ReclaimPage}
 use Rattle.page_state.specs.declared.step.VmId.{VmId}
 use Rattle.page_state.specs.Entries.{advance}
-use Rattle.page_state.specs.EntryTests.{is_unmapped, is_mapped, is_in, is_free_page, leaf, frame_of, with_state}
+use Rattle.page_state.specs.EntryTests.{is_unmapped, is_mapped, is_in, is_free_page, leaf, entry_frame, with_state}
 use Rattle.page_state.specs.Geometries.{pages_below}
 use Rattle.reference_model.specs.GuestRules.{share_guest, unshare_guest, donate_guest, guest_share_host, guest_unshare_host, reclaim_page, is_guest, phase_eq, two_pages}
 use Rattle.page_state.specs.Map.{is_within}
@@ -162,7 +162,7 @@ side-new (joined a) v f g e h = inr (h.0, a, h.1, refl)
 -- the frame that stands at the page
 side-frame : (a : Side) (f q : ℕ) (b : State) (e : Entry) → SideFits a f e → IsMemoryLeaf q b e → q ≡ f
 side-frame apart f q b e h k = let bad : Unmapped ≡ leaf k.0 q b = sym h ∙ k.1 in cc
-side-frame (joined a) f q b e h k = ap frame_of (sym k.1 ∙ h.1)
+side-frame (joined a) f q b e h k = ap entry_frame (sym k.1 ∙ h.1)
 
 side-move : (l : Layout) (s : Contents) (legal : Legal l s) {v f : ℕ} {e : Entry} {g : ℕ} {e' : Entry} {old new : Side} → v < 64 → SideBefore l s legal.condition v f g old → SideAfter v f e g e' new → PageMove l s legal.condition v f e g e' (side_condition new v g)
 side-move l s legal {v} {f} {e} {g} {e'} {old} {new} slot b m = record {
@@ -190,12 +190,12 @@ side-move l s legal {v} {f} {e} {g} {e'} {old} {new} slot b m = record {
 -- what the guest's entry tells of the frame
 
 pub record Named (s : Contents) (condition : ℕ → Condition) (v g : ℕ) (state : State) : Type 0 where
-  pub named : condition (frame_of ((s.guest v).tree.map g)) ≡ guest_condition state v g
-  pub is_leaf : IsMemoryLeaf (frame_of ((s.guest v).tree.map g)) state ((s.guest v).tree.map g)
+  pub named : condition (entry_frame ((s.guest v).tree.map g)) ≡ guest_condition state v g
+  pub is_leaf : IsMemoryLeaf (entry_frame ((s.guest v).tree.map g)) state ((s.guest v).tree.map g)
 
 leaf-named : (s : Contents) (condition : ℕ → Condition) (v g : ℕ) → (h : IsGuestLeaf condition v g ((s.guest v).tree.map g)) → Named s condition v g h.state
 leaf-named s condition v g h =
-    let frame : frame_of ((s.guest v).tree.map g) ≡ h.frame = ap frame_of h.leaf_is in
+    let frame : entry_frame ((s.guest v).tree.map g) ≡ h.frame = ap entry_frame h.leaf_is in
     record { named = ap condition frame ∙ h.named; is_leaf = (h.prot, h.leaf_is ∙ ap (λ n. leaf h.prot n h.state) (sym frame)) }
 
 in-named : (l : Layout) (s : Contents) (legal : Legal l s) (v g : ℕ) (state : State) → is_in state ((s.guest v).tree.map g) ≡ true → Named s legal.condition v g state
@@ -239,7 +239,7 @@ module _ (l : Layout) (s : Contents) (legal : Legal l s) (usable : IsUsable l) (
   entry_at g = (s.guest v).tree.map g
 
   abbrev frame_at : ℕ → ℕ
-  frame_at g = frame_of (entry_at g)
+  frame_at g = entry_frame (entry_at g)
 
   three : {a b c : Bool} → (a || b || c) ≡ false → (a ≡ false) × (b ≡ false) × (c ≡ false)
   three {a = false} {b = false} h = (refl, refl, h)

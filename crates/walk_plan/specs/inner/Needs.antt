@@ -8,7 +8,7 @@ use Rattle.table_tree.specs.declared.table.Table.{Table}
 use Rattle.table_tree.specs.declared.table.Slot.{Slot}
 use Rattle.table_tree.specs.Meaning.{level_at, slot_at, slot_case}
 use Rattle.walk_plan.specs.declared.change.Change.{Change}
-use Rattle.walk_plan.specs.Changes.{part, is_one_word}
+use Rattle.walk_plan.specs.Changes.{part, stays_one_word}
 
 -- the sum of the first values of a function
 unfoldable pub sum_to : (ℕ → ℕ) → ℕ → ℕ
@@ -22,7 +22,7 @@ met depth c f i = if nat_lt (part depth i c).first (part depth i c).end then f i
 -- the tables that a change needs in a block without a table
 unfoldable pub block_need : ℕ → Entry → Change → ℕ
 block_need zero x c = 0
-block_need (suc depth) x c = if is_one_word (suc depth) x c then 0 else 1 + sum_to (met depth c (λ i. block_need depth (advance x (i * block_pages depth)))) 512
+block_need (suc depth) x c = if stays_one_word (suc depth) x c then 0 else 1 + sum_to (met depth c (λ i. block_need depth (advance x (i * block_pages depth)))) 512
 
 -- what it needs in part `i` of such a block
 unfoldable pub block_parts : ℕ → Entry → ℕ → Change → ℕ

@@ -11,14 +11,14 @@ use Rattle.table_tree.specs.declared.table.Table.{Table}
 use Rattle.table_tree.specs.declared.table.Slot.{Slot}
 use Rattle.table_tree.specs.Meaning.{level_at, index_at, slot_at, slot_case, entry_at, frame_of}
 use Rattle.walk_plan.specs.declared.change.Change.{Change}
-use Rattle.walk_plan.specs.Changes.{part, is_one_word, changed}
+use Rattle.walk_plan.specs.Changes.{part, stays_one_word, changed_entry}
 use Rattle.walk_plan.specs.inner.Needs.{sum_to, met, block_parts, table_parts}
 
 -- the table that stood, or the one that was made
-abbrev pub given : List ℕ → Option ℕ → Option ℕ → Option ℕ
-given frames (Some f) rank = Some f
-given frames None None = None
-given frames None (Some r) = Some (slice_index_or frames r 0)
+abbrev pub given_rank : List ℕ → Option ℕ → Option ℕ → Option ℕ
+given_rank frames (Some f) rank = Some f
+given_rank frames None None = None
+given_rank frames None (Some r) = Some (slice_index_or frames r 0)
 
 -- a rank after `n` more tables
 abbrev pub later : ℕ → Option ℕ → Option ℕ
@@ -33,7 +33,7 @@ met_at depth c f i = if nat_lt (part depth i c).first (part depth i c).end then 
 unfoldable pub block_rank : ℕ → Entry → Change → ℕ → ℕ → Option ℕ
 block_rank zero x c low q = None
 block_rank (suc depth) x c low q =
-    if is_one_word (suc depth) x c then None
+    if stays_one_word (suc depth) x c then None
     else if low == depth then Some 0
     else later 1 (later (sum_to (met depth c (block_parts depth x)) (index_at depth q)) (met_at depth c (λ i d. block_rank depth (advance x (i * block_pages depth)) d low q) (index_at depth q)))
 
@@ -58,7 +58,7 @@ unfoldable pub slot_gone : {A : Type 0} → ℕ → Slot A → Change → ℕ �
 slot_gone zero s c f = 0
 slot_gone (suc depth) s c f = slot_case
     (λ _. 0)
-    (λ t. sum_to (met depth c (λ i d. slot_gone depth (slot_at t i) d f)) 512 + (if all_below (block_pages (suc depth)) (λ i. is_unmapped (changed (suc depth) (entry_at depth t) c i)) then is_one (frame_of t) f else 0))
+    (λ t. sum_to (met depth c (λ i d. slot_gone depth (slot_at t i) d f)) 512 + (if all_below (block_pages (suc depth)) (λ i. is_unmapped (changed_entry (suc depth) (entry_at depth t) c i)) then is_one (frame_of t) f else 0))
     s
 
 -- the same in slot `i` of a table

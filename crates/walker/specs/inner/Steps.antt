@@ -16,9 +16,9 @@ use Rattle.table_tree.specs.Slots.{fresh}
 use Rattle.table_tree.specs.Tables.{tables_in, uses_in, table_in}
 use Rattle.table_tree.specs.Tight.{IsTight}
 use Rattle.walk_plan.specs.declared.change.Change.{Change}
-use Rattle.walk_plan.specs.Changes.{IsChange, changed, is_one_word}
+use Rattle.walk_plan.specs.Changes.{IsChange, changed_entry, stays_one_word}
 use Rattle.walk_plan.specs.inner.Needs.{slot_need, table_need}
-use Rattle.walk_plan.specs.inner.Ranks.{given, slot_rank, table_rank, slot_gone, table_gone}
+use Rattle.walk_plan.specs.inner.Ranks.{given_rank, slot_rank, table_rank, slot_gone, table_gone}
 
 -- a slot holds the word that gives part `k` of a block whose first page has the entry `x`
 unfoldable pub IsPart : {A : Type 0} → ℕ → Entry → ℕ → Slot A → Type 0
@@ -28,7 +28,7 @@ IsPart depth x k s = (w : ℕ) × (s ≡ Word w) × IsEntryWord depth w × (entr
 pub record IsRewritten {A : Type 0} (depth i : ℕ) (t : Table A) (c : Change) (w : ℕ) : Type 0 where
   pub holds : HoldsWord (slot_at t i)
   pub word : IsEntryWord depth w
-  pub map : (q : ℕ) → index_at depth q ≡ i → word_entry depth q w ≡ changed depth (entry_at depth t) c q
+  pub map : (q : ℕ) → index_at depth q ≡ i → word_entry depth q w ≡ changed_entry depth (entry_at depth t) c q
   pub need : slot_need depth (slot_at t i) c ≡ 0
   pub rank : (low q : ℕ) → slot_rank depth (slot_at t i) c low q ≡ None
   pub gone : (f : ℕ) → slot_gone depth (slot_at t i) c f ≡ 0
@@ -36,18 +36,18 @@ pub record IsRewritten {A : Type 0} (depth i : ℕ) (t : Table A) (c : Change) (
 -- a slot has a child, or a word that is not one word after the change
 pub record IsOpening {A : Type 0} (depth : ℕ) (s : Slot A) (c : Change) : Type 0 where
   pub deep : 1 ≤ depth
-  pub split : (w : ℕ) → s ≡ Word w → is_one_word depth (entry_of_word (desc_of (level_at depth) w)) c ≡ false
+  pub split : (w : ℕ) → s ≡ Word w → stays_one_word depth (entry_of_word (desc_of (level_at depth) w)) c ≡ false
   pub need : fresh s ≤ slot_need depth s c
 
 -- whether nothing is mapped after the change
 abbrev pub is_emptied : ℕ → (ℕ → Entry) → Change → Bool
-is_emptied depth m c = all_below (block_pages depth) (λ i. is_unmapped (changed depth m c i))
+is_emptied depth m c = all_below (block_pages depth) (λ i. is_unmapped (changed_entry depth m c i))
 
 -- what a change finds in the child of slot `i` of `t`, or in the new table that means what the slot's word did; `t` has depth `n` and they `d`
 pub record IsReady {A : Type 0} (n d i : ℕ) (t child : Table A) (before after : List ℕ) (c : Change) : Type 0 where
   pub need : fresh (slot_at t i) + table_need d child c ≡ slot_need n (slot_at t i) c
-  pub here : (q : ℕ) → index_at n q ≡ i → given before (table_in n t d q) (slot_rank n (slot_at t i) c d q) ≡ Some (frame_of child)
-  pub below : (low q : ℕ) → low < d → index_at n q ≡ i → given after (table_in d child low q) (table_rank d child c low q) ≡ given before (table_in n t low q) (slot_rank n (slot_at t i) c low q)
+  pub here : (q : ℕ) → index_at n q ≡ i → given_rank before (table_in n t d q) (slot_rank n (slot_at t i) c d q) ≡ Some (frame_of child)
+  pub below : (low q : ℕ) → low < d → index_at n q ≡ i → given_rank after (table_in d child low q) (table_rank d child c low q) ≡ given_rank before (table_in n t low q) (slot_rank n (slot_at t i) c low q)
   pub stays : (f : ℕ) → is_emptied n (entry_at d child) c ≡ false → slot_gone n (slot_at t i) c f ≡ table_gone d child c f
   pub goes : (f : ℕ) → is_emptied n (entry_at d child) c ≡ true → slot_gone n (slot_at t i) c f ≡ table_gone d child c f + is_one (frame_of child) f
 

@@ -5,14 +5,14 @@ use Rattle.clap.specs.Words.{App, Text, fault_of, first_value, found_of, is_simp
 use Rattle.clap.specs.declared.parser.matches.ArgMatches.{ArgMatches}
 use Rattle.clap.specs.declared.parser.matches.Found.{Found}
 use Rattle.trace_cli.specs.declared.command.Invocation.TheVariants.{Replay}
-use Rattle.trace_cli.specs.Words.{Names, file_in, program}
+use Rattle.trace_cli.specs.Words.{NamesFile, file_in, program}
 use Rattle.trace_cli.proofs.Taken.{file_taken, is_free}
 use Rattle.trace_cli.proofs.Values.{file_of, first_is, some_is}
 use Rattle.trace_cli.proofs.command.command.Goals as goal
 
 -- the file in the matches of the subcommand that a parse entered
 found_by : (words : List Text) (a : App) (m : ArgMatches) (inner : Found) → a ≡ program → fault_of a words ≡ [] → subcommand_rows_of m ≡ subcommand_of a words
-    → Some (rows_of inner) ≡ option_map (λ p. p.1) (subcommand_rows_of m) → (path : Text) × (first_value inner (codes "FILE") ≡ Some path) × Names words path
+    → Some (rows_of inner) ≡ option_map (λ p. p.1) (subcommand_rows_of m) → (path : Text) × (first_value inner (codes "FILE") ≡ Some path) × NamesFile words path
 found_by words a m inner is none told rows =
     let faultless : fault_of program words ≡ [] = ap (λ (b : App). fault_of b words) (sym is) ∙ none in
     let here : subcommand_rows_of m ≡ subcommand_of program words = told ∙ ap (λ (b : App). subcommand_of b words) is in
@@ -34,7 +34,7 @@ returns c =
     let parse = c.in_ok-matches.ensures in
     let found = found_by words _ c.in_ok-matches.matches (found_of c.unwrap.result.1.now) is (parse.kinds (ap is_simple_and_free is ∙ is_free)) (parse.matches (ap is_simple is)).1
     (sym (ap (option_map (λ p. rows_of (found_of p.1.now))) c.unwrap.ensures) ∙ c.subcommand.ensures.rows) in
-    let read = subst (Names words) (some_is (sym found.1 ∙ sym c.get_str.ensures ∙ ap (option_map (λ s. s.now)) c.unwrap-file.ensures)) found.2 in
+    let read = subst (NamesFile words) (some_is (sym found.1 ∙ sym c.get_str.ensures ∙ ap (option_map (λ s. s.now)) c.unwrap-file.ensures)) found.2 in
     record { read = read; file = takes_file words (Ok (Replay c.unwrap-file.result)) read }
 
 pub returns-in_err-matches-clause-file : goal.returns-in_err-matches-clause-file

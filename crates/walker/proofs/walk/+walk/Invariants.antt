@@ -7,7 +7,7 @@ use Rattle.table_tree.specs.Shape.{IsShaped}
 use Rattle.table_tree.specs.Stocks.{frames_of}
 use Rattle.table_tree.specs.Tables.{tables_in, uses_in, table_in}
 use Rattle.table_tree.specs.Tight.{IsTight}
-use Rattle.walk_plan.specs.Changes.{changed}
+use Rattle.walk_plan.specs.Changes.{changed_entry}
 use Rattle.walk_plan.specs.inner.Needs.{met, sum_to, table_parts}
 use Rattle.walk_plan.specs.inner.Ranks.{gone_parts}
 use Rattle.walk_plan.proofs.Looks.{done, ends}
@@ -26,7 +26,7 @@ invariant-set_all-loop-i g l = record {
   frame : frame_of l.table ≡ frame_of l.initial.table;
   shape : IsShaped l.depth l.table;
   tight : IsTight l.depth l.table;
-  map : (q : ℕ) → entry_at l.depth l.table q ≡ changed (l.depth + 1) (entry_at l.depth l.initial.table) (upto l.change (l.i * block_pages l.depth)) q;
+  map : (q : ℕ) → entry_at l.depth l.table q ≡ changed_entry (l.depth + 1) (entry_at l.depth l.initial.table) (upto l.change (l.i * block_pages l.depth)) q;
   rest : (k : ℕ) → l.i ≤ k → slot_at l.table k ≡ slot_at l.initial.table k;
   stand : (low q : ℕ) → low < l.depth → l.i ≤ index_at l.depth q → table_in l.depth l.table low q ≡ table_in l.depth l.initial.table low q;
   kept : IsKept l.depth l.i l.change (frames_of l.initial.spare) l.initial.table l.table;

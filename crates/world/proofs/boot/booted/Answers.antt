@@ -1,7 +1,7 @@
 use Rattle.std.proofs.Common.{◌≡◌, refl, ap, sym, subst, ◌∙◌, length, arith}
 use Rattle.std.specs.Prelude.{IsErrAnd}
 use Rattle.page_state.specs.Geometries.{levels_below}
-use Rattle.page_state.specs.Regions.{is_memory}
+use Rattle.page_state.specs.Regions.{has_memory}
 use Rattle.guest_steps.specs.declared.parts.SharedPart.{SharedPart}
 use Rattle.guest_steps.specs.Logs.{IsOfSize}
 use Rattle.guest_steps.specs.MemoryRows.{HasMemoryRows}
@@ -49,7 +49,7 @@ invariant_of-result-2 g c =
       vm_log = λ k d less. (c.in_ok-vms.ensures.logs k d less).size;
       shared_log = all_alone (λ (x : SharedPart _). IsOfSize c.args.config.log x.log) c.in_ok-shared-2.shared.items s c.in_ok-shared-2.ensures c.in_ok-shared.ensures.log.size;
       depth = all_alone (λ (x : SharedPart _). depth_of x ≡ levels_below c.in-Some.geometry) c.in_ok-shared-2.shared.items s c.in_ok-shared-2.ensures c.in_ok-shared.ensures.depth;
-      rows = all_alone (λ (x : SharedPart _). HasMemoryRows c.in_ok-clone.field-0 x.rows) c.in_ok-shared-2.shared.items s c.in_ok-shared-2.ensures (λ f. c.in_ok-shared.ensures.rows f ∙ ap (λ m. is_memory m f) (sym c.in_ok-clone.ensures.cases));
+      rows = all_alone (λ (x : SharedPart _). HasMemoryRows c.in_ok-clone.field-0 x.rows) c.in_ok-shared-2.shared.items s c.in_ok-shared-2.ensures (λ f. c.in_ok-shared.ensures.rows f ∙ ap (λ m. has_memory m f) (sym c.in_ok-clone.ensures.cases));
       guest_logs = λ k d less. (c.in_ok-guests.ensures.logs k d less).size;
       own_logs = λ k d less. (c.in_ok-cpus.ensures.idle k d less).log.size;
     }

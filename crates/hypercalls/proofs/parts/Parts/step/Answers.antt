@@ -15,7 +15,7 @@ use Rattle.guest_steps.specs.Lent.{Lent, IsLent, Suits, lent, slot_in, used_in}
 use Rattle.guest_steps.specs.Logs.{IsOfSize}
 use Rattle.guest_steps.specs.MemoryRows.{HasMemoryRows}
 use Rattle.guest_steps.specs.View.{cpu_of}
-use Rattle.hypercalls.specs.Stands.{count_of, from_of, to_of}
+use Rattle.hypercalls.specs.Stands.{one_where, from_of, to_of}
 use Rattle.hypercalls.specs.Steps.{IsStepOn}
 use Rattle.hypercalls.proofs.Lends.{inner, fits, suits, shared_suits, lent_is, each_all, all_one, all_put, depths, all_rows, shared_logs}
 use Rattle.hypercalls.proofs.Ranges.{lent_one, back_one, length_one, cut, came_back, put_length}
@@ -35,8 +35,8 @@ step_on-requires-clause-lent g c =
     let one_shared : length p.shared.items ≡ 1 = omega (arith, p.one_shared, p.shared.ok.0) in
     let many : length p.guests.items ≡ 64 = omega (arith, p.slots, p.guests.ok.0) in
     let low = slot_below p cpu step k at c.requires.known c.requires.history in
-    let nv = c.count_of-vms.ensures.value ∙ ap count_of c.uses_vms.ensures in
-    let ns = c.count_of-shared.ensures.value ∙ ap count_of (c.uses_shared.ensures ∙ ap (uses_shared (names step)) c.guest_slot-slot.ensures) in
+    let nv = c.count_of-vms.ensures.value ∙ ap one_where c.uses_vms.ensures in
+    let ns = c.count_of-shared.ensures.value ∙ ap one_where (c.uses_shared.ensures ∙ ap (uses_shared (names step)) c.guest_slot-slot.ensures) in
     let from = c.range_of-from.ensures.from ∙ ap from_of c.guest_slot-slot.ensures in
     let to = c.range_of-from.ensures.to ∙ ap to_of c.guest_slot-slot.ensures in
     let is = lent_is p cpu step k at within one_vms one_shared many low c.deref_mut.result.now c.deref_mut-2.result.now c.deref_mut-3.result.now c.count_of-vms.result c.count_of-shared.result c.range_of-from.result.0 c.range_of-from.result.1 c.deref_mut.ensures.value c.deref_mut-2.ensures.value c.deref_mut-3.ensures.value nv ns from to in
@@ -55,8 +55,8 @@ step_on-requires-clause-suits g c =
     let one_shared : length p.shared.items ≡ 1 = omega (arith, p.one_shared, p.shared.ok.0) in
     let many : length p.guests.items ≡ 64 = omega (arith, p.slots, p.guests.ok.0) in
     let low = slot_below p cpu step k at c.requires.known c.requires.history in
-    let nv = c.count_of-vms.ensures.value ∙ ap count_of c.uses_vms.ensures in
-    let ns = c.count_of-shared.ensures.value ∙ ap count_of (c.uses_shared.ensures ∙ ap (uses_shared (names step)) c.guest_slot-slot.ensures) in
+    let nv = c.count_of-vms.ensures.value ∙ ap one_where c.uses_vms.ensures in
+    let ns = c.count_of-shared.ensures.value ∙ ap one_where (c.uses_shared.ensures ∙ ap (uses_shared (names step)) c.guest_slot-slot.ensures) in
     let from = c.range_of-from.ensures.from ∙ ap from_of c.guest_slot-slot.ensures in
     let to = c.range_of-from.ensures.to ∙ ap to_of c.guest_slot-slot.ensures in
     let is = lent_is p cpu step k at within one_vms one_shared many low c.deref_mut.result.now c.deref_mut-2.result.now c.deref_mut-3.result.now c.count_of-vms.result c.count_of-shared.result c.range_of-from.result.0 c.range_of-from.result.1 c.deref_mut.ensures.value c.deref_mut-2.ensures.value c.deref_mut-3.ensures.value nv ns from to in
@@ -75,8 +75,8 @@ step_on-requires-clause-reached g c =
     let one_shared : length p.shared.items ≡ 1 = omega (arith, p.one_shared, p.shared.ok.0) in
     let many : length p.guests.items ≡ 64 = omega (arith, p.slots, p.guests.ok.0) in
     let low = slot_below p cpu step k at c.requires.known c.requires.history in
-    let nv = c.count_of-vms.ensures.value ∙ ap count_of c.uses_vms.ensures in
-    let ns = c.count_of-shared.ensures.value ∙ ap count_of (c.uses_shared.ensures ∙ ap (uses_shared (names step)) c.guest_slot-slot.ensures) in
+    let nv = c.count_of-vms.ensures.value ∙ ap one_where c.uses_vms.ensures in
+    let ns = c.count_of-shared.ensures.value ∙ ap one_where (c.uses_shared.ensures ∙ ap (uses_shared (names step)) c.guest_slot-slot.ensures) in
     let from = c.range_of-from.ensures.from ∙ ap from_of c.guest_slot-slot.ensures in
     let to = c.range_of-from.ensures.to ∙ ap to_of c.guest_slot-slot.ensures in
     let is = lent_is p cpu step k at within one_vms one_shared many low c.deref_mut.result.now c.deref_mut-2.result.now c.deref_mut-3.result.now c.count_of-vms.result c.count_of-shared.result c.range_of-from.result.0 c.range_of-from.result.1 c.deref_mut.ensures.value c.deref_mut-2.ensures.value c.deref_mut-3.ensures.value nv ns from to in
@@ -95,8 +95,8 @@ invariant_of-self g c =
     let one_shared : length p.shared.items ≡ 1 = omega (arith, p.one_shared, p.shared.ok.0) in
     let many : length p.guests.items ≡ 64 = omega (arith, p.slots, p.guests.ok.0) in
     let low = slot_below p cpu step k at c.requires.known c.requires.history in
-    let nv = c.count_of-vms.ensures.value ∙ ap count_of c.uses_vms.ensures in
-    let ns = c.count_of-shared.ensures.value ∙ ap count_of (c.uses_shared.ensures ∙ ap (uses_shared (names step)) c.guest_slot-slot.ensures) in
+    let nv = c.count_of-vms.ensures.value ∙ ap one_where c.uses_vms.ensures in
+    let ns = c.count_of-shared.ensures.value ∙ ap one_where (c.uses_shared.ensures ∙ ap (uses_shared (names step)) c.guest_slot-slot.ensures) in
     let from = c.range_of-from.ensures.from ∙ ap from_of c.guest_slot-slot.ensures in
     let to = c.range_of-from.ensures.to ∙ ap to_of c.guest_slot-slot.ensures in
     let is = lent_is p cpu step k at within one_vms one_shared many low c.deref_mut.result.now c.deref_mut-2.result.now c.deref_mut-3.result.now c.count_of-vms.result c.count_of-shared.result c.range_of-from.result.0 c.range_of-from.result.1 c.deref_mut.ensures.value c.deref_mut-2.ensures.value c.deref_mut-3.ensures.value nv ns from to in
@@ -138,8 +138,8 @@ returns-clause-step g c =
     let one_shared : length p.shared.items ≡ 1 = omega (arith, p.one_shared, p.shared.ok.0) in
     let many : length p.guests.items ≡ 64 = omega (arith, p.slots, p.guests.ok.0) in
     let low = slot_below p cpu step k at c.requires.known c.requires.history in
-    let nv = c.count_of-vms.ensures.value ∙ ap count_of c.uses_vms.ensures in
-    let ns = c.count_of-shared.ensures.value ∙ ap count_of (c.uses_shared.ensures ∙ ap (uses_shared (names step)) c.guest_slot-slot.ensures) in
+    let nv = c.count_of-vms.ensures.value ∙ ap one_where c.uses_vms.ensures in
+    let ns = c.count_of-shared.ensures.value ∙ ap one_where (c.uses_shared.ensures ∙ ap (uses_shared (names step)) c.guest_slot-slot.ensures) in
     let from = c.range_of-from.ensures.from ∙ ap from_of c.guest_slot-slot.ensures in
     let to = c.range_of-from.ensures.to ∙ ap to_of c.guest_slot-slot.ensures in
     let is = lent_is p cpu step k at within one_vms one_shared many low c.deref_mut.result.now c.deref_mut-2.result.now c.deref_mut-3.result.now c.count_of-vms.result c.count_of-shared.result c.range_of-from.result.0 c.range_of-from.result.1 c.deref_mut.ensures.value c.deref_mut-2.ensures.value c.deref_mut-3.ensures.value nv ns from to in
@@ -171,8 +171,8 @@ returns-clause-history g c =
     let one_shared : length p.shared.items ≡ 1 = omega (arith, p.one_shared, p.shared.ok.0) in
     let many : length p.guests.items ≡ 64 = omega (arith, p.slots, p.guests.ok.0) in
     let low = slot_below p cpu step k at c.requires.known c.requires.history in
-    let nv = c.count_of-vms.ensures.value ∙ ap count_of c.uses_vms.ensures in
-    let ns = c.count_of-shared.ensures.value ∙ ap count_of (c.uses_shared.ensures ∙ ap (uses_shared (names step)) c.guest_slot-slot.ensures) in
+    let nv = c.count_of-vms.ensures.value ∙ ap one_where c.uses_vms.ensures in
+    let ns = c.count_of-shared.ensures.value ∙ ap one_where (c.uses_shared.ensures ∙ ap (uses_shared (names step)) c.guest_slot-slot.ensures) in
     let from = c.range_of-from.ensures.from ∙ ap from_of c.guest_slot-slot.ensures in
     let to = c.range_of-from.ensures.to ∙ ap to_of c.guest_slot-slot.ensures in
     let is = lent_is p cpu step k at within one_vms one_shared many low c.deref_mut.result.now c.deref_mut-2.result.now c.deref_mut-3.result.now c.count_of-vms.result c.count_of-shared.result c.range_of-from.result.0 c.range_of-from.result.1 c.deref_mut.ensures.value c.deref_mut-2.ensures.value c.deref_mut-3.ensures.value nv ns from to in
