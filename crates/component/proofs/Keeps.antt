@@ -1,5 +1,5 @@
 -- What no change does to a tree.
-use Rattle.std.proofs.Common.{◌≡◌, ℕ, List, [], ◌∷◌, length, refl, arith}
+use Rattle.std.proofs.Common.{◌≡◌, ℕ, List, [], refl}
 use Rattle.page_state.specs.Trees.{Tree}
 use Rattle.page_state.specs.Tables.{keep, need, needs, edited, freed, returned}
 
@@ -17,8 +17,3 @@ edited_keep top t fs = refl
 pub returned_keep : (top : ℕ) (t : Tree) → returned top t keep ≡ []
 unfolding returned freed
 returned_keep top t = refl
-
--- a list of no length has no element
-pub none_left : (fs : List ℕ) → length fs ≡ 0 → fs ≡ []
-none_left [] h = refl
-none_left (f ∷ fs) h = absurd (omega (arith, h))

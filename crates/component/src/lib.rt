@@ -1,17 +1,18 @@
 //! A tree and the maplets that say the same.
 #![tactic(auto)]
 
-ghost use Rattle.std.specs.Prelude.{◌≡◌, ℕ, ◌+◌, ◌<◌, ◌≤◌, ◌^◌, ◌↔◌, length, take, drop, IsOk, IfOk, OnOk, OnErr, Some, Err};
-ghost use Rattle.component.specs.Maps.{maps_prop};
+ghost use Rattle.std.specs.Prelude.{◌≡◌, ℕ, ◌+◌, ◌-◌, ◌<◌, ◌≤◌, ◌^◌, ◌↔◌, length, take, drop, IsOk, IfOk, OnOk, OnErr, Some, Err};
+ghost use Rattle.component.specs.Maps.{coarsest_prop, maps_prop};
 ghost use Rattle.component.specs.View.{HasRoomFor, need_for, tree_after, back_from};
+ghost use Rattle.page_state.specs.Blocks.{block_at, is_empty as is_empty_block};
 ghost use Rattle.page_state.specs.Map.{empty_map};
-ghost use Rattle.page_state.specs.Runs.{map_of};
+ghost use Rattle.page_state.specs.Runs.{map_of, IsCoarsest};
 ghost use Rattle.page_state.specs.Tables.{all_given};
 ghost use Rattle.page_state.specs.Counts.{frame_count};
 ghost use Rattle.page_state.specs.Geometries.{levels_below};
 ghost use Rattle.reference_model.specs.ChangeLaws.{Fits, FitsWhere};
 ghost use Rattle.table_tree.specs.Stocks.{frames_of};
-ghost use Rattle.table_tree.specs.View.{meaning, tree_of, uses, tables_of, root_of};
+ghost use Rattle.table_tree.specs.View.{meaning, tree_of, uses, tables_of, root_of, spares_of};
 
 use hyp_pool::{Pool, PoolFault};
 use maplets::Maplets;
@@ -24,12 +25,13 @@ use walk_plan::Spare;
 /// The most runs that one change adds to a list of maplets.
 const MOST_NEW_RUNS: usize = 2;
 
-/// A tree and its maplets, changed together: both have one meaning.
+/// A tree and its maplets, changed together: both have one meaning, and the maplets are the coarsest list of its runs.
 #[derive(Drop)]
 pub struct Component<A: Allocator> {
     pub tree: Tree<A>,
     pub maplets: Maplets,
     pub ghost agree: { meaning tree ≡ map_of maplets.runs } by { maps_prop (meaning tree) (map_of maplets.runs) },
+    pub ghost coarsest: { IsCoarsest maplets.runs } by { coarsest_prop maplets.runs },
 }
 
 /// All that one change of a component needs, in hand: the tables, and the room in the maplets. It must be spent, by
@@ -100,11 +102,12 @@ impl<A: Allocator> Component<A> {
         ensures pool_room { pool.new.room ≡ pool.old.room }
         ensures frames { (f : ℕ) → uses self.new.tree f + frame_count f pool.new.frames ≡ uses self.old.tree f + frame_count f (frames_of plan.spare.stock) + frame_count f pool.old.frames }
         ensures tables { tables_of self.new.tree + length pool.new.frames ≡ tables_of self.old.tree + length (frames_of plan.spare.stock) + length pool.old.frames }
+        ensures spares { spares_of self.new.tree ≡ spares_of self.old.tree + length (back_from self.old.tree plan.change) }
     {
         let Plan { change, spare } = plan;
         match change {
             Some(change) => self.set(pool, change, spare),
-            None => walk_plan::release(spare, pool),
+            None => self.release(pool, Plan { change, spare }),
         }
     }
 
@@ -122,6 +125,7 @@ impl<A: Allocator> Component<A> {
         ensures pool_room { pool.new.room ≡ pool.old.room }
         ensures frames { (f : ℕ) → uses self.new.tree f + frame_count f pool.new.frames ≡ uses self.old.tree f + frame_count f (frames_of spare.stock) + frame_count f pool.old.frames }
         ensures tables { tables_of self.new.tree + length pool.new.frames ≡ tables_of self.old.tree + length (frames_of spare.stock) + length pool.old.frames }
+        ensures spares { spares_of self.new.tree ≡ spares_of self.old.tree + length (back_from self.old.tree (Some change)) }
     {
         let mut reads = Reads::new();
         let MapChange { range, entry } = change;
@@ -129,16 +133,20 @@ impl<A: Allocator> Component<A> {
         self.maplets.set(range, entry.target());
     }
 
-    /// Gives all that is in hand for a change back to the pool, and makes none. It asks that all frames are distinct and
-    /// that the pool's room covers them.
-    pub fn release(plan: Plan<A>, pool: &mut Pool)
+    /// Gives all that is in hand for a change back, and makes none: the frames to the pool, the tables to the tree's spares.
+    /// It asks that all frames are distinct and that the pool's room covers them.
+    pub fn release(&mut self, pool: &mut Pool, plan: Plan<A>)
         requires distinct { (f : ℕ) → frame_count f (frames_of plan.spare.stock) + frame_count f pool.old.frames ≤ 1 }
         requires covered { length (frames_of plan.spare.stock) + length pool.old.frames ≤ pool.old.room }
         ensures frames { pool.new.frames ≡ all_given (frames_of plan.spare.stock) pool.old.frames }
         ensures room { pool.new.room ≡ pool.old.room }
+        ensures spares { spares_of self.new.tree ≡ spares_of self.old.tree + length (frames_of plan.spare.stock) }
+        ensures geometry { self.new.tree.geometry ≡ self.old.tree.geometry }
+        ensures table { self.new.tree.table ≡ self.old.tree.table }
+        ensures maplets { self.new.maplets ≡ self.old.maplets }
     {
         let Plan { change: _, spare } = plan;
-        walk_plan::release(spare, pool);
+        walk_plan::release(spare, &mut self.tree, pool);
     }
 
     /// The tree.
@@ -154,15 +162,24 @@ impl<A: Allocator> Component<A> {
     {
         &self.maplets
     }
+
+    /// Whether nothing is mapped on the block that holds a page and has `depth` levels below it, at most 2, as the tree says
+    /// it. It looks at one slot of each table on the page's path.
+    pub fn is_empty(&self, depth: u32, page: Page) -> bool
+        requires { depth ≤ 2 }
+        ensures { result ≡ is_empty_block (meaning self.now.tree) (block_at depth page.0) }
+    {
+        self.tree.is_empty(depth, page)
+    }
 }
 
 impl<A: Allocator + Copy> Component<A> {
-    /// Takes what a change needs in hand: the lowest frames of the pool, a table for each, and room in the maplets. NoPool
-    /// is answered only where fewer frames are free, NoMemory where memory was refused; then tree, runs and pool are as
-    /// they were.
+    /// Takes what a change needs in hand: the lowest frames of the pool, a table for each, the tree's spares first, and room
+    /// in the maplets. NoPool is answered only where fewer frames are free, NoMemory only where the spares are too few or
+    /// that room isn't there, and memory was refused. Then runs, pool and tree are as they were, but that the tree may have
+    /// more spares.
     pub fn reserve(
         &mut self,
-        global: Global,
         alloc: A,
         pool: &mut Pool,
         change: Option<MapChange>,
@@ -173,14 +190,17 @@ impl<A: Allocator + Copy> Component<A> {
         ensures pool { OnOk result (pool.new.frames ≡ drop need pool.old.frames) }
         ensures ready { OnOk result (HasRoomFor change self.new.maplets) }
         ensures no_pool { result ≡ Err PoolFault.NoPool → length pool.old.frames < need }
-        ensures nothing { need ≡ 0 → HasRoomFor change self.old.maplets → IsOk result }
-        ensures tree { self.new.tree ≡ self.old.tree }
+        ensures no_memory { result ≡ Err PoolFault.NoMemory → HasRoomFor change self.old.maplets → spares_of self.old.tree < need }
+        ensures spares { OnOk result (spares_of self.new.tree ≡ spares_of self.old.tree - need) }
+        ensures geometry { self.new.tree.geometry ≡ self.old.tree.geometry }
+        ensures table { self.new.tree.table ≡ self.old.tree.table }
         ensures runs { self.new.maplets.runs ≡ self.old.maplets.runs }
         ensures err { OnErr result (pool.new ≡ pool.old) }
+        ensures err_spares { OnErr result (spares_of self.old.tree ≤ spares_of self.new.tree) }
         ensures room { pool.new.room ≡ pool.old.room }
     {
         self.make_room(&change)?;
-        let spare = walk_plan::reserve_tables(global, alloc, pool, need)?;
+        let spare = walk_plan::reserve_tables(alloc, &mut self.tree, pool, need)?;
         Ok(Plan { change, spare })
     }
 }

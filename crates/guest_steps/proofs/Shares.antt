@@ -1,5 +1,5 @@
 -- The Shared part after its changes, in words of the reference state.
-use Rattle.std.proofs.Common.{◌≡◌, ℕ, ◌+◌, ◌-◌, ◌++◌, Bool, true, false, List, drop, unwrap_or, Option, Some, Result, Ok, Err, OnOk, refl, ap, ◌∙◌, if◌then◌else◌}
+use Rattle.std.proofs.Common.{◌≡◌, ℕ, ◌+◌, ◌-◌, ◌++◌, Bool, true, false, List, drop, unwrap_or, Option, Some, Result, Ok, Err, OnOk, OnErr, refl, ap, ◌∙◌, if◌then◌else◌}
 use mathlib.Core.Path.{fun_ext}
 use Rattle.hyp_pool.specs.declared.PoolFault.{PoolFault}
 use Rattle.hyp_pool.specs.Pools.{StoredFrames}
@@ -17,6 +17,7 @@ use Rattle.reference_model.specs.Step.{shared_after}
 use Rattle.run_list.specs.declared.run.Run.{Run}
 use Rattle.table_tree.specs.declared.tree.Tree.{Tree as TableTree}
 use Rattle.table_tree.specs.View.{tree_of}
+use Rattle.table_tree.proofs.Same.{same_tree}
 use Rattle.component.specs.View.{need_for, tree_after, back_from}
 use Rattle.guest_steps.specs.declared.parts.SharedPart.{SharedPart}
 use Rattle.guest_steps.specs.View.{shared_of, depth_of, rows_given}
@@ -36,6 +37,18 @@ module _ {A : Type 0} (s : SharedPart A) where
   given frames row rows e =
       ap (λ r. shared r (tree_of s.host.tree) (tree_of s.hyp.tree) s.pool.frames)
       (fun_ext (λ f. ap (λ m. unwrap_or (m f) plain_row) e ∙ same_row (is_in_range frames f) (row_at s.rows f) (advance_row row (f - frames.first.0))))
+
+  -- maps that stayed, whatever spares their trees have now
+  pub unchanged : (r : Result (Unit {0}) PoolFault) (host hyp : TableTree A) (pool : StoredFrames)
+      → host.geometry ≡ s.host.tree.geometry → hyp.geometry ≡ s.hyp.tree.geometry
+      → OnErr r (host.table ≡ s.host.tree.table) → OnErr r (hyp.table ≡ s.hyp.tree.table) → OnErr r (pool ≡ s.pool)
+      → OnErr r (shared (λ f. unwrap_or (row_at s.rows f) plain_row) (tree_of host) (tree_of hyp) pool.frames ≡ shared_of s)
+  unchanged (Ok x) host hyp pool g h a b e = _
+  unchanged (Err why) host hyp pool g h a b e =
+      let r : ℕ → Row = λ f. unwrap_or (row_at s.rows f) plain_row in
+      ap (λ x. shared r x (tree_of hyp) pool.frames) (same_tree host s.host.tree g a)
+      ∙ ap (λ x. shared r (tree_of s.host.tree) x pool.frames) (same_tree hyp s.hyp.tree h b)
+      ∙ ap (λ (p : StoredFrames). shared r (tree_of s.host.tree) (tree_of s.hyp.tree) p.frames) e
 
   -- both maps that were changed
   pub changed : (result : Result (Unit {0}) PoolFault) (h : Changes) (host hyp : TableTree A) (pool : StoredFrames)

@@ -1,29 +1,35 @@
 //! Changes of the Shared part, in words of the reference state.
-ghost use Rattle.std.specs.Prelude.{◌≡◌, ◌+◌, ◌<◌, ◌≤◌, ◌^◌, ◌↔◌, Err, length, IsOk, OnOk, OnErr};
-ghost use Rattle.component.specs.View.{HasRoomFor, need_for};
+ghost use Rattle.std.specs.Prelude.{◌≡◌, ◌+◌, ◌-◌, ◌<◌, ◌≤◌, ◌^◌, ◌↔◌, Err, length, OnOk, OnErr};
+ghost use Rattle.component.specs.View.{HasRoomFor, need_for, back_from};
 ghost use Rattle.guest_steps.specs.View.{shared_of, depth_of, rows_given};
 ghost use Rattle.owner_table.specs.Rows.{HasRows, HasSameFrames};
 ghost use Rattle.page_state.specs.Regions.{end_of};
 ghost use Rattle.reference_model.specs.ChangeLaws.{FitsWhere};
 ghost use Rattle.reference_model.specs.Step.{shared_need, shared_after};
 ghost use Rattle.page_state.specs.Rows.{HasPageBelow};
+ghost use Rattle.table_tree.specs.View.{spares_of};
 
 use crate::both::change_both;
 use crate::parts::SharedPart;
 use hyp_pool::PoolFault;
 use page_state::{PageRange, Row};
 use reference_model::Changes;
-use std::alloc::{Allocator, Global};
+use std::alloc::Allocator;
 
 impl<A: Allocator + Copy> SharedPart<A> {
     /// Makes the changes of the host's and the hypervisor's map, or none: NoPool is answered exactly where the pool has fewer
-    /// frames than both need tables, NoMemory only where memory was refused. Rows and log stay.
-    pub fn change(&mut self, global: Global, alloc: A, changes: &Changes) -> Result<(), PoolFault>
+    /// frames than both need tables, NoMemory only where a tree has fewer spares than it needs tables, or maplets no room, and
+    /// memory was refused. Rows and log stay.
+    pub fn change(&mut self, alloc: A, changes: &Changes) -> Result<(), PoolFault>
         requires host_change { FitsWhere (depth_of self.old) changes.now.host }
         requires hyp_change { FitsWhere (depth_of self.old) changes.now.hyp }
         ensures made { OnOk result (shared_of self.new ≡ shared_after (depth_of self.old) changes.now (shared_of self.old)) }
         ensures no_pool { (result ≡ Err PoolFault.NoPool) ↔ (length self.old.pool.frames < shared_need (depth_of self.old) changes.now (shared_of self.old)) }
-        ensures nothing { HasRoomFor changes.now.host self.old.host.maplets → HasRoomFor changes.now.hyp self.old.hyp.maplets → shared_need (depth_of self.old) changes.now (shared_of self.old) ≡ 0 → IsOk result }
+        ensures no_memory { result ≡ Err PoolFault.NoMemory → HasRoomFor changes.now.host self.old.host.maplets → HasRoomFor changes.now.hyp self.old.hyp.maplets → need_for self.old.host.tree changes.now.host ≤ spares_of self.old.host.tree → need_for self.old.hyp.tree changes.now.hyp ≤ spares_of self.old.hyp.tree → ⊥ }
+        ensures host_spares { OnOk result (spares_of self.new.host.tree ≡ spares_of self.old.host.tree - need_for self.old.host.tree changes.now.host + length (back_from self.old.host.tree changes.now.host)) }
+        ensures hyp_spares { OnOk result (spares_of self.new.hyp.tree ≡ spares_of self.old.hyp.tree - need_for self.old.hyp.tree changes.now.hyp + length (back_from self.old.hyp.tree changes.now.hyp)) }
+        ensures err_host_spares { OnErr result (spares_of self.old.host.tree ≤ spares_of self.new.host.tree) }
+        ensures err_hyp_spares { OnErr result (spares_of self.old.hyp.tree ≤ spares_of self.new.hyp.tree) }
         ensures err { OnErr result (shared_of self.new ≡ shared_of self.old) }
         ensures err_host { OnErr result (self.new.host.maplets.runs ≡ self.old.host.maplets.runs) }
         ensures err_hyp { OnErr result (self.new.hyp.maplets.runs ≡ self.old.hyp.maplets.runs) }
@@ -34,7 +40,7 @@ impl<A: Allocator + Copy> SharedPart<A> {
         let host = &mut self.host;
         let hyp = &mut self.hyp;
         let pool = &mut self.pool;
-        change_both(global, alloc, host, hyp, pool, changes)
+        change_both(alloc, host, hyp, pool, changes)
     }
 }
 

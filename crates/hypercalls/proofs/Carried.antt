@@ -23,7 +23,10 @@ use Rattle.reference_model.specs.Step.{shared_need, shared_after, guest_after, i
 use Rattle.reference_model.specs.Used.{Used}
 use Rattle.guest_steps.specs.declared.parts.SharedPart.{SharedPart}
 use Rattle.std.proofs.lemmas.Bool.{ltb-true, lt-ltb}
-use Rattle.component.specs.View.{HasRoomFor}
+use Rattle.component.specs.View.{HasRoomFor, need_for}
+use Rattle.component.proofs.Keeps.{need_keep}
+use Rattle.page_state.specs.Geometries.{levels_below}
+use Rattle.table_tree.specs.View.{tree_of}
 use Rattle.guest_steps.specs.declared.parts.CpuState.{CpuState}
 use Rattle.guest_steps.specs.Lent.{Each, lent, one, used_in}
 use Rattle.guest_steps.specs.View.{shared_of, cpu_of}
@@ -88,25 +91,25 @@ module _ (l : Layout) (h : Changes) (stays : IsUnfilled h) where
   all_made id slot s t k j a b = same_used no_vms (vms_by h.slot no_vms) t (rows_told l id slot h (shared_after l.depth h s)) no_guest (guest_after l.depth h no_guest) j (cpu_by h.cpu k) (sym (ap (λ c. vms_by c no_vms) stays.slot)) a (sym guest_same) b
 
 -- where neither map changes, no growth can be needed
-pub roomy_of_none : {A : Type 0} (d : ℕ) (h : Changes) → h.host ≡ None → h.hyp ≡ None → (ss : List (SharedPart A)) → Each (IsRoomy d h) ss
-unfolding needs
-roomy_of_none d h a b [] = tt
-roomy_of_none d h a b (s ∷ ss) = (
+pub roomy_of_none : {A : Type 0} (h : Changes) → h.host ≡ None → h.hyp ≡ None → (ss : List (SharedPart A)) → Each (IsRoomy h) ss
+roomy_of_none h a b [] = tt
+roomy_of_none h a b (s ∷ ss) = (
   record {
     host = subst (λ (o : Option MapChange). HasRoomFor o s.host.maplets) (sym a) tt;
     hyp = subst (λ (o : Option MapChange). HasRoomFor o s.hyp.maplets) (sym b) tt;
-    need = rw (a, b) refl;
+    host_spares = let e = ap (need_for s.host.tree) a in omega (arith, e ∙ need_keep (levels_below s.host.tree.geometry) (tree_of s.host.tree));
+    hyp_spares = let e = ap (need_for s.hyp.tree) b in omega (arith, e ∙ need_keep (levels_below s.hyp.tree.geometry) (tree_of s.hyp.tree));
   },
-  roomy_of_none d h a b ss,
+  roomy_of_none h a b ss,
 )
 
 -- a step whose change wanted memory may grow
-pub grows_by : {A : Type 0} (d : ℕ) (h : Changes) (step : Step) (ss : List (SharedPart A)) → GrowsOnly step h → (Each (IsRoomy d h) ss → ⊥) → may_grow step ≡ true
-grows_by d h step ss only short = go (may_grow step) only
+pub grows_by : {A : Type 0} (h : Changes) (step : Step) (ss : List (SharedPart A)) → GrowsOnly step h → (Each (IsRoomy h) ss → ⊥) → may_grow step ≡ true
+grows_by h step ss only short = go (may_grow step) only
   where
     go : (b : Bool) → (b ≡ false → (h.host ≡ None) × (h.hyp ≡ None)) → b ≡ true
     go true k = refl
-    go false k = absurd (short (roomy_of_none d h (k refl).0 (k refl).1 ss))
+    go false k = absurd (short (roomy_of_none h (k refl).0 (k refl).1 ss))
 
 -- a list of the Shared part that was changed, or wasn't
 module _ {A : Type 0} (l : Layout) (id : ℕ) (slot : Option ℕ) (step : Step) (h : Changes) (stays : IsUnfilled h) (ss ts : List (SharedPart A)) (k j : CpuState) where

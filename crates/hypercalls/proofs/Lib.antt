@@ -5,3 +5,6 @@ pub mod Singles
 pub mod Stepping
 pub mod Tickets
 pub mod Whole
+pub mod Ranged
+pub mod Decided
+pub mod Hands

@@ -30,6 +30,10 @@ or_parts false false true d h = cc
 or_parts false false false true h = cc
 or_parts false false false false h = (refl, refl, refl, refl)
 
+-- a log that isn't full has room
+pub some_room : (n : ℕ) → (n == 0) ≡ false → 0 < n
+some_room n h = grind (arith, nat_tests)
+
 -- where no log is full, each has room
 pub any_parts : (x : LentLogs) → any_full x ≡ false → ((x.cpu.room == 0) ≡ false) × (one false (λ g. g.room == 0) x.vms ≡ false) × (one false (λ g. g.room == 0) x.shared ≡ false) × (one false (λ g. g.room == 0) x.guest ≡ false)
 any_parts x h = or_parts (x.cpu.room == 0) (one false (λ g. g.room == 0) x.vms) (one false (λ g. g.room == 0) x.shared) (one false (λ g. g.room == 0) x.guest) h

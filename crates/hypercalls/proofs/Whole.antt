@@ -287,7 +287,7 @@ module _ {A : Type 0} (p : Parts A) (cpu : ℕ) (step : Step) (k : CpuState) (at
             full = λ f. same_kept (sym full_same ∙ f);
             stored = λ f. made.stored (sym full_same ∙ f);
             stores = λ f. let h = sym full_same ∙ f in subst (λ d. StoresCall d (state_of q).contents (kept_of p) (kept_of q)) (sym call) (subst (λ (u : Reference). StoresCall c u.contents (kept_of p) (kept_of q)) (sym (stands h)) (stores_now h));
-            wants = λ told h is roomy. made.wants told h (ap (λ u. decides l cpu slot step u) used_is ∙ rw slot_is at is) (each_when (IsRoomy l.depth h) (uses_shared n slot) p.shared.items roomy);
+            wants = λ told h is roomy. made.wants told h (ap (λ u. decides l cpu slot step u) used_is ∙ rw slot_is at is) (each_when (IsRoomy h) (uses_shared n slot) p.shared.items roomy);
           }
 
       pub history : HasHistory p → cpu < p.layout.config.cpus → HasHistory q

@@ -1,10 +1,10 @@
 -- How changes are carried out on lent parts.
-use Rattle.std.specs.Prelude.{◌≡◌, ℕ, true, false, ◌&&◌, List, [], ◌∷◌, Option, None}
+use Rattle.std.specs.Prelude.{◌≡◌, ◌≤◌, ℕ, true, false, ◌&&◌, List, [], ◌∷◌, Option, None}
 use Rattle.page_state.specs.declared.step.Step.{Step}
 use Rattle.page_state.specs.Layouts.{Layout, is_memory}
-use Rattle.component.specs.View.{HasRoomFor}
+use Rattle.component.specs.View.{HasRoomFor, need_for}
+use Rattle.table_tree.specs.View.{spares_of}
 use Rattle.guest_steps.specs.declared.parts.SharedPart.{SharedPart}
-use Rattle.guest_steps.specs.View.{shared_of}
 use Rattle.reference_model.specs.declared.changes.Changes.{Changes}
 use Rattle.reference_model.specs.declared.changes.GuestChange.TheVariants.{Keep as KeepGuest}
 use Rattle.reference_model.specs.declared.changes.SlotChange.TheVariants.{Keep as KeepSlots}
@@ -12,7 +12,7 @@ use Rattle.reference_model.specs.Changes.{touched}
 use Rattle.reference_model.specs.RowChanges.{first_of, told_row}
 use Rattle.reference_model.specs.Rules.{may_grow}
 use Rattle.reference_model.specs.State.{Shared}
-use Rattle.reference_model.specs.Step.{is_touched, shared_need}
+use Rattle.reference_model.specs.Step.{is_touched}
 
 -- what no call fills yet stays
 pub record IsUnfilled (h : Changes) : Type 0 where
@@ -36,11 +36,12 @@ OnlyLent h (s ∷ (t ∷ ss)) = ⊥
 abbrev pub GrowsOnly : Step → Changes → Type 0
 GrowsOnly step h = may_grow step ≡ false → (h.host ≡ None) × (h.hyp ≡ None)
 
--- no growth can be needed: both maplets have the room that a change asks, and no tree needs a table
-pub record IsRoomy {A : Type 0} (d : ℕ) (h : Changes) (s : SharedPart A) : Type 0 where
+-- no growth can be needed: both maplets have the room that a change asks, and each tree a spare for each table that it needs
+pub record IsRoomy {A : Type 0} (h : Changes) (s : SharedPart A) : Type 0 where
   pub host : HasRoomFor h.host s.host.maplets
   pub hyp : HasRoomFor h.hyp s.hyp.maplets
-  pub need : shared_need d h (shared_of s) ≡ 0
+  pub host_spares : need_for s.host.tree h.host ≤ spares_of s.host.tree
+  pub hyp_spares : need_for s.hyp.tree h.hyp ≤ spares_of s.hyp.tree
 
 -- the Shared part with the told rows at the touched range, where that is memory
 abbrev pub rows_told : Layout → ℕ → Option ℕ → Changes → Shared → Shared

@@ -1,8 +1,17 @@
 -- The calls that code has.
 use Rattle.page_state.specs.declared.step.Step.{Step}
-use Rattle.page_state.specs.declared.step.Step.TheVariants.{ShareHyp}
+use Rattle.page_state.specs.declared.step.Step.TheVariants.{ShareHyp, UnshareHyp, DonateHyp, HypDonateHost, HostAbort, HostTranslate, HypTranslate, OwnerOf, Fund, Unfund}
 
 -- a step of a call that is served
 abbrev pub IsServed : Step → Type 0
 IsServed (ShareHyp f) = Unit {0}
+IsServed (UnshareHyp f) = Unit {0}
+IsServed (DonateHyp f n) = Unit {0}
+IsServed (HypDonateHost f n) = Unit {0}
+IsServed (HostAbort p) = Unit {0}
+IsServed (HostTranslate p) = Unit {0}
+IsServed (HypTranslate p) = Unit {0}
+IsServed (OwnerOf f) = Unit {0}
+IsServed (Fund f n) = Unit {0}
+IsServed Unfund = Unit {0}
 IsServed other = ⊥

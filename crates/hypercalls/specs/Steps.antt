@@ -18,7 +18,7 @@ any_full g = g.cpu.room == 0 || one false (λ s. s.room == 0) g.vms || one false
 
 -- memory can be wanted: what is decided can need a growth
 abbrev pub CanWantOn : {A : Type 0} → Layout → ℕ → Option ℕ → Step → Lent A → Type 0
-CanWantOn l id slot step x = (h : Changes) → decides l id slot step (used_in x) ≡ Ok h → Each (IsRoomy l.depth h) x.shared → ⊥
+CanWantOn l id slot step x = (h : Changes) → decides l id slot step (used_in x) ≡ Ok h → Each (IsRoomy h) x.shared → ⊥
 
 -- the step of a CPU on what is lent: it is the reference step there, and the call is stored in each log where none is full, and else nothing changes. Memory is wanted only where it can be
 pub record IsStepOn {A : Type 0} (l : Layout) (id : ℕ) (step : Step) (x : Lent A) (reply : Reply) (y : Lent A) : Type 0 where

@@ -32,7 +32,7 @@ module _ {A : Type 0} (p : Parts A) (cpu : ℕ) (step : Step) where
 
   -- memory can be wanted: what is decided can need a growth
   abbrev pub CanWant : Type 0
-  CanWant = (h : Changes) → decides (parts_layout p) cpu slot_here step (used_of (names step) slot_here cpu (state_of p).contents) ≡ Ok h → Each (IsRoomy (parts_layout p).depth h) p.shared.items → ⊥
+  CanWant = (h : Changes) → decides (parts_layout p) cpu slot_here step (used_of (names step) slot_here cpu (state_of p).contents) ≡ Ok h → Each (IsRoomy h) p.shared.items → ⊥
 
   -- the parts after a step, and its reply: those after the reference step. Where a log is full nothing changes, and else the call is stored in the logs of the parts that it uses and of its CPU. Memory is wanted only where it can be
   pub record IsStep (reply : Reply) (q : Parts A) : Type 0 where

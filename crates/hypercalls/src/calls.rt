@@ -1,21 +1,34 @@
 //! What each call decides: the first of its tests that fails, or all that it changes. Nothing is changed here.
-ghost use Rattle.std.specs.Prelude.{◌≡◌, ℕ, Some, None, IfOk};
-ghost use Rattle.guest_steps.specs.Lent.{IsLent, lent, slot_in, used_in};
-ghost use Rattle.guest_steps.specs.View.{shared_of};
+ghost use Rattle.std.specs.Prelude.{◌≡◌, Some, None, IfOk};
+ghost use Rattle.guest_steps.specs.Lent.{Each, IsLent, SharedSuits, lent, slot_in, used_in};
+ghost use Rattle.guest_steps.specs.View.{cpu_of, shared_of};
 ghost use Rattle.hypercalls.specs.Carried.{GrowsOnly, IsUnfilled};
 ghost use Rattle.hypercalls.specs.Served.{IsServed};
-ghost use Rattle.page_state.specs.declared.step.Step.TheVariants.{ShareHyp};
 ghost use Rattle.page_state.specs.LayoutView.{layout_of};
 ghost use Rattle.reference_model.specs.Answers.{decides};
 ghost use Rattle.reference_model.specs.Parts.{names};
-ghost use Rattle.reference_model.specs.State.{Cpu};
+ghost use Rattle.reference_model.specs.Rely.{CanRely};
 ghost use Rattle.reference_model.specs.Used.{used_alone};
 
-use crate::pages::{hyp_page, is_free_page, is_mapped, leaf};
+mod abort;
+mod asks;
+mod donate;
+mod give_back;
+mod hand;
+mod share;
+mod unshare;
+
+use abort::decide_host_abort;
+use asks::{decide_host_translate, decide_hyp_translate, decide_owner_of};
+use donate::decide_donate_hyp;
+use give_back::decide_hyp_donate_host;
 use guest_steps::{CpuState, GuestPart, SharedPart, VmPart};
-use page_state::{Entry, Layout, Page, PageRange, Prot, Refusal, State, Step};
+use hand::{decide_fund, decide_unfund};
+use page_state::{Entry, Layout, Page, PageRange, Refusal, Step};
 use reference_model::{Changes, MapChange};
+use share::decide_share_hyp;
 use std::alloc::Allocator;
+use unshare::decide_unshare_hyp;
 
 /// A change of so many pages from the first on.
 fn change(first: Page, count: u64, entry: Entry) -> Option<MapChange>
@@ -27,33 +40,38 @@ fn change(first: Page, count: u64, entry: Entry) -> Option<MapChange>
     })
 }
 
-/// The host shares a frame with the hypervisor: its page must be free to give, and the hypervisor's page of the frame
-/// unmapped.
-#[tactic(auto, unfolding(reference_model::specs::Rules::rule))]
-fn decide_share_hyp<A: Allocator>(
+/// What a call on the Shared part decides.
+fn decide_shared<A: Allocator>(
     layout: &Layout,
     shared: &SharedPart<A>,
-    pfn: u64,
+    id: u64,
+    cpu: &CpuState,
+    step: Step,
 ) -> Result<Changes, Refusal>
-    ensures decided { (cpu : ℕ) (k : Cpu) → result ≡ decides (layout_of layout.now) cpu None (ShareHyp pfn) (used_alone (shared_of shared.now) k) }
+    requires served { IsServed step }
+    requires suits { SharedSuits (layout_of layout.now) shared.now }
+    requires rely { CanRely (layout_of layout.now) id None step (used_alone (shared_of shared.now) (cpu_of cpu.now)) }
+    ensures decided { result ≡ decides (layout_of layout.now) id None step (used_alone (shared_of shared.now) (cpu_of cpu.now)) }
     ensures unfilled { IfOk result IsUnfilled }
+    ensures grows { IfOk result (GrowsOnly step) }
 {
-    if !layout.map.is_memory(Page(pfn)) {
-        return Err(Refusal::Invalid);
+    match step {
+        Step::ShareHyp { pfn } => decide_share_hyp(layout, shared, pfn),
+        Step::UnshareHyp { pfn } => decide_unshare_hyp(layout, shared, pfn),
+        Step::DonateHyp { pfn, n } => decide_donate_hyp(layout, shared, pfn, n),
+        Step::HypDonateHost { pfn, n } => decide_hyp_donate_host(layout, shared, pfn, n),
+        Step::HostAbort { page } => decide_host_abort(layout, shared, page),
+        Step::HostTranslate { page } => decide_host_translate(layout, shared, page),
+        Step::HypTranslate { page } => decide_hyp_translate(layout, shared, page),
+        Step::OwnerOf { pfn } => decide_owner_of(layout, shared, pfn),
+        Step::Fund { pfn, n } => decide_fund(layout, shared, cpu, pfn, n),
+        Step::Unfund => decide_unfund(layout, shared, id, cpu),
+        _ => unreachable!(),
     }
-    if !is_free_page(shared.host.translate(Page(pfn)))
-        || is_mapped(shared.hyp.translate(hyp_page(pfn)))
-    {
-        return Err(Refusal::Perm);
-    }
-    Ok(Changes {
-        host: change(Page(pfn), 1, leaf(pfn, Prot::RWX, State::SharedOwned)),
-        hyp: change(hyp_page(pfn), 1, leaf(pfn, Prot::RW, State::SharedBorrowed)),
-        ..Changes::NONE
-    })
 }
 
-/// What a step decides on the parts that it uses, with the slot of its Guest part. It asks for a call that is served.
+/// What a step decides on the parts that it uses, with the slot of its Guest part. It asks for a call that is served, for a
+/// Shared part of the layout, and for parts that a run leaves.
 pub fn decide<A: Allocator>(
     layout: &Layout,
     vms: &[VmPart],
@@ -67,12 +85,11 @@ pub fn decide<A: Allocator>(
     requires served { IsServed step }
     requires slot { slot ≡ slot_in (lent vms.now shared.now guest.now cpu.now) step }
     requires lent { IsLent (names step) slot (lent vms.now shared.now guest.now cpu.now) }
+    requires suits { Each (SharedSuits (layout_of layout.now)) shared.now }
+    requires rely { CanRely (layout_of layout.now) id slot step (used_in (lent vms.now shared.now guest.now cpu.now)) }
     ensures decided { result ≡ decides (layout_of layout.now) id slot step (used_in (lent vms.now shared.now guest.now cpu.now)) }
     ensures unfilled { IfOk result IsUnfilled }
     ensures grows { IfOk result (GrowsOnly step) }
 {
-    match step {
-        Step::ShareHyp { pfn } => decide_share_hyp(layout, &shared[0], pfn),
-        _ => unreachable!(),
-    }
+    decide_shared(layout, &shared[0], id, cpu, step)
 }

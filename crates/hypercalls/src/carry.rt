@@ -1,5 +1,5 @@
 //! Changes are carried out, for all calls in one place.
-ghost use Rattle.std.specs.Prelude.{◌≡◌, ◌<◌, ◌^◌, ◌↔◌, true, [], length, map, Err, IsOk, OnOk, OnErr, unwrap_or};
+ghost use Rattle.std.specs.Prelude.{◌≡◌, ◌<◌, ◌^◌, ◌↔◌, true, [], length, map, Err, OnOk, OnErr, unwrap_or};
 ghost use Rattle.guest_steps.specs.Lent.{Each, SharedSuits, lent, one, used_in};
 ghost use Rattle.guest_steps.specs.View.{shared_of};
 ghost use Rattle.hypercalls.specs.Carried.{GrowsOnly, IsRoomy, IsUnfilled, OnlyLent, rows_told};
@@ -15,7 +15,7 @@ use guest_steps::{CpuState, SharedPart};
 use hyp_pool::PoolFault;
 use page_state::{Layout, Refusal, Reply};
 use reference_model::Changes;
-use std::alloc::{Allocator, Global};
+use std::alloc::Allocator;
 
 /// Gives the touched frames their row, where they are memory.
 fn write_rows<A: Allocator>(
@@ -41,7 +41,6 @@ fn write_rows<A: Allocator>(
 
 /// Makes the changes of the Shared part and gives the touched frames their row, or does nothing.
 fn change_part<A: Allocator + Copy>(
-    global: Global,
     alloc: A,
     layout: &Layout,
     id: u64,
@@ -55,19 +54,18 @@ fn change_part<A: Allocator + Copy>(
     requires suits { SharedSuits (layout_of layout.now) shared.old }
     ensures made { OnOk result (shared_of shared.new ≡ rows_told (layout_of layout.now) id slot changes.now (shared_after (layout_of layout.now).depth changes.now (shared_of shared.old))) }
     ensures no_pool { (result ≡ Err PoolFault.NoPool) ↔ (length (shared_of shared.old).free < shared_need (layout_of layout.now).depth changes.now (shared_of shared.old)) }
-    ensures nothing { IsRoomy (layout_of layout.now).depth changes.now shared.old → IsOk result }
+    ensures no_memory { result ≡ Err PoolFault.NoMemory → IsRoomy changes.now shared.old → ⊥ }
     ensures err { OnErr result (shared_of shared.new ≡ shared_of shared.old) }
     ensures suits { SharedSuits (layout_of layout.now) shared.new }
     ensures log { shared.new.log ≡ shared.old.log }
 {
-    shared.change(global, alloc, changes)?;
+    shared.change(alloc, changes)?;
     write_rows(layout, id, slot, changes, shared);
     Ok(())
 }
 
 /// The same where the Shared part is lent; where it isn't, nothing of it changes.
 fn change_shared<A: Allocator + Copy>(
-    global: Global,
     alloc: A,
     layout: &Layout,
     id: u64,
@@ -82,23 +80,22 @@ fn change_shared<A: Allocator + Copy>(
     requires suits { Each (SharedSuits (layout_of layout.now)) shared.old }
     ensures made { OnOk result (one no_shared shared_of shared.new ≡ rows_told (layout_of layout.now) id slot changes.now (shared_after (layout_of layout.now).depth changes.now (one no_shared shared_of shared.old))) }
     ensures no_pool { (result ≡ Err PoolFault.NoPool) ↔ (length (one no_shared shared_of shared.old).free < shared_need (layout_of layout.now).depth changes.now (one no_shared shared_of shared.old)) }
-    ensures nothing { Each (IsRoomy (layout_of layout.now).depth changes.now) shared.old → IsOk result }
+    ensures no_memory { result ≡ Err PoolFault.NoMemory → Each (IsRoomy changes.now) shared.old → ⊥ }
     ensures err { OnErr result (one no_shared shared_of shared.new ≡ one no_shared shared_of shared.old) }
     ensures suits { Each (SharedSuits (layout_of layout.now)) shared.new }
     ensures log { map (λ p. p.log) shared.new ≡ map (λ p. p.log) shared.old }
 {
     if let [part] = shared {
-        change_part(global, alloc, layout, id, slot, changes, part)
+        change_part(alloc, layout, id, slot, changes, part)
     } else {
         Ok(())
     }
 }
 
-/// Carries changes out, or nothing: NoPool where a pool has too few free frames, and NoMemory only where a growth was
-/// refused. It asks that the changes fit, that what they change is lent, and that they leave the VM part and the guests,
+/// Carries changes out, or nothing: NoPool where a pool has too few free frames, and NoMemory only where a tree has too few
+/// spares, or maplets no room, and memory was refused. It asks that the changes fit, that what they change is lent, and that they leave the VM part and the guests,
 /// which no call fills yet.
 pub fn carry_out<A: Allocator + Copy>(
-    global: Global,
     alloc: A,
     layout: &Layout,
     id: u64,
@@ -114,12 +111,12 @@ pub fn carry_out<A: Allocator + Copy>(
     requires touched { TouchedFits (layout_of layout.now) id slot changes.now }
     requires suits { Each (SharedSuits (layout_of layout.now)) shared.old }
     ensures carried { (step : Step) → GrowsOnly step changes.now → CarriesOut (layout_of layout.now) id slot step true changes.now (used_in (lent [] shared.old [] cpu.old)) result (used_in (lent [] shared.new [] cpu.new)) }
-    ensures wants { result ≡ Reply.Refused Refusal.NoMemory → Each (IsRoomy (layout_of layout.now).depth changes.now) shared.old → ⊥ }
+    ensures wants { result ≡ Reply.Refused Refusal.NoMemory → Each (IsRoomy changes.now) shared.old → ⊥ }
     ensures suits { Each (SharedSuits (layout_of layout.now)) shared.new }
     ensures log { map (λ p. p.log) shared.new ≡ map (λ p. p.log) shared.old }
     ensures own_log { cpu.new.log ≡ cpu.old.log }
 {
-    match change_shared(global, alloc, layout, id, slot, changes, shared) {
+    match change_shared(alloc, layout, id, slot, changes, shared) {
         Ok(()) => {
             cpu.change(&changes.cpu);
             Reply::Done(changes.value)

@@ -16,7 +16,7 @@ use crate::carry::carry_out;
 use guest_steps::{CpuState, GuestPart, SharedPart, VmPart};
 use page_state::{Call, Layout, Refusal, Reply, Step, VmId};
 use reference_model::{Stage, laws};
-use std::alloc::{Allocator, Global};
+use std::alloc::Allocator;
 
 /// The slot of a VM, where there is such a slot.
 fn slot_of(vm: VmId) -> Option<u64>
@@ -188,7 +188,6 @@ fn store<A: Allocator>(
 
 /// Decides, and carries out. Logs stay.
 fn answer<A: Allocator + Copy>(
-    global: Global,
     alloc: A,
     layout: &Layout,
     vms: &[VmPart],
@@ -214,7 +213,7 @@ fn answer<A: Allocator + Copy>(
     laws::relies();
     laws::answers();
     match decide(layout, vms, shared, guest, id, slot, cpu, step) {
-        Ok(changes) => carry_out(global, alloc, layout, id, slot, &changes, shared, cpu),
+        Ok(changes) => carry_out(alloc, layout, id, slot, &changes, shared, cpu),
         Err(why) => Reply::Refused(why),
     }
 }
@@ -223,7 +222,6 @@ fn answer<A: Allocator + Copy>(
 /// in their logs and the CPU's, where none is full. It asks for a step that is served, for parts of the layout, and for
 /// parts and a CPU's state that stand in a state that a run leaves. Whatever else stands in that state, it is a step of it.
 pub fn step_on<A: Allocator + Copy>(
-    global: Global,
     alloc: A,
     layout: &Layout,
     vms: &mut [VmPart],
@@ -248,9 +246,7 @@ pub fn step_on<A: Allocator + Copy>(
     }
     let slot = guest_slot(cpu, step);
     let number = cpu.log.len() as u64 + 1;
-    let reply = answer(
-        global, alloc, layout, vms, shared, guest, id, slot, cpu, step,
-    );
+    let reply = answer(alloc, layout, vms, shared, guest, id, slot, cpu, step);
     let call = Call {
         cpu: id,
         number,

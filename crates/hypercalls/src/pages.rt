@@ -1,8 +1,14 @@
 //! Pages of frames, leaves, and tests of entries.
 ghost use Rattle.std.specs.Prelude.{◌≡◌, ◌+◌, ◌<◌, ◌^◌};
-ghost use Rattle.page_state.specs.EntryTests.{is_free_page as is_free_entry, is_mapped as is_mapped_entry, leaf as leaf_of};
+ghost use Rattle.page_state.specs.EntryTests.{is_free_page as is_free_entry, device_leaf as device_leaf_of, is_in as is_entry_in, is_mapped as is_mapped_entry, leaf as leaf_of};
 
-use page_state::{Entry, Frame, Kind, Page, Prot, State};
+use page_state::{Entry, Frame, Kind, Owner, Page, Prot, State};
+
+/// The host's owner number (profile).
+pub(crate) const HOST: Owner = Owner(0);
+
+/// The hypervisor's owner number (profile).
+pub(crate) const HYPERVISOR: Owner = Owner(1);
 
 /// The hypervisor's page of a frame (profile).
 pub fn hyp_page(frame: u64) -> Page
@@ -21,6 +27,31 @@ pub fn leaf(frame: u64, prot: Prot, state: State) -> Entry
         prot,
         kind: Kind::Normal,
         state,
+    }
+}
+
+/// A leaf of a device, which the host owns.
+pub(crate) fn device_leaf(frame: u64) -> Entry
+    ensures { result ≡ device_leaf_of frame }
+{
+    Entry::Leaf {
+        frame: Frame(frame),
+        prot: Prot::RW,
+        kind: Kind::Device,
+        state: State::Owned,
+    }
+}
+
+/// Whether an entry is a leaf in a state.
+pub(crate) fn is_in(state: State, entry: Entry) -> bool
+    ensures { result ≡ is_entry_in state entry }
+{
+    match entry {
+        Entry::Leaf {
+            state: its_state,
+            ..
+        } => its_state == state,
+        _ => false,
     }
 }
 

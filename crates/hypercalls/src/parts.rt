@@ -8,7 +8,7 @@ use crate::lent::{guest_slot, step_on};
 use crate::uses::{count_of, range_of, uses_shared, uses_vms};
 use guest_steps::{CpuState, GuestPart, SharedPart, VmPart};
 use page_state::{Layout, Reply, Step};
-use std::alloc::{Allocator, Global};
+use std::alloc::Allocator;
 
 /// The layout, which never changes, the VM part, the Shared part, the Guest parts by slot, and the CPUs by number. The first
 /// two are lists of one, so that they are lent as all are: as a range.
@@ -47,7 +47,7 @@ impl<A: Allocator + Copy> Parts<A> {
 
     /// Makes one step of a CPU: the parts that it uses are lent to it. It asks for parts that stand at the end of one legal
     /// history, and leaves them at the end of one.
-    pub fn step(&mut self, global: Global, alloc: A, cpu: u64, step: Step) -> Reply
+    pub fn step(&mut self, alloc: A, cpu: u64, step: Step) -> Reply
         requires served { IsServed step }
         requires known { cpu < self.old.layout.config.cpus }
         requires history { ∥ HasHistory self.old ∥₁ }
@@ -61,7 +61,6 @@ impl<A: Allocator + Copy> Parts<A> {
         let shared = count_of(uses_shared(step, slot));
         let (from, to) = range_of(slot);
         step_on(
-            global,
             alloc,
             &self.layout,
             &mut self.vms[0..vms],

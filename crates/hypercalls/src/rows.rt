@@ -5,14 +5,9 @@ ghost use Rattle.reference_model.specs.Changes.{touched as touched_by};
 ghost use Rattle.reference_model.specs.GuestRules.{guest_owner as owner_of_guest};
 ghost use Rattle.reference_model.specs.RowChanges.{borrower as borrower_of, first_row as first_row_of, row_by, use_by};
 
+use crate::pages::{HOST, HYPERVISOR};
 use page_state::{Entry, Lent, Owner, Page, PageRange, Row, State, Usage};
 use reference_model::{Changes, Update};
-
-/// The host's owner number (profile).
-const HOST: Owner = Owner(0);
-
-/// The hypervisor's owner number (profile).
-const HYPERVISOR: Owner = Owner(1);
 
 /// The frames whose rows the changes touch: those of the host's change, or those that change use.
 pub fn touched(changes: &Changes) -> Option<PageRange>

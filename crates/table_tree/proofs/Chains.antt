@@ -1,24 +1,21 @@
-use Rattle.std.proofs.Common.{◌≡◌, ℕ, suc, ◌-◌, ◌<◌, ◌≤◌, ◌≢◌, List, [], ◌∷◌, length, get_or, map, drop, drop-cons, refl, sym, ap, arith, ◌∙◌}
+use Rattle.std.proofs.Common.{◌≡◌, ℕ, suc, ◌<◌, ◌≤◌, ◌≢◌, List, [], ◌∷◌, All, Option, Some, None, MatchOption, refl, sym, ap, arith, ◌∙◌}
 use Rattle.std.proofs.Math.ListN.{set}
 use Rattle.std.specs.declared.boxed.Box.{Box}
-use Rattle.descriptor.specs.declared.Frame.{Frame}
 use Rattle.page_state.proofs.Cases.{by_eq}
 use Rattle.table_tree.specs.declared.table.Table.{Table}
 use Rattle.table_tree.specs.declared.table.Slot.{Slot}
 use Rattle.table_tree.specs.declared.table.Slot.TheVariants.{Word, Child}
-use Rattle.table_tree.specs.declared.stock.Stock.{Stock}
+use Rattle.table_tree.specs.declared.chain.Chain.{Chain}
 use Rattle.table_tree.specs.Meaning.{slot_at, slots_of, frame_of}
 use Rattle.table_tree.specs.Shape.{IsWide, IsBlank}
 use Rattle.table_tree.specs.Chain.{IsZero, IsLink, IsChain, Chained-prop}
-use Rattle.table_tree.specs.Stocks.{frames_of}
+use Rattle.table_tree.specs.Links.{links_of}
 use Rattle.table_tree.proofs.Slots.{by_slot, word_meets, meets_word, meets_child, child_meets, set_here, set_others, set_wide}
 
--- one more table of a stock that is filled from the last frame on
-pub reserved_next : (xs : List Frame) (i f : ℕ) (fs gs : List ℕ) (d : Frame) → 0 < i → i ≤ length xs → f ≡ (get_or xs (i - 1) d).0 → fs ≡ map (λ (x : Frame). x.0) (drop i xs) → gs ≡ f ∷ fs → gs ≡ map (λ (x : Frame). x.0) (drop (i - 1) xs)
-reserved_next xs i f fs gs d p q e h k =
-    let n : suc (i - 1) ≡ i = omega arith in
-    let lt : i - 1 < length xs = omega arith in
-    k ∙ ap (λ y. y ∷ fs) e ∙ ap (λ l. (get_or xs (i - 1) d).0 ∷ l) h ∙ sym (ap (λ l. map (λ (x : Frame). x.0) l) (drop-cons xs (i - 1) d lt ∙ ap (λ j. get_or xs (i - 1) d ∷ drop j xs) n))
+-- where no table of a chain has a frame, none behind the first has
+pub rest_frameless : {X : Type 0} (o : Option X) (of : X → ℕ) (xs ys : List ℕ) → MatchOption o (xs ≡ []) (λ b. xs ≡ of b ∷ ys) → MatchOption o (ys ≡ []) (λ b. Unit {0}) → All (λ f. f ≡ 0) xs → All (λ f. f ≡ 0) ys
+rest_frameless None of xs ys a n h = rw n (λ k d p. absurd (omega (arith, p)))
+rest_frameless (Some b) of xs ys a n h = λ k d p. (rw a at h) (suc k) d (omega (arith, p))
 
 module _ {A : Type 0} where
   zero_made : (s : Slot A) → s ≡ Word 0 → IsZero s
@@ -68,25 +65,25 @@ module _ {A : Type 0} where
   pub link_is_wide : (f : ℕ) (t : Table A) → IsLink f t → IsWide t
   link_is_wide f t h = h.1.0
 
-  -- a stock's frames are those of any chain that it is
-  pub frames_is : (s : Stock A) (fs : List ℕ) → IsChain fs s.first → frames_of s ≡ fs
-  unfolding frames_of
+  -- a chain's frames are those of any chain that it is
+  pub frames_is : (s : Chain A) (fs : List ℕ) → IsChain fs s.first → links_of s ≡ fs
+  unfolding links_of
   frames_is s fs h = ap (λ x. x.0) (Chained-prop s.first s.chained (fs, h))
 
-  pub frames_chain : (s : Stock A) → IsChain (frames_of s) s.first
-  unfolding frames_of
+  pub frames_chain : (s : Chain A) → IsChain (links_of s) s.first
+  unfolding links_of
   frames_chain s = s.chained.1
 
-  -- the first table of a stock
-  pub chain_first : (s : Stock A) (t : Table A) (b : Box (Table A) A) → t ≡ b.value → Child b ≡ s.first → (gs : List ℕ) × (frames_of s ≡ frame_of t ∷ gs) × IsLink (frame_of t) t × IsChain gs (slot_at t 0)
-  chain_first s t b e k = rw e (chain_child (frames_of s) s.first b (frames_chain s) (sym k))
+  -- the first table of a chain
+  pub chain_first : (s : Chain A) (t : Table A) (b : Box (Table A) A) → t ≡ b.value → Child b ≡ s.first → (gs : List ℕ) × (links_of s ≡ frame_of t ∷ gs) × IsLink (frame_of t) t × IsChain gs (slot_at t 0)
+  chain_first s t b e k = rw e (chain_child (links_of s) s.first b (frames_chain s) (sym k))
 
-  -- a stock with one more table
-  pub chain_pushed : (s : Stock A) (t u : Table A) (b c : Box (Table A) A) (r : Slot A) → t ≡ b.value → c.value ≡ u → r ≡ s.first → slots_of u ≡ set (slots_of t) 0 r → frame_of u ≡ frame_of t
-      → IsWide b.value → IsBlank b.value → IsChain (frame_of b.value ∷ frames_of s) (Child c)
+  -- a chain with one more table
+  pub chain_pushed : (s : Chain A) (t u : Table A) (b c : Box (Table A) A) (r : Slot A) → t ≡ b.value → c.value ≡ u → r ≡ s.first → slots_of u ≡ set (slots_of t) 0 r → frame_of u ≡ frame_of t
+      → IsWide b.value → IsBlank b.value → IsChain (frame_of b.value ∷ links_of s) (Child c)
   chain_pushed s t u b c r e k x y f wide blank =
       let wide' : IsWide t = rw e wide in
       let blank' : IsBlank t = rw e blank in
-      let h = chain_push (frames_of s) t u r y wide' blank' (rw x (frames_chain s)) in
+      let h = chain_push (links_of s) t u r y wide' blank' (rw x (frames_chain s)) in
       let same : frame_of c.value ≡ frame_of b.value = ap (λ a. frame_of a) k ∙ f ∙ ap (λ a. frame_of a) e in
-      rw (sym same) (chain_cons (frames_of s) c (Child c) refl (rw k (set_wide t u 0 r y wide')) (rw k h.0) (rw k h.1))
+      rw (sym same) (chain_cons (links_of s) c (Child c) refl (rw k (set_wide t u 0 r y wide')) (rw k h.0) (rw k h.1))

@@ -15,3 +15,7 @@ pub mod Changes
 pub mod Joined
 pub mod AllFrames
 pub mod OnPage
+pub mod NoneWord
+pub mod Blank
+pub mod Bare
+pub mod Same

@@ -3,6 +3,7 @@ pub mod Meaning
 pub mod Shape
 pub mod Tables
 pub mod Chain
+pub mod Links
 pub mod View
 pub mod Stocks
 pub mod Slots
@@ -11,3 +12,4 @@ pub mod Tight
 pub mod Said
 pub mod AllBlocks
 pub mod OnPage
+pub mod Bare

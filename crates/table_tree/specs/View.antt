@@ -6,6 +6,7 @@ use Rattle.page_state.specs.Trees.{Tree as ReferenceTree}
 use Rattle.page_state.specs.Geometries.{levels_below, input_pages, block_pages}
 use Rattle.table_tree.specs.declared.tree.Tree.{Tree}
 use Rattle.table_tree.specs.Meaning.{entry_at, word_at, frame_of}
+use Rattle.table_tree.specs.Stocks.{kept_in}
 use Rattle.table_tree.specs.Tables.{tables_in, uses_in, table_in}
 
 -- the map of a tree
@@ -33,6 +34,10 @@ tables_of t = tables_in (levels_below t.geometry) t.table
 -- the frame of the root table
 unfoldable pub root_of : {A : Type 0} → Tree A → ℕ
 root_of t = frame_of t.table
+
+-- the number of spares: tables without a frame, which stand at no block
+unfoldable pub spares_of : {A : Type 0} → Tree A → ℕ
+spares_of t = kept_in t.spares
 
 -- the tree of the reference state that a tree is: its map, and the frame of the table at each block
 abbrev pub tree_of : {A : Type 0} → Tree A → ReferenceTree

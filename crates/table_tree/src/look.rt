@@ -1,9 +1,11 @@
 //! Looks at a tree, by recursion on the levels below a table.
-ghost use Rattle.std.specs.Prelude.{◌≡◌, ℕ, ◌+◌, ◌-◌, ◌*◌, ◌%◌, ◌^◌, ◌<◌, ◌≤◌, ◌==◌, ◌&&◌, nat_lt, List, ◌++◌, map, length, take, drop, slice_index_or, OnOk, if◌then◌else◌, Option, Some};
+ghost use Rattle.std.specs.Prelude.{◌≡◌, ℕ, ◌+◌, ◌-◌, ◌*◌, ◌%◌, ◌^◌, ◌<◌, ◌≤◌, ◌==◌, ◌&&◌, ◌↔◌, IsTrue, nat_lt, List, ◌++◌, map, length, take, drop, slice_index_or, OnOk, if◌then◌else◌, Option, Some};
 ghost use Rattle.descriptor.specs.Word.{CanBeSaid};
 ghost use Rattle.page_state.specs.Entries.{advance, word_of_entry};
 ghost use Rattle.page_state.specs.Geometries.{block_pages};
 ghost use Rattle.page_state.specs.Counts.{frame_count};
+ghost use Rattle.table_tree.specs.Bare.{IsBare};
+ghost use Rattle.table_tree.specs.Tight.{IsTight};
 ghost use Rattle.table_tree.specs.Meaning.{IsDepth, level_at, word_entry, entry_at, word_at, slot_word, slot_at, slots_of, frame_of};
 ghost use Rattle.table_tree.specs.Shape.{IsWide, IsShaped, IsBlank, IsEntryWord, HoldsWord};
 ghost use Rattle.table_tree.specs.Tables.{tables_in, uses_in, all_frames_in, table_in, frame_times};
@@ -99,4 +101,24 @@ pub(crate) fn frames_in<A: Allocator>(
         }
     }
     Ok(())
+}
+
+/// Whether nothing is mapped on the block of a depth that holds a page, by one look at each table on the way: a table that
+/// stands at the block isn't empty.
+pub(crate) fn is_empty_in<A: Allocator>(table: &Table<A>, top: u32, depth: u32, page: u64) -> bool
+    requires depth_in { IsDepth top }
+    requires within { depth ≤ top }
+    requires shape { IsShaped top table.now }
+    requires tight { IsTight top table.now }
+    ensures { IsTrue result ↔ IsBare top table.now depth page }
+{
+    match table.read(index_of(top, page)) {
+        Slot::Word(word) => *word == 0,
+        Slot::Child(child) => {
+            if top == depth {
+                return false;
+            }
+            is_empty_in(child, top - 1, depth, page)
+        }
+    }
 }

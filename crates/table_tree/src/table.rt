@@ -70,6 +70,15 @@ impl<A: Allocator> Table<A> {
         self.frame
     }
 
+    /// Gives the table a frame to stand in.
+    pub(crate) fn stand_in(&mut self, place: Frame)
+        ensures frame { frame_of self.new ≡ place.0 }
+        ensures slots { slots_of self.new ≡ slots_of self.old }
+    {
+        let frame = &mut self.frame;
+        *frame = place;
+    }
+
     /// Looks at a slot, which counts as one read.
     #[tactic(auto, using(crate::proofs::Slots::read_slot))]
     pub fn slot(&self, i: usize, reads: &mut Reads) -> &Slot<A>

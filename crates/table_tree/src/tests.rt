@@ -9,11 +9,18 @@ const ROOT: Frame = Frame(0x40600);
 
 #[test]
 fn small_heap(rt: HostRuntime) -> Result<(), Fail> {
-    let heap = LocalHeap::new(rt.alloc(), 20000)?;
-    let tree = Tree::new(&heap, ROOT, Geometry::Bits39)?;
+    let heap = LocalHeap::new(rt.alloc(), 30000)?;
+    let mut tree = Tree::new(&heap, ROOT, Geometry::Bits39)?;
+    assert_eq!(rt; tree.spares(), 0);
+    assert!(rt; tree.grow_spares(&heap, 3).is_err());
+    assert_eq!(rt; tree.spares(), 1);
     let used = heap.used();
-    let refused = reserve(&heap, &[Frame(1), Frame(2), Frame(3)]);
-    assert!(rt; refused.is_err());
+    let table = tree.take_spare(Frame(7)).unwrap();
+    assert_eq!(rt; table.frame(), Frame(7));
+    assert_eq!(rt; tree.spares(), 0);
+    tree.keep_spare(table);
+    assert_eq!(rt; tree.spares(), 1);
+    assert!(rt; tree.grow_spares(&heap, 1).is_ok());
     assert_eq!(rt; heap.used(), used);
     assert_eq!(rt; tree.tables(), 1);
     Ok(())

@@ -1,26 +1,28 @@
 //! A tree: its root table, and how many levels are below it.
-ghost use Rattle.std.specs.Prelude.{◌≡◌, ℕ, ◌+◌, ◌-◌, ◌<◌, ◌≤◌, ◌==◌, ◌&&◌, ◌↔◌, length, map, slice_get, if◌then◌else◌, Some, None, IsSome, IfSome, IfOk, IfErr};
+ghost use Rattle.std.specs.Prelude.{◌≡◌, ℕ, ◌+◌, ◌-◌, ◌<◌, ◌≤◌, ◌==◌, ◌&&◌, ◌↔◌, length, map, slice_get, if◌then◌else◌, Some, None, IsSome, IsOk, IfSome, IfOk, IfErr, MatchOption, OnOk, max, min};
 ghost use Rattle.page_state.specs.Map.{empty_map};
 ghost use Rattle.page_state.specs.Geometries.{levels_below};
 ghost use Rattle.page_state.specs.Counts.{is_one};
-ghost use Rattle.table_tree.specs.Shape.{IsShaped, IsShaped-prop};
+ghost use Rattle.table_tree.specs.Meaning.{frame_of};
+ghost use Rattle.table_tree.specs.Shape.{IsShaped, IsShaped-prop, IsBlank, IsWide};
 ghost use Rattle.table_tree.specs.Tight.{IsTight, IsTight-prop};
 ghost use Rattle.table_tree.specs.Tables.{frame_times, AreDistinct, AreDistinct-prop};
 
-use crate::Table;
-use crate::look::{count_in, frames_in, look_in, word_in};
+use crate::look::{count_in, frames_in, is_empty_in, look_in, word_in};
 use crate::path::path_to;
+use crate::{Spares, Table};
 use arrayvec::ArrayVec;
 use descriptor::Frame;
 use page_state::{Entry, Geometry, Page};
 use std::alloc::{AllocError, Allocator, Global};
 
 /// A tree of tables. Its root table has the geometry's levels below it, no table below the root is empty, and no two tables
-/// have one frame.
+/// have one frame. Beside them it keeps spares, tables without a frame, for later changes.
 #[derive(Drop)]
 pub struct Tree<A: Allocator> {
     pub geometry: Geometry,
     pub table: Table<A>,
+    pub spares: Spares<A>,
     pub ghost shaped: { IsShaped (levels_below geometry) table } by { IsShaped-prop (levels_below geometry) table },
     pub ghost tight: { IsTight (levels_below geometry) table } by { IsTight-prop (levels_below geometry) table },
     pub ghost distinct: { AreDistinct (levels_below geometry) table } by { AreDistinct-prop (levels_below geometry) table },
@@ -30,6 +32,7 @@ pub struct Tree<A: Allocator> {
 fn depth_of(geometry: Geometry) -> u32
     ensures value { result ≡ levels_below geometry }
     ensures small { result < 3 }
+    ensures large { 2 ≤ result }
 {
     match geometry {
         Geometry::Bits39 => 2,
@@ -37,8 +40,8 @@ fn depth_of(geometry: Geometry) -> u32
 }
 
 impl<A: Allocator> Tree<A> {
-    ghost use Rattle.table_tree.specs.View.{meaning, word_of as word_at_path, table_at, uses, tables_of, root_of, tree_of};
-    ghost use Rattle.page_state.specs.Blocks.{block_at};
+    ghost use Rattle.table_tree.specs.View.{meaning, word_of as word_at_path, table_at, uses, tables_of, root_of, spares_of, tree_of};
+    ghost use Rattle.page_state.specs.Blocks.{block_at, is_empty as is_empty_block};
     ghost use Rattle.table_tree.specs.OnPage.{word_on as word_on_page};
     ghost use Rattle.table_tree.specs.AllBlocks.{table_count, table_frames};
     ghost use Rattle.table_tree.specs.Said.{block_of, HasWord, IsWordOf, IsRunOrTable};
@@ -50,10 +53,15 @@ impl<A: Allocator> Tree<A> {
         ensures geometry { IfOk result (λ t. t.geometry ≡ geometry) }
         ensures uses { IfOk result (λ t. (f : ℕ) → uses t f ≡ is_one root.0 f) }
         ensures tables { IfOk result (λ t. tables_of t ≡ 1) }
+        ensures spares { IfOk result (λ t. spares_of t ≡ 0) }
         ensures standing { IfOk result (λ t. (depth number : ℕ) → table_at t depth number ≡ (if depth == levels_below geometry + 1 && number == 0 then Some root.0 else None)) }
     {
         let table = Table::new(alloc, root)?;
-        Ok(Tree { geometry, table })
+        Ok(Tree {
+            geometry,
+            table,
+            spares: Spares::new(),
+        })
     }
 
     /// The frame of the root's table, which stands at the block of all input pages.
@@ -115,6 +123,41 @@ impl<A: Allocator> Tree<A> {
         count_in(&self.table, depth_of(self.geometry))
     }
 
+    /// How many spares the tree keeps. The greatest usize stays.
+    #[tactic(auto, unfolding(crate::specs::View::spares_of))]
+    pub fn spares(&self) -> usize
+        ensures { result ≡ min (spares_of self.now) 18446744073709551615 }
+    {
+        self.spares.count_to(usize::MAX)
+    }
+
+    /// Takes a spare, which gets a frame.
+    #[tactic(auto, unfolding(crate::specs::View::spares_of))]
+    pub fn take_spare(&mut self, frame: Frame) -> Option<Box<Table<A>, A>>
+        ensures left { MatchOption result (spares_of self.old ≡ 0) (λ b. spares_of self.old ≡ spares_of self.new + 1) }
+        ensures frame { IfSome result (λ b. frame_of b.value ≡ frame.0) }
+        ensures wide { IfSome result (λ b. IsWide b.value) }
+        ensures blank { IfSome result (λ b. IsBlank b.value) }
+        ensures geometry { self.new.geometry ≡ self.old.geometry }
+        ensures table { self.new.table ≡ self.old.table }
+    {
+        let spares = &mut self.spares;
+        spares.take(frame)
+    }
+
+    /// Keeps a table of zeros as a spare, without its frame. It takes no memory.
+    #[tactic(auto, unfolding(crate::specs::View::spares_of))]
+    pub fn keep_spare(&mut self, table: Box<Table<A>, A>)
+        requires wide { IsWide table.value }
+        requires blank { IsBlank table.value }
+        ensures spares { spares_of self.new ≡ spares_of self.old + 1 }
+        ensures geometry { self.new.geometry ≡ self.old.geometry }
+        ensures table { self.new.table ≡ self.old.table }
+    {
+        let spares = &mut self.spares;
+        spares.keep(table);
+    }
+
     /// The frames of all tables of a tree that goes: those that stand at its blocks, in their order, the root's first.
     pub fn dismantle(self, alloc: Global) -> Result<Vec<Frame>, (Tree<A>, AllocError)>
         ensures frames { IfOk result (λ v. map (λ f. f.0) v.items ≡ table_frames self.geometry (tree_of self)) }
@@ -129,5 +172,35 @@ impl<A: Allocator> Tree<A> {
             Ok(()) => Ok(frames),
             Err(error) => Err((self, error)),
         }
+    }
+
+    /// Whether nothing is mapped on the block that holds a page and has `depth` levels below it, at most 2 as a leaf's block.
+    /// It looks at one slot of each table on the page's path, down to the block's.
+    pub fn is_empty(&self, depth: u32, page: Page) -> bool
+        requires { depth ≤ 2 }
+        ensures { result ≡ is_empty_block (meaning self.now) (block_at depth page.0) }
+    {
+        let top = depth_of(self.geometry);
+        if page.0 >> (9 * (top + 1)) != 0 {
+            return true;
+        }
+        is_empty_in(&self.table, top, depth, page.0)
+    }
+}
+
+impl<A: Allocator + Copy> Tree<A> {
+    ghost use Rattle.table_tree.specs.View.{spares_of};
+
+    /// Makes the spares at least `n`. Where memory is refused, those that were made stay. All else of the tree is as it was.
+    #[tactic(auto, unfolding(crate::specs::View::spares_of))]
+    pub fn grow_spares(&mut self, alloc: A, n: usize) -> Result<(), AllocError>
+        ensures ok { OnOk result (spares_of self.new ≡ max n (spares_of self.old)) }
+        ensures succeeds { n ≤ spares_of self.old → IsOk result }
+        ensures grows { spares_of self.old ≤ spares_of self.new }
+        ensures geometry { self.new.geometry ≡ self.old.geometry }
+        ensures table { self.new.table ≡ self.old.table }
+    {
+        let spares = &mut self.spares;
+        spares.grow(alloc, n)
     }
 }

@@ -48,6 +48,10 @@ impl From<AllocError> for UsageFault {
     }
 }
 
+/// What help shows behind the words.
+const HELP: &str =
+    "Example:\n  trace_cli replay examples/first_share.trace\n\nExit status:\n  0  the report ends without a fault\n  1  the report ends with a fault, or reading, writing or memory failed\n  2  FILE can't be opened, the words are refused, or help was asked for\n\nThe lines of a trace, its report and each fault are explained in docs/TRACES.md.";
+
 /// The form of the words: the program's name and one subcommand.
 fn form<'a>(global: Global) -> Result<clap::Command<'a>, AllocError>
     ensures { IfOk result (λ c. app_of c ≡ program) }
@@ -58,9 +62,11 @@ fn form<'a>(global: Global) -> Result<clap::Command<'a>, AllocError>
         .help("the trace");
     let replay = clap::Command::new(global, "replay")
         .about("Runs the steps of a trace in order and reports each reply")
+        .after_help(HELP)
         .arg(file)?;
     clap::Command::new(global, "trace_cli")
         .about("Runs traces of hypercalls on a model of protected KVM's page ownership")
+        .after_help(HELP)
         .subcommand_required(true)
         .arg_required_else_help(true)
         .subcommand(replay)

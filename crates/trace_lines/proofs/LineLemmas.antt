@@ -4,16 +4,11 @@ use Rattle.std.proofs.lemmas.List.{append_assoc, append-nil, length-append, take
 use Rattle.std.proofs.lemmas.Bool.Decides.{nat_tests}
 use Rattle.std.specs.List.{slice_split, onto_first}
 use Rattle.std.specs.Io.KnownBytes.{Consumes, IsAtEnd}
-use Rattle.trace_lines.specs.Reading.{lines_of, without_empty_last, IsFirstLine, ReadsLine}
+use Rattle.trace_lines.specs.Reading.{HasNoEnd, lines_of, without_empty_last, IsFirstLine, ReadsLine}
 
--- no byte of these ends a line
-abbrev pub Plain : List ℕ → Type 0
-Plain [] = Unit {0}
-Plain (x ∷ xs) = ((x == 10) ≡ false) × Plain xs
-
-pub plain-more : (xs : List ℕ) (b : ℕ) → Plain xs → (b == 10) ≡ false → Plain (xs ++ b ∷ [])
-plain-more [] b p q = (q, tt)
-plain-more (x ∷ xs) b p q = (p.0, plain-more xs b p.1 q)
+pub plain-more : (xs ys : List ℕ) → HasNoEnd xs → HasNoEnd ys → HasNoEnd (xs ++ ys)
+plain-more [] ys p q = q
+plain-more (x ∷ xs) ys p q = (p.0, plain-more xs ys p.1 q)
 
 abbrev parts : List ℕ → List (List ℕ)
 parts bytes = slice_split (λ byte. byte == 10) bytes
@@ -26,15 +21,15 @@ nonempty (x ∷ xs) =
     elim (x == 10) as (λ b. (first : List ℕ) × (more : List (List ℕ)) × (cond b ([] ∷ parts xs) (onto_first x (parts xs)) ≡ first ∷ more))
     [ true ↦ ([], parts xs, refl) | false ↦ (x ∷ inner.0, inner.1, ap (onto_first x) inner.2) ]
 
-ended : (line rest : List ℕ) → Plain line → parts (line ++ 10 ∷ rest) ≡ line ∷ parts rest
+ended : (line rest : List ℕ) → HasNoEnd line → parts (line ++ 10 ∷ rest) ≡ line ∷ parts rest
 ended [] rest p = refl
 ended (x ∷ xs) rest p = rw p.0 (ap (onto_first x) (ended xs rest p.1))
 
-alone : (line : List ℕ) → Plain line → parts line ≡ line ∷ []
+alone : (line : List ℕ) → HasNoEnd line → parts line ≡ line ∷ []
 alone [] p = refl
 alone (x ∷ xs) p = rw p.0 (ap (onto_first x) (alone xs p.1))
 
-begun : (line rest : List ℕ) → Plain line → (whole : List ℕ) × (more : List (List ℕ)) × (parts (line ++ rest) ≡ (line ++ whole) ∷ more)
+begun : (line rest : List ℕ) → HasNoEnd line → (whole : List ℕ) × (more : List (List ℕ)) × (parts (line ++ rest) ≡ (line ++ whole) ∷ more)
 begun [] rest p = nonempty rest
 begun (x ∷ xs) rest p = let inner = begun xs rest p.1 in (inner.0, inner.1, rw p.0 (ap (onto_first x) inner.2))
 
@@ -49,7 +44,7 @@ stays_long (x ∷ xs) [] h = ([], grind (arith, nat_tests))
 stays_long (x ∷ xs) (next ∷ more) h = (without_empty_last (next ∷ more), refl)
 
 -- a line that was read with its end
-pub at_end : (line left : List ℕ) → Plain line → length line ≤ 256 → IsFirstLine (line ++ 10 ∷ left) line (Some left)
+pub at_end : (line left : List ℕ) → HasNoEnd line → length line ≤ 256 → IsFirstLine (line ++ 10 ∷ left) line (Some left)
 unfolding lines_of
 at_end line left p short = record {
   whole = line;
@@ -60,7 +55,7 @@ at_end line left p short = record {
 }
 
 -- a last line without an end
-pub at_last : (line : List ℕ) → Plain line → 0 < length line → length line ≤ 256 → IsFirstLine line line (Some [])
+pub at_last : (line : List ℕ) → HasNoEnd line → 0 < length line → length line ≤ 256 → IsFirstLine line line (Some [])
 unfolding lines_of
 at_last line p some short = record {
   whole = line;
@@ -74,7 +69,7 @@ at_last line p some short = record {
     only line some = grind (arith, nat_tests)
 
 -- a front of a line that is too long
-pub at_long : (line rest : List ℕ) (left : Option (List ℕ)) → Plain line → length line ≡ 257 → IsFirstLine (line ++ rest) line left
+pub at_long : (line rest : List ℕ) (left : Option (List ℕ)) → HasNoEnd line → length line ≡ 257 → IsFirstLine (line ++ rest) line left
 unfolding lines_of
 at_long line rest left p long =
     let cut = begun line rest p in
@@ -87,14 +82,14 @@ at_long line rest left p long =
       next = λ short. absurd (omega (arith, length-append line cut.0));
     }
 
-pub read_end : (all left : Option (List ℕ)) (line : List ℕ) → Consumes all left (line ++ 10 ∷ []) → Plain line → length line ≤ 256 → ReadsLine true all left line
+pub read_end : (all left : Option (List ℕ)) (line : List ℕ) → Consumes all left (line ++ 10 ∷ []) → HasNoEnd line → length line ≤ 256 → ReadsLine true all left line
 read_end None left line h p short = tt
 read_end (Some bytes) None line h p short = absurd h
 read_end (Some bytes) (Some rest) line h p short =
     let same : bytes ≡ line ++ 10 ∷ rest = h ∙ rw append_assoc refl in rw same (at_end line rest p short)
 
 pub read_last : (all now left : Option (List ℕ)) (line : List ℕ) (found : Bool) → Consumes all now line → Consumes now left [] → IsAtEnd now
-    → Plain line → length line ≤ 256 → found ≡ not (length line == 0) → ReadsLine found all left line
+    → HasNoEnd line → length line ≤ 256 → found ≡ not (length line == 0) → ReadsLine found all left line
 read_last None now left line found h k e p short f = tt
 read_last (Some bytes) None left line found h k e p short f = absurd h
 read_last (Some bytes) (Some rest) None line found h k e p short f = absurd k
@@ -105,7 +100,7 @@ read_last (Some bytes) (Some rest) (Some more) (x ∷ xs) found h k e p short f 
     let yes : found ≡ true = f ∙ grind (arith, nat_tests) in
     rw (yes, same, none) (at_last (x ∷ xs) p (omega arith) short)
 
-pub read_long : (all left : Option (List ℕ)) (line : List ℕ) → Consumes all left line → Plain line → length line ≡ 257 → ReadsLine true all left line
+pub read_long : (all left : Option (List ℕ)) (line : List ℕ) → Consumes all left line → HasNoEnd line → length line ≡ 257 → ReadsLine true all left line
 read_long None left line h p long = tt
 read_long (Some bytes) None line h p long = absurd h
 read_long (Some bytes) (Some rest) line h p long = rw h (at_long line rest (Some rest) p long)

@@ -24,6 +24,15 @@ pub record Shape : Type 0 where
 abbrev pub calls : List (List ℕ × Shape)
 calls =
     (codes "share_hyp", record { arguments = number ∷ []; step = steps.ShareHyp })
+    ∷ (codes "unshare_hyp", record { arguments = number ∷ []; step = steps.UnshareHyp })
+    ∷ (codes "donate_hyp", record { arguments = number ∷ number ∷ []; step = steps.DonateHyp })
+    ∷ (codes "hyp_donate_host", record { arguments = number ∷ number ∷ []; step = steps.HypDonateHost })
+    ∷ (codes "host_abort", record { arguments = number ∷ []; step = steps.HostAbort })
+    ∷ (codes "host_translate", record { arguments = number ∷ []; step = steps.HostTranslate })
+    ∷ (codes "hyp_translate", record { arguments = number ∷ []; step = steps.HypTranslate })
+    ∷ (codes "owner_of", record { arguments = number ∷ []; step = steps.OwnerOf })
+    ∷ (codes "fund", record { arguments = number ∷ number ∷ []; step = steps.Fund })
+    ∷ (codes "unfund", record { arguments = []; step = steps.Unfund })
     ∷ []
 
 -- the step that the words from a place on make

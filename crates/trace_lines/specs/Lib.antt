@@ -1,8 +1,11 @@
+pub mod Ahead
 pub mod Arguments
 pub mod Asked
 pub mod Calls
+pub mod Devices
 pub mod Numbers
 pub mod Places
+pub mod Readers
 pub mod Reading
 pub mod Said
 pub mod Settings

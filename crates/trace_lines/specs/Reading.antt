@@ -1,5 +1,5 @@
 -- The lines of a trace, and one of them, read.
-use Rattle.std.specs.Prelude.{◌≡◌, ℕ, ◌≤◌, ◌==◌, Bool, List, [], ◌∷◌, length, take, Option, IfSome, IsSomeAnd, MatchBool, if◌then◌else◌}
+use Rattle.std.specs.Prelude.{◌≡◌, ℕ, ◌≤◌, ◌==◌, Bool, false, List, [], ◌∷◌, length, take, Option, IfSome, IsSomeAnd, MatchBool, if◌then◌else◌}
 use Rattle.std.specs.List.{slice_split}
 
 -- parts but for a last one that has no byte
@@ -11,6 +11,11 @@ without_empty_last (part ∷ next ∷ parts) = part ∷ without_empty_last (next
 -- the lines of a trace without their ends, the byte 10: the last may lack its end, and nothing behind the last end is no line
 unfoldable pub lines_of : List ℕ → List (List ℕ)
 lines_of bytes = without_empty_last (slice_split (λ byte. byte == 10) bytes)
+
+-- no byte of these ends a line
+abbrev pub HasNoEnd : List ℕ → Type 0
+HasNoEnd [] = Unit {0}
+HasNoEnd (byte ∷ bytes) = ((byte == 10) ≡ false) × HasNoEnd bytes
 
 -- the first line of these bytes, of which as much was read as shows that it is long, and what is left
 pub record IsFirstLine (bytes line : List ℕ) (left : Option (List ℕ)) : Type 0 where

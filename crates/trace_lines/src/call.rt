@@ -1,6 +1,7 @@
 //! The calls that a step line can name.
-ghost use Rattle.std.specs.Prelude.{◌≡◌, Some};
-ghost use Rattle.trace_lines.specs.Calls.{called as called_by};
+ghost use Rattle.std.specs.Prelude.{◌≡◌, [], ◌∷◌, Some};
+ghost use Rattle.page_state.specs.declared.step.Step.TheVariants.{DonateHyp, HypDonateHost, Fund};
+ghost use Rattle.trace_lines.specs.Calls.{called as called_by, number, step_from};
 
 use crate::argument::number_at;
 use crate::words::{Words, is_name};
@@ -24,6 +25,39 @@ impl Called {
         if is_name(name, b"share_hyp") {
             return row(3, number_at(words, 2).map(|pfn| Step::ShareHyp { pfn }));
         }
+        if is_name(name, b"unshare_hyp") {
+            return row(3, number_at(words, 2).map(|pfn| Step::UnshareHyp { pfn }));
+        }
+        if is_name(name, b"donate_hyp") {
+            return row(4, donate_hyp(words));
+        }
+        if is_name(name, b"hyp_donate_host") {
+            return row(4, hyp_donate_host(words));
+        }
+        if is_name(name, b"host_abort") {
+            return row(3, number_at(words, 2).map(|page| Step::HostAbort { page }));
+        }
+        if is_name(name, b"host_translate") {
+            return row(
+                3,
+                number_at(words, 2).map(|page| Step::HostTranslate { page }),
+            );
+        }
+        if is_name(name, b"hyp_translate") {
+            return row(
+                3,
+                number_at(words, 2).map(|page| Step::HypTranslate { page }),
+            );
+        }
+        if is_name(name, b"owner_of") {
+            return row(3, number_at(words, 2).map(|pfn| Step::OwnerOf { pfn }));
+        }
+        if is_name(name, b"fund") {
+            return row(4, fund(words));
+        }
+        if is_name(name, b"unfund") {
+            return row(2, Some(Step::Unfund));
+        }
         None
     }
 }
@@ -32,4 +66,31 @@ fn row(words: usize, step: Option<Step>) -> Option<Called>
     ensures { result ≡ Some (record { words = words; step = step }) }
 {
     Some(Called { words, step })
+}
+
+/// A donation of the told frames to the hypervisor.
+fn donate_hyp(words: &Words<'_>) -> Option<Step>
+    ensures { result ≡ step_from (number ∷ number ∷ []) DonateHyp words.now 2 }
+{
+    let pfn = number_at(words, 2)?;
+    let n = number_at(words, 3)?;
+    Some(Step::DonateHyp { pfn, n })
+}
+
+/// A donation of the told frames to the host.
+fn hyp_donate_host(words: &Words<'_>) -> Option<Step>
+    ensures { result ≡ step_from (number ∷ number ∷ []) HypDonateHost words.now 2 }
+{
+    let pfn = number_at(words, 2)?;
+    let n = number_at(words, 3)?;
+    Some(Step::HypDonateHost { pfn, n })
+}
+
+/// A funding by the told frames.
+fn fund(words: &Words<'_>) -> Option<Step>
+    ensures { result ≡ step_from (number ∷ number ∷ []) Fund words.now 2 }
+{
+    let pfn = number_at(words, 2)?;
+    let n = number_at(words, 3)?;
+    Some(Step::Fund { pfn, n })
 }

@@ -1,6 +1,7 @@
 //! Lines of a trace: how they are read, what they say, their faults, and what they report.
 #![tactic(auto)]
 
+mod ahead;
 mod argument;
 mod asked;
 mod call;
@@ -13,8 +14,10 @@ mod outcome;
 mod place;
 mod response;
 mod settings;
+mod source;
 mod words;
 
+pub use ahead::ReadAhead;
 pub use fault::LineFault;
 pub use grammar::said;
 pub use line::{Line, Query, Setting, TreeName};
@@ -23,3 +26,4 @@ pub use outcome::{EngineFault, Outcome};
 pub use place::Allows;
 pub use response::Response;
 pub use settings::Settings;
+pub use source::{Failed, Reading, Source};

@@ -1,4 +1,6 @@
 mod Asked
+mod Fronts
+mod Machines
 mod OneLine
 mod ReplayLemmas
 mod Served

@@ -2,10 +2,10 @@
 use Rattle.std.proofs.Common.{◌≡◌, ◌<◌, ℕ, ◌+◌, refl, subst, ◌∙◌, ap, true, false, List, [], ◌∷◌, ◌++◌, Option, Some, None, Result, Ok, Err, IfSome, MatchOption, option_map, is_some, inl, inr}
 use Rattle.std.specs.Prelude.{◌⊎◌, ok_or}
 use Rattle.std.proofs.lemmas.Bool.{cases_lt}
-use Rattle.page_state.specs.declared.reply.Reply.{Reply}
 use Rattle.page_state.specs.declared.step.Step.{Step}
-use Rattle.world.specs.declared.World.{World}
-use Rattle.hypercalls.specs.Whole.{IsStep}
+use Rattle.page_state.specs.declared.reply.Call.{Call}
+use Rattle.reference_model.specs.State.{Reference}
+use Rattle.reference_model.specs.Step.{Steps}
 use Rattle.trace_text.specs.declared.fault.Fault.{Fault}
 use Rattle.trace_lines.specs.declared.fault.LineFault.{LineFault}
 use Rattle.trace_lines.specs.declared.fault.LineFault.TheVariants.{Place}
@@ -25,7 +25,7 @@ use Rattle.trace_text.specs.Laws.{reply_of, replies_told, step_asked}
 use Rattle.trace_text.specs.Replay.{Begins, IsReport}
 use Rattle.trace_lines.specs.Said.{said}
 use Rattle.trace_text.specs.Session.{Standing, Answer, Answers, Follows, MakesStep, allowed}
-use Rattle.trace_text.specs.Worlds.{word_told, free_told}
+use Rattle.trace_text.specs.Worlds.{Machine, in_state, free_told}
 use Rattle.trace_text.proofs.Asked.{Fits, fits}
 use Rattle.trace_lines.proofs.Saying.{mapped}
 
@@ -36,9 +36,9 @@ pub record Faulted (number : ℕ) (reported : List ReportLine) (outcome : Outcom
   pub ended : outcome ≡ outcomes.Fault
 
 -- it is no step line, and the world stays
-pub record Passed {A : Type 0} (number : ℕ) (world : World A) (line : List ℕ) (rest : List (List ℕ)) (reported : List ReportLine) (outcome : Outcome) : Type 0 where
-  pub new : Standing A
-  pub stands : new.world ≡ Some world
+pub record Passed (number : ℕ) (world : Machine) (line : List ℕ) (rest : List (List ℕ)) (reported : List ReportLine) (outcome : Outcome) : Type 0 where
+  pub new : Standing
+  pub stands : new.machine ≡ Some world
   pub silent : step_asked line ≡ None
   pub says : List ReportLine
   pub more : List ReportLine
@@ -47,21 +47,23 @@ pub record Passed {A : Type 0} (number : ℕ) (world : World A) (line : List ℕ
   pub report : IsReport (number + 1) new rest more outcome
 
 -- it is a step line, and the step is made
-pub record Stepped {A : Type 0} (number : ℕ) (world : World A) (line : List ℕ) (rest : List (List ℕ)) (reported : List ReportLine) (outcome : Outcome) : Type 0 where
+pub record Stepped (number : ℕ) (world : Machine) (line : List ℕ) (rest : List (List ℕ)) (reported : List ReportLine) (outcome : Outcome) : Type 0 where
   pub cpu : ℕ
   pub step : Step
   pub asked : step_asked line ≡ Some (cpu, step)
-  pub known : cpu < world.parts.layout.config.cpus
-  pub reply : Reply
-  pub next : World A
-  pub made : IsStep world.parts cpu step reply next.parts
-  pub new : Standing A
-  pub stands : new.world ≡ Some next
+  pub known : cpu < world.layout.config.cpus
+  pub call : Call
+  pub next : Reference
+  pub cpu_is : call.cpu ≡ cpu
+  pub step_is : call.step ≡ step
+  pub made : Steps world.layout world.state call next
+  pub new : Standing
+  pub stands : new.machine ≡ Some (in_state world next)
   pub more : List ReportLine
-  pub is : reported ≡ report.Response (responses.Step number cpu reply) ∷ more
+  pub is : reported ≡ report.Response (responses.Step number cpu call.reply) ∷ more
   pub report : IsReport (number + 1) new rest more outcome
 
-abbrev pub OneLine : {A : Type 0} → ℕ → World A → List ℕ → List (List ℕ) → List ReportLine → Outcome → Type 0
+abbrev pub OneLine : ℕ → Machine → List ℕ → List (List ℕ) → List ReportLine → Outcome → Type 0
 OneLine number world line rest reported outcome = Faulted number reported outcome ⊎ (Passed number world line rest reported outcome ⊎ Stepped number world line rest reported outcome)
 
 of_some : {X : Type 0} (o : Option X) (x : X) (P : Type 0) (Q : X → Type 0) → o ≡ Some x → MatchOption o P Q → Q x
@@ -70,14 +72,14 @@ of_some o x P Q e h = rw e at h
 off : true ≡ false → ⊥
 off h = cc
 
-module _ {A : Type 0} (number : ℕ) (line : List ℕ) (rest : List (List ℕ)) (old new : Standing A) (answer : Answer) (reported : List ReportLine) (outcome : Outcome)
+module _ (number : ℕ) (line : List ℕ) (rest : List (List ℕ)) (old new : Standing) (answer : Answer) (reported : List ReportLine) (outcome : Outcome)
     (begins : Begins number answer (λ more end. IsReport (number + 1) new rest more end) reported outcome)
-    (world : World A) (stands : old.world ≡ Some world) where
+    (world : Machine) (stands : old.machine ≡ Some world) where
   fault_ends : (fault : Fault) → answer ≡ Err (stops.Fault fault) → OneLine number world line rest reported outcome
   fault_ends fault e = let b = rw e at begins in inl (record { fault = fault; alone = b.0; ended = b.1 })
 
-  still : new ≡ old → new.world ≡ Some world
-  still e = ap (λ (s : Standing A). s.world) e ∙ stands
+  still : new ≡ old → new.machine ≡ Some world
+  still e = ap (λ (s : Standing). s.machine) e ∙ stands
 
   asks : (o : Option Response) (fault : Fault) → IfSome o (λ says. reply_of says ≡ None) → answer ≡ ok_or (option_map (λ line. line ∷ []) o) (stops.Fault fault) → new ≡ old → step_asked line ≡ None
       → OneLine number world line rest reported outcome
@@ -88,7 +90,7 @@ module _ {A : Type 0} (number : ℕ) (line : List ℕ) (rest : List (List ℕ)) 
 
   by_query : (query : Query) → Answers query world old answer new → step_asked line ≡ None → OneLine number world line rest reported outcome
   by_query (queries.Word tree page level) m silent =
-      asks (option_map responses.Word (word_told world tree page level)) faults.Path (mapped (λ says. reply_of says ≡ None) responses.Word (λ w. refl) (word_told world tree page level)) m.0 m.1 silent
+      asks (option_map responses.Word m.0) faults.Path (mapped (λ says. reply_of says ≡ None) responses.Word (λ w. refl) m.0) m.2.0 m.2.1 silent
   by_query queries.FreeShared m silent = asks (Some (responses.Free (free_told world))) (faults.Line Place) refl m.0 m.1 silent
 
   by_said : (r : Result (Option Line) LineFault) → Fits true r (step_asked line) → Follows number r old answer new → OneLine number world line rest reported outcome
@@ -99,18 +101,18 @@ module _ {A : Type 0} (number : ℕ) (line : List ℕ) (rest : List (List ℕ)) 
   by_said (Ok (Some (lines.Setting setting))) fit f = absurd (off fit.0)
   by_said (Ok (Some lines.Boot)) fit f = absurd (off fit.0)
   by_said (Ok (Some (lines.Step cpu step))) fit f =
-      let m = of_some old.world world _ (λ w. MakesStep number cpu step w old answer new) stands f in
-      elim (cases_lt cpu world.parts.layout.config.cpus) [
+      let m = of_some old.machine world _ (λ w. MakesStep number cpu step w old answer new) stands f in
+      elim (cases_lt cpu world.layout.config.cpus) [
         | inr over ↦ let x = m.0 over in fault_ends faults.Cpu x.0
         | inl less ↦
             let s = m.1 less in
             let b = rw s.line at begins in
-            inr (inr (record { cpu = cpu; step = step; asked = fit.1; known = less; reply = s.reply; next = s.next; made = s.made; new = new; stands = ap (λ (z : Standing A). z.world) s.standing; more = b.0; is = b.1; report = b.2 }))
+            inr (inr (record { cpu = cpu; step = step; asked = fit.1; known = less; call = s.call; next = s.next; cpu_is = s.cpu_is; step_is = s.step_is; made = s.made; new = new; stands = ap (λ (z : Standing). z.machine) s.standing; more = b.0; is = b.1; report = b.2 }))
       ]
-  by_said (Ok (Some (lines.Query query))) fit f = by_query query (of_some old.world world _ (λ w. Answers query w old answer new) stands f) fit.1
+  by_said (Ok (Some (lines.Query query))) fit f = by_query query (of_some old.machine world _ (λ w. Answers query w old answer new) stands f) fit.1
 
-pub one_line : {A : Type 0} (number : ℕ) (old : Standing A) (world : World A) (line : List ℕ) (rest : List (List ℕ)) (reported : List ReportLine) (outcome : Outcome)
-    → old.world ≡ Some world → IsReport number old (line ∷ rest) reported outcome → OneLine number world line rest reported outcome
+pub one_line : (number : ℕ) (old : Standing) (world : Machine) (line : List ℕ) (rest : List (List ℕ)) (reported : List ReportLine) (outcome : Outcome)
+    → old.machine ≡ Some world → IsReport number old (line ∷ rest) reported outcome → OneLine number world line rest reported outcome
 one_line number old world line rest reported outcome stands (answer, new, played, begins) =
     elim (cases_lt 1048576 number) [
       | inl many ↦ let x = played.past many in fault_ends number line rest old new answer reported outcome begins world stands faults.Lines x.0

@@ -8,13 +8,9 @@ use Rattle.page_state.specs.declared.reply.Call.{Call}
 use Rattle.page_state.specs.declared.reply.Reply.{Reply}
 use Rattle.page_state.specs.Regions.{memory_of}
 use Rattle.reference_model.specs.Boot.{boot as boot_state}
-use Rattle.reference_model.specs.Run.{Runs as RunsBy}
+use Rattle.reference_model.specs.Run.{IsRun, Runs as RunsBy}
+use Rattle.reference_model.specs.State.{Reference}
 use Rattle.reference_model.specs.Step.{Steps}
-use Rattle.hypercalls.specs.declared.parts.Parts.{Parts}
-use Rattle.world.specs.declared.World.{World}
-use Rattle.world.specs.Laws.{EndsRun}
-use Rattle.hypercalls.specs.Stands.{parts_layout, state_of}
-use Rattle.hypercalls.specs.Whole.{call_of}
 use Rattle.trace_text.specs.declared.fault.Fault.{Fault}
 use Rattle.trace_lines.specs.declared.fault.LineFault.{LineFault}
 use Rattle.trace_lines.specs.declared.fault.LineFault.TheVariants.{Place}
@@ -32,25 +28,26 @@ use Rattle.trace_text.specs.declared.session.Stop.TheVariants as stops
 use Rattle.trace_text.specs.Laws.{reply_told, replies_told, step_asked, steps_asked, Leads, TellsRun, StopsIn, Reaches, TellsNoBoot, TellsBoot, TraceRuns}
 use Rattle.trace_text.specs.Replay.{IsPlayed, Begins, IsReport}
 use Rattle.trace_lines.specs.Said.{said}
-use Rattle.trace_text.specs.Session.{Standing, Answer, Follows, Tells, HasWorld, IsNoWorld, allowed, at_start}
+use Rattle.trace_text.specs.Session.{Standing, Answer, Follows, Tells, HasBooted, IsNoWorld, allowed, at_start}
 use Rattle.trace_lines.specs.Settings.{config_of}
+use Rattle.trace_text.specs.Worlds.{Machine, in_state}
 use Rattle.trace_text.proofs.Asked.{Fits, fits}
 use Rattle.std.proofs.lemmas.List.{append_assoc}
 use Rattle.trace_text.proofs.OneLine.{one_line}
 
-nowhere : {A : Type 0} (p : Parts A) → Leads p [] p
-nowhere p = record { cpus = λ k d less. absurd (omega (arith, less)); runs = refl }
+nowhere : (m : Machine) → Leads m [] m.state
+nowhere m = record { cpus = λ k d less. absurd (omega (arith, less)); runs = refl }
 
 -- a list of calls with one more in front
 both_known : (n : ℕ) (c : Call) (cs : List Call) → c.cpu < n → All (λ x. x.cpu < n) cs → All (λ x. x.cpu < n) (c ∷ cs)
 both_known n c cs first rest zero d less = first
 both_known n c cs first rest (suc k) d less = rest k d (omega (arith, less))
 
-onward : {A : Type 0} (p q r : Parts A) (c : Call) (cs : List Call) → c.cpu < p.layout.config.cpus → parts_layout q ≡ parts_layout p → Steps (parts_layout p) (state_of p) c (state_of q) → Leads q cs r → Leads p (c ∷ cs) r
-onward p q r c cs known layout first rest = record {
-  cpus = both_known p.layout.config.cpus c cs known (subst (λ n. All (λ x. x.cpu < n) cs) (ap (λ l. l.config.cpus) layout) rest.cpus);
-  runs = (state_of q, first, subst (λ l. RunsBy (Steps l) (state_of q) cs (state_of r)) layout rest.runs);
-}
+onward : (m : Machine) (q t : Reference) (c : Call) (cs : List Call) → c.cpu < m.layout.config.cpus → Steps m.layout m.state c q → Leads (in_state m q) cs t → Leads m (c ∷ cs) t
+onward m q t c cs known first rest = record { cpus = both_known m.layout.config.cpus c cs known rest.cpus; runs = (q, first, rest.runs) }
+
+known_by : (n a b : ℕ) → a ≡ b → b < n → a < n
+known_by n a b e h = rw e h
 
 unclean : (outcome : Outcome) → outcome ≡ outcomes.Fault → outcome ≡ outcomes.Clean → ⊥
 unclean outcome e h = cc
@@ -71,7 +68,7 @@ behind : (says more : List ReportLine) → replies_told says ≡ [] → replies_
 behind says more e = replies_append says more ∙ ap (λ xs. xs ++ replies_told more) e
 
 -- a line of the trace that asks for no step, and what it reports
-passes : {A : Type 0} (p : Parts A) (line : List ℕ) (rest : List (List ℕ)) (reported : List ReportLine) (outcome : Outcome)
+passes : (p : Machine) (line : List ℕ) (rest : List (List ℕ)) (reported : List ReportLine) (outcome : Outcome)
     → step_asked line ≡ None → TellsRun p rest reported outcome → TellsRun p (line ∷ rest) reported outcome
 passes p line rest reported outcome e run = record {
   calls = run.calls;
@@ -83,12 +80,12 @@ passes p line rest reported outcome e run = record {
   all = run.all;
 }
 
-pub world_runs : {A : Type 0} (trace : List (List ℕ)) (number : ℕ) (old : Standing A) (world : World A) (reported : List ReportLine) (outcome : Outcome)
-    → old.world ≡ Some world → IsReport number old trace reported outcome → TellsRun world.parts trace reported outcome
+pub world_runs : (trace : List (List ℕ)) (number : ℕ) (old : Standing) (world : Machine) (reported : List ReportLine) (outcome : Outcome)
+    → old.machine ≡ Some world → IsReport number old trace reported outcome → TellsRun world trace reported outcome
 world_runs [] number old world reported outcome stands h = record {
   calls = [];
-  last = world.parts;
-  leads = nowhere world.parts;
+  last = world.state;
+  leads = nowhere world;
   replies = rw h.0 refl;
   left = [];
   steps = refl;
@@ -98,8 +95,8 @@ world_runs (line ∷ rest) number old world reported outcome stands h =
     elim (one_line number old world line rest reported outcome stands h) [
       | inl f ↦ record {
         calls = [];
-        last = world.parts;
-        leads = nowhere world.parts;
+        last = world.state;
+        leads = nowhere world;
         replies = rw f.alone refl;
         left = steps_asked (line ∷ rest);
         steps = refl;
@@ -117,29 +114,29 @@ world_runs (line ∷ rest) number old world reported outcome stands h =
             all = run.all;
           }
       | inr (inr s) ↦
-          let run = world_runs rest (number + 1) s.new s.next s.more outcome s.stands s.report in
+          let run = world_runs rest (number + 1) s.new (in_state world s.next) s.more outcome s.stands s.report in
           record {
-            calls = call_of world.parts s.cpu s.step s.reply ∷ run.calls;
+            calls = s.call ∷ run.calls;
             last = run.last;
-            leads = onward world.parts s.next.parts run.last (call_of world.parts s.cpu s.step s.reply) run.calls s.known s.made.layout s.made.steps run.leads;
-            replies = rw s.is (ap (λ xs. (s.cpu, s.reply) ∷ xs) run.replies);
+            leads = onward world s.next run.last s.call run.calls (known_by _ s.call.cpu s.cpu s.cpu_is s.known) s.made run.leads;
+            replies = rw (s.is, s.cpu_is) (ap (λ xs. (s.cpu, s.call.reply) ∷ xs) run.replies);
             left = run.left;
-            steps = rw s.asked (ap (λ xs. (s.cpu, s.step) ∷ xs) run.steps);
+            steps = rw (s.asked, s.cpu_is, s.step_is) (ap (λ xs. (s.cpu, s.step) ∷ xs) run.steps);
             all = run.all;
           }
     ]
 
-pub world_reaches : {A : Type 0} (front rest : List (List ℕ)) (number : ℕ) (old : Standing A) (world : World A) (reported : List ReportLine) (outcome : Outcome)
-    → old.world ≡ Some world → IsReport number old (front ++ rest) reported outcome → StopsIn number front reported outcome ⊎ Reaches number world.parts front rest reported outcome
+pub world_reaches : (front rest : List (List ℕ)) (number : ℕ) (old : Standing) (world : Machine) (reported : List ReportLine) (outcome : Outcome)
+    → old.machine ≡ Some world → IsReport number old (front ++ rest) reported outcome → StopsIn number front reported outcome ⊎ Reaches number world front rest reported outcome
 world_reaches [] rest number old world reported outcome stands h = inr (record {
   told = [];
   more = reported;
   lines = refl;
   calls = [];
   new = old;
-  world = world;
+  last = world.state;
   stands = stands;
-  leads = nowhere world.parts;
+  leads = nowhere world;
   replies = refl;
   steps = refl;
   report = subst (λ n. IsReport n old rest reported outcome) (omega arith) h;
@@ -161,7 +158,7 @@ world_reaches (line ∷ front) rest number old world reported outcome stands h =
           lines = p.is ∙ ap (λ ls. p.says ++ ls) r.lines ∙ sym (rw append_assoc refl);
           calls = r.calls;
           new = r.new;
-          world = r.world;
+          last = r.last;
           stands = r.stands;
           leads = r.leads;
           replies = behind p.says r.told p.no_step ∙ r.replies;
@@ -169,41 +166,41 @@ world_reaches (line ∷ front) rest number old world reported outcome stands h =
           report = subst (λ n. IsReport n r.new rest r.more outcome) (omega arith) r.report;
         })
       ]
-      | inr (inr s) ↦ elim (world_reaches front rest (number + 1) s.new s.next s.more outcome s.stands s.report) [
+      | inr (inr s) ↦ elim (world_reaches front rest (number + 1) s.new (in_state world s.next) s.more outcome s.stands s.report) [
         | inl stop ↦ inl (record {
-          told = report.Response (responses.Step number s.cpu s.reply) ∷ stop.told;
+          told = report.Response (responses.Step number s.cpu s.call.reply) ∷ stop.told;
           line = stop.line;
           fault = stop.fault;
-          lines = s.is ∙ ap (λ ls. report.Response (responses.Step number s.cpu s.reply) ∷ ls) stop.lines;
+          lines = s.is ∙ ap (λ ls. report.Response (responses.Step number s.cpu s.call.reply) ∷ ls) stop.lines;
           inside = let i = stop.inside in omega (arith, i);
         })
         | inr r ↦ inr (record {
-          told = report.Response (responses.Step number s.cpu s.reply) ∷ r.told;
+          told = report.Response (responses.Step number s.cpu s.call.reply) ∷ r.told;
           more = r.more;
-          lines = s.is ∙ ap (λ ls. report.Response (responses.Step number s.cpu s.reply) ∷ ls) r.lines;
-          calls = call_of world.parts s.cpu s.step s.reply ∷ r.calls;
+          lines = s.is ∙ ap (λ ls. report.Response (responses.Step number s.cpu s.call.reply) ∷ ls) r.lines;
+          calls = s.call ∷ r.calls;
           new = r.new;
-          world = r.world;
+          last = r.last;
           stands = r.stands;
-          leads = onward world.parts s.next.parts r.world.parts (call_of world.parts s.cpu s.step s.reply) r.calls s.known s.made.layout s.made.steps r.leads;
-          replies = ap (λ xs. (s.cpu, s.reply) ∷ xs) r.replies;
-          steps = rw s.asked (ap (λ xs. (s.cpu, s.step) ∷ xs) r.steps);
+          leads = onward world s.next r.last s.call r.calls (known_by _ s.call.cpu s.cpu s.cpu_is s.known) s.made r.leads;
+          replies = rw s.cpu_is (ap (λ xs. (s.cpu, s.call.reply) ∷ xs) r.replies);
+          steps = rw (s.asked, s.cpu_is, s.step_is) (ap (λ xs. (s.cpu, s.step) ∷ xs) r.steps);
           report = subst (λ n. IsReport n r.new rest r.more outcome) (omega arith) r.report;
         })
       ]
     ]
 
--- where parts stand for the boot state, what leads on from them is a run
-boot_runs : {A : Type 0} (p q : Parts A) (cs : List Call) → boot_state (parts_layout p) ≡ state_of p → Leads p cs q → EndsRun (parts_layout p) cs q
-boot_runs p q cs h leads = record { cpus = leads.cpus; leads = subst (λ s. RunsBy (Steps (parts_layout p)) s cs (state_of q)) (sym h) leads.runs }
+-- where the state is the boot state, what leads on from it is a run
+boot_runs : (m : Machine) (t : Reference) (cs : List Call) → m.state ≡ boot_state m.layout → Leads m cs t → IsRun m.layout cs t
+boot_runs m t cs h leads = record { cpus = leads.cpus; leads = subst (λ s. RunsBy (Steps m.layout) s cs t) h leads.runs }
 
 -- a report that tells of no boot, or of one and a run from there
-abbrev Told : {A : Type 0} → ℕ → Standing A → List (List ℕ) → List ReportLine → Outcome → Type 0
+abbrev Told : ℕ → Standing → List (List ℕ) → List ReportLine → Outcome → Type 0
 Told number start trace reported outcome = TellsNoBoot trace reported outcome ⊎ TellsBoot number start trace reported outcome
 
-module _ {A : Type 0} (number : ℕ) (line : List ℕ) (rest : List (List ℕ)) (old new : Standing A) (reported : List ReportLine) (outcome : Outcome)
-    (unbooted : old.world ≡ None)
-    (follows : (more : List ReportLine) → new.world ≡ None → IsReport (number + 1) new rest more outcome → Told (number + 1) new rest more outcome) where
+module _ (number : ℕ) (line : List ℕ) (rest : List (List ℕ)) (old new : Standing) (reported : List ReportLine) (outcome : Outcome)
+    (unbooted : old.machine ≡ None)
+    (follows : (more : List ReportLine) → new.machine ≡ None → IsReport (number + 1) new rest more outcome → Told (number + 1) new rest more outcome) where
   abbrev Reports : Answer → Type 0
   Reports answer = Begins number answer (λ more end. IsReport (number + 1) new rest more end) reported outcome
 
@@ -223,15 +220,15 @@ module _ {A : Type 0} (number : ℕ) (line : List ℕ) (rest : List (List ℕ)) 
       carve = boot.at.carve;
       carved = boot.at.carved;
     };
-    world = boot.world;
+    machine = boot.machine;
     line = boot.line;
     new = boot.new;
     played = subst (λ n. IsPlayed n boot.at.boot boot.at.old (Ok (boot.line ∷ [])) boot.new) (omega arith) boot.played;
     booted = boot.booted;
     more = boot.more;
     first = boot.first;
-    run = passes boot.world.parts line rest boot.more outcome e boot.run;
-    ends = let r = passes boot.world.parts line rest boot.more outcome e boot.run in boot_runs boot.world.parts r.last r.calls boot.booted.booted.stands r.leads;
+    run = passes boot.machine line rest boot.more outcome e boot.run;
+    ends = let r = passes boot.machine line rest boot.more outcome e boot.run in boot_runs boot.machine r.last r.calls boot.booted.booted.state_is r.leads;
   })
 
   fault_alone : (answer : Answer) (fault : Fault) → Reports answer → answer ≡ Err (stops.Fault fault) → Told number old (line ∷ rest) reported outcome
@@ -240,7 +237,7 @@ module _ {A : Type 0} (number : ℕ) (line : List ℕ) (rest : List (List ℕ)) 
       inl (record { line = report.Fault number fault; alone = b.0; no_step = refl; all = λ clean. absurd (unclean outcome b.1 clean) })
 
   -- a line that reports nothing, and the report behind it
-  passes_on : (answer : Answer) → answer ≡ Ok [] → Plays answer → Reports answer → step_asked line ≡ None → new.world ≡ None → Told number old (line ∷ rest) reported outcome
+  passes_on : (answer : Answer) → answer ≡ Ok [] → Plays answer → Reports answer → step_asked line ≡ None → new.machine ≡ None → Told number old (line ∷ rest) reported outcome
   passes_on answer e played begins silent unbooted =
       let b = rw e at begins in
       passes_before (subst Plays e played) silent (subst (λ r. Told (number + 1) new rest r outcome) (sym b.1) (follows b.0 unbooted b.2))
@@ -248,16 +245,16 @@ module _ {A : Type 0} (number : ℕ) (line : List ℕ) (rest : List (List ℕ)) 
   told : (setting : Setting) (answer : Answer) → Plays answer → Reports answer → Tells setting old answer new → step_asked line ≡ None → Told number old (line ∷ rest) reported outcome
   told setting (Err (stops.Fault fault)) played begins h silent = fault_alone (Err (stops.Fault fault)) fault begins refl
   told setting (Err stops.NoMemory) played begins h silent = absurd begins
-  told setting (Ok says) played begins h silent = passes_on (Ok says) (ap Ok h.0) played begins silent (ap (λ (s : Standing A). s.world) h.1 ∙ unbooted)
+  told setting (Ok says) played begins h silent = passes_on (Ok says) (ap Ok h.0) played begins silent (ap (λ (s : Standing). s.machine) h.1 ∙ unbooted)
 
   boots_by : (carve : PageRange) (answer : Answer) → old.told.carve ≡ Some carve → Plays answer → Reports answer
-      → MatchResult answer (λ says. (world : World A) × (says_line : Response) × (says ≡ says_line ∷ []) × HasWorld carve old world says_line new) (λ stop. IsNoWorld stop (memory_of old.told.regions carve) (config_of old.told) × (new ≡ old))
+      → MatchResult answer (λ says. (machine : Machine) × (says_line : Response) × (says ≡ says_line ∷ []) × HasBooted carve old machine says_line new) (λ stop. IsNoWorld stop (memory_of old.told.regions carve) (config_of old.told) × (new ≡ old))
       → step_asked line ≡ None → Told number old (line ∷ rest) reported outcome
   boots_by carve (Err (stops.Fault fault)) at played begins h silent = fault_alone (Err (stops.Fault fault)) fault begins refl
   boots_by carve (Err stops.NoMemory) at played begins h silent = absurd begins
   boots_by carve (Ok says) at played begins h silent =
       let b = rw h.2 at begins in
-      let run = passes h.0.parts line rest b.0 outcome silent (world_runs rest (number + 1) new h.0 b.0 outcome (ap (λ (s : Standing A). s.world) h.3.standing) b.2) in
+      let run = passes h.0 line rest b.0 outcome silent (world_runs rest (number + 1) new h.0 b.0 outcome (ap (λ (s : Standing). s.machine) h.3.standing) b.2) in
       inr (record {
         at = record {
           front = [];
@@ -269,7 +266,7 @@ module _ {A : Type 0} (number : ℕ) (line : List ℕ) (rest : List (List ℕ)) 
           carve = carve;
           carved = at;
         };
-        world = h.0;
+        machine = h.0;
         line = h.1;
         new = new;
         played = subst (λ n. IsPlayed n line old (Ok (h.1 ∷ [])) new) (omega arith) (subst (λ ls. IsPlayed number line old (Ok ls) new) h.2 played);
@@ -277,28 +274,28 @@ module _ {A : Type 0} (number : ℕ) (line : List ℕ) (rest : List (List ℕ)) 
         more = b.0;
         first = b.1;
         run = run;
-        ends = boot_runs h.0.parts run.last run.calls h.3.booted.stands run.leads;
+        ends = boot_runs h.0 run.last run.calls h.3.booted.state_is run.leads;
       })
 
   boots : (carve : Option PageRange) (answer : Answer) → old.told.carve ≡ carve → Plays answer → Reports answer
-      → MatchOption carve ((answer ≡ Err (stops.Fault (faults.Line Place))) × (new ≡ old)) (λ carve. MatchResult answer (λ says. (world : World A) × (says_line : Response) × (says ≡ says_line ∷ []) × HasWorld carve old world says_line new) (λ stop. IsNoWorld stop (memory_of old.told.regions carve) (config_of old.told) × (new ≡ old)))
+      → MatchOption carve ((answer ≡ Err (stops.Fault (faults.Line Place))) × (new ≡ old)) (λ carve. MatchResult answer (λ says. (machine : Machine) × (says_line : Response) × (says ≡ says_line ∷ []) × HasBooted carve old machine says_line new) (λ stop. IsNoWorld stop (memory_of old.told.regions carve) (config_of old.told) × (new ≡ old)))
       → step_asked line ≡ None → Told number old (line ∷ rest) reported outcome
   boots None answer at played begins h silent = fault_alone answer (faults.Line Place) begins h.0
   boots (Some carve) answer at played begins h silent = boots_by carve answer at played begins h silent
 
   before_boot : (answer : Answer) → Plays answer → Reports answer → (r : Result (Option Line) LineFault) → Fits false r (step_asked line) → Follows number r old answer new → Told number old (line ∷ rest) reported outcome
   before_boot answer played begins (Err fault) fit f = fault_alone answer (faults.Line fault) begins f.0
-  before_boot answer played begins (Ok None) fit f = passes_on answer f.0 played begins fit (ap (λ (s : Standing A). s.world) f.1 ∙ unbooted)
+  before_boot answer played begins (Ok None) fit f = passes_on answer f.0 played begins fit (ap (λ (s : Standing). s.machine) f.1 ∙ unbooted)
   before_boot answer played begins (Ok (Some (lines.Setting setting))) fit f = told setting answer played begins f fit.1
   before_boot answer played begins (Ok (Some lines.Boot)) fit f = boots old.told.carve answer refl played begins f fit.1
   before_boot answer played begins (Ok (Some (lines.Step cpu step))) fit f = absurd (on fit.0)
   before_boot answer played begins (Ok (Some (lines.Query query))) fit f = absurd (on fit.0)
 
-unbooted_runs : {A : Type 0} (trace : List (List ℕ)) (number : ℕ) (old : Standing A) (reported : List ReportLine) (outcome : Outcome)
-    → old.world ≡ None → IsReport number old trace reported outcome → Told number old trace reported outcome
+unbooted_runs : (trace : List (List ℕ)) (number : ℕ) (old : Standing) (reported : List ReportLine) (outcome : Outcome)
+    → old.machine ≡ None → IsReport number old trace reported outcome → Told number old trace reported outcome
 unbooted_runs [] number old reported outcome unbooted h = inl (record { line = report.End old.steps 0; alone = h.0; no_step = refl; all = λ clean. refl })
 unbooted_runs (line ∷ rest) number old reported outcome unbooted (answer, new, played, begins) =
-    let follows : (more : List ReportLine) → new.world ≡ None → IsReport (number + 1) new rest more outcome → Told (number + 1) new rest more outcome
+    let follows : (more : List ReportLine) → new.machine ≡ None → IsReport (number + 1) new rest more outcome → Told (number + 1) new rest more outcome
     = λ more at report. unbooted_runs rest (number + 1) new more outcome at report in
     elim (cases_lt 1048576 number) [
       | inl many ↦ let x = played.past many in fault_alone number line rest old new reported outcome unbooted follows answer faults.Lines begins x.0
@@ -307,5 +304,5 @@ unbooted_runs (line ∷ rest) number old reported outcome unbooted (answer, new,
           (subst (λ b. Follows number (said (allowed b) old.told line) old answer new) (ap (λ o. is_some o) unbooted) (played.runs few))
     ]
 
-pub trace_runs : (A : Type 0) → TraceRuns A
-trace_runs A trace reported outcome h = unbooted_runs trace 1 at_start reported outcome refl h
+pub trace_runs : TraceRuns
+trace_runs trace reported outcome h = unbooted_runs trace 1 at_start reported outcome refl h

@@ -1,8 +1,30 @@
--- How carrying out a line can fail.
-use Rattle.std.specs.Prelude.{◌≡◌, ◌⊎◌, ℕ, List, Option, Result, Err}
+-- How a replay can fail, and how a source and a sink count their failures.
+use Rattle.std.specs.Prelude.{◌≡◌, ℕ, ◌+◌, List, take, Option, Result, Ok, Err, MatchResult}
+use Rattle.std.specs.Io.KnownBytes.{Appends}
 use Rattle.trace_lines.specs.declared.outcome.EngineFault.{EngineFault}
-use Rattle.trace_lines.specs.declared.outcome.EngineFault.TheVariants.{Write, NoMemory}
+use Rattle.trace_lines.specs.declared.outcome.EngineFault.TheVariants.{Read, Write, NoMemory}
 
--- writing failed, or memory was refused; then nothing of the line was written
-abbrev pub FailsSo : {X : Type 0} → Result X EngineFault → Option (List ℕ) → Option (List ℕ) → Type 0
-FailsSo result old new = (result ≡ Err Write) ⊎ ((result ≡ Err NoMemory) × (new ≡ old))
+-- a sink takes all bytes, or, where it fails, a front of them
+abbrev pub WritesAll : {X E : Type 0} → Option (List ℕ) → Option (List ℕ) → Result X E → List ℕ → Type 0
+WritesAll old new r bytes = MatchResult r (λ _. Appends old new bytes) (λ _. (count : ℕ) × Appends old new (take count bytes))
+
+-- a failed write is told just where the sink has failed, which was once; no read is made
+abbrev pub TellsWrite : {X : Type 0} → ℕ → ℕ → Result X EngineFault → Type 0
+TellsWrite before after (Ok x) = after ≡ before
+TellsWrite before after (Err Read) = ⊥
+TellsWrite before after (Err Write) = after ≡ before + 1
+TellsWrite before after (Err NoMemory) = after ≡ before
+
+-- a failed read is told just where the source has failed, which was once
+abbrev pub CountsReads : {X : Type 0} → ℕ → ℕ → Result X EngineFault → Type 0
+CountsReads before after (Ok x) = after ≡ before
+CountsReads before after (Err Read) = after ≡ before + 1
+CountsReads before after (Err Write) = after ≡ before
+CountsReads before after (Err NoMemory) = after ≡ before
+
+-- and a failed write just where the sink has
+abbrev pub CountsWrites : {X : Type 0} → ℕ → ℕ → Result X EngineFault → Type 0
+CountsWrites before after (Ok x) = after ≡ before
+CountsWrites before after (Err Read) = after ≡ before
+CountsWrites before after (Err Write) = after ≡ before + 1
+CountsWrites before after (Err NoMemory) = after ≡ before

@@ -4,12 +4,9 @@ use Rattle.page_state.specs.declared.entry.PageRange.{PageRange}
 use Rattle.page_state.specs.declared.reply.Call.{Call}
 use Rattle.page_state.specs.declared.reply.Reply.{Reply}
 use Rattle.page_state.specs.declared.step.Step.{Step}
-use Rattle.reference_model.specs.Run.{Runs}
+use Rattle.reference_model.specs.Run.{IsRun, Runs}
+use Rattle.reference_model.specs.State.{Reference}
 use Rattle.reference_model.specs.Step.{Steps}
-use Rattle.hypercalls.specs.declared.parts.Parts.{Parts}
-use Rattle.world.specs.declared.World.{World}
-use Rattle.world.specs.Laws.{EndsRun}
-use Rattle.hypercalls.specs.Stands.{parts_layout, state_of}
 use Rattle.trace_text.specs.declared.fault.Fault.{Fault}
 use Rattle.trace_lines.specs.declared.fault.LineFault.{LineFault}
 use Rattle.trace_lines.specs.declared.line.Line.{Line}
@@ -22,7 +19,8 @@ use Rattle.trace_text.specs.declared.report.ReportLine.{ReportLine}
 use Rattle.trace_text.specs.declared.report.ReportLine.TheVariants as report
 use Rattle.trace_text.specs.Replay.{IsPlayed, IsReport}
 use Rattle.trace_lines.specs.Said.{said}
-use Rattle.trace_text.specs.Session.{Standing, HasWorld, allowed, at_start}
+use Rattle.trace_text.specs.Session.{Standing, HasBooted, allowed, at_start}
+use Rattle.trace_text.specs.Worlds.{Machine, in_state}
 use Rattle.trace_lines.specs.Settings.{nothing_told}
 
 -- the CPU and the reply that a response tells, if it is a step's
@@ -59,17 +57,17 @@ step_asked line = step_said (said (allowed true) nothing_told line)
 abbrev pub steps_asked : List (List ℕ) → List (ℕ × Step)
 steps_asked trace = filter_map step_asked trace
 
--- the calls are of CPUs of the layout, and lead by reference steps from the state that the parts stand for to the one that the other parts stand for
-pub record Leads {A : Type 0} (p : Parts A) (cs : List Call) (q : Parts A) : Type 0 where
-  pub cpus : All (λ c. c.cpu < p.layout.config.cpus) cs
-  pub runs : Runs (Steps (parts_layout p)) (state_of p) cs (state_of q)
+-- the calls are of the machine's CPUs, and lead by reference steps from its state to another
+pub record Leads (m : Machine) (cs : List Call) (t : Reference) : Type 0 where
+  pub cpus : All (λ c. c.cpu < m.layout.config.cpus) cs
+  pub runs : Runs (Steps m.layout) m.state cs t
 
--- a report tells a run of the reference step from these parts: of the steps that the trace asks for those before its first fault,
--- which are all where the report is clean, are made, and what its step lines tell are their CPUs and replies
-pub record TellsRun {A : Type 0} (p : Parts A) (trace : List (List ℕ)) (reported : List ReportLine) (outcome : Outcome) : Type 0 where
+-- a report tells a run of the reference step from a machine's state: of the steps that the trace asks for those before its first
+-- fault, which are all where the report is clean, are made, and what its step lines tell are their CPUs and replies
+pub record TellsRun (m : Machine) (trace : List (List ℕ)) (reported : List ReportLine) (outcome : Outcome) : Type 0 where
   pub calls : List Call
-  pub last : Parts A
-  pub leads : Leads p calls last
+  pub last : Reference
+  pub leads : Leads m calls last
   pub replies : replies_told reported ≡ map (λ c. (c.cpu, c.reply)) calls
   -- the steps behind the fault
   pub left : List (ℕ × Step)
@@ -84,38 +82,38 @@ pub record TellsNoBoot (trace : List (List ℕ)) (reported : List ReportLine) (o
   pub all : outcome ≡ outcomes.Clean → steps_asked trace ≡ []
 
 -- lines, from a number on, that report nothing and lead from one standing to another
-abbrev pub Prepares : {A : Type 0} → ℕ → Standing A → List (List ℕ) → Standing A → Type 0
+abbrev pub Prepares : ℕ → Standing → List (List ℕ) → Standing → Type 0
 Prepares number old [] new = new ≡ old
-Prepares {A} number old (line ∷ rest) new = (next : Standing A) × IsPlayed number line old (Ok []) next × Prepares (number + 1) next rest new
+Prepares number old (line ∷ rest) new = (next : Standing) × IsPlayed number line old (Ok []) next × Prepares (number + 1) next rest new
 
 -- a boot line of a trace, from a line of the trace on: the lines in front of it have told its settings, a carve-out among them
-pub record BootLine {A : Type 0} (number : ℕ) (start : Standing A) (trace : List (List ℕ)) : Type 0 where
+pub record BootLine (number : ℕ) (start : Standing) (trace : List (List ℕ)) : Type 0 where
   pub front : List (List ℕ)
   pub boot : List ℕ
   pub rest : List (List ℕ)
   pub lines : trace ≡ front ++ boot ∷ rest
-  pub old : Standing A
+  pub old : Standing
   pub prepared : Prepares number start front old
   pub carve : PageRange
   pub carved : old.told.carve ≡ Some carve
 
--- a report, from a line of the trace on, whose first line tells of a boot, and the other lines of a run of the booted world from the boot state
-pub record TellsBoot {A : Type 0} (number : ℕ) (start : Standing A) (trace : List (List ℕ)) (reported : List ReportLine) (outcome : Outcome) : Type 0 where
+-- a report, from a line of the trace on, whose first line tells of a boot, and the other lines of a run of the booted machine from the boot state
+pub record TellsBoot (number : ℕ) (start : Standing) (trace : List (List ℕ)) (reported : List ReportLine) (outcome : Outcome) : Type 0 where
   pub at : BootLine number start trace
-  pub world : World A
+  pub machine : Machine
   pub line : Response
-  pub new : Standing A
+  pub new : Standing
   pub played : IsPlayed (number + length at.front) at.boot at.old (Ok (line ∷ [])) new
-  pub booted : HasWorld at.carve at.old world line new
+  pub booted : HasBooted at.carve at.old machine line new
   pub more : List ReportLine
   pub first : reported ≡ report.Response line ∷ more
-  pub run : TellsRun world.parts trace more outcome
-  pub ends : EndsRun (parts_layout world.parts) run.calls run.last
+  pub run : TellsRun machine trace more outcome
+  pub ends : IsRun machine.layout run.calls run.last
 
--- where a world stands, the report of the lines from there on tells a run of the reference step
-abbrev pub WorldRuns : Type 0 → Type 0
-WorldRuns A = (number : ℕ) (old : Standing A) (world : World A) (trace : List (List ℕ)) (reported : List ReportLine) (outcome : Outcome)
-    → old.world ≡ Some world → IsReport number old trace reported outcome → TellsRun world.parts trace reported outcome
+-- where a machine stands, the report of the lines from there on tells a run of the reference step
+abbrev pub MachineRuns : Type 0
+MachineRuns = (number : ℕ) (old : Standing) (m : Machine) (trace : List (List ℕ)) (reported : List ReportLine) (outcome : Outcome)
+    → old.machine ≡ Some m → IsReport number old trace reported outcome → TellsRun m trace reported outcome
 
 -- a report that a fault among these lines ends, the first of which has the number
 pub record StopsIn (number : ℕ) (front : List (List ℕ)) (reported : List ReportLine) (outcome : Outcome) : Type 0 where
@@ -125,27 +123,27 @@ pub record StopsIn (number : ℕ) (front : List (List ℕ)) (reported : List Rep
   pub lines : reported ≡ told ++ report.Fault line fault ∷ []
   pub inside : line < number + length front
 
--- a report in which the lines in front, from a number on, are carried out: their report, the run of the reference step that it tells,
--- the world that stands for its end, and the report of the other lines from there
-pub record Reaches {A : Type 0} (number : ℕ) (p : Parts A) (front rest : List (List ℕ)) (reported : List ReportLine) (outcome : Outcome) : Type 0 where
+-- a report in which the lines in front, from a number on, are carried out: their report, the run of the reference step that it
+-- tells, the machine at its end, and the report of the other lines from there
+pub record Reaches (number : ℕ) (m : Machine) (front rest : List (List ℕ)) (reported : List ReportLine) (outcome : Outcome) : Type 0 where
   pub told : List ReportLine
   pub more : List ReportLine
   pub lines : reported ≡ told ++ more
   pub calls : List Call
-  pub new : Standing A
-  pub world : World A
-  pub stands : new.world ≡ Some world
-  pub leads : Leads p calls world.parts
+  pub new : Standing
+  pub last : Reference
+  pub stands : new.machine ≡ Some (in_state m last)
+  pub leads : Leads m calls last
   pub replies : replies_told told ≡ map (λ c. (c.cpu, c.reply)) calls
   pub steps : steps_asked front ≡ map (λ c. (c.cpu, c.step)) calls
   pub report : IsReport (number + length front) new rest more outcome
 
--- at each line that is reached the world stands for the state that the run of the steps before it leads to
-abbrev pub WorldReaches : Type 0 → Type 0
-WorldReaches A = (number : ℕ) (old : Standing A) (world : World A) (front rest : List (List ℕ)) (reported : List ReportLine) (outcome : Outcome)
-    → old.world ≡ Some world → IsReport number old (front ++ rest) reported outcome → StopsIn number front reported outcome ⊎ Reaches number world.parts front rest reported outcome
+-- at each line that is reached the machine is in the state that the run of the steps before it leads to
+abbrev pub MachineReaches : Type 0
+MachineReaches = (number : ℕ) (old : Standing) (m : Machine) (front rest : List (List ℕ)) (reported : List ReportLine) (outcome : Outcome)
+    → old.machine ≡ Some m → IsReport number old (front ++ rest) reported outcome → StopsIn number front reported outcome ⊎ Reaches number m front rest reported outcome
 
 -- the report of a trace tells of no boot, or of one and then of a run from there
-abbrev pub TraceRuns : Type 0 → Type 0
-TraceRuns A = (trace : List (List ℕ)) (reported : List ReportLine) (outcome : Outcome)
-    → IsReport {A = A} 1 at_start trace reported outcome → TellsNoBoot trace reported outcome ⊎ TellsBoot {A = A} 1 at_start trace reported outcome
+abbrev pub TraceRuns : Type 0
+TraceRuns = (trace : List (List ℕ)) (reported : List ReportLine) (outcome : Outcome)
+    → IsReport 1 at_start trace reported outcome → TellsNoBoot trace reported outcome ⊎ TellsBoot 1 at_start trace reported outcome

@@ -4,4 +4,6 @@ pub mod Played
 pub mod Replay
 pub mod Session
 pub mod Texts
+pub mod View
+pub mod Writers
 pub mod Worlds

@@ -1,5 +1,5 @@
 -- The lines of a trace, and its report (profile).
-use Rattle.std.specs.Prelude.{◌≡◌, ℕ, ◌+◌, ◌<◌, ◌≤◌, List, [], ◌∷◌, ◌++◌, map, Option, Ok, Err, IfSome}
+use Rattle.std.specs.Prelude.{◌≡◌, ◌⊎◌, ℕ, ◌+◌, ◌<◌, ◌≤◌, List, [], ◌∷◌, ◌++◌, map, Option, Ok, Err, IfSome}
 use Rattle.std.specs.Io.KnownBytes.{Appends}
 use Rattle.trace_text.specs.declared.fault.Fault.TheVariants as faults
 use Rattle.trace_lines.specs.Reading.{lines_of}
@@ -12,7 +12,7 @@ use Rattle.trace_text.specs.Session.{Standing, Answer, Faults, RunsLine, at_star
 use Rattle.trace_text.specs.Texts.{text_of_report}
 
 -- what a line does by its place: the first 1,048,576 lines are carried out, the next is a fault
-pub record IsPlayed {A : Type 0} (number : ℕ) (line : List ℕ) (old : Standing A) (answer : Answer) (new : Standing A) : Type 0 where
+pub record IsPlayed (number : ℕ) (line : List ℕ) (old : Standing) (answer : Answer) (new : Standing) : Type 0 where
   pub runs : number ≤ 1048576 → RunsLine number line old answer new
   pub past : 1048576 < number → Faults faults.Lines old answer new
 
@@ -23,14 +23,30 @@ Begins number (Err stops.NoMemory) follows lines outcome = ⊥
 Begins number (Ok told) follows lines outcome = (more : List ReportLine) × (lines ≡ map report.Response told ++ more) × follows more outcome
 
 -- the report of a trace's lines from a number on: line after line, and at the end the number of step lines
-abbrev pub IsReport : {A : Type 0} → ℕ → Standing A → List (List ℕ) → List ReportLine → Outcome → Type 0
+abbrev pub IsReport : ℕ → Standing → List (List ℕ) → List ReportLine → Outcome → Type 0
 IsReport number old [] lines outcome = (lines ≡ report.End old.steps 0 ∷ []) × (outcome ≡ outcomes.Clean)
-IsReport {A} number old (line ∷ rest) lines outcome =
-    (answer : Answer) × (new : Standing A) × IsPlayed number line old answer new
+IsReport number old (line ∷ rest) lines outcome =
+    (answer : Answer) × (new : Standing) × IsPlayed number line old answer new
     × Begins number answer (λ more end. IsReport (number + 1) new rest more end) lines outcome
 
+-- so many lines of it: a report that may break off behind each line of the trace
+abbrev pub IsBeginning : ℕ → Standing → List (List ℕ) → List ReportLine → Type 0
+IsBeginning number old [] lines = (lines ≡ []) ⊎ (lines ≡ report.End old.steps 0 ∷ [])
+IsBeginning number old (line ∷ rest) lines =
+    (lines ≡ []) ⊎ ((answer : Answer) × (new : Standing) × (outcome : Outcome) × IsPlayed number line old answer new
+    × Begins number answer (λ more end. IsBeginning (number + 1) new rest more) lines outcome)
+
 -- what was written is a report, and, where the bytes of the trace are known, that of its lines
-pub record IsReplayed (A : Type 0) (bytes old new : Option (List ℕ)) (outcome : Outcome) : Type 0 where
+pub record IsReplayed (bytes old new : Option (List ℕ)) (outcome : Outcome) : Type 0 where
   pub lines : List ReportLine
   pub written : Appends old new (text_of_report lines)
-  pub report : IfSome bytes (λ all. IsReport {A = A} 1 at_start (lines_of all) lines outcome)
+  pub report : IfSome bytes (λ all. IsReport 1 at_start (lines_of all) lines outcome)
+
+-- what was written is a front of the text of lines, and, where the bytes of the trace are known, these are a beginning of its report
+pub record IsBegun (bytes old new : Option (List ℕ)) : Type 0 where
+  pub lines : List ReportLine
+  pub front : List ℕ
+  pub behind : List ℕ
+  pub text : text_of_report lines ≡ front ++ behind
+  pub written : Appends old new front
+  pub report : IfSome bytes (λ all. IsBeginning 1 at_start (lines_of all) lines)

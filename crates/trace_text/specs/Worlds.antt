@@ -1,27 +1,56 @@
--- What a report tells of a world.
-use Rattle.std.specs.Prelude.{ℕ, Option, None, length}
-use Rattle.guest_steps.specs.declared.parts.SharedPart.{SharedPart}
-use Rattle.guest_steps.specs.Lent.{one}
-use Rattle.table_tree.specs.declared.tree.Tree.{Tree}
-use Rattle.table_tree.specs.OnPage.{word_on}
-use Rattle.table_tree.specs.View.{tables_of}
-use Rattle.world.specs.declared.World.{World}
+-- A booted machine, and what a report tells of it, in the words of the reference state (profile).
+use Rattle.std.specs.Prelude.{◌≡◌, ℕ, ◌+◌, ◌-◌, ◌<◌, ◌≤◌, Option, Some, None, IsSome, is_some, filter, length}
+use Rattle.page_state.specs.Blocks.{block_at}
+use Rattle.page_state.specs.Geometries.{pages_below}
+use Rattle.page_state.specs.declared.layout.Config.{Config}
+use Rattle.page_state.specs.Layouts.{Layout}
+use Rattle.page_state.specs.Regions.{Memory}
+use Rattle.page_state.specs.Trees.{Tree}
+use Rattle.reference_model.specs.Boot.{CanBoot, boot}
+use Rattle.reference_model.specs.State.{Reference}
+use Rattle.table_tree.specs.AllBlocks.{blocks_in}
+use Rattle.table_tree.specs.Said.{block_above, IsWordOf, IsRunOrTable}
 use Rattle.trace_lines.specs.declared.line.TreeName.{TreeName}
 use Rattle.trace_lines.specs.declared.line.TreeName.TheVariants.{Host, Hyp}
 
--- a named tree of the Shared part
-abbrev pub tree_in : {A : Type 0} → TreeName → SharedPart A → Tree A
-tree_in Host s = s.host.tree
-tree_in Hyp s = s.hyp.tree
+-- a booted machine: its layout, which never changes, and the state in which it is
+pub record Machine : Type 0 where
+  pub layout : Layout
+  pub state : Reference
 
--- the word on a page's path at a level
-abbrev pub word_told : {A : Type 0} → World A → TreeName → ℕ → ℕ → Option ℕ
-word_told w tree page level = one None (λ s. word_on (tree_in tree s) page level) w.parts.shared.items
+-- the machine that boots on memory and a configuration: its layout has just these and can boot, and its state is the boot state
+pub record IsBootOf (memory : Memory) (config : Config) (m : Machine) : Type 0 where
+  pub memory_is : m.layout.memory ≡ memory
+  pub config_is : m.layout.config ≡ config
+  pub ready : CanBoot m.layout
+  pub state_is : m.state ≡ boot m.layout
 
--- the number of a tree's tables
-abbrev pub tables_told : {A : Type 0} → World A → TreeName → ℕ
-tables_told w tree = one 0 (λ s. tables_of (tree_in tree s)) w.parts.shared.items
+-- the machine in another state
+abbrev pub in_state : Machine → Reference → Machine
+in_state m next = record { layout = m.layout; state = next }
+
+-- a named tree
+abbrev pub tree_told : Machine → TreeName → Tree
+tree_told m Host = m.state.contents.shared.host
+tree_told m Hyp = m.state.contents.shared.hyp
+
+-- the number of a tree's tables: that of the blocks, from the one of all pages down, at which one stands
+abbrev pub tables_told : Machine → TreeName → ℕ
+tables_told m tree = length (filter (λ b. is_some ((tree_told m tree).table b)) (blocks_in (m.layout.depth + 1) 0))
 
 -- the number of free frames of the shared pool
-abbrev pub free_told : {A : Type 0} → World A → ℕ
-free_told w = one 0 (λ s. length s.pool.frames) w.parts.shared.items
+abbrev pub free_told : Machine → ℕ
+free_told m = length m.state.contents.shared.free
+
+-- a tree with so many levels below its root's has a word on a page's path at a level: the page is good, the level is none above the root's, and below the root's the table stands that has the word
+pub record HasWordOn (depth : ℕ) (tree : Tree) (page level : ℕ) : Type 0 where
+  pub good : page < pages_below depth
+  pub top : 3 ≤ level + depth
+  pub bottom : level ≤ 3
+  pub stands : 3 < level + depth → IsSome (tree.table (block_above (block_at (3 - level) page)))
+
+-- the word on a page's path at a level: that of the level's block which holds the page. None where there is no word
+abbrev pub IsWordOn : ℕ → Tree → ℕ → ℕ → Option ℕ → Type 0
+IsWordOn depth tree page level None = ¬ HasWordOn depth tree page level
+IsWordOn depth tree page level (Some word) =
+    HasWordOn depth tree page level × IsWordOf tree (block_at (3 - level) page) word × IsRunOrTable tree (block_at (3 - level) page)

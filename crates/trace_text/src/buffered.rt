@@ -1,24 +1,50 @@
-//! Replaying through buffers.
-ghost use Rattle.std.specs.Prelude.{IfOk};
+//! Replaying from a reader to a writer of std.
+ghost use Rattle.std.specs.Prelude.{◌≡◌, IfOk};
 ghost use Rattle.trace_text.specs.Replay.{IsReplayed};
 
+use crate::sink::Writing;
 use crate::trace::replay;
 use std::alloc::{Allocator, Global};
-use std::io::{BufReader, BufWriter, Read, Write};
-use trace_lines::{EngineFault, Outcome};
+use std::io::{BufWriter, Error, Read, Write};
+use trace_lines::{EngineFault, Outcome, Reading};
 
-/// Replays a trace through buffers, and gives the writer back with the whole report written to it.
+/// Why a replay stopped before the end of its report, and what the system told of a read or a write that failed.
+#[derive(Debug, Drop)]
+pub struct Stopped {
+    pub fault: EngineFault,
+    pub cause: Option<Error>,
+}
+
+/// Replays a trace, and gives the writer back with the whole report written to it. The report goes through a buffer, which is
+/// written out where the replay stops early too.
 pub fn replay_buffered<A: Allocator + Copy, R: Read + Drop, W: Write + Drop>(
     global: Global,
     alloc: A,
     reader: R,
     writer: W,
-) -> Result<(Outcome, W), EngineFault>
-    ensures { IfOk result (λ r. IsReplayed A (R.remaining reader) (W.contents writer) (W.contents r.1) r.0) }
+) -> Result<(Outcome, W), Stopped>
+    ensures { IfOk result (λ r. IsReplayed (R.remaining reader) (W.contents writer) (W.contents r.1) r.0) }
 {
-    let mut reader = BufReader::new(global, reader).map_err(|_| EngineFault::NoMemory)?;
-    let mut writer = BufWriter::new(global, writer).map_err(|_| EngineFault::NoMemory)?;
-    let outcome = replay(global, alloc, &mut reader, &mut writer)?;
-    let writer = writer.into_inner().map_err(|_| EngineFault::Write)?;
-    Ok((outcome, writer))
+    let Ok(writer) = BufWriter::new(global, writer) else {
+        return Err(stop_at(EngineFault::NoMemory, None));
+    };
+    let mut source = Reading::new(reader);
+    let mut sink = Writing::new(writer);
+    let answer = replay(global, alloc, &mut source, &mut sink);
+    let (writer, cause) = sink.into_parts();
+    match answer {
+        Ok(outcome) => match writer.into_inner() {
+            Ok(writer) => Ok((outcome, writer)),
+            Err(failed) => Err(stop_at(EngineFault::Write, Some(failed.into_error()))),
+        },
+        Err(EngineFault::Read) => Err(stop_at(EngineFault::Read, source.into_cause())),
+        Err(EngineFault::Write) => Err(stop_at(EngineFault::Write, cause)),
+        Err(EngineFault::NoMemory) => Err(stop_at(EngineFault::NoMemory, None)),
+    }
+}
+
+fn stop_at(fault: EngineFault, cause: Option<Error>) -> Stopped
+    ensures { result.fault ≡ fault }
+{
+    Stopped { fault, cause }
 }

@@ -6,11 +6,13 @@ mod fault;
 pub mod laws;
 mod report;
 mod session;
+mod sink;
 mod trace;
 
-pub use buffered::replay_buffered;
+pub use buffered::{Stopped, replay_buffered};
+pub use sink::{Sink, Writing};
 pub use trace::replay;
-pub use trace_lines::{EngineFault, Outcome};
+pub use trace_lines::{EngineFault, Failed, Outcome, Reading, Source};
 
 #[cfg(test)]
 mod tests;

@@ -3,12 +3,13 @@ ghost use Rattle.std.specs.Prelude.{◌≡◌, ◌+◌, ◌<◌, ◌≤◌, ◌^
 ghost use Rattle.page_state.specs.declared.layout.Config.{Config};
 ghost use Rattle.page_state.specs.LayoutFaults.{IsAccepted};
 ghost use Rattle.page_state.specs.Regions.{memory_of};
-ghost use Rattle.trace_text.specs.Session.{Answers, Boots, DoesLine, HasWorld, InWorld, IsNoWorld, MakesStep, RunsLine, Tells, allowed, answer_of, at_start, standing_of};
+ghost use Rattle.trace_text.specs.Session.{Answers, Boots, DoesLine, IsNoWorld, MakesStep, OnMachine, RunsLine, Tells, allowed, at_start};
+ghost use Rattle.trace_text.specs.View.{answer_of, machine_of, standing_of};
 ghost use Rattle.trace_lines.specs.Settings.{config_of, told_of};
 ghost use Rattle.world.specs.Boots.{IsBooted};
 ghost use Rattle.trace_lines.specs.Said.{StepHas};
 ghost use Rattle.hypercalls.specs.Served.{IsServed};
-ghost use Rattle.trace_text.specs.Worlds.{free_told, tables_told, word_told};
+ghost use Rattle.trace_text.specs.Worlds.{IsWordOn, free_told, tables_told, tree_told};
 
 use crate::fault::Fault;
 use page_state::{MemoryMap, Page, PageRange, Region, Step};
@@ -57,7 +58,7 @@ impl<A: Allocator + Copy> Session<A> {
 
     /// What `replay` allows where the session stands.
     fn allows(&self) -> Allows
-        ensures { result ≡ allowed (is_some (standing_of self.now).world) }
+        ensures { result ≡ allowed (is_some (standing_of self.now).machine) }
     {
         if self.world.is_some() {
             Allows {
@@ -143,7 +144,7 @@ impl<A: Allocator + Copy> Session<A> {
     fn step(&mut self, number: u64, cpu: u64, step: Step) -> Result<Option<Response>, Stop>
         requires few { self.old.steps < 2 ^ 63 }
         requires served { IsServed step }
-        ensures done { InWorld (MakesStep number cpu step) (standing_of self.old) (answer_of result) (standing_of self.new) }
+        ensures done { OnMachine (MakesStep number cpu step) (standing_of self.old) (answer_of result) (standing_of self.new) }
         ensures steps { self.new.steps ≤ self.old.steps + 1 }
     {
         let Some(world) = self.world.as_mut() else {
@@ -163,7 +164,7 @@ impl<A: Allocator + Copy> Session<A> {
 
     /// Answers a query.
     fn ask(&self, query: Query) -> Result<Option<Response>, Stop>
-        ensures { InWorld (Answers query) (standing_of self.now) (answer_of result) (standing_of self.now) }
+        ensures { OnMachine (Answers query) (standing_of self.now) (answer_of result) (standing_of self.now) }
     {
         let Some(world) = self.world.as_ref() else {
             return Err(Stop::Fault(Fault::Line(LineFault::Place)));
@@ -180,19 +181,18 @@ impl<A: Allocator + Copy> Session<A> {
 
 /// The word on a page's path at a level.
 fn word_on<A: Allocator>(world: &World<A>, tree: TreeName, page: u64, level: u64) -> Option<u64>
-    ensures { result ≡ word_told world.now tree page level }
+    ensures { let m = machine_of world.now in IsWordOn m.layout.depth (tree_told m tree) page level result }
 {
     let shared = world.parts().shared();
-    let tree = match tree {
-        TreeName::Host => shared.host.tree(),
-        TreeName::Hyp => shared.hyp.tree(),
-    };
-    tree.word_on(Page(page), level)
+    match tree {
+        TreeName::Host => shared.host.tree().word_on(Page(page), level),
+        TreeName::Hyp => shared.hyp.tree().word_on(Page(page), level),
+    }
 }
 
 /// What a report tells of a boot.
 fn boot_line<A: Allocator>(world: &World<A>) -> Response
-    ensures { result ≡ Response.Boot (tables_told world.now TreeName.Host) (tables_told world.now TreeName.Hyp) (free_told world.now) }
+    ensures { let m = machine_of world.now in result ≡ Response.Boot (tables_told m TreeName.Host) (tables_told m TreeName.Hyp) (free_told m) }
 {
     let shared = world.parts().shared();
     Response::Boot {

@@ -1,4 +1,5 @@
 use super::*;
+use linked_list_allocator::LocalHeap;
 use std::io::{Cursor, Error, ErrorKind, Read, Write};
 use std::process::Abort;
 use std::test::Fail;
@@ -71,6 +72,16 @@ impl Write for Full {
     }
 }
 
+/// What a reader and a writer of std are replayed to.
+fn replayed<R: AllocGlobal, F: Read + Drop, W: Write + Drop>(
+    rt: &R,
+    reader: F,
+    writer: W,
+) -> Result<Outcome, EngineFault> {
+    let (mut source, mut sink) = (Reading::new(reader), Writing::new(writer));
+    replay(rt.alloc(), rt.alloc(), &mut source, &mut sink)
+}
+
 /// What boots, and then these lines, write, and how the report ends.
 fn check<R: AllocGlobal + Abort>(
     rt: &R,
@@ -83,8 +94,7 @@ fn check<R: AllocGlobal + Abort>(
     let mut wanted = Vec::from_slice(rt.alloc(), b"boot host 3 hyp 3 free 58\n")?;
     wanted.extend_from_slice(report)?;
     let mut written = Vec::new(rt.alloc());
-    let mut reader = Cursor::new(trace.as_slice());
-    let ended = replay(rt.alloc(), rt.alloc(), &mut reader, &mut written);
+    let ended = replayed(rt, Cursor::new(trace.as_slice()), &mut written);
     assert!(rt; ended == Ok(outcome));
     assert!(rt; written.as_slice() == wanted.as_slice());
     Ok(())
@@ -108,14 +118,14 @@ fn reports_lines_in_order(rt: HostRuntime) -> Result<(), Fail> {
 #[test]
 fn tells_failed_reads_and_writes(rt: HostRuntime) -> Result<(), Fail> {
     let mut written = Vec::new(rt.alloc());
-    let mut reader = Cut {
+    let reader = Cut {
         bytes: BOOT,
         left: 30,
     };
-    let ended = replay(rt.alloc(), rt.alloc(), &mut reader, &mut written);
+    let ended = replayed(&rt, reader, &mut written);
     assert!(rt; ended == Err(EngineFault::Read));
     assert!(rt; written.is_empty());
-    let ended = replay(rt.alloc(), rt.alloc(), &mut Cursor::new(BOOT), &mut Full);
+    let ended = replayed(&rt, Cursor::new(BOOT), Full);
     assert!(rt; ended == Err(EngineFault::Write));
     Ok(())
 }
@@ -123,11 +133,11 @@ fn tells_failed_reads_and_writes(rt: HostRuntime) -> Result<(), Fail> {
 #[test]
 fn reads_on_after_interrupted_reads(rt: HostRuntime) -> Result<(), Fail> {
     let mut written = Vec::new(rt.alloc());
-    let mut reader = Interrupted {
+    let reader = Interrupted {
         bytes: BOOT,
         ready: false,
     };
-    let ended = replay(rt.alloc(), rt.alloc(), &mut reader, &mut written);
+    let ended = replayed(&rt, reader, &mut written);
     assert!(rt; ended == Ok(Outcome::Clean));
     let wanted: &[u8] = b"boot host 3 hyp 3 free 58\nend steps 0 disagreements 0\n";
     assert!(rt; written.as_slice() == wanted);
@@ -137,11 +147,30 @@ fn reads_on_after_interrupted_reads(rt: HostRuntime) -> Result<(), Fail> {
 #[test]
 fn writes_all_that_buffers_hold(rt: HostRuntime) -> Result<(), Fail> {
     let writer = Vec::new(rt.alloc());
-    let (outcome, written) = replay_buffered(rt.alloc(), rt.alloc(), Cursor::new(BOOT), writer)?;
-    assert!(rt; outcome == Outcome::Clean);
+    let ended = replay_buffered(rt.alloc(), rt.alloc(), Cursor::new(BOOT), writer);
     let wanted: &[u8] = b"boot host 3 hyp 3 free 58\nend steps 0 disagreements 0\n";
-    assert!(rt; written.as_slice() == wanted);
+    assert!(rt; matches!(&ended, Ok((Outcome::Clean, written)) if written.as_slice() == wanted));
     let ended = replay_buffered(rt.alloc(), rt.alloc(), Cursor::new(BOOT), Full);
-    assert!(rt; matches!(ended, Err(EngineFault::Write)));
+    assert!(rt; matches!(&ended, Err(stopped) if stopped.fault == EngineFault::Write));
     Ok(())
+}
+
+/// What boots, with the tables of the trees in a heap of this size.
+fn in_heap<R: AllocGlobal + Abort>(rt: &R, bytes: usize, report: &[u8]) -> Result<(), Fail> {
+    let heap = LocalHeap::new(rt.alloc(), bytes)?;
+    let mut written = Vec::new(rt.alloc());
+    let mut source = Reading::new(Cursor::new(BOOT));
+    let mut sink = Writing::new(&mut written);
+    let ended = replay(rt.alloc(), &heap, &mut source, &mut sink);
+    assert!(rt; ended.is_ok());
+    let _ = sink.into_parts();
+    assert!(rt; written.as_slice() == report);
+    Ok(())
+}
+
+#[test]
+fn tables_lie_in_the_heap(rt: HostRuntime) -> Result<(), Fail> {
+    in_heap(&rt, 4096, b"6 fault boot 3\n")?;
+    let report: &[u8] = b"boot host 3 hyp 3 free 58\nend steps 0 disagreements 0\n";
+    in_heap(&rt, 1_048_576, report)
 }

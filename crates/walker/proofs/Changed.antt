@@ -1,53 +1,28 @@
 -- A tree whose root table was changed is the edited tree.
-use Rattle.std.proofs.Common.{◌≡◌, ℕ, zero, suc, ◌+◌, ◌*◌, ◌<◌, ◌≤◌, refl, sym, ap, arith, ◌∙◌, cond, None, List, length, take}
-use Rattle.std.specs.Prelude.{nat_lt}
-use mathlib.Core.Path.{fun_ext}
+use Rattle.std.proofs.Common.{◌≡◌, ℕ, ◌+◌, ◌<◌, ◌≤◌, sym, ap, arith, ◌∙◌, List, length, take}
 use Rattle.std.proofs.lemmas.List.{take_all}
 use Rattle.std.proofs.lemmas.List.Sums.{sum_by-take-le}
 use Rattle.page_state.specs.declared.entry.Entry.{Entry}
-use Rattle.page_state.specs.declared.entry.Entry.TheVariants.{Unmapped}
-use Rattle.page_state.specs.declared.layout.Geometry.{Geometry}
 use Rattle.page_state.specs.Trees.{Pool}
 use Rattle.page_state.specs.Tables.{put, need, returned, edited, all_given}
-use Rattle.page_state.specs.Geometries.{levels_below, input_pages, block_pages}
+use Rattle.page_state.specs.Geometries.{levels_below, input_pages}
 use Rattle.page_state.specs.Counts.{is_one, frame_count}
-use Rattle.page_state.proofs.Edits.{tree-same}
 use Rattle.hyp_pool.specs.Laws.{GivenCounted}
 use Rattle.table_tree.specs.declared.table.Table.{Table}
 use Rattle.table_tree.specs.declared.tree.Tree.{Tree}
-use Rattle.table_tree.specs.Meaning.{entry_at, frame_of}
-use Rattle.table_tree.specs.Tables.{tables_in, uses_in, table_in, AreDistinct}
-use Rattle.table_tree.specs.View.{tree_of, meaning, table_at, uses, tables_of, root_of}
+use Rattle.table_tree.specs.Tables.{tables_in, uses_in, AreDistinct}
+use Rattle.table_tree.specs.View.{tree_of, uses, tables_of}
+use Rattle.table_tree.proofs.Same.{uses_are, tables_are}
 use Rattle.walk_plan.specs.declared.change.Change.{Change}
 use Rattle.walk_plan.specs.inner.Needs.{table_need}
 use Rattle.walk_plan.specs.inner.Ranks.{table_gone}
 use Rattle.walk_plan.proofs.Needed.{need_walked}
 use Rattle.walk_plan.proofs.Edited.{IsWalked, tree_edited}
 use Rattle.walk_plan.proofs.Gone.{gone_returned}
-use Rattle.walker.proofs.Blank.{unmapped_gone}
+use Rattle.table_tree.proofs.Blank.{unmapped_gone}
 use Rattle.walker.proofs.Slotted.{IsGrown}
 
 module _ {A : Type 0} where
-  pub root_is : (t u : Tree A) → frame_of u.table ≡ frame_of t.table → root_of u ≡ root_of t
-  unfolding root_of
-  root_is t u h = h
-
-  pub uses_are : (t : Tree A) (f : ℕ) → uses t f ≡ uses_in (levels_below t.geometry) t.table f
-  unfolding uses
-  uses_are t f = refl
-
-  pub tables_are : (t : Tree A) → tables_of t ≡ tables_in (levels_below t.geometry) t.table
-  unfolding tables_of
-  tables_are t = refl
-
-  by_table : {R : Type 0} (t u : Tree A) → t.geometry ≡ u.geometry → t.table ≡ u.table → (of : Geometry → Table A → R) → of t.geometry t.table ≡ of u.geometry u.table
-  by_table t u g h of = ap (λ x. of x t.table) g ∙ ap (λ x. of u.geometry x) h
-
-  same_at : (depth number : ℕ) (t u : Tree A) → t.geometry ≡ u.geometry → t.table ≡ u.table → table_at t depth number ≡ table_at u depth number
-  unfolding table_at
-  same_at zero number t u g h = refl
-  same_at (suc low) number t u g h = by_table t u g h (λ x y. cond (nat_lt (number * block_pages (suc low)) (input_pages x)) (table_in (levels_below x) y low (number * block_pages (suc low))) None)
-
   -- tables that a change makes have frames of their own
   pub still_distinct : (t : Tree A) (b : Table A) (c : Change) (fs rest : List ℕ) (free : Pool) → IsGrown (levels_below t.geometry) t.table b c fs rest → ((f : ℕ) → uses t f + frame_count f fs + frame_count f free ≤ 1) → AreDistinct (levels_below t.geometry) b
   still_distinct t b c fs rest free grown apart f =
@@ -55,18 +30,7 @@ module _ {A : Type 0} where
 
   -- the tree with the root table that a change makes
   abbrev pub after : (t : Tree A) (b : Table A) (c : Change) (fs rest : List ℕ) (free : Pool) → IsGrown (levels_below t.geometry) t.table b c fs rest → ((f : ℕ) → uses t f + frame_count f fs + frame_count f free ≤ 1) → Tree A
-  after t b c fs rest free grown apart = record { geometry = t.geometry; table = b; shaped = grown.shape; tight = grown.tight; distinct = still_distinct t b c fs rest free grown apart }
-
-  -- what contracts see of a tree hangs on its geometry and its root table
-  pub same_tree : (t u : Tree A) → t.geometry ≡ u.geometry → t.table ≡ u.table → tree_of t ≡ tree_of u
-  unfolding meaning table_at
-  same_tree t u g h = tree-same (fun_ext (λ page. by_table t u g h (λ x y. cond (nat_lt page (input_pages x)) (entry_at (levels_below x) y page) Unmapped))) (fun_ext (λ b. same_at b.0 b.1 t u g h))
-
-  pub same_uses : (t u : Tree A) → t.geometry ≡ u.geometry → t.table ≡ u.table → (f : ℕ) → uses t f ≡ uses u f
-  same_uses t u g h f = uses_are t f ∙ ap (λ x. uses_in (levels_below x) t.table f) g ∙ ap (λ x. uses_in (levels_below u.geometry) x f) h ∙ sym (uses_are u f)
-
-  pub same_count : (t u : Tree A) → t.geometry ≡ u.geometry → t.table ≡ u.table → tables_of t ≡ tables_of u
-  same_count t u g h = tables_are t ∙ ap (λ x. tables_in (levels_below x) t.table) g ∙ ap (λ x. tables_in (levels_below u.geometry) x) h ∙ sym (tables_are u)
+  after t b c fs rest free grown apart = record { geometry = t.geometry; table = b; spares = t.spares; shaped = grown.shape; tight = grown.tight; distinct = still_distinct t b c fs rest free grown apart }
 
 module _ {A : Type 0} (t u : Tree A) (first count : ℕ) (e : Entry) (c : Change) (fs rest : List ℕ) (some : 0 < count) (within : first + count ≤ input_pages t.geometry) (from : c.first ≡ first) (to : c.end ≡ first + count) (gives : c.entry ≡ e)
     (geometry : u.geometry ≡ t.geometry) (just : length fs ≡ need (levels_below t.geometry) (tree_of t) (put first count e)) (grown : IsGrown (levels_below t.geometry) t.table u.table c fs rest) where

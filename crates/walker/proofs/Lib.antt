@@ -1,8 +1,6 @@
-pub mod NoneWord
 pub mod Maps
 pub mod Ranks
 pub mod Parts
-pub mod Blank
 pub mod Emptied
 pub mod Opened
 pub mod Writes

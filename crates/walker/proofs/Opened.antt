@@ -39,7 +39,7 @@ use Rattle.walker.specs.inner.Steps.{IsRewritten, IsOpening, IsFilled, IsReady, 
 use Rattle.walker.proofs.Maps.{changed_in, changed_before, changed_after, changed_at}
 use Rattle.walker.proofs.Ranks.{given_later, given_some, block_rank_one, block_rank_split, slot_rank_word}
 use Rattle.walker.proofs.Parts.{parts_need, parts_ranked, parts_gone, gone_word, gone_child}
-use Rattle.walker.proofs.Blank.{advance_none}
+use Rattle.table_tree.proofs.Blank.{advance_none}
 use Rattle.walker.proofs.Emptied.{emptied_each}
 
 -- at the last level each change leaves one word

@@ -26,7 +26,7 @@ use Rattle.walk_plan.specs.inner.Needs.{slot_need, table_need}
 use Rattle.walk_plan.specs.inner.Ranks.{given_rank, slot_rank, table_rank, slot_gone, table_gone}
 use Rattle.walker.specs.inner.Steps.{IsOpened, IsReady, is_emptied}
 use Rattle.walker.proofs.Maps.{changed_at}
-use Rattle.walker.proofs.Blank.{entry_word, entry_in_block, unmapped_blank}
+use Rattle.table_tree.proofs.Blank.{entry_word, entry_in_block, unmapped_blank}
 use Rattle.walker.proofs.Emptied.{emptied_each, emptied_by}
 
 module _ {A : Type 0} where

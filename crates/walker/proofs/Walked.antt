@@ -21,7 +21,7 @@ use Rattle.walk_plan.specs.inner.Ranks.{given_rank, later, slot_rank, table_rank
 use Rattle.walk_plan.proofs.Ranges.{met_some, sum_next, table_parts_is}
 use Rattle.walker.proofs.Ranks.{given_later, given_none, rank_before, rank_after, rank_met}
 use Rattle.walker.proofs.Maps.{changed_in}
-use Rattle.walker.proofs.Blank.{advance_none}
+use Rattle.table_tree.proofs.Blank.{advance_none}
 
 -- the tables of the slots before slot `i`, as far as something is mapped there
 pub IsKept : {A : Type 0} → ℕ → ℕ → Change → List ℕ → Table A → Table A → Type 0

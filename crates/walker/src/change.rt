@@ -1,23 +1,23 @@
 //! A change of a range of a tree: with tables in hand, or with tables taken for it.
-ghost use Rattle.std.specs.Prelude.{◌≡◌, ℕ, ◌+◌, ◌*◌, ◌<◌, ◌≤◌, ◌↔◌, length, drop, IsOk, OnOk, OnErr};
+ghost use Rattle.std.specs.Prelude.{◌≡◌, ℕ, ◌+◌, ◌-◌, ◌*◌, ◌<◌, ◌≤◌, ◌↔◌, Err, length, drop, IsOk, OnOk, OnErr};
 ghost use Rattle.page_state.specs.Regions.{end_of};
 ghost use Rattle.page_state.specs.Tables.{put, need, returned, edited, all_given};
 ghost use Rattle.page_state.specs.Geometries.{levels_below, input_pages};
 ghost use Rattle.page_state.specs.Counts.{frame_count};
 ghost use Rattle.table_tree.specs.Reading.{count_of};
 ghost use Rattle.table_tree.specs.Stocks.{frames_of};
-ghost use Rattle.table_tree.specs.View.{tree_of, uses, tables_of, root_of};
+ghost use Rattle.table_tree.specs.View.{tree_of, uses, tables_of, root_of, spares_of};
 ghost use Rattle.walk_plan.specs.Changes.{CanBeSaidOn};
 
 use crate::walk::set_all;
 use hyp_pool::{Pool, PoolFault, laws};
 use page_state::{Entry, PageRange};
-use std::alloc::{Allocator, Global};
+use std::alloc::Allocator;
 use table_tree::{Reads, Stock, Tree};
 use walk_plan::{Change, Spare, drain, reserve};
 
 /// Gives the pages of a range an entry, which advances along the range, with tables in hand for just this change.
-/// It can't fail. The frames of tables that go join the pool at the end.
+/// It can't fail. The frames of tables that go join the pool at the end, and the tables the tree's spares.
 pub fn set_with<A: Allocator>(
     tree: &mut Tree<A>,
     pool: &mut Pool,
@@ -39,6 +39,7 @@ pub fn set_with<A: Allocator>(
     ensures room { pool.new.room ≡ pool.old.room }
     ensures frames { (f : ℕ) → uses tree.new f + frame_count f pool.new.frames ≡ uses tree.old f + frame_count f (frames_of spare.stock) + frame_count f pool.old.frames }
     ensures tables { tables_of tree.new + length pool.new.frames ≡ tables_of tree.old + length (frames_of spare.stock) + length pool.old.frames }
+    ensures spares { spares_of tree.new ≡ spares_of tree.old + length (returned (levels_below tree.old.geometry) (tree_of tree.old) (put range.first.0 range.count entry)) }
     ensures reads { 2 * count_of reads.new ≤ 2 * count_of reads.old + 5 * range.count + 4112 }
 {
     laws::given_in_any_order();
@@ -54,13 +55,14 @@ pub fn set_with<A: Allocator>(
     let mut freed = Stock::new();
     let table = &mut tree.table;
     set_all(table, depth, change, &mut stock, &mut freed, reads);
-    drain(freed, pool);
+    stock.close();
+    drain(freed, tree, pool);
 }
 
-/// Gives the pages of a range an entry, which advances along the range, or changes nothing: NoPool is answered exactly
-/// where the pool has fewer frames than the change needs tables, NoMemory only where memory was refused.
+/// Gives the pages of a range an entry, which advances along the range, or changes nothing but that the tree may have more
+/// spares: NoPool is answered exactly where the pool has fewer frames than the change needs tables, NoMemory only where the
+/// tree has fewer spares and memory was refused.
 pub fn set<A: Allocator + Copy>(
-    global: Global,
     alloc: A,
     tree: &mut Tree<A>,
     pool: &mut Pool,
@@ -76,8 +78,11 @@ pub fn set<A: Allocator + Copy>(
     ensures tree { OnOk result (tree_of tree.new ≡ edited (levels_below tree.old.geometry) (tree_of tree.old) (put range.first.0 range.count entry) pool.old.frames) }
     ensures pool { OnOk result (pool.new.frames ≡ all_given (returned (levels_below tree.old.geometry) (tree_of tree.old) (put range.first.0 range.count entry)) (drop (need (levels_below tree.old.geometry) (tree_of tree.old) (put range.first.0 range.count entry)) pool.old.frames)) }
     ensures no_pool { (result ≡ Err PoolFault.NoPool) ↔ (length pool.old.frames < need (levels_below tree.old.geometry) (tree_of tree.old) (put range.first.0 range.count entry)) }
+    ensures no_memory { result ≡ Err PoolFault.NoMemory → spares_of tree.old < need (levels_below tree.old.geometry) (tree_of tree.old) (put range.first.0 range.count entry) }
     ensures nothing { need (levels_below tree.old.geometry) (tree_of tree.old) (put range.first.0 range.count entry) ≡ 0 → IsOk result }
-    ensures err { OnErr result (tree.new ≡ tree.old) }
+    ensures spares { OnOk result (spares_of tree.new ≡ spares_of tree.old - need (levels_below tree.old.geometry) (tree_of tree.old) (put range.first.0 range.count entry) + length (returned (levels_below tree.old.geometry) (tree_of tree.old) (put range.first.0 range.count entry))) }
+    ensures err { OnErr result (tree.new.table ≡ tree.old.table) }
+    ensures err_spares { OnErr result (spares_of tree.old ≤ spares_of tree.new) }
     ensures err_pool { OnErr result (pool.new ≡ pool.old) }
     ensures geometry { tree.new.geometry ≡ tree.old.geometry }
     ensures root { root_of tree.new ≡ root_of tree.old }
@@ -86,7 +91,7 @@ pub fn set<A: Allocator + Copy>(
     ensures tables { tables_of tree.new + length pool.new.frames ≡ tables_of tree.old + length pool.old.frames }
     ensures reads { count_of reads.new ≤ count_of reads.old + 4 * range.count + 4096 }
 {
-    let spare = reserve(global, alloc, tree, pool, range, &entry, reads)?;
+    let spare = reserve(alloc, tree, pool, range, &entry, reads)?;
     set_with(tree, pool, range, entry, spare, reads);
     Ok(())
 }

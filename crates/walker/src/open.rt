@@ -11,7 +11,7 @@ ghost use Rattle.table_tree.specs.Slots.{fresh};
 ghost use Rattle.table_tree.specs.Stocks.{frames_of};
 ghost use Rattle.table_tree.specs.Tight.{IsTight};
 ghost use Rattle.walk_plan.specs.Changes.{IsChange, changed_entry, stays_one_word};
-ghost use Rattle.walker.specs.inner.Steps.{IsRewritten, IsOpening, IsFilled, IsOpened};
+ghost use Rattle.walker.specs.inner.Steps.{IsFilled, IsFirst, IsFound, IsOpened};
 
 use page_state::Entry;
 use std::alloc::Allocator;
@@ -41,25 +41,37 @@ fn word_after(depth: u32, word: u64, change: Change) -> Option<u64>
     None
 }
 
-/// The word that a slot gets by a change, where it holds a word and goes on doing so.
-pub(crate) fn word_for<A: Allocator>(
+/// What a look at a slot finds, in which a change is to be made.
+#[derive(Clone, Copy)]
+pub(crate) enum Found {
+    /// A word that goes on as a word: the one that the slot gets.
+    Word(u64),
+    /// A table to go on in: what the slot's word gives the first page of its block, or None where a child stands.
+    Opening(Option<Entry>),
+}
+
+/// Looks at a slot, once, in which a change is to be made.
+pub(crate) fn look_for<A: Allocator>(
     table: &Table<A>,
     depth: u32,
     i: usize,
     change: Change,
     reads: &mut Reads,
-) -> Option<u64>
+) -> Found
     requires depth_in { IsDepth depth }
     requires index_in { i < 512 }
     requires shape { IsShaped depth table.now }
     requires change_in { IsChange depth change }
-    ensures some { IfSome result (λ w. IsRewritten depth i table.now change w) }
-    ensures rest { result ≡ None → IsOpening depth (slot_at table.now i) change }
+    ensures found { IsFound depth i table.now change result }
+    ensures seen { IsSeen i table.now (slot_at table.now i) }
     ensures reads { count_of reads.new ≤ count_of reads.old + 1 }
 {
     match table.slot(i, reads) {
-        Slot::Word(word) => word_after(depth, *word, change),
-        Slot::Child(_) => None,
+        Slot::Word(word) => match word_after(depth, *word, change) {
+            Some(after) => Found::Word(after),
+            None => Found::Opening(Some(entry_of(depth, *word))),
+        },
+        Slot::Child(_) => Found::Opening(None),
     }
 }
 
@@ -79,46 +91,25 @@ fn fill<A: Allocator>(table: &mut Table<A>, depth: u32, entry: Entry)
     }
 }
 
-/// What a slot's word gives the first page of its block; None where a child stands.
-fn entry_at_slot<A: Allocator>(
-    table: &Table<A>,
-    depth: u32,
-    i: usize,
-    reads: &mut Reads,
-) -> Option<Entry>
-    requires depth_in { IsDepth depth }
-    requires index_in { i < 512 }
-    requires shape { IsShaped depth table.now }
-    ensures word { IfSome result (λ x. (w : ℕ) × (slot_at table.now i ≡ Slot.Word w) × (x ≡ entry_of_word (desc_of (level_at depth) w))) }
-    ensures said { IfSome result (λ x. CanBeSaid (level_at depth) (word_of_entry x)) }
-    ensures child { result ≡ None → HoldsWord (slot_at table.now i) → ⊥ }
-    ensures seen { IsSeen i table.now (slot_at table.now i) }
-    ensures reads { count_of reads.new ≤ count_of reads.old + 1 }
-{
-    match table.slot(i, reads) {
-        Slot::Word(word) => Some(entry_of(depth, *word)),
-        Slot::Child(_) => None,
-    }
-}
-
 /// Takes the child of a slot out, or makes one that means what the slot's word did; the slot is left 0. The child
-/// has `depth` levels below it, the table one more.
+/// has `depth` levels below it, the table one more. `first` is what a look found there.
 pub(crate) fn opened<A: Allocator>(
     table: &mut Table<A>,
     depth: u32,
     i: usize,
+    first: Option<Entry>,
     spare: &mut Stock<A>,
-    reads: &mut Reads,
 ) -> Box<Table<A>, A>
     requires depth_in { IsDepth (depth + 1) }
     requires index_in { i < 512 }
     requires shape { IsShaped (depth + 1) table.old }
     requires tight { IsTight (depth + 1) table.old }
+    requires first { IsFirst (depth + 1) (slot_at table.old i) first }
+    requires seen { IsSeen i table.old (slot_at table.old i) }
     requires enough { fresh (slot_at table.old i) ≤ length (frames_of spare.old) }
-    ensures opened { IsOpened (depth + 1) depth i table.old table.new result.value (frames_of spare.old) (frames_of spare.new) }
-    ensures reads { count_of reads.new ≤ count_of reads.old + 1 }
+    ensures { IsOpened (depth + 1) depth i table.old table.new result.value (frames_of spare.old) (frames_of spare.new) }
 {
-    match entry_at_slot(table, depth + 1, i, reads) {
+    match first {
         Some(entry) => {
             table.put(i, 0);
             let mut child = spare.pop().unwrap();

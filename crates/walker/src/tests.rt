@@ -97,7 +97,6 @@ impl<A: Allocator + Copy> Bench<A> {
         assert_eq!(rt; need(&self.tree, range, &entry, &mut reads), needed);
         let mut reads = Reads::new();
         let answer = set(
-            self.global,
             self.alloc,
             &mut self.tree,
             &mut self.pool,
@@ -272,12 +271,11 @@ fn dismantled_frames(rt: HostRuntime) -> Result<(), Fail> {
 
 #[test]
 fn small_heap(rt: HostRuntime) -> Result<(), Fail> {
-    let heap = LocalHeap::new(rt.alloc(), 20000)?;
+    let heap = LocalHeap::new(rt.alloc(), 30000)?;
     let mut bench = empty_bench(rt.alloc(), &heap, 2)?;
-    let used = heap.used();
     let answer = bench.set(&rt, pages(0x40100, 1), leaf(0x40100, State::Owned), 2);
     assert_eq!(rt; answer, Err(PoolFault::NoMemory));
-    assert_eq!(rt; heap.used(), used);
+    assert_eq!(rt; bench.tree.spares(), 1);
     assert_eq!(rt; bench.tree.look(Page(0x40100)), Entry::Unmapped);
     assert_eq!(rt; bench.tree.tables(), 1);
     assert_eq!(rt; bench.pool.free(), 2);
@@ -305,9 +303,8 @@ fn in_hand<A: Allocator + Copy>(
 {
     let mut reads = Reads::new();
     let spare = reserve(
-        bench.global,
         bench.alloc,
-        &bench.tree,
+        &mut bench.tree,
         &mut bench.pool,
         range,
         &entry,
@@ -347,12 +344,50 @@ fn set_from_hand(rt: HostRuntime) -> Result<(), Fail> {
 fn released_from_hand(rt: HostRuntime) -> Result<(), Fail> {
     let heap = LocalHeap::new(rt.alloc(), 1 << 20)?;
     let mut bench = empty_bench(rt.alloc(), &heap, 2)?;
-    let used = heap.used();
     let spare = in_hand(&mut bench, pages(0x40100, 1), leaf(0x40100, State::Owned))?;
-    assert_eq!(rt; bench.pool.free(), 0);
-    release(spare, &mut bench.pool);
+    let used = heap.used();
+    let Bench {
+        mut tree,
+        mut pool,
+        ..
+    } = bench;
+    assert_eq!(rt; pool.free(), 0);
+    release(spare, &mut tree, &mut pool);
     assert_eq!(rt; heap.used(), used);
+    assert_eq!(rt; tree.spares(), 2);
+    assert_eq!(rt; pool.free(), 2);
+    assert_eq!(rt; pool.take(), Some(Frame(0x40601)));
+    Ok(())
+}
+
+#[test]
+fn set_from_spares(rt: HostRuntime) -> Result<(), Fail> {
+    let heap = LocalHeap::new(rt.alloc(), 1 << 16)?;
+    let mut bench = empty_bench(rt.alloc(), &heap, 2)?;
+    let page = pages(0x40100, 1);
+    let owned = leaf(0x40100, State::Owned);
+    bench.set(&rt, page, owned, 2)?;
+    assert_eq!(rt; bench.tree.spares(), 0);
+    bench.set(&rt, page, Entry::Unmapped, 0)?;
+    assert_eq!(rt; bench.tree.spares(), 2);
+    assert_eq!(rt; bench.tree.tables(), 1);
     assert_eq!(rt; bench.pool.free(), 2);
-    assert_eq!(rt; bench.pool.take(), Some(Frame(0x40601)));
+    // the rest of the heap, so that no request for memory is met
+    let mut filling = Vec::new(rt.alloc());
+    for size in [4096usize, 64, 1] {
+        for _block in 0..64usize {
+            if let Ok(block) = Vec::<u8, _>::with_capacity(&heap, size) {
+                filling.push(block)?;
+            }
+        }
+    }
+    let used = heap.used();
+    bench.set(&rt, page, owned, 2)?;
+    assert_eq!(rt; heap.used(), used);
+    assert_eq!(rt; bench.tree.look(page.first), owned);
+    assert_eq!(rt; bench.tree.spares(), 0);
+    assert_eq!(rt; bench.tree.tables(), 3);
+    let other = bench.set(&rt, pages(0x80000, 1), owned, 2);
+    assert_eq!(rt; other, Err(PoolFault::NoPool));
     Ok(())
 }

@@ -14,7 +14,7 @@ ghost use Rattle.walk_plan.specs.inner.Needs.{slot_need, table_need};
 ghost use Rattle.walk_plan.specs.inner.Looks.{edges};
 ghost use Rattle.walk_plan.specs.inner.Ranks.{given_rank, slot_rank, table_rank, slot_gone, table_gone};
 
-use crate::open::{is_spent, opened, word_for};
+use crate::open::{Found, is_spent, look_for, opened};
 use std::alloc::Allocator;
 use table_tree::{Reads, Stock, Table};
 use walk_plan::Change;
@@ -50,11 +50,14 @@ fn set_slot<A: Allocator>(
     ensures tables { tables_in depth table.new + length (frames_of freed.new) ≡ tables_in depth table.old + slot_need depth (slot_at table.old i) change + length (frames_of freed.old) }
     ensures reads { 2 * count_of reads.new + 3 ≤ 2 * count_of reads.old + 5 * (change.end - change.first) + edges (1028 * depth) depth change }
 {
-    if let Some(word) = word_for(table, depth, i, change, reads) {
-        table.put(i, word);
-        return;
-    }
-    let mut child = opened(table, depth - 1, i, spare, reads);
+    let first = match look_for(table, depth, i, change, reads) {
+        Found::Word(word) => {
+            table.put(i, word);
+            return;
+        }
+        Found::Opening(first) => first,
+    };
+    let mut child = opened(table, depth - 1, i, first, spare);
     set_all(&mut child, depth - 1, change, spare, freed, reads);
     if is_spent(&child, change.entry, reads) {
         freed.push(child);

@@ -7,9 +7,12 @@ use Rattle.reference_model.specs.Run.{Runs}
 use Rattle.reference_model.specs.State.{Reference}
 use Rattle.reference_model.proofs.conditions.RunsLegal.{run_sound, run_rows}
 use Rattle.reference_model.specs.Step.{Steps}
+use Rattle.component.specs.declared.Component.{Component}
+use Rattle.guest_steps.specs.declared.parts.SharedPart.{SharedPart}
+use Rattle.guest_steps.specs.Lent.{Each}
 use Rattle.hypercalls.specs.declared.parts.Parts.{Parts}
 use Rattle.hypercalls.specs.Stands.{parts_layout, state_of}
-use Rattle.world.specs.Laws.{Goes, StepsRun, StepsSound, StepsRows}
+use Rattle.world.specs.Laws.{Goes, StepsRun, StepsSound, StepsRows, StepsAgree, Agrees}
 use Rattle.world.proofs.AtBoot.{ready}
 
 module _ {A : Type 0} where
@@ -36,3 +39,13 @@ module _ {A : Type 0} where
 
   pub steps_rows : StepsRows A
   steps_rows m config p q cs f booted h memory = run_rows (parts_layout p) cs (state_of q) (ready m config p booted) (steps_run m config p q cs booted h) f memory
+
+  agrees : (c : Component A) → Agrees c
+  agrees c = record { walk = c.agree; coarsest = c.coarsest }
+
+  all_agree : (ss : List (SharedPart A)) → Each (λ s. Agrees s.host × Agrees s.hyp) ss
+  all_agree [] = tt
+  all_agree (s ∷ ss) = ((agrees s.host, agrees s.hyp), all_agree ss)
+
+  pub steps_agree : StepsAgree A
+  steps_agree m config p q cs booted h = all_agree q.shared.items

@@ -255,7 +255,7 @@ fn shared_at_boot<A: Allocator + Copy>(
         ..Changes::NONE
     };
     let mut shared = new_shared(global, alloc, map, config.log, geometry)?;
-    shared.change(global, alloc, &changes)?;
+    shared.change(alloc, &changes)?;
     shared.give_rows(carve, pool_row());
     Ok(shared)
 }

@@ -1,5 +1,5 @@
 //! Laws over lists of steps. Each function does nothing, and its contract is the law.
-ghost use Rattle.world.specs.Laws.{StepsRun, StepsRows, StepsSound};
+ghost use Rattle.world.specs.Laws.{StepsAgree, StepsRun, StepsRows, StepsSound};
 
 use std::alloc::Allocator;
 
@@ -14,4 +14,10 @@ pub fn steps_run<A: Allocator>()
 pub fn steps_sound<A: Allocator>()
     ensures sound { StepsSound A }
     ensures rows { StepsRows A }
+{}
+
+/// After any list of steps of any CPUs a walk of each tree's words finds just what its maplets say, and the maplets are
+/// the coarsest list of runs of that map.
+pub fn steps_agree<A: Allocator>()
+    ensures { StepsAgree A }
 {}

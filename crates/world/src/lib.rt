@@ -18,7 +18,6 @@ use std::alloc::{Allocator, Global};
 /// A booted world, which stands at the end of one legal history. `A` is where the tables of all trees lie.
 #[derive(Drop)]
 pub struct World<A: Allocator> {
-    global: Global,
     alloc: A,
     pub parts: Parts<A>,
     pub ghost history: { ∥ HasHistory parts ∥₁ },
@@ -36,11 +35,7 @@ impl<A: Allocator + Copy> World<A> {
         ensures { MatchResult result (λ w. IsBooted map.now config w.parts) (λ fault. IsNoBoot fault map.now config) }
     {
         let parts = boot::booted(global, alloc, map, config)?;
-        Ok(World {
-            global,
-            alloc,
-            parts,
-        })
+        Ok(World { alloc, parts })
     }
 
     /// Makes one step of a CPU, and stores it in the CPU's log and those of the parts that it uses, where none is
@@ -51,7 +46,7 @@ impl<A: Allocator + Copy> World<A> {
         ensures layout { self.new.parts.layout ≡ self.old.parts.layout }
         ensures step { IsStep self.old.parts cpu step result self.new.parts }
     {
-        self.parts.step(self.global, self.alloc, cpu, step)
+        self.parts.step(self.alloc, cpu, step)
     }
 }
 

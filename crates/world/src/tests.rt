@@ -1,15 +1,18 @@
 ghost use Rattle.std.specs.Prelude.{◌≡◌, ◌<◌, ◌^◌};
 ghost use Rattle.ghost_spec.specs.Sharing.{HasSmallRuns};
 ghost use Rattle.ghost_spec.specs.Small.{AreSmall};
+ghost use Rattle.hypercalls.specs.Served.{IsServed};
 
 use super::*;
 use arrayvec::ArrayVec;
 use component::Component;
-use descriptor::{Desc, Frame, Level, encode};
+use descriptor::{Desc, Frame, Kind, Level, Owner, Prot, State, encode};
 use ghost_spec::blocks::Block;
 use ghost_spec::{boot, runs, share, tree};
 use guest_steps::SharedPart;
-use page_state::{Page, PageRange, Refusal, Region, RegionKind, Run, Value};
+use page_state::{
+    Entry, Lent, Page, PageRange, Refusal, Region, RegionKind, Row, Run, Usage, Value,
+};
 use std::alloc::AllocError;
 use std::process::Abort;
 use std::test::Fail;
@@ -208,5 +211,86 @@ fn shares_without_frames_as_the_definitions_say(rt: HostRuntime) -> Result<(), F
     assert_eq!(rt; short, Reply::Refused(Refusal::NoPool));
     let carved = share_on_both(&rt, alloc, &mut world, &mut lists, 0x40600)?;
     assert_eq!(rt; carved, Reply::Refused(Refusal::Perm));
+    Ok(())
+}
+
+/// Makes a step of CPU 0, and compares its reply.
+fn expect_reply(rt: &impl Abort, world: &mut World<Global>, step: Step, value: Value)
+    requires served { IsServed step }
+    requires cpu { 0 < world.old.parts.layout.config.cpus }
+    ensures layout { world.new.parts.layout ≡ world.old.parts.layout }
+{
+    assert_eq!(rt; world.step(0, step), Reply::Done(value));
+}
+
+#[test]
+fn makes_each_call(rt: HostRuntime) -> Result<(), Fail> {
+    let alloc = rt.alloc();
+    let map = memory(alloc, 0x40)?;
+    let config = Config {
+        cpus: 1,
+        log: 10,
+        geometry: 39,
+    };
+    let mut world = World::boot(alloc, alloc, &map, config)?;
+    assert!(rt; world.cpus() > 0);
+    let pfn = 0x40201;
+    let owned = Entry::Leaf {
+        frame: Frame(pfn),
+        prot: Prot::RWX,
+        kind: Kind::Normal,
+        state: State::Owned,
+    };
+    let borrowed = Entry::Leaf {
+        frame: Frame(pfn),
+        prot: Prot::RW,
+        kind: Kind::Normal,
+        state: State::SharedBorrowed,
+    };
+    let lent = Row {
+        owner: Owner(0),
+        lent: Some(Lent {
+            owner: Owner(1),
+            page: pfn + 0x400_0000,
+        }),
+        usage: Usage::Plain,
+    };
+    expect_reply(
+        &rt,
+        &mut world,
+        Step::HostAbort { page: 0x40300 },
+        Value::Nothing,
+    );
+    expect_reply(
+        &rt,
+        &mut world,
+        Step::HostTranslate { page: pfn },
+        Value::Entry(owned),
+    );
+    expect_reply(&rt, &mut world, Step::ShareHyp { pfn }, Value::Nothing);
+    expect_reply(
+        &rt,
+        &mut world,
+        Step::HypTranslate {
+            page: pfn + 0x400_0000,
+        },
+        Value::Entry(borrowed),
+    );
+    expect_reply(&rt, &mut world, Step::OwnerOf { pfn }, Value::Row(lent));
+    expect_reply(&rt, &mut world, Step::UnshareHyp { pfn }, Value::Nothing);
+    expect_reply(
+        &rt,
+        &mut world,
+        Step::DonateHyp { pfn, n: 512 },
+        Value::Nothing,
+    );
+    expect_reply(
+        &rt,
+        &mut world,
+        Step::HypDonateHost { pfn, n: 512 },
+        Value::Nothing,
+    );
+    expect_reply(&rt, &mut world, Step::Fund { pfn, n: 512 }, Value::Nothing);
+    expect_reply(&rt, &mut world, Step::Unfund, Value::Nothing);
     Ok(())
 }

@@ -1,6 +1,6 @@
 -- Each state of a run is legal, and what is asked of a layout holds of each that is accepted.
-use Rattle.std.proofs.Common.{◌≡◌, ℕ, suc, ◌+◌, ◌-◌, ◌*◌, ◌^◌, ◌≤◌, ◌<◌, refl, ap, sym, ◌∙◌, subst, arith, inl, inr, List, [], ◌∷◌, All, AllPairs, length, slice_index_or}
-use Rattle.std.specs.Prelude.{true, false, ◌&&◌, ◌==◌, ◌⊎◌, nat_le, find, Option, Some, None, IsSome}
+use Rattle.std.proofs.Common.{◌≡◌, ℕ, suc, ◌+◌, ◌-◌, ◌*◌, ◌^◌, ◌≤◌, ◌<◌, refl, ap, sym, ◌∙◌, subst, arith, inl, inr, List, [], ◌∷◌, All, AllPairs}
+use Rattle.std.specs.Prelude.{true, false, ◌&&◌, ◌==◌, ◌⊎◌, nat_le, Option, Some, None, IsSome}
 use Rattle.std.specs.List.{list_any}
 use Rattle.std.proofs.lemmas.Bool.Decides.{nat_tests}
 use Rattle.page_state.specs.declared.entry.PageRange.{PageRange}
@@ -20,6 +20,7 @@ use Rattle.reference_model.specs.Step.{Steps}
 use Rattle.reference_model.specs.Conditions.{Legal, IsUsable}
 use Rattle.reference_model.specs.RunLaws.{RunLegal, RunSound, RunRows, AcceptedUsable, AcceptedDepth, AcceptedMade}
 use Rattle.page_state.proofs.Accepted.{memory_below}
+use Rattle.page_state.proofs.Regions.{found-in, same-region, find-holds}
 use Rattle.std.proofs.Common.{mul-le-mul_right}
 use Rattle.page_state.proofs.Sizes.{size_some, size_split}
 use Rattle.page_state.proofs.Common.{both, and-both, eq-same}
@@ -30,33 +31,6 @@ use Rattle.reference_model.proofs.conditions.SoundOf.{legal_sound}
 
 -- regions
 
-found-in : (rs : List Region) (page : ℕ) (r : Region) → find (λ q. is_in_range q.pages page) rs ≡ Some r → (k : ℕ) × (k < length rs) × (slice_index_or rs k r ≡ r)
-found-in [] page r h = cc
-found-in (q ∷ rs) page r h = elim (both (is_in_range q.pages page)) [
-  | inl e ↦ let here : Some q ≡ Some r = rw e at h in (0, omega arith, cc)
-  | inr e ↦ let there : find (λ q. is_in_range q.pages page) rs ≡ Some r = rw e at h in let x = found-in rs page r there in let less = x.1 in (suc x.0, omega arith, x.2)
-]
-
--- a page of the region of another page has that region
-same-region : (rs : List Region) → AllPairs (λ a b. AreDisjoint a.pages b.pages) rs → (page p : ℕ) (r : Region) → find_region rs page ≡ Some r → is_in_range r.pages p ≡ true → find_region rs p ≡ Some r
-same-region [] apart page p r h w = cc
-same-region (q ∷ rs) apart page p r h w = elim (both (is_in_range q.pages page)) [
-  | inl e ↦
-      let here : Some q ≡ Some r = rw e at h in
-      let same : q ≡ r = cc in
-      let in_q : is_in_range q.pages p ≡ true = subst (λ (k : Region). is_in_range k.pages p ≡ true) (sym same) w in
-      rw in_q here
-  | inr e ↦
-      let there : find_region rs page ≡ Some r = rw e at h in
-      let rest : find_region rs p ≡ Some r = same-region rs (λ i j d a b. apart (suc i) (suc j) d (omega arith) (omega arith)) page p r there w in
-      let x = found-in rs page r there in
-      let less = x.1 in
-      elim (both (is_in_range q.pages p)) [
-        | inl k ↦ absurd (apart 0 (suc x.0) r (omega arith) (omega arith) p k (subst (λ (y : Region). is_in_range y.pages p ≡ true) (sym x.2) w))
-        | inr k ↦ rw k rest
-      ]
-]
-
 around-page : (range : PageRange) (r : Region) (p : ℕ) → is_memory_around range r ≡ true → is_in_range range p ≡ true → (is_memory_kind r.kind ≡ true) × (is_in_range r.pages p ≡ true)
 around-page range r p h w =
     let a = and-both (is_memory_kind r.kind && nat_le r.pages.first.0 range.first.0) (nat_le (end_of range) (end_of r.pages)) h in
@@ -65,13 +39,6 @@ around-page range r p h w =
   where
     within : (first count f n : ℕ) → nat_le first f ≡ true → nat_le (f + n) (first + count) ≡ true → is_in_range r.pages p ≡ true
     within first count f n a b = grind (arith, nat_tests)
-
-find-holds : (rs : List Region) (page : ℕ) (r : Region) → find_region rs page ≡ Some r → is_in_range r.pages page ≡ true
-find-holds [] page r h = cc
-find-holds (q ∷ rs) page r h = elim (both (is_in_range q.pages page)) [
-  | inl e ↦ let here : Some q ≡ Some r = rw e at h in let same : q ≡ r = cc in subst (λ (k : Region). is_in_range k.pages page ≡ true) same e
-  | inr e ↦ let there : find_region rs page ≡ Some r = rw e at h in find-holds rs page r there
-]
 
 memory-some : (o : Option Region) → is_memory_region o ≡ true → (r : Region) × (o ≡ Some r)
 memory-some (Some r) h = (r, refl)

@@ -1,8 +1,8 @@
 -- What a change does to one slot.
-use Rattle.std.specs.Prelude.{◌≡◌, ◌≢◌, ℕ, ◌+◌, ◌*◌, ◌%◌, ◌<◌, ◌≤◌, Bool, true, false, List, Some, None, drop, take, slice_set}
-use Rattle.descriptor.specs.Word.{desc_of}
+use Rattle.std.specs.Prelude.{◌≡◌, ◌≢◌, ℕ, ◌+◌, ◌*◌, ◌%◌, ◌<◌, ◌≤◌, Bool, true, false, List, Option, IfSome, Some, None, drop, take, slice_set}
+use Rattle.descriptor.specs.Word.{desc_of, CanBeSaid}
 use Rattle.page_state.specs.declared.entry.Entry.{Entry}
-use Rattle.page_state.specs.Entries.{advance, entry_of_word}
+use Rattle.page_state.specs.Entries.{advance, entry_of_word, word_of_entry}
 use Rattle.page_state.specs.EntryTests.{is_unmapped}
 use Rattle.page_state.specs.Search.{all_below}
 use Rattle.page_state.specs.Geometries.{block_pages}
@@ -18,6 +18,8 @@ use Rattle.table_tree.specs.Tight.{IsTight}
 use Rattle.walk_plan.specs.declared.change.Change.{Change}
 use Rattle.walk_plan.specs.Changes.{IsChange, changed_entry, stays_one_word}
 use Rattle.walk_plan.specs.inner.Needs.{slot_need, table_need}
+use Rattle.walker.specs.declared.open.Found.{Found}
+use Rattle.walker.specs.declared.open.Found.TheVariants.{Word as FoundWord, Opening}
 use Rattle.walk_plan.specs.inner.Ranks.{given_rank, slot_rank, table_rank, slot_gone, table_gone}
 
 -- a slot holds the word that gives part `k` of a block whose first page has the entry `x`
@@ -38,6 +40,17 @@ pub record IsOpening {A : Type 0} (depth : ℕ) (s : Slot A) (c : Change) : Type
   pub deep : 1 ≤ depth
   pub split : (w : ℕ) → s ≡ Word w → stays_one_word depth (entry_of_word (desc_of (level_at depth) w)) c ≡ false
   pub need : fresh s ≤ slot_need depth s c
+
+-- what the word of a slot gives the first page of its block; None where a child stands
+pub record IsFirst {A : Type 0} (depth : ℕ) (s : Slot A) (first : Option Entry) : Type 0 where
+  pub word : IfSome first (λ x. (w : ℕ) × (s ≡ Word w) × (x ≡ entry_of_word (desc_of (level_at depth) w)))
+  pub said : IfSome first (λ x. CanBeSaid (level_at depth) (word_of_entry x))
+  pub child : first ≡ None → HoldsWord s → ⊥
+
+-- what a look at slot `i` found
+abbrev pub IsFound : {A : Type 0} → ℕ → ℕ → Table A → Change → Found → Type 0
+IsFound depth i t c (FoundWord w) = IsRewritten depth i t c w
+IsFound depth i t c (Opening first) = IsOpening depth (slot_at t i) c × IsFirst depth (slot_at t i) first
 
 -- whether nothing is mapped after the change
 abbrev pub is_emptied : ℕ → (ℕ → Entry) → Change → Bool

@@ -1,6 +1,5 @@
 use Rattle.std.proofs.Common.{Ok, Err, Result, ◌≡◌, refl, ap, sym, ◌∙◌}
 use Rattle.hyp_pool.specs.declared.PoolFault.TheVariants.{NoPool, NoMemory}
-use Rattle.page_state.specs.Geometries.{levels_below}
 use Rattle.page_state.specs.LayoutView.{layout_of}
 use Rattle.hypercalls.proofs.Carried.{carried, short, halted, grows_by}
 use Rattle.hypercalls.proofs.carry.carry_out.Goals as goal
@@ -28,5 +27,5 @@ pub returns-in-Err-NoMemory-clause-carried : goal.returns-in-Err-NoMemory-clause
 returns-in-Err-NoMemory-clause-carried g c = λ step grows.
     halted (layout_of c.args.layout.now) c.args.id c.args.slot step c.args.changes.now c.requires.unfilled c.args.shared.now c.change_shared.new.shared c.args.cpu.now c.args.cpu.now
     (λ few. other (sym c.in-Err-NoMemory.field-0-is ∙ err_is (c.in-Err-NoMemory.ensures.no_pool.1 few)))
-    (grows_by (levels_below c.args.layout.now.geometry) c.args.changes.now step c.args.shared.now grows (λ r. let no = c.in-Err-NoMemory.ensures.nothing r in cc))
+    (grows_by c.args.changes.now step c.args.shared.now grows (c.in-Err-NoMemory.ensures.no_memory (ap (λ e. Err e) c.in-Err-NoMemory.field-0-is)))
     c.in-Err-NoMemory.ensures.err refl

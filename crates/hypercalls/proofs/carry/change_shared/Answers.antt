@@ -1,5 +1,5 @@
-use Rattle.std.proofs.Common.{◌≡◌, ◌<◌, ◌↔◌, List, length, Err, IsOk, sym, subst, arith, slice_index_or}
-use Rattle.hyp_pool.specs.declared.PoolFault.TheVariants.{NoPool}
+use Rattle.std.proofs.Common.{◌≡◌, ◌<◌, ◌↔◌, List, length, Err, sym, subst, arith}
+use Rattle.hyp_pool.specs.declared.PoolFault.TheVariants.{NoPool, NoMemory}
 use Rattle.page_state.specs.Geometries.{levels_below}
 use Rattle.guest_steps.specs.declared.parts.SharedPart.{SharedPart}
 use Rattle.guest_steps.specs.Lent.{Each, one}
@@ -18,11 +18,10 @@ returns-in-len1-clause-no_pool g c =
     let h = c.args.changes.now in
     subst (λ (ss : List (SharedPart _)). (c.change_part.result ≡ Err NoPool) ↔ (length (one no_shared shared_of ss).free < shared_need d h (one no_shared shared_of ss))) (sym (single c.args.shared.now _ (omega (arith, c.in-len1.len_at_least, c.in-len1.len_below)))) c.change_part.ensures.no_pool
 
-pub returns-in-len1-clause-nothing : goal.returns-in-len1-clause-nothing
-returns-in-len1-clause-nothing g c =
-    let d = levels_below c.args.layout.now.geometry in
+pub returns-in-len1-clause-no_memory : goal.returns-in-len1-clause-no_memory
+returns-in-len1-clause-no_memory g c =
     let h = c.args.changes.now in
-    subst (λ (ss : List (SharedPart _)). Each (IsRoomy d h) ss → IsOk c.change_part.result) (sym (single c.args.shared.now _ (omega (arith, c.in-len1.len_at_least, c.in-len1.len_below)))) (λ roomy. c.change_part.ensures.nothing roomy.0)
+    subst (λ (ss : List (SharedPart _)). c.change_part.result ≡ Err NoMemory → Each (IsRoomy h) ss → ⊥) (sym (single c.args.shared.now _ (omega (arith, c.in-len1.len_at_least, c.in-len1.len_below)))) (λ e roomy. c.change_part.ensures.no_memory e roomy.0)
 
 pub returns-in_default-clause-made : goal.returns-in_default-clause-made
 returns-in_default-clause-made g c = made_of_none (layout_of c.args.layout.now) c.args.id c.args.slot c.args.changes.now c.args.shared.now c.requires.lent (λ e. omega (arith, e, c.in_default.len_below))

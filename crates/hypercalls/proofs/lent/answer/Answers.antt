@@ -1,4 +1,4 @@
-use Rattle.std.proofs.Common.{sym, ap, subst, ◌∙◌}
+use Rattle.std.proofs.Common.{◌≡◌, ℕ, ◌<◌, ◌^◌, Option, None, Some, unwrap_or, refl, sym, ap, subst, arith, ◌∙◌}
 use Rattle.page_state.specs.LayoutView.{layout_of}
 use Rattle.reference_model.specs.declared.changes.Changes.{Changes}
 use Rattle.reference_model.specs.Parts.{names}
@@ -6,6 +6,13 @@ use Rattle.guest_steps.specs.Lent.{Each, lent, used_in}
 use Rattle.hypercalls.specs.Carried.{IsRoomy}
 use Rattle.hypercalls.proofs.Stepping.{only_lent, ok_is}
 use Rattle.hypercalls.proofs.lent.answer.Goals as goal
+
+slot_fits : (o : Option ℕ) → ((v : ℕ) → o ≡ Some v → v < 64) → unwrap_or o 0 < 2 ^ 32
+slot_fits None low = omega arith
+slot_fits (Some v) low = let less = low v refl in omega (arith, less)
+
+pub carry_out-requires-clause-slot : goal.carry_out-requires-clause-slot
+carry_out-requires-clause-slot g c = slot_fits c.args.slot c.requires.rely.slot_low
 
 pub carry_out-requires-clause-lent : goal.carry_out-requires-clause-lent
 carry_out-requires-clause-lent g c =
@@ -28,7 +35,7 @@ returns-in-Ok-clause-answered g c =
 pub returns-in-Ok-clause-wants : goal.returns-in-Ok-clause-wants
 returns-in-Ok-clause-wants g c = λ told h is roomy.
     let same = ok_is c.in-Ok.changes h (c.in-Ok.ensures.decided ∙ is) in
-    c.carry_out.ensures.wants told (subst (λ (k : Changes). Each (IsRoomy (layout_of c.args.layout.now).depth k) c.args.shared.now) (sym same) roomy)
+    c.carry_out.ensures.wants told (subst (λ (k : Changes). Each (IsRoomy k) c.args.shared.now) (sym same) roomy)
 
 pub returns-in-Err-clause-answered : goal.returns-in-Err-clause-answered
 returns-in-Err-clause-answered g c = c.answers.ensures.barred (layout_of c.args.layout.now) c.args.id c.args.slot c.args.step _ (used_in (lent c.args.vms.now c.args.shared.now c.args.guest.now c.args.cpu.now)) c.in-Err.why (sym c.in-Err.ensures.decided)

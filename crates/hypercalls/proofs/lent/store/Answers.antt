@@ -1,7 +1,19 @@
 use Rattle.std.proofs.Common.{ap, arith}
 use Rattle.guest_steps.specs.Lent.{lent, logs_in}
-use Rattle.hypercalls.proofs.Stepping.{any_parts, each_kept, shared_kept, size_kept, eq_with}
+use Rattle.hypercalls.proofs.Stepping.{any_parts, some_room, each_kept, shared_kept, size_kept, eq_with}
 use Rattle.hypercalls.proofs.lent.store.Goals as goal
+
+pub store_vms-requires : goal.store_vms-requires
+store_vms-requires g c = (c.requires.few.0, (any_parts (logs_in (lent c.args.vms.now c.args.shared.now c.args.guest.now c.args.cpu.now)) c.requires.room).1)
+
+pub store_shared-requires : goal.store_shared-requires
+store_shared-requires g c = (c.requires.few.1, (any_parts (logs_in (lent c.args.vms.now c.args.shared.now c.args.guest.now c.args.cpu.now)) c.requires.room).2)
+
+pub store_guest-requires : goal.store_guest-requires
+store_guest-requires g c = (c.requires.few.2, (any_parts (logs_in (lent c.args.vms.now c.args.shared.now c.args.guest.now c.args.cpu.now)) c.requires.room).3)
+
+pub store-requires : goal.store-requires
+store-requires g c = some_room c.args.cpu.now.log.room (any_parts (logs_in (lent c.args.vms.now c.args.shared.now c.args.guest.now c.args.cpu.now)) c.requires.room).0
 
 pub returns-clause-suits : goal.returns-clause-suits
 returns-clause-suits g c = λ l suits.

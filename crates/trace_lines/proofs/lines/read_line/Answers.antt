@@ -1,33 +1,34 @@
-use Rattle.std.proofs.Common.{rules, arith, refl, ap, not, ◌≡◌, ◌∷◌, [], ◌++◌, false, ◌==◌}
-use Rattle.std.proofs.lemmas.Bool.Decides.{nat_tests}
-use Rattle.trace_lines.proofs.KnownBytes.{consumes_none, consumes_both}
-use Rattle.trace_lines.proofs.LineLemmas.{read_end, read_last, read_long, plain-more}
+use Rattle.std.proofs.Common.{rules, arith, refl, ap, not}
+use Rattle.trace_lines.specs.Ahead.{held, left}
+use Rattle.trace_lines.proofs.Moved.{next_plain, next_bytes, ends_line, is_long, longer, is_last}
 use Rattle.trace_lines.proofs.lines.read_line.Goals as goal
 
-pub loop-init : goal.loop-init
-loop-init g c = rw c.clear.ensures.items (record { bytes = consumes_none (g.R.Read.remaining c.args.reader.now); plain = tt; length = refl })
+pub returns-then-is_empty-clause-ok : goal.returns-then-is_empty-clause-ok
+returns-then-is_empty-clause-ok g c =
+    let none = c.if-is_empty.ensures.none (search rules) in
+    is_last _ (left c.loop.ahead (g.S.Source.remaining c.loop.source)) (g.S.Source.remaining c.fill.new.source) (held c.fill.new.self) c.loop.line.items _
+    c.loop.invariant.bytes c.in-Ok.ensures.bytes none (c.in-Ok.ensures.end none) c.loop.invariant.plain c.loop.invariant.fits (ap not (search rules))
 
-pub returns-in-Some-eq10-clause-ok : goal.returns-in-Some-eq10-clause-ok
-returns-in-Some-eq10-clause-ok g c =
-    let byte = rw (c.in-Some-eq10.is, c.in-Some-eq10.field-0-test) at c.in_ok-read_byte.ensures.bytes in
-    read_end _ _ c.loop.line.items (consumes_both _ (g.R.Read.remaining c.loop.reader) _ c.loop.line.items (10 ∷ []) c.loop.invariant.bytes byte) c.loop.invariant.plain (omega arith)
+pub returns-in-Ok-true-clause-ok : goal.returns-in-Ok-true-clause-ok
+returns-in-Ok-true-clause-ok g c =
+    ends_line _ (left c.loop.ahead (g.S.Source.remaining c.loop.source)) (g.S.Source.remaining c.fill.new.source) c.in-Ok-true.field-0 (held c.fill.new.self) (held c.give.new.self) c.loop.line.items c.give.new.line.items
+    c.loop.invariant.bytes c.in-Ok.ensures.bytes c.loop.invariant.plain c.in-Ok-true.ensures c.in-Ok-true.field-0-test
 
-pub returns-in-None-clause-ok : goal.returns-in-None-clause-ok
-returns-in-None-clause-ok g c =
-    let none = rw c.in-None.is at c.in_ok-read_byte.ensures.bytes in
-    let end = rw c.in-None.is at c.in_ok-read_byte.ensures.end in
-    read_last _ (g.R.Read.remaining c.loop.reader) _ c.loop.line.items _ c.loop.invariant.bytes none end c.loop.invariant.plain (omega arith) (ap not (search rules))
+pub returns-then-len-gt-MOST_BYTES-clause-ok : goal.returns-then-len-gt-MOST_BYTES-clause-ok
+returns-then-len-gt-MOST_BYTES-clause-ok g c =
+    is_long _ (left c.loop.ahead (g.S.Source.remaining c.loop.source)) (g.S.Source.remaining c.fill.new.source) c.in-Ok-false.field-0 (held c.fill.new.self) (held c.give.new.self) c.loop.line.items c.give.new.line.items
+    c.loop.invariant.bytes c.in-Ok.ensures.bytes c.loop.invariant.plain c.in-Ok-false.ensures c.in-Ok-false.field-0-test (search (rules, arith))
 
 pub loop-preserved : goal.loop-preserved
 loop-preserved g c =
-    let byte = rw c.in-Some.is at c.in_ok-read_byte.ensures.bytes in
-    let items : c.push.new.self.items ≡ c.loop.line.items ++ c.in-Some.byte ∷ [] = c.in-Ok.ensures.items in
-    let other : (c.in-Some.byte == 10) ≡ false = grind (arith, nat_tests) in
-    rw items (record {
-      bytes = consumes_both _ (g.R.Read.remaining c.loop.reader) _ c.loop.line.items (c.in-Some.byte ∷ []) c.loop.invariant.bytes byte;
-      plain = plain-more c.loop.line.items c.in-Some.byte c.loop.invariant.plain other;
-      length = search rules;
-    })
-
-pub returns-clause-ok : goal.returns-clause-ok
-returns-clause-ok g c = read_long _ (g.R.Read.remaining c.loop.reader) _ c.loop.invariant.bytes c.loop.invariant.plain (omega arith)
+    let more = longer _ (left c.loop.ahead (g.S.Source.remaining c.loop.source)) (g.S.Source.remaining c.fill.new.source) c.in-Ok-false.field-0 (held c.fill.new.self) (held c.give.new.self) c.loop.line.items c.give.new.line.items
+    c.loop.invariant.bytes c.in-Ok.ensures.bytes c.loop.invariant.plain c.in-Ok-false.ensures c.in-Ok-false.field-0-test in
+    record {
+      bytes = next_bytes _ (left c.loop.ahead (g.S.Source.remaining c.loop.source)) (g.S.Source.remaining c.fill.new.source) c.in-Ok-false.field-0 (held c.fill.new.self) (held c.give.new.self) c.loop.line.items c.give.new.line.items
+          c.loop.invariant.bytes c.in-Ok.ensures.bytes c.loop.invariant.plain c.in-Ok-false.ensures c.in-Ok-false.field-0-test;
+      plain = next_plain _ (left c.loop.ahead (g.S.Source.remaining c.loop.source)) (g.S.Source.remaining c.fill.new.source) c.in-Ok-false.field-0 (held c.fill.new.self) (held c.give.new.self) c.loop.line.items c.give.new.line.items
+          c.loop.invariant.bytes c.in-Ok.ensures.bytes c.loop.invariant.plain c.in-Ok-false.ensures;
+      fits = search (rules, arith);
+      grows = omega (arith, more, c.loop.invariant.grows);
+      counted = search rules;
+    }

@@ -1,11 +1,14 @@
-use Rattle.std.proofs.Common.{◌≤◌}
-use Rattle.trace_text.specs.Session.{standing_of}
+use Rattle.std.proofs.Common.{◌≡◌, ◌≤◌}
+use Rattle.trace_lines.specs.Ahead.{left}
+use Rattle.trace_text.specs.View.{standing_of}
 use Rattle.trace_text.proofs.ReplayLemmas.{SoFar}
 use Rattle.trace_text.proofs.trace.replay.Given as goal
 
 abbrev pub invariant-loop-number : goal.invariant-loop-number
 invariant-loop-number g l =
     record {
-      so_far : SoFar (g.R.Read.remaining l.fn.reader) (g.R.Read.remaining l.reader) (g.W.Write.contents l.fn.writer) (g.W.Write.contents l.writer) l.number (standing_of l.session);
+      so_far : SoFar (g.S.Source.remaining l.fn.source) (left l.ahead (g.S.Source.remaining l.source)) (g.K.Sink.contents l.fn.sink) (g.K.Sink.contents l.sink) l.number (standing_of l.session);
       steps : l.session.steps ≤ l.number;
+      reads : g.S.Source.failures l.source ≡ g.S.Source.failures l.fn.source;
+      writes : g.K.Sink.failures l.sink ≡ g.K.Sink.failures l.fn.sink;
     }

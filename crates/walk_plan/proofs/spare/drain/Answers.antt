@@ -26,6 +26,9 @@ loop-table-preserved g c =
     record {
       frames = ap (all_given fs) given ∙ given_through c.given_in_any_order.ensures.swap fs x p ∙ ap (λ l. all_given l p) (sym frames) ∙ c.loop-table.invariant.frames;
       room = c.give.ensures.room ∙ c.loop-table.invariant.room;
+      spares = omega (arith, ap length frames, c.keep_spare.ensures.spares, c.loop-table.invariant.spares);
+      geometry = c.keep_spare.ensures.geometry ∙ c.loop-table.invariant.geometry;
+      table = c.keep_spare.ensures.table ∙ c.loop-table.invariant.table;
       distinct = λ f. omega (arith, ap (frame_count f) frames ∙ count_next f x fs, ap (frame_count f) given ∙ c.given_one.ensures.count x f p ∙ count_next f x p, c.loop-table.invariant.distinct f);
       covered = omega (arith, ap length frames, ap length given ∙ c.given_one.ensures.length x p, c.give.ensures.room, c.loop-table.invariant.covered);
     }

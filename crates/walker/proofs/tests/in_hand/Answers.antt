@@ -1,13 +1,22 @@
-use Rattle.std.proofs.Common.{◌≡◌, ap, arith, take, drop, length}
+use Rattle.std.proofs.Common.{◌≡◌, ap, sym, ◌∙◌, arith, take, drop, length}
 use Rattle.page_state.specs.Tables.{put, need}
 use Rattle.page_state.specs.Geometries.{levels_below}
 use Rattle.page_state.specs.Counts.{frame_count}
 use Rattle.page_state.proofs.Counts.{count_parts}
 use Rattle.table_tree.specs.Stocks.{frames_of}
 use Rattle.table_tree.specs.View.{tree_of}
+use Rattle.table_tree.proofs.Same.{same_uses, same_count, by_views}
 use Rattle.table_tree.proofs.Sums.{tree_some}
-use Rattle.walk_plan.proofs.Given.{take_drop_length}
+use Rattle.walk_plan.proofs.Given.{take_drop_length, take_length}
 use Rattle.walker.proofs.tests.in_hand.Goals as goal
+
+pub returns-clause-just : goal.returns-clause-just
+returns-clause-just g c =
+    let t = c.args.bench.now.tree in
+    let u = c.reserve.new.tree in
+    let e = put c.args.range.first.0 c.args.range.count c.args.entry in
+    let same : need (levels_below u.geometry) (tree_of u) e ≡ need (levels_below t.geometry) (tree_of t) e = by_views u t c.reserve.ensures.geometry c.reserve.ensures.table (λ x y. need (levels_below x) y e) in
+    ap length c.in_ok-spare.ensures.spare ∙ take_length (need (levels_below t.geometry) (tree_of t) e) c.args.bench.now.pool.frames c.in_ok-spare.ensures.enough ∙ sym same
 
 pub returns-clause-distinct : goal.returns-clause-distinct
 returns-clause-distinct g c f =
@@ -16,7 +25,16 @@ returns-clause-distinct g c f =
     let n = need (levels_below t.geometry) (tree_of t) (put c.args.range.first.0 c.args.range.count c.args.entry) in
     let a : frame_count f (frames_of c.in_ok-spare.spare.stock) ≡ frame_count f (take n p) = ap (frame_count f) c.in_ok-spare.ensures.spare in
     let b : frame_count f c.reserve.new.pool.frames ≡ frame_count f (drop n p) = ap (frame_count f) c.in_ok-spare.ensures.pool in
-    omega (arith, a, b, count_parts f n p, c.requires.distinct f)
+    omega (arith, a, b, count_parts f n p, c.requires.distinct f, same_uses c.reserve.new.tree t c.reserve.ensures.geometry c.reserve.ensures.table f)
+
+pub returns-clause-covered : goal.returns-clause-covered
+returns-clause-covered g c =
+    let t = c.args.bench.now.tree in
+    let p = c.args.bench.now.pool.frames in
+    let n = need (levels_below t.geometry) (tree_of t) (put c.args.range.first.0 c.args.range.count c.args.entry) in
+    let a : length (frames_of c.in_ok-spare.spare.stock) ≡ length (take n p) = ap length c.in_ok-spare.ensures.spare in
+    let b : length c.reserve.new.pool.frames ≡ length (drop n p) = ap length c.in_ok-spare.ensures.pool in
+    omega (arith, a, b, take_drop_length n p, c.requires.covered, c.reserve.ensures.room, same_count c.reserve.new.tree t c.reserve.ensures.geometry c.reserve.ensures.table)
 
 pub returns-clause-room : goal.returns-clause-room
 returns-clause-room g c =

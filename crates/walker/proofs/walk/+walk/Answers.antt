@@ -24,23 +24,23 @@ set_slot-is_spent-requires-clause-wide g t c = rw c.deref.ensures (shaped_wide (
 
 pub set_slot-is_spent-requires-clause-kept : goal.set_slot-is_spent-requires-clause-kept
 set_slot-is_spent-requires-clause-kept g t c blank =
-    blank_entry (c.args.depth - 1) c.set_all.new.table (entry_at (c.args.depth - 1) c.deref_mut.result.now) c.args.change (let k : 1 ≤ c.args.depth = (c.in_default.ensures.rest refl).deep in change_below c.args.depth c.args.change k c.requires.change_in) (rw c.deref.ensures at blank) c.set_all.ensures.map
+    blank_entry (c.args.depth - 1) c.set_all.new.table (entry_at (c.args.depth - 1) c.deref_mut.result.now) c.args.change (let k : 1 ≤ c.args.depth = (c.in-Opening.ensures.found.0).deep in change_below c.args.depth c.args.change k c.requires.change_in) (rw c.deref.ensures at blank) c.set_all.ensures.map
 
 pub set_slot-push-requires-clause-wide : goal.set_slot-push-requires-clause-wide
 set_slot-push-requires-clause-wide g t c = shaped_wide (c.args.depth - 1) c.set_all.new.table c.set_all.ensures.shape
 
 pub set_slot-attach-requires-clause-wide : goal.set_slot-attach-requires-clause-wide
-set_slot-attach-requires-clause-wide g t c = set_wide c.args.table.now c.opened-child.new.table c.args.i (Word 0) c.opened-child.ensures.opened.slots (shaped_wide c.args.depth c.args.table.now c.requires.shape)
+set_slot-attach-requires-clause-wide g t c = set_wide c.args.table.now c.opened-child.new.table c.args.i (Word 0) c.opened-child.ensures.slots (shaped_wide c.args.depth c.args.table.now c.requires.shape)
 
 pub set_slot-attach-requires-clause-holds : goal.set_slot-attach-requires-clause-holds
-set_slot-attach-requires-clause-holds g t c = (0, set_here c.args.table.now c.opened-child.new.table c.args.i c.args.i (Word 0) c.opened-child.ensures.opened.slots c.requires.index_in (shaped_wide c.args.depth c.args.table.now c.requires.shape) refl)
+set_slot-attach-requires-clause-holds g t c = (0, set_here c.args.table.now c.opened-child.new.table c.args.i c.args.i (Word 0) c.opened-child.ensures.slots c.requires.index_in (shaped_wide c.args.depth c.args.table.now c.requires.shape) refl)
 
 pub set_slot-returns-then-is_spent-clause-map : goal.set_slot-returns-then-is_spent-clause-map
 set_slot-returns-then-is_spent-clause-map g t c =
     let n = c.args.depth in
-    let opening = c.in_default.ensures.rest refl in
+    let opening = c.in-Opening.ensures.found.0 in
     let o : n - 1 + 1 ≡ n = let k : 1 ≤ n = opening.deep in omega arith in
-    let opened = c.opened-child.ensures.opened in
+    let opened = c.opened-child.ensures in
     let ready = opened.ready c.args.change (subst (λ m. IsChange m c.args.change) (sym o) c.requires.change_in) (subst (λ m. IsOpening m (slot_at c.args.table.now c.args.i) c.args.change) (sym o) opening) in
     let grown : IsGrown (n - 1) c.opened-child.result.value c.set_all.new.table c.args.change (frames_of c.opened-child.new.spare) (frames_of c.set_all.new.spare) = record {
       frame = rw c.deref_mut.ensures.value at c.set_all.ensures.frame;
@@ -56,9 +56,9 @@ set_slot-returns-then-is_spent-clause-map g t c =
 pub set_slot-returns-then-is_spent-clause-kept : goal.set_slot-returns-then-is_spent-clause-kept
 set_slot-returns-then-is_spent-clause-kept g t c =
     let n = c.args.depth in
-    let opening = c.in_default.ensures.rest refl in
+    let opening = c.in-Opening.ensures.found.0 in
     let o : n - 1 + 1 ≡ n = let k : 1 ≤ n = opening.deep in omega arith in
-    let opened = c.opened-child.ensures.opened in
+    let opened = c.opened-child.ensures in
     let ready = opened.ready c.args.change (subst (λ m. IsChange m c.args.change) (sym o) c.requires.change_in) (subst (λ m. IsOpening m (slot_at c.args.table.now c.args.i) c.args.change) (sym o) opening) in
     let grown : IsGrown (n - 1) c.opened-child.result.value c.set_all.new.table c.args.change (frames_of c.opened-child.new.spare) (frames_of c.set_all.new.spare) = record {
       frame = rw c.deref_mut.ensures.value at c.set_all.ensures.frame;
@@ -74,9 +74,9 @@ set_slot-returns-then-is_spent-clause-kept g t c =
 pub set_slot-returns-then-is_spent-clause-uses : goal.set_slot-returns-then-is_spent-clause-uses
 set_slot-returns-then-is_spent-clause-uses g t c =
     let n = c.args.depth in
-    let opening = c.in_default.ensures.rest refl in
+    let opening = c.in-Opening.ensures.found.0 in
     let o : n - 1 + 1 ≡ n = let k : 1 ≤ n = opening.deep in omega arith in
-    let opened = c.opened-child.ensures.opened in
+    let opened = c.opened-child.ensures in
     let ready = opened.ready c.args.change (subst (λ m. IsChange m c.args.change) (sym o) c.requires.change_in) (subst (λ m. IsOpening m (slot_at c.args.table.now c.args.i) c.args.change) (sym o) opening) in
     let grown : IsGrown (n - 1) c.opened-child.result.value c.set_all.new.table c.args.change (frames_of c.opened-child.new.spare) (frames_of c.set_all.new.spare) = record {
       frame = rw c.deref_mut.ensures.value at c.set_all.ensures.frame;
@@ -92,9 +92,9 @@ set_slot-returns-then-is_spent-clause-uses g t c =
 pub set_slot-returns-then-is_spent-clause-freed : goal.set_slot-returns-then-is_spent-clause-freed
 set_slot-returns-then-is_spent-clause-freed g t c f =
     let n = c.args.depth in
-    let opening = c.in_default.ensures.rest refl in
+    let opening = c.in-Opening.ensures.found.0 in
     let o : n - 1 + 1 ≡ n = let k : 1 ≤ n = opening.deep in omega arith in
-    let opened = c.opened-child.ensures.opened in
+    let opened = c.opened-child.ensures in
     let ready = opened.ready c.args.change (subst (λ m. IsChange m c.args.change) (sym o) c.requires.change_in) (subst (λ m. IsOpening m (slot_at c.args.table.now c.args.i) c.args.change) (sym o) opening) in
     let grown : IsGrown (n - 1) c.opened-child.result.value c.set_all.new.table c.args.change (frames_of c.opened-child.new.spare) (frames_of c.set_all.new.spare) = record {
       frame = rw c.deref_mut.ensures.value at c.set_all.ensures.frame;
@@ -110,9 +110,9 @@ set_slot-returns-then-is_spent-clause-freed g t c f =
 pub set_slot-returns-then-is_spent-clause-tables : goal.set_slot-returns-then-is_spent-clause-tables
 set_slot-returns-then-is_spent-clause-tables g t c =
     let n = c.args.depth in
-    let opening = c.in_default.ensures.rest refl in
+    let opening = c.in-Opening.ensures.found.0 in
     let o : n - 1 + 1 ≡ n = let k : 1 ≤ n = opening.deep in omega arith in
-    let opened = c.opened-child.ensures.opened in
+    let opened = c.opened-child.ensures in
     let ready = opened.ready c.args.change (subst (λ m. IsChange m c.args.change) (sym o) c.requires.change_in) (subst (λ m. IsOpening m (slot_at c.args.table.now c.args.i) c.args.change) (sym o) opening) in
     let grown : IsGrown (n - 1) c.opened-child.result.value c.set_all.new.table c.args.change (frames_of c.opened-child.new.spare) (frames_of c.set_all.new.spare) = record {
       frame = rw c.deref_mut.ensures.value at c.set_all.ensures.frame;
@@ -127,16 +127,16 @@ set_slot-returns-then-is_spent-clause-tables g t c =
 
 pub set_slot-returns-then-is_spent-clause-reads : goal.set_slot-returns-then-is_spent-clause-reads
 set_slot-returns-then-is_spent-clause-reads g t c =
-    let k : 1 ≤ c.args.depth = (c.in_default.ensures.rest refl).deep in
-    let r = child_reads c.args.depth (count_of c.opened-child.new.reads) (count_of c.set_all.new.reads) c.args.change k c.set_all.ensures.reads c.set_all.ensures.whole in
-    omega (arith, r, c.is_spent.ensures.reads, c.opened-child.ensures.reads, c.in_default.ensures.reads)
+    let k : 1 ≤ c.args.depth = (c.in-Opening.ensures.found.0).deep in
+    let r = child_reads c.args.depth (count_of c.look_for.new.reads) (count_of c.set_all.new.reads) c.args.change k c.set_all.ensures.reads c.set_all.ensures.whole in
+    omega (arith, r, c.is_spent.ensures.reads, c.in-Opening.ensures.reads)
 
 pub set_slot-returns-else-is_spent-clause-kept : goal.set_slot-returns-else-is_spent-clause-kept
 set_slot-returns-else-is_spent-clause-kept g t c =
     let n = c.args.depth in
-    let opening = c.in_default.ensures.rest refl in
+    let opening = c.in-Opening.ensures.found.0 in
     let o : n - 1 + 1 ≡ n = let k : 1 ≤ n = opening.deep in omega arith in
-    let opened = c.opened-child.ensures.opened in
+    let opened = c.opened-child.ensures in
     let ready = opened.ready c.args.change (subst (λ m. IsChange m c.args.change) (sym o) c.requires.change_in) (subst (λ m. IsOpening m (slot_at c.args.table.now c.args.i) c.args.change) (sym o) opening) in
     let grown : IsGrown (n - 1) c.opened-child.result.value c.set_all.new.table c.args.change (frames_of c.opened-child.new.spare) (frames_of c.set_all.new.spare) = record {
       frame = rw c.deref_mut.ensures.value at c.set_all.ensures.frame;
@@ -152,9 +152,9 @@ set_slot-returns-else-is_spent-clause-kept g t c =
 pub set_slot-returns-else-is_spent-clause-uses : goal.set_slot-returns-else-is_spent-clause-uses
 set_slot-returns-else-is_spent-clause-uses g t c =
     let n = c.args.depth in
-    let opening = c.in_default.ensures.rest refl in
+    let opening = c.in-Opening.ensures.found.0 in
     let o : n - 1 + 1 ≡ n = let k : 1 ≤ n = opening.deep in omega arith in
-    let opened = c.opened-child.ensures.opened in
+    let opened = c.opened-child.ensures in
     let ready = opened.ready c.args.change (subst (λ m. IsChange m c.args.change) (sym o) c.requires.change_in) (subst (λ m. IsOpening m (slot_at c.args.table.now c.args.i) c.args.change) (sym o) opening) in
     let grown : IsGrown (n - 1) c.opened-child.result.value c.set_all.new.table c.args.change (frames_of c.opened-child.new.spare) (frames_of c.set_all.new.spare) = record {
       frame = rw c.deref_mut.ensures.value at c.set_all.ensures.frame;
@@ -170,9 +170,9 @@ set_slot-returns-else-is_spent-clause-uses g t c =
 pub set_slot-returns-else-is_spent-clause-freed : goal.set_slot-returns-else-is_spent-clause-freed
 set_slot-returns-else-is_spent-clause-freed g t c f =
     let n = c.args.depth in
-    let opening = c.in_default.ensures.rest refl in
+    let opening = c.in-Opening.ensures.found.0 in
     let o : n - 1 + 1 ≡ n = let k : 1 ≤ n = opening.deep in omega arith in
-    let opened = c.opened-child.ensures.opened in
+    let opened = c.opened-child.ensures in
     let ready = opened.ready c.args.change (subst (λ m. IsChange m c.args.change) (sym o) c.requires.change_in) (subst (λ m. IsOpening m (slot_at c.args.table.now c.args.i) c.args.change) (sym o) opening) in
     let grown : IsGrown (n - 1) c.opened-child.result.value c.set_all.new.table c.args.change (frames_of c.opened-child.new.spare) (frames_of c.set_all.new.spare) = record {
       frame = rw c.deref_mut.ensures.value at c.set_all.ensures.frame;
@@ -188,9 +188,9 @@ set_slot-returns-else-is_spent-clause-freed g t c f =
 pub set_slot-returns-else-is_spent-clause-tables : goal.set_slot-returns-else-is_spent-clause-tables
 set_slot-returns-else-is_spent-clause-tables g t c =
     let n = c.args.depth in
-    let opening = c.in_default.ensures.rest refl in
+    let opening = c.in-Opening.ensures.found.0 in
     let o : n - 1 + 1 ≡ n = let k : 1 ≤ n = opening.deep in omega arith in
-    let opened = c.opened-child.ensures.opened in
+    let opened = c.opened-child.ensures in
     let ready = opened.ready c.args.change (subst (λ m. IsChange m c.args.change) (sym o) c.requires.change_in) (subst (λ m. IsOpening m (slot_at c.args.table.now c.args.i) c.args.change) (sym o) opening) in
     let grown : IsGrown (n - 1) c.opened-child.result.value c.set_all.new.table c.args.change (frames_of c.opened-child.new.spare) (frames_of c.set_all.new.spare) = record {
       frame = rw c.deref_mut.ensures.value at c.set_all.ensures.frame;
@@ -205,16 +205,16 @@ set_slot-returns-else-is_spent-clause-tables g t c =
 
 pub set_slot-returns-else-is_spent-clause-reads : goal.set_slot-returns-else-is_spent-clause-reads
 set_slot-returns-else-is_spent-clause-reads g t c =
-    let k : 1 ≤ c.args.depth = (c.in_default.ensures.rest refl).deep in
-    let r = child_reads c.args.depth (count_of c.opened-child.new.reads) (count_of c.set_all.new.reads) c.args.change k c.set_all.ensures.reads c.set_all.ensures.whole in
-    omega (arith, r, c.is_spent.ensures.reads, c.opened-child.ensures.reads, c.in_default.ensures.reads)
+    let k : 1 ≤ c.args.depth = (c.in-Opening.ensures.found.0).deep in
+    let r = child_reads c.args.depth (count_of c.look_for.new.reads) (count_of c.set_all.new.reads) c.args.change k c.set_all.ensures.reads c.set_all.ensures.whole in
+    omega (arith, r, c.is_spent.ensures.reads, c.in-Opening.ensures.reads)
 
 pub set_slot-returns-then-is_spent-clause-spare : goal.set_slot-returns-then-is_spent-clause-spare
 set_slot-returns-then-is_spent-clause-spare g t c =
     let n = c.args.depth in
-    let opening = c.in_default.ensures.rest refl in
+    let opening = c.in-Opening.ensures.found.0 in
     let o : n - 1 + 1 ≡ n = let k : 1 ≤ n = opening.deep in omega arith in
-    let opened = c.opened-child.ensures.opened in
+    let opened = c.opened-child.ensures in
     let ready = opened.ready c.args.change (subst (λ m. IsChange m c.args.change) (sym o) c.requires.change_in) (subst (λ m. IsOpening m (slot_at c.args.table.now c.args.i) c.args.change) (sym o) opening) in
     let grown : IsGrown (n - 1) c.opened-child.result.value c.set_all.new.table c.args.change (frames_of c.opened-child.new.spare) (frames_of c.set_all.new.spare) = record {
       frame = rw c.deref_mut.ensures.value at c.set_all.ensures.frame;
@@ -230,9 +230,9 @@ set_slot-returns-then-is_spent-clause-spare g t c =
 pub set_slot-returns-else-is_spent-clause-spare : goal.set_slot-returns-else-is_spent-clause-spare
 set_slot-returns-else-is_spent-clause-spare g t c =
     let n = c.args.depth in
-    let opening = c.in_default.ensures.rest refl in
+    let opening = c.in-Opening.ensures.found.0 in
     let o : n - 1 + 1 ≡ n = let k : 1 ≤ n = opening.deep in omega arith in
-    let opened = c.opened-child.ensures.opened in
+    let opened = c.opened-child.ensures in
     let ready = opened.ready c.args.change (subst (λ m. IsChange m c.args.change) (sym o) c.requires.change_in) (subst (λ m. IsOpening m (slot_at c.args.table.now c.args.i) c.args.change) (sym o) opening) in
     let grown : IsGrown (n - 1) c.opened-child.result.value c.set_all.new.table c.args.change (frames_of c.opened-child.new.spare) (frames_of c.set_all.new.spare) = record {
       frame = rw c.deref_mut.ensures.value at c.set_all.ensures.frame;

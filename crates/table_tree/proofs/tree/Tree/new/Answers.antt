@@ -2,7 +2,7 @@ use Rattle.std.proofs.Common.{◌∙◌, ap, arith}
 use Rattle.table_tree.specs.Meaning.{frame_of}
 use Rattle.page_state.specs.Geometries.{levels_below}
 use Rattle.page_state.specs.Counts.{is_one}
-use Rattle.table_tree.specs.View.{root_of, uses, tables_of}
+use Rattle.table_tree.specs.View.{root_of, uses, tables_of, spares_of}
 use Rattle.table_tree.proofs.Steps.{blank_shaped, blank_words}
 use Rattle.table_tree.proofs.Sums.{words_tables, words_uses, one_most}
 use Rattle.table_tree.proofs.Views.{meaning_is, map_blank, standing_blank}
@@ -28,3 +28,7 @@ returns-clause-tables g c = words_tables (levels_below c.args.geometry) c.in_ok-
 
 pub returns-clause-standing : goal.returns-clause-standing
 returns-clause-standing g c = λ depth number. standing_blank _ c.args.root.0 depth number c.in_ok-table.ensures.blank c.in_ok-table.ensures.frame
+
+pub returns-clause-spares : goal.returns-clause-spares
+unfolding spares_of
+returns-clause-spares g c = c.new-2.ensures

@@ -1,0 +1,42 @@
+//! The host shares a frame with the hypervisor.
+ghost use Rattle.std.specs.Prelude.{◌≡◌, ℕ, None, IfOk};
+ghost use Rattle.guest_steps.specs.View.{shared_of};
+ghost use Rattle.hypercalls.specs.Carried.{IsUnfilled};
+ghost use Rattle.page_state.specs.LayoutView.{layout_of};
+ghost use Rattle.reference_model.specs.Answers.{decides};
+ghost use Rattle.reference_model.specs.State.{Cpu};
+ghost use Rattle.reference_model.specs.Used.{used_alone};
+ghost use Rattle.page_state.specs.declared.step.Step.TheVariants.{ShareHyp};
+
+use super::change;
+use crate::pages::{hyp_page, is_free_page, is_mapped, leaf};
+use guest_steps::SharedPart;
+use page_state::{Layout, Page, Prot, Refusal, State};
+use reference_model::Changes;
+use std::alloc::Allocator;
+
+/// The host shares a frame with the hypervisor: its page must be free to give, and the hypervisor's page of the frame
+/// unmapped.
+#[tactic(auto, unfolding(reference_model::specs::Rules::rule))]
+pub(crate) fn decide_share_hyp<A: Allocator>(
+    layout: &Layout,
+    shared: &SharedPart<A>,
+    pfn: u64,
+) -> Result<Changes, Refusal>
+    ensures decided { (cpu : ℕ) (k : Cpu) → result ≡ decides (layout_of layout.now) cpu None (ShareHyp pfn) (used_alone (shared_of shared.now) k) }
+    ensures unfilled { IfOk result IsUnfilled }
+{
+    if !layout.map.is_memory(Page(pfn)) {
+        return Err(Refusal::Invalid);
+    }
+    if !is_free_page(shared.host.translate(Page(pfn)))
+        || is_mapped(shared.hyp.translate(hyp_page(pfn)))
+    {
+        return Err(Refusal::Perm);
+    }
+    Ok(Changes {
+        host: change(Page(pfn), 1, leaf(pfn, Prot::RWX, State::SharedOwned)),
+        hyp: change(hyp_page(pfn), 1, leaf(pfn, Prot::RW, State::SharedBorrowed)),
+        ..Changes::NONE
+    })
+}

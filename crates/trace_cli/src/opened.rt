@@ -1,0 +1,87 @@
+//! What is asked of the program, once its words are read and its file is opened; the exit status.
+ghost use Rattle.std.specs.Prelude.{◌≡◌, ◌≤◌};
+ghost use Rattle.trace_cli.specs.Status.{HasCleanReport, HasStatus};
+
+use crate::command::UsageFault;
+use crate::exit_status::exit_status;
+use std::io;
+use trace_text::{EngineFault, Stopped, replay_buffered};
+
+/// The status where the words are refused or the file can't be opened.
+const REFUSED: u8 = 2;
+
+/// The status of a fault that no report tells of.
+pub const FAILED: u8 = 1;
+
+/// A trace to be replayed: its path, and what came of opening it.
+#[derive(Drop)]
+pub struct Opened<'a, F> {
+    pub path: &'a str,
+    pub file: Result<F, io::Error>,
+}
+
+/// Does what was asked, tells on standard error what no report tells, and gives the exit status.
+pub fn status_of<R: AllocGlobal + Print + Eprint, F: io::Read + Drop>(
+    rt: &R,
+    asked: Result<Opened<'_, F>, UsageFault>,
+) -> u8
+    ensures { HasStatus F.remaining asked.entry result }
+{
+    match asked {
+        Ok(
+            Opened {
+                path,
+                file: Ok(file),
+            },
+        ) => replay_file(rt, path, file),
+        Ok(
+            Opened {
+                path,
+                file: Err(error),
+            },
+        ) => {
+            let _ = eprintln!(rt; "trace_cli: {path}: {error}");
+            REFUSED
+        }
+        Err(UsageFault::Usage(error)) => {
+            let _ = rt.eprint(error);
+            REFUSED
+        }
+        Err(UsageFault::NoMemory) => {
+            let _ = eprintln!(rt; "trace_cli: out of memory");
+            FAILED
+        }
+    }
+}
+
+/// Replays an opened trace, and writes its report to standard output, whose bytes no contract knows.
+fn replay_file<R: AllocGlobal + Print + Eprint, F: io::Read + Drop>(
+    rt: &R,
+    path: &str,
+    file: F,
+) -> u8
+    ensures most { result ≤ 1 }
+    ensures clean { result ≡ 0 → HasCleanReport (F.remaining file) }
+{
+    let global = rt.alloc();
+    match replay_buffered(global, global, file, io::writer(rt)) {
+        Ok((outcome, _printer)) => exit_status(Ok(outcome)),
+        Err(stopped) => {
+            tell(rt, path, &stopped);
+            exit_status(Err(stopped.fault))
+        }
+    }
+}
+
+/// Tells on standard error why a replay stopped.
+fn tell<R: Eprint>(rt: &R, path: &str, stopped: &Stopped) {
+    let place = if stopped.fault == EngineFault::Write {
+        "standard output"
+    } else {
+        path
+    };
+    let _ = match &stopped.cause {
+        Some(cause) => eprintln!(rt; "trace_cli: {place}: {cause}"),
+        None => eprintln!(rt; "trace_cli: {place}: {}", stopped.fault),
+    };
+}

@@ -1,0 +1,102 @@
+//! What a trace is read from.
+ghost use Rattle.std.specs.Prelude.{ℕ, ◌≡◌, ◌<◌, ◌^◌, List, Option};
+ghost use Rattle.std.specs.Io.{ReadsAtMost};
+ghost use Rattle.std.specs.Io.KnownBytes.{ReadConsumes};
+ghost use Rattle.trace_lines.specs.Devices.{Counts};
+
+use std::io::{Error, ErrorKind, Read};
+
+/// The most tries of one read or write, where each of them is interrupted.
+const MOST_TRIES: usize = 1 << 32;
+
+/// A read or a write failed, which the device has counted.
+#[derive(Clone, Copy, PartialEq, Debug)]
+pub struct Failed;
+
+/// What a trace is read from. It counts its failures.
+pub trait Source {
+    /// The bytes that reads will give from here on, where they are known.
+    ghost remaining: { Self → Option (List ℕ) };
+
+    /// How many reads have failed.
+    ghost failures: { Self → ℕ };
+
+    /// Reads bytes into the front of a chunk, and tells how many: none only at the end, or where the chunk has no room.
+    fn read(&mut self, chunk: &mut [u8]) -> Result<usize, Failed>
+        requires few { failures self.old < 2 ^ 63 }
+        ensures bound { ReadsAtMost result chunk.new }
+        ensures bytes { ReadConsumes (remaining self.old) (remaining self.new) result chunk.new }
+        ensures counted { Counts (failures self.old) (failures self.new) result };
+}
+
+/// A reader of std as a source. It keeps why it failed last.
+#[derive(Drop)]
+pub struct Reading<R: Read> {
+    reader: R,
+    failed: u64,
+    cause: Option<Error>,
+}
+
+impl<R: Read> Reading<R> {
+    ghost use Rattle.trace_lines.specs.Readers.{reader_in, failed_reads};
+
+    /// A reader that hasn't failed.
+    pub fn new(reader: R) -> Reading<R>
+        ensures reader { reader_in result ≡ reader }
+        ensures failures { failed_reads result ≡ 0 }
+    {
+        Reading {
+            reader,
+            failed: 0,
+            cause: None,
+        }
+    }
+
+    /// Why the last read failed that did.
+    pub fn into_cause(self) -> Option<Error>
+    where
+        R: Drop,
+    {
+        let Reading {
+            reader: _reader,
+            failed: _,
+            cause,
+        } = self;
+        cause
+    }
+}
+
+impl<R: Read> Source for Reading<R> {
+    ghost remaining = { λ r. R.remaining r.reader };
+
+    ghost failures = { λ r. r.failed };
+
+    fn read(&mut self, chunk: &mut [u8]) -> Result<usize, Failed> {
+        match read_uninterrupted(&mut self.reader, chunk) {
+            Ok(count) => Ok(count),
+            Err(error) => {
+                self.failed += 1;
+                self.cause = Some(error);
+                Err(Failed)
+            }
+        }
+    }
+}
+
+/// Reads, and again where a read was interrupted.
+fn read_uninterrupted<R: Read>(reader: &mut R, chunk: &mut [u8]) -> Result<usize, Error>
+    ensures bound { ReadsAtMost result chunk.new }
+    ensures bytes { ReadConsumes (R.remaining reader.old) (R.remaining reader.new) result chunk.new }
+{
+    for _ in 0..MOST_TRIES {
+        match reader.read(chunk) {
+            Ok(count) => return Ok(count),
+            Err(error) => {
+                if error.kind() != ErrorKind::Interrupted {
+                    return Err(error);
+                }
+            }
+        }
+    }
+    Err(Error::from(ErrorKind::Interrupted))
+}

@@ -1,0 +1,100 @@
+//! What a report is written to.
+ghost use Rattle.std.specs.Prelude.{ℕ, ◌≡◌, ◌<◌, ◌^◌, List, Option};
+ghost use Rattle.trace_lines.specs.Devices.{Counts};
+ghost use Rattle.trace_text.specs.Failures.{WritesAll};
+
+use std::io::{Error, ErrorKind, Write};
+use trace_lines::Failed;
+
+/// The most writes that one text takes, interrupted ones among them.
+const MOST_TRIES: usize = 1 << 32;
+
+/// What a report is written to. It counts its failures.
+pub trait Sink {
+    /// The bytes that were written, where they are known.
+    ghost contents: { Self → Option (List ℕ) };
+
+    /// How many writes have failed.
+    ghost failures: { Self → ℕ };
+
+    /// Writes all bytes, or, where it fails, a front of them.
+    fn write(&mut self, bytes: &[u8]) -> Result<(), Failed>
+        requires few { failures self.old < 2 ^ 63 }
+        ensures bytes { WritesAll (contents self.old) (contents self.new) result bytes.now }
+        ensures counted { Counts (failures self.old) (failures self.new) result };
+}
+
+/// A writer of std as a sink. It keeps why it failed last.
+#[derive(Drop)]
+pub struct Writing<W: Write> {
+    writer: W,
+    failed: u64,
+    cause: Option<Error>,
+}
+
+impl<W: Write> Writing<W> {
+    ghost use Rattle.trace_text.specs.Writers.{writer_in, failed_writes};
+
+    /// A writer that hasn't failed.
+    pub fn new(writer: W) -> Writing<W>
+        ensures writer { writer_in result ≡ writer }
+        ensures failures { failed_writes result ≡ 0 }
+    {
+        Writing {
+            writer,
+            failed: 0,
+            cause: None,
+        }
+    }
+
+    /// The writer, and why the last write failed that did.
+    pub fn into_parts(self) -> (W, Option<Error>)
+        ensures { result.0 ≡ writer_in self }
+    {
+        let Writing {
+            writer,
+            failed: _,
+            cause,
+        } = self;
+        (writer, cause)
+    }
+}
+
+impl<W: Write> Sink for Writing<W> {
+    ghost contents = { λ w. W.contents w.writer };
+
+    ghost failures = { λ w. w.failed };
+
+    fn write(&mut self, bytes: &[u8]) -> Result<(), Failed> {
+        match write_uninterrupted(&mut self.writer, bytes) {
+            Ok(()) => Ok(()),
+            Err(error) => {
+                self.failed += 1;
+                self.cause = Some(error);
+                Err(Failed)
+            }
+        }
+    }
+}
+
+/// Writes all bytes, and again where a write was interrupted.
+fn write_uninterrupted<W: Write>(writer: &mut W, bytes: &[u8]) -> Result<(), Error>
+    ensures { WritesAll (W.contents writer.old) (W.contents writer.new) result bytes.now }
+{
+    let mut written = 0;
+    for _ in 0..MOST_TRIES {
+        if written == bytes.len() {
+            return Ok(());
+        }
+        match writer.write(&bytes[written..]) {
+            Ok(0) => return Err(Error::from(ErrorKind::WriteZero)),
+            Ok(count) => written += count,
+            Err(error) => {
+                if error.kind() != ErrorKind::Interrupted {
+                    return Err(error);
+                }
+            }
+        }
+    }
+    Err(Error::from(ErrorKind::Interrupted))
+}

@@ -1,0 +1,7 @@
+use Rattle.reference_model.specs.State.{Slot, opened}
+use Rattle.vm_table.specs.View.{slot_of, vms_of}
+use Rattle.vm_table.proofs.Slots.{changed_at}
+use Rattle.vm_table.proofs.VmTable.open.Goals as goal
+
+pub returns : goal.returns
+returns c = changed_at c.args.slot (vms_of c.args.self.now) (vms_of c.put_slot.new.self) (slot_of c.slot-old.result) (λ (y : Slot). record y { stand = opened }) c.put_slot.ensures c.slot-old.ensures
