@@ -1,3 +1,4 @@
 mod Plain
+mod Sizes
 mod Taken
 mod Values

@@ -1,66 +1,81 @@
--- `replay FILE` is taken, where FILE begins with no hyphen.
-use Rattle.std.proofs.Common.{◌≡◌, ◌≢◌, ◌==◌, ◌∙◌, arith, Result, Ok, Err, slice_get, ap, subst, refl, sym, true≢false, cond, Bool, true, false, codes, List, [], ◌∷◌, Option, Some, None, is_some, option_map, option_and_then}
+-- `replay FILE` and `replay FILE --heap BYTES` are taken, where FILE and BYTES begin with no hyphen.
+use Rattle.std.proofs.Common.{◌≡◌, ◌≢◌, ℕ, ◌==◌, ◌∙◌, arith, Result, Ok, Err, slice_get, ap, subst, refl, sym, true≢false, cond, Bool, true, false, codes, List, [], ◌∷◌, Option, Some, None, is_some, option_map, option_and_then}
 use Rattle.std.specs.Option.{option_map_or}
 use Rattle.std.specs.Str.{bytes_eq}
 use Rattle.std.proofs.lemmas.Bool.Decides.{nat_tests}
 use Rattle.std.proofs.lemmas.Slice.Eq.{bytes_eq-Decides}
 use Rattle.clap.proofs.OnLiterals.{clap_on_literals}
-use Rattle.clap.specs.Faults.{check_fault, bundle_fault, defaults_fault, fault_of, flag_word_fault, level_fault, other_fault, settle_fault, step_fault, walk_fault}
+use Rattle.clap.specs.Faults.{check_fault, bundle_fault, defaults_fault, fault_of, flag_word_fault, level_fault, other_fault, settle_fault, step_fault, turn_fault, walk_fault}
 use Rattle.clap.specs.Kinds.{IsAmong, Kinds, or_else}
 use Rattle.clap.specs.Lexer.{long_of, long_of_rest, short_of, short_of_rest, strip_byte}
-use Rattle.clap.specs.Simple.{subcommand_of}
-use Rattle.clap.specs.Walk.{Held, Step, Text, Walk, after_step, finished, first_of, idle, long_or_other, nothing_held, settled, short_or_plain, subcommand_or_other, to_positional, arg_by_index, trailing, value, walk, walk_from}
+use Rattle.clap.specs.Simple.{Shape, subcommand_of}
+use Rattle.clap.specs.Walk.{Held, Rule, Step, Text, Waiting, Walk, after_step, finished, first_of, idle, long_or_other, nothing_held, plain_word, settled, short_or_plain, subcommand_or_other, to_positional, arg_by_index, trailing, walk, walk_from, walked}
 use Rattle.clap.specs.Words.{kind_of}
-use Rattle.trace_cli.specs.Words.{GivesFile, IsRead, TakesFile, file_in, program}
+use Rattle.trace_cli.specs.Words.{Gives, IsRead, NamesFile, TakesFile, TakesHeap, file_in, heap_told, heap_word, program}
 use Rattle.trace_cli.proofs.Taken.{replays}
 use Rattle.trace_cli.proofs.Values.{some_is}
 use Rattle.trace_cli.specs.declared.command.Invocation.{Invocation}
 use Rattle.trace_cli.specs.declared.command.Invocation.TheVariants.{Replay}
 use Rattle.trace_cli.specs.declared.command.UsageFault.{UsageFault}
-use Rattle.trace_cli.specs.declared.command.UsageFault.TheVariants.{Usage, NoMemory}
+use Rattle.trace_cli.specs.declared.command.UsageFault.TheVariants.{HeapSize, NoMemory, Usage}
+
+-- a word that begins with no hyphen is no flag
+module _ (word : Text) (plain : strip_byte 45 word ≡ None) where
+  not_long : long_of word ≡ None
+  not_long = ap (λ (o : Option Text). option_and_then long_of_rest (option_and_then (strip_byte 45) o)) plain
+
+  not_short : short_of word ≡ None
+  not_short = ap (option_and_then short_of_rest) plain
+
+  not_dashes : bytes_eq word (45 ∷ 45 ∷ []) ≡ false
+  not_dashes = go (bytes_eq word (45 ∷ 45 ∷ [])) refl
+    where
+      go : (b : Bool) → bytes_eq word (45 ∷ 45 ∷ []) ≡ b → b ≡ false
+      go true e =
+          let same : word ≡ 45 ∷ 45 ∷ [] = (bytes_eq-Decides word (45 ∷ 45 ∷ [])).0 e in
+          absurd (true≢false (ap is_some (sym (ap (strip_byte 45) same) ∙ plain)))
+      go false e = refl
+
+  met_is : (c : List Rule) (waiting : Waiting) (position : ℕ) (h : Held) → subcommand_or_other c None waiting position word h ≡ plain_word c waiting word h
+  met_is c waiting position h =
+      ap (λ b. cond b (h, trailing position) (long_or_other c waiting word (long_of word) h)) not_dashes
+      ∙ ap (λ o. long_or_other c waiting word o h) not_long
+      ∙ ap (λ o. short_or_plain c waiting word o h) not_short
+
+  no_flag_fault : (s : Shape) (h : Held) → other_fault s None word h ≡ []
+  no_flag_fault s h =
+      ap (λ b. cond b [] (flag_word_fault s.rules s.args_override_self (long_of word) word h)) not_dashes
+      ∙ ap (λ o. flag_word_fault s.rules s.args_override_self o word h) not_long
+      ∙ ap (λ o. option_map_or (λ flags. bundle_fault s.rules s.args_override_self flags h) o []) not_short
+
+-- what is tested where the words end
+abbrev ended : Walk → Kinds
+ended w = or_else (settle_fault replays.rules false w.held)
+    (or_else (defaults_fault (settled replays.rules w.held).rows replays.rules) (check_fault replays (finished replays.rules w.held) false))
 
 -- the walk after FILE
 abbrev after : Text → Walk
 after path = to_positional replays.rules (arg_by_index replays.rules 1) path (walk_from nothing_held) nothing_held
 
 module _ (path : Text) (plain : strip_byte 45 path ≡ None) where
-  not_long : long_of path ≡ None
-  not_long = ap (λ (o : Option Text). option_and_then long_of_rest (option_and_then (strip_byte 45) o)) plain
+  file_walked : walked replays.rules [] (walk_from nothing_held) path ≡ after path
+  unfolding clap_on_literals
+  file_walked = ap (λ (m : Held × Step). after_step replays.rules path (walk_from nothing_held) m.0 m.1) (met_is path plain replays.rules idle 1 nothing_held)
 
-  not_short : short_of path ≡ None
-  not_short = ap (option_and_then short_of_rest) plain
-
-  not_dashes : bytes_eq path (45 ∷ 45 ∷ []) ≡ false
-  not_dashes = go (bytes_eq path (45 ∷ 45 ∷ [])) refl
-    where
-      go : (b : Bool) → bytes_eq path (45 ∷ 45 ∷ []) ≡ b → b ≡ false
-      go true e =
-          let same : path ≡ 45 ∷ 45 ∷ [] = (bytes_eq-Decides path (45 ∷ 45 ∷ [])).0 e in
-          absurd (true≢false (ap is_some (sym (ap (strip_byte 45) same) ∙ plain)))
-      go false e = refl
-
-  met_is : subcommand_or_other replays.rules None idle 1 path nothing_held ≡ (nothing_held, value)
-  met_is =
-      ap (λ b. cond b (nothing_held, trailing 1) (long_or_other replays.rules idle path (long_of path) nothing_held)) not_dashes
-      ∙ ap (λ o. long_or_other replays.rules idle path o nothing_held) not_long
-      ∙ ap (λ o. short_or_plain replays.rules idle path o nothing_held) not_short
+  no_file_fault : turn_fault replays [] (walk_from nothing_held) path ≡ []
+  unfolding clap_on_literals
+  no_file_fault =
+      let met = subcommand_or_other replays.rules None idle 1 path nothing_held in
+      ap (λ k. or_else k (step_fault replays 1 met.0 met.1)) (no_flag_fault path plain replays nothing_held)
+      ∙ ap (λ (m : Held × Step). step_fault replays 1 m.0 m.1) (met_is path plain replays.rules idle 1 nothing_held)
 
   walk_is : walk replays.rules [] nothing_held (path ∷ []) ≡ after path
   unfolding clap_on_literals
-  walk_is = ap (λ (m : Held × Step). after_step replays.rules path (walk_from nothing_held) m.0 m.1) met_is
+  walk_is = file_walked
 
   no_fault : walk_fault replays [] (walk_from nothing_held) (path ∷ []) ≡ []
   unfolding clap_on_literals
-  no_fault =
-      let kinds : Kinds → Kinds = λ k. or_else (or_else k (step_fault replays 1 nothing_held value)) [] in
-      ap (λ (m : Held × Step). or_else (or_else (other_fault replays None path nothing_held) (step_fault replays 1 m.0 m.1)) []) met_is
-      ∙ ap (λ b. kinds (cond b [] (flag_word_fault replays.rules false (long_of path) path nothing_held))) not_dashes
-      ∙ ap (λ o. kinds (flag_word_fault replays.rules false o path nothing_held)) not_long
-      ∙ ap (λ o. kinds (option_map_or (λ flags. bundle_fault replays.rules false flags nothing_held) o [])) not_short
-
-  abbrev ended : Walk → Kinds
-  ended w = or_else (settle_fault replays.rules false w.held)
-      (or_else (defaults_fault (settled replays.rules w.held).rows replays.rules) (check_fault replays (finished replays.rules w.held) false))
+  no_fault = ap (λ k. or_else k []) no_file_fault
 
   no_fault_after : ended (after path) ≡ []
   unfolding clap_on_literals
@@ -77,6 +92,72 @@ module _ (path : Text) (plain : strip_byte 45 path ≡ None) where
   unfolding clap_on_literals
   file_is name = ap (λ (w : Walk). Some (codes "replay", first_of (codes "FILE") (finished replays.rules w.held))) walk_is
 
+  no_heap : (name : Text) → heap_word (name ∷ codes "replay" ∷ path ∷ []) ≡ None
+  unfolding clap_on_literals
+  no_heap name = ap (λ (w : Walk). first_of (codes "heap") (finished replays.rules w.held)) walk_is
+
+-- the walk after `FILE --heap`, and after BYTES
+abbrev awaiting : Text → Walk
+awaiting path = walked replays.rules [] (after path) (codes "--heap")
+
+abbrev sized : Text → Text → Walk
+sized path bytes =
+    let met = plain_word replays.rules (awaiting path).waiting bytes (awaiting path).held in
+    after_step replays.rules bytes (awaiting path) met.0 met.1
+
+module _ (path bytes : Text) (plain : strip_byte 45 path ≡ None) (plain_bytes : strip_byte 45 bytes ≡ None) where
+  abbrev given : List Text
+  given = path ∷ codes "--heap" ∷ bytes ∷ []
+
+  bytes_walked : walked replays.rules [] (awaiting path) bytes ≡ sized path bytes
+  unfolding clap_on_literals
+  bytes_walked =
+      let w = awaiting path in
+      ap (λ (m : Held × Step). after_step replays.rules bytes w m.0 m.1) (met_is bytes plain_bytes replays.rules w.waiting w.position w.held)
+
+  no_bytes_fault : turn_fault replays [] (awaiting path) bytes ≡ []
+  unfolding clap_on_literals
+  no_bytes_fault =
+      let w = awaiting path in
+      let met = subcommand_or_other replays.rules None w.waiting w.position bytes w.held in
+      ap (λ k. or_else k (step_fault replays w.position met.0 met.1)) (no_flag_fault bytes plain_bytes replays w.held)
+      ∙ ap (λ (m : Held × Step). step_fault replays w.position m.0 m.1) (met_is bytes plain_bytes replays.rules w.waiting w.position w.held)
+
+  heap_walk_is : walk replays.rules [] nothing_held given ≡ sized path bytes
+  unfolding clap_on_literals
+  heap_walk_is = ap (λ w. walked replays.rules [] (walked replays.rules [] w (codes "--heap")) bytes) (file_walked path plain) ∙ bytes_walked
+
+  no_heap_fault : turn_fault replays [] (after path) (codes "--heap") ≡ []
+  unfolding clap_on_literals
+  no_heap_fault = refl
+
+  no_given_fault : walk_fault replays [] (walk_from nothing_held) given ≡ []
+  unfolding clap_on_literals
+  no_given_fault =
+      ap (λ k. or_else k (walk_fault replays [] (walked replays.rules [] (walk_from nothing_held) path) (codes "--heap" ∷ bytes ∷ []))) (no_file_fault path plain)
+      ∙ ap (λ w. walk_fault replays [] w (codes "--heap" ∷ bytes ∷ [])) (file_walked path plain)
+      ∙ ap (λ k. or_else k (walk_fault replays [] (awaiting path) (bytes ∷ []))) no_heap_fault
+      ∙ ap (λ k. or_else k []) no_bytes_fault
+
+  no_sized_fault : ended (sized path bytes) ≡ []
+  unfolding clap_on_literals
+  no_sized_fault = refl
+
+  given_none : level_fault replays [] nothing_held given false [] ≡ []
+  given_none = ap (λ k. or_else k (ended (walk replays.rules [] nothing_held given))) no_given_fault ∙ ap ended heap_walk_is ∙ no_sized_fault
+
+  given_taken : (name : Text) → fault_of program (name ∷ codes "replay" ∷ given) ≡ []
+  unfolding clap_on_literals
+  given_taken name = ap (λ k. or_else k []) given_none
+
+  given_file : (name : Text) → option_map file_in (subcommand_of program (name ∷ codes "replay" ∷ given)) ≡ Some (codes "replay", Some path)
+  unfolding clap_on_literals
+  given_file name = ap (λ (w : Walk). Some (codes "replay", first_of (codes "FILE") (finished replays.rules w.held))) heap_walk_is
+
+  given_heap : (name : Text) → heap_word (name ∷ codes "replay" ∷ given) ≡ Some bytes
+  unfolding clap_on_literals
+  given_heap name = ap (λ (w : Walk). first_of (codes "heap") (finished replays.rules w.held)) heap_walk_is
+
 plain_of : (path : Text) → slice_get path 0 ≢ Some 45 → strip_byte 45 path ≡ None
 plain_of [] other = refl
 plain_of (x ∷ xs) other = go (x == 45) refl
@@ -85,14 +166,32 @@ plain_of (x ∷ xs) other = go (x == 45) refl
     go true e = absurd (other (ap Some (grind (arith, nat_tests))))
     go false e = rw e refl
 
-gives_file : (path : Text) (words : List Text) (r : Result Invocation UsageFault) → fault_of program words ≡ [] → option_map file_in (subcommand_of program words) ≡ Some (codes "replay", Some path)
-    → IsRead words r → GivesFile path r
-gives_file path words (Ok (Replay file)) none is read =
-    sym (some_is (ap (λ q. q.1) (some_is (sym is ∙ read.file))))
-gives_file path words (Err (Usage error)) none is read = subst (IsAmong (kind_of error)) none read
-gives_file path words (Err NoMemory) none is read = tt
+gives : (path : Text) (told : Option (Option ℕ)) (words : List Text) (r : Result Invocation UsageFault) → fault_of program words ≡ []
+    → option_map file_in (subcommand_of program words) ≡ Some (codes "replay", Some path) → heap_told (heap_word words) ≡ told → IsRead words r → Gives path told r
+gives path told words (Ok (Replay file size)) none is heap read =
+    (sym (some_is (ap (λ q. q.1) (some_is (sym is ∙ read.0.file)))), sym heap ∙ read.1)
+gives path told words (Err (Usage error)) none is heap read = subst (IsAmong (kind_of error)) none read
+gives path told words (Err NoMemory) none is heap read = tt
+gives path told words (Err HeapSize) none is heap read = sym heap ∙ read.1
+
+-- what is given of the file and the word that stand in the words is what was read
+pub is_read : (words : List Text) (path : Text) (told : Option (Option ℕ)) (r : Result Invocation UsageFault) → NamesFile words path → told ≡ heap_told (heap_word words) → Gives path told r
+    → IsRead words r
+is_read words path told (Ok (Replay file size)) names heap gives_it = (subst (NamesFile words) (sym gives_it.0) names, sym heap ∙ gives_it.1)
+is_read words path told (Err (Usage error)) names heap gives_it = absurd gives_it
+is_read words path told (Err NoMemory) names heap gives_it = tt
+is_read words path told (Err HeapSize) names heap gives_it = (names.faultless, sym heap ∙ gives_it)
 
 pub takes_file : (words : List Text) (r : Result Invocation UsageFault) → IsRead words r → TakesFile words r
 takes_file words r read name path is other =
     let plain = plain_of path other in
-    gives_file path words r (ap (fault_of program) is ∙ taken path plain name) (ap (λ ws. option_map file_in (subcommand_of program ws)) is ∙ file_is path plain name) read
+    gives path (Some None) words r (ap (fault_of program) is ∙ taken path plain name) (ap (λ ws. option_map file_in (subcommand_of program ws)) is ∙ file_is path plain name)
+    (ap (λ ws. heap_told (heap_word ws)) is ∙ ap heap_told (no_heap path plain name)) read
+
+pub takes_heap : (words : List Text) (r : Result Invocation UsageFault) → IsRead words r → TakesHeap words r
+takes_heap words r read name path bytes is other other_bytes =
+    let plain = plain_of path other in
+    let plain_bytes = plain_of bytes other_bytes in
+    gives path (heap_told (Some bytes)) words r (ap (fault_of program) is ∙ given_taken path bytes plain plain_bytes name)
+    (ap (λ ws. option_map file_in (subcommand_of program ws)) is ∙ given_file path bytes plain plain_bytes name)
+    (ap (λ ws. heap_told (heap_word ws)) is ∙ ap heap_told (given_heap path bytes plain plain_bytes name)) read

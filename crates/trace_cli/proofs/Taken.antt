@@ -1,5 +1,5 @@
 -- Where clap finds no fault in the words, they name `replay` and its file.
-use Rattle.std.proofs.Common.{◌≡◌, ◌∙◌, ◌&&◌, ◌||◌, ◌++◌, ℕ, zero, suc, Bool, true, false, not, cond, true≢false, refl, sym, ap, codes, List, [], ◌∷◌, drop, fold, find, length, Option, Some, None, is_some, option_map, option_and_then, slice_get}
+use Rattle.std.proofs.Common.{◌≡◌, ◌≢◌, ◌∙◌, ◌&&◌, ◌||◌, ◌++◌, ℕ, zero, suc, Bool, true, false, not, cond, true≢false, refl, sym, ap, codes, List, [], ◌∷◌, drop, fold, find, length, Option, Some, None, is_some, option_map, option_and_then, slice_get}
 use Rattle.std.specs.Prelude.{⊤, encode_utf8}
 use Rattle.std.specs.List.{list_any}
 use Rattle.std.specs.Option.{option_map_or}
@@ -11,9 +11,9 @@ use Rattle.clap.specs.Faults.{check_fault, defaults_fault, entered_fault, fault_
 use Rattle.clap.specs.Kinds.{Kinds, or_else}
 use Rattle.clap.specs.Simple.{Shape, argument_words, built, built_leaf, entered, filled, help_rule, help_shape, inherited, marked_built, names_of, rows_at, subcommand_of, with_index, with_leaf_noted}
 use Rattle.clap.specs.Takes.{is_given}
-use Rattle.clap.specs.Walk.{Held, Names, Outcome, Row, Rule, Step, Text, Waiting, Walk, after_flag, after_step, arg_by_id, arg_by_index, arg_by_long, arg_by_short, at_row, bundle_met, bundle_step, done, finished, first_of, has_long, has_row, has_short, idle, is_pending, long_met, long_or_other, more_values, next, nothing_held, option, option_word, plain, plain_word, positional, positional_held, pushed, reacted, refused, rows_after, settled, settled_rows, short_met, short_or_plain, started, subcommand, subcommand_met, subcommand_or_other, takes_several, takes_values, to_positional, trailing, used, used_by_id, value, values_or_missing, waits, walk, walk_from, walked, walked_from, with_default, without, word_met}
+use Rattle.clap.specs.Walk.{Held, Names, Outcome, Row, Rule, Step, Text, Waiting, Walk, after_flag, after_step, arg_by_id, arg_by_index, arg_by_long, arg_by_short, at_row, attached_value, bundle_met, bundle_step, done, finished, first_of, flag_met, has_long, has_row, has_short, idle, is_pending, long_met, long_or_other, more_values, next, nothing_held, option, option_met, option_word, plain, plain_word, positional, positional_held, pushed, reacted, refused, rows_after, settled, settled_rows, short_met, short_or_plain, started, subcommand, subcommand_met, subcommand_or_other, takes_several, takes_values, to_positional, trailing, used, used_by_id, value, values_or_missing, waits, walk, walk_from, walked, walked_from, with_default, without, word_met}
 use Rattle.clap.specs.declared.error.kind.ErrorKind.TheVariants as kind
-use Rattle.trace_cli.specs.Words.{file, file_in, program, replay}
+use Rattle.trace_cli.specs.Words.{file, file_in, heap, program, replay}
 
 cases : (P : Type 0) (b : Bool) → (b ≡ true → P) → (b ≡ false → P) → P
 cases P true yes_ no_ = yes_ refl
@@ -102,37 +102,41 @@ module _ (s : Shape) (names : Names) (helps : s.disable_help_subcommand ≡ fals
       let parts = neither (turn_fault s names w word) _ none in
       walk_other rest (walked s.rules names w word) (turn_other w word w.stopped refl other parts.0) parts.1
 
--- ---- no argument is found without a value, where no flag takes one
+-- ---- FILE is not found without a value, where no flag is for it
 
-abbrev IsFull : List Text → Type 0
-IsFull [] = ⊥
-IsFull (v ∷ vs) = ⊤
+abbrev HasValue : List Text → Type 0
+HasValue [] = ⊥
+HasValue (v ∷ vs) = ⊤
+
+-- these values are not FILE's, or there is one
+abbrev IsFull : Text → List Text → Type 0
+IsFull id values = id ≡ codes "FILE" → HasValue values
 
 abbrev AreFull : List Row → Type 0
 AreFull [] = ⊤
-AreFull (r ∷ rs) = IsFull r.values × AreFull rs
+AreFull (r ∷ rs) = IsFull r.id r.values × AreFull rs
 
 abbrev IsFullPending : Option (Text × List Text) → Type 0
 IsFullPending None = ⊤
-IsFullPending (Some p) = IsFull p.1
+IsFullPending (Some p) = IsFull p.0 p.1
 
 abbrev IsFine : Held → Type 0
 IsFine h = AreFull h.rows × IsFullPending h.pending
 
-full_before : (xs ys : List Text) → IsFull xs → IsFull (xs ++ ys)
-full_before [] ys full = absurd full
-full_before (x ∷ xs) ys full = tt
+value_before : (xs ys : List Text) → HasValue xs → HasValue (xs ++ ys)
+value_before [] ys has = absurd has
+value_before (x ∷ xs) ys has = tt
 
-full_after : (xs : List Text) (y : Text) → IsFull (xs ++ y ∷ [])
-full_after [] y = tt
-full_after (x ∷ xs) y = tt
+value_after : (xs : List Text) (y : Text) → HasValue (xs ++ y ∷ [])
+value_after [] y = tt
+value_after (x ∷ xs) y = tt
 
-full_changed : (id : Text) (new : Row) (values : List Text) (s : _) (rows : List Row) → IsFull new.values → AreFull rows → AreFull (at_row id (more_values s values) (new ∷ []) rows)
+full_changed : (id : Text) (new : Row) (values : List Text) (s : _) (rows : List Row) → IsFull new.id new.values → AreFull rows → AreFull (at_row id (more_values s values) (new ∷ []) rows)
 full_changed id new values s [] has full = (has, tt)
 full_changed id new values s (r ∷ rs) has full = go (bytes_eq r.id id) (full_changed id new values s rs has full.1)
   where
     go : (b : Bool) → AreFull (at_row id (more_values s values) (new ∷ []) rs) → AreFull (cond b (more_values s values r ++ rs) (r ∷ at_row id (more_values s values) (new ∷ []) rs))
-    go true rest = (full_before r.values values full.0, full.1)
+    go true rest = ((λ is. value_before r.values values (full.0 is)), full.1)
     go false rest = (full.0, rest)
 
 full_without : (id : Text) (rows : List Row) → AreFull rows → AreFull (without id rows)
@@ -143,13 +147,13 @@ full_without id (r ∷ rs) full = go (bytes_eq r.id id) (full_without id rs full
     go true rest = full.1
     go false rest = (full.0, rest)
 
--- a flag that takes no value, and whose use adds no empty row
-abbrev IsFlag : Option Rule → Type 0
-IsFlag None = ⊤
-IsFlag (Some a) = (takes_values a ≡ false) × ((rows : List Row) → AreFull rows → AreFull (used a [] rows))
+-- a flag or an option that isn't FILE, and whose use adds no empty row of it
+abbrev IsOfOther : Option Rule → Type 0
+IsOfOther None = ⊤
+IsOfOther (Some a) = (a.id ≢ codes "FILE") × ((values : List Text) (rows : List Row) → AreFull rows → AreFull (used a values rows))
 
-module _ (c : List Rule) (longs : (name : Text) → IsFlag (arg_by_long c name)) (shorts : (x : ℕ) → IsFlag (arg_by_short c x))
-    (uses : (id : Text) (values : List Text) (rows : List Row) → IsFull values → AreFull rows → AreFull (used_by_id (arg_by_id c id) values rows)) where
+module _ (c : List Rule) (longs : (name : Text) → IsOfOther (arg_by_long c name)) (shorts : (x : ℕ) → IsOfOther (arg_by_short c x))
+    (uses : (id : Text) (values : List Text) (rows : List Row) → IsFull id values → AreFull rows → AreFull (used_by_id (arg_by_id c id) values rows)) where
   fine_settled : (h : Held) → IsFine h → IsFine (settled c h)
   fine_settled h fine = go h.pending fine.1
     where
@@ -158,7 +162,7 @@ module _ (c : List Rule) (longs : (name : Text) → IsFlag (arg_by_long c name))
       go (Some p) full = (uses p.0 p.1 h.rows full fine.0, tt)
 
   fine_pushed : (id word : Text) (h : Held) → IsFine h → IsFine (pushed id word h)
-  fine_pushed id word h fine = (fine.0, full_after (started id h.pending).1 word)
+  fine_pushed id word h fine = (fine.0, λ _. value_after (started id h.pending).1 word)
 
   fine_option : (a : Option Rule) (id word : Text) (h : Held) → IsFine h → IsFine (option_word a id word h).0
   fine_option None id word h fine = fine
@@ -175,18 +179,33 @@ module _ (c : List Rule) (longs : (name : Text) → IsFlag (arg_by_long c name))
   fine_flag waiting word h plain fine = fine_plain waiting word h fine
   fine_flag waiting word h refused fine = fine_plain waiting word h fine
 
-  fine_reacted : (a : Rule) (h : Held) → ((rows : List Row) → AreFull rows → AreFull (used a [] rows)) → IsFine h → IsFine (reacted c a [] h)
-  fine_reacted a h keeps fine = (keeps (settled c h).rows (fine_settled h fine).0, tt)
+  fine_reacted : (a : Rule) (values : List Text) (h : Held) → ((rows : List Row) → AreFull rows → AreFull (used a values rows)) → IsFine h → IsFine (reacted c a values h)
+  fine_reacted a values h keeps fine = (keeps (settled c h).rows (fine_settled h fine).0, tt)
 
-  fine_long : (a : Option Rule) (v : Option Text) (h : Held) → IsFlag a → IsFine h → IsFine (long_met c a v h).0
-  fine_long None v h flag fine = fine
-  fine_long (Some a) (Some v) h flag fine = rw flag.0 fine
-  fine_long (Some a) None h flag fine = rw flag.0 (fine_reacted a h flag.1 fine)
+  fine_met : (a : Rule) (v : Option Text) (h : Held) → IsOfOther (Some a) → IsFine h → IsFine (option_met c a v h).0
+  fine_met a (Some v) h other fine = fine_reacted a (v ∷ []) h (other.1 (v ∷ [])) fine
+  fine_met a None h other fine = ((fine_settled h fine).0, λ is. absurd (other.0 is))
 
-  fine_short : (a : Option Rule) (rest : Text) (h : Held) (then : Held → Held × Outcome) → IsFlag a → IsFine h
+  fine_alone : (a : Rule) (v : Option Text) (h : Held) → IsOfOther (Some a) → IsFine h → IsFine (flag_met c a v h).0
+  fine_alone a (Some v) h other fine = fine
+  fine_alone a None h other fine = fine_reacted a [] h (other.1 []) fine
+
+  fine_long : (a : Option Rule) (v : Option Text) (h : Held) → IsOfOther a → IsFine h → IsFine (long_met c a v h).0
+  fine_long None v h other fine = fine
+  fine_long (Some a) v h other fine = go (takes_values a)
+    where
+      go : (b : Bool) → IsFine (cond b (option_met c a v h) (flag_met c a v h)).0
+      go true = fine_met a v h other fine
+      go false = fine_alone a v h other fine
+
+  fine_short : (a : Option Rule) (rest : Text) (h : Held) (then : Held → Held × Outcome) → IsOfOther a → IsFine h
       → ((h : Held) → IsFine h → IsFine (then h).0) → IsFine (short_met c a rest h then).0
-  fine_short None rest h then flag fine on = fine
-  fine_short (Some a) rest h then flag fine on = rw flag.0 (on (reacted c a [] h) (fine_reacted a h flag.1 fine))
+  fine_short None rest h then other fine on = fine
+  fine_short (Some a) rest h then other fine on = go (takes_values a)
+    where
+      go : (b : Bool) → IsFine (cond b (option_met c a (attached_value rest) h) (then (reacted c a [] h))).0
+      go true = fine_met a (attached_value rest) h other fine
+      go false = on (reacted c a [] h) (fine_reacted a [] h (other.1 []) fine)
 
   fine_step : (x : Option ℕ) (flags : Text) (skip : ℕ) (so_far : Outcome) (h : Held) (then : Text → ℕ → Outcome → Held → Held × Outcome) → IsFine h
       → ((flags : Text) (skip : ℕ) (so_far : Outcome) (h : Held) → IsFine h → IsFine (then flags skip so_far h).0)
@@ -254,20 +273,20 @@ module _ (c : List Rule) (longs : (name : Text) → IsFlag (arg_by_long c name))
   full_rows : (words : List Text) → AreFull (settled c (walk c [] nothing_held words).held).rows
   full_rows words = (fine_settled (walk c [] nothing_held words).held (fine_walk [] words (walk_from nothing_held) (tt, tt))).0
 
--- a row that was used has a first value
+-- the row of FILE has a first value
 abbrev IsFullRow : Option Row → Type 0
 IsFullRow None = ⊤
-IsFullRow (Some r) = IsFull r.values
+IsFullRow (Some r) = HasValue r.values
 
-full_found : (id : Text) (rows : List Row) → AreFull rows → IsFullRow (find (λ r. bytes_eq r.id id) rows)
-full_found id [] full = tt
-full_found id (r ∷ rs) full = go (bytes_eq r.id id) (full_found id rs full.1)
+full_found : (rows : List Row) → AreFull rows → IsFullRow (find (λ r. bytes_eq r.id (codes "FILE")) rows)
+full_found [] full = tt
+full_found (r ∷ rs) full = go (bytes_eq r.id (codes "FILE")) refl (full_found rs full.1)
   where
-    go : (b : Bool) → IsFullRow (find (λ r. bytes_eq r.id id) rs) → IsFullRow (cond b (Some r) (find (λ r. bytes_eq r.id id) rs))
-    go true rest = full.0
-    go false rest = rest
+    go : (b : Bool) → bytes_eq r.id (codes "FILE") ≡ b → IsFullRow (find (λ r. bytes_eq r.id (codes "FILE")) rs) → IsFullRow (cond b (Some r) (find (λ r. bytes_eq r.id (codes "FILE")) rs))
+    go true e rest = full.0 ((bytes_eq-Decides r.id (codes "FILE")).0 e)
+    go false e rest = rest
 
-first_in : (xs : List Text) → IsFull xs → (v : Text) × (slice_get xs 0 ≡ Some v)
+first_in : (xs : List Text) → HasValue xs → (v : Text) × (slice_get xs 0 ≡ Some v)
 first_in [] full = absurd full
 first_in (x ∷ xs) full = (x, refl)
 
@@ -287,21 +306,36 @@ helps = built_leaf help_shape
 abbrev filed : Rule
 filed = with_index 1 (filled file)
 
+abbrev heaped : Rule
+heaped = with_index 2 (filled heap)
+
 abbrev helped : Rule
 helped = with_index 2 (filled help_rule)
 
-is_flag : (b : Bool) → IsFlag (cond b (Some helped) None)
-is_flag true = (refl, λ rows full. full)
-is_flag false = tt
+heap_not_file : codes "heap" ≢ codes "FILE"
+heap_not_file e = true≢false (sym ((bytes_eq-Decides (codes "heap") (codes "FILE")).1 e))
 
-full_missing : (a : Rule) (values : List Text) → IsFull values → IsFull (values_or_missing a values)
-full_missing a [] full = absurd full
-full_missing a (v ∷ vs) full = tt
+help_not_file : codes "help" ≢ codes "FILE"
+help_not_file e = true≢false (sym ((bytes_eq-Decides (codes "help") (codes "FILE")).1 e))
 
-full_used : (x y : Bool) (values : List Text) (rows : List Row) → IsFull values → AreFull rows → AreFull (used_by_id (cond x (Some filed) (cond y (Some helped) None)) values rows)
-full_used true y values rows has full = full_changed (codes "FILE") _ (values_or_missing filed values) _ (without (codes "FILE") rows) (full_missing filed values has) (full_without (codes "FILE") rows full)
-full_used false true values rows has full = full
-full_used false false values rows has full = full
+full_heap : (values : List Text) (rows : List Row) → AreFull rows → AreFull (used heaped values rows)
+full_heap values rows full = full_changed (codes "heap") _ (values_or_missing heaped values) _ (without (codes "heap") rows) (λ is. absurd (heap_not_file is)) (full_without (codes "heap") rows full)
+
+is_of_other : (x y : Bool) → IsOfOther (cond x (Some heaped) (cond y (Some helped) None))
+is_of_other true y = (heap_not_file, full_heap)
+is_of_other false true = (help_not_file, λ values rows full. full)
+is_of_other false false = tt
+
+value_or_missing : (a : Rule) (values : List Text) → HasValue values → HasValue (values_or_missing a values)
+value_or_missing a [] has = absurd has
+value_or_missing a (v ∷ vs) has = tt
+
+full_used : (x y z : Bool) (values : List Text) (rows : List Row) → (x ≡ true → HasValue values) → AreFull rows
+    → AreFull (used_by_id (cond x (Some filed) (cond y (Some heaped) (cond z (Some helped) None))) values rows)
+full_used true y z values rows has full = full_changed (codes "FILE") _ (values_or_missing filed values) _ (without (codes "FILE") rows) (λ _. value_or_missing filed values (has refl)) (full_without (codes "FILE") rows full)
+full_used false true z values rows has full = full_heap values rows full
+full_used false false true values rows has full = full
+full_used false false false values rows has full = full
 
 full_either : (b : Bool) (rows : List Row) → AreFull rows → AreFull (cond b rows rows)
 full_either true rows full = full
@@ -310,9 +344,13 @@ full_either false rows full = full
 full_replay : (words : List Text) → AreFull (rows_after replays.rules [] words)
 full_replay words =
     let rows = (settled replays.rules (walk replays.rules [] nothing_held words).held).rows in
-    let full = full_rows replays.rules (λ name. is_flag (has_long helped name)) (λ x. is_flag (has_short helped x))
-    (λ id. full_used (bytes_eq (codes "FILE") id) (bytes_eq (codes "help") id)) words in
-    full_either (has_row (codes "help") (with_default rows filed)) (with_default rows filed) (full_either (has_row (codes "FILE") rows) rows full)
+    let full = full_rows replays.rules (λ name. is_of_other (has_long heaped name) (has_long helped name)) (λ x. is_of_other (has_short heaped x) (has_short helped x))
+    (λ id values rows full. full_used (bytes_eq (codes "FILE") id) (bytes_eq (codes "heap") id) (bytes_eq (codes "help") id) values rows
+    (λ e. full (sym ((bytes_eq-Decides (codes "FILE") id).0 e)))) words in
+    let filed_rows = with_default rows filed in
+    let heaped_rows = with_default filed_rows heaped in
+    full_either (has_row (codes "help") heaped_rows) heaped_rows
+    (full_either (has_row (codes "heap") filed_rows) filed_rows (full_either (has_row (codes "FILE") rows) rows full))
 
 wants_file : (rows : List Row) → check_fault replays rows false ≡ [] → is_given (codes "FILE") rows ≡ true
 wants_file rows = go (is_given (codes "FILE") rows)
@@ -328,7 +366,7 @@ file_given words none =
     let walked_by = (neither (walk_fault replays [] (walk_from nothing_held) words) _ none).1 in
     let settled_by = (neither (settle_fault replays.rules replays.args_override_self (walk replays.rules [] nothing_held words).held) _ walked_by).1 in
     let checked_by = (neither (defaults_fault (settled replays.rules (walk replays.rules [] nothing_held words).held).rows replays.rules) (check_fault replays rows false) settled_by).1 in
-    first_given (find (λ r. bytes_eq r.id (codes "FILE")) rows) (full_found (codes "FILE") rows (full_replay words)) (wants_file rows checked_by)
+    first_given (find (λ r. bytes_eq r.id (codes "FILE")) rows) (full_found rows (full_replay words)) (wants_file rows checked_by)
 
 -- ---- the program
 

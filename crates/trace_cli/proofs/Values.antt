@@ -17,6 +17,11 @@ pub file_of : (o : Option (Text × List Row)) (rows : List Row) (path : Text) �
 file_of None rows path a b = absurd (let e = a in cc)
 file_of (Some p) rows path a b = ap (first_of (codes "FILE")) (some_is a) ∙ ap (λ q. q.1) (some_is b)
 
+-- the word for BYTES in them
+pub heap_of : (o : Option (Text × List Row)) (rows : List Row) → Some rows ≡ option_map (λ p. p.1) o → first_of (codes "heap") rows ≡ option_and_then (λ found. first_of (codes "heap") found.1) o
+heap_of None rows a = absurd (let e = a in cc)
+heap_of (Some p) rows a = ap (first_of (codes "heap")) (some_is a)
+
 first_text : (xs : List (Bor Text)) → slice_get (map (λ s. s.now) xs) 0 ≡ option_map (λ s. s.now) (slice_get xs 0)
 first_text [] = refl
 first_text (x ∷ xs) = refl

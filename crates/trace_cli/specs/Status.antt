@@ -6,7 +6,7 @@ use Rattle.trace_text.specs.declared.report.ReportLine.{ReportLine}
 use Rattle.trace_text.specs.Replay.{IsReport}
 use Rattle.trace_text.specs.Session.{at_start}
 use Rattle.trace_cli.specs.declared.command.UsageFault.{UsageFault}
-use Rattle.trace_cli.specs.declared.command.UsageFault.TheVariants.{Usage, NoMemory}
+use Rattle.trace_cli.specs.declared.command.UsageFault.TheVariants.{HeapSize, NoMemory, Usage}
 use Rattle.trace_cli.specs.declared.opened.Opened.{Opened}
 
 -- a report of these bytes, where they are known, ends without a fault or a disagreement
@@ -17,4 +17,5 @@ HasCleanReport bytes = IfSome bytes (λ all. (lines : List ReportLine) × IsRepo
 abbrev pub HasStatus : {F : Type 0} → (F → Option (List ℕ)) → Result (Opened F) UsageFault → ℕ → Type 0
 HasStatus bytes (Ok asked) status = MatchResult asked.file (λ file. (status ≤ 1) × (status ≡ 0 → HasCleanReport (bytes file))) (λ _. status ≡ 2)
 HasStatus bytes (Err (Usage error)) status = status ≡ 2
+HasStatus bytes (Err HeapSize) status = status ≡ 2
 HasStatus bytes (Err NoMemory) status = status ≡ 1

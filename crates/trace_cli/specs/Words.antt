@@ -1,5 +1,7 @@
 -- The words of the program, as clap reads them.
-use Rattle.std.specs.Prelude.{◌≡◌, ◌≢◌, ⊤, true, List, [], ◌∷◌, Option, Result, Some, Ok, Err, codes, option_map, slice_get}
+use Rattle.std.specs.Prelude.{◌≡◌, ◌≢◌, ◌&&◌, ⊤, ℕ, true, List, [], ◌∷◌, Option, Result, Some, None, Ok, Err, codes, if◌then◌else◌, nat_le, nat_lt, option_and_then, option_map, slice_get, slice_index}
+use Rattle.std.specs.Str.{all_ascii_digits}
+use Rattle.std.specs.Str.Parse.{digits_value}
 use Rattle.clap.specs.declared.builder.ArgAction.TheVariants.{Set}
 use Rattle.clap.specs.declared.error.Error.{Error}
 use Rattle.clap.specs.declared.error.kind.ErrorKind.TheVariants.{OutOfMemory}
@@ -7,15 +9,19 @@ use Rattle.clap.specs.Words.{App, IsAmong, Row, Rule, Text, fault_of, first_of, 
 use Rattle.trace_cli.specs.declared.command.Invocation.{Invocation}
 use Rattle.trace_cli.specs.declared.command.Invocation.TheVariants.{Replay}
 use Rattle.trace_cli.specs.declared.command.UsageFault.{UsageFault}
-use Rattle.trace_cli.specs.declared.command.UsageFault.TheVariants.{Usage, NoMemory}
+use Rattle.trace_cli.specs.declared.command.UsageFault.TheVariants.{HeapSize, NoMemory, Usage}
 
 -- the file of `replay`
 abbrev pub file : Rule
 file = record (new_rule (codes "FILE")) { required = true; action = Some Set }
 
--- `replay FILE`
+-- the heap of `replay`: `--heap BYTES`
+abbrev pub heap : Rule
+heap = record (new_rule (codes "heap")) { long = Some (codes "heap"); action = Some Set; value_names = 1 }
+
+-- `replay FILE`, which takes `--heap BYTES` too
 abbrev pub replay : App
-replay = with_rule (new_app (codes "replay")) file
+replay = with_rule (with_rule (new_app (codes "replay")) file) heap
 
 -- the program: it needs a subcommand, and shows help without words
 abbrev pub program : App
@@ -30,24 +36,47 @@ pub record NamesFile (words : List Text) (path : Text) : Type 0 where
   pub faultless : fault_of program words ≡ []
   pub file : option_map file_in (subcommand_of program words) ≡ Some (codes "replay", Some path)
 
--- what was read: the file that the words name, a fault that clap finds in them, or that memory was
--- refused
+-- the word for BYTES
+abbrev pub heap_word : List Text → Option Text
+heap_word words = option_and_then (λ found. first_of (codes "heap") found.1) (subcommand_of program words)
+
+-- the size that a word says: decimal digits of which the first isn't 0 (48), from 4,096 to 1,073,741,824
+abbrev pub heap_size : Text → Option ℕ
+heap_size word =
+    if nat_lt 48 (slice_index word 0) && (all_ascii_digits word && (nat_le 4096 (digits_value 10 word) && nat_le (digits_value 10 word) 1073741824)) then Some (digits_value 10 word)
+    else None
+
+-- the heap that is asked for: none without BYTES, else one of that size. No answer where the word says no size
+abbrev pub heap_told : Option Text → Option (Option ℕ)
+heap_told None = Some None
+heap_told (Some word) = option_map (λ size. Some size) (heap_size word)
+
+-- what was read: the file and the heap that the words name, a fault that clap finds in them, that it finds none and the word
+-- for BYTES says no size, or that memory was refused
 abbrev pub IsRead : List Text → Result Invocation UsageFault → Type 0
-IsRead words (Ok (Replay path)) = NamesFile words path.now
+IsRead words (Ok (Replay path size)) = NamesFile words path.now × (heap_told (heap_word words) ≡ Some size)
 IsRead words (Err (Usage error)) = IsAmong (kind_of error) (fault_of program words)
 IsRead words (Err NoMemory) = ⊤
+IsRead words (Err HeapSize) = (fault_of program words ≡ []) × (heap_told (heap_word words) ≡ None)
 
--- the file is what was read, unless memory was refused
-abbrev pub GivesFile : Text → Result Invocation UsageFault → Type 0
-GivesFile path (Ok (Replay file)) = file.now ≡ path
-GivesFile path (Err (Usage error)) = ⊥
-GivesFile path (Err NoMemory) = ⊤
+-- this file and this heap are what was read, or the refusal of a word that says no size, unless memory was refused
+abbrev pub Gives : Text → Option (Option ℕ) → Result Invocation UsageFault → Type 0
+Gives path told (Ok (Replay file size)) = (file.now ≡ path) × (told ≡ Some size)
+Gives path told (Err (Usage error)) = ⊥
+Gives path told (Err NoMemory) = ⊤
+Gives path told (Err HeapSize) = told ≡ None
 
--- the words `NAME replay FILE` give that file, where it begins with no hyphen (45)
+-- the words `NAME replay FILE` give that file and no heap, where FILE begins with no hyphen (45)
 abbrev pub TakesFile : List Text → Result Invocation UsageFault → Type 0
-TakesFile words r = (name path : Text) → words ≡ name ∷ codes "replay" ∷ path ∷ [] → slice_get path 0 ≢ Some 45 → GivesFile path r
+TakesFile words r = (name path : Text) → words ≡ name ∷ codes "replay" ∷ path ∷ [] → slice_get path 0 ≢ Some 45 → Gives path (Some None) r
+
+-- the words `NAME replay FILE --heap BYTES` give that file and a heap of that size, where FILE and BYTES begin with no hyphen
+abbrev pub TakesHeap : List Text → Result Invocation UsageFault → Type 0
+TakesHeap words r = (name path bytes : Text) → words ≡ name ∷ codes "replay" ∷ path ∷ codes "--heap" ∷ bytes ∷ [] → slice_get path 0 ≢ Some 45 → slice_get bytes 0 ≢ Some 45
+    → Gives path (heap_told (Some bytes)) r
 
 -- the fault that stands for an error of clap's
 abbrev pub StandsFor : Error → UsageFault → Type 0
 StandsFor error (Usage shown) = (shown ≡ error) × (kind_of error ≢ OutOfMemory)
 StandsFor error NoMemory = kind_of error ≡ OutOfMemory
+StandsFor error HeapSize = ⊥

@@ -5,6 +5,7 @@ ghost use Rattle.std.specs.Prelude.{◌≤◌, IfOk};
 
 mod command;
 mod exit_status;
+mod heap_size;
 mod opened;
 
 use command::{Invocation, command};
@@ -19,8 +20,9 @@ fn run<R: AllocGlobal + Env + Files + Print + Eprint>(rt: &R) -> Result<u8, io::
 {
     let words: Vec<String> = env::args(rt)?.collect(rt.alloc())?;
     let asked = match command(rt.alloc(), words.as_slice()) {
-        Ok(Invocation::Replay { file }) => Ok(Opened {
+        Ok(Invocation::Replay { file, heap }) => Ok(Opened {
             path: file,
+            heap,
             file: fs::open(rt, file),
         }),
         Err(fault) => Err(fault),

@@ -4,6 +4,8 @@ ghost use Rattle.trace_cli.specs.Status.{HasCleanReport, HasStatus};
 
 use crate::command::UsageFault;
 use crate::exit_status::exit_status;
+use linked_list_allocator::LocalHeap;
+use std::alloc::Allocator;
 use std::io;
 use trace_text::{EngineFault, Stopped, replay_buffered};
 
@@ -13,10 +15,11 @@ const REFUSED: u8 = 2;
 /// The status of a fault that no report tells of.
 pub const FAILED: u8 = 1;
 
-/// A trace to be replayed: its path, and what came of opening it.
+/// A trace to be replayed: its path, the size of the heap for the trees' tables, if any, and what came of opening it.
 #[derive(Drop)]
 pub struct Opened<'a, F> {
     pub path: &'a str,
+    pub heap: Option<usize>,
     pub file: Result<F, io::Error>,
 }
 
@@ -31,12 +34,14 @@ pub fn status_of<R: AllocGlobal + Print + Eprint, F: io::Read + Drop>(
         Ok(
             Opened {
                 path,
+                heap,
                 file: Ok(file),
             },
-        ) => replay_file(rt, path, file),
+        ) => replay_file(rt, path, heap, file),
         Ok(
             Opened {
                 path,
+                heap: _,
                 file: Err(error),
             },
         ) => {
@@ -47,6 +52,10 @@ pub fn status_of<R: AllocGlobal + Print + Eprint, F: io::Read + Drop>(
             let _ = rt.eprint(error);
             REFUSED
         }
+        Err(UsageFault::HeapSize) => {
+            let _ = eprintln!(rt; "trace_cli: {}", UsageFault::HeapSize);
+            REFUSED
+        }
         Err(UsageFault::NoMemory) => {
             let _ = eprintln!(rt; "trace_cli: out of memory");
             FAILED
@@ -54,17 +63,40 @@ pub fn status_of<R: AllocGlobal + Print + Eprint, F: io::Read + Drop>(
     }
 }
 
-/// Replays an opened trace, and writes its report to standard output, whose bytes no contract knows.
+/// Replays an opened trace, with the trees' tables in a heap of this size or in the machine's memory, and writes its report to
+/// standard output, whose bytes no contract knows.
 fn replay_file<R: AllocGlobal + Print + Eprint, F: io::Read + Drop>(
     rt: &R,
+    path: &str,
+    heap: Option<usize>,
+    file: F,
+) -> u8
+    ensures most { result ≤ 1 }
+    ensures clean { result ≡ 0 → HasCleanReport (F.remaining file) }
+{
+    let Some(bytes) = heap else {
+        return replay_in(rt, rt.alloc(), path, file);
+    };
+    match LocalHeap::new(rt.alloc(), bytes) {
+        Ok(heap) => replay_in(rt, &heap, path, file),
+        Err(_) => {
+            let _ = eprintln!(rt; "trace_cli: {path}: out of memory");
+            FAILED
+        }
+    }
+}
+
+/// Replays an opened trace with the trees' tables in this memory.
+fn replay_in<R: AllocGlobal + Print + Eprint, A: Allocator + Copy, F: io::Read + Drop>(
+    rt: &R,
+    alloc: A,
     path: &str,
     file: F,
 ) -> u8
     ensures most { result ≤ 1 }
     ensures clean { result ≡ 0 → HasCleanReport (F.remaining file) }
 {
-    let global = rt.alloc();
-    match replay_buffered(global, global, file, io::writer(rt)) {
+    match replay_buffered(rt.alloc(), alloc, file, io::writer(rt)) {
         Ok((outcome, _printer)) => exit_status(Ok(outcome)),
         Err(stopped) => {
             tell(rt, path, &stopped);

@@ -22,7 +22,7 @@ use Rattle.trace_lines.specs.declared.place.SettingName.TheVariants as names
 use Rattle.trace_lines.specs.declared.place.Verb.{Verb}
 use Rattle.trace_lines.specs.declared.place.Verb.TheVariants as verbs
 use Rattle.trace_lines.specs.Arguments.{number_at, range_of, level_word_at}
-use Rattle.trace_lines.specs.Asked.{asked, asked_from, begins_with_digit, headers, of_call, of_number, of_range, of_tree, pools, tree_names}
+use Rattle.trace_lines.specs.Asked.{asked, asked_from, begins_with_digit, headers, of_call, of_number, of_range, of_tree, of_show, pools, tree_names}
 use Rattle.trace_lines.specs.Calls.{Argument, number, StepMaker, Shape, calls, called as called_by, step_from}
 use Rattle.trace_lines.specs.Places.{IsAllowed, may_stand, may_tell}
 use Rattle.trace_lines.specs.Said.{StepHas, said, said_by_asked, said_by_words}
@@ -128,7 +128,8 @@ module _ (R : Verb → Line → Type 0) (of_setting : (name : SettingName) (sett
       either (begins_with_digit first) _ _ (by_call second)
       (either (bytes_eq first (codes "word")) _ _ (mapped Holds (of_tree words) tree_row (option_and_then (named tree_names) second))
       (either (bytes_eq first (codes "free")) _ _ (chained Holds (named pools) (λ name. found Holds pools name (of_query queries.FreeShared, tt)) second)
-      (found Holds (headers words) first header_rows)))
+      (either (bytes_eq first (codes "show")) _ _ (mapped Holds of_show (λ tree. of_query (queries.Show tree)) (option_and_then (named tree_names) second))
+      (found Holds (headers words) first header_rows))))
     where
       either : (b : Bool) (x y : Option Asked) → IfSome x Holds → IfSome y Holds → IfSome (if b then x else y) Holds
       either true x y h k = h

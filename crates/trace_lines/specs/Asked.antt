@@ -31,6 +31,10 @@ begins_with_digit (byte ∷ bytes) = is_decimal_digit byte
 abbrev pub pools : List (List ℕ × Asked)
 pools = (codes "shared", record { verb = verbs.Query; words = 2; line = Some (lines.Query queries.FreeShared) }) ∷ []
 
+-- `show` of a tree
+abbrev pub of_show : TreeName → Asked
+of_show tree = record { verb = verbs.Query; words = 2; line = Some (lines.Query (queries.Show tree)) }
+
 module _ (words : List (List ℕ)) where
   -- a setting that is a number, and one that is a range
   abbrev pub of_number : SettingName → (ℕ → Setting) → Asked
@@ -65,7 +69,8 @@ module _ (words : List (List ℕ)) where
       if begins_with_digit first then option_map of_call (option_and_then (called_by words) second)
       else (if bytes_eq first (codes "word") then option_map of_tree (option_and_then (named tree_names) second)
       else (if bytes_eq first (codes "free") then option_and_then (named pools) second
-      else named headers first))
+      else (if bytes_eq first (codes "show") then option_map of_show (option_and_then (named tree_names) second)
+      else named headers first)))
 
   -- what a line of these words asks for
   unfoldable pub asked : Option Asked

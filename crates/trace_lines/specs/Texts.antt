@@ -1,7 +1,8 @@
 -- How a report names the faults of lines, and writes what lines report (profile): words are separated by one space each.
 use Rattle.std.specs.Prelude.{ℕ, ◌-◌, List, ◌++◌, length, codes, replicate, false}
 use Rattle.std.specs.Fmt.{digits, decimal}
-use Rattle.page_state.specs.Texts.{text_of_reply}
+use Rattle.page_state.specs.Entries.{entry_of_target}
+use Rattle.page_state.specs.Texts.{text_of_entry, text_of_page, text_of_reply}
 use Rattle.trace_lines.specs.declared.fault.LineFault.{LineFault}
 use Rattle.trace_lines.specs.declared.fault.LineFault.TheVariants as faults
 use Rattle.trace_lines.specs.declared.response.Response.{Response}
@@ -27,3 +28,4 @@ text_of_response (responses.Boot host hyp free) = codes "boot host " ++ decimal 
 text_of_response (responses.Step line cpu reply) = decimal line ++ codes " " ++ decimal cpu ++ codes " " ++ text_of_reply reply
 text_of_response (responses.Word word) = codes "word 0x" ++ digits_16 word
 text_of_response (responses.Free free) = codes "free " ++ decimal free
+text_of_response (responses.Run run) = codes "run " ++ text_of_page run.pages.first.0 ++ codes " " ++ decimal run.pages.count ++ codes " " ++ text_of_entry (entry_of_target run.target)

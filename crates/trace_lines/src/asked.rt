@@ -6,6 +6,7 @@ ghost use Rattle.trace_lines.specs.Asked.{
   begins_with_digit as begins_with_digit_byte,
   headers,
   of_call as of_call_by,
+  of_show as of_show_by,
   of_tree as of_tree_by,
   pools,
   tree_names,
@@ -46,6 +47,9 @@ impl Asked {
         }
         if is_name(first, b"free") {
             return pool(words.get(1)?);
+        }
+        if is_name(first, b"show") {
+            return show(words.get(1)?);
         }
         header(first, words)
     }
@@ -151,6 +155,18 @@ fn tree_name(word: &[u8]) -> Option<TreeName>
     } else {
         None
     }
+}
+
+/// `show` of the tree of this name.
+fn show(name: &[u8]) -> Option<Asked>
+    ensures { result ≡ option_map of_show_by (named tree_names name.now) }
+{
+    let tree = tree_name(name)?;
+    Some(Asked {
+        verb: Verb::Query,
+        words: 2,
+        line: Some(Line::Query(Query::Show(tree))),
+    })
 }
 
 /// `free` of the pool of this name.

@@ -42,6 +42,8 @@ pub enum Query {
     },
     /// The number of free frames of the shared pool.
     FreeShared,
+    /// The maplets of a tree.
+    Show(TreeName),
 }
 
 /// A tree that a line names.

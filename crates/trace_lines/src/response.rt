@@ -2,7 +2,7 @@
 ghost use Rattle.std.specs.Prelude.{Some};
 ghost use Rattle.trace_lines.specs.Texts.{digits_16, text_of_response};
 
-use page_state::Reply;
+use page_state::{Entry, Reply, Run};
 use std::fmt;
 
 /// A line of the report that a line of the trace makes, without its end.
@@ -24,6 +24,8 @@ pub enum Response {
     Word(u64),
     /// The number of free frames.
     Free(usize),
+    /// A run of a tree's maplets.
+    Run(Run),
 }
 
 impl fmt::Display for Response {
@@ -37,6 +39,11 @@ impl fmt::Display for Response {
             Response::Step { line, cpu, reply } => write!(f, "{line} {cpu} {reply}"),
             Response::Word(word) => write!(f, "word 0x{}", Digits(*word)),
             Response::Free(free) => write!(f, "free {free}"),
+            Response::Run(run) => {
+                let Run { pages, target } = *run;
+                let entry = Entry::from(target);
+                write!(f, "run 0x{:x} {} {entry}", pages.first.0, pages.count)
+            }
         }
     }
 }

@@ -1,5 +1,6 @@
 mod Asked
 mod Fronts
+mod Lined
 mod Machines
 mod OneLine
 mod ReplayLemmas

@@ -26,8 +26,8 @@ use Rattle.table_tree.proofs.PathNumbers.{Small, all_small}
 use Rattle.table_tree.proofs.Said.{word_where}
 use Rattle.trace_lines.specs.declared.line.TreeName.{TreeName}
 use Rattle.trace_lines.specs.declared.line.TreeName.TheVariants.{Host, Hyp}
-use Rattle.trace_text.specs.View.{machine_of}
-use Rattle.trace_text.specs.Worlds.{IsBootOf, HasWordOn, IsWordOn, tree_told, tables_told, free_told}
+use Rattle.trace_text.specs.View.{machine_of, maplets_of, runs_in}
+use Rattle.trace_text.specs.Worlds.{IsBootOf, HasMaplets, HasWordOn, IsWordOn, tree_told, tables_told, free_told}
 use Rattle.world.specs.Boots.{IsBooted}
 use Rattle.world.specs.declared.World.{World}
 
@@ -63,6 +63,20 @@ module _ {A : Type 0} (w : World A) (s : SharedPart A) (e : w.parts.shared.items
 
   pub free_is : length s.pool.frames ≡ free_told (machine_of w)
   free_is = ap (λ (x : Shared). length x.free) (sym shared_is)
+
+-- the maplets that a world keeps are those of its trees
+module _ {A : Type 0} (w : World A) (tree : TreeName) where
+  of_one : (s : SharedPart A) (e : w.parts.shared.items ≡ s ∷ []) (name : TreeName) → HasMaplets (tree_told (machine_of w) name) (maplets_of name s)
+  of_one s e Host = record { map_is = ap (λ (x : ReferenceTree). x.map) (host_told w s e) ∙ s.host.agree; coarsest = s.host.coarsest }
+  of_one s e Hyp = record { map_is = ap (λ (x : ReferenceTree). x.map) (hyp_told w s e) ∙ s.hyp.agree; coarsest = s.hyp.coarsest }
+
+  by_items : (xs : List (SharedPart A)) → w.parts.shared.items ≡ xs → length xs ≡ 1 → HasMaplets (tree_told (machine_of w) tree) (one [] (maplets_of tree) xs)
+  by_items [] e n = absurd (omega (arith, n))
+  by_items (s ∷ []) e n = of_one s e tree
+  by_items (s ∷ (t ∷ xs)) e n = absurd (omega (arith, n))
+
+  pub has_maplets : HasMaplets (tree_told (machine_of w) tree) (runs_in (Some w) tree)
+  has_maplets = by_items w.parts.shared.items refl (let one_shared : length w.parts.shared.items ≡ 1 = omega (arith, w.parts.one_shared, w.parts.shared.ok.0) in one_shared)
 
 -- the machine that has booted
 pub boots : {A : Type 0} (m : Memory) (c : Config) (w : World A) → IsBooted m c w.parts → IsBootOf m c (machine_of w)

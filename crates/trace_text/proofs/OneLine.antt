@@ -1,7 +1,8 @@
 -- What the next line of a trace does where a world stands.
-use Rattle.std.proofs.Common.{◌≡◌, ◌<◌, ℕ, ◌+◌, refl, subst, ◌∙◌, ap, true, false, List, [], ◌∷◌, ◌++◌, Option, Some, None, Result, Ok, Err, IfSome, MatchOption, option_map, is_some, inl, inr}
+use Rattle.std.proofs.Common.{◌≡◌, ◌<◌, ℕ, ◌+◌, refl, subst, ◌∙◌, ap, true, false, List, [], ◌∷◌, ◌++◌, Option, Some, None, Result, Ok, Err, IfSome, MatchOption, option_map, is_some, map, inl, inr}
 use Rattle.std.specs.Prelude.{◌⊎◌, ok_or}
 use Rattle.std.proofs.lemmas.Bool.{cases_lt}
+use Rattle.page_state.specs.declared.entry.Run.{Run}
 use Rattle.page_state.specs.declared.step.Step.{Step}
 use Rattle.page_state.specs.declared.reply.Call.{Call}
 use Rattle.reference_model.specs.State.{Reference}
@@ -28,6 +29,11 @@ use Rattle.trace_text.specs.Session.{Standing, Answer, Answers, Follows, MakesSt
 use Rattle.trace_text.specs.Worlds.{Machine, in_state, free_told}
 use Rattle.trace_text.proofs.Asked.{Fits, fits}
 use Rattle.trace_lines.proofs.Saying.{mapped}
+
+-- runs tell of no step
+runs_silent : (runs : List Run) → replies_told (map report.Response (map responses.Run runs)) ≡ []
+runs_silent [] = refl
+runs_silent (run ∷ runs) = runs_silent runs
 
 -- it is a fault
 pub record Faulted (number : ℕ) (reported : List ReportLine) (outcome : Outcome) : Type 0 where
@@ -92,6 +98,9 @@ module _ (number : ℕ) (line : List ℕ) (rest : List (List ℕ)) (old new : St
   by_query (queries.Word tree page level) m silent =
       asks (option_map responses.Word m.0) faults.Path (mapped (λ says. reply_of says ≡ None) responses.Word (λ w. refl) m.0) m.2.0 m.2.1 silent
   by_query queries.FreeShared m silent = asks (Some (responses.Free (free_told world))) (faults.Line Place) refl m.0 m.1 silent
+  by_query (queries.Show tree) m silent =
+      let b = rw m.2 at begins in
+      inr (inl (record { new = new; stands = still m.3; silent = silent; says = map report.Response (map responses.Run m.0); more = b.0; is = b.1; no_step = runs_silent m.0; report = b.2 }))
 
   by_said : (r : Result (Option Line) LineFault) → Fits true r (step_asked line) → Follows number r old answer new → OneLine number world line rest reported outcome
   by_said (Err fault) fit f = fault_ends (faults.Line fault) f.0

@@ -1,5 +1,5 @@
 -- The report so far, and what the rest of the trace adds to it.
-use Rattle.std.proofs.Common.{◌≡◌, ℕ, ◌+◌, ◌<◌, ◌≤◌, refl, sym, ◌∙◌, ap, arith, true, false, List, [], ◌∷◌, ◌++◌, length, map, subst, take, drop, Option, Some, None, Result, Ok, Err, IsOk, IfOk, OnErr, IfSome, IsSomeAnd, is_some, nat_lt, inl, inr}
+use Rattle.std.proofs.Common.{◌≡◌, ℕ, ◌+◌, ◌<◌, ◌≤◌, refl, sym, ◌∙◌, ap, arith, true, false, List, [], ◌∷◌, ◌++◌, length, map, take, drop, Option, Some, None, Result, Ok, Err, IsOk, IfOk, OnErr, IfSome, IsSomeAnd, is_some, nat_lt, inl, inr}
 use Rattle.std.proofs.lemmas.List.{append_assoc, append-nil, length-take-le, take_all, take-append-drop}
 use Rattle.std.proofs.lemmas.Bool.{lt-ltb, cases_lt}
 use Rattle.std.specs.Io.KnownBytes.{Appends, prepend_known}
@@ -199,10 +199,10 @@ begins_end None left next line number old told h none = tt
 begins_end (Some bytes) None next line number old told h none = absurd h
 begins_end (Some bytes) (Some rest) next line number old told h none = h (report.End old.steps 0 ∷ []) (rw (none, no_lines) (inr refl))
 
-appends_lines : (a b c : Option (List ℕ)) (xs ys : List ReportLine) → Appends a b (text_of_report xs) → Appends b c (text_of_report ys) → Appends a c (text_of_report (xs ++ ys))
+pub appends_lines : (a b c : Option (List ℕ)) (xs ys : List ReportLine) → Appends a b (text_of_report xs) → Appends b c (text_of_report ys) → Appends a c (text_of_report (xs ++ ys))
 appends_lines a b c xs ys h k = rw (text_of_report-append xs ys) (appends_both a b c (text_of_report xs) (text_of_report ys) h k)
 
-appends_none : (a : Option (List ℕ)) → Appends a a []
+pub appends_none : (a : Option (List ℕ)) → Appends a a []
 appends_none None = tt
 appends_none (Some xs) = sym (append-nil xs)
 
@@ -279,17 +279,11 @@ plays all left next before now last line number old new so_far first few played 
     onward : (answer : Answer) → RunsLine number line old answer new → Writes number answer now last None → SoFar all next before last (number + 1) new
     onward (Err (stops.Fault fault)) runs writes = absurd (let e = writes.1 in cc)
     onward (Err stops.NoMemory) runs writes = absurd writes
-    onward (Ok []) runs writes = record {
-      told = so_far.told;
-      written = rw writes.0 so_far.written;
-      leads = subst (Leads all next (number + 1) new) (append-nil so_far.told) (leads_on all left next line number old new so_far.told [] so_far.leads first few runs);
-      begins = subst (LeadsOn all next (number + 1) new) (append-nil so_far.told) (begins_on all left next line number old new so_far.told [] so_far.begins first few runs);
-    }
-    onward (Ok (says ∷ more)) runs writes = record {
-      told = so_far.told ++ map report.Response (says ∷ more);
-      written = appends_lines before now last so_far.told (map report.Response (says ∷ more)) so_far.written writes.0;
-      leads = leads_on all left next line number old new so_far.told (says ∷ more) so_far.leads first few runs;
-      begins = begins_on all left next line number old new so_far.told (says ∷ more) so_far.begins first few runs;
+    onward (Ok says) runs writes = record {
+      told = so_far.told ++ map report.Response says;
+      written = appends_lines before now last so_far.told (map report.Response says) so_far.written writes.0;
+      leads = leads_on all left next line number old new so_far.told says so_far.leads first few runs;
+      begins = begins_on all left next line number old new so_far.told says so_far.begins first few runs;
     }
 
 -- the line that ends the run
@@ -308,8 +302,7 @@ faults_at all left next before now last line number old new outcome so_far first
           report = leads_fault all left next line number old new so_far.told fault so_far.leads first few runs;
         })
     ending (Err stops.NoMemory) runs writes = absurd writes
-    ending (Ok []) runs writes = absurd (let e = writes.1 in cc)
-    ending (Ok (says ∷ more)) runs writes = absurd (let e = writes.1 in cc)
+    ending (Ok says) runs writes = absurd (let e = writes.1 in cc)
 
 -- one line too many
 pub too_many : (all left next before now last : Option (List ℕ)) (line : List ℕ) (number : ℕ) (old : Standing) (outcome : Outcome)

@@ -29,6 +29,7 @@ reply_of (responses.Boot host hyp free) = None
 reply_of (responses.Step number cpu reply) = Some (cpu, reply)
 reply_of (responses.Word word) = None
 reply_of (responses.Free free) = None
+reply_of (responses.Run run) = None
 
 -- those that a line of a report tells
 abbrev pub reply_told : ReportLine → Option (ℕ × Reply)

@@ -13,8 +13,7 @@ use Rattle.trace_text.specs.Texts.{text_of_report}
 abbrev pub Writes : ℕ → Answer → Option (List ℕ) → Option (List ℕ) → Option Outcome → Type 0
 Writes number (Err (stops.Fault fault)) old new ended = Appends old new (text_of_report (report.Fault number fault ∷ [])) × (ended ≡ Some outcomes.Fault)
 Writes number (Err stops.NoMemory) old new ended = ⊥
-Writes number (Ok []) old new ended = (new ≡ old) × (ended ≡ None)
-Writes number (Ok (line ∷ lines)) old new ended = Appends old new (text_of_report (map report.Response (line ∷ lines))) × (ended ≡ None)
+Writes number (Ok told) old new ended = Appends old new (text_of_report (map report.Response told)) × (ended ≡ None)
 
 -- a line that was carried out, from one standing to another, and reported
 pub record Plays (number : ℕ) (line : List ℕ) (before after : Standing) (old new : Option (List ℕ)) (ended : Option Outcome) : Type 0 where

@@ -1,6 +1,7 @@
 -- What a line does to a trace that is being carried out, and which lines of the report it makes (profile).
-use Rattle.std.specs.Prelude.{◌≡◌, ℕ, ◌+◌, ◌<◌, ◌≤◌, Bool, true, false, List, [], ◌∷◌, Option, Some, None, Result, Ok, Err, ok_or, is_some, option_map, MatchOption, MatchResult}
+use Rattle.std.specs.Prelude.{◌≡◌, ℕ, ◌+◌, ◌<◌, ◌≤◌, Bool, true, false, List, [], ◌∷◌, Option, Some, None, Result, Ok, Err, ok_or, is_some, map, option_map, MatchOption, MatchResult}
 use Rattle.page_state.specs.declared.entry.PageRange.{PageRange}
+use Rattle.page_state.specs.declared.entry.Run.{Run}
 use Rattle.page_state.specs.declared.layout.Config.{Config}
 use Rattle.page_state.specs.declared.layout.LayoutFault.{LayoutFault}
 use Rattle.page_state.specs.declared.layout.LayoutFault.TheVariants as layouts
@@ -29,7 +30,7 @@ use Rattle.trace_text.specs.declared.session.Stop.TheVariants as stops
 use Rattle.trace_lines.specs.Places.{before_boot}
 use Rattle.trace_lines.specs.Said.{said}
 use Rattle.trace_lines.specs.Settings.{Told, nothing_told, told_after, config_of}
-use Rattle.trace_text.specs.Worlds.{Machine, IsBootOf, IsWordOn, in_state, tree_told, tables_told, free_told}
+use Rattle.trace_text.specs.Worlds.{Machine, HasMaplets, IsBootOf, IsWordOn, in_state, tree_told, tables_told, free_told}
 
 -- where a trace stands: what was told, the machine once it is booted, and how many step lines were carried out
 pub record Standing : Type 0 where
@@ -115,6 +116,7 @@ abbrev pub Answers : Query → Machine → Standing → Answer → Standing → 
 Answers (queries.Word tree page level) m old answer new =
     (word : Option ℕ) × IsWordOn m.layout.depth (tree_told m tree) page level word × Asks (option_map responses.Word word) faults.Path old answer new
 Answers queries.FreeShared m old answer new = Asks (Some (responses.Free (free_told m))) (faults.Line Place) old answer new
+Answers (queries.Show tree) m old answer new = (runs : List Run) × HasMaplets (tree_told m tree) runs × (answer ≡ Ok (map responses.Run runs)) × (new ≡ old)
 
 -- what a line does, its number counted from 1
 abbrev pub DoesLine : ℕ → Line → Standing → Answer → Standing → Type 0

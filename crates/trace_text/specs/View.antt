@@ -1,8 +1,16 @@
 -- Where a session of code stands.
-use Rattle.std.specs.Prelude.{Option, Result, Ok, Err, option_map, option_to_list}
+use Rattle.std.specs.Prelude.{List, [], ◌∷◌, map, Option, Some, None, Result, Ok, Err, option_map}
+use Rattle.guest_steps.specs.declared.parts.SharedPart.{SharedPart}
+use Rattle.guest_steps.specs.Lent.{one}
 use Rattle.hypercalls.specs.Stands.{parts_layout, state_of}
+use Rattle.page_state.specs.declared.entry.Run.{Run}
+use Rattle.trace_lines.specs.declared.line.TreeName.{TreeName}
+use Rattle.trace_lines.specs.declared.line.TreeName.TheVariants.{Host, Hyp}
 use Rattle.trace_lines.specs.declared.response.Response.{Response}
+use Rattle.trace_lines.specs.declared.response.Response.TheVariants as responses
 use Rattle.trace_lines.specs.Settings.{told_of}
+use Rattle.trace_text.specs.declared.session.Reported.{Reported}
+use Rattle.trace_text.specs.declared.session.Reported.TheVariants as reported
 use Rattle.trace_text.specs.declared.session.Session.{Session}
 use Rattle.trace_text.specs.declared.session.Stop.{Stop}
 use Rattle.trace_text.specs.Session.{Answer, Standing}
@@ -17,7 +25,27 @@ machine_of w = record { layout = parts_layout w.parts; state = state_of w.parts 
 abbrev pub standing_of : {A : Type 0} → Session A → Standing
 standing_of s = record { told = told_of s.settings; machine = option_map machine_of s.world; steps = s.steps }
 
--- the answer of a session, which is one line of the report at most
-abbrev pub answer_of : Result (Option Response) Stop → Answer
-answer_of (Ok reported) = Ok (option_to_list reported)
-answer_of (Err stop) = Err stop
+-- the runs of the maplets beside a named tree
+abbrev pub maplets_of : {A : Type 0} → TreeName → SharedPart A → List Run
+maplets_of Host s = s.host.maplets.runs
+maplets_of Hyp s = s.hyp.maplets.runs
+
+-- those that a world keeps, if there is one
+abbrev pub runs_in : {A : Type 0} → Option (World A) → TreeName → List Run
+runs_in None tree = []
+runs_in (Some w) tree = one [] (maplets_of tree) w.parts.shared.items
+
+-- those that a session keeps
+abbrev pub kept_runs : {A : Type 0} → Session A → TreeName → List Run
+kept_runs s tree = runs_in s.world tree
+
+-- the lines of the report that a session's line makes
+abbrev pub lines_reported : {A : Type 0} → Session A → Reported → List Response
+lines_reported s reported.Nothing = []
+lines_reported s (reported.Line line) = line ∷ []
+lines_reported s (reported.Maplets tree) = map responses.Run (kept_runs s tree)
+
+-- the answer of a session
+abbrev pub answer_of : {A : Type 0} → Session A → Result Reported Stop → Answer
+answer_of s (Ok told) = Ok (lines_reported s told)
+answer_of s (Err stop) = Err stop

@@ -1,10 +1,12 @@
 -- A booted machine, and what a report tells of it, in the words of the reference state (profile).
-use Rattle.std.specs.Prelude.{◌≡◌, ℕ, ◌+◌, ◌-◌, ◌<◌, ◌≤◌, Option, Some, None, IsSome, is_some, filter, length}
+use Rattle.std.specs.Prelude.{◌≡◌, ℕ, ◌+◌, ◌-◌, ◌<◌, ◌≤◌, Option, Some, None, IsSome, is_some, filter, length, List}
 use Rattle.page_state.specs.Blocks.{block_at}
 use Rattle.page_state.specs.Geometries.{pages_below}
 use Rattle.page_state.specs.declared.layout.Config.{Config}
 use Rattle.page_state.specs.Layouts.{Layout}
+use Rattle.page_state.specs.declared.entry.Run.{Run}
 use Rattle.page_state.specs.Regions.{Memory}
+use Rattle.page_state.specs.Runs.{IsCoarsest, map_of}
 use Rattle.page_state.specs.Trees.{Tree}
 use Rattle.reference_model.specs.Boot.{CanBoot, boot}
 use Rattle.reference_model.specs.State.{Reference}
@@ -54,3 +56,8 @@ abbrev pub IsWordOn : ℕ → Tree → ℕ → ℕ → Option ℕ → Type 0
 IsWordOn depth tree page level None = ¬ HasWordOn depth tree page level
 IsWordOn depth tree page level (Some word) =
     HasWordOn depth tree page level × IsWordOf tree (block_at (3 - level) page) word × IsRunOrTable tree (block_at (3 - level) page)
+
+-- the maplets of a tree: the coarsest list of runs of its map
+pub record HasMaplets (tree : Tree) (runs : List Run) : Type 0 where
+  pub map_is : tree.map ≡ map_of runs
+  pub coarsest : IsCoarsest runs

@@ -1,10 +1,10 @@
 //! What a trace has said so far, and what a line does.
-ghost use Rattle.std.specs.Prelude.{◌≡◌, ◌+◌, ◌<◌, ◌≤◌, ◌^◌, List, Option, Some, is_some, OnOk, OnErr, MatchResult};
+ghost use Rattle.std.specs.Prelude.{◌≡◌, ◌+◌, ◌<◌, ◌≤◌, ◌^◌, List, [], Option, Some, is_some, OnOk, OnErr, MatchOption, MatchResult};
 ghost use Rattle.page_state.specs.declared.layout.Config.{Config};
 ghost use Rattle.page_state.specs.LayoutFaults.{IsAccepted};
 ghost use Rattle.page_state.specs.Regions.{memory_of};
 ghost use Rattle.trace_text.specs.Session.{Answers, Boots, DoesLine, IsNoWorld, MakesStep, OnMachine, RunsLine, Tells, allowed, at_start};
-ghost use Rattle.trace_text.specs.View.{answer_of, machine_of, standing_of};
+ghost use Rattle.trace_text.specs.View.{answer_of, kept_runs, machine_of, standing_of};
 ghost use Rattle.trace_lines.specs.Settings.{config_of, told_of};
 ghost use Rattle.world.specs.Boots.{IsBooted};
 ghost use Rattle.trace_lines.specs.Said.{StepHas};
@@ -12,6 +12,7 @@ ghost use Rattle.hypercalls.specs.Served.{IsServed};
 ghost use Rattle.trace_text.specs.Worlds.{IsWordOn, free_told, tables_told, tree_told};
 
 use crate::fault::Fault;
+use maplets::Maplets;
 use page_state::{MemoryMap, Page, PageRange, Region, Step};
 use std::alloc::{Allocator, Global};
 use trace_lines::{Allows, Line, LineFault, Query, Response, Setting, Settings, TreeName, said};
@@ -23,6 +24,16 @@ pub enum Stop {
     Fault(Fault),
     /// A growth that no line of the report tells of was refused.
     NoMemory,
+}
+
+/// What a line reports.
+#[derive(Clone, Copy, PartialEq, Debug)]
+pub enum Reported {
+    Nothing,
+    /// One line.
+    Line(Response),
+    /// The maplets of a tree, a line for each run.
+    Maplets(TreeName),
 }
 
 /// A trace that is being carried out.
@@ -72,24 +83,23 @@ impl<A: Allocator + Copy> Session<A> {
         }
     }
 
-    /// Carries out the line of this number, and gives the line of the report that it makes, if any. Of a line of over
-    /// 256 bytes any 257 serve.
-    pub fn run(&mut self, number: u64, line: &[u8]) -> Result<Option<Response>, Stop>
+    /// Carries out the line of this number, and tells what it reports. Of a line of over 256 bytes any 257 serve.
+    pub fn run(&mut self, number: u64, line: &[u8]) -> Result<Reported, Stop>
         requires { (standing_of self.old).steps < 2 ^ 63 }
-        ensures done { RunsLine number line.now (standing_of self.old) (answer_of result) (standing_of self.new) }
+        ensures done { RunsLine number line.now (standing_of self.old) (answer_of self.new result) (standing_of self.new) }
         ensures steps { (standing_of self.new).steps ≤ (standing_of self.old).steps + 1 }
     {
         match said(self.allows(), &self.settings, line) {
             Ok(Some(said)) => self.carry_out(number, said),
-            Ok(None) => Ok(None),
+            Ok(None) => Ok(Reported::Nothing),
             Err(fault) => Err(Stop::Fault(Fault::Line(fault))),
         }
     }
 
-    fn carry_out(&mut self, number: u64, said: Line) -> Result<Option<Response>, Stop>
+    fn carry_out(&mut self, number: u64, said: Line) -> Result<Reported, Stop>
         requires few { self.old.steps < 2 ^ 63 }
         requires served { StepHas IsServed said }
-        ensures done { DoesLine number said (standing_of self.old) (answer_of result) (standing_of self.new) }
+        ensures done { DoesLine number said (standing_of self.old) (answer_of self.new result) (standing_of self.new) }
         ensures steps { self.new.steps ≤ self.old.steps + 1 }
     {
         match said {
@@ -101,19 +111,19 @@ impl<A: Allocator + Copy> Session<A> {
     }
 
     /// Takes up a setting.
-    fn tell(&mut self, setting: Setting) -> Result<Option<Response>, Stop>
-        ensures done { Tells setting (standing_of self.old) (answer_of result) (standing_of self.new) }
+    fn tell(&mut self, setting: Setting) -> Result<Reported, Stop>
+        ensures done { Tells setting (standing_of self.old) (answer_of self.new result) (standing_of self.new) }
         ensures steps { self.new.steps ≡ self.old.steps }
     {
         match self.settings.say(setting) {
-            Ok(()) => Ok(None),
+            Ok(()) => Ok(Reported::Nothing),
             Err(_) => Err(Stop::NoMemory),
         }
     }
 
     /// Makes the world.
-    fn boot(&mut self) -> Result<Option<Response>, Stop>
-        ensures done { Boots (standing_of self.old) (answer_of result) (standing_of self.new) }
+    fn boot(&mut self) -> Result<Reported, Stop>
+        ensures done { Boots (standing_of self.old) (answer_of self.new result) (standing_of self.new) }
         ensures steps { self.new.steps ≡ self.old.steps }
     {
         let Some(carve) = self.settings.carve else {
@@ -123,7 +133,7 @@ impl<A: Allocator + Copy> Session<A> {
             Ok(world) => {
                 let line = boot_line(&world);
                 self.world = Some(world);
-                Ok(Some(line))
+                Ok(Reported::Line(line))
             }
             Err(stop) => Err(stop),
         }
@@ -141,10 +151,10 @@ impl<A: Allocator + Copy> Session<A> {
     }
 
     /// Makes one step.
-    fn step(&mut self, number: u64, cpu: u64, step: Step) -> Result<Option<Response>, Stop>
+    fn step(&mut self, number: u64, cpu: u64, step: Step) -> Result<Reported, Stop>
         requires few { self.old.steps < 2 ^ 63 }
         requires served { IsServed step }
-        ensures done { OnMachine (MakesStep number cpu step) (standing_of self.old) (answer_of result) (standing_of self.new) }
+        ensures done { OnMachine (MakesStep number cpu step) (standing_of self.old) (answer_of self.new result) (standing_of self.new) }
         ensures steps { self.new.steps ≤ self.old.steps + 1 }
     {
         let Some(world) = self.world.as_mut() else {
@@ -155,7 +165,7 @@ impl<A: Allocator + Copy> Session<A> {
         }
         let reply = world.step(cpu, step);
         self.steps += 1;
-        Ok(Some(Response::Step {
+        Ok(Reported::Line(Response::Step {
             line: number,
             cpu,
             reply,
@@ -163,18 +173,34 @@ impl<A: Allocator + Copy> Session<A> {
     }
 
     /// Answers a query.
-    fn ask(&self, query: Query) -> Result<Option<Response>, Stop>
-        ensures { OnMachine (Answers query) (standing_of self.now) (answer_of result) (standing_of self.now) }
+    fn ask(&self, query: Query) -> Result<Reported, Stop>
+        ensures { OnMachine (Answers query) (standing_of self.now) (answer_of self.now result) (standing_of self.now) }
     {
         let Some(world) = self.world.as_ref() else {
             return Err(Stop::Fault(Fault::Line(LineFault::Place)));
         };
         match query {
             Query::Word { tree, page, level } => match word_on(world, tree, page, level) {
-                Some(word) => Ok(Some(Response::Word(word))),
+                Some(word) => Ok(Reported::Line(Response::Word(word))),
                 None => Err(Stop::Fault(Fault::Path)),
             },
-            Query::FreeShared => Ok(Some(Response::Free(world.parts().shared().pool.free()))),
+            Query::FreeShared => {
+                let free = world.parts().shared().pool.free();
+                Ok(Reported::Line(Response::Free(free)))
+            }
+            Query::Show(tree) => Ok(Reported::Maplets(tree)),
+        }
+    }
+
+    /// The maplets of a tree. None before the boot.
+    pub fn maplets(&self, tree: TreeName) -> Option<&Maplets>
+        ensures { MatchOption result (kept_runs self.now tree ≡ []) (λ maplets. maplets.now.runs ≡ kept_runs self.now tree) }
+    {
+        let world = self.world.as_ref()?;
+        let shared = world.parts().shared();
+        match tree {
+            TreeName::Host => Some(shared.host.maplets()),
+            TreeName::Hyp => Some(shared.hyp.maplets()),
         }
     }
 }

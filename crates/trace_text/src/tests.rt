@@ -116,6 +116,16 @@ fn reports_lines_in_order(rt: HostRuntime) -> Result<(), Fail> {
 }
 
 #[test]
+fn shows_a_line_for_each_run(rt: HostRuntime) -> Result<(), Fail> {
+    let report = b"run 0x40600 64 annot 1\nend steps 0 disagreements 0\n";
+    check(&rt, b"show host\n", report, Outcome::Clean)?;
+    let lines = b"0 share_hyp 0x40100\nshow hyp\n";
+    let report =
+        b"7 0 ok\nrun 0x4040100 1 leaf 0x40100 rw normal shared_borrowed\nrun 0x4040600 64 leaf 0x40600 rw normal owned\nend steps 1 disagreements 0\n";
+    check(&rt, lines, report, Outcome::Clean)
+}
+
+#[test]
 fn tells_failed_reads_and_writes(rt: HostRuntime) -> Result<(), Fail> {
     let mut written = Vec::new(rt.alloc());
     let reader = Cut {

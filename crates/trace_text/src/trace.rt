@@ -1,19 +1,22 @@
 //! Replaying a trace.
-ghost use Rattle.std.specs.Prelude.{◌≡◌, ◌<◌, ◌≤◌, ◌+◌, ◌^◌, [], ◌∷◌, IfOk, OnErr, OnOk};
+ghost use Rattle.std.specs.Prelude.{◌≡◌, ◌<◌, ◌≤◌, ◌+◌, ◌^◌, [], ◌∷◌, IfOk, OnErr, OnOk, map};
 ghost use Rattle.std.specs.Io.KnownBytes.{Appends};
 ghost use Rattle.trace_text.specs.Failures.{CountsReads, CountsWrites, TellsWrite};
 ghost use Rattle.trace_text.specs.Replay.{IsBegun, IsReplayed};
 ghost use Rattle.trace_text.specs.Played.{Plays, PlaysFront, WritesFront};
 ghost use Rattle.trace_text.specs.Texts.{text_of_report};
-ghost use Rattle.trace_text.specs.View.{standing_of};
+ghost use Rattle.trace_text.specs.View.{lines_reported, standing_of};
 
 use crate::fault::Fault;
 use crate::report::ReportLine;
-use crate::session::{Session, Stop};
+use crate::session::{Reported, Session, Stop};
 use crate::sink::Sink;
+use maplets::Runs;
 use std::alloc::{Allocator, Global};
 use std::io::Write;
-use trace_lines::{EngineFault, Failed, MOST_BYTES, Outcome, ReadAhead, Source, read_line};
+use trace_lines::{
+    EngineFault, Failed, MOST_BYTES, Outcome, ReadAhead, Response, Source, read_line,
+};
 
 /// The most lines of a trace.
 const MOST_LINES: u64 = 1_048_576;
@@ -69,9 +72,8 @@ fn play<A: Allocator + Copy, K: Sink>(
     ensures counted { TellsWrite (K.failures sink.old) (K.failures sink.new) result }
 {
     match session.run(number, line) {
-        Ok(None) => Ok(None),
-        Ok(Some(told)) => {
-            tell(sink, text, ReportLine::Response(told))?;
+        Ok(reported) => {
+            tell_reported(session, sink, text, reported)?;
             Ok(None)
         }
         Err(Stop::Fault(fault)) => {
@@ -80,6 +82,41 @@ fn play<A: Allocator + Copy, K: Sink>(
         }
         Err(Stop::NoMemory) => Err(EngineFault::NoMemory),
     }
+}
+
+/// Writes what a line of the trace reports.
+fn tell_reported<A: Allocator + Copy, K: Sink>(
+    session: &Session<A>,
+    sink: &mut K,
+    text: &mut Vec<u8>,
+    reported: Reported,
+) -> Result<(), EngineFault>
+    requires few { K.failures sink.old < 2 ^ 63 }
+    ensures ok { OnOk result (Appends (K.contents sink.old) (K.contents sink.new) (text_of_report (map ReportLine.Response (lines_reported session.now reported)))) }
+    ensures front { OnErr result (WritesFront (map ReportLine.Response (lines_reported session.now reported)) (K.contents sink.old) (K.contents sink.new)) }
+    ensures counted { TellsWrite (K.failures sink.old) (K.failures sink.new) result }
+{
+    match reported {
+        Reported::Nothing => Ok(()),
+        Reported::Line(told) => tell(sink, text, ReportLine::Response(told)),
+        Reported::Maplets(tree) => match session.maplets(tree) {
+            Some(maplets) => tell_runs(sink, text, maplets.iter()),
+            None => Ok(()),
+        },
+    }
+}
+
+/// Writes a line for each run of maplets.
+fn tell_runs<K: Sink>(sink: &mut K, text: &mut Vec<u8>, runs: Runs<'_>) -> Result<(), EngineFault>
+    requires few { K.failures sink.old < 2 ^ 63 }
+    ensures ok { OnOk result (Appends (K.contents sink.old) (K.contents sink.new) (text_of_report (map ReportLine.Response (map Response.Run runs.entry)))) }
+    ensures front { OnErr result (WritesFront (map ReportLine.Response (map Response.Run runs.entry)) (K.contents sink.old) (K.contents sink.new)) }
+    ensures counted { TellsWrite (K.failures sink.old) (K.failures sink.new) result }
+{
+    for run in runs {
+        tell(sink, text, ReportLine::Response(Response::Run(run)))?;
+    }
+    Ok(())
 }
 
 /// Writes a line of the report, which is made in `text` first.

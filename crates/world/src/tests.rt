@@ -10,6 +10,7 @@ use descriptor::{Desc, Frame, Kind, Level, Owner, Prot, State, encode};
 use ghost_spec::blocks::Block;
 use ghost_spec::{boot, runs, share, tree};
 use guest_steps::SharedPart;
+use linked_list_allocator::LocalHeap;
 use page_state::{
     Entry, Lent, Page, PageRange, Refusal, Region, RegionKind, Row, Run, Usage, Value,
 };
@@ -292,5 +293,87 @@ fn makes_each_call(rt: HostRuntime) -> Result<(), Fail> {
     );
     expect_reply(&rt, &mut world, Step::Fund { pfn, n: 512 }, Value::Nothing);
     expect_reply(&rt, &mut world, Step::Unfund, Value::Nothing);
+    Ok(())
+}
+
+/// What a step that wants memory must leave as it was: free frames, tables of both trees, runs of both lists, and the entries
+/// and the row of a frame.
+fn seen<A: Allocator>(
+    shared: &SharedPart<A>,
+    pfn: u64,
+) -> (usize, usize, usize, Entry, Entry, Option<Row>) {
+    let row = shared
+        .rows
+        .runs()
+        .iter()
+        .copied()
+        .find(|run| run.pages.contains(Page(pfn)));
+    (
+        shared.pool.free(),
+        shared.host.tree().tables(),
+        shared.hyp.tree().tables(),
+        shared.host.translate(Page(pfn)),
+        shared.hyp.translate(Page(pfn)),
+        row.map(|run| run.value),
+    )
+}
+
+/// Makes the step while the heap of the tables has room of `tables` tables, and again with all of it. The first is refused
+/// for want of memory where `tables` are too few, and leaves all as it was.
+fn with_few_tables(
+    rt: &impl Abort,
+    global: Global,
+    step: Step,
+    tables: usize,
+    refused: bool,
+) -> Result<(), Fail>
+    requires served { IsServed step }
+{
+    let heap = LocalHeap::new(global, 1 << 20)?;
+    let map = memory(global, 0x40)?;
+    let mut world = World::boot(global, &heap, &map, CONFIG)?;
+    let mut kept = Vec::new(global);
+    for _table in 0..tables {
+        kept.push(Vec::<u8, _>::with_capacity(&heap, 12_544)?)?;
+    }
+    let mut filling = Vec::new(global);
+    for size in [65536usize, 4096, 256, 16] {
+        for _block in 0..64usize {
+            if let Ok(block) = Vec::<u8, _>::with_capacity(&heap, size) {
+                filling.push(block)?;
+            }
+        }
+    }
+    drop(kept);
+    let before = seen(world.parts().shared(), 0x40100);
+    assert!(rt; world.cpus() > 0);
+    let reply = world.step(0, step);
+    if refused {
+        assert_eq!(rt; reply, Reply::Refused(Refusal::NoMemory));
+        assert!(rt; seen(world.parts().shared(), 0x40100) == before);
+        drop(filling);
+        assert!(rt; world.cpus() > 0);
+        assert_eq!(rt; world.step(0, step), Reply::Done(Value::Nothing));
+    } else {
+        assert_eq!(rt; reply, Reply::Done(Value::Nothing));
+    }
+    Ok(())
+}
+
+#[test]
+fn wants_memory_for_each_table(rt: HostRuntime) -> Result<(), Fail> {
+    let share = Step::ShareHyp { pfn: 0x40100 };
+    let donation = Step::DonateHyp {
+        pfn: 0x40100,
+        n: 512,
+    };
+    let abort = Step::HostAbort { page: 0x40500 };
+    for tables in 0..3usize {
+        with_few_tables(&rt, rt.alloc(), share, tables, tables < 2)?;
+    }
+    for tables in 0..5usize {
+        with_few_tables(&rt, rt.alloc(), donation, tables, tables < 4)?;
+    }
+    with_few_tables(&rt, rt.alloc(), abort, 0, false)?;
     Ok(())
 }
