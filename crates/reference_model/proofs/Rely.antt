@@ -13,19 +13,25 @@ use Rattle.page_state.specs.Entries.{IsRangeEntry}
 use Rattle.page_state.specs.Layouts.{Layout}
 use Rattle.page_state.specs.Rows.{HasPageBelow, HasLentBelow}
 use Rattle.reference_model.specs.declared.changes.Changes.{Changes}
+use Rattle.reference_model.specs.declared.changes.GuestChange.{GuestChange}
+use Rattle.reference_model.specs.declared.changes.GuestChange.TheVariants.{Keep as KeepGuest, Install, Gain, LoseLowest, Die, Empty}
 use Rattle.reference_model.specs.declared.changes.MapChange.{MapChange}
+use Rattle.reference_model.specs.declared.changes.SlotChange.{SlotChange}
+use Rattle.reference_model.specs.declared.changes.SlotChange.TheVariants.{Keep as KeepSlots, Reserve, Open, Close, Release, Load, Unload}
 use Rattle.reference_model.specs.Answers.{decides, CarriesOut}
-use Rattle.reference_model.specs.ChangeLaws.{Fits, FitsWhere, AllFit, TouchedFits}
+use Rattle.reference_model.specs.ChangeLaws.{CanGain, CanInstall, Fits, FitsPart, FitsTable, FitsWhere, AllFit, PartsFit, TouchedFits}
 use Rattle.reference_model.specs.Parts.{names, guest_slot, lacks_slot}
 use Rattle.reference_model.specs.Rely.{IsReached, CanRely, ReachedRelies, RelyingAnswers}
 use Rattle.reference_model.specs.RowChanges.{first_row}
-use Rattle.reference_model.specs.State.{Contents}
+use Rattle.reference_model.specs.State.{Contents, Guest}
 use Rattle.reference_model.specs.Step.{rule_of}
 use Rattle.reference_model.specs.Used.{Used, used_of}
 use Rattle.reference_model.proofs.Answers.{told-ok, carried-by}
 use Rattle.reference_model.proofs.Held.{slot-low}
 use Rattle.reference_model.proofs.conditions.ChangesFit.{changes_fit, touched_whole}
+use Rattle.reference_model.proofs.conditions.Bounding.{run_bounded}
 use Rattle.reference_model.proofs.conditions.Keeps.{rows_told}
+use Rattle.reference_model.proofs.conditions.PartsFit.{part_changes_fit}
 use Rattle.reference_model.proofs.conditions.RunsLegal.{ready-usable, run_legal}
 
 -- equality of what a call uses is a proposition
@@ -59,6 +65,40 @@ module _ {P : Type 0} (h : ∥ P ∥₁) where
     guest = fits_from d c.guest (λ p. (f p).guest);
   }
 
+  table_from : (h : SlotChange) → (P → FitsTable h) → FitsTable h
+  table_from KeepSlots f = tt
+  table_from (Reserve v kind vcpus) f = ∥∥₁_elim h le_prop f
+  table_from (Open v) f = ∥∥₁_elim h le_prop f
+  table_from (Close v) f = ∥∥₁_elim h le_prop f
+  table_from (Release vm) f = ∥∥₁_elim h (×_prop le_prop le_prop) f
+  table_from (Load v i c) f = ∥∥₁_elim h (×_prop le_prop le_prop) f
+  table_from (Unload v i) f = ∥∥₁_elim h (×_prop le_prop le_prop) f
+
+  part_from : (l : Layout) (g : Guest) (c : GuestChange) → (P → FitsPart l g c) → FitsPart l g c
+  part_from l g KeepGuest f = tt
+  part_from l g (Install kind generation hand) f = record {
+    vacant = ∥∥₁_elim h (hlevel props) (λ p. (f p).vacant);
+    some = ∥∥₁_elim h le_prop (λ p. (f p).some);
+    few = ∥∥₁_elim h le_prop (λ p. (f p).few);
+    low = ∥∥₁_elim h le_prop (λ p. (f p).low);
+  }
+  part_from l g (Gain r) f = record {
+    made = λ e. ∥∥₁_elim h (λ u. absurd u) (λ p. (f p).made e);
+    apart = λ n e. ∥∥₁_elim h (hlevel props) (λ p. (f p).apart n e);
+    few = ∥∥₁_elim h le_prop (λ p. (f p).few);
+    low = ∥∥₁_elim h le_prop (λ p. (f p).low);
+  }
+  part_from l g LoseLowest f = tt
+  part_from l g Die f = λ e. ∥∥₁_elim h (λ u. absurd u) (λ p. f p e)
+  part_from l g Empty f = tt
+
+  parts_from : (l : Layout) (c : Changes) (g : Guest) → (P → PartsFit l c g) → PartsFit l c g
+  parts_from l c g f = record {
+    slot = table_from c.slot (λ p. (f p).slot);
+    mapped = λ e u. ∥∥₁_elim h (λ v. absurd v) (λ p. (f p).mapped e u);
+    part = part_from l g c.part (λ p. (f p).part);
+  }
+
   touched_from : (l : Layout) (cpu : ℕ) (slot : Option ℕ) (c : Changes) → (P → TouchedFits l cpu slot c) → TouchedFits l cpu slot c
   touched_from l cpu slot c f = record {
     whole = λ g t. ∥∥₁_elim h (hlevel props) (λ p. (f p).whole g t);
@@ -80,6 +120,7 @@ module _ (l : Layout) (cpu : ℕ) (slot : Option ℕ) (step : Step) (x : Used) (
       subst (CanRely l cpu slot step) (sym r.used) (record {
         slot_low = λ v e. slot-low l s legal cpu v step (sym named_at ∙ e);
         fit = λ h e. changes_fit l s cpu slot step h r.ready.accepted legal known named_at e;
+        parts = λ h e. part_changes_fit l r.state cpu slot step h r.ready.accepted legal (run_bounded l r.log r.state r.ready r.run) known named_at e;
         touched = λ h e. touched_whole l s cpu slot step h r.ready.accepted legal known named_at e;
         rows = rows_told l s cpu slot step (ready-usable l r.ready) known legal named_at;
       })
@@ -88,6 +129,7 @@ module _ (l : Layout) (cpu : ℕ) (slot : Option ℕ) (step : Step) (x : Used) (
   relies h = record {
     slot_low = λ v e. ∥∥₁_elim h le_prop (λ r. (relies_at r).slot_low v e);
     fit = λ c e. all_from h l.depth c (λ r. (relies_at r).fit c e);
+    parts = λ c e. parts_from h l c x.guest (λ r. (relies_at r).parts c e);
     touched = λ c e. touched_from h l cpu slot c (λ r. (relies_at r).touched c e);
     rows = λ e. ∥∥₁_elim h (used_prop _ _) (λ r. (relies_at r).rows e);
   }

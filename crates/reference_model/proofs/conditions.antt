@@ -16,6 +16,7 @@ pub mod Moves
 pub mod OfLegal
 pub mod PageMoves
 pub mod PageSteps
+pub mod PartsFit
 pub mod PoolSteps
 pub mod RangeMoves
 pub mod RowFacts

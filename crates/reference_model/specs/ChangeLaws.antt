@@ -15,12 +15,13 @@ use Rattle.reference_model.specs.declared.changes.SlotChange.{SlotChange}
 use Rattle.reference_model.specs.declared.changes.SlotChange.TheVariants.{Keep as KeepSlots, Reserve, Open, Close, Release, Load, Unload}
 use Rattle.reference_model.specs.declared.changes.Changes.{Changes}
 use Rattle.reference_model.specs.Answers.{decides}
+use Rattle.reference_model.specs.Bounds.{Bounded}
 use Rattle.reference_model.specs.Changes.{touched}
 use Rattle.reference_model.specs.Conditions.{Legal, guest_uses}
 use Rattle.reference_model.specs.GuestRules.{guest_table_count}
 use Rattle.reference_model.specs.Parts.{Names, names, guest_slot, uses_vms, uses_shared}
 use Rattle.reference_model.specs.RowChanges.{first_of, first_row}
-use Rattle.reference_model.specs.State.{Contents, Guest, empty}
+use Rattle.reference_model.specs.State.{Contents, Guest, Reference, empty}
 use Rattle.reference_model.specs.Step.{is_touched}
 use Rattle.reference_model.specs.Used.{Used, used_of}
 
@@ -106,3 +107,7 @@ pub record PartsFit (l : Layout) (h : Changes) (g : Guest) : Type 0 where
   pub slot : FitsTable h.slot
   pub mapped : is_some h.guest ≡ true → g.phase ≢ empty
   pub part : FitsPart l g h.part
+
+-- so is it of what a step decides to change in a legal state of bounded numbers
+abbrev pub PartChangesFit : Type 0
+PartChangesFit = (l : Layout) (s : Reference) (cpu : ℕ) (slot : Option ℕ) (step : Step) (h : Changes) → IsAcceptedLayout l → Legal l s.contents → Bounded l s → cpu < l.config.cpus → slot ≡ guest_slot (s.contents.cpu cpu) step → decides l cpu slot step (used_of (names step) slot cpu s.contents) ≡ Ok h → PartsFit l h (used_of (names step) slot cpu s.contents).guest

@@ -7,7 +7,7 @@ use Rattle.page_state.specs.Layouts.{Layout}
 use Rattle.reference_model.specs.declared.changes.Changes.{Changes}
 use Rattle.reference_model.specs.Answers.{decides, CarriesOut}
 use Rattle.reference_model.specs.Boot.{CanBoot}
-use Rattle.reference_model.specs.ChangeLaws.{AllFit, TouchedFits}
+use Rattle.reference_model.specs.ChangeLaws.{AllFit, PartsFit, TouchedFits}
 use Rattle.reference_model.specs.Parts.{Names, names, guest_slot}
 use Rattle.reference_model.specs.RowChanges.{with_told}
 use Rattle.reference_model.specs.Run.{IsRun}
@@ -23,10 +23,11 @@ pub record IsReached (l : Layout) (n : Names) (slot : Option ℕ) (cpu : ℕ) (x
   pub run : IsRun l log state
   pub used : x ≡ used_of n slot cpu state.contents
 
--- what a step may rely on: its slot is one of the 64, what it decides to change can be written, and the rows that it finds again are those that its changes tell
+-- what a step may rely on: its slot is one of the 64, what it decides to change can be written in the maps and made of the slots and the guest, and the rows that it finds again are those that its changes tell
 pub record CanRely (l : Layout) (cpu : ℕ) (slot : Option ℕ) (step : Step) (x : Used) : Type 0 where
   pub slot_low : (v : ℕ) → slot ≡ Some v → v < 64
   pub fit : (h : Changes) → decides l cpu slot step x ≡ Ok h → AllFit l.depth h
+  pub parts : (h : Changes) → decides l cpu slot step x ≡ Ok h → PartsFit l h x.guest
   pub touched : (h : Changes) → decides l cpu slot step x ≡ Ok h → TouchedFits l cpu slot h
   pub rows : fails l cpu slot step x ≡ None → made l cpu slot step x ≡ with_told l cpu slot (rule_of l cpu slot step x).changes (changed l.depth (rule_of l cpu slot step x).changes x)
 

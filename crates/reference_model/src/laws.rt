@@ -1,7 +1,7 @@
 //! Laws of the reference model. Each function does nothing, and its contract is the law.
 ghost use Rattle.reference_model.specs.Laws.{RefusalKeeps, LogFullKeeps, StepExists, StepOnce, ReplyOnce, EndOnce, PartsEnd, StepChanges, StepReads, StepAgrees, HistoryBegins, HistoryGrows, BootSound};
 ghost use Rattle.reference_model.specs.Answers.{BarredAnswers, CarriedAnswers, AnswerSteps, FullSteps, UsedSteps};
-ghost use Rattle.reference_model.specs.ChangeLaws.{ChangesUsed, ChangesFit, TouchedWhole};
+ghost use Rattle.reference_model.specs.ChangeLaws.{ChangesUsed, ChangesFit, PartChangesFit, TouchedWhole};
 ghost use Rattle.reference_model.specs.Held.{HistorySteps, CallGrows, HeldStored};
 ghost use Rattle.reference_model.specs.Rely.{ReachedRelies, RelyingAnswers};
 ghost use Rattle.reference_model.specs.RoomLaws.{StoredFalls, RunRooms};
@@ -51,10 +51,11 @@ pub fn answers()
     ensures held { HeldStored }
 {}
 
-/// What a rule changes is of parts that its step uses, can be written, and touches memory frames alone or none.
+/// What a rule changes is of parts that its step uses, can be written and made, and touches memory frames alone or none.
 pub fn change_laws()
     ensures used { ChangesUsed }
     ensures fit { ChangesFit }
+    ensures parts { PartChangesFit }
     ensures touched { TouchedWhole }
 {}
 

@@ -188,7 +188,7 @@ record Modest (l : Layout) (x : Used) (h : Changes) : Type 0 where
 page-range : (l : Layout) (g : ℕ) → not (is_good_page l g) ≡ false → g + 1 ≤ pages_below l.depth
 page-range l g h = let less = good-page l g h in omega arith
 
-hand-few : (o : Option PageRange) → is_none o ≡ false → ((r : PageRange) → o ≡ Some r → r.count ≤ 512) → (unwrap_or o no_range).count ≤ 512
+pub hand-few : (o : Option PageRange) → is_none o ≡ false → ((r : PageRange) → o ≡ Some r → r.count ≤ 512) → (unwrap_or o no_range).count ≤ 512
 hand-few (Some r) h k = k r refl
 hand-few None h k = cc
 

@@ -1,5 +1,6 @@
 use Rattle.reference_model.proofs.ChangesUsed.{changes_used}
 use Rattle.reference_model.proofs.conditions.ChangesFit.{changes_fit, touched_whole}
+use Rattle.reference_model.proofs.conditions.PartsFit.{part_changes_fit}
 use Rattle.reference_model.proofs.laws.change_laws.Goals as goal
 
 pub returns-clause-used : goal.returns-clause-used
@@ -10,3 +11,6 @@ returns-clause-fit c = changes_fit
 
 pub returns-clause-touched : goal.returns-clause-touched
 returns-clause-touched c = touched_whole
+
+pub returns-clause-parts : goal.returns-clause-parts
+returns-clause-parts c = part_changes_fit
