@@ -13,7 +13,7 @@ use Rattle.guest_steps.specs.declared.parts.GuestPart.{GuestPart}
 use Rattle.guest_steps.specs.declared.parts.CpuState.{CpuState}
 use Rattle.guest_steps.specs.Logs.{StoredCalls, IsOfSize}
 use Rattle.guest_steps.specs.MemoryRows.{HasMemoryRows}
-use Rattle.guest_steps.specs.View.{shared_of, cpu_of, depth_of}
+use Rattle.guest_steps.specs.View.{vm_slots, shared_of, guest_of, cpu_of, depth_of}
 
 -- what is lent: lists of none or one part, and the CPU's own state
 pub record Lent (A : Type 0) : Type 0 where
@@ -42,9 +42,9 @@ abbrev pub one : {P X : Type 0} → X → (P → X) → List P → X
 one blank f [] = blank
 one blank f (p ∷ ps) = f p
 
--- what is lent, as what a call uses. No call fills the VM part or a guest yet
+-- what is lent, as what a call uses
 abbrev pub used_in : {A : Type 0} → Lent A → Used
-used_in x = record { vms = no_vms; shared = one no_shared shared_of x.shared; guest = no_guest; cpu = cpu_of x.cpu }
+used_in x = record { vms = one no_vms vm_slots x.vms; shared = one no_shared shared_of x.shared; guest = one no_guest guest_of x.guest; cpu = cpu_of x.cpu }
 
 -- the slot of the Guest part that a step of the CPU uses
 abbrev pub slot_in : {A : Type 0} → Lent A → Step → Option ℕ

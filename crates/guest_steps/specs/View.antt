@@ -6,10 +6,17 @@ use Rattle.page_state.specs.declared.row.Row.{Row}
 use Rattle.page_state.specs.Geometries.{levels_below}
 use Rattle.page_state.specs.Regions.{is_in_range}
 use Rattle.page_state.specs.Rows.{advance_row}
-use Rattle.reference_model.specs.State.{Shared, Cpu, plain_row}
+use Rattle.reference_model.specs.State.{Vms, Shared, Guest, Cpu, plain_row, no_guest}
 use Rattle.table_tree.specs.View.{tree_of}
+use Rattle.guest_steps.specs.declared.parts.GuestPart.{GuestPart}
 use Rattle.guest_steps.specs.declared.parts.SharedPart.{SharedPart}
+use Rattle.guest_steps.specs.declared.parts.VmPart.{VmPart}
 use Rattle.guest_steps.specs.declared.parts.CpuState.{CpuState}
+use Rattle.vm_table.specs.View.{vms_of}
+
+-- the VM part
+abbrev pub vm_slots : VmPart → Vms
+vm_slots v = vms_of v.table
 
 -- the Shared part; a frame that has no row in the table is no memory frame, and has the plain one
 abbrev pub shared_of : {A : Type 0} → SharedPart A → Shared
@@ -18,6 +25,10 @@ shared_of s = record { host = tree_of s.host.tree; hyp = tree_of s.hyp.tree; fre
 -- the depth of its trees
 abbrev pub depth_of : {A : Type 0} → SharedPart A → ℕ
 depth_of s = levels_below s.host.tree.geometry
+
+-- a Guest part. No call fills it yet
+abbrev pub guest_of : GuestPart → Guest
+guest_of g = no_guest
 
 -- a CPU's own state
 abbrev pub cpu_of : CpuState → Cpu

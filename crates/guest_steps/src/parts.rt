@@ -10,10 +10,12 @@ use owner_table::OwnerTable;
 use page_state::PageRange;
 use reference_model::{Loaded, Ticket};
 use std::alloc::Allocator;
+use vm_table::VmTable;
 
-/// The VM part. No call fills it yet: all its slots are Empty.
+/// The VM part: the table of the 64 VM slots, and its log.
 #[derive(Drop)]
 pub struct VmPart {
+    pub table: VmTable,
     pub log: Log,
 }
 

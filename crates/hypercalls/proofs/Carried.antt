@@ -13,6 +13,8 @@ use Rattle.page_state.specs.Tables.{needs, edited, freed, returned}
 use Rattle.page_state.proofs.Common.{or-false, not-holds}
 use Rattle.reference_model.specs.declared.changes.Changes.{Changes}
 use Rattle.reference_model.specs.declared.changes.MapChange.{MapChange}
+use Rattle.reference_model.specs.declared.changes.SlotChange.{SlotChange}
+use Rattle.reference_model.specs.declared.changes.SlotChange.TheVariants.{Keep as KeepSlots}
 use Rattle.reference_model.specs.Answers.{CarriesOut}
 use Rattle.reference_model.specs.Rules.{may_grow}
 use Rattle.reference_model.specs.Changes.{touched, cpu_by, vms_by}
@@ -21,16 +23,19 @@ use Rattle.reference_model.specs.RowChanges.{first_of, told_row, with_told}
 use Rattle.reference_model.specs.State.{Vms, Shared, Guest, Cpu, no_shared, no_vms, no_guest}
 use Rattle.reference_model.specs.Step.{shared_need, shared_after, guest_after, is_short, changed}
 use Rattle.reference_model.specs.Used.{Used}
+use Rattle.guest_steps.specs.declared.parts.GuestPart.{GuestPart}
 use Rattle.guest_steps.specs.declared.parts.SharedPart.{SharedPart}
+use Rattle.guest_steps.specs.declared.parts.VmPart.{VmPart}
 use Rattle.std.proofs.lemmas.Bool.{ltb-true, lt-ltb}
+use Rattle.std.proofs.lemmas.Bool.Decides.{nat_tests}
 use Rattle.component.specs.View.{HasRoomFor, need_for}
 use Rattle.component.proofs.Keeps.{need_keep}
 use Rattle.page_state.specs.Geometries.{levels_below}
 use Rattle.table_tree.specs.View.{tree_of}
 use Rattle.guest_steps.specs.declared.parts.CpuState.{CpuState}
 use Rattle.guest_steps.specs.Lent.{Each, lent, one, used_in}
-use Rattle.guest_steps.specs.View.{shared_of, cpu_of}
-use Rattle.hypercalls.specs.Carried.{GrowsOnly, IsRoomy, IsUnfilled, LeavesShared, OnlyLent, rows_told}
+use Rattle.guest_steps.specs.View.{vm_slots, shared_of, guest_of, cpu_of}
+use Rattle.hypercalls.specs.Carried.{GrowsOnly, IsLentOr, IsRoomy, IsUnfilled, LeavesShared, rows_told}
 
 row_kept : (b t : Bool) (x y : Row) → t ≡ false → y ≡ (elim (b && t) [ true ↦ x | false ↦ y ])
 row_kept true t x y h = rw h refl
@@ -59,36 +64,42 @@ module _ (l : Layout) (h : Changes) (leaves : LeavesShared h) where
 
 -- a list of the Shared part, or of none
 module _ {A : Type 0} (l : Layout) (id : ℕ) (slot : Option ℕ) (h : Changes) where
-  pub made_of_none : (ss : List (SharedPart A)) → OnlyLent h ss → (length ss ≡ 1 → ⊥) → one no_shared shared_of ss ≡ rows_told l id slot h (shared_after l.depth h (one no_shared shared_of ss))
+  pub made_of_none : (ss : List (SharedPart A)) → IsLentOr (LeavesShared h) ss → (length ss ≡ 1 → ⊥) → one no_shared shared_of ss ≡ rows_told l id slot h (shared_after l.depth h (one no_shared shared_of ss))
   made_of_none [] only many = none_made l h only id slot
   made_of_none (s ∷ []) only many = absurd (many refl)
   made_of_none (s ∷ (t ∷ ss)) only many = absurd only
 
-  pub short_of_none : (ss : List (SharedPart A)) → OnlyLent h ss → (length ss ≡ 1 → ⊥) → (◌≡◌ {A = Result (Unit {0}) PoolFault} (Ok tt) (Err NoPool)) ↔ (length (one no_shared shared_of ss).free < shared_need l.depth h (one no_shared shared_of ss))
+  pub short_of_none : (ss : List (SharedPart A)) → IsLentOr (LeavesShared h) ss → (length ss ≡ 1 → ⊥) → (◌≡◌ {A = Result (Unit {0}) PoolFault} (Ok tt) (Err NoPool)) ↔ (length (one no_shared shared_of ss).free < shared_need l.depth h (one no_shared shared_of ss))
   short_of_none [] only many = none_short l h only
   short_of_none (s ∷ []) only many = absurd (many refl)
   short_of_none (s ∷ (t ∷ ss)) only many = absurd only
 
--- what is used, by the Shared part and the CPU alone
-abbrev pub used_by_both : Shared → Cpu → Used
-used_by_both s k = record { vms = no_vms; shared = s; guest = no_guest; cpu = k }
+-- the VM part, where it isn't lent
+pub slots_of_none : (change : SlotChange) (vs : List VmPart) → IsLentOr (change ≡ KeepSlots) vs → (length vs ≡ 1 → ⊥) → one no_vms vm_slots vs ≡ vms_by change (one no_vms vm_slots vs)
+slots_of_none change [] only many = sym (ap (λ c. vms_by c no_vms) only)
+slots_of_none change (v ∷ []) only many = absurd (many refl)
+slots_of_none change (v ∷ (w ∷ vs)) only many = absurd only
+
+less_none : (n : ℕ) → nat_lt n 0 ≡ false
+less_none n = grind (arith, nat_tests)
 
 same_used : (v v' : Vms) (s s' : Shared) (g g' : Guest) (k k' : Cpu) → v ≡ v' → s ≡ s' → g ≡ g' → k ≡ k' → ◌≡◌ {A = Used} (record { vms = v; shared = s; guest = g; cpu = k }) (record { vms = v'; shared = s'; guest = g'; cpu = k' })
 same_used v v' s s' g g' k k' a b c d = cc
 
--- what no call fills yet stays
+-- the guest, which no call fills yet, stays
 module _ (l : Layout) (h : Changes) (stays : IsUnfilled h) where
-  pub short_is : (s : Shared) (k : Cpu) → is_short l.depth h (used_by_both s k) ≡ nat_lt (length s.free) (shared_need l.depth h s)
+  pub short_is : (x : Used) → is_short l.depth h x ≡ nat_lt (length x.shared.free) (shared_need l.depth h x.shared)
   unfolding is_short needs
-  short_is s k = rw stays.guest (or-false (nat_lt (length s.free) (shared_need l.depth h s)))
+  short_is x = rw (stays.guest, less_none (length x.guest.free)) (or-false (nat_lt (length x.shared.free) (shared_need l.depth h x.shared)))
 
-  guest_same : guest_after l.depth h no_guest ≡ no_guest
+  guest_same : (g : Guest) → guest_after l.depth h g ≡ g
   unfolding guest_after needs edited freed returned
-  guest_same = rw (stays.guest, stays.part) refl
+  guest_same g = rw (stays.guest, stays.part) refl
 
-  pub all_made : (id : ℕ) (slot : Option ℕ) (s t : Shared) (k j : Cpu) → t ≡ rows_told l id slot h (shared_after l.depth h s) → j ≡ cpu_by h.cpu k → used_by_both t j ≡ with_told l id slot h (changed l.depth h (used_by_both s k))
+  pub all_made : (id : ℕ) (slot : Option ℕ) (v w : Vms) (s t : Shared) (g : Guest) (k j : Cpu) → w ≡ vms_by h.slot v → t ≡ rows_told l id slot h (shared_after l.depth h s) → j ≡ cpu_by h.cpu k
+      → ◌≡◌ {A = Used} (record { vms = w; shared = t; guest = g; cpu = j }) (with_told l id slot h (changed l.depth h (record { vms = v; shared = s; guest = g; cpu = k })))
   unfolding with_told changed
-  all_made id slot s t k j a b = same_used no_vms (vms_by h.slot no_vms) t (rows_told l id slot h (shared_after l.depth h s)) no_guest (guest_after l.depth h no_guest) j (cpu_by h.cpu k) (sym (ap (λ c. vms_by c no_vms) stays.slot)) a (sym guest_same) b
+  all_made id slot v w s t g k j a b c = same_used w (vms_by h.slot v) t (rows_told l id slot h (shared_after l.depth h s)) g (guest_after l.depth h g) j (cpu_by h.cpu k) a b (sym (guest_same g)) c
 
 -- where neither map changes, no growth can be needed
 pub roomy_of_none : {A : Type 0} (h : Changes) → h.host ≡ None → h.hyp ≡ None → (ss : List (SharedPart A)) → Each (IsRoomy h) ss
@@ -111,36 +122,43 @@ grows_by h step ss only short = go (may_grow step) only
     go true k = refl
     go false k = absurd (short (roomy_of_none h (k refl).0 (k refl).1 ss))
 
--- a list of the Shared part that was changed, or wasn't
-module _ {A : Type 0} (l : Layout) (id : ℕ) (slot : Option ℕ) (step : Step) (h : Changes) (stays : IsUnfilled h) (ss ts : List (SharedPart A)) (k j : CpuState) where
+-- lent parts that were changed, or weren't
+module _ {A : Type 0} (l : Layout) (id : ℕ) (slot : Option ℕ) (step : Step) (h : Changes) (stays : IsUnfilled h) (vs ws : List VmPart) (ss ts : List (SharedPart A)) (gs : List GuestPart) (k j : CpuState) where
   abbrev before : Used
-  before = used_in (lent [] ss [] k)
+  before = used_in (lent vs ss gs k)
 
   abbrev after : Used
-  after = used_in (lent [] ts [] j)
+  after = used_in (lent ws ts gs j)
 
-  pub carried : (length (one no_shared shared_of ss).free < shared_need l.depth h (one no_shared shared_of ss) → ⊥) → one no_shared shared_of ts ≡ rows_told l id slot h (shared_after l.depth h (one no_shared shared_of ss)) → cpu_of j ≡ cpu_by h.cpu (cpu_of k)
+  abbrev has_few : Type 0
+  has_few = length (one no_shared shared_of ss).free < shared_need l.depth h (one no_shared shared_of ss)
+
+  enough_is : (has_few → ⊥) → is_short l.depth h before ≡ false
+  enough_is enough = short_is l h stays before ∙ not-holds (nat_lt (length (one no_shared shared_of ss).free) (shared_need l.depth h (one no_shared shared_of ss))) (λ t. enough (ltb-true _ _ t))
+
+  same_after_all : one no_vms vm_slots ws ≡ one no_vms vm_slots vs → one no_shared shared_of ts ≡ one no_shared shared_of ss → cpu_of j ≡ cpu_of k → after ≡ before
+  same_after_all a b c = same_used _ _ _ _ (one no_guest guest_of gs) (one no_guest guest_of gs) _ _ a b refl c
+
+  pub carried : (has_few → ⊥) → one no_vms vm_slots ws ≡ vms_by h.slot (one no_vms vm_slots vs) → one no_shared shared_of ts ≡ rows_told l id slot h (shared_after l.depth h (one no_shared shared_of ss)) → cpu_of j ≡ cpu_by h.cpu (cpu_of k)
       → CarriesOut l id slot step true h before (Done h.value) after
-  carried enough a b = inl (record {
-    enough = short_is l h stays (one no_shared shared_of ss) (cpu_of k) ∙ not-holds (nat_lt (length (one no_shared shared_of ss).free) (shared_need l.depth h (one no_shared shared_of ss))) (λ t. enough (ltb-true _ _ t));
+  carried enough a b c = inl (record {
+    enough = enough_is enough;
     reply_is = refl;
-    next = all_made l h stays id slot (one no_shared shared_of ss) (one no_shared shared_of ts) (cpu_of k) (cpu_of j) a b;
+    next = all_made l h stays id slot (one no_vms vm_slots vs) (one no_vms vm_slots ws) (one no_shared shared_of ss) (one no_shared shared_of ts) (one no_guest guest_of gs) (cpu_of k) (cpu_of j) a b c;
   })
 
-  pub short : length (one no_shared shared_of ss).free < shared_need l.depth h (one no_shared shared_of ss) → one no_shared shared_of ts ≡ one no_shared shared_of ss → cpu_of j ≡ cpu_of k
-      → CarriesOut l id slot step true h before (Refused NoPoolReply) after
-  short few a b = inr (inl (record {
-    short = short_is l h stays (one no_shared shared_of ss) (cpu_of k) ∙ lt-ltb _ _ few;
+  pub short : has_few → one no_vms vm_slots ws ≡ one no_vms vm_slots vs → one no_shared shared_of ts ≡ one no_shared shared_of ss → cpu_of j ≡ cpu_of k → CarriesOut l id slot step true h before (Refused NoPoolReply) after
+  short few a b c = inr (inl (record {
+    short = short_is l h stays before ∙ lt-ltb _ _ few;
     reply_is = refl;
-    next = ap (λ x. used_by_both x (cpu_of j)) a ∙ ap (used_by_both (one no_shared shared_of ss)) b;
+    next = same_after_all a b c;
   }))
 
-  pub halted : (length (one no_shared shared_of ss).free < shared_need l.depth h (one no_shared shared_of ss) → ⊥) → may_grow step ≡ true → one no_shared shared_of ts ≡ one no_shared shared_of ss → cpu_of j ≡ cpu_of k
-      → CarriesOut l id slot step true h before (Refused NoMemory) after
-  halted enough grows a b = inr (inr (record {
-    enough = short_is l h stays (one no_shared shared_of ss) (cpu_of k) ∙ not-holds (nat_lt (length (one no_shared shared_of ss).free) (shared_need l.depth h (one no_shared shared_of ss))) (λ t. enough (ltb-true _ _ t));
+  pub halted : (has_few → ⊥) → may_grow step ≡ true → one no_vms vm_slots ws ≡ one no_vms vm_slots vs → one no_shared shared_of ts ≡ one no_shared shared_of ss → cpu_of j ≡ cpu_of k → CarriesOut l id slot step true h before (Refused NoMemory) after
+  halted enough grows a b c = inr (inr (record {
+    enough = enough_is enough;
     grows = grows;
     wanted = refl;
     reply_is = refl;
-    next = ap (λ x. used_by_both x (cpu_of j)) a ∙ ap (used_by_both (one no_shared shared_of ss)) b;
+    next = same_after_all a b c;
   }))

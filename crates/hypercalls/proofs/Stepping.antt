@@ -1,5 +1,5 @@
 -- Logs of lent parts, and the step that is stored in them.
-use Rattle.std.proofs.Common.{◌≡◌, ℕ, ◌+◌, ◌-◌, ◌≤◌, ◌<◌, ◌==◌, ◌&&◌, ◌||◌, ◌++◌, Bool, true, false, List, [], ◌∷◌, length, map, is_some, Option, Some, None, length-append, Result, Ok, refl, ap, sym, ◌∙◌, subst, arith}
+use Rattle.std.proofs.Common.{◌≡◌, ℕ, ◌+◌, ◌-◌, ◌≤◌, ◌<◌, ◌==◌, ◌&&◌, ◌||◌, ◌++◌, Bool, true, false, List, [], ◌∷◌, length, map, drop, is_some, Option, Some, None, length-append, Result, Ok, refl, ap, sym, ◌∙◌, subst, arith}
 use Rattle.std.proofs.lemmas.Bool.Decides.{nat_tests}
 use Rattle.owner_table.specs.Rows.{row_at}
 use Rattle.page_state.specs.declared.reply.Call.{Call}
@@ -9,18 +9,20 @@ use Rattle.page_state.specs.declared.reply.Reply.TheVariants.{Refused}
 use Rattle.page_state.specs.declared.step.Step.{Step}
 use Rattle.page_state.specs.Layouts.{Layout}
 use Rattle.guest_steps.specs.declared.parts.SharedPart.{SharedPart}
+use Rattle.guest_steps.specs.declared.parts.VmPart.{VmPart}
 use Rattle.guest_steps.specs.declared.parts.CpuState.{CpuState}
 use Rattle.guest_steps.specs.Lent.{Each, IsOneWhere, LentLogs, Lent, IsLent, SharedSuits, Suits, lent, with_call, all_with, call_in, one, rooms_in, logs_in, slot_in, used_in}
 use Rattle.guest_steps.specs.Logs.{StoredCalls, IsOfSize}
 use Rattle.guest_steps.specs.View.{depth_of}
 use Rattle.reference_model.specs.declared.changes.Changes.{Changes}
+use Rattle.reference_model.specs.declared.changes.SlotChange.TheVariants.{Keep as KeepSlots}
 use Rattle.reference_model.specs.Answers.{AnswerSteps, FullSteps}
 use Rattle.reference_model.proofs.Answers.{answer-stored}
 use Rattle.reference_model.specs.ChangeLaws.{OnlyUses}
 use Rattle.reference_model.specs.Parts.{Names, names, uses_vms, uses_shared}
 use Rattle.reference_model.specs.Step.{is_full, stored as stored_rooms, Answered, StepsOn}
 use Rattle.reference_model.specs.Used.{UsedRooms}
-use Rattle.hypercalls.specs.Carried.{OnlyLent}
+use Rattle.hypercalls.specs.Carried.{IsLentOr, LeavesShared, OnlyLent}
 use Rattle.hypercalls.specs.Steps.{any_full, CanWantOn, IsStepOn}
 
 or_parts : (a b c d : Bool) → (a || b || c || d) ≡ false → (a ≡ false) × (b ≡ false) × (c ≡ false) × (d ≡ false)
@@ -115,11 +117,18 @@ pub rooms_stored : (c : Call) (x : LentLogs) → rooms_in (all_with c x) ≡ sto
 unfolding stored_rooms
 rooms_stored c x = let a = one_stored c x.vms in let b = one_stored c x.shared in let d = one_stored c x.guest in cc
 
--- what is changed of the Shared part is lent
-pub only_lent : {A : Type 0} (n : Names) (slot : Option ℕ) (h : Changes) → OnlyUses n slot h → (ss : List (SharedPart A)) → IsOneWhere (uses_shared n slot) ss → OnlyLent h ss
-only_lent n slot h only [] one = record { host = only.host one; hyp = only.hyp one; moved = only.moved one }
-only_lent n slot h only (s ∷ []) one = tt
-only_lent n slot h only (s ∷ (t ∷ ss)) one = absurd one
+-- a part that isn't lent stays where it stays unless it is used
+lent_or : {P : Type 0} (Stays : Type 0) (used : Bool) (xs : List P) → (used ≡ false → Stays) → IsOneWhere used xs → IsLentOr Stays xs
+lent_or Stays used [] stays one = stays one
+lent_or Stays used (x ∷ []) stays one = tt
+lent_or Stays used (x ∷ (y ∷ xs)) stays one = absurd one
+
+-- what is changed is lent
+pub only_lent : {A : Type 0} (n : Names) (slot : Option ℕ) (h : Changes) → OnlyUses n slot h → (x : Lent A) → IsLent n slot x → OnlyLent h x
+only_lent n slot h only x one = record {
+  vms = lent_or (h.slot ≡ KeepSlots) (uses_vms n) x.vms only.vms one.vms;
+  shared = lent_or (LeavesShared h) (uses_shared n slot) x.shared (λ e. record { host = only.host e; hyp = only.hyp e; moved = only.moved e }) one.shared;
+}
 
 pub ok_is : {E : Type 0} (h k : Changes) → ◌≡◌ {A = Result Changes E} (Ok h) (Ok k) → h ≡ k
 ok_is h k e = cc
@@ -155,15 +164,22 @@ module _ {A : Type 0} (l : Layout) (id : ℕ) (step : Step) (x : Lent A) (fits :
         wants = wants;
       }
 
-pub few_logs : {A : Type 0} (used : Bool) (ss ts : List (SharedPart A)) → IsOneWhere used ss → map (λ p. p.log) ts ≡ map (λ p. p.log) ss → length ts ≤ 1
-few_logs used ss [] h e = omega arith
-few_logs used ss (t ∷ []) h e = omega arith
-few_logs used [] (t ∷ (u ∷ ts)) h e = absurd (let n = ap length e in cc)
-few_logs used (s ∷ []) (t ∷ (u ∷ ts)) h e = absurd (let n = ap length e in omega (arith, n))
-few_logs used (s ∷ (w ∷ ss)) (t ∷ (u ∷ ts)) h e = absurd h
+pub few_logs : {P : Type 0} (log : P → StoredCalls) (used : Bool) (ss ts : List P) → IsOneWhere used ss → map log ts ≡ map log ss → length ts ≤ 1
+few_logs log used ss [] h e = omega arith
+few_logs log used ss (t ∷ []) h e = omega arith
+few_logs log used [] (t ∷ (u ∷ ts)) h e = absurd (let n = ap length e in cc)
+few_logs log used (s ∷ []) (t ∷ (u ∷ ts)) h e = absurd (let n = ap length e in omega (arith, n))
+few_logs log used (s ∷ (w ∷ ss)) (t ∷ (u ∷ ts)) h e = absurd h
+
+-- parts with the same logs are of the same size
+same_sizes : {P : Type 0} (log : P → StoredCalls) (most : ℕ) (xs ys : List P) → map log ys ≡ map log xs → Each (λ p. IsOfSize most (log p)) xs → Each (λ p. IsOfSize most (log p)) ys
+same_sizes log most [] [] e h = tt
+same_sizes log most [] (y ∷ ys) e h = absurd (let n = ap length e in cc)
+same_sizes log most (x ∷ xs) [] e h = tt
+same_sizes log most (x ∷ xs) (y ∷ ys) e h = (subst (IsOfSize most) (sym (ap (one (log y) (λ g. g)) e)) h.0, same_sizes log most xs ys (ap (drop 1) e) h.1)
 
 pub same_logs : {A : Type 0} (x y : Lent A) → map (λ p. p.log) y.vms ≡ map (λ p. p.log) x.vms → map (λ p. p.log) y.shared ≡ map (λ p. p.log) x.shared → map (λ p. p.log) y.guest ≡ map (λ p. p.log) x.guest → y.cpu.log ≡ x.cpu.log → logs_in y ≡ logs_in x
 same_logs x y a b c d = cc
 
-pub suits_after : {A : Type 0} (l : Layout) (x : Lent A) (ss : List (SharedPart A)) (k : CpuState) → Suits l x → Each (SharedSuits l) ss → k.log ≡ x.cpu.log → Suits l (lent x.vms ss x.guest k)
-suits_after l x ss k h s e = record { vms = h.vms; shared = s; guest = h.guest; cpu = subst (λ g. IsOfSize l.config.log g) (sym e) h.cpu }
+pub suits_after : {A : Type 0} (l : Layout) (x : Lent A) (vs : List VmPart) (ss : List (SharedPart A)) (k : CpuState) → Suits l x → map (λ p. p.log) vs ≡ map (λ p. p.log) x.vms → Each (SharedSuits l) ss → k.log ≡ x.cpu.log → Suits l (lent vs ss x.guest k)
+suits_after l x vs ss k h v s e = record { vms = same_sizes (λ p. p.log) l.config.log x.vms vs v h.vms; shared = s; guest = h.guest; cpu = subst (λ g. IsOfSize l.config.log g) (sym e) h.cpu }

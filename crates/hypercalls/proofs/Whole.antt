@@ -33,7 +33,7 @@ use Rattle.guest_steps.specs.declared.parts.GuestPart.{GuestPart}
 use Rattle.guest_steps.specs.declared.parts.CpuState.{CpuState}
 use Rattle.guest_steps.specs.Lent.{Lent, LentLogs, IsLent, Suits, SharedSuits, Each, lent, used_in, slot_in, logs_in, rooms_in, one, call_in, all_with, with_call}
 use Rattle.guest_steps.specs.Logs.{StoredCalls, IsOfSize}
-use Rattle.guest_steps.specs.View.{shared_of, cpu_of}
+use Rattle.guest_steps.specs.View.{vm_slots, shared_of, guest_of, cpu_of}
 use Rattle.hypercalls.specs.Carried.{IsRoomy}
 use Rattle.hypercalls.specs.declared.parts.Parts.{Parts}
 use Rattle.hypercalls.specs.Stands.{at_place, parts_layout, kept_of, state_of, HasHistory}
@@ -46,13 +46,10 @@ one_when : {P X : Type 0} (blank : X) (f : P → X) (used : Bool) (xs : List P) 
 one_when blank f true xs = refl
 one_when blank f false xs = refl
 
-guest_none : (guests : ℕ → Guest) (slot : Option ℕ) → ((v : ℕ) → guests v ≡ no_guest) → no_guest ≡ guest_at guests slot
-guest_none guests None h = refl
-guest_none guests (Some v) h = sym (h v)
-
-vms_none : (used : Bool) → no_vms ≡ (if used then no_vms else no_vms)
-vms_none true = refl
-vms_none false = refl
+-- what a range of none or one stands for
+range_is : {P : Type 0} (f : P → Guest) (xs : List P) (slot : Option ℕ) → Inside slot (length xs) → one no_guest f (range_at xs slot) ≡ guest_at (λ v. at_place no_guest f (slice_get xs v)) slot
+range_is f xs None h = refl
+range_is f xs (Some v) h = ap (one no_guest f) (one_range xs v h) ∙ sym (ap (at_place no_guest f) (place xs v h).2)
 
 room_when : {P : Type 0} (log : P → StoredCalls) (limit : ℕ) (used : Bool) (xs : List P) → length xs ≡ 1 → Each (λ p. IsOfSize limit (log p)) xs → one 0 (λ g. g.room) (map log (when used xs)) ≡ (if used then limit - length (one [] (λ p. (log p).calls) xs) else 0)
 room_when log limit true [] n h = absurd (omega (arith, n))
@@ -92,30 +89,10 @@ full_reply l c x o y q full on = go on.answers
     go (inl f) = f.reply
     go (inr a) = let clash = sym full ∙ a.room in cc
 
-put_none : (slot : Option ℕ) (v : ℕ) → put_guest (λ w. no_guest) slot no_guest v ≡ no_guest
-put_none None v = refl
-put_none (Some u) v = by_test (v == u) (λ e. rw e refl) (λ e. rw e refl)
-
-const_place : {P X : Type 0} (b : X) (o : Option P) → at_place b (λ w. b) o ≡ b
-const_place b None = refl
-const_place b (Some p) = refl
-
-const_list : {P X : Type 0} (b : X) (xs : List P) → one b (λ w. b) xs ≡ b
-const_list b [] = refl
-const_list b (x ∷ xs) = refl
-
--- a part that no call fills yet
-const_one : {P X : Type 0} (c : Call) (used : Bool) (log : P → StoredCalls) (b : X) (xs ys : List P) → Stores used c (if used then one b (λ w. b) ys else one b (λ w. b) xs) (all_of b (λ w. b) log xs) (all_of b (λ w. b) log (if used then ys else xs)) → Stores used c (if used then b else b) (b, one [] (λ p. (log p).calls) xs) (b, one [] (λ p. (log p).calls) (if used then ys else xs))
-const_one c true log b xs ys h = ap (λ z. (b, z)) (ap (λ q. q.1) h)
-const_one c false log b xs ys h = refl
-
-const_at : {P X : Type 0} (c : Call) (log : P → StoredCalls) (b : X) (xs ys : List P) (slot : Option ℕ) (v : ℕ) → Stores (is_slot slot v) c (if is_slot slot v then one b (λ w. b) ys else at_place b (λ w. b) (slice_get xs v)) (each_of b (λ w. b) log xs v) (each_of b (λ w. b) log (put_list xs slot ys) v)
-    → Stores (is_slot slot v) c b (b, at_place [] (λ p. (log p).calls) (slice_get xs v)) (b, at_place [] (λ p. (log p).calls) (slice_get (put_list xs slot ys) v))
-const_at c log b xs ys slot v h = go (is_slot slot v) h
-  where
-    go : (used : Bool) → Stores used c (if used then one b (λ w. b) ys else at_place b (λ w. b) (slice_get xs v)) (each_of b (λ w. b) log xs v) (each_of b (λ w. b) log (put_list xs slot ys) v) → Stores used c b (b, at_place [] (λ p. (log p).calls) (slice_get xs v)) (b, at_place [] (λ p. (log p).calls) (slice_get (put_list xs slot ys) v))
-    go true e = ap (λ z. (b, z)) (ap (λ q. q.1) e)
-    go false e = ap (λ z. (b, z)) (ap (λ q. q.1) e)
+-- a guest that is put at a slot
+put_is : (guests : ℕ → Guest) (slot : Option ℕ) (g : Guest) (v : ℕ) → (if is_slot slot v then g else guests v) ≡ put_guest guests slot g v
+put_is guests None g v = refl
+put_is guests (Some u) g v = refl
 
 module _ {A : Type 0} (p : Parts A) (cpu : ℕ) (step : Step) (k : CpuState) (at : slice_get p.cpus.items cpu ≡ Some k) (within : cpu < length p.cpus.items)
     (vms_one : length p.vms.items ≡ 1) (shared_one : length p.shared.items ≡ 1) (inner : Inside (guest_slot (cpu_of k) step) (length p.guests.items)) where
@@ -140,7 +117,7 @@ module _ {A : Type 0} (p : Parts A) (cpu : ℕ) (step : Step) (k : CpuState) (at
 
   used_is : used_in x ≡ used_of n slot cpu (state_of p).contents
   unfolding used_of
-  used_is = same_used _ _ _ _ _ _ _ _ (vms_none (uses_vms n)) (one_when no_shared shared_of (uses_shared n slot) p.shared.items) (guest_none (state_of p).contents.guest slot (λ v. refl)) (sym (ap (at_place no_cpu cpu_of) at))
+  used_is = same_used _ _ _ _ _ _ _ _ (one_when no_vms vm_slots (uses_vms n) p.vms.items) (one_when no_shared shared_of (uses_shared n slot) p.shared.items) (range_is guest_of p.guests.items slot inner) (sym (ap (at_place no_cpu cpu_of) at))
 
   -- what is lent stands where the parts do
   pub reached : HasHistory p → cpu < p.layout.config.cpus → ((v : ℕ) → slot ≡ Some v → v < 64) → IsReached l n slot cpu (used_in x)
@@ -159,7 +136,7 @@ module _ {A : Type 0} (p : Parts A) (cpu : ℕ) (step : Step) (k : CpuState) (at
             (ap (λ q. q.0) (h.history.cpu cpu known));
       }
     where
-      guest_same : (o : Option ℕ) → ((v : ℕ) → o ≡ Some v → v < 64) → ((v : ℕ) → v < 64 → no_guest ≡ h.history.end.contents.guest v) → guest_at (λ v. no_guest) o ≡ guest_at h.history.end.contents.guest o
+      guest_same : (o : Option ℕ) → ((v : ℕ) → o ≡ Some v → v < 64) → ((v : ℕ) → v < 64 → (state_of p).contents.guest v ≡ h.history.end.contents.guest v) → guest_at (state_of p).contents.guest o ≡ guest_at h.history.end.contents.guest o
       guest_same None less e = refl
       guest_same (Some v) less e = e v (less v refl)
 
@@ -201,9 +178,9 @@ module _ {A : Type 0} (p : Parts A) (cpu : ℕ) (step : Step) (k : CpuState) (at
       -- what the parts have, by their lists
       abbrev kept_by : List VmPart → List (SharedPart A) → List GuestPart → List CpuState → Kept
       kept_by v h g j = record {
-        vms = (no_vms, one [] (λ (w : VmPart). w.log.calls) v);
+        vms = all_of no_vms vm_slots (λ (w : VmPart). w.log) v;
         shared = all_of no_shared shared_of (λ (w : SharedPart A). w.log) h;
-        guest = λ i. (no_guest, at_place [] (λ (w : GuestPart). w.log.calls) (slice_get g i));
+        guest = each_of no_guest guest_of (λ (w : GuestPart). w.log) g;
         cpu = each_of no_cpu cpu_of (λ (w : CpuState). w.log) j;
       }
 
@@ -253,9 +230,9 @@ module _ {A : Type 0} (p : Parts A) (cpu : ℕ) (step : Step) (k : CpuState) (at
         stores_after : StoresCall c t.contents (kept_of p) after
         unfolding put_back
         stores_after = record {
-          vms = const_one c (uses_vms n) (λ (w : VmPart). w.log) no_vms p.vms.items y.vms (stores_one no_vms (λ w. no_vms) (λ (w : VmPart). w.log) c (uses_vms n) p.vms.items y.vms vms_one (ap (λ (g : LentLogs). g.vms) logs_are));
+          vms = stores_one no_vms vm_slots (λ (w : VmPart). w.log) c (uses_vms n) p.vms.items y.vms vms_one (ap (λ (g : LentLogs). g.vms) logs_are);
           shared = stores_one no_shared shared_of (λ (w : SharedPart A). w.log) c (uses_shared n slot) p.shared.items y.shared shared_one (ap (λ (g : LentLogs). g.shared) logs_are);
-          guest = λ v. subst (λ g. Stores (is_slot slot v) c g ((kept_of p).guest v) (after.guest v)) (sym (put_none slot v)) (const_at c (λ (w : GuestPart). w.log) no_guest p.guests.items y.guest slot v (stores_at no_guest (λ w. no_guest) (λ (w : GuestPart). w.log) c p.guests.items y.guest slot inner (ap (λ (g : LentLogs). g.guest) logs_are) v));
+          guest = λ v. subst (λ g. Stores (is_slot slot v) c g ((kept_of p).guest v) (after.guest v)) (put_is s.contents.guest slot (one no_guest guest_of y.guest) v) (stores_at no_guest guest_of (λ (w : GuestPart). w.log) c p.guests.items y.guest slot inner (ap (λ (g : LentLogs). g.guest) logs_are) v);
           cpu = λ j. subst (λ b. Stores b c (put_at s.contents.cpu cpu (cpu_of y.cpu) j) ((kept_of p).cpu j) (after.cpu j)) (eq_flip j cpu) (stores_at no_cpu cpu_of (λ (w : CpuState). w.log) c p.cpus.items (y.cpu ∷ []) (Some cpu) within (ap (λ (g : LentLogs). g.cpu ∷ []) logs_are ∙ sym (ap (λ xs. map (with_call c) (map (λ (w : CpuState). w.log) xs)) own_range)) j);
         }
 

@@ -5,6 +5,7 @@ use Rattle.page_state.specs.Layouts.{Layout, is_memory}
 use Rattle.component.specs.View.{HasRoomFor, need_for}
 use Rattle.table_tree.specs.View.{spares_of}
 use Rattle.guest_steps.specs.declared.parts.SharedPart.{SharedPart}
+use Rattle.guest_steps.specs.Lent.{Lent}
 use Rattle.reference_model.specs.declared.changes.Changes.{Changes}
 use Rattle.reference_model.specs.declared.changes.GuestChange.TheVariants.{Keep as KeepGuest}
 use Rattle.reference_model.specs.declared.changes.SlotChange.TheVariants.{Keep as KeepSlots}
@@ -14,11 +15,10 @@ use Rattle.reference_model.specs.Rules.{may_grow}
 use Rattle.reference_model.specs.State.{Shared}
 use Rattle.reference_model.specs.Step.{is_touched}
 
--- what no call fills yet stays
+-- the guest, which no call fills yet, stays
 pub record IsUnfilled (h : Changes) : Type 0 where
   pub guest : h.guest ≡ None
   pub part : h.part ≡ KeepGuest
-  pub slot : h.slot ≡ KeepSlots
 
 -- nothing changes of the Shared part
 pub record LeavesShared (h : Changes) : Type 0 where
@@ -26,11 +26,16 @@ pub record LeavesShared (h : Changes) : Type 0 where
   pub hyp : h.hyp ≡ None
   pub moved : touched h ≡ None
 
--- the Shared part is lent where something of it changes, and at most one is
-abbrev pub OnlyLent : {A : Type 0} → Changes → List (SharedPart A) → Type 0
-OnlyLent h [] = LeavesShared h
-OnlyLent h (s ∷ []) = Unit {0}
-OnlyLent h (s ∷ (t ∷ ss)) = ⊥
+-- at most one part is lent, and where none is it stays
+abbrev pub IsLentOr : {P : Type 0} → Type 0 → List P → Type 0
+IsLentOr Stays [] = Stays
+IsLentOr Stays (p ∷ []) = Unit {0}
+IsLentOr Stays (p ∷ (q ∷ ps)) = ⊥
+
+-- each part of which something changes is lent
+pub record OnlyLent {A : Type 0} (h : Changes) (x : Lent A) : Type 0 where
+  pub vms : IsLentOr (h.slot ≡ KeepSlots) x.vms
+  pub shared : IsLentOr (LeavesShared h) x.shared
 
 -- a step that takes no memory changes neither map
 abbrev pub GrowsOnly : Step → Changes → Type 0

@@ -1,14 +1,15 @@
 //! What each call decides: the first of its tests that fails, or all that it changes. Nothing is changed here.
-ghost use Rattle.std.specs.Prelude.{◌≡◌, Some, None, IfOk};
+ghost use Rattle.std.specs.Prelude.{◌≡◌, true, Some, None, IfOk};
 ghost use Rattle.guest_steps.specs.Lent.{Each, IsLent, SharedSuits, lent, slot_in, used_in};
-ghost use Rattle.guest_steps.specs.View.{cpu_of, shared_of};
+ghost use Rattle.guest_steps.specs.View.{cpu_of, shared_of, vm_slots};
 ghost use Rattle.hypercalls.specs.Carried.{GrowsOnly, IsUnfilled};
 ghost use Rattle.hypercalls.specs.Served.{IsServed};
 ghost use Rattle.page_state.specs.LayoutView.{layout_of};
 ghost use Rattle.reference_model.specs.Answers.{decides};
-ghost use Rattle.reference_model.specs.Parts.{names};
+ghost use Rattle.page_state.specs.Layouts.{Layout as ReferenceLayout};
+ghost use Rattle.reference_model.specs.Parts.{names, uses_shared, uses_vms};
 ghost use Rattle.reference_model.specs.Rely.{CanRely};
-ghost use Rattle.reference_model.specs.Used.{used_alone};
+ghost use Rattle.reference_model.specs.Used.{used_alone, vms_alone};
 
 mod abort;
 mod asks;
@@ -17,6 +18,7 @@ mod give_back;
 mod hand;
 mod share;
 mod unshare;
+mod vms;
 
 use abort::decide_host_abort;
 use asks::{decide_host_translate, decide_hyp_translate, decide_owner_of};
@@ -29,6 +31,10 @@ use reference_model::{Changes, MapChange};
 use share::decide_share_hyp;
 use std::alloc::Allocator;
 use unshare::decide_unshare_hyp;
+use vms::{
+    decide_teardown, decide_vcpu_load, decide_vcpu_put, decide_vm_open, decide_vm_release,
+    decide_vm_reserve,
+};
 
 /// A change of so many pages from the first on.
 fn change(first: Page, count: u64, entry: Entry) -> Option<MapChange>
@@ -40,6 +46,24 @@ fn change(first: Page, count: u64, entry: Entry) -> Option<MapChange>
     })
 }
 
+/// What a call on the VM part decides.
+fn decide_vms(vms: &VmPart, id: u64, cpu: &CpuState, step: Step) -> Result<Changes, Refusal>
+    requires names { uses_vms (names step) ≡ true }
+    ensures decided { (l : ReferenceLayout) → result ≡ decides l id None step (vms_alone (vm_slots vms.now) (cpu_of cpu.now)) }
+    ensures unfilled { IfOk result IsUnfilled }
+    ensures grows { IfOk result (GrowsOnly step) }
+{
+    match step {
+        Step::VmReserve { kind, vcpus } => decide_vm_reserve(&vms.table, cpu, kind, vcpus),
+        Step::VmOpen => decide_vm_open(&vms.table, cpu),
+        Step::VcpuLoad { vm, vcpu } => decide_vcpu_load(&vms.table, id, cpu, vm, vcpu),
+        Step::VcpuPut => decide_vcpu_put(&vms.table, cpu),
+        Step::Teardown { vm } => decide_teardown(&vms.table, cpu, vm),
+        Step::VmRelease => decide_vm_release(&vms.table, cpu),
+        _ => unreachable!(),
+    }
+}
+
 /// What a call on the Shared part decides.
 fn decide_shared<A: Allocator>(
     layout: &Layout,
@@ -48,7 +72,7 @@ fn decide_shared<A: Allocator>(
     cpu: &CpuState,
     step: Step,
 ) -> Result<Changes, Refusal>
-    requires served { IsServed step }
+    requires names { uses_shared (names step) None ≡ true }
     requires suits { SharedSuits (layout_of layout.now) shared.now }
     requires rely { CanRely (layout_of layout.now) id None step (used_alone (shared_of shared.now) (cpu_of cpu.now)) }
     ensures decided { result ≡ decides (layout_of layout.now) id None step (used_alone (shared_of shared.now) (cpu_of cpu.now)) }
@@ -70,8 +94,8 @@ fn decide_shared<A: Allocator>(
     }
 }
 
-/// What a step decides on the parts that it uses, with the slot of its Guest part. It asks for a call that is served, for a
-/// Shared part of the layout, and for parts that a run leaves.
+/// What a step decides on the parts that it uses, with the slot of its Guest part; a VmId that names no slot uses none. It
+/// asks for a call that is served, for a Shared part of the layout, and for parts that a run leaves.
 pub fn decide<A: Allocator>(
     layout: &Layout,
     vms: &[VmPart],
@@ -91,5 +115,11 @@ pub fn decide<A: Allocator>(
     ensures unfilled { IfOk result IsUnfilled }
     ensures grows { IfOk result (GrowsOnly step) }
 {
-    decide_shared(layout, &shared[0], id, cpu, step)
+    if let Some(part) = vms.first() {
+        return decide_vms(part, id, cpu, step);
+    }
+    if let Some(part) = shared.first() {
+        return decide_shared(layout, part, id, cpu, step);
+    }
+    Err(Refusal::Invalid)
 }

@@ -1,20 +1,21 @@
 //! Changes are carried out, for all calls in one place.
-ghost use Rattle.std.specs.Prelude.{◌≡◌, ◌<◌, ◌^◌, ◌↔◌, true, [], length, map, Err, OnOk, OnErr, unwrap_or};
+ghost use Rattle.std.specs.Prelude.{◌≡◌, ◌<◌, ◌^◌, ◌↔◌, true, length, map, Err, OnOk, OnErr, unwrap_or};
 ghost use Rattle.guest_steps.specs.Lent.{Each, SharedSuits, lent, one, used_in};
-ghost use Rattle.guest_steps.specs.View.{shared_of};
-ghost use Rattle.hypercalls.specs.Carried.{GrowsOnly, IsRoomy, IsUnfilled, OnlyLent, rows_told};
+ghost use Rattle.guest_steps.specs.View.{shared_of, vm_slots};
+ghost use Rattle.hypercalls.specs.Carried.{GrowsOnly, IsLentOr, IsRoomy, IsUnfilled, LeavesShared, OnlyLent, rows_told};
 ghost use Rattle.page_state.specs.declared.step.Step.{Step};
 ghost use Rattle.page_state.specs.LayoutView.{layout_of};
 ghost use Rattle.reference_model.specs.Answers.{CarriesOut};
-ghost use Rattle.reference_model.specs.ChangeLaws.{AllFit, TouchedFits};
-ghost use Rattle.reference_model.specs.State.{no_shared};
+ghost use Rattle.reference_model.specs.ChangeLaws.{AllFit, FitsTable, TouchedFits};
+ghost use Rattle.reference_model.specs.Changes.{vms_by};
+ghost use Rattle.reference_model.specs.State.{no_shared, no_vms};
 ghost use Rattle.reference_model.specs.Step.{shared_after, shared_need};
 
 use crate::rows::{first_row, touched};
-use guest_steps::{CpuState, SharedPart};
+use guest_steps::{CpuState, GuestPart, SharedPart, VmPart};
 use hyp_pool::PoolFault;
 use page_state::{Layout, Refusal, Reply};
-use reference_model::Changes;
+use reference_model::{Changes, SlotChange};
 use std::alloc::Allocator;
 
 /// Gives the touched frames their row, where they are memory.
@@ -74,7 +75,7 @@ fn change_shared<A: Allocator + Copy>(
     shared: &mut [SharedPart<A>],
 ) -> Result<(), PoolFault>
     requires slot { unwrap_or slot 0 < 2 ^ 32 }
-    requires lent { OnlyLent changes.now shared.old }
+    requires lent { IsLentOr (LeavesShared changes.now) shared.old }
     requires fit { AllFit (layout_of layout.now).depth changes.now }
     requires touched { TouchedFits (layout_of layout.now) id slot changes.now }
     requires suits { Each (SharedSuits (layout_of layout.now)) shared.old }
@@ -92,32 +93,49 @@ fn change_shared<A: Allocator + Copy>(
     }
 }
 
+/// Makes the change of the slots where the VM part is lent; where it isn't, they stay.
+fn change_vms(change: &SlotChange, vms: &mut [VmPart])
+    requires lent { IsLentOr (change.now ≡ SlotChange.Keep) vms.old }
+    requires fit { FitsTable change.now }
+    ensures made { one no_vms vm_slots vms.new ≡ vms_by change.now (one no_vms vm_slots vms.old) }
+    ensures log { map (λ p. p.log) vms.new ≡ map (λ p. p.log) vms.old }
+{
+    if let [part] = vms {
+        part.table.change(change);
+    }
+}
+
 /// Carries changes out, or nothing: NoPool where a pool has too few free frames, and NoMemory only where a tree has too few
-/// spares, or maplets no room, and memory was refused. It asks that the changes fit, that what they change is lent, and that they leave the VM part and the guests,
-/// which no call fills yet.
+/// spares, or maplets no room, and memory was refused. It asks that the changes fit, that what they change is lent, and that
+/// they leave the guests, which no call fills yet.
 pub fn carry_out<A: Allocator + Copy>(
     alloc: A,
     layout: &Layout,
     id: u64,
     slot: Option<u64>,
     changes: &Changes,
+    vms: &mut [VmPart],
     shared: &mut [SharedPart<A>],
+    guest: &[GuestPart],
     cpu: &mut CpuState,
 ) -> Reply
     requires slot { unwrap_or slot 0 < 2 ^ 32 }
     requires unfilled { IsUnfilled changes.now }
-    requires lent { OnlyLent changes.now shared.old }
+    requires lent { OnlyLent changes.now (lent vms.old shared.old guest.now cpu.old) }
     requires fit { AllFit (layout_of layout.now).depth changes.now }
+    requires slots { FitsTable changes.now.slot }
     requires touched { TouchedFits (layout_of layout.now) id slot changes.now }
     requires suits { Each (SharedSuits (layout_of layout.now)) shared.old }
-    ensures carried { (step : Step) → GrowsOnly step changes.now → CarriesOut (layout_of layout.now) id slot step true changes.now (used_in (lent [] shared.old [] cpu.old)) result (used_in (lent [] shared.new [] cpu.new)) }
+    ensures carried { (step : Step) → GrowsOnly step changes.now → CarriesOut (layout_of layout.now) id slot step true changes.now (used_in (lent vms.old shared.old guest.now cpu.old)) result (used_in (lent vms.new shared.new guest.now cpu.new)) }
     ensures wants { result ≡ Reply.Refused Refusal.NoMemory → Each (IsRoomy changes.now) shared.old → ⊥ }
     ensures suits { Each (SharedSuits (layout_of layout.now)) shared.new }
+    ensures vms_log { map (λ p. p.log) vms.new ≡ map (λ p. p.log) vms.old }
     ensures log { map (λ p. p.log) shared.new ≡ map (λ p. p.log) shared.old }
     ensures own_log { cpu.new.log ≡ cpu.old.log }
 {
     match change_shared(alloc, layout, id, slot, changes, shared) {
         Ok(()) => {
+            change_vms(&changes.slot, vms);
             cpu.change(&changes.cpu);
             Reply::Done(changes.value)
         }

@@ -1,14 +1,14 @@
 //! The one place that knows what a step uses: it tests the logs, decides, carries out and stores.
 ghost use Rattle.std.specs.Prelude.{◌≡◌, ◌<◌, ◌≤◌, ◌==◌, true, false, length, map};
 ghost use Rattle.guest_steps.specs.Lent.{Each, IsLent, SharedSuits, Suits, all_with, lent, logs_in, one, slot_in, used_in, with_call};
-ghost use Rattle.guest_steps.specs.View.{cpu_of, depth_of, shared_of};
+ghost use Rattle.guest_steps.specs.View.{cpu_of, depth_of, guest_of, shared_of, vm_slots};
 ghost use Rattle.hypercalls.specs.Served.{IsServed};
 ghost use Rattle.hypercalls.specs.Steps.{CanWantOn, IsStepOn, any_full};
 ghost use Rattle.page_state.specs.LayoutView.{layout_of};
 ghost use Rattle.page_state.specs.Layouts.{Layout as ReferenceLayout};
 ghost use Rattle.reference_model.specs.Parts.{guest_slot as guest_slot_of, names, slot_of as slot_of_vm, stage_eq, ticket_slot as ticket_slot_of};
 ghost use Rattle.reference_model.specs.Rely.{CanRely, IsReached};
-ghost use Rattle.reference_model.specs.State.{no_shared};
+ghost use Rattle.reference_model.specs.State.{no_guest, no_shared, no_vms};
 ghost use Rattle.reference_model.specs.Step.{Answered};
 
 use crate::calls::decide;
@@ -26,7 +26,7 @@ fn slot_of(vm: VmId) -> Option<u64>
 }
 
 /// Whether two stages are the same.
-fn is_stage(a: Stage, b: Stage) -> bool
+pub(crate) fn is_stage(a: Stage, b: Stage) -> bool
     ensures { result ≡ stage_eq a b }
 {
     matches!(
@@ -136,6 +136,7 @@ fn is_any_full<A: Allocator>(
 /// Stores a call in the VM part's log, where it is lent.
 fn store_vms(vms: &mut [VmPart], call: Call)
     requires { (length vms.old ≤ 1) × (one false (λ g. g.room == 0) (map (λ p. p.log) vms.old) ≡ false) }
+    ensures same { one no_vms vm_slots vms.new ≡ one no_vms vm_slots vms.old }
     ensures log { map (λ p. p.log) vms.new ≡ map (with_call call) (map (λ p. p.log) vms.old) }
 {
     if let [part] = vms {
@@ -159,6 +160,7 @@ fn store_shared<A: Allocator>(shared: &mut [SharedPart<A>], call: Call)
 /// Stores a call in the Guest part's log, where it is lent.
 fn store_guest(guest: &mut [GuestPart], call: Call)
     requires { (length guest.old ≤ 1) × (one false (λ g. g.room == 0) (map (λ p. p.log) guest.old) ≡ false) }
+    ensures same { one no_guest guest_of guest.new ≡ one no_guest guest_of guest.old }
     ensures log { map (λ p. p.log) guest.new ≡ map (with_call call) (map (λ p. p.log) guest.old) }
 {
     if let [part] = guest {
@@ -190,7 +192,7 @@ fn store<A: Allocator>(
 fn answer<A: Allocator + Copy>(
     alloc: A,
     layout: &Layout,
-    vms: &[VmPart],
+    vms: &mut [VmPart],
     shared: &mut [SharedPart<A>],
     guest: &[GuestPart],
     id: u64,
@@ -199,13 +201,14 @@ fn answer<A: Allocator + Copy>(
     step: Step,
 ) -> Reply
     requires served { IsServed step }
-    requires slot { slot ≡ slot_in (lent vms.now shared.old guest.now cpu.old) step }
-    requires lent { IsLent (names step) slot (lent vms.now shared.old guest.now cpu.old) }
+    requires slot { slot ≡ slot_in (lent vms.old shared.old guest.now cpu.old) step }
+    requires lent { IsLent (names step) slot (lent vms.old shared.old guest.now cpu.old) }
     requires suits { Each (SharedSuits (layout_of layout.now)) shared.old }
-    requires rely { CanRely (layout_of layout.now) id slot step (used_in (lent vms.now shared.old guest.now cpu.old)) }
-    ensures answered { Answered (layout_of layout.now) id slot step true (used_in (lent vms.now shared.old guest.now cpu.old)) result (used_in (lent vms.now shared.new guest.now cpu.new)) }
-    ensures wants { result ≡ Reply.Refused Refusal.NoMemory → CanWantOn (layout_of layout.now) id slot step (lent vms.now shared.old guest.now cpu.old) }
+    requires rely { CanRely (layout_of layout.now) id slot step (used_in (lent vms.old shared.old guest.now cpu.old)) }
+    ensures answered { Answered (layout_of layout.now) id slot step true (used_in (lent vms.old shared.old guest.now cpu.old)) result (used_in (lent vms.new shared.new guest.now cpu.new)) }
+    ensures wants { result ≡ Reply.Refused Refusal.NoMemory → CanWantOn (layout_of layout.now) id slot step (lent vms.old shared.old guest.now cpu.old) }
     ensures suits { Each (SharedSuits (layout_of layout.now)) shared.new }
+    ensures vms_log { map (λ p. p.log) vms.new ≡ map (λ p. p.log) vms.old }
     ensures log { map (λ p. p.log) shared.new ≡ map (λ p. p.log) shared.old }
     ensures own_log { cpu.new.log ≡ cpu.old.log }
 {
@@ -213,7 +216,7 @@ fn answer<A: Allocator + Copy>(
     laws::relies();
     laws::answers();
     match decide(layout, vms, shared, guest, id, slot, cpu, step) {
-        Ok(changes) => carry_out(alloc, layout, id, slot, &changes, shared, cpu),
+        Ok(changes) => carry_out(alloc, layout, id, slot, &changes, vms, shared, guest, cpu),
         Err(why) => Reply::Refused(why),
     }
 }

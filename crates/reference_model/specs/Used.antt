@@ -14,6 +14,10 @@ pub record Used : Type 0 where
 abbrev pub used_alone : Shared → Cpu → Used
 used_alone s k = record { vms = no_vms; shared = s; guest = no_guest; cpu = k }
 
+-- what a call uses that uses the VM part alone
+abbrev pub vms_alone : Vms → Cpu → Used
+vms_alone v k = record { vms = v; shared = no_shared; guest = no_guest; cpu = k }
+
 -- the guest of a slot, where there is one
 abbrev pub guest_at : (ℕ → Guest) → Option ℕ → Guest
 guest_at guests None = no_guest

@@ -1,12 +1,12 @@
 //! The VM table: how each of the 64 VM slots stands, and which CPU has each vCPU loaded.
 #![tactic(auto)]
 
-ghost use Rattle.std.specs.Prelude.{◌≡◌, ◌+◌, ◌<◌, ◌^◌, IfOk, Some, is_some};
+ghost use Rattle.std.specs.Prelude.{◌≡◌, ◌+◌, ◌<◌, ◌^◌, IfOk, IfSome, Some, is_some};
+ghost use Rattle.reference_model.specs.ChangeLaws.{FitsTable};
 ghost use Rattle.reference_model.specs.Changes.{vms_by};
 ghost use Rattle.reference_model.specs.declared.changes.SlotChange.TheVariants.{Close, Load, Open as OpenSlot, Release, Reserve, Unload};
 ghost use Rattle.reference_model.specs.State.{no_slot, no_vms, put_at, vacant};
 ghost use Rattle.reference_model.specs.VmRules.{is_any_loaded as is_any_loaded_of, is_open as is_open_of, stand_eq, vacant_slot};
-ghost use Rattle.vm_table.specs.Fits.{FitsTable};
 ghost use Rattle.vm_table.specs.View.{slot_of, vms_of};
 
 use page_state::{VmId, VmKind};
@@ -149,7 +149,8 @@ impl VmTable {
 
     /// The lowest Vacant slot, or None where there is none.
     pub fn vacant(&self) -> Option<u64>
-        ensures { result ≡ vacant_slot (vms_of self.now) }
+        ensures value { result ≡ vacant_slot (vms_of self.now) }
+        ensures small { IfSome result (λ slot. slot < 64) }
     {
         for slot in 0..64 {
             if self.is_vacant(slot) {

@@ -1,5 +1,5 @@
 -- The parts of a world that has booted stand for the boot state.
-use Rattle.std.proofs.Common.{◌≡◌, ℕ, ◌+◌, ◌-◌, ◌*◌, ◌==◌, List, [], ◌∷◌, zero, suc, ◌<◌, slice_index_or, Some, None, All, inl, inr, refl, ap, sym, ◌∙◌, subst, slice_get, arith}
+use Rattle.std.proofs.Common.{◌≡◌, ℕ, ◌+◌, ◌-◌, ◌*◌, ◌==◌, List, [], ◌∷◌, Option, zero, suc, ◌<◌, slice_index_or, Some, None, All, inl, inr, refl, ap, sym, ◌∙◌, subst, slice_get, arith}
 use Rattle.std.proofs.lemmas.Bool.Decides.{nat_tests}
 use Rattle.std.proofs.lemmas.Option.{slice_get_cases}
 use mathlib.Core.Path.{fun_ext}
@@ -14,7 +14,7 @@ use Rattle.reference_model.specs.Held.{held_state}
 use Rattle.page_state.specs.Geometries.{geometry_of, levels_below}
 use Rattle.page_state.specs.Layouts.{Layout, HasItsDepth}
 use Rattle.page_state.specs.Regions.{Memory}
-use Rattle.reference_model.specs.State.{Shared, Cpu, Reference, plain_row, all_rooms, no_vms, no_shared, no_guest, no_cpu}
+use Rattle.reference_model.specs.State.{Vms, Shared, Guest, Cpu, Reference, plain_row, all_rooms, no_vms, no_shared, no_guest, no_cpu}
 use Rattle.std.specs.Prelude.{Result, Ok, Err, IsErrAnd, MatchResult}
 use Rattle.world.specs.declared.boot.BootFault.{BootFault}
 use Rattle.world.specs.declared.boot.BootFault.TheVariants.{NoMemory}
@@ -24,7 +24,7 @@ use Rattle.guest_steps.specs.declared.parts.SharedPart.{SharedPart}
 use Rattle.guest_steps.specs.declared.parts.VmPart.{VmPart}
 use Rattle.guest_steps.specs.Lent.{one}
 use Rattle.guest_steps.specs.Logs.{StoredCalls, IsNewLog}
-use Rattle.guest_steps.specs.View.{shared_of, cpu_of}
+use Rattle.guest_steps.specs.View.{vm_slots, shared_of, guest_of, cpu_of}
 use Rattle.hypercalls.specs.declared.parts.Parts.{Parts}
 use Rattle.hypercalls.specs.Stands.{at_place, parts_layout, kept_of}
 use Rattle.page_state.proofs.Cases.{by_test}
@@ -54,10 +54,21 @@ each_empty log n xs v h = elim (slice_get_cases xs v).1 [
   | inr past ↦ rw past.1 refl
 ]
 
+-- what a list of one or none stands for, where each of it stands for the blank
+one_is : {P X : Type 0} (f : P → X) (blank : X) (xs : List P) → All (λ p. f p ≡ blank) xs → one blank f xs ≡ blank
+one_is f blank [] h = refl
+one_is f blank (x ∷ xs) h = h 0 x (omega arith)
+
+-- no call fills a guest yet
+blank_is : (o : Option GuestPart) → at_place no_guest guest_of o ≡ no_guest
+blank_is None = refl
+blank_is (Some g) = refl
+
 module _ {A : Type 0} (m : Memory) (c : Config) (g : Geometry) (p : Parts A) (s : SharedPart A)
     (mapped : p.layout.map ≡ m)
     (configured : p.layout.config ≡ c)
     (deep : p.layout.geometry ≡ g)
+    (vacant : All (λ v. vm_slots v ≡ no_vms) p.vms.items)
     (vms_log : All (λ v. IsNewLog c.log v.log) p.vms.items)
     (alone : p.shared.items ≡ s ∷ [])
     (shared_log : IsNewLog c.log s.log)
@@ -75,6 +86,12 @@ module _ {A : Type 0} (m : Memory) (c : Config) (g : Geometry) (p : Parts A) (s 
     | inr past ↦ rw past.1 refl
   ]
 
+  slots_are : one no_vms vm_slots p.vms.items ≡ no_vms
+  slots_are = one_is vm_slots no_vms p.vms.items vacant
+
+  guest_is : (v : ℕ) → at_place no_guest guest_of (slice_get p.guests.items v) ≡ no_guest
+  guest_is v = blank_is (slice_get p.guests.items v)
+
   none : HasNoCalls p
   none = record {
     vms = one_empty (λ (v : VmPart). v.log) c.log p.vms.items vms_log;
@@ -83,20 +100,19 @@ module _ {A : Type 0} (m : Memory) (c : Config) (g : Geometry) (p : Parts A) (s 
     cpus = λ v. each_empty (λ (x : CpuState). x.log) c.log p.cpus.items v (λ k d less. (idle k d less).log);
   }
 
-  -- what there is by its Shared part, logs and CPUs, where all else is as at boot
-  abbrev standing : Layout → Shared → List Call → List Call → (ℕ → List Call) → (ℕ → Cpu × List Call) → Reference
-  standing lay x vms shared guests cpus = held_state lay (record { vms = (no_vms, vms); shared = (x, shared); guest = λ v. (no_guest, guests v); cpu = cpus })
+  -- what there is by parts and logs
+  abbrev standing : Layout → Vms × List Call → Shared × List Call → (ℕ → Guest × List Call) → (ℕ → Cpu × List Call) → Reference
+  standing lay vms shared guests cpus = held_state lay (record { vms = vms; shared = shared; guest = guests; cpu = cpus })
 
   module _ (made : shared_of s ≡ (booted l).shared) where
     stands : boot l ≡ held_state l (kept_of p)
     unfolding booted
     stands =
         ap (λ n. record { contents = booted l; rooms = all_rooms n }) (minus-none c.log)
-        ∙ ap (λ x. standing l x [] [] (λ v. []) (λ k. (no_cpu, []))) (sym made ∙ sym (ap (one no_shared shared_of) alone))
-        ∙ ap (λ x. standing l (one no_shared shared_of p.shared.items) x [] (λ v. []) (λ k. (no_cpu, []))) (sym none.vms)
-        ∙ ap (λ x. standing l (one no_shared shared_of p.shared.items) (kept_of p).vms.1 x (λ v. []) (λ k. (no_cpu, []))) (sym none.shared)
-        ∙ ap (λ x. standing l (one no_shared shared_of p.shared.items) (kept_of p).vms.1 (kept_of p).shared.1 x (λ k. (no_cpu, []))) (sym (fun_ext none.guests))
-        ∙ ap (standing l (one no_shared shared_of p.shared.items) (kept_of p).vms.1 (kept_of p).shared.1 (λ v. ((kept_of p).guest v).1)) (sym (fun_ext (λ k. pair (cpu_is k) (none.cpus k))))
+        ∙ ap (λ x. standing l x ((booted l).shared, []) (λ v. (no_guest, [])) (λ k. (no_cpu, []))) (sym (pair slots_are none.vms))
+        ∙ ap (λ x. standing l (kept_of p).vms x (λ v. (no_guest, [])) (λ k. (no_cpu, []))) (sym (pair (ap (one no_shared shared_of) alone ∙ made) none.shared))
+        ∙ ap (λ x. standing l (kept_of p).vms (kept_of p).shared x (λ k. (no_cpu, []))) (sym (fun_ext (λ v. pair (guest_is v) (none.guests v))))
+        ∙ ap (standing l (kept_of p).vms (kept_of p).shared (kept_of p).guest) (sym (fun_ext (λ k. pair (cpu_is k) (none.cpus k))))
 
     -- the parts have booted
     pub has_booted : IsAccepted m → IsConfig c g → IsCarveEnough l → IsBooted m c p

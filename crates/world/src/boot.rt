@@ -5,10 +5,11 @@ ghost use Rattle.page_state.specs.Trees.{frames_from, root_tree};
 ghost use Rattle.reference_model.specs.Boot.{IsCarveEnough, booted as booted_of, pool_row as pool_row_of};
 ghost use Rattle.reference_model.specs.ChangeLaws.{Fits};
 ghost use Rattle.reference_model.specs.Conditions.{IsUsable};
+ghost use Rattle.reference_model.specs.State.{no_vms};
 ghost use Rattle.guest_steps.specs.Apart.{IsApart};
 ghost use Rattle.guest_steps.specs.Logs.{IsNewLog};
 ghost use Rattle.guest_steps.specs.MemoryRows.{HasMemoryRows};
-ghost use Rattle.guest_steps.specs.View.{depth_of, shared_of};
+ghost use Rattle.guest_steps.specs.View.{depth_of, shared_of, vm_slots};
 ghost use Rattle.page_state.specs.Accepted.{IsAcceptedConfig};
 ghost use Rattle.page_state.specs.EntryTests.{leaf as leaf_of, annotation};
 ghost use Rattle.page_state.specs.Layouts.{hyp_page as hyp_page_of};
@@ -31,6 +32,7 @@ use reference_model::{Changes, MapChange};
 use std::alloc::{AllocError, Allocator, Global};
 use table_tree::Tree;
 use thiserror::Error;
+use vm_table::VmTable;
 use walk_plan::need_of_new;
 
 /// The most CPUs of a world.
@@ -263,11 +265,15 @@ fn shared_at_boot<A: Allocator + Copy>(
 /// The VM part at boot, as a list of one.
 fn vms_at_boot(global: Global, calls: u64) -> Result<Vec<VmPart>, AllocError>
     ensures count { IfOk result (λ vms. vec_len vms ≡ 1) }
+    ensures slots { IfOk result (λ vms. All (λ v. vm_slots v ≡ no_vms) vms.items) }
     ensures logs { IfOk result (λ vms. All (λ v. IsNewLog calls v.log) vms.items) }
 {
     let mut vms = Vec::with_capacity(global, 1)?;
-    let log = Log::new(global, calls)?;
-    vms.push(VmPart { log }).map_err(AllocError::from)?;
+    let part = VmPart {
+        table: VmTable::new(global)?,
+        log: Log::new(global, calls)?,
+    };
+    vms.push(part).map_err(AllocError::from)?;
     Ok(vms)
 }
 

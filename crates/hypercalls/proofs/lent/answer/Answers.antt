@@ -16,8 +16,11 @@ carry_out-requires-clause-slot g c = slot_fits c.args.slot c.requires.rely.slot_
 
 pub carry_out-requires-clause-lent : goal.carry_out-requires-clause-lent
 carry_out-requires-clause-lent g c =
-    let x = used_in (lent c.args.vms.now c.args.shared.now c.args.guest.now c.args.cpu.now) in
-    only_lent (names c.args.step) c.args.slot c.in-Ok.changes (c.change_laws.ensures.used (layout_of c.args.layout.now) c.args.id c.args.slot c.args.step x c.in-Ok.changes (sym c.in-Ok.ensures.decided)) c.args.shared.now c.requires.lent.shared
+    let x = lent c.args.vms.now c.args.shared.now c.args.guest.now c.args.cpu.now in
+    only_lent (names c.args.step) c.args.slot c.in-Ok.changes (c.change_laws.ensures.used (layout_of c.args.layout.now) c.args.id c.args.slot c.args.step (used_in x) c.in-Ok.changes (sym c.in-Ok.ensures.decided)) x c.requires.lent
+
+pub carry_out-requires-clause-slots : goal.carry_out-requires-clause-slots
+carry_out-requires-clause-slots g c = (c.requires.rely.parts c.in-Ok.changes (sym c.in-Ok.ensures.decided)).slot
 
 pub carry_out-requires-clause-fit : goal.carry_out-requires-clause-fit
 carry_out-requires-clause-fit g c = c.requires.rely.fit c.in-Ok.changes (sym c.in-Ok.ensures.decided)
@@ -29,7 +32,7 @@ pub returns-in-Ok-clause-answered : goal.returns-in-Ok-clause-answered
 returns-in-Ok-clause-answered g c =
     let l = layout_of c.args.layout.now in
     let x = used_in (lent c.args.vms.now c.args.shared.now c.args.guest.now c.args.cpu.now) in
-    let y = used_in (lent c.args.vms.now c.carry_out.new.shared c.args.guest.now c.carry_out.new.cpu) in
+    let y = used_in (lent c.carry_out.new.vms c.carry_out.new.shared c.args.guest.now c.carry_out.new.cpu) in
     c.relies.ensures.answers l c.args.id c.args.slot c.args.step x _ c.in-Ok.changes c.carry_out.result y c.requires.rely (sym c.in-Ok.ensures.decided) (c.carry_out.ensures.carried c.args.step c.in-Ok.ensures.grows)
 
 pub returns-in-Ok-clause-wants : goal.returns-in-Ok-clause-wants

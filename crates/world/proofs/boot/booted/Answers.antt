@@ -11,7 +11,7 @@ use Rattle.world.proofs.boot.booted.Goals as goal
 
 pub returns : goal.returns
 returns g c =
-    has_booted c.args.map.now c.args.config c.in-Some.geometry _ c.in_ok-shared.shared c.in_ok-clone.ensures.cases refl refl c.in_ok-vms.ensures.logs c.in_ok-shared-2.ensures c.in_ok-shared.ensures.log c.in_ok-guests.ensures.logs c.in_ok-cpus.ensures.idle c.in_ok-shared.ensures.shared c.regions.ensures.accepted c.in-Some.ensures ((c.is_carve_enough.ensures c.args.config).0 c.if-not-is_carve_enough.false)
+    has_booted c.args.map.now c.args.config c.in-Some.geometry _ c.in_ok-shared.shared c.in_ok-clone.ensures.cases refl refl c.in_ok-vms.ensures.slots c.in_ok-vms.ensures.logs c.in_ok-shared-2.ensures c.in_ok-shared.ensures.log c.in_ok-guests.ensures.logs c.in_ok-cpus.ensures.idle c.in_ok-shared.ensures.shared c.regions.ensures.accepted c.in-Some.ensures ((c.is_carve_enough.ensures c.args.config).0 c.if-not-is_carve_enough.false)
 
 pub shared_at_boot-requires-clause-enough : goal.shared_at_boot-requires-clause-enough
 shared_at_boot-requires-clause-enough g c = (c.is_carve_enough.ensures c.args.config).0 c.if-not-is_carve_enough.false
