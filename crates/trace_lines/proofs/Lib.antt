@@ -1,5 +1,6 @@
 mod Digits
 mod Hexadecimal
+mod Kept
 pub mod KnownBytes
 mod LineLemmas
 mod Moved

@@ -11,7 +11,7 @@ use crate::line::Line;
 use crate::lines::MOST_BYTES;
 use crate::place::{Allows, may_stand};
 use crate::settings::Settings;
-use crate::words::{Words, has_stray_byte, has_stray_space};
+use crate::words::{Words, has_stray_byte};
 
 /// What a line says after the settings that were told, where the program allows these lines: nothing, a line, or its
 /// first fault.
@@ -29,10 +29,11 @@ pub fn said(allows: Allows, settings: &Settings, line: &[u8]) -> Result<Option<L
     if is_silent(line) {
         return Ok(None);
     }
-    if has_stray_space(line) {
+    let words = Words::of(line);
+    if words.has_empty() {
         return Err(LineFault::Space);
     }
-    said_by_words(allows, settings, &Words::of(line))
+    said_by_words(allows, settings, &words)
 }
 
 /// An empty line, and one that begins with `#`.

@@ -58,6 +58,23 @@ impl<A: Allocator> World<A> {
         self.parts.layout.config.cpus
     }
 
+    /// All parts, which stand at the end of one legal history.
+    pub fn split(self) -> Parts<A>
+        ensures parts { result ≡ self.parts }
+        ensures history { ∥ HasHistory result ∥₁ }
+    {
+        self.parts
+    }
+
+    /// A world of parts, which keeps its trees' tables in `alloc`. It asks for parts that stand at the end of one legal
+    /// history.
+    pub fn join(alloc: A, parts: Parts<A>) -> World<A>
+        requires history { ∥ HasHistory parts ∥₁ }
+        ensures { result.parts ≡ parts }
+    {
+        World { alloc, parts }
+    }
+
     /// All parts, to look at.
     pub fn parts(&self) -> &Parts<A>
         ensures { result.now ≡ self.now.parts }

@@ -1,7 +1,0 @@
-use Rattle.std.proofs.Common.{rules, tests, length, ◌==◌}
-use Rattle.std.proofs.lemmas.Iterator.Search.{any_from_yields_List}
-use Rattle.std.proofs.lemmas.Iterator.Splits.{YieldsList-from_slice_split}
-use Rattle.trace_lines.proofs.words.has_stray_space.Goals as goal
-
-pub returns : goal.returns
-returns c = any_from_yields_List (λ word. length word == 0) _ _ _ c.any.ensures.ran (YieldsList-from_slice_split _ _ c.args.line.now c.split.ensures.rest c.split.ensures.done c.split.ensures.closure (λ x r q k. search (rules, tests))) (λ x b q k. search (rules, tests))
