@@ -5,6 +5,8 @@ use Rattle.std.specs.Str.{bytes_eq}
 use Rattle.std.specs.Map.{lookup}
 use Rattle.page_state.specs.declared.entry.PageRange.{PageRange}
 use Rattle.page_state.specs.declared.step.Step.{Step}
+use Rattle.page_state.specs.declared.step.VmId.{VmId}
+use Rattle.page_state.specs.declared.step.VmKind.{VmKind}
 use Rattle.trace_lines.specs.declared.asked.Asked.{Asked}
 use Rattle.trace_lines.specs.declared.call.Called.{Called}
 use Rattle.trace_lines.specs.declared.fault.LineFault.{LineFault}
@@ -21,9 +23,9 @@ use Rattle.trace_lines.specs.declared.place.SettingName.{SettingName}
 use Rattle.trace_lines.specs.declared.place.SettingName.TheVariants as names
 use Rattle.trace_lines.specs.declared.place.Verb.{Verb}
 use Rattle.trace_lines.specs.declared.place.Verb.TheVariants as verbs
-use Rattle.trace_lines.specs.Arguments.{number_at, range_of, level_word_at}
+use Rattle.trace_lines.specs.Arguments.{number_at, range_of, level_word_at, vm_word_at, kind_word_at}
 use Rattle.trace_lines.specs.Asked.{asked, asked_from, begins_with_digit, headers, of_call, of_number, of_range, of_tree, of_show, pools, tree_names}
-use Rattle.trace_lines.specs.Calls.{Argument, number, StepMaker, Shape, calls, called as called_by, step_from}
+use Rattle.trace_lines.specs.Calls.{Argument, number, vm, kind, StepMaker, Shape, calls, called as called_by, step_from}
 use Rattle.trace_lines.specs.Places.{IsAllowed, may_stand, may_tell}
 use Rattle.trace_lines.specs.Said.{StepHas, said, said_by_asked, said_by_words}
 use Rattle.trace_lines.specs.Settings.{Told}
@@ -52,6 +54,8 @@ found P (name ∷ names) word h =
 abbrev pub OfEach : (Step → Type 0) → (arguments : List Argument) → StepMaker arguments → Type 0
 OfEach P [] step = P step
 OfEach P (number ∷ more) make = (n : ℕ) → OfEach P more (make n)
+OfEach P (vm ∷ more) make = (v : VmId) → OfEach P more (make v)
+OfEach P (kind ∷ more) make = (k : VmKind) → OfEach P more (make k)
 
 -- a property of each step that a call of the grammar makes
 abbrev pub OfCalls : (Step → Type 0) → Type 0
@@ -62,6 +66,8 @@ module _ (P : Step → Type 0) (h : (step : Step) → P step) where
   of_each : (arguments : List Argument) (make : StepMaker arguments) → OfEach P arguments make
   of_each [] step = h step
   of_each (number ∷ more) make = λ n. of_each more (make n)
+  of_each (vm ∷ more) make = λ v. of_each more (make v)
+  of_each (kind ∷ more) make = λ k. of_each more (make k)
 
   of_names : (names : List (List ℕ × Shape)) → Each (λ (shape : Shape). OfEach P shape.arguments shape.step) names
   of_names [] = tt
@@ -72,6 +78,10 @@ from_words : (P : Step → Type 0) (arguments : List Argument) (make : StepMaker
 from_words P [] step words place h = h
 from_words P (number ∷ more) make words place h =
     chained P (λ n. step_from more (make n) words (place + 1)) (λ n. from_words P more (make n) words (place + 1) (h n)) (number_at words place)
+from_words P (vm ∷ more) make words place h =
+    chained P (λ v. step_from more (make v) words (place + 1)) (λ v. from_words P more (make v) words (place + 1) (h v)) (vm_word_at words place)
+from_words P (kind ∷ more) make words place h =
+    chained P (λ k. step_from more (make k) words (place + 1)) (λ k. from_words P more (make k) words (place + 1) (h k)) (kind_word_at words place)
 
 called_has : (P : Step → Type 0) → OfCalls P → (words : List (List ℕ)) (name : List ℕ) → IfSome (called_by words name) (λ called. IfSome called.step P)
 unfolding called_by

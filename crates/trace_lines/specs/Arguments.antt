@@ -1,7 +1,12 @@
--- Words that stand for numbers, ranges and levels (profile).
-use Rattle.std.specs.Prelude.{ℕ, nat_le, List, Option, Some, None, option_map, option_and_then, slice_get, if◌then◌else◌}
+-- Words that stand for numbers, ranges, levels, VMs and their kinds (profile).
+use Rattle.std.specs.Prelude.{ℕ, ◌==◌, nat_le, List, [], ◌∷◌, codes, is_some, Option, Some, None, option_map, option_and_then, slice_get, if◌then◌else◌}
+use Rattle.std.specs.List.{slice_split}
 use Rattle.page_state.specs.declared.entry.PageRange.{PageRange}
-use Rattle.trace_lines.specs.Numbers.{number_of}
+use Rattle.page_state.specs.declared.step.VmId.{VmId}
+use Rattle.page_state.specs.declared.step.VmKind.{VmKind}
+use Rattle.page_state.specs.declared.step.VmKind.TheVariants.{Protected, Plain}
+use Rattle.trace_lines.specs.Numbers.{number_of, decimal_of}
+use Rattle.trace_lines.specs.Words.{named}
 
 -- the number that stands at a place, the first place being 0
 abbrev pub number_at : List (List ℕ) → ℕ → Option ℕ
@@ -19,3 +24,29 @@ in_levels level = if nat_le level 3 then Some level else None
 -- the level that stands at a place
 abbrev pub level_word_at : List (List ℕ) → ℕ → Option ℕ
 level_word_at words place = option_and_then in_levels (number_at words place)
+
+-- the parts of a word before, between and behind its dots
+abbrev pub dotted : List ℕ → List (List ℕ)
+dotted word = slice_split (λ byte. byte == 0x2e) word
+
+-- the number that a part is in decimal
+abbrev pub decimal_part : List ℕ → ℕ → Option ℕ
+decimal_part word place = option_and_then decimal_of (slice_get (dotted word) place)
+
+-- the VM that a word names: its slot and its generation in decimal, joined by a dot
+unfoldable pub vm_of : List ℕ → Option VmId
+vm_of word =
+    if is_some (slice_get (dotted word) 2) then None
+    else option_and_then (λ slot. option_map (λ generation. record { slot = slot; generation = generation }) (decimal_part word 1)) (decimal_part word 0)
+
+-- the VM that stands at a place
+abbrev pub vm_word_at : List (List ℕ) → ℕ → Option VmId
+vm_word_at words place = option_and_then vm_of (slice_get words place)
+
+-- the kinds of VMs
+abbrev pub kinds : List (List ℕ × VmKind)
+kinds = (codes "protected", Protected) ∷ (codes "plain", Plain) ∷ []
+
+-- the kind that stands at a place
+abbrev pub kind_word_at : List (List ℕ) → ℕ → Option VmKind
+kind_word_at words place = option_and_then (named kinds) (slice_get words place)

@@ -3,17 +3,23 @@ use Rattle.std.specs.Prelude.{ℕ, ◌+◌, List, [], ◌∷◌, length, codes, 
 use Rattle.page_state.specs.declared.step.Step.{Step}
 use Rattle.page_state.specs.declared.step.Step.TheVariants as steps
 use Rattle.trace_lines.specs.declared.call.Called.{Called}
-use Rattle.trace_lines.specs.Arguments.{number_at}
+use Rattle.page_state.specs.declared.step.VmId.{VmId}
+use Rattle.page_state.specs.declared.step.VmKind.{VmKind}
+use Rattle.trace_lines.specs.Arguments.{number_at, vm_word_at, kind_word_at}
 use Rattle.trace_lines.specs.Words.{named}
 
--- what an argument is: a number
+-- what an argument is: a number, a VM, or a kind of VMs
 pub data Argument : Type 0 where
   number : Argument
+  vm : Argument
+  kind : Argument
 
 -- what makes a step of the values of such arguments, in order
 abbrev pub StepMaker : List Argument → Type 0
 StepMaker [] = Step
 StepMaker (number ∷ more) = ℕ → StepMaker more
+StepMaker (vm ∷ more) = VmId → StepMaker more
+StepMaker (kind ∷ more) = VmKind → StepMaker more
 
 -- what a call's name stands for: its arguments, and the step that they make
 pub record Shape : Type 0 where
@@ -33,12 +39,20 @@ calls =
     ∷ (codes "owner_of", record { arguments = number ∷ []; step = steps.OwnerOf })
     ∷ (codes "fund", record { arguments = number ∷ number ∷ []; step = steps.Fund })
     ∷ (codes "unfund", record { arguments = []; step = steps.Unfund })
+    ∷ (codes "vm_reserve", record { arguments = kind ∷ number ∷ []; step = steps.VmReserve })
+    ∷ (codes "vm_open", record { arguments = []; step = steps.VmOpen })
+    ∷ (codes "vcpu_load", record { arguments = vm ∷ number ∷ []; step = steps.VcpuLoad })
+    ∷ (codes "vcpu_put", record { arguments = []; step = steps.VcpuPut })
+    ∷ (codes "teardown", record { arguments = vm ∷ []; step = steps.Teardown })
+    ∷ (codes "vm_release", record { arguments = []; step = steps.VmRelease })
     ∷ []
 
 -- the step that the words from a place on make
 abbrev pub step_from : (arguments : List Argument) → StepMaker arguments → List (List ℕ) → ℕ → Option Step
 step_from [] step words place = Some step
 step_from (number ∷ more) make words place = option_and_then (λ n. step_from more (make n) words (place + 1)) (number_at words place)
+step_from (vm ∷ more) make words place = option_and_then (λ v. step_from more (make v) words (place + 1)) (vm_word_at words place)
+step_from (kind ∷ more) make words place = option_and_then (λ k. step_from more (make k) words (place + 1)) (kind_word_at words place)
 
 -- what a step line has whose call has this name: its CPU, the name and the arguments, and the step that these make
 unfoldable pub called : List (List ℕ) → List ℕ → Option Called

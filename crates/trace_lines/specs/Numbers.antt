@@ -33,6 +33,10 @@ is_hexadecimal word =
 abbrev pub in_64_bits : ℕ → Option ℕ
 in_64_bits value = if nat_lt value (2 ^ 64) then Some value else None
 
+-- the number that a word is in decimal
+abbrev pub decimal_of : List ℕ → Option ℕ
+decimal_of word = if is_decimal word then in_64_bits (value_of 10 word) else None
+
 -- the number that a word is
 unfoldable pub number_of : List ℕ → Option ℕ
 number_of word =

@@ -1,10 +1,21 @@
-//! Words that stand for numbers, ranges and levels.
-ghost use Rattle.std.specs.Prelude.{◌≡◌};
-ghost use Rattle.trace_lines.specs.Arguments.{level_word_at as level_at_place, number_at as number_at_place, range_of as range_by};
+//! Words that stand for numbers, ranges, levels, VMs and their kinds.
+ghost use Rattle.std.specs.Prelude.{◌≡◌, option_copied, slice_get};
+ghost use Rattle.trace_lines.specs.Arguments.{
+  decimal_part as decimal_of_part,
+  dotted,
+  kind_word_at,
+  kinds,
+  level_word_at as level_at_place,
+  number_at as number_at_place,
+  range_of as range_by,
+  vm_of,
+  vm_word_at,
+};
+ghost use Rattle.trace_lines.specs.Words.{named};
 
-use crate::number::number;
-use crate::words::Words;
-use page_state::{Page, PageRange};
+use crate::number::{decimal, number};
+use crate::words::{Words, is_name};
+use page_state::{Page, PageRange, VmId, VmKind};
 
 /// The last level of a tree.
 const LAST_LEVEL: u64 = 3;
@@ -34,4 +45,58 @@ pub fn range_of(words: &Words<'_>) -> Option<PageRange>
     let first = Page(number_at(words, 1)?);
     let count = number_at(words, 2)?;
     Some(PageRange { first, count })
+}
+
+/// The part of a word at a place, counted from 0: parts are separated by one dot each.
+fn part(word: &[u8], place: usize) -> Option<&[u8]>
+    ensures { option_copied result ≡ slice_get (dotted word.now) place }
+{
+    word.split(|byte| *byte == b'.').nth(place)
+}
+
+/// The number that a part is in decimal.
+fn decimal_part(word: &[u8], place: usize) -> Option<u64>
+    ensures { result ≡ decimal_of_part word.now place }
+{
+    decimal(part(word, place)?)
+}
+
+/// The VM that a word names: its slot and its generation, joined by a dot.
+#[tactic(auto, unfolding(crate::specs::Arguments::vm_of))]
+fn vm(word: &[u8]) -> Option<VmId>
+    ensures { result ≡ vm_of word.now }
+{
+    if part(word, 2).is_some() {
+        return None;
+    }
+    let slot = decimal_part(word, 0)?;
+    let generation = decimal_part(word, 1)?;
+    Some(VmId { slot, generation })
+}
+
+/// The VM that stands at a place, counted from 0.
+pub fn vm_at(words: &Words<'_>, place: usize) -> Option<VmId>
+    ensures { result ≡ vm_word_at words.now place }
+{
+    vm(words.get(place)?)
+}
+
+/// The kind of VMs that a word is.
+fn kind(word: &[u8]) -> Option<VmKind>
+    ensures { result ≡ named kinds word.now }
+{
+    if is_name(word, b"protected") {
+        return Some(VmKind::Protected);
+    }
+    if is_name(word, b"plain") {
+        return Some(VmKind::Plain);
+    }
+    None
+}
+
+/// The kind of VMs that stands at a place, counted from 0.
+pub fn kind_at(words: &Words<'_>, place: usize) -> Option<VmKind>
+    ensures { result ≡ kind_word_at words.now place }
+{
+    kind(words.get(place)?)
 }

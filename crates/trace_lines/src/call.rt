@@ -1,9 +1,9 @@
 //! The calls that a step line can name.
 ghost use Rattle.std.specs.Prelude.{◌≡◌, [], ◌∷◌, Some};
-ghost use Rattle.page_state.specs.declared.step.Step.TheVariants.{DonateHyp, HypDonateHost, Fund};
-ghost use Rattle.trace_lines.specs.Calls.{called as called_by, number, step_from};
+ghost use Rattle.page_state.specs.declared.step.Step.TheVariants.{DonateHyp, HypDonateHost, Fund, VcpuLoad, VmReserve};
+ghost use Rattle.trace_lines.specs.Calls.{called as called_by, kind, number, step_from, vm};
 
-use crate::argument::number_at;
+use crate::argument::{kind_at, number_at, vm_at};
 use crate::words::{Words, is_name};
 use page_state::Step;
 
@@ -58,6 +58,24 @@ impl Called {
         if is_name(name, b"unfund") {
             return row(2, Some(Step::Unfund));
         }
+        if is_name(name, b"vm_reserve") {
+            return row(4, vm_reserve(words));
+        }
+        if is_name(name, b"vm_open") {
+            return row(2, Some(Step::VmOpen));
+        }
+        if is_name(name, b"vcpu_load") {
+            return row(4, vcpu_load(words));
+        }
+        if is_name(name, b"vcpu_put") {
+            return row(2, Some(Step::VcpuPut));
+        }
+        if is_name(name, b"teardown") {
+            return row(3, vm_at(words, 2).map(|vm| Step::Teardown { vm }));
+        }
+        if is_name(name, b"vm_release") {
+            return row(2, Some(Step::VmRelease));
+        }
         None
     }
 }
@@ -93,4 +111,22 @@ fn fund(words: &Words<'_>) -> Option<Step>
     let pfn = number_at(words, 2)?;
     let n = number_at(words, 3)?;
     Some(Step::Fund { pfn, n })
+}
+
+/// A reservation of a slot for a VM of the told kind and number of vCPUs.
+fn vm_reserve(words: &Words<'_>) -> Option<Step>
+    ensures { result ≡ step_from (kind ∷ number ∷ []) VmReserve words.now 2 }
+{
+    let kind = kind_at(words, 2)?;
+    let vcpus = number_at(words, 3)?;
+    Some(Step::VmReserve { kind, vcpus })
+}
+
+/// A load of the told vCPU of the told VM.
+fn vcpu_load(words: &Words<'_>) -> Option<Step>
+    ensures { result ≡ step_from (vm ∷ number ∷ []) VcpuLoad words.now 2 }
+{
+    let vm = vm_at(words, 2)?;
+    let vcpu = number_at(words, 3)?;
+    Some(Step::VcpuLoad { vm, vcpu })
 }

@@ -2,6 +2,7 @@
 ghost use Rattle.std.specs.Prelude.{◌≡◌, ◌≤◌, ◌+◌, ◌*◌};
 ghost use Rattle.std.specs.List.{list_all};
 ghost use Rattle.trace_lines.specs.Numbers.{
+  decimal_of,
   digit_of,
   in_64_bits,
   is_decimal as is_decimal_word,
@@ -22,6 +23,17 @@ pub fn number(word: &[u8]) -> Option<u64>
         value_of(10, word)
     } else if is_hexadecimal(word) {
         value_of(16, &word[2..])
+    } else {
+        None
+    }
+}
+
+/// A number in decimal: `0`, or digits whose first isn't 0. None where the word is neither, or its value isn't below 2^64.
+pub fn decimal(word: &[u8]) -> Option<u64>
+    ensures { result ≡ decimal_of word.now }
+{
+    if is_decimal(word) {
+        value_of(10, word)
     } else {
         None
     }
