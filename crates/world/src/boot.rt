@@ -269,11 +269,9 @@ fn vms_at_boot(global: Global, calls: u64) -> Result<Vec<VmPart>, AllocError>
     ensures logs { IfOk result (λ vms. All (λ v. IsNewLog calls v.log) vms.items) }
 {
     let mut vms = Vec::with_capacity(global, 1)?;
-    let part = VmPart {
-        table: VmTable::new(global)?,
-        log: Log::new(global, calls)?,
-    };
-    vms.push(part).map_err(AllocError::from)?;
+    let table = VmTable::new(global)?;
+    let log = Log::new(global, calls)?;
+    vms.push(VmPart { table, log }).map_err(AllocError::from)?;
     Ok(vms)
 }
 

@@ -63,7 +63,8 @@ impl<A: Allocator> World<A> {
         ensures parts { result ≡ self.parts }
         ensures history { ∥ HasHistory result ∥₁ }
     {
-        self.parts
+        let World { alloc: _, parts } = self;
+        parts
     }
 
     /// A world of parts, which keeps its trees' tables in `alloc`. It asks for parts that stand at the end of one legal
@@ -72,7 +73,7 @@ impl<A: Allocator> World<A> {
         requires history { ∥ HasHistory parts ∥₁ }
         ensures { result.parts ≡ parts }
     {
-        World { alloc, parts }
+        Self { alloc, parts }
     }
 
     /// All parts, to look at.
