@@ -1,0 +1,6 @@
+pub mod Blocks
+pub mod Frames
+pub mod Gains
+pub mod Guests
+pub mod Pages
+pub mod Same

@@ -1,0 +1,5 @@
+pub mod Own
+pub mod Bodies
+pub mod View
+pub mod Changing
+pub mod Plans

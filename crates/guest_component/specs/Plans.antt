@@ -1,0 +1,43 @@
+-- What a change of a guest needs, and what is ready for it.
+use Rattle.std.specs.Prelude.{◌≡◌, ℕ, ◌≤◌, length, Option, Some, None}
+use Rattle.component.specs.View.{HasRoomFor}
+use Rattle.page_state.specs.declared.layout.Geometry.{Geometry}
+use Rattle.page_state.specs.Geometries.{levels_below}
+use Rattle.reference_model.specs.declared.changes.Changes.{Changes}
+use Rattle.reference_model.specs.declared.changes.GuestChange.{GuestChange}
+use Rattle.reference_model.specs.declared.changes.GuestChange.TheVariants.{Install}
+use Rattle.reference_model.specs.declared.changes.MapChange.{MapChange}
+use Rattle.reference_model.specs.Changes.{guest_by}
+use Rattle.reference_model.specs.State.{no_guest}
+use Rattle.reference_model.specs.Step.{guest_need}
+use Rattle.table_tree.specs.View.{spares_of}
+use Rattle.guest_component.specs.declared.body.Body.{Body}
+use Rattle.guest_component.specs.declared.guest.Guest.{Guest as GuestComponent}
+use Rattle.guest_component.specs.declared.guest.GuestPlan.{GuestPlan}
+use Rattle.guest_component.specs.Bodies.{body_of, IsOfGeometry}
+use Rattle.guest_component.specs.Changing.{GuestCanChange, MakesNone}
+use Rattle.guest_component.specs.View.{guest_of, guest_depth}
+
+-- a guest's tree has so many spares, and its maplets the room that a change of its map asks
+abbrev pub HasReadyMap : {A : Type 0} → ℕ → Option MapChange → Option (Body A) → Type 0
+HasReadyMap n c None = Unit {0}
+HasReadyMap n c (Some b) = (n ≤ spares_of b.map.tree) × HasRoomFor c b.map.maplets
+
+-- the guest that an install makes is there
+abbrev pub IsMadeFor : {A : Type 0} → Geometry → GuestChange → Option (Body A) → Type 0
+IsMadeFor geometry (Install kind generation hand) None = ⊥
+IsMadeFor geometry (Install kind generation hand) (Some b) = (body_of b ≡ guest_by (levels_below geometry) (Install kind generation hand) no_guest) × (b.map.tree.geometry ≡ geometry)
+IsMadeFor geometry other o = Unit {0}
+
+-- the changes can be made of the guest, and all memory for them is there
+pub record IsReadyFor {A : Type 0} (h : Changes) (g : GuestComponent A) (p : GuestPlan A) : Type 0 where
+  pub fits : GuestCanChange (guest_depth g) h (guest_of g)
+  pub need : p.need ≡ guest_need (guest_depth g) h (guest_of g)
+  pub enough : p.need ≤ length (guest_of g).free
+  pub map : HasReadyMap p.need h.guest g.body
+  pub made : IsMadeFor g.geometry h.part p.made
+
+-- memory for the changes is there already: they make no guest, and the tree has spares for them and the maplets room
+pub record WantsNoMemory {A : Type 0} (h : Changes) (g : GuestComponent A) : Type 0 where
+  pub made : MakesNone h.part
+  pub map : HasReadyMap (guest_need (guest_depth g) h (guest_of g)) h.guest g.body
