@@ -2,7 +2,7 @@ use Rattle.std.proofs.Common.{◌≡◌, ◌+◌, ◌-◌, ◌*◌, ◌^◌, ◌
 use Rattle.std.proofs.Math.Nat.{mul-le-mul_left, mul-le-mul_right}
 use Rattle.walk_plan.specs.Changes.{part}
 use Rattle.walk_plan.specs.inner.Needs.{met, table_parts}
-use Rattle.walk_plan.proofs.Ranges.{part_in, part_is, met_some, met_start, met_end, sum_next, change_below, span, table_parts_is, said_range, slot_word, slot_child, powers_next}
+use Rattle.walk_plan.proofs.Ranges.{part_in, part_is, met_some, met_start, met_end, sum_next, change_below, leaf_need, span, table_parts_is, said_range, slot_word, slot_child, powers_next}
 use Rattle.walk_plan.proofs.Looks.{ends_start, ends_next, ends_end, whole_parts, whole_edges, child_looks, some_part}
 use Rattle.table_tree.specs.Reading.{count_of}
 use Rattle.table_tree.proofs.Slots.{shaped_wide}
@@ -21,6 +21,12 @@ slot-requires-clause-within g t c = part_in c.args.depth c.loop-i.i c.args.chang
 
 pub slot-requires-clause-wide : goal.slot-requires-clause-wide
 slot-requires-clause-wide g t c = shaped_wide c.args.depth c.args.table.now c.requires.shape
+
+pub returns-then-depth-eq0-clause-value : goal.returns-then-depth-eq0-clause-value
+returns-then-depth-eq0-clause-value g t c = sym (leaf_need c.args.table.now c.args.depth c.args.change c.if-depth-eq0.true)
+
+pub need_of_block-requires-clause-change_in : goal.need_of_block-requires-clause-change_in
+need_of_block-requires-clause-change_in g t c = rw c.part-part.ensures (part_is c.args.depth c.loop-i.i c.args.change c.requires.change_in c.loop-i.auto.i c.loop-i-test.true)
 
 pub need_of_block-requires-clause-old_in : goal.need_of_block-requires-clause-old_in
 need_of_block-requires-clause-old_in g t c = said_range c.args.depth c.entry_of.result c.requires.depth_in (c.entry_of.ensures.said (c.slot.ensures.tree.word_shape c.in-Word.word c.args.depth c.in-Word.is c.requires.shape))
