@@ -56,14 +56,18 @@ fn need_of_table<A: Allocator>(
     ensures whole { change.first ≡ 0 → change.end ≡ block_pages (depth + 1) → 2 * count_of reads.new + 512 ≤ 2 * count_of reads.old + 3 * (change.end - change.first) }
 {
     let mut count = 0;
-    if depth == 0 {
-        return count;
-    }
     for i in change.first >> (9 * depth)..((change.end - 1) >> (9 * depth)) + 1 {
         let part = change.part(depth, i);
         count += match table.slot(i as usize, reads) {
             Slot::Word(word) => need_of_block(depth, entry_of(depth, *word), part),
-            Slot::Child(child) => need_of_table(child, depth - 1, part, reads),
+            Slot::Child(child) => {
+                // a table of the last level needs none
+                if depth == 1 {
+                    0
+                } else {
+                    need_of_table(child, depth - 1, part, reads)
+                }
+            }
         };
     }
     count
