@@ -93,7 +93,8 @@ pub fn has_stray_byte(line: &[u8]) -> bool
     let mut has_stray = false;
     // without an early end, so that many bytes are looked at in one step
     for byte in line {
-        has_stray = has_stray || *byte < 0x20 || *byte > 0x7e;
+        let is_stray = *byte < 0x20 || *byte > 0x7e;
+        has_stray |= is_stray;
     }
     has_stray
 }
