@@ -23,9 +23,16 @@ pub(crate) fn look_in<A: Allocator>(table: &Table<A>, depth: u32, page: u64) -> 
     requires shape { IsShaped depth table.now }
     ensures { result ≡ entry_at depth table.now page }
 {
-    match table.read(index_of(depth, page)) {
-        Slot::Word(word) => entry_in(depth, *word, page),
-        Slot::Child(child) => look_in(child, depth - 1, page),
+    let mut table = table;
+    let mut depth = depth;
+    loop {
+        match table.read(index_of(depth, page)) {
+            Slot::Word(word) => return entry_in(depth, *word, page),
+            Slot::Child(child) => {
+                table = child;
+                depth -= 1;
+            }
+        }
     }
 }
 

@@ -1,5 +1,5 @@
 -- Looking a word up among those that are kept.
-use Rattle.std.proofs.Common.{◌≡◌, ℕ, zero, suc, ◌<◌, List, [], ◌∷◌, length, get_or, drop, take, map, Some, None, ap, sym, arith}
+use Rattle.std.proofs.Common.{◌≡◌, ℕ, zero, suc, ◌<◌, List, [], ◌∷◌, length, get_or, drop, take, map, Some, ap, arith}
 use Rattle.std.specs.Prelude.{slice_get}
 
 -- a word that is kept is the line's at its place

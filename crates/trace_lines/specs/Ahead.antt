@@ -1,5 +1,5 @@
 -- Bytes that are read and not yet given to a line.
-use Rattle.std.specs.Prelude.{◌≡◌, ℕ, ◌≤◌, Bool, true, false, List, [], ◌∷◌, ◌++◌, length, slice_range, Option, MatchBool}
+use Rattle.std.specs.Prelude.{◌≡◌, ℕ, ◌≤◌, Bool, false, List, ◌∷◌, ◌++◌, length, slice_range, Option, MatchBool}
 use Rattle.std.specs.Io.KnownBytes.{prepend_known}
 use Rattle.trace_lines.specs.declared.ahead.ReadAhead.{ReadAhead}
 use Rattle.trace_lines.specs.Reading.{HasNoEnd}

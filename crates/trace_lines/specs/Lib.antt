@@ -5,7 +5,6 @@ pub mod Calls
 pub mod Devices
 pub mod Numbers
 pub mod Places
-pub mod Readers
 pub mod Reading
 pub mod Said
 pub mod Settings

@@ -4,6 +4,7 @@ ghost use Rattle.std.specs.Io.{ReadsAtMost};
 ghost use Rattle.std.specs.Io.KnownBytes.{ReadConsumes};
 ghost use Rattle.trace_lines.specs.Devices.{Counts};
 
+use crate::counting::Counting;
 use std::io::{Error, ErrorKind, Read};
 
 /// The most tries of one read or write, where each of them is interrupted.
@@ -29,56 +30,15 @@ pub trait Source {
         ensures counted { Counts (failures self.old) (failures self.new) result };
 }
 
-/// A reader of std as a source. It keeps why it failed last.
-#[derive(Drop)]
-pub struct Reading<R: Read> {
-    reader: R,
-    failed: u64,
-    cause: Option<Error>,
-}
-
-impl<R: Read> Reading<R> {
-    ghost use Rattle.trace_lines.specs.Readers.{reader_in, failed_reads};
-
-    /// A reader that hasn't failed.
-    pub fn new(reader: R) -> Reading<R>
-        ensures reader { reader_in result ≡ reader }
-        ensures failures { failed_reads result ≡ 0 }
-    {
-        Reading {
-            reader,
-            failed: 0,
-            cause: None,
-        }
-    }
-
-    /// Why the last read failed that did.
-    pub fn into_cause(self) -> Option<Error>
-    where
-        R: Drop,
-    {
-        let Reading {
-            reader: _reader,
-            failed: _,
-            cause,
-        } = self;
-        cause
-    }
-}
-
-impl<R: Read> Source for Reading<R> {
-    ghost remaining = { λ r. R.remaining r.reader };
+impl<R: Read> Source for Counting<R> {
+    ghost remaining = { λ r. R.remaining r.device };
 
     ghost failures = { λ r. r.failed };
 
     fn read(&mut self, chunk: &mut [u8]) -> Result<usize, Failed> {
-        match read_uninterrupted(&mut self.reader, chunk) {
+        match read_uninterrupted(&mut self.device, chunk) {
             Ok(count) => Ok(count),
-            Err(error) => {
-                self.failed += 1;
-                self.cause = Some(error);
-                Err(Failed)
-            }
+            Err(error) => Err(self.fail(error)),
         }
     }
 }

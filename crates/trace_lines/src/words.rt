@@ -90,5 +90,11 @@ pub fn is_name(word: &[u8], name: &[u8]) -> bool
 pub fn has_stray_byte(line: &[u8]) -> bool
     ensures { result ≡ has_stray_byte_in line.now }
 {
-    line.iter().any(|byte| *byte < 0x20 || *byte > 0x7e)
+    let mut has_stray = false;
+    // without an early end, so that many bytes are looked at in one step
+    for byte in line {
+        let is_stray = *byte < 0x20 || *byte > 0x7e;
+        has_stray |= is_stray;
+    }
+    has_stray
 }

@@ -5,5 +5,4 @@ pub mod Replay
 pub mod Session
 pub mod Texts
 pub mod View
-pub mod Writers
 pub mod Worlds

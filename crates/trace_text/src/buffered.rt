@@ -2,11 +2,10 @@
 ghost use Rattle.std.specs.Prelude.{◌≡◌, IfOk};
 ghost use Rattle.trace_text.specs.Replay.{IsReplayed};
 
-use crate::sink::Writing;
 use crate::trace::replay;
 use std::alloc::{Allocator, Global};
 use std::io::{BufWriter, Error, Read, Write};
-use trace_lines::{EngineFault, Outcome, Reading};
+use trace_lines::{Counting, EngineFault, Outcome};
 
 /// Why a replay stopped before the end of its report, and what the system told of a read or a write that failed.
 #[derive(Debug, Drop)]
@@ -28,8 +27,8 @@ pub fn replay_buffered<A: Allocator + Copy, R: Read + Drop, W: Write + Drop>(
     let Ok(writer) = BufWriter::new(global, writer) else {
         return Err(stop_at(EngineFault::NoMemory, None));
     };
-    let mut source = Reading::new(reader);
-    let mut sink = Writing::new(writer);
+    let mut source = Counting::new(reader);
+    let mut sink = Counting::new(writer);
     let answer = replay(global, alloc, &mut source, &mut sink);
     let (writer, cause) = sink.into_parts();
     match answer {
@@ -37,7 +36,10 @@ pub fn replay_buffered<A: Allocator + Copy, R: Read + Drop, W: Write + Drop>(
             Ok(writer) => Ok((outcome, writer)),
             Err(failed) => Err(stop_at(EngineFault::Write, Some(failed.into_error()))),
         },
-        Err(EngineFault::Read) => Err(stop_at(EngineFault::Read, source.into_cause())),
+        Err(EngineFault::Read) => {
+            let (_reader, cause) = source.into_parts();
+            Err(stop_at(EngineFault::Read, cause))
+        }
         Err(EngineFault::Write) => Err(stop_at(EngineFault::Write, cause)),
         Err(EngineFault::NoMemory) => Err(stop_at(EngineFault::NoMemory, None)),
     }

@@ -10,9 +10,9 @@ mod sink;
 mod trace;
 
 pub use buffered::{Stopped, replay_buffered};
-pub use sink::{Sink, Writing};
+pub use sink::Sink;
 pub use trace::replay;
-pub use trace_lines::{EngineFault, Failed, Outcome, Reading, Source};
+pub use trace_lines::{Counting, EngineFault, Failed, Outcome, Source};
 
 #[cfg(test)]
 mod tests;

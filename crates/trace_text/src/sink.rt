@@ -4,7 +4,7 @@ ghost use Rattle.trace_lines.specs.Devices.{Counts};
 ghost use Rattle.trace_text.specs.Failures.{WritesAll};
 
 use std::io::{Error, ErrorKind, Write};
-use trace_lines::Failed;
+use trace_lines::{Counting, Failed};
 
 /// The most writes that one text takes, interrupted ones among them.
 const MOST_TRIES: usize = 1 << 32;
@@ -24,55 +24,15 @@ pub trait Sink {
         ensures counted { Counts (failures self.old) (failures self.new) result };
 }
 
-/// A writer of std as a sink. It keeps why it failed last.
-#[derive(Drop)]
-pub struct Writing<W: Write> {
-    writer: W,
-    failed: u64,
-    cause: Option<Error>,
-}
-
-impl<W: Write> Writing<W> {
-    ghost use Rattle.trace_text.specs.Writers.{writer_in, failed_writes};
-
-    /// A writer that hasn't failed.
-    pub fn new(writer: W) -> Writing<W>
-        ensures writer { writer_in result ≡ writer }
-        ensures failures { failed_writes result ≡ 0 }
-    {
-        Writing {
-            writer,
-            failed: 0,
-            cause: None,
-        }
-    }
-
-    /// The writer, and why the last write failed that did.
-    pub fn into_parts(self) -> (W, Option<Error>)
-        ensures { result.0 ≡ writer_in self }
-    {
-        let Writing {
-            writer,
-            failed: _,
-            cause,
-        } = self;
-        (writer, cause)
-    }
-}
-
-impl<W: Write> Sink for Writing<W> {
-    ghost contents = { λ w. W.contents w.writer };
+impl<W: Write> Sink for Counting<W> {
+    ghost contents = { λ w. W.contents w.device };
 
     ghost failures = { λ w. w.failed };
 
     fn write(&mut self, bytes: &[u8]) -> Result<(), Failed> {
-        match write_uninterrupted(&mut self.writer, bytes) {
+        match write_uninterrupted(&mut self.device, bytes) {
             Ok(()) => Ok(()),
-            Err(error) => {
-                self.failed += 1;
-                self.cause = Some(error);
-                Err(Failed)
-            }
+            Err(error) => Err(self.fail(error)),
         }
     }
 }

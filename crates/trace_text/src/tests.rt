@@ -78,7 +78,7 @@ fn replayed<R: AllocGlobal, F: Read + Drop, W: Write + Drop>(
     reader: F,
     writer: W,
 ) -> Result<Outcome, EngineFault> {
-    let (mut source, mut sink) = (Reading::new(reader), Writing::new(writer));
+    let (mut source, mut sink) = (Counting::new(reader), Counting::new(writer));
     replay(rt.alloc(), rt.alloc(), &mut source, &mut sink)
 }
 
@@ -169,8 +169,8 @@ fn writes_all_that_buffers_hold(rt: HostRuntime) -> Result<(), Fail> {
 fn in_heap<R: AllocGlobal + Abort>(rt: &R, bytes: usize, report: &[u8]) -> Result<(), Fail> {
     let heap = LocalHeap::new(rt.alloc(), bytes)?;
     let mut written = Vec::new(rt.alloc());
-    let mut source = Reading::new(Cursor::new(BOOT));
-    let mut sink = Writing::new(&mut written);
+    let mut source = Counting::new(Cursor::new(BOOT));
+    let mut sink = Counting::new(&mut written);
     let ended = replay(rt.alloc(), &heap, &mut source, &mut sink);
     assert!(rt; ended.is_ok());
     let _ = sink.into_parts();

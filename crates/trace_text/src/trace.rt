@@ -13,7 +13,6 @@ use crate::session::{Reported, Session, Stop};
 use crate::sink::Sink;
 use maplets::Runs;
 use std::alloc::{Allocator, Global};
-use std::io::Write;
 use trace_lines::{
     EngineFault, Failed, MOST_BYTES, Outcome, ReadAhead, Response, Source, read_line,
 };
@@ -40,7 +39,7 @@ pub fn replay<A: Allocator + Copy, S: Source, K: Sink>(
 {
     let mut session = Session::new(global, alloc);
     let mut line = Vec::with_capacity(global, MOST_BYTES + 1).map_err(|_| EngineFault::NoMemory)?;
-    let mut text = Vec::with_capacity(global, MOST_BYTES).map_err(|_| EngineFault::NoMemory)?;
+    let mut text = String::with_capacity(global, MOST_BYTES).map_err(|_| EngineFault::NoMemory)?;
     let mut ahead = ReadAhead::new(global).map_err(|_| EngineFault::NoMemory)?;
     for number in 1..MOST_LINES + 1 {
         if !read_line(source, &mut ahead, &mut line)? {
@@ -62,7 +61,7 @@ fn play<A: Allocator + Copy, K: Sink>(
     number: u64,
     line: &[u8],
     sink: &mut K,
-    text: &mut Vec<u8>,
+    text: &mut String,
 ) -> Result<Option<Outcome>, EngineFault>
     requires steps { (standing_of session.old).steps < 2 ^ 63 }
     requires few { K.failures sink.old < 2 ^ 63 }
@@ -88,7 +87,7 @@ fn play<A: Allocator + Copy, K: Sink>(
 fn tell_reported<A: Allocator + Copy, K: Sink>(
     session: &Session<A>,
     sink: &mut K,
-    text: &mut Vec<u8>,
+    text: &mut String,
     reported: Reported,
 ) -> Result<(), EngineFault>
     requires few { K.failures sink.old < 2 ^ 63 }
@@ -107,7 +106,7 @@ fn tell_reported<A: Allocator + Copy, K: Sink>(
 }
 
 /// Writes a line for each run of maplets.
-fn tell_runs<K: Sink>(sink: &mut K, text: &mut Vec<u8>, runs: Runs<'_>) -> Result<(), EngineFault>
+fn tell_runs<K: Sink>(sink: &mut K, text: &mut String, runs: Runs<'_>) -> Result<(), EngineFault>
     requires few { K.failures sink.old < 2 ^ 63 }
     ensures ok { OnOk result (Appends (K.contents sink.old) (K.contents sink.new) (text_of_report (map ReportLine.Response (map Response.Run runs.entry)))) }
     ensures front { OnErr result (WritesFront (map ReportLine.Response (map Response.Run runs.entry)) (K.contents sink.old) (K.contents sink.new)) }
@@ -120,18 +119,16 @@ fn tell_runs<K: Sink>(sink: &mut K, text: &mut Vec<u8>, runs: Runs<'_>) -> Resul
 }
 
 /// Writes a line of the report, which is made in `text` first.
-fn tell<K: Sink>(sink: &mut K, text: &mut Vec<u8>, told: ReportLine) -> Result<(), EngineFault>
+fn tell<K: Sink>(sink: &mut K, text: &mut String, told: ReportLine) -> Result<(), EngineFault>
     requires few { K.failures sink.old < 2 ^ 63 }
     ensures ok { OnOk result (Appends (K.contents sink.old) (K.contents sink.new) (text_of_report (told ∷ []))) }
     ensures front { OnErr result (WritesFront (told ∷ []) (K.contents sink.old) (K.contents sink.new)) }
     ensures counted { TellsWrite (K.failures sink.old) (K.failures sink.new) result }
 {
     text.clear();
-    match text.writeln(told) {
-        Ok(()) => {}
-        Err(_) => return Err(EngineFault::NoMemory),
-    }
-    match sink.write(text.as_slice()) {
+    text.write(told).map_err(|_| EngineFault::NoMemory)?;
+    text.push('\n').map_err(|_| EngineFault::NoMemory)?;
+    match sink.write(text.as_bytes()) {
         Ok(()) => Ok(()),
         Err(Failed) => Err(EngineFault::Write),
     }
@@ -141,7 +138,7 @@ fn tell<K: Sink>(sink: &mut K, text: &mut Vec<u8>, told: ReportLine) -> Result<(
 fn ended<A: Allocator + Copy, K: Sink>(
     session: &Session<A>,
     sink: &mut K,
-    text: &mut Vec<u8>,
+    text: &mut String,
 ) -> Result<Outcome, EngineFault>
     requires few { K.failures sink.old < 2 ^ 63 }
     ensures ok { IfOk result (λ outcome. (outcome ≡ Outcome.Clean) × Appends (K.contents sink.old) (K.contents sink.new) (text_of_report (ReportLine.End (standing_of session.now).steps 0 ∷ []))) }
@@ -159,7 +156,7 @@ fn ended<A: Allocator + Copy, K: Sink>(
 /// Ends the report with a fault.
 fn faulted<K: Sink>(
     sink: &mut K,
-    text: &mut Vec<u8>,
+    text: &mut String,
     line: u64,
     fault: Fault,
 ) -> Result<Outcome, EngineFault>

@@ -1,4 +1,5 @@
-use Rattle.std.proofs.Common.{◌≡◌, ℕ, zero, suc, ◌+◌, ◌-◌, ◌*◌, ◌/◌, ◌^◌, ◌<◌, ◌≤◌, refl, ap, arith, ◌∙◌, true, false, add-one}
+use Rattle.std.proofs.Common.{◌≡◌, ℕ, zero, suc, ◌+◌, ◌-◌, ◌*◌, ◌/◌, ◌^◌, ◌<◌, ◌≤◌, refl, ap, arith, ◌∙◌, Bool, true, false, cond, add-one}
+use Rattle.std.specs.Prelude.{nat_lt}
 use Rattle.std.proofs.lemmas.Bool.Decides.{nat_tests}
 use Rattle.std.proofs.Math.Nat.{mul-le-mul_left, mul-le-mul_right, pow-succ', pow-zero}
 use native.Mathlib.Numerals.{unary_clauses}
@@ -80,6 +81,15 @@ pub sum_none : (f : ℕ → ℕ) (n : ℕ) → ((k : ℕ) → k < n → f k ≡ 
 unfolding sum_to
 sum_none f zero h = refl
 sum_none f (suc n) h = omega (arith, sum_none f n (λ k p. h k (omega arith)), h n (omega arith))
+
+-- a table without levels below it needs none
+pub leaf_need : {A : Type 0} (t : Table A) (d : ℕ) (c : Change) → d ≡ 0 → table_need d t c ≡ 0
+unfolding met slot_need table_parts
+leaf_need t d c e = ap (λ n. table_need n t c) e ∙ sum_none (met 0 c (table_parts 0 t)) 512 (λ k l. either (nat_lt (part 0 k c).first (part 0 k c).end))
+  where
+    either : (b : Bool) → cond {A = ℕ} b 0 0 ≡ 0
+    either true = refl
+    either false = refl
 
 sum_rest : (f : ℕ → ℕ) (n m : ℕ) → ((k : ℕ) → n ≤ k → f k ≡ 0) → sum_to f (n + m) ≡ sum_to f n
 unfolding sum_to

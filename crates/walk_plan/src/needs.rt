@@ -60,7 +60,14 @@ fn need_of_table<A: Allocator>(
         let part = change.part(depth, i);
         count += match table.slot(i as usize, reads) {
             Slot::Word(word) => need_of_block(depth, entry_of(depth, *word), part),
-            Slot::Child(child) => need_of_table(child, depth - 1, part, reads),
+            Slot::Child(child) => {
+                // a table of the last level needs none
+                if depth == 1 {
+                    0
+                } else {
+                    need_of_table(child, depth - 1, part, reads)
+                }
+            }
         };
     }
     count

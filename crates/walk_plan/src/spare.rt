@@ -72,6 +72,11 @@ pub fn reserve_tables<A: Allocator + Copy>(
     ensures err { OnErr result (pool.new ≡ pool.old) }
     ensures room { pool.new.room ≡ pool.old.room }
 {
+    if count == 0 {
+        return Ok(Spare {
+            stock: Stock::new(),
+        });
+    }
     if pool.free() < count {
         return Err(PoolFault::NoPool);
     }

@@ -76,6 +76,8 @@ pub(crate) fn look_for<A: Allocator>(
 }
 
 /// Writes into a table of zeros what an entry gives the parts of its block.
+// kept out of the walk, which mostly finds tables
+#[inline(never)]
 fn fill<A: Allocator>(table: &mut Table<A>, depth: u32, entry: Entry)
     requires depth_in { IsDepth (depth + 1) }
     requires wide { IsWide table.old }

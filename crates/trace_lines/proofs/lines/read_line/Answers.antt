@@ -1,4 +1,4 @@
-use Rattle.std.proofs.Common.{rules, arith, refl, ap, not}
+use Rattle.std.proofs.Common.{rules, arith, ap, not}
 use Rattle.trace_lines.specs.Ahead.{held, left}
 use Rattle.trace_lines.proofs.Moved.{next_plain, next_bytes, ends_line, is_long, longer, is_last}
 use Rattle.trace_lines.proofs.lines.read_line.Goals as goal

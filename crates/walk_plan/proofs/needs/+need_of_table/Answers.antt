@@ -2,13 +2,13 @@ use Rattle.std.proofs.Common.{◌≡◌, ◌+◌, ◌-◌, ◌*◌, ◌^◌, ◌
 use Rattle.std.proofs.Math.Nat.{mul-le-mul_left, mul-le-mul_right}
 use Rattle.walk_plan.specs.Changes.{part}
 use Rattle.walk_plan.specs.inner.Needs.{met, table_parts}
-use Rattle.walk_plan.proofs.Ranges.{part_in, part_is, met_some, met_start, met_end, sum_next, change_below, span, table_parts_is, said_range, slot_word, slot_child, powers_next}
+use Rattle.walk_plan.proofs.Ranges.{part_in, part_is, met_some, met_start, met_end, sum_next, change_below, leaf_need, span, table_parts_is, said_range, slot_word, slot_child, powers_next}
 use Rattle.walk_plan.proofs.Looks.{ends_start, ends_next, ends_end, whole_parts, whole_edges, child_looks, some_part}
 use Rattle.table_tree.specs.Reading.{count_of}
 use Rattle.table_tree.proofs.Slots.{shaped_wide}
 use Rattle.walk_plan.proofs.Seen.{seen_deep, seen_child}
 use Rattle.walk_plan.proofs.needs.+need_of_table.Goals as goal
-use Rattle.walk_plan.proofs.needs.+need_of_table.Goals.{in-Word, in-Child}
+use Rattle.walk_plan.proofs.needs.+need_of_table.Goals.{in-Word, in-Child+then-depth-eq1, in-Child+else-depth-eq1}
 
 pub loop-i-init : goal.loop-i-init
 loop-i-init g t c = record { counted = omega (arith, met_start c.args.depth c.args.change (table_parts c.args.depth c.args.table.now)); small = omega arith; reads = omega (arith, ends_start (2 * c.args.depth) c.args.depth c.args.change c.requires.change_in.some) }
@@ -21,6 +21,9 @@ slot-requires-clause-within g t c = part_in c.args.depth c.loop-i.i c.args.chang
 
 pub slot-requires-clause-wide : goal.slot-requires-clause-wide
 slot-requires-clause-wide g t c = shaped_wide c.args.depth c.args.table.now c.requires.shape
+
+pub need_of_block-requires-clause-change_in : goal.need_of_block-requires-clause-change_in
+need_of_block-requires-clause-change_in g t c = rw c.part-part.ensures (part_is c.args.depth c.loop-i.i c.args.change c.requires.change_in c.loop-i.auto.i c.loop-i-test.true)
 
 pub need_of_block-requires-clause-old_in : goal.need_of_block-requires-clause-old_in
 need_of_block-requires-clause-old_in g t c = said_range c.args.depth c.entry_of.result c.requires.depth_in (c.entry_of.ensures.said (c.slot.ensures.tree.word_shape c.in-Word.word c.args.depth c.in-Word.is c.requires.shape))
@@ -41,7 +44,8 @@ overflow_add-count g t c =
     let m : c.loop-i.i * 1024 ^ c.args.depth ≤ c.loop-i.i * 1048576 = mul-le-mul_left c.loop-i.i p.2 in
     elim c.match-slot.branch [
       | in-Word w ↦ omega (arith, p.2, w.count-is, w.need_of_block.ensures.small, c.loop-i.invariant.small, m, i)
-      | in-Child w ↦
+      | in-Child+then-depth-eq1 w ↦ omega (arith, p.2, w.count-is, c.loop-i.invariant.small, m, i)
+      | in-Child+else-depth-eq1 w ↦
           let e : c.args.depth - 1 + 1 ≡ c.args.depth = let le = seen_deep c.args.depth c.loop-i.i c.args.table.now _ w.in-Child.child c.slot.ensures.tree w.in-Child.is c.requires.shape in omega (arith, le) in
           omega (arith, p.2, w.count-is, rw e at w.need_of_table.ensures.small, c.loop-i.invariant.small, m, i)
     ]
@@ -58,7 +62,12 @@ loop-i-preserved g t c =
           let v = rw (c.part-part.ensures, w.entry_of.ensures.value) at w.need_of_block.ensures.value in
           let x = slot_word c.args.depth w.in-Word.word _ (part c.args.depth c.loop-i.i c.args.change) (sym c.slot.ensures.value ∙ w.in-Word.is) in
           record { counted = omega (arith, n, s, k, v, x, w.count-is, c.loop-i.invariant.counted); small = omega (arith, w.count-is, w.need_of_block.ensures.small, c.loop-i.invariant.small); reads = omega (arith, y.0, y.1, q.some, ap count_of w.reads-is, c.slot.ensures.reads, c.loop-i.invariant.reads, c.loop-i.auto.i) }
-      | in-Child w ↦
+      | in-Child+then-depth-eq1 w ↦
+          let deep : 1 ≤ c.args.depth = omega (arith, w.if-depth-eq1.true) in
+          let v = leaf_need w.in-Child.child.value (c.args.depth - 1) (part c.args.depth c.loop-i.i c.args.change) (omega (arith, w.if-depth-eq1.true)) in
+          let x = slot_child c.args.depth w.in-Child.child _ (part c.args.depth c.loop-i.i c.args.change) deep (sym c.slot.ensures.value ∙ w.in-Child.is) in
+          record { counted = omega (arith, n, s, k, v, x, w.count-is, c.loop-i.invariant.counted); small = omega (arith, w.count-is, c.loop-i.invariant.small); reads = omega (arith, y.0, y.1, q.some, ap count_of w.reads-is, c.slot.ensures.reads, c.loop-i.invariant.reads, c.loop-i.auto.i) }
+      | in-Child+else-depth-eq1 w ↦
           let le : 1 ≤ c.args.depth = seen_deep c.args.depth c.loop-i.i c.args.table.now _ w.in-Child.child c.slot.ensures.tree w.in-Child.is c.requires.shape in
           let e : c.args.depth - 1 + 1 ≡ c.args.depth = omega arith in
           let v = rw (c.part-part.ensures, w.deref.ensures) at w.need_of_table.ensures.value in

@@ -1,5 +1,4 @@
-use Rattle.std.proofs.Common.{rules, arith, ◌≡◌, ◌++◌, length, take, min, subst, sym, ◌∙◌, ap, Some, None}
-use Rattle.memchr.specs.Find.{IsFirstByte, is_byte}
+use Rattle.std.proofs.Common.{rules, arith}
 use Rattle.trace_lines.specs.Ahead.{held}
 use Rattle.trace_lines.proofs.Moved.{moves_end, moves_on, held_some}
 use Rattle.trace_lines.proofs.ahead.ReadAhead.give.Goals as goal
