@@ -2,12 +2,11 @@
 use Rattle.std.proofs.Common.{◌≡◌, ℕ, zero, suc, ◌+◌, [], ◌∷◌, ◌++◌, drop, refl, ap, ◌∙◌, arith, add-one}
 use Rattle.std.proofs.lemmas.List.{drop-drop}
 use Rattle.page_state.specs.Layouts.{Layout}
-use Rattle.reference_model.specs.State.{plain_row}
 use Rattle.page_state.specs.Tables.{edited}
 use Rattle.page_state.specs.Trees.{frames_from}
 use Rattle.reference_model.specs.Boot.{host_root, host_edit, host_need, hyp_root, hyp_edit, hyp_need, spare, boot_shared}
-use Rattle.ghost_spec.specs.declared.share.Shared.{Shared as SharedOfLists}
-use Rattle.ghost_spec.specs.Sharing.{shared_in_lists}
+use Rattle.ghost_spec.specs.declared.shared.Shared.{Shared as SharedOfLists}
+use Rattle.ghost_spec.specs.Views.{shared_in_lists}
 use Rattle.ghost_spec.specs.Trees.{tree_in_lists}
 
 -- one frame more at the end
@@ -21,5 +20,5 @@ pub frames_more : (first n : ℕ) → frames_from first n ++ (first + n) ∷ [] 
 frames_more first n = rw (add-one, last_frame first n) refl
 
 -- lists of which each part is the boot state's
-pub booted : (l : Layout) (s : SharedOfLists) → tree_in_lists s.host ≡ edited l.depth (host_root l) (host_edit l) (spare l) → tree_in_lists s.hyp ≡ edited l.depth (hyp_root l) (hyp_edit l) (drop (host_need l) (spare l)) → s.free.items ≡ drop (hyp_need l) (drop (host_need l) (spare l)) → shared_in_lists (λ f. plain_row) s ≡ boot_shared l
-booted l s host hyp free = rw (host, hyp, free, drop-drop (hyp_need l) (host_need l) (spare l)) refl
+pub booted : (l : Layout) (s : SharedOfLists) → tree_in_lists s.host ≡ edited l.depth (host_root l) (host_edit l) (spare l) → tree_in_lists s.hyp ≡ edited l.depth (hyp_root l) (hyp_edit l) (drop (host_need l) (spare l)) → s.free.items ≡ drop (hyp_need l) (drop (host_need l) (spare l)) → s.rows.runs ≡ [] → shared_in_lists s ≡ boot_shared l
+booted l s host hyp free rows = rw (host, hyp, free, rows, drop-drop (hyp_need l) (host_need l) (spare l)) refl

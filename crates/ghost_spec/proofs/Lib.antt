@@ -1,8 +1,15 @@
+pub mod Alone
 pub mod BlockLists
 pub mod BootLists
+pub mod Changed
 pub mod Coarse
+pub mod Copied
 pub mod Entries
+pub mod Foretold
+pub mod FoundPages
+pub mod FoundTables
 pub mod Overlaid
+pub mod RowsKept
 pub mod Searches
-pub mod Shares
 pub mod TreeLists
+pub mod Starts

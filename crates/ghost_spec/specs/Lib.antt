@@ -1,5 +1,9 @@
+pub mod Found
 pub mod Joins
+pub mod Kept
 pub mod Parts
-pub mod Sharing
+pub mod RowsAlone
 pub mod Small
+pub mod States
 pub mod Trees
+pub mod Views

@@ -4,18 +4,20 @@ ghost use Rattle.page_state.specs.Trees.{frames_from as frames_of, root_tree as 
 ghost use Rattle.reference_model.specs.Boot.{boot_shared, IsCarveEnough};
 ghost use Rattle.page_state.specs.EntryTests.{annotation, leaf};
 ghost use Rattle.page_state.specs.Layouts.{hyp_page as hyp_page_of};
-ghost use Rattle.reference_model.specs.State.{plain_row};
-ghost use Rattle.ghost_spec.specs.Sharing.{HasSmallRuns, layout_with, shared_in_lists};
+ghost use Rattle.ghost_spec.specs.Kept.{IsKeptShared};
 ghost use Rattle.ghost_spec.specs.Small.{AreSmall};
+ghost use Rattle.ghost_spec.specs.Views.{layout_with, shared_in_lists};
 ghost use Rattle.ghost_spec.specs.Trees.{tree_in_lists};
 
-use crate::share::{Shared, behind, hyp_page};
+use crate::leaves::hyp_page;
+use crate::shared::{Shared, behind};
 use crate::tree::{Table, Tree, edited, need};
 use page_state::{Config, Entry, Frame, Kind, MemoryMap, Owner, Page, PageRange, Prot, State};
+use run_list::RunList;
 use std::alloc::{AllocError, Global};
 
-/// The Shared part at boot and an empty log of a CPU, in trees of `depth` levels below the root's. None where the
-/// carve-out has fewer frames than boot needs tables. The rows, which lists don't have, are all plain here.
+/// The Shared part at boot, before its rows are found, in trees of `depth` levels below the root's. None where the
+/// carve-out has fewer frames than boot needs tables.
 pub fn boot(
     alloc: Global,
     memory: &MemoryMap,
@@ -24,10 +26,8 @@ pub fn boot(
 ) -> Result<Option<Shared>, AllocError>
     requires { depth ≤ 3 }
     ensures enough { IfOk result (λ o. IsSome o ↔ IsCarveEnough (layout_with memory.now config depth)) }
-    ensures shared { IfOk result (λ o. IfSome o (λ s. shared_in_lists (λ f. plain_row) s ≡ boot_shared (layout_with memory.now config depth))) }
-    ensures room { IfOk result (λ o. IfSome o (λ s. s.room ≡ config.log)) }
-    ensures cpu_room { IfOk result (λ o. IfSome o (λ s. s.cpu_room ≡ config.log)) }
-    ensures small { IfOk result (λ o. IfSome o HasSmallRuns) }
+    ensures shared { IfOk result (λ o. IfSome o (λ s. shared_in_lists s ≡ boot_shared (layout_with memory.now config depth))) }
+    ensures kept { IfOk result (λ o. IfSome o IsKeptShared) }
 {
     let carve = memory.carve();
     let first = carve.first.0;
@@ -48,8 +48,7 @@ pub fn boot(
         host,
         hyp,
         free: Vec::from_slice(alloc, behind(rest, hyp_need))?,
-        room: config.log,
-        cpu_room: config.log,
+        rows: RunList::new(alloc),
     }))
 }
 

@@ -1,11 +1,20 @@
 //! The definitions of the model as a program: plain and slow, on maps told as lists of runs.
 #![tactic(auto)]
 
+mod answer;
 pub mod blocks;
 pub mod boot;
+pub mod cpu;
+mod found;
+mod leaves;
+pub mod parts;
 pub mod pool;
+mod rows;
+mod rules;
 pub mod runs;
-pub mod share;
+pub mod shared;
+pub mod start;
+pub mod state;
 #[cfg(test)]
 mod tests;
 pub mod tree;

@@ -1,16 +1,18 @@
 ghost use Rattle.std.specs.Prelude.{◌<◌, ◌^◌, IfOk};
-ghost use Rattle.ghost_spec.specs.Sharing.{HasSmallRuns};
-ghost use Rattle.ghost_spec.specs.Small.{AreSmall, HasLowFrames};
+ghost use Rattle.ghost_spec.specs.Small.{AreSmall};
+ghost use Rattle.ghost_spec.specs.States.{IsKept};
 
 use crate::boot::boot;
-use crate::share::{Shared, share_hyp};
+use crate::start::start;
+use crate::state::{Ghost, predict};
 use crate::tree::{self, Table, Tree};
-use crate::{blocks, pool, runs};
+use crate::{blocks, runs};
 use page_state::{
-    Config, Entry, Frame, Kind, MemoryMap, Owner, Page, PageRange, Prot, Refusal, Region,
-    RegionKind, Reply, Run, State, Target, Value,
+    Config, Entry, Frame, Geometry, Kind, Layout, MemoryMap, Owner, Page, PageRange, Prot, Refusal,
+    Region, RegionKind, Reply, Run, State, Step, Target,
 };
 use std::alloc::{AllocError, Global};
+use std::process::Abort;
 use std::test::Fail;
 
 /// The coarsest runs once `count` pages from `first` on are leaves of the frames of their own numbers.
@@ -162,71 +164,7 @@ fn tells_blocks_of_one_word(rt: HostRuntime) -> Result<(), Fail> {
     Ok(())
 }
 
-/// A tree whose carve-out of 0x40600 on has an entry, with its root and two tables.
-fn booted_tree(
-    alloc: Global,
-    first: u64,
-    entry: Entry,
-    blocks: [(u64, u64); 3],
-    frames: [u64; 3],
-) -> Result<Tree, AllocError>
-    requires first { first < 2 ^ 40 }
-    requires frames { HasLowFrames entry 0x40 }
-    ensures { IfOk result (λ t. AreSmall t.runs.items) }
-{
-    let mut tables = Vec::new(alloc);
-    for i in 0..3 {
-        tables.push(Table {
-            block: blocks[i],
-            frame: frames[i],
-        })?;
-    }
-    let none = Vec::new(alloc);
-    let range = PageRange {
-        first: Page(first),
-        count: 0x40,
-    };
-    let runs = runs::updated(alloc, none.as_slice(), range, entry)?;
-    Ok(Tree { runs, tables })
-}
-
-/// The booted state of memory 0x40000 of 0x800 pages with a carve-out 0x40600 of 0x40, but for the free frames.
-fn booted(alloc: Global, free: u64, room: u64) -> Result<Shared, AllocError>
-    requires { free < 2 ^ 10 }
-    ensures { IfOk result HasSmallRuns }
-{
-    let host_blocks = [(3, 0), (2, 1), (1, 0x203)];
-    let host_frames = [0x40600, 0x40602, 0x40603];
-    let host = booted_tree(
-        alloc,
-        0x40600,
-        Entry::Annotated(Owner(1)),
-        host_blocks,
-        host_frames,
-    )?;
-    let entry = Entry::Leaf {
-        frame: Frame(0x40600),
-        prot: Prot::RW,
-        kind: Kind::Normal,
-        state: State::Owned,
-    };
-    let hyp_blocks = [(3, 0), (2, 0x101), (1, 0x20203)];
-    let hyp_frames = [0x40601, 0x40604, 0x40605];
-    let hyp = booted_tree(alloc, 0x404_0600, entry, hyp_blocks, hyp_frames)?;
-    let mut frames = Vec::new(alloc);
-    for i in 0..free {
-        frames.push(0x40606 + i)?;
-    }
-    Ok(Shared {
-        host,
-        hyp,
-        free: frames,
-        room,
-        cpu_room: room,
-    })
-}
-
-/// The memory of the booted state, with a carve-out of `count` frames.
+/// Memory 0x40000 of 0x800 pages with a carve-out of `count` frames at 0x40600.
 fn memory(alloc: Global, count: u64) -> Result<MemoryMap, Fail> {
     let region = Region {
         kind: RegionKind::Memory,
@@ -242,93 +180,6 @@ fn memory(alloc: Global, count: u64) -> Result<MemoryMap, Fail> {
     Ok(MemoryMap::new(alloc, [region].as_slice(), carve)?)
 }
 
-#[test]
-fn shares_a_frame_once(rt: HostRuntime) -> Result<(), Fail> {
-    let alloc = rt.alloc();
-    let memory = memory(alloc, 0x40)?;
-    let mut state = booted(alloc, 58, 9)?;
-    let done = share_hyp(alloc, &memory, 2, &mut state, 0x40100)?;
-    assert_eq!(rt; done, Reply::Done(Value::Nothing));
-    assert_eq!(rt; state.free.len(), 56);
-    assert_eq!(rt; state.free[0], 0x40608);
-    assert_eq!(rt;
-        tree::table_at(state.host.tables.as_slice(), (1, 0x200)),
-        Some(0x40606)
-    );
-    assert_eq!(rt;
-        tree::table_at(state.hyp.tables.as_slice(), (1, 0x20200)),
-        Some(0x40607)
-    );
-    let host = Entry::Leaf {
-        frame: Frame(0x40100),
-        prot: Prot::RWX,
-        kind: Kind::Normal,
-        state: State::SharedOwned,
-    };
-    assert_eq!(rt; runs::at(state.host.runs.as_slice(), Page(0x40100)), host);
-    let hyp = Entry::Leaf {
-        frame: Frame(0x40100),
-        prot: Prot::RW,
-        kind: Kind::Normal,
-        state: State::SharedBorrowed,
-    };
-    assert_eq!(rt; runs::at(state.hyp.runs.as_slice(), Page(0x404_0100)), hyp);
-    let again = share_hyp(alloc, &memory, 2, &mut state, 0x40100)?;
-    assert_eq!(rt; again, Reply::Refused(Refusal::Perm));
-    assert_eq!(rt; state.free.len(), 56);
-    assert_eq!(rt; (state.room, state.cpu_room), (7, 7));
-    Ok(())
-}
-
-#[test]
-fn refuses_shares(rt: HostRuntime) -> Result<(), Fail> {
-    let alloc = rt.alloc();
-    let memory = memory(alloc, 0x40)?;
-    for (free, room, pfn, why) in [
-        (58, 9, 0x40600, Refusal::Perm),
-        (58, 9, 0x9000, Refusal::Invalid),
-        (58, 9, 0x40800, Refusal::Invalid),
-        (0, 9, 0x40100, Refusal::NoPool),
-        (1, 9, 0x40100, Refusal::NoPool),
-        (58, 0, 0x40100, Refusal::LogFull),
-    ] {
-        let mut state = booted(alloc, free, room)?;
-        let reply = share_hyp(alloc, &memory, 2, &mut state, pfn)?;
-        assert_eq!(rt; reply, Reply::Refused(why));
-    }
-    Ok(())
-}
-
-#[test]
-fn gives_back_tables_of_emptied_blocks(rt: HostRuntime) -> Result<(), Fail> {
-    let alloc = rt.alloc();
-    let state = booted(alloc, 0, 1)?;
-    let carve = PageRange {
-        first: Page(0x40600),
-        count: 0x40,
-    };
-    let back = tree::returned(alloc, 2, &state.host, carve, Entry::Unmapped)?;
-    let both = [0x40602, 0x40603];
-    assert_eq!(rt; back.as_slice(), both.as_slice());
-    let none = Vec::new(alloc);
-    let bare = tree::edited(
-        alloc,
-        2,
-        &state.host,
-        carve,
-        Entry::Unmapped,
-        none.as_slice(),
-    )?;
-    assert_eq!(rt; bare.runs.len(), 0);
-    assert_eq!(rt; bare.tables.len(), 1);
-    let mut free = Vec::new(alloc);
-    pool::give(&mut free, 0x40604)?;
-    pool::give_all(&mut free, back.as_slice())?;
-    let three = [0x40602, 0x40603, 0x40604];
-    assert_eq!(rt; free.as_slice(), three.as_slice());
-    Ok(())
-}
-
 /// A configuration whose logs store 9 calls.
 const CONFIG: Config = Config {
     cpus: 1,
@@ -336,25 +187,37 @@ const CONFIG: Config = Config {
     geometry: 39,
 };
 
+/// The boot state of that memory.
+fn booted(rt: &impl Abort, alloc: Global, count: u64, log: u64) -> Result<Ghost, Fail>
+    ensures kept { IfOk result IsKept }
+    ensures cpus { IfOk result (λ g. 0 < g.layout.config.cpus) }
+{
+    let layout = Layout {
+        map: memory(alloc, count)?,
+        config: Config {
+            cpus: 2,
+            log,
+            geometry: 39,
+        },
+        geometry: Geometry::Bits39,
+    };
+    Ok(start(alloc, layout)?.expect(rt, "enough frames"))
+}
+
 #[test]
-fn boots_with_the_lowest_frames(rt: HostRuntime) -> Result<(), Fail> {
+fn refuses_shares(rt: HostRuntime) -> Result<(), Fail> {
     let alloc = rt.alloc();
-    let memory = memory(alloc, 0x40)?;
-    let state = boot(alloc, &memory, CONFIG, 2)?.expect(&rt, "enough frames");
-    let wanted = booted(alloc, 58, 9)?;
-    assert_eq!(rt; state.host.runs.as_slice(), wanted.host.runs.as_slice());
-    assert_eq!(rt; state.hyp.runs.as_slice(), wanted.hyp.runs.as_slice());
-    assert_eq!(rt; state.free.as_slice(), wanted.free.as_slice());
-    assert_eq!(rt; (state.room, state.cpu_room), (9, 9));
-    assert_eq!(rt; state.host.tables.len(), 3);
-    for table in wanted.host.tables.as_slice() {
-        let frame = tree::table_at(state.host.tables.as_slice(), table.block);
-        assert_eq!(rt; frame, Some(table.frame));
-    }
-    assert_eq!(rt; state.hyp.tables.len(), 3);
-    for table in wanted.hyp.tables.as_slice() {
-        let frame = tree::table_at(state.hyp.tables.as_slice(), table.block);
-        assert_eq!(rt; frame, Some(table.frame));
+    for (count, log, pfn, why) in [
+        (0x40, 9, 0x40600, Refusal::Perm),
+        (0x40, 9, 0x9000, Refusal::Invalid),
+        (0x40, 9, 0x40800, Refusal::Invalid),
+        (6, 9, 0x40100, Refusal::NoPool),
+        (7, 9, 0x40100, Refusal::NoPool),
+        (0x40, 0, 0x40100, Refusal::LogFull),
+    ] {
+        let state = booted(&rt, alloc, count, log)?;
+        let (said, _after) = predict(alloc, &state, 0, Step::ShareHyp { pfn })?;
+        assert_eq!(rt; said, Reply::Refused(why));
     }
     Ok(())
 }
@@ -365,7 +228,7 @@ fn boots_with_a_frame_for_each_table(rt: HostRuntime) -> Result<(), Fail> {
     let few = memory(alloc, 5)?;
     assert_eq!(rt; boot(alloc, &few, CONFIG, 2)?.is_none(), true);
     let enough = memory(alloc, 6)?;
-    let state = boot(alloc, &enough, CONFIG, 2)?.expect(&rt, "enough frames");
-    assert_eq!(rt; state.free.len(), 0);
+    let shared = boot(alloc, &enough, CONFIG, 2)?.expect(&rt, "enough frames");
+    assert_eq!(rt; shared.free.len(), 0);
     Ok(())
 }

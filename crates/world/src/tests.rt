@@ -1,6 +1,7 @@
-ghost use Rattle.std.specs.Prelude.{◌≡◌, ◌<◌, ◌^◌};
-ghost use Rattle.ghost_spec.specs.Sharing.{HasSmallRuns};
-ghost use Rattle.ghost_spec.specs.Small.{AreSmall};
+ghost use Rattle.std.specs.Prelude.{◌≡◌, ◌<◌, ◌^◌, IfOk};
+ghost use Rattle.ghost_spec.specs.Kept.{IsKeptTree};
+ghost use Rattle.ghost_spec.specs.States.{IsKept};
+ghost use Rattle.ghost_spec.specs.Views.{IsOnShared};
 ghost use Rattle.hypercalls.specs.Served.{IsServed};
 
 use super::*;
@@ -8,11 +9,14 @@ use arrayvec::ArrayVec;
 use component::Component;
 use descriptor::{Desc, Frame, Kind, Level, Owner, Prot, State, encode};
 use ghost_spec::blocks::Block;
-use ghost_spec::{boot, runs, share, tree};
+use ghost_spec::start::start;
+use ghost_spec::state::{Ghost, predict};
+use ghost_spec::{boot, runs, tree};
 use guest_steps::SharedPart;
 use linked_list_allocator::LocalHeap;
 use page_state::{
-    Entry, Lent, Page, PageRange, Refusal, Region, RegionKind, Row, Run, Usage, Value,
+    Entry, Geometry, Layout, Lent, Page, PageRange, Refusal, Region, RegionKind, Row, Run, Usage,
+    Value,
 };
 use std::alloc::AllocError;
 use std::process::Abort;
@@ -107,7 +111,7 @@ fn compare_component(
     lists: &tree::Tree,
     offset: u64,
 ) -> Result<(), Fail>
-    requires small { AreSmall lists.now.runs.items }
+    requires kept { IsKeptTree lists.now }
     requires offset { offset < 2 ^ 27 }
 {
     let kept = component.tree();
@@ -125,51 +129,74 @@ fn compare_component(
         assert_eq!(rt; kept.look(page), runs::at(lists.runs.as_slice(), page));
     }
     let told: Vec<Run> = component.maplets().iter().collect(alloc)?;
-    let coarsest = runs::coarsest(alloc, lists.runs.as_slice())?;
-    assert_eq!(rt; told.as_slice(), coarsest.as_slice());
+    assert_eq!(rt; told.as_slice(), lists.runs.as_slice());
     Ok(())
 }
 
-/// Compares the Shared part and CPU 0 of a world with lists.
-fn compare(
-    rt: &impl Abort,
-    alloc: Global,
-    world: &World<Global>,
-    lists: &share::Shared,
-) -> Result<(), Fail>
-    requires { HasSmallRuns lists.now }
+/// Compares the Shared part and CPU 0 of a world with a state on lists.
+fn compare(rt: &impl Abort, alloc: Global, world: &World<Global>, lists: &Ghost) -> Result<(), Fail>
+    requires { IsKept lists.now }
 {
     let shared = world.parts().shared();
-    compare_component(rt, alloc, &shared.host, &lists.host, 0)?;
-    compare_component(rt, alloc, &shared.hyp, &lists.hyp, 0x400_0000)?;
+    compare_component(rt, alloc, &shared.host, &lists.shared.host, 0)?;
+    compare_component(rt, alloc, &shared.hyp, &lists.shared.hyp, 0x400_0000)?;
     let free = free_frames(alloc, shared)?;
-    assert_eq!(rt; free.as_slice(), lists.free.as_slice());
-    assert_eq!(rt; shared.pool.free(), lists.free.len());
-    assert_eq!(rt; shared.log.room(), lists.room);
+    assert_eq!(rt; free.as_slice(), lists.shared.free.as_slice());
+    assert_eq!(rt; shared.pool.free(), lists.shared.free.len());
+    assert_eq!(rt; shared.rows.runs(), lists.shared.rows.runs());
+    assert_eq!(rt; shared.log.room(), lists.rooms.shared);
     let cpu = world.parts().cpus.first();
-    assert_eq!(rt; cpu.map(|cpu| cpu.log.room()), Some(lists.cpu_room));
+    assert_eq!(rt;
+        cpu.map(|cpu| cpu.log.room()),
+        lists.rooms.cpus.first().copied()
+    );
+    assert_eq!(rt;
+        cpu.map(|cpu| cpu.hand),
+        lists.cpus.first().map(|cpu| cpu.hand)
+    );
     Ok(())
 }
 
-/// Makes one share on a world and on lists, and compares the replies and what stands afterwards.
-fn share_on_both(
+/// Makes one step of CPU 0 on a world and on lists, and compares the replies and what stands afterwards.
+fn step_on_both(
     rt: &impl Abort,
     alloc: Global,
     world: &mut World<Global>,
-    lists: &mut share::Shared,
-    pfn: u64,
+    lists: &mut Ghost,
+    step: Step,
 ) -> Result<Reply, Fail>
+    requires served { IsServed step }
+    requires shared { IsOnShared step }
     requires cpu { 0 < world.old.parts.layout.config.cpus }
-    requires small { HasSmallRuns lists.old }
+    requires list_cpu { 0 < lists.old.layout.config.cpus }
+    requires kept { IsKept lists.old }
     ensures layout { world.new.parts.layout ≡ world.old.parts.layout }
-    ensures small { HasSmallRuns lists.new }
+    ensures list_cpu { IfOk result (λ r. 0 < lists.new.layout.config.cpus) }
+    ensures kept { IfOk result (λ r. IsKept lists.new) }
 {
-    let reply = world.step(0, Step::ShareHyp { pfn });
-    let map = &world.parts().layout.map;
-    let foretold = share::share_hyp(alloc, map, DEPTH, lists, pfn)?;
+    let reply = world.step(0, step);
+    let (foretold, after) = predict(alloc, lists, 0, step)?;
     assert_eq!(rt; reply, foretold);
+    *lists = after;
     compare(rt, alloc, world, lists)?;
     Ok(reply)
+}
+
+/// The boot state on lists of the memory and the configuration with these logs.
+fn started(rt: &impl Abort, alloc: Global, frames: u64, log: u64) -> Result<Ghost, Fail>
+    ensures kept { IfOk result IsKept }
+    ensures cpu { IfOk result (λ g. 0 < g.layout.config.cpus) }
+{
+    let layout = Layout {
+        map: memory(alloc, frames)?,
+        config: Config {
+            cpus: 1,
+            log,
+            geometry: 39,
+        },
+        geometry: Geometry::Bits39,
+    };
+    Ok(start(alloc, layout)?.expect(rt, "enough frames"))
 }
 
 #[test]
@@ -182,20 +209,56 @@ fn shares_as_the_definitions_say(rt: HostRuntime) -> Result<(), Fail> {
         geometry: 39,
     };
     let mut world = World::boot(alloc, alloc, &map, config)?;
-    let mut lists = boot::boot(alloc, &map, config, DEPTH)?.expect(&rt, "enough frames");
+    let mut lists = started(&rt, alloc, 0x40, 5)?;
     assert!(rt; world.cpus() > 0);
     compare(&rt, alloc, &world, &lists)?;
-    let done = share_on_both(&rt, alloc, &mut world, &mut lists, 0x40100)?;
+    let done = step_on_both(
+        &rt,
+        alloc,
+        &mut world,
+        &mut lists,
+        Step::ShareHyp { pfn: 0x40100 },
+    )?;
     assert_eq!(rt; done, Reply::Done(Value::Nothing));
-    let again = share_on_both(&rt, alloc, &mut world, &mut lists, 0x40100)?;
+    let again = step_on_both(
+        &rt,
+        alloc,
+        &mut world,
+        &mut lists,
+        Step::ShareHyp { pfn: 0x40100 },
+    )?;
     assert_eq!(rt; again, Reply::Refused(Refusal::Perm));
-    let carved = share_on_both(&rt, alloc, &mut world, &mut lists, 0x40600)?;
+    let carved = step_on_both(
+        &rt,
+        alloc,
+        &mut world,
+        &mut lists,
+        Step::ShareHyp { pfn: 0x40600 },
+    )?;
     assert_eq!(rt; carved, Reply::Refused(Refusal::Perm));
-    let past = share_on_both(&rt, alloc, &mut world, &mut lists, 0x40800)?;
+    let past = step_on_both(
+        &rt,
+        alloc,
+        &mut world,
+        &mut lists,
+        Step::ShareHyp { pfn: 0x40800 },
+    )?;
     assert_eq!(rt; past, Reply::Refused(Refusal::Invalid));
-    let beside = share_on_both(&rt, alloc, &mut world, &mut lists, 0x40101)?;
+    let beside = step_on_both(
+        &rt,
+        alloc,
+        &mut world,
+        &mut lists,
+        Step::ShareHyp { pfn: 0x40101 },
+    )?;
     assert_eq!(rt; beside, Reply::Done(Value::Nothing));
-    let full = share_on_both(&rt, alloc, &mut world, &mut lists, 0x40102)?;
+    let full = step_on_both(
+        &rt,
+        alloc,
+        &mut world,
+        &mut lists,
+        Step::ShareHyp { pfn: 0x40102 },
+    )?;
     assert_eq!(rt; full, Reply::Refused(Refusal::LogFull));
     Ok(())
 }
@@ -205,12 +268,24 @@ fn shares_without_frames_as_the_definitions_say(rt: HostRuntime) -> Result<(), F
     let alloc = rt.alloc();
     let map = memory(alloc, 6)?;
     let mut world = World::boot(alloc, alloc, &map, CONFIG)?;
-    let mut lists = boot::boot(alloc, &map, CONFIG, DEPTH)?.expect(&rt, "enough frames");
+    let mut lists = started(&rt, alloc, 6, 3)?;
     assert!(rt; world.cpus() > 0);
     compare(&rt, alloc, &world, &lists)?;
-    let short = share_on_both(&rt, alloc, &mut world, &mut lists, 0x40100)?;
+    let short = step_on_both(
+        &rt,
+        alloc,
+        &mut world,
+        &mut lists,
+        Step::ShareHyp { pfn: 0x40100 },
+    )?;
     assert_eq!(rt; short, Reply::Refused(Refusal::NoPool));
-    let carved = share_on_both(&rt, alloc, &mut world, &mut lists, 0x40600)?;
+    let carved = step_on_both(
+        &rt,
+        alloc,
+        &mut world,
+        &mut lists,
+        Step::ShareHyp { pfn: 0x40600 },
+    )?;
     assert_eq!(rt; carved, Reply::Refused(Refusal::Perm));
     Ok(())
 }

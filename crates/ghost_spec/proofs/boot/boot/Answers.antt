@@ -2,7 +2,7 @@ use Rattle.std.proofs.Common.{◌≡◌, refl, sym, ◌∙◌, drop}
 use Rattle.page_state.specs.Layouts.{Layout}
 use Rattle.reference_model.specs.Boot.{host_root, host_edit, host_need, hyp_root, hyp_edit, hyp_need, spare}
 use Rattle.page_state.specs.Tables.{edited}
-use Rattle.ghost_spec.specs.Sharing.{layout_with}
+use Rattle.ghost_spec.specs.Views.{layout_with}
 use Rattle.ghost_spec.specs.Trees.{tree_in_lists}
 use Rattle.ghost_spec.proofs.BootLists.{booted}
 use Rattle.ghost_spec.proofs.boot.boot.Goals as goal
@@ -31,4 +31,4 @@ returns-clause-shared c =
     let left : c.in_ok-from_slice.field-0.items ≡ drop (hyp_need l) (drop (host_need l) (spare l)) = rw (c.behind.ensures, rest, hyp_n) at c.in_ok-from_slice.ensures.items in
     let host : tree_in_lists c.in_ok-host.host ≡ edited l.depth (host_root l) (host_edit l) (spare l) = rw (c.in_ok-host_root.ensures.tree, c.host_entry-2.ensures, first, c.carve-carve.ensures.value) at c.in_ok-host.ensures.tree in
     let hyp : tree_in_lists c.in_ok-hyp.hyp ≡ edited l.depth (hyp_root l) (hyp_edit l) (drop (host_need l) (spare l)) = rw (c.in_ok-hyp_root.ensures.tree, c.hyp_range-hyp_pages.ensures, c.hyp_entry-2.ensures, rest, c.carve-carve.ensures.value) at c.in_ok-hyp.ensures.tree in
-    booted l (record { host = c.in_ok-host.host; hyp = c.in_ok-hyp.hyp; free = c.in_ok-from_slice.field-0; room = c.args.config.log; cpu_room = c.args.config.log }) host hyp left
+    booted l (record { host = c.in_ok-host.host; hyp = c.in_ok-hyp.hyp; free = c.in_ok-from_slice.field-0; rows = c.new.result }) host hyp left c.new.ensures

@@ -1,0 +1,20 @@
+use Rattle.std.proofs.Common.{◌≡◌, ◌+◌, ◌++◌, drop, ◌∙◌, sym, refl}
+use Rattle.std.proofs.lemmas.List.{drop-drop}
+use Rattle.page_state.specs.Tables.{edited, need, returned, all_given}
+use Rattle.reference_model.specs.Changes.{edit_of}
+use Rattle.ghost_spec.specs.Trees.{tree_in_lists}
+use Rattle.ghost_spec.proofs.Changed.{all_changed}
+use Rattle.ghost_spec.proofs.TreeLists.{all_given-append}
+use Rattle.ghost_spec.proofs.shared.change.Goals as goal
+
+pub returns-clause-after : goal.returns-clause-after
+returns-clause-after c =
+    let d = c.args.depth in
+    let s = c.args.shared.now in
+    let h = c.args.changes.now in
+    let host : tree_in_lists c.in_ok-host.host ≡ edited d (tree_in_lists s.host) (edit_of h.host) s.free.items = rw (c.as_slice-free.ensures.value) at c.in_ok-host.ensures.tree in
+    let hyp : tree_in_lists c.in_ok-hyp.hyp ≡ edited d (tree_in_lists s.hyp) (edit_of h.hyp) (drop (need d (tree_in_lists s.host) (edit_of h.host)) s.free.items) = rw (c.behind-rest.ensures, c.as_slice-free.ensures.value, c.in_ok-host_need.ensures) at c.in_ok-hyp.ensures.tree in
+    let back = rw (c.as_slice-2.ensures.value, c.in_ok-host_back.ensures) at c.in_ok-give_all-2.ensures in
+    let given = rw (c.as_slice.ensures.value, c.in_ok-hyp_back.ensures, c.in_ok-left.ensures.items, c.behind.ensures, c.behind-rest.ensures, c.as_slice-free.ensures.value, c.in_ok-host_need.ensures, c.in_ok-hyp_need.ensures, drop-drop) at c.in_ok-give_all.ensures in
+    all_changed d h s (record { host = c.in_ok-host.host; hyp = c.in_ok-hyp.hyp; free = c.give_all-2.new.free; rows = s.rows }) host hyp
+    (back ∙ rw given (sym (all_given-append (returned d (tree_in_lists s.host) (edit_of h.host)) (returned d (tree_in_lists s.hyp) (edit_of h.hyp)) (drop (need d (tree_in_lists s.host) (edit_of h.host) + need d (tree_in_lists s.hyp) (edit_of h.hyp)) s.free.items)))) refl

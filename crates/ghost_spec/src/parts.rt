@@ -1,0 +1,153 @@
+//! The VM part's slots and the Guest parts on lists.
+ghost use Rattle.std.specs.Prelude.{◌≡◌, All, IfOk, length, map};
+ghost use Rattle.reference_model.specs.State.{no_guest, no_slot};
+
+use crate::tree::Tree;
+use page_state::VmKind;
+use std::alloc::{AllocError, Global};
+
+/// How a slot of the VM part stands.
+#[derive(Clone, Copy, PartialEq, Debug)]
+pub enum GhostStand {
+    Vacant,
+    Reserved,
+    Opened,
+    Closing,
+}
+
+/// A slot of the VM part.
+#[derive(Drop)]
+pub struct GhostSlot {
+    pub stand: GhostStand,
+    pub generation: u64,
+    pub kind: VmKind,
+    pub vcpus: u64,
+    /// The CPU that has each vCPU loaded; none for those past the list.
+    pub loaded: Vec<Option<u64>>,
+}
+
+/// The phase of a guest.
+#[derive(Clone, Copy, PartialEq, Debug)]
+pub enum GhostPhase {
+    Empty,
+    Live,
+    Dying,
+}
+
+/// A Guest part.
+#[derive(Drop)]
+pub struct GhostGuest {
+    pub phase: GhostPhase,
+    pub generation: u64,
+    pub kind: VmKind,
+    pub tree: Tree,
+    /// The free frames of its pool, in increasing order.
+    pub free: Vec<u64>,
+}
+
+ghost use Rattle.ghost_spec.specs.Kept.{IsKeptTree};
+ghost use Rattle.ghost_spec.specs.States.{guest_in, slot_in, AreKeptGuests};
+
+impl GhostSlot {
+    ghost use Rattle.ghost_spec.specs.States.{slot_in};
+
+    /// The same slot once more.
+    fn copied(&self, alloc: Global) -> Result<GhostSlot, AllocError>
+        ensures { IfOk result (λ s. slot_in s ≡ slot_in self.now) }
+    {
+        Ok(GhostSlot {
+            stand: self.stand,
+            generation: self.generation,
+            kind: self.kind,
+            vcpus: self.vcpus,
+            loaded: Vec::from_slice(alloc, self.loaded.as_slice())?,
+        })
+    }
+}
+
+impl GhostGuest {
+    ghost use Rattle.ghost_spec.specs.Kept.{IsKeptTree};
+    ghost use Rattle.ghost_spec.specs.States.{guest_in};
+
+    /// The same guest once more.
+    fn copied(&self, alloc: Global) -> Result<GhostGuest, AllocError>
+        requires { IsKeptTree self.now.tree }
+        ensures same { IfOk result (λ g. guest_in g ≡ guest_in self.now) }
+        ensures kept { IfOk result (λ g. IsKeptTree g.tree) }
+    {
+        Ok(GhostGuest {
+            phase: self.phase,
+            generation: self.generation,
+            kind: self.kind,
+            tree: self.tree.copied(alloc)?,
+            free: Vec::from_slice(alloc, self.free.as_slice())?,
+        })
+    }
+}
+
+/// The same slots once more.
+pub(crate) fn copied_slots(alloc: Global, slots: &[GhostSlot]) -> Result<Vec<GhostSlot>, AllocError>
+    ensures { IfOk result (λ v. map slot_in v.items ≡ map slot_in slots.now) }
+{
+    let mut copies = Vec::new(alloc);
+    for slot in slots {
+        copies.push(slot.copied(alloc)?)?;
+    }
+    Ok(copies)
+}
+
+/// The same guests once more.
+pub(crate) fn copied_guests(
+    alloc: Global,
+    guests: &[GhostGuest],
+) -> Result<Vec<GhostGuest>, AllocError>
+    requires { AreKeptGuests guests.now }
+    ensures same { IfOk result (λ v. map guest_in v.items ≡ map guest_in guests.now) }
+    ensures kept { IfOk result (λ v. AreKeptGuests v.items) }
+{
+    let mut copies = Vec::new(alloc);
+    for guest in guests {
+        copies.push(guest.copied(alloc)?)?;
+    }
+    Ok(copies)
+}
+
+/// So many slots, all Empty.
+pub(crate) fn empty_slots(alloc: Global, count: u64) -> Result<Vec<GhostSlot>, AllocError>
+    ensures count { IfOk result (λ v. length v.items ≡ count) }
+    ensures empty { IfOk result (λ v. All (λ s. slot_in s ≡ no_slot 1) v.items) }
+{
+    let mut slots = Vec::new(alloc);
+    for _ in 0..count {
+        slots.push(GhostSlot {
+            stand: GhostStand::Vacant,
+            generation: 1,
+            kind: VmKind::Plain,
+            vcpus: 0,
+            loaded: Vec::new(alloc),
+        })?;
+    }
+    Ok(slots)
+}
+
+/// So many guests, all Empty.
+pub(crate) fn empty_guests(alloc: Global, count: u64) -> Result<Vec<GhostGuest>, AllocError>
+    ensures count { IfOk result (λ v. length v.items ≡ count) }
+    ensures empty { IfOk result (λ v. All (λ g. guest_in g ≡ no_guest) v.items) }
+    ensures kept { IfOk result (λ v. AreKeptGuests v.items) }
+{
+    let mut guests = Vec::new(alloc);
+    for _ in 0..count {
+        guests.push(GhostGuest {
+            phase: GhostPhase::Empty,
+            generation: 0,
+            kind: VmKind::Plain,
+            tree: Tree {
+                runs: Vec::new(alloc),
+                tables: Vec::new(alloc),
+            },
+            free: Vec::new(alloc),
+        })?;
+    }
+    Ok(guests)
+}

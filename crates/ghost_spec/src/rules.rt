@@ -1,0 +1,425 @@
+//! The rules of the calls on the Shared part: the first of a call's tests that fails, or all that it changes.
+ghost use Rattle.std.specs.Prelude.{◌≡◌, ℕ, ◌+◌, ◌<◌, ◌≤◌, ◌^◌, ◌&&◌, None, IfOk};
+ghost use Rattle.page_state.specs.declared.step.Step.TheVariants.{ShareHyp, UnshareHyp, DonateHyp, HypDonateHost, HostAbort, HostTranslate, HypTranslate, OwnerOf, Fund, Unfund};
+ghost use Rattle.page_state.specs.Blocks.{block_at, first_page as first_page_of, span as span_of};
+ghost use Rattle.page_state.specs.EntryTests.{is_free_page as is_free_page_of, is_unmapped as is_unmapped_of};
+ghost use Rattle.page_state.specs.Layouts.{hyp_page as hyp_page_of};
+ghost use Rattle.page_state.specs.LayoutView.{layout_of};
+ghost use Rattle.page_state.specs.Runs.{map_of};
+ghost use Rattle.page_state.specs.Search.{all_below};
+ghost use Rattle.reference_model.specs.Answers.{decides};
+ghost use Rattle.reference_model.specs.Changes.{change as change_of};
+ghost use Rattle.reference_model.specs.SharedRules.{abort_depth as abort_depth_of, abort_leaf as abort_leaf_of, is_plain as is_plain_of, may_donate as may_donate_of, may_map as may_map_of, may_return as may_return_of};
+ghost use Rattle.reference_model.specs.State.{Cpu};
+ghost use Rattle.reference_model.specs.Used.{used_alone};
+ghost use Rattle.ghost_spec.specs.Kept.{AreSmallChanges, IsKeptShared, IsSmallRange};
+ghost use Rattle.ghost_spec.specs.Small.{HasLowFrames};
+ghost use Rattle.ghost_spec.specs.Views.{IsOnShared, cpu_in, row_in, shared_in_lists};
+
+use crate::blocks::is_empty;
+use crate::cpu::GhostCpu;
+use crate::found::pages;
+use crate::leaves::{
+    annotation, device_leaf, hyp_page, is_annotated, is_free_page, is_in, is_mapped, is_unmapped,
+    leaf,
+};
+use crate::rows::row_at;
+use crate::runs::at;
+use crate::shared::Shared;
+use page_state::{
+    Entry, Layout, Page, PageRange, Prot, Refusal, Region, RegionKind, State, Step, Usage, Value,
+};
+use reference_model::{Changes, CpuChange, MapChange, Update};
+
+/// A change of a map: so many pages from the first on.
+fn change(first: u64, count: u64, entry: Entry) -> Option<MapChange>
+    ensures { result ≡ change_of first count entry }
+{
+    Some(MapChange {
+        range: PageRange {
+            first: Page(first),
+            count,
+        },
+        entry,
+    })
+}
+
+/// The host's entry of a page.
+fn host_entry(shared: &Shared, page: u64) -> Entry
+    requires { IsKeptShared shared.now }
+    ensures value { result ≡ map_of shared.now.host.runs.items page }
+    ensures low { HasLowFrames result 1 }
+{
+    at(shared.host.runs.as_slice(), Page(page))
+}
+
+/// The hypervisor's entry of its page of a frame.
+fn hyp_entry(shared: &Shared, frame: u64) -> Entry
+    requires kept { IsKeptShared shared.now }
+    requires low { frame < 2 ^ 63 }
+    ensures value { result ≡ map_of shared.now.hyp.runs.items (hyp_page_of frame) }
+    ensures low { HasLowFrames result 1 }
+{
+    at(shared.hyp.runs.as_slice(), Page(hyp_page(frame)))
+}
+
+/// The host shares a frame with the hypervisor.
+#[tactic(auto, unfolding(reference_model::specs::Rules::rule))]
+fn share_hyp(layout: &Layout, shared: &Shared, pfn: u64) -> Result<Changes, Refusal>
+    requires { IsKeptShared shared.now }
+    ensures decided { (cpu : ℕ) (k : Cpu) → result ≡ decides (layout_of layout.now) cpu None (ShareHyp pfn) (used_alone (shared_in_lists shared.now) k) }
+    ensures small { IfOk result AreSmallChanges }
+{
+    if !layout.map.is_memory(Page(pfn)) {
+        return Err(Refusal::Invalid);
+    }
+    if !is_free_page(host_entry(shared, pfn)) || is_mapped(hyp_entry(shared, pfn)) {
+        return Err(Refusal::Perm);
+    }
+    Ok(Changes {
+        host: change(pfn, 1, leaf(Prot::RWX, pfn, State::SharedOwned)),
+        hyp: change(hyp_page(pfn), 1, leaf(Prot::RW, pfn, State::SharedBorrowed)),
+        ..Changes::NONE
+    })
+}
+
+/// The host takes back what it shared with the hypervisor.
+#[tactic(auto, unfolding(reference_model::specs::Rules::rule))]
+fn unshare_hyp(layout: &Layout, shared: &Shared, pfn: u64) -> Result<Changes, Refusal>
+    requires { IsKeptShared shared.now }
+    ensures decided { (cpu : ℕ) (k : Cpu) → result ≡ decides (layout_of layout.now) cpu None (UnshareHyp pfn) (used_alone (shared_in_lists shared.now) k) }
+    ensures small { IfOk result AreSmallChanges }
+{
+    if !layout.map.is_memory(Page(pfn)) {
+        return Err(Refusal::Invalid);
+    }
+    if !is_in(State::SharedOwned, host_entry(shared, pfn))
+        || !is_in(State::SharedBorrowed, hyp_entry(shared, pfn))
+    {
+        return Err(Refusal::Perm);
+    }
+    Ok(Changes {
+        host: change(pfn, 1, leaf(Prot::RWX, pfn, State::Owned)),
+        hyp: change(hyp_page(pfn), 1, Entry::Unmapped),
+        ..Changes::NONE
+    })
+}
+
+/// Whether a frame's page is free, and the hypervisor's page of it unmapped.
+fn may_donate_frame(shared: &Shared, frame: u64) -> bool
+    requires kept { IsKeptShared shared.now }
+    requires low { frame < 2 ^ 63 }
+    ensures { result ≡ (is_free_page_of (map_of shared.now.host.runs.items frame) && is_unmapped_of (map_of shared.now.hyp.runs.items (hyp_page_of frame))) }
+{
+    is_free_page(host_entry(shared, frame)) && is_unmapped(hyp_entry(shared, frame))
+}
+
+/// Whether that holds of each frame of a range.
+fn may_donate(shared: &Shared, pfn: u64, n: u64) -> bool
+    requires kept { IsKeptShared shared.now }
+    requires low { pfn + n ≤ 2 ^ 62 }
+    ensures { (k : Cpu) → result ≡ may_donate_of (used_alone (shared_in_lists shared.now) k) pfn n }
+{
+    for i in 0..n {
+        if !may_donate_frame(shared, pfn + i) {
+            return false;
+        }
+    }
+    true
+}
+
+/// The host gives a range to the hypervisor.
+#[tactic(auto, unfolding(reference_model::specs::Rules::rule))]
+fn donate_hyp(layout: &Layout, shared: &Shared, pfn: u64, n: u64) -> Result<Changes, Refusal>
+    requires { IsKeptShared shared.now }
+    ensures decided { (cpu : ℕ) (k : Cpu) → result ≡ decides (layout_of layout.now) cpu None (DonateHyp pfn n) (used_alone (shared_in_lists shared.now) k) }
+    ensures small { IfOk result AreSmallChanges }
+{
+    if !layout.is_good_range(Page(pfn), n) {
+        return Err(Refusal::Invalid);
+    }
+    if !may_donate(shared, pfn, n) {
+        return Err(Refusal::Perm);
+    }
+    Ok(Changes {
+        host: change(pfn, n, annotation(1)),
+        hyp: change(hyp_page(pfn), n, leaf(Prot::RW, pfn, State::Owned)),
+        ..Changes::NONE
+    })
+}
+
+/// Whether nothing is in another use.
+fn is_plain(usage: Usage) -> bool
+    ensures { result ≡ is_plain_of usage }
+{
+    match usage {
+        Usage::Plain => true,
+        _ => false,
+    }
+}
+
+/// Whether the hypervisor owns a frame that is in no other use.
+fn may_return(shared: &Shared, frame: u64) -> bool
+    requires kept { IsKeptShared shared.now }
+    requires low { frame < 2 ^ 63 }
+    ensures { (k : Cpu) → result ≡ may_return_of (used_alone (shared_in_lists shared.now) k) frame }
+{
+    let row = row_at(shared, frame);
+    row.owner.0 == 1 && is_plain(row.usage) && is_in(State::Owned, hyp_entry(shared, frame))
+}
+
+/// Whether that holds of each frame of a range.
+fn may_return_all(shared: &Shared, pfn: u64, n: u64) -> bool
+    requires kept { IsKeptShared shared.now }
+    requires low { pfn + n ≤ 2 ^ 62 }
+    ensures { (k : Cpu) → result ≡ all_below n (λ i. may_return_of (used_alone (shared_in_lists shared.now) k) (pfn + i)) }
+{
+    for i in 0..n {
+        if !may_return(shared, pfn + i) {
+            return false;
+        }
+    }
+    true
+}
+
+/// The hypervisor gives a range back.
+#[tactic(auto, unfolding(reference_model::specs::Rules::rule))]
+fn hyp_donate_host(layout: &Layout, shared: &Shared, pfn: u64, n: u64) -> Result<Changes, Refusal>
+    requires { IsKeptShared shared.now }
+    ensures decided { (cpu : ℕ) (k : Cpu) → result ≡ decides (layout_of layout.now) cpu None (HypDonateHost pfn n) (used_alone (shared_in_lists shared.now) k) }
+    ensures small { IfOk result AreSmallChanges }
+{
+    if !layout.is_good_range(Page(pfn), n) {
+        return Err(Refusal::Invalid);
+    }
+    if !may_return_all(shared, pfn, n) {
+        return Err(Refusal::Perm);
+    }
+    Ok(Changes {
+        host: change(pfn, n, Entry::Unmapped),
+        hyp: change(hyp_page(pfn), n, Entry::Unmapped),
+        ..Changes::NONE
+    })
+}
+
+/// The pages of the block of a depth of at most 2 that holds a page.
+fn block_of(depth: u64, page: u64) -> PageRange
+    requires { depth ≤ 2 }
+    ensures first { result.first.0 ≡ first_page_of (block_at depth page) }
+    ensures count { result.count ≡ span_of (block_at depth page) }
+    ensures low { result.first.0 ≤ page }
+    ensures few { result.count ≤ 2 ^ 18 }
+{
+    let count = match depth {
+        0 => 1,
+        1 => 512,
+        _ => 262_144,
+    };
+    PageRange {
+        first: Page(page - page % count),
+        count,
+    }
+}
+
+/// Whether the block of a depth that holds a page lies in the page's region and is all unmapped.
+fn may_map(shared: &Shared, region: Region, depth: u64, page: u64) -> bool
+    requires kept { IsKeptShared shared.now }
+    requires depth { depth ≤ 2 }
+    requires page { page < 2 ^ 26 }
+    ensures { result ≡ may_map_of (map_of shared.now.host.runs.items) region depth page }
+{
+    let pages = block_of(depth, page);
+    region.kind == RegionKind::Memory
+        && pages.is_within(region.pages)
+        && is_empty(shared.host.runs.as_slice(), (depth, page / pages.count))
+}
+
+/// The depth of the largest block that may be mapped.
+fn abort_depth(shared: &Shared, region: Region, page: u64) -> u64
+    requires kept { IsKeptShared shared.now }
+    requires page { page < 2 ^ 26 }
+    ensures value { result ≡ abort_depth_of (map_of shared.now.host.runs.items) region page }
+    ensures low { result ≤ 2 }
+{
+    if may_map(shared, region, 2, page) {
+        2
+    } else if may_map(shared, region, 1, page) {
+        1
+    } else {
+        0
+    }
+}
+
+/// The leaf that is mapped from a page on.
+fn abort_leaf(region: Region, first: u64) -> Entry
+    requires { first < 2 ^ 26 }
+    ensures value { result ≡ abort_leaf_of region first }
+    ensures low { HasLowFrames result (2 ^ 18) }
+{
+    match region.kind {
+        RegionKind::Memory => leaf(Prot::RWX, first, State::Owned),
+        RegionKind::Device => device_leaf(first),
+    }
+}
+
+/// The host touches a page that may be unmapped.
+#[tactic(auto, unfolding(reference_model::specs::Rules::rule, reference_model::specs::SharedRules::abort_edit))]
+fn host_abort(layout: &Layout, shared: &Shared, page: u64) -> Result<Changes, Refusal>
+    requires { IsKeptShared shared.now }
+    ensures decided { (cpu : ℕ) (k : Cpu) → result ≡ decides (layout_of layout.now) cpu None (HostAbort page) (used_alone (shared_in_lists shared.now) k) }
+    ensures small { IfOk result AreSmallChanges }
+{
+    let _regions = layout.map.regions();
+    let Some(region) = layout.map.region_of(Page(page)) else {
+        return Err(Refusal::Invalid);
+    };
+    let entry = host_entry(shared, page);
+    if is_annotated(entry) {
+        return Err(Refusal::Perm);
+    }
+    if is_mapped(entry) {
+        return Ok(Changes::NONE);
+    }
+    let pages = block_of(abort_depth(shared, region, page), page);
+    Ok(Changes {
+        host: change(
+            pages.first.0,
+            pages.count,
+            abort_leaf(region, pages.first.0),
+        ),
+        ..Changes::NONE
+    })
+}
+
+/// The host's entry of a page.
+#[tactic(auto, unfolding(reference_model::specs::Rules::rule))]
+fn host_translate(layout: &Layout, shared: &Shared, page: u64) -> Result<Changes, Refusal>
+    requires { IsKeptShared shared.now }
+    ensures decided { (cpu : ℕ) (k : Cpu) → result ≡ decides (layout_of layout.now) cpu None (HostTranslate page) (used_alone (shared_in_lists shared.now) k) }
+    ensures small { IfOk result AreSmallChanges }
+{
+    if page >= pages(layout) {
+        return Err(Refusal::Invalid);
+    }
+    Ok(Changes {
+        value: Value::Entry(host_entry(shared, page)),
+        ..Changes::NONE
+    })
+}
+
+/// The hypervisor's entry of a page.
+#[tactic(auto, unfolding(reference_model::specs::Rules::rule))]
+fn hyp_translate(layout: &Layout, shared: &Shared, page: u64) -> Result<Changes, Refusal>
+    requires { IsKeptShared shared.now }
+    ensures decided { (cpu : ℕ) (k : Cpu) → result ≡ decides (layout_of layout.now) cpu None (HypTranslate page) (used_alone (shared_in_lists shared.now) k) }
+    ensures small { IfOk result AreSmallChanges }
+{
+    if page >= pages(layout) {
+        return Err(Refusal::Invalid);
+    }
+    Ok(Changes {
+        value: Value::Entry(at(shared.hyp.runs.as_slice(), Page(page))),
+        ..Changes::NONE
+    })
+}
+
+/// The row of a frame.
+#[tactic(auto, unfolding(reference_model::specs::Rules::rule))]
+fn owner_of(layout: &Layout, shared: &Shared, pfn: u64) -> Result<Changes, Refusal>
+    ensures decided { (cpu : ℕ) (k : Cpu) → result ≡ decides (layout_of layout.now) cpu None (OwnerOf pfn) (used_alone (shared_in_lists shared.now) k) }
+    ensures small { IfOk result AreSmallChanges }
+{
+    if !layout.map.is_memory(Page(pfn)) {
+        return Err(Refusal::Invalid);
+    }
+    Ok(Changes {
+        value: Value::Row(row_at(shared, pfn)),
+        ..Changes::NONE
+    })
+}
+
+/// The host gives a range into the CPU's hand.
+#[tactic(auto, unfolding(reference_model::specs::Rules::rule))]
+fn fund(
+    layout: &Layout,
+    shared: &Shared,
+    own: &GhostCpu,
+    pfn: u64,
+    n: u64,
+) -> Result<Changes, Refusal>
+    requires { IsKeptShared shared.now }
+    ensures decided { (cpu : ℕ) → result ≡ decides (layout_of layout.now) cpu None (Fund pfn n) (used_alone (shared_in_lists shared.now) (cpu_in own.now)) }
+    ensures small { IfOk result AreSmallChanges }
+{
+    if !layout.is_good_range(Page(pfn), n) {
+        return Err(Refusal::Invalid);
+    }
+    if own.hand.is_some() {
+        return Err(Refusal::Busy);
+    }
+    if !may_donate(shared, pfn, n) {
+        return Err(Refusal::Perm);
+    }
+    let hand = PageRange {
+        first: Page(pfn),
+        count: n,
+    };
+    Ok(Changes {
+        host: change(pfn, n, annotation(1)),
+        hyp: change(hyp_page(pfn), n, leaf(Prot::RW, pfn, State::Owned)),
+        cpu: CpuChange {
+            hand: Update::Becomes(Some(hand)),
+            ..CpuChange::NONE
+        },
+        ..Changes::NONE
+    })
+}
+
+/// The CPU's hand goes back to the host.
+#[tactic(auto, unfolding(reference_model::specs::Rules::rule))]
+fn unfund(layout: &Layout, shared: &Shared, own: &GhostCpu) -> Result<Changes, Refusal>
+    requires { IsSmallRange own.now.hand }
+    ensures decided { (cpu : ℕ) → result ≡ decides (layout_of layout.now) cpu None Unfund (used_alone (shared_in_lists shared.now) (cpu_in own.now)) }
+    ensures small { IfOk result AreSmallChanges }
+{
+    let Some(hand) = own.hand else {
+        return Err(Refusal::Perm);
+    };
+    Ok(Changes {
+        host: change(hand.first.0, hand.count, Entry::Unmapped),
+        hyp: change(hyp_page(hand.first.0), hand.count, Entry::Unmapped),
+        cpu: CpuChange {
+            hand: Update::Becomes(None),
+            ..CpuChange::NONE
+        },
+        ..Changes::NONE
+    })
+}
+
+/// What a call on the Shared part decides.
+pub(crate) fn decide(
+    layout: &Layout,
+    shared: &Shared,
+    own: &GhostCpu,
+    step: Step,
+) -> Result<Changes, Refusal>
+    requires step { IsOnShared step }
+    requires kept { IsKeptShared shared.now }
+    requires hand { IsSmallRange own.now.hand }
+    ensures decided { (cpu : ℕ) → result ≡ decides (layout_of layout.now) cpu None step (used_alone (shared_in_lists shared.now) (cpu_in own.now)) }
+    ensures small { IfOk result AreSmallChanges }
+{
+    match step {
+        Step::ShareHyp { pfn } => share_hyp(layout, shared, pfn),
+        Step::UnshareHyp { pfn } => unshare_hyp(layout, shared, pfn),
+        Step::DonateHyp { pfn, n } => donate_hyp(layout, shared, pfn, n),
+        Step::HypDonateHost { pfn, n } => hyp_donate_host(layout, shared, pfn, n),
+        Step::HostAbort { page } => host_abort(layout, shared, page),
+        Step::HostTranslate { page } => host_translate(layout, shared, page),
+        Step::HypTranslate { page } => hyp_translate(layout, shared, page),
+        Step::OwnerOf { pfn } => owner_of(layout, shared, pfn),
+        Step::Fund { pfn, n } => fund(layout, shared, own, pfn, n),
+        Step::Unfund => unfund(layout, shared, own),
+        _ => unreachable!(),
+    }
+}

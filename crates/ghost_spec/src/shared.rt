@@ -1,0 +1,170 @@
+//! The Shared part on lists: its state, and what a change does to it.
+ghost use Rattle.std.specs.Prelude.{◌≡◌, ◌+◌, ◌≤◌, ◌||◌, IfOk, OnOk, drop, length, nat_lt};
+ghost use Rattle.page_state.specs.Tables.{need as need_of, returned as returned_of, edited as edited_of};
+ghost use Rattle.reference_model.specs.Changes.{edit_of};
+ghost use Rattle.reference_model.specs.Step.{shared_after, shared_need};
+
+use crate::pool::give_all;
+use crate::rows::copied_rows;
+use crate::tree::{self, Tree};
+use page_state::Row;
+use reference_model::{Changes, MapChange};
+use run_list::RunList;
+use std::alloc::{AllocError, Global};
+
+/// The Shared part.
+#[derive(Drop)]
+pub struct Shared {
+    /// The host's tree.
+    pub host: Tree,
+    /// The hypervisor's tree.
+    pub hyp: Tree,
+    /// The free frames, in increasing order.
+    pub free: Vec<u64>,
+    /// The owner row of each memory frame.
+    pub rows: RunList<Row>,
+}
+
+ghost use Rattle.ghost_spec.specs.Kept.{IsKeptTree, IsKeptShared, IsSmallChange};
+ghost use Rattle.ghost_spec.specs.Trees.{tree_in_lists};
+ghost use Rattle.ghost_spec.specs.Views.{shared_in_lists};
+
+impl Shared {
+    ghost use Rattle.ghost_spec.specs.Kept.{IsKeptShared};
+    ghost use Rattle.ghost_spec.specs.Views.{shared_in_lists};
+
+    /// The same part once more.
+    pub(crate) fn copied(&self, alloc: Global) -> Result<Shared, AllocError>
+        requires { IsKeptShared self.now }
+        ensures same { IfOk result (λ s. shared_in_lists s ≡ shared_in_lists self.now) }
+        ensures kept { IfOk result IsKeptShared }
+    {
+        Ok(Shared {
+            host: self.host.copied(alloc)?,
+            hyp: self.hyp.copied(alloc)?,
+            free: Vec::from_slice(alloc, self.free.as_slice())?,
+            rows: copied_rows(alloc, self.rows.runs())?,
+        })
+    }
+}
+
+/// How many tables a change needs on a tree.
+fn needed(
+    alloc: Global,
+    depth: u64,
+    tree: &Tree,
+    change: Option<MapChange>,
+) -> Result<usize, AllocError>
+    requires depth { depth ≤ 3 }
+    requires kept { IsKeptTree tree.now }
+    requires small { IsSmallChange change }
+    ensures { IfOk result (λ n. n ≡ need_of depth (tree_in_lists tree.now) (edit_of change)) }
+{
+    match change {
+        Some(change) => tree::need(alloc, depth, tree, change.range, change.entry),
+        None => Ok(0),
+    }
+}
+
+/// The frames that come back from a tree by a change.
+fn returned(
+    alloc: Global,
+    depth: u64,
+    tree: &Tree,
+    change: Option<MapChange>,
+) -> Result<Vec<u64>, AllocError>
+    requires depth { depth ≤ 3 }
+    requires kept { IsKeptTree tree.now }
+    requires small { IsSmallChange change }
+    ensures { IfOk result (λ v. v.items ≡ returned_of depth (tree_in_lists tree.now) (edit_of change)) }
+{
+    match change {
+        Some(change) => tree::returned(alloc, depth, tree, change.range, change.entry),
+        None => Ok(Vec::new(alloc)),
+    }
+}
+
+/// The tree after a change, whose new tables get the frames, in order.
+fn edited(
+    alloc: Global,
+    depth: u64,
+    tree: &Tree,
+    change: Option<MapChange>,
+    frames: &[u64],
+) -> Result<Tree, AllocError>
+    requires depth { depth ≤ 3 }
+    requires kept { IsKeptTree tree.now }
+    requires small { IsSmallChange change }
+    ensures tree { IfOk result (λ t. tree_in_lists t ≡ edited_of depth (tree_in_lists tree.now) (edit_of change) frames.now) }
+    ensures kept { IfOk result IsKeptTree }
+{
+    match change {
+        Some(change) => tree::edited(alloc, depth, tree, change.range, change.entry, frames),
+        None => tree.copied(alloc),
+    }
+}
+
+/// The frames behind the first `n`.
+pub(crate) fn behind(free: &[u64], n: usize) -> &[u64]
+    ensures { result.now ≡ drop n free.now }
+{
+    &free[n.min(free.len())..]
+}
+
+/// Whether there are fewer free frames than both trees need.
+fn is_fewer(free: &[u64], host_need: usize, hyp_need: usize) -> bool
+    ensures { result ≡ nat_lt (length free.now) (host_need + hyp_need) }
+{
+    host_need > free.len() || hyp_need > free.len() - host_need
+}
+
+/// Whether the pool has too few frames for the changes.
+pub(crate) fn is_short(
+    alloc: Global,
+    depth: u64,
+    shared: &Shared,
+    changes: &Changes,
+) -> Result<bool, AllocError>
+    requires depth { depth ≤ 3 }
+    requires kept { IsKeptShared shared.now }
+    requires host { IsSmallChange changes.now.host }
+    requires hyp { IsSmallChange changes.now.hyp }
+    ensures { IfOk result (λ b. b ≡ nat_lt (length shared.now.free.items) (shared_need depth changes.now (shared_in_lists shared.now))) }
+{
+    let host_need = needed(alloc, depth, &shared.host, changes.host)?;
+    let hyp_need = needed(alloc, depth, &shared.hyp, changes.hyp)?;
+    Ok(is_fewer(shared.free.as_slice(), host_need, hyp_need))
+}
+
+/// Both maps change: the host's new tables get the lowest frames, the hypervisor's the next, and freed frames come back.
+/// Where memory is refused, nothing changes.
+pub(crate) fn change(
+    alloc: Global,
+    depth: u64,
+    shared: &mut Shared,
+    changes: &Changes,
+) -> Result<(), AllocError>
+    requires depth { depth ≤ 3 }
+    requires kept { IsKeptShared shared.old }
+    requires host { IsSmallChange changes.now.host }
+    requires hyp { IsSmallChange changes.now.hyp }
+    ensures after { OnOk result (shared_in_lists shared.new ≡ shared_after depth changes.now (shared_in_lists shared.old)) }
+    ensures rows { shared.new.rows ≡ shared.old.rows }
+    ensures kept { IsKeptShared shared.new }
+{
+    let host_need = needed(alloc, depth, &shared.host, changes.host)?;
+    let hyp_need = needed(alloc, depth, &shared.hyp, changes.hyp)?;
+    let free = shared.free.as_slice();
+    let host = edited(alloc, depth, &shared.host, changes.host, free)?;
+    let rest = behind(free, host_need);
+    let hyp = edited(alloc, depth, &shared.hyp, changes.hyp, rest)?;
+    let host_back = returned(alloc, depth, &shared.host, changes.host)?;
+    let hyp_back = returned(alloc, depth, &shared.hyp, changes.hyp)?;
+    let mut left = Vec::from_slice(alloc, behind(rest, hyp_need))?;
+    give_all(&mut left, hyp_back.as_slice())?;
+    give_all(&mut left, host_back.as_slice())?;
+    shared.host = host;
+    shared.hyp = hyp;
+    shared.free = left;
+    Ok(())
+}
