@@ -1,5 +1,5 @@
 -- Blocks counted level by level, and block by block.
-use Rattle.std.proofs.Common.{◌≡◌, ℕ, zero, suc, ◌+◌, ◌-◌, ◌*◌, ◌≤◌, refl, sym, ap, ◌∙◌, arith, add-one, Bool, true, false, cond, List, [], ◌∷◌, ◌++◌, length, length-append, filter, if◌then◌else◌}
+use Rattle.std.proofs.Common.{◌≡◌, ℕ, zero, suc, ◌+◌, ◌-◌, ◌*◌, ◌≤◌, refl, sym, ap, ◌∙◌, arith, add-one, Bool, true, false, cond, List, ◌∷◌, ◌++◌, length, length-append, filter, if◌then◌else◌}
 use Rattle.std.proofs.Math.Nat.{add-mul, mul_assoc}
 use Rattle.std.proofs.lemmas.List.Elements.{filter-append}
 use mathlib.Core.Path.{fun_ext}

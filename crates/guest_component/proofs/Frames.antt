@@ -7,12 +7,10 @@ use Rattle.page_state.specs.Counts.{frame_count, is_one}
 use Rattle.page_state.specs.Geometries.{levels_below}
 use Rattle.page_state.proofs.Counts.{count_next}
 use Rattle.reference_model.specs.Conditions.{table_uses}
-use Rattle.reference_model.specs.GuestRules.{guest_table_count}
 use Rattle.reference_model.specs.Owner.{count_blocks, is_frame}
-use Rattle.table_tree.specs.AllBlocks.{all_blocks, table_count, table_frames}
+use Rattle.table_tree.specs.AllBlocks.{all_blocks}
 use Rattle.table_tree.specs.declared.table.Table.{Table}
-use Rattle.table_tree.specs.declared.table.Slot.{Slot}
-use Rattle.table_tree.specs.declared.table.Slot.TheVariants.{Word, Child}
+use Rattle.table_tree.specs.declared.table.Slot.TheVariants.{Child}
 use Rattle.table_tree.specs.declared.tree.Tree.{Tree}
 use Rattle.table_tree.specs.Meaning.{slot_at, frame_of}
 use Rattle.table_tree.specs.Shape.{IsShaped}

@@ -1,5 +1,5 @@
 -- Frames that come to a guest.
-use Rattle.std.proofs.Common.{◌≡◌, ℕ, suc, ◌+◌, ◌-◌, ◌≤◌, ◌<◌, ◌∷◌, refl, sym, ap, ◌∙◌, arith, true, false, length}
+use Rattle.std.proofs.Common.{◌≡◌, ℕ, suc, ◌+◌, ◌-◌, ◌≤◌, ◌<◌, ◌∷◌, sym, ap, ◌∙◌, arith, true, length}
 use Rattle.std.proofs.lemmas.Bool.Decides.{nat_tests}
 use mathlib.Core.Path.{fun_ext}
 use Rattle.std.specs.Prelude.{◌&&◌, ◌==◌, Option, Some, None, if◌then◌else◌}
@@ -18,7 +18,6 @@ use Rattle.reference_model.specs.Changes.{frames_in}
 use Rattle.reference_model.proofs.Frames.{contains-frames}
 use Rattle.table_tree.specs.declared.tree.Tree.{Tree as TableTree}
 use Rattle.table_tree.specs.View.{meaning, table_at, tree_of, uses, tables_of}
-use Rattle.walk_plan.proofs.Given.{not_there}
 use Rattle.guest_component.specs.Changing.{CanGainFrames}
 use Rattle.guest_component.specs.Own.{HoldsOwn}
 

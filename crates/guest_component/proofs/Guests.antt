@@ -1,12 +1,11 @@
 -- A guest after its changes, in words of the reference state.
-use Rattle.std.proofs.Common.{◌≡◌, ◌≢◌, ℕ, ◌+◌, ◌-◌, ◌≤◌, ◌<◌, ◌∷◌, List, [], refl, sym, ap, subst, ◌∙◌, arith, Bool, true, false, is_some, length, Option, Some, None}
+use Rattle.std.proofs.Common.{◌≡◌, ◌≢◌, ℕ, ◌+◌, refl, sym, ap, subst, ◌∙◌, arith, true, is_some, Option, Some, None}
 use Rattle.page_state.specs.declared.layout.Geometry.{Geometry}
 use Rattle.page_state.specs.declared.entry.PageRange.{PageRange}
 use Rattle.page_state.specs.declared.step.VmKind.{VmKind}
 use Rattle.page_state.specs.Counts.{frame_count}
 use Rattle.page_state.specs.Geometries.{levels_below}
 use Rattle.page_state.specs.Layouts.{Layout}
-use Rattle.page_state.specs.Regions.{is_in_range}
 use Rattle.page_state.specs.Tables.{need, needs, edited, freed, returned}
 use Rattle.page_state.specs.Trees.{Pool, Tree}
 use Rattle.component.proofs.Keeps.{need_keep}
@@ -17,13 +16,12 @@ use Rattle.reference_model.specs.declared.changes.GuestChange.TheVariants.{Keep,
 use Rattle.reference_model.specs.declared.changes.MapChange.{MapChange}
 use Rattle.reference_model.specs.ChangeLaws.{CanGain}
 use Rattle.reference_model.specs.Changes.{edit_of, guest_by}
-use Rattle.reference_model.specs.Conditions.{guest_uses, table_uses}
-use Rattle.reference_model.specs.GuestRules.{guest_table_count}
+use Rattle.reference_model.specs.Conditions.{table_uses}
 use Rattle.reference_model.specs.Owner.{count_blocks}
 use Rattle.reference_model.specs.State.{Guest, Phase, empty, no_guest}
 use Rattle.reference_model.specs.Step.{guest_after, guest_need}
 use Rattle.table_tree.specs.declared.tree.Tree.{Tree as TableTree}
-use Rattle.table_tree.specs.View.{tree_of, uses, tables_of}
+use Rattle.table_tree.specs.View.{tree_of}
 use Rattle.table_tree.proofs.Same.{same_uses, same_count}
 use Rattle.guest_component.specs.declared.body.Body.{Body}
 use Rattle.guest_component.specs.Bodies.{body_of}

@@ -1,5 +1,5 @@
 -- What contracts see of a guest that isn't Empty, in the words of the reference state.
-use Rattle.std.specs.Prelude.{◌≡◌, ℕ, Option, Some, None}
+use Rattle.std.specs.Prelude.{◌≡◌, Option, Some, None}
 use Rattle.std.specs.Coded.{Unit-prop}
 use Rattle.std.proofs.Props.{props}
 use Rattle.page_state.specs.declared.layout.Geometry.{Geometry}

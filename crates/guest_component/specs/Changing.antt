@@ -8,7 +8,7 @@ use Rattle.page_state.specs.Regions.{end_of, is_in_range}
 use Rattle.page_state.specs.Tables.{need, edited, returned, all_given}
 use Rattle.reference_model.specs.declared.changes.Changes.{Changes}
 use Rattle.reference_model.specs.declared.changes.GuestChange.{GuestChange}
-use Rattle.reference_model.specs.declared.changes.GuestChange.TheVariants.{Keep, Install, Gain, LoseLowest, Die, Empty}
+use Rattle.reference_model.specs.declared.changes.GuestChange.TheVariants.{Install, Gain, Empty}
 use Rattle.reference_model.specs.declared.changes.MapChange.{MapChange}
 use Rattle.reference_model.specs.ChangeLaws.{FitsWhere, FitsPart}
 use Rattle.reference_model.specs.Changes.{edit_of}

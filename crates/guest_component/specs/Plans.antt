@@ -14,7 +14,7 @@ use Rattle.table_tree.specs.View.{spares_of}
 use Rattle.guest_component.specs.declared.body.Body.{Body}
 use Rattle.guest_component.specs.declared.guest.Guest.{Guest as GuestComponent}
 use Rattle.guest_component.specs.declared.guest.GuestPlan.{GuestPlan}
-use Rattle.guest_component.specs.Bodies.{body_of, IsOfGeometry}
+use Rattle.guest_component.specs.Bodies.{body_of}
 use Rattle.guest_component.specs.Changing.{GuestCanChange, MakesNone}
 use Rattle.guest_component.specs.View.{guest_of, guest_depth}
 

@@ -1,4 +1,4 @@
-use Rattle.std.proofs.Common.{◌≡◌, ℕ, ◌+◌, ◌≤◌, ap, sym, ◌∙◌, arith, length, take, drop}
+use Rattle.std.proofs.Common.{◌≡◌, ℕ, ◌+◌, ap, sym, ◌∙◌, arith, length, take, drop}
 use Rattle.page_state.specs.Tables.{all_given}
 use Rattle.page_state.specs.Counts.{frame_count}
 use Rattle.page_state.proofs.Counts.{count_parts}

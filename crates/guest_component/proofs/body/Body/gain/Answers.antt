@@ -1,6 +1,5 @@
 use Rattle.std.proofs.Common.{arith}
 use Rattle.table_tree.proofs.Sums.{tree_some}
-use Rattle.guest_component.specs.Changing.{CanGainFrames}
 use Rattle.guest_component.proofs.Gains.{gained}
 use Rattle.guest_component.proofs.body.Body.gain.Goals as goal
 

@@ -1,4 +1,4 @@
-use Rattle.std.proofs.Common.{◌≡◌, ℕ, ◌+◌, ◌*◌, ◌/◌, ◌%◌, ◌≤◌, ◌<◌, sym, ap, ◌∙◌, arith, false}
+use Rattle.std.proofs.Common.{◌≡◌, ◌*◌, ◌/◌, ◌%◌, sym, ap, ◌∙◌, arith, false}
 use Rattle.page_state.specs.Blocks.{is_empty}
 use Rattle.page_state.specs.Geometries.{input_pages}
 use Rattle.table_tree.specs.View.{meaning}

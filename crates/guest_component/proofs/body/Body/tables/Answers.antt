@@ -1,5 +1,4 @@
-use Rattle.std.proofs.Common.{◌≡◌, ℕ, ◌+◌, is_some, sym, ap, ◌∙◌}
-use Rattle.page_state.specs.Geometries.{levels_below}
+use Rattle.std.proofs.Common.{ℕ, ◌+◌, is_some, sym, ap, ◌∙◌}
 use Rattle.reference_model.specs.Owner.{count_blocks}
 use Rattle.table_tree.specs.View.{tables_of, tree_of}
 use Rattle.guest_component.proofs.Frames.{tables_counted}

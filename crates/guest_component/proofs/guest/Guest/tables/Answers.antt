@@ -1,5 +1,4 @@
-use Rattle.std.proofs.Common.{ℕ, ◌+◌, is_some, refl, sym, ap, ◌∙◌, Option}
-use Rattle.reference_model.specs.Owner.{count_blocks}
+use Rattle.std.proofs.Common.{◌+◌, is_some, refl, sym, ap, ◌∙◌}
 use Rattle.reference_model.specs.State.{no_guest}
 use Rattle.reference_model.specs.GuestRules.{guest_table_count}
 use Rattle.reference_model.proofs.Frames.{count_blocks-none}
