@@ -185,11 +185,7 @@ pub(crate) fn decide_vcpu_put(table: &VmTable, cpu: &CpuState) -> Result<Changes
 
 /// An Open VM of which no CPU has a vCPU loaded closes, and the CPU, which must have no ticket, gets one of it.
 #[tactic(auto, unfolding(reference_model::specs::Rules::rule))]
-pub(crate) fn decide_teardown(
-    table: &VmTable,
-    cpu: &CpuState,
-    vm: VmId,
-) -> Result<Changes, Refusal>
+pub(crate) fn decide_teardown(table: &VmTable, cpu: &CpuState, vm: VmId) -> Result<Changes, Refusal>
     ensures decided { (l : ReferenceLayout) (id : ℕ) → result ≡ decides l id None (Teardown vm) (vms_alone (vms_of table.now) (cpu_of cpu.now)) }
     ensures unfilled { IfOk result IsUnfilled }
     ensures grows { IfOk result (GrowsOnly (Teardown vm)) }
