@@ -7,23 +7,24 @@ use Rattle.page_state.specs.Layouts.{Layout}
 use Rattle.reference_model.specs.Parts.{Names, guest_slot, uses_vms, uses_shared}
 use Rattle.reference_model.specs.State.{no_vms, no_shared, no_guest}
 use Rattle.reference_model.specs.Used.{Used, UsedRooms}
+use Rattle.guest_component.specs.View.{guest_depth}
 use Rattle.guest_steps.specs.declared.parts.VmPart.{VmPart}
 use Rattle.guest_steps.specs.declared.parts.SharedPart.{SharedPart}
 use Rattle.guest_steps.specs.declared.parts.GuestPart.{GuestPart}
 use Rattle.guest_steps.specs.declared.parts.CpuState.{CpuState}
 use Rattle.guest_steps.specs.Logs.{StoredCalls, IsOfSize}
 use Rattle.guest_steps.specs.MemoryRows.{HasMemoryRows}
-use Rattle.guest_steps.specs.View.{vm_slots, shared_of, guest_of, cpu_of, depth_of}
+use Rattle.guest_steps.specs.View.{vm_slots, shared_of, guest_held, cpu_of, depth_of}
 
 -- what is lent: lists of none or one part, and the CPU's own state
 pub record Lent (A : Type 0) : Type 0 where
   pub vms : List VmPart
   pub shared : List (SharedPart A)
-  pub guest : List GuestPart
+  pub guest : List (GuestPart A)
   pub cpu : CpuState
 
 -- these parts and this CPU
-abbrev pub lent : {A : Type 0} → List VmPart → List (SharedPart A) → List GuestPart → CpuState → Lent A
+abbrev pub lent : {A : Type 0} → List VmPart → List (SharedPart A) → List (GuestPart A) → CpuState → Lent A
 lent v s g k = record { vms = v; shared = s; guest = g; cpu = k }
 
 -- a list of one where the part is used, and of none where it isn't
@@ -44,7 +45,7 @@ one blank f (p ∷ ps) = f p
 
 -- what is lent, as what a call uses
 abbrev pub used_in : {A : Type 0} → Lent A → Used
-used_in x = record { vms = one no_vms vm_slots x.vms; shared = one no_shared shared_of x.shared; guest = one no_guest guest_of x.guest; cpu = cpu_of x.cpu }
+used_in x = record { vms = one no_vms vm_slots x.vms; shared = one no_shared shared_of x.shared; guest = one no_guest guest_held x.guest; cpu = cpu_of x.cpu }
 
 -- the slot of the Guest part that a step of the CPU uses
 abbrev pub slot_in : {A : Type 0} → Lent A → Step → Option ℕ
@@ -62,11 +63,16 @@ pub record SharedSuits {A : Type 0} (l : Layout) (s : SharedPart A) : Type 0 whe
   pub rows : HasMemoryRows l.memory s.rows
   pub log : IsOfSize l.config.log s.log
 
+-- a Guest part of the layout: a tree of its depth, if there is one, and a log of its size
+pub record GuestSuits {A : Type 0} (l : Layout) (g : GuestPart A) : Type 0 where
+  pub depth : guest_depth g.guest ≡ l.depth
+  pub log : IsOfSize l.config.log g.log
+
 -- what is lent is of the layout
 pub record Suits {A : Type 0} (l : Layout) (x : Lent A) : Type 0 where
   pub vms : Each (λ v. IsOfSize l.config.log v.log) x.vms
   pub shared : Each (SharedSuits l) x.shared
-  pub guest : Each (λ g. IsOfSize l.config.log g.log) x.guest
+  pub guest : Each (GuestSuits l) x.guest
   pub cpu : IsOfSize l.config.log x.cpu.log
 
 -- the logs of what is lent

@@ -6,8 +6,9 @@ use Rattle.page_state.specs.declared.row.Row.{Row}
 use Rattle.page_state.specs.Geometries.{levels_below}
 use Rattle.page_state.specs.Regions.{is_in_range}
 use Rattle.page_state.specs.Rows.{advance_row}
-use Rattle.reference_model.specs.State.{Vms, Shared, Guest, Cpu, plain_row, no_guest}
+use Rattle.reference_model.specs.State.{Vms, Shared, Guest, Cpu, plain_row}
 use Rattle.table_tree.specs.View.{tree_of}
+use Rattle.guest_component.specs.View.{guest_of}
 use Rattle.guest_steps.specs.declared.parts.GuestPart.{GuestPart}
 use Rattle.guest_steps.specs.declared.parts.SharedPart.{SharedPart}
 use Rattle.guest_steps.specs.declared.parts.VmPart.{VmPart}
@@ -26,9 +27,9 @@ shared_of s = record { host = tree_of s.host.tree; hyp = tree_of s.hyp.tree; fre
 abbrev pub depth_of : {A : Type 0} → SharedPart A → ℕ
 depth_of s = levels_below s.host.tree.geometry
 
--- a Guest part. No call fills it yet
-abbrev pub guest_of : GuestPart → Guest
-guest_of g = no_guest
+-- a Guest part
+abbrev pub guest_held : {A : Type 0} → GuestPart A → Guest
+guest_held g = guest_of g.guest
 
 -- a CPU's own state
 abbrev pub cpu_of : CpuState → Cpu

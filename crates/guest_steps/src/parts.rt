@@ -5,6 +5,7 @@ ghost use Rattle.page_state.specs.Geometries.{levels_below};
 
 use crate::log::Log;
 use component::Component;
+use guest_component::Guest;
 use hyp_pool::Pool;
 use owner_table::OwnerTable;
 use page_state::PageRange;
@@ -31,9 +32,10 @@ pub struct SharedPart<A: Allocator> {
     pub ghost alike: { levels_below hyp.tree.geometry ≡ levels_below host.tree.geometry },
 }
 
-/// A Guest part. No call fills it yet: its guest is Empty.
+/// A Guest part: its guest, and its log.
 #[derive(Drop)]
-pub struct GuestPart {
+pub struct GuestPart<A: Allocator> {
+    pub guest: Guest<A>,
     pub log: Log,
 }
 

@@ -1,5 +1,5 @@
 //! Changes of the Shared part, in words of the reference state.
-ghost use Rattle.std.specs.Prelude.{◌≡◌, ◌+◌, ◌-◌, ◌<◌, ◌≤◌, ◌^◌, ◌↔◌, Err, length, OnOk, OnErr};
+ghost use Rattle.std.specs.Prelude.{◌≡◌, ◌+◌, ◌-◌, ◌<◌, ◌≤◌, ◌^◌, ◌↔◌, Err, length, nat_lt, OnOk, OnErr};
 ghost use Rattle.component.specs.View.{HasRoomFor, need_for, back_from};
 ghost use Rattle.guest_steps.specs.View.{shared_of, depth_of, rows_given};
 ghost use Rattle.owner_table.specs.Rows.{HasRows, HasSameFrames};
@@ -15,6 +15,17 @@ use hyp_pool::PoolFault;
 use page_state::{PageRange, Row};
 use reference_model::Changes;
 use std::alloc::Allocator;
+
+impl<A: Allocator> SharedPart<A> {
+    /// Whether the pool has fewer free frames than both changes need tables.
+    pub fn is_short(&self, changes: &Changes) -> bool
+        requires host_change { FitsWhere (depth_of self.now) changes.now.host }
+        requires hyp_change { FitsWhere (depth_of self.now) changes.now.hyp }
+        ensures { result ≡ nat_lt (length (shared_of self.now).free) (shared_need (depth_of self.now) changes.now (shared_of self.now)) }
+    {
+        self.pool.free() < self.host.need(&changes.host) + self.hyp.need(&changes.hyp)
+    }
+}
 
 impl<A: Allocator + Copy> SharedPart<A> {
     /// Makes the changes of the host's and the hypervisor's map, or none: NoPool is answered exactly where the pool has fewer

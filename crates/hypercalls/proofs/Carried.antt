@@ -9,7 +9,7 @@ use Rattle.page_state.specs.declared.reply.Refusal.TheVariants.{NoMemory, NoPool
 use Rattle.page_state.specs.declared.reply.Reply.TheVariants.{Done, Refused}
 use Rattle.page_state.specs.declared.step.Step.{Step}
 use Rattle.page_state.specs.Layouts.{Layout, is_memory}
-use Rattle.page_state.specs.Tables.{needs, edited, freed, returned}
+use Rattle.page_state.specs.Tables.{need, needs, edited, freed, returned}
 use Rattle.page_state.proofs.Common.{or-false, not-holds}
 use Rattle.reference_model.specs.declared.changes.Changes.{Changes}
 use Rattle.reference_model.specs.declared.changes.MapChange.{MapChange}
@@ -17,11 +17,11 @@ use Rattle.reference_model.specs.declared.changes.SlotChange.{SlotChange}
 use Rattle.reference_model.specs.declared.changes.SlotChange.TheVariants.{Keep as KeepSlots}
 use Rattle.reference_model.specs.Answers.{CarriesOut}
 use Rattle.reference_model.specs.Rules.{may_grow}
-use Rattle.reference_model.specs.Changes.{touched, cpu_by, vms_by}
+use Rattle.reference_model.specs.Changes.{edit_of, touched, cpu_by, vms_by}
 use Rattle.reference_model.specs.Owner.{is_in_hand}
 use Rattle.reference_model.specs.RowChanges.{first_of, told_row, with_told}
 use Rattle.reference_model.specs.State.{Vms, Shared, Guest, Cpu, no_shared, no_vms, no_guest}
-use Rattle.reference_model.specs.Step.{shared_need, shared_after, guest_after, is_short, changed}
+use Rattle.reference_model.specs.Step.{shared_need, shared_after, guest_need, guest_after, is_short, changed}
 use Rattle.reference_model.specs.Used.{Used}
 use Rattle.guest_steps.specs.declared.parts.GuestPart.{GuestPart}
 use Rattle.guest_steps.specs.declared.parts.SharedPart.{SharedPart}
@@ -29,13 +29,17 @@ use Rattle.guest_steps.specs.declared.parts.VmPart.{VmPart}
 use Rattle.std.proofs.lemmas.Bool.{ltb-true, lt-ltb}
 use Rattle.std.proofs.lemmas.Bool.Decides.{nat_tests}
 use Rattle.component.specs.View.{HasRoomFor, need_for}
+use Rattle.guest_component.specs.declared.body.Body.{Body}
+use Rattle.guest_component.specs.Changing.{MakesNone}
+use Rattle.guest_component.specs.Plans.{HasReadyMap, WantsNoMemory}
+use Rattle.guest_component.specs.View.{guest_depth}
 use Rattle.component.proofs.Keeps.{need_keep}
 use Rattle.page_state.specs.Geometries.{levels_below}
 use Rattle.table_tree.specs.View.{tree_of}
 use Rattle.guest_steps.specs.declared.parts.CpuState.{CpuState}
 use Rattle.guest_steps.specs.Lent.{Each, lent, one, used_in}
-use Rattle.guest_steps.specs.View.{vm_slots, shared_of, guest_of, cpu_of}
-use Rattle.hypercalls.specs.Carried.{GrowsOnly, IsLentOr, IsRoomy, IsUnfilled, LeavesShared, rows_told}
+use Rattle.guest_steps.specs.View.{vm_slots, shared_of, guest_held, cpu_of}
+use Rattle.hypercalls.specs.Carried.{GrowsOnly, IsLentOr, IsRoomy, LeavesGuest, LeavesShared, is_either_short, rows_told}
 
 row_kept : (b t : Bool) (x y : Row) → t ≡ false → y ≡ (elim (b && t) [ true ↦ x | false ↦ y ])
 row_kept true t x y h = rw h refl
@@ -86,20 +90,19 @@ less_none n = grind (arith, nat_tests)
 same_used : (v v' : Vms) (s s' : Shared) (g g' : Guest) (k k' : Cpu) → v ≡ v' → s ≡ s' → g ≡ g' → k ≡ k' → ◌≡◌ {A = Used} (record { vms = v; shared = s; guest = g; cpu = k }) (record { vms = v'; shared = s'; guest = g'; cpu = k' })
 same_used v v' s s' g g' k k' a b c d = cc
 
--- the guest, which no call fills yet, stays
-module _ (l : Layout) (h : Changes) (stays : IsUnfilled h) where
-  pub short_is : (x : Used) → is_short l.depth h x ≡ nat_lt (length x.shared.free) (shared_need l.depth h x.shared)
-  unfolding is_short needs
-  short_is x = rw (stays.guest, less_none (length x.guest.free)) (or-false (nat_lt (length x.shared.free) (shared_need l.depth h x.shared)))
+-- all that was changed, in words of the reference state
+pub all_made : (l : Layout) (h : Changes) (id : ℕ) (slot : Option ℕ) (v w : Vms) (s t : Shared) (g p : Guest) (k j : Cpu) → w ≡ vms_by h.slot v → t ≡ rows_told l id slot h (shared_after l.depth h s) → p ≡ guest_after l.depth h g → j ≡ cpu_by h.cpu k
+    → ◌≡◌ {A = Used} (record { vms = w; shared = t; guest = p; cpu = j }) (with_told l id slot h (changed l.depth h (record { vms = v; shared = s; guest = g; cpu = k })))
+unfolding with_told changed
+all_made l h id slot v w s t g p k j a b c d = same_used w (vms_by h.slot v) t (rows_told l id slot h (shared_after l.depth h s)) p (guest_after l.depth h g) j (cpu_by h.cpu k) a b c d
 
-  guest_same : (g : Guest) → guest_after l.depth h g ≡ g
-  unfolding guest_after needs edited freed returned
-  guest_same g = rw (stays.guest, stays.part) refl
+-- a guest of which nothing changes
+pub guest_same : (d : ℕ) (h : Changes) (g : Guest) → LeavesGuest h → guest_after d h g ≡ g
+unfolding guest_after needs edited freed returned
+guest_same d h g stays = rw (stays.guest, stays.part) refl
 
-  pub all_made : (id : ℕ) (slot : Option ℕ) (v w : Vms) (s t : Shared) (g : Guest) (k j : Cpu) → w ≡ vms_by h.slot v → t ≡ rows_told l id slot h (shared_after l.depth h s) → j ≡ cpu_by h.cpu k
-      → ◌≡◌ {A = Used} (record { vms = w; shared = t; guest = g; cpu = j }) (with_told l id slot h (changed l.depth h (record { vms = v; shared = s; guest = g; cpu = k })))
-  unfolding with_told changed
-  all_made id slot v w s t g k j a b c = same_used w (vms_by h.slot v) t (rows_told l id slot h (shared_after l.depth h s)) g (guest_after l.depth h g) j (cpu_by h.cpu k) a b (sym (guest_same g)) c
+pub need_same : (d : ℕ) (h : Changes) (g : Guest) → LeavesGuest h → guest_need d h g ≡ 0
+need_same d h g stays = ap (λ (o : Option MapChange). need d g.tree (edit_of o)) stays.guest ∙ need_keep d g.tree
 
 -- where neither map changes, no growth can be needed
 pub roomy_of_none : {A : Type 0} (h : Changes) → h.host ≡ None → h.hyp ≡ None → (ss : List (SharedPart A)) → Each (IsRoomy h) ss
@@ -114,51 +117,77 @@ roomy_of_none h a b (s ∷ ss) = (
   roomy_of_none h a b ss,
 )
 
+ready_none : {A : Type 0} (n : ℕ) (c : Option MapChange) → n ≡ 0 → c ≡ None → (o : Option (Body A)) → HasReadyMap n c o
+ready_none n c z e None = tt
+ready_none n c z e (Some b) = (omega (arith, z), subst (λ (o : Option MapChange). HasRoomFor o b.map.maplets) (sym e) tt)
+
+-- nor where the guest's map stays and no guest is made
+guests_roomy : {A : Type 0} (h : Changes) → h.guest ≡ None → MakesNone h.part → (gs : List (GuestPart A)) → Each (λ g. WantsNoMemory h g.guest) gs
+guests_roomy h a m [] = tt
+guests_roomy h a m (g ∷ gs) = (
+  record { made = m; map = ready_none _ h.guest (ap (λ (o : Option MapChange). need (guest_depth g.guest) (guest_held g).tree (edit_of o)) a ∙ need_keep (guest_depth g.guest) (guest_held g).tree) a g.guest.body },
+  guests_roomy h a m gs,
+)
+
 -- a step whose change wanted memory may grow
-pub grows_by : {A : Type 0} (h : Changes) (step : Step) (ss : List (SharedPart A)) → GrowsOnly step h → (Each (IsRoomy h) ss → ⊥) → may_grow step ≡ true
-grows_by h step ss only short = go (may_grow step) only
+pub grows_by : {A : Type 0} (h : Changes) (step : Step) (ss : List (SharedPart A)) (gs : List (GuestPart A)) → GrowsOnly step h → (Each (IsRoomy h) ss → Each (λ g. WantsNoMemory h g.guest) gs → ⊥) → may_grow step ≡ true
+grows_by h step ss gs only short = go (may_grow step) only
   where
-    go : (b : Bool) → (b ≡ false → (h.host ≡ None) × (h.hyp ≡ None)) → b ≡ true
+    go : (b : Bool) → (b ≡ false → (h.host ≡ None) × (h.hyp ≡ None) × (h.guest ≡ None) × MakesNone h.part) → b ≡ true
     go true k = refl
-    go false k = absurd (short (roomy_of_none h (k refl).0 (k refl).1 ss))
+    go false k = let o = k refl in absurd (short (roomy_of_none h o.0 o.1 ss) (guests_roomy h o.2 o.3 gs))
+
+-- where a pool is short
+pub none_short_iff : {R : Type 0} (a b : Bool) → (R → ⊥) → a ≡ false → b ≡ false → R ↔ ((a || b) ≡ true)
+none_short_iff a b n p q = (λ r. absurd (n r), λ e. absurd (let bad : (false || false) ≡ true = rw (p, q) at e in cc))
+
+pub guest_short_iff : {R : Type 0} (a : Bool) (m n : ℕ) → a ≡ false → R ↔ (m < n) → R ↔ ((a || nat_lt m n) ≡ true)
+guest_short_iff a m n p iff = (λ r. rw p (lt-ltb m n (iff.0 r)), λ e. iff.1 (ltb-true m n (let t : (false || nat_lt m n) ≡ true = rw p at e in t)))
+
+pub shared_short_iff : {R : Type 0} (m n : ℕ) (b : Bool) → b ≡ false → R ↔ (m < n) → R ↔ ((nat_lt m n || b) ≡ true)
+shared_short_iff m n b p iff = (λ r. rw (lt-ltb m n (iff.0 r)) refl, λ e. iff.1 (ltb-true m n (let t : (nat_lt m n || false) ≡ true = rw p at e in sym (or-false (nat_lt m n)) ∙ t)))
 
 -- lent parts that were changed, or weren't
-module _ {A : Type 0} (l : Layout) (id : ℕ) (slot : Option ℕ) (step : Step) (h : Changes) (stays : IsUnfilled h) (vs ws : List VmPart) (ss ts : List (SharedPart A)) (gs : List GuestPart) (k j : CpuState) where
+module _ {A : Type 0} (l : Layout) (id : ℕ) (slot : Option ℕ) (step : Step) (h : Changes) (vs ws : List VmPart) (ss ts : List (SharedPart A)) (gs hs : List (GuestPart A)) (k j : CpuState) where
   abbrev before : Used
   before = used_in (lent vs ss gs k)
 
   abbrev after : Used
-  after = used_in (lent ws ts gs j)
+  after = used_in (lent ws ts hs j)
 
-  abbrev has_few : Type 0
-  has_few = length (one no_shared shared_of ss).free < shared_need l.depth h (one no_shared shared_of ss)
+  abbrev few : Bool
+  few = is_either_short l.depth h (one no_shared shared_of ss) (one no_guest guest_held gs)
 
-  enough_is : (has_few → ⊥) → is_short l.depth h before ≡ false
-  enough_is enough = short_is l h stays before ∙ not-holds (nat_lt (length (one no_shared shared_of ss).free) (shared_need l.depth h (one no_shared shared_of ss))) (λ t. enough (ltb-true _ _ t))
+  short_is : is_short l.depth h before ≡ few
+  unfolding is_short
+  short_is = refl
 
-  same_after_all : one no_vms vm_slots ws ≡ one no_vms vm_slots vs → one no_shared shared_of ts ≡ one no_shared shared_of ss → cpu_of j ≡ cpu_of k → after ≡ before
-  same_after_all a b c = same_used _ _ _ _ (one no_guest guest_of gs) (one no_guest guest_of gs) _ _ a b refl c
+  enough_is : (few ≡ true → ⊥) → is_short l.depth h before ≡ false
+  enough_is enough = short_is ∙ not-holds few enough
 
-  pub carried : (has_few → ⊥) → one no_vms vm_slots ws ≡ vms_by h.slot (one no_vms vm_slots vs) → one no_shared shared_of ts ≡ rows_told l id slot h (shared_after l.depth h (one no_shared shared_of ss)) → cpu_of j ≡ cpu_by h.cpu (cpu_of k)
+  same_after_all : one no_vms vm_slots ws ≡ one no_vms vm_slots vs → one no_shared shared_of ts ≡ one no_shared shared_of ss → one no_guest guest_held hs ≡ one no_guest guest_held gs → cpu_of j ≡ cpu_of k → after ≡ before
+  same_after_all a b c d = same_used _ _ _ _ _ _ _ _ a b c d
+
+  pub carried : (few ≡ true → ⊥) → one no_vms vm_slots ws ≡ vms_by h.slot (one no_vms vm_slots vs) → one no_shared shared_of ts ≡ rows_told l id slot h (shared_after l.depth h (one no_shared shared_of ss)) → one no_guest guest_held hs ≡ guest_after l.depth h (one no_guest guest_held gs) → cpu_of j ≡ cpu_by h.cpu (cpu_of k)
       → CarriesOut l id slot step true h before (Done h.value) after
-  carried enough a b c = inl (record {
+  carried enough a b c d = inl (record {
     enough = enough_is enough;
     reply_is = refl;
-    next = all_made l h stays id slot (one no_vms vm_slots vs) (one no_vms vm_slots ws) (one no_shared shared_of ss) (one no_shared shared_of ts) (one no_guest guest_of gs) (cpu_of k) (cpu_of j) a b c;
+    next = all_made l h id slot (one no_vms vm_slots vs) (one no_vms vm_slots ws) (one no_shared shared_of ss) (one no_shared shared_of ts) (one no_guest guest_held gs) (one no_guest guest_held hs) (cpu_of k) (cpu_of j) a b c d;
   })
 
-  pub short : has_few → one no_vms vm_slots ws ≡ one no_vms vm_slots vs → one no_shared shared_of ts ≡ one no_shared shared_of ss → cpu_of j ≡ cpu_of k → CarriesOut l id slot step true h before (Refused NoPoolReply) after
-  short few a b c = inr (inl (record {
-    short = short_is l h stays before ∙ lt-ltb _ _ few;
+  pub short : few ≡ true → one no_vms vm_slots ws ≡ one no_vms vm_slots vs → one no_shared shared_of ts ≡ one no_shared shared_of ss → one no_guest guest_held hs ≡ one no_guest guest_held gs → cpu_of j ≡ cpu_of k → CarriesOut l id slot step true h before (Refused NoPoolReply) after
+  short is a b c d = inr (inl (record {
+    short = short_is ∙ is;
     reply_is = refl;
-    next = same_after_all a b c;
+    next = same_after_all a b c d;
   }))
 
-  pub halted : (has_few → ⊥) → may_grow step ≡ true → one no_vms vm_slots ws ≡ one no_vms vm_slots vs → one no_shared shared_of ts ≡ one no_shared shared_of ss → cpu_of j ≡ cpu_of k → CarriesOut l id slot step true h before (Refused NoMemory) after
-  halted enough grows a b c = inr (inr (record {
+  pub halted : (few ≡ true → ⊥) → may_grow step ≡ true → one no_vms vm_slots ws ≡ one no_vms vm_slots vs → one no_shared shared_of ts ≡ one no_shared shared_of ss → one no_guest guest_held hs ≡ one no_guest guest_held gs → cpu_of j ≡ cpu_of k → CarriesOut l id slot step true h before (Refused NoMemory) after
+  halted enough grows a b c d = inr (inr (record {
     enough = enough_is enough;
     grows = grows;
     wanted = refl;
     reply_is = refl;
-    next = same_after_all a b c;
+    next = same_after_all a b c d;
   }))

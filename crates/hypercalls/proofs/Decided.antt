@@ -108,7 +108,7 @@ module _ {A : Type 0} (step : Step) (slot : Option ℕ) (x : Lent A) (served : I
   by_lists vs ss v s =
       ap (λ (a : List VmPart). used_in (lent a x.shared x.guest x.cpu)) v
       ∙ ap (λ (a : List (SharedPart A)). used_in (lent vs a x.guest x.cpu)) s
-      ∙ ap (λ (a : List GuestPart). used_in (lent vs ss a x.cpu)) (lent_none (is_some slot) x.guest (ap is_some no_slot) fits.guest)
+      ∙ ap (λ (a : List (GuestPart A)). used_in (lent vs ss a x.cpu)) (lent_none (is_some slot) x.guest (ap is_some no_slot) fits.guest)
 
   -- the VM part
   pub on_vms : (v : VmPart) → slice_get x.vms 0 ≡ Some v → (uses_vms (names step) ≡ true) × (slot ≡ None) × (used_in x ≡ vms_alone (vm_slots v) (cpu_of x.cpu))

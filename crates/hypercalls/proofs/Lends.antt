@@ -9,7 +9,7 @@ use Rattle.guest_steps.specs.declared.parts.VmPart.{VmPart}
 use Rattle.guest_steps.specs.declared.parts.SharedPart.{SharedPart}
 use Rattle.guest_steps.specs.declared.parts.GuestPart.{GuestPart}
 use Rattle.guest_steps.specs.declared.parts.CpuState.{CpuState}
-use Rattle.guest_steps.specs.Lent.{Lent, IsLent, IsOneWhere, Suits, SharedSuits, Each, lent, used_in}
+use Rattle.guest_steps.specs.Lent.{Lent, IsLent, IsOneWhere, Suits, GuestSuits, SharedSuits, Each, lent, used_in}
 use Rattle.guest_steps.specs.Logs.{IsOfSize}
 use Rattle.guest_steps.specs.MemoryRows.{HasMemoryRows}
 use Rattle.guest_steps.specs.View.{cpu_of}
@@ -18,7 +18,7 @@ use Rattle.hypercalls.specs.Stands.{one_where, from_of, to_of, parts_layout, Has
 use Rattle.hypercalls.proofs.Ranges.{when, Inside, inside_of, range_at, one_range, put_list, lent_one, is_one, is_range, cut, place}
 use Rattle.hypercalls.proofs.Whole.{x as lent_of, reached}
 
-same_lent : {A : Type 0} (v v' : List VmPart) (s s' : List (SharedPart A)) (g g' : List GuestPart) (k : CpuState) → v ≡ v' → s ≡ s' → g ≡ g' → lent v s g k ≡ lent v' s' g' k
+same_lent : {A : Type 0} (v v' : List VmPart) (s s' : List (SharedPart A)) (g g' : List (GuestPart A)) (k : CpuState) → v ≡ v' → s ≡ s' → g ≡ g' → lent v s g k ≡ lent v' s' g' k
 same_lent v v' s s' g g' k a b c = cc
 
 -- by place, and by element
@@ -73,6 +73,21 @@ module _ {A : Type 0} (p : Parts A) where
   shared_logs [] h = tt
   shared_logs (s ∷ ss) h = (h.0.log, shared_logs ss h.1)
 
+  guests_by : (gs : List (GuestPart A)) → Each (λ g. levels_below g.guest.geometry ≡ levels_below p.layout.geometry) gs → Each (λ g. IsOfSize p.layout.config.log g.log) gs → Each (GuestSuits (parts_layout p)) gs
+  guests_by [] d h = tt
+  guests_by (g ∷ gs) d h = (record { depth = d.0; log = h.0 }, guests_by gs d.1 h.1)
+
+  pub guest_suits : Each (GuestSuits (parts_layout p)) p.guests.items
+  guest_suits = guests_by p.guests.items (each_all _ p.guests.items p.guest_depth) (each_all _ p.guests.items p.guest_logs)
+
+  pub guest_depths : (gs : List (GuestPart A)) → Each (GuestSuits (parts_layout p)) gs → Each (λ g. levels_below g.guest.geometry ≡ levels_below p.layout.geometry) gs
+  guest_depths [] h = tt
+  guest_depths (g ∷ gs) h = (h.0.depth, guest_depths gs h.1)
+
+  pub guest_sizes : (gs : List (GuestPart A)) → Each (GuestSuits (parts_layout p)) gs → Each (λ g. IsOfSize p.layout.config.log g.log) gs
+  guest_sizes [] h = tt
+  guest_sizes (g ∷ gs) h = (h.0.log, guest_sizes gs h.1)
+
   module _ (cpu : ℕ) (step : Step) (k : CpuState) (at : slice_get p.cpus.items cpu ≡ Some k) (within : cpu < length p.cpus.items)
       (vms_one : length p.vms.items ≡ 1) (shared_one : length p.shared.items ≡ 1) (many : length p.guests.items ≡ 64) (low : (v : ℕ) → guest_slot (cpu_of k) step ≡ Some v → v < 64) where
     abbrev pub slot : Option ℕ
@@ -91,12 +106,12 @@ module _ {A : Type 0} (p : Parts A) where
     suits = record {
       vms = each_when _ (uses_vms (names step)) p.vms.items (each_all _ p.vms.items p.vm_log);
       shared = each_when _ (uses_shared (names step) slot) p.shared.items shared_suits;
-      guest = each_range _ p.guests.items slot inner (each_all _ p.guests.items p.guest_logs);
+      guest = each_range _ p.guests.items slot inner guest_suits;
       cpu = get_all (λ (j : CpuState). IsOfSize p.layout.config.log j.log) p.cpus.items cpu k (each_all _ p.cpus.items p.own_logs) at;
     }
 
     -- the same, by the ranges that code lends
-    pub lent_is : (vs : List VmPart) (ss : List (SharedPart A)) (gs : List GuestPart) (nv ns a b : ℕ) → vs ≡ p.vms.items → ss ≡ p.shared.items → gs ≡ p.guests.items → nv ≡ one_where (uses_vms (names step)) → ns ≡ one_where (uses_shared (names step) slot) → a ≡ from_of slot → b ≡ to_of slot
+    pub lent_is : (vs : List VmPart) (ss : List (SharedPart A)) (gs : List (GuestPart A)) (nv ns a b : ℕ) → vs ≡ p.vms.items → ss ≡ p.shared.items → gs ≡ p.guests.items → nv ≡ one_where (uses_vms (names step)) → ns ≡ one_where (uses_shared (names step) slot) → a ≡ from_of slot → b ≡ to_of slot
         → x ≡ lent (take (nv - 0) vs) (take (ns - 0) ss) (take (b - a) (drop a gs)) k
     lent_is vs ss gs nv ns a b ev es eg cv cs ea eb =
         let v = lent_one (uses_vms (names step)) p.vms.items vs nv vms_one ev cv in

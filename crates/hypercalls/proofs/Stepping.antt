@@ -8,10 +8,12 @@ use Rattle.page_state.specs.declared.reply.Reply.{Reply}
 use Rattle.page_state.specs.declared.reply.Reply.TheVariants.{Refused}
 use Rattle.page_state.specs.declared.step.Step.{Step}
 use Rattle.page_state.specs.Layouts.{Layout}
+use Rattle.guest_component.specs.View.{guest_depth}
+use Rattle.guest_steps.specs.declared.parts.GuestPart.{GuestPart}
 use Rattle.guest_steps.specs.declared.parts.SharedPart.{SharedPart}
 use Rattle.guest_steps.specs.declared.parts.VmPart.{VmPart}
 use Rattle.guest_steps.specs.declared.parts.CpuState.{CpuState}
-use Rattle.guest_steps.specs.Lent.{Each, IsOneWhere, LentLogs, Lent, IsLent, SharedSuits, Suits, lent, with_call, all_with, call_in, one, rooms_in, logs_in, slot_in, used_in}
+use Rattle.guest_steps.specs.Lent.{Each, GuestSuits, IsOneWhere, LentLogs, Lent, IsLent, SharedSuits, Suits, lent, with_call, all_with, call_in, one, rooms_in, logs_in, slot_in, used_in}
 use Rattle.guest_steps.specs.Logs.{StoredCalls, IsOfSize}
 use Rattle.guest_steps.specs.View.{depth_of}
 use Rattle.reference_model.specs.declared.changes.Changes.{Changes}
@@ -22,7 +24,7 @@ use Rattle.reference_model.specs.ChangeLaws.{OnlyUses}
 use Rattle.reference_model.specs.Parts.{Names, names, uses_vms, uses_shared}
 use Rattle.reference_model.specs.Step.{is_full, stored as stored_rooms, Answered, StepsOn}
 use Rattle.reference_model.specs.Used.{UsedRooms}
-use Rattle.hypercalls.specs.Carried.{IsLentOr, LeavesShared, OnlyLent}
+use Rattle.hypercalls.specs.Carried.{IsLentOr, LeavesGuest, LeavesShared, OnlyLent}
 use Rattle.hypercalls.specs.Steps.{any_full, CanWantOn, IsStepOn}
 
 or_parts : (a b c d : Bool) → (a || b || c || d) ≡ false → (a ≡ false) × (b ≡ false) × (c ≡ false) × (d ≡ false)
@@ -84,6 +86,14 @@ shared_kept l c (x ∷ []) (y ∷ []) e r d few some h = (
 shared_kept l c (x ∷ []) (y ∷ (z ∷ ys)) e r d few some h = absurd (let n = ap length e in omega (arith, n))
 shared_kept l c (x ∷ (w ∷ xs)) ys e r d few some h = absurd (omega (arith, few))
 
+pub guest_kept : {A : Type 0} (l : Layout) (c : Call) (xs ys : List (GuestPart A)) → map (λ p. p.log) ys ≡ map (with_call c) (map (λ p. p.log) xs) → map (λ p. guest_depth p.guest) ys ≡ map (λ p. guest_depth p.guest) xs → length xs ≤ 1 → one false (λ g. g.room == 0) (map (λ p. p.log) xs) ≡ false → Each (GuestSuits l) xs → Each (GuestSuits l) ys
+guest_kept l c [] [] e d few some h = tt
+guest_kept l c [] (y ∷ ys) e d few some h = absurd (let n = ap length e in cc)
+guest_kept l c (x ∷ []) [] e d few some h = tt
+guest_kept l c (x ∷ []) (y ∷ []) e d few some h = (record { depth = head_is (guest_depth y.guest) (guest_depth x.guest) d ∙ h.0.depth; log = size_kept c l.config.log x.log y.log (head_is y.log (with_call c x.log) e) some h.0.log }, tt)
+guest_kept l c (x ∷ []) (y ∷ (z ∷ ys)) e d few some h = absurd (let n = ap length e in omega (arith, n))
+guest_kept l c (x ∷ (w ∷ xs)) ys e d few some h = absurd (omega (arith, few))
+
 -- the tests of the lent logs are those of the logs that are used
 used_full : (used : Bool) (xs : List StoredCalls) → IsOneWhere used xs → one false (λ g. g.room == 0) xs ≡ (used && (one 0 (λ g. g.room) xs == 0))
 used_full used [] h = rw h refl
@@ -123,11 +133,16 @@ lent_or Stays used [] stays one = stays one
 lent_or Stays used (x ∷ []) stays one = tt
 lent_or Stays used (x ∷ (y ∷ xs)) stays one = absurd one
 
+is_none : (o : Option ℕ) → is_some o ≡ false → o ≡ None
+is_none None e = refl
+is_none (Some v) e = cc
+
 -- what is changed is lent
 pub only_lent : {A : Type 0} (n : Names) (slot : Option ℕ) (h : Changes) → OnlyUses n slot h → (x : Lent A) → IsLent n slot x → OnlyLent h x
 only_lent n slot h only x one = record {
   vms = lent_or (h.slot ≡ KeepSlots) (uses_vms n) x.vms only.vms one.vms;
   shared = lent_or (LeavesShared h) (uses_shared n slot) x.shared (λ e. record { host = only.host e; hyp = only.hyp e; moved = only.moved e }) one.shared;
+  guest = lent_or (LeavesGuest h) (is_some slot) x.guest (λ e. let none = is_none slot e in record { guest = only.guest none; part = only.part none }) one.guest;
 }
 
 pub ok_is : {E : Type 0} (h k : Changes) → ◌≡◌ {A = Result Changes E} (Ok h) (Ok k) → h ≡ k
@@ -181,5 +196,5 @@ same_sizes log most (x ∷ xs) (y ∷ ys) e h = (subst (IsOfSize most) (sym (ap 
 pub same_logs : {A : Type 0} (x y : Lent A) → map (λ p. p.log) y.vms ≡ map (λ p. p.log) x.vms → map (λ p. p.log) y.shared ≡ map (λ p. p.log) x.shared → map (λ p. p.log) y.guest ≡ map (λ p. p.log) x.guest → y.cpu.log ≡ x.cpu.log → logs_in y ≡ logs_in x
 same_logs x y a b c d = cc
 
-pub suits_after : {A : Type 0} (l : Layout) (x : Lent A) (vs : List VmPart) (ss : List (SharedPart A)) (k : CpuState) → Suits l x → map (λ p. p.log) vs ≡ map (λ p. p.log) x.vms → Each (SharedSuits l) ss → k.log ≡ x.cpu.log → Suits l (lent vs ss x.guest k)
-suits_after l x vs ss k h v s e = record { vms = same_sizes (λ p. p.log) l.config.log x.vms vs v h.vms; shared = s; guest = h.guest; cpu = subst (λ g. IsOfSize l.config.log g) (sym e) h.cpu }
+pub suits_after : {A : Type 0} (l : Layout) (x : Lent A) (vs : List VmPart) (ss : List (SharedPart A)) (gs : List (GuestPart A)) (k : CpuState) → Suits l x → map (λ p. p.log) vs ≡ map (λ p. p.log) x.vms → Each (SharedSuits l) ss → Each (GuestSuits l) gs → k.log ≡ x.cpu.log → Suits l (lent vs ss gs k)
+suits_after l x vs ss gs k h v s g e = record { vms = same_sizes (λ p. p.log) l.config.log x.vms vs v h.vms; shared = s; guest = g; cpu = subst (λ g. IsOfSize l.config.log g) (sym e) h.cpu }

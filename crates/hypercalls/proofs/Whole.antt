@@ -31,9 +31,11 @@ use Rattle.guest_steps.specs.declared.parts.VmPart.{VmPart}
 use Rattle.guest_steps.specs.declared.parts.SharedPart.{SharedPart}
 use Rattle.guest_steps.specs.declared.parts.GuestPart.{GuestPart}
 use Rattle.guest_steps.specs.declared.parts.CpuState.{CpuState}
-use Rattle.guest_steps.specs.Lent.{Lent, LentLogs, IsLent, Suits, SharedSuits, Each, lent, used_in, slot_in, logs_in, rooms_in, one, call_in, all_with, with_call}
+use Rattle.guest_component.specs.Plans.{WantsNoMemory}
+use Rattle.reference_model.specs.declared.changes.Changes.{Changes}
+use Rattle.guest_steps.specs.Lent.{Lent, LentLogs, IsLent, Suits, GuestSuits, SharedSuits, Each, lent, used_in, slot_in, logs_in, rooms_in, one, call_in, all_with, with_call}
 use Rattle.guest_steps.specs.Logs.{StoredCalls, IsOfSize}
-use Rattle.guest_steps.specs.View.{vm_slots, shared_of, guest_of, cpu_of}
+use Rattle.guest_steps.specs.View.{vm_slots, shared_of, guest_held, cpu_of}
 use Rattle.hypercalls.specs.Carried.{IsRoomy}
 use Rattle.hypercalls.specs.declared.parts.Parts.{Parts}
 use Rattle.hypercalls.specs.Stands.{at_place, parts_layout, kept_of, state_of, HasHistory}
@@ -89,6 +91,15 @@ full_reply l c x o y q full on = go on.answers
     go (inl f) = f.reply
     go (inr a) = let clash = sym full ∙ a.room in cc
 
+guest_logs : {A : Type 0} (l : Layout) (gs : List (GuestPart A)) → Each (GuestSuits l) gs → Each (λ g. IsOfSize l.config.log g.log) gs
+guest_logs l [] h = tt
+guest_logs l (g ∷ gs) h = (h.0.log, guest_logs l gs h.1)
+
+-- what holds of the guest of a slot holds of each of the range
+each_ready : {A : Type 0} (h : Changes) (gs : List (GuestPart A)) (slot : Option ℕ) → Inside slot (length gs) → ((v : ℕ) (g : GuestPart A) → slot ≡ Some v → slice_get gs v ≡ Some g → WantsNoMemory h g.guest) → Each (λ g. WantsNoMemory h g.guest) (range_at gs slot)
+each_ready h gs None inside ready = tt
+each_ready h gs (Some v) inside ready = subst (Each (λ (g : GuestPart _). WantsNoMemory h g.guest)) (sym (one_range gs v inside)) (ready v (place gs v inside).0 refl (place gs v inside).2, tt)
+
 -- a guest that is put at a slot
 put_is : (guests : ℕ → Guest) (slot : Option ℕ) (g : Guest) (v : ℕ) → (if is_slot slot v then g else guests v) ≡ put_guest guests slot g v
 put_is guests None g v = refl
@@ -117,7 +128,7 @@ module _ {A : Type 0} (p : Parts A) (cpu : ℕ) (step : Step) (k : CpuState) (at
 
   used_is : used_in x ≡ used_of n slot cpu (state_of p).contents
   unfolding used_of
-  used_is = same_used _ _ _ _ _ _ _ _ (one_when no_vms vm_slots (uses_vms n) p.vms.items) (one_when no_shared shared_of (uses_shared n slot) p.shared.items) (range_is guest_of p.guests.items slot inner) (sym (ap (at_place no_cpu cpu_of) at))
+  used_is = same_used _ _ _ _ _ _ _ _ (one_when no_vms vm_slots (uses_vms n) p.vms.items) (one_when no_shared shared_of (uses_shared n slot) p.shared.items) (range_is guest_held p.guests.items slot inner) (sym (ap (at_place no_cpu cpu_of) at))
 
   -- what is lent stands where the parts do
   pub reached : HasHistory p → cpu < p.layout.config.cpus → ((v : ℕ) → slot ≡ Some v → v < 64) → IsReached l n slot cpu (used_in x)
@@ -148,7 +159,7 @@ module _ {A : Type 0} (p : Parts A) (cpu : ℕ) (step : Step) (k : CpuState) (at
         same_rooms _ _ _ _ _ _ _ _
         (room_when (λ v. v.log) l.config.log (uses_vms n) p.vms.items vms_one vms_sized)
         (room_when (λ s. s.log) l.config.log (uses_shared n slot) p.shared.items shared_one shared_sized)
-        (room_range (λ g. g.log) l.config.log p.guests.items slot inner suits.guest)
+        (room_range (λ g. g.log) l.config.log p.guests.items slot inner (guest_logs l (range_at p.guests.items slot) suits.guest))
         (own ∙ sym (ap (λ o. l.config.log - length (at_place [] (λ (j : CpuState). j.log.calls) o)) at))
 
     full_same : is_log_full p cpu step ≡ any_full (logs_in x)
@@ -176,11 +187,11 @@ module _ {A : Type 0} (p : Parts A) (cpu : ℕ) (step : Step) (k : CpuState) (at
       to_used = used_steps l s c (used_in y) r on_is
 
       -- what the parts have, by their lists
-      abbrev kept_by : List VmPart → List (SharedPart A) → List GuestPart → List CpuState → Kept
+      abbrev kept_by : List VmPart → List (SharedPart A) → List (GuestPart A) → List CpuState → Kept
       kept_by v h g j = record {
         vms = all_of no_vms vm_slots (λ (w : VmPart). w.log) v;
         shared = all_of no_shared shared_of (λ (w : SharedPart A). w.log) h;
-        guest = each_of no_guest guest_of (λ (w : GuestPart). w.log) g;
+        guest = each_of no_guest guest_held (λ (w : GuestPart A). w.log) g;
         cpu = each_of no_cpu cpu_of (λ (w : CpuState). w.log) j;
       }
 
@@ -232,7 +243,7 @@ module _ {A : Type 0} (p : Parts A) (cpu : ℕ) (step : Step) (k : CpuState) (at
         stores_after = record {
           vms = stores_one no_vms vm_slots (λ (w : VmPart). w.log) c (uses_vms n) p.vms.items y.vms vms_one (ap (λ (g : LentLogs). g.vms) logs_are);
           shared = stores_one no_shared shared_of (λ (w : SharedPart A). w.log) c (uses_shared n slot) p.shared.items y.shared shared_one (ap (λ (g : LentLogs). g.shared) logs_are);
-          guest = λ v. subst (λ g. Stores (is_slot slot v) c g ((kept_of p).guest v) (after.guest v)) (put_is s.contents.guest slot (one no_guest guest_of y.guest) v) (stores_at no_guest guest_of (λ (w : GuestPart). w.log) c p.guests.items y.guest slot inner (ap (λ (g : LentLogs). g.guest) logs_are) v);
+          guest = λ v. subst (λ g. Stores (is_slot slot v) c g ((kept_of p).guest v) (after.guest v)) (put_is s.contents.guest slot (one no_guest guest_held y.guest) v) (stores_at no_guest guest_held (λ (w : GuestPart A). w.log) c p.guests.items y.guest slot inner (ap (λ (g : LentLogs). g.guest) logs_are) v);
           cpu = λ j. subst (λ b. Stores b c (put_at s.contents.cpu cpu (cpu_of y.cpu) j) ((kept_of p).cpu j) (after.cpu j)) (eq_flip j cpu) (stores_at no_cpu cpu_of (λ (w : CpuState). w.log) c p.cpus.items (y.cpu ∷ []) (Some cpu) within (ap (λ (g : LentLogs). g.cpu ∷ []) logs_are ∙ sym (ap (λ xs. map (with_call c) (map (λ (w : CpuState). w.log) xs)) own_range)) j);
         }
 
@@ -264,7 +275,7 @@ module _ {A : Type 0} (p : Parts A) (cpu : ℕ) (step : Step) (k : CpuState) (at
             full = λ f. same_kept (sym full_same ∙ f);
             stored = λ f. made.stored (sym full_same ∙ f);
             stores = λ f. let h = sym full_same ∙ f in subst (λ d. StoresCall d (state_of q).contents (kept_of p) (kept_of q)) (sym call) (subst (λ (u : Reference). StoresCall c u.contents (kept_of p) (kept_of q)) (sym (stands h)) (stores_now h));
-            wants = λ told h is roomy. made.wants told h (ap (λ u. decides l cpu slot step u) used_is ∙ rw slot_is at is) (each_when (IsRoomy h) (uses_shared n slot) p.shared.items roomy);
+            wants = λ told h is roomy ready. made.wants told h (ap (λ u. decides l cpu slot step u) used_is ∙ rw slot_is at is) (each_when (IsRoomy h) (uses_shared n slot) p.shared.items roomy) (each_ready h p.guests.items slot inner (λ v g e. ready v g (slot_is ∙ e)));
           }
 
       pub history : HasHistory p → cpu < p.layout.config.cpus → HasHistory q

@@ -1,7 +1,8 @@
 -- How changes are carried out on lent parts.
-use Rattle.std.specs.Prelude.{◌≡◌, ◌≤◌, ℕ, true, false, ◌&&◌, List, [], ◌∷◌, Option, None}
+use Rattle.std.specs.Prelude.{◌≡◌, ◌≤◌, ℕ, Bool, true, false, ◌&&◌, ◌||◌, nat_lt, length, List, [], ◌∷◌, Option, None}
 use Rattle.page_state.specs.declared.step.Step.{Step}
 use Rattle.page_state.specs.Layouts.{Layout, is_memory}
+use Rattle.guest_component.specs.Changing.{MakesNone}
 use Rattle.component.specs.View.{HasRoomFor, need_for}
 use Rattle.table_tree.specs.View.{spares_of}
 use Rattle.guest_steps.specs.declared.parts.SharedPart.{SharedPart}
@@ -12,11 +13,11 @@ use Rattle.reference_model.specs.declared.changes.SlotChange.TheVariants.{Keep a
 use Rattle.reference_model.specs.Changes.{touched}
 use Rattle.reference_model.specs.RowChanges.{first_of, told_row}
 use Rattle.reference_model.specs.Rules.{may_grow}
-use Rattle.reference_model.specs.State.{Shared}
-use Rattle.reference_model.specs.Step.{is_touched}
+use Rattle.reference_model.specs.State.{Shared, Guest}
+use Rattle.reference_model.specs.Step.{is_touched, shared_need, guest_need}
 
--- the guest, which no call fills yet, stays
-pub record IsUnfilled (h : Changes) : Type 0 where
+-- nothing changes of the guest
+pub record LeavesGuest (h : Changes) : Type 0 where
   pub guest : h.guest ≡ None
   pub part : h.part ≡ KeepGuest
 
@@ -36,10 +37,11 @@ IsLentOr Stays (p ∷ (q ∷ ps)) = ⊥
 pub record OnlyLent {A : Type 0} (h : Changes) (x : Lent A) : Type 0 where
   pub vms : IsLentOr (h.slot ≡ KeepSlots) x.vms
   pub shared : IsLentOr (LeavesShared h) x.shared
+  pub guest : IsLentOr (LeavesGuest h) x.guest
 
--- a step that takes no memory changes neither map
+-- a step that takes no memory changes no map, and makes no guest
 abbrev pub GrowsOnly : Step → Changes → Type 0
-GrowsOnly step h = may_grow step ≡ false → (h.host ≡ None) × (h.hyp ≡ None)
+GrowsOnly step h = may_grow step ≡ false → (h.host ≡ None) × (h.hyp ≡ None) × (h.guest ≡ None) × MakesNone h.part
 
 -- no growth can be needed: both maplets have the room that a change asks, and each tree a spare for each table that it needs
 pub record IsRoomy {A : Type 0} (h : Changes) (s : SharedPart A) : Type 0 where
@@ -47,6 +49,10 @@ pub record IsRoomy {A : Type 0} (h : Changes) (s : SharedPart A) : Type 0 where
   pub hyp : HasRoomFor h.hyp s.hyp.maplets
   pub host_spares : need_for s.host.tree h.host ≤ spares_of s.host.tree
   pub hyp_spares : need_for s.hyp.tree h.hyp ≤ spares_of s.hyp.tree
+
+-- a pool has fewer free frames than the changes need on its trees
+abbrev pub is_either_short : ℕ → Changes → Shared → Guest → Bool
+is_either_short depth h x g = nat_lt (length x.free) (shared_need depth h x) || nat_lt (length g.free) (guest_need depth h g)
 
 -- the Shared part with the told rows at the touched range, where that is memory
 abbrev pub rows_told : Layout → ℕ → Option ℕ → Changes → Shared → Shared

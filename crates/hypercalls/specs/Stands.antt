@@ -10,7 +10,7 @@ use Rattle.reference_model.specs.State.{Reference, no_vms, no_shared, no_guest, 
 use Rattle.guest_steps.specs.declared.parts.CpuState.{CpuState}
 use Rattle.guest_steps.specs.declared.parts.GuestPart.{GuestPart}
 use Rattle.guest_steps.specs.Lent.{one}
-use Rattle.guest_steps.specs.View.{vm_slots, shared_of, guest_of, cpu_of}
+use Rattle.guest_steps.specs.View.{vm_slots, shared_of, guest_held, cpu_of}
 use Rattle.hypercalls.specs.declared.parts.Parts.{Parts}
 
 -- a list's length where its one part is used
@@ -42,7 +42,7 @@ module _ {A : Type 0} (p : Parts A) where
   kept_of = record {
     vms = (one no_vms vm_slots p.vms.items, one [] (λ v. v.log.calls) p.vms.items);
     shared = (one no_shared shared_of p.shared.items, one [] (λ s. s.log.calls) p.shared.items);
-    guest = λ v. (at_place no_guest guest_of (slice_get p.guests.items v), at_place [] (λ g. g.log.calls) (slice_get p.guests.items v));
+    guest = λ v. (at_place no_guest guest_held (slice_get p.guests.items v), at_place [] (λ g. g.log.calls) (slice_get p.guests.items v));
     cpu = λ c. (at_place no_cpu cpu_of (slice_get p.cpus.items c), at_place [] (λ k. k.log.calls) (slice_get p.cpus.items c));
   }
 

@@ -9,6 +9,7 @@ use Rattle.reference_model.specs.declared.changes.Changes.{Changes}
 use Rattle.reference_model.specs.Answers.{decides}
 use Rattle.reference_model.specs.History.{IsStored}
 use Rattle.reference_model.specs.Step.{StepsOn}
+use Rattle.guest_component.specs.Plans.{WantsNoMemory}
 use Rattle.guest_steps.specs.Lent.{Lent, LentLogs, Each, used_in, slot_in, logs_in, rooms_in, one, call_in, all_with}
 use Rattle.hypercalls.specs.Carried.{IsRoomy}
 
@@ -18,7 +19,7 @@ any_full g = g.cpu.room == 0 || one false (λ s. s.room == 0) g.vms || one false
 
 -- memory can be wanted: what is decided can need a growth
 abbrev pub CanWantOn : {A : Type 0} → Layout → ℕ → Option ℕ → Step → Lent A → Type 0
-CanWantOn l id slot step x = (h : Changes) → decides l id slot step (used_in x) ≡ Ok h → Each (IsRoomy h) x.shared → ⊥
+CanWantOn l id slot step x = (h : Changes) → decides l id slot step (used_in x) ≡ Ok h → Each (IsRoomy h) x.shared → Each (λ g. WantsNoMemory h g.guest) x.guest → ⊥
 
 -- the step of a CPU on what is lent: it is the reference step there, and the call is stored in each log where none is full, and else nothing changes. Memory is wanted only where it can be
 pub record IsStepOn {A : Type 0} (l : Layout) (id : ℕ) (step : Step) (x : Lent A) (reply : Reply) (y : Lent A) : Type 0 where

@@ -1,5 +1,5 @@
 -- What a step of a CPU does to all parts, by the reference step.
-use Rattle.std.specs.Prelude.{◌≡◌, ℕ, ◌+◌, Bool, true, false, length, Option, Ok}
+use Rattle.std.specs.Prelude.{◌≡◌, ℕ, ◌+◌, Bool, true, false, length, slice_get, Option, Some, Ok}
 use Rattle.page_state.specs.declared.reply.Call.{Call}
 use Rattle.page_state.specs.declared.reply.Refusal.TheVariants.{NoMemory}
 use Rattle.page_state.specs.declared.reply.Reply.{Reply}
@@ -12,6 +12,8 @@ use Rattle.reference_model.specs.Laws.{StoresCall}
 use Rattle.reference_model.specs.Parts.{names, guest_slot}
 use Rattle.reference_model.specs.Step.{Steps, is_full as has_full_log}
 use Rattle.reference_model.specs.Used.{used_of, rooms_of}
+use Rattle.guest_component.specs.Plans.{WantsNoMemory}
+use Rattle.guest_steps.specs.declared.parts.GuestPart.{GuestPart}
 use Rattle.guest_steps.specs.Lent.{Each}
 use Rattle.hypercalls.specs.Carried.{IsRoomy}
 use Rattle.hypercalls.specs.declared.parts.Parts.{Parts}
@@ -30,9 +32,13 @@ module _ {A : Type 0} (p : Parts A) (cpu : ℕ) (step : Step) where
   abbrev pub is_log_full : Bool
   is_log_full = has_full_log (names step) slot_here (rooms_of (names step) slot_here cpu (state_of p).rooms)
 
+  -- memory for the changes of the guest that the step uses, if any, is there already
+  abbrev pub HasRoomyGuest : Changes → Type 0
+  HasRoomyGuest h = (v : ℕ) (g : GuestPart A) → slot_here ≡ Some v → slice_get p.guests.items v ≡ Some g → WantsNoMemory h g.guest
+
   -- memory can be wanted: what is decided can need a growth
   abbrev pub CanWant : Type 0
-  CanWant = (h : Changes) → decides (parts_layout p) cpu slot_here step (used_of (names step) slot_here cpu (state_of p).contents) ≡ Ok h → Each (IsRoomy h) p.shared.items → ⊥
+  CanWant = (h : Changes) → decides (parts_layout p) cpu slot_here step (used_of (names step) slot_here cpu (state_of p).contents) ≡ Ok h → Each (IsRoomy h) p.shared.items → HasRoomyGuest h → ⊥
 
   -- the parts after a step, and its reply: those after the reference step. Where a log is full nothing changes, and else the call is stored in the logs of the parts that it uses and of its CPU. Memory is wanted only where it can be
   pub record IsStep (reply : Reply) (q : Parts A) : Type 0 where

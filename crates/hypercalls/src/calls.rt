@@ -2,7 +2,7 @@
 ghost use Rattle.std.specs.Prelude.{◌≡◌, true, Some, None, IfOk};
 ghost use Rattle.guest_steps.specs.Lent.{Each, IsLent, SharedSuits, lent, slot_in, used_in};
 ghost use Rattle.guest_steps.specs.View.{cpu_of, shared_of, vm_slots};
-ghost use Rattle.hypercalls.specs.Carried.{GrowsOnly, IsUnfilled};
+ghost use Rattle.hypercalls.specs.Carried.{GrowsOnly};
 ghost use Rattle.hypercalls.specs.Served.{IsServed};
 ghost use Rattle.page_state.specs.LayoutView.{layout_of};
 ghost use Rattle.reference_model.specs.Answers.{decides};
@@ -15,6 +15,9 @@ mod abort;
 mod asks;
 mod donate;
 mod give_back;
+mod guest_alone;
+mod guest_frames;
+mod guest_pages;
 mod hand;
 mod share;
 mod unshare;
@@ -50,7 +53,6 @@ fn change(first: Page, count: u64, entry: Entry) -> Option<MapChange>
 fn decide_vms(vms: &VmPart, id: u64, cpu: &CpuState, step: Step) -> Result<Changes, Refusal>
     requires names { uses_vms (names step) ≡ true }
     ensures decided { (l : ReferenceLayout) → result ≡ decides l id None step (vms_alone (vm_slots vms.now) (cpu_of cpu.now)) }
-    ensures unfilled { IfOk result IsUnfilled }
     ensures grows { IfOk result (GrowsOnly step) }
 {
     match step {
@@ -76,7 +78,6 @@ fn decide_shared<A: Allocator>(
     requires suits { SharedSuits (layout_of layout.now) shared.now }
     requires rely { CanRely (layout_of layout.now) id None step (used_alone (shared_of shared.now) (cpu_of cpu.now)) }
     ensures decided { result ≡ decides (layout_of layout.now) id None step (used_alone (shared_of shared.now) (cpu_of cpu.now)) }
-    ensures unfilled { IfOk result IsUnfilled }
     ensures grows { IfOk result (GrowsOnly step) }
 {
     match step {
@@ -94,13 +95,64 @@ fn decide_shared<A: Allocator>(
     }
 }
 
+/// What a call on the Shared part and a guest decides.
+fn decide_with_guest<A: Allocator>(
+    layout: &Layout,
+    shared: &SharedPart<A>,
+    guest: &Guest<A>,
+    id: u64,
+    slot: u64,
+    cpu: &CpuState,
+    step: Step,
+) -> Result<Changes, Refusal>
+    requires names { names step ≡ shared_and_guest }
+    requires slot { slot < 64 }
+    requires depth { guest_depth guest.now ≡ (layout_of layout.now).depth }
+    requires rely { CanRely (layout_of layout.now) id (Some slot) step (with_guest (shared_of shared.now) (guest_of guest.now) (cpu_of cpu.now)) }
+    ensures decided { result ≡ decides (layout_of layout.now) id (Some slot) step (with_guest (shared_of shared.now) (guest_of guest.now) (cpu_of cpu.now)) }
+    ensures grows { IfOk result (GrowsOnly step) }
+{
+    match step {
+        Step::ShareGuest { pfn, gfn, prot } => decide_share_guest(layout, shared, guest, pfn, gfn, prot),
+        Step::UnshareGuest { vm, gfn } => decide_unshare_guest(layout, shared, guest, vm, gfn),
+        Step::DonateGuest { pfn, gfn } => decide_donate_guest(layout, shared, guest, slot, pfn, gfn),
+        Step::GuestShareHost { gfn } => decide_guest_share_host(layout, shared, guest, gfn),
+        Step::GuestUnshareHost { gfn } => decide_guest_unshare_host(layout, shared, guest, slot, gfn),
+        Step::Install => decide_install(cpu),
+        Step::Topup { vm } => decide_topup(layout, guest, cpu, vm),
+        Step::ReclaimPage { vm, gfn } => decide_reclaim_page(layout, shared, guest, vm, gfn),
+        Step::ReclaimPool { vm } => decide_reclaim_pool(layout, shared, guest, id, slot, cpu, vm),
+        Step::FinishGuest => decide_finish_guest(layout, shared, guest, id, slot, cpu),
+        _ => unreachable!(),
+    }
+}
+
+/// What a call on a guest alone decides.
+fn decide_guest<A: Allocator>(
+    layout: &Layout,
+    guest: &Guest<A>,
+    cpu: &CpuState,
+    step: Step,
+) -> Result<Changes, Refusal>
+    requires names { names step ≡ guest_alone_named }
+    ensures decided { (id slot : ℕ) → result ≡ decides (layout_of layout.now) id (Some slot) step (guest_alone (guest_of guest.now) (cpu_of cpu.now)) }
+    ensures grows { IfOk result (GrowsOnly step) }
+{
+    match step {
+        Step::GuestRelax { gfn, prot } => decide_guest_relax(layout, guest, gfn, prot),
+        Step::GuestTranslate { vm, gfn } => decide_guest_translate(layout, guest, vm, gfn),
+        Step::MarkDying => decide_mark_dying(cpu),
+        _ => unreachable!(),
+    }
+}
+
 /// What a step decides on the parts that it uses, with the slot of its Guest part; a VmId that names no slot uses none. It
 /// asks for a call that is served, for a Shared part of the layout, and for parts that a run leaves.
 pub fn decide<A: Allocator>(
     layout: &Layout,
     vms: &[VmPart],
     shared: &[SharedPart<A>],
-    guest: &[GuestPart],
+    guest: &[GuestPart<A>],
     id: u64,
     slot: Option<u64>,
     cpu: &CpuState,
@@ -112,7 +164,6 @@ pub fn decide<A: Allocator>(
     requires suits { Each (SharedSuits (layout_of layout.now)) shared.now }
     requires rely { CanRely (layout_of layout.now) id slot step (used_in (lent vms.now shared.now guest.now cpu.now)) }
     ensures decided { result ≡ decides (layout_of layout.now) id slot step (used_in (lent vms.now shared.now guest.now cpu.now)) }
-    ensures unfilled { IfOk result IsUnfilled }
     ensures grows { IfOk result (GrowsOnly step) }
 {
     if let Some(part) = vms.first() {

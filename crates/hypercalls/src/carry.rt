@@ -1,17 +1,20 @@
 //! Changes are carried out, for all calls in one place.
-ghost use Rattle.std.specs.Prelude.{◌≡◌, ◌<◌, ◌^◌, ◌↔◌, true, length, map, Err, OnOk, OnErr, unwrap_or};
-ghost use Rattle.guest_steps.specs.Lent.{Each, SharedSuits, lent, one, used_in};
-ghost use Rattle.guest_steps.specs.View.{shared_of, vm_slots};
-ghost use Rattle.hypercalls.specs.Carried.{GrowsOnly, IsLentOr, IsRoomy, IsUnfilled, LeavesShared, OnlyLent, rows_told};
+ghost use Rattle.std.specs.Prelude.{◌≡◌, ◌<◌, ◌^◌, ◌↔◌, true, length, map, nat_lt, Err, OnOk, OnErr, unwrap_or};
+ghost use Rattle.guest_component.specs.Plans.{WantsNoMemory};
+ghost use Rattle.guest_component.specs.View.{guest_depth, guest_of};
+ghost use Rattle.guest_steps.specs.Lent.{Each, GuestSuits, SharedSuits, lent, one, used_in};
+ghost use Rattle.guest_steps.specs.View.{guest_held, shared_of, vm_slots};
+ghost use Rattle.hypercalls.specs.Carried.{GrowsOnly, IsLentOr, IsRoomy, LeavesGuest, LeavesShared, OnlyLent, is_either_short, rows_told};
 ghost use Rattle.page_state.specs.declared.step.Step.{Step};
 ghost use Rattle.page_state.specs.LayoutView.{layout_of};
 ghost use Rattle.reference_model.specs.Answers.{CarriesOut};
-ghost use Rattle.reference_model.specs.ChangeLaws.{AllFit, FitsTable, TouchedFits};
+ghost use Rattle.reference_model.specs.ChangeLaws.{AllFit, FitsTable, PartsFit, TouchedFits};
 ghost use Rattle.reference_model.specs.Changes.{vms_by};
-ghost use Rattle.reference_model.specs.State.{no_shared, no_vms};
-ghost use Rattle.reference_model.specs.Step.{shared_after, shared_need};
+ghost use Rattle.reference_model.specs.State.{no_guest, no_shared, no_vms};
+ghost use Rattle.reference_model.specs.Step.{guest_after, shared_after, shared_need};
 
 use crate::rows::{first_row, touched};
+use guest_component::Guest;
 use guest_steps::{CpuState, GuestPart, SharedPart, VmPart};
 use hyp_pool::PoolFault;
 use page_state::{Layout, Refusal, Reply};
@@ -93,6 +96,95 @@ fn change_shared<A: Allocator + Copy>(
     }
 }
 
+/// Whether the Shared part's pool has fewer free frames than the changes need; where it isn't lent, they need none.
+fn is_shared_short<A: Allocator>(
+    layout: &Layout,
+    changes: &Changes,
+    shared: &[SharedPart<A>],
+) -> bool
+    requires lent { IsLentOr (LeavesShared changes.now) shared.now }
+    requires fit { AllFit (layout_of layout.now).depth changes.now }
+    requires suits { Each (SharedSuits (layout_of layout.now)) shared.now }
+    ensures { result ≡ nat_lt (length (one no_shared shared_of shared.now).free) (shared_need (layout_of layout.now).depth changes.now (one no_shared shared_of shared.now)) }
+{
+    match shared.first() {
+        Some(part) => part.is_short(changes),
+        None => false,
+    }
+}
+
+/// Makes the changes of the Shared part, with its rows, and of the guest, or none of them.
+fn change_with_guest<A: Allocator + Copy>(
+    alloc: A,
+    layout: &Layout,
+    id: u64,
+    slot: Option<u64>,
+    changes: &Changes,
+    shared: &mut [SharedPart<A>],
+    guest: &mut Guest<A>,
+) -> Result<(), PoolFault>
+    requires slot { unwrap_or slot 0 < 2 ^ 32 }
+    requires lent { IsLentOr (LeavesShared changes.now) shared.old }
+    requires fit { AllFit (layout_of layout.now).depth changes.now }
+    requires touched { TouchedFits (layout_of layout.now) id slot changes.now }
+    requires suits { Each (SharedSuits (layout_of layout.now)) shared.old }
+    requires depth { guest_depth guest.old ≡ (layout_of layout.now).depth }
+    requires parts { PartsFit (layout_of layout.now) changes.now (guest_of guest.old) }
+    ensures made { OnOk result (one no_shared shared_of shared.new ≡ rows_told (layout_of layout.now) id slot changes.now (shared_after (layout_of layout.now).depth changes.now (one no_shared shared_of shared.old))) }
+    ensures made_guest { OnOk result (guest_of guest.new ≡ guest_after (layout_of layout.now).depth changes.now (guest_of guest.old)) }
+    ensures no_pool { (result ≡ Err PoolFault.NoPool) ↔ (is_either_short (layout_of layout.now).depth changes.now (one no_shared shared_of shared.old) (guest_of guest.old) ≡ true) }
+    ensures no_memory { result ≡ Err PoolFault.NoMemory → Each (IsRoomy changes.now) shared.old → WantsNoMemory changes.now guest.old → ⊥ }
+    ensures err { OnErr result (one no_shared shared_of shared.new ≡ one no_shared shared_of shared.old) }
+    ensures err_guest { OnErr result (guest_of guest.new ≡ guest_of guest.old) }
+    ensures suits { Each (SharedSuits (layout_of layout.now)) shared.new }
+    ensures depth { guest_depth guest.new ≡ guest_depth guest.old }
+    ensures log { map (λ p. p.log) shared.new ≡ map (λ p. p.log) shared.old }
+{
+    if is_shared_short(layout, changes, shared) {
+        return Err(PoolFault::NoPool);
+    }
+    let plan = guest.reserve(alloc, changes)?;
+    change_shared(alloc, layout, id, slot, changes, shared)?;
+    guest.commit(alloc, changes, plan);
+    Ok(())
+}
+
+/// The same with the guest's part as a list of one, or without a guest, of which nothing changes then.
+fn change_maps<A: Allocator + Copy>(
+    alloc: A,
+    layout: &Layout,
+    id: u64,
+    slot: Option<u64>,
+    changes: &Changes,
+    shared: &mut [SharedPart<A>],
+    guest: &mut [GuestPart<A>],
+) -> Result<(), PoolFault>
+    requires slot { unwrap_or slot 0 < 2 ^ 32 }
+    requires lent { IsLentOr (LeavesShared changes.now) shared.old }
+    requires guest_lent { IsLentOr (LeavesGuest changes.now) guest.old }
+    requires fit { AllFit (layout_of layout.now).depth changes.now }
+    requires touched { TouchedFits (layout_of layout.now) id slot changes.now }
+    requires suits { Each (SharedSuits (layout_of layout.now)) shared.old }
+    requires guest_suits { Each (GuestSuits (layout_of layout.now)) guest.old }
+    requires parts { PartsFit (layout_of layout.now) changes.now (one no_guest guest_held guest.old) }
+    ensures made { OnOk result (one no_shared shared_of shared.new ≡ rows_told (layout_of layout.now) id slot changes.now (shared_after (layout_of layout.now).depth changes.now (one no_shared shared_of shared.old))) }
+    ensures made_guest { OnOk result (one no_guest guest_held guest.new ≡ guest_after (layout_of layout.now).depth changes.now (one no_guest guest_held guest.old)) }
+    ensures no_pool { (result ≡ Err PoolFault.NoPool) ↔ (is_either_short (layout_of layout.now).depth changes.now (one no_shared shared_of shared.old) (one no_guest guest_held guest.old) ≡ true) }
+    ensures no_memory { result ≡ Err PoolFault.NoMemory → Each (IsRoomy changes.now) shared.old → Each (λ g. WantsNoMemory changes.now g.guest) guest.old → ⊥ }
+    ensures err { OnErr result (one no_shared shared_of shared.new ≡ one no_shared shared_of shared.old) }
+    ensures err_guest { OnErr result (one no_guest guest_held guest.new ≡ one no_guest guest_held guest.old) }
+    ensures suits { Each (SharedSuits (layout_of layout.now)) shared.new }
+    ensures guest_suits { Each (GuestSuits (layout_of layout.now)) guest.new }
+    ensures log { map (λ p. p.log) shared.new ≡ map (λ p. p.log) shared.old }
+    ensures guest_log { map (λ p. p.log) guest.new ≡ map (λ p. p.log) guest.old }
+{
+    if let [part] = guest {
+        change_with_guest(alloc, layout, id, slot, changes, shared, &mut part.guest)
+    } else {
+        change_shared(alloc, layout, id, slot, changes, shared)
+    }
+}
+
 /// Makes the change of the slots where the VM part is lent; where it isn't, they stay.
 fn change_vms(change: &SlotChange, vms: &mut [VmPart])
     requires lent { IsLentOr (change.now ≡ SlotChange.Keep) vms.old }
@@ -106,8 +198,8 @@ fn change_vms(change: &SlotChange, vms: &mut [VmPart])
 }
 
 /// Carries changes out, or nothing: NoPool where a pool has too few free frames, and NoMemory only where a tree has too few
-/// spares, or maplets no room, and memory was refused. It asks that the changes fit, that what they change is lent, and that
-/// they leave the guests, which no call fills yet.
+/// spares, or maplets no room, or a guest is made, and memory was refused. It asks that the changes fit, and that what they
+/// change is lent.
 pub fn carry_out<A: Allocator + Copy>(
     alloc: A,
     layout: &Layout,
@@ -116,24 +208,26 @@ pub fn carry_out<A: Allocator + Copy>(
     changes: &Changes,
     vms: &mut [VmPart],
     shared: &mut [SharedPart<A>],
-    guest: &[GuestPart],
+    guest: &mut [GuestPart<A>],
     cpu: &mut CpuState,
 ) -> Reply
     requires slot { unwrap_or slot 0 < 2 ^ 32 }
-    requires unfilled { IsUnfilled changes.now }
-    requires lent { OnlyLent changes.now (lent vms.old shared.old guest.now cpu.old) }
+    requires lent { OnlyLent changes.now (lent vms.old shared.old guest.old cpu.old) }
     requires fit { AllFit (layout_of layout.now).depth changes.now }
-    requires slots { FitsTable changes.now.slot }
+    requires parts { PartsFit (layout_of layout.now) changes.now (one no_guest guest_held guest.old) }
     requires touched { TouchedFits (layout_of layout.now) id slot changes.now }
     requires suits { Each (SharedSuits (layout_of layout.now)) shared.old }
-    ensures carried { (step : Step) → GrowsOnly step changes.now → CarriesOut (layout_of layout.now) id slot step true changes.now (used_in (lent vms.old shared.old guest.now cpu.old)) result (used_in (lent vms.new shared.new guest.now cpu.new)) }
-    ensures wants { result ≡ Reply.Refused Refusal.NoMemory → Each (IsRoomy changes.now) shared.old → ⊥ }
+    requires guest_suits { Each (GuestSuits (layout_of layout.now)) guest.old }
+    ensures carried { (step : Step) → GrowsOnly step changes.now → CarriesOut (layout_of layout.now) id slot step true changes.now (used_in (lent vms.old shared.old guest.old cpu.old)) result (used_in (lent vms.new shared.new guest.new cpu.new)) }
+    ensures wants { result ≡ Reply.Refused Refusal.NoMemory → Each (IsRoomy changes.now) shared.old → Each (λ g. WantsNoMemory changes.now g.guest) guest.old → ⊥ }
     ensures suits { Each (SharedSuits (layout_of layout.now)) shared.new }
+    ensures guest_suits { Each (GuestSuits (layout_of layout.now)) guest.new }
     ensures vms_log { map (λ p. p.log) vms.new ≡ map (λ p. p.log) vms.old }
     ensures log { map (λ p. p.log) shared.new ≡ map (λ p. p.log) shared.old }
+    ensures guest_log { map (λ p. p.log) guest.new ≡ map (λ p. p.log) guest.old }
     ensures own_log { cpu.new.log ≡ cpu.old.log }
 {
-    match change_shared(alloc, layout, id, slot, changes, shared) {
+    match change_maps(alloc, layout, id, slot, changes, shared, guest) {
         Ok(()) => {
             change_vms(&changes.slot, vms);
             cpu.change(&changes.cpu);

@@ -1,7 +1,8 @@
 //! The one place that knows what a step uses: it tests the logs, decides, carries out and stores.
 ghost use Rattle.std.specs.Prelude.{◌≡◌, ◌<◌, ◌≤◌, ◌==◌, true, false, length, map};
-ghost use Rattle.guest_steps.specs.Lent.{Each, IsLent, SharedSuits, Suits, all_with, lent, logs_in, one, slot_in, used_in, with_call};
-ghost use Rattle.guest_steps.specs.View.{cpu_of, depth_of, guest_of, shared_of, vm_slots};
+ghost use Rattle.guest_component.specs.View.{guest_depth};
+ghost use Rattle.guest_steps.specs.Lent.{Each, GuestSuits, IsLent, SharedSuits, Suits, all_with, lent, logs_in, one, slot_in, used_in, with_call};
+ghost use Rattle.guest_steps.specs.View.{cpu_of, depth_of, guest_held, shared_of, vm_slots};
 ghost use Rattle.hypercalls.specs.Served.{IsServed};
 ghost use Rattle.hypercalls.specs.Steps.{CanWantOn, IsStepOn, any_full};
 ghost use Rattle.page_state.specs.LayoutView.{layout_of};
@@ -101,7 +102,7 @@ fn is_shared_full<A: Allocator>(shared: &[SharedPart<A>]) -> bool
 }
 
 /// Whether the Guest part's log is full, where it is lent.
-fn is_guest_full(guest: &[GuestPart]) -> bool
+fn is_guest_full<A: Allocator>(guest: &[GuestPart<A>]) -> bool
     requires { length guest.now ≤ 1 }
     ensures { result ≡ one false (λ g. g.room == 0) (map (λ p. p.log) guest.now) }
 {
@@ -115,7 +116,7 @@ fn is_guest_full(guest: &[GuestPart]) -> bool
 fn is_any_full<A: Allocator>(
     vms: &[VmPart],
     shared: &[SharedPart<A>],
-    guest: &[GuestPart],
+    guest: &[GuestPart<A>],
     cpu: &CpuState,
 ) -> bool
     requires { (length vms.now ≤ 1) × (length shared.now ≤ 1) × (length guest.now ≤ 1) }
@@ -158,9 +159,10 @@ fn store_shared<A: Allocator>(shared: &mut [SharedPart<A>], call: Call)
 }
 
 /// Stores a call in the Guest part's log, where it is lent.
-fn store_guest(guest: &mut [GuestPart], call: Call)
+fn store_guest<A: Allocator>(guest: &mut [GuestPart<A>], call: Call)
     requires { (length guest.old ≤ 1) × (one false (λ g. g.room == 0) (map (λ p. p.log) guest.old) ≡ false) }
-    ensures same { one no_guest guest_of guest.new ≡ one no_guest guest_of guest.old }
+    ensures same { one no_guest guest_held guest.new ≡ one no_guest guest_held guest.old }
+    ensures depth { map (λ g. guest_depth g.guest) guest.new ≡ map (λ g. guest_depth g.guest) guest.old }
     ensures log { map (λ p. p.log) guest.new ≡ map (with_call call) (map (λ p. p.log) guest.old) }
 {
     if let [part] = guest {
@@ -172,7 +174,7 @@ fn store_guest(guest: &mut [GuestPart], call: Call)
 fn store<A: Allocator>(
     vms: &mut [VmPart],
     shared: &mut [SharedPart<A>],
-    guest: &mut [GuestPart],
+    guest: &mut [GuestPart<A>],
     cpu: &mut CpuState,
     call: Call,
 )
@@ -194,22 +196,25 @@ fn answer<A: Allocator + Copy>(
     layout: &Layout,
     vms: &mut [VmPart],
     shared: &mut [SharedPart<A>],
-    guest: &[GuestPart],
+    guest: &mut [GuestPart<A>],
     id: u64,
     slot: Option<u64>,
     cpu: &mut CpuState,
     step: Step,
 ) -> Reply
     requires served { IsServed step }
-    requires slot { slot ≡ slot_in (lent vms.old shared.old guest.now cpu.old) step }
-    requires lent { IsLent (names step) slot (lent vms.old shared.old guest.now cpu.old) }
+    requires slot { slot ≡ slot_in (lent vms.old shared.old guest.old cpu.old) step }
+    requires lent { IsLent (names step) slot (lent vms.old shared.old guest.old cpu.old) }
     requires suits { Each (SharedSuits (layout_of layout.now)) shared.old }
-    requires rely { CanRely (layout_of layout.now) id slot step (used_in (lent vms.old shared.old guest.now cpu.old)) }
-    ensures answered { Answered (layout_of layout.now) id slot step true (used_in (lent vms.old shared.old guest.now cpu.old)) result (used_in (lent vms.new shared.new guest.now cpu.new)) }
-    ensures wants { result ≡ Reply.Refused Refusal.NoMemory → CanWantOn (layout_of layout.now) id slot step (lent vms.old shared.old guest.now cpu.old) }
+    requires guest_suits { Each (GuestSuits (layout_of layout.now)) guest.old }
+    requires rely { CanRely (layout_of layout.now) id slot step (used_in (lent vms.old shared.old guest.old cpu.old)) }
+    ensures answered { Answered (layout_of layout.now) id slot step true (used_in (lent vms.old shared.old guest.old cpu.old)) result (used_in (lent vms.new shared.new guest.new cpu.new)) }
+    ensures wants { result ≡ Reply.Refused Refusal.NoMemory → CanWantOn (layout_of layout.now) id slot step (lent vms.old shared.old guest.old cpu.old) }
     ensures suits { Each (SharedSuits (layout_of layout.now)) shared.new }
+    ensures guest_suits { Each (GuestSuits (layout_of layout.now)) guest.new }
     ensures vms_log { map (λ p. p.log) vms.new ≡ map (λ p. p.log) vms.old }
     ensures log { map (λ p. p.log) shared.new ≡ map (λ p. p.log) shared.old }
+    ensures guest_log { map (λ p. p.log) guest.new ≡ map (λ p. p.log) guest.old }
     ensures own_log { cpu.new.log ≡ cpu.old.log }
 {
     laws::change_laws();
@@ -229,7 +234,7 @@ pub fn step_on<A: Allocator + Copy>(
     layout: &Layout,
     vms: &mut [VmPart],
     shared: &mut [SharedPart<A>],
-    guest: &mut [GuestPart],
+    guest: &mut [GuestPart<A>],
     id: u64,
     cpu: &mut CpuState,
     step: Step,

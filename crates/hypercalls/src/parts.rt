@@ -17,7 +17,7 @@ pub struct Parts<A: Allocator> {
     pub layout: Layout,
     pub vms: Vec<VmPart>,
     pub shared: Vec<SharedPart<A>>,
-    pub guests: Vec<GuestPart>,
+    pub guests: Vec<GuestPart<A>>,
     pub cpus: Vec<CpuState>,
     pub ghost one_vms: { vec_len vms ≡ 1 },
     pub ghost one_shared: { vec_len shared ≡ 1 },
@@ -27,6 +27,7 @@ pub struct Parts<A: Allocator> {
     pub ghost shared_log: { All (λ s. IsOfSize layout.config.log s.log) shared.items },
     pub ghost depth: { All (λ s. levels_below s.host.tree.geometry ≡ levels_below layout.geometry) shared.items },
     pub ghost rows: { All (λ s. HasMemoryRows layout.map s.rows) shared.items },
+    pub ghost guest_depth: { All (λ g. levels_below g.guest.geometry ≡ levels_below layout.geometry) guests.items },
     pub ghost guest_logs: { All (λ g. IsOfSize layout.config.log g.log) guests.items },
     pub ghost own_logs: { All (λ k. IsOfSize layout.config.log k.log) cpus.items },
 }

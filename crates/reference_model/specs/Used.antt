@@ -18,6 +18,14 @@ used_alone s k = record { vms = no_vms; shared = s; guest = no_guest; cpu = k }
 abbrev pub vms_alone : Vms → Cpu → Used
 vms_alone v k = record { vms = v; shared = no_shared; guest = no_guest; cpu = k }
 
+-- what a call uses that uses a Guest part alone
+abbrev pub guest_alone : Guest → Cpu → Used
+guest_alone g k = record { vms = no_vms; shared = no_shared; guest = g; cpu = k }
+
+-- what a call uses that uses the Shared part and a Guest part
+abbrev pub with_guest : Shared → Guest → Cpu → Used
+with_guest s g k = record { vms = no_vms; shared = s; guest = g; cpu = k }
+
 -- the guest of a slot, where there is one
 abbrev pub guest_at : (ℕ → Guest) → Option ℕ → Guest
 guest_at guests None = no_guest

@@ -24,7 +24,7 @@ use Rattle.guest_steps.specs.declared.parts.SharedPart.{SharedPart}
 use Rattle.guest_steps.specs.declared.parts.VmPart.{VmPart}
 use Rattle.guest_steps.specs.Lent.{one}
 use Rattle.guest_steps.specs.Logs.{StoredCalls, IsNewLog}
-use Rattle.guest_steps.specs.View.{vm_slots, shared_of, guest_of, cpu_of}
+use Rattle.guest_steps.specs.View.{vm_slots, shared_of, guest_held, cpu_of}
 use Rattle.hypercalls.specs.declared.parts.Parts.{Parts}
 use Rattle.hypercalls.specs.Stands.{at_place, parts_layout, kept_of}
 use Rattle.page_state.proofs.Cases.{by_test}
@@ -60,7 +60,7 @@ one_is f blank [] h = refl
 one_is f blank (x ∷ xs) h = h 0 x (omega arith)
 
 -- no call fills a guest yet
-blank_is : (o : Option GuestPart) → at_place no_guest guest_of o ≡ no_guest
+blank_is : (o : Option GuestPart) → at_place no_guest guest_held o ≡ no_guest
 blank_is None = refl
 blank_is (Some g) = refl
 
@@ -89,14 +89,14 @@ module _ {A : Type 0} (m : Memory) (c : Config) (g : Geometry) (p : Parts A) (s 
   slots_are : one no_vms vm_slots p.vms.items ≡ no_vms
   slots_are = one_is vm_slots no_vms p.vms.items vacant
 
-  guest_is : (v : ℕ) → at_place no_guest guest_of (slice_get p.guests.items v) ≡ no_guest
+  guest_is : (v : ℕ) → at_place no_guest guest_held (slice_get p.guests.items v) ≡ no_guest
   guest_is v = blank_is (slice_get p.guests.items v)
 
   none : HasNoCalls p
   none = record {
     vms = one_empty (λ (v : VmPart). v.log) c.log p.vms.items vms_log;
     shared = ap (one [] (λ (x : SharedPart A). x.log.calls)) alone ∙ shared_log.empty;
-    guests = λ v. each_empty (λ (x : GuestPart). x.log) c.log p.guests.items v new;
+    guests = λ v. each_empty (λ (x : GuestPart A). x.log) c.log p.guests.items v new;
     cpus = λ v. each_empty (λ (x : CpuState). x.log) c.log p.cpus.items v (λ k d less. (idle k d less).log);
   }
 

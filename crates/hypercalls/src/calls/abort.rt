@@ -1,7 +1,6 @@
 //! The host touches a page, and gets it mapped where it may.
-ghost use Rattle.std.specs.Prelude.{◌≡◌, ℕ, ◌≤◌, None, IfOk};
+ghost use Rattle.std.specs.Prelude.{◌≡◌, ℕ, ◌≤◌, None};
 ghost use Rattle.guest_steps.specs.View.{shared_of};
-ghost use Rattle.hypercalls.specs.Carried.{IsUnfilled};
 ghost use Rattle.page_state.specs.LayoutView.{layout_of};
 ghost use Rattle.reference_model.specs.Answers.{decides};
 ghost use Rattle.reference_model.specs.State.{Cpu};
@@ -79,7 +78,6 @@ pub(crate) fn decide_host_abort<A: Allocator>(
     page: u64,
 ) -> Result<Changes, Refusal>
     ensures decided { (cpu : ℕ) (k : Cpu) → result ≡ decides (layout_of layout.now) cpu None (HostAbort page) (used_alone (shared_of shared.now) k) }
-    ensures unfilled { IfOk result IsUnfilled }
 {
     let Some(region) = layout.map.region_of(Page(page)) else {
         return Err(Refusal::Invalid);

@@ -2,7 +2,7 @@
 ghost use Rattle.std.specs.Prelude.{◌≡◌, ℕ, None, IfOk};
 ghost use Rattle.guest_steps.specs.Lent.{SharedSuits};
 ghost use Rattle.guest_steps.specs.View.{shared_of};
-ghost use Rattle.hypercalls.specs.Carried.{GrowsOnly, IsUnfilled};
+ghost use Rattle.hypercalls.specs.Carried.{GrowsOnly};
 ghost use Rattle.page_state.specs.declared.step.Step.TheVariants.{HostTranslate, HypTranslate, OwnerOf};
 ghost use Rattle.page_state.specs.LayoutView.{layout_of};
 ghost use Rattle.reference_model.specs.Answers.{decides};
@@ -22,7 +22,6 @@ pub(crate) fn decide_host_translate<A: Allocator>(
     page: u64,
 ) -> Result<Changes, Refusal>
     ensures decided { (cpu : ℕ) (k : Cpu) → result ≡ decides (layout_of layout.now) cpu None (HostTranslate page) (used_alone (shared_of shared.now) k) }
-    ensures unfilled { IfOk result IsUnfilled }
     ensures grows { IfOk result (GrowsOnly (HostTranslate page)) }
 {
     if page >= layout.geometry.pages() {
@@ -42,7 +41,6 @@ pub(crate) fn decide_hyp_translate<A: Allocator>(
     page: u64,
 ) -> Result<Changes, Refusal>
     ensures decided { (cpu : ℕ) (k : Cpu) → result ≡ decides (layout_of layout.now) cpu None (HypTranslate page) (used_alone (shared_of shared.now) k) }
-    ensures unfilled { IfOk result IsUnfilled }
     ensures grows { IfOk result (GrowsOnly (HypTranslate page)) }
 {
     if page >= layout.geometry.pages() {
@@ -63,7 +61,6 @@ pub(crate) fn decide_owner_of<A: Allocator>(
 ) -> Result<Changes, Refusal>
     requires suits { SharedSuits (layout_of layout.now) shared.now }
     ensures decided { (cpu : ℕ) (k : Cpu) → result ≡ decides (layout_of layout.now) cpu None (OwnerOf pfn) (used_alone (shared_of shared.now) k) }
-    ensures unfilled { IfOk result IsUnfilled }
     ensures grows { IfOk result (GrowsOnly (OwnerOf pfn)) }
 {
     if !layout.map.is_memory(Page(pfn)) {

@@ -1,7 +1,6 @@
 //! The host gives a range of frames to the hypervisor.
-ghost use Rattle.std.specs.Prelude.{◌≡◌, ℕ, ◌+◌, ◌<◌, ◌≤◌, ◌^◌, ◌&&◌, None, IfOk};
+ghost use Rattle.std.specs.Prelude.{◌≡◌, ℕ, ◌+◌, ◌<◌, ◌≤◌, ◌^◌, ◌&&◌, None};
 ghost use Rattle.guest_steps.specs.View.{shared_of};
-ghost use Rattle.hypercalls.specs.Carried.{IsUnfilled};
 ghost use Rattle.page_state.specs.EntryTests.{is_free_page as is_free_entry, is_unmapped};
 ghost use Rattle.page_state.specs.Layouts.{hyp_page as hyp_page_of};
 ghost use Rattle.page_state.specs.LayoutView.{layout_of};
@@ -51,7 +50,6 @@ pub(crate) fn decide_donate_hyp<A: Allocator>(
     n: u64,
 ) -> Result<Changes, Refusal>
     ensures decided { (cpu : ℕ) (k : Cpu) → result ≡ decides (layout_of layout.now) cpu None (DonateHyp pfn n) (used_alone (shared_of shared.now) k) }
-    ensures unfilled { IfOk result IsUnfilled }
 {
     if !layout.is_good_range(Page(pfn), n) {
         return Err(Refusal::Invalid);

@@ -1,8 +1,7 @@
 //! The hypervisor gives a range of frames back to the host.
-ghost use Rattle.std.specs.Prelude.{◌≡◌, ℕ, ◌+◌, ◌<◌, ◌≤◌, ◌^◌, None, IfOk, IsSome};
+ghost use Rattle.std.specs.Prelude.{◌≡◌, ℕ, ◌+◌, ◌<◌, ◌≤◌, ◌^◌, None, IsSome};
 ghost use Rattle.guest_steps.specs.Lent.{SharedSuits};
 ghost use Rattle.guest_steps.specs.View.{shared_of};
-ghost use Rattle.hypercalls.specs.Carried.{IsUnfilled};
 ghost use Rattle.page_state.specs.LayoutView.{layout_of};
 ghost use Rattle.reference_model.specs.Answers.{decides};
 ghost use Rattle.reference_model.specs.State.{Cpu};
@@ -56,7 +55,6 @@ pub(crate) fn decide_hyp_donate_host<A: Allocator>(
 ) -> Result<Changes, Refusal>
     requires suits { SharedSuits (layout_of layout.now) shared.now }
     ensures decided { (cpu : ℕ) (k : Cpu) → result ≡ decides (layout_of layout.now) cpu None (HypDonateHost pfn n) (used_alone (shared_of shared.now) k) }
-    ensures unfilled { IfOk result IsUnfilled }
 {
     if !layout.is_good_range(Page(pfn), n) {
         return Err(Refusal::Invalid);

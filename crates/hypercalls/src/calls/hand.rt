@@ -1,7 +1,6 @@
 //! The host funds a CPU: a range of its frames goes into the CPU's hand, and out of it again.
-ghost use Rattle.std.specs.Prelude.{◌≡◌, ℕ, None, IfOk};
+ghost use Rattle.std.specs.Prelude.{◌≡◌, ℕ, None};
 ghost use Rattle.guest_steps.specs.View.{cpu_of, shared_of};
-ghost use Rattle.hypercalls.specs.Carried.{IsUnfilled};
 ghost use Rattle.page_state.specs.LayoutView.{layout_of};
 ghost use Rattle.reference_model.specs.Answers.{decides};
 ghost use Rattle.reference_model.specs.Rely.{CanRely};
@@ -27,7 +26,6 @@ pub(crate) fn decide_fund<A: Allocator>(
     n: u64,
 ) -> Result<Changes, Refusal>
     ensures decided { (id : ℕ) → result ≡ decides (layout_of layout.now) id None (Fund pfn n) (used_alone (shared_of shared.now) (cpu_of cpu.now)) }
-    ensures unfilled { IfOk result IsUnfilled }
 {
     if !layout.is_good_range(Page(pfn), n) {
         return Err(Refusal::Invalid);
@@ -62,7 +60,6 @@ pub(crate) fn decide_unfund<A: Allocator>(
 ) -> Result<Changes, Refusal>
     requires rely { CanRely (layout_of layout.now) id None Unfund (used_alone (shared_of shared.now) (cpu_of cpu.now)) }
     ensures decided { result ≡ decides (layout_of layout.now) id None Unfund (used_alone (shared_of shared.now) (cpu_of cpu.now)) }
-    ensures unfilled { IfOk result IsUnfilled }
 {
     let Some(hand) = cpu.hand else {
         return Err(Refusal::Perm);

@@ -1,7 +1,6 @@
 //! The host takes back what it shares with the hypervisor.
-ghost use Rattle.std.specs.Prelude.{◌≡◌, ℕ, None, IfOk};
+ghost use Rattle.std.specs.Prelude.{◌≡◌, ℕ, None};
 ghost use Rattle.guest_steps.specs.View.{shared_of};
-ghost use Rattle.hypercalls.specs.Carried.{IsUnfilled};
 ghost use Rattle.page_state.specs.LayoutView.{layout_of};
 ghost use Rattle.reference_model.specs.Answers.{decides};
 ghost use Rattle.reference_model.specs.State.{Cpu};
@@ -24,7 +23,6 @@ pub(crate) fn decide_unshare_hyp<A: Allocator>(
     pfn: u64,
 ) -> Result<Changes, Refusal>
     ensures decided { (cpu : ℕ) (k : Cpu) → result ≡ decides (layout_of layout.now) cpu None (UnshareHyp pfn) (used_alone (shared_of shared.now) k) }
-    ensures unfilled { IfOk result IsUnfilled }
 {
     if !layout.map.is_memory(Page(pfn)) {
         return Err(Refusal::Invalid);

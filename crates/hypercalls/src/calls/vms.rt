@@ -1,7 +1,7 @@
 //! The calls on the VM part: a slot is reserved, opened, closed and released, and vCPUs are loaded and put back.
 ghost use Rattle.std.specs.Prelude.{◌≡◌, ℕ, ◌||◌, true, false, None, Some, IfOk, MatchOption};
 ghost use Rattle.guest_steps.specs.View.{cpu_of};
-ghost use Rattle.hypercalls.specs.Carried.{GrowsOnly, IsUnfilled};
+ghost use Rattle.hypercalls.specs.Carried.{GrowsOnly};
 ghost use Rattle.page_state.specs.Layouts.{Layout as ReferenceLayout};
 ghost use Rattle.reference_model.specs.Answers.{decides};
 ghost use Rattle.reference_model.specs.Parts.{has_stage};
@@ -51,7 +51,7 @@ fn ticket_at_end(cpu: &CpuState) -> Option<Ticket>
 }
 
 /// The CPU's ticket becomes this.
-fn ticket_becomes(ticket: Option<Ticket>) -> CpuChange
+pub(crate) fn ticket_becomes(ticket: Option<Ticket>) -> CpuChange
     ensures { result ≡ record same_cpu { ticket = Becomes ticket } }
 {
     CpuChange {
@@ -79,7 +79,6 @@ pub(crate) fn decide_vm_reserve(
     vcpus: u64,
 ) -> Result<Changes, Refusal>
     ensures decided { (l : ReferenceLayout) (id : ℕ) → result ≡ decides l id None (VmReserve kind vcpus) (vms_alone (vms_of table.now) (cpu_of cpu.now)) }
-    ensures unfilled { IfOk result IsUnfilled }
     ensures grows { IfOk result (GrowsOnly (VmReserve kind vcpus)) }
 {
     if !(1..=MOST_VCPUS).contains(&vcpus) {
@@ -111,7 +110,6 @@ pub(crate) fn decide_vm_reserve(
 #[tactic(auto, unfolding(reference_model::specs::Rules::rule))]
 pub(crate) fn decide_vm_open(table: &VmTable, cpu: &CpuState) -> Result<Changes, Refusal>
     ensures decided { (l : ReferenceLayout) (id : ℕ) → result ≡ decides l id None VmOpen (vms_alone (vms_of table.now) (cpu_of cpu.now)) }
-    ensures unfilled { IfOk result IsUnfilled }
     ensures grows { IfOk result (GrowsOnly VmOpen) }
 {
     let Some(ticket) = ticket_at(Stage::Installed, cpu) else {
@@ -137,7 +135,6 @@ pub(crate) fn decide_vcpu_load(
     vcpu: u64,
 ) -> Result<Changes, Refusal>
     ensures decided { (l : ReferenceLayout) → result ≡ decides l id None (VcpuLoad vm vcpu) (vms_alone (vms_of table.now) (cpu_of cpu.now)) }
-    ensures unfilled { IfOk result IsUnfilled }
     ensures grows { IfOk result (GrowsOnly (VcpuLoad vm vcpu)) }
 {
     if vm.slot >= SLOTS || vcpu >= MOST_VCPUS {
@@ -167,7 +164,6 @@ pub(crate) fn decide_vcpu_load(
 #[tactic(auto, unfolding(reference_model::specs::Rules::rule))]
 pub(crate) fn decide_vcpu_put(table: &VmTable, cpu: &CpuState) -> Result<Changes, Refusal>
     ensures decided { (l : ReferenceLayout) (id : ℕ) → result ≡ decides l id None VcpuPut (vms_alone (vms_of table.now) (cpu_of cpu.now)) }
-    ensures unfilled { IfOk result IsUnfilled }
     ensures grows { IfOk result (GrowsOnly VcpuPut) }
 {
     let Some(loaded) = cpu.loaded else {
@@ -187,7 +183,6 @@ pub(crate) fn decide_vcpu_put(table: &VmTable, cpu: &CpuState) -> Result<Changes
 #[tactic(auto, unfolding(reference_model::specs::Rules::rule))]
 pub(crate) fn decide_teardown(table: &VmTable, cpu: &CpuState, vm: VmId) -> Result<Changes, Refusal>
     ensures decided { (l : ReferenceLayout) (id : ℕ) → result ≡ decides l id None (Teardown vm) (vms_alone (vms_of table.now) (cpu_of cpu.now)) }
-    ensures unfilled { IfOk result IsUnfilled }
     ensures grows { IfOk result (GrowsOnly (Teardown vm)) }
 {
     if vm.slot >= SLOTS {
@@ -215,7 +210,6 @@ pub(crate) fn decide_teardown(table: &VmTable, cpu: &CpuState, vm: VmId) -> Resu
 #[tactic(auto, unfolding(reference_model::specs::Rules::rule))]
 pub(crate) fn decide_vm_release(table: &VmTable, cpu: &CpuState) -> Result<Changes, Refusal>
     ensures decided { (l : ReferenceLayout) (id : ℕ) → result ≡ decides l id None VmRelease (vms_alone (vms_of table.now) (cpu_of cpu.now)) }
-    ensures unfilled { IfOk result IsUnfilled }
     ensures grows { IfOk result (GrowsOnly VmRelease) }
 {
     let Some(ticket) = ticket_at_end(cpu) else {

@@ -15,17 +15,17 @@ err_is h = cc
 
 pub returns-in-Ok-clause-carried : goal.returns-in-Ok-clause-carried
 returns-in-Ok-clause-carried g c = λ step grows.
-    carried (layout_of c.args.layout.now) c.args.id c.args.slot step c.args.changes.now c.requires.unfilled c.args.vms.now c.change_vms.new.vms c.args.shared.now c.change_shared.new.shared c.args.guest.now c.args.cpu.now c.change.new.self
-    (λ few. never (c.in-Ok.ensures.no_pool.1 few)) c.change_vms.ensures.made c.in-Ok.ensures.made c.change.ensures.made
+    carried (layout_of c.args.layout.now) c.args.id c.args.slot step c.args.changes.now c.args.vms.now c.change_vms.new.vms c.args.shared.now c.change_maps.new.shared c.args.guest.now c.change_maps.new.guest c.args.cpu.now c.change.new.self
+    (λ few. never (c.in-Ok.ensures.no_pool.1 few)) c.change_vms.ensures.made c.in-Ok.ensures.made c.in-Ok.ensures.made_guest c.change.ensures.made
 
 pub returns-in-Err-NoPool-clause-carried : goal.returns-in-Err-NoPool-clause-carried
 returns-in-Err-NoPool-clause-carried g c = λ step grows.
-    short (layout_of c.args.layout.now) c.args.id c.args.slot step c.args.changes.now c.requires.unfilled c.args.vms.now c.args.vms.now c.args.shared.now c.change_shared.new.shared c.args.guest.now c.args.cpu.now c.args.cpu.now
-    (c.in-Err-NoPool.ensures.no_pool.0 (ap (λ e. Err e) c.in-Err-NoPool.field-0-is)) refl c.in-Err-NoPool.ensures.err refl
+    short (layout_of c.args.layout.now) c.args.id c.args.slot step c.args.changes.now c.args.vms.now c.args.vms.now c.args.shared.now c.change_maps.new.shared c.args.guest.now c.change_maps.new.guest c.args.cpu.now c.args.cpu.now
+    (c.in-Err-NoPool.ensures.no_pool.0 (ap (λ e. Err e) c.in-Err-NoPool.field-0-is)) refl c.in-Err-NoPool.ensures.err c.in-Err-NoPool.ensures.err_guest refl
 
 pub returns-in-Err-NoMemory-clause-carried : goal.returns-in-Err-NoMemory-clause-carried
 returns-in-Err-NoMemory-clause-carried g c = λ step grows.
-    halted (layout_of c.args.layout.now) c.args.id c.args.slot step c.args.changes.now c.requires.unfilled c.args.vms.now c.args.vms.now c.args.shared.now c.change_shared.new.shared c.args.guest.now c.args.cpu.now c.args.cpu.now
+    halted (layout_of c.args.layout.now) c.args.id c.args.slot step c.args.changes.now c.args.vms.now c.args.vms.now c.args.shared.now c.change_maps.new.shared c.args.guest.now c.change_maps.new.guest c.args.cpu.now c.args.cpu.now
     (λ few. other (sym c.in-Err-NoMemory.field-0-is ∙ err_is (c.in-Err-NoMemory.ensures.no_pool.1 few)))
-    (grows_by c.args.changes.now step c.args.shared.now grows (c.in-Err-NoMemory.ensures.no_memory (ap (λ e. Err e) c.in-Err-NoMemory.field-0-is)))
-    refl c.in-Err-NoMemory.ensures.err refl
+    (grows_by c.args.changes.now step c.args.shared.now c.args.guest.now grows (c.in-Err-NoMemory.ensures.no_memory (ap (λ e. Err e) c.in-Err-NoMemory.field-0-is)))
+    refl c.in-Err-NoMemory.ensures.err c.in-Err-NoMemory.ensures.err_guest refl

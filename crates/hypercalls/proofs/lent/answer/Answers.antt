@@ -2,6 +2,8 @@ use Rattle.std.proofs.Common.{◌≡◌, ℕ, ◌<◌, ◌^◌, Option, None, So
 use Rattle.page_state.specs.LayoutView.{layout_of}
 use Rattle.reference_model.specs.declared.changes.Changes.{Changes}
 use Rattle.reference_model.specs.Parts.{names}
+use Rattle.guest_component.specs.Plans.{WantsNoMemory}
+use Rattle.guest_steps.specs.declared.parts.GuestPart.{GuestPart}
 use Rattle.guest_steps.specs.Lent.{Each, lent, used_in}
 use Rattle.hypercalls.specs.Carried.{IsRoomy}
 use Rattle.hypercalls.proofs.Stepping.{only_lent, ok_is}
@@ -19,8 +21,8 @@ carry_out-requires-clause-lent g c =
     let x = lent c.args.vms.now c.args.shared.now c.args.guest.now c.args.cpu.now in
     only_lent (names c.args.step) c.args.slot c.in-Ok.changes (c.change_laws.ensures.used (layout_of c.args.layout.now) c.args.id c.args.slot c.args.step (used_in x) c.in-Ok.changes (sym c.in-Ok.ensures.decided)) x c.requires.lent
 
-pub carry_out-requires-clause-slots : goal.carry_out-requires-clause-slots
-carry_out-requires-clause-slots g c = (c.requires.rely.parts c.in-Ok.changes (sym c.in-Ok.ensures.decided)).slot
+pub carry_out-requires-clause-parts : goal.carry_out-requires-clause-parts
+carry_out-requires-clause-parts g c = c.requires.rely.parts c.in-Ok.changes (sym c.in-Ok.ensures.decided)
 
 pub carry_out-requires-clause-fit : goal.carry_out-requires-clause-fit
 carry_out-requires-clause-fit g c = c.requires.rely.fit c.in-Ok.changes (sym c.in-Ok.ensures.decided)
@@ -32,13 +34,13 @@ pub returns-in-Ok-clause-answered : goal.returns-in-Ok-clause-answered
 returns-in-Ok-clause-answered g c =
     let l = layout_of c.args.layout.now in
     let x = used_in (lent c.args.vms.now c.args.shared.now c.args.guest.now c.args.cpu.now) in
-    let y = used_in (lent c.carry_out.new.vms c.carry_out.new.shared c.args.guest.now c.carry_out.new.cpu) in
+    let y = used_in (lent c.carry_out.new.vms c.carry_out.new.shared c.carry_out.new.guest c.carry_out.new.cpu) in
     c.relies.ensures.answers l c.args.id c.args.slot c.args.step x _ c.in-Ok.changes c.carry_out.result y c.requires.rely (sym c.in-Ok.ensures.decided) (c.carry_out.ensures.carried c.args.step c.in-Ok.ensures.grows)
 
 pub returns-in-Ok-clause-wants : goal.returns-in-Ok-clause-wants
-returns-in-Ok-clause-wants g c = λ told h is roomy.
+returns-in-Ok-clause-wants g c = λ told h is roomy ready.
     let same = ok_is c.in-Ok.changes h (c.in-Ok.ensures.decided ∙ is) in
-    c.carry_out.ensures.wants told (subst (λ (k : Changes). Each (IsRoomy k) c.args.shared.now) (sym same) roomy)
+    c.carry_out.ensures.wants told (subst (λ (k : Changes). Each (IsRoomy k) c.args.shared.now) (sym same) roomy) (subst (λ (k : Changes). Each (λ (p : GuestPart _). WantsNoMemory k p.guest) c.args.guest.now) (sym same) ready)
 
 pub returns-in-Err-clause-answered : goal.returns-in-Err-clause-answered
 returns-in-Err-clause-answered g c = c.answers.ensures.barred (layout_of c.args.layout.now) c.args.id c.args.slot c.args.step _ (used_in (lent c.args.vms.now c.args.shared.now c.args.guest.now c.args.cpu.now)) c.in-Err.why (sym c.in-Err.ensures.decided)

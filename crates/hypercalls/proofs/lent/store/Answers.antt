@@ -1,6 +1,6 @@
 use Rattle.std.proofs.Common.{ap, arith}
 use Rattle.guest_steps.specs.Lent.{lent, logs_in}
-use Rattle.hypercalls.proofs.Stepping.{any_parts, some_room, each_kept, shared_kept, size_kept, eq_with}
+use Rattle.hypercalls.proofs.Stepping.{any_parts, some_room, each_kept, guest_kept, shared_kept, size_kept, eq_with}
 use Rattle.hypercalls.proofs.lent.store.Goals as goal
 
 pub store_vms-requires : goal.store_vms-requires
@@ -22,6 +22,6 @@ returns-clause-suits g c = λ l suits.
     record {
       vms = each_kept (λ v. v.log) c.args.call l.config.log c.args.vms.now c.store_vms.new.vms c.store_vms.ensures.log few.0 full.1 suits.vms;
       shared = shared_kept l c.args.call c.args.shared.now c.store_shared.new.shared c.store_shared.ensures.log c.store_shared.ensures.rows c.store_shared.ensures.depth few.1 full.2 suits.shared;
-      guest = each_kept (λ g. g.log) c.args.call l.config.log c.args.guest.now c.store_guest.new.guest c.store_guest.ensures.log few.2 full.3 suits.guest;
+      guest = guest_kept l c.args.call c.args.guest.now c.store_guest.new.guest c.store_guest.ensures.log c.store_guest.ensures.depth few.2 full.3 suits.guest;
       cpu = size_kept c.args.call l.config.log c.args.cpu.now.log c.store.new.self (eq_with c.args.call c.args.cpu.now.log c.store.new.self c.store.ensures.calls c.store.ensures.room) full.0 suits.cpu;
     }

@@ -17,7 +17,7 @@ use Rattle.guest_steps.specs.MemoryRows.{HasMemoryRows}
 use Rattle.guest_steps.specs.View.{cpu_of}
 use Rattle.hypercalls.specs.Stands.{one_where, from_of, to_of}
 use Rattle.hypercalls.specs.Steps.{IsStepOn}
-use Rattle.hypercalls.proofs.Lends.{inner, fits, suits, shared_suits, lent_is, each_all, all_one, all_put, depths, all_rows, shared_logs}
+use Rattle.hypercalls.proofs.Lends.{inner, fits, suits, shared_suits, lent_is, each_all, all_one, all_put, depths, all_rows, shared_logs, guest_depths, guest_sizes}
 use Rattle.hypercalls.proofs.Ranges.{lent_one, back_one, length_one, cut, came_back, put_length}
 use Rattle.hypercalls.proofs.Whole.{reached, is_step, history, slot_below}
 use Rattle.hypercalls.proofs.parts.Parts.step.Goals as goal
@@ -121,7 +121,8 @@ invariant_of-self g c =
       shared_log = subst (All (λ (s : SharedPart _). IsOfSize p.layout.config.log s.log)) (sym shared_is) (all_one _ (uses_shared (names step) slot) p.shared.items new.shared p.shared_log (shared_logs p new.shared fit.shared));
       depth = subst (All (λ (s : SharedPart _). levels_below s.host.tree.geometry ≡ levels_below p.layout.geometry)) (sym shared_is) (all_one _ (uses_shared (names step) slot) p.shared.items new.shared p.depth (depths p new.shared fit.shared));
       rows = subst (All (λ (s : SharedPart _). HasMemoryRows p.layout.map s.rows)) (sym shared_is) (all_one _ (uses_shared (names step) slot) p.shared.items new.shared p.rows (all_rows p new.shared fit.shared));
-      guest_logs = subst (All (λ (v : GuestPart). IsOfSize p.layout.config.log v.log)) (sym guest_is) (all_put _ p.guests.items slot new.guest p.guest_logs fit.guest);
+      guest_depth = subst (All (λ (v : GuestPart _). levels_below v.guest.geometry ≡ levels_below p.layout.geometry)) (sym guest_is) (all_put _ p.guests.items slot new.guest p.guest_depth (guest_depths p new.guest fit.guest));
+      guest_logs = subst (All (λ (v : GuestPart _). IsOfSize p.layout.config.log v.log)) (sym guest_is) (all_put _ p.guests.items slot new.guest p.guest_logs (guest_sizes p new.guest fit.guest));
       own_logs = All-set (λ (j : CpuState). IsOfSize p.layout.config.log j.log) p.cpus.items cpu new.cpu fit.cpu p.own_logs;
     }
 

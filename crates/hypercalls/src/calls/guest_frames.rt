@@ -1,0 +1,188 @@
+//! Calls that give frames to a guest, or take them back.
+ghost use Rattle.std.specs.Prelude.{◌≡◌, ◌+◌, ◌<◌, ◌^◌, ℕ, Some};
+ghost use Rattle.guest_component.specs.View.{guest_depth, guest_of};
+ghost use Rattle.guest_steps.specs.View.{cpu_of, shared_of};
+ghost use Rattle.page_state.specs.LayoutView.{layout_of};
+ghost use Rattle.page_state.specs.Layouts.{Layout as ReferenceLayout};
+ghost use Rattle.page_state.specs.declared.step.Step.TheVariants.{FinishGuest, Install, ReclaimPool, Topup};
+ghost use Rattle.reference_model.specs.Answers.{decides};
+ghost use Rattle.reference_model.specs.GuestRules.{moved_on as moved_on_of, ticket_kind as ticket_kind_of, ticket_vm as ticket_vm_of};
+ghost use Rattle.reference_model.specs.Rely.{CanRely};
+ghost use Rattle.reference_model.specs.SharedRules.{to_host as to_host_of};
+ghost use Rattle.reference_model.specs.State.{Cpu, Guest as ReferenceGuest, Shared};
+ghost use Rattle.reference_model.specs.Used.{with_guest};
+
+use super::change;
+use super::vms::ticket_becomes;
+use crate::pages::hyp_page;
+use guest_component::Guest;
+use guest_steps::{CpuState, SharedPart};
+use page_state::{Entry, Frame, Layout, Page, Refusal, Value, VmId, VmKind};
+use reference_model::{Changes, CpuChange, GuestChange, Stage, Ticket, Update};
+use std::alloc::Allocator;
+
+/// The most frames that a guest holds (profile).
+const MOST_FRAMES: u64 = 512;
+
+/// The slots of VMs (profile).
+const SLOTS: u64 = 64;
+
+/// The VM of the CPU's ticket.
+fn ticket_vm(cpu: &CpuState) -> VmId
+    ensures { result ≡ ticket_vm_of (cpu_of cpu.now) }
+{
+    match cpu.ticket {
+        Some(ticket) => ticket.vm,
+        None => VmId {
+            slot: 0,
+            generation: 0,
+        },
+    }
+}
+
+/// The kind of the CPU's ticket.
+fn ticket_kind(cpu: &CpuState) -> VmKind
+    ensures { result ≡ ticket_kind_of (cpu_of cpu.now) }
+{
+    match cpu.ticket {
+        Some(ticket) => ticket.kind,
+        None => VmKind::Plain,
+    }
+}
+
+/// The CPU's ticket moves on to another stage.
+pub(crate) fn moved_on(stage: Stage, cpu: &CpuState) -> CpuChange
+    ensures { result ≡ moved_on_of stage (cpu_of cpu.now) }
+{
+    ticket_becomes(Some(Ticket {
+        vm: ticket_vm(cpu),
+        kind: ticket_kind(cpu),
+        stage,
+    }))
+}
+
+/// A frame goes back to the host: neither the host's page of it nor the hypervisor's is mapped.
+fn to_host(frame: u64) -> Changes
+    requires { frame < 2 ^ 26 }
+    ensures { result ≡ to_host_of frame 1 }
+{
+    Changes {
+        host: change(Page(frame), 1, Entry::Unmapped),
+        hyp: change(hyp_page(frame), 1, Entry::Unmapped),
+        ..Changes::NONE
+    }
+}
+
+/// The guest of the CPU's Booked ticket becomes Live, with the hand as its root and pool.
+#[tactic(auto, unfolding(reference_model::specs::Rules::rule))]
+pub(crate) fn decide_install(cpu: &CpuState) -> Result<Changes, Refusal>
+    ensures decided { (l : ReferenceLayout) (id slot : ℕ) (s : Shared) (g : ReferenceGuest) → result ≡ decides l id (Some slot) Install (with_guest s g (cpu_of cpu.now)) }
+{
+    let Some(hand) = cpu.hand else {
+        return Err(Refusal::Perm);
+    };
+    Ok(Changes {
+        part: GuestChange::Install {
+            kind: ticket_kind(cpu),
+            generation: ticket_vm(cpu).generation,
+            hand,
+        },
+        cpu: CpuChange {
+            hand: Update::Becomes(None),
+            ..moved_on(Stage::Installed, cpu)
+        },
+        moved: Some(hand),
+        ..Changes::NONE
+    })
+}
+
+/// A Live guest's pool gets the hand: it holds at most 512 frames with it, its tables among them.
+#[tactic(auto, unfolding(reference_model::specs::Rules::rule))]
+pub(crate) fn decide_topup<A: Allocator>(
+    layout: &Layout,
+    guest: &Guest<A>,
+    cpu: &CpuState,
+    vm: VmId,
+) -> Result<Changes, Refusal>
+    requires depth { guest_depth guest.now ≡ (layout_of layout.now).depth }
+    ensures decided { (id slot : ℕ) (s : Shared) → result ≡ decides (layout_of layout.now) id (Some slot) (Topup vm) (with_guest s (guest_of guest.now) (cpu_of cpu.now)) }
+{
+    if vm.slot >= SLOTS {
+        return Err(Refusal::Invalid);
+    }
+    if !guest.is_live(vm) {
+        return Err(Refusal::NoVm);
+    }
+    let Some(hand) = cpu.hand else {
+        return Err(Refusal::Perm);
+    };
+    let held = (guest.tables() + guest.free()) as u64;
+    if hand.count > MOST_FRAMES - held {
+        return Err(Refusal::Perm);
+    }
+    Ok(Changes {
+        part: GuestChange::Gain(hand),
+        cpu: CpuChange {
+            hand: Update::Becomes(None),
+            ..CpuChange::NONE
+        },
+        moved: Some(hand),
+        ..Changes::NONE
+    })
+}
+
+/// The host gets the least free frame of a Dying guest's pool back. It asks for a guest that a run leaves.
+#[tactic(auto, unfolding(reference_model::specs::Rules::rule))]
+pub(crate) fn decide_reclaim_pool<A: Allocator>(
+    layout: &Layout,
+    shared: &SharedPart<A>,
+    guest: &Guest<A>,
+    id: u64,
+    slot: u64,
+    cpu: &CpuState,
+    vm: VmId,
+) -> Result<Changes, Refusal>
+    requires rely { CanRely (layout_of layout.now) id (Some slot) (ReclaimPool vm) (with_guest (shared_of shared.now) (guest_of guest.now) (cpu_of cpu.now)) }
+    ensures decided { result ≡ decides (layout_of layout.now) id (Some slot) (ReclaimPool vm) (with_guest (shared_of shared.now) (guest_of guest.now) (cpu_of cpu.now)) }
+{
+    if vm.slot >= SLOTS {
+        return Err(Refusal::Invalid);
+    }
+    if !guest.is_dying(vm) {
+        return Err(Refusal::NoVm);
+    }
+    if guest.free() == 0 {
+        return Err(Refusal::Perm);
+    }
+    let frame = guest.least();
+    Ok(Changes {
+        part: GuestChange::LoseLowest,
+        value: Value::Frame(Frame(frame)),
+        ..to_host(frame)
+    })
+}
+
+/// The host gets the root of the Dying guest of the CPU's ticket back, of which nothing else is left, and the guest is Empty.
+/// It asks for a guest that a run leaves.
+#[tactic(auto, unfolding(reference_model::specs::Rules::rule))]
+pub(crate) fn decide_finish_guest<A: Allocator>(
+    layout: &Layout,
+    shared: &SharedPart<A>,
+    guest: &Guest<A>,
+    id: u64,
+    slot: u64,
+    cpu: &CpuState,
+) -> Result<Changes, Refusal>
+    requires depth { guest_depth guest.now ≡ (layout_of layout.now).depth }
+    requires rely { CanRely (layout_of layout.now) id (Some slot) FinishGuest (with_guest (shared_of shared.now) (guest_of guest.now) (cpu_of cpu.now)) }
+    ensures decided { result ≡ decides (layout_of layout.now) id (Some slot) FinishGuest (with_guest (shared_of shared.now) (guest_of guest.now) (cpu_of cpu.now)) }
+{
+    if !guest.is_unmapped() || guest.free() > 0 {
+        return Err(Refusal::Perm);
+    }
+    Ok(Changes {
+        part: GuestChange::Empty,
+        cpu: moved_on(Stage::Finished, cpu),
+        ..to_host(guest.root())
+    })
+}

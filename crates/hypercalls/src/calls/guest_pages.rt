@@ -1,0 +1,201 @@
+//! Calls that change a page of the host and a page of a guest.
+ghost use Rattle.std.specs.Prelude.{◌≡◌, ◌<◌, ◌^◌, ℕ, Some};
+ghost use Rattle.guest_component.specs.View.{guest_of};
+ghost use Rattle.guest_steps.specs.View.{shared_of};
+ghost use Rattle.page_state.specs.LayoutView.{layout_of};
+ghost use Rattle.reference_model.specs.Answers.{decides};
+ghost use Rattle.reference_model.specs.State.{Cpu};
+ghost use Rattle.reference_model.specs.Used.{with_guest};
+ghost use Rattle.page_state.specs.declared.step.Step.TheVariants.{ShareGuest, UnshareGuest, DonateGuest, GuestShareHost, GuestUnshareHost, ReclaimPage};
+ghost use Rattle.reference_model.specs.GuestRules.{two_pages as two_pages_of};
+
+use super::change;
+use crate::pages::{entry_frame, is_free_page, is_in, is_mapped, leaf, with_state};
+use guest_component::Guest;
+use guest_steps::SharedPart;
+use page_state::{Entry, Layout, Owner, Page, Prot, Refusal, State, VmId};
+use reference_model::Changes;
+use std::alloc::Allocator;
+
+/// A page of the host and a page of the guest change.
+fn two_pages(pfn: u64, host: Entry, gfn: u64, guest: Entry) -> Changes
+    ensures { result ≡ two_pages_of pfn host gfn guest }
+{
+    Changes {
+        host: change(Page(pfn), 1, host),
+        guest: change(Page(gfn), 1, guest),
+        ..Changes::NONE
+    }
+}
+
+/// The host shares a frame with a plain VM: its page must be free to give, and the guest's page unmapped.
+#[tactic(auto, unfolding(reference_model::specs::Rules::rule))]
+pub(crate) fn decide_share_guest<A: Allocator>(
+    layout: &Layout,
+    shared: &SharedPart<A>,
+    guest: &Guest<A>,
+    pfn: u64,
+    gfn: u64,
+    prot: Prot,
+) -> Result<Changes, Refusal>
+    ensures decided { (id slot : ℕ) (k : Cpu) → result ≡ decides (layout_of layout.now) id (Some slot) (ShareGuest pfn gfn prot) (with_guest (shared_of shared.now) (guest_of guest.now) k) }
+{
+    if !layout.map.is_memory(Page(pfn)) || gfn >= layout.geometry.pages() {
+        return Err(Refusal::Invalid);
+    }
+    if guest.is_protected()
+        || !is_free_page(shared.host.translate(Page(pfn)))
+        || is_mapped(guest.translate(Page(gfn)))
+    {
+        return Err(Refusal::Perm);
+    }
+    Ok(two_pages(
+        pfn,
+        leaf(pfn, Prot::RWX, State::SharedOwned),
+        gfn,
+        leaf(pfn, prot, State::SharedBorrowed),
+    ))
+}
+
+/// The host takes back a frame that it shares with a Live guest.
+#[tactic(auto, unfolding(reference_model::specs::Rules::rule))]
+pub(crate) fn decide_unshare_guest<A: Allocator>(
+    layout: &Layout,
+    shared: &SharedPart<A>,
+    guest: &Guest<A>,
+    vm: VmId,
+    gfn: u64,
+) -> Result<Changes, Refusal>
+    ensures decided { (id slot : ℕ) (k : Cpu) → result ≡ decides (layout_of layout.now) id (Some slot) (UnshareGuest vm gfn) (with_guest (shared_of shared.now) (guest_of guest.now) k) }
+{
+    if vm.slot >= 64 || gfn >= layout.geometry.pages() {
+        return Err(Refusal::Invalid);
+    }
+    if !guest.is_live(vm) {
+        return Err(Refusal::NoVm);
+    }
+    let entry = guest.translate(Page(gfn));
+    if !is_in(State::SharedBorrowed, entry) {
+        return Err(Refusal::Perm);
+    }
+    let pfn = entry_frame(entry);
+    Ok(two_pages(
+        pfn,
+        leaf(pfn, Prot::RWX, State::Owned),
+        gfn,
+        Entry::Unmapped,
+    ))
+}
+
+/// The host gives a frame to a protected VM: its page must be free to give, and the guest's page unmapped.
+#[tactic(auto, unfolding(reference_model::specs::Rules::rule))]
+pub(crate) fn decide_donate_guest<A: Allocator>(
+    layout: &Layout,
+    shared: &SharedPart<A>,
+    guest: &Guest<A>,
+    slot: u64,
+    pfn: u64,
+    gfn: u64,
+) -> Result<Changes, Refusal>
+    requires { slot < 2 ^ 32 }
+    ensures decided { (id : ℕ) (k : Cpu) → result ≡ decides (layout_of layout.now) id (Some slot) (DonateGuest pfn gfn) (with_guest (shared_of shared.now) (guest_of guest.now) k) }
+{
+    if !layout.map.is_memory(Page(pfn)) || gfn >= layout.geometry.pages() {
+        return Err(Refusal::Invalid);
+    }
+    if !guest.is_protected()
+        || !is_free_page(shared.host.translate(Page(pfn)))
+        || is_mapped(guest.translate(Page(gfn)))
+    {
+        return Err(Refusal::Perm);
+    }
+    Ok(two_pages(
+        pfn,
+        Entry::Annotated(Owner(2 + slot)),
+        gfn,
+        leaf(pfn, Prot::RWX, State::Owned),
+    ))
+}
+
+/// The guest shares a page that it owns with the host.
+#[tactic(auto, unfolding(reference_model::specs::Rules::rule))]
+pub(crate) fn decide_guest_share_host<A: Allocator>(
+    layout: &Layout,
+    shared: &SharedPart<A>,
+    guest: &Guest<A>,
+    gfn: u64,
+) -> Result<Changes, Refusal>
+    ensures decided { (id slot : ℕ) (k : Cpu) → result ≡ decides (layout_of layout.now) id (Some slot) (GuestShareHost gfn) (with_guest (shared_of shared.now) (guest_of guest.now) k) }
+{
+    if gfn >= layout.geometry.pages() {
+        return Err(Refusal::Invalid);
+    }
+    let entry = guest.translate(Page(gfn));
+    if !is_in(State::Owned, entry) {
+        return Err(Refusal::Perm);
+    }
+    let pfn = entry_frame(entry);
+    Ok(two_pages(
+        pfn,
+        leaf(pfn, Prot::RWX, State::SharedBorrowed),
+        gfn,
+        with_state(State::SharedOwned, entry),
+    ))
+}
+
+/// The guest takes back a page that it shares with the host.
+#[tactic(auto, unfolding(reference_model::specs::Rules::rule))]
+pub(crate) fn decide_guest_unshare_host<A: Allocator>(
+    layout: &Layout,
+    shared: &SharedPart<A>,
+    guest: &Guest<A>,
+    slot: u64,
+    gfn: u64,
+) -> Result<Changes, Refusal>
+    requires { slot < 2 ^ 32 }
+    ensures decided { (id : ℕ) (k : Cpu) → result ≡ decides (layout_of layout.now) id (Some slot) (GuestUnshareHost gfn) (with_guest (shared_of shared.now) (guest_of guest.now) k) }
+{
+    if gfn >= layout.geometry.pages() {
+        return Err(Refusal::Invalid);
+    }
+    let entry = guest.translate(Page(gfn));
+    if !is_in(State::SharedOwned, entry) {
+        return Err(Refusal::Perm);
+    }
+    Ok(two_pages(
+        entry_frame(entry),
+        Entry::Annotated(Owner(2 + slot)),
+        gfn,
+        with_state(State::Owned, entry),
+    ))
+}
+
+/// The host gets the frame of a Dying guest's page back: as it was given, or as it was shared.
+#[tactic(auto, unfolding(reference_model::specs::Rules::rule))]
+pub(crate) fn decide_reclaim_page<A: Allocator>(
+    layout: &Layout,
+    shared: &SharedPart<A>,
+    guest: &Guest<A>,
+    vm: VmId,
+    gfn: u64,
+) -> Result<Changes, Refusal>
+    ensures decided { (id slot : ℕ) (k : Cpu) → result ≡ decides (layout_of layout.now) id (Some slot) (ReclaimPage vm gfn) (with_guest (shared_of shared.now) (guest_of guest.now) k) }
+{
+    if vm.slot >= 64 || gfn >= layout.geometry.pages() {
+        return Err(Refusal::Invalid);
+    }
+    if !guest.is_dying(vm) {
+        return Err(Refusal::NoVm);
+    }
+    let entry = guest.translate(Page(gfn));
+    if !is_mapped(entry) {
+        return Err(Refusal::Perm);
+    }
+    let pfn = entry_frame(entry);
+    let host = if is_in(State::Owned, entry) {
+        Entry::Unmapped
+    } else {
+        leaf(pfn, Prot::RWX, State::Owned)
+    };
+    Ok(two_pages(pfn, host, gfn, Entry::Unmapped))
+}
