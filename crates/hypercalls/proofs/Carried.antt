@@ -16,6 +16,7 @@ use Rattle.reference_model.specs.declared.changes.MapChange.{MapChange}
 use Rattle.reference_model.specs.declared.changes.SlotChange.{SlotChange}
 use Rattle.reference_model.specs.declared.changes.SlotChange.TheVariants.{Keep as KeepSlots}
 use Rattle.reference_model.specs.Answers.{CarriesOut}
+use Rattle.reference_model.specs.ChangeLaws.{AllFit, FitsWhere, PartsFit}
 use Rattle.reference_model.specs.Rules.{may_grow}
 use Rattle.reference_model.specs.Changes.{edit_of, touched, cpu_by, vms_by}
 use Rattle.reference_model.specs.Owner.{is_in_hand}
@@ -30,9 +31,10 @@ use Rattle.std.proofs.lemmas.Bool.{ltb-true, lt-ltb}
 use Rattle.std.proofs.lemmas.Bool.Decides.{nat_tests}
 use Rattle.component.specs.View.{HasRoomFor, need_for}
 use Rattle.guest_component.specs.declared.body.Body.{Body}
-use Rattle.guest_component.specs.Changing.{MakesNone}
+use Rattle.guest_component.specs.declared.guest.Guest.{Guest as GuestComponent}
+use Rattle.guest_component.specs.Changing.{GuestCanChange, MakesNone}
 use Rattle.guest_component.specs.Plans.{HasReadyMap, WantsNoMemory}
-use Rattle.guest_component.specs.View.{guest_depth}
+use Rattle.guest_component.specs.View.{guest_depth, guest_of}
 use Rattle.component.proofs.Keeps.{need_keep}
 use Rattle.page_state.specs.Geometries.{levels_below}
 use Rattle.table_tree.specs.View.{tree_of}
@@ -103,6 +105,22 @@ guest_same d h g stays = rw (stays.guest, stays.part) refl
 
 pub need_same : (d : ℕ) (h : Changes) (g : Guest) → LeavesGuest h → guest_need d h g ≡ 0
 need_same d h g stays = ap (λ (o : Option MapChange). need d g.tree (edit_of o)) stays.guest ∙ need_keep d g.tree
+
+-- a guest's list, where none is lent
+module _ {A : Type 0} (d : ℕ) (h : Changes) where
+  pub guest_of_none : (gs : List (GuestPart A)) → IsLentOr (LeavesGuest h) gs → (length gs ≡ 1 → ⊥) → one no_guest guest_held gs ≡ guest_after d h (one no_guest guest_held gs)
+  guest_of_none [] only many = sym (guest_same d h no_guest only)
+  guest_of_none (g ∷ []) only many = absurd (many refl)
+  guest_of_none (g ∷ (k ∷ gs)) only many = absurd only
+
+  pub no_need_of_none : (gs : List (GuestPart A)) → IsLentOr (LeavesGuest h) gs → (length gs ≡ 1 → ⊥) → nat_lt (length (one no_guest guest_held gs).free) (guest_need d h (one no_guest guest_held gs)) ≡ false
+  no_need_of_none [] only many = ap (nat_lt 0) (need_same d h no_guest only)
+  no_need_of_none (g ∷ []) only many = absurd (many refl)
+  no_need_of_none (g ∷ (k ∷ gs)) only many = absurd only
+
+-- what can be made of parts can be made of the guest
+pub can_change : {A : Type 0} (l : Layout) (h : Changes) (g : GuestComponent A) → guest_depth g ≡ l.depth → AllFit l.depth h → PartsFit l h (guest_of g) → GuestCanChange (guest_depth g) h (guest_of g)
+can_change l h g e fit parts = record { map = subst (λ d. FitsWhere d h.guest) (sym e) fit.guest; mapped = parts.mapped; part = (l, (sym e, parts.part)) }
 
 -- where neither map changes, no growth can be needed
 pub roomy_of_none : {A : Type 0} (h : Changes) → h.host ≡ None → h.hyp ≡ None → (ss : List (SharedPart A)) → Each (IsRoomy h) ss

@@ -3,7 +3,6 @@ ghost use Rattle.std.specs.Prelude.{◌≡◌, ◌<◌, ◌≤◌, ◌==◌, tru
 ghost use Rattle.guest_component.specs.View.{guest_depth};
 ghost use Rattle.guest_steps.specs.Lent.{Each, GuestSuits, IsLent, SharedSuits, Suits, all_with, lent, logs_in, one, slot_in, used_in, with_call};
 ghost use Rattle.guest_steps.specs.View.{cpu_of, depth_of, guest_held, shared_of, vm_slots};
-ghost use Rattle.hypercalls.specs.Served.{IsServed};
 ghost use Rattle.hypercalls.specs.Steps.{CanWantOn, IsStepOn, any_full};
 ghost use Rattle.page_state.specs.LayoutView.{layout_of};
 ghost use Rattle.page_state.specs.Layouts.{Layout as ReferenceLayout};
@@ -202,7 +201,6 @@ fn answer<A: Allocator + Copy>(
     cpu: &mut CpuState,
     step: Step,
 ) -> Reply
-    requires served { IsServed step }
     requires slot { slot ≡ slot_in (lent vms.old shared.old guest.old cpu.old) step }
     requires lent { IsLent (names step) slot (lent vms.old shared.old guest.old cpu.old) }
     requires suits { Each (SharedSuits (layout_of layout.now)) shared.old }
@@ -227,8 +225,8 @@ fn answer<A: Allocator + Copy>(
 }
 
 /// Makes a step of a CPU on the parts that it uses, each lent as a slice of one, and none of the others, and stores the call
-/// in their logs and the CPU's, where none is full. It asks for a step that is served, for parts of the layout, and for
-/// parts and a CPU's state that stand in a state that a run leaves. Whatever else stands in that state, it is a step of it.
+/// in their logs and the CPU's, where none is full. It asks for parts of the layout, and for parts and a CPU's state that
+/// stand in a state that a run leaves. Whatever else stands in that state, it is a step of it.
 pub fn step_on<A: Allocator + Copy>(
     alloc: A,
     layout: &Layout,
@@ -239,7 +237,6 @@ pub fn step_on<A: Allocator + Copy>(
     cpu: &mut CpuState,
     step: Step,
 ) -> Reply
-    requires served { IsServed step }
     requires known { id < layout.now.config.cpus }
     requires lent { IsLent (names step) (slot_in (lent vms.old shared.old guest.old cpu.old) step) (lent vms.old shared.old guest.old cpu.old) }
     requires suits { Suits (layout_of layout.now) (lent vms.old shared.old guest.old cpu.old) }

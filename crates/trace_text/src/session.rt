@@ -7,8 +7,6 @@ ghost use Rattle.trace_text.specs.Session.{Answers, Boots, DoesLine, IsNoWorld, 
 ghost use Rattle.trace_text.specs.View.{answer_of, kept_runs, machine_of, standing_of};
 ghost use Rattle.trace_lines.specs.Settings.{config_of, told_of};
 ghost use Rattle.world.specs.Boots.{IsBooted};
-ghost use Rattle.trace_lines.specs.Said.{StepHas};
-ghost use Rattle.hypercalls.specs.Served.{IsServed};
 ghost use Rattle.trace_text.specs.Worlds.{IsWordOn, free_told, tables_told, tree_told};
 
 use crate::fault::Fault;
@@ -98,7 +96,6 @@ impl<A: Allocator + Copy> Session<A> {
 
     fn carry_out(&mut self, number: u64, said: Line) -> Result<Reported, Stop>
         requires few { self.old.steps < 2 ^ 63 }
-        requires served { StepHas IsServed said }
         ensures done { DoesLine number said (standing_of self.old) (answer_of self.new result) (standing_of self.new) }
         ensures steps { self.new.steps ≤ self.old.steps + 1 }
     {
@@ -153,7 +150,6 @@ impl<A: Allocator + Copy> Session<A> {
     /// Makes one step.
     fn step(&mut self, number: u64, cpu: u64, step: Step) -> Result<Reported, Stop>
         requires few { self.old.steps < 2 ^ 63 }
-        requires served { IsServed step }
         ensures done { OnMachine (MakesStep number cpu step) (standing_of self.old) (answer_of self.new result) (standing_of self.new) }
         ensures steps { self.new.steps ≤ self.old.steps + 1 }
     {

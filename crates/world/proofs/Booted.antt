@@ -59,11 +59,6 @@ one_is : {P X : Type 0} (f : P → X) (blank : X) (xs : List P) → All (λ p. f
 one_is f blank [] h = refl
 one_is f blank (x ∷ xs) h = h 0 x (omega arith)
 
--- no call fills a guest yet
-blank_is : (o : Option GuestPart) → at_place no_guest guest_held o ≡ no_guest
-blank_is None = refl
-blank_is (Some g) = refl
-
 module _ {A : Type 0} (m : Memory) (c : Config) (g : Geometry) (p : Parts A) (s : SharedPart A)
     (mapped : p.layout.map ≡ m)
     (configured : p.layout.config ≡ c)
@@ -72,6 +67,7 @@ module _ {A : Type 0} (m : Memory) (c : Config) (g : Geometry) (p : Parts A) (s 
     (vms_log : All (λ v. IsNewLog c.log v.log) p.vms.items)
     (alone : p.shared.items ≡ s ∷ [])
     (shared_log : IsNewLog c.log s.log)
+    (empty : All (λ g. guest_held g ≡ no_guest) p.guests.items)
     (new : All (λ g. IsNewLog c.log g.log) p.guests.items)
     (idle : All (IsIdle c.log) p.cpus.items) where
   abbrev l : Layout
@@ -90,7 +86,10 @@ module _ {A : Type 0} (m : Memory) (c : Config) (g : Geometry) (p : Parts A) (s 
   slots_are = one_is vm_slots no_vms p.vms.items vacant
 
   guest_is : (v : ℕ) → at_place no_guest guest_held (slice_get p.guests.items v) ≡ no_guest
-  guest_is v = blank_is (slice_get p.guests.items v)
+  guest_is v = elim (slice_get_cases p.guests.items v).1 [
+    | inl (k, inside, at, is) ↦ rw at (subst (λ (x : GuestPart A). guest_held x ≡ no_guest) is (empty v k inside))
+    | inr past ↦ rw past.1 refl
+  ]
 
   none : HasNoCalls p
   none = record {

@@ -5,11 +5,12 @@ ghost use Rattle.page_state.specs.Trees.{frames_from, root_tree};
 ghost use Rattle.reference_model.specs.Boot.{IsCarveEnough, booted as booted_of, pool_row as pool_row_of};
 ghost use Rattle.reference_model.specs.ChangeLaws.{Fits};
 ghost use Rattle.reference_model.specs.Conditions.{IsUsable};
-ghost use Rattle.reference_model.specs.State.{no_vms};
+ghost use Rattle.reference_model.specs.State.{no_guest, no_vms};
 ghost use Rattle.guest_steps.specs.Apart.{IsApart};
 ghost use Rattle.guest_steps.specs.Logs.{IsNewLog};
 ghost use Rattle.guest_steps.specs.MemoryRows.{HasMemoryRows};
-ghost use Rattle.guest_steps.specs.View.{depth_of, shared_of, vm_slots};
+ghost use Rattle.guest_component.specs.View.{guest_depth};
+ghost use Rattle.guest_steps.specs.View.{depth_of, guest_held, shared_of, vm_slots};
 ghost use Rattle.page_state.specs.Accepted.{IsAcceptedConfig};
 ghost use Rattle.page_state.specs.EntryTests.{leaf as leaf_of, annotation};
 ghost use Rattle.page_state.specs.Layouts.{hyp_page as hyp_page_of};
@@ -19,6 +20,7 @@ ghost use Rattle.world.specs.Boots.{IsBooted, IsConfig, IsIdle, IsNoBoot, boot_n
 ghost use Rattle.table_tree.specs.View.{tree_of};
 
 use component::Component;
+use guest_component::Guest;
 use guest_steps::{CpuState, GuestPart, Log, SharedPart, VmPart};
 use hyp_pool::{Pool, PoolFault, laws};
 use hypercalls::{Parts, hyp_page, leaf};
@@ -287,15 +289,24 @@ fn list_of<A: Allocator>(
     Ok(parts)
 }
 
-/// The Guest parts at boot.
-fn guests_at_boot(global: Global, calls: u64) -> Result<Vec<GuestPart>, AllocError>
+/// The Guest parts at boot, whose guests are Empty.
+fn guests_at_boot<A: Allocator>(
+    global: Global,
+    geometry: Geometry,
+    calls: u64,
+) -> Result<Vec<GuestPart<A>>, AllocError>
     ensures count { IfOk result (λ guests. vec_len guests ≡ 64) }
+    ensures empty { IfOk result (λ guests. All (λ g. guest_held g ≡ no_guest) guests.items) }
+    ensures depth { IfOk result (λ guests. All (λ g. guest_depth g.guest ≡ levels_below geometry) guests.items) }
     ensures logs { IfOk result (λ guests. All (λ g. IsNewLog calls g.log) guests.items) }
 {
     let mut guests = Vec::with_capacity(global, SLOTS as usize)?;
     for _made in 0..SLOTS {
+        let guest = Guest::new(global, geometry);
         let log = Log::new(global, calls)?;
-        guests.push(GuestPart { log }).map_err(AllocError::from)?;
+        guests
+            .push(GuestPart { guest, log })
+            .map_err(AllocError::from)?;
     }
     Ok(guests)
 }
@@ -339,7 +350,7 @@ pub fn booted<A: Allocator + Copy>(
     let shared = shared_at_boot(global, alloc, map, config, geometry)?;
     let shared = list_of(global, shared)?;
     let vms = vms_at_boot(global, config.log)?;
-    let guests = guests_at_boot(global, config.log)?;
+    let guests = guests_at_boot(global, geometry, config.log)?;
     let cpus = cpus_at_boot(global, config)?;
     Ok(Parts {
         layout: Layout {

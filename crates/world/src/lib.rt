@@ -2,7 +2,6 @@
 #![tactic(auto)]
 
 ghost use Rattle.std.specs.Prelude.{◌≡◌, ◌<◌, MatchResult};
-ghost use Rattle.hypercalls.specs.Served.{IsServed};
 ghost use Rattle.hypercalls.specs.Stands.{HasHistory};
 ghost use Rattle.hypercalls.specs.Whole.{IsStep};
 ghost use Rattle.world.specs.Boots.{IsBooted, IsNoBoot};
@@ -39,10 +38,9 @@ impl<A: Allocator + Copy> World<A> {
     }
 
     /// Makes one step of a CPU, and stores it in the CPU's log and those of the parts that it uses, where none is
-    /// full. It asks for a call that is served.
+    /// full.
     pub fn step(&mut self, cpu: u64, step: Step) -> Reply
         requires known { cpu < self.old.parts.layout.config.cpus }
-        requires served { IsServed step }
         ensures layout { self.new.parts.layout ≡ self.old.parts.layout }
         ensures step { IsStep self.old.parts cpu step result self.new.parts }
     {

@@ -2,7 +2,6 @@ ghost use Rattle.std.specs.Prelude.{◌≡◌, ◌<◌, ◌^◌, IfOk};
 ghost use Rattle.ghost_spec.specs.Kept.{IsKeptTree};
 ghost use Rattle.ghost_spec.specs.States.{IsKept};
 ghost use Rattle.ghost_spec.specs.Views.{IsOnShared};
-ghost use Rattle.hypercalls.specs.Served.{IsServed};
 
 use super::*;
 use arrayvec::ArrayVec;
@@ -165,7 +164,6 @@ fn step_on_both(
     lists: &mut Ghost,
     step: Step,
 ) -> Result<Reply, Fail>
-    requires served { IsServed step }
     requires shared { IsOnShared step }
     requires cpu { 0 < world.old.parts.layout.config.cpus }
     requires list_cpu { 0 < lists.old.layout.config.cpus }
@@ -292,7 +290,6 @@ fn shares_without_frames_as_the_definitions_say(rt: HostRuntime) -> Result<(), F
 
 /// Makes a step of CPU 0, and compares its reply.
 fn expect_reply(rt: &impl Abort, world: &mut World<Global>, step: Step, value: Value)
-    requires served { IsServed step }
     requires cpu { 0 < world.old.parts.layout.config.cpus }
     ensures layout { world.new.parts.layout ≡ world.old.parts.layout }
 {
@@ -402,7 +399,6 @@ fn with_few_tables(
     tables: usize,
     refused: bool,
 ) -> Result<(), Fail>
-    requires served { IsServed step }
 {
     let heap = LocalHeap::new(global, 1 << 20)?;
     let map = memory(global, 0x40)?;
