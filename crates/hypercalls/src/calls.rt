@@ -3,7 +3,6 @@ ghost use Rattle.std.specs.Prelude.{◌≡◌, true, Some, None, IfOk};
 ghost use Rattle.guest_steps.specs.Lent.{Each, IsLent, SharedSuits, lent, slot_in, used_in};
 ghost use Rattle.guest_steps.specs.View.{cpu_of, shared_of, vm_slots};
 ghost use Rattle.hypercalls.specs.Carried.{GrowsOnly};
-ghost use Rattle.hypercalls.specs.Served.{IsServed};
 ghost use Rattle.page_state.specs.LayoutView.{layout_of};
 ghost use Rattle.reference_model.specs.Answers.{decides};
 ghost use Rattle.page_state.specs.Layouts.{Layout as ReferenceLayout};
@@ -27,6 +26,13 @@ use abort::decide_host_abort;
 use asks::{decide_host_translate, decide_hyp_translate, decide_owner_of};
 use donate::decide_donate_hyp;
 use give_back::decide_hyp_donate_host;
+use guest_alone::{decide_guest_relax, decide_guest_translate, decide_mark_dying};
+use guest_component::Guest;
+use guest_frames::{decide_finish_guest, decide_install, decide_reclaim_pool, decide_topup};
+use guest_pages::{
+    decide_donate_guest, decide_guest_share_host, decide_guest_unshare_host, decide_reclaim_page,
+    decide_share_guest, decide_unshare_guest,
+};
 use guest_steps::{CpuState, GuestPart, SharedPart, VmPart};
 use hand::{decide_fund, decide_unfund};
 use page_state::{Entry, Layout, Page, PageRange, Refusal, Step};
@@ -158,7 +164,6 @@ pub fn decide<A: Allocator>(
     cpu: &CpuState,
     step: Step,
 ) -> Result<Changes, Refusal>
-    requires served { IsServed step }
     requires slot { slot ≡ slot_in (lent vms.now shared.now guest.now cpu.now) step }
     requires lent { IsLent (names step) slot (lent vms.now shared.now guest.now cpu.now) }
     requires suits { Each (SharedSuits (layout_of layout.now)) shared.now }
@@ -170,7 +175,13 @@ pub fn decide<A: Allocator>(
         return decide_vms(part, id, cpu, step);
     }
     if let Some(part) = shared.first() {
+        if let Some(own) = guest.first() {
+            return decide_with_guest(layout, part, &own.guest, id, slot.unwrap_or(0), cpu, step);
+        }
         return decide_shared(layout, part, id, cpu, step);
+    }
+    if let Some(own) = guest.first() {
+        return decide_guest(layout, &own.guest, cpu, step);
     }
     Err(Refusal::Invalid)
 }

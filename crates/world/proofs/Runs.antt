@@ -1,18 +1,21 @@
 -- Any list of steps is a run of the reference step.
-use Rattle.std.proofs.Common.{◌≡◌, ◌<◌, ℕ, zero, suc, List, [], ◌∷◌, All, length, slice_index_or, refl, ap, sym, subst, arith}
+use Rattle.std.proofs.Common.{◌≡◌, ◌∙◌, ◌<◌, ℕ, zero, suc, List, [], ◌∷◌, Option, Some, None, All, length, slice_index_or, refl, ap, sym, subst, arith}
 use Rattle.page_state.specs.declared.reply.Call.{Call}
 use Rattle.reference_model.specs.Boot.{boot}
 use Rattle.page_state.specs.Layouts.{Layout}
 use Rattle.reference_model.specs.Run.{Runs}
 use Rattle.reference_model.specs.State.{Reference}
+use Rattle.reference_model.proofs.conditions.Isolates.{run_isolated, run_kept_out}
 use Rattle.reference_model.proofs.conditions.RunsLegal.{run_sound, run_rows}
 use Rattle.reference_model.specs.Step.{Steps}
 use Rattle.component.specs.declared.Component.{Component}
+use Rattle.guest_component.specs.declared.body.Body.{Body}
+use Rattle.guest_steps.specs.declared.parts.GuestPart.{GuestPart}
 use Rattle.guest_steps.specs.declared.parts.SharedPart.{SharedPart}
 use Rattle.guest_steps.specs.Lent.{Each}
 use Rattle.hypercalls.specs.declared.parts.Parts.{Parts}
 use Rattle.hypercalls.specs.Stands.{parts_layout, state_of}
-use Rattle.world.specs.Laws.{Goes, StepsRun, StepsSound, StepsRows, StepsAgree, Agrees}
+use Rattle.world.specs.Laws.{Goes, StepsRun, StepsSound, StepsRows, StepsAgree, StepsIsolate, StepsKeepOut, Agrees, GuestAgrees}
 use Rattle.world.proofs.AtBoot.{ready}
 
 module _ {A : Type 0} where
@@ -47,5 +50,32 @@ module _ {A : Type 0} where
   all_agree [] = tt
   all_agree (s ∷ ss) = ((agrees s.host, agrees s.hyp), all_agree ss)
 
+  guest_agrees : (o : Option (Body A)) → GuestAgrees o
+  guest_agrees None = tt
+  guest_agrees (Some b) = agrees b.map
+
+  guests_agree : (gs : List (GuestPart A)) → Each (λ g. GuestAgrees g.guest.body) gs
+  guests_agree [] = tt
+  guests_agree (g ∷ gs) = (guest_agrees g.guest.body, guests_agree gs)
+
   pub steps_agree : StepsAgree A
-  steps_agree m config p q cs booted h = all_agree q.shared.items
+  steps_agree m config p q cs booted h = record { shared = all_agree q.shared.items; guests = guests_agree q.guests.items }
+
+  -- the layout stays
+  layout_stays : (cs : List Call) (p q : Parts A) → Runs Goes p cs q → parts_layout q ≡ parts_layout p
+  layout_stays [] p q h = sym (ap parts_layout h)
+  layout_stays (c ∷ cs) p q (b, go, rest) = layout_stays cs b q rest ∙ go.step.layout
+
+  -- the reference step that a step from there is
+  step_from : (p q r : Parts A) (c : Call) → parts_layout q ≡ parts_layout p → Goes q c r → (c.cpu < (parts_layout p).config.cpus) × Steps (parts_layout p) (state_of q) c (state_of r)
+  step_from p q r c same go =
+      let step : Steps (parts_layout q) (state_of q) c (state_of r) = subst (λ (x : Call). Steps (parts_layout q) (state_of q) x (state_of r)) (sym go.call) go.step.steps in
+      subst (λ (l : Layout). (c.cpu < l.config.cpus) × Steps l (state_of q) c (state_of r)) same (go.inside, step)
+
+  pub steps_isolate : StepsIsolate A
+  steps_isolate m config p q r cs c v f booted h go alive owned =
+      let step = step_from p q r c (layout_stays cs p q h) go in
+      run_isolated (parts_layout p) cs (state_of q) (state_of r) c v f (ready m config p booted) step.0 (steps_run m config p q cs booted h) step.1 alive owned
+
+  pub steps_keep_out : StepsKeepOut A
+  steps_keep_out m config p q cs v f component page state booted h owned maps = run_kept_out (parts_layout p) cs (state_of q) v f component page state (ready m config p booted) (steps_run m config p q cs booted h) owned maps

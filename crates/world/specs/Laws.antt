@@ -1,14 +1,18 @@
 -- Laws over lists of steps, each proved on the contract of the function of its name.
-use Rattle.std.specs.Prelude.{◌≡◌, ◌<◌, ℕ, true, List}
+use Rattle.std.specs.Prelude.{◌≡◌, ℕ, ◌+◌, ◌<◌, ◌⊎◌, true, List, Option, Some, None}
+use Rattle.descriptor.specs.declared.State.{State}
 use Rattle.page_state.specs.declared.layout.Config.{Config}
 use Rattle.page_state.specs.declared.reply.Call.{Call}
 use Rattle.page_state.specs.Layouts.{Layout, is_memory}
 use Rattle.page_state.specs.Regions.{Memory}
 use Rattle.page_state.specs.Runs.{map_of, IsCoarsest}
+use Rattle.reference_model.specs.Isolation.{FrameStays, SharesWithHost}
 use Rattle.reference_model.specs.Owner.{row_of}
 use Rattle.reference_model.specs.Run.{Runs, IsRun}
-use Rattle.reference_model.specs.Sound.{Sound}
+use Rattle.reference_model.specs.Sound.{Sound, Maps, owner}
+use Rattle.reference_model.specs.State.{live}
 use Rattle.component.specs.declared.Component.{Component}
+use Rattle.guest_component.specs.declared.body.Body.{Body}
 use Rattle.guest_steps.specs.Lent.{Each}
 use Rattle.hypercalls.specs.declared.parts.Parts.{Parts}
 use Rattle.hypercalls.specs.Stands.{parts_layout, state_of}
@@ -43,6 +47,26 @@ pub record Agrees {A : Type 0} (c : Component A) : Type 0 where
   pub walk : meaning c.tree ≡ map_of c.maplets.runs
   pub coarsest : IsCoarsest c.maplets.runs
 
--- and so it is with both trees of the Shared part
+-- and so it is with a guest's tree, if there is one
+abbrev pub GuestAgrees : {A : Type 0} → Option (Body A) → Type 0
+GuestAgrees None = Unit {0}
+GuestAgrees (Some b) = Agrees b.map
+
+-- with both trees of the Shared part, and with each guest's
+pub record AllAgree {A : Type 0} (p : Parts A) : Type 0 where
+  pub shared : Each (λ s. Agrees s.host × Agrees s.hyp) p.shared.items
+  pub guests : Each (λ g. GuestAgrees g.guest.body) p.guests.items
+
+-- and so it is after any list of steps
 abbrev pub StepsAgree : Type 0 → Type 0
-StepsAgree A = (m : Memory) (config : Config) (p q : Parts A) (cs : List Call) → IsBooted m config p → Runs Goes p cs q → Each (λ s. Agrees s.host × Agrees s.hyp) q.shared.items
+StepsAgree A = (m : Memory) (config : Config) (p q : Parts A) (cs : List Call) → IsBooted m config p → Runs Goes p cs q → AllAgree q
+
+-- the step after any list of steps takes no frame from a Live guest, and its page of it stays, or the guest itself shares it or takes it back
+abbrev pub StepsIsolate : Type 0 → Type 0
+StepsIsolate A = (m : Memory) (config : Config) (p q r : Parts A) (cs : List Call) (c : Call) (v f : ℕ) → IsBooted m config p → Runs Goes p cs q → Goes q c r
+    → ((state_of q).contents.guest v).phase ≡ live → owner (parts_layout p) (state_of q).contents f ≡ 2 + v → FrameStays (parts_layout p) (state_of q).contents (state_of r).contents c v f
+
+-- after any list of steps nobody maps a guest's frame but the guest, and the host while the guest's entry of it is SharedOwned
+abbrev pub StepsKeepOut : Type 0 → Type 0
+StepsKeepOut A = (m : Memory) (config : Config) (p q : Parts A) (cs : List Call) (v f component page : ℕ) (state : State) → IsBooted m config p → Runs Goes p cs q
+    → owner (parts_layout p) (state_of q).contents f ≡ 2 + v → Maps (state_of q).contents component page f state → (component ≡ 2 + v) ⊎ ((component ≡ 0) × SharesWithHost (state_of q).contents v f)

@@ -1,5 +1,5 @@
 //! Laws over lists of steps. Each function does nothing, and its contract is the law.
-ghost use Rattle.world.specs.Laws.{StepsAgree, StepsRun, StepsRows, StepsSound};
+ghost use Rattle.world.specs.Laws.{StepsAgree, StepsIsolate, StepsKeepOut, StepsRun, StepsRows, StepsSound};
 
 use std::alloc::Allocator;
 
@@ -17,7 +17,15 @@ pub fn steps_sound<A: Allocator>()
 {}
 
 /// After any list of steps of any CPUs a walk of each tree's words finds just what its maplets say, and the maplets are
-/// the coarsest list of runs of that map.
+/// the coarsest list of runs of that map: the host's tree, the hypervisor's, and each guest's.
 pub fn steps_agree<A: Allocator>()
     ensures { StepsAgree A }
+{}
+
+/// No step takes a frame from a Live guest: it stays the frame's owner, and its page of it stays, but where the guest itself
+/// shares it with the host or takes it back, on a CPU that has a vCPU of that guest loaded; then the entry's state alone
+/// changes. Nobody else maps such a frame but the host, while the guest's entry is SharedOwned.
+pub fn steps_isolate<A: Allocator>()
+    ensures isolated { StepsIsolate A }
+    ensures kept_out { StepsKeepOut A }
 {}
