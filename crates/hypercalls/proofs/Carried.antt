@@ -1,5 +1,5 @@
 -- Changes that were carried out, in words of the reference state.
-use Rattle.std.proofs.Common.{◌≡◌, ℕ, ◌<◌, ◌↔◌, Bool, true, false, ◌&&◌, ◌||◌, nat_lt, length, List, [], ◌∷◌, Option, Some, None, Result, Ok, Err, OnOk, refl, ap, sym, ◌∙◌, subst, arith, inl, inr}
+use Rattle.std.proofs.Common.{◌≡◌, ℕ, ◌<◌, ◌↔◌, Bool, true, false, ◌&&◌, ◌||◌, nat_lt, length, List, [], ◌∷◌, slice_get, Option, Some, None, Result, Ok, Err, OnOk, OnErr, refl, ap, sym, ◌∙◌, subst, arith, inl, inr}
 use mathlib.Core.Path.{fun_ext}
 use Rattle.hyp_pool.specs.declared.PoolFault.{PoolFault}
 use Rattle.hyp_pool.specs.declared.PoolFault.TheVariants.{NoPool}
@@ -43,6 +43,9 @@ use Rattle.guest_steps.specs.Lent.{Each, lent, one, used_in}
 use Rattle.guest_steps.specs.View.{vm_slots, shared_of, guest_held, cpu_of}
 use Rattle.hypercalls.specs.Carried.{GrowsOnly, IsLentOr, IsRoomy, LeavesGuest, LeavesShared, is_either_short, rows_told}
 
+less_none : (n : ℕ) → nat_lt n 0 ≡ false
+less_none n = grind (arith, nat_tests)
+
 row_kept : (b t : Bool) (x y : Row) → t ≡ false → y ≡ (elim (b && t) [ true ↦ x | false ↦ y ])
 row_kept true t x y h = rw h refl
 row_kept false t x y h = refl
@@ -80,14 +83,16 @@ module _ {A : Type 0} (l : Layout) (id : ℕ) (slot : Option ℕ) (h : Changes) 
   short_of_none (s ∷ []) only many = absurd (many refl)
   short_of_none (s ∷ (t ∷ ss)) only many = absurd only
 
+-- a pool that isn't lent is not short
+pub enough_of_none : {A : Type 0} (l : Layout) (h : Changes) (ss : List (SharedPart A)) → IsLentOr (LeavesShared h) ss → slice_get ss 0 ≡ None → false ≡ nat_lt (length (one no_shared shared_of ss).free) (shared_need l.depth h (one no_shared shared_of ss))
+enough_of_none l h [] only e = sym (ap (nat_lt 0) (no_need l h only) ∙ less_none 0)
+enough_of_none l h (s ∷ ss) only e = absurd cc
+
 -- the VM part, where it isn't lent
 pub slots_of_none : (change : SlotChange) (vs : List VmPart) → IsLentOr (change ≡ KeepSlots) vs → (length vs ≡ 1 → ⊥) → one no_vms vm_slots vs ≡ vms_by change (one no_vms vm_slots vs)
 slots_of_none change [] only many = sym (ap (λ c. vms_by c no_vms) only)
 slots_of_none change (v ∷ []) only many = absurd (many refl)
 slots_of_none change (v ∷ (w ∷ vs)) only many = absurd only
-
-less_none : (n : ℕ) → nat_lt n 0 ≡ false
-less_none n = grind (arith, nat_tests)
 
 same_used : (v v' : Vms) (s s' : Shared) (g g' : Guest) (k k' : Cpu) → v ≡ v' → s ≡ s' → g ≡ g' → k ≡ k' → ◌≡◌ {A = Used} (record { vms = v; shared = s; guest = g; cpu = k }) (record { vms = v'; shared = s'; guest = g'; cpu = k' })
 same_used v v' s s' g g' k k' a b c d = cc
@@ -114,9 +119,18 @@ module _ {A : Type 0} (d : ℕ) (h : Changes) where
   guest_of_none (g ∷ (k ∷ gs)) only many = absurd only
 
   pub no_need_of_none : (gs : List (GuestPart A)) → IsLentOr (LeavesGuest h) gs → (length gs ≡ 1 → ⊥) → nat_lt (length (one no_guest guest_held gs).free) (guest_need d h (one no_guest guest_held gs)) ≡ false
-  no_need_of_none [] only many = ap (nat_lt 0) (need_same d h no_guest only)
+  no_need_of_none [] only many = ap (nat_lt 0) (need_same d h no_guest only) ∙ less_none 0
   no_need_of_none (g ∷ []) only many = absurd (many refl)
   no_need_of_none (g ∷ (k ∷ gs)) only many = absurd only
+
+-- so it is, whatever was answered
+pub always_ok : {X E P : Type 0} (r : Result X E) → P → OnOk r P
+always_ok (Ok x) h = h
+always_ok (Err e) h = tt
+
+pub always_err : {X E P : Type 0} (r : Result X E) → P → OnErr r P
+always_err (Ok x) h = tt
+always_err (Err e) h = h
 
 -- what can be made of parts can be made of the guest
 pub can_change : {A : Type 0} (l : Layout) (h : Changes) (g : GuestComponent A) → guest_depth g ≡ l.depth → AllFit l.depth h → PartsFit l h (guest_of g) → GuestCanChange (guest_depth g) h (guest_of g)
@@ -156,9 +170,6 @@ grows_by h step ss gs only short = go (may_grow step) only
     go false k = let o = k refl in absurd (short (roomy_of_none h o.0 o.1 ss) (guests_roomy h o.2 o.3 gs))
 
 -- where a pool is short
-pub none_short_iff : {R : Type 0} (a b : Bool) → (R → ⊥) → a ≡ false → b ≡ false → R ↔ ((a || b) ≡ true)
-none_short_iff a b n p q = (λ r. absurd (n r), λ e. absurd (let bad : (false || false) ≡ true = rw (p, q) at e in cc))
-
 pub guest_short_iff : {R : Type 0} (a : Bool) (m n : ℕ) → a ≡ false → R ↔ (m < n) → R ↔ ((a || nat_lt m n) ≡ true)
 guest_short_iff a m n p iff = (λ r. rw p (lt-ltb m n (iff.0 r)), λ e. iff.1 (ltb-true m n (let t : (false || nat_lt m n) ≡ true = rw p at e in t)))
 

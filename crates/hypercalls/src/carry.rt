@@ -1,7 +1,6 @@
 //! Changes are carried out, for all calls in one place.
 ghost use Rattle.std.specs.Prelude.{◌≡◌, ◌<◌, ◌^◌, ◌↔◌, true, length, map, nat_lt, Err, OnOk, OnErr, unwrap_or};
 ghost use Rattle.guest_component.specs.Plans.{WantsNoMemory};
-ghost use Rattle.guest_component.specs.View.{guest_depth, guest_of};
 ghost use Rattle.guest_steps.specs.Lent.{Each, GuestSuits, SharedSuits, lent, one, used_in};
 ghost use Rattle.guest_steps.specs.View.{guest_held, shared_of, vm_slots};
 ghost use Rattle.hypercalls.specs.Carried.{GrowsOnly, IsLentOr, IsRoomy, LeavesGuest, LeavesShared, OnlyLent, is_either_short, rows_told};
@@ -14,7 +13,6 @@ ghost use Rattle.reference_model.specs.State.{no_guest, no_shared, no_vms};
 ghost use Rattle.reference_model.specs.Step.{guest_after, shared_after, shared_need};
 
 use crate::rows::{first_row, touched};
-use guest_component::Guest;
 use guest_steps::{CpuState, GuestPart, SharedPart, VmPart};
 use hyp_pool::PoolFault;
 use page_state::{Layout, Refusal, Reply};
@@ -121,35 +119,36 @@ fn change_with_guest<A: Allocator + Copy>(
     slot: Option<u64>,
     changes: &Changes,
     shared: &mut [SharedPart<A>],
-    guest: &mut Guest<A>,
+    part: &mut GuestPart<A>,
 ) -> Result<(), PoolFault>
     requires slot { unwrap_or slot 0 < 2 ^ 32 }
     requires lent { IsLentOr (LeavesShared changes.now) shared.old }
     requires fit { AllFit (layout_of layout.now).depth changes.now }
     requires touched { TouchedFits (layout_of layout.now) id slot changes.now }
     requires suits { Each (SharedSuits (layout_of layout.now)) shared.old }
-    requires depth { guest_depth guest.old ≡ (layout_of layout.now).depth }
-    requires parts { PartsFit (layout_of layout.now) changes.now (guest_of guest.old) }
+    requires guest_suits { GuestSuits (layout_of layout.now) part.old }
+    requires parts { PartsFit (layout_of layout.now) changes.now (guest_held part.old) }
     ensures made { OnOk result (one no_shared shared_of shared.new ≡ rows_told (layout_of layout.now) id slot changes.now (shared_after (layout_of layout.now).depth changes.now (one no_shared shared_of shared.old))) }
-    ensures made_guest { OnOk result (guest_of guest.new ≡ guest_after (layout_of layout.now).depth changes.now (guest_of guest.old)) }
-    ensures no_pool { (result ≡ Err PoolFault.NoPool) ↔ (is_either_short (layout_of layout.now).depth changes.now (one no_shared shared_of shared.old) (guest_of guest.old) ≡ true) }
-    ensures no_memory { result ≡ Err PoolFault.NoMemory → Each (IsRoomy changes.now) shared.old → WantsNoMemory changes.now guest.old → ⊥ }
+    ensures made_guest { OnOk result (guest_held part.new ≡ guest_after (layout_of layout.now).depth changes.now (guest_held part.old)) }
+    ensures no_pool { (result ≡ Err PoolFault.NoPool) ↔ (is_either_short (layout_of layout.now).depth changes.now (one no_shared shared_of shared.old) (guest_held part.old) ≡ true) }
+    ensures no_memory { result ≡ Err PoolFault.NoMemory → Each (IsRoomy changes.now) shared.old → WantsNoMemory changes.now part.old.guest → ⊥ }
     ensures err { OnErr result (one no_shared shared_of shared.new ≡ one no_shared shared_of shared.old) }
-    ensures err_guest { OnErr result (guest_of guest.new ≡ guest_of guest.old) }
+    ensures err_guest { OnErr result (guest_held part.new ≡ guest_held part.old) }
     ensures suits { Each (SharedSuits (layout_of layout.now)) shared.new }
-    ensures depth { guest_depth guest.new ≡ guest_depth guest.old }
+    ensures guest_suits { GuestSuits (layout_of layout.now) part.new }
     ensures log { map (λ p. p.log) shared.new ≡ map (λ p. p.log) shared.old }
+    ensures guest_log { part.new.log ≡ part.old.log }
 {
     if is_shared_short(layout, changes, shared) {
         return Err(PoolFault::NoPool);
     }
-    let plan = guest.reserve(alloc, changes)?;
+    let plan = part.guest.reserve(alloc, changes)?;
     change_shared(alloc, layout, id, slot, changes, shared)?;
-    guest.commit(alloc, changes, plan);
+    part.guest.commit(alloc, changes, plan);
     Ok(())
 }
 
-/// The same with the guest's part as a list of one, or without a guest, of which nothing changes then.
+/// The same where the Guest part is lent; where it isn't, nothing of it changes.
 fn change_maps<A: Allocator + Copy>(
     alloc: A,
     layout: &Layout,
@@ -178,11 +177,11 @@ fn change_maps<A: Allocator + Copy>(
     ensures log { map (λ p. p.log) shared.new ≡ map (λ p. p.log) shared.old }
     ensures guest_log { map (λ p. p.log) guest.new ≡ map (λ p. p.log) guest.old }
 {
-    if let [part] = guest {
-        change_with_guest(alloc, layout, id, slot, changes, shared, &mut part.guest)
-    } else {
-        change_shared(alloc, layout, id, slot, changes, shared)
+    if guest.len() != 1 {
+        return change_shared(alloc, layout, id, slot, changes, shared);
     }
+    let part = &mut guest[0];
+    change_with_guest(alloc, layout, id, slot, changes, shared, part)
 }
 
 /// Makes the change of the slots where the VM part is lent; where it isn't, they stay.

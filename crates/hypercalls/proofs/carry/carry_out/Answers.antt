@@ -29,3 +29,6 @@ returns-in-Err-NoMemory-clause-carried g c = λ step grows.
     (λ few. other (sym c.in-Err-NoMemory.field-0-is ∙ err_is (c.in-Err-NoMemory.ensures.no_pool.1 few)))
     (grows_by c.args.changes.now step c.args.shared.now c.args.guest.now grows (c.in-Err-NoMemory.ensures.no_memory (ap (λ e. Err e) c.in-Err-NoMemory.field-0-is)))
     refl c.in-Err-NoMemory.ensures.err c.in-Err-NoMemory.ensures.err_guest refl
+
+pub returns-in-Err-NoMemory-clause-wants : goal.returns-in-Err-NoMemory-clause-wants
+returns-in-Err-NoMemory-clause-wants g c = λ e roomy ready. c.in-Err-NoMemory.ensures.no_memory (ap (λ e. Err e) c.in-Err-NoMemory.field-0-is) roomy ready
