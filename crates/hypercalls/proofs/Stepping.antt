@@ -34,6 +34,27 @@ or_parts false false true d h = cc
 or_parts false false false true h = cc
 or_parts false false false false h = (refl, refl, refl, refl)
 
+-- the second, the third and the last of four tests
+pub second_true : (a b c d : Bool) → b ≡ true → true ≡ (a || b || c || d)
+second_true true b c d h = refl
+second_true false b c d h = rw h refl
+
+pub third_true : (a b c d : Bool) → c ≡ true → true ≡ (a || b || c || d)
+third_true true b c d h = refl
+third_true false true c d h = refl
+third_true false false c d h = rw h refl
+
+pub last_of : (a b c d r : Bool) → a ≡ false → b ≡ false → c ≡ false → r ≡ d → r ≡ (a || b || c || d)
+last_of a b c d r ha hb hc e = rw (ha, hb, hc) e
+
+pub is_some_room : (n : ℕ) → (n ≡ 0 → ⊥) → (n == 0) ≡ false
+is_some_room n h = grind (arith, nat_tests)
+
+-- where none is lent, nothing is stored
+pub stored_in_none : {P : Type 0} (log : P → StoredCalls) (c : Call) (ps : List P) → length ps ≤ 1 → (length ps ≡ 1 → ⊥) → map log ps ≡ map (with_call c) (map log ps)
+stored_in_none log c [] few many = refl
+stored_in_none log c (p ∷ ps) few many = absurd (many (omega (arith, few)))
+
 -- a log that isn't full has room
 pub some_room : (n : ℕ) → (n == 0) ≡ false → 0 < n
 some_room n h = grind (arith, nat_tests)

@@ -164,9 +164,10 @@ fn store_guest<A: Allocator>(guest: &mut [GuestPart<A>], call: Call)
     ensures depth { map (λ g. guest_depth g.guest) guest.new ≡ map (λ g. guest_depth g.guest) guest.old }
     ensures log { map (λ p. p.log) guest.new ≡ map (with_call call) (map (λ p. p.log) guest.old) }
 {
-    if let [part] = guest {
-        part.log.store(call);
+    if guest.len() != 1 {
+        return;
     }
+    guest[0].log.store(call);
 }
 
 /// Stores a call in all lent logs.
