@@ -8,3 +8,4 @@ pub mod Whole
 pub mod Ranged
 pub mod Decided
 pub mod Hands
+pub mod GuestDecided

@@ -13,7 +13,7 @@ ghost use Rattle.reference_model.specs.State.{Cpu, Guest as ReferenceGuest, Shar
 ghost use Rattle.reference_model.specs.Used.{with_guest};
 
 use super::change;
-use super::vms::ticket_becomes;
+use super::vms::{SLOTS, ticket_becomes};
 use crate::pages::hyp_page;
 use guest_component::Guest;
 use guest_steps::{CpuState, SharedPart};
@@ -23,9 +23,6 @@ use std::alloc::Allocator;
 
 /// The most frames that a guest holds (profile).
 const MOST_FRAMES: u64 = 512;
-
-/// The slots of VMs (profile).
-const SLOTS: u64 = 64;
 
 /// The VM of the CPU's ticket.
 fn ticket_vm(cpu: &CpuState) -> VmId

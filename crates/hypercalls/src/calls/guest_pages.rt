@@ -1,7 +1,8 @@
 //! Calls that change a page of the host and a page of a guest.
-ghost use Rattle.std.specs.Prelude.{◌≡◌, ◌<◌, ◌^◌, ℕ, Some};
+ghost use Rattle.std.specs.Prelude.{◌≡◌, ◌<◌, ℕ, Some, if◌then◌else◌};
 ghost use Rattle.guest_component.specs.View.{guest_of};
 ghost use Rattle.guest_steps.specs.View.{shared_of};
+ghost use Rattle.page_state.specs.EntryTests.{entry_frame as frame_of_entry, is_in as is_entry_in, leaf as leaf_of};
 ghost use Rattle.page_state.specs.LayoutView.{layout_of};
 ghost use Rattle.reference_model.specs.Answers.{decides};
 ghost use Rattle.reference_model.specs.State.{Cpu};
@@ -10,6 +11,7 @@ ghost use Rattle.page_state.specs.declared.step.Step.TheVariants.{ShareGuest, Un
 ghost use Rattle.reference_model.specs.GuestRules.{two_pages as two_pages_of};
 
 use super::change;
+use super::vms::SLOTS;
 use crate::pages::{entry_frame, is_free_page, is_in, is_mapped, leaf, with_state};
 use guest_component::Guest;
 use guest_steps::SharedPart;
@@ -68,7 +70,7 @@ pub(crate) fn decide_unshare_guest<A: Allocator>(
 ) -> Result<Changes, Refusal>
     ensures decided { (id slot : ℕ) (k : Cpu) → result ≡ decides (layout_of layout.now) id (Some slot) (UnshareGuest vm gfn) (with_guest (shared_of shared.now) (guest_of guest.now) k) }
 {
-    if vm.slot >= 64 || gfn >= layout.geometry.pages() {
+    if vm.slot >= SLOTS || gfn >= layout.geometry.pages() {
         return Err(Refusal::Invalid);
     }
     if !guest.is_live(vm) {
@@ -97,7 +99,7 @@ pub(crate) fn decide_donate_guest<A: Allocator>(
     pfn: u64,
     gfn: u64,
 ) -> Result<Changes, Refusal>
-    requires { slot < 2 ^ 32 }
+    requires { slot < 64 }
     ensures decided { (id : ℕ) (k : Cpu) → result ≡ decides (layout_of layout.now) id (Some slot) (DonateGuest pfn gfn) (with_guest (shared_of shared.now) (guest_of guest.now) k) }
 {
     if !layout.map.is_memory(Page(pfn)) || gfn >= layout.geometry.pages() {
@@ -152,7 +154,7 @@ pub(crate) fn decide_guest_unshare_host<A: Allocator>(
     slot: u64,
     gfn: u64,
 ) -> Result<Changes, Refusal>
-    requires { slot < 2 ^ 32 }
+    requires { slot < 64 }
     ensures decided { (id : ℕ) (k : Cpu) → result ≡ decides (layout_of layout.now) id (Some slot) (GuestUnshareHost gfn) (with_guest (shared_of shared.now) (guest_of guest.now) k) }
 {
     if gfn >= layout.geometry.pages() {
@@ -170,7 +172,19 @@ pub(crate) fn decide_guest_unshare_host<A: Allocator>(
     ))
 }
 
-/// The host gets the frame of a Dying guest's page back: as it was given, or as it was shared.
+/// What the host's page of a guest's frame becomes: unmapped where the guest owned the frame, and the host's own where one
+/// of them shared it.
+fn reclaimed(entry: Entry) -> Entry
+    ensures { result ≡ (if is_entry_in State.Owned entry then Entry.Unmapped else leaf_of Prot.RWX (frame_of_entry entry) State.Owned) }
+{
+    if is_in(State::Owned, entry) {
+        Entry::Unmapped
+    } else {
+        leaf(entry_frame(entry), Prot::RWX, State::Owned)
+    }
+}
+
+/// The host gets the frame of a page of a Dying guest back.
 #[tactic(auto, unfolding(reference_model::specs::Rules::rule))]
 pub(crate) fn decide_reclaim_page<A: Allocator>(
     layout: &Layout,
@@ -181,7 +195,7 @@ pub(crate) fn decide_reclaim_page<A: Allocator>(
 ) -> Result<Changes, Refusal>
     ensures decided { (id slot : ℕ) (k : Cpu) → result ≡ decides (layout_of layout.now) id (Some slot) (ReclaimPage vm gfn) (with_guest (shared_of shared.now) (guest_of guest.now) k) }
 {
-    if vm.slot >= 64 || gfn >= layout.geometry.pages() {
+    if vm.slot >= SLOTS || gfn >= layout.geometry.pages() {
         return Err(Refusal::Invalid);
     }
     if !guest.is_dying(vm) {
@@ -191,11 +205,5 @@ pub(crate) fn decide_reclaim_page<A: Allocator>(
     if !is_mapped(entry) {
         return Err(Refusal::Perm);
     }
-    let pfn = entry_frame(entry);
-    let host = if is_in(State::Owned, entry) {
-        Entry::Unmapped
-    } else {
-        leaf(pfn, Prot::RWX, State::Owned)
-    };
-    Ok(two_pages(pfn, host, gfn, Entry::Unmapped))
+    Ok(two_pages(entry_frame(entry), reclaimed(entry), gfn, Entry::Unmapped))
 }
