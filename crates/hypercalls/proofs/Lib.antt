@@ -9,3 +9,4 @@ pub mod Ranged
 pub mod Decided
 pub mod Hands
 pub mod GuestDecided
+pub mod Slots

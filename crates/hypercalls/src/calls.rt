@@ -206,6 +206,7 @@ fn unloaded_page(layout: &Layout, gfn: u64) -> Refusal
 }
 
 /// The refusal of a call that uses no part: its VM names no slot, or the CPU has no vCPU loaded, or no ticket of the stage.
+#[tactic(auto, using(crate::proofs::Slots::no_slot, crate::proofs::Slots::not_low), unfolding(reference_model::specs::Rules::rule))]
 fn refusal_of_none(layout: &Layout, step: Step) -> Refusal
     requires vms { uses_vms (names step) ≡ false }
     requires shared { uses_shared (names step) None ≡ false }
