@@ -102,10 +102,11 @@ module _ {A : Type 0} (step : Step) (slot : Option ℕ) (x : Lent A) (fits : IsL
     no_vm = first_none (uses_vms (names step)) x.vms no_vms fits.vms
 
     -- a guest
-    pub on_guest : (g : GuestPart A) → slice_get x.guest 0 ≡ Some g → (slot ≡ Some (unwrap_or slot 0)) × (x.guest ≡ g ∷ []) × (used_in x ≡ with_guest (one no_shared shared_of x.shared) (guest_held g) (cpu_of x.cpu))
-    on_guest g e =
+    pub on_guest : (g : GuestPart A) (n : ℕ) → slice_get x.guest 0 ≡ Some g → n ≡ unwrap_or slot 0 → (slot ≡ Some n) × (x.guest ≡ g ∷ []) × (IsOneWhere (uses_shared (names step) (Some n)) x.shared) × (used_in x ≡ with_guest (one no_shared shared_of x.shared) (guest_held g) (cpu_of x.cpu))
+    on_guest g n e h =
         let is = first_one (is_some slot) x.guest g e fits.guest in
-        (has_value slot is.1, is.0, by_lists [] x.shared (g ∷ []) no_vm.0 refl is.0)
+        let found : slot ≡ Some n = has_value slot is.1 ∙ ap Some (sym h) in
+        (found, is.0, subst (λ (o : Option ℕ). IsOneWhere (uses_shared (names step) o) x.shared) found fits.shared, by_lists [] x.shared (g ∷ []) no_vm.0 refl is.0)
 
     module _ (no_guests : slice_get x.guest 0 ≡ None) where
       no_slot : (x.guest ≡ []) × (slot ≡ None)
