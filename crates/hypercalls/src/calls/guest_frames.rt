@@ -9,7 +9,7 @@ ghost use Rattle.reference_model.specs.Answers.{decides};
 ghost use Rattle.reference_model.specs.GuestRules.{moved_on as moved_on_of, ticket_kind as ticket_kind_of, ticket_vm as ticket_vm_of};
 ghost use Rattle.reference_model.specs.Rely.{CanRely};
 ghost use Rattle.reference_model.specs.SharedRules.{to_host as to_host_of};
-ghost use Rattle.reference_model.specs.State.{Cpu, Guest as ReferenceGuest, Shared};
+ghost use Rattle.reference_model.specs.State.{Guest as ReferenceGuest, Shared};
 ghost use Rattle.reference_model.specs.Used.{with_guest};
 
 use super::change;

@@ -1,4 +1,4 @@
-use Rattle.std.proofs.Common.{◌∙◌, Some, None, ap, sym, subst}
+use Rattle.std.proofs.Common.{◌∙◌, Some, None, sym, subst}
 use Rattle.page_state.specs.LayoutView.{layout_of}
 use Rattle.guest_steps.specs.Lent.{Each, GuestSuits, SharedSuits, lent}
 use Rattle.guest_steps.specs.View.{cpu_of}
