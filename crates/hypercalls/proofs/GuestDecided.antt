@@ -39,12 +39,12 @@ module _ (l : Layout) (id slot : ℕ) (s : Shared) (g : Guest) (k : Cpu) where
 
   module _ (vm : VmId) (r : PageRange) (low : vm.slot < 64) (lives : is_guest live vm g ≡ true) (held : k.hand ≡ Some r) where
     -- the pool gets the hand
-    pub tops_up : guest_table_count l g.tree + length g.free + r.count ≤ 512 → Ok (record no_changes { part = Gain r; cpu = hand_becomes None; moved = Some r }) ≡ decides l id (Some slot) (Topup vm) (with_guest s g k)
+    pub tops_up : (left : CpuChange) → left ≡ hand_becomes None → guest_table_count l g.tree + length g.free + r.count ≤ 512 → Ok (record no_changes { part = Gain r; cpu = left; moved = Some r }) ≡ decides l id (Some slot) (Topup vm) (with_guest s g k)
     unfolding rule
-    tops_up few =
+    tops_up left gone few =
         let is_low : nat_le 64 vm.slot ≡ false = grind (arith, nat_tests) in
         let fits : nat_lt 512 (guest_table_count l g.tree + length g.free + r.count) ≡ false = grind (arith, nat_tests) in
-        subst (λ (h : Option PageRange). Ok (record no_changes { part = Gain r; cpu = hand_becomes None; moved = Some r }) ≡ decides l id (Some slot) (Topup vm) (with_guest s g (record k { hand = h }))) (sym held) (rw (is_low, lives, fits) refl)
+        subst (λ (h : Option PageRange). Ok (record no_changes { part = Gain r; cpu = left; moved = Some r }) ≡ decides l id (Some slot) (Topup vm) (with_guest s g (record k { hand = h }))) (sym held) (rw (gone, is_low, lives, fits) refl)
 
     -- but not past its 512 frames
     pub tops_over : 512 < guest_table_count l g.tree + length g.free + r.count → Err Perm ≡ decides l id (Some slot) (Topup vm) (with_guest s g k)

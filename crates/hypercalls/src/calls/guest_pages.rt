@@ -2,13 +2,13 @@
 ghost use Rattle.std.specs.Prelude.{◌≡◌, ◌<◌, ℕ, Some, if◌then◌else◌};
 ghost use Rattle.guest_component.specs.View.{guest_of};
 ghost use Rattle.guest_steps.specs.View.{shared_of};
-ghost use Rattle.page_state.specs.EntryTests.{entry_frame as frame_of_entry, is_in as is_entry_in, leaf as leaf_of};
+ghost use Rattle.page_state.specs.EntryTests.{annotation, entry_frame as frame_of_entry, is_in as is_entry_in, leaf as leaf_of};
 ghost use Rattle.page_state.specs.LayoutView.{layout_of};
 ghost use Rattle.reference_model.specs.Answers.{decides};
 ghost use Rattle.reference_model.specs.State.{Cpu};
 ghost use Rattle.reference_model.specs.Used.{with_guest};
 ghost use Rattle.page_state.specs.declared.step.Step.TheVariants.{ShareGuest, UnshareGuest, DonateGuest, GuestShareHost, GuestUnshareHost, ReclaimPage};
-ghost use Rattle.reference_model.specs.GuestRules.{two_pages as two_pages_of};
+ghost use Rattle.reference_model.specs.GuestRules.{guest_owner, two_pages as two_pages_of};
 
 use super::change;
 use super::vms::SLOTS;
@@ -28,6 +28,14 @@ fn two_pages(pfn: u64, host: Entry, gfn: u64, guest: Entry) -> Changes
         guest: change(Page(gfn), 1, guest),
         ..Changes::NONE
     }
+}
+
+/// The host's entry of a page whose frame the guest of a slot owns.
+fn owned_by_guest(slot: u64) -> Entry
+    requires { slot < 64 }
+    ensures { result ≡ annotation (guest_owner (Some slot)) }
+{
+    Entry::Annotated(Owner(2 + slot))
 }
 
 /// The host shares a frame with a plain VM: its page must be free to give, and the guest's page unmapped.
@@ -111,12 +119,8 @@ pub(crate) fn decide_donate_guest<A: Allocator>(
     {
         return Err(Refusal::Perm);
     }
-    Ok(two_pages(
-        pfn,
-        Entry::Annotated(Owner(2 + slot)),
-        gfn,
-        leaf(pfn, Prot::RWX, State::Owned),
-    ))
+    let given = leaf(pfn, Prot::RWX, State::Owned);
+    Ok(two_pages(pfn, owned_by_guest(slot), gfn, given))
 }
 
 /// The guest shares a page that it owns with the host.
@@ -166,7 +170,7 @@ pub(crate) fn decide_guest_unshare_host<A: Allocator>(
     }
     Ok(two_pages(
         entry_frame(entry),
-        Entry::Annotated(Owner(2 + slot)),
+        owned_by_guest(slot),
         gfn,
         with_state(State::Owned, entry),
     ))
