@@ -13,7 +13,7 @@ use Rattle.reference_model.specs.SharedRules.{unfund}
 use Rattle.reference_model.specs.State.{Shared, Cpu}
 use Rattle.reference_model.specs.Used.{used_alone}
 
-pages_are : (g : Geometry) → pages_below (levels_below g) ≡ 2 ^ 27
+pub pages_are : (g : Geometry) → pages_below (levels_below g) ≡ 2 ^ 27
 pages_are Bits39 = refl
 
 -- what goes back to the host can be written, so the hypervisor's pages of the hand are input pages

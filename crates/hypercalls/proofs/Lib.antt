@@ -8,3 +8,5 @@ pub mod Whole
 pub mod Ranged
 pub mod Decided
 pub mod Hands
+pub mod GuestDecided
+pub mod Slots

@@ -10,6 +10,7 @@ use Rattle.reference_model.specs.declared.changes.SlotChange.TheVariants.{Open, 
 use Rattle.reference_model.specs.declared.changes.Stage.TheVariants.{Booked, Installed, Finished}
 use Rattle.reference_model.specs.Answers.{decides}
 use Rattle.reference_model.specs.Changes.{no_changes}
+use Rattle.reference_model.specs.GuestRules.{ticket_vm}
 use Rattle.reference_model.specs.Rules.{rule}
 use Rattle.reference_model.specs.Used.{vms_alone}
 use Rattle.reference_model.specs.VmRules.{no_ticket as no_ticket_left}
@@ -34,6 +35,10 @@ stage_is stage k t b e f = ap (λ (o : Option Ticket). elim o [ Some x ↦ stage
 -- the VM of a ticket
 abbrev vm_of : Option Ticket → VmId
 vm_of o = elim o [ Some t ↦ t.vm | None ↦ record { slot = 0; generation = 0 } ]
+
+-- no ticket is of no VM
+pub vm_of_none : (k : Cpu) → k.ticket ≡ None → record { slot = 0; generation = 0 } ≡ ticket_vm k
+vm_of_none k e = ap vm_of (sym e)
 
 -- an installed VM opens
 pub opens : (l : Layout) (id : ℕ) (v : Vms) (k : Cpu) (t : Ticket) (left : CpuChange) → left ≡ no_ticket_left → has_stage Installed k ≡ true → k.ticket ≡ Some t → Ok (record no_changes { slot = Open t.vm.slot; cpu = left; value = Vm t.vm }) ≡ decides l id None VmOpen (vms_alone v k)

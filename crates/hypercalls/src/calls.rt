@@ -1,14 +1,16 @@
 //! What each call decides: the first of its tests that fails, or all that it changes. Nothing is changed here.
-ghost use Rattle.std.specs.Prelude.{◌≡◌, true, Some, None, IfOk};
-ghost use Rattle.guest_steps.specs.Lent.{Each, IsLent, SharedSuits, lent, slot_in, used_in};
+ghost use Rattle.std.specs.Prelude.{◌≡◌, ◌<◌, ℕ, true, false, not, ◌||◌, Some, None, Err, IfOk, if◌then◌else◌};
+ghost use Rattle.guest_component.specs.View.{guest_depth, guest_of};
+ghost use Rattle.guest_steps.specs.Lent.{Each, GuestSuits, IsLent, IsOneWhere, SharedSuits, lent, one, slot_in, used_in};
 ghost use Rattle.guest_steps.specs.View.{cpu_of, shared_of, vm_slots};
 ghost use Rattle.hypercalls.specs.Carried.{GrowsOnly};
 ghost use Rattle.page_state.specs.LayoutView.{layout_of};
 ghost use Rattle.reference_model.specs.Answers.{decides};
-ghost use Rattle.page_state.specs.Layouts.{Layout as ReferenceLayout};
-ghost use Rattle.reference_model.specs.Parts.{names, uses_shared, uses_vms};
+ghost use Rattle.page_state.specs.Layouts.{Layout as ReferenceLayout, is_good_page, is_memory};
+ghost use Rattle.reference_model.specs.Parts.{guest as guest_alone_named, guest_slot, names, shared_and_guest, uses_shared, uses_vms};
 ghost use Rattle.reference_model.specs.Rely.{CanRely};
-ghost use Rattle.reference_model.specs.Used.{used_alone, vms_alone};
+ghost use Rattle.reference_model.specs.State.{Cpu, no_guest, no_shared};
+ghost use Rattle.reference_model.specs.Used.{guest_alone, used_alone, vms_alone, with_guest};
 
 mod abort;
 mod asks;
@@ -119,11 +121,17 @@ fn decide_with_guest<A: Allocator>(
     ensures grows { IfOk result (GrowsOnly step) }
 {
     match step {
-        Step::ShareGuest { pfn, gfn, prot } => decide_share_guest(layout, shared, guest, pfn, gfn, prot),
+        Step::ShareGuest { pfn, gfn, prot } => decide_share_guest(
+            layout, shared, guest, pfn, gfn, prot,
+        ),
         Step::UnshareGuest { vm, gfn } => decide_unshare_guest(layout, shared, guest, vm, gfn),
-        Step::DonateGuest { pfn, gfn } => decide_donate_guest(layout, shared, guest, slot, pfn, gfn),
+        Step::DonateGuest { pfn, gfn } => decide_donate_guest(
+            layout, shared, guest, slot, pfn, gfn,
+        ),
         Step::GuestShareHost { gfn } => decide_guest_share_host(layout, shared, guest, gfn),
-        Step::GuestUnshareHost { gfn } => decide_guest_unshare_host(layout, shared, guest, slot, gfn),
+        Step::GuestUnshareHost { gfn } => decide_guest_unshare_host(
+            layout, shared, guest, slot, gfn,
+        ),
         Step::Install => decide_install(cpu),
         Step::Topup { vm } => decide_topup(layout, guest, cpu, vm),
         Step::ReclaimPage { vm, gfn } => decide_reclaim_page(layout, shared, guest, vm, gfn),
@@ -152,8 +160,71 @@ fn decide_guest<A: Allocator>(
     }
 }
 
-/// What a step decides on the parts that it uses, with the slot of its Guest part; a VmId that names no slot uses none. It
-/// asks for a call that is served, for a Shared part of the layout, and for parts that a run leaves.
+/// What a call on a guest decides, with the Shared part or without it.
+fn decide_on_guest<A: Allocator>(
+    layout: &Layout,
+    shared: &[SharedPart<A>],
+    guest: &Guest<A>,
+    id: u64,
+    slot: u64,
+    cpu: &CpuState,
+    step: Step,
+) -> Result<Changes, Refusal>
+    requires slot { slot < 64 }
+    requires named { guest_slot (cpu_of cpu.now) step ≡ Some slot }
+    requires lent { IsOneWhere (uses_shared (names step) (Some slot)) shared.now }
+    requires depth { guest_depth guest.now ≡ (layout_of layout.now).depth }
+    requires rely { CanRely (layout_of layout.now) id (Some slot) step (with_guest (one no_shared shared_of shared.now) (guest_of guest.now) (cpu_of cpu.now)) }
+    ensures decided { result ≡ decides (layout_of layout.now) id (Some slot) step (with_guest (one no_shared shared_of shared.now) (guest_of guest.now) (cpu_of cpu.now)) }
+    ensures grows { IfOk result (GrowsOnly step) }
+{
+    if let Some(part) = shared.first() {
+        return decide_with_guest(layout, part, guest, id, slot, cpu, step);
+    }
+    decide_guest(layout, guest, cpu, step)
+}
+
+/// The refusal of a call on a guest that there is none of: Invalid where the frame isn't memory, or the page not an input
+/// page.
+fn unloaded(layout: &Layout, pfn: u64, gfn: u64) -> Refusal
+    ensures { result ≡ (if not (is_memory (layout_of layout.now) pfn) || not (is_good_page (layout_of layout.now) gfn) then Refusal.Invalid else Refusal.NoVm) }
+{
+    if !layout.map.is_memory(Page(pfn)) || gfn >= layout.geometry.pages() {
+        return Refusal::Invalid;
+    }
+    Refusal::NoVm
+}
+
+/// The same of a call that names no frame.
+fn unloaded_page(layout: &Layout, gfn: u64) -> Refusal
+    ensures { result ≡ (if not (is_good_page (layout_of layout.now) gfn) then Refusal.Invalid else Refusal.NoVm) }
+{
+    if gfn >= layout.geometry.pages() {
+        return Refusal::Invalid;
+    }
+    Refusal::NoVm
+}
+
+/// The refusal of a call that uses no part: its VM names no slot, or the CPU has no vCPU loaded, or no ticket of the stage.
+#[tactic(auto, using(crate::proofs::Slots::no_slot, crate::proofs::Slots::not_low), unfolding(reference_model::specs::Rules::rule))]
+fn refusal_of_none(layout: &Layout, step: Step) -> Refusal
+    requires vms { uses_vms (names step) ≡ false }
+    requires shared { uses_shared (names step) None ≡ false }
+    ensures { (id : ℕ) (k : Cpu) → guest_slot k step ≡ None → Err result ≡ decides (layout_of layout.now) id None step (guest_alone no_guest k) }
+{
+    match step {
+        Step::ShareGuest { pfn, gfn, .. } => unloaded(layout, pfn, gfn),
+        Step::DonateGuest { pfn, gfn } => unloaded(layout, pfn, gfn),
+        Step::GuestShareHost { gfn } => unloaded_page(layout, gfn),
+        Step::GuestUnshareHost { gfn } => unloaded_page(layout, gfn),
+        Step::GuestRelax { gfn, .. } => unloaded_page(layout, gfn),
+        Step::Install | Step::FinishGuest | Step::MarkDying => Refusal::NoVm,
+        _ => Refusal::Invalid,
+    }
+}
+
+/// What a step decides on the parts that it uses, with the slot of its Guest part; a step whose VM or CPU names no slot uses
+/// no part. It asks for parts of the layout that a run leaves.
 pub fn decide<A: Allocator>(
     layout: &Layout,
     vms: &[VmPart],
@@ -167,6 +238,7 @@ pub fn decide<A: Allocator>(
     requires slot { slot ≡ slot_in (lent vms.now shared.now guest.now cpu.now) step }
     requires lent { IsLent (names step) slot (lent vms.now shared.now guest.now cpu.now) }
     requires suits { Each (SharedSuits (layout_of layout.now)) shared.now }
+    requires guest_suits { Each (GuestSuits (layout_of layout.now)) guest.now }
     requires rely { CanRely (layout_of layout.now) id slot step (used_in (lent vms.now shared.now guest.now cpu.now)) }
     ensures decided { result ≡ decides (layout_of layout.now) id slot step (used_in (lent vms.now shared.now guest.now cpu.now)) }
     ensures grows { IfOk result (GrowsOnly step) }
@@ -174,14 +246,22 @@ pub fn decide<A: Allocator>(
     if let Some(part) = vms.first() {
         return decide_vms(part, id, cpu, step);
     }
+    if let Some(part) = guest.first() {
+        return decide_on_guest(
+            layout,
+            shared,
+            &part.guest,
+            id,
+            slot.unwrap_or(0),
+            cpu,
+            step,
+        );
+    }
     if let Some(part) = shared.first() {
         if let Some(own) = guest.first() {
             return decide_with_guest(layout, part, &own.guest, id, slot.unwrap_or(0), cpu, step);
         }
         return decide_shared(layout, part, id, cpu, step);
     }
-    if let Some(own) = guest.first() {
-        return decide_guest(layout, &own.guest, cpu, step);
-    }
-    Err(Refusal::Invalid)
+    Err(refusal_of_none(layout, step))
 }

@@ -102,7 +102,10 @@ pub(crate) fn with_state(state: State, entry: Entry) -> Entry
 {
     match entry {
         Entry::Leaf {
-            frame, prot, kind, ..
+            frame,
+            prot,
+            kind,
+            ..
         } => Entry::Leaf {
             frame,
             prot,

@@ -12,6 +12,7 @@ ghost use Rattle.hypercalls.specs.Carried.{GrowsOnly};
 
 use super::change;
 use super::guest_frames::moved_on;
+use super::vms::SLOTS;
 use crate::pages::{is_in, with_rights};
 use guest_component::Guest;
 use guest_steps::CpuState;
@@ -53,7 +54,7 @@ pub(crate) fn decide_guest_translate<A: Allocator>(
     ensures decided { (id slot : ℕ) (k : Cpu) → result ≡ decides (layout_of layout.now) id (Some slot) (GuestTranslate vm gfn) (guest_alone (guest_of guest.now) k) }
     ensures grows { IfOk result (GrowsOnly (GuestTranslate vm gfn)) }
 {
-    if vm.slot >= 64 || gfn >= layout.geometry.pages() {
+    if vm.slot >= SLOTS || gfn >= layout.geometry.pages() {
         return Err(Refusal::Invalid);
     }
     if !guest.is_live(vm) && !guest.is_dying(vm) {

@@ -8,24 +8,21 @@ ghost use Rattle.page_state.specs.declared.step.Step.TheVariants.{FinishGuest, I
 ghost use Rattle.reference_model.specs.Answers.{decides};
 ghost use Rattle.reference_model.specs.GuestRules.{moved_on as moved_on_of, ticket_kind as ticket_kind_of, ticket_vm as ticket_vm_of};
 ghost use Rattle.reference_model.specs.Rely.{CanRely};
-ghost use Rattle.reference_model.specs.SharedRules.{to_host as to_host_of};
-ghost use Rattle.reference_model.specs.State.{Cpu, Guest as ReferenceGuest, Shared};
+ghost use Rattle.reference_model.specs.SharedRules.{hand_becomes as hand_becomes_of, to_host as to_host_of};
+ghost use Rattle.reference_model.specs.State.{Guest as ReferenceGuest, Shared};
 ghost use Rattle.reference_model.specs.Used.{with_guest};
 
 use super::change;
-use super::vms::ticket_becomes;
+use super::vms::{SLOTS, ticket_becomes};
 use crate::pages::hyp_page;
 use guest_component::Guest;
 use guest_steps::{CpuState, SharedPart};
-use page_state::{Entry, Frame, Layout, Page, Refusal, Value, VmId, VmKind};
+use page_state::{Entry, Frame, Layout, Page, PageRange, Refusal, Value, VmId, VmKind};
 use reference_model::{Changes, CpuChange, GuestChange, Stage, Ticket, Update};
 use std::alloc::Allocator;
 
 /// The most frames that a guest holds (profile).
 const MOST_FRAMES: u64 = 512;
-
-/// The slots of VMs (profile).
-const SLOTS: u64 = 64;
 
 /// The VM of the CPU's ticket.
 fn ticket_vm(cpu: &CpuState) -> VmId
@@ -59,6 +56,16 @@ pub(crate) fn moved_on(stage: Stage, cpu: &CpuState) -> CpuChange
         kind: ticket_kind(cpu),
         stage,
     }))
+}
+
+/// The CPU's hand becomes this.
+fn hand_becomes(hand: Option<PageRange>) -> CpuChange
+    ensures { result ≡ hand_becomes_of hand }
+{
+    CpuChange {
+        hand: Update::Becomes(hand),
+        ..CpuChange::NONE
+    }
 }
 
 /// A frame goes back to the host: neither the host's page of it nor the hypervisor's is mapped.
@@ -122,10 +129,7 @@ pub(crate) fn decide_topup<A: Allocator>(
     }
     Ok(Changes {
         part: GuestChange::Gain(hand),
-        cpu: CpuChange {
-            hand: Update::Becomes(None),
-            ..CpuChange::NONE
-        },
+        cpu: hand_becomes(None),
         moved: Some(hand),
         ..Changes::NONE
     })
@@ -177,7 +181,8 @@ pub(crate) fn decide_finish_guest<A: Allocator>(
     requires rely { CanRely (layout_of layout.now) id (Some slot) FinishGuest (with_guest (shared_of shared.now) (guest_of guest.now) (cpu_of cpu.now)) }
     ensures decided { result ≡ decides (layout_of layout.now) id (Some slot) FinishGuest (with_guest (shared_of shared.now) (guest_of guest.now) (cpu_of cpu.now)) }
 {
-    if !guest.is_unmapped() || guest.free() > 0 {
+    let left = guest.free();
+    if !guest.is_unmapped() || left > 0 {
         return Err(Refusal::Perm);
     }
     Ok(Changes {

@@ -1,15 +1,17 @@
 //! Calls that change a page of the host and a page of a guest.
-ghost use Rattle.std.specs.Prelude.{◌≡◌, ◌<◌, ◌^◌, ℕ, Some};
+ghost use Rattle.std.specs.Prelude.{◌≡◌, ◌<◌, ℕ, Some, if◌then◌else◌};
 ghost use Rattle.guest_component.specs.View.{guest_of};
 ghost use Rattle.guest_steps.specs.View.{shared_of};
+ghost use Rattle.page_state.specs.EntryTests.{annotation, entry_frame as frame_of_entry, is_in as is_entry_in, leaf as leaf_of};
 ghost use Rattle.page_state.specs.LayoutView.{layout_of};
 ghost use Rattle.reference_model.specs.Answers.{decides};
 ghost use Rattle.reference_model.specs.State.{Cpu};
 ghost use Rattle.reference_model.specs.Used.{with_guest};
 ghost use Rattle.page_state.specs.declared.step.Step.TheVariants.{ShareGuest, UnshareGuest, DonateGuest, GuestShareHost, GuestUnshareHost, ReclaimPage};
-ghost use Rattle.reference_model.specs.GuestRules.{two_pages as two_pages_of};
+ghost use Rattle.reference_model.specs.GuestRules.{guest_owner, two_pages as two_pages_of};
 
 use super::change;
+use super::vms::SLOTS;
 use crate::pages::{entry_frame, is_free_page, is_in, is_mapped, leaf, with_state};
 use guest_component::Guest;
 use guest_steps::SharedPart;
@@ -26,6 +28,14 @@ fn two_pages(pfn: u64, host: Entry, gfn: u64, guest: Entry) -> Changes
         guest: change(Page(gfn), 1, guest),
         ..Changes::NONE
     }
+}
+
+/// The host's entry of a page whose frame the guest of a slot owns.
+fn owned_by_guest(slot: u64) -> Entry
+    requires { slot < 64 }
+    ensures { result ≡ annotation (guest_owner (Some slot)) }
+{
+    Entry::Annotated(Owner(2 + slot))
 }
 
 /// The host shares a frame with a plain VM: its page must be free to give, and the guest's page unmapped.
@@ -68,7 +78,7 @@ pub(crate) fn decide_unshare_guest<A: Allocator>(
 ) -> Result<Changes, Refusal>
     ensures decided { (id slot : ℕ) (k : Cpu) → result ≡ decides (layout_of layout.now) id (Some slot) (UnshareGuest vm gfn) (with_guest (shared_of shared.now) (guest_of guest.now) k) }
 {
-    if vm.slot >= 64 || gfn >= layout.geometry.pages() {
+    if vm.slot >= SLOTS || gfn >= layout.geometry.pages() {
         return Err(Refusal::Invalid);
     }
     if !guest.is_live(vm) {
@@ -97,7 +107,7 @@ pub(crate) fn decide_donate_guest<A: Allocator>(
     pfn: u64,
     gfn: u64,
 ) -> Result<Changes, Refusal>
-    requires { slot < 2 ^ 32 }
+    requires { slot < 64 }
     ensures decided { (id : ℕ) (k : Cpu) → result ≡ decides (layout_of layout.now) id (Some slot) (DonateGuest pfn gfn) (with_guest (shared_of shared.now) (guest_of guest.now) k) }
 {
     if !layout.map.is_memory(Page(pfn)) || gfn >= layout.geometry.pages() {
@@ -109,12 +119,8 @@ pub(crate) fn decide_donate_guest<A: Allocator>(
     {
         return Err(Refusal::Perm);
     }
-    Ok(two_pages(
-        pfn,
-        Entry::Annotated(Owner(2 + slot)),
-        gfn,
-        leaf(pfn, Prot::RWX, State::Owned),
-    ))
+    let given = leaf(pfn, Prot::RWX, State::Owned);
+    Ok(two_pages(pfn, owned_by_guest(slot), gfn, given))
 }
 
 /// The guest shares a page that it owns with the host.
@@ -152,7 +158,7 @@ pub(crate) fn decide_guest_unshare_host<A: Allocator>(
     slot: u64,
     gfn: u64,
 ) -> Result<Changes, Refusal>
-    requires { slot < 2 ^ 32 }
+    requires { slot < 64 }
     ensures decided { (id : ℕ) (k : Cpu) → result ≡ decides (layout_of layout.now) id (Some slot) (GuestUnshareHost gfn) (with_guest (shared_of shared.now) (guest_of guest.now) k) }
 {
     if gfn >= layout.geometry.pages() {
@@ -164,13 +170,25 @@ pub(crate) fn decide_guest_unshare_host<A: Allocator>(
     }
     Ok(two_pages(
         entry_frame(entry),
-        Entry::Annotated(Owner(2 + slot)),
+        owned_by_guest(slot),
         gfn,
         with_state(State::Owned, entry),
     ))
 }
 
-/// The host gets the frame of a Dying guest's page back: as it was given, or as it was shared.
+/// What the host's page of a guest's frame becomes: unmapped where the guest owned the frame, and the host's own where one
+/// of them shared it.
+fn reclaimed(entry: Entry) -> Entry
+    ensures { result ≡ (if is_entry_in State.Owned entry then Entry.Unmapped else leaf_of Prot.RWX (frame_of_entry entry) State.Owned) }
+{
+    if is_in(State::Owned, entry) {
+        Entry::Unmapped
+    } else {
+        leaf(entry_frame(entry), Prot::RWX, State::Owned)
+    }
+}
+
+/// The host gets the frame of a page of a Dying guest back.
 #[tactic(auto, unfolding(reference_model::specs::Rules::rule))]
 pub(crate) fn decide_reclaim_page<A: Allocator>(
     layout: &Layout,
@@ -181,7 +199,7 @@ pub(crate) fn decide_reclaim_page<A: Allocator>(
 ) -> Result<Changes, Refusal>
     ensures decided { (id slot : ℕ) (k : Cpu) → result ≡ decides (layout_of layout.now) id (Some slot) (ReclaimPage vm gfn) (with_guest (shared_of shared.now) (guest_of guest.now) k) }
 {
-    if vm.slot >= 64 || gfn >= layout.geometry.pages() {
+    if vm.slot >= SLOTS || gfn >= layout.geometry.pages() {
         return Err(Refusal::Invalid);
     }
     if !guest.is_dying(vm) {
@@ -191,11 +209,5 @@ pub(crate) fn decide_reclaim_page<A: Allocator>(
     if !is_mapped(entry) {
         return Err(Refusal::Perm);
     }
-    let pfn = entry_frame(entry);
-    let host = if is_in(State::Owned, entry) {
-        Entry::Unmapped
-    } else {
-        leaf(pfn, Prot::RWX, State::Owned)
-    };
-    Ok(two_pages(pfn, host, gfn, Entry::Unmapped))
+    Ok(two_pages(entry_frame(entry), reclaimed(entry), gfn, Entry::Unmapped))
 }

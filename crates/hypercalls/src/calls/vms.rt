@@ -22,7 +22,7 @@ use vm_table::VmTable;
 const MOST_VCPUS: u64 = 8;
 
 /// The slots of VMs (profile).
-const SLOTS: u64 = 64;
+pub(crate) const SLOTS: u64 = 64;
 
 /// The CPU's ticket, where it is of the stage.
 fn ticket_at(stage: Stage, cpu: &CpuState) -> Option<Ticket>

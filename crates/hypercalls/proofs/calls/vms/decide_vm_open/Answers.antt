@@ -1,4 +1,3 @@
-use Rattle.std.proofs.Common.{ap, ◌∙◌}
 use Rattle.guest_steps.specs.View.{cpu_of}
 use Rattle.vm_table.specs.View.{vms_of}
 use Rattle.hypercalls.proofs.Tickets.{opens, opens_none}
