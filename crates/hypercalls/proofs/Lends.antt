@@ -1,5 +1,5 @@
 -- What the parts lend to a step, and what comes back to them.
-use Rattle.std.proofs.Common.{arith, ◌≡◌, ◌∙◌, ℕ, zero, suc, ◌+◌, ◌-◌, ◌<◌, ◌++◌, is_some, All, Bool, true, false, List, [], ◌∷◌, length, take, drop, slice_get, slice_index_or, Option, Some, None, refl, sym, ap, subst, if◌then◌else◌}
+use Rattle.std.proofs.Common.{arith, ◌≡◌, ◌∙◌, ℕ, zero, suc, ◌+◌, ◌-◌, ◌<◌, ◌++◌, is_some, All, Bool, true, false, List, [], ◌∷◌, length, take, slice_get, slice_range, slice_index_or, Option, Some, None, refl, sym, ap, subst, if◌then◌else◌}
 use Rattle.std.proofs.lemmas.List.Elements.{All-set}
 use Rattle.page_state.specs.Geometries.{levels_below}
 use Rattle.reference_model.specs.Parts.{names, guest_slot, uses_vms, uses_shared}
@@ -111,10 +111,10 @@ module _ {A : Type 0} (p : Parts A) where
     }
 
     -- the same, by the ranges that code lends
-    pub lent_is : (vs : List VmPart) (ss : List (SharedPart A)) (gs : List (GuestPart A)) (nv ns a b : ℕ) → vs ≡ p.vms.items → ss ≡ p.shared.items → gs ≡ p.guests.items → nv ≡ one_where (uses_vms (names step)) → ns ≡ one_where (uses_shared (names step) slot) → a ≡ from_of slot → b ≡ to_of slot
-        → x ≡ lent (take (nv - 0) vs) (take (ns - 0) ss) (take (b - a) (drop a gs)) k
+    pub lent_is : (vs : List VmPart) (ss : List (SharedPart A)) (gs : List (GuestPart A)) (nv ns a b : ℕ) → vs ≡ p.vms.items → ss ≡ p.shared.items → gs ≡ slice_range p.guests.items a b → nv ≡ one_where (uses_vms (names step)) → ns ≡ one_where (uses_shared (names step) slot) → a ≡ from_of slot → b ≡ to_of slot
+        → x ≡ lent (take (nv - 0) vs) (take (ns - 0) ss) gs k
     lent_is vs ss gs nv ns a b ev es eg cv cs ea eb =
         let v = lent_one (uses_vms (names step)) p.vms.items vs nv vms_one ev cv in
         let s = lent_one (uses_shared (names step) slot) p.shared.items ss ns shared_one es cs in
         let g = cut p.guests.items gs slot a b eg ea eb in
-        same_lent (when (uses_vms (names step)) p.vms.items) (take (nv - 0) vs) (when (uses_shared (names step) slot) p.shared.items) (take (ns - 0) ss) (range_at p.guests.items slot) (take (b - a) (drop a gs)) k (sym v) (sym s) (sym g)
+        same_lent (when (uses_vms (names step)) p.vms.items) (take (nv - 0) vs) (when (uses_shared (names step) slot) p.shared.items) (take (ns - 0) ss) (range_at p.guests.items slot) gs k (sym v) (sym s) (sym g)

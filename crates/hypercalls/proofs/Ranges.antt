@@ -110,24 +110,24 @@ module _ {P : Type 0} (xs : List P) where
   put_same (Some v) h = ap (put_list xs (Some v)) (one_range v h) ∙ set_same xs v (place xs v h).0 (place xs v h).2
 
   -- the range that code lends, and the list after it came back
-  pub cut : (zs : List P) (slot : Option ℕ) (a b : ℕ) → zs ≡ xs → a ≡ from_of slot → b ≡ to_of slot → take (b - a) (drop a zs) ≡ range_at slot
-  cut zs slot a b same from to = cc
+  pub cut : (zs : List P) (slot : Option ℕ) (a b : ℕ) → zs ≡ slice_range xs a b → a ≡ from_of slot → b ≡ to_of slot → zs ≡ range_at slot
+  cut zs slot a b same from to = same ∙ ap (λ i. slice_range xs i b) from ∙ ap (slice_range xs (from_of slot)) to
 
   put_one : (v : ℕ) (ys : List P) → v < length xs → length ys ≡ 1 → take v xs ++ (ys ++ drop (suc v) xs) ≡ put_list xs (Some v) ys
   put_one v [] h m = absurd (omega (arith, m))
   put_one v (y ∷ []) h m = put_in xs v y h
   put_one v (y ∷ (z ∷ ys)) h m = absurd (omega (arith, m))
 
-  put_range : (slot : Option ℕ) (ys : List P) → Inside slot (length xs) → length ys ≡ length (range_at slot) → take (from_of slot) xs ++ (ys ++ drop (to_of slot - from_of slot) (drop (from_of slot) xs)) ≡ put_list xs slot ys
+  put_range : (slot : Option ℕ) (ys : List P) → Inside slot (length xs) → length ys ≡ length (range_at slot) → take (from_of slot) xs ++ (ys ++ drop (length ys) (drop (from_of slot) xs)) ≡ put_list xs slot ys
   put_range None [] h n = refl
   put_range None (y ∷ ys) h n = absurd (omega (arith, n))
   put_range (Some v) ys h n =
       let m : length ys ≡ 1 = n ∙ ap length (one_range v h) in
-      let d : drop (v + 1 - v) (drop v xs) ≡ drop (suc v) xs = rw (one_past v, (place xs v h).1) refl in
-      rw d (put_one v ys h m)
+      let d : drop 1 (drop v xs) ≡ drop (suc v) xs = rw (place xs v h).1 refl in
+      ap (λ n. take v xs ++ (ys ++ drop n (drop v xs))) m ∙ ap (λ l. take v xs ++ (ys ++ l)) d ∙ put_one v ys h m
 
-  pub came_back : (zs ys : List P) (slot : Option ℕ) (a b : ℕ) → zs ≡ xs → a ≡ from_of slot → b ≡ to_of slot → Inside slot (length xs) → length ys ≡ length (range_at slot) → take a zs ++ (ys ++ drop (b - a) (drop a zs)) ≡ put_list xs slot ys
-  came_back zs ys slot a b same from to h n = (let e : take a zs ++ (ys ++ drop (b - a) (drop a zs)) ≡ take (from_of slot) xs ++ (ys ++ drop (to_of slot - from_of slot) (drop (from_of slot) xs)) = cc in e) ∙ put_range slot ys h n
+  pub came_back : (ys : List P) (slot : Option ℕ) (a : ℕ) → a ≡ from_of slot → Inside slot (length xs) → length ys ≡ length (range_at slot) → take a xs ++ (ys ++ drop (length ys) (drop a xs)) ≡ put_list xs slot ys
+  came_back ys slot a from h n = ap (λ i. take i xs ++ (ys ++ drop (length ys) (drop i xs))) from ∙ put_range slot ys h n
 
 -- what stands at each place of a list, and its calls
 module _ {P X : Type 0} (blank : X) (f : P → X) (log : P → StoredCalls) where

@@ -64,7 +64,7 @@ impl<A: Allocator + Copy> Parts<A> {
             &self.layout,
             &mut self.vms[0..vms],
             &mut self.shared[0..shared],
-            &mut self.guests[from..to],
+            self.guests.slice_mut(from..to),
             cpu,
             own,
             step,

@@ -22,6 +22,15 @@ use Rattle.hypercalls.proofs.Ranges.{lent_one, back_one, length_one, cut, came_b
 use Rattle.hypercalls.proofs.Whole.{reached, is_step, history, slot_below}
 use Rattle.hypercalls.proofs.parts.Parts.step.Goals as goal
 
+pub range_of-from-requires : goal.range_of-from-requires
+range_of-from-requires g c = λ v e.
+    let p = c.args.self.now in
+    let cpu = c.args.cpu in
+    let k = c.index_mut-own.result.now in
+    let within : cpu < length p.cpus.items = omega (arith, p.counted, p.cpus.ok.0, c.requires.known) in
+    let at : slice_get p.cpus.items cpu ≡ Some k = slice_get_read p.cpus.items (length p.cpus.items) cpu k refl within c.index_mut-own.ensures.value in
+    slot_below p cpu c.args.step k at c.requires.known c.requires.history v (sym c.guest_slot-slot.ensures ∙ e)
+
 pub step_on-requires-clause-lent : goal.step_on-requires-clause-lent
 step_on-requires-clause-lent g c =
     let p = c.args.self.now in
@@ -39,7 +48,7 @@ step_on-requires-clause-lent g c =
     let ns = c.count_of-shared.ensures.value ∙ ap one_where (c.uses_shared.ensures ∙ ap (uses_shared (names step)) c.guest_slot-slot.ensures) in
     let from = c.range_of-from.ensures.from ∙ ap from_of c.guest_slot-slot.ensures in
     let to = c.range_of-from.ensures.to ∙ ap to_of c.guest_slot-slot.ensures in
-    let is = lent_is p cpu step k at within one_vms one_shared many low c.deref_mut.result.now c.deref_mut-2.result.now c.deref_mut-3.result.now c.count_of-vms.result c.count_of-shared.result c.range_of-from.result.0 c.range_of-from.result.1 c.deref_mut.ensures.value c.deref_mut-2.ensures.value c.deref_mut-3.ensures.value nv ns from to in
+    let is = lent_is p cpu step k at within one_vms one_shared many low c.deref_mut.result.now c.deref_mut-2.result.now c.slice_mut.result.now c.count_of-vms.result c.count_of-shared.result c.range_of-from.result.0 c.range_of-from.result.1 c.deref_mut.ensures.value c.deref_mut-2.ensures.value c.slice_mut.ensures.value nv ns from to in
     subst (λ (z : Lent _). IsLent (names step) (slot_in z step) z) is (fits p cpu step k at within one_vms one_shared many low)
 
 pub step_on-requires-clause-suits : goal.step_on-requires-clause-suits
@@ -59,7 +68,7 @@ step_on-requires-clause-suits g c =
     let ns = c.count_of-shared.ensures.value ∙ ap one_where (c.uses_shared.ensures ∙ ap (uses_shared (names step)) c.guest_slot-slot.ensures) in
     let from = c.range_of-from.ensures.from ∙ ap from_of c.guest_slot-slot.ensures in
     let to = c.range_of-from.ensures.to ∙ ap to_of c.guest_slot-slot.ensures in
-    let is = lent_is p cpu step k at within one_vms one_shared many low c.deref_mut.result.now c.deref_mut-2.result.now c.deref_mut-3.result.now c.count_of-vms.result c.count_of-shared.result c.range_of-from.result.0 c.range_of-from.result.1 c.deref_mut.ensures.value c.deref_mut-2.ensures.value c.deref_mut-3.ensures.value nv ns from to in
+    let is = lent_is p cpu step k at within one_vms one_shared many low c.deref_mut.result.now c.deref_mut-2.result.now c.slice_mut.result.now c.count_of-vms.result c.count_of-shared.result c.range_of-from.result.0 c.range_of-from.result.1 c.deref_mut.ensures.value c.deref_mut-2.ensures.value c.slice_mut.ensures.value nv ns from to in
     subst (λ (z : Lent _). Suits (layout_of p.layout) z) is (suits p cpu step k at within one_vms one_shared many low)
 
 pub step_on-requires-clause-reached : goal.step_on-requires-clause-reached
@@ -79,7 +88,7 @@ step_on-requires-clause-reached g c =
     let ns = c.count_of-shared.ensures.value ∙ ap one_where (c.uses_shared.ensures ∙ ap (uses_shared (names step)) c.guest_slot-slot.ensures) in
     let from = c.range_of-from.ensures.from ∙ ap from_of c.guest_slot-slot.ensures in
     let to = c.range_of-from.ensures.to ∙ ap to_of c.guest_slot-slot.ensures in
-    let is = lent_is p cpu step k at within one_vms one_shared many low c.deref_mut.result.now c.deref_mut-2.result.now c.deref_mut-3.result.now c.count_of-vms.result c.count_of-shared.result c.range_of-from.result.0 c.range_of-from.result.1 c.deref_mut.ensures.value c.deref_mut-2.ensures.value c.deref_mut-3.ensures.value nv ns from to in
+    let is = lent_is p cpu step k at within one_vms one_shared many low c.deref_mut.result.now c.deref_mut-2.result.now c.slice_mut.result.now c.count_of-vms.result c.count_of-shared.result c.range_of-from.result.0 c.range_of-from.result.1 c.deref_mut.ensures.value c.deref_mut-2.ensures.value c.slice_mut.ensures.value nv ns from to in
     ∥∥₁_map c.requires.history (λ h. subst (λ (z : Lent _). IsReached (layout_of p.layout) (names step) (slot_in z step) cpu (used_in z)) is (reached p cpu step k at within one_vms one_shared (inner p cpu step k at within one_vms one_shared many low) h c.requires.known low))
 
 pub invariant_of-self : goal.invariant_of-self
@@ -99,15 +108,15 @@ invariant_of-self g c =
     let ns = c.count_of-shared.ensures.value ∙ ap one_where (c.uses_shared.ensures ∙ ap (uses_shared (names step)) c.guest_slot-slot.ensures) in
     let from = c.range_of-from.ensures.from ∙ ap from_of c.guest_slot-slot.ensures in
     let to = c.range_of-from.ensures.to ∙ ap to_of c.guest_slot-slot.ensures in
-    let is = lent_is p cpu step k at within one_vms one_shared many low c.deref_mut.result.now c.deref_mut-2.result.now c.deref_mut-3.result.now c.count_of-vms.result c.count_of-shared.result c.range_of-from.result.0 c.range_of-from.result.1 c.deref_mut.ensures.value c.deref_mut-2.ensures.value c.deref_mut-3.ensures.value nv ns from to in
+    let is = lent_is p cpu step k at within one_vms one_shared many low c.deref_mut.result.now c.deref_mut-2.result.now c.slice_mut.result.now c.count_of-vms.result c.count_of-shared.result c.range_of-from.result.0 c.range_of-from.result.1 c.deref_mut.ensures.value c.deref_mut-2.ensures.value c.slice_mut.ensures.value nv ns from to in
     let new = c.step_on.new in
     let vms_len = c.step_on.auto.vms ∙ ap length (lent_one (uses_vms (names step)) p.vms.items c.deref_mut.result.now c.count_of-vms.result one_vms c.deref_mut.ensures.value nv) in
     let shared_len = c.step_on.auto.shared ∙ ap length (lent_one (uses_shared (names step) slot) p.shared.items c.deref_mut-2.result.now c.count_of-shared.result one_shared c.deref_mut-2.ensures.value ns) in
-    let guest_len = c.step_on.auto.guest ∙ ap length (cut p.guests.items c.deref_mut-3.result.now slot c.range_of-from.result.0 c.range_of-from.result.1 c.deref_mut-3.ensures.value from to) in
+    let guest_len = c.step_on.auto.guest ∙ ap length (cut p.guests.items c.slice_mut.result.now slot c.range_of-from.result.0 c.range_of-from.result.1 c.slice_mut.ensures.value from to) in
     let inside = inner p cpu step k at within one_vms one_shared many low in
     let vms_back = back_one (uses_vms (names step)) p.vms.items c.deref_mut.result.now new.vms c.count_of-vms.result one_vms c.deref_mut.ensures.value nv vms_len in
     let shared_back = back_one (uses_shared (names step) slot) p.shared.items c.deref_mut-2.result.now new.shared c.count_of-shared.result one_shared c.deref_mut-2.ensures.value ns shared_len in
-    let guest_back = came_back p.guests.items c.deref_mut-3.result.now new.guest slot c.range_of-from.result.0 c.range_of-from.result.1 c.deref_mut-3.ensures.value from to inside guest_len in
+    let guest_back = came_back p.guests.items new.guest slot c.range_of-from.result.0 from inside guest_len in
     let vms_is = with_items_is p.vms _ (ap length vms_back ∙ length_one (uses_vms (names step)) p.vms.items new.vms one_vms vms_len ∙ sym p.vms.ok.0) ∙ vms_back in
     let shared_is = with_items_is p.shared _ (ap length shared_back ∙ length_one (uses_shared (names step) slot) p.shared.items new.shared one_shared shared_len ∙ sym p.shared.ok.0) ∙ shared_back in
     let guest_is = with_items_is p.guests _ (ap length guest_back ∙ put_length p.guests.items slot new.guest ∙ sym p.guests.ok.0) ∙ guest_back in
@@ -143,15 +152,15 @@ returns-clause-step g c =
     let ns = c.count_of-shared.ensures.value ∙ ap one_where (c.uses_shared.ensures ∙ ap (uses_shared (names step)) c.guest_slot-slot.ensures) in
     let from = c.range_of-from.ensures.from ∙ ap from_of c.guest_slot-slot.ensures in
     let to = c.range_of-from.ensures.to ∙ ap to_of c.guest_slot-slot.ensures in
-    let is = lent_is p cpu step k at within one_vms one_shared many low c.deref_mut.result.now c.deref_mut-2.result.now c.deref_mut-3.result.now c.count_of-vms.result c.count_of-shared.result c.range_of-from.result.0 c.range_of-from.result.1 c.deref_mut.ensures.value c.deref_mut-2.ensures.value c.deref_mut-3.ensures.value nv ns from to in
+    let is = lent_is p cpu step k at within one_vms one_shared many low c.deref_mut.result.now c.deref_mut-2.result.now c.slice_mut.result.now c.count_of-vms.result c.count_of-shared.result c.range_of-from.result.0 c.range_of-from.result.1 c.deref_mut.ensures.value c.deref_mut-2.ensures.value c.slice_mut.ensures.value nv ns from to in
     let new = c.step_on.new in
     let vms_len = c.step_on.auto.vms ∙ ap length (lent_one (uses_vms (names step)) p.vms.items c.deref_mut.result.now c.count_of-vms.result one_vms c.deref_mut.ensures.value nv) in
     let shared_len = c.step_on.auto.shared ∙ ap length (lent_one (uses_shared (names step) slot) p.shared.items c.deref_mut-2.result.now c.count_of-shared.result one_shared c.deref_mut-2.ensures.value ns) in
-    let guest_len = c.step_on.auto.guest ∙ ap length (cut p.guests.items c.deref_mut-3.result.now slot c.range_of-from.result.0 c.range_of-from.result.1 c.deref_mut-3.ensures.value from to) in
+    let guest_len = c.step_on.auto.guest ∙ ap length (cut p.guests.items c.slice_mut.result.now slot c.range_of-from.result.0 c.range_of-from.result.1 c.slice_mut.ensures.value from to) in
     let inside = inner p cpu step k at within one_vms one_shared many low in
     let vms_back = back_one (uses_vms (names step)) p.vms.items c.deref_mut.result.now new.vms c.count_of-vms.result one_vms c.deref_mut.ensures.value nv vms_len in
     let shared_back = back_one (uses_shared (names step) slot) p.shared.items c.deref_mut-2.result.now new.shared c.count_of-shared.result one_shared c.deref_mut-2.ensures.value ns shared_len in
-    let guest_back = came_back p.guests.items c.deref_mut-3.result.now new.guest slot c.range_of-from.result.0 c.range_of-from.result.1 c.deref_mut-3.ensures.value from to inside guest_len in
+    let guest_back = came_back p.guests.items new.guest slot c.range_of-from.result.0 from inside guest_len in
     let vms_is = with_items_is p.vms _ (ap length vms_back ∙ length_one (uses_vms (names step)) p.vms.items new.vms one_vms vms_len ∙ sym p.vms.ok.0) ∙ vms_back in
     let shared_is = with_items_is p.shared _ (ap length shared_back ∙ length_one (uses_shared (names step) slot) p.shared.items new.shared one_shared shared_len ∙ sym p.shared.ok.0) ∙ shared_back in
     let guest_is = with_items_is p.guests _ (ap length guest_back ∙ put_length p.guests.items slot new.guest ∙ sym p.guests.ok.0) ∙ guest_back in
@@ -176,15 +185,15 @@ returns-clause-history g c =
     let ns = c.count_of-shared.ensures.value ∙ ap one_where (c.uses_shared.ensures ∙ ap (uses_shared (names step)) c.guest_slot-slot.ensures) in
     let from = c.range_of-from.ensures.from ∙ ap from_of c.guest_slot-slot.ensures in
     let to = c.range_of-from.ensures.to ∙ ap to_of c.guest_slot-slot.ensures in
-    let is = lent_is p cpu step k at within one_vms one_shared many low c.deref_mut.result.now c.deref_mut-2.result.now c.deref_mut-3.result.now c.count_of-vms.result c.count_of-shared.result c.range_of-from.result.0 c.range_of-from.result.1 c.deref_mut.ensures.value c.deref_mut-2.ensures.value c.deref_mut-3.ensures.value nv ns from to in
+    let is = lent_is p cpu step k at within one_vms one_shared many low c.deref_mut.result.now c.deref_mut-2.result.now c.slice_mut.result.now c.count_of-vms.result c.count_of-shared.result c.range_of-from.result.0 c.range_of-from.result.1 c.deref_mut.ensures.value c.deref_mut-2.ensures.value c.slice_mut.ensures.value nv ns from to in
     let new = c.step_on.new in
     let vms_len = c.step_on.auto.vms ∙ ap length (lent_one (uses_vms (names step)) p.vms.items c.deref_mut.result.now c.count_of-vms.result one_vms c.deref_mut.ensures.value nv) in
     let shared_len = c.step_on.auto.shared ∙ ap length (lent_one (uses_shared (names step) slot) p.shared.items c.deref_mut-2.result.now c.count_of-shared.result one_shared c.deref_mut-2.ensures.value ns) in
-    let guest_len = c.step_on.auto.guest ∙ ap length (cut p.guests.items c.deref_mut-3.result.now slot c.range_of-from.result.0 c.range_of-from.result.1 c.deref_mut-3.ensures.value from to) in
+    let guest_len = c.step_on.auto.guest ∙ ap length (cut p.guests.items c.slice_mut.result.now slot c.range_of-from.result.0 c.range_of-from.result.1 c.slice_mut.ensures.value from to) in
     let inside = inner p cpu step k at within one_vms one_shared many low in
     let vms_back = back_one (uses_vms (names step)) p.vms.items c.deref_mut.result.now new.vms c.count_of-vms.result one_vms c.deref_mut.ensures.value nv vms_len in
     let shared_back = back_one (uses_shared (names step) slot) p.shared.items c.deref_mut-2.result.now new.shared c.count_of-shared.result one_shared c.deref_mut-2.ensures.value ns shared_len in
-    let guest_back = came_back p.guests.items c.deref_mut-3.result.now new.guest slot c.range_of-from.result.0 c.range_of-from.result.1 c.deref_mut-3.ensures.value from to inside guest_len in
+    let guest_back = came_back p.guests.items new.guest slot c.range_of-from.result.0 from inside guest_len in
     let vms_is = with_items_is p.vms _ (ap length vms_back ∙ length_one (uses_vms (names step)) p.vms.items new.vms one_vms vms_len ∙ sym p.vms.ok.0) ∙ vms_back in
     let shared_is = with_items_is p.shared _ (ap length shared_back ∙ length_one (uses_shared (names step) slot) p.shared.items new.shared one_shared shared_len ∙ sym p.shared.ok.0) ∙ shared_back in
     let guest_is = with_items_is p.guests _ (ap length guest_back ∙ put_length p.guests.items slot new.guest ∙ sym p.guests.ok.0) ∙ guest_back in
