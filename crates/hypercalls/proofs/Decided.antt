@@ -2,7 +2,7 @@
 use Rattle.std.proofs.Common.{◌≡◌, ℕ, Bool, true, false, List, [], ◌∷◌, slice_get, Option, Some, None, is_some, unwrap_or, Result, refl, ap, sym, subst, ◌∙◌}
 use Rattle.page_state.specs.declared.step.Step.{Step}
 use Rattle.page_state.specs.declared.step.Step.TheVariants.{ShareGuest, UnshareGuest, DonateGuest, GuestShareHost, GuestUnshareHost, Install, Topup, ReclaimPage, ReclaimPool, FinishGuest, GuestRelax, GuestTranslate, MarkDying, VmReserve, VmOpen, VcpuLoad, VcpuPut, Teardown, VmRelease}
-use Rattle.reference_model.specs.Parts.{names, guest as guest_alone_named, guest_slot, shared_and_guest, uses_shared, uses_vms}
+use Rattle.reference_model.specs.Parts.{names, guest as just_guest, guest_slot, shared_and_guest, uses_shared, uses_vms}
 use Rattle.page_state.specs.declared.reply.Refusal.{Refusal}
 use Rattle.page_state.specs.Layouts.{Layout}
 use Rattle.reference_model.specs.Answers.{decides}
@@ -58,7 +58,7 @@ named_both k v FinishGuest h u = refl
 named_both k v other h u = cc
 
 -- and one that doesn't use the Shared part names the guest alone
-pub named_alone : (k : Cpu) (v : ℕ) (step : Step) → guest_slot k step ≡ Some v → uses_shared (names step) (Some v) ≡ false → names step ≡ guest_alone_named
+pub named_alone : (k : Cpu) (v : ℕ) (step : Step) → guest_slot k step ≡ Some v → uses_shared (names step) (Some v) ≡ false → names step ≡ just_guest
 named_alone k v (GuestRelax g p) h u = refl
 named_alone k v (GuestTranslate vm g) h u = refl
 named_alone k v MarkDying h u = refl

@@ -7,7 +7,7 @@ ghost use Rattle.hypercalls.specs.Carried.{GrowsOnly};
 ghost use Rattle.page_state.specs.LayoutView.{layout_of};
 ghost use Rattle.reference_model.specs.Answers.{decides};
 ghost use Rattle.page_state.specs.Layouts.{Layout as ReferenceLayout, is_good_page, is_memory};
-ghost use Rattle.reference_model.specs.Parts.{guest as guest_alone_named, guest_slot, names, shared_and_guest, uses_shared, uses_vms};
+ghost use Rattle.reference_model.specs.Parts.{guest as just_guest, guest_slot, names, shared_and_guest, uses_shared, uses_vms};
 ghost use Rattle.reference_model.specs.Rely.{CanRely};
 ghost use Rattle.reference_model.specs.State.{Cpu, no_guest, no_shared};
 ghost use Rattle.reference_model.specs.Used.{guest_alone, used_alone, vms_alone, with_guest};
@@ -148,7 +148,7 @@ fn decide_guest<A: Allocator>(
     cpu: &CpuState,
     step: Step,
 ) -> Result<Changes, Refusal>
-    requires names { names step ≡ guest_alone_named }
+    requires names { names step ≡ just_guest }
     ensures decided { (id slot : ℕ) → result ≡ decides (layout_of layout.now) id (Some slot) step (guest_alone (guest_of guest.now) (cpu_of cpu.now)) }
     ensures grows { IfOk result (GrowsOnly step) }
 {
