@@ -28,7 +28,7 @@ use Rattle.guest_steps.specs.View.{vm_slots, shared_of, guest_held, cpu_of}
 use Rattle.hypercalls.specs.declared.parts.Parts.{Parts}
 use Rattle.hypercalls.specs.Stands.{at_place, parts_layout, kept_of}
 use Rattle.page_state.proofs.Cases.{by_test}
-use Rattle.world.specs.Boots.{IsConfig, IsIdle, HasNoCalls, IsBooted, IsNoBoot, layout_for}
+use Rattle.world.specs.Boots.{IsConfig, IsIdle, IsVacant, HasNoCalls, IsBooted, IsNoBoot, layout_for}
 
 -- the depth of a known geometry is that of its width
 width : (bits : ℕ) (g : Geometry) → geometry_of bits ≡ Some g → bits ≡ 12 + 9 * (levels_below g + 1)
@@ -67,8 +67,7 @@ module _ {A : Type 0} (m : Memory) (c : Config) (g : Geometry) (p : Parts A) (s 
     (vms_log : All (λ v. IsNewLog c.log v.log) p.vms.items)
     (alone : p.shared.items ≡ s ∷ [])
     (shared_log : IsNewLog c.log s.log)
-    (empty : All (λ g. guest_held g ≡ no_guest) p.guests.items)
-    (new : All (λ g. IsNewLog c.log g.log) p.guests.items)
+    (new : All (IsVacant g c.log) p.guests.items)
     (idle : All (IsIdle c.log) p.cpus.items) where
   abbrev l : Layout
   l = layout_for m c g
@@ -87,7 +86,7 @@ module _ {A : Type 0} (m : Memory) (c : Config) (g : Geometry) (p : Parts A) (s 
 
   guest_is : (v : ℕ) → at_place no_guest guest_held (slice_get p.guests.items v) ≡ no_guest
   guest_is v = elim (slice_get_cases p.guests.items v).1 [
-    | inl (k, inside, at, is) ↦ rw at (subst (λ (x : GuestPart A). guest_held x ≡ no_guest) is (empty v k inside))
+    | inl (k, inside, at, is) ↦ rw at (subst (λ (x : GuestPart A). guest_held x ≡ no_guest) is (new v k inside).empty)
     | inr past ↦ rw past.1 refl
   ]
 
@@ -95,7 +94,7 @@ module _ {A : Type 0} (m : Memory) (c : Config) (g : Geometry) (p : Parts A) (s 
   none = record {
     vms = one_empty (λ (v : VmPart). v.log) c.log p.vms.items vms_log;
     shared = ap (one [] (λ (x : SharedPart A). x.log.calls)) alone ∙ shared_log.empty;
-    guests = λ v. each_empty (λ (x : GuestPart A). x.log) c.log p.guests.items v new;
+    guests = λ v. each_empty (λ (x : GuestPart A). x.log) c.log p.guests.items v (λ k d less. (new k d less).log);
     cpus = λ v. each_empty (λ (x : CpuState). x.log) c.log p.cpus.items v (λ k d less. (idle k d less).log);
   }
 

@@ -13,10 +13,12 @@ use Rattle.hyp_pool.specs.declared.PoolFault.{PoolFault}
 use Rattle.hyp_pool.specs.declared.PoolFault.TheVariants as pools
 use Rattle.world.specs.declared.boot.BootFault.{BootFault}
 use Rattle.world.specs.declared.boot.BootFault.TheVariants.{Config as config_fault, CarveSmall, NoMemory}
-use Rattle.reference_model.specs.State.{Shared, no_cpu, plain_row}
+use Rattle.reference_model.specs.State.{Shared, no_cpu, no_guest, plain_row}
+use Rattle.guest_component.specs.View.{guest_depth}
 use Rattle.guest_steps.specs.declared.parts.CpuState.{CpuState}
+use Rattle.guest_steps.specs.declared.parts.GuestPart.{GuestPart}
 use Rattle.guest_steps.specs.Logs.{IsNewLog}
-use Rattle.guest_steps.specs.View.{cpu_of}
+use Rattle.guest_steps.specs.View.{cpu_of, guest_held}
 use Rattle.hypercalls.specs.declared.parts.Parts.{Parts}
 use Rattle.hypercalls.specs.Stands.{parts_layout, kept_of, state_of}
 
@@ -59,6 +61,12 @@ IsNoBoot NoMemory m c = (g : Geometry) × IsConfig c g × IsCarveEnough (layout_
 pub record IsIdle (calls : ℕ) (k : CpuState) : Type 0 where
   pub idle : cpu_of k ≡ no_cpu
   pub log : IsNewLog calls k.log
+
+-- a Guest part whose guest is Empty, in trees of the geometry, with an empty log of so many calls
+pub record IsVacant {A : Type 0} (g : Geometry) (calls : ℕ) (p : GuestPart A) : Type 0 where
+  pub empty : guest_held p ≡ no_guest
+  pub depth : guest_depth p.guest ≡ levels_below g
+  pub log : IsNewLog calls p.log
 
 -- all logs are empty
 pub record HasNoCalls {A : Type 0} (p : Parts A) : Type 0 where

@@ -5,18 +5,17 @@ ghost use Rattle.page_state.specs.Trees.{frames_from, root_tree};
 ghost use Rattle.reference_model.specs.Boot.{IsCarveEnough, booted as booted_of, pool_row as pool_row_of};
 ghost use Rattle.reference_model.specs.ChangeLaws.{Fits};
 ghost use Rattle.reference_model.specs.Conditions.{IsUsable};
-ghost use Rattle.reference_model.specs.State.{no_guest, no_vms};
+ghost use Rattle.reference_model.specs.State.{no_vms};
 ghost use Rattle.guest_steps.specs.Apart.{IsApart};
 ghost use Rattle.guest_steps.specs.Logs.{IsNewLog};
 ghost use Rattle.guest_steps.specs.MemoryRows.{HasMemoryRows};
-ghost use Rattle.guest_component.specs.View.{guest_depth};
-ghost use Rattle.guest_steps.specs.View.{depth_of, guest_held, shared_of, vm_slots};
+ghost use Rattle.guest_steps.specs.View.{depth_of, shared_of, vm_slots};
 ghost use Rattle.page_state.specs.Accepted.{IsAcceptedConfig};
 ghost use Rattle.page_state.specs.EntryTests.{leaf as leaf_of, annotation};
 ghost use Rattle.page_state.specs.Layouts.{hyp_page as hyp_page_of};
 ghost use Rattle.page_state.specs.Regions.{end_of};
 ghost use Rattle.page_state.specs.Geometries.{levels_below};
-ghost use Rattle.world.specs.Boots.{IsBooted, IsConfig, IsIdle, IsNoBoot, boot_number, layout_for, new_shared_of};
+ghost use Rattle.world.specs.Boots.{IsBooted, IsConfig, IsIdle, IsNoBoot, IsVacant, boot_number, layout_for, new_shared_of};
 ghost use Rattle.table_tree.specs.View.{tree_of};
 
 use component::Component;
@@ -289,6 +288,19 @@ fn list_of<A: Allocator>(
     Ok(parts)
 }
 
+/// A Guest part whose guest is Empty.
+fn vacant_part<A: Allocator>(
+    global: Global,
+    geometry: Geometry,
+    calls: u64,
+) -> Result<GuestPart<A>, AllocError>
+    ensures { IfOk result (IsVacant geometry calls) }
+{
+    let guest = Guest::new(global, geometry);
+    let log = Log::new(global, calls)?;
+    Ok(GuestPart { guest, log })
+}
+
 /// The Guest parts at boot, whose guests are Empty.
 fn guests_at_boot<A: Allocator>(
     global: Global,
@@ -296,17 +308,12 @@ fn guests_at_boot<A: Allocator>(
     calls: u64,
 ) -> Result<Vec<GuestPart<A>>, AllocError>
     ensures count { IfOk result (λ guests. vec_len guests ≡ 64) }
-    ensures empty { IfOk result (λ guests. All (λ g. guest_held g ≡ no_guest) guests.items) }
-    ensures depth { IfOk result (λ guests. All (λ g. guest_depth g.guest ≡ levels_below geometry) guests.items) }
-    ensures logs { IfOk result (λ guests. All (λ g. IsNewLog calls g.log) guests.items) }
+    ensures vacant { IfOk result (λ guests. All (IsVacant geometry calls) guests.items) }
 {
     let mut guests = Vec::with_capacity(global, SLOTS as usize)?;
     for _made in 0..SLOTS {
-        let guest = Guest::new(global, geometry);
-        let log = Log::new(global, calls)?;
-        guests
-            .push(GuestPart { guest, log })
-            .map_err(AllocError::from)?;
+        let part = vacant_part(global, geometry, calls)?;
+        guests.push(part).map_err(AllocError::from)?;
     }
     Ok(guests)
 }

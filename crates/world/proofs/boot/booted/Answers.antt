@@ -11,7 +11,7 @@ use Rattle.world.proofs.boot.booted.Goals as goal
 
 pub returns : goal.returns
 returns g c =
-    has_booted c.args.map.now c.args.config c.in-Some.geometry _ c.in_ok-shared.shared c.in_ok-clone.ensures.cases refl refl c.in_ok-vms.ensures.slots c.in_ok-vms.ensures.logs c.in_ok-shared-2.ensures c.in_ok-shared.ensures.log c.in_ok-guests.ensures.empty c.in_ok-guests.ensures.logs c.in_ok-cpus.ensures.idle c.in_ok-shared.ensures.shared c.regions.ensures.accepted c.in-Some.ensures ((c.is_carve_enough.ensures c.args.config).0 c.if-not-is_carve_enough.false)
+    has_booted c.args.map.now c.args.config c.in-Some.geometry _ c.in_ok-shared.shared c.in_ok-clone.ensures.cases refl refl c.in_ok-vms.ensures.slots c.in_ok-vms.ensures.logs c.in_ok-shared-2.ensures c.in_ok-shared.ensures.log c.in_ok-guests.ensures.vacant c.in_ok-cpus.ensures.idle c.in_ok-shared.ensures.shared c.regions.ensures.accepted c.in-Some.ensures ((c.is_carve_enough.ensures c.args.config).0 c.if-not-is_carve_enough.false)
 
 pub shared_at_boot-requires-clause-enough : goal.shared_at_boot-requires-clause-enough
 shared_at_boot-requires-clause-enough g c = (c.is_carve_enough.ensures c.args.config).0 c.if-not-is_carve_enough.false
@@ -50,7 +50,7 @@ invariant_of-result-2 g c =
       shared_log = all_alone (λ (x : SharedPart _). IsOfSize c.args.config.log x.log) c.in_ok-shared-2.shared.items s c.in_ok-shared-2.ensures c.in_ok-shared.ensures.log.size;
       depth = all_alone (λ (x : SharedPart _). depth_of x ≡ levels_below c.in-Some.geometry) c.in_ok-shared-2.shared.items s c.in_ok-shared-2.ensures c.in_ok-shared.ensures.depth;
       rows = all_alone (λ (x : SharedPart _). HasMemoryRows c.in_ok-clone.field-0 x.rows) c.in_ok-shared-2.shared.items s c.in_ok-shared-2.ensures (λ f. c.in_ok-shared.ensures.rows f ∙ ap (λ m. has_memory m f) (sym c.in_ok-clone.ensures.cases));
-      guest_depth = c.in_ok-guests.ensures.depth;
-      guest_logs = λ k d less. (c.in_ok-guests.ensures.logs k d less).size;
+      guest_depth = λ k d less. (c.in_ok-guests.ensures.vacant k d less).depth;
+      guest_logs = λ k d less. (c.in_ok-guests.ensures.vacant k d less).log.size;
       own_logs = λ k d less. (c.in_ok-cpus.ensures.idle k d less).log.size;
     }
