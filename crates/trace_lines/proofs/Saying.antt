@@ -3,11 +3,13 @@ use Rattle.std.proofs.Common.{ℕ, ◌+◌, refl, Bool, true, false, not, cond, 
 use Rattle.std.specs.Prelude.{ok_or, if◌then◌else◌, nat_lt, slice_get, codes, ◌==◌, ◌&&◌, IsTrue, is_some}
 use Rattle.std.specs.Str.{bytes_eq}
 use Rattle.std.specs.Map.{lookup}
+use Rattle.descriptor.specs.declared.Prot.{Prot}
 use Rattle.page_state.specs.declared.entry.PageRange.{PageRange}
 use Rattle.page_state.specs.declared.step.Step.{Step}
 use Rattle.page_state.specs.declared.step.VmId.{VmId}
 use Rattle.page_state.specs.declared.step.VmKind.{VmKind}
 use Rattle.trace_lines.specs.declared.asked.Asked.{Asked}
+use Rattle.trace_lines.specs.declared.asked.NamedTree.{NamedTree}
 use Rattle.trace_lines.specs.declared.call.Called.{Called}
 use Rattle.trace_lines.specs.declared.fault.LineFault.{LineFault}
 use Rattle.trace_lines.specs.declared.fault.LineFault.TheVariants.{Long, Byte, Space, Place, Count, Form}
@@ -23,9 +25,9 @@ use Rattle.trace_lines.specs.declared.place.SettingName.{SettingName}
 use Rattle.trace_lines.specs.declared.place.SettingName.TheVariants as names
 use Rattle.trace_lines.specs.declared.place.Verb.{Verb}
 use Rattle.trace_lines.specs.declared.place.Verb.TheVariants as verbs
-use Rattle.trace_lines.specs.Arguments.{number_at, range_of, level_word_at, vm_word_at, kind_word_at}
-use Rattle.trace_lines.specs.Asked.{asked, asked_from, begins_with_digit, headers, of_call, of_number, of_range, of_tree, of_show, pools, tree_names}
-use Rattle.trace_lines.specs.Calls.{Argument, number, vm, kind, StepMaker, Shape, calls, called as called_by, step_from}
+use Rattle.trace_lines.specs.Arguments.{number_at, range_of, level_word_at, slot_word_at, vm_word_at, kind_word_at, rights_word_at}
+use Rattle.trace_lines.specs.Asked.{asked, asked_from, begins_with_digit, headers, of_call, of_number, of_range, of_tree, of_show, pools, tree_names, word_of}
+use Rattle.trace_lines.specs.Calls.{Argument, number, vm, kind, rights, StepMaker, Shape, calls, called as called_by, step_from}
 use Rattle.trace_lines.specs.Places.{IsAllowed, may_stand, may_tell}
 use Rattle.trace_lines.specs.Said.{StepHas, said, said_by_asked, said_by_words}
 use Rattle.trace_lines.specs.Settings.{Told}
@@ -56,6 +58,7 @@ OfEach P [] step = P step
 OfEach P (number ∷ more) make = (n : ℕ) → OfEach P more (make n)
 OfEach P (vm ∷ more) make = (v : VmId) → OfEach P more (make v)
 OfEach P (kind ∷ more) make = (k : VmKind) → OfEach P more (make k)
+OfEach P (rights ∷ more) make = (r : Prot) → OfEach P more (make r)
 
 -- a property of each step that a call of the grammar makes
 abbrev pub OfCalls : (Step → Type 0) → Type 0
@@ -68,6 +71,7 @@ module _ (P : Step → Type 0) (h : (step : Step) → P step) where
   of_each (number ∷ more) make = λ n. of_each more (make n)
   of_each (vm ∷ more) make = λ v. of_each more (make v)
   of_each (kind ∷ more) make = λ k. of_each more (make k)
+  of_each (rights ∷ more) make = λ r. of_each more (make r)
 
   of_names : (names : List (List ℕ × Shape)) → Each (λ (shape : Shape). OfEach P shape.arguments shape.step) names
   of_names [] = tt
@@ -82,6 +86,8 @@ from_words P (vm ∷ more) make words place h =
     chained P (λ v. step_from more (make v) words (place + 1)) (λ v. from_words P more (make v) words (place + 1) (h v)) (vm_word_at words place)
 from_words P (kind ∷ more) make words place h =
     chained P (λ k. step_from more (make k) words (place + 1)) (λ k. from_words P more (make k) words (place + 1) (h k)) (kind_word_at words place)
+from_words P (rights ∷ more) make words place h =
+    chained P (λ r. step_from more (make r) words (place + 1)) (λ r. from_words P more (make r) words (place + 1) (h r)) (rights_word_at words place)
 
 called_has : (P : Step → Type 0) → OfCalls P → (words : List (List ℕ)) (name : List ℕ) → IfSome (called_by words name) (λ called. IfSome called.step P)
 unfolding called_by
@@ -128,17 +134,26 @@ module _ (R : Verb → Line → Type 0) (of_setting : (name : SettingName) (sett
   by_call None = tt
   by_call (Some name) = call_row (called_by words name) (called_has (λ step. (cpu : ℕ) → R verbs.Step (lines.Step cpu step)) of_step words name)
 
-  tree_row : (tree : TreeName) → Holds (of_tree words tree)
-  tree_row tree =
-      chained _ (λ page. option_map (λ level. lines.Query (queries.Word tree page level)) (level_word_at words 3))
-      (λ page. mapped _ (λ level. lines.Query (queries.Word tree page level)) (λ level. of_query (queries.Word tree page level)) (level_word_at words 3)) (number_at words 2)
+  word_row : (place : ℕ) (tree : TreeName) → IfSome (word_of words place tree) (R verbs.Query)
+  word_row place tree =
+      chained _ (λ page. option_map (λ level. lines.Query (queries.Word tree page level)) (level_word_at words (place + 1)))
+      (λ page. mapped _ (λ level. lines.Query (queries.Word tree page level)) (λ level. of_query (queries.Word tree page level)) (level_word_at words (place + 1))) (number_at words place)
+
+  tree_row : (tree : NamedTree) → Holds (of_tree words tree)
+  tree_row tree = chained _ (word_of words (1 + tree.words)) (word_row (1 + tree.words)) tree.tree
+
+  show_row : (tree : NamedTree) → Holds (of_show tree)
+  show_row tree = mapped _ (λ name. lines.Query (queries.Show name)) (λ name. of_query (queries.Show name)) tree.tree
+
+  pool_rows : Each Holds (pools words)
+  pool_rows = (of_query queries.FreeShared, (mapped _ (λ slot. lines.Query (queries.FreeGuest slot)) (λ slot. of_query (queries.FreeGuest slot)) (slot_word_at words 2), tt))
 
   by_first : (first : List ℕ) (second : Option (List ℕ)) → IfSome (asked_from words first second) Holds
   by_first first second =
       either (begins_with_digit first) _ _ (by_call second)
-      (either (bytes_eq first (codes "word")) _ _ (mapped Holds (of_tree words) tree_row (option_and_then (named tree_names) second))
-      (either (bytes_eq first (codes "free")) _ _ (chained Holds (named pools) (λ name. found Holds pools name (of_query queries.FreeShared, tt)) second)
-      (either (bytes_eq first (codes "show")) _ _ (mapped Holds of_show (λ tree. of_query (queries.Show tree)) (option_and_then (named tree_names) second))
+      (either (bytes_eq first (codes "word")) _ _ (mapped Holds (of_tree words) tree_row (option_and_then (named (tree_names words)) second))
+      (either (bytes_eq first (codes "free")) _ _ (chained Holds (named (pools words)) (λ name. found Holds (pools words) name pool_rows) second)
+      (either (bytes_eq first (codes "show")) _ _ (mapped Holds of_show show_row (option_and_then (named (tree_names words)) second))
       (found Holds (headers words) first header_rows))))
     where
       either : (b : Bool) (x y : Option Asked) → IfSome x Holds → IfSome y Holds → IfSome (if b then x else y) Holds

@@ -1,6 +1,8 @@
--- Words that stand for numbers, ranges, levels, VMs and their kinds (profile).
+-- Words that stand for numbers, ranges, levels, slots, VMs, their kinds, and rights (profile).
 use Rattle.std.specs.Prelude.{ℕ, ◌==◌, nat_le, List, [], ◌∷◌, codes, is_some, Option, Some, None, option_map, option_and_then, slice_get, if◌then◌else◌}
 use Rattle.std.specs.List.{slice_split}
+use Rattle.descriptor.specs.declared.Prot.{Prot}
+use Rattle.descriptor.specs.declared.Prot.TheVariants.{R, RW, RX, RWX}
 use Rattle.page_state.specs.declared.entry.PageRange.{PageRange}
 use Rattle.page_state.specs.declared.step.VmId.{VmId}
 use Rattle.page_state.specs.declared.step.VmKind.{VmKind}
@@ -24,6 +26,14 @@ in_levels level = if nat_le level 3 then Some level else None
 -- the level that stands at a place
 abbrev pub level_word_at : List (List ℕ) → ℕ → Option ℕ
 level_word_at words place = option_and_then in_levels (number_at words place)
+
+-- a slot of a guest
+abbrev pub in_slots : ℕ → Option ℕ
+in_slots slot = if nat_le slot 63 then Some slot else None
+
+-- the slot that stands at a place
+abbrev pub slot_word_at : List (List ℕ) → ℕ → Option ℕ
+slot_word_at words place = option_and_then in_slots (number_at words place)
 
 -- the parts of a word before, between and behind its dots
 abbrev pub dotted : List ℕ → List (List ℕ)
@@ -50,3 +60,11 @@ kinds = (codes "protected", Protected) ∷ (codes "plain", Plain) ∷ []
 -- the kind that stands at a place
 abbrev pub kind_word_at : List (List ℕ) → ℕ → Option VmKind
 kind_word_at words place = option_and_then (named kinds) (slice_get words place)
+
+-- rights: to read, to write, to execute
+abbrev pub rights_names : List (List ℕ × Prot)
+rights_names = (codes "r", R) ∷ (codes "rw", RW) ∷ (codes "rx", RX) ∷ (codes "rwx", RWX) ∷ []
+
+-- the rights that stand at a place
+abbrev pub rights_word_at : List (List ℕ) → ℕ → Option Prot
+rights_word_at words place = option_and_then (named rights_names) (slice_get words place)

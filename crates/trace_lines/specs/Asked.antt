@@ -1,39 +1,33 @@
 -- What the first words of a line ask for, a row for each form of lines (profile).
-use Rattle.std.specs.Prelude.{ℕ, Bool, false, List, [], ◌∷◌, codes, Option, Some, option_map, option_and_then, slice_get, if◌then◌else◌}
+use Rattle.std.specs.Prelude.{ℕ, Bool, false, List, [], ◌∷◌, ◌+◌, codes, Option, Some, option_map, option_and_then, slice_get, if◌then◌else◌}
 use Rattle.std.specs.Str.{bytes_eq}
 use Rattle.page_state.specs.declared.entry.PageRange.{PageRange}
 use Rattle.trace_lines.specs.declared.asked.Asked.{Asked}
+use Rattle.trace_lines.specs.declared.asked.NamedTree.{NamedTree}
 use Rattle.trace_lines.specs.declared.call.Called.{Called}
+use Rattle.trace_lines.specs.declared.line.Line.{Line}
 use Rattle.trace_lines.specs.declared.line.Line.TheVariants as lines
 use Rattle.trace_lines.specs.declared.line.Query.TheVariants as queries
 use Rattle.trace_lines.specs.declared.line.Setting.{Setting}
 use Rattle.trace_lines.specs.declared.line.Setting.TheVariants as settings
 use Rattle.trace_lines.specs.declared.line.TreeName.{TreeName}
-use Rattle.trace_lines.specs.declared.line.TreeName.TheVariants.{Host, Hyp}
+use Rattle.trace_lines.specs.declared.line.TreeName.TheVariants.{Host, Hyp, Guest}
 use Rattle.trace_lines.specs.declared.place.SettingName.{SettingName}
 use Rattle.trace_lines.specs.declared.place.SettingName.TheVariants as names
 use Rattle.trace_lines.specs.declared.place.Verb.TheVariants as verbs
-use Rattle.trace_lines.specs.Arguments.{number_at, range_of, level_word_at}
+use Rattle.trace_lines.specs.Arguments.{number_at, range_of, level_word_at, slot_word_at}
 use Rattle.trace_lines.specs.Calls.{called as called_by}
 use Rattle.trace_lines.specs.Numbers.{is_decimal_digit}
 use Rattle.trace_lines.specs.Words.{named}
-
--- the trees
-abbrev pub tree_names : List (List ℕ × TreeName)
-tree_names = (codes "host", Host) ∷ (codes "hyp", Hyp) ∷ []
 
 -- whether a word begins with a digit, as that of a step line does
 abbrev pub begins_with_digit : List ℕ → Bool
 begins_with_digit [] = false
 begins_with_digit (byte ∷ bytes) = is_decimal_digit byte
 
--- `free` of a pool
-abbrev pub pools : List (List ℕ × Asked)
-pools = (codes "shared", record { verb = verbs.Query; words = 2; line = Some (lines.Query queries.FreeShared) }) ∷ []
-
 -- `show` of a tree
-abbrev pub of_show : TreeName → Asked
-of_show tree = record { verb = verbs.Query; words = 2; line = Some (lines.Query (queries.Show tree)) }
+abbrev pub of_show : NamedTree → Asked
+of_show named = record { verb = verbs.Query; words = 1 + named.words; line = option_map (λ tree. lines.Query (queries.Show tree)) named.tree }
 
 module _ (words : List (List ℕ)) where
   -- a setting that is a number, and one that is a range
@@ -55,13 +49,25 @@ module _ (words : List (List ℕ)) where
   abbrev pub of_call : Called → Asked
   of_call called = record { verb = verbs.Step; words = called.words; line = option_and_then (λ cpu. option_map (lines.Step cpu) called.step) (number_at words 0) }
 
+  -- the trees, each named by one word or, a guest's, by two: `guest` and its slot
+  abbrev pub tree_names : List (List ℕ × NamedTree)
+  tree_names =
+      (codes "host", record { words = 1; tree = Some Host }) ∷ (codes "hyp", record { words = 1; tree = Some Hyp })
+      ∷ (codes "guest", record { words = 2; tree = option_map Guest (slot_word_at words 2) }) ∷ []
+
+  -- the word on a path that a line asks for whose page stands at a place
+  abbrev pub word_of : ℕ → TreeName → Option Line
+  word_of place tree = option_and_then (λ page. option_map (λ level. lines.Query (queries.Word tree page level)) (level_word_at words (place + 1))) (number_at words place)
+
   -- `word` of a tree
-  abbrev pub of_tree : TreeName → Asked
-  of_tree tree = record {
-    verb = verbs.Query;
-    words = 4;
-    line = option_and_then (λ page. option_map (λ level. lines.Query (queries.Word tree page level)) (level_word_at words 3)) (number_at words 2);
-  }
+  abbrev pub of_tree : NamedTree → Asked
+  of_tree named = record { verb = verbs.Query; words = 3 + named.words; line = option_and_then (word_of (1 + named.words)) named.tree }
+
+  -- `free` of a pool
+  abbrev pub pools : List (List ℕ × Asked)
+  pools =
+      (codes "shared", record { verb = verbs.Query; words = 2; line = Some (lines.Query queries.FreeShared) })
+      ∷ (codes "guest", record { verb = verbs.Query; words = 3; line = option_map (λ slot. lines.Query (queries.FreeGuest slot)) (slot_word_at words 2) }) ∷ []
 
   -- what the first word and the one after it ask for
   abbrev pub asked_from : List ℕ → Option (List ℕ) → Option Asked

@@ -1,18 +1,20 @@
 -- The calls that a step line can name, a row for each (profile).
 use Rattle.std.specs.Prelude.{ℕ, ◌+◌, List, [], ◌∷◌, length, codes, Option, Some, option_map, option_and_then}
+use Rattle.descriptor.specs.declared.Prot.{Prot}
 use Rattle.page_state.specs.declared.step.Step.{Step}
 use Rattle.page_state.specs.declared.step.Step.TheVariants as steps
 use Rattle.trace_lines.specs.declared.call.Called.{Called}
 use Rattle.page_state.specs.declared.step.VmId.{VmId}
 use Rattle.page_state.specs.declared.step.VmKind.{VmKind}
-use Rattle.trace_lines.specs.Arguments.{number_at, vm_word_at, kind_word_at}
+use Rattle.trace_lines.specs.Arguments.{number_at, vm_word_at, kind_word_at, rights_word_at}
 use Rattle.trace_lines.specs.Words.{named}
 
--- what an argument is: a number, a VM, or a kind of VMs
+-- what an argument is: a number, a VM, a kind of VMs, or rights
 pub data Argument : Type 0 where
   number : Argument
   vm : Argument
   kind : Argument
+  rights : Argument
 
 -- what makes a step of the values of such arguments, in order
 abbrev pub StepMaker : List Argument → Type 0
@@ -20,6 +22,7 @@ StepMaker [] = Step
 StepMaker (number ∷ more) = ℕ → StepMaker more
 StepMaker (vm ∷ more) = VmId → StepMaker more
 StepMaker (kind ∷ more) = VmKind → StepMaker more
+StepMaker (rights ∷ more) = Prot → StepMaker more
 
 -- what a call's name stands for: its arguments, and the step that they make
 pub record Shape : Type 0 where
@@ -39,6 +42,19 @@ calls =
     ∷ (codes "owner_of", record { arguments = number ∷ []; step = steps.OwnerOf })
     ∷ (codes "fund", record { arguments = number ∷ number ∷ []; step = steps.Fund })
     ∷ (codes "unfund", record { arguments = []; step = steps.Unfund })
+    ∷ (codes "share_guest", record { arguments = number ∷ number ∷ rights ∷ []; step = steps.ShareGuest })
+    ∷ (codes "unshare_guest", record { arguments = vm ∷ number ∷ []; step = steps.UnshareGuest })
+    ∷ (codes "donate_guest", record { arguments = number ∷ number ∷ []; step = steps.DonateGuest })
+    ∷ (codes "guest_share_host", record { arguments = number ∷ []; step = steps.GuestShareHost })
+    ∷ (codes "guest_unshare_host", record { arguments = number ∷ []; step = steps.GuestUnshareHost })
+    ∷ (codes "install", record { arguments = []; step = steps.Install })
+    ∷ (codes "topup", record { arguments = vm ∷ []; step = steps.Topup })
+    ∷ (codes "reclaim_page", record { arguments = vm ∷ number ∷ []; step = steps.ReclaimPage })
+    ∷ (codes "reclaim_pool", record { arguments = vm ∷ []; step = steps.ReclaimPool })
+    ∷ (codes "finish_guest", record { arguments = []; step = steps.FinishGuest })
+    ∷ (codes "guest_relax", record { arguments = number ∷ rights ∷ []; step = steps.GuestRelax })
+    ∷ (codes "guest_translate", record { arguments = vm ∷ number ∷ []; step = steps.GuestTranslate })
+    ∷ (codes "mark_dying", record { arguments = []; step = steps.MarkDying })
     ∷ (codes "vm_reserve", record { arguments = kind ∷ number ∷ []; step = steps.VmReserve })
     ∷ (codes "vm_open", record { arguments = []; step = steps.VmOpen })
     ∷ (codes "vcpu_load", record { arguments = vm ∷ number ∷ []; step = steps.VcpuLoad })
@@ -53,6 +69,7 @@ step_from [] step words place = Some step
 step_from (number ∷ more) make words place = option_and_then (λ n. step_from more (make n) words (place + 1)) (number_at words place)
 step_from (vm ∷ more) make words place = option_and_then (λ v. step_from more (make v) words (place + 1)) (vm_word_at words place)
 step_from (kind ∷ more) make words place = option_and_then (λ k. step_from more (make k) words (place + 1)) (kind_word_at words place)
+step_from (rights ∷ more) make words place = option_and_then (λ r. step_from more (make r) words (place + 1)) (rights_word_at words place)
 
 -- what a step line has whose call has this name: its CPU, the name and the arguments, and the step that these make
 unfoldable pub called : List (List ℕ) → List ℕ → Option Called

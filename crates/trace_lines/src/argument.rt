@@ -1,4 +1,4 @@
-//! Words that stand for numbers, ranges, levels, VMs and their kinds.
+//! Words that stand for numbers, ranges, levels, slots, VMs, their kinds, and rights.
 ghost use Rattle.std.specs.Prelude.{◌≡◌, option_copied, slice_get};
 ghost use Rattle.trace_lines.specs.Arguments.{
   decimal_part as decimal_of_part,
@@ -8,6 +8,9 @@ ghost use Rattle.trace_lines.specs.Arguments.{
   level_word_at as level_at_place,
   number_at as number_at_place,
   range_of as range_by,
+  rights_names,
+  rights_word_at,
+  slot_word_at,
   vm_of,
   vm_word_at,
 };
@@ -15,10 +18,13 @@ ghost use Rattle.trace_lines.specs.Words.{named};
 
 use crate::number::{decimal, number};
 use crate::words::{Words, is_name};
-use page_state::{Page, PageRange, VmId, VmKind};
+use page_state::{Page, PageRange, Prot, VmId, VmKind};
 
 /// The last level of a tree.
 const LAST_LEVEL: u64 = 3;
+
+/// The last slot of a guest.
+const LAST_SLOT: u64 = 63;
 
 /// The number that stands at a place, counted from 0.
 pub fn number_at(words: &Words<'_>, place: usize) -> Option<u64>
@@ -36,6 +42,17 @@ pub fn level_at(words: &Words<'_>, place: usize) -> Option<u64>
         return None;
     }
     Some(level)
+}
+
+/// The slot of a guest that stands at a place, 0 to 63.
+pub fn slot_at(words: &Words<'_>, place: usize) -> Option<u64>
+    ensures { result ≡ slot_word_at words.now place }
+{
+    let slot = number_at(words, place)?;
+    if slot > LAST_SLOT {
+        return None;
+    }
+    Some(slot)
 }
 
 /// The range that the second and third word tell.
@@ -99,4 +116,30 @@ pub fn kind_at(words: &Words<'_>, place: usize) -> Option<VmKind>
     ensures { result ≡ kind_word_at words.now place }
 {
     kind(words.get(place)?)
+}
+
+/// The rights that a word is.
+fn rights(word: &[u8]) -> Option<Prot>
+    ensures { result ≡ named rights_names word.now }
+{
+    if is_name(word, b"r") {
+        return Some(Prot::R);
+    }
+    if is_name(word, b"rw") {
+        return Some(Prot::RW);
+    }
+    if is_name(word, b"rx") {
+        return Some(Prot::RX);
+    }
+    if is_name(word, b"rwx") {
+        return Some(Prot::RWX);
+    }
+    None
+}
+
+/// The rights that stand at a place, counted from 0.
+pub fn rights_at(words: &Words<'_>, place: usize) -> Option<Prot>
+    ensures { result ≡ rights_word_at words.now place }
+{
+    rights(words.get(place)?)
 }

@@ -1,6 +1,6 @@
 //! What the first words of a line ask for.
-ghost use Rattle.std.specs.Prelude.{◌≡◌, option_and_then, option_map};
-ghost use Rattle.trace_lines.specs.Arguments.{level_word_at as level_at_place, number_at as number_at_place};
+ghost use Rattle.std.specs.Prelude.{◌≡◌, ◌+◌, ◌≤◌, IfSome, option_and_then, option_map};
+ghost use Rattle.trace_lines.specs.Arguments.{number_at as number_at_place};
 ghost use Rattle.trace_lines.specs.Asked.{
   asked as asked_by,
   begins_with_digit as begins_with_digit_byte,
@@ -8,13 +8,14 @@ ghost use Rattle.trace_lines.specs.Asked.{
   of_call as of_call_by,
   of_show as of_show_by,
   of_tree as of_tree_by,
-  pools,
+  pools as pools_by,
   tree_names,
+  word_of as word_by,
 };
 ghost use Rattle.trace_lines.specs.Calls.{called as called_by};
 ghost use Rattle.trace_lines.specs.Words.{named};
 
-use crate::argument::{level_at, number_at, range_of};
+use crate::argument::{level_at, number_at, range_of, slot_at};
 use crate::call::Called;
 use crate::line::{Line, Query, Setting, TreeName};
 use crate::place::{SettingName, Verb};
@@ -29,6 +30,15 @@ pub struct Asked {
     pub words: usize,
     /// None where a word is missing or not of the form that its place asks.
     pub line: Option<Line>,
+}
+
+/// A tree that words name.
+#[derive(Clone, Copy, PartialEq, Debug)]
+pub struct NamedTree {
+    /// How many words its name has.
+    pub words: usize,
+    /// None where a slot is missing or not of its form.
+    pub tree: Option<TreeName>,
 }
 
 impl Asked {
@@ -46,10 +56,10 @@ impl Asked {
             return tree(words.get(1)?, words);
         }
         if is_name(first, b"free") {
-            return pool(words.get(1)?);
+            return pool(words.get(1)?, words);
         }
         if is_name(first, b"show") {
-            return show(words.get(1)?);
+            return show(words.get(1)?, words);
         }
         header(first, words)
     }
@@ -127,57 +137,85 @@ fn step_line(words: &Words<'_>, step: Option<Step>) -> Option<Line>
 
 /// `word` of the tree of this name.
 fn tree(name: &[u8], words: &Words<'_>) -> Option<Asked>
-    ensures { result ≡ option_map (of_tree_by words.now) (named tree_names name.now) }
+    ensures { result ≡ option_map (of_tree_by words.now) (named (tree_names words.now) name.now) }
 {
-    let tree = tree_name(name)?;
+    let named = tree_name(name, words)?;
     Some(Asked {
         verb: Verb::Query,
-        words: 4,
-        line: word_line(tree, words),
+        words: 3 + named.words,
+        line: word_line(named, words),
     })
 }
 
-fn word_line(tree: TreeName, words: &Words<'_>) -> Option<Line>
-    ensures { result ≡ option_and_then (λ page. option_map (λ level. Line.Query (Query.Word tree page level)) (level_at_place words.now 3)) (number_at_place words.now 2) }
+fn word_line(named: NamedTree, words: &Words<'_>) -> Option<Line>
+    requires few { named.words ≤ 2 }
+    ensures { result ≡ option_and_then (word_by words.now (1 + named.words)) named.tree }
 {
-    let page = number_at(words, 2)?;
-    let level = level_at(words, 3)?;
+    word_of(named.tree?, words, 1 + named.words)
+}
+
+/// The question for a word on a path, whose page stands at a place and its level behind it.
+fn word_of(tree: TreeName, words: &Words<'_>, place: usize) -> Option<Line>
+    requires low { place ≤ 3 }
+    ensures { result ≡ word_by words.now place tree }
+{
+    let page = number_at(words, place)?;
+    let level = level_at(words, place + 1)?;
     Some(Line::Query(Query::Word { tree, page, level }))
 }
 
-fn tree_name(word: &[u8]) -> Option<TreeName>
-    ensures { result ≡ named tree_names word.now }
+/// The tree of this name. A guest's has two words: `guest` and its slot.
+fn tree_name(name: &[u8], words: &Words<'_>) -> Option<NamedTree>
+    ensures value { result ≡ named (tree_names words.now) name.now }
+    ensures few { IfSome result (λ n. n.words ≤ 2) }
 {
-    if is_name(word, b"host") {
-        Some(TreeName::Host)
-    } else if is_name(word, b"hyp") {
-        Some(TreeName::Hyp)
+    if is_name(name, b"host") {
+        Some(NamedTree {
+            words: 1,
+            tree: Some(TreeName::Host),
+        })
+    } else if is_name(name, b"hyp") {
+        Some(NamedTree {
+            words: 1,
+            tree: Some(TreeName::Hyp),
+        })
+    } else if is_name(name, b"guest") {
+        Some(NamedTree {
+            words: 2,
+            tree: slot_at(words, 2).map(TreeName::Guest),
+        })
     } else {
         None
     }
 }
 
 /// `show` of the tree of this name.
-fn show(name: &[u8]) -> Option<Asked>
-    ensures { result ≡ option_map of_show_by (named tree_names name.now) }
+fn show(name: &[u8], words: &Words<'_>) -> Option<Asked>
+    ensures { result ≡ option_map of_show_by (named (tree_names words.now) name.now) }
 {
-    let tree = tree_name(name)?;
+    let named = tree_name(name, words)?;
     Some(Asked {
         verb: Verb::Query,
-        words: 2,
-        line: Some(Line::Query(Query::Show(tree))),
+        words: 1 + named.words,
+        line: named.tree.map(|tree| Line::Query(Query::Show(tree))),
     })
 }
 
 /// `free` of the pool of this name.
-fn pool(name: &[u8]) -> Option<Asked>
-    ensures { result ≡ named pools name.now }
+fn pool(name: &[u8], words: &Words<'_>) -> Option<Asked>
+    ensures { result ≡ named (pools_by words.now) name.now }
 {
     if is_name(name, b"shared") {
         Some(Asked {
             verb: Verb::Query,
             words: 2,
             line: Some(Line::Query(Query::FreeShared)),
+        })
+    } else if is_name(name, b"guest") {
+        Some(Asked {
+            verb: Verb::Query,
+            words: 3,
+            line: slot_at(words, 2).map(|slot| Line::Query(Query::FreeGuest(slot))),
         })
     } else {
         None

@@ -1,9 +1,21 @@
 //! The calls that a step line can name.
 ghost use Rattle.std.specs.Prelude.{◌≡◌, [], ◌∷◌, Some};
-ghost use Rattle.page_state.specs.declared.step.Step.TheVariants.{DonateHyp, HypDonateHost, Fund, VcpuLoad, VmReserve};
-ghost use Rattle.trace_lines.specs.Calls.{called as called_by, kind, number, step_from, vm};
+ghost use Rattle.page_state.specs.declared.step.Step.TheVariants.{
+  DonateGuest,
+  DonateHyp,
+  Fund,
+  GuestRelax,
+  GuestTranslate,
+  HypDonateHost,
+  ReclaimPage,
+  ShareGuest,
+  UnshareGuest,
+  VcpuLoad,
+  VmReserve,
+};
+ghost use Rattle.trace_lines.specs.Calls.{called as called_by, kind, number, rights, step_from, vm};
 
-use crate::argument::{kind_at, number_at, vm_at};
+use crate::argument::{kind_at, number_at, rights_at, vm_at};
 use crate::words::{Words, is_name};
 use page_state::Step;
 
@@ -58,6 +70,51 @@ impl Called {
         if is_name(name, b"unfund") {
             return row(2, Some(Step::Unfund));
         }
+        if is_name(name, b"share_guest") {
+            return row(5, share_guest(words));
+        }
+        if is_name(name, b"unshare_guest") {
+            return row(4, unshare_guest(words));
+        }
+        if is_name(name, b"donate_guest") {
+            return row(4, donate_guest(words));
+        }
+        if is_name(name, b"guest_share_host") {
+            return row(
+                3,
+                number_at(words, 2).map(|gfn| Step::GuestShareHost { gfn }),
+            );
+        }
+        if is_name(name, b"guest_unshare_host") {
+            return row(
+                3,
+                number_at(words, 2).map(|gfn| Step::GuestUnshareHost { gfn }),
+            );
+        }
+        if is_name(name, b"install") {
+            return row(2, Some(Step::Install));
+        }
+        if is_name(name, b"topup") {
+            return row(3, vm_at(words, 2).map(|vm| Step::Topup { vm }));
+        }
+        if is_name(name, b"reclaim_page") {
+            return row(4, reclaim_page(words));
+        }
+        if is_name(name, b"reclaim_pool") {
+            return row(3, vm_at(words, 2).map(|vm| Step::ReclaimPool { vm }));
+        }
+        if is_name(name, b"finish_guest") {
+            return row(2, Some(Step::FinishGuest));
+        }
+        if is_name(name, b"guest_relax") {
+            return row(4, guest_relax(words));
+        }
+        if is_name(name, b"guest_translate") {
+            return row(4, guest_translate(words));
+        }
+        if is_name(name, b"mark_dying") {
+            return row(2, Some(Step::MarkDying));
+        }
         if is_name(name, b"vm_reserve") {
             return row(4, vm_reserve(words));
         }
@@ -111,6 +168,61 @@ fn fund(words: &Words<'_>) -> Option<Step>
     let pfn = number_at(words, 2)?;
     let n = number_at(words, 3)?;
     Some(Step::Fund { pfn, n })
+}
+
+/// A share of the told frame with the guest, at the told page and with the told rights.
+fn share_guest(words: &Words<'_>) -> Option<Step>
+    ensures { result ≡ step_from (number ∷ number ∷ rights ∷ []) ShareGuest words.now 2 }
+{
+    let pfn = number_at(words, 2)?;
+    let gfn = number_at(words, 3)?;
+    let prot = rights_at(words, 4)?;
+    Some(Step::ShareGuest { pfn, gfn, prot })
+}
+
+/// The end of a share with the told VM's guest at the told page.
+fn unshare_guest(words: &Words<'_>) -> Option<Step>
+    ensures { result ≡ step_from (vm ∷ number ∷ []) UnshareGuest words.now 2 }
+{
+    let vm = vm_at(words, 2)?;
+    let gfn = number_at(words, 3)?;
+    Some(Step::UnshareGuest { vm, gfn })
+}
+
+/// A donation of the told frame to the guest, at the told page.
+fn donate_guest(words: &Words<'_>) -> Option<Step>
+    ensures { result ≡ step_from (number ∷ number ∷ []) DonateGuest words.now 2 }
+{
+    let pfn = number_at(words, 2)?;
+    let gfn = number_at(words, 3)?;
+    Some(Step::DonateGuest { pfn, gfn })
+}
+
+/// The reclaim of the told page of the told VM.
+fn reclaim_page(words: &Words<'_>) -> Option<Step>
+    ensures { result ≡ step_from (vm ∷ number ∷ []) ReclaimPage words.now 2 }
+{
+    let vm = vm_at(words, 2)?;
+    let gfn = number_at(words, 3)?;
+    Some(Step::ReclaimPage { vm, gfn })
+}
+
+/// More rights, those told, for the guest at the told page.
+fn guest_relax(words: &Words<'_>) -> Option<Step>
+    ensures { result ≡ step_from (number ∷ rights ∷ []) GuestRelax words.now 2 }
+{
+    let gfn = number_at(words, 2)?;
+    let prot = rights_at(words, 3)?;
+    Some(Step::GuestRelax { gfn, prot })
+}
+
+/// The question for the told VM's entry of the told page.
+fn guest_translate(words: &Words<'_>) -> Option<Step>
+    ensures { result ≡ step_from (vm ∷ number ∷ []) GuestTranslate words.now 2 }
+{
+    let vm = vm_at(words, 2)?;
+    let gfn = number_at(words, 3)?;
+    Some(Step::GuestTranslate { vm, gfn })
 }
 
 /// A reservation of a slot for a VM of the told kind and number of vCPUs.

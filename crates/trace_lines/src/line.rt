@@ -42,6 +42,8 @@ pub enum Query {
     },
     /// The number of free frames of the shared pool.
     FreeShared,
+    /// The number of free frames of the pool of the guest in a slot, 0 to 63.
+    FreeGuest(u64),
     /// The maplets of a tree.
     Show(TreeName),
 }
@@ -51,4 +53,6 @@ pub enum Query {
 pub enum TreeName {
     Host,
     Hyp,
+    /// That of the guest in a slot, 0 to 63.
+    Guest(u64),
 }
