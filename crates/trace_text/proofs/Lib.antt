@@ -4,6 +4,5 @@ mod Lined
 mod Machines
 mod OneLine
 mod ReplayLemmas
-mod Served
 mod Standing
 mod ToldRuns
