@@ -1,6 +1,7 @@
 -- The machine that a world stands for.
-use Rattle.std.proofs.Common.{◌≡◌, ◌∙◌, ◌+◌, ◌-◌, ◌<◌, ◌≤◌, ℕ, zero, All, refl, sym, ap, subst, arith, suc, true, false, List, [], ◌∷◌, filter, length, Option, Some, None, IsSome, IfSome, is_some, nat_lt, nat_le, ◌&&◌, Bool, if◌then◌else◌}
+use Rattle.std.proofs.Common.{◌≡◌, ◌∙◌, ◌+◌, ◌-◌, ◌<◌, ◌≤◌, ℕ, zero, All, refl, sym, ap, subst, arith, suc, true, false, List, [], ◌∷◌, filter, get_or, length, slice_get, Option, Some, None, IsSome, IfSome, is_some, nat_lt, nat_le, ◌&&◌, Bool, if◌then◌else◌, inl, inr}
 use Rattle.std.proofs.lemmas.Bool.Decides.{nat_tests}
+use Rattle.std.proofs.lemmas.Option.{slice_get-get_or, slice_get_cases, slice_get_past}
 use Rattle.page_state.specs.declared.layout.Geometry.{Geometry}
 use Rattle.page_state.specs.declared.layout.Geometry.TheVariants.{Bits39}
 use Rattle.page_state.specs.declared.layout.Config.{Config}
@@ -12,22 +13,28 @@ use Rattle.page_state.specs.Accepted.{IsAcceptedConfig}
 use Rattle.page_state.specs.LayoutFaults.{IsAccepted}
 use Rattle.page_state.specs.Layouts.{Layout}
 use Rattle.reference_model.specs.Boot.{IsCarveEnough}
-use Rattle.reference_model.specs.State.{Shared, no_shared}
+use Rattle.reference_model.specs.State.{Guest as ReferenceGuest, Shared, no_guest, no_shared}
+use Rattle.guest_component.specs.declared.body.Body.{Body}
+use Rattle.guest_component.specs.Bodies.{IsOfGeometry}
+use Rattle.guest_component.specs.View.{guest_in, runs_of}
+use Rattle.guest_steps.specs.declared.parts.GuestPart.{GuestPart}
 use Rattle.guest_steps.specs.declared.parts.SharedPart.{SharedPart}
 use Rattle.guest_steps.specs.Lent.{one}
-use Rattle.guest_steps.specs.View.{shared_of}
+use Rattle.guest_steps.specs.View.{guest_held, shared_of}
+use Rattle.hypercalls.specs.Stands.{at_place}
 use Rattle.table_tree.specs.AllBlocks.{blocks_in, table_count}
 use Rattle.table_tree.specs.declared.tree.Tree.{Tree}
 use Rattle.table_tree.specs.OnPage.{path_of, word_on}
 use Rattle.table_tree.specs.Said.{block_above, block_of, HasWord, IsWordOf, IsRunOrTable}
 use Rattle.table_tree.specs.View.{tree_of, word_of}
+use Rattle.table_tree.proofs.AllFrames.{root_stands}
 use Rattle.table_tree.proofs.OnPage.{page_block, path_length}
 use Rattle.table_tree.proofs.PathNumbers.{Small, all_small}
 use Rattle.table_tree.proofs.Said.{word_where}
 use Rattle.trace_lines.specs.declared.line.TreeName.{TreeName}
-use Rattle.trace_lines.specs.declared.line.TreeName.TheVariants.{Host, Hyp}
-use Rattle.trace_text.specs.View.{machine_of, maplets_of, runs_in}
-use Rattle.trace_text.specs.Worlds.{IsBootOf, HasMaplets, HasWordOn, IsWordOn, tree_told, tables_told, free_told}
+use Rattle.trace_lines.specs.declared.line.TreeName.TheVariants.{Host, Hyp, Guest}
+use Rattle.trace_text.specs.View.{body_at, body_in, machine_of, runs_in}
+use Rattle.trace_text.specs.Worlds.{IsBootOf, HasMaplets, HasWordOn, IsWordOn, tree_told, tables_told, free_told, guest_free_told}
 use Rattle.world.specs.Boots.{IsBooted}
 use Rattle.world.specs.declared.World.{World}
 
@@ -64,19 +71,52 @@ module _ {A : Type 0} (w : World A) (s : SharedPart A) (e : w.parts.shared.items
   pub free_is : length s.pool.frames ≡ free_told (machine_of w)
   free_is = ap (λ (x : Shared). length x.free) (sym shared_is)
 
+-- the guest in a slot is that of what it holds
+guest_is : {A : Type 0} (o : Option (GuestPart A)) → at_place no_guest guest_held o ≡ guest_in (body_in o)
+guest_is None = refl
+guest_is (Some g) = refl
+
+-- the tree of what it holds, if it isn't Empty
+module _ {A : Type 0} (w : World A) (slot : ℕ) where
+  guest_told : (machine_of w).state.contents.guest slot ≡ guest_in (body_at w slot)
+  guest_told = guest_is (slice_get w.parts.guests.items slot)
+
+  -- it is looked up among the Guest parts
+  pub held_at : (g : GuestPart A) → slot < length w.parts.guests.items → g ≡ get_or w.parts.guests.items slot g → body_at w slot ≡ g.guest.body
+  held_at g l e = ap body_in (slice_get-get_or w.parts.guests.items slot g l ∙ ap Some (sym e))
+
+  pub none_at : length w.parts.guests.items ≤ slot → body_at w slot ≡ None
+  none_at past = ap body_in (slice_get_past w.parts.guests.items slot past)
+
+  pub guest_tree : (o : Option (Body A)) → body_at w slot ≡ o → tree_told (machine_of w) (Guest slot) ≡ (guest_in o).tree
+  guest_tree o e = ap (λ (x : ReferenceGuest). x.tree) (guest_told ∙ ap guest_in e)
+
+  pub guest_free_is : (o : Option (Body A)) → body_at w slot ≡ o → length (guest_in o).free ≡ guest_free_told (machine_of w) slot
+  guest_free_is o e = ap (λ (x : ReferenceGuest). length x.free) (sym (guest_told ∙ ap guest_in e))
+
 -- the maplets that a world keeps are those of its trees
-module _ {A : Type 0} (w : World A) (tree : TreeName) where
-  of_one : (s : SharedPart A) (e : w.parts.shared.items ≡ s ∷ []) (name : TreeName) → HasMaplets (tree_told (machine_of w) name) (maplets_of name s)
-  of_one s e Host = record { map_is = ap (λ (x : ReferenceTree). x.map) (host_told w s e) ∙ s.host.agree; coarsest = s.host.coarsest }
-  of_one s e Hyp = record { map_is = ap (λ (x : ReferenceTree). x.map) (hyp_told w s e) ∙ s.hyp.agree; coarsest = s.hyp.coarsest }
+module _ {A : Type 0} (w : World A) where
+  sole : length w.parts.shared.items ≡ 1
+  sole = omega (arith, w.parts.one_shared, w.parts.shared.ok.0)
 
-  by_items : (xs : List (SharedPart A)) → w.parts.shared.items ≡ xs → length xs ≡ 1 → HasMaplets (tree_told (machine_of w) tree) (one [] (maplets_of tree) xs)
-  by_items [] e n = absurd (omega (arith, n))
-  by_items (s ∷ []) e n = of_one s e tree
-  by_items (s ∷ (t ∷ xs)) e n = absurd (omega (arith, n))
+  of_host : (xs : List (SharedPart A)) → w.parts.shared.items ≡ xs → length xs ≡ 1 → HasMaplets (tree_told (machine_of w) Host) (one [] (λ (s : SharedPart A). s.host.maplets.runs) xs)
+  of_host [] e n = absurd (omega (arith, n))
+  of_host (s ∷ []) e n = record { map_is = ap (λ (x : ReferenceTree). x.map) (host_told w s e) ∙ s.host.agree; coarsest = s.host.coarsest }
+  of_host (s ∷ (t ∷ xs)) e n = absurd (omega (arith, n))
 
-  pub has_maplets : HasMaplets (tree_told (machine_of w) tree) (runs_in (Some w) tree)
-  has_maplets = by_items w.parts.shared.items refl (let one_shared : length w.parts.shared.items ≡ 1 = omega (arith, w.parts.one_shared, w.parts.shared.ok.0) in one_shared)
+  of_hyp : (xs : List (SharedPart A)) → w.parts.shared.items ≡ xs → length xs ≡ 1 → HasMaplets (tree_told (machine_of w) Hyp) (one [] (λ (s : SharedPart A). s.hyp.maplets.runs) xs)
+  of_hyp [] e n = absurd (omega (arith, n))
+  of_hyp (s ∷ []) e n = record { map_is = ap (λ (x : ReferenceTree). x.map) (hyp_told w s e) ∙ s.hyp.agree; coarsest = s.hyp.coarsest }
+  of_hyp (s ∷ (t ∷ xs)) e n = absurd (omega (arith, n))
+
+  of_guest : (slot : ℕ) (o : Option (Body A)) → body_at w slot ≡ o → HasMaplets (tree_told (machine_of w) (Guest slot)) (runs_of o)
+  of_guest slot None e = record { map_is = ap (λ (x : ReferenceTree). x.map) (guest_tree w slot None e); coarsest = tt }
+  of_guest slot (Some b) e = record { map_is = ap (λ (x : ReferenceTree). x.map) (guest_tree w slot (Some b) e) ∙ b.map.agree; coarsest = b.map.coarsest }
+
+  pub has_maplets : (tree : TreeName) → HasMaplets (tree_told (machine_of w) tree) (runs_in (Some w) tree)
+  has_maplets Host = of_host w.parts.shared.items refl sole
+  has_maplets Hyp = of_hyp w.parts.shared.items refl sole
+  has_maplets (Guest slot) = of_guest slot (body_at w slot) refl
 
 -- the machine that has booted
 pub boots : {A : Type 0} (m : Memory) (c : Config) (w : World A) → IsBooted m c w.parts → IsBootOf m c (machine_of w)
@@ -150,6 +190,7 @@ module _ {A : Type 0} (t : Tree A) (page level : ℕ) where
       let few = few_levels t.geometry in
       let many = count in
       record {
+        root = subst IsSome (sym (root_stands t)) refl;
         good = a;
         top = omega (arith, few);
         bottom = c;
@@ -197,3 +238,25 @@ module _ {A : Type 0} (w : World A) (s : SharedPart A) (e : w.parts.shared.items
 
   pub hyp_word : IsWordOn (levels_below s.hyp.tree.geometry) (tree_of s.hyp.tree) page level r → IsWordOn (machine_of w).layout.depth (tree_told (machine_of w) Hyp) page level r
   hyp_word h = on_tree Hyp s.hyp.tree (hyp_depth w s e) (hyp_told w s e) h
+
+-- what holds of all holds at a place
+all_at : {P : Type 0} (Is : P → Type 0) (xs : List P) (k : ℕ) → All Is xs → IfSome (slice_get xs k) Is
+all_at Is xs k h = elim (slice_get_cases xs k).1 [
+  | inl (d, inside, at, is) ↦ rw at (subst Is is (h k d inside))
+  | inr past ↦ rw past.1 tt
+]
+
+-- the word that a guest's tree has, if it isn't Empty
+module _ {A : Type 0} (w : World A) (slot page level : ℕ) where
+  guest_depths : (o : Option (GuestPart A)) (b : Body A) → IfSome o (λ g. levels_below g.guest.geometry ≡ (machine_of w).layout.depth) → body_in o ≡ Some b → levels_below b.map.tree.geometry ≡ (machine_of w).layout.depth
+  guest_depths None b h e = absurd (let k = e in cc)
+  guest_depths (Some g) b h e = ap levels_below (subst (IsOfGeometry g.guest.geometry) e g.guest.alike) ∙ h
+
+  pub guest_word : (b : Body A) → body_at w slot ≡ Some b → (r : Option ℕ) → IsWordOn (levels_below b.map.tree.geometry) (tree_of b.map.tree) page level r
+      → IsWordOn (machine_of w).layout.depth (tree_told (machine_of w) (Guest slot)) page level r
+  guest_word b e r h =
+      let depth = guest_depths (slice_get w.parts.guests.items slot) b (all_at (λ g. levels_below g.guest.geometry ≡ (machine_of w).layout.depth) w.parts.guests.items slot w.parts.guest_depth) e in
+      subst (λ x. IsWordOn (machine_of w).layout.depth x page level r) (sym (guest_tree w slot (Some b) e)) (subst (λ d. IsWordOn d (tree_of b.map.tree) page level r) depth h)
+
+  pub no_guest_word : body_at w slot ≡ None → IsWordOn (machine_of w).layout.depth (tree_told (machine_of w) (Guest slot)) page level None
+  no_guest_word e = λ has. let root = subst (λ (x : ReferenceTree). IsSome (x.table ((machine_of w).layout.depth + 1, 0))) (guest_tree w slot None e) has.root in cc

@@ -26,7 +26,7 @@ use Rattle.trace_text.specs.Laws.{reply_of, replies_told, step_asked}
 use Rattle.trace_text.specs.Replay.{Begins, IsReport}
 use Rattle.trace_lines.specs.Said.{said}
 use Rattle.trace_text.specs.Session.{Standing, Answer, Answers, Follows, MakesStep, allowed}
-use Rattle.trace_text.specs.Worlds.{Machine, in_state, free_told}
+use Rattle.trace_text.specs.Worlds.{Machine, in_state, free_told, guest_free_told}
 use Rattle.trace_text.proofs.Asked.{Fits, fits}
 use Rattle.trace_lines.proofs.Saying.{mapped}
 
@@ -98,6 +98,7 @@ module _ (number : ℕ) (line : List ℕ) (rest : List (List ℕ)) (old new : St
   by_query (queries.Word tree page level) m silent =
       asks (option_map responses.Word m.0) faults.Path (mapped (λ says. reply_of says ≡ None) responses.Word (λ w. refl) m.0) m.2.0 m.2.1 silent
   by_query queries.FreeShared m silent = asks (Some (responses.Free (free_told world))) (faults.Line Place) refl m.0 m.1 silent
+  by_query (queries.FreeGuest slot) m silent = asks (Some (responses.Free (guest_free_told world slot))) (faults.Line Place) refl m.0 m.1 silent
   by_query (queries.Show tree) m silent =
       let b = rw m.2 at begins in
       inr (inl (record { new = new; stands = still m.3; silent = silent; says = map report.Response (map responses.Run m.0); more = b.0; is = b.1; no_step = runs_silent m.0; report = b.2 }))

@@ -30,7 +30,7 @@ use Rattle.trace_text.specs.declared.session.Stop.TheVariants as stops
 use Rattle.trace_lines.specs.Places.{before_boot}
 use Rattle.trace_lines.specs.Said.{said}
 use Rattle.trace_lines.specs.Settings.{Told, nothing_told, told_after, config_of}
-use Rattle.trace_text.specs.Worlds.{Machine, HasMaplets, IsBootOf, IsWordOn, in_state, tree_told, tables_told, free_told}
+use Rattle.trace_text.specs.Worlds.{Machine, HasMaplets, IsBootOf, IsWordOn, in_state, tree_told, tables_told, free_told, guest_free_told}
 
 -- where a trace stands: what was told, the machine once it is booted, and how many step lines were carried out
 pub record Standing : Type 0 where
@@ -116,6 +116,7 @@ abbrev pub Answers : Query → Machine → Standing → Answer → Standing → 
 Answers (queries.Word tree page level) m old answer new =
     (word : Option ℕ) × IsWordOn m.layout.depth (tree_told m tree) page level word × Asks (option_map responses.Word word) faults.Path old answer new
 Answers queries.FreeShared m old answer new = Asks (Some (responses.Free (free_told m))) (faults.Line Place) old answer new
+Answers (queries.FreeGuest slot) m old answer new = Asks (Some (responses.Free (guest_free_told m slot))) (faults.Line Place) old answer new
 Answers (queries.Show tree) m old answer new = (runs : List Run) × HasMaplets (tree_told m tree) runs × (answer ≡ Ok (map responses.Run runs)) × (new ≡ old)
 
 -- what a line does, its number counted from 1

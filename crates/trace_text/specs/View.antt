@@ -1,11 +1,14 @@
 -- Where a session of code stands.
-use Rattle.std.specs.Prelude.{List, [], ◌∷◌, map, Option, Some, None, Result, Ok, Err, option_map}
+use Rattle.std.specs.Prelude.{ℕ, List, [], ◌∷◌, map, slice_get, Option, Some, None, Result, Ok, Err, option_and_then, option_map}
+use Rattle.guest_component.specs.declared.body.Body.{Body}
+use Rattle.guest_component.specs.View.{runs_of}
+use Rattle.guest_steps.specs.declared.parts.GuestPart.{GuestPart}
 use Rattle.guest_steps.specs.declared.parts.SharedPart.{SharedPart}
 use Rattle.guest_steps.specs.Lent.{one}
 use Rattle.hypercalls.specs.Stands.{parts_layout, state_of}
 use Rattle.page_state.specs.declared.entry.Run.{Run}
 use Rattle.trace_lines.specs.declared.line.TreeName.{TreeName}
-use Rattle.trace_lines.specs.declared.line.TreeName.TheVariants.{Host, Hyp}
+use Rattle.trace_lines.specs.declared.line.TreeName.TheVariants.{Host, Hyp, Guest}
 use Rattle.trace_lines.specs.declared.response.Response.{Response}
 use Rattle.trace_lines.specs.declared.response.Response.TheVariants as responses
 use Rattle.trace_lines.specs.Settings.{told_of}
@@ -25,15 +28,23 @@ machine_of w = record { layout = parts_layout w.parts; state = state_of w.parts 
 abbrev pub standing_of : {A : Type 0} → Session A → Standing
 standing_of s = record { told = told_of s.settings; machine = option_map machine_of s.world; steps = s.steps }
 
--- the runs of the maplets beside a named tree
-abbrev pub maplets_of : {A : Type 0} → TreeName → SharedPart A → List Run
-maplets_of Host s = s.host.maplets.runs
-maplets_of Hyp s = s.hyp.maplets.runs
+-- what the guest in a slot holds, if it isn't Empty and there is such a slot
+abbrev pub body_in : {A : Type 0} → Option (GuestPart A) → Option (Body A)
+body_in part = option_and_then (λ g. g.guest.body) part
+
+abbrev pub body_at : {A : Type 0} → World A → ℕ → Option (Body A)
+body_at w slot = body_in (slice_get w.parts.guests.items slot)
+
+-- the runs of the maplets beside a named tree, of an Empty guest none
+abbrev pub maplets_of : {A : Type 0} → World A → TreeName → List Run
+maplets_of w Host = one [] (λ (s : SharedPart _). s.host.maplets.runs) w.parts.shared.items
+maplets_of w Hyp = one [] (λ (s : SharedPart _). s.hyp.maplets.runs) w.parts.shared.items
+maplets_of w (Guest slot) = runs_of (body_at w slot)
 
 -- those that a world keeps, if there is one
 abbrev pub runs_in : {A : Type 0} → Option (World A) → TreeName → List Run
 runs_in None tree = []
-runs_in (Some w) tree = one [] (maplets_of tree) w.parts.shared.items
+runs_in (Some w) tree = maplets_of w tree
 
 -- those that a session keeps
 abbrev pub kept_runs : {A : Type 0} → Session A → TreeName → List Run

@@ -13,7 +13,7 @@ use Rattle.reference_model.specs.State.{Reference}
 use Rattle.table_tree.specs.AllBlocks.{blocks_in}
 use Rattle.table_tree.specs.Said.{block_above, IsWordOf, IsRunOrTable}
 use Rattle.trace_lines.specs.declared.line.TreeName.{TreeName}
-use Rattle.trace_lines.specs.declared.line.TreeName.TheVariants.{Host, Hyp}
+use Rattle.trace_lines.specs.declared.line.TreeName.TheVariants.{Host, Hyp, Guest}
 
 -- a booted machine: its layout, which never changes, and the state in which it is
 pub record Machine : Type 0 where
@@ -31,10 +31,11 @@ pub record IsBootOf (memory : Memory) (config : Config) (m : Machine) : Type 0 w
 abbrev pub in_state : Machine → Reference → Machine
 in_state m next = record { layout = m.layout; state = next }
 
--- a named tree
+-- a named tree; that of an Empty guest, and of a slot past the last, has no table and nothing mapped
 abbrev pub tree_told : Machine → TreeName → Tree
 tree_told m Host = m.state.contents.shared.host
 tree_told m Hyp = m.state.contents.shared.hyp
+tree_told m (Guest slot) = (m.state.contents.guest slot).tree
 
 -- the number of a tree's tables: that of the blocks, from the one of all pages down, at which one stands
 abbrev pub tables_told : Machine → TreeName → ℕ
@@ -44,8 +45,13 @@ tables_told m tree = length (filter (λ b. is_some ((tree_told m tree).table b))
 abbrev pub free_told : Machine → ℕ
 free_told m = length m.state.contents.shared.free
 
--- a tree with so many levels below its root's has a word on a page's path at a level: the page is good, the level is none above the root's, and below the root's the table stands that has the word
+-- the number of free frames of the pool of the guest in a slot; an Empty guest has none
+abbrev pub guest_free_told : Machine → ℕ → ℕ
+guest_free_told m slot = length (m.state.contents.guest slot).free
+
+-- a tree with so many levels below its root's has a word on a page's path at a level: it has a root, which an Empty guest's tree hasn't, the page is good, the level is none above the root's, and below the root's the table stands that has the word
 pub record HasWordOn (depth : ℕ) (tree : Tree) (page level : ℕ) : Type 0 where
+  pub root : IsSome (tree.table (depth + 1, 0))
   pub good : page < pages_below depth
   pub top : 3 ≤ level + depth
   pub bottom : level ≤ 3

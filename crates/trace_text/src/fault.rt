@@ -20,7 +20,7 @@ pub enum Fault {
     Layout(LayoutFault),
     /// The boot was refused.
     Boot(BootFault),
-    /// The page isn't good, or no table of the tree has that word.
+    /// The guest is Empty, the page isn't good, or no table of the tree has that word.
     Path,
 }
 

@@ -1,15 +1,16 @@
 //! What a trace has said so far, and what a line does.
-ghost use Rattle.std.specs.Prelude.{◌≡◌, ◌+◌, ◌<◌, ◌≤◌, ◌^◌, List, [], Option, Some, is_some, OnOk, OnErr, MatchOption, MatchResult};
+ghost use Rattle.std.specs.Prelude.{◌≡◌, ◌+◌, ◌<◌, ◌≤◌, ◌^◌, List, [], Option, Some, None, is_some, OnOk, OnErr, MatchOption, MatchResult};
 ghost use Rattle.page_state.specs.declared.layout.Config.{Config};
 ghost use Rattle.page_state.specs.LayoutFaults.{IsAccepted};
 ghost use Rattle.page_state.specs.Regions.{memory_of};
 ghost use Rattle.trace_text.specs.Session.{Answers, Boots, DoesLine, IsNoWorld, MakesStep, OnMachine, RunsLine, Tells, allowed, at_start};
-ghost use Rattle.trace_text.specs.View.{answer_of, kept_runs, machine_of, standing_of};
+ghost use Rattle.trace_text.specs.View.{answer_of, body_at, kept_runs, machine_of, standing_of};
 ghost use Rattle.trace_lines.specs.Settings.{config_of, told_of};
 ghost use Rattle.world.specs.Boots.{IsBooted};
-ghost use Rattle.trace_text.specs.Worlds.{IsWordOn, free_told, tables_told, tree_told};
+ghost use Rattle.trace_text.specs.Worlds.{IsWordOn, free_told, guest_free_told, tables_told, tree_told};
 
 use crate::fault::Fault;
+use guest_component::Body;
 use maplets::Maplets;
 use page_state::{MemoryMap, Page, PageRange, Region, Step};
 use std::alloc::{Allocator, Global};
@@ -184,11 +185,15 @@ impl<A: Allocator + Copy> Session<A> {
                 let free = world.parts().shared().pool.free();
                 Ok(Reported::Line(Response::Free(free)))
             }
+            Query::FreeGuest(slot) => {
+                let free = guest_free(world, slot);
+                Ok(Reported::Line(Response::Free(free)))
+            }
             Query::Show(tree) => Ok(Reported::Maplets(tree)),
         }
     }
 
-    /// The maplets of a tree. None before the boot.
+    /// The maplets of a tree. None before the boot, and of an Empty guest.
     pub fn maplets(&self, tree: TreeName) -> Option<&Maplets>
         ensures { MatchOption result (kept_runs self.now tree ≡ []) (λ maplets. maplets.now.runs ≡ kept_runs self.now tree) }
     {
@@ -197,7 +202,29 @@ impl<A: Allocator + Copy> Session<A> {
         match tree {
             TreeName::Host => Some(shared.host.maplets()),
             TreeName::Hyp => Some(shared.hyp.maplets()),
+            TreeName::Guest(slot) => {
+                let body = guest_body(world, slot)?;
+                Some(body.map.maplets())
+            }
         }
+    }
+}
+
+/// What the guest in a slot holds. None where it is Empty, and of a slot past the last.
+fn guest_body<A: Allocator>(world: &World<A>, slot: u64) -> Option<&Body<A>>
+    ensures { MatchOption result (body_at world.now slot ≡ None) (λ body. body_at world.now slot ≡ Some body.now) }
+{
+    let part = world.parts().guests.get(slot as usize)?;
+    part.guest.body()
+}
+
+/// The number of free frames of a guest's pool. An Empty guest has none.
+fn guest_free<A: Allocator>(world: &World<A>, slot: u64) -> usize
+    ensures { result ≡ guest_free_told (machine_of world.now) slot }
+{
+    match guest_body(world, slot) {
+        Some(body) => body.pool.free(),
+        None => 0,
     }
 }
 
@@ -209,6 +236,10 @@ fn word_on<A: Allocator>(world: &World<A>, tree: TreeName, page: u64, level: u64
     match tree {
         TreeName::Host => shared.host.tree().word_on(Page(page), level),
         TreeName::Hyp => shared.hyp.tree().word_on(Page(page), level),
+        TreeName::Guest(slot) => {
+            let body = guest_body(world, slot)?;
+            body.map.tree().word_on(Page(page), level)
+        }
     }
 }
 

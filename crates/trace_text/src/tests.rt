@@ -126,6 +126,20 @@ fn shows_a_line_for_each_run(rt: HostRuntime) -> Result<(), Fail> {
 }
 
 #[test]
+fn tells_of_guests(rt: HostRuntime) -> Result<(), Fail> {
+    // of an Empty one
+    let lines = b"show guest 0\nfree guest 63\nword guest 0 0x10 1\n";
+    check(&rt, lines, b"free 0\n9 fault path\n", Outcome::Fault)?;
+    check(&rt, b"free guest 64\n", b"7 fault form\n", Outcome::Fault)?;
+    // of one that has four frames, and page 0x10 from the host
+    let lines =
+        b"0 vm_reserve plain 1\n0 fund 0x40400 4\n0 install\n0 vm_open\n0 vcpu_load 0.1 0\n0 share_guest 0x40100 0x10 rx\nword guest 0 0x10 3\nfree guest 0\nshow guest 0\nshow guest 1\n";
+    let report =
+        b"7 0 ok vm 0.1\n8 0 ok\n9 0 ok\n10 0 ok vm 0.1\n11 0 ok\n12 0 ok\nword 0x010000004010077f\nfree 1\nrun 0x10 1 leaf 0x40100 rx normal shared_borrowed\nend steps 6 disagreements 0\n";
+    check(&rt, lines, report, Outcome::Clean)
+}
+
+#[test]
 fn tells_failed_reads_and_writes(rt: HostRuntime) -> Result<(), Fail> {
     let mut written = Vec::new(rt.alloc());
     let reader = Cut {
