@@ -398,8 +398,7 @@ fn with_few_tables(
     step: Step,
     tables: usize,
     refused: bool,
-) -> Result<(), Fail>
-{
+) -> Result<(), Fail> {
     let heap = LocalHeap::new(global, 1 << 20)?;
     let map = memory(global, 0x40)?;
     let mut world = World::boot(global, &heap, &map, CONFIG)?;
