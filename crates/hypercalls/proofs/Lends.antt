@@ -1,22 +1,21 @@
 -- What the parts lend to a step, and what comes back to them.
-use Rattle.std.proofs.Common.{arith, ◌≡◌, ◌∙◌, ℕ, zero, suc, ◌+◌, ◌-◌, ◌<◌, ◌++◌, is_some, All, Bool, true, false, List, [], ◌∷◌, length, take, slice_get, slice_range, slice_index_or, Option, Some, None, refl, sym, ap, subst, if◌then◌else◌}
+use Rattle.std.proofs.Common.{arith, ◌≡◌, ℕ, zero, suc, ◌-◌, ◌<◌, All, Bool, true, false, List, [], ◌∷◌, length, take, slice_get, slice_range, Option, Some, None, sym, subst, if◌then◌else◌}
 use Rattle.std.proofs.lemmas.List.Elements.{All-set}
 use Rattle.page_state.specs.Geometries.{levels_below}
 use Rattle.reference_model.specs.Parts.{names, guest_slot, uses_vms, uses_shared}
-use Rattle.reference_model.specs.Rely.{IsReached}
 use Rattle.page_state.specs.declared.step.Step.{Step}
 use Rattle.guest_steps.specs.declared.parts.VmPart.{VmPart}
 use Rattle.guest_steps.specs.declared.parts.SharedPart.{SharedPart}
 use Rattle.guest_steps.specs.declared.parts.GuestPart.{GuestPart}
 use Rattle.guest_steps.specs.declared.parts.CpuState.{CpuState}
-use Rattle.guest_steps.specs.Lent.{Lent, IsLent, IsOneWhere, Suits, GuestSuits, SharedSuits, Each, lent, used_in}
+use Rattle.guest_steps.specs.Lent.{Lent, IsLent, Suits, GuestSuits, SharedSuits, Each, lent}
 use Rattle.guest_steps.specs.Logs.{IsOfSize}
 use Rattle.guest_steps.specs.MemoryRows.{HasMemoryRows}
 use Rattle.guest_steps.specs.View.{cpu_of}
 use Rattle.hypercalls.specs.declared.parts.Parts.{Parts}
-use Rattle.hypercalls.specs.Stands.{one_where, from_of, to_of, parts_layout, HasHistory}
+use Rattle.hypercalls.specs.Stands.{one_where, from_of, to_of, parts_layout}
 use Rattle.hypercalls.proofs.Ranges.{when, Inside, inside_of, range_at, one_range, put_list, lent_one, is_one, is_range, cut, place}
-use Rattle.hypercalls.proofs.Whole.{x as lent_of, reached}
+use Rattle.hypercalls.proofs.Whole.{x as lent_of}
 
 same_lent : {A : Type 0} (v v' : List VmPart) (s s' : List (SharedPart A)) (g g' : List (GuestPart A)) (k : CpuState) → v ≡ v' → s ≡ s' → g ≡ g' → lent v s g k ≡ lent v' s' g' k
 same_lent v v' s s' g g' k a b c = cc

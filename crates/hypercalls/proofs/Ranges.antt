@@ -1,13 +1,12 @@
 -- Ranges of lists that are lent, and what comes back.
-use Rattle.std.proofs.Common.{arith, ◌≡◌, ◌∙◌, ℕ, zero, suc, ◌+◌, ◌-◌, ◌<◌, ◌≤◌, ◌==◌, is_some, Bool, true, false, List, [], ◌∷◌, ◌++◌, length, map, take, drop, slice_get, slice_set, slice_range, Option, Some, None, refl, sym, ap, subst, if◌then◌else◌}
+use Rattle.std.proofs.Common.{arith, ◌≡◌, ◌∙◌, ℕ, zero, suc, ◌+◌, ◌-◌, ◌<◌, ◌==◌, is_some, Bool, true, false, List, [], ◌∷◌, ◌++◌, length, map, take, drop, slice_get, slice_set, slice_range, Option, Some, None, refl, sym, ap, subst, if◌then◌else◌}
 use Rattle.std.proofs.lemmas.Bool.Decides.{nat_tests}
 use Rattle.std.proofs.Math.ListN.{length-set}
 use Rattle.page_state.proofs.Cases.{by_test}
 use Rattle.page_state.specs.declared.reply.Call.{Call}
 use Rattle.reference_model.specs.Laws.{Stores}
 use Rattle.reference_model.specs.Parts.{is_slot}
-use Rattle.reference_model.specs.State.{put_at}
-use Rattle.guest_steps.specs.Lent.{IsOneWhere, Each, one, with_call}
+use Rattle.guest_steps.specs.Lent.{IsOneWhere, one, with_call}
 use Rattle.guest_steps.specs.Logs.{StoredCalls}
 use Rattle.hypercalls.specs.Stands.{at_place, one_where, from_of, to_of}
 

@@ -1,5 +1,5 @@
 -- Lists of one element or none.
-use Rattle.std.proofs.Common.{◌≡◌, ℕ, ◌≤◌, zero, suc, List, [], ◌∷◌, length, slice_index_or, slice_set, refl, arith}
+use Rattle.std.proofs.Common.{◌≡◌, List, [], ◌∷◌, length, slice_index_or, slice_set, refl, arith}
 
 -- a list of one element
 pub single : {P : Type 0} (xs : List P) (d : P) → length xs ≡ 1 → xs ≡ slice_index_or xs 0 d ∷ []

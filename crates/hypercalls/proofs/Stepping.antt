@@ -23,7 +23,6 @@ use Rattle.reference_model.proofs.Answers.{answer-stored}
 use Rattle.reference_model.specs.ChangeLaws.{OnlyUses}
 use Rattle.reference_model.specs.Parts.{Names, names, uses_vms, uses_shared}
 use Rattle.reference_model.specs.Step.{is_full, stored as stored_rooms, Answered, StepsOn}
-use Rattle.reference_model.specs.Used.{UsedRooms}
 use Rattle.hypercalls.specs.Carried.{IsLentOr, LeavesGuest, LeavesShared, OnlyLent}
 use Rattle.hypercalls.specs.Steps.{any_full, CanWantOn, IsStepOn}
 

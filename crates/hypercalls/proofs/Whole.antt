@@ -1,7 +1,6 @@
 -- From the step on lent parts to the step on all.
-use Rattle.std.proofs.Common.{arith, ◌≡◌, ◌∙◌, ℕ, ◌+◌, ◌-◌, ◌<◌, ◌==◌, ◌++◌, is_some, Bool, true, false, List, [], ◌∷◌, length, map, slice_get, slice_set, Option, Some, None, refl, sym, ap, subst, ◌⊎◌, inl, inr, if◌then◌else◌}
+use Rattle.std.proofs.Common.{arith, ◌≡◌, ◌∙◌, ℕ, ◌+◌, ◌-◌, ◌<◌, ◌==◌, ◌++◌, Bool, true, false, List, [], ◌∷◌, length, map, slice_get, slice_set, Option, Some, None, refl, sym, ap, subst, ◌⊎◌, inl, inr, if◌then◌else◌}
 use Rattle.std.proofs.lemmas.Bool.Decides.{nat_tests}
-use mathlib.Core.Path.{fun_ext}
 use Rattle.page_state.proofs.Cases.{by_test}
 use Rattle.page_state.specs.declared.reply.Call.{Call}
 use Rattle.page_state.specs.declared.reply.Refusal.TheVariants.{LogFull}
@@ -13,13 +12,13 @@ use Rattle.page_state.specs.LayoutView.{layout_of as layout_told}
 use Rattle.reference_model.specs.Answers.{decides}
 use Rattle.reference_model.specs.Boot.{CanBoot}
 use Rattle.reference_model.specs.Held.{held_state}
-use Rattle.reference_model.specs.History.{Kept, IsHistory, IsStored}
+use Rattle.reference_model.specs.History.{Kept, IsHistory}
 use Rattle.reference_model.specs.Laws.{Stores, StoresCall}
 use Rattle.reference_model.specs.Parts.{Names, names, guest_slot, is_slot, uses_vms, uses_shared}
 use Rattle.reference_model.specs.Rely.{IsReached}
 use Rattle.reference_model.specs.State.{Vms, Shared, Guest, Cpu, Reference, no_vms, no_shared, no_guest, no_cpu, put_at}
 use Rattle.reference_model.specs.Step.{Steps, StepsOn, FindsFull, IsStoredAnswer, is_full as has_full_log, stored, used_by, rooms_by, with_used}
-use Rattle.reference_model.specs.Used.{Used, UsedRooms, used_of, put_back, rooms_of, put_rooms, guest_at, put_guest, room_at}
+use Rattle.reference_model.specs.Used.{Used, UsedRooms, used_of, put_back, rooms_of, guest_at, put_guest, room_at}
 use Rattle.reference_model.proofs.Answers.{used_steps}
 use Rattle.std.proofs.Math.Logic.{∥∥₁_elim}
 use Rattle.std.specs.Coded.{le_prop}
@@ -33,7 +32,7 @@ use Rattle.guest_steps.specs.declared.parts.GuestPart.{GuestPart}
 use Rattle.guest_steps.specs.declared.parts.CpuState.{CpuState}
 use Rattle.guest_component.specs.Plans.{WantsNoMemory}
 use Rattle.reference_model.specs.declared.changes.Changes.{Changes}
-use Rattle.guest_steps.specs.Lent.{Lent, LentLogs, IsLent, Suits, GuestSuits, SharedSuits, Each, lent, used_in, slot_in, logs_in, rooms_in, one, call_in, all_with, with_call}
+use Rattle.guest_steps.specs.Lent.{Lent, LentLogs, IsLent, Suits, GuestSuits, Each, lent, used_in, logs_in, rooms_in, one, call_in, all_with, with_call}
 use Rattle.guest_steps.specs.Logs.{StoredCalls, IsOfSize}
 use Rattle.guest_steps.specs.View.{vm_slots, shared_of, guest_held, cpu_of}
 use Rattle.hypercalls.specs.Carried.{IsRoomy}
@@ -41,7 +40,7 @@ use Rattle.hypercalls.specs.declared.parts.Parts.{Parts}
 use Rattle.hypercalls.specs.Stands.{at_place, parts_layout, kept_of, state_of, HasHistory}
 use Rattle.hypercalls.specs.Steps.{IsStepOn, any_full}
 use Rattle.hypercalls.specs.Whole.{slot_here, call_of, is_log_full, IsStep}
-use Rattle.hypercalls.proofs.Ranges.{when, Inside, inside_of, range_at, one_range, put_list, put_same, set_same, all_of, each_of, stores_one, stores_at, place}
+use Rattle.hypercalls.proofs.Ranges.{when, Inside, range_at, one_range, put_list, put_same, set_same, all_of, each_of, stores_one, stores_at, place}
 use Rattle.hypercalls.proofs.Stepping.{full_is, rooms_stored}
 
 one_when : {P X : Type 0} (blank : X) (f : P → X) (used : Bool) (xs : List P) → one blank f (when used xs) ≡ (if used then one blank f xs else blank)

@@ -1,5 +1,5 @@
 -- The reference state that all parts stand for, and their history.
-use Rattle.std.specs.Prelude.{ℕ, ◌+◌, Bool, true, false, List, [], ◌∷◌, Option, Some, None, slice_get}
+use Rattle.std.specs.Prelude.{ℕ, ◌+◌, Bool, true, false, List, [], Option, Some, None, slice_get}
 use Rattle.page_state.specs.declared.reply.Call.{Call}
 use Rattle.page_state.specs.LayoutView.{layout_of as layout_told}
 use Rattle.page_state.specs.Layouts.{Layout}
@@ -7,8 +7,6 @@ use Rattle.reference_model.specs.Boot.{CanBoot}
 use Rattle.reference_model.specs.Held.{held_state}
 use Rattle.reference_model.specs.History.{Kept, IsHistory}
 use Rattle.reference_model.specs.State.{Reference, no_vms, no_shared, no_guest, no_cpu}
-use Rattle.guest_steps.specs.declared.parts.CpuState.{CpuState}
-use Rattle.guest_steps.specs.declared.parts.GuestPart.{GuestPart}
 use Rattle.guest_steps.specs.Lent.{one}
 use Rattle.guest_steps.specs.View.{vm_slots, shared_of, guest_held, cpu_of}
 use Rattle.hypercalls.specs.declared.parts.Parts.{Parts}

@@ -1,20 +1,19 @@
 -- The parts of a world that has booted stand for the boot state.
-use Rattle.std.proofs.Common.{◌≡◌, ℕ, ◌+◌, ◌-◌, ◌*◌, ◌==◌, List, [], ◌∷◌, Option, zero, suc, ◌<◌, slice_index_or, Some, None, All, inl, inr, refl, ap, sym, ◌∙◌, subst, slice_get, arith}
+use Rattle.std.proofs.Common.{◌≡◌, ℕ, ◌+◌, ◌-◌, ◌*◌, ◌==◌, List, [], ◌∷◌, zero, suc, ◌<◌, slice_index_or, Some, None, All, inl, inr, refl, ap, sym, ◌∙◌, subst, slice_get, arith}
 use Rattle.std.proofs.lemmas.Bool.Decides.{nat_tests}
 use Rattle.std.proofs.lemmas.Option.{slice_get_cases}
 use mathlib.Core.Path.{fun_ext}
 use Rattle.page_state.specs.declared.layout.Config.{Config}
 use Rattle.page_state.specs.declared.layout.Geometry.{Geometry}
 use Rattle.page_state.specs.declared.layout.Geometry.TheVariants.{Bits39}
-use Rattle.page_state.specs.declared.row.Row.{Row}
 use Rattle.page_state.specs.declared.reply.Call.{Call}
 use Rattle.page_state.specs.LayoutFaults.{IsAccepted}
-use Rattle.reference_model.specs.Boot.{boot, booted, boot_shared, IsCarveEnough}
+use Rattle.reference_model.specs.Boot.{boot, booted, IsCarveEnough}
 use Rattle.reference_model.specs.Held.{held_state}
 use Rattle.page_state.specs.Geometries.{geometry_of, levels_below}
 use Rattle.page_state.specs.Layouts.{Layout, HasItsDepth}
 use Rattle.page_state.specs.Regions.{Memory}
-use Rattle.reference_model.specs.State.{Vms, Shared, Guest, Cpu, Reference, plain_row, all_rooms, no_vms, no_shared, no_guest, no_cpu}
+use Rattle.reference_model.specs.State.{Vms, Shared, Guest, Cpu, Reference, all_rooms, no_vms, no_shared, no_guest, no_cpu}
 use Rattle.std.specs.Prelude.{Result, Ok, Err, IsErrAnd, MatchResult}
 use Rattle.world.specs.declared.boot.BootFault.{BootFault}
 use Rattle.world.specs.declared.boot.BootFault.TheVariants.{NoMemory}

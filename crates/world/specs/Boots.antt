@@ -1,5 +1,5 @@
 -- Booting: which configurations are accepted, when a boot fails, and what a booted world has.
-use Rattle.std.specs.Prelude.{◌≡◌, ℕ, ◌+◌, ◌≤◌, [], Some, drop}
+use Rattle.std.specs.Prelude.{◌≡◌, ℕ, ◌+◌, [], Some, drop}
 use Rattle.page_state.specs.declared.layout.Config.{Config}
 use Rattle.page_state.specs.declared.layout.Geometry.{Geometry}
 use Rattle.reference_model.specs.Boot.{boot, IsCarveEnough}

@@ -1,9 +1,8 @@
-use Rattle.std.proofs.Common.{◌≡◌, ◌+◌, ◌≤◌, ℕ, Option, map, length, sym, ap, subst, ◌∙◌, refl, true}
+use Rattle.std.proofs.Common.{◌≡◌, ◌+◌, ℕ, Option, sym, ap, subst, ◌∙◌, true}
 use Rattle.page_state.specs.LayoutView.{layout_of}
 use Rattle.page_state.specs.declared.reply.Call.{Call}
-use Rattle.reference_model.specs.Parts.{names, uses_vms, uses_shared}
 use Rattle.reference_model.specs.Step.{Answered}
-use Rattle.guest_steps.specs.Lent.{Lent, LentLogs, all_with, call_in, lent, logs_in, slot_in, used_in}
+use Rattle.guest_steps.specs.Lent.{all_with, call_in, lent, logs_in, used_in}
 use Rattle.hypercalls.proofs.Stepping.{few_of, few_logs, suits_after, full_step, stored_step, same_logs}
 use Rattle.hypercalls.proofs.lent.step_on.Goals as goal
 

@@ -1,4 +1,3 @@
-use Rattle.std.proofs.Common.{ap, arith}
 use Rattle.guest_steps.specs.Lent.{lent, logs_in}
 use Rattle.hypercalls.proofs.Stepping.{any_parts, some_room, each_kept, guest_kept, shared_kept, size_kept, eq_with}
 use Rattle.hypercalls.proofs.lent.store.Goals as goal

@@ -1,6 +1,5 @@
-use Rattle.std.proofs.Common.{◌≡◌, ◌+◌, ◌++◌, ◌∷◌, [], All, Bool, true, List, is_ok, if◌then◌else◌, ap, sym, subst, ◌∙◌, arith}
+use Rattle.std.proofs.Common.{◌≡◌, ◌+◌, ◌++◌, ◌∷◌, [], All, Bool, true, is_ok, if◌then◌else◌, ap, sym, subst, ◌∙◌, arith}
 use Rattle.std.proofs.lemmas.List.Elements.{All-push}
-use Rattle.guest_steps.specs.declared.parts.GuestPart.{GuestPart}
 use Rattle.world.specs.Boots.{IsVacant}
 use Rattle.world.proofs.boot.guests_at_boot.Goals as goal
 

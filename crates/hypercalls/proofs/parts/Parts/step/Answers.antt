@@ -1,4 +1,4 @@
-use Rattle.std.proofs.Common.{arith, ◌≡◌, ◌∙◌, ◌<◌, ℕ, All, refl, sym, ap, subst, Some, slice_get, length}
+use Rattle.std.proofs.Common.{arith, ◌≡◌, ◌∙◌, ◌<◌, All, refl, sym, ap, subst, Some, slice_get, length}
 use Rattle.std.proofs.Math.Logic.{∥∥₁_map}
 use Rattle.std.proofs.lemmas.Option.{slice_get_read}
 use Rattle.std.proofs.lemmas.List.{with_items_is}
@@ -17,7 +17,7 @@ use Rattle.guest_steps.specs.MemoryRows.{HasMemoryRows}
 use Rattle.guest_steps.specs.View.{cpu_of}
 use Rattle.hypercalls.specs.Stands.{one_where, from_of, to_of}
 use Rattle.hypercalls.specs.Steps.{IsStepOn}
-use Rattle.hypercalls.proofs.Lends.{inner, fits, suits, shared_suits, lent_is, each_all, all_one, all_put, depths, all_rows, shared_logs, guest_depths, guest_sizes}
+use Rattle.hypercalls.proofs.Lends.{inner, fits, suits, lent_is, each_all, all_one, all_put, depths, all_rows, shared_logs, guest_depths, guest_sizes}
 use Rattle.hypercalls.proofs.Ranges.{lent_one, back_one, length_one, cut, came_back, put_length}
 use Rattle.hypercalls.proofs.Whole.{reached, is_step, history, slot_below}
 use Rattle.hypercalls.proofs.parts.Parts.step.Goals as goal
