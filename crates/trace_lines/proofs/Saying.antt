@@ -1,6 +1,6 @@
 -- What can be said: each line is of the kind that its words ask for, and allowed, and each step is that of a call of the grammar.
-use Rattle.std.proofs.Common.{ℕ, ◌+◌, refl, Bool, true, false, not, cond, List, [], ◌∷◌, length, Option, Some, None, Result, Ok, Err, IfOk, IfSome, option_map, option_and_then}
-use Rattle.std.specs.Prelude.{ok_or, if◌then◌else◌, nat_lt, slice_get, codes, ◌==◌, ◌&&◌, IsTrue, is_some}
+use Rattle.std.proofs.Common.{ℕ, ◌+◌, refl, Bool, true, false, not, cond, List, [], ◌∷◌, length, Option, Some, None, Err, IfOk, IfSome, option_map, option_and_then}
+use Rattle.std.specs.Prelude.{ok_or, if◌then◌else◌, slice_get, codes, ◌==◌, ◌&&◌, IsTrue, is_some}
 use Rattle.std.specs.Str.{bytes_eq}
 use Rattle.std.specs.Map.{lookup}
 use Rattle.descriptor.specs.declared.Prot.{Prot}
@@ -11,8 +11,7 @@ use Rattle.page_state.specs.declared.step.VmKind.{VmKind}
 use Rattle.trace_lines.specs.declared.asked.Asked.{Asked}
 use Rattle.trace_lines.specs.declared.asked.NamedTree.{NamedTree}
 use Rattle.trace_lines.specs.declared.call.Called.{Called}
-use Rattle.trace_lines.specs.declared.fault.LineFault.{LineFault}
-use Rattle.trace_lines.specs.declared.fault.LineFault.TheVariants.{Long, Byte, Space, Place, Count, Form}
+use Rattle.trace_lines.specs.declared.fault.LineFault.TheVariants.{Place, Count, Form}
 use Rattle.trace_lines.specs.declared.line.Line.{Line}
 use Rattle.trace_lines.specs.declared.line.Line.TheVariants as lines
 use Rattle.trace_lines.specs.declared.line.Query.{Query}
@@ -29,9 +28,9 @@ use Rattle.trace_lines.specs.Arguments.{number_at, range_of, level_word_at, slot
 use Rattle.trace_lines.specs.Asked.{asked, asked_from, begins_with_digit, headers, of_call, of_number, of_range, of_tree, of_show, pools, tree_names, word_of}
 use Rattle.trace_lines.specs.Calls.{Argument, number, vm, kind, rights, StepMaker, Shape, calls, called as called_by, step_from}
 use Rattle.trace_lines.specs.Places.{IsAllowed, may_stand, may_tell}
-use Rattle.trace_lines.specs.Said.{StepHas, said, said_by_asked, said_by_words}
+use Rattle.trace_lines.specs.Said.{said_by_asked, said_by_words}
 use Rattle.trace_lines.specs.Settings.{Told}
-use Rattle.trace_lines.specs.Words.{named, words_of, has_stray_byte, is_silent, has_stray_space}
+use Rattle.trace_lines.specs.Words.{named}
 
 pub mapped : {X Y : Type 0} (P : Y → Type 0) (f : X → Y) → ((x : X) → P (f x)) → (o : Option X) → IfSome (option_map f o) P
 mapped P f h None = tt
@@ -211,29 +210,3 @@ words_allowed allows told words = by_asked (IsAllowed allows) allows told (lengt
     every : (o : Option Asked) → IfSome o (λ a. IfSome a.line (IsOf a.verb)) → IfSome o (λ a. IsTrue (may_stand allows told a.verb) → IfSome a.line (IsAllowed allows))
     every None h = tt
     every (Some a) h = each a.verb a.line h
-
--- the tests of bytes and spaces in front
-behind : (Q : Line → Type 0) (long stray silent spaced : Bool) (x : Result (Option Line) LineFault) → IfOk x (λ said. IfSome said Q)
-    → IfOk (if long then Err Long else (if stray then Err Byte else (if silent then Ok None else (if spaced then Err Space else x)))) (λ said. IfSome said Q)
-behind Q true stray silent spaced x h = tt
-behind Q false true silent spaced x h = tt
-behind Q false false true spaced x h = tt
-behind Q false false false true x h = tt
-behind Q false false false false x h = h
-
--- what holds of the steps of all calls holds of the step that a line says
-module _ (P : Step → Type 0) (holds : OfCalls (λ step. (cpu : ℕ) → P step)) where
-  step_asked : (words : List (List ℕ)) → IfSome (asked words) (λ a. IfSome a.line (StepHas P))
-  step_asked words = of_asked (λ verb. StepHas P) (λ name setting. tt) tt holds (λ query. tt) words
-
-  step_words : (allows : Allows) (told : Told) (words : List (List ℕ)) → IfOk (said_by_words allows told words) (λ said. IfSome said (StepHas P))
-  step_words allows told words = by_asked (StepHas P) allows told (length words) (asked words) (every (asked words) (step_asked words))
-    where
-      every : (o : Option Asked) → IfSome o (λ a. IfSome a.line (StepHas P)) → IfSome o (λ a. IsTrue (may_stand allows told a.verb) → IfSome a.line (StepHas P))
-      every None h = tt
-      every (Some a) h = λ may. h
-
-  pub said_step : (allows : Allows) (told : Told) (line : List ℕ) → IfOk (said allows told line) (λ said. IfSome said (StepHas P))
-  unfolding said
-  said_step allows told line =
-      behind (StepHas P) (nat_lt 256 (length line)) (has_stray_byte line) (is_silent line) (has_stray_space line) (said_by_words allows told (words_of line)) (step_words allows told (words_of line))

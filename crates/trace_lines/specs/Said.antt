@@ -1,21 +1,14 @@
 -- What a line of a trace says after what was said before it, or the first fault that it has (profile).
 use Rattle.std.specs.Prelude.{ℕ, not, nat_lt, ◌==◌, List, length, Option, Some, None, Result, Ok, Err, ok_or, option_map, if◌then◌else◌}
-use Rattle.page_state.specs.declared.step.Step.{Step}
 use Rattle.trace_lines.specs.declared.asked.Asked.{Asked}
 use Rattle.trace_lines.specs.declared.fault.LineFault.{LineFault}
 use Rattle.trace_lines.specs.declared.fault.LineFault.TheVariants.{Long, Byte, Space, Word, Place, Count, Form}
 use Rattle.trace_lines.specs.declared.line.Line.{Line}
-use Rattle.trace_lines.specs.declared.line.Line.TheVariants as lines
 use Rattle.trace_lines.specs.declared.place.Allows.{Allows}
 use Rattle.trace_lines.specs.Asked.{asked}
 use Rattle.trace_lines.specs.Places.{may_stand}
 use Rattle.trace_lines.specs.Settings.{Told}
 use Rattle.trace_lines.specs.Words.{has_stray_byte, is_silent, words_of, has_stray_space}
-
--- a property of the step that a line asks for, where it asks for one
-abbrev pub StepHas : (Step → Type 0) → Line → Type 0
-StepHas P (lines.Step cpu step) = P step
-StepHas P line = Unit {0}
 
 -- what so many words say that ask for this
 abbrev pub said_by_asked : Allows → Told → ℕ → Option Asked → Result (Option Line) LineFault
