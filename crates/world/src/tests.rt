@@ -1,7 +1,6 @@
 ghost use Rattle.std.specs.Prelude.{◌≡◌, ◌<◌, ◌^◌, IfOk};
 ghost use Rattle.ghost_spec.specs.Kept.{IsKeptTree};
 ghost use Rattle.ghost_spec.specs.States.{IsKept};
-ghost use Rattle.ghost_spec.specs.Views.{IsOnShared};
 ghost use Rattle.hypercalls.specs.Served.{IsServed};
 
 use super::*;
@@ -166,7 +165,6 @@ fn step_on_both(
     step: Step,
 ) -> Result<Reply, Fail>
     requires served { IsServed step }
-    requires shared { IsOnShared step }
     requires cpu { 0 < world.old.parts.layout.config.cpus }
     requires list_cpu { 0 < lists.old.layout.config.cpus }
     requires kept { IsKept lists.old }
