@@ -1,15 +1,14 @@
 -- Lists that stand for the same state as others.
-use Rattle.std.proofs.Common.{◌≡◌, ℕ, Option, refl, ap, ◌∙◌, map}
+use Rattle.std.proofs.Common.{◌≡◌, ℕ, Option, refl, ap, map}
 use Rattle.std.specs.Prelude.{unwrap_or}
 use Rattle.page_state.specs.declared.row.Row.{Row}
 use Rattle.page_state.specs.Rows.{advance_row, plain_row}
-use Rattle.reference_model.specs.State.{Slot, Shared, Guest, Cpu, Rooms, Contents, Reference, no_slot, no_guest, no_cpu}
 use Rattle.run_list.specs.Runs.{run_map}
 use Rattle.ghost_spec.specs.declared.shared.Shared.{Shared as SharedOfLists}
 use Rattle.ghost_spec.specs.declared.state.Ghost.{Ghost}
-use Rattle.ghost_spec.specs.States.{slot_in, guest_in, rooms_in, contents_in, ghost_state}
+use Rattle.ghost_spec.specs.States.{slot_in, guest_in, rooms_in, ghost_state}
 use Rattle.ghost_spec.specs.Trees.{tree_in_lists}
-use Rattle.ghost_spec.specs.Views.{cpu_in, row_in, shared_in_lists}
+use Rattle.ghost_spec.specs.Views.{row_in, shared_in_lists}
 
 abbrev rows-of : (ℕ → Option Row) → ℕ → Row
 rows-of m f = unwrap_or (m f) plain_row

@@ -1,6 +1,6 @@
 -- The first run of a coarsest list that has a frame maps it at the first page that does.
 use Rattle.std.proofs.Common.{◌≡◌, ℕ, zero, suc, ◌+◌, ◌-◌, ◌<◌, ◌≤◌, ◌&&◌, ◌==◌, Bool, true, false, List, [], ◌∷◌, Option, Some, None, refl, sym, ap, ◌∙◌, arith, inl, inr}
-use Rattle.std.specs.Prelude.{◌⊎◌, nat_lt}
+use Rattle.std.specs.Prelude.{◌⊎◌}
 use Rattle.descriptor.specs.declared.State.{State}
 use Rattle.page_state.specs.declared.entry.Entry.TheVariants.{Unmapped}
 use Rattle.page_state.specs.declared.entry.PageRange.{PageRange}

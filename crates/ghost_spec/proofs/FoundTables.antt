@@ -1,5 +1,5 @@
 -- The frames of the tables that count.
-use Rattle.std.proofs.Common.{◌≡◌, ℕ, zero, suc, ◌+◌, ◌-◌, ◌<◌, ◌≤◌, ◌&&◌, ◌==◌, ◌||◌, nat_le, Bool, true, false, List, [], ◌∷◌, Option, Some, None, refl, sym, ap, ◌∙◌, subst, arith}
+use Rattle.std.proofs.Common.{◌≡◌, ℕ, zero, suc, ◌+◌, ◌-◌, ◌<◌, ◌≤◌, ◌&&◌, nat_le, Bool, true, false, List, [], ◌∷◌, Option, Some, None, refl, sym, ap, ◌∙◌, subst, arith}
 use Rattle.std.specs.Prelude.{nat_lt}
 use Rattle.std.specs.List.{list_any}
 use Rattle.std.proofs.lemmas.Bool.Decides.{nat_tests}
@@ -10,7 +10,7 @@ use Rattle.page_state.specs.Search.{count_below}
 use Rattle.page_state.specs.Trees.{Block, Tree}
 use Rattle.page_state.proofs.BlockTests.{block_eq-same}
 use Rattle.page_state.proofs.Cases.{by_test, by_eq}
-use Rattle.page_state.proofs.Common.{and-both, eq-same, eq-self, same-tests, or-neither}
+use Rattle.page_state.proofs.Common.{and-both, eq-same, same-tests, or-neither}
 use Rattle.reference_model.specs.Owner.{count_blocks, is_frame, is_table_frame}
 use Rattle.ghost_spec.specs.declared.tree.Table.{Table}
 use Rattle.ghost_spec.specs.Found.{has_place, is_table_with, any_table_with}

@@ -1,4 +1,4 @@
-pub mod Alone
+pub mod Answered
 pub mod BlockLists
 pub mod BootLists
 pub mod Changed
@@ -8,8 +8,15 @@ pub mod Entries
 pub mod Foretold
 pub mod FoundPages
 pub mod FoundTables
+pub mod Guests
 pub mod Overlaid
+pub mod Rooms
+pub mod RowsAgain
 pub mod RowsKept
 pub mod Searches
+pub mod Slots
+pub mod TableCounts
+pub mod Tickets
 pub mod TreeLists
+pub mod Unmapped
 pub mod Starts

@@ -1,17 +1,19 @@
 -- Rows of small numbers, before and after one more is set.
-use Rattle.std.proofs.Common.{◌≡◌, ℕ, ◌+◌, ◌-◌, ◌^◌, ◌<◌, ◌≤◌, true, false, List, [], ◌∷◌, drop, length, get_or, Option, Some, None, refl, sym, ap, subst, ◌∙◌, arith}
+use Rattle.std.proofs.Common.{◌≡◌, ℕ, ◌+◌, ◌-◌, ◌^◌, ◌<◌, ◌≤◌, ◌&&◌, true, false, List, [], ◌∷◌, drop, length, get_or, Option, Some, None, refl, sym, ap, subst, ◌∙◌, arith}
 use Rattle.std.specs.Prelude.{unwrap_or}
-use Rattle.std.proofs.lemmas.Bool.Decides.{nat_tests}
 use Rattle.std.proofs.lemmas.List.{drop_more}
 use Rattle.page_state.specs.declared.row.Row.{Row}
 use Rattle.page_state.specs.declared.row.Lent.{Lent}
 use Rattle.page_state.specs.Map.{is_within}
 use Rattle.page_state.specs.Regions.{is_in_range}
-use Rattle.page_state.specs.Rows.{advance_row, HasLentBelow, HasPageBelow, plain_row}
-use Rattle.page_state.proofs.Cases.{by_test, by_lt}
+use Rattle.page_state.specs.Rows.{advance_row, HasPageBelow, plain_row}
+use Rattle.page_state.specs.Layouts.{Layout, is_memory}
+use Rattle.page_state.proofs.Cases.{by_test, by_eq, by_lt}
+use Rattle.page_state.proofs.Common.{and-left, and-right, same-tests}
+use Rattle.page_state.proofs.Updates.{within_test}
 use Rattle.run_list.specs.declared.run.Run.{Run}
 use Rattle.run_list.specs.OwnerRows.{row_laws}
-use Rattle.run_list.specs.Runs.{run_end, run_map, map_updated, value_on, IsCoarsest, InReach, AreInReach}
+use Rattle.run_list.specs.Runs.{run_end, run_map, map_updated, IsCoarsest, AreInReach}
 use Rattle.run_list.proofs.Maps.{run_in, run_high, none_low, starts_behind}
 use Rattle.ghost_spec.specs.Views.{row_in}
 use Rattle.ghost_spec.proofs.Overlaid.{within_means}
@@ -87,3 +89,52 @@ copied-more all rs ss i d some within same h =
     let next : i - 1 + 1 ≡ i = omega (arith, some) in
     let first : drop (i - 1) all ≡ r ∷ drop i all = drop_more all (i - 1) d (omega (arith, some, within)) ∙ ap (λ (j : ℕ). r ∷ drop j all) next in
     h ∙ ap (λ (m : ℕ → Option Row). map_updated advance_row m r.pages.first.0 r.pages.count (Some r.value)) same ∙ sym (ap (run_map advance_row) first)
+
+-- rows that are found again, frame by frame
+
+module _ (l : Layout) (frame : ℕ) where
+  -- of a frame that isn't memory
+  pub row-other : {X : Type 0} (x y : X) → is_memory l frame ≡ false → (f : ℕ) → y ≡ (elim (is_memory l f && is_within frame 1 f) [ true ↦ x | false ↦ y ])
+  row-other x y none f = by_test (is_memory l f && is_within frame 1 f)
+      (λ t. let w = within_means frame 1 f (and-right (is_memory l f) (is_within frame 1 f) t) in
+      let same : f ≡ frame = omega (arith, w.0, w.1) in
+      let bad : false ≡ true = sym none ∙ ap (is_memory l) (sym same) ∙ and-left (is_memory l f) (is_within frame 1 f) t in cc)
+      (λ t. rw t refl)
+
+  -- and of one that is
+  pub row-one : {X : Type 0} (x y : X) → is_memory l frame ≡ true → (f : ℕ) → ◌≡◌ {A = X} (elim (is_within frame 1 f) [ true ↦ x | false ↦ y ]) (elim (is_memory l f && is_within frame 1 f) [ true ↦ x | false ↦ y ])
+  row-one x y memory f = by_test (is_within frame 1 f)
+      (λ t. let w = within_means frame 1 f t in
+      let same : f ≡ frame = omega (arith, w.0, w.1) in
+      let both : is_memory l f ≡ true = ap (is_memory l) same ∙ memory in
+      rw (t, both) refl)
+      (λ t. rw t (by_test (is_memory l f) (λ u. rw u refl) (λ u. rw u refl)))
+
+within-more : (first i f : ℕ) → (f ≡ first + i → ⊥) → is_within first (i + 1) f ≡ is_within first i f
+within-more first i f other = same-tests (is_within first (i + 1) f) (is_within first i f)
+    (λ h. let w = within_means first (i + 1) f h in within_test first i f w.0 (omega (arith, w.1, other)))
+    (λ h. let w = within_means first i f h in within_test first (i + 1) f w.0 (omega (arith, w.1)))
+
+within-one : (first i f : ℕ) → (f ≡ first + i → ⊥) → is_within (first + i) 1 f ≡ false
+within-one first i f other = by_test (is_within (first + i) 1 f)
+    (λ t. let w = within_means (first + i) 1 f t in absurd (other (omega (arith, w.0, w.1))))
+    (λ t. t)
+
+-- one frame more of a range
+pub rows-more : {X : Type 0} (l : Layout) (first i : ℕ) (found : ℕ → X) (new now old : ℕ → X)
+    → ((f : ℕ) → new f ≡ (elim (is_memory l f && is_within (first + i) 1 f) [ true ↦ found (first + i) | false ↦ now f ]))
+    → ((f : ℕ) → now f ≡ (elim (is_memory l f && is_within first i f) [ true ↦ found f | false ↦ old f ]))
+    → (f : ℕ) → new f ≡ (elim (is_memory l f && is_within first (i + 1) f) [ true ↦ found f | false ↦ old f ])
+rows-more {X} l first i found new now old h k f =
+    by_eq f (first + i)
+    (λ e. let a : is_within (first + i) 1 f ≡ true = within_test (first + i) 1 f (omega (arith, e)) (omega (arith, e)) in
+    let b : is_within first (i + 1) f ≡ true = within_test first (i + 1) f (omega (arith, e)) (omega (arith, e)) in
+    let c : is_within first i f ≡ false = by_test (is_within first i f) (λ t. let w = within_means first i f t in absurd (omega (arith, e, w.1))) (λ t. t) in
+    by_test (is_memory l f)
+    (λ t. let x : new f ≡ found (first + i) = rw (t, a) at (h f) in rw (t, b) (x ∙ ap found (sym e)))
+    (λ t. let x : new f ≡ now f = rw t at (h f) in let y : now f ≡ old f = rw t at (k f) in rw t (x ∙ y)))
+    (λ n. let a : is_within (first + i) 1 f ≡ false = within-one first i f n in
+    let b : is_within first (i + 1) f ≡ is_within first i f = within-more first i f n in
+    by_test (is_memory l f)
+    (λ t. let x : new f ≡ now f = rw (t, a) at (h f) in let y = rw t at (k f) in rw (t, b) (x ∙ y))
+    (λ t. let x : new f ≡ now f = rw t at (h f) in let y : now f ≡ old f = rw t at (k f) in rw t (x ∙ y)))

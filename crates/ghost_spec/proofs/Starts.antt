@@ -1,5 +1,5 @@
 -- The state at boot, on lists.
-use Rattle.std.proofs.Common.{◌≡◌, ℕ, zero, suc, ◌<◌, Bool, true, false, List, [], ◌∷◌, Option, Some, None, All, length, map, get_or, slice_index_or, refl, sym, ap, subst, ◌∙◌, arith}
+use Rattle.std.proofs.Common.{◌≡◌, ℕ, zero, suc, ◌<◌, Bool, true, false, List, [], ◌∷◌, Option, Some, None, All, length, map, get_or, refl, sym, ap, subst, ◌∙◌, arith}
 use mathlib.Core.Path.{fun_ext}
 use Rattle.page_state.specs.declared.layout.Region.{Region}
 use Rattle.page_state.specs.declared.row.Row.{Row}
@@ -9,17 +9,13 @@ use Rattle.page_state.proofs.Common.{same2}
 use Rattle.page_state.proofs.Regions.{found-in, find-holds}
 use Rattle.reference_model.specs.Boot.{boot, booted, boot_shared, boot_without_rows}
 use Rattle.reference_model.specs.Owner.{row_of}
-use Rattle.reference_model.specs.State.{Slot, Vms, Shared, Guest, Cpu, Contents, Rooms, Reference, no_vms, no_slot, no_guest, no_cpu, plain_row, all_rooms, put_at}
-use Rattle.ghost_spec.specs.declared.cpu.GhostCpu.{GhostCpu}
-use Rattle.ghost_spec.specs.declared.parts.GhostGuest.{GhostGuest}
-use Rattle.ghost_spec.specs.declared.parts.GhostSlot.{GhostSlot}
+use Rattle.reference_model.specs.State.{Slot, Vms, Shared, Cpu, Contents, no_vms, no_slot, no_guest, no_cpu, plain_row}
 use Rattle.ghost_spec.specs.declared.shared.Shared.{Shared as SharedOfLists}
 use Rattle.ghost_spec.specs.declared.state.Ghost.{Ghost}
-use Rattle.ghost_spec.specs.RowsAlone.{row_alone}
+use Rattle.ghost_spec.specs.RowsFound.{row_found}
 use Rattle.ghost_spec.specs.States.{slot_in, guest_in, ghost_state}
-use Rattle.ghost_spec.specs.Trees.{tree_in_lists}
 use Rattle.ghost_spec.specs.Views.{cpu_in, row_in, shared_in_lists}
-use Rattle.ghost_spec.proofs.Alone.{alone, row-is}
+use Rattle.ghost_spec.proofs.RowsAgain.{alone, row-is}
 use Rattle.ghost_spec.proofs.Foretold.{put-own, state-same}
 
 -- the region of a memory frame, and its place
@@ -51,14 +47,14 @@ all-equal d (x ∷ xs) h (suc i) = all-equal d xs (λ k e less. h (suc k) e (ome
 
 module _ (l : Layout) (some : 0 < l.config.cpus) where
   -- no CPU has anything at boot
-  idle : alone l (boot_shared l) 0 no_cpu 0 ≡ boot_without_rows l
+  idle : alone l no_vms (boot_shared l) None tt no_guest 0 no_cpu 0 ≡ boot_without_rows l
   idle = ap (λ (k : ℕ → Cpu). with-cpus k) (put-own (λ c. no_cpu) 0)
     where
       with-cpus : (ℕ → Cpu) → Contents
       with-cpus k = record { vms = no_vms; shared = boot_shared l; guest = λ v. no_guest; cpu = k }
 
-  boot-row : (f : ℕ) → row_alone l (boot_shared l) f 0 no_cpu ≡ row_of l (boot_without_rows l) f
-  boot-row f = sym (row-is l (boot_shared l) 0 no_cpu f some) ∙ ap (λ (s : Contents). row_of l s f) idle
+  boot-row : (f : ℕ) → row_found l (boot_shared l) None no_guest f 0 no_cpu ≡ row_of l (boot_without_rows l) f
+  boot-row f = sym (row-is l no_vms (boot_shared l) None tt no_guest 0 no_cpu f some) ∙ ap (λ (s : Contents). row_of l s f) idle
 
   with-row : (ℕ → Row) → Shared
   with-row row = record { host = (boot_shared l).host; hyp = (boot_shared l).hyp; free = (boot_shared l).free; row = row }
@@ -77,10 +73,10 @@ module _ (l : Layout) (some : 0 < l.config.cpus) where
   booted-is = refl
 
   pub shared-booted : (s t : SharedOfLists) → shared_in_lists s ≡ boot_shared l → t.host ≡ s.host → t.hyp ≡ s.hyp → t.free ≡ s.free
-      → ((f : ℕ) → row_in t.rows.runs f ≡ elim (is_memory l f) [ true ↦ row_alone l (shared_in_lists s) f 0 no_cpu | false ↦ row_in s.rows.runs f ]) → shared_in_lists t ≡ (booted l).shared
+      → ((f : ℕ) → row_in t.rows.runs f ≡ elim (is_memory l f) [ true ↦ row_found l (shared_in_lists s) None no_guest f 0 no_cpu | false ↦ row_in s.rows.runs f ]) → shared_in_lists t ≡ (booted l).shared
   unfolding with-row keep-row found-rows
   shared-booted s t e host hyp free rows =
-      let row : row_in t.rows.runs ≡ found-rows = fun_ext (λ f. rows f ∙ same2 (picked (is_memory l f)) (ap (λ (x : Shared). row_alone l x f 0 no_cpu) e ∙ boot-row f) (ap (λ (x : Shared). x.row f) e)) in
+      let row : row_in t.rows.runs ≡ found-rows = fun_ext (λ f. rows f ∙ same2 (picked (is_memory l f)) (ap (λ (x : Shared). row_found l x None no_guest f 0 no_cpu) e ∙ boot-row f) (ap (λ (x : Shared). x.row f) e)) in
       rw (host, hyp, free, row) (ap keep-row e) ∙ booted-is
 
   pub state-booted : (g : Ghost) → g.layout.config.log ≡ l.config.log → All (λ s. slot_in s ≡ no_slot 1) g.vms.items → shared_in_lists g.shared ≡ (booted l).shared → All (λ v. guest_in v ≡ no_guest) g.guests.items → All (λ k. cpu_in k ≡ no_cpu) g.cpus.items

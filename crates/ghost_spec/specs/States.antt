@@ -1,6 +1,6 @@
 -- The reference state that a Ghost stands for.
-use Rattle.std.specs.Prelude.{◌≡◌, ℕ, ◌^◌, ◌<◌, List, All, Option, None, get_or, map, length}
-use Rattle.reference_model.specs.State.{Phase, empty, live, dying, Guest, no_guest, Stand, vacant, reserved, opened, closing, Slot, no_slot, Cpu, no_cpu, Contents, Rooms, Reference}
+use Rattle.std.specs.Prelude.{◌≡◌, ℕ, List, All, None, get_or, map, length}
+use Rattle.reference_model.specs.State.{Phase, empty, live, dying, Guest, no_guest, Stand, vacant, reserved, opened, closing, Slot, no_slot, no_cpu, Contents, Rooms, Reference}
 use Rattle.ghost_spec.specs.declared.cpu.GhostCpu.{GhostCpu}
 use Rattle.ghost_spec.specs.declared.state.Ghost.{Ghost}
 use Rattle.ghost_spec.specs.declared.state.GhostRooms.{GhostRooms}
@@ -10,7 +10,7 @@ use Rattle.ghost_spec.specs.declared.parts.GhostPhase.TheVariants.{Empty, Live, 
 use Rattle.ghost_spec.specs.declared.parts.GhostSlot.{GhostSlot}
 use Rattle.ghost_spec.specs.declared.parts.GhostStand.{GhostStand}
 use Rattle.ghost_spec.specs.declared.parts.GhostStand.TheVariants.{Vacant, Reserved, Opened, Closing}
-use Rattle.ghost_spec.specs.Kept.{IsKeptTree, IsKeptShared, IsSmallRange}
+use Rattle.ghost_spec.specs.Kept.{IsKeptShared, IsKeptGuest, IsKeptCpu}
 use Rattle.ghost_spec.specs.Trees.{tree_in_lists}
 use Rattle.ghost_spec.specs.Views.{cpu_in, shared_in_lists}
 
@@ -52,15 +52,19 @@ rooms_in log r = record { vms = r.vms; shared = r.shared; guest = λ v. get_or r
 abbrev pub ghost_state : Ghost → Reference
 ghost_state g = record { contents = contents_in g; rooms = rooms_in g.layout.config.log g.rooms }
 
--- each guest's tree is kept
+-- each guest is kept
 abbrev pub AreKeptGuests : List GhostGuest → Type 0
-AreKeptGuests gs = All (λ g. IsKeptTree g.tree) gs
+AreKeptGuests gs = All IsKeptGuest gs
+
+-- each CPU's own state is kept
+abbrev pub AreKeptCpus : List GhostCpu → Type 0
+AreKeptCpus ks = All IsKeptCpu ks
 
 -- what each Ghost keeps: lists of the layout's lengths, the coarsest runs, and numbers whose sums are numbers of 64 bits
 pub record IsKept (g : Ghost) : Type 0 where
   pub shared : IsKeptShared g.shared
   pub guests : AreKeptGuests g.guests.items
-  pub hands : All (λ k. IsSmallRange k.hand) g.cpus.items
+  pub cpus : AreKeptCpus g.cpus.items
   pub vms_count : length g.vms.items ≡ 64
   pub guests_count : length g.guests.items ≡ 64
   pub cpus_count : length g.cpus.items ≡ g.layout.config.cpus

@@ -1,12 +1,10 @@
 -- What parts of lists stand for, in the words of the reference state.
-use Rattle.std.specs.Prelude.{◌≡◌, ℕ, List, unwrap_or}
+use Rattle.std.specs.Prelude.{ℕ, List, unwrap_or}
 use Rattle.page_state.specs.declared.layout.Config.{Config}
 use Rattle.page_state.specs.declared.row.Row.{Row}
-use Rattle.page_state.specs.declared.step.Step.{Step}
 use Rattle.page_state.specs.Layouts.{Layout}
 use Rattle.page_state.specs.Regions.{Memory}
 use Rattle.page_state.specs.Rows.{advance_row}
-use Rattle.reference_model.specs.Parts.{names, shared}
 use Rattle.reference_model.specs.State.{Shared, Cpu, plain_row}
 use Rattle.run_list.specs.declared.run.Run.{Run}
 use Rattle.run_list.specs.Runs.{run_map}
@@ -29,7 +27,3 @@ layout_with m config depth = record { memory = m; config = config; depth = depth
 -- a CPU's own state
 abbrev pub cpu_in : GhostCpu → Cpu
 cpu_in k = record { loaded = k.loaded; hand = k.hand; ticket = k.ticket }
-
--- a step uses the Shared part alone
-abbrev pub IsOnShared : Step → Type 0
-IsOnShared step = names step ≡ shared

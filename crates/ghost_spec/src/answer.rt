@@ -1,17 +1,17 @@
 //! The answer of a call, and what is used after it, logs apart.
-ghost use Rattle.std.specs.Prelude.{◌≡◌, ◌<◌, ◌≤◌, None, IfOk, OnOk};
+ghost use Rattle.std.specs.Prelude.{◌≡◌, ◌<◌, ◌≤◌, true, IfOk, OnOk, length};
 ghost use Rattle.page_state.specs.LayoutView.{layout_of};
-ghost use Rattle.reference_model.specs.Changes.{cpu_by, touched as touched_of};
-ghost use Rattle.reference_model.specs.Step.{answer as answer_of, shared_after};
-ghost use Rattle.reference_model.specs.Used.{used_alone};
-ghost use Rattle.ghost_spec.specs.Kept.{AreSmallChanges, IsKeptShared, IsSmallRange};
-ghost use Rattle.ghost_spec.specs.RowsAlone.{rows_alone};
-ghost use Rattle.ghost_spec.specs.Views.{IsOnShared, cpu_in, shared_in_lists};
+ghost use Rattle.reference_model.specs.Changes.{touched as touched_of};
+ghost use Rattle.reference_model.specs.Parts.{names, uses_vms as uses_vms_of};
+ghost use Rattle.reference_model.specs.Step.{answer as answer_of, changed as changed_of, is_short as is_short_of};
+ghost use Rattle.ghost_spec.specs.Kept.{AreSmallChanges, FitsSlots, IsLowSlot};
+ghost use Rattle.ghost_spec.specs.RowsFound.{used_found};
+ghost use Rattle.ghost_spec.specs.Used.{IsKeptUsed, used_in};
 
-use crate::cpu::{self, GhostCpu};
+use crate::decide::decide;
 use crate::rows::find_rows;
-use crate::rules::decide;
-use crate::shared::{self, Shared, is_short};
+use crate::used::GhostUsed;
+use crate::{cpu, guest, shared, vms};
 use page_state::{Geometry, Layout, PageRange, Refusal, Reply, Step};
 use reference_model::Changes;
 use std::alloc::{AllocError, Global};
@@ -36,53 +36,99 @@ fn touched(changes: &Changes) -> Option<PageRange>
     }
 }
 
+/// Whether a pool has too few frames for the changes.
+fn is_short(
+    alloc: Global,
+    depth: u64,
+    used: &GhostUsed,
+    changes: &Changes,
+) -> Result<bool, AllocError>
+    requires depth { depth ≤ 3 }
+    requires kept { IsKeptUsed used.now }
+    requires small { AreSmallChanges changes.now }
+    ensures { IfOk result (λ b. b ≡ is_short_of depth changes.now (used_in used.now)) }
+{
+    let is_shared_short = shared::is_short(alloc, depth, &used.shared, changes)?;
+    let is_guest_short = guest::is_short(alloc, depth, &used.guest, changes)?;
+    Ok(is_shared_short || is_guest_short)
+}
+
+/// All changes are made but those of rows.
+fn change(
+    alloc: Global,
+    depth: u64,
+    used: &mut GhostUsed,
+    changes: &Changes,
+) -> Result<(), AllocError>
+    requires depth { depth ≤ 3 }
+    requires kept { IsKeptUsed used.old }
+    requires small { AreSmallChanges changes.now }
+    requires slots { FitsSlots (length used.old.vms.items) changes.now.slot }
+    ensures used { OnOk result (used_in used.new ≡ changed_of depth changes.now (used_in used.old)) }
+    ensures kept { OnOk result (IsKeptUsed used.new) }
+    ensures count { OnOk result (length used.new.vms.items ≡ length used.old.vms.items) }
+{
+    vms::change(alloc, &mut used.vms, changes.slot)?;
+    shared::change(alloc, depth, &mut used.shared, changes)?;
+    guest::change(alloc, depth, &mut used.guest, changes)?;
+    used.own = cpu::changed(used.own, changes.cpu);
+    Ok(())
+}
+
 /// All changes are made, and the rows of the touched memory frames are found again.
 fn make(
     alloc: Global,
     layout: &Layout,
     cpu: u64,
-    shared: &mut Shared,
-    own: &mut GhostCpu,
+    slot: Option<u64>,
+    used: &mut GhostUsed,
     changes: &Changes,
 ) -> Result<(), AllocError>
-    requires kept { IsKeptShared shared.old }
-    requires hand { IsSmallRange own.old.hand }
+    requires kept { IsKeptUsed used.old }
+    requires slot { IsLowSlot slot }
     requires small { AreSmallChanges changes.now }
-    ensures shared { OnOk result (shared_in_lists shared.new ≡ rows_alone (layout_of layout.now) (touched_of changes.now) cpu (shared_after (layout_of layout.now).depth changes.now (shared_in_lists shared.old)) (cpu_by changes.now.cpu (cpu_in own.old))) }
-    ensures own { OnOk result (cpu_in own.new ≡ cpu_by changes.now.cpu (cpu_in own.old)) }
-    ensures kept { IsKeptShared shared.new }
-    ensures hand { OnOk result (IsSmallRange own.new.hand) }
+    requires slots { FitsSlots (length used.old.vms.items) changes.now.slot }
+    ensures used { OnOk result (used_in used.new ≡ used_found (layout_of layout.now) (touched_of changes.now) slot cpu (changed_of (layout_of layout.now).depth changes.now (used_in used.old))) }
+    ensures kept { OnOk result (IsKeptUsed used.new) }
+    ensures count { OnOk result (length used.new.vms.items ≡ length used.old.vms.items) }
 {
-    shared::change(alloc, depth(layout), shared, changes)?;
-    *own = cpu::changed(*own, changes.cpu);
-    find_rows(layout, shared, touched(changes), cpu, own)
+    change(alloc, depth(layout), used, changes)?;
+    find_rows(
+        layout,
+        &mut used.shared,
+        slot,
+        &used.guest,
+        touched(changes),
+        cpu,
+        &used.own,
+    )
 }
 
-/// The answer of a call on the Shared part alone: the first test that fails, or all that its rule changes. Where memory is
-/// refused, anything may have changed.
+/// The answer of a call: the first test that fails, or all that its rule changes. Where memory is refused, anything may have
+/// changed.
 pub(crate) fn answer(
     alloc: Global,
     layout: &Layout,
     cpu: u64,
-    shared: &mut Shared,
-    own: &mut GhostCpu,
+    slot: Option<u64>,
+    used: &mut GhostUsed,
     step: Step,
 ) -> Result<Reply, AllocError>
-    requires step { IsOnShared step }
     requires cpu { cpu < layout.now.config.cpus }
-    requires kept { IsKeptShared shared.old }
-    requires hand { IsSmallRange own.old.hand }
-    ensures answer { IfOk result (λ reply. (reply, used_alone (shared_in_lists shared.new) (cpu_in own.new)) ≡ answer_of (layout_of layout.now) cpu None step (used_alone (shared_in_lists shared.old) (cpu_in own.old))) }
-    ensures kept { IsKeptShared shared.new }
-    ensures hand { OnOk result (IsSmallRange own.new.hand) }
+    requires kept { IsKeptUsed used.old }
+    requires slot { IsLowSlot slot }
+    requires vms { uses_vms_of (names step) ≡ true → length used.old.vms.items ≡ 64 }
+    ensures answer { IfOk result (λ reply. (reply, used_in used.new) ≡ answer_of (layout_of layout.now) cpu slot step (used_in used.old)) }
+    ensures kept { OnOk result (IsKeptUsed used.new) }
+    ensures count { OnOk result (length used.new.vms.items ≡ length used.old.vms.items) }
 {
-    let changes = match decide(layout, shared, own, step) {
+    let changes = match decide(layout, cpu, slot, used, step) {
         Ok(changes) => changes,
         Err(why) => return Ok(Reply::Refused(why)),
     };
-    if is_short(alloc, depth(layout), shared, &changes)? {
+    if is_short(alloc, depth(layout), used, &changes)? {
         return Ok(Reply::Refused(Refusal::NoPool));
     }
-    make(alloc, layout, cpu, shared, own, &changes)?;
+    make(alloc, layout, cpu, slot, used, &changes)?;
     Ok(Reply::Done(changes.value))
 }

@@ -4,8 +4,7 @@ ghost use Rattle.page_state.specs.Trees.{frames_from as frames_of, root_tree as 
 ghost use Rattle.reference_model.specs.Boot.{boot_shared, IsCarveEnough};
 ghost use Rattle.page_state.specs.EntryTests.{annotation, leaf};
 ghost use Rattle.page_state.specs.Layouts.{hyp_page as hyp_page_of};
-ghost use Rattle.ghost_spec.specs.Kept.{IsKeptShared};
-ghost use Rattle.ghost_spec.specs.Small.{AreSmall};
+ghost use Rattle.ghost_spec.specs.Kept.{IsKeptShared, IsKeptTree};
 ghost use Rattle.ghost_spec.specs.Views.{layout_with, shared_in_lists};
 ghost use Rattle.ghost_spec.specs.Trees.{tree_in_lists};
 
@@ -83,10 +82,10 @@ fn hyp_entry(frame: u64) -> Entry
 }
 
 /// A tree of its root alone, in which nothing is mapped.
-fn root_tree(alloc: Global, depth: u64, root: u64) -> Result<Tree, AllocError>
+pub(crate) fn root_tree(alloc: Global, depth: u64, root: u64) -> Result<Tree, AllocError>
     requires { depth ≤ 3 }
     ensures tree { IfOk result (λ t. tree_in_lists t ≡ root_tree_of depth root) }
-    ensures small { IfOk result (λ t. AreSmall t.runs.items) }
+    ensures kept { IfOk result IsKeptTree }
 {
     let mut tables = Vec::new(alloc);
     tables.push(Table {
@@ -109,7 +108,7 @@ fn is_enough(frames: u64, host_need: usize, hyp_need: usize) -> bool
 }
 
 /// The `count` frames from the first on.
-fn frames_from(alloc: Global, first: u64, count: u64) -> Result<Vec<u64>, AllocError>
+pub(crate) fn frames_from(alloc: Global, first: u64, count: u64) -> Result<Vec<u64>, AllocError>
     requires { first + count ≤ 2 ^ 63 }
     ensures { IfOk result (λ v. v.items ≡ frames_of first count) }
 {

@@ -5,7 +5,10 @@ mod answer;
 pub mod blocks;
 pub mod boot;
 pub mod cpu;
+mod decide;
 mod found;
+mod guest;
+mod guest_rules;
 mod leaves;
 pub mod parts;
 pub mod pool;
@@ -18,3 +21,7 @@ pub mod state;
 #[cfg(test)]
 mod tests;
 pub mod tree;
+mod used;
+mod uses;
+mod vm_rules;
+mod vms;

@@ -45,7 +45,6 @@ pub struct GhostGuest {
     pub free: Vec<u64>,
 }
 
-ghost use Rattle.ghost_spec.specs.Kept.{IsKeptTree};
 ghost use Rattle.ghost_spec.specs.States.{guest_in, slot_in, AreKeptGuests};
 
 impl GhostSlot {
@@ -66,14 +65,29 @@ impl GhostSlot {
 }
 
 impl GhostGuest {
-    ghost use Rattle.ghost_spec.specs.Kept.{IsKeptTree};
+    ghost use Rattle.reference_model.specs.State.{no_guest};
+    ghost use Rattle.ghost_spec.specs.Kept.{IsKeptGuest};
     ghost use Rattle.ghost_spec.specs.States.{guest_in};
 
+    /// An Empty guest.
+    pub(crate) fn none(alloc: Global) -> GhostGuest
+        ensures none { guest_in result ≡ no_guest }
+        ensures kept { IsKeptGuest result }
+    {
+        GhostGuest {
+            phase: GhostPhase::Empty,
+            generation: 0,
+            kind: VmKind::Plain,
+            tree: Tree::none(alloc),
+            free: Vec::new(alloc),
+        }
+    }
+
     /// The same guest once more.
-    fn copied(&self, alloc: Global) -> Result<GhostGuest, AllocError>
-        requires { IsKeptTree self.now.tree }
+    pub(crate) fn copied(&self, alloc: Global) -> Result<GhostGuest, AllocError>
+        requires { IsKeptGuest self.now }
         ensures same { IfOk result (λ g. guest_in g ≡ guest_in self.now) }
-        ensures kept { IfOk result (λ g. IsKeptTree g.tree) }
+        ensures kept { IfOk result IsKeptGuest }
     {
         Ok(GhostGuest {
             phase: self.phase,
@@ -138,16 +152,7 @@ pub(crate) fn empty_guests(alloc: Global, count: u64) -> Result<Vec<GhostGuest>,
 {
     let mut guests = Vec::new(alloc);
     for _ in 0..count {
-        guests.push(GhostGuest {
-            phase: GhostPhase::Empty,
-            generation: 0,
-            kind: VmKind::Plain,
-            tree: Tree {
-                runs: Vec::new(alloc),
-                tables: Vec::new(alloc),
-            },
-            free: Vec::new(alloc),
-        })?;
+        guests.push(GhostGuest::none(alloc))?;
     }
     Ok(guests)
 }

@@ -1,18 +1,21 @@
 //! Owner rows from scratch.
-ghost use Rattle.std.specs.Prelude.{◌≡◌, ◌<◌, ◌≤◌, ◌^◌, ◌&&◌, true, false, ℕ, IfOk, OnOk, Some};
+ghost use Rattle.std.specs.Prelude.{◌≡◌, ◌+◌, ◌<◌, ◌≤◌, ◌^◌, ◌&&◌, true, false, ℕ, IfOk, OnOk, Some, None};
 ghost use Rattle.page_state.specs.declared.entry.PageRange.{PageRange as PageRangeOf};
 ghost use Rattle.page_state.specs.Layouts.{is_memory};
 ghost use Rattle.page_state.specs.LayoutView.{layout_of};
+ghost use Rattle.page_state.specs.Map.{is_within};
 ghost use Rattle.page_state.specs.Regions.{end_of, is_in_range};
 ghost use Rattle.page_state.specs.Rows.{advance_row, HasLentBelow, HasPageBelow};
-ghost use Rattle.reference_model.specs.State.{no_cpu};
+ghost use Rattle.reference_model.specs.State.{no_cpu, no_guest};
 ghost use Rattle.run_list.specs.Runs.{InReach, AreInReach, map_updated, run_map};
-ghost use Rattle.ghost_spec.specs.Kept.{IsKeptShared};
-ghost use Rattle.ghost_spec.specs.RowsAlone.{owner_alone as owner_alone_of, lent_alone as lent_alone_of, usage_alone as usage_alone_of, row_alone as row_alone_of, rows_alone as rows_alone_of};
+ghost use Rattle.ghost_spec.specs.Kept.{IsKeptGuest, IsKeptShared, IsLowSlot};
+ghost use Rattle.ghost_spec.specs.RowsFound.{guest_lent as guest_lent_of, lender_found as lender_found_of, lent_found as lent_found_of, owner_or as owner_or_of, pool_found as pool_found_of, row_found as row_found_of, rows_found as rows_found_of, sharer_found as sharer_found_of, usage_found as usage_found_of};
+ghost use Rattle.ghost_spec.specs.States.{guest_in};
 ghost use Rattle.ghost_spec.specs.Views.{cpu_in, row_in, shared_in_lists};
 
 use crate::cpu::GhostCpu;
 use crate::found::{is_free, is_in_hand, is_table_frame, page_of};
+use crate::parts::GhostGuest;
 use crate::runs::at;
 use crate::shared::Shared;
 use page_state::{Entry, Layout, Lent, Owner, Page, PageRange, Row, State, Usage};
@@ -36,20 +39,101 @@ pub(crate) fn row_at(shared: &Shared, frame: u64) -> Row
     }
 }
 
-/// The owner by the host's entry of the frame's page: the number of its annotation, and else the host.
-fn owner_alone(entry: Entry) -> Owner
-    ensures { result.0 ≡ owner_alone_of entry }
+/// The owner by the host's entry of the frame's page: the number of its annotation, and else this one.
+fn owner_or(other: u64, entry: Entry) -> Owner
+    ensures { result.0 ≡ owner_or_of other entry }
 {
     match entry {
         Entry::Annotated(owner) => owner,
-        _ => Owner(0),
+        _ => Owner(other),
     }
 }
 
-/// To whom a frame is lent: the first of host and hypervisor that borrows it.
-fn lent_alone(layout: &Layout, shared: &Shared, frame: u64) -> Option<Lent>
-    requires { IsKeptShared shared.now }
-    ensures value { result ≡ lent_alone_of (layout_of layout.now) (shared_in_lists shared.now) frame }
+/// The number of the guest of a slot.
+fn number_of(slot: Option<u64>) -> u64
+    requires { IsLowSlot slot }
+    ensures { result ≡ elim slot [ Some v ↦ 2 + v | None ↦ 0 ] }
+{
+    match slot {
+        Some(v) => 2 + v,
+        None => 0,
+    }
+}
+
+/// The number of the guest that shares a frame, or else the host's.
+fn sharer(
+    layout: &Layout,
+    shared: &Shared,
+    slot: Option<u64>,
+    guest: &GhostGuest,
+    frame: u64,
+) -> u64
+    requires slot { IsLowSlot slot }
+    requires guest { IsKeptGuest guest.now }
+    ensures { result ≡ sharer_found_of (layout_of layout.now) (shared_in_lists shared.now) slot (guest_in guest.now) frame }
+{
+    match page_of(layout, &guest.tree, State::SharedOwned, frame) {
+        Some(_) => number_of(slot),
+        None => 0,
+    }
+}
+
+/// The owner of a frame that isn't annotated: where the host borrows it, its sharer.
+fn lender(
+    layout: &Layout,
+    shared: &Shared,
+    slot: Option<u64>,
+    guest: &GhostGuest,
+    frame: u64,
+) -> u64
+    requires kept { IsKeptShared shared.now }
+    requires slot { IsLowSlot slot }
+    requires guest { IsKeptGuest guest.now }
+    ensures { result ≡ lender_found_of (layout_of layout.now) (shared_in_lists shared.now) slot (guest_in guest.now) frame }
+{
+    match page_of(layout, &shared.host, State::SharedBorrowed, frame) {
+        Some(_) => sharer(layout, shared, slot, guest, frame),
+        None => 0,
+    }
+}
+
+/// What the guest borrows a frame as, where it does.
+fn guest_lent(
+    layout: &Layout,
+    shared: &Shared,
+    slot: Option<u64>,
+    guest: &GhostGuest,
+    frame: u64,
+) -> Option<Lent>
+    requires slot { IsLowSlot slot }
+    requires guest { IsKeptGuest guest.now }
+    ensures value { result ≡ guest_lent_of (layout_of layout.now) (shared_in_lists shared.now) slot (guest_in guest.now) frame }
+    ensures low { HasLentBelow result 1 }
+{
+    match slot {
+        Some(v) => match page_of(layout, &guest.tree, State::SharedBorrowed, frame) {
+            Some(page) => Some(Lent {
+                owner: Owner(2 + v),
+                page,
+            }),
+            None => None,
+        },
+        None => None,
+    }
+}
+
+/// To whom a frame is lent: the first of host, hypervisor and guest that borrows it.
+fn lent_to(
+    layout: &Layout,
+    shared: &Shared,
+    slot: Option<u64>,
+    guest: &GhostGuest,
+    frame: u64,
+) -> Option<Lent>
+    requires kept { IsKeptShared shared.now }
+    requires slot { IsLowSlot slot }
+    requires guest { IsKeptGuest guest.now }
+    ensures value { result ≡ lent_found_of (layout_of layout.now) (shared_in_lists shared.now) slot (guest_in guest.now) frame }
     ensures low { HasLentBelow result 1 }
 {
     match page_of(layout, &shared.host, State::SharedBorrowed, frame) {
@@ -62,37 +146,79 @@ fn lent_alone(layout: &Layout, shared: &Shared, frame: u64) -> Option<Lent>
                 owner: Owner(1),
                 page,
             }),
-            None => None,
+            None => guest_lent(layout, shared, slot, guest, frame),
         },
     }
 }
 
-/// What holds a frame: the shared pool, the CPU's hand, or nothing.
-fn usage_alone(layout: &Layout, shared: &Shared, frame: u64, cpu: u64, own: &GhostCpu) -> Usage
-    ensures { result ≡ usage_alone_of (layout_of layout.now) (shared_in_lists shared.now) frame cpu (cpu_in own.now) }
+/// The guest's slot, where a frame is free in its pool or a table of its tree.
+fn pool_of(
+    layout: &Layout,
+    shared: &Shared,
+    slot: Option<u64>,
+    guest: &GhostGuest,
+    frame: u64,
+) -> Option<u64>
+    ensures { result ≡ pool_found_of (layout_of layout.now) (shared_in_lists shared.now) slot (guest_in guest.now) frame }
+{
+    if is_free(guest.free.as_slice(), frame) || is_table_frame(layout, &guest.tree, frame) {
+        slot
+    } else {
+        None
+    }
+}
+
+/// What holds a frame: the shared pool, the guest's, the CPU's hand, or nothing.
+fn usage_of(
+    layout: &Layout,
+    shared: &Shared,
+    slot: Option<u64>,
+    guest: &GhostGuest,
+    frame: u64,
+    cpu: u64,
+    own: &GhostCpu,
+) -> Usage
+    ensures { result ≡ usage_found_of (layout_of layout.now) (shared_in_lists shared.now) slot (guest_in guest.now) frame cpu (cpu_in own.now) }
 {
     if is_free(shared.free.as_slice(), frame)
         || is_table_frame(layout, &shared.host, frame)
         || is_table_frame(layout, &shared.hyp, frame)
     {
-        Usage::SharedPool
-    } else if is_in_hand(own.hand, frame) {
-        Usage::InHand(cpu)
-    } else {
-        Usage::Plain
+        return Usage::SharedPool;
+    }
+    match pool_of(layout, shared, slot, guest, frame) {
+        Some(v) => Usage::VmPool(v),
+        None => {
+            if is_in_hand(own.hand, frame) {
+                Usage::InHand(cpu)
+            } else {
+                Usage::Plain
+            }
+        }
     }
 }
 
-/// The row of a frame, found from the maps, the pool, the tables and the CPU's hand alone.
-fn row_alone(layout: &Layout, shared: &Shared, frame: u64, cpu: u64, own: &GhostCpu) -> Row
-    requires { IsKeptShared shared.now }
-    ensures value { result ≡ row_alone_of (layout_of layout.now) (shared_in_lists shared.now) frame cpu (cpu_in own.now) }
+/// The row of a frame, found from the maps, the pools, the tables and the CPU's hand alone.
+fn row_found(
+    layout: &Layout,
+    shared: &Shared,
+    slot: Option<u64>,
+    guest: &GhostGuest,
+    frame: u64,
+    cpu: u64,
+    own: &GhostCpu,
+) -> Row
+    requires kept { IsKeptShared shared.now }
+    requires slot { IsLowSlot slot }
+    requires guest { IsKeptGuest guest.now }
+    ensures value { result ≡ row_found_of (layout_of layout.now) (shared_in_lists shared.now) slot (guest_in guest.now) frame cpu (cpu_in own.now) }
     ensures small { HasPageBelow result 1 }
 {
+    let other = lender(layout, shared, slot, guest, frame);
     Row {
-        owner: owner_alone(at(shared.host.runs.as_slice(), Page(frame))),
-        lent: lent_alone(layout, shared, frame),
-        usage: usage_alone(layout, shared, frame, cpu, own),
+        owner: owner_or(other, at(shared.host.runs.as_slice(), Page(frame))),
+        lent: lent_to(layout, shared, slot, guest, frame),
+        usage: usage_of(layout, shared, slot, guest, frame, cpu, own),
     }
 }
 
@@ -124,17 +250,48 @@ fn set_run(rows: &mut RunList<Row>, run: Run<Row>) -> Result<(), AllocError>
     Ok(())
 }
 
+/// The row of a frame is found again, where it is a memory frame.
+fn find_row(
+    layout: &Layout,
+    shared: &mut Shared,
+    slot: Option<u64>,
+    guest: &GhostGuest,
+    frame: u64,
+    cpu: u64,
+    own: &GhostCpu,
+) -> Result<(), AllocError>
+    requires kept { IsKeptShared shared.old }
+    requires slot { IsLowSlot slot }
+    requires guest { IsKeptGuest guest.now }
+    ensures rows { OnOk result ((f : ℕ) → row_in shared.new.rows.runs f ≡ elim (is_memory (layout_of layout.now) f && is_within frame 1 f) [ true ↦ row_found_of (layout_of layout.now) (shared_in_lists shared.old) slot (guest_in guest.now) frame cpu (cpu_in own.now) | false ↦ row_in shared.old.rows.runs f ]) }
+    ensures host { shared.new.host ≡ shared.old.host }
+    ensures hyp { shared.new.hyp ≡ shared.old.hyp }
+    ensures free { shared.new.free ≡ shared.old.free }
+    ensures kept { IsKeptShared shared.new }
+{
+    if !layout.map.is_memory(Page(frame)) {
+        return Ok(());
+    }
+    let row = row_found(layout, shared, slot, guest, frame, cpu, own);
+    set_row(&mut shared.rows, frame, row)?;
+    Ok(())
+}
+
 /// The rows of the memory frames of a range are found again.
 pub(crate) fn find_range(
     layout: &Layout,
     shared: &mut Shared,
+    slot: Option<u64>,
+    guest: &GhostGuest,
     range: PageRange,
     cpu: u64,
     own: &GhostCpu,
 ) -> Result<(), AllocError>
     requires kept { IsKeptShared shared.old }
+    requires slot { IsLowSlot slot }
+    requires guest { IsKeptGuest guest.now }
     requires range { end_of range ≤ 2 ^ 63 }
-    ensures rows { OnOk result ((f : ℕ) → row_in shared.new.rows.runs f ≡ elim (is_memory (layout_of layout.now) f && is_in_range range f) [ true ↦ row_alone_of (layout_of layout.now) (shared_in_lists shared.old) f cpu (cpu_in own.now) | false ↦ row_in shared.old.rows.runs f ]) }
+    ensures rows { OnOk result ((f : ℕ) → row_in shared.new.rows.runs f ≡ elim (is_memory (layout_of layout.now) f && is_in_range range f) [ true ↦ row_found_of (layout_of layout.now) (shared_in_lists shared.old) slot (guest_in guest.now) f cpu (cpu_in own.now) | false ↦ row_in shared.old.rows.runs f ]) }
     ensures host { shared.new.host ≡ shared.old.host }
     ensures hyp { shared.new.hyp ≡ shared.old.hyp }
     ensures free { shared.new.free ≡ shared.old.free }
@@ -142,10 +299,7 @@ pub(crate) fn find_range(
 {
     for i in 0..range.count {
         let frame = range.first.0 + i;
-        if layout.map.is_memory(Page(frame)) {
-            let row = row_alone(layout, shared, frame, cpu, own);
-            set_row(&mut shared.rows, frame, row)?;
-        }
+        find_row(layout, shared, slot, guest, frame, cpu, own)?;
     }
     Ok(())
 }
@@ -154,17 +308,21 @@ pub(crate) fn find_range(
 pub(crate) fn find_rows(
     layout: &Layout,
     shared: &mut Shared,
+    slot: Option<u64>,
+    guest: &GhostGuest,
     touched: Option<PageRange>,
     cpu: u64,
     own: &GhostCpu,
 ) -> Result<(), AllocError>
     requires kept { IsKeptShared shared.old }
+    requires slot { IsLowSlot slot }
+    requires guest { IsKeptGuest guest.now }
     requires touched { (range : PageRangeOf) → touched ≡ Some range → end_of range ≤ 2 ^ 63 }
-    ensures found { OnOk result (shared_in_lists shared.new ≡ rows_alone_of (layout_of layout.now) touched cpu (shared_in_lists shared.old) (cpu_in own.now)) }
+    ensures found { OnOk result (shared_in_lists shared.new ≡ rows_found_of (layout_of layout.now) touched slot (guest_in guest.now) cpu (cpu_in own.now) (shared_in_lists shared.old)) }
     ensures kept { IsKeptShared shared.new }
 {
     match touched {
-        Some(range) => find_range(layout, shared, range, cpu, own),
+        Some(range) => find_range(layout, shared, slot, guest, range, cpu, own),
         None => Ok(()),
     }
 }
@@ -182,10 +340,34 @@ pub(crate) fn copied_rows(alloc: Global, runs: &[Run<Row>]) -> Result<RunList<Ro
     Ok(rows)
 }
 
-/// The rows of all memory frames are found, where no frame is in a hand.
-pub(crate) fn find_all(layout: &Layout, shared: &mut Shared) -> Result<(), AllocError>
+/// The rows of the memory frames of a range are found, where there is no guest, and no frame is in a hand.
+fn find_first(
+    alloc: Global,
+    layout: &Layout,
+    shared: &mut Shared,
+    range: PageRange,
+) -> Result<(), AllocError>
     requires kept { IsKeptShared shared.old }
-    ensures rows { OnOk result ((f : ℕ) → row_in shared.new.rows.runs f ≡ elim (is_memory (layout_of layout.now) f) [ true ↦ row_alone_of (layout_of layout.now) (shared_in_lists shared.old) f 0 no_cpu | false ↦ row_in shared.old.rows.runs f ]) }
+    requires range { end_of range ≤ 2 ^ 63 }
+    ensures rows { OnOk result ((f : ℕ) → row_in shared.new.rows.runs f ≡ elim (is_memory (layout_of layout.now) f && is_in_range range f) [ true ↦ row_found_of (layout_of layout.now) (shared_in_lists shared.old) None no_guest f 0 no_cpu | false ↦ row_in shared.old.rows.runs f ]) }
+    ensures host { shared.new.host ≡ shared.old.host }
+    ensures hyp { shared.new.hyp ≡ shared.old.hyp }
+    ensures free { shared.new.free ≡ shared.old.free }
+    ensures kept { IsKeptShared shared.new }
+{
+    let none = GhostGuest::none(alloc);
+    find_range(layout, shared, None, &none, range, 0, &GhostCpu::NONE)?;
+    Ok(())
+}
+
+/// The rows of all memory frames are found, where there is no guest, and no frame is in a hand.
+pub(crate) fn find_all(
+    alloc: Global,
+    layout: &Layout,
+    shared: &mut Shared,
+) -> Result<(), AllocError>
+    requires kept { IsKeptShared shared.old }
+    ensures rows { OnOk result ((f : ℕ) → row_in shared.new.rows.runs f ≡ elim (is_memory (layout_of layout.now) f) [ true ↦ row_found_of (layout_of layout.now) (shared_in_lists shared.old) None no_guest f 0 no_cpu | false ↦ row_in shared.old.rows.runs f ]) }
     ensures host { shared.new.host ≡ shared.old.host }
     ensures hyp { shared.new.hyp ≡ shared.old.hyp }
     ensures free { shared.new.free ≡ shared.old.free }
@@ -193,7 +375,7 @@ pub(crate) fn find_all(layout: &Layout, shared: &mut Shared) -> Result<(), Alloc
 {
     let regions = layout.map.regions();
     for i in 0..regions.len() {
-        find_range(layout, shared, regions[i].pages, 0, &GhostCpu::NONE)?;
+        find_first(alloc, layout, shared, regions[i].pages)?;
     }
     Ok(())
 }

@@ -1,5 +1,5 @@
-//! The rules of the calls on the Shared part: the first of a call's tests that fails, or all that it changes.
-ghost use Rattle.std.specs.Prelude.{◌≡◌, ℕ, ◌+◌, ◌<◌, ◌≤◌, ◌^◌, ◌&&◌, None, IfOk};
+//! The rules of the calls on the Shared part alone: the first of a call's tests that fails, or all that it changes.
+ghost use Rattle.std.specs.Prelude.{◌≡◌, ℕ, ◌+◌, ◌<◌, ◌≤◌, ◌^◌, ◌&&◌, Option, IfOk};
 ghost use Rattle.page_state.specs.declared.step.Step.TheVariants.{ShareHyp, UnshareHyp, DonateHyp, HypDonateHost, HostAbort, HostTranslate, HypTranslate, OwnerOf, Fund, Unfund};
 ghost use Rattle.page_state.specs.Blocks.{block_at, first_page as first_page_of, span as span_of};
 ghost use Rattle.page_state.specs.EntryTests.{is_free_page as is_free_page_of, is_unmapped as is_unmapped_of};
@@ -9,15 +9,13 @@ ghost use Rattle.page_state.specs.Runs.{map_of};
 ghost use Rattle.page_state.specs.Search.{all_below};
 ghost use Rattle.reference_model.specs.Answers.{decides};
 ghost use Rattle.reference_model.specs.Changes.{change as change_of};
-ghost use Rattle.reference_model.specs.SharedRules.{abort_depth as abort_depth_of, abort_leaf as abort_leaf_of, is_plain as is_plain_of, may_donate as may_donate_of, may_map as may_map_of, may_return as may_return_of};
-ghost use Rattle.reference_model.specs.State.{Cpu};
-ghost use Rattle.reference_model.specs.Used.{used_alone};
-ghost use Rattle.ghost_spec.specs.Kept.{AreSmallChanges, IsKeptShared, IsSmallRange};
+ghost use Rattle.reference_model.specs.SharedRules.{abort_depth as abort_depth_of, abort_leaf as abort_leaf_of, is_plain as is_plain_of, may_map as may_map_of};
+ghost use Rattle.ghost_spec.specs.Kept.{AreSmallChanges, IsKeptShared};
 ghost use Rattle.ghost_spec.specs.Small.{HasLowFrames};
-ghost use Rattle.ghost_spec.specs.Views.{IsOnShared, cpu_in, row_in, shared_in_lists};
+ghost use Rattle.ghost_spec.specs.Used.{IsKeptUsed, may_return_frame, used_in};
+ghost use Rattle.ghost_spec.specs.Views.{shared_in_lists};
 
 use crate::blocks::is_empty;
-use crate::cpu::GhostCpu;
 use crate::found::pages;
 use crate::leaves::{
     annotation, device_leaf, hyp_page, is_annotated, is_free_page, is_in, is_mapped, is_unmapped,
@@ -26,13 +24,14 @@ use crate::leaves::{
 use crate::rows::row_at;
 use crate::runs::at;
 use crate::shared::Shared;
+use crate::used::GhostUsed;
 use page_state::{
-    Entry, Layout, Page, PageRange, Prot, Refusal, Region, RegionKind, State, Step, Usage, Value,
+    Entry, Layout, Page, PageRange, Prot, Refusal, Region, RegionKind, State, Usage, Value,
 };
 use reference_model::{Changes, CpuChange, MapChange, Update};
 
 /// A change of a map: so many pages from the first on.
-fn change(first: u64, count: u64, entry: Entry) -> Option<MapChange>
+pub(crate) fn change(first: u64, count: u64, entry: Entry) -> Option<MapChange>
     ensures { result ≡ change_of first count entry }
 {
     Some(MapChange {
@@ -45,7 +44,7 @@ fn change(first: u64, count: u64, entry: Entry) -> Option<MapChange>
 }
 
 /// The host's entry of a page.
-fn host_entry(shared: &Shared, page: u64) -> Entry
+pub(crate) fn host_entry(shared: &Shared, page: u64) -> Entry
     requires { IsKeptShared shared.now }
     ensures value { result ≡ map_of shared.now.host.runs.items page }
     ensures low { HasLowFrames result 1 }
@@ -65,11 +64,12 @@ fn hyp_entry(shared: &Shared, frame: u64) -> Entry
 
 /// The host shares a frame with the hypervisor.
 #[tactic(auto, unfolding(reference_model::specs::Rules::rule))]
-fn share_hyp(layout: &Layout, shared: &Shared, pfn: u64) -> Result<Changes, Refusal>
-    requires { IsKeptShared shared.now }
-    ensures decided { (cpu : ℕ) (k : Cpu) → result ≡ decides (layout_of layout.now) cpu None (ShareHyp pfn) (used_alone (shared_in_lists shared.now) k) }
+pub(crate) fn share_hyp(layout: &Layout, used: &GhostUsed, pfn: u64) -> Result<Changes, Refusal>
+    requires { IsKeptUsed used.now }
+    ensures decided { (cpu : ℕ) (slot : Option ℕ) → result ≡ decides (layout_of layout.now) cpu slot (ShareHyp pfn) (used_in used.now) }
     ensures small { IfOk result AreSmallChanges }
 {
+    let shared = &used.shared;
     if !layout.map.is_memory(Page(pfn)) {
         return Err(Refusal::Invalid);
     }
@@ -85,11 +85,12 @@ fn share_hyp(layout: &Layout, shared: &Shared, pfn: u64) -> Result<Changes, Refu
 
 /// The host takes back what it shared with the hypervisor.
 #[tactic(auto, unfolding(reference_model::specs::Rules::rule))]
-fn unshare_hyp(layout: &Layout, shared: &Shared, pfn: u64) -> Result<Changes, Refusal>
-    requires { IsKeptShared shared.now }
-    ensures decided { (cpu : ℕ) (k : Cpu) → result ≡ decides (layout_of layout.now) cpu None (UnshareHyp pfn) (used_alone (shared_in_lists shared.now) k) }
+pub(crate) fn unshare_hyp(layout: &Layout, used: &GhostUsed, pfn: u64) -> Result<Changes, Refusal>
+    requires { IsKeptUsed used.now }
+    ensures decided { (cpu : ℕ) (slot : Option ℕ) → result ≡ decides (layout_of layout.now) cpu slot (UnshareHyp pfn) (used_in used.now) }
     ensures small { IfOk result AreSmallChanges }
 {
+    let shared = &used.shared;
     if !layout.map.is_memory(Page(pfn)) {
         return Err(Refusal::Invalid);
     }
@@ -118,7 +119,7 @@ fn may_donate_frame(shared: &Shared, frame: u64) -> bool
 fn may_donate(shared: &Shared, pfn: u64, n: u64) -> bool
     requires kept { IsKeptShared shared.now }
     requires low { pfn + n ≤ 2 ^ 62 }
-    ensures { (k : Cpu) → result ≡ may_donate_of (used_alone (shared_in_lists shared.now) k) pfn n }
+    ensures { result ≡ all_below n (λ i. is_free_page_of (map_of shared.now.host.runs.items (pfn + i)) && is_unmapped_of (map_of shared.now.hyp.runs.items (hyp_page_of (pfn + i)))) }
 {
     for i in 0..n {
         if !may_donate_frame(shared, pfn + i) {
@@ -130,11 +131,17 @@ fn may_donate(shared: &Shared, pfn: u64, n: u64) -> bool
 
 /// The host gives a range to the hypervisor.
 #[tactic(auto, unfolding(reference_model::specs::Rules::rule))]
-fn donate_hyp(layout: &Layout, shared: &Shared, pfn: u64, n: u64) -> Result<Changes, Refusal>
-    requires { IsKeptShared shared.now }
-    ensures decided { (cpu : ℕ) (k : Cpu) → result ≡ decides (layout_of layout.now) cpu None (DonateHyp pfn n) (used_alone (shared_in_lists shared.now) k) }
+pub(crate) fn donate_hyp(
+    layout: &Layout,
+    used: &GhostUsed,
+    pfn: u64,
+    n: u64,
+) -> Result<Changes, Refusal>
+    requires { IsKeptUsed used.now }
+    ensures decided { (cpu : ℕ) (slot : Option ℕ) → result ≡ decides (layout_of layout.now) cpu slot (DonateHyp pfn n) (used_in used.now) }
     ensures small { IfOk result AreSmallChanges }
 {
+    let shared = &used.shared;
     if !layout.is_good_range(Page(pfn), n) {
         return Err(Refusal::Invalid);
     }
@@ -162,7 +169,7 @@ fn is_plain(usage: Usage) -> bool
 fn may_return(shared: &Shared, frame: u64) -> bool
     requires kept { IsKeptShared shared.now }
     requires low { frame < 2 ^ 63 }
-    ensures { (k : Cpu) → result ≡ may_return_of (used_alone (shared_in_lists shared.now) k) frame }
+    ensures { result ≡ may_return_frame (shared_in_lists shared.now) frame }
 {
     let row = row_at(shared, frame);
     row.owner.0 == 1 && is_plain(row.usage) && is_in(State::Owned, hyp_entry(shared, frame))
@@ -172,7 +179,7 @@ fn may_return(shared: &Shared, frame: u64) -> bool
 fn may_return_all(shared: &Shared, pfn: u64, n: u64) -> bool
     requires kept { IsKeptShared shared.now }
     requires low { pfn + n ≤ 2 ^ 62 }
-    ensures { (k : Cpu) → result ≡ all_below n (λ i. may_return_of (used_alone (shared_in_lists shared.now) k) (pfn + i)) }
+    ensures { result ≡ all_below n (λ i. may_return_frame (shared_in_lists shared.now) (pfn + i)) }
 {
     for i in 0..n {
         if !may_return(shared, pfn + i) {
@@ -184,11 +191,17 @@ fn may_return_all(shared: &Shared, pfn: u64, n: u64) -> bool
 
 /// The hypervisor gives a range back.
 #[tactic(auto, unfolding(reference_model::specs::Rules::rule))]
-fn hyp_donate_host(layout: &Layout, shared: &Shared, pfn: u64, n: u64) -> Result<Changes, Refusal>
-    requires { IsKeptShared shared.now }
-    ensures decided { (cpu : ℕ) (k : Cpu) → result ≡ decides (layout_of layout.now) cpu None (HypDonateHost pfn n) (used_alone (shared_in_lists shared.now) k) }
+pub(crate) fn hyp_donate_host(
+    layout: &Layout,
+    used: &GhostUsed,
+    pfn: u64,
+    n: u64,
+) -> Result<Changes, Refusal>
+    requires { IsKeptUsed used.now }
+    ensures decided { (cpu : ℕ) (slot : Option ℕ) → result ≡ decides (layout_of layout.now) cpu slot (HypDonateHost pfn n) (used_in used.now) }
     ensures small { IfOk result AreSmallChanges }
 {
+    let shared = &used.shared;
     if !layout.is_good_range(Page(pfn), n) {
         return Err(Refusal::Invalid);
     }
@@ -264,11 +277,12 @@ fn abort_leaf(region: Region, first: u64) -> Entry
 
 /// The host touches a page that may be unmapped.
 #[tactic(auto, unfolding(reference_model::specs::Rules::rule, reference_model::specs::SharedRules::abort_edit))]
-fn host_abort(layout: &Layout, shared: &Shared, page: u64) -> Result<Changes, Refusal>
-    requires { IsKeptShared shared.now }
-    ensures decided { (cpu : ℕ) (k : Cpu) → result ≡ decides (layout_of layout.now) cpu None (HostAbort page) (used_alone (shared_in_lists shared.now) k) }
+pub(crate) fn host_abort(layout: &Layout, used: &GhostUsed, page: u64) -> Result<Changes, Refusal>
+    requires { IsKeptUsed used.now }
+    ensures decided { (cpu : ℕ) (slot : Option ℕ) → result ≡ decides (layout_of layout.now) cpu slot (HostAbort page) (used_in used.now) }
     ensures small { IfOk result AreSmallChanges }
 {
+    let shared = &used.shared;
     let _regions = layout.map.regions();
     let Some(region) = layout.map.region_of(Page(page)) else {
         return Err(Refusal::Invalid);
@@ -293,11 +307,16 @@ fn host_abort(layout: &Layout, shared: &Shared, page: u64) -> Result<Changes, Re
 
 /// The host's entry of a page.
 #[tactic(auto, unfolding(reference_model::specs::Rules::rule))]
-fn host_translate(layout: &Layout, shared: &Shared, page: u64) -> Result<Changes, Refusal>
-    requires { IsKeptShared shared.now }
-    ensures decided { (cpu : ℕ) (k : Cpu) → result ≡ decides (layout_of layout.now) cpu None (HostTranslate page) (used_alone (shared_in_lists shared.now) k) }
+pub(crate) fn host_translate(
+    layout: &Layout,
+    used: &GhostUsed,
+    page: u64,
+) -> Result<Changes, Refusal>
+    requires { IsKeptUsed used.now }
+    ensures decided { (cpu : ℕ) (slot : Option ℕ) → result ≡ decides (layout_of layout.now) cpu slot (HostTranslate page) (used_in used.now) }
     ensures small { IfOk result AreSmallChanges }
 {
+    let shared = &used.shared;
     if page >= pages(layout) {
         return Err(Refusal::Invalid);
     }
@@ -309,11 +328,16 @@ fn host_translate(layout: &Layout, shared: &Shared, page: u64) -> Result<Changes
 
 /// The hypervisor's entry of a page.
 #[tactic(auto, unfolding(reference_model::specs::Rules::rule))]
-fn hyp_translate(layout: &Layout, shared: &Shared, page: u64) -> Result<Changes, Refusal>
-    requires { IsKeptShared shared.now }
-    ensures decided { (cpu : ℕ) (k : Cpu) → result ≡ decides (layout_of layout.now) cpu None (HypTranslate page) (used_alone (shared_in_lists shared.now) k) }
+pub(crate) fn hyp_translate(
+    layout: &Layout,
+    used: &GhostUsed,
+    page: u64,
+) -> Result<Changes, Refusal>
+    requires { IsKeptUsed used.now }
+    ensures decided { (cpu : ℕ) (slot : Option ℕ) → result ≡ decides (layout_of layout.now) cpu slot (HypTranslate page) (used_in used.now) }
     ensures small { IfOk result AreSmallChanges }
 {
+    let shared = &used.shared;
     if page >= pages(layout) {
         return Err(Refusal::Invalid);
     }
@@ -325,10 +349,11 @@ fn hyp_translate(layout: &Layout, shared: &Shared, page: u64) -> Result<Changes,
 
 /// The row of a frame.
 #[tactic(auto, unfolding(reference_model::specs::Rules::rule))]
-fn owner_of(layout: &Layout, shared: &Shared, pfn: u64) -> Result<Changes, Refusal>
-    ensures decided { (cpu : ℕ) (k : Cpu) → result ≡ decides (layout_of layout.now) cpu None (OwnerOf pfn) (used_alone (shared_in_lists shared.now) k) }
+pub(crate) fn owner_of(layout: &Layout, used: &GhostUsed, pfn: u64) -> Result<Changes, Refusal>
+    ensures decided { (cpu : ℕ) (slot : Option ℕ) → result ≡ decides (layout_of layout.now) cpu slot (OwnerOf pfn) (used_in used.now) }
     ensures small { IfOk result AreSmallChanges }
 {
+    let shared = &used.shared;
     if !layout.map.is_memory(Page(pfn)) {
         return Err(Refusal::Invalid);
     }
@@ -340,17 +365,13 @@ fn owner_of(layout: &Layout, shared: &Shared, pfn: u64) -> Result<Changes, Refus
 
 /// The host gives a range into the CPU's hand.
 #[tactic(auto, unfolding(reference_model::specs::Rules::rule))]
-fn fund(
-    layout: &Layout,
-    shared: &Shared,
-    own: &GhostCpu,
-    pfn: u64,
-    n: u64,
-) -> Result<Changes, Refusal>
-    requires { IsKeptShared shared.now }
-    ensures decided { (cpu : ℕ) → result ≡ decides (layout_of layout.now) cpu None (Fund pfn n) (used_alone (shared_in_lists shared.now) (cpu_in own.now)) }
+pub(crate) fn fund(layout: &Layout, used: &GhostUsed, pfn: u64, n: u64) -> Result<Changes, Refusal>
+    requires { IsKeptUsed used.now }
+    ensures decided { (cpu : ℕ) (slot : Option ℕ) → result ≡ decides (layout_of layout.now) cpu slot (Fund pfn n) (used_in used.now) }
     ensures small { IfOk result AreSmallChanges }
 {
+    let shared = &used.shared;
+    let own = &used.own;
     if !layout.is_good_range(Page(pfn), n) {
         return Err(Refusal::Invalid);
     }
@@ -377,11 +398,12 @@ fn fund(
 
 /// The CPU's hand goes back to the host.
 #[tactic(auto, unfolding(reference_model::specs::Rules::rule))]
-fn unfund(layout: &Layout, shared: &Shared, own: &GhostCpu) -> Result<Changes, Refusal>
-    requires { IsSmallRange own.now.hand }
-    ensures decided { (cpu : ℕ) → result ≡ decides (layout_of layout.now) cpu None Unfund (used_alone (shared_in_lists shared.now) (cpu_in own.now)) }
+pub(crate) fn unfund(layout: &Layout, used: &GhostUsed) -> Result<Changes, Refusal>
+    requires { IsKeptUsed used.now }
+    ensures decided { (cpu : ℕ) (slot : Option ℕ) → result ≡ decides (layout_of layout.now) cpu slot Unfund (used_in used.now) }
     ensures small { IfOk result AreSmallChanges }
 {
+    let own = &used.own;
     let Some(hand) = own.hand else {
         return Err(Refusal::Perm);
     };
@@ -394,32 +416,4 @@ fn unfund(layout: &Layout, shared: &Shared, own: &GhostCpu) -> Result<Changes, R
         },
         ..Changes::NONE
     })
-}
-
-/// What a call on the Shared part decides.
-pub(crate) fn decide(
-    layout: &Layout,
-    shared: &Shared,
-    own: &GhostCpu,
-    step: Step,
-) -> Result<Changes, Refusal>
-    requires step { IsOnShared step }
-    requires kept { IsKeptShared shared.now }
-    requires hand { IsSmallRange own.now.hand }
-    ensures decided { (cpu : ℕ) → result ≡ decides (layout_of layout.now) cpu None step (used_alone (shared_in_lists shared.now) (cpu_in own.now)) }
-    ensures small { IfOk result AreSmallChanges }
-{
-    match step {
-        Step::ShareHyp { pfn } => share_hyp(layout, shared, pfn),
-        Step::UnshareHyp { pfn } => unshare_hyp(layout, shared, pfn),
-        Step::DonateHyp { pfn, n } => donate_hyp(layout, shared, pfn, n),
-        Step::HypDonateHost { pfn, n } => hyp_donate_host(layout, shared, pfn, n),
-        Step::HostAbort { page } => host_abort(layout, shared, page),
-        Step::HostTranslate { page } => host_translate(layout, shared, page),
-        Step::HypTranslate { page } => hyp_translate(layout, shared, page),
-        Step::OwnerOf { pfn } => owner_of(layout, shared, pfn),
-        Step::Fund { pfn, n } => fund(layout, shared, own, pfn, n),
-        Step::Unfund => unfund(layout, shared, own),
-        _ => unreachable!(),
-    }
 }

@@ -30,8 +30,22 @@ ghost use Rattle.ghost_spec.specs.Trees.{tree_in_lists};
 ghost use Rattle.ghost_spec.specs.Views.{shared_in_lists};
 
 impl Shared {
+    ghost use Rattle.reference_model.specs.State.{no_shared};
     ghost use Rattle.ghost_spec.specs.Kept.{IsKeptShared};
     ghost use Rattle.ghost_spec.specs.Views.{shared_in_lists};
+
+    /// A part that holds no frame.
+    pub(crate) fn none(alloc: Global) -> Shared
+        ensures none { shared_in_lists result ≡ no_shared }
+        ensures kept { IsKeptShared result }
+    {
+        Shared {
+            host: Tree::none(alloc),
+            hyp: Tree::none(alloc),
+            free: Vec::new(alloc),
+            rows: RunList::new(alloc),
+        }
+    }
 
     /// The same part once more.
     pub(crate) fn copied(&self, alloc: Global) -> Result<Shared, AllocError>
@@ -49,7 +63,7 @@ impl Shared {
 }
 
 /// How many tables a change needs on a tree.
-fn needed(
+pub(crate) fn needed(
     alloc: Global,
     depth: u64,
     tree: &Tree,
@@ -67,7 +81,7 @@ fn needed(
 }
 
 /// The frames that come back from a tree by a change.
-fn returned(
+pub(crate) fn returned(
     alloc: Global,
     depth: u64,
     tree: &Tree,
@@ -85,7 +99,7 @@ fn returned(
 }
 
 /// The tree after a change, whose new tables get the frames, in order.
-fn edited(
+pub(crate) fn edited(
     alloc: Global,
     depth: u64,
     tree: &Tree,

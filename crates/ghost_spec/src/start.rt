@@ -3,8 +3,7 @@ ghost use Rattle.std.specs.Prelude.{◌≡◌, ◌<◌, ◌↔◌, All, IfOk, If
 ghost use Rattle.page_state.specs.LayoutView.{layout_of};
 ghost use Rattle.reference_model.specs.Boot.{boot as boot_of, IsCarveEnough};
 ghost use Rattle.reference_model.specs.State.{no_cpu};
-ghost use Rattle.ghost_spec.specs.Kept.{IsSmallRange};
-ghost use Rattle.ghost_spec.specs.States.{ghost_state, IsKept};
+ghost use Rattle.ghost_spec.specs.States.{ghost_state, AreKeptCpus, IsKept};
 ghost use Rattle.ghost_spec.specs.Views.{cpu_in};
 
 use crate::answer::depth;
@@ -20,7 +19,7 @@ use std::alloc::{AllocError, Global};
 fn idle_cpus(alloc: Global, count: u64) -> Result<Vec<GhostCpu>, AllocError>
     ensures count { IfOk result (λ v. length v.items ≡ count) }
     ensures idle { IfOk result (λ v. All (λ k. cpu_in k ≡ no_cpu) v.items) }
-    ensures hands { IfOk result (λ v. All (λ k. IsSmallRange k.hand) v.items) }
+    ensures kept { IfOk result (λ v. AreKeptCpus v.items) }
 {
     let mut cpus = Vec::new(alloc);
     for _ in 0..count {
@@ -53,7 +52,7 @@ pub fn start(alloc: Global, layout: Layout) -> Result<Option<Ghost>, AllocError>
     let Some(mut shared) = boot::boot(alloc, &layout.map, layout.config, depth(&layout))? else {
         return Ok(None);
     };
-    find_all(&layout, &mut shared)?;
+    find_all(alloc, &layout, &mut shared)?;
     let vms = empty_slots(alloc, 64)?;
     let guests = empty_guests(alloc, 64)?;
     let cpus = idle_cpus(alloc, layout.config.cpus)?;

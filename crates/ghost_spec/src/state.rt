@@ -1,5 +1,5 @@
 //! The reference state on lists, and the reference step of it.
-ghost use Rattle.std.specs.Prelude.{◌≡◌, ◌<◌, IfOk, OnOk, map};
+ghost use Rattle.std.specs.Prelude.{◌≡◌, ℕ, ◌-◌, ◌<◌, ◌&&◌, ◌||◌, ◌==◌, IfOk, OnOk, if◌then◌else◌, is_some, length};
 ghost use Rattle.page_state.specs.LayoutView.{layout_of};
 ghost use Rattle.reference_model.specs.Step.{foretell};
 
@@ -7,6 +7,10 @@ use crate::answer::answer;
 use crate::cpu::GhostCpu;
 use crate::parts::{GhostGuest, GhostSlot, copied_guests, copied_slots};
 use crate::shared::Shared;
+use crate::used::{
+    GhostUsed, put_guest, put_shared, put_vms, store_in, used_guest, used_shared, used_vms,
+};
+use crate::uses::{guest_slot, uses_shared, uses_vms};
 use page_state::{Layout, Refusal, Reply, Step};
 use std::alloc::{AllocError, Global};
 
@@ -33,8 +37,47 @@ pub struct Ghost {
     pub rooms: GhostRooms,
 }
 
+ghost use Rattle.reference_model.specs.Used.{room_at};
+ghost use Rattle.ghost_spec.specs.Kept.{IsLowSlot};
 ghost use Rattle.ghost_spec.specs.States.{ghost_state, rooms_in, IsKept};
-ghost use Rattle.ghost_spec.specs.Views.{IsOnShared};
+ghost use Rattle.ghost_spec.specs.Used.{rooms_of};
+
+/// What a room is once a call is stored, where it is.
+fn left_of(room: u64, is_stored: bool) -> u64
+    ensures { result ≡ (if is_stored then room - 1 else room) }
+{
+    if is_stored {
+        room.saturating_sub(1)
+    } else {
+        room
+    }
+}
+
+/// Whether the log of a part, where the part is used, is full.
+fn is_used_full(is_used: bool, room: u64) -> bool
+    ensures { result ≡ (is_used && room == 0) }
+{
+    is_used && room == 0
+}
+
+/// Whether any of these is so.
+fn is_any(a: bool, b: bool, c: bool, d: bool) -> bool
+    ensures { result ≡ (a || b || c || d) }
+{
+    a || b || c || d
+}
+
+/// Whether the log of a guest, where there is one, is full.
+fn is_guest_full(rooms: &[u64], slot: Option<u64>) -> bool
+    requires count { length rooms.now ≡ 64 }
+    requires slot { IsLowSlot slot }
+    ensures { (log : ℕ) → result ≡ (is_some slot && room_at (rooms_of log rooms.now) slot == 0) }
+{
+    match slot {
+        Some(v) => rooms[v as usize] == 0,
+        None => false,
+    }
+}
 
 /// The same layout once more.
 fn copied_layout(layout: &Layout) -> Result<Layout, AllocError>
@@ -68,10 +111,13 @@ impl GhostRooms {
 
 impl Ghost {
     ghost use Rattle.page_state.specs.LayoutView.{layout_of};
-    ghost use Rattle.reference_model.specs.Step.{foretell};
-    ghost use Rattle.std.specs.Prelude.{◌==◌, ◌||◌, ◌-◌, get_or, length, slice_set};
-    ghost use Rattle.ghost_spec.specs.States.{ghost_state, IsKept};
-    ghost use Rattle.ghost_spec.specs.Views.{IsOnShared};
+    ghost use Rattle.reference_model.specs.Parts.{names, uses_vms as uses_vms_of};
+    ghost use Rattle.reference_model.specs.Step.{foretell, is_full as is_full_of, stored};
+    ghost use Rattle.reference_model.specs.Used.{put_back as put_back_of, put_rooms, rooms_of as rooms_of_state, used_of};
+    ghost use Rattle.std.specs.Prelude.{length, true};
+    ghost use Rattle.ghost_spec.specs.Kept.{IsLowSlot};
+    ghost use Rattle.ghost_spec.specs.States.{contents_in, ghost_state, IsKept};
+    ghost use Rattle.ghost_spec.specs.Used.{IsKeptUsed, used_in};
 
     /// The same state once more.
     pub fn copied(&self, alloc: Global) -> Result<Ghost, AllocError>
@@ -90,28 +136,90 @@ impl Ghost {
         })
     }
 
-    /// Whether a log that would store a call on the Shared part is full.
-    fn is_full(&self, cpu: usize) -> bool
-        requires { cpu < length self.now.rooms.cpus.items }
-        ensures { result ≡ (get_or self.now.rooms.cpus.items cpu self.now.layout.config.log == 0 || self.now.rooms.shared == 0) }
+    /// Whether a log that would store a call is full.
+    fn is_full(&self, cpu: usize, step: Step, slot: Option<u64>) -> bool
+        requires cpu { cpu < length self.now.rooms.cpus.items }
+        requires guests { length self.now.rooms.guests.items ≡ 64 }
+        requires slot { IsLowSlot slot }
+        ensures { result ≡ is_full_of (names step) slot (rooms_of_state (names step) slot cpu (ghost_state self.now).rooms) }
     {
-        self.rooms.cpus[cpu] == 0 || self.rooms.shared == 0
+        let is_vms_full = is_used_full(uses_vms(step), self.rooms.vms);
+        let is_shared_full = is_used_full(uses_shared(step, slot), self.rooms.shared);
+        let is_guest_full = is_guest_full(self.rooms.guests.as_slice(), slot);
+        is_any(
+            self.rooms.cpus[cpu] == 0,
+            is_vms_full,
+            is_shared_full,
+            is_guest_full,
+        )
     }
 
-    /// Stores a call on the Shared part.
-    fn store(&mut self, cpu: usize)
-        requires { cpu < length self.old.rooms.cpus.items }
-        ensures rest { self.new ≡ record self.old { rooms = record self.old.rooms { shared = self.old.rooms.shared - 1; cpus = self.new.rooms.cpus } } }
-        ensures cpus { self.new.rooms.cpus.items ≡ slice_set self.old.rooms.cpus.items cpu (get_or self.old.rooms.cpus.items cpu self.old.layout.config.log - 1) }
+    /// What a call uses.
+    fn used(
+        &self,
+        alloc: Global,
+        cpu: usize,
+        step: Step,
+        slot: Option<u64>,
+    ) -> Result<GhostUsed, AllocError>
+        requires cpu { cpu < length self.now.cpus.items }
+        requires kept { IsKept self.now }
+        requires slot { IsLowSlot slot }
+        ensures used { IfOk result (λ u. used_in u ≡ used_of (names step) slot cpu (contents_in self.now)) }
+        ensures kept { IfOk result IsKeptUsed }
+        ensures count { uses_vms_of (names step) ≡ true → IfOk result (λ u. length u.vms.items ≡ 64) }
     {
-        self.rooms.shared = self.rooms.shared.saturating_sub(1);
-        self.rooms.cpus[cpu] = self.rooms.cpus[cpu].saturating_sub(1);
+        Ok(GhostUsed {
+            vms: used_vms(alloc, self.vms.as_slice(), step)?,
+            shared: used_shared(alloc, &self.shared, step, slot)?,
+            guest: used_guest(alloc, self.guests.as_slice(), slot)?,
+            own: self.cpus[cpu],
+        })
     }
 
-    /// The reference step, but for want of memory, of a call on the Shared part: the reply, and the state becomes that after
-    /// it. Where memory is refused, anything may have changed.
+    /// What a call used becomes this.
+    fn put_back(&mut self, cpu: usize, step: Step, slot: Option<u64>, used: GhostUsed)
+        requires cpu { cpu < length self.old.cpus.items }
+        requires kept { IsKept self.old }
+        requires used { IsKeptUsed used }
+        requires slot { IsLowSlot slot }
+        requires count { uses_vms_of (names step) ≡ true → length used.vms.items ≡ 64 }
+        ensures contents { contents_in self.new ≡ put_back_of (names step) slot cpu (contents_in self.old) (used_in used) }
+        ensures layout { self.new.layout ≡ self.old.layout }
+        ensures rooms { self.new.rooms ≡ self.old.rooms }
+        ensures kept { IsKept self.new }
+    {
+        let GhostUsed {
+            vms,
+            shared,
+            guest,
+            own,
+        } = used;
+        put_vms(&mut self.vms, vms, step);
+        put_shared(&mut self.shared, shared, step, slot);
+        put_guest(&mut self.guests, guest, slot);
+        self.cpus[cpu] = own;
+    }
+
+    /// Stores a call.
+    fn store(&mut self, cpu: usize, step: Step, slot: Option<u64>)
+        requires cpu { cpu < length self.old.rooms.cpus.items }
+        requires kept { IsKept self.old }
+        requires slot { IsLowSlot slot }
+        ensures contents { contents_in self.new ≡ contents_in self.old }
+        ensures rooms { (ghost_state self.new).rooms ≡ put_rooms (names step) slot cpu (ghost_state self.old).rooms (stored (rooms_of_state (names step) slot cpu (ghost_state self.old).rooms)) }
+        ensures layout { self.new.layout ≡ self.old.layout }
+        ensures kept { IsKept self.new }
+    {
+        self.rooms.vms = left_of(self.rooms.vms, uses_vms(step));
+        self.rooms.shared = left_of(self.rooms.shared, uses_shared(step, slot));
+        store_in(&mut self.rooms.guests, slot);
+        self.rooms.cpus[cpu] = left_of(self.rooms.cpus[cpu], true);
+    }
+
+    /// The reference step, but for want of memory: the reply, and the state becomes that after it. Where memory is refused,
+    /// or the generation of a released slot would pass 64 bits, anything may have changed.
     pub fn advance(&mut self, alloc: Global, cpu: u64, step: Step) -> Result<Reply, AllocError>
-        requires step { IsOnShared step }
         requires cpu { cpu < self.old.layout.config.cpus }
         requires kept { IsKept self.old }
         ensures foretold { IfOk result (λ reply. (reply, ghost_state self.new) ≡ foretell (layout_of self.old.layout) (ghost_state self.old) cpu step) }
@@ -119,25 +227,26 @@ impl Ghost {
         ensures kept { OnOk result (IsKept self.new) }
     {
         let place = cpu as usize;
-        if self.is_full(place) {
+        let slot = guest_slot(&self.cpus[place], step);
+        if self.is_full(place, step, slot) {
             return Ok(Reply::Refused(Refusal::LogFull));
         }
-        let mut own = self.cpus[place];
-        let reply = answer(alloc, &self.layout, cpu, &mut self.shared, &mut own, step)?;
-        self.cpus[place] = own;
-        self.store(place);
+        let mut used = self.used(alloc, place, step, slot)?;
+        let reply = answer(alloc, &self.layout, cpu, slot, &mut used, step)?;
+        self.put_back(place, step, slot, used);
+        self.store(place, step, slot);
         Ok(reply)
     }
 }
 
-/// The reference step, but for want of memory, of a call on the Shared part: the reply, and the state after it.
+/// The reference step, but for want of memory: the reply, and the state after it. Err where memory is refused, or the
+/// generation of a released slot would pass 64 bits.
 pub fn predict(
     alloc: Global,
     state: &Ghost,
     cpu: u64,
     step: Step,
 ) -> Result<(Reply, Ghost), AllocError>
-    requires step { IsOnShared step }
     requires cpu { cpu < state.now.layout.config.cpus }
     requires kept { IsKept state.now }
     ensures foretold { IfOk result (λ r. (r.0, ghost_state r.1) ≡ foretell (layout_of state.now.layout) (ghost_state state.now) cpu step) }

@@ -1,4 +1,4 @@
-ghost use Rattle.std.specs.Prelude.{◌<◌, ◌^◌, IfOk};
+ghost use Rattle.std.specs.Prelude.{◌≡◌, ◌<◌, ◌^◌, IfOk, OnOk};
 ghost use Rattle.ghost_spec.specs.Small.{AreSmall};
 ghost use Rattle.ghost_spec.specs.States.{IsKept};
 
@@ -8,8 +8,8 @@ use crate::state::{Ghost, predict};
 use crate::tree::{self, Table, Tree};
 use crate::{blocks, runs};
 use page_state::{
-    Config, Entry, Frame, Geometry, Kind, Layout, MemoryMap, Owner, Page, PageRange, Prot, Refusal,
-    Region, RegionKind, Reply, Run, State, Step, Target,
+    Config, Entry, Frame, Geometry, Kind, Layout, Lent, MemoryMap, Owner, Page, PageRange, Prot,
+    Refusal, Region, RegionKind, Reply, Row, Run, State, Step, Target, Usage, Value, VmId, VmKind,
 };
 use std::alloc::{AllocError, Global};
 use std::process::Abort;
@@ -231,4 +231,202 @@ fn boots_with_a_frame_for_each_table(rt: HostRuntime) -> Result<(), Fail> {
     let shared = boot(alloc, &enough, CONFIG, 2)?.expect(&rt, "enough frames");
     assert_eq!(rt; shared.free.len(), 0);
     Ok(())
+}
+
+/// Makes a step of CPU 0, and compares its reply.
+fn expect_reply(
+    rt: &impl Abort,
+    alloc: Global,
+    state: &mut Ghost,
+    step: Step,
+    reply: Reply,
+) -> Result<(), Fail>
+    requires kept { IsKept state.old }
+    requires cpus { 0 < state.old.layout.config.cpus }
+    ensures kept { OnOk result (IsKept state.new) }
+    ensures layout { state.new.layout ≡ state.old.layout }
+{
+    let said = state.advance(alloc, 0, step)?;
+    assert_eq!(rt; said, reply);
+    Ok(())
+}
+
+/// Makes a step of CPU 0 that gives no value.
+fn expect_done(rt: &impl Abort, alloc: Global, state: &mut Ghost, step: Step) -> Result<(), Fail>
+    requires kept { IsKept state.old }
+    requires cpus { 0 < state.old.layout.config.cpus }
+    ensures kept { OnOk result (IsKept state.new) }
+    ensures layout { state.new.layout ≡ state.old.layout }
+{
+    expect_reply(rt, alloc, state, step, Reply::Done(Value::Nothing))
+}
+
+/// Compares the row of a frame.
+fn expect_row(
+    rt: &impl Abort,
+    alloc: Global,
+    state: &mut Ghost,
+    pfn: u64,
+    owner: u64,
+    lent: Option<Lent>,
+    usage: Usage,
+) -> Result<(), Fail>
+    requires kept { IsKept state.old }
+    requires cpus { 0 < state.old.layout.config.cpus }
+    ensures kept { OnOk result (IsKept state.new) }
+    ensures layout { state.new.layout ≡ state.old.layout }
+{
+    let row = Row {
+        owner: Owner(owner),
+        lent,
+        usage,
+    };
+    expect_reply(
+        rt,
+        alloc,
+        state,
+        Step::OwnerOf { pfn },
+        Reply::Done(Value::Row(row)),
+    )
+}
+
+/// Gives a frame of the first VM's pool back.
+fn expect_frame(rt: &impl Abort, alloc: Global, state: &mut Ghost, frame: u64) -> Result<(), Fail>
+    requires kept { IsKept state.old }
+    requires cpus { 0 < state.old.layout.config.cpus }
+    ensures kept { OnOk result (IsKept state.new) }
+    ensures layout { state.new.layout ≡ state.old.layout }
+{
+    expect_reply(
+        rt,
+        alloc,
+        state,
+        Step::ReclaimPool { vm: VM },
+        Reply::Done(Value::Frame(Frame(frame))),
+    )
+}
+
+/// The first VM.
+const VM: VmId = VmId {
+    slot: 0,
+    generation: 1,
+};
+
+/// The boot state with the first VM of a kind, which has 4 frames, open, and its vCPU 0 loaded by CPU 0.
+fn opened(rt: &impl Abort, alloc: Global, kind: VmKind) -> Result<Ghost, Fail>
+    ensures kept { IfOk result IsKept }
+    ensures cpus { IfOk result (λ g. 0 < g.layout.config.cpus) }
+{
+    let mut state = booted(rt, alloc, 0x40, 100)?;
+    let made = Reply::Done(Value::Vm(VM));
+    expect_reply(
+        rt,
+        alloc,
+        &mut state,
+        Step::VmReserve { kind, vcpus: 1 },
+        made,
+    )?;
+    let perm = Reply::Refused(Refusal::Perm);
+    expect_reply(rt, alloc, &mut state, Step::Install, perm)?;
+    expect_done(rt, alloc, &mut state, Step::Fund { pfn: 0x40100, n: 4 })?;
+    expect_row(rt, alloc, &mut state, 0x40101, 1, None, Usage::InHand(0))?;
+    expect_done(rt, alloc, &mut state, Step::Install)?;
+    expect_row(rt, alloc, &mut state, 0x40101, 1, None, Usage::VmPool(0))?;
+    expect_reply(rt, alloc, &mut state, Step::VmOpen, made)?;
+    expect_done(rt, alloc, &mut state, Step::VcpuLoad { vm: VM, vcpu: 0 })?;
+    Ok(state)
+}
+
+#[test]
+fn ends_a_protected_vm(rt: HostRuntime) -> Result<(), Fail> {
+    let alloc = rt.alloc();
+    let mut state = opened(&rt, alloc, VmKind::Protected)?;
+    let pfn = 0x40200;
+    let gfn = 0x10;
+    expect_done(&rt, alloc, &mut state, Step::DonateGuest { pfn, gfn })?;
+    expect_row(&rt, alloc, &mut state, pfn, 2, None, Usage::Plain)?;
+    expect_done(&rt, alloc, &mut state, Step::GuestShareHost { gfn })?;
+    let lent = Lent {
+        owner: Owner(0),
+        page: pfn,
+    };
+    expect_row(&rt, alloc, &mut state, pfn, 2, Some(lent), Usage::Plain)?;
+    let entry = Entry::Leaf {
+        frame: Frame(pfn),
+        prot: Prot::RWX,
+        kind: Kind::Normal,
+        state: State::SharedOwned,
+    };
+    expect_reply(
+        &rt,
+        alloc,
+        &mut state,
+        Step::GuestTranslate { vm: VM, gfn },
+        Reply::Done(Value::Entry(entry)),
+    )?;
+    expect_done(&rt, alloc, &mut state, Step::GuestUnshareHost { gfn })?;
+    let busy = Reply::Refused(Refusal::Busy);
+    expect_reply(&rt, alloc, &mut state, Step::Teardown { vm: VM }, busy)?;
+    expect_done(&rt, alloc, &mut state, Step::VcpuPut)?;
+    expect_done(&rt, alloc, &mut state, Step::Teardown { vm: VM })?;
+    expect_done(&rt, alloc, &mut state, Step::MarkDying)?;
+    expect_done(&rt, alloc, &mut state, Step::ReclaimPage { vm: VM, gfn })?;
+    let perm = Reply::Refused(Refusal::Perm);
+    expect_reply(&rt, alloc, &mut state, Step::FinishGuest, perm)?;
+    expect_frame(&rt, alloc, &mut state, 0x40101)?;
+    expect_frame(&rt, alloc, &mut state, 0x40102)?;
+    expect_frame(&rt, alloc, &mut state, 0x40103)?;
+    expect_reply(&rt, alloc, &mut state, Step::ReclaimPool { vm: VM }, perm)?;
+    expect_done(&rt, alloc, &mut state, Step::FinishGuest)?;
+    expect_row(&rt, alloc, &mut state, 0x40100, 0, None, Usage::Plain)?;
+    expect_done(&rt, alloc, &mut state, Step::VmRelease)?;
+    let next = VmId {
+        slot: 0,
+        generation: 2,
+    };
+    let again = Step::VmReserve {
+        kind: VmKind::Plain,
+        vcpus: 8,
+    };
+    expect_reply(&rt, alloc, &mut state, again, Reply::Done(Value::Vm(next)))
+}
+
+#[test]
+fn shares_with_a_plain_vm(rt: HostRuntime) -> Result<(), Fail> {
+    let alloc = rt.alloc();
+    let mut state = opened(&rt, alloc, VmKind::Plain)?;
+    let pfn = 0x40200;
+    let gfn = 0x7ff_ffff;
+    let prot = Prot::R;
+    expect_done(&rt, alloc, &mut state, Step::ShareGuest { pfn, gfn, prot })?;
+    let lent = Lent {
+        owner: Owner(2),
+        page: gfn,
+    };
+    expect_row(&rt, alloc, &mut state, pfn, 0, Some(lent), Usage::Plain)?;
+    let more = Step::GuestRelax {
+        gfn,
+        prot: Prot::RX,
+    };
+    expect_done(&rt, alloc, &mut state, more)?;
+    let entry = Entry::Leaf {
+        frame: Frame(pfn),
+        prot: Prot::RX,
+        kind: Kind::Normal,
+        state: State::SharedBorrowed,
+    };
+    expect_reply(
+        &rt,
+        alloc,
+        &mut state,
+        Step::GuestTranslate { vm: VM, gfn },
+        Reply::Done(Value::Entry(entry)),
+    )?;
+    expect_done(&rt, alloc, &mut state, Step::UnshareGuest { vm: VM, gfn })?;
+    expect_row(&rt, alloc, &mut state, pfn, 0, None, Usage::Plain)?;
+    expect_done(&rt, alloc, &mut state, Step::Fund { pfn, n: 2 })?;
+    expect_done(&rt, alloc, &mut state, Step::Topup { vm: VM })?;
+    expect_row(&rt, alloc, &mut state, pfn, 1, None, Usage::VmPool(0))?;
+    let no_vm = Reply::Refused(Refusal::NoVm);
+    expect_reply(&rt, alloc, &mut state, Step::MarkDying, no_vm)
 }

@@ -1,7 +1,6 @@
 ghost use Rattle.std.specs.Prelude.{◌≡◌, ◌<◌, ◌^◌, IfOk};
 ghost use Rattle.ghost_spec.specs.Kept.{IsKeptTree};
 ghost use Rattle.ghost_spec.specs.States.{IsKept};
-ghost use Rattle.ghost_spec.specs.Views.{IsOnShared};
 
 use super::*;
 use arrayvec::ArrayVec;
@@ -164,7 +163,6 @@ fn step_on_both(
     lists: &mut Ghost,
     step: Step,
 ) -> Result<Reply, Fail>
-    requires shared { IsOnShared step }
     requires cpu { 0 < world.old.parts.layout.config.cpus }
     requires list_cpu { 0 < lists.old.layout.config.cpus }
     requires kept { IsKept lists.old }

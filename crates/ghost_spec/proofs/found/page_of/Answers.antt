@@ -1,4 +1,4 @@
-use Rattle.std.proofs.Common.{◌≡◌, Some, None, sym, ◌∙◌, arith}
+use Rattle.std.proofs.Common.{◌≡◌, Some, None, sym, ◌∙◌}
 use Rattle.page_state.specs.LayoutView.{layout_of}
 use Rattle.ghost_spec.specs.Found.{first_page_in}
 use Rattle.ghost_spec.proofs.FoundPages.{page-is, page-past, page-none}

@@ -1,4 +1,4 @@
-use Rattle.std.proofs.Common.{◌≡◌, ◌<◌, ◌∙◌, true, length, ap, arith}
+use Rattle.std.proofs.Common.{length, ap, arith}
 use Rattle.page_state.specs.Layouts.{is_memory}
 use Rattle.page_state.specs.LayoutView.{layout_of}
 use Rattle.page_state.proofs.Cases.{by_test}

@@ -1,4 +1,4 @@
-use Rattle.std.proofs.Common.{◌≡◌, ◌<◌, ◌^◌, Some, sym, ◌∙◌, arith}
+use Rattle.std.proofs.Common.{◌≡◌, Some, sym, ◌∙◌, arith}
 use Rattle.page_state.specs.Regions.{region_of}
 use Rattle.page_state.proofs.Regions.{region_low, region_holds}
 use Rattle.ghost_spec.proofs.rules.host_abort.Goals as goal

@@ -1,6 +1,6 @@
-use Rattle.std.proofs.Common.{◌≡◌, ◌+◌, ◌++◌, drop, ◌∙◌, sym, refl}
+use Rattle.std.proofs.Common.{◌≡◌, ◌+◌, drop, ◌∙◌, sym, refl}
 use Rattle.std.proofs.lemmas.List.{drop-drop}
-use Rattle.page_state.specs.Tables.{edited, need, returned, all_given}
+use Rattle.page_state.specs.Tables.{edited, need, returned}
 use Rattle.reference_model.specs.Changes.{edit_of}
 use Rattle.ghost_spec.specs.Trees.{tree_in_lists}
 use Rattle.ghost_spec.proofs.Changed.{all_changed}

@@ -1,6 +1,4 @@
-use Rattle.std.proofs.Common.{◌≡◌, ap, ◌∙◌}
-use Rattle.page_state.specs.Rows.{advance_row}
-use Rattle.run_list.specs.Runs.{run_map}
+use Rattle.std.proofs.Common.{◌∙◌}
 use Rattle.ghost_spec.proofs.Copied.{same_shared}
 use Rattle.ghost_spec.proofs.shared.Shared.copied.Goals as goal
 

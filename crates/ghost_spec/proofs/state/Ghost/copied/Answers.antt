@@ -1,4 +1,4 @@
-use Rattle.std.proofs.Common.{◌≡◌, ◌∙◌, sym, ap, length, map}
+use Rattle.std.proofs.Common.{◌∙◌, sym, ap, length}
 use Rattle.std.proofs.lemmas.List.{length-map}
 use Rattle.ghost_spec.specs.States.{slot_in, guest_in, rooms_in}
 use Rattle.ghost_spec.proofs.Copied.{same_state}
@@ -18,7 +18,7 @@ returns-clause-kept c =
     record {
       shared = c.in_ok-copied.ensures.kept;
       guests = c.in_ok-copied_guests.ensures.kept;
-      hands = rw cpus c.requires.hands;
+      cpus = rw cpus c.requires.cpus;
       vms_count = sym (length-map _ slot_in) ∙ ap length slots ∙ length-map _ slot_in ∙ c.requires.vms_count;
       guests_count = sym (length-map _ guest_in) ∙ ap length guests ∙ length-map _ guest_in ∙ c.requires.guests_count;
       cpus_count = ap length cpus ∙ c.requires.cpus_count ∙ sym (ap (λ l. l.config.cpus) layout);

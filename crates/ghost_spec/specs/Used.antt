@@ -1,0 +1,47 @@
+-- What a call uses, on lists.
+use Rattle.std.specs.Prelude.{ℕ, Bool, ◌&&◌, ◌==◌, List, get_or, map, if◌then◌else◌}
+use Rattle.descriptor.specs.declared.State.TheVariants.{Owned}
+use Rattle.descriptor.specs.declared.Prot.TheVariants.{RWX}
+use Rattle.page_state.specs.declared.entry.Entry.{Entry}
+use Rattle.page_state.specs.declared.entry.Entry.TheVariants.{Unmapped}
+use Rattle.page_state.specs.EntryTests.{is_in, entry_frame, leaf}
+use Rattle.page_state.specs.Layouts.{hyp_page}
+use Rattle.reference_model.specs.SharedRules.{is_plain}
+use Rattle.reference_model.specs.State.{Vms, Shared, Guest, no_slot, no_guest}
+use Rattle.reference_model.specs.Used.{Used}
+use Rattle.ghost_spec.specs.declared.parts.GhostGuest.{GhostGuest}
+use Rattle.ghost_spec.specs.declared.parts.GhostSlot.{GhostSlot}
+use Rattle.ghost_spec.specs.declared.used.GhostUsed.{GhostUsed}
+use Rattle.ghost_spec.specs.Kept.{IsKeptShared, IsKeptGuest, IsKeptCpu}
+use Rattle.ghost_spec.specs.States.{slot_in, guest_in}
+use Rattle.ghost_spec.specs.Views.{cpu_in, shared_in_lists}
+
+-- the VM part; past the list's end slots are Empty
+abbrev pub vms_in : List GhostSlot → Vms
+vms_in slots = record { slot = λ v. get_or (map slot_in slots) v (no_slot 1) }
+
+-- the guests; past the list's end they are Empty
+abbrev pub guests_in : List GhostGuest → ℕ → Guest
+guests_in guests v = get_or (map guest_in guests) v no_guest
+
+-- rooms; past the list's end they are those of empty logs, which store so many calls
+abbrev pub rooms_of : ℕ → List ℕ → ℕ → ℕ
+rooms_of log rooms v = get_or rooms v log
+
+-- what a call uses
+abbrev pub used_in : GhostUsed → Used
+used_in u = record { vms = vms_in u.vms.items; shared = shared_in_lists u.shared; guest = guest_in u.guest; cpu = cpu_in u.own }
+
+-- the lists of what a call uses are kept
+pub record IsKeptUsed (u : GhostUsed) : Type 0 where
+  pub shared : IsKeptShared u.shared
+  pub guest : IsKeptGuest u.guest
+  pub own : IsKeptCpu u.own
+
+-- the hypervisor owns the frame, and it is in no other use
+abbrev pub may_return_frame : Shared → ℕ → Bool
+may_return_frame s f = (s.row f).owner.0 == 1 && is_plain (s.row f).usage && is_in Owned (s.hyp.map (hyp_page f))
+
+-- what the host gets of a Dying guest's page: the frame again, where it didn't own it itself
+abbrev pub reclaimed : Entry → Entry
+reclaimed e = if is_in Owned e then Unmapped else leaf RWX (entry_frame e) Owned

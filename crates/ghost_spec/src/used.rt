@@ -1,0 +1,126 @@
+//! What a call uses, on lists.
+ghost use Rattle.std.specs.Prelude.{◌≡◌, ℕ, ◌-◌, IfOk, if◌then◌else◌, length, true};
+ghost use Rattle.reference_model.specs.Parts.{names, uses_shared as uses_shared_of, uses_vms as uses_vms_of};
+ghost use Rattle.reference_model.specs.State.{no_shared, no_vms};
+ghost use Rattle.reference_model.specs.Used.{guest_at, put_guest as put_guest_of, put_room, room_at};
+ghost use Rattle.ghost_spec.specs.Kept.{IsKeptGuest, IsKeptShared, IsLowSlot};
+ghost use Rattle.ghost_spec.specs.States.{guest_in, AreKeptGuests};
+ghost use Rattle.ghost_spec.specs.Used.{guests_in, rooms_of, vms_in};
+ghost use Rattle.ghost_spec.specs.Views.{shared_in_lists};
+
+use crate::cpu::GhostCpu;
+use crate::parts::{GhostGuest, GhostSlot, copied_slots};
+use crate::shared::Shared;
+use crate::uses::{uses_shared, uses_vms};
+use page_state::Step;
+use std::alloc::{AllocError, Global};
+
+/// The parts that a call uses, and its CPU's own state. A part that it doesn't use is blank.
+#[derive(Drop)]
+pub(crate) struct GhostUsed {
+    pub(crate) vms: Vec<GhostSlot>,
+    pub(crate) shared: Shared,
+    pub(crate) guest: GhostGuest,
+    pub(crate) own: GhostCpu,
+}
+
+/// The slots that a call uses: all, or none.
+pub(crate) fn used_vms(
+    alloc: Global,
+    vms: &[GhostSlot],
+    step: Step,
+) -> Result<Vec<GhostSlot>, AllocError>
+    ensures vms { IfOk result (λ v. vms_in v.items ≡ (if uses_vms_of (names step) then vms_in vms.now else no_vms)) }
+    ensures count { uses_vms_of (names step) ≡ true → IfOk result (λ v. length v.items ≡ length vms.now) }
+{
+    if uses_vms(step) {
+        Ok(copied_slots(alloc, vms)?)
+    } else {
+        Ok(Vec::new(alloc))
+    }
+}
+
+/// The Shared part that a call uses, or a blank one.
+pub(crate) fn used_shared(
+    alloc: Global,
+    shared: &Shared,
+    step: Step,
+    slot: Option<u64>,
+) -> Result<Shared, AllocError>
+    requires { IsKeptShared shared.now }
+    ensures shared { IfOk result (λ s. shared_in_lists s ≡ (if uses_shared_of (names step) slot then shared_in_lists shared.now else no_shared)) }
+    ensures kept { IfOk result IsKeptShared }
+{
+    if uses_shared(step, slot) {
+        shared.copied(alloc)
+    } else {
+        Ok(Shared::none(alloc))
+    }
+}
+
+/// The guest that a call uses, or a blank one.
+pub(crate) fn used_guest(
+    alloc: Global,
+    guests: &[GhostGuest],
+    slot: Option<u64>,
+) -> Result<GhostGuest, AllocError>
+    requires count { length guests.now ≡ 64 }
+    requires kept { AreKeptGuests guests.now }
+    requires slot { IsLowSlot slot }
+    ensures guest { IfOk result (λ g. guest_in g ≡ guest_at (guests_in guests.now) slot) }
+    ensures kept { IfOk result IsKeptGuest }
+{
+    match slot {
+        Some(v) => guests[v as usize].copied(alloc),
+        None => Ok(GhostGuest::none(alloc)),
+    }
+}
+
+/// The slots after a call that may use them.
+pub(crate) fn put_vms(vms: &mut Vec<GhostSlot>, new: Vec<GhostSlot>, step: Step)
+    ensures vms { vms_in vms.new.items ≡ (if uses_vms_of (names step) then vms_in new.items else vms_in vms.old.items) }
+    ensures count { (uses_vms_of (names step) ≡ true → length new.items ≡ length vms.old.items) → length vms.new.items ≡ length vms.old.items }
+{
+    if uses_vms(step) {
+        *vms = new;
+    }
+}
+
+/// The Shared part after a call that may use it.
+pub(crate) fn put_shared(shared: &mut Shared, new: Shared, step: Step, slot: Option<u64>)
+    requires kept { IsKeptShared shared.old }
+    requires new { IsKeptShared new }
+    ensures shared { shared_in_lists shared.new ≡ (if uses_shared_of (names step) slot then shared_in_lists new else shared_in_lists shared.old) }
+    ensures kept { IsKeptShared shared.new }
+{
+    if uses_shared(step, slot) {
+        *shared = new;
+    }
+}
+
+/// The guests after a call that may use one.
+pub(crate) fn put_guest(guests: &mut Vec<GhostGuest>, new: GhostGuest, slot: Option<u64>)
+    requires count { length guests.old.items ≡ 64 }
+    requires kept { AreKeptGuests guests.old.items }
+    requires new { IsKeptGuest new }
+    requires slot { IsLowSlot slot }
+    ensures guests { guests_in guests.new.items ≡ put_guest_of (guests_in guests.old.items) slot (guest_in new) }
+    ensures count { length guests.new.items ≡ 64 }
+    ensures kept { AreKeptGuests guests.new.items }
+{
+    if let Some(v) = slot {
+        guests[v as usize] = new;
+    }
+}
+
+/// The rooms of logs of which one may store a call.
+pub(crate) fn store_in(rooms: &mut Vec<u64>, slot: Option<u64>)
+    requires count { length rooms.old.items ≡ 64 }
+    requires slot { IsLowSlot slot }
+    ensures rooms { (log : ℕ) → rooms_of log rooms.new.items ≡ put_room (rooms_of log rooms.old.items) slot (room_at (rooms_of log rooms.old.items) slot - 1) }
+    ensures count { length rooms.new.items ≡ 64 }
+{
+    if let Some(v) = slot {
+        rooms[v as usize] = rooms[v as usize].saturating_sub(1);
+    }
+}

@@ -1,0 +1,111 @@
+//! What a change does to the slots of the VM part.
+ghost use Rattle.std.specs.Prelude.{◌≡◌, ℕ, ◌+◌, ◌<◌, None, IfOk, OnOk, length, get_or};
+ghost use Rattle.reference_model.specs.Changes.{vms_by};
+ghost use Rattle.reference_model.specs.State.{closing, no_slot, opened, put_at, reserved};
+ghost use Rattle.ghost_spec.specs.Kept.{FitsSlots};
+ghost use Rattle.ghost_spec.specs.States.{slot_in};
+ghost use Rattle.ghost_spec.specs.Used.{vms_in};
+
+use crate::parts::{GhostSlot, GhostStand};
+use page_state::VmKind;
+use reference_model::SlotChange;
+use std::alloc::{AllocError, Global};
+
+/// A slot becomes Reserved for a VM of the kind with so many vCPUs.
+fn reserve(slot: &mut GhostSlot, kind: VmKind, vcpus: u64)
+    ensures { slot_in slot.new ≡ record (slot_in slot.old) { stand = reserved; kind = kind; vcpus = vcpus } }
+{
+    slot.stand = GhostStand::Reserved;
+    slot.kind = kind;
+    slot.vcpus = vcpus;
+}
+
+/// A slot becomes Open.
+fn open(slot: &mut GhostSlot)
+    ensures { slot_in slot.new ≡ record (slot_in slot.old) { stand = opened } }
+{
+    slot.stand = GhostStand::Opened;
+}
+
+/// A slot becomes Closing.
+fn close(slot: &mut GhostSlot)
+    ensures { slot_in slot.new ≡ record (slot_in slot.old) { stand = closing } }
+{
+    slot.stand = GhostStand::Closing;
+}
+
+/// An Empty slot of the generation after this one. None where that passes 64 bits.
+fn released(alloc: Global, generation: u64) -> Result<GhostSlot, AllocError>
+    ensures { IfOk result (λ s. slot_in s ≡ no_slot (generation + 1)) }
+{
+    let Some(next) = generation.checked_add(1) else {
+        return Err(AllocError);
+    };
+    Ok(GhostSlot {
+        stand: GhostStand::Vacant,
+        generation: next,
+        kind: VmKind::Plain,
+        vcpus: 0,
+        loaded: Vec::new(alloc),
+    })
+}
+
+/// The list goes as far as the vCPU.
+fn reach(loaded: &mut Vec<Option<u64>>, vcpu: usize) -> Result<(), AllocError>
+    ensures same { OnOk result ((i : ℕ) → get_or loaded.new.items i None ≡ get_or loaded.old.items i None) }
+    ensures long { OnOk result (vcpu < length loaded.new.items) }
+{
+    while loaded.len() <= vcpu {
+        loaded.push(None)?;
+    }
+    Ok(())
+}
+
+/// The CPU that has a vCPU loaded becomes this.
+fn set_loaded(slot: &mut GhostSlot, vcpu: u64, cpu: Option<u64>) -> Result<(), AllocError>
+    ensures { OnOk result (slot_in slot.new ≡ record (slot_in slot.old) { loaded = put_at (slot_in slot.old).loaded vcpu cpu }) }
+{
+    let place = vcpu as usize;
+    reach(&mut slot.loaded, place)?;
+    slot.loaded[place] = cpu;
+    Ok(())
+}
+
+/// The slots after a change.
+pub(crate) fn change(
+    alloc: Global,
+    vms: &mut Vec<GhostSlot>,
+    change: SlotChange,
+) -> Result<(), AllocError>
+    requires { FitsSlots (length vms.old.items) change }
+    ensures after { OnOk result (vms_in vms.new.items ≡ vms_by change (vms_in vms.old.items)) }
+    ensures count { length vms.new.items ≡ length vms.old.items }
+{
+    match change {
+        SlotChange::Keep => Ok(()),
+        SlotChange::Reserve { slot, kind, vcpus } => {
+            reserve(&mut vms[slot as usize], kind, vcpus);
+            Ok(())
+        }
+        SlotChange::Open { slot } => {
+            open(&mut vms[slot as usize]);
+            Ok(())
+        }
+        SlotChange::Close { slot } => {
+            close(&mut vms[slot as usize]);
+            Ok(())
+        }
+        SlotChange::Release { vm } => {
+            vms[vm.slot as usize] = released(alloc, vm.generation)?;
+            Ok(())
+        }
+        SlotChange::Load { slot, vcpu, cpu } => {
+            set_loaded(&mut vms[slot as usize], vcpu, Some(cpu))?;
+            Ok(())
+        }
+        SlotChange::Unload { slot, vcpu } => {
+            set_loaded(&mut vms[slot as usize], vcpu, None)?;
+            Ok(())
+        }
+    }
+}
