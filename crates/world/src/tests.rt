@@ -2,6 +2,8 @@ ghost use Rattle.std.specs.Prelude.{◌≡◌, ◌<◌, ◌^◌, IfOk};
 ghost use Rattle.ghost_spec.specs.Kept.{IsKeptTree};
 ghost use Rattle.ghost_spec.specs.States.{IsKept};
 
+mod generated;
+
 use super::*;
 use arrayvec::ArrayVec;
 use component::Component;
