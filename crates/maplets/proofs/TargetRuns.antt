@@ -1,6 +1,7 @@
 -- The kept runs and the map's runs have one map, and are coarsest together.
 use Rattle.std.proofs.Common.{◌≡◌, ℕ, ◌-◌, Bool, true, false, List, [], ◌∷◌, Option, Some, None, refl, sym, ap, ◌∙◌, arith}
-use Rattle.std.specs.Prelude.{if◌then◌else◌}
+use Rattle.std.specs.Prelude.{if◌then◌else◌, All}
+use Rattle.std.proofs.lemmas.List.Elements.{All-cons, All-nil}
 use mathlib.Core.Path.{fun_ext}
 use Rattle.page_state.specs.declared.entry.Target.{Target}
 use Rattle.page_state.specs.declared.entry.Entry.{Entry}
@@ -10,8 +11,9 @@ use Rattle.page_state.specs.Regions.{is_in_range}
 use Rattle.page_state.specs.Runs.{map_of, run_end, entry_on, PrecedesFirst, IsCoarsest}
 use Rattle.page_state.proofs.Entries.{entry_advanced, target-same}
 use Rattle.run_list.specs.declared.run.Run.{Run as ListRun}
-use Rattle.run_list.specs.Runs.{run_map, map_updated, option_advance, value_on, PrecedesFirst as ListPrecedesFirst, IsCoarsest as IsCoarsestList}
-use Rattle.maplets.specs.View.{target_run, target_runs}
+use Rattle.run_list.specs.Runs.{run_map, map_updated, option_advance, value_on, PrecedesFirst as ListPrecedesFirst, IsCoarsest as IsCoarsestList, AreInReach}
+use Rattle.run_list.specs.Targets.{HasFrameBelow}
+use Rattle.maplets.specs.View.{target_run, target_runs, IsInReach}
 
 if_both : (b : Bool) (o q : Option Target) (e m : Entry) → entry_of o ≡ e → entry_of q ≡ m → entry_of (if b then o else q) ≡ (if b then e else m)
 if_both true o q e m h k = h
@@ -44,3 +46,7 @@ first_targets r (n ∷ rs) h = record {
 pub coarsest_targets : (rs : List (ListRun Target)) → IsCoarsestList advance_target rs → IsCoarsest (target_runs rs)
 coarsest_targets [] c = tt
 coarsest_targets (r ∷ rs) c = (c.0, first_targets r rs c.1, coarsest_targets rs c.2)
+
+pub reach_targets : (rs : List (ListRun Target)) → AreInReach HasFrameBelow rs → All IsInReach (target_runs rs)
+reach_targets [] h = All-nil IsInReach
+reach_targets (r ∷ rs) h = All-cons IsInReach (target_run r) (target_runs rs) (h.0.pages, h.0.values) (reach_targets rs h.1)

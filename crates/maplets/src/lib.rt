@@ -3,12 +3,13 @@
 
 mod runs;
 
-ghost use Rattle.std.specs.Prelude.{◌≡◌, ◌+◌, ◌^◌, ◌≤◌, [], IsOk, OnOk, OnErr, length};
+ghost use Rattle.std.specs.Prelude.{◌≡◌, ◌+◌, ◌^◌, ◌≤◌, [], All, IsOk, OnOk, OnErr, length};
 ghost use Rattle.std.specs.Option.{ForSome};
 ghost use Rattle.page_state.specs.Entries.{entry_of};
 ghost use Rattle.page_state.specs.Map.{update};
 ghost use Rattle.page_state.specs.Runs.{map_of, IsCoarsest};
 ghost use Rattle.run_list.specs.Targets.{HasFrameBelow};
+ghost use Rattle.maplets.specs.View.{IsInReach};
 
 use page_state::{Page, PageRange, Target};
 use run_list::RunList;
@@ -90,6 +91,7 @@ impl Maplets {
     pub fn iter(&self) -> Runs<'_>
         ensures runs { result ≡ self.now.runs }
         ensures coarsest { IsCoarsest self.now.runs }
+        ensures reach { All IsInReach self.now.runs }
     {
         Runs::new(self.list.runs())
     }

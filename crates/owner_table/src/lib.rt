@@ -5,7 +5,7 @@ ghost use Rattle.std.specs.Prelude.{◌≡◌, ◌+◌, ◌^◌, ◌≤◌, None
 ghost use Rattle.page_state.specs.Regions.{end_of, is_memory_kind, memory_pages};
 ghost use Rattle.page_state.specs.Rows.{advance_row, plain_row};
 ghost use Rattle.page_state.specs.Rows.{HasPageBelow};
-ghost use Rattle.run_list.specs.Runs.{run_map, IsCoarsest};
+ghost use Rattle.run_list.specs.Runs.{run_map, AreInReach, IsCoarsest};
 ghost use Rattle.owner_table.specs.Rows.{row_at, IsOf, HasRows, HasSameFrames, rows_set};
 ghost use Rattle.owner_table.specs.Room.{HasRoom, frame_limit};
 ghost use Rattle.owner_table.specs.Filling.{filled, filled_all};
@@ -71,6 +71,7 @@ impl OwnerTable {
     pub fn runs(&self) -> &[Run<Row>]
         ensures runs { result.now ≡ self.now }
         ensures coarsest { IsCoarsest advance_row self.now }
+        ensures reach { AreInReach HasPageBelow self.now }
     {
         self.rows.runs()
     }

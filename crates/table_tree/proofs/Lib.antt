@@ -19,3 +19,6 @@ pub mod NoneWord
 pub mod Blank
 pub mod Bare
 pub mod Same
+pub mod RawTables
+pub mod RawViews
+pub mod Pokes

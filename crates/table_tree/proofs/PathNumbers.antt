@@ -4,6 +4,7 @@ use Rattle.std.proofs.Math.Nat.{div-div-eq-div-mul, div-lt_iff_lt-mul}
 use Rattle.page_state.specs.Geometries.{block_pages}
 use Rattle.page_state.proofs.Sizes.{size_some, size_step, size_add}
 use Rattle.table_tree.specs.Meaning.{index_at}
+use Rattle.table_tree.specs.inner.Pokes.{Leads}
 
 -- the number of the digits after those of `a`
 abbrev pub number_from : ℕ → List ℕ → ℕ
@@ -32,11 +33,6 @@ top a (i ∷ r) h =
     let e : block_pages (suc (length r)) ≡ block_pages (length r) * 512 = let x = size_step (length r) in omega (arith, x) in
     let x : number_from (a * 512 + i) r / block_pages (length r) ≡ a * 512 + i = top (a * 512 + i) r h.1 in
     rw e (sym (div-div-eq-div-mul (number_from (a * 512 + i) r) (block_pages (length r)) 512) ∙ ap (λ n. n / 512) x ∙ omega (arith, h.0))
-
--- the page is under the path, from a table with `n` levels below it on
-unfoldable pub Leads : ℕ → ℕ → List ℕ → Type 0
-Leads n q [] = Unit {0}
-Leads n q (i ∷ rest) = (index_at n q ≡ i) × Leads (n - 1) q rest
 
 index_is : (n m q a i : ℕ) (r : List ℕ) → m + length r ≡ n → i < 512 → Small r → q / block_pages m ≡ number_from a (i ∷ r) → index_at n q ≡ i
 index_is n m q a i r e h s k =

@@ -8,11 +8,14 @@ use Rattle.page_state.specs.Geometries.{block_pages}
 use Rattle.page_state.proofs.Cases.{by_eq}
 use Rattle.table_tree.specs.Meaning.{index_at, slot_at, frame_of, word_entry, entry_at, word_at, slot_word, table_word}
 use Rattle.table_tree.specs.Shape.{IsEntryWord, IsShaped}
+use Rattle.table_tree.specs.Raw.{IsRaw}
 use Rattle.table_tree.specs.Tables.{table_in}
+use Rattle.table_tree.specs.inner.Pokes.{Leads}
 use Rattle.table_tree.proofs.Slots.{by_slot, case_child, shaped_slot, slot_word_is, slot_child_is}
 use Rattle.table_tree.proofs.Steps.{entry_step, word_gives, child_gives, path_end, path_over, path_stop, slot_word_here, slot_word_child}
 use Rattle.table_tree.proofs.Standing.{table_top, table_below, stand_word, stand_child, by_lt}
-use Rattle.table_tree.proofs.PathNumbers.{Small, Leads, index_same}
+use Rattle.table_tree.proofs.RawTables.{raw_slot, raw_child_is}
+use Rattle.table_tree.proofs.PathNumbers.{Small, index_same}
 
 -- a path that a word is at
 abbrev pub IsGood : ℕ → List ℕ → Type 0
@@ -38,7 +41,7 @@ module _ {A : Type 0} where
   one_index t (i ∷ j ∷ r) u v s e = absurd (omega arith)
 
   -- where a word is, the path is one
-  pub good_path : (n : ℕ) (t : Table A) (p : List ℕ) (w : ℕ) → IsShaped n t → word_at t p ≡ Some w → IsGood n p
+  pub good_path : (n : ℕ) (t : Table A) (p : List ℕ) (w : ℕ) → IsRaw n t → word_at t p ≡ Some w → IsGood n p
   unfolding Small
   good_path n t [] w h e = let x = path_end t [] (omega arith) in absurd (cc)
   good_path n t (i ∷ []) w h e = by_lt i 512
@@ -48,7 +51,7 @@ module _ {A : Type 0} where
       (λ l. by_slot (slot_at t i)
       (λ v y. let x = path_stop t (i ∷ j ∷ r) (slot_at t i) v (omega arith) l refl y in absurd (cc))
       (λ b y.
-      let s = child_shape n t i b h l y in
+      let s = raw_child_is n b (slot_at t i) (raw_slot n t i h l) y in
       let g = good_path (n - 1) b.value (j ∷ r) w s.1 (sym (next_child t i j r b l y) ∙ e) in
       let k : suc (length r) ≤ n - 1 + 1 = g.1.0 in
       (omega arith, (omega (arith, s.0), (l, g.1.1)))))

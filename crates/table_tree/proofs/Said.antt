@@ -11,11 +11,13 @@ use Rattle.table_tree.specs.declared.tree.Tree.{Tree}
 use Rattle.table_tree.specs.Meaning.{level_at, entry_at, word_at}
 use Rattle.table_tree.specs.Tables.{table_in}
 use Rattle.table_tree.specs.View.{meaning, word_of, table_at, tree_of}
+use Rattle.table_tree.specs.inner.Pokes.{Leads}
 use Rattle.table_tree.specs.Said.{block_number, block_of, HasWord, IsOnlyWord, IsWordOf, IsRunOrTable}
 use Rattle.table_tree.proofs.OnlyWords.{one_word}
 use Rattle.table_tree.proofs.Views.{advance_zero, less_test}
 use Rattle.table_tree.proofs.Standing.{by_lt}
-use Rattle.table_tree.proofs.PathNumbers.{Small, Leads, all_small, small_all, leads, number_small}
+use Rattle.table_tree.proofs.RawTables.{shaped_raw}
+use Rattle.table_tree.proofs.PathNumbers.{Small, all_small, small_all, leads, number_small}
 use Rattle.table_tree.proofs.Paths.{IsGood, IsRead, IsWordIn, IsPagesWord, good_path, one_index, table_same, read}
 
 if_none : (o : Option ℕ) (P : Type 0) (Q : ℕ → Type 0) → o ≡ None → P → MatchOption o P Q
@@ -174,7 +176,7 @@ module _ {A : Type 0} where
   -- a word that was found
   found : (t : Tree A) (p : List ℕ) (w : ℕ) → word_at t.table p ≡ Some w → IsGood (levels_below t.geometry) p × IsWordIn (levels_below t.geometry) (levels_on t p) t.table p w
   unfolding IsRead
-  found t p w e = let g = good_path (levels_below t.geometry) t.table p w t.shaped e in (g, rw e at (what_is t p g.0 g.1.0 g.1.1))
+  found t p w e = let g = good_path (levels_below t.geometry) t.table p w (shaped_raw (levels_below t.geometry) t.table t.shaped) e in (g, rw e at (what_is t p g.0 g.1.0 g.1.1))
 
   said : (t : Tree A) (p : List ℕ) (w : ℕ) → word_at t.table p ≡ Some w → IsWordOf (tree_of t) (block_of t.geometry p) w × IsRunOrTable (tree_of t) (block_of t.geometry p)
   unfolding levels_on

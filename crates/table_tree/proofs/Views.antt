@@ -56,7 +56,7 @@ quotient_some q s h n e =
     n (omega (arith, x))
 
 -- the map of a geometry's root table
-pub map_of : {A : Type 0} → Geometry → Table A → ℕ → Entry
+unfoldable pub map_of : {A : Type 0} → Geometry → Table A → ℕ → Entry
 map_of g t page = cond (ltb page (input_pages g)) (entry_at (levels_below g) t page) Unmapped
 
 module _ {A : Type 0} where
@@ -64,23 +64,29 @@ module _ {A : Type 0} where
   unfolding meaning map_of
   meaning_is t = refl
 
-  map_inside : (g : Geometry) (t : Table A) (page : ℕ) → page < input_pages g → map_of g t page ≡ entry_at (levels_below g) t page
+  pub map_inside : (g : Geometry) (t : Table A) (page : ℕ) → page < input_pages g → map_of g t page ≡ entry_at (levels_below g) t page
   unfolding map_of
   map_inside g t page h = rw (less_test page (input_pages g) h) refl
 
-  map_outside : (g : Geometry) (t : Table A) (page : ℕ) → (page < input_pages g → ⊥) → map_of g t page ≡ Unmapped
+  pub map_outside : (g : Geometry) (t : Table A) (page : ℕ) → (page < input_pages g → ⊥) → map_of g t page ≡ Unmapped
   unfolding map_of
   map_outside g t page h = rw (more_test page (input_pages g) h) refl
 
-  pub meaning_in : (t : Tree A) (d page : ℕ) → d ≡ levels_below t.geometry → page / 2 ^ (9 * (d + 1)) ≡ 0 → entry_at d t.table page ≡ meaning t page
-  meaning_in t d page e h =
+  pub map_in : (g : Geometry) (t : Table A) (d page : ℕ) → d ≡ levels_below g → page / 2 ^ (9 * (d + 1)) ≡ 0 → entry_at d t page ≡ map_of g t page
+  map_in g t d page e h =
       let s = size_some (d + 1) in
       let lt : page < block_pages (d + 1) = by_lt page (block_pages (d + 1)) (λ x. x) (λ x. absurd (quotient_some page (block_pages (d + 1)) s x h)) in
-      let lt' : page < input_pages t.geometry = rw (sym e) lt in
-      rw e (sym (map_inside t.geometry t.table page lt')) ∙ sym (ap (λ m. m page) (meaning_is t))
+      let lt' : page < input_pages g = rw (sym e) lt in
+      rw e (sym (map_inside g t page lt'))
+
+  pub map_over : (g : Geometry) (t : Table A) (d page : ℕ) → d ≡ levels_below g → (page / 2 ^ (9 * (d + 1)) ≡ 0 → ⊥) → Unmapped ≡ map_of g t page
+  map_over g t d page e h = sym (map_outside g t page (λ l. h (div-eq_of_lt (rw e l))))
+
+  pub meaning_in : (t : Tree A) (d page : ℕ) → d ≡ levels_below t.geometry → page / 2 ^ (9 * (d + 1)) ≡ 0 → entry_at d t.table page ≡ meaning t page
+  meaning_in t d page e h = map_in t.geometry t.table d page e h ∙ sym (ap (λ m. m page) (meaning_is t))
 
   pub meaning_over : (t : Tree A) (d page : ℕ) → d ≡ levels_below t.geometry → (page / 2 ^ (9 * (d + 1)) ≡ 0 → ⊥) → Unmapped ≡ meaning t page
-  meaning_over t d page e h = sym (ap (λ m. m page) (meaning_is t) ∙ map_outside t.geometry t.table page (λ l. h (div-eq_of_lt (rw e l))))
+  meaning_over t d page e h = map_over t.geometry t.table d page e h ∙ sym (ap (λ m. m page) (meaning_is t))
 
   pub map_blank : (g : Geometry) (t : Table A) → IsBlank t → map_of g t ≡ empty_map
   map_blank g t h = fun_ext (λ q. by_lt q (input_pages g) (λ l. map_inside g t q l ∙ blank_entries (levels_below g) t h q) (λ l. map_outside g t q l))

@@ -13,3 +13,6 @@ pub mod Said
 pub mod AllBlocks
 pub mod OnPage
 pub mod Bare
+pub mod Raw
+pub mod RawView
+pub mod inner

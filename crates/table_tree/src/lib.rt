@@ -4,6 +4,8 @@
 mod chain;
 mod look;
 mod path;
+mod poke;
+mod raw;
 mod spares;
 mod stock;
 mod table;
@@ -11,6 +13,8 @@ mod tree;
 pub mod word;
 
 pub use chain::Chain;
+pub use path::path_on;
+pub use raw::{PathFault, RawTree};
 pub use spares::Spares;
 pub use stock::Stock;
 pub use table::{Reads, Slot, Table};

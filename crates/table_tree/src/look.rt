@@ -9,7 +9,8 @@ ghost use Rattle.table_tree.specs.Tight.{IsTight};
 ghost use Rattle.table_tree.specs.Meaning.{IsDepth, level_at, word_entry, entry_at, word_at, slot_word, slot_at, slots_of, frame_of};
 ghost use Rattle.table_tree.specs.Shape.{IsWide, IsShaped, IsBlank, IsEntryWord, HoldsWord};
 ghost use Rattle.table_tree.specs.Tables.{tables_in, uses_in, all_frames_in, table_in, frame_times};
-ghost use Rattle.table_tree.specs.Slots.{IsSlot, fresh};
+ghost use Rattle.table_tree.specs.Raw.{IsRaw};
+ghost use Rattle.table_tree.specs.Slots.{fresh};
 ghost use Rattle.table_tree.specs.Stocks.{frames_of};
 
 use crate::word::{entry_in, index_of};
@@ -20,7 +21,7 @@ use std::alloc::{AllocError, Allocator};
 
 pub(crate) fn look_in<A: Allocator>(table: &Table<A>, depth: u32, page: u64) -> Entry
     requires depth_in { IsDepth depth }
-    requires shape { IsShaped depth table.now }
+    requires raw { IsRaw depth table.now }
     ensures { result ≡ entry_at depth table.now page }
 {
     let mut table = table;
@@ -37,8 +38,7 @@ pub(crate) fn look_in<A: Allocator>(table: &Table<A>, depth: u32, page: u64) -> 
 }
 
 /// The word of a slot; a child's is the table word of its frame.
-fn word_in_slot<A: Allocator>(slot: &Slot<A>, depth: u32) -> u64
-    requires { IsSlot depth slot.now }
+pub(crate) fn word_in_slot<A: Allocator>(slot: &Slot<A>) -> u64
     ensures { result ≡ slot_word slot.now }
 {
     match slot {
@@ -50,7 +50,7 @@ fn word_in_slot<A: Allocator>(slot: &Slot<A>, depth: u32) -> u64
 /// The word at a path of indices.
 pub(crate) fn word_in<A: Allocator>(table: &Table<A>, depth: u32, path: &[u16]) -> Option<u64>
     requires depth_in { IsDepth depth }
-    requires shape { IsShaped depth table.now }
+    requires raw { IsRaw depth table.now }
     ensures { result ≡ word_at table.now path.now }
 {
     if path.is_empty() || path[0] >= 512 {
@@ -59,7 +59,7 @@ pub(crate) fn word_in<A: Allocator>(table: &Table<A>, depth: u32, path: &[u16]) 
     let i = path[0];
     let slot = table.read(i as usize);
     if path.len() == 1 {
-        return Some(word_in_slot(slot, depth));
+        return Some(word_in_slot(slot));
     }
     match slot {
         Slot::Word(_) => None,

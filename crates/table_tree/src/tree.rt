@@ -29,7 +29,7 @@ pub struct Tree<A: Allocator> {
 }
 
 /// The levels below the root.
-fn depth_of(geometry: Geometry) -> u32
+pub(crate) fn depth_of(geometry: Geometry) -> u32
     ensures value { result ≡ levels_below geometry }
     ensures small { result < 3 }
     ensures large { 2 ≤ result }

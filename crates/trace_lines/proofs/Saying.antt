@@ -14,6 +14,7 @@ use Rattle.trace_lines.specs.declared.call.Called.{Called}
 use Rattle.trace_lines.specs.declared.fault.LineFault.TheVariants.{Place, Count, Form}
 use Rattle.trace_lines.specs.declared.line.Line.{Line}
 use Rattle.trace_lines.specs.declared.line.Line.TheVariants as lines
+use Rattle.trace_lines.specs.declared.line.Poke.{Poke}
 use Rattle.trace_lines.specs.declared.line.Query.{Query}
 use Rattle.trace_lines.specs.declared.line.Query.TheVariants as queries
 use Rattle.trace_lines.specs.declared.line.Setting.{Setting}
@@ -25,7 +26,7 @@ use Rattle.trace_lines.specs.declared.place.SettingName.TheVariants as names
 use Rattle.trace_lines.specs.declared.place.Verb.{Verb}
 use Rattle.trace_lines.specs.declared.place.Verb.TheVariants as verbs
 use Rattle.trace_lines.specs.Arguments.{number_at, range_of, level_word_at, slot_word_at, vm_word_at, kind_word_at, rights_word_at}
-use Rattle.trace_lines.specs.Asked.{asked, asked_from, begins_with_digit, headers, of_call, of_number, of_range, of_tree, of_show, pools, tree_names, word_of}
+use Rattle.trace_lines.specs.Asked.{asked, asked_from, begins_with_digit, headers, of_call, of_number, of_range, of_tree, of_poke, of_show, poke_of, pools, tree_names, word_of}
 use Rattle.trace_lines.specs.Calls.{Argument, number, vm, kind, rights, StepMaker, Shape, calls, called as called_by, step_from}
 use Rattle.trace_lines.specs.Places.{IsAllowed, may_stand, may_tell}
 use Rattle.trace_lines.specs.Said.{said_by_asked, said_by_words}
@@ -99,7 +100,7 @@ called_has P h words name = onward (named calls name) (found _ calls name h)
 
 -- what holds of the lines of each row, by their verb
 module _ (R : Verb → Line → Type 0) (of_setting : (name : SettingName) (setting : Setting) → R (verbs.Setting name) (lines.Setting setting)) (of_boot : R verbs.Boot lines.Boot)
-    (of_step : OfCalls (λ step. (cpu : ℕ) → R verbs.Step (lines.Step cpu step))) (of_query : (query : Query) → R verbs.Query (lines.Query query)) (words : List (List ℕ)) where
+    (of_step : OfCalls (λ step. (cpu : ℕ) → R verbs.Step (lines.Step cpu step))) (of_query : (query : Query) → R verbs.Query (lines.Query query)) (of_poke_line : (poke : Poke) → R verbs.Poke (lines.Poke poke)) (words : List (List ℕ)) where
   abbrev Holds : Asked → Type 0
   Holds a = IfSome a.line (R a.verb)
 
@@ -144,6 +145,18 @@ module _ (R : Verb → Line → Type 0) (of_setting : (name : SettingName) (sett
   show_row : (tree : NamedTree) → Holds (of_show tree)
   show_row tree = mapped _ (λ name. lines.Query (queries.Show name)) (λ name. of_query (queries.Show name)) tree.tree
 
+  poke_row : (place : ℕ) (tree : TreeName) → IfSome (poke_of words place tree) (R verbs.Poke)
+  poke_row place tree =
+      chained _ (λ page. option_and_then (λ level. option_map (λ word. lines.Poke (poked page level word)) (number_at words (place + 2))) (level_word_at words (place + 1)))
+      (λ page. chained _ (λ level. option_map (λ word. lines.Poke (poked page level word)) (number_at words (place + 2)))
+      (λ level. mapped _ (λ word. lines.Poke (poked page level word)) (λ word. of_poke_line (poked page level word)) (number_at words (place + 2))) (level_word_at words (place + 1))) (number_at words place)
+    where
+      poked : ℕ → ℕ → ℕ → Poke
+      poked page level word = record { tree = tree; page = page; level = level; word = word }
+
+  poke_tree_row : (tree : NamedTree) → Holds (of_poke words tree)
+  poke_tree_row tree = chained _ (poke_of words (1 + tree.words)) (poke_row (1 + tree.words)) tree.tree
+
   pool_rows : Each Holds (pools words)
   pool_rows = (of_query queries.FreeShared, (mapped _ (λ slot. lines.Query (queries.FreeGuest slot)) (λ slot. of_query (queries.FreeGuest slot)) (slot_word_at words 2), tt))
 
@@ -153,7 +166,8 @@ module _ (R : Verb → Line → Type 0) (of_setting : (name : SettingName) (sett
       (either (bytes_eq first (codes "word")) _ _ (mapped Holds (of_tree words) tree_row (option_and_then (named (tree_names words)) second))
       (either (bytes_eq first (codes "free")) _ _ (chained Holds (named (pools words)) (λ name. found Holds (pools words) name pool_rows) second)
       (either (bytes_eq first (codes "show")) _ _ (mapped Holds of_show show_row (option_and_then (named (tree_names words)) second))
-      (found Holds (headers words) first header_rows))))
+      (either (bytes_eq first (codes "poke")) _ _ (mapped Holds (of_poke words) poke_tree_row (option_and_then (named (tree_names words)) second))
+      (found Holds (headers words) first header_rows)))))
     where
       either : (b : Bool) (x y : Option Asked) → IfSome x Holds → IfSome y Holds → IfSome (if b then x else y) Holds
       either true x y h k = h
@@ -169,10 +183,11 @@ IsOf (verbs.Setting name) (lines.Setting setting) = Unit {0}
 IsOf verbs.Boot lines.Boot = Unit {0}
 IsOf verbs.Step (lines.Step cpu step) = Unit {0}
 IsOf verbs.Query (lines.Query query) = Unit {0}
+IsOf verbs.Poke (lines.Poke poke) = Unit {0}
 IsOf verb line = ⊥
 
 pub asked_suits : (words : List (List ℕ)) → IfSome (asked words) (λ a. IfSome a.line (IsOf a.verb))
-asked_suits words = of_asked IsOf (λ name setting. tt) tt (of_names (λ step. (cpu : ℕ) → Unit {0}) (λ step cpu. tt) calls) (λ query. tt) words
+asked_suits words = of_asked IsOf (λ name setting. tt) tt (of_names (λ step. (cpu : ℕ) → Unit {0}) (λ step cpu. tt) calls) (λ query. tt) (λ poke. tt) words
 
 -- the line that words say has a property, where that of what they ask for has it in its place
 module _ (Q : Line → Type 0) (allows : Allows) (told : Told) where
@@ -198,6 +213,7 @@ stands allows told (verbs.Setting name) (lines.Setting setting) h may = first al
 stands allows told verbs.Boot lines.Boot h may = first allows.boot (is_some told.carve) may
 stands allows told verbs.Step (lines.Step cpu step) h may = may
 stands allows told verbs.Query (lines.Query query) h may = may
+stands allows told verbs.Poke (lines.Poke poke) h may = may
 stands allows told verb line h may = absurd h
 
 pub words_allowed : (allows : Allows) (told : Told) (words : List (List ℕ)) → IfOk (said_by_words allows told words) (λ said. IfSome said (IsAllowed allows))

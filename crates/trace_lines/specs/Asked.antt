@@ -63,6 +63,14 @@ module _ (words : List (List ℕ)) where
   abbrev pub of_tree : NamedTree → Asked
   of_tree named = record { verb = verbs.Query; words = 3 + named.words; line = option_and_then (word_of (1 + named.words)) named.tree }
 
+  -- the poke whose page stands at a place
+  abbrev pub poke_of : ℕ → TreeName → Option Line
+  poke_of place tree = option_and_then (λ page. option_and_then (λ level. option_map (λ word. lines.Poke (record { tree = tree; page = page; level = level; word = word })) (number_at words (place + 2))) (level_word_at words (place + 1))) (number_at words place)
+
+  -- `poke` of a tree
+  abbrev pub of_poke : NamedTree → Asked
+  of_poke named = record { verb = verbs.Poke; words = 4 + named.words; line = option_and_then (poke_of (1 + named.words)) named.tree }
+
   -- `free` of a pool
   abbrev pub pools : List (List ℕ × Asked)
   pools =
@@ -76,7 +84,8 @@ module _ (words : List (List ℕ)) where
       else (if bytes_eq first (codes "word") then option_map of_tree (option_and_then (named tree_names) second)
       else (if bytes_eq first (codes "free") then option_and_then (named pools) second
       else (if bytes_eq first (codes "show") then option_map of_show (option_and_then (named tree_names) second)
-      else named headers first)))
+      else (if bytes_eq first (codes "poke") then option_map of_poke (option_and_then (named tree_names) second)
+      else named headers first))))
 
   -- what a line of these words asks for
   unfoldable pub asked : Option Asked

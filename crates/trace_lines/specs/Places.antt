@@ -6,12 +6,12 @@ use Rattle.trace_lines.specs.declared.place.Allows.{Allows}
 use Rattle.trace_lines.specs.declared.place.SettingName.{SettingName}
 use Rattle.trace_lines.specs.declared.place.SettingName.TheVariants.{Geometry, Cpus, Log, Memory, Device, Carve}
 use Rattle.trace_lines.specs.declared.place.Verb.{Verb}
-use Rattle.trace_lines.specs.declared.place.Verb.TheVariants.{Setting, Boot, Step, Query}
+use Rattle.trace_lines.specs.declared.place.Verb.TheVariants.{Setting, Boot, Step, Query, Poke}
 use Rattle.trace_lines.specs.Settings.{Told}
 
 -- what each program allows before the boot
 abbrev pub before_boot : Allows
-before_boot = record { settings = true; boot = true; steps = false; queries = false }
+before_boot = record { settings = true; boot = true; steps = false; queries = false; pokes = false }
 
 -- whether a setting may be told after these: any number of regions, and all else once
 abbrev pub may_tell : Told → SettingName → Bool
@@ -28,6 +28,7 @@ may_stand allows told (Setting name) = allows.settings && may_tell told name
 may_stand allows told Boot = allows.boot && is_some told.carve
 may_stand allows told Step = allows.steps
 may_stand allows told Query = allows.queries
+may_stand allows told Poke = allows.pokes
 
 -- a line of a kind that the program allows
 abbrev pub IsAllowed : Allows → Line → Type 0
@@ -35,3 +36,4 @@ IsAllowed allows (lines.Setting setting) = IsTrue allows.settings
 IsAllowed allows lines.Boot = IsTrue allows.boot
 IsAllowed allows (lines.Step cpu step) = IsTrue allows.steps
 IsAllowed allows (lines.Query query) = IsTrue allows.queries
+IsAllowed allows (lines.Poke poke) = IsTrue allows.pokes

@@ -6,8 +6,10 @@ ghost use Rattle.trace_lines.specs.Asked.{
   begins_with_digit as begins_with_digit_byte,
   headers,
   of_call as of_call_by,
+  of_poke as of_poke_by,
   of_show as of_show_by,
   of_tree as of_tree_by,
+  poke_of as poke_by,
   pools as pools_by,
   tree_names,
   word_of as word_by,
@@ -17,7 +19,7 @@ ghost use Rattle.trace_lines.specs.Words.{named};
 
 use crate::argument::{level_at, number_at, range_of, slot_at};
 use crate::call::Called;
-use crate::line::{Line, Query, Setting, TreeName};
+use crate::line::{Line, Poke, Query, Setting, TreeName};
 use crate::place::{SettingName, Verb};
 use crate::words::{Words, is_name};
 use page_state::Step;
@@ -60,6 +62,9 @@ impl Asked {
         }
         if is_name(first, b"show") {
             return show(words.get(1)?, words);
+        }
+        if is_name(first, b"poke") {
+            return poke(words.get(1)?, words);
         }
         header(first, words)
     }
@@ -162,6 +167,41 @@ fn word_of(tree: TreeName, words: &Words<'_>, place: usize) -> Option<Line>
     let page = number_at(words, place)?;
     let level = level_at(words, place + 1)?;
     Some(Line::Query(Query::Word { tree, page, level }))
+}
+
+/// `poke` of the tree of this name.
+fn poke(name: &[u8], words: &Words<'_>) -> Option<Asked>
+    ensures { result ≡ option_map (of_poke_by words.now) (named (tree_names words.now) name.now) }
+{
+    let named = tree_name(name, words)?;
+    Some(Asked {
+        verb: Verb::Poke,
+        words: 4 + named.words,
+        line: poke_line(named, words),
+    })
+}
+
+fn poke_line(named: NamedTree, words: &Words<'_>) -> Option<Line>
+    requires few { named.words ≤ 2 }
+    ensures { result ≡ option_and_then (poke_by words.now (1 + named.words)) named.tree }
+{
+    poke_of(named.tree?, words, 1 + named.words)
+}
+
+/// The poke whose page stands at a place, its level behind it, and its word behind that.
+fn poke_of(tree: TreeName, words: &Words<'_>, place: usize) -> Option<Line>
+    requires low { place ≤ 3 }
+    ensures { result ≡ poke_by words.now place tree }
+{
+    let poked = number_at(words, place)?;
+    let level = level_at(words, place + 1)?;
+    let word = number_at(words, place + 2)?;
+    Some(Line::Poke(Poke {
+        tree,
+        page: poked,
+        level,
+        word,
+    }))
 }
 
 /// The tree of this name. A guest's has two words: `guest` and its slot.

@@ -22,7 +22,7 @@ pub use ahead::ReadAhead;
 pub use counting::Counting;
 pub use fault::LineFault;
 pub use grammar::said;
-pub use line::{Line, Query, Setting, TreeName};
+pub use line::{Line, Poke, Query, Setting, TreeName};
 pub use lines::{MOST_BYTES, read_line};
 pub use outcome::{EngineFault, Outcome};
 pub use place::Allows;

@@ -12,6 +12,8 @@ pub enum Line {
     Step { cpu: u64, step: Step },
     /// A question about a booted world.
     Query(Query),
+    /// Another word in place of one of a tree.
+    Poke(Poke),
 }
 
 /// A setting of a trace.
@@ -46,6 +48,15 @@ pub enum Query {
     FreeGuest(u64),
     /// The maplets of a tree.
     Show(TreeName),
+}
+
+/// A word that is set, on a page's path at a level of 0 to 3.
+#[derive(Clone, Copy, PartialEq, Debug)]
+pub struct Poke {
+    pub tree: TreeName,
+    pub page: u64,
+    pub level: u64,
+    pub word: u64,
 }
 
 /// A tree that a line names.

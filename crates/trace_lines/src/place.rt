@@ -12,6 +12,7 @@ pub struct Allows {
     pub boot: bool,
     pub steps: bool,
     pub queries: bool,
+    pub pokes: bool,
 }
 
 impl Allows {
@@ -24,6 +25,7 @@ impl Allows {
             boot: true,
             steps: false,
             queries: false,
+            pokes: false,
         }
     }
 }
@@ -46,6 +48,7 @@ pub enum Verb {
     Boot,
     Step,
     Query,
+    Poke,
 }
 
 /// Whether a line may stand after these settings, where the program allows these lines.
@@ -57,6 +60,7 @@ pub fn may_stand(allows: Allows, settings: &Settings, verb: Verb) -> bool
         Verb::Boot => allows.boot && settings.carve.is_some(),
         Verb::Step => allows.steps,
         Verb::Query => allows.queries,
+        Verb::Poke => allows.pokes,
     }
 }
 

@@ -1,7 +1,7 @@
 //! The VM table: how each of the 64 VM slots stands, and which CPU has each vCPU loaded.
 #![tactic(auto)]
 
-ghost use Rattle.std.specs.Prelude.{◌≡◌, ◌+◌, ◌<◌, ◌^◌, IfOk, IfSome, Some, is_some};
+ghost use Rattle.std.specs.Prelude.{◌≡◌, ℕ, ◌+◌, ◌<◌, ◌≤◌, ◌^◌, IfOk, IfSome, Some, is_some};
 ghost use Rattle.reference_model.specs.ChangeLaws.{FitsTable};
 ghost use Rattle.reference_model.specs.Changes.{vms_by};
 ghost use Rattle.reference_model.specs.declared.changes.SlotChange.TheVariants.{Close, Load, Open as OpenSlot, Release, Reserve, Unload};
@@ -99,6 +99,13 @@ impl VmTable {
         ensures { slot_of result ≡ (vms_of self.now).slot slot }
     {
         self.slots[slot as usize]
+    }
+
+    /// Past the 64 slots nothing but Empty ones is told. It does nothing, and its contract is the law.
+    pub fn empty_past(&self)
+        ensures { (v : ℕ) → 64 ≤ v → (vms_of self.now).slot v ≡ no_slot 1 }
+    {
+        let _ = &self.slots;
     }
 
     /// Another slot in place of one.

@@ -1,0 +1,2 @@
+-- What contracts of inner functions alone cite.
+pub mod Pokes

@@ -1,0 +1,131 @@
+//! Raw trees, whose words may be any, and pokes, which set one word.
+ghost use Rattle.std.specs.Prelude.{◌≡◌, ℕ, ◌↔◌, IsSome, IsOk, IfOk, IfErr};
+ghost use Rattle.page_state.specs.Geometries.{levels_below};
+ghost use Rattle.table_tree.specs.Raw.{IsRaw, IsRaw-prop, IsPoked, IsPokedMap};
+ghost use Rattle.table_tree.specs.Said.{block_of};
+
+use crate::Table;
+use crate::look::{look_in, word_in};
+use crate::poke::poke_in;
+use crate::tree::{Tree, depth_of};
+use arrayvec::ArrayVec;
+use page_state::{Entry, Geometry, Page};
+use std::alloc::Allocator;
+
+/// A tree that may hold any words: a table word leads on only where its slot holds a child of that frame, and else it is
+/// malformed.
+#[derive(Drop)]
+pub struct RawTree<A: Allocator> {
+    pub geometry: Geometry,
+    pub table: Table<A>,
+    pub ghost raw: { IsRaw (levels_below geometry) table } by { IsRaw-prop (levels_below geometry) table },
+}
+
+/// Why a word isn't poked: no table of the tree has a word at the path.
+#[derive(Clone, Copy, PartialEq, Debug)]
+pub struct PathFault;
+
+impl<A: Allocator> RawTree<A> {
+    ghost use Rattle.table_tree.specs.RawView.{raw_meaning, raw_word_of};
+
+    pub fn geometry(&self) -> Geometry
+        ensures { result ≡ self.now.geometry }
+    {
+        self.geometry
+    }
+
+    /// The entry of a page; past the input pages nothing is mapped.
+    pub fn look(&self, page: Page) -> Entry
+        ensures { result ≡ raw_meaning self.now page.0 }
+    {
+        let depth = depth_of(self.geometry);
+        if page.0 >> (9 * (depth + 1)) != 0 {
+            return Entry::Unmapped;
+        }
+        look_in(&self.table, depth, page.0)
+    }
+
+    /// The word at a path of indices, the root's first; None where no table stands on the path, or an index is
+    /// over 511.
+    pub fn word_at(&self, path: &ArrayVec<u16, 4>) -> Option<u64>
+        ensures { result ≡ raw_word_of self.now path.now.items }
+    {
+        word_in(&self.table, depth_of(self.geometry), path.as_slice())
+    }
+
+    /// Sets the word at a path. Where that word stands there all stays, a child too; any other word takes the child out.
+    pub fn poke(
+        self,
+        path: &ArrayVec<u16, 4>,
+        word: u64,
+    ) -> Result<RawTree<A>, (RawTree<A>, PathFault)>
+        ensures fault { IsOk result ↔ IsSome (raw_word_of self path.now.items) }
+        ensures kept { IfErr result (λ e. e.0 ≡ self) }
+        ensures poked { IfOk result (λ t. IsPoked (raw_word_of self) (raw_word_of t) path.now.items word) }
+        ensures map { IfOk result (λ t. IsPokedMap (block_of self.geometry path.now.items) (raw_word_of self) (raw_meaning self) (raw_meaning t) path.now.items word) }
+        ensures geometry { IfOk result (λ t. t.geometry ≡ self.geometry) }
+    {
+        if self.word_at(path).is_none() {
+            return Err((self, PathFault));
+        }
+        let mut tree = self;
+        tree.set(path, word);
+        Ok(tree)
+    }
+
+    /// The same in place, at a path that has a word.
+    pub fn set(&mut self, path: &ArrayVec<u16, 4>, word: u64)
+        requires there { IsSome (raw_word_of self.old path.now.items) }
+        ensures poked { IsPoked (raw_word_of self.old) (raw_word_of self.new) path.now.items word }
+        ensures map { IsPokedMap (block_of self.old.geometry path.now.items) (raw_word_of self.old) (raw_meaning self.old) (raw_meaning self.new) path.now.items word }
+        ensures geometry { self.new.geometry ≡ self.old.geometry }
+    {
+        let depth = depth_of(self.geometry);
+        let table = &mut self.table;
+        poke_in(table, depth, path.as_slice(), word);
+    }
+}
+
+impl<A: Allocator> Tree<A> {
+    ghost use Rattle.table_tree.specs.View.{meaning, word_of as word_at_path, table_at, tree_of};
+    ghost use Rattle.table_tree.specs.RawView.{raw_meaning, raw_word_of, raw_table_at};
+    ghost use Rattle.table_tree.specs.Said.{HasWord};
+
+    /// The tree as a raw one, without its spares.
+    pub fn into_raw(self) -> RawTree<A>
+        ensures map { raw_meaning result ≡ meaning self }
+        ensures words { raw_word_of result ≡ word_at_path self }
+        ensures standing { (depth number : ℕ) → raw_table_at result depth number ≡ table_at self depth number }
+        ensures geometry { result.geometry ≡ self.geometry }
+    {
+        let Tree {
+            geometry,
+            table,
+            spares: _spares,
+        } = self;
+        RawTree { geometry, table }
+    }
+
+    /// Sets the word at a path. Where that word stands there all stays, a child too; any other word takes the child out.
+    pub fn poke(
+        self,
+        path: &ArrayVec<u16, 4>,
+        word: u64,
+    ) -> Result<RawTree<A>, (Tree<A>, PathFault)>
+        ensures fault { IsOk result ↔ HasWord self.geometry (tree_of self) path.now.items }
+        ensures none { IsOk result ↔ IsSome (word_at_path self path.now.items) }
+        ensures kept { IfErr result (λ e. e.0 ≡ self) }
+        ensures poked { IfOk result (λ t. IsPoked (word_at_path self) (raw_word_of t) path.now.items word) }
+        ensures map { IfOk result (λ t. IsPokedMap (block_of self.geometry path.now.items) (word_at_path self) (meaning self) (raw_meaning t) path.now.items word) }
+        ensures geometry { IfOk result (λ t. t.geometry ≡ self.geometry) }
+    {
+        match self.word_at(path) {
+            Some(_) => {
+                let mut raw = self.into_raw();
+                raw.set(path, word);
+                Ok(raw)
+            }
+            None => Err((self, PathFault)),
+        }
+    }
+}
