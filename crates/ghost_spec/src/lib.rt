@@ -12,7 +12,7 @@ mod guest_rules;
 mod leaves;
 pub mod parts;
 pub mod pool;
-mod rows;
+pub mod rows;
 mod rules;
 pub mod runs;
 pub mod shared;

@@ -65,13 +65,15 @@ impl GhostSlot {
 }
 
 impl GhostGuest {
+    ghost use Rattle.std.specs.Prelude.{[]};
     ghost use Rattle.reference_model.specs.State.{no_guest};
     ghost use Rattle.ghost_spec.specs.Kept.{IsKeptGuest};
     ghost use Rattle.ghost_spec.specs.States.{guest_in};
 
     /// An Empty guest.
-    pub(crate) fn none(alloc: Global) -> GhostGuest
+    pub fn none(alloc: Global) -> GhostGuest
         ensures none { guest_in result ≡ no_guest }
+        ensures runs { result.tree.runs.items ≡ [] }
         ensures kept { IsKeptGuest result }
     {
         GhostGuest {
@@ -127,7 +129,7 @@ pub(crate) fn copied_guests(
 }
 
 /// So many slots, all Empty.
-pub(crate) fn empty_slots(alloc: Global, count: u64) -> Result<Vec<GhostSlot>, AllocError>
+pub fn empty_slots(alloc: Global, count: u64) -> Result<Vec<GhostSlot>, AllocError>
     ensures count { IfOk result (λ v. length v.items ≡ count) }
     ensures empty { IfOk result (λ v. All (λ s. slot_in s ≡ no_slot 1) v.items) }
 {
@@ -145,7 +147,7 @@ pub(crate) fn empty_slots(alloc: Global, count: u64) -> Result<Vec<GhostSlot>, A
 }
 
 /// So many guests, all Empty.
-pub(crate) fn empty_guests(alloc: Global, count: u64) -> Result<Vec<GhostGuest>, AllocError>
+pub fn empty_guests(alloc: Global, count: u64) -> Result<Vec<GhostGuest>, AllocError>
     ensures count { IfOk result (λ v. length v.items ≡ count) }
     ensures empty { IfOk result (λ v. All (λ g. guest_in g ≡ no_guest) v.items) }
     ensures kept { IfOk result (λ v. AreKeptGuests v.items) }

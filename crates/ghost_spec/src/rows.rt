@@ -328,7 +328,7 @@ pub(crate) fn find_rows(
 }
 
 /// Rows of these runs, put together from the last one on.
-pub(crate) fn copied_rows(alloc: Global, runs: &[Run<Row>]) -> Result<RunList<Row>, AllocError>
+pub fn copied_rows(alloc: Global, runs: &[Run<Row>]) -> Result<RunList<Row>, AllocError>
     requires { AreInReach HasPageBelow runs.now }
     ensures same { IfOk result (λ r. run_map advance_row r.runs ≡ run_map advance_row runs.now) }
     ensures reach { IfOk result (λ r. AreInReach HasPageBelow r.runs) }

@@ -35,7 +35,7 @@ impl Shared {
     ghost use Rattle.ghost_spec.specs.Views.{shared_in_lists};
 
     /// A part that holds no frame.
-    pub(crate) fn none(alloc: Global) -> Shared
+    pub fn none(alloc: Global) -> Shared
         ensures none { shared_in_lists result ≡ no_shared }
         ensures kept { IsKeptShared result }
     {

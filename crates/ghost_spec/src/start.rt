@@ -16,7 +16,7 @@ use page_state::Layout;
 use std::alloc::{AllocError, Global};
 
 /// So many CPUs with nothing.
-fn idle_cpus(alloc: Global, count: u64) -> Result<Vec<GhostCpu>, AllocError>
+pub fn idle_cpus(alloc: Global, count: u64) -> Result<Vec<GhostCpu>, AllocError>
     ensures count { IfOk result (λ v. length v.items ≡ count) }
     ensures idle { IfOk result (λ v. All (λ k. cpu_in k ≡ no_cpu) v.items) }
     ensures kept { IfOk result (λ v. AreKeptCpus v.items) }
@@ -29,7 +29,7 @@ fn idle_cpus(alloc: Global, count: u64) -> Result<Vec<GhostCpu>, AllocError>
 }
 
 /// So many logs of a room.
-fn equal_rooms(alloc: Global, count: u64, room: u64) -> Result<Vec<u64>, AllocError>
+pub fn equal_rooms(alloc: Global, count: u64, room: u64) -> Result<Vec<u64>, AllocError>
     ensures count { IfOk result (λ v. length v.items ≡ count) }
     ensures rooms { IfOk result (λ v. All (λ n. n ≡ room) v.items) }
 {

@@ -80,7 +80,7 @@ fn is_guest_full(rooms: &[u64], slot: Option<u64>) -> bool
 }
 
 /// The same layout once more.
-fn copied_layout(layout: &Layout) -> Result<Layout, AllocError>
+pub fn copied_layout(layout: &Layout) -> Result<Layout, AllocError>
     ensures { IfOk result (λ l. layout_of l ≡ layout_of layout.now) }
 {
     Ok(Layout {

@@ -1,0 +1,28 @@
+pub mod Apart
+pub mod Audited
+pub mod Ended
+pub mod FoundTables
+pub mod Founds
+pub mod Judged
+pub mod JudgedSteps
+pub mod Lasts
+pub mod Lists
+pub mod LowKept
+pub mod LowParts
+pub mod Marked
+pub mod Places
+pub mod PokedParts
+pub mod PokedTables
+pub mod PutRows
+pub mod Reached
+pub mod Recording
+pub mod RawReady
+pub mod RawUnder
+mod RowsFound
+mod RowsLaid
+mod RowsPages
+mod RowsTold
+pub mod Scratch
+pub mod Under
+pub mod Walked
+pub mod Walking

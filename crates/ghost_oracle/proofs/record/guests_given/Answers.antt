@@ -1,0 +1,13 @@
+use Rattle.std.proofs.Common.{◌≡◌, All}
+use mathlib.Core.Path.{fun_ext}
+use Rattle.reference_model.specs.State.{blank, no_guest}
+use Rattle.ghost_spec.specs.States.{guest_in}
+use Rattle.ghost_spec.specs.Used.{guests_in}
+use Rattle.ghost_spec.proofs.Starts.{all-same}
+use Rattle.ghost_oracle.proofs.Scratch.{if_ok}
+use Rattle.ghost_oracle.proofs.record.guests_given.Goals as goal
+
+pub returns-in-None-clause-guests : goal.returns-in-None-clause-guests
+returns-in-None-clause-guests g c = rw c.in-None.is (if_ok (λ v. All (λ x. guest_in x ≡ no_guest) v.items) (λ v. guests_in v.items ≡ blank.guest) c.empty_guests.result
+    (λ v h. fun_ext (all-same guest_in no_guest v.items h))
+    c.empty_guests.ensures.empty)

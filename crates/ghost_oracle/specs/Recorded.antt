@@ -1,0 +1,71 @@
+-- The state that a record of given parts tells: what they hold stands in it, and all else is empty.
+use Rattle.std.specs.Prelude.{◌≡◌, ℕ, Option, Some, None, is_some, option_map}
+use Rattle.page_state.specs.Layouts.{Layout}
+use Rattle.reference_model.specs.Parts.{Names, uses_shared, uses_vms}
+use Rattle.reference_model.specs.State.{Contents, Rooms, Reference, all_rooms, blank, no_guest, no_shared, no_vms, put_at}
+use Rattle.reference_model.specs.Used.{Used, UsedRooms, put_back, put_rooms}
+use Rattle.guest_steps.specs.declared.parts.CpuState.{CpuState}
+use Rattle.guest_steps.specs.declared.parts.GuestPart.{GuestPart}
+use Rattle.guest_steps.specs.declared.parts.SharedPart.{SharedPart}
+use Rattle.guest_steps.specs.declared.parts.VmPart.{VmPart}
+use Rattle.guest_steps.specs.View.{cpu_of, guest_held, shared_of, vm_slots}
+use Rattle.hypercalls.specs.Stands.{at_place}
+
+-- what is given: the VM part, the Shared part and the Guest part of a slot, each or none, and a CPU with its own state
+pub record Given (A : Type 0) : Type 0 where
+  pub vms : Option VmPart
+  pub shared : Option (SharedPart A)
+  pub guest : Option (ℕ × GuestPart A)
+  pub cpu : ℕ
+  pub own : CpuState
+
+-- these
+abbrev pub given : {A : Type 0} → Option VmPart → Option (SharedPart A) → Option (ℕ × GuestPart A) → ℕ → CpuState → Given A
+given v s g c k = record { vms = v; shared = s; guest = g; cpu = c; own = k }
+
+-- a function with what the given part stands for at its number, where one is given
+abbrev pub put_given : {P X : Type 0} → (ℕ → X) → (P → X) → Option (ℕ × P) → ℕ → X
+put_given f view None = f
+put_given f view (Some p) = put_at f p.0 (view p.1)
+
+module _ {A : Type 0} (x : Given A) where
+  -- what the parts and the CPU hold, put into contents in which nothing is mapped, held or loaded
+  abbrev pub recorded_contents : Contents
+  recorded_contents = record {
+    vms = at_place blank.vms vm_slots x.vms;
+    shared = at_place blank.shared shared_of x.shared;
+    guest = put_given blank.guest guest_held x.guest;
+    cpu = put_at blank.cpu x.cpu (cpu_of x.own);
+  }
+
+  -- the rooms of their logs, put into those of empty logs
+  abbrev pub recorded_rooms : Rooms → Rooms
+  recorded_rooms r = record {
+    vms = at_place r.vms (λ v. v.log.room) x.vms;
+    shared = at_place r.shared (λ s. s.log.room) x.shared;
+    guest = put_given r.guest (λ g. g.log.room) x.guest;
+    cpu = put_at r.cpu x.cpu x.own.log.room;
+  }
+
+  -- the state
+  abbrev pub recorded : Layout → Reference
+  recorded l = record { contents = recorded_contents; rooms = recorded_rooms (all_rooms l.config.log) }
+
+  -- what is given, as what a call uses
+  abbrev pub used_given : Used
+  used_given = record { vms = at_place no_vms vm_slots x.vms; shared = at_place no_shared shared_of x.shared; guest = at_place no_guest (λ g. guest_held g.1) x.guest; cpu = cpu_of x.own }
+
+  -- the rooms of their logs
+  abbrev pub rooms_given : UsedRooms
+  rooms_given = record { vms = at_place 0 (λ v. v.log.room) x.vms; shared = at_place 0 (λ s. s.log.room) x.shared; guest = at_place 0 (λ g. g.1.log.room) x.guest; cpu = x.own.log.room }
+
+  -- just the parts that a call uses are given: those that it names, and the Guest part of its slot
+  pub record IsGivenFor (n : Names) (slot : Option ℕ) : Type 0 where
+    pub vms : is_some x.vms ≡ uses_vms n
+    pub shared : is_some x.shared ≡ uses_shared n slot
+    pub guest : option_map (λ g. g.0) x.guest ≡ slot
+
+-- where just the parts that a call uses are given, the record is what the call uses, put into a state in which nothing is
+-- mapped, held or loaded, and each log is empty
+abbrev pub RecordsUsed : Type 0 → Type 0
+RecordsUsed A = (l : Layout) (n : Names) (slot : Option ℕ) (x : Given A) → IsGivenFor x n slot → recorded x l ≡ record { contents = put_back n slot x.cpu blank (used_given x); rooms = put_rooms n slot x.cpu (all_rooms l.config.log) (rooms_given x) }

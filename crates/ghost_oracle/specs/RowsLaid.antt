@@ -1,0 +1,101 @@
+-- What lists of rows tell of frames, each of one thing: annotations, loans or uses.
+use Rattle.std.specs.Prelude.{ℕ, zero, suc, ◌+◌, ◌-◌, ◌||◌, Bool, min, List, [], ◌∷◌, get_or, map, length, All, Option, Some, None, option_map, if◌then◌else◌}
+use Rattle.std.specs.Option.{option_or}
+use Rattle.descriptor.specs.declared.State.{State}
+use Rattle.descriptor.specs.declared.State.TheVariants.{SharedBorrowed}
+use Rattle.page_state.specs.declared.entry.Entry.{Entry}
+use Rattle.page_state.specs.declared.entry.Entry.TheVariants.{Annotated}
+use Rattle.page_state.specs.declared.entry.Run.{Run}
+use Rattle.page_state.specs.declared.row.Row.{Row}
+use Rattle.page_state.specs.declared.row.Usage.{Usage}
+use Rattle.page_state.specs.declared.row.Usage.TheVariants.{Plain, SharedPool, VmPool, InHand}
+use Rattle.page_state.specs.Layouts.{Layout}
+use Rattle.page_state.specs.Map.{Map}
+use Rattle.page_state.specs.Trees.{Tree, Pool}
+use Rattle.reference_model.specs.Owner.{page_of, lent_at, is_free, is_table_frame, is_in_hand}
+use Rattle.reference_model.specs.State.{Guest, Cpu, no_guest, no_cpu}
+use Rattle.ghost_spec.specs.declared.cpu.GhostCpu.{GhostCpu}
+use Rattle.ghost_spec.specs.declared.parts.GhostGuest.{GhostGuest}
+use Rattle.ghost_spec.specs.Found.{run_page}
+use Rattle.ghost_spec.specs.Small.{AreSmall}
+use Rattle.ghost_spec.specs.States.{guest_in}
+use Rattle.ghost_spec.specs.Views.{cpu_in}
+
+-- the first of the `n` options from a number on that has a value
+unfoldable pub first_some : {X : Type 0} → ℕ → ℕ → (ℕ → Option X) → Option X
+first_some from zero option = None
+first_some from (suc n) option = option_or (option from) (first_some (suc from) n option)
+
+-- the guests of a list, and Empty ones past its end
+abbrev pub guests_in : List GhostGuest → ℕ → Guest
+guests_in gs v = get_or (map guest_in gs) v no_guest
+
+-- the CPUs of a list, and idle ones past its end
+abbrev pub cpus_in : List GhostCpu → ℕ → Cpu
+cpus_in ks c = get_or (map cpu_in ks) c no_cpu
+
+-- the runs of each guest's tree are small
+abbrev pub HaveSmallRuns : List GhostGuest → Type 0
+HaveSmallRuns gs = All (λ g. AreSmall g.tree.runs.items) gs
+
+-- the owner of an annotated page, as a row
+abbrev pub annotated_row : Entry → Option Row
+annotated_row (Annotated owner) = Some (record { owner = owner; lent = None; usage = Plain })
+annotated_row other = None
+
+-- lent to the component of a number at its page, as a row
+abbrev pub loan_row : ℕ → ℕ → Row
+loan_row number page = record { owner = record { 0 = 0 }; lent = Some (lent_at number page); usage = Plain }
+
+-- the same, where there is a page
+abbrev pub loan_at : ℕ → Option ℕ → Option Row
+loan_at number page = option_map (loan_row number) page
+
+-- a run's part below a limit
+abbrev pub run_below : ℕ → Run → Run
+run_below limit r = record r { pages = record r.pages { count = min r.pages.count (limit - r.pages.first.0) } }
+
+-- the page below a limit that maps the frame in the state, of the first run that has one
+abbrev pub low_page : ℕ → State → ℕ → List Run → Option ℕ
+low_page limit s f [] = None
+low_page limit s f (r ∷ rs) = option_or (run_page f s (run_below limit r)) (low_page limit s f rs)
+
+-- lent to a guest, where it maps the frame in the state
+abbrev pub guest_loan : Layout → (ℕ → Guest) → State → ℕ → ℕ → Option Row
+guest_loan l guest s f v = loan_at (2 + v) (page_of l (guest v).tree.map s f)
+
+-- lent to the first of the guests that maps the frame in the state
+abbrev pub guests_loan : Layout → List GhostGuest → State → ℕ → Option Row
+guests_loan l gs s f = first_some 0 (length gs) (guest_loan l (guests_in gs) s f)
+
+-- lent to the first of the host, the hypervisor and the guests that borrows the frame
+abbrev pub any_loan : Layout → Map → Map → List GhostGuest → ℕ → Option Row
+any_loan l host hyp gs f = option_or (loan_at 0 (page_of l host SharedBorrowed f)) (option_or (loan_at 1 (page_of l hyp SharedBorrowed f)) (guests_loan l gs SharedBorrowed f))
+
+-- a use, as a row
+abbrev pub used_row : Usage → Row
+used_row u = record { owner = record { 0 = 0 }; lent = None; usage = u }
+
+-- the same, where a test holds
+abbrev pub used_if : Bool → Usage → Option Row
+used_if test u = if test then Some (used_row u) else None
+
+-- free in the guest's pool, or a table of its tree
+abbrev pub guest_use : Layout → (ℕ → Guest) → ℕ → ℕ → Option Row
+guest_use l guest f v = used_if (is_free (guest v).free f || is_table_frame l (guest v).tree f) (VmPool v)
+
+-- in the hand of a CPU
+abbrev pub hand_use : (ℕ → Cpu) → ℕ → ℕ → Option Row
+hand_use cpu f c = used_if (is_in_hand (cpu c).hand f) (InHand c)
+
+-- in the hand of the first CPU that has the frame
+abbrev pub hands_use : List GhostCpu → ℕ → Option Row
+hands_use ks f = first_some 0 (length ks) (hand_use (cpus_in ks) f)
+
+-- in the pool of the first guest that has the frame
+abbrev pub guests_use : Layout → List GhostGuest → ℕ → Option Row
+guests_use l gs f = first_some 0 (length gs) (guest_use l (guests_in gs) f)
+
+-- in the shared pool, in a guest's, or in a hand
+abbrev pub any_use : Layout → Pool → Tree → Tree → List GhostGuest → List GhostCpu → ℕ → Option Row
+any_use l free host hyp gs ks f = option_or (used_if (is_free free f || is_table_frame l host f || is_table_frame l hyp f) SharedPool) (option_or (guests_use l gs f) (hands_use ks f))

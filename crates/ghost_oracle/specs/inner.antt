@@ -1,0 +1,4 @@
+pub mod Found
+pub mod Parted
+pub mod Same
+pub mod Walking

@@ -1,0 +1,41 @@
+-- How a walk goes on: the runs and the tables that it has found so far.
+use Rattle.std.specs.Prelude.{◌≡◌, ℕ, zero, suc, ◌+◌, ◌*◌, ◌<◌, ◌≤◌, nat_lt, List, [], ◌∷◌, if◌then◌else◌}
+use Rattle.page_state.specs.declared.entry.Run.{Run}
+use Rattle.page_state.specs.Map.{Map}
+use Rattle.page_state.specs.Runs.{run_end, IsCoarsest}
+use Rattle.table_tree.specs.declared.table.Table.{Table}
+use Rattle.table_tree.specs.AllBlocks.{gathered}
+use Rattle.table_tree.specs.Meaning.{slot_at, slot_case, frame_of}
+use Rattle.ghost_spec.specs.declared.tree.Table.{Table as FoundTable}
+use Rattle.ghost_spec.specs.Joins.{joined}
+use Rattle.ghost_spec.specs.Small.{AreSmall}
+
+-- each run ends at a page or before it
+abbrev pub EndBy : ℕ → List Run → Type 0
+EndBy page [] = Unit {0}
+EndBy page (r ∷ rs) = (run_end r ≤ page) × EndBy page rs
+
+-- runs of pages before a page: small, the coarsest list, and none beyond it
+pub record AreRunsTo (page : ℕ) (rs : List Run) : Type 0 where
+  pub small : AreSmall rs
+  pub coarsest : IsCoarsest rs
+  pub ended : EndBy page rs
+
+-- a run behind a list: its pages go to the last run where it continues that one
+abbrev pub joined_last : List Run → Run → List Run
+joined_last [] r = r ∷ []
+joined_last (n ∷ []) r = joined n (r ∷ [])
+joined_last (n ∷ (m ∷ rs)) r = n ∷ joined_last (m ∷ rs) r
+
+-- a map that went on, from a page to another, as `m` says
+abbrev pub GoesOn : Map → ℕ → ℕ → Map → Map → Type 0
+GoesOn m from to old new = (page : ℕ) → page < to → new page ≡ (if nat_lt page from then old page else m page)
+
+-- a table that stands at a block of so many levels, where it is found
+abbrev pub found_at : {A : Type 0} → ℕ → ℕ → Table A → FoundTable
+found_at depth number t = record { block = (depth + 1, number); frame = frame_of t }
+
+-- a table with `depth` levels below it at block `number`, and all tables below it, by page, each before those below it
+unfoldable pub found_under : {A : Type 0} → ℕ → ℕ → Table A → List FoundTable
+found_under zero number t = found_at zero number t ∷ []
+found_under (suc depth) number t = found_at (suc depth) number t ∷ gathered (λ i. slot_case (λ _. []) (found_under depth (number * 512 + i)) (slot_at t i)) 512

@@ -1,0 +1,42 @@
+//! What the oracle tells where two states disagree.
+use page_state::{Entry, Reply, Row};
+
+/// Whose tree.
+#[derive(Clone, Copy, PartialEq, Debug)]
+pub enum TreeOf {
+    Host,
+    Hyp,
+    /// The guest of a slot.
+    Guest(u64),
+}
+
+/// Where what is kept and what was found from scratch, or what was said and what the model says, disagree.
+#[derive(Clone, Copy, PartialEq, Debug)]
+pub enum Disagreement {
+    /// On a page of a tree.
+    Map {
+        tree: TreeOf,
+        page: u64,
+        kept: Entry,
+        walked: Entry,
+    },
+    /// On the owner row of a frame.
+    Owner {
+        frame: u64,
+        kept: Row,
+        walked: Row,
+    },
+    /// On the reply of a call.
+    Reply {
+        said: Reply,
+        spec: Reply,
+    },
+    /// On the free frames of the shared pool.
+    Free,
+    /// On the free frames of the pool of a slot's guest.
+    GuestFree(u64),
+    /// On a slot of the VM part.
+    Vm(u64),
+    /// On a CPU's own state.
+    Cpu(u64),
+}

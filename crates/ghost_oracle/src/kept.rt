@@ -1,0 +1,119 @@
+//! The reference state of all parts on lists: what is kept, and what walking every word finds.
+ghost use Rattle.std.specs.Prelude.{◌≡◌, ℕ, ◌∷◌, [], All, IfOk, map};
+ghost use Rattle.page_state.specs.LayoutView.{layout_of};
+ghost use Rattle.page_state.specs.Rows.{HasPageBelow};
+ghost use Rattle.run_list.specs.Runs.{AreInReach};
+ghost use Rattle.guest_component.specs.View.{runs_of};
+ghost use Rattle.guest_steps.specs.View.{cpu_of, guest_held, shared_of};
+ghost use Rattle.ghost_spec.specs.Kept.{IsKeptShared};
+ghost use Rattle.ghost_spec.specs.States.{ghost_state, IsKept};
+ghost use Rattle.ghost_spec.specs.Views.{row_in, shared_in_lists};
+ghost use Rattle.hypercalls.specs.Stands.{parts_layout, state_of, HasHistory};
+ghost use Rattle.ghost_oracle.specs.Found.{found_state, walked_state, with_row, HasRowsOf, SaysMaplets, SaysRows};
+ghost use Rattle.ghost_oracle.specs.Low.{IsLowCpu, IsLowGuest};
+
+use crate::parts::{cpu_rooms, cpus_from, guest_rooms, slots_from};
+use crate::rows::rows_from_scratch;
+use crate::trees::{Source, frames_of, guests_from, tree_from};
+use ghost_spec::rows::copied_rows;
+use ghost_spec::shared::Shared;
+use ghost_spec::state::{Ghost, GhostRooms, copied_layout};
+use guest_steps::SharedPart;
+use hypercalls::Parts;
+use page_state::Row;
+use run_list::RunList;
+use std::alloc::{AllocError, Allocator, Global};
+
+/// The Shared part with these rows.
+pub(crate) fn shared_from<A: Allocator>(
+    alloc: Global,
+    part: &SharedPart<A>,
+    source: Source,
+    rows: RunList<Row>,
+) -> Result<Shared, AllocError>
+    requires reach { AreInReach HasPageBelow rows.runs }
+    ensures shared { IfOk result (λ s. shared_in_lists s ≡ with_row (row_in rows.runs) (shared_of part.now)) }
+    ensures kept { IfOk result IsKeptShared }
+    ensures rows { IfOk result (λ s. s.rows ≡ rows) }
+    ensures host { source ≡ Source.Maplets → IfOk result (λ s. s.host.runs.items ≡ part.now.host.maplets.runs) }
+    ensures hyp { source ≡ Source.Maplets → IfOk result (λ s. s.hyp.runs.items ≡ part.now.hyp.maplets.runs) }
+{
+    Ok(Shared {
+        host: tree_from(alloc, &part.host, source)?,
+        hyp: tree_from(alloc, &part.hyp, source)?,
+        free: frames_of(alloc, &part.pool)?,
+        rows,
+    })
+}
+
+/// The rooms of all logs.
+fn rooms_from<A: Allocator>(alloc: Global, parts: &Parts<A>) -> Result<GhostRooms, AllocError>
+    ensures vms { IfOk result (λ r. All (λ v. v.log.room ≡ r.vms) parts.now.vms.items) }
+    ensures shared { IfOk result (λ r. All (λ s. s.log.room ≡ r.shared) parts.now.shared.items) }
+    ensures guests { IfOk result (λ r. r.guests.items ≡ map (λ g. g.log.room) parts.now.guests.items) }
+    ensures cpus { IfOk result (λ r. r.cpus.items ≡ map (λ k. k.log.room) parts.now.cpus.items) }
+{
+    Ok(GhostRooms {
+        vms: parts.vms[0].log.room(),
+        shared: parts.shared().log.room(),
+        guests: guest_rooms(alloc, parts.guests.as_slice())?,
+        cpus: cpu_rooms(alloc, parts.cpus.as_slice())?,
+    })
+}
+
+/// All parts, with these rows.
+fn ghost_from<A: Allocator>(
+    alloc: Global,
+    parts: &Parts<A>,
+    source: Source,
+    rows: RunList<Row>,
+) -> Result<Ghost, AllocError>
+    requires guests { All (λ g. IsLowGuest (guest_held g)) parts.now.guests.items }
+    requires cpus { All (λ k. IsLowCpu (cpu_of k)) parts.now.cpus.items }
+    requires reach { AreInReach HasPageBelow rows.runs }
+    ensures state { IfOk result (λ g. ghost_state g ≡ found_state (row_in rows.runs) (state_of parts.now)) }
+    ensures layout { IfOk result (λ g. layout_of g.layout ≡ parts_layout parts.now) }
+    ensures kept { IfOk result IsKept }
+    ensures rows { IfOk result (λ g. g.shared.rows ≡ rows) }
+    ensures maplets { source ≡ Source.Maplets → IfOk result (SaysMaplets parts.now) }
+{
+    Ok(Ghost {
+        layout: copied_layout(&parts.layout)?,
+        vms: slots_from(alloc, &parts.vms[0].table)?,
+        shared: shared_from(alloc, parts.shared(), source, rows)?,
+        guests: guests_from(alloc, parts.guests.as_slice(), source)?,
+        cpus: cpus_from(alloc, parts.cpus.as_slice())?,
+        rooms: rooms_from(alloc, parts)?,
+    })
+}
+
+/// What is kept: the runs of all maplets and of the owner table, and the tables, pools, slots, CPUs and rooms as they
+/// stand. Where tables stand is found by a walk, since nothing else keeps it.
+pub fn kept<A: Allocator>(alloc: Global, parts: &Parts<A>) -> Result<Ghost, AllocError>
+    requires history { ∥ HasHistory parts.now ∥₁ }
+    ensures state { IfOk result (λ g. ghost_state g ≡ state_of parts.now) }
+    ensures layout { IfOk result (λ g. layout_of g.layout ≡ parts_layout parts.now) }
+    ensures kept { IfOk result IsKept }
+    ensures maplets { IfOk result (SaysMaplets parts.now) }
+    ensures rows { IfOk result (SaysRows parts.now) }
+    ensures frames { IfOk result (HasRowsOf (parts_layout parts.now)) }
+{
+    let rows = copied_rows(alloc, parts.shared().rows.runs())?;
+    ghost_from(alloc, parts, Source::Maplets, rows)
+}
+
+/// What walking every descriptor from scratch finds: the map of each tree by its words alone, each of which is read once, and
+/// the owner row of each memory frame by these maps, the tables, the pools and the hands. Pools, slots, CPUs and rooms, which
+/// stand in no table, are as they stand.
+pub fn recompute<A: Allocator>(alloc: Global, parts: &Parts<A>) -> Result<Ghost, AllocError>
+    requires history { ∥ HasHistory parts.now ∥₁ }
+    ensures state { IfOk result (λ g. ghost_state g ≡ walked_state (parts_layout parts.now) (state_of parts.now)) }
+    ensures layout { IfOk result (λ g. layout_of g.layout ≡ parts_layout parts.now) }
+    ensures kept { IfOk result IsKept }
+    ensures frames { IfOk result (HasRowsOf (parts_layout parts.now)) }
+{
+    let mut found = ghost_from(alloc, parts, Source::Words, RunList::new(alloc))?;
+    let rows = rows_from_scratch(alloc, &found)?;
+    found.shared.rows = rows;
+    Ok(found)
+}

@@ -1,0 +1,205 @@
+//! A record of given parts alone: what a walk of their trees finds, and what stands in no tree.
+ghost use Rattle.std.specs.Prelude.{◌≡◌, ℕ, ◌<◌, IfOk, IfSome, get_or, length, map};
+ghost use Rattle.std.specs.Option.{option_copied, option_map};
+ghost use Rattle.page_state.specs.LayoutView.{layout_of};
+ghost use Rattle.reference_model.specs.State.{blank, no_cpu, no_slot, put_at};
+ghost use Rattle.guest_steps.specs.View.{cpu_of, guest_held, shared_of, vm_slots};
+ghost use Rattle.hypercalls.specs.Stands.{at_place};
+ghost use Rattle.ghost_spec.specs.Kept.{IsKeptGuest, IsKeptShared};
+ghost use Rattle.ghost_spec.specs.States.{ghost_state, guest_in, slot_in, AreKeptCpus, AreKeptGuests, IsKept};
+ghost use Rattle.ghost_spec.specs.Used.{guests_in, rooms_of};
+ghost use Rattle.ghost_spec.specs.Views.{cpu_in, shared_in_lists};
+ghost use Rattle.ghost_oracle.specs.Low.{IsLowCpu, IsLowGuest};
+ghost use Rattle.ghost_oracle.specs.Recorded.{given, put_given, recorded};
+
+#[cfg(test)]
+mod tests;
+
+use crate::kept::shared_from;
+use crate::parts::{cpu_from, slots_from};
+use crate::trees::{Source, guest_from};
+use ghost_spec::cpu::GhostCpu;
+use ghost_spec::parts::{GhostGuest, GhostSlot, empty_guests, empty_slots};
+use ghost_spec::rows::copied_rows;
+use ghost_spec::shared::Shared;
+use ghost_spec::start::{equal_rooms, idle_cpus};
+use ghost_spec::state::{Ghost, GhostRooms, copied_layout};
+use guest_steps::{CpuState, GuestPart, SharedPart, VmPart};
+use page_state::{Config, Layout};
+use std::alloc::{AllocError, Allocator, Global};
+
+/// The slots of the VM part, or Empty ones.
+fn slots_given(alloc: Global, vms: Option<&VmPart>) -> Result<Vec<GhostSlot>, AllocError>
+    ensures slots { IfOk result (λ v. (slot : ℕ) → get_or (map slot_in v.items) slot (no_slot 1) ≡ (at_place blank.vms vm_slots (option_copied vms.entry)).slot slot) }
+    ensures count { IfOk result (λ v. length v.items ≡ 64) }
+{
+    match vms {
+        Some(part) => slots_from(alloc, &part.table),
+        None => empty_slots(alloc, 64),
+    }
+}
+
+/// The Shared part: the maps as a walk finds them, and the pool and the rows as they stand.
+fn shared_walked<A: Allocator>(alloc: Global, part: &SharedPart<A>) -> Result<Shared, AllocError>
+    ensures shared { IfOk result (λ s. shared_in_lists s ≡ shared_of part.now) }
+    ensures kept { IfOk result IsKeptShared }
+{
+    let rows = copied_rows(alloc, part.rows.runs())?;
+    shared_from(alloc, part, Source::Words, rows)
+}
+
+/// The Shared part, or a blank one.
+fn shared_given<A: Allocator>(
+    alloc: Global,
+    shared: Option<&SharedPart<A>>,
+) -> Result<Shared, AllocError>
+    ensures shared { IfOk result (λ s. shared_in_lists s ≡ at_place blank.shared shared_of (option_copied shared.entry)) }
+    ensures kept { IfOk result IsKeptShared }
+{
+    match shared {
+        Some(part) => shared_walked(alloc, part),
+        None => Ok(Shared::none(alloc)),
+    }
+}
+
+/// The guest of a slot, and Empty ones at the others.
+fn guests_with(alloc: Global, slot: u64, guest: GhostGuest) -> Result<Vec<GhostGuest>, AllocError>
+    requires slot { slot < 64 }
+    requires kept { IsKeptGuest guest }
+    ensures guests { IfOk result (λ v. guests_in v.items ≡ put_at blank.guest slot (guest_in guest)) }
+    ensures count { IfOk result (λ v. length v.items ≡ 64) }
+    ensures kept { IfOk result (λ v. AreKeptGuests v.items) }
+{
+    let mut guests = empty_guests(alloc, 64)?;
+    guests[slot as usize] = guest;
+    Ok(guests)
+}
+
+/// The guest of the Guest part at its slot, its map as a walk finds it, and Empty ones at the others.
+fn guests_given<A: Allocator>(
+    alloc: Global,
+    guest: Option<(u64, &GuestPart<A>)>,
+) -> Result<Vec<GhostGuest>, AllocError>
+    requires slot { IfSome guest (λ g. g.0 < 64) }
+    requires low { IfSome guest (λ g. IsLowGuest (guest_held g.1.now)) }
+    ensures guests { IfOk result (λ v. guests_in v.items ≡ put_given blank.guest guest_held (option_map (λ g. (g.0, g.1.now)) guest.entry)) }
+    ensures count { IfOk result (λ v. length v.items ≡ 64) }
+    ensures kept { IfOk result (λ v. AreKeptGuests v.items) }
+{
+    match guest {
+        Some((slot, part)) => {
+            let found = guest_from(alloc, &part.guest, Source::Words)?;
+            guests_with(alloc, slot, found)
+        }
+        None => empty_guests(alloc, 64),
+    }
+}
+
+/// A CPU with its own state, and idle ones beside it.
+fn cpus_with(
+    alloc: Global,
+    count: u64,
+    cpu: u64,
+    state: &CpuState,
+) -> Result<Vec<GhostCpu>, AllocError>
+    requires cpu { cpu < count }
+    requires low { IsLowCpu (cpu_of state.now) }
+    ensures cpus { IfOk result (λ v. (c : ℕ) → get_or (map cpu_in v.items) c no_cpu ≡ put_at blank.cpu cpu (cpu_of state.now) c) }
+    ensures count { IfOk result (λ v. length v.items ≡ count) }
+    ensures kept { IfOk result (λ v. AreKeptCpus v.items) }
+{
+    let mut cpus = idle_cpus(alloc, count)?;
+    cpus[cpu as usize] = cpu_from(state);
+    Ok(cpus)
+}
+
+/// The room of a log at its place, and those of empty logs beside it, which store so many calls.
+fn rooms_with(
+    alloc: Global,
+    count: u64,
+    log: u64,
+    place: u64,
+    room: u64,
+) -> Result<Vec<u64>, AllocError>
+    requires { place < count }
+    ensures rooms { IfOk result (λ v. rooms_of log v.items ≡ put_at (λ _. log) place room) }
+    ensures count { IfOk result (λ v. length v.items ≡ count) }
+{
+    let mut rooms = equal_rooms(alloc, count, log)?;
+    rooms[place as usize] = room;
+    Ok(rooms)
+}
+
+/// The rooms of the guests' logs.
+fn guest_rooms_given<A: Allocator>(
+    alloc: Global,
+    log: u64,
+    guest: Option<(u64, &GuestPart<A>)>,
+) -> Result<Vec<u64>, AllocError>
+    requires { IfSome guest (λ g. g.0 < 64) }
+    ensures rooms { IfOk result (λ v. rooms_of log v.items ≡ put_given (λ _. log) (λ g. g.log.room) (option_map (λ g. (g.0, g.1.now)) guest.entry)) }
+    ensures count { IfOk result (λ v. length v.items ≡ 64) }
+{
+    match guest {
+        Some((slot, part)) => rooms_with(alloc, 64, log, slot, part.log.room()),
+        None => equal_rooms(alloc, 64, log),
+    }
+}
+
+/// The room of the VM part's log, or of an empty one.
+fn vms_room(log: u64, vms: Option<&VmPart>) -> u64
+    ensures { result ≡ at_place log (λ v. v.log.room) (option_copied vms.entry) }
+{
+    match vms {
+        Some(part) => part.log.room(),
+        None => log,
+    }
+}
+
+/// The room of the Shared part's log, or of an empty one.
+fn shared_room<A: Allocator>(log: u64, shared: Option<&SharedPart<A>>) -> u64
+    ensures { result ≡ at_place log (λ s. s.log.room) (option_copied shared.entry) }
+{
+    match shared {
+        Some(part) => part.log.room(),
+        None => log,
+    }
+}
+
+/// What the given parts and a CPU hold, and nothing else: the map of each of their trees by its words alone, each of which is
+/// read once, and the tables, pools, rows, phases, slots and rooms as they stand. Every other part, slot and CPU is empty, and
+/// so is its log.
+pub fn record<A: Allocator>(
+    alloc: Global,
+    layout: &Layout,
+    cpu: u64,
+    vms: Option<&VmPart>,
+    shared: Option<&SharedPart<A>>,
+    guest: Option<(u64, &GuestPart<A>)>,
+    state: &CpuState,
+) -> Result<Ghost, AllocError>
+    requires cpu { cpu < layout.now.config.cpus }
+    requires slot { IfSome guest (λ g. g.0 < 64) }
+    requires guest { IfSome guest (λ g. IsLowGuest (guest_held g.1.now)) }
+    requires own { IsLowCpu (cpu_of state.now) }
+    ensures state { IfOk result (λ g. ghost_state g ≡ recorded (given (option_copied vms.entry) (option_copied shared.entry) (option_map (λ g. (g.0, g.1.now)) guest.entry) cpu state.now) (layout_of layout.now)) }
+    ensures layout { IfOk result (λ g. layout_of g.layout ≡ layout_of layout.now) }
+    ensures kept { IfOk result IsKept }
+{
+    let Config { cpus, log, .. } = layout.config;
+    let rooms = GhostRooms {
+        vms: vms_room(log, vms),
+        shared: shared_room(log, shared),
+        guests: guest_rooms_given(alloc, log, guest)?,
+        cpus: rooms_with(alloc, cpus, log, cpu, state.log.room())?,
+    };
+    let recorded = Ghost {
+        layout: copied_layout(layout)?,
+        vms: slots_given(alloc, vms)?,
+        shared: shared_given(alloc, shared)?,
+        guests: guests_given(alloc, guest)?,
+        cpus: cpus_with(alloc, cpus, cpu, state)?,
+        rooms,
+    };
+    Ok(recorded)
+}

@@ -1,0 +1,158 @@
+//! The trees of parts on lists: their tables as a walk finds them, and their runs as the maplets keep them or as the walk
+//! finds them too.
+ghost use Rattle.std.specs.Prelude.{◌≡◌, All, IfOk, map};
+ghost use Rattle.page_state.specs.Runs.{IsCoarsest};
+ghost use Rattle.table_tree.specs.View.{tree_of};
+ghost use Rattle.guest_component.specs.View.{guest_of, runs_of as runs_kept};
+ghost use Rattle.guest_steps.specs.View.{guest_held};
+ghost use Rattle.ghost_spec.specs.Kept.{IsKeptGuest, IsKeptTree};
+ghost use Rattle.ghost_spec.specs.Small.{AreSmall};
+ghost use Rattle.ghost_spec.specs.States.{guest_in, phase_in, AreKeptGuests};
+ghost use Rattle.ghost_spec.specs.Trees.{tree_in_lists};
+ghost use Rattle.guest_component.specs.Bodies.{body_of, phase_of};
+ghost use Rattle.ghost_oracle.specs.Low.{IsLowGuest};
+
+use crate::walk::walk;
+use component::Component;
+use ghost_spec::parts::{GhostGuest, GhostPhase};
+use ghost_spec::tree::Tree;
+use guest_component::{Body, Guest, Phase};
+use guest_steps::GuestPart;
+use hyp_pool::Pool;
+use maplets::Maplets;
+use page_state::Run;
+use std::alloc::{AllocError, Allocator, Global};
+use table_tree::Reads;
+
+/// Where the runs of a map come from.
+#[derive(Clone, Copy, PartialEq, Debug)]
+pub enum Source {
+    /// The maplets that are kept.
+    Maplets,
+    /// A walk of all words.
+    Words,
+}
+
+/// The runs of maplets.
+fn runs_of(alloc: Global, maplets: &Maplets) -> Result<Vec<Run>, AllocError>
+    ensures runs { IfOk result (λ v. v.items ≡ maplets.now.runs) }
+    ensures small { IfOk result (λ v. AreSmall v.items) }
+    ensures coarsest { IfOk result (λ v. IsCoarsest v.items) }
+{
+    let mut runs = Vec::new(alloc);
+    for run in maplets.iter() {
+        runs.push(run)?;
+    }
+    Ok(runs)
+}
+
+/// The free frames of a pool.
+pub(crate) fn frames_of(alloc: Global, pool: &Pool) -> Result<Vec<u64>, AllocError>
+    ensures { IfOk result (λ v. v.items ≡ pool.now.frames) }
+{
+    let mut frames = Vec::new(alloc);
+    for frame in pool.frames() {
+        frames.push(frame.0)?;
+    }
+    Ok(frames)
+}
+
+/// A component's tree.
+pub(crate) fn tree_from<A: Allocator>(
+    alloc: Global,
+    component: &Component<A>,
+    source: Source,
+) -> Result<Tree, AllocError>
+    ensures tree { IfOk result (λ t. tree_in_lists t ≡ tree_of component.now.tree) }
+    ensures kept { IfOk result IsKeptTree }
+    ensures runs { source ≡ Source.Maplets → IfOk result (λ t. t.runs.items ≡ component.now.maplets.runs) }
+{
+    let tree = component.tree();
+    let walked = walk(alloc, tree.geometry, &tree.table, &mut Reads::new())?;
+    match source {
+        Source::Maplets => with_maplets(alloc, walked, component.maplets()),
+        Source::Words => Ok(walked),
+    }
+}
+
+/// A tree with the runs of maplets.
+pub(crate) fn with_maplets(
+    alloc: Global,
+    walked: Tree,
+    maplets: &Maplets,
+) -> Result<Tree, AllocError>
+    ensures runs { IfOk result (λ t. t.runs.items ≡ maplets.now.runs) }
+    ensures tables { IfOk result (λ t. t.tables ≡ walked.tables) }
+    ensures kept { IfOk result IsKeptTree }
+{
+    let Tree { runs: _, tables } = walked;
+    Ok(Tree {
+        runs: runs_of(alloc, maplets)?,
+        tables,
+    })
+}
+
+/// The phase of a guest that isn't Empty.
+pub(crate) fn phase_from(phase: Phase) -> GhostPhase
+    ensures { phase_in result ≡ phase_of phase }
+{
+    match phase {
+        Phase::Live => GhostPhase::Live,
+        Phase::Dying => GhostPhase::Dying,
+    }
+}
+
+/// A guest that isn't Empty.
+fn body_from<A: Allocator>(
+    alloc: Global,
+    body: &Body<A>,
+    source: Source,
+) -> Result<GhostGuest, AllocError>
+    ensures guest { IfOk result (λ g. guest_in g ≡ body_of body.now) }
+    ensures tree { IfOk result (λ g. IsKeptTree g.tree) }
+    ensures kept { IsLowGuest (body_of body.now) → IfOk result IsKeptGuest }
+    ensures runs { source ≡ Source.Maplets → IfOk result (λ g. g.tree.runs.items ≡ body.now.map.maplets.runs) }
+{
+    Ok(GhostGuest {
+        phase: phase_from(body.phase),
+        generation: body.generation,
+        kind: body.kind,
+        tree: tree_from(alloc, &body.map, source)?,
+        free: frames_of(alloc, &body.pool)?,
+    })
+}
+
+/// A guest.
+pub(crate) fn guest_from<A: Allocator>(
+    alloc: Global,
+    guest: &Guest<A>,
+    source: Source,
+) -> Result<GhostGuest, AllocError>
+    ensures guest { IfOk result (λ g. guest_in g ≡ guest_of guest.now) }
+    ensures tree { IfOk result (λ g. IsKeptTree g.tree) }
+    ensures kept { IsLowGuest (guest_of guest.now) → IfOk result IsKeptGuest }
+    ensures runs { source ≡ Source.Maplets → IfOk result (λ g. g.tree.runs.items ≡ runs_kept guest.now.body) }
+{
+    match guest.body() {
+        Some(body) => body_from(alloc, body, source),
+        None => Ok(GhostGuest::none(alloc)),
+    }
+}
+
+/// The guests.
+pub(crate) fn guests_from<A: Allocator>(
+    alloc: Global,
+    parts: &[GuestPart<A>],
+    source: Source,
+) -> Result<Vec<GhostGuest>, AllocError>
+    requires low { All (λ g. IsLowGuest (guest_held g)) parts.now }
+    ensures guests { IfOk result (λ v. map guest_in v.items ≡ map guest_held parts.now) }
+    ensures kept { IfOk result (λ v. AreKeptGuests v.items) }
+    ensures runs { source ≡ Source.Maplets → IfOk result (λ v. map (λ g. g.tree.runs.items) v.items ≡ map (λ g. runs_kept g.guest.body) parts.now) }
+{
+    let mut guests = Vec::new(alloc);
+    for part in parts {
+        guests.push(guest_from(alloc, &part.guest, source)?)?;
+    }
+    Ok(guests)
+}

@@ -1,0 +1,98 @@
+//! Walks a tree from scratch: reads each word once, by page.
+ghost use Rattle.std.specs.Prelude.{◌≡◌, ◌+◌, ◌*◌, ◌^◌, ◌<◌, ◌≤◌, ◌++◌, min, IfOk, OnOk};
+ghost use Rattle.page_state.specs.Geometries.{levels_below, block_pages};
+ghost use Rattle.page_state.specs.Runs.{map_of};
+ghost use Rattle.table_tree.specs.Meaning.{IsDepth, entry_at};
+ghost use Rattle.table_tree.specs.Reading.{count_of};
+ghost use Rattle.table_tree.specs.Tables.{tables_in};
+ghost use Rattle.ghost_spec.specs.Kept.{IsKeptTree};
+ghost use Rattle.ghost_spec.specs.Trees.{tree_in_lists};
+ghost use Rattle.table_tree.specs.Raw.{IsRaw};
+ghost use Rattle.ghost_oracle.specs.Walked.{tree_under};
+ghost use Rattle.ghost_oracle.specs.inner.Walking.{AreRunsTo, GoesOn, found_under};
+
+use crate::found::put_block;
+use ghost_spec::tree::{Table as FoundTable, Tree};
+use page_state::Geometry;
+use std::alloc::{AllocError, Allocator, Global};
+use table_tree::word::entry_of;
+use table_tree::{Reads, Slot, Table};
+
+/// The tree that a root table and the tables below it say, whose words may be any. Each word is read once. It takes memory
+/// for the runs and tables that it finds alone.
+pub fn walk<A: Allocator>(
+    alloc: Global,
+    geometry: Geometry,
+    table: &Table<A>,
+    reads: &mut Reads,
+) -> Result<Tree, AllocError>
+    requires raw { IsRaw (levels_below geometry) table.now }
+    ensures tree { IfOk result (λ t. tree_in_lists t ≡ tree_under geometry table.now) }
+    ensures kept { IfOk result IsKeptTree }
+    ensures reads { OnOk result (count_of reads.new ≡ min (count_of reads.old + 512 * tables_in (levels_below geometry) table.now) 18446744073709551615) }
+{
+    let mut found = Tree {
+        runs: Vec::new(alloc),
+        tables: Vec::new(alloc),
+    };
+    walk_table(table, depth_of(geometry), 0, reads, &mut found)?;
+    Ok(found)
+}
+
+/// The levels below the root.
+fn depth_of(geometry: Geometry) -> u32
+    ensures value { result ≡ levels_below geometry }
+    ensures small { result < 3 }
+{
+    match geometry {
+        Geometry::Bits39 => 2,
+    }
+}
+
+/// The pages under a word with so many levels below it.
+fn pages_under(depth: u32) -> u64
+    requires { IsDepth depth }
+    ensures value { result ≡ block_pages depth }
+    ensures some { 0 < result }
+    ensures small { result ≤ 2 ^ 18 }
+{
+    match depth {
+        0 => 1,
+        1 => 512,
+        _ => 262_144,
+    }
+}
+
+/// Goes on with what a table says, which has so many levels below it and stands at this block of them.
+fn walk_table<A: Allocator>(
+    table: &Table<A>,
+    depth: u32,
+    number: u64,
+    reads: &mut Reads,
+    found: &mut Tree,
+) -> Result<(), AllocError>
+    requires depth_in { IsDepth depth }
+    requires raw { IsRaw depth table.now }
+    requires place { (number + 1) * block_pages (depth + 1) ≤ 2 ^ 27 }
+    requires before { AreRunsTo (number * block_pages (depth + 1)) found.old.runs.items }
+    ensures runs { OnOk result (AreRunsTo ((number + 1) * block_pages (depth + 1)) found.new.runs.items) }
+    ensures map { OnOk result (GoesOn (entry_at depth table.now) (number * block_pages (depth + 1)) ((number + 1) * block_pages (depth + 1)) (map_of found.old.runs.items) (map_of found.new.runs.items)) }
+    ensures tables { OnOk result (found.new.tables.items ≡ found.old.tables.items ++ found_under depth number table.now) }
+    ensures reads { OnOk result (count_of reads.new ≡ min (count_of reads.old + 512 * tables_in depth table.now) 18446744073709551615) }
+{
+    found.tables.push(FoundTable {
+        block: (depth as u64 + 1, number),
+        frame: table.frame().0,
+    })?;
+    let pages = pages_under(depth);
+    for i in 0..512usize {
+        let part = number * 512 + i as u64;
+        match table.slot(i, reads) {
+            Slot::Word(word) => {
+                put_block(&mut found.runs, part * pages, pages, entry_of(depth, *word))?;
+            }
+            Slot::Child(child) => walk_table(child, depth - 1, part, reads, found)?,
+        }
+    }
+    Ok(())
+}
