@@ -14,7 +14,7 @@ use Rattle.guest_steps.specs.declared.parts.SharedPart.{SharedPart}
 use Rattle.guest_steps.specs.Lent.{Each}
 use Rattle.hypercalls.specs.declared.parts.Parts.{Parts}
 use Rattle.hypercalls.specs.Stands.{parts_layout, state_of}
-use Rattle.world.specs.Laws.{Goes, StepsRun, StepsSound, StepsRows, StepsAgree, StepsIsolate, StepsKeepOut, Agrees, GuestAgrees}
+use Rattle.world.specs.Laws.{Goes, StepsRun, StepsSound, StepsRows, StepsAgree, StepsIsolate, StepsKeepOut, Agrees, GuestAgrees, AllAgree}
 use Rattle.world.proofs.AtBoot.{ready}
 
 module _ {A : Type 0} where
@@ -26,7 +26,7 @@ module _ {A : Type 0} where
       (state_of b, first, subst (λ (l : Layout). Runs (Steps l) (state_of b) cs (state_of q)) go.step.layout (runs_from cs b q rest))
 
   -- the calls are of CPUs of the layout
-  known : (cs : List Call) (p q : Parts A) → Runs Goes p cs q → All (λ c. c.cpu < p.layout.config.cpus) cs
+  pub known : (cs : List Call) (p q : Parts A) → Runs Goes p cs q → All (λ c. c.cpu < p.layout.config.cpus) cs
   known [] p q h k d less = absurd (omega (arith, less))
   known (c ∷ cs) p q (b, go, rest) zero d less = go.inside
   known (c ∷ cs) p q (b, go, rest) (suc k) d less =
@@ -57,11 +57,15 @@ module _ {A : Type 0} where
   guests_agree [] = tt
   guests_agree (g ∷ gs) = (guest_agrees g.guest.body, guests_agree gs)
 
+  -- all trees of some parts agree with their maplets
+  pub all_of_parts : (q : Parts A) → AllAgree q
+  all_of_parts q = record { shared = all_agree q.shared.items; guests = guests_agree q.guests.items }
+
   pub steps_agree : StepsAgree A
-  steps_agree m config p q cs booted h = record { shared = all_agree q.shared.items; guests = guests_agree q.guests.items }
+  steps_agree m config p q cs booted h = all_of_parts q
 
   -- the layout stays
-  layout_stays : (cs : List Call) (p q : Parts A) → Runs Goes p cs q → parts_layout q ≡ parts_layout p
+  pub layout_stays : (cs : List Call) (p q : Parts A) → Runs Goes p cs q → parts_layout q ≡ parts_layout p
   layout_stays [] p q h = sym (ap parts_layout h)
   layout_stays (c ∷ cs) p q (b, go, rest) = layout_stays cs b q rest ∙ go.step.layout
 

@@ -1,2 +1,3 @@
 pub mod Boots
 pub mod Laws
+pub mod Headline

@@ -1,18 +1,29 @@
 //! The world: memory, its trees and maplets, and the CPUs that make steps on it one after another.
 #![tactic(auto)]
 
-ghost use Rattle.std.specs.Prelude.{◌≡◌, ◌<◌, MatchResult};
+ghost use Rattle.std.specs.Prelude.{◌≡◌, ◌<◌, All, IfOk, OnErr, MatchResult, length};
 ghost use Rattle.hypercalls.specs.Stands.{HasHistory};
 ghost use Rattle.hypercalls.specs.Whole.{IsStep};
 ghost use Rattle.world.specs.Boots.{IsBooted, IsNoBoot};
+ghost use Rattle.world.specs.Headline.{Headline};
 
 mod boot;
 pub mod laws;
+mod raw;
 
+use arrayvec::ArrayVec;
 pub use boot::BootFault;
+use ghost_oracle::audit::audit;
+use ghost_oracle::disagreement::Disagreement;
+use ghost_oracle::kept::{kept, recompute};
+use ghost_oracle::pokes::poke;
+use ghost_oracle::raw::{RawGuest, Which};
+use ghost_spec::state::Ghost;
 use hypercalls::Parts;
-use page_state::{Config, MemoryMap, Reply, Step};
-use std::alloc::{Allocator, Global};
+use page_state::{Config, Geometry, MemoryMap, Reply, Step};
+pub use raw::RawWorld;
+use std::alloc::{AllocError, Allocator, Global};
+use table_tree::PathFault;
 
 /// A booted world, which stands at the end of one legal history. `A` is where the tables of all trees lie.
 #[derive(Drop)]
@@ -46,9 +57,43 @@ impl<A: Allocator + Copy> World<A> {
     {
         self.parts.step(self.alloc, cpu, step)
     }
+
+    /// Makes steps, one after another, and gives a reply for each. The memory of the replies is taken first: where it is
+    /// refused no step is made.
+    pub fn run(&mut self, global: Global, steps: &[(u64, Step)]) -> Result<Vec<Reply>, AllocError>
+        requires known { All (λ s. s.0 < self.old.parts.layout.config.cpus) steps.now }
+        ensures headline { IfOk result (λ replies. Headline self.old.parts steps.now replies.items self.new.parts) }
+        ensures count { IfOk result (λ replies. length replies.items ≡ length steps.now) }
+        ensures refused { OnErr result (self.new.parts ≡ self.old.parts) }
+    {
+        let mut replies = Vec::with_capacity(global, steps.len())?;
+        for asked in steps {
+            let reply = self.make(asked);
+            replies.push(reply).unwrap();
+        }
+        Ok(replies)
+    }
+
+    /// Makes one step of a list.
+    fn make(&mut self, asked: &(u64, Step)) -> Reply
+        requires known { asked.now.0 < self.old.parts.layout.config.cpus }
+        ensures layout { self.new.parts.layout ≡ self.old.parts.layout }
+        ensures step { IsStep self.old.parts asked.now.0 asked.now.1 result self.new.parts }
+    {
+        let (cpu, step) = *asked;
+        self.step(cpu, step)
+    }
 }
 
 impl<A: Allocator> World<A> {
+    ghost use Rattle.std.specs.Prelude.{◌↔◌, IfErr, IsOk, IsSome, None, replicate};
+    ghost use Rattle.page_state.specs.LayoutView.{layout_of};
+    ghost use Rattle.table_tree.specs.Said.{block_of};
+    ghost use Rattle.ghost_oracle.specs.Poked.{IsBeside, IsPokedTree, parts_trees, raw_beside_of, raw_trees};
+    ghost use Rattle.ghost_spec.specs.States.{ghost_state, IsKept};
+    ghost use Rattle.ghost_oracle.specs.Found.{walked_state, HasRowsOf, SaysMaplets, SaysRows};
+    ghost use Rattle.hypercalls.specs.Stands.{parts_layout, state_of};
+
     /// The number of CPUs, which steps name from 0 on.
     pub fn cpus(&self) -> u64
         ensures { result ≡ self.now.parts.layout.config.cpus }
@@ -72,6 +117,70 @@ impl<A: Allocator> World<A> {
         ensures { result.parts ≡ parts }
     {
         Self { alloc, parts }
+    }
+
+    /// What the world keeps, as the reference state on lists: the maplets' runs, the owner table's, and the tables, pools,
+    /// slots, CPUs and rooms as they stand. By the headline it is what walking every word from scratch finds.
+    pub fn to_ghost(&self, global: Global) -> Result<Ghost, AllocError>
+        ensures state { IfOk result (λ g. ghost_state g ≡ state_of self.now.parts) }
+        ensures layout { IfOk result (λ g. layout_of g.layout ≡ parts_layout self.now.parts) }
+        ensures maplets { IfOk result (SaysMaplets self.now.parts) }
+        ensures rows { IfOk result (SaysRows self.now.parts) }
+        ensures walked { IfOk result (λ g. ghost_state g ≡ walked_state (parts_layout self.now.parts) (state_of self.now.parts)) }
+        ensures kept { IfOk result IsKept }
+        ensures frames { IfOk result (HasRowsOf (parts_layout self.now.parts)) }
+    {
+        kept(global, &self.parts)
+    }
+
+    /// What walking every word of the world's tables from scratch finds, with what stands in no table as it stands.
+    pub fn recompute(&self, global: Global) -> Result<Ghost, AllocError>
+        ensures state { IfOk result (λ g. ghost_state g ≡ walked_state (parts_layout self.now.parts) (state_of self.now.parts)) }
+        ensures layout { IfOk result (λ g. layout_of g.layout ≡ parts_layout self.now.parts) }
+        ensures kept { IfOk result IsKept }
+        ensures frames { IfOk result (HasRowsOf (parts_layout self.now.parts)) }
+    {
+        recompute(global, &self.parts)
+    }
+
+    /// Compares what the world keeps with what a walk of every word finds. By the headline they agree.
+    pub fn audit(&self, global: Global) -> Result<Option<Disagreement>, AllocError>
+        ensures { IfOk result (λ o. o ≡ None) }
+    {
+        let kept = self.to_ghost(global)?;
+        let walked = self.recompute(global)?;
+        Ok(audit(&kept, &walked))
+    }
+
+    /// The geometry of its trees.
+    pub fn geometry(&self) -> Geometry
+        ensures { result ≡ self.now.parts.layout.geometry }
+    {
+        self.parts.layout.geometry
+    }
+
+    /// Sets the word at a path of a tree, and leaves all else: the world is one of any words then, and makes no step any more.
+    /// PathFault is told where there is no such word, of an Empty guest too, and then the world is as it was. A poke of the
+    /// word that stands there keeps the table behind it; any other takes it out. `places` is where guests are kept that are
+    /// poked, and a poke takes no memory.
+    pub fn poke(
+        self,
+        places: Vec<Option<RawGuest<A>>>,
+        which: Which,
+        path: &ArrayVec<u16, 4>,
+        word: u64,
+    ) -> Result<RawWorld<A>, (World<A>, PathFault)>
+        requires nothing { places.items ≡ replicate 64 None }
+        ensures fault { IsOk result ↔ IsSome ((parts_trees self.parts which).words path.now.items) }
+        ensures kept { IfErr result (λ e. e.0.parts ≡ self.parts) }
+        ensures poked { IfOk result (λ w. IsPokedTree (block_of self.parts.layout.geometry path.now.items) (parts_trees self.parts) (raw_trees w.parts) which path.now.items word) }
+        ensures beside { IfOk result (λ w. IsBeside self.parts (raw_beside_of w.parts)) }
+    {
+        let World { alloc, parts } = self;
+        match poke(parts, places, which, path, word) {
+            Ok(parts) => Ok(RawWorld { parts }),
+            Err((parts, fault)) => Err((World { alloc, parts }, fault)),
+        }
     }
 
     /// All parts, to look at.

@@ -1,0 +1,56 @@
+-- The headline: what holds after any list of steps of any CPUs.
+use Rattle.std.specs.Prelude.{◌≡◌, ℕ, ◌+◌, ◌⊎◌, true, List, ◌∷◌, ◌++◌, map}
+use Rattle.descriptor.specs.declared.State.{State}
+use Rattle.page_state.specs.declared.reply.Call.{Call}
+use Rattle.page_state.specs.declared.reply.Refusal.{Refusal}
+use Rattle.page_state.specs.declared.reply.Reply.{Reply}
+use Rattle.page_state.specs.declared.reply.Reply.TheVariants.{Refused}
+use Rattle.page_state.specs.declared.step.Step.{Step}
+use Rattle.page_state.specs.Layouts.{Layout, is_memory}
+use Rattle.reference_model.specs.Isolation.{FrameStays, SharesWithHost}
+use Rattle.reference_model.specs.Owner.{row_of}
+use Rattle.reference_model.specs.Run.{Runs, IsRun}
+use Rattle.reference_model.specs.Sound.{Sound, Maps, owner}
+use Rattle.reference_model.specs.State.{Contents, Reference, live}
+use Rattle.reference_model.specs.Step.{Steps}
+use Rattle.hypercalls.specs.declared.parts.Parts.{Parts}
+use Rattle.hypercalls.specs.Stands.{parts_layout, state_of}
+use Rattle.world.specs.Laws.{AllAgree}
+
+-- each owner row of a memory frame is the one that looking through all tables, pools and hands finds
+abbrev pub RowsAgree : Layout → Contents → Type 0
+RowsAgree l s = (f : ℕ) → is_memory l f ≡ true → s.shared.row f ≡ row_of l s f
+
+-- nobody maps a guest's frame but the guest, and the host while the guest's entry of it is SharedOwned
+abbrev pub KeepsOut : Layout → Contents → Type 0
+KeepsOut l s = (v f component page : ℕ) (state : State) → owner l s f ≡ 2 + v → Maps s component page f state → (component ≡ 2 + v) ⊎ ((component ≡ 0) × SharesWithHost s v f)
+
+-- what the parts stand for: the maplets are the coarsest lists of what walks of all words find, the owner rows are those from scratch, each memory frame has one owner and each frame one borrower at most, what holds a frame holds it alone, and guests' frames are kept apart
+pub record IsRight {A : Type 0} (p : Parts A) : Type 0 where
+  pub agree : AllAgree p
+  pub rows : RowsAgree (parts_layout p) (state_of p).contents
+  pub sound : Sound (parts_layout p) (state_of p).contents
+  pub kept_out : KeepsOut (parts_layout p) (state_of p).contents
+
+-- a call of a run: it begins in a sound state whose rows are those from scratch; where it is refused, want of memory included, all that the state has stays; and it takes no frame from a Live guest, nor changes its page but where the guest shares it or takes it back
+pub record CallKeeps (l : Layout) (s : Reference) (c : Call) (t : Reference) : Type 0 where
+  pub sound : Sound l s.contents
+  pub rows : RowsAgree l s.contents
+  pub refused : (why : Refusal) → c.reply ≡ Refused why → t.contents ≡ s.contents
+  pub isolated : (v f : ℕ) → (s.contents.guest v).phase ≡ live → owner l s.contents f ≡ 2 + v → FrameStays l s.contents t.contents c v f
+
+-- the calls of a list of steps with these replies: they go on from a run of the reference step, which comes from the boot state to where the steps begin, and the run then ends where they end, which is right. Each call keeps what it must
+pub record RunsOn {A : Type 0} (p : Parts A) (steps : List (ℕ × Step)) (replies : List Reply) (q : Parts A) : Type 0 where
+  pub before : List Call
+  pub calls : List Call
+  pub asked : map (λ c. (c.cpu, c.step)) calls ≡ steps
+  pub replied : map (λ c. c.reply) calls ≡ replies
+  pub begins : IsRun (parts_layout p) before (state_of p)
+  pub ends : IsRun (parts_layout p) (before ++ calls) (state_of q)
+  pub right : IsRight q
+  pub each : (done left : List Call) (c : Call) (s t : Reference) → calls ≡ done ++ c ∷ left → Runs (Steps (parts_layout p)) (state_of p) done s → Steps (parts_layout p) s c t → CallKeeps (parts_layout p) s c t
+
+-- the headline
+pub record Headline {A : Type 0} (p : Parts A) (steps : List (ℕ × Step)) (replies : List Reply) (q : Parts A) : Type 0 where
+  pub layout : parts_layout q ≡ parts_layout p
+  pub run : ∥ RunsOn p steps replies q ∥₁
