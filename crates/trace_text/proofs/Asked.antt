@@ -25,6 +25,7 @@ FitsLine booted wanted (lines.Setting setting) = (booted ≡ false) × (wanted �
 FitsLine booted wanted lines.Boot = (booted ≡ false) × (wanted ≡ None)
 FitsLine booted wanted (lines.Step cpu step) = (booted ≡ true) × (wanted ≡ Some (cpu, step))
 FitsLine booted wanted (lines.Query query) = (booted ≡ true) × (wanted ≡ None)
+FitsLine booted wanted (lines.Poke poke) = ⊥
 
 abbrev pub Fits : Bool → Result (Option Line) LineFault → Option (ℕ × Step) → Type 0
 Fits booted (Err fault) wanted = Unit {0}
@@ -73,10 +74,12 @@ by_verb told true counted (verbs.Setting name) o h = tt
 by_verb told true counted verbs.Boot o h = tt
 by_verb told true counted verbs.Step o h = after counted o (of_step o h)
 by_verb told true counted verbs.Query o h = after counted o (of_query o h)
+by_verb told true counted verbs.Poke o h = tt
 by_verb told false counted (verbs.Setting name) o h = before (may_tell told name) counted o (of_setting name o h)
 by_verb told false counted verbs.Boot o h = before (is_some told.carve) counted o (of_boot o h)
 by_verb told false counted verbs.Step o h = tt
 by_verb told false counted verbs.Query o h = tt
+by_verb told false counted verbs.Poke o h = tt
 
 by_asked : (told : Told) (booted : Bool) (count : ℕ) (o : Option Asked) → IfSome o (λ a. IfSome a.line (IsOf a.verb))
     → Fits booted (said_by_asked (allowed booted) told count o) (step_said (said_by_asked (allowed true) nothing_told count o))

@@ -1,4 +1,6 @@
+mod Agreeing
 mod Asked
+mod Checked
 mod Fronts
 mod Lined
 mod Machines

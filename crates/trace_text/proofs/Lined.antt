@@ -9,7 +9,7 @@ use Rattle.trace_text.specs.declared.report.ReportLine.TheVariants as report
 use Rattle.trace_text.specs.Played.{WritesFront}
 use Rattle.trace_text.specs.Texts.{text_of, text_of_report}
 use Rattle.trace_lines.proofs.KnownBytes.{appends_both}
-use Rattle.trace_text.proofs.ReplayLemmas.{appends_lines}
+use Rattle.trace_text.proofs.ReplayLemmas.{appends_lines, text_of_report-append}
 
 -- the lines of runs
 abbrev pub shown : List Run → List ReportLine
@@ -52,3 +52,17 @@ front_ahead before now last all rest line ahead written =
     let bytes : List ℕ = text_of line ++ 10 ∷ [] in
     let k = front_in written.0 bytes (text_of_report rest) in
     ahead.front last (k.0, subst (Appends now last) (sym k.1) (subst (λ ls. Appends now last (take written.0 ls)) (append-nil bytes) written.1))
+
+-- a front of some lines is one of these and more
+pub front_first : (old new : Option (List ℕ)) (xs ys : List ReportLine) → WritesFront xs old new → WritesFront (xs ++ ys) old new
+front_first old new xs ys h =
+    let k = front_in h.0 (text_of_report xs) (text_of_report ys) in
+    (k.0, subst (Appends old new) (sym (ap (take k.0) (text_of_report-append xs ys) ∙ k.1)) h.1)
+
+-- and so are all of them and a front of what is behind
+pub front_behind : (old mid new : Option (List ℕ)) (xs ys : List ReportLine) → Appends old mid (text_of_report xs) → WritesFront ys mid new → WritesFront (xs ++ ys) old new
+front_behind old mid new xs ys written h = (
+  length (text_of_report xs) + h.0,
+  subst (Appends old new) (sym (ap (take (length (text_of_report xs) + h.0)) (text_of_report-append xs ys) ∙ take_past (text_of_report xs) (text_of_report ys) h.0))
+      (appends_both old mid new (text_of_report xs) (take h.0 (text_of_report ys)) written h.1),
+)

@@ -1,5 +1,5 @@
 -- The report so far, and what the rest of the trace adds to it.
-use Rattle.std.proofs.Common.{◌≡◌, ℕ, ◌+◌, ◌<◌, ◌≤◌, refl, sym, ◌∙◌, ap, arith, true, false, List, [], ◌∷◌, ◌++◌, length, map, take, drop, Option, Some, None, Result, Ok, Err, IsOk, IfOk, OnErr, IfSome, IsSomeAnd, is_some, nat_lt, inl, inr}
+use Rattle.std.proofs.Common.{◌≡◌, ℕ, ◌+◌, ◌<◌, ◌≤◌, refl, sym, ◌∙◌, ap, arith, true, false, List, [], ◌∷◌, ◌++◌, length, take, drop, Option, Some, None, Result, Ok, Err, IsOk, IfOk, OnOk, OnErr, IfSome, IsSomeAnd, is_some, nat_lt, inl, inr}
 use Rattle.std.proofs.lemmas.List.{append_assoc, append-nil, length-take-le, take_all, take-append-drop}
 use Rattle.std.proofs.lemmas.Bool.{lt-ltb, cases_lt}
 use Rattle.std.specs.Io.KnownBytes.{Appends, prepend_known}
@@ -7,7 +7,6 @@ use Rattle.trace_text.specs.declared.fault.Fault.{Fault}
 use Rattle.trace_lines.specs.declared.fault.LineFault.TheVariants.{Long}
 use Rattle.trace_text.specs.declared.fault.Fault.TheVariants as faults
 use Rattle.trace_lines.specs.declared.place.Allows.{Allows}
-use Rattle.trace_lines.specs.declared.response.Response.{Response}
 use Rattle.trace_lines.specs.declared.outcome.Outcome.{Outcome}
 use Rattle.trace_lines.specs.declared.outcome.Outcome.TheVariants as outcomes
 use Rattle.trace_text.specs.declared.report.ReportLine.{ReportLine}
@@ -16,39 +15,17 @@ use Rattle.trace_text.specs.declared.session.Stop.TheVariants as stops
 use Rattle.trace_text.specs.Played.{Plays, PlaysFront, Writes, WritesFront, lines_told}
 use Rattle.trace_lines.specs.Reading.{IsFirstLine, ReadsLine}
 use Rattle.trace_lines.specs.Reading.{lines_of}
-use Rattle.trace_text.specs.Replay.{IsBeginning, IsBegun, IsPlayed, IsReport, IsReplayed}
+use Rattle.trace_text.specs.Oracles.{Gives}
+use Rattle.trace_text.specs.Replay.{IsBeginning, IsBegun, IsPlayed, IsReport, IsReplayed, end_line, outcome_of}
 use Rattle.trace_lines.specs.Said.{said}
 use Rattle.trace_text.specs.Session.{Standing, Answer, RunsLine, allowed, at_start}
 use Rattle.trace_lines.specs.Settings.{Told}
 use Rattle.trace_text.specs.Texts.{text_of, text_of_report}
 use Rattle.trace_lines.proofs.KnownBytes.{appends_both}
 
-text_of_report-append : (xs ys : List ReportLine) → text_of_report (xs ++ ys) ≡ text_of_report xs ++ text_of_report ys
+pub text_of_report-append : (xs ys : List ReportLine) → text_of_report (xs ++ ys) ≡ text_of_report xs ++ text_of_report ys
 text_of_report-append [] ys = refl
 text_of_report-append (x ∷ xs) ys = ap (λ bs. (text_of x ++ 10 ∷ []) ++ bs) (text_of_report-append xs ys) ∙ sym (rw append_assoc refl)
-
--- the report of all bytes is what was told, and the report of those that are left
-abbrev pub Leads : Option (List ℕ) → Option (List ℕ) → ℕ → Standing → List ReportLine → Type 0
-Leads all left number standing told =
-    IfSome all (λ bytes. IsSomeAnd left (λ rest. (more : List ReportLine) (outcome : Outcome)
-    → IsReport number standing (lines_of rest) more outcome → IsReport 1 at_start (lines_of bytes) (told ++ more) outcome))
-
--- and a beginning of it is what was told, and a beginning of that of those that are left
-abbrev pub LeadsOn : Option (List ℕ) → Option (List ℕ) → ℕ → Standing → List ReportLine → Type 0
-LeadsOn all left number standing told =
-    IfSome all (λ bytes. IsSomeAnd left (λ rest. (more : List ReportLine)
-    → IsBeginning number standing (lines_of rest) more → IsBeginning 1 at_start (lines_of bytes) (told ++ more)))
-
-pub record SoFar (all left before now : Option (List ℕ)) (number : ℕ) (standing : Standing) : Type 0 where
-  pub told : List ReportLine
-  pub written : Appends before now (text_of_report told)
-  pub leads : Leads all left number standing told
-  pub begins : LeadsOn all left number standing told
-
--- a report may break off at once
-pub begun_none : (number : ℕ) (old : Standing) (trace : List (List ℕ)) → IsBeginning number old trace []
-begun_none number old [] = inl refl
-begun_none number old (line ∷ rest) = inl refl
 
 -- what is long has a fault
 said-long : (allows : Allows) (told : Told) (line : List ℕ) → 256 < length line → said allows told line ≡ Err Long
@@ -65,139 +42,9 @@ said-front allows told whole =
           said-long allows told (take 257 whole) (omega arith) ∙ sym (said-long allows told whole (omega arith))
     ]
 
--- a line that was read, carried out
-pub record Goes (bytes : List ℕ) (left : Option (List ℕ)) (number : ℕ) (old : Standing) (answer : Answer) (new : Standing) : Type 0 where
-  pub whole : List ℕ
-  pub rest : List (List ℕ)
-  pub lines : lines_of bytes ≡ whole ∷ rest
-  pub played : IsPlayed number whole old answer new
-  pub next : IsOk answer → IsSomeAnd left (λ more. lines_of more ≡ rest)
-
-runs-front : (number : ℕ) (whole : List ℕ) (old : Standing) (answer : Answer) (new : Standing)
-    → RunsLine number (take 257 whole) old answer new → RunsLine number whole old answer new
-runs-front number whole old answer new h = rw (said-front (allowed (is_some old.machine)) old.told whole) at h
-
--- what goes on was no long line
-short : (number : ℕ) (whole : List ℕ) (old : Standing) (answer : Answer) (new : Standing)
-    → RunsLine number whole old answer new → IsOk answer → length whole ≤ 256
-short number whole old answer new h ok =
-    elim (cases_lt 256 (length whole)) [
-      | inr fits ↦ fits
-      | inl long ↦
-          let fault = rw (said-long (allowed (is_some old.machine)) old.told whole (omega arith)) at h in
-          absurd (let no = rw fault.0 at ok in cc)
-    ]
-
-goes : (bytes line : List ℕ) (left : Option (List ℕ)) (number : ℕ) (old : Standing) (answer : Answer) (new : Standing)
-    → IsFirstLine bytes line left → number ≤ 1048576 → RunsLine number line old answer new → Goes bytes left number old answer new
-goes bytes line left number old answer new first few runs =
-    let all = runs-front number first.whole old answer new (rw first.read at runs) in
-    record {
-      whole = first.whole;
-      rest = first.rest;
-      lines = first.lines;
-      played = record { runs = λ _. all; past = λ many. absurd (omega arith) };
-      next = λ ok. first.next (short number first.whole old answer new all ok);
-    }
-
--- a line that is carried out, and what it reports
-leads_on : (all left next : Option (List ℕ)) (line : List ℕ) (number : ℕ) (old new : Standing) (told : List ReportLine) (says : List Response)
-    → Leads all left number old told → ReadsLine true left next line → number ≤ 1048576 → RunsLine number line old (Ok says) new
-    → Leads all next (number + 1) new (told ++ map report.Response says)
-leads_on None left next line number old new told says h first few runs = tt
-leads_on (Some bytes) None next line number old new told says h first few runs = absurd h
-leads_on (Some bytes) (Some rest) None line number old new told says h first few runs =
-    let on = goes rest line None number old (Ok says) new first few runs in absurd (on.next refl)
-leads_on (Some bytes) (Some rest) (Some last) line number old new told says h first few runs =
-    let on = goes rest line (Some last) number old (Ok says) new first few runs in
-    λ more outcome reports. rw append_assoc
-    (h (map report.Response says ++ more) outcome (rw on.lines (Ok says, new, on.played, (more, refl, rw (on.next refl) at reports))))
-
-begins_on : (all left next : Option (List ℕ)) (line : List ℕ) (number : ℕ) (old new : Standing) (told : List ReportLine) (says : List Response)
-    → LeadsOn all left number old told → ReadsLine true left next line → number ≤ 1048576 → RunsLine number line old (Ok says) new
-    → LeadsOn all next (number + 1) new (told ++ map report.Response says)
-begins_on None left next line number old new told says h first few runs = tt
-begins_on (Some bytes) None next line number old new told says h first few runs = absurd h
-begins_on (Some bytes) (Some rest) None line number old new told says h first few runs =
-    let on = goes rest line None number old (Ok says) new first few runs in absurd (on.next refl)
-begins_on (Some bytes) (Some rest) (Some last) line number old new told says h first few runs =
-    let on = goes rest line (Some last) number old (Ok says) new first few runs in
-    λ more reports. rw append_assoc
-    (h (map report.Response says ++ more) (rw on.lines (inr (Ok says, new, outcomes.Clean, on.played, (more, refl, rw (on.next refl) at reports)))))
-
--- a line that ends the run by a fault
-leads_fault : (all left next : Option (List ℕ)) (line : List ℕ) (number : ℕ) (old new : Standing) (told : List ReportLine) (fault : Fault)
-    → Leads all left number old told → ReadsLine true left next line → number ≤ 1048576 → RunsLine number line old (Err (stops.Fault fault)) new
-    → IfSome all (λ bytes. IsReport 1 at_start (lines_of bytes) (told ++ report.Fault number fault ∷ []) outcomes.Fault)
-leads_fault None left next line number old new told fault h first few runs = tt
-leads_fault (Some bytes) None next line number old new told fault h first few runs = absurd h
-leads_fault (Some bytes) (Some rest) next line number old new told fault h first few runs =
-    let on = goes rest line next number old (Err (stops.Fault fault)) new first few runs in
-    h (report.Fault number fault ∷ []) outcomes.Fault (rw on.lines (Err (stops.Fault fault), new, on.played, (refl, refl)))
-
--- what an answer reports begins the report of its line and of those behind it
-begins_line : (number : ℕ) (whole : List ℕ) (rest : List (List ℕ)) (old new : Standing) (answer : Answer) → IsPlayed number whole old answer new → IsBeginning number old (whole ∷ rest) (lines_told number answer)
-begins_line number whole rest old new (Err (stops.Fault fault)) played = inr (Err (stops.Fault fault), new, outcomes.Fault, played, (refl, refl))
-begins_line number whole rest old new (Err stops.NoMemory) played = inl refl
-begins_line number whole rest old new (Ok says) played = inr (Ok says, new, outcomes.Clean, played, ([], sym (append-nil (map report.Response says)), begun_none (number + 1) new rest))
-
-begins_with : (all left next : Option (List ℕ)) (line : List ℕ) (number : ℕ) (old new : Standing) (told : List ReportLine) (answer : Answer)
-    → LeadsOn all left number old told → ReadsLine true left next line → number ≤ 1048576 → RunsLine number line old answer new
-    → IfSome all (λ bytes. IsBeginning 1 at_start (lines_of bytes) (told ++ lines_told number answer))
-begins_with None left next line number old new told answer h first few runs = tt
-begins_with (Some bytes) None next line number old new told answer h first few runs = absurd h
-begins_with (Some bytes) (Some rest) next line number old new told answer h first few runs =
-    let on = goes rest line next number old answer new first few runs in
-    h (lines_told number answer) (rw on.lines (begins_line number on.whole on.rest old new answer on.played))
-
--- what was told alone
-begins_so : (all left : Option (List ℕ)) (number : ℕ) (old : Standing) (told : List ReportLine) → LeadsOn all left number old told
-    → IfSome all (λ bytes. IsBeginning 1 at_start (lines_of bytes) (told ++ []))
-begins_so None left number old told h = tt
-begins_so (Some bytes) None number old told h = absurd h
-begins_so (Some bytes) (Some rest) number old told h = h [] (begun_none number old (lines_of rest))
-
--- the line after the last that a trace may have
-past_played : (number : ℕ) (line : List ℕ) (old : Standing) → 1048576 < number → IsPlayed number line old (Err (stops.Fault faults.Lines)) old
-past_played number line old many = record { runs = λ few. absurd (omega arith); past = λ _. (refl, refl) }
-
-leads_past : (all left next : Option (List ℕ)) (line : List ℕ) (number : ℕ) (old : Standing) (told : List ReportLine)
-    → Leads all left number old told → ReadsLine true left next line → 1048576 < number
-    → IfSome all (λ bytes. IsReport 1 at_start (lines_of bytes) (told ++ report.Fault number faults.Lines ∷ []) outcomes.Fault)
-leads_past None left next line number old told h first many = tt
-leads_past (Some bytes) None next line number old told h first many = absurd h
-leads_past (Some bytes) (Some rest) next line number old told h first many =
-    h (report.Fault number faults.Lines ∷ []) outcomes.Fault
-    (rw first.lines (Err (stops.Fault faults.Lines), old, past_played number first.whole old many, (refl, refl)))
-
-begins_past : (all left next : Option (List ℕ)) (line : List ℕ) (number : ℕ) (old : Standing) (told : List ReportLine)
-    → LeadsOn all left number old told → ReadsLine true left next line → 1048576 < number
-    → IfSome all (λ bytes. IsBeginning 1 at_start (lines_of bytes) (told ++ report.Fault number faults.Lines ∷ []))
-begins_past None left next line number old told h first many = tt
-begins_past (Some bytes) None next line number old told h first many = absurd h
-begins_past (Some bytes) (Some rest) next line number old told h first many =
-    h (report.Fault number faults.Lines ∷ [])
-    (rw first.lines (begins_line number first.whole first.rest old old (Err (stops.Fault faults.Lines)) (past_played number first.whole old many)))
-
 no_lines : lines_of [] ≡ []
 unfolding lines_of
 no_lines = refl
-
--- no line is left
-leads_end : (all left next : Option (List ℕ)) (line : List ℕ) (number : ℕ) (old : Standing) (told : List ReportLine)
-    → Leads all left number old told → ReadsLine false left next line
-    → IfSome all (λ bytes. IsReport 1 at_start (lines_of bytes) (told ++ report.End old.steps 0 ∷ []) outcomes.Clean)
-leads_end None left next line number old told h none = tt
-leads_end (Some bytes) None next line number old told h none = absurd h
-leads_end (Some bytes) (Some rest) next line number old told h none =
-    h (report.End old.steps 0 ∷ []) outcomes.Clean (rw (none, no_lines) (refl, refl))
-
-begins_end : (all left next : Option (List ℕ)) (line : List ℕ) (number : ℕ) (old : Standing) (told : List ReportLine)
-    → LeadsOn all left number old told → ReadsLine false left next line
-    → IfSome all (λ bytes. IsBeginning 1 at_start (lines_of bytes) (told ++ report.End old.steps 0 ∷ []))
-begins_end None left next line number old told h none = tt
-begins_end (Some bytes) None next line number old told h none = absurd h
-begins_end (Some bytes) (Some rest) next line number old told h none = h (report.End old.steps 0 ∷ []) (rw (none, no_lines) (inr refl))
 
 pub appends_lines : (a b c : Option (List ℕ)) (xs ys : List ReportLine) → Appends a b (text_of_report xs) → Appends b c (text_of_report ys) → Appends a c (text_of_report (xs ++ ys))
 appends_lines a b c xs ys h k = rw (text_of_report-append xs ys) (appends_both a b c (text_of_report xs) (text_of_report ys) h k)
@@ -206,125 +53,13 @@ pub appends_none : (a : Option (List ℕ)) → Appends a a []
 appends_none None = tt
 appends_none (Some xs) = sym (append-nil xs)
 
--- a front of more lines behind those that were told
-begun_by : (all before now last : Option (List ℕ)) (told lines : List ReportLine) → Appends before now (text_of_report told) → WritesFront lines now last
-    → IfSome all (λ bytes. IsBeginning 1 at_start (lines_of bytes) (told ++ lines)) → IsBegun all before last
-begun_by all before now last told lines written front begins = record {
-  lines = told ++ lines;
-  front = text_of_report told ++ take front.0 (text_of_report lines);
-  behind = drop front.0 (text_of_report lines);
-  text = text_of_report-append told lines ∙ ap (λ ls. text_of_report told ++ ls) (sym (take-append-drop front.0 (text_of_report lines))) ∙ sym (rw append_assoc refl);
-  written = appends_both before now last (text_of_report told) (take front.0 (text_of_report lines)) written front.1;
-  report = begins;
-}
-
 nothing_more : (a : Option (List ℕ)) → WritesFront [] a a
 nothing_more a = (0, appends_none a)
-
--- nothing was read, nothing written
-pub begun_at_start : (all before : Option (List ℕ)) → IsBegun all before before
-begun_at_start all before = begun_by all before before before [] [] (appends_none before) (nothing_more before) (start all)
-  where
-    start : (all : Option (List ℕ)) → IfSome all (λ bytes. IsBeginning 1 at_start (lines_of bytes) [])
-    start None = tt
-    start (Some bytes) = begun_none 1 at_start (lines_of bytes)
-
--- no line more
-pub begun_so : (all left before now : Option (List ℕ)) (number : ℕ) (old : Standing) → SoFar all left before now number old → IsBegun all before now
-begun_so all left before now number old so_far = begun_by all before now now so_far.told [] so_far.written (nothing_more now) (begins_so all left number old so_far.told so_far.begins)
-
--- a front of what a line reports
-pub begun_line : (all left next before now last : Option (List ℕ)) (line : List ℕ) (number : ℕ) (old : Standing)
-    → SoFar all left before now number old → ReadsLine true left next line → number ≤ 1048576 → PlaysFront number line old now last → IsBegun all before last
-begun_line all left next before now last line number old so_far first few played =
-    begun_by all before now last so_far.told (lines_told number played.answer) so_far.written played.writes
-    (begins_with all left next line number old played.after so_far.told played.answer so_far.begins first few played.runs)
-
--- a front of the fault of one line too many
-pub begun_past : (all left next before now last : Option (List ℕ)) (line : List ℕ) (number : ℕ) (old : Standing)
-    → SoFar all left before now number old → ReadsLine true left next line → 1048576 < number → WritesFront (report.Fault number faults.Lines ∷ []) now last → IsBegun all before last
-begun_past all left next before now last line number old so_far first many front =
-    begun_by all before now last so_far.told _ so_far.written front (begins_past all left next line number old so_far.told so_far.begins first many)
-
--- a front of the end
-pub begun_end : (all left next before now last : Option (List ℕ)) (line : List ℕ) (number : ℕ) (old : Standing)
-    → SoFar all left before now number old → ReadsLine false left next line → WritesFront (report.End old.steps 0 ∷ []) now last → IsBegun all before last
-begun_end all left next before now last line number old so_far none front =
-    begun_by all before now last so_far.told _ so_far.written front (begins_end all left next line number old so_far.told so_far.begins none)
 
 -- nothing is held of a source yet
 pub none_held : (a : Option (List ℕ)) (xs : List ℕ) → xs ≡ [] → prepend_known xs a ≡ a
 none_held None xs e = refl
 none_held (Some ys) xs e = rw e refl
-
--- before the first line
-pub so_far_none : (all before : Option (List ℕ)) → SoFar all all before before 1 at_start
-so_far_none all before = record { told = []; written = appends_none before; leads = leads all; begins = begins all }
-  where
-    leads : (all : Option (List ℕ)) → Leads all all 1 at_start []
-    leads None = tt
-    leads (Some bytes) = λ more outcome h. h
-
-    begins : (all : Option (List ℕ)) → LeadsOn all all 1 at_start []
-    begins None = tt
-    begins (Some bytes) = λ more h. h
-
--- one line more
-pub plays : (all left next before now last : Option (List ℕ)) (line : List ℕ) (number : ℕ) (old new : Standing)
-    → SoFar all left before now number old → ReadsLine true left next line → number ≤ 1048576 → Plays number line old new now last None
-    → SoFar all next before last (number + 1) new
-plays all left next before now last line number old new so_far first few played =
-    onward played.answer played.runs played.writes
-  where
-    onward : (answer : Answer) → RunsLine number line old answer new → Writes number answer now last None → SoFar all next before last (number + 1) new
-    onward (Err (stops.Fault fault)) runs writes = absurd (let e = writes.1 in cc)
-    onward (Err stops.NoMemory) runs writes = absurd writes
-    onward (Ok says) runs writes = record {
-      told = so_far.told ++ map report.Response says;
-      written = appends_lines before now last so_far.told (map report.Response says) so_far.written writes.0;
-      leads = leads_on all left next line number old new so_far.told says so_far.leads first few runs;
-      begins = begins_on all left next line number old new so_far.told says so_far.begins first few runs;
-    }
-
--- the line that ends the run
-pub faults_at : (all left next before now last : Option (List ℕ)) (line : List ℕ) (number : ℕ) (old new : Standing) (outcome : Outcome)
-    → SoFar all left before now number old → ReadsLine true left next line → number ≤ 1048576 → Plays number line old new now last (Some outcome)
-    → IsReplayed all before last outcome
-faults_at all left next before now last line number old new outcome so_far first few played =
-    ending played.answer played.runs played.writes
-  where
-    ending : (answer : Answer) → RunsLine number line old answer new → Writes number answer now last (Some outcome) → IsReplayed all before last outcome
-    ending (Err (stops.Fault fault)) runs writes =
-        let is : outcome ≡ outcomes.Fault = let e = writes.1 in cc in
-        rw is (record {
-          lines = so_far.told ++ report.Fault number fault ∷ [];
-          written = appends_lines before now last so_far.told (report.Fault number fault ∷ []) so_far.written writes.0;
-          report = leads_fault all left next line number old new so_far.told fault so_far.leads first few runs;
-        })
-    ending (Err stops.NoMemory) runs writes = absurd writes
-    ending (Ok says) runs writes = absurd (let e = writes.1 in cc)
-
--- one line too many
-pub too_many : (all left next before now last : Option (List ℕ)) (line : List ℕ) (number : ℕ) (old : Standing) (outcome : Outcome)
-    → SoFar all left before now number old → ReadsLine true left next line → 1048576 < number
-    → (outcome ≡ outcomes.Fault) × Appends now last (text_of_report (report.Fault number faults.Lines ∷ [])) → IsReplayed all before last outcome
-too_many all left next before now last line number old outcome so_far first many written =
-    rw written.0 (record {
-      lines = so_far.told ++ report.Fault number faults.Lines ∷ [];
-      written = appends_lines before now last so_far.told (report.Fault number faults.Lines ∷ []) so_far.written written.1;
-      report = leads_past all left next line number old so_far.told so_far.leads first many;
-    })
-
--- the whole trace
-pub complete : (all left next before now last : Option (List ℕ)) (line : List ℕ) (number : ℕ) (old : Standing) (outcome : Outcome)
-    → SoFar all left before now number old → ReadsLine false left next line
-    → (outcome ≡ outcomes.Clean) × Appends now last (text_of_report (report.End old.steps 0 ∷ [])) → IsReplayed all before last outcome
-complete all left next before now last line number old outcome so_far none written =
-    rw written.0 (record {
-      lines = so_far.told ++ report.End old.steps 0 ∷ [];
-      written = appends_lines before now last so_far.told (report.End old.steps 0 ∷ []) so_far.written written.1;
-      report = leads_end all left next line number old so_far.told so_far.leads none;
-    })
 
 pub mapped : {T E : Type 0} (r : Result T E) (P Q : T → Type 0) → ((x : T) → P x → Q x) → IfOk r P → IfOk r Q
 mapped (Ok x) P Q f h = f x h
@@ -334,6 +69,277 @@ pub on_err : {T E : Type 0} {P : Type 0} (r : Result T E) → P → OnErr r P
 on_err (Ok x) h = tt
 on_err (Err e) h = h
 
+pub when_ok : {T E : Type 0} (r : Result T E) (P Q : Type 0) → (P → Q) → OnOk r P → OnOk r Q
+when_ok (Ok x) P Q f h = f h
+when_ok (Err e) P Q f h = tt
+
 pub when_err : {T E : Type 0} (r : Result T E) (P Q : Type 0) → (P → Q) → OnErr r P → OnErr r Q
 when_err (Ok x) P Q f h = tt
 when_err (Err e) P Q f h = f h
+
+-- reports of replays that ask an oracle
+module _ (gives : Gives) where
+  -- the report of all bytes is what was told, and the report of those that are left
+  abbrev pub Leads : Option (List ℕ) → Option (List ℕ) → ℕ → Standing → List ReportLine → Type 0
+  Leads all left number standing told =
+      IfSome all (λ bytes. IsSomeAnd left (λ rest. (more : List ReportLine) (outcome : Outcome)
+      → IsReport gives number standing (lines_of rest) more outcome → IsReport gives 1 at_start (lines_of bytes) (told ++ more) outcome))
+
+  -- and a beginning of it is what was told, and a beginning of that of those that are left
+  abbrev pub LeadsOn : Option (List ℕ) → Option (List ℕ) → ℕ → Standing → List ReportLine → Type 0
+  LeadsOn all left number standing told =
+      IfSome all (λ bytes. IsSomeAnd left (λ rest. (more : List ReportLine)
+      → IsBeginning gives number standing (lines_of rest) more → IsBeginning gives 1 at_start (lines_of bytes) (told ++ more)))
+
+  pub record SoFar (all left before now : Option (List ℕ)) (number : ℕ) (standing : Standing) : Type 0 where
+    pub told : List ReportLine
+    pub written : Appends before now (text_of_report told)
+    pub leads : Leads all left number standing told
+    pub begins : LeadsOn all left number standing told
+
+  -- a report may break off at once
+  pub begun_none : (number : ℕ) (old : Standing) (trace : List (List ℕ)) → IsBeginning gives number old trace []
+  begun_none number old [] = inl refl
+  begun_none number old (line ∷ rest) = inl refl
+
+  -- a line that was read, carried out
+  pub record Goes (bytes : List ℕ) (left : Option (List ℕ)) (number : ℕ) (old : Standing) (answer : Answer) (new : Standing) : Type 0 where
+    pub whole : List ℕ
+    pub rest : List (List ℕ)
+    pub lines : lines_of bytes ≡ whole ∷ rest
+    pub played : IsPlayed gives number whole old answer new
+    pub next : IsOk answer → IsSomeAnd left (λ more. lines_of more ≡ rest)
+
+  runs-front : (number : ℕ) (whole : List ℕ) (old : Standing) (answer : Answer) (new : Standing)
+      → RunsLine gives number (take 257 whole) old answer new → RunsLine gives number whole old answer new
+  runs-front number whole old answer new h = rw (said-front (allowed (is_some old.machine)) old.told whole) at h
+
+  -- what goes on was no long line
+  short : (number : ℕ) (whole : List ℕ) (old : Standing) (answer : Answer) (new : Standing)
+      → RunsLine gives number whole old answer new → IsOk answer → length whole ≤ 256
+  short number whole old answer new h ok =
+      elim (cases_lt 256 (length whole)) [
+        | inr fits ↦ fits
+        | inl long ↦
+            let fault = rw (said-long (allowed (is_some old.machine)) old.told whole (omega arith)) at h in
+            absurd (let no = rw fault.0 at ok in cc)
+      ]
+
+  goes : (bytes line : List ℕ) (left : Option (List ℕ)) (number : ℕ) (old : Standing) (answer : Answer) (new : Standing)
+      → IsFirstLine bytes line left → number ≤ 1048576 → RunsLine gives number line old answer new → Goes bytes left number old answer new
+  goes bytes line left number old answer new first few runs =
+      let all = runs-front number first.whole old answer new (rw first.read at runs) in
+      record {
+        whole = first.whole;
+        rest = first.rest;
+        lines = first.lines;
+        played = record { runs = λ _. all; past = λ many. absurd (omega arith) };
+        next = λ ok. first.next (short number first.whole old answer new all ok);
+      }
+
+  -- a line that is carried out, and what it reports
+  leads_on : (all left next : Option (List ℕ)) (line : List ℕ) (number : ℕ) (old new : Standing) (told : List ReportLine) (says : List ReportLine)
+      → Leads all left number old told → ReadsLine true left next line → number ≤ 1048576 → RunsLine gives number line old (Ok says) new
+      → Leads all next (number + 1) new (told ++ says)
+  leads_on None left next line number old new told says h first few runs = tt
+  leads_on (Some bytes) None next line number old new told says h first few runs = absurd h
+  leads_on (Some bytes) (Some rest) None line number old new told says h first few runs =
+      let on = goes rest line None number old (Ok says) new first few runs in absurd (on.next refl)
+  leads_on (Some bytes) (Some rest) (Some last) line number old new told says h first few runs =
+      let on = goes rest line (Some last) number old (Ok says) new first few runs in
+      λ more outcome reports. rw append_assoc
+      (h (says ++ more) outcome (rw on.lines (Ok says, new, on.played, (more, refl, rw (on.next refl) at reports))))
+
+  begins_on : (all left next : Option (List ℕ)) (line : List ℕ) (number : ℕ) (old new : Standing) (told : List ReportLine) (says : List ReportLine)
+      → LeadsOn all left number old told → ReadsLine true left next line → number ≤ 1048576 → RunsLine gives number line old (Ok says) new
+      → LeadsOn all next (number + 1) new (told ++ says)
+  begins_on None left next line number old new told says h first few runs = tt
+  begins_on (Some bytes) None next line number old new told says h first few runs = absurd h
+  begins_on (Some bytes) (Some rest) None line number old new told says h first few runs =
+      let on = goes rest line None number old (Ok says) new first few runs in absurd (on.next refl)
+  begins_on (Some bytes) (Some rest) (Some last) line number old new told says h first few runs =
+      let on = goes rest line (Some last) number old (Ok says) new first few runs in
+      λ more reports. rw append_assoc
+      (h (says ++ more) (rw on.lines (inr (Ok says, new, outcomes.Clean, on.played, (more, refl, rw (on.next refl) at reports)))))
+
+  -- a line that ends the run by a fault
+  leads_fault : (all left next : Option (List ℕ)) (line : List ℕ) (number : ℕ) (old new : Standing) (told : List ReportLine) (fault : Fault)
+      → Leads all left number old told → ReadsLine true left next line → number ≤ 1048576 → RunsLine gives number line old (Err (stops.Fault fault)) new
+      → IfSome all (λ bytes. IsReport gives 1 at_start (lines_of bytes) (told ++ report.Fault number fault ∷ []) outcomes.Fault)
+  leads_fault None left next line number old new told fault h first few runs = tt
+  leads_fault (Some bytes) None next line number old new told fault h first few runs = absurd h
+  leads_fault (Some bytes) (Some rest) next line number old new told fault h first few runs =
+      let on = goes rest line next number old (Err (stops.Fault fault)) new first few runs in
+      h (report.Fault number fault ∷ []) outcomes.Fault (rw on.lines (Err (stops.Fault fault), new, on.played, (refl, refl)))
+
+  -- what an answer reports begins the report of its line and of those behind it
+  begins_line : (number : ℕ) (whole : List ℕ) (rest : List (List ℕ)) (old new : Standing) (answer : Answer) → IsPlayed gives number whole old answer new → IsBeginning gives number old (whole ∷ rest) (lines_told number answer)
+  begins_line number whole rest old new (Err (stops.Fault fault)) played = inr (Err (stops.Fault fault), new, outcomes.Fault, played, (refl, refl))
+  begins_line number whole rest old new (Err stops.NoMemory) played = inl refl
+  begins_line number whole rest old new (Ok says) played = inr (Ok says, new, outcomes.Clean, played, ([], sym (append-nil says), begun_none (number + 1) new rest))
+
+  begins_with : (all left next : Option (List ℕ)) (line : List ℕ) (number : ℕ) (old new : Standing) (told : List ReportLine) (answer : Answer)
+      → LeadsOn all left number old told → ReadsLine true left next line → number ≤ 1048576 → RunsLine gives number line old answer new
+      → IfSome all (λ bytes. IsBeginning gives 1 at_start (lines_of bytes) (told ++ lines_told number answer))
+  begins_with None left next line number old new told answer h first few runs = tt
+  begins_with (Some bytes) None next line number old new told answer h first few runs = absurd h
+  begins_with (Some bytes) (Some rest) next line number old new told answer h first few runs =
+      let on = goes rest line next number old answer new first few runs in
+      h (lines_told number answer) (rw on.lines (begins_line number on.whole on.rest old new answer on.played))
+
+  -- what was told alone
+  begins_so : (all left : Option (List ℕ)) (number : ℕ) (old : Standing) (told : List ReportLine) → LeadsOn all left number old told
+      → IfSome all (λ bytes. IsBeginning gives 1 at_start (lines_of bytes) (told ++ []))
+  begins_so None left number old told h = tt
+  begins_so (Some bytes) None number old told h = absurd h
+  begins_so (Some bytes) (Some rest) number old told h = h [] (begun_none number old (lines_of rest))
+
+  -- the line after the last that a trace may have
+  past_played : (number : ℕ) (line : List ℕ) (old : Standing) → 1048576 < number → IsPlayed gives number line old (Err (stops.Fault faults.Lines)) old
+  past_played number line old many = record { runs = λ few. absurd (omega arith); past = λ _. (refl, refl) }
+
+  leads_past : (all left next : Option (List ℕ)) (line : List ℕ) (number : ℕ) (old : Standing) (told : List ReportLine)
+      → Leads all left number old told → ReadsLine true left next line → 1048576 < number
+      → IfSome all (λ bytes. IsReport gives 1 at_start (lines_of bytes) (told ++ report.Fault number faults.Lines ∷ []) outcomes.Fault)
+  leads_past None left next line number old told h first many = tt
+  leads_past (Some bytes) None next line number old told h first many = absurd h
+  leads_past (Some bytes) (Some rest) next line number old told h first many =
+      h (report.Fault number faults.Lines ∷ []) outcomes.Fault
+      (rw first.lines (Err (stops.Fault faults.Lines), old, past_played number first.whole old many, (refl, refl)))
+
+  begins_past : (all left next : Option (List ℕ)) (line : List ℕ) (number : ℕ) (old : Standing) (told : List ReportLine)
+      → LeadsOn all left number old told → ReadsLine true left next line → 1048576 < number
+      → IfSome all (λ bytes. IsBeginning gives 1 at_start (lines_of bytes) (told ++ report.Fault number faults.Lines ∷ []))
+  begins_past None left next line number old told h first many = tt
+  begins_past (Some bytes) None next line number old told h first many = absurd h
+  begins_past (Some bytes) (Some rest) next line number old told h first many =
+      h (report.Fault number faults.Lines ∷ [])
+      (rw first.lines (begins_line number first.whole first.rest old old (Err (stops.Fault faults.Lines)) (past_played number first.whole old many)))
+
+  -- no line is left
+  leads_end : (all left next : Option (List ℕ)) (line : List ℕ) (number : ℕ) (old : Standing) (told : List ReportLine)
+      → Leads all left number old told → ReadsLine false left next line
+      → IfSome all (λ bytes. IsReport gives 1 at_start (lines_of bytes) (told ++ end_line old ∷ []) (outcome_of old.disagreements))
+  leads_end None left next line number old told h none = tt
+  leads_end (Some bytes) None next line number old told h none = absurd h
+  leads_end (Some bytes) (Some rest) next line number old told h none =
+      h (end_line old ∷ []) (outcome_of old.disagreements) (rw (none, no_lines) (refl, refl))
+
+  begins_end : (all left next : Option (List ℕ)) (line : List ℕ) (number : ℕ) (old : Standing) (told : List ReportLine)
+      → LeadsOn all left number old told → ReadsLine false left next line
+      → IfSome all (λ bytes. IsBeginning gives 1 at_start (lines_of bytes) (told ++ end_line old ∷ []))
+  begins_end None left next line number old told h none = tt
+  begins_end (Some bytes) None next line number old told h none = absurd h
+  begins_end (Some bytes) (Some rest) next line number old told h none = h (end_line old ∷ []) (rw (none, no_lines) (inr refl))
+
+  -- a front of more lines behind those that were told
+  begun_by : (all before now last : Option (List ℕ)) (told lines : List ReportLine) → Appends before now (text_of_report told) → WritesFront lines now last
+      → IfSome all (λ bytes. IsBeginning gives 1 at_start (lines_of bytes) (told ++ lines)) → IsBegun gives all before last
+  begun_by all before now last told lines written front begins = record {
+    lines = told ++ lines;
+    front = text_of_report told ++ take front.0 (text_of_report lines);
+    behind = drop front.0 (text_of_report lines);
+    text = text_of_report-append told lines ∙ ap (λ ls. text_of_report told ++ ls) (sym (take-append-drop front.0 (text_of_report lines))) ∙ sym (rw append_assoc refl);
+    written = appends_both before now last (text_of_report told) (take front.0 (text_of_report lines)) written front.1;
+    report = begins;
+  }
+
+  -- nothing was read, nothing written
+  pub begun_at_start : (all before : Option (List ℕ)) → IsBegun gives all before before
+  begun_at_start all before = begun_by all before before before [] [] (appends_none before) (nothing_more before) (start all)
+    where
+      start : (all : Option (List ℕ)) → IfSome all (λ bytes. IsBeginning gives 1 at_start (lines_of bytes) [])
+      start None = tt
+      start (Some bytes) = begun_none 1 at_start (lines_of bytes)
+
+  -- no line more
+  pub begun_so : (all left before now : Option (List ℕ)) (number : ℕ) (old : Standing) → SoFar all left before now number old → IsBegun gives all before now
+  begun_so all left before now number old so_far = begun_by all before now now so_far.told [] so_far.written (nothing_more now) (begins_so all left number old so_far.told so_far.begins)
+
+  -- a front of what a line reports
+  pub begun_line : (all left next before now last : Option (List ℕ)) (line : List ℕ) (number : ℕ) (old : Standing)
+      → SoFar all left before now number old → ReadsLine true left next line → number ≤ 1048576 → PlaysFront gives number line old now last → IsBegun gives all before last
+  begun_line all left next before now last line number old so_far first few played =
+      begun_by all before now last so_far.told (lines_told number played.answer) so_far.written played.writes
+      (begins_with all left next line number old played.after so_far.told played.answer so_far.begins first few played.runs)
+
+  -- a front of the fault of one line too many
+  pub begun_past : (all left next before now last : Option (List ℕ)) (line : List ℕ) (number : ℕ) (old : Standing)
+      → SoFar all left before now number old → ReadsLine true left next line → 1048576 < number → WritesFront (report.Fault number faults.Lines ∷ []) now last → IsBegun gives all before last
+  begun_past all left next before now last line number old so_far first many front =
+      begun_by all before now last so_far.told _ so_far.written front (begins_past all left next line number old so_far.told so_far.begins first many)
+
+  -- a front of the end
+  pub begun_end : (all left next before now last : Option (List ℕ)) (line : List ℕ) (number : ℕ) (old : Standing)
+      → SoFar all left before now number old → ReadsLine false left next line → WritesFront (end_line old ∷ []) now last → IsBegun gives all before last
+  begun_end all left next before now last line number old so_far none front =
+      begun_by all before now last so_far.told _ so_far.written front (begins_end all left next line number old so_far.told so_far.begins none)
+
+  -- before the first line
+  pub so_far_none : (all before : Option (List ℕ)) → SoFar all all before before 1 at_start
+  so_far_none all before = record { told = []; written = appends_none before; leads = leads all; begins = begins all }
+    where
+      leads : (all : Option (List ℕ)) → Leads all all 1 at_start []
+      leads None = tt
+      leads (Some bytes) = λ more outcome h. h
+
+      begins : (all : Option (List ℕ)) → LeadsOn all all 1 at_start []
+      begins None = tt
+      begins (Some bytes) = λ more h. h
+
+  -- one line more
+  pub plays : (all left next before now last : Option (List ℕ)) (line : List ℕ) (number : ℕ) (old new : Standing)
+      → SoFar all left before now number old → ReadsLine true left next line → number ≤ 1048576 → Plays gives number line old new now last None
+      → SoFar all next before last (number + 1) new
+  plays all left next before now last line number old new so_far first few played =
+      onward played.answer played.runs played.writes
+    where
+      onward : (answer : Answer) → RunsLine gives number line old answer new → Writes number answer now last None → SoFar all next before last (number + 1) new
+      onward (Err (stops.Fault fault)) runs writes = absurd (let e = writes.1 in cc)
+      onward (Err stops.NoMemory) runs writes = absurd writes
+      onward (Ok says) runs writes = record {
+        told = so_far.told ++ says;
+        written = appends_lines before now last so_far.told (says) so_far.written writes.0;
+        leads = leads_on all left next line number old new so_far.told says so_far.leads first few runs;
+        begins = begins_on all left next line number old new so_far.told says so_far.begins first few runs;
+      }
+
+  -- the line that ends the run
+  pub faults_at : (all left next before now last : Option (List ℕ)) (line : List ℕ) (number : ℕ) (old new : Standing) (outcome : Outcome)
+      → SoFar all left before now number old → ReadsLine true left next line → number ≤ 1048576 → Plays gives number line old new now last (Some outcome)
+      → IsReplayed gives all before last outcome
+  faults_at all left next before now last line number old new outcome so_far first few played =
+      ending played.answer played.runs played.writes
+    where
+      ending : (answer : Answer) → RunsLine gives number line old answer new → Writes number answer now last (Some outcome) → IsReplayed gives all before last outcome
+      ending (Err (stops.Fault fault)) runs writes =
+          let is : outcome ≡ outcomes.Fault = let e = writes.1 in cc in
+          rw is (record {
+            lines = so_far.told ++ report.Fault number fault ∷ [];
+            written = appends_lines before now last so_far.told (report.Fault number fault ∷ []) so_far.written writes.0;
+            report = leads_fault all left next line number old new so_far.told fault so_far.leads first few runs;
+          })
+      ending (Err stops.NoMemory) runs writes = absurd writes
+      ending (Ok says) runs writes = absurd (let e = writes.1 in cc)
+
+  -- one line too many
+  pub too_many : (all left next before now last : Option (List ℕ)) (line : List ℕ) (number : ℕ) (old : Standing) (outcome : Outcome)
+      → SoFar all left before now number old → ReadsLine true left next line → 1048576 < number
+      → (outcome ≡ outcomes.Fault) × Appends now last (text_of_report (report.Fault number faults.Lines ∷ [])) → IsReplayed gives all before last outcome
+  too_many all left next before now last line number old outcome so_far first many written =
+      rw written.0 (record {
+        lines = so_far.told ++ report.Fault number faults.Lines ∷ [];
+        written = appends_lines before now last so_far.told (report.Fault number faults.Lines ∷ []) so_far.written written.1;
+        report = leads_past all left next line number old so_far.told so_far.leads first many;
+      })
+
+  -- the whole trace
+  pub complete : (all left next before now last : Option (List ℕ)) (line : List ℕ) (number : ℕ) (old : Standing) (outcome : Outcome)
+      → SoFar all left before now number old → ReadsLine false left next line
+      → (outcome ≡ outcome_of old.disagreements) × Appends now last (text_of_report (end_line old ∷ [])) → IsReplayed gives all before last outcome
+  complete all left next before now last line number old outcome so_far none written =
+      rw written.0 (record {
+        lines = so_far.told ++ end_line old ∷ [];
+        written = appends_lines before now last so_far.told (end_line old ∷ []) so_far.written written.1;
+        report = leads_end all left next line number old so_far.told so_far.leads none;
+      })

@@ -26,7 +26,8 @@ use Rattle.trace_text.specs.declared.report.ReportLine.{ReportLine}
 use Rattle.trace_text.specs.declared.report.ReportLine.TheVariants as report
 use Rattle.trace_text.specs.declared.session.Stop.TheVariants as stops
 use Rattle.trace_text.specs.Laws.{reply_told, replies_told, step_asked, steps_asked, Leads, TellsRun, StopsIn, Reaches, TellsNoBoot, TellsBoot, TraceRuns}
-use Rattle.trace_text.specs.Replay.{IsPlayed, Begins, IsReport}
+use Rattle.trace_text.specs.Oracles.{Gives}
+use Rattle.trace_text.specs.Replay.{IsPlayed, Begins, IsReport, end_line}
 use Rattle.trace_lines.specs.Said.{said}
 use Rattle.trace_text.specs.Session.{Standing, Answer, Follows, Tells, HasBooted, IsNoWorld, allowed, at_start}
 use Rattle.trace_lines.specs.Settings.{config_of}
@@ -48,9 +49,6 @@ onward m q t c cs known first rest = record { cpus = both_known m.layout.config.
 
 known_by : (n a b : ℕ) → a ≡ b → b < n → a < n
 known_by n a b e h = rw e h
-
-unclean : (outcome : Outcome) → outcome ≡ outcomes.Fault → outcome ≡ outcomes.Clean → ⊥
-unclean outcome e h = cc
 
 on : false ≡ true → ⊥
 on h = cc
@@ -80,19 +78,19 @@ passes p line rest reported outcome e run = record {
   all = run.all;
 }
 
-pub world_runs : (trace : List (List ℕ)) (number : ℕ) (old : Standing) (world : Machine) (reported : List ReportLine) (outcome : Outcome)
-    → old.machine ≡ Some world → IsReport number old trace reported outcome → TellsRun world trace reported outcome
-world_runs [] number old world reported outcome stands h = record {
+pub world_runs : (gives : Gives) (trace : List (List ℕ)) (number : ℕ) (old : Standing) (world : Machine) (reported : List ReportLine) (outcome : Outcome)
+    → old.machine ≡ Some world → IsReport gives number old trace reported outcome → TellsRun world trace reported outcome
+world_runs gives [] number old world reported outcome stands h = record {
   calls = [];
   last = world.state;
   leads = nowhere world;
   replies = rw h.0 refl;
   left = [];
   steps = refl;
-  all = λ clean. refl;
+  all = λ whole. refl;
 }
-world_runs (line ∷ rest) number old world reported outcome stands h =
-    elim (one_line number old world line rest reported outcome stands h) [
+world_runs gives (line ∷ rest) number old world reported outcome stands h =
+    elim (one_line gives number old world line rest reported outcome stands h) [
       | inl f ↦ record {
         calls = [];
         last = world.state;
@@ -100,10 +98,10 @@ world_runs (line ∷ rest) number old world reported outcome stands h =
         replies = rw f.alone refl;
         left = steps_asked (line ∷ rest);
         steps = refl;
-        all = λ clean. absurd (unclean outcome f.ended clean);
+        all = λ whole. absurd (whole f.ended);
       }
       | inr (inl p) ↦
-          let run = world_runs rest (number + 1) p.new world p.more outcome p.stands p.report in
+          let run = world_runs gives rest (number + 1) p.new world p.more outcome p.stands p.report in
           record {
             calls = run.calls;
             last = run.last;
@@ -114,21 +112,21 @@ world_runs (line ∷ rest) number old world reported outcome stands h =
             all = run.all;
           }
       | inr (inr s) ↦
-          let run = world_runs rest (number + 1) s.new (in_state world s.next) s.more outcome s.stands s.report in
+          let run = world_runs gives rest (number + 1) s.new (in_state world s.next) s.more outcome s.stands s.report in
           record {
             calls = s.call ∷ run.calls;
             last = run.last;
             leads = onward world s.next run.last s.call run.calls (known_by _ s.call.cpu s.cpu s.cpu_is s.known) s.made run.leads;
-            replies = rw (s.is, s.cpu_is) (ap (λ xs. (s.cpu, s.call.reply) ∷ xs) run.replies);
+            replies = rw (s.is, s.cpu_is) (ap (λ xs. (s.cpu, s.call.reply) ∷ xs) (behind s.told s.more s.no_step ∙ run.replies));
             left = run.left;
             steps = rw (s.asked, s.cpu_is, s.step_is) (ap (λ xs. (s.cpu, s.step) ∷ xs) run.steps);
             all = run.all;
           }
     ]
 
-pub world_reaches : (front rest : List (List ℕ)) (number : ℕ) (old : Standing) (world : Machine) (reported : List ReportLine) (outcome : Outcome)
-    → old.machine ≡ Some world → IsReport number old (front ++ rest) reported outcome → StopsIn number front reported outcome ⊎ Reaches number world front rest reported outcome
-world_reaches [] rest number old world reported outcome stands h = inr (record {
+pub world_reaches : (gives : Gives) (front rest : List (List ℕ)) (number : ℕ) (old : Standing) (world : Machine) (reported : List ReportLine) (outcome : Outcome)
+    → old.machine ≡ Some world → IsReport gives number old (front ++ rest) reported outcome → StopsIn number front reported outcome ⊎ Reaches gives number world front rest reported outcome
+world_reaches gives [] rest number old world reported outcome stands h = inr (record {
   told = [];
   more = reported;
   lines = refl;
@@ -139,12 +137,12 @@ world_reaches [] rest number old world reported outcome stands h = inr (record {
   leads = nowhere world;
   replies = refl;
   steps = refl;
-  report = subst (λ n. IsReport n old rest reported outcome) (omega arith) h;
+  report = subst (λ n. IsReport gives n old rest reported outcome) (omega arith) h;
 })
-world_reaches (line ∷ front) rest number old world reported outcome stands h =
-    elim (one_line number old world line (front ++ rest) reported outcome stands h) [
+world_reaches gives (line ∷ front) rest number old world reported outcome stands h =
+    elim (one_line gives number old world line (front ++ rest) reported outcome stands h) [
       | inl f ↦ inl (record { told = []; line = number; fault = f.fault; lines = f.alone; inside = omega arith })
-      | inr (inl p) ↦ elim (world_reaches front rest (number + 1) p.new world p.more outcome p.stands p.report) [
+      | inr (inl p) ↦ elim (world_reaches gives front rest (number + 1) p.new world p.more outcome p.stands p.report) [
         | inl stop ↦ inl (record {
           told = p.says ++ stop.told;
           line = stop.line;
@@ -163,29 +161,29 @@ world_reaches (line ∷ front) rest number old world reported outcome stands h =
           leads = r.leads;
           replies = behind p.says r.told p.no_step ∙ r.replies;
           steps = rw p.silent r.steps;
-          report = subst (λ n. IsReport n r.new rest r.more outcome) (omega arith) r.report;
+          report = subst (λ n. IsReport gives n r.new rest r.more outcome) (omega arith) r.report;
         })
       ]
-      | inr (inr s) ↦ elim (world_reaches front rest (number + 1) s.new (in_state world s.next) s.more outcome s.stands s.report) [
+      | inr (inr s) ↦ elim (world_reaches gives front rest (number + 1) s.new (in_state world s.next) s.more outcome s.stands s.report) [
         | inl stop ↦ inl (record {
-          told = report.Response (responses.Step number s.cpu s.call.reply) ∷ stop.told;
+          told = report.Response (responses.Step number s.cpu s.call.reply) ∷ (s.told ++ stop.told);
           line = stop.line;
           fault = stop.fault;
-          lines = s.is ∙ ap (λ ls. report.Response (responses.Step number s.cpu s.call.reply) ∷ ls) stop.lines;
+          lines = s.is ∙ ap (λ ls. report.Response (responses.Step number s.cpu s.call.reply) ∷ (s.told ++ ls)) stop.lines ∙ sym (rw append_assoc refl);
           inside = let i = stop.inside in omega (arith, i);
         })
         | inr r ↦ inr (record {
-          told = report.Response (responses.Step number s.cpu s.call.reply) ∷ r.told;
+          told = report.Response (responses.Step number s.cpu s.call.reply) ∷ (s.told ++ r.told);
           more = r.more;
-          lines = s.is ∙ ap (λ ls. report.Response (responses.Step number s.cpu s.call.reply) ∷ ls) r.lines;
+          lines = s.is ∙ ap (λ ls. report.Response (responses.Step number s.cpu s.call.reply) ∷ (s.told ++ ls)) r.lines ∙ sym (rw append_assoc refl);
           calls = s.call ∷ r.calls;
           new = r.new;
           last = r.last;
           stands = r.stands;
           leads = onward world s.next r.last s.call r.calls (known_by _ s.call.cpu s.cpu s.cpu_is s.known) s.made r.leads;
-          replies = rw s.cpu_is (ap (λ xs. (s.cpu, s.call.reply) ∷ xs) r.replies);
+          replies = rw s.cpu_is (ap (λ xs. (s.cpu, s.call.reply) ∷ xs) (behind s.told r.told s.no_step ∙ r.replies));
           steps = rw (s.asked, s.cpu_is, s.step_is) (ap (λ xs. (s.cpu, s.step) ∷ xs) r.steps);
-          report = subst (λ n. IsReport n r.new rest r.more outcome) (omega arith) r.report;
+          report = subst (λ n. IsReport gives n r.new rest r.more outcome) (omega arith) r.report;
         })
       ]
     ]
@@ -195,20 +193,20 @@ boot_runs : (m : Machine) (t : Reference) (cs : List Call) → m.state ≡ boot_
 boot_runs m t cs h leads = record { cpus = leads.cpus; leads = subst (λ s. RunsBy (Steps m.layout) s cs t) h leads.runs }
 
 -- a report that tells of no boot, or of one and a run from there
-abbrev Told : ℕ → Standing → List (List ℕ) → List ReportLine → Outcome → Type 0
-Told number start trace reported outcome = TellsNoBoot trace reported outcome ⊎ TellsBoot number start trace reported outcome
+abbrev Told : Gives → ℕ → Standing → List (List ℕ) → List ReportLine → Outcome → Type 0
+Told gives number start trace reported outcome = TellsNoBoot trace reported outcome ⊎ TellsBoot gives number start trace reported outcome
 
-module _ (number : ℕ) (line : List ℕ) (rest : List (List ℕ)) (old new : Standing) (reported : List ReportLine) (outcome : Outcome)
+module _ (gives : Gives) (number : ℕ) (line : List ℕ) (rest : List (List ℕ)) (old new : Standing) (reported : List ReportLine) (outcome : Outcome)
     (unbooted : old.machine ≡ None)
-    (follows : (more : List ReportLine) → new.machine ≡ None → IsReport (number + 1) new rest more outcome → Told (number + 1) new rest more outcome) where
+    (follows : (more : List ReportLine) → new.machine ≡ None → IsReport gives (number + 1) new rest more outcome → Told gives (number + 1) new rest more outcome) where
   abbrev Reports : Answer → Type 0
-  Reports answer = Begins number answer (λ more end. IsReport (number + 1) new rest more end) reported outcome
+  Reports answer = Begins number answer (λ more end. IsReport gives (number + 1) new rest more end) reported outcome
 
   abbrev Plays : Answer → Type 0
-  Plays answer = IsPlayed number line old answer new
+  Plays answer = IsPlayed gives number line old answer new
 
-  passes_before : Plays (Ok []) → step_asked line ≡ None → Told (number + 1) new rest reported outcome → Told number old (line ∷ rest) reported outcome
-  passes_before played e (inl none) = inl (record { line = none.line; alone = none.alone; no_step = none.no_step; all = λ clean. rw e (none.all clean) })
+  passes_before : Plays (Ok []) → step_asked line ≡ None → Told gives (number + 1) new rest reported outcome → Told gives number old (line ∷ rest) reported outcome
+  passes_before played e (inl none) = inl (record { line = none.line; alone = none.alone; no_step = none.no_step; all = λ whole. rw e (none.all whole) })
   passes_before played e (inr boot) = inr (record {
     at = record {
       front = line ∷ boot.at.front;
@@ -223,7 +221,7 @@ module _ (number : ℕ) (line : List ℕ) (rest : List (List ℕ)) (old new : St
     machine = boot.machine;
     line = boot.line;
     new = boot.new;
-    played = subst (λ n. IsPlayed n boot.at.boot boot.at.old (Ok (boot.line ∷ [])) boot.new) (omega arith) boot.played;
+    played = subst (λ n. IsPlayed gives n boot.at.boot boot.at.old (Ok (report.Response boot.line ∷ [])) boot.new) (omega arith) boot.played;
     booted = boot.booted;
     more = boot.more;
     first = boot.first;
@@ -231,30 +229,30 @@ module _ (number : ℕ) (line : List ℕ) (rest : List (List ℕ)) (old new : St
     ends = let r = passes boot.machine line rest boot.more outcome e boot.run in boot_runs boot.machine r.last r.calls boot.booted.booted.state_is r.leads;
   })
 
-  fault_alone : (answer : Answer) (fault : Fault) → Reports answer → answer ≡ Err (stops.Fault fault) → Told number old (line ∷ rest) reported outcome
+  fault_alone : (answer : Answer) (fault : Fault) → Reports answer → answer ≡ Err (stops.Fault fault) → Told gives number old (line ∷ rest) reported outcome
   fault_alone answer fault begins e =
       let b = rw e at begins in
-      inl (record { line = report.Fault number fault; alone = b.0; no_step = refl; all = λ clean. absurd (unclean outcome b.1 clean) })
+      inl (record { line = report.Fault number fault; alone = b.0; no_step = refl; all = λ whole. absurd (whole b.1) })
 
   -- a line that reports nothing, and the report behind it
-  passes_on : (answer : Answer) → answer ≡ Ok [] → Plays answer → Reports answer → step_asked line ≡ None → new.machine ≡ None → Told number old (line ∷ rest) reported outcome
+  passes_on : (answer : Answer) → answer ≡ Ok [] → Plays answer → Reports answer → step_asked line ≡ None → new.machine ≡ None → Told gives number old (line ∷ rest) reported outcome
   passes_on answer e played begins silent unbooted =
       let b = rw e at begins in
-      passes_before (subst Plays e played) silent (subst (λ r. Told (number + 1) new rest r outcome) (sym b.1) (follows b.0 unbooted b.2))
+      passes_before (subst Plays e played) silent (subst (λ r. Told gives (number + 1) new rest r outcome) (sym b.1) (follows b.0 unbooted b.2))
 
-  told : (setting : Setting) (answer : Answer) → Plays answer → Reports answer → Tells setting old answer new → step_asked line ≡ None → Told number old (line ∷ rest) reported outcome
+  told : (setting : Setting) (answer : Answer) → Plays answer → Reports answer → Tells setting old answer new → step_asked line ≡ None → Told gives number old (line ∷ rest) reported outcome
   told setting (Err (stops.Fault fault)) played begins h silent = fault_alone (Err (stops.Fault fault)) fault begins refl
   told setting (Err stops.NoMemory) played begins h silent = absurd begins
   told setting (Ok says) played begins h silent = passes_on (Ok says) (ap Ok h.0) played begins silent (ap (λ (s : Standing). s.machine) h.1 ∙ unbooted)
 
   boots_by : (carve : PageRange) (answer : Answer) → old.told.carve ≡ Some carve → Plays answer → Reports answer
-      → MatchResult answer (λ says. (machine : Machine) × (says_line : Response) × (says ≡ says_line ∷ []) × HasBooted carve old machine says_line new) (λ stop. IsNoWorld stop (memory_of old.told.regions carve) (config_of old.told) × (new ≡ old))
-      → step_asked line ≡ None → Told number old (line ∷ rest) reported outcome
+      → MatchResult answer (λ says. (machine : Machine) × (says_line : Response) × (says ≡ report.Response says_line ∷ []) × HasBooted carve old machine says_line new) (λ stop. IsNoWorld stop (memory_of old.told.regions carve) (config_of old.told) × (new ≡ old))
+      → step_asked line ≡ None → Told gives number old (line ∷ rest) reported outcome
   boots_by carve (Err (stops.Fault fault)) at played begins h silent = fault_alone (Err (stops.Fault fault)) fault begins refl
   boots_by carve (Err stops.NoMemory) at played begins h silent = absurd begins
   boots_by carve (Ok says) at played begins h silent =
       let b = rw h.2 at begins in
-      let run = passes h.0 line rest b.0 outcome silent (world_runs rest (number + 1) new h.0 b.0 outcome (ap (λ (s : Standing). s.machine) h.3.standing) b.2) in
+      let run = passes h.0 line rest b.0 outcome silent (world_runs gives rest (number + 1) new h.0 b.0 outcome (ap (λ (s : Standing). s.machine) h.3.standing) b.2) in
       inr (record {
         at = record {
           front = [];
@@ -269,7 +267,7 @@ module _ (number : ℕ) (line : List ℕ) (rest : List (List ℕ)) (old new : St
         machine = h.0;
         line = h.1;
         new = new;
-        played = subst (λ n. IsPlayed n line old (Ok (h.1 ∷ [])) new) (omega arith) (subst (λ ls. IsPlayed number line old (Ok ls) new) h.2 played);
+        played = subst (λ n. IsPlayed gives n line old (Ok (report.Response h.1 ∷ [])) new) (omega arith) (subst (λ ls. IsPlayed gives number line old (Ok ls) new) h.2 played);
         booted = h.3;
         more = b.0;
         first = b.1;
@@ -278,31 +276,32 @@ module _ (number : ℕ) (line : List ℕ) (rest : List (List ℕ)) (old new : St
       })
 
   boots : (carve : Option PageRange) (answer : Answer) → old.told.carve ≡ carve → Plays answer → Reports answer
-      → MatchOption carve ((answer ≡ Err (stops.Fault (faults.Line Place))) × (new ≡ old)) (λ carve. MatchResult answer (λ says. (machine : Machine) × (says_line : Response) × (says ≡ says_line ∷ []) × HasBooted carve old machine says_line new) (λ stop. IsNoWorld stop (memory_of old.told.regions carve) (config_of old.told) × (new ≡ old)))
-      → step_asked line ≡ None → Told number old (line ∷ rest) reported outcome
+      → MatchOption carve ((answer ≡ Err (stops.Fault (faults.Line Place))) × (new ≡ old)) (λ carve. MatchResult answer (λ says. (machine : Machine) × (says_line : Response) × (says ≡ report.Response says_line ∷ []) × HasBooted carve old machine says_line new) (λ stop. IsNoWorld stop (memory_of old.told.regions carve) (config_of old.told) × (new ≡ old)))
+      → step_asked line ≡ None → Told gives number old (line ∷ rest) reported outcome
   boots None answer at played begins h silent = fault_alone answer (faults.Line Place) begins h.0
   boots (Some carve) answer at played begins h silent = boots_by carve answer at played begins h silent
 
-  before_boot : (answer : Answer) → Plays answer → Reports answer → (r : Result (Option Line) LineFault) → Fits false r (step_asked line) → Follows number r old answer new → Told number old (line ∷ rest) reported outcome
+  before_boot : (answer : Answer) → Plays answer → Reports answer → (r : Result (Option Line) LineFault) → Fits false r (step_asked line) → Follows gives number r old answer new → Told gives number old (line ∷ rest) reported outcome
   before_boot answer played begins (Err fault) fit f = fault_alone answer (faults.Line fault) begins f.0
   before_boot answer played begins (Ok None) fit f = passes_on answer f.0 played begins fit (ap (λ (s : Standing). s.machine) f.1 ∙ unbooted)
   before_boot answer played begins (Ok (Some (lines.Setting setting))) fit f = told setting answer played begins f fit.1
   before_boot answer played begins (Ok (Some lines.Boot)) fit f = boots old.told.carve answer refl played begins f fit.1
   before_boot answer played begins (Ok (Some (lines.Step cpu step))) fit f = absurd (on fit.0)
   before_boot answer played begins (Ok (Some (lines.Query query))) fit f = absurd (on fit.0)
+  before_boot answer played begins (Ok (Some (lines.Poke poke))) fit f = absurd fit
 
-unbooted_runs : (trace : List (List ℕ)) (number : ℕ) (old : Standing) (reported : List ReportLine) (outcome : Outcome)
-    → old.machine ≡ None → IsReport number old trace reported outcome → Told number old trace reported outcome
-unbooted_runs [] number old reported outcome unbooted h = inl (record { line = report.End old.steps 0; alone = h.0; no_step = refl; all = λ clean. refl })
-unbooted_runs (line ∷ rest) number old reported outcome unbooted (answer, new, played, begins) =
-    let follows : (more : List ReportLine) → new.machine ≡ None → IsReport (number + 1) new rest more outcome → Told (number + 1) new rest more outcome
-    = λ more at report. unbooted_runs rest (number + 1) new more outcome at report in
+unbooted_runs : (gives : Gives) (trace : List (List ℕ)) (number : ℕ) (old : Standing) (reported : List ReportLine) (outcome : Outcome)
+    → old.machine ≡ None → IsReport gives number old trace reported outcome → Told gives number old trace reported outcome
+unbooted_runs gives [] number old reported outcome unbooted h = inl (record { line = end_line old; alone = h.0; no_step = refl; all = λ whole. refl })
+unbooted_runs gives (line ∷ rest) number old reported outcome unbooted (answer, new, played, begins) =
+    let follows : (more : List ReportLine) → new.machine ≡ None → IsReport gives (number + 1) new rest more outcome → Told gives (number + 1) new rest more outcome
+    = λ more at report. unbooted_runs gives rest (number + 1) new more outcome at report in
     elim (cases_lt 1048576 number) [
-      | inl many ↦ let x = played.past many in fault_alone number line rest old new reported outcome unbooted follows answer faults.Lines begins x.0
+      | inl many ↦ let x = played.past many in fault_alone gives number line rest old new reported outcome unbooted follows answer faults.Lines begins x.0
       | inr few ↦
-          before_boot number line rest old new reported outcome unbooted follows answer played begins (said (allowed false) old.told line) (fits old.told false line)
-          (subst (λ b. Follows number (said (allowed b) old.told line) old answer new) (ap (λ o. is_some o) unbooted) (played.runs few))
+          before_boot gives number line rest old new reported outcome unbooted follows answer played begins (said (allowed false) old.told line) (fits old.told false line)
+          (subst (λ b. Follows gives number (said (allowed b) old.told line) old answer new) (ap (λ o. is_some o) unbooted) (played.runs few))
     ]
 
-pub trace_runs : TraceRuns
-trace_runs trace reported outcome h = unbooted_runs trace 1 at_start reported outcome refl h
+pub trace_runs : (gives : Gives) → TraceRuns gives
+trace_runs gives trace reported outcome h = unbooted_runs gives trace 1 at_start reported outcome refl h

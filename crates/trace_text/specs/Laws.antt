@@ -1,5 +1,5 @@
 -- Laws of reports.
-use Rattle.std.specs.Prelude.{◌≡◌, ℕ, ◌+◌, ◌<◌, true, ◌⊎◌, List, [], ◌∷◌, ◌++◌, length, map, filter_map, All, Option, Some, None, Result, Ok, Err}
+use Rattle.std.specs.Prelude.{◌≡◌, ℕ, ◌+◌, ◌<◌, true, ◌⊎◌, ⊤, List, [], ◌∷◌, ◌++◌, length, map, filter_map, All, Option, Some, None, Result, Ok, Err}
 use Rattle.page_state.specs.declared.entry.PageRange.{PageRange}
 use Rattle.page_state.specs.declared.reply.Call.{Call}
 use Rattle.page_state.specs.declared.reply.Reply.{Reply}
@@ -17,6 +17,7 @@ use Rattle.trace_lines.specs.declared.outcome.Outcome.{Outcome}
 use Rattle.trace_lines.specs.declared.outcome.Outcome.TheVariants as outcomes
 use Rattle.trace_text.specs.declared.report.ReportLine.{ReportLine}
 use Rattle.trace_text.specs.declared.report.ReportLine.TheVariants as report
+use Rattle.trace_text.specs.Oracles.{Gives, agreed}
 use Rattle.trace_text.specs.Replay.{IsPlayed, IsReport}
 use Rattle.trace_lines.specs.Said.{said}
 use Rattle.trace_text.specs.Session.{Standing, HasBooted, allowed, at_start}
@@ -34,6 +35,8 @@ reply_of (responses.Run run) = None
 -- those that a line of a report tells
 abbrev pub reply_told : ReportLine → Option (ℕ × Reply)
 reply_told (report.Response response) = reply_of response
+reply_told (report.Judged found) = None
+reply_told (report.Audited found) = None
 reply_told (report.Fault number fault) = None
 reply_told (report.End steps disagreements) = None
 
@@ -49,6 +52,7 @@ step_said (Ok (Some (lines.Setting setting))) = None
 step_said (Ok (Some lines.Boot)) = None
 step_said (Ok (Some (lines.Step cpu step))) = Some (cpu, step)
 step_said (Ok (Some (lines.Query query))) = None
+step_said (Ok (Some (lines.Poke poke))) = None
 
 -- the CPU and the step that the bytes of a line ask for; what was told before has no part in it
 abbrev pub step_asked : List ℕ → Option (ℕ × Step)
@@ -64,7 +68,7 @@ pub record Leads (m : Machine) (cs : List Call) (t : Reference) : Type 0 where
   pub runs : Runs (Steps m.layout) m.state cs t
 
 -- a report tells a run of the reference step from a machine's state: of the steps that the trace asks for those before its first
--- fault, which are all where the report is clean, are made, and what its step lines tell are their CPUs and replies
+-- fault, which are all where the report ends without one, are made, and what its step lines tell are their CPUs and replies
 pub record TellsRun (m : Machine) (trace : List (List ℕ)) (reported : List ReportLine) (outcome : Outcome) : Type 0 where
   pub calls : List Call
   pub last : Reference
@@ -73,48 +77,14 @@ pub record TellsRun (m : Machine) (trace : List (List ℕ)) (reported : List Rep
   -- the steps behind the fault
   pub left : List (ℕ × Step)
   pub steps : steps_asked trace ≡ map (λ c. (c.cpu, c.step)) calls ++ left
-  pub all : outcome ≡ outcomes.Clean → left ≡ []
+  pub all : (outcome ≡ outcomes.Fault → ⊥) → left ≡ []
 
--- a report without a boot: one line, which isn't a step's, and where it is clean no step was asked for
+-- a report without a boot: one line, which isn't a step's, and where it is no fault no step was asked for
 pub record TellsNoBoot (trace : List (List ℕ)) (reported : List ReportLine) (outcome : Outcome) : Type 0 where
   pub line : ReportLine
   pub alone : reported ≡ line ∷ []
   pub no_step : reply_told line ≡ None
-  pub all : outcome ≡ outcomes.Clean → steps_asked trace ≡ []
-
--- lines, from a number on, that report nothing and lead from one standing to another
-abbrev pub Prepares : ℕ → Standing → List (List ℕ) → Standing → Type 0
-Prepares number old [] new = new ≡ old
-Prepares number old (line ∷ rest) new = (next : Standing) × IsPlayed number line old (Ok []) next × Prepares (number + 1) next rest new
-
--- a boot line of a trace, from a line of the trace on: the lines in front of it have told its settings, a carve-out among them
-pub record BootLine (number : ℕ) (start : Standing) (trace : List (List ℕ)) : Type 0 where
-  pub front : List (List ℕ)
-  pub boot : List ℕ
-  pub rest : List (List ℕ)
-  pub lines : trace ≡ front ++ boot ∷ rest
-  pub old : Standing
-  pub prepared : Prepares number start front old
-  pub carve : PageRange
-  pub carved : old.told.carve ≡ Some carve
-
--- a report, from a line of the trace on, whose first line tells of a boot, and the other lines of a run of the booted machine from the boot state
-pub record TellsBoot (number : ℕ) (start : Standing) (trace : List (List ℕ)) (reported : List ReportLine) (outcome : Outcome) : Type 0 where
-  pub at : BootLine number start trace
-  pub machine : Machine
-  pub line : Response
-  pub new : Standing
-  pub played : IsPlayed (number + length at.front) at.boot at.old (Ok (line ∷ [])) new
-  pub booted : HasBooted at.carve at.old machine line new
-  pub more : List ReportLine
-  pub first : reported ≡ report.Response line ∷ more
-  pub run : TellsRun machine trace more outcome
-  pub ends : IsRun machine.layout run.calls run.last
-
--- where a machine stands, the report of the lines from there on tells a run of the reference step
-abbrev pub MachineRuns : Type 0
-MachineRuns = (number : ℕ) (old : Standing) (m : Machine) (trace : List (List ℕ)) (reported : List ReportLine) (outcome : Outcome)
-    → old.machine ≡ Some m → IsReport number old trace reported outcome → TellsRun m trace reported outcome
+  pub all : (outcome ≡ outcomes.Fault → ⊥) → steps_asked trace ≡ []
 
 -- a report that a fault among these lines ends, the first of which has the number
 pub record StopsIn (number : ℕ) (front : List (List ℕ)) (reported : List ReportLine) (outcome : Outcome) : Type 0 where
@@ -124,27 +94,81 @@ pub record StopsIn (number : ℕ) (front : List (List ℕ)) (reported : List Rep
   pub lines : reported ≡ told ++ report.Fault line fault ∷ []
   pub inside : line < number + length front
 
--- a report in which the lines in front, from a number on, are carried out: their report, the run of the reference step that it
--- tells, the machine at its end, and the report of the other lines from there
-pub record Reaches (number : ℕ) (m : Machine) (front rest : List (List ℕ)) (reported : List ReportLine) (outcome : Outcome) : Type 0 where
-  pub told : List ReportLine
-  pub more : List ReportLine
-  pub lines : reported ≡ told ++ more
-  pub calls : List Call
-  pub new : Standing
-  pub last : Reference
-  pub stands : new.machine ≡ Some (in_state m last)
-  pub leads : Leads m calls last
-  pub replies : replies_told told ≡ map (λ c. (c.cpu, c.reply)) calls
-  pub steps : steps_asked front ≡ map (λ c. (c.cpu, c.step)) calls
-  pub report : IsReport (number + length front) new rest more outcome
+-- reports of replays that ask an oracle
+module _ (gives : Gives) where
+  -- lines, from a number on, that report nothing and lead from one standing to another
+  abbrev pub Prepares : ℕ → Standing → List (List ℕ) → Standing → Type 0
+  Prepares number old [] new = new ≡ old
+  Prepares number old (line ∷ rest) new = (next : Standing) × IsPlayed gives number line old (Ok []) next × Prepares (number + 1) next rest new
 
--- at each line that is reached the machine is in the state that the run of the steps before it leads to
-abbrev pub MachineReaches : Type 0
-MachineReaches = (number : ℕ) (old : Standing) (m : Machine) (front rest : List (List ℕ)) (reported : List ReportLine) (outcome : Outcome)
-    → old.machine ≡ Some m → IsReport number old (front ++ rest) reported outcome → StopsIn number front reported outcome ⊎ Reaches number m front rest reported outcome
+  -- a boot line of a trace, from a line of the trace on: the lines in front of it have told its settings, a carve-out among them
+  pub record BootLine (number : ℕ) (start : Standing) (trace : List (List ℕ)) : Type 0 where
+    pub front : List (List ℕ)
+    pub boot : List ℕ
+    pub rest : List (List ℕ)
+    pub lines : trace ≡ front ++ boot ∷ rest
+    pub old : Standing
+    pub prepared : Prepares number start front old
+    pub carve : PageRange
+    pub carved : old.told.carve ≡ Some carve
 
--- the report of a trace tells of no boot, or of one and then of a run from there
-abbrev pub TraceRuns : Type 0
-TraceRuns = (trace : List (List ℕ)) (reported : List ReportLine) (outcome : Outcome)
-    → IsReport 1 at_start trace reported outcome → TellsNoBoot trace reported outcome ⊎ TellsBoot 1 at_start trace reported outcome
+  -- a report, from a line of the trace on, whose first line tells of a boot, and the other lines of a run of the booted machine from the boot state
+  pub record TellsBoot (number : ℕ) (start : Standing) (trace : List (List ℕ)) (reported : List ReportLine) (outcome : Outcome) : Type 0 where
+    pub at : BootLine number start trace
+    pub machine : Machine
+    pub line : Response
+    pub new : Standing
+    pub played : IsPlayed gives (number + length at.front) at.boot at.old (Ok (report.Response line ∷ [])) new
+    pub booted : HasBooted at.carve at.old machine line new
+    pub more : List ReportLine
+    pub first : reported ≡ report.Response line ∷ more
+    pub run : TellsRun machine trace more outcome
+    pub ends : IsRun machine.layout run.calls run.last
+
+  -- where a machine stands, the report of the lines from there on tells a run of the reference step
+  abbrev pub MachineRuns : Type 0
+  MachineRuns = (number : ℕ) (old : Standing) (m : Machine) (trace : List (List ℕ)) (reported : List ReportLine) (outcome : Outcome)
+      → old.machine ≡ Some m → IsReport gives number old trace reported outcome → TellsRun m trace reported outcome
+
+  -- a report in which the lines in front, from a number on, are carried out: their report, the run of the reference step that it
+  -- tells, the machine at its end, and the report of the other lines from there
+  pub record Reaches (number : ℕ) (m : Machine) (front rest : List (List ℕ)) (reported : List ReportLine) (outcome : Outcome) : Type 0 where
+    pub told : List ReportLine
+    pub more : List ReportLine
+    pub lines : reported ≡ told ++ more
+    pub calls : List Call
+    pub new : Standing
+    pub last : Reference
+    pub stands : new.machine ≡ Some (in_state m last)
+    pub leads : Leads m calls last
+    pub replies : replies_told told ≡ map (λ c. (c.cpu, c.reply)) calls
+    pub steps : steps_asked front ≡ map (λ c. (c.cpu, c.step)) calls
+    pub report : IsReport gives (number + length front) new rest more outcome
+
+  -- at each line that is reached the machine is in the state that the run of the steps before it leads to
+  abbrev pub MachineReaches : Type 0
+  MachineReaches = (number : ℕ) (old : Standing) (m : Machine) (front rest : List (List ℕ)) (reported : List ReportLine) (outcome : Outcome)
+      → old.machine ≡ Some m → IsReport gives number old (front ++ rest) reported outcome → StopsIn number front reported outcome ⊎ Reaches number m front rest reported outcome
+
+  -- the report of a trace tells of no boot, or of one and then of a run from there
+  abbrev pub TraceRuns : Type 0
+  TraceRuns = (trace : List (List ℕ)) (reported : List ReportLine) (outcome : Outcome)
+      → IsReport gives 1 at_start trace reported outcome → TellsNoBoot trace reported outcome ⊎ TellsBoot 1 at_start trace reported outcome
+
+-- a line that tells of no disagreement
+abbrev pub IsAgreeing : ReportLine → Type 0
+IsAgreeing (report.Response response) = ⊤
+IsAgreeing (report.Judged found) = ⊥
+IsAgreeing (report.Audited found) = ⊥
+IsAgreeing (report.Fault number fault) = ⊤
+IsAgreeing (report.End steps disagreements) = disagreements ≡ 0
+
+-- a report without one
+pub record HasNoDisagreement (reported : List ReportLine) (outcome : Outcome) : Type 0 where
+  pub lines : All IsAgreeing reported
+  pub outcome_is : outcome ≡ outcomes.Disagreed → ⊥
+
+-- a replay whose oracle finds no disagreement tells of none
+abbrev pub TraceAgrees : Type 0
+TraceAgrees = (trace : List (List ℕ)) (reported : List ReportLine) (outcome : Outcome)
+    → IsReport agreed 1 at_start trace reported outcome → HasNoDisagreement reported outcome

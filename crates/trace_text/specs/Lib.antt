@@ -1,6 +1,8 @@
 pub mod Failures
 pub mod Laws
+pub mod Oracles
 pub mod Played
+pub mod Ready
 pub mod Replay
 pub mod Session
 pub mod Texts

@@ -1,5 +1,5 @@
 -- What a line does to a trace that is being carried out, and which lines of the report it makes (profile).
-use Rattle.std.specs.Prelude.{◌≡◌, ℕ, ◌+◌, ◌<◌, ◌≤◌, Bool, true, false, List, [], ◌∷◌, Option, Some, None, Result, Ok, Err, ok_or, is_some, map, option_map, MatchOption, MatchResult}
+use Rattle.std.specs.Prelude.{◌≡◌, ◌⊎◌, ℕ, ◌+◌, ◌<◌, ◌≤◌, Bool, true, false, List, [], ◌∷◌, length, Option, Some, None, Result, Ok, Err, ok_or, is_some, map, option_map, MatchOption, MatchResult}
 use Rattle.page_state.specs.declared.entry.PageRange.{PageRange}
 use Rattle.page_state.specs.declared.entry.Run.{Run}
 use Rattle.page_state.specs.declared.layout.Config.{Config}
@@ -25,31 +25,36 @@ use Rattle.trace_lines.specs.declared.line.TreeName.TheVariants.{Host, Hyp}
 use Rattle.trace_lines.specs.declared.place.Allows.{Allows}
 use Rattle.trace_lines.specs.declared.response.Response.{Response}
 use Rattle.trace_lines.specs.declared.response.Response.TheVariants as responses
+use Rattle.trace_text.specs.declared.oracle.Verdict.{Verdict}
+use Rattle.trace_text.specs.declared.report.ReportLine.{ReportLine}
+use Rattle.trace_text.specs.declared.report.ReportLine.TheVariants as report
 use Rattle.trace_text.specs.declared.session.Stop.{Stop}
 use Rattle.trace_text.specs.declared.session.Stop.TheVariants as stops
 use Rattle.trace_lines.specs.Places.{before_boot}
 use Rattle.trace_lines.specs.Said.{said}
 use Rattle.trace_lines.specs.Settings.{Told, nothing_told, told_after, config_of}
+use Rattle.trace_text.specs.Oracles.{Gives, verdict_lines}
 use Rattle.trace_text.specs.Worlds.{Machine, HasMaplets, IsBootOf, IsWordOn, in_state, tree_told, tables_told, free_told, guest_free_told}
 
--- where a trace stands: what was told, the machine once it is booted, and how many step lines were carried out
+-- where a trace stands: what was told, the machine once it is booted, how many step lines were carried out, and how many disagreements were told
 pub record Standing : Type 0 where
   pub told : Told
   pub machine : Option Machine
   pub steps : ℕ
+  pub disagreements : ℕ
 
 -- before the first line
 abbrev pub at_start : Standing
-at_start = record { told = nothing_told; machine = None; steps = 0 }
+at_start = record { told = nothing_told; machine = None; steps = 0; disagreements = 0 }
 
 -- what `replay` allows, before and after the boot
 abbrev pub allowed : Bool → Allows
 allowed false = before_boot
-allowed true = record { settings = false; boot = false; steps = true; queries = true }
+allowed true = record { settings = false; boot = false; steps = true; queries = true; pokes = false }
 
 -- what a line answers: lines of the report, or why it ends the run
 abbrev pub Answer : Type 0
-Answer = Result (List Response) Stop
+Answer = Result (List ReportLine) Stop
 
 -- a line that ends the run by a fault changes nothing
 abbrev pub Faults : Fault → Standing → Answer → Standing → Type 0
@@ -85,27 +90,12 @@ pub record HasBooted (carve : PageRange) (old : Standing) (m : Machine) (reporte
 abbrev pub Boots : Standing → Answer → Standing → Type 0
 Boots old answer new =
     MatchOption old.told.carve (Faults (faults.Line Place) old answer new) (λ carve.
-    MatchResult answer (λ reported. (m : Machine) × (line : Response) × (reported ≡ line ∷ []) × HasBooted carve old m line new)
+    MatchResult answer (λ reported. (m : Machine) × (line : Response) × (reported ≡ report.Response line ∷ []) × HasBooted carve old m line new)
     (λ stop. IsNoWorld stop (memory_of old.told.regions carve) (config_of old.told) × (new ≡ old)))
-
--- a step of a CPU: a call of it leads by the reference step to the next state, and its reply is told
-pub record IsStepped (number cpu : ℕ) (step : Step) (m : Machine) (old : Standing) (answer : Answer) (new : Standing) : Type 0 where
-  pub call : Call
-  pub next : Reference
-  pub cpu_is : call.cpu ≡ cpu
-  pub step_is : call.step ≡ step
-  pub made : Steps m.layout m.state call next
-  pub line : answer ≡ Ok (responses.Step number cpu call.reply ∷ [])
-  pub standing : new ≡ record old { machine = Some (in_state m next); steps = old.steps + 1 }
-
--- a step line: its CPU is one of the machine's
-abbrev pub MakesStep : ℕ → ℕ → Step → Machine → Standing → Answer → Standing → Type 0
-MakesStep number cpu step m old answer new =
-    (m.layout.config.cpus ≤ cpu → Faults faults.Cpu old answer new) × (cpu < m.layout.config.cpus → IsStepped number cpu step m old answer new)
 
 -- a question about the machine, which changes nothing
 abbrev pub Asks : Option Response → Fault → Standing → Answer → Standing → Type 0
-Asks told fault old answer new = (answer ≡ ok_or (option_map (λ line. line ∷ []) told) (stops.Fault fault)) × (new ≡ old)
+Asks told fault old answer new = (answer ≡ ok_or (option_map (λ line. report.Response line ∷ []) told) (stops.Fault fault)) × (new ≡ old)
 
 -- what a line does after the boot; before it, it has no place
 abbrev pub OnMachine : (Machine → Standing → Answer → Standing → Type 0) → Standing → Answer → Standing → Type 0
@@ -117,21 +107,42 @@ Answers (queries.Word tree page level) m old answer new =
     (word : Option ℕ) × IsWordOn m.layout.depth (tree_told m tree) page level word × Asks (option_map responses.Word word) faults.Path old answer new
 Answers queries.FreeShared m old answer new = Asks (Some (responses.Free (free_told m))) (faults.Line Place) old answer new
 Answers (queries.FreeGuest slot) m old answer new = Asks (Some (responses.Free (guest_free_told m slot))) (faults.Line Place) old answer new
-Answers (queries.Show tree) m old answer new = (runs : List Run) × HasMaplets (tree_told m tree) runs × (answer ≡ Ok (map responses.Run runs)) × (new ≡ old)
+Answers (queries.Show tree) m old answer new = (runs : List Run) × HasMaplets (tree_told m tree) runs × (answer ≡ Ok (map report.Response (map responses.Run runs))) × (new ≡ old)
 
--- what a line does, its number counted from 1
-abbrev pub DoesLine : ℕ → Line → Standing → Answer → Standing → Type 0
-DoesLine number (lines.Setting setting) = Tells setting
-DoesLine number lines.Boot = Boots
-DoesLine number (lines.Step cpu step) = OnMachine (MakesStep number cpu step)
-DoesLine number (lines.Query query) = OnMachine (Answers query)
+-- what lines do where an oracle is asked after each step
+module _ (gives : Gives) where
+  -- a step of a CPU: a call of it leads by the reference step to the next state; its reply is told, and then what the oracle tells of it
+  pub record IsStepped (number cpu : ℕ) (step : Step) (m : Machine) (old : Standing) (answer : Answer) (new : Standing) : Type 0 where
+    pub call : Call
+    pub next : Reference
+    pub verdict : Verdict
+    pub cpu_is : call.cpu ≡ cpu
+    pub step_is : call.step ≡ step
+    pub made : Steps m.layout m.state call next
+    pub given : gives m call next verdict
+    pub lines : answer ≡ Ok (report.Response (responses.Step number cpu call.reply) ∷ verdict_lines verdict)
+    pub standing : new ≡ record old { machine = Some (in_state m next); steps = old.steps + 1; disagreements = old.disagreements + length (verdict_lines verdict) }
 
--- what follows from what a line says
-abbrev pub Follows : ℕ → Result (Option Line) LineFault → Standing → Answer → Standing → Type 0
-Follows number (Err fault) old answer new = Faults (faults.Line fault) old answer new
-Follows number (Ok None) old answer new = (answer ≡ Ok []) × (new ≡ old)
-Follows number (Ok (Some line)) old answer new = DoesLine number line old answer new
+  -- a step line: its CPU is one of the machine's. Where memory is refused to the oracle the run ends
+  abbrev pub MakesStep : ℕ → ℕ → Step → Machine → Standing → Answer → Standing → Type 0
+  MakesStep number cpu step m old answer new =
+      (m.layout.config.cpus ≤ cpu → Faults faults.Cpu old answer new)
+      × (cpu < m.layout.config.cpus → (answer ≡ Err stops.NoMemory) ⊎ IsStepped number cpu step m old answer new)
 
--- what the bytes of a line do
-abbrev pub RunsLine : ℕ → List ℕ → Standing → Answer → Standing → Type 0
-RunsLine number bytes old answer new = Follows number (said (allowed (is_some old.machine)) old.told bytes) old answer new
+  -- what a line does, its number counted from 1
+  abbrev pub DoesLine : ℕ → Line → Standing → Answer → Standing → Type 0
+  DoesLine number (lines.Setting setting) = Tells setting
+  DoesLine number lines.Boot = Boots
+  DoesLine number (lines.Step cpu step) = OnMachine (MakesStep number cpu step)
+  DoesLine number (lines.Query query) = OnMachine (Answers query)
+  DoesLine number (lines.Poke poke) = Faults (faults.Line Place)
+
+  -- what follows from what a line says
+  abbrev pub Follows : ℕ → Result (Option Line) LineFault → Standing → Answer → Standing → Type 0
+  Follows number (Err fault) old answer new = Faults (faults.Line fault) old answer new
+  Follows number (Ok None) old answer new = (answer ≡ Ok []) × (new ≡ old)
+  Follows number (Ok (Some line)) old answer new = DoesLine number line old answer new
+
+  -- what the bytes of a line do
+  abbrev pub RunsLine : ℕ → List ℕ → Standing → Answer → Standing → Type 0
+  RunsLine number bytes old answer new = Follows number (said (allowed (is_some old.machine)) old.told bytes) old answer new

@@ -4,6 +4,7 @@ use Rattle.std.specs.Fmt.{decimal}
 use Rattle.page_state.specs.LayoutFaults.{fault_number}
 use Rattle.trace_lines.specs.Texts.{text_of_line_fault, text_of_response}
 use Rattle.world.specs.Boots.{boot_number}
+use Rattle.ghost_oracle.specs.Texts.{text_of_disagreement, text_of_judgement}
 use Rattle.trace_text.specs.declared.fault.Fault.{Fault}
 use Rattle.trace_text.specs.declared.fault.Fault.TheVariants as faults
 use Rattle.trace_text.specs.declared.report.ReportLine.{ReportLine}
@@ -25,6 +26,8 @@ text_of_end steps disagreements = codes "end steps " ++ decimal steps ++ codes "
 -- a line of a report, without its end
 unfoldable pub text_of : ReportLine → List ℕ
 text_of (report.Response response) = text_of_response response
+text_of (report.Judged found) = text_of_judgement found
+text_of (report.Audited found) = text_of_disagreement found
 text_of (report.Fault line fault) = decimal line ++ codes " fault " ++ text_of_fault fault
 text_of (report.End steps disagreements) = text_of_end steps disagreements
 

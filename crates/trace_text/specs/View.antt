@@ -9,13 +9,15 @@ use Rattle.hypercalls.specs.Stands.{parts_layout, state_of}
 use Rattle.page_state.specs.declared.entry.Run.{Run}
 use Rattle.trace_lines.specs.declared.line.TreeName.{TreeName}
 use Rattle.trace_lines.specs.declared.line.TreeName.TheVariants.{Host, Hyp, Guest}
-use Rattle.trace_lines.specs.declared.response.Response.{Response}
 use Rattle.trace_lines.specs.declared.response.Response.TheVariants as responses
 use Rattle.trace_lines.specs.Settings.{told_of}
+use Rattle.trace_text.specs.declared.report.ReportLine.{ReportLine}
+use Rattle.trace_text.specs.declared.report.ReportLine.TheVariants as report
 use Rattle.trace_text.specs.declared.session.Reported.{Reported}
 use Rattle.trace_text.specs.declared.session.Reported.TheVariants as reported
 use Rattle.trace_text.specs.declared.session.Session.{Session}
 use Rattle.trace_text.specs.declared.session.Stop.{Stop}
+use Rattle.trace_text.specs.Oracles.{verdict_lines}
 use Rattle.trace_text.specs.Session.{Answer, Standing}
 use Rattle.trace_text.specs.Worlds.{Machine}
 use Rattle.world.specs.declared.World.{World}
@@ -26,7 +28,7 @@ machine_of w = record { layout = parts_layout w.parts; state = state_of w.parts 
 
 -- where a session stands
 abbrev pub standing_of : {A : Type 0} → Session A → Standing
-standing_of s = record { told = told_of s.settings; machine = option_map machine_of s.world; steps = s.steps }
+standing_of s = record { told = told_of s.settings; machine = option_map machine_of s.world; steps = s.steps; disagreements = s.disagreements }
 
 -- what the guest in a slot holds, if it isn't Empty and there is such a slot
 abbrev pub body_in : {A : Type 0} → Option (GuestPart A) → Option (Body A)
@@ -51,10 +53,11 @@ abbrev pub kept_runs : {A : Type 0} → Session A → TreeName → List Run
 kept_runs s tree = runs_in s.world tree
 
 -- the lines of the report that a session's line makes
-abbrev pub lines_reported : {A : Type 0} → Session A → Reported → List Response
+abbrev pub lines_reported : {A : Type 0} → Session A → Reported → List ReportLine
 lines_reported s reported.Nothing = []
-lines_reported s (reported.Line line) = line ∷ []
-lines_reported s (reported.Maplets tree) = map responses.Run (kept_runs s tree)
+lines_reported s (reported.Line line) = report.Response line ∷ []
+lines_reported s (reported.Step line verdict) = report.Response line ∷ verdict_lines verdict
+lines_reported s (reported.Maplets tree) = map report.Response (map responses.Run (kept_runs s tree))
 
 -- the answer of a session
 abbrev pub answer_of : {A : Type 0} → Session A → Result Reported Stop → Answer

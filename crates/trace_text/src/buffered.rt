@@ -1,5 +1,6 @@
 //! Replaying from a reader to a writer of std.
 ghost use Rattle.std.specs.Prelude.{◌≡◌, IfOk};
+ghost use Rattle.trace_text.specs.Oracles.{agreed};
 ghost use Rattle.trace_text.specs.Replay.{IsReplayed};
 
 use crate::trace::replay;
@@ -22,7 +23,7 @@ pub fn replay_buffered<A: Allocator + Copy, R: Read + Drop, W: Write + Drop>(
     reader: R,
     writer: W,
 ) -> Result<(Outcome, W), Stopped>
-    ensures { IfOk result (λ r. IsReplayed (R.remaining reader) (W.contents writer) (W.contents r.1) r.0) }
+    ensures { IfOk result (λ r. IsReplayed agreed (R.remaining reader) (W.contents writer) (W.contents r.1) r.0) }
 {
     let Ok(writer) = BufWriter::new(global, writer) else {
         return Err(stop_at(EngineFault::NoMemory, None));

@@ -4,14 +4,16 @@
 mod buffered;
 mod fault;
 pub mod laws;
+mod oracle;
 mod report;
 mod session;
 mod sink;
 mod trace;
 
 pub use buffered::{Stopped, replay_buffered};
+pub use oracle::{GhostOracle, Oracle, Verdict};
 pub use sink::Sink;
-pub use trace::replay;
+pub use trace::{replay, replay_with};
 pub use trace_lines::{Counting, EngineFault, Failed, Outcome, Source};
 
 #[cfg(test)]

@@ -3,6 +3,8 @@ ghost use Rattle.std.specs.Prelude.{Some};
 ghost use Rattle.trace_text.specs.Texts.{text_of, text_of_end};
 
 use crate::fault::Fault;
+use ghost_oracle::disagreement::Disagreement;
+use ghost_oracle::text::Judgement;
 use std::fmt;
 use trace_lines::Response;
 
@@ -11,6 +13,10 @@ use trace_lines::Response;
 pub enum ReportLine {
     /// What a line of the trace reports.
     Response(Response),
+    /// What the judgement of a step found. It stands behind the step's line.
+    Judged(Disagreement),
+    /// What the audit after a step found. It stands behind the judgement's line.
+    Audited(Disagreement),
     /// The fault of a line. It ends the report.
     Fault { line: u64, fault: Fault },
     /// The numbers of step lines and of disagreements. It ends the report.
@@ -24,6 +30,11 @@ impl fmt::Display for ReportLine {
     fn fmt<W: fmt::Write>(&self, f: &mut fmt::Formatter<W>) -> fmt::Result {
         match self {
             ReportLine::Response(response) => write!(f, "{response}"),
+            ReportLine::Judged(found) => {
+                let judgement = Judgement(*found);
+                write!(f, "{judgement}")
+            }
+            ReportLine::Audited(found) => write!(f, "{found}"),
             ReportLine::Fault { line, fault } => write!(f, "{line} fault {fault}"),
             ReportLine::End {
                 steps,

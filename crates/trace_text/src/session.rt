@@ -1,19 +1,24 @@
 //! What a trace has said so far, and what a line does.
-ghost use Rattle.std.specs.Prelude.{◌≡◌, ◌+◌, ◌<◌, ◌≤◌, ◌^◌, List, [], Option, Some, None, is_some, OnOk, OnErr, MatchOption, MatchResult};
+ghost use Rattle.std.specs.Prelude.{◌≡◌, ◌+◌, ◌<◌, ◌≤◌, ◌^◌, List, [], Option, Some, None, is_some, IfOk, IfSome, OnOk, OnErr, MatchOption, MatchResult};
 ghost use Rattle.page_state.specs.declared.layout.Config.{Config};
 ghost use Rattle.page_state.specs.LayoutFaults.{IsAccepted};
 ghost use Rattle.page_state.specs.Regions.{memory_of};
 ghost use Rattle.trace_text.specs.Session.{Answers, Boots, DoesLine, IsNoWorld, MakesStep, OnMachine, RunsLine, Tells, allowed, at_start};
+ghost use Rattle.hypercalls.specs.Stands.{state_of};
+ghost use Rattle.hypercalls.specs.Whole.{call_of, IsStep};
+ghost use Rattle.trace_text.specs.Ready.{IsReady, IsStateAt};
 ghost use Rattle.trace_text.specs.View.{answer_of, body_at, kept_runs, machine_of, standing_of};
 ghost use Rattle.trace_lines.specs.Settings.{config_of, told_of};
 ghost use Rattle.world.specs.Boots.{IsBooted};
 ghost use Rattle.trace_text.specs.Worlds.{IsWordOn, free_told, guest_free_told, tables_told, tree_told};
 
 use crate::fault::Fault;
+use crate::oracle::{Oracle, Verdict};
+use ghost_spec::state::Ghost;
 use guest_component::Body;
 use maplets::Maplets;
-use page_state::{MemoryMap, Page, PageRange, Region, Step};
-use std::alloc::{Allocator, Global};
+use page_state::{MemoryMap, Page, PageRange, Region, Reply, Step};
+use std::alloc::{AllocError, Allocator, Global};
 use trace_lines::{Allows, Line, LineFault, Query, Response, Setting, Settings, TreeName, said};
 use world::World;
 
@@ -31,6 +36,8 @@ pub enum Reported {
     Nothing,
     /// One line.
     Line(Response),
+    /// The line of a step, and what the oracle tells of it.
+    Step(Response, Verdict),
     /// The maplets of a tree, a line for each run.
     Maplets(TreeName),
 }
@@ -42,20 +49,26 @@ pub struct Session<A: Allocator> {
     alloc: A,
     settings: Settings,
     world: Option<World<A>>,
+    /// What the world keeps, where a step was made: the state before the next one.
+    state: Option<Ghost>,
     steps: u64,
+    disagreements: u64,
 }
 
 impl<A: Allocator + Copy> Session<A> {
     /// Nothing said yet.
     pub fn new(global: Global, alloc: A) -> Session<A>
-        ensures { standing_of result ≡ at_start }
+        ensures start { standing_of result ≡ at_start }
+        ensures ready { IsReady result }
     {
         Session {
             global,
             alloc,
             settings: Settings::new(global),
             world: None,
+            state: None,
             steps: 0,
+            disagreements: 0,
         }
     }
 
@@ -64,6 +77,13 @@ impl<A: Allocator + Copy> Session<A> {
         ensures { result ≡ (standing_of self.now).steps }
     {
         self.steps
+    }
+
+    /// How many disagreements were told.
+    pub fn disagreements(&self) -> u64
+        ensures { result ≡ (standing_of self.now).disagreements }
+    {
+        self.disagreements
     }
 
     /// What `replay` allows where the session stands.
@@ -76,6 +96,7 @@ impl<A: Allocator + Copy> Session<A> {
                 boot: false,
                 steps: true,
                 queries: true,
+                pokes: false,
             }
         } else {
             Allows::before_boot()
@@ -83,35 +104,52 @@ impl<A: Allocator + Copy> Session<A> {
     }
 
     /// Carries out the line of this number, and tells what it reports. Of a line of over 256 bytes any 257 serve.
-    pub fn run(&mut self, number: u64, line: &[u8]) -> Result<Reported, Stop>
-        requires { (standing_of self.old).steps < 2 ^ 63 }
-        ensures done { RunsLine number line.now (standing_of self.old) (answer_of self.new result) (standing_of self.new) }
+    pub fn run<O: Oracle>(
+        &mut self,
+        oracle: &mut O,
+        number: u64,
+        line: &[u8],
+    ) -> Result<Reported, Stop>
+        requires few { (standing_of self.old).steps < 2 ^ 62 }
+        requires ready { IsReady self.old }
+        ensures done { RunsLine O.gives number line.now (standing_of self.old) (answer_of self.new result) (standing_of self.new) }
         ensures steps { (standing_of self.new).steps ≤ (standing_of self.old).steps + 1 }
+        ensures ready { IsReady self.new }
     {
         match said(self.allows(), &self.settings, line) {
-            Ok(Some(said)) => self.carry_out(number, said),
+            Ok(Some(said)) => self.carry_out(oracle, number, said),
             Ok(None) => Ok(Reported::Nothing),
             Err(fault) => Err(Stop::Fault(Fault::Line(fault))),
         }
     }
 
-    fn carry_out(&mut self, number: u64, said: Line) -> Result<Reported, Stop>
-        requires few { self.old.steps < 2 ^ 63 }
-        ensures done { DoesLine number said (standing_of self.old) (answer_of self.new result) (standing_of self.new) }
+    fn carry_out<O: Oracle>(
+        &mut self,
+        oracle: &mut O,
+        number: u64,
+        said: Line,
+    ) -> Result<Reported, Stop>
+        requires few { self.old.steps < 2 ^ 62 }
+        requires ready { IsReady self.old }
+        ensures done { DoesLine O.gives number said (standing_of self.old) (answer_of self.new result) (standing_of self.new) }
         ensures steps { self.new.steps ≤ self.old.steps + 1 }
+        ensures ready { IsReady self.new }
     {
         match said {
             Line::Setting(setting) => self.tell(setting),
             Line::Boot => self.boot(),
-            Line::Step { cpu, step } => self.step(number, cpu, step),
+            Line::Step { cpu, step } => self.step(oracle, number, cpu, step),
             Line::Query(query) => self.ask(query),
+            Line::Poke(_) => Err(Stop::Fault(Fault::Line(LineFault::Place))),
         }
     }
 
     /// Takes up a setting.
     fn tell(&mut self, setting: Setting) -> Result<Reported, Stop>
+        requires ready { IsReady self.old }
         ensures done { Tells setting (standing_of self.old) (answer_of self.new result) (standing_of self.new) }
         ensures steps { self.new.steps ≡ self.old.steps }
+        ensures ready { IsReady self.new }
     {
         match self.settings.say(setting) {
             Ok(()) => Ok(Reported::Nothing),
@@ -121,8 +159,10 @@ impl<A: Allocator + Copy> Session<A> {
 
     /// Makes the world.
     fn boot(&mut self) -> Result<Reported, Stop>
+        requires ready { IsReady self.old }
         ensures done { Boots (standing_of self.old) (answer_of self.new result) (standing_of self.new) }
         ensures steps { self.new.steps ≡ self.old.steps }
+        ensures ready { IsReady self.new }
     {
         let Some(carve) = self.settings.carve else {
             return Err(Stop::Fault(Fault::Line(LineFault::Place)));
@@ -131,6 +171,7 @@ impl<A: Allocator + Copy> Session<A> {
             Ok(world) => {
                 let line = boot_line(&world);
                 self.world = Some(world);
+                self.state = None;
                 Ok(Reported::Line(line))
             }
             Err(stop) => Err(stop),
@@ -148,11 +189,19 @@ impl<A: Allocator + Copy> Session<A> {
         }
     }
 
-    /// Makes one step.
-    fn step(&mut self, number: u64, cpu: u64, step: Step) -> Result<Reported, Stop>
-        requires few { self.old.steps < 2 ^ 63 }
-        ensures done { OnMachine (MakesStep number cpu step) (standing_of self.old) (answer_of self.new result) (standing_of self.new) }
+    /// Makes one step, and asks the oracle.
+    fn step<O: Oracle>(
+        &mut self,
+        oracle: &mut O,
+        number: u64,
+        cpu: u64,
+        step: Step,
+    ) -> Result<Reported, Stop>
+        requires few { self.old.steps < 2 ^ 62 }
+        requires ready { IsReady self.old }
+        ensures done { OnMachine (MakesStep O.gives number cpu step) (standing_of self.old) (answer_of self.new result) (standing_of self.new) }
         ensures steps { self.new.steps ≤ self.old.steps + 1 }
+        ensures ready { IsReady self.new }
     {
         let Some(world) = self.world.as_mut() else {
             return Err(Stop::Fault(Fault::Line(LineFault::Place)));
@@ -160,13 +209,19 @@ impl<A: Allocator + Copy> Session<A> {
         if cpu >= world.cpus() {
             return Err(Stop::Fault(Fault::Cpu));
         }
-        let reply = world.step(cpu, step);
+        let remembered = self.state.take();
+        let Ok(made) = checked(self.global, oracle, world, remembered, cpu, step) else {
+            return Err(Stop::NoMemory);
+        };
         self.steps += 1;
-        Ok(Reported::Line(Response::Step {
+        self.disagreements += made.verdict.count();
+        self.state = Some(made.after);
+        let line = Response::Step {
             line: number,
             cpu,
-            reply,
-        }))
+            reply: made.reply,
+        };
+        Ok(Reported::Step(line, made.verdict))
     }
 
     /// Answers a query.
@@ -208,6 +263,57 @@ impl<A: Allocator + Copy> Session<A> {
             }
         }
     }
+}
+
+/// A step that was made.
+#[derive(Drop)]
+struct Made {
+    reply: Reply,
+    verdict: Verdict,
+    /// What the world keeps after it.
+    after: Ghost,
+}
+
+/// The state of a world, which may be remembered.
+fn state_before<A: Allocator>(
+    global: Global,
+    world: &World<A>,
+    remembered: Option<Ghost>,
+) -> Result<Ghost, AllocError>
+    requires remembered { IfSome remembered (IsStateAt world.now) }
+    ensures { IfOk result (IsStateAt world.now) }
+{
+    match remembered {
+        Some(state) => Ok(state),
+        None => world.to_ghost(global),
+    }
+}
+
+/// Makes a step, and asks the oracle. The state before it may be remembered.
+fn checked<A: Allocator + Copy, O: Oracle>(
+    global: Global,
+    oracle: &mut O,
+    world: &mut World<A>,
+    remembered: Option<Ghost>,
+    cpu: u64,
+    step: Step,
+) -> Result<Made, AllocError>
+    requires cpu { cpu < world.old.parts.layout.config.cpus }
+    requires remembered { IfSome remembered (IsStateAt world.old) }
+    ensures step { IfOk result (λ made. IsStep world.old.parts cpu step made.reply world.new.parts) }
+    ensures given { IfOk result (λ made. O.gives (machine_of world.old) (call_of world.old.parts cpu step made.reply) (state_of world.new.parts) made.verdict) }
+    ensures after { IfOk result (λ made. IsStateAt world.new made.after) }
+{
+    let before = state_before(global, world, remembered)?;
+    let reply = world.step(cpu, step);
+    let after = world.to_ghost(global)?;
+    let walked = world.recompute(global)?;
+    let verdict = oracle.check(global, &before, cpu, step, reply, &after, &walked)?;
+    Ok(Made {
+        reply,
+        verdict,
+        after,
+    })
 }
 
 /// What the guest in a slot holds. None where it is Empty, and of a slot past the last.

@@ -1,5 +1,9 @@
 use super::*;
+use ghost_oracle::disagreement::Disagreement;
+use ghost_spec::state::Ghost;
 use linked_list_allocator::LocalHeap;
+use page_state::{Reply, Step};
+use std::alloc::{AllocError, Global};
 use std::io::{Cursor, Error, ErrorKind, Read, Write};
 use std::process::Abort;
 use std::test::Fail;
@@ -197,4 +201,51 @@ fn tables_lie_in_the_heap(rt: HostRuntime) -> Result<(), Fail> {
     in_heap(&rt, 4096, b"6 fault boot 3\n")?;
     let report: &[u8] = b"boot host 3 hyp 3 free 58\nend steps 0 disagreements 0\n";
     in_heap(&rt, 1_048_576, report)
+}
+
+/// An oracle that disagrees after each second step.
+#[derive(Drop)]
+struct Doubting {
+    doubts: bool,
+}
+
+impl Oracle for Doubting {
+    ghost gives = { λ m c t v. Unit {0} };
+
+    fn check(
+        &mut self,
+        _global: Global,
+        _before: &Ghost,
+        cpu: u64,
+        _step: Step,
+        _reply: Reply,
+        _after: &Ghost,
+        _walked: &Ghost,
+    ) -> Result<Verdict, AllocError> {
+        let doubts = self.doubts;
+        self.doubts = !doubts;
+        Ok(Verdict {
+            judged: doubts.then_some(Disagreement::Free),
+            audited: doubts.then_some(Disagreement::Cpu(cpu)),
+        })
+    }
+}
+
+#[test]
+fn oracle_asked(rt: HostRuntime) -> Result<(), Fail> {
+    let mut trace = Vec::from_slice(rt.alloc(), BOOT)?;
+    trace.extend_from_slice(
+        b"0 share_hyp 0x40100\nfree shared\n1 share_hyp 0x40100\n0 unshare_hyp 0x40100\n1 share_hyp 0x40101\n",
+    )?;
+    let wanted: &[u8] =
+        b"boot host 3 hyp 3 free 58\n7 0 ok\nfree 56\n9 1 perm\ndisagree free\ndisagree cpu 1\n10 0 ok\n11 1 ok\ndisagree free\ndisagree cpu 1\nend steps 4 disagreements 4\n";
+    let mut written = Vec::new(rt.alloc());
+    let mut source = Counting::new(Cursor::new(trace.as_slice()));
+    let mut sink = Counting::new(&mut written);
+    let mut oracle = Doubting { doubts: false };
+    let ended = replay_with(rt.alloc(), rt.alloc(), &mut source, &mut sink, &mut oracle);
+    assert!(rt; ended == Ok(Outcome::Disagreed));
+    let _ = sink.into_parts();
+    assert!(rt; written.as_slice() == wanted);
+    Ok(())
 }

@@ -13,3 +13,6 @@ returns-in-Some-clause-front g c =
     rw c.in-Maplets.is (
     subst (λ rs. OnErr c.tell_runs.result (WritesFront (shown rs) (g.K.Sink.contents c.args.sink.now) (g.K.Sink.contents c.tell_runs.new.sink))) runs c.tell_runs.ensures.front
     )
+
+pub returns-in-Step-clause-front : goal.returns-in-Step-clause-front
+returns-in-Step-clause-front g c = rw c.in-Step.is c.tell_step.ensures.front

@@ -1,5 +1,6 @@
 use Rattle.std.proofs.Common.{rules, ◌≡◌, map, Some, Ok, refl, subst, sym}
 use Rattle.trace_lines.specs.declared.response.Response.TheVariants as responses
+use Rattle.trace_text.specs.declared.report.ReportLine.TheVariants as report
 use Rattle.trace_text.specs.Session.{Answers}
 use Rattle.trace_text.specs.View.{kept_runs, machine_of, runs_in, standing_of}
 use Rattle.trace_text.specs.Worlds.{HasMaplets, tree_told}
@@ -15,4 +16,4 @@ returns-in-Show g c =
     let has : HasMaplets (tree_told (machine_of w) c.in-Show.tree) (kept_runs s c.in-Show.tree)
     = subst (λ o. HasMaplets (tree_told (machine_of w) c.in-Show.tree) (runs_in o c.in-Show.tree)) (sym there) (has_maplets w c.in-Show.tree) in
     on_machine (Answers c.args.query) (standing_of s) s.world w _ _ refl there
-    (subst (λ query. Answers query (machine_of w) (standing_of s) (Ok (map responses.Run (kept_runs s c.in-Show.tree))) (standing_of s)) (sym c.in-Show.is) (kept_runs s c.in-Show.tree, has, refl, refl))
+    (subst (λ query. Answers query (machine_of w) (standing_of s) (Ok (map report.Response (map responses.Run (kept_runs s c.in-Show.tree)))) (standing_of s)) (sym c.in-Show.is) (kept_runs s c.in-Show.tree, has, refl, refl))

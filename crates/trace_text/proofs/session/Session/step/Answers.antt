@@ -1,5 +1,5 @@
-use Rattle.std.proofs.Common.{rules, refl, ap, arith, ◌+◌, Some}
-use Rattle.hypercalls.specs.Stands.{state_of}
+use Rattle.std.proofs.Common.{rules, refl, ap, arith, ◌+◌, ◌∙◌, Some, inr}
+use Rattle.hypercalls.specs.Stands.{parts_layout, state_of}
 use Rattle.hypercalls.specs.Whole.{call_of}
 use Rattle.trace_text.specs.Session.{MakesStep}
 use Rattle.trace_text.specs.View.{standing_of}
@@ -8,15 +8,22 @@ use Rattle.trace_text.proofs.session.Session.step.Goals as goal
 
 pub returns-clause-done : goal.returns-clause-done
 returns-clause-done g c =
-    on_machine (MakesStep c.args.number c.args.cpu c.args.step) _ c.args.self.now.world c.in-Some.world.now _ _ refl (search rules) (
+    let old = standing_of c.args.self.now in
+    let before = c.in-Some.world.now in
+    let after = c.checked.new.world in
+    on_machine (MakesStep g.O.Oracle.gives c.args.number c.args.cpu c.args.step) _ c.args.self.now.world before _ _ refl (search rules) (
       λ over. absurd (omega arith),
-      λ in_range. record {
-        call = call_of c.in-Some.world.now.parts c.args.cpu c.args.step c.step-reply.result;
-        next = state_of c.step-reply.new.self.parts;
+      λ in_range. inr (record {
+        call = call_of before.parts c.args.cpu c.args.step c.in-Ok.made.reply;
+        next = state_of after.parts;
+        verdict = c.in-Ok.made.verdict;
         cpu_is = refl;
         step_is = refl;
-        made = c.step-reply.ensures.step.steps;
-        line = refl;
-        standing = ap (λ l. record (standing_of c.args.self.now) { machine = Some (record { layout = l; state = state_of c.step-reply.new.self.parts }); steps = c.args.self.now.steps + 1 }) c.step-reply.ensures.step.layout;
-      },
+        made = c.in-Ok.ensures.step.steps;
+        given = c.in-Ok.ensures.given;
+        lines = refl;
+        standing =
+            ap (λ l. record old { machine = Some (record { layout = l; state = state_of after.parts }); steps = old.steps + 1; disagreements = old.disagreements + c.count.result }) c.in-Ok.ensures.step.layout
+            ∙ ap (λ n. record old { machine = Some (record { layout = (parts_layout before.parts); state = state_of after.parts }); steps = old.steps + 1; disagreements = old.disagreements + n }) c.count.ensures.count;
+      }),
     )

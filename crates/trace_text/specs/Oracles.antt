@@ -1,0 +1,63 @@
+-- What an oracle is shown of a step, and what it may tell of it.
+use Rattle.std.specs.Prelude.{◌≡◌, ℕ, ◌<◌, List, [], ◌∷◌, ◌++◌, Option, Some, None}
+use Rattle.page_state.specs.declared.reply.Call.{Call}
+use Rattle.page_state.specs.declared.reply.Reply.{Reply}
+use Rattle.page_state.specs.declared.step.Step.{Step}
+use Rattle.page_state.specs.LayoutView.{layout_of}
+use Rattle.reference_model.specs.State.{Reference}
+use Rattle.reference_model.specs.Step.{Steps}
+use Rattle.ghost_spec.specs.declared.state.Ghost.{Ghost}
+use Rattle.ghost_spec.specs.States.{ghost_state, IsKept}
+use Rattle.ghost_oracle.specs.declared.disagreement.Disagreement.{Disagreement}
+use Rattle.ghost_oracle.specs.Audits.{HaveSameFrames}
+use Rattle.trace_text.specs.declared.oracle.Verdict.{Verdict}
+use Rattle.trace_text.specs.declared.report.ReportLine.{ReportLine}
+use Rattle.trace_text.specs.declared.report.ReportLine.TheVariants as report
+use Rattle.trace_text.specs.Worlds.{Machine}
+
+-- what an oracle may tell of a call that leads from a machine's state to another
+abbrev pub Gives : Type 1
+Gives = Machine → Call → Reference → Verdict → Type 0
+
+-- it tells of no disagreement
+pub record IsAgreed (v : Verdict) : Type 0 where
+  pub judged : v.judged ≡ None
+  pub audited : v.audited ≡ None
+
+-- whatever the call
+abbrev pub agreed : Gives
+agreed m c t v = IsAgreed v
+
+-- states that can be compared: what is kept before and after a step of a CPU, and what walks find after it, of one layout and with rows of the same frames
+pub record CanCompare (before : Ghost) (cpu : ℕ) (after walked : Ghost) : Type 0 where
+  pub known : cpu < before.layout.config.cpus
+  pub before_kept : IsKept before
+  pub after_kept : IsKept after
+  pub walked_kept : IsKept walked
+  pub layout : layout_of after.layout ≡ layout_of before.layout
+  pub frames : HaveSameFrames after walked
+
+-- they are those of a call that leads from a machine's state to another, in which what is kept is what walks find
+pub record IsShown (m : Machine) (c : Call) (t : Reference) (before : Ghost) (cpu : ℕ) (step : Step) (reply : Reply) (after walked : Ghost) : Type 0 where
+  pub layout : layout_of before.layout ≡ m.layout
+  pub before_is : ghost_state before ≡ m.state
+  pub cpu_is : c.cpu ≡ cpu
+  pub step_is : c.step ≡ step
+  pub reply_is : c.reply ≡ reply
+  pub made : Steps m.layout m.state c t
+  pub after_is : ghost_state after ≡ t
+  pub walked_is : ghost_state walked ≡ t
+
+-- the line of the report that tells what a judgement found, if anything
+abbrev pub judged_lines : Option Disagreement → List ReportLine
+judged_lines None = []
+judged_lines (Some d) = report.Judged d ∷ []
+
+-- and what an audit found
+abbrev pub audited_lines : Option Disagreement → List ReportLine
+audited_lines None = []
+audited_lines (Some d) = report.Audited d ∷ []
+
+-- the lines of the report that tell a verdict: the judgement's first
+abbrev pub verdict_lines : Verdict → List ReportLine
+verdict_lines v = judged_lines v.judged ++ audited_lines v.audited

@@ -1,0 +1,91 @@
+//! What judges and audits the steps of a replay.
+ghost use Rattle.std.specs.Prelude.{◌≡◌, ◌≤◌, IfOk, length};
+ghost use Rattle.page_state.specs.declared.reply.Call.{Call};
+ghost use Rattle.reference_model.specs.State.{Reference};
+ghost use Rattle.trace_text.specs.Oracles.{CanCompare, IsAgreed, IsShown, audited_lines, judged_lines, verdict_lines};
+ghost use Rattle.trace_text.specs.Worlds.{Machine};
+
+use ghost_oracle::audit::audit;
+use ghost_oracle::disagreement::Disagreement;
+use ghost_oracle::judge::judge;
+use ghost_spec::state::Ghost;
+use page_state::{Reply, Step};
+use std::alloc::{AllocError, Global};
+
+/// What an oracle tells of a step.
+#[derive(Clone, Copy, PartialEq, Debug)]
+pub struct Verdict {
+    /// Where its reply, or the state after it, is not what the model says.
+    pub judged: Option<Disagreement>,
+    /// Where what is kept after it is not what walking every word finds.
+    pub audited: Option<Disagreement>,
+}
+
+impl Verdict {
+    /// How many lines of the report tell it.
+    pub fn count(&self) -> u64
+        ensures count { result ≡ length (verdict_lines self.now) }
+        ensures few { result ≤ 2 }
+    {
+        count_of(self.judged) + count_of(self.audited)
+    }
+}
+
+/// How many lines tell what was found, if anything.
+fn count_of(found: Option<Disagreement>) -> u64
+    ensures judged { result ≡ length (judged_lines found) }
+    ensures audited { result ≡ length (audited_lines found) }
+    ensures few { result ≤ 1 }
+{
+    match found {
+        Some(_) => 1,
+        None => 0,
+    }
+}
+
+/// What is asked after each step of a replay.
+pub trait Oracle {
+    ghost use Rattle.trace_text.specs.declared.oracle.Verdict.{Verdict};
+
+    /// What it may tell of a call that leads from a machine's state to another.
+    ghost gives: { Machine → Call → Reference → Verdict → Type 0 };
+
+    /// Looks at a step of a CPU: what the world keeps before and after it, the reply, and what walking every word finds
+    /// after it. Err where memory is refused.
+    fn check(
+        &mut self,
+        global: Global,
+        before: &Ghost,
+        cpu: u64,
+        step: Step,
+        reply: Reply,
+        after: &Ghost,
+        walked: &Ghost,
+    ) -> Result<Verdict, AllocError>
+        requires comparable { CanCompare before.now cpu after.now walked.now }
+        ensures told { IfOk result (λ v. (m : Machine) (c : Call) (t : Reference) → IsShown m c t before.now cpu step reply after.now walked.now → gives m c t v) };
+}
+
+/// The oracle of `replay`: it judges each step by the model, and audits what is kept by the walk. It finds no disagreement.
+#[derive(Drop)]
+pub struct GhostOracle;
+
+impl Oracle for GhostOracle {
+    ghost gives = { λ m c t v. IsAgreed v };
+
+    fn check(
+        &mut self,
+        global: Global,
+        before: &Ghost,
+        cpu: u64,
+        step: Step,
+        reply: Reply,
+        after: &Ghost,
+        walked: &Ghost,
+    ) -> Result<Verdict, AllocError> {
+        Ok(Verdict {
+            judged: judge(global, before, cpu, step, &reply, after)?,
+            audited: audit(after, walked),
+        })
+    }
+}
