@@ -18,6 +18,7 @@ pub mod Reached
 pub mod Recording
 pub mod RawReady
 pub mod RawUnder
+pub mod Replaced
 mod RowsFound
 mod RowsLaid
 mod RowsPages

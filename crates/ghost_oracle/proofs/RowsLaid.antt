@@ -1,6 +1,8 @@
 -- Lists of rows that are written range by range.
-use Rattle.std.proofs.Common.{◌≡◌, ℕ, suc, ◌+◌, ◌-◌, ◌^◌, ◌<◌, ◌≤◌, ◌||◌, Bool, true, false, List, [], ◌∷◌, drop, length, get_or, min, Option, Some, None, refl, sym, ap, subst, ◌∙◌, arith}
+use Rattle.std.proofs.Common.{◌≡◌, ℕ, suc, ◌+◌, ◌-◌, ◌^◌, ◌<◌, ◌≤◌, ◌||◌, nat_le, Bool, true, false, List, [], ◌∷◌, drop, length, get_or, min, Option, Some, None, refl, sym, ap, subst, ◌∙◌, arith}
 use Rattle.std.specs.Option.{option_or, ForSome}
+use Rattle.std.specs.Prelude.{is_some}
+use mathlib.Core.Path.{fun_ext}
 use Rattle.std.proofs.lemmas.List.{drop_more, get_or-map}
 use Rattle.descriptor.specs.declared.Frame.{Frame}
 use Rattle.descriptor.specs.declared.Kind.{Kind}
@@ -21,6 +23,8 @@ use Rattle.page_state.specs.Regions.{is_in_range}
 use Rattle.page_state.specs.Rows.{advance_row, HasPageBelow}
 use Rattle.page_state.specs.Runs.{map_of}
 use Rattle.page_state.proofs.Cases.{by_test}
+use Rattle.run_list.proofs.Maps.{none_low}
+use Rattle.std.proofs.lemmas.Bool.Decides.{nat_tests}
 use Rattle.page_state.proofs.Common.{not-holds}
 use Rattle.page_state.proofs.Updates.{within_test}
 use Rattle.reference_model.specs.Owner.{page_of, is_free, is_table_frame, is_in_hand}
@@ -171,3 +175,18 @@ hands-more ks f c k new old some within h e =
     h ∙ ap (λ o. option_or (used_if (is_in_hand (get_or ks (c - 1) k).hand f) (InHand (c - 1))) o) e
     ∙ ap (λ x. option_or (used_if (is_in_hand x.hand f) (InHand (c - 1))) (first_some c (length ks - c) (hand_use (cpus_in ks) f))) (sym own)
     ∙ sym (first-back (length ks) c (hand_use (cpus_in ks) f) some within)
+
+-- where nothing is said, nothing is taken away
+pub nothing_taken : (m : ℕ → Option Row) (first count : ℕ) (row : Option Row) → row ≡ None → ((f : ℕ) → f < first + count → m f ≡ None) → m ≡ map_updated advance_row m first count row
+nothing_taken m first count row e h = fun_ext (λ f. by_test (is_within first count f)
+    (λ t. rw (t, e) (h f (within_means first count f t).1))
+    (λ t. rw t refl))
+
+pub none_told : (row : Option Row) → is_some row ≡ false → row ≡ None
+none_told None h = refl
+none_told (Some r) h = cc
+
+-- in front of its first run a list says nothing
+pub before_all : (rows : List (Run Row)) (d : Run Row) (frame : ℕ) → IsCoarsest advance_row rows → nat_le frame (get_or rows 0 d).pages.first.0 ≡ true → (f : ℕ) → f < frame → run_map advance_row rows f ≡ None
+before_all [] d frame c t f h = refl
+before_all (r ∷ rs) d frame c t f h = let low : frame ≤ r.pages.first.0 = grind (arith, nat_tests) in none_low advance_row frame f (r ∷ rs) c low h

@@ -48,6 +48,9 @@ pub(crate) fn in_trees(tree: TreeOf, kept: &Tree, walked: &Tree) -> Option<Disag
     requires walked { IsKeptTree walked.now }
     ensures { IsFound (map_of kept.now.runs.items ≡ map_of walked.now.runs.items) (IsMapDifference tree (map_of kept.now.runs.items) (map_of walked.now.runs.items)) result }
 {
+    if kept.runs.is_empty() && walked.runs.is_empty() {
+        return None;
+    }
     match first_apart::<Target, Run>(kept.runs.as_slice(), walked.runs.as_slice()) {
         Some(page) => Some(Disagreement::Map {
             tree,

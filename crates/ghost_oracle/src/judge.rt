@@ -23,7 +23,7 @@ use crate::disagreement::{Disagreement, TreeOf};
 use crate::same::{is_same_cpu, is_same_guest, is_same_pool, is_same_reply, is_same_slot};
 use ghost_spec::cpu::GhostCpu;
 use ghost_spec::parts::{GhostGuest, GhostSlot};
-use ghost_spec::state::{Ghost, predict};
+use ghost_spec::state::Ghost;
 use page_state::{Owner, Refusal, Reply, Row, Step, Usage};
 use run_list::{Advance, Run, RunList};
 use std::alloc::{AllocError, Global};
@@ -244,6 +244,56 @@ fn wants_memory(step: Step, reply: Reply, told: Reply) -> bool
         && matches!(told, Reply::Done(_))
 }
 
+/// Where the reply is want of memory, the first difference from the state before; else none.
+fn changed_since(
+    alloc: Global,
+    pre: &Ghost,
+    reply: Reply,
+    post: &Ghost,
+) -> Result<Option<Disagreement>, AllocError>
+    requires pre { IsKept pre.now }
+    requires post { IsKept post.now }
+    requires layout { layout_of post.now.layout ≡ layout_of pre.now.layout }
+    ensures none { reply ≡ Reply.Refused Refusal.NoMemory → IfOk result (λ o. (o ≡ None) ↔ (contents_in post.now ≡ contents_in pre.now)) }
+    ensures first { reply ≡ Reply.Refused Refusal.NoMemory → IfOk result (λ o. IfSome o (IsFirstOfState (contents_in post.now) (contents_in pre.now))) }
+{
+    match reply {
+        Reply::Refused(Refusal::NoMemory) => differs(alloc, post, pre),
+        _ => Ok(None),
+    }
+}
+
+/// As `judge`, where the state before isn't wanted any more: it becomes the one that the model says, and no copy is made.
+pub fn judge_last(
+    alloc: Global,
+    pre: Ghost,
+    cpu: u64,
+    step: Step,
+    reply: &Reply,
+    post: &Ghost,
+) -> Result<Option<Disagreement>, AllocError>
+    requires cpu { cpu < pre.layout.config.cpus }
+    requires pre { IsKept pre }
+    requires post { IsKept post.now }
+    requires layout { layout_of post.now.layout ≡ layout_of pre.layout }
+    ensures none { IfOk result (λ o. (o ≡ None) ↔ JudgeAgrees (contents_in pre) step reply.now (contents_in post.now) (told_of pre cpu step)) }
+    ensures first { IfOk result (λ o. IfSome o (IsFirstJudged (contents_in pre) step reply.now (contents_in post.now) (told_of pre cpu step))) }
+{
+    let changed = changed_since(alloc, &pre, *reply, post)?;
+    let mut spec = pre;
+    let told = spec.advance(alloc, cpu, step)?;
+    if wants_memory(step, *reply, told) {
+        return Ok(changed);
+    }
+    if !is_same_reply(*reply, told) {
+        return Ok(Some(Disagreement::Reply {
+            said: *reply,
+            spec: told,
+        }));
+    }
+    differs(alloc, post, &spec)
+}
+
 /// Judges a call of a CPU by the state before it, its reply and the state after it: none where the reply and the state are
 /// those that the model says, or where a step that the model makes, and that can take memory, was refused for want of it and
 /// changed nothing. Else the first difference. Err where memory is refused to the judge.
@@ -262,15 +312,6 @@ pub fn judge(
     ensures none { IfOk result (λ o. (o ≡ None) ↔ JudgeAgrees (contents_in pre.now) step reply.now (contents_in post.now) (told_of pre.now cpu step)) }
     ensures first { IfOk result (λ o. IfSome o (IsFirstJudged (contents_in pre.now) step reply.now (contents_in post.now) (told_of pre.now cpu step))) }
 {
-    let (told, spec) = predict(alloc, pre, cpu, step)?;
-    if wants_memory(step, *reply, told) {
-        return differs(alloc, post, pre);
-    }
-    if !is_same_reply(*reply, told) {
-        return Ok(Some(Disagreement::Reply {
-            said: *reply,
-            spec: told,
-        }));
-    }
-    differs(alloc, post, &spec)
+    let again = pre.copied(alloc)?;
+    judge_last(alloc, again, cpu, step, reply, post)
 }

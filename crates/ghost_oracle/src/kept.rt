@@ -7,6 +7,8 @@ ghost use Rattle.guest_component.specs.View.{runs_of};
 ghost use Rattle.guest_steps.specs.View.{cpu_of, guest_held, shared_of};
 ghost use Rattle.ghost_spec.specs.Kept.{IsKeptShared};
 ghost use Rattle.ghost_spec.specs.States.{ghost_state, IsKept};
+ghost use Rattle.ghost_spec.specs.Trees.{tree_in_lists};
+ghost use Rattle.table_tree.specs.View.{tree_of};
 ghost use Rattle.ghost_spec.specs.Views.{row_in, shared_in_lists};
 ghost use Rattle.hypercalls.specs.Stands.{parts_layout, state_of, HasHistory};
 ghost use Rattle.ghost_oracle.specs.Found.{found_state, walked_state, with_row, HasRowsOf, SaysMaplets, SaysRows};
@@ -14,7 +16,7 @@ ghost use Rattle.ghost_oracle.specs.Low.{IsLowCpu, IsLowGuest};
 
 use crate::parts::{cpu_rooms, cpus_from, guest_rooms, slots_from};
 use crate::rows::rows_from_scratch;
-use crate::trees::{Source, frames_of, guests_from, tree_from};
+use crate::trees::{Source, frames_of, guests_from, guests_with_maplets, tree_from, with_maplets};
 use ghost_spec::rows::copied_rows;
 use ghost_spec::shared::Shared;
 use ghost_spec::state::{Ghost, GhostRooms, copied_layout};
@@ -24,23 +26,20 @@ use page_state::Row;
 use run_list::RunList;
 use std::alloc::{AllocError, Allocator, Global};
 
-/// The Shared part with these rows.
+/// The Shared part as a walk finds it, with these rows.
 pub(crate) fn shared_from<A: Allocator>(
     alloc: Global,
     part: &SharedPart<A>,
-    source: Source,
     rows: RunList<Row>,
 ) -> Result<Shared, AllocError>
     requires reach { AreInReach HasPageBelow rows.runs }
     ensures shared { IfOk result (λ s. shared_in_lists s ≡ with_row (row_in rows.runs) (shared_of part.now)) }
     ensures kept { IfOk result IsKeptShared }
     ensures rows { IfOk result (λ s. s.rows ≡ rows) }
-    ensures host { source ≡ Source.Maplets → IfOk result (λ s. s.host.runs.items ≡ part.now.host.maplets.runs) }
-    ensures hyp { source ≡ Source.Maplets → IfOk result (λ s. s.hyp.runs.items ≡ part.now.hyp.maplets.runs) }
 {
     Ok(Shared {
-        host: tree_from(alloc, &part.host, source)?,
-        hyp: tree_from(alloc, &part.hyp, source)?,
+        host: tree_from(alloc, &part.host, Source::Words)?,
+        hyp: tree_from(alloc, &part.hyp, Source::Words)?,
         free: frames_of(alloc, &part.pool)?,
         rows,
     })
@@ -61,11 +60,10 @@ fn rooms_from<A: Allocator>(alloc: Global, parts: &Parts<A>) -> Result<GhostRoom
     })
 }
 
-/// All parts, with these rows.
+/// All parts as a walk finds them, with these rows.
 fn ghost_from<A: Allocator>(
     alloc: Global,
     parts: &Parts<A>,
-    source: Source,
     rows: RunList<Row>,
 ) -> Result<Ghost, AllocError>
     requires guests { All (λ g. IsLowGuest (guest_held g)) parts.now.guests.items }
@@ -75,16 +73,108 @@ fn ghost_from<A: Allocator>(
     ensures layout { IfOk result (λ g. layout_of g.layout ≡ parts_layout parts.now) }
     ensures kept { IfOk result IsKept }
     ensures rows { IfOk result (λ g. g.shared.rows ≡ rows) }
-    ensures maplets { source ≡ Source.Maplets → IfOk result (SaysMaplets parts.now) }
 {
     Ok(Ghost {
         layout: copied_layout(&parts.layout)?,
         vms: slots_from(alloc, &parts.vms[0].table)?,
-        shared: shared_from(alloc, parts.shared(), source, rows)?,
-        guests: guests_from(alloc, parts.guests.as_slice(), source)?,
+        shared: shared_from(alloc, parts.shared(), rows)?,
+        guests: guests_from(alloc, parts.guests.as_slice())?,
         cpus: cpus_from(alloc, parts.cpus.as_slice())?,
         rooms: rooms_from(alloc, parts)?,
     })
+}
+
+/// All parts as a walk finds them, without owner rows.
+fn found<A: Allocator>(alloc: Global, parts: &Parts<A>) -> Result<Ghost, AllocError>
+    requires history { ∥ HasHistory parts.now ∥₁ }
+    ensures state { IfOk result (λ g. ghost_state g ≡ found_state (row_in []) (state_of parts.now)) }
+    ensures layout { IfOk result (λ g. layout_of g.layout ≡ parts_layout parts.now) }
+    ensures kept { IfOk result IsKept }
+{
+    ghost_from(alloc, parts, RunList::new(alloc))
+}
+
+/// The Shared part that a walk found, with the runs of the maplets and the rows of the owner table.
+fn shared_with_maplets<A: Allocator>(
+    alloc: Global,
+    found: Shared,
+    part: &SharedPart<A>,
+) -> Result<Shared, AllocError>
+    requires host { tree_in_lists found.host ≡ tree_of part.now.host.tree }
+    requires hyp { tree_in_lists found.hyp ≡ tree_of part.now.hyp.tree }
+    requires free { found.free.items ≡ part.now.pool.frames }
+    ensures shared { IfOk result (λ s. shared_in_lists s ≡ shared_of part.now) }
+    ensures kept { IfOk result IsKeptShared }
+    ensures host { IfOk result (λ s. s.host.runs.items ≡ part.now.host.maplets.runs) }
+    ensures hyp { IfOk result (λ s. s.hyp.runs.items ≡ part.now.hyp.maplets.runs) }
+    ensures rows { IfOk result (λ s. s.rows.runs ≡ part.now.rows) }
+{
+    let Shared {
+        host,
+        hyp,
+        free,
+        rows: _,
+    } = found;
+    Ok(Shared {
+        host: with_maplets(alloc, host, part.host.maplets())?,
+        hyp: with_maplets(alloc, hyp, part.hyp.maplets())?,
+        free,
+        rows: copied_rows(alloc, part.rows.runs())?,
+    })
+}
+
+/// What a walk found, with the runs of all maplets and the rows of the owner table.
+fn with_kept<A: Allocator>(
+    alloc: Global,
+    parts: &Parts<A>,
+    found: Ghost,
+) -> Result<Ghost, AllocError>
+    requires state { ghost_state found ≡ found_state (row_in []) (state_of parts.now) }
+    requires layout { layout_of found.layout ≡ parts_layout parts.now }
+    requires kept { IsKept found }
+    ensures state { IfOk result (λ g. ghost_state g ≡ state_of parts.now) }
+    ensures layout { IfOk result (λ g. layout_of g.layout ≡ parts_layout parts.now) }
+    ensures kept { IfOk result IsKept }
+    ensures maplets { IfOk result (SaysMaplets parts.now) }
+    ensures rows { IfOk result (SaysRows parts.now) }
+    ensures frames { IfOk result (HasRowsOf (parts_layout parts.now)) }
+{
+    let Ghost {
+        layout,
+        vms,
+        shared,
+        guests,
+        cpus,
+        rooms,
+    } = found;
+    Ok(Ghost {
+        layout,
+        vms,
+        shared: shared_with_maplets(alloc, shared, parts.shared())?,
+        guests: guests_with_maplets(alloc, guests, parts.guests.as_slice())?,
+        cpus,
+        rooms,
+    })
+}
+
+/// What a walk found, with the owner row of each memory frame from scratch: by the maps, the tables, the pools and the hands.
+fn with_scratch<A: Allocator>(
+    alloc: Global,
+    parts: &Parts<A>,
+    found: Ghost,
+) -> Result<Ghost, AllocError>
+    requires state { ghost_state found ≡ found_state (row_in []) (state_of parts.now) }
+    requires layout { layout_of found.layout ≡ parts_layout parts.now }
+    requires kept { IsKept found }
+    ensures state { IfOk result (λ g. ghost_state g ≡ walked_state (parts_layout parts.now) (state_of parts.now)) }
+    ensures layout { IfOk result (λ g. layout_of g.layout ≡ parts_layout parts.now) }
+    ensures kept { IfOk result IsKept }
+    ensures frames { IfOk result (HasRowsOf (parts_layout parts.now)) }
+{
+    let mut walked = found;
+    let rows = rows_from_scratch(alloc, &walked)?;
+    walked.shared.rows = rows;
+    Ok(walked)
 }
 
 /// What is kept: the runs of all maplets and of the owner table, and the tables, pools, slots, CPUs and rooms as they
@@ -98,8 +188,8 @@ pub fn kept<A: Allocator>(alloc: Global, parts: &Parts<A>) -> Result<Ghost, Allo
     ensures rows { IfOk result (SaysRows parts.now) }
     ensures frames { IfOk result (HasRowsOf (parts_layout parts.now)) }
 {
-    let rows = copied_rows(alloc, parts.shared().rows.runs())?;
-    ghost_from(alloc, parts, Source::Maplets, rows)
+    let found = found(alloc, parts)?;
+    with_kept(alloc, parts, found)
 }
 
 /// What walking every descriptor from scratch finds: the map of each tree by its words alone, each of which is read once, and
@@ -112,8 +202,32 @@ pub fn recompute<A: Allocator>(alloc: Global, parts: &Parts<A>) -> Result<Ghost,
     ensures kept { IfOk result IsKept }
     ensures frames { IfOk result (HasRowsOf (parts_layout parts.now)) }
 {
-    let mut found = ghost_from(alloc, parts, Source::Words, RunList::new(alloc))?;
-    let rows = rows_from_scratch(alloc, &found)?;
-    found.shared.rows = rows;
-    Ok(found)
+    let found = found(alloc, parts)?;
+    with_scratch(alloc, parts, found)
+}
+
+/// What is kept, as `kept` gives it, and what walking every descriptor finds, as `recompute` does, of one walk: each word is
+/// read once for both.
+pub fn kept_and_walked<A: Allocator>(
+    alloc: Global,
+    parts: &Parts<A>,
+) -> Result<(Ghost, Ghost), AllocError>
+    requires history { ∥ HasHistory parts.now ∥₁ }
+    ensures state { IfOk result (λ g. ghost_state g.0 ≡ state_of parts.now) }
+    ensures layout { IfOk result (λ g. layout_of g.0.layout ≡ parts_layout parts.now) }
+    ensures kept { IfOk result (λ g. IsKept g.0) }
+    ensures maplets { IfOk result (λ g. SaysMaplets parts.now g.0) }
+    ensures rows { IfOk result (λ g. SaysRows parts.now g.0) }
+    ensures frames { IfOk result (λ g. HasRowsOf (parts_layout parts.now) g.0) }
+    ensures walked { IfOk result (λ g. ghost_state g.1 ≡ walked_state (parts_layout parts.now) (state_of parts.now)) }
+    ensures walked_layout { IfOk result (λ g. layout_of g.1.layout ≡ parts_layout parts.now) }
+    ensures walked_kept { IfOk result (λ g. IsKept g.1) }
+    ensures walked_frames { IfOk result (λ g. HasRowsOf (parts_layout parts.now) g.1) }
+{
+    let found = found(alloc, parts)?;
+    let again = found.copied(alloc)?;
+    Ok((
+        with_kept(alloc, parts, again)?,
+        with_scratch(alloc, parts, found)?,
+    ))
 }

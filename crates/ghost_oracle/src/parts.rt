@@ -1,5 +1,5 @@
 //! What isn't in tables, on lists: the VM part's slots, the CPUs' own states, and the rooms of logs.
-ghost use Rattle.std.specs.Prelude.{◌≡◌, ℕ, ◌-◌, ◌<◌, ◌≤◌, All, IfOk, get_or, length, map};
+ghost use Rattle.std.specs.Prelude.{◌≡◌, ℕ, ◌-◌, ◌<◌, ◌≤◌, All, IfOk, IsTrue, None, get_or, length, map};
 ghost use Rattle.reference_model.specs.State.{no_cpu, no_slot};
 ghost use Rattle.guest_steps.specs.Logs.{IsOfSize};
 ghost use Rattle.guest_steps.specs.View.{cpu_of};
@@ -26,6 +26,28 @@ fn stand_from(state: SlotState) -> GhostStand
     }
 }
 
+/// Whether no vCPU is loaded.
+fn is_idle(loaded: &[Option<u64>]) -> bool
+    ensures { IsTrue result → (i : ℕ) → get_or loaded.now i None ≡ None }
+{
+    for load in loaded {
+        if load.is_some() {
+            return false;
+        }
+    }
+    true
+}
+
+/// The CPU that has each vCPU loaded. Where none is loaded the list is empty, and takes no memory.
+fn loads_from(alloc: Global, loaded: &[Option<u64>]) -> Result<Vec<Option<u64>>, AllocError>
+    ensures { IfOk result (λ v. (i : ℕ) → get_or v.items i None ≡ get_or loaded.now i None) }
+{
+    if is_idle(loaded) {
+        return Ok(Vec::new(alloc));
+    }
+    Vec::from_slice(alloc, loaded)
+}
+
 /// A slot.
 fn slot_from(alloc: Global, slot: Slot) -> Result<GhostSlot, AllocError>
     ensures { IfOk result (λ s. slot_in s ≡ slot_of slot) }
@@ -35,7 +57,7 @@ fn slot_from(alloc: Global, slot: Slot) -> Result<GhostSlot, AllocError>
         generation: slot.generation,
         kind: slot.kind,
         vcpus: slot.vcpus,
-        loaded: Vec::from_slice(alloc, slot.loaded.as_slice())?,
+        loaded: loads_from(alloc, slot.loaded.as_slice())?,
     })
 }
 
@@ -45,7 +67,7 @@ pub(crate) fn slots_from(alloc: Global, table: &VmTable) -> Result<Vec<GhostSlot
     ensures count { IfOk result (λ v. length v.items ≡ 64) }
 {
     table.empty_past();
-    let mut slots = Vec::new(alloc);
+    let mut slots = Vec::with_capacity(alloc, 64)?;
     for slot in 0..64u64 {
         slots.push(slot_from(alloc, table.slot(slot))?)?;
     }
@@ -67,7 +89,7 @@ pub(crate) fn cpu_from(cpu: &CpuState) -> GhostCpu
 pub(crate) fn cpus_from(alloc: Global, cpus: &[CpuState]) -> Result<Vec<GhostCpu>, AllocError>
     ensures { IfOk result (λ v. map cpu_in v.items ≡ map cpu_of cpus.now) }
 {
-    let mut states = Vec::new(alloc);
+    let mut states = Vec::with_capacity(alloc, cpus.len())?;
     for cpu in cpus {
         states.push(cpu_from(cpu))?;
     }
@@ -78,7 +100,7 @@ pub(crate) fn cpus_from(alloc: Global, cpus: &[CpuState]) -> Result<Vec<GhostCpu
 pub(crate) fn cpu_rooms(alloc: Global, cpus: &[CpuState]) -> Result<Vec<u64>, AllocError>
     ensures { IfOk result (λ v. v.items ≡ map (λ k. k.log.room) cpus.now) }
 {
-    let mut rooms = Vec::new(alloc);
+    let mut rooms = Vec::with_capacity(alloc, cpus.len())?;
     for cpu in cpus {
         rooms.push(cpu.log.room())?;
     }
@@ -92,7 +114,7 @@ pub(crate) fn guest_rooms<A: Allocator>(
 ) -> Result<Vec<u64>, AllocError>
     ensures { IfOk result (λ v. v.items ≡ map (λ g. g.log.room) guests.now) }
 {
-    let mut rooms = Vec::new(alloc);
+    let mut rooms = Vec::with_capacity(alloc, guests.len())?;
     for guest in guests {
         rooms.push(guest.log.room())?;
     }

@@ -45,7 +45,7 @@ fn shared_walked<A: Allocator>(alloc: Global, part: &SharedPart<A>) -> Result<Sh
     ensures kept { IfOk result IsKeptShared }
 {
     let rows = copied_rows(alloc, part.rows.runs())?;
-    shared_from(alloc, part, Source::Words, rows)
+    shared_from(alloc, part, rows)
 }
 
 /// The Shared part, or a blank one.

@@ -1,10 +1,13 @@
 //! The trees of parts on lists: their tables as a walk finds them, and their runs as the maplets keep them or as the walk
 //! finds them too.
-ghost use Rattle.std.specs.Prelude.{◌≡◌, All, IfOk, map};
+ghost use Rattle.std.specs.Prelude.{◌≡◌, All, IfOk, OnOk, length, map, slice_get};
 ghost use Rattle.page_state.specs.Runs.{IsCoarsest};
 ghost use Rattle.table_tree.specs.View.{tree_of};
 ghost use Rattle.guest_component.specs.View.{guest_of, runs_of as runs_kept};
 ghost use Rattle.guest_steps.specs.View.{guest_held};
+ghost use Rattle.hypercalls.specs.Stands.{at_place};
+ghost use Rattle.reference_model.specs.State.{no_guest};
+ghost use Rattle.ghost_spec.specs.Used.{guests_in};
 ghost use Rattle.ghost_spec.specs.Kept.{IsKeptGuest, IsKeptTree};
 ghost use Rattle.ghost_spec.specs.Small.{AreSmall};
 ghost use Rattle.ghost_spec.specs.States.{guest_in, phase_in, AreKeptGuests};
@@ -33,13 +36,13 @@ pub enum Source {
     Words,
 }
 
-/// The runs of maplets.
-fn runs_of(alloc: Global, maplets: &Maplets) -> Result<Vec<Run>, AllocError>
+/// The runs of maplets. Room for so many is taken at once.
+fn runs_of(alloc: Global, maplets: &Maplets, few: usize) -> Result<Vec<Run>, AllocError>
     ensures runs { IfOk result (λ v. v.items ≡ maplets.now.runs) }
     ensures small { IfOk result (λ v. AreSmall v.items) }
     ensures coarsest { IfOk result (λ v. IsCoarsest v.items) }
 {
-    let mut runs = Vec::new(alloc);
+    let mut runs = Vec::with_capacity(alloc, few)?;
     for run in maplets.iter() {
         runs.push(run)?;
     }
@@ -50,7 +53,7 @@ fn runs_of(alloc: Global, maplets: &Maplets) -> Result<Vec<Run>, AllocError>
 pub(crate) fn frames_of(alloc: Global, pool: &Pool) -> Result<Vec<u64>, AllocError>
     ensures { IfOk result (λ v. v.items ≡ pool.now.frames) }
 {
-    let mut frames = Vec::new(alloc);
+    let mut frames = Vec::with_capacity(alloc, pool.free())?;
     for frame in pool.frames() {
         frames.push(frame.0)?;
     }
@@ -85,9 +88,9 @@ pub(crate) fn with_maplets(
     ensures tables { IfOk result (λ t. t.tables ≡ walked.tables) }
     ensures kept { IfOk result IsKeptTree }
 {
-    let Tree { runs: _, tables } = walked;
+    let Tree { runs, tables } = walked;
     Ok(Tree {
-        runs: runs_of(alloc, maplets)?,
+        runs: runs_of(alloc, maplets, runs.len())?,
         tables,
     })
 }
@@ -143,16 +146,54 @@ pub(crate) fn guest_from<A: Allocator>(
 pub(crate) fn guests_from<A: Allocator>(
     alloc: Global,
     parts: &[GuestPart<A>],
-    source: Source,
 ) -> Result<Vec<GhostGuest>, AllocError>
     requires low { All (λ g. IsLowGuest (guest_held g)) parts.now }
     ensures guests { IfOk result (λ v. map guest_in v.items ≡ map guest_held parts.now) }
     ensures kept { IfOk result (λ v. AreKeptGuests v.items) }
-    ensures runs { source ≡ Source.Maplets → IfOk result (λ v. map (λ g. g.tree.runs.items) v.items ≡ map (λ g. runs_kept g.guest.body) parts.now) }
 {
-    let mut guests = Vec::new(alloc);
+    let mut guests = Vec::with_capacity(alloc, parts.len())?;
     for part in parts {
-        guests.push(guest_from(alloc, &part.guest, source)?)?;
+        guests.push(guest_from(alloc, &part.guest, Source::Words)?)?;
+    }
+    Ok(guests)
+}
+
+/// A guest that a walk found gets the runs of its maplets.
+fn say_maplets<A: Allocator>(
+    alloc: Global,
+    found: &mut GhostGuest,
+    guest: &Guest<A>,
+) -> Result<(), AllocError>
+    requires found { guest_in found.old ≡ guest_of guest.now }
+    requires kept { IsKeptGuest found.old }
+    ensures same { OnOk result (guest_in found.new ≡ guest_in found.old) }
+    ensures kept { OnOk result (IsKeptGuest found.new) }
+    ensures runs { OnOk result (found.new.tree.runs.items ≡ runs_kept guest.now.body) }
+{
+    found.tree.runs = match guest.body() {
+        Some(body) => runs_of(alloc, body.map.maplets(), found.tree.runs.len())?,
+        None => Vec::new(alloc),
+    };
+    Ok(())
+}
+
+/// Guests that a walk found, with the runs of their maplets.
+pub(crate) fn guests_with_maplets<A: Allocator>(
+    alloc: Global,
+    found: Vec<GhostGuest>,
+    parts: &[GuestPart<A>],
+) -> Result<Vec<GhostGuest>, AllocError>
+    requires found { guests_in found.items ≡ (λ v. at_place no_guest guest_held (slice_get parts.now v)) }
+    requires count { length found.items ≡ length parts.now }
+    requires kept { AreKeptGuests found.items }
+    ensures guests { IfOk result (λ v. guests_in v.items ≡ guests_in found.items) }
+    ensures kept { IfOk result (λ v. AreKeptGuests v.items) }
+    ensures count { IfOk result (λ v. length v.items ≡ length found.items) }
+    ensures runs { IfOk result (λ v. map (λ g. g.tree.runs.items) v.items ≡ map (λ g. runs_kept g.guest.body) parts.now) }
+{
+    let mut guests = found;
+    for v in 0..parts.len() {
+        say_maplets(alloc, &mut guests[v], &parts[v].guest)?;
     }
     Ok(guests)
 }

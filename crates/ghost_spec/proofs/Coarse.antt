@@ -1,5 +1,6 @@
 -- Runs put together from the last page down: the coarsest list, and its map.
-use Rattle.std.proofs.Common.{◌≡◌, ℕ, suc, ◌+◌, ◌-◌, ◌^◌, ◌<◌, ◌≤◌, true, false, ◌==◌, List, [], ◌∷◌, Some, All, refl, sym, ap, ◌∙◌, arith}
+use Rattle.std.proofs.Common.{◌≡◌, ℕ, zero, suc, ◌+◌, ◌-◌, ◌^◌, ◌<◌, ◌≤◌, true, false, ◌==◌, List, [], ◌∷◌, Some, All, get_or, length, min, take, refl, sym, ap, subst, ◌∙◌, arith}
+use Rattle.std.proofs.lemmas.List.{get_or-take, length-take}
 use Rattle.std.proofs.Math.Decide.{dec_le}
 use Rattle.std.proofs.Math.Logic.{dite}
 use Rattle.std.proofs.lemmas.List.Elements.{All-nil, All-cons}
@@ -11,7 +12,7 @@ use Rattle.page_state.specs.Entries.{advance, entry_of_target, target_of}
 use Rattle.page_state.specs.EntryTests.{entry_eq}
 use Rattle.page_state.specs.Map.{is_within}
 use Rattle.page_state.specs.Runs.{map_of, entry_on, run_end, IsCoarsest, Precedes, PrecedesFirst}
-use Rattle.page_state.proofs.Cases.{by_test}
+use Rattle.page_state.proofs.Cases.{by_test, by_lt}
 use Rattle.page_state.proofs.Common.{eq-same, and-left, and-right}
 use Rattle.page_state.proofs.Entries.{advance-more, entry_eq-same, entry_eq-self}
 use Rattle.page_state.proofs.Updates.{below_test, above_test}
@@ -198,3 +199,30 @@ module _ (rs out : List Run) (low high : ℕ) (none : All (HasNoBound low high) 
 
   pub begins_after : (t : Target) → BeginsFrom low (joined (next_run t) out)
   begins_after t = begins_joined low (next_run t) out (omega arith)
+
+-- the first of the runs, where those behind them begin at a page or behind it
+
+pub far_off : (rs : List Run) (old near high : ℕ) → ((k : ℕ) (d : Run) → near ≤ k → k < old → high ≤ (get_or rs k d).pages.first.0) → ((k : ℕ) (d : Run) → old ≤ k → k < length rs → high ≤ (get_or rs k d).pages.first.0) → (k : ℕ) (d : Run) → near - 0 ≤ k → k < length rs → high ≤ (get_or rs k d).pages.first.0
+far_off rs old near high f g k d h l = by_lt k old (λ less. f k d (omega arith) less) (λ over. g k d over l)
+
+pub far_bounds : (rs : List Run) (n low high : ℕ) → ((k : ℕ) (d : Run) → n ≤ k → k < length rs → high ≤ (get_or rs k d).pages.first.0) → All (HasNoBound low high) (take n rs) → All (HasNoBound low high) rs
+far_bounds rs n low high far b = λ k d l. by_lt k n
+    (λ less. let here : get_or (take n rs) k d ≡ get_or rs k d = get_or-take n rs k d less in
+    let count : length (take n rs) ≡ min n (length rs) = length-take n rs in
+    subst (HasNoBound low high) here (b k d (omega (arith, count, less, l))))
+    (λ over. let begins : high ≤ (get_or rs k d).pages.first.0 = far k d over l in ((λ h. absurd (omega (arith, begins, h))), (λ h. absurd (omega (arith, begins, h)))))
+
+none_behind : (rs : List Run) (page : ℕ) → ((k : ℕ) (d : Run) → k < length rs → page < (get_or rs k d).pages.first.0) → Unmapped ≡ map_of rs page
+none_behind [] page h = refl
+none_behind (r ∷ rs) page h =
+    let begins : page < r.pages.first.0 = h 0 r (omega arith) in
+    let out : is_within r.pages.first.0 r.pages.count page ≡ false = grind (arith, nat_tests) in
+    rw out (none_behind rs page (λ k d l. h (suc k) d (omega (arith, l))))
+
+pub far_map : (rs : List Run) (n page : ℕ) → ((k : ℕ) (d : Run) → n ≤ k → k < length rs → page < (get_or rs k d).pages.first.0) → map_of (take n rs) page ≡ map_of rs page
+far_map [] zero page h = refl
+far_map [] (suc n) page h = refl
+far_map (r ∷ rs) zero page h = none_behind (r ∷ rs) page (λ k d l. h k d (omega arith) l)
+far_map (r ∷ rs) (suc n) page h = by_test (is_within r.pages.first.0 r.pages.count page)
+    (λ t. rw t refl)
+    (λ t. rw t (far_map rs n page (λ k d le l. h (suc k) d (omega (arith, le)) (omega (arith, l)))))

@@ -24,6 +24,10 @@ module _ {X : Type 0} where
   pub put-own : (f : ℕ → X) (k : ℕ) → put_at f k (f k) ≡ f
   put-own f k = fun_ext (λ j. by_test (j == k) (λ t. rw t (ap f (sym (eq-same j k t)))) (λ t. rw t refl))
 
+  -- what is put at a place before counts no more
+  pub put-again : (f : ℕ → X) (k : ℕ) (x y : X) → put_at (put_at f k x) k y ≡ put_at f k y
+  put-again f k x y = fun_ext (λ j. by_test (j == k) (λ t. rw t refl) (λ t. rw t refl))
+
   pub put-list : {Y : Type 0} (g : Y → X) (d : X) (ys : List Y) (k : ℕ) (y : Y) → k < length ys → ◌≡◌ {A = ℕ → X} (λ j. get_or (map g (set ys k y)) j d) (put_at (λ j. get_or (map g ys) j d) k (g y))
   put-list g d ys k y h = fun_ext (λ j. ap (λ (xs : List X). get_or xs j d) (map-set g ys k y) ∙ by_eq j k
       (λ e. rw (e, eq-self k) (get_or-set_same (map g ys) k (g y) d (rw (length-map ys g) h)))
@@ -51,6 +55,10 @@ rooms-same p q r s = rw (p, q, r, s) refl
 if-own : {X : Type 0} (b : Bool) (x y : X) → ◌≡◌ {A = X} (if b then (if b then x else y) else x) x
 if-own true x y = refl
 if-own false x y = refl
+
+pub if-stays : {X : Type 0} (b : Bool) (x y z : X) → (b ≡ false → y ≡ z) → ◌≡◌ {A = X} (if b then x else y) (if b then x else z)
+if-stays true x y z h = refl
+if-stays false x y z h = h refl
 
 guest-own : (g : ℕ → Guest) (slot : Option ℕ) → put_guest g slot (guest_at g slot) ≡ g
 guest-own g None = refl

@@ -1,13 +1,13 @@
 //! Aligned blocks of pages: which meet a range, which can be one word, and which map nothing.
-ghost use Rattle.std.specs.Prelude.{◌≡◌, ◌+◌, ◌*◌, ◌^◌, ◌<◌, ◌≤◌, ◌++◌, ◌||◌, ◌==◌, All, IfOk, OnOk, filter};
+ghost use Rattle.std.specs.Prelude.{◌≡◌, ℕ, true, false, ◌+◌, ◌*◌, ◌^◌, ◌<◌, ◌≤◌, ◌++◌, ◌||◌, ◌==◌, All, IfOk, OnOk, filter};
 ghost use Rattle.page_state.specs.EntryTests.{entry_eq, is_unmapped};
 ghost use Rattle.page_state.specs.Entries.{advance};
 ghost use Rattle.page_state.specs.Geometries.{block_pages};
-ghost use Rattle.page_state.specs.Regions.{end_of};
+ghost use Rattle.page_state.specs.Regions.{end_of, is_in_range};
 ghost use Rattle.page_state.specs.Runs.{map_of};
 ghost use Rattle.page_state.specs.Search.{all_below};
 ghost use Rattle.page_state.specs.Blocks.{first_page as first_page_of, is_one_word as is_one_word_of, is_empty as is_empty_of, blocks_with, blocks_from, blocks_on as blocks_on_range};
-ghost use Rattle.ghost_spec.specs.Small.{HasLowFrames, AreSmall};
+ghost use Rattle.ghost_spec.specs.Small.{HasLowFrames, AreSmall, IsSmall};
 ghost use Rattle.ghost_spec.specs.Trees.{IsLowBlock};
 
 use crate::runs::at;
@@ -42,7 +42,7 @@ pub fn is_one_word(runs: &[Run], block: Block) -> bool
     entry.fits_word(block.0 as u32) && has_entry(runs, first, span(block.0), entry)
 }
 
-/// Whether the map of runs maps nothing on a block. It looks at each page of the block.
+/// Whether the map of runs maps nothing on a block. It looks at the runs alone.
 pub fn is_empty(runs: &[Run], block: Block) -> bool
     requires runs { AreSmall runs.now }
     requires block { IsLowBlock block }
@@ -113,14 +113,26 @@ fn has_entry(runs: &[Run], first: u64, count: u64, entry: Entry) -> bool
     true
 }
 
-/// Whether nothing is mapped on `count` pages from `first` on.
+/// Whether a run has one of `count` pages from `first` on.
+fn meets(run: &Run, first: u64, count: u64) -> bool
+    requires run { IsSmall run.now }
+    requires pages { first + count < 2 ^ 64 }
+    ensures some { result ≡ true → (k : ℕ) × (k < count) × (is_in_range run.now.pages (first + k) ≡ true) }
+    ensures none { result ≡ false → (k : ℕ) → k < count → is_in_range run.now.pages (first + k) ≡ false }
+{
+    let from = run.pages.first.0.max(first);
+    let end = (run.pages.first.0 + run.pages.count).min(first + count);
+    from < end
+}
+
+/// Whether nothing is mapped on `count` pages from `first` on: no run has one of them.
 fn has_no_entry(runs: &[Run], first: u64, count: u64) -> bool
     requires runs { AreSmall runs.now }
     requires pages { first + count < 2 ^ 64 }
     ensures { result ≡ all_below count (λ i. is_unmapped (map_of runs.now (first + i))) }
 {
-    for i in 0..count {
-        if !at(runs, Page(first + i)).is_same(Entry::Unmapped) {
+    for run in runs {
+        if meets(run, first, count) {
             return false;
         }
     }

@@ -105,7 +105,7 @@ impl GhostGuest {
 pub(crate) fn copied_slots(alloc: Global, slots: &[GhostSlot]) -> Result<Vec<GhostSlot>, AllocError>
     ensures { IfOk result (λ v. map slot_in v.items ≡ map slot_in slots.now) }
 {
-    let mut copies = Vec::new(alloc);
+    let mut copies = Vec::with_capacity(alloc, slots.len())?;
     for slot in slots {
         copies.push(slot.copied(alloc)?)?;
     }
@@ -121,7 +121,7 @@ pub(crate) fn copied_guests(
     ensures same { IfOk result (λ v. map guest_in v.items ≡ map guest_in guests.now) }
     ensures kept { IfOk result (λ v. AreKeptGuests v.items) }
 {
-    let mut copies = Vec::new(alloc);
+    let mut copies = Vec::with_capacity(alloc, guests.len())?;
     for guest in guests {
         copies.push(guest.copied(alloc)?)?;
     }

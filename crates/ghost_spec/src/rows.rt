@@ -7,7 +7,7 @@ ghost use Rattle.page_state.specs.Map.{is_within};
 ghost use Rattle.page_state.specs.Regions.{end_of, is_in_range};
 ghost use Rattle.page_state.specs.Rows.{advance_row, HasLentBelow, HasPageBelow};
 ghost use Rattle.reference_model.specs.State.{no_cpu, no_guest};
-ghost use Rattle.run_list.specs.Runs.{InReach, AreInReach, map_updated, run_map};
+ghost use Rattle.run_list.specs.Runs.{InReach, AreInReach, IsCoarsest, map_updated, run_map};
 ghost use Rattle.ghost_spec.specs.Kept.{IsKeptGuest, IsKeptShared, IsLowSlot};
 ghost use Rattle.ghost_spec.specs.RowsFound.{guest_lent as guest_lent_of, lender_found as lender_found_of, lent_found as lent_found_of, owner_or as owner_or_of, pool_found as pool_found_of, row_found as row_found_of, rows_found as rows_found_of, sharer_found as sharer_found_of, usage_found as usage_found_of};
 ghost use Rattle.ghost_spec.specs.States.{guest_in};
@@ -327,17 +327,13 @@ pub(crate) fn find_rows(
     }
 }
 
-/// Rows of these runs, put together from the last one on.
+/// Rows of these runs.
 pub fn copied_rows(alloc: Global, runs: &[Run<Row>]) -> Result<RunList<Row>, AllocError>
-    requires { AreInReach HasPageBelow runs.now }
-    ensures same { IfOk result (λ r. run_map advance_row r.runs ≡ run_map advance_row runs.now) }
-    ensures reach { IfOk result (λ r. AreInReach HasPageBelow r.runs) }
+    requires coarsest { IsCoarsest advance_row runs.now }
+    requires reach { AreInReach HasPageBelow runs.now }
+    ensures { IfOk result (λ r. r.runs ≡ runs.now) }
 {
-    let mut rows = RunList::new(alloc);
-    for i in (0..runs.len()).rev() {
-        set_run(&mut rows, runs[i])?;
-    }
-    Ok(rows)
+    Ok(RunList::of(Vec::from_slice(alloc, runs)?))
 }
 
 /// The rows of the memory frames of a range are found, where there is no guest, and no frame is in a hand.

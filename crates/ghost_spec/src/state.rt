@@ -8,7 +8,7 @@ use crate::cpu::GhostCpu;
 use crate::parts::{GhostGuest, GhostSlot, copied_guests, copied_slots};
 use crate::shared::Shared;
 use crate::used::{
-    GhostUsed, put_guest, put_shared, put_vms, store_in, used_guest, used_shared, used_vms,
+    GhostUsed, put_guest, put_shared, put_vms, store_in, take_guest, take_shared, used_vms,
 };
 use crate::uses::{guest_slot, uses_shared, uses_vms};
 use page_state::{Layout, Refusal, Reply, Step};
@@ -113,7 +113,7 @@ impl Ghost {
     ghost use Rattle.page_state.specs.LayoutView.{layout_of};
     ghost use Rattle.reference_model.specs.Parts.{names, uses_vms as uses_vms_of};
     ghost use Rattle.reference_model.specs.Step.{foretell, is_full as is_full_of, stored};
-    ghost use Rattle.reference_model.specs.Used.{put_back as put_back_of, put_rooms, rooms_of as rooms_of_state, used_of};
+    ghost use Rattle.reference_model.specs.Used.{put_back as put_back_of, put_rooms, rooms_of as rooms_of_state, used_of, Used};
     ghost use Rattle.std.specs.Prelude.{length, true};
     ghost use Rattle.ghost_spec.specs.Kept.{IsLowSlot};
     ghost use Rattle.ghost_spec.specs.States.{contents_in, ghost_state, IsKept};
@@ -154,25 +154,29 @@ impl Ghost {
         )
     }
 
-    /// What a call uses.
-    fn used(
-        &self,
+    /// What a call uses is taken out, and blank parts are left.
+    fn take(
+        &mut self,
         alloc: Global,
         cpu: usize,
         step: Step,
         slot: Option<u64>,
     ) -> Result<GhostUsed, AllocError>
-        requires cpu { cpu < length self.now.cpus.items }
-        requires kept { IsKept self.now }
+        requires cpu { cpu < length self.old.cpus.items }
+        requires kept { IsKept self.old }
         requires slot { IsLowSlot slot }
-        ensures used { IfOk result (λ u. used_in u ≡ used_of (names step) slot cpu (contents_in self.now)) }
+        ensures used { IfOk result (λ u. used_in u ≡ used_of (names step) slot cpu (contents_in self.old)) }
         ensures kept { IfOk result IsKeptUsed }
         ensures count { uses_vms_of (names step) ≡ true → IfOk result (λ u. length u.vms.items ≡ 64) }
+        ensures others { OnOk result ((x : Used) → put_back_of (names step) slot cpu (contents_in self.new) x ≡ put_back_of (names step) slot cpu (contents_in self.old) x) }
+        ensures layout { self.new.layout ≡ self.old.layout }
+        ensures rooms { self.new.rooms ≡ self.old.rooms }
+        ensures left { OnOk result (IsKept self.new) }
     {
         Ok(GhostUsed {
             vms: used_vms(alloc, self.vms.as_slice(), step)?,
-            shared: used_shared(alloc, &self.shared, step, slot)?,
-            guest: used_guest(alloc, self.guests.as_slice(), slot)?,
+            shared: take_shared(alloc, &mut self.shared, step, slot),
+            guest: take_guest(alloc, &mut self.guests, slot),
             own: self.cpus[cpu],
         })
     }
@@ -231,7 +235,7 @@ impl Ghost {
         if self.is_full(place, step, slot) {
             return Ok(Reply::Refused(Refusal::LogFull));
         }
-        let mut used = self.used(alloc, place, step, slot)?;
+        let mut used = self.take(alloc, place, step, slot)?;
         let reply = answer(alloc, &self.layout, cpu, slot, &mut used, step)?;
         self.put_back(place, step, slot, used);
         self.store(place, step, slot);

@@ -1,7 +1,7 @@
 //! What a call uses, on lists.
-ghost use Rattle.std.specs.Prelude.{◌≡◌, ℕ, ◌-◌, IfOk, if◌then◌else◌, length, true};
+ghost use Rattle.std.specs.Prelude.{◌≡◌, ℕ, ◌-◌, IfOk, if◌then◌else◌, length, false, true};
 ghost use Rattle.reference_model.specs.Parts.{names, uses_shared as uses_shared_of, uses_vms as uses_vms_of};
-ghost use Rattle.reference_model.specs.State.{no_shared, no_vms};
+ghost use Rattle.reference_model.specs.State.{no_shared, no_vms, Guest};
 ghost use Rattle.reference_model.specs.Used.{guest_at, put_guest as put_guest_of, put_room, room_at};
 ghost use Rattle.ghost_spec.specs.Kept.{IsKeptGuest, IsKeptShared, IsLowSlot};
 ghost use Rattle.ghost_spec.specs.States.{guest_in, AreKeptGuests};
@@ -14,6 +14,7 @@ use crate::shared::Shared;
 use crate::uses::{uses_shared, uses_vms};
 use page_state::Step;
 use std::alloc::{AllocError, Global};
+use std::mem;
 
 /// The parts that a call uses, and its CPU's own state. A part that it doesn't use is blank.
 #[derive(Drop)]
@@ -40,39 +41,44 @@ pub(crate) fn used_vms(
     }
 }
 
-/// The Shared part that a call uses, or a blank one.
-pub(crate) fn used_shared(
+/// The Shared part is taken out where a call uses it, and else left: what is taken is blank then.
+pub(crate) fn take_shared(
     alloc: Global,
-    shared: &Shared,
+    shared: &mut Shared,
     step: Step,
     slot: Option<u64>,
-) -> Result<Shared, AllocError>
-    requires { IsKeptShared shared.now }
-    ensures shared { IfOk result (λ s. shared_in_lists s ≡ (if uses_shared_of (names step) slot then shared_in_lists shared.now else no_shared)) }
-    ensures kept { IfOk result IsKeptShared }
+) -> Shared
+    requires { IsKeptShared shared.old }
+    ensures shared { shared_in_lists result ≡ (if uses_shared_of (names step) slot then shared_in_lists shared.old else no_shared) }
+    ensures kept { IsKeptShared result }
+    ensures stays { uses_shared_of (names step) slot ≡ false → shared.new ≡ shared.old }
+    ensures left { IsKeptShared shared.new }
 {
     if uses_shared(step, slot) {
-        shared.copied(alloc)
+        mem::replace(shared, Shared::none(alloc))
     } else {
-        Ok(Shared::none(alloc))
+        Shared::none(alloc)
     }
 }
 
-/// The guest that a call uses, or a blank one.
-pub(crate) fn used_guest(
+/// The guest of a slot, where there is one, is taken out, and an Empty one left.
+pub(crate) fn take_guest(
     alloc: Global,
-    guests: &[GhostGuest],
+    guests: &mut Vec<GhostGuest>,
     slot: Option<u64>,
-) -> Result<GhostGuest, AllocError>
-    requires count { length guests.now ≡ 64 }
-    requires kept { AreKeptGuests guests.now }
+) -> GhostGuest
+    requires count { length guests.old.items ≡ 64 }
+    requires kept { AreKeptGuests guests.old.items }
     requires slot { IsLowSlot slot }
-    ensures guest { IfOk result (λ g. guest_in g ≡ guest_at (guests_in guests.now) slot) }
-    ensures kept { IfOk result IsKeptGuest }
+    ensures guest { guest_in result ≡ guest_at (guests_in guests.old.items) slot }
+    ensures kept { IsKeptGuest result }
+    ensures others { (g : Guest) → put_guest_of (guests_in guests.new.items) slot g ≡ put_guest_of (guests_in guests.old.items) slot g }
+    ensures count { length guests.new.items ≡ 64 }
+    ensures left { AreKeptGuests guests.new.items }
 {
     match slot {
-        Some(v) => guests[v as usize].copied(alloc),
-        None => Ok(GhostGuest::none(alloc)),
+        Some(v) => mem::replace(&mut guests[v as usize], GhostGuest::none(alloc)),
+        None => GhostGuest::none(alloc),
     }
 }
 

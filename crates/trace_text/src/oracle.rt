@@ -7,7 +7,7 @@ ghost use Rattle.trace_text.specs.Worlds.{Machine};
 
 use ghost_oracle::audit::audit;
 use ghost_oracle::disagreement::Disagreement;
-use ghost_oracle::judge::judge;
+use ghost_oracle::judge::judge_last;
 use ghost_spec::state::Ghost;
 use page_state::{Reply, Step};
 use std::alloc::{AllocError, Global};
@@ -51,19 +51,19 @@ pub trait Oracle {
     ghost gives: { Machine → Call → Reference → Verdict → Type 0 };
 
     /// Looks at a step of a CPU: what the world keeps before and after it, the reply, and what walking every word finds
-    /// after it. Err where memory is refused.
+    /// after it. The state before is given away: nothing else wants it. Err where memory is refused.
     fn check(
         &mut self,
         global: Global,
-        before: &Ghost,
+        before: Ghost,
         cpu: u64,
         step: Step,
         reply: Reply,
         after: &Ghost,
         walked: &Ghost,
     ) -> Result<Verdict, AllocError>
-        requires comparable { CanCompare before.now cpu after.now walked.now }
-        ensures told { IfOk result (λ v. (m : Machine) (c : Call) (t : Reference) → IsShown m c t before.now cpu step reply after.now walked.now → gives m c t v) };
+        requires comparable { CanCompare before cpu after.now walked.now }
+        ensures told { IfOk result (λ v. (m : Machine) (c : Call) (t : Reference) → IsShown m c t before cpu step reply after.now walked.now → gives m c t v) };
 }
 
 /// The oracle of `replay`: it judges each step by the model, and audits what is kept by the walk. It finds no disagreement.
@@ -76,7 +76,7 @@ impl Oracle for GhostOracle {
     fn check(
         &mut self,
         global: Global,
-        before: &Ghost,
+        before: Ghost,
         cpu: u64,
         step: Step,
         reply: Reply,
@@ -84,7 +84,7 @@ impl Oracle for GhostOracle {
         walked: &Ghost,
     ) -> Result<Verdict, AllocError> {
         Ok(Verdict {
-            judged: judge(global, before, cpu, step, &reply, after)?,
+            judged: judge_last(global, before, cpu, step, &reply, after)?,
             audited: audit(after, walked),
         })
     }

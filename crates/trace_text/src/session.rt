@@ -306,9 +306,8 @@ fn checked<A: Allocator + Copy, O: Oracle>(
 {
     let before = state_before(global, world, remembered)?;
     let reply = world.step(cpu, step);
-    let after = world.to_ghost(global)?;
-    let walked = world.recompute(global)?;
-    let verdict = oracle.check(global, &before, cpu, step, reply, &after, &walked)?;
+    let (after, walked) = world.kept_and_walked(global)?;
+    let verdict = oracle.check(global, before, cpu, step, reply, &after, &walked)?;
     Ok(Made {
         reply,
         verdict,

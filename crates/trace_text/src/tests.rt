@@ -215,7 +215,7 @@ impl Oracle for Doubting {
     fn check(
         &mut self,
         _global: Global,
-        _before: &Ghost,
+        _before: Ghost,
         cpu: u64,
         _step: Step,
         _reply: Reply,

@@ -148,6 +148,9 @@ fn lend_tree(
     ensures reach { AreInReach HasPageBelow rows.new.runs }
 {
     let runs = tree.runs.as_slice();
+    if runs.is_empty() {
+        return Ok(());
+    }
     if is_coarsest(runs) {
         return lend_runs(layout, rows, number, runs, state);
     }

@@ -1,5 +1,5 @@
 //! Lists of rows that are written range by range: what is written last stands.
-ghost use Rattle.std.specs.Prelude.{◌≡◌, ◌≤◌, ◌^◌, OnOk};
+ghost use Rattle.std.specs.Prelude.{◌≡◌, ℕ, ◌<◌, ◌≤◌, ◌^◌, true, None, OnOk};
 ghost use Rattle.std.specs.Option.{ForSome};
 ghost use Rattle.page_state.specs.Regions.{end_of};
 ghost use Rattle.page_state.specs.Rows.{advance_row, HasPageBelow};
@@ -9,7 +9,15 @@ use page_state::{PageRange, Row};
 use run_list::RunList;
 use std::alloc::AllocError;
 
-/// The frames of a range get a row, which advances along it, or none.
+/// Whether each run begins at a frame or behind it.
+fn begins_from(rows: &RunList<Row>, frame: u64) -> bool
+    ensures { result ≡ true → (f : ℕ) → f < frame → run_map advance_row rows.now.runs f ≡ None }
+{
+    let runs = rows.runs();
+    runs.is_empty() || frame <= runs[0].pages.first.0
+}
+
+/// The frames of a range get a row, which advances along it, or none: in front of all rows there is nothing to take away.
 pub(crate) fn lay(
     rows: &mut RunList<Row>,
     frames: PageRange,
@@ -21,6 +29,9 @@ pub(crate) fn lay(
     ensures map { OnOk result (run_map advance_row rows.new.runs ≡ map_updated advance_row (run_map advance_row rows.old.runs) frames.first.0 frames.count row) }
     ensures reach { AreInReach HasPageBelow rows.new.runs }
 {
+    if row.is_none() && begins_from(rows, frames.first.0 + frames.count) {
+        return Ok(());
+    }
     rows.reserve(2)?;
     rows.set(frames, row);
     Ok(())

@@ -4,10 +4,9 @@ use Rattle.guest_steps.specs.Lent.{one}
 use Rattle.guest_steps.specs.View.{vm_slots, shared_of, guest_held, cpu_of}
 use Rattle.ghost_spec.specs.States.{guest_in}
 use Rattle.ghost_spec.specs.Views.{cpu_in, row_in}
-use Rattle.guest_component.specs.View.{runs_of}
 use Rattle.std.proofs.lemmas.List.{length-map}
 use Rattle.ghost_oracle.specs.Found.{with_row}
-use Rattle.ghost_oracle.proofs.Founds.{is_found, one_at, as_long, each_one}
+use Rattle.ghost_oracle.proofs.Founds.{is_found, one_at, as_long}
 use Rattle.ghost_oracle.proofs.LowKept.{low_cpus_kept}
 use Rattle.ghost_oracle.proofs.kept.ghost_from.Goals as goal
 use Rattle.ghost_oracle.proofs.kept.ghost_from.Given as Given
@@ -45,10 +44,3 @@ returns-clause-kept g c = record {
 
 pub returns-clause-rows : goal.returns-clause-rows
 returns-clause-rows g c = c.in_ok-shared_from.ensures.rows
-
-pub returns-clause-maplets : goal.returns-clause-maplets
-returns-clause-maplets g c = λ e. record {
-  host = each_one _ c.args.parts.now.shared.items c.shared.result.now c.shared.ensures (c.in_ok-shared_from.ensures.host e);
-  hyp = each_one _ c.args.parts.now.shared.items c.shared.result.now c.shared.ensures (c.in_ok-shared_from.ensures.hyp e);
-  guests = c.in_ok-guests_from.ensures.runs e ∙ ap (map (λ x. runs_of x.guest.body)) c.as_slice.ensures.value;
-}

@@ -9,5 +9,5 @@ use Rattle.ghost_oracle.proofs.record.shared_walked.Goals as goal
 
 pub returns-clause-shared : goal.returns-clause-shared
 returns-clause-shared g c = if_ok (λ s. shared_in_lists s ≡ with_row (row_in c.in_ok-rows.rows.runs) (shared_of c.args.part.now)) (λ s. shared_in_lists s ≡ shared_of c.args.part.now) c.shared_from.result
-    (λ s h. h ∙ shared_same_rows c.args.part.now c.in_ok-rows.rows.runs (c.in_ok-rows.ensures.same ∙ ap (run_map advance_row) c.runs.ensures.runs))
+    (λ s h. h ∙ shared_same_rows c.args.part.now c.in_ok-rows.rows.runs (ap (run_map advance_row) (c.in_ok-rows.ensures ∙ c.runs.ensures.runs)))
     c.shared_from.ensures.shared

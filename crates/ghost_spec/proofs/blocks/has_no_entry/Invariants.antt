@@ -1,7 +1,6 @@
-use Rattle.std.proofs.Common.{◌≡◌, ℕ, ◌+◌, ◌<◌, true}
-use Rattle.page_state.specs.EntryTests.{is_unmapped}
+use Rattle.std.proofs.Common.{◌≡◌, ℕ, ◌+◌, ◌<◌, drop}
 use Rattle.page_state.specs.Runs.{map_of}
 use Rattle.ghost_spec.proofs.blocks.has_no_entry.Given as goal
 
-abbrev pub invariant-loop-i : goal.invariant-loop-i
-invariant-loop-i l = (k : ℕ) → k < l.i → is_unmapped (map_of l.runs (l.first + k)) ≡ true
+abbrev pub invariant-loop-run : goal.invariant-loop-run
+invariant-loop-run l = (k : ℕ) → k < l.count → map_of (drop l.run-index l.runs) (l.first + k) ≡ map_of l.runs (l.first + k)

@@ -36,8 +36,8 @@ returns-clause-foretold c =
     let less : c.args.cpu < length g.cpus.items = rw c.requires.kept.cpus_count c.requires.cpu in
     let own : get_or (map cpu_in g.cpus.items) c.args.cpu no_cpu ≡ cpu_in c.index.result.now = get_or-map cpu_in g.cpus.items c.args.cpu c.index.result.now no_cpu less ∙ ap cpu_in (sym c.index.ensures) in
     let named : slot ≡ guest_slot ((ghost_state g).contents.cpu c.args.cpu) c.args.step = c.guest_slot-slot.ensures.value ∙ ap (λ (k : Cpu). guest_slot k c.args.step) (sym own) in
-    let said = ap (answer (layout_of g.layout) c.args.cpu slot c.args.step) (sym c.in_ok-used.ensures.used) ∙ sym c.in_ok-reply.ensures.answer in
-    let contents = c.store.ensures.contents ∙ c.put_back.ensures.contents in
-    let before : (ghost_state c.put_back.new.self).rooms ≡ (ghost_state g).rooms = same2 rooms_in (ap (λ l. l.config.log) c.put_back.ensures.layout) c.put_back.ensures.rooms in
+    let said = ap (answer (layout_of g.layout) c.args.cpu slot c.args.step) (sym c.in_ok-used.ensures.used) ∙ ap (λ (l : _). answer l c.args.cpu slot c.args.step (used_in c.in_ok-used.used)) (ap layout_of (sym c.take.ensures.layout)) ∙ sym c.in_ok-reply.ensures.answer in
+    let contents = c.store.ensures.contents ∙ c.put_back.ensures.contents ∙ c.in_ok-used.ensures.others _ in
+    let before : (ghost_state c.put_back.new.self).rooms ≡ (ghost_state g).rooms = same2 rooms_in (ap (λ l. l.config.log) (c.put_back.ensures.layout ∙ c.take.ensures.layout)) (c.put_back.ensures.rooms ∙ c.take.ensures.rooms) in
     let rooms = c.store.ensures.rooms ∙ ap (λ (r : Rooms). put_rooms (names c.args.step) slot c.args.cpu r (stored (rooms_of (names c.args.step) slot c.args.cpu r))) before in
     ap (pair c.in_ok-reply.reply) (same2 state-with contents rooms) ∙ sym (foretold-answer (layout_of g.layout) (ghost_state g) c.args.cpu c.args.step slot named c.in_ok-reply.reply (used_in c.answer.new.used) (sym c.is_full.ensures ∙ c.if-is_full.false) said)

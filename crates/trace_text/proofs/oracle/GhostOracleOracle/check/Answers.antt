@@ -4,7 +4,7 @@ use Rattle.trace_text.proofs.oracle.GhostOracleOracle.check.Goals as goal
 pub returns : goal.returns
 returns c = record {
   told = λ m call t shown. record {
-    judged = c.in_ok-judge.ensures.none.1 (judged_well m call t _ _ _ _ _ _ shown);
+    judged = c.in_ok-judge_last.ensures.none.1 (judged_well m call t _ _ _ _ _ _ shown);
     audited = c.audit.ensures.none.1 (audited_well m call t _ _ _ _ _ _ shown);
   };
 }
