@@ -1,7 +1,7 @@
 -- Two runs whose parts are the same have one end: calls that use no part in common can be made in either order.
-use Rattle.std.proofs.Common.{◌≡◌, ◌≢◌, ℕ, refl, ap, sym, ◌∙◌, subst, inl, inr, List, [], ◌∷◌, ◌++◌}
+use Rattle.std.proofs.Common.{◌≡◌, ◌≢◌, ℕ, suc, ◌<◌, All, arith, refl, ap, sym, ◌∙◌, subst, inl, inr, List, [], ◌∷◌, ◌++◌}
 use Rattle.std.specs.Prelude.{Bool, true, false, ◌==◌, ◌⊎◌, filter}
-use Rattle.std.proofs.lemmas.List.Elements.{filter-append}
+use Rattle.std.proofs.lemmas.List.Elements.{All-cons, filter-append}
 use mathlib.Core.Path.{fun_ext}
 use Rattle.page_state.specs.declared.reply.Call.{Call}
 use Rattle.reference_model.specs.State.{Reference}
@@ -10,8 +10,9 @@ use Rattle.reference_model.specs.Parts.{Part, vm_part, shared_part, guest_part, 
 use Rattle.reference_model.specs.Step.{Steps}
 use Rattle.reference_model.specs.Boot.{boot}
 use Rattle.reference_model.specs.Run.{Runs}
-use Rattle.reference_model.specs.History.{calls_on, calls_by}
+use Rattle.reference_model.specs.History.{calls_on, calls_by, IsStored}
 use Rattle.reference_model.specs.Laws.{Agree, AgreeBeside, PartsEnd, vms_in, shared_in, guest_in, cpu_in}
+use Rattle.reference_model.specs.OrderLaws.{PartsRun, PartsHistory}
 use Rattle.page_state.proofs.Common.{both, eq-self, eq-same, eq-other, same2, same4}
 use Rattle.reference_model.proofs.Steps.{state_of, all_of, whole, first-same, second-same, step_changes, step_reads, step_once}
 
@@ -189,3 +190,51 @@ ends l (c ∷ cs) ds s t u h k parts cpus =
 
 pub parts_end : PartsEnd
 parts_end l cs ds t u h k parts cpus = ends l cs ds (boot l) t u h.leads k.leads parts cpus
+
+-- what holds of each of a list holds of its first, and of each behind it
+all-first : {X : Type 0} (P : X → Type 0) (x : X) (xs : List X) → All P (x ∷ xs) → P x
+all-first P x xs h = h 0 x (omega arith)
+
+all-rest : {X : Type 0} (P : X → Type 0) (x : X) (xs : List X) → All P (x ∷ xs) → All P xs
+all-rest P x xs h k d less = h (suc k) d (omega (arith, less))
+
+-- and of each one inside it, and of all others
+all-cut : {X : Type 0} (P : X → Type 0) (x : X) (pre post : List X) → All P (pre ++ (x ∷ post)) → P x × All P (pre ++ post)
+all-cut P x [] post h = (all-first P x post h, all-rest P x post h)
+all-cut P x (y ∷ pre) post h =
+    let more = all-cut P x pre post (all-rest P y (pre ++ (x ∷ post)) h) in
+    (more.0, All-cons P y (pre ++ post) (all-first P y (pre ++ (x ∷ post)) h) more.1)
+
+-- the calls of a run, in any order that keeps its parts and the calls of each CPU, with what holds of each of them
+record Moved (l : Layout) (P : Call → Type 0) (ds : List Call) (s t : Reference) : Type 0 where
+  leads : Runs (Steps l) s ds t
+  each : All P ds
+
+moves : (l : Layout) (P : Call → Type 0) (ds cs : List Call) (s t : Reference) → Runs (Steps l) s cs t → All P cs → ((p : Part) → calls_on p ds ≡ calls_on p cs) → ((cpu : ℕ) → calls_by cpu ds ≡ calls_by cpu cs) → Moved l P ds s t
+moves l P [] [] s t h a parts cpus = record { leads = h; each = a }
+moves l P [] (c ∷ cs) s t h a parts cpus = let e = cpus c.cpu ∙ filter-true (λ (x : Call). x.cpu == c.cpu) c cs (eq-self c.cpu) in cc
+moves l P (d ∷ ds) cs s t h a parts cpus =
+    let at : Cut (λ (x : Call). x.cpu == d.cpu) cs d = cut (λ (x : Call). x.cpu == d.cpu) cs d (calls_by d.cpu ds) (sym (cpus d.cpu) ∙ filter-true (λ (x : Call). x.cpu == d.cpu) d ds (eq-self d.cpu)) in
+    let on : (p : Part) → calls_on p (at.pre ++ (d ∷ at.post)) ≡ calls_on p (d ∷ ds) = λ p. ap (calls_on p) (sym at.whole) ∙ sym (parts p) in
+    let by : (cpu : ℕ) → calls_by cpu (at.pre ++ (d ∷ at.post)) ≡ calls_by cpu (d ∷ ds) = λ cpu. ap (calls_by cpu) (sym at.whole) ∙ sym (cpus cpu) in
+    let none : (p : Part) → call_uses p d ≡ true → calls_on p at.pre ≡ [] = λ p. none-before d at.pre at.post ds p (on p) at.none in
+    let first = sooner l d at.pre at.post s t (all-apart d at.pre at.none none) (subst (λ xs. Runs (Steps l) s xs t) at.whole h) in
+    let parted = all-cut P d at.pre at.post (subst (All P) at.whole a) in
+    let more : Moved l P ds first.0 t = moves l P ds (at.pre ++ at.post) first.0 t first.2 parted.1
+    (λ p. sym (without (call_uses p) d at.pre at.post ds (on p) (none p)))
+    (λ cpu. sym (without (λ (x : Call). x.cpu == cpu) d at.pre at.post ds (by cpu) (λ e. subst (λ k. calls_by k at.pre ≡ []) (eq-same d.cpu cpu e) at.none))) in
+    record { leads = (first.0, first.1, more.leads); each = All-cons P d ds parted.0 more.each }
+
+pub parts_run : PartsRun
+parts_run l cs ds t h parts cpus = let m = moves l (λ c. c.cpu < l.config.cpus) ds cs (boot l) t h.leads h.cpus parts cpus in record { cpus = m.each; leads = m.leads }
+
+pub parts_history : PartsHistory
+parts_history l kept cs ds h parts cpus = record {
+  end = h.end;
+  run = parts_run l cs ds h.end h.run parts cpus;
+  stored = (moves l (λ c. IsStored c.reply) ds cs (boot l) h.end h.run.leads h.stored parts cpus).each;
+  vms = h.vms ∙ ap (λ xs. (h.end.contents.vms, xs)) (sym (parts vm_part));
+  shared = h.shared ∙ ap (λ xs. (h.end.contents.shared, xs)) (sym (parts shared_part));
+  guest = λ v less. h.guest v less ∙ ap (λ xs. (h.end.contents.guest v, xs)) (sym (parts (guest_part v)));
+  cpu = λ c less. h.cpu c less ∙ ap (λ xs. (h.end.contents.cpu c, xs)) (sym (cpus c));
+}

@@ -22,6 +22,7 @@ pub mod LargeRows
 pub mod Laws
 pub mod LoadedRows
 pub mod NumberRows
+pub mod OrderLaws
 pub mod Owner
 pub mod OwnerRows
 pub mod PartRows

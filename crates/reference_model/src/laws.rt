@@ -9,6 +9,7 @@ ghost use Rattle.reference_model.specs.Examples.{NeedRow, SplitRow, RemovalRow, 
 ghost use Rattle.reference_model.specs.RunLaws.{LegalRows, LegalSound, BootLegal, BootRowsTold, LegalKeeps, RunLegal, RunSound, RunRows, AcceptedUsable, AcceptedDepth, AcceptedMade, RowsTold};
 ghost use Rattle.reference_model.specs.RowLaws.{LegalRowsTrue, RunRowsTrue, RowOnce};
 ghost use Rattle.reference_model.specs.ConditionChanges.{ConditionOnce, ConditionsMove};
+ghost use Rattle.reference_model.specs.OrderLaws.{PartsRun, PartsHistory};
 ghost use Rattle.reference_model.specs.PoolOrder.{RunInOrder};
 ghost use Rattle.reference_model.specs.Bounds.{BoundedKeeps, RunBounded};
 ghost use Rattle.reference_model.specs.Isolation.{Isolated, RunIsolated, OthersKeptOut, RunKeptOut};
@@ -30,6 +31,12 @@ pub fn step_defined()
 pub fn end_once()
     ensures calls { EndOnce }
     ensures parts { PartsEnd }
+{}
+
+/// A list with the parts of a run, and its calls of each CPU, is a run to the same end, and so it is with a legal history.
+pub fn any_order()
+    ensures run { PartsRun }
+    ensures history { PartsHistory }
 {}
 
 /// The frame rule: a step reads and changes only the parts that it uses and its CPU's own state.

@@ -24,7 +24,7 @@ use Rattle.ghost_oracle.proofs.Reached.{run_to}
 use Rattle.world.proofs.Runs.{runs_from, known, layout_stays, all_of_parts}
 
 -- one run after another
-runs_after : {S : Type 0} (Go : S → Call → S → Type 0) (cs ds : List Call) (s m t : S) → Runs Go s cs m → Runs Go m ds t → Runs Go s (cs ++ ds) t
+pub runs_after : {S : Type 0} (Go : S → Call → S → Type 0) (cs ds : List Call) (s m t : S) → Runs Go s cs m → Runs Go m ds t → Runs Go s (cs ++ ds) t
 runs_after Go [] ds s m t h k = subst (λ x. Runs Go x ds t) (sym h) k
 runs_after Go (c ∷ cs) ds s m t h k = (h.0, h.1, runs_after Go cs ds h.0 m t h.2 k)
 

@@ -1,4 +1,5 @@
 //! Laws over lists of steps. Each function does nothing, and its contract is the law.
+ghost use Rattle.world.specs.Merges.{HistoryMerges, MergedHistory, MergedRun};
 ghost use Rattle.world.specs.Laws.{StepsAgree, StepsIsolate, StepsKeepOut, StepsRun, StepsRows, StepsSound};
 
 use std::alloc::Allocator;
@@ -28,4 +29,12 @@ pub fn steps_agree<A: Allocator>()
 pub fn steps_isolate<A: Allocator>()
     ensures isolated { StepsIsolate A }
     ensures kept_out { StepsKeepOut A }
+{}
+
+/// The calls of one legal history are a merged list of its logs. Each merged list of these is a legal history that leaves
+/// the same, and a run to the same end.
+pub fn merged_lists()
+    ensures merges { HistoryMerges }
+    ensures history { MergedHistory }
+    ensures run { MergedRun }
 {}

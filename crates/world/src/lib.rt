@@ -9,21 +9,26 @@ ghost use Rattle.world.specs.Headline.{Headline};
 
 mod boot;
 pub mod laws;
+mod merge;
 mod raw;
+mod same;
+mod uses;
 
 use arrayvec::ArrayVec;
 pub use boot::BootFault;
 use ghost_oracle::audit::audit;
 use ghost_oracle::disagreement::Disagreement;
-use ghost_oracle::kept::{kept, recompute};
+use ghost_oracle::kept::{kept, kept_and_walked, recompute};
 use ghost_oracle::pokes::poke;
 use ghost_oracle::raw::{RawGuest, Which};
 use ghost_spec::state::Ghost;
 use hypercalls::Parts;
+pub use merge::{Histories, MergeFault};
 use page_state::{Config, Geometry, MemoryMap, Reply, Step};
 pub use raw::RawWorld;
 use std::alloc::{AllocError, Allocator, Global};
 use table_tree::PathFault;
+pub use uses::{Uses, parts_used};
 
 /// A booted world, which stands at the end of one legal history. `A` is where the tables of all trees lie.
 #[derive(Drop)]
@@ -86,13 +91,31 @@ impl<A: Allocator + Copy> World<A> {
 }
 
 impl<A: Allocator> World<A> {
-    ghost use Rattle.std.specs.Prelude.{◌↔◌, IfErr, IsOk, IsSome, None, replicate};
+    ghost use Rattle.std.specs.Prelude.{◌↔◌, IfErr, IsOk, IsSome, List, None, replicate};
     ghost use Rattle.page_state.specs.LayoutView.{layout_of};
     ghost use Rattle.table_tree.specs.Said.{block_of};
     ghost use Rattle.ghost_oracle.specs.Poked.{IsBeside, IsPokedTree, parts_trees, raw_beside_of, raw_trees};
     ghost use Rattle.ghost_spec.specs.States.{ghost_state, IsKept};
     ghost use Rattle.ghost_oracle.specs.Found.{walked_state, HasRowsOf, SaysMaplets, SaysRows};
     ghost use Rattle.hypercalls.specs.Stands.{parts_layout, state_of};
+    ghost use Rattle.page_state.specs.declared.reply.Call.{Call};
+    ghost use Rattle.world.specs.Merges.{IsMerged, IsOfHistory, TellsMerged};
+    ghost use Rattle.world.specs.declared.merge.MergeFault.TheVariants.{NoOrder};
+
+    /// A list of all calls of the logs, each once, which cut down to the calls of any one log is that log: CPU, step and reply
+    /// of each. The logs may be any. NoOrder is answered only where there is no such list, so never for the logs of one legal
+    /// history; the list is then itself a legal history that leaves the same (`laws::merged_lists`). Each call costs a look
+    /// at the next call of each CPU, at most. Beside the list it takes memory for a number for each log.
+    pub fn merge(
+        global: Global,
+        histories: &Histories,
+    ) -> Result<Vec<(u64, Step, Reply)>, MergeFault>
+        ensures merged { IfOk result (λ v. TellsMerged histories.now v.items) }
+        ensures no_order { IfErr result (λ f. f ≡ NoOrder → (all : List Call) → IsMerged histories.now all → ⊥) }
+        ensures of_history { IfErr result (λ f. f ≡ NoOrder → IsOfHistory histories.now → ⊥) }
+    {
+        merge::merged(global, histories)
+    }
 
     /// The number of CPUs, which steps name from 0 on.
     pub fn cpus(&self) -> u64
@@ -143,12 +166,28 @@ impl<A: Allocator> World<A> {
         recompute(global, &self.parts)
     }
 
+    /// Both, of one walk: what `to_ghost` gives, and what `recompute` gives. Each word is read once.
+    pub fn kept_and_walked(&self, global: Global) -> Result<(Ghost, Ghost), AllocError>
+        ensures state { IfOk result (λ g. ghost_state g.0 ≡ state_of self.now.parts) }
+        ensures layout { IfOk result (λ g. layout_of g.0.layout ≡ parts_layout self.now.parts) }
+        ensures maplets { IfOk result (λ g. SaysMaplets self.now.parts g.0) }
+        ensures rows { IfOk result (λ g. SaysRows self.now.parts g.0) }
+        ensures kept { IfOk result (λ g. IsKept g.0) }
+        ensures frames { IfOk result (λ g. HasRowsOf (parts_layout self.now.parts) g.0) }
+        ensures walked { IfOk result (λ g. ghost_state g.1 ≡ walked_state (parts_layout self.now.parts) (state_of self.now.parts)) }
+        ensures same { IfOk result (λ g. ghost_state g.1 ≡ ghost_state g.0) }
+        ensures walked_layout { IfOk result (λ g. layout_of g.1.layout ≡ parts_layout self.now.parts) }
+        ensures walked_kept { IfOk result (λ g. IsKept g.1) }
+        ensures walked_frames { IfOk result (λ g. HasRowsOf (parts_layout self.now.parts) g.1) }
+    {
+        kept_and_walked(global, &self.parts)
+    }
+
     /// Compares what the world keeps with what a walk of every word finds. By the headline they agree.
     pub fn audit(&self, global: Global) -> Result<Option<Disagreement>, AllocError>
         ensures { IfOk result (λ o. o ≡ None) }
     {
-        let kept = self.to_ghost(global)?;
-        let walked = self.recompute(global)?;
+        let (kept, walked) = self.kept_and_walked(global)?;
         Ok(audit(&kept, &walked))
     }
 

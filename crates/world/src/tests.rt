@@ -3,6 +3,8 @@ ghost use Rattle.ghost_spec.specs.Kept.{IsKeptTree};
 ghost use Rattle.ghost_spec.specs.States.{IsKept};
 
 mod generated;
+mod merging;
+mod poked;
 
 use super::*;
 use arrayvec::ArrayVec;

@@ -1,0 +1,59 @@
+-- How logs are merged: from each the calls that were given are its first, and what is left of it goes on from there.
+use Rattle.std.specs.Prelude.{◌≡◌, ℕ, zero, suc, ◌+◌, Bool, true, ◌==◌, if◌then◌else◌, List, [], ◌∷◌, Option, Some, None, drop, length, slice_index}
+use Rattle.page_state.specs.declared.reply.Call.{Call}
+use Rattle.reference_model.specs.Parts.{Part, vm_part, shared_part, guest_part, call_uses}
+use Rattle.world.specs.declared.merge.Histories.{Histories}
+use Rattle.world.specs.declared.merge.Places.{Places}
+use Rattle.world.specs.Merges.{log_on, log_by}
+
+-- a log: that of a part, or a CPU's own list
+pub data LogName : Type 0 where
+  on : Part → LogName
+  by : ℕ → LogName
+
+-- whether a log has a call
+abbrev pub has : LogName → Call → Bool
+has (on p) c = call_uses p c
+has (by cpu) c = c.cpu == cpu
+
+-- all calls of a log
+abbrev pub whole : Histories → LogName → List Call
+whole h (on p) = log_on h p
+whole h (by cpu) = log_by h cpu
+
+-- how many of them were given
+abbrev pub place_in : Places → LogName → ℕ
+place_in g (on vm_part) = g.vms
+place_in g (on shared_part) = g.shared
+place_in g (on (guest_part v)) = slice_index g.guests.items v
+place_in g (by cpu) = slice_index g.cpus.items cpu
+
+-- the others
+abbrev pub left : Histories → Places → LogName → List Call
+left h g x = drop (place_in g x) (whole h x)
+
+-- there is a place for each guest's log and for each CPU's list
+pub record IsPlaced (h : Histories) (g : Places) : Type 0 where
+  pub guests : length g.guests.items ≡ length h.guests.items
+  pub cpus : length g.cpus.items ≡ length h.cpus.items
+
+abbrev pub first_of : List Call → Option Call
+first_of [] = None
+first_of (c ∷ cs) = Some c
+
+abbrev pub rest_of : List Call → List Call
+rest_of [] = []
+rest_of (c ∷ cs) = cs
+
+-- the call stands first in what is left of each log that has it
+abbrev pub IsNext : (LogName → List Call) → Call → Type 0
+IsNext rests c = (x : LogName) → has x c ≡ true → first_of (rests x) ≡ Some c
+
+-- what is left without that call
+abbrev pub after_call : (LogName → List Call) → Call → LogName → List Call
+after_call rests c x = if has x c then rest_of (rests x) else rests x
+
+-- how many calls are left of the lists of the first n CPUs
+abbrev pub left_by : (LogName → List Call) → ℕ → ℕ
+left_by rests zero = 0
+left_by rests (suc n) = left_by rests n + length (rests (by n))

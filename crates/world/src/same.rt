@@ -1,0 +1,11 @@
+//! Whether two calls are the same.
+ghost use Rattle.std.specs.Prelude.{◌≡◌, ◌↔◌, IsTrue};
+
+use page_state::Call;
+
+/// Whether two calls are the same.
+pub(crate) fn is_same_call(a: &Call, b: &Call) -> bool
+    ensures { IsTrue result ↔ (a.now ≡ b.now) }
+{
+    a == b
+}
