@@ -1,0 +1,13 @@
+pub mod Stepping
+pub mod SteppingByNumber
+pub mod SteppingOn
+pub mod Pairs
+pub mod Lists
+pub mod Keeps
+pub mod Holding
+pub mod Telling
+pub mod Slots
+pub mod Rests
+pub mod Root
+pub mod TakenApart
+pub mod PutTogether

@@ -1,0 +1,58 @@
+-- Places of lists.
+use Rattle.std.proofs.Common.{◌≡◌, ◌≢◌, Bool, false, ℕ, zero, suc, ◌+◌, List, [], ◌∷◌, ◌++◌, length, refl, sym, ap, ◌∙◌, arith, length-append}
+use Rattle.std.specs.Prelude.{Option, Some, None, slice_get, slice_set, slice_index_or}
+use mathlib.Core.Option.{some}
+use mathlib.Core.Logic.{dite}
+use native.Mathlib.Decide.{ℕ_discrete}
+use lib.ListN.{get_elem?}
+use Rattle.atomic_table.specs.Seated.{TableId}
+use Rattle.page_state.specs.declared.layout.Layout.{Layout as TheLayout}
+use Rattle.part_table.specs.Passes.{AreFirst, Pass, first_pass}
+
+module _ {X : Type 0} where
+  abbrev pub from : X → Option X → X
+  from d None = d
+  from d (Some x) = x
+
+  pub get_front : (l m : List X) (b : X) (j : ℕ) → slice_get l j ≡ Some b → slice_get (l ++ m) j ≡ Some b
+  get_front [] m b j e = absurd cc
+  get_front (x ∷ xs) m b zero e = e
+  get_front (x ∷ xs) m b (suc j) e = get_front xs m b j e
+
+  pub get_last : (l : List X) (a : X) (j : ℕ) → j ≡ length l → slice_get (l ++ a ∷ []) j ≡ Some a
+  get_last [] a zero e = refl
+  get_last [] a (suc j) e = absurd (omega arith)
+  get_last (x ∷ xs) a zero e = absurd (omega arith)
+  get_last (x ∷ xs) a (suc j) e = get_last xs a j (omega arith)
+
+  pub or_of_get : (l : List X) (j : ℕ) (d x : X) → slice_get l j ≡ Some x → slice_index_or l j d ≡ x
+  or_of_get [] j d x e = absurd cc
+  or_of_get (y ∷ ys) zero d x e = ap (from x) e
+  or_of_get (y ∷ ys) (suc j) d x e = or_of_get ys j d x e
+
+  pub get_set_else : (l : List X) (i j : ℕ) (a : X) → j ≢ i → slice_get (slice_set l i a) j ≡ slice_get l j
+  get_set_else [] i j a ne = refl
+  get_set_else (y ∷ ys) zero zero a ne = absurd (ne refl)
+  get_set_else (y ∷ ys) zero (suc j) a ne = refl
+  get_set_else (y ∷ ys) (suc i) zero a ne = refl
+  get_set_else (y ∷ ys) (suc i) (suc j) a ne = get_set_else ys i j a (λ e. ne (ap suc e))
+
+  pub elem_of_get : (l : List X) (j : ℕ) (x : X) → slice_get l j ≡ Some x → get_elem? l j ≡ some x
+  elem_of_get [] j x e = absurd cc
+  elem_of_get (y ∷ ys) zero x e = ap (λ z. some z) (ap (from x) e)
+  elem_of_get (y ∷ ys) (suc j) x e = elem_of_get ys j x e
+
+pub set_false : (l : List Bool) (i : ℕ) → slice_index_or (slice_set l i false) i false ≡ false
+set_false [] i = refl
+set_false (y ∷ ys) zero = refl
+set_false (y ∷ ys) (suc i) = set_false ys i
+
+-- one pass more, each before its CPU's first call
+pub first_more : (table : TableId) (l : TheLayout) (n : ℕ) (passes : List (Option Pass)) (p : Pass) → AreFirst (record { table = table; layout = l }) n passes → p ≡ first_pass table l n
+    → AreFirst (record { table = table; layout = l }) (n + 1) (passes ++ Some p ∷ [])
+first_more table l n passes p old new = (
+  length-append passes (Some p ∷ []) ∙ ap (λ m. m + 1) old.0,
+  λ c lt. dite (ℕ_discrete c n)
+      (λ is. get_last passes (Some p) c (is ∙ sym old.0) ∙ ap (λ (q : Pass). Some (Some q)) (new ∙ ap (first_pass table l) (sym is)))
+      (λ ne. get_front passes (Some p ∷ []) (Some (first_pass table l c)) c (old.1 c (omega arith))),
+)

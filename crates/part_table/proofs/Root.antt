@@ -1,0 +1,233 @@
+-- What the root does: it makes the views of the CPUs, takes them in, and learns the history once all have ended.
+use Rattle.std.proofs.Common.{◌≡◌, ◌≢◌, ℕ, zero, suc, ◌+◌, ◌<◌, List, [], ◌∷◌, ◌++◌, length, set, true, false, true≢false, refl, sym, ap, ◌∙◌, subst, ⊎_elim, arith, length-set, length-append}
+use Rattle.std.specs.Prelude.{Option, Some, None, slice_index, All}
+use Rattle.std.proofs.lemmas.List.Elements.{All-nil}
+use mathlib.Core.Option.{some, some-ne-none, some-injective}
+use mathlib.Core.Logic.{dite}
+use native.Mathlib.Decide.{ℕ_discrete}
+use lib.ListN.{get_elem?}
+use Rattle.std.proofs.lemmas.List.{length-map}
+use Rattle.atomic_table.specs.Table.{State, Splits, Joins, Final, Seen, opening}
+use Rattle.atomic_table.proofs.Lists.{at_set, set_else, at_longer, at_map}
+use Rattle.page_state.specs.declared.layout.Layout.{Layout as TheLayout}
+use Rattle.page_state.specs.declared.reply.Call.{Call}
+use Rattle.page_state.specs.LayoutView.{layout_of}
+use Rattle.reference_model.specs.Boot.{CanBoot, boot, booted}
+use Rattle.reference_model.specs.History.{IsStored, calls_by, calls_on}
+use Rattle.reference_model.specs.Run.{IsRun}
+use Rattle.reference_model.specs.State.{Reference}
+use Rattle.guest_steps.specs.declared.parts.CpuState.{CpuState}
+use Rattle.part_table.specs.declared.rule.View.{View}
+use Rattle.part_table.specs.declared.slot.Slot.{Slot}
+use Rattle.part_table.specs.Parts.{parts, part_of, log_of, IsPart, IsOwn}
+use Rattle.part_table.specs.Does.{IsLeft, none_at}
+use Rattle.part_table.specs.Rule.{held_at, Knows, Rooted, IsLawful, IsIdle, nobody, rooted, one_more, newcomer, with_end, own_at_boot}
+use Rattle.part_table.proofs.Pairs.{set_at, at_bound, at_end, seats, still_held}
+
+idle_is : {A : Type 0} → (x : Slot A) (o : Option (Slot A)) → o ≡ None → o ≡ Some x → ⊥
+idle_is x o a b = let never : None ≡ Some x = sym a ∙ b in absurd cc
+
+-- before its first call a CPU's own state stands in the boot state
+pub fresh_stands : (key : TheLayout) (c : ℕ) → IsOwn (layout_of key) (boot (layout_of key)) c (own_at_boot key)
+unfolding booted
+fresh_stands key c = record { content = refl; room = refl; size = omega arith }
+
+-- a pass before its first call is at rest
+pub fresh_rest : (A : Type 0) (key : TheLayout) (c : ℕ) → CanBoot (layout_of key) → IsLeft {A = A} (layout_of key) c (own_at_boot key) none_at
+fresh_rest A key c can = record {
+  ready = can;
+  log = [];
+  state = boot (layout_of key);
+  run = record { cpus = All-nil (λ (d : Call). d.cpu < key.config.cpus); leads = refl };
+  own = fresh_stands key c;
+  mine = refl;
+  parts = λ j x q. absurd cc;
+  logs = λ j x q. absurd cc;
+}
+
+module _ (A : Type 0) (key : TheLayout) where
+  abbrev Rule : State (Option (Slot A)) (View A) → Type 0
+  Rule = IsLawful key
+
+  -- a view that nobody steps with, and that holds what it held
+  off_knows : (ws : List ℕ) (holder : ℕ → ℕ) (log : List Call) (state : Reference) (j : ℕ) (v : View A) → v.on ≡ false
+      → ((k : ℕ) (x : Slot A) → held_at v.held k ≡ Some x → (v.on ≡ true) × (k < parts) × (slice_index ws k ≢ 0) × (holder k ≡ j) × (IsPart (layout_of key) state k x × ((log_of x).calls ≡ calls_on (part_of k) log)))
+      → Knows key ws holder log state j v
+  off_knows ws holder log state j v off held = record {
+    layout = λ a. absurd (true≢false (sym a ∙ off));
+    known = λ a. absurd (true≢false (sym a ∙ off));
+    seat = λ a. absurd (true≢false (sym a ∙ off));
+    mine = λ a. absurd (true≢false (sym a ∙ off));
+    own = λ a. absurd (true≢false (sym a ∙ off));
+    seen = λ a. absurd (true≢false (sym a ∙ off));
+    held = held;
+  }
+
+  pub splits : (v : View A) → v.root ≡ true → v.layout ≡ key → v.made < key.config.cpus → Splits Rule 0 v (one_more v) (newcomer v)
+  splits v is of few_made s r here =
+      let o = r.root v here is in
+      let left = one_more v in let right = newcomer v in
+      let vs : List (View A) = set s.views 0 left in
+      let mine = r.each_seat 0 v here in
+      let long : length vs ≡ v.made + 1 = length-set s.views 0 left ∙ o.count in
+      let fresh = o.fresh v.made (omega arith) in record {
+        ready = r.ready;
+        log = r.log;
+        state = r.state;
+        holder = r.holder;
+        run = r.run;
+        stored = r.stored;
+        wide = r.wide;
+        deep = r.deep;
+        at_home = r.at_home;
+        taken = λ k lt nz. let h = still_held s.views 0 v left k here (λ x e. (x, e)) (r.holder k) (r.taken k lt nz) in (h.0, h.1, at_longer vs (right ∷ []) (r.holder k) h.0 h.2, h.3);
+        each_seat = λ j u e. ⊎_elim
+            (seats (Knows key s.words r.holder r.log r.state) s.views 0 left
+            (off_knows s.words r.holder r.log r.state 0 left o.off mine.held)
+            (λ i w apart there. r.each_seat i w there) j u)
+            (λ (t : (j ≡ length vs) × (right ≡ u)). subst (λ (z : ℕ × View A). Knows key s.words r.holder r.log r.state z.0 z.1) (λ i. (sym t.0 i, t.1 i)) record {
+              layout = λ _. of;
+              known = λ _. few_made;
+              seat = λ _. sym long;
+              mine = λ _. sym fresh.0;
+              own = λ _. subst (λ (l : TheLayout). IsOwn (layout_of key) r.state v.made (own_at_boot l)) (sym of) fresh.1;
+              seen = λ _ k. (calls_on (part_of k) r.log, refl);
+              held = λ k x e. absurd (idle_is x None refl e);
+            })
+            (at_end vs right u j e);
+        root = λ u e up. ⊎_elim
+            (λ at. ⊎_elim
+            (λ (t : (0 ≡ 0) × (left ≡ u)). subst (λ (w : View A). Rooted key (vs ++ right ∷ []) r.log r.state w) t.1 record {
+              off = o.off;
+              layout = o.layout;
+              count = length-append vs (right ∷ []) ∙ ap (λ n. n + 1) long;
+              fresh = λ c le. o.fresh c (omega arith);
+              few = let f = o.few in omega arith;
+              ended = λ c e at'. let k = o.ended c e at' in let lt = at_bound v.ended c e at' in let few = o.few in (
+                k.0,
+                k.1,
+                λ w there. ⊎_elim
+                    (λ was. ⊎_elim (λ (q : (c + 1 ≡ 0) × (left ≡ w)). absurd (omega arith)) (λ (q : (c + 1 ≢ 0) × (get_elem? s.views (c + 1) ≡ some w)). k.2 w q.1) (at_set s.views 0 (c + 1) left w was))
+                    (λ (q : (c + 1 ≡ length vs) × (right ≡ w)). absurd (omega arith))
+                    (at_end vs right w (c + 1) there),
+              );
+            })
+            (λ (t : (0 ≢ 0) × (get_elem? s.views 0 ≡ some u)). absurd (t.0 refl))
+            (at_set s.views 0 0 left u at))
+            (λ (t : (0 ≡ length vs) × (right ≡ u)). absurd (omega arith))
+            (at_end vs right u 0 e);
+      }
+
+  pub joins : (v : View A) (other : ℕ) (w : View A) → v.root ≡ true → w.on ≡ true → w.cpu ≡ length v.ended → length v.ended < v.made → IsIdle w → Joins Rule 0 v other w (with_end v w) nobody
+  joins v other w is on next room idle s r here apart there =
+      let o = r.root v here is in
+      let both = with_end v w in
+      let vs : List (View A) = set s.views 0 both in
+      let mine = r.each_seat 0 v here in
+      let ne : other ≢ 0 = λ e. apart e in
+      let there' : get_elem? s.views other ≡ some w = sym (set_else s.views 0 other both ne) ∙ there in
+      let theirs = r.each_seat other w there' in
+      let seat : length v.ended + 1 ≡ other = ap (λ n. n + 1) (sym next) ∙ theirs.seat on in record {
+        ready = r.ready;
+        log = r.log;
+        state = r.state;
+        holder = r.holder;
+        run = r.run;
+        stored = r.stored;
+        wide = r.wide;
+        deep = r.deep;
+        at_home = r.at_home;
+        taken = λ k lt nz. still_held vs other w nobody k there (λ x e. absurd (idle_is x (held_at w.held k) (idle k) e)) (r.holder k) (still_held s.views 0 v both k here (λ x e. (x, e)) (r.holder k) (r.taken k lt nz));
+        each_seat = seats (Knows key s.words r.holder r.log r.state) vs other nobody
+            (off_knows s.words r.holder r.log r.state other nobody refl (λ k x e. absurd (idle_is x None refl e)))
+            (λ i u _ at. seats (Knows key s.words r.holder r.log r.state) s.views 0 both
+            (off_knows s.words r.holder r.log r.state 0 both o.off mine.held)
+            (λ j x _ e. r.each_seat j x e) i u at);
+        root = λ u e up. ⊎_elim
+            (λ (t : (0 ≡ other) × (nobody ≡ u)). absurd (ne (sym t.0)))
+            (λ (t : (0 ≢ other) × (get_elem? vs 0 ≡ some u)). subst (λ (x : View A). Rooted key (set vs other nobody) r.log r.state x) (some-injective both u (sym (set_at s.views 0 v both here) ∙ t.1)) record {
+              off = o.off;
+              layout = o.layout;
+              count = length-set vs other nobody ∙ (length-set s.views 0 both ∙ o.count);
+              fresh = o.fresh;
+              few = let l = length-append v.ended (w.own ∷ []) in omega arith;
+              ended = λ c e at. ⊎_elim
+                  (λ old. let k = o.ended c e old in (
+                    k.0,
+                    k.1,
+                    λ x p. ⊎_elim
+                        (λ (q : (c + 1 ≡ other) × (nobody ≡ x)). ap (λ (z : View A). z.on) (sym q.1))
+                        (λ (q : (c + 1 ≢ other) × (get_elem? vs (c + 1) ≡ some x)). k.2 x (sym (set_else s.views 0 (c + 1) both (λ z. omega arith)) ∙ q.1))
+                        (at_set vs other (c + 1) nobody x p),
+                  ))
+                  (λ (q : (c ≡ length v.ended) × (w.own ≡ e)). let same : c ≡ w.cpu = q.0 ∙ sym next in (
+                    ap (λ (z : CpuState). z.log.calls) (sym q.1) ∙ (theirs.mine on ∙ ap (λ n. calls_by n r.log) (sym same)),
+                    subst (λ (z : ℕ × CpuState). IsOwn (layout_of key) r.state z.0 z.1) (λ i. (sym same i, q.1 i)) (theirs.own on),
+                    λ x p. let here' : get_elem? (set vs other nobody) other ≡ some x = ap (get_elem? (set vs other nobody)) (sym seat ∙ ap (λ n. n + 1) (sym q.0)) ∙ p in
+                        ap (λ (z : View A). z.on) (sym (some-injective nobody x (sym (set_at vs other w nobody there) ∙ here'))),
+                  ))
+                  (at_end v.ended w.own e c at);
+            })
+            (at_set vs other 0 nobody u e);
+      }
+
+  -- the history that stands once all CPUs have ended: every part is at home, as after it
+  pub record Ends (ended : List CpuState) (xs : List (Option (Slot A))) : Type 0 where
+    pub ready : CanBoot (layout_of key)
+    pub log : List Call
+    pub state : Reference
+    pub run : IsRun (layout_of key) log state
+    pub stored : All (λ c. IsStored c.reply) log
+    pub each_part : (k : ℕ) → k < parts → (x : Slot A) × (get_elem? xs k ≡ some (Some x)) × IsPart (layout_of key) state k x × ((log_of x).calls ≡ calls_on (part_of k) log)
+    pub each_cpu : (c : ℕ) (e : CpuState) → get_elem? ended c ≡ some e → (e.log.calls ≡ calls_by c log) × IsOwn (layout_of key) state c e
+
+  in_list : (l : List CpuState) (c : ℕ) → c < length l → (e : CpuState) × (get_elem? l c ≡ some e)
+  in_list [] c lt = absurd (omega arith)
+  in_list (x ∷ xs) zero lt = (x, refl)
+  in_list (x ∷ xs) (suc c) lt = in_list xs c (omega arith)
+
+  on_false : (v : View A) (all : length v.ended ≡ v.made) (s : State (Option (Slot A)) (View A)) (r : Rule s) (at : get_elem? s.views 0 ≡ some v) (o : Rooted key s.views r.log r.state v) (j : ℕ) (u : View A) → get_elem? s.views j ≡ some u → u.on ≡ false
+  on_false v all s r at o zero u e = ap (λ (z : View A). z.on) (some-injective u v (sym e ∙ at)) ∙ o.off
+  on_false v all s r at o (suc c) u e = let lt = at_bound s.views (suc c) u e in let count = o.count in let h = in_list v.ended c (omega arith) in (o.ended c h.0 h.1).2 u (ap (get_elem? s.views) (omega arith) ∙ e)
+
+  pub finals : (v : View A) (ws : List ℕ) (xs : List (Option (Slot A))) → v.root ≡ true → length v.ended ≡ v.made → Final (Seen Rule 0 v) ws xs → Ends v.ended xs
+  finals v ws xs is all f =
+      let s = f.0 in let r = f.1.0 in let o = r.root v f.1.1 is in record {
+        ready = r.ready;
+        log = r.log;
+        state = r.state;
+        run = r.run;
+        stored = r.stored;
+        each_part = λ k lt. dite (ℕ_discrete (slice_index s.words k) 0)
+            (λ z. let h = r.at_home k lt z in (h.0, f.4 k (Some h.0) h.1, h.2.0, h.2.1))
+            (λ nz. let h = r.taken k lt nz in absurd (true≢false (sym ((r.each_seat (r.holder k) h.0 h.2).held k h.1 h.3).0 ∙ on_false v all s r f.1.1 o (r.holder k) h.0 h.2)));
+        each_cpu = λ c e at. let k = o.ended c e at in (k.0, k.1);
+      }
+
+  pub opens : (l : TheLayout) → l ≡ key → CanBoot (layout_of key) → (ws : List ℕ) (xs : List (Option (Slot A))) → length ws ≡ parts → length xs ≡ parts
+      → ((k : ℕ) → k < parts → (slice_index ws k ≡ 0) × ((x : Slot A) × (get_elem? xs k ≡ some (Some x)) × IsPart (layout_of key) (boot (layout_of key)) k x × ((log_of x).calls ≡ []))) → Rule (opening ws xs (rooted l))
+  opens l same can ws xs wide deep ready = record {
+    ready = can;
+    log = [];
+    state = boot (layout_of key);
+    holder = λ _. 0;
+    run = record { cpus = All-nil (λ (c : Call). c.cpu < key.config.cpus); leads = refl };
+    stored = All-nil (λ (c : Call). IsStored c.reply);
+    wide = wide;
+    deep = length-map xs (λ (y : Option (Slot A)). some y) ∙ deep;
+    at_home = λ k lt z. let h = (ready k lt).1 in (h.0, at_map (λ (y : Option (Slot A)). some y) xs k (Some h.0) h.1, (h.2, h.3));
+    taken = λ k lt nz. absurd (nz (ready k lt).0);
+    each_seat = each;
+    root = λ u e up. subst (λ (v : View A). Rooted key (rooted l ∷ []) [] (boot (layout_of key)) v) (some-injective (rooted l) u e) record {
+      off = refl;
+      layout = same;
+      count = refl;
+      fresh = λ c le. (refl, fresh_stands key c);
+      few = omega arith;
+      ended = λ c e at. absurd (some-ne-none e (sym at));
+    };
+  }
+    where
+      each : (j : ℕ) (v : View A) → get_elem? (rooted l ∷ []) j ≡ some v → Knows key ws (λ _. 0) [] (boot (layout_of key)) j v
+      each zero v e = subst (Knows key ws (λ _. 0) [] (boot (layout_of key)) 0) (some-injective (rooted l) v e) (off_knows ws (λ _. 0) [] (boot (layout_of key)) 0 (rooted l) refl (λ k x e. absurd (idle_is x None refl e)))
+      each (suc j) v e = absurd (some-ne-none v (sym e))

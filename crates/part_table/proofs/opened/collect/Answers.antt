@@ -1,0 +1,74 @@
+use Rattle.std.proofs.Common.{rules, ◌≡◌, ℕ, ◌+◌, [], ◌∷◌, ◌++◌, length, false, arith, refl, sym, ap, ◌∙◌, subst, ◌<◌, le_refl, length-append, get_or-set_other}
+use Rattle.std.specs.Prelude.{Bool, Option, Some, None, List, slice_get, slice_index_or, slice_set}
+use mathlib.Core.Option.{some, some-injective}
+use mathlib.Core.Logic.{dite}
+use native.Mathlib.Decide.{ℕ_discrete}
+use lib.ListN.{get_elem?}
+use Rattle.std.specs.Slots.{slots_items, slots_filled}
+use Rattle.part_table.specs.declared.slot.Slot.{Slot}
+use Rattle.part_table.specs.Parts.{parts}
+use Rattle.std.specs.Vec.{vec_len}
+use Rattle.std.specs.Mem.Slots.Ownership.{Filled}
+use Rattle.part_table.proofs.Lists.{set_false, get_front, get_last}
+use Rattle.part_table.proofs.opened.collect.Goals as goal
+
+pub unreachable-requires : goal.unreachable-requires
+unreachable-requires g c =
+    let k : ℕ = c.loop-k.k in
+    let i = c.loop-k.invariant in
+    let h = c.requires.home k c.loop-k-test.true in
+    let e : c.take.result ≡ Some h.0 = some-injective c.take.result (Some h.0) (sym c.take.ensures.value ∙ (ap (λ (l : List (Option (Slot g.row.A.Denot))). get_elem? l k) i.0 ∙ h.1)) in
+    let never : None ≡ Some h.0 = sym c.in_default.is ∙ e in
+    absurd cc
+
+pub loop-k-preserved : goal.loop-k-preserved
+loop-k-preserved g c =
+    let k : ℕ = c.loop-k.k in
+    let i = c.loop-k.invariant in
+    let o = c.take.ensures.others in
+    let fs : List Bool = slots_filled c.loop-k.closed.slots in
+    let xs : List (Slot g.row.A.Denot) = c.loop-k.found.items in
+    let y : Slot g.row.A.Denot = c.in-Some.part in
+    let items : c.push.new.self.items ≡ xs ++ y ∷ [] = c.in-Ok.ensures.items in
+    let long : length xs ≡ k = i.4.0 in (
+      o.0 ∙ i.0,
+      o.2 ∙ i.1,
+      (λ j le lt. ap (λ (l : List Bool). slice_index_or l j false) o.1 ∙ (get_or-set_other fs k j false false (λ e. omega arith) ∙ i.2 j (omega arith) lt)),
+      (λ j lt. ap (λ (l : List Bool). slice_index_or l j false) o.1 ∙ dite (ℕ_discrete j k)
+          (λ e. ap (λ n. slice_index_or (slice_set fs k false) n false) e ∙ set_false fs k)
+          (λ ne. get_or-set_other fs k j false false ne ∙ i.3 j (omega arith))),
+      (
+        ap (λ (l : List (Slot g.row.A.Denot)). length l) items ∙ (length-append xs (y ∷ []) ∙ ap (λ n. n + 1) long),
+        λ j x lt e. ap (λ (l : List (Slot g.row.A.Denot)). slice_get l j) items ∙ dite (ℕ_discrete j k)
+            (λ is. let same : Some y ≡ Some x = some-injective (Some y) (Some x) (ap some (sym c.in-Some.is) ∙ (sym c.take.ensures.value ∙ (ap (λ (l : List (Option (Slot g.row.A.Denot))). get_elem? l k) i.0 ∙ (ap (get_elem? (slots_items c.args.closed.now.slots)) (sym is) ∙ e)))) in
+            get_last xs y j (is ∙ sym long) ∙ same)
+            (λ ne. get_front xs (y ∷ []) x j (i.4.1 j x (omega arith) e)),
+      ),
+      search rules,
+      search rules,
+    )
+
+pub returns-clause-gives : goal.returns-clause-gives
+returns-clause-gives g c =
+    let i = c.loop-k.invariant in
+    let last : c.loop-k.k ≡ parts = search rules in
+    (i.4.0 ∙ last, λ k x lt e. i.4.1 k x (omega arith) e)
+
+pub loop-k-init : goal.loop-k-init
+loop-k-init g c =
+    let full : Filled (slots_filled c.args.closed.now.slots) 0 parts = subst (λ (n : ℕ). Filled (slots_filled c.args.closed.now.slots) 0 n) c.requires.full.1 c.requires.full.0 in
+    let none : vec_len c.args.found ≡ 0 = search rules in (
+      refl,
+      c.requires.full.1,
+      full,
+      (λ j lt. absurd (omega arith)),
+      (ap (λ (l : List (Slot g.row.A.Denot)). length l) c.requires.room.0, λ j x lt e. absurd (omega arith)),
+      none,
+      c.requires.room.1,
+    )
+
+pub take-requires : goal.take-requires
+take-requires g c =
+    let i = c.loop-k.invariant in
+    let k : ℕ = c.loop-k.k in
+    (subst (λ (n : ℕ). k < n) (sym i.1) c.loop-k-test.true, i.2 k (le_refl k) c.loop-k-test.true)

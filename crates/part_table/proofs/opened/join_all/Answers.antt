@@ -1,0 +1,85 @@
+use Rattle.std.proofs.Common.{rules, ◌≡◌, ℕ, ◌+◌, ◌<◌, ◌≤◌, [], ◌∷◌, ◌++◌, length, arith, sym, ap, ◌∙◌, refl, subst, length-append, le_refl}
+use Rattle.std.specs.Prelude.{Option, Some, None, List, slice_get, slice_set}
+use Rattle.std.specs.Vec.{vec_capacity, vec_len}
+use Rattle.atomic_table.specs.Table.{Joins}
+use Rattle.page_state.specs.declared.layout.Layout.{Layout as TheLayout}
+use Rattle.guest_steps.specs.declared.parts.CpuState.{CpuState}
+use Rattle.part_table.specs.declared.rule.View.{View}
+use Rattle.part_table.specs.Passes.{AreHomeFrom, Pass}
+use Rattle.part_table.specs.Rule.{IsLawful, with_end, nobody}
+use Rattle.part_table.proofs.Lists.{from, or_of_get, get_set_else}
+use Rattle.part_table.proofs.Root.{joins}
+use Rattle.part_table.proofs.opened.join_all.Goals as goal
+
+pub unreachable-requires : goal.unreachable-requires
+unreachable-requires g c =
+    let h = c.loop-cpu.invariant.10 c.loop-cpu.cpu (le_refl c.loop-cpu.cpu) c.loop-cpu-test.true in
+    let is : c.index_mut.result.now ≡ Some h.0 = c.index_mut.ensures.value ∙ or_of_get c.loop-cpu.passes.items c.loop-cpu.cpu c.index_mut.result.now (Some h.0) h.1 in
+    let never : None ≡ Some h.0 = sym c.in_default.is ∙ (c.take.ensures.value ∙ is) in
+    absurd cc
+
+pub join_seat-requires : goal.join_seat-requires
+join_seat-requires g c =
+    let i = c.loop-cpu.invariant in
+    let n : ℕ = c.loop-cpu.cpu in
+    let h = i.10 n (le_refl n) c.loop-cpu-test.true in
+    let was : c.index_mut.result.now ≡ Some h.0 = c.index_mut.ensures.value ∙ or_of_get c.loop-cpu.passes.items n c.index_mut.result.now (Some h.0) h.1 in
+    let same : Some c.in-Some.pass ≡ Some h.0 = sym c.in-Some.is ∙ (c.take.ensures.value ∙ was) in
+    let p : Pass = c.in-Some.pass in
+    let is : p ≡ h.0 = ap (from p) same in
+    let v : View g.row.A.Denot = c.loop-cpu.root.me.0 in
+    let w : View g.row.A.Denot = c.pass.inside.seat.me.0 in
+    let q = c.pass.invariant in
+    let see = c.pass.view_is in
+    let cpu : w.cpu ≡ n = ap (λ (z : Pass). z.knows.cpu) see ∙ (ap (λ (z : Pass). z.knows.cpu) is ∙ h.3) in
+    let table : c.pass.inside.seat.table_id ≡ c.args.root.now.table_id = ap (λ (z : Pass). z.table) see ∙ (ap (λ (z : Pass). z.table) is ∙ h.2) in
+    let long : length v.ended ≡ n = ap (λ (l : List CpuState). length l) i.5 ∙ i.6 in
+    let key : TheLayout = c.args.shelf.now.shared.key in
+    let made : v.made ≡ c.args.root.now.me.0.made = i.3 in
+    let count : c.args.root.now.me.0.made ≡ c.len-count.result = c.requires.root.3 ∙ sym c.len-count.ensures in
+    let below = c.loop-cpu-test.true in (
+      i.0 ∙ c.requires.table.0,
+      table ∙ c.requires.table.0,
+      q.0,
+      subst (λ (m : ℕ). 0 < m) (sym c.requires.table.1) (omega arith),
+      subst (λ (m : ℕ). Joins (IsLawful key) m v c.pass.inside.seat.id w (with_end v w) nobody) (sym i.1)
+          (joins g.row.A.Denot key v c.pass.inside.seat.id w i.2 q.2 (cpu ∙ sym long) (omega arith) q.1),
+    )
+
+pub loop-cpu-preserved : goal.loop-cpu-preserved
+loop-cpu-preserved g c =
+    let i = c.loop-cpu.invariant in
+    let n : ℕ = c.loop-cpu.cpu in
+    let e = c.join_seat.ensures in
+    let q = c.pass.invariant in
+    let items = c.in-Ok.ensures.items in (
+      e.0 ∙ i.0,
+      e.1 ∙ i.1,
+      ap (λ m. m.0.root) e.2 ∙ i.2,
+      ap (λ m. m.0.made) e.2 ∙ i.3,
+      ap (λ m. m.1) e.2 ∙ i.4,
+      ap (λ m. m.0.ended) e.2 ∙ ((λ k. i.5 k ++ q.4 k ∷ []) ∙ sym items),
+      ap (λ (l : List CpuState). length l) items ∙ (length-append c.loop-cpu.cpus.items (c.pass.inside.own ∷ []) ∙ ap (λ m. m + 1) i.6),
+      search rules,
+      search rules,
+      i.9,
+      λ j from below. let h = i.10 j (omega arith) below in (h.0, ap (λ (o : Option Pass). slice_get (slice_set c.loop-cpu.passes.items n o) j) c.take.ensures.after ∙ (get_set_else c.loop-cpu.passes.items n j None (λ z. omega arith) ∙ h.1), h.2, h.3),
+    )
+
+pub loop-cpu-init : goal.loop-cpu-init
+loop-cpu-init g c =
+    let r = c.requires.root in
+    let count : vec_len c.args.passes ≡ c.len-count.result = sym c.len-count.ensures in
+    let none : vec_len c.args.cpus ≡ 0 = search rules in (
+      refl,
+      r.0,
+      r.1,
+      refl,
+      r.4,
+      r.2 ∙ sym c.requires.room.0,
+      ap (λ (l : List CpuState). length l) c.requires.room.0,
+      none,
+      subst (λ (n : ℕ). n ≤ vec_capacity c.args.cpus) count c.requires.room.1,
+      count,
+      subst (λ (n : ℕ). AreHomeFrom c.args.root.now.table_id n 0 c.args.passes.items) count c.requires.home,
+    )

@@ -1,0 +1,36 @@
+use Rattle.std.proofs.Common.{rules, ◌≡◌, ◌≢◌, ℕ, ◌<◌, sym, ap, ◌∙◌, refl, subst, inl}
+use Rattle.page_state.specs.declared.layout.Layout.{Layout as TheLayout}
+use Rattle.guest_steps.specs.declared.parts.CpuState.{CpuState}
+use Rattle.part_table.specs.declared.rule.View.{View}
+use Rattle.part_table.specs.declared.tries.Tried.TheVariants.{LogFull}
+use Rattle.part_table.specs.Passes.{Pass}
+use Rattle.part_table.specs.Rule.{known_of}
+use Rattle.part_table.proofs.Rests.{none_held}
+use Rattle.part_table.proofs.Telling.{answers_of}
+use Rattle.part_table.proofs.pass.CpuPass.try_step.Goals as goal
+
+pub returns-then-room-eq0-clause-rest : goal.returns-then-room-eq0-clause-rest
+returns-then-room-eq0-clause-rest g c = ap (λ (p : Pass). p.holds) (sym c.self.view_is) ∙ none_held c.self.inside.seat.me.0.held c.self.invariant.1
+
+pub returns-then-room-eq0-clause-answers : goal.returns-then-room-eq0-clause-answers
+returns-then-room-eq0-clause-answers g c =
+    let full : c.args.self.now.knows.own.log.room ≡ 0 = ap (λ (p : Pass). p.knows.own.log.room) (sym c.self.view_is) ∙ (ap (λ (k : CpuState). k.log.room) c.self.invariant.4 ∙ (sym c.room.ensures ∙ c.if-room-eq0.true)) in
+    (LogFull, refl, inl (full, record { layout = refl; cpu = refl; own = refl; seen = refl }, refl))
+
+pub invariant_of-self : goal.invariant_of-self
+invariant_of-self g c =
+    let i = c.self.invariant in
+    let a = c.any.ensures.cpu in
+    let old : View g.row.A.Denot = c.self.inside.seat.me.0 in
+    let same : old.layout ≡ c.args.layout.now = ap (λ (p : Pass). p.knows.layout) c.self.view_is ∙ c.requires.layout in
+    let few : c.any.new.seat.me.0.cpu < c.any.new.seat.me.0.layout.config.cpus = subst (λ (z : ℕ × TheLayout). z.0 < z.1.config.cpus) (λ j. ((i.3 ∙ sym a.1) j, (same ∙ sym a.0) j)) i.5 in
+    (c.any.ensures.rest.0, c.any.ensures.rest.1, a.3, a.1, a.2, few, c.any.ensures.left)
+
+pub returns-clause-rest : goal.returns-clause-rest
+returns-clause-rest g c = none_held c.any.new.seat.me.0.held c.any.ensures.rest.1
+
+pub returns-clause-answers : goal.returns-clause-answers
+returns-clause-answers g c =
+    let room : c.self.inside.own.log.room ≢ 0 = search rules in
+    answers_of c.args.step c.any.result c.reply.result c.args.self.now.knows (known_of c.self.inside.seat.me.0) (known_of c.any.new.seat.me.0) c.self.inside.own
+    (ap (λ (p : Pass). p.knows) (sym c.self.view_is)) c.self.invariant.4 c.reply.ensures room c.any.ensures.tells

@@ -1,0 +1,83 @@
+use Rattle.std.proofs.Common.{rules, ◌≡◌, ◌≢◌, ℕ, ◌∷◌, [], sym, ap, ◌∙◌, subst, refl}
+use Rattle.std.specs.Prelude.{Some}
+use Rattle.page_state.specs.declared.reply.Call.{Call}
+use Rattle.page_state.specs.LayoutView.{layout_of}
+use Rattle.guest_steps.specs.declared.parts.CpuState.{CpuState}
+use Rattle.guest_steps.specs.Lent.{with_call}
+use Rattle.part_table.specs.declared.rule.View.{View}
+use Rattle.part_table.specs.declared.slot.Slot.{Slot}
+use Rattle.part_table.specs.Parts.{log_of}
+use Rattle.part_table.specs.Does.{only_at}
+use Rattle.part_table.specs.Rule.{held_at, taking, letting, storing}
+use Rattle.part_table.proofs.Holding.{one_held, only_like, only_here}
+use Rattle.part_table.proofs.Telling.{does_as, does_for, left_of, log_grows, away_first, full_first, stored_first}
+use Rattle.part_table.proofs.tries.one.Goals as goal
+
+pub alone-part-requires-clause-left : goal.alone-part-requires-clause-left
+alone-part-requires-clause-left g c =
+    let k : ℕ = c.args.k in
+    let x : Slot g.row.A.Denot = c.in-Some.part in
+    let v : View g.row.A.Denot = c.args.seat.now.me.0 in
+    let w : View g.row.A.Denot = c.take.new.seat.me.0 in
+    let t = c.in-Some.ensures.taken in
+    let e : w ≡ taking v k x = ap (λ z. z.0) t.0 in
+    let q = c.requires.cpu in
+    ∣ left_of c.args.layout.now c.args.id c.args.cpu.now w (only_at k x) t.2
+    (ap (λ (u : View g.row.A.Denot). u.layout) e ∙ q.0) (ap (λ (u : View g.row.A.Denot). u.cpu) e ∙ q.1) (ap (λ (u : View g.row.A.Denot). u.own) e ∙ q.2)
+    (λ j. one_held v.held k x c.requires.rest.1 j ∙ ap (λ (u : View g.row.A.Denot). held_at u.held j) (sym e)) ∣₁
+
+pub commit-requires-clause-used : goal.commit-requires-clause-used
+commit-requires-clause-used g c j z h =
+    let k : ℕ = c.args.k in
+    let x : Slot g.row.A.Denot = c.in-Some.part in
+    let y : Slot g.row.A.Denot = c.alone-part.result.0 in
+    let v : View g.row.A.Denot = c.args.seat.now.me.0 in
+    let e : c.take.new.seat.me.0 ≡ taking v k x = ap (λ z. z.0) c.in-Some.ensures.taken.0 in
+    c.alone-part.ensures.does.only j y (only_like k j x y z (one_held v.held k x c.requires.rest.1 j ∙ (ap (λ (u : View g.row.A.Denot). held_at u.held j) (sym e) ∙ h)))
+
+pub commit-requires-clause-does : goal.commit-requires-clause-does
+commit-requires-clause-does g c =
+    let k : ℕ = c.args.k in
+    let x : Slot g.row.A.Denot = c.in-Some.part in
+    let y : Slot g.row.A.Denot = c.alone-part.result.0 in
+    let call : Call = c.alone-part.result.1 in
+    let v : View g.row.A.Denot = c.args.seat.now.me.0 in
+    let w : View g.row.A.Denot = c.take.new.seat.me.0 in
+    let n : CpuState = c.alone-part.new.cpu in
+    let e : w ≡ taking v k x = ap (λ z. z.0) c.in-Some.ensures.taken.0 in
+    let q = c.requires.cpu in
+    does_for c.args.layout.now w.layout call (held_at w.held) c.args.cpu.now w.own (held_at ((k, Some y) ∷ [])) n (ap (λ (u : View g.row.A.Denot). u.layout) e ∙ q.0) (ap (λ (u : View g.row.A.Denot). u.own) e ∙ q.2)
+    (does_as (layout_of c.args.layout.now) call (only_at k x) (held_at w.held) c.args.cpu.now (only_at k y) (held_at ((k, Some y) ∷ [])) n
+    (λ j. one_held v.held k x c.requires.rest.1 j ∙ ap (λ (u : View g.row.A.Denot). held_at u.held j) (sym e)) (λ j. refl) c.alone-part.ensures.does)
+
+pub returns-clause-tells : goal.returns-clause-tells
+returns-clause-tells g c =
+    let k : ℕ = c.args.k in
+    let x : Slot g.row.A.Denot = c.in-Some.part in
+    let y : Slot g.row.A.Denot = c.alone-part.result.0 in
+    let call : Call = c.alone-part.result.1 in
+    let v : View g.row.A.Denot = c.args.seat.now.me.0 in
+    let w : View g.row.A.Denot = c.commit.new.seat.me.0 in
+    let n : CpuState = c.alone-part.new.cpu in
+    let e : c.take.new.seat.me.0 ≡ taking v k x = ap (λ z. z.0) c.in-Some.ensures.taken.0 in
+    let last : w ≡ storing n ((k, Some y) ∷ []) (taking v k x) k = ap (λ z. z.0) c.commit.ensures.home ∙ ap (λ (u : View g.row.A.Denot). storing n ((k, Some y) ∷ []) u k) e in
+    let d = c.alone-part.ensures.does in
+    let q = c.requires.cpu in
+    let room : (log_of x).room ≢ 0 = search rules in
+    let called = c.alone-part.ensures.call in
+    let mine : n.log ≡ with_call call v.own.log = d.mine ∙ ap (λ (s : CpuState). with_call call s.log) (sym q.2) in
+    let t = stored_first call n v w k x y last room c.in-Some.ensures.taken.1
+    (log_grows (layout_of c.args.layout.now) call (only_at k x) (only_at k y) c.args.cpu.now n k x y d (only_here k x) (only_here k y)) mine d.only c.commit.ensures.history in
+    (subst (λ (z : ℕ × CpuState). Rattle.part_table.specs.Does.IsCalled z.0 z.1 c.args.step call) (λ i. (sym q.1 i, sym q.2 i)) called, d.stored, t.0, t.1)
+
+pub returns-in_default-clause-tells : goal.returns-in_default-clause-tells
+returns-in_default-clause-tells g c = away_first c.args.seat.now.me.0 c.take.new.seat.me.0 c.args.k [] (ap (λ z. z.0) c.in_default.ensures.missed)
+
+pub returns-then-room-eq0-clause-tells : goal.returns-then-room-eq0-clause-tells
+returns-then-room-eq0-clause-tells g c =
+    let k : ℕ = c.args.k in
+    let x : Slot g.row.A.Denot = c.in-Some.part in
+    let v : View g.row.A.Denot = c.args.seat.now.me.0 in
+    let e : c.take.new.seat.me.0 ≡ taking v k x = ap (λ z. z.0) c.in-Some.ensures.taken.0 in
+    let last : c.put_back.new.seat.me.0 ≡ letting (taking v k x) k = ap (λ z. z.0) c.put_back.ensures.home ∙ ap (λ (u : View g.row.A.Denot). letting u k) e in
+    full_first v c.put_back.new.seat.me.0 k [] x last (sym c.room.ensures ∙ c.if-room-eq0.true)

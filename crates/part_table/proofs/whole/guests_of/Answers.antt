@@ -1,0 +1,37 @@
+use Rattle.std.proofs.Common.{◌≡◌, ◌+◌, ◌≤◌, ◌∷◌, ◌∙◌, ap, map, vec_len, sym, arith}
+use Rattle.std.specs.Vec.{vec_capacity}
+use Rattle.hypercalls.proofs.Stepping.{some_room}
+use Rattle.page_state.proofs.Common.{eq-same}
+use Rattle.guest_steps.specs.declared.parts.GuestPart.{GuestPart}
+use Rattle.part_table.specs.declared.slot.Slot.{Slot}
+use Rattle.part_table.specs.declared.slot.Slot.TheVariants.{Guest as GuestSlot}
+use Rattle.part_table.proofs.PutTogether.{first_guest, first_out, moved_back, none_left, rest_guests}
+use Rattle.part_table.proofs.whole.guests_of.Goals as goal
+
+pub remove-requires : goal.remove-requires
+remove-requires g c = some_room (vec_len c.loop-found.found) (sym c.is_empty.ensures ∙ c.loop-found-test.true)
+
+pub unreachable-requires : goal.unreachable-requires
+unreachable-requires g c =
+    let some = some_room (vec_len c.loop-found.found) (sym c.is_empty.ensures ∙ c.loop-found-test.true) in
+    let front = first_out {P = Slot g.row.A.Denot} c.loop-found.found.items c.remove.new.self.items c.remove.result (omega (arith, some, c.loop-found.found.ok.0)) c.remove.ensures.value c.remove.ensures.items in
+    first_guest c.loop-found.found.items c.remove.new.self.items c.remove.result c.loop-found.invariant.kinds front c.in_default.not-Guest
+
+pub loop-found-preserved : goal.loop-found-preserved
+loop-found-preserved g c =
+    let i = c.loop-found.invariant in
+    let some = some_room (vec_len c.loop-found.found) (sym c.is_empty.ensures ∙ c.loop-found-test.true) in
+    let front = first_out {P = Slot g.row.A.Denot} c.loop-found.found.items c.remove.new.self.items c.remove.result (omega (arith, some, c.loop-found.found.ok.0)) c.remove.ensures.value c.remove.ensures.items in
+    let is = front ∙ ap (λ (x : Slot g.row.A.Denot). x ∷ c.remove.new.self.items) c.in-Guest.is in
+    let more = moved_back {P = GuestPart g.row.A.Denot} {Q = Slot g.row.A.Denot} (λ h. GuestSlot h) c.loop-found.guests.items c.push.new.self.items c.loop-found.found.items c.remove.new.self.items c.in-Guest.guest is c.in-Ok.ensures.items in
+    let a : vec_len c.push.new.self ≡ vec_len c.loop-found.guests + 1 = c.in-Ok.ensures.len in
+    let b = c.remove.ensures.len in
+    let d : vec_capacity c.loop-found.guests ≤ vec_capacity c.push.new.self = c.in-Ok.ensures.capacity in
+    let room = i.room in
+    record { all = more ∙ i.all; kinds = rest_guests c.loop-found.found.items c.remove.new.self.items c.in-Guest.guest i.kinds is; room = omega (arith, a, b, d, room) }
+
+pub returns : goal.returns
+returns g c =
+    let none : vec_len c.loop-found.found ≡ 0 = eq-same (vec_len c.loop-found.found) 0 (sym c.is_empty.ensures ∙ c.loop-found-test.false) in
+    let left = none_left {P = Slot g.row.A.Denot} (map (λ (h : GuestPart g.row.A.Denot). GuestSlot h) c.loop-found.guests.items) c.loop-found.found.items (omega (arith, none, c.loop-found.found.ok.0)) in
+    sym c.loop-found.invariant.all ∙ left

@@ -1,0 +1,58 @@
+-- What one call does to the parts that it uses and to its CPU's own state, whatever else stands beside them.
+use Rattle.std.specs.Prelude.{◌≡◌, ◌≢◌, ℕ, ◌+◌, false, true, cond, eqb, length, List, Option, Some, None}
+use Rattle.page_state.specs.declared.reply.Call.{Call}
+use Rattle.page_state.specs.declared.step.Step.{Step}
+use Rattle.page_state.specs.Layouts.{Layout}
+use Rattle.reference_model.specs.Boot.{CanBoot}
+use Rattle.reference_model.specs.History.{IsStored, calls_on, calls_by}
+use Rattle.reference_model.specs.Parts.{guest_slot}
+use Rattle.reference_model.specs.Run.{IsRun}
+use Rattle.reference_model.specs.State.{Reference}
+use Rattle.reference_model.specs.Step.{Steps}
+use Rattle.guest_steps.specs.declared.parts.CpuState.{CpuState}
+use Rattle.guest_steps.specs.Lent.{with_call}
+use Rattle.guest_steps.specs.View.{cpu_of}
+use Rattle.part_table.specs.Parts.{part_of, uses, log_of, IsPart, IsOwn}
+use Rattle.part_table.specs.declared.slot.Slot.{Slot}
+
+module _ {A : Type 0} where
+  -- no part
+  abbrev pub none_at : ℕ → Option (Slot A)
+  none_at j = None
+
+  -- the part k alone
+  abbrev pub only_at : ℕ → Slot A → ℕ → Option (Slot A)
+  only_at k x j = cond (eqb j k) (Some x) None
+
+  -- the parts k and i
+  abbrev pub both_at : ℕ → Slot A → ℕ → Slot A → ℕ → Option (Slot A)
+  both_at k x i y j = cond (eqb j k) (Some x) (cond (eqb j i) (Some y) None)
+
+  -- some run leaves a state in which these parts and the CPU's own state stand, with their logs: what a step may rely on
+  pub record IsLeft (l : Layout) (cpu : ℕ) (owned : CpuState) (lent : ℕ → Option (Slot A)) : Type 0 where
+    pub ready : CanBoot l
+    pub log : List Call
+    pub state : Reference
+    pub run : IsRun l log state
+    pub own : IsOwn l state cpu owned
+    pub mine : owned.log.calls ≡ calls_by cpu log
+    pub parts : (k : ℕ) (x : Slot A) → lent k ≡ Some x → IsPart l state k x
+    pub logs : (k : ℕ) (x : Slot A) → lent k ≡ Some x → (log_of x).calls ≡ calls_on (part_of k) log
+
+  -- The call is the reference step on the parts that it uses and on its CPU's own state, in each state in which these stand: nothing else of the state changes. It is stored in the log of each part that it uses, and in its CPU's
+  pub record Does (l : Layout) (c : Call) (before : ℕ → Option (Slot A)) (own : CpuState) (after : ℕ → Option (Slot A)) (owned : CpuState) : Type 0 where
+    pub stored : IsStored c.reply
+    pub mine : owned.log ≡ with_call c own.log
+    pub used : (k : ℕ) → uses c k ≡ true → (x : Slot A) × (y : Slot A) × (before k ≡ Some x) × (after k ≡ Some y) × (log_of y ≡ with_call c (log_of x))
+    pub only : (k : ℕ) (y : Slot A) → after k ≡ Some y → uses c k ≡ true
+    pub goes : (s : Reference) → ((k : ℕ) (x : Slot A) → before k ≡ Some x → IsPart l s k x) → IsOwn l s c.cpu own
+        → (t : Reference) × Steps l s c t × ((k : ℕ) (y : Slot A) → after k ≡ Some y → IsPart l t k y) × IsOwn l t c.cpu owned
+        × ((k : ℕ) (x : Slot A) → uses c k ≡ false → IsPart l s k x → IsPart l t k x)
+        × ((j : ℕ) (k : CpuState) → j ≢ c.cpu → IsOwn l s j k → IsOwn l t j k)
+
+-- the call of a step that a CPU makes: its number is one more than its log held
+pub record IsCalled (cpu : ℕ) (own : CpuState) (step : Step) (c : Call) : Type 0 where
+  pub by : c.cpu ≡ cpu
+  pub number : c.number ≡ length own.log.calls + 1
+  pub asked : c.step ≡ step
+  pub slot : c.slot ≡ guest_slot (cpu_of own) step

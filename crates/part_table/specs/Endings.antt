@@ -1,0 +1,43 @@
+-- What a table begins with, and what is left at the end.
+use Rattle.std.specs.Prelude.{◌≡◌, ℕ, ◌<◌, Bool, false, List, [], length, All, Option, Some, slice_get, slice_index_or}
+use mathlib.Core.Option.{some}
+use lib.ListN.{get_elem?}
+use Rattle.page_state.specs.declared.layout.Layout.{Layout as TheLayout}
+use Rattle.page_state.specs.declared.reply.Call.{Call}
+use Rattle.page_state.specs.LayoutView.{layout_of}
+use Rattle.reference_model.specs.Boot.{CanBoot, boot}
+use Rattle.reference_model.specs.History.{IsStored, calls_by, calls_on}
+use Rattle.reference_model.specs.Run.{IsRun}
+use Rattle.reference_model.specs.State.{Reference}
+use Rattle.guest_steps.specs.declared.parts.CpuState.{CpuState}
+use Rattle.part_table.specs.declared.slot.Slot.{Slot}
+use Rattle.part_table.specs.Parts.{parts, part_of, log_of, IsPart, IsOwn}
+
+-- each of 66 places has its part as at boot, with an empty log
+pub record IsRow {A : Type 0} (l : TheLayout) (xs : List (Option (Slot A))) : Type 0 where
+  pub all : length xs ≡ parts
+  pub each : (k : ℕ) → k < parts → (x : Slot A) × (get_elem? xs k ≡ some (Some x)) × IsPart (layout_of l) (boot (layout_of l)) k x × ((log_of x).calls ≡ [])
+
+-- There is one legal history: the 66 parts, by number, and the CPUs' own states, by number, stand at its end, each part's log is the history's part of it, and each CPU's list is its calls of it
+pub record IsEndOf {A : Type 0} (l : TheLayout) (found : List (Slot A)) (cpus : List CpuState) : Type 0 where
+  pub ready : CanBoot (layout_of l)
+  pub log : List Call
+  pub state : Reference
+  pub run : IsRun (layout_of l) log state
+  pub stored : All (λ c. IsStored c.reply) log
+  pub all : length found ≡ parts
+  pub each_part : (k : ℕ) → k < parts → (x : Slot A) × (slice_get found k ≡ Some x) × IsPart (layout_of l) state k x × ((log_of x).calls ≡ calls_on (part_of k) log)
+  pub count : length cpus ≡ l.config.cpus
+  pub each_cpu : (c : ℕ) (e : CpuState) → slice_get cpus c ≡ Some e → (e.log.calls ≡ calls_by c log) × IsOwn (layout_of l) state c e
+
+-- each slot has its part
+abbrev pub AllHome : {A : Type 0} → List (Option (Slot A)) → Type 0
+AllHome {A = A} xs = (k : ℕ) → k < parts → (x : Slot A) × (get_elem? xs k ≡ some (Some x))
+
+-- the first n slots' parts, in order
+abbrev pub Gives : {A : Type 0} → ℕ → List (Option (Slot A)) → List (Slot A) → Type 0
+Gives {A = A} n xs found = (length found ≡ n) × ((k : ℕ) (x : Slot A) → k < n → get_elem? xs k ≡ some (Some x) → slice_get found k ≡ Some x)
+
+-- the first n places are empty
+abbrev pub emptied_to : ℕ → List Bool → Type 0
+emptied_to n fs = (k : ℕ) → k < n → slice_index_or fs k false ≡ false

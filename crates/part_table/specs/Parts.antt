@@ -1,0 +1,80 @@
+-- The 66 parts by number, and how what a slot of the table holds stands in a reference state.
+use Rattle.std.specs.Prelude.{◌≡◌, ℕ, zero, suc, ◌+◌, Bool, List, [], ◌∷◌}
+use Rattle.page_state.specs.declared.reply.Call.{Call}
+use Rattle.page_state.specs.Layouts.{Layout}
+use Rattle.reference_model.specs.Parts.{Part, vm_part, shared_part, guest_part, call_uses}
+use Rattle.reference_model.specs.State.{Reference}
+use Rattle.guest_steps.specs.declared.parts.VmPart.{VmPart}
+use Rattle.guest_steps.specs.declared.parts.SharedPart.{SharedPart}
+use Rattle.guest_steps.specs.declared.parts.GuestPart.{GuestPart}
+use Rattle.guest_steps.specs.declared.parts.CpuState.{CpuState}
+use Rattle.guest_steps.specs.Lent.{SharedSuits, GuestSuits}
+use Rattle.guest_steps.specs.Logs.{StoredCalls, IsOfSize}
+use Rattle.guest_steps.specs.View.{vm_slots, shared_of, guest_held, cpu_of}
+use Rattle.world.specs.declared.uses.Uses.{Uses}
+use Rattle.world.specs.declared.uses.Uses.TheVariants.{Nothing, Vms, Shared, Guest, Both}
+use Rattle.part_table.specs.declared.slot.Slot.{Slot}
+use Rattle.part_table.specs.declared.slot.Slot.TheVariants.{Vm as VmSlot, Shared as SharedSlot, Guest as GuestSlot}
+
+-- the number of parts: the VM part, the Shared part and 64 guests
+abbrev pub parts : ℕ
+parts = 66
+
+-- the part of a number: 0 is the VM part, 1 the Shared part, 2 + v the guest of slot v
+abbrev pub part_of : ℕ → Part
+part_of zero = vm_part
+part_of (suc zero) = shared_part
+part_of (suc (suc v)) = guest_part v
+
+-- whether a call used the part
+abbrev pub uses : Call → ℕ → Bool
+uses c k = call_uses (part_of k) c
+
+-- the parts of a step by number, in the order in which they are taken
+abbrev pub in_order : Uses → List ℕ
+in_order Nothing = []
+in_order Vms = 0 ∷ []
+in_order Shared = 1 ∷ []
+in_order (Guest v) = (v + 2) ∷ []
+in_order (Both v) = 1 ∷ (v + 2) ∷ []
+
+module _ {A : Type 0} where
+  -- the log of a part
+  abbrev pub log_of : Slot A → StoredCalls
+  log_of (VmSlot p) = p.log
+  log_of (SharedSlot p) = p.log
+  log_of (GuestSlot p) = p.log
+
+module _ (l : Layout) (s : Reference) where
+  -- the VM part stands in a state: what it holds and its log's room are the state's
+  pub record IsVms (p : VmPart) : Type 0 where
+    pub content : vm_slots p ≡ s.contents.vms
+    pub room : p.log.room ≡ s.rooms.vms
+    pub size : IsOfSize l.config.log p.log
+
+  -- the Shared part stands in a state, and is of the layout
+  pub record IsShared {A : Type 0} (p : SharedPart A) : Type 0 where
+    pub content : shared_of p ≡ s.contents.shared
+    pub room : p.log.room ≡ s.rooms.shared
+    pub suits : SharedSuits l p
+
+  -- the Guest part of a slot stands in a state, and is of the layout
+  pub record IsGuest {A : Type 0} (v : ℕ) (p : GuestPart A) : Type 0 where
+    pub content : guest_held p ≡ s.contents.guest v
+    pub room : p.log.room ≡ s.rooms.guest v
+    pub suits : GuestSuits l p
+
+  -- the part of a number stands in a state: it is of its kind, and holds what the state has there
+  abbrev pub IsPart : {A : Type 0} → ℕ → Slot A → Type 0
+  IsPart zero (VmSlot p) = IsVms p
+  IsPart zero other = ⊥
+  IsPart (suc zero) (SharedSlot p) = IsShared p
+  IsPart (suc zero) other = ⊥
+  IsPart (suc (suc v)) (GuestSlot p) = IsGuest v p
+  IsPart (suc (suc v)) other = ⊥
+
+  -- a CPU's own state stands in a state
+  pub record IsOwn (cpu : ℕ) (own : CpuState) : Type 0 where
+    pub content : cpu_of own ≡ s.contents.cpu cpu
+    pub room : own.log.room ≡ s.rooms.cpu cpu
+    pub size : IsOfSize l.config.log own.log

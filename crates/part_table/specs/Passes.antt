@@ -1,0 +1,54 @@
+-- What contracts see of a CPU's pass.
+use Rattle.std.specs.Prelude.{◌≡◌, ℕ, zero, suc, ◌<◌, ◌≤◌, true, length, List, [], ◌∷◌, filter, Option, Some, is_some, slice_get}
+use Rattle.atomic_table.specs.Seated.{TableId}
+use Rattle.page_state.specs.declared.layout.Layout.{Layout as TheLayout}
+use Rattle.part_table.specs.Parts.{parts}
+use Rattle.part_table.specs.Rule.{Hands, Known, Seated, held_at, own_at_boot}
+
+-- the table that it is of, what it knows, and the numbers of the parts that it holds
+pub record Pass : Type 0 where
+  pub table : TableId
+  pub knows : Known
+  pub holds : List ℕ
+
+abbrev pub numbers_below : ℕ → List ℕ
+numbers_below zero = []
+numbers_below (suc n) = n ∷ numbers_below n
+
+-- the numbers of the parts that are held
+unfoldable pub numbers_held : {A : Type 0} → Hands A → List ℕ
+numbers_held h = filter (λ k. is_some (held_at h k)) (numbers_below parts)
+
+-- a pass of a CPU before its first call
+abbrev pub first_pass : TableId → TheLayout → ℕ → Pass
+first_pass table l cpu = record { table = table; knows = record { layout = l; cpu = cpu; own = own_at_boot l; seen = []; tries = [] }; holds = [] }
+
+-- a table of parts: which it is, and its layout
+pub record Opened : Type 0 where
+  pub table : TableId
+  pub layout : TheLayout
+
+-- each of the first n CPUs has its pass at its place, before its first call
+abbrev pub AreFirst : Opened → ℕ → List (Option Pass) → Type 0
+AreFirst t n passes = (length passes ≡ n) × ((c : ℕ) → c < n → slice_get passes c ≡ Some (Some (first_pass t.table t.layout c)))
+
+-- the pass is of this table
+pub record IsPassOf (t : Opened) (p : Pass) : Type 0 where
+  pub table : p.table ≡ t.table
+  pub layout : p.knows.layout ≡ t.layout
+
+-- a pass of the table for each CPU from c on, below n, is at its place
+abbrev pub AreHomeFrom : TableId → ℕ → ℕ → List (Option Pass) → Type 0
+AreHomeFrom table n c passes = (j : ℕ) → c ≤ j → j < n → (p : Pass) × (slice_get passes j ≡ Some (Some p)) × (p.table ≡ table) × (p.knows.cpu ≡ j)
+
+-- the root's seat of an open table
+pub record IsReady {A : Type 0} (table : TableId) (key : TheLayout) (root_table : TableId) (root : ℕ) (me : Seated A) (layout : TheLayout) : Type 0 where
+  pub words : table.words ≡ parts
+  pub slots : table.slots ≡ parts
+  pub key_is : key ≡ layout
+  pub same : root_table ≡ table
+  pub first : root ≡ 0
+  pub empty : me.1 ≡ []
+  pub rooted : me.0.root ≡ true
+  pub made : me.0.made ≡ layout.config.cpus
+  pub none : me.0.ended ≡ []

@@ -1,0 +1,227 @@
+-- What holds of the table between any two steps: there is one legal history.
+use Rattle.std.specs.Prelude.{◌≡◌, ◌≢◌, ℕ, ◌+◌, ◌<◌, ◌≤◌, true, false, cond, eqb, List, [], ◌∷◌, ◌++◌, length, slice_index, All, Option, Some, None}
+use Rattle.std.proofs.Common.{refl}
+use mathlib.Core.Option.{some}
+use lib.ListN.{get_elem?}
+use Rattle.atomic_table.specs.Table.{State, Me, Step}
+use Rattle.page_state.specs.declared.layout.Layout.{Layout as TheLayout}
+use Rattle.page_state.specs.declared.layout.Geometry.TheVariants.{Bits39}
+use Rattle.page_state.specs.declared.reply.Call.{Call}
+use Rattle.page_state.specs.declared.reply.Reply.TheVariants.{Done}
+use Rattle.page_state.specs.declared.reply.Value.TheVariants.{Nothing}
+use Rattle.page_state.specs.declared.step.Step.TheVariants.{Unfund}
+use Rattle.page_state.specs.LayoutView.{layout_of}
+use Rattle.reference_model.specs.Boot.{CanBoot}
+use Rattle.reference_model.specs.History.{IsStored, calls_on, calls_by}
+use Rattle.reference_model.specs.Run.{IsRun}
+use Rattle.reference_model.specs.State.{Reference}
+use Rattle.guest_steps.specs.declared.parts.CpuState.{CpuState}
+use Rattle.guest_steps.specs.Lent.{with_call}
+use Rattle.guest_steps.specs.Logs.{StoredCalls}
+use Rattle.part_table.specs.declared.rule.View.{View}
+use Rattle.part_table.specs.declared.slot.Slot.{Slot}
+use Rattle.part_table.specs.Parts.{parts, part_of, uses, log_of, IsPart, IsOwn}
+use Rattle.part_table.specs.Does.{IsLeft, none_at}
+
+-- a list of pairs as a function: the first pair of a number counts
+abbrev pub at : {X : Type 0} → List (ℕ × X) → X → ℕ → X
+at [] d k = d
+at (e ∷ es) d k = cond (eqb k e.0) e.1 (at es d k)
+
+-- parts by number; none: no longer held
+abbrev pub Hands : Type 0 → Type 0
+Hands A = List (ℕ × Option (Slot A))
+
+-- the part of a number that is held
+abbrev pub held_at : {A : Type 0} → Hands A → ℕ → Option (Slot A)
+held_at h k = at h None k
+
+-- what has been seen of the log of a part
+abbrev pub seen_at : List (ℕ × List Call) → ℕ → List Call
+seen_at seen k = at seen [] k
+
+-- What a pass knows while it holds no part: the layout, its CPU's number and own state with its log, what it has seen of each part's log, and each part that it tried, with its log as it was taken, or none where another pass had it
+pub record Known : Type 0 where
+  pub layout : TheLayout
+  pub cpu : ℕ
+  pub own : CpuState
+  pub seen : List (ℕ × List Call)
+  pub tries : List (ℕ × Option StoredCalls)
+
+abbrev pub known_of : {A : Type 0} → View A → Known
+known_of v = record { layout = v.layout; cpu = v.cpu; own = v.own; seen = v.seen; tries = v.tries }
+
+abbrev pub StartsWith : List Call → List Call → Type 0
+StartsWith xs ys = (rest : List Call) × (xs ≡ ys ++ rest)
+
+-- a CPU's own state before its first call
+abbrev pub own_at_boot : TheLayout → CpuState
+own_at_boot l = record { loaded = None; hand = None; ticket = None; log = record { calls = []; room = l.config.log } }
+
+module _ {A : Type 0} (key : TheLayout) (ws : List ℕ) (holder : ℕ → ℕ) (log : List Call) (state : Reference) where
+  -- the part is as after the history, and its log is the history's part of it
+  abbrev pub StandsAfter : ℕ → Slot A → Type 0
+  StandsAfter k x = IsPart (layout_of key) state k x × ((log_of x).calls ≡ calls_on (part_of k) log)
+
+  -- what the view of a seat knows. The seat of a CPU is the next after those of the CPUs before it and the root's
+  pub record Knows (j : ℕ) (v : View A) : Type 0 where
+    pub layout : v.on ≡ true → v.layout ≡ key
+    pub known : v.on ≡ true → v.cpu < key.config.cpus
+    pub seat : v.on ≡ true → v.cpu + 1 ≡ j
+    pub mine : v.on ≡ true → v.own.log.calls ≡ calls_by v.cpu log
+    pub own : v.on ≡ true → IsOwn (layout_of key) state v.cpu v.own
+    pub seen : v.on ≡ true → (k : ℕ) → StartsWith (calls_on (part_of k) log) (seen_at v.seen k)
+    pub held : (k : ℕ) (x : Slot A) → held_at v.held k ≡ Some x → (v.on ≡ true) × (k < parts) × (slice_index ws k ≢ 0) × (holder k ≡ j) × StandsAfter k x
+
+-- what the root knows: how many CPUs have a seat, of the first ones, which have ended, their states, and that the others are as at boot
+pub record Rooted {A : Type 0} (key : TheLayout) (views : List (View A)) (log : List Call) (state : Reference) (v : View A) : Type 0 where
+  pub off : v.on ≡ false
+  pub layout : v.layout ≡ key
+  pub count : length views ≡ v.made + 1
+  pub fresh : (c : ℕ) → v.made ≤ c → (calls_by c log ≡ []) × IsOwn (layout_of key) state c (own_at_boot key)
+  pub few : length v.ended ≤ v.made
+  pub ended : (c : ℕ) (e : CpuState) → get_elem? v.ended c ≡ some e → (e.log.calls ≡ calls_by c log) × IsOwn (layout_of key) state c e × ((u : View A) → get_elem? views (c + 1) ≡ some u → u.on ≡ false)
+
+-- The rule: a word says whether its part is taken, a taken part is held by just one seat, and there is a legal history at whose end all parts and all CPUs' own states stand. What a pass has seen of a part begins its log
+pub record IsLawful {A : Type 0} (key : TheLayout) (s : State (Option (Slot A)) (View A)) : Type 0 where
+  pub ready : CanBoot (layout_of key)
+  pub log : List Call
+  pub state : Reference
+  pub holder : ℕ → ℕ
+  pub run : IsRun (layout_of key) log state
+  pub stored : All (λ c. IsStored c.reply) log
+  pub wide : length s.words ≡ parts
+  pub deep : length s.homes ≡ parts
+  pub at_home : (k : ℕ) → k < parts → slice_index s.words k ≡ 0 → (x : Slot A) × (get_elem? s.homes k ≡ some (some (Some x))) × StandsAfter key s.words holder log state k x
+  pub taken : (k : ℕ) → k < parts → slice_index s.words k ≢ 0 → (v : View A) × (x : Slot A) × (get_elem? s.views (holder k) ≡ some v) × (held_at v.held k ≡ Some x)
+  pub each_seat : (j : ℕ) (v : View A) → get_elem? s.views j ≡ some v → Knows key s.words holder log state j v
+  pub root : (v : View A) → get_elem? s.views 0 ≡ some v → v.root ≡ true → Rooted key s.views log state v
+
+abbrev pub no_layout : TheLayout
+no_layout = record { map = record { regions = []; carve = record { first = record { 0 = 0 }; count = 0 } }; config = record { cpus = 0; log = 0; geometry = 39 }; geometry = Bits39; known = refl }
+
+abbrev pub no_own : CpuState
+no_own = own_at_boot no_layout
+
+abbrev pub no_call : Call
+no_call = record { cpu = 0; number = 0; step = Unfund; reply = Done Nothing; slot = None }
+
+-- the view of a seat of nobody
+abbrev pub nobody : {A : Type 0} → View A
+nobody = record { on = false; layout = no_layout; cpu = 0; own = no_own; seen = []; held = []; tries = []; root = false; made = 0; ended = [] }
+
+-- the root's view, before a CPU has a seat
+abbrev pub rooted : {A : Type 0} → TheLayout → View A
+rooted key = record nobody { layout = key; root = true }
+
+abbrev pub one_more : {A : Type 0} → View A → View A
+one_more v = record v { made = v.made + 1 }
+
+-- the view of the next CPU
+abbrev pub newcomer : {A : Type 0} → View A → View A
+newcomer v = record nobody { on = true; layout = v.layout; cpu = v.made; own = own_at_boot v.layout }
+
+-- the root has taken in the view of a CPU that ends
+abbrev pub with_end : {A : Type 0} → View A → View A → View A
+with_end v w = record v { ended = v.ended ++ w.own ∷ [] }
+
+-- the part k is in hand, and it is told with which log it was taken
+abbrev pub taking : {A : Type 0} → View A → ℕ → Slot A → View A
+taking v k x = record v { held = (k, Some x) ∷ v.held; tries = v.tries ++ (k, Some (log_of x)) ∷ [] }
+
+-- the part k was found taken
+abbrev pub missing : {A : Type 0} → View A → ℕ → View A
+missing v k = record v { tries = v.tries ++ (k, None) ∷ [] }
+
+-- the part k is out of hand
+abbrev pub letting : {A : Type 0} → View A → ℕ → View A
+letting v k = record v { held = (k, None) ∷ v.held }
+
+-- a seat's view, and the slots that it has out
+abbrev pub Seated : Type 0 → Type 0
+Seated A = Me (Option (Slot A)) (View A)
+
+-- what the pass holds, and its CPU's own state, stand where a run ends
+abbrev pub Standing : {A : Type 0} → View A → Type 0
+Standing v = IsLeft (layout_of v.layout) v.cpu v.own (held_at v.held)
+
+-- word found 0: the part is in hand, and its log begins with what was seen. Else it is recorded that it was taken
+abbrev pub took : {A : Type 0} → Step (Option (Slot A)) → Seated A → ℕ → Seated A → Type 0
+took {A = A} st m r n =
+    (r ≡ 0 → (x : Slot A) × (n ≡ (taking m.0 st.word x, (st.word, Some x) ∷ m.1)) × StartsWith (log_of x).calls (seen_at m.0.seen st.word) × Standing n.0)
+    × (r ≢ 0 → n ≡ (missing m.0 st.word, m.1))
+
+abbrev pub tail : {A : Type 0} → Hands A → Hands A
+tail [] = []
+tail (x ∷ xs) = xs
+
+-- a part goes home as it is recorded
+abbrev pub returned : {A : Type 0} → Step (Option (Slot A)) → Seated A → ℕ → Seated A → Type 0
+returned st m r n = n ≡ (letting m.0 st.word, tail m.1)
+
+-- what has been seen of a part is its log as it goes home
+abbrev pub seen_of : {A : Type 0} → Option (Slot A) → List Call → List Call
+seen_of None old = old
+seen_of (Some x) old = (log_of x).calls
+
+abbrev pub seen_with : {A : Type 0} → Hands A → List (ℕ × List Call) → List (ℕ × List Call)
+seen_with [] seen = seen
+seen_with (e ∷ es) seen = (e.0, seen_of e.1 (at seen [] e.0)) ∷ seen_with es seen
+
+-- a call is stored, which leaves the CPU this state, and the part k goes home, as it lies in its slot; others stay in hand, as they lie in theirs
+abbrev pub storing : {A : Type 0} → CpuState → Hands A → View A → ℕ → View A
+storing own after v k = record v { own = own; seen = seen_with after v.seen; held = (k, None) ∷ after }
+
+-- there is a legal history that ends with the call. The pass's own calls are those of its CPU in it, its own state is as after it, and what it has seen of the parts that the call used are the history's parts of them
+pub record Extends (c : Call) (w : Known) : Type 0 where
+  pub ready : CanBoot (layout_of w.layout)
+  pub log : List Call
+  pub state : Reference
+  pub run : IsRun (layout_of w.layout) (log ++ c ∷ []) state
+  pub stored : All (λ d. IsStored d.reply) (log ++ c ∷ [])
+  pub mine : w.own.log.calls ≡ calls_by w.cpu (log ++ c ∷ [])
+  pub own : IsOwn (layout_of w.layout) state w.cpu w.own
+  pub seen : (k : ℕ) → uses c k ≡ true → seen_at w.seen k ≡ calls_on (part_of k) (log ++ c ∷ [])
+
+-- a part goes home with the call stored
+abbrev pub stored : {A : Type 0} → Call → CpuState → Step (Option (Slot A)) → Seated A → ℕ → Seated A → Type 0
+stored c own st m r n = (n ≡ (storing own m.1 m.0 st.word, tail m.1)) × Extends c (known_of n.0)
+
+-- a call that used no part is entered
+abbrev pub entered : {A : Type 0} → Call → CpuState → Step (Option (Slot A)) → Seated A → ℕ → Seated A → Type 0
+entered c own st m r n = (n ≡ (storing own [] m.0 0, m.1)) × Extends c (known_of n.0)
+
+-- the slot that was taken last is that of the part k, and it is empty
+abbrev pub IsInHand : {A : Type 0} → Hands A → ℕ → Type 0
+IsInHand cs k = cs ≡ (k, None) ∷ tail cs
+
+-- the part k lies in the slot that was taken last
+abbrev pub IsLaid : {A : Type 0} → Hands A → ℕ → Type 0
+IsLaid {A = A} cs k = (x : Slot A) × (cs ≡ (k, Some x) ∷ tail cs)
+
+-- it lies there as it is recorded
+abbrev pub IsLaidAsHeld : {A : Type 0} → Seated A → ℕ → Type 0
+IsLaidAsHeld {A = A} m k = (x : Slot A) × (m.1 ≡ (k, Some x) ∷ tail m.1) × (held_at m.0.held k ≡ Some x)
+
+-- a pass at rest holds no part
+abbrev pub IsIdle : {A : Type 0} → View A → Type 0
+IsIdle v = (k : ℕ) → held_at v.held k ≡ None
+
+-- what a call that isn't stored leaves of what a pass knows: all but what was tried
+pub record IsSame (v w : Known) : Type 0 where
+  pub layout : w.layout ≡ v.layout
+  pub cpu : w.cpu ≡ v.cpu
+  pub own : w.own ≡ v.own
+  pub seen : w.seen ≡ v.seen
+
+-- what a stored call leaves of it: the call is added to the pass's own list, and there is a legal history that it ends. What the pass has seen of parts that the call didn't use stays
+pub record Adds (c : Call) (v w : Known) : Type 0 where
+  pub layout : w.layout ≡ v.layout
+  pub cpu : w.cpu ≡ v.cpu
+  pub own : w.own.log ≡ with_call c v.own.log
+  pub others : (k : ℕ) → uses c k ≡ false → seen_at w.seen k ≡ seen_at v.seen k
+  pub history : Extends c w
+
+-- a pass's own state stands where a run ends
+abbrev pub AtRest : {A : Type 0} → View A → Type 0
+AtRest {A = A} v = IsLeft {A = A} (layout_of v.layout) v.cpu v.own none_at

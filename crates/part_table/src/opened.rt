@@ -1,0 +1,278 @@
+//! The table of the 66 parts: it is opened as at boot, gives each CPU its pass, and is closed once all passes are back.
+ghost use Rattle.std.specs.Prelude.{◌≡◌, ◌<◌, ◌≤◌, [], true, length, All, IfOk};
+ghost use Rattle.std.specs.Vec.{vec_capacity, vec_len};
+ghost use Rattle.std.specs.Slots.{slots_items, slots_filled, slots_len, IsFull};
+ghost use Rattle.page_state.specs.LayoutView.{layout_of};
+ghost use Rattle.reference_model.specs.Boot.{CanBoot};
+ghost use Rattle.part_table.specs.Endings.{AllHome, Gives, IsEndOf, IsRow, emptied_to};
+ghost use Rattle.part_table.specs.Parts.{parts};
+ghost use Rattle.part_table.specs.Passes.{AreFirst, AreHomeFrom, first_pass};
+ghost use Rattle.part_table.specs.Rule.{one_more, own_at_boot, rooted};
+
+use crate::bench::Bench;
+use crate::pass::CpuPass;
+use crate::rule::Root;
+use crate::slot::Slot;
+use crate::table::{Place, Shelf};
+use crate::tries::Gate;
+use atomic_table::{Closed, Table};
+use guest_steps::CpuState;
+use page_state::{Layout, Reply, Step};
+use std::alloc::{AllocError, Allocator, Global};
+use std::marker::Model;
+
+/// The parts of a world under one table of words. Contracts see which table it is, and its layout.
+#[derive(Drop)]
+pub struct PartTable<A: Allocator> {
+    shelf: Shelf<A>,
+    root: Place<A>,
+    alloc: A,
+    layout: Layout,
+}
+
+impl<A: Allocator> Model for PartTable<A> {
+    ghost use Rattle.part_table.specs.Passes.{IsReady, Opened};
+
+    ghost Value = { Opened };
+
+    ghost view = { λ t. record { table = t.shelf.shared.table_id; layout = t.layout } };
+
+    ghost invariant = { λ t. IsReady t.shelf.shared.table_id t.shelf.shared.key t.root.table_id t.root.id t.root.me t.layout };
+}
+
+/// The words and slots of the table.
+fn new_shelf<A: Allocator>(
+    global: Global,
+    layout: &Layout,
+    slots: Vec<Option<Slot<A>>>,
+) -> Result<(Shelf<A>, Place<A>), AllocError>
+    requires row { IsRow layout.now slots.items }
+    requires ready { CanBoot (layout_of layout.now) }
+    ensures table { IfOk result (λ t. (t.0.shared.table_id.words ≡ parts) × (t.0.shared.table_id.slots ≡ parts) × (t.0.shared.key ≡ layout.now)) }
+    ensures root { IfOk result (λ t. (t.1.table_id ≡ t.0.shared.table_id) × (t.1.id ≡ 0) × (t.1.me ≡ (rooted layout.now, []))) }
+{
+    let words = [0u64; 66];
+    match Table::new(global, &words, slots, layout) {
+        Ok(made) => Ok(made),
+        Err(_) => Err(AllocError),
+    }
+}
+
+/// A bench for each of so many passes.
+fn new_benches<A: Allocator>(global: Global, count: usize) -> Result<Vec<Bench<A>>, AllocError>
+    ensures { IfOk result (λ v. vec_len v ≡ count) }
+{
+    let mut benches = Vec::with_capacity(global, count)?;
+    for i in 0..count {
+        let _ = i;
+        let bench = Bench::new(global)?;
+        benches.push(bench).unwrap();
+    }
+    Ok(benches)
+}
+
+/// The pass of the next CPU.
+fn new_pass<A: Allocator>(
+    shelf: &Shelf<A>,
+    root: &mut Place<A>,
+    id: u64,
+    own: CpuState,
+    bench: Bench<A>,
+) -> CpuPass<A>
+    requires table { (root.old.table_id ≡ shelf.now.shared.table_id) × (shelf.now.shared.table_id.words ≡ parts) }
+    requires root { (root.old.id ≡ 0) × (root.old.me.0.root ≡ true) × (root.old.me.0.made ≡ id) × (root.old.me.0.layout ≡ shelf.now.shared.key) }
+    requires known { id < shelf.now.shared.key.config.cpus }
+    requires ready { CanBoot (layout_of shelf.now.shared.key) }
+    requires own { own ≡ own_at_boot shelf.now.shared.key }
+    ensures root { (root.new.table_id ≡ root.old.table_id) × (root.new.id ≡ 0) × (root.new.me ≡ (one_more root.old.me.0, root.old.me.1)) }
+    ensures pass { result ≡ first_pass root.old.table_id shelf.now.shared.key id }
+{
+    let seat = shelf.shared.split_seat::<Root>(root);
+    CpuPass {
+        seat,
+        id,
+        own,
+        bench,
+    }
+}
+
+/// A pass for each CPU, by number.
+fn new_passes<A: Allocator>(
+    shelf: &Shelf<A>,
+    root: &mut Place<A>,
+    mut owns: Vec<CpuState>,
+    mut benches: Vec<Bench<A>>,
+    mut passes: Vec<Option<CpuPass<A>>>,
+) -> Vec<Option<CpuPass<A>>>
+    requires table { (root.old.table_id ≡ shelf.now.shared.table_id) × (shelf.now.shared.table_id.words ≡ parts) }
+    requires root { (root.old.id ≡ 0) × (root.old.me ≡ (rooted shelf.now.shared.key, [])) }
+    requires ready { CanBoot (layout_of shelf.now.shared.key) }
+    requires count { (vec_len owns ≡ shelf.now.shared.key.config.cpus) × (vec_len benches ≡ vec_len owns) }
+    requires owns { All (λ k. k ≡ own_at_boot shelf.now.shared.key) owns.items }
+    requires room { (passes.items ≡ []) × (vec_len owns ≤ vec_capacity passes) }
+    ensures root { (root.new.table_id ≡ root.old.table_id) × (root.new.id ≡ 0) × (root.new.me ≡ (record (rooted shelf.now.shared.key) { made = shelf.now.shared.key.config.cpus }, [])) }
+    ensures passes { AreFirst (record { table = root.old.table_id; layout = shelf.now.shared.key }) (vec_len owns) result.items }
+{
+    let count = owns.len();
+    for cpu in 0..count {
+        let own = owns.pop().unwrap();
+        let bench = benches.pop().unwrap();
+        let pass = new_pass(shelf, root, cpu as u64, own, bench);
+        passes.push(Some(pass)).unwrap();
+    }
+    passes
+}
+
+impl<A: Allocator> PartTable<A> {
+    /// A table of parts that are as at boot, and the passes of all CPUs, by number. It asks for the CPUs' own states, as at
+    /// boot. `alloc` is where the tables of all trees lie.
+    pub fn open(
+        global: Global,
+        alloc: A,
+        layout: Layout,
+        slots: Vec<Option<Slot<A>>>,
+        owns: Vec<CpuState>,
+    ) -> Result<(PartTable<A>, Vec<Option<CpuPass<A>>>), AllocError>
+        requires row { IsRow layout slots.items }
+        requires ready { CanBoot (layout_of layout) }
+        requires owns { (vec_len owns ≡ layout.config.cpus) × All (λ k. k ≡ own_at_boot layout) owns.items }
+        ensures layout { IfOk result (λ t. t.0.layout ≡ layout) }
+        ensures passes { IfOk result (λ t. AreFirst t.0 layout.config.cpus t.1.items) }
+    {
+        let benches = new_benches(global, owns.len())?;
+        let passes = Vec::with_capacity(global, owns.len())?;
+        let (shelf, mut root) = new_shelf(global, &layout, slots)?;
+        let passes = new_passes(&shelf, &mut root, owns, benches, passes);
+        let table = PartTable {
+            shelf,
+            root,
+            alloc,
+            layout,
+        };
+        Ok((table, passes))
+    }
+
+    /// The parts, by number, and the CPUs' own states, at the end of the one legal history. It asks for the passes of all
+    /// CPUs, by number, and for room in both lists, which it fills.
+    pub fn close(
+        self,
+        passes: Vec<Option<CpuPass<A>>>,
+        found: Vec<Slot<A>>,
+        cpus: Vec<CpuState>,
+    ) -> (A, Layout, Vec<Slot<A>>, Vec<CpuState>)
+        requires count { vec_len passes ≡ self.layout.config.cpus }
+        requires home { AreHomeFrom self.table (vec_len passes) 0 passes.items }
+        requires room { (cpus.items ≡ []) × (vec_len passes ≤ vec_capacity cpus) × (found.items ≡ []) × (parts ≤ vec_capacity found) }
+        ensures layout { result.1 ≡ self.layout }
+        ensures end { IsEndOf self.layout result.2.items result.3.items }
+    {
+        let PartTable {
+            shelf,
+            root,
+            alloc,
+            layout,
+        } = self;
+        let (found, cpus) = end(shelf, root, passes, found, cpus);
+        (alloc, layout, found, cpus)
+    }
+}
+
+impl<A: Allocator + Copy> PartTable<A> {
+    ghost use Rattle.std.specs.Prelude.{◌≡◌, []};
+    ghost use Rattle.page_state.specs.declared.reply.Refusal.TheVariants.{Contended, LogFull};
+    ghost use Rattle.page_state.specs.declared.reply.Reply.TheVariants.{Refused};
+    ghost use Rattle.reference_model.specs.History.{IsStored};
+    ghost use Rattle.part_table.specs.Answered.{FindsAway, FindsLogFull, StoresCall};
+    ghost use Rattle.part_table.specs.Passes.{IsPassOf};
+
+    /// One try of a step, which waits for nobody. `taken` of the gate is called in it, and `answered` isn't.
+    pub fn try_step<G: Gate>(&self, gate: &G, pass: &mut CpuPass<A>, step: Step) -> Reply
+        requires pass { IsPassOf self.now pass.old }
+        ensures pass { IsPassOf self.now pass.new }
+        ensures cpu { pass.new.knows.cpu ≡ pass.old.knows.cpu }
+        ensures rest { pass.new.holds ≡ [] }
+        ensures stored { IsStored result → StoresCall step result pass.old.knows pass.new.knows }
+        ensures contended { result ≡ Refused Contended → FindsAway step pass.old.knows pass.new.knows }
+        ensures log_full { result ≡ Refused LogFull → FindsLogFull step pass.old.knows pass.new.knows }
+    {
+        let _ = &self.root;
+        pass.try_step(gate, &self.shelf, self.alloc, &self.layout, step)
+    }
+}
+
+/// All passes are joined, in the order of their CPUs.
+fn join_all<A: Allocator>(
+    shelf: &Shelf<A>,
+    root: &mut Place<A>,
+    mut passes: Vec<Option<CpuPass<A>>>,
+    mut cpus: Vec<CpuState>,
+) -> Vec<CpuState>
+    requires table { (root.old.table_id ≡ shelf.now.shared.table_id) × (shelf.now.shared.table_id.words ≡ parts) }
+    requires root { (root.old.id ≡ 0) × (root.old.me.0.root ≡ true) × (root.old.me.0.ended ≡ []) × (root.old.me.0.made ≡ vec_len passes) × (root.old.me.1 ≡ []) }
+    requires home { AreHomeFrom root.old.table_id (vec_len passes) 0 passes.items }
+    requires room { (cpus.items ≡ []) × (vec_len passes ≤ vec_capacity cpus) }
+    ensures root { (root.new.table_id ≡ root.old.table_id) × (root.new.id ≡ 0) × (root.new.me.0.root ≡ true) × (root.new.me.0.made ≡ root.old.me.0.made) }
+    ensures ended { (root.new.me.0.ended ≡ result.items) × (length result.items ≡ root.old.me.0.made) }
+{
+    let count = passes.len();
+    for cpu in 0..count {
+        let Some(pass) = passes[cpu].take() else {
+            unreachable!()
+        };
+        let CpuPass {
+            seat,
+            id: _,
+            own,
+            bench: _bench,
+        } = pass;
+        shelf.shared.join_seat::<Root>(root, seat);
+        let Ok(()) = cpus.push(own) else {
+            unreachable!()
+        };
+    }
+    cpus
+}
+
+/// The part of each slot, in order.
+fn collect<A: Allocator>(
+    closed: &mut Closed<Option<Slot<A>>, Global>,
+    mut found: Vec<Slot<A>>,
+) -> Vec<Slot<A>>
+    requires full { IsFull closed.old.slots × (slots_len closed.old.slots ≡ parts) }
+    requires home { AllHome (slots_items closed.old.slots) }
+    requires room { (found.items ≡ []) × (parts ≤ vec_capacity found) }
+    ensures gives { Gives parts (slots_items closed.old.slots) result.items }
+    ensures emptied { (slots_len closed.new.slots ≡ parts) × emptied_to parts (slots_filled closed.new.slots) }
+{
+    for k in 0..66usize {
+        let Some(part) = closed.take(k) else {
+            unreachable!()
+        };
+        let Ok(()) = found.push(part) else {
+            unreachable!()
+        };
+    }
+    found
+}
+
+/// Joins all passes, and closes the table.
+fn end<A: Allocator>(
+    shelf: Shelf<A>,
+    mut root: Place<A>,
+    passes: Vec<Option<CpuPass<A>>>,
+    found: Vec<Slot<A>>,
+    cpus: Vec<CpuState>,
+) -> (Vec<Slot<A>>, Vec<CpuState>)
+    requires table { (root.table_id ≡ shelf.shared.table_id) × (shelf.shared.table_id.words ≡ parts) × (shelf.shared.table_id.slots ≡ parts) }
+    requires root { (root.id ≡ 0) × (root.me.0.root ≡ true) × (root.me.0.ended ≡ []) × (root.me.0.made ≡ vec_len passes) × (root.me.1 ≡ []) }
+    requires all { vec_len passes ≡ shelf.shared.key.config.cpus }
+    requires home { AreHomeFrom root.table_id (vec_len passes) 0 passes.items }
+    requires room { (cpus.items ≡ []) × (vec_len passes ≤ vec_capacity cpus) × (found.items ≡ []) × (parts ≤ vec_capacity found) }
+    ensures { IsEndOf shelf.shared.key result.0.items result.1.items }
+{
+    let cpus = join_all(&shelf, &mut root, passes, cpus);
+    let mut closed = shelf.close_with(root);
+    let found = collect(&mut closed, found);
+    closed.free();
+    (found, cpus)
+}

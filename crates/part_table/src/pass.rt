@@ -1,0 +1,81 @@
+//! What a CPU carries.
+ghost use Rattle.std.specs.Prelude.{◌≡◌, ◌+◌, [], length};
+ghost use Rattle.page_state.specs.declared.reply.Reply.TheVariants.{Refused};
+ghost use Rattle.page_state.specs.declared.reply.Refusal.TheVariants.{Contended, LogFull};
+ghost use Rattle.reference_model.specs.History.{IsStored};
+ghost use Rattle.part_table.specs.Answered.{Answers, FindsAway, FindsLogFull, StoresCall};
+ghost use Rattle.part_table.specs.Parts.{parts};
+
+use crate::bench::Bench;
+use crate::table::{Place, Shelf};
+use crate::tries::{Gate, any};
+use guest_steps::CpuState;
+use page_state::{Layout, Refusal, Reply, Step};
+use std::alloc::Allocator;
+use std::marker::Model;
+
+/// A CPU's pass: its own state, and the right to take parts. Contracts see the table that it is of, and what it knows.
+#[derive(Drop)]
+pub struct CpuPass<A: Allocator> {
+    pub(crate) seat: Place<A>,
+    pub(crate) id: u64,
+    pub(crate) own: CpuState,
+    pub(crate) bench: Bench<A>,
+}
+
+impl<A: Allocator> Model for CpuPass<A> {
+    ghost use Rattle.std.specs.Prelude.{◌≡◌, ◌<◌, true, []};
+    ghost use Rattle.part_table.specs.Passes.{Pass, numbers_held};
+    ghost use Rattle.part_table.specs.Rule.{AtRest, IsIdle, known_of};
+
+    ghost Value = { Pass };
+
+    ghost view = { λ p. record { table = p.seat.table_id; knows = known_of p.seat.me.0; holds = numbers_held p.seat.me.0.held } };
+
+    ghost invariant = { λ p. (p.seat.me.1 ≡ []) × IsIdle p.seat.me.0 × (p.seat.me.0.on ≡ true) × (p.seat.me.0.cpu ≡ p.id) × (p.seat.me.0.own ≡ p.own) × (p.seat.me.0.cpu < p.seat.me.0.layout.config.cpus) × AtRest p.seat.me.0 };
+}
+
+impl<A: Allocator> CpuPass<A> {
+    /// The CPU's number.
+    pub fn cpu(&self) -> u64
+        ensures { result ≡ self.now.knows.cpu }
+    {
+        let _ = &self.seat;
+        self.id
+    }
+
+    /// The CPU's number of its next call that is stored.
+    pub fn number(&self) -> u64
+        ensures { result ≡ length self.now.knows.own.log.calls + 1 }
+    {
+        let _ = &self.seat;
+        self.own.log.len() as u64 + 1
+    }
+}
+
+impl<A: Allocator + Copy> CpuPass<A> {
+    /// One try of a step.
+    pub(crate) fn try_step<G: Gate>(
+        &mut self,
+        gate: &G,
+        shelf: &Shelf<A>,
+        alloc: A,
+        layout: &Layout,
+        step: Step,
+    ) -> Reply
+        requires table { (self.old.table ≡ shelf.now.shared.table_id) × (shelf.now.shared.table_id.words ≡ parts) }
+        requires layout { self.old.knows.layout ≡ layout.now }
+        ensures table { self.new.table ≡ self.old.table }
+        ensures rest { self.new.holds ≡ [] }
+        ensures answers { Answers step result self.old.knows self.new.knows }
+    {
+        if self.own.log.room() == 0 {
+            return Reply::Refused(Refusal::LogFull);
+        }
+        let id = self.id;
+        let seat = &mut self.seat;
+        let own = &mut self.own;
+        let bench = &mut self.bench;
+        any(gate, shelf, seat, alloc, layout, bench, id, own, step).reply()
+    }
+}

@@ -1,0 +1,143 @@
+//! All parts of a world as the slots of a table, and back.
+ghost use Rattle.std.specs.Prelude.{◌≡◌, ◌+◌, ◌≤◌, [], ◌∷◌, ◌++◌, length, map, Some};
+ghost use Rattle.std.specs.Vec.{vec_capacity, vec_len};
+ghost use Rattle.hypercalls.specs.Stands.{HasHistory};
+ghost use Rattle.part_table.specs.Endings.{IsEndOf};
+ghost use Rattle.part_table.specs.Whole.{AreGuests, AreParts, BootsAtBoot, slots_of};
+
+use crate::bench::{lay, lift};
+use crate::slot::Slot;
+use guest_steps::{CpuState, GuestPart, SharedPart, VmPart};
+use hypercalls::Parts;
+use page_state::Layout;
+use std::alloc::Allocator;
+
+/// Lays guests into slots, in their order.
+fn lay_guests<A: Allocator>(
+    mut slots: Vec<Option<Slot<A>>>,
+    mut guests: Vec<GuestPart<A>>,
+) -> Vec<Option<Slot<A>>>
+    requires room { vec_len slots + vec_len guests ≤ vec_capacity slots }
+    ensures { result.items ≡ slots.items ++ map (λ g. Some (Slot.Guest g)) guests.items }
+{
+    while !guests.is_empty() {
+        let guest = guests.remove(0);
+        let Ok(()) = slots.push(Some(Slot::Guest(guest))) else {
+            unreachable!()
+        };
+    }
+    slots
+}
+
+/// Lays the VM part and the Shared part into slots.
+fn lay_first<A: Allocator>(
+    mut slots: Vec<Option<Slot<A>>>,
+    vm: VmPart,
+    shared: SharedPart<A>,
+) -> Vec<Option<Slot<A>>>
+    requires empty { vec_len slots ≡ 0 }
+    requires room { 2 ≤ vec_capacity slots }
+    ensures items { result.items ≡ Some (Slot.Vm vm) ∷ Some (Slot.Shared shared) ∷ [] }
+    ensures len { vec_len result ≡ 2 }
+    ensures room { vec_capacity slots ≤ vec_capacity result }
+{
+    let Ok(()) = slots.push(Some(Slot::Vm(vm))) else {
+        unreachable!()
+    };
+    let Ok(()) = slots.push(Some(Slot::Shared(shared))) else {
+        unreachable!()
+    };
+    slots
+}
+
+/// The parts by number, each in a slot, and the CPUs' own states. It asks for room in the list of slots, and takes no
+/// memory.
+pub fn apart<A: Allocator>(
+    parts: Parts<A>,
+    slots: Vec<Option<Slot<A>>>,
+) -> (Layout, Vec<Option<Slot<A>>>, Vec<CpuState>)
+    requires empty { vec_len slots ≡ 0 }
+    requires room { 66 ≤ vec_capacity slots }
+    ensures layout { result.0 ≡ parts.layout }
+    ensures slots { result.1.items ≡ map (λ x. Some x) (slots_of parts) }
+    ensures cpus { result.2 ≡ parts.cpus }
+    ensures booted { BootsAtBoot parts result.1.items result.2.items }
+{
+    let Parts {
+        layout,
+        mut vms,
+        mut shared,
+        guests,
+        cpus,
+    } = parts;
+    let vm = lift(&mut vms);
+    let part = lift(&mut shared);
+    let slots = lay_first(slots, vm, part);
+    let slots = lay_guests(slots, guests);
+    (layout, slots, cpus)
+}
+
+/// The guests of slots, in their order.
+fn guests_of<A: Allocator>(
+    mut found: Vec<Slot<A>>,
+    mut guests: Vec<GuestPart<A>>,
+) -> Vec<GuestPart<A>>
+    requires kinds { AreGuests found.items }
+    requires room { (guests.items ≡ []) × (vec_len found ≤ vec_capacity guests) }
+    ensures { found.items ≡ map (λ g. Slot.Guest g) result.items }
+{
+    while !found.is_empty() {
+        let Slot::Guest(guest) = found.remove(0) else {
+            unreachable!()
+        };
+        let Ok(()) = guests.push(guest) else {
+            unreachable!()
+        };
+    }
+    guests
+}
+
+/// The VM part, the Shared part, and the slots of guests.
+fn first_of<A: Allocator>(mut found: Vec<Slot<A>>) -> (VmPart, SharedPart<A>, Vec<Slot<A>>)
+    requires kinds { AreParts found.items }
+    ensures { found.items ≡ Slot.Vm result.0 ∷ Slot.Shared result.1 ∷ result.2.items }
+{
+    let Slot::Vm(vm) = found.remove(0) else {
+        unreachable!()
+    };
+    let Slot::Shared(part) = found.remove(0) else {
+        unreachable!()
+    };
+    (vm, part, found)
+}
+
+/// The parts of which these are the slots, by number, with the CPUs' own states, where they stand at the end of one legal
+/// history. It asks for room in the lists of parts, and takes no memory.
+pub fn together<A: Allocator>(
+    layout: Layout,
+    found: Vec<Slot<A>>,
+    cpus: Vec<CpuState>,
+    mut vms: Vec<VmPart>,
+    mut shared: Vec<SharedPart<A>>,
+    guests: Vec<GuestPart<A>>,
+) -> Parts<A>
+    requires end { IsEndOf layout found.items cpus.items }
+    requires empty { (vec_len vms ≡ 0) × (vec_len shared ≡ 0) × (guests.items ≡ []) }
+    requires room { (1 ≤ vec_capacity vms) × (1 ≤ vec_capacity shared) × (64 ≤ vec_capacity guests) }
+    ensures layout { result.layout ≡ layout }
+    ensures parts { slots_of result ≡ found.items }
+    ensures cpus { result.cpus ≡ cpus }
+    ensures history { ∥ HasHistory result ∥₁ }
+{
+    let (vm, part, found) = first_of(found);
+    lay(&mut vms, vm);
+    lay(&mut shared, part);
+    let guests = guests_of(found, guests);
+    Parts {
+        layout,
+        vms,
+        shared,
+        guests,
+        cpus,
+    }
+}
