@@ -1,0 +1,103 @@
+-- Lists of passes.
+use Rattle.std.proofs.Common.{◌≡◌, ◌≢◌, false, true≢false, ◌⊎◌, ℕ, zero, suc, ◌<◌, List, [], ◌∷◌, ◌++◌, length, refl, sym, ap, subst, ⊎_elim, inl, inr, arith, length-set, ◌∙◌, true}
+use Rattle.std.specs.Prelude.{Option, Some, None, slice_get, slice_set, slice_index_or, is_none}
+use mathlib.Core.Logic.{dite}
+use native.Mathlib.Decide.{ℕ_discrete}
+use Rattle.part_table.specs.Passes.{AreHomeFrom, IsPassOf, Opened, Pass}
+use Rattle.cpu_threads.specs.Ends.{AreOf, HasAll, IsOut}
+use Rattle.cpu_threads.specs.Machines.{AreTheirs}
+
+module _ {X : Type 0} where
+  abbrev pub from : X → Option X → X
+  from d None = d
+  from d (Some x) = x
+
+  pub get_end : (l : List X) (a b : X) (j : ℕ) → slice_get (l ++ a ∷ []) j ≡ Some b → (slice_get l j ≡ Some b) ⊎ ((j ≡ length l) × (a ≡ b))
+  get_end [] a b zero e = inr (refl, ap (from a) e)
+  get_end [] a b (suc j) e = absurd cc
+  get_end (x ∷ xs) a b zero e = inl e
+  get_end (x ∷ xs) a b (suc j) e = ⊎_elim (λ t. inl t) (λ (t : (j ≡ length xs) × (a ≡ b)). inr (ap suc t.0, t.1)) (get_end xs a b j e)
+
+  pub get_front : (l m : List X) (b : X) (j : ℕ) → slice_get l j ≡ Some b → slice_get (l ++ m) j ≡ Some b
+  get_front [] m b j e = absurd cc
+  get_front (x ∷ xs) m b zero e = e
+  get_front (x ∷ xs) m b (suc j) e = get_front xs m b j e
+
+  pub get_last : (l : List X) (a : X) (j : ℕ) → j ≡ length l → slice_get (l ++ a ∷ []) j ≡ Some a
+  get_last [] a zero e = refl
+  get_last [] a (suc j) e = absurd (omega arith)
+  get_last (x ∷ xs) a zero e = absurd (omega arith)
+  get_last (x ∷ xs) a (suc j) e = get_last xs a j (omega arith)
+
+  pub get_set_else : (l : List X) (i j : ℕ) (a : X) → j ≢ i → slice_get (slice_set l i a) j ≡ slice_get l j
+  get_set_else [] i j a ne = refl
+  get_set_else (y ∷ ys) zero zero a ne = absurd (ne refl)
+  get_set_else (y ∷ ys) zero (suc j) a ne = refl
+  get_set_else (y ∷ ys) (suc i) zero a ne = refl
+  get_set_else (y ∷ ys) (suc i) (suc j) a ne = get_set_else ys i j a (λ e. ne (ap suc e))
+
+  pub get_of_or : (l : List X) (j : ℕ) (d : X) → j < length l → d ≡ slice_index_or l j d → slice_get l j ≡ Some d
+  get_of_or [] j d lt e = absurd (omega arith)
+  get_of_or (y ∷ ys) zero d lt e = ap (λ (z : X). Some z) (sym e)
+  get_of_or (y ∷ ys) (suc j) d lt e = get_of_or ys j d (omega arith) e
+
+  pub one_there : (o : Option X) → is_none o ≡ false → (x : X) × (o ≡ Some x)
+  one_there None e = absurd (true≢false e)
+  one_there (Some x) e = (x, refl)
+
+  pub get_bound : (l : List X) (j : ℕ) (x : X) → slice_get l j ≡ Some x → j < length l
+  get_bound [] j x e = absurd cc
+  get_bound (y ∷ ys) zero x e = omega arith
+  get_bound (y ∷ ys) (suc j) x e = let r = get_bound ys j x e in omega arith
+
+  pub none_there : (o : Option X) → is_none o ≡ true → o ≡ None
+  none_there None e = refl
+  none_there (Some x) e = absurd (true≢false (sym e))
+
+  pub there_or_none : (l : List X) (j : ℕ) → j < length l → (x : X) × (slice_get l j ≡ Some x)
+  there_or_none [] j lt = absurd (omega arith)
+  there_or_none (y ∷ ys) zero lt = (y, refl)
+  there_or_none (y ∷ ys) (suc j) lt = there_or_none ys j (omega arith)
+
+  pub get_set_here : (l : List X) (i : ℕ) (a : X) → i < length l → slice_get (slice_set l i a) i ≡ Some a
+  get_set_here [] i a lt = absurd (omega arith)
+  get_set_here (y ∷ ys) zero a lt = refl
+  get_set_here (y ∷ ys) (suc i) a lt = get_set_here ys i a (omega arith)
+
+module _ (t : Opened) (passes : List (Option Pass)) (front : List Pass) (p : Pass) where
+  -- a pass that was given goes to its place
+  pub back_there : AreTheirs t passes → IsPassOf t p → AreTheirs t (slice_set passes p.knows.cpu (Some p))
+  back_there old of c q e = dite (ℕ_discrete c p.knows.cpu)
+      (λ is. let lt = get_bound (slice_set passes p.knows.cpu (Some p)) c (Some q) e in let len = length-set passes p.knows.cpu (Some p) in
+      let same : p ≡ q = ap (from p) (ap (from (Some p)) (sym (get_set_here passes p.knows.cpu (Some p) (omega arith)) ∙ (ap (slice_get (slice_set passes p.knows.cpu (Some p))) (sym is) ∙ e))) in
+      (subst (IsPassOf t) same of, sym (ap (λ (z : Pass). z.knows.cpu) same) ∙ sym is))
+      (λ ne. old c q (sym (get_set_else passes p.knows.cpu c (Some p) ne) ∙ e))
+
+  pub back_all : HasAll passes (front ++ p ∷ []) → p.knows.cpu < length passes → HasAll (slice_set passes p.knows.cpu (Some p)) front
+  back_all old inside c lt out = dite (ℕ_discrete c p.knows.cpu)
+      (λ is. let never : Some p ≡ None = ap (from (Some p)) (sym (get_set_here passes p.knows.cpu (Some p) inside) ∙ (ap (slice_get (slice_set passes p.knows.cpu (Some p))) (sym is) ∙ out)) in absurd cc)
+      (λ ne. let len = length-set passes p.knows.cpu (Some p) in let h = old c (omega arith) (sym (get_set_else passes p.knows.cpu c (Some p) ne) ∙ out) in ⊎_elim
+      (λ was. record { place = h.place; pass = h.pass; there = was; cpu = h.cpu })
+      (λ (w : (h.place ≡ length front) × (p ≡ h.pass)). absurd (ne (sym (ap (λ (z : Pass). z.knows.cpu) w.1 ∙ h.cpu))))
+      (get_end front p h.pass h.place h.there))
+
+  -- a pass whose place isn't free is let go
+  pub others_all : HasAll passes (front ++ p ∷ []) → (IsOut passes p.knows.cpu → ⊥) → HasAll passes front
+  others_all old taken c lt out = let h = old c lt out in ⊎_elim
+      (λ was. record { place = h.place; pass = h.pass; there = was; cpu = h.cpu })
+      (λ (w : (h.place ≡ length front) × (p ≡ h.pass)). absurd (taken (ap (slice_get passes) (ap (λ (z : Pass). z.knows.cpu) w.1 ∙ h.cpu) ∙ out)))
+      (get_end front p h.pass h.place h.there)
+
+  pub of_front : AreOf t (front ++ p ∷ []) → AreOf t front
+  of_front old j q e = old j q (get_front front (p ∷ []) q j e)
+
+  pub of_last : AreOf t (front ++ p ∷ []) → IsPassOf t p
+  of_last old = old (length front) p (get_last front p (length front) refl)
+
+-- once no pass is left, each is at home
+pub all_home_by : (t : Opened) (passes : List (Option Pass)) → AreTheirs t passes → HasAll passes [] → AreHomeFrom t.table (length passes) 0 passes
+all_home_by t passes theirs all j from below = let h = there_or_none passes j below in at h.0 h.1
+  where
+    at : (o : Option Pass) → slice_get passes j ≡ Some o → (p : Pass) × (slice_get passes j ≡ Some (Some p)) × (p.table ≡ t.table) × (p.knows.cpu ≡ j)
+    at None e = let h = all j below e in let never = h.there in absurd cc
+    at (Some p) e = let h = theirs j p e in (p, e, h.0.table, h.1)

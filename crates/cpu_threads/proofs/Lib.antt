@@ -1,0 +1,3 @@
+pub mod Tries
+pub mod Opens
+pub mod Ends

@@ -1,0 +1,23 @@
+use Rattle.std.proofs.Common.{sym, subst}
+use Rattle.std.specs.Prelude.{List}
+use Rattle.page_state.specs.declared.layout.Layout.{Layout as TheLayout}
+use Rattle.guest_steps.specs.declared.parts.CpuState.{CpuState}
+use Rattle.hypercalls.specs.declared.parts.Parts.{Parts}
+use Rattle.part_table.specs.declared.slot.Slot.{Slot}
+use Rattle.part_table.specs.Endings.{IsEndOf}
+use Rattle.part_table.specs.Whole.{slots_of}
+use Rattle.cpu_threads.proofs.shutdown.ended.Goals as goal
+
+pub together-parts-requires-clause-end : goal.together-parts-requires-clause-end
+together-parts-requires-clause-end g c =
+    let e = c.close-alloc.ensures in
+    subst (λ (l : TheLayout). IsEndOf {A = g.row.A.Denot} l c.close-alloc.result.2.items c.close-alloc.result.3.items) (sym e.layout) e.end
+
+pub returns-clause-end : goal.returns-clause-end
+returns-clause-end g c =
+    let e = c.close-alloc.ensures in
+    let t = c.together-parts.ensures in
+    let l : TheLayout = c.args.table.layout in
+    let j = c.join.ensures in
+    subst (λ (p : Parts g.row.A.Denot). IsEndOf l (slots_of p) p.cpus.items) (sym j)
+    (subst (λ (z : List (Slot g.row.A.Denot) × List CpuState). IsEndOf {A = g.row.A.Denot} l z.0 z.1) (λ i. (sym t.parts i, (sym t.cpus i).items)) e.end)

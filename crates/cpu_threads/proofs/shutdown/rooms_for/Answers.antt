@@ -1,0 +1,7 @@
+use Rattle.cpu_threads.proofs.shutdown.rooms_for.Goals as goal
+
+pub returns-clause-found : goal.returns-clause-found
+returns-clause-found g c = (c.in_ok-found.ensures.items, c.in_ok-found.ensures.capacity)
+
+pub returns-clause-cpus : goal.returns-clause-cpus
+returns-clause-cpus g c = (c.in_ok-cpus.ensures.items, c.in_ok-cpus.ensures.capacity)

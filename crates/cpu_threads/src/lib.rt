@@ -1,0 +1,16 @@
+//! Threads: one machine, and a pass for each of its CPUs. Whatever the CPUs do at once, there is one legal history of their calls.
+#![tactic(auto)]
+
+mod boot;
+mod ending;
+mod init;
+mod machine;
+mod shutdown;
+
+pub use init::InitStage;
+pub use machine::Machine;
+pub use part_table::{CpuPass, Gate, Open};
+pub use shutdown::ShutdownFault;
+
+#[cfg(test)]
+mod tests;
