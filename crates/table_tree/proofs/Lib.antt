@@ -22,3 +22,4 @@ pub mod Same
 pub mod RawTables
 pub mod RawViews
 pub mod Pokes
+pub mod Crossing

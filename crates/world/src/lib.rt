@@ -8,6 +8,7 @@ ghost use Rattle.world.specs.Boots.{IsBooted, IsNoBoot};
 ghost use Rattle.world.specs.Headline.{Headline};
 
 mod boot;
+mod histories;
 pub mod laws;
 mod merge;
 mod raw;
@@ -97,10 +98,19 @@ impl<A: Allocator> World<A> {
     ghost use Rattle.ghost_oracle.specs.Poked.{IsBeside, IsPokedTree, parts_trees, raw_beside_of, raw_trees};
     ghost use Rattle.ghost_spec.specs.States.{ghost_state, IsKept};
     ghost use Rattle.ghost_oracle.specs.Found.{walked_state, HasRowsOf, SaysMaplets, SaysRows};
-    ghost use Rattle.hypercalls.specs.Stands.{parts_layout, state_of};
+    ghost use Rattle.hypercalls.specs.Stands.{kept_of, parts_layout, state_of};
     ghost use Rattle.page_state.specs.declared.reply.Call.{Call};
-    ghost use Rattle.world.specs.Merges.{IsMerged, IsOfHistory, TellsMerged};
+    ghost use Rattle.world.specs.Merges.{AreLogsOf, IsMerged, IsOfHistory, TellsMerged};
     ghost use Rattle.world.specs.declared.merge.MergeFault.TheVariants.{NoOrder};
+
+    /// A copy of all logs: of the VM part, the Shared part, the 64 guests and each CPU. They are those of one legal history, so
+    /// `merge` finds its order.
+    pub fn histories(&self, global: Global) -> Result<Histories, AllocError>
+        ensures logs { IfOk result (λ h. AreLogsOf h (parts_layout self.now.parts) (kept_of self.now.parts)) }
+        ensures history { IfOk result (λ h. ∥ IsOfHistory h ∥₁) }
+    {
+        histories::histories(global, &self.parts)
+    }
 
     /// A list of all calls of the logs, each once, which cut down to the calls of any one log is that log: CPU, step and reply
     /// of each. The logs may be any. NoOrder is answered only where there is no such list, so never for the logs of one legal

@@ -137,29 +137,6 @@ fn finds_no_order(rt: HostRuntime) -> Result<(), Fail> {
     Ok(())
 }
 
-/// The logs of a world's VM part, Shared part, guests and CPUs.
-fn logs_in(alloc: Global, world: &World<Global>) -> Result<Histories, AllocError> {
-    let parts = world.parts();
-    let mut guests = Vec::new(alloc);
-    for guest in parts.guests.as_slice() {
-        guests.push(log_of(alloc, guest.log.calls())?)?;
-    }
-    let mut cpus = Vec::new(alloc);
-    for cpu in parts.cpus.as_slice() {
-        cpus.push(log_of(alloc, cpu.log.calls())?)?;
-    }
-    let mut vms = Vec::new(alloc);
-    for part in parts.vms.as_slice() {
-        vms = log_of(alloc, part.log.calls())?;
-    }
-    Ok(Histories {
-        vms,
-        shared: log_of(alloc, parts.shared().log.calls())?,
-        guests,
-        cpus,
-    })
-}
-
 #[test]
 fn merges_a_run(rt: HostRuntime) -> Result<(), Fail> {
     let alloc = rt.alloc();
@@ -178,7 +155,7 @@ fn merges_a_run(rt: HostRuntime) -> Result<(), Fail> {
     ];
     assert!(rt; world.cpus() > 1);
     let replies = world.run(alloc, steps.as_slice())?;
-    let logs = logs_in(alloc, &world)?;
+    let logs = world.histories(alloc)?;
     let merged = World::<Global>::merge(alloc, &logs)?;
     assert_eq!(rt; merged.len(), 4);
     for (call, (asked, reply)) in merged.iter().zip(steps.iter().zip(replies.iter())) {
