@@ -1,6 +1,5 @@
 //! The logs of a world, copied.
-ghost use Rattle.std.specs.Prelude.{◌≡◌, ◌<◌, IfOk, length, map};
-ghost use Rattle.guest_steps.specs.Lent.{one};
+ghost use Rattle.std.specs.Prelude.{◌≡◌, IfOk, map};
 ghost use Rattle.hypercalls.specs.Stands.{kept_of, parts_layout};
 ghost use Rattle.world.specs.Merges.{AreLogsOf};
 

@@ -104,7 +104,7 @@ impl<A: Allocator> World<A> {
     ghost use Rattle.world.specs.declared.merge.MergeFault.TheVariants.{NoOrder};
 
     /// A copy of all logs: of the VM part, the Shared part, the 64 guests and each CPU. They are those of one legal history, so
-    /// `merge` finds its order.
+    /// `merge` finds their order. Where memory is refused the world is as it was.
     pub fn histories(&self, global: Global) -> Result<Histories, AllocError>
         ensures logs { IfOk result (λ h. AreLogsOf h (parts_layout self.now.parts) (kept_of self.now.parts)) }
         ensures history { IfOk result (λ h. ∥ IsOfHistory h ∥₁) }
