@@ -1,3 +1,4 @@
 pub mod Tries
 pub mod Opens
 pub mod Ends
+pub mod Crossing

@@ -11,6 +11,3 @@ pub use init::InitStage;
 pub use machine::Machine;
 pub use part_table::{CpuPass, Gate, Open};
 pub use shutdown::ShutdownFault;
-
-#[cfg(test)]
-mod tests;

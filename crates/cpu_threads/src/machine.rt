@@ -3,7 +3,7 @@ ghost use Rattle.std.specs.Prelude.{◌≡◌, ◌≢◌, ◌<◌, ◌↔◌, []
 ghost use Rattle.page_state.specs.declared.reply.Refusal.TheVariants.{Contended, LogFull};
 ghost use Rattle.page_state.specs.declared.reply.Reply.TheVariants.{Refused};
 ghost use Rattle.reference_model.specs.History.{IsStored};
-ghost use Rattle.part_table.specs.Answered.{FindsAway, FindsLogFull, StoresCall};
+ghost use Rattle.part_table.specs.Answered.{FindsAway, FindsLogFull, MeetsAnother, StoresCall};
 ghost use Rattle.part_table.specs.Passes.{IsPassOf};
 ghost use Rattle.cpu_threads.specs.Machines.{FullInTheEnd, HandsOut, StoresInTheEnd};
 
@@ -60,6 +60,7 @@ impl<A: Allocator + Copy> Machine<A> {
         ensures rest { pass.new.holds ≡ [] }
         ensures stored { IsStored result → StoresCall step result pass.old.knows pass.new.knows }
         ensures contended { result ≡ Refused Contended → FindsAway step pass.old.knows pass.new.knows }
+        ensures met { MeetsAnother pass.old.knows pass.new.knows → result ≡ Refused Contended }
         ensures log_full { result ≡ Refused LogFull → FindsLogFull step pass.old.knows pass.new.knows }
     {
         self.try_call_gated(&Open, pass, step)
@@ -73,6 +74,7 @@ impl<A: Allocator + Copy> Machine<A> {
         ensures rest { pass.new.holds ≡ [] }
         ensures stored { IsStored result → StoresCall step result pass.old.knows pass.new.knows }
         ensures contended { result ≡ Refused Contended → FindsAway step pass.old.knows pass.new.knows }
+        ensures met { MeetsAnother pass.old.knows pass.new.knows → result ≡ Refused Contended }
         ensures log_full { result ≡ Refused LogFull → FindsLogFull step pass.old.knows pass.new.knows }
     {
         let (cpu, number) = (pass.cpu(), pass.number());

@@ -12,8 +12,6 @@ pub mod LowParts
 pub mod Marked
 pub mod Places
 pub mod PokedParts
-pub mod PokedTables
-pub mod PutRows
 pub mod Reached
 pub mod Recording
 pub mod RawReady

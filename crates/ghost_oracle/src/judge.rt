@@ -14,9 +14,6 @@ ghost use Rattle.ghost_oracle.specs.inner.Found.{IsFound, IsRowDifference};
 ghost use Rattle.ghost_oracle.specs.inner.Parted.{IsFoundApart};
 ghost use Rattle.ghost_oracle.specs.inner.Same.{marked};
 
-#[cfg(test)]
-mod tests;
-
 use crate::audit::{in_guests, in_trees, row_of};
 use crate::difference::first_apart;
 use crate::disagreement::{Disagreement, TreeOf};

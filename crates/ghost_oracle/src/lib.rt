@@ -16,8 +16,6 @@ pub mod raw_kept;
 pub mod record;
 pub mod rows;
 mod same;
-#[cfg(test)]
-mod tests;
 pub mod text;
 mod trees;
 pub mod walk;

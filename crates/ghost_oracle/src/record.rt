@@ -12,9 +12,6 @@ ghost use Rattle.ghost_spec.specs.Views.{cpu_in, shared_in_lists};
 ghost use Rattle.ghost_oracle.specs.Low.{IsLowCpu, IsLowGuest};
 ghost use Rattle.ghost_oracle.specs.Recorded.{given, put_given, recorded};
 
-#[cfg(test)]
-mod tests;
-
 use crate::kept::shared_from;
 use crate::parts::{cpu_from, slots_from};
 use crate::trees::{Source, guest_from};

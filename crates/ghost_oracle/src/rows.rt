@@ -3,8 +3,6 @@ mod loans;
 mod order;
 mod overlay;
 mod pieces;
-#[cfg(test)]
-mod tests;
 mod uses;
 
 ghost use Rattle.std.specs.Prelude.{◌≡◌, ℕ, ◌≤◌, ◌<◌, ◌^◌, true, false, IfOk, OnOk, Some, None, length, if◌then◌else◌};

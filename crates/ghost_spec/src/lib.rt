@@ -18,8 +18,6 @@ pub mod runs;
 pub mod shared;
 pub mod start;
 pub mod state;
-#[cfg(test)]
-mod tests;
 pub mod tree;
 mod used;
 mod uses;

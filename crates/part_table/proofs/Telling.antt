@@ -1,6 +1,7 @@
 -- What a try tells, from the views that its exchanges leave.
 use Rattle.std.proofs.Common.{◌≡◌, ◌≢◌, ◌⊎◌, ℕ, List, [], ◌∷◌, ◌++◌, Bool, true, false, true≢false, refl, sym, ap, ◌∙◌, subst, ⊎_elim, inl, inr, append_assoc}
 use Rattle.std.specs.Prelude.{Option, Some, None}
+use Rattle.std.proofs.lemmas.List.{append_cancel_left}
 use Rattle.page_state.specs.declared.layout.Layout.{Layout as TheLayout}
 use Rattle.page_state.specs.declared.reply.Call.{Call}
 use Rattle.page_state.specs.LayoutView.{layout_of}
@@ -25,8 +26,8 @@ use Rattle.world.specs.Uses.{parts_of}
 use Rattle.part_table.specs.Parts.{in_order, uses, log_of, IsPart, IsOwn}
 use Rattle.part_table.specs.Does.{Does, IsLeft, none_at}
 use Rattle.part_table.specs.Rule.{Hands, held_at, seen_at, seen_with, StartsWith, taking, missing, letting, storing, IsSame, Adds, Extends, Known, known_of, Standing, AtRest}
-use Rattle.part_table.specs.Tried.{Tells, TriesOf, reply_of}
-use Rattle.part_table.specs.Answered.{Answers, FindsAway, FindsLogFull, StoresCall, TellsOf, used_by}
+use Rattle.part_table.specs.Tried.{AllTaken, EndsIn, FoundFull, FoundRoom, Tells, TriesOf, Try, reply_of}
+use Rattle.part_table.specs.Answered.{Answers, FindsAway, FindsLogFull, MeetsAnother, StoresCall, TellsOf, used_by}
 use Rattle.part_table.proofs.Pairs.{at_same, at_other, unused_seen, part_same}
 
 module _ {A : Type 0} where
@@ -210,6 +211,36 @@ answers_of step t reply u v w own same is told room tells = (t, told, of t (subs
     of Contended h = (roomy, h)
     of LogFull h = inr (roomy, h)
 
+-- no try of these found a part taken by another pass
+abbrev NoneAway : List Try → Type 0
+NoneAway ts = (k : ℕ) (before after : List Try) → ts ≡ before ++ (k, None) ∷ after → ⊥
+
+none_tried : NoneAway []
+none_tried k [] after e = cc
+none_tried k (x ∷ before) after e = cc
+
+abbrev first_found : List Try → Option StoredCalls
+first_found [] = None
+first_found (x ∷ xs) = x.1
+
+one_more_taken : (j : ℕ) (log : StoredCalls) (rest : List Try) → NoneAway rest → NoneAway ((j, Some log) ∷ rest)
+one_more_taken j log rest h k [] after e = let never : Some log ≡ None = ap first_found e in cc
+one_more_taken j log rest h k (x ∷ before) after e = let later : rest ≡ before ++ (k, None) ∷ after = cc in h k before after later
+
+taken_as : (k : ℕ) (x : Option StoredCalls) (log : StoredCalls) (rest : List Try) → x ≡ Some log → NoneAway rest → NoneAway ((k, x) ∷ rest)
+taken_as k x log rest e h = subst (λ (o : Option StoredCalls). NoneAway ((k, o) ∷ rest)) (sym e) (one_more_taken k log rest h)
+
+taken_none_away : (c : Call) (v w : Known) (ks : List ℕ) (ts : List Try) → AllTaken c v w ks ts → NoneAway ts
+taken_none_away c v w [] ts t = subst NoneAway (sym t) none_tried
+taken_none_away c v w (k ∷ ks) ts t = subst NoneAway (sym t.2) (one_more_taken k t.0 t.1 (taken_none_away c v w ks t.1 t.6))
+
+full_none_away : (ks : List ℕ) (ts : List Try) → EndsIn FoundFull ks ts → NoneAway ts
+full_none_away [] ts t = absurd t
+full_none_away (k ∷ ks) ts (x, rest, is, how) = subst NoneAway (sym is) (⊎_elim
+    (λ (h : FoundFull x × (rest ≡ [])). taken_as k x h.0.0 rest h.0.1 (subst NoneAway (sym h.1) none_tried))
+    (λ (h : FoundRoom x × EndsIn FoundFull ks rest). taken_as k x h.0.0 rest h.0.1 (full_none_away ks rest h.1))
+    how)
+
 module _ (step : Step) (reply : Reply) (v w : Known) where
   -- what a stored call's reply tells
   pub stores_of : Answers step reply v w → IsStored reply → StoresCall step reply v w
@@ -228,6 +259,24 @@ module _ (step : Step) (reply : Reply) (v w : Known) where
       of (Stored c) e h = absurd (subst IsStored (sym e ∙ s) h.1.1)
       of Contended e h = record { same = h.1.0; room = h.0; tries = h.1.1.0; tried = h.1.1.1; away = h.1.1.2 }
       of LogFull e h = let never : Refused contended ≡ Refused log_full = sym s ∙ e in cc
+
+  -- a part that another pass has is told by Contended alone
+  pub met_of : Answers step reply v w → MeetsAnother v w → reply ≡ Refused contended
+  met_of a m = of a.0 a.1 a.2
+    where
+      apart : (ts : List Try) → w.tries ≡ v.tries ++ ts → NoneAway ts → ⊥
+      apart ts is none = none m.part m.before m.after (append_cancel_left v.tries ts (m.before ++ (m.part, None) ∷ m.after) (sym is ∙ m.tried))
+
+      of : (t : Tried) → reply ≡ reply_of t → TellsOf step t v w → reply ≡ Refused contended
+      of (Stored c) e h = absurd (apart h.1.3.0 h.1.3.1 (taken_none_away c v w (used_by step v) h.1.3.0 h.1.3.2))
+      of Contended e h = e
+      of LogFull e h = absurd (⊎_elim by_own by_part h)
+        where
+          by_own : (v.own.log.room ≡ 0) × IsSame v w × (w.tries ≡ v.tries) → ⊥
+          by_own own = apart [] (own.2 ∙ sym (Rattle.std.proofs.Common.append-nil v.tries)) none_tried
+
+          by_part : (v.own.log.room ≢ 0) × Tells step (used_by step v) LogFull v w → ⊥
+          by_part part = apart part.1.1.0 part.1.1.1 (full_none_away (used_by step v) part.1.1.0 part.1.1.2)
 
   -- what LogFull tells
   pub full_of : Answers step reply v w → reply ≡ Refused log_full → FindsLogFull step v w

@@ -1,5 +1,5 @@
 -- What the answer to a call tells.
-use Rattle.std.specs.Prelude.{◌≡◌, ◌≢◌, ◌⊎◌, ℕ, List, [], ◌++◌}
+use Rattle.std.specs.Prelude.{◌≡◌, ◌≢◌, ◌⊎◌, ℕ, List, [], ◌∷◌, ◌++◌, None}
 use Rattle.page_state.specs.declared.reply.Call.{Call}
 use Rattle.page_state.specs.declared.reply.Reply.{Reply}
 use Rattle.page_state.specs.declared.step.Step.{Step}
@@ -45,6 +45,13 @@ pub record FindsAway (step : Step) (v w : Known) : Type 0 where
   pub tries : List Try
   pub tried : w.tries ≡ v.tries ++ tries
   pub away : EndsIn FoundAway (used_by step v) tries
+
+-- a try that the pass recorded in the call found a part taken by another pass
+pub record MeetsAnother (v w : Known) : Type 0 where
+  pub part : ℕ
+  pub before : List Try
+  pub after : List Try
+  pub tried : w.tries ≡ v.tries ++ (before ++ (part, None) ∷ after)
 
 -- a log is full: the CPU's, and no part was tried, or that of the part that was tried last, as it was taken. Nothing else changed
 pub record FindsLogFull (step : Step) (v w : Known) : Type 0 where

@@ -182,7 +182,7 @@ impl<A: Allocator + Copy> PartTable<A> {
     ghost use Rattle.page_state.specs.declared.reply.Refusal.TheVariants.{Contended, LogFull};
     ghost use Rattle.page_state.specs.declared.reply.Reply.TheVariants.{Refused};
     ghost use Rattle.reference_model.specs.History.{IsStored};
-    ghost use Rattle.part_table.specs.Answered.{FindsAway, FindsLogFull, StoresCall};
+    ghost use Rattle.part_table.specs.Answered.{FindsAway, FindsLogFull, MeetsAnother, StoresCall};
     ghost use Rattle.part_table.specs.Passes.{IsPassOf};
 
     /// One try of a step, which waits for nobody. `taken` of the gate is called in it, and `answered` isn't.
@@ -193,6 +193,7 @@ impl<A: Allocator + Copy> PartTable<A> {
         ensures rest { pass.new.holds ≡ [] }
         ensures stored { IsStored result → StoresCall step result pass.old.knows pass.new.knows }
         ensures contended { result ≡ Refused Contended → FindsAway step pass.old.knows pass.new.knows }
+        ensures met { MeetsAnother pass.old.knows pass.new.knows → result ≡ Refused Contended }
         ensures log_full { result ≡ Refused LogFull → FindsLogFull step pass.old.knows pass.new.knows }
     {
         let _ = &self.root;

@@ -27,7 +27,7 @@ use Rattle.trace_lines.specs.declared.place.Verb.{Verb}
 use Rattle.trace_lines.specs.declared.place.Verb.TheVariants as verbs
 use Rattle.trace_lines.specs.Arguments.{number_at, range_of, level_word_at, slot_word_at, vm_word_at, kind_word_at, rights_word_at}
 use Rattle.trace_lines.specs.Asked.{asked, asked_from, begins_with_digit, headers, of_call, of_number, of_range, of_tree, of_poke, of_show, poke_of, pools, tree_names, word_of}
-use Rattle.trace_lines.specs.Calls.{Argument, number, vm, kind, rights, StepMaker, Shape, calls, called as called_by, step_from}
+use Rattle.trace_lines.specs.Calls.{Argument, number, vm, kind, rights, StepMaker, Shape, calls, called as called_by, called_in, step_from}
 use Rattle.trace_lines.specs.Places.{IsAllowed, may_stand, may_tell}
 use Rattle.trace_lines.specs.Said.{said_by_asked, said_by_words}
 use Rattle.trace_lines.specs.Settings.{Told}
@@ -90,7 +90,7 @@ from_words P (rights ∷ more) make words place h =
     chained P (λ r. step_from more (make r) words (place + 1)) (λ r. from_words P more (make r) words (place + 1) (h r)) (rights_word_at words place)
 
 called_has : (P : Step → Type 0) → OfCalls P → (words : List (List ℕ)) (name : List ℕ) → IfSome (called_by words name) (λ called. IfSome called.step P)
-unfolding called_by
+unfolding called_in
 called_has P h words name = onward (named calls name) (found _ calls name h)
   where
     onward : (o : Option Shape) → IfSome o (λ shape. OfEach P shape.arguments shape.step)

@@ -29,7 +29,43 @@ pub record Shape : Type 0 where
   pub arguments : List Argument
   pub step : StepMaker arguments
 
--- the calls of the grammar
+-- the calls of the grammar, those on VM slots last
+abbrev pub vm_calls : List (List ℕ × Shape)
+vm_calls =
+    (codes "vm_reserve", record { arguments = kind ∷ number ∷ []; step = steps.VmReserve })
+    ∷ (codes "vm_open", record { arguments = []; step = steps.VmOpen })
+    ∷ (codes "vcpu_load", record { arguments = vm ∷ number ∷ []; step = steps.VcpuLoad })
+    ∷ (codes "vcpu_put", record { arguments = []; step = steps.VcpuPut })
+    ∷ (codes "teardown", record { arguments = vm ∷ []; step = steps.Teardown })
+    ∷ (codes "vm_release", record { arguments = []; step = steps.VmRelease })
+    ∷ []
+
+-- and those on guests and their pools before them
+abbrev pub guest_calls : List (List ℕ × Shape)
+guest_calls =
+    (codes "install", record { arguments = []; step = steps.Install })
+    ∷ (codes "topup", record { arguments = vm ∷ []; step = steps.Topup })
+    ∷ (codes "reclaim_page", record { arguments = vm ∷ number ∷ []; step = steps.ReclaimPage })
+    ∷ (codes "reclaim_pool", record { arguments = vm ∷ []; step = steps.ReclaimPool })
+    ∷ (codes "finish_guest", record { arguments = []; step = steps.FinishGuest })
+    ∷ (codes "guest_relax", record { arguments = number ∷ rights ∷ []; step = steps.GuestRelax })
+    ∷ (codes "guest_translate", record { arguments = vm ∷ number ∷ []; step = steps.GuestTranslate })
+    ∷ (codes "mark_dying", record { arguments = []; step = steps.MarkDying })
+    ∷ vm_calls
+
+-- and those of hands and of what host and guests share and donate
+abbrev pub hand_calls : List (List ℕ × Shape)
+hand_calls =
+    (codes "fund", record { arguments = number ∷ number ∷ []; step = steps.Fund })
+    ∷ (codes "unfund", record { arguments = []; step = steps.Unfund })
+    ∷ (codes "share_guest", record { arguments = number ∷ number ∷ rights ∷ []; step = steps.ShareGuest })
+    ∷ (codes "unshare_guest", record { arguments = vm ∷ number ∷ []; step = steps.UnshareGuest })
+    ∷ (codes "donate_guest", record { arguments = number ∷ number ∷ []; step = steps.DonateGuest })
+    ∷ (codes "guest_share_host", record { arguments = number ∷ []; step = steps.GuestShareHost })
+    ∷ (codes "guest_unshare_host", record { arguments = number ∷ []; step = steps.GuestUnshareHost })
+    ∷ guest_calls
+
+-- all of them
 abbrev pub calls : List (List ℕ × Shape)
 calls =
     (codes "share_hyp", record { arguments = number ∷ []; step = steps.ShareHyp })
@@ -40,28 +76,7 @@ calls =
     ∷ (codes "host_translate", record { arguments = number ∷ []; step = steps.HostTranslate })
     ∷ (codes "hyp_translate", record { arguments = number ∷ []; step = steps.HypTranslate })
     ∷ (codes "owner_of", record { arguments = number ∷ []; step = steps.OwnerOf })
-    ∷ (codes "fund", record { arguments = number ∷ number ∷ []; step = steps.Fund })
-    ∷ (codes "unfund", record { arguments = []; step = steps.Unfund })
-    ∷ (codes "share_guest", record { arguments = number ∷ number ∷ rights ∷ []; step = steps.ShareGuest })
-    ∷ (codes "unshare_guest", record { arguments = vm ∷ number ∷ []; step = steps.UnshareGuest })
-    ∷ (codes "donate_guest", record { arguments = number ∷ number ∷ []; step = steps.DonateGuest })
-    ∷ (codes "guest_share_host", record { arguments = number ∷ []; step = steps.GuestShareHost })
-    ∷ (codes "guest_unshare_host", record { arguments = number ∷ []; step = steps.GuestUnshareHost })
-    ∷ (codes "install", record { arguments = []; step = steps.Install })
-    ∷ (codes "topup", record { arguments = vm ∷ []; step = steps.Topup })
-    ∷ (codes "reclaim_page", record { arguments = vm ∷ number ∷ []; step = steps.ReclaimPage })
-    ∷ (codes "reclaim_pool", record { arguments = vm ∷ []; step = steps.ReclaimPool })
-    ∷ (codes "finish_guest", record { arguments = []; step = steps.FinishGuest })
-    ∷ (codes "guest_relax", record { arguments = number ∷ rights ∷ []; step = steps.GuestRelax })
-    ∷ (codes "guest_translate", record { arguments = vm ∷ number ∷ []; step = steps.GuestTranslate })
-    ∷ (codes "mark_dying", record { arguments = []; step = steps.MarkDying })
-    ∷ (codes "vm_reserve", record { arguments = kind ∷ number ∷ []; step = steps.VmReserve })
-    ∷ (codes "vm_open", record { arguments = []; step = steps.VmOpen })
-    ∷ (codes "vcpu_load", record { arguments = vm ∷ number ∷ []; step = steps.VcpuLoad })
-    ∷ (codes "vcpu_put", record { arguments = []; step = steps.VcpuPut })
-    ∷ (codes "teardown", record { arguments = vm ∷ []; step = steps.Teardown })
-    ∷ (codes "vm_release", record { arguments = []; step = steps.VmRelease })
-    ∷ []
+    ∷ hand_calls
 
 -- the step that the words from a place on make
 abbrev pub step_from : (arguments : List Argument) → StepMaker arguments → List (List ℕ) → ℕ → Option Step
@@ -71,6 +86,10 @@ step_from (vm ∷ more) make words place = option_and_then (λ v. step_from more
 step_from (kind ∷ more) make words place = option_and_then (λ k. step_from more (make k) words (place + 1)) (kind_word_at words place)
 step_from (rights ∷ more) make words place = option_and_then (λ r. step_from more (make r) words (place + 1)) (rights_word_at words place)
 
--- what a step line has whose call has this name: its CPU, the name and the arguments, and the step that these make
-unfoldable pub called : List (List ℕ) → List ℕ → Option Called
-called words name = option_map (λ shape. record { words = 2 + length shape.arguments; step = step_from shape.arguments shape.step words 2 }) (named calls name)
+-- what a step line has whose call has this name among such rows: its CPU, the name and the arguments, and the step that these make
+unfoldable pub called_in : List (List ℕ × Shape) → List (List ℕ) → List ℕ → Option Called
+called_in rows words name = option_map (λ shape. record { words = 2 + length shape.arguments; step = step_from shape.arguments shape.step words 2 }) (named rows name)
+
+-- and among all
+abbrev pub called : List (List ℕ) → List ℕ → Option Called
+called = called_in calls

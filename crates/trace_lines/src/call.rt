@@ -13,7 +13,7 @@ ghost use Rattle.page_state.specs.declared.step.Step.TheVariants.{
   VcpuLoad,
   VmReserve,
 };
-ghost use Rattle.trace_lines.specs.Calls.{called as called_by, kind, number, rights, step_from, vm};
+ghost use Rattle.trace_lines.specs.Calls.{called as called_by, called_in, guest_calls, hand_calls, kind, number, rights, step_from, vm, vm_calls};
 
 use crate::argument::{kind_at, number_at, rights_at, vm_at};
 use crate::words::{Words, is_name};
@@ -30,7 +30,7 @@ pub struct Called {
 
 impl Called {
     /// The calls of the grammar, a row for each: its name, the number of its words, and the step that they make.
-    #[tactic(auto, unfolding(crate::specs::Calls::called))]
+    #[tactic(auto, unfolding(crate::specs::Calls::called_in))]
     pub fn of(name: &[u8], words: &Words<'_>) -> Option<Called>
         ensures { result ≡ called_by words.now name.now }
     {
@@ -64,77 +64,101 @@ impl Called {
         if is_name(name, b"owner_of") {
             return row(3, number_at(words, 2).map(|pfn| Step::OwnerOf { pfn }));
         }
-        if is_name(name, b"fund") {
-            return row(4, fund(words));
-        }
-        if is_name(name, b"unfund") {
-            return row(2, Some(Step::Unfund));
-        }
-        if is_name(name, b"share_guest") {
-            return row(5, share_guest(words));
-        }
-        if is_name(name, b"unshare_guest") {
-            return row(4, unshare_guest(words));
-        }
-        if is_name(name, b"donate_guest") {
-            return row(4, donate_guest(words));
-        }
-        if is_name(name, b"guest_share_host") {
-            return row(
-                3,
-                number_at(words, 2).map(|gfn| Step::GuestShareHost { gfn }),
-            );
-        }
-        if is_name(name, b"guest_unshare_host") {
-            return row(
-                3,
-                number_at(words, 2).map(|gfn| Step::GuestUnshareHost { gfn }),
-            );
-        }
-        if is_name(name, b"install") {
-            return row(2, Some(Step::Install));
-        }
-        if is_name(name, b"topup") {
-            return row(3, vm_at(words, 2).map(|vm| Step::Topup { vm }));
-        }
-        if is_name(name, b"reclaim_page") {
-            return row(4, reclaim_page(words));
-        }
-        if is_name(name, b"reclaim_pool") {
-            return row(3, vm_at(words, 2).map(|vm| Step::ReclaimPool { vm }));
-        }
-        if is_name(name, b"finish_guest") {
-            return row(2, Some(Step::FinishGuest));
-        }
-        if is_name(name, b"guest_relax") {
-            return row(4, guest_relax(words));
-        }
-        if is_name(name, b"guest_translate") {
-            return row(4, guest_translate(words));
-        }
-        if is_name(name, b"mark_dying") {
-            return row(2, Some(Step::MarkDying));
-        }
-        if is_name(name, b"vm_reserve") {
-            return row(4, vm_reserve(words));
-        }
-        if is_name(name, b"vm_open") {
-            return row(2, Some(Step::VmOpen));
-        }
-        if is_name(name, b"vcpu_load") {
-            return row(4, vcpu_load(words));
-        }
-        if is_name(name, b"vcpu_put") {
-            return row(2, Some(Step::VcpuPut));
-        }
-        if is_name(name, b"teardown") {
-            return row(3, vm_at(words, 2).map(|vm| Step::Teardown { vm }));
-        }
-        if is_name(name, b"vm_release") {
-            return row(2, Some(Step::VmRelease));
-        }
-        None
+        hand_call(name, words)
     }
+}
+
+/// The rows from `fund` on.
+#[tactic(auto, unfolding(crate::specs::Calls::called_in))]
+fn hand_call(name: &[u8], words: &Words<'_>) -> Option<Called>
+    ensures { result ≡ called_in hand_calls words.now name.now }
+{
+    if is_name(name, b"fund") {
+        return row(4, fund(words));
+    }
+    if is_name(name, b"unfund") {
+        return row(2, Some(Step::Unfund));
+    }
+    if is_name(name, b"share_guest") {
+        return row(5, share_guest(words));
+    }
+    if is_name(name, b"unshare_guest") {
+        return row(4, unshare_guest(words));
+    }
+    if is_name(name, b"donate_guest") {
+        return row(4, donate_guest(words));
+    }
+    if is_name(name, b"guest_share_host") {
+        return row(
+            3,
+            number_at(words, 2).map(|gfn| Step::GuestShareHost { gfn }),
+        );
+    }
+    if is_name(name, b"guest_unshare_host") {
+        return row(
+            3,
+            number_at(words, 2).map(|gfn| Step::GuestUnshareHost { gfn }),
+        );
+    }
+    guest_call(name, words)
+}
+
+/// The rows from `install` on.
+#[tactic(auto, unfolding(crate::specs::Calls::called_in))]
+fn guest_call(name: &[u8], words: &Words<'_>) -> Option<Called>
+    ensures { result ≡ called_in guest_calls words.now name.now }
+{
+    if is_name(name, b"install") {
+        return row(2, Some(Step::Install));
+    }
+    if is_name(name, b"topup") {
+        return row(3, vm_at(words, 2).map(|vm| Step::Topup { vm }));
+    }
+    if is_name(name, b"reclaim_page") {
+        return row(4, reclaim_page(words));
+    }
+    if is_name(name, b"reclaim_pool") {
+        return row(3, vm_at(words, 2).map(|vm| Step::ReclaimPool { vm }));
+    }
+    if is_name(name, b"finish_guest") {
+        return row(2, Some(Step::FinishGuest));
+    }
+    if is_name(name, b"guest_relax") {
+        return row(4, guest_relax(words));
+    }
+    if is_name(name, b"guest_translate") {
+        return row(4, guest_translate(words));
+    }
+    if is_name(name, b"mark_dying") {
+        return row(2, Some(Step::MarkDying));
+    }
+    vm_call(name, words)
+}
+
+/// The rows of VM slots.
+#[tactic(auto, unfolding(crate::specs::Calls::called_in))]
+fn vm_call(name: &[u8], words: &Words<'_>) -> Option<Called>
+    ensures { result ≡ called_in vm_calls words.now name.now }
+{
+    if is_name(name, b"vm_reserve") {
+        return row(4, vm_reserve(words));
+    }
+    if is_name(name, b"vm_open") {
+        return row(2, Some(Step::VmOpen));
+    }
+    if is_name(name, b"vcpu_load") {
+        return row(4, vcpu_load(words));
+    }
+    if is_name(name, b"vcpu_put") {
+        return row(2, Some(Step::VcpuPut));
+    }
+    if is_name(name, b"teardown") {
+        return row(3, vm_at(words, 2).map(|vm| Step::Teardown { vm }));
+    }
+    if is_name(name, b"vm_release") {
+        return row(2, Some(Step::VmRelease));
+    }
+    None
 }
 
 fn row(words: usize, step: Option<Step>) -> Option<Called>

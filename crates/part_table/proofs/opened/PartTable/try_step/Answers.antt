@@ -1,5 +1,5 @@
 use Rattle.std.proofs.Common.{◌∙◌}
-use Rattle.part_table.proofs.Telling.{away_of, full_of, stays_of, stores_of}
+use Rattle.part_table.proofs.Telling.{away_of, full_of, met_of, stays_of, stores_of}
 use Rattle.part_table.proofs.opened.PartTable.try_step.Goals as goal
 
 pub returns-clause-stored : goal.returns-clause-stored
@@ -7,6 +7,9 @@ returns-clause-stored g c s = stores_of c.args.step c.try_step.result c.args.pas
 
 pub returns-clause-contended : goal.returns-clause-contended
 returns-clause-contended g c s = away_of c.args.step c.try_step.result c.args.pass.now.knows c.try_step.new.self.knows c.try_step.ensures.answers s
+
+pub returns-clause-met : goal.returns-clause-met
+returns-clause-met g c m = met_of c.args.step c.try_step.result c.args.pass.now.knows c.try_step.new.self.knows c.try_step.ensures.answers m
 
 pub returns-clause-log_full : goal.returns-clause-log_full
 returns-clause-log_full g c s = full_of c.args.step c.try_step.result c.args.pass.now.knows c.try_step.new.self.knows c.try_step.ensures.answers s

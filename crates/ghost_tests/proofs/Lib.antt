@@ -1,0 +1,2 @@
+pub mod PokedTables
+pub mod PutRows

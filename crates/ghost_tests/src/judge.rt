@@ -1,0 +1,254 @@
+//! What the judge says of a step.
+ghost use Rattle.std.specs.Prelude.{◌≡◌, ◌<◌, IfOk};
+ghost use Rattle.ghost_spec.specs.States.{IsKept};
+
+use ghost_oracle::disagreement::{Disagreement, TreeOf};
+use ghost_oracle::judge::{differs, judge};
+use ghost_spec::start::start;
+use ghost_spec::state::Ghost;
+use page_state::{
+    Config, Entry, Frame, Geometry, Kind, Layout, MemoryMap, Owner, Page, PageRange, Prot, Refusal,
+    Region, RegionKind, Reply, Row, State, Step, Usage, Value,
+};
+use std::alloc::{AllocError, Global};
+use std::process::Abort;
+use std::test::Fail;
+
+fn region(kind: RegionKind, first: u64, count: u64) -> Region {
+    Region {
+        kind,
+        pages: PageRange {
+            first: Page(first),
+            count,
+        },
+    }
+}
+
+/// The boot state of a memory with a device, and two CPUs.
+fn booted(rt: &impl Abort, alloc: Global) -> Result<Ghost, Fail>
+    ensures kept { IfOk result IsKept }
+    ensures cpus { IfOk result (λ g. g.layout.config.cpus ≡ 2) }
+{
+    let regions = [
+        region(RegionKind::Device, 0x9000, 0x10),
+        region(RegionKind::Memory, 0x40000, 0x800),
+    ];
+    let carve = PageRange {
+        first: Page(0x40600),
+        count: 0x40,
+    };
+    let layout = Layout {
+        map: MemoryMap::new(alloc, regions.as_slice(), carve)?,
+        config: Config {
+            cpus: 2,
+            log: 64,
+            geometry: 39,
+        },
+        geometry: Geometry::Bits39,
+    };
+    Ok(start(alloc, layout)?.expect(rt, "enough frames"))
+}
+
+/// The one part of a state that changes.
+#[derive(Clone, Copy)]
+enum Change {
+    Nothing,
+    Pool,
+    Guest,
+    Slot,
+    Cpu,
+    Room,
+}
+
+/// The shared pool loses its last frame.
+fn lose_frame(state: &mut Ghost)
+    requires { IsKept state.old }
+    ensures kept { IsKept state.new }
+    ensures layout { state.new.layout ≡ state.old.layout }
+{
+    state.shared.free.pop();
+}
+
+/// The guest of a slot gets another generation.
+fn renew_guest(state: &mut Ghost)
+    requires { IsKept state.old }
+    ensures kept { IsKept state.new }
+    ensures layout { state.new.layout ≡ state.old.layout }
+{
+    state.guests[3].generation = 9;
+}
+
+/// The slot gets another generation.
+fn renew_slot(state: &mut Ghost)
+    requires { IsKept state.old }
+    ensures kept { IsKept state.new }
+    ensures layout { state.new.layout ≡ state.old.layout }
+{
+    state.vms[3].generation = 9;
+}
+
+/// The second CPU holds frames.
+fn hold(state: &mut Ghost)
+    requires kept { IsKept state.old }
+    requires cpus { 1 < state.old.layout.config.cpus }
+    ensures kept { IsKept state.new }
+    ensures layout { state.new.layout ≡ state.old.layout }
+{
+    state.cpus[1].hand = Some(PageRange {
+        first: Page(0x40100),
+        count: 1,
+    });
+}
+
+/// More calls can be stored.
+fn widen(state: &mut Ghost)
+    requires { IsKept state.old }
+    ensures kept { IsKept state.new }
+    ensures layout { state.new.layout ≡ state.old.layout }
+{
+    state.rooms.shared = 99;
+}
+
+fn make(state: &mut Ghost, change: Change)
+    requires kept { IsKept state.old }
+    requires cpus { 1 < state.old.layout.config.cpus }
+    ensures kept { IsKept state.new }
+    ensures layout { state.new.layout ≡ state.old.layout }
+{
+    match change {
+        Change::Nothing => {}
+        Change::Pool => lose_frame(state),
+        Change::Guest => renew_guest(state),
+        Change::Slot => renew_slot(state),
+        Change::Cpu => hold(state),
+        Change::Room => widen(state),
+    }
+}
+
+/// The first difference from the boot state of one that is changed.
+fn told(rt: &impl Abort, alloc: Global, change: Change) -> Result<Option<Disagreement>, Fail> {
+    let spec = booted(rt, alloc)?;
+    let mut post = spec.copied(alloc)?;
+    make(&mut post, change);
+    Ok(differs(alloc, &post, &spec)?)
+}
+
+/// Compares that difference.
+fn expect_told(
+    rt: &impl Abort,
+    alloc: Global,
+    change: Change,
+    wanted: Option<Disagreement>,
+) -> Result<(), Fail> {
+    assert_eq!(rt; told(rt, alloc, change)?, wanted);
+    Ok(())
+}
+
+#[test]
+fn tells_the_part_that_differs(rt: HostRuntime) -> Result<(), Fail> {
+    let alloc = rt.alloc();
+    expect_told(&rt, alloc, Change::Nothing, None)?;
+    expect_told(&rt, alloc, Change::Room, None)?;
+    expect_told(&rt, alloc, Change::Pool, Some(Disagreement::Free))?;
+    expect_told(&rt, alloc, Change::Guest, Some(Disagreement::GuestFree(3)))?;
+    expect_told(&rt, alloc, Change::Slot, Some(Disagreement::Vm(3)))?;
+    expect_told(&rt, alloc, Change::Cpu, Some(Disagreement::Cpu(1)))
+}
+
+/// The judgement of a step of this state that makes this change alone.
+fn judged_after(
+    alloc: Global,
+    pre: &Ghost,
+    step: Step,
+    reply: Reply,
+    change: Change,
+) -> Result<Option<Disagreement>, AllocError>
+    requires kept { IsKept pre.now }
+    requires cpus { 1 < pre.now.layout.config.cpus }
+{
+    let mut post = pre.copied(alloc)?;
+    make(&mut post, change);
+    judge(alloc, pre, 0, step, &reply, &post)
+}
+
+/// Compares the judgement of a step of the boot state that makes this change alone.
+fn expect_judged(
+    rt: &impl Abort,
+    alloc: Global,
+    step: Step,
+    reply: Reply,
+    change: Change,
+    wanted: Option<Disagreement>,
+) -> Result<(), Fail> {
+    let pre = booted(rt, alloc)?;
+    let judged = judged_after(alloc, &pre, step, reply, change)?;
+    assert_eq!(rt; judged, wanted);
+    Ok(())
+}
+
+/// The share of a page of the host, which is made.
+const SHARE: Step = Step::ShareHyp { pfn: 0x40100 };
+
+/// The share of a page of the carve-out, which is refused.
+const CARVED: Step = Step::ShareHyp { pfn: 0x40600 };
+
+/// A question.
+const ASKS: Step = Step::OwnerOf { pfn: 0x40100 };
+
+const DONE: Reply = Reply::Done(Value::Nothing);
+
+const PERM: Reply = Reply::Refused(Refusal::Perm);
+
+const SHORT: Reply = Reply::Refused(Refusal::NoMemory);
+
+#[test]
+fn judges_replies(rt: HostRuntime) -> Result<(), Fail> {
+    let alloc = rt.alloc();
+    let wrong = Some(Disagreement::Reply {
+        said: PERM,
+        spec: DONE,
+    });
+    let free = Some(Disagreement::Free);
+    expect_judged(&rt, alloc, SHARE, PERM, Change::Nothing, wrong)?;
+    expect_judged(&rt, alloc, CARVED, PERM, Change::Nothing, None)?;
+    expect_judged(&rt, alloc, CARVED, PERM, Change::Pool, free)
+}
+
+#[test]
+fn judges_state_that_stayed(rt: HostRuntime) -> Result<(), Fail> {
+    let stayed = Some(Disagreement::Map {
+        tree: TreeOf::Host,
+        page: 0x40100,
+        kept: Entry::Unmapped,
+        walked: Entry::Leaf {
+            frame: Frame(0x40100),
+            prot: Prot::RWX,
+            kind: Kind::Normal,
+            state: State::SharedOwned,
+        },
+    });
+    expect_judged(&rt, rt.alloc(), SHARE, DONE, Change::Nothing, stayed)
+}
+
+#[test]
+fn judges_want_of_memory(rt: HostRuntime) -> Result<(), Fail> {
+    let alloc = rt.alloc();
+    let refused = Some(Disagreement::Reply {
+        said: SHORT,
+        spec: PERM,
+    });
+    let row = Row {
+        owner: Owner(0),
+        lent: None,
+        usage: Usage::Plain,
+    };
+    let told = Some(Disagreement::Reply {
+        said: SHORT,
+        spec: Reply::Done(Value::Row(row)),
+    });
+    let free = Some(Disagreement::Free);
+    expect_judged(&rt, alloc, SHARE, SHORT, Change::Nothing, None)?;
+    expect_judged(&rt, alloc, SHARE, SHORT, Change::Pool, free)?;
+    expect_judged(&rt, alloc, CARVED, SHORT, Change::Nothing, refused)?;
+    expect_judged(&rt, alloc, ASKS, SHORT, Change::Nothing, told)
+}

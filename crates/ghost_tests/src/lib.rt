@@ -1,0 +1,13 @@
+//! Tests of the plain program and of the oracle. They stand in a crate of their own, since tests are proved with all functions of their crate.
+#![tactic(auto)]
+
+#[cfg(test)]
+mod audit;
+#[cfg(test)]
+mod judge;
+#[cfg(test)]
+mod record;
+#[cfg(test)]
+mod rows;
+#[cfg(test)]
+mod spec;

@@ -1,0 +1,231 @@
+//! Lent parts as the oracle records them.
+ghost use Rattle.std.specs.Prelude.{◌≡◌, ◌+◌, ◌<◌, ◌≤◌, ◌^◌, ◌∷◌, IfOk, length};
+ghost use Rattle.hyp_pool.specs.Pools.{IsPool};
+ghost use Rattle.page_state.specs.Geometries.{levels_below};
+ghost use Rattle.reference_model.specs.ChangeLaws.{Fits};
+ghost use Rattle.guest_steps.specs.Apart.{IsApart};
+ghost use Rattle.guest_steps.specs.View.{cpu_of, depth_of, guest_held};
+ghost use Rattle.ghost_oracle.specs.Low.{IsLowCpu, IsLowGuest};
+
+use component::Component;
+use ghost_oracle::record::record;
+use ghost_spec::cpu::GhostCpu;
+use ghost_spec::tree::Table;
+use guest_component::Guest;
+use guest_steps::{CpuState, GuestPart, Log, SharedPart, VmPart};
+use hyp_pool::{Pool, laws};
+use owner_table::OwnerTable;
+use page_state::{
+    Config, Entry, Frame, Geometry, Kind, Layout, MemoryMap, Owner, Page, PageRange, Prot, Region,
+    RegionKind, Row, Run, State, Target, Usage,
+};
+use reference_model::{Changes, MapChange};
+use std::alloc::{AllocError, Global};
+use std::test::Fail;
+use table_tree::Tree;
+use vm_table::VmTable;
+
+/// Takes the lowest frame.
+fn taken(pool: &mut Pool) -> Frame
+    requires { 0 < length pool.old.frames }
+    ensures taken { pool.old.frames ≡ result.0 ∷ pool.new.frames }
+    ensures room { pool.new.room ≡ pool.old.room }
+    ensures pool { IsPool pool.new }
+{
+    pool.take().unwrap()
+}
+
+/// Trees of their roots alone, and the pool of 14 further frames.
+fn roots(alloc: Global) -> Result<(Component<Global>, Component<Global>, Pool), AllocError>
+    ensures host { IfOk result (λ r. levels_below r.0.tree.geometry ≡ 2) }
+    ensures hyp { IfOk result (λ r. levels_below r.1.tree.geometry ≡ 2) }
+    ensures apart { IfOk result (λ r. IsApart r.0.tree r.1.tree r.2) }
+{
+    laws::counted_frames();
+    let mut pool = Pool::of(alloc, Frame(0x40600), 16)?;
+    let host_root = taken(&mut pool);
+    let hyp_root = taken(&mut pool);
+    let host = Component::new(alloc, Tree::new(alloc, host_root, Geometry::Bits39)?);
+    let hyp = Component::new(alloc, Tree::new(alloc, hyp_root, Geometry::Bits39)?);
+    Ok((host, hyp, pool))
+}
+
+/// A Shared part of a memory, in which each frame has the row of the host's own.
+fn new_shared(alloc: Global, map: &MemoryMap) -> Result<SharedPart<Global>, AllocError>
+    ensures { IfOk result (λ s. depth_of s ≡ 2) }
+{
+    let (host, hyp, pool) = roots(alloc)?;
+    Ok(SharedPart {
+        host,
+        hyp,
+        pool,
+        rows: OwnerTable::of(alloc, map)?,
+        log: Log::new(alloc, 5)?,
+    })
+}
+
+/// The host's pages of the frames become the hypervisor's.
+fn host_change() -> MapChange
+    ensures { Fits 2 result }
+{
+    MapChange {
+        range: PageRange {
+            first: Page(0x40600),
+            count: 16,
+        },
+        entry: Entry::Annotated(Owner(1)),
+    }
+}
+
+/// The hypervisor maps the frames.
+fn hyp_change() -> MapChange
+    ensures { Fits 2 result }
+{
+    MapChange {
+        range: PageRange {
+            first: Page(0x404_0600),
+            count: 16,
+        },
+        entry: Entry::Leaf {
+            frame: Frame(0x40600),
+            prot: Prot::RW,
+            kind: Kind::Normal,
+            state: State::Owned,
+        },
+    }
+}
+
+/// A Shared part after these changes.
+fn shared(alloc: Global, map: &MemoryMap) -> Result<SharedPart<Global>, Fail> {
+    let mut shared = new_shared(alloc, map)?;
+    let changes = Changes {
+        host: Some(host_change()),
+        hyp: Some(hyp_change()),
+        ..Changes::NONE
+    };
+    shared.change(alloc, &changes)?;
+    Ok(shared)
+}
+
+/// A hand of three frames.
+const HAND: PageRange = PageRange {
+    first: Page(0x40100),
+    count: 3,
+};
+
+/// A CPU with that hand.
+fn own_state(alloc: Global) -> Result<CpuState, AllocError>
+    ensures { IfOk result (λ k. IsLowCpu (cpu_of k)) }
+{
+    Ok(CpuState {
+        loaded: None,
+        hand: Some(HAND),
+        ticket: None,
+        log: Log::new(alloc, 7)?,
+    })
+}
+
+/// A memory of 2,048 pages, and two CPUs.
+fn layout(alloc: Global) -> Result<Layout, Fail>
+    ensures { IfOk result (λ l. l.config.cpus ≡ 2) }
+{
+    let region = Region {
+        kind: RegionKind::Memory,
+        pages: PageRange {
+            first: Page(0x40000),
+            count: 0x800,
+        },
+    };
+    let carve = PageRange {
+        first: Page(0x40600),
+        count: 16,
+    };
+    Ok(Layout {
+        map: MemoryMap::new(alloc, [region].as_slice(), carve)?,
+        config: Config {
+            cpus: 2,
+            log: 9,
+            geometry: 39,
+        },
+        geometry: Geometry::Bits39,
+    })
+}
+
+#[test]
+fn records_what_is_given_alone(rt: HostRuntime) -> Result<(), Fail> {
+    let alloc = rt.alloc();
+    let layout = layout(alloc)?;
+    let shared = shared(alloc, &layout.map)?;
+    let own = own_state(alloc)?;
+    let told = record(alloc, &layout, 1, None, Some(&shared), None, &own)?;
+    let host = Run {
+        pages: host_change().range,
+        target: Target::Annotated(Owner(1)),
+    };
+    assert_eq!(rt; told.shared.host.runs.as_slice(), [host].as_slice());
+    let tables = [
+        Table {
+            block: (3, 0),
+            frame: 0x40601,
+        },
+        Table {
+            block: (2, 257),
+            frame: 0x40604,
+        },
+        Table {
+            block: (1, 131_587),
+            frame: 0x40605,
+        },
+    ];
+    assert_eq!(rt; told.shared.hyp.tables.as_slice(), tables.as_slice());
+    assert_eq!(rt; told.shared.free.first().copied(), Some(0x40606));
+    assert_eq!(rt; told.shared.free.len(), 10);
+    let row = Row {
+        owner: Owner(0),
+        lent: None,
+        usage: Usage::Plain,
+    };
+    assert_eq!(rt; told.shared.rows.at(Page(0x40600)), Some(row));
+    assert_eq!(rt; told.shared.rows.at(Page(0x40800)), None);
+    let held = GhostCpu {
+        hand: Some(HAND),
+        ..GhostCpu::NONE
+    };
+    assert_eq!(rt; told.cpus.as_slice(), [GhostCpu::NONE, held].as_slice());
+    assert_eq!(rt; told.rooms.cpus.as_slice(), [9, 7].as_slice());
+    assert_eq!(rt; told.rooms.shared, 5);
+    assert_eq!(rt; told.rooms.vms, 9);
+    assert_eq!(rt; told.vms.len(), 64);
+    assert_eq!(rt; told.guests.len(), 64);
+    Ok(())
+}
+
+/// A Guest part whose guest is Empty.
+fn empty_part(alloc: Global) -> Result<GuestPart<Global>, AllocError>
+    ensures { IfOk result (λ g. IsLowGuest (guest_held g)) }
+{
+    Ok(GuestPart {
+        guest: Guest::new(alloc, Geometry::Bits39),
+        log: Log::new(alloc, 4)?,
+    })
+}
+
+#[test]
+fn records_rooms_of_given_logs(rt: HostRuntime) -> Result<(), Fail> {
+    let alloc = rt.alloc();
+    let layout = layout(alloc)?;
+    let own = own_state(alloc)?;
+    let guest = empty_part(alloc)?;
+    let vms = VmPart {
+        table: VmTable::new(alloc)?,
+        log: Log::new(alloc, 6)?,
+    };
+    let told = record(alloc, &layout, 0, Some(&vms), None, Some((3, &guest)), &own)?;
+    assert_eq!(rt; told.rooms.vms, 6);
+    assert_eq!(rt; told.rooms.shared, 9);
+    assert_eq!(rt; told.rooms.guests.get(2).copied(), Some(9));
+    assert_eq!(rt; told.rooms.guests.get(3).copied(), Some(4));
+    assert_eq!(rt; told.rooms.cpus.as_slice(), [7, 9].as_slice());
+    assert_eq!(rt; told.shared.host.tables.len(), 0);
+    Ok(())
+}

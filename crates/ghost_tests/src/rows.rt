@@ -1,0 +1,147 @@
+//! Owner rows from scratch.
+ghost use Rattle.std.specs.Prelude.{◌<◌, IfOk};
+ghost use Rattle.ghost_spec.specs.States.{IsKept};
+
+use ghost_oracle::rows::rows_from_scratch;
+use ghost_spec::start::start;
+use ghost_spec::state::Ghost;
+use page_state::{
+    Config, Geometry, Layout, MemoryMap, Page, PageRange, Prot, Refusal, Region, RegionKind, Reply,
+    Step, VmId, VmKind,
+};
+use std::alloc::{AllocError, Global};
+use std::process::Abort;
+use std::test::Fail;
+
+/// A region of a kind.
+fn region(kind: RegionKind, first: u64, count: u64) -> Region {
+    let pages = PageRange {
+        first: Page(first),
+        count,
+    };
+    Region { kind, pages }
+}
+
+/// Two regions of memory that meet and a device, with a carve-out at 0x40600.
+fn memory(alloc: Global) -> Result<MemoryMap, Fail> {
+    let regions = [
+        region(RegionKind::Memory, 0x40280, 0x580),
+        region(RegionKind::Device, 0x9000, 0x10),
+        region(RegionKind::Memory, 0x40000, 0x280),
+    ];
+    let carve = PageRange {
+        first: Page(0x40600),
+        count: 0x40,
+    };
+    Ok(MemoryMap::new(alloc, regions.as_slice(), carve)?)
+}
+
+/// The boot state.
+fn booted(rt: &impl Abort, alloc: Global) -> Result<Ghost, Fail>
+    ensures kept { IfOk result IsKept }
+    ensures cpus { IfOk result (λ g. 0 < g.layout.config.cpus) }
+{
+    let layout = Layout {
+        map: memory(alloc)?,
+        config: Config {
+            cpus: 2,
+            log: 100,
+            geometry: 39,
+        },
+        geometry: Geometry::Bits39,
+    };
+    Ok(start(alloc, layout)?.expect(rt, "enough frames"))
+}
+
+/// Compares the rows from scratch with those that are kept.
+fn expect_rows(rt: &impl Abort, alloc: Global, state: &Ghost) -> Result<(), Fail>
+    requires { IsKept state.now }
+{
+    let rows = rows_from_scratch(alloc, state)?;
+    assert_eq!(rt; rows.runs(), state.shared.rows.runs());
+    Ok(())
+}
+
+/// Makes steps of CPU 0 that aren't refused, and compares rows after each.
+fn make_all(rt: &impl Abort, alloc: Global, state: Ghost, steps: &[Step]) -> Result<Ghost, Fail>
+    requires { IsKept state }
+    ensures { IfOk result IsKept }
+{
+    let mut state = state;
+    for step in steps {
+        assert!(rt; state.layout.config.cpus > 0);
+        let said = state.advance(alloc, 0, *step)?;
+        assert!(rt; !matches!(said, Reply::Refused(_)));
+        expect_rows(rt, alloc, &state)?;
+    }
+    Ok(state)
+}
+
+/// The first VM.
+const VM: VmId = VmId {
+    slot: 0,
+    generation: 1,
+};
+
+/// Makes steps once the first VM of a kind is open, and its vCPU 0 loaded by CPU 0.
+fn make_after_opening(
+    rt: &impl Abort,
+    alloc: Global,
+    kind: VmKind,
+    steps: &[Step],
+) -> Result<(), Fail> {
+    let opening = [
+        Step::VmReserve { kind, vcpus: 1 },
+        Step::Fund { pfn: 0x40100, n: 4 },
+        Step::Install,
+        Step::VmOpen,
+        Step::VcpuLoad { vm: VM, vcpu: 0 },
+    ];
+    let state = booted(rt, alloc)?;
+    expect_rows(rt, alloc, &state)?;
+    let opened = make_all(rt, alloc, state, opening.as_slice())?;
+    make_all(rt, alloc, opened, steps)?;
+    Ok(())
+}
+
+#[test]
+fn finds_rows_of_shares(rt: HostRuntime) -> Result<(), Fail> {
+    let steps = [
+        Step::ShareHyp { pfn: 0x40300 },
+        Step::ShareHyp { pfn: 0x40301 },
+        Step::DonateHyp { pfn: 0x40302, n: 3 },
+        Step::UnshareHyp { pfn: 0x40300 },
+        Step::Fund { pfn: 0x4027f, n: 2 },
+    ];
+    let state = booted(&rt, rt.alloc())?;
+    make_all(&rt, rt.alloc(), state, steps.as_slice())?;
+    Ok(())
+}
+
+#[test]
+fn finds_rows_of_a_protected_vm(rt: HostRuntime) -> Result<(), Fail> {
+    let gfn = 0x10;
+    let steps = [
+        Step::DonateGuest { pfn: 0x40200, gfn },
+        Step::GuestShareHost { gfn },
+        Step::GuestUnshareHost { gfn },
+        Step::VcpuPut,
+        Step::Teardown { vm: VM },
+        Step::MarkDying,
+        Step::ReclaimPage { vm: VM, gfn },
+        Step::ReclaimPool { vm: VM },
+    ];
+    make_after_opening(&rt, rt.alloc(), VmKind::Protected, steps.as_slice())
+}
+
+#[test]
+fn finds_rows_of_a_plain_vm(rt: HostRuntime) -> Result<(), Fail> {
+    let gfn = 0x7ff_ffff;
+    let share = Step::ShareGuest {
+        pfn: 0x40200,
+        gfn,
+        prot: Prot::R,
+    };
+    let steps = [share, Step::UnshareGuest { vm: VM, gfn }];
+    make_after_opening(&rt, rt.alloc(), VmKind::Plain, steps.as_slice())
+}

@@ -1,0 +1,80 @@
+//! Machines of two CPUs and of eight.
+ghost use Rattle.part_table.specs.Passes.{IsPassOf};
+
+mod gates;
+mod rows;
+
+use cpu_threads::{CpuPass, Gate, InitStage, Machine};
+use page_state::{
+    Config, MemoryMap, Page, PageRange, Refusal, Region, RegionKind, Reply, Step, Value, VmId,
+    VmKind,
+};
+use std::alloc::Global;
+use std::process::Abort;
+use std::sync::Wait;
+use std::test::Fail;
+
+/// Memory of 2,048 pages with a carve-out of 64 frames, and a device.
+fn memory(alloc: Global) -> Result<MemoryMap, Fail> {
+    let regions = [
+        Region {
+            kind: RegionKind::Device,
+            pages: PageRange {
+                first: Page(0x9000),
+                count: 0x10,
+            },
+        },
+        Region {
+            kind: RegionKind::Memory,
+            pages: PageRange {
+                first: Page(0x40000),
+                count: 0x800,
+            },
+        },
+    ];
+    let carve = PageRange {
+        first: Page(0x40600),
+        count: 0x40,
+    };
+    Ok(MemoryMap::new(alloc, regions.as_slice(), carve)?)
+}
+
+/// A machine of that memory with so many CPUs and logs of so many calls.
+fn booted(alloc: Global, cpus: u64, log: u64) -> Result<Machine<Global>, Fail> {
+    let map = memory(alloc)?;
+    let config = Config {
+        cpus,
+        log,
+        geometry: 39,
+    };
+    Ok(Machine::boot(alloc, alloc, &map, config)?)
+}
+
+/// Makes a VM, and compares what is answered.
+fn expect_init<R: Wait + Abort>(
+    rt: &R,
+    machine: &Machine<Global>,
+    pass: &mut CpuPass<Global>,
+    asked: (VmKind, u64, u64, u64),
+    made: Result<VmId, (InitStage, Refusal)>,
+)
+    requires { IsPassOf machine.now.table pass.old }
+    ensures { IsPassOf machine.now.table pass.new }
+{
+    let (kind, vcpus, pfn, n) = asked;
+    let said = machine.init_vm(rt, pass, kind, vcpus, pfn, n);
+    assert!(rt; said == made);
+}
+
+/// The VM of the first slot, of a protected kind, by CPU 0, with 4 frames.
+fn make_first<R: Wait + Abort>(rt: &R, machine: &Machine<Global>, pass: &mut CpuPass<Global>)
+    requires { IsPassOf machine.now.table pass.old }
+    ensures { IsPassOf machine.now.table pass.new }
+{
+    let vm = VmId {
+        slot: 0,
+        generation: 1,
+    };
+    let asked = (VmKind::Protected, 1, 0x40400, 4);
+    expect_init(rt, machine, pass, asked, Ok(vm));
+}

@@ -1,0 +1,380 @@
+//! Steps of all calls from fixed seeds, made by a world and foretold by the plain program.
+ghost use Rattle.std.specs.Prelude.{◌<◌, ◌^◌, IfOk, OnOk};
+ghost use Rattle.ghost_spec.specs.States.{IsKept};
+
+use super::compare;
+use ghost_spec::parts::{GhostGuest, GhostPhase};
+use ghost_spec::start::start;
+use ghost_spec::state::{Ghost, predict};
+use guest_component::Guest;
+use page_state::{
+    Config, Geometry, Layout, MemoryMap, Page, PageRange, Prot, Region, RegionKind, Run, Step,
+    VmId, VmKind,
+};
+use std::alloc::Global;
+use std::ops::Range;
+use std::process::Abort;
+use std::test::Fail;
+use world::World;
+
+/// The pairs of steps of each.
+const STEPS: u64 = 24;
+
+/// Numbers that look random, the same for the same seed: a linear congruence of 64 bits.
+#[derive(Drop)]
+struct Numbers {
+    state: u64,
+}
+
+impl Numbers {
+    /// A number below `bound`.
+    fn below(&mut self, bound: u64) -> u64
+        requires { 0 < bound }
+        ensures { result < bound }
+    {
+        self.state = self
+            .state
+            .wrapping_mul(6_364_136_223_846_793_005)
+            .wrapping_add(1_442_695_040_888_963_407);
+        (self.state >> 33) % bound
+    }
+
+    /// A frame near others that are asked for, seldom one of the carve-out, of a device or of nothing.
+    fn frame(&mut self) -> u64
+        ensures { result < 2 ^ 27 }
+    {
+        match self.below(16) {
+            0 => 0x40180,
+            1 => 0x40800,
+            2 => 0x9000,
+            3 => 0x40120,
+            _ => 0x40100 + self.below(4),
+        }
+    }
+
+    /// An input page of a guest.
+    fn guest_page(&mut self) -> u64 {
+        match self.below(16) {
+            0 => 1 << 27,
+            1 => 0,
+            _ => 0x80000 + self.below(3),
+        }
+    }
+
+    /// A VM, mostly the first of the first slot.
+    fn vm(&mut self) -> VmId {
+        let slot = match self.below(12) {
+            0 => 64,
+            1 => 1,
+            _ => 0,
+        };
+        VmId {
+            slot,
+            generation: 1 + self.below(8) / 7,
+        }
+    }
+
+    /// Rights.
+    fn rights(&mut self) -> Prot {
+        match self.below(4) {
+            0 => Prot::R,
+            1 => Prot::RW,
+            2 => Prot::RX,
+            _ => Prot::RWX,
+        }
+    }
+
+    /// A kind of VM.
+    fn kind(&mut self) -> VmKind {
+        if self.below(2) == 0 {
+            VmKind::Protected
+        } else {
+            VmKind::Plain
+        }
+    }
+
+    /// Any step.
+    fn step(&mut self) -> Step {
+        match self.below(29) {
+            0 => Step::ShareHyp { pfn: self.frame() },
+            1 => Step::UnshareHyp { pfn: self.frame() },
+            2 => Step::DonateHyp {
+                pfn: self.frame(),
+                n: 1 + self.below(3),
+            },
+            3 => Step::HypDonateHost {
+                pfn: self.frame(),
+                n: 1 + self.below(3),
+            },
+            4 => Step::HostAbort { page: self.frame() },
+            5 => Step::HostTranslate { page: self.frame() },
+            6 => Step::HypTranslate {
+                page: 0x400_0000 + self.frame(),
+            },
+            7 => Step::OwnerOf { pfn: self.frame() },
+            8 => Step::Fund {
+                pfn: self.frame(),
+                n: 1 + self.below(3),
+            },
+            9 => Step::Unfund,
+            10 => Step::ShareGuest {
+                pfn: self.frame(),
+                gfn: self.guest_page(),
+                prot: self.rights(),
+            },
+            11 => Step::UnshareGuest {
+                vm: self.vm(),
+                gfn: self.guest_page(),
+            },
+            12 => Step::DonateGuest {
+                pfn: self.frame(),
+                gfn: self.guest_page(),
+            },
+            13 => Step::GuestShareHost {
+                gfn: self.guest_page(),
+            },
+            14 => Step::GuestUnshareHost {
+                gfn: self.guest_page(),
+            },
+            15 => Step::Install,
+            16 => Step::Topup { vm: self.vm() },
+            17 => Step::ReclaimPage {
+                vm: self.vm(),
+                gfn: self.guest_page(),
+            },
+            18 => Step::ReclaimPool { vm: self.vm() },
+            19 => Step::FinishGuest,
+            20 => Step::GuestRelax {
+                gfn: self.guest_page(),
+                prot: self.rights(),
+            },
+            21 => Step::GuestTranslate {
+                vm: self.vm(),
+                gfn: self.guest_page(),
+            },
+            22 => Step::MarkDying,
+            23 => Step::VmReserve {
+                kind: self.kind(),
+                vcpus: self.below(4),
+            },
+            24 => Step::VmOpen,
+            25 => Step::VcpuLoad {
+                vm: self.vm(),
+                vcpu: self.below(3),
+            },
+            26 => Step::VcpuPut,
+            27 => Step::Teardown { vm: self.vm() },
+            _ => Step::VmRelease,
+        }
+    }
+
+    /// The next step of a VM's life, so that steps on guests aren't all refused.
+    fn step_of_life(&mut self, at: u64) -> Step {
+        let vm = VmId {
+            slot: 0,
+            generation: 1,
+        };
+        match at {
+            0 => Step::VmReserve {
+                kind: self.kind(),
+                vcpus: 2,
+            },
+            1 => Step::Fund { pfn: 0x40110, n: 5 },
+            2 => Step::Install,
+            3 => Step::VmOpen,
+            4 => Step::VcpuLoad { vm, vcpu: 0 },
+            5 | 6 => Step::ShareGuest {
+                pfn: self.frame(),
+                gfn: self.guest_page(),
+                prot: self.rights(),
+            },
+            7 | 8 => Step::DonateGuest {
+                pfn: self.frame(),
+                gfn: self.guest_page(),
+            },
+            9 | 10 => Step::GuestShareHost {
+                gfn: self.guest_page(),
+            },
+            11 => Step::GuestUnshareHost {
+                gfn: self.guest_page(),
+            },
+            12 => Step::GuestRelax {
+                gfn: self.guest_page(),
+                prot: self.rights(),
+            },
+            13 => Step::VcpuPut,
+            14 => Step::Teardown { vm },
+            15 => Step::MarkDying,
+            16 | 17 | 18 => Step::ReclaimPage {
+                vm,
+                gfn: 0x80000 + at % 3,
+            },
+            19 => Step::FinishGuest,
+            20 | 21 => Step::ReclaimPool { vm },
+            22 => Step::FinishGuest,
+            _ => Step::VmRelease,
+        }
+    }
+}
+
+/// Memory with a carve-out of 12 frames, so that the pool runs out now and then, and a device. It has whole blocks of 512
+/// pages, or none, where a page that the host touches is then mapped alone.
+fn memory(alloc: Global, has_blocks: bool) -> Result<MemoryMap, Fail> {
+    let pages = if has_blocks {
+        PageRange {
+            first: Page(0x40000),
+            count: 0x800,
+        }
+    } else {
+        PageRange {
+            first: Page(0x40080),
+            count: 0x110,
+        }
+    };
+    let regions = [
+        Region {
+            kind: RegionKind::Device,
+            pages: PageRange {
+                first: Page(0x9000),
+                count: 2,
+            },
+        },
+        Region {
+            kind: RegionKind::Memory,
+            pages,
+        },
+    ];
+    let carve = PageRange {
+        first: Page(0x40180),
+        count: 12,
+    };
+    Ok(MemoryMap::new(alloc, regions.as_slice(), carve)?)
+}
+
+const CONFIG: Config = Config {
+    cpus: 2,
+    log: 40,
+    geometry: 39,
+};
+
+/// The boot state on lists.
+fn started(rt: &impl Abort, alloc: Global, has_blocks: bool) -> Result<Ghost, Fail>
+    ensures { IfOk result IsKept }
+{
+    let layout = Layout {
+        map: memory(alloc, has_blocks)?,
+        config: CONFIG,
+        geometry: Geometry::Bits39,
+    };
+    Ok(start(alloc, layout)?.expect(rt, "enough frames"))
+}
+
+/// Compares a guest with that of a state on lists: generation, tables, free frames and the runs of its map.
+fn compare_guest(
+    rt: &impl Abort,
+    alloc: Global,
+    guest: &Guest<Global>,
+    lists: &GhostGuest,
+) -> Result<(), Fail> {
+    assert_eq!(rt; guest.tables(), lists.tree.tables.len());
+    assert_eq!(rt; guest.free(), lists.free.len());
+    match guest.body() {
+        Some(body) => {
+            assert_eq!(rt; body.generation, lists.generation);
+            let runs: Vec<Run> = body.map.maplets().iter().collect(alloc)?;
+            assert_eq!(rt; runs.as_slice(), lists.tree.runs.as_slice());
+        }
+        None => {
+            assert!(rt; matches!(lists.phase, GhostPhase::Empty));
+            assert_eq!(rt; lists.tree.runs.len(), 0);
+        }
+    }
+    Ok(())
+}
+
+/// Compares all guests.
+fn compare_guests(
+    rt: &impl Abort,
+    alloc: Global,
+    world: &World<Global>,
+    lists: &Ghost,
+) -> Result<(), Fail> {
+    for slot in 0..64usize {
+        let part = world.parts().guests.get(slot).expect(rt, "a Guest part");
+        let told = lists.guests.get(slot).expect(rt, "a guest");
+        compare_guest(rt, alloc, &part.guest, told)?;
+    }
+    Ok(())
+}
+
+/// Makes one step of a CPU on a world and on lists, and compares the replies.
+fn step_on_both(
+    rt: &impl Abort,
+    alloc: Global,
+    world: &mut World<Global>,
+    lists: &mut Ghost,
+    cpu: u64,
+    step: Step,
+) -> Result<(), Fail>
+    requires kept { IsKept lists.old }
+    ensures kept { OnOk result (IsKept lists.new) }
+{
+    assert!(rt; cpu < world.cpus());
+    assert!(rt; cpu < lists.layout.config.cpus);
+    let reply = world.step(cpu, step);
+    let (foretold, after) = predict(alloc, lists, cpu, step)?;
+    assert_eq!(rt; reply, foretold);
+    *lists = after;
+    Ok(())
+}
+
+/// Makes the steps of a seed: one of a VM's life, then any of either CPU, and so on. What stands at their end is compared too.
+fn agrees(rt: &impl Abort, alloc: Global, seed: u64) -> Result<(), Fail> {
+    let has_blocks = seed % 16 == 0;
+    let map = memory(alloc, has_blocks)?;
+    let mut world = World::boot(alloc, alloc, &map, CONFIG)?;
+    let mut lists = started(rt, alloc, has_blocks)?;
+    let mut numbers = Numbers { state: seed };
+    for k in 0..STEPS {
+        let step = numbers.step_of_life(k);
+        step_on_both(rt, alloc, &mut world, &mut lists, 0, step)?;
+        let cpu = numbers.below(2);
+        let step = numbers.step();
+        step_on_both(rt, alloc, &mut world, &mut lists, cpu, step)?;
+    }
+    compare(rt, alloc, &world, &lists)?;
+    compare_guests(rt, alloc, &world, &lists)
+}
+
+/// The same for the traces of so many seeds.
+fn all_agree(rt: &impl Abort, alloc: Global, seeds: Range<u64>) -> Result<(), Fail> {
+    for seed in seeds {
+        agrees(rt, alloc, seed)?;
+    }
+    Ok(())
+}
+
+#[test]
+fn agrees_on_40_traces(rt: HostRuntime) -> Result<(), Fail> {
+    all_agree(&rt, rt.alloc(), 0..40)
+}
+
+#[test]
+fn agrees_on_80_traces(rt: HostRuntime) -> Result<(), Fail> {
+    all_agree(&rt, rt.alloc(), 40..80)
+}
+
+#[test]
+fn agrees_on_120_traces(rt: HostRuntime) -> Result<(), Fail> {
+    all_agree(&rt, rt.alloc(), 80..120)
+}
+
+#[test]
+fn agrees_on_160_traces(rt: HostRuntime) -> Result<(), Fail> {
+    all_agree(&rt, rt.alloc(), 120..160)
+}
+
+#[test]
+fn agrees_on_200_traces(rt: HostRuntime) -> Result<(), Fail> {
+    all_agree(&rt, rt.alloc(), 160..200)
+}
