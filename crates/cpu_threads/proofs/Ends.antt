@@ -4,37 +4,16 @@ use Rattle.std.specs.Prelude.{Option, Some, None, slice_get, slice_set, slice_in
 use mathlib.Core.Logic.{dite}
 use native.Mathlib.Decide.{ℕ_discrete}
 use Rattle.part_table.specs.Passes.{AreHomeFrom, IsPassOf, Opened, Pass}
+use Rattle.part_table.proofs.Lists.{from, get_front, get_last, get_set_else}
 use Rattle.cpu_threads.specs.Ends.{AreOf, HasAll, IsOut}
 use Rattle.cpu_threads.specs.Machines.{AreTheirs}
 
 module _ {X : Type 0} where
-  abbrev pub from : X → Option X → X
-  from d None = d
-  from d (Some x) = x
-
   pub get_end : (l : List X) (a b : X) (j : ℕ) → slice_get (l ++ a ∷ []) j ≡ Some b → (slice_get l j ≡ Some b) ⊎ ((j ≡ length l) × (a ≡ b))
   get_end [] a b zero e = inr (refl, ap (from a) e)
   get_end [] a b (suc j) e = absurd cc
   get_end (x ∷ xs) a b zero e = inl e
   get_end (x ∷ xs) a b (suc j) e = ⊎_elim (λ t. inl t) (λ (t : (j ≡ length xs) × (a ≡ b)). inr (ap suc t.0, t.1)) (get_end xs a b j e)
-
-  pub get_front : (l m : List X) (b : X) (j : ℕ) → slice_get l j ≡ Some b → slice_get (l ++ m) j ≡ Some b
-  get_front [] m b j e = absurd cc
-  get_front (x ∷ xs) m b zero e = e
-  get_front (x ∷ xs) m b (suc j) e = get_front xs m b j e
-
-  pub get_last : (l : List X) (a : X) (j : ℕ) → j ≡ length l → slice_get (l ++ a ∷ []) j ≡ Some a
-  get_last [] a zero e = refl
-  get_last [] a (suc j) e = absurd (omega arith)
-  get_last (x ∷ xs) a zero e = absurd (omega arith)
-  get_last (x ∷ xs) a (suc j) e = get_last xs a j (omega arith)
-
-  pub get_set_else : (l : List X) (i j : ℕ) (a : X) → j ≢ i → slice_get (slice_set l i a) j ≡ slice_get l j
-  get_set_else [] i j a ne = refl
-  get_set_else (y ∷ ys) zero zero a ne = absurd (ne refl)
-  get_set_else (y ∷ ys) zero (suc j) a ne = refl
-  get_set_else (y ∷ ys) (suc i) zero a ne = refl
-  get_set_else (y ∷ ys) (suc i) (suc j) a ne = get_set_else ys i j a (λ e. ne (ap suc e))
 
   pub get_of_or : (l : List X) (j : ℕ) (d : X) → j < length l → d ≡ slice_index_or l j d → slice_get l j ≡ Some d
   get_of_or [] j d lt e = absurd (omega arith)

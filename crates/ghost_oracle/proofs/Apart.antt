@@ -8,14 +8,9 @@ use Rattle.run_list.specs.Advance.{AdvanceLaws}
 use Rattle.run_list.specs.Runs.{run_end, PrecedesFirst, IsCoarsest, run_map, StartsFrom}
 use Rattle.run_list.specs.View.{IsKept}
 use Rattle.run_list.proofs.Maps.{run_in, run_high, none_low, starts_behind}
+use Rattle.run_list.proofs.Once.{none-some, some-same, first-value, stops}
 use Rattle.ghost_oracle.specs.Apart.{IsFirstApart}
 use Rattle.ghost_oracle.specs.inner.Parted.{parted_at, IsFoundApart}
-
-none-some : {V : Type 0} (v : V) (o : Option V) → o ≡ None → o ≡ Some v → ⊥
-none-some v o e f = let g : None ≡ Some v = sym e ∙ f in cc
-
-some-same : {V : Type 0} (v w : V) → Some v ≡ Some w → v ≡ w
-some-same v w e = cc
 
 not-both : (b : Bool) → b ≡ true → b ≡ false → ⊥
 not-both b e f = let g : true ≡ false = sym e ∙ f in cc
@@ -47,36 +42,20 @@ module _ {V : Type 0} (advance : V → ℕ → V) (can : V → ℕ → Type 0) (
   abbrev m : List (Run V) → ℕ → Option V
   m rs = run_map advance rs
 
-  first-value : (r : Run V) (rs : List (Run V)) → 0 < r.pages.count → run_map advance (r ∷ rs) r.pages.first.0 ≡ Some r.value
-  first-value r rs h =
-      let k : r.pages.first.0 - r.pages.first.0 ≡ 0 = omega arith in
-      run_in advance r rs r.pages.first.0 (omega arith) (omega arith) ∙ ap Some (ap (advance r.value) k ∙ laws.none r.value)
-
-  -- behind a run of a coarsest list the map doesn't go on us the run would
-  stops : (r : Run V) (rs : List (Run V)) → PrecedesFirst advance r rs → IsCoarsest advance rs → run_map advance rs (run_end r) ≡ Some (advance r.value r.pages.count) → ⊥
-  stops r [] p c h = none-some (advance r.value r.pages.count) None refl h
-  stops r (n ∷ rs) p c h =
-      by_lt (run_end r) n.pages.first.0
-      (λ l. none-some (advance r.value r.pages.count) (run_map advance (n ∷ rs) (run_end r)) (none_low advance n.pages.first.0 (run_end r) (n ∷ rs) c (omega arith) l) h)
-      (λ g.
-      let e : run_end r ≡ n.pages.first.0 = omega (arith, p.before) in
-      let here : run_map advance (n ∷ rs) (run_end r) ≡ Some n.value = ap (run_map advance (n ∷ rs)) e ∙ first-value n rs c.0 in
-      p.apart e (some-same (advance r.value r.pages.count) n.value (sym h ∙ here)))
-
   -- nothing stands before the first of two lists
   none_before : (q p : ℕ) (rs ss : List (Run V)) → IsCoarsest advance rs → IsCoarsest advance ss → StartsFrom q rs → StartsFrom q ss → p < q → run_map advance rs p ≡ run_map advance ss p
   none_before q p rs ss a b s t h = none_low advance q p rs a s h ∙ sym (none_low advance q p ss b t h)
 
   starts : (r s : Run V) (rs ss : List (Run V)) → IsCoarsest advance (r ∷ rs) → IsCoarsest advance (s ∷ ss) → r.pages.first.0 < s.pages.first.0 → IsFirstApart (run_map advance (r ∷ rs)) (run_map advance (s ∷ ss)) r.pages.first.0
   starts r s rs ss a b h = record {
-    differ = λ e. none-some r.value (run_map advance (s ∷ ss) r.pages.first.0) (none_low advance s.pages.first.0 r.pages.first.0 (s ∷ ss) b (omega arith) h) (sym e ∙ first-value r rs a.0);
+    differ = λ e. none-some r.value (run_map advance (s ∷ ss) r.pages.first.0) (none_low advance s.pages.first.0 r.pages.first.0 (s ∷ ss) b (omega arith) h) (sym e ∙ first-value advance can same laws r rs a.0);
     before = λ k l. none_before r.pages.first.0 k (r ∷ rs) (s ∷ ss) a b (omega arith) (omega arith) l;
   }
 
   values : (r s : Run V) (rs ss : List (Run V)) → IsCoarsest advance (r ∷ rs) → IsCoarsest advance (s ∷ ss) → r.pages.first.0 ≡ s.pages.first.0 → same r.value s.value ≡ false → IsFirstApart (run_map advance (r ∷ rs)) (run_map advance (s ∷ ss)) r.pages.first.0
   values r s rs ss a b e f = record {
     differ = λ d.
-        let t : r.value ≡ s.value = some-same r.value s.value (sym (first-value r rs a.0) ∙ d ∙ ap (run_map advance (s ∷ ss)) e ∙ first-value s ss b.0) in
+        let t : r.value ≡ s.value = some-same r.value s.value (sym (first-value advance can same laws r rs a.0) ∙ d ∙ ap (run_map advance (s ∷ ss)) e ∙ first-value advance can same laws s ss b.0) in
         not-both (same r.value s.value) (subst (λ v. same r.value v ≡ true) t (laws.is_own r.value)) f;
     before = λ k l. none_before r.pages.first.0 k (r ∷ rs) (s ∷ ss) a b (omega arith) (omega arith) l;
   }
@@ -91,7 +70,7 @@ module _ {V : Type 0} (advance : V → ℕ → V) (can : V → ℕ → Type 0) (
     differ = λ d.
         let k : run_end r - s.pages.first.0 ≡ r.pages.count = omega arith in
         let there : run_map advance (s ∷ ss) (run_end r) ≡ Some (advance r.value r.pages.count) = run_in advance s ss (run_end r) (omega arith) (omega arith) ∙ ap Some (ap (advance s.value) k ∙ ap (λ v. advance v r.pages.count) (sym f)) in
-        stops r rs a.1 a.2 (sym (run_high advance r rs (run_end r) (omega arith)) ∙ d ∙ there);
+        stops advance can same laws r rs a.1 a.2 (sym (run_high advance r rs (run_end r) (omega arith)) ∙ d ∙ there);
     before = λ k l. by_lt k r.pages.first.0
         (λ x. none_before r.pages.first.0 k (r ∷ rs) (s ∷ ss) a b (omega arith) (omega arith) x)
         (λ x. on_both r s rs ss k e f x l (omega arith));
@@ -174,7 +153,7 @@ module _ {V : Type 0} (advance : V → ℕ → V) (can : V → ℕ → Type 0) (
 
   alone : (s : Run V) (ss : List (Run V)) → IsCoarsest advance (s ∷ ss) → IsFirstApart (run_map advance []) (run_map advance (s ∷ ss)) s.pages.first.0
   alone s ss b = record {
-    differ = λ e. none-some s.value None refl (e ∙ first-value s ss b.0);
+    differ = λ e. none-some s.value None refl (e ∙ first-value advance can same laws s ss b.0);
     before = λ k l. sym (none_low advance s.pages.first.0 k (s ∷ ss) b (omega arith) l);
   }
 

@@ -37,29 +37,8 @@ use Rattle.ghost_spec.specs.Found.{run_page}
 use Rattle.ghost_spec.specs.States.{guest_in}
 use Rattle.ghost_spec.specs.Views.{cpu_in}
 use Rattle.ghost_spec.proofs.Overlaid.{within_means}
-use Rattle.ghost_spec.proofs.RowsKept.{reach-by, reach-set}
+use Rattle.ghost_spec.proofs.RowsKept.{reach-by, reach-set, small-map, some-same, none-some}
 use Rattle.ghost_oracle.specs.RowsLaid.{first_some, guests_in, cpus_in, annotated_row, loan_row, loan_at, run_below, guest_loan, used_row, used_if, guest_use, hand_use}
-
-pub some-same : {a b : Row} → Some a ≡ Some b → a ≡ b
-some-same h = cc
-
-pub none-some : {a : Row} → None ≡ Some a → ⊥
-none-some h = cc
-
--- rows of small numbers
-
-on-run : (l : Option Lent) (r : Row) (n i : ℕ) → r.lent ≡ l → i < n → HasPageBelow r n → HasPageBelow (advance_row r i) 1
-on-run None r n i e h k = rw e tt
-on-run (Some l) r n i e h k = let w = rw e at k in rw e (omega (arith, h, w))
-
-pub small-map : (rs : List (Run Row)) → AreInReach HasPageBelow rs → (p : ℕ) (r : Row) → run_map advance_row rs p ≡ Some r → (p < 2 ^ 63) × HasPageBelow r 1
-small-map [] h p v e = absurd (none-some e)
-small-map (r ∷ rs) h p v e = by_test (is_in_range r.pages p)
-    (λ t. let w = within_means r.pages.first.0 r.pages.count p t in
-    let same : advance_row r.value (p - r.pages.first.0) ≡ v = some-same (rw t at e) in
-    let pages : run_end r ≤ 2 ^ 63 = h.0.pages in
-    (omega (arith, w.1, pages), subst (λ (x : Row). HasPageBelow x 1) same (on-run r.value.lent r.value r.pages.count (p - r.pages.first.0) refl (omega (arith, w.0, w.1)) h.0.values)))
-    (λ t. small-map rs h.1 p v (rw t at e))
 
 pub reach-laid : (rs ss : List (Run Row)) (first count : ℕ) (row : Option Row) → run_map advance_row ss ≡ map_updated advance_row (run_map advance_row rs) first count row → IsCoarsest advance_row ss → AreInReach HasPageBelow rs → first + count ≤ 2 ^ 63 → ForSome row (λ r. HasPageBelow r count) → AreInReach HasPageBelow ss
 reach-laid rs ss first count (Some row) e c h low small = reach-set rs ss first count row e c h low (small row refl)

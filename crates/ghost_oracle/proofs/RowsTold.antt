@@ -21,7 +21,7 @@ use Rattle.run_list.proofs.Found.{ended_at}
 use Rattle.run_list.proofs.Maps.{none_low, run_high, run_in}
 use Rattle.ghost_spec.proofs.Overlaid.{within_means}
 use Rattle.ghost_oracle.specs.RowsTold.{lent_told, HasNoBound}
-use Rattle.ghost_oracle.proofs.RowsLaid.{small-map}
+use Rattle.ghost_spec.proofs.RowsKept.{small-map}
 
 -- a range that has no row
 pub none-laid : (first count : ℕ) (memory : Bool) (m : ℕ → Option Row) (row : Row) (f : ℕ) → memory ≡ false

@@ -21,11 +21,11 @@ use Rattle.ghost_spec.proofs.Overlaid.{within_means}
 pub some-same : {a b : Row} → Some a ≡ Some b → a ≡ b
 some-same h = cc
 
-none-some : {a : Row} → None ≡ Some a → ⊥
+pub none-some : {a : Row} → None ≡ Some a → ⊥
 none-some h = cc
 
 -- each row of the map is small
-abbrev IsSmallMap : (ℕ → Option Row) → Type 0
+abbrev pub IsSmallMap : (ℕ → Option Row) → Type 0
 IsSmallMap m = (p : ℕ) (r : Row) → m p ≡ Some r → (p < 2 ^ 63) × HasPageBelow r 1
 
 -- a row somewhere on a run
@@ -38,7 +38,7 @@ by-last : (l : Option Lent) (r : Row) (n : ℕ) → r.lent ≡ l → 0 < n → H
 by-last None r n e h k = rw e tt
 by-last (Some l) r n e h k = let w = rw e at k in rw e (omega (arith, h, w))
 
-small-map : (rs : List (Run Row)) → AreInReach HasPageBelow rs → IsSmallMap (run_map advance_row rs)
+pub small-map : (rs : List (Run Row)) → AreInReach HasPageBelow rs → IsSmallMap (run_map advance_row rs)
 small-map [] h p v e = absurd (none-some e)
 small-map (r ∷ rs) h p v e = by_test (is_in_range r.pages p)
     (λ t. let w = within_means r.pages.first.0 r.pages.count p t in

@@ -6,10 +6,10 @@ use Rattle.run_list.specs.Advance.{AdvanceLaws}
 use Rattle.run_list.specs.Runs.{run_end, PrecedesFirst, IsCoarsest, run_map}
 use Rattle.run_list.proofs.Maps.{run_in, run_high, none_low, starts_behind}
 
-none-some : {V : Type 0} (v : V) (o : Option V) → o ≡ None → o ≡ Some v → ⊥
+pub none-some : {V : Type 0} (v : V) (o : Option V) → o ≡ None → o ≡ Some v → ⊥
 none-some v o e f = let g : None ≡ Some v = sym e ∙ f in cc
 
-some-same : {V : Type 0} (v w : V) → Some v ≡ Some w → v ≡ w
+pub some-same : {V : Type 0} (v w : V) → Some v ≡ Some w → v ≡ w
 some-same v w e = cc
 
 run-same : {V : Type 0} (r s : Run V) → r.pages.first.0 ≡ s.pages.first.0 → r.pages.count ≡ s.pages.count → r.value ≡ s.value → r ≡ s
@@ -22,13 +22,13 @@ module _ {V : Type 0} (advance : V → ℕ → V) (can : V → ℕ → Type 0) (
   abbrev SameMap : List (Run V) → List (Run V) → Type 0
   SameMap rs ss = (p : ℕ) → run_map advance rs p ≡ run_map advance ss p
 
-  first-value : (r : Run V) (rs : List (Run V)) → 0 < r.pages.count → run_map advance (r ∷ rs) r.pages.first.0 ≡ Some r.value
+  pub first-value : (r : Run V) (rs : List (Run V)) → 0 < r.pages.count → run_map advance (r ∷ rs) r.pages.first.0 ≡ Some r.value
   first-value r rs h =
       let k : r.pages.first.0 - r.pages.first.0 ≡ 0 = omega arith in
       run_in advance r rs r.pages.first.0 (omega arith) (omega arith) ∙ ap Some (ap (advance r.value) k ∙ laws.none r.value)
 
   -- behind a run of a coarsest list the map doesn't go on as the run would
-  stops : (r : Run V) (rs : List (Run V)) → PrecedesFirst advance r rs → IsCoarsest advance rs → run_map advance rs (run_end r) ≡ Some (advance r.value r.pages.count) → ⊥
+  pub stops : (r : Run V) (rs : List (Run V)) → PrecedesFirst advance r rs → IsCoarsest advance rs → run_map advance rs (run_end r) ≡ Some (advance r.value r.pages.count) → ⊥
   stops r [] p c h = none-some (advance r.value r.pages.count) None refl h
   stops r (n ∷ rs) p c h =
       by_lt (run_end r) n.pages.first.0

@@ -4,7 +4,8 @@ use Rattle.std.specs.Vec.{vec_len}
 use Rattle.part_table.specs.Passes.{AreHomeFrom, Opened, Pass}
 use Rattle.cpu_threads.specs.Ends.{AreOf, HasAll, IsOut}
 use Rattle.cpu_threads.specs.Machines.{AreTheirs}
-use Rattle.cpu_threads.proofs.Ends.{get_of_or, from, one_there, get_bound, back_there, back_all, others_all, of_front, of_last, all_home_by}
+use Rattle.part_table.proofs.Lists.{from}
+use Rattle.cpu_threads.proofs.Ends.{get_of_or, one_there, get_bound, back_there, back_all, others_all, of_front, of_last, all_home_by}
 use Rattle.cpu_threads.proofs.ending.all_back.Goals as goal
 
 pub loop-pass-preserved-then-is_none : goal.loop-pass-preserved-then-is_none

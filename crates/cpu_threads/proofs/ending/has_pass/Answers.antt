@@ -3,7 +3,8 @@ use Rattle.std.specs.Prelude.{List, slice_get}
 use mathlib.Core.Logic.{dite}
 use native.Mathlib.Decide.{ℕ_discrete}
 use Rattle.part_table.specs.Passes.{Pass}
-use Rattle.cpu_threads.proofs.Ends.{get_of_or, from, get_bound}
+use Rattle.part_table.proofs.Lists.{from}
+use Rattle.cpu_threads.proofs.Ends.{get_of_or, get_bound}
 use Rattle.cpu_threads.proofs.ending.has_pass.Goals as goal
 
 pub returns-then-cpu-clause-there : goal.returns-then-cpu-clause-there

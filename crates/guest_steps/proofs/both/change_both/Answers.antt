@@ -10,7 +10,7 @@ use Rattle.table_tree.proofs.Sums.{tree_some}
 use Rattle.walk_plan.proofs.Given.{take_drop_length, take_length}
 use Rattle.component.specs.View.{need_for, tree_after, back_from}
 use Rattle.guest_steps.proofs.Pools.{given_both}
-use Rattle.guest_steps.proofs.Changes.{after_take, need_same, after_same, back_same}
+use Rattle.guest_component.proofs.Same.{after_take, need_same, after_same, back_same}
 use Rattle.guest_steps.proofs.both.change_both.Goals as goal
 
 pub commit-requires-clause-distinct : goal.commit-requires-clause-distinct
