@@ -1,27 +1,18 @@
 -- Tries, one after another, and passes that are handed out.
-use Rattle.std.proofs.Common.{◌≡◌, ℕ, zero, suc, ◌<◌, List, [], ◌∷◌, length, sym, ap, ◌∙◌, arith}
-use Rattle.std.specs.Prelude.{Option, Some, None, IfSome, slice_get, slice_index_or}
+use Rattle.std.proofs.Common.{◌≡◌, ℕ, ◌<◌, List, length, sym, ap, ◌∙◌, arith}
+use Rattle.std.specs.Prelude.{Option, Some, None, IfSome, slice_get}
 use Rattle.part_table.specs.Passes.{AreFirst, IsPassOf, Opened, Pass, first_pass}
 use Rattle.part_table.specs.Rule.{IsSame, Known}
 use Rattle.cpu_threads.specs.Machines.{AreTheirs}
+use Rattle.cpu_threads.proofs.Ends.{get_bound}
 
 pub same_on : (u v w : Known) → IsSame u v → IsSame v w → IsSame u w
 same_on u v w a b = record { layout = b.layout ∙ a.layout; cpu = b.cpu ∙ a.cpu; own = b.own ∙ a.own; seen = b.seen ∙ a.seen }
-
-pub get_of_or : {X : Type 0} → (l : List X) (j : ℕ) (d : X) → j < length l → d ≡ slice_index_or l j d → slice_get l j ≡ Some d
-get_of_or [] j d lt e = absurd (omega arith)
-get_of_or (y ∷ ys) zero d lt e = ap (λ z. Some z) (sym e)
-get_of_or (y ∷ ys) (suc j) d lt e = get_of_or ys j d (omega arith) e
 
 -- what lies at a CPU's place is its pass, or nothing
 pub handed : (t : Opened) (passes : List (Option Pass)) (cpu : ℕ) (o : Option Pass) → AreTheirs t passes → slice_get passes cpu ≡ Some o → IfSome o (λ p. IsPassOf t p × (p.knows.cpu ≡ cpu))
 handed t passes cpu None theirs e = tt
 handed t passes cpu (Some p) theirs e = theirs cpu p e
-
-get_bound : {X : Type 0} → (l : List X) (j : ℕ) (x : X) → slice_get l j ≡ Some x → j < length l
-get_bound [] j x e = absurd cc
-get_bound (y ∷ ys) zero x e = omega arith
-get_bound (y ∷ ys) (suc j) x e = let r = get_bound ys j x e in omega arith
 
 abbrev or_pass : Pass → Option (Option Pass) → Pass
 or_pass d None = d

@@ -8,16 +8,15 @@ ghost use Rattle.ghost_spec.specs.States.{IsKept};
 ghost use Rattle.ghost_oracle.specs.Audits.{HaveSameFrames};
 ghost use Rattle.table_tree.specs.Raw.{IsRaw};
 
+use crate::sample::{memory, started};
 use descriptor::{Frame, Kind, Owner, Prot, State};
 use ghost_oracle::audit::audit;
 use ghost_oracle::disagreement::{Disagreement, TreeOf};
 use ghost_oracle::walk::walk;
-use ghost_spec::start::start;
 use ghost_spec::state::Ghost;
-use ghost_spec::tree::Table as FoundTable;
+use ghost_spec::tree::{Table as FoundTable, Tree};
 use page_state::{
-    Config, Entry, Geometry, Layout, MemoryMap, Page, PageRange, Refusal, Region, RegionKind,
-    Reply, Row, Run, Target, Usage, Value,
+    Entry, Geometry, Page, PageRange, Refusal, Reply, Row, Run, Target, Usage, Value,
 };
 use run_list::RunList;
 use std::alloc::{AllocError, Global};
@@ -115,78 +114,53 @@ fn tree(alloc: Global) -> Result<Table<Global>, AllocError>
     with_child(alloc, root, 1, blocks)
 }
 
+/// Compares what was found with the words of that tree.
+fn expect_found(rt: &impl Abort, found: &Tree) {
+    let first = 262_144;
+    let runs = [
+        run(first, 1024, leaf(0x40000)),
+        run(first + 1024, 3, leaf(0x40100)),
+        run(first + 1027, 2, Target::Annotated(Owner(2))),
+        run(first + 1029, 507, leaf(0x40105)),
+        run(first + 2560, 512, Target::Malformed),
+        run(511 * first, first, Target::Annotated(Owner(65))),
+    ];
+    assert!(rt; found.runs.as_slice() == runs.as_slice());
+    let tables = [
+        FoundTable {
+            block: (3, 0),
+            frame: 7,
+        },
+        FoundTable {
+            block: (2, 1),
+            frame: 8,
+        },
+        FoundTable {
+            block: (1, 514),
+            frame: 9,
+        },
+    ];
+    assert!(rt; found.tables.as_slice() == tables.as_slice());
+}
+
 #[test]
 fn walks_each_level(rt: HostRuntime) -> Result<(), Fail> {
     let alloc = rt.alloc();
     let root = tree(alloc)?;
     let mut reads = Reads::new();
     let found = walk(alloc, Geometry::Bits39, &root, &mut reads)?;
-    let first = 262_144;
-    assert_eq!(rt; found.runs.len(), 6);
-    assert_eq!(rt; found.runs[0], run(first, 1024, leaf(0x40000)));
-    assert_eq!(rt; found.runs[1], run(first + 1024, 3, leaf(0x40100)));
-    assert_eq!(rt;
-        found.runs[2],
-        run(first + 1027, 2, Target::Annotated(Owner(2)))
-    );
-    assert_eq!(rt; found.runs[3], run(first + 1029, 507, leaf(0x40105)));
-    assert_eq!(rt; found.runs[4], run(first + 2560, 512, Target::Malformed));
-    assert_eq!(rt;
-        found.runs[5],
-        run(511 * first, first, Target::Annotated(Owner(65)))
-    );
-    assert_eq!(rt; found.tables.len(), 3);
-    assert_eq!(rt;
-        found.tables[0],
-        FoundTable {
-            block: (3, 0),
-            frame: 7
-        }
-    );
-    assert_eq!(rt;
-        found.tables[1],
-        FoundTable {
-            block: (2, 1),
-            frame: 8
-        }
-    );
-    assert_eq!(rt;
-        found.tables[2],
-        FoundTable {
-            block: (1, 514),
-            frame: 9
-        }
-    );
+    expect_found(&rt, &found);
     assert_eq!(rt; reads.count(), 1536);
     Ok(())
 }
 
-/// A boot state of 64 slots, without rows.
+/// A boot state without rows.
 fn booted(rt: &impl Abort, alloc: Global) -> Result<Ghost, Fail>
     ensures kept { IfOk result IsKept }
     ensures rows { IfOk result (λ g. g.shared.rows.runs ≡ []) }
 {
-    let region = Region {
-        pages: PageRange {
-            first: Page(0x40000),
-            count: 0x800,
-        },
-        kind: RegionKind::Memory,
-    };
-    let carve = PageRange {
-        first: Page(0x40600),
-        count: 0x40,
-    };
-    let layout = Layout {
-        map: MemoryMap::new(alloc, [region].as_slice(), carve)?,
-        config: Config {
-            cpus: 1,
-            log: 9,
-            geometry: 39,
-        },
-        geometry: Geometry::Bits39,
-    };
-    let mut made = start(alloc, layout)?.expect(rt, "enough frames");
+    let map = memory(alloc, 0x40)?;
+    let mut made = started(alloc, map, 1, 9)?.expect(rt, "enough frames");
     made.shared.rows = RunList::new(alloc);
     Ok(made)
 }

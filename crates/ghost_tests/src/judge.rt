@@ -2,51 +2,25 @@
 ghost use Rattle.std.specs.Prelude.{◌≡◌, ◌<◌, IfOk};
 ghost use Rattle.ghost_spec.specs.States.{IsKept};
 
+use crate::sample::{memory, started};
 use ghost_oracle::disagreement::{Disagreement, TreeOf};
 use ghost_oracle::judge::{differs, judge};
-use ghost_spec::start::start;
 use ghost_spec::state::Ghost;
 use page_state::{
-    Config, Entry, Frame, Geometry, Kind, Layout, MemoryMap, Owner, Page, PageRange, Prot, Refusal,
-    Region, RegionKind, Reply, Row, State, Step, Usage, Value,
+    Entry, Frame, Kind, Owner, Page, PageRange, Prot, Refusal, Reply, Row, State, Step, Usage,
+    Value,
 };
 use std::alloc::{AllocError, Global};
 use std::process::Abort;
 use std::test::Fail;
 
-fn region(kind: RegionKind, first: u64, count: u64) -> Region {
-    Region {
-        kind,
-        pages: PageRange {
-            first: Page(first),
-            count,
-        },
-    }
-}
-
-/// The boot state of a memory with a device, and two CPUs.
+/// The boot state of two CPUs.
 fn booted(rt: &impl Abort, alloc: Global) -> Result<Ghost, Fail>
     ensures kept { IfOk result IsKept }
     ensures cpus { IfOk result (λ g. g.layout.config.cpus ≡ 2) }
 {
-    let regions = [
-        region(RegionKind::Device, 0x9000, 0x10),
-        region(RegionKind::Memory, 0x40000, 0x800),
-    ];
-    let carve = PageRange {
-        first: Page(0x40600),
-        count: 0x40,
-    };
-    let layout = Layout {
-        map: MemoryMap::new(alloc, regions.as_slice(), carve)?,
-        config: Config {
-            cpus: 2,
-            log: 64,
-            geometry: 39,
-        },
-        geometry: Geometry::Bits39,
-    };
-    Ok(start(alloc, layout)?.expect(rt, "enough frames"))
+    let map = memory(alloc, 0x40)?;
+    Ok(started(alloc, map, 2, 64)?.expect(rt, "enough frames"))
 }
 
 /// The one part of a state that changes.

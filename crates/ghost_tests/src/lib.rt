@@ -1,4 +1,5 @@
-//! Tests of the plain program and of the oracle. They stand in a crate of their own, since tests are proved with all functions of their crate.
+//! Tests of the plain program and of the oracle, and what tests of the crates above begin with too. They stand in a crate of
+//! their own, since tests are proved with all functions of their crate.
 #![tactic(auto)]
 
 #[cfg(test)]
@@ -9,5 +10,6 @@ mod judge;
 mod record;
 #[cfg(test)]
 mod rows;
+pub mod sample;
 #[cfg(test)]
 mod spec;

@@ -7,20 +7,24 @@ ghost use Rattle.guest_steps.specs.Apart.{IsApart};
 ghost use Rattle.guest_steps.specs.View.{cpu_of, depth_of, guest_held};
 ghost use Rattle.ghost_oracle.specs.Low.{IsLowCpu, IsLowGuest};
 
+use crate::sample::{config, memory};
 use component::Component;
 use ghost_oracle::record::record;
 use ghost_spec::cpu::GhostCpu;
+use ghost_spec::shared::Shared;
+use ghost_spec::state::{Ghost, GhostRooms};
 use ghost_spec::tree::Table;
 use guest_component::Guest;
 use guest_steps::{CpuState, GuestPart, Log, SharedPart, VmPart};
 use hyp_pool::{Pool, laws};
 use owner_table::OwnerTable;
 use page_state::{
-    Config, Entry, Frame, Geometry, Kind, Layout, MemoryMap, Owner, Page, PageRange, Prot, Region,
-    RegionKind, Row, Run, State, Target, Usage,
+    Entry, Frame, Geometry, Kind, Layout, MemoryMap, Owner, Page, PageRange, Prot, Row, Run, State,
+    Target, Usage,
 };
 use reference_model::{Changes, MapChange};
 use std::alloc::{AllocError, Global};
+use std::process::Abort;
 use std::test::Fail;
 use table_tree::Tree;
 use vm_table::VmTable;
@@ -125,44 +129,24 @@ fn own_state(alloc: Global) -> Result<CpuState, AllocError>
     })
 }
 
-/// A memory of 2,048 pages, and two CPUs.
+/// A carve-out of 16 frames, and two CPUs.
 fn layout(alloc: Global) -> Result<Layout, Fail>
     ensures { IfOk result (λ l. l.config.cpus ≡ 2) }
 {
-    let region = Region {
-        kind: RegionKind::Memory,
-        pages: PageRange {
-            first: Page(0x40000),
-            count: 0x800,
-        },
-    };
-    let carve = PageRange {
-        first: Page(0x40600),
-        count: 16,
-    };
     Ok(Layout {
-        map: MemoryMap::new(alloc, [region].as_slice(), carve)?,
-        config: Config {
-            cpus: 2,
-            log: 9,
-            geometry: 39,
-        },
+        map: memory(alloc, 16)?,
+        config: config(2, 9),
         geometry: Geometry::Bits39,
     })
 }
 
-#[test]
-fn records_what_is_given_alone(rt: HostRuntime) -> Result<(), Fail> {
-    let alloc = rt.alloc();
-    let layout = layout(alloc)?;
-    let shared = shared(alloc, &layout.map)?;
-    let own = own_state(alloc)?;
-    let told = record(alloc, &layout, 1, None, Some(&shared), None, &own)?;
+/// Compares what is recorded of the Shared part.
+fn expect_shared(rt: &impl Abort, told: &Shared) {
     let host = Run {
         pages: host_change().range,
         target: Target::Annotated(Owner(1)),
     };
-    assert_eq!(rt; told.shared.host.runs.as_slice(), [host].as_slice());
+    assert!(rt; told.host.runs.as_slice() == [host].as_slice());
     let tables = [
         Table {
             block: (3, 0),
@@ -177,26 +161,39 @@ fn records_what_is_given_alone(rt: HostRuntime) -> Result<(), Fail> {
             frame: 0x40605,
         },
     ];
-    assert_eq!(rt; told.shared.hyp.tables.as_slice(), tables.as_slice());
-    assert_eq!(rt; told.shared.free.first().copied(), Some(0x40606));
-    assert_eq!(rt; told.shared.free.len(), 10);
+    assert!(rt; told.hyp.tables.as_slice() == tables.as_slice());
+    assert!(rt; told.free.first().copied() == Some(0x40606));
+    assert!(rt; told.free.len() == 10);
     let row = Row {
         owner: Owner(0),
         lent: None,
         usage: Usage::Plain,
     };
-    assert_eq!(rt; told.shared.rows.at(Page(0x40600)), Some(row));
-    assert_eq!(rt; told.shared.rows.at(Page(0x40800)), None);
+    assert!(rt; told.rows.at(Page(0x40600)) == Some(row));
+    assert!(rt; told.rows.at(Page(0x40800)).is_none());
+}
+
+/// Compares what is recorded of CPUs, logs and what isn't given.
+fn expect_rest(rt: &impl Abort, told: &Ghost) {
     let held = GhostCpu {
         hand: Some(HAND),
         ..GhostCpu::NONE
     };
-    assert_eq!(rt; told.cpus.as_slice(), [GhostCpu::NONE, held].as_slice());
-    assert_eq!(rt; told.rooms.cpus.as_slice(), [9, 7].as_slice());
-    assert_eq!(rt; told.rooms.shared, 5);
-    assert_eq!(rt; told.rooms.vms, 9);
-    assert_eq!(rt; told.vms.len(), 64);
-    assert_eq!(rt; told.guests.len(), 64);
+    assert!(rt; told.cpus.as_slice() == [GhostCpu::NONE, held].as_slice());
+    assert!(rt; told.rooms.cpus.as_slice() == [9, 7].as_slice());
+    assert!(rt; (told.rooms.shared, told.rooms.vms) == (5, 9));
+    assert!(rt; (told.vms.len(), told.guests.len()) == (64, 64));
+}
+
+#[test]
+fn records_what_is_given_alone(rt: HostRuntime) -> Result<(), Fail> {
+    let alloc = rt.alloc();
+    let layout = layout(alloc)?;
+    let shared = shared(alloc, &layout.map)?;
+    let own = own_state(alloc)?;
+    let told = record(alloc, &layout, 1, None, Some(&shared), None, &own)?;
+    expect_shared(&rt, &told.shared);
+    expect_rest(&rt, &told);
     Ok(())
 }
 
@@ -210,6 +207,14 @@ fn empty_part(alloc: Global) -> Result<GuestPart<Global>, AllocError>
     })
 }
 
+/// Compares the rooms of those logs.
+fn expect_rooms(rt: &impl Abort, told: &GhostRooms) {
+    assert!(rt; (told.vms, told.shared) == (6, 9));
+    assert!(rt; told.guests.get(2).copied() == Some(9));
+    assert!(rt; told.guests.get(3).copied() == Some(4));
+    assert!(rt; told.cpus.as_slice() == [7, 9].as_slice());
+}
+
 #[test]
 fn records_rooms_of_given_logs(rt: HostRuntime) -> Result<(), Fail> {
     let alloc = rt.alloc();
@@ -221,11 +226,7 @@ fn records_rooms_of_given_logs(rt: HostRuntime) -> Result<(), Fail> {
         log: Log::new(alloc, 6)?,
     };
     let told = record(alloc, &layout, 0, Some(&vms), None, Some((3, &guest)), &own)?;
-    assert_eq!(rt; told.rooms.vms, 6);
-    assert_eq!(rt; told.rooms.shared, 9);
-    assert_eq!(rt; told.rooms.guests.get(2).copied(), Some(9));
-    assert_eq!(rt; told.rooms.guests.get(3).copied(), Some(4));
-    assert_eq!(rt; told.rooms.cpus.as_slice(), [7, 9].as_slice());
+    expect_rooms(&rt, &told.rooms);
     assert_eq!(rt; told.shared.host.tables.len(), 0);
     Ok(())
 }

@@ -2,28 +2,18 @@
 ghost use Rattle.std.specs.Prelude.{◌<◌, IfOk};
 ghost use Rattle.ghost_spec.specs.States.{IsKept};
 
+use crate::sample::{region, started};
 use ghost_oracle::rows::rows_from_scratch;
-use ghost_spec::start::start;
 use ghost_spec::state::Ghost;
 use page_state::{
-    Config, Geometry, Layout, MemoryMap, Page, PageRange, Prot, Refusal, Region, RegionKind, Reply,
-    Step, VmId, VmKind,
+    MemoryMap, Page, PageRange, Prot, Refusal, RegionKind, Reply, Step, VmId, VmKind,
 };
 use std::alloc::{AllocError, Global};
 use std::process::Abort;
 use std::test::Fail;
 
-/// A region of a kind.
-fn region(kind: RegionKind, first: u64, count: u64) -> Region {
-    let pages = PageRange {
-        first: Page(first),
-        count,
-    };
-    Region { kind, pages }
-}
-
 /// Two regions of memory that meet and a device, with a carve-out at 0x40600.
-fn memory(alloc: Global) -> Result<MemoryMap, Fail> {
+fn two_regions(alloc: Global) -> Result<MemoryMap, Fail> {
     let regions = [
         region(RegionKind::Memory, 0x40280, 0x580),
         region(RegionKind::Device, 0x9000, 0x10),
@@ -41,16 +31,8 @@ fn booted(rt: &impl Abort, alloc: Global) -> Result<Ghost, Fail>
     ensures kept { IfOk result IsKept }
     ensures cpus { IfOk result (λ g. 0 < g.layout.config.cpus) }
 {
-    let layout = Layout {
-        map: memory(alloc)?,
-        config: Config {
-            cpus: 2,
-            log: 100,
-            geometry: 39,
-        },
-        geometry: Geometry::Bits39,
-    };
-    Ok(start(alloc, layout)?.expect(rt, "enough frames"))
+    let map = two_regions(alloc)?;
+    Ok(started(alloc, map, 2, 100)?.expect(rt, "enough frames"))
 }
 
 /// Compares the rows from scratch with those that are kept.

@@ -3,14 +3,14 @@ ghost use Rattle.std.specs.Prelude.{◌<◌, ◌^◌, IfOk};
 ghost use Rattle.ghost_spec.specs.Small.{AreSmall};
 ghost use Rattle.ghost_spec.specs.States.{IsKept};
 
+use crate::sample::{config, memory, started};
 use ghost_spec::boot::boot;
-use ghost_spec::start::start;
 use ghost_spec::state::{Ghost, predict};
 use ghost_spec::tree::{self, Table, Tree};
 use ghost_spec::{blocks, runs};
 use page_state::{
-    Config, Entry, Frame, Geometry, Kind, Layout, Lent, MemoryMap, Owner, Page, PageRange, Prot,
-    Refusal, Region, RegionKind, Reply, Row, Run, State, Step, Target, Usage, Value, VmId, VmKind,
+    Entry, Frame, Kind, Lent, Owner, Page, PageRange, Prot, Refusal, Reply, Row, Run, State, Step,
+    Target, Usage, Value, VmId, VmKind,
 };
 use std::alloc::{AllocError, Global};
 use std::process::Abort;
@@ -165,44 +165,13 @@ fn tells_blocks_of_one_word(rt: HostRuntime) -> Result<(), Fail> {
     Ok(())
 }
 
-/// Memory 0x40000 of 0x800 pages with a carve-out of `count` frames at 0x40600.
-fn memory(alloc: Global, count: u64) -> Result<MemoryMap, Fail> {
-    let region = Region {
-        kind: RegionKind::Memory,
-        pages: PageRange {
-            first: Page(0x40000),
-            count: 0x800,
-        },
-    };
-    let carve = PageRange {
-        first: Page(0x40600),
-        count,
-    };
-    Ok(MemoryMap::new(alloc, [region].as_slice(), carve)?)
-}
-
-/// A configuration whose logs store 9 calls.
-const CONFIG: Config = Config {
-    cpus: 1,
-    log: 9,
-    geometry: 39,
-};
-
-/// The boot state of that memory.
+/// The boot state of two CPUs and a carve-out of so many frames.
 fn booted(rt: &impl Abort, alloc: Global, count: u64, log: u64) -> Result<Ghost, Fail>
     ensures kept { IfOk result IsKept }
     ensures cpus { IfOk result (λ g. 0 < g.layout.config.cpus) }
 {
-    let layout = Layout {
-        map: memory(alloc, count)?,
-        config: Config {
-            cpus: 2,
-            log,
-            geometry: 39,
-        },
-        geometry: Geometry::Bits39,
-    };
-    Ok(start(alloc, layout)?.expect(rt, "enough frames"))
+    let map = memory(alloc, count)?;
+    Ok(started(alloc, map, 2, log)?.expect(rt, "enough frames"))
 }
 
 #[test]
@@ -227,9 +196,9 @@ fn refuses_shares(rt: HostRuntime) -> Result<(), Fail> {
 fn boots_with_a_frame_for_each_table(rt: HostRuntime) -> Result<(), Fail> {
     let alloc = rt.alloc();
     let few = memory(alloc, 5)?;
-    assert_eq!(rt; boot(alloc, &few, CONFIG, 2)?.is_none(), true);
+    assert_eq!(rt; boot(alloc, &few, config(1, 9), 2)?.is_none(), true);
     let enough = memory(alloc, 6)?;
-    let shared = boot(alloc, &enough, CONFIG, 2)?.expect(&rt, "enough frames");
+    let shared = boot(alloc, &enough, config(1, 9), 2)?.expect(&rt, "enough frames");
     assert_eq!(rt; shared.free.len(), 0);
     Ok(())
 }

@@ -15,6 +15,3 @@ pub use layout::{Config, Geometry, Layout, LayoutFault, MemoryMap, Region, Regio
 pub use reply::{Call, Refusal, Reply, Value};
 pub use row::{Lent, Row, Usage};
 pub use step::{Step, VmId, VmKind};
-
-#[cfg(test)]
-mod tests;

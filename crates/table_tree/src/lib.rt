@@ -19,6 +19,3 @@ pub use spares::Spares;
 pub use stock::Stock;
 pub use table::{Reads, Slot, Table};
 pub use tree::Tree;
-
-#[cfg(test)]
-mod tests;

@@ -3,51 +3,21 @@ ghost use Rattle.part_table.specs.Passes.{IsPassOf};
 
 mod gates;
 mod rows;
+mod threads;
 
+use crate::boot::booted;
 use cpu_threads::{CpuPass, Gate, InitStage, Machine};
-use page_state::{
-    Config, MemoryMap, Page, PageRange, Refusal, Region, RegionKind, Reply, Step, Value, VmId,
-    VmKind,
-};
+use ghost_tests::sample::memory;
+use page_state::{Refusal, Reply, Step, Value, VmId, VmKind};
 use std::alloc::Global;
 use std::process::Abort;
 use std::sync::Wait;
 use std::test::Fail;
 
-/// Memory of 2,048 pages with a carve-out of 64 frames, and a device.
-fn memory(alloc: Global) -> Result<MemoryMap, Fail> {
-    let regions = [
-        Region {
-            kind: RegionKind::Device,
-            pages: PageRange {
-                first: Page(0x9000),
-                count: 0x10,
-            },
-        },
-        Region {
-            kind: RegionKind::Memory,
-            pages: PageRange {
-                first: Page(0x40000),
-                count: 0x800,
-            },
-        },
-    ];
-    let carve = PageRange {
-        first: Page(0x40600),
-        count: 0x40,
-    };
-    Ok(MemoryMap::new(alloc, regions.as_slice(), carve)?)
-}
-
-/// A machine of that memory with so many CPUs and logs of so many calls.
-fn booted(alloc: Global, cpus: u64, log: u64) -> Result<Machine<Global>, Fail> {
-    let map = memory(alloc)?;
-    let config = Config {
-        cpus,
-        log,
-        geometry: 39,
-    };
-    Ok(Machine::boot(alloc, alloc, &map, config)?)
+/// A machine with a carve-out of 64 frames, and so many CPUs and logs of so many calls.
+fn new_machine(alloc: Global, cpus: u64, log: u64) -> Result<Machine<Global>, Fail> {
+    let map = memory(alloc, 0x40)?;
+    Ok(booted(alloc, &map, cpus, log)?)
 }
 
 /// Makes a VM, and compares what is answered.

@@ -6,6 +6,3 @@ mod open;
 mod walk;
 
 pub use change::{set, set_with};
-
-#[cfg(test)]
-mod tests;

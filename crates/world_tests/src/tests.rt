@@ -13,46 +13,21 @@ use ghost_oracle::audit::audit;
 use ghost_oracle::disagreement::Disagreement;
 use ghost_oracle::raw::{RawGuest, Which};
 use ghost_spec::blocks::Block;
-use ghost_spec::start::start;
 use ghost_spec::state::{Ghost, predict};
 use ghost_spec::{boot, runs, tree};
+use ghost_tests::sample::{self, config, memory};
 use guest_steps::SharedPart;
 use linked_list_allocator::LocalHeap;
-use page_state::{
-    Config, Entry, Geometry, Layout, Lent, MemoryMap, Page, PageRange, Refusal, Region, RegionKind,
-    Reply, Row, Run, Step, Usage, Value,
-};
+use page_state::{Entry, Lent, Page, Refusal, Reply, Row, Run, Step, Usage, Value};
 use std::alloc::{AllocError, Allocator, Global};
 use std::process::Abort;
 use std::test::Fail;
 use world::{BootFault, Histories, MergeFault, RawWorld, World};
 
-/// 2,048 pages of memory from page 0x40000 on, with a carve-out of `frames` frames at 0x40600.
-fn memory(alloc: Global, frames: u64) -> Result<MemoryMap, Fail> {
-    let region = Region {
-        kind: RegionKind::Memory,
-        pages: PageRange {
-            first: Page(0x40000),
-            count: 0x800,
-        },
-    };
-    let carve = PageRange {
-        first: Page(0x40600),
-        count: frames,
-    };
-    Ok(MemoryMap::new(alloc, [region].as_slice(), carve)?)
-}
-
-const CONFIG: Config = Config {
-    cpus: 1,
-    log: 3,
-    geometry: 39,
-};
-
 #[test]
 fn shares_until_the_log_is_full(rt: HostRuntime) -> Result<(), Fail> {
     let map = memory(rt.alloc(), 0x40)?;
-    let mut world = World::boot(rt.alloc(), rt.alloc(), &map, CONFIG)?;
+    let mut world = World::boot(rt.alloc(), rt.alloc(), &map, config(1, 3))?;
     assert_eq!(rt; world.parts().shared().pool.free(), 58);
     assert_eq!(rt; world.cpus(), 1);
     let replies = [
@@ -73,9 +48,9 @@ fn shares_until_the_log_is_full(rt: HostRuntime) -> Result<(), Fail> {
 #[test]
 fn refuses_small_carve_outs(rt: HostRuntime) -> Result<(), Fail> {
     let map = memory(rt.alloc(), 5)?;
-    let world = World::boot(rt.alloc(), rt.alloc(), &map, CONFIG);
+    let world = World::boot(rt.alloc(), rt.alloc(), &map, config(1, 3));
     assert_eq!(rt; world.err(), Some(BootFault::CarveSmall));
-    let lists = boot::boot(rt.alloc(), &map, CONFIG, DEPTH)?;
+    let lists = boot::boot(rt.alloc(), &map, config(1, 3), DEPTH)?;
     assert!(rt; lists.is_none());
     Ok(())
 }
@@ -190,16 +165,9 @@ fn started(rt: &impl Abort, alloc: Global, frames: u64, log: u64) -> Result<Ghos
     ensures kept { IfOk result IsKept }
     ensures cpu { IfOk result (λ g. 0 < g.layout.config.cpus) }
 {
-    let layout = Layout {
-        map: memory(alloc, frames)?,
-        config: Config {
-            cpus: 1,
-            log,
-            geometry: 39,
-        },
-        geometry: Geometry::Bits39,
-    };
-    Ok(start(alloc, layout)?.expect(rt, "enough frames"))
+    let map = memory(alloc, frames)?;
+    let lists = sample::started(alloc, map, 1, log)?;
+    Ok(lists.expect(rt, "enough frames"))
 }
 
 /// Shares frames on a world and on lists with such a carve-out and such logs, and compares the replies with these.
@@ -211,12 +179,7 @@ fn expect_shares(
     shares: &[(u64, Reply)],
 ) -> Result<(), Fail> {
     let map = memory(alloc, frames)?;
-    let config = Config {
-        cpus: 1,
-        log,
-        geometry: 39,
-    };
-    let mut world = World::boot(alloc, alloc, &map, config)?;
+    let mut world = World::boot(alloc, alloc, &map, config(1, log))?;
     let mut lists = started(rt, alloc, frames, log)?;
     compare(rt, alloc, &world, &lists)?;
     for share in shares {
@@ -264,12 +227,7 @@ fn entry(prot: Prot, state: State) -> Value {
 fn makes_each_call(rt: HostRuntime) -> Result<(), Fail> {
     let alloc = rt.alloc();
     let map = memory(alloc, 0x40)?;
-    let config = Config {
-        cpus: 1,
-        log: 10,
-        geometry: 39,
-    };
-    let mut world = World::boot(alloc, alloc, &map, config)?;
+    let mut world = World::boot(alloc, alloc, &map, config(1, 10))?;
     let (pfn, page) = (0x40201, 0x404_0201);
     let owned = entry(Prot::RWX, State::Owned);
     let borrowed = entry(Prot::RW, State::SharedBorrowed);
@@ -333,7 +291,7 @@ fn with_few_tables(
 ) -> Result<(), Fail> {
     let heap = LocalHeap::new(global, 1 << 20)?;
     let map = memory(global, 0x40)?;
-    let mut world = World::boot(global, &heap, &map, CONFIG)?;
+    let mut world = World::boot(global, &heap, &map, config(1, 3))?;
     let mut kept = Vec::new(global);
     for _table in 0..tables {
         kept.push(Vec::<u8, _>::with_capacity(&heap, 12_544)?)?;

@@ -15,7 +15,7 @@ struct Beside<'a> {
 }
 
 /// The entry of a page of a VM.
-fn question(vm: VmId) -> Step {
+pub(super) fn question(vm: VmId) -> Step {
     Step::GuestTranslate { vm, gfn: 0x10 }
 }
 
@@ -44,13 +44,13 @@ impl<'a> Gate for Meanwhile<'a> {
 }
 
 /// The VM of the first slot.
-const FIRST: VmId = VmId {
+pub(super) const FIRST: VmId = VmId {
     slot: 0,
     generation: 1,
 };
 
 /// The VM of the second slot.
-const SECOND: VmId = VmId {
+pub(super) const SECOND: VmId = VmId {
     slot: 1,
     generation: 2,
 };
@@ -93,11 +93,11 @@ fn ask_both(
 }
 
 /// What is answered about a page that isn't mapped.
-const UNMAPPED: Reply = Reply::Done(Value::Entry(Entry::Unmapped));
+pub(super) const UNMAPPED: Reply = Reply::Done(Value::Entry(Entry::Unmapped));
 
 /// Both calls on a machine of its own.
 fn expect_both<R: Wait + Abort>(rt: &R, alloc: Global, vm: VmId, reply: Reply) -> Result<(), Fail> {
-    let mut machine = booted(alloc, 2, 64)?;
+    let mut machine = new_machine(alloc, 2, 64)?;
     let mut zero = machine.pass(0).expect(rt, "the pass of CPU 0");
     let mut one = machine.pass(1).expect(rt, "the pass of CPU 1");
     make_both(rt, &machine, &mut zero, &mut one);

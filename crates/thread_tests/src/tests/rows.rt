@@ -84,7 +84,7 @@ pub(super) fn make_both<R: Wait + Abort>(
 
 #[test]
 fn makes_vms(rt: HostRuntime) -> Result<(), Fail> {
-    let mut machine = booted(rt.alloc(), 2, 64)?;
+    let mut machine = new_machine(rt.alloc(), 2, 64)?;
     let mut zero = machine.pass(0).expect(&rt, "the pass of CPU 0");
     let mut one = machine.pass(1).expect(&rt, "the pass of CPU 1");
     assert!(rt; machine.pass(0).is_none());
@@ -95,7 +95,7 @@ fn makes_vms(rt: HostRuntime) -> Result<(), Fail> {
 
 #[test]
 fn shares_once(rt: HostRuntime) -> Result<(), Fail> {
-    let mut machine = booted(rt.alloc(), 2, 64)?;
+    let mut machine = new_machine(rt.alloc(), 2, 64)?;
     let mut zero = machine.pass(0).expect(&rt, "the pass of CPU 0");
     let mut one = machine.pass(1).expect(&rt, "the pass of CPU 1");
     let share = Step::ShareHyp { pfn: 0x40100 };

@@ -3,14 +3,12 @@ ghost use Rattle.std.specs.Prelude.{◌<◌, ◌^◌, IfOk, OnOk};
 ghost use Rattle.ghost_spec.specs.States.{IsKept};
 
 use super::compare;
+use crate::numbers::Numbers;
 use ghost_spec::parts::{GhostGuest, GhostPhase};
-use ghost_spec::start::start;
 use ghost_spec::state::{Ghost, predict};
+use ghost_tests::sample::{self, region};
 use guest_component::Guest;
-use page_state::{
-    Config, Geometry, Layout, MemoryMap, Page, PageRange, Prot, Region, RegionKind, Run, Step,
-    VmId, VmKind,
-};
+use page_state::{MemoryMap, Page, PageRange, Prot, RegionKind, Run, Step, VmId, VmKind};
 use std::alloc::Global;
 use std::ops::Range;
 use std::process::Abort;
@@ -20,25 +18,7 @@ use world::World;
 /// The pairs of steps of each.
 const STEPS: u64 = 24;
 
-/// Numbers that look random, the same for the same seed: a linear congruence of 64 bits.
-#[derive(Drop)]
-struct Numbers {
-    state: u64,
-}
-
 impl Numbers {
-    /// A number below `bound`.
-    fn below(&mut self, bound: u64) -> u64
-        requires { 0 < bound }
-        ensures { result < bound }
-    {
-        self.state = self
-            .state
-            .wrapping_mul(6_364_136_223_846_793_005)
-            .wrapping_add(1_442_695_040_888_963_407);
-        (self.state >> 33) % bound
-    }
-
     /// A frame near others that are asked for, seldom one of the carve-out, of a device or of nothing.
     fn frame(&mut self) -> u64
         ensures { result < 2 ^ 27 }
@@ -220,29 +200,14 @@ impl Numbers {
 /// Memory with a carve-out of 12 frames, so that the pool runs out now and then, and a device. It has whole blocks of 512
 /// pages, or none, where a page that the host touches is then mapped alone.
 fn memory(alloc: Global, has_blocks: bool) -> Result<MemoryMap, Fail> {
-    let pages = if has_blocks {
-        PageRange {
-            first: Page(0x40000),
-            count: 0x800,
-        }
+    let (first, count) = if has_blocks {
+        (0x40000, 0x800)
     } else {
-        PageRange {
-            first: Page(0x40080),
-            count: 0x110,
-        }
+        (0x40080, 0x110)
     };
     let regions = [
-        Region {
-            kind: RegionKind::Device,
-            pages: PageRange {
-                first: Page(0x9000),
-                count: 2,
-            },
-        },
-        Region {
-            kind: RegionKind::Memory,
-            pages,
-        },
+        region(RegionKind::Device, 0x9000, 2),
+        region(RegionKind::Memory, first, count),
     ];
     let carve = PageRange {
         first: Page(0x40180),
@@ -251,22 +216,13 @@ fn memory(alloc: Global, has_blocks: bool) -> Result<MemoryMap, Fail> {
     Ok(MemoryMap::new(alloc, regions.as_slice(), carve)?)
 }
 
-const CONFIG: Config = Config {
-    cpus: 2,
-    log: 40,
-    geometry: 39,
-};
-
 /// The boot state on lists.
 fn started(rt: &impl Abort, alloc: Global, has_blocks: bool) -> Result<Ghost, Fail>
     ensures { IfOk result IsKept }
 {
-    let layout = Layout {
-        map: memory(alloc, has_blocks)?,
-        config: CONFIG,
-        geometry: Geometry::Bits39,
-    };
-    Ok(start(alloc, layout)?.expect(rt, "enough frames"))
+    let map = memory(alloc, has_blocks)?;
+    let lists = sample::started(alloc, map, 2, 40)?;
+    Ok(lists.expect(rt, "enough frames"))
 }
 
 /// Compares a guest with that of a state on lists: generation, tables, free frames and the runs of its map.
@@ -332,9 +288,9 @@ fn step_on_both(
 fn agrees(rt: &impl Abort, alloc: Global, seed: u64) -> Result<(), Fail> {
     let has_blocks = seed % 16 == 0;
     let map = memory(alloc, has_blocks)?;
-    let mut world = World::boot(alloc, alloc, &map, CONFIG)?;
+    let mut world = World::boot(alloc, alloc, &map, sample::config(2, 40))?;
     let mut lists = started(rt, alloc, has_blocks)?;
-    let mut numbers = Numbers { state: seed };
+    let mut numbers = Numbers::of(seed);
     for k in 0..STEPS {
         let step = numbers.step_of_life(k);
         step_on_both(rt, alloc, &mut world, &mut lists, 0, step)?;

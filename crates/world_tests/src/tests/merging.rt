@@ -141,12 +141,7 @@ fn finds_no_order(rt: HostRuntime) -> Result<(), Fail> {
 fn merges_a_run(rt: HostRuntime) -> Result<(), Fail> {
     let alloc = rt.alloc();
     let map = memory(alloc, 0x40)?;
-    let config = Config {
-        cpus: 2,
-        log: 8,
-        geometry: 39,
-    };
-    let mut world = World::boot(alloc, alloc, &map, config)?;
+    let mut world = World::boot(alloc, alloc, &map, config(2, 8))?;
     let steps = [
         (0, Step::ShareHyp { pfn: 0x40100 }),
         (1, Step::ShareHyp { pfn: 0x40100 }),

@@ -78,7 +78,7 @@ fn finds_a_poked_word(rt: HostRuntime) -> Result<(), Fail> {
     let alloc = rt.alloc();
     let map = memory(alloc, 0x40)?;
     let places = no_pokes(alloc)?;
-    let mut world = World::boot(alloc, alloc, &map, CONFIG)?;
+    let mut world = World::boot(alloc, alloc, &map, config(1, 3))?;
     assert!(rt; world.cpus() > 0);
     share(&rt, alloc, &mut world)?;
     let word = world.parts().shared().host.tree().word_at(&path());

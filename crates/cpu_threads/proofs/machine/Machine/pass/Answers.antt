@@ -2,7 +2,8 @@ use Rattle.std.proofs.Common.{rules, ◌≡◌, ℕ, ◌<◌, List, length, sym,
 use Rattle.std.specs.Prelude.{Option, Some, slice_get, IfSome}
 use Rattle.part_table.specs.Passes.{IsPassOf, Opened, Pass}
 use Rattle.cpu_threads.specs.Machines.{Machine}
-use Rattle.cpu_threads.proofs.Tries.{get_of_or, handed}
+use Rattle.cpu_threads.proofs.Ends.{get_of_or}
+use Rattle.cpu_threads.proofs.Tries.{handed}
 use Rattle.cpu_threads.proofs.machine.Machine.pass.Goals as goal
 
 pub returns-clause-pass : goal.returns-clause-pass

@@ -1,3 +1,4 @@
+//! Changes of ranges.
 ghost use Rattle.std.specs.Prelude.{◌≡◌, ℕ, ◌+◌, ◌≤◌, ◌^◌, length, IfOk};
 ghost use Rattle.page_state.specs.Entries.{IsRangeEntry};
 ghost use Rattle.page_state.specs.Tables.{put, need as need_of};
@@ -8,7 +9,6 @@ ghost use Rattle.table_tree.specs.Stocks.{frames_of};
 ghost use Rattle.table_tree.specs.View.{tree_of, uses, tables_of};
 ghost use Rattle.walk_plan.specs.Changes.{CanBeSaidOn};
 
-use super::*;
 use arrayvec::ArrayVec;
 use descriptor::{Frame, Kind, Prot, State};
 use hyp_pool::{Pool, PoolFault, laws};
@@ -19,6 +19,7 @@ use std::process::Abort;
 use std::test::Fail;
 use table_tree::{Reads, Tree};
 use walk_plan::{Spare, need, need_of_new, release, reserve};
+use walker::{set, set_with};
 
 /// The frame of each root; the pool's frames are those behind it.
 const ROOT: Frame = Frame(0x40600);
@@ -80,14 +81,15 @@ fn empty_bench<A: Allocator + Copy>(global: Global, alloc: A, free: usize) -> Re
 }
 
 impl<A: Allocator + Copy> Bench<A> {
-    /// Makes a change; checks the tables that it needs, and how many slots it looks at.
-    fn set(
+    /// Makes a change; compares the tables that it needs and its answer, and checks how many slots it looks at.
+    fn expect_set(
         &mut self,
         rt: &impl Abort,
         range: PageRange,
         entry: Entry,
         needed: usize,
-    ) -> Result<(), PoolFault>
+        wanted: Result<(), PoolFault>,
+    )
         requires bits { self.old.tree.geometry ≡ Bits39 }
         requires distinct { (f : ℕ) → uses self.old.tree f + frame_count f self.old.pool.frames ≤ 1 }
         requires covered { tables_of self.old.tree + length self.old.pool.frames ≤ self.old.pool.room + 1 }
@@ -110,7 +112,7 @@ impl<A: Allocator + Copy> Bench<A> {
             &mut reads,
         );
         assert!(rt; reads.count() <= 4 * range.count + 4096);
-        answer
+        assert_eq!(rt; answer, wanted);
     }
 
     /// The word at a path.
@@ -146,22 +148,22 @@ fn rows<A: Allocator + Copy>(rt: &impl Abort, global: Global, alloc: A) -> Resul
     let mut bench = empty_bench(global, alloc, 8)?;
     let block = pages(0x40200, 512);
     let page = pages(0x40300, 1);
-    bench.set(rt, block, leaf(0x40200, State::Owned), 1)?;
+    bench.expect_set(rt, block, leaf(0x40200, State::Owned), 1, Ok(()));
     bench.expect_word(rt, [1].as_slice(), 0x40601003);
     bench.expect_word(rt, [1, 1].as_slice(), 0x00000000402007fd);
     bench.expect_frames(rt, 2, 7);
-    bench.set(rt, page, leaf(0x40300, State::SharedOwned), 1)?;
+    bench.expect_set(rt, page, leaf(0x40300, State::SharedOwned), 1, Ok(()));
     bench.expect_word(rt, [1, 1].as_slice(), 0x40602003);
     bench.expect_word(rt, [1, 1, 0x100].as_slice(), 0x00800000403007ff);
     bench.expect_word(rt, [1, 1, 0x101].as_slice(), 0x00000000403017ff);
-    bench.set(rt, page, leaf(0x40300, State::Owned), 0)?;
+    bench.expect_set(rt, page, leaf(0x40300, State::Owned), 0, Ok(()));
     bench.expect_word(rt, [1, 1, 0x100].as_slice(), 0x00000000403007ff);
     bench.expect_frames(rt, 3, 6);
-    bench.set(rt, block, leaf(0x40200, State::Owned), 0)?;
+    bench.expect_set(rt, block, leaf(0x40200, State::Owned), 0, Ok(()));
     bench.expect_word(rt, [1, 1].as_slice(), 0x40602003);
     bench.expect_word(rt, [1, 1, 511].as_slice(), 0x00000000403ff7ff);
     bench.expect_frames(rt, 3, 6);
-    bench.set(rt, block, Entry::Unmapped, 0)?;
+    bench.expect_set(rt, block, Entry::Unmapped, 0, Ok(()));
     bench.expect_word(rt, [1].as_slice(), 0);
     bench.expect_entry(rt, 0x40300, Entry::Unmapped);
     bench.expect_frames(rt, 1, 8);
@@ -196,12 +198,12 @@ fn with_and_without<A: Allocator + Copy>(
     assert_eq!(rt; need_of_new(Geometry::Bits39, range, &entry), needed);
     for free in 0..needed {
         let mut bench = empty_bench(global, alloc, free)?;
-        assert_eq!(rt; bench.set(rt, range, entry, needed), Err(PoolFault::NoPool));
+        bench.expect_set(rt, range, entry, needed, Err(PoolFault::NoPool));
         bench.expect_entry(rt, range.first.0, Entry::Unmapped);
         bench.expect_frames(rt, 1, free);
     }
     let mut bench = empty_bench(global, alloc, needed)?;
-    bench.set(rt, range, entry, needed)?;
+    bench.expect_set(rt, range, entry, needed, Ok(()));
     bench.expect_entry(rt, range.first.0, entry);
     bench.expect_frames(rt, needed + 1, 0);
     Ok(())
@@ -241,7 +243,7 @@ fn share_words(rt: HostRuntime) -> Result<(), Fail> {
     let mut bench = empty_bench(rt.alloc(), rt.alloc(), 3)?;
     let shared = leaf(0x40100, State::SharedOwned);
     bench.expect_entry(&rt, 0x40100, Entry::Unmapped);
-    bench.set(&rt, pages(0x40100, 1), shared, 2)?;
+    bench.expect_set(&rt, pages(0x40100, 1), shared, 2, Ok(()));
     bench.expect_entry(&rt, 0x40100, shared);
     bench.expect_entry(&rt, 0x40101, Entry::Unmapped);
     bench.expect_entry(&rt, 0x8040100, Entry::Unmapped);
@@ -258,7 +260,13 @@ fn share_words(rt: HostRuntime) -> Result<(), Fail> {
 #[test]
 fn dismantled_frames(rt: HostRuntime) -> Result<(), Fail> {
     let mut bench = empty_bench(rt.alloc(), rt.alloc(), 2)?;
-    bench.set(&rt, pages(0x40100, 1), leaf(0x40100, State::SharedOwned), 2)?;
+    bench.expect_set(
+        &rt,
+        pages(0x40100, 1),
+        leaf(0x40100, State::SharedOwned),
+        2,
+        Ok(()),
+    );
     let Bench { tree, .. } = bench;
     match tree.dismantle(rt.alloc()) {
         Ok(frames) => {
@@ -274,8 +282,14 @@ fn dismantled_frames(rt: HostRuntime) -> Result<(), Fail> {
 fn small_heap(rt: HostRuntime) -> Result<(), Fail> {
     let heap = LocalHeap::new(rt.alloc(), 30000)?;
     let mut bench = empty_bench(rt.alloc(), &heap, 2)?;
-    let answer = bench.set(&rt, pages(0x40100, 1), leaf(0x40100, State::Owned), 2);
-    assert_eq!(rt; answer, Err(PoolFault::NoMemory));
+    let short = Err(PoolFault::NoMemory);
+    bench.expect_set(
+        &rt,
+        pages(0x40100, 1),
+        leaf(0x40100, State::Owned),
+        2,
+        short,
+    );
     expect_number(&rt, bench.tree.spares(), 1);
     bench.expect_entry(&rt, 0x40100, Entry::Unmapped);
     bench.expect_frames(&rt, 1, 2);
@@ -379,19 +393,19 @@ fn set_from_spares(rt: HostRuntime) -> Result<(), Fail> {
     let mut bench = empty_bench(rt.alloc(), &heap, 2)?;
     let page = pages(0x40100, 1);
     let owned = leaf(0x40100, State::Owned);
-    bench.set(&rt, page, owned, 2)?;
+    bench.expect_set(&rt, page, owned, 2, Ok(()));
     expect_number(&rt, bench.tree.spares(), 0);
-    bench.set(&rt, page, Entry::Unmapped, 0)?;
+    bench.expect_set(&rt, page, Entry::Unmapped, 0, Ok(()));
     expect_number(&rt, bench.tree.spares(), 2);
     bench.expect_frames(&rt, 1, 2);
     let _filling = rest_of(rt.alloc(), &heap)?;
     let used = heap.used();
-    bench.set(&rt, page, owned, 2)?;
+    bench.expect_set(&rt, page, owned, 2, Ok(()));
     expect_number(&rt, heap.used(), used);
     bench.expect_entry(&rt, 0x40100, owned);
     expect_number(&rt, bench.tree.spares(), 0);
     bench.expect_frames(&rt, 3, 0);
-    let other = bench.set(&rt, pages(0x80000, 1), owned, 2);
-    assert_eq!(rt; other, Err(PoolFault::NoPool));
+    let short = Err(PoolFault::NoPool);
+    bench.expect_set(&rt, pages(0x80000, 1), owned, 2, short);
     Ok(())
 }

@@ -1,10 +1,11 @@
-use super::*;
+//! Tables, trees of them, and words that are poked.
 use arrayvec::ArrayVec;
 use descriptor::{Frame, Owner};
 use linked_list_allocator::LocalHeap;
 use page_state::{Entry, Geometry, Page};
 use std::alloc::{AllocError, Global};
 use std::test::Fail;
+use table_tree::{PathFault, RawTree, Reads, Slot, Table, Tree};
 
 const ROOT: Frame = Frame(0x40600);
 
