@@ -24,7 +24,7 @@ pub fn region(kind: RegionKind, first: u64, count: u64) -> Region
 /// 16 pages of a device from page 0x9000 on, and 2,048 of memory from 0x40000 on, with a carve-out of so many frames at
 /// 0x40600. Refused where the carve-out is empty or ends past the memory.
 pub fn memory(alloc: Global, frames: u64) -> Result<MemoryMap, LayoutFault>
-    ensures device { IfOk result (λ m. m.regions ≡ record { kind = RegionKind.Device; pages = record { first = record { 0 = 0x9000 }; count = 16 } } ∷ record { kind = RegionKind.Memory; pages = record { first = record { 0 = 0x40000 }; count = 0x800 } } ∷ []) }
+    ensures regions { IfOk result (λ m. m.regions ≡ record { kind = RegionKind.Device; pages = record { first = record { 0 = 0x9000 }; count = 16 } } ∷ record { kind = RegionKind.Memory; pages = record { first = record { 0 = 0x40000 }; count = 0x800 } } ∷ []) }
     ensures carve { IfOk result (λ m. m.carve ≡ record { first = record { 0 = 0x40600 }; count = frames }) }
 {
     let regions = [
