@@ -18,7 +18,7 @@ pub struct Bench<A: Allocator> {
 
 impl<A: Allocator> Bench<A> {
     /// Takes the room.
-    pub fn new(global: Global) -> Result<Bench<A>, AllocError> {
+    pub(crate) fn new(global: Global) -> Result<Bench<A>, AllocError> {
         let shared = Vec::with_capacity(global, 1)?;
         let guest = Vec::with_capacity(global, 1)?;
         Ok(Bench { shared, guest })
