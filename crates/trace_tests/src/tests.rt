@@ -1,3 +1,4 @@
+use crate::texts::joined;
 use ghost_oracle::disagreement::Disagreement;
 use ghost_spec::state::Ghost;
 use linked_list_allocator::LocalHeap;
@@ -95,10 +96,8 @@ fn check<R: AllocGlobal + Abort>(
     report: &[u8],
     outcome: Outcome,
 ) -> Result<(), Fail> {
-    let mut trace = Vec::from_slice(rt.alloc(), BOOT)?;
-    trace.extend_from_slice(lines)?;
-    let mut wanted = Vec::from_slice(rt.alloc(), b"boot host 3 hyp 3 free 58\n")?;
-    wanted.extend_from_slice(report)?;
+    let trace = joined(rt.alloc(), BOOT, lines)?;
+    let wanted = joined(rt.alloc(), b"boot host 3 hyp 3 free 58\n", report)?;
     let mut written = Vec::new(rt.alloc());
     let ended = replayed(rt, Cursor::new(trace.as_slice()), &mut written);
     assert!(rt; ended == Ok(outcome));
@@ -235,10 +234,9 @@ impl Oracle for Doubting {
 
 #[test]
 fn oracle_asked(rt: HostRuntime) -> Result<(), Fail> {
-    let mut trace = Vec::from_slice(rt.alloc(), BOOT)?;
-    trace.extend_from_slice(
-        b"0 share_hyp 0x40100\nfree shared\n1 share_hyp 0x40100\n0 unshare_hyp 0x40100\n1 share_hyp 0x40101\n",
-    )?;
+    let steps: &[u8] =
+        b"0 share_hyp 0x40100\nfree shared\n1 share_hyp 0x40100\n0 unshare_hyp 0x40100\n1 share_hyp 0x40101\n";
+    let trace = joined(rt.alloc(), BOOT, steps)?;
     let wanted: &[u8] =
         b"boot host 3 hyp 3 free 58\n7 0 ok\nfree 56\n9 1 perm\ndisagree free\ndisagree cpu 1\n10 0 ok\n11 1 ok\ndisagree free\ndisagree cpu 1\nend steps 4 disagreements 4\n";
     let mut written = Vec::new(rt.alloc());

@@ -9,8 +9,9 @@ ghost use Rattle.table_tree.specs.Stocks.{frames_of};
 ghost use Rattle.table_tree.specs.View.{tree_of, uses, tables_of};
 ghost use Rattle.walk_plan.specs.Changes.{CanBeSaidOn};
 
+use crate::sample::{leaf, pages};
 use arrayvec::ArrayVec;
-use descriptor::{Frame, Kind, Prot, State};
+use descriptor::{Frame, State};
 use hyp_pool::{Pool, PoolFault, laws};
 use linked_list_allocator::LocalHeap;
 use page_state::{Entry, Geometry, Page, PageRange};
@@ -23,29 +24,6 @@ use walker::{set, set_with};
 
 /// The frame of each root; the pool's frames are those behind it.
 const ROOT: Frame = Frame(0x40600);
-
-/// An RWX Normal leaf.
-fn leaf(frame: u64, state: State) -> Entry
-    ensures { (n : ℕ) → frame + n ≤ 2 ^ 36 → IsRangeEntry n result }
-{
-    Entry::Leaf {
-        frame: Frame(frame),
-        prot: Prot::RWX,
-        kind: Kind::Normal,
-        state,
-    }
-}
-
-/// `count` pages.
-fn pages(first: u64, count: u64) -> PageRange
-    ensures first { result.first.0 ≡ first }
-    ensures count { result.count ≡ count }
-{
-    PageRange {
-        first: Page(first),
-        count,
-    }
-}
 
 /// Compares a number.
 fn expect_number(rt: &impl Abort, found: usize, wanted: usize) {

@@ -4,6 +4,7 @@
 
 #[cfg(test)]
 mod changes;
+pub mod sample;
 #[cfg(test)]
 mod tables;
 #[cfg(test)]

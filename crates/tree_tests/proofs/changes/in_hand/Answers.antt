@@ -1,4 +1,4 @@
-use Rattle.std.proofs.Common.{◌≡◌, ap, sym, ◌∙◌, arith, take, drop, length}
+use Rattle.std.proofs.Common.{◌≡◌, ℕ, ◌+◌, List, ap, sym, ◌∙◌, arith, take, drop, length}
 use Rattle.page_state.specs.Tables.{put, need}
 use Rattle.page_state.specs.Geometries.{levels_below}
 use Rattle.page_state.specs.Counts.{frame_count}
@@ -27,20 +27,16 @@ returns-clause-distinct g c f =
     let b : frame_count f c.reserve.new.pool.frames ≡ frame_count f (drop n p) = ap (frame_count f) c.in_ok-spare.ensures.pool in
     omega (arith, a, b, count_parts f n p, c.requires.distinct f, same_uses c.reserve.new.tree t c.reserve.ensures.geometry c.reserve.ensures.table f)
 
+-- what is in hand and what is left are all that was free
+all_free : (n : ℕ) (p taken left : List ℕ) → taken ≡ take n p → left ≡ drop n p → length taken + length left ≡ length p
+all_free n p taken left e f = let x = ap length e in let y = ap length f in omega (arith, x, y, take_drop_length n p)
+
 pub returns-clause-covered : goal.returns-clause-covered
 returns-clause-covered g c =
-    let t = c.args.bench.now.tree in
-    let p = c.args.bench.now.pool.frames in
-    let n = need (levels_below t.geometry) (tree_of t) (put c.args.range.first.0 c.args.range.count c.args.entry) in
-    let a : length (frames_of c.in_ok-spare.spare.stock) ≡ length (take n p) = ap length c.in_ok-spare.ensures.spare in
-    let b : length c.reserve.new.pool.frames ≡ length (drop n p) = ap length c.in_ok-spare.ensures.pool in
-    omega (arith, a, b, take_drop_length n p, c.requires.covered, c.reserve.ensures.room, same_count c.reserve.new.tree t c.reserve.ensures.geometry c.reserve.ensures.table)
+    let all = all_free _ c.args.bench.now.pool.frames (frames_of c.in_ok-spare.spare.stock) c.reserve.new.pool.frames c.in_ok-spare.ensures.spare c.in_ok-spare.ensures.pool in
+    omega (arith, all, c.requires.covered, c.reserve.ensures.room, same_count c.reserve.new.tree c.args.bench.now.tree c.reserve.ensures.geometry c.reserve.ensures.table)
 
 pub returns-clause-room : goal.returns-clause-room
 returns-clause-room g c =
-    let t = c.args.bench.now.tree in
-    let p = c.args.bench.now.pool.frames in
-    let n = need (levels_below t.geometry) (tree_of t) (put c.args.range.first.0 c.args.range.count c.args.entry) in
-    let a : length (frames_of c.in_ok-spare.spare.stock) ≡ length (take n p) = ap length c.in_ok-spare.ensures.spare in
-    let b : length c.reserve.new.pool.frames ≡ length (drop n p) = ap length c.in_ok-spare.ensures.pool in
-    omega (arith, a, b, take_drop_length n p, tree_some t, c.requires.covered, c.reserve.ensures.room)
+    let all = all_free _ c.args.bench.now.pool.frames (frames_of c.in_ok-spare.spare.stock) c.reserve.new.pool.frames c.in_ok-spare.ensures.spare c.in_ok-spare.ensures.pool in
+    omega (arith, all, tree_some c.args.bench.now.tree, c.requires.covered, c.reserve.ensures.room)
