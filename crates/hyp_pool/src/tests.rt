@@ -1,6 +1,7 @@
 ghost use Rattle.std.specs.Prelude.{◌≡◌, [], ◌∷◌};
 
 use super::*;
+use std::process::Abort;
 use std::test::Fail;
 
 /// The free frames of a pool.
@@ -10,6 +11,23 @@ fn told(alloc: Global, pool: &Pool) -> Result<Vec<u64>, AllocError> {
         out.push(frame.0)?;
     }
     Ok(out)
+}
+
+/// Compares the free frames.
+fn expect_told(rt: &impl Abort, alloc: Global, pool: &Pool, wanted: &[u64]) -> Result<(), Fail> {
+    assert_eq!(rt; told(alloc, pool)?.as_slice(), wanted);
+    Ok(())
+}
+
+/// Compares how many frames are free, and for how many there is room.
+fn expect_counts(rt: &impl Abort, pool: &Pool, free: usize, room: usize) {
+    assert!(rt; pool.free() == free);
+    assert!(rt; pool.room() == room);
+}
+
+/// Takes a frame, and compares it.
+fn expect_taken(rt: &impl Abort, pool: &mut Pool, wanted: Option<Frame>) {
+    assert_eq!(rt; pool.take(), wanted);
 }
 
 /// Gives frames 6 and 5 back to a pool of frame 7 alone.
@@ -26,12 +44,12 @@ fn takes_the_lowest_frames_all_or_none(rt: HostRuntime) -> Result<(), Fail> {
     let mut pool = Pool::of(rt.alloc(), Frame(5), 3)?;
     let taken = pool.take_many(rt.alloc(), 2)?;
     assert_eq!(rt; taken.as_slice(), [Frame(5), Frame(6)].as_slice());
-    assert_eq!(rt; pool.free(), 1);
+    expect_counts(&rt, &pool, 1, 3);
     let fault = pool.take_many(rt.alloc(), 2).err();
-    assert_eq!(rt; fault, Some(PoolFault::NoPool));
-    assert_eq!(rt; pool.free(), 1);
-    assert_eq!(rt; pool.room(), 3);
-    assert_eq!(rt; pool.take_many(rt.alloc(), 0)?.len(), 0);
+    assert!(rt; fault == Some(PoolFault::NoPool));
+    expect_counts(&rt, &pool, 1, 3);
+    let none = pool.take_many(rt.alloc(), 0)?;
+    assert!(rt; none.is_empty());
     Ok(())
 }
 
@@ -40,12 +58,12 @@ fn takes_what_came_back_lowest_first(rt: HostRuntime) -> Result<(), Fail> {
     let mut pool = Pool::of(rt.alloc(), Frame(5), 3)?;
     let _taken = pool.take_many(rt.alloc(), 2)?;
     give_six_and_five(&mut pool);
-    assert_eq!(rt; told(rt.alloc(), &pool)?.as_slice(), [5, 6, 7].as_slice());
+    expect_told(&rt, rt.alloc(), &pool, [5, 6, 7].as_slice())?;
     for number in 5..8 {
-        assert_eq!(rt; pool.take(), Some(Frame(number)));
+        expect_taken(&rt, &mut pool, Some(Frame(number)));
     }
-    assert_eq!(rt; pool.take(), None);
-    assert_eq!(rt; pool.room(), 3);
+    expect_taken(&rt, &mut pool, None);
+    expect_counts(&rt, &pool, 0, 3);
     Ok(())
 }
 
@@ -53,23 +71,22 @@ fn takes_what_came_back_lowest_first(rt: HostRuntime) -> Result<(), Fail> {
 fn grows_its_room(rt: HostRuntime) -> Result<(), Fail> {
     let mut pool = Pool::of(rt.alloc(), Frame(5), 3)?;
     pool.grow(2)?;
-    assert_eq!(rt; pool.room(), 3);
+    expect_counts(&rt, &pool, 3, 3);
     pool.grow(100)?;
-    assert_eq!(rt; pool.room(), 100);
-    assert_eq!(rt; told(rt.alloc(), &pool)?.as_slice(), [5, 6, 7].as_slice());
+    expect_counts(&rt, &pool, 3, 100);
+    expect_told(&rt, rt.alloc(), &pool, [5, 6, 7].as_slice())
+}
+
+/// Compares the text of a fault.
+fn expect_text(rt: &impl Abort, alloc: Global, fault: PoolFault, wanted: &str) -> Result<(), Fail> {
+    let text = format!(in alloc; "{fault}")?;
+    assert_eq!(rt; text.as_str(), wanted);
     Ok(())
 }
 
 #[test]
 fn tells_its_faults(rt: HostRuntime) -> Result<(), Fail> {
     let alloc = rt.alloc();
-    assert_eq!(rt;
-        format!(in alloc; "{}", PoolFault::NoPool)?.as_str(),
-        "too few free frames"
-    );
-    assert_eq!(rt;
-        format!(in alloc; "{}", PoolFault::from(AllocError))?.as_str(),
-        "out of memory"
-    );
-    Ok(())
+    expect_text(&rt, alloc, PoolFault::NoPool, "too few free frames")?;
+    expect_text(&rt, alloc, PoolFault::from(AllocError), "out of memory")
 }

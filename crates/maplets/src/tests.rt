@@ -3,6 +3,7 @@ ghost use Rattle.run_list.specs.Targets.{HasFrameBelow};
 
 use super::*;
 use page_state::{Frame, Kind, Prot, Run, State};
+use std::process::Abort;
 use std::test::Fail;
 
 /// A run of leaves of the frames of their own numbers.
@@ -49,13 +50,16 @@ fn clear(map: &mut Maplets, first: u64, count: u64) -> Result<(), AllocError>
     Ok(())
 }
 
-/// The runs of a map in order, as (first page, count).
-fn told(alloc: Global, map: &Maplets) -> Result<Vec<(u64, u64)>, AllocError> {
-    let mut out = Vec::new(alloc);
-    for run in map.iter() {
-        out.push((run.pages.first.0, run.pages.count))?;
-    }
-    Ok(out)
+/// Compares the runs of a map, in order.
+fn expect_runs(rt: &impl Abort, alloc: Global, map: &Maplets, wanted: &[Run]) -> Result<(), Fail> {
+    let runs: Vec<Run> = map.iter().collect(alloc)?;
+    assert_eq!(rt; runs.as_slice(), wanted);
+    Ok(())
+}
+
+/// Compares the target of a page.
+fn expect_at(rt: &impl Abort, map: &Maplets, page: u64, wanted: Option<Target>) {
+    assert_eq!(rt; map.at(Page(page)), wanted);
 }
 
 #[test]
@@ -63,48 +67,30 @@ fn splits_and_joins(rt: HostRuntime) -> Result<(), Fail> {
     let mut map = Maplets::new(rt.alloc());
     put_leaves(&mut map, 0x40200, 512, State::Owned)?;
     put_leaves(&mut map, 0x40300, 1, State::SharedOwned)?;
-    let split = [(0x40200, 256), (0x40300, 1), (0x40301, 255)];
-    assert_eq!(rt; told(rt.alloc(), &map)?.as_slice(), split.as_slice());
-    put_leaves(&mut map, 0x40300, 1, State::Owned)?;
-    let joined = [(0x40200, 512)];
-    assert_eq!(rt; told(rt.alloc(), &map)?.as_slice(), joined.as_slice());
-    clear(&mut map, 0x40300, 0x10)?;
-    let cut = [(0x40200, 256), (0x40310, 240)];
-    assert_eq!(rt; told(rt.alloc(), &map)?.as_slice(), cut.as_slice());
-    Ok(())
-}
-
-#[test]
-fn cuts_a_run_in_three_and_joins_it_again(rt: HostRuntime) -> Result<(), Fail> {
-    let mut map = Maplets::new(rt.alloc());
-    put_leaves(&mut map, 0x40200, 512, State::Owned)?;
-    put_leaves(&mut map, 0x40280, 16, State::SharedOwned)?;
-    let cut: Vec<Run> = map.iter().collect(rt.alloc())?;
-    let parts = [
-        leaves(0x40200, 128, State::Owned),
-        leaves(0x40280, 16, State::SharedOwned),
-        leaves(0x40290, 368, State::Owned),
+    let split = [
+        leaves(0x40200, 256, State::Owned),
+        leaves(0x40300, 1, State::SharedOwned),
+        leaves(0x40301, 255, State::Owned),
     ];
-    assert_eq!(rt; cut.as_slice(), parts.as_slice());
-    put_leaves(&mut map, 0x40280, 16, State::Owned)?;
-    let joined: Vec<Run> = map.iter().collect(rt.alloc())?;
-    let whole = [leaves(0x40200, 512, State::Owned)];
-    assert_eq!(rt; joined.as_slice(), whole.as_slice());
-    Ok(())
+    expect_runs(&rt, rt.alloc(), &map, split.as_slice())?;
+    put_leaves(&mut map, 0x40300, 1, State::Owned)?;
+    let joined = [leaves(0x40200, 512, State::Owned)];
+    expect_runs(&rt, rt.alloc(), &map, joined.as_slice())?;
+    clear(&mut map, 0x40300, 0x10)?;
+    let cut = [
+        leaves(0x40200, 256, State::Owned),
+        leaves(0x40310, 240, State::Owned),
+    ];
+    expect_runs(&rt, rt.alloc(), &map, cut.as_slice())
 }
 
 #[test]
 fn gives_each_page_its_target(rt: HostRuntime) -> Result<(), Fail> {
     let mut map = Maplets::new(rt.alloc());
     put_leaves(&mut map, 0x40200, 512, State::Owned)?;
-    let target = Target::Leaf {
-        frame: Frame(0x402ff),
-        prot: Prot::RWX,
-        kind: Kind::Normal,
-        state: State::Owned,
-    };
-    assert_eq!(rt; map.at(Page(0x402ff)), Some(target));
-    assert_eq!(rt; map.at(Page(0x40400)), None);
-    assert_eq!(rt; map.at(Page(0x401ff)), None);
+    let target = leaves(0x402ff, 1, State::Owned).target;
+    expect_at(&rt, &map, 0x402ff, Some(target));
+    expect_at(&rt, &map, 0x40400, None);
+    expect_at(&rt, &map, 0x401ff, None);
     Ok(())
 }

@@ -83,10 +83,26 @@ fn set_rows(rt: &impl Abort, table: &mut OwnerTable, first: u64, count: u64, row
     table.set(frames, row);
 }
 
-/// The row of a memory frame.
-fn row_of(rt: &impl Abort, table: &OwnerTable, frame: u64) -> Row {
+/// Compares the runs.
+fn expect_told(
+    rt: &impl Abort,
+    alloc: Global,
+    table: &OwnerTable,
+    wanted: &[(u64, u64, Row)],
+) -> Result<(), Fail> {
+    assert_eq!(rt; told(alloc, table)?.as_slice(), wanted);
+    Ok(())
+}
+
+/// Compares the row of a frame, or that it has none.
+fn expect_at(rt: &impl Abort, table: &OwnerTable, frame: u64, wanted: Option<Row>) {
+    assert_eq!(rt; table.rows.at(Page(frame)), wanted);
+}
+
+/// Compares the row of a memory frame.
+fn expect_row(rt: &impl Abort, table: &OwnerTable, frame: u64, wanted: Row) {
     assert!(rt; table.rows.at(Page(frame)).is_some());
-    table.row(Frame(frame))
+    assert_eq!(rt; table.row(Frame(frame)), wanted);
 }
 
 #[test]
@@ -94,7 +110,7 @@ fn gives_memory_frames_plain_rows(rt: HostRuntime) -> Result<(), Fail> {
     let map = two_memories(rt.alloc())?;
     let table = OwnerTable::of(rt.alloc(), &map)?;
     let rows = [(0x40000, 0x10, plain()), (0x40020, 0x10, plain())];
-    assert_eq!(rt; told(rt.alloc(), &table)?.as_slice(), rows.as_slice());
+    expect_told(&rt, rt.alloc(), &table, rows.as_slice())?;
     for (frame, some) in [
         (0x9000, false),
         (0x3ffff, false),
@@ -106,8 +122,8 @@ fn gives_memory_frames_plain_rows(rt: HostRuntime) -> Result<(), Fail> {
         (0x4002f, true),
         (0x40030, false),
     ] {
-        let row = table.rows.at(Page(frame));
-        assert_eq!(rt; row, if some { Some(plain()) } else { None }, "at {frame}");
+        let wanted = if some { Some(plain()) } else { None };
+        expect_at(&rt, &table, frame, wanted);
     }
     Ok(())
 }
@@ -122,8 +138,7 @@ fn joins_regions_that_meet(rt: HostRuntime) -> Result<(), Fail> {
     let map = MemoryMap::new(rt.alloc(), regions.as_slice(), carve)?;
     let table = OwnerTable::of(rt.alloc(), &map)?;
     let rows = [(0x40000, 0x20, plain())];
-    assert_eq!(rt; told(rt.alloc(), &table)?.as_slice(), rows.as_slice());
-    Ok(())
+    expect_told(&rt, rt.alloc(), &table, rows.as_slice())
 }
 
 #[test]
@@ -137,17 +152,22 @@ fn splits_and_joins(rt: HostRuntime) -> Result<(), Fail> {
         (0x40008, 8, plain()),
         (0x40020, 0x10, plain()),
     ];
-    assert_eq!(rt; told(rt.alloc(), &table)?.as_slice(), split.as_slice());
-    assert_eq!(rt; row_of(&rt, &table, 0x40003), plain());
-    assert_eq!(rt; row_of(&rt, &table, 0x40004), lent_at(0x80));
-    assert_eq!(rt; row_of(&rt, &table, 0x40007), lent_at(0x83));
-    assert_eq!(rt; row_of(&rt, &table, 0x40008), plain());
+    expect_told(&rt, rt.alloc(), &table, split.as_slice())?;
+    expect_row(&rt, &table, 0x40003, plain());
+    expect_row(&rt, &table, 0x40004, lent_at(0x80));
+    expect_row(&rt, &table, 0x40007, lent_at(0x83));
+    expect_row(&rt, &table, 0x40008, plain());
     // a loan that goes on from another joins it
     set_rows(&rt, &mut table, 0x40008, 1, lent_at(0x84));
-    assert_eq!(rt; row_of(&rt, &table, 0x40008), lent_at(0x84));
-    assert_eq!(rt; told(rt.alloc(), &table)?.len(), 4);
+    expect_row(&rt, &table, 0x40008, lent_at(0x84));
+    let longer = [
+        (0x40000, 4, plain()),
+        (0x40004, 5, lent_at(0x80)),
+        (0x40009, 7, plain()),
+        (0x40020, 0x10, plain()),
+    ];
+    expect_told(&rt, rt.alloc(), &table, longer.as_slice())?;
     set_rows(&rt, &mut table, 0x40004, 5, plain());
     let joined = [(0x40000, 0x10, plain()), (0x40020, 0x10, plain())];
-    assert_eq!(rt; told(rt.alloc(), &table)?.as_slice(), joined.as_slice());
-    Ok(())
+    expect_told(&rt, rt.alloc(), &table, joined.as_slice())
 }
