@@ -6,7 +6,7 @@ use Rattle.std.specs.Coded.{le_prop}
 use Rattle.page_state.specs.declared.reply.Call.{Call}
 use Rattle.page_state.specs.declared.step.Step.{Step}
 use Rattle.page_state.specs.Layouts.{Layout}
-use Rattle.reference_model.specs.Parts.{names}
+use Rattle.reference_model.specs.Parts.{guest_slot, names, uses_shared, uses_vms}
 use Rattle.reference_model.specs.Rely.{IsReached}
 use Rattle.reference_model.specs.State.{Reference}
 use Rattle.guest_steps.specs.declared.parts.VmPart.{VmPart}
@@ -14,14 +14,16 @@ use Rattle.guest_steps.specs.declared.parts.SharedPart.{SharedPart}
 use Rattle.guest_steps.specs.declared.parts.GuestPart.{GuestPart}
 use Rattle.guest_steps.specs.declared.parts.CpuState.{CpuState}
 use Rattle.guest_steps.specs.Lent.{Lent, IsLent, Suits, lent, used_in, logs_in, slot_in, call_in}
+use Rattle.guest_steps.specs.View.{cpu_of}
 use Rattle.hypercalls.specs.Steps.{IsStepOn, any_full}
 use Rattle.hypercalls.proofs.Singles.{single}
+use Rattle.world.specs.Uses.{parts_of}
 use Rattle.part_table.specs.declared.slot.Slot.{Slot}
 use Rattle.part_table.specs.declared.slot.Slot.TheVariants.{Vm as VmSlot, Shared as SharedSlot, Guest as GuestSlot}
-use Rattle.part_table.specs.Does.{Does, IsLeft, only_at, both_at}
-use Rattle.part_table.specs.Parts.{IsPart}
+use Rattle.part_table.specs.Does.{Does, IsLeft, none_at, only_at, both_at}
+use Rattle.part_table.specs.Parts.{IsPart, in_order}
 use Rattle.part_table.proofs.Stepping.{lent_at, reached, suits, does, nat_prop}
-use Rattle.part_table.proofs.SteppingByNumber.{left_as, does_as, vms_number, shared_number, guest_number}
+use Rattle.part_table.proofs.SteppingByNumber.{left_as, does_as, vms_number, shared_number, guest_number, none_fits, none_is, vms_fits, vms_only, shared_fits, shared_only, guest_fits, guest_only, guest_used, both_fits, both_is, both_used}
 
 pub no_items : {P : Type 0} (xs : List P) → length xs ≡ 0 → xs ≡ []
 no_items [] e = refl
@@ -92,25 +94,85 @@ module _ {A : Type 0} where
         let t = guest_kind l h.state v y (subst (λ k. IsPart l h.state k y) two part) in
         never t.0 t.1)
 
--- `x` are the parts that `f` tells by number, and `x'` is how they are lent
-module _ {A : Type 0} (l : Layout) (id : ℕ) (step : Step) (x x' : Lent A) (same : x ≡ x') (f : ℕ → Option (Slot A)) (fits : IsLent (names step) (slot_in x step) x) (told : (j : ℕ) → lent_at (slot_in x step) x j ≡ f j) (left : ∥ IsLeft l id x.cpu f ∥₁) where
+-- `x` are the parts that `f` tells by number, and `x'` is how they are lent to a step that uses just them
+pub record LentAs {A : Type 0} (l : Layout) (id : ℕ) (step : Step) (x x' : Lent A) (f : ℕ → Option (Slot A)) : Type 0 where
+  pub same : x ≡ x'
+  pub fits : IsLent (names step) (slot_in x step) x
+  pub told : (j : ℕ) → lent_at (slot_in x step) x j ≡ f j
+  pub left : ∥ IsLeft l id x.cpu f ∥₁
+
+module _ {A : Type 0} {l : Layout} {id : ℕ} {step : Step} {x x' : Lent A} {f : ℕ → Option (Slot A)} (way : LentAs l id step x x' f) where
   left_on : ∥ IsLeft l id x.cpu (lent_at (slot_in x step) x) ∥₁
-  left_on = ∥∥₁_map left (left_as l id x.cpu (lent_at (slot_in x step) x) f told)
+  left_on = ∥∥₁_map way.left (left_as l id x.cpu (lent_at (slot_in x step) x) f way.told)
 
   pub asks_lent : IsLent (names step) (slot_in x' step) x'
-  asks_lent = subst (λ (z : Lent A). IsLent (names step) (slot_in z step) z) same fits
+  asks_lent = subst (λ (z : Lent A). IsLent (names step) (slot_in z step) z) way.same way.fits
 
   pub asks_suits : Suits l x'
-  asks_suits = subst (Suits l) same (suits l id step x fits left_on)
+  asks_suits = subst (Suits l) way.same (suits l id step x way.fits left_on)
 
   pub asks_reached : ∥ IsReached l (names step) (slot_in x' step) id (used_in x') ∥₁
-  asks_reached = subst (λ (z : Lent A). ∥ IsReached l (names step) (slot_in z step) id (used_in z) ∥₁) same (reached l id step x fits left_on)
+  asks_reached = subst (λ (z : Lent A). ∥ IsReached l (names step) (slot_in z step) id (used_in z) ∥₁) way.same (reached l id step x way.fits left_on)
 
   -- `z` is what comes back, and `h` tells it by number
   pub gives : (c : Call) (y z : Lent A) (h : ℕ → Option (Slot A)) → any_full (logs_in x) ≡ false → c ≡ call_in x' id step c.reply → IsStepOn l id step x' c.reply y → Suits l y → y ≡ z → ((j : ℕ) → lent_at (slot_in x step) z j ≡ h j) → Does l c f x.cpu h y.cpu
   gives c y z h room called made sized is back =
-      let made_x : IsStepOn l id step x c.reply y = subst (λ (w : Lent A). IsStepOn l id step w c.reply y) (sym same) made in
-      let c_is : c ≡ call_in x id step c.reply = called ∙ sym (ap (λ (w : Lent A). call_in w id step c.reply) same) in
-      let d = does l id step x fits c.reply y room made_x sized in
-      let by_number = does_as l (call_in x id step c.reply) (lent_at (slot_in x step) x) f x.cpu (lent_at (slot_in x step) y) h y.cpu told (λ j. ap (λ (w : Lent A). lent_at (slot_in x step) w j) is ∙ back j) d in
+      let made_x : IsStepOn l id step x c.reply y = subst (λ (w : Lent A). IsStepOn l id step w c.reply y) (sym way.same) made in
+      let c_is : c ≡ call_in x id step c.reply = called ∙ sym (ap (λ (w : Lent A). call_in w id step c.reply) way.same) in
+      let d = does l id step x way.fits c.reply y room made_x sized in
+      let by_number = does_as l (call_in x id step c.reply) (lent_at (slot_in x step) x) f x.cpu (lent_at (slot_in x step) y) h y.cpu way.told (λ j. ap (λ (w : Lent A). lent_at (slot_in x step) w j) is ∙ back j) d in
       subst (λ (e : Call). Does l e f x.cpu h y.cpu) (sym c_is) by_number
+
+-- the slot of the guest's part that a step uses beside the Shared part
+pub both_slot : (step : Step) (k : CpuState) (v : ℕ) → in_order (parts_of (names step) (guest_slot (cpu_of k) step)) ≡ 1 ∷ (v + 2) ∷ [] → guest_slot (cpu_of k) step ≡ Some v
+both_slot step k v uses = (both_used (uses_vms (names step)) (uses_shared (names step) (guest_slot (cpu_of k) step)) (guest_slot (cpu_of k) step) v uses).2
+
+-- how the parts are lent that a step uses, by their numbers
+module _ {A : Type 0} (l : Layout) (id : ℕ) (step : Step) (k : CpuState) where
+  pub none_as : in_order (parts_of (names step) (guest_slot (cpu_of k) step)) ≡ [] → ∥ IsLeft {A = A} l id k none_at ∥₁ → LentAs l id step (lent {A = A} [] [] [] k) (lent [] [] [] k) none_at
+  none_as uses left = record {
+    same = refl;
+    fits = none_fits k step uses;
+    told = none_is (guest_slot (cpu_of k) step) k;
+    left = left;
+  }
+
+  pub vms_as : (p : VmPart) (ps : List VmPart) → ps ≡ p ∷ [] → in_order (parts_of (names step) (guest_slot (cpu_of k) step)) ≡ 0 ∷ [] → ∥ IsLeft {A = A} l id k (only_at 0 (VmSlot p)) ∥₁ → LentAs l id step (lent {A = A} (p ∷ []) [] [] k) (lent ps [] [] k) (only_at 0 (VmSlot p))
+  vms_as p ps is uses left = record {
+    same = same_lent (p ∷ []) ps [] [] [] [] k (sym is) refl refl;
+    fits = vms_fits k step p uses;
+    told = vms_only (guest_slot (cpu_of k) step) k p;
+    left = left;
+  }
+
+  pub shared_as : (p : SharedPart A) (ps : List (SharedPart A)) → ps ≡ p ∷ [] → in_order (parts_of (names step) (guest_slot (cpu_of k) step)) ≡ 1 ∷ [] → ∥ IsLeft l id k (only_at 1 (SharedSlot p)) ∥₁ → LentAs l id step (lent [] (p ∷ []) [] k) (lent [] ps [] k) (only_at 1 (SharedSlot p))
+  shared_as p ps is uses left = record {
+    same = same_lent [] [] (p ∷ []) ps [] [] k refl (sym is) refl;
+    fits = shared_fits k step p uses;
+    told = shared_only (guest_slot (cpu_of k) step) k p;
+    left = left;
+  }
+
+  -- the slot of the part of number n, which is a guest's
+  pub guest_at : (n : ℕ) (p : GuestPart A) → in_order (parts_of (names step) (guest_slot (cpu_of k) step)) ≡ n ∷ [] → ∥ IsLeft l id k (only_at n (GuestSlot p)) ∥₁ → (v : ℕ) × (guest_slot (cpu_of k) step ≡ Some v) × (n ≡ v + 2)
+  guest_at n p uses left =
+      let at = guest_used (uses_vms (names step)) (uses_shared (names step) (guest_slot (cpu_of k) step)) (guest_slot (cpu_of k) step) n (guest_past l id k n (GuestSlot p) p refl left) uses in
+      (at.2, at.3, at.4)
+
+  pub guest_as : (n : ℕ) (p : GuestPart A) (ps : List (GuestPart A)) → ps ≡ p ∷ [] → in_order (parts_of (names step) (guest_slot (cpu_of k) step)) ≡ n ∷ [] → ∥ IsLeft l id k (only_at n (GuestSlot p)) ∥₁ → LentAs l id step (lent [] [] (p ∷ []) k) (lent [] [] ps k) (only_at n (GuestSlot p))
+  guest_as n p ps is uses left =
+      let at = guest_at n p uses left in
+      record {
+        same = same_lent [] [] [] [] (p ∷ []) ps k refl refl (sym is);
+        fits = guest_fits k step n p (guest_past l id k n (GuestSlot p) p refl left) uses;
+        told = guest_only (guest_slot (cpu_of k) step) k at.0 n p at.1 at.2;
+        left = left;
+      }
+
+  pub both_as : (v : ℕ) (s : SharedPart A) (ss : List (SharedPart A)) (p : GuestPart A) (ps : List (GuestPart A)) → ss ≡ s ∷ [] → ps ≡ p ∷ [] → in_order (parts_of (names step) (guest_slot (cpu_of k) step)) ≡ 1 ∷ (v + 2) ∷ [] → ∥ IsLeft l id k (both_at (v + 2) (GuestSlot p) 1 (SharedSlot s)) ∥₁ → LentAs l id step (lent [] (s ∷ []) (p ∷ []) k) (lent [] ss ps k) (both_at (v + 2) (GuestSlot p) 1 (SharedSlot s))
+  both_as v s ss p ps is guest_is uses left = record {
+    same = same_lent [] [] (s ∷ []) ss (p ∷ []) ps k refl (sym is) (sym guest_is);
+    fits = both_fits k step v s p uses;
+    told = both_is (guest_slot (cpu_of k) step) k v s p (both_slot step k v uses);
+    left = left;
+  }

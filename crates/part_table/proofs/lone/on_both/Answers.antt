@@ -1,57 +1,31 @@
-use Rattle.std.proofs.Common.{◌∷◌, [], ◌∙◌, ◌+◌, ap, sym, length, refl}
+use Rattle.std.proofs.Common.{◌∷◌, [], ◌∙◌, ◌+◌, ap, length, refl}
 use Rattle.page_state.specs.LayoutView.{layout_of}
-use Rattle.reference_model.specs.Parts.{guest_slot, names, uses_shared, uses_vms}
 use Rattle.guest_steps.specs.declared.parts.SharedPart.{SharedPart}
 use Rattle.guest_steps.specs.declared.parts.GuestPart.{GuestPart}
 use Rattle.guest_steps.specs.Lent.{lent, slot_in}
-use Rattle.guest_steps.specs.View.{cpu_of}
 use Rattle.part_table.specs.declared.slot.Slot.TheVariants.{Shared as SharedSlot, Guest as GuestSlot}
 use Rattle.part_table.specs.Does.{both_at}
-use Rattle.part_table.proofs.SteppingByNumber.{none_full, not_full, both_fits, both_is, both_used}
-use Rattle.part_table.proofs.SteppingOn.{asks_lent, asks_reached, asks_suits, gives, laid, lifted, no_items, same_lent}
+use Rattle.part_table.proofs.SteppingByNumber.{none_full, not_full, both_is}
+use Rattle.part_table.proofs.SteppingOn.{asks_lent, asks_reached, asks_suits, both_as, both_slot, gives, laid, lifted, no_items, same_lent}
 use Rattle.part_table.proofs.lone.on_both.Goals as goal
 
 pub call_on-call-requires-clause-lent : goal.call_on-call-requires-clause-lent
 call_on-call-requires-clause-lent g c =
-    let s = c.args.shared in
-    let p = c.args.guest in
-    let v = c.args.v in
-    let k = c.args.cpu.now in
-    let step = c.args.step in
-    let given = laid {P = SharedPart g.row.A.Denot} c.slice_mut.result.now c.lay.new.place.items s c.slice_mut.ensures.value c.lay.ensures.items in
-    let guest_given = laid {P = GuestPart g.row.A.Denot} c.slice_mut-2.result.now c.lay-2.new.place.items p c.slice_mut-2.ensures.value c.lay-2.ensures.items in
-    let at = both_used (uses_vms (names step)) (uses_shared (names step) (guest_slot (cpu_of k) step)) (guest_slot (cpu_of k) step) v c.requires.uses in
-    let x = lent {A = g.row.A.Denot} [] (s ∷ []) (p ∷ []) k in
-    let x' = lent {A = g.row.A.Denot} [] c.slice_mut.result.now c.slice_mut-2.result.now k in
-    asks_lent (layout_of c.args.layout.now) c.args.id step x x' (same_lent [] [] (s ∷ []) _ (p ∷ []) _ k refl (sym given) (sym guest_given)) (both_at (v + 2) (GuestSlot p) 1 (SharedSlot s)) (both_fits k step v s p c.requires.uses) (both_is (slot_in x step) k v s p at.2) c.requires.left
+    let given = laid {P = SharedPart g.row.A.Denot} c.slice_mut.result.now c.lay.new.place.items c.args.shared c.slice_mut.ensures.value c.lay.ensures.items in
+    let guest_given = laid {P = GuestPart g.row.A.Denot} c.slice_mut-2.result.now c.lay-2.new.place.items c.args.guest c.slice_mut-2.ensures.value c.lay-2.ensures.items in
+    asks_lent (both_as (layout_of c.args.layout.now) c.args.id c.args.step c.args.cpu.now c.args.v c.args.shared _ c.args.guest _ given guest_given c.requires.uses c.requires.left)
 
 pub call_on-call-requires-clause-suits : goal.call_on-call-requires-clause-suits
 call_on-call-requires-clause-suits g c =
-    let s = c.args.shared in
-    let p = c.args.guest in
-    let v = c.args.v in
-    let k = c.args.cpu.now in
-    let step = c.args.step in
-    let given = laid {P = SharedPart g.row.A.Denot} c.slice_mut.result.now c.lay.new.place.items s c.slice_mut.ensures.value c.lay.ensures.items in
-    let guest_given = laid {P = GuestPart g.row.A.Denot} c.slice_mut-2.result.now c.lay-2.new.place.items p c.slice_mut-2.ensures.value c.lay-2.ensures.items in
-    let at = both_used (uses_vms (names step)) (uses_shared (names step) (guest_slot (cpu_of k) step)) (guest_slot (cpu_of k) step) v c.requires.uses in
-    let x = lent {A = g.row.A.Denot} [] (s ∷ []) (p ∷ []) k in
-    let x' = lent {A = g.row.A.Denot} [] c.slice_mut.result.now c.slice_mut-2.result.now k in
-    asks_suits (layout_of c.args.layout.now) c.args.id step x x' (same_lent [] [] (s ∷ []) _ (p ∷ []) _ k refl (sym given) (sym guest_given)) (both_at (v + 2) (GuestSlot p) 1 (SharedSlot s)) (both_fits k step v s p c.requires.uses) (both_is (slot_in x step) k v s p at.2) c.requires.left
+    let given = laid {P = SharedPart g.row.A.Denot} c.slice_mut.result.now c.lay.new.place.items c.args.shared c.slice_mut.ensures.value c.lay.ensures.items in
+    let guest_given = laid {P = GuestPart g.row.A.Denot} c.slice_mut-2.result.now c.lay-2.new.place.items c.args.guest c.slice_mut-2.ensures.value c.lay-2.ensures.items in
+    asks_suits (both_as (layout_of c.args.layout.now) c.args.id c.args.step c.args.cpu.now c.args.v c.args.shared _ c.args.guest _ given guest_given c.requires.uses c.requires.left)
 
 pub call_on-call-requires-clause-reached : goal.call_on-call-requires-clause-reached
 call_on-call-requires-clause-reached g c =
-    let s = c.args.shared in
-    let p = c.args.guest in
-    let v = c.args.v in
-    let k = c.args.cpu.now in
-    let step = c.args.step in
-    let given = laid {P = SharedPart g.row.A.Denot} c.slice_mut.result.now c.lay.new.place.items s c.slice_mut.ensures.value c.lay.ensures.items in
-    let guest_given = laid {P = GuestPart g.row.A.Denot} c.slice_mut-2.result.now c.lay-2.new.place.items p c.slice_mut-2.ensures.value c.lay-2.ensures.items in
-    let at = both_used (uses_vms (names step)) (uses_shared (names step) (guest_slot (cpu_of k) step)) (guest_slot (cpu_of k) step) v c.requires.uses in
-    let x = lent {A = g.row.A.Denot} [] (s ∷ []) (p ∷ []) k in
-    let x' = lent {A = g.row.A.Denot} [] c.slice_mut.result.now c.slice_mut-2.result.now k in
-    asks_reached (layout_of c.args.layout.now) c.args.id step x x' (same_lent [] [] (s ∷ []) _ (p ∷ []) _ k refl (sym given) (sym guest_given)) (both_at (v + 2) (GuestSlot p) 1 (SharedSlot s)) (both_fits k step v s p c.requires.uses) (both_is (slot_in x step) k v s p at.2) c.requires.left
+    let given = laid {P = SharedPart g.row.A.Denot} c.slice_mut.result.now c.lay.new.place.items c.args.shared c.slice_mut.ensures.value c.lay.ensures.items in
+    let guest_given = laid {P = GuestPart g.row.A.Denot} c.slice_mut-2.result.now c.lay-2.new.place.items c.args.guest c.slice_mut-2.ensures.value c.lay-2.ensures.items in
+    asks_reached (both_as (layout_of c.args.layout.now) c.args.id c.args.step c.args.cpu.now c.args.v c.args.shared _ c.args.guest _ given guest_given c.requires.uses c.requires.left)
 
 pub returns-clause-does : goal.returns-clause-does
 returns-clause-does g c =
@@ -60,20 +34,15 @@ returns-clause-does g c =
     let v = c.args.v in
     let k = c.args.cpu.now in
     let step = c.args.step in
-    let given = laid {P = SharedPart g.row.A.Denot} c.slice_mut.result.now c.lay.new.place.items s c.slice_mut.ensures.value c.lay.ensures.items in
-    let guest_given = laid {P = GuestPart g.row.A.Denot} c.slice_mut-2.result.now c.lay-2.new.place.items p c.slice_mut-2.ensures.value c.lay-2.ensures.items in
-    let at = both_used (uses_vms (names step)) (uses_shared (names step) (guest_slot (cpu_of k) step)) (guest_slot (cpu_of k) step) v c.requires.uses in
-    let x = lent {A = g.row.A.Denot} [] (s ∷ []) (p ∷ []) k in
-    let x' = lent {A = g.row.A.Denot} [] c.slice_mut.result.now c.slice_mut-2.result.now k in
+    let given = laid {P = SharedPart g.row.A.Denot} c.slice_mut.result.now c.lay.new.place.items c.args.shared c.slice_mut.ensures.value c.lay.ensures.items in
+    let guest_given = laid {P = GuestPart g.row.A.Denot} c.slice_mut-2.result.now c.lay-2.new.place.items c.args.guest c.slice_mut-2.ensures.value c.lay-2.ensures.items in
     let new = c.call_on-call.new in
     let kept = c.call_on-call.auto in
-    let y = lent {A = g.row.A.Denot} new.vms new.shared new.guest new.cpu in
     let q = c.lift-shared.result in
     let r = c.lift-guest.result in
-    let z = lent {A = g.row.A.Denot} [] (q ∷ []) (r ∷ []) new.cpu in
-    gives (layout_of c.args.layout.now) c.args.id step x x' (same_lent [] [] (s ∷ []) _ (p ∷ []) _ k refl (sym given) (sym guest_given)) (both_at (v + 2) (GuestSlot p) 1 (SharedSlot s)) (both_fits k step v s p c.requires.uses) (both_is (slot_in x step) k v s p at.2) c.requires.left
-    c.call_on-call.result y z (both_at (v + 2) (GuestSlot r) 1 (SharedSlot q))
+    gives (both_as (layout_of c.args.layout.now) c.args.id step k v s _ p _ given guest_given c.requires.uses c.requires.left)
+    c.call_on-call.result (lent {A = g.row.A.Denot} new.vms new.shared new.guest new.cpu) (lent {A = g.row.A.Denot} [] (q ∷ []) (r ∷ []) new.cpu) (both_at (v + 2) (GuestSlot r) 1 (SharedSlot q))
     (none_full _ _ _ _ (not_full k.log.room c.requires.own_room) refl (not_full s.log.room c.requires.room) (not_full p.log.room c.requires.guest_room))
     c.call_on-call.ensures.call c.call_on-call.ensures.step c.call_on-call.ensures.suits
     (same_lent new.vms [] new.shared (q ∷ []) new.guest (r ∷ []) new.cpu (no_items new.vms kept.vms) (lifted {P = SharedPart g.row.A.Denot} c.lay.new.place.len c.lay.new.place.items new.shared q c.lay.ensures.len (kept.shared ∙ ap length given) c.lift-shared.ensures.items) (lifted {P = GuestPart g.row.A.Denot} c.lay-2.new.place.len c.lay-2.new.place.items new.guest r c.lay-2.ensures.len (kept.guest ∙ ap length guest_given) c.lift-guest.ensures.items))
-    (both_is (slot_in x step) new.cpu v q r at.2)
+    (both_is (slot_in (lent {A = g.row.A.Denot} [] (s ∷ []) (p ∷ []) k) step) new.cpu v q r (both_slot step k v c.requires.uses))

@@ -1,59 +1,40 @@
-use Rattle.std.proofs.Common.{◌∷◌, [], ◌∙◌, ap, sym, length, refl}
+use Rattle.std.proofs.Common.{◌∷◌, [], ◌∙◌, ap, length, refl}
 use Rattle.page_state.specs.LayoutView.{layout_of}
 use Rattle.guest_steps.specs.declared.parts.SharedPart.{SharedPart}
 use Rattle.guest_steps.specs.Lent.{lent, slot_in}
 use Rattle.part_table.specs.declared.slot.Slot.TheVariants.{Shared as SharedSlot}
 use Rattle.part_table.specs.Does.{only_at}
-use Rattle.part_table.proofs.SteppingByNumber.{none_full, not_full, shared_fits, shared_only}
-use Rattle.part_table.proofs.SteppingOn.{asks_lent, asks_reached, asks_suits, gives, laid, lifted, no_items, same_lent}
+use Rattle.part_table.proofs.SteppingByNumber.{none_full, not_full, shared_only}
+use Rattle.part_table.proofs.SteppingOn.{asks_lent, asks_reached, asks_suits, gives, laid, lifted, no_items, same_lent, shared_as}
 use Rattle.part_table.proofs.lone.on_shared.Goals as goal
 
 pub call_on-call-requires-clause-lent : goal.call_on-call-requires-clause-lent
 call_on-call-requires-clause-lent g c =
-    let p = c.args.part in
-    let k = c.args.cpu.now in
-    let given = laid {P = SharedPart g.row.A.Denot} c.slice_mut.result.now c.lay.new.place.items p c.slice_mut.ensures.value c.lay.ensures.items in
-    let step = c.args.step in
-    let x = lent {A = g.row.A.Denot} [] (p ∷ []) [] k in
-    let x' = lent {A = g.row.A.Denot} [] c.slice_mut.result.now [] k in
-    asks_lent (layout_of c.args.layout.now) c.args.id step x x' (same_lent [] [] (p ∷ []) _ [] [] k refl (sym given) refl) (only_at 1 (SharedSlot p)) (shared_fits k step p c.requires.uses) (shared_only (slot_in x step) k p) c.requires.left
+    let given = laid {P = SharedPart g.row.A.Denot} c.slice_mut.result.now c.lay.new.place.items c.args.part c.slice_mut.ensures.value c.lay.ensures.items in
+    asks_lent (shared_as (layout_of c.args.layout.now) c.args.id c.args.step c.args.cpu.now c.args.part _ given c.requires.uses c.requires.left)
 
 pub call_on-call-requires-clause-suits : goal.call_on-call-requires-clause-suits
 call_on-call-requires-clause-suits g c =
-    let p = c.args.part in
-    let k = c.args.cpu.now in
-    let given = laid {P = SharedPart g.row.A.Denot} c.slice_mut.result.now c.lay.new.place.items p c.slice_mut.ensures.value c.lay.ensures.items in
-    let step = c.args.step in
-    let x = lent {A = g.row.A.Denot} [] (p ∷ []) [] k in
-    let x' = lent {A = g.row.A.Denot} [] c.slice_mut.result.now [] k in
-    asks_suits (layout_of c.args.layout.now) c.args.id step x x' (same_lent [] [] (p ∷ []) _ [] [] k refl (sym given) refl) (only_at 1 (SharedSlot p)) (shared_fits k step p c.requires.uses) (shared_only (slot_in x step) k p) c.requires.left
+    let given = laid {P = SharedPart g.row.A.Denot} c.slice_mut.result.now c.lay.new.place.items c.args.part c.slice_mut.ensures.value c.lay.ensures.items in
+    asks_suits (shared_as (layout_of c.args.layout.now) c.args.id c.args.step c.args.cpu.now c.args.part _ given c.requires.uses c.requires.left)
 
 pub call_on-call-requires-clause-reached : goal.call_on-call-requires-clause-reached
 call_on-call-requires-clause-reached g c =
-    let p = c.args.part in
-    let k = c.args.cpu.now in
-    let given = laid {P = SharedPart g.row.A.Denot} c.slice_mut.result.now c.lay.new.place.items p c.slice_mut.ensures.value c.lay.ensures.items in
-    let step = c.args.step in
-    let x = lent {A = g.row.A.Denot} [] (p ∷ []) [] k in
-    let x' = lent {A = g.row.A.Denot} [] c.slice_mut.result.now [] k in
-    asks_reached (layout_of c.args.layout.now) c.args.id step x x' (same_lent [] [] (p ∷ []) _ [] [] k refl (sym given) refl) (only_at 1 (SharedSlot p)) (shared_fits k step p c.requires.uses) (shared_only (slot_in x step) k p) c.requires.left
+    let given = laid {P = SharedPart g.row.A.Denot} c.slice_mut.result.now c.lay.new.place.items c.args.part c.slice_mut.ensures.value c.lay.ensures.items in
+    asks_reached (shared_as (layout_of c.args.layout.now) c.args.id c.args.step c.args.cpu.now c.args.part _ given c.requires.uses c.requires.left)
 
 pub returns-clause-does : goal.returns-clause-does
 returns-clause-does g c =
     let p = c.args.part in
     let k = c.args.cpu.now in
-    let given = laid {P = SharedPart g.row.A.Denot} c.slice_mut.result.now c.lay.new.place.items p c.slice_mut.ensures.value c.lay.ensures.items in
     let step = c.args.step in
-    let x = lent {A = g.row.A.Denot} [] (p ∷ []) [] k in
-    let x' = lent {A = g.row.A.Denot} [] c.slice_mut.result.now [] k in
+    let given = laid {P = SharedPart g.row.A.Denot} c.slice_mut.result.now c.lay.new.place.items p c.slice_mut.ensures.value c.lay.ensures.items in
     let new = c.call_on-call.new in
     let kept = c.call_on-call.auto in
-    let y = lent {A = g.row.A.Denot} new.vms new.shared new.guest new.cpu in
     let q = c.lift-part.result in
-    let z = lent {A = g.row.A.Denot} [] (q ∷ []) [] new.cpu in
-    gives (layout_of c.args.layout.now) c.args.id step x x' (same_lent [] [] (p ∷ []) _ [] [] k refl (sym given) refl) (only_at 1 (SharedSlot p)) (shared_fits k step p c.requires.uses) (shared_only (slot_in x step) k p) c.requires.left
-    c.call_on-call.result y z (only_at 1 (SharedSlot q))
+    gives (shared_as (layout_of c.args.layout.now) c.args.id step k p _ given c.requires.uses c.requires.left)
+    c.call_on-call.result (lent {A = g.row.A.Denot} new.vms new.shared new.guest new.cpu) (lent {A = g.row.A.Denot} [] (q ∷ []) [] new.cpu) (only_at 1 (SharedSlot q))
     (none_full _ _ _ _ (not_full k.log.room c.requires.own_room) refl (not_full p.log.room c.requires.room) refl)
     c.call_on-call.ensures.call c.call_on-call.ensures.step c.call_on-call.ensures.suits
     (same_lent new.vms [] new.shared (q ∷ []) new.guest [] new.cpu (no_items new.vms kept.vms) (lifted {P = SharedPart g.row.A.Denot} c.lay.new.place.len c.lay.new.place.items new.shared q c.lay.ensures.len (kept.shared ∙ ap length given) c.lift-part.ensures.items) (no_items new.guest kept.guest))
-    (shared_only (slot_in x step) new.cpu q)
+    (shared_only (slot_in (lent {A = g.row.A.Denot} [] (p ∷ []) [] k) step) new.cpu q)
