@@ -11,7 +11,7 @@ use Rattle.ghost_spec.specs.Views.{cpu_in}
 use Rattle.ghost_oracle.specs.declared.raw.RawGuest.{RawGuest}
 use Rattle.ghost_oracle.specs.declared.raw.RawParts.{RawParts}
 use Rattle.ghost_oracle.specs.declared.trees.Source.{Source}
-use Rattle.ghost_oracle.specs.Audits.{AreMapsKept}
+use Rattle.ghost_judge.specs.Audits.{AreMapsKept}
 use Rattle.ghost_oracle.specs.RawFound.{AreSlotsFound, IsRawFound}
 use Rattle.ghost_oracle.proofs.Founds.{as_long}
 

@@ -1,16 +1,10 @@
-pub mod Apart
-pub mod Audits
 pub mod Beside
 pub mod Found
-pub mod Judgements
 pub mod Levels
 pub mod Low
 pub mod Poked
 pub mod RawFound
 pub mod Recorded
-pub mod RowsLaid
-pub mod RowsTold
 pub mod Seen
-pub mod Texts
 pub mod Walked
 pub mod inner

@@ -1,4 +1,1 @@
-pub mod Found
-pub mod Parted
-pub mod Same
 pub mod Walking

@@ -15,8 +15,8 @@ ghost use Rattle.ghost_oracle.specs.Found.{found_state, walked_state, with_row, 
 ghost use Rattle.ghost_oracle.specs.Low.{IsLowCpu, IsLowGuest};
 
 use crate::parts::{cpu_rooms, cpus_from, guest_rooms, slots_from};
-use crate::rows::rows_from_scratch;
 use crate::trees::{Source, frames_of, guests_from, guests_with_maplets, tree_from, with_maplets};
+use ghost_rows::rows_from_scratch;
 use ghost_spec::rows::copied_rows;
 use ghost_spec::shared::Shared;
 use ghost_spec::state::{Ghost, GhostRooms, copied_layout};

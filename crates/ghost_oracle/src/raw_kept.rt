@@ -4,16 +4,16 @@ ghost use Rattle.page_state.specs.LayoutView.{layout_of};
 ghost use Rattle.ghost_spec.specs.Kept.{IsKeptTree};
 ghost use Rattle.ghost_spec.specs.States.{contents_in};
 ghost use Rattle.ghost_spec.specs.Trees.{tree_in_lists};
-ghost use Rattle.ghost_oracle.specs.Audits.{AreMapsKept};
+ghost use Rattle.ghost_judge.specs.Audits.{AreMapsKept};
 ghost use Rattle.ghost_oracle.specs.Found.{scratch_rows, HasRowsOf};
 ghost use Rattle.ghost_oracle.specs.RawFound.{AreSlotsFound, IsRawFound, IsSlotFound, SaysRawRows};
 ghost use Rattle.ghost_oracle.specs.Seen.{raw_seen};
 
 use crate::parts::{cpu_rooms, cpus_from, guest_rooms, slots_from};
 use crate::raw::{RawComponent, RawGuest, RawParts, RawShared};
-use crate::rows::rows_from_scratch;
 use crate::trees::{Source, frames_of, guest_from, phase_from, with_maplets};
 use crate::walk::walk;
+use ghost_rows::rows_from_scratch;
 use ghost_spec::parts::GhostGuest;
 use ghost_spec::rows::copied_rows;
 use ghost_spec::shared::Shared;

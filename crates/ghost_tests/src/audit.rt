@@ -5,13 +5,13 @@ ghost use Rattle.page_state.specs.Rows.{advance_row, HasPageBelow};
 ghost use Rattle.run_list.specs.Runs.{run_map, map_updated};
 ghost use Rattle.ghost_spec.specs.Small.{HasLowFrames};
 ghost use Rattle.ghost_spec.specs.States.{IsKept};
-ghost use Rattle.ghost_oracle.specs.Audits.{HaveSameFrames};
+ghost use Rattle.ghost_judge.specs.Audits.{HaveSameFrames};
 ghost use Rattle.table_tree.specs.Raw.{IsRaw};
 
 use crate::sample::{memory, started};
 use descriptor::{Frame, Kind, Owner, Prot, State};
-use ghost_oracle::audit::audit;
-use ghost_oracle::disagreement::{Disagreement, TreeOf};
+use ghost_judge::audit::audit;
+use ghost_judge::disagreement::{Disagreement, TreeOf};
 use ghost_oracle::walk::walk;
 use ghost_spec::state::Ghost;
 use ghost_spec::tree::{Table as FoundTable, Tree};

@@ -3,8 +3,8 @@ ghost use Rattle.std.specs.Prelude.{◌≡◌, ◌<◌, IfOk};
 ghost use Rattle.ghost_spec.specs.States.{IsKept};
 
 use crate::sample::{memory, started};
-use ghost_oracle::disagreement::{Disagreement, TreeOf};
-use ghost_oracle::judge::{differs, judge};
+use ghost_judge::disagreement::{Disagreement, TreeOf};
+use ghost_judge::judge::{differs, judge};
 use ghost_spec::state::Ghost;
 use page_state::{
     Entry, Frame, Kind, Owner, Page, PageRange, Prot, Refusal, Reply, Row, State, Step, Usage,

@@ -3,7 +3,7 @@ ghost use Rattle.std.specs.Prelude.{◌<◌, IfOk};
 ghost use Rattle.ghost_spec.specs.States.{IsKept};
 
 use crate::sample::{region, started};
-use ghost_oracle::rows::rows_from_scratch;
+use ghost_rows::rows_from_scratch;
 use ghost_spec::state::Ghost;
 use page_state::{
     MemoryMap, Page, PageRange, Prot, Refusal, RegionKind, Reply, Step, VmId, VmKind,

@@ -1,5 +1,5 @@
 use crate::texts::joined;
-use ghost_oracle::disagreement::Disagreement;
+use ghost_judge::disagreement::Disagreement;
 use ghost_spec::state::Ghost;
 use linked_list_allocator::LocalHeap;
 use page_state::{Reply, Step};

@@ -8,9 +8,9 @@ use Rattle.reference_model.specs.State.{Reference}
 use Rattle.reference_model.specs.Step.{foretell}
 use Rattle.ghost_spec.specs.declared.state.Ghost.{Ghost}
 use Rattle.ghost_spec.specs.States.{contents_in}
-use Rattle.ghost_oracle.specs.Audits.{AuditAgrees}
-use Rattle.ghost_oracle.specs.Judgements.{JudgeAgrees, told_of}
-use Rattle.ghost_oracle.proofs.JudgedSteps.{step_agrees}
+use Rattle.ghost_judge.specs.Audits.{AuditAgrees}
+use Rattle.ghost_judge.specs.Judgements.{JudgeAgrees, told_of}
+use Rattle.ghost_judge.proofs.JudgedSteps.{step_agrees}
 use Rattle.world.proofs.WalkedState.{none_differs}
 use Rattle.trace_text.specs.Oracles.{IsShown}
 use Rattle.trace_text.specs.Worlds.{Machine}

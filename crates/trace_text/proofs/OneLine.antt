@@ -23,7 +23,7 @@ use Rattle.trace_text.specs.declared.report.ReportLine.{ReportLine}
 use Rattle.trace_text.specs.declared.report.ReportLine.TheVariants as report
 use Rattle.trace_text.specs.declared.session.Stop.TheVariants as stops
 use Rattle.trace_text.specs.Laws.{reply_of, replies_told, step_asked}
-use Rattle.ghost_oracle.specs.declared.disagreement.Disagreement.{Disagreement}
+use Rattle.ghost_judge.specs.declared.disagreement.Disagreement.{Disagreement}
 use Rattle.trace_text.specs.Oracles.{Gives, audited_lines, judged_lines, verdict_lines}
 use Rattle.trace_text.specs.Replay.{Begins, IsReport}
 use Rattle.trace_lines.specs.Said.{said}

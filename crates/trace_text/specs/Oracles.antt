@@ -8,8 +8,8 @@ use Rattle.reference_model.specs.State.{Reference}
 use Rattle.reference_model.specs.Step.{Steps}
 use Rattle.ghost_spec.specs.declared.state.Ghost.{Ghost}
 use Rattle.ghost_spec.specs.States.{ghost_state, IsKept}
-use Rattle.ghost_oracle.specs.declared.disagreement.Disagreement.{Disagreement}
-use Rattle.ghost_oracle.specs.Audits.{HaveSameFrames}
+use Rattle.ghost_judge.specs.declared.disagreement.Disagreement.{Disagreement}
+use Rattle.ghost_judge.specs.Audits.{HaveSameFrames}
 use Rattle.trace_text.specs.declared.oracle.Verdict.{Verdict}
 use Rattle.trace_text.specs.declared.report.ReportLine.{ReportLine}
 use Rattle.trace_text.specs.declared.report.ReportLine.TheVariants as report

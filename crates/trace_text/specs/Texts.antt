@@ -4,7 +4,7 @@ use Rattle.std.specs.Fmt.{decimal}
 use Rattle.page_state.specs.LayoutFaults.{fault_number}
 use Rattle.trace_lines.specs.Texts.{text_of_line_fault, text_of_response}
 use Rattle.world.specs.Boots.{boot_number}
-use Rattle.ghost_oracle.specs.Texts.{text_of_disagreement, text_of_judgement}
+use Rattle.ghost_judge.specs.Texts.{text_of_disagreement, text_of_judgement}
 use Rattle.trace_text.specs.declared.fault.Fault.{Fault}
 use Rattle.trace_text.specs.declared.fault.Fault.TheVariants as faults
 use Rattle.trace_text.specs.declared.report.ReportLine.{ReportLine}

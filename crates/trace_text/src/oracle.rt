@@ -5,9 +5,9 @@ ghost use Rattle.reference_model.specs.State.{Reference};
 ghost use Rattle.trace_text.specs.Oracles.{CanCompare, IsAgreed, IsShown, audited_lines, judged_lines, verdict_lines};
 ghost use Rattle.trace_text.specs.Worlds.{Machine};
 
-use ghost_oracle::audit::audit;
-use ghost_oracle::disagreement::Disagreement;
-use ghost_oracle::judge::judge_last;
+use ghost_judge::audit::audit;
+use ghost_judge::disagreement::Disagreement;
+use ghost_judge::judge::judge_last;
 use ghost_spec::state::Ghost;
 use page_state::{Reply, Step};
 use std::alloc::{AllocError, Global};

@@ -3,8 +3,8 @@ ghost use Rattle.std.specs.Prelude.{Some};
 ghost use Rattle.trace_text.specs.Texts.{text_of, text_of_end};
 
 use crate::fault::Fault;
-use ghost_oracle::disagreement::Disagreement;
-use ghost_oracle::text::Judgement;
+use ghost_judge::disagreement::Disagreement;
+use ghost_judge::text::Judgement;
 use std::fmt;
 use trace_lines::Response;
 

@@ -14,7 +14,7 @@ use crate::oracle::{GhostOracle, Oracle, Verdict};
 use crate::report::ReportLine;
 use crate::session::{Reported, Session, Stop};
 use crate::sink::Sink;
-use ghost_oracle::disagreement::Disagreement;
+use ghost_judge::disagreement::Disagreement;
 use maplets::Runs;
 use std::alloc::{Allocator, Global};
 use trace_lines::{

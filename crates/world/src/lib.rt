@@ -17,8 +17,8 @@ mod uses;
 
 use arrayvec::ArrayVec;
 pub use boot::BootFault;
-use ghost_oracle::audit::audit;
-use ghost_oracle::disagreement::Disagreement;
+use ghost_judge::audit::audit;
+use ghost_judge::disagreement::Disagreement;
 use ghost_oracle::kept::{kept, kept_and_walked, recompute};
 use ghost_oracle::pokes::poke;
 use ghost_oracle::raw::{RawGuest, Which};

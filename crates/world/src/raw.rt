@@ -3,7 +3,7 @@ ghost use Rattle.std.specs.Prelude.{◌≡◌, ◌↔◌, ℕ, IfErr, IfOk, IsOk
 ghost use Rattle.page_state.specs.LayoutView.{layout_of};
 ghost use Rattle.table_tree.specs.Said.{block_of};
 ghost use Rattle.ghost_spec.specs.States.{contents_in};
-ghost use Rattle.ghost_oracle.specs.Audits.{AreMapsKept};
+ghost use Rattle.ghost_judge.specs.Audits.{AreMapsKept};
 ghost use Rattle.ghost_oracle.specs.Found.{scratch_rows, HasRowsOf};
 ghost use Rattle.ghost_oracle.specs.Poked.{IsPokedTree, raw_beside_of, raw_trees};
 ghost use Rattle.ghost_oracle.specs.RawFound.{IsRawFound, SaysRawRows};

@@ -2,7 +2,7 @@
 ghost use Rattle.std.specs.Prelude.{◌≡◌, ◌<◌, None, replicate};
 
 use super::*;
-use ghost_oracle::disagreement::TreeOf;
+use ghost_judge::disagreement::TreeOf;
 use ghost_oracle::pokes::no_pokes;
 
 /// The indices that lead to the word of page 0x40100.

@@ -4,7 +4,7 @@ use Rattle.page_state.specs.LayoutView.{layout_of}
 use Rattle.page_state.specs.Rows.{advance_row, HasPageBelow}
 use Rattle.run_list.specs.Runs.{run_map, AreInReach}
 use Rattle.ghost_oracle.specs.declared.trees.Source.TheVariants.{Maplets}
-use Rattle.ghost_oracle.specs.Audits.{AreMapsKept}
+use Rattle.ghost_judge.specs.Audits.{AreMapsKept}
 use Rattle.ghost_oracle.specs.Found.{HasRowsOf}
 use Rattle.ghost_oracle.specs.RawFound.{IsRawFound, SaysRawRows}
 use Rattle.ghost_oracle.proofs.RawReady.{ready}

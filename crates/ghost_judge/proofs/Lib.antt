@@ -1,0 +1,5 @@
+pub mod Apart
+pub mod Audited
+pub mod Judged
+pub mod JudgedSteps
+pub mod Marked

@@ -1,0 +1,61 @@
+-- What an audit compares, and the first difference in its order: the host's map, the hypervisor's, those of the guests by
+-- slot, and the owner rows.
+use Rattle.std.specs.Prelude.{◌≡◌, ℕ, ◌<◌, is_some, All, length}
+use Rattle.page_state.specs.declared.entry.Entry.{Entry}
+use Rattle.page_state.specs.Rows.{advance_row, HasPageBelow}
+use Rattle.reference_model.specs.State.{Contents}
+use Rattle.run_list.specs.Runs.{run_map, AreInReach}
+use Rattle.ghost_spec.specs.declared.state.Ghost.{Ghost}
+use Rattle.ghost_spec.specs.Kept.{IsKeptTree}
+use Rattle.ghost_judge.specs.declared.disagreement.Disagreement.{Disagreement}
+use Rattle.ghost_judge.specs.declared.disagreement.Disagreement.TheVariants.{Map as MapDiffers, Owner as OwnerDiffers}
+use Rattle.ghost_judge.specs.declared.disagreement.TreeOf.{TreeOf}
+use Rattle.ghost_judge.specs.declared.disagreement.TreeOf.TheVariants.{Host, Hyp, Guest}
+use Rattle.ghost_judge.specs.Apart.{IsFirstApart}
+
+-- the maps of the host and of the hypervisor are equal, and those of the guests of slots below one
+pub record MapsAgreeBelow (kept walked : Contents) (slot : ℕ) : Type 0 where
+  pub host : kept.shared.host.map ≡ walked.shared.host.map
+  pub hyp : kept.shared.hyp.map ≡ walked.shared.hyp.map
+  pub guests : (v : ℕ) → v < slot → (kept.guest v).tree.map ≡ (walked.guest v).tree.map
+
+-- all maps are equal
+pub record MapsAgree (kept walked : Contents) : Type 0 where
+  pub host : kept.shared.host.map ≡ walked.shared.host.map
+  pub hyp : kept.shared.hyp.map ≡ walked.shared.hyp.map
+  pub guests : (v : ℕ) → (kept.guest v).tree.map ≡ (walked.guest v).tree.map
+
+-- all maps and all owner rows are equal
+pub record AuditAgrees (kept walked : Contents) : Type 0 where
+  pub maps : MapsAgree kept walked
+  pub rows : kept.shared.row ≡ walked.shared.row
+
+-- two functions first differ at a number, and what each says there
+pub record IsTold {X : Type 0} (kept walked : ℕ → X) (n : ℕ) (x y : X) : Type 0 where
+  pub first : IsFirstApart kept walked n
+  pub kept_is : x ≡ kept n
+  pub walked_is : y ≡ walked n
+
+-- the first difference is one of this tree's map
+abbrev pub IsFirstMap : Contents → Contents → TreeOf → ℕ → Entry → Entry → Type 0
+IsFirstMap kept walked Host page x y = IsTold kept.shared.host.map walked.shared.host.map page x y
+IsFirstMap kept walked Hyp page x y = (kept.shared.host.map ≡ walked.shared.host.map) × IsTold kept.shared.hyp.map walked.shared.hyp.map page x y
+IsFirstMap kept walked (Guest v) page x y = MapsAgreeBelow kept walked v × IsTold (kept.guest v).tree.map (walked.guest v).tree.map page x y
+
+-- the first difference: all that comes before it is equal
+abbrev pub IsFirstDifference : Contents → Contents → Disagreement → Type 0
+IsFirstDifference kept walked (MapDiffers tree page x y) = IsFirstMap kept walked tree page x y
+IsFirstDifference kept walked (OwnerDiffers frame x y) = MapsAgree kept walked × IsTold kept.shared.row walked.shared.row frame x y
+IsFirstDifference kept walked other = ⊥
+
+-- both lists of rows have rows of the same frames
+abbrev pub HaveSameFrames : Ghost → Ghost → Type 0
+HaveSameFrames kept walked = (f : ℕ) → is_some (run_map advance_row kept.shared.rows.runs f) ≡ is_some (run_map advance_row walked.shared.rows.runs f)
+
+-- the maps are coarsest lists of runs of small numbers, of 64 guests, and the rows' numbers are small
+pub record AreMapsKept (g : Ghost) : Type 0 where
+  pub host : IsKeptTree g.shared.host
+  pub hyp : IsKeptTree g.shared.hyp
+  pub guests : All (λ x. IsKeptTree x.tree) g.guests.items
+  pub count : length g.guests.items ≡ 64
+  pub rows : AreInReach HasPageBelow g.shared.rows.runs

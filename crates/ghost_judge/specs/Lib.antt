@@ -1,0 +1,5 @@
+pub mod Apart
+pub mod Audits
+pub mod Judgements
+pub mod Texts
+pub mod inner

@@ -1,0 +1,3 @@
+pub mod Found
+pub mod Parted
+pub mod Same

@@ -1,0 +1,32 @@
+-- What parts of an audit find.
+use Rattle.std.specs.Prelude.{◌≡◌, ℕ, ◌<◌, List, Option, map, get_or, MatchOption}
+use Rattle.page_state.specs.declared.row.Row.{Row}
+use Rattle.page_state.specs.Map.{Map}
+use Rattle.reference_model.specs.State.{no_guest}
+use Rattle.ghost_spec.specs.declared.parts.GhostGuest.{GhostGuest}
+use Rattle.ghost_spec.specs.States.{guest_in}
+use Rattle.ghost_judge.specs.declared.disagreement.Disagreement.{Disagreement}
+use Rattle.ghost_judge.specs.declared.disagreement.Disagreement.TheVariants.{Map as MapDiffers, Owner as OwnerDiffers}
+use Rattle.ghost_judge.specs.declared.disagreement.TreeOf.{TreeOf}
+use Rattle.ghost_judge.specs.declared.disagreement.TreeOf.TheVariants.{Guest}
+use Rattle.ghost_judge.specs.Apart.{IsFirstApart}
+
+-- the first difference of two maps, as one of a tree
+abbrev pub IsMapDifference : TreeOf → Map → Map → Disagreement → Type 0
+IsMapDifference tree m n d = (page : ℕ) × (d ≡ MapDiffers tree page (m page) (n page)) × IsFirstApart m n page
+
+-- that of the rows
+abbrev pub IsRowDifference : (ℕ → Row) → (ℕ → Row) → Disagreement → Type 0
+IsRowDifference m n d = (frame : ℕ) × (d ≡ OwnerDiffers frame (m frame) (n frame)) × IsFirstApart m n frame
+
+-- the map of a guest in a list
+abbrev pub guest_map : List GhostGuest → ℕ → Map
+guest_map gs v = (get_or (map guest_in gs) v no_guest).tree.map
+
+-- the first guest whose maps differ
+abbrev pub IsGuestDifference : List GhostGuest → List GhostGuest → Disagreement → Type 0
+IsGuestDifference gs hs d = (v : ℕ) × ((u : ℕ) → u < v → guest_map gs u ≡ guest_map hs u) × IsMapDifference (Guest v) (guest_map gs v) (guest_map hs v) d
+
+-- what is found, or that two things are equal
+abbrev pub IsFound : Type 0 → (Disagreement → Type 0) → Option Disagreement → Type 0
+IsFound alike differ o = MatchOption o alike differ

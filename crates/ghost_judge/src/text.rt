@@ -1,0 +1,98 @@
+//! How disagreements are written.
+ghost use Rattle.std.specs.Prelude.{Some};
+ghost use Rattle.ghost_judge.specs.Texts.{text_of_tree, text_of_told_row, text_of_disagreement, text_of_judgement};
+
+use crate::disagreement::{Disagreement, TreeOf};
+use page_state::Row;
+use std::fmt;
+
+impl fmt::Display for TreeOf {
+    ghost output = { λ tree. Some (text_of_tree tree) };
+
+    fn fmt<W: fmt::Write>(&self, f: &mut fmt::Formatter<W>) -> fmt::Result {
+        match self {
+            TreeOf::Host => write!(f, "host"),
+            TreeOf::Hyp => write!(f, "hyp"),
+            TreeOf::Guest(slot) => write!(f, "guest {slot}"),
+        }
+    }
+}
+
+/// A row in a disagreement.
+#[derive(Clone, Copy)]
+struct ToldRow(Row);
+
+impl fmt::Display for ToldRow {
+    ghost output = { λ row. Some (text_of_told_row row.0) };
+
+    #[tactic(auto, unfolding(crate::specs::Texts::text_of_told_row))]
+    fn fmt<W: fmt::Write>(&self, f: &mut fmt::Formatter<W>) -> fmt::Result {
+        write!(f, "{}", self.0)
+    }
+}
+
+impl fmt::Display for Disagreement {
+    ghost output = { λ d. Some (text_of_disagreement d) };
+
+    fn fmt<W: fmt::Write>(&self, f: &mut fmt::Formatter<W>) -> fmt::Result {
+        match self {
+            Disagreement::Map {
+                tree,
+                page,
+                kept,
+                walked,
+            } => write!(f, "disagree {tree} 0x{page:x} kept {kept} walked {walked}"),
+            Disagreement::Owner {
+                frame,
+                kept,
+                walked,
+            } => {
+                let kept = ToldRow(*kept);
+                let walked = ToldRow(*walked);
+                write!(f, "disagree owner 0x{frame:x} kept {kept} walked {walked}")
+            }
+            Disagreement::Reply { said, spec } => {
+                write!(f, "disagree reply said {said} spec {spec}")
+            }
+            Disagreement::Free => write!(f, "disagree free"),
+            Disagreement::GuestFree(slot) => write!(f, "disagree guest_free {slot}"),
+            Disagreement::Vm(slot) => write!(f, "disagree vm {slot}"),
+            Disagreement::Cpu(cpu) => write!(f, "disagree cpu {cpu}"),
+        }
+    }
+}
+
+/// A disagreement that a judgement tells: what the state after a call says, and what the model says.
+#[derive(Clone, Copy)]
+pub struct Judgement(pub Disagreement);
+
+impl fmt::Display for Judgement {
+    ghost output = { λ j. Some (text_of_judgement j.0) };
+
+    fn fmt<W: fmt::Write>(&self, f: &mut fmt::Formatter<W>) -> fmt::Result {
+        match self.0 {
+            Disagreement::Map {
+                tree,
+                page,
+                kept,
+                walked,
+            } => write!(f, "disagree {tree} 0x{page:x} post {kept} spec {walked}"),
+            Disagreement::Owner {
+                frame,
+                kept,
+                walked,
+            } => {
+                let kept = ToldRow(kept);
+                let walked = ToldRow(walked);
+                write!(f, "disagree owner 0x{frame:x} post {kept} spec {walked}")
+            }
+            Disagreement::Reply { said, spec } => {
+                write!(f, "disagree reply said {said} spec {spec}")
+            }
+            Disagreement::Free => write!(f, "disagree free"),
+            Disagreement::GuestFree(slot) => write!(f, "disagree guest_free {slot}"),
+            Disagreement::Vm(slot) => write!(f, "disagree vm {slot}"),
+            Disagreement::Cpu(cpu) => write!(f, "disagree cpu {cpu}"),
+        }
+    }
+}

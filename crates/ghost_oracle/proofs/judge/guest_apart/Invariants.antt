@@ -1,7 +1,0 @@
-use Rattle.std.proofs.Common.{◌≡◌, ℕ, ◌<◌}
-use Rattle.ghost_spec.specs.Used.{guests_in}
-use Rattle.ghost_oracle.specs.Judgements.{without_map}
-use Rattle.ghost_oracle.proofs.judge.guest_apart.Given as goal
-
-abbrev pub invariant-loop-v : goal.invariant-loop-v
-invariant-loop-v l = (u : ℕ) → u < l.v → without_map (guests_in l.post u) ≡ without_map (guests_in l.spec u)

@@ -1,0 +1,4 @@
+mod RowsFound
+mod RowsLaid
+mod RowsPages
+mod RowsTold

@@ -1,0 +1,125 @@
+-- Pieces of frames, and the row that four lists tell.
+use Rattle.std.proofs.Common.{◌≡◌, ℕ, zero, suc, ◌+◌, ◌-◌, ◌^◌, ◌<◌, ◌≤◌, Bool, true, false, List, [], ◌∷◌, take, drop, length, get_or, Option, Some, None, refl, sym, ap, subst, ◌∙◌, arith}
+use Rattle.std.proofs.lemmas.List.{drop_all, drop_more}
+use Rattle.std.specs.Prelude.{if◌then◌else◌}
+use Rattle.page_state.specs.declared.layout.Region.{Region}
+use Rattle.page_state.specs.declared.row.Lent.{Lent}
+use Rattle.page_state.specs.declared.row.Row.{Row}
+use Rattle.page_state.specs.LayoutFaults.{IsAccepted}
+use Rattle.page_state.specs.Map.{is_within}
+use Rattle.page_state.specs.Regions.{Memory, has_memory, is_memory_region}
+use Rattle.page_state.specs.Rows.{advance_row, HasLentBelow, HasPageBelow}
+use Rattle.page_state.proofs.Accepted.{memory_below}
+use Rattle.page_state.proofs.Cases.{by_test, by_lt}
+use Rattle.page_state.proofs.Common.{same-tests}
+use Rattle.page_state.proofs.Updates.{within_test}
+use Rattle.run_list.specs.declared.run.Run.{Run}
+use Rattle.run_list.specs.OwnerRows.{row_laws}
+use Rattle.run_list.specs.Parts.{IsEndedAt}
+use Rattle.run_list.specs.Runs.{run_end, run_map, map_updated, option_advance, EndBefore, IsCoarsest, AreInReach}
+use Rattle.run_list.proofs.Found.{ended_at}
+use Rattle.run_list.proofs.Maps.{none_low, run_high, run_in}
+use Rattle.ghost_spec.proofs.Overlaid.{within_means}
+use Rattle.ghost_rows.specs.RowsTold.{lent_told, HasNoBound}
+use Rattle.ghost_spec.proofs.RowsKept.{small-map}
+
+-- a range that has no row
+pub none-laid : (first count : ℕ) (memory : Bool) (m : ℕ → Option Row) (row : Row) (f : ℕ) → memory ≡ false
+    → map_updated advance_row m first count None f ≡ (if is_within first count f then (if memory then Some row else None) else m f)
+none-laid first count memory m row f h = rw h refl
+
+-- loans stay small along a piece
+
+last-lent : (l : Option Lent) (r : Row) (n : ℕ) → r.lent ≡ l → 0 < n → HasPageBelow (advance_row r (n - 1)) 1 → HasPageBelow r n
+last-lent None r n e h k = rw e tt
+last-lent (Some l) r n e h k = let w = rw e at k in rw e (omega (arith, h, w))
+
+pub small-piece : (rs : List (Run Row)) (low high : ℕ) → AreInReach HasPageBelow rs → low < high
+    → run_map advance_row rs (high - 1) ≡ option_advance advance_row (run_map advance_row rs low) (high - 1 - low) → HasLentBelow (lent_told (run_map advance_row rs low)) (high - low)
+small-piece rs low high reach less on = by_option (run_map advance_row rs low) refl
+  where
+    by_option : (o : Option Row) → run_map advance_row rs low ≡ o → HasLentBelow (lent_told o) (high - low)
+    by_option None e = tt
+    by_option (Some r) e =
+        let n : high - 1 - low ≡ high - low - 1 = omega (arith, less) in
+        let there : run_map advance_row rs (high - 1) ≡ Some (advance_row r (high - low - 1)) = on ∙ ap (λ o. option_advance advance_row o (high - 1 - low)) e ∙ ap (λ (k : ℕ). Some (advance_row r k)) n in
+        last-lent r.lent r (high - low) refl (omega (arith, less)) (small-map rs reach (high - 1) (advance_row r (high - low - 1)) there).1
+
+-- a list goes on as it does at a frame
+
+run-on : (r : Run Row) (rest : List (Run Row)) (low high f : ℕ) → IsCoarsest advance_row (r ∷ rest) → low < run_end r → HasNoBound low high r → low ≤ f → f < high
+    → run_map advance_row (r ∷ rest) f ≡ option_advance advance_row (run_map advance_row (r ∷ rest) low) (f - low)
+run-on r rest low high f c more none a b =
+    let begins = none.begins in
+    let ends = none.ends in
+    by_lt low r.pages.first.0
+    (λ h. let high_low : high ≤ r.pages.first.0 = by_lt r.pages.first.0 high (λ k. let x = begins k in absurd (omega (arith, x, h))) (λ k. k) in
+    none_low advance_row r.pages.first.0 f (r ∷ rest) c (omega arith) (omega (arith, b, high_low))
+    ∙ sym (ap (λ (o : Option Row). option_advance advance_row o (f - low)) (none_low advance_row r.pages.first.0 low (r ∷ rest) c (omega arith) h)))
+    (λ h. let within : high ≤ run_end r = by_lt (run_end r) high (λ k. let x = ends k in absurd (omega (arith, x, more))) (λ k. k) in
+    let offset : low - r.pages.first.0 + (f - low) ≡ f - r.pages.first.0 = omega (arith, a, h) in
+    run_in advance_row r rest f (omega (arith, a, h)) (omega (arith, b, within))
+    ∙ sym (ap (λ (o : Option Row). option_advance advance_row o (f - low)) (run_in advance_row r rest low h more)
+    ∙ ap Some (row_laws.more r.value (low - r.pages.first.0) (f - low) ∙ ap (λ (n : ℕ). advance_row r.value n) offset)))
+
+skipped : (q i : ℕ) (rs : List (Run Row)) (f : ℕ) → EndBefore q (take i rs) → q ≤ f + 1 → run_map advance_row rs f ≡ run_map advance_row (drop i rs) f
+skipped q zero rs f e h = refl
+skipped q (suc i) [] f e h = refl
+skipped q (suc i) (r ∷ rs) f e h = run_high advance_row r rs f (omega (arith, e.0, h)) ∙ skipped q i rs f e.1 h
+
+from_place : (i : ℕ) (rs : List (Run Row)) → IsCoarsest advance_row rs → IsCoarsest advance_row (drop i rs)
+from_place zero rs c = c
+from_place (suc i) [] c = tt
+from_place (suc i) (r ∷ rs) c = from_place i rs c.2
+
+module _ (rs : List (Run Row)) (low place f : ℕ) (at : IsEndedAt (low + 1) place rs) (a : low ≤ f) where
+  both-skipped : run_map advance_row (drop place rs) f ≡ option_advance advance_row (run_map advance_row (drop place rs) low) (f - low) → run_map advance_row rs f ≡ option_advance advance_row (run_map advance_row rs low) (f - low)
+  both-skipped h = skipped (low + 1) place rs f at.front (omega (arith, a)) ∙ h ∙ ap (λ (o : Option Row). option_advance advance_row o (f - low)) (sym (skipped (low + 1) place rs low at.front (omega arith)))
+
+  pub behind-all : length rs ≤ place → run_map advance_row rs f ≡ option_advance advance_row (run_map advance_row rs low) (f - low)
+  behind-all h = both-skipped (ap (λ (ss : List (Run Row)). run_map advance_row ss f) none ∙ ap (λ (ss : List (Run Row)). option_advance advance_row (run_map advance_row ss low) (f - low)) (sym none))
+    where
+      none : drop place rs ≡ []
+      none = drop_all place rs h
+
+  pub goes-on : (high : ℕ) (d : Run Row) → IsCoarsest advance_row rs → place < length rs → HasNoBound low high (get_or rs place d) → f < high → run_map advance_row rs f ≡ option_advance advance_row (run_map advance_row rs low) (f - low)
+  goes-on high d c less none b =
+      let r : Run Row = get_or rs place d in
+      let split : drop place rs ≡ r ∷ drop (place + 1) rs = drop_more rs place d less in
+      let end : low + 1 ≤ run_end r = ended_at (low + 1) place rs d at.back less in
+      both-skipped (subst (λ (ss : List (Run Row)). run_map advance_row ss f ≡ option_advance advance_row (run_map advance_row ss low) (f - low)) (sym split)
+      (run-on r (drop (place + 1) rs) low high f (subst (λ (ss : List (Run Row)). IsCoarsest advance_row ss) split (from_place place rs c)) (omega (arith, end)) none a b))
+
+-- one piece more of a range
+pub piece-more : (first low high f : ℕ) (m n before : ℕ → Option Row) (row : ℕ → Row) → first ≤ low → low < high
+    → ((g : ℕ) → low ≤ g → g < high → row g ≡ advance_row (row low) (g - low))
+    → ((g : ℕ) → m g ≡ (if is_within first (low - first) g then Some (row g) else before g))
+    → n ≡ map_updated advance_row m low (high - low) (Some (row low))
+    → n f ≡ (if is_within first (high - first) f then Some (row f) else before f)
+piece-more first low high f m n before row a b on same e = ap (λ (g : ℕ → Option Row). g f) e ∙ by_test (is_within low (high - low) f)
+    (λ t. let w = within_means low (high - low) f t in
+    rw (t, within_test first (high - first) f (omega (arith, a, w.0)) (omega (arith, a, b, w.0, w.1))) (ap Some (sym (on f w.0 (omega (arith, b, w.1))))))
+    (λ t. let agree : is_within first (low - first) f ≡ is_within first (high - first) f = same-tests (is_within first (low - first) f) (is_within first (high - first) f)
+    (λ h. let w = within_means first (low - first) f h in within_test first (high - first) f w.0 (omega (arith, a, b, w.1)))
+    (λ h. let w = within_means first (high - first) f h in
+    by_test (is_within first (low - first) f) (λ k. k)
+    (λ k. let past : low ≤ f = by_low f (λ x. let c : true ≡ false = sym (within_test first (low - first) f w.0 (omega (arith, x))) ∙ k in absurd (differ c)) in
+    let c : true ≡ false = sym (within_test low (high - low) f past (omega (arith, past, w.1))) ∙ t in absurd (differ c))) in
+    rw t (same f ∙ rw agree refl))
+  where
+    differ : true ≡ false → ⊥
+    differ c = cc
+
+    by_low : (g : ℕ) → (g < low → ⊥) → low ≤ g
+    by_low g h = omega (arith, h)
+
+-- the row of a frame in a region, where that is one of memory
+abbrev pub memory_row : Option Region → Row → Option Row
+memory_row region row = elim (is_memory_region region) [ true ↦ Some row | false ↦ None ]
+
+-- rows of memory frames alone
+pub memory-rows : (m : Memory) (f : ℕ) (o : Option Row) (row other : Row) → IsAccepted m → o ≡ (elim (has_memory m f) [ true ↦ Some row | false ↦ None ]) → (f < 2 ^ 26 → row ≡ other)
+    → o ≡ (elim (has_memory m f) [ true ↦ Some other | false ↦ None ])
+memory-rows m f o row other a e same = by_test (has_memory m f)
+    (λ t. let some : o ≡ Some row = rw t at e in rw t (some ∙ ap Some (same (memory_below m f a t))))
+    (λ t. let none : o ≡ None = rw t at e in rw t none)

@@ -1,0 +1,19 @@
+use Rattle.std.proofs.Common.{◌∙◌, ◌-◌, Some, ap, arith}
+use Rattle.page_state.specs.declared.row.Row.{Row}
+use Rattle.page_state.specs.Rows.{advance_row}
+use Rattle.run_list.specs.Runs.{run_map, map_updated}
+use Rattle.ghost_rows.specs.RowsTold.{told}
+use Rattle.ghost_rows.proofs.RowsTold.{piece-more}
+use Rattle.ghost_rows.proofs.rows.add_range.Goals as goal
+
+pub loop-low-preserved : goal.loop-low-preserved
+loop-low-preserved c =
+    let begun = c.loop-low.invariant.begun in
+    let above = c.bound-high.ensures.above in
+    let laid = c.in_ok-lay.ensures.map ∙ ap (λ (r : Row). map_updated advance_row (run_map advance_row c.loop-low.rows.runs) c.loop-low.low (c.bound-high.result - c.loop-low.low) (Some r)) c.row.ensures in
+    record {
+      begun = omega (arith, begun, above);
+      within = c.bound-high.ensures.below;
+      map = λ f. piece-more c.args.pages.first.0 c.loop-low.low c.bound-high.result f (run_map advance_row c.loop-low.rows.runs) (run_map advance_row c.lay.new.rows.runs) (run_map advance_row c.args.rows.now.runs) (told c.args.lists.now) begun above c.bound-high.ensures.goes_on c.loop-low.invariant.map laid;
+      reach = c.in_ok-lay.ensures.reach;
+    }

@@ -1,0 +1,13 @@
+use Rattle.std.proofs.Common.{◌∙◌, ℕ, Option, ap}
+use Rattle.page_state.specs.declared.row.Row.{Row}
+use Rattle.page_state.specs.Regions.{is_memory_kind}
+use Rattle.page_state.specs.Rows.{advance_row}
+use Rattle.run_list.specs.Runs.{run_map}
+use Rattle.ghost_rows.specs.RowsTold.{told}
+use Rattle.ghost_rows.proofs.RowsTold.{none-laid}
+use Rattle.ghost_rows.proofs.rows.add_region.Goals as goal
+
+pub returns-in_ok-lay-in-Device-clause-map : goal.returns-in_ok-lay-in-Device-clause-map
+returns-in_ok-lay-in-Device-clause-map c = λ f.
+    ap (λ (m : ℕ → Option Row). m f) c.in_ok-lay-in-Device.ensures.map
+    ∙ none-laid c.args.region.pages.first.0 c.args.region.pages.count (is_memory_kind c.args.region.kind) (run_map advance_row c.args.rows.now.runs) (told c.args.lists.now f) f (ap is_memory_kind c.in-Device.is)

@@ -1,0 +1,2 @@
+pub mod RowsLaid
+pub mod RowsTold

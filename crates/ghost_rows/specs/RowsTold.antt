@@ -1,0 +1,55 @@
+-- The row of a frame by four lists, and pieces of frames along which they go on.
+use Rattle.std.specs.Prelude.{ℕ, ◌<◌, ◌≤◌, Bool, true, false, ◌==◌, Option, Some, None}
+use Rattle.page_state.specs.declared.row.Lent.{Lent}
+use Rattle.page_state.specs.declared.row.Row.{Row}
+use Rattle.page_state.specs.declared.row.Usage.{Usage}
+use Rattle.page_state.specs.declared.row.Usage.TheVariants.{Plain}
+use Rattle.page_state.specs.Rows.{advance_row, HasPageBelow}
+use Rattle.run_list.specs.declared.run.Run.{Run}
+use Rattle.run_list.specs.Runs.{run_end, run_map, AreInReach}
+use Rattle.ghost_rows.specs.declared.rows.pieces.Lists.{Lists}
+
+-- to whom a row's frame is lent
+abbrev pub lent_told : Option Row → Option Lent
+lent_told None = None
+lent_told (Some r) = r.lent
+
+-- what holds a row's frame
+abbrev pub usage_told : Option Row → Usage
+usage_told None = Plain
+usage_told (Some r) = r.usage
+
+-- the number of the component to which a frame is lent, or else the host's
+abbrev pub number_told : Option Lent → ℕ
+number_told None = 0
+number_told (Some x) = x.owner.0
+
+-- lent to the host
+abbrev pub is_of_host : Option Lent → Bool
+is_of_host None = false
+is_of_host (Some x) = x.owner.0 == 0
+
+-- the annotation's owner, and else, where the host borrows the frame, the guest that shares it
+abbrev pub owner_told : Option Row → Option Row → Option Row → ℕ
+owner_told (Some r) lent shared = r.owner.0
+owner_told None lent shared = elim (is_of_host (lent_told lent)) [ true ↦ number_told (lent_told shared) | false ↦ 0 ]
+
+-- the row by what is annotated, lent, shared and used
+abbrev pub row_told : Option Row → Option Row → Option Row → Option Row → Row
+row_told annotated lent shared used = record { owner = record { 0 = owner_told annotated lent shared }; lent = lent_told lent; usage = usage_told used }
+
+-- the row of a frame by the lists
+abbrev pub told : Lists → ℕ → Row
+told x f = row_told (run_map advance_row x.annotated.runs f) (run_map advance_row x.lent.runs f) (run_map advance_row x.shared.runs f) (run_map advance_row x.used.runs f)
+
+-- the numbers of each list are small
+pub record AreReached (x : Lists) : Type 0 where
+  pub annotated : AreInReach HasPageBelow x.annotated.runs
+  pub lent : AreInReach HasPageBelow x.lent.runs
+  pub shared : AreInReach HasPageBelow x.shared.runs
+  pub used : AreInReach HasPageBelow x.used.runs
+
+-- a run neither begins nor ends between two frames
+pub record HasNoBound (low high : ℕ) (r : Run Row) : Type 0 where
+  pub begins : r.pages.first.0 < high → r.pages.first.0 ≤ low
+  pub ends : run_end r < high → run_end r ≤ low

@@ -1,0 +1,111 @@
+//! The owner rows of a state, found from its runs, pools, tables and hands.
+mod loans;
+mod order;
+mod overlay;
+mod pieces;
+mod uses;
+
+ghost use Rattle.std.specs.Prelude.{◌≡◌, ℕ, ◌≤◌, ◌<◌, ◌^◌, true, false, IfOk, OnOk, Some, None, length, if◌then◌else◌};
+ghost use Rattle.page_state.specs.Layouts.{is_memory};
+ghost use Rattle.page_state.specs.LayoutView.{layout_of};
+ghost use Rattle.page_state.specs.Regions.{end_of, is_in_range, is_memory_kind};
+ghost use Rattle.page_state.specs.Rows.{advance_row, HasPageBelow};
+ghost use Rattle.reference_model.specs.Owner.{row_of};
+ghost use Rattle.run_list.specs.Runs.{run_map, AreInReach};
+ghost use Rattle.ghost_spec.specs.Small.{AreSmall};
+ghost use Rattle.ghost_spec.specs.States.{contents_in};
+ghost use Rattle.ghost_rows.specs.RowsLaid.{HaveSmallRuns};
+ghost use Rattle.ghost_rows.specs.RowsTold.{told, AreReached};
+
+use ghost_spec::state::Ghost;
+use loans::{all_loans, annotations, guest_loans};
+use overlay::lay;
+use page_state::{Page, PageRange, Region, RegionKind, Row, State};
+use pieces::Lists;
+use run_list::RunList;
+use std::alloc::{AllocError, Global};
+use uses::all_uses;
+
+/// What is told of each frame by all parts of the state.
+fn lists_of(alloc: Global, state: &Ghost) -> Result<Lists, AllocError>
+    requires host { AreSmall state.now.shared.host.runs.items }
+    requires hyp { AreSmall state.now.shared.hyp.runs.items }
+    requires guests { HaveSmallRuns state.now.guests.items }
+    requires guests_count { length state.now.guests.items ≡ 64 }
+    requires cpus_count { length state.now.cpus.items ≡ state.now.layout.config.cpus }
+    ensures told { IfOk result (λ x. (f : ℕ) → f < 2 ^ 26 → told x f ≡ row_of (layout_of state.now.layout) (contents_in state.now) f) }
+    ensures reach { IfOk result AreReached }
+{
+    let guests = state.guests.as_slice();
+    Ok(Lists {
+        annotated: annotations(alloc, state.shared.host.runs.as_slice())?,
+        lent: all_loans(alloc, &state.layout, &state.shared, guests)?,
+        shared: guest_loans(alloc, &state.layout, guests, State::SharedOwned)?,
+        used: all_uses(
+            alloc,
+            &state.layout,
+            &state.shared,
+            guests,
+            state.cpus.as_slice(),
+        )?,
+    })
+}
+
+/// The frames of a range get their rows, piece by piece: along a piece each list goes on as it begins.
+fn add_range(rows: &mut RunList<Row>, lists: &Lists, pages: PageRange) -> Result<(), AllocError>
+    requires low { end_of pages ≤ 2 ^ 26 }
+    requires lists { AreReached lists.now }
+    requires reach { AreInReach HasPageBelow rows.old.runs }
+    ensures map { OnOk result ((f : ℕ) → run_map advance_row rows.new.runs f ≡ (if is_in_range pages f then Some (told lists.now f) else run_map advance_row rows.old.runs f)) }
+    ensures reach { AreInReach HasPageBelow rows.new.runs }
+{
+    let end = pages.first.0 + pages.count;
+    let mut low = pages.first.0;
+    while low < end {
+        let high = lists.bound(low, end);
+        let piece = PageRange {
+            first: Page(low),
+            count: high - low,
+        };
+        lay(rows, piece, Some(lists.row(low)))?;
+        low = high;
+    }
+    Ok(())
+}
+
+/// The frames of a region get their rows where it is one of memory, and else none.
+fn add_region(rows: &mut RunList<Row>, lists: &Lists, region: Region) -> Result<(), AllocError>
+    requires low { end_of region.pages ≤ 2 ^ 26 }
+    requires lists { AreReached lists.now }
+    requires reach { AreInReach HasPageBelow rows.old.runs }
+    ensures map { OnOk result ((f : ℕ) → run_map advance_row rows.new.runs f ≡ (if is_in_range region.pages f then (if is_memory_kind region.kind then Some (told lists.now f) else None) else run_map advance_row rows.old.runs f)) }
+    ensures reach { AreInReach HasPageBelow rows.new.runs }
+{
+    match region.kind {
+        RegionKind::Memory => add_range(rows, lists, region.pages),
+        RegionKind::Device => {
+            lay(rows, region.pages, None)?;
+            Ok(())
+        }
+    }
+}
+
+/// The owner rows of all memory frames, found from the runs, the pools, the tables and the hands of a state. They take
+/// time by the number of these, and not by that of the frames.
+pub fn rows_from_scratch(alloc: Global, state: &Ghost) -> Result<RunList<Row>, AllocError>
+    requires host { AreSmall state.now.shared.host.runs.items }
+    requires hyp { AreSmall state.now.shared.hyp.runs.items }
+    requires guests { HaveSmallRuns state.now.guests.items }
+    requires guests_count { length state.now.guests.items ≡ 64 }
+    requires cpus_count { length state.now.cpus.items ≡ state.now.layout.config.cpus }
+    ensures rows { IfOk result (λ r. (f : ℕ) → run_map advance_row r.runs f ≡ elim (is_memory (layout_of state.now.layout) f) [ true ↦ Some (row_of (layout_of state.now.layout) (contents_in state.now) f) | false ↦ None ]) }
+    ensures reach { IfOk result (λ r. AreInReach HasPageBelow r.runs) }
+{
+    let lists = lists_of(alloc, state)?;
+    let regions = state.layout.map.regions();
+    let mut rows = RunList::new(alloc);
+    for i in (0..regions.len()).rev() {
+        add_region(&mut rows, &lists, regions[i])?;
+    }
+    Ok(rows)
+}

@@ -1,0 +1,258 @@
+//! Uses of frames: pools, tables and hands.
+ghost use Rattle.std.specs.Prelude.{◌≡◌, ℕ, ◌+◌, ◌-◌, ◌<◌, ◌≤◌, ◌^◌, ◌||◌, ◌==◌, Decides, IfOk, OnOk, None, drop, length, slice_index, if◌then◌else◌};
+ghost use Rattle.page_state.specs.Map.{is_within};
+ghost use Rattle.std.specs.Option.{option_or};
+ghost use Rattle.page_state.specs.LayoutView.{layout_of};
+ghost use Rattle.page_state.specs.Regions.{is_in_range};
+ghost use Rattle.page_state.specs.Rows.{advance_row, HasPageBelow};
+ghost use Rattle.reference_model.specs.Owner.{is_frame, is_free, is_in_hand, is_table_frame};
+ghost use Rattle.run_list.specs.Runs.{run_map, AreInReach};
+ghost use Rattle.ghost_spec.specs.Found.{has_place as has_place_of, any_table_with};
+ghost use Rattle.ghost_spec.specs.Trees.{table_of, tree_in_lists};
+ghost use Rattle.ghost_rows.specs.RowsLaid.{used_if, hands_use, guests_use, any_use};
+
+use super::overlay::lay;
+use ghost_spec::blocks::Block;
+use ghost_spec::cpu::GhostCpu;
+use ghost_spec::parts::GhostGuest;
+use ghost_spec::shared::Shared;
+use ghost_spec::tree::{Table, Tree, table_at};
+use page_state::{Layout, Owner, Page, PageRange, Row, Usage};
+use run_list::RunList;
+use std::alloc::{AllocError, Global};
+
+/// All memory frames are below this one.
+const FRAMES: u64 = 1 << 26;
+
+/// The frames of a range that may be memory get a use.
+fn use_range(rows: &mut RunList<Row>, frames: PageRange, usage: Usage) -> Result<(), AllocError>
+    requires reach { AreInReach HasPageBelow rows.old.runs }
+    ensures map { OnOk result ((f : ℕ) → f < 2 ^ 26 → run_map advance_row rows.new.runs f ≡ option_or (used_if (is_in_range frames f) usage) (run_map advance_row rows.old.runs f)) }
+    ensures reach { AreInReach HasPageBelow rows.new.runs }
+{
+    if frames.first.0 >= FRAMES {
+        return Ok(());
+    }
+    let low = PageRange {
+        first: frames.first,
+        count: frames.count.min(FRAMES - frames.first.0),
+    };
+    let row = Row {
+        owner: Owner(0),
+        lent: None,
+        usage,
+    };
+    lay(rows, low, Some(row))?;
+    Ok(())
+}
+
+/// A frame gets a use.
+fn use_frame(rows: &mut RunList<Row>, frame: u64, usage: Usage) -> Result<(), AllocError>
+    requires reach { AreInReach HasPageBelow rows.old.runs }
+    ensures map { OnOk result ((f : ℕ) → f < 2 ^ 26 → run_map advance_row rows.new.runs f ≡ option_or (used_if (frame == f) usage) (run_map advance_row rows.old.runs f)) }
+    ensures reach { AreInReach HasPageBelow rows.new.runs }
+{
+    let one = PageRange {
+        first: Page(frame),
+        count: 1,
+    };
+    use_range(rows, one, usage)
+}
+
+/// Whether a frame comes right behind another.
+fn follows(frame: u64, next: u64) -> bool
+    ensures { Decides result (next ≡ frame + 1) }
+{
+    frame < next && next - frame == 1
+}
+
+/// The place from which on the frames before a place of a list follow one another.
+fn start_of(frames: &[u64], end: usize) -> usize
+    requires some { 0 < end }
+    requires within { end ≤ length frames.now }
+    ensures before { result < end }
+    ensures together { (f : ℕ) → is_free (drop result frames.now) f ≡ (is_within (slice_index frames.now result) (end - result) f || is_free (drop end frames.now) f) }
+{
+    let mut start = end - 1;
+    while start > 0 && follows(frames[start - 1], frames[start]) {
+        start -= 1;
+    }
+    start
+}
+
+/// The frames of a list get a use. Those that follow one another get it together.
+fn use_frames(rows: &mut RunList<Row>, frames: &[u64], usage: Usage) -> Result<(), AllocError>
+    requires reach { AreInReach HasPageBelow rows.old.runs }
+    ensures map { OnOk result ((f : ℕ) → f < 2 ^ 26 → run_map advance_row rows.new.runs f ≡ option_or (used_if (is_free frames.now f) usage) (run_map advance_row rows.old.runs f)) }
+    ensures reach { AreInReach HasPageBelow rows.new.runs }
+{
+    let mut end = frames.len();
+    while end > 0 {
+        let start = start_of(frames, end);
+        let together = PageRange {
+            first: Page(frames[start]),
+            count: (end - start) as u64,
+        };
+        use_range(rows, together, usage)?;
+        end = start;
+    }
+    Ok(())
+}
+
+/// Whether a block may have a table in trees of the layout, the root's among them.
+fn has_place(layout: &Layout, block: Block) -> bool
+    ensures { result ≡ has_place_of (layout_of layout.now).depth block }
+{
+    match block.0 {
+        1 => block.1 < 262_144,
+        2 => block.1 < 512,
+        3 => block.1 < 1,
+        _ => false,
+    }
+}
+
+/// The frame of a table that counts: the first of its block, where trees have one.
+fn frame_at(layout: &Layout, tables: &[Table], block: Block) -> Option<u64>
+    ensures { result ≡ (if has_place_of (layout_of layout.now).depth block then table_of tables.now block else None) }
+{
+    if has_place(layout, block) {
+        table_at(tables, block)
+    } else {
+        None
+    }
+}
+
+/// A frame gets a use, where there is one.
+fn use_found(rows: &mut RunList<Row>, frame: Option<u64>, usage: Usage) -> Result<(), AllocError>
+    requires reach { AreInReach HasPageBelow rows.old.runs }
+    ensures map { OnOk result ((f : ℕ) → f < 2 ^ 26 → run_map advance_row rows.new.runs f ≡ option_or (used_if (is_frame f frame) usage) (run_map advance_row rows.old.runs f)) }
+    ensures reach { AreInReach HasPageBelow rows.new.runs }
+{
+    match frame {
+        Some(frame) => use_frame(rows, frame, usage),
+        None => Ok(()),
+    }
+}
+
+/// The frames of the tables that count get a use.
+fn use_tables(
+    layout: &Layout,
+    rows: &mut RunList<Row>,
+    tables: &[Table],
+    usage: Usage,
+) -> Result<(), AllocError>
+    requires reach { AreInReach HasPageBelow rows.old.runs }
+    ensures map { OnOk result ((f : ℕ) → f < 2 ^ 26 → run_map advance_row rows.new.runs f ≡ option_or (used_if (any_table_with (layout_of layout.now).depth tables.now f) usage) (run_map advance_row rows.old.runs f)) }
+    ensures reach { AreInReach HasPageBelow rows.new.runs }
+{
+    for i in (0..tables.len()).rev() {
+        use_found(rows, frame_at(layout, tables, tables[i].block), usage)?;
+    }
+    Ok(())
+}
+
+/// The frames of a tree's tables get a use.
+fn use_tree(
+    layout: &Layout,
+    rows: &mut RunList<Row>,
+    tree: &Tree,
+    usage: Usage,
+) -> Result<(), AllocError>
+    requires reach { AreInReach HasPageBelow rows.old.runs }
+    ensures map { OnOk result ((f : ℕ) → f < 2 ^ 26 → run_map advance_row rows.new.runs f ≡ option_or (used_if (is_table_frame (layout_of layout.now) (tree_in_lists tree.now) f) usage) (run_map advance_row rows.old.runs f)) }
+    ensures reach { AreInReach HasPageBelow rows.new.runs }
+{
+    use_tables(layout, rows, tree.tables.as_slice(), usage)?;
+    Ok(())
+}
+
+/// The frames of a pool and of a tree's tables get a use.
+fn use_pool(
+    layout: &Layout,
+    rows: &mut RunList<Row>,
+    free: &[u64],
+    tree: &Tree,
+    usage: Usage,
+) -> Result<(), AllocError>
+    requires reach { AreInReach HasPageBelow rows.old.runs }
+    ensures map { OnOk result ((f : ℕ) → f < 2 ^ 26 → run_map advance_row rows.new.runs f ≡ option_or (used_if (is_free free.now f || is_table_frame (layout_of layout.now) (tree_in_lists tree.now) f) usage) (run_map advance_row rows.old.runs f)) }
+    ensures reach { AreInReach HasPageBelow rows.new.runs }
+{
+    use_tree(layout, rows, tree, usage)?;
+    use_frames(rows, free, usage)
+}
+
+/// The frames of a hand get a use.
+fn use_hand(
+    rows: &mut RunList<Row>,
+    hand: Option<PageRange>,
+    usage: Usage,
+) -> Result<(), AllocError>
+    requires reach { AreInReach HasPageBelow rows.old.runs }
+    ensures map { OnOk result ((f : ℕ) → f < 2 ^ 26 → run_map advance_row rows.new.runs f ≡ option_or (used_if (is_in_hand hand f) usage) (run_map advance_row rows.old.runs f)) }
+    ensures reach { AreInReach HasPageBelow rows.new.runs }
+{
+    match hand {
+        Some(frames) => use_range(rows, frames, usage),
+        None => Ok(()),
+    }
+}
+
+/// The frames of hands are in the hand of the first CPU that has them.
+fn hands(alloc: Global, cpus: &[GhostCpu]) -> Result<RunList<Row>, AllocError>
+    ensures map { IfOk result (λ r. (f : ℕ) → f < 2 ^ 26 → run_map advance_row r.runs f ≡ hands_use cpus.now f) }
+    ensures reach { IfOk result (λ r. AreInReach HasPageBelow r.runs) }
+{
+    let mut rows = RunList::new(alloc);
+    for i in (0..cpus.len()).rev() {
+        use_hand(&mut rows, cpus[i].hand, Usage::InHand(i as u64))?;
+    }
+    Ok(rows)
+}
+
+/// The frames of the guests' pools and tables are of the pool of the first guest that has them.
+fn use_pools(
+    layout: &Layout,
+    rows: &mut RunList<Row>,
+    guests: &[GhostGuest],
+) -> Result<(), AllocError>
+    requires reach { AreInReach HasPageBelow rows.old.runs }
+    ensures map { OnOk result ((f : ℕ) → f < 2 ^ 26 → run_map advance_row rows.new.runs f ≡ option_or (guests_use (layout_of layout.now) guests.now f) (run_map advance_row rows.old.runs f)) }
+    ensures reach { AreInReach HasPageBelow rows.new.runs }
+{
+    for v in (0..guests.len()).rev() {
+        let guest = &guests[v];
+        use_pool(
+            layout,
+            rows,
+            guest.free.as_slice(),
+            &guest.tree,
+            Usage::VmPool(v as u64),
+        )?;
+    }
+    Ok(())
+}
+
+/// The use of each frame: that of the shared pool before those of guests, and these before hands.
+pub(crate) fn all_uses(
+    alloc: Global,
+    layout: &Layout,
+    shared: &Shared,
+    guests: &[GhostGuest],
+    cpus: &[GhostCpu],
+) -> Result<RunList<Row>, AllocError>
+    ensures map { IfOk result (λ r. (f : ℕ) → f < 2 ^ 26 → run_map advance_row r.runs f ≡ any_use (layout_of layout.now) shared.now.free.items (tree_in_lists shared.now.host) (tree_in_lists shared.now.hyp) guests.now cpus.now f) }
+    ensures reach { IfOk result (λ r. AreInReach HasPageBelow r.runs) }
+{
+    let mut rows = hands(alloc, cpus)?;
+    use_pools(layout, &mut rows, guests)?;
+    use_tree(layout, &mut rows, &shared.hyp, Usage::SharedPool)?;
+    use_pool(
+        layout,
+        &mut rows,
+        shared.free.as_slice(),
+        &shared.host,
+        Usage::SharedPool,
+    )?;
+    Ok(rows)
+}
