@@ -11,100 +11,77 @@ use Rattle.walk_plan.proofs.Given.{take_drop_length, take_length}
 use Rattle.component.specs.View.{need_for, tree_after, back_from}
 use Rattle.guest_steps.proofs.Pools.{given_both}
 use Rattle.guest_component.proofs.Same.{after_take, need_same, after_same, back_same}
+use Rattle.guest_steps.proofs.both.change_both.Goals.{In_ok-host_plan}
 use Rattle.guest_steps.proofs.both.change_both.Goals as goal
+
+-- the frames that the plans got, and those that are left
+host_stock : (g : _) (c : In_ok-host_plan g) → frames_of c.in_ok-host_plan.host_plan.spare.stock ≡ take (need_for c.args.host.now.tree c.args.changes.now.host) c.args.pool.now.frames
+host_stock g c = rw c.need-host_need.ensures.value at c.in_ok-host_plan.ensures.host
+
+hyp_stock : (g : _) (c : In_ok-host_plan g) → frames_of c.in_ok-host_plan.hyp_plan.spare.stock ≡ take (need_for c.args.hyp.now.tree c.args.changes.now.hyp) (drop (need_for c.args.host.now.tree c.args.changes.now.host) c.args.pool.now.frames)
+hyp_stock g c = rw (c.need-host_need.ensures.value, c.need-hyp_need.ensures.value) at c.in_ok-host_plan.ensures.hyp
+
+pool_left : (g : _) (c : In_ok-host_plan g) → c.reserve_both.new.pool.frames ≡ drop (need_for c.args.hyp.now.tree c.args.changes.now.hyp) (drop (need_for c.args.host.now.tree c.args.changes.now.host) c.args.pool.now.frames)
+pool_left g c = rw (c.need-host_need.ensures.value, c.need-hyp_need.ensures.value) at c.in_ok-host_plan.ensures.left
+
+-- both trees, both plans and the pool have frames of their own
+plans_apart : (g : _) (c : In_ok-host_plan g) (f : ℕ) → uses c.reserve_both.new.host.tree f + uses c.reserve_both.new.hyp.tree f + frame_count f (frames_of c.in_ok-host_plan.host_plan.spare.stock) + frame_count f (frames_of c.in_ok-host_plan.hyp_plan.spare.stock) + frame_count f c.reserve_both.new.pool.frames ≤ 1
+plans_apart g c f =
+    let p = c.args.pool.now.frames in
+    let n = need_for c.args.host.now.tree c.args.changes.now.host in
+    let m = need_for c.args.hyp.now.tree c.args.changes.now.hyp in
+    let x = ap (frame_count f) (host_stock g c) in
+    let y = ap (frame_count f) (hyp_stock g c) in
+    let z = ap (frame_count f) (pool_left g c) in
+    let q = same_uses c.reserve_both.new.host.tree c.args.host.now.tree c.in_ok-host_plan.ensures.host_geometry c.in_ok-host_plan.ensures.host_table f in
+    let r = same_uses c.reserve_both.new.hyp.tree c.args.hyp.now.tree c.in_ok-host_plan.ensures.hyp_geometry c.in_ok-host_plan.ensures.hyp_table f in
+    omega (arith, x, y, z, q, r, count_parts f n p, count_parts f m (drop n p), c.requires.apart.0 f)
+
+plans_room : (g : _) (c : In_ok-host_plan g) → tables_of c.reserve_both.new.host.tree + tables_of c.reserve_both.new.hyp.tree + length (frames_of c.in_ok-host_plan.host_plan.spare.stock) + length (frames_of c.in_ok-host_plan.hyp_plan.spare.stock) + length c.reserve_both.new.pool.frames ≤ c.reserve_both.new.pool.room + 2
+plans_room g c =
+    let p = c.args.pool.now.frames in
+    let n = need_for c.args.host.now.tree c.args.changes.now.host in
+    let m = need_for c.args.hyp.now.tree c.args.changes.now.hyp in
+    let x = ap length (host_stock g c) in
+    let y = ap length (hyp_stock g c) in
+    let z = ap length (pool_left g c) in
+    let q = same_count c.reserve_both.new.host.tree c.args.host.now.tree c.in_ok-host_plan.ensures.host_geometry c.in_ok-host_plan.ensures.host_table in
+    let r = same_count c.reserve_both.new.hyp.tree c.args.hyp.now.tree c.in_ok-host_plan.ensures.hyp_geometry c.in_ok-host_plan.ensures.hyp_table in
+    omega (arith, x, y, z, q, r, take_drop_length n p, take_drop_length m (drop n p), c.requires.apart.1, c.in_ok-host_plan.ensures.room)
 
 pub commit-requires-clause-distinct : goal.commit-requires-clause-distinct
 commit-requires-clause-distinct g c f =
-    let p = c.args.pool.now.frames in
-    let u = c.reserve_both.new.host.tree in
-    let gu = c.in_ok-host_plan.ensures.host_geometry in
-    let tu = c.in_ok-host_plan.ensures.host_table in
-    let n = need_for c.args.host.now.tree c.args.changes.now.host in
-    let m = need_for c.args.hyp.now.tree c.args.changes.now.hyp in
-    let a : frames_of c.in_ok-host_plan.host_plan.spare.stock ≡ take n p = rw c.need-host_need.ensures.value at c.in_ok-host_plan.ensures.host in
-    let l : c.reserve_both.new.pool.frames ≡ drop m (drop n p) = rw (c.need-host_need.ensures.value, c.need-hyp_need.ensures.value) at c.in_ok-host_plan.ensures.left in
-    let x = ap (frame_count f) a in
-    let z = ap (frame_count f) l in
-    let q = same_uses u c.args.host.now.tree gu tu f in
-    omega (arith, x, z, q, count_parts f n p, count_parts f m (drop n p), c.requires.apart.0 f)
+    let h = plans_apart g (goal.at.commit-requires-clause-distinct g c).In_ok-host_plan f in
+    omega (arith, h)
 
 pub commit-requires-clause-covered : goal.commit-requires-clause-covered
 commit-requires-clause-covered g c =
-    let p = c.args.pool.now.frames in
-    let u = c.reserve_both.new.host.tree in
-    let gu = c.in_ok-host_plan.ensures.host_geometry in
-    let tu = c.in_ok-host_plan.ensures.host_table in
-    let n = need_for c.args.host.now.tree c.args.changes.now.host in
-    let m = need_for c.args.hyp.now.tree c.args.changes.now.hyp in
-    let a : frames_of c.in_ok-host_plan.host_plan.spare.stock ≡ take n p = rw c.need-host_need.ensures.value at c.in_ok-host_plan.ensures.host in
-    let l : c.reserve_both.new.pool.frames ≡ drop m (drop n p) = rw (c.need-host_need.ensures.value, c.need-hyp_need.ensures.value) at c.in_ok-host_plan.ensures.left in
-    let x = ap length a in
-    let z = ap length l in
-    let q = same_count u c.args.host.now.tree gu tu in
-    omega (arith, x, z, q, take_drop_length n p, take_drop_length m (drop n p), c.requires.apart.1, tree_some c.args.hyp.now.tree, c.in_ok-host_plan.ensures.room)
+    let h = plans_room g (goal.at.commit-requires-clause-covered g c).In_ok-host_plan in
+    omega (arith, h, tree_some c.reserve_both.new.hyp.tree)
 
 pub commit-requires-2-clause-distinct : goal.commit-requires-2-clause-distinct
 commit-requires-2-clause-distinct g c f =
-    let p = c.args.pool.now.frames in
-    let u = c.reserve_both.new.host.tree in
-    let gu = c.in_ok-host_plan.ensures.host_geometry in
-    let tu = c.in_ok-host_plan.ensures.host_table in
-    let v = c.reserve_both.new.hyp.tree in
-    let gv = c.in_ok-host_plan.ensures.hyp_geometry in
-    let tv = c.in_ok-host_plan.ensures.hyp_table in
-    let n = need_for c.args.host.now.tree c.args.changes.now.host in
-    let m = need_for c.args.hyp.now.tree c.args.changes.now.hyp in
-    let a : frames_of c.in_ok-host_plan.host_plan.spare.stock ≡ take n p = rw c.need-host_need.ensures.value at c.in_ok-host_plan.ensures.host in
-    let b : frames_of c.in_ok-host_plan.hyp_plan.spare.stock ≡ take m (drop n p) = rw (c.need-host_need.ensures.value, c.need-hyp_need.ensures.value) at c.in_ok-host_plan.ensures.hyp in
-    let l : c.reserve_both.new.pool.frames ≡ drop m (drop n p) = rw (c.need-host_need.ensures.value, c.need-hyp_need.ensures.value) at c.in_ok-host_plan.ensures.left in
-    let x = ap (frame_count f) a in
-    let y = ap (frame_count f) b in
-    let z = ap (frame_count f) l in
-    let q = same_uses u c.args.host.now.tree gu tu f in
-    let r = same_uses v c.args.hyp.now.tree gv tv f in
-    omega (arith, x, y, z, q, r, count_parts f n p, count_parts f m (drop n p), c.requires.apart.0 f, c.commit.ensures.frames f)
+    let h = plans_apart g (goal.at.commit-requires-2-clause-distinct g c).In_ok-host_plan f in
+    omega (arith, h, c.commit.ensures.frames f)
 
 pub commit-requires-2-clause-covered : goal.commit-requires-2-clause-covered
 commit-requires-2-clause-covered g c =
-    let p = c.args.pool.now.frames in
-    let u = c.reserve_both.new.host.tree in
-    let gu = c.in_ok-host_plan.ensures.host_geometry in
-    let tu = c.in_ok-host_plan.ensures.host_table in
-    let v = c.reserve_both.new.hyp.tree in
-    let gv = c.in_ok-host_plan.ensures.hyp_geometry in
-    let tv = c.in_ok-host_plan.ensures.hyp_table in
-    let n = need_for c.args.host.now.tree c.args.changes.now.host in
-    let m = need_for c.args.hyp.now.tree c.args.changes.now.hyp in
-    let a : frames_of c.in_ok-host_plan.host_plan.spare.stock ≡ take n p = rw c.need-host_need.ensures.value at c.in_ok-host_plan.ensures.host in
-    let b : frames_of c.in_ok-host_plan.hyp_plan.spare.stock ≡ take m (drop n p) = rw (c.need-host_need.ensures.value, c.need-hyp_need.ensures.value) at c.in_ok-host_plan.ensures.hyp in
-    let l : c.reserve_both.new.pool.frames ≡ drop m (drop n p) = rw (c.need-host_need.ensures.value, c.need-hyp_need.ensures.value) at c.in_ok-host_plan.ensures.left in
-    let x = ap length a in
-    let y = ap length b in
-    let z = ap length l in
-    let q = same_count u c.args.host.now.tree gu tu in
-    let r = same_count v c.args.hyp.now.tree gv tv in
-    omega (arith, x, y, z, q, r, take_drop_length n p, take_drop_length m (drop n p), c.requires.apart.1, tree_some c.commit.new.self.tree, c.commit.ensures.tables, c.commit.ensures.pool_room, c.in_ok-host_plan.ensures.room)
+    let h = plans_room g (goal.at.commit-requires-2-clause-covered g c).In_ok-host_plan in
+    omega (arith, h, tree_some c.commit.new.self.tree, c.commit.ensures.tables, c.commit.ensures.pool_room)
 
 pub returns-clause-host : goal.returns-clause-host
 returns-clause-host g c =
-    let p = c.args.pool.now.frames in
-    let u = c.reserve_both.new.host.tree in
-    let gu = c.in_ok-host_plan.ensures.host_geometry in
-    let tu = c.in_ok-host_plan.ensures.host_table in
-    let n = need_for c.args.host.now.tree c.args.changes.now.host in
-    let a : frames_of c.in_ok-host_plan.host_plan.spare.stock ≡ take n p = rw c.need-host_need.ensures.value at c.in_ok-host_plan.ensures.host in
-    rw c.in_ok-host_plan.ensures.host_change at c.commit.ensures.tree ∙ after_same u c.args.host.now.tree gu tu c.args.changes.now.host (frames_of c.in_ok-host_plan.host_plan.spare.stock) ∙ ap (tree_after c.args.host.now.tree c.args.changes.now.host) a ∙ after_take c.args.host.now.tree c.args.changes.now.host p
+    let t = c.args.host.now.tree in
+    let d = c.args.changes.now.host in
+    let a = host_stock g (goal.at.returns-clause-host g c).In_ok-host_plan in
+    rw c.in_ok-host_plan.ensures.host_change at c.commit.ensures.tree ∙ after_same c.reserve_both.new.host.tree t c.in_ok-host_plan.ensures.host_geometry c.in_ok-host_plan.ensures.host_table d (frames_of c.in_ok-host_plan.host_plan.spare.stock) ∙ ap (tree_after t d) a ∙ after_take t d c.args.pool.now.frames
 
 pub returns-clause-hyp : goal.returns-clause-hyp
 returns-clause-hyp g c =
-    let p = c.args.pool.now.frames in
-    let v = c.reserve_both.new.hyp.tree in
-    let gv = c.in_ok-host_plan.ensures.hyp_geometry in
-    let tv = c.in_ok-host_plan.ensures.hyp_table in
-    let n = need_for c.args.host.now.tree c.args.changes.now.host in
-    let m = need_for c.args.hyp.now.tree c.args.changes.now.hyp in
-    let b : frames_of c.in_ok-host_plan.hyp_plan.spare.stock ≡ take m (drop n p) = rw (c.need-host_need.ensures.value, c.need-hyp_need.ensures.value) at c.in_ok-host_plan.ensures.hyp in
-    rw c.in_ok-host_plan.ensures.hyp_change at c.commit-2.ensures.tree ∙ after_same v c.args.hyp.now.tree gv tv c.args.changes.now.hyp (frames_of c.in_ok-host_plan.hyp_plan.spare.stock) ∙ ap (tree_after c.args.hyp.now.tree c.args.changes.now.hyp) b ∙ after_take c.args.hyp.now.tree c.args.changes.now.hyp (drop n p)
+    let t = c.args.hyp.now.tree in
+    let d = c.args.changes.now.hyp in
+    let b = hyp_stock g (goal.at.returns-clause-hyp g c).In_ok-host_plan in
+    rw c.in_ok-host_plan.ensures.hyp_change at c.commit-2.ensures.tree ∙ after_same c.reserve_both.new.hyp.tree t c.in_ok-host_plan.ensures.hyp_geometry c.in_ok-host_plan.ensures.hyp_table d (frames_of c.in_ok-host_plan.hyp_plan.spare.stock) ∙ ap (tree_after t d) b ∙ after_take t d (drop (need_for c.args.host.now.tree c.args.changes.now.host) c.args.pool.now.frames)
 
 pub returns-clause-pool : goal.returns-clause-pool
 returns-clause-pool g c =
@@ -117,60 +94,19 @@ returns-clause-pool g c =
     let tv = c.in_ok-host_plan.ensures.hyp_table in
     let n = need_for c.args.host.now.tree c.args.changes.now.host in
     let m = need_for c.args.hyp.now.tree c.args.changes.now.hyp in
-    let l : c.reserve_both.new.pool.frames ≡ drop m (drop n p) = rw (c.need-host_need.ensures.value, c.need-hyp_need.ensures.value) at c.in_ok-host_plan.ensures.left in
+    let l = pool_left g (goal.at.returns-clause-pool g c).In_ok-host_plan in
     let first = rw c.in_ok-host_plan.ensures.host_change at c.commit.ensures.pool ∙ ap (λ fs. all_given fs c.reserve_both.new.pool.frames) (back_same u c.args.host.now.tree gu tu c.args.changes.now.host) in
     let second = rw c.in_ok-host_plan.ensures.hyp_change at c.commit-2.ensures.pool ∙ ap (λ gs. all_given gs c.commit.new.pool.frames) (back_same v c.args.hyp.now.tree gv tv c.args.changes.now.hyp) in
     let fs = back_from c.args.host.now.tree c.args.changes.now.host in
     let gs = back_from c.args.hyp.now.tree c.args.changes.now.hyp in
     second ∙ ap (all_given gs) (first ∙ ap (all_given fs) l) ∙ given_both c.given_in_any_order.ensures.counted c.given_in_any_order.ensures.append fs gs (drop m (drop n p)) ∙ ap (all_given (fs ++ gs)) (drop-drop m n p)
 
-apart_uses : (g : _) (c : goal.After-commit-2 g) (f : ℕ) → uses c.commit.new.self.tree f + uses c.commit-2.new.self.tree f + frame_count f c.commit-2.new.pool.frames ≤ 1
-apart_uses g c f =
-    let p = c.args.pool.now.frames in
-    let u = c.reserve_both.new.host.tree in
-    let gu = c.in_ok-host_plan.ensures.host_geometry in
-    let tu = c.in_ok-host_plan.ensures.host_table in
-    let v = c.reserve_both.new.hyp.tree in
-    let gv = c.in_ok-host_plan.ensures.hyp_geometry in
-    let tv = c.in_ok-host_plan.ensures.hyp_table in
-    let n = need_for c.args.host.now.tree c.args.changes.now.host in
-    let m = need_for c.args.hyp.now.tree c.args.changes.now.hyp in
-    let a : frames_of c.in_ok-host_plan.host_plan.spare.stock ≡ take n p = rw c.need-host_need.ensures.value at c.in_ok-host_plan.ensures.host in
-    let b : frames_of c.in_ok-host_plan.hyp_plan.spare.stock ≡ take m (drop n p) = rw (c.need-host_need.ensures.value, c.need-hyp_need.ensures.value) at c.in_ok-host_plan.ensures.hyp in
-    let l : c.reserve_both.new.pool.frames ≡ drop m (drop n p) = rw (c.need-host_need.ensures.value, c.need-hyp_need.ensures.value) at c.in_ok-host_plan.ensures.left in
-    let x = ap (frame_count f) a in
-    let y = ap (frame_count f) b in
-    let z = ap (frame_count f) l in
-    let q = same_uses u c.args.host.now.tree gu tu f in
-    let r = same_uses v c.args.hyp.now.tree gv tv f in
-    omega (arith, x, y, z, q, r, count_parts f n p, count_parts f m (drop n p), c.requires.apart.0 f, c.commit.ensures.frames f, c.commit-2.ensures.frames f)
-
-apart_room : (g : _) (c : goal.After-commit-2 g) → tables_of c.commit.new.self.tree + tables_of c.commit-2.new.self.tree + length c.commit-2.new.pool.frames ≤ c.commit-2.new.pool.room + 2
-apart_room g c =
-    let p = c.args.pool.now.frames in
-    let u = c.reserve_both.new.host.tree in
-    let gu = c.in_ok-host_plan.ensures.host_geometry in
-    let tu = c.in_ok-host_plan.ensures.host_table in
-    let v = c.reserve_both.new.hyp.tree in
-    let gv = c.in_ok-host_plan.ensures.hyp_geometry in
-    let tv = c.in_ok-host_plan.ensures.hyp_table in
-    let n = need_for c.args.host.now.tree c.args.changes.now.host in
-    let m = need_for c.args.hyp.now.tree c.args.changes.now.hyp in
-    let a : frames_of c.in_ok-host_plan.host_plan.spare.stock ≡ take n p = rw c.need-host_need.ensures.value at c.in_ok-host_plan.ensures.host in
-    let b : frames_of c.in_ok-host_plan.hyp_plan.spare.stock ≡ take m (drop n p) = rw (c.need-host_need.ensures.value, c.need-hyp_need.ensures.value) at c.in_ok-host_plan.ensures.hyp in
-    let l : c.reserve_both.new.pool.frames ≡ drop m (drop n p) = rw (c.need-host_need.ensures.value, c.need-hyp_need.ensures.value) at c.in_ok-host_plan.ensures.left in
-    let x = ap length a in
-    let y = ap length b in
-    let z = ap length l in
-    let q = same_count u c.args.host.now.tree gu tu in
-    let r = same_count v c.args.hyp.now.tree gv tv in
-    omega (arith, x, y, z, q, r, take_drop_length n p, take_drop_length m (drop n p), c.requires.apart.1, c.commit.ensures.tables, c.commit-2.ensures.tables, c.commit.ensures.pool_room, c.commit-2.ensures.pool_room, c.in_ok-host_plan.ensures.room)
-
 pub returns-clause-apart : goal.returns-clause-apart
-returns-clause-apart g c = (
-  λ f. apart_uses g c f,
-  apart_room g c,
-)
+returns-clause-apart g c =
+    let d = (goal.at.returns-clause-apart g c).In_ok-host_plan in (
+      λ f. omega (arith, plans_apart g d f, c.commit.ensures.frames f, c.commit-2.ensures.frames f),
+      omega (arith, plans_room g d, c.commit.ensures.tables, c.commit-2.ensures.tables, c.commit.ensures.pool_room, c.commit-2.ensures.pool_room),
+    )
 
 pub commit-requires-clause-just : goal.commit-requires-clause-just
 commit-requires-clause-just g c =
