@@ -9,6 +9,7 @@ ghost use Rattle.table_tree.specs.Stocks.{frames_of};
 ghost use Rattle.table_tree.specs.View.{tree_of, uses, tables_of};
 ghost use Rattle.walk_plan.specs.Changes.{CanBeSaidOn};
 
+use crate::expect::{expect_entry, expect_number, expect_word};
 use crate::sample::{leaf, pages};
 use arrayvec::ArrayVec;
 use descriptor::{Frame, State};
@@ -25,8 +26,8 @@ use walker::{set, set_with};
 /// The frame of each root; the pool's frames are those behind it.
 const ROOT: Frame = Frame(0x40600);
 
-/// Compares a number.
-fn expect_number(rt: &impl Abort, found: usize, wanted: usize) {
+/// Compares what a change answers.
+fn expect_answer(rt: &impl Abort, found: Result<(), PoolFault>, wanted: Result<(), PoolFault>) {
     assert_eq!(rt; found, wanted);
 }
 
@@ -79,7 +80,7 @@ impl<A: Allocator + Copy> Bench<A> {
         ensures covered { tables_of self.new.tree + length self.new.pool.frames ≤ self.new.pool.room + 1 }
     {
         let mut reads = Reads::new();
-        assert_eq!(rt; need(&self.tree, range, &entry, &mut reads), needed);
+        expect_number(rt, need(&self.tree, range, &entry, &mut reads), needed);
         let mut reads = Reads::new();
         let answer = set(
             self.alloc,
@@ -90,7 +91,7 @@ impl<A: Allocator + Copy> Bench<A> {
             &mut reads,
         );
         assert!(rt; reads.count() <= 4 * range.count + 4096);
-        assert_eq!(rt; answer, wanted);
+        expect_answer(rt, answer, wanted);
     }
 
     /// The word at a path.
@@ -106,45 +107,84 @@ impl<A: Allocator + Copy> Bench<A> {
 
     /// Compares the word at a path.
     fn expect_word(&self, rt: &impl Abort, path: &[u16], word: u64) {
-        assert_eq!(rt; self.word(path), Some(word));
+        expect_word(rt, self.word(path), Some(word));
+    }
+
+    /// Makes a change that is made; compares the tables that it needs, and words, tables and free frames after it.
+    fn expect_words(
+        &mut self,
+        rt: &impl Abort,
+        range: PageRange,
+        entry: Entry,
+        needed: usize,
+        words: Words,
+        left: (usize, usize),
+    )
+        requires bits { self.old.tree.geometry ≡ Bits39 }
+        requires distinct { (f : ℕ) → uses self.old.tree f + frame_count f self.old.pool.frames ≤ 1 }
+        requires covered { tables_of self.old.tree + length self.old.pool.frames ≤ self.old.pool.room + 1 }
+        requires some { 1 ≤ range.count }
+        requires within { range.first.0 + range.count ≤ 2 ^ 27 }
+        requires entry_in { IsRangeEntry range.count entry }
+        ensures bits { self.new.tree.geometry ≡ Bits39 }
+        ensures distinct { (f : ℕ) → uses self.new.tree f + frame_count f self.new.pool.frames ≤ 1 }
+        ensures covered { tables_of self.new.tree + length self.new.pool.frames ≤ self.new.pool.room + 1 }
+    {
+        self.expect_set(rt, range, entry, needed, Ok(()));
+        for (path, word) in words {
+            self.expect_word(rt, path, *word);
+        }
+        self.expect_frames(rt, left.0, left.1);
     }
 
     /// Compares the entry of a page.
     fn expect_entry(&self, rt: &impl Abort, page: u64, entry: Entry) {
-        assert_eq!(rt; self.tree.look(Page(page)), entry);
+        expect_entry(rt, self.tree.look(Page(page)), entry);
     }
 
     /// Compares the number of tables, and of free frames.
     fn expect_frames(&self, rt: &impl Abort, tables: usize, free: usize) {
-        assert_eq!(rt; self.tree.tables(), tables);
-        assert_eq!(rt; self.pool.free(), free);
+        expect_number(rt, self.tree.tables(), tables);
+        expect_number(rt, self.pool.free(), free);
     }
 }
+
+/// Words, each behind its path.
+type Words = &'static [(&'static [u16], u64)];
+
+/// A block as one word.
+const BLOCK: Words = &[(&[1], 0x40601003), (&[1, 1], 0x00000000402007fd)];
+
+/// The block with a page of another state.
+const SPLIT: Words = &[
+    (&[1, 1], 0x40602003),
+    (&[1, 1, 0x100], 0x00800000403007ff),
+    (&[1, 1, 0x101], 0x00000000403017ff),
+];
+
+/// That page as it was.
+const PAGE: Words = &[(&[1, 1, 0x100], 0x00000000403007ff)];
+
+/// The block as words of pages.
+const PAGES: Words = &[(&[1, 1], 0x40602003), (&[1, 1, 511], 0x00000000403ff7ff)];
+
+/// Nothing.
+const NOTHING: Words = &[(&[1], 0)];
 
 /// Changes of one tree, one after another: a block as one word, a page of it, and back.
 fn rows<A: Allocator + Copy>(rt: &impl Abort, global: Global, alloc: A) -> Result<(), Fail> {
     let mut bench = empty_bench(global, alloc, 8)?;
     let block = pages(0x40200, 512);
     let page = pages(0x40300, 1);
-    bench.expect_set(rt, block, leaf(0x40200, State::Owned), 1, Ok(()));
-    bench.expect_word(rt, [1].as_slice(), 0x40601003);
-    bench.expect_word(rt, [1, 1].as_slice(), 0x00000000402007fd);
-    bench.expect_frames(rt, 2, 7);
-    bench.expect_set(rt, page, leaf(0x40300, State::SharedOwned), 1, Ok(()));
-    bench.expect_word(rt, [1, 1].as_slice(), 0x40602003);
-    bench.expect_word(rt, [1, 1, 0x100].as_slice(), 0x00800000403007ff);
-    bench.expect_word(rt, [1, 1, 0x101].as_slice(), 0x00000000403017ff);
-    bench.expect_set(rt, page, leaf(0x40300, State::Owned), 0, Ok(()));
-    bench.expect_word(rt, [1, 1, 0x100].as_slice(), 0x00000000403007ff);
-    bench.expect_frames(rt, 3, 6);
-    bench.expect_set(rt, block, leaf(0x40200, State::Owned), 0, Ok(()));
-    bench.expect_word(rt, [1, 1].as_slice(), 0x40602003);
-    bench.expect_word(rt, [1, 1, 511].as_slice(), 0x00000000403ff7ff);
-    bench.expect_frames(rt, 3, 6);
-    bench.expect_set(rt, block, Entry::Unmapped, 0, Ok(()));
-    bench.expect_word(rt, [1].as_slice(), 0);
+    let whole = leaf(0x40200, State::Owned);
+    bench.expect_words(rt, block, whole, 1, BLOCK, (2, 7));
+    let shared = leaf(0x40300, State::SharedOwned);
+    bench.expect_words(rt, page, shared, 1, SPLIT, (3, 6));
+    let owned = leaf(0x40300, State::Owned);
+    bench.expect_words(rt, page, owned, 0, PAGE, (3, 6));
+    bench.expect_words(rt, block, whole, 0, PAGES, (3, 6));
+    bench.expect_words(rt, block, Entry::Unmapped, 0, NOTHING, (1, 8));
     bench.expect_entry(rt, 0x40300, Entry::Unmapped);
-    bench.expect_frames(rt, 1, 8);
     Ok(())
 }
 
@@ -157,6 +197,32 @@ fn rows_at_global(rt: HostRuntime) -> Result<(), Fail> {
 fn rows_at_local_heap(rt: HostRuntime) -> Result<(), Fail> {
     let heap = LocalHeap::new(rt.alloc(), 1 << 20)?;
     rows(&rt, rt.alloc(), &heap)
+}
+
+/// A change of an empty tree with so many free frames; compares its answer, the first page's entry, and tables, free frames and spares.
+fn with_frames<A: Allocator + Copy>(
+    rt: &impl Abort,
+    global: Global,
+    alloc: A,
+    range: PageRange,
+    entry: Entry,
+    needed: usize,
+    free: usize,
+    wanted: Result<(), PoolFault>,
+    found: Entry,
+    left: (usize, usize, usize),
+) -> Result<(), Fail>
+    requires some { 1 ≤ range.count }
+    requires within { range.first.0 + range.count ≤ 2 ^ 27 }
+    requires entry_in { IsRangeEntry range.count entry }
+    requires few { free ≤ 16 }
+{
+    let mut bench = empty_bench(global, alloc, free)?;
+    bench.expect_set(rt, range, entry, needed, wanted);
+    bench.expect_entry(rt, range.first.0, found);
+    bench.expect_frames(rt, left.0, left.1);
+    expect_number(rt, bench.tree.spares(), left.2);
+    Ok(())
 }
 
 /// A change of an empty tree: refused where the pool has fewer frames than it needs, made where it has as many.
@@ -173,18 +239,34 @@ fn with_and_without<A: Allocator + Copy>(
     requires entry_in { IsRangeEntry range.count entry }
     requires few { needed ≤ 16 }
 {
-    assert_eq!(rt; need_of_new(Geometry::Bits39, range, &entry), needed);
+    expect_number(rt, need_of_new(Geometry::Bits39, range, &entry), needed);
     for free in 0..needed {
-        let mut bench = empty_bench(global, alloc, free)?;
-        bench.expect_set(rt, range, entry, needed, Err(PoolFault::NoPool));
-        bench.expect_entry(rt, range.first.0, Entry::Unmapped);
-        bench.expect_frames(rt, 1, free);
+        let short = Err(PoolFault::NoPool);
+        with_frames(
+            rt,
+            global,
+            alloc,
+            range,
+            entry,
+            needed,
+            free,
+            short,
+            Entry::Unmapped,
+            (1, free, 0),
+        )?;
     }
-    let mut bench = empty_bench(global, alloc, needed)?;
-    bench.expect_set(rt, range, entry, needed, Ok(()));
-    bench.expect_entry(rt, range.first.0, entry);
-    bench.expect_frames(rt, needed + 1, 0);
-    Ok(())
+    with_frames(
+        rt,
+        global,
+        alloc,
+        range,
+        entry,
+        needed,
+        needed,
+        Ok(()),
+        entry,
+        (needed + 1, 0, 0),
+    )
 }
 
 /// What changes of empty trees need.
@@ -201,8 +283,7 @@ fn needs<A: Allocator + Copy>(rt: &impl Abort, global: Global, alloc: A) -> Resu
         leaf(0x401ff, State::Owned),
         3,
     )?;
-    with_and_without(rt, global, alloc, pages(0x401ff, 2), Entry::Unmapped, 0)?;
-    Ok(())
+    with_and_without(rt, global, alloc, pages(0x401ff, 2), Entry::Unmapped, 0)
 }
 
 #[test]
@@ -216,41 +297,43 @@ fn needs_at_local_heap(rt: HostRuntime) -> Result<(), Fail> {
     needs(&rt, rt.alloc(), &heap)
 }
 
+/// Compares entries, words and frames once page 0x40100 alone is shared.
+fn expect_shared(rt: &impl Abort, bench: &Bench<Global>, shared: Entry) {
+    bench.expect_entry(rt, 0x40100, shared);
+    bench.expect_entry(rt, 0x40101, Entry::Unmapped);
+    bench.expect_entry(rt, 0x8040100, Entry::Unmapped);
+    bench.expect_word(rt, &[1], 0x40601003);
+    bench.expect_word(rt, &[1, 0], 0x40602003);
+    bench.expect_word(rt, &[1, 0, 0x100], 0x00800000401007ff);
+    expect_word(rt, bench.word(&[1, 0, 0x100, 0]), None);
+    bench.expect_frames(rt, 3, 1);
+    assert!(rt; bench.tree.root() == ROOT);
+    assert!(rt; bench.tree.geometry() == Geometry::Bits39);
+}
+
 #[test]
 fn share_words(rt: HostRuntime) -> Result<(), Fail> {
     let mut bench = empty_bench(rt.alloc(), rt.alloc(), 3)?;
     let shared = leaf(0x40100, State::SharedOwned);
     bench.expect_entry(&rt, 0x40100, Entry::Unmapped);
     bench.expect_set(&rt, pages(0x40100, 1), shared, 2, Ok(()));
-    bench.expect_entry(&rt, 0x40100, shared);
-    bench.expect_entry(&rt, 0x40101, Entry::Unmapped);
-    bench.expect_entry(&rt, 0x8040100, Entry::Unmapped);
-    bench.expect_word(&rt, [1].as_slice(), 0x40601003);
-    bench.expect_word(&rt, [1, 0].as_slice(), 0x40602003);
-    bench.expect_word(&rt, [1, 0, 0x100].as_slice(), 0x00800000401007ff);
-    assert!(rt; bench.word([1, 0, 0x100, 0].as_slice()).is_none());
-    bench.expect_frames(&rt, 3, 1);
-    assert_eq!(rt; bench.tree.root(), ROOT);
-    assert_eq!(rt; bench.tree.geometry(), Geometry::Bits39);
+    expect_shared(&rt, &bench, shared);
     Ok(())
+}
+
+/// Compares frames with those of the root and the first two tables.
+fn expect_three(rt: &impl Abort, frames: &[Frame]) {
+    assert!(rt; frames == [ROOT, Frame(0x40601), Frame(0x40602)].as_slice());
 }
 
 #[test]
 fn dismantled_frames(rt: HostRuntime) -> Result<(), Fail> {
     let mut bench = empty_bench(rt.alloc(), rt.alloc(), 2)?;
-    bench.expect_set(
-        &rt,
-        pages(0x40100, 1),
-        leaf(0x40100, State::SharedOwned),
-        2,
-        Ok(()),
-    );
+    let shared = leaf(0x40100, State::SharedOwned);
+    bench.expect_set(&rt, pages(0x40100, 1), shared, 2, Ok(()));
     let Bench { tree, .. } = bench;
     match tree.dismantle(rt.alloc()) {
-        Ok(frames) => {
-            let expected = [ROOT, Frame(0x40601), Frame(0x40602)];
-            assert_eq!(rt; frames.as_slice(), expected.as_slice());
-        }
+        Ok(frames) => expect_three(&rt, frames.as_slice()),
         Err(_) => assert!(rt; false),
     }
     Ok(())
@@ -259,19 +342,19 @@ fn dismantled_frames(rt: HostRuntime) -> Result<(), Fail> {
 #[test]
 fn small_heap(rt: HostRuntime) -> Result<(), Fail> {
     let heap = LocalHeap::new(rt.alloc(), 30000)?;
-    let mut bench = empty_bench(rt.alloc(), &heap, 2)?;
-    let short = Err(PoolFault::NoMemory);
-    bench.expect_set(
+    let owned = leaf(0x40100, State::Owned);
+    with_frames(
         &rt,
+        rt.alloc(),
+        &heap,
         pages(0x40100, 1),
-        leaf(0x40100, State::Owned),
+        owned,
         2,
-        short,
-    );
-    expect_number(&rt, bench.tree.spares(), 1);
-    bench.expect_entry(&rt, 0x40100, Entry::Unmapped);
-    bench.expect_frames(&rt, 1, 2);
-    Ok(())
+        2,
+        Err(PoolFault::NoMemory),
+        Entry::Unmapped,
+        (1, 2, 1),
+    )
 }
 
 /// The tables for a change, in hand.
@@ -305,30 +388,59 @@ fn in_hand<A: Allocator + Copy>(
     Ok(spare)
 }
 
-#[test]
-fn set_from_hand(rt: HostRuntime) -> Result<(), Fail> {
-    let heap = LocalHeap::new(rt.alloc(), 1 << 20)?;
-    let mut bench = empty_bench(rt.alloc(), &heap, 2)?;
+/// Makes a change with the tables in hand, which takes no memory.
+fn expect_made(
+    rt: &impl Abort,
+    heap: &LocalHeap,
+    bench: &mut Bench<&LocalHeap>,
+) -> Result<(), PoolFault>
+    requires bits { bench.old.tree.geometry ≡ Bits39 }
+    requires distinct { (f : ℕ) → uses bench.old.tree f + frame_count f bench.old.pool.frames ≤ 1 }
+    requires covered { tables_of bench.old.tree + length bench.old.pool.frames ≤ bench.old.pool.room + 1 }
+{
     let range = pages(0x40100, 1);
     let shared = leaf(0x40100, State::SharedOwned);
-    let spare = in_hand(&mut bench, range, shared)?;
+    let spare = in_hand(bench, range, shared)?;
     let used = heap.used();
-    let Bench {
-        mut tree,
-        mut pool,
-        ..
-    } = bench;
     set_with(
-        &mut tree,
-        &mut pool,
+        &mut bench.tree,
+        &mut bench.pool,
         range,
         shared,
         spare,
         &mut Reads::new(),
     );
-    expect_number(&rt, heap.used(), used);
-    assert_eq!(rt; tree.look(Page(0x40100)), shared);
-    expect_number(&rt, tree.tables(), 3);
+    expect_number(rt, heap.used(), used);
+    bench.expect_entry(rt, 0x40100, shared);
+    expect_number(rt, bench.tree.tables(), 3);
+    Ok(())
+}
+
+#[test]
+fn set_from_hand(rt: HostRuntime) -> Result<(), Fail> {
+    let heap = LocalHeap::new(rt.alloc(), 1 << 20)?;
+    let mut bench = empty_bench(rt.alloc(), &heap, 2)?;
+    Ok(expect_made(&rt, &heap, &mut bench)?)
+}
+
+/// Gives the tables in hand back, which frees no memory.
+fn expect_released(
+    rt: &impl Abort,
+    heap: &LocalHeap,
+    bench: &mut Bench<&LocalHeap>,
+) -> Result<(), PoolFault>
+    requires bits { bench.old.tree.geometry ≡ Bits39 }
+    requires distinct { (f : ℕ) → uses bench.old.tree f + frame_count f bench.old.pool.frames ≤ 1 }
+    requires covered { tables_of bench.old.tree + length bench.old.pool.frames ≤ bench.old.pool.room + 1 }
+{
+    let spare = in_hand(bench, pages(0x40100, 1), leaf(0x40100, State::Owned))?;
+    let used = heap.used();
+    expect_number(rt, bench.pool.free(), 0);
+    release(spare, &mut bench.tree, &mut bench.pool);
+    expect_number(rt, heap.used(), used);
+    expect_number(rt, bench.tree.spares(), 2);
+    expect_number(rt, bench.pool.free(), 2);
+    assert!(rt; bench.pool.take() == Some(Frame(0x40601)));
     Ok(())
 }
 
@@ -336,20 +448,7 @@ fn set_from_hand(rt: HostRuntime) -> Result<(), Fail> {
 fn released_from_hand(rt: HostRuntime) -> Result<(), Fail> {
     let heap = LocalHeap::new(rt.alloc(), 1 << 20)?;
     let mut bench = empty_bench(rt.alloc(), &heap, 2)?;
-    let spare = in_hand(&mut bench, pages(0x40100, 1), leaf(0x40100, State::Owned))?;
-    let used = heap.used();
-    let Bench {
-        mut tree,
-        mut pool,
-        ..
-    } = bench;
-    expect_number(&rt, pool.free(), 0);
-    release(spare, &mut tree, &mut pool);
-    expect_number(&rt, heap.used(), used);
-    expect_number(&rt, tree.spares(), 2);
-    expect_number(&rt, pool.free(), 2);
-    assert_eq!(rt; pool.take(), Some(Frame(0x40601)));
-    Ok(())
+    Ok(expect_released(&rt, &heap, &mut bench)?)
 }
 
 /// Takes the rest of a heap, so that no request for memory is met.
@@ -365,25 +464,59 @@ fn rest_of(global: Global, heap: &LocalHeap) -> Result<Vec<Vec<u8, &LocalHeap>>,
     Ok(filling)
 }
 
+/// Maps a page and unmaps it again, so that two tables are spares.
+fn leave_spares(rt: &impl Abort, bench: &mut Bench<&LocalHeap>, page: PageRange, owned: Entry)
+    requires bits { bench.old.tree.geometry ≡ Bits39 }
+    requires distinct { (f : ℕ) → uses bench.old.tree f + frame_count f bench.old.pool.frames ≤ 1 }
+    requires covered { tables_of bench.old.tree + length bench.old.pool.frames ≤ bench.old.pool.room + 1 }
+    requires some { 1 ≤ page.count }
+    requires within { page.first.0 + page.count ≤ 2 ^ 27 }
+    requires entry_in { IsRangeEntry page.count owned }
+    ensures bits { bench.new.tree.geometry ≡ Bits39 }
+    ensures distinct { (f : ℕ) → uses bench.new.tree f + frame_count f bench.new.pool.frames ≤ 1 }
+    ensures covered { tables_of bench.new.tree + length bench.new.pool.frames ≤ bench.new.pool.room + 1 }
+{
+    bench.expect_set(rt, page, owned, 2, Ok(()));
+    expect_number(rt, bench.tree.spares(), 0);
+    bench.expect_set(rt, page, Entry::Unmapped, 0, Ok(()));
+    expect_number(rt, bench.tree.spares(), 2);
+    bench.expect_frames(rt, 1, 2);
+}
+
+/// Maps the page from the spares, while the heap has no room, and then one that would need further frames.
+fn take_spares(
+    rt: &impl Abort,
+    heap: &LocalHeap,
+    bench: &mut Bench<&LocalHeap>,
+    page: PageRange,
+    owned: Entry,
+)
+    requires bits { bench.old.tree.geometry ≡ Bits39 }
+    requires distinct { (f : ℕ) → uses bench.old.tree f + frame_count f bench.old.pool.frames ≤ 1 }
+    requires covered { tables_of bench.old.tree + length bench.old.pool.frames ≤ bench.old.pool.room + 1 }
+    requires some { 1 ≤ page.count }
+    requires within { page.first.0 + page.count ≤ 2 ^ 27 }
+    requires entry_in { IsRangeEntry page.count owned }
+    requires one { IsRangeEntry 1 owned }
+{
+    let used = heap.used();
+    bench.expect_set(rt, page, owned, 2, Ok(()));
+    expect_number(rt, heap.used(), used);
+    bench.expect_entry(rt, 0x40100, owned);
+    expect_number(rt, bench.tree.spares(), 0);
+    bench.expect_frames(rt, 3, 0);
+    let short = Err(PoolFault::NoPool);
+    bench.expect_set(rt, pages(0x80000, 1), owned, 2, short);
+}
+
 #[test]
 fn set_from_spares(rt: HostRuntime) -> Result<(), Fail> {
     let heap = LocalHeap::new(rt.alloc(), 1 << 16)?;
     let mut bench = empty_bench(rt.alloc(), &heap, 2)?;
     let page = pages(0x40100, 1);
     let owned = leaf(0x40100, State::Owned);
-    bench.expect_set(&rt, page, owned, 2, Ok(()));
-    expect_number(&rt, bench.tree.spares(), 0);
-    bench.expect_set(&rt, page, Entry::Unmapped, 0, Ok(()));
-    expect_number(&rt, bench.tree.spares(), 2);
-    bench.expect_frames(&rt, 1, 2);
+    leave_spares(&rt, &mut bench, page, owned);
     let _filling = rest_of(rt.alloc(), &heap)?;
-    let used = heap.used();
-    bench.expect_set(&rt, page, owned, 2, Ok(()));
-    expect_number(&rt, heap.used(), used);
-    bench.expect_entry(&rt, 0x40100, owned);
-    expect_number(&rt, bench.tree.spares(), 0);
-    bench.expect_frames(&rt, 3, 0);
-    let short = Err(PoolFault::NoPool);
-    bench.expect_set(&rt, pages(0x80000, 1), owned, 2, short);
+    take_spares(&rt, &heap, &mut bench, page, owned);
     Ok(())
 }

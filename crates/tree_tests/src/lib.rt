@@ -4,6 +4,8 @@
 
 #[cfg(test)]
 mod changes;
+#[cfg(test)]
+mod expect;
 pub mod sample;
 #[cfg(test)]
 mod tables;

@@ -1,48 +1,85 @@
 //! Tables, trees of them, and words that are poked.
+ghost use Rattle.std.specs.Prelude.{◌<◌};
+ghost use Rattle.table_tree.specs.Shape.{IsWide};
+
+use crate::expect::{expect_entry, expect_number, expect_word};
 use arrayvec::ArrayVec;
 use descriptor::{Frame, Owner};
 use linked_list_allocator::LocalHeap;
 use page_state::{Entry, Geometry, Page};
 use std::alloc::{AllocError, Global};
+use std::process::Abort;
 use std::test::Fail;
 use table_tree::{PathFault, RawTree, Reads, Slot, Table, Tree};
 
 const ROOT: Frame = Frame(0x40600);
 
+/// Takes the one spare of a tree as a table of a frame, and puts it back.
+fn take_and_keep(rt: &impl Abort, tree: &mut Tree<&LocalHeap>) {
+    let table = tree.take_spare(Frame(7)).expect(rt, "a spare");
+    assert!(rt; table.frame() == Frame(7));
+    expect_number(rt, tree.spares(), 0);
+    tree.keep_spare(table);
+    expect_number(rt, tree.spares(), 1);
+}
+
+/// Asks for more spares than a heap has room for, and for the one that it has.
+fn expect_one_spare<'a>(rt: &impl Abort, heap: &'a LocalHeap, tree: &mut Tree<&'a LocalHeap>) {
+    expect_number(rt, tree.spares(), 0);
+    assert!(rt; tree.grow_spares(heap, 3).is_err());
+    expect_number(rt, tree.spares(), 1);
+    let used = heap.used();
+    take_and_keep(rt, tree);
+    assert!(rt; tree.grow_spares(heap, 1).is_ok());
+    expect_number(rt, heap.used(), used);
+    expect_number(rt, tree.tables(), 1);
+}
+
 #[test]
 fn small_heap(rt: HostRuntime) -> Result<(), Fail> {
     let heap = LocalHeap::new(rt.alloc(), 30000)?;
     let mut tree = Tree::new(&heap, ROOT, Geometry::Bits39)?;
-    assert_eq!(rt; tree.spares(), 0);
-    assert!(rt; tree.grow_spares(&heap, 3).is_err());
-    assert_eq!(rt; tree.spares(), 1);
-    let used = heap.used();
-    let table = tree.take_spare(Frame(7)).unwrap();
-    assert_eq!(rt; table.frame(), Frame(7));
-    assert_eq!(rt; tree.spares(), 0);
-    tree.keep_spare(table);
-    assert_eq!(rt; tree.spares(), 1);
-    assert!(rt; tree.grow_spares(&heap, 1).is_ok());
-    assert_eq!(rt; heap.used(), used);
-    assert_eq!(rt; tree.tables(), 1);
+    expect_one_spare(&rt, &heap, &mut tree);
     Ok(())
+}
+
+/// Compares the word of a slot, or that a child stands there.
+fn expect_slot(
+    rt: &impl Abort,
+    table: &Table<Global>,
+    i: usize,
+    reads: &mut Reads,
+    wanted: Option<u64>,
+)
+    requires within { i < 512 }
+    requires wide { IsWide table.now }
+{
+    let found = match table.slot(i, reads) {
+        Slot::Word(word) => Some(*word),
+        Slot::Child(_) => None,
+    };
+    expect_word(rt, found, wanted);
+}
+
+/// A table in a box.
+fn child_of(alloc: Global) -> Result<Box<Table<Global>, Global>, AllocError> {
+    let table = Table::new(alloc, Frame(6))?;
+    Ok(Box::new(alloc, table)?)
 }
 
 #[test]
 fn slots(rt: HostRuntime) -> Result<(), Fail> {
-    let alloc = rt.alloc();
-    let mut table = Table::new(alloc, Frame(5))?;
+    let child = child_of(rt.alloc())?;
+    let mut table = Table::new(rt.alloc(), Frame(5))?;
     let mut reads = Reads::new();
     table.put(3, 7);
-    assert!(rt; matches!(table.slot(3, &mut reads), Slot::Word(7)));
-    let child = Box::new(alloc, Table::new(alloc, Frame(6))?)?;
+    expect_slot(&rt, &table, 3, &mut reads, Some(7));
     table.attach(4, child);
-    assert!(rt; matches!(table.slot(4, &mut reads), Slot::Child(_)));
-    assert_eq!(rt; reads.count(), 2);
+    expect_slot(&rt, &table, 4, &mut reads, None);
+    assert!(rt; reads.count() == 2);
     assert!(rt; table.detach(3).is_none());
-    let child = table.detach(4);
-    assert!(rt; child.is_some());
-    assert!(rt; matches!(table.slot(4, &mut reads), Slot::Word(0)));
+    assert!(rt; table.detach(4).is_some());
+    expect_slot(&rt, &table, 4, &mut reads, Some(0));
     Ok(())
 }
 
@@ -50,14 +87,14 @@ fn slots(rt: HostRuntime) -> Result<(), Fail> {
 fn words_at_paths(rt: HostRuntime) -> Result<(), Fail> {
     let tree = Tree::new(rt.alloc(), ROOT, Geometry::Bits39)?;
     let mut path = ArrayVec::new();
-    assert_eq!(rt; tree.word_at(&path), None);
+    expect_word(&rt, tree.word_at(&path), None);
     path.push(511);
-    assert_eq!(rt; tree.word_at(&path), Some(0));
+    expect_word(&rt, tree.word_at(&path), Some(0));
     path.push(0);
-    assert_eq!(rt; tree.word_at(&path), None);
+    expect_word(&rt, tree.word_at(&path), None);
     let mut over = ArrayVec::new();
     over.push(512);
-    assert_eq!(rt; tree.word_at(&over), None);
+    expect_word(&rt, tree.word_at(&over), None);
     Ok(())
 }
 
@@ -82,56 +119,68 @@ fn two_tables(alloc: Global) -> Result<RawTree<Global>, AllocError> {
     })
 }
 
-fn made<T: Drop>(
-    poked: Result<RawTree<Global>, (T, PathFault)>,
-) -> Result<RawTree<Global>, PathFault> {
-    match poked {
+/// A tree of its root alone, one of whose words is poked.
+fn one_table(alloc: Global, indices: &[u16], word: u64) -> Result<RawTree<Global>, Fail> {
+    let tree = Tree::new(alloc, ROOT, Geometry::Bits39)?;
+    match tree.poke(&path(indices), word) {
+        Ok(tree) => Ok(tree),
+        Err((_refused, fault)) => Err(Fail::from(fault)),
+    }
+}
+
+/// Pokes a word.
+fn poke(tree: RawTree<Global>, indices: &[u16], word: u64) -> Result<RawTree<Global>, PathFault> {
+    match tree.poke(&path(indices), word) {
         Ok(tree) => Ok(tree),
         Err((_refused, fault)) => Err(fault),
     }
 }
 
+/// The word at a path.
+fn word_at(tree: &RawTree<Global>, indices: &[u16]) -> Option<u64> {
+    tree.word_at(&path(indices))
+}
+
 #[test]
 fn poked_words(rt: HostRuntime) -> Result<(), Fail> {
-    let tree = Tree::new(rt.alloc(), ROOT, Geometry::Bits39)?;
-    let raw = made(tree.poke(&path(&[3]), 0x8))?;
-    assert_eq!(rt; raw.word_at(&path(&[3])), Some(8));
-    assert_eq!(rt; raw.word_at(&path(&[4])), Some(0));
-    assert_eq!(rt; raw.look(Page(3 << 18)), Entry::Annotated(Owner(2)));
-    let raw = made(raw.poke(&path(&[3]), 0x6003))?;
-    assert_eq!(rt; raw.look(Page((3 << 18) + 5)), Entry::Malformed);
-    assert_eq!(rt; raw.look(Page(4 << 18)), Entry::Unmapped);
-    assert_eq!(rt; raw.word_at(&path(&[3, 0])), None);
+    let raw = one_table(rt.alloc(), &[3], 0x8)?;
+    expect_word(&rt, word_at(&raw, &[3]), Some(8));
+    expect_word(&rt, word_at(&raw, &[4]), Some(0));
+    expect_entry(&rt, raw.look(Page(3 << 18)), Entry::Annotated(Owner(2)));
+    let raw = poke(raw, &[3], 0x6003)?;
+    expect_entry(&rt, raw.look(Page((3 << 18) + 5)), Entry::Malformed);
+    expect_entry(&rt, raw.look(Page(4 << 18)), Entry::Unmapped);
+    expect_word(&rt, word_at(&raw, &[3, 0]), None);
     Ok(())
 }
 
 #[test]
 fn poked_children(rt: HostRuntime) -> Result<(), Fail> {
-    let tree = made(two_tables(rt.alloc())?.poke(&path(&[3, 5]), 0x8))?;
-    assert_eq!(rt; tree.word_at(&path(&[3])), Some(0x6003));
-    let tree = made(tree.poke(&path(&[3]), 0x6003))?;
-    assert_eq!(rt; tree.word_at(&path(&[3, 5])), Some(8));
-    let tree = made(tree.poke(&path(&[3]), 0x7003))?;
-    assert_eq!(rt; tree.word_at(&path(&[3, 5])), None);
-    assert_eq!(rt; tree.word_at(&path(&[3])), Some(0x7003));
+    let tree = poke(two_tables(rt.alloc())?, &[3, 5], 0x8)?;
+    expect_word(&rt, word_at(&tree, &[3]), Some(0x6003));
+    let tree = poke(tree, &[3], 0x6003)?;
+    expect_word(&rt, word_at(&tree, &[3, 5]), Some(8));
+    let tree = poke(tree, &[3], 0x7003)?;
+    expect_word(&rt, word_at(&tree, &[3, 5]), None);
+    expect_word(&rt, word_at(&tree, &[3]), Some(0x7003));
     Ok(())
+}
+
+/// Pokes at a path that a tree doesn't have, and gives the tree back.
+fn poke_badly(tree: RawTree<Global>, indices: &[u16]) -> Result<RawTree<Global>, Fail> {
+    match tree.poke(&path(indices), 1) {
+        Err((same, PathFault)) => Ok(same),
+        Ok(_) => Err(Fail::new("a good path")),
+    }
 }
 
 #[test]
 fn path_faults(rt: HostRuntime) -> Result<(), Fail> {
     let mut tree = two_tables(rt.alloc())?;
-    for bad in [
-        path(&[]),
-        path(&[512]),
-        path(&[4, 0]),
-        path(&[3, 512]),
-        path(&[3, 5, 0]),
-    ] {
-        match tree.poke(&bad, 1) {
-            Err((same, PathFault)) => tree = same,
-            Ok(_) => return Err(Fail::new("a good path")),
-        }
+    let paths: [&[u16]; 5] = [&[], &[512], &[4, 0], &[3, 512], &[3, 5, 0]];
+    for bad in paths {
+        tree = poke_badly(tree, bad)?;
     }
-    assert_eq!(rt; tree.word_at(&path(&[3])), Some(0x6003));
+    expect_word(&rt, word_at(&tree, &[3]), Some(0x6003));
     Ok(())
 }
