@@ -25,7 +25,6 @@ pub mod PutAt
 pub mod RoomLaws
 pub mod RunRows
 pub mod SharedRows
-pub mod Shares
 pub mod ShortRows
 pub mod Steps
 pub mod VmRows
