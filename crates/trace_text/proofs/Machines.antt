@@ -35,7 +35,7 @@ use Rattle.trace_lines.specs.declared.line.TreeName.{TreeName}
 use Rattle.trace_lines.specs.declared.line.TreeName.TheVariants.{Host, Hyp, Guest}
 use Rattle.trace_text.specs.View.{body_at, body_in, machine_of, runs_in}
 use Rattle.trace_text.specs.Worlds.{IsBootOf, HasMaplets, HasWordOn, IsWordOn, tree_told, tables_told, free_told, guest_free_told}
-use Rattle.world.specs.Boots.{IsBooted}
+use Rattle.hypercalls.specs.Booted.{IsBooted}
 use Rattle.world.specs.declared.World.{World}
 
 first_of : {P : Type 0} (Is : P → Type 0) (xs : List P) (x : P) → xs ≡ x ∷ [] → All Is xs → Is x

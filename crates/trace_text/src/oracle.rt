@@ -1,5 +1,8 @@
 //! What judges and audits the steps of a replay.
-ghost use Rattle.std.specs.Prelude.{◌≡◌, ◌≤◌, IfOk, length};
+ghost use Rattle.std.specs.Prelude.{◌≡◌, ◌≤◌, ◌↔◌, IfOk, IfSome, None, length};
+ghost use Rattle.ghost_judge.specs.Audits.{AuditAgrees, IsFirstDifference};
+ghost use Rattle.ghost_judge.specs.Judgements.{IsFirstJudged, JudgeAgrees, told_of};
+ghost use Rattle.ghost_spec.specs.States.{contents_in};
 ghost use Rattle.page_state.specs.declared.reply.Call.{Call};
 ghost use Rattle.reference_model.specs.State.{Reference};
 ghost use Rattle.trace_text.specs.Oracles.{CanCompare, IsAgreed, IsShown, audited_lines, judged_lines, verdict_lines};
@@ -66,7 +69,8 @@ pub trait Oracle {
         ensures told { IfOk result (λ v. (m : Machine) (c : Call) (t : Reference) → IsShown m c t before cpu step reply after.now walked.now → gives m c t v) };
 }
 
-/// The oracle of `replay`: it judges each step by the model, and audits what is kept by the walk. It finds no disagreement.
+/// The oracle of `replay`: it judges each step by the model, and audits what is kept by the walk. In a replay it finds no
+/// disagreement; of any other states it tells the first, of each kind, and none exactly where there is none.
 #[derive(Drop)]
 pub struct GhostOracle;
 
@@ -82,7 +86,14 @@ impl Oracle for GhostOracle {
         reply: Reply,
         after: &Ghost,
         walked: &Ghost,
-    ) -> Result<Verdict, AllocError> {
+    ) -> Result<Verdict, AllocError>
+        requires comparable { CanCompare before cpu after.now walked.now }
+        ensures told { IfOk result (λ v. (m : Machine) (c : Call) (t : Reference) → IsShown m c t before cpu step reply after.now walked.now → IsAgreed v) }
+        ensures judged { IfOk result (λ v. (v.judged ≡ None) ↔ JudgeAgrees (contents_in before) step reply (contents_in after.now) (told_of before cpu step)) }
+        ensures first_judged { IfOk result (λ v. IfSome v.judged (IsFirstJudged (contents_in before) step reply (contents_in after.now) (told_of before cpu step))) }
+        ensures audited { IfOk result (λ v. (v.audited ≡ None) ↔ AuditAgrees (contents_in after.now) (contents_in walked.now)) }
+        ensures first_audited { IfOk result (λ v. IfSome v.audited (IsFirstDifference (contents_in after.now) (contents_in walked.now))) }
+    {
         Ok(Verdict {
             judged: judge_last(global, before, cpu, step, &reply, after)?,
             audited: audit(after, walked),

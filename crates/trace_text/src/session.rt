@@ -9,7 +9,7 @@ ghost use Rattle.hypercalls.specs.Whole.{call_of, IsStep};
 ghost use Rattle.trace_text.specs.Ready.{IsReady, IsStateAt};
 ghost use Rattle.trace_text.specs.View.{answer_of, body_at, kept_runs, machine_of, standing_of};
 ghost use Rattle.trace_lines.specs.Settings.{config_of, told_of};
-ghost use Rattle.world.specs.Boots.{IsBooted};
+ghost use Rattle.hypercalls.specs.Booted.{IsBooted};
 ghost use Rattle.trace_text.specs.Worlds.{IsWordOn, free_told, guest_free_told, tables_told, tree_told};
 
 use crate::fault::Fault;

@@ -2,11 +2,13 @@
 ghost use Rattle.std.specs.Prelude.{◌≡◌, ◌<◌, ◌≤◌, ◌+◌, ◌^◌, [], ◌∷◌, IfOk, OnErr, OnOk, map};
 ghost use Rattle.trace_text.specs.Oracles.{agreed, audited_lines, judged_lines, verdict_lines};
 ghost use Rattle.trace_text.specs.Ready.{IsReady};
+ghost use Rattle.trace_text.specs.Session.{at_start};
 ghost use Rattle.std.specs.Io.KnownBytes.{Appends};
 ghost use Rattle.trace_text.specs.Failures.{CountsReads, CountsWrites, TellsWrite};
 ghost use Rattle.trace_text.specs.Replay.{IsBegun, IsReplayed, end_line, outcome_of};
 ghost use Rattle.trace_text.specs.Played.{Plays, PlaysFront, WritesFront};
 ghost use Rattle.trace_text.specs.Texts.{text_of_report};
+ghost use Rattle.trace_lines.specs.Ahead.{left};
 ghost use Rattle.trace_text.specs.View.{lines_reported, standing_of};
 
 use crate::fault::Fault;
@@ -60,30 +62,54 @@ pub fn replay_with<A: Allocator + Copy, S: Source, K: Sink, O: Oracle>(
     ensures reads { CountsReads (S.failures source.old) (S.failures source.new) result }
     ensures writes { CountsWrites (K.failures sink.old) (K.failures sink.new) result }
 {
-    let mut session = Session::new(global, alloc);
     let mut line = Vec::with_capacity(global, MOST_BYTES + 1).map_err(|_| EngineFault::NoMemory)?;
     let mut text = String::with_capacity(global, MOST_BYTES).map_err(|_| EngineFault::NoMemory)?;
     let mut ahead = ReadAhead::new(global).map_err(|_| EngineFault::NoMemory)?;
+    let mut session = Session::new(global, alloc);
+    replay_lines(
+        &mut session,
+        oracle,
+        source,
+        &mut ahead,
+        &mut line,
+        sink,
+        &mut text,
+    )
+}
+
+/// Carries out the lines of what is left of a trace. `ahead` is what was read ahead of them, `line` and `text` are room for
+/// one line of the trace and of the report.
+fn replay_lines<A: Allocator + Copy, S: Source, K: Sink, O: Oracle>(
+    session: &mut Session<A>,
+    oracle: &mut O,
+    source: &mut S,
+    ahead: &mut ReadAhead,
+    line: &mut Vec<u8>,
+    sink: &mut K,
+    text: &mut String,
+) -> Result<Outcome, EngineFault>
+    requires few_reads { S.failures source.old < 2 ^ 63 }
+    requires few_writes { K.failures sink.old < 2 ^ 63 }
+    requires start { standing_of session.old ≡ at_start }
+    requires ready { IsReady session.old }
+    ensures report { IfOk result (λ outcome. IsReplayed O.gives (left ahead.old (S.remaining source.old)) (K.contents sink.old) (K.contents sink.new) outcome) }
+    ensures begun { OnErr result (IsBegun O.gives (left ahead.old (S.remaining source.old)) (K.contents sink.old) (K.contents sink.new)) }
+    ensures reads { CountsReads (S.failures source.old) (S.failures source.new) result }
+    ensures writes { CountsWrites (K.failures sink.old) (K.failures sink.new) result }
+{
     for number in 1..MOST_LINES + 1 {
-        if !read_line(source, &mut ahead, &mut line)? {
-            return ended(&session, sink, &mut text);
+        if !read_line(source, ahead, line)? {
+            return ended(session, sink, text);
         }
-        let played = play(
-            &mut session,
-            oracle,
-            number,
-            line.as_slice(),
-            sink,
-            &mut text,
-        )?;
+        let played = play(session, oracle, number, line.as_slice(), sink, text)?;
         if let Some(outcome) = played {
             return Ok(outcome);
         }
     }
-    if read_line(source, &mut ahead, &mut line)? {
-        return faulted(sink, &mut text, MOST_LINES + 1, Fault::Lines);
+    if read_line(source, ahead, line)? {
+        return faulted(sink, text, MOST_LINES + 1, Fault::Lines);
     }
-    ended(&session, sink, &mut text)
+    ended(session, sink, text)
 }
 
 /// Carries a line out and writes what it reports, and gives the outcome where the line ends the run.

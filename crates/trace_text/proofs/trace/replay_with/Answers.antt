@@ -1,7 +1,8 @@
-use Rattle.std.proofs.Common.{rules, arith, ◌≡◌, false, true, subst, sym}
+use Rattle.std.proofs.Common.{rules, ◌≡◌, ℕ, List, Option, IfOk, OnErr, subst}
 use Rattle.trace_lines.specs.Ahead.{left}
-use Rattle.trace_text.specs.View.{standing_of}
-use Rattle.trace_text.proofs.ReplayLemmas.{SoFar, plays, faults_at, too_many, complete, mapped, on_err, when_err, begun_at_start, begun_so, begun_line, begun_past, begun_end, none_held, so_far_none}
+use Rattle.trace_lines.specs.declared.outcome.Outcome.{Outcome}
+use Rattle.trace_text.specs.Replay.{IsBegun, IsReplayed}
+use Rattle.trace_text.proofs.ReplayLemmas.{begun_at_start, none_held, on_err}
 use Rattle.trace_text.proofs.trace.replay_with.Goals as goal
 
 pub returns-in_err-line-clause-begun : goal.returns-in_err-line-clause-begun
@@ -13,102 +14,12 @@ returns-in_err-text-clause-begun g c = on_err _ (begun_at_start g.O.Oracle.gives
 pub returns-in_err-ahead-clause-begun : goal.returns-in_err-ahead-clause-begun
 returns-in_err-ahead-clause-begun g c = on_err _ (begun_at_start g.O.Oracle.gives (g.S.Source.remaining c.args.source.now) (g.K.Sink.contents c.args.sink.now))
 
-pub loop-number-init : goal.loop-number-init
-loop-number-init g c = record {
-  so_far =
-      let first = so_far_none g.O.Oracle.gives (g.S.Source.remaining c.args.source.now) (g.K.Sink.contents c.args.sink.now) in
-      let none : left c.in_ok-ahead.ahead (g.S.Source.remaining c.args.source.now) ≡ g.S.Source.remaining c.args.source.now = none_held _ _ (search rules) in
-      subst (λ l. SoFar g.O.Oracle.gives (g.S.Source.remaining c.args.source.now) l (g.K.Sink.contents c.args.sink.now) (g.K.Sink.contents c.args.sink.now) 1 (standing_of c.new-session.result)) (sym none)
-      (subst (SoFar g.O.Oracle.gives (g.S.Source.remaining c.args.source.now) (g.S.Source.remaining c.args.source.now) (g.K.Sink.contents c.args.sink.now) (g.K.Sink.contents c.args.sink.now) 1) (sym c.new-session.ensures.start) first);
-  steps = search (rules, arith);
-  ready = search rules;
-  reads = search rules;
-  writes = search rules;
-}
-
-pub returns-in_err-read_line-clause-begun : goal.returns-in_err-read_line-clause-begun
-returns-in_err-read_line-clause-begun g c = on_err _ (begun_so g.O.Oracle.gives _ _ _ _ c.loop-number.number (standing_of c.loop-number.session) c.loop-number.invariant.so_far)
-
-pub returns-then-not-branch-clause-report : goal.returns-then-not-branch-clause-report
-returns-then-not-branch-clause-report g c =
-    let none : c.in_ok-read_line.field-0 ≡ false = search rules in
-    let read = rw none at c.in_ok-read_line.ensures.ok in
-    mapped c.ended.result _ _
-    (λ outcome written. complete g.O.Oracle.gives _ (left c.loop-number.ahead (g.S.Source.remaining c.loop-number.source)) (left c.read_line.new.ahead (g.S.Source.remaining c.read_line.new.source)) _ (g.K.Sink.contents c.loop-number.sink) _ c.read_line.new.line.items c.loop-number.number (standing_of c.loop-number.session) outcome c.loop-number.invariant.so_far read written)
-    c.ended.ensures.ok
-
-pub returns-then-not-branch-clause-begun : goal.returns-then-not-branch-clause-begun
-returns-then-not-branch-clause-begun g c =
-    let none : c.in_ok-read_line.field-0 ≡ false = search rules in
-    let read = rw none at c.in_ok-read_line.ensures.ok in
-    when_err c.ended.result _ _
-    (λ front. begun_end g.O.Oracle.gives _ (left c.loop-number.ahead (g.S.Source.remaining c.loop-number.source)) (left c.read_line.new.ahead (g.S.Source.remaining c.read_line.new.source)) _ (g.K.Sink.contents c.loop-number.sink) _ c.read_line.new.line.items c.loop-number.number (standing_of c.loop-number.session) c.loop-number.invariant.so_far read front)
-    c.ended.ensures.front
-
-pub returns-in_err-played-clause-begun : goal.returns-in_err-played-clause-begun
-returns-in_err-played-clause-begun g c =
-    let some : c.in_ok-read_line.field-0 ≡ true = search rules in
-    let read = rw some at c.in_ok-read_line.ensures.ok in
-    let front = rw c.as_slice.ensures.value at c.in_err-played.ensures.front in
-    on_err _ (begun_line g.O.Oracle.gives _ (left c.loop-number.ahead (g.S.Source.remaining c.loop-number.source)) (left c.read_line.new.ahead (g.S.Source.remaining c.read_line.new.source)) _ (g.K.Sink.contents c.loop-number.sink) _ c.read_line.new.line.items c.loop-number.number (standing_of c.loop-number.session) c.loop-number.invariant.so_far read (omega arith) front)
-
-pub returns-in-Some-clause-report : goal.returns-in-Some-clause-report
-returns-in-Some-clause-report g c =
-    let some : c.in_ok-read_line.field-0 ≡ true = search rules in
-    let read = rw some at c.in_ok-read_line.ensures.ok in
-    let played = rw (c.in-Some.is, c.as_slice.ensures.value) at c.in_ok-played.ensures.played in
-    faults_at g.O.Oracle.gives _ (left c.loop-number.ahead (g.S.Source.remaining c.loop-number.source)) (left c.read_line.new.ahead (g.S.Source.remaining c.read_line.new.source)) _ (g.K.Sink.contents c.loop-number.sink) _ c.read_line.new.line.items c.loop-number.number
-    (standing_of c.loop-number.session) (standing_of c.play.new.session) c.in-Some.outcome c.loop-number.invariant.so_far read (omega arith) played
-
-pub loop-number-preserved : goal.loop-number-preserved
-loop-number-preserved g c =
-    let some : c.in_ok-read_line.field-0 ≡ true = search rules in
-    let read = rw some at c.in_ok-read_line.ensures.ok in
-    let played = rw (c.in_default.is, c.as_slice.ensures.value) at c.in_ok-played.ensures.played in
-    record {
-      so_far = plays g.O.Oracle.gives _ (left c.loop-number.ahead (g.S.Source.remaining c.loop-number.source)) (left c.read_line.new.ahead (g.S.Source.remaining c.read_line.new.source)) _ (g.K.Sink.contents c.loop-number.sink) _ c.read_line.new.line.items c.loop-number.number
-          (standing_of c.loop-number.session) (standing_of c.play.new.session) c.loop-number.invariant.so_far read (omega arith) played;
-      steps = search rules;
-      ready = search rules;
-      reads = search rules;
-      writes = search rules;
-    }
-
-pub returns-in_err-read_line-2-clause-begun : goal.returns-in_err-read_line-2-clause-begun
-returns-in_err-read_line-2-clause-begun g c = on_err _ (begun_so g.O.Oracle.gives _ _ _ _ c.loop-number.number (standing_of c.loop-number.session) c.loop-number.invariant.so_far)
-
-pub returns-then-branch-clause-report : goal.returns-then-branch-clause-report
-returns-then-branch-clause-report g c =
-    let some : c.in_ok-read_line-2.field-0 ≡ true = search rules in
-    let read = rw some at c.in_ok-read_line-2.ensures.ok in
-    let last : c.loop-number.number ≡ 1048577 = omega arith in
-    mapped c.faulted.result _ _
-    (λ outcome written. too_many g.O.Oracle.gives _ (left c.loop-number.ahead (g.S.Source.remaining c.loop-number.source)) (left c.read_line-2.new.ahead (g.S.Source.remaining c.read_line-2.new.source)) _ (g.K.Sink.contents c.loop-number.sink) _ c.read_line-2.new.line.items 1048577
-    (standing_of c.loop-number.session) outcome (rw last at c.loop-number.invariant.so_far) read (omega arith) written)
-    c.faulted.ensures.ok
-
-pub returns-then-branch-clause-begun : goal.returns-then-branch-clause-begun
-returns-then-branch-clause-begun g c =
-    let some : c.in_ok-read_line-2.field-0 ≡ true = search rules in
-    let read = rw some at c.in_ok-read_line-2.ensures.ok in
-    let last : c.loop-number.number ≡ 1048577 = omega arith in
-    when_err c.faulted.result _ _
-    (λ front. begun_past g.O.Oracle.gives _ (left c.loop-number.ahead (g.S.Source.remaining c.loop-number.source)) (left c.read_line-2.new.ahead (g.S.Source.remaining c.read_line-2.new.source)) _ (g.K.Sink.contents c.loop-number.sink) _ c.read_line-2.new.line.items 1048577
-    (standing_of c.loop-number.session) (rw last at c.loop-number.invariant.so_far) read (omega arith) front)
-    c.faulted.ensures.front
-
 pub returns-clause-report : goal.returns-clause-report
 returns-clause-report g c =
-    let none : c.in_ok-read_line-2.field-0 ≡ false = search rules in
-    let read = rw none at c.in_ok-read_line-2.ensures.ok in
-    mapped c.ended-2.result _ _
-    (λ outcome written. complete g.O.Oracle.gives _ (left c.loop-number.ahead (g.S.Source.remaining c.loop-number.source)) (left c.read_line-2.new.ahead (g.S.Source.remaining c.read_line-2.new.source)) _ (g.K.Sink.contents c.loop-number.sink) _ c.read_line-2.new.line.items c.loop-number.number (standing_of c.loop-number.session) outcome c.loop-number.invariant.so_far read written)
-    c.ended-2.ensures.ok
+    let none : left c.in_ok-ahead.ahead (g.S.Source.remaining c.args.source.now) ≡ g.S.Source.remaining c.args.source.now = none_held _ _ (search rules) in
+    subst (λ (all : Option (List ℕ)). IfOk c.replay_lines.result (λ (outcome : Outcome). IsReplayed g.O.Oracle.gives all (g.K.Sink.contents c.args.sink.now) (g.K.Sink.contents c.replay_lines.new.sink) outcome)) none c.replay_lines.ensures.report
 
 pub returns-clause-begun : goal.returns-clause-begun
 returns-clause-begun g c =
-    let none : c.in_ok-read_line-2.field-0 ≡ false = search rules in
-    let read = rw none at c.in_ok-read_line-2.ensures.ok in
-    when_err c.ended-2.result _ _
-    (λ front. begun_end g.O.Oracle.gives _ (left c.loop-number.ahead (g.S.Source.remaining c.loop-number.source)) (left c.read_line-2.new.ahead (g.S.Source.remaining c.read_line-2.new.source)) _ (g.K.Sink.contents c.loop-number.sink) _ c.read_line-2.new.line.items c.loop-number.number (standing_of c.loop-number.session) c.loop-number.invariant.so_far read front)
-    c.ended-2.ensures.front
+    let none : left c.in_ok-ahead.ahead (g.S.Source.remaining c.args.source.now) ≡ g.S.Source.remaining c.args.source.now = none_held _ _ (search rules) in
+    subst (λ (all : Option (List ℕ)). OnErr c.replay_lines.result (IsBegun g.O.Oracle.gives all (g.K.Sink.contents c.args.sink.now) (g.K.Sink.contents c.replay_lines.new.sink))) none c.replay_lines.ensures.begun

@@ -7,4 +7,8 @@ returns c = record {
     judged = c.in_ok-judge_last.ensures.none.1 (judged_well m call t _ _ _ _ _ _ shown);
     audited = c.audit.ensures.none.1 (audited_well m call t _ _ _ _ _ _ shown);
   };
+  judged = c.in_ok-judge_last.ensures.none;
+  first_judged = c.in_ok-judge_last.ensures.first;
+  audited = c.audit.ensures.none;
+  first_audited = c.audit.ensures.first;
 }

@@ -1,0 +1,105 @@
+use Rattle.std.proofs.Common.{rules, arith, ◌≡◌, false, true, refl, ap, subst, sym}
+use Rattle.trace_lines.specs.Ahead.{left}
+use Rattle.trace_text.specs.Session.{Standing}
+use Rattle.trace_text.specs.View.{standing_of}
+use Rattle.trace_text.proofs.ReplayLemmas.{SoFar, plays, faults_at, too_many, complete, mapped, on_err, when_err, begun_so, begun_line, begun_past, begun_end, so_far_none}
+use Rattle.trace_text.proofs.trace.replay_lines.Goals as goal
+
+pub loop-number-init : goal.loop-number-init
+loop-number-init g c =
+    let all = left c.args.ahead.now (g.S.Source.remaining c.args.source.now) in
+    let before = g.K.Sink.contents c.args.sink.now in
+    record {
+      so_far = subst (SoFar g.O.Oracle.gives all all before before 1) (sym c.requires.start) (so_far_none g.O.Oracle.gives all before);
+      steps = let none = ap (λ (s : Standing). s.steps) c.requires.start in omega (arith, none);
+      ready = c.requires.ready;
+      reads = refl;
+      writes = refl;
+    }
+
+pub returns-in_err-read_line-clause-begun : goal.returns-in_err-read_line-clause-begun
+returns-in_err-read_line-clause-begun g c = on_err _ (begun_so g.O.Oracle.gives _ _ _ _ c.loop-number.number (standing_of c.loop-number.session) c.loop-number.invariant.so_far)
+
+pub returns-then-not-branch-clause-report : goal.returns-then-not-branch-clause-report
+returns-then-not-branch-clause-report g c =
+    let none : c.in_ok-read_line.field-0 ≡ false = search rules in
+    let read = rw none at c.in_ok-read_line.ensures.ok in
+    mapped c.ended.result _ _
+    (λ outcome written. complete g.O.Oracle.gives _ (left c.loop-number.ahead (g.S.Source.remaining c.loop-number.source)) (left c.read_line.new.ahead (g.S.Source.remaining c.read_line.new.source)) _ (g.K.Sink.contents c.loop-number.sink) _ c.read_line.new.line.items c.loop-number.number (standing_of c.loop-number.session) outcome c.loop-number.invariant.so_far read written)
+    c.ended.ensures.ok
+
+pub returns-then-not-branch-clause-begun : goal.returns-then-not-branch-clause-begun
+returns-then-not-branch-clause-begun g c =
+    let none : c.in_ok-read_line.field-0 ≡ false = search rules in
+    let read = rw none at c.in_ok-read_line.ensures.ok in
+    when_err c.ended.result _ _
+    (λ front. begun_end g.O.Oracle.gives _ (left c.loop-number.ahead (g.S.Source.remaining c.loop-number.source)) (left c.read_line.new.ahead (g.S.Source.remaining c.read_line.new.source)) _ (g.K.Sink.contents c.loop-number.sink) _ c.read_line.new.line.items c.loop-number.number (standing_of c.loop-number.session) c.loop-number.invariant.so_far read front)
+    c.ended.ensures.front
+
+pub returns-in_err-played-clause-begun : goal.returns-in_err-played-clause-begun
+returns-in_err-played-clause-begun g c =
+    let some : c.in_ok-read_line.field-0 ≡ true = search rules in
+    let read = rw some at c.in_ok-read_line.ensures.ok in
+    let front = rw c.as_slice.ensures.value at c.in_err-played.ensures.front in
+    on_err _ (begun_line g.O.Oracle.gives _ (left c.loop-number.ahead (g.S.Source.remaining c.loop-number.source)) (left c.read_line.new.ahead (g.S.Source.remaining c.read_line.new.source)) _ (g.K.Sink.contents c.loop-number.sink) _ c.read_line.new.line.items c.loop-number.number (standing_of c.loop-number.session) c.loop-number.invariant.so_far read (omega arith) front)
+
+pub returns-in-Some-clause-report : goal.returns-in-Some-clause-report
+returns-in-Some-clause-report g c =
+    let some : c.in_ok-read_line.field-0 ≡ true = search rules in
+    let read = rw some at c.in_ok-read_line.ensures.ok in
+    let played = rw (c.in-Some.is, c.as_slice.ensures.value) at c.in_ok-played.ensures.played in
+    faults_at g.O.Oracle.gives _ (left c.loop-number.ahead (g.S.Source.remaining c.loop-number.source)) (left c.read_line.new.ahead (g.S.Source.remaining c.read_line.new.source)) _ (g.K.Sink.contents c.loop-number.sink) _ c.read_line.new.line.items c.loop-number.number
+    (standing_of c.loop-number.session) (standing_of c.play.new.session) c.in-Some.outcome c.loop-number.invariant.so_far read (omega arith) played
+
+pub loop-number-preserved : goal.loop-number-preserved
+loop-number-preserved g c =
+    let some : c.in_ok-read_line.field-0 ≡ true = search rules in
+    let read = rw some at c.in_ok-read_line.ensures.ok in
+    let played = rw (c.in_default.is, c.as_slice.ensures.value) at c.in_ok-played.ensures.played in
+    record {
+      so_far = plays g.O.Oracle.gives _ (left c.loop-number.ahead (g.S.Source.remaining c.loop-number.source)) (left c.read_line.new.ahead (g.S.Source.remaining c.read_line.new.source)) _ (g.K.Sink.contents c.loop-number.sink) _ c.read_line.new.line.items c.loop-number.number
+          (standing_of c.loop-number.session) (standing_of c.play.new.session) c.loop-number.invariant.so_far read (omega arith) played;
+      steps = search rules;
+      ready = search rules;
+      reads = search rules;
+      writes = search rules;
+    }
+
+pub returns-in_err-read_line-2-clause-begun : goal.returns-in_err-read_line-2-clause-begun
+returns-in_err-read_line-2-clause-begun g c = on_err _ (begun_so g.O.Oracle.gives _ _ _ _ c.loop-number.number (standing_of c.loop-number.session) c.loop-number.invariant.so_far)
+
+pub returns-then-branch-clause-report : goal.returns-then-branch-clause-report
+returns-then-branch-clause-report g c =
+    let some : c.in_ok-read_line-2.field-0 ≡ true = search rules in
+    let read = rw some at c.in_ok-read_line-2.ensures.ok in
+    let last : c.loop-number.number ≡ 1048577 = omega arith in
+    mapped c.faulted.result _ _
+    (λ outcome written. too_many g.O.Oracle.gives _ (left c.loop-number.ahead (g.S.Source.remaining c.loop-number.source)) (left c.read_line-2.new.ahead (g.S.Source.remaining c.read_line-2.new.source)) _ (g.K.Sink.contents c.loop-number.sink) _ c.read_line-2.new.line.items 1048577
+    (standing_of c.loop-number.session) outcome (rw last at c.loop-number.invariant.so_far) read (omega arith) written)
+    c.faulted.ensures.ok
+
+pub returns-then-branch-clause-begun : goal.returns-then-branch-clause-begun
+returns-then-branch-clause-begun g c =
+    let some : c.in_ok-read_line-2.field-0 ≡ true = search rules in
+    let read = rw some at c.in_ok-read_line-2.ensures.ok in
+    let last : c.loop-number.number ≡ 1048577 = omega arith in
+    when_err c.faulted.result _ _
+    (λ front. begun_past g.O.Oracle.gives _ (left c.loop-number.ahead (g.S.Source.remaining c.loop-number.source)) (left c.read_line-2.new.ahead (g.S.Source.remaining c.read_line-2.new.source)) _ (g.K.Sink.contents c.loop-number.sink) _ c.read_line-2.new.line.items 1048577
+    (standing_of c.loop-number.session) (rw last at c.loop-number.invariant.so_far) read (omega arith) front)
+    c.faulted.ensures.front
+
+pub returns-clause-report : goal.returns-clause-report
+returns-clause-report g c =
+    let none : c.in_ok-read_line-2.field-0 ≡ false = search rules in
+    let read = rw none at c.in_ok-read_line-2.ensures.ok in
+    mapped c.ended-2.result _ _
+    (λ outcome written. complete g.O.Oracle.gives _ (left c.loop-number.ahead (g.S.Source.remaining c.loop-number.source)) (left c.read_line-2.new.ahead (g.S.Source.remaining c.read_line-2.new.source)) _ (g.K.Sink.contents c.loop-number.sink) _ c.read_line-2.new.line.items c.loop-number.number (standing_of c.loop-number.session) outcome c.loop-number.invariant.so_far read written)
+    c.ended-2.ensures.ok
+
+pub returns-clause-begun : goal.returns-clause-begun
+returns-clause-begun g c =
+    let none : c.in_ok-read_line-2.field-0 ≡ false = search rules in
+    let read = rw none at c.in_ok-read_line-2.ensures.ok in
+    when_err c.ended-2.result _ _
+    (λ front. begun_end g.O.Oracle.gives _ (left c.loop-number.ahead (g.S.Source.remaining c.loop-number.source)) (left c.read_line-2.new.ahead (g.S.Source.remaining c.read_line-2.new.source)) _ (g.K.Sink.contents c.loop-number.sink) _ c.read_line-2.new.line.items c.loop-number.number (standing_of c.loop-number.session) c.loop-number.invariant.so_far read front)
+    c.ended-2.ensures.front
