@@ -10,7 +10,7 @@ use Rattle.part_table.specs.Answered.{FindsLogFull, StoresCall}
 use Rattle.part_table.specs.Passes.{AreFirst, IsPassOf, Opened, Pass}
 use Rattle.part_table.specs.Rule.{IsSame, Known}
 use Rattle.hypercalls.specs.declared.parts.Parts.{Parts}
-use Rattle.world.specs.Boots.{IsBooted, IsConfig, layout_for}
+use Rattle.hypercalls.specs.Booted.{IsBooted, IsConfig, layout_for}
 
 -- a machine: its table of parts, and by CPU the passes that weren't handed out
 pub record Machine : Type 0 where

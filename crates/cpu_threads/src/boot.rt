@@ -1,7 +1,8 @@
 //! Booting a machine.
 ghost use Rattle.std.specs.Prelude.{◌≡◌, IfOk, MatchResult};
 ghost use Rattle.part_table.specs.Passes.{AreFirst};
-ghost use Rattle.world.specs.Boots.{IsBooted, IsNoBoot};
+ghost use Rattle.hypercalls.specs.Booted.{IsBooted};
+ghost use Rattle.world.specs.Boots.{IsNoBoot};
 ghost use Rattle.cpu_threads.specs.Machines.{HaveBooted, IsBootedMachine};
 
 use crate::machine::Machine;

@@ -39,8 +39,9 @@ use Rattle.component.proofs.Keeps.{need_keep}
 use Rattle.page_state.specs.Geometries.{levels_below}
 use Rattle.table_tree.specs.View.{tree_of}
 use Rattle.guest_steps.specs.declared.parts.CpuState.{CpuState}
-use Rattle.guest_steps.specs.Lent.{Each, lent, one, used_in}
+use Rattle.guest_steps.specs.Lent.{Each, SharedSuits, lent, one, used_in}
 use Rattle.guest_steps.specs.View.{vm_slots, shared_of, guest_held, cpu_of}
+use Rattle.hypercalls.proofs.Singles.{by_first}
 use Rattle.hypercalls.specs.Carried.{GrowsOnly, IsLentOr, IsRoomy, LeavesGuest, LeavesShared, is_either_short, rows_told}
 
 less_none : (n : ℕ) → nat_lt n 0 ≡ false
@@ -87,6 +88,13 @@ module _ {A : Type 0} (l : Layout) (id : ℕ) (slot : Option ℕ) (h : Changes) 
 pub enough_of_none : {A : Type 0} (l : Layout) (h : Changes) (ss : List (SharedPart A)) → IsLentOr (LeavesShared h) ss → slice_get ss 0 ≡ None → false ≡ nat_lt (length (one no_shared shared_of ss).free) (shared_need l.depth h (one no_shared shared_of ss))
 enough_of_none l h [] only e = sym (ap (nat_lt 0) (no_need l h only) ∙ less_none 0)
 enough_of_none l h (s ∷ ss) only e = absurd cc
+
+-- and one that is lent is the first
+pub short_of_first : {A : Type 0} (l : Layout) (h : Changes) (ss : List (SharedPart A)) (s : SharedPart A) → slice_get ss 0 ≡ Some s → nat_lt (length (shared_of s).free) (shared_need l.depth h (shared_of s)) ≡ nat_lt (length (one no_shared shared_of ss).free) (shared_need l.depth h (one no_shared shared_of ss))
+short_of_first {A = A} l h ss s e = ap (λ (xs : List (SharedPart A)). nat_lt (length (one no_shared shared_of xs).free) (shared_need l.depth h (one no_shared shared_of xs))) (sym (by_first ss s e))
+
+pub first_suits : {A : Type 0} (l : Layout) (ss : List (SharedPart A)) (s : SharedPart A) → slice_get ss 0 ≡ Some s → Each (SharedSuits l) ss → SharedSuits l s
+first_suits l ss s e suits = (subst (Each (SharedSuits l)) (by_first ss s e) suits).0
 
 -- the VM part, where it isn't lent
 pub slots_of_none : (change : SlotChange) (vs : List VmPart) → IsLentOr (change ≡ KeepSlots) vs → (length vs ≡ 1 → ⊥) → one no_vms vm_slots vs ≡ vms_by change (one no_vms vm_slots vs)

@@ -1,5 +1,7 @@
+pub mod AtBoot
 pub mod Carried
 pub mod Lends
+pub mod Loans
 pub mod Ranges
 pub mod Singles
 pub mod Stepping

@@ -1,4 +1,6 @@
+pub mod Booted
 pub mod Carried
 pub mod Stands
 pub mod Steps
+pub mod Uses
 pub mod Whole

@@ -87,11 +87,11 @@ fn change_shared<A: Allocator + Copy>(
     ensures suits { Each (SharedSuits (layout_of layout.now)) shared.new }
     ensures log { map (λ p. p.log) shared.new ≡ map (λ p. p.log) shared.old }
 {
-    if let [part] = shared {
-        change_part(alloc, layout, id, slot, changes, part)
-    } else {
-        Ok(())
+    if shared.len() != 1 {
+        return Ok(());
     }
+    let part = &mut shared[0];
+    change_part(alloc, layout, id, slot, changes, part)
 }
 
 /// Whether the Shared part's pool has fewer free frames than the changes need; where it isn't lent, they need none.

@@ -152,9 +152,11 @@ fn store_shared<A: Allocator>(shared: &mut [SharedPart<A>], call: Call)
     ensures depth { map depth_of shared.new ≡ map depth_of shared.old }
     ensures log { map (λ p. p.log) shared.new ≡ map (with_call call) (map (λ p. p.log) shared.old) }
 {
-    if let [part] = shared {
-        part.log.store(call);
+    if shared.len() != 1 {
+        return;
     }
+    let part = &mut shared[0];
+    part.log.store(call);
 }
 
 /// Stores a call in the Guest part's log, where it is lent.

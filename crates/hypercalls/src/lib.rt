@@ -14,4 +14,4 @@ pub use carry::carry_out;
 pub use lent::{guest_slot, step_on};
 pub use pages::{hyp_page, leaf};
 pub use parts::Parts;
-pub use uses::{uses_shared, uses_vms};
+pub use uses::{Uses, parts_used, uses_shared, uses_vms};

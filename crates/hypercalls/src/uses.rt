@@ -1,8 +1,12 @@
 //! Which parts a step uses.
 ghost use Rattle.std.specs.Prelude.{◌≡◌, ◌<◌, ◌≤◌, Some};
+ghost use Rattle.guest_steps.specs.View.{cpu_of};
 ghost use Rattle.hypercalls.specs.Stands.{one_where as count_where, from_of, to_of};
-ghost use Rattle.reference_model.specs.Parts.{names, uses_shared as uses_shared_part, uses_vms as uses_vm_part};
+ghost use Rattle.hypercalls.specs.Uses.{parts_of};
+ghost use Rattle.reference_model.specs.Parts.{guest_slot as guest_slot_of, names, uses_shared as uses_shared_part, uses_vms as uses_vm_part};
 
+use crate::lent::guest_slot;
+use guest_steps::CpuState;
 use page_state::Step;
 
 /// Whether a step uses the VM part.
@@ -42,6 +46,38 @@ pub fn uses_shared(step: Step, slot: Option<u64>) -> bool
         | Step::ReclaimPool { .. }
         | Step::FinishGuest => slot.is_some(),
         _ => false,
+    }
+}
+
+/// The parts that a step uses beside its CPU's own state: none, one of them, or the Shared part and the Guest part of a
+/// slot. Guests are told by slot.
+#[derive(Clone, Copy)]
+pub enum Uses {
+    Nothing,
+    Vms,
+    Shared,
+    Guest(u64),
+    Both(u64),
+}
+
+/// The parts that a step of a CPU uses, found from the CPU's own state and the step alone.
+pub fn parts_used(cpu: &CpuState, step: &Step) -> Uses
+    ensures { result ≡ parts_of (names step.now) (guest_slot_of (cpu_of cpu.now) step.now) }
+{
+    let slot = guest_slot(cpu, *step);
+    if uses_vms(*step) {
+        return Uses::Vms;
+    }
+    let shared = uses_shared(*step, slot);
+    match slot {
+        Some(v) => {
+            if shared {
+                Uses::Both(v)
+            } else {
+                Uses::Guest(v)
+            }
+        }
+        None => { if shared { Uses::Shared } else { Uses::Nothing } }
     }
 }
 

@@ -10,8 +10,8 @@ use Rattle.reference_model.specs.Used.{used_of}
 use Rattle.reference_model.proofs.Rely.{reached_relies}
 use Rattle.guest_steps.specs.declared.parts.CpuState.{CpuState}
 use Rattle.guest_steps.specs.View.{cpu_of}
-use Rattle.world.specs.declared.uses.Uses.TheVariants.{Guest, Both}
-use Rattle.world.specs.Uses.{parts_of, or_vms, by_slot}
+use Rattle.hypercalls.specs.declared.uses.Uses.TheVariants.{Guest, Both}
+use Rattle.hypercalls.specs.Uses.{parts_of, or_vms, by_slot}
 use Rattle.part_table.specs.Does.{IsLeft, none_at}
 
 guest_found : (b s : Bool) (slot : Option ℕ) (v : ℕ) → or_vms b (by_slot s slot) ≡ Guest v → slot ≡ Some v

@@ -14,7 +14,7 @@ use Rattle.guest_steps.specs.declared.parts.GuestPart.{GuestPart}
 use Rattle.guest_steps.specs.declared.parts.CpuState.{CpuState}
 use Rattle.guest_steps.specs.Lent.{IsLent, lent}
 use Rattle.guest_steps.specs.View.{cpu_of}
-use Rattle.world.specs.Uses.{or_vms, by_slot, parts_of}
+use Rattle.hypercalls.specs.Uses.{or_vms, by_slot, parts_of}
 use Rattle.part_table.specs.declared.slot.Slot.{Slot}
 use Rattle.part_table.specs.declared.slot.Slot.TheVariants.{Vm as VmSlot, Shared as SharedSlot, Guest as GuestSlot}
 use Rattle.part_table.specs.Does.{Does, IsLeft, none_at, only_at, both_at}

@@ -17,7 +17,7 @@ use Rattle.guest_steps.specs.Lent.{Lent, IsLent, Suits, lent, used_in, logs_in, 
 use Rattle.guest_steps.specs.View.{cpu_of}
 use Rattle.hypercalls.specs.Steps.{IsStepOn, any_full}
 use Rattle.hypercalls.proofs.Singles.{single}
-use Rattle.world.specs.Uses.{parts_of}
+use Rattle.hypercalls.specs.Uses.{parts_of}
 use Rattle.part_table.specs.declared.slot.Slot.{Slot}
 use Rattle.part_table.specs.declared.slot.Slot.TheVariants.{Vm as VmSlot, Shared as SharedSlot, Guest as GuestSlot}
 use Rattle.part_table.specs.Does.{Does, IsLeft, none_at, only_at, both_at}

@@ -17,8 +17,8 @@ use Rattle.guest_steps.specs.View.{vm_slots, shared_of, guest_held, cpu_of}
 use Rattle.hypercalls.specs.declared.parts.Parts.{Parts}
 use Rattle.hypercalls.specs.Stands.{at_place, parts_layout, state_of}
 use Rattle.hypercalls.proofs.Lends.{each_all, shared_suits, guest_suits}
-use Rattle.world.specs.Boots.{IsBooted}
-use Rattle.world.proofs.AtBoot.{ready}
+use Rattle.hypercalls.specs.Booted.{IsBooted}
+use Rattle.hypercalls.proofs.AtBoot.{ready}
 use Rattle.part_table.specs.declared.slot.Slot.{Slot}
 use Rattle.part_table.specs.declared.slot.Slot.TheVariants.{Vm as VmSlot, Shared as SharedSlot, Guest as GuestSlot}
 use Rattle.part_table.specs.Endings.{IsRow}

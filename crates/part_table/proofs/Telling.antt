@@ -22,7 +22,7 @@ use Rattle.page_state.specs.declared.reply.Reply.TheVariants.{Refused}
 use Rattle.page_state.specs.declared.step.Step.{Step}
 use Rattle.reference_model.specs.Parts.{guest_slot, names}
 use Rattle.guest_steps.specs.View.{cpu_of}
-use Rattle.world.specs.Uses.{parts_of}
+use Rattle.hypercalls.specs.Uses.{parts_of}
 use Rattle.part_table.specs.Parts.{in_order, uses, log_of, IsPart, IsOwn}
 use Rattle.part_table.specs.Does.{Does, IsLeft, none_at}
 use Rattle.part_table.specs.Rule.{Hands, held_at, seen_at, seen_with, StartsWith, taking, missing, letting, storing, IsSame, Adds, Extends, Known, known_of, Standing, AtRest}

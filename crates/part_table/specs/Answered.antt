@@ -5,7 +5,7 @@ use Rattle.page_state.specs.declared.reply.Reply.{Reply}
 use Rattle.page_state.specs.declared.step.Step.{Step}
 use Rattle.reference_model.specs.Parts.{guest_slot, names}
 use Rattle.guest_steps.specs.View.{cpu_of}
-use Rattle.world.specs.Uses.{parts_of}
+use Rattle.hypercalls.specs.Uses.{parts_of}
 use Rattle.part_table.specs.declared.tries.Tried.{Tried}
 use Rattle.part_table.specs.declared.tries.Tried.TheVariants.{Stored, Contended, LogFull}
 use Rattle.part_table.specs.Parts.{in_order}

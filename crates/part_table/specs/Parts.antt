@@ -11,8 +11,8 @@ use Rattle.guest_steps.specs.declared.parts.CpuState.{CpuState}
 use Rattle.guest_steps.specs.Lent.{SharedSuits, GuestSuits}
 use Rattle.guest_steps.specs.Logs.{StoredCalls, IsOfSize}
 use Rattle.guest_steps.specs.View.{vm_slots, shared_of, guest_held, cpu_of}
-use Rattle.world.specs.declared.uses.Uses.{Uses}
-use Rattle.world.specs.declared.uses.Uses.TheVariants.{Nothing, Vms, Shared, Guest, Both}
+use Rattle.hypercalls.specs.declared.uses.Uses.{Uses}
+use Rattle.hypercalls.specs.declared.uses.Uses.TheVariants.{Nothing, Vms, Shared, Guest, Both}
 use Rattle.part_table.specs.declared.slot.Slot.{Slot}
 use Rattle.part_table.specs.declared.slot.Slot.TheVariants.{Vm as VmSlot, Shared as SharedSlot, Guest as GuestSlot}
 

@@ -11,7 +11,7 @@ use Rattle.part_table.specs.declared.slot.Slot.{Slot}
 use Rattle.part_table.specs.declared.slot.Slot.TheVariants.{Vm as VmSlot, Shared as SharedSlot, Guest as GuestSlot}
 use Rattle.part_table.specs.Endings.{IsRow}
 use Rattle.part_table.specs.Rule.{own_at_boot}
-use Rattle.world.specs.Boots.{IsBooted}
+use Rattle.hypercalls.specs.Booted.{IsBooted}
 
 module _ {A : Type 0} where
   -- the parts by number, each in its slot

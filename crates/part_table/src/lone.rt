@@ -9,7 +9,7 @@ ghost use Rattle.part_table.specs.Does.{both_at, Does, IsCalled, IsLeft, none_at
 ghost use Rattle.part_table.specs.Parts.{in_order, log_of};
 ghost use Rattle.reference_model.specs.Parts.{guest_slot as guest_slot_of, names};
 ghost use Rattle.reference_model.specs.Rely.{IsReached};
-ghost use Rattle.world.specs.Uses.{parts_of};
+ghost use Rattle.hypercalls.specs.Uses.{parts_of};
 
 use crate::bench::{Bench, lay, lift};
 use crate::slot::Slot;

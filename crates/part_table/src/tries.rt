@@ -2,7 +2,7 @@
 ghost use Rattle.std.specs.Prelude.{◌≡◌, ◌≢◌, ◌+◌, ◌<◌, ◌∷◌, [], true};
 ghost use Rattle.guest_steps.specs.View.{cpu_of};
 ghost use Rattle.reference_model.specs.Parts.{guest_slot, names};
-ghost use Rattle.world.specs.Uses.{parts_of};
+ghost use Rattle.hypercalls.specs.Uses.{parts_of};
 ghost use Rattle.part_table.specs.Parts.{in_order, parts};
 ghost use Rattle.part_table.specs.Rule.{AtRest, IsIdle, known_of};
 ghost use Rattle.part_table.specs.Tried.{Tells};
@@ -12,9 +12,9 @@ use crate::lone::{alone, both, idle};
 use crate::slot::Slot;
 use crate::table::{Place, Shelf, commit, commit_first, enter, let_home, put_back, take};
 use guest_steps::CpuState;
+use hypercalls::{Uses, parts_used};
 use page_state::{Call, Layout, Refusal, Reply, Step};
 use std::alloc::Allocator;
-use world::{Uses, parts_used};
 
 /// What is called in the middle of a call, with the CPU and its number of the call.
 pub trait Gate {

@@ -27,7 +27,8 @@ use Rattle.guest_steps.specs.View.{vm_slots, shared_of, guest_held, cpu_of}
 use Rattle.hypercalls.specs.declared.parts.Parts.{Parts}
 use Rattle.hypercalls.specs.Stands.{at_place, parts_layout, kept_of}
 use Rattle.page_state.proofs.Cases.{by_test}
-use Rattle.world.specs.Boots.{IsConfig, IsIdle, IsVacant, HasNoCalls, IsBooted, IsNoBoot, layout_for}
+use Rattle.hypercalls.specs.Booted.{IsConfig, HasNoCalls, IsBooted, layout_for}
+use Rattle.world.specs.Boots.{IsIdle, IsVacant, IsNoBoot}
 
 -- the depth of a known geometry is that of its width
 width : (bits : ℕ) (g : Geometry) → geometry_of bits ≡ Some g → bits ≡ 12 + 9 * (levels_below g + 1)

@@ -34,7 +34,8 @@ use Rattle.hyp_pool.specs.declared.PoolFault.{PoolFault}
 use Rattle.hyp_pool.specs.declared.PoolFault.TheVariants as pools
 use Rattle.world.specs.declared.boot.BootFault.{BootFault}
 use Rattle.world.specs.declared.boot.BootFault.TheVariants.{NoMemory}
-use Rattle.world.specs.Boots.{fault_of_pool, layout_for, new_shared_of}
+use Rattle.hypercalls.specs.Booted.{layout_for}
+use Rattle.world.specs.Boots.{fault_of_pool, new_shared_of}
 use Rattle.hyp_pool.proofs.Order.{length-frames_from}
 use Rattle.table_tree.specs.declared.tree.Tree.{Tree as TableTree}
 use Rattle.page_state.specs.Geometries.{levels_below}

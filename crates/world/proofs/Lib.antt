@@ -1,4 +1,3 @@
-pub mod AtBoot
 pub mod Booted
 pub mod Boots
 pub mod Runs

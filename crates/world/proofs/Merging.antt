@@ -209,6 +209,10 @@ module _ (h : Histories) (g : Places) where
   pub first_by : (cpu place : ℕ) (v : Vec Call Global) (o : Option Call) → slice_get h.cpus.items cpu ≡ Some v → slice_index g.cpus.items cpu ≡ place → slice_get v.items place ≡ o → first_of (left h g (by cpu)) ≡ o
   first_by cpu place v o e f q = (λ i. first_of (drop (f i) (log_here h.cpus.items cpu v e i))) ∙ (first_drop v.items place ∙ q)
 
+  -- the same, as it is read
+  pub first_read : (cpu place : ℕ) (v : Vec Call Global) (read : List Call) → cpu < length h.cpus.items → v ≡ slice_index_or h.cpus.items cpu v → cpu < length g.cpus.items → place ≡ slice_index_or g.cpus.items cpu place → read ≡ v.items → (o : Option Call) → slice_get read place ≡ o → first_of (left h g (by cpu)) ≡ o
+  first_read cpu place v read inside log fits placed is o got = first_by cpu place v o (get_of h.cpus.items cpu v inside log) (index_of g.cpus.items cpu place fits placed) (subst (λ xs. slice_get xs place ≡ o) is got)
+
   -- what is next of a CPU is that call
   pub next_first : (cpu : ℕ) (c : Call) → c.cpu ≡ cpu → IsNext (left h g) c → first_of (left h g (by cpu)) ≡ Some c
   next_first cpu c e next = subst (λ k. first_of (left h g (by k)) ≡ Some c) e (next (by c.cpu) (eq-self c.cpu))

@@ -15,7 +15,7 @@ use Rattle.guest_steps.specs.Lent.{Each}
 use Rattle.hypercalls.specs.declared.parts.Parts.{Parts}
 use Rattle.hypercalls.specs.Stands.{parts_layout, state_of}
 use Rattle.world.specs.Laws.{Goes, StepsRun, StepsSound, StepsRows, StepsAgree, StepsIsolate, StepsKeepOut, Agrees, GuestAgrees, AllAgree}
-use Rattle.world.proofs.AtBoot.{ready}
+use Rattle.hypercalls.proofs.AtBoot.{ready}
 
 module _ {A : Type 0} where
   -- from the state that the parts stand for

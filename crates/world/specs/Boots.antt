@@ -1,12 +1,10 @@
--- Booting: which configurations are accepted, when a boot fails, and what a booted world has.
-use Rattle.std.specs.Prelude.{◌≡◌, ℕ, ◌+◌, [], Some, drop}
+-- Booting: when a boot fails, and what the parts of a booted world are made of.
+use Rattle.std.specs.Prelude.{◌≡◌, ℕ, ◌+◌, drop}
 use Rattle.page_state.specs.declared.layout.Config.{Config}
 use Rattle.page_state.specs.declared.layout.Geometry.{Geometry}
-use Rattle.reference_model.specs.Boot.{boot, IsCarveEnough}
+use Rattle.reference_model.specs.Boot.{IsCarveEnough}
 use Rattle.page_state.specs.Accepted.{IsAcceptedConfig}
-use Rattle.page_state.specs.Geometries.{geometry_of, levels_below}
-use Rattle.page_state.specs.LayoutFaults.{IsAccepted}
-use Rattle.page_state.specs.Layouts.{Layout, HasItsDepth}
+use Rattle.page_state.specs.Geometries.{levels_below}
 use Rattle.page_state.specs.Regions.{Memory}
 use Rattle.page_state.specs.Trees.{frames_from, root_tree}
 use Rattle.hyp_pool.specs.declared.PoolFault.{PoolFault}
@@ -19,8 +17,7 @@ use Rattle.guest_steps.specs.declared.parts.CpuState.{CpuState}
 use Rattle.guest_steps.specs.declared.parts.GuestPart.{GuestPart}
 use Rattle.guest_steps.specs.Logs.{IsNewLog}
 use Rattle.guest_steps.specs.View.{cpu_of, guest_held}
-use Rattle.hypercalls.specs.declared.parts.Parts.{Parts}
-use Rattle.hypercalls.specs.Stands.{parts_layout, kept_of, state_of}
+use Rattle.hypercalls.specs.Booted.{IsConfig, layout_for}
 
 -- the number of a fault in a report (profile)
 abbrev pub boot_number : BootFault → ℕ
@@ -32,15 +29,6 @@ boot_number NoMemory = 3
 abbrev pub fault_of_pool : PoolFault → BootFault
 fault_of_pool pools.NoPool = CarveSmall
 fault_of_pool pools.NoMemory = NoMemory
-
--- an accepted configuration, of trees of this geometry
-pub record IsConfig (c : Config) (g : Geometry) : Type 0 where
-  pub accepted : IsAcceptedConfig c
-  pub geometry : geometry_of c.geometry ≡ Some g
-
--- the reference layout of memory, a configuration and its geometry
-abbrev pub layout_for : Memory → Config → Geometry → Layout
-layout_for m c g = record { memory = m; config = c; depth = levels_below g }
 
 -- the Shared part of two roots alone, which take the lowest two frames of the carve-out
 abbrev pub new_shared_of : Memory → Geometry → Shared
@@ -67,21 +55,3 @@ pub record IsVacant {A : Type 0} (g : Geometry) (calls : ℕ) (p : GuestPart A) 
   pub empty : guest_held p ≡ no_guest
   pub depth : guest_depth p.guest ≡ levels_below g
   pub log : IsNewLog calls p.log
-
--- all logs are empty
-pub record HasNoCalls {A : Type 0} (p : Parts A) : Type 0 where
-  pub vms : (kept_of p).vms.1 ≡ []
-  pub shared : (kept_of p).shared.1 ≡ []
-  pub guests : (v : ℕ) → ((kept_of p).guest v).1 ≡ []
-  pub cpus : (cpu : ℕ) → ((kept_of p).cpu cpu).1 ≡ []
-
--- the parts of a world that has booted, where no test failed: they stand for the boot state, and all logs are empty
-pub record IsBooted {A : Type 0} (m : Memory) (c : Config) (p : Parts A) : Type 0 where
-  pub geometry : Geometry
-  pub memory : IsAccepted m
-  pub accepted : IsConfig c geometry
-  pub enough : IsCarveEnough (layout_for m c geometry)
-  pub layout : parts_layout p ≡ layout_for m c geometry
-  pub depth : HasItsDepth (parts_layout p)
-  pub stands : boot (parts_layout p) ≡ state_of p
-  pub no_calls : HasNoCalls p

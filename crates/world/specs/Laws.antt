@@ -18,7 +18,7 @@ use Rattle.hypercalls.specs.declared.parts.Parts.{Parts}
 use Rattle.hypercalls.specs.Stands.{parts_layout, state_of}
 use Rattle.hypercalls.specs.Whole.{call_of, IsStep}
 use Rattle.table_tree.specs.View.{meaning}
-use Rattle.world.specs.Boots.{IsBooted}
+use Rattle.hypercalls.specs.Booted.{IsBooted}
 
 -- parts go on to others by a step of one of their CPUs, and this is its call, which holds the reply
 pub record Goes {A : Type 0} (p : Parts A) (c : Call) (q : Parts A) : Type 0 where

@@ -15,7 +15,8 @@ ghost use Rattle.page_state.specs.EntryTests.{leaf as leaf_of, annotation};
 ghost use Rattle.page_state.specs.Layouts.{hyp_page as hyp_page_of};
 ghost use Rattle.page_state.specs.Regions.{end_of};
 ghost use Rattle.page_state.specs.Geometries.{levels_below};
-ghost use Rattle.world.specs.Boots.{IsBooted, IsConfig, IsIdle, IsNoBoot, IsVacant, boot_number, layout_for, new_shared_of};
+ghost use Rattle.hypercalls.specs.Booted.{IsBooted, IsConfig, layout_for};
+ghost use Rattle.world.specs.Boots.{IsIdle, IsNoBoot, IsVacant, boot_number, new_shared_of};
 ghost use Rattle.table_tree.specs.View.{tree_of};
 
 use component::Component;

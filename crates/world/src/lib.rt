@@ -4,7 +4,8 @@
 ghost use Rattle.std.specs.Prelude.{◌≡◌, ◌<◌, All, IfOk, OnErr, MatchResult, length};
 ghost use Rattle.hypercalls.specs.Stands.{HasHistory};
 ghost use Rattle.hypercalls.specs.Whole.{IsStep};
-ghost use Rattle.world.specs.Boots.{IsBooted, IsNoBoot};
+ghost use Rattle.hypercalls.specs.Booted.{IsBooted};
+ghost use Rattle.world.specs.Boots.{IsNoBoot};
 ghost use Rattle.world.specs.Headline.{Headline};
 
 mod boot;
@@ -13,7 +14,6 @@ pub mod laws;
 mod merge;
 mod raw;
 mod same;
-mod uses;
 
 use arrayvec::ArrayVec;
 pub use boot::BootFault;
@@ -29,7 +29,6 @@ use page_state::{Config, Geometry, MemoryMap, Reply, Step};
 pub use raw::RawWorld;
 use std::alloc::{AllocError, Allocator, Global};
 use table_tree::PathFault;
-pub use uses::{Uses, parts_used};
 
 /// A booted world, which stands at the end of one legal history. `A` is where the tables of all trees lie.
 #[derive(Drop)]

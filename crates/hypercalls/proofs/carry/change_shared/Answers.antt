@@ -1,36 +1,63 @@
-use Rattle.std.proofs.Common.{◌≡◌, ◌<◌, ◌↔◌, List, length, Err, sym, subst, arith}
+use Rattle.std.proofs.Common.{◌≡◌, ◌<◌, ◌↔◌, List, [], ◌∷◌, length, map, Err, OnErr, OnOk, ap, subst}
 use Rattle.hyp_pool.specs.declared.PoolFault.TheVariants.{NoPool, NoMemory}
-use Rattle.page_state.specs.Geometries.{levels_below}
 use Rattle.guest_steps.specs.declared.parts.SharedPart.{SharedPart}
-use Rattle.guest_steps.specs.Lent.{Each, one}
+use Rattle.guest_steps.specs.Lent.{Each, SharedSuits, one}
+use Rattle.guest_steps.specs.Logs.{StoredCalls}
 use Rattle.guest_steps.specs.View.{shared_of}
 use Rattle.page_state.specs.LayoutView.{layout_of}
 use Rattle.reference_model.specs.State.{no_shared}
-use Rattle.reference_model.specs.Step.{shared_need}
-use Rattle.hypercalls.specs.Carried.{IsRoomy}
+use Rattle.reference_model.specs.Step.{shared_after, shared_need}
+use Rattle.hypercalls.specs.Carried.{IsRoomy, rows_told}
 use Rattle.hypercalls.proofs.Carried.{made_of_none, short_of_none}
-use Rattle.hypercalls.proofs.Singles.{single}
+use Rattle.hypercalls.proofs.Singles.{on_singles, single, set_single}
 use Rattle.hypercalls.proofs.carry.change_shared.Goals as goal
 
-pub returns-in-len1-clause-no_pool : goal.returns-in-len1-clause-no_pool
-returns-in-len1-clause-no_pool g c =
-    let d = levels_below c.args.layout.now.geometry in
+pub returns-then-shared-ne1-clause-made : goal.returns-then-shared-ne1-clause-made
+returns-then-shared-ne1-clause-made g c = made_of_none (layout_of c.args.layout.now) c.args.id c.args.slot c.args.changes.now c.args.shared.now c.requires.lent c.if-shared-ne1.true
+
+pub returns-then-shared-ne1-clause-no_pool : goal.returns-then-shared-ne1-clause-no_pool
+returns-then-shared-ne1-clause-no_pool g c = short_of_none (layout_of c.args.layout.now) c.args.id c.args.slot c.args.changes.now c.args.shared.now c.requires.lent c.if-shared-ne1.true
+
+pub change_part-requires-clause-suits : goal.change_part-requires-clause-suits
+change_part-requires-clause-suits g c = (subst (Each (SharedSuits (layout_of c.args.layout.now))) (single c.args.shared.now c.index-shared-0.result c.if-shared-ne1.false) c.requires.suits).0
+
+pub returns-clause-made : goal.returns-clause-made
+returns-clause-made g c =
+    let l = layout_of c.args.layout.now in
     let h = c.args.changes.now in
-    subst (λ (ss : List (SharedPart _)). (c.change_part.result ≡ Err NoPool) ↔ (length (one no_shared shared_of ss).free < shared_need d h (one no_shared shared_of ss))) (sym (single c.args.shared.now _ (omega (arith, c.in-len1.len_at_least, c.in-len1.len_below)))) c.change_part.ensures.no_pool
+    let xs = c.args.shared.now in
+    on_singles (single xs c.index-shared-0.result c.if-shared-ne1.false) (set_single xs c.change_part.new.shared c.if-shared-ne1.false)
+    (λ (olds news : List (SharedPart _)). OnOk c.change_part.result (one no_shared shared_of news ≡ rows_told l c.args.id c.args.slot h (shared_after l.depth h (one no_shared shared_of olds)))) c.change_part.ensures.made
 
-pub returns-in-len1-clause-no_memory : goal.returns-in-len1-clause-no_memory
-returns-in-len1-clause-no_memory g c =
+pub returns-clause-no_pool : goal.returns-clause-no_pool
+returns-clause-no_pool g c =
+    let d = (layout_of c.args.layout.now).depth in
     let h = c.args.changes.now in
-    subst (λ (ss : List (SharedPart _)). c.change_part.result ≡ Err NoMemory → Each (IsRoomy h) ss → ⊥) (sym (single c.args.shared.now _ (omega (arith, c.in-len1.len_at_least, c.in-len1.len_below)))) (λ e roomy. c.change_part.ensures.no_memory e roomy.0)
+    let xs = c.args.shared.now in
+    on_singles (single xs c.index-shared-0.result c.if-shared-ne1.false) (set_single xs c.change_part.new.shared c.if-shared-ne1.false)
+    (λ (olds news : List (SharedPart _)). (c.change_part.result ≡ Err NoPool) ↔ (length (one no_shared shared_of olds).free < shared_need d h (one no_shared shared_of olds))) c.change_part.ensures.no_pool
 
-pub returns-in_default-clause-made : goal.returns-in_default-clause-made
-returns-in_default-clause-made g c = made_of_none (layout_of c.args.layout.now) c.args.id c.args.slot c.args.changes.now c.args.shared.now c.requires.lent (λ e. omega (arith, e, c.in_default.len_below))
+pub returns-clause-no_memory : goal.returns-clause-no_memory
+returns-clause-no_memory g c =
+    let h = c.args.changes.now in
+    let xs = c.args.shared.now in
+    on_singles (single xs c.index-shared-0.result c.if-shared-ne1.false) (set_single xs c.change_part.new.shared c.if-shared-ne1.false)
+    (λ (olds news : List (SharedPart _)). c.change_part.result ≡ Err NoMemory → Each (IsRoomy h) olds → ⊥) (λ e roomy. c.change_part.ensures.no_memory e roomy.0)
 
-pub returns-in_default-clause-no_pool : goal.returns-in_default-clause-no_pool
-returns-in_default-clause-no_pool g c = short_of_none (layout_of c.args.layout.now) c.args.id c.args.slot c.args.changes.now c.args.shared.now c.requires.lent (λ e. omega (arith, e, c.in_default.len_below))
+pub returns-clause-err : goal.returns-clause-err
+returns-clause-err g c =
+    let xs = c.args.shared.now in
+    on_singles (single xs c.index-shared-0.result c.if-shared-ne1.false) (set_single xs c.change_part.new.shared c.if-shared-ne1.false)
+    (λ (olds news : List (SharedPart _)). OnErr c.change_part.result (one no_shared shared_of news ≡ one no_shared shared_of olds)) c.change_part.ensures.err
 
-pub returns-in_default-2-clause-made : goal.returns-in_default-2-clause-made
-returns-in_default-2-clause-made g c = made_of_none (layout_of c.args.layout.now) c.args.id c.args.slot c.args.changes.now c.args.shared.now c.requires.lent (λ e. omega (arith, e, c.in_default.len_at_least))
+pub returns-clause-suits : goal.returns-clause-suits
+returns-clause-suits g c =
+    let xs = c.args.shared.now in
+    on_singles (single xs c.index-shared-0.result c.if-shared-ne1.false) (set_single xs c.change_part.new.shared c.if-shared-ne1.false)
+    (λ (olds news : List (SharedPart _)). Each (SharedSuits (layout_of c.args.layout.now)) news) (c.change_part.ensures.suits, tt)
 
-pub returns-in_default-2-clause-no_pool : goal.returns-in_default-2-clause-no_pool
-returns-in_default-2-clause-no_pool g c = short_of_none (layout_of c.args.layout.now) c.args.id c.args.slot c.args.changes.now c.args.shared.now c.requires.lent (λ e. omega (arith, e, c.in_default.len_at_least))
+pub returns-clause-log : goal.returns-clause-log
+returns-clause-log g c =
+    let xs = c.args.shared.now in
+    on_singles (single xs c.index-shared-0.result c.if-shared-ne1.false) (set_single xs c.change_part.new.shared c.if-shared-ne1.false)
+    (λ (olds news : List (SharedPart _)). map (λ (p : SharedPart _). p.log) news ≡ map (λ (p : SharedPart _). p.log) olds) (ap (λ (x : StoredCalls). x ∷ []) c.change_part.ensures.log)

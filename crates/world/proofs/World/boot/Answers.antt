@@ -1,4 +1,4 @@
-use Rattle.world.proofs.AtBoot.{at_boot}
+use Rattle.hypercalls.proofs.AtBoot.{at_boot}
 use Rattle.world.proofs.World.boot.Goals as goal
 
 pub invariant_of-result : goal.invariant_of-result

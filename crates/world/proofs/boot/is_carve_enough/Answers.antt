@@ -7,7 +7,7 @@ use Rattle.page_state.specs.EntryTests.{annotation, leaf}
 use Rattle.page_state.specs.Layouts.{Layout, hyp_page}
 use Rattle.page_state.specs.Tables.{need, put}
 use Rattle.reference_model.specs.declared.changes.MapChange.{MapChange}
-use Rattle.world.specs.Boots.{layout_for}
+use Rattle.hypercalls.specs.Booted.{layout_for}
 use Rattle.reference_model.specs.Changes.{edit_of}
 use Rattle.world.proofs.boot.is_carve_enough.Goals as goal
 

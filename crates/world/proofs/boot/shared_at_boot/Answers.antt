@@ -6,7 +6,7 @@ use Rattle.reference_model.specs.Boot.{boot_shared, pool_row}
 use Rattle.reference_model.specs.Changes.{no_changes}
 use Rattle.reference_model.specs.Step.{shared_after}
 use Rattle.guest_steps.specs.View.{shared_of, depth_of, rows_given}
-use Rattle.world.specs.Boots.{layout_for}
+use Rattle.hypercalls.specs.Booted.{layout_for}
 use Rattle.world.proofs.Boots.{enough_at, after_is, rows_are, told, known_rows, host_edit_is, hyp_edit_is}
 use Rattle.world.proofs.boot.shared_at_boot.Goals as goal
 

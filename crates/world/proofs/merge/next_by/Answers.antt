@@ -1,23 +1,19 @@
-use Rattle.std.proofs.Common.{rules, ◌≡◌, ◌≢◌, ◌<◌, ◌∙◌, true, length, sym, ap, subst, ◌≤◌}
-use Rattle.std.specs.Prelude.{Some, None, slice_get, slice_index, List}
+use Rattle.std.proofs.Common.{rules, ◌≡◌, ◌≢◌, ◌<◌, ◌≤◌, true, length, sym, ap, ◌∙◌}
+use Rattle.std.specs.Prelude.{Some, None, slice_get, List}
 use Rattle.std.proofs.lemmas.Option.{slice_get_past}
 use Rattle.page_state.specs.declared.reply.Call.{Call}
 use Rattle.reference_model.specs.Parts.{Part, call_uses}
 use Rattle.world.specs.inner.Merging.{by, first_of, left, on}
-use Rattle.world.proofs.Merging.{first_by, get_of, index_of, next_first, next_made, next_same}
+use Rattle.world.proofs.Merging.{first_read, get_of, next_first, next_made, next_same}
 use Rattle.world.proofs.merge.next_by.Goals as goal
 
 pub returns-in_default-clause-none : goal.returns-in_default-clause-none
 returns-in_default-clause-none c d e next =
     let h = c.args.histories.now in
     let g = c.args.places.now in
-    let fits : c.args.cpu < length g.cpus.items = search rules in
-    let log : slice_get h.cpus.items c.args.cpu ≡ Some c.index.result.now = get_of h.cpus.items c.args.cpu c.index.result.now c.requires.inside c.index.ensures in
-    let place : slice_index g.cpus.items c.args.cpu ≡ c.index-2.result.now = index_of g.cpus.items c.args.cpu c.index-2.result.now fits c.index-2.ensures in
     let read : List Call = c.as_slice.result.now in
     let past : length read ≤ c.index-2.result.now = search rules in
-    let got : slice_get c.index.result.now.items c.index-2.result.now ≡ None = subst (λ xs. slice_get xs c.index-2.result.now ≡ None) c.as_slice.ensures.value (slice_get_past read c.index-2.result.now past) in
-    let none : first_of (left h g (by c.args.cpu)) ≡ None = first_by h g c.args.cpu c.index-2.result.now c.index.result.now None log place got in
+    let none : first_of (left h g (by c.args.cpu)) ≡ None = first_read h g c.args.cpu c.index-2.result.now c.index.result.now read c.requires.inside c.index.ensures (search rules) c.index-2.ensures c.as_slice.ensures.value None (slice_get_past read c.index-2.result.now past) in
     let some = next_first h g c.args.cpu d e next in
     cc
 
@@ -26,13 +22,10 @@ returns-then-call-cpu-clause-none c d e next =
     let h = c.args.histories.now in
     let g = c.args.places.now in
     let call : Call = c.in-Some.call.now in
-    let fits : c.args.cpu < length g.cpus.items = search rules in
-    let log : slice_get h.cpus.items c.args.cpu ≡ Some c.index.result.now = get_of h.cpus.items c.args.cpu c.index.result.now c.requires.inside c.index.ensures in
-    let place : slice_index g.cpus.items c.args.cpu ≡ c.index-2.result.now = index_of g.cpus.items c.args.cpu c.index-2.result.now fits c.index-2.ensures in
     let read : List Call = c.as_slice.result.now in
     let below : c.index-2.result.now < length read = search rules in
-    let got : slice_get c.index.result.now.items c.index-2.result.now ≡ Some call = subst (λ xs. slice_get xs c.index-2.result.now ≡ Some call) c.as_slice.ensures.value (get_of read c.index-2.result.now call below c.in-Some.ensures.lookup.1) in
-    let same : d ≡ call = next_same h g c.args.cpu d call e next (first_by h g c.args.cpu c.index-2.result.now c.index.result.now (Some call) log place got) in
+    let first = first_read h g c.args.cpu c.index-2.result.now c.index.result.now read c.requires.inside c.index.ensures (search rules) c.index-2.ensures c.as_slice.ensures.value (Some call) (get_of read c.index-2.result.now call below c.in-Some.ensures.lookup.1) in
+    let same : d ≡ call = next_same h g c.args.cpu d call e next first in
     let other : call.cpu ≢ c.args.cpu = search rules in
     other (sym (ap (λ (x : Call). x.cpu) same) ∙ e)
 
@@ -41,27 +34,21 @@ returns-then-is_next_on_parts-clause-next c =
     let h = c.args.histories.now in
     let g = c.args.places.now in
     let call : Call = c.in-Some.call.now in
-    let fits : c.args.cpu < length g.cpus.items = search rules in
-    let log : slice_get h.cpus.items c.args.cpu ≡ Some c.index.result.now = get_of h.cpus.items c.args.cpu c.index.result.now c.requires.inside c.index.ensures in
-    let place : slice_index g.cpus.items c.args.cpu ≡ c.index-2.result.now = index_of g.cpus.items c.args.cpu c.index-2.result.now fits c.index-2.ensures in
     let read : List Call = c.as_slice.result.now in
     let below : c.index-2.result.now < length read = search rules in
-    let got : slice_get c.index.result.now.items c.index-2.result.now ≡ Some call = subst (λ xs. slice_get xs c.index-2.result.now ≡ Some call) c.as_slice.ensures.value (get_of read c.index-2.result.now call below c.in-Some.ensures.lookup.1) in
+    let first = first_read h g c.args.cpu c.index-2.result.now c.index.result.now read c.requires.inside c.index.ensures (search rules) c.index-2.ensures c.as_slice.ensures.value (Some call) (get_of read c.index-2.result.now call below c.in-Some.ensures.lookup.1) in
     let own : call.cpu ≡ c.args.cpu = search rules in
     let parts : (p : Part) → call_uses p call ≡ true → first_of (left h g (on p)) ≡ Some call = search rules in
-    next_made h g c.args.cpu call own (first_by h g c.args.cpu c.index-2.result.now c.index.result.now (Some call) log place got) parts
+    next_made h g c.args.cpu call own first parts
 
 pub returns-else-is_next_on_parts-clause-none : goal.returns-else-is_next_on_parts-clause-none
 returns-else-is_next_on_parts-clause-none c d e next =
     let h = c.args.histories.now in
     let g = c.args.places.now in
     let call : Call = c.in-Some.call.now in
-    let fits : c.args.cpu < length g.cpus.items = search rules in
-    let log : slice_get h.cpus.items c.args.cpu ≡ Some c.index.result.now = get_of h.cpus.items c.args.cpu c.index.result.now c.requires.inside c.index.ensures in
-    let place : slice_index g.cpus.items c.args.cpu ≡ c.index-2.result.now = index_of g.cpus.items c.args.cpu c.index-2.result.now fits c.index-2.ensures in
     let read : List Call = c.as_slice.result.now in
     let below : c.index-2.result.now < length read = search rules in
-    let got : slice_get c.index.result.now.items c.index-2.result.now ≡ Some call = subst (λ xs. slice_get xs c.index-2.result.now ≡ Some call) c.as_slice.ensures.value (get_of read c.index-2.result.now call below c.in-Some.ensures.lookup.1) in
-    let same : d ≡ call = next_same h g c.args.cpu d call e next (first_by h g c.args.cpu c.index-2.result.now c.index.result.now (Some call) log place got) in
+    let first = first_read h g c.args.cpu c.index-2.result.now c.index.result.now read c.requires.inside c.index.ensures (search rules) c.index-2.ensures c.as_slice.ensures.value (Some call) (get_of read c.index-2.result.now call below c.in-Some.ensures.lookup.1) in
+    let same : d ≡ call = next_same h g c.args.cpu d call e next first in
     let parts : (p : Part) → call_uses p call ≡ true → first_of (left h g (on p)) ≡ Some call = λ p of. next (on p) (ap (call_uses p) same ∙ of) ∙ ap (λ (x : Call). Some x) same in
     search rules

@@ -11,7 +11,7 @@ use Rattle.reference_model.specs.State.{Reference}
 use Rattle.reference_model.proofs.History.{history_begins}
 use Rattle.hypercalls.specs.declared.parts.Parts.{Parts}
 use Rattle.hypercalls.specs.Stands.{parts_layout, kept_of, state_of, HasHistory}
-use Rattle.world.specs.Boots.{IsBooted}
+use Rattle.hypercalls.specs.Booted.{IsBooted}
 
 module _ {A : Type 0} (m : Memory) (c : Config) (p : Parts A) (booted : IsBooted m c p) where
   -- what there is of a state, with these logs

@@ -1,8 +1,8 @@
 -- The parts that a step uses, as they are taken.
 use Rattle.std.specs.Prelude.{ℕ, Bool, true, false, Option, Some, None}
 use Rattle.reference_model.specs.Parts.{Names, uses_vms, uses_shared}
-use Rattle.world.specs.declared.uses.Uses.{Uses}
-use Rattle.world.specs.declared.uses.Uses.TheVariants.{Nothing, Vms, Shared, Guest, Both}
+use Rattle.hypercalls.specs.declared.uses.Uses.{Uses}
+use Rattle.hypercalls.specs.declared.uses.Uses.TheVariants.{Nothing, Vms, Shared, Guest, Both}
 
 -- a Guest part, alone or beside the Shared part
 abbrev pub with_slot : Bool → ℕ → Uses
