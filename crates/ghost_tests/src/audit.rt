@@ -231,21 +231,27 @@ fn expect_audit(rt: &impl Abort, kept: &Ghost, walked: &Ghost, told: Option<Disa
     assert_eq!(rt; audit(kept, walked), told);
 }
 
-#[test]
-fn tells_first_difference(rt: HostRuntime) -> Result<(), Fail> {
-    let alloc = rt.alloc();
-    let mut kept = booted(&rt, alloc)?;
-    let mut walked = booted(&rt, alloc)?;
-    expect_audit(&rt, &kept, &walked, None);
-    put_rows(&mut kept, &mut walked, 0x40200)?;
+/// Compares the first difference of these states as first rows and then maps of them differ too.
+fn expect_audits(
+    rt: &impl Abort,
+    alloc: Global,
+    kept: &mut Ghost,
+    walked: &mut Ghost,
+) -> Result<(), AllocError>
+    requires kept { IsKept kept.old }
+    requires walked { IsKept walked.old }
+    requires frames { HaveSameFrames kept.old walked.old }
+{
+    expect_audit(rt, kept, walked, None);
+    put_rows(kept, walked, 0x40200)?;
     let owner = Disagreement::Owner {
         frame: 0x40200,
         kept: row(0),
         walked: row(1),
     };
-    expect_audit(&rt, &kept, &walked, Some(owner));
-    put_leaves(alloc, &mut kept, 0x40100, 4)?;
-    put_leaves(alloc, &mut walked, 0x40100, 3)?;
+    expect_audit(rt, kept, walked, Some(owner));
+    put_leaves(alloc, kept, 0x40100, 4)?;
+    put_leaves(alloc, walked, 0x40100, 3)?;
     let map = Disagreement::Map {
         tree: TreeOf::Host,
         page: 0x40103,
@@ -257,7 +263,16 @@ fn tells_first_difference(rt: HostRuntime) -> Result<(), Fail> {
         },
         walked: Entry::Unmapped,
     };
-    expect_audit(&rt, &kept, &walked, Some(map));
+    expect_audit(rt, kept, walked, Some(map));
+    Ok(())
+}
+
+#[test]
+fn tells_first_difference(rt: HostRuntime) -> Result<(), Fail> {
+    let alloc = rt.alloc();
+    let mut kept = booted(&rt, alloc)?;
+    let mut walked = booted(&rt, alloc)?;
+    expect_audits(&rt, alloc, &mut kept, &mut walked)?;
     Ok(())
 }
 

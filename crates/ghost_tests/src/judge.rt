@@ -99,12 +99,24 @@ fn make(state: &mut Ghost, change: Change)
     }
 }
 
+/// The first difference from this state of one that is changed.
+fn told_after(
+    alloc: Global,
+    spec: &Ghost,
+    change: Change,
+) -> Result<Option<Disagreement>, AllocError>
+    requires kept { IsKept spec.now }
+    requires cpus { 1 < spec.now.layout.config.cpus }
+{
+    let mut post = spec.copied(alloc)?;
+    make(&mut post, change);
+    differs(alloc, &post, spec)
+}
+
 /// The first difference from the boot state of one that is changed.
 fn told(rt: &impl Abort, alloc: Global, change: Change) -> Result<Option<Disagreement>, Fail> {
     let spec = booted(rt, alloc)?;
-    let mut post = spec.copied(alloc)?;
-    make(&mut post, change);
-    Ok(differs(alloc, &post, &spec)?)
+    Ok(told_after(alloc, &spec, change)?)
 }
 
 /// Compares that difference.
@@ -145,7 +157,19 @@ fn judged_after(
     judge(alloc, pre, 0, step, &reply, &post)
 }
 
-/// Compares the judgement of a step of the boot state that makes this change alone.
+/// The judgement of a step of the boot state that makes this change alone.
+fn judged(
+    rt: &impl Abort,
+    alloc: Global,
+    step: Step,
+    reply: Reply,
+    change: Change,
+) -> Result<Option<Disagreement>, Fail> {
+    let pre = booted(rt, alloc)?;
+    Ok(judged_after(alloc, &pre, step, reply, change)?)
+}
+
+/// Compares that judgement.
 fn expect_judged(
     rt: &impl Abort,
     alloc: Global,
@@ -154,9 +178,7 @@ fn expect_judged(
     change: Change,
     wanted: Option<Disagreement>,
 ) -> Result<(), Fail> {
-    let pre = booted(rt, alloc)?;
-    let judged = judged_after(alloc, &pre, step, reply, change)?;
-    assert_eq!(rt; judged, wanted);
+    assert_eq!(rt; judged(rt, alloc, step, reply, change)?, wanted);
     Ok(())
 }
 

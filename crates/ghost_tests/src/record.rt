@@ -58,13 +58,15 @@ fn roots(alloc: Global) -> Result<(Component<Global>, Component<Global>, Pool), 
 fn new_shared(alloc: Global, map: &MemoryMap) -> Result<SharedPart<Global>, AllocError>
     ensures { IfOk result (λ s. depth_of s ≡ 2) }
 {
+    let log = Log::new(alloc, 5)?;
+    let rows = OwnerTable::of(alloc, map)?;
     let (host, hyp, pool) = roots(alloc)?;
     Ok(SharedPart {
         host,
         hyp,
         pool,
-        rows: OwnerTable::of(alloc, map)?,
-        log: Log::new(alloc, 5)?,
+        rows,
+        log,
     })
 }
 
@@ -99,15 +101,23 @@ fn hyp_change() -> MapChange
     }
 }
 
-/// A Shared part after these changes.
-fn shared(alloc: Global, map: &MemoryMap) -> Result<SharedPart<Global>, Fail> {
-    let mut shared = new_shared(alloc, map)?;
+/// Makes these changes.
+fn change(alloc: Global, shared: &mut SharedPart<Global>) -> Result<(), Fail>
+    requires { depth_of shared.old ≡ 2 }
+{
     let changes = Changes {
         host: Some(host_change()),
         hyp: Some(hyp_change()),
         ..Changes::NONE
     };
     shared.change(alloc, &changes)?;
+    Ok(())
+}
+
+/// A Shared part after these changes.
+fn shared(alloc: Global, map: &MemoryMap) -> Result<SharedPart<Global>, Fail> {
+    let mut shared = new_shared(alloc, map)?;
+    change(alloc, &mut shared)?;
     Ok(shared)
 }
 
@@ -185,13 +195,19 @@ fn expect_rest(rt: &impl Abort, told: &Ghost) {
     assert!(rt; (told.vms.len(), told.guests.len()) == (64, 64));
 }
 
+/// What is recorded of that Shared part and of the second CPU.
+fn shared_recorded(alloc: Global, layout: &Layout) -> Result<Ghost, Fail>
+    requires { layout.now.config.cpus ≡ 2 }
+{
+    let own = own_state(alloc)?;
+    let shared = shared(alloc, &layout.map)?;
+    Ok(record(alloc, layout, 1, None, Some(&shared), None, &own)?)
+}
+
 #[test]
 fn records_what_is_given_alone(rt: HostRuntime) -> Result<(), Fail> {
-    let alloc = rt.alloc();
-    let layout = layout(alloc)?;
-    let shared = shared(alloc, &layout.map)?;
-    let own = own_state(alloc)?;
-    let told = record(alloc, &layout, 1, None, Some(&shared), None, &own)?;
+    let layout = layout(rt.alloc())?;
+    let told = shared_recorded(rt.alloc(), &layout)?;
     expect_shared(&rt, &told.shared);
     expect_rest(&rt, &told);
     Ok(())
@@ -207,6 +223,38 @@ fn empty_part(alloc: Global) -> Result<GuestPart<Global>, AllocError>
     })
 }
 
+/// A VM part of Vacant slots.
+fn vacant_part(alloc: Global) -> Result<VmPart, AllocError> {
+    Ok(VmPart {
+        table: VmTable::new(alloc)?,
+        log: Log::new(alloc, 6)?,
+    })
+}
+
+/// What is recorded of the VM part and of this guest and CPU.
+fn guest_recorded(
+    alloc: Global,
+    layout: &Layout,
+    guest: &GuestPart<Global>,
+    own: &CpuState,
+) -> Result<Ghost, AllocError>
+    requires cpus { layout.now.config.cpus ≡ 2 }
+    requires guest { IsLowGuest (guest_held guest.now) }
+    requires own { IsLowCpu (cpu_of own.now) }
+{
+    let vms = vacant_part(alloc)?;
+    record(alloc, layout, 0, Some(&vms), None, Some((3, guest)), own)
+}
+
+/// What is recorded of a VM part, an Empty guest and the first CPU.
+fn vms_recorded(alloc: Global, layout: &Layout) -> Result<Ghost, AllocError>
+    requires { layout.now.config.cpus ≡ 2 }
+{
+    let own = own_state(alloc)?;
+    let guest = empty_part(alloc)?;
+    guest_recorded(alloc, layout, &guest, &own)
+}
+
 /// Compares the rooms of those logs.
 fn expect_rooms(rt: &impl Abort, told: &GhostRooms) {
     assert!(rt; (told.vms, told.shared) == (6, 9));
@@ -217,16 +265,9 @@ fn expect_rooms(rt: &impl Abort, told: &GhostRooms) {
 
 #[test]
 fn records_rooms_of_given_logs(rt: HostRuntime) -> Result<(), Fail> {
-    let alloc = rt.alloc();
-    let layout = layout(alloc)?;
-    let own = own_state(alloc)?;
-    let guest = empty_part(alloc)?;
-    let vms = VmPart {
-        table: VmTable::new(alloc)?,
-        log: Log::new(alloc, 6)?,
-    };
-    let told = record(alloc, &layout, 0, Some(&vms), None, Some((3, &guest)), &own)?;
+    let layout = layout(rt.alloc())?;
+    let told = vms_recorded(rt.alloc(), &layout)?;
     expect_rooms(&rt, &told.rooms);
-    assert_eq!(rt; told.shared.host.tables.len(), 0);
+    assert!(rt; told.shared.host.tables.is_empty());
     Ok(())
 }

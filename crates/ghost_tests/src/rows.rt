@@ -1,5 +1,5 @@
 //! Owner rows from scratch.
-ghost use Rattle.std.specs.Prelude.{◌<◌, IfOk};
+ghost use Rattle.std.specs.Prelude.{◌<◌, IfOk, OnOk};
 ghost use Rattle.ghost_spec.specs.States.{IsKept};
 
 use crate::sample::{region, started};
@@ -40,23 +40,22 @@ fn expect_rows(rt: &impl Abort, alloc: Global, state: &Ghost) -> Result<(), Fail
     requires { IsKept state.now }
 {
     let rows = rows_from_scratch(alloc, state)?;
-    assert_eq!(rt; rows.runs(), state.shared.rows.runs());
+    assert!(rt; rows.runs() == state.shared.rows.runs());
     Ok(())
 }
 
 /// Makes steps of CPU 0 that aren't refused, and compares rows after each.
-fn make_all(rt: &impl Abort, alloc: Global, state: Ghost, steps: &[Step]) -> Result<Ghost, Fail>
-    requires { IsKept state }
-    ensures { IfOk result IsKept }
+fn make_all(rt: &impl Abort, alloc: Global, state: &mut Ghost, steps: &[Step]) -> Result<(), Fail>
+    requires { IsKept state.old }
+    ensures { OnOk result (IsKept state.new) }
 {
-    let mut state = state;
     for step in steps {
         assert!(rt; state.layout.config.cpus > 0);
         let said = state.advance(alloc, 0, *step)?;
         assert!(rt; !matches!(said, Reply::Refused(_)));
-        expect_rows(rt, alloc, &state)?;
+        expect_rows(rt, alloc, state)?;
     }
-    Ok(state)
+    Ok(())
 }
 
 /// The first VM.
@@ -79,11 +78,10 @@ fn make_after_opening(
         Step::VmOpen,
         Step::VcpuLoad { vm: VM, vcpu: 0 },
     ];
-    let state = booted(rt, alloc)?;
+    let mut state = booted(rt, alloc)?;
     expect_rows(rt, alloc, &state)?;
-    let opened = make_all(rt, alloc, state, opening.as_slice())?;
-    make_all(rt, alloc, opened, steps)?;
-    Ok(())
+    make_all(rt, alloc, &mut state, opening.as_slice())?;
+    make_all(rt, alloc, &mut state, steps)
 }
 
 #[test]
@@ -95,9 +93,8 @@ fn finds_rows_of_shares(rt: HostRuntime) -> Result<(), Fail> {
         Step::UnshareHyp { pfn: 0x40300 },
         Step::Fund { pfn: 0x4027f, n: 2 },
     ];
-    let state = booted(&rt, rt.alloc())?;
-    make_all(&rt, rt.alloc(), state, steps.as_slice())?;
-    Ok(())
+    let mut state = booted(&rt, rt.alloc())?;
+    make_all(&rt, rt.alloc(), &mut state, steps.as_slice())
 }
 
 #[test]

@@ -1,7 +1,8 @@
 //! The plain program on lists: runs, trees, blocks, the boot state, and calls in turn.
-ghost use Rattle.std.specs.Prelude.{◌<◌, ◌^◌, IfOk};
+ghost use Rattle.std.specs.Prelude.{◌<◌, ◌^◌, IfOk, OnOk};
 ghost use Rattle.ghost_spec.specs.Small.{AreSmall};
 ghost use Rattle.ghost_spec.specs.States.{IsKept};
+ghost use Rattle.ghost_spec.specs.Trees.{IsLowBlock};
 
 use crate::sample::{config, memory, started};
 use ghost_spec::boot::boot;
@@ -59,49 +60,77 @@ fn leaves(first: u64, count: u64, state: State) -> Run {
     }
 }
 
-#[test]
-fn splits_joins_and_cuts(rt: HostRuntime) -> Result<(), Fail> {
-    let alloc = rt.alloc();
-    let none = Vec::new(alloc);
-    let one = with_leaves(alloc, none.as_slice(), 0x40200, 512, State::Owned)?;
-    let whole = [leaves(0x40200, 512, State::Owned)];
-    assert_eq!(rt; one.as_slice(), whole.as_slice());
-    let three = with_leaves(alloc, one.as_slice(), 0x40300, 1, State::SharedOwned)?;
-    let split = [
-        leaves(0x40200, 256, State::Owned),
-        leaves(0x40300, 1, State::SharedOwned),
-        leaves(0x40301, 255, State::Owned),
-    ];
-    assert_eq!(rt; three.as_slice(), split.as_slice());
-    let again = with_leaves(alloc, three.as_slice(), 0x40300, 1, State::Owned)?;
-    assert_eq!(rt; again.as_slice(), whole.as_slice());
+/// Makes pages leaves of the frames of their own numbers, and compares the runs.
+fn expect_leaves(
+    rt: &impl Abort,
+    alloc: Global,
+    runs: &mut Vec<Run>,
+    first: u64,
+    count: u64,
+    state: State,
+    wanted: &[Run],
+) -> Result<(), Fail>
+    requires runs { AreSmall runs.old.items }
+    requires first { first < 2 ^ 40 }
+    requires count { count < 2 ^ 20 }
+    ensures { OnOk result (AreSmall runs.new.items) }
+{
+    *runs = with_leaves(alloc, runs.as_slice(), first, count, state)?;
+    assert!(rt; runs.as_slice() == wanted);
+    Ok(())
+}
+
+/// Compares the runs once 16 pages are Unmapped.
+fn expect_cut(rt: &impl Abort, alloc: Global, runs: &[Run], wanted: &[Run]) -> Result<(), Fail>
+    requires { AreSmall runs.now }
+{
     let range = PageRange {
         first: Page(0x40300),
         count: 0x10,
     };
-    let cut = runs::updated(alloc, again.as_slice(), range, Entry::Unmapped)?;
-    let parts = [
-        leaves(0x40200, 256, State::Owned),
-        leaves(0x40310, 240, State::Owned),
-    ];
-    assert_eq!(rt; cut.as_slice(), parts.as_slice());
+    let cut = runs::updated(alloc, runs, range, Entry::Unmapped)?;
+    assert!(rt; cut.as_slice() == wanted);
     Ok(())
 }
 
 #[test]
-fn gives_each_page_its_entry(rt: HostRuntime) -> Result<(), Fail> {
+fn splits_joins_and_cuts(rt: HostRuntime) -> Result<(), Fail> {
     let alloc = rt.alloc();
-    let none = Vec::new(alloc);
-    let one = with_leaves(alloc, none.as_slice(), 0x40200, 512, State::Owned)?;
+    let (shared, owned) = (State::SharedOwned, State::Owned);
+    let whole = [leaves(0x40200, 512, owned)];
+    let split = [
+        leaves(0x40200, 256, owned),
+        leaves(0x40300, 1, shared),
+        leaves(0x40301, 255, owned),
+    ];
+    let parts = [leaves(0x40200, 256, owned), leaves(0x40310, 240, owned)];
+    let mut runs = Vec::new(alloc);
+    expect_leaves(&rt, alloc, &mut runs, 0x40200, 512, owned, whole.as_slice())?;
+    expect_leaves(&rt, alloc, &mut runs, 0x40300, 1, shared, split.as_slice())?;
+    expect_leaves(&rt, alloc, &mut runs, 0x40300, 1, owned, whole.as_slice())?;
+    expect_cut(&rt, alloc, runs.as_slice(), parts.as_slice())
+}
+
+/// Compares the entry of a page.
+fn expect_entry(rt: &impl Abort, runs: &[Run], page: u64, wanted: Entry)
+    requires { AreSmall runs.now }
+{
+    assert!(rt; runs::at(runs, Page(page)) == wanted);
+}
+
+#[test]
+fn gives_each_page_its_entry(rt: HostRuntime) -> Result<(), Fail> {
+    let none: [Run; 0] = [];
+    let runs = with_leaves(rt.alloc(), none.as_slice(), 0x40200, 512, State::Owned)?;
     let entry = Entry::Leaf {
         frame: Frame(0x402ff),
         prot: Prot::RWX,
         kind: Kind::Normal,
         state: State::Owned,
     };
-    assert_eq!(rt; runs::at(one.as_slice(), Page(0x402ff)), entry);
-    assert_eq!(rt; runs::at(one.as_slice(), Page(0x40400)), Entry::Unmapped);
-    assert_eq!(rt; runs::at(one.as_slice(), Page(0x401ff)), Entry::Unmapped);
+    expect_entry(&rt, runs.as_slice(), 0x402ff, entry);
+    expect_entry(&rt, runs.as_slice(), 0x40400, Entry::Unmapped);
+    expect_entry(&rt, runs.as_slice(), 0x401ff, Entry::Unmapped);
     Ok(())
 }
 
@@ -120,10 +149,10 @@ fn bare_tree(alloc: Global) -> Result<Tree, AllocError>
     })
 }
 
-#[test]
-fn needs_tables_of_one_page(rt: HostRuntime) -> Result<(), Fail> {
-    let alloc = rt.alloc();
-    let tree = bare_tree(alloc)?;
+/// The tables that a share of a page needs.
+fn needed(alloc: Global, tree: &Tree) -> Result<Vec<(u64, u64)>, AllocError>
+    requires { AreSmall tree.now.runs.items }
+{
     let entry = Entry::Leaf {
         frame: Frame(0x40100),
         prot: Prot::RWX,
@@ -134,35 +163,57 @@ fn needs_tables_of_one_page(rt: HostRuntime) -> Result<(), Fail> {
         first: Page(0x40100),
         count: 1,
     };
-    let needed = tree::needs(alloc, 2, &tree, range, entry)?;
+    tree::needs(alloc, 2, tree, range, entry)
+}
+
+/// Compares the blocks for which tables are needed, and the frames of those that are there.
+fn expect_needed(rt: &impl Abort, alloc: Global, tree: &Tree) -> Result<(), Fail>
+    requires { AreSmall tree.now.runs.items }
+{
     let both = [(2, 1), (1, 0x200)];
-    assert_eq!(rt; needed.as_slice(), both.as_slice());
-    assert_eq!(rt;
-        tree::table_at(tree.tables.as_slice(), (3, 0)),
-        Some(0x40600)
-    );
-    assert_eq!(rt; tree::table_at(tree.tables.as_slice(), (2, 1)), None);
+    assert!(rt; needed(alloc, tree)?.as_slice() == both.as_slice());
+    let tables = tree.tables.as_slice();
+    assert!(rt; tree::table_at(tables, (3, 0)) == Some(0x40600));
+    assert!(rt; tree::table_at(tables, (2, 1)).is_none());
+    Ok(())
+}
+
+#[test]
+fn needs_tables_of_one_page(rt: HostRuntime) -> Result<(), Fail> {
+    let tree = bare_tree(rt.alloc())?;
+    expect_needed(&rt, rt.alloc(), &tree)
+}
+
+/// Compares whether one word stands for a block, and whether nothing is mapped in it.
+fn expect_block(rt: &impl Abort, runs: &[Run], block: (u64, u64), one_word: bool, empty: bool)
+    requires runs { AreSmall runs.now }
+    requires block { IsLowBlock block }
+{
+    assert!(rt; blocks::is_one_word(runs, block) == one_word);
+    assert!(rt; blocks::is_empty(runs, block) == empty);
+}
+
+/// Compares the blocks that two pages lie in.
+fn expect_blocks_on(rt: &impl Abort, alloc: Global) -> Result<(), Fail> {
+    let met = PageRange {
+        first: Page(0x403ff),
+        count: 2,
+    };
+    let three = [(2, 1), (1, 0x201), (1, 0x202)];
+    assert!(rt; blocks::blocks_on(alloc, 2, met)?.as_slice() == three.as_slice());
     Ok(())
 }
 
 #[test]
 fn tells_blocks_of_one_word(rt: HostRuntime) -> Result<(), Fail> {
     let alloc = rt.alloc();
-    let none = Vec::new(alloc);
-    let two = with_leaves(alloc, none.as_slice(), 0x40200, 0x400, State::Owned)?;
-    assert_eq!(rt; blocks::is_one_word(two.as_slice(), (1, 0x201)), true);
-    let split = with_leaves(alloc, two.as_slice(), 0x40300, 1, State::SharedOwned)?;
-    assert_eq!(rt; blocks::is_one_word(split.as_slice(), (1, 0x201)), false);
-    assert_eq!(rt; blocks::is_empty(split.as_slice(), (1, 0x201)), false);
-    assert_eq!(rt; blocks::is_empty(split.as_slice(), (1, 0x203)), true);
-    let met = PageRange {
-        first: Page(0x403ff),
-        count: 2,
-    };
-    let blocks = blocks::blocks_on(alloc, 2, met)?;
-    let three = [(2, 1), (1, 0x201), (1, 0x202)];
-    assert_eq!(rt; blocks.as_slice(), three.as_slice());
-    Ok(())
+    let none: [Run; 0] = [];
+    let mut runs = with_leaves(alloc, none.as_slice(), 0x40200, 0x400, State::Owned)?;
+    expect_block(&rt, runs.as_slice(), (1, 0x201), true, false);
+    runs = with_leaves(alloc, runs.as_slice(), 0x40300, 1, State::SharedOwned)?;
+    expect_block(&rt, runs.as_slice(), (1, 0x201), false, false);
+    expect_block(&rt, runs.as_slice(), (1, 0x203), true, true);
+    expect_blocks_on(&rt, alloc)
 }
 
 /// The boot state of two CPUs and a carve-out of so many frames.
@@ -174,9 +225,21 @@ fn booted(rt: &impl Abort, alloc: Global, count: u64, log: u64) -> Result<Ghost,
     Ok(started(alloc, map, 2, log)?.expect(rt, "enough frames"))
 }
 
+/// What a share by CPU 0 is foretold to answer at boot.
+fn share_at_boot(
+    rt: &impl Abort,
+    alloc: Global,
+    count: u64,
+    log: u64,
+    pfn: u64,
+) -> Result<Reply, Fail> {
+    let state = booted(rt, alloc, count, log)?;
+    let (said, _after) = predict(alloc, &state, 0, Step::ShareHyp { pfn })?;
+    Ok(said)
+}
+
 #[test]
 fn refuses_shares(rt: HostRuntime) -> Result<(), Fail> {
-    let alloc = rt.alloc();
     for (count, log, pfn, why) in [
         (0x40, 9, 0x40600, Refusal::Perm),
         (0x40, 9, 0x9000, Refusal::Invalid),
@@ -185,21 +248,25 @@ fn refuses_shares(rt: HostRuntime) -> Result<(), Fail> {
         (7, 9, 0x40100, Refusal::NoPool),
         (0x40, 0, 0x40100, Refusal::LogFull),
     ] {
-        let state = booted(&rt, alloc, count, log)?;
-        let (said, _after) = predict(alloc, &state, 0, Step::ShareHyp { pfn })?;
-        assert_eq!(rt; said, Reply::Refused(why));
+        let said = share_at_boot(&rt, rt.alloc(), count, log, pfn)?;
+        assert!(rt; said == Reply::Refused(why));
     }
     Ok(())
 }
 
+/// How many frames are free at boot, of a carve-out of so many. None where they are too few.
+fn free_at_boot(alloc: Global, count: u64) -> Result<Option<usize>, Fail> {
+    let map = memory(alloc, count)?;
+    match boot(alloc, &map, config(1, 9), 2)? {
+        Some(shared) => Ok(Some(shared.free.len())),
+        None => Ok(None),
+    }
+}
+
 #[test]
 fn boots_with_a_frame_for_each_table(rt: HostRuntime) -> Result<(), Fail> {
-    let alloc = rt.alloc();
-    let few = memory(alloc, 5)?;
-    assert_eq!(rt; boot(alloc, &few, config(1, 9), 2)?.is_none(), true);
-    let enough = memory(alloc, 6)?;
-    let shared = boot(alloc, &enough, config(1, 9), 2)?.expect(&rt, "enough frames");
-    assert_eq!(rt; shared.free.len(), 0);
+    assert!(rt; free_at_boot(rt.alloc(), 5)?.is_none());
+    assert!(rt; free_at_boot(rt.alloc(), 6)? == Some(0));
     Ok(())
 }
 
@@ -210,20 +277,19 @@ const DONE: Reply = Reply::Done(Value::Nothing);
 fn expect_replies(
     rt: &impl Abort,
     alloc: Global,
-    state: Ghost,
+    state: &mut Ghost,
     steps: &[(Step, Reply)],
-) -> Result<Ghost, Fail>
-    requires { IsKept state }
-    ensures { IfOk result IsKept }
+) -> Result<(), Fail>
+    requires { IsKept state.old }
+    ensures { OnOk result (IsKept state.new) }
 {
-    let mut state = state;
     for call in steps {
         let (step, reply) = *call;
         assert!(rt; state.layout.config.cpus > 0);
         let said = state.advance(alloc, 0, step)?;
-        assert_eq!(rt; said, reply);
+        assert!(rt; said == reply);
     }
-    Ok(state)
+    Ok(())
 }
 
 /// The row of a frame, as it is answered.
@@ -269,10 +335,9 @@ fn expect_after_opening(
     kind: VmKind,
     steps: &[(Step, Reply)],
 ) -> Result<(), Fail> {
-    let state = booted(rt, alloc, 0x40, 100)?;
-    let opened = expect_replies(rt, alloc, state, opening(kind).as_slice())?;
-    expect_replies(rt, alloc, opened, steps)?;
-    Ok(())
+    let mut state = booted(rt, alloc, 0x40, 100)?;
+    expect_replies(rt, alloc, &mut state, opening(kind).as_slice())?;
+    expect_replies(rt, alloc, &mut state, steps)
 }
 
 #[test]

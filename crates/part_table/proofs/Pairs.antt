@@ -11,7 +11,7 @@ use Rattle.reference_model.specs.Run.{Runs}
 use Rattle.part_table.specs.declared.rule.View.{View}
 use Rattle.part_table.specs.declared.slot.Slot.{Slot}
 use Rattle.part_table.specs.Parts.{log_of}
-use Rattle.part_table.specs.Rule.{at, Hands, held_at, seen_of, seen_with, StartsWith}
+use Rattle.part_table.specs.Rule.{at, Hands, held_at, seen_of, seen_with, StartsWith, tail}
 
 module _ {X : Type 0} where
   pub at_same : (es : List (ℕ × X)) (k : ℕ) (x d : X) → at ((k, x) ∷ es) d k ≡ x
@@ -37,6 +37,10 @@ module _ {X : Type 0} where
   at_end (x ∷ xs) a b (suc j) e = ⊎_elim (λ t. inl t) (λ (t : (j ≡ length xs) × (a ≡ b)). inr (ap suc t.0, t.1)) (at_end xs a b j e)
 
 module _ {A : Type 0} where
+  -- what lies behind a first pair is the tail
+  pub by_front : {cs es : Hands A} {e : ℕ × Option (Slot A)} → cs ≡ e ∷ es → cs ≡ e ∷ tail cs
+  by_front {e = e} is = is ∙ ap (λ l. e ∷ l) (sym (ap tail is))
+
   abbrev pub first_of : Option (Slot A) → Hands A → Option (Slot A)
   first_of d [] = d
   first_of d (x ∷ xs) = x.1

@@ -18,7 +18,7 @@ use Rattle.guest_steps.specs.View.{vm_slots, shared_of, guest_held, cpu_of}
 use Rattle.hypercalls.specs.declared.parts.Parts.{Parts}
 use Rattle.hypercalls.specs.Stands.{at_place, HasHistory}
 use Rattle.part_table.specs.Endings.{IsEndOf}
-use Rattle.part_table.specs.Parts.{log_of, IsPart, IsVms, IsShared, IsGuest}
+use Rattle.part_table.specs.Parts.{log_of, HoldsGuest, IsPart, IsVms, IsShared, IsGuest}
 use Rattle.part_table.specs.Whole.{AreGuests, AreParts}
 use Rattle.part_table.proofs.Stepping.{some_same}
 use Rattle.part_table.proofs.TakenApart.{got}
@@ -65,13 +65,13 @@ pair a b m n d e = λ i. (d i, e i)
 
 module _ {A : Type 0} where
   -- the first slot of guests is a guest's
-  pub first_guest : (xs rest : List (Slot A)) (x : Slot A) → AreGuests xs → xs ≡ x ∷ rest → ((g : GuestPart A) → x ≡ GuestSlot g → ⊥) → ⊥
-  first_guest xs rest x kinds e never = go x (subst AreGuests e kinds) never
+  pub first_guest : (xs rest : List (Slot A)) (x : Slot A) → AreGuests xs → xs ≡ x ∷ rest → HoldsGuest x
+  first_guest xs rest x kinds e = go x (subst AreGuests e kinds)
     where
-      go : (y : Slot A) → AreGuests (y ∷ rest) → ((g : GuestPart A) → y ≡ GuestSlot g → ⊥) → ⊥
-      go (VmSlot v) h n = h
-      go (SharedSlot s) h n = h
-      go (GuestSlot g) h n = n g refl
+      go : (y : Slot A) → AreGuests (y ∷ rest) → HoldsGuest y
+      go (VmSlot v) h = h
+      go (SharedSlot s) h = h
+      go (GuestSlot g) h = tt
 
   pub rest_guests : (xs rest : List (Slot A)) (g : GuestPart A) → AreGuests xs → xs ≡ GuestSlot g ∷ rest → AreGuests rest
   rest_guests xs rest g kinds e = subst AreGuests e kinds

@@ -45,6 +45,19 @@ module _ {A : Type 0} where
   log_of (SharedSlot p) = p.log
   log_of (GuestSlot p) = p.log
 
+  -- which part lies in a slot
+  abbrev pub HoldsVms : Slot A → Type 0
+  HoldsVms (VmSlot p) = Unit {0}
+  HoldsVms other = ⊥
+
+  abbrev pub HoldsShared : Slot A → Type 0
+  HoldsShared (SharedSlot p) = Unit {0}
+  HoldsShared other = ⊥
+
+  abbrev pub HoldsGuest : Slot A → Type 0
+  HoldsGuest (GuestSlot p) = Unit {0}
+  HoldsGuest other = ⊥
+
 module _ (l : Layout) (s : Reference) where
   -- the VM part stands in a state: what it holds and its log's room are the state's
   pub record IsVms (p : VmPart) : Type 0 where

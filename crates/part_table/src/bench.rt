@@ -1,5 +1,5 @@
 //! Where the parts of a step lie while it is made.
-ghost use Rattle.std.specs.Prelude.{◌≡◌, ◌≤◌, ◌∷◌, [], vec_len};
+ghost use Rattle.std.specs.Prelude.{◌≡◌, ◌+◌, ◌<◌, ◌≤◌, ◌∷◌, [], ◌++◌, vec_len};
 ghost use Rattle.std.specs.Vec.{vec_capacity};
 
 use guest_steps::{GuestPart, SharedPart};
@@ -23,6 +23,16 @@ impl<A: Allocator> Bench<A> {
         let guest = Vec::with_capacity(global, 1)?;
         Ok(Bench { shared, guest })
     }
+}
+
+/// Pushes behind a list that has room.
+pub(crate) fn push_in_room<T: Drop>(list: &mut Vec<T>, item: T)
+    requires room { vec_len list.old < vec_capacity list.old }
+    ensures items { list.new.items ≡ list.old.items ++ item ∷ [] }
+    ensures len { vec_len list.new ≡ vec_len list.old + 1 }
+    ensures room { vec_capacity list.old ≤ vec_capacity list.new }
+{
+    list.push(item).unwrap();
 }
 
 /// Lays a part where none lies.

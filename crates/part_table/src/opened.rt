@@ -9,7 +9,7 @@ ghost use Rattle.part_table.specs.Parts.{parts};
 ghost use Rattle.part_table.specs.Passes.{AreFirst, AreHomeFrom, first_pass};
 ghost use Rattle.part_table.specs.Rule.{one_more, own_at_boot, rooted};
 
-use crate::bench::Bench;
+use crate::bench::{Bench, push_in_room};
 use crate::pass::CpuPass;
 use crate::rule::Root;
 use crate::slot::Slot;
@@ -66,7 +66,7 @@ fn new_benches<A: Allocator>(global: Global, count: usize) -> Result<Vec<Bench<A
     for i in 0..count {
         let _ = i;
         let bench = Bench::new(global)?;
-        benches.push(bench).unwrap();
+        push_in_room(&mut benches, bench);
     }
     Ok(benches)
 }
@@ -118,7 +118,7 @@ fn new_passes<A: Allocator>(
         let own = owns.pop().unwrap();
         let bench = benches.pop().unwrap();
         let pass = new_pass(shelf, root, cpu as u64, own, bench);
-        passes.push(Some(pass)).unwrap();
+        push_in_room(&mut passes, Some(pass));
     }
     passes
 }
@@ -217,9 +217,7 @@ fn join_all<A: Allocator>(
 {
     let count = passes.len();
     for cpu in 0..count {
-        let Some(pass) = passes[cpu].take() else {
-            unreachable!()
-        };
+        let pass = passes[cpu].take().unwrap();
         let CpuPass {
             seat,
             id: _,
@@ -227,9 +225,7 @@ fn join_all<A: Allocator>(
             bench: _bench,
         } = pass;
         shelf.shared.join_seat::<Root>(root, seat);
-        let Ok(()) = cpus.push(own) else {
-            unreachable!()
-        };
+        push_in_room(&mut cpus, own);
     }
     cpus
 }
@@ -246,12 +242,8 @@ fn collect<A: Allocator>(
     ensures emptied { (slots_len closed.new.slots ≡ parts) × emptied_to parts (slots_filled closed.new.slots) }
 {
     for k in 0..66usize {
-        let Some(part) = closed.take(k) else {
-            unreachable!()
-        };
-        let Ok(()) = found.push(part) else {
-            unreachable!()
-        };
+        let part = closed.take(k).unwrap();
+        push_in_room(&mut found, part);
     }
     found
 }

@@ -12,7 +12,7 @@ pub enum Slot<A: Allocator> {
 
 impl<A: Allocator> Slot<A> {
     ghost use Rattle.std.specs.Prelude.{◌≡◌};
-    ghost use Rattle.part_table.specs.Parts.{log_of};
+    ghost use Rattle.part_table.specs.Parts.{log_of, HoldsVms, HoldsShared, HoldsGuest};
 
     /// How many more calls the part's log can store.
     pub fn room(&self) -> u64
@@ -22,6 +22,39 @@ impl<A: Allocator> Slot<A> {
             Slot::Vm(part) => part.log.room(),
             Slot::Shared(part) => part.log.room(),
             Slot::Guest(part) => part.log.room(),
+        }
+    }
+
+    /// The VM part, where it lies here.
+    pub(crate) fn into_vm(self) -> VmPart
+        requires { HoldsVms self }
+        ensures { self ≡ Slot.Vm result }
+    {
+        match self {
+            Slot::Vm(part) => part,
+            _ => unreachable!(),
+        }
+    }
+
+    /// The Shared part, where it lies here.
+    pub(crate) fn into_shared(self) -> SharedPart<A>
+        requires { HoldsShared self }
+        ensures { self ≡ Slot.Shared result }
+    {
+        match self {
+            Slot::Shared(part) => part,
+            _ => unreachable!(),
+        }
+    }
+
+    /// The Guest part, where one lies here.
+    pub(crate) fn into_guest(self) -> GuestPart<A>
+        requires { HoldsGuest self }
+        ensures { self ≡ Slot.Guest result }
+    {
+        match self {
+            Slot::Guest(part) => part,
+            _ => unreachable!(),
         }
     }
 }

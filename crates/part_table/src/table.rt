@@ -47,6 +47,17 @@ pub fn let_home<A: Allocator>(shelf: &Shelf<A>, seat: &mut Place<A>, k: usize)
     shelf.shared.swap::<Return>(seat, k, 0);
 }
 
+/// Lays a part into its slot, the one that was taken last. No other pass sees it there before a play sends it home.
+fn lay<A: Allocator>(shelf: &Shelf<A>, seat: &mut Place<A>, k: usize, part: Slot<A>)
+    requires table { seat.old.table_id ≡ shelf.now.shared.table_id }
+    requires hand { IsInHand seat.old.me.1 k }
+    ensures table { seat.new.table_id ≡ seat.old.table_id }
+    ensures laid { seat.new.me ≡ (seat.old.me.0, (k, Some part) ∷ tail seat.old.me.1) }
+{
+    // Nothing lay there.
+    let _ = shelf.shared.exchange(seat, k, Some(part));
+}
+
 /// Puts a part home as it was taken.
 pub fn put_back<A: Allocator>(shelf: &Shelf<A>, seat: &mut Place<A>, k: usize, part: Slot<A>)
     requires table { (seat.old.table_id ≡ shelf.now.shared.table_id) × (shelf.now.shared.table_id.words ≡ parts) }
@@ -57,9 +68,7 @@ pub fn put_back<A: Allocator>(shelf: &Shelf<A>, seat: &mut Place<A>, k: usize, p
     ensures table { seat.new.table_id ≡ seat.old.table_id }
     ensures home { seat.new.me ≡ (letting seat.old.me.0 k, tail seat.old.me.1) }
 {
-    let None = shelf.shared.exchange(seat, k, Some(part)) else {
-        unreachable!()
-    };
+    lay(shelf, seat, k, part);
     let_home(shelf, seat, k);
 }
 
@@ -105,9 +114,7 @@ pub fn commit<A: Allocator>(
     ensures history { Extends call.now (known_of seat.new.me.0) }
     ensures home { seat.new.me ≡ (storing own.now ((k, Some part) ∷ []) seat.old.me.0 k, []) }
 {
-    let None = shelf.shared.exchange(seat, k, Some(part)) else {
-        unreachable!()
-    };
+    lay(shelf, seat, k, part);
     store::<A, Brand>(shelf, seat, k, call, own);
 }
 
@@ -132,13 +139,9 @@ pub fn commit_first<A: Allocator>(
     ensures history { Extends call.now (known_of seat.new.me.0) }
     ensures home { seat.new.me ≡ (storing own.now ((guest, Some part) ∷ (1, Some shared) ∷ []) seat.old.me.0 guest, (1, Some shared) ∷ []) }
 {
-    let None = shelf.shared.exchange(seat, guest, Some(part)) else {
-        unreachable!()
-    };
+    lay(shelf, seat, guest, part);
     seat.turn();
-    let None = shelf.shared.exchange(seat, 1, Some(shared)) else {
-        unreachable!()
-    };
+    lay(shelf, seat, 1, shared);
     seat.turn();
     store::<A, Brand>(shelf, seat, guest, call, own);
 }

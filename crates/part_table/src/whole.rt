@@ -5,7 +5,7 @@ ghost use Rattle.hypercalls.specs.Stands.{HasHistory};
 ghost use Rattle.part_table.specs.Endings.{IsEndOf};
 ghost use Rattle.part_table.specs.Whole.{AreGuests, AreParts, BootsAtBoot, slots_of};
 
-use crate::bench::{lay, lift};
+use crate::bench::{lay, lift, push_in_room};
 use crate::slot::Slot;
 use guest_steps::{CpuState, GuestPart, SharedPart, VmPart};
 use hypercalls::Parts;
@@ -22,9 +22,7 @@ fn lay_guests<A: Allocator>(
 {
     while !guests.is_empty() {
         let guest = guests.remove(0);
-        let Ok(()) = slots.push(Some(Slot::Guest(guest))) else {
-            unreachable!()
-        };
+        push_in_room(&mut slots, Some(Slot::Guest(guest)));
     }
     slots
 }
@@ -41,12 +39,8 @@ fn lay_first<A: Allocator>(
     ensures len { vec_len result ≡ 2 }
     ensures room { vec_capacity slots ≤ vec_capacity result }
 {
-    let Ok(()) = slots.push(Some(Slot::Vm(vm))) else {
-        unreachable!()
-    };
-    let Ok(()) = slots.push(Some(Slot::Shared(shared))) else {
-        unreachable!()
-    };
+    push_in_room(&mut slots, Some(Slot::Vm(vm)));
+    push_in_room(&mut slots, Some(Slot::Shared(shared)));
     slots
 }
 
@@ -87,12 +81,8 @@ fn guests_of<A: Allocator>(
     ensures { found.items ≡ map (λ g. Slot.Guest g) result.items }
 {
     while !found.is_empty() {
-        let Slot::Guest(guest) = found.remove(0) else {
-            unreachable!()
-        };
-        let Ok(()) = guests.push(guest) else {
-            unreachable!()
-        };
+        let guest = found.remove(0).into_guest();
+        push_in_room(&mut guests, guest);
     }
     guests
 }
@@ -102,12 +92,8 @@ fn first_of<A: Allocator>(mut found: Vec<Slot<A>>) -> (VmPart, SharedPart<A>, Ve
     requires kinds { AreParts found.items }
     ensures { found.items ≡ Slot.Vm result.0 ∷ Slot.Shared result.1 ∷ result.2.items }
 {
-    let Slot::Vm(vm) = found.remove(0) else {
-        unreachable!()
-    };
-    let Slot::Shared(part) = found.remove(0) else {
-        unreachable!()
-    };
+    let vm = found.remove(0).into_vm();
+    let part = found.remove(0).into_shared();
     (vm, part, found)
 }
 

@@ -1,5 +1,5 @@
 use Rattle.std.proofs.Common.{rules, ◌≡◌, ℕ, ◌+◌, [], ◌∷◌, ◌++◌, length, false, arith, refl, sym, ap, ◌∙◌, subst, ◌<◌, le_refl, length-append, get_or-set_other}
-use Rattle.std.specs.Prelude.{Bool, Option, Some, None, List, slice_get, slice_index_or, slice_set}
+use Rattle.std.specs.Prelude.{Bool, Option, Some, IsSome, List, slice_get, slice_index_or, slice_set}
 use mathlib.Core.Option.{some, some-injective}
 use mathlib.Core.Logic.{dite}
 use native.Mathlib.Decide.{ℕ_discrete}
@@ -12,14 +12,13 @@ use Rattle.std.specs.Mem.Slots.Ownership.{Filled}
 use Rattle.part_table.proofs.Lists.{set_false, get_front, get_last}
 use Rattle.part_table.proofs.opened.collect.Goals as goal
 
-pub unreachable-requires : goal.unreachable-requires
-unreachable-requires g c =
+pub unwrap-part-requires : goal.unwrap-part-requires
+unwrap-part-requires g c =
     let k : ℕ = c.loop-k.k in
     let i = c.loop-k.invariant in
     let h = c.requires.home k c.loop-k-test.true in
     let e : c.take.result ≡ Some h.0 = some-injective c.take.result (Some h.0) (sym c.take.ensures.value ∙ (ap (λ (l : List (Option (Slot g.row.A.Denot))). get_elem? l k) i.0 ∙ h.1)) in
-    let never : None ≡ Some h.0 = sym c.in_default.is ∙ e in
-    absurd cc
+    subst IsSome (sym e) refl
 
 pub loop-k-preserved : goal.loop-k-preserved
 loop-k-preserved g c =
@@ -28,8 +27,8 @@ loop-k-preserved g c =
     let o = c.take.ensures.others in
     let fs : List Bool = slots_filled c.loop-k.closed.slots in
     let xs : List (Slot g.row.A.Denot) = c.loop-k.found.items in
-    let y : Slot g.row.A.Denot = c.in-Some.part in
-    let items : c.push.new.self.items ≡ xs ++ y ∷ [] = c.in-Ok.ensures.items in
+    let y : Slot g.row.A.Denot = c.unwrap-part.result in
+    let items : c.push_in_room.new.list.items ≡ xs ++ y ∷ [] = c.push_in_room.ensures.items in
     let long : length xs ≡ k = i.4.0 in (
       o.0 ∙ i.0,
       o.2 ∙ i.1,
@@ -40,7 +39,7 @@ loop-k-preserved g c =
       (
         ap (λ (l : List (Slot g.row.A.Denot)). length l) items ∙ (length-append xs (y ∷ []) ∙ ap (λ n. n + 1) long),
         λ j x lt e. ap (λ (l : List (Slot g.row.A.Denot)). slice_get l j) items ∙ dite (ℕ_discrete j k)
-            (λ is. let same : Some y ≡ Some x = some-injective (Some y) (Some x) (ap some (sym c.in-Some.is) ∙ (sym c.take.ensures.value ∙ (ap (λ (l : List (Option (Slot g.row.A.Denot))). get_elem? l k) i.0 ∙ (ap (get_elem? (slots_items c.args.closed.now.slots)) (sym is) ∙ e)))) in
+            (λ is. let same : Some y ≡ Some x = some-injective (Some y) (Some x) (ap some (sym c.unwrap-part.ensures) ∙ (sym c.take.ensures.value ∙ (ap (λ (l : List (Option (Slot g.row.A.Denot))). get_elem? l k) i.0 ∙ (ap (get_elem? (slots_items c.args.closed.now.slots)) (sym is) ∙ e)))) in
             get_last xs y j (is ∙ sym long) ∙ same)
             (λ ne. get_front xs (y ∷ []) x j (i.4.1 j x (omega arith) e)),
       ),

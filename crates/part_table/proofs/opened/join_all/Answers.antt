@@ -1,5 +1,5 @@
 use Rattle.std.proofs.Common.{rules, ◌≡◌, ℕ, ◌+◌, ◌<◌, ◌≤◌, [], ◌∷◌, ◌++◌, length, arith, sym, ap, ◌∙◌, refl, subst, length-append, le_refl}
-use Rattle.std.specs.Prelude.{Option, Some, None, List, slice_get, slice_set}
+use Rattle.std.specs.Prelude.{Option, Some, None, IsSome, List, slice_get, slice_set}
 use Rattle.std.specs.Vec.{vec_capacity, vec_len}
 use Rattle.atomic_table.specs.Table.{Joins}
 use Rattle.page_state.specs.declared.layout.Layout.{Layout as TheLayout}
@@ -11,12 +11,11 @@ use Rattle.part_table.proofs.Lists.{from, or_of_get, get_set_else}
 use Rattle.part_table.proofs.Root.{joins}
 use Rattle.part_table.proofs.opened.join_all.Goals as goal
 
-pub unreachable-requires : goal.unreachable-requires
-unreachable-requires g c =
+pub unwrap-pass-requires : goal.unwrap-pass-requires
+unwrap-pass-requires g c =
     let h = c.loop-cpu.invariant.10 c.loop-cpu.cpu (le_refl c.loop-cpu.cpu) c.loop-cpu-test.true in
     let is : c.index_mut.result.now ≡ Some h.0 = c.index_mut.ensures.value ∙ or_of_get c.loop-cpu.passes.items c.loop-cpu.cpu c.index_mut.result.now (Some h.0) h.1 in
-    let never : None ≡ Some h.0 = sym c.in_default.is ∙ (c.take.ensures.value ∙ is) in
-    absurd cc
+    subst IsSome (sym (c.take.ensures.value ∙ is)) refl
 
 pub join_seat-requires : goal.join_seat-requires
 join_seat-requires g c =
@@ -24,8 +23,8 @@ join_seat-requires g c =
     let n : ℕ = c.loop-cpu.cpu in
     let h = i.10 n (le_refl n) c.loop-cpu-test.true in
     let was : c.index_mut.result.now ≡ Some h.0 = c.index_mut.ensures.value ∙ or_of_get c.loop-cpu.passes.items n c.index_mut.result.now (Some h.0) h.1 in
-    let same : Some c.in-Some.pass ≡ Some h.0 = sym c.in-Some.is ∙ (c.take.ensures.value ∙ was) in
-    let p : Pass = c.in-Some.pass in
+    let same : Some c.unwrap-pass.result ≡ Some h.0 = sym c.unwrap-pass.ensures ∙ (c.take.ensures.value ∙ was) in
+    let p : Pass = c.unwrap-pass.result in
     let is : p ≡ h.0 = ap (from p) same in
     let v : View g.row.A.Denot = c.loop-cpu.root.me.0 in
     let w : View g.row.A.Denot = c.pass.inside.seat.me.0 in
@@ -52,7 +51,7 @@ loop-cpu-preserved g c =
     let n : ℕ = c.loop-cpu.cpu in
     let e = c.join_seat.ensures in
     let q = c.pass.invariant in
-    let items = c.in-Ok.ensures.items in (
+    let items = c.push_in_room.ensures.items in (
       e.0 ∙ i.0,
       e.1 ∙ i.1,
       ap (λ m. m.0.root) e.2 ∙ i.2,

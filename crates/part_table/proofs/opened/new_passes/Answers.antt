@@ -30,7 +30,7 @@ loop-cpu-preserved g c =
     let popped = All-pop (λ (k : CpuState). k ≡ own_at_boot key) c.loop-cpu.owns.items c.pop.new.self.items c.pop.result c.pop.ensures.items i.5 in
     let ps : List (Option Pass) = c.loop-cpu.passes.items in
     let table : TableId = c.args.root.now.table_id in
-    let items : c.push.new.self.items ≡ ps ++ Some c.new_pass-pass.result ∷ [] = search rules in
+    let items : c.push_in_room.new.list.items ≡ ps ++ Some c.new_pass-pass.result ∷ [] = c.push_in_room.ensures.items in
     let new : c.new_pass-pass.result ≡ first_pass table key n = c.new_pass-pass.ensures.pass ∙ ap (λ (t : TableId). first_pass t key n) i.0 in (
       r.0 ∙ i.0,
       r.1,

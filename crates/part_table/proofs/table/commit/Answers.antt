@@ -1,6 +1,6 @@
-use Rattle.std.proofs.Common.{ℕ, ◌∷◌, Some, sym, ap, ◌∙◌}
-use Rattle.part_table.specs.Rule.{tail}
+use Rattle.std.proofs.Common.{ap}
+use Rattle.part_table.proofs.Pairs.{by_front}
 use Rattle.part_table.proofs.table.commit.Goals as goal
 
 pub store-requires-clause-laid : goal.store-requires-clause-laid
-store-requires-clause-laid g c = let k : ℕ = c.args.k in let e = ap (λ m. m.1) c.exchange.ensures.3 in (c.args.part, e ∙ ap (λ l. (k, Some c.args.part) ∷ l) (sym (ap tail e)))
+store-requires-clause-laid g c = (c.args.part, by_front (ap (λ m. m.1) c.lay.ensures.laid))

@@ -11,24 +11,24 @@ use Rattle.part_table.proofs.whole.guests_of.Goals as goal
 pub remove-requires : goal.remove-requires
 remove-requires g c = some_room (vec_len c.loop-found.found) (sym c.is_empty.ensures ∙ c.loop-found-test.true)
 
-pub unreachable-requires : goal.unreachable-requires
-unreachable-requires g c =
+pub into_guest-guest-requires : goal.into_guest-guest-requires
+into_guest-guest-requires g c =
     let some = some_room (vec_len c.loop-found.found) (sym c.is_empty.ensures ∙ c.loop-found-test.true) in
     let front = first_out {P = Slot g.row.A.Denot} c.loop-found.found.items c.remove.new.self.items c.remove.result (omega (arith, some, c.loop-found.found.ok.0)) c.remove.ensures.value c.remove.ensures.items in
-    first_guest c.loop-found.found.items c.remove.new.self.items c.remove.result c.loop-found.invariant.kinds front c.in_default.not-Guest
+    first_guest c.loop-found.found.items c.remove.new.self.items c.remove.result c.loop-found.invariant.kinds front
 
 pub loop-found-preserved : goal.loop-found-preserved
 loop-found-preserved g c =
     let i = c.loop-found.invariant in
     let some = some_room (vec_len c.loop-found.found) (sym c.is_empty.ensures ∙ c.loop-found-test.true) in
     let front = first_out {P = Slot g.row.A.Denot} c.loop-found.found.items c.remove.new.self.items c.remove.result (omega (arith, some, c.loop-found.found.ok.0)) c.remove.ensures.value c.remove.ensures.items in
-    let is = front ∙ ap (λ (x : Slot g.row.A.Denot). x ∷ c.remove.new.self.items) c.in-Guest.is in
-    let more = moved_back {P = GuestPart g.row.A.Denot} {Q = Slot g.row.A.Denot} (λ h. GuestSlot h) c.loop-found.guests.items c.push.new.self.items c.loop-found.found.items c.remove.new.self.items c.in-Guest.guest is c.in-Ok.ensures.items in
-    let a : vec_len c.push.new.self ≡ vec_len c.loop-found.guests + 1 = c.in-Ok.ensures.len in
+    let is = front ∙ ap (λ (x : Slot g.row.A.Denot). x ∷ c.remove.new.self.items) c.into_guest-guest.ensures in
+    let more = moved_back {P = GuestPart g.row.A.Denot} {Q = Slot g.row.A.Denot} (λ h. GuestSlot h) c.loop-found.guests.items c.push_in_room.new.list.items c.loop-found.found.items c.remove.new.self.items c.into_guest-guest.result is c.push_in_room.ensures.items in
+    let a : vec_len c.push_in_room.new.list ≡ vec_len c.loop-found.guests + 1 = c.push_in_room.ensures.len in
     let b = c.remove.ensures.len in
-    let d : vec_capacity c.loop-found.guests ≤ vec_capacity c.push.new.self = c.in-Ok.ensures.capacity in
+    let d : vec_capacity c.loop-found.guests ≤ vec_capacity c.push_in_room.new.list = c.push_in_room.ensures.room in
     let room = i.room in
-    record { all = more ∙ i.all; kinds = rest_guests c.loop-found.found.items c.remove.new.self.items c.in-Guest.guest i.kinds is; room = omega (arith, a, b, d, room) }
+    record { all = more ∙ i.all; kinds = rest_guests c.loop-found.found.items c.remove.new.self.items c.into_guest-guest.result i.kinds is; room = omega (arith, a, b, d, room) }
 
 pub returns : goal.returns
 returns g c =

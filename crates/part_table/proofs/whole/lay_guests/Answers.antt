@@ -15,10 +15,10 @@ loop-guests-preserved g c =
     let i = c.loop-guests.invariant in
     let some = some_room (vec_len c.loop-guests.guests) (sym c.is_empty.ensures ∙ c.loop-guests-test.true) in
     let front = first_out c.loop-guests.guests.items c.remove-guest.new.self.items c.remove-guest.result (omega (arith, some, c.loop-guests.guests.ok.0)) c.remove-guest.ensures.value c.remove-guest.ensures.items in
-    let more = moved {P = GuestPart g.row.A.Denot} (λ h. Some (GuestSlot h)) c.loop-guests.slots.items c.push.new.self.items c.loop-guests.guests.items c.remove-guest.new.self.items c.remove-guest.result front c.in-Ok.ensures.items in
-    let a : vec_len c.push.new.self ≡ vec_len c.loop-guests.slots + 1 = c.in-Ok.ensures.len in
+    let more = moved {P = GuestPart g.row.A.Denot} (λ h. Some (GuestSlot h)) c.loop-guests.slots.items c.push_in_room.new.list.items c.loop-guests.guests.items c.remove-guest.new.self.items c.remove-guest.result front c.push_in_room.ensures.items in
+    let a : vec_len c.push_in_room.new.list ≡ vec_len c.loop-guests.slots + 1 = c.push_in_room.ensures.len in
     let b = c.remove-guest.ensures.len in
-    let d : vec_capacity c.loop-guests.slots ≤ vec_capacity c.push.new.self = c.in-Ok.ensures.capacity in
+    let d : vec_capacity c.loop-guests.slots ≤ vec_capacity c.push_in_room.new.list = c.push_in_room.ensures.room in
     let room = i.room in
     record { all = more ∙ i.all; room = omega (arith, a, b, d, room) }
 
