@@ -1,5 +1,6 @@
 ghost use Rattle.std.specs.Prelude.{◌≡◌, ◌<◌, ◌^◌, IfOk};
 ghost use Rattle.ghost_spec.specs.Kept.{IsKeptTree};
+ghost use Rattle.ghost_spec.specs.Small.{AreSmall};
 ghost use Rattle.ghost_spec.specs.States.{IsKept};
 
 mod generated;
@@ -14,34 +15,63 @@ use ghost_judge::disagreement::Disagreement;
 use ghost_oracle::raw::{RawGuest, Which};
 use ghost_spec::blocks::Block;
 use ghost_spec::state::{Ghost, predict};
-use ghost_spec::{boot, runs, tree};
+use ghost_spec::tree::{self, Table};
+use ghost_spec::{boot, runs};
 use ghost_tests::sample::{self, config, memory};
-use guest_steps::SharedPart;
+use guest_steps::{CpuState, SharedPart};
 use linked_list_allocator::LocalHeap;
+use maplets::Maplets;
 use page_state::{Entry, Lent, Page, Refusal, Reply, Row, Run, Step, Usage, Value};
 use std::alloc::{AllocError, Allocator, Global};
 use std::process::Abort;
 use std::test::Fail;
+use table_tree::Tree;
 use world::{BootFault, Histories, MergeFault, RawWorld, World};
+
+/// What a call answers that gives no value.
+const DONE: Reply = Reply::Done(Value::Nothing);
+
+/// A world with a carve-out of 64 frames, one CPU and such logs.
+fn booted(alloc: Global, log: u64) -> Result<World<Global>, Fail> {
+    let map = memory(alloc, 0x40)?;
+    Ok(World::boot(alloc, alloc, &map, config(1, log))?)
+}
+
+/// Makes calls of CPU 0, one after another, and compares the replies.
+fn expect_replies(rt: &impl Abort, world: &mut World<Global>, calls: &[(Step, Reply)]) {
+    for call in calls {
+        let (step, reply) = *call;
+        assert!(rt; world.cpus() > 0);
+        assert!(rt; world.step(0, step) == reply);
+    }
+}
+
+/// Compares how many frames are free in the shared pool, and how many calls its log has.
+fn expect_shared(rt: &impl Abort, world: &World<Global>, free: usize, calls: usize) {
+    let shared = world.parts().shared();
+    assert!(rt; (shared.pool.free(), shared.log.len()) == (free, calls));
+}
 
 #[test]
 fn shares_until_the_log_is_full(rt: HostRuntime) -> Result<(), Fail> {
-    let map = memory(rt.alloc(), 0x40)?;
-    let mut world = World::boot(rt.alloc(), rt.alloc(), &map, config(1, 3))?;
-    assert_eq!(rt; world.parts().shared().pool.free(), 58);
-    assert_eq!(rt; world.cpus(), 1);
+    let pfn = 0x40100;
     let replies = [
-        (0x40100, Reply::Done(Value::Nothing)),
-        (0x40100, Reply::Refused(Refusal::Perm)),
-        (0x40800, Reply::Refused(Refusal::Invalid)),
-        (0x40101, Reply::Refused(Refusal::LogFull)),
+        (Step::ShareHyp { pfn }, DONE),
+        (Step::ShareHyp { pfn }, Reply::Refused(Refusal::Perm)),
+        (
+            Step::ShareHyp { pfn: 0x40800 },
+            Reply::Refused(Refusal::Invalid),
+        ),
+        (
+            Step::ShareHyp { pfn: 0x40101 },
+            Reply::Refused(Refusal::LogFull),
+        ),
     ];
-    for (pfn, reply) in replies {
-        assert!(rt; world.cpus() > 0);
-        assert_eq!(rt; world.step(0, Step::ShareHyp { pfn }), reply);
-    }
-    assert_eq!(rt; world.parts().shared().pool.free(), 56);
-    assert_eq!(rt; world.parts().shared().log.len(), 3);
+    let mut world = booted(rt.alloc(), 3)?;
+    assert!(rt; world.cpus() == 1);
+    expect_shared(&rt, &world, 58, 0);
+    expect_replies(&rt, &mut world, replies.as_slice());
+    expect_shared(&rt, &world, 56, 3);
     Ok(())
 }
 
@@ -82,6 +112,42 @@ fn path_of(block: Block) -> ArrayVec<u16, 4> {
     path
 }
 
+/// Compares the root of a tree, and the other tables by the words that lead to them.
+fn compare_tables(rt: &impl Abort, kept: &Tree<Global>, lists: &[Table]) {
+    assert!(rt; kept.tables() == lists.len());
+    for table in lists {
+        if table.block.0 > DEPTH {
+            assert!(rt; kept.root().0 == table.frame);
+        } else {
+            let word = encode(Level::Two, &Desc::Table(Frame(table.frame)));
+            assert!(rt; kept.word_at(&path_of(table.block)) == word);
+        }
+    }
+}
+
+/// Compares the entries of some pages.
+fn compare_entries(rt: &impl Abort, kept: &Tree<Global>, runs: &[Run], offset: u64)
+    requires runs { AreSmall runs.now }
+    requires offset { offset < 2 ^ 27 }
+{
+    for number in PAGES {
+        let page = Page(number + offset);
+        assert!(rt; kept.look(page) == runs::at(runs, page));
+    }
+}
+
+/// Compares maplets with the coarsest runs.
+fn compare_runs(
+    rt: &impl Abort,
+    alloc: Global,
+    maplets: &Maplets,
+    runs: &[Run],
+) -> Result<(), Fail> {
+    let told: Vec<Run> = maplets.iter().collect(alloc)?;
+    assert!(rt; told.as_slice() == runs);
+    Ok(())
+}
+
 /// Compares a tree and its maplets with those that lists stand for: the root, the other tables by the words that
 /// lead to them, the entries of some pages, and the coarsest runs.
 fn compare_component(
@@ -94,23 +160,30 @@ fn compare_component(
     requires kept { IsKeptTree lists.now }
     requires offset { offset < 2 ^ 27 }
 {
-    let kept = component.tree();
-    assert_eq!(rt; kept.tables(), lists.tables.len());
-    for table in lists.tables.as_slice() {
-        if table.block.0 > DEPTH {
-            assert_eq!(rt; kept.root().0, table.frame);
-        } else {
-            let word = encode(Level::Two, &Desc::Table(Frame(table.frame)));
-            assert_eq!(rt; kept.word_at(&path_of(table.block)), word);
-        }
-    }
-    for number in PAGES {
-        let page = Page(number + offset);
-        assert_eq!(rt; kept.look(page), runs::at(lists.runs.as_slice(), page));
-    }
-    let told: Vec<Run> = component.maplets().iter().collect(alloc)?;
-    assert_eq!(rt; told.as_slice(), lists.runs.as_slice());
+    compare_tables(rt, component.tree(), lists.tables.as_slice());
+    compare_entries(rt, component.tree(), lists.runs.as_slice(), offset);
+    compare_runs(rt, alloc, component.maplets(), lists.runs.as_slice())
+}
+
+/// Compares the pool, the rows and the log of a Shared part with those on lists.
+fn compare_shared(
+    rt: &impl Abort,
+    alloc: Global,
+    shared: &SharedPart<Global>,
+    lists: &Ghost,
+) -> Result<(), Fail> {
+    assert!(rt; shared.pool.free() == lists.shared.free.len());
+    assert!(rt; shared.rows.runs() == lists.shared.rows.runs());
+    assert!(rt; shared.log.room() == lists.rooms.shared);
+    let free = free_frames(alloc, shared)?;
+    assert!(rt; free.as_slice() == lists.shared.free.as_slice());
     Ok(())
+}
+
+/// Compares CPU 0 with that on lists: what its log has room for, and what its hand holds.
+fn compare_cpu(rt: &impl Abort, cpu: &CpuState, lists: &Ghost) {
+    assert!(rt; lists.rooms.cpus.first().copied() == Some(cpu.log.room()));
+    assert!(rt; lists.cpus.first().map(|own| own.hand) == Some(cpu.hand));
 }
 
 /// Compares the Shared part and CPU 0 of a world with a state on lists.
@@ -120,21 +193,8 @@ fn compare(rt: &impl Abort, alloc: Global, world: &World<Global>, lists: &Ghost)
     let shared = world.parts().shared();
     compare_component(rt, alloc, &shared.host, &lists.shared.host, 0)?;
     compare_component(rt, alloc, &shared.hyp, &lists.shared.hyp, 0x400_0000)?;
-    let free = free_frames(alloc, shared)?;
-    assert_eq!(rt; free.as_slice(), lists.shared.free.as_slice());
-    assert_eq!(rt; shared.pool.free(), lists.shared.free.len());
-    assert_eq!(rt; shared.rows.runs(), lists.shared.rows.runs());
-    assert_eq!(rt; shared.log.room(), lists.rooms.shared);
-    let cpu = world.parts().cpus.first();
-    assert_eq!(rt;
-        cpu.map(|cpu| cpu.log.room()),
-        lists.rooms.cpus.first().copied()
-    );
-    assert_eq!(rt;
-        cpu.map(|cpu| cpu.hand),
-        lists.cpus.first().map(|cpu| cpu.hand)
-    );
-    Ok(())
+    compare_cpu(rt, world.parts().cpus.first().expect(rt, "a CPU"), lists);
+    compare_shared(rt, alloc, shared, lists)
 }
 
 /// Makes one step of CPU 0 on a world and on lists, and compares the replies and what stands afterwards.
@@ -154,8 +214,8 @@ fn step_on_both(
 {
     let reply = world.step(0, step);
     let (foretold, after) = predict(alloc, lists, 0, step)?;
-    assert_eq!(rt; reply, foretold);
     *lists = after;
+    assert!(rt; reply == foretold);
     compare(rt, alloc, world, lists)?;
     Ok(reply)
 }
@@ -170,6 +230,26 @@ fn started(rt: &impl Abort, alloc: Global, frames: u64, log: u64) -> Result<Ghos
     Ok(lists.expect(rt, "enough frames"))
 }
 
+/// Shares frames on a world and on lists, and compares the replies with these.
+fn expect_shares_on_both(
+    rt: &impl Abort,
+    alloc: Global,
+    world: &mut World<Global>,
+    lists: &mut Ghost,
+    shares: &[(u64, Reply)],
+) -> Result<(), Fail>
+    requires { IsKept lists.old }
+{
+    compare(rt, alloc, world, lists)?;
+    for share in shares {
+        let (pfn, reply) = *share;
+        assert!(rt; world.cpus() > 0 && lists.layout.config.cpus > 0);
+        let said = step_on_both(rt, alloc, world, lists, Step::ShareHyp { pfn })?;
+        assert!(rt; said == reply);
+    }
+    Ok(())
+}
+
 /// Shares frames on a world and on lists with such a carve-out and such logs, and compares the replies with these.
 fn expect_shares(
     rt: &impl Abort,
@@ -179,26 +259,19 @@ fn expect_shares(
     shares: &[(u64, Reply)],
 ) -> Result<(), Fail> {
     let map = memory(alloc, frames)?;
-    let mut world = World::boot(alloc, alloc, &map, config(1, log))?;
     let mut lists = started(rt, alloc, frames, log)?;
-    compare(rt, alloc, &world, &lists)?;
-    for share in shares {
-        let (pfn, reply) = *share;
-        assert!(rt; world.cpus() > 0 && lists.layout.config.cpus > 0);
-        let said = step_on_both(rt, alloc, &mut world, &mut lists, Step::ShareHyp { pfn })?;
-        assert_eq!(rt; said, reply);
-    }
-    Ok(())
+    let mut world = World::boot(alloc, alloc, &map, config(1, log))?;
+    expect_shares_on_both(rt, alloc, &mut world, &mut lists, shares)
 }
 
 #[test]
 fn shares_as_the_definitions_say(rt: HostRuntime) -> Result<(), Fail> {
     let shares = [
-        (0x40100, Reply::Done(Value::Nothing)),
+        (0x40100, DONE),
         (0x40100, Reply::Refused(Refusal::Perm)),
         (0x40600, Reply::Refused(Refusal::Perm)),
         (0x40800, Reply::Refused(Refusal::Invalid)),
-        (0x40101, Reply::Done(Value::Nothing)),
+        (0x40101, DONE),
         (0x40102, Reply::Refused(Refusal::LogFull)),
     ];
     expect_shares(&rt, rt.alloc(), 0x40, 5, shares.as_slice())
@@ -214,20 +287,17 @@ fn shares_without_frames_as_the_definitions_say(rt: HostRuntime) -> Result<(), F
 }
 
 /// The entry of a page of frame 0x40201.
-fn entry(prot: Prot, state: State) -> Value {
-    Value::Entry(Entry::Leaf {
+fn entry(prot: Prot, state: State) -> Reply {
+    Reply::Done(Value::Entry(Entry::Leaf {
         frame: Frame(0x40201),
         prot,
         kind: Kind::Normal,
         state,
-    })
+    }))
 }
 
 #[test]
 fn makes_each_call(rt: HostRuntime) -> Result<(), Fail> {
-    let alloc = rt.alloc();
-    let map = memory(alloc, 0x40)?;
-    let mut world = World::boot(alloc, alloc, &map, config(1, 10))?;
     let (pfn, page) = (0x40201, 0x404_0201);
     let owned = entry(Prot::RWX, State::Owned);
     let borrowed = entry(Prot::RW, State::SharedBorrowed);
@@ -240,21 +310,19 @@ fn makes_each_call(rt: HostRuntime) -> Result<(), Fail> {
         usage: Usage::Plain,
     };
     let calls = [
-        (Step::HostAbort { page: 0x40300 }, Value::Nothing),
+        (Step::HostAbort { page: 0x40300 }, DONE),
         (Step::HostTranslate { page: pfn }, owned),
-        (Step::ShareHyp { pfn }, Value::Nothing),
+        (Step::ShareHyp { pfn }, DONE),
         (Step::HypTranslate { page }, borrowed),
-        (Step::OwnerOf { pfn }, Value::Row(lent)),
-        (Step::UnshareHyp { pfn }, Value::Nothing),
-        (Step::DonateHyp { pfn, n: 512 }, Value::Nothing),
-        (Step::HypDonateHost { pfn, n: 512 }, Value::Nothing),
-        (Step::Fund { pfn, n: 512 }, Value::Nothing),
-        (Step::Unfund, Value::Nothing),
+        (Step::OwnerOf { pfn }, Reply::Done(Value::Row(lent))),
+        (Step::UnshareHyp { pfn }, DONE),
+        (Step::DonateHyp { pfn, n: 512 }, DONE),
+        (Step::HypDonateHost { pfn, n: 512 }, DONE),
+        (Step::Fund { pfn, n: 512 }, DONE),
+        (Step::Unfund, DONE),
     ];
-    for (step, value) in calls {
-        assert!(rt; world.cpus() > 0);
-        assert_eq!(rt; world.step(0, step), Reply::Done(value));
-    }
+    let mut world = booted(rt.alloc(), 10)?;
+    expect_replies(&rt, &mut world, calls.as_slice());
     Ok(())
 }
 
@@ -280,8 +348,56 @@ fn seen<A: Allocator>(
     )
 }
 
-/// Makes the step while the heap of the tables has room of `tables` tables, and again with all of it. The first is refused
-/// for want of memory where `tables` are too few, and leaves all as it was.
+/// The blocks that leave a heap room of so many tables, and of nothing else.
+fn filling<'a>(
+    global: Global,
+    heap: &'a LocalHeap,
+    tables: usize,
+) -> Result<Vec<Vec<u8, &'a LocalHeap>>, AllocError> {
+    let mut kept = Vec::new(global);
+    for _table in 0..tables {
+        kept.push(Vec::<u8, _>::with_capacity(heap, 12_544)?)?;
+    }
+    let mut blocks = Vec::new(global);
+    for size in [65536usize, 4096, 256, 16] {
+        for _block in 0..64usize {
+            if let Ok(block) = Vec::<u8, _>::with_capacity(heap, size) {
+                blocks.push(block)?;
+            }
+        }
+    }
+    Ok(blocks)
+}
+
+/// Makes a step of CPU 0, and compares the reply.
+fn expect_step(rt: &impl Abort, world: &mut World<&LocalHeap>, step: Step, reply: Reply) {
+    assert!(rt; world.cpus() > 0);
+    assert!(rt; world.step(0, step) == reply);
+}
+
+/// Makes the step while the heap of the tables is filled but for `tables` tables, and again with all of it. The first is
+/// refused for want of memory where `tables` are too few, and leaves all as it was.
+fn expect_with_few_tables(
+    rt: &impl Abort,
+    global: Global,
+    heap: &LocalHeap,
+    world: &mut World<&LocalHeap>,
+    step: Step,
+    tables: usize,
+    refused: bool,
+) -> Result<(), Fail> {
+    let filling = filling(global, heap, tables)?;
+    if refused {
+        let before = seen(world.parts().shared(), 0x40100);
+        expect_step(rt, world, step, Reply::Refused(Refusal::NoMemory));
+        assert!(rt; seen(world.parts().shared(), 0x40100) == before);
+        drop(filling);
+    }
+    expect_step(rt, world, step, DONE);
+    Ok(())
+}
+
+/// The same in a world of its own.
 fn with_few_tables(
     rt: &impl Abort,
     global: Global,
@@ -289,35 +405,10 @@ fn with_few_tables(
     tables: usize,
     refused: bool,
 ) -> Result<(), Fail> {
-    let heap = LocalHeap::new(global, 1 << 20)?;
     let map = memory(global, 0x40)?;
+    let heap = LocalHeap::new(global, 1 << 20)?;
     let mut world = World::boot(global, &heap, &map, config(1, 3))?;
-    let mut kept = Vec::new(global);
-    for _table in 0..tables {
-        kept.push(Vec::<u8, _>::with_capacity(&heap, 12_544)?)?;
-    }
-    let mut filling = Vec::new(global);
-    for size in [65536usize, 4096, 256, 16] {
-        for _block in 0..64usize {
-            if let Ok(block) = Vec::<u8, _>::with_capacity(&heap, size) {
-                filling.push(block)?;
-            }
-        }
-    }
-    drop(kept);
-    let before = seen(world.parts().shared(), 0x40100);
-    assert!(rt; world.cpus() > 0);
-    let reply = world.step(0, step);
-    if refused {
-        assert_eq!(rt; reply, Reply::Refused(Refusal::NoMemory));
-        assert!(rt; seen(world.parts().shared(), 0x40100) == before);
-        drop(filling);
-        assert!(rt; world.cpus() > 0);
-        assert_eq!(rt; world.step(0, step), Reply::Done(Value::Nothing));
-    } else {
-        assert_eq!(rt; reply, Reply::Done(Value::Nothing));
-    }
-    Ok(())
+    expect_with_few_tables(rt, global, &heap, &mut world, step, tables, refused)
 }
 
 #[test]

@@ -2,13 +2,13 @@
 ghost use Rattle.std.specs.Prelude.{◌<◌, ◌^◌, IfOk, OnOk};
 ghost use Rattle.ghost_spec.specs.States.{IsKept};
 
-use super::compare;
+use super::{compare, compare_runs};
 use crate::numbers::Numbers;
 use ghost_spec::parts::{GhostGuest, GhostPhase};
 use ghost_spec::state::{Ghost, predict};
 use ghost_tests::sample::{self, region};
 use guest_component::Guest;
-use page_state::{MemoryMap, Page, PageRange, Prot, RegionKind, Run, Step, VmId, VmKind};
+use page_state::{MemoryMap, Page, PageRange, Prot, RegionKind, Step, VmId, VmKind};
 use std::alloc::Global;
 use std::ops::Range;
 use std::process::Abort;
@@ -232,20 +232,15 @@ fn compare_guest(
     guest: &Guest<Global>,
     lists: &GhostGuest,
 ) -> Result<(), Fail> {
-    assert_eq!(rt; guest.tables(), lists.tree.tables.len());
-    assert_eq!(rt; guest.free(), lists.free.len());
-    match guest.body() {
-        Some(body) => {
-            assert_eq!(rt; body.generation, lists.generation);
-            let runs: Vec<Run> = body.map.maplets().iter().collect(alloc)?;
-            assert_eq!(rt; runs.as_slice(), lists.tree.runs.as_slice());
-        }
-        None => {
-            assert!(rt; matches!(lists.phase, GhostPhase::Empty));
-            assert_eq!(rt; lists.tree.runs.len(), 0);
-        }
-    }
-    Ok(())
+    assert!(rt; guest.tables() == lists.tree.tables.len());
+    assert!(rt; guest.free() == lists.free.len());
+    let Some(body) = guest.body() else {
+        assert!(rt; matches!(lists.phase, GhostPhase::Empty));
+        assert!(rt; lists.tree.runs.is_empty());
+        return Ok(());
+    };
+    assert!(rt; body.generation == lists.generation);
+    compare_runs(rt, alloc, body.map.maplets(), lists.tree.runs.as_slice())
 }
 
 /// Compares all guests.
@@ -279,27 +274,40 @@ fn step_on_both(
     assert!(rt; cpu < lists.layout.config.cpus);
     let reply = world.step(cpu, step);
     let (foretold, after) = predict(alloc, lists, cpu, step)?;
-    assert_eq!(rt; reply, foretold);
     *lists = after;
+    assert!(rt; reply == foretold);
     Ok(())
 }
 
 /// Makes the steps of a seed: one of a VM's life, then any of either CPU, and so on. What stands at their end is compared too.
-fn agrees(rt: &impl Abort, alloc: Global, seed: u64) -> Result<(), Fail> {
-    let has_blocks = seed % 16 == 0;
-    let map = memory(alloc, has_blocks)?;
-    let mut world = World::boot(alloc, alloc, &map, sample::config(2, 40))?;
-    let mut lists = started(rt, alloc, has_blocks)?;
+fn agree_on(
+    rt: &impl Abort,
+    alloc: Global,
+    world: &mut World<Global>,
+    lists: &mut Ghost,
+    seed: u64,
+) -> Result<(), Fail>
+    requires { IsKept lists.old }
+{
     let mut numbers = Numbers::of(seed);
     for k in 0..STEPS {
         let step = numbers.step_of_life(k);
-        step_on_both(rt, alloc, &mut world, &mut lists, 0, step)?;
+        step_on_both(rt, alloc, world, lists, 0, step)?;
         let cpu = numbers.below(2);
         let step = numbers.step();
-        step_on_both(rt, alloc, &mut world, &mut lists, cpu, step)?;
+        step_on_both(rt, alloc, world, lists, cpu, step)?;
     }
-    compare(rt, alloc, &world, &lists)?;
-    compare_guests(rt, alloc, &world, &lists)
+    compare(rt, alloc, world, lists)?;
+    compare_guests(rt, alloc, world, lists)
+}
+
+/// The same of a world and lists at boot.
+fn agrees(rt: &impl Abort, alloc: Global, seed: u64) -> Result<(), Fail> {
+    let has_blocks = seed % 16 == 0;
+    let map = memory(alloc, has_blocks)?;
+    let mut lists = started(rt, alloc, has_blocks)?;
+    let mut world = World::boot(alloc, alloc, &map, sample::config(2, 40))?;
+    agree_on(rt, alloc, &mut world, &mut lists, seed)
 }
 
 /// The same for the traces of so many seeds.

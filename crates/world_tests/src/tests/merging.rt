@@ -1,4 +1,6 @@
 //! Logs merged into one list.
+ghost use Rattle.std.specs.Prelude.{◌<◌};
+
 use super::*;
 use page_state::{Call, VmId, VmKind};
 
@@ -63,7 +65,7 @@ fn merges_nothing(rt: HostRuntime) -> Result<(), Fail> {
     let alloc = rt.alloc();
     let logs = logs_of(alloc, &[], &[], &[], &[], &[])?;
     let merged = World::<Global>::merge(alloc, &logs)?;
-    assert_eq!(rt; merged.len(), 0);
+    assert!(rt; merged.is_empty());
     Ok(())
 }
 
@@ -101,7 +103,21 @@ fn merges_two_cpus(rt: HostRuntime) -> Result<(), Fail> {
         told(topup),
         told(open),
     ];
-    assert_eq!(rt; merged.as_slice(), order.as_slice());
+    assert!(rt; merged.as_slice() == order.as_slice());
+    Ok(())
+}
+
+/// Compares what merging these logs answers, which have no order.
+fn expect_no_order(
+    rt: &impl Abort,
+    alloc: Global,
+    vms: &[Call],
+    shared: &[Call],
+    first: &[Call],
+    second: &[Call],
+) -> Result<(), AllocError> {
+    let logs = logs_of(alloc, vms, shared, &[], first, second)?;
+    assert!(rt; World::<Global>::merge(alloc, &logs).err() == Some(MergeFault::NoOrder));
     Ok(())
 }
 
@@ -112,29 +128,53 @@ fn finds_no_order(rt: HostRuntime) -> Result<(), Fail> {
     let share = call(0, 2, Step::ShareHyp { pfn: 1 }, None);
     let owner = call(1, 1, Step::OwnerOf { pfn: 1 }, None);
     let open = call(1, 2, Step::VmOpen, None);
-    let turned = logs_of(
+    expect_no_order(
+        &rt,
         alloc,
         &[open, put],
         &[share, owner],
-        &[],
         &[put, share],
         &[owner, open],
     )?;
-    assert_eq!(rt;
-        World::<Global>::merge(alloc, &turned).err(),
-        Some(MergeFault::NoOrder)
-    );
-    let missing = logs_of(alloc, &[put], &[], &[], &[put, share], &[])?;
-    assert_eq!(rt;
-        World::<Global>::merge(alloc, &missing).err(),
-        Some(MergeFault::NoOrder)
-    );
-    let further = logs_of(alloc, &[put], &[], &[], &[], &[])?;
-    assert_eq!(rt;
-        World::<Global>::merge(alloc, &further).err(),
-        Some(MergeFault::NoOrder)
-    );
+    expect_no_order(&rt, alloc, &[put], &[], &[put, share], &[])?;
+    expect_no_order(&rt, alloc, &[put], &[], &[], &[])?;
     Ok(())
+}
+
+/// The logs of a world, merged.
+fn merged(alloc: Global, world: &World<Global>) -> Result<Vec<(u64, Step, Reply)>, Fail> {
+    let logs = world.histories(alloc)?;
+    Ok(World::<Global>::merge(alloc, &logs)?)
+}
+
+/// Compares the merged logs with the calls that were made.
+fn expect_merged(
+    rt: &impl Abort,
+    alloc: Global,
+    world: &World<Global>,
+    steps: &[(u64, Step)],
+    replies: &[Reply],
+) -> Result<(), Fail> {
+    let merged = merged(alloc, world)?;
+    assert!(rt; merged.len() == steps.len());
+    for (call, (asked, reply)) in merged.iter().zip(steps.iter().zip(replies.iter())) {
+        assert!(rt; *call == (asked.0, asked.1, *reply));
+    }
+    Ok(())
+}
+
+/// Makes calls of two CPUs, and compares the merged logs with them.
+fn run_and_merge(rt: &impl Abort, alloc: Global, world: &mut World<Global>) -> Result<(), Fail>
+    requires { 1 < world.old.parts.layout.config.cpus }
+{
+    let steps = [
+        (0, Step::ShareHyp { pfn: 0x40100 }),
+        (1, Step::ShareHyp { pfn: 0x40100 }),
+        (1, Step::UnshareHyp { pfn: 0x40100 }),
+        (0, Step::ShareHyp { pfn: 0x40100 }),
+    ];
+    let replies = world.run(alloc, steps.as_slice())?;
+    expect_merged(rt, alloc, world, steps.as_slice(), replies.as_slice())
 }
 
 #[test]
@@ -142,19 +182,6 @@ fn merges_a_run(rt: HostRuntime) -> Result<(), Fail> {
     let alloc = rt.alloc();
     let map = memory(alloc, 0x40)?;
     let mut world = World::boot(alloc, alloc, &map, config(2, 8))?;
-    let steps = [
-        (0, Step::ShareHyp { pfn: 0x40100 }),
-        (1, Step::ShareHyp { pfn: 0x40100 }),
-        (1, Step::UnshareHyp { pfn: 0x40100 }),
-        (0, Step::ShareHyp { pfn: 0x40100 }),
-    ];
     assert!(rt; world.cpus() > 1);
-    let replies = world.run(alloc, steps.as_slice())?;
-    let logs = world.histories(alloc)?;
-    let merged = World::<Global>::merge(alloc, &logs)?;
-    assert_eq!(rt; merged.len(), 4);
-    for (call, (asked, reply)) in merged.iter().zip(steps.iter().zip(replies.iter())) {
-        assert!(rt; *call == (asked.0, asked.1, *reply));
-    }
-    Ok(())
+    run_and_merge(&rt, alloc, &mut world)
 }
