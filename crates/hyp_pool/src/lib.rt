@@ -172,6 +172,3 @@ fn move_last(from: &mut Vec<Frame>, to: &mut Vec<Frame>, n: usize)
     to.reverse();
     from.truncate(start);
 }
-
-#[cfg(test)]
-mod tests;

@@ -103,6 +103,3 @@ impl Maplets {
         let _ = &self.list;
     }
 }
-
-#[cfg(test)]
-mod tests;

@@ -11,6 +11,3 @@ mod values;
 pub use advance::Advance;
 pub use list::RunList;
 pub use run::Run;
-
-#[cfg(test)]
-mod tests;

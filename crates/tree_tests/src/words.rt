@@ -1,4 +1,5 @@
-use crate::{Desc, Frame, Kind, Level, Owner, Prot, State, block_pages_of, decode, encode};
+//! Words of descriptors, by level.
+use descriptor::{Desc, Frame, Kind, Level, Owner, Prot, State, block_pages_of, decode, encode};
 
 fn leaf(frame: u64, prot: Prot, kind: Kind, state: State) -> Desc {
     Desc::Leaf {

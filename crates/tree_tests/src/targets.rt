@@ -1,8 +1,10 @@
+//! Maps from pages to targets.
 ghost use Rattle.std.specs.Prelude.{◌≡◌, ◌+◌, ◌<◌, ◌≤◌, ◌^◌};
 ghost use Rattle.run_list.specs.Targets.{HasFrameBelow};
 
-use super::*;
-use page_state::{Frame, Kind, Prot, Run, State};
+use maplets::Maplets;
+use page_state::{Frame, Kind, Page, PageRange, Prot, Run, State, Target};
+use std::alloc::{AllocError, Global};
 use std::process::Abort;
 use std::test::Fail;
 

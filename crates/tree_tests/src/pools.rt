@@ -1,6 +1,9 @@
+//! Pools of free frames.
 ghost use Rattle.std.specs.Prelude.{◌≡◌, [], ◌∷◌};
 
-use super::*;
+use hyp_pool::{Pool, PoolFault};
+use page_state::Frame;
+use std::alloc::{AllocError, Global};
 use std::process::Abort;
 use std::test::Fail;
 
