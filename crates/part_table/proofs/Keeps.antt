@@ -95,6 +95,20 @@ module _ (A : Type 0) (key : TheLayout) where
         })
         (at_set s.views id 0 w v e)
 
+    -- a view that goes on but for the parts that it holds and those that it tried knows what it knew, where what it holds is told
+    still_knows : (ws : List ℕ) (holder : ℕ → ℕ) (i : ℕ) (v : View A) (hands : Hands A) (tries : List (ℕ × Option StoredCalls)) → F s.words r.holder i v
+        → ((j : ℕ) (y : Slot A) → held_at hands j ≡ Some y → (v.on ≡ true) × (j < parts) × (slice_index ws j ≢ 0) × (holder j ≡ i) × StandsAfter key ws holder r.log r.state j y)
+        → F ws holder i (record v { held = hands; tries = tries })
+    still_knows ws holder i v hands tries f held = record {
+      layout = f.layout;
+      known = f.known;
+      seat = f.seat;
+      mine = f.mine;
+      own = f.own;
+      seen = f.seen;
+      held = held;
+    }
+
     -- the part is found at home, and taken
     takes_it : (x : Slot A) → slice_index s.words k ≡ 0 → StandsAfter key s.words r.holder r.log r.state k x → Rule (stepped s k 1 id m.1 (taking m.0 k x) (takes k (Some x)))
     takes_it x home stands =
@@ -119,33 +133,19 @@ module _ (A : Type 0) (key : TheLayout) where
               (h.0, h.1, ap (get_elem? (set s.views id w)) (taken_else r.holder k id j ne) ∙ h.2, h.3));
           root = root_still w;
           each_seat = seats (F ws holder) s.views id w
-              record {
-                layout = mine.layout;
-                known = mine.known;
-                seat = mine.seat;
-                mine = mine.mine;
-                own = mine.own;
-                seen = mine.seen;
-                held = λ j y e. dite (ℕ_discrete j k)
-                    (λ is. let same : x ≡ y = part_same x y (sym (at_same m.0.held k (Some x) None) ∙ (ap (held_at w.held) (sym is) ∙ e)) in (
-                      on,
-                      subst (λ i. i < parts) (sym is) inside,
-                      (λ z. let now = word_here s r k 1 inside in let z' : get_or ws k 0 ≡ 0 = ap (λ i. get_or ws i 0) (sym is) ∙ z in absurd (omega arith)),
-                      ap holder is ∙ taken_here r.holder k id,
-                      subst (λ (p : ℕ × Slot A). StandsAfter key ws holder r.log r.state p.0 p.1) (λ i. (sym is i, same i)) stands,
-                    ))
-                    (λ ne. let h = mine.held j y (sym (at_other m.0.held k j (Some x) None ne) ∙ e) in (h.0, h.1, (λ z. h.2 (sym (word_else s k j 1 ne) ∙ z)), taken_else r.holder k id j ne ∙ h.3, h.4));
-              }
-              (λ i u apart there. let f = r.each_seat i u there in record {
-                layout = f.layout;
-                known = f.known;
-                seat = f.seat;
-                mine = f.mine;
-                own = f.own;
-                seen = f.seen;
-                held = λ j y e. let h = f.held j y e in let ne : j ≢ k = λ is. h.2 (ap (λ z. get_or s.words z 0) is ∙ home) in
-                    (h.0, h.1, (λ z. h.2 (sym (word_else s k j 1 ne) ∙ z)), taken_else r.holder k id j ne ∙ h.3, h.4);
-              });
+              (still_knows ws holder id m.0 w.held w.tries mine
+              (λ j y e. dite (ℕ_discrete j k)
+              (λ is. let same : x ≡ y = part_same x y (sym (at_same m.0.held k (Some x) None) ∙ (ap (held_at w.held) (sym is) ∙ e)) in (
+                on,
+                subst (λ i. i < parts) (sym is) inside,
+                (λ z. let now = word_here s r k 1 inside in let z' : get_or ws k 0 ≡ 0 = ap (λ i. get_or ws i 0) (sym is) ∙ z in absurd (omega arith)),
+                ap holder is ∙ taken_here r.holder k id,
+                subst (λ (p : ℕ × Slot A). StandsAfter key ws holder r.log r.state p.0 p.1) (λ i. (sym is i, same i)) stands,
+              ))
+              (λ ne. let h = mine.held j y (sym (at_other m.0.held k j (Some x) None ne) ∙ e) in (h.0, h.1, (λ z. h.2 (sym (word_else s k j 1 ne) ∙ z)), taken_else r.holder k id j ne ∙ h.3, h.4))))
+              (λ i u apart there. let f = r.each_seat i u there in still_knows ws holder i u u.held u.tries f
+              (λ j y e. let h = f.held j y e in let ne : j ≢ k = λ is. h.2 (ap (λ z. get_or s.words z 0) is ∙ home) in
+              (h.0, h.1, (λ z. h.2 (sym (word_else s k j 1 ne) ∙ z)), taken_else r.holder k id j ne ∙ h.3, h.4)));
         }
 
     -- the part is found taken
@@ -172,24 +172,10 @@ module _ (A : Type 0) (key : TheLayout) where
           taken = λ j lt nz. still_held s.views id m.0 w j here (λ y e. (y, e)) (r.holder j) (r.taken j lt (λ z. nz (as_zero j z)));
           root = root_still w;
           each_seat = seats (F ws r.holder) s.views id w
-              record {
-                layout = mine.layout;
-                known = mine.known;
-                seat = mine.seat;
-                mine = mine.mine;
-                own = mine.own;
-                seen = mine.seen;
-                held = λ j y e. let h = mine.held j y e in (h.0, h.1, (λ z. h.2 (zero_as j z)), h.3, h.4);
-              }
-              (λ i u apart there. let f = r.each_seat i u there in record {
-                layout = f.layout;
-                known = f.known;
-                seat = f.seat;
-                mine = f.mine;
-                own = f.own;
-                seen = f.seen;
-                held = λ j y e. let h = f.held j y e in (h.0, h.1, (λ z. h.2 (zero_as j z)), h.3, h.4);
-              });
+              (still_knows ws r.holder id m.0 w.held w.tries mine
+              (λ j y e. let h = mine.held j y e in (h.0, h.1, (λ z. h.2 (zero_as j z)), h.3, h.4)))
+              (λ i u apart there. let f = r.each_seat i u there in still_knows ws r.holder i u u.held u.tries f
+              (λ j y e. let h = f.held j y e in (h.0, h.1, (λ z. h.2 (zero_as j z)), h.3, h.4)));
         }
 
     -- a part goes home as it is recorded
@@ -216,27 +202,13 @@ module _ (A : Type 0) (key : TheLayout) where
               (λ ne. still_held s.views id m.0 w j here (λ y e. (y, at_other m.0.held k j None None ne ∙ e)) (r.holder j) (r.taken j lt (λ z. nz (word_else s k j 0 ne ∙ z))));
           root = root_still w;
           each_seat = seats (F ws r.holder) s.views id w
-              record {
-                layout = mine.layout;
-                known = mine.known;
-                seat = mine.seat;
-                mine = mine.mine;
-                own = mine.own;
-                seen = mine.seen;
-                held = λ j y e. dite (ℕ_discrete j k)
-                    (λ is. let never : None ≡ Some y = sym (at_same m.0.held k None None) ∙ (ap (held_at w.held) (sym is) ∙ e) in absurd cc)
-                    (λ ne. let h = mine.held j y (sym (at_other m.0.held k j None None ne) ∙ e) in (h.0, h.1, (λ z. h.2 (sym (word_else s k j 0 ne) ∙ z)), h.3, h.4));
-              }
-              (λ i u apart there. let f = r.each_seat i u there in record {
-                layout = f.layout;
-                known = f.known;
-                seat = f.seat;
-                mine = f.mine;
-                own = f.own;
-                seen = f.seen;
-                held = λ j y e. let h = f.held j y e in let ne : j ≢ k = λ is. apart (sym h.3 ∙ (ap r.holder is ∙ old.3)) in
-                    (h.0, h.1, (λ z. h.2 (sym (word_else s k j 0 ne) ∙ z)), h.3, h.4);
-              });
+              (still_knows ws r.holder id m.0 w.held w.tries mine
+              (λ j y e. dite (ℕ_discrete j k)
+              (λ is. let never : None ≡ Some y = sym (at_same m.0.held k None None) ∙ (ap (held_at w.held) (sym is) ∙ e) in absurd cc)
+              (λ ne. let h = mine.held j y (sym (at_other m.0.held k j None None ne) ∙ e) in (h.0, h.1, (λ z. h.2 (sym (word_else s k j 0 ne) ∙ z)), h.3, h.4))))
+              (λ i u apart there. let f = r.each_seat i u there in still_knows ws r.holder i u u.held u.tries f
+              (λ j y e. let h = f.held j y e in let ne : j ≢ k = λ is. apart (sym h.3 ∙ (ap r.holder is ∙ old.3)) in
+              (h.0, h.1, (λ z. h.2 (sym (word_else s k j 0 ne) ∙ z)), h.3, h.4)));
         }
 
     module _ (c : Call) (after : Hands A) (owned : CpuState) (does : Does L c (held_at m.0.held) m.0.own (held_at after) owned) (holds_used : (j : ℕ) (x : Slot A) → held_at m.0.held j ≡ Some x → uses c j ≡ true) (by : c.cpu ≡ m.0.cpu) where
