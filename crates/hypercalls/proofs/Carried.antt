@@ -41,8 +41,9 @@ use Rattle.table_tree.specs.View.{tree_of}
 use Rattle.guest_steps.specs.declared.parts.CpuState.{CpuState}
 use Rattle.guest_steps.specs.Lent.{Each, SharedSuits, lent, one, used_in}
 use Rattle.guest_steps.specs.View.{vm_slots, shared_of, guest_held, cpu_of}
-use Rattle.hypercalls.proofs.Singles.{by_first}
-use Rattle.hypercalls.specs.Carried.{GrowsOnly, IsLentOr, IsRoomy, LeavesGuest, LeavesShared, is_either_short, rows_told}
+use Rattle.decisions.proofs.Singles.{by_first}
+use Rattle.decisions.specs.Grows.{GrowsOnly}
+use Rattle.hypercalls.specs.Carried.{IsLentOr, IsRoomy, LeavesGuest, LeavesShared, is_either_short, rows_told}
 
 less_none : (n : ℕ) → nat_lt n 0 ≡ false
 less_none n = grind (arith, nat_tests)

@@ -3,12 +3,5 @@ pub mod Carried
 pub mod Lends
 pub mod Loans
 pub mod Ranges
-pub mod Singles
 pub mod Stepping
-pub mod Tickets
 pub mod Whole
-pub mod Ranged
-pub mod Decided
-pub mod Hands
-pub mod GuestDecided
-pub mod Slots

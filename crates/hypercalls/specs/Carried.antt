@@ -1,8 +1,6 @@
 -- How changes are carried out on lent parts.
 use Rattle.std.specs.Prelude.{◌≡◌, ◌≤◌, ℕ, Bool, true, false, ◌&&◌, ◌||◌, nat_lt, length, List, [], ◌∷◌, Option, None}
-use Rattle.page_state.specs.declared.step.Step.{Step}
 use Rattle.page_state.specs.Layouts.{Layout, is_memory}
-use Rattle.guest_component.specs.Changing.{MakesNone}
 use Rattle.component.specs.View.{HasRoomFor, need_for}
 use Rattle.table_tree.specs.View.{spares_of}
 use Rattle.guest_steps.specs.declared.parts.SharedPart.{SharedPart}
@@ -12,7 +10,6 @@ use Rattle.reference_model.specs.declared.changes.GuestChange.TheVariants.{Keep 
 use Rattle.reference_model.specs.declared.changes.SlotChange.TheVariants.{Keep as KeepSlots}
 use Rattle.reference_model.specs.Changes.{touched}
 use Rattle.reference_model.specs.RowChanges.{first_of, told_row}
-use Rattle.reference_model.specs.Rules.{may_grow}
 use Rattle.reference_model.specs.State.{Shared, Guest}
 use Rattle.reference_model.specs.Step.{is_touched, shared_need, guest_need}
 
@@ -38,10 +35,6 @@ pub record OnlyLent {A : Type 0} (h : Changes) (x : Lent A) : Type 0 where
   pub vms : IsLentOr (h.slot ≡ KeepSlots) x.vms
   pub shared : IsLentOr (LeavesShared h) x.shared
   pub guest : IsLentOr (LeavesGuest h) x.guest
-
--- a step that takes no memory changes no map, and makes no guest
-abbrev pub GrowsOnly : Step → Changes → Type 0
-GrowsOnly step h = may_grow step ≡ false → (h.host ≡ None) × (h.hyp ≡ None) × (h.guest ≡ None) × MakesNone h.part
 
 -- no growth can be needed: both maplets have the room that a change asks, and each tree a spare for each table that it needs
 pub record IsRoomy {A : Type 0} (h : Changes) (s : SharedPart A) : Type 0 where

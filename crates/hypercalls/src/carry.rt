@@ -1,9 +1,10 @@
 //! Changes are carried out, for all calls in one place.
 ghost use Rattle.std.specs.Prelude.{◌≡◌, ◌<◌, ◌^◌, ◌↔◌, true, length, map, nat_lt, Err, OnOk, OnErr, unwrap_or};
+ghost use Rattle.decisions.specs.Grows.{GrowsOnly};
 ghost use Rattle.guest_component.specs.Plans.{WantsNoMemory};
 ghost use Rattle.guest_steps.specs.Lent.{Each, GuestSuits, SharedSuits, lent, one, used_in};
 ghost use Rattle.guest_steps.specs.View.{guest_held, shared_of, vm_slots};
-ghost use Rattle.hypercalls.specs.Carried.{GrowsOnly, IsLentOr, IsRoomy, LeavesGuest, LeavesShared, OnlyLent, is_either_short, rows_told};
+ghost use Rattle.hypercalls.specs.Carried.{IsLentOr, IsRoomy, LeavesGuest, LeavesShared, OnlyLent, is_either_short, rows_told};
 ghost use Rattle.page_state.specs.declared.step.Step.{Step};
 ghost use Rattle.page_state.specs.LayoutView.{layout_of};
 ghost use Rattle.reference_model.specs.Answers.{CarriesOut};

@@ -6,13 +6,13 @@ ghost use Rattle.guest_steps.specs.View.{cpu_of, depth_of, guest_held, shared_of
 ghost use Rattle.hypercalls.specs.Steps.{CanWantOn, IsStepOn, any_full};
 ghost use Rattle.page_state.specs.LayoutView.{layout_of};
 ghost use Rattle.page_state.specs.Layouts.{Layout as ReferenceLayout};
-ghost use Rattle.reference_model.specs.Parts.{guest_slot as guest_slot_of, names, slot_of as slot_of_vm, stage_eq, ticket_slot as ticket_slot_of};
+ghost use Rattle.reference_model.specs.Parts.{guest_slot as guest_slot_of, names, slot_of as slot_of_vm, ticket_slot as ticket_slot_of};
 ghost use Rattle.reference_model.specs.Rely.{CanRely, IsReached};
 ghost use Rattle.reference_model.specs.State.{no_guest, no_shared, no_vms};
 ghost use Rattle.reference_model.specs.Step.{Answered};
 
-use crate::calls::decide;
 use crate::carry::carry_out;
+use decisions::{decide, is_stage};
 use guest_steps::{CpuState, GuestPart, SharedPart, VmPart};
 use page_state::{Call, Layout, Refusal, Reply, Step, VmId};
 use reference_model::{Stage, laws};
@@ -23,20 +23,6 @@ fn slot_of(vm: VmId) -> Option<u64>
     ensures { result ≡ slot_of_vm vm }
 {
     if vm.slot < 64 { Some(vm.slot) } else { None }
-}
-
-/// Whether two stages are the same.
-pub(crate) fn is_stage(a: Stage, b: Stage) -> bool
-    ensures { result ≡ stage_eq a b }
-{
-    matches!(
-        (a, b),
-        (Stage::Booked, Stage::Booked)
-            | (Stage::Installed, Stage::Installed)
-            | (Stage::ClosingVm, Stage::ClosingVm)
-            | (Stage::DyingVm, Stage::DyingVm)
-            | (Stage::Finished, Stage::Finished)
-    )
 }
 
 /// The slot of the CPU's ticket of a stage.

@@ -1,17 +1,13 @@
 //! The calls on lent parts: what each decides, and how its changes are carried out.
 #![tactic(auto)]
 
-mod calls;
 mod carry;
 mod lent;
-mod pages;
 mod parts;
 mod rows;
 mod uses;
 
-pub use calls::decide;
 pub use carry::carry_out;
 pub use lent::{guest_slot, step_on};
-pub use pages::{hyp_page, leaf};
 pub use parts::Parts;
 pub use uses::{Uses, parts_used, uses_shared, uses_vms};

@@ -5,7 +5,7 @@ ghost use Rattle.reference_model.specs.Changes.{touched as touched_by};
 ghost use Rattle.reference_model.specs.GuestRules.{guest_owner as owner_of_guest};
 ghost use Rattle.reference_model.specs.RowChanges.{borrower as borrower_of, first_row as first_row_of, row_by, use_by};
 
-use crate::pages::{HOST, HYPERVISOR};
+use decisions::{HOST, HYPERVISOR};
 use page_state::{Entry, Lent, Owner, Page, PageRange, Row, State, Usage};
 use reference_model::{Changes, Update};
 

@@ -16,7 +16,7 @@ use Rattle.guest_steps.specs.declared.parts.CpuState.{CpuState}
 use Rattle.guest_steps.specs.Lent.{Lent, IsLent, Suits, lent, used_in, logs_in, slot_in, call_in}
 use Rattle.guest_steps.specs.View.{cpu_of}
 use Rattle.hypercalls.specs.Steps.{IsStepOn, any_full}
-use Rattle.hypercalls.proofs.Singles.{single}
+use Rattle.decisions.proofs.Singles.{single}
 use Rattle.hypercalls.specs.Uses.{parts_of}
 use Rattle.part_table.specs.declared.slot.Slot.{Slot}
 use Rattle.part_table.specs.declared.slot.Slot.TheVariants.{Vm as VmSlot, Shared as SharedSlot, Guest as GuestSlot}

@@ -20,10 +20,11 @@ ghost use Rattle.world.specs.Boots.{IsIdle, IsNoBoot, IsVacant, boot_number, new
 ghost use Rattle.table_tree.specs.View.{tree_of};
 
 use component::Component;
+use decisions::{hyp_page, leaf};
 use guest_component::Guest;
 use guest_steps::{CpuState, GuestPart, Log, SharedPart, VmPart};
 use hyp_pool::{Pool, PoolFault, laws};
-use hypercalls::{Parts, hyp_page, leaf};
+use hypercalls::Parts;
 use owner_table::OwnerTable;
 use page_state::laws::blocks_on_range;
 use page_state::{

@@ -11,7 +11,7 @@ use Rattle.reference_model.specs.State.{Guest, no_guest, no_shared}
 use Rattle.reference_model.specs.Step.{guest_after}
 use Rattle.hypercalls.specs.Carried.{IsRoomy, is_either_short}
 use Rattle.hypercalls.proofs.Carried.{always_ok, always_err, guest_of_none, no_need_of_none, shared_short_iff}
-use Rattle.hypercalls.proofs.Singles.{single, set_single}
+use Rattle.decisions.proofs.Singles.{single, set_single}
 use Rattle.hypercalls.proofs.carry.change_maps.Goals as goal
 
 pub returns-then-guest-ne1-clause-made_guest : goal.returns-then-guest-ne1-clause-made_guest

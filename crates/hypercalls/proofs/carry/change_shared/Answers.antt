@@ -9,7 +9,7 @@ use Rattle.reference_model.specs.State.{no_shared}
 use Rattle.reference_model.specs.Step.{shared_after, shared_need}
 use Rattle.hypercalls.specs.Carried.{IsRoomy, rows_told}
 use Rattle.hypercalls.proofs.Carried.{made_of_none, short_of_none}
-use Rattle.hypercalls.proofs.Singles.{on_singles, single, set_single}
+use Rattle.decisions.proofs.Singles.{on_singles, single, set_single}
 use Rattle.hypercalls.proofs.carry.change_shared.Goals as goal
 
 pub returns-then-shared-ne1-clause-made : goal.returns-then-shared-ne1-clause-made

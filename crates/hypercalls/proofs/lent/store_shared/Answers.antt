@@ -4,7 +4,7 @@ use Rattle.guest_steps.specs.Lent.{one, with_call}
 use Rattle.guest_steps.specs.Logs.{StoredCalls}
 use Rattle.guest_steps.specs.View.{depth_of, shared_of}
 use Rattle.reference_model.specs.State.{no_shared}
-use Rattle.hypercalls.proofs.Singles.{single, set_single}
+use Rattle.decisions.proofs.Singles.{single, set_single}
 use Rattle.hypercalls.proofs.Stepping.{some_room, eq_with, stored_in_none}
 use Rattle.hypercalls.proofs.lent.store_shared.Goals as goal
 

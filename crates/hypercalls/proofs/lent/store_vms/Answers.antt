@@ -2,7 +2,7 @@ use Rattle.std.proofs.Common.{ap, sym, ◌∙◌, arith}
 use Rattle.guest_steps.specs.Lent.{one}
 use Rattle.guest_steps.specs.View.{vm_slots}
 use Rattle.reference_model.specs.State.{no_vms}
-use Rattle.hypercalls.proofs.Singles.{single, set_single}
+use Rattle.decisions.proofs.Singles.{single, set_single}
 use Rattle.hypercalls.proofs.lent.store_vms.Goals as goal
 
 pub returns-in-len1-clause-same : goal.returns-in-len1-clause-same

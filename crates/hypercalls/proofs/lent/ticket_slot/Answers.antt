@@ -1,6 +1,6 @@
 use Rattle.std.proofs.Common.{sym, ◌∙◌, true, false}
 use Rattle.guest_steps.specs.View.{cpu_of}
-use Rattle.hypercalls.proofs.Tickets.{ticket_is}
+use Rattle.decisions.proofs.Tickets.{ticket_is}
 use Rattle.hypercalls.proofs.lent.ticket_slot.Goals as goal
 
 pub returns-then-is_stage : goal.returns-then-is_stage

@@ -1,0 +1,7 @@
+pub mod Singles
+pub mod Tickets
+pub mod Ranged
+pub mod Decided
+pub mod Hands
+pub mod GuestDecided
+pub mod Slots

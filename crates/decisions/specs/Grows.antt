@@ -1,0 +1,10 @@
+-- What grows no tree.
+use Rattle.std.specs.Prelude.{◌≡◌, false, None}
+use Rattle.page_state.specs.declared.step.Step.{Step}
+use Rattle.guest_component.specs.Changing.{MakesNone}
+use Rattle.reference_model.specs.declared.changes.Changes.{Changes}
+use Rattle.reference_model.specs.Rules.{may_grow}
+
+-- a step that takes no memory changes no map, and makes no guest
+abbrev pub GrowsOnly : Step → Changes → Type 0
+GrowsOnly step h = may_grow step ≡ false → (h.host ≡ None) × (h.hyp ≡ None) × (h.guest ≡ None) × MakesNone h.part

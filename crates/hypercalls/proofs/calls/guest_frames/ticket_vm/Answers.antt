@@ -1,6 +1,0 @@
-use Rattle.guest_steps.specs.View.{cpu_of}
-use Rattle.hypercalls.proofs.Tickets.{vm_of_none}
-use Rattle.hypercalls.proofs.calls.guest_frames.ticket_vm.Goals as goal
-
-pub returns-in-None : goal.returns-in-None
-returns-in-None c = vm_of_none (cpu_of c.args.cpu.now) c.in-None.is
