@@ -50,21 +50,43 @@ module _ {A : Type 0} (l : Layout) (id : ℕ) (own : CpuState) (k : ℕ) (x : Sl
   part_here : (h : IsLeft l id own (only_at k x)) → IsPart l h.state k x
   part_here h = h.parts k x (ap (λ b. cond b (Some x) None) (eq-eqb k k refl))
 
-  pub vms_here : (p : VmPart) → x ≡ VmSlot p → ∥ IsLeft l id own (only_at k x) ∥₁ → k ≡ 0
+  vms_here : (p : VmPart) → x ≡ VmSlot p → ∥ IsLeft l id own (only_at k x) ∥₁ → k ≡ 0
   vms_here p e left = ∥∥₁_elim left (nat_prop k 0) (λ h. vms_number l h.state k x p e (part_here h))
 
-  pub shared_here : (p : SharedPart A) → x ≡ SharedSlot p → ∥ IsLeft l id own (only_at k x) ∥₁ → k ≡ 1
+  shared_here : (p : SharedPart A) → x ≡ SharedSlot p → ∥ IsLeft l id own (only_at k x) ∥₁ → k ≡ 1
   shared_here p e left = ∥∥₁_elim left (nat_prop k 1) (λ h. shared_number l h.state k x p e (part_here h))
 
   pub guest_past : (p : GuestPart A) → x ≡ GuestSlot p → ∥ IsLeft l id own (only_at k x) ∥₁ → 1 < k
   guest_past p e left = ∥∥₁_elim left le_prop (λ h. guest_number l h.state k x p e (part_here h))
 
   -- the same parts, told otherwise
-  pub left_for : (j : ℕ) (y : Slot A) → k ≡ j → x ≡ y → ∥ IsLeft l id own (only_at k x) ∥₁ → ∥ IsLeft l id own (only_at j y) ∥₁
+  left_for : (j : ℕ) (y : Slot A) → k ≡ j → x ≡ y → ∥ IsLeft l id own (only_at k x) ∥₁ → ∥ IsLeft l id own (only_at j y) ∥₁
   left_for j y e is left = subst (λ (z : Slot A). ∥ IsLeft l id own (only_at j z) ∥₁) is (subst (λ n. ∥ IsLeft l id own (only_at n x) ∥₁) e left)
 
-  pub does_for : (j : ℕ) (y : Slot A) → k ≡ j → x ≡ y → (c : Call) (z : Slot A) (owned : CpuState) → Does l c (only_at k x) own (only_at k z) owned → Does l c (only_at j y) own (only_at j z) owned
+  does_for : (j : ℕ) (y : Slot A) → k ≡ j → x ≡ y → (c : Call) (z : Slot A) (owned : CpuState) → Does l c (only_at k x) own (only_at k z) owned → Does l c (only_at j y) own (only_at j z) owned
   does_for j y e is c z owned d = subst (λ (w : Slot A). Does l c (only_at j w) own (only_at j z) owned) is (subst (λ n. Does l c (only_at n x) own (only_at n z) owned) e d)
+
+-- a part alone that is lent by its kind: its number, what is left with it, and what a call did to it
+module _ {A : Type 0} {l : Layout} {id : ℕ} {own : CpuState} (k : ℕ) {x : Slot A} (left : ∥ IsLeft l id own (only_at k x) ∥₁) where
+  module _ {p : VmPart} (is : x ≡ VmSlot p) where
+    pub vms_at : k ≡ 0
+    vms_at = vms_here l id own k x p is left
+
+    pub vms_left : ∥ IsLeft {A = A} l id own (only_at 0 (VmSlot p)) ∥₁
+    vms_left = left_for l id own k x 0 (VmSlot p) vms_at is left
+
+    pub vms_did : {c : Call} (z : Slot A) {owned : CpuState} → Does l c (only_at 0 (VmSlot p)) own (only_at 0 z) owned → Does l c (only_at k x) own (only_at k z) owned
+    vms_did z d = does_for l id own 0 (VmSlot p) k x (sym vms_at) (sym is) _ z _ d
+
+  module _ {p : SharedPart A} (is : x ≡ SharedSlot p) where
+    pub shared_at : k ≡ 1
+    shared_at = shared_here l id own k x p is left
+
+    pub shared_left : ∥ IsLeft l id own (only_at 1 (SharedSlot p)) ∥₁
+    shared_left = left_for l id own k x 1 (SharedSlot p) shared_at is left
+
+    pub shared_did : {c : Call} (z : Slot A) {owned : CpuState} → Does l c (only_at 1 (SharedSlot p)) own (only_at 1 z) owned → Does l c (only_at k x) own (only_at k z) owned
+    shared_did z d = does_for l id own 1 (SharedSlot p) k x (sym shared_at) (sym is) _ z _ d
 
 no_proof : IsProp ⊥
 no_proof = hlevel props
