@@ -258,9 +258,6 @@ pub fn decide<A: Allocator>(
         );
     }
     if let Some(part) = shared.first() {
-        if let Some(own) = guest.first() {
-            return decide_with_guest(layout, part, &own.guest, id, slot.unwrap_or(0), cpu, step);
-        }
         return decide_shared(layout, part, id, cpu, step);
     }
     Err(refusal_of_none(layout, step))

@@ -1,4 +1,4 @@
-//! The calls on lent parts: what each decides, and how its changes are carried out.
+//! The step on lent parts and on all: which parts it uses, and how what is decided is carried out.
 #![tactic(auto)]
 
 mod carry;
