@@ -5,11 +5,11 @@ use Rattle.std.proofs.lemmas.List.Elements.{All-set}
 use Rattle.std.proofs.lemmas.Bool.Decides.{nat_tests}
 use Rattle.std.proofs.lemmas.List.{length-replicate}
 use Rattle.std.proofs.lemmas.Option.{get_or_from_slice_get, slice_get_past, slice_get_read, slice_get_within}
-use Rattle.std.specs.Prelude.{nat_lt}
+use Rattle.std.specs.Prelude.{nat_lt, IsSome}
 use Rattle.std.specs.List.{insert, remove}
 use Rattle.page_state.specs.declared.layout.Geometry.{Geometry}
 use Rattle.page_state.specs.Geometries.{levels_below}
-use Rattle.page_state.proofs.Cases.{by_eq}
+use Rattle.page_state.proofs.Cases.{by_eq, by_lt}
 use Rattle.table_tree.specs.Said.{block_number, block_of}
 use Rattle.guest_steps.specs.declared.parts.GuestPart.{GuestPart}
 use Rattle.hypercalls.specs.Stands.{at_place}
@@ -132,8 +132,16 @@ one_of {X} xs (y ∷ ys) x e l =
 pub get_one : {X : Type 0} (xs : List X) (x y : X) → xs ≡ x ∷ [] → slice_get xs 0 ≡ Some y → x ≡ y
 get_one xs x y e h = let a : Some x ≡ Some y = sym (ap (λ zs. slice_get zs 0) e) ∙ h in cc
 
+-- where nothing is seen there is no word
+pub unseen : (t : SeenTree) (path : List ℕ) → nothing_seen ≡ t → IsSome (t.words path) → ⊥
+unseen t path e h = let none : false ≡ true = subst (λ (s : SeenTree). IsSome (s.words path)) (sym e) h in cc
+
 -- words of slots that were looked up
 module _ {A : Type 0} (gs : List (GuestPart A)) (ps : List (Option (RawGuest A))) (v : ℕ) (p : List ℕ) where
+  -- a slot that has a word is one of them
+  pub word_within : IsSome ((guest_seen gs ps v).words p) → v < length gs
+  word_within h = by_lt v (length gs) (λ less. less) (λ past. absurd (unseen _ p (sym (ap (at_place nothing_seen (λ g. slot_seen g (poked_at ps v))) (slice_get_past gs v past))) h))
+
   pub past_seen : false ≡ nat_lt v (length gs) → None ≡ (guest_seen gs ps v).words p
   past_seen h =
       let l : length gs ≤ v = grind (arith, nat_tests) in

@@ -24,7 +24,7 @@ if_ok P Q (Ok x) go h = go x h
 if_ok P Q (Err e) go h = tt
 
 -- rows that say the same
-rows_same : {A : Type 0} (s : SharedPart A) (runs : List (Run Row)) → run_map advance_row runs ≡ run_map advance_row s.rows → row_in runs ≡ (shared_of s).row
+pub rows_same : {A : Type 0} (s : SharedPart A) (runs : List (Run Row)) → run_map advance_row runs ≡ run_map advance_row s.rows → row_in runs ≡ (shared_of s).row
 rows_same s runs same = ap (λ m f. unwrap_or (m f) plain_row) same
 
 pub shared_same_rows : {A : Type 0} (s : SharedPart A) (runs : List (Run Row)) → run_map advance_row runs ≡ run_map advance_row s.rows → with_row (row_in runs) (shared_of s) ≡ shared_of s

@@ -226,8 +226,7 @@ pub fn kept_and_walked<A: Allocator>(
 {
     let found = found(alloc, parts)?;
     let again = found.copied(alloc)?;
-    Ok((
-        with_kept(alloc, parts, again)?,
-        with_scratch(alloc, parts, found)?,
-    ))
+    let kept = with_kept(alloc, parts, again)?;
+    let walked = with_scratch(alloc, parts, found)?;
+    Ok((kept, walked))
 }

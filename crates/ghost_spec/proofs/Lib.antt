@@ -10,6 +10,7 @@ pub mod FoundPages
 pub mod FoundTables
 pub mod Guests
 pub mod Overlaid
+pub mod Pushed
 pub mod Rooms
 pub mod RowsAgain
 pub mod RowsKept

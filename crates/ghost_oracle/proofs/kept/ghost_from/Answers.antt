@@ -1,4 +1,4 @@
-use Rattle.std.proofs.Common.{◌≡◌, ap, length, map, sym, ◌∙◌, arith}
+use Rattle.std.proofs.Common.{◌≡◌, ◌∙◌, All, ap, arith, length, map, subst, sym}
 use Rattle.reference_model.specs.State.{Vms, no_vms, no_shared}
 use Rattle.guest_steps.specs.Lent.{one}
 use Rattle.guest_steps.specs.View.{vm_slots, shared_of, guest_held, cpu_of}
@@ -6,6 +6,7 @@ use Rattle.ghost_spec.specs.States.{guest_in}
 use Rattle.ghost_spec.specs.Views.{cpu_in, row_in}
 use Rattle.std.proofs.lemmas.List.{length-map}
 use Rattle.ghost_oracle.specs.Found.{with_row}
+use Rattle.ghost_oracle.specs.Low.{IsLowGuest}
 use Rattle.ghost_oracle.proofs.Founds.{is_found, one_at, as_long}
 use Rattle.ghost_oracle.proofs.LowKept.{low_cpus_kept}
 use Rattle.ghost_oracle.proofs.kept.ghost_from.Goals as goal
@@ -44,3 +45,14 @@ returns-clause-kept g c = record {
 
 pub returns-clause-rows : goal.returns-clause-rows
 returns-clause-rows g c = c.in_ok-shared_from.ensures.rows
+
+pub index-requires : goal.index-requires
+index-requires g c = omega (arith, c.args.parts.now.one_vms)
+
+pub shared_from-requires : goal.shared_from-requires
+shared_from-requires g c = record { reach = c.requires.reach }
+
+pub guests_from-requires : goal.guests_from-requires
+guests_from-requires g c = record {
+  low = subst (All (λ p. IsLowGuest (guest_held p))) (sym c.as_slice.ensures.value) c.requires.guests;
+}

@@ -12,3 +12,21 @@ loop-v-preserved g c = record {
       (omega (arith, c.loop-v-test.true, c.requires.guests)) (omega (arith, c.loop-v-test.true, c.requires.poked)) c.loop-v.invariant.count c.index-guests-v.is c.index-poked-v.is c.loop-v.invariant.found c.in_ok-slot_guest.ensures k part held x less);
   count = ap length c.in_ok-push.ensures.items ∙ length-append c.loop-v.found.items _ ∙ ap (λ n. n + 1) c.loop-v.invariant.count;
 }
+
+pub loop-v-init : goal.loop-v-init
+loop-v-init g c = record {
+  found = λ k part held x less. absurd (omega (arith, less));
+  count = ap length c.new-found.ensures.items;
+}
+
+pub returns-clause-found : goal.returns-clause-found
+returns-clause-found g c = λ k part held x less. c.loop-v.invariant.found k part held x (omega (arith, less, c.loop-v-test.false))
+
+pub returns-clause-count : goal.returns-clause-count
+returns-clause-count g c = c.loop-v.invariant.count ∙ omega (arith, c.loop-v-test.false, c.loop-v.auto.v-end)
+
+pub bounds-guests-v : goal.bounds-guests-v
+bounds-guests-v g c = omega (arith, c.loop-v-test.true, c.requires.guests)
+
+pub bounds-poked-v : goal.bounds-poked-v
+bounds-poked-v g c = omega (arith, c.loop-v-test.true, c.requires.poked)

@@ -18,3 +18,33 @@ returns-clause-after c =
     let given = rw (c.as_slice.ensures.value, c.in_ok-hyp_back.ensures, c.in_ok-left.ensures.items, c.behind.ensures, c.behind-rest.ensures, c.as_slice-free.ensures.value, c.in_ok-host_need.ensures, c.in_ok-hyp_need.ensures, drop-drop) at c.in_ok-give_all.ensures in
     all_changed d h s (record { host = c.in_ok-host.host; hyp = c.in_ok-hyp.hyp; free = c.give_all-2.new.free; rows = s.rows }) host hyp
     (back ∙ rw given (sym (all_given-append (returned d (tree_in_lists s.host) (edit_of h.host)) (returned d (tree_in_lists s.hyp) (edit_of h.hyp)) (drop (need d (tree_in_lists s.host) (edit_of h.host) + need d (tree_in_lists s.hyp) (edit_of h.hyp)) s.free.items)))) refl
+
+pub returns-clause-kept : goal.returns-clause-kept
+returns-clause-kept c = record { host = c.in_ok-host.ensures.kept; hyp = c.in_ok-hyp.ensures.kept; rows = c.requires.kept.rows }
+
+pub returns-in_err-host_need-clause-kept : goal.returns-in_err-host_need-clause-kept
+returns-in_err-host_need-clause-kept c = c.requires.kept
+
+pub returns-in_err-hyp_need-clause-kept : goal.returns-in_err-hyp_need-clause-kept
+returns-in_err-hyp_need-clause-kept c = c.requires.kept
+
+pub returns-in_err-host-clause-kept : goal.returns-in_err-host-clause-kept
+returns-in_err-host-clause-kept c = c.requires.kept
+
+pub returns-in_err-hyp-clause-kept : goal.returns-in_err-hyp-clause-kept
+returns-in_err-hyp-clause-kept c = c.requires.kept
+
+pub returns-in_err-host_back-clause-kept : goal.returns-in_err-host_back-clause-kept
+returns-in_err-host_back-clause-kept c = c.requires.kept
+
+pub returns-in_err-hyp_back-clause-kept : goal.returns-in_err-hyp_back-clause-kept
+returns-in_err-hyp_back-clause-kept c = c.requires.kept
+
+pub returns-in_err-left-clause-kept : goal.returns-in_err-left-clause-kept
+returns-in_err-left-clause-kept c = c.requires.kept
+
+pub returns-in_err-give_all-clause-kept : goal.returns-in_err-give_all-clause-kept
+returns-in_err-give_all-clause-kept c = c.requires.kept
+
+pub returns-in_err-give_all-2-clause-kept : goal.returns-in_err-give_all-2-clause-kept
+returns-in_err-give_all-2-clause-kept c = c.requires.kept

@@ -1,5 +1,6 @@
-use Rattle.std.proofs.Common.{rules, ◌≡◌, ◌≢◌, ℕ, ◌+◌, ◌∷◌, [], sym, ap, ◌∙◌, subst, refl, arith}
-use Rattle.std.specs.Prelude.{Some}
+use Rattle.std.proofs.Common.{rules, true, ◌≡◌, ◌≢◌, ℕ, ◌+◌, ◌∷◌, [], sym, ap, ◌∙◌, subst, refl, arith}
+use Rattle.std.specs.Prelude.{Some, None}
+use Rattle.page_state.specs.declared.layout.Layout.{Layout as TheLayout}
 use Rattle.page_state.specs.declared.reply.Call.{Call}
 use Rattle.page_state.specs.LayoutView.{layout_of}
 use Rattle.guest_steps.specs.declared.parts.CpuState.{CpuState}
@@ -8,10 +9,15 @@ use Rattle.part_table.specs.declared.rule.View.{View}
 use Rattle.part_table.specs.declared.slot.Slot.{Slot}
 use Rattle.part_table.specs.Parts.{log_of}
 use Rattle.part_table.specs.Does.{IsCalled, both_at}
-use Rattle.part_table.specs.Rule.{Extends, StartsWith, held_at, known_of, seen_at, taking, missing, letting, storing, tail}
+use Rattle.part_table.specs.Rule.{Extends, Seated, AtRest, StartsWith, held_at, known_of, seen_at, taking, missing, letting, storing, tail}
 use Rattle.part_table.proofs.Holding.{two_held, both_like, at_first, at_second, second_held}
+use Rattle.part_table.proofs.Pairs.{by_front}
 use Rattle.part_table.proofs.Telling.{does_as, does_for, left_of, log_grows, away_first, full_first, away_second, full_second, stored_second, rest_added, rest_home}
 use Rattle.part_table.proofs.tries.two.Goals as goal
+
+-- what a view has of its CPU
+cpu_told : {A : Type 0} (l : TheLayout) (id : ℕ) (own : CpuState) (w u : View A) → w ≡ u → u.layout ≡ l → u.cpu ≡ id → u.own ≡ own → u.on ≡ true → (w.layout ≡ l) × (w.cpu ≡ id) × (w.own ≡ own) × (w.on ≡ true)
+cpu_told {A = A} l id own w u e a b d on = (ap (λ (z : View A). z.layout) e ∙ a, ap (λ (z : View A). z.cpu) e ∙ b, ap (λ (z : View A). z.own) e ∙ d, ap (λ (z : View A). z.on) e ∙ on)
 
 pub both-shared-requires-clause-left : goal.both-shared-requires-clause-left
 both-shared-requires-clause-left g c =
@@ -142,3 +148,84 @@ returns-in_default-take-clause-tells g c =
     let last : w ≡ letting (missing (taking v 1 x) k) 1 = ap (λ z. z.0) c.put_back-in_default-take.ensures.home ∙ ap (λ (u : View g.row.A.Denot). letting u 1) away in
     let room : (log_of x).room ≢ 0 = search rules in
     away_second v w k x last room
+
+pub take-requires-clause-table : goal.take-requires-clause-table
+take-requires-clause-table g c = c.requires.table
+
+pub take-requires-clause-on : goal.take-requires-clause-on
+take-requires-clause-on g c = c.requires.on
+
+pub take-requires-2-clause-table : goal.take-requires-2-clause-table
+take-requires-2-clause-table g c = (c.take.ensures.table ∙ c.requires.table.0, c.requires.table.1)
+
+pub take-requires-2-clause-on : goal.take-requires-2-clause-on
+take-requires-2-clause-on g c = ap (λ (z : Seated g.row.A.Denot). z.0.on) c.in-Some.ensures.taken.0 ∙ c.requires.on
+
+pub commit_first-requires-clause-table : goal.commit_first-requires-clause-table
+commit_first-requires-clause-table g c = (c.take-2.ensures.table ∙ (c.take.ensures.table ∙ c.requires.table.0), c.requires.table.1)
+
+pub commit_first-requires-clause-part : goal.commit_first-requires-clause-part
+commit_first-requires-clause-part g c = c.requires.part
+
+pub commit_first-requires-clause-hand : goal.commit_first-requires-clause-hand
+commit_first-requires-clause-hand g c =
+    ap (λ (z : Seated g.row.A.Denot). z.1) c.in-Some-take.ensures.taken.0 ∙ ap (λ l. (c.args.v + 2, None) ∷ l) (ap (λ (z : Seated g.row.A.Denot). z.1) c.in-Some.ensures.taken.0 ∙ ap (λ l. (1, None) ∷ l) c.requires.rest.0)
+
+pub returns-clause-table : goal.returns-clause-table
+returns-clause-table g c = c.let_home.ensures.table ∙ (c.commit_first.ensures.table ∙ (c.take-2.ensures.table ∙ c.take.ensures.table))
+
+pub returns-in_default-clause-table : goal.returns-in_default-clause-table
+returns-in_default-clause-table g c = c.take.ensures.table
+
+pub returns-in_default-clause-cpu : goal.returns-in_default-clause-cpu
+returns-in_default-clause-cpu g c =
+    let q = c.requires.cpu in
+    cpu_told c.args.layout.now c.args.id c.args.cpu.now c.take.new.seat.me.0 (missing c.args.seat.now.me.0 1) (ap (λ z. z.0) c.in_default.ensures.missed) q.0 q.1 q.2 c.requires.on
+
+pub returns-in_default-clause-left : goal.returns-in_default-clause-left
+returns-in_default-clause-left g c = subst (λ (z : Seated g.row.A.Denot). AtRest z.0) (sym c.in_default.ensures.missed) c.requires.left
+
+pub returns-in_default-clause-rest : goal.returns-in_default-clause-rest
+returns-in_default-clause-rest g c =
+    let e = c.in_default.ensures.missed in
+    (ap (λ (z : Seated g.row.A.Denot). z.1) e ∙ c.requires.rest.0, λ j. ap (λ (z : Seated g.row.A.Denot). held_at z.0.held j) e ∙ c.requires.rest.1 j)
+
+pub returns-then-room-eq0-clause-table : goal.returns-then-room-eq0-clause-table
+returns-then-room-eq0-clause-table g c = c.put_back.ensures.table ∙ c.take.ensures.table
+
+pub returns-in_default-take-clause-table : goal.returns-in_default-take-clause-table
+returns-in_default-take-clause-table g c = c.put_back-in_default-take.ensures.table ∙ (c.take-2.ensures.table ∙ c.take.ensures.table)
+
+pub returns-then-room-eq0-2-clause-table : goal.returns-then-room-eq0-2-clause-table
+returns-then-room-eq0-2-clause-table g c =
+    c.put_back-then-room-eq0-2-2.ensures.table ∙ (c.put_back-then-room-eq0-2.ensures.table ∙ (c.take-2.ensures.table ∙ c.take.ensures.table))
+
+pub put_back-requires-clause-table : goal.put_back-requires-clause-table
+put_back-requires-clause-table g c = (c.take.ensures.table ∙ c.requires.table.0, c.requires.table.1)
+
+pub put_back-requires-clause-on : goal.put_back-requires-clause-on
+put_back-requires-clause-on g c = ap (λ (z : Seated g.row.A.Denot). z.0.on) c.in-Some.ensures.taken.0 ∙ c.requires.on
+
+pub put_back-requires-clause-hand : goal.put_back-requires-clause-hand
+put_back-requires-clause-hand g c = by_front (ap (λ (z : Seated g.row.A.Denot). z.1) c.in-Some.ensures.taken.0)
+
+pub put_back-requires-clause-held : goal.put_back-requires-clause-held
+put_back-requires-clause-held g c = ap (λ (z : Seated g.row.A.Denot). held_at z.0.held 1) c.in-Some.ensures.taken.0
+
+pub put_back-requires-in_default-take-clause-table : goal.put_back-requires-in_default-take-clause-table
+put_back-requires-in_default-take-clause-table g c = (c.take-2.ensures.table ∙ (c.take.ensures.table ∙ c.requires.table.0), c.requires.table.1)
+
+pub put_back-requires-in_default-take-clause-on : goal.put_back-requires-in_default-take-clause-on
+put_back-requires-in_default-take-clause-on g c = ap (λ (z : Seated g.row.A.Denot). z.0.on) c.in_default-take.ensures.missed ∙ (ap (λ (z : Seated g.row.A.Denot). z.0.on) c.in-Some.ensures.taken.0 ∙ c.requires.on)
+
+pub put_back-requires-in_default-take-clause-hand : goal.put_back-requires-in_default-take-clause-hand
+put_back-requires-in_default-take-clause-hand g c = by_front (ap (λ (z : Seated g.row.A.Denot). z.1) c.in_default-take.ensures.missed ∙ ap (λ (z : Seated g.row.A.Denot). z.1) c.in-Some.ensures.taken.0)
+
+pub put_back-requires-in_default-take-clause-held : goal.put_back-requires-in_default-take-clause-held
+put_back-requires-in_default-take-clause-held g c = ap (λ (z : Seated g.row.A.Denot). held_at z.0.held 1) c.in_default-take.ensures.missed ∙ ap (λ (z : Seated g.row.A.Denot). held_at z.0.held 1) c.in-Some.ensures.taken.0
+
+pub let_home-requires-clause-table : goal.let_home-requires-clause-table
+let_home-requires-clause-table g c = (c.commit_first.ensures.table ∙ (c.take-2.ensures.table ∙ (c.take.ensures.table ∙ c.requires.table.0)), c.requires.table.1)
+
+pub let_home-requires-clause-on : goal.let_home-requires-clause-on
+let_home-requires-clause-on g c = ap (λ (z : Seated g.row.A.Denot). z.0.on) c.commit_first.ensures.home ∙ (ap (λ (z : Seated g.row.A.Denot). z.0.on) c.in-Some-take.ensures.taken.0 ∙ (ap (λ (z : Seated g.row.A.Denot). z.0.on) c.in-Some.ensures.taken.0 ∙ c.requires.on))
