@@ -6,8 +6,8 @@ use Rattle.trace_text.specs.declared.report.ReportLine.{ReportLine}
 use Rattle.trace_text.specs.Oracles.{agreed}
 use Rattle.trace_text.specs.Replay.{IsReport}
 use Rattle.trace_text.specs.Session.{at_start}
-use Rattle.trace_cli.specs.declared.command.UsageFault.{UsageFault}
-use Rattle.trace_cli.specs.declared.command.UsageFault.TheVariants.{HeapSize, NoMemory, Usage}
+use Rattle.trace_command.specs.declared.words.UsageFault.{UsageFault}
+use Rattle.trace_command.specs.declared.words.UsageFault.TheVariants.{HeapSize, NoMemory, Usage}
 use Rattle.trace_cli.specs.declared.opened.Opened.{Opened}
 
 -- a report of these bytes, where they are known, ends without a fault or a disagreement

@@ -3,16 +3,13 @@
 
 ghost use Rattle.std.specs.Prelude.{◌≤◌, IfOk};
 
-mod command;
-mod exit_status;
-mod heap_size;
 mod opened;
 
-use command::{Invocation, command};
 use opened::{FAILED, Opened, status_of};
 use std::process::ExitCode;
 use std::rt::{Env, Files};
 use std::{env, fs, io};
+use trace_command::{Invocation, command};
 
 /// Runs the program, and gives the exit status.
 fn run<R: AllocGlobal + Env + Files + Print + Eprint>(rt: &R) -> Result<u8, io::Error>

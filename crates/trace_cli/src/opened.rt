@@ -2,11 +2,10 @@
 ghost use Rattle.std.specs.Prelude.{◌≡◌, ◌≤◌};
 ghost use Rattle.trace_cli.specs.Status.{HasCleanReport, HasStatus};
 
-use crate::command::UsageFault;
-use crate::exit_status::exit_status;
 use linked_list_allocator::LocalHeap;
 use std::alloc::Allocator;
 use std::io;
+use trace_command::{UsageFault, exit_status};
 use trace_text::{EngineFault, Stopped, replay_buffered};
 
 /// The status where the words are refused or the file can't be opened.

@@ -13,7 +13,7 @@ use Rattle.clap.specs.Simple.{Shape, argument_words, built, built_leaf, entered,
 use Rattle.clap.specs.Takes.{is_given}
 use Rattle.clap.specs.Walk.{Held, Names, Outcome, Row, Rule, Step, Text, Waiting, Walk, after_flag, after_step, arg_by_id, arg_by_index, arg_by_long, arg_by_short, at_row, attached_value, bundle_met, bundle_step, done, finished, first_of, flag_met, has_long, has_row, has_short, idle, is_pending, long_met, long_or_other, more_values, next, nothing_held, option, option_met, option_word, plain, plain_word, positional, positional_held, pushed, reacted, refused, rows_after, settled, settled_rows, short_met, short_or_plain, started, subcommand, subcommand_met, subcommand_or_other, takes_several, takes_values, to_positional, trailing, used, used_by_id, value, values_or_missing, waits, walk, walk_from, walked, walked_from, with_default, without, word_met}
 use Rattle.clap.specs.declared.error.kind.ErrorKind.TheVariants as kind
-use Rattle.trace_cli.specs.Words.{file, file_in, heap, program, replay}
+use Rattle.trace_command.specs.Words.{file, file_in, heap, program, replay}
 
 cases : (P : Type 0) (b : Bool) → (b ≡ true → P) → (b ≡ false → P) → P
 cases P true yes_ no_ = yes_ refl

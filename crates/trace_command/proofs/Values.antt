@@ -7,7 +7,7 @@ use Rattle.clap.specs.Walk.{Row, row_of}
 use Rattle.clap.specs.Words.{Text, first_of, first_value, rows_of}
 use Rattle.clap.specs.declared.parser.matches.Found.{Found}
 use Rattle.clap.proofs.WalkLemmas.{find_row}
-use Rattle.trace_cli.specs.Words.{file_in}
+use Rattle.trace_command.specs.Words.{file_in}
 
 pub some_is : {X : Type 0} {x y : X} → Some x ≡ Some y → x ≡ y
 some_is h = cc

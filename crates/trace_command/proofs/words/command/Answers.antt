@@ -1,13 +1,13 @@
-use Rattle.trace_cli.proofs.Plain.{is_read, takes_file, takes_heap}
+use Rattle.trace_command.proofs.Plain.{is_read, takes_file, takes_heap}
 use Rattle.std.proofs.Common.{◌≡◌, List, [], refl, sym, ap, codes, ◌∙◌, map, subst, rules, Some, option_and_then, option_map}
 use Rattle.clap.proofs.CallerLemmas.{some_of_text}
 use Rattle.clap.specs.Words.{App, Text, fault_of, first_of, first_value, found_of, is_simple, is_simple_and_free, rows_of, subcommand_of, subcommand_rows_of}
 use Rattle.clap.specs.declared.parser.matches.ArgMatches.{ArgMatches}
 use Rattle.clap.specs.declared.parser.matches.Found.{Found}
-use Rattle.trace_cli.specs.Words.{NamesFile, file_in, heap_told, heap_word, program}
-use Rattle.trace_cli.proofs.Taken.{file_taken, is_free}
-use Rattle.trace_cli.proofs.Values.{file_of, first_is, heap_of, some_is}
-use Rattle.trace_cli.proofs.command.command.Goals as goal
+use Rattle.trace_command.specs.Words.{NamesFile, file_in, heap_told, heap_word, program}
+use Rattle.trace_command.proofs.Taken.{file_taken, is_free}
+use Rattle.trace_command.proofs.Values.{file_of, first_is, heap_of, some_is}
+use Rattle.trace_command.proofs.words.command.Goals as goal
 
 -- the file in the matches of the subcommand that a parse entered
 found_by : (words : List Text) (a : App) (m : ArgMatches) (inner : Found) → a ≡ program → fault_of a words ≡ [] → subcommand_rows_of m ≡ subcommand_of a words

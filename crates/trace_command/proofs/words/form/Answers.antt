@@ -5,8 +5,8 @@ use Rattle.clap.specs.Walk.{Rule}
 use Rattle.clap.specs.Words.{App, app_of, rule_of, with_rule, with_subcommand}
 use Rattle.clap.specs.declared.builder.ArgAction.TheVariants.{Set}
 use Rattle.clap.specs.declared.builder.arg.Arg.{Arg}
-use Rattle.trace_cli.specs.Words.{file, heap, replay}
-use Rattle.trace_cli.proofs.command.form.Goals as goal
+use Rattle.trace_command.specs.Words.{file, heap, replay}
+use Rattle.trace_command.proofs.words.form.Goals as goal
 
 pub returns : goal.returns
 returns c =

@@ -6,10 +6,10 @@ use Rattle.clap.specs.declared.builder.ArgAction.TheVariants.{Set}
 use Rattle.clap.specs.declared.error.Error.{Error}
 use Rattle.clap.specs.declared.error.kind.ErrorKind.TheVariants.{OutOfMemory}
 use Rattle.clap.specs.Words.{App, IsAmong, Row, Rule, Text, fault_of, first_of, kind_of, new_app, new_rule, subcommand_of, with_rule, with_subcommand}
-use Rattle.trace_cli.specs.declared.command.Invocation.{Invocation}
-use Rattle.trace_cli.specs.declared.command.Invocation.TheVariants.{Replay}
-use Rattle.trace_cli.specs.declared.command.UsageFault.{UsageFault}
-use Rattle.trace_cli.specs.declared.command.UsageFault.TheVariants.{HeapSize, NoMemory, Usage}
+use Rattle.trace_command.specs.declared.words.Invocation.{Invocation}
+use Rattle.trace_command.specs.declared.words.Invocation.TheVariants.{Replay}
+use Rattle.trace_command.specs.declared.words.UsageFault.{UsageFault}
+use Rattle.trace_command.specs.declared.words.UsageFault.TheVariants.{HeapSize, NoMemory, Usage}
 
 -- the file of `replay`
 abbrev pub file : Rule

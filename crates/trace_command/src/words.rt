@@ -1,8 +1,8 @@
 //! The words of the program.
 ghost use Rattle.std.specs.Prelude.{◌≡◌, IfOk, map, option_map};
 ghost use Rattle.clap.specs.Words.{app_of};
-ghost use Rattle.trace_cli.specs.Words.{Gives, IsRead, StandsFor, TakesFile, TakesHeap, heap_told, program};
-ghost use Rattle.trace_cli.specs.declared.command.UsageFault.TheVariants.{NoMemory};
+ghost use Rattle.trace_command.specs.Words.{Gives, IsRead, StandsFor, TakesFile, TakesHeap, heap_told, program};
+ghost use Rattle.trace_command.specs.declared.words.UsageFault.TheVariants.{NoMemory};
 
 use crate::heap_size::heap_size;
 use clap::error::ErrorKind;

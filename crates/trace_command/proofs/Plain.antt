@@ -11,13 +11,13 @@ use Rattle.clap.specs.Lexer.{long_of, long_of_rest, short_of, short_of_rest, str
 use Rattle.clap.specs.Simple.{Shape, subcommand_of}
 use Rattle.clap.specs.Walk.{Held, Rule, Step, Text, Waiting, Walk, after_step, finished, first_of, idle, long_or_other, nothing_held, plain_word, settled, short_or_plain, subcommand_or_other, to_positional, arg_by_index, trailing, walk, walk_from, walked}
 use Rattle.clap.specs.Words.{kind_of}
-use Rattle.trace_cli.specs.Words.{Gives, IsRead, NamesFile, TakesFile, TakesHeap, file_in, heap_told, heap_word, program}
-use Rattle.trace_cli.proofs.Taken.{replays}
-use Rattle.trace_cli.proofs.Values.{some_is}
-use Rattle.trace_cli.specs.declared.command.Invocation.{Invocation}
-use Rattle.trace_cli.specs.declared.command.Invocation.TheVariants.{Replay}
-use Rattle.trace_cli.specs.declared.command.UsageFault.{UsageFault}
-use Rattle.trace_cli.specs.declared.command.UsageFault.TheVariants.{HeapSize, NoMemory, Usage}
+use Rattle.trace_command.specs.Words.{Gives, IsRead, NamesFile, TakesFile, TakesHeap, file_in, heap_told, heap_word, program}
+use Rattle.trace_command.proofs.Taken.{replays}
+use Rattle.trace_command.proofs.Values.{some_is}
+use Rattle.trace_command.specs.declared.words.Invocation.{Invocation}
+use Rattle.trace_command.specs.declared.words.Invocation.TheVariants.{Replay}
+use Rattle.trace_command.specs.declared.words.UsageFault.{UsageFault}
+use Rattle.trace_command.specs.declared.words.UsageFault.TheVariants.{HeapSize, NoMemory, Usage}
 
 -- a word that begins with no hyphen is no flag
 module _ (word : Text) (plain : strip_byte 45 word ≡ None) where
