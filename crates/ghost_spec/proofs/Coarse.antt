@@ -135,7 +135,7 @@ pub begins_before : (low high : ℕ) (rs : List Run) → low ≤ high → Begins
 begins_before low high [] h b = tt
 begins_before low high (r ∷ rs) h b = omega arith
 
-begins_next : (r : Run) (rs : List Run) → PrecedesFirst r rs → BeginsFrom (run_end r) rs
+pub begins_next : (r : Run) (rs : List Run) → PrecedesFirst r rs → BeginsFrom (run_end r) rs
 begins_next r [] p = tt
 begins_next r (n ∷ rs) p = p.before
 

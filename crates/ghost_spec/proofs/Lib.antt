@@ -11,6 +11,7 @@ pub mod FoundTables
 pub mod Guests
 pub mod Overlaid
 pub mod Pushed
+pub mod Replaced
 pub mod Rooms
 pub mod RowsAgain
 pub mod RowsKept

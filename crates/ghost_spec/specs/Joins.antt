@@ -18,6 +18,15 @@ abbrev pub joined : Run → List Run → List Run
 joined r [] = r ∷ []
 joined r (n ∷ rs) = if continues r n then longer r n ∷ rs else r ∷ (n ∷ rs)
 
+-- a run in front of a list, where it has a page
+abbrev pub with_run : Run → List Run → List Run
+with_run r rs = if r.pages.count == 0 then rs else joined r rs
+
+-- runs in front of a list, the last put first
+abbrev pub all_joined : List Run → List Run → List Run
+all_joined [] rest = rest
+all_joined (r ∷ rs) rest = with_run r (all_joined rs rest)
+
 -- a run neither begins nor ends between two pages
 abbrev pub HasNoBound : ℕ → ℕ → Run → Type 0
 HasNoBound low high r = (r.pages.first.0 < high → r.pages.first.0 ≤ low) × (run_end r < high → run_end r ≤ low)

@@ -1,11 +1,10 @@
--- What is left of runs outside a range.
-use Rattle.std.specs.Prelude.{ℕ, ◌+◌, ◌-◌, ◌==◌, min, List, [], ◌∷◌, ◌++◌, Option, Some, None, if◌then◌else◌}
+-- Parts of runs, and the run of a range.
+use Rattle.std.specs.Prelude.{ℕ, ◌+◌, ◌-◌, min, List, [], ◌∷◌, Option, Some, None}
 use Rattle.page_state.specs.declared.entry.Entry.{Entry}
 use Rattle.page_state.specs.declared.entry.PageRange.{PageRange}
 use Rattle.page_state.specs.declared.entry.Run.{Run}
 use Rattle.page_state.specs.declared.entry.Target.{Target}
 use Rattle.page_state.specs.Entries.{target_of, advance_target}
-use Rattle.page_state.specs.Regions.{end_of}
 
 -- a run without its first pages
 abbrev pub run_behind : Run → ℕ → Run
@@ -21,14 +20,6 @@ run_before r page = record r { pages = record r.pages { count = min (page - r.pa
 -- the part of a run from a page on
 abbrev pub run_from : Run → ℕ → Run
 run_from r page = run_behind r (min (page - r.pages.first.0) r.pages.count)
-
--- a run alone, or no run where it has no page
-abbrev pub alone : Run → List Run
-alone r = if r.pages.count == 0 then [] else r ∷ []
-
--- the parts of a run outside a range
-abbrev pub parts_outside : PageRange → Run → List Run
-parts_outside range r = alone (run_before r range.first.0) ++ alone (run_from r (end_of range))
 
 -- the run of a range whose pages have an entry, or no run where nothing is mapped there
 abbrev pub run_of_target : PageRange → Option Target → List Run

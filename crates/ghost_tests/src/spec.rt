@@ -1,6 +1,8 @@
 //! The plain program on lists: runs, trees, blocks, the boot state, and calls in turn.
 ghost use Rattle.std.specs.Prelude.{◌<◌, ◌^◌, IfOk, OnOk};
-ghost use Rattle.ghost_spec.specs.Small.{AreSmall};
+ghost use Rattle.page_state.specs.Runs.{IsCoarsest};
+ghost use Rattle.ghost_spec.specs.Kept.{IsKeptTree};
+ghost use Rattle.ghost_spec.specs.Small.{AreSmall, IsSmall};
 ghost use Rattle.ghost_spec.specs.States.{IsKept};
 ghost use Rattle.ghost_spec.specs.Trees.{IsLowBlock};
 
@@ -26,9 +28,11 @@ fn with_leaves(
     state: State,
 ) -> Result<Vec<Run>, AllocError>
     requires runs { AreSmall runs.now }
+    requires coarsest { IsCoarsest runs.now }
     requires first { first < 2 ^ 40 }
     requires count { count < 2 ^ 20 }
-    ensures { IfOk result (λ v. AreSmall v.items) }
+    ensures small { IfOk result (λ v. AreSmall v.items) }
+    ensures coarsest { IfOk result (λ v. IsCoarsest v.items) }
 {
     let entry = Entry::Leaf {
         frame: Frame(first),
@@ -40,12 +44,15 @@ fn with_leaves(
         first: Page(first),
         count,
     };
-    let new = runs::updated(alloc, runs, range, entry)?;
-    runs::coarsest(alloc, new.as_slice())
+    runs::updated(alloc, runs, range, entry)
 }
 
 /// A run of leaves of the frames of their own numbers.
-fn leaves(first: u64, count: u64, state: State) -> Run {
+fn leaves(first: u64, count: u64, state: State) -> Run
+    requires first { first < 2 ^ 40 }
+    requires count { count < 2 ^ 20 }
+    ensures { IsSmall result }
+{
     Run {
         pages: PageRange {
             first: Page(first),
@@ -71,9 +78,11 @@ fn expect_leaves(
     wanted: &[Run],
 ) -> Result<(), Fail>
     requires runs { AreSmall runs.old.items }
+    requires coarsest { IsCoarsest runs.old.items }
     requires first { first < 2 ^ 40 }
     requires count { count < 2 ^ 20 }
-    ensures { OnOk result (AreSmall runs.new.items) }
+    ensures small { OnOk result (AreSmall runs.new.items) }
+    ensures coarsest { OnOk result (IsCoarsest runs.new.items) }
 {
     *runs = with_leaves(alloc, runs.as_slice(), first, count, state)?;
     assert!(rt; runs.as_slice() == wanted);
@@ -82,7 +91,8 @@ fn expect_leaves(
 
 /// Compares the runs once 16 pages are Unmapped.
 fn expect_cut(rt: &impl Abort, alloc: Global, runs: &[Run], wanted: &[Run]) -> Result<(), Fail>
-    requires { AreSmall runs.now }
+    requires small { AreSmall runs.now }
+    requires coarsest { IsCoarsest runs.now }
 {
     let range = PageRange {
         first: Page(0x40300),
@@ -111,6 +121,24 @@ fn splits_joins_and_cuts(rt: HostRuntime) -> Result<(), Fail> {
     expect_cut(&rt, alloc, runs.as_slice(), parts.as_slice())
 }
 
+#[test]
+fn puts_runs_in_order(rt: HostRuntime) -> Result<(), Fail> {
+    let (shared, owned) = (State::SharedOwned, State::Owned);
+    let runs = [
+        leaves(0x40300, 1, shared),
+        leaves(0x40301, 255, owned),
+        leaves(0x40200, 512, owned),
+    ];
+    let wanted = [
+        leaves(0x40200, 256, owned),
+        leaves(0x40300, 1, shared),
+        leaves(0x40301, 255, owned),
+    ];
+    let ordered = runs::coarsest(rt.alloc(), runs.as_slice())?;
+    assert!(rt; ordered.as_slice() == wanted.as_slice());
+    Ok(())
+}
+
 /// Compares the entry of a page.
 fn expect_entry(rt: &impl Abort, runs: &[Run], page: u64, wanted: Entry)
     requires { AreSmall runs.now }
@@ -136,7 +164,7 @@ fn gives_each_page_its_entry(rt: HostRuntime) -> Result<(), Fail> {
 
 /// A tree of 39 bits with its root at 0x40600, in which nothing is mapped.
 fn bare_tree(alloc: Global) -> Result<Tree, AllocError>
-    ensures { IfOk result (λ t. AreSmall t.runs.items) }
+    ensures { IfOk result IsKeptTree }
 {
     let mut tables = Vec::new(alloc);
     tables.push(Table {
@@ -151,7 +179,7 @@ fn bare_tree(alloc: Global) -> Result<Tree, AllocError>
 
 /// The tables that a share of a page needs.
 fn needed(alloc: Global, tree: &Tree) -> Result<Vec<(u64, u64)>, AllocError>
-    requires { AreSmall tree.now.runs.items }
+    requires { IsKeptTree tree.now }
 {
     let entry = Entry::Leaf {
         frame: Frame(0x40100),
@@ -168,7 +196,7 @@ fn needed(alloc: Global, tree: &Tree) -> Result<Vec<(u64, u64)>, AllocError>
 
 /// Compares the blocks for which tables are needed, and the frames of those that are there.
 fn expect_needed(rt: &impl Abort, alloc: Global, tree: &Tree) -> Result<(), Fail>
-    requires { AreSmall tree.now.runs.items }
+    requires { IsKeptTree tree.now }
 {
     let both = [(2, 1), (1, 0x200)];
     assert!(rt; needed(alloc, tree)?.as_slice() == both.as_slice());

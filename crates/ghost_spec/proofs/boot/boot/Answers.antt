@@ -30,8 +30,8 @@ frames_low : (a b hyp : PageRange) (entry : Entry) (p : Prot) (s : State) → a 
 frames_low a b hyp entry p s e low is leaf_is =
     subst (λ (r : PageRange). HasLowFrames entry r.count) (sym is) (subst (λ (x : Entry). HasLowFrames x a.count) (sym leaf_is) (carve_low a b e low))
 
-pub need-requires-clause-runs : goal.need-requires-clause-runs
-need-requires-clause-runs c = c.in_ok-host_root.ensures.kept.small
+pub need-requires-clause-kept : goal.need-requires-clause-kept
+need-requires-clause-kept c = c.in_ok-host_root.ensures.kept
 
 pub need-requires-clause-pages : goal.need-requires-clause-pages
 need-requires-clause-pages c = carve_low c.carve-carve.result c.args.memory.now.carve c.carve-carve.ensures.value c.carve-carve.ensures.low
@@ -39,8 +39,8 @@ need-requires-clause-pages c = carve_low c.carve-carve.result c.args.memory.now.
 pub need-requires-clause-frames : goal.need-requires-clause-frames
 need-requires-clause-frames c = subst (λ (e : Entry). HasLowFrames e c.carve-carve.result.count) (sym c.host_entry.ensures) tt
 
-pub edited-requires-clause-runs : goal.edited-requires-clause-runs
-edited-requires-clause-runs c = c.in_ok-host_root.ensures.kept.small
+pub edited-requires-clause-kept : goal.edited-requires-clause-kept
+edited-requires-clause-kept c = c.in_ok-host_root.ensures.kept
 
 pub edited-requires-clause-pages : goal.edited-requires-clause-pages
 edited-requires-clause-pages c = carve_low c.carve-carve.result c.args.memory.now.carve c.carve-carve.ensures.value c.carve-carve.ensures.low
@@ -48,8 +48,8 @@ edited-requires-clause-pages c = carve_low c.carve-carve.result c.args.memory.no
 pub edited-requires-clause-frames : goal.edited-requires-clause-frames
 edited-requires-clause-frames c = subst (λ (e : Entry). HasLowFrames e c.carve-carve.result.count) (sym c.host_entry-2.ensures) tt
 
-pub need-requires-2-clause-runs : goal.need-requires-2-clause-runs
-need-requires-2-clause-runs c = c.in_ok-hyp_root.ensures.kept.small
+pub need-requires-2-clause-kept : goal.need-requires-2-clause-kept
+need-requires-2-clause-kept c = c.in_ok-hyp_root.ensures.kept
 
 pub need-requires-2-clause-pages : goal.need-requires-2-clause-pages
 need-requires-2-clause-pages c = hyp_low c.carve-carve.result c.args.memory.now.carve c.hyp_range-hyp_pages.result c.carve-carve.ensures.value c.carve-carve.ensures.low c.hyp_range-hyp_pages.ensures
@@ -57,8 +57,8 @@ need-requires-2-clause-pages c = hyp_low c.carve-carve.result c.args.memory.now.
 pub need-requires-2-clause-frames : goal.need-requires-2-clause-frames
 need-requires-2-clause-frames c = frames_low c.carve-carve.result c.args.memory.now.carve c.hyp_range-hyp_pages.result c.hyp_entry.result _ _ c.carve-carve.ensures.value c.carve-carve.ensures.low c.hyp_range-hyp_pages.ensures c.hyp_entry.ensures
 
-pub edited-requires-2-clause-runs : goal.edited-requires-2-clause-runs
-edited-requires-2-clause-runs c = c.in_ok-hyp_root.ensures.kept.small
+pub edited-requires-2-clause-kept : goal.edited-requires-2-clause-kept
+edited-requires-2-clause-kept c = c.in_ok-hyp_root.ensures.kept
 
 pub edited-requires-2-clause-pages : goal.edited-requires-2-clause-pages
 edited-requires-2-clause-pages c = hyp_low c.carve-carve.result c.args.memory.now.carve c.hyp_range-hyp_pages.result c.carve-carve.ensures.value c.carve-carve.ensures.low c.hyp_range-hyp_pages.ensures
