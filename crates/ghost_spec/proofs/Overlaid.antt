@@ -1,4 +1,4 @@
--- Lists of runs over another entry; the parts of runs before and from a page.
+-- Lists of runs over another entry; the parts of runs on either side of a page.
 use Rattle.std.proofs.Common.{◌≡◌, ℕ, suc, ◌+◌, ◌-◌, ◌^◌, ◌<◌, ◌≤◌, true, false, ◌==◌, min, List, [], ◌∷◌, map, refl, ap, subst, ◌∙◌, arith, cond}
 use Rattle.std.proofs.lemmas.List.Elements.{All-nil, All-cons}
 use Rattle.std.proofs.lemmas.Bool.Decides.{nat_tests}
@@ -14,7 +14,9 @@ use Rattle.page_state.specs.Runs.{map_of, entry_on}
 use Rattle.page_state.proofs.Cases.{by_test}
 use Rattle.page_state.proofs.Entries.{advance-more, entry_advanced}
 use Rattle.ghost_spec.specs.Small.{HasLowFrames, IsSmall, AreSmall}
-use Rattle.ghost_spec.specs.Parts.{run_behind, run_before, run_from, runs_for}
+use Rattle.ghost_spec.specs.declared.runs.Side.{Side}
+use Rattle.ghost_spec.specs.declared.runs.Side.TheVariants.{Before, From}
+use Rattle.ghost_spec.specs.Parts.{run_behind, run_part, runs_for}
 use Rattle.ghost_spec.proofs.Entries.{low_fewer, low_behind}
 
 -- the map of a list of runs where another entry stands below them
@@ -55,27 +57,23 @@ skipped_few : (a c x p : ℕ) → a ≤ p → x ≤ p → a + min (x - a) c ≤ 
 skipped_few a c x p h k = omega arith
 
 module _ (x : ℕ) where
-  -- the parts of all runs before the page
-  abbrev pub all_before : List Run → List Run
-  all_before rs = map (λ r. run_before r x) rs
+  -- the parts of all runs on one side of the page
+  abbrev pub all_parts : Side → List Run → List Run
+  all_parts side rs = map (λ r. run_part side x r) rs
 
-  -- the parts of all runs from the page on
-  abbrev pub all_from : List Run → List Run
-  all_from rs = map (λ r. run_from r x) rs
-
-  pub before_low : (rs : List Run) (d : Entry) (p : ℕ) → p < x → over (all_before rs) d p ≡ over rs d p
+  pub before_low : (rs : List Run) (d : Entry) (p : ℕ) → p < x → over (all_parts Before rs) d p ≡ over rs d p
   before_low [] d p h = refl
   before_low (r ∷ rs) d p h = rw (before_keeps r.pages.first.0 r.pages.count x p h, before_low rs d p h) refl
 
-  pub before_high : (rs : List Run) (d : Entry) (p : ℕ) → x ≤ p → over (all_before rs) d p ≡ d
+  pub before_high : (rs : List Run) (d : Entry) (p : ℕ) → x ≤ p → over (all_parts Before rs) d p ≡ d
   before_high [] d p h = refl
   before_high (r ∷ rs) d p h = rw (before_drops r.pages.first.0 r.pages.count x p h) (before_high rs d p h)
 
-  pub from_low : (rs : List Run) (d : Entry) (p : ℕ) → p < x → over (all_from rs) d p ≡ d
+  pub from_low : (rs : List Run) (d : Entry) (p : ℕ) → p < x → over (all_parts From rs) d p ≡ d
   from_low [] d p h = refl
   from_low (r ∷ rs) d p h = rw (from_drops r.pages.first.0 r.pages.count x p h) (from_low rs d p h)
 
-  pub from_high : (rs : List Run) (d : Entry) (p : ℕ) → x ≤ p → over (all_from rs) d p ≡ over rs d p
+  pub from_high : (rs : List Run) (d : Entry) (p : ℕ) → x ≤ p → over (all_parts From rs) d p ≡ over rs d p
   from_high [] d p h = refl
   from_high (r ∷ rs) d p h =
       rw (from_keeps r.pages.first.0 r.pages.count x p h, from_high rs d p h)
@@ -83,24 +81,18 @@ module _ (x : ℕ) where
       (λ w. rw w (entry_on_behind r (min (x - r.pages.first.0) r.pages.count) p (skipped_few r.pages.first.0 r.pages.count x p (within_means r.pages.first.0 r.pages.count p w).0 h)))
       (λ w. rw w refl))
 
-  pub small_before : (r : Run) → IsSmall r → IsSmall (run_before r x)
-  small_before r s = (omega (arith, s.0), low_fewer (entry_of_target r.target) (min (x - r.pages.first.0) r.pages.count) r.pages.count (omega arith) s.1)
-
   small_behind : (r : Run) (m : ℕ) → m ≤ r.pages.count → IsSmall r → IsSmall (run_behind r m)
   small_behind r m h s =
       let e : r.pages.count ≡ m + (r.pages.count - m) = omega arith in
       (omega (arith, s.0), rw (entry_advanced r.target m) (low_behind (entry_of_target r.target) m (r.pages.count - m) (subst (λ (n : ℕ). HasLowFrames (entry_of_target r.target) n) e s.1)))
 
-  pub small_from : (r : Run) → IsSmall r → IsSmall (run_from r x)
-  small_from r s = small_behind r (min (x - r.pages.first.0) r.pages.count) (omega arith) s
+  pub small_part : (side : Side) (r : Run) → IsSmall r → IsSmall (run_part side x r)
+  small_part Before r s = (omega (arith, s.0), low_fewer (entry_of_target r.target) (min (x - r.pages.first.0) r.pages.count) r.pages.count (omega arith) s.1)
+  small_part From r s = small_behind r (min (x - r.pages.first.0) r.pages.count) (omega arith) s
 
-  pub small_all_before : (rs : List Run) → AreSmall rs → AreSmall (all_before rs)
-  small_all_before [] s = All-nil IsSmall
-  small_all_before (r ∷ rs) s = All-cons IsSmall (run_before r x) (all_before rs) (small_before r (s 0 r (omega arith))) (small_all_before rs (λ k d h. s (suc k) d (omega arith)))
-
-  pub small_all_from : (rs : List Run) → AreSmall rs → AreSmall (all_from rs)
-  small_all_from [] s = All-nil IsSmall
-  small_all_from (r ∷ rs) s = All-cons IsSmall (run_from r x) (all_from rs) (small_from r (s 0 r (omega arith))) (small_all_from rs (λ k d h. s (suc k) d (omega arith)))
+  pub small_parts : (side : Side) (rs : List Run) → AreSmall rs → AreSmall (all_parts side rs)
+  small_parts side [] s = All-nil IsSmall
+  small_parts side (r ∷ rs) s = All-cons IsSmall (run_part side x r) (all_parts side rs) (small_part side r (s 0 r (omega arith))) (small_parts side rs (λ k d h. s (suc k) d (omega arith)))
 
 -- the run of a range with an entry
 module _ (range : PageRange) where

@@ -5,6 +5,8 @@ use Rattle.page_state.specs.declared.entry.PageRange.{PageRange}
 use Rattle.page_state.specs.declared.entry.Run.{Run}
 use Rattle.page_state.specs.declared.entry.Target.{Target}
 use Rattle.page_state.specs.Entries.{target_of, advance_target}
+use Rattle.ghost_spec.specs.declared.runs.Side.{Side}
+use Rattle.ghost_spec.specs.declared.runs.Side.TheVariants.{Before, From}
 
 -- a run without its first pages
 abbrev pub run_behind : Run → ℕ → Run
@@ -13,13 +15,10 @@ run_behind r skipped = record {
   target = advance_target r.target skipped;
 }
 
--- the part of a run before a page
-abbrev pub run_before : Run → ℕ → Run
-run_before r page = record r { pages = record r.pages { count = min (page - r.pages.first.0) r.pages.count } }
-
--- the part of a run from a page on
-abbrev pub run_from : Run → ℕ → Run
-run_from r page = run_behind r (min (page - r.pages.first.0) r.pages.count)
+-- the part of a run on one side of a page
+abbrev pub run_part : Side → ℕ → Run → Run
+run_part Before page r = record r { pages = record r.pages { count = min (page - r.pages.first.0) r.pages.count } }
+run_part From page r = run_behind r (min (page - r.pages.first.0) r.pages.count)
 
 -- the run of a range whose pages have an entry, or no run where nothing is mapped there
 abbrev pub run_of_target : PageRange → Option Target → List Run
