@@ -1,3 +1,4 @@
+mod RowsAhead
 mod RowsFound
 mod RowsLaid
 mod RowsPages

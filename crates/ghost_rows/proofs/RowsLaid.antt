@@ -1,5 +1,5 @@
 -- Lists of rows that are written range by range.
-use Rattle.std.proofs.Common.{◌≡◌, ℕ, suc, ◌+◌, ◌-◌, ◌^◌, ◌<◌, ◌≤◌, ◌||◌, nat_le, Bool, true, false, List, [], ◌∷◌, drop, length, get_or, min, Option, Some, None, refl, sym, ap, subst, ◌∙◌, arith}
+use Rattle.std.proofs.Common.{◌≡◌, ℕ, suc, ◌+◌, ◌-◌, ◌^◌, ◌<◌, ◌≤◌, ◌||◌, nat_le, Bool, true, false, List, [], ◌∷◌, drop, length, get_or, min, Option, Some, None, refl, sym, ap, ◌∙◌, arith}
 use Rattle.std.specs.Option.{option_or, ForSome}
 use Rattle.std.specs.Prelude.{is_some}
 use mathlib.Core.Path.{fun_ext}
@@ -11,7 +11,6 @@ use Rattle.descriptor.specs.declared.State.{State}
 use Rattle.page_state.specs.declared.entry.Run.{Run as PageRun}
 use Rattle.page_state.specs.declared.entry.Target.{Target}
 use Rattle.page_state.specs.declared.entry.Target.TheVariants.{Malformed, Annotated, Leaf}
-use Rattle.page_state.specs.declared.row.Lent.{Lent}
 use Rattle.page_state.specs.declared.row.Row.{Row}
 use Rattle.page_state.specs.declared.row.Usage.{Usage}
 use Rattle.page_state.specs.declared.row.Usage.TheVariants.{VmPool, InHand}
@@ -21,7 +20,7 @@ use Rattle.page_state.specs.Layouts.{Layout}
 use Rattle.page_state.specs.Map.{is_within}
 use Rattle.page_state.specs.Regions.{is_in_range}
 use Rattle.page_state.specs.Rows.{advance_row, HasPageBelow}
-use Rattle.page_state.specs.Runs.{map_of}
+use Rattle.page_state.specs.Runs.{entry_on}
 use Rattle.page_state.proofs.Cases.{by_test}
 use Rattle.run_list.proofs.Maps.{none_low}
 use Rattle.std.proofs.lemmas.Bool.Decides.{nat_tests}
@@ -30,15 +29,15 @@ use Rattle.page_state.proofs.Updates.{within_test}
 use Rattle.reference_model.specs.Owner.{page_of, is_free, is_table_frame, is_in_hand}
 use Rattle.reference_model.specs.State.{no_guest, no_cpu}
 use Rattle.run_list.specs.declared.run.Run.{Run}
-use Rattle.run_list.specs.Runs.{run_end, run_map, map_updated, option_advance, IsCoarsest, AreInReach}
+use Rattle.run_list.specs.Runs.{run_map, map_updated, option_advance, IsCoarsest, AreInReach}
 use Rattle.ghost_spec.specs.declared.cpu.GhostCpu.{GhostCpu}
 use Rattle.ghost_spec.specs.declared.parts.GhostGuest.{GhostGuest}
 use Rattle.ghost_spec.specs.Found.{run_page}
 use Rattle.ghost_spec.specs.States.{guest_in}
 use Rattle.ghost_spec.specs.Views.{cpu_in}
 use Rattle.ghost_spec.proofs.Overlaid.{within_means}
-use Rattle.ghost_spec.proofs.RowsKept.{reach-by, reach-set, small-map, some-same, none-some}
-use Rattle.ghost_rows.specs.RowsLaid.{first_some, guests_in, cpus_in, annotated_row, loan_row, loan_at, run_below, guest_loan, used_row, used_if, guest_use, hand_use}
+use Rattle.ghost_spec.proofs.RowsKept.{reach-by, reach-set, small-map, none-some}
+use Rattle.ghost_rows.specs.RowsLaid.{first_some, guests_in, cpus_in, annotated_row, annotation_on, loan_row, loan_at, run_below, guest_loan, used_row, used_if, guest_use, hand_use}
 
 pub reach-laid : (rs ss : List (Run Row)) (first count : ℕ) (row : Option Row) → run_map advance_row ss ≡ map_updated advance_row (run_map advance_row rs) first count row → IsCoarsest advance_row ss → AreInReach HasPageBelow rs → first + count ≤ 2 ^ 63 → ForSome row (λ r. HasPageBelow r count) → AreInReach HasPageBelow ss
 reach-laid rs ss first count (Some row) e c h low small = reach-set rs ss first count row e c h low (small row refl)
@@ -73,19 +72,21 @@ annotated-on Malformed n = refl
 annotated-on (Annotated o) n = refl
 annotated-on (Leaf frame prot kind state) n = refl
 
-pub annotated-more : (all : List PageRun) (i : ℕ) (d : PageRun) (m n : ℕ → Option Row) (row : Option Row) → 0 < i → i ≤ length all
-    → ((f : ℕ) → m f ≡ annotated_row (map_of (drop i all) f)) → row ≡ annotated_row (entry_of_target (get_or all (i - 1) d).target)
-    → n ≡ map_updated advance_row m (get_or all (i - 1) d).pages.first.0 (get_or all (i - 1) d).pages.count row → (f : ℕ) → n f ≡ annotated_row (map_of (drop (i - 1) all) f)
-annotated-more all i d m n row some within same is e f =
-    let r : PageRun = get_or all (i - 1) d in
-    let one : map_updated advance_row m r.pages.first.0 r.pages.count (annotated_row (entry_of_target r.target)) f ≡ annotated_row (map_of (r ∷ drop i all) f) =
-    by_test (is_in_range r.pages f)
-    (λ t. rw t (annotated-on r.target (f - r.pages.first.0)))
-    (λ t. rw t (same f)) in
-    ap (λ (g : ℕ → Option Row). g f) e
-    ∙ ap (λ (o : Option Row). map_updated advance_row m r.pages.first.0 r.pages.count o f) is
-    ∙ one
-    ∙ sym (ap (λ (rs : List PageRun). annotated_row (map_of rs f)) (drop-back all i d some within))
+annotated-at : (r : PageRun) (row : Option Row) (f : ℕ) → row ≡ annotated_row (entry_of_target r.target) → option_advance advance_row row (f - r.pages.first.0) ≡ annotated_row (entry_on r f)
+annotated-at r row f is = ap (λ (o : Option Row). option_advance advance_row o (f - r.pages.first.0)) is ∙ annotated-on r.target (f - r.pages.first.0)
+
+pub annotated-none : (r : PageRun) (m : ℕ → Option Row) (row : Option Row) → row ≡ annotated_row (entry_of_target r.target) → is_some row ≡ false → (f : ℕ) → m f ≡ option_or (annotation_on r f) (m f)
+annotated-none r m (Some x) is none f = cc
+annotated-none r m None is none f = by_test (is_in_range r.pages f)
+    (λ t. rw t (ap (λ (o : Option Row). option_or o (m f)) (annotated-at r None f is)))
+    (λ t. rw t refl)
+
+pub annotated-laid : (r : PageRun) (m n : ℕ → Option Row) (row : Option Row) → row ≡ annotated_row (entry_of_target r.target) → is_some row ≡ true → n ≡ map_updated advance_row m r.pages.first.0 r.pages.count row
+    → (f : ℕ) → n f ≡ option_or (annotation_on r f) (m f)
+annotated-laid r m n None is some laid f = cc
+annotated-laid r m n (Some x) is some laid f = ap (λ (g : ℕ → Option Row). g f) laid ∙ by_test (is_in_range r.pages f)
+    (λ t. rw t (ap (λ (o : Option Row). option_or o (m f)) (annotated-at r (Some x) f is)))
+    (λ t. rw t refl)
 
 -- loans
 

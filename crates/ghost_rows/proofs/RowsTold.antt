@@ -16,11 +16,13 @@ use Rattle.page_state.proofs.Updates.{within_test}
 use Rattle.run_list.specs.declared.run.Run.{Run}
 use Rattle.run_list.specs.OwnerRows.{row_laws}
 use Rattle.run_list.specs.Parts.{IsEndedAt}
-use Rattle.run_list.specs.Runs.{run_end, run_map, map_updated, option_advance, EndBefore, IsCoarsest, AreInReach}
-use Rattle.run_list.proofs.Found.{ended_at}
-use Rattle.run_list.proofs.Maps.{none_low, run_high, run_in}
+use Rattle.run_list.specs.Runs.{run_end, run_map, map_updated, option_advance, value_on, EndBefore, IsCoarsest, AreInReach}
+use Rattle.run_list.proofs.Found.{reach_at, ended_at, starts_drop}
+use Rattle.run_list.proofs.Maps.{ends_later, none_low, run_high, run_in}
 use Rattle.ghost_spec.proofs.Overlaid.{within_means}
-use Rattle.ghost_rows.specs.RowsTold.{lent_told, HasNoBound}
+use Rattle.ghost_rows.specs.declared.rows.pieces.Lists.{Lists}
+use Rattle.ghost_rows.specs.declared.rows.pieces.Places.{Places}
+use Rattle.ghost_rows.specs.RowsTold.{lent_told, HasNoBound, IsNear, AreNear, AreEndedAt}
 use Rattle.ghost_spec.proofs.RowsKept.{small-map}
 
 -- a range that has no row
@@ -89,6 +91,40 @@ module _ (rs : List (Run Row)) (low place f : ℕ) (at : IsEndedAt (low + 1) pla
       let end : low + 1 ≤ run_end r = ended_at (low + 1) place rs d at.back less in
       both-skipped (subst (λ (ss : List (Run Row)). run_map advance_row ss f ≡ option_advance advance_row (run_map advance_row ss low) (f - low)) (sym split)
       (run-on r (drop (place + 1) rs) low high f (subst (λ (ss : List (Run Row)). IsCoarsest advance_row ss) split (from_place place rs c)) (omega (arith, end)) none a b))
+
+-- the row of a frame at its place
+module _ (rs : List (Run Row)) (f place : ℕ) (at : IsEndedAt (f + 1) place rs) where
+  from_there : run_map advance_row rs f ≡ run_map advance_row (drop place rs) f
+  from_there = skipped (f + 1) place rs f at.front (omega arith)
+
+  pub none-behind : length rs ≤ place → run_map advance_row rs f ≡ None
+  none-behind h = from_there ∙ ap (λ (ss : List (Run Row)). run_map advance_row ss f) (drop_all place rs h)
+
+  module _ (less : place < length rs) (d : Run Row) where
+    pub none-before : IsCoarsest advance_row rs → f < (get_or rs place d).pages.first.0 → run_map advance_row rs f ≡ None
+    none-before c h = from_there ∙ none_low advance_row (get_or rs place d).pages.first.0 f (drop place rs) (from_place place rs c) (starts_drop (get_or rs place d).pages.first.0 place rs d (λ k. omega arith)) h
+
+    ends-behind : f < run_end (get_or rs place d)
+    ends-behind = let e = ended_at (f + 1) place rs d at.back less in omega (arith, e)
+
+    pub in-reach : AreInReach HasPageBelow rs → (get_or rs place d).pages.first.0 ≤ f → HasPageBelow (get_or rs place d).value (f - (get_or rs place d).pages.first.0)
+    in-reach w h = row_laws.shorter (get_or rs place d).value (f - (get_or rs place d).pages.first.0) (get_or rs place d).pages.count (omega (arith, ends-behind, h)) (reach_at HasPageBelow place rs d w less).values
+
+    pub row-there : (get_or rs place d).pages.first.0 ≤ f → run_map advance_row rs f ≡ Some (value_on advance_row (get_or rs place d) f)
+    row-there h = from_there ∙ ap (λ (ss : List (Run Row)). run_map advance_row ss f) (drop_more rs place d less) ∙ run_in advance_row (get_or rs place d) (drop (place + 1) rs) f h ends-behind
+
+-- places that move on
+
+pub one-more : (q i : ℕ) (rs : List (Run Row)) (d : Run Row) → EndBefore q (take i rs) → i < length rs → run_end (get_or rs i d) < q → EndBefore q (take (suc i) rs)
+one-more q i [] d e h k = absurd (omega arith)
+one-more q zero (r ∷ rs) d e h k = (k, tt)
+one-more q (suc i) (r ∷ rs) d e h k = (e.0, one-more q i rs d e.1 (omega arith) k)
+
+pub all-near : (a b : ℕ) (p : Places) (x : Lists) → a ≤ b → AreEndedAt a p x → AreNear b p x
+all-near a b p x h at = record { annotated = near at.annotated; lent = near at.lent; shared = near at.shared; used = near at.used }
+  where
+    near : {place : ℕ} {rs : List (Run Row)} → IsEndedAt a place rs → IsNear b place rs
+    near {place} {rs} e = record { within = e.within; front = ends_later a b (take place rs) h e.front }
 
 -- one piece more of a range
 pub piece-more : (first low high f : ℕ) (m n before : ℕ → Option Row) (row : ℕ → Row) → first ≤ low → low < high

@@ -1,5 +1,5 @@
 -- What lists of rows tell of frames, each of one thing: annotations, loans or uses.
-use Rattle.std.specs.Prelude.{ℕ, zero, suc, ◌+◌, ◌-◌, ◌||◌, Bool, min, List, [], ◌∷◌, get_or, map, length, All, Option, Some, None, option_map, if◌then◌else◌}
+use Rattle.std.specs.Prelude.{◌≡◌, ℕ, zero, suc, ◌+◌, ◌-◌, ◌<◌, ◌≤◌, ◌||◌, Bool, true, is_some, min, List, [], ◌∷◌, get_or, map, length, All, Option, Some, None, option_map, if◌then◌else◌}
 use Rattle.std.specs.Option.{option_or}
 use Rattle.descriptor.specs.declared.State.{State}
 use Rattle.descriptor.specs.declared.State.TheVariants.{SharedBorrowed}
@@ -10,6 +10,8 @@ use Rattle.page_state.specs.declared.row.Row.{Row}
 use Rattle.page_state.specs.declared.row.Usage.{Usage}
 use Rattle.page_state.specs.declared.row.Usage.TheVariants.{Plain, SharedPool, VmPool, InHand}
 use Rattle.page_state.specs.Layouts.{Layout}
+use Rattle.page_state.specs.Regions.{is_in_range}
+use Rattle.page_state.specs.Runs.{entry_on}
 use Rattle.page_state.specs.Map.{Map}
 use Rattle.page_state.specs.Trees.{Tree, Pool}
 use Rattle.reference_model.specs.Owner.{page_of, lent_at, is_free, is_table_frame, is_in_hand}
@@ -43,6 +45,10 @@ abbrev pub annotated_row : Entry → Option Row
 annotated_row (Annotated owner) = Some (record { owner = owner; lent = None; usage = Plain })
 annotated_row other = None
 
+-- the row of a run's owner, on its pages
+abbrev pub annotation_on : Run → ℕ → Option Row
+annotation_on r f = if is_in_range r.pages f then annotated_row (entry_on r f) else None
+
 -- lent to the component of a number at its page, as a row
 abbrev pub loan_row : ℕ → ℕ → Row
 loan_row number page = record { owner = record { 0 = 0 }; lent = Some (lent_at number page); usage = Plain }
@@ -59,6 +65,11 @@ run_below limit r = record r { pages = record r.pages { count = min r.pages.coun
 abbrev pub low_page : ℕ → State → ℕ → List Run → Option ℕ
 low_page limit s f [] = None
 low_page limit s f (r ∷ rs) = option_or (run_page f s (run_below limit r)) (low_page limit s f rs)
+
+-- what a run maps in the state below a limit of pages stands from a frame on, and before another
+pub record IsNextAbove (limit : ℕ) (s : State) (high : ℕ) (r : Run) (end : ℕ) : Type 0 where
+  pub order : high ≤ end
+  pub within : (f : ℕ) → is_some (run_page f s (run_below limit r)) ≡ true → (high ≤ f) × (f < end)
 
 -- lent to a guest, where it maps the frame in the state
 abbrev pub guest_loan : Layout → (ℕ → Guest) → State → ℕ → ℕ → Option Row

@@ -1,13 +1,15 @@
 -- The row of a frame by four lists, and pieces of frames along which they go on.
-use Rattle.std.specs.Prelude.{ℕ, ◌<◌, ◌≤◌, Bool, true, false, ◌==◌, Option, Some, None}
+use Rattle.std.specs.Prelude.{ℕ, ◌<◌, ◌≤◌, Bool, true, false, ◌==◌, List, take, length, Option, Some, None}
 use Rattle.page_state.specs.declared.row.Lent.{Lent}
 use Rattle.page_state.specs.declared.row.Row.{Row}
 use Rattle.page_state.specs.declared.row.Usage.{Usage}
 use Rattle.page_state.specs.declared.row.Usage.TheVariants.{Plain}
 use Rattle.page_state.specs.Rows.{advance_row, HasPageBelow}
 use Rattle.run_list.specs.declared.run.Run.{Run}
-use Rattle.run_list.specs.Runs.{run_end, run_map, AreInReach}
+use Rattle.run_list.specs.Runs.{run_end, run_map, EndBefore, AreInReach}
+use Rattle.run_list.specs.Parts.{IsEndedAt}
 use Rattle.ghost_rows.specs.declared.rows.pieces.Lists.{Lists}
+use Rattle.ghost_rows.specs.declared.rows.pieces.Places.{Places}
 
 -- to whom a row's frame is lent
 abbrev pub lent_told : Option Row → Option Lent
@@ -48,6 +50,25 @@ pub record AreReached (x : Lists) : Type 0 where
   pub lent : AreInReach HasPageBelow x.lent.runs
   pub shared : AreInReach HasPageBelow x.shared.runs
   pub used : AreInReach HasPageBelow x.used.runs
+
+-- the runs before a place end before a page, and those from there on may
+pub record IsNear (page place : ℕ) (rs : List (Run Row)) : Type 0 where
+  pub within : place ≤ length rs
+  pub front : EndBefore page (take place rs)
+
+-- such a place in each list
+pub record AreNear (page : ℕ) (p : Places) (x : Lists) : Type 0 where
+  pub annotated : IsNear page p.annotated x.annotated.runs
+  pub lent : IsNear page p.lent x.lent.runs
+  pub shared : IsNear page p.shared x.shared.runs
+  pub used : IsNear page p.used x.used.runs
+
+-- the place in each list of the first run that doesn't end before a page
+pub record AreEndedAt (page : ℕ) (p : Places) (x : Lists) : Type 0 where
+  pub annotated : IsEndedAt page p.annotated x.annotated.runs
+  pub lent : IsEndedAt page p.lent x.lent.runs
+  pub shared : IsEndedAt page p.shared x.shared.runs
+  pub used : IsEndedAt page p.used x.used.runs
 
 -- a run neither begins nor ends between two frames
 pub record HasNoBound (low high : ℕ) (r : Run Row) : Type 0 where

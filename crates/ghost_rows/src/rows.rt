@@ -21,7 +21,7 @@ use ghost_spec::state::Ghost;
 use loans::{all_loans, annotations, guest_loans};
 use overlay::lay;
 use page_state::{Page, PageRange, Region, RegionKind, Row, State};
-use pieces::Lists;
+use pieces::{Lists, Places};
 use run_list::RunList;
 use std::alloc::{AllocError, Global};
 use uses::all_uses;
@@ -52,6 +52,7 @@ fn lists_of(alloc: Global, state: &Ghost) -> Result<Lists, AllocError>
 }
 
 /// The frames of a range get their rows, piece by piece: along a piece each list goes on as it begins.
+/// The place in each list goes on with the pieces, so that no list is searched.
 fn add_range(rows: &mut RunList<Row>, lists: &Lists, pages: PageRange) -> Result<(), AllocError>
     requires low { end_of pages ≤ 2 ^ 26 }
     requires lists { AreReached lists.now }
@@ -61,13 +62,15 @@ fn add_range(rows: &mut RunList<Row>, lists: &Lists, pages: PageRange) -> Result
 {
     let end = pages.first.0 + pages.count;
     let mut low = pages.first.0;
+    let mut places = Places::FIRST;
     while low < end {
-        let high = lists.bound(low, end);
+        places = lists.places_from(places, low);
+        let high = lists.bound(places, low, end);
         let piece = PageRange {
             first: Page(low),
             count: high - low,
         };
-        lay(rows, piece, Some(lists.row(low)))?;
+        lay(rows, piece, Some(lists.row(places, low)))?;
         low = high;
     }
     Ok(())

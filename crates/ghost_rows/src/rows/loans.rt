@@ -1,6 +1,6 @@
 //! Annotations of frames, and loans: which component maps a frame first, and at which page.
 ghost use Rattle.std.specs.Prelude.{◌≡◌, ℕ, ◌+◌, ◌-◌, ◌≤◌, IfOk, OnOk, length, min};
-ghost use Rattle.std.specs.Option.{option_or};
+ghost use Rattle.std.specs.Option.{option_or, ForSome};
 ghost use Rattle.page_state.specs.Entries.{entry_of_target};
 ghost use Rattle.page_state.specs.EntryTests.{state_eq};
 ghost use Rattle.page_state.specs.Geometries.{pages_below};
@@ -12,7 +12,7 @@ ghost use Rattle.run_list.specs.Runs.{run_map, AreInReach};
 ghost use Rattle.ghost_spec.specs.Found.{run_page};
 ghost use Rattle.ghost_spec.specs.Small.{IsSmall, AreSmall};
 ghost use Rattle.ghost_spec.specs.Trees.{tree_in_lists};
-ghost use Rattle.ghost_rows.specs.RowsLaid.{annotated_row, loan_row, loan_at, run_below, guests_loan, any_loan, HaveSmallRuns};
+ghost use Rattle.ghost_rows.specs.RowsLaid.{annotated_row, annotation_on, loan_row, loan_at, low_page, run_below, guests_loan, any_loan, HaveSmallRuns, IsNextAbove};
 
 use super::order::is_coarsest;
 use super::overlay::lay;
@@ -38,17 +38,46 @@ fn annotation(target: Target) -> Option<Row>
     }
 }
 
-/// The owners of the pages that are annotated. The first run that holds a page counts.
+/// The pages of a run get its owner, where it is annotated.
+fn annotate(rows: &mut RunList<Row>, run: Run) -> Result<(), AllocError>
+    requires run { IsSmall run }
+    requires reach { AreInReach HasPageBelow rows.old.runs }
+    ensures map { OnOk result ((f : ℕ) → run_map advance_row rows.new.runs f ≡ option_or (annotation_on run f) (run_map advance_row rows.old.runs f)) }
+    ensures reach { AreInReach HasPageBelow rows.new.runs }
+{
+    let row = annotation(run.target);
+    if row.is_none() {
+        return Ok(());
+    }
+    lay(rows, run.pages, row)?;
+    Ok(())
+}
+
+/// The owners of the pages that are annotated in runs that are in order.
+fn annotated(alloc: Global, runs: &[Run]) -> Result<RunList<Row>, AllocError>
+    requires small { AreSmall runs.now }
+    requires coarsest { IsCoarsest runs.now }
+    ensures map { IfOk result (λ r. (f : ℕ) → run_map advance_row r.runs f ≡ annotated_row (map_of runs.now f)) }
+    ensures reach { IfOk result (λ r. AreInReach HasPageBelow r.runs) }
+{
+    let mut rows = RunList::new(alloc);
+    for i in 0..runs.len() {
+        annotate(&mut rows, runs[i])?;
+    }
+    Ok(rows)
+}
+
+/// The owners of the pages that are annotated. Runs that aren't in order are put in order first.
 pub(crate) fn annotations(alloc: Global, runs: &[Run]) -> Result<RunList<Row>, AllocError>
     requires { AreSmall runs.now }
     ensures map { IfOk result (λ r. (f : ℕ) → run_map advance_row r.runs f ≡ annotated_row (map_of runs.now f)) }
     ensures reach { IfOk result (λ r. AreInReach HasPageBelow r.runs) }
 {
-    let mut rows = RunList::new(alloc);
-    for i in (0..runs.len()).rev() {
-        lay(&mut rows, runs[i].pages, annotation(runs[i].target))?;
+    if is_coarsest(runs) {
+        return annotated(alloc, runs);
     }
-    Ok(rows)
+    let ordered = coarsest(alloc, runs)?;
+    annotated(alloc, ordered.as_slice())
 }
 
 /// The row of a frame that is lent to the component of a number, at its page.
@@ -112,7 +141,51 @@ fn lend_run(
     }
 }
 
-/// The frames that runs map in the state are lent to the component of a number, each at the first page that maps it.
+/// Where a run's frames end, if it maps any in the state, and else the frame `high`. None where they begin below that.
+fn end_above(layout: &Layout, high: u64, state: State, run: Run) -> Option<u64>
+    requires { IsSmall run }
+    ensures { ForSome result (IsNextAbove (pages_below (layout_of layout.now).depth) state high run) }
+{
+    match run.target {
+        Target::Leaf {
+            frame,
+            state: own,
+            ..
+        } => {
+            if !is_same(own, state) {
+                return Some(high);
+            }
+            if frame.0 < high {
+                return None;
+            }
+            Some(frame.0 + count_before(run.pages, layout.geometry.pages()))
+        }
+        _ => Some(high),
+    }
+}
+
+/// The frames that runs map in the state are lent to the component of a number, each at the first page that maps it: that
+/// of the first run is written last.
+fn lend_back(
+    layout: &Layout,
+    rows: &mut RunList<Row>,
+    number: u64,
+    runs: &[Run],
+    state: State,
+) -> Result<(), AllocError>
+    requires small { AreSmall runs.now }
+    requires reach { AreInReach HasPageBelow rows.old.runs }
+    ensures map { OnOk result ((f : ℕ) → run_map advance_row rows.new.runs f ≡ option_or (loan_at number (low_page (pages_below (layout_of layout.now).depth) state f runs.now)) (run_map advance_row rows.old.runs f)) }
+    ensures reach { AreInReach HasPageBelow rows.new.runs }
+{
+    for i in (0..runs.len()).rev() {
+        lend_run(layout, rows, number, state, runs[i])?;
+    }
+    Ok(())
+}
+
+/// The same of runs in order, written from the first on as long as each run's frames stand behind those before it. Where
+/// one's don't, all are written from the last on.
 fn lend_runs(
     layout: &Layout,
     rows: &mut RunList<Row>,
@@ -126,8 +199,13 @@ fn lend_runs(
     ensures map { OnOk result ((f : ℕ) → run_map advance_row rows.new.runs f ≡ option_or (loan_at number (page_of (layout_of layout.now) (map_of runs.now) state f)) (run_map advance_row rows.old.runs f)) }
     ensures reach { AreInReach HasPageBelow rows.new.runs }
 {
-    for i in (0..runs.len()).rev() {
+    let mut high = 0;
+    for i in 0..runs.len() {
+        let Some(end) = end_above(layout, high, state, runs[i]) else {
+            return lend_back(layout, rows, number, runs, state);
+        };
         lend_run(layout, rows, number, state, runs[i])?;
+        high = end;
     }
     Ok(())
 }

@@ -3,10 +3,10 @@ ghost use Rattle.std.specs.Prelude.{◌≡◌, ℕ, ◌+◌, ◌-◌, ◌≤◌,
 ghost use Rattle.page_state.specs.Rows.{advance_row, HasPageBelow};
 ghost use Rattle.run_list.specs.Runs.{run_end, run_map, option_advance, IsCoarsest, InReach, AreInReach};
 ghost use Rattle.run_list.specs.Parts.{IsEndedAt};
-ghost use Rattle.ghost_rows.specs.RowsTold.{lent_told, usage_told, number_told, is_of_host as is_of_host_told, owner_told, HasNoBound};
+ghost use Rattle.ghost_rows.specs.RowsTold.{lent_told, usage_told, number_told, is_of_host as is_of_host_told, owner_told, HasNoBound, IsNear};
 
-use page_state::{Lent, Owner, Page, Row, Usage};
-use run_list::{Run, RunList};
+use page_state::{Lent, Owner, Row, Usage};
+use run_list::{Advance, Run, RunList};
 
 /// What is told of frames: each list has a row for those of which it tells something.
 #[derive(Drop)]
@@ -19,6 +19,25 @@ pub(crate) struct Lists {
     pub(crate) shared: RunList<Row>,
     /// What holds frames.
     pub(crate) used: RunList<Row>,
+}
+
+/// A place in each list: how many of its runs are in front of it.
+#[derive(Clone, Copy)]
+pub(crate) struct Places {
+    annotated: usize,
+    lent: usize,
+    shared: usize,
+    used: usize,
+}
+
+impl Places {
+    /// In front of all runs.
+    pub(crate) const FIRST: Places = Places {
+        annotated: 0,
+        lent: 0,
+        shared: 0,
+        used: 0,
+    };
 }
 
 /// To whom a row's frame is lent.
@@ -83,12 +102,37 @@ fn ends_by(run: &Run<Row>, frame: u64) -> bool
     first <= frame && run.pages.count <= frame - first
 }
 
-/// How many runs of a list end at a frame or before it.
-fn ended_by(runs: &[Run<Row>], frame: u64) -> usize
-    requires { IsCoarsest advance_row runs.now }
+/// How many runs of a list end at a frame or before it, counted on from a place: the runs before that aren't looked at.
+fn place_from(runs: &[Run<Row>], near: usize, frame: u64) -> usize
+    requires { IsNear (frame + 1) near runs.now }
     ensures { IsEndedAt (frame + 1) result runs.now }
 {
-    runs.partition_point(|run| ends_by(run, frame))
+    let mut place = near;
+    while place < runs.len() {
+        if !ends_by(&runs[place], frame) {
+            return place;
+        }
+        place += 1;
+    }
+    place
+}
+
+/// The row that a list has for a frame, read at the frame's place.
+fn row_at(runs: &[Run<Row>], place: usize, frame: u64) -> Option<Row>
+    requires coarsest { IsCoarsest advance_row runs.now }
+    requires reach { AreInReach HasPageBelow runs.now }
+    requires place { IsEndedAt (frame + 1) place runs.now }
+    ensures { result ≡ run_map advance_row runs.now frame }
+{
+    if place == runs.len() {
+        return None;
+    }
+    let run = runs[place];
+    let first = run.pages.first.0;
+    if frame < first {
+        return None;
+    }
+    Some(run.value.advanced(frame - first))
 }
 
 /// The frame before which a run neither begins nor ends behind a frame, and no later than another.
@@ -109,16 +153,16 @@ fn bound_by(run: Run<Row>, low: u64, high: u64) -> u64
     }
 }
 
-/// The frame before which a list goes on as it does at a frame, and no later than another.
-fn bound_of(runs: &[Run<Row>], low: u64, high: u64) -> u64
+/// The frame before which a list goes on as it does at a frame, whose place is given, and no later than another.
+fn bound_of(runs: &[Run<Row>], place: usize, low: u64, high: u64) -> u64
     requires order { low < high }
     requires coarsest { IsCoarsest advance_row runs.now }
     requires reach { AreInReach HasPageBelow runs.now }
+    requires place { IsEndedAt (low + 1) place runs.now }
     ensures above { low < result }
     ensures below { result ≤ high }
     ensures goes_on { (f : ℕ) → low ≤ f → f < result → run_map advance_row runs.now f ≡ option_advance advance_row (run_map advance_row runs.now low) (f - low) }
 {
-    let place = ended_by(runs, low);
     if place == runs.len() {
         return high;
     }
@@ -126,36 +170,50 @@ fn bound_of(runs: &[Run<Row>], low: u64, high: u64) -> u64
 }
 
 impl Lists {
-    ghost use Rattle.ghost_rows.specs.RowsTold.{told, AreReached};
+    ghost use Rattle.ghost_rows.specs.RowsTold.{told, AreReached, AreNear, AreEndedAt};
 
-    /// The row of a frame.
-    pub(crate) fn row(&self, frame: u64) -> Row
-        ensures { result ≡ told self.now frame }
+    /// The places of a frame, counted on from those of a frame before it.
+    pub(crate) fn places_from(&self, near: Places, frame: u64) -> Places
+        requires { AreNear (frame + 1) near self.now }
+        ensures { AreEndedAt (frame + 1) result self.now }
     {
-        let lent = self.lent.at(Page(frame));
-        Row {
-            owner: owner_of(
-                self.annotated.at(Page(frame)),
-                lent,
-                self.shared.at(Page(frame)),
-            ),
-            lent: lent_of(lent),
-            usage: usage_of(self.used.at(Page(frame))),
+        Places {
+            annotated: place_from(self.annotated.runs(), near.annotated, frame),
+            lent: place_from(self.lent.runs(), near.lent, frame),
+            shared: place_from(self.shared.runs(), near.shared, frame),
+            used: place_from(self.used.runs(), near.used, frame),
         }
     }
 
-    /// The frame before which all lists go on as they do at a frame, and no later than another.
-    pub(crate) fn bound(&self, low: u64, high: u64) -> u64
+    /// The row of a frame, whose places are given.
+    pub(crate) fn row(&self, places: Places, frame: u64) -> Row
+        requires { AreEndedAt (frame + 1) places self.now }
+        ensures { result ≡ told self.now frame }
+    {
+        let annotated = row_at(self.annotated.runs(), places.annotated, frame);
+        let lent = row_at(self.lent.runs(), places.lent, frame);
+        let shared = row_at(self.shared.runs(), places.shared, frame);
+        let used = row_at(self.used.runs(), places.used, frame);
+        Row {
+            owner: owner_of(annotated, lent, shared),
+            lent: lent_of(lent),
+            usage: usage_of(used),
+        }
+    }
+
+    /// The frame before which all lists go on as they do at a frame, whose places are given, and no later than another.
+    pub(crate) fn bound(&self, places: Places, low: u64, high: u64) -> u64
         requires order { low < high }
         requires reach { AreReached self.now }
+        requires places { AreEndedAt (low + 1) places self.now }
         ensures above { low < result }
         ensures below { result ≤ high }
         ensures goes_on { (f : ℕ) → low ≤ f → f < result → told self.now f ≡ advance_row (told self.now low) (f - low) }
         ensures small { HasPageBelow (told self.now low) (result - low) }
     {
-        let high = bound_of(self.annotated.runs(), low, high);
-        let high = bound_of(self.lent.runs(), low, high);
-        let high = bound_of(self.shared.runs(), low, high);
-        bound_of(self.used.runs(), low, high)
+        let high = bound_of(self.annotated.runs(), places.annotated, low, high);
+        let high = bound_of(self.lent.runs(), places.lent, low, high);
+        let high = bound_of(self.shared.runs(), places.shared, low, high);
+        bound_of(self.used.runs(), places.used, low, high)
     }
 }

@@ -1,9 +1,9 @@
-use Rattle.std.proofs.Common.{◌∙◌, ◌-◌, Some, ap, arith}
+use Rattle.std.proofs.Common.{◌∙◌, ◌+◌, ◌-◌, Some, ap, arith}
 use Rattle.page_state.specs.declared.row.Row.{Row}
 use Rattle.page_state.specs.Rows.{advance_row}
 use Rattle.run_list.specs.Runs.{run_map, map_updated}
 use Rattle.ghost_rows.specs.RowsTold.{told}
-use Rattle.ghost_rows.proofs.RowsTold.{piece-more}
+use Rattle.ghost_rows.proofs.RowsTold.{piece-more, all-near}
 use Rattle.ghost_rows.proofs.rows.add_range.Goals as goal
 
 pub loop-low-preserved : goal.loop-low-preserved
@@ -16,4 +16,5 @@ loop-low-preserved c =
       within = c.bound-high.ensures.below;
       map = λ f. piece-more c.args.pages.first.0 c.loop-low.low c.bound-high.result f (run_map advance_row c.loop-low.rows.runs) (run_map advance_row c.lay.new.rows.runs) (run_map advance_row c.args.rows.now.runs) (told c.args.lists.now) begun above c.bound-high.ensures.goes_on c.loop-low.invariant.map laid;
       reach = c.in_ok-lay.ensures.reach;
+      near = all-near (c.loop-low.low + 1) (c.bound-high.result + 1) c.places_from-places.result c.args.lists.now (omega (arith, above)) c.places_from-places.ensures;
     }

@@ -1,4 +1,4 @@
-use Rattle.std.proofs.Common.{◌≡◌, ℕ, drop}
+use Rattle.std.proofs.Common.{◌≡◌, ℕ, ◌≤◌, take, None}
 use Rattle.std.specs.Option.{option_or}
 use Rattle.page_state.specs.Geometries.{pages_below}
 use Rattle.page_state.specs.LayoutView.{layout_of}
@@ -9,6 +9,7 @@ use Rattle.ghost_rows.proofs.rows.loans.lend_runs.Given as goal
 
 abbrev pub invariant-loop-i : goal.invariant-loop-i
 invariant-loop-i l = record {
-  map : (f : ℕ) → run_map advance_row l.rows.runs f ≡ option_or (loan_at l.number (low_page (pages_below (layout_of l.layout).depth) l.state f (drop l.i l.runs))) (run_map advance_row l.fn.rows.runs f);
+  map : (f : ℕ) → run_map advance_row l.rows.runs f ≡ option_or (loan_at l.number (low_page (pages_below (layout_of l.layout).depth) l.state f (take l.i l.runs))) (run_map advance_row l.fn.rows.runs f);
+  high : (f : ℕ) → l.high ≤ f → low_page (pages_below (layout_of l.layout).depth) l.state f (take l.i l.runs) ≡ None;
   reach : AreInReach HasPageBelow l.rows.runs;
 }

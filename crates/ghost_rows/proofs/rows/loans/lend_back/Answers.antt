@@ -1,0 +1,14 @@
+use Rattle.std.proofs.Common.{◌≡◌, ◌∙◌, ap, drop, arith, ℕ}
+use Rattle.std.specs.Option.{option_or}
+use Rattle.page_state.specs.Geometries.{pages_below}
+use Rattle.page_state.specs.LayoutView.{layout_of}
+use Rattle.page_state.specs.Rows.{advance_row}
+use Rattle.run_list.specs.Runs.{run_map}
+use Rattle.ghost_rows.specs.RowsLaid.{loan_at, low_page}
+use Rattle.ghost_rows.proofs.rows.loans.lend_back.Goals as goal
+
+pub returns-clause-map : goal.returns-clause-map
+returns-clause-map c = λ f.
+    let start : c.loop-i.i ≡ 0 = omega (arith, c.loop-i-test.false) in
+    c.loop-i.invariant.map f
+    ∙ ap (λ (i : ℕ). option_or (loan_at c.args.number (low_page (pages_below (layout_of c.args.layout.now).depth) c.args.state f (drop i c.args.runs.now))) (run_map advance_row c.args.rows.now.runs f)) start
