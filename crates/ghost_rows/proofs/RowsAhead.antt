@@ -1,21 +1,23 @@
 -- Runs of a list taken from the first on: what stands in front of a run tells nothing of its pages, or of its frames.
 use Rattle.std.proofs.Common.{◌≡◌, ℕ, Bool, zero, suc, ◌+◌, ◌<◌, ◌≤◌, true, false, List, [], ◌∷◌, take, length, get_or, Option, Some, None, refl, sym, ap, ◌∙◌, arith, cond}
 use Rattle.std.specs.Option.{option_or}
-use Rattle.std.specs.Prelude.{is_some}
+use Rattle.std.specs.Prelude.{is_some, nat_lt}
 use Rattle.std.proofs.lemmas.Bool.Decides.{nat_tests}
 use Rattle.descriptor.specs.declared.State.{State}
 use Rattle.page_state.specs.declared.entry.Entry.{Entry}
 use Rattle.page_state.specs.declared.entry.Entry.TheVariants.{Unmapped}
+use Rattle.page_state.specs.declared.entry.PageRange.{PageRange}
 use Rattle.page_state.specs.declared.entry.Run.{Run}
 use Rattle.page_state.specs.declared.row.Row.{Row}
 use Rattle.page_state.specs.Map.{is_within}
-use Rattle.page_state.specs.Regions.{is_in_range}
+use Rattle.page_state.specs.Regions.{end_of, is_in_range}
 use Rattle.page_state.specs.Runs.{map_of, run_end, entry_on, IsCoarsest}
 use Rattle.page_state.proofs.Cases.{by_test}
 use Rattle.ghost_spec.specs.Found.{run_page}
 use Rattle.ghost_spec.proofs.Coarse.{BeginsFrom, begins_before, begins_next}
 use Rattle.ghost_spec.proofs.Overlaid.{within_means}
-use Rattle.ghost_rows.specs.RowsLaid.{annotated_row, annotation_on, loan_at, low_page, run_below, IsNextAbove}
+use Rattle.ghost_rows.specs.RowsLaid.{annotated_row, annotation_on, loan_at, low_page, run_below, run_frames, next_above}
+use Rattle.ghost_rows.proofs.RowsLaid.{page_in, page-among}
 
 or-none : {X : Type 0} (o : Option X) → option_or o None ≡ o
 or-none None = refl
@@ -106,23 +108,52 @@ module _ (limit : ℕ) (s : State) (f : ℕ) where
       by_page None e = ap (λ (o : Option ℕ). option_or (loan_at number o) old) (low_page-none rs i e)
       by_page (Some p) e = refl
 
+  -- what a run maps in the state below the limit stands from a frame on, and before another
+  pub record IsNextAbove (high : ℕ) (r : Run) (end : ℕ) : Type 0 where
+    pub order : high ≤ end
+    pub within : is_some (run_page f s (run_below limit r)) ≡ true → (high ≤ f) × (f < end)
+
+  pub next-above : (high end : ℕ) (r : Run) → Some end ≡ next_above high (run_frames s (run_below limit r)) → IsNextAbove high r end
+  next-above high end r is = by_frames (run_frames s (run_below limit r)) refl is
+    where
+      by_frames : (o : Option PageRange) → o ≡ run_frames s (run_below limit r) → Some end ≡ next_above high o → IsNextAbove high r end
+      by_frames None e k =
+          let same : end ≡ high = cc in
+          record {
+            order = omega (arith, same);
+            within = λ t. let none : is_some (run_page f s (run_below limit r)) ≡ false = ap is_some (page-among f s (run_below limit r) None e) in cc;
+          }
+      by_frames (Some frames) e k = by_test (nat_lt frames.first.0 high)
+          (λ t. let none : next_above high (Some frames) ≡ None = rw t refl in cc)
+          (λ t. let ends : next_above high (Some frames) ≡ Some (end_of frames) = rw t refl in
+          let same : end ≡ end_of frames = cc in
+          let from : high ≤ frames.first.0 = grind (arith, nat_tests) in
+          let page = page-among f s (run_below limit r) (Some frames) e in
+          record {
+            order = omega (arith, same, from);
+            within = λ u. by_test (is_within frames.first.0 frames.count f)
+                (λ w. let there = within_means frames.first.0 frames.count f w in (omega (arith, there.0, from), omega (arith, there.1, same)))
+                (λ w. let none : is_some (page_in r.pages.first.0 (Some frames) f) ≡ false = rw w refl in
+                let other : is_some (run_page f s (run_below limit r)) ≡ false = ap is_some page ∙ none in cc);
+          })
+
   -- a run whose frames stand behind those of all in front of it
-  next-loan : (number high end : ℕ) (r : Run) (before : Option ℕ) (old : Option Row) → IsNextAbove limit s high r end → (high ≤ f → before ≡ None)
+  next-loan : (number high end : ℕ) (r : Run) (before : Option ℕ) (old : Option Row) → IsNextAbove high r end → (high ≤ f → before ≡ None)
       → option_or (loan_at number (run_page f s (run_below limit r))) (option_or (loan_at number before) old) ≡ option_or (loan_at number (option_or before (run_page f s (run_below limit r)))) old
   next-loan number high end r before old a none = by_page (run_page f s (run_below limit r)) refl
     where
       by_page : (o : Option ℕ) → run_page f s (run_below limit r) ≡ o → option_or (loan_at number o) (option_or (loan_at number before) old) ≡ option_or (loan_at number (option_or before o)) old
       by_page None e = ap (λ (o : Option ℕ). option_or (loan_at number o) old) (sym (or-none before))
-      by_page (Some p) e = rw (none (a.within f (ap is_some e)).0) refl
+      by_page (Some p) e = rw (none (a.within (ap is_some e)).0) refl
 
-  next-none : (high end : ℕ) (r : Run) (before : Option ℕ) → IsNextAbove limit s high r end → (high ≤ f → before ≡ None) → end ≤ f → option_or before (run_page f s (run_below limit r)) ≡ None
+  next-none : (high end : ℕ) (r : Run) (before : Option ℕ) → IsNextAbove high r end → (high ≤ f → before ≡ None) → end ≤ f → option_or before (run_page f s (run_below limit r)) ≡ None
   next-none high end r before a none h = by_page (run_page f s (run_below limit r)) refl
     where
       by_page : (o : Option ℕ) → run_page f s (run_below limit r) ≡ o → option_or before o ≡ None
       by_page None e = or-none before ∙ none (omega (arith, a.order, h))
-      by_page (Some p) e = absurd (omega (arith, h, (a.within f (ap is_some e)).1))
+      by_page (Some p) e = absurd (omega (arith, h, (a.within (ap is_some e)).1))
 
-  pub lent-more : (number high end : ℕ) (rs : List Run) (i : ℕ) (d : Run) (new before old : Option Row) → i < length rs → IsNextAbove limit s high (get_or rs i d) end → (high ≤ f → low_page limit s f (take i rs) ≡ None)
+  pub lent-more : (number high end : ℕ) (rs : List Run) (i : ℕ) (d : Run) (new before old : Option Row) → i < length rs → IsNextAbove high (get_or rs i d) end → (high ≤ f → low_page limit s f (take i rs) ≡ None)
       → new ≡ option_or (loan_at number (run_page f s (run_below limit (get_or rs i d)))) before → before ≡ option_or (loan_at number (low_page limit s f (take i rs))) old
       → new ≡ option_or (loan_at number (low_page limit s f (take (i + 1) rs))) old
   lent-more number high end rs i d new before old h a none e k =
@@ -130,5 +161,5 @@ module _ (limit : ℕ) (s : State) (f : ℕ) where
       ∙ next-loan number high end (get_or rs i d) (low_page limit s f (take i rs)) old a none
       ∙ ap (λ (o : Option ℕ). option_or (loan_at number o) old) (sym (low_page-more rs i d h))
 
-  pub none-more : (high end : ℕ) (rs : List Run) (i : ℕ) (d : Run) → i < length rs → IsNextAbove limit s high (get_or rs i d) end → (high ≤ f → low_page limit s f (take i rs) ≡ None) → end ≤ f → low_page limit s f (take (i + 1) rs) ≡ None
+  pub none-more : (high end : ℕ) (rs : List Run) (i : ℕ) (d : Run) → i < length rs → IsNextAbove high (get_or rs i d) end → (high ≤ f → low_page limit s f (take i rs) ≡ None) → end ≤ f → low_page limit s f (take (i + 1) rs) ≡ None
   none-more high end rs i d h a none k = low_page-more rs i d h ∙ next-none high end (get_or rs i d) (low_page limit s f (take i rs)) a none k

@@ -1,13 +1,11 @@
 -- Lists of rows that are written range by range.
 use Rattle.std.proofs.Common.{◌≡◌, ℕ, suc, ◌+◌, ◌-◌, ◌^◌, ◌<◌, ◌≤◌, ◌||◌, nat_le, Bool, true, false, List, [], ◌∷◌, drop, length, get_or, min, Option, Some, None, refl, sym, ap, ◌∙◌, arith}
 use Rattle.std.specs.Option.{option_or, ForSome}
-use Rattle.std.specs.Prelude.{is_some}
+use Rattle.std.specs.Prelude.{is_some, if◌then◌else◌}
 use mathlib.Core.Path.{fun_ext}
 use Rattle.std.proofs.lemmas.List.{drop_more, get_or-map}
-use Rattle.descriptor.specs.declared.Frame.{Frame}
-use Rattle.descriptor.specs.declared.Kind.{Kind}
-use Rattle.descriptor.specs.declared.Prot.{Prot}
 use Rattle.descriptor.specs.declared.State.{State}
+use Rattle.page_state.specs.declared.entry.PageRange.{PageRange}
 use Rattle.page_state.specs.declared.entry.Run.{Run as PageRun}
 use Rattle.page_state.specs.declared.entry.Target.{Target}
 use Rattle.page_state.specs.declared.entry.Target.TheVariants.{Malformed, Annotated, Leaf}
@@ -32,12 +30,12 @@ use Rattle.run_list.specs.declared.run.Run.{Run}
 use Rattle.run_list.specs.Runs.{run_map, map_updated, option_advance, IsCoarsest, AreInReach}
 use Rattle.ghost_spec.specs.declared.cpu.GhostCpu.{GhostCpu}
 use Rattle.ghost_spec.specs.declared.parts.GhostGuest.{GhostGuest}
-use Rattle.ghost_spec.specs.Found.{run_page}
+use Rattle.ghost_spec.specs.Found.{target_page, run_page}
 use Rattle.ghost_spec.specs.States.{guest_in}
 use Rattle.ghost_spec.specs.Views.{cpu_in}
 use Rattle.ghost_spec.proofs.Overlaid.{within_means}
 use Rattle.ghost_spec.proofs.RowsKept.{reach-by, reach-set, small-map, none-some}
-use Rattle.ghost_rows.specs.RowsLaid.{first_some, guests_in, cpus_in, annotated_row, annotation_on, loan_row, loan_at, run_below, guest_loan, used_row, used_if, guest_use, hand_use}
+use Rattle.ghost_rows.specs.RowsLaid.{first_some, guests_in, cpus_in, annotated_row, annotation_on, loan_row, loan_at, target_frames, run_frames, guest_loan, used_row, used_if, guest_use, hand_use}
 
 pub reach-laid : (rs ss : List (Run Row)) (first count : ℕ) (row : Option Row) → run_map advance_row ss ≡ map_updated advance_row (run_map advance_row rs) first count row → IsCoarsest advance_row ss → AreInReach HasPageBelow rs → first + count ≤ 2 ^ 63 → ForSome row (λ r. HasPageBelow r count) → AreInReach HasPageBelow ss
 reach-laid rs ss first count (Some row) e c h low small = reach-set rs ss first count row e c h low (small row refl)
@@ -90,17 +88,31 @@ annotated-laid r m n (Some x) is some laid f = ap (λ (g : ℕ → Option Row). 
 
 -- loans
 
-pub lent-one : (limit number f count : ℕ) (m n : ℕ → Option Row) (row : Row) (r : PageRun) (s own : State) (frame : Frame) (prot : Prot) (kind : Kind) → r.target ≡ Leaf frame prot kind own → state_eq own s ≡ true
-    → count ≡ min r.pages.count (limit - r.pages.first.0) → row ≡ loan_row number r.pages.first.0 → n ≡ map_updated advance_row m frame.0 count (Some row) → n f ≡ option_or (loan_at number (run_page f s (run_below limit r))) (m f)
-lent-one limit number f count m n row r s own frame prot kind e t some is laid =
-    let one : map_updated advance_row m frame.0 (min r.pages.count (limit - r.pages.first.0)) (Some (loan_row number r.pages.first.0)) f ≡ option_or (loan_at number (run_page f s (run_below limit r))) (m f) =
-    by_test (is_within frame.0 (min r.pages.count (limit - r.pages.first.0)) f)
-    (λ w. rw (e, t, w) refl)
-    (λ w. rw (e, t, w) refl) in
+-- the page of a frame, where the frames are mapped at the pages from one on
+abbrev pub page_in : ℕ → Option PageRange → ℕ → Option ℕ
+page_in page None f = None
+page_in page (Some frames) f = if is_within frames.first.0 frames.count f then Some (page + (f - frames.first.0)) else None
+
+page-of-frames : (f : ℕ) (s : State) (pages : PageRange) (t : Target) → target_page f s pages t ≡ page_in pages.first.0 (target_frames s pages t) f
+page-of-frames f s pages Malformed = refl
+page-of-frames f s pages (Annotated o) = refl
+page-of-frames f s pages (Leaf frame prot kind own) = by_test (state_eq own s) (λ t. rw t refl) (λ t. rw t refl)
+
+pub page-among : (f : ℕ) (s : State) (r : PageRun) (o : Option PageRange) → o ≡ run_frames s r → run_page f s r ≡ page_in r.pages.first.0 o f
+page-among f s r o is = page-of-frames f s r.pages r.target ∙ ap (λ (o : Option PageRange). page_in r.pages.first.0 o f) (sym is)
+
+pub lent-one : (number f : ℕ) (m n : ℕ → Option Row) (row : Row) (r : PageRun) (s : State) (frames : PageRange) → Some frames ≡ run_frames s r → row ≡ loan_row number r.pages.first.0
+    → n ≡ map_updated advance_row m frames.first.0 frames.count (Some row) → n f ≡ option_or (loan_at number (run_page f s r)) (m f)
+lent-one number f m n row r s frames some is laid =
+    let one : map_updated advance_row m frames.first.0 frames.count (Some (loan_row number r.pages.first.0)) f ≡ option_or (loan_at number (page_in r.pages.first.0 (Some frames) f)) (m f) =
+    by_test (is_within frames.first.0 frames.count f) (λ w. rw w refl) (λ w. rw w refl) in
     ap (λ (g : ℕ → Option Row). g f) laid
-    ∙ ap (λ (k : ℕ). map_updated advance_row m frame.0 k (Some row) f) some
-    ∙ ap (λ (x : Row). map_updated advance_row m frame.0 (min r.pages.count (limit - r.pages.first.0)) (Some x) f) is
+    ∙ ap (λ (x : Row). map_updated advance_row m frames.first.0 frames.count (Some x) f) is
     ∙ one
+    ∙ ap (λ (o : Option ℕ). option_or (loan_at number o) (m f)) (sym (page-among f s r (Some frames) some))
+
+pub lent-none : (number f : ℕ) (old : Option Row) (r : PageRun) (s : State) → None ≡ run_frames s r → old ≡ option_or (loan_at number (run_page f s r)) old
+lent-none number f old r s none = ap (λ (o : Option ℕ). option_or (loan_at number o) old) (sym (page-among f s r None none))
 
 pub loan-or : (number : ℕ) (a b : Option ℕ) (o : Option Row) → option_or (loan_at number a) (option_or (loan_at number b) o) ≡ option_or (loan_at number (option_or a b)) o
 loan-or number None b o = refl

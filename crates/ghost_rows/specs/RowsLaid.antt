@@ -1,16 +1,20 @@
 -- What lists of rows tell of frames, each of one thing: annotations, loans or uses.
-use Rattle.std.specs.Prelude.{◌≡◌, ℕ, zero, suc, ◌+◌, ◌-◌, ◌<◌, ◌≤◌, ◌||◌, Bool, true, is_some, min, List, [], ◌∷◌, get_or, map, length, All, Option, Some, None, option_map, if◌then◌else◌}
+use Rattle.std.specs.Prelude.{ℕ, zero, suc, ◌+◌, ◌-◌, ◌||◌, Bool, nat_lt, min, List, [], ◌∷◌, get_or, map, length, All, Option, Some, None, option_map, if◌then◌else◌}
 use Rattle.std.specs.Option.{option_or}
 use Rattle.descriptor.specs.declared.State.{State}
 use Rattle.descriptor.specs.declared.State.TheVariants.{SharedBorrowed}
 use Rattle.page_state.specs.declared.entry.Entry.{Entry}
 use Rattle.page_state.specs.declared.entry.Entry.TheVariants.{Annotated}
+use Rattle.page_state.specs.declared.entry.PageRange.{PageRange}
 use Rattle.page_state.specs.declared.entry.Run.{Run}
+use Rattle.page_state.specs.declared.entry.Target.{Target}
+use Rattle.page_state.specs.declared.entry.Target.TheVariants.{Leaf}
 use Rattle.page_state.specs.declared.row.Row.{Row}
 use Rattle.page_state.specs.declared.row.Usage.{Usage}
 use Rattle.page_state.specs.declared.row.Usage.TheVariants.{Plain, SharedPool, VmPool, InHand}
+use Rattle.page_state.specs.EntryTests.{state_eq}
 use Rattle.page_state.specs.Layouts.{Layout}
-use Rattle.page_state.specs.Regions.{is_in_range}
+use Rattle.page_state.specs.Regions.{end_of, is_in_range}
 use Rattle.page_state.specs.Runs.{entry_on}
 use Rattle.page_state.specs.Map.{Map}
 use Rattle.page_state.specs.Trees.{Tree, Pool}
@@ -66,10 +70,19 @@ abbrev pub low_page : ℕ → State → ℕ → List Run → Option ℕ
 low_page limit s f [] = None
 low_page limit s f (r ∷ rs) = option_or (run_page f s (run_below limit r)) (low_page limit s f rs)
 
--- what a run maps in the state below a limit of pages stands from a frame on, and before another
-pub record IsNextAbove (limit : ℕ) (s : State) (high : ℕ) (r : Run) (end : ℕ) : Type 0 where
-  pub order : high ≤ end
-  pub within : (f : ℕ) → is_some (run_page f s (run_below limit r)) ≡ true → (high ≤ f) × (f < end)
+-- the frames of a range of pages with a target, where that is a leaf in the state
+abbrev pub target_frames : State → PageRange → Target → Option PageRange
+target_frames s pages (Leaf frame prot kind own) = if state_eq own s then Some (record { first = record { 0 = frame.0 }; count = pages.count }) else None
+target_frames s pages other = None
+
+-- those of a run
+abbrev pub run_frames : State → Run → Option PageRange
+run_frames s r = target_frames s r.pages r.target
+
+-- where frames end that begin at a frame or behind it, and the frame itself where there are none
+abbrev pub next_above : ℕ → Option PageRange → Option ℕ
+next_above high None = Some high
+next_above high (Some frames) = if nat_lt frames.first.0 high then None else Some (end_of frames)
 
 -- lent to a guest, where it maps the frame in the state
 abbrev pub guest_loan : Layout → (ℕ → Guest) → State → ℕ → ℕ → Option Row

@@ -1,10 +1,11 @@
 //! Annotations of frames, and loans: which component maps a frame first, and at which page.
-ghost use Rattle.std.specs.Prelude.{◌≡◌, ℕ, ◌+◌, ◌-◌, ◌≤◌, IfOk, OnOk, length, min};
+ghost use Rattle.std.specs.Prelude.{◌≡◌, ℕ, ◌+◌, ◌-◌, ◌≤◌, ◌^◌, IfOk, OnOk, length, min};
 ghost use Rattle.std.specs.Option.{option_or, ForSome};
 ghost use Rattle.page_state.specs.Entries.{entry_of_target};
 ghost use Rattle.page_state.specs.EntryTests.{state_eq};
 ghost use Rattle.page_state.specs.Geometries.{pages_below};
 ghost use Rattle.page_state.specs.LayoutView.{layout_of};
+ghost use Rattle.page_state.specs.Regions.{end_of};
 ghost use Rattle.page_state.specs.Rows.{advance_row, HasPageBelow};
 ghost use Rattle.page_state.specs.Runs.{map_of, IsCoarsest};
 ghost use Rattle.reference_model.specs.Owner.{page_of};
@@ -12,7 +13,7 @@ ghost use Rattle.run_list.specs.Runs.{run_map, AreInReach};
 ghost use Rattle.ghost_spec.specs.Found.{run_page};
 ghost use Rattle.ghost_spec.specs.Small.{IsSmall, AreSmall};
 ghost use Rattle.ghost_spec.specs.Trees.{tree_in_lists};
-ghost use Rattle.ghost_rows.specs.RowsLaid.{annotated_row, annotation_on, loan_row, loan_at, low_page, run_below, guests_loan, any_loan, HaveSmallRuns, IsNextAbove};
+ghost use Rattle.ghost_rows.specs.RowsLaid.{annotated_row, annotation_on, loan_row, loan_at, low_page, run_below, guests_loan, any_loan, run_frames, next_above, HaveSmallRuns};
 
 use super::order::is_coarsest;
 use super::overlay::lay;
@@ -108,6 +109,30 @@ fn is_same(own: State, state: State) -> bool
     own == state
 }
 
+/// The frames that a run maps in the state at input pages.
+fn frames_of(layout: &Layout, state: State, run: Run) -> Option<PageRange>
+    requires { IsSmall run }
+    ensures frames { result ≡ run_frames state (run_below (pages_below (layout_of layout.now).depth) run) }
+    ensures low { ForSome result (λ r. end_of r ≤ 2 ^ 63) }
+    ensures within { ForSome result (λ r. r.count ≤ run.pages.count) }
+{
+    let Target::Leaf {
+        frame,
+        state: own,
+        ..
+    } = run.target
+    else {
+        return None;
+    };
+    if !is_same(own, state) {
+        return None;
+    }
+    Some(PageRange {
+        first: Page(frame.0),
+        count: count_before(run.pages, layout.geometry.pages()),
+    })
+}
+
 /// The frames that a run maps in the state at input pages are lent to the component of a number.
 fn lend_run(
     layout: &Layout,
@@ -121,47 +146,24 @@ fn lend_run(
     ensures map { OnOk result ((f : ℕ) → run_map advance_row rows.new.runs f ≡ option_or (loan_at number (run_page f state (run_below (pages_below (layout_of layout.now).depth) run))) (run_map advance_row rows.old.runs f)) }
     ensures reach { AreInReach HasPageBelow rows.new.runs }
 {
-    match run.target {
-        Target::Leaf {
-            frame,
-            state: own,
-            ..
-        } => {
-            if !is_same(own, state) {
-                return Ok(());
-            }
-            let frames = PageRange {
-                first: Page(frame.0),
-                count: count_before(run.pages, layout.geometry.pages()),
-            };
-            lay(rows, frames, Some(loan(number, run.pages.first.0)))?;
-            Ok(())
-        }
-        _ => Ok(()),
+    if let Some(frames) = frames_of(layout, state, run) {
+        lay(rows, frames, Some(loan(number, run.pages.first.0)))?;
     }
+    Ok(())
 }
 
 /// Where a run's frames end, if it maps any in the state, and else the frame `high`. None where they begin below that.
 fn end_above(layout: &Layout, high: u64, state: State, run: Run) -> Option<u64>
     requires { IsSmall run }
-    ensures { ForSome result (IsNextAbove (pages_below (layout_of layout.now).depth) state high run) }
+    ensures { result ≡ next_above high (run_frames state (run_below (pages_below (layout_of layout.now).depth) run)) }
 {
-    match run.target {
-        Target::Leaf {
-            frame,
-            state: own,
-            ..
-        } => {
-            if !is_same(own, state) {
-                return Some(high);
-            }
-            if frame.0 < high {
-                return None;
-            }
-            Some(frame.0 + count_before(run.pages, layout.geometry.pages()))
-        }
-        _ => Some(high),
+    let Some(frames) = frames_of(layout, state, run) else {
+        return Some(high);
+    };
+    if frames.first.0 < high {
+        return None;
     }
+    Some(frames.first.0 + frames.count)
 }
 
 /// The frames that runs map in the state are lent to the component of a number, each at the first page that maps it: that

@@ -1,4 +1,4 @@
-use Rattle.std.proofs.Common.{◌≡◌, ◌<◌, ◌∙◌, ℕ, OnOk, Option, ap, arith, length, refl, subst, take_all}
+use Rattle.std.proofs.Common.{◌≡◌, ◌<◌, ◌∙◌, ℕ, OnOk, Option, ap, arith, length, subst, sym, take_all}
 use mathlib.Core.Path.{fun_ext}
 use Rattle.std.specs.Option.{option_or}
 use Rattle.page_state.specs.declared.row.Row.{Row}
@@ -7,7 +7,7 @@ use Rattle.page_state.specs.LayoutView.{layout_of}
 use Rattle.page_state.specs.Rows.{advance_row}
 use Rattle.run_list.specs.Runs.{run_map}
 use Rattle.ghost_rows.specs.RowsLaid.{loan_at, low_page}
-use Rattle.ghost_rows.proofs.RowsAhead.{lent-more, none-more, over-part}
+use Rattle.ghost_rows.proofs.RowsAhead.{lent-more, next-above, none-more, over-part}
 use Rattle.ghost_rows.proofs.RowsPages.{low_page-is}
 use Rattle.ghost_rows.proofs.rows.loans.lend_runs.Goals as goal
 
@@ -25,10 +25,10 @@ pub loop-i-preserved : goal.loop-i-preserved
 loop-i-preserved c =
     let limit : ℕ = pages_below (layout_of c.args.layout.now).depth in
     let within : c.loop-i.i < length c.args.runs.now = omega arith in
-    let above = c.in-Some.ensures c.in-Some.end refl in
+    let told = sym c.in-Some.is ∙ c.end_above.ensures in
     record {
-      map = λ f. lent-more limit c.args.state f c.args.number c.loop-i.high c.in-Some.end c.args.runs.now c.loop-i.i _ (run_map advance_row c.lend_run.new.rows.runs f) (run_map advance_row c.loop-i.rows.runs f) (run_map advance_row c.args.rows.now.runs f) within above (c.loop-i.invariant.high f) (c.in_ok-lend_run.ensures.map f) (c.loop-i.invariant.map f);
-      high = λ f h. none-more limit c.args.state f c.loop-i.high c.in-Some.end c.args.runs.now c.loop-i.i _ within above (c.loop-i.invariant.high f) h;
+      map = λ f. lent-more limit c.args.state f c.args.number c.loop-i.high c.in-Some.end c.args.runs.now c.loop-i.i _ (run_map advance_row c.lend_run.new.rows.runs f) (run_map advance_row c.loop-i.rows.runs f) (run_map advance_row c.args.rows.now.runs f) within (next-above limit c.args.state f c.loop-i.high c.in-Some.end _ told) (c.loop-i.invariant.high f) (c.in_ok-lend_run.ensures.map f) (c.loop-i.invariant.map f);
+      high = λ f h. none-more limit c.args.state f c.loop-i.high c.in-Some.end c.args.runs.now c.loop-i.i _ within (next-above limit c.args.state f c.loop-i.high c.in-Some.end _ told) (c.loop-i.invariant.high f) h;
       reach = c.in_ok-lend_run.ensures.reach;
     }
 
