@@ -5,7 +5,7 @@ use Rattle.page_state.proofs.Cases.{by_lt, by_test}
 use Rattle.page_state.proofs.Common.{eq-same, eq-self}
 use Rattle.run_list.specs.declared.run.Run.{Run}
 use Rattle.run_list.specs.Advance.{AdvanceLaws}
-use Rattle.run_list.specs.Runs.{run_end, PrecedesFirst, IsCoarsest, run_map, StartsFrom}
+use Rattle.run_list.specs.Runs.{run_end, IsCoarsest, run_map, StartsFrom}
 use Rattle.run_list.specs.View.{IsKept}
 use Rattle.run_list.proofs.Maps.{run_in, run_high, none_low, starts_behind}
 use Rattle.run_list.proofs.Once.{none-some, some-same, first-value, stops}

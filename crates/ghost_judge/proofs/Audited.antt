@@ -1,6 +1,6 @@
 -- What an audit finds, from what its parts find.
-use Rattle.std.proofs.Common.{◌≡◌, ℕ, zero, suc, ◌+◌, ◌-◌, ◌<◌, ◌≤◌, true, false, cond, List, [], ◌∷◌, Option, Some, None, is_some, map, length, get_or, refl, sym, ap, subst, ◌∙◌, arith}
-use Rattle.std.specs.Prelude.{IfSome, MatchOption, unwrap_or, ◌↔◌}
+use Rattle.std.proofs.Common.{◌≡◌, ℕ, zero, suc, ◌+◌, ◌-◌, ◌<◌, ◌≤◌, Bool, true, false, cond, List, [], ◌∷◌, Option, Some, None, is_some, map, length, get_or, refl, sym, ap, subst, ◌∙◌, arith}
+use Rattle.std.specs.Prelude.{IfSome, IsTrue, MatchOption, not, unwrap_or, ◌↔◌}
 use Rattle.std.proofs.lemmas.List.{get_or-map}
 use mathlib.Core.Path.{fun_ext}
 use Rattle.page_state.specs.declared.entry.Entry.{Entry}
@@ -107,12 +107,24 @@ row_back None (Some y) h e = cc
 row_back (Some x) None h e = cc
 row_back (Some x) (Some y) h e = ap Some e
 
+rows_apart : (rs ss : List (ListRun Row)) (o : Option ℕ) → IsFoundApart (run_map advance_row (map (λ r. r) rs)) (run_map advance_row (map (λ r. r) ss)) o → IsFoundApart (run_map advance_row rs) (run_map advance_row ss) o
+rows_apart rs ss o x = subst (λ ys. IsFoundApart (run_map advance_row rs) (run_map advance_row ys) o) (rows_self ss) (subst (λ xs. IsFoundApart (run_map advance_row xs) (run_map advance_row (map (λ r. r) ss)) o) (rows_self rs) x)
+
 pub found_rows : (rs ss : List (ListRun Row)) (o : Option ℕ) → ((f : ℕ) → is_some (run_map advance_row rs f) ≡ is_some (run_map advance_row ss f)) → IsFoundApart (run_map advance_row (map (λ r. r) rs)) (run_map advance_row (map (λ r. r) ss)) o → MatchOption o (row_in rs ≡ row_in ss) (IsFirstApart (row_in rs) (row_in ss))
 found_rows rs ss o h x =
-    let y : IsFoundApart (run_map advance_row rs) (run_map advance_row ss) o = subst (λ ys. IsFoundApart (run_map advance_row rs) (run_map advance_row ys) o) (rows_self ss) (subst (λ xs. IsFoundApart (run_map advance_row xs) (run_map advance_row (map (λ r. r) ss)) o) (rows_self rs) x) in
     found_other (run_map advance_row rs) (run_map advance_row ss) (row_in rs) (row_in ss)
     (λ n e. ap (λ v. unwrap_or v plain_row) e)
-    (λ n e. row_back (run_map advance_row rs n) (run_map advance_row ss n) (h n) e) o y
+    (λ n e. row_back (run_map advance_row rs n) (run_map advance_row ss n) (h n) e) o (rows_apart rs ss o x)
+
+pub same_rows : (rs ss : List (ListRun Row)) (o : Option ℕ) (b : Bool) → is_some o ≡ not b → IsFoundApart (run_map advance_row (map (λ r. r) rs)) (run_map advance_row (map (λ r. r) ss)) o → IsTrue b ↔ ((f : ℕ) → run_map advance_row rs f ≡ run_map advance_row ss f)
+same_rows rs ss None true e x = (λ t. rows_apart rs ss None x, λ h. refl)
+same_rows rs ss None false e x = cc
+same_rows rs ss (Some n) true e x = cc
+same_rows rs ss (Some n) false e x = (λ t. cc, λ h. absurd ((rows_apart rs ss (Some n) x).differ (h n)))
+
+-- rows that are one and the same list's
+pub rows_alike : (rs ss : List (ListRun Row)) → ((f : ℕ) → run_map advance_row rs f ≡ run_map advance_row ss f) → row_in rs ≡ row_in ss
+rows_alike rs ss h = fun_ext (λ f. ap (λ v. unwrap_or v plain_row) (h f))
 
 -- a list's guests
 

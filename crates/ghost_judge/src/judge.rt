@@ -4,7 +4,7 @@ ghost use Rattle.page_state.specs.LayoutView.{layout_of};
 ghost use Rattle.page_state.specs.Rows.{advance_row, HasPageBelow};
 ghost use Rattle.reference_model.specs.Rules.{may_grow as may_grow_of};
 ghost use Rattle.reference_model.specs.State.{no_cpu, no_guest, no_slot};
-ghost use Rattle.run_list.specs.Runs.{AreInReach, IsCoarsest};
+ghost use Rattle.run_list.specs.Runs.{run_map, AreInReach, IsCoarsest};
 ghost use Rattle.ghost_spec.specs.States.{contents_in, guest_in, slot_in, IsKept};
 ghost use Rattle.ghost_spec.specs.Used.{guests_in, vms_in};
 ghost use Rattle.ghost_spec.specs.Views.{cpu_in, row_in};
@@ -44,7 +44,17 @@ fn marked_runs(alloc: Global, rows: &RunList<Row>) -> Result<Vec<Run<Row>>, Allo
         .collect(alloc)
 }
 
-/// The first frame with different owner rows. A frame without a row has the plain one.
+/// Whether two lists give each frame the same row, or none.
+fn are_same_rows(post: &RunList<Row>, spec: &RunList<Row>) -> bool
+    requires post { AreInReach HasPageBelow post.now.runs }
+    requires spec { AreInReach HasPageBelow spec.now.runs }
+    ensures { IsTrue result ↔ ((f : ℕ) → run_map advance_row post.now.runs f ≡ run_map advance_row spec.now.runs f) }
+{
+    first_apart::<Row, Run<Row>>(post.runs(), spec.runs()).is_none()
+}
+
+/// The first frame with different owner rows. A frame without a row has the plain one, so where the lists aren't the same, what
+/// is left of them without plain rows is compared.
 fn in_rows(
     alloc: Global,
     post: &RunList<Row>,
@@ -54,6 +64,9 @@ fn in_rows(
     requires spec { AreInReach HasPageBelow spec.now.runs }
     ensures { IfOk result (IsFound (row_in post.now.runs ≡ row_in spec.now.runs) (IsRowDifference (row_in post.now.runs) (row_in spec.now.runs))) }
 {
+    if are_same_rows(post, spec) {
+        return Ok(None);
+    }
     let of_post = marked_runs(alloc, post)?;
     let of_spec = marked_runs(alloc, spec)?;
     match first_apart::<Row, Run<Row>>(of_post.as_slice(), of_spec.as_slice()) {

@@ -111,9 +111,6 @@ lent-one number f m n row r s frames some is laid =
     ∙ one
     ∙ ap (λ (o : Option ℕ). option_or (loan_at number o) (m f)) (sym (page-among f s r (Some frames) some))
 
-pub lent-none : (number f : ℕ) (old : Option Row) (r : PageRun) (s : State) → None ≡ run_frames s r → old ≡ option_or (loan_at number (run_page f s r)) old
-lent-none number f old r s none = ap (λ (o : Option ℕ). option_or (loan_at number o) old) (sym (page-among f s r None none))
-
 pub loan-or : (number : ℕ) (a b : Option ℕ) (o : Option Row) → option_or (loan_at number a) (option_or (loan_at number b) o) ≡ option_or (loan_at number (option_or a b)) o
 loan-or number None b o = refl
 loan-or number (Some a) b o = refl

@@ -70,7 +70,7 @@ map_above (r ∷ rs) p s h =
 pub continues_page : (r n : Run) → continues r n ≡ true → run_end r ≡ n.pages.first.0
 continues_page r n h = eq-same (run_end r) n.pages.first.0 (and-left (run_end r == n.pages.first.0) (entry_eq (entry_on r (run_end r)) (entry_of_target n.target)) h)
 
-from_first : (r : Run) → run_end r - r.pages.first.0 ≡ r.pages.count
+pub from_first : (r : Run) → run_end r - r.pages.first.0 ≡ r.pages.count
 from_first r = omega arith
 
 pub continues_entry : (r n : Run) → continues r n ≡ true → advance (entry_of_target r.target) r.pages.count ≡ entry_of_target n.target

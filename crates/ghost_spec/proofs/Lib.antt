@@ -21,4 +21,5 @@ pub mod TableCounts
 pub mod Tickets
 pub mod TreeLists
 pub mod Unmapped
+pub mod Untouched
 pub mod Starts

@@ -1,10 +1,11 @@
 -- Parts of runs, and the run of a range.
-use Rattle.std.specs.Prelude.{ℕ, ◌+◌, ◌-◌, min, List, [], ◌∷◌, Option, Some, None}
+use Rattle.std.specs.Prelude.{ℕ, ◌+◌, ◌-◌, ◌<◌, ◌≤◌, min, List, [], ◌∷◌, Option, Some, None}
 use Rattle.page_state.specs.declared.entry.Entry.{Entry}
 use Rattle.page_state.specs.declared.entry.PageRange.{PageRange}
 use Rattle.page_state.specs.declared.entry.Run.{Run}
 use Rattle.page_state.specs.declared.entry.Target.{Target}
 use Rattle.page_state.specs.Entries.{target_of, advance_target}
+use Rattle.page_state.specs.Runs.{run_end}
 use Rattle.ghost_spec.specs.declared.runs.Side.{Side}
 use Rattle.ghost_spec.specs.declared.runs.Side.TheVariants.{Before, From}
 
@@ -28,3 +29,13 @@ run_of_target range (Some target) = record { pages = range; target = target } �
 -- the run of a range with an entry
 abbrev pub runs_for : PageRange → Entry → List Run
 runs_for range entry = run_of_target range (target_of entry)
+
+-- all runs end before the page
+abbrev pub EndBefore : ℕ → List Run → Type 0
+EndBefore page [] = Unit {0}
+EndBefore page (r ∷ rs) = (run_end r < page) × EndBefore page rs
+
+-- the first run ends at the page or behind it
+abbrev pub EndsFrom : ℕ → List Run → Type 0
+EndsFrom page [] = Unit {0}
+EndsFrom page (r ∷ rs) = page ≤ run_end r

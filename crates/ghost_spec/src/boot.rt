@@ -44,8 +44,8 @@ pub fn boot(
     let host = edited(alloc, depth, &host_root, carve, host_entry(), spare)?;
     let hyp = edited(alloc, depth, &hyp_root, hyp_pages, hyp_entry(first), rest)?;
     Ok(Some(Shared {
-        host,
-        hyp,
+        host: host.tree,
+        hyp: hyp.tree,
         free: Vec::from_slice(alloc, behind(rest, hyp_need))?,
         rows: RunList::new(alloc),
     }))

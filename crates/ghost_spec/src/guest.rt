@@ -13,7 +13,7 @@ ghost use Rattle.ghost_spec.specs.States.{guest_in};
 use crate::boot::{frames_from, root_tree};
 use crate::parts::{GhostGuest, GhostPhase};
 use crate::pool::give_all;
-use crate::shared::{behind, edited, needed, returned};
+use crate::shared::{behind, edited, needed};
 use page_state::{PageRange, VmKind};
 use reference_model::{Changes, GuestChange, MapChange};
 use std::alloc::{AllocError, Global};
@@ -31,13 +31,11 @@ fn change_map(
     ensures after { OnOk result (guest_in guest.new ≡ mapped_guest depth change (guest_in guest.old)) }
     ensures kept { OnOk result (IsKeptGuest guest.new) }
 {
-    let need = needed(alloc, depth, &guest.tree, change)?;
     let free = guest.free.as_slice();
-    let tree = edited(alloc, depth, &guest.tree, change, free)?;
-    let back = returned(alloc, depth, &guest.tree, change)?;
-    let mut left = Vec::from_slice(alloc, behind(free, need))?;
-    give_all(&mut left, back.as_slice())?;
-    guest.tree = tree;
+    let edit = edited(alloc, depth, &guest.tree, change, free)?;
+    let mut left = Vec::from_slice(alloc, behind(free, edit.need))?;
+    give_all(&mut left, edit.returned.as_slice())?;
+    guest.tree = edit.tree;
     guest.free = left;
     Ok(())
 }

@@ -6,7 +6,7 @@ ghost use Rattle.reference_model.specs.Step.{shared_after, shared_need};
 
 use crate::pool::give_all;
 use crate::rows::copied_rows;
-use crate::tree::{self, Tree};
+use crate::tree::{self, EditedTree, Tree};
 use page_state::Row;
 use reference_model::{Changes, MapChange};
 use run_list::RunList;
@@ -80,24 +80,6 @@ pub(crate) fn needed(
     }
 }
 
-/// The frames that come back from a tree by a change.
-pub(crate) fn returned(
-    alloc: Global,
-    depth: u64,
-    tree: &Tree,
-    change: Option<MapChange>,
-) -> Result<Vec<u64>, AllocError>
-    requires depth { depth ≤ 3 }
-    requires kept { IsKeptTree tree.now }
-    requires small { IsSmallChange change }
-    ensures { IfOk result (λ v. v.items ≡ returned_of depth (tree_in_lists tree.now) (edit_of change)) }
-{
-    match change {
-        Some(change) => tree::returned(alloc, depth, tree, change.range, change.entry),
-        None => Ok(Vec::new(alloc)),
-    }
-}
-
 /// The tree after a change, whose new tables get the frames, in order.
 pub(crate) fn edited(
     alloc: Global,
@@ -105,16 +87,22 @@ pub(crate) fn edited(
     tree: &Tree,
     change: Option<MapChange>,
     frames: &[u64],
-) -> Result<Tree, AllocError>
+) -> Result<EditedTree, AllocError>
     requires depth { depth ≤ 3 }
     requires kept { IsKeptTree tree.now }
     requires small { IsSmallChange change }
-    ensures tree { IfOk result (λ t. tree_in_lists t ≡ edited_of depth (tree_in_lists tree.now) (edit_of change) frames.now) }
-    ensures kept { IfOk result IsKeptTree }
+    ensures tree { IfOk result (λ e. tree_in_lists e.tree ≡ edited_of depth (tree_in_lists tree.now) (edit_of change) frames.now) }
+    ensures kept { IfOk result (λ e. IsKeptTree e.tree) }
+    ensures need { IfOk result (λ e. e.need ≡ need_of depth (tree_in_lists tree.now) (edit_of change)) }
+    ensures returned { IfOk result (λ e. e.returned.items ≡ returned_of depth (tree_in_lists tree.now) (edit_of change)) }
 {
     match change {
         Some(change) => tree::edited(alloc, depth, tree, change.range, change.entry, frames),
-        None => tree.copied(alloc),
+        None => Ok(EditedTree {
+            tree: tree.copied(alloc)?,
+            need: 0,
+            returned: Vec::new(alloc),
+        }),
     }
 }
 
@@ -166,19 +154,15 @@ pub(crate) fn change(
     ensures rows { shared.new.rows ≡ shared.old.rows }
     ensures kept { IsKeptShared shared.new }
 {
-    let host_need = needed(alloc, depth, &shared.host, changes.host)?;
-    let hyp_need = needed(alloc, depth, &shared.hyp, changes.hyp)?;
     let free = shared.free.as_slice();
     let host = edited(alloc, depth, &shared.host, changes.host, free)?;
-    let rest = behind(free, host_need);
+    let rest = behind(free, host.need);
     let hyp = edited(alloc, depth, &shared.hyp, changes.hyp, rest)?;
-    let host_back = returned(alloc, depth, &shared.host, changes.host)?;
-    let hyp_back = returned(alloc, depth, &shared.hyp, changes.hyp)?;
-    let mut left = Vec::from_slice(alloc, behind(rest, hyp_need))?;
-    give_all(&mut left, hyp_back.as_slice())?;
-    give_all(&mut left, host_back.as_slice())?;
-    shared.host = host;
-    shared.hyp = hyp;
+    let mut left = Vec::from_slice(alloc, behind(rest, hyp.need))?;
+    give_all(&mut left, hyp.returned.as_slice())?;
+    give_all(&mut left, host.returned.as_slice())?;
+    shared.host = host.tree;
+    shared.hyp = hyp.tree;
     shared.free = left;
     Ok(())
 }

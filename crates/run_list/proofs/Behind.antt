@@ -1,17 +1,14 @@
 -- A run that is put behind all others.
-use Rattle.std.proofs.Common.{◌≡◌, ℕ, suc, ◌+◌, ◌-◌, ◌<◌, ◌≤◌, Bool, true, false, List, [], ◌∷◌, ◌++◌, get_or, take, length, Option, Some, None, refl, sym, subst, ap, ◌∙◌, arith}
-use Rattle.std.specs.Prelude.{if◌then◌else◌, IsSome}
-use Rattle.std.specs.Option.{option_to_list}
-use Rattle.std.proofs.lemmas.List.{append-nil, append_assoc, take_all}
+use Rattle.std.proofs.Common.{◌≡◌, ℕ, suc, ◌+◌, ◌-◌, ◌<◌, ◌≤◌, zero, Bool, true, false, List, [], ◌∷◌, ◌++◌, get_or, take, length, Option, refl, slice_set, sym, subst, ap, ◌∙◌, arith}
+use Rattle.std.proofs.lemmas.List.{take_all}
 use Rattle.page_state.specs.declared.entry.PageRange.{PageRange}
 use Rattle.run_list.specs.declared.run.Run.{Run}
 use Rattle.run_list.specs.Advance.{AdvanceLaws}
-use Rattle.run_list.specs.Runs.{run_end, StartsFrom, EndBefore, IsCoarsest, AreInReach}
-use Rattle.run_list.specs.Parts.{head_of, continues, longer, joined, glue, one_run, paired, run_of, edited_runs, runs_before, runs_behind}
+use Rattle.run_list.specs.Runs.{run_end, StartsFrom, EndBefore, IsCoarsest}
+use Rattle.run_list.specs.Parts.{head_of, continues, longer, glue, one_run, run_of, edited_runs, runs_before, runs_behind}
 use Rattle.run_list.proofs.Cases.{before_cases, behind_cases}
 use Rattle.run_list.proofs.Glue.{glue_none}
 use Rattle.run_list.proofs.Maps.{starts_behind}
-use Rattle.run_list.proofs.Pieces.{reach_right}
 
 pub last_put : {X : Type 0} (xs ys zs : List X) (n : ℕ) → length xs ≡ n → length ys ≡ n + 1 → take (n + 1) ys ≡ take n xs ++ zs → ys ≡ xs ++ zs
 last_put xs ys zs n e h t = sym (take_all (n + 1) ys (omega (arith, h))) ∙ t ∙ ap (λ us. us ++ zs) (take_all n xs (omega (arith, e)))
@@ -59,26 +56,21 @@ module _ {V : Type 0} (advance : V → ℕ → V) where
         rw (before_all range.first.0 rs c e, behind_none range.first.0 (range.first.0 + range.count) rs (omega arith) e)
         (sym (glue_none advance can same laws (glue advance same rs (one_run (run_of range value)))))
 
-    glue_last : (front : List (Run V)) (x : Run V) (ys : List (Run V)) → glue advance same (front ++ x ∷ []) ys ≡ front ++ joined advance same x ys
-    glue_last [] x ys = refl
-    glue_last (a ∷ []) x ys = refl
-    glue_last (a ∷ (b ∷ front)) x ys = ap (λ us. a ∷ us) (glue_last (b ∷ front) x ys)
+    -- the last run with the pages of one that continues it, or else that run behind it
+    pub last_longer : (rs : List (Run V)) (n : ℕ) (d y : Run V) → length rs ≡ suc n → continues advance same (get_or rs n d) y ≡ true → slice_set rs n (longer (get_or rs n d) y) ≡ glue advance same rs (y ∷ [])
+    last_longer [] n d y h t = absurd (omega (arith, h))
+    last_longer (r ∷ []) zero d y h t = rw t refl
+    last_longer (r ∷ []) (suc n) d y h t = absurd (omega (arith, h))
+    last_longer (r ∷ (w ∷ rs)) zero d y h t = absurd (omega (arith, h))
+    last_longer (r ∷ (w ∷ rs)) (suc n) d y h t = ap (λ us. r ∷ us) (last_longer (w ∷ rs) n d y (omega (arith, h)) t)
 
-    abbrev pair : Bool → Run V → Run V → Run V → Option (Run V) × Option (Run V)
-    pair b l x y = if b then (None, Some l) else (Some x, Some y)
+    pub last_behind : (rs : List (Run V)) (n : ℕ) (d y : Run V) → length rs ≡ suc n → continues advance same (get_or rs n d) y ≡ false → rs ++ y ∷ [] ≡ glue advance same rs (y ∷ [])
+    last_behind [] n d y h t = absurd (omega (arith, h))
+    last_behind (r ∷ []) zero d y h t = rw t refl
+    last_behind (r ∷ []) (suc n) d y h t = absurd (omega (arith, h))
+    last_behind (r ∷ (w ∷ rs)) zero d y h t = absurd (omega (arith, h))
+    last_behind (r ∷ (w ∷ rs)) (suc n) d y h t = ap (λ us. r ∷ us) (last_behind (w ∷ rs) n d y (omega (arith, h)) t)
 
-    pair_put : (front : List (Run V)) (b : Bool) (l x y : Run V) → (front ++ one_run (pair b l x y).0) ++ one_run (pair b l x y).1 ≡ front ++ (if b then l ∷ [] else x ∷ (y ∷ []))
-    pair_put front true l x y = ap (λ us. us ++ l ∷ []) (append-nil front)
-    pair_put front false l x y = append_assoc front (x ∷ []) (y ∷ [])
-
-    -- what stands before the last run, and the last run and the new one, which may be joined
-    pub appended : (rs front : List (Run V)) (last run : Option (Run V)) → rs ≡ front ++ option_to_list last → (0 < length rs → IsSome last)
-        → (front ++ one_run (paired advance same last run).0) ++ one_run (paired advance same last run).1 ≡ glue advance same rs (one_run run)
-    appended [] front None run e some = ap (λ us. us ++ one_run run) (sym e)
-    appended (r ∷ rs) front None run e some = let none : ◌≡◌ {A = Bool} false true = some (omega arith) in cc
-    appended rs front (Some x) None e some = append-nil (front ++ x ∷ []) ∙ sym e ∙ sym (glue_none advance can same laws rs)
-    appended rs front (Some x) (Some y) e some = pair_put front (continues advance same x y) (longer x y) x y ∙ sym (glue_last front x (y ∷ [])) ∙ ap (λ us. glue advance same us (y ∷ [])) (sym e)
-
-pub popped_reach : {V : Type 0} (can : V → ℕ → Type 0) (rs front : List (Run V)) (last : Option (Run V)) → rs ≡ front ++ option_to_list last → AreInReach can rs → AreInReach can (one_run last)
-popped_reach can rs front None e w = tt
-popped_reach can rs front (Some x) e w = reach_right can front (x ∷ []) (subst (AreInReach can) e w)
+    pub first_behind : (rs : List (Run V)) (y : Run V) → length rs ≡ 0 → rs ++ y ∷ [] ≡ glue advance same rs (y ∷ [])
+    first_behind [] y h = refl
+    first_behind (r ∷ rs) y h = absurd (omega (arith, h))

@@ -1,7 +1,10 @@
 use Rattle.ghost_spec.specs.Views.{row_in}
-use Rattle.ghost_judge.proofs.Audited.{row_told}
+use Rattle.ghost_judge.proofs.Audited.{row_told, rows_alike}
 use Rattle.ghost_judge.proofs.Marked.{marked_kept, found_marked}
 use Rattle.ghost_judge.proofs.judge.in_rows.Goals as goal
+
+pub returns-then-are_same_rows : goal.returns-then-are_same_rows
+returns-then-are_same_rows c = rows_alike c.args.post.now.runs c.args.spec.now.runs (c.are_same_rows.ensures.0 c.if-are_same_rows.true)
 
 pub first_apart-requires-clause-a : goal.first_apart-requires-clause-a
 first_apart-requires-clause-a c = rw (c.as_slice.ensures.value, c.in_ok-of_post.ensures.items) (marked_kept c.args.post.now.runs c.in_ok-of_post.ensures.coarsest c.requires.post)

@@ -91,9 +91,9 @@ returns-clause-shared c =
     let first : c.behind-spare.result.now ≡ spare l = rw (c.as_slice.ensures.value, c.in_ok-frames.ensures, c.carve-carve.ensures.value) at c.behind-spare.ensures in
     let rest : c.behind-rest.result.now ≡ drop (host_need l) (spare l) = rw (first, host_n) at c.behind-rest.ensures in
     let left : c.in_ok-from_slice.field-0.items ≡ drop (hyp_need l) (drop (host_need l) (spare l)) = rw (c.behind.ensures, rest, hyp_n) at c.in_ok-from_slice.ensures.items in
-    let host : tree_in_lists c.in_ok-host.host ≡ edited l.depth (host_root l) (host_edit l) (spare l) = rw (c.in_ok-host_root.ensures.tree, c.host_entry-2.ensures, first, c.carve-carve.ensures.value) at c.in_ok-host.ensures.tree in
-    let hyp : tree_in_lists c.in_ok-hyp.hyp ≡ edited l.depth (hyp_root l) (hyp_edit l) (drop (host_need l) (spare l)) = rw (c.in_ok-hyp_root.ensures.tree, c.hyp_range-hyp_pages.ensures, c.hyp_entry-2.ensures, rest, c.carve-carve.ensures.value) at c.in_ok-hyp.ensures.tree in
-    booted l (record { host = c.in_ok-host.host; hyp = c.in_ok-hyp.hyp; free = c.in_ok-from_slice.field-0; rows = c.new.result }) host hyp left c.new.ensures
+    let host : tree_in_lists c.in_ok-host.host.tree ≡ edited l.depth (host_root l) (host_edit l) (spare l) = rw (c.in_ok-host_root.ensures.tree, c.host_entry-2.ensures, first, c.carve-carve.ensures.value) at c.in_ok-host.ensures.tree in
+    let hyp : tree_in_lists c.in_ok-hyp.hyp.tree ≡ edited l.depth (hyp_root l) (hyp_edit l) (drop (host_need l) (spare l)) = rw (c.in_ok-hyp_root.ensures.tree, c.hyp_range-hyp_pages.ensures, c.hyp_entry-2.ensures, rest, c.carve-carve.ensures.value) at c.in_ok-hyp.ensures.tree in
+    booted l (record { host = c.in_ok-host.host.tree; hyp = c.in_ok-hyp.hyp.tree; free = c.in_ok-from_slice.field-0; rows = c.new.result }) host hyp left c.new.ensures
 
 pub returns-clause-kept : goal.returns-clause-kept
 returns-clause-kept c = record {

@@ -12,33 +12,21 @@ returns-clause-after c =
     let d = c.args.depth in
     let s = c.args.shared.now in
     let h = c.args.changes.now in
-    let host : tree_in_lists c.in_ok-host.host ≡ edited d (tree_in_lists s.host) (edit_of h.host) s.free.items = rw (c.as_slice-free.ensures.value) at c.in_ok-host.ensures.tree in
-    let hyp : tree_in_lists c.in_ok-hyp.hyp ≡ edited d (tree_in_lists s.hyp) (edit_of h.hyp) (drop (need d (tree_in_lists s.host) (edit_of h.host)) s.free.items) = rw (c.behind-rest.ensures, c.as_slice-free.ensures.value, c.in_ok-host_need.ensures) at c.in_ok-hyp.ensures.tree in
-    let back = rw (c.as_slice-2.ensures.value, c.in_ok-host_back.ensures) at c.in_ok-give_all-2.ensures in
-    let given = rw (c.as_slice.ensures.value, c.in_ok-hyp_back.ensures, c.in_ok-left.ensures.items, c.behind.ensures, c.behind-rest.ensures, c.as_slice-free.ensures.value, c.in_ok-host_need.ensures, c.in_ok-hyp_need.ensures, drop-drop) at c.in_ok-give_all.ensures in
-    all_changed d h s (record { host = c.in_ok-host.host; hyp = c.in_ok-hyp.hyp; free = c.give_all-2.new.free; rows = s.rows }) host hyp
+    let host : tree_in_lists c.in_ok-host.host.tree ≡ edited d (tree_in_lists s.host) (edit_of h.host) s.free.items = rw (c.as_slice-free.ensures.value) at c.in_ok-host.ensures.tree in
+    let hyp : tree_in_lists c.in_ok-hyp.hyp.tree ≡ edited d (tree_in_lists s.hyp) (edit_of h.hyp) (drop (need d (tree_in_lists s.host) (edit_of h.host)) s.free.items) = rw (c.behind-rest.ensures, c.as_slice-free.ensures.value, c.in_ok-host.ensures.need) at c.in_ok-hyp.ensures.tree in
+    let back = rw (c.as_slice-2.ensures.value, c.in_ok-host.ensures.returned) at c.in_ok-give_all-2.ensures in
+    let given = rw (c.as_slice.ensures.value, c.in_ok-hyp.ensures.returned, c.in_ok-left.ensures.items, c.behind.ensures, c.behind-rest.ensures, c.as_slice-free.ensures.value, c.in_ok-host.ensures.need, c.in_ok-hyp.ensures.need, drop-drop) at c.in_ok-give_all.ensures in
+    all_changed d h s (record { host = c.in_ok-host.host.tree; hyp = c.in_ok-hyp.hyp.tree; free = c.give_all-2.new.free; rows = s.rows }) host hyp
     (back ∙ rw given (sym (all_given-append (returned d (tree_in_lists s.host) (edit_of h.host)) (returned d (tree_in_lists s.hyp) (edit_of h.hyp)) (drop (need d (tree_in_lists s.host) (edit_of h.host) + need d (tree_in_lists s.hyp) (edit_of h.hyp)) s.free.items)))) refl
 
 pub returns-clause-kept : goal.returns-clause-kept
 returns-clause-kept c = record { host = c.in_ok-host.ensures.kept; hyp = c.in_ok-hyp.ensures.kept; rows = c.requires.kept.rows }
-
-pub returns-in_err-host_need-clause-kept : goal.returns-in_err-host_need-clause-kept
-returns-in_err-host_need-clause-kept c = c.requires.kept
-
-pub returns-in_err-hyp_need-clause-kept : goal.returns-in_err-hyp_need-clause-kept
-returns-in_err-hyp_need-clause-kept c = c.requires.kept
 
 pub returns-in_err-host-clause-kept : goal.returns-in_err-host-clause-kept
 returns-in_err-host-clause-kept c = c.requires.kept
 
 pub returns-in_err-hyp-clause-kept : goal.returns-in_err-hyp-clause-kept
 returns-in_err-hyp-clause-kept c = c.requires.kept
-
-pub returns-in_err-host_back-clause-kept : goal.returns-in_err-host_back-clause-kept
-returns-in_err-host_back-clause-kept c = c.requires.kept
-
-pub returns-in_err-hyp_back-clause-kept : goal.returns-in_err-hyp_back-clause-kept
-returns-in_err-hyp_back-clause-kept c = c.requires.kept
 
 pub returns-in_err-left-clause-kept : goal.returns-in_err-left-clause-kept
 returns-in_err-left-clause-kept c = c.requires.kept
