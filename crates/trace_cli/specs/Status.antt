@@ -1,7 +1,7 @@
 -- The exit status of the program (profile).
 use Rattle.std.specs.Prelude.{◌≡◌, ℕ, ◌≤◌, List, Option, Result, Ok, Err, IfSome, MatchResult}
-use Rattle.trace_lines.specs.Reading.{lines_of}
-use Rattle.trace_lines.specs.declared.outcome.Outcome.TheVariants.{Clean}
+use Rattle.trace_reader.specs.Reading.{lines_of}
+use Rattle.trace_reader.specs.declared.outcome.Outcome.TheVariants.{Clean}
 use Rattle.trace_text.specs.declared.report.ReportLine.{ReportLine}
 use Rattle.trace_text.specs.Oracles.{agreed}
 use Rattle.trace_text.specs.Replay.{IsReport}

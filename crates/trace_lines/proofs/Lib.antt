@@ -1,7 +1,4 @@
 mod Digits
 mod Hexadecimal
 mod Kept
-pub mod KnownBytes
-mod LineLemmas
-mod Moved
 pub mod Saying

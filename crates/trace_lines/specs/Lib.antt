@@ -1,11 +1,8 @@
-pub mod Ahead
 pub mod Arguments
 pub mod Asked
 pub mod Calls
-pub mod Devices
 pub mod Numbers
 pub mod Places
-pub mod Reading
 pub mod Said
 pub mod Settings
 pub mod Texts

@@ -8,10 +8,10 @@ ghost use Rattle.trace_lines.specs.Words.{is_silent as is_silent_line};
 use crate::asked::Asked;
 use crate::fault::LineFault;
 use crate::line::Line;
-use crate::lines::MOST_BYTES;
 use crate::place::{Allows, may_stand};
 use crate::settings::Settings;
 use crate::words::{Words, has_stray_byte};
+use trace_reader::MOST_BYTES;
 
 /// What a line says after the settings that were told, where the program allows these lines: nothing, a line, or its
 /// first fault.

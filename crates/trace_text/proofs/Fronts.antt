@@ -2,7 +2,7 @@
 use Rattle.std.proofs.Common.{◌≡◌, ℕ, zero, suc, ◌+◌, ◌-◌, arith, refl, ap, ◌∙◌, subst, sym, List, [], ◌∷◌, ◌++◌, length, take, drop, Option, Some, None}
 use Rattle.std.proofs.lemmas.List.{length-drop, take_all}
 use Rattle.std.specs.Io.KnownBytes.{Keeps, Appends}
-use Rattle.trace_lines.proofs.KnownBytes.{appends_both}
+use Rattle.trace_reader.proofs.KnownBytes.{appends_both}
 
 front_none : (k : ℕ) (xs : List ℕ) → xs ≡ [] → take k xs ≡ xs
 front_none zero [] e = refl

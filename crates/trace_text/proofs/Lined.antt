@@ -8,7 +8,7 @@ use Rattle.trace_text.specs.declared.report.ReportLine.{ReportLine}
 use Rattle.trace_text.specs.declared.report.ReportLine.TheVariants as report
 use Rattle.trace_text.specs.Played.{WritesFront}
 use Rattle.trace_text.specs.Texts.{text_of, text_of_report}
-use Rattle.trace_lines.proofs.KnownBytes.{appends_both}
+use Rattle.trace_reader.proofs.KnownBytes.{appends_both}
 use Rattle.trace_text.proofs.ReplayLemmas.{appends_lines, text_of_report-append}
 
 -- the lines of runs

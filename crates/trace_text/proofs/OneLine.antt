@@ -17,8 +17,8 @@ use Rattle.trace_lines.specs.declared.line.Query.{Query}
 use Rattle.trace_lines.specs.declared.line.Query.TheVariants as queries
 use Rattle.trace_lines.specs.declared.response.Response.{Response}
 use Rattle.trace_lines.specs.declared.response.Response.TheVariants as responses
-use Rattle.trace_lines.specs.declared.outcome.Outcome.{Outcome}
-use Rattle.trace_lines.specs.declared.outcome.Outcome.TheVariants as outcomes
+use Rattle.trace_reader.specs.declared.outcome.Outcome.{Outcome}
+use Rattle.trace_reader.specs.declared.outcome.Outcome.TheVariants as outcomes
 use Rattle.trace_text.specs.declared.report.ReportLine.{ReportLine}
 use Rattle.trace_text.specs.declared.report.ReportLine.TheVariants as report
 use Rattle.trace_text.specs.declared.session.Stop.TheVariants as stops

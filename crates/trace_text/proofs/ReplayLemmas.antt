@@ -7,21 +7,21 @@ use Rattle.trace_text.specs.declared.fault.Fault.{Fault}
 use Rattle.trace_lines.specs.declared.fault.LineFault.TheVariants.{Long}
 use Rattle.trace_text.specs.declared.fault.Fault.TheVariants as faults
 use Rattle.trace_lines.specs.declared.place.Allows.{Allows}
-use Rattle.trace_lines.specs.declared.outcome.Outcome.{Outcome}
-use Rattle.trace_lines.specs.declared.outcome.Outcome.TheVariants as outcomes
+use Rattle.trace_reader.specs.declared.outcome.Outcome.{Outcome}
+use Rattle.trace_reader.specs.declared.outcome.Outcome.TheVariants as outcomes
 use Rattle.trace_text.specs.declared.report.ReportLine.{ReportLine}
 use Rattle.trace_text.specs.declared.report.ReportLine.TheVariants as report
 use Rattle.trace_text.specs.declared.session.Stop.TheVariants as stops
 use Rattle.trace_text.specs.Played.{Plays, PlaysFront, Writes, WritesFront, lines_told}
-use Rattle.trace_lines.specs.Reading.{IsFirstLine, ReadsLine}
-use Rattle.trace_lines.specs.Reading.{lines_of}
+use Rattle.trace_reader.specs.Reading.{IsFirstLine, ReadsLine}
+use Rattle.trace_reader.specs.Reading.{lines_of}
 use Rattle.trace_text.specs.Oracles.{Gives}
 use Rattle.trace_text.specs.Replay.{IsBeginning, IsBegun, IsPlayed, IsReport, IsReplayed, end_line, outcome_of}
 use Rattle.trace_lines.specs.Said.{said}
 use Rattle.trace_text.specs.Session.{Standing, Answer, RunsLine, allowed, at_start}
 use Rattle.trace_lines.specs.Settings.{Told}
 use Rattle.trace_text.specs.Texts.{text_of, text_of_report}
-use Rattle.trace_lines.proofs.KnownBytes.{appends_both}
+use Rattle.trace_reader.proofs.KnownBytes.{appends_both}
 
 pub text_of_report-append : (xs ys : List ReportLine) → text_of_report (xs ++ ys) ≡ text_of_report xs ++ text_of_report ys
 text_of_report-append [] ys = refl

@@ -1,8 +1,8 @@
 -- How a replay can fail, and how a source and a sink count their failures.
 use Rattle.std.specs.Prelude.{◌≡◌, ℕ, ◌+◌, List, take, Option, Result, Ok, Err, MatchResult}
 use Rattle.std.specs.Io.KnownBytes.{Appends}
-use Rattle.trace_lines.specs.declared.outcome.EngineFault.{EngineFault}
-use Rattle.trace_lines.specs.declared.outcome.EngineFault.TheVariants.{Read, Write, NoMemory}
+use Rattle.trace_reader.specs.declared.outcome.EngineFault.{EngineFault}
+use Rattle.trace_reader.specs.declared.outcome.EngineFault.TheVariants.{Read, Write, NoMemory}
 
 -- a sink takes all bytes, or, where it fails, a front of them
 abbrev pub WritesAll : {X E : Type 0} → Option (List ℕ) → Option (List ℕ) → Result X E → List ℕ → Type 0

@@ -1,8 +1,8 @@
 -- One line of a trace, carried out and reported.
 use Rattle.std.specs.Prelude.{◌≡◌, ℕ, List, [], ◌∷◌, take, Option, Some, None, Ok, Err}
 use Rattle.std.specs.Io.KnownBytes.{Appends}
-use Rattle.trace_lines.specs.declared.outcome.Outcome.{Outcome}
-use Rattle.trace_lines.specs.declared.outcome.Outcome.TheVariants as outcomes
+use Rattle.trace_reader.specs.declared.outcome.Outcome.{Outcome}
+use Rattle.trace_reader.specs.declared.outcome.Outcome.TheVariants as outcomes
 use Rattle.trace_text.specs.declared.report.ReportLine.{ReportLine}
 use Rattle.trace_text.specs.declared.report.ReportLine.TheVariants as report
 use Rattle.trace_text.specs.declared.session.Stop.TheVariants as stops

@@ -2,9 +2,9 @@
 use Rattle.std.specs.Prelude.{◌≡◌, ◌⊎◌, ℕ, ◌+◌, ◌<◌, ◌≤◌, zero, suc, List, [], ◌∷◌, ◌++◌, Option, Ok, Err, IfSome}
 use Rattle.std.specs.Io.KnownBytes.{Appends}
 use Rattle.trace_text.specs.declared.fault.Fault.TheVariants as faults
-use Rattle.trace_lines.specs.Reading.{lines_of}
-use Rattle.trace_lines.specs.declared.outcome.Outcome.{Outcome}
-use Rattle.trace_lines.specs.declared.outcome.Outcome.TheVariants as outcomes
+use Rattle.trace_reader.specs.Reading.{lines_of}
+use Rattle.trace_reader.specs.declared.outcome.Outcome.{Outcome}
+use Rattle.trace_reader.specs.declared.outcome.Outcome.TheVariants as outcomes
 use Rattle.trace_text.specs.declared.report.ReportLine.{ReportLine}
 use Rattle.trace_text.specs.declared.report.ReportLine.TheVariants as report
 use Rattle.trace_text.specs.declared.session.Stop.TheVariants as stops

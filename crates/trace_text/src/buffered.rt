@@ -6,7 +6,7 @@ ghost use Rattle.trace_text.specs.Replay.{IsReplayed};
 use crate::trace::replay;
 use std::alloc::{Allocator, Global};
 use std::io::{BufWriter, Error, Read, Write};
-use trace_lines::{Counting, EngineFault, Outcome};
+use trace_reader::{Counting, EngineFault, Outcome};
 
 /// Why a replay stopped before the end of its report, and what the system told of a read or a write that failed.
 #[derive(Debug, Drop)]

@@ -14,4 +14,4 @@ pub use buffered::{Stopped, replay_buffered};
 pub use oracle::{GhostOracle, Oracle, Verdict};
 pub use sink::Sink;
 pub use trace::{replay, replay_with};
-pub use trace_lines::{Counting, EngineFault, Failed, Outcome, Source};
+pub use trace_reader::{Counting, EngineFault, Failed, Outcome, Source};

@@ -1,10 +1,10 @@
 //! What a report is written to.
 ghost use Rattle.std.specs.Prelude.{ℕ, ◌≡◌, ◌<◌, ◌^◌, List, Option};
-ghost use Rattle.trace_lines.specs.Devices.{Counts};
+ghost use Rattle.trace_reader.specs.Devices.{Counts};
 ghost use Rattle.trace_text.specs.Failures.{WritesAll};
 
 use std::io::{Error, ErrorKind, Write};
-use trace_lines::{Counting, Failed};
+use trace_reader::{Counting, Failed};
 
 /// The most writes that one text takes, interrupted ones among them.
 const MOST_TRIES: usize = 1 << 32;

@@ -8,7 +8,7 @@ ghost use Rattle.trace_text.specs.Failures.{CountsReads, CountsWrites, TellsWrit
 ghost use Rattle.trace_text.specs.Replay.{IsBegun, IsReplayed, end_line, outcome_of};
 ghost use Rattle.trace_text.specs.Played.{Plays, PlaysFront, WritesFront};
 ghost use Rattle.trace_text.specs.Texts.{text_of_report};
-ghost use Rattle.trace_lines.specs.Ahead.{left};
+ghost use Rattle.trace_reader.specs.Ahead.{left};
 ghost use Rattle.trace_text.specs.View.{lines_reported, standing_of};
 
 use crate::fault::Fault;
@@ -19,9 +19,8 @@ use crate::sink::Sink;
 use ghost_judge::disagreement::Disagreement;
 use maplets::Runs;
 use std::alloc::{Allocator, Global};
-use trace_lines::{
-    EngineFault, Failed, MOST_BYTES, Outcome, ReadAhead, Response, Source, read_line,
-};
+use trace_lines::Response;
+use trace_reader::{EngineFault, Failed, MOST_BYTES, Outcome, ReadAhead, Source, read_line};
 
 /// The most lines of a trace.
 const MOST_LINES: u64 = 1_048_576;

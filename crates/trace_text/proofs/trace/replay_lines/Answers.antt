@@ -1,5 +1,5 @@
 use Rattle.std.proofs.Common.{rules, arith, ◌≡◌, false, true, refl, ap, subst, sym}
-use Rattle.trace_lines.specs.Ahead.{left}
+use Rattle.trace_reader.specs.Ahead.{left}
 use Rattle.trace_text.specs.Session.{Standing}
 use Rattle.trace_text.specs.View.{standing_of}
 use Rattle.trace_text.proofs.ReplayLemmas.{SoFar, plays, faults_at, too_many, complete, mapped, on_err, when_err, begun_so, begun_line, begun_past, begun_end, so_far_none}

@@ -1,5 +1,5 @@
 use Rattle.std.proofs.Common.{◌≡◌, ◌≤◌}
-use Rattle.trace_lines.specs.Ahead.{left}
+use Rattle.trace_reader.specs.Ahead.{left}
 use Rattle.trace_text.specs.Ready.{IsReady}
 use Rattle.trace_text.specs.View.{standing_of}
 use Rattle.trace_text.proofs.ReplayLemmas.{SoFar}

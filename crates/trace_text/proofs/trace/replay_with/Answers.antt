@@ -1,6 +1,6 @@
 use Rattle.std.proofs.Common.{rules, ◌≡◌, ℕ, List, Option, IfOk, OnErr, subst}
-use Rattle.trace_lines.specs.Ahead.{left}
-use Rattle.trace_lines.specs.declared.outcome.Outcome.{Outcome}
+use Rattle.trace_reader.specs.Ahead.{left}
+use Rattle.trace_reader.specs.declared.outcome.Outcome.{Outcome}
 use Rattle.trace_text.specs.Replay.{IsBegun, IsReplayed}
 use Rattle.trace_text.proofs.ReplayLemmas.{begun_at_start, none_held, on_err}
 use Rattle.trace_text.proofs.trace.replay_with.Goals as goal

@@ -5,11 +5,11 @@ use Rattle.std.proofs.lemmas.Bool.Decides.{nat_tests}
 use Rattle.std.proofs.lemmas.List.{append_assoc, take-append-drop, length-append, length-drop, drop-take, drop_min}
 use Rattle.std.specs.Io.KnownBytes.{Keeps, Consumes, IsAtEnd, prepend_known}
 use Rattle.memchr.specs.Find.{IsFirstByte, is_byte}
-use Rattle.trace_lines.specs.Ahead.{Moves, held}
-use Rattle.trace_lines.specs.declared.ahead.ReadAhead.{ReadAhead}
-use Rattle.trace_lines.specs.Reading.{HasNoEnd, ReadsLine}
-use Rattle.trace_lines.proofs.KnownBytes.{consumes_none, consumes_both, consumes_keeps, prepend_consumes, prepend_end}
-use Rattle.trace_lines.proofs.LineLemmas.{plain-more, read_end, read_last, read_long}
+use Rattle.trace_reader.specs.Ahead.{Moves, held}
+use Rattle.trace_reader.specs.declared.ahead.ReadAhead.{ReadAhead}
+use Rattle.trace_reader.specs.Reading.{HasNoEnd, ReadsLine}
+use Rattle.trace_reader.proofs.KnownBytes.{consumes_none, consumes_both, consumes_keeps, prepend_consumes, prepend_end}
+use Rattle.trace_reader.proofs.LineLemmas.{plain-more, read_end, read_last, read_long}
 
 no_test : (b : Bool) → (b ≡ true → ⊥) → b ≡ false
 no_test true h = absurd (h refl)

@@ -1,7 +1,7 @@
 use Rattle.std.proofs.Common.{rules, arith}
-use Rattle.trace_lines.specs.Ahead.{held}
-use Rattle.trace_lines.proofs.Moved.{moves_end, moves_on, held_some}
-use Rattle.trace_lines.proofs.ahead.ReadAhead.give.Goals as goal
+use Rattle.trace_reader.specs.Ahead.{held}
+use Rattle.trace_reader.proofs.Moved.{moves_end, moves_on, held_some}
+use Rattle.trace_reader.proofs.ahead.ReadAhead.give.Goals as goal
 
 pub returns-in_ok-extend_from_slice-in-Some : goal.returns-in_ok-extend_from_slice-in-Some
 returns-in_ok-extend_from_slice-in-Some c =

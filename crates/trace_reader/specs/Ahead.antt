@@ -1,8 +1,8 @@
 -- Bytes that are read and not yet given to a line.
 use Rattle.std.specs.Prelude.{◌≡◌, ℕ, ◌≤◌, Bool, false, List, ◌∷◌, ◌++◌, length, slice_range, Option, MatchBool}
 use Rattle.std.specs.Io.KnownBytes.{prepend_known}
-use Rattle.trace_lines.specs.declared.ahead.ReadAhead.{ReadAhead}
-use Rattle.trace_lines.specs.Reading.{HasNoEnd}
+use Rattle.trace_reader.specs.declared.ahead.ReadAhead.{ReadAhead}
+use Rattle.trace_reader.specs.Reading.{HasNoEnd}
 
 -- the bytes that are held
 abbrev pub held : ReadAhead → List ℕ

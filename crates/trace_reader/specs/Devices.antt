@@ -1,7 +1,7 @@
 -- What is read from and written to, and how it counts its failures.
 use Rattle.std.specs.Prelude.{◌≡◌, ℕ, ◌+◌, Result, Ok, Err, MatchResult}
-use Rattle.trace_lines.specs.declared.outcome.EngineFault.{EngineFault}
-use Rattle.trace_lines.specs.declared.outcome.EngineFault.TheVariants.{Read, Write, NoMemory}
+use Rattle.trace_reader.specs.declared.outcome.EngineFault.{EngineFault}
+use Rattle.trace_reader.specs.declared.outcome.EngineFault.TheVariants.{Read, Write, NoMemory}
 
 -- a call that fails is counted, and no other
 abbrev pub Counts : {X E : Type 0} → ℕ → ℕ → Result X E → Type 0

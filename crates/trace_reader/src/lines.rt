@@ -1,8 +1,8 @@
 //! Reading a trace line by line.
 ghost use Rattle.std.specs.Prelude.{◌<◌, ◌^◌, IfOk};
-ghost use Rattle.trace_lines.specs.Ahead.{left};
-ghost use Rattle.trace_lines.specs.Devices.{TellsRead};
-ghost use Rattle.trace_lines.specs.Reading.{ReadsLine};
+ghost use Rattle.trace_reader.specs.Ahead.{left};
+ghost use Rattle.trace_reader.specs.Devices.{TellsRead};
+ghost use Rattle.trace_reader.specs.Reading.{ReadsLine};
 
 use crate::ahead::ReadAhead;
 use crate::outcome::EngineFault;

@@ -4,7 +4,7 @@ use Rattle.std.proofs.lemmas.List.{append_assoc, append-nil, length-append, take
 use Rattle.std.proofs.lemmas.Bool.Decides.{nat_tests}
 use Rattle.std.specs.List.{slice_split, onto_first}
 use Rattle.std.specs.Io.KnownBytes.{Consumes, IsAtEnd}
-use Rattle.trace_lines.specs.Reading.{HasNoEnd, lines_of, without_empty_last, IsFirstLine, ReadsLine}
+use Rattle.trace_reader.specs.Reading.{HasNoEnd, lines_of, without_empty_last, IsFirstLine, ReadsLine}
 
 pub plain-more : (xs ys : List ℕ) → HasNoEnd xs → HasNoEnd ys → HasNoEnd (xs ++ ys)
 plain-more [] ys p q = q

@@ -2,7 +2,7 @@
 ghost use Rattle.std.specs.Prelude.{ℕ, ◌≡◌, ◌<◌, ◌^◌, List, Option};
 ghost use Rattle.std.specs.Io.{ReadsAtMost};
 ghost use Rattle.std.specs.Io.KnownBytes.{ReadConsumes};
-ghost use Rattle.trace_lines.specs.Devices.{Counts};
+ghost use Rattle.trace_reader.specs.Devices.{Counts};
 
 use crate::counting::Counting;
 use std::io::{Error, ErrorKind, Read};

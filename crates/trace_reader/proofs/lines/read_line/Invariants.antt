@@ -1,8 +1,8 @@
 use Rattle.std.proofs.Common.{◌≡◌, ◌≤◌, length}
 use Rattle.std.specs.Io.KnownBytes.{Consumes}
-use Rattle.trace_lines.specs.Ahead.{left}
-use Rattle.trace_lines.specs.Reading.{HasNoEnd}
-use Rattle.trace_lines.proofs.lines.read_line.Given as goal
+use Rattle.trace_reader.specs.Ahead.{left}
+use Rattle.trace_reader.specs.Reading.{HasNoEnd}
+use Rattle.trace_reader.proofs.lines.read_line.Given as goal
 
 abbrev pub invariant-loop : goal.invariant-loop
 invariant-loop g l =

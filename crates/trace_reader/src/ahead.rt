@@ -1,7 +1,7 @@
 //! What is read of a source and not yet given to a line.
 ghost use Rattle.std.specs.Prelude.{◌≡◌, ◌+◌, ◌<◌, ◌≤◌, ◌^◌, true, false, [], drop, length, vec_len, IfOk, OnOk};
 ghost use Rattle.std.specs.Io.KnownBytes.{Keeps, IsAtEnd};
-ghost use Rattle.trace_lines.specs.Devices.{Counts};
+ghost use Rattle.trace_reader.specs.Devices.{Counts};
 
 use crate::lines::MOST_BYTES;
 use crate::source::{Failed, Source};
@@ -24,7 +24,7 @@ pub struct ReadAhead {
 }
 
 impl ReadAhead {
-    ghost use Rattle.trace_lines.specs.Ahead.{held, left, Moves};
+    ghost use Rattle.trace_reader.specs.Ahead.{held, left, Moves};
 
     /// Nothing is read.
     pub fn new(global: Global) -> Result<ReadAhead, AllocError>

@@ -1,0 +1,3 @@
+pub mod KnownBytes
+mod LineLemmas
+mod Moved
