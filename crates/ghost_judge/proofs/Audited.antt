@@ -21,10 +21,10 @@ use Rattle.run_list.specs.Runs.{run_map, value_on, PrecedesFirst as ListPrecedes
 use Rattle.run_list.specs.Targets.{HasFrameBelow}
 use Rattle.run_list.specs.View.{IsKept as IsKeptList}
 use Rattle.ghost_spec.specs.declared.parts.GhostGuest.{GhostGuest}
-use Rattle.ghost_spec.specs.Small.{HasLowFrames, IsSmall, AreSmall}
+use Rattle.ghost_trees.specs.Small.{HasLowFrames, IsSmall, AreSmall}
 use Rattle.ghost_spec.specs.States.{guest_in}
 use Rattle.ghost_spec.specs.Views.{row_in}
-use Rattle.ghost_spec.proofs.Coarse.{head_of, rest_of}
+use Rattle.ghost_trees.proofs.Coarse.{head_of, rest_of}
 use Rattle.ghost_judge.specs.declared.disagreement.Disagreement.{Disagreement}
 use Rattle.ghost_judge.specs.declared.disagreement.Disagreement.TheVariants.{Map as MapDiffers, Owner as OwnerDiffers}
 use Rattle.ghost_judge.specs.declared.disagreement.TreeOf.{TreeOf}

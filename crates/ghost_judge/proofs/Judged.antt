@@ -8,8 +8,8 @@ use Rattle.page_state.specs.Trees.{Block}
 use Rattle.page_state.proofs.BlockTests.{block_eq-same}
 use Rattle.page_state.proofs.Cases.{by_lt, by_test}
 use Rattle.reference_model.specs.State.{Contents, Guest, Shared, Slot}
-use Rattle.ghost_spec.specs.declared.tree.Table.{Table}
-use Rattle.ghost_spec.specs.Trees.{table_of}
+use Rattle.ghost_trees.specs.declared.tree.Table.{Table}
+use Rattle.ghost_trees.specs.Trees.{table_of}
 use Rattle.page_state.specs.declared.entry.Entry.{Entry}
 use Rattle.ghost_judge.specs.declared.disagreement.Disagreement.{Disagreement}
 use Rattle.ghost_judge.specs.declared.disagreement.Disagreement.TheVariants.{Map as MapDiffers, Owner as OwnerDiffers, Reply as ReplyDiffers, Free, GuestFree, Vm, Cpu}

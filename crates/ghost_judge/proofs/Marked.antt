@@ -12,7 +12,7 @@ use Rattle.run_list.specs.Runs.{run_end, run_map, value_on, Precedes, PrecedesFi
 use Rattle.run_list.specs.View.{IsKept}
 use Rattle.run_list.proofs.Maps.{none_low, starts_behind}
 use Rattle.ghost_spec.specs.Views.{row_in}
-use Rattle.ghost_spec.proofs.Overlaid.{within_means}
+use Rattle.ghost_trees.proofs.Overlaid.{within_means}
 use Rattle.ghost_judge.specs.Apart.{IsFirstApart}
 use Rattle.ghost_judge.specs.inner.Parted.{IsFoundApart}
 use Rattle.ghost_judge.specs.inner.Same.{is_marked, marked}

@@ -6,7 +6,7 @@ use Rattle.page_state.specs.Rows.{advance_row, HasPageBelow}
 use Rattle.reference_model.specs.State.{Contents}
 use Rattle.run_list.specs.Runs.{run_map, AreInReach}
 use Rattle.ghost_spec.specs.declared.state.Ghost.{Ghost}
-use Rattle.ghost_spec.specs.Kept.{IsKeptTree}
+use Rattle.ghost_trees.specs.KeptTrees.{IsKeptTree}
 use Rattle.ghost_judge.specs.declared.disagreement.Disagreement.{Disagreement}
 use Rattle.ghost_judge.specs.declared.disagreement.Disagreement.TheVariants.{Map as MapDiffers, Owner as OwnerDiffers}
 use Rattle.ghost_judge.specs.declared.disagreement.TreeOf.{TreeOf}

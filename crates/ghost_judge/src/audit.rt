@@ -3,7 +3,7 @@ ghost use Rattle.std.specs.Prelude.{◌≡◌, ℕ, ◌↔◌, All, None, IfSome
 ghost use Rattle.page_state.specs.Rows.{advance_row, HasPageBelow};
 ghost use Rattle.page_state.specs.Runs.{map_of};
 ghost use Rattle.run_list.specs.Runs.{run_map, AreInReach};
-ghost use Rattle.ghost_spec.specs.Kept.{IsKeptTree};
+ghost use Rattle.ghost_trees.specs.KeptTrees.{IsKeptTree};
 ghost use Rattle.ghost_spec.specs.States.{contents_in};
 ghost use Rattle.ghost_spec.specs.Views.{row_in};
 ghost use Rattle.ghost_judge.specs.Audits.{AreMapsKept, AuditAgrees, IsFirstDifference, HaveSameFrames};
@@ -12,9 +12,9 @@ ghost use Rattle.ghost_judge.specs.inner.Found.{IsFound, IsMapDifference, IsRowD
 use crate::difference::first_apart;
 use crate::disagreement::{Disagreement, TreeOf};
 use ghost_spec::parts::GhostGuest;
-use ghost_spec::runs::at;
 use ghost_spec::state::Ghost;
-use ghost_spec::tree::Tree;
+use ghost_trees::runs::at;
+use ghost_trees::tree::Tree;
 use page_state::{Owner, Page, Row, Run, Target, Usage};
 use run_list::RunList;
 

@@ -1,6 +1,6 @@
 //! Whether parts of two states are the same.
 ghost use Rattle.std.specs.Prelude.{◌≡◌, ◌↔◌, ℕ, None, IsTrue, All, get_or};
-ghost use Rattle.ghost_spec.specs.Trees.{table_of};
+ghost use Rattle.ghost_trees.specs.Trees.{table_of};
 ghost use Rattle.ghost_spec.specs.States.{guest_in, phase_in, slot_in, stand_in};
 ghost use Rattle.ghost_spec.specs.Views.{cpu_in, shared_in_lists};
 ghost use Rattle.ghost_judge.specs.Judgements.{without_map, IsSamePool};
@@ -9,7 +9,7 @@ ghost use Rattle.ghost_judge.specs.inner.Same.{loads, unloaded, HasSameFrame};
 use ghost_spec::cpu::GhostCpu;
 use ghost_spec::parts::{GhostGuest, GhostPhase, GhostSlot, GhostStand};
 use ghost_spec::shared::Shared;
-use ghost_spec::tree::{Table, table_at};
+use ghost_trees::tree::{Table, table_at};
 use page_state::{PageRange, Refusal, Reply, Row, Value, VmId, VmKind};
 use reference_model::{Loaded, Ticket};
 use run_list::Advance;

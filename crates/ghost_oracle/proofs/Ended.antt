@@ -13,10 +13,10 @@ use Rattle.page_state.specs.Runs.{map_of, entry_on, run_end, IsCoarsest, Precede
 use Rattle.page_state.proofs.Cases.{by_test, by_lt}
 use Rattle.page_state.proofs.Common.{if-true}
 use Rattle.page_state.proofs.Updates.{below_test, above_test}
-use Rattle.ghost_spec.specs.Small.{HasLowFrames, IsSmall, AreSmall}
-use Rattle.ghost_spec.specs.Joins.{continues, longer}
-use Rattle.ghost_spec.proofs.Coarse.{head_of, rest_of, map_of-joined, small_joined, joined_coarsest}
-use Rattle.ghost_spec.proofs.Entries.{some_target, no_target}
+use Rattle.ghost_trees.specs.Small.{HasLowFrames, IsSmall, AreSmall}
+use Rattle.ghost_trees.specs.Joins.{continues, longer}
+use Rattle.ghost_trees.proofs.Coarse.{head_of, rest_of, map_of-joined, small_joined, joined_coarsest}
+use Rattle.ghost_trees.proofs.Entries.{some_target, no_target}
 use Rattle.ghost_oracle.specs.inner.Walking.{EndBy, AreRunsTo, GoesOn, joined_last}
 
 pub map_ended : (first p : ℕ) (rs : List Run) → EndBy first rs → first ≤ p → map_of rs p ≡ Unmapped

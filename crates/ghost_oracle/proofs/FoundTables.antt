@@ -23,8 +23,8 @@ use Rattle.table_tree.proofs.Digits.{index_small}
 use Rattle.table_tree.proofs.Joined.{joined_start, joined_more, joined_none}
 use Rattle.table_tree.proofs.Slots.{by_slot, case_word, case_child}
 use Rattle.table_tree.proofs.Standing.{table_top, table_below, stand_word, stand_child}
-use Rattle.ghost_spec.specs.declared.tree.Table.{Table as FoundTable}
-use Rattle.ghost_spec.specs.Trees.{table_of}
+use Rattle.ghost_trees.specs.declared.tree.Table.{Table as FoundTable}
+use Rattle.ghost_trees.specs.Trees.{table_of}
 use Rattle.ghost_oracle.specs.Walked.{table_under}
 use Rattle.ghost_oracle.specs.inner.Walking.{found_at, found_under}
 

@@ -2,7 +2,7 @@
 use Rattle.std.proofs.Common.{◌≡◌, ℕ, zero, suc, ◌+◌, true, false, List, [], ◌∷◌, ◌++◌, length, get_or, refl, sym, ap, arith}
 use Rattle.std.proofs.Math.ListN.{set}
 use Rattle.page_state.specs.declared.entry.Run.{Run}
-use Rattle.ghost_spec.specs.Joins.{continues, longer}
+use Rattle.ghost_trees.specs.Joins.{continues, longer}
 use Rattle.ghost_oracle.specs.inner.Walking.{joined_last}
 
 pub last_longer : (xs : List Run) (r n m : Run) (k : ℕ) → k + 1 ≡ length xs → n ≡ get_or xs k n → m ≡ get_or xs k m → continues n r ≡ true → set xs k (longer m r) ≡ joined_last xs r

@@ -6,7 +6,7 @@ use Rattle.page_state.specs.Rows.{HasPageBelow}
 use Rattle.run_list.specs.Runs.{AreInReach}
 use Rattle.ghost_spec.specs.declared.parts.GhostGuest.{GhostGuest}
 use Rattle.ghost_spec.specs.declared.state.Ghost.{Ghost}
-use Rattle.ghost_spec.specs.Kept.{IsKeptTree}
+use Rattle.ghost_trees.specs.KeptTrees.{IsKeptTree}
 use Rattle.ghost_spec.specs.Views.{cpu_in}
 use Rattle.ghost_oracle.specs.declared.raw.RawGuest.{RawGuest}
 use Rattle.ghost_oracle.specs.declared.raw.RawParts.{RawParts}

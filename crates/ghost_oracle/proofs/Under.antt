@@ -11,8 +11,8 @@ use Rattle.std.specs.Prelude.{Result, Ok, Err, IfOk}
 use Rattle.std.specs.declared.alloc.AllocError.{AllocError}
 use Rattle.component.specs.declared.Component.{Component}
 use Rattle.maplets.specs.View.{KeptMaplets}
-use Rattle.ghost_spec.specs.declared.tree.Tree.{Tree as TreeOfLists}
-use Rattle.ghost_spec.specs.Trees.{table_of, tree_in_lists}
+use Rattle.ghost_trees.specs.declared.tree.Tree.{Tree as TreeOfLists}
+use Rattle.ghost_trees.specs.Trees.{table_of, tree_in_lists}
 use Rattle.ghost_oracle.specs.Walked.{map_under, table_under, tree_under}
 
 map_same : {A : Type 0} (t : Tree A) (page : ℕ) → map_under t.geometry t.table page ≡ meaning t page

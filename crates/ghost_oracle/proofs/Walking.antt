@@ -13,7 +13,7 @@ use Rattle.table_tree.specs.declared.table.Slot.TheVariants.{Word, Child}
 use Rattle.table_tree.specs.Changes.{IsSeen}
 use Rattle.table_tree.specs.Meaning.{level_at, entry_at, slot_at, slots_of}
 use Rattle.table_tree.specs.Slots.{slot_tables}
-use Rattle.ghost_spec.specs.declared.tree.Table.{Table as FoundTable}
+use Rattle.ghost_trees.specs.declared.tree.Table.{Table as FoundTable}
 use Rattle.ghost_oracle.specs.inner.Walking.{GoesOn, found_at, found_under}
 use Rattle.ghost_oracle.proofs.FoundTables.{found_before, before_word, before_child}
 use Rattle.ghost_oracle.proofs.Places.{index_in, rest_in, on_twice, first_part, part_ends}

@@ -11,9 +11,9 @@ use Rattle.guest_steps.specs.declared.parts.GuestPart.{GuestPart}
 use Rattle.guest_steps.specs.View.{vm_slots, cpu_of}
 use Rattle.ghost_spec.specs.declared.parts.GhostGuest.{GhostGuest}
 use Rattle.ghost_spec.specs.declared.state.Ghost.{Ghost}
-use Rattle.ghost_spec.specs.Kept.{IsKeptTree}
+use Rattle.ghost_trees.specs.KeptTrees.{IsKeptTree}
 use Rattle.ghost_spec.specs.States.{slot_in}
-use Rattle.ghost_spec.specs.Trees.{tree_in_lists}
+use Rattle.ghost_trees.specs.Trees.{tree_in_lists}
 use Rattle.ghost_spec.specs.Views.{cpu_in}
 use Rattle.ghost_oracle.specs.declared.raw.RawGuest.{RawGuest}
 use Rattle.ghost_oracle.specs.declared.raw.RawParts.{RawParts}

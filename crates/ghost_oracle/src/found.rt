@@ -2,8 +2,8 @@
 ghost use Rattle.std.specs.Prelude.{◌≡◌, ◌+◌, ◌-◌, ◌^◌, ◌<◌, ◌≤◌, [], ◌∷◌, OnOk};
 ghost use Rattle.page_state.specs.Entries.{advance};
 ghost use Rattle.page_state.specs.Runs.{map_of};
-ghost use Rattle.ghost_spec.specs.Joins.{continues};
-ghost use Rattle.ghost_spec.specs.Small.{HasLowFrames, IsSmall, AreSmall};
+ghost use Rattle.ghost_trees.specs.Joins.{continues};
+ghost use Rattle.ghost_trees.specs.Small.{HasLowFrames, IsSmall, AreSmall};
 ghost use Rattle.ghost_oracle.specs.inner.Walking.{AreRunsTo, GoesOn, joined_last};
 
 use page_state::{Entry, Page, PageRange, Run};

@@ -1,9 +1,9 @@
 //! What parts some of whose trees were poked keep, and what walking every word of them finds.
 ghost use Rattle.std.specs.Prelude.{◌≡◌, ℕ, IfOk, Some, length};
 ghost use Rattle.page_state.specs.LayoutView.{layout_of};
-ghost use Rattle.ghost_spec.specs.Kept.{IsKeptTree};
+ghost use Rattle.ghost_trees.specs.KeptTrees.{IsKeptTree};
 ghost use Rattle.ghost_spec.specs.States.{contents_in};
-ghost use Rattle.ghost_spec.specs.Trees.{tree_in_lists};
+ghost use Rattle.ghost_trees.specs.Trees.{tree_in_lists};
 ghost use Rattle.ghost_judge.specs.Audits.{AreMapsKept};
 ghost use Rattle.ghost_oracle.specs.Found.{scratch_rows, HasRowsOf};
 ghost use Rattle.ghost_oracle.specs.RawFound.{AreSlotsFound, IsRawFound, IsSlotFound, SaysRawRows};
@@ -18,7 +18,7 @@ use ghost_spec::parts::GhostGuest;
 use ghost_spec::rows::copied_rows;
 use ghost_spec::shared::Shared;
 use ghost_spec::state::{Ghost, GhostRooms, copied_layout};
-use ghost_spec::tree::Tree;
+use ghost_trees::tree::Tree;
 use guest_steps::GuestPart;
 use page_state::Row;
 use run_list::RunList;

@@ -5,14 +5,14 @@ ghost use Rattle.page_state.specs.Runs.{map_of};
 ghost use Rattle.table_tree.specs.Meaning.{IsDepth, entry_at};
 ghost use Rattle.table_tree.specs.Reading.{count_of};
 ghost use Rattle.table_tree.specs.Tables.{tables_in};
-ghost use Rattle.ghost_spec.specs.Kept.{IsKeptTree};
-ghost use Rattle.ghost_spec.specs.Trees.{tree_in_lists};
+ghost use Rattle.ghost_trees.specs.KeptTrees.{IsKeptTree};
+ghost use Rattle.ghost_trees.specs.Trees.{tree_in_lists};
 ghost use Rattle.table_tree.specs.Raw.{IsRaw};
 ghost use Rattle.ghost_oracle.specs.Walked.{tree_under};
 ghost use Rattle.ghost_oracle.specs.inner.Walking.{AreRunsTo, GoesOn, found_under};
 
 use crate::found::put_block;
-use ghost_spec::tree::{Table as FoundTable, Tree};
+use ghost_trees::tree::{Table as FoundTable, Tree};
 use page_state::Geometry;
 use std::alloc::{AllocError, Allocator, Global};
 use table_tree::word::entry_of;

@@ -33,7 +33,7 @@ use Rattle.ghost_spec.specs.declared.parts.GhostGuest.{GhostGuest}
 use Rattle.ghost_spec.specs.Found.{target_page, run_page}
 use Rattle.ghost_spec.specs.States.{guest_in}
 use Rattle.ghost_spec.specs.Views.{cpu_in}
-use Rattle.ghost_spec.proofs.Overlaid.{within_means}
+use Rattle.ghost_trees.proofs.Overlaid.{within_means}
 use Rattle.ghost_spec.proofs.RowsKept.{reach-by, reach-set, small-map, none-some}
 use Rattle.ghost_rows.specs.RowsLaid.{first_some, guests_in, cpus_in, annotated_row, annotation_on, loan_row, loan_at, target_frames, run_frames, guest_loan, used_row, used_if, guest_use, hand_use}
 

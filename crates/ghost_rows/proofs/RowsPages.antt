@@ -20,7 +20,7 @@ use Rattle.page_state.proofs.Updates.{within_test}
 use Rattle.reference_model.specs.Owner.{page_of}
 use Rattle.ghost_spec.specs.Found.{target_page, run_page, first_page_in}
 use Rattle.ghost_spec.proofs.FoundPages.{page-is, page-past, page-none}
-use Rattle.ghost_spec.proofs.Overlaid.{within_means}
+use Rattle.ghost_trees.proofs.Overlaid.{within_means}
 use Rattle.ghost_rows.specs.RowsLaid.{low_page}
 
 some-same : {a b : ℕ} → Some a ≡ Some b → a ≡ b

@@ -19,7 +19,7 @@ use Rattle.run_list.specs.Parts.{IsEndedAt}
 use Rattle.run_list.specs.Runs.{run_end, run_map, map_updated, option_advance, value_on, EndBefore, IsCoarsest, AreInReach}
 use Rattle.run_list.proofs.Found.{reach_at, ended_at, starts_drop}
 use Rattle.run_list.proofs.Maps.{ends_later, none_low, run_high, run_in}
-use Rattle.ghost_spec.proofs.Overlaid.{within_means}
+use Rattle.ghost_trees.proofs.Overlaid.{within_means}
 use Rattle.ghost_rows.specs.declared.rows.pieces.Lists.{Lists}
 use Rattle.ghost_rows.specs.declared.rows.pieces.Places.{Places}
 use Rattle.ghost_rows.specs.RowsTold.{lent_told, HasNoBound, IsNear, AreNear, AreEndedAt}

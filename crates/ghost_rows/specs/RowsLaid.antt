@@ -23,7 +23,7 @@ use Rattle.reference_model.specs.State.{Guest, Cpu, no_guest, no_cpu}
 use Rattle.ghost_spec.specs.declared.cpu.GhostCpu.{GhostCpu}
 use Rattle.ghost_spec.specs.declared.parts.GhostGuest.{GhostGuest}
 use Rattle.ghost_spec.specs.Found.{run_page}
-use Rattle.ghost_spec.specs.Small.{AreSmall}
+use Rattle.ghost_trees.specs.Small.{AreSmall}
 use Rattle.ghost_spec.specs.States.{guest_in}
 use Rattle.ghost_spec.specs.Views.{cpu_in}
 

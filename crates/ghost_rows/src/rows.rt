@@ -12,7 +12,7 @@ ghost use Rattle.page_state.specs.Regions.{end_of, is_in_range, is_memory_kind};
 ghost use Rattle.page_state.specs.Rows.{advance_row, HasPageBelow};
 ghost use Rattle.reference_model.specs.Owner.{row_of};
 ghost use Rattle.run_list.specs.Runs.{run_map, AreInReach};
-ghost use Rattle.ghost_spec.specs.Small.{AreSmall};
+ghost use Rattle.ghost_trees.specs.Small.{AreSmall};
 ghost use Rattle.ghost_spec.specs.States.{contents_in};
 ghost use Rattle.ghost_rows.specs.RowsLaid.{HaveSmallRuns};
 ghost use Rattle.ghost_rows.specs.RowsTold.{told, AreReached};

@@ -7,7 +7,7 @@ use Rattle.page_state.specs.Trees.{frames_from}
 use Rattle.reference_model.specs.Boot.{host_root, host_edit, host_need, hyp_root, hyp_edit, hyp_need, spare, boot_shared}
 use Rattle.ghost_spec.specs.declared.shared.Shared.{Shared as SharedOfLists}
 use Rattle.ghost_spec.specs.Views.{shared_in_lists}
-use Rattle.ghost_spec.specs.Trees.{tree_in_lists}
+use Rattle.ghost_trees.specs.Trees.{tree_in_lists}
 
 -- one frame more at the end
 last_frame : (first n : ℕ) → frames_from first (suc n) ≡ frames_from first n ++ (first + n) ∷ []

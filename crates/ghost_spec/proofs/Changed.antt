@@ -5,7 +5,7 @@ use Rattle.reference_model.specs.declared.changes.Changes.{Changes}
 use Rattle.reference_model.specs.Changes.{edit_of}
 use Rattle.reference_model.specs.Step.{shared_after}
 use Rattle.ghost_spec.specs.declared.shared.Shared.{Shared as SharedOfLists}
-use Rattle.ghost_spec.specs.Trees.{tree_in_lists}
+use Rattle.ghost_trees.specs.Trees.{tree_in_lists}
 use Rattle.ghost_spec.specs.Views.{shared_in_lists}
 
 -- lists of which each part is that after the changes

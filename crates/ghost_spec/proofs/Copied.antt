@@ -7,7 +7,7 @@ use Rattle.run_list.specs.Runs.{run_map}
 use Rattle.ghost_spec.specs.declared.shared.Shared.{Shared as SharedOfLists}
 use Rattle.ghost_spec.specs.declared.state.Ghost.{Ghost}
 use Rattle.ghost_spec.specs.States.{slot_in, guest_in, rooms_in, ghost_state}
-use Rattle.ghost_spec.specs.Trees.{tree_in_lists}
+use Rattle.ghost_trees.specs.Trees.{tree_in_lists}
 use Rattle.ghost_spec.specs.Views.{row_in, shared_in_lists}
 
 abbrev rows-of : (ℕ → Option Row) → ℕ → Row

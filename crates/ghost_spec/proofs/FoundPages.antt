@@ -21,7 +21,7 @@ use Rattle.page_state.proofs.Runs.{StartsFrom, low, map_of-first, map_of-behind}
 use Rattle.page_state.proofs.Updates.{within_test}
 use Rattle.reference_model.specs.Owner.{page_of}
 use Rattle.ghost_spec.specs.Found.{target_page, run_page, first_page_in}
-use Rattle.ghost_spec.proofs.Overlaid.{within_means}
+use Rattle.ghost_trees.proofs.Overlaid.{within_means}
 
 -- searches
 

@@ -16,7 +16,7 @@ use Rattle.run_list.specs.OwnerRows.{row_laws}
 use Rattle.run_list.specs.Runs.{run_end, run_map, map_updated, IsCoarsest, AreInReach}
 use Rattle.run_list.proofs.Maps.{run_in, run_high, none_low, starts_behind}
 use Rattle.ghost_spec.specs.Views.{row_in}
-use Rattle.ghost_spec.proofs.Overlaid.{within_means}
+use Rattle.ghost_trees.proofs.Overlaid.{within_means}
 
 pub some-same : {a b : Row} → Some a ≡ Some b → a ≡ b
 some-same h = cc

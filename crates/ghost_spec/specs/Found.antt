@@ -11,8 +11,8 @@ use Rattle.page_state.specs.Geometries.{block_pages}
 use Rattle.page_state.specs.Map.{is_within}
 use Rattle.page_state.specs.Trees.{Block}
 use Rattle.reference_model.specs.Owner.{is_frame}
-use Rattle.ghost_spec.specs.declared.tree.Table.{Table}
-use Rattle.ghost_spec.specs.Trees.{table_of}
+use Rattle.ghost_trees.specs.declared.tree.Table.{Table}
+use Rattle.ghost_trees.specs.Trees.{table_of}
 
 -- the page of a range with a target that maps the frame in the state
 abbrev pub target_page : ℕ → State → PageRange → Target → Option ℕ

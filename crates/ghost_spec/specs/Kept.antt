@@ -3,7 +3,6 @@ use Rattle.std.specs.Prelude.{◌≡◌, ℕ, ◌^◌, ◌<◌, ◌≤◌, [], �
 use Rattle.page_state.specs.declared.entry.PageRange.{PageRange}
 use Rattle.page_state.specs.Regions.{end_of}
 use Rattle.page_state.specs.Rows.{HasPageBelow}
-use Rattle.page_state.specs.Runs.{IsCoarsest}
 use Rattle.page_state.specs.Trees.{Block, Pool}
 use Rattle.reference_model.specs.declared.changes.Changes.{Changes}
 use Rattle.reference_model.specs.declared.changes.GuestChange.{GuestChange}
@@ -18,14 +17,9 @@ use Rattle.run_list.specs.Runs.{AreInReach}
 use Rattle.ghost_spec.specs.declared.cpu.GhostCpu.{GhostCpu}
 use Rattle.ghost_spec.specs.declared.parts.GhostGuest.{GhostGuest}
 use Rattle.ghost_spec.specs.declared.shared.Shared.{Shared as SharedOfLists}
-use Rattle.ghost_spec.specs.declared.tree.Tree.{Tree as TreeOfLists}
-use Rattle.ghost_spec.specs.Small.{AreSmall, HasLowFrames}
-use Rattle.ghost_spec.specs.Trees.{table_of}
-
--- a tree's runs are small, and the coarsest
-pub record IsKeptTree (t : TreeOfLists) : Type 0 where
-  pub small : AreSmall t.runs.items
-  pub coarsest : IsCoarsest t.runs.items
+use Rattle.ghost_trees.specs.KeptTrees.{IsKeptTree}
+use Rattle.ghost_trees.specs.Small.{HasLowFrames}
+use Rattle.ghost_trees.specs.Trees.{table_of}
 
 -- both trees are kept, and the rows' numbers are small
 pub record IsKeptShared (s : SharedOfLists) : Type 0 where

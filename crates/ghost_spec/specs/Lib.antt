@@ -1,11 +1,7 @@
 pub mod Changed
 pub mod Found
-pub mod Joins
 pub mod Kept
-pub mod Parts
 pub mod RowsFound
-pub mod Small
 pub mod States
-pub mod Trees
 pub mod Used
 pub mod Views

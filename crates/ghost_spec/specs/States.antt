@@ -11,7 +11,7 @@ use Rattle.ghost_spec.specs.declared.parts.GhostSlot.{GhostSlot}
 use Rattle.ghost_spec.specs.declared.parts.GhostStand.{GhostStand}
 use Rattle.ghost_spec.specs.declared.parts.GhostStand.TheVariants.{Vacant, Reserved, Opened, Closing}
 use Rattle.ghost_spec.specs.Kept.{IsKeptShared, IsKeptGuest, IsKeptCpu}
-use Rattle.ghost_spec.specs.Trees.{tree_in_lists}
+use Rattle.ghost_trees.specs.Trees.{tree_in_lists}
 use Rattle.ghost_spec.specs.Views.{cpu_in, shared_in_lists}
 
 -- how a slot stands

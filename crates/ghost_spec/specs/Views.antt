@@ -10,7 +10,7 @@ use Rattle.run_list.specs.declared.run.Run.{Run}
 use Rattle.run_list.specs.Runs.{run_map}
 use Rattle.ghost_spec.specs.declared.cpu.GhostCpu.{GhostCpu}
 use Rattle.ghost_spec.specs.declared.shared.Shared.{Shared as SharedOfLists}
-use Rattle.ghost_spec.specs.Trees.{tree_in_lists}
+use Rattle.ghost_trees.specs.Trees.{tree_in_lists}
 
 -- the row of each frame; a frame that no run has is no memory frame, and has the plain one
 abbrev pub row_in : List (Run Row) → ℕ → Row

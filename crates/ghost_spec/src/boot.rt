@@ -4,13 +4,14 @@ ghost use Rattle.page_state.specs.Trees.{frames_from as frames_of, root_tree as 
 ghost use Rattle.reference_model.specs.Boot.{boot_shared, IsCarveEnough};
 ghost use Rattle.page_state.specs.EntryTests.{annotation, leaf};
 ghost use Rattle.page_state.specs.Layouts.{hyp_page as hyp_page_of};
-ghost use Rattle.ghost_spec.specs.Kept.{IsKeptShared, IsKeptTree};
+ghost use Rattle.ghost_spec.specs.Kept.{IsKeptShared};
+ghost use Rattle.ghost_trees.specs.KeptTrees.{IsKeptTree};
 ghost use Rattle.ghost_spec.specs.Views.{layout_with, shared_in_lists};
-ghost use Rattle.ghost_spec.specs.Trees.{tree_in_lists};
+ghost use Rattle.ghost_trees.specs.Trees.{tree_in_lists};
 
 use crate::leaves::hyp_page;
 use crate::shared::{Shared, behind};
-use crate::tree::{Table, Tree, edited, need};
+use ghost_trees::tree::{Table, Tree, edited, need};
 use page_state::{Config, Entry, Frame, Kind, MemoryMap, Owner, Page, PageRange, Prot, State};
 use run_list::RunList;
 use std::alloc::{AllocError, Global};

@@ -5,12 +5,12 @@ ghost use Rattle.page_state.specs.LayoutView.{layout_of};
 ghost use Rattle.page_state.specs.Runs.{map_of};
 ghost use Rattle.reference_model.specs.Owner.{is_free as is_free_of, is_in_hand as is_in_hand_of, is_table_frame as is_table_frame_of, page_of as page_of_map};
 ghost use Rattle.ghost_spec.specs.Found.{run_page as run_page_of, first_page_in, has_place as has_place_of, is_table_with as is_table_with_of, any_table_with};
-ghost use Rattle.ghost_spec.specs.Kept.{IsKeptTree};
-ghost use Rattle.ghost_spec.specs.Small.{AreSmall, IsSmall};
-ghost use Rattle.ghost_spec.specs.Trees.{tree_in_lists};
+ghost use Rattle.ghost_trees.specs.KeptTrees.{IsKeptTree};
+ghost use Rattle.ghost_trees.specs.Small.{AreSmall, IsSmall};
+ghost use Rattle.ghost_trees.specs.Trees.{tree_in_lists};
 
-use crate::blocks::Block;
-use crate::tree::{Table, Tree, table_at};
+use ghost_trees::blocks::Block;
+use ghost_trees::tree::{Table, Tree, table_at};
 use page_state::{Geometry, Layout, Page, PageRange, Run, State, Target};
 
 /// The page of a run that maps the frame in the state.

@@ -12,8 +12,8 @@ ghost use Rattle.ghost_spec.specs.States.{guest_in};
 
 use crate::boot::{frames_from, root_tree};
 use crate::parts::{GhostGuest, GhostPhase};
-use crate::pool::give_all;
 use crate::shared::{behind, edited, needed};
+use ghost_trees::pool::give_all;
 use page_state::{PageRange, VmKind};
 use reference_model::{Changes, GuestChange, MapChange};
 use std::alloc::{AllocError, Global};

@@ -12,10 +12,11 @@ ghost use Rattle.reference_model.specs.Answers.{decides};
 ghost use Rattle.reference_model.specs.GuestRules.{guest_table_count as guest_table_count_of, is_guest as is_guest_of, is_protected as is_protected_of, least as least_of, moved_on as moved_on_of, two_pages as two_pages_of};
 ghost use Rattle.reference_model.specs.SharedRules.{to_host as to_host_of};
 ghost use Rattle.reference_model.specs.State.{live, dying};
-ghost use Rattle.ghost_spec.specs.Kept.{AreSmallChanges, IsKeptCpu, IsKeptGuest, IsKeptTree, IsLowSlot};
-ghost use Rattle.ghost_spec.specs.Small.{HasLowFrames};
+ghost use Rattle.ghost_spec.specs.Kept.{AreSmallChanges, IsKeptCpu, IsKeptGuest, IsLowSlot};
+ghost use Rattle.ghost_trees.specs.KeptTrees.{IsKeptTree};
+ghost use Rattle.ghost_trees.specs.Small.{HasLowFrames};
 ghost use Rattle.ghost_spec.specs.States.{guest_in};
-ghost use Rattle.ghost_spec.specs.Trees.{table_of, tree_in_lists};
+ghost use Rattle.ghost_trees.specs.Trees.{table_of, tree_in_lists};
 ghost use Rattle.ghost_spec.specs.Used.{IsKeptUsed, reclaimed as reclaimed_of, used_in};
 ghost use Rattle.ghost_spec.specs.Views.{cpu_in};
 
@@ -25,10 +26,10 @@ use crate::found::pages;
 use crate::leaves::{annotation, hyp_page, is_free_page, is_in, is_mapped, is_unmapped, leaf};
 use crate::parts::{GhostGuest, GhostPhase};
 use crate::rules::{change, host_entry};
-use crate::runs::at;
-use crate::tree::{Table, Tree, table_at};
 use crate::used::GhostUsed;
 use crate::uses::{ticket_kind, ticket_vm};
+use ghost_trees::runs::at;
+use ghost_trees::tree::{Table, Tree, table_at};
 use page_state::{Entry, Frame, Geometry, Layout, Page, Prot, Refusal, State, Value, VmId, VmKind};
 use reference_model::{Changes, CpuChange, GuestChange, Stage, Ticket, Update};
 

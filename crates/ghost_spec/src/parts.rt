@@ -2,7 +2,7 @@
 ghost use Rattle.std.specs.Prelude.{◌≡◌, All, IfOk, length, map};
 ghost use Rattle.reference_model.specs.State.{no_guest, no_slot};
 
-use crate::tree::Tree;
+use ghost_trees::tree::Tree;
 use page_state::VmKind;
 use std::alloc::{AllocError, Global};
 

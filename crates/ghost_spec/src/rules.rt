@@ -11,20 +11,20 @@ ghost use Rattle.reference_model.specs.Answers.{decides};
 ghost use Rattle.reference_model.specs.Changes.{change as change_of};
 ghost use Rattle.reference_model.specs.SharedRules.{abort_depth as abort_depth_of, abort_leaf as abort_leaf_of, is_plain as is_plain_of, may_map as may_map_of};
 ghost use Rattle.ghost_spec.specs.Kept.{AreSmallChanges, IsKeptShared};
-ghost use Rattle.ghost_spec.specs.Small.{HasLowFrames};
+ghost use Rattle.ghost_trees.specs.Small.{HasLowFrames};
 ghost use Rattle.ghost_spec.specs.Used.{IsKeptUsed, may_return_frame, used_in};
 ghost use Rattle.ghost_spec.specs.Views.{shared_in_lists};
 
-use crate::blocks::is_empty;
 use crate::found::pages;
 use crate::leaves::{
     annotation, device_leaf, hyp_page, is_annotated, is_free_page, is_in, is_mapped, is_unmapped,
     leaf,
 };
 use crate::rows::row_at;
-use crate::runs::at;
 use crate::shared::Shared;
 use crate::used::GhostUsed;
+use ghost_trees::blocks::is_empty;
+use ghost_trees::runs::at;
 use page_state::{
     Entry, Layout, Page, PageRange, Prot, Refusal, Region, RegionKind, State, Usage, Value,
 };

@@ -4,9 +4,9 @@ ghost use Rattle.page_state.specs.Tables.{need as need_of, returned as returned_
 ghost use Rattle.reference_model.specs.Changes.{edit_of};
 ghost use Rattle.reference_model.specs.Step.{shared_after, shared_need};
 
-use crate::pool::give_all;
 use crate::rows::copied_rows;
-use crate::tree::{self, EditedTree, Tree};
+use ghost_trees::pool::give_all;
+use ghost_trees::tree::{self, EditedTree, Tree};
 use page_state::Row;
 use reference_model::{Changes, MapChange};
 use run_list::RunList;
@@ -25,8 +25,9 @@ pub struct Shared {
     pub rows: RunList<Row>,
 }
 
-ghost use Rattle.ghost_spec.specs.Kept.{IsKeptTree, IsKeptShared, IsSmallChange};
-ghost use Rattle.ghost_spec.specs.Trees.{tree_in_lists};
+ghost use Rattle.ghost_spec.specs.Kept.{IsKeptShared, IsSmallChange};
+ghost use Rattle.ghost_trees.specs.KeptTrees.{IsKeptTree};
+ghost use Rattle.ghost_trees.specs.Trees.{tree_in_lists};
 ghost use Rattle.ghost_spec.specs.Views.{shared_in_lists};
 
 impl Shared {

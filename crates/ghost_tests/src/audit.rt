@@ -3,7 +3,7 @@ ghost use Rattle.std.specs.Prelude.{◌≡◌, ℕ, ◌+◌, ◌<◌, ◌≤◌,
 ghost use Rattle.page_state.specs.Entries.{entry_of_target};
 ghost use Rattle.page_state.specs.Rows.{advance_row, HasPageBelow};
 ghost use Rattle.run_list.specs.Runs.{run_map, map_updated};
-ghost use Rattle.ghost_spec.specs.Small.{HasLowFrames};
+ghost use Rattle.ghost_trees.specs.Small.{HasLowFrames};
 ghost use Rattle.ghost_spec.specs.States.{IsKept};
 ghost use Rattle.ghost_judge.specs.Audits.{HaveSameFrames};
 ghost use Rattle.table_tree.specs.Raw.{IsRaw};
@@ -14,7 +14,7 @@ use ghost_judge::audit::audit;
 use ghost_judge::disagreement::{Disagreement, TreeOf};
 use ghost_oracle::walk::walk;
 use ghost_spec::state::Ghost;
-use ghost_spec::tree::{Table as FoundTable, Tree};
+use ghost_trees::tree::{Table as FoundTable, Tree};
 use page_state::{
     Entry, Geometry, Page, PageRange, Refusal, Reply, Row, Run, Target, Usage, Value,
 };

@@ -13,7 +13,7 @@ use ghost_oracle::record::record;
 use ghost_spec::cpu::GhostCpu;
 use ghost_spec::shared::Shared;
 use ghost_spec::state::{Ghost, GhostRooms};
-use ghost_spec::tree::Table;
+use ghost_trees::tree::Table;
 use guest_component::Guest;
 use guest_steps::{CpuState, GuestPart, Log, SharedPart, VmPart};
 use hyp_pool::{Pool, laws};

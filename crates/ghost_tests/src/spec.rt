@@ -1,16 +1,16 @@
 //! The plain program on lists: runs, trees, blocks, the boot state, and calls in turn.
 ghost use Rattle.std.specs.Prelude.{◌<◌, ◌^◌, IfOk, OnOk};
 ghost use Rattle.page_state.specs.Runs.{IsCoarsest};
-ghost use Rattle.ghost_spec.specs.Kept.{IsKeptTree};
-ghost use Rattle.ghost_spec.specs.Small.{AreSmall, IsSmall};
+ghost use Rattle.ghost_trees.specs.KeptTrees.{IsKeptTree};
+ghost use Rattle.ghost_trees.specs.Small.{AreSmall, IsSmall};
 ghost use Rattle.ghost_spec.specs.States.{IsKept};
-ghost use Rattle.ghost_spec.specs.Trees.{IsLowBlock};
+ghost use Rattle.ghost_trees.specs.Trees.{IsLowBlock};
 
 use crate::sample::{config, memory, started};
 use ghost_spec::boot::boot;
 use ghost_spec::state::{Ghost, predict};
-use ghost_spec::tree::{self, Table, Tree};
-use ghost_spec::{blocks, runs};
+use ghost_trees::tree::{self, Table, Tree};
+use ghost_trees::{blocks, runs};
 use page_state::{
     Entry, Frame, Kind, Lent, Owner, Page, PageRange, Prot, Refusal, Reply, Row, Run, State, Step,
     Target, Usage, Value, VmId, VmKind,

@@ -1,6 +1,6 @@
 ghost use Rattle.std.specs.Prelude.{◌≡◌, ◌<◌, ◌^◌, IfOk};
-ghost use Rattle.ghost_spec.specs.Kept.{IsKeptTree};
-ghost use Rattle.ghost_spec.specs.Small.{AreSmall};
+ghost use Rattle.ghost_trees.specs.KeptTrees.{IsKeptTree};
+ghost use Rattle.ghost_trees.specs.Small.{AreSmall};
 ghost use Rattle.ghost_spec.specs.States.{IsKept};
 
 mod generated;
@@ -13,11 +13,12 @@ use descriptor::{Desc, Frame, Kind, Level, Owner, Prot, State, encode};
 use ghost_judge::audit::audit;
 use ghost_judge::disagreement::Disagreement;
 use ghost_oracle::raw::{RawGuest, Which};
-use ghost_spec::blocks::Block;
+use ghost_spec::boot;
 use ghost_spec::state::{Ghost, predict};
-use ghost_spec::tree::{self, Table};
-use ghost_spec::{boot, runs};
 use ghost_tests::sample::{self, config, memory};
+use ghost_trees::blocks::Block;
+use ghost_trees::runs;
+use ghost_trees::tree::{self, Table};
 use guest_steps::{CpuState, SharedPart};
 use linked_list_allocator::LocalHeap;
 use maplets::Maplets;

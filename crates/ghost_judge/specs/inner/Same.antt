@@ -5,8 +5,8 @@ use Rattle.page_state.specs.Rows.{plain_row}
 use Rattle.run_list.specs.declared.run.Run.{Run}
 use Rattle.run_list.specs.OwnerRows.{row_eq}
 use Rattle.reference_model.specs.State.{Slot}
-use Rattle.ghost_spec.specs.declared.tree.Table.{Table}
-use Rattle.ghost_spec.specs.Trees.{table_of}
+use Rattle.ghost_trees.specs.declared.tree.Table.{Table}
+use Rattle.ghost_trees.specs.Trees.{table_of}
 
 -- both lists have the same frame at the block of a table
 abbrev pub HasSameFrame : List Table → List Table → Table → Type 0

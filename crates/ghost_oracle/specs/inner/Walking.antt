@@ -6,9 +6,9 @@ use Rattle.page_state.specs.Runs.{run_end, IsCoarsest}
 use Rattle.table_tree.specs.declared.table.Table.{Table}
 use Rattle.table_tree.specs.AllBlocks.{gathered}
 use Rattle.table_tree.specs.Meaning.{slot_at, slot_case, frame_of}
-use Rattle.ghost_spec.specs.declared.tree.Table.{Table as FoundTable}
-use Rattle.ghost_spec.specs.Joins.{joined}
-use Rattle.ghost_spec.specs.Small.{AreSmall}
+use Rattle.ghost_trees.specs.declared.tree.Table.{Table as FoundTable}
+use Rattle.ghost_trees.specs.Joins.{joined}
+use Rattle.ghost_trees.specs.Small.{AreSmall}
 
 -- each run ends at a page or before it
 abbrev pub EndBy : ℕ → List Run → Type 0

@@ -2,7 +2,7 @@
 ghost use Rattle.std.specs.Prelude.{◌≡◌, ◌+◌, ◌<◌, Decides, IsTrue, drop, length};
 ghost use Rattle.page_state.specs.Entries.{entry_of_target};
 ghost use Rattle.page_state.specs.Runs.{entry_on, run_end, IsCoarsest, Precedes};
-ghost use Rattle.ghost_spec.specs.Small.{AreSmall, IsSmall};
+ghost use Rattle.ghost_trees.specs.Small.{AreSmall, IsSmall};
 
 use page_state::{Entry, Run};
 

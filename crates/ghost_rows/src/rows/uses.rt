@@ -8,15 +8,15 @@ ghost use Rattle.page_state.specs.Rows.{advance_row, HasPageBelow};
 ghost use Rattle.reference_model.specs.Owner.{is_frame, is_free, is_in_hand, is_table_frame};
 ghost use Rattle.run_list.specs.Runs.{run_map, AreInReach};
 ghost use Rattle.ghost_spec.specs.Found.{has_place as has_place_of, any_table_with};
-ghost use Rattle.ghost_spec.specs.Trees.{table_of, tree_in_lists};
+ghost use Rattle.ghost_trees.specs.Trees.{table_of, tree_in_lists};
 ghost use Rattle.ghost_rows.specs.RowsLaid.{used_if, hands_use, guests_use, any_use};
 
 use super::overlay::lay;
-use ghost_spec::blocks::Block;
 use ghost_spec::cpu::GhostCpu;
 use ghost_spec::parts::GhostGuest;
 use ghost_spec::shared::Shared;
-use ghost_spec::tree::{Table, Tree, table_at};
+use ghost_trees::blocks::Block;
+use ghost_trees::tree::{Table, Tree, table_at};
 use page_state::{Layout, Owner, Page, PageRange, Row, Usage};
 use run_list::RunList;
 use std::alloc::{AllocError, Global};

@@ -6,7 +6,7 @@ use Rattle.page_state.specs.Runs.{map_of}
 use Rattle.page_state.proofs.Common.{same2, same4}
 use Rattle.ghost_spec.specs.declared.cpu.GhostCpu.{GhostCpu}
 use Rattle.ghost_spec.specs.declared.parts.GhostGuest.{GhostGuest}
-use Rattle.ghost_spec.specs.Trees.{tree_in_lists}
+use Rattle.ghost_trees.specs.Trees.{tree_in_lists}
 use Rattle.ghost_rows.specs.RowsLaid.{annotated_row, any_loan, guests_loan, any_use}
 use Rattle.ghost_rows.specs.RowsTold.{row_told}
 use Rattle.ghost_rows.proofs.RowsFound.{told-is}

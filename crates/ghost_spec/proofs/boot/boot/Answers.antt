@@ -10,8 +10,8 @@ use Rattle.page_state.specs.Rows.{HasPageBelow}
 use Rattle.page_state.specs.Tables.{edited}
 use Rattle.reference_model.specs.Boot.{host_root, host_edit, host_need, hyp_root, hyp_edit, hyp_need, spare}
 use Rattle.run_list.specs.Runs.{AreInReach}
-use Rattle.ghost_spec.specs.Small.{HasLowFrames}
-use Rattle.ghost_spec.specs.Trees.{tree_in_lists}
+use Rattle.ghost_trees.specs.Small.{HasLowFrames}
+use Rattle.ghost_trees.specs.Trees.{tree_in_lists}
 use Rattle.ghost_spec.specs.Views.{layout_with}
 use Rattle.ghost_spec.proofs.BootLists.{booted}
 use Rattle.ghost_spec.proofs.boot.boot.Goals as goal

@@ -1,6 +1,6 @@
 use Rattle.std.proofs.Common.{refl, ◌∙◌}
 use Rattle.page_state.specs.LayoutView.{layout_of}
-use Rattle.ghost_spec.specs.Trees.{tree_in_lists}
+use Rattle.ghost_trees.specs.Trees.{tree_in_lists}
 use Rattle.ghost_spec.proofs.FoundTables.{any-is}
 use Rattle.ghost_spec.proofs.found.is_table_frame.Goals as goal
 

@@ -4,7 +4,7 @@ use Rattle.page_state.specs.Trees.{Tree, Pool}
 use Rattle.page_state.proofs.Common.{same2}
 use Rattle.reference_model.specs.Changes.{edit_of}
 use Rattle.ghost_spec.specs.Kept.{AreLowFrames}
-use Rattle.ghost_spec.specs.Trees.{tree_in_lists}
+use Rattle.ghost_trees.specs.Trees.{tree_in_lists}
 use Rattle.ghost_spec.proofs.Guests.{low-all_given, low-drop, low-edited, low-returned}
 use Rattle.ghost_spec.proofs.guest.change_map.Goals as goal
 

@@ -1,5 +1,5 @@
 use Rattle.std.proofs.Common.{◌≡◌, Some, None, slice_get, sym}
-use Rattle.ghost_spec.proofs.Unmapped.{first-run, no-run}
+use Rattle.ghost_trees.proofs.Unmapped.{first-run, no-run}
 use Rattle.ghost_spec.proofs.guest_rules.maps_nothing.Goals as goal
 
 pub returns-in-Some : goal.returns-in-Some

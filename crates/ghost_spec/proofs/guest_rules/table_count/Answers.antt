@@ -4,8 +4,8 @@ use Rattle.page_state.specs.declared.layout.Geometry.{Geometry}
 use Rattle.page_state.specs.Geometries.{block_pages, levels_below}
 use Rattle.page_state.specs.Search.{count_below}
 use Rattle.page_state.specs.Trees.{Block}
-use Rattle.ghost_spec.specs.declared.tree.Table.{Table}
-use Rattle.ghost_spec.specs.Trees.{table_of}
+use Rattle.ghost_trees.specs.declared.tree.Table.{Table}
+use Rattle.ghost_trees.specs.Trees.{table_of}
 use Rattle.ghost_spec.proofs.TableCounts.{counts, geometry-is}
 use Rattle.ghost_spec.proofs.guest_rules.table_count.Goals as goal
 

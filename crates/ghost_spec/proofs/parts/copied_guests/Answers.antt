@@ -6,7 +6,7 @@ use Rattle.reference_model.specs.State.{Guest}
 use Rattle.ghost_spec.specs.declared.parts.GhostGuest.{GhostGuest}
 use Rattle.ghost_spec.specs.Kept.{IsKeptGuest}
 use Rattle.ghost_spec.specs.States.{guest_in}
-use Rattle.ghost_spec.proofs.Pushed.{all_pushed}
+use Rattle.ghost_trees.proofs.Pushed.{all_pushed}
 use Rattle.ghost_spec.proofs.parts.copied_guests.Goals as goal
 
 copied-more : (xs ys : List GhostGuest) (i : ℕ) (x copy : GhostGuest) → i < length xs → x ≡ get_or xs i x → map guest_in ys ≡ map guest_in (take i xs) → guest_in copy ≡ guest_in x → map guest_in (ys ++ copy ∷ []) ≡ map guest_in (take (i + 1) xs)

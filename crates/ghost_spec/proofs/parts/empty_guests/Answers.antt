@@ -3,7 +3,7 @@ use Rattle.reference_model.specs.State.{no_guest}
 use Rattle.ghost_spec.specs.declared.parts.GhostGuest.{GhostGuest}
 use Rattle.ghost_spec.specs.Kept.{IsKeptGuest}
 use Rattle.ghost_spec.specs.States.{guest_in}
-use Rattle.ghost_spec.proofs.Pushed.{all_pushed, count_pushed}
+use Rattle.ghost_trees.proofs.Pushed.{all_pushed, count_pushed}
 use Rattle.ghost_spec.proofs.parts.empty_guests.Goals as goal
 
 pub loop-preserved : goal.loop-preserved

@@ -4,7 +4,7 @@ use Rattle.reference_model.specs.State.{no_slot, vacant}
 use Rattle.ghost_spec.specs.declared.parts.GhostSlot.{GhostSlot}
 use Rattle.ghost_spec.specs.declared.parts.GhostStand.TheVariants.{Vacant}
 use Rattle.ghost_spec.specs.States.{slot_in}
-use Rattle.ghost_spec.proofs.Pushed.{all_pushed, count_pushed}
+use Rattle.ghost_trees.proofs.Pushed.{all_pushed, count_pushed}
 use Rattle.ghost_spec.proofs.parts.empty_slots.Goals as goal
 
 pub loop-preserved : goal.loop-preserved

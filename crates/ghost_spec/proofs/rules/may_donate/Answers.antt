@@ -2,7 +2,7 @@ use Rattle.std.proofs.Common.{◌+◌, ◌&&◌, sym, arith, ◌∙◌, below_mo
 use Rattle.page_state.specs.EntryTests.{is_free_page, is_unmapped}
 use Rattle.page_state.specs.Layouts.{hyp_page}
 use Rattle.page_state.specs.Runs.{map_of}
-use Rattle.ghost_spec.proofs.Searches.{all_below_true, all_below_false}
+use Rattle.ghost_trees.proofs.Searches.{all_below_true, all_below_false}
 use Rattle.ghost_spec.proofs.rules.may_donate.Goals as goal
 
 pub returns-then-not-may_donate_frame : goal.returns-then-not-may_donate_frame

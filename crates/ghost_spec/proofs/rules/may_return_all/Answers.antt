@@ -1,7 +1,7 @@
 use Rattle.std.proofs.Common.{◌+◌, sym, arith, ◌∙◌, below_more}
 use Rattle.ghost_spec.specs.Used.{may_return_frame}
 use Rattle.ghost_spec.specs.Views.{shared_in_lists}
-use Rattle.ghost_spec.proofs.Searches.{all_below_true, all_below_false}
+use Rattle.ghost_trees.proofs.Searches.{all_below_true, all_below_false}
 use Rattle.ghost_spec.proofs.rules.may_return_all.Goals as goal
 
 pub returns-then-not-may_return : goal.returns-then-not-may_return

@@ -2,9 +2,9 @@ use Rattle.std.proofs.Common.{◌≡◌, ◌+◌, drop, ◌∙◌, sym, refl}
 use Rattle.std.proofs.lemmas.List.{drop-drop}
 use Rattle.page_state.specs.Tables.{edited, need, returned}
 use Rattle.reference_model.specs.Changes.{edit_of}
-use Rattle.ghost_spec.specs.Trees.{tree_in_lists}
+use Rattle.ghost_trees.specs.Trees.{tree_in_lists}
 use Rattle.ghost_spec.proofs.Changed.{all_changed}
-use Rattle.ghost_spec.proofs.TreeLists.{all_given-append}
+use Rattle.ghost_trees.proofs.TreeLists.{all_given-append}
 use Rattle.ghost_spec.proofs.shared.change.Goals as goal
 
 pub returns-clause-after : goal.returns-clause-after

@@ -3,7 +3,7 @@ use Rattle.reference_model.specs.State.{no_cpu}
 use Rattle.ghost_spec.specs.declared.cpu.GhostCpu.{GhostCpu}
 use Rattle.ghost_spec.specs.Kept.{IsKeptCpu}
 use Rattle.ghost_spec.specs.Views.{cpu_in}
-use Rattle.ghost_spec.proofs.Pushed.{all_pushed, count_pushed}
+use Rattle.ghost_trees.proofs.Pushed.{all_pushed, count_pushed}
 use Rattle.ghost_spec.proofs.start.idle_cpus.Goals as goal
 
 pub loop-preserved : goal.loop-preserved

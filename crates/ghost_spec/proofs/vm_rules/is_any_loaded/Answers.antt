@@ -1,7 +1,7 @@
 use Rattle.std.proofs.Common.{◌≡◌, ℕ, Bool, Option, Some, None, true, false, not, ap, sym, ◌∙◌, arith, below_more}
 use Rattle.std.specs.Prelude.{is_some, is_none}
 use Rattle.ghost_spec.specs.States.{slot_in}
-use Rattle.ghost_spec.proofs.Searches.{all_below_true, all_below_false}
+use Rattle.ghost_trees.proofs.Searches.{all_below_true, all_below_false}
 use Rattle.ghost_spec.proofs.vm_rules.is_any_loaded.Goals as goal
 
 none-is : (o : Option ℕ) (b : Bool) → is_some o ≡ b → is_none o ≡ not b

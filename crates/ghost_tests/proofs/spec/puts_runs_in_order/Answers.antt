@@ -1,7 +1,7 @@
 use Rattle.std.proofs.Common.{[], ◌∷◌, subst, sym}
 use Rattle.std.proofs.lemmas.List.Elements.{All-nil, All-cons}
 use Rattle.page_state.specs.declared.entry.Run.{Run}
-use Rattle.ghost_spec.specs.Small.{AreSmall, IsSmall}
+use Rattle.ghost_trees.specs.Small.{AreSmall, IsSmall}
 use Rattle.ghost_tests.proofs.spec.puts_runs_in_order.Goals as goal
 
 small_three : (a b d : Run) → IsSmall a → IsSmall b → IsSmall d → AreSmall (a ∷ b ∷ d ∷ [])

@@ -3,7 +3,7 @@ use Rattle.std.specs.Option.{option_or}
 use Rattle.page_state.specs.LayoutView.{layout_of}
 use Rattle.page_state.specs.Rows.{advance_row}
 use Rattle.run_list.specs.Runs.{run_map}
-use Rattle.ghost_spec.specs.Trees.{tree_in_lists}
+use Rattle.ghost_trees.specs.Trees.{tree_in_lists}
 use Rattle.ghost_spec.proofs.FoundTables.{any-is}
 use Rattle.ghost_rows.specs.RowsLaid.{used_if}
 use Rattle.ghost_rows.proofs.rows.uses.use_tree.Goals as goal

@@ -1,0 +1,10 @@
+pub mod BlockLists
+pub mod Coarse
+pub mod Entries
+pub mod Overlaid
+pub mod Pushed
+pub mod Replaced
+pub mod Searches
+pub mod TreeLists
+pub mod Unmapped
+pub mod Untouched

@@ -1,0 +1,5 @@
+pub mod Joins
+pub mod KeptTrees
+pub mod Parts
+pub mod Small
+pub mod Trees

@@ -1,0 +1,140 @@
+//! Aligned blocks of pages: which meet a range, which can be one word, and which map nothing.
+ghost use Rattle.std.specs.Prelude.{◌≡◌, ℕ, true, false, ◌+◌, ◌*◌, ◌^◌, ◌<◌, ◌≤◌, ◌++◌, ◌||◌, ◌==◌, All, IfOk, OnOk, filter};
+ghost use Rattle.page_state.specs.EntryTests.{entry_eq, is_unmapped};
+ghost use Rattle.page_state.specs.Entries.{advance};
+ghost use Rattle.page_state.specs.Geometries.{block_pages};
+ghost use Rattle.page_state.specs.Regions.{end_of, is_in_range};
+ghost use Rattle.page_state.specs.Runs.{map_of};
+ghost use Rattle.page_state.specs.Search.{all_below};
+ghost use Rattle.page_state.specs.Blocks.{first_page as first_page_of, is_one_word as is_one_word_of, is_empty as is_empty_of, blocks_with, blocks_from, blocks_on as blocks_on_range};
+ghost use Rattle.ghost_trees.specs.Small.{HasLowFrames, AreSmall, IsSmall};
+ghost use Rattle.ghost_trees.specs.Trees.{IsLowBlock};
+
+use crate::runs::at;
+use page_state::{Entry, Page, PageRange, Run};
+use std::alloc::{AllocError, Global};
+
+/// A block (d, i): the 512^d aligned pages from page i * 512^d on (Arm DDI 0487, D8.2, 4 KiB granule).
+pub type Block = (u64, u64);
+
+/// The blocks of depth `top` and less that meet a range, by page, the parent before the child.
+pub fn blocks_on(alloc: Global, top: u64, range: PageRange) -> Result<Vec<Block>, AllocError>
+    requires top { top ≤ 3 }
+    requires pages { end_of range ≤ 2 ^ 63 }
+    ensures value { IfOk result (λ v. v.items ≡ blocks_on_range top range.first.0 range.count) }
+    ensures low { IfOk result (λ v. All IsLowBlock v.items) }
+{
+    let mut blocks = Vec::new(alloc);
+    for i in 0..range.count {
+        push_blocks(&mut blocks, top, range.first.0 + i, i == 0)?;
+    }
+    Ok(blocks)
+}
+
+/// Whether one word can say what the map of runs says of a block. It looks at each page of the block.
+pub fn is_one_word(runs: &[Run], block: Block) -> bool
+    requires runs { AreSmall runs.now }
+    requires block { IsLowBlock block }
+    ensures { result ≡ is_one_word_of (map_of runs.now) block }
+{
+    let first = first_page(block);
+    let entry = at(runs, Page(first));
+    entry.fits_word(block.0 as u32) && has_entry(runs, first, span(block.0), entry)
+}
+
+/// Whether the map of runs maps nothing on a block. It looks at the runs alone.
+pub fn is_empty(runs: &[Run], block: Block) -> bool
+    requires runs { AreSmall runs.now }
+    requires block { IsLowBlock block }
+    ensures { result ≡ is_empty_of (map_of runs.now) block }
+{
+    has_no_entry(runs, first_page(block), span(block.0))
+}
+
+/// The number of pages of a block.
+fn span(depth: u64) -> u64
+    requires { depth ≤ 3 }
+    ensures value { result ≡ block_pages depth }
+    ensures some { 0 < result }
+    ensures low { result ≤ 2 ^ 27 }
+{
+    match depth {
+        0 => 1,
+        1 => 512,
+        2 => 262_144,
+        _ => 134_217_728,
+    }
+}
+
+/// The first page of a block.
+fn first_page(block: Block) -> u64
+    requires { IsLowBlock block }
+    ensures { result ≡ first_page_of block }
+{
+    block.1 * span(block.0)
+}
+
+/// Adds the blocks of depth `top` and less that hold a page, the greatest first: all, or those that begin with it.
+fn push_blocks(blocks: &mut Vec<Block>, top: u64, page: u64, all: bool) -> Result<(), AllocError>
+    requires top { top ≤ 3 }
+    requires page { page ≤ 2 ^ 63 }
+    ensures { OnOk result (blocks.new.items ≡ blocks.old.items ++ filter (λ b. all || first_page_of b == page) (blocks_with top page)) }
+{
+    for i in 0..top {
+        let block = (top - i, page / span(top - i));
+        if is_met(block, page, all) {
+            blocks.push(block)?;
+        }
+    }
+    Ok(())
+}
+
+/// Whether all blocks count, or the block begins with the page.
+fn is_met(block: Block, page: u64, all: bool) -> bool
+    requires { IsLowBlock block }
+    ensures { result ≡ (all || first_page_of block == page) }
+{
+    all || first_page(block) == page
+}
+
+/// Whether an entry advances along `count` pages from `first` on.
+fn has_entry(runs: &[Run], first: u64, count: u64, entry: Entry) -> bool
+    requires runs { AreSmall runs.now }
+    requires pages { first + count < 2 ^ 64 }
+    requires count { count ≤ 2 ^ 27 }
+    requires entry { HasLowFrames entry 1 }
+    ensures { result ≡ all_below count (λ i. entry_eq (map_of runs.now (first + i)) (advance entry i)) }
+{
+    for i in 0..count {
+        if !at(runs, Page(first + i)).is_same(entry.advance(i)) {
+            return false;
+        }
+    }
+    true
+}
+
+/// Whether a run has one of `count` pages from `first` on.
+fn meets(run: &Run, first: u64, count: u64) -> bool
+    requires run { IsSmall run.now }
+    requires pages { first + count < 2 ^ 64 }
+    ensures some { result ≡ true → (k : ℕ) × (k < count) × (is_in_range run.now.pages (first + k) ≡ true) }
+    ensures none { result ≡ false → (k : ℕ) → k < count → is_in_range run.now.pages (first + k) ≡ false }
+{
+    let from = run.pages.first.0.max(first);
+    let end = (run.pages.first.0 + run.pages.count).min(first + count);
+    from < end
+}
+
+/// Whether nothing is mapped on `count` pages from `first` on: no run has one of them.
+fn has_no_entry(runs: &[Run], first: u64, count: u64) -> bool
+    requires runs { AreSmall runs.now }
+    requires pages { first + count < 2 ^ 64 }
+    ensures { result ≡ all_below count (λ i. is_unmapped (map_of runs.now (first + i))) }
+{
+    for run in runs {
+        if meets(run, first, count) {
+            return false;
+        }
+    }
+    true
+}

@@ -1,0 +1,7 @@
+//! Trees told as lists: runs, blocks, the tables of blocks, and free frames. Plain and slow.
+#![tactic(auto)]
+
+pub mod blocks;
+pub mod pool;
+pub mod runs;
+pub mod tree;
