@@ -21,7 +21,6 @@ use page_state::{
 use run_list::RunList;
 use std::alloc::{AllocError, Global};
 use std::process::Abort;
-use std::test::Fail;
 use table_tree::{Reads, Table};
 
 /// A page of normal memory at frame 0x40100, which its owner may read, write and run.
@@ -72,16 +71,16 @@ fn put(table: &mut Table<Global>, i: usize, word: u64)
 }
 
 /// A table of 512 pages in a row, but for what stands in slots 3 and 4.
-fn pages(alloc: Global) -> Result<Table<Global>, AllocError>
-    ensures { IfOk result (λ t. IsRaw 0 t) }
+fn pages(rt: &impl Abort, alloc: Global) -> Table<Global>
+    ensures { IsRaw 0 result }
 {
-    let mut table = empty(alloc, 9)?;
+    let mut table = empty(alloc, 9).expect(rt, "memory");
     for i in 0..512u64 {
         put(&mut table, i as usize, PAGE + i * 4096);
     }
     put(&mut table, 3, 0x8);
     put(&mut table, 4, 0x8);
-    Ok(table)
+    table
 }
 
 /// A table with one child.
@@ -101,17 +100,17 @@ fn with_child(
 }
 
 /// A root at frame 7 with a table of level 2 at frame 8 in slot 1, with a table of level 3 at frame 9 in its slot 2.
-fn tree(alloc: Global) -> Result<Table<Global>, AllocError>
-    ensures { IfOk result (λ t. IsRaw 2 t) }
+fn tree(rt: &impl Abort, alloc: Global) -> Table<Global>
+    ensures { IsRaw 2 result }
 {
-    let mut blocks = empty(alloc, 8)?;
+    let mut blocks = empty(alloc, 8).expect(rt, "memory");
     put(&mut blocks, 0, BLOCK);
     put(&mut blocks, 1, BLOCK + 0x20_0000);
     put(&mut blocks, 5, TABLE);
-    let blocks = with_child(alloc, blocks, 2, pages(alloc)?)?;
-    let mut root = empty(alloc, 7)?;
+    let blocks = with_child(alloc, blocks, 2, pages(rt, alloc)).expect(rt, "memory");
+    let mut root = empty(alloc, 7).expect(rt, "memory");
     put(&mut root, 511, 0x104);
-    with_child(alloc, root, 1, blocks)
+    with_child(alloc, root, 1, blocks).expect(rt, "memory")
 }
 
 /// Compares what was found with the words of that tree.
@@ -144,40 +143,39 @@ fn expect_found(rt: &impl Abort, found: &Tree) {
 }
 
 #[test]
-fn walks_each_level(rt: HostRuntime) -> Result<(), Fail> {
+fn walks_each_level(rt: HostRuntime) {
     let alloc = rt.alloc();
-    let root = tree(alloc)?;
+    let root = tree(&rt, alloc);
     let mut reads = Reads::new();
-    let found = walk(alloc, Geometry::Bits39, &root, &mut reads)?;
+    let found = walk(alloc, Geometry::Bits39, &root, &mut reads).expect(&rt, "memory");
     expect_found(&rt, &found);
     assert_eq!(rt; reads.count(), 1536);
-    Ok(())
 }
 
 /// A boot state without rows.
-fn booted(rt: &impl Abort, alloc: Global) -> Result<Ghost, Fail>
-    ensures kept { IfOk result IsKept }
-    ensures rows { IfOk result (λ g. g.shared.rows.runs ≡ []) }
+fn booted(rt: &impl Abort, alloc: Global) -> Ghost
+    ensures kept { IsKept result }
+    ensures rows { result.shared.rows.runs ≡ [] }
 {
-    let map = memory(alloc, 0x40)?;
-    let mut made = started(alloc, map, 1, 9)?.expect(rt, "enough frames");
+    let map = memory(alloc, 0x40).expect(rt, "a memory");
+    let booted = started(alloc, map, 1, 9).expect(rt, "memory");
+    let mut made = booted.expect(rt, "enough frames");
     made.shared.rows = RunList::new(alloc);
-    Ok(made)
+    made
 }
 
 /// The host's map becomes leaves of the frames of their own numbers.
-fn put_leaves(alloc: Global, state: &mut Ghost, page: u64, count: u64) -> Result<(), AllocError>
+fn put_leaves(rt: &impl Abort, alloc: Global, state: &mut Ghost, page: u64, count: u64)
     requires page { page < 2 ^ 40 }
     requires some { 0 < count }
     requires count { count < 2 ^ 20 }
     requires kept { IsKept state.old }
-    ensures kept { OnOk result (IsKept state.new) }
+    ensures kept { IsKept state.new }
     ensures rows { state.new.shared.rows ≡ state.old.shared.rows }
 {
     let mut runs = Vec::new(alloc);
-    runs.push(run(page, count, leaf(page)))?;
+    runs.push(run(page, count, leaf(page))).expect(rt, "memory");
     state.shared.host.runs = runs;
-    Ok(())
 }
 
 fn row(owner: u64) -> Row
@@ -232,26 +230,21 @@ fn expect_audit(rt: &impl Abort, kept: &Ghost, walked: &Ghost, told: Option<Disa
 }
 
 /// Compares the first difference of these states as first rows and then maps of them differ too.
-fn expect_audits(
-    rt: &impl Abort,
-    alloc: Global,
-    kept: &mut Ghost,
-    walked: &mut Ghost,
-) -> Result<(), AllocError>
+fn expect_audits(rt: &impl Abort, alloc: Global, kept: &mut Ghost, walked: &mut Ghost)
     requires kept { IsKept kept.old }
     requires walked { IsKept walked.old }
     requires frames { HaveSameFrames kept.old walked.old }
 {
     expect_audit(rt, kept, walked, None);
-    put_rows(kept, walked, 0x40200)?;
+    put_rows(kept, walked, 0x40200).expect(rt, "memory");
     let owner = Disagreement::Owner {
         frame: 0x40200,
         kept: row(0),
         walked: row(1),
     };
     expect_audit(rt, kept, walked, Some(owner));
-    put_leaves(alloc, kept, 0x40100, 4)?;
-    put_leaves(alloc, walked, 0x40100, 3)?;
+    put_leaves(rt, alloc, kept, 0x40100, 4);
+    put_leaves(rt, alloc, walked, 0x40100, 3);
     let map = Disagreement::Map {
         tree: TreeOf::Host,
         page: 0x40103,
@@ -264,26 +257,24 @@ fn expect_audits(
         walked: Entry::Unmapped,
     };
     expect_audit(rt, kept, walked, Some(map));
-    Ok(())
 }
 
 #[test]
-fn tells_first_difference(rt: HostRuntime) -> Result<(), Fail> {
+fn tells_first_difference(rt: HostRuntime) {
     let alloc = rt.alloc();
-    let mut kept = booted(&rt, alloc)?;
-    let mut walked = booted(&rt, alloc)?;
-    expect_audits(&rt, alloc, &mut kept, &mut walked)?;
-    Ok(())
+    let mut kept = booted(&rt, alloc);
+    let mut walked = booted(&rt, alloc);
+    expect_audits(&rt, alloc, &mut kept, &mut walked);
 }
 
-/// Whether a disagreement is written so.
-fn is_written(alloc: Global, d: Disagreement, text: &str) -> Result<bool, AllocError> {
-    let written = format!(in alloc; "{d}")?;
-    Ok(written.as_str() == text)
+/// Compares how a disagreement is written.
+fn expect_written(rt: &impl Abort, alloc: Global, d: Disagreement, text: &str) {
+    let written = format!(in alloc; "{d}").expect(rt, "memory");
+    assert!(rt; written.as_str() == text);
 }
 
 #[test]
-fn writes_disagreements(rt: HostRuntime) -> Result<(), Fail> {
+fn writes_disagreements(rt: HostRuntime) {
     let alloc = rt.alloc();
     let map = Disagreement::Map {
         tree: TreeOf::Guest(3),
@@ -291,30 +282,25 @@ fn writes_disagreements(rt: HostRuntime) -> Result<(), Fail> {
         kept: Entry::Annotated(Owner(1)),
         walked: Entry::Unmapped,
     };
-    assert!(rt;
-        is_written(
-            alloc,
-            map,
-            "disagree guest 3 0x40103 kept annot 1 walked unmapped"
-        )?
-    );
+    let told = "disagree guest 3 0x40103 kept annot 1 walked unmapped";
+    expect_written(&rt, alloc, map, told);
     let owner = Disagreement::Owner {
         frame: 0x40200,
         kept: row(0),
         walked: row(1),
     };
-    assert!(rt;
-        is_written(
-            alloc,
-            owner,
-            "disagree owner 0x40200 kept owner 0 lent - use plain walked owner 1 lent - use plain"
-        )?
-    );
+    let told =
+        "disagree owner 0x40200 kept owner 0 lent - use plain walked owner 1 lent - use plain";
+    expect_written(&rt, alloc, owner, told);
     let reply = Disagreement::Reply {
         said: Reply::Done(Value::Nothing),
         spec: Reply::Refused(Refusal::Perm),
     };
-    assert!(rt; is_written(alloc, reply, "disagree reply said ok spec perm")?);
-    assert!(rt; is_written(alloc, Disagreement::GuestFree(2), "disagree guest_free 2")?);
-    Ok(())
+    expect_written(&rt, alloc, reply, "disagree reply said ok spec perm");
+    expect_written(
+        &rt,
+        alloc,
+        Disagreement::GuestFree(2),
+        "disagree guest_free 2",
+    );
 }

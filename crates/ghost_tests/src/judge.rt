@@ -1,5 +1,5 @@
 //! What the judge says of a step.
-ghost use Rattle.std.specs.Prelude.{◌≡◌, ◌<◌, IfOk};
+ghost use Rattle.std.specs.Prelude.{◌≡◌, ◌<◌};
 ghost use Rattle.ghost_spec.specs.States.{IsKept};
 
 use crate::sample::{memory, started};
@@ -10,17 +10,17 @@ use page_state::{
     Entry, Frame, Kind, Owner, Page, PageRange, Prot, Refusal, Reply, Row, State, Step, Usage,
     Value,
 };
-use std::alloc::{AllocError, Global};
+use std::alloc::Global;
 use std::process::Abort;
-use std::test::Fail;
 
 /// The boot state of two CPUs.
-fn booted(rt: &impl Abort, alloc: Global) -> Result<Ghost, Fail>
-    ensures kept { IfOk result IsKept }
-    ensures cpus { IfOk result (λ g. g.layout.config.cpus ≡ 2) }
+fn booted(rt: &impl Abort, alloc: Global) -> Ghost
+    ensures kept { IsKept result }
+    ensures cpus { result.layout.config.cpus ≡ 2 }
 {
-    let map = memory(alloc, 0x40)?;
-    Ok(started(alloc, map, 2, 64)?.expect(rt, "enough frames"))
+    let map = memory(alloc, 0x40).expect(rt, "a memory");
+    let made = started(alloc, map, 2, 64).expect(rt, "memory");
+    made.expect(rt, "enough frames")
 }
 
 /// The one part of a state that changes.
@@ -100,61 +100,52 @@ fn make(state: &mut Ghost, change: Change)
 }
 
 /// The first difference from this state of one that is changed.
-fn told_after(
-    alloc: Global,
-    spec: &Ghost,
-    change: Change,
-) -> Result<Option<Disagreement>, AllocError>
+fn told_after(rt: &impl Abort, alloc: Global, spec: &Ghost, change: Change) -> Option<Disagreement>
     requires kept { IsKept spec.now }
     requires cpus { 1 < spec.now.layout.config.cpus }
 {
-    let mut post = spec.copied(alloc)?;
+    let mut post = spec.copied(alloc).expect(rt, "memory");
     make(&mut post, change);
-    differs(alloc, &post, spec)
+    differs(alloc, &post, spec).expect(rt, "memory")
 }
 
 /// The first difference from the boot state of one that is changed.
-fn told(rt: &impl Abort, alloc: Global, change: Change) -> Result<Option<Disagreement>, Fail> {
-    let spec = booted(rt, alloc)?;
-    Ok(told_after(alloc, &spec, change)?)
+fn told(rt: &impl Abort, alloc: Global, change: Change) -> Option<Disagreement> {
+    let spec = booted(rt, alloc);
+    told_after(rt, alloc, &spec, change)
 }
 
 /// Compares that difference.
-fn expect_told(
-    rt: &impl Abort,
-    alloc: Global,
-    change: Change,
-    wanted: Option<Disagreement>,
-) -> Result<(), Fail> {
-    assert_eq!(rt; told(rt, alloc, change)?, wanted);
-    Ok(())
+fn expect_told(rt: &impl Abort, alloc: Global, change: Change, wanted: Option<Disagreement>) {
+    assert_eq!(rt; told(rt, alloc, change), wanted);
 }
 
 #[test]
-fn tells_the_part_that_differs(rt: HostRuntime) -> Result<(), Fail> {
+fn tells_the_part_that_differs(rt: HostRuntime) {
     let alloc = rt.alloc();
-    expect_told(&rt, alloc, Change::Nothing, None)?;
-    expect_told(&rt, alloc, Change::Room, None)?;
-    expect_told(&rt, alloc, Change::Pool, Some(Disagreement::Free))?;
-    expect_told(&rt, alloc, Change::Guest, Some(Disagreement::GuestFree(3)))?;
-    expect_told(&rt, alloc, Change::Slot, Some(Disagreement::Vm(3)))?;
-    expect_told(&rt, alloc, Change::Cpu, Some(Disagreement::Cpu(1)))
+    expect_told(&rt, alloc, Change::Nothing, None);
+    expect_told(&rt, alloc, Change::Room, None);
+    expect_told(&rt, alloc, Change::Pool, Some(Disagreement::Free));
+    expect_told(&rt, alloc, Change::Guest, Some(Disagreement::GuestFree(3)));
+    expect_told(&rt, alloc, Change::Slot, Some(Disagreement::Vm(3)));
+    expect_told(&rt, alloc, Change::Cpu, Some(Disagreement::Cpu(1)));
 }
 
 /// The judgement of a step of this state that makes this change alone.
 fn judged_after(
+    rt: &impl Abort,
     alloc: Global,
     pre: &Ghost,
     step: Step,
     reply: Reply,
     change: Change,
-) -> Result<Option<Disagreement>, AllocError>
+) -> Option<Disagreement>
     requires kept { IsKept pre.now }
     requires cpus { 1 < pre.now.layout.config.cpus }
 {
-    let mut post = pre.copied(alloc)?;
+    let mut post = pre.copied(alloc).expect(rt, "memory");
     make(&mut post, change);
-    judge(alloc, pre, 0, step, &reply, &post)
+    judge(alloc, pre, 0, step, &reply, &post).expect(rt, "memory")
 }
 
 /// The judgement of a step of the boot state that makes this change alone.
@@ -164,9 +155,9 @@ fn judged(
     step: Step,
     reply: Reply,
     change: Change,
-) -> Result<Option<Disagreement>, Fail> {
-    let pre = booted(rt, alloc)?;
-    Ok(judged_after(alloc, &pre, step, reply, change)?)
+) -> Option<Disagreement> {
+    let pre = booted(rt, alloc);
+    judged_after(rt, alloc, &pre, step, reply, change)
 }
 
 /// Compares that judgement.
@@ -177,9 +168,8 @@ fn expect_judged(
     reply: Reply,
     change: Change,
     wanted: Option<Disagreement>,
-) -> Result<(), Fail> {
-    assert_eq!(rt; judged(rt, alloc, step, reply, change)?, wanted);
-    Ok(())
+) {
+    assert_eq!(rt; judged(rt, alloc, step, reply, change), wanted);
 }
 
 /// The share of a page of the host, which is made.
@@ -198,20 +188,20 @@ const PERM: Reply = Reply::Refused(Refusal::Perm);
 const SHORT: Reply = Reply::Refused(Refusal::NoMemory);
 
 #[test]
-fn judges_replies(rt: HostRuntime) -> Result<(), Fail> {
+fn judges_replies(rt: HostRuntime) {
     let alloc = rt.alloc();
     let wrong = Some(Disagreement::Reply {
         said: PERM,
         spec: DONE,
     });
     let free = Some(Disagreement::Free);
-    expect_judged(&rt, alloc, SHARE, PERM, Change::Nothing, wrong)?;
-    expect_judged(&rt, alloc, CARVED, PERM, Change::Nothing, None)?;
-    expect_judged(&rt, alloc, CARVED, PERM, Change::Pool, free)
+    expect_judged(&rt, alloc, SHARE, PERM, Change::Nothing, wrong);
+    expect_judged(&rt, alloc, CARVED, PERM, Change::Nothing, None);
+    expect_judged(&rt, alloc, CARVED, PERM, Change::Pool, free);
 }
 
 #[test]
-fn judges_state_that_stayed(rt: HostRuntime) -> Result<(), Fail> {
+fn judges_state_that_stayed(rt: HostRuntime) {
     let stayed = Some(Disagreement::Map {
         tree: TreeOf::Host,
         page: 0x40100,
@@ -223,11 +213,11 @@ fn judges_state_that_stayed(rt: HostRuntime) -> Result<(), Fail> {
             state: State::SharedOwned,
         },
     });
-    expect_judged(&rt, rt.alloc(), SHARE, DONE, Change::Nothing, stayed)
+    expect_judged(&rt, rt.alloc(), SHARE, DONE, Change::Nothing, stayed);
 }
 
 #[test]
-fn judges_want_of_memory(rt: HostRuntime) -> Result<(), Fail> {
+fn judges_want_of_memory(rt: HostRuntime) {
     let alloc = rt.alloc();
     let refused = Some(Disagreement::Reply {
         said: SHORT,
@@ -243,8 +233,8 @@ fn judges_want_of_memory(rt: HostRuntime) -> Result<(), Fail> {
         spec: Reply::Done(Value::Row(row)),
     });
     let free = Some(Disagreement::Free);
-    expect_judged(&rt, alloc, SHARE, SHORT, Change::Nothing, None)?;
-    expect_judged(&rt, alloc, SHARE, SHORT, Change::Pool, free)?;
-    expect_judged(&rt, alloc, CARVED, SHORT, Change::Nothing, refused)?;
-    expect_judged(&rt, alloc, ASKS, SHORT, Change::Nothing, told)
+    expect_judged(&rt, alloc, SHARE, SHORT, Change::Nothing, None);
+    expect_judged(&rt, alloc, SHARE, SHORT, Change::Pool, free);
+    expect_judged(&rt, alloc, CARVED, SHORT, Change::Nothing, refused);
+    expect_judged(&rt, alloc, ASKS, SHORT, Change::Nothing, told);
 }

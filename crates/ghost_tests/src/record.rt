@@ -1,5 +1,5 @@
 //! Lent parts as the oracle records them.
-ghost use Rattle.std.specs.Prelude.{◌≡◌, ◌+◌, ◌<◌, ◌≤◌, ◌^◌, ◌∷◌, IfOk, length};
+ghost use Rattle.std.specs.Prelude.{◌≡◌, ◌+◌, ◌<◌, ◌≤◌, ◌^◌, ◌∷◌, length};
 ghost use Rattle.hyp_pool.specs.Pools.{IsPool};
 ghost use Rattle.page_state.specs.Geometries.{levels_below};
 ghost use Rattle.reference_model.specs.ChangeLaws.{Fits};
@@ -23,9 +23,9 @@ use page_state::{
     Target, Usage,
 };
 use reference_model::{Changes, MapChange};
-use std::alloc::{AllocError, Global};
+use run_list::RunList;
+use std::alloc::Global;
 use std::process::Abort;
-use std::test::Fail;
 use table_tree::Tree;
 use vm_table::VmTable;
 
@@ -40,34 +40,38 @@ fn taken(pool: &mut Pool) -> Frame
 }
 
 /// Trees of their roots alone, and the pool of 14 further frames.
-fn roots(alloc: Global) -> Result<(Component<Global>, Component<Global>, Pool), AllocError>
-    ensures host { IfOk result (λ r. levels_below r.0.tree.geometry ≡ 2) }
-    ensures hyp { IfOk result (λ r. levels_below r.1.tree.geometry ≡ 2) }
-    ensures apart { IfOk result (λ r. IsApart r.0.tree r.1.tree r.2) }
+fn roots(rt: &impl Abort, alloc: Global) -> (Component<Global>, Component<Global>, Pool)
+    ensures host { levels_below result.0.tree.geometry ≡ 2 }
+    ensures hyp { levels_below result.1.tree.geometry ≡ 2 }
+    ensures apart { IsApart result.0.tree result.1.tree result.2 }
 {
     laws::counted_frames();
-    let mut pool = Pool::of(alloc, Frame(0x40600), 16)?;
+    let mut pool = Pool::of(alloc, Frame(0x40600), 16).expect(rt, "memory");
     let host_root = taken(&mut pool);
     let hyp_root = taken(&mut pool);
-    let host = Component::new(alloc, Tree::new(alloc, host_root, Geometry::Bits39)?);
-    let hyp = Component::new(alloc, Tree::new(alloc, hyp_root, Geometry::Bits39)?);
-    Ok((host, hyp, pool))
+    let host = Tree::new(alloc, host_root, Geometry::Bits39).expect(rt, "memory");
+    let hyp = Tree::new(alloc, hyp_root, Geometry::Bits39).expect(rt, "memory");
+    (
+        Component::new(alloc, host),
+        Component::new(alloc, hyp),
+        pool,
+    )
 }
 
 /// A Shared part of a memory, in which each frame has the row of the host's own.
-fn new_shared(alloc: Global, map: &MemoryMap) -> Result<SharedPart<Global>, AllocError>
-    ensures { IfOk result (λ s. depth_of s ≡ 2) }
+fn new_shared(rt: &impl Abort, alloc: Global, map: &MemoryMap) -> SharedPart<Global>
+    ensures { depth_of result ≡ 2 }
 {
-    let log = Log::new(alloc, 5)?;
-    let rows = OwnerTable::of(alloc, map)?;
-    let (host, hyp, pool) = roots(alloc)?;
-    Ok(SharedPart {
+    let log = Log::new(alloc, 5).expect(rt, "memory");
+    let rows = OwnerTable::of(alloc, map).expect(rt, "memory");
+    let (host, hyp, pool) = roots(rt, alloc);
+    SharedPart {
         host,
         hyp,
         pool,
         rows,
         log,
-    })
+    }
 }
 
 /// The host's pages of the frames become the hypervisor's.
@@ -102,7 +106,7 @@ fn hyp_change() -> MapChange
 }
 
 /// Makes these changes.
-fn change(alloc: Global, shared: &mut SharedPart<Global>) -> Result<(), Fail>
+fn change(rt: &impl Abort, alloc: Global, shared: &mut SharedPart<Global>)
     requires { depth_of shared.old ≡ 2 }
 {
     let changes = Changes {
@@ -110,15 +114,16 @@ fn change(alloc: Global, shared: &mut SharedPart<Global>) -> Result<(), Fail>
         hyp: Some(hyp_change()),
         ..Changes::NONE
     };
-    shared.change(alloc, &changes)?;
-    Ok(())
+    shared
+        .change(alloc, &changes)
+        .expect(rt, "memory and frames");
 }
 
 /// A Shared part after these changes.
-fn shared(alloc: Global, map: &MemoryMap) -> Result<SharedPart<Global>, Fail> {
-    let mut shared = new_shared(alloc, map)?;
-    change(alloc, &mut shared)?;
-    Ok(shared)
+fn shared(rt: &impl Abort, alloc: Global, map: &MemoryMap) -> SharedPart<Global> {
+    let mut shared = new_shared(rt, alloc, map);
+    change(rt, alloc, &mut shared);
+    shared
 }
 
 /// A hand of three frames.
@@ -128,35 +133,39 @@ const HAND: PageRange = PageRange {
 };
 
 /// A CPU with that hand.
-fn own_state(alloc: Global) -> Result<CpuState, AllocError>
-    ensures { IfOk result (λ k. IsLowCpu (cpu_of k)) }
+fn own_state(rt: &impl Abort, alloc: Global) -> CpuState
+    ensures { IsLowCpu (cpu_of result) }
 {
-    Ok(CpuState {
+    CpuState {
         loaded: None,
         hand: Some(HAND),
         ticket: None,
-        log: Log::new(alloc, 7)?,
-    })
+        log: Log::new(alloc, 7).expect(rt, "memory"),
+    }
 }
 
 /// A carve-out of 16 frames, and two CPUs.
-fn layout(alloc: Global) -> Result<Layout, Fail>
-    ensures { IfOk result (λ l. l.config.cpus ≡ 2) }
+fn layout(rt: &impl Abort, alloc: Global) -> Layout
+    ensures { result.config.cpus ≡ 2 }
 {
-    Ok(Layout {
-        map: memory(alloc, 16)?,
+    Layout {
+        map: memory(alloc, 16).expect(rt, "a memory"),
         config: config(2, 9),
         geometry: Geometry::Bits39,
-    })
+    }
 }
 
-/// Compares what is recorded of the Shared part.
-fn expect_shared(rt: &impl Abort, told: &Shared) {
-    let host = Run {
+/// Compares the runs of the host's map.
+fn expect_host_runs(rt: &impl Abort, told: &[Run]) {
+    let runs = [Run {
         pages: host_change().range,
         target: Target::Annotated(Owner(1)),
-    };
-    assert!(rt; told.host.runs.as_slice() == [host].as_slice());
+    }];
+    assert!(rt; told == runs.as_slice());
+}
+
+/// Compares the tables of the hypervisor's tree.
+fn expect_hyp_tables(rt: &impl Abort, told: &[Table]) {
     let tables = [
         Table {
             block: (3, 0),
@@ -171,103 +180,135 @@ fn expect_shared(rt: &impl Abort, told: &Shared) {
             frame: 0x40605,
         },
     ];
-    assert!(rt; told.hyp.tables.as_slice() == tables.as_slice());
-    assert!(rt; told.free.first().copied() == Some(0x40606));
-    assert!(rt; told.free.len() == 10);
+    assert!(rt; told == tables.as_slice());
+}
+
+/// Compares the free frames.
+fn expect_free(rt: &impl Abort, told: &[u64]) {
+    assert!(rt; told.first().copied() == Some(0x40606));
+    assert!(rt; told.len() == 10);
+}
+
+/// Compares the row of a frame, and that there is none behind the memory.
+fn expect_rows(rt: &impl Abort, told: &RunList<Row>) {
     let row = Row {
         owner: Owner(0),
         lent: None,
         usage: Usage::Plain,
     };
-    assert!(rt; told.rows.at(Page(0x40600)) == Some(row));
-    assert!(rt; told.rows.at(Page(0x40800)).is_none());
+    assert!(rt; told.at(Page(0x40600)) == Some(row));
+    assert!(rt; told.at(Page(0x40800)).is_none());
 }
 
-/// Compares what is recorded of CPUs, logs and what isn't given.
-fn expect_rest(rt: &impl Abort, told: &Ghost) {
+/// Compares what is recorded of the Shared part.
+fn expect_shared(rt: &impl Abort, told: &Shared) {
+    expect_host_runs(rt, told.host.runs.as_slice());
+    expect_hyp_tables(rt, told.hyp.tables.as_slice());
+    expect_free(rt, told.free.as_slice());
+    expect_rows(rt, &told.rows);
+}
+
+/// Compares what is recorded of CPUs, the second of which has a hand.
+fn expect_cpus(rt: &impl Abort, told: &[GhostCpu]) {
     let held = GhostCpu {
         hand: Some(HAND),
         ..GhostCpu::NONE
     };
-    assert!(rt; told.cpus.as_slice() == [GhostCpu::NONE, held].as_slice());
-    assert!(rt; told.rooms.cpus.as_slice() == [9, 7].as_slice());
-    assert!(rt; (told.rooms.shared, told.rooms.vms) == (5, 9));
-    assert!(rt; (told.vms.len(), told.guests.len()) == (64, 64));
+    let cpus = [GhostCpu::NONE, held];
+    assert!(rt; told == cpus.as_slice());
+}
+
+/// Compares the rooms of the logs of the VM part, of the Shared part and of CPUs.
+fn expect_rooms(rt: &impl Abort, told: &GhostRooms, vms: u64, shared: u64, cpus: &[u64]) {
+    assert!(rt; told.vms == vms);
+    assert!(rt; told.shared == shared);
+    assert!(rt; told.cpus.as_slice() == cpus);
+}
+
+/// Compares the room of a guest's log.
+fn expect_guest_room(rt: &impl Abort, told: &GhostRooms, slot: usize, room: u64) {
+    assert!(rt; told.guests.get(slot).copied() == Some(room));
+}
+
+/// Compares what is recorded of CPUs, logs and what isn't given.
+fn expect_rest(rt: &impl Abort, told: &Ghost) {
+    expect_cpus(rt, told.cpus.as_slice());
+    expect_rooms(rt, &told.rooms, 9, 5, [9, 7].as_slice());
+    assert!(rt; told.vms.len() == 64);
+    assert!(rt; told.guests.len() == 64);
 }
 
 /// What is recorded of that Shared part and of the second CPU.
-fn shared_recorded(alloc: Global, layout: &Layout) -> Result<Ghost, Fail>
+fn shared_recorded(rt: &impl Abort, alloc: Global, layout: &Layout) -> Ghost
     requires { layout.now.config.cpus ≡ 2 }
 {
-    let own = own_state(alloc)?;
-    let shared = shared(alloc, &layout.map)?;
-    Ok(record(alloc, layout, 1, None, Some(&shared), None, &own)?)
+    let own = own_state(rt, alloc);
+    let shared = shared(rt, alloc, &layout.map);
+    record(alloc, layout, 1, None, Some(&shared), None, &own).expect(rt, "memory")
 }
 
 #[test]
-fn records_what_is_given_alone(rt: HostRuntime) -> Result<(), Fail> {
-    let layout = layout(rt.alloc())?;
-    let told = shared_recorded(rt.alloc(), &layout)?;
+fn records_what_is_given_alone(rt: HostRuntime) {
+    let layout = layout(&rt, rt.alloc());
+    let told = shared_recorded(&rt, rt.alloc(), &layout);
     expect_shared(&rt, &told.shared);
     expect_rest(&rt, &told);
-    Ok(())
 }
 
 /// A Guest part whose guest is Empty.
-fn empty_part(alloc: Global) -> Result<GuestPart<Global>, AllocError>
-    ensures { IfOk result (λ g. IsLowGuest (guest_held g)) }
+fn empty_part(rt: &impl Abort, alloc: Global) -> GuestPart<Global>
+    ensures { IsLowGuest (guest_held result) }
 {
-    Ok(GuestPart {
+    GuestPart {
         guest: Guest::new(alloc, Geometry::Bits39),
-        log: Log::new(alloc, 4)?,
-    })
+        log: Log::new(alloc, 4).expect(rt, "memory"),
+    }
 }
 
 /// A VM part of Vacant slots.
-fn vacant_part(alloc: Global) -> Result<VmPart, AllocError> {
-    Ok(VmPart {
-        table: VmTable::new(alloc)?,
-        log: Log::new(alloc, 6)?,
-    })
+fn vacant_part(rt: &impl Abort, alloc: Global) -> VmPart {
+    VmPart {
+        table: VmTable::new(alloc).expect(rt, "memory"),
+        log: Log::new(alloc, 6).expect(rt, "memory"),
+    }
 }
 
 /// What is recorded of the VM part and of this guest and CPU.
 fn guest_recorded(
+    rt: &impl Abort,
     alloc: Global,
     layout: &Layout,
     guest: &GuestPart<Global>,
     own: &CpuState,
-) -> Result<Ghost, AllocError>
+) -> Ghost
     requires cpus { layout.now.config.cpus ≡ 2 }
     requires guest { IsLowGuest (guest_held guest.now) }
     requires own { IsLowCpu (cpu_of own.now) }
 {
-    let vms = vacant_part(alloc)?;
-    record(alloc, layout, 0, Some(&vms), None, Some((3, guest)), own)
+    let vms = vacant_part(rt, alloc);
+    record(alloc, layout, 0, Some(&vms), None, Some((3, guest)), own).expect(rt, "memory")
 }
 
 /// What is recorded of a VM part, an Empty guest and the first CPU.
-fn vms_recorded(alloc: Global, layout: &Layout) -> Result<Ghost, AllocError>
+fn vms_recorded(rt: &impl Abort, alloc: Global, layout: &Layout) -> Ghost
     requires { layout.now.config.cpus ≡ 2 }
 {
-    let own = own_state(alloc)?;
-    let guest = empty_part(alloc)?;
-    guest_recorded(alloc, layout, &guest, &own)
+    let own = own_state(rt, alloc);
+    let guest = empty_part(rt, alloc);
+    guest_recorded(rt, alloc, layout, &guest, &own)
 }
 
 /// Compares the rooms of those logs.
-fn expect_rooms(rt: &impl Abort, told: &GhostRooms) {
-    assert!(rt; (told.vms, told.shared) == (6, 9));
-    assert!(rt; told.guests.get(2).copied() == Some(9));
-    assert!(rt; told.guests.get(3).copied() == Some(4));
-    assert!(rt; told.cpus.as_slice() == [7, 9].as_slice());
+fn expect_given_rooms(rt: &impl Abort, told: &GhostRooms) {
+    expect_rooms(rt, told, 6, 9, [7, 9].as_slice());
+    expect_guest_room(rt, told, 2, 9);
+    expect_guest_room(rt, told, 3, 4);
 }
 
 #[test]
-fn records_rooms_of_given_logs(rt: HostRuntime) -> Result<(), Fail> {
-    let layout = layout(rt.alloc())?;
-    let told = vms_recorded(rt.alloc(), &layout)?;
-    expect_rooms(&rt, &told.rooms);
+fn records_rooms_of_given_logs(rt: HostRuntime) {
+    let layout = layout(&rt, rt.alloc());
+    let told = vms_recorded(&rt, rt.alloc(), &layout);
+    expect_given_rooms(&rt, &told.rooms);
     assert!(rt; told.shared.host.tables.is_empty());
-    Ok(())
 }

@@ -1,5 +1,5 @@
 //! The plain program on lists: runs, trees, blocks, the boot state, and calls in turn.
-ghost use Rattle.std.specs.Prelude.{◌<◌, ◌^◌, IfOk, OnOk};
+ghost use Rattle.std.specs.Prelude.{◌<◌, ◌^◌};
 ghost use Rattle.page_state.specs.Runs.{IsCoarsest};
 ghost use Rattle.ghost_trees.specs.KeptTrees.{IsKeptTree};
 ghost use Rattle.ghost_trees.specs.Small.{AreSmall, IsSmall};
@@ -15,24 +15,24 @@ use page_state::{
     Entry, Frame, Kind, Lent, Owner, Page, PageRange, Prot, Refusal, Reply, Row, Run, State, Step,
     Target, Usage, Value, VmId, VmKind,
 };
-use std::alloc::{AllocError, Global};
+use std::alloc::Global;
 use std::process::Abort;
-use std::test::Fail;
 
 /// The coarsest runs once `count` pages from `first` on are leaves of the frames of their own numbers.
 fn with_leaves(
+    rt: &impl Abort,
     alloc: Global,
     runs: &[Run],
     first: u64,
     count: u64,
     state: State,
-) -> Result<Vec<Run>, AllocError>
+) -> Vec<Run>
     requires runs { AreSmall runs.now }
     requires coarsest { IsCoarsest runs.now }
     requires first { first < 2 ^ 40 }
     requires count { count < 2 ^ 20 }
-    ensures small { IfOk result (λ v. AreSmall v.items) }
-    ensures coarsest { IfOk result (λ v. IsCoarsest v.items) }
+    ensures small { AreSmall result.items }
+    ensures coarsest { IsCoarsest result.items }
 {
     let entry = Entry::Leaf {
         frame: Frame(first),
@@ -44,7 +44,7 @@ fn with_leaves(
         first: Page(first),
         count,
     };
-    runs::updated(alloc, runs, range, entry)
+    runs::updated(alloc, runs, range, entry).expect(rt, "memory")
 }
 
 /// A run of leaves of the frames of their own numbers.
@@ -76,21 +76,20 @@ fn expect_leaves(
     count: u64,
     state: State,
     wanted: &[Run],
-) -> Result<(), Fail>
+)
     requires runs { AreSmall runs.old.items }
     requires coarsest { IsCoarsest runs.old.items }
     requires first { first < 2 ^ 40 }
     requires count { count < 2 ^ 20 }
-    ensures small { OnOk result (AreSmall runs.new.items) }
-    ensures coarsest { OnOk result (IsCoarsest runs.new.items) }
+    ensures small { AreSmall runs.new.items }
+    ensures coarsest { IsCoarsest runs.new.items }
 {
-    *runs = with_leaves(alloc, runs.as_slice(), first, count, state)?;
+    *runs = with_leaves(rt, alloc, runs.as_slice(), first, count, state);
     assert!(rt; runs.as_slice() == wanted);
-    Ok(())
 }
 
 /// Compares the runs once 16 pages are Unmapped.
-fn expect_cut(rt: &impl Abort, alloc: Global, runs: &[Run], wanted: &[Run]) -> Result<(), Fail>
+fn expect_cut(rt: &impl Abort, alloc: Global, runs: &[Run], wanted: &[Run])
     requires small { AreSmall runs.now }
     requires coarsest { IsCoarsest runs.now }
 {
@@ -98,13 +97,12 @@ fn expect_cut(rt: &impl Abort, alloc: Global, runs: &[Run], wanted: &[Run]) -> R
         first: Page(0x40300),
         count: 0x10,
     };
-    let cut = runs::updated(alloc, runs, range, Entry::Unmapped)?;
+    let cut = runs::updated(alloc, runs, range, Entry::Unmapped).expect(rt, "memory");
     assert!(rt; cut.as_slice() == wanted);
-    Ok(())
 }
 
 #[test]
-fn splits_joins_and_cuts(rt: HostRuntime) -> Result<(), Fail> {
+fn splits_joins_and_cuts(rt: HostRuntime) {
     let alloc = rt.alloc();
     let (shared, owned) = (State::SharedOwned, State::Owned);
     let whole = [leaves(0x40200, 512, owned)];
@@ -115,14 +113,14 @@ fn splits_joins_and_cuts(rt: HostRuntime) -> Result<(), Fail> {
     ];
     let parts = [leaves(0x40200, 256, owned), leaves(0x40310, 240, owned)];
     let mut runs = Vec::new(alloc);
-    expect_leaves(&rt, alloc, &mut runs, 0x40200, 512, owned, whole.as_slice())?;
-    expect_leaves(&rt, alloc, &mut runs, 0x40300, 1, shared, split.as_slice())?;
-    expect_leaves(&rt, alloc, &mut runs, 0x40300, 1, owned, whole.as_slice())?;
-    expect_cut(&rt, alloc, runs.as_slice(), parts.as_slice())
+    expect_leaves(&rt, alloc, &mut runs, 0x40200, 512, owned, whole.as_slice());
+    expect_leaves(&rt, alloc, &mut runs, 0x40300, 1, shared, split.as_slice());
+    expect_leaves(&rt, alloc, &mut runs, 0x40300, 1, owned, whole.as_slice());
+    expect_cut(&rt, alloc, runs.as_slice(), parts.as_slice());
 }
 
 #[test]
-fn puts_runs_in_order(rt: HostRuntime) -> Result<(), Fail> {
+fn puts_runs_in_order(rt: HostRuntime) {
     let (shared, owned) = (State::SharedOwned, State::Owned);
     let runs = [
         leaves(0x40300, 1, shared),
@@ -134,9 +132,8 @@ fn puts_runs_in_order(rt: HostRuntime) -> Result<(), Fail> {
         leaves(0x40300, 1, shared),
         leaves(0x40301, 255, owned),
     ];
-    let ordered = runs::coarsest(rt.alloc(), runs.as_slice())?;
+    let ordered = runs::coarsest(rt.alloc(), runs.as_slice()).expect(&rt, "memory");
     assert!(rt; ordered.as_slice() == wanted.as_slice());
-    Ok(())
 }
 
 /// Compares the entry of a page.
@@ -147,9 +144,9 @@ fn expect_entry(rt: &impl Abort, runs: &[Run], page: u64, wanted: Entry)
 }
 
 #[test]
-fn gives_each_page_its_entry(rt: HostRuntime) -> Result<(), Fail> {
+fn gives_each_page_its_entry(rt: HostRuntime) {
     let none: [Run; 0] = [];
-    let runs = with_leaves(rt.alloc(), none.as_slice(), 0x40200, 512, State::Owned)?;
+    let runs = with_leaves(&rt, rt.alloc(), none.as_slice(), 0x40200, 512, State::Owned);
     let entry = Entry::Leaf {
         frame: Frame(0x402ff),
         prot: Prot::RWX,
@@ -159,26 +156,26 @@ fn gives_each_page_its_entry(rt: HostRuntime) -> Result<(), Fail> {
     expect_entry(&rt, runs.as_slice(), 0x402ff, entry);
     expect_entry(&rt, runs.as_slice(), 0x40400, Entry::Unmapped);
     expect_entry(&rt, runs.as_slice(), 0x401ff, Entry::Unmapped);
-    Ok(())
 }
 
 /// A tree of 39 bits with its root at 0x40600, in which nothing is mapped.
-fn bare_tree(alloc: Global) -> Result<Tree, AllocError>
-    ensures { IfOk result IsKeptTree }
+fn bare_tree(rt: &impl Abort, alloc: Global) -> Tree
+    ensures { IsKeptTree result }
 {
-    let mut tables = Vec::new(alloc);
-    tables.push(Table {
+    let root = Table {
         block: (3, 0),
         frame: 0x40600,
-    })?;
-    Ok(Tree {
+    };
+    let mut tables = Vec::new(alloc);
+    tables.push(root).expect(rt, "memory");
+    Tree {
         runs: Vec::new(alloc),
         tables,
-    })
+    }
 }
 
 /// The tables that a share of a page needs.
-fn needed(alloc: Global, tree: &Tree) -> Result<Vec<(u64, u64)>, AllocError>
+fn needed(rt: &impl Abort, alloc: Global, tree: &Tree) -> Vec<(u64, u64)>
     requires { IsKeptTree tree.now }
 {
     let entry = Entry::Leaf {
@@ -191,25 +188,24 @@ fn needed(alloc: Global, tree: &Tree) -> Result<Vec<(u64, u64)>, AllocError>
         first: Page(0x40100),
         count: 1,
     };
-    tree::needs(alloc, 2, tree, range, entry)
+    tree::needs(alloc, 2, tree, range, entry).expect(rt, "memory")
 }
 
 /// Compares the blocks for which tables are needed, and the frames of those that are there.
-fn expect_needed(rt: &impl Abort, alloc: Global, tree: &Tree) -> Result<(), Fail>
+fn expect_needed(rt: &impl Abort, alloc: Global, tree: &Tree)
     requires { IsKeptTree tree.now }
 {
     let both = [(2, 1), (1, 0x200)];
-    assert!(rt; needed(alloc, tree)?.as_slice() == both.as_slice());
+    assert!(rt; needed(rt, alloc, tree).as_slice() == both.as_slice());
     let tables = tree.tables.as_slice();
     assert!(rt; tree::table_at(tables, (3, 0)) == Some(0x40600));
     assert!(rt; tree::table_at(tables, (2, 1)).is_none());
-    Ok(())
 }
 
 #[test]
-fn needs_tables_of_one_page(rt: HostRuntime) -> Result<(), Fail> {
-    let tree = bare_tree(rt.alloc())?;
-    expect_needed(&rt, rt.alloc(), &tree)
+fn needs_tables_of_one_page(rt: HostRuntime) {
+    let tree = bare_tree(&rt, rt.alloc());
+    expect_needed(&rt, rt.alloc(), &tree);
 }
 
 /// Compares whether one word stands for a block, and whether nothing is mapped in it.
@@ -222,52 +218,47 @@ fn expect_block(rt: &impl Abort, runs: &[Run], block: (u64, u64), one_word: bool
 }
 
 /// Compares the blocks that two pages lie in.
-fn expect_blocks_on(rt: &impl Abort, alloc: Global) -> Result<(), Fail> {
+fn expect_blocks_on(rt: &impl Abort, alloc: Global) {
     let met = PageRange {
         first: Page(0x403ff),
         count: 2,
     };
     let three = [(2, 1), (1, 0x201), (1, 0x202)];
-    assert!(rt; blocks::blocks_on(alloc, 2, met)?.as_slice() == three.as_slice());
-    Ok(())
+    let found = blocks::blocks_on(alloc, 2, met).expect(rt, "memory");
+    assert!(rt; found.as_slice() == three.as_slice());
 }
 
 #[test]
-fn tells_blocks_of_one_word(rt: HostRuntime) -> Result<(), Fail> {
+fn tells_blocks_of_one_word(rt: HostRuntime) {
     let alloc = rt.alloc();
     let none: [Run; 0] = [];
-    let mut runs = with_leaves(alloc, none.as_slice(), 0x40200, 0x400, State::Owned)?;
+    let mut runs = with_leaves(&rt, alloc, none.as_slice(), 0x40200, 0x400, State::Owned);
     expect_block(&rt, runs.as_slice(), (1, 0x201), true, false);
-    runs = with_leaves(alloc, runs.as_slice(), 0x40300, 1, State::SharedOwned)?;
+    runs = with_leaves(&rt, alloc, runs.as_slice(), 0x40300, 1, State::SharedOwned);
     expect_block(&rt, runs.as_slice(), (1, 0x201), false, false);
     expect_block(&rt, runs.as_slice(), (1, 0x203), true, true);
-    expect_blocks_on(&rt, alloc)
+    expect_blocks_on(&rt, alloc);
 }
 
 /// The boot state of two CPUs and a carve-out of so many frames.
-fn booted(rt: &impl Abort, alloc: Global, count: u64, log: u64) -> Result<Ghost, Fail>
-    ensures kept { IfOk result IsKept }
-    ensures cpus { IfOk result (λ g. 0 < g.layout.config.cpus) }
+fn booted(rt: &impl Abort, alloc: Global, count: u64, log: u64) -> Ghost
+    ensures kept { IsKept result }
+    ensures cpus { 0 < result.layout.config.cpus }
 {
-    let map = memory(alloc, count)?;
-    Ok(started(alloc, map, 2, log)?.expect(rt, "enough frames"))
+    let map = memory(alloc, count).expect(rt, "a memory");
+    let made = started(alloc, map, 2, log).expect(rt, "memory");
+    made.expect(rt, "enough frames")
 }
 
 /// What a share by CPU 0 is foretold to answer at boot.
-fn share_at_boot(
-    rt: &impl Abort,
-    alloc: Global,
-    count: u64,
-    log: u64,
-    pfn: u64,
-) -> Result<Reply, Fail> {
-    let state = booted(rt, alloc, count, log)?;
-    let (said, _after) = predict(alloc, &state, 0, Step::ShareHyp { pfn })?;
-    Ok(said)
+fn share_at_boot(rt: &impl Abort, alloc: Global, count: u64, log: u64, pfn: u64) -> Reply {
+    let state = booted(rt, alloc, count, log);
+    let (said, _after) = predict(alloc, &state, 0, Step::ShareHyp { pfn }).expect(rt, "memory");
+    said
 }
 
 #[test]
-fn refuses_shares(rt: HostRuntime) -> Result<(), Fail> {
+fn refuses_shares(rt: HostRuntime) {
     for (count, log, pfn, why) in [
         (0x40, 9, 0x40600, Refusal::Perm),
         (0x40, 9, 0x9000, Refusal::Invalid),
@@ -276,48 +267,38 @@ fn refuses_shares(rt: HostRuntime) -> Result<(), Fail> {
         (7, 9, 0x40100, Refusal::NoPool),
         (0x40, 0, 0x40100, Refusal::LogFull),
     ] {
-        let said = share_at_boot(&rt, rt.alloc(), count, log, pfn)?;
+        let said = share_at_boot(&rt, rt.alloc(), count, log, pfn);
         assert!(rt; said == Reply::Refused(why));
     }
-    Ok(())
 }
 
 /// How many frames are free at boot, of a carve-out of so many. None where they are too few.
-fn free_at_boot(alloc: Global, count: u64) -> Result<Option<usize>, Fail> {
-    let map = memory(alloc, count)?;
-    match boot(alloc, &map, config(1, 9), 2)? {
-        Some(shared) => Ok(Some(shared.free.len())),
-        None => Ok(None),
-    }
+fn free_at_boot(rt: &impl Abort, alloc: Global, count: u64) -> Option<usize> {
+    let map = memory(alloc, count).expect(rt, "a memory");
+    let shared = boot(alloc, &map, config(1, 9), 2).expect(rt, "memory")?;
+    Some(shared.free.len())
 }
 
 #[test]
-fn boots_with_a_frame_for_each_table(rt: HostRuntime) -> Result<(), Fail> {
-    assert!(rt; free_at_boot(rt.alloc(), 5)?.is_none());
-    assert!(rt; free_at_boot(rt.alloc(), 6)? == Some(0));
-    Ok(())
+fn boots_with_a_frame_for_each_table(rt: HostRuntime) {
+    assert!(rt; free_at_boot(&rt, rt.alloc(), 5).is_none());
+    assert!(rt; free_at_boot(&rt, rt.alloc(), 6) == Some(0));
 }
 
 /// What a call answers that gives no value.
 const DONE: Reply = Reply::Done(Value::Nothing);
 
 /// Makes calls of CPU 0, one after another, and compares the replies.
-fn expect_replies(
-    rt: &impl Abort,
-    alloc: Global,
-    state: &mut Ghost,
-    steps: &[(Step, Reply)],
-) -> Result<(), Fail>
+fn expect_replies(rt: &impl Abort, alloc: Global, state: &mut Ghost, steps: &[(Step, Reply)])
     requires { IsKept state.old }
-    ensures { OnOk result (IsKept state.new) }
+    ensures { IsKept state.new }
 {
     for call in steps {
         let (step, reply) = *call;
         assert!(rt; state.layout.config.cpus > 0);
-        let said = state.advance(alloc, 0, step)?;
+        let said = state.advance(alloc, 0, step).expect(rt, "memory");
         assert!(rt; said == reply);
     }
-    Ok(())
 }
 
 /// The row of a frame, as it is answered.
@@ -357,19 +338,14 @@ fn opening(kind: VmKind) -> [(Step, Reply); 8] {
 }
 
 /// Makes calls once the first VM of a kind is open, and compares the replies.
-fn expect_after_opening(
-    rt: &impl Abort,
-    alloc: Global,
-    kind: VmKind,
-    steps: &[(Step, Reply)],
-) -> Result<(), Fail> {
-    let mut state = booted(rt, alloc, 0x40, 100)?;
-    expect_replies(rt, alloc, &mut state, opening(kind).as_slice())?;
-    expect_replies(rt, alloc, &mut state, steps)
+fn expect_after_opening(rt: &impl Abort, alloc: Global, kind: VmKind, steps: &[(Step, Reply)]) {
+    let mut state = booted(rt, alloc, 0x40, 100);
+    expect_replies(rt, alloc, &mut state, opening(kind).as_slice());
+    expect_replies(rt, alloc, &mut state, steps);
 }
 
 #[test]
-fn ends_a_protected_vm(rt: HostRuntime) -> Result<(), Fail> {
+fn ends_a_protected_vm(rt: HostRuntime) {
     let (pfn, gfn) = (0x40200, 0x10);
     let lent = Lent {
         owner: Owner(0),
@@ -413,11 +389,11 @@ fn ends_a_protected_vm(rt: HostRuntime) -> Result<(), Fail> {
         (Step::VmRelease, DONE),
         (again, Reply::Done(Value::Vm(next))),
     ];
-    expect_after_opening(&rt, rt.alloc(), VmKind::Protected, steps.as_slice())
+    expect_after_opening(&rt, rt.alloc(), VmKind::Protected, steps.as_slice());
 }
 
 #[test]
-fn shares_with_a_plain_vm(rt: HostRuntime) -> Result<(), Fail> {
+fn shares_with_a_plain_vm(rt: HostRuntime) {
     let (pfn, gfn) = (0x40200, 0x7ff_ffff);
     let prot = Prot::R;
     let lent = Lent {
@@ -447,5 +423,5 @@ fn shares_with_a_plain_vm(rt: HostRuntime) -> Result<(), Fail> {
         (Step::OwnerOf { pfn }, row(1, None, Usage::VmPool(0))),
         (Step::MarkDying, Reply::Refused(Refusal::NoVm)),
     ];
-    expect_after_opening(&rt, rt.alloc(), VmKind::Plain, steps.as_slice())
+    expect_after_opening(&rt, rt.alloc(), VmKind::Plain, steps.as_slice());
 }

@@ -12,12 +12,11 @@ use page_state::{Refusal, Reply, Step, Value, VmId, VmKind};
 use std::alloc::Global;
 use std::process::Abort;
 use std::sync::Wait;
-use std::test::Fail;
 
 /// A machine with a carve-out of 64 frames, and so many CPUs and logs of so many calls.
-fn new_machine(alloc: Global, cpus: u64, log: u64) -> Result<Machine<Global>, Fail> {
-    let map = memory(alloc, 0x40)?;
-    Ok(booted(alloc, &map, cpus, log)?)
+fn new_machine(rt: &impl Abort, alloc: Global, cpus: u64, log: u64) -> Machine<Global> {
+    let map = memory(alloc, 0x40).expect(rt, "a layout");
+    booted(alloc, &map, cpus, log).expect(rt, "a boot")
 }
 
 /// Makes a VM, and compares what is answered.

@@ -18,7 +18,6 @@ use linked_list_allocator::LocalHeap;
 use page_state::{Entry, Geometry, Page, PageRange};
 use std::alloc::{AllocError, Allocator, Global};
 use std::process::Abort;
-use std::test::Fail;
 use table_tree::{Reads, Tree};
 use walk_plan::{Spare, need, need_of_new, release, reserve};
 use walker::{set, set_with};
@@ -41,7 +40,11 @@ struct Bench<A: Allocator> {
 }
 
 /// A tree of its root alone, and a pool of `free` frames.
-fn empty_bench<A: Allocator + Copy>(global: Global, alloc: A, free: usize) -> Result<Bench<A>, Fail>
+fn empty_bench<A: Allocator + Copy>(
+    global: Global,
+    alloc: A,
+    free: usize,
+) -> Result<Bench<A>, AllocError>
     requires { free ≤ 16 }
     ensures bits { IfOk result (λ b. b.tree.geometry ≡ Bits39) }
     ensures distinct { IfOk result (λ b. (f : ℕ) → uses b.tree f + frame_count f b.pool.frames ≤ 1) }
@@ -172,8 +175,8 @@ const PAGES: Words = &[(&[1, 1], 0x40602003), (&[1, 1, 511], 0x00000000403ff7ff)
 const NOTHING: Words = &[(&[1], 0)];
 
 /// Changes of one tree, one after another: a block as one word, a page of it, and back.
-fn rows<A: Allocator + Copy>(rt: &impl Abort, global: Global, alloc: A) -> Result<(), Fail> {
-    let mut bench = empty_bench(global, alloc, 8)?;
+fn rows<A: Allocator + Copy>(rt: &impl Abort, global: Global, alloc: A) {
+    let mut bench = empty_bench(global, alloc, 8).expect(rt, "memory");
     let block = pages(0x40200, 512);
     let page = pages(0x40300, 1);
     let whole = leaf(0x40200, State::Owned);
@@ -185,18 +188,17 @@ fn rows<A: Allocator + Copy>(rt: &impl Abort, global: Global, alloc: A) -> Resul
     bench.expect_words(rt, block, whole, 0, PAGES, (3, 6));
     bench.expect_words(rt, block, Entry::Unmapped, 0, NOTHING, (1, 8));
     bench.expect_entry(rt, 0x40300, Entry::Unmapped);
-    Ok(())
 }
 
 #[test]
-fn rows_at_global(rt: HostRuntime) -> Result<(), Fail> {
-    rows(&rt, rt.alloc(), rt.alloc())
+fn rows_at_global(rt: HostRuntime) {
+    rows(&rt, rt.alloc(), rt.alloc());
 }
 
 #[test]
-fn rows_at_local_heap(rt: HostRuntime) -> Result<(), Fail> {
-    let heap = LocalHeap::new(rt.alloc(), 1 << 20)?;
-    rows(&rt, rt.alloc(), &heap)
+fn rows_at_local_heap(rt: HostRuntime) {
+    let heap = LocalHeap::new(rt.alloc(), 1 << 20).expect(&rt, "memory");
+    rows(&rt, rt.alloc(), &heap);
 }
 
 /// A change of an empty tree with so many free frames; compares its answer, the first page's entry, and tables, free frames and spares.
@@ -211,18 +213,17 @@ fn with_frames<A: Allocator + Copy>(
     wanted: Result<(), PoolFault>,
     found: Entry,
     left: (usize, usize, usize),
-) -> Result<(), Fail>
+)
     requires some { 1 ≤ range.count }
     requires within { range.first.0 + range.count ≤ 2 ^ 27 }
     requires entry_in { IsRangeEntry range.count entry }
     requires few { free ≤ 16 }
 {
-    let mut bench = empty_bench(global, alloc, free)?;
+    let mut bench = empty_bench(global, alloc, free).expect(rt, "memory");
     bench.expect_set(rt, range, entry, needed, wanted);
     bench.expect_entry(rt, range.first.0, found);
     bench.expect_frames(rt, left.0, left.1);
     expect_number(rt, bench.tree.spares(), left.2);
-    Ok(())
 }
 
 /// A change of an empty tree: refused where the pool has fewer frames than it needs, made where it has as many.
@@ -233,7 +234,7 @@ fn with_and_without<A: Allocator + Copy>(
     range: PageRange,
     entry: Entry,
     needed: usize,
-) -> Result<(), Fail>
+)
     requires some { 1 ≤ range.count }
     requires within { range.first.0 + range.count ≤ 2 ^ 27 }
     requires entry_in { IsRangeEntry range.count entry }
@@ -253,7 +254,7 @@ fn with_and_without<A: Allocator + Copy>(
             short,
             Entry::Unmapped,
             (1, free, 0),
-        )?;
+        );
     }
     with_frames(
         rt,
@@ -266,15 +267,15 @@ fn with_and_without<A: Allocator + Copy>(
         Ok(()),
         entry,
         (needed + 1, 0, 0),
-    )
+    );
 }
 
 /// What changes of empty trees need.
-fn needs<A: Allocator + Copy>(rt: &impl Abort, global: Global, alloc: A) -> Result<(), Fail> {
+fn needs<A: Allocator + Copy>(rt: &impl Abort, global: Global, alloc: A) {
     let block = pages(0x40200, 512);
-    with_and_without(rt, global, alloc, block, leaf(0x40200, State::Owned), 1)?;
-    with_and_without(rt, global, alloc, block, leaf(0x50001, State::Owned), 2)?;
-    with_and_without(rt, global, alloc, block, Entry::Unmapped, 0)?;
+    with_and_without(rt, global, alloc, block, leaf(0x40200, State::Owned), 1);
+    with_and_without(rt, global, alloc, block, leaf(0x50001, State::Owned), 2);
+    with_and_without(rt, global, alloc, block, Entry::Unmapped, 0);
     with_and_without(
         rt,
         global,
@@ -282,19 +283,19 @@ fn needs<A: Allocator + Copy>(rt: &impl Abort, global: Global, alloc: A) -> Resu
         pages(0x401ff, 2),
         leaf(0x401ff, State::Owned),
         3,
-    )?;
-    with_and_without(rt, global, alloc, pages(0x401ff, 2), Entry::Unmapped, 0)
+    );
+    with_and_without(rt, global, alloc, pages(0x401ff, 2), Entry::Unmapped, 0);
 }
 
 #[test]
-fn needs_at_global(rt: HostRuntime) -> Result<(), Fail> {
-    needs(&rt, rt.alloc(), rt.alloc())
+fn needs_at_global(rt: HostRuntime) {
+    needs(&rt, rt.alloc(), rt.alloc());
 }
 
 #[test]
-fn needs_at_local_heap(rt: HostRuntime) -> Result<(), Fail> {
-    let heap = LocalHeap::new(rt.alloc(), 1 << 20)?;
-    needs(&rt, rt.alloc(), &heap)
+fn needs_at_local_heap(rt: HostRuntime) {
+    let heap = LocalHeap::new(rt.alloc(), 1 << 20).expect(&rt, "memory");
+    needs(&rt, rt.alloc(), &heap);
 }
 
 /// Compares entries, words and frames once page 0x40100 alone is shared.
@@ -312,13 +313,12 @@ fn expect_shared(rt: &impl Abort, bench: &Bench<Global>, shared: Entry) {
 }
 
 #[test]
-fn share_words(rt: HostRuntime) -> Result<(), Fail> {
-    let mut bench = empty_bench(rt.alloc(), rt.alloc(), 3)?;
+fn share_words(rt: HostRuntime) {
+    let mut bench = empty_bench(rt.alloc(), rt.alloc(), 3).expect(&rt, "memory");
     let shared = leaf(0x40100, State::SharedOwned);
     bench.expect_entry(&rt, 0x40100, Entry::Unmapped);
     bench.expect_set(&rt, pages(0x40100, 1), shared, 2, Ok(()));
     expect_shared(&rt, &bench, shared);
-    Ok(())
 }
 
 /// Compares frames with those of the root and the first two tables.
@@ -327,8 +327,8 @@ fn expect_three(rt: &impl Abort, frames: &[Frame]) {
 }
 
 #[test]
-fn dismantled_frames(rt: HostRuntime) -> Result<(), Fail> {
-    let mut bench = empty_bench(rt.alloc(), rt.alloc(), 2)?;
+fn dismantled_frames(rt: HostRuntime) {
+    let mut bench = empty_bench(rt.alloc(), rt.alloc(), 2).expect(&rt, "memory");
     let shared = leaf(0x40100, State::SharedOwned);
     bench.expect_set(&rt, pages(0x40100, 1), shared, 2, Ok(()));
     let Bench { tree, .. } = bench;
@@ -336,12 +336,11 @@ fn dismantled_frames(rt: HostRuntime) -> Result<(), Fail> {
         Ok(frames) => expect_three(&rt, frames.as_slice()),
         Err(_) => assert!(rt; false),
     }
-    Ok(())
 }
 
 #[test]
-fn small_heap(rt: HostRuntime) -> Result<(), Fail> {
-    let heap = LocalHeap::new(rt.alloc(), 30000)?;
+fn small_heap(rt: HostRuntime) {
+    let heap = LocalHeap::new(rt.alloc(), 30000).expect(&rt, "memory");
     let owned = leaf(0x40100, State::Owned);
     with_frames(
         &rt,
@@ -354,7 +353,7 @@ fn small_heap(rt: HostRuntime) -> Result<(), Fail> {
         Err(PoolFault::NoMemory),
         Entry::Unmapped,
         (1, 2, 1),
-    )
+    );
 }
 
 /// The tables for a change, in hand.
@@ -389,18 +388,14 @@ fn in_hand<A: Allocator + Copy>(
 }
 
 /// Makes a change with the tables in hand, which takes no memory.
-fn expect_made(
-    rt: &impl Abort,
-    heap: &LocalHeap,
-    bench: &mut Bench<&LocalHeap>,
-) -> Result<(), PoolFault>
+fn expect_made(rt: &impl Abort, heap: &LocalHeap, bench: &mut Bench<&LocalHeap>)
     requires bits { bench.old.tree.geometry ≡ Bits39 }
     requires distinct { (f : ℕ) → uses bench.old.tree f + frame_count f bench.old.pool.frames ≤ 1 }
     requires covered { tables_of bench.old.tree + length bench.old.pool.frames ≤ bench.old.pool.room + 1 }
 {
     let range = pages(0x40100, 1);
     let shared = leaf(0x40100, State::SharedOwned);
-    let spare = in_hand(bench, range, shared)?;
+    let spare = in_hand(bench, range, shared).expect(rt, "tables in hand");
     let used = heap.used();
     set_with(
         &mut bench.tree,
@@ -413,27 +408,23 @@ fn expect_made(
     expect_number(rt, heap.used(), used);
     bench.expect_entry(rt, 0x40100, shared);
     expect_number(rt, bench.tree.tables(), 3);
-    Ok(())
 }
 
 #[test]
-fn set_from_hand(rt: HostRuntime) -> Result<(), Fail> {
-    let heap = LocalHeap::new(rt.alloc(), 1 << 20)?;
-    let mut bench = empty_bench(rt.alloc(), &heap, 2)?;
-    Ok(expect_made(&rt, &heap, &mut bench)?)
+fn set_from_hand(rt: HostRuntime) {
+    let heap = LocalHeap::new(rt.alloc(), 1 << 20).expect(&rt, "memory");
+    let mut bench = empty_bench(rt.alloc(), &heap, 2).expect(&rt, "memory");
+    expect_made(&rt, &heap, &mut bench);
 }
 
 /// Gives the tables in hand back, which frees no memory.
-fn expect_released(
-    rt: &impl Abort,
-    heap: &LocalHeap,
-    bench: &mut Bench<&LocalHeap>,
-) -> Result<(), PoolFault>
+fn expect_released(rt: &impl Abort, heap: &LocalHeap, bench: &mut Bench<&LocalHeap>)
     requires bits { bench.old.tree.geometry ≡ Bits39 }
     requires distinct { (f : ℕ) → uses bench.old.tree f + frame_count f bench.old.pool.frames ≤ 1 }
     requires covered { tables_of bench.old.tree + length bench.old.pool.frames ≤ bench.old.pool.room + 1 }
 {
-    let spare = in_hand(bench, pages(0x40100, 1), leaf(0x40100, State::Owned))?;
+    let asked = in_hand(bench, pages(0x40100, 1), leaf(0x40100, State::Owned));
+    let spare = asked.expect(rt, "tables in hand");
     let used = heap.used();
     expect_number(rt, bench.pool.free(), 0);
     release(spare, &mut bench.tree, &mut bench.pool);
@@ -441,27 +432,30 @@ fn expect_released(
     expect_number(rt, bench.tree.spares(), 2);
     expect_number(rt, bench.pool.free(), 2);
     assert!(rt; bench.pool.take() == Some(Frame(0x40601)));
-    Ok(())
 }
 
 #[test]
-fn released_from_hand(rt: HostRuntime) -> Result<(), Fail> {
-    let heap = LocalHeap::new(rt.alloc(), 1 << 20)?;
-    let mut bench = empty_bench(rt.alloc(), &heap, 2)?;
-    Ok(expect_released(&rt, &heap, &mut bench)?)
+fn released_from_hand(rt: HostRuntime) {
+    let heap = LocalHeap::new(rt.alloc(), 1 << 20).expect(&rt, "memory");
+    let mut bench = empty_bench(rt.alloc(), &heap, 2).expect(&rt, "memory");
+    expect_released(&rt, &heap, &mut bench);
 }
 
 /// Takes the rest of a heap, so that no request for memory is met.
-fn rest_of(global: Global, heap: &LocalHeap) -> Result<Vec<Vec<u8, &LocalHeap>>, AllocError> {
+fn rest_of<'a>(
+    rt: &impl Abort,
+    global: Global,
+    heap: &'a LocalHeap,
+) -> Vec<Vec<u8, &'a LocalHeap>> {
     let mut filling = Vec::new(global);
     for size in [4096usize, 64, 1] {
         for _block in 0..64usize {
             if let Ok(block) = Vec::<u8, _>::with_capacity(heap, size) {
-                filling.push(block)?;
+                filling.push(block).expect(rt, "memory");
             }
         }
     }
-    Ok(filling)
+    filling
 }
 
 /// Maps a page and unmaps it again, so that two tables are spares.
@@ -510,13 +504,12 @@ fn take_spares(
 }
 
 #[test]
-fn set_from_spares(rt: HostRuntime) -> Result<(), Fail> {
-    let heap = LocalHeap::new(rt.alloc(), 1 << 16)?;
-    let mut bench = empty_bench(rt.alloc(), &heap, 2)?;
+fn set_from_spares(rt: HostRuntime) {
+    let heap = LocalHeap::new(rt.alloc(), 1 << 16).expect(&rt, "memory");
+    let mut bench = empty_bench(rt.alloc(), &heap, 2).expect(&rt, "memory");
     let page = pages(0x40100, 1);
     let owned = leaf(0x40100, State::Owned);
     leave_spares(&rt, &mut bench, page, owned);
-    let _filling = rest_of(rt.alloc(), &heap)?;
+    let _filling = rest_of(&rt, rt.alloc(), &heap);
     take_spares(&rt, &heap, &mut bench, page, owned);
-    Ok(())
 }

@@ -5,21 +5,20 @@ use hyp_pool::{Pool, PoolFault};
 use page_state::Frame;
 use std::alloc::{AllocError, Global};
 use std::process::Abort;
-use std::test::Fail;
 
 /// The free frames of a pool.
-fn told(alloc: Global, pool: &Pool) -> Result<Vec<u64>, AllocError> {
+fn told(rt: &impl Abort, alloc: Global, pool: &Pool) -> Vec<u64> {
     let mut out = Vec::new(alloc);
     for frame in pool.frames() {
-        out.push(frame.0)?;
+        out.push(frame.0).expect(rt, "memory");
     }
-    Ok(out)
+    out
 }
 
 /// Compares the free frames.
-fn expect_told(rt: &impl Abort, alloc: Global, pool: &Pool, wanted: &[u64]) -> Result<(), Fail> {
-    assert_eq!(rt; told(alloc, pool)?.as_slice(), wanted);
-    Ok(())
+fn expect_told(rt: &impl Abort, alloc: Global, pool: &Pool, wanted: &[u64]) {
+    let found = told(rt, alloc, pool);
+    assert_eq!(rt; found.as_slice(), wanted);
 }
 
 /// Compares how many frames are free, and for how many there is room.
@@ -43,53 +42,50 @@ fn give_six_and_five(pool: &mut Pool)
 }
 
 #[test]
-fn takes_the_lowest_frames_all_or_none(rt: HostRuntime) -> Result<(), Fail> {
-    let mut pool = Pool::of(rt.alloc(), Frame(5), 3)?;
-    let taken = pool.take_many(rt.alloc(), 2)?;
+fn takes_the_lowest_frames_all_or_none(rt: HostRuntime) {
+    let mut pool = Pool::of(rt.alloc(), Frame(5), 3).expect(&rt, "memory");
+    let taken = pool.take_many(rt.alloc(), 2).expect(&rt, "frames");
     assert_eq!(rt; taken.as_slice(), [Frame(5), Frame(6)].as_slice());
     expect_counts(&rt, &pool, 1, 3);
     let fault = pool.take_many(rt.alloc(), 2).err();
     assert!(rt; fault == Some(PoolFault::NoPool));
     expect_counts(&rt, &pool, 1, 3);
-    let none = pool.take_many(rt.alloc(), 0)?;
+    let none = pool.take_many(rt.alloc(), 0).expect(&rt, "no frames");
     assert!(rt; none.is_empty());
-    Ok(())
 }
 
 #[test]
-fn takes_what_came_back_lowest_first(rt: HostRuntime) -> Result<(), Fail> {
-    let mut pool = Pool::of(rt.alloc(), Frame(5), 3)?;
-    let _taken = pool.take_many(rt.alloc(), 2)?;
+fn takes_what_came_back_lowest_first(rt: HostRuntime) {
+    let mut pool = Pool::of(rt.alloc(), Frame(5), 3).expect(&rt, "memory");
+    let _taken = pool.take_many(rt.alloc(), 2).expect(&rt, "frames");
     give_six_and_five(&mut pool);
-    expect_told(&rt, rt.alloc(), &pool, [5, 6, 7].as_slice())?;
+    expect_told(&rt, rt.alloc(), &pool, [5, 6, 7].as_slice());
     for number in 5..8 {
         expect_taken(&rt, &mut pool, Some(Frame(number)));
     }
     expect_taken(&rt, &mut pool, None);
     expect_counts(&rt, &pool, 0, 3);
-    Ok(())
 }
 
 #[test]
-fn grows_its_room(rt: HostRuntime) -> Result<(), Fail> {
-    let mut pool = Pool::of(rt.alloc(), Frame(5), 3)?;
-    pool.grow(2)?;
+fn grows_its_room(rt: HostRuntime) {
+    let mut pool = Pool::of(rt.alloc(), Frame(5), 3).expect(&rt, "memory");
+    pool.grow(2).expect(&rt, "memory");
     expect_counts(&rt, &pool, 3, 3);
-    pool.grow(100)?;
+    pool.grow(100).expect(&rt, "memory");
     expect_counts(&rt, &pool, 3, 100);
-    expect_told(&rt, rt.alloc(), &pool, [5, 6, 7].as_slice())
+    expect_told(&rt, rt.alloc(), &pool, [5, 6, 7].as_slice());
 }
 
 /// Compares the text of a fault.
-fn expect_text(rt: &impl Abort, alloc: Global, fault: PoolFault, wanted: &str) -> Result<(), Fail> {
-    let text = format!(in alloc; "{fault}")?;
+fn expect_text(rt: &impl Abort, alloc: Global, fault: PoolFault, wanted: &str) {
+    let text = format!(in alloc; "{fault}").expect(rt, "memory");
     assert_eq!(rt; text.as_str(), wanted);
-    Ok(())
 }
 
 #[test]
-fn tells_its_faults(rt: HostRuntime) -> Result<(), Fail> {
+fn tells_its_faults(rt: HostRuntime) {
     let alloc = rt.alloc();
-    expect_text(&rt, alloc, PoolFault::NoPool, "too few free frames")?;
-    expect_text(&rt, alloc, PoolFault::from(AllocError), "out of memory")
+    expect_text(&rt, alloc, PoolFault::NoPool, "too few free frames");
+    expect_text(&rt, alloc, PoolFault::from(AllocError), "out of memory");
 }

@@ -9,7 +9,6 @@ use linked_list_allocator::LocalHeap;
 use page_state::{Entry, Geometry, Page};
 use std::alloc::{AllocError, Global};
 use std::process::Abort;
-use std::test::Fail;
 use table_tree::{PathFault, RawTree, Reads, Slot, Table, Tree};
 
 const ROOT: Frame = Frame(0x40600);
@@ -36,11 +35,10 @@ fn expect_one_spare<'a>(rt: &impl Abort, heap: &'a LocalHeap, tree: &mut Tree<&'
 }
 
 #[test]
-fn small_heap(rt: HostRuntime) -> Result<(), Fail> {
-    let heap = LocalHeap::new(rt.alloc(), 30000)?;
-    let mut tree = Tree::new(&heap, ROOT, Geometry::Bits39)?;
+fn small_heap(rt: HostRuntime) {
+    let heap = LocalHeap::new(rt.alloc(), 30000).expect(&rt, "memory");
+    let mut tree = Tree::new(&heap, ROOT, Geometry::Bits39).expect(&rt, "a table");
     expect_one_spare(&rt, &heap, &mut tree);
-    Ok(())
 }
 
 /// Compares the word of a slot, or that a child stands there.
@@ -62,15 +60,15 @@ fn expect_slot(
 }
 
 /// A table in a box.
-fn child_of(alloc: Global) -> Result<Box<Table<Global>, Global>, AllocError> {
-    let table = Table::new(alloc, Frame(6))?;
-    Ok(Box::new(alloc, table)?)
+fn child_of(rt: &impl Abort, alloc: Global) -> Box<Table<Global>, Global> {
+    let table = Table::new(alloc, Frame(6)).expect(rt, "memory");
+    Box::new(alloc, table).expect(rt, "memory")
 }
 
 #[test]
-fn slots(rt: HostRuntime) -> Result<(), Fail> {
-    let child = child_of(rt.alloc())?;
-    let mut table = Table::new(rt.alloc(), Frame(5))?;
+fn slots(rt: HostRuntime) {
+    let child = child_of(&rt, rt.alloc());
+    let mut table = Table::new(rt.alloc(), Frame(5)).expect(&rt, "memory");
     let mut reads = Reads::new();
     table.put(3, 7);
     expect_slot(&rt, &table, 3, &mut reads, Some(7));
@@ -80,12 +78,11 @@ fn slots(rt: HostRuntime) -> Result<(), Fail> {
     assert!(rt; table.detach(3).is_none());
     assert!(rt; table.detach(4).is_some());
     expect_slot(&rt, &table, 4, &mut reads, Some(0));
-    Ok(())
 }
 
 #[test]
-fn words_at_paths(rt: HostRuntime) -> Result<(), Fail> {
-    let tree = Tree::new(rt.alloc(), ROOT, Geometry::Bits39)?;
+fn words_at_paths(rt: HostRuntime) {
+    let tree = Tree::new(rt.alloc(), ROOT, Geometry::Bits39).expect(&rt, "memory");
     let mut path = ArrayVec::new();
     expect_word(&rt, tree.word_at(&path), None);
     path.push(511);
@@ -95,7 +92,6 @@ fn words_at_paths(rt: HostRuntime) -> Result<(), Fail> {
     let mut over = ArrayVec::new();
     over.push(512);
     expect_word(&rt, tree.word_at(&over), None);
-    Ok(())
 }
 
 fn path(indices: &[u16]) -> ArrayVec<u16, 4> {
@@ -120,20 +116,16 @@ fn two_tables(alloc: Global) -> Result<RawTree<Global>, AllocError> {
 }
 
 /// A tree of its root alone, one of whose words is poked.
-fn one_table(alloc: Global, indices: &[u16], word: u64) -> Result<RawTree<Global>, Fail> {
-    let tree = Tree::new(alloc, ROOT, Geometry::Bits39)?;
-    match tree.poke(&path(indices), word) {
-        Ok(tree) => Ok(tree),
-        Err((_refused, fault)) => Err(Fail::from(fault)),
-    }
+fn one_table(rt: &impl Abort, alloc: Global, indices: &[u16], word: u64) -> RawTree<Global> {
+    let tree = Tree::new(alloc, ROOT, Geometry::Bits39).expect(rt, "memory");
+    let poked = tree.poke(&path(indices), word);
+    poked.ok().expect(rt, "a word there")
 }
 
 /// Pokes a word.
-fn poke(tree: RawTree<Global>, indices: &[u16], word: u64) -> Result<RawTree<Global>, PathFault> {
-    match tree.poke(&path(indices), word) {
-        Ok(tree) => Ok(tree),
-        Err((_refused, fault)) => Err(fault),
-    }
+fn poke(rt: &impl Abort, tree: RawTree<Global>, indices: &[u16], word: u64) -> RawTree<Global> {
+    let poked = tree.poke(&path(indices), word);
+    poked.ok().expect(rt, "a word there")
 }
 
 /// The word at a path.
@@ -142,45 +134,42 @@ fn word_at(tree: &RawTree<Global>, indices: &[u16]) -> Option<u64> {
 }
 
 #[test]
-fn poked_words(rt: HostRuntime) -> Result<(), Fail> {
-    let raw = one_table(rt.alloc(), &[3], 0x8)?;
+fn poked_words(rt: HostRuntime) {
+    let raw = one_table(&rt, rt.alloc(), &[3], 0x8);
     expect_word(&rt, word_at(&raw, &[3]), Some(8));
     expect_word(&rt, word_at(&raw, &[4]), Some(0));
     expect_entry(&rt, raw.look(Page(3 << 18)), Entry::Annotated(Owner(2)));
-    let raw = poke(raw, &[3], 0x6003)?;
+    let raw = poke(&rt, raw, &[3], 0x6003);
     expect_entry(&rt, raw.look(Page((3 << 18) + 5)), Entry::Malformed);
     expect_entry(&rt, raw.look(Page(4 << 18)), Entry::Unmapped);
     expect_word(&rt, word_at(&raw, &[3, 0]), None);
-    Ok(())
 }
 
 #[test]
-fn poked_children(rt: HostRuntime) -> Result<(), Fail> {
-    let tree = poke(two_tables(rt.alloc())?, &[3, 5], 0x8)?;
+fn poked_children(rt: HostRuntime) {
+    let tree = two_tables(rt.alloc()).expect(&rt, "memory");
+    let tree = poke(&rt, tree, &[3, 5], 0x8);
     expect_word(&rt, word_at(&tree, &[3]), Some(0x6003));
-    let tree = poke(tree, &[3], 0x6003)?;
+    let tree = poke(&rt, tree, &[3], 0x6003);
     expect_word(&rt, word_at(&tree, &[3, 5]), Some(8));
-    let tree = poke(tree, &[3], 0x7003)?;
+    let tree = poke(&rt, tree, &[3], 0x7003);
     expect_word(&rt, word_at(&tree, &[3, 5]), None);
     expect_word(&rt, word_at(&tree, &[3]), Some(0x7003));
-    Ok(())
 }
 
 /// Pokes at a path that a tree doesn't have, and gives the tree back.
-fn poke_badly(tree: RawTree<Global>, indices: &[u16]) -> Result<RawTree<Global>, Fail> {
-    match tree.poke(&path(indices), 1) {
-        Err((same, PathFault)) => Ok(same),
-        Ok(_) => Err(Fail::new("a good path")),
-    }
+fn poke_badly(rt: &impl Abort, tree: RawTree<Global>, indices: &[u16]) -> RawTree<Global> {
+    let refused = tree.poke(&path(indices), 1).err();
+    let (same, PathFault) = refused.expect(rt, "no word there");
+    same
 }
 
 #[test]
-fn path_faults(rt: HostRuntime) -> Result<(), Fail> {
-    let mut tree = two_tables(rt.alloc())?;
+fn path_faults(rt: HostRuntime) {
+    let mut tree = two_tables(rt.alloc()).expect(&rt, "memory");
     let paths: [&[u16]; 5] = [&[], &[512], &[4, 0], &[3, 512], &[3, 5, 0]];
     for bad in paths {
-        tree = poke_badly(tree, bad)?;
+        tree = poke_badly(&rt, tree, bad);
     }
     expect_word(&rt, word_at(&tree, &[3]), Some(0x6003));
-    Ok(())
 }

@@ -4,9 +4,8 @@ ghost use Rattle.run_list.specs.Targets.{HasFrameBelow};
 
 use maplets::Maplets;
 use page_state::{Frame, Kind, Page, PageRange, Prot, Run, State, Target};
-use std::alloc::{AllocError, Global};
+use std::alloc::Global;
 use std::process::Abort;
-use std::test::Fail;
 
 /// A run of leaves of the frames of their own numbers.
 fn leaves(first: u64, count: u64, state: State) -> Run
@@ -28,18 +27,17 @@ fn leaves(first: u64, count: u64, state: State) -> Run
 }
 
 /// Gives `count` pages from `first` on leaves of the frames of their own numbers.
-fn put_leaves(map: &mut Maplets, first: u64, count: u64, state: State) -> Result<(), AllocError>
+fn put_leaves(rt: &impl Abort, map: &mut Maplets, first: u64, count: u64, state: State)
     requires first_in { first < 2 ^ 40 }
     requires count_in { count < 2 ^ 20 }
 {
     let run = leaves(first, count, state);
-    map.reserve(2)?;
+    map.reserve(2).expect(rt, "memory");
     map.set(run.pages, Some(run.target));
-    Ok(())
 }
 
 /// Takes the targets of `count` pages from `first` on away.
-fn clear(map: &mut Maplets, first: u64, count: u64) -> Result<(), AllocError>
+fn clear(rt: &impl Abort, map: &mut Maplets, first: u64, count: u64)
     requires first_in { first < 2 ^ 40 }
     requires count_in { count < 2 ^ 20 }
 {
@@ -47,16 +45,14 @@ fn clear(map: &mut Maplets, first: u64, count: u64) -> Result<(), AllocError>
         first: Page(first),
         count,
     };
-    map.reserve(2)?;
+    map.reserve(2).expect(rt, "memory");
     map.set(range, None);
-    Ok(())
 }
 
 /// Compares the runs of a map, in order.
-fn expect_runs(rt: &impl Abort, alloc: Global, map: &Maplets, wanted: &[Run]) -> Result<(), Fail> {
-    let runs: Vec<Run> = map.iter().collect(alloc)?;
+fn expect_runs(rt: &impl Abort, alloc: Global, map: &Maplets, wanted: &[Run]) {
+    let runs: Vec<Run> = map.iter().collect(alloc).expect(rt, "memory");
     assert_eq!(rt; runs.as_slice(), wanted);
-    Ok(())
 }
 
 /// Compares the target of a page.
@@ -65,34 +61,33 @@ fn expect_at(rt: &impl Abort, map: &Maplets, page: u64, wanted: Option<Target>) 
 }
 
 #[test]
-fn splits_and_joins(rt: HostRuntime) -> Result<(), Fail> {
+fn splits_and_joins(rt: HostRuntime) {
     let mut map = Maplets::new(rt.alloc());
-    put_leaves(&mut map, 0x40200, 512, State::Owned)?;
-    put_leaves(&mut map, 0x40300, 1, State::SharedOwned)?;
+    put_leaves(&rt, &mut map, 0x40200, 512, State::Owned);
+    put_leaves(&rt, &mut map, 0x40300, 1, State::SharedOwned);
     let split = [
         leaves(0x40200, 256, State::Owned),
         leaves(0x40300, 1, State::SharedOwned),
         leaves(0x40301, 255, State::Owned),
     ];
-    expect_runs(&rt, rt.alloc(), &map, split.as_slice())?;
-    put_leaves(&mut map, 0x40300, 1, State::Owned)?;
+    expect_runs(&rt, rt.alloc(), &map, split.as_slice());
+    put_leaves(&rt, &mut map, 0x40300, 1, State::Owned);
     let joined = [leaves(0x40200, 512, State::Owned)];
-    expect_runs(&rt, rt.alloc(), &map, joined.as_slice())?;
-    clear(&mut map, 0x40300, 0x10)?;
+    expect_runs(&rt, rt.alloc(), &map, joined.as_slice());
+    clear(&rt, &mut map, 0x40300, 0x10);
     let cut = [
         leaves(0x40200, 256, State::Owned),
         leaves(0x40310, 240, State::Owned),
     ];
-    expect_runs(&rt, rt.alloc(), &map, cut.as_slice())
+    expect_runs(&rt, rt.alloc(), &map, cut.as_slice());
 }
 
 #[test]
-fn gives_each_page_its_target(rt: HostRuntime) -> Result<(), Fail> {
+fn gives_each_page_its_target(rt: HostRuntime) {
     let mut map = Maplets::new(rt.alloc());
-    put_leaves(&mut map, 0x40200, 512, State::Owned)?;
+    put_leaves(&rt, &mut map, 0x40200, 512, State::Owned);
     let target = leaves(0x402ff, 1, State::Owned).target;
     expect_at(&rt, &map, 0x402ff, Some(target));
     expect_at(&rt, &map, 0x40400, None);
     expect_at(&rt, &map, 0x401ff, None);
-    Ok(())
 }

@@ -1,5 +1,6 @@
 //! Words of descriptors, by level.
 use descriptor::{Desc, Frame, Kind, Level, Owner, Prot, State, block_pages_of, decode, encode};
+use std::process::Abort;
 
 fn leaf(frame: u64, prot: Prot, kind: Kind, state: State) -> Desc {
     Desc::Leaf {
@@ -12,6 +13,16 @@ fn leaf(frame: u64, prot: Prot, kind: Kind, state: State) -> Desc {
 
 fn owned(frame: u64) -> Desc {
     leaf(frame, Prot::RWX, Kind::Normal, State::Owned)
+}
+
+/// Compares what a word says at a level.
+fn expect_decoded(rt: &impl Abort, level: Level, word: u64, desc: Desc) {
+    assert_eq!(rt; decode(level, word), desc, "{word:#x} at {level:?}");
+}
+
+/// Compares the word of a descriptor at a level, or that it has none there.
+fn expect_encoded(rt: &impl Abort, level: Level, desc: Desc, word: Option<u64>) {
+    assert_eq!(rt; encode(level, &desc), word, "{desc:?} at {level:?}");
 }
 
 #[test]
@@ -31,7 +42,7 @@ fn decodes_at_each_level(rt: HostRuntime) {
         (Level::Two, 0x2, Desc::Malformed),
         (Level::Three, 0x8, Desc::Annotated(Owner(2))),
     ] {
-        assert_eq!(rt; decode(level, word), desc, "{word:#x} at {level:?}");
+        expect_decoded(&rt, level, word, desc);
     }
 }
 
@@ -48,8 +59,8 @@ fn reads_and_writes_pages(rt: HostRuntime) {
         (0x0040_0000_4010_077f, Prot::R, State::Owned),
     ] {
         let desc = leaf(0x40100, prot, Kind::Normal, state);
-        assert_eq!(rt; decode(Level::Three, word), desc, "{word:#x}");
-        assert_eq!(rt; encode(Level::Three, &desc), Some(word), "{word:#x}");
+        expect_decoded(&rt, Level::Three, word, desc);
+        expect_encoded(&rt, Level::Three, desc, Some(word));
     }
 }
 
@@ -61,11 +72,11 @@ fn reads_and_writes_device_pages(rt: HostRuntime) {
         (0x0000_0000_0900_07c7, Prot::RWX),
     ] {
         let desc = leaf(0x9000, prot, Kind::Device, State::Owned);
-        assert_eq!(rt; decode(Level::Three, word), desc, "{word:#x}");
-        assert_eq!(rt; encode(Level::Three, &desc), Some(word), "{word:#x}");
+        expect_decoded(&rt, Level::Three, word, desc);
+        expect_encoded(&rt, Level::Three, desc, Some(word));
     }
     let block = leaf(0x9000, Prot::RW, Kind::Device, State::Owned);
-    assert_eq!(rt; decode(Level::Two, 0x0040_0000_0900_07c5), block);
+    expect_decoded(&rt, Level::Two, 0x0040_0000_0900_07c5, block);
 }
 
 #[test]
@@ -83,12 +94,12 @@ fn refuses_malformed_pages(rt: HostRuntime) {
         0x400,
         0x6,
     ] {
-        assert_eq!(rt; decode(Level::Three, word), Desc::Malformed, "{word:#x}");
+        expect_decoded(&rt, Level::Three, word, Desc::Malformed);
     }
 }
 
 #[test]
 fn refuses_unaligned_block(rt: HostRuntime) {
-    assert_eq!(rt; encode(Level::Two, &owned(0x40100)), None);
+    expect_encoded(&rt, Level::Two, owned(0x40100), None);
     assert_eq!(rt; block_pages_of(Level::Two), 512);
 }

@@ -1,4 +1,5 @@
-ghost use Rattle.std.specs.Prelude.{◌≡◌, ◌<◌, ◌^◌, IfOk};
+ghost use Rattle.std.specs.Prelude.{◌≡◌, ◌<◌, ◌^◌};
+ghost use Rattle.page_state.specs.LayoutView.{layout_of};
 ghost use Rattle.ghost_trees.specs.KeptTrees.{IsKeptTree};
 ghost use Rattle.ghost_trees.specs.Small.{AreSmall};
 ghost use Rattle.ghost_spec.specs.States.{IsKept};
@@ -22,20 +23,26 @@ use ghost_trees::tree::{self, Table};
 use guest_steps::{CpuState, SharedPart};
 use linked_list_allocator::LocalHeap;
 use maplets::Maplets;
-use page_state::{Entry, Lent, Page, Refusal, Reply, Row, Run, Step, Usage, Value};
-use std::alloc::{AllocError, Allocator, Global};
+use page_state::{
+    Config, Entry, Lent, MemoryMap, Page, Refusal, Reply, Row, Run, Step, Usage, Value,
+};
+use std::alloc::{Allocator, Global};
 use std::process::Abort;
-use std::test::Fail;
 use table_tree::Tree;
 use world::{BootFault, Histories, MergeFault, RawWorld, World};
 
 /// What a call answers that gives no value.
 const DONE: Reply = Reply::Done(Value::Nothing);
 
+/// A world of a memory at boot.
+fn world_of(rt: &impl Abort, alloc: Global, map: &MemoryMap, config: Config) -> World<Global> {
+    World::boot(alloc, alloc, map, config).expect(rt, "a world")
+}
+
 /// A world with a carve-out of 64 frames, one CPU and such logs.
-fn booted(alloc: Global, log: u64) -> Result<World<Global>, Fail> {
-    let map = memory(alloc, 0x40)?;
-    Ok(World::boot(alloc, alloc, &map, config(1, log))?)
+fn booted(rt: &impl Abort, alloc: Global, log: u64) -> World<Global> {
+    let map = memory(alloc, 0x40).expect(rt, "a memory");
+    world_of(rt, alloc, &map, config(1, log))
 }
 
 /// Makes calls of CPU 0, one after another, and compares the replies.
@@ -54,7 +61,7 @@ fn expect_shared(rt: &impl Abort, world: &World<Global>, free: usize, calls: usi
 }
 
 #[test]
-fn shares_until_the_log_is_full(rt: HostRuntime) -> Result<(), Fail> {
+fn shares_until_the_log_is_full(rt: HostRuntime) {
     let pfn = 0x40100;
     let replies = [
         (Step::ShareHyp { pfn }, DONE),
@@ -68,22 +75,20 @@ fn shares_until_the_log_is_full(rt: HostRuntime) -> Result<(), Fail> {
             Reply::Refused(Refusal::LogFull),
         ),
     ];
-    let mut world = booted(rt.alloc(), 3)?;
+    let mut world = booted(&rt, rt.alloc(), 3);
     assert!(rt; world.cpus() == 1);
     expect_shared(&rt, &world, 58, 0);
     expect_replies(&rt, &mut world, replies.as_slice());
     expect_shared(&rt, &world, 56, 3);
-    Ok(())
 }
 
 #[test]
-fn refuses_small_carve_outs(rt: HostRuntime) -> Result<(), Fail> {
-    let map = memory(rt.alloc(), 5)?;
+fn refuses_small_carve_outs(rt: HostRuntime) {
+    let map = memory(rt.alloc(), 5).expect(&rt, "a memory");
     let world = World::boot(rt.alloc(), rt.alloc(), &map, config(1, 3));
     assert_eq!(rt; world.err(), Some(BootFault::CarveSmall));
-    let lists = boot::boot(rt.alloc(), &map, config(1, 3), DEPTH)?;
+    let lists = boot::boot(rt.alloc(), &map, config(1, 3), DEPTH).expect(&rt, "memory");
     assert!(rt; lists.is_none());
-    Ok(())
 }
 
 /// The levels below a root of 39 bits.
@@ -95,12 +100,12 @@ const PAGES: [u64; 11] = [
 ];
 
 /// The free frames of a world's pool, the lowest first.
-fn free_frames(alloc: Global, shared: &SharedPart<Global>) -> Result<Vec<u64>, AllocError> {
+fn free_frames(rt: &impl Abort, alloc: Global, shared: &SharedPart<Global>) -> Vec<u64> {
     let mut frames = Vec::new(alloc);
     for frame in shared.pool.frames() {
-        frames.push(frame.0)?;
+        frames.push(frame.0).expect(rt, "memory");
     }
-    Ok(frames)
+    frames
 }
 
 /// The indices that lead from the root to the word of a block below it.
@@ -138,15 +143,9 @@ fn compare_entries(rt: &impl Abort, kept: &Tree<Global>, runs: &[Run], offset: u
 }
 
 /// Compares maplets with the coarsest runs.
-fn compare_runs(
-    rt: &impl Abort,
-    alloc: Global,
-    maplets: &Maplets,
-    runs: &[Run],
-) -> Result<(), Fail> {
-    let told: Vec<Run> = maplets.iter().collect(alloc)?;
+fn compare_runs(rt: &impl Abort, alloc: Global, maplets: &Maplets, runs: &[Run]) {
+    let told: Vec<Run> = maplets.iter().collect(alloc).expect(rt, "memory");
     assert!(rt; told.as_slice() == runs);
-    Ok(())
 }
 
 /// Compares a tree and its maplets with those that lists stand for: the root, the other tables by the words that
@@ -157,28 +156,22 @@ fn compare_component(
     component: &Component<Global>,
     lists: &tree::Tree,
     offset: u64,
-) -> Result<(), Fail>
+)
     requires kept { IsKeptTree lists.now }
     requires offset { offset < 2 ^ 27 }
 {
     compare_tables(rt, component.tree(), lists.tables.as_slice());
     compare_entries(rt, component.tree(), lists.runs.as_slice(), offset);
-    compare_runs(rt, alloc, component.maplets(), lists.runs.as_slice())
+    compare_runs(rt, alloc, component.maplets(), lists.runs.as_slice());
 }
 
 /// Compares the pool, the rows and the log of a Shared part with those on lists.
-fn compare_shared(
-    rt: &impl Abort,
-    alloc: Global,
-    shared: &SharedPart<Global>,
-    lists: &Ghost,
-) -> Result<(), Fail> {
+fn compare_shared(rt: &impl Abort, alloc: Global, shared: &SharedPart<Global>, lists: &Ghost) {
     assert!(rt; shared.pool.free() == lists.shared.free.len());
     assert!(rt; shared.rows.runs() == lists.shared.rows.runs());
     assert!(rt; shared.log.room() == lists.rooms.shared);
-    let free = free_frames(alloc, shared)?;
+    let free = free_frames(rt, alloc, shared);
     assert!(rt; free.as_slice() == lists.shared.free.as_slice());
-    Ok(())
 }
 
 /// Compares CPU 0 with that on lists: what its log has room for, and what its hand holds.
@@ -188,14 +181,26 @@ fn compare_cpu(rt: &impl Abort, cpu: &CpuState, lists: &Ghost) {
 }
 
 /// Compares the Shared part and CPU 0 of a world with a state on lists.
-fn compare(rt: &impl Abort, alloc: Global, world: &World<Global>, lists: &Ghost) -> Result<(), Fail>
+fn compare(rt: &impl Abort, alloc: Global, world: &World<Global>, lists: &Ghost)
     requires { IsKept lists.now }
 {
     let shared = world.parts().shared();
-    compare_component(rt, alloc, &shared.host, &lists.shared.host, 0)?;
-    compare_component(rt, alloc, &shared.hyp, &lists.shared.hyp, 0x400_0000)?;
+    compare_component(rt, alloc, &shared.host, &lists.shared.host, 0);
+    compare_component(rt, alloc, &shared.hyp, &lists.shared.hyp, 0x400_0000);
     compare_cpu(rt, world.parts().cpus.first().expect(rt, "a CPU"), lists);
-    compare_shared(rt, alloc, shared, lists)
+    compare_shared(rt, alloc, shared, lists);
+}
+
+/// What a step on lists is foretold to answer. The lists become what stands after it.
+fn foretell(rt: &impl Abort, alloc: Global, lists: &mut Ghost, cpu: u64, step: Step) -> Reply
+    requires cpu { cpu < lists.old.layout.config.cpus }
+    requires kept { IsKept lists.old }
+    ensures layout { layout_of lists.new.layout ≡ layout_of lists.old.layout }
+    ensures kept { IsKept lists.new }
+{
+    let (foretold, after) = predict(alloc, lists, cpu, step).expect(rt, "memory");
+    *lists = after;
+    foretold
 }
 
 /// Makes one step of CPU 0 on a world and on lists, and compares the replies and what stands afterwards.
@@ -205,30 +210,29 @@ fn step_on_both(
     world: &mut World<Global>,
     lists: &mut Ghost,
     step: Step,
-) -> Result<Reply, Fail>
+) -> Reply
     requires cpu { 0 < world.old.parts.layout.config.cpus }
     requires list_cpu { 0 < lists.old.layout.config.cpus }
     requires kept { IsKept lists.old }
     ensures layout { world.new.parts.layout ≡ world.old.parts.layout }
-    ensures list_cpu { IfOk result (λ r. 0 < lists.new.layout.config.cpus) }
-    ensures kept { IfOk result (λ r. IsKept lists.new) }
+    ensures list_cpu { 0 < lists.new.layout.config.cpus }
+    ensures kept { IsKept lists.new }
 {
     let reply = world.step(0, step);
-    let (foretold, after) = predict(alloc, lists, 0, step)?;
-    *lists = after;
+    let foretold = foretell(rt, alloc, lists, 0, step);
     assert!(rt; reply == foretold);
-    compare(rt, alloc, world, lists)?;
-    Ok(reply)
+    compare(rt, alloc, world, lists);
+    reply
 }
 
 /// The boot state on lists of the memory and the configuration with these logs.
-fn started(rt: &impl Abort, alloc: Global, frames: u64, log: u64) -> Result<Ghost, Fail>
-    ensures kept { IfOk result IsKept }
-    ensures cpu { IfOk result (λ g. 0 < g.layout.config.cpus) }
+fn started(rt: &impl Abort, alloc: Global, frames: u64, log: u64) -> Ghost
+    ensures kept { IsKept result }
+    ensures cpu { 0 < result.layout.config.cpus }
 {
-    let map = memory(alloc, frames)?;
-    let lists = sample::started(alloc, map, 1, log)?;
-    Ok(lists.expect(rt, "enough frames"))
+    let map = memory(alloc, frames).expect(rt, "a memory");
+    let lists = sample::started(alloc, map, 1, log).expect(rt, "memory");
+    lists.expect(rt, "enough frames")
 }
 
 /// Shares frames on a world and on lists, and compares the replies with these.
@@ -238,35 +242,28 @@ fn expect_shares_on_both(
     world: &mut World<Global>,
     lists: &mut Ghost,
     shares: &[(u64, Reply)],
-) -> Result<(), Fail>
+)
     requires { IsKept lists.old }
 {
-    compare(rt, alloc, world, lists)?;
+    compare(rt, alloc, world, lists);
     for share in shares {
         let (pfn, reply) = *share;
         assert!(rt; world.cpus() > 0 && lists.layout.config.cpus > 0);
-        let said = step_on_both(rt, alloc, world, lists, Step::ShareHyp { pfn })?;
+        let said = step_on_both(rt, alloc, world, lists, Step::ShareHyp { pfn });
         assert!(rt; said == reply);
     }
-    Ok(())
 }
 
 /// Shares frames on a world and on lists with such a carve-out and such logs, and compares the replies with these.
-fn expect_shares(
-    rt: &impl Abort,
-    alloc: Global,
-    frames: u64,
-    log: u64,
-    shares: &[(u64, Reply)],
-) -> Result<(), Fail> {
-    let map = memory(alloc, frames)?;
-    let mut lists = started(rt, alloc, frames, log)?;
-    let mut world = World::boot(alloc, alloc, &map, config(1, log))?;
-    expect_shares_on_both(rt, alloc, &mut world, &mut lists, shares)
+fn expect_shares(rt: &impl Abort, alloc: Global, frames: u64, log: u64, shares: &[(u64, Reply)]) {
+    let map = memory(alloc, frames).expect(rt, "a memory");
+    let mut lists = started(rt, alloc, frames, log);
+    let mut world = world_of(rt, alloc, &map, config(1, log));
+    expect_shares_on_both(rt, alloc, &mut world, &mut lists, shares);
 }
 
 #[test]
-fn shares_as_the_definitions_say(rt: HostRuntime) -> Result<(), Fail> {
+fn shares_as_the_definitions_say(rt: HostRuntime) {
     let shares = [
         (0x40100, DONE),
         (0x40100, Reply::Refused(Refusal::Perm)),
@@ -275,16 +272,16 @@ fn shares_as_the_definitions_say(rt: HostRuntime) -> Result<(), Fail> {
         (0x40101, DONE),
         (0x40102, Reply::Refused(Refusal::LogFull)),
     ];
-    expect_shares(&rt, rt.alloc(), 0x40, 5, shares.as_slice())
+    expect_shares(&rt, rt.alloc(), 0x40, 5, shares.as_slice());
 }
 
 #[test]
-fn shares_without_frames_as_the_definitions_say(rt: HostRuntime) -> Result<(), Fail> {
+fn shares_without_frames_as_the_definitions_say(rt: HostRuntime) {
     let shares = [
         (0x40100, Reply::Refused(Refusal::NoPool)),
         (0x40600, Reply::Refused(Refusal::Perm)),
     ];
-    expect_shares(&rt, rt.alloc(), 6, 3, shares.as_slice())
+    expect_shares(&rt, rt.alloc(), 6, 3, shares.as_slice());
 }
 
 /// The entry of a page of frame 0x40201.
@@ -298,7 +295,7 @@ fn entry(prot: Prot, state: State) -> Reply {
 }
 
 #[test]
-fn makes_each_call(rt: HostRuntime) -> Result<(), Fail> {
+fn makes_each_call(rt: HostRuntime) {
     let (pfn, page) = (0x40201, 0x404_0201);
     let owned = entry(Prot::RWX, State::Owned);
     let borrowed = entry(Prot::RW, State::SharedBorrowed);
@@ -322,9 +319,8 @@ fn makes_each_call(rt: HostRuntime) -> Result<(), Fail> {
         (Step::Fund { pfn, n: 512 }, DONE),
         (Step::Unfund, DONE),
     ];
-    let mut world = booted(rt.alloc(), 10)?;
+    let mut world = booted(&rt, rt.alloc(), 10);
     expect_replies(&rt, &mut world, calls.as_slice());
-    Ok(())
 }
 
 /// What a step that wants memory must leave as it was: free frames, tables of both trees, runs of both lists, and the entries
@@ -351,23 +347,25 @@ fn seen<A: Allocator>(
 
 /// The blocks that leave a heap room of so many tables, and of nothing else.
 fn filling<'a>(
+    rt: &impl Abort,
     global: Global,
     heap: &'a LocalHeap,
     tables: usize,
-) -> Result<Vec<Vec<u8, &'a LocalHeap>>, AllocError> {
+) -> Vec<Vec<u8, &'a LocalHeap>> {
     let mut kept = Vec::new(global);
     for _table in 0..tables {
-        kept.push(Vec::<u8, _>::with_capacity(heap, 12_544)?)?;
+        let room = Vec::<u8, _>::with_capacity(heap, 12_544).expect(rt, "a heap's memory");
+        kept.push(room).expect(rt, "memory");
     }
     let mut blocks = Vec::new(global);
     for size in [65536usize, 4096, 256, 16] {
         for _block in 0..64usize {
             if let Ok(block) = Vec::<u8, _>::with_capacity(heap, size) {
-                blocks.push(block)?;
+                blocks.push(block).expect(rt, "memory");
             }
         }
     }
-    Ok(blocks)
+    blocks
 }
 
 /// Makes a step of CPU 0, and compares the reply.
@@ -386,8 +384,8 @@ fn expect_with_few_tables(
     step: Step,
     tables: usize,
     refused: bool,
-) -> Result<(), Fail> {
-    let filling = filling(global, heap, tables)?;
+) {
+    let filling = filling(rt, global, heap, tables);
     if refused {
         let before = seen(world.parts().shared(), 0x40100);
         expect_step(rt, world, step, Reply::Refused(Refusal::NoMemory));
@@ -395,25 +393,18 @@ fn expect_with_few_tables(
         drop(filling);
     }
     expect_step(rt, world, step, DONE);
-    Ok(())
 }
 
 /// The same in a world of its own.
-fn with_few_tables(
-    rt: &impl Abort,
-    global: Global,
-    step: Step,
-    tables: usize,
-    refused: bool,
-) -> Result<(), Fail> {
-    let map = memory(global, 0x40)?;
-    let heap = LocalHeap::new(global, 1 << 20)?;
-    let mut world = World::boot(global, &heap, &map, config(1, 3))?;
-    expect_with_few_tables(rt, global, &heap, &mut world, step, tables, refused)
+fn with_few_tables(rt: &impl Abort, global: Global, step: Step, tables: usize, refused: bool) {
+    let map = memory(global, 0x40).expect(rt, "a memory");
+    let heap = LocalHeap::new(global, 1 << 20).expect(rt, "memory");
+    let mut world = World::boot(global, &heap, &map, config(1, 3)).expect(rt, "a world");
+    expect_with_few_tables(rt, global, &heap, &mut world, step, tables, refused);
 }
 
 #[test]
-fn wants_memory_for_each_table(rt: HostRuntime) -> Result<(), Fail> {
+fn wants_memory_for_each_table(rt: HostRuntime) {
     let share = Step::ShareHyp { pfn: 0x40100 };
     let donation = Step::DonateHyp {
         pfn: 0x40100,
@@ -421,11 +412,10 @@ fn wants_memory_for_each_table(rt: HostRuntime) -> Result<(), Fail> {
     };
     let abort = Step::HostAbort { page: 0x40500 };
     for tables in 0..3usize {
-        with_few_tables(&rt, rt.alloc(), share, tables, tables < 2)?;
+        with_few_tables(&rt, rt.alloc(), share, tables, tables < 2);
     }
     for tables in 0..5usize {
-        with_few_tables(&rt, rt.alloc(), donation, tables, tables < 4)?;
+        with_few_tables(&rt, rt.alloc(), donation, tables, tables < 4);
     }
-    with_few_tables(&rt, rt.alloc(), abort, 0, false)?;
-    Ok(())
+    with_few_tables(&rt, rt.alloc(), abort, 0, false);
 }

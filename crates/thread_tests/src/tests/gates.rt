@@ -96,24 +96,23 @@ fn ask_both(
 pub(super) const UNMAPPED: Reply = Reply::Done(Value::Entry(Entry::Unmapped));
 
 /// Both calls on a machine of its own.
-fn expect_both<R: Wait + Abort>(rt: &R, alloc: Global, vm: VmId, reply: Reply) -> Result<(), Fail> {
-    let mut machine = new_machine(alloc, 2, 64)?;
+fn expect_both<R: Wait + Abort>(rt: &R, alloc: Global, vm: VmId, reply: Reply) {
+    let mut machine = new_machine(rt, alloc, 2, 64);
     let mut zero = machine.pass(0).expect(rt, "the pass of CPU 0");
     let mut one = machine.pass(1).expect(rt, "the pass of CPU 1");
     make_both(rt, &machine, &mut zero, &mut one);
     let (first, second) = ask_both(&machine, &mut zero, one, vm);
     assert_eq!(rt; first, UNMAPPED);
     assert!(rt; second == Some(reply));
-    Ok(())
 }
 
 #[test]
-fn gate_two_vms(rt: HostRuntime) -> Result<(), Fail> {
-    expect_both(&rt, rt.alloc(), SECOND, UNMAPPED)
+fn gate_two_vms(rt: HostRuntime) {
+    expect_both(&rt, rt.alloc(), SECOND, UNMAPPED);
 }
 
 #[test]
-fn gate_one_vm(rt: HostRuntime) -> Result<(), Fail> {
+fn gate_one_vm(rt: HostRuntime) {
     let contended = Reply::Refused(Refusal::Contended);
-    expect_both(&rt, rt.alloc(), FIRST, contended)
+    expect_both(&rt, rt.alloc(), FIRST, contended);
 }

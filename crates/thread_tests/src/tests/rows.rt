@@ -83,19 +83,18 @@ pub(super) fn make_both<R: Wait + Abort>(
 }
 
 #[test]
-fn makes_vms(rt: HostRuntime) -> Result<(), Fail> {
-    let mut machine = new_machine(rt.alloc(), 2, 64)?;
+fn makes_vms(rt: HostRuntime) {
+    let mut machine = new_machine(&rt, rt.alloc(), 2, 64);
     let mut zero = machine.pass(0).expect(&rt, "the pass of CPU 0");
     let mut one = machine.pass(1).expect(&rt, "the pass of CPU 1");
     assert!(rt; machine.pass(0).is_none());
     assert!(rt; machine.pass(2).is_none());
     make_both(&rt, &machine, &mut zero, &mut one);
-    Ok(())
 }
 
 #[test]
-fn shares_once(rt: HostRuntime) -> Result<(), Fail> {
-    let mut machine = new_machine(rt.alloc(), 2, 64)?;
+fn shares_once(rt: HostRuntime) {
+    let mut machine = new_machine(&rt, rt.alloc(), 2, 64);
     let mut zero = machine.pass(0).expect(&rt, "the pass of CPU 0");
     let mut one = machine.pass(1).expect(&rt, "the pass of CPU 1");
     let share = Step::ShareHyp { pfn: 0x40100 };
@@ -103,5 +102,4 @@ fn shares_once(rt: HostRuntime) -> Result<(), Fail> {
     expect_try(&rt, &machine, &mut zero, share, done);
     let perm = Reply::Refused(Refusal::Perm);
     expect_try(&rt, &machine, &mut one, share, perm);
-    Ok(())
 }

@@ -9,6 +9,7 @@ use super::rows::make_both;
 use super::*;
 use ghost_spec::state::Ghost;
 use ghost_tests::sample::started;
+use std::alloc::AllocError;
 use std::sync::atomic::{AtomicU64, Ordering};
 use std::thread;
 use std::thread::{Threads, join};
@@ -69,8 +70,8 @@ fn ask_beside(machine: &Machine<Global>, pass: CpuPass<Global>, gate: &Held) -> 
 }
 
 #[test]
-fn gate_two_threads(rt: HostRuntime) -> Result<(), Fail> {
-    let mut machine = new_machine(rt.alloc(), 2, 64)?;
+fn gate_two_threads(rt: HostRuntime) {
+    let mut machine = new_machine(&rt, rt.alloc(), 2, 64);
     let mut zero = machine.pass(0).expect(&rt, "the pass of CPU 0");
     let mut one = machine.pass(1).expect(&rt, "the pass of CPU 1");
     make_both(&rt, &machine, &mut zero, &mut one);
@@ -88,7 +89,6 @@ fn gate_two_threads(rt: HostRuntime) -> Result<(), Fail> {
     assert_eq!(rt; first, UNMAPPED);
     assert!(rt; second == Some(UNMAPPED));
     assert_eq!(rt; gate.late.load(Ordering::SeqCst), 0);
-    Ok(())
 }
 
 /// The CPUs of the many calls.
@@ -220,7 +220,7 @@ fn ready_passes<R: Wait + Abort>(
     rt: &R,
     alloc: Global,
     machine: &mut Machine<Global>,
-) -> Result<Vec<CpuPass<Global>>, Fail>
+) -> Result<Vec<CpuPass<Global>>, AllocError>
     ensures table { machine.new.table ≡ machine.old.table }
     ensures passes { IfOk result (λ v. AreOf machine.new.table v.items) }
 {
@@ -240,7 +240,7 @@ fn agrees(
     alloc: Global,
     lists: &mut Ghost,
     call: &(u64, Step, Reply),
-) -> Result<(), Fail>
+) -> Result<(), AllocError>
     requires kept { IsKept lists.old }
     ensures kept { OnOk result (IsKept lists.new) }
 {
@@ -252,27 +252,25 @@ fn agrees(
 }
 
 /// Makes the calls of one list on lists, from boot on.
-fn all_agree(rt: &impl Abort, alloc: Global, calls: &[(u64, Step, Reply)]) -> Result<(), Fail> {
-    let map = memory(alloc, 0x40)?;
-    let mut lists = started(alloc, map, CPUS, LOG)?.expect(rt, "enough frames");
+fn all_agree(rt: &impl Abort, alloc: Global, calls: &[(u64, Step, Reply)]) {
+    let map = memory(alloc, 0x40).expect(rt, "a layout");
+    let begun = started(alloc, map, CPUS, LOG).expect(rt, "memory");
+    let mut lists = begun.expect(rt, "enough frames");
     for call in calls {
-        agrees(rt, alloc, &mut lists, call)?;
+        agrees(rt, alloc, &mut lists, call).expect(rt, "memory");
     }
-    Ok(())
 }
 
 #[test]
-fn eight_cpus(rt: HostRuntime) -> Result<(), Fail> {
+fn eight_cpus(rt: HostRuntime) {
     let alloc = rt.alloc();
-    let mut machine = new_machine(alloc, CPUS, LOG)?;
-    let mut passes = ready_passes(&rt, alloc, &mut machine)?;
+    let mut machine = new_machine(&rt, alloc, CPUS, LOG);
+    let mut passes = ready_passes(&rt, alloc, &mut machine).expect(&rt, "memory");
     make_all(&rt, &machine, passes.as_mut_slice());
     let ended = machine.shutdown(alloc, passes);
-    let Ok(world) = ended else {
-        return Err(Fail::from("a machine that isn't shut down"));
-    };
-    let logs = world.histories(alloc)?;
-    let calls = World::<Global>::merge(alloc, &logs)?;
+    let world = ended.ok().expect(&rt, "a machine that is shut down");
+    let logs = world.histories(alloc).expect(&rt, "memory");
+    let calls = World::<Global>::merge(alloc, &logs).expect(&rt, "merged logs");
     assert_eq!(rt; calls.len() as u64, LOG);
-    all_agree(&rt, alloc, calls.as_slice())
+    all_agree(&rt, alloc, calls.as_slice());
 }

@@ -1,18 +1,17 @@
 //! Steps of all calls from fixed seeds, made by a world and foretold by the plain program.
-ghost use Rattle.std.specs.Prelude.{◌<◌, ◌^◌, IfOk, OnOk};
+ghost use Rattle.std.specs.Prelude.{◌<◌, ◌^◌};
 ghost use Rattle.ghost_spec.specs.States.{IsKept};
 
-use super::{compare, compare_runs};
+use super::{compare, compare_runs, foretell, world_of};
 use crate::numbers::Numbers;
 use ghost_spec::parts::{GhostGuest, GhostPhase};
-use ghost_spec::state::{Ghost, predict};
+use ghost_spec::state::Ghost;
 use ghost_tests::sample::{self, region};
 use guest_component::Guest;
 use page_state::{MemoryMap, Page, PageRange, Prot, RegionKind, Step, VmId, VmKind};
 use std::alloc::Global;
 use std::ops::Range;
 use std::process::Abort;
-use std::test::Fail;
 use world::World;
 
 /// The pairs of steps of each.
@@ -199,7 +198,7 @@ impl Numbers {
 
 /// Memory with a carve-out of 12 frames, so that the pool runs out now and then, and a device. It has whole blocks of 512
 /// pages, or none, where a page that the host touches is then mapped alone.
-fn memory(alloc: Global, has_blocks: bool) -> Result<MemoryMap, Fail> {
+fn memory(rt: &impl Abort, alloc: Global, has_blocks: bool) -> MemoryMap {
     let (first, count) = if has_blocks {
         (0x40000, 0x800)
     } else {
@@ -213,49 +212,38 @@ fn memory(alloc: Global, has_blocks: bool) -> Result<MemoryMap, Fail> {
         first: Page(0x40180),
         count: 12,
     };
-    Ok(MemoryMap::new(alloc, regions.as_slice(), carve)?)
+    MemoryMap::new(alloc, regions.as_slice(), carve).expect(rt, "a memory")
 }
 
 /// The boot state on lists.
-fn started(rt: &impl Abort, alloc: Global, has_blocks: bool) -> Result<Ghost, Fail>
-    ensures { IfOk result IsKept }
+fn started(rt: &impl Abort, alloc: Global, has_blocks: bool) -> Ghost
+    ensures { IsKept result }
 {
-    let map = memory(alloc, has_blocks)?;
-    let lists = sample::started(alloc, map, 2, 40)?;
-    Ok(lists.expect(rt, "enough frames"))
+    let map = memory(rt, alloc, has_blocks);
+    let lists = sample::started(alloc, map, 2, 40).expect(rt, "memory");
+    lists.expect(rt, "enough frames")
 }
 
 /// Compares a guest with that of a state on lists: generation, tables, free frames and the runs of its map.
-fn compare_guest(
-    rt: &impl Abort,
-    alloc: Global,
-    guest: &Guest<Global>,
-    lists: &GhostGuest,
-) -> Result<(), Fail> {
+fn compare_guest(rt: &impl Abort, alloc: Global, guest: &Guest<Global>, lists: &GhostGuest) {
     assert!(rt; guest.tables() == lists.tree.tables.len());
     assert!(rt; guest.free() == lists.free.len());
     let Some(body) = guest.body() else {
         assert!(rt; matches!(lists.phase, GhostPhase::Empty));
         assert!(rt; lists.tree.runs.is_empty());
-        return Ok(());
+        return;
     };
     assert!(rt; body.generation == lists.generation);
-    compare_runs(rt, alloc, body.map.maplets(), lists.tree.runs.as_slice())
+    compare_runs(rt, alloc, body.map.maplets(), lists.tree.runs.as_slice());
 }
 
 /// Compares all guests.
-fn compare_guests(
-    rt: &impl Abort,
-    alloc: Global,
-    world: &World<Global>,
-    lists: &Ghost,
-) -> Result<(), Fail> {
+fn compare_guests(rt: &impl Abort, alloc: Global, world: &World<Global>, lists: &Ghost) {
     for slot in 0..64usize {
         let part = world.parts().guests.get(slot).expect(rt, "a Guest part");
         let told = lists.guests.get(slot).expect(rt, "a guest");
-        compare_guest(rt, alloc, &part.guest, told)?;
+        compare_guest(rt, alloc, &part.guest, told);
     }
-    Ok(())
 }
 
 /// Makes one step of a CPU on a world and on lists, and compares the replies.
@@ -266,79 +254,70 @@ fn step_on_both(
     lists: &mut Ghost,
     cpu: u64,
     step: Step,
-) -> Result<(), Fail>
+)
     requires kept { IsKept lists.old }
-    ensures kept { OnOk result (IsKept lists.new) }
+    ensures kept { IsKept lists.new }
 {
     assert!(rt; cpu < world.cpus());
     assert!(rt; cpu < lists.layout.config.cpus);
     let reply = world.step(cpu, step);
-    let (foretold, after) = predict(alloc, lists, cpu, step)?;
-    *lists = after;
+    let foretold = foretell(rt, alloc, lists, cpu, step);
     assert!(rt; reply == foretold);
-    Ok(())
 }
 
 /// Makes the steps of a seed: one of a VM's life, then any of either CPU, and so on. What stands at their end is compared too.
-fn agree_on(
-    rt: &impl Abort,
-    alloc: Global,
-    world: &mut World<Global>,
-    lists: &mut Ghost,
-    seed: u64,
-) -> Result<(), Fail>
+fn agree_on(rt: &impl Abort, alloc: Global, world: &mut World<Global>, lists: &mut Ghost, seed: u64)
     requires { IsKept lists.old }
 {
     let mut numbers = Numbers::of(seed);
     for k in 0..STEPS {
         let step = numbers.step_of_life(k);
-        step_on_both(rt, alloc, world, lists, 0, step)?;
+        step_on_both(rt, alloc, world, lists, 0, step);
         let cpu = numbers.below(2);
         let step = numbers.step();
-        step_on_both(rt, alloc, world, lists, cpu, step)?;
+        step_on_both(rt, alloc, world, lists, cpu, step);
     }
-    compare(rt, alloc, world, lists)?;
-    compare_guests(rt, alloc, world, lists)
+    compare(rt, alloc, world, lists);
+    compare_guests(rt, alloc, world, lists);
 }
 
 /// The same of a world and lists at boot.
-fn agrees(rt: &impl Abort, alloc: Global, seed: u64) -> Result<(), Fail> {
+fn agrees(rt: &impl Abort, alloc: Global, seed: u64) {
     let has_blocks = seed % 16 == 0;
-    let map = memory(alloc, has_blocks)?;
-    let mut lists = started(rt, alloc, has_blocks)?;
-    let mut world = World::boot(alloc, alloc, &map, sample::config(2, 40))?;
-    agree_on(rt, alloc, &mut world, &mut lists, seed)
+    let map = memory(rt, alloc, has_blocks);
+    let mut lists = started(rt, alloc, has_blocks);
+    let mut world = world_of(rt, alloc, &map, sample::config(2, 40));
+    agree_on(rt, alloc, &mut world, &mut lists, seed);
 }
 
 /// The same for the traces of so many seeds.
-fn all_agree(rt: &impl Abort, alloc: Global, seeds: Range<u64>) -> Result<(), Fail> {
+fn all_agree(rt: &impl Abort, alloc: Global, seeds: Range<u64>) {
     for seed in seeds {
-        agrees(rt, alloc, seed)?;
+        agrees(rt, alloc, seed);
     }
-    Ok(())
 }
 
 #[test]
-fn agrees_on_40_traces(rt: HostRuntime) -> Result<(), Fail> {
-    all_agree(&rt, rt.alloc(), 0..40)
+fn agrees_on_40_traces(rt: HostRuntime) {
+    all_agree(&rt, rt.alloc(), 0..40);
 }
 
 #[test]
-fn agrees_on_80_traces(rt: HostRuntime) -> Result<(), Fail> {
-    all_agree(&rt, rt.alloc(), 40..80)
+fn agrees_on_80_traces(rt: HostRuntime) {
+    all_agree(&rt, rt.alloc(), 40..80);
 }
 
 #[test]
-fn agrees_on_120_traces(rt: HostRuntime) -> Result<(), Fail> {
-    all_agree(&rt, rt.alloc(), 80..120)
+fn agrees_on_120_traces(rt: HostRuntime) {
+    all_agree(&rt, rt.alloc(), 80..120);
 }
 
 #[test]
-fn agrees_on_160_traces(rt: HostRuntime) -> Result<(), Fail> {
-    all_agree(&rt, rt.alloc(), 120..160)
+fn agrees_on_160_traces(rt: HostRuntime) {
+    all_agree(&rt, rt.alloc(), 120..160);
 }
 
 #[test]
-fn agrees_on_200_traces(rt: HostRuntime) -> Result<(), Fail> {
-    all_agree(&rt, rt.alloc(), 160..200)
+fn agrees_on_200_traces(rt: HostRuntime) {
+    all_agree(&rt, rt.alloc(), 160..200);
 }

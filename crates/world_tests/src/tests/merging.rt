@@ -21,37 +21,48 @@ fn told(call: Call) -> (u64, Step, Reply) {
 }
 
 /// A log of these calls.
-fn log_of(alloc: Global, calls: &[Call]) -> Result<Vec<Call>, AllocError> {
+fn log_of(rt: &impl Abort, alloc: Global, calls: &[Call]) -> Vec<Call> {
     let mut log = Vec::new(alloc);
     for call in calls {
-        log.push(*call)?;
+        log.push(*call).expect(rt, "memory");
     }
-    Ok(log)
+    log
+}
+
+/// Logs of 64 guests, of whom the last alone has calls.
+fn guests_of(rt: &impl Abort, alloc: Global, last: &[Call]) -> Vec<Vec<Call>> {
+    let mut guests = Vec::new(alloc);
+    for _slot in 0..63usize {
+        guests.push(Vec::new(alloc)).expect(rt, "memory");
+    }
+    guests.push(log_of(rt, alloc, last)).expect(rt, "memory");
+    guests
+}
+
+/// Logs of two CPUs.
+fn cpus_of(rt: &impl Abort, alloc: Global, first: &[Call], second: &[Call]) -> Vec<Vec<Call>> {
+    let mut cpus = Vec::new(alloc);
+    cpus.push(log_of(rt, alloc, first)).expect(rt, "memory");
+    cpus.push(log_of(rt, alloc, second)).expect(rt, "memory");
+    cpus
 }
 
 /// Logs of the VM part, the Shared part, 64 guests, of whom the last alone has calls, and two CPUs.
 fn logs_of(
+    rt: &impl Abort,
     alloc: Global,
     vms: &[Call],
     shared: &[Call],
     guest: &[Call],
     first: &[Call],
     second: &[Call],
-) -> Result<Histories, AllocError> {
-    let mut guests = Vec::new(alloc);
-    for _slot in 0..63usize {
-        guests.push(Vec::new(alloc))?;
+) -> Histories {
+    Histories {
+        vms: log_of(rt, alloc, vms),
+        shared: log_of(rt, alloc, shared),
+        guests: guests_of(rt, alloc, guest),
+        cpus: cpus_of(rt, alloc, first, second),
     }
-    guests.push(log_of(alloc, guest)?)?;
-    let mut cpus = Vec::new(alloc);
-    cpus.push(log_of(alloc, first)?)?;
-    cpus.push(log_of(alloc, second)?)?;
-    Ok(Histories {
-        vms: log_of(alloc, vms)?,
-        shared: log_of(alloc, shared)?,
-        guests,
-        cpus,
-    })
 }
 
 /// A VM of the last slot.
@@ -61,16 +72,15 @@ const VM: VmId = VmId {
 };
 
 #[test]
-fn merges_nothing(rt: HostRuntime) -> Result<(), Fail> {
+fn merges_nothing(rt: HostRuntime) {
     let alloc = rt.alloc();
-    let logs = logs_of(alloc, &[], &[], &[], &[], &[])?;
-    let merged = World::<Global>::merge(alloc, &logs)?;
+    let logs = logs_of(&rt, alloc, &[], &[], &[], &[], &[]);
+    let merged = World::<Global>::merge(alloc, &logs).expect(&rt, "an order");
     assert!(rt; merged.is_empty());
-    Ok(())
 }
 
 #[test]
-fn merges_two_cpus(rt: HostRuntime) -> Result<(), Fail> {
+fn merges_two_cpus(rt: HostRuntime) {
     let alloc = rt.alloc();
     let reserve = call(
         0,
@@ -87,14 +97,15 @@ fn merges_two_cpus(rt: HostRuntime) -> Result<(), Fail> {
     let asked = call(1, 2, Step::GuestTranslate { vm: VM, gfn: 7 }, Some(63));
     let open = call(1, 3, Step::VmOpen, None);
     let logs = logs_of(
+        &rt,
         alloc,
         &[reserve, open],
         &[owner, share, topup],
         &[asked, topup],
         &[reserve, share, topup],
         &[owner, asked, open],
-    )?;
-    let merged = World::<Global>::merge(alloc, &logs)?;
+    );
+    let merged = World::<Global>::merge(alloc, &logs).expect(&rt, "an order");
     let order = [
         told(reserve),
         told(owner),
@@ -104,7 +115,6 @@ fn merges_two_cpus(rt: HostRuntime) -> Result<(), Fail> {
         told(open),
     ];
     assert!(rt; merged.as_slice() == order.as_slice());
-    Ok(())
 }
 
 /// Compares what merging these logs answers, which have no order.
@@ -115,14 +125,13 @@ fn expect_no_order(
     shared: &[Call],
     first: &[Call],
     second: &[Call],
-) -> Result<(), AllocError> {
-    let logs = logs_of(alloc, vms, shared, &[], first, second)?;
+) {
+    let logs = logs_of(rt, alloc, vms, shared, &[], first, second);
     assert!(rt; World::<Global>::merge(alloc, &logs).err() == Some(MergeFault::NoOrder));
-    Ok(())
 }
 
 #[test]
-fn finds_no_order(rt: HostRuntime) -> Result<(), Fail> {
+fn finds_no_order(rt: HostRuntime) {
     let alloc = rt.alloc();
     let put = call(0, 1, Step::VcpuPut, None);
     let share = call(0, 2, Step::ShareHyp { pfn: 1 }, None);
@@ -135,16 +144,20 @@ fn finds_no_order(rt: HostRuntime) -> Result<(), Fail> {
         &[share, owner],
         &[put, share],
         &[owner, open],
-    )?;
-    expect_no_order(&rt, alloc, &[put], &[], &[put, share], &[])?;
-    expect_no_order(&rt, alloc, &[put], &[], &[], &[])?;
-    Ok(())
+    );
+    expect_no_order(&rt, alloc, &[put], &[], &[put, share], &[]);
+    expect_no_order(&rt, alloc, &[put], &[], &[], &[]);
 }
 
 /// The logs of a world, merged.
-fn merged(alloc: Global, world: &World<Global>) -> Result<Vec<(u64, Step, Reply)>, Fail> {
-    let logs = world.histories(alloc)?;
-    Ok(World::<Global>::merge(alloc, &logs)?)
+fn merged(rt: &impl Abort, alloc: Global, world: &World<Global>) -> Vec<(u64, Step, Reply)> {
+    let logs = world.histories(alloc).expect(rt, "memory");
+    World::<Global>::merge(alloc, &logs).expect(rt, "an order")
+}
+
+/// Compares a call of the merged logs with one that was made.
+fn expect_call(rt: &impl Abort, call: (u64, Step, Reply), asked: (u64, Step), reply: Reply) {
+    assert!(rt; call == (asked.0, asked.1, reply));
 }
 
 /// Compares the merged logs with the calls that were made.
@@ -154,17 +167,16 @@ fn expect_merged(
     world: &World<Global>,
     steps: &[(u64, Step)],
     replies: &[Reply],
-) -> Result<(), Fail> {
-    let merged = merged(alloc, world)?;
+) {
+    let merged = merged(rt, alloc, world);
     assert!(rt; merged.len() == steps.len());
     for (call, (asked, reply)) in merged.iter().zip(steps.iter().zip(replies.iter())) {
-        assert!(rt; *call == (asked.0, asked.1, *reply));
+        expect_call(rt, *call, *asked, *reply);
     }
-    Ok(())
 }
 
 /// Makes calls of two CPUs, and compares the merged logs with them.
-fn run_and_merge(rt: &impl Abort, alloc: Global, world: &mut World<Global>) -> Result<(), Fail>
+fn run_and_merge(rt: &impl Abort, alloc: Global, world: &mut World<Global>)
     requires { 1 < world.old.parts.layout.config.cpus }
 {
     let steps = [
@@ -173,15 +185,15 @@ fn run_and_merge(rt: &impl Abort, alloc: Global, world: &mut World<Global>) -> R
         (1, Step::UnshareHyp { pfn: 0x40100 }),
         (0, Step::ShareHyp { pfn: 0x40100 }),
     ];
-    let replies = world.run(alloc, steps.as_slice())?;
-    expect_merged(rt, alloc, world, steps.as_slice(), replies.as_slice())
+    let replies = world.run(alloc, steps.as_slice()).expect(rt, "memory");
+    expect_merged(rt, alloc, world, steps.as_slice(), replies.as_slice());
 }
 
 #[test]
-fn merges_a_run(rt: HostRuntime) -> Result<(), Fail> {
+fn merges_a_run(rt: HostRuntime) {
     let alloc = rt.alloc();
-    let map = memory(alloc, 0x40)?;
-    let mut world = World::boot(alloc, alloc, &map, config(2, 8))?;
+    let map = memory(alloc, 0x40).expect(&rt, "a memory");
+    let mut world = world_of(&rt, alloc, &map, config(2, 8));
     assert!(rt; world.cpus() > 1);
-    run_and_merge(&rt, alloc, &mut world)
+    run_and_merge(&rt, alloc, &mut world);
 }

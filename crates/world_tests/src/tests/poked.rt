@@ -31,31 +31,28 @@ const LOST: Disagreement = Disagreement::Map {
 };
 
 /// Shares the page.
-fn share(rt: &impl Abort, alloc: Global, world: &mut World<Global>) -> Result<(), Fail>
+fn share(rt: &impl Abort, alloc: Global, world: &mut World<Global>)
     requires { 0 < world.old.parts.layout.config.cpus }
 {
     let steps = [(0, Step::ShareHyp { pfn: 0x40100 })];
-    let replies = world.run(alloc, steps.as_slice())?;
+    let replies = world.run(alloc, steps.as_slice()).expect(rt, "memory");
     assert!(rt; replies.as_slice() == [DONE].as_slice());
-    Ok(())
 }
 
 /// Compares the entry of the page that the world keeps.
-fn expect_shared(rt: &impl Abort, alloc: Global, world: &World<Global>) -> Result<(), Fail> {
-    let kept = world.to_ghost(alloc)?;
+fn expect_shared(rt: &impl Abort, alloc: Global, world: &World<Global>) {
+    let kept = world.to_ghost(alloc).expect(rt, "memory");
     let entry = runs::at(kept.shared.host.runs.as_slice(), Page(0x40100));
     assert!(rt; entry == SHARED);
-    Ok(())
 }
 
 /// Shares the page, and looks at what the world keeps and what a walk finds.
-fn expect_share(rt: &impl Abort, alloc: Global, world: &mut World<Global>) -> Result<(), Fail>
+fn expect_share(rt: &impl Abort, alloc: Global, world: &mut World<Global>)
     requires { 0 < world.old.parts.layout.config.cpus }
 {
-    share(rt, alloc, world)?;
-    expect_shared(rt, alloc, world)?;
-    assert!(rt; world.audit(alloc)?.is_none());
-    Ok(())
+    share(rt, alloc, world);
+    expect_shared(rt, alloc, world);
+    assert!(rt; world.audit(alloc).expect(rt, "memory").is_none());
 }
 
 /// Sets the page's word in the host's tree.
@@ -71,6 +68,12 @@ fn poke_page(
     poked.ok().expect(rt, "a word there")
 }
 
+/// The same in a world in which nothing was poked yet.
+fn poke_first(rt: &impl Abort, alloc: Global, world: World<Global>, word: u64) -> RawWorld<Global> {
+    let places = no_pokes(alloc).expect(rt, "memory");
+    poke_page(rt, world, places, word)
+}
+
 /// The same in a world that was poked.
 fn poke_again(rt: &impl Abort, world: RawWorld<Global>, word: u64) -> RawWorld<Global> {
     let poked = world.poke(Which::Host, &path(), word);
@@ -78,24 +81,42 @@ fn poke_again(rt: &impl Abort, world: RawWorld<Global>, word: u64) -> RawWorld<G
 }
 
 /// Compares what a poked world keeps with what a walk of its words finds.
-fn difference(alloc: Global, world: &RawWorld<Global>) -> Result<Option<Disagreement>, AllocError> {
-    let kept = world.to_ghost(alloc)?;
-    let walked = world.recompute(alloc)?;
-    Ok(audit(&kept, &walked))
+fn difference(rt: &impl Abort, alloc: Global, world: &RawWorld<Global>) -> Option<Disagreement> {
+    let kept = world.to_ghost(alloc).expect(rt, "memory");
+    let walked = world.recompute(alloc).expect(rt, "memory");
+    audit(&kept, &walked)
+}
+
+/// Compares that difference.
+fn expect_difference(
+    rt: &impl Abort,
+    alloc: Global,
+    world: &RawWorld<Global>,
+    wanted: Option<Disagreement>,
+) {
+    assert!(rt; difference(rt, alloc, world) == wanted);
+}
+
+/// The page's word in the host's tree.
+fn word_of(world: &World<Global>) -> u64 {
+    let word = world.parts().shared().host.tree().word_at(&path());
+    word.unwrap_or(0)
+}
+
+/// Compares what differs in a world that lost the page's word, and once it has this word again.
+fn expect_lost(rt: &impl Abort, alloc: Global, poked: RawWorld<Global>, word: u64) {
+    expect_difference(rt, alloc, &poked, Some(LOST));
+    let again = poke_again(rt, poked, word);
+    expect_difference(rt, alloc, &again, None);
 }
 
 #[test]
-fn finds_a_poked_word(rt: HostRuntime) -> Result<(), Fail> {
+fn finds_a_poked_word(rt: HostRuntime) {
     let alloc = rt.alloc();
-    let map = memory(alloc, 0x40)?;
-    let places = no_pokes(alloc)?;
-    let mut world = World::boot(alloc, alloc, &map, config(1, 3))?;
+    let mut world = booted(&rt, alloc, 3);
     assert!(rt; world.cpus() > 0);
-    expect_share(&rt, alloc, &mut world)?;
-    let word = world.parts().shared().host.tree().word_at(&path());
-    let poked = poke_page(&rt, world, places, 0);
-    assert!(rt; difference(alloc, &poked) == Ok(Some(LOST)));
-    let again = poke_again(&rt, poked, word.unwrap_or(0));
-    assert!(rt; difference(alloc, &again) == Ok(None));
-    Ok(())
+    expect_share(&rt, alloc, &mut world);
+    let word = word_of(&world);
+    let poked = poke_first(&rt, alloc, world, 0);
+    expect_lost(&rt, alloc, poked, word);
 }

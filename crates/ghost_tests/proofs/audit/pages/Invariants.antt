@@ -2,4 +2,4 @@ use Rattle.table_tree.specs.Raw.{IsRaw}
 use Rattle.ghost_tests.proofs.audit.pages.Given as goal
 
 abbrev pub invariant-loop-i : goal.invariant-loop-i
-invariant-loop-i l = IsRaw 0 l.table
+invariant-loop-i g l = IsRaw 0 l.table

@@ -1,0 +1,5 @@
+use Rattle.std.proofs.Common.{rules}
+use Rattle.owner_table.proofs.OwnerTable.row.Goals as goal
+
+pub returns : goal.returns
+returns c = search rules

@@ -1,0 +1,5 @@
+use Rattle.std.proofs.Common.{rules}
+use Rattle.page_state.proofs.layout.MemoryMap.regions.Goals as goal
+
+pub returns : goal.returns
+returns c = search rules

@@ -1,0 +1,5 @@
+use Rattle.std.proofs.Common.{rules}
+use Rattle.page_state.proofs.layout.MemoryMapClone.clone.Goals as goal
+
+pub returns : goal.returns
+returns c = search rules

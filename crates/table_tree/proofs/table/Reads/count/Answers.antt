@@ -1,0 +1,5 @@
+use Rattle.std.proofs.Common.{rules}
+use Rattle.table_tree.proofs.table.Reads.count.Goals as goal
+
+pub returns : goal.returns
+returns c = search rules

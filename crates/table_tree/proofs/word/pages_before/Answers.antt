@@ -1,0 +1,11 @@
+use Rattle.std.proofs.Common.{rules}
+use Rattle.table_tree.proofs.word.pages_before.Goals as goal
+
+pub returns-in-0 : goal.returns-in-0
+returns-in-0 c = search rules
+
+pub returns-in-1 : goal.returns-in-1
+returns-in-1 c = search rules
+
+pub returns-in_default : goal.returns-in_default
+returns-in_default c = search rules
