@@ -1,5 +1,5 @@
 -- Runs of a list taken from the first on: what stands in front of a run tells nothing of its pages, or of its frames.
-use Rattle.std.proofs.Common.{◌≡◌, ℕ, Bool, zero, suc, ◌+◌, ◌<◌, ◌≤◌, true, false, List, [], ◌∷◌, take, length, get_or, Option, Some, None, refl, sym, ap, ◌∙◌, arith, cond}
+use Rattle.std.proofs.Common.{◌≡◌, ℕ, Bool, zero, suc, ◌+◌, ◌<◌, ◌≤◌, true, false, List, [], ◌∷◌, take, length, get_or, Option, Some, None, refl, sym, ap, subst, ◌∙◌, arith, cond}
 use Rattle.std.specs.Option.{option_or}
 use Rattle.std.specs.Prelude.{is_some, nat_lt}
 use Rattle.std.proofs.lemmas.Bool.Decides.{nat_tests}
@@ -13,13 +13,16 @@ use Rattle.page_state.specs.Map.{is_within}
 use Rattle.page_state.specs.Regions.{end_of, is_in_range}
 use Rattle.page_state.specs.Runs.{map_of, run_end, entry_on, IsCoarsest}
 use Rattle.page_state.proofs.Cases.{by_test}
+use Rattle.run_list.specs.declared.run.Run.{Run as RowRun}
+use Rattle.run_list.specs.Runs.{EndBefore}
+use Rattle.run_list.proofs.Maps.{ends_later}
 use Rattle.ghost_spec.specs.Found.{run_page}
 use Rattle.ghost_trees.proofs.Coarse.{BeginsFrom, begins_before, begins_next}
 use Rattle.ghost_trees.proofs.Overlaid.{within_means}
 use Rattle.ghost_rows.specs.RowsLaid.{annotated_row, annotation_on, loan_at, low_page, run_below, run_frames, next_above}
 use Rattle.ghost_rows.proofs.RowsLaid.{page_in, page-among}
 
-or-none : {X : Type 0} (o : Option X) → option_or o None ≡ o
+pub or-none : {X : Type 0} (o : Option X) → option_or o None ≡ o
 or-none None = refl
 or-none (Some x) = refl
 
@@ -29,6 +32,19 @@ begins_at : (low : ℕ) (rs : List Run) (i : ℕ) (d : Run) → IsCoarsest rs �
 begins_at low [] i d c b h = absurd (omega (arith, h))
 begins_at low (r ∷ rs) zero d c b h = b
 begins_at low (r ∷ rs) (suc i) d c b h = begins_at low rs i d c.2 (begins_before low (run_end r) rs (omega (arith, b)) (begins_next r rs c.1)) (omega (arith, h))
+
+-- a run begins where the one in front of it ends, or behind that
+next_begins : (rs : List Run) (i : ℕ) (d e : Run) → IsCoarsest rs → i + 1 < length rs → run_end (get_or rs i d) ≤ (get_or rs (i + 1) e).pages.first.0
+next_begins rs i d e c h = let next : i + 1 ≡ suc i = omega arith in subst (λ (j : ℕ). run_end (get_or rs i d) ≤ (get_or rs j e).pages.first.0) (sym next) (there rs i d e c (omega (arith, h)))
+  where
+    there : (rs : List Run) (i : ℕ) (d e : Run) → IsCoarsest rs → suc i < length rs → run_end (get_or rs i d) ≤ (get_or rs (suc i) e).pages.first.0
+    there [] i d e c h = absurd (omega (arith, h))
+    there (r ∷ rs) zero d e c h = begins_at (run_end r) rs 0 e c.2 (begins_next r rs c.1) (omega (arith, h))
+    there (r ∷ rs) (suc i) d e c h = there rs i d e c.2 (omega (arith, h))
+
+-- so rows that end with a run's pages stand in front of the next run
+pub behind_next : (rs : List Run) (i : ℕ) (d e : Run) (rows : List (RowRun Row)) → IsCoarsest rs → i + 1 < length rs → EndBefore (run_end (get_or rs i d) + 1) rows → EndBefore ((get_or rs (i + 1) e).pages.first.0 + 1) rows
+behind_next rs i d e rows c h b = let next = next_begins rs i d e c h in ends_later (run_end (get_or rs i d) + 1) ((get_or rs (i + 1) e).pages.first.0 + 1) rows (omega (arith, next)) b
 
 outside : (a n p : ℕ) → a + n ≤ p → is_within a n p ≡ false
 outside a n p h = grind (arith, nat_tests)
@@ -89,24 +105,6 @@ module _ (limit : ℕ) (s : State) (f : ℕ) where
 
   low_page-more : (rs : List Run) (i : ℕ) (d : Run) → i < length rs → low_page limit s f (take (i + 1) rs) ≡ option_or (low_page limit s f (take i rs)) (run_page f s (run_below limit (get_or rs i d)))
   low_page-more rs i d h = let next : suc i ≡ i + 1 = omega arith in sym (ap (λ (n : ℕ). low_page limit s f (take n rs)) next) ∙ one-more rs i d h
-
-  -- what the first runs of a list map, all its runs map
-  low_page-none : (rs : List Run) (i : ℕ) → low_page limit s f rs ≡ None → low_page limit s f (take i rs) ≡ None
-  low_page-none rs zero e = refl
-  low_page-none [] (suc i) e = refl
-  low_page-none (r ∷ rs) (suc i) e = both (run_page f s (run_below limit r)) (low_page-none rs i) e
-    where
-      both : (o : Option ℕ) → (low_page limit s f rs ≡ None → low_page limit s f (take i rs) ≡ None) → option_or o (low_page limit s f rs) ≡ None → option_or o (low_page limit s f (take i rs)) ≡ None
-      both None less k = less k
-      both (Some p) less k = cc
-
-  -- written over by all of them, what the first have written is as if it had not been
-  pub over-part : (number : ℕ) (rs : List Run) (i : ℕ) (old : Option Row) → option_or (loan_at number (low_page limit s f rs)) (option_or (loan_at number (low_page limit s f (take i rs))) old) ≡ option_or (loan_at number (low_page limit s f rs)) old
-  over-part number rs i old = by_page (low_page limit s f rs) refl
-    where
-      by_page : (o : Option ℕ) → low_page limit s f rs ≡ o → option_or (loan_at number o) (option_or (loan_at number (low_page limit s f (take i rs))) old) ≡ option_or (loan_at number o) old
-      by_page None e = ap (λ (o : Option ℕ). option_or (loan_at number o) old) (low_page-none rs i e)
-      by_page (Some p) e = refl
 
   -- what a run maps in the state below the limit stands from a frame on, and before another
   pub record IsNextAbove (high : ℕ) (r : Run) (end : ℕ) : Type 0 where

@@ -1,5 +1,5 @@
 -- Lists of rows that are written range by range.
-use Rattle.std.proofs.Common.{◌≡◌, ℕ, suc, ◌+◌, ◌-◌, ◌^◌, ◌<◌, ◌≤◌, ◌||◌, nat_le, Bool, true, false, List, [], ◌∷◌, drop, length, get_or, min, Option, Some, None, refl, sym, ap, ◌∙◌, arith}
+use Rattle.std.proofs.Common.{◌≡◌, ℕ, suc, ◌+◌, ◌-◌, ◌^◌, ◌<◌, ◌≤◌, ◌||◌, nat_le, Bool, true, false, List, [], ◌∷◌, drop, length, get_or, min, Option, Some, None, refl, sym, ap, subst, ◌∙◌, arith}
 use Rattle.std.specs.Option.{option_or, ForSome}
 use Rattle.std.specs.Prelude.{is_some, if◌then◌else◌}
 use mathlib.Core.Path.{fun_ext}
@@ -34,7 +34,7 @@ use Rattle.ghost_spec.specs.Found.{target_page, run_page}
 use Rattle.ghost_spec.specs.States.{guest_in}
 use Rattle.ghost_spec.specs.Views.{cpu_in}
 use Rattle.ghost_trees.proofs.Overlaid.{within_means}
-use Rattle.ghost_spec.proofs.RowsKept.{reach-by, reach-set, small-map, none-some}
+use Rattle.ghost_spec.proofs.RowsKept.{reach-by, reach-set, small-map, none-some, some-same}
 use Rattle.ghost_rows.specs.RowsLaid.{first_some, guests_in, cpus_in, annotated_row, annotation_on, loan_row, loan_at, target_frames, run_frames, guest_loan, used_row, used_if, guest_use, hand_use}
 
 pub reach-laid : (rs ss : List (Run Row)) (first count : ℕ) (row : Option Row) → run_map advance_row ss ≡ map_updated advance_row (run_map advance_row rs) first count row → IsCoarsest advance_row ss → AreInReach HasPageBelow rs → first + count ≤ 2 ^ 63 → ForSome row (λ r. HasPageBelow r count) → AreInReach HasPageBelow ss
@@ -63,7 +63,26 @@ first-back {X} n v option some within =
     let b : suc (v - 1) ≡ v = omega (arith, some) in
     ap (λ (k : ℕ). first_some (v - 1) k option) a ∙ ap (λ (k : ℕ). option_or (option (v - 1)) (first_some k (n - v) option)) b
 
+pub small-some : (row : Row) (n : ℕ) → HasPageBelow row n → ForSome (Some row) (λ r. HasPageBelow r n)
+small-some row n h = λ r is. subst (λ (x : Row). HasPageBelow x n) (some-same is) h
+
+-- rows of a list that are written over others, from the last one on
+
+pub over-more : (all : List (Run Row)) (i : ℕ) (d : Run Row) (m n before : ℕ → Option Row) → 0 < i → i ≤ length all
+    → ((f : ℕ) → m f ≡ option_or (run_map advance_row (drop i all) f) (before f))
+    → n ≡ map_updated advance_row m (get_or all (i - 1) d).pages.first.0 (get_or all (i - 1) d).pages.count (Some (get_or all (i - 1) d).value)
+    → (f : ℕ) → n f ≡ option_or (run_map advance_row (drop (i - 1) all) f) (before f)
+over-more all i d m n before some within same laid f =
+    let r : Run Row = get_or all (i - 1) d in
+    let one : map_updated advance_row m r.pages.first.0 r.pages.count (Some r.value) f ≡ option_or (run_map advance_row (r ∷ drop i all) f) (before f) =
+    by_test (is_in_range r.pages f) (λ t. rw t refl) (λ t. rw t (same f)) in
+    ap (λ (g : ℕ → Option Row). g f) laid ∙ one ∙ ap (λ (rs : List (Run Row)). option_or (run_map advance_row rs f) (before f)) (sym (drop-back all i d some within))
+
 -- annotations
+
+pub no_row : (o : Option Row) → ((r : Row) → o ≡ Some r → ⊥) → is_some o ≡ false
+no_row None n = refl
+no_row (Some r) n = absurd (n r refl)
 
 annotated-on : (t : Target) (n : ℕ) → option_advance advance_row (annotated_row (entry_of_target t)) n ≡ annotated_row (advance (entry_of_target t) n)
 annotated-on Malformed n = refl

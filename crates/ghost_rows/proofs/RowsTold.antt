@@ -1,6 +1,7 @@
 -- Pieces of frames, and the row that four lists tell.
 use Rattle.std.proofs.Common.{◌≡◌, ℕ, zero, suc, ◌+◌, ◌-◌, ◌^◌, ◌<◌, ◌≤◌, Bool, true, false, List, [], ◌∷◌, take, drop, length, get_or, Option, Some, None, refl, sym, ap, subst, ◌∙◌, arith}
 use Rattle.std.proofs.lemmas.List.{drop_all, drop_more}
+use Rattle.std.specs.Option.{option_or}
 use Rattle.std.specs.Prelude.{if◌then◌else◌}
 use Rattle.page_state.specs.declared.layout.Region.{Region}
 use Rattle.page_state.specs.declared.row.Lent.{Lent}
@@ -29,6 +30,12 @@ use Rattle.ghost_spec.proofs.RowsKept.{small-map}
 pub none-laid : (first count : ℕ) (memory : Bool) (m : ℕ → Option Row) (row : Row) (f : ℕ) → memory ≡ false
     → map_updated advance_row m first count None f ≡ (if is_within first count f then (if memory then Some row else None) else m f)
 none-laid first count memory m row f h = rw h refl
+
+-- and one whose rows are written over others
+pub memory-over : (inside memory : Bool) (row : Row) (found before : Option Row) → memory ≡ true → found ≡ (if inside then Some row else None)
+    → option_or found before ≡ (if inside then (if memory then Some row else None) else before)
+memory-over true memory row found before m e = rw (m, e) refl
+memory-over false memory row found before m e = rw e refl
 
 -- loans stay small along a piece
 

@@ -19,7 +19,7 @@ ghost use Rattle.ghost_rows.specs.RowsTold.{told, AreReached};
 
 use ghost_spec::state::Ghost;
 use loans::{all_loans, annotations, guest_loans};
-use overlay::lay;
+use overlay::{lay, lay_all, put_last};
 use page_state::{Page, PageRange, Region, RegionKind, Row, State};
 use pieces::{Lists, Places};
 use run_list::RunList;
@@ -51,18 +51,18 @@ fn lists_of(alloc: Global, state: &Ghost) -> Result<Lists, AllocError>
     })
 }
 
-/// The frames of a range get their rows, piece by piece: along a piece each list goes on as it begins.
+/// The rows of the frames of a range, piece by piece: along a piece each list goes on as it begins.
 /// The place in each list goes on with the pieces, so that no list is searched.
-fn add_range(rows: &mut RunList<Row>, lists: &Lists, pages: PageRange) -> Result<(), AllocError>
+fn range_rows(alloc: Global, lists: &Lists, pages: PageRange) -> Result<RunList<Row>, AllocError>
     requires low { end_of pages ≤ 2 ^ 26 }
     requires lists { AreReached lists.now }
-    requires reach { AreInReach HasPageBelow rows.old.runs }
-    ensures map { OnOk result ((f : ℕ) → run_map advance_row rows.new.runs f ≡ (if is_in_range pages f then Some (told lists.now f) else run_map advance_row rows.old.runs f)) }
-    ensures reach { AreInReach HasPageBelow rows.new.runs }
+    ensures map { IfOk result (λ r. (f : ℕ) → run_map advance_row r.runs f ≡ (if is_in_range pages f then Some (told lists.now f) else None)) }
+    ensures reach { IfOk result (λ r. AreInReach HasPageBelow r.runs) }
 {
     let end = pages.first.0 + pages.count;
     let mut low = pages.first.0;
     let mut places = Places::FIRST;
+    let mut rows = Vec::with_capacity(alloc, lists.count())?;
     while low < end {
         places = lists.places_from(places, low);
         let high = lists.bound(places, low, end);
@@ -70,14 +70,19 @@ fn add_range(rows: &mut RunList<Row>, lists: &Lists, pages: PageRange) -> Result
             first: Page(low),
             count: high - low,
         };
-        lay(rows, piece, Some(lists.row(places, low)))?;
+        put_last(&mut rows, piece, lists.row(places, low))?;
         low = high;
     }
-    Ok(())
+    Ok(RunList::of(rows))
 }
 
 /// The frames of a region get their rows where it is one of memory, and else none.
-fn add_region(rows: &mut RunList<Row>, lists: &Lists, region: Region) -> Result<(), AllocError>
+fn add_region(
+    alloc: Global,
+    rows: &mut RunList<Row>,
+    lists: &Lists,
+    region: Region,
+) -> Result<(), AllocError>
     requires low { end_of region.pages ≤ 2 ^ 26 }
     requires lists { AreReached lists.now }
     requires reach { AreInReach HasPageBelow rows.old.runs }
@@ -85,7 +90,10 @@ fn add_region(rows: &mut RunList<Row>, lists: &Lists, region: Region) -> Result<
     ensures reach { AreInReach HasPageBelow rows.new.runs }
 {
     match region.kind {
-        RegionKind::Memory => add_range(rows, lists, region.pages),
+        RegionKind::Memory => {
+            let found = range_rows(alloc, lists, region.pages)?;
+            lay_all(rows, found)
+        }
         RegionKind::Device => {
             lay(rows, region.pages, None)?;
             Ok(())
@@ -108,7 +116,7 @@ pub fn rows_from_scratch(alloc: Global, state: &Ghost) -> Result<RunList<Row>, A
     let regions = state.layout.map.regions();
     let mut rows = RunList::new(alloc);
     for i in (0..regions.len()).rev() {
-        add_region(&mut rows, &lists, regions[i])?;
+        add_region(alloc, &mut rows, &lists, regions[i])?;
     }
     Ok(rows)
 }

@@ -1,5 +1,5 @@
 //! Annotations of frames, and loans: which component maps a frame first, and at which page.
-ghost use Rattle.std.specs.Prelude.{◌≡◌, ℕ, ◌+◌, ◌-◌, ◌≤◌, ◌^◌, IfOk, OnOk, length, min};
+ghost use Rattle.std.specs.Prelude.{◌≡◌, ℕ, ◌+◌, ◌-◌, ◌≤◌, ◌^◌, IfOk, IfSome, OnOk, length, min};
 ghost use Rattle.std.specs.Option.{option_or, ForSome};
 ghost use Rattle.page_state.specs.Entries.{entry_of_target};
 ghost use Rattle.page_state.specs.EntryTests.{state_eq};
@@ -7,22 +7,23 @@ ghost use Rattle.page_state.specs.Geometries.{pages_below};
 ghost use Rattle.page_state.specs.LayoutView.{layout_of};
 ghost use Rattle.page_state.specs.Regions.{end_of};
 ghost use Rattle.page_state.specs.Rows.{advance_row, HasPageBelow};
-ghost use Rattle.page_state.specs.Runs.{map_of, IsCoarsest};
+ghost use Rattle.page_state.specs.Runs.{map_of, run_end, IsCoarsest};
 ghost use Rattle.reference_model.specs.Owner.{page_of};
-ghost use Rattle.run_list.specs.Runs.{run_map, AreInReach};
+ghost use Rattle.run_list.specs.Runs.{run_map, AreInReach, EndBefore};
+ghost use Rattle.run_list.specs.View.{IsKept};
 ghost use Rattle.ghost_spec.specs.Found.{run_page};
 ghost use Rattle.ghost_trees.specs.Small.{IsSmall, AreSmall};
 ghost use Rattle.ghost_trees.specs.Trees.{tree_in_lists};
 ghost use Rattle.ghost_rows.specs.RowsLaid.{annotated_row, annotation_on, loan_row, loan_at, low_page, run_below, guests_loan, any_loan, run_frames, next_above, HaveSmallRuns};
 
 use super::order::is_coarsest;
-use super::overlay::lay;
+use super::overlay::{lay, lay_all, put_last};
 use ghost_spec::parts::GhostGuest;
 use ghost_spec::shared::Shared;
 use ghost_trees::runs::coarsest;
 use ghost_trees::tree::Tree;
 use page_state::{Layout, Lent, Owner, Page, PageRange, Row, Run, State, Target, Usage};
-use run_list::RunList;
+use run_list::{Run as RowRun, RunList};
 use std::alloc::{AllocError, Global};
 
 /// The row of a frame that is annotated with an owner.
@@ -39,18 +40,19 @@ fn annotation(target: Target) -> Option<Row>
     }
 }
 
-/// The pages of a run get its owner, where it is annotated.
-fn annotate(rows: &mut RunList<Row>, run: Run) -> Result<(), AllocError>
+/// The pages of a run get its owner, where it is annotated. They stand behind those of all rows.
+fn annotate(rows: &mut Vec<RowRun<Row>>, run: Run) -> Result<(), AllocError>
     requires run { IsSmall run }
-    requires reach { AreInReach HasPageBelow rows.old.runs }
-    ensures map { OnOk result ((f : ℕ) → run_map advance_row rows.new.runs f ≡ option_or (annotation_on run f) (run_map advance_row rows.old.runs f)) }
-    ensures reach { AreInReach HasPageBelow rows.new.runs }
+    requires kept { IsKept advance_row HasPageBelow rows.old.items }
+    requires behind { EndBefore (run.pages.first.0 + 1) rows.old.items }
+    ensures map { OnOk result ((f : ℕ) → run_map advance_row rows.new.items f ≡ option_or (annotation_on run f) (run_map advance_row rows.old.items f)) }
+    ensures kept { OnOk result (IsKept advance_row HasPageBelow rows.new.items) }
+    ensures behind { OnOk result (EndBefore (run_end run + 1) rows.new.items) }
 {
-    let row = annotation(run.target);
-    if row.is_none() {
+    let Some(row) = annotation(run.target) else {
         return Ok(());
-    }
-    lay(rows, run.pages, row)?;
+    };
+    put_last(rows, run.pages, row)?;
     Ok(())
 }
 
@@ -61,11 +63,11 @@ fn annotated(alloc: Global, runs: &[Run]) -> Result<RunList<Row>, AllocError>
     ensures map { IfOk result (λ r. (f : ℕ) → run_map advance_row r.runs f ≡ annotated_row (map_of runs.now f)) }
     ensures reach { IfOk result (λ r. AreInReach HasPageBelow r.runs) }
 {
-    let mut rows = RunList::new(alloc);
+    let mut rows = Vec::with_capacity(alloc, runs.len())?;
     for i in 0..runs.len() {
         annotate(&mut rows, runs[i])?;
     }
-    Ok(rows)
+    Ok(RunList::of(rows))
 }
 
 /// The owners of the pages that are annotated. Runs that aren't in order are put in order first.
@@ -152,20 +154,6 @@ fn lend_run(
     Ok(())
 }
 
-/// Where a run's frames end, if it maps any in the state, and else the frame `high`. None where they begin below that.
-fn end_above(layout: &Layout, high: u64, state: State, run: Run) -> Option<u64>
-    requires { IsSmall run }
-    ensures { result ≡ next_above high (run_frames state (run_below (pages_below (layout_of layout.now).depth) run)) }
-{
-    let Some(frames) = frames_of(layout, state, run) else {
-        return Some(high);
-    };
-    if frames.first.0 < high {
-        return None;
-    }
-    Some(frames.first.0 + frames.count)
-}
-
 /// The frames that runs map in the state are lent to the component of a number, each at the first page that maps it: that
 /// of the first run is written last.
 fn lend_back(
@@ -186,9 +174,63 @@ fn lend_back(
     Ok(())
 }
 
-/// The same of runs in order, written from the first on as long as each run's frames stand behind those before it. Where
-/// one's don't, all are written from the last on.
+/// The frames that a run maps in the state are lent to the component of a number, behind those of all rows, which stand before
+/// `high`. The frame behind them, or `high` where the run maps none; None where they begin before that.
+fn lend_next(
+    layout: &Layout,
+    rows: &mut Vec<RowRun<Row>>,
+    high: u64,
+    number: u64,
+    state: State,
+    run: Run,
+) -> Result<Option<u64>, AllocError>
+    requires run { IsSmall run }
+    requires kept { IsKept advance_row HasPageBelow rows.old.items }
+    requires behind { EndBefore (high + 1) rows.old.items }
+    ensures end { IfOk result (λ o. o ≡ next_above high (run_frames state (run_below (pages_below (layout_of layout.now).depth) run))) }
+    ensures map { IfOk result (λ o. IfSome o (λ end. (f : ℕ) → run_map advance_row rows.new.items f ≡ option_or (loan_at number (run_page f state (run_below (pages_below (layout_of layout.now).depth) run))) (run_map advance_row rows.old.items f))) }
+    ensures kept { IfOk result (λ o. IsKept advance_row HasPageBelow rows.new.items) }
+    ensures behind { IfOk result (λ o. IfSome o (λ end. EndBefore (end + 1) rows.new.items)) }
+{
+    let Some(frames) = frames_of(layout, state, run) else {
+        return Ok(Some(high));
+    };
+    if frames.first.0 < high {
+        return Ok(None);
+    }
+    put_last(rows, frames, loan(number, run.pages.first.0))?;
+    Ok(Some(frames.first.0 + frames.count))
+}
+
+/// The frames that runs in order map in the state, lent to the component of a number, each at its page. None where they don't
+/// rise with the pages.
+fn rising_loans(
+    alloc: Global,
+    layout: &Layout,
+    number: u64,
+    runs: &[Run],
+    state: State,
+) -> Result<Option<RunList<Row>>, AllocError>
+    requires small { AreSmall runs.now }
+    requires coarsest { IsCoarsest runs.now }
+    ensures map { IfOk result (λ o. IfSome o (λ r. (f : ℕ) → run_map advance_row r.runs f ≡ loan_at number (page_of (layout_of layout.now) (map_of runs.now) state f))) }
+    ensures reach { IfOk result (λ o. IfSome o (λ r. AreInReach HasPageBelow r.runs)) }
+{
+    let mut rows = Vec::with_capacity(alloc, runs.len())?;
+    let mut high = 0;
+    for i in 0..runs.len() {
+        let Some(end) = lend_next(layout, &mut rows, high, number, state, runs[i])? else {
+            return Ok(None);
+        };
+        high = end;
+    }
+    Ok(Some(RunList::of(rows)))
+}
+
+/// The same of runs in order, each at the first page that maps it. Where the frames don't rise with the pages, that of the first
+/// run is written last.
 fn lend_runs(
+    alloc: Global,
     layout: &Layout,
     rows: &mut RunList<Row>,
     number: u64,
@@ -201,15 +243,10 @@ fn lend_runs(
     ensures map { OnOk result ((f : ℕ) → run_map advance_row rows.new.runs f ≡ option_or (loan_at number (page_of (layout_of layout.now) (map_of runs.now) state f)) (run_map advance_row rows.old.runs f)) }
     ensures reach { AreInReach HasPageBelow rows.new.runs }
 {
-    let mut high = 0;
-    for i in 0..runs.len() {
-        let Some(end) = end_above(layout, high, state, runs[i]) else {
-            return lend_back(layout, rows, number, runs, state);
-        };
-        lend_run(layout, rows, number, state, runs[i])?;
-        high = end;
+    match rising_loans(alloc, layout, number, runs, state)? {
+        Some(lent) => lay_all(rows, lent),
+        None => lend_back(layout, rows, number, runs, state),
     }
-    Ok(())
 }
 
 /// The frames that a tree maps in the state are lent to the component of a number, each at the first page that maps it.
@@ -232,10 +269,10 @@ fn lend_tree(
         return Ok(());
     }
     if is_coarsest(runs) {
-        return lend_runs(layout, rows, number, runs, state);
+        return lend_runs(alloc, layout, rows, number, runs, state);
     }
     let ordered = coarsest(alloc, runs)?;
-    lend_runs(layout, rows, number, ordered.as_slice(), state)?;
+    lend_runs(alloc, layout, rows, number, ordered.as_slice(), state)?;
     Ok(())
 }
 

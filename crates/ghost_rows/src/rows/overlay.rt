@@ -1,12 +1,15 @@
 //! Lists of rows that are written range by range: what is written last stands.
-ghost use Rattle.std.specs.Prelude.{◌≡◌, ℕ, ◌<◌, ◌≤◌, ◌^◌, true, None, OnOk};
-ghost use Rattle.std.specs.Option.{ForSome};
+ghost use Rattle.std.specs.Prelude.{◌≡◌, ℕ, ◌+◌, ◌<◌, ◌≤◌, ◌^◌, true, Some, None, OnOk};
+ghost use Rattle.std.specs.Option.{option_or, ForSome};
 ghost use Rattle.page_state.specs.Regions.{end_of};
 ghost use Rattle.page_state.specs.Rows.{advance_row, HasPageBelow};
-ghost use Rattle.run_list.specs.Runs.{run_map, map_updated, AreInReach};
+ghost use Rattle.run_list.specs.OwnerRows.{row_eq};
+ghost use Rattle.run_list.specs.Parts.{continues, glue, longer as longer_run, one_run};
+ghost use Rattle.run_list.specs.Runs.{run_map, map_updated, AreInReach, EndBefore, InReach};
+ghost use Rattle.run_list.specs.View.{IsKept};
 
 use page_state::{PageRange, Row};
-use run_list::RunList;
+use run_list::{Advance, Run, RunList};
 use std::alloc::AllocError;
 
 /// Whether each run begins at a frame or behind it.
@@ -34,5 +37,89 @@ pub(crate) fn lay(
     }
     rows.reserve(2)?;
     rows.set(frames, row);
+    Ok(())
+}
+
+/// The rows of a list are written over those of another.
+pub(crate) fn lay_all(rows: &mut RunList<Row>, over: RunList<Row>) -> Result<(), AllocError>
+    requires reach { AreInReach HasPageBelow rows.old.runs }
+    requires over { AreInReach HasPageBelow over.runs }
+    ensures map { OnOk result ((f : ℕ) → run_map advance_row rows.new.runs f ≡ option_or (run_map advance_row over.runs f) (run_map advance_row rows.old.runs f)) }
+    ensures reach { AreInReach HasPageBelow rows.new.runs }
+{
+    if rows.runs().is_empty() {
+        *rows = over;
+        return Ok(());
+    }
+    let runs = over.runs();
+    for i in (0..runs.len()).rev() {
+        let run = runs[i];
+        lay(rows, run.pages, Some(run.value))?;
+    }
+    Ok(())
+}
+
+/// Whether the second run goes on as the first.
+fn is_continued(run: Run<Row>, next: Run<Row>) -> bool
+    requires { InReach HasPageBelow run }
+    ensures { result ≡ continues advance_row row_eq run next }
+{
+    run.pages.first.0 + run.pages.count == next.pages.first.0
+        && run.value.advanced(run.pages.count).is_same(next.value)
+}
+
+/// A run with the frames of one that goes on as it does.
+fn longer(run: Run<Row>, next: Run<Row>) -> Run<Row>
+    requires { run.pages.count + next.pages.count < 2 ^ 64 }
+    ensures { result ≡ longer_run run next }
+{
+    Run {
+        pages: PageRange {
+            first: run.pages.first,
+            count: run.pages.count + next.pages.count,
+        },
+        value: run.value,
+    }
+}
+
+/// Puts a run behind a list, or gives its frames to the last run where it goes on as that one.
+#[inline(always)]
+fn join_last(rows: &mut Vec<Run<Row>>, run: Run<Row>) -> Result<(), AllocError>
+    requires rows { AreInReach HasPageBelow rows.old.items }
+    requires run { InReach HasPageBelow run }
+    ensures { OnOk result (rows.new.items ≡ glue advance_row row_eq rows.old.items (one_run (Some run))) }
+{
+    let last = rows.len();
+    if last > 0 && is_continued(rows[last - 1], run) {
+        rows[last - 1] = longer(rows[last - 1], run);
+        return Ok(());
+    }
+    rows.push(run)?;
+    Ok(())
+}
+
+/// Frames behind those of all rows of a list get a row, which advances along them. No row is searched.
+#[inline(always)]
+pub(crate) fn put_last(
+    rows: &mut Vec<Run<Row>>,
+    frames: PageRange,
+    row: Row,
+) -> Result<(), AllocError>
+    requires frames { end_of frames ≤ 2 ^ 63 }
+    requires small { HasPageBelow row frames.count }
+    requires kept { IsKept advance_row HasPageBelow rows.old.items }
+    requires behind { EndBefore (frames.first.0 + 1) rows.old.items }
+    ensures map { OnOk result (run_map advance_row rows.new.items ≡ map_updated advance_row (run_map advance_row rows.old.items) frames.first.0 frames.count (Some row)) }
+    ensures kept { OnOk result (IsKept advance_row HasPageBelow rows.new.items) }
+    ensures behind { OnOk result (EndBefore (end_of frames + 1) rows.new.items) }
+{
+    if frames.count == 0 {
+        return Ok(());
+    }
+    let run = Run {
+        pages: frames,
+        value: row,
+    };
+    join_last(rows, run)?;
     Ok(())
 }

@@ -41,6 +41,7 @@ impl Places {
 }
 
 /// To whom a row's frame is lent.
+#[inline(always)]
 fn lent_of(row: Option<Row>) -> Option<Lent>
     ensures { result ≡ lent_told row }
 {
@@ -51,6 +52,7 @@ fn lent_of(row: Option<Row>) -> Option<Lent>
 }
 
 /// What holds a row's frame.
+#[inline(always)]
 fn usage_of(row: Option<Row>) -> Usage
     ensures { result ≡ usage_told row }
 {
@@ -61,6 +63,7 @@ fn usage_of(row: Option<Row>) -> Usage
 }
 
 /// The number of the component to which a frame is lent, or else the host's.
+#[inline(always)]
 fn number_of(lent: Option<Lent>) -> Owner
     ensures { result.0 ≡ number_told lent }
 {
@@ -71,6 +74,7 @@ fn number_of(lent: Option<Lent>) -> Owner
 }
 
 /// Whether a frame is lent to the host.
+#[inline(always)]
 fn is_of_host(lent: Option<Lent>) -> bool
     ensures { result ≡ is_of_host_told lent }
 {
@@ -81,6 +85,7 @@ fn is_of_host(lent: Option<Lent>) -> bool
 }
 
 /// The owner of a frame: that of its annotation, and else, where the host borrows it, the guest that shares it.
+#[inline(always)]
 fn owner_of(annotated: Option<Row>, lent: Option<Row>, shared: Option<Row>) -> Owner
     ensures { result.0 ≡ owner_told annotated lent shared }
 {
@@ -95,6 +100,7 @@ fn owner_of(annotated: Option<Row>, lent: Option<Row>, shared: Option<Row>) -> O
 }
 
 /// Whether a run ends at a frame or before it.
+#[inline(always)]
 fn ends_by(run: &Run<Row>, frame: u64) -> bool
     ensures { result ≡ nat_lt (run_end run.now) (frame + 1) }
 {
@@ -103,6 +109,7 @@ fn ends_by(run: &Run<Row>, frame: u64) -> bool
 }
 
 /// How many runs of a list end at a frame or before it, counted on from a place: the runs before that aren't looked at.
+#[inline(always)]
 fn place_from(runs: &[Run<Row>], near: usize, frame: u64) -> usize
     requires { IsNear (frame + 1) near runs.now }
     ensures { IsEndedAt (frame + 1) result runs.now }
@@ -118,6 +125,7 @@ fn place_from(runs: &[Run<Row>], near: usize, frame: u64) -> usize
 }
 
 /// The row that a list has for a frame, read at the frame's place.
+#[inline(always)]
 fn row_at(runs: &[Run<Row>], place: usize, frame: u64) -> Option<Row>
     requires coarsest { IsCoarsest advance_row runs.now }
     requires reach { AreInReach HasPageBelow runs.now }
@@ -136,6 +144,7 @@ fn row_at(runs: &[Run<Row>], place: usize, frame: u64) -> Option<Row>
 }
 
 /// The frame before which a run neither begins nor ends behind a frame, and no later than another.
+#[inline(always)]
 fn bound_by(run: Run<Row>, low: u64, high: u64) -> u64
     requires order { low < high }
     requires reach { InReach HasPageBelow run }
@@ -154,6 +163,7 @@ fn bound_by(run: Run<Row>, low: u64, high: u64) -> u64
 }
 
 /// The frame before which a list goes on as it does at a frame, whose place is given, and no later than another.
+#[inline(always)]
 fn bound_of(runs: &[Run<Row>], place: usize, low: u64, high: u64) -> u64
     requires order { low < high }
     requires coarsest { IsCoarsest advance_row runs.now }
@@ -172,7 +182,14 @@ fn bound_of(runs: &[Run<Row>], place: usize, low: u64, high: u64) -> u64
 impl Lists {
     ghost use Rattle.ghost_rows.specs.RowsTold.{told, AreReached, AreNear, AreEndedAt};
 
+    /// The runs of the annotations and of the loans together: about so many pieces there are where frames are in few uses.
+    pub(crate) fn count(&self) -> usize {
+        let annotated = self.annotated.runs().len();
+        annotated.saturating_add(self.lent.runs().len())
+    }
+
     /// The places of a frame, counted on from those of a frame before it.
+    #[inline(always)]
     pub(crate) fn places_from(&self, near: Places, frame: u64) -> Places
         requires { AreNear (frame + 1) near self.now }
         ensures { AreEndedAt (frame + 1) result self.now }
@@ -186,6 +203,7 @@ impl Lists {
     }
 
     /// The row of a frame, whose places are given.
+    #[inline(always)]
     pub(crate) fn row(&self, places: Places, frame: u64) -> Row
         requires { AreEndedAt (frame + 1) places self.now }
         ensures { result ≡ told self.now frame }
@@ -202,6 +220,7 @@ impl Lists {
     }
 
     /// The frame before which all lists go on as they do at a frame, whose places are given, and no later than another.
+    #[inline(always)]
     pub(crate) fn bound(&self, places: Places, low: u64, high: u64) -> u64
         requires order { low < high }
         requires reach { AreReached self.now }

@@ -1,12 +1,15 @@
-use Rattle.std.proofs.Common.{◌≡◌, ℕ, take}
+use Rattle.std.proofs.Common.{◌≡◌, ◌+◌, ◌<◌, ℕ, get_or, length, take}
+use Rattle.page_state.specs.declared.entry.Run.{Run}
 use Rattle.page_state.specs.Rows.{advance_row, HasPageBelow}
 use Rattle.page_state.specs.Runs.{map_of}
-use Rattle.run_list.specs.Runs.{run_map, AreInReach}
+use Rattle.run_list.specs.Runs.{run_map, EndBefore}
+use Rattle.run_list.specs.View.{IsKept}
 use Rattle.ghost_rows.specs.RowsLaid.{annotated_row}
 use Rattle.ghost_rows.proofs.rows.loans.annotated.Given as goal
 
 abbrev pub invariant-loop-i : goal.invariant-loop-i
 invariant-loop-i l = record {
-  map : (f : ℕ) → run_map advance_row l.rows.runs f ≡ annotated_row (map_of (take l.i l.runs) f);
-  reach : AreInReach HasPageBelow l.rows.runs;
+  map : (f : ℕ) → run_map advance_row l.rows.items f ≡ annotated_row (map_of (take l.i l.runs) f);
+  kept : IsKept advance_row HasPageBelow l.rows.items;
+  behind : (d : Run) → l.i < length l.runs → EndBefore ((get_or l.runs l.i d).pages.first.0 + 1) l.rows.items;
 }
