@@ -1,8 +1,9 @@
 -- Runs of a list taken from the first on: what stands in front of a run tells nothing of its pages, or of its frames.
-use Rattle.std.proofs.Common.{◌≡◌, ℕ, Bool, zero, suc, ◌+◌, ◌<◌, ◌≤◌, true, false, List, [], ◌∷◌, take, length, get_or, Option, Some, None, refl, sym, ap, subst, ◌∙◌, arith, cond}
+use Rattle.std.proofs.Common.{◌≡◌, ℕ, Bool, zero, suc, ◌+◌, ◌<◌, ◌≤◌, true, false, List, [], ◌∷◌, take, drop, length, get_or, Option, Some, None, refl, sym, ap, subst, ◌∙◌, arith, cond}
 use Rattle.std.specs.Option.{option_or}
 use Rattle.std.specs.Prelude.{is_some, nat_lt}
 use Rattle.std.proofs.lemmas.Bool.Decides.{nat_tests}
+use Rattle.std.proofs.lemmas.List.{drop_more}
 use Rattle.descriptor.specs.declared.State.{State}
 use Rattle.page_state.specs.declared.entry.Entry.{Entry}
 use Rattle.page_state.specs.declared.entry.Entry.TheVariants.{Unmapped}
@@ -19,7 +20,7 @@ use Rattle.run_list.proofs.Maps.{ends_later}
 use Rattle.ghost_spec.specs.Found.{run_page}
 use Rattle.ghost_trees.proofs.Coarse.{BeginsFrom, begins_before, begins_next}
 use Rattle.ghost_trees.proofs.Overlaid.{within_means}
-use Rattle.ghost_rows.specs.RowsLaid.{annotated_row, annotation_on, loan_at, low_page, run_below, run_frames, next_above}
+use Rattle.ghost_rows.specs.RowsLaid.{annotated_row, annotation_on, loan_at, low_page, run_below, run_frames, next_above, last_above}
 use Rattle.ghost_rows.proofs.RowsLaid.{page_in, page-among}
 
 pub or-none : {X : Type 0} (o : Option X) → option_or o None ≡ o
@@ -161,3 +162,15 @@ module _ (limit : ℕ) (s : State) (f : ℕ) where
 
   pub none-more : (high end : ℕ) (rs : List Run) (i : ℕ) (d : Run) → i < length rs → IsNextAbove high (get_or rs i d) end → (high ≤ f → low_page limit s f (take i rs) ≡ None) → end ≤ f → low_page limit s f (take (i + 1) rs) ≡ None
   none-more high end rs i d h a none k = low_page-more rs i d h ∙ next-none high end (get_or rs i d) (low_page limit s f (take i rs)) a none k
+
+-- the end of one run's frames more
+
+pub rises-more : (limit : ℕ) (s : State) (high end : ℕ) (rs : List Run) (i : ℕ) (d : Run) → i < length rs → Some end ≡ next_above high (run_frames s (run_below limit (get_or rs i d)))
+    → last_above limit s high (drop i rs) ≡ last_above limit s end (drop (i + 1) rs)
+rises-more limit s high end rs i d h e = ap (last_above limit s high) (drop_more rs i d h)
+    ∙ ap (λ (o : Option ℕ). elim o [ Some next ↦ last_above limit s next (drop (i + 1) rs) | None ↦ None ]) (sym e)
+
+pub rises-not : (limit : ℕ) (s : State) (high : ℕ) (rs : List Run) (i : ℕ) (d : Run) → i < length rs → None ≡ next_above high (run_frames s (run_below limit (get_or rs i d)))
+    → last_above limit s high (drop i rs) ≡ None
+rises-not limit s high rs i d h e = ap (last_above limit s high) (drop_more rs i d h)
+    ∙ ap (λ (o : Option ℕ). elim o [ Some next ↦ last_above limit s next (drop (i + 1) rs) | None ↦ None ]) (sym e)

@@ -84,6 +84,11 @@ abbrev pub next_above : ℕ → Option PageRange → Option ℕ
 next_above high None = Some high
 next_above high (Some frames) = if nat_lt frames.first.0 high then None else Some (end_of frames)
 
+-- where the frames end that runs map in the state below a limit, one run's behind another's and all from a frame on; none where they don't rise so
+abbrev pub last_above : ℕ → State → ℕ → List Run → Option ℕ
+last_above limit s high [] = Some high
+last_above limit s high (r ∷ rs) = elim (next_above high (run_frames s (run_below limit r))) [ Some end ↦ last_above limit s end rs | None ↦ None ]
+
 -- lent to a guest, where it maps the frame in the state
 abbrev pub guest_loan : Layout → (ℕ → Guest) → State → ℕ → ℕ → Option Row
 guest_loan l guest s f v = loan_at (2 + v) (page_of l (guest v).tree.map s f)

@@ -7,7 +7,7 @@ ghost use Rattle.page_state.specs.Rows.{HasPageBelow};
 ghost use Rattle.run_list.specs.OwnerRows.{lent_eq, usage_eq, row_eq, row_laws};
 
 use crate::Advance;
-use page_state::{Entry, Lent, Row, Target, Usage};
+use page_state::{Lent, Row, Target, Usage};
 
 impl Advance for Target {
     ghost advance = { advance_target };
@@ -23,7 +23,30 @@ impl Advance for Target {
     }
 
     fn is_same(self, other: Target) -> bool {
-        Entry::from(self).is_same(Entry::from(other))
+        match (self, other) {
+            (Target::Malformed, Target::Malformed) => true,
+            (Target::Annotated(owner), Target::Annotated(other_owner)) => owner.0 == other_owner.0,
+            (
+                Target::Leaf {
+                    frame,
+                    prot,
+                    kind,
+                    state,
+                },
+                Target::Leaf {
+                    frame: other_frame,
+                    prot: other_prot,
+                    kind: other_kind,
+                    state: other_state,
+                },
+            ) => {
+                frame.0 == other_frame.0
+                    && prot == other_prot
+                    && kind == other_kind
+                    && state == other_state
+            }
+            _ => false,
+        }
     }
 }
 

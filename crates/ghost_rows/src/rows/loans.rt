@@ -1,5 +1,5 @@
 //! Annotations of frames, and loans: which component maps a frame first, and at which page.
-ghost use Rattle.std.specs.Prelude.{◌≡◌, ℕ, ◌+◌, ◌-◌, ◌≤◌, ◌^◌, IfOk, IfSome, OnOk, length, min};
+ghost use Rattle.std.specs.Prelude.{◌≡◌, ℕ, ◌+◌, ◌-◌, ◌≤◌, ◌^◌, IfOk, IfSome, OnOk, is_some, length, min};
 ghost use Rattle.std.specs.Option.{option_or, ForSome};
 ghost use Rattle.page_state.specs.Entries.{entry_of_target};
 ghost use Rattle.page_state.specs.EntryTests.{state_eq};
@@ -14,7 +14,7 @@ ghost use Rattle.run_list.specs.View.{IsKept};
 ghost use Rattle.ghost_spec.specs.Found.{run_page};
 ghost use Rattle.ghost_trees.specs.Small.{IsSmall, AreSmall};
 ghost use Rattle.ghost_trees.specs.Trees.{tree_in_lists};
-ghost use Rattle.ghost_rows.specs.RowsLaid.{annotated_row, annotation_on, loan_row, loan_at, low_page, run_below, guests_loan, any_loan, run_frames, next_above, HaveSmallRuns};
+ghost use Rattle.ghost_rows.specs.RowsLaid.{annotated_row, annotation_on, loan_row, loan_at, low_page, run_below, guests_loan, any_loan, run_frames, next_above, last_above, HaveSmallRuns};
 
 use super::order::is_coarsest;
 use super::overlay::{lay, lay_all, put_last};
@@ -215,6 +215,7 @@ fn rising_loans(
     requires coarsest { IsCoarsest runs.now }
     ensures map { IfOk result (λ o. IfSome o (λ r. (f : ℕ) → run_map advance_row r.runs f ≡ loan_at number (page_of (layout_of layout.now) (map_of runs.now) state f))) }
     ensures reach { IfOk result (λ o. IfSome o (λ r. AreInReach HasPageBelow r.runs)) }
+    ensures rises { IfOk result (λ o. is_some o ≡ is_some (last_above (pages_below (layout_of layout.now).depth) state 0 runs.now)) }
 {
     let mut rows = Vec::with_capacity(alloc, runs.len())?;
     let mut high = 0;

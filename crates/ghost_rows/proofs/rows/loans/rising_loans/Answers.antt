@@ -6,7 +6,7 @@ use Rattle.page_state.specs.Rows.{advance_row}
 use Rattle.run_list.specs.declared.run.Run.{Run}
 use Rattle.run_list.specs.Runs.{run_map}
 use Rattle.ghost_rows.specs.RowsLaid.{loan_at, low_page}
-use Rattle.ghost_rows.proofs.RowsAhead.{lent-more, next-above, none-more, or-none}
+use Rattle.ghost_rows.proofs.RowsAhead.{lent-more, next-above, none-more, or-none, rises-more, rises-not}
 use Rattle.ghost_rows.proofs.RowsPages.{low_page-is}
 use Rattle.ghost_rows.proofs.rows.loans.rising_loans.Goals as goal
 
@@ -19,6 +19,7 @@ loop-i-preserved c =
     record {
       map = λ f. lent-more limit c.args.state f c.args.number c.loop-i.high c.in-Some.end c.args.runs.now c.loop-i.i _ (run_map advance_row c.lend_next.new.rows.items f) (run_map advance_row c.loop-i.rows.items f) None within (next-above limit c.args.state f c.loop-i.high c.in-Some.end _ told) (c.loop-i.invariant.high f) (lent f) (c.loop-i.invariant.map f);
       high = λ f h. none-more limit c.args.state f c.loop-i.high c.in-Some.end c.args.runs.now c.loop-i.i _ within (next-above limit c.args.state f c.loop-i.high c.in-Some.end _ told) (c.loop-i.invariant.high f) h;
+      rises = c.loop-i.invariant.rises ∙ rises-more limit c.args.state c.loop-i.high c.in-Some.end c.args.runs.now c.loop-i.i _ within told;
       kept = c.in_ok-end.ensures.kept;
       behind = rw c.in-Some.is at c.in_ok-end.ensures.behind;
     }
