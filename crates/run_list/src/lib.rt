@@ -10,4 +10,5 @@ mod values;
 
 pub use advance::Advance;
 pub use list::RunList;
+pub use places::push_run;
 pub use run::Run;

@@ -3,13 +3,11 @@ ghost use Rattle.std.specs.Prelude.{◌≡◌, ℕ, ◌+◌, ◌<◌, ◌≤◌,
 ghost use Rattle.std.specs.Option.{option_or, ForSome};
 ghost use Rattle.page_state.specs.Regions.{end_of};
 ghost use Rattle.page_state.specs.Rows.{advance_row, HasPageBelow};
-ghost use Rattle.run_list.specs.OwnerRows.{row_eq};
-ghost use Rattle.run_list.specs.Parts.{continues, glue, longer as longer_run, one_run};
-ghost use Rattle.run_list.specs.Runs.{run_map, map_updated, AreInReach, EndBefore, InReach};
+ghost use Rattle.run_list.specs.Runs.{run_map, map_updated, AreInReach, EndBefore};
 ghost use Rattle.run_list.specs.View.{IsKept};
 
 use page_state::{PageRange, Row};
-use run_list::{Advance, Run, RunList};
+use run_list::{Run, RunList, push_run};
 use std::alloc::AllocError;
 
 /// Whether each run begins at a frame or behind it.
@@ -59,45 +57,6 @@ pub(crate) fn lay_all(rows: &mut RunList<Row>, over: RunList<Row>) -> Result<(),
     Ok(())
 }
 
-/// Whether the second run goes on as the first.
-fn is_continued(run: Run<Row>, next: Run<Row>) -> bool
-    requires { InReach HasPageBelow run }
-    ensures { result ≡ continues advance_row row_eq run next }
-{
-    run.pages.first.0 + run.pages.count == next.pages.first.0
-        && run.value.advanced(run.pages.count).is_same(next.value)
-}
-
-/// A run with the frames of one that goes on as it does.
-fn longer(run: Run<Row>, next: Run<Row>) -> Run<Row>
-    requires { run.pages.count + next.pages.count < 2 ^ 64 }
-    ensures { result ≡ longer_run run next }
-{
-    Run {
-        pages: PageRange {
-            first: run.pages.first,
-            count: run.pages.count + next.pages.count,
-        },
-        value: run.value,
-    }
-}
-
-/// Puts a run behind a list, or gives its frames to the last run where it goes on as that one.
-#[inline(always)]
-fn join_last(rows: &mut Vec<Run<Row>>, run: Run<Row>) -> Result<(), AllocError>
-    requires rows { AreInReach HasPageBelow rows.old.items }
-    requires run { InReach HasPageBelow run }
-    ensures { OnOk result (rows.new.items ≡ glue advance_row row_eq rows.old.items (one_run (Some run))) }
-{
-    let last = rows.len();
-    if last > 0 && is_continued(rows[last - 1], run) {
-        rows[last - 1] = longer(rows[last - 1], run);
-        return Ok(());
-    }
-    rows.push(run)?;
-    Ok(())
-}
-
 /// Frames behind those of all rows of a list get a row, which advances along them. No row is searched.
 #[inline(always)]
 pub(crate) fn put_last(
@@ -120,6 +79,6 @@ pub(crate) fn put_last(
         pages: frames,
         value: row,
     };
-    join_last(rows, run)?;
+    push_run(rows, run)?;
     Ok(())
 }

@@ -1,7 +1,7 @@
-use Rattle.std.proofs.Common.{◌≡◌, ℕ, suc, ◌+◌, ◌<◌, ◌≤◌, true, false, take, drop, nat_le, sym, subst, ◌∙◌, arith}
+use Rattle.std.proofs.Common.{◌≡◌, ℕ, suc, ◌+◌, ◌≤◌, true, false, take, nat_le, sym, subst, ◌∙◌, arith}
 use Rattle.std.proofs.lemmas.Bool.Decides.{nat_tests}
 use Rattle.run_list.specs.Parts.{BeginBy}
-use Rattle.run_list.proofs.Found.{begun_more, past_start, starts_drop}
+use Rattle.run_list.proofs.Found.{begun_more}
 use Rattle.run_list.proofs.places.begun_from.Goals as goal
 
 is_by : (a b : ℕ) → nat_le a b ≡ true → a ≤ b

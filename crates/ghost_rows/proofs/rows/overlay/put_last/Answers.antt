@@ -19,14 +19,14 @@ pub returns-clause-map : goal.returns-clause-map
 returns-clause-map c =
     let rs = c.args.rows.now.items in
     let some : 0 < c.args.frames.count = omega (arith, c.if-frames-eq0.false) in
-    ap (run_map advance_row) (c.in_ok-join_last.ensures ∙ behind_edited advance_row HasPageBelow row_eq row_laws c.args.frames (Some c.args.row) rs c.requires.kept.coarsest c.requires.behind)
+    ap (run_map advance_row) (c.in_ok-push_run.ensures.ok ∙ behind_edited advance_row HasPageBelow row_eq row_laws c.args.frames (Some c.args.row) rs c.requires.kept.coarsest c.requires.behind)
     ∙ changed_map advance_row HasPageBelow row_eq row_laws c.args.frames (Some c.args.row) rs c.requires.kept some
 
 pub returns-clause-kept : goal.returns-clause-kept
 returns-clause-kept c =
     let rs = c.args.rows.now.items in
     let some : 0 < c.args.frames.count = omega (arith, c.if-frames-eq0.false) in
-    let same = c.in_ok-join_last.ensures ∙ behind_edited advance_row HasPageBelow row_eq row_laws c.args.frames (Some c.args.row) rs c.requires.kept.coarsest c.requires.behind in
+    let same = c.in_ok-push_run.ensures.ok ∙ behind_edited advance_row HasPageBelow row_eq row_laws c.args.frames (Some c.args.row) rs c.requires.kept.coarsest c.requires.behind in
     rw same (record {
       coarsest = changed_coarsest advance_row HasPageBelow row_eq row_laws c.args.frames (Some c.args.row) rs c.requires.kept some;
       in_reach = changed_reach advance_row HasPageBelow row_eq row_laws c.args.frames (Some c.args.row) rs c.requires.kept some c.requires.frames (small-some c.args.row c.args.frames.count c.requires.small);
@@ -35,4 +35,4 @@ returns-clause-kept c =
 pub returns-clause-behind : goal.returns-clause-behind
 returns-clause-behind c =
     let end = c.args.frames.first.0 + c.args.frames.count + 1 in
-    rw c.in_ok-join_last.ensures (glue_ends advance_row HasPageBelow row_eq row_laws end c.args.rows.now.items _ (ends_later (c.args.frames.first.0 + 1) end c.args.rows.now.items (omega arith) c.requires.behind) (run_of_ends c.args.frames (Some c.args.row)))
+    rw c.in_ok-push_run.ensures.ok (glue_ends advance_row HasPageBelow row_eq row_laws end c.args.rows.now.items _ (ends_later (c.args.frames.first.0 + 1) end c.args.rows.now.items (omega arith) c.requires.behind) (run_of_ends c.args.frames (Some c.args.row)))
