@@ -1,6 +1,7 @@
 -- The first page below the input pages' limit, by runs that are cut there.
-use Rattle.std.proofs.Common.{◌≡◌, ℕ, zero, suc, ◌+◌, ◌-◌, ◌<◌, ◌≤◌, ◌&&◌, true, false, min, List, [], ◌∷◌, drop, Option, Some, None, refl, sym, ap, ◌∙◌, arith}
+use Rattle.std.proofs.Common.{◌≡◌, ℕ, zero, suc, ◌+◌, ◌-◌, ◌<◌, ◌≤◌, ◌&&◌, ◌||◌, Bool, true, false, min, List, [], ◌∷◌, drop, Option, Some, None, refl, sym, ap, ◌∙◌, arith}
 use Rattle.std.specs.Prelude.{nat_lt, if◌then◌else◌}
+use Rattle.std.specs.List.{list_any}
 use Rattle.std.specs.Option.{option_or}
 use Rattle.std.proofs.lemmas.Bool.Decides.{nat_tests}
 use Rattle.descriptor.specs.declared.State.{State}
@@ -8,6 +9,7 @@ use Rattle.page_state.specs.declared.entry.PageRange.{PageRange}
 use Rattle.page_state.specs.declared.entry.Run.{Run}
 use Rattle.page_state.specs.declared.entry.Target.{Target}
 use Rattle.page_state.specs.declared.entry.Target.TheVariants.{Malformed, Annotated, Leaf}
+use Rattle.page_state.specs.declared.row.Row.{Row}
 use Rattle.page_state.specs.EntryTests.{state_eq}
 use Rattle.page_state.specs.Geometries.{pages_below}
 use Rattle.page_state.specs.Layouts.{Layout}
@@ -21,7 +23,7 @@ use Rattle.reference_model.specs.Owner.{page_of}
 use Rattle.ghost_spec.specs.Found.{target_page, run_page, first_page_in}
 use Rattle.ghost_spec.proofs.FoundPages.{page-is, page-past, page-none}
 use Rattle.ghost_trees.proofs.Overlaid.{within_means}
-use Rattle.ghost_rows.specs.RowsLaid.{low_page}
+use Rattle.ghost_rows.specs.RowsLaid.{loan_at, low_page, is_leaf_in, maps_in}
 
 some-same : {a b : ℕ} → Some a ≡ Some b → a ≡ b
 some-same h = cc
@@ -123,6 +125,27 @@ module _ (l : Layout) (s : State) (f : ℕ) (rs : List Run) (c : IsCoarsest rs) 
 
   pub low_page-is : low_page (pages_below l.depth) s f rs ≡ page_of l (map_of rs) s f
   low_page-is = low-is (pages_below l.depth) s f rs c ∙ sym (page-cut (first_page_in f s rs) refl)
+
+-- where no run maps frames in the state no frame has a page
+
+either-not : (a b : Bool) → (a || b) ≡ false → (a ≡ false) × (b ≡ false)
+either-not true b h = cc
+either-not false b h = (refl, h)
+
+module _ (s : State) (f : ℕ) where
+  leaf-none : (pages : PageRange) (t : Target) → is_leaf_in s t ≡ false → target_page f s pages t ≡ None
+  leaf-none pages Malformed h = refl
+  leaf-none pages (Annotated o) h = refl
+  leaf-none pages (Leaf frame prot kind state) h = rw h refl
+
+  first-none : (rs : List Run) → list_any (maps_in s) rs ≡ false → first_page_in f s rs ≡ None
+  first-none [] h = refl
+  first-none (r ∷ rs) h =
+      let both = either-not (maps_in s r) (list_any (maps_in s) rs) h in
+      ap (λ (o : Option ℕ). elim o [ Some page ↦ Some page | None ↦ first_page_in f s rs ]) (leaf-none r.pages r.target both.0) ∙ first-none rs both.1
+
+  pub none-lent : (l : Layout) (number : ℕ) (rs : List Run) (row : Option Row) → list_any (maps_in s) rs ≡ false → row ≡ option_or (loan_at number (page_of l (map_of rs) s f)) row
+  none-lent l number rs row h = ap (λ (o : Option ℕ). option_or (loan_at number o) row) (sym (page-none f s l rs (first-none rs h)))
 
 -- what stands behind a place of a coarsest list is one
 pub coarsest-drop : (i : ℕ) (rs : List Run) → IsCoarsest rs → IsCoarsest (drop i rs)

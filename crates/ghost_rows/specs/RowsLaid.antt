@@ -1,5 +1,5 @@
 -- What lists of rows tell of frames, each of one thing: annotations, loans or uses.
-use Rattle.std.specs.Prelude.{ℕ, zero, suc, ◌+◌, ◌-◌, ◌||◌, Bool, nat_lt, min, List, [], ◌∷◌, get_or, map, length, All, Option, Some, None, option_map, if◌then◌else◌}
+use Rattle.std.specs.Prelude.{ℕ, zero, suc, ◌+◌, ◌-◌, ◌||◌, Bool, false, nat_lt, min, List, [], ◌∷◌, get_or, map, length, All, Option, Some, None, option_map, if◌then◌else◌}
 use Rattle.std.specs.Option.{option_or}
 use Rattle.descriptor.specs.declared.State.{State}
 use Rattle.descriptor.specs.declared.State.TheVariants.{SharedBorrowed}
@@ -69,6 +69,15 @@ run_below limit r = record r { pages = record r.pages { count = min r.pages.coun
 abbrev pub low_page : ℕ → State → ℕ → List Run → Option ℕ
 low_page limit s f [] = None
 low_page limit s f (r ∷ rs) = option_or (run_page f s (run_below limit r)) (low_page limit s f rs)
+
+-- a target is a leaf in the state
+abbrev pub is_leaf_in : State → Target → Bool
+is_leaf_in s (Leaf frame prot kind own) = state_eq own s
+is_leaf_in s other = false
+
+-- a run maps frames in the state
+abbrev pub maps_in : State → Run → Bool
+maps_in s r = is_leaf_in s r.target
 
 -- the frames of a range of pages with a target, where that is a leaf in the state
 abbrev pub target_frames : State → PageRange → Target → Option PageRange

@@ -10,6 +10,7 @@ ghost use Rattle.page_state.specs.Layouts.{is_memory};
 ghost use Rattle.page_state.specs.LayoutView.{layout_of};
 ghost use Rattle.page_state.specs.Regions.{end_of, is_in_range, is_memory_kind};
 ghost use Rattle.page_state.specs.Rows.{advance_row, HasPageBelow};
+ghost use Rattle.page_state.specs.Runs.{map_of, IsCoarsest};
 ghost use Rattle.reference_model.specs.Owner.{row_of};
 ghost use Rattle.run_list.specs.Runs.{run_map, AreInReach};
 ghost use Rattle.ghost_trees.specs.Small.{AreSmall};
@@ -18,15 +19,40 @@ ghost use Rattle.ghost_rows.specs.RowsLaid.{HaveSmallRuns};
 ghost use Rattle.ghost_rows.specs.RowsTold.{told, AreReached};
 
 use ghost_spec::state::Ghost;
-use loans::{all_loans, annotations, guest_loans};
+use ghost_trees::runs::coarsest;
+use loans::{all_loans, annotated, guest_loans};
+use order::is_coarsest;
 use overlay::{lay, lay_all, put_last};
-use page_state::{Page, PageRange, Region, RegionKind, Row, State};
+use page_state::{Page, PageRange, Region, RegionKind, Row, Run, State};
 use pieces::{Lists, Places};
 use run_list::RunList;
 use std::alloc::{AllocError, Global};
 use uses::all_uses;
 
-/// What is told of each frame by all parts of the state.
+/// What is told of each frame by the host's runs in order and all other parts of the state.
+fn lists_by(alloc: Global, host: &[Run], state: &Ghost) -> Result<Lists, AllocError>
+    requires small { AreSmall host.now }
+    requires coarsest { IsCoarsest host.now }
+    requires same { map_of host.now ≡ map_of state.now.shared.host.runs.items }
+    requires hyp { AreSmall state.now.shared.hyp.runs.items }
+    requires guests { HaveSmallRuns state.now.guests.items }
+    requires guests_count { length state.now.guests.items ≡ 64 }
+    requires cpus_count { length state.now.cpus.items ≡ state.now.layout.config.cpus }
+    ensures told { IfOk result (λ x. (f : ℕ) → f < 2 ^ 26 → told x f ≡ row_of (layout_of state.now.layout) (contents_in state.now) f) }
+    ensures reach { IfOk result AreReached }
+{
+    let layout = &state.layout;
+    let guests = state.guests.as_slice();
+    Ok(Lists {
+        annotated: annotated(alloc, host)?,
+        lent: all_loans(alloc, layout, host, &state.shared.hyp, guests)?,
+        shared: guest_loans(alloc, layout, guests, State::SharedOwned)?,
+        used: all_uses(alloc, layout, &state.shared, guests, state.cpus.as_slice())?,
+    })
+}
+
+/// What is told of each frame by all parts of the state. Whether the host's runs are in order is asked once; where they aren't,
+/// they are put in order.
 fn lists_of(alloc: Global, state: &Ghost) -> Result<Lists, AllocError>
     requires host { AreSmall state.now.shared.host.runs.items }
     requires hyp { AreSmall state.now.shared.hyp.runs.items }
@@ -36,19 +62,12 @@ fn lists_of(alloc: Global, state: &Ghost) -> Result<Lists, AllocError>
     ensures told { IfOk result (λ x. (f : ℕ) → f < 2 ^ 26 → told x f ≡ row_of (layout_of state.now.layout) (contents_in state.now) f) }
     ensures reach { IfOk result AreReached }
 {
-    let guests = state.guests.as_slice();
-    Ok(Lists {
-        annotated: annotations(alloc, state.shared.host.runs.as_slice())?,
-        lent: all_loans(alloc, &state.layout, &state.shared, guests)?,
-        shared: guest_loans(alloc, &state.layout, guests, State::SharedOwned)?,
-        used: all_uses(
-            alloc,
-            &state.layout,
-            &state.shared,
-            guests,
-            state.cpus.as_slice(),
-        )?,
-    })
+    let host = state.shared.host.runs.as_slice();
+    if is_coarsest(host) {
+        return lists_by(alloc, host, state);
+    }
+    let ordered = coarsest(alloc, host)?;
+    lists_by(alloc, ordered.as_slice(), state)
 }
 
 /// The rows of the frames of a range, piece by piece: along a piece each list goes on as it begins.

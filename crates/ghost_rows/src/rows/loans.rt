@@ -1,5 +1,6 @@
 //! Annotations of frames, and loans: which component maps a frame first, and at which page.
 ghost use Rattle.std.specs.Prelude.{◌≡◌, ℕ, ◌+◌, ◌-◌, ◌≤◌, ◌^◌, IfOk, IfSome, OnOk, is_some, length, min};
+ghost use Rattle.std.specs.List.{list_any};
 ghost use Rattle.std.specs.Option.{option_or, ForSome};
 ghost use Rattle.page_state.specs.Entries.{entry_of_target};
 ghost use Rattle.page_state.specs.EntryTests.{state_eq};
@@ -14,12 +15,11 @@ ghost use Rattle.run_list.specs.View.{IsKept};
 ghost use Rattle.ghost_spec.specs.Found.{run_page};
 ghost use Rattle.ghost_trees.specs.Small.{IsSmall, AreSmall};
 ghost use Rattle.ghost_trees.specs.Trees.{tree_in_lists};
-ghost use Rattle.ghost_rows.specs.RowsLaid.{annotated_row, annotation_on, loan_row, loan_at, low_page, run_below, guests_loan, any_loan, run_frames, next_above, last_above, HaveSmallRuns};
+ghost use Rattle.ghost_rows.specs.RowsLaid.{annotated_row, annotation_on, loan_row, loan_at, low_page, maps_in, run_below, guests_loan, any_loan, run_frames, next_above, last_above, HaveSmallRuns};
 
 use super::order::is_coarsest;
 use super::overlay::{lay, lay_all, put_last};
 use ghost_spec::parts::GhostGuest;
-use ghost_spec::shared::Shared;
 use ghost_trees::runs::coarsest;
 use ghost_trees::tree::Tree;
 use page_state::{Layout, Lent, Owner, Page, PageRange, Row, Run, State, Target, Usage};
@@ -57,7 +57,7 @@ fn annotate(rows: &mut Vec<RowRun<Row>>, run: Run) -> Result<(), AllocError>
 }
 
 /// The owners of the pages that are annotated in runs that are in order.
-fn annotated(alloc: Global, runs: &[Run]) -> Result<RunList<Row>, AllocError>
+pub(crate) fn annotated(alloc: Global, runs: &[Run]) -> Result<RunList<Row>, AllocError>
     requires small { AreSmall runs.now }
     requires coarsest { IsCoarsest runs.now }
     ensures map { IfOk result (λ r. (f : ℕ) → run_map advance_row r.runs f ≡ annotated_row (map_of runs.now f)) }
@@ -68,19 +68,6 @@ fn annotated(alloc: Global, runs: &[Run]) -> Result<RunList<Row>, AllocError>
         annotate(&mut rows, runs[i])?;
     }
     Ok(RunList::of(rows))
-}
-
-/// The owners of the pages that are annotated. Runs that aren't in order are put in order first.
-pub(crate) fn annotations(alloc: Global, runs: &[Run]) -> Result<RunList<Row>, AllocError>
-    requires { AreSmall runs.now }
-    ensures map { IfOk result (λ r. (f : ℕ) → run_map advance_row r.runs f ≡ annotated_row (map_of runs.now f)) }
-    ensures reach { IfOk result (λ r. AreInReach HasPageBelow r.runs) }
-{
-    if is_coarsest(runs) {
-        return annotated(alloc, runs);
-    }
-    let ordered = coarsest(alloc, runs)?;
-    annotated(alloc, ordered.as_slice())
 }
 
 /// The row of a frame that is lent to the component of a number, at its page.
@@ -250,8 +237,25 @@ fn lend_runs(
     }
 }
 
+/// Whether a run maps frames in the state.
+fn is_in(run: &Run, state: State) -> bool
+    ensures { result ≡ maps_in state run.now }
+{
+    match run.target {
+        Target::Leaf { state: own, .. } => is_same(own, state),
+        _ => false,
+    }
+}
+
+/// Whether some run maps frames in the state.
+fn any_in(runs: &[Run], state: State) -> bool
+    ensures { result ≡ list_any (maps_in state) runs.now }
+{
+    runs.iter().any(|run| is_in(run, state))
+}
+
 /// The frames that a tree maps in the state are lent to the component of a number, each at the first page that maps it.
-/// Runs that aren't in order are put in order first.
+/// Runs that aren't in order are put in order first; those of which none maps a frame so are passed over.
 fn lend_tree(
     alloc: Global,
     layout: &Layout,
@@ -266,7 +270,7 @@ fn lend_tree(
     ensures reach { AreInReach HasPageBelow rows.new.runs }
 {
     let runs = tree.runs.as_slice();
-    if runs.is_empty() {
+    if !any_in(runs, state) {
         return Ok(());
     }
     if is_coarsest(runs) {
@@ -303,36 +307,29 @@ pub(crate) fn guest_loans(
     Ok(rows)
 }
 
-/// To whom each frame is lent: the first of the host, the hypervisor and the guests that borrows it, at its first page.
+/// To whom each frame is lent: the first of the host, whose runs are in order, the hypervisor and the guests that borrows it,
+/// at its first page.
 pub(crate) fn all_loans(
     alloc: Global,
     layout: &Layout,
-    shared: &Shared,
+    host: &[Run],
+    hyp: &Tree,
     guests: &[GhostGuest],
 ) -> Result<RunList<Row>, AllocError>
-    requires host { AreSmall shared.now.host.runs.items }
-    requires hyp { AreSmall shared.now.hyp.runs.items }
+    requires host { AreSmall host.now }
+    requires coarsest { IsCoarsest host.now }
+    requires hyp { AreSmall hyp.now.runs.items }
     requires count { length guests.now ≤ 64 }
     requires small { HaveSmallRuns guests.now }
-    ensures map { IfOk result (λ r. (f : ℕ) → run_map advance_row r.runs f ≡ any_loan (layout_of layout.now) (tree_in_lists shared.now.host).map (tree_in_lists shared.now.hyp).map guests.now f) }
+    ensures map { IfOk result (λ r. (f : ℕ) → run_map advance_row r.runs f ≡ any_loan (layout_of layout.now) (map_of host.now) (tree_in_lists hyp.now).map guests.now f) }
     ensures reach { IfOk result (λ r. AreInReach HasPageBelow r.runs) }
 {
-    let mut rows = guest_loans(alloc, layout, guests, State::SharedBorrowed)?;
-    lend_tree(
-        alloc,
-        layout,
-        &mut rows,
-        1,
-        &shared.hyp,
-        State::SharedBorrowed,
-    )?;
-    lend_tree(
-        alloc,
-        layout,
-        &mut rows,
-        0,
-        &shared.host,
-        State::SharedBorrowed,
-    )?;
+    let borrowed = State::SharedBorrowed;
+    let mut rows = guest_loans(alloc, layout, guests, borrowed)?;
+    lend_tree(alloc, layout, &mut rows, 1, hyp, borrowed)?;
+    if !any_in(host, borrowed) {
+        return Ok(rows);
+    }
+    lend_runs(alloc, layout, &mut rows, 0, host, borrowed)?;
     Ok(rows)
 }

@@ -6,7 +6,7 @@ use Rattle.page_state.specs.Rows.{advance_row}
 use Rattle.run_list.specs.declared.run.Run.{Run}
 use Rattle.run_list.specs.Runs.{run_map}
 use Rattle.ghost_rows.specs.RowsLaid.{loan_at, low_page}
-use Rattle.ghost_rows.proofs.RowsAhead.{lent-more, next-above, none-more, or-none, rises-more, rises-not}
+use Rattle.ghost_rows.proofs.RowsAhead.{lent-more, next-above, none-more, or-none, rises-more}
 use Rattle.ghost_rows.proofs.RowsPages.{low_page-is}
 use Rattle.ghost_rows.proofs.rows.loans.rising_loans.Goals as goal
 
