@@ -1,6 +1,6 @@
 -- Pieces of frames, and the row that four lists tell.
 use Rattle.std.proofs.Common.{◌≡◌, ℕ, zero, suc, ◌+◌, ◌-◌, ◌^◌, ◌<◌, ◌≤◌, Bool, true, false, List, [], ◌∷◌, take, drop, length, get_or, Option, Some, None, refl, sym, ap, subst, ◌∙◌, arith}
-use Rattle.std.proofs.lemmas.List.{drop_all, drop_more}
+use Rattle.std.proofs.lemmas.List.{drop_all, drop_more, get_or_default}
 use Rattle.std.specs.Option.{option_or}
 use Rattle.std.specs.Prelude.{if◌then◌else◌}
 use Rattle.page_state.specs.declared.layout.Region.{Region}
@@ -16,14 +16,15 @@ use Rattle.page_state.proofs.Common.{same-tests}
 use Rattle.page_state.proofs.Updates.{within_test}
 use Rattle.run_list.specs.declared.run.Run.{Run}
 use Rattle.run_list.specs.OwnerRows.{row_laws}
-use Rattle.run_list.specs.Parts.{IsEndedAt}
+use Rattle.run_list.specs.Parts.{IsEndedAt, EndsFrom}
 use Rattle.run_list.specs.Runs.{run_end, run_map, map_updated, option_advance, value_on, EndBefore, IsCoarsest, AreInReach}
 use Rattle.run_list.proofs.Found.{reach_at, ended_at, starts_drop}
 use Rattle.run_list.proofs.Maps.{ends_later, none_low, run_high, run_in}
 use Rattle.ghost_trees.proofs.Overlaid.{within_means}
 use Rattle.ghost_rows.specs.declared.rows.pieces.Lists.{Lists}
-use Rattle.ghost_rows.specs.declared.rows.pieces.Places.{Places}
-use Rattle.ghost_rows.specs.RowsTold.{lent_told, HasNoBound, IsNear, AreNear, AreEndedAt}
+use Rattle.ghost_rows.specs.declared.rows.pieces.Stand.{Stand}
+use Rattle.ghost_rows.specs.declared.rows.pieces.Stands.{Stands}
+use Rattle.ghost_rows.specs.RowsTold.{lent_told, HasNoBound, IsStanding, IsCarried, AreStanding, AreCarried}
 use Rattle.ghost_spec.proofs.RowsKept.{small-map}
 
 -- a range that has no row
@@ -127,11 +128,103 @@ one-more q i [] d e h k = absurd (omega arith)
 one-more q zero (r ∷ rs) d e h k = (k, tt)
 one-more q (suc i) (r ∷ rs) d e h k = (e.0, one-more q i rs d e.1 (omega arith) k)
 
-pub all-near : (a b : ℕ) (p : Places) (x : Lists) → a ≤ b → AreEndedAt a p x → AreNear b p x
-all-near a b p x h at = record { annotated = near at.annotated; lent = near at.lent; shared = near at.shared; used = near at.used }
+-- where a list stands
+
+ends_drop : (q i : ℕ) (rs : List (Run Row)) → ((d : Run Row) → i < length rs → q ≤ run_end (get_or rs i d)) → EndsFrom q (drop i rs)
+ends_drop q zero [] h = tt
+ends_drop q (suc i) [] h = tt
+ends_drop q zero (r ∷ rs) h = h r (omega arith)
+ends_drop q (suc i) (r ∷ rs) h = ends_drop q i rs (λ d less. h d (omega (arith, less)))
+
+carried-on : {a b : ℕ} {s : Stand} {rs : List (Run Row)} → a ≤ b → IsStanding a s rs → IsCarried b s rs
+carried-on {a} {b} {s} {rs} h here = record {
+  near = record { within = here.at.within; front = front };
+  stays = λ less. record {
+    at = record {
+      within = here.at.within;
+      front = front;
+      back = ends_drop (b + 1) s.place rs (λ d k. let end = ended_at (a + 1) s.place rs d here.at.back k in
+          let none = (here.bound d k).ends in
+          by_lt (run_end (get_or rs s.place d)) s.until (λ x. let y = none x in absurd (omega (arith, y, end))) (λ x. omega (arith, less, x)));
+    };
+    more = less;
+    bound = λ d k. let none = here.bound d k in
+        let begins = none.begins in
+        let ends = none.ends in
+        record {
+          begins = λ x. let y = begins x in omega (arith, y, h);
+          ends = λ x. let y = ends x in omega (arith, y, h);
+        };
+    inside = here.inside;
+    begun = λ t d. let y = here.begun t d in omega (arith, y, h);
+    outside = λ t d k. let past = here.outside t d k in
+        let none = (here.bound d k).begins in
+        by_lt (get_or rs s.place d).pages.first.0 s.until (λ x. let y = none x in absurd (omega (arith, y, past))) (λ x. omega (arith, less, x));
+  };
+}
   where
-    near : {place : ℕ} {rs : List (Run Row)} → IsEndedAt a place rs → IsNear b place rs
-    near {place} {rs} e = record { within = e.within; front = ends_later a b (take place rs) h e.front }
+    front : EndBefore (b + 1) (take s.place rs)
+    front = ends_later (a + 1) (b + 1) (take s.place rs) (omega (arith, h)) here.at.front
+
+pub all-carried : (a b : ℕ) (s : Stands) (x : Lists) → a ≤ b → AreStanding a s x → AreCarried b s x
+all-carried a b s x h here = record { annotated = carried-on h here.annotated; lent = carried-on h here.lent; shared = carried-on h here.shared; used = carried-on h here.used }
+
+module _ (rs : List (Run Row)) (frame place : ℕ) (at : IsEndedAt (frame + 1) place rs) where
+  differ : {P : Type 0} → false ≡ true → P
+  differ h = cc
+
+  other : {P : Type 0} → true ≡ false → P
+  other h = cc
+
+  pub stand-behind : (until : ℕ) → length rs ≤ place → frame < until → IsStanding frame (record { place = place; inside = false; until = until }) rs
+  stand-behind until h more = record {
+    at = at;
+    more = more;
+    bound = λ d k. absurd (omega (arith, h, k));
+    inside = λ t. differ t;
+    begun = λ t. differ t;
+    outside = λ t d k. absurd (omega (arith, h, k));
+  }
+
+  module _ (less : place < length rs) (d : Run Row) where
+    any : (P : Run Row → Type 0) → P (get_or rs place d) → (e : Run Row) → P (get_or rs place e)
+    any P h e = subst P (get_or_default rs place d e less) h
+
+    pub stand-before : frame < (get_or rs place d).pages.first.0 → IsStanding frame (record { place = place; inside = false; until = (get_or rs place d).pages.first.0 }) rs
+    stand-before h = record {
+      at = at;
+      more = h;
+      bound = λ e k. any (λ (r : Run Row). HasNoBound frame (get_or rs place d).pages.first.0 r) (record { begins = λ x. absurd (omega (arith, x)); ends = λ x. absurd (omega (arith, x)) }) e;
+      inside = λ t. differ t;
+      begun = λ t. differ t;
+      outside = λ t e k. any (λ (r : Run Row). frame < r.pages.first.0) h e;
+    }
+
+    pub stand-inside : (get_or rs place d).pages.first.0 ≤ frame → IsStanding frame (record { place = place; inside = true; until = run_end (get_or rs place d) }) rs
+    stand-inside h =
+        let end = ended_at (frame + 1) place rs d at.back less in
+        record {
+          at = at;
+          more = omega (arith, end);
+          bound = λ e k. any (λ (r : Run Row). HasNoBound frame (run_end (get_or rs place d)) r) (record { begins = λ x. h; ends = λ x. absurd (omega (arith, x)) }) e;
+          inside = λ t. less;
+          begun = λ t e. any (λ (r : Run Row). r.pages.first.0 ≤ frame) h e;
+          outside = λ t. other t;
+        }
+
+-- a list goes on so, and has no row where it stands between two runs
+
+pub stand-on : (rs : List (Run Row)) (low f : ℕ) (s : Stand) → IsCoarsest advance_row rs → IsStanding low s rs → low ≤ f → f < s.until → run_map advance_row rs f ≡ option_advance advance_row (run_map advance_row rs low) (f - low)
+stand-on [] low f s c here a b = refl
+stand-on (r ∷ rs) low f s c here a b = by_lt s.place (length (r ∷ rs))
+    (λ k. goes-on (r ∷ rs) low s.place f here.at a s.until r c k (here.bound r k) b)
+    (λ k. behind-all (r ∷ rs) low s.place f here.at a k)
+
+pub stand-none : (rs : List (Run Row)) (f : ℕ) (s : Stand) → IsCoarsest advance_row rs → IsStanding f s rs → s.inside ≡ false → run_map advance_row rs f ≡ None
+stand-none [] f s c here t = refl
+stand-none (r ∷ rs) f s c here t = by_lt s.place (length (r ∷ rs))
+    (λ k. none-before (r ∷ rs) f s.place here.at k r c (here.outside t r k))
+    (λ k. none-behind (r ∷ rs) f s.place here.at k)
 
 -- one piece more of a range
 pub piece-more : (first low high f : ℕ) (m n before : ℕ → Option Row) (row : ℕ → Row) → first ≤ low → low < high

@@ -1,5 +1,5 @@
 -- The row of a frame by four lists, and pieces of frames along which they go on.
-use Rattle.std.specs.Prelude.{ℕ, ◌<◌, ◌≤◌, Bool, true, false, ◌==◌, List, take, length, Option, Some, None}
+use Rattle.std.specs.Prelude.{◌≡◌, ℕ, ◌+◌, ◌<◌, ◌≤◌, Bool, true, false, ◌==◌, List, take, length, get_or, Option, Some, None}
 use Rattle.page_state.specs.declared.row.Lent.{Lent}
 use Rattle.page_state.specs.declared.row.Row.{Row}
 use Rattle.page_state.specs.declared.row.Usage.{Usage}
@@ -9,7 +9,8 @@ use Rattle.run_list.specs.declared.run.Run.{Run}
 use Rattle.run_list.specs.Runs.{run_end, run_map, EndBefore, AreInReach}
 use Rattle.run_list.specs.Parts.{IsEndedAt}
 use Rattle.ghost_rows.specs.declared.rows.pieces.Lists.{Lists}
-use Rattle.ghost_rows.specs.declared.rows.pieces.Places.{Places}
+use Rattle.ghost_rows.specs.declared.rows.pieces.Stand.{Stand}
+use Rattle.ghost_rows.specs.declared.rows.pieces.Stands.{Stands}
 
 -- to whom a row's frame is lent
 abbrev pub lent_told : Option Row → Option Lent
@@ -56,21 +57,35 @@ pub record IsNear (page place : ℕ) (rs : List (Run Row)) : Type 0 where
   pub within : place ≤ length rs
   pub front : EndBefore page (take place rs)
 
--- such a place in each list
-pub record AreNear (page : ℕ) (p : Places) (x : Lists) : Type 0 where
-  pub annotated : IsNear page p.annotated x.annotated.runs
-  pub lent : IsNear page p.lent x.lent.runs
-  pub shared : IsNear page p.shared x.shared.runs
-  pub used : IsNear page p.used x.used.runs
-
--- the place in each list of the first run that doesn't end before a page
-pub record AreEndedAt (page : ℕ) (p : Places) (x : Lists) : Type 0 where
-  pub annotated : IsEndedAt page p.annotated x.annotated.runs
-  pub lent : IsEndedAt page p.lent x.lent.runs
-  pub shared : IsEndedAt page p.shared x.shared.runs
-  pub used : IsEndedAt page p.used x.used.runs
-
 -- a run neither begins nor ends between two frames
 pub record HasNoBound (low high : ℕ) (r : Run Row) : Type 0 where
   pub begins : r.pages.first.0 < high → r.pages.first.0 ≤ low
   pub ends : run_end r < high → run_end r ≤ low
+
+-- where a list stands at a frame
+pub record IsStanding (frame : ℕ) (s : Stand) (rs : List (Run Row)) : Type 0 where
+  pub at : IsEndedAt (frame + 1) s.place rs
+  pub more : frame < s.until
+  pub bound : (d : Run Row) → s.place < length rs → HasNoBound frame s.until (get_or rs s.place d)
+  pub inside : s.inside ≡ true → s.place < length rs
+  pub begun : s.inside ≡ true → (d : Run Row) → (get_or rs s.place d).pages.first.0 ≤ frame
+  pub outside : s.inside ≡ false → (d : Run Row) → s.place < length rs → frame < (get_or rs s.place d).pages.first.0
+
+-- the same, if the list goes on so far from where it stood before
+pub record IsCarried (frame : ℕ) (s : Stand) (rs : List (Run Row)) : Type 0 where
+  pub near : IsNear (frame + 1) s.place rs
+  pub stays : frame < s.until → IsStanding frame s rs
+
+-- where each list stands at a frame
+pub record AreStanding (frame : ℕ) (s : Stands) (x : Lists) : Type 0 where
+  pub annotated : IsStanding frame s.annotated x.annotated.runs
+  pub lent : IsStanding frame s.lent x.lent.runs
+  pub shared : IsStanding frame s.shared x.shared.runs
+  pub used : IsStanding frame s.used x.used.runs
+
+-- where each stood at a frame before
+pub record AreCarried (frame : ℕ) (s : Stands) (x : Lists) : Type 0 where
+  pub annotated : IsCarried frame s.annotated x.annotated.runs
+  pub lent : IsCarried frame s.lent x.lent.runs
+  pub shared : IsCarried frame s.shared x.shared.runs
+  pub used : IsCarried frame s.used x.used.runs

@@ -24,7 +24,7 @@ use loans::{all_loans, annotated, guest_loans};
 use order::is_coarsest;
 use overlay::{lay, lay_all, put_last};
 use page_state::{Page, PageRange, Region, RegionKind, Row, Run, State};
-use pieces::{Lists, Places};
+use pieces::{Lists, Stands};
 use run_list::RunList;
 use std::alloc::{AllocError, Global};
 use uses::all_uses;
@@ -71,7 +71,7 @@ fn lists_of(alloc: Global, state: &Ghost) -> Result<Lists, AllocError>
 }
 
 /// The rows of the frames of a range, piece by piece: along a piece each list goes on as it begins.
-/// The place in each list goes on with the pieces, so that no list is searched.
+/// Where each list stands goes on with the pieces, so that no list is searched.
 fn range_rows(alloc: Global, lists: &Lists, pages: PageRange) -> Result<RunList<Row>, AllocError>
     requires low { end_of pages ≤ 2 ^ 26 }
     requires lists { AreReached lists.now }
@@ -80,16 +80,16 @@ fn range_rows(alloc: Global, lists: &Lists, pages: PageRange) -> Result<RunList<
 {
     let end = pages.first.0 + pages.count;
     let mut low = pages.first.0;
-    let mut places = Places::FIRST;
+    let mut stands = Stands::FIRST;
     let mut rows = Vec::with_capacity(alloc, lists.count())?;
     while low < end {
-        places = lists.places_from(places, low);
-        let high = lists.bound(places, low, end);
+        let (here, high) = lists.look(stands, low, end);
         let piece = PageRange {
             first: Page(low),
             count: high - low,
         };
-        put_last(&mut rows, piece, lists.row(places, low))?;
+        put_last(&mut rows, piece, lists.row(here, low))?;
+        stands = here;
         low = high;
     }
     Ok(RunList::of(rows))

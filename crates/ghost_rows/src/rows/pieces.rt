@@ -1,9 +1,9 @@
 //! Pieces of frames along which all lists go on as they begin.
-ghost use Rattle.std.specs.Prelude.{◌≡◌, ℕ, ◌+◌, ◌-◌, ◌≤◌, ◌<◌, nat_lt};
+ghost use Rattle.std.specs.Prelude.{◌≡◌, ℕ, ◌+◌, ◌-◌, ◌^◌, ◌≤◌, ◌<◌, nat_lt};
 ghost use Rattle.page_state.specs.Rows.{advance_row, HasPageBelow};
-ghost use Rattle.run_list.specs.Runs.{run_end, run_map, option_advance, IsCoarsest, InReach, AreInReach};
+ghost use Rattle.run_list.specs.Runs.{run_end, run_map, option_advance, IsCoarsest, AreInReach};
 ghost use Rattle.run_list.specs.Parts.{IsEndedAt};
-ghost use Rattle.ghost_rows.specs.RowsTold.{lent_told, usage_told, number_told, is_of_host as is_of_host_told, owner_told, HasNoBound, IsNear};
+ghost use Rattle.ghost_rows.specs.RowsTold.{lent_told, usage_told, number_told, is_of_host as is_of_host_told, owner_told, IsNear, IsStanding, IsCarried};
 
 use page_state::{Lent, Owner, Row, Usage};
 use run_list::{Advance, Run, RunList};
@@ -21,22 +21,42 @@ pub(crate) struct Lists {
     pub(crate) used: RunList<Row>,
 }
 
-/// A place in each list: how many of its runs are in front of it.
+/// Where a list stands at a frame.
 #[derive(Clone, Copy)]
-pub(crate) struct Places {
-    annotated: usize,
-    lent: usize,
-    shared: usize,
-    used: usize,
+pub(crate) struct Stand {
+    /// How many of its runs end at the frame or before it.
+    place: usize,
+    /// Whether the run at the place has the frame.
+    inside: bool,
+    /// A frame behind it: up to there the list goes on as it does at the frame.
+    until: u64,
 }
 
-impl Places {
-    /// In front of all runs.
-    pub(crate) const FIRST: Places = Places {
-        annotated: 0,
-        lent: 0,
-        shared: 0,
-        used: 0,
+impl Stand {
+    /// In front of all runs, and of each frame.
+    const FIRST: Stand = Stand {
+        place: 0,
+        inside: false,
+        until: 0,
+    };
+}
+
+/// Where each list stands at a frame.
+#[derive(Clone, Copy)]
+pub(crate) struct Stands {
+    annotated: Stand,
+    lent: Stand,
+    shared: Stand,
+    used: Stand,
+}
+
+impl Stands {
+    /// In front of all runs, and of each frame.
+    pub(crate) const FIRST: Stands = Stands {
+        annotated: Stand::FIRST,
+        lent: Stand::FIRST,
+        shared: Stand::FIRST,
+        used: Stand::FIRST,
     };
 }
 
@@ -124,63 +144,85 @@ fn place_from(runs: &[Run<Row>], near: usize, frame: u64) -> usize
     place
 }
 
-/// The row that a list has for a frame, read at the frame's place.
+/// Where a list stands at a frame, whose place is given.
 #[inline(always)]
-fn row_at(runs: &[Run<Row>], place: usize, frame: u64) -> Option<Row>
-    requires coarsest { IsCoarsest advance_row runs.now }
+fn stand_at(runs: &[Run<Row>], place: usize, frame: u64) -> Stand
+    requires low { frame < 2 ^ 63 }
     requires reach { AreInReach HasPageBelow runs.now }
     requires place { IsEndedAt (frame + 1) place runs.now }
-    ensures { result ≡ run_map advance_row runs.now frame }
+    ensures { IsStanding frame result runs.now }
 {
     if place == runs.len() {
-        return None;
+        return Stand {
+            place,
+            inside: false,
+            until: u64::MAX,
+        };
     }
-    let run = runs[place];
-    let first = run.pages.first.0;
-    if frame < first {
-        return None;
+    let pages = runs[place].pages;
+    if frame < pages.first.0 {
+        return Stand {
+            place,
+            inside: false,
+            until: pages.first.0,
+        };
     }
-    Some(run.value.advanced(frame - first))
+    Stand {
+        place,
+        inside: true,
+        until: pages.first.0 + pages.count,
+    }
 }
 
-/// The frame before which a run neither begins nor ends behind a frame, and no later than another.
+/// Where a list stands at a frame, by where it stood at one before it: no run is looked at while it goes on from there.
 #[inline(always)]
-fn bound_by(run: Run<Row>, low: u64, high: u64) -> u64
-    requires order { low < high }
-    requires reach { InReach HasPageBelow run }
-    ensures above { low < result }
-    ensures below { result ≤ high }
-    ensures bound { HasNoBound low result run }
+fn stand_from(runs: &[Run<Row>], near: Stand, frame: u64) -> Stand
+    requires low { frame < 2 ^ 63 }
+    requires reach { AreInReach HasPageBelow runs.now }
+    requires near { IsCarried frame near runs.now }
+    ensures { IsStanding frame result runs.now }
 {
-    let first = run.pages.first.0;
-    if low < first {
-        high.min(first)
-    } else if low - first < run.pages.count {
-        high.min(first + run.pages.count)
-    } else {
-        high
+    if frame < near.until {
+        return near;
     }
+    let place = place_from(runs, near.place, frame);
+    stand_at(runs, place, frame)
 }
 
-/// The frame before which a list goes on as it does at a frame, whose place is given, and no later than another.
+/// The same, and the frame before which the list goes on so, no later than another.
 #[inline(always)]
-fn bound_of(runs: &[Run<Row>], place: usize, low: u64, high: u64) -> u64
+fn look(runs: &[Run<Row>], near: Stand, low: u64, high: u64) -> (Stand, u64)
+    requires low { low < 2 ^ 63 }
     requires order { low < high }
     requires coarsest { IsCoarsest advance_row runs.now }
     requires reach { AreInReach HasPageBelow runs.now }
-    requires place { IsEndedAt (low + 1) place runs.now }
-    ensures above { low < result }
-    ensures below { result ≤ high }
-    ensures goes_on { (f : ℕ) → low ≤ f → f < result → run_map advance_row runs.now f ≡ option_advance advance_row (run_map advance_row runs.now low) (f - low) }
+    requires near { IsCarried low near runs.now }
+    ensures standing { IsStanding low result.0 runs.now }
+    ensures above { low < result.1 }
+    ensures below { result.1 ≤ high }
+    ensures goes_on { (f : ℕ) → low ≤ f → f < result.1 → run_map advance_row runs.now f ≡ option_advance advance_row (run_map advance_row runs.now low) (f - low) }
 {
-    if place == runs.len() {
-        return high;
+    let here = stand_from(runs, near, low);
+    (here, high.min(here.until))
+}
+
+/// The row that a list has for a frame, at which it stands so.
+#[inline(always)]
+fn row_at(runs: &[Run<Row>], here: Stand, frame: u64) -> Option<Row>
+    requires coarsest { IsCoarsest advance_row runs.now }
+    requires reach { AreInReach HasPageBelow runs.now }
+    requires here { IsStanding frame here runs.now }
+    ensures { result ≡ run_map advance_row runs.now frame }
+{
+    if here.inside {
+        let run = runs[here.place];
+        return Some(run.value.advanced(frame - run.pages.first.0));
     }
-    bound_by(runs[place], low, high)
+    None
 }
 
 impl Lists {
-    ghost use Rattle.ghost_rows.specs.RowsTold.{told, AreReached, AreNear, AreEndedAt};
+    ghost use Rattle.ghost_rows.specs.RowsTold.{told, AreReached, AreStanding, AreCarried};
 
     /// The runs of the annotations and of the loans together: about so many pieces there are where frames are in few uses.
     pub(crate) fn count(&self) -> usize {
@@ -188,30 +230,16 @@ impl Lists {
         annotated.saturating_add(self.lent.runs().len())
     }
 
-    /// The places of a frame, counted on from those of a frame before it.
+    /// The row of a frame, at which the lists stand so.
     #[inline(always)]
-    pub(crate) fn places_from(&self, near: Places, frame: u64) -> Places
-        requires { AreNear (frame + 1) near self.now }
-        ensures { AreEndedAt (frame + 1) result self.now }
-    {
-        Places {
-            annotated: place_from(self.annotated.runs(), near.annotated, frame),
-            lent: place_from(self.lent.runs(), near.lent, frame),
-            shared: place_from(self.shared.runs(), near.shared, frame),
-            used: place_from(self.used.runs(), near.used, frame),
-        }
-    }
-
-    /// The row of a frame, whose places are given.
-    #[inline(always)]
-    pub(crate) fn row(&self, places: Places, frame: u64) -> Row
-        requires { AreEndedAt (frame + 1) places self.now }
+    pub(crate) fn row(&self, here: Stands, frame: u64) -> Row
+        requires { AreStanding frame here self.now }
         ensures { result ≡ told self.now frame }
     {
-        let annotated = row_at(self.annotated.runs(), places.annotated, frame);
-        let lent = row_at(self.lent.runs(), places.lent, frame);
-        let shared = row_at(self.shared.runs(), places.shared, frame);
-        let used = row_at(self.used.runs(), places.used, frame);
+        let annotated = row_at(self.annotated.runs(), here.annotated, frame);
+        let lent = row_at(self.lent.runs(), here.lent, frame);
+        let shared = row_at(self.shared.runs(), here.shared, frame);
+        let used = row_at(self.used.runs(), here.used, frame);
         Row {
             owner: owner_of(annotated, lent, shared),
             lent: lent_of(lent),
@@ -219,20 +247,30 @@ impl Lists {
         }
     }
 
-    /// The frame before which all lists go on as they do at a frame, whose places are given, and no later than another.
+    /// Where the lists stand at a frame, by where they stood at one before it, and the frame before which all go on so, no later
+    /// than another.
     #[inline(always)]
-    pub(crate) fn bound(&self, places: Places, low: u64, high: u64) -> u64
+    pub(crate) fn look(&self, near: Stands, low: u64, high: u64) -> (Stands, u64)
+        requires low { low < 2 ^ 63 }
         requires order { low < high }
         requires reach { AreReached self.now }
-        requires places { AreEndedAt (low + 1) places self.now }
-        ensures above { low < result }
-        ensures below { result ≤ high }
-        ensures goes_on { (f : ℕ) → low ≤ f → f < result → told self.now f ≡ advance_row (told self.now low) (f - low) }
-        ensures small { HasPageBelow (told self.now low) (result - low) }
+        requires near { AreCarried low near self.now }
+        ensures standing { AreStanding low result.0 self.now }
+        ensures above { low < result.1 }
+        ensures below { result.1 ≤ high }
+        ensures goes_on { (f : ℕ) → low ≤ f → f < result.1 → told self.now f ≡ advance_row (told self.now low) (f - low) }
+        ensures small { HasPageBelow (told self.now low) (result.1 - low) }
     {
-        let high = bound_of(self.annotated.runs(), places.annotated, low, high);
-        let high = bound_of(self.lent.runs(), places.lent, low, high);
-        let high = bound_of(self.shared.runs(), places.shared, low, high);
-        bound_of(self.used.runs(), places.used, low, high)
+        let (annotated, high) = look(self.annotated.runs(), near.annotated, low, high);
+        let (lent, high) = look(self.lent.runs(), near.lent, low, high);
+        let (shared, high) = look(self.shared.runs(), near.shared, low, high);
+        let (used, high) = look(self.used.runs(), near.used, low, high);
+        let here = Stands {
+            annotated,
+            lent,
+            shared,
+            used,
+        };
+        (here, high)
     }
 }

@@ -1,0 +1,6 @@
+use Rattle.std.proofs.Common.{arith}
+use Rattle.ghost_rows.proofs.RowsTold.{stand-on}
+use Rattle.ghost_rows.proofs.rows.pieces.look.Goals as goal
+
+pub returns-clause-goes_on : goal.returns-clause-goes_on
+returns-clause-goes_on c = λ f a b. stand-on c.args.runs.now c.args.low f c.stand_from-here.result c.requires.coarsest c.stand_from-here.ensures a (omega (arith, b))
