@@ -1,11 +1,11 @@
 -- A state on lists whose parts are those of the world's parts is the state that these stand for.
-use Rattle.std.proofs.Common.{◌≡◌, ℕ, zero, suc, ◌-◌, refl, ap, sym, ◌∙◌, subst, arith, List, [], ◌∷◌, length, map, All}
+use Rattle.std.proofs.Common.{◌≡◌, ℕ, zero, suc, ◌-◌, ◌<◌, refl, ap, sym, ◌∙◌, subst, arith, List, [], ◌∷◌, length, map, All}
 use Rattle.std.specs.Prelude.{get_or, slice_get}
 use mathlib.Core.Path.{fun_ext}
 use Rattle.page_state.specs.declared.row.Row.{Row}
-use Rattle.reference_model.specs.State.{Guest, Cpu, Slot, no_vms, no_shared, no_guest, no_cpu, no_slot}
+use Rattle.reference_model.specs.State.{Guest, Cpu, Shared, Slot, no_vms, no_shared, no_guest, no_cpu, no_slot}
 use Rattle.guest_steps.specs.Lent.{one, Each}
-use Rattle.std.proofs.lemmas.List.{length-map}
+use Rattle.std.proofs.lemmas.List.{get_or-map, length-map}
 use Rattle.std.proofs.lemmas.List.Elements.{All-cons, All-nil}
 use Rattle.guest_steps.specs.Logs.{StoredCalls, IsOfSize}
 use Rattle.guest_steps.specs.View.{vm_slots, shared_of, guest_held, cpu_of}
@@ -23,6 +23,11 @@ pub placed : {P X : Type 0} (blank : X) (f : P → X) (xs : List P) (v : ℕ) �
 placed blank f [] v = refl
 placed blank f (x ∷ xs) zero = refl
 placed blank f (x ∷ xs) (suc v) = placed blank f xs v
+
+-- the items at one place, where what two lists give is the same everywhere
+pub held_at : {X Y Z : Type 0} (f : X → Z) (blank : Z) (g : Y → Z) (xs : List X) (ys : List Y) (i : ℕ) (x : X) (y : Y) → ◌≡◌ {A = ℕ → Z} (λ v. get_or (map f xs) v blank) (λ v. at_place blank g (slice_get ys v)) → i < length xs → i < length ys → x ≡ get_or xs i x → y ≡ get_or ys i y → f x ≡ g y
+held_at f blank g xs ys i x y same less within first second =
+    ap f first ∙ sym (get_or-map f xs i x blank less) ∙ ap (λ (h : ℕ → _). h i) same ∙ sym (placed blank g ys i) ∙ get_or-map g ys i y blank within ∙ ap g (sym second)
 
 -- the one of a list of one
 pub one_at : {P X : Type 0} (blank : X) (f : P → X) (xs : List P) (d : P) → length xs ≡ 1 → one blank f xs ≡ f (get_or xs 0 d)
@@ -86,3 +91,7 @@ pub all_one : {P : Type 0} (Is : P → Type 0) (xs : List P) (x d : P) → lengt
 all_one Is [] x d n e h = absurd (omega (arith, n))
 all_one Is (y ∷ []) x d n e h = All-cons Is y [] (subst Is e h) (All-nil Is)
 all_one Is (y ∷ (z ∷ zs)) x d n e h = absurd (omega (arith, n))
+
+-- a Shared part that is another but for its rows is that one with its own rows
+pub own_row : (x y : Shared) (row : ℕ → Row) → x ≡ with_row row y → x ≡ with_row x.row y
+own_row x y row h = h ∙ ap (λ r. with_row r y) (sym (ap (λ (s : Shared). s.row) h))

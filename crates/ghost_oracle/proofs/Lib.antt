@@ -11,7 +11,6 @@ pub mod Reached
 pub mod Recording
 pub mod RawReady
 pub mod RawUnder
-pub mod Replaced
 pub mod Scratch
 pub mod Under
 pub mod Walked

@@ -7,10 +7,7 @@ use Rattle.page_state.specs.Runs.{map_of}
 use Rattle.page_state.specs.Trees.{Block, Tree as ReferenceTree}
 use Rattle.table_tree.specs.declared.tree.Tree.{Tree}
 use Rattle.table_tree.specs.View.{meaning, table_at, tree_of}
-use Rattle.std.specs.Prelude.{Result, Ok, Err, IfOk}
-use Rattle.std.specs.declared.alloc.AllocError.{AllocError}
 use Rattle.component.specs.declared.Component.{Component}
-use Rattle.maplets.specs.View.{KeptMaplets}
 use Rattle.ghost_trees.specs.declared.tree.Tree.{Tree as TreeOfLists}
 use Rattle.ghost_trees.specs.Trees.{table_of, tree_in_lists}
 use Rattle.ghost_oracle.specs.Walked.{map_under, table_under, tree_under}
@@ -28,13 +25,7 @@ pub under_tree : {A : Type 0} (t : Tree A) → tree_under t.geometry t.table ≡
 under_tree t = same2 (λ (m : Map) (table : Block → Option ℕ). record { map = m; table = table }) (fun_ext (map_same t)) (fun_ext (λ b. table_same t b.0 b.1))
 
 -- a tree with the runs of maplets that say its map, and with its tables
-pub of_kept : {A : Type 0} (c : Component A) (u walked : TreeOfLists) → tree_in_lists walked ≡ tree_of c.tree → u.runs.items ≡ c.maplets.runs → u.tables ≡ walked.tables → tree_in_lists u ≡ tree_of c.tree
+pub of_kept : {A : Type 0} (c : Component A) (u walked : TreeOfLists) → tree_in_lists walked ≡ tree_of c.tree → u.runs.items ≡ c.maplets.runs → u.tables.items ≡ walked.tables.items → tree_in_lists u ≡ tree_of c.tree
 of_kept c u walked found runs tables = same2 (λ (m : Map) (table : Block → Option ℕ). record { map = m; table = table })
     (ap map_of runs ∙ sym c.agree)
-    (ap (λ ts. table_of ts.items) tables ∙ ap (λ (r : ReferenceTree). r.table) found)
-
--- with the tables that a walk finds
-pub of_maplets : {A : Type 0} (c : Component A) (t : Tree A) → t ≡ c.tree → (walked : TreeOfLists) (made : Result TreeOfLists AllocError) → tree_in_lists walked ≡ tree_under t.geometry t.table → (m : KeptMaplets) → m ≡ c.maplets
-    → IfOk made (λ u. u.runs.items ≡ m.runs) → IfOk made (λ u. u.tables ≡ walked.tables) → IfOk made (λ u. tree_in_lists u ≡ tree_of c.tree)
-of_maplets c t e walked (Ok u) found m f runs tables = of_kept c u walked (found ∙ under_tree t ∙ ap tree_of e) (runs ∙ ap (λ (k : KeptMaplets). k.runs) f) tables
-of_maplets c t e walked (Err why) found m f runs tables = tt
+    (ap table_of tables ∙ ap (λ (r : ReferenceTree). r.table) found)

@@ -3,20 +3,24 @@ ghost use Rattle.std.specs.Prelude.{◌≡◌, ℕ, ◌∷◌, [], All, IfOk, ma
 ghost use Rattle.page_state.specs.LayoutView.{layout_of};
 ghost use Rattle.page_state.specs.Rows.{HasPageBelow};
 ghost use Rattle.run_list.specs.Runs.{AreInReach};
-ghost use Rattle.guest_component.specs.View.{runs_of};
+ghost use Rattle.reference_model.specs.State.{no_shared};
+ghost use Rattle.guest_steps.specs.Lent.{one};
 ghost use Rattle.guest_steps.specs.View.{cpu_of, guest_held, shared_of};
 ghost use Rattle.ghost_spec.specs.Kept.{IsKeptShared};
-ghost use Rattle.ghost_spec.specs.States.{ghost_state, IsKept};
+ghost use Rattle.ghost_spec.specs.States.{ghost_state, guest_in, AreKeptGuests, IsKept};
 ghost use Rattle.ghost_trees.specs.Trees.{tree_in_lists};
 ghost use Rattle.table_tree.specs.View.{tree_of};
 ghost use Rattle.ghost_spec.specs.Views.{row_in, shared_in_lists};
 ghost use Rattle.hypercalls.specs.Stands.{parts_layout, state_of, HasHistory};
 ghost use Rattle.ghost_oracle.specs.Found.{found_state, walked_state, with_row, HasRowsOf, SaysMaplets, SaysRows};
-ghost use Rattle.ghost_oracle.specs.Low.{IsLowCpu, IsLowGuest};
+ghost use Rattle.ghost_oracle.specs.Low.{IsLowCpu};
 
 use crate::parts::{cpu_rooms, cpus_from, guest_rooms, slots_from};
-use crate::trees::{Source, frames_of, guests_from, guests_with_maplets, tree_from, with_maplets};
+use crate::trees::{
+    Source, frames_of, guests_from, guests_with_maplets, tree_from, tree_with_maplets,
+};
 use ghost_rows::rows_from_scratch;
+use ghost_spec::parts::GhostGuest;
 use ghost_spec::rows::copied_rows;
 use ghost_spec::shared::Shared;
 use ghost_spec::state::{Ghost, GhostRooms, copied_layout};
@@ -60,25 +64,29 @@ fn rooms_from<A: Allocator>(alloc: Global, parts: &Parts<A>) -> Result<GhostRoom
     })
 }
 
-/// All parts as a walk finds them, with these rows.
-fn ghost_from<A: Allocator>(
+/// All parts with this Shared part and these guests: the slots, the CPUs and the rooms as they stand.
+fn ghost_with<A: Allocator>(
     alloc: Global,
     parts: &Parts<A>,
-    rows: RunList<Row>,
+    shared: Shared,
+    guests: Vec<GhostGuest>,
 ) -> Result<Ghost, AllocError>
-    requires guests { All (λ g. IsLowGuest (guest_held g)) parts.now.guests.items }
+    requires shared { shared_in_lists shared ≡ with_row (shared_in_lists shared).row (one no_shared shared_of parts.now.shared.items) }
+    requires guests { map guest_in guests.items ≡ map guest_held parts.now.guests.items }
     requires cpus { All (λ k. IsLowCpu (cpu_of k)) parts.now.cpus.items }
-    requires reach { AreInReach HasPageBelow rows.runs }
-    ensures state { IfOk result (λ g. ghost_state g ≡ found_state (row_in rows.runs) (state_of parts.now)) }
+    requires shared_kept { IsKeptShared shared }
+    requires guests_kept { AreKeptGuests guests.items }
+    ensures state { IfOk result (λ g. ghost_state g ≡ found_state (shared_in_lists shared).row (state_of parts.now)) }
     ensures layout { IfOk result (λ g. layout_of g.layout ≡ parts_layout parts.now) }
     ensures kept { IfOk result IsKept }
-    ensures rows { IfOk result (λ g. g.shared.rows ≡ rows) }
+    ensures shared { IfOk result (λ g. g.shared ≡ shared) }
+    ensures guests { IfOk result (λ g. g.guests ≡ guests) }
 {
     Ok(Ghost {
         layout: copied_layout(&parts.layout)?,
         vms: slots_from(alloc, &parts.vms[0].table)?,
-        shared: shared_from(alloc, parts.shared(), rows)?,
-        guests: guests_from(alloc, parts.guests.as_slice())?,
+        shared,
+        guests,
         cpus: cpus_from(alloc, parts.cpus.as_slice())?,
         rooms: rooms_from(alloc, parts)?,
     })
@@ -91,47 +99,43 @@ fn found<A: Allocator>(alloc: Global, parts: &Parts<A>) -> Result<Ghost, AllocEr
     ensures layout { IfOk result (λ g. layout_of g.layout ≡ parts_layout parts.now) }
     ensures kept { IfOk result IsKept }
 {
-    ghost_from(alloc, parts, RunList::new(alloc))
+    let shared = shared_from(alloc, parts.shared(), RunList::new(alloc))?;
+    let guests = guests_from(alloc, parts.guests.as_slice())?;
+    ghost_with(alloc, parts, shared, guests)
 }
 
-/// The Shared part that a walk found, with the runs of the maplets and the rows of the owner table.
+/// The Shared part with the runs of the maplets, the tables that a walk found, and the rows of the owner table.
 fn shared_with_maplets<A: Allocator>(
     alloc: Global,
-    found: Shared,
+    found: &Shared,
     part: &SharedPart<A>,
 ) -> Result<Shared, AllocError>
-    requires host { tree_in_lists found.host ≡ tree_of part.now.host.tree }
-    requires hyp { tree_in_lists found.hyp ≡ tree_of part.now.hyp.tree }
-    requires free { found.free.items ≡ part.now.pool.frames }
+    requires host { tree_in_lists found.now.host ≡ tree_of part.now.host.tree }
+    requires hyp { tree_in_lists found.now.hyp ≡ tree_of part.now.hyp.tree }
+    requires free { found.now.free.items ≡ part.now.pool.frames }
     ensures shared { IfOk result (λ s. shared_in_lists s ≡ shared_of part.now) }
     ensures kept { IfOk result IsKeptShared }
     ensures host { IfOk result (λ s. s.host.runs.items ≡ part.now.host.maplets.runs) }
     ensures hyp { IfOk result (λ s. s.hyp.runs.items ≡ part.now.hyp.maplets.runs) }
     ensures rows { IfOk result (λ s. s.rows.runs ≡ part.now.rows) }
 {
-    let Shared {
-        host,
-        hyp,
-        free,
-        rows: _,
-    } = found;
     Ok(Shared {
-        host: with_maplets(alloc, host, part.host.maplets())?,
-        hyp: with_maplets(alloc, hyp, part.hyp.maplets())?,
-        free,
+        host: tree_with_maplets(alloc, &found.host, &part.host)?,
+        hyp: tree_with_maplets(alloc, &found.hyp, &part.hyp)?,
+        free: Vec::from_slice(alloc, found.free.as_slice())?,
         rows: copied_rows(alloc, part.rows.runs())?,
     })
 }
 
-/// What a walk found, with the runs of all maplets and the rows of the owner table.
+/// All parts with the runs of all maplets, the tables that a walk found, and the rows of the owner table.
 fn with_kept<A: Allocator>(
     alloc: Global,
     parts: &Parts<A>,
-    found: Ghost,
+    found: &Ghost,
 ) -> Result<Ghost, AllocError>
-    requires state { ghost_state found ≡ found_state (row_in []) (state_of parts.now) }
-    requires layout { layout_of found.layout ≡ parts_layout parts.now }
-    requires kept { IsKept found }
+    requires history { ∥ HasHistory parts.now ∥₁ }
+    requires state { ghost_state found.now ≡ found_state (row_in []) (state_of parts.now) }
+    requires kept { IsKept found.now }
     ensures state { IfOk result (λ g. ghost_state g ≡ state_of parts.now) }
     ensures layout { IfOk result (λ g. layout_of g.layout ≡ parts_layout parts.now) }
     ensures kept { IfOk result IsKept }
@@ -139,22 +143,9 @@ fn with_kept<A: Allocator>(
     ensures rows { IfOk result (SaysRows parts.now) }
     ensures frames { IfOk result (HasRowsOf (parts_layout parts.now)) }
 {
-    let Ghost {
-        layout,
-        vms,
-        shared,
-        guests,
-        cpus,
-        rooms,
-    } = found;
-    Ok(Ghost {
-        layout,
-        vms,
-        shared: shared_with_maplets(alloc, shared, parts.shared())?,
-        guests: guests_with_maplets(alloc, guests, parts.guests.as_slice())?,
-        cpus,
-        rooms,
-    })
+    let shared = shared_with_maplets(alloc, &found.shared, parts.shared())?;
+    let guests = guests_with_maplets(alloc, found.guests.as_slice(), parts.guests.as_slice())?;
+    ghost_with(alloc, parts, shared, guests)
 }
 
 /// What a walk found, with the owner row of each memory frame from scratch: by the maps, the tables, the pools and the hands.
@@ -189,7 +180,7 @@ pub fn kept<A: Allocator>(alloc: Global, parts: &Parts<A>) -> Result<Ghost, Allo
     ensures frames { IfOk result (HasRowsOf (parts_layout parts.now)) }
 {
     let found = found(alloc, parts)?;
-    with_kept(alloc, parts, found)
+    with_kept(alloc, parts, &found)
 }
 
 /// What walking every descriptor from scratch finds: the map of each tree by its words alone, each of which is read once, and
@@ -225,8 +216,7 @@ pub fn kept_and_walked<A: Allocator>(
     ensures walked_frames { IfOk result (λ g. HasRowsOf (parts_layout parts.now) g.1) }
 {
     let found = found(alloc, parts)?;
-    let again = found.copied(alloc)?;
-    let kept = with_kept(alloc, parts, again)?;
+    let kept = with_kept(alloc, parts, &found)?;
     let walked = with_scratch(alloc, parts, found)?;
     Ok((kept, walked))
 }

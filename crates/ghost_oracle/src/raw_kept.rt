@@ -38,7 +38,7 @@ fn raw_tree<A: Allocator>(
     let tree = &component.tree;
     let walked = walk(alloc, tree.geometry, &tree.table, &mut Reads::new())?;
     match source {
-        Source::Maplets => with_maplets(alloc, walked, &component.maplets),
+        Source::Maplets => with_maplets(alloc, &walked, &component.maplets),
         Source::Words => Ok(walked),
     }
 }

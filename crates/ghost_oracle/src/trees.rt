@@ -1,6 +1,6 @@
 //! The trees of parts on lists: their tables as a walk finds them, and their runs as the maplets keep them or as the walk
 //! finds them too.
-ghost use Rattle.std.specs.Prelude.{◌≡◌, All, IfOk, OnOk, length, map, slice_get};
+ghost use Rattle.std.specs.Prelude.{◌≡◌, All, IfOk, length, map, slice_get};
 ghost use Rattle.page_state.specs.Runs.{IsCoarsest};
 ghost use Rattle.table_tree.specs.View.{tree_of};
 ghost use Rattle.guest_component.specs.View.{guest_of, runs_of as runs_kept};
@@ -74,26 +74,39 @@ pub(crate) fn tree_from<A: Allocator>(
     let tree = component.tree();
     let walked = walk(alloc, tree.geometry, &tree.table, &mut Reads::new())?;
     match source {
-        Source::Maplets => with_maplets(alloc, walked, component.maplets()),
+        Source::Maplets => tree_with_maplets(alloc, &walked, component),
         Source::Words => Ok(walked),
     }
 }
 
-/// A tree with the runs of maplets.
+/// The runs of maplets, and the tables that a walk found.
 pub(crate) fn with_maplets(
     alloc: Global,
-    walked: Tree,
+    walked: &Tree,
     maplets: &Maplets,
 ) -> Result<Tree, AllocError>
     ensures runs { IfOk result (λ t. t.runs.items ≡ maplets.now.runs) }
-    ensures tables { IfOk result (λ t. t.tables ≡ walked.tables) }
+    ensures tables { IfOk result (λ t. t.tables.items ≡ walked.now.tables.items) }
     ensures kept { IfOk result IsKeptTree }
 {
-    let Tree { runs, tables } = walked;
     Ok(Tree {
-        runs: runs_of(alloc, maplets, runs.len())?,
-        tables,
+        runs: runs_of(alloc, maplets, walked.runs.len())?,
+        tables: Vec::from_slice(alloc, walked.tables.as_slice())?,
     })
+}
+
+/// A component's tree: the runs of its maplets, and the tables that a walk found.
+pub(crate) fn tree_with_maplets<A: Allocator>(
+    alloc: Global,
+    walked: &Tree,
+    component: &Component<A>,
+) -> Result<Tree, AllocError>
+    requires { tree_in_lists walked.now ≡ tree_of component.now.tree }
+    ensures tree { IfOk result (λ t. tree_in_lists t ≡ tree_of component.now.tree) }
+    ensures kept { IfOk result IsKeptTree }
+    ensures runs { IfOk result (λ t. t.runs.items ≡ component.now.maplets.runs) }
+{
+    with_maplets(alloc, walked, component.maplets())
 }
 
 /// The phase of a guest that isn't Empty.
@@ -159,42 +172,59 @@ pub(crate) fn guests_from<A: Allocator>(
     Ok(guests)
 }
 
-/// A guest that a walk found gets the runs of its maplets.
-fn say_maplets<A: Allocator>(
+/// A guest that isn't Empty, with the runs of its maplets, and the tables that a walk found.
+fn body_with_maplets<A: Allocator>(
     alloc: Global,
-    found: &mut GhostGuest,
-    guest: &Guest<A>,
-) -> Result<(), AllocError>
-    requires found { guest_in found.old ≡ guest_of guest.now }
-    requires kept { IsKeptGuest found.old }
-    ensures same { OnOk result (guest_in found.new ≡ guest_in found.old) }
-    ensures kept { OnOk result (IsKeptGuest found.new) }
-    ensures runs { OnOk result (found.new.tree.runs.items ≡ runs_kept guest.now.body) }
+    found: &GhostGuest,
+    body: &Body<A>,
+) -> Result<GhostGuest, AllocError>
+    requires { guest_in found.now ≡ body_of body.now }
+    ensures guest { IfOk result (λ g. guest_in g ≡ body_of body.now) }
+    ensures kept { IsLowGuest (body_of body.now) → IfOk result IsKeptGuest }
+    ensures runs { IfOk result (λ g. g.tree.runs.items ≡ body.now.map.maplets.runs) }
 {
-    found.tree.runs = match guest.body() {
-        Some(body) => runs_of(alloc, body.map.maplets(), found.tree.runs.len())?,
-        None => Vec::new(alloc),
-    };
-    Ok(())
+    Ok(GhostGuest {
+        phase: phase_from(body.phase),
+        generation: body.generation,
+        kind: body.kind,
+        tree: tree_with_maplets(alloc, &found.tree, &body.map)?,
+        free: Vec::from_slice(alloc, found.free.as_slice())?,
+    })
 }
 
-/// Guests that a walk found, with the runs of their maplets.
+/// A guest with the runs of its maplets, and the tables that a walk found.
+fn guest_with_maplets<A: Allocator>(
+    alloc: Global,
+    found: &GhostGuest,
+    guest: &Guest<A>,
+) -> Result<GhostGuest, AllocError>
+    requires { guest_in found.now ≡ guest_of guest.now }
+    ensures guest { IfOk result (λ g. guest_in g ≡ guest_of guest.now) }
+    ensures kept { IsLowGuest (guest_of guest.now) → IfOk result IsKeptGuest }
+    ensures runs { IfOk result (λ g. g.tree.runs.items ≡ runs_kept guest.now.body) }
+{
+    match guest.body() {
+        Some(body) => body_with_maplets(alloc, found, body),
+        None => Ok(GhostGuest::none(alloc)),
+    }
+}
+
+/// The guests with the runs of their maplets, and the tables that a walk found.
 pub(crate) fn guests_with_maplets<A: Allocator>(
     alloc: Global,
-    found: Vec<GhostGuest>,
+    found: &[GhostGuest],
     parts: &[GuestPart<A>],
 ) -> Result<Vec<GhostGuest>, AllocError>
-    requires found { guests_in found.items ≡ (λ v. at_place no_guest guest_held (slice_get parts.now v)) }
-    requires count { length found.items ≡ length parts.now }
-    requires kept { AreKeptGuests found.items }
-    ensures guests { IfOk result (λ v. guests_in v.items ≡ guests_in found.items) }
+    requires found { guests_in found.now ≡ (λ v. at_place no_guest guest_held (slice_get parts.now v)) }
+    requires count { length found.now ≡ length parts.now }
+    requires low { All (λ g. IsLowGuest (guest_held g)) parts.now }
+    ensures guests { IfOk result (λ v. map guest_in v.items ≡ map guest_held parts.now) }
     ensures kept { IfOk result (λ v. AreKeptGuests v.items) }
-    ensures count { IfOk result (λ v. length v.items ≡ length found.items) }
     ensures runs { IfOk result (λ v. map (λ g. g.tree.runs.items) v.items ≡ map (λ g. runs_kept g.guest.body) parts.now) }
 {
-    let mut guests = found;
+    let mut guests = Vec::with_capacity(alloc, parts.len())?;
     for v in 0..parts.len() {
-        say_maplets(alloc, &mut guests[v], &parts[v].guest)?;
+        guests.push(guest_with_maplets(alloc, &found[v], &parts[v].guest)?)?;
     }
     Ok(guests)
 }

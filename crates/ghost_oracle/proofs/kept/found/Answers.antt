@@ -1,8 +1,29 @@
+use Rattle.std.proofs.Common.{◌∙◌, All, ap, map, subst, sym}
+use Rattle.reference_model.specs.State.{Shared, no_shared}
+use Rattle.guest_steps.specs.Lent.{one}
+use Rattle.guest_steps.specs.View.{shared_of, guest_held}
+use Rattle.hypercalls.specs.Stands.{state_of}
+use Rattle.ghost_spec.specs.Views.{row_in, shared_in_lists}
+use Rattle.ghost_oracle.specs.Found.{found_state, with_row}
+use Rattle.ghost_oracle.specs.Low.{IsLowGuest}
+use Rattle.ghost_oracle.proofs.Founds.{own_row}
 use Rattle.ghost_oracle.proofs.LowParts.{low_guests, low_cpus}
+use Rattle.ghost_oracle.proofs.Scratch.{if_ok}
 use Rattle.ghost_oracle.proofs.kept.found.Goals as goal
 
-pub ghost_from-requires-clause-guests : goal.ghost_from-requires-clause-guests
-ghost_from-requires-clause-guests g c = low_guests c.args.parts.now c.requires.history
+pub guests_from-requires : goal.guests_from-requires
+guests_from-requires g c = record {
+  low = subst (All (λ p. IsLowGuest (guest_held p))) (sym c.as_slice.ensures.value) (low_guests c.args.parts.now c.requires.history);
+}
 
-pub ghost_from-requires-clause-cpus : goal.ghost_from-requires-clause-cpus
-ghost_from-requires-clause-cpus g c = low_cpus c.args.parts.now c.requires.history
+pub ghost_with-requires : goal.ghost_with-requires
+ghost_with-requires g c = record {
+  shared = own_row (shared_in_lists c.in_ok-shared.shared) (one no_shared shared_of c.args.parts.now.shared.items) (row_in c.new.result.runs) (c.in_ok-shared.ensures.shared ∙ ap (λ ss. with_row (row_in c.new.result.runs) (one no_shared shared_of ss)) (sym c.shared.ensures));
+  guests = c.in_ok-guests.ensures.guests ∙ ap (map guest_held) c.as_slice.ensures.value;
+  cpus = low_cpus c.args.parts.now c.requires.history;
+  shared_kept = c.in_ok-shared.ensures.kept;
+  guests_kept = c.in_ok-guests.ensures.kept;
+}
+
+pub returns-clause-state : goal.returns-clause-state
+returns-clause-state g c = if_ok _ _ c.ghost_with.result (λ x e. e ∙ ap (λ (s : Shared). found_state s.row (state_of c.args.parts.now)) c.in_ok-shared.ensures.shared ∙ ap (λ rs. found_state (row_in rs) (state_of c.args.parts.now)) c.new.ensures) c.ghost_with.ensures.state

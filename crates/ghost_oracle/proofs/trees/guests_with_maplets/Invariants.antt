@@ -1,13 +1,12 @@
-use Rattle.std.proofs.Common.{◌≡◌, length, map, take}
+use Rattle.std.proofs.Common.{◌≡◌, map, take}
 use Rattle.guest_component.specs.View.{runs_of}
-use Rattle.ghost_spec.specs.States.{AreKeptGuests}
-use Rattle.ghost_spec.specs.Used.{guests_in}
+use Rattle.guest_steps.specs.View.{guest_held}
+use Rattle.ghost_spec.specs.States.{guest_in, AreKeptGuests}
 use Rattle.ghost_oracle.proofs.trees.guests_with_maplets.Given as goal
 
 abbrev pub invariant-loop-v : goal.invariant-loop-v
 invariant-loop-v g l = record {
-  same : guests_in l.guests.items ≡ guests_in l.fn.found.items;
+  same : map guest_in l.guests.items ≡ map guest_held (take l.v l.parts);
   kept : AreKeptGuests l.guests.items;
-  count : length l.guests.items ≡ length l.fn.found.items;
-  runs : map (λ x. x.tree.runs.items) (take l.v l.guests.items) ≡ map (λ x. runs_of x.guest.body) (take l.v l.parts);
+  runs : map (λ x. x.tree.runs.items) l.guests.items ≡ map (λ x. runs_of x.guest.body) (take l.v l.parts);
 }
