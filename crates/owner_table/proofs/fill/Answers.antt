@@ -1,4 +1,4 @@
-use Rattle.std.proofs.Common.{◌∙◌, ap, sym}
+use Rattle.std.proofs.Common.{rules, ◌∙◌, ap, sym}
 use Rattle.page_state.specs.Regions.{is_memory_kind}
 use Rattle.page_state.specs.Rows.{advance_row, plain_row}
 use Rattle.page_state.proofs.Common.{if-true}
@@ -13,3 +13,6 @@ returns-in-Memory-clause-map c =
     c.set.ensures.map
     ∙ ap (rows_set old c.args.region.pages) c.plain.ensures
     ∙ sym (if-true (is_memory_kind c.args.region.kind) given old (ap is_memory_kind c.in-Memory.is))
+
+pub returns-in-Device-clause-map : goal.returns-in-Device-clause-map
+returns-in-Device-clause-map c = search rules

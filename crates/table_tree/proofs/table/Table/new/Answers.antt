@@ -1,5 +1,6 @@
 use Rattle.std.proofs.Common.{◌≡◌, arith}
 use Rattle.std.proofs.Math.ListN.{length-replicate, replicate}
+use Rattle.std.proofs.lemmas.Grind.{common_steps}
 use Rattle.std.proofs.lemmas.List.{get_or-replicate}
 use Rattle.table_tree.specs.declared.table.Slot.{Slot}
 use Rattle.table_tree.specs.declared.table.Slot.TheVariants.{Word}
@@ -17,3 +18,6 @@ returns-clause-blank g c i p = rw (made g c) (get_or-replicate 512 i (Word 0) _ 
 
 pub returns-clause-tree : goal.returns-clause-tree
 returns-clause-tree g c = new_table _ (returns-clause-wide g c) (returns-clause-blank g c)
+
+pub loop-preserved : goal.loop-preserved
+loop-preserved g c = grind (arith, common_steps)

@@ -1,0 +1,5 @@
+use Rattle.std.proofs.Common.{rules}
+use Rattle.page_state.proofs.entry.DescFromEntry.from.Goals as goal
+
+pub returns-in-Annotated : goal.returns-in-Annotated
+returns-in-Annotated c = search rules

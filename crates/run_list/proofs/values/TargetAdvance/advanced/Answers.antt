@@ -1,0 +1,5 @@
+use Rattle.std.proofs.Common.{rules}
+use Rattle.run_list.proofs.values.TargetAdvance.advanced.Goals as goal
+
+pub returns : goal.returns
+returns c = search rules
