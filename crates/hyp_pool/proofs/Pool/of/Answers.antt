@@ -1,4 +1,5 @@
-use Rattle.std.proofs.Common.{◌≡◌, ◌∙◌, vec_len}
+use Rattle.std.proofs.Common.{◌≡◌, ◌∙◌, vec_len, arith}
+use Rattle.std.proofs.lemmas.Grind.{common_steps}
 use Rattle.page_state.specs.Trees.{frames_from}
 use Rattle.hyp_pool.specs.Pools.{lowest_first}
 use Rattle.hyp_pool.proofs.Pools.{pool_of, all_made}
@@ -11,3 +12,6 @@ invariant_of-result c =
 
 pub returns-clause-pool : goal.returns-clause-pool
 returns-clause-pool c = (invariant_of-result c).0
+
+pub loop-i-preserved : goal.loop-i-preserved
+loop-i-preserved c = grind (arith, common_steps)

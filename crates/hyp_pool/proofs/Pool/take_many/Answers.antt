@@ -1,4 +1,5 @@
 use Rattle.std.proofs.Common.{◌≡◌, ◌+◌, ◌-◌, length, vec_len, arith}
+use Rattle.std.proofs.lemmas.Grind.{common_steps}
 use Rattle.hyp_pool.proofs.Views.{lowest_first-drop, lowest_first-take}
 use Rattle.hyp_pool.proofs.Pools.{pool_take, least_moved}
 use Rattle.hyp_pool.proofs.Pool.take_many.Goals as goal
@@ -25,3 +26,6 @@ returns-clause-left c = rw (c.move_last.ensures.left, ← c.self.view_is) (lowes
 
 pub returns-clause-least : goal.returns-clause-least
 returns-clause-least c = rw (c.move_last.ensures.moved, c.move_last.ensures.left) (least_moved (vec_len c.self.inside.frames - c.args.n) c.args.n c.self.inside.frames.items (all_frames c) c.self.invariant.0.rising)
+
+pub returns-then-n-free-clause-no_pool : goal.returns-then-n-free-clause-no_pool
+returns-then-n-free-clause-no_pool c = grind (arith, common_steps)
