@@ -32,3 +32,6 @@ loop-preserved g c =
       grows = omega (arith, more, c.loop.invariant.grows);
       counted = search rules;
     }
+
+pub returns-in-Err-clause-counted : goal.returns-in-Err-clause-counted
+returns-in-Err-clause-counted g c = search rules
