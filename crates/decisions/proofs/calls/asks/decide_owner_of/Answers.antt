@@ -1,0 +1,7 @@
+use Rattle.std.proofs.Common.{rules}
+use Rattle.reference_model.specs.Rules.{rule}
+use Rattle.decisions.proofs.calls.asks.decide_owner_of.Goals as goal
+
+pub returns-clause-decided : goal.returns-clause-decided
+unfolding rule
+returns-clause-decided g c = search rules

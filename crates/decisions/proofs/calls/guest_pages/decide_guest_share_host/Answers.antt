@@ -1,0 +1,7 @@
+use Rattle.std.proofs.Common.{rules}
+use Rattle.reference_model.specs.Rules.{rule}
+use Rattle.decisions.proofs.calls.guest_pages.decide_guest_share_host.Goals as goal
+
+pub returns : goal.returns
+unfolding rule
+returns g c = search rules
