@@ -1,5 +1,5 @@
 -- The first page below the input pages' limit, by runs that are cut there.
-use Rattle.std.proofs.Common.{◌≡◌, ℕ, zero, suc, ◌+◌, ◌-◌, ◌<◌, ◌≤◌, ◌&&◌, ◌||◌, Bool, true, false, min, List, [], ◌∷◌, drop, Option, Some, None, refl, sym, ap, ◌∙◌, arith}
+use Rattle.std.proofs.Common.{◌≡◌, ℕ, ◌+◌, ◌-◌, ◌<◌, ◌≤◌, ◌&&◌, ◌||◌, Bool, true, false, min, List, [], ◌∷◌, Option, Some, None, refl, sym, ap, ◌∙◌, arith}
 use Rattle.std.specs.Prelude.{nat_lt, if◌then◌else◌}
 use Rattle.std.specs.List.{list_any}
 use Rattle.std.specs.Option.{option_or}
@@ -146,9 +146,3 @@ module _ (s : State) (f : ℕ) where
 
   pub none-lent : (l : Layout) (number : ℕ) (rs : List Run) (row : Option Row) → list_any (maps_in s) rs ≡ false → row ≡ option_or (loan_at number (page_of l (map_of rs) s f)) row
   none-lent l number rs row h = ap (λ (o : Option ℕ). option_or (loan_at number o) row) (sym (page-none f s l rs (first-none rs h)))
-
--- what stands behind a place of a coarsest list is one
-pub coarsest-drop : (i : ℕ) (rs : List Run) → IsCoarsest rs → IsCoarsest (drop i rs)
-coarsest-drop zero rs c = c
-coarsest-drop (suc i) [] c = tt
-coarsest-drop (suc i) (r ∷ rs) c = coarsest-drop i rs c.2

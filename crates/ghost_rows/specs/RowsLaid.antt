@@ -23,7 +23,7 @@ use Rattle.reference_model.specs.State.{Guest, Cpu, no_guest, no_cpu}
 use Rattle.ghost_spec.specs.declared.cpu.GhostCpu.{GhostCpu}
 use Rattle.ghost_spec.specs.declared.parts.GhostGuest.{GhostGuest}
 use Rattle.ghost_spec.specs.Found.{run_page}
-use Rattle.ghost_trees.specs.Small.{AreSmall}
+use Rattle.ghost_trees.specs.KeptTrees.{IsKeptTree}
 use Rattle.ghost_spec.specs.States.{guest_in}
 use Rattle.ghost_spec.specs.Views.{cpu_in}
 
@@ -40,9 +40,9 @@ guests_in gs v = get_or (map guest_in gs) v no_guest
 abbrev pub cpus_in : List GhostCpu → ℕ → Cpu
 cpus_in ks c = get_or (map cpu_in ks) c no_cpu
 
--- the runs of each guest's tree are small
-abbrev pub HaveSmallRuns : List GhostGuest → Type 0
-HaveSmallRuns gs = All (λ g. AreSmall g.tree.runs.items) gs
+-- the tree of each guest is kept
+abbrev pub HaveKeptTrees : List GhostGuest → Type 0
+HaveKeptTrees gs = All (λ g. IsKeptTree g.tree) gs
 
 -- the owner of an annotated page, as a row
 abbrev pub annotated_row : Entry → Option Row

@@ -1,6 +1,5 @@
 //! The owner rows of a state, found from its runs, pools, tables and hands.
 mod loans;
-mod order;
 mod overlay;
 mod pieces;
 mod uses;
@@ -10,64 +9,41 @@ ghost use Rattle.page_state.specs.Layouts.{is_memory};
 ghost use Rattle.page_state.specs.LayoutView.{layout_of};
 ghost use Rattle.page_state.specs.Regions.{end_of, is_in_range, is_memory_kind};
 ghost use Rattle.page_state.specs.Rows.{advance_row, HasPageBelow};
-ghost use Rattle.page_state.specs.Runs.{map_of, IsCoarsest};
 ghost use Rattle.reference_model.specs.Owner.{row_of};
 ghost use Rattle.run_list.specs.Runs.{run_map, AreInReach};
-ghost use Rattle.ghost_trees.specs.Small.{AreSmall};
+ghost use Rattle.ghost_trees.specs.KeptTrees.{IsKeptTree};
 ghost use Rattle.ghost_spec.specs.States.{contents_in};
-ghost use Rattle.ghost_rows.specs.RowsLaid.{HaveSmallRuns};
+ghost use Rattle.ghost_rows.specs.RowsLaid.{HaveKeptTrees};
 ghost use Rattle.ghost_rows.specs.RowsTold.{told, AreReached};
 
 use ghost_spec::state::Ghost;
-use ghost_trees::runs::coarsest;
 use loans::{all_loans, annotated, guest_loans};
-use order::is_coarsest;
 use overlay::{lay, lay_all, put_last};
-use page_state::{Page, PageRange, Region, RegionKind, Row, Run, State};
+use page_state::{Page, PageRange, Region, RegionKind, Row, State};
 use pieces::{Lists, Stands};
 use run_list::RunList;
 use std::alloc::{AllocError, Global};
 use uses::all_uses;
 
-/// What is told of each frame by the host's runs in order and all other parts of the state.
-fn lists_by(alloc: Global, host: &[Run], state: &Ghost) -> Result<Lists, AllocError>
-    requires small { AreSmall host.now }
-    requires coarsest { IsCoarsest host.now }
-    requires same { map_of host.now ≡ map_of state.now.shared.host.runs.items }
-    requires hyp { AreSmall state.now.shared.hyp.runs.items }
-    requires guests { HaveSmallRuns state.now.guests.items }
+/// What is told of each frame by all parts of the state.
+fn lists_of(alloc: Global, state: &Ghost) -> Result<Lists, AllocError>
+    requires host { IsKeptTree state.now.shared.host }
+    requires hyp { IsKeptTree state.now.shared.hyp }
+    requires guests { HaveKeptTrees state.now.guests.items }
     requires guests_count { length state.now.guests.items ≡ 64 }
     requires cpus_count { length state.now.cpus.items ≡ state.now.layout.config.cpus }
     ensures told { IfOk result (λ x. (f : ℕ) → f < 2 ^ 26 → told x f ≡ row_of (layout_of state.now.layout) (contents_in state.now) f) }
     ensures reach { IfOk result AreReached }
 {
     let layout = &state.layout;
+    let shared = &state.shared;
     let guests = state.guests.as_slice();
     Ok(Lists {
-        annotated: annotated(alloc, host)?,
-        lent: all_loans(alloc, layout, host, &state.shared.hyp, guests)?,
+        annotated: annotated(alloc, shared.host.runs.as_slice())?,
+        lent: all_loans(alloc, layout, &shared.host, &shared.hyp, guests)?,
         shared: guest_loans(alloc, layout, guests, State::SharedOwned)?,
-        used: all_uses(alloc, layout, &state.shared, guests, state.cpus.as_slice())?,
+        used: all_uses(alloc, layout, shared, guests, state.cpus.as_slice())?,
     })
-}
-
-/// What is told of each frame by all parts of the state. Whether the host's runs are in order is asked once; where they aren't,
-/// they are put in order.
-fn lists_of(alloc: Global, state: &Ghost) -> Result<Lists, AllocError>
-    requires host { AreSmall state.now.shared.host.runs.items }
-    requires hyp { AreSmall state.now.shared.hyp.runs.items }
-    requires guests { HaveSmallRuns state.now.guests.items }
-    requires guests_count { length state.now.guests.items ≡ 64 }
-    requires cpus_count { length state.now.cpus.items ≡ state.now.layout.config.cpus }
-    ensures told { IfOk result (λ x. (f : ℕ) → f < 2 ^ 26 → told x f ≡ row_of (layout_of state.now.layout) (contents_in state.now) f) }
-    ensures reach { IfOk result AreReached }
-{
-    let host = state.shared.host.runs.as_slice();
-    if is_coarsest(host) {
-        return lists_by(alloc, host, state);
-    }
-    let ordered = coarsest(alloc, host)?;
-    lists_by(alloc, ordered.as_slice(), state)
 }
 
 /// The rows of the frames of a range, piece by piece: along a piece each list goes on as it begins.
@@ -123,9 +99,9 @@ fn add_region(
 /// The owner rows of all memory frames, found from the runs, the pools, the tables and the hands of a state. They take
 /// time by the number of these, and not by that of the frames.
 pub fn rows_from_scratch(alloc: Global, state: &Ghost) -> Result<RunList<Row>, AllocError>
-    requires host { AreSmall state.now.shared.host.runs.items }
-    requires hyp { AreSmall state.now.shared.hyp.runs.items }
-    requires guests { HaveSmallRuns state.now.guests.items }
+    requires host { IsKeptTree state.now.shared.host }
+    requires hyp { IsKeptTree state.now.shared.hyp }
+    requires guests { HaveKeptTrees state.now.guests.items }
     requires guests_count { length state.now.guests.items ≡ 64 }
     requires cpus_count { length state.now.cpus.items ≡ state.now.layout.config.cpus }
     ensures rows { IfOk result (λ r. (f : ℕ) → run_map advance_row r.runs f ≡ elim (is_memory (layout_of state.now.layout) f) [ true ↦ Some (row_of (layout_of state.now.layout) (contents_in state.now) f) | false ↦ None ]) }

@@ -119,23 +119,6 @@ fn splits_joins_and_cuts(rt: HostRuntime) {
     expect_cut(&rt, alloc, runs.as_slice(), parts.as_slice());
 }
 
-#[test]
-fn puts_runs_in_order(rt: HostRuntime) {
-    let (shared, owned) = (State::SharedOwned, State::Owned);
-    let runs = [
-        leaves(0x40300, 1, shared),
-        leaves(0x40301, 255, owned),
-        leaves(0x40200, 512, owned),
-    ];
-    let wanted = [
-        leaves(0x40200, 256, owned),
-        leaves(0x40300, 1, shared),
-        leaves(0x40301, 255, owned),
-    ];
-    let ordered = runs::coarsest(rt.alloc(), runs.as_slice()).expect(&rt, "memory");
-    assert!(rt; ordered.as_slice() == wanted.as_slice());
-}
-
 /// Compares the entry of a page.
 fn expect_entry(rt: &impl Abort, runs: &[Run], page: u64, wanted: Entry)
     requires { AreSmall runs.now }

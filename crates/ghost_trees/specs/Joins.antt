@@ -1,5 +1,5 @@
 -- How a run is put in front of a list of runs.
-use Rattle.std.specs.Prelude.{ℕ, ◌+◌, ◌<◌, ◌≤◌, Bool, ◌&&◌, ◌==◌, List, [], ◌∷◌, if◌then◌else◌}
+use Rattle.std.specs.Prelude.{◌+◌, Bool, ◌&&◌, ◌==◌, List, [], ◌∷◌, if◌then◌else◌}
 use Rattle.page_state.specs.declared.entry.Run.{Run}
 use Rattle.page_state.specs.Entries.{entry_of_target}
 use Rattle.page_state.specs.EntryTests.{entry_eq}
@@ -26,7 +26,3 @@ with_run r rs = if r.pages.count == 0 then rs else joined r rs
 abbrev pub all_joined : List Run → List Run → List Run
 all_joined [] rest = rest
 all_joined (r ∷ rs) rest = with_run r (all_joined rs rest)
-
--- a run neither begins nor ends between two pages
-abbrev pub HasNoBound : ℕ → ℕ → Run → Type 0
-HasNoBound low high r = (r.pages.first.0 < high → r.pages.first.0 ≤ low) × (run_end r < high → run_end r ≤ low)

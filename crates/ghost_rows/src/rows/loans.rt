@@ -13,14 +13,13 @@ ghost use Rattle.reference_model.specs.Owner.{page_of};
 ghost use Rattle.run_list.specs.Runs.{run_map, AreInReach, EndBefore};
 ghost use Rattle.run_list.specs.View.{IsKept};
 ghost use Rattle.ghost_spec.specs.Found.{run_page};
+ghost use Rattle.ghost_trees.specs.KeptTrees.{IsKeptTree};
 ghost use Rattle.ghost_trees.specs.Small.{IsSmall, AreSmall};
 ghost use Rattle.ghost_trees.specs.Trees.{tree_in_lists};
-ghost use Rattle.ghost_rows.specs.RowsLaid.{annotated_row, annotation_on, loan_row, loan_at, low_page, maps_in, run_below, guests_loan, any_loan, run_frames, next_above, last_above, HaveSmallRuns};
+ghost use Rattle.ghost_rows.specs.RowsLaid.{annotated_row, annotation_on, loan_row, loan_at, low_page, maps_in, run_below, guests_loan, any_loan, run_frames, next_above, last_above, HaveKeptTrees};
 
-use super::order::is_coarsest;
 use super::overlay::{lay, lay_all, put_last};
 use ghost_spec::parts::GhostGuest;
-use ghost_trees::runs::coarsest;
 use ghost_trees::tree::Tree;
 use page_state::{Layout, Lent, Owner, Page, PageRange, Row, Run, State, Target, Usage};
 use run_list::{Run as RowRun, RunList};
@@ -254,8 +253,8 @@ fn any_in(runs: &[Run], state: State) -> bool
     runs.iter().any(|run| is_in(run, state))
 }
 
-/// The frames that a tree maps in the state are lent to the component of a number, each at the first page that maps it.
-/// Runs that aren't in order are put in order first; those of which none maps a frame so are passed over.
+/// The frames that a tree maps in the state are lent to the component of a number, each at the first page that maps it. A tree
+/// none of whose runs maps a frame so is passed over.
 fn lend_tree(
     alloc: Global,
     layout: &Layout,
@@ -264,7 +263,7 @@ fn lend_tree(
     tree: &Tree,
     state: State,
 ) -> Result<(), AllocError>
-    requires small { AreSmall tree.now.runs.items }
+    requires kept { IsKeptTree tree.now }
     requires reach { AreInReach HasPageBelow rows.old.runs }
     ensures map { OnOk result ((f : ℕ) → run_map advance_row rows.new.runs f ≡ option_or (loan_at number (page_of (layout_of layout.now) (tree_in_lists tree.now).map state f)) (run_map advance_row rows.old.runs f)) }
     ensures reach { AreInReach HasPageBelow rows.new.runs }
@@ -273,11 +272,7 @@ fn lend_tree(
     if !any_in(runs, state) {
         return Ok(());
     }
-    if is_coarsest(runs) {
-        return lend_runs(alloc, layout, rows, number, runs, state);
-    }
-    let ordered = coarsest(alloc, runs)?;
-    lend_runs(alloc, layout, rows, number, ordered.as_slice(), state)?;
+    lend_runs(alloc, layout, rows, number, runs, state)?;
     Ok(())
 }
 
@@ -289,7 +284,7 @@ pub(crate) fn guest_loans(
     state: State,
 ) -> Result<RunList<Row>, AllocError>
     requires count { length guests.now ≤ 64 }
-    requires small { HaveSmallRuns guests.now }
+    requires kept { HaveKeptTrees guests.now }
     ensures map { IfOk result (λ r. (f : ℕ) → run_map advance_row r.runs f ≡ guests_loan (layout_of layout.now) guests.now state f) }
     ensures reach { IfOk result (λ r. AreInReach HasPageBelow r.runs) }
 {
@@ -307,29 +302,24 @@ pub(crate) fn guest_loans(
     Ok(rows)
 }
 
-/// To whom each frame is lent: the first of the host, whose runs are in order, the hypervisor and the guests that borrows it,
-/// at its first page.
+/// To whom each frame is lent: the first of the host, the hypervisor and the guests that borrows it, at its first page.
 pub(crate) fn all_loans(
     alloc: Global,
     layout: &Layout,
-    host: &[Run],
+    host: &Tree,
     hyp: &Tree,
     guests: &[GhostGuest],
 ) -> Result<RunList<Row>, AllocError>
-    requires host { AreSmall host.now }
-    requires coarsest { IsCoarsest host.now }
-    requires hyp { AreSmall hyp.now.runs.items }
+    requires host { IsKeptTree host.now }
+    requires hyp { IsKeptTree hyp.now }
     requires count { length guests.now ≤ 64 }
-    requires small { HaveSmallRuns guests.now }
-    ensures map { IfOk result (λ r. (f : ℕ) → run_map advance_row r.runs f ≡ any_loan (layout_of layout.now) (map_of host.now) (tree_in_lists hyp.now).map guests.now f) }
+    requires guests { HaveKeptTrees guests.now }
+    ensures map { IfOk result (λ r. (f : ℕ) → run_map advance_row r.runs f ≡ any_loan (layout_of layout.now) (tree_in_lists host.now).map (tree_in_lists hyp.now).map guests.now f) }
     ensures reach { IfOk result (λ r. AreInReach HasPageBelow r.runs) }
 {
     let borrowed = State::SharedBorrowed;
     let mut rows = guest_loans(alloc, layout, guests, borrowed)?;
     lend_tree(alloc, layout, &mut rows, 1, hyp, borrowed)?;
-    if !any_in(host, borrowed) {
-        return Ok(rows);
-    }
-    lend_runs(alloc, layout, &mut rows, 0, host, borrowed)?;
+    lend_tree(alloc, layout, &mut rows, 0, host, borrowed)?;
     Ok(rows)
 }

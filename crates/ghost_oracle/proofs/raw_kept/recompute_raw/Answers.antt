@@ -11,7 +11,7 @@ use Rattle.ghost_oracle.proofs.Scratch.{rows_of, scratch_told}
 use Rattle.ghost_oracle.proofs.raw_kept.recompute_raw.Goals as goal
 
 pub rows_from_scratch-requires-clause-guests : goal.rows_from_scratch-requires-clause-guests
-rows_from_scratch-requires-clause-guests g c = λ k d less. (guests_kept Words c.args.parts.now c.in_ok-found.found c.in_ok-found.ensures.found k d less).small
+rows_from_scratch-requires-clause-guests g c = guests_kept Words c.args.parts.now c.in_ok-found.found c.in_ok-found.ensures.found
 
 pub rows_from_scratch-requires-clause-cpus_count : goal.rows_from_scratch-requires-clause-cpus_count
 rows_from_scratch-requires-clause-cpus_count g c = cpus_counted Words c.args.parts.now c.in_ok-found.found c.in_ok-found.ensures.found
