@@ -16,7 +16,7 @@ ghost use Rattle.ghost_trees.specs.Trees.{tree_in_lists};
 ghost use Rattle.guest_component.specs.Bodies.{body_of, phase_of};
 ghost use Rattle.ghost_oracle.specs.Low.{IsLowGuest};
 
-use crate::walk::walk;
+use crate::walk::walk_with_room;
 use component::Component;
 use ghost_spec::parts::{GhostGuest, GhostPhase};
 use ghost_trees::tree::Tree;
@@ -29,12 +29,21 @@ use std::alloc::{AllocError, Allocator, Global};
 use table_tree::Reads;
 
 /// Where the runs of a map come from.
-#[derive(Clone, Copy, PartialEq, Debug)]
+#[derive(Clone, Copy)]
 pub enum Source {
     /// The maplets that are kept.
     Maplets,
     /// A walk of all words.
     Words,
+}
+
+/// How many runs maplets have.
+fn count_of(maplets: &Maplets) -> usize {
+    let mut count = 0usize;
+    for _ in maplets.iter() {
+        count = count.saturating_add(1);
+    }
+    count
 }
 
 /// The runs of maplets. Room for so many is taken at once.
@@ -61,7 +70,7 @@ pub(crate) fn frames_of(alloc: Global, pool: &Pool) -> Result<Vec<u64>, AllocErr
     Ok(frames)
 }
 
-/// A component's tree.
+/// A component's tree. The walk takes room for as many runs as the maplets have: mostly it finds so many.
 pub(crate) fn tree_from<A: Allocator>(
     alloc: Global,
     component: &Component<A>,
@@ -72,7 +81,8 @@ pub(crate) fn tree_from<A: Allocator>(
     ensures runs { source ≡ Source.Maplets → IfOk result (λ t. t.runs.items ≡ component.now.maplets.runs) }
 {
     let tree = component.tree();
-    let walked = walk(alloc, tree.geometry, &tree.table, &mut Reads::new())?;
+    let room = count_of(component.maplets());
+    let walked = walk_with_room(alloc, room, tree.geometry, &tree.table, &mut Reads::new())?;
     match source {
         Source::Maplets => tree_with_maplets(alloc, &walked, component),
         Source::Words => Ok(walked),

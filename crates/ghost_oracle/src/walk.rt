@@ -31,10 +31,25 @@ pub fn walk<A: Allocator>(
     ensures kept { IfOk result IsKeptTree }
     ensures reads { OnOk result (count_of reads.new ≡ min (count_of reads.old + 512 * tables_in (levels_below geometry) table.now) 18446744073709551615) }
 {
-    let mut found = Tree {
-        runs: Vec::new(alloc),
-        tables: Vec::new(alloc),
-    };
+    walk_with_room(alloc, 0, geometry, table, reads)
+}
+
+/// The same, where room for so many runs is taken at once: the list grows by no copies where no more are found.
+pub(crate) fn walk_with_room<A: Allocator>(
+    alloc: Global,
+    room: usize,
+    geometry: Geometry,
+    table: &Table<A>,
+    reads: &mut Reads,
+) -> Result<Tree, AllocError>
+    requires raw { IsRaw (levels_below geometry) table.now }
+    ensures tree { IfOk result (λ t. tree_in_lists t ≡ tree_under geometry table.now) }
+    ensures kept { IfOk result IsKeptTree }
+    ensures reads { OnOk result (count_of reads.new ≡ min (count_of reads.old + 512 * tables_in (levels_below geometry) table.now) 18446744073709551615) }
+{
+    let runs = Vec::with_capacity(alloc, room)?;
+    let tables = Vec::new(alloc);
+    let mut found = Tree { runs, tables };
     walk_table(table, depth_of(geometry), 0, reads, &mut found)?;
     Ok(found)
 }
