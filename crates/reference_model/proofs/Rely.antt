@@ -1,25 +1,23 @@
 -- What a step may rely on.
-use Rattle.std.proofs.Common.{◌≡◌, ℕ, ◌<◌, ◌≤◌, Bool, List, Option, Some, None, Ok, refl, sym, subst, ◌∙◌, ap}
+use Rattle.std.proofs.Common.{◌≡◌, ℕ, ◌<◌, Option, Some, None, refl, sym, subst, ◌∙◌, ap}
 use Rattle.std.proofs.Props.{props}
 use Rattle.std.proofs.Math.Logic.{∥∥₁_elim}
-use Rattle.std.specs.Coded.{×_prop, le_prop, Π_prop}
+use Rattle.std.specs.Coded.{×_prop, le_prop}
 use Rattle.page_state.specs.declared.entry.Entry.{Entry}
 use Rattle.page_state.specs.declared.entry.Entry.TheVariants.{Unmapped, Malformed, Annotated, Leaf}
-use Rattle.page_state.specs.declared.entry.PageRange.{PageRange}
 use Rattle.page_state.specs.declared.row.Lent.{Lent}
-use Rattle.page_state.specs.declared.row.Row.{Row}
 use Rattle.page_state.specs.declared.step.Step.{Step}
 use Rattle.page_state.specs.Entries.{IsRangeEntry}
 use Rattle.page_state.specs.Layouts.{Layout}
-use Rattle.page_state.specs.Rows.{HasPageBelow, HasLentBelow}
+use Rattle.page_state.specs.Rows.{HasLentBelow}
 use Rattle.reference_model.specs.declared.changes.Changes.{Changes}
 use Rattle.reference_model.specs.declared.changes.GuestChange.{GuestChange}
 use Rattle.reference_model.specs.declared.changes.GuestChange.TheVariants.{Keep as KeepGuest, Install, Gain, LoseLowest, Die, Empty}
 use Rattle.reference_model.specs.declared.changes.MapChange.{MapChange}
 use Rattle.reference_model.specs.declared.changes.SlotChange.{SlotChange}
 use Rattle.reference_model.specs.declared.changes.SlotChange.TheVariants.{Keep as KeepSlots, Reserve, Open, Close, Release, Load, Unload}
-use Rattle.reference_model.specs.Answers.{decides, CarriesOut}
-use Rattle.reference_model.specs.ChangeLaws.{CanGain, CanInstall, Fits, FitsPart, FitsTable, FitsWhere, AllFit, PartsFit, TouchedFits}
+use Rattle.reference_model.specs.Answers.{CarriesOut}
+use Rattle.reference_model.specs.ChangeLaws.{FitsPart, FitsTable, FitsWhere, AllFit, PartsFit, TouchedFits}
 use Rattle.reference_model.specs.Parts.{names, guest_slot, lacks_slot}
 use Rattle.reference_model.specs.Rely.{IsReached, CanRely, ReachedRelies, RelyingAnswers}
 use Rattle.reference_model.specs.RowChanges.{first_row}

@@ -2,7 +2,7 @@
 use page_state::{Entry, PageRange, Value, VmId, VmKind};
 
 /// A change of a map: the pages of a range get an entry, which advances along the range.
-#[derive(Clone, Copy, PartialEq, Debug)]
+#[derive(Clone, Copy)]
 pub struct MapChange {
     /// The pages.
     pub range: PageRange,
@@ -11,7 +11,7 @@ pub struct MapChange {
 }
 
 /// What a field becomes.
-#[derive(Clone, Copy, PartialEq, Debug)]
+#[derive(Clone, Copy)]
 pub enum Update<T> {
     /// What it was.
     Keep,
@@ -20,7 +20,7 @@ pub enum Update<T> {
 }
 
 /// What else than its map changes of the Guest part that a call uses.
-#[derive(Clone, Copy, PartialEq, Debug)]
+#[derive(Clone, Copy)]
 pub enum GuestChange {
     /// Nothing.
     Keep,
@@ -41,7 +41,7 @@ pub enum GuestChange {
 }
 
 /// What changes of the slots of the VM part.
-#[derive(Clone, Copy, PartialEq, Debug)]
+#[derive(Clone, Copy)]
 pub enum SlotChange {
     /// Nothing.
     Keep,
@@ -95,7 +95,7 @@ pub struct Loaded {
 }
 
 /// What changes of the CPU's own state.
-#[derive(Clone, Copy, PartialEq, Debug)]
+#[derive(Clone, Copy)]
 pub struct CpuChange {
     /// The vCPU that it has loaded.
     pub loaded: Update<Option<Loaded>>,
@@ -106,7 +106,7 @@ pub struct CpuChange {
 }
 
 /// All that a call changes on Ok, and what it gives.
-#[derive(Clone, Copy, PartialEq, Debug)]
+#[derive(Clone, Copy)]
 pub struct Changes {
     /// The host's map.
     pub host: Option<MapChange>,

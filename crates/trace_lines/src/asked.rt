@@ -25,7 +25,7 @@ use crate::words::{Words, is_name};
 use page_state::Step;
 
 /// What a line asks for by its first words, and what all of them say.
-#[derive(Clone, Copy, PartialEq, Debug)]
+#[derive(Clone, Copy)]
 pub struct Asked {
     pub verb: Verb,
     /// How many words such a line has.
@@ -35,7 +35,7 @@ pub struct Asked {
 }
 
 /// A tree that words name.
-#[derive(Clone, Copy, PartialEq, Debug)]
+#[derive(Clone, Copy)]
 pub struct NamedTree {
     /// How many words its name has.
     pub words: usize,

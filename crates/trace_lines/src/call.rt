@@ -20,7 +20,7 @@ use crate::words::{Words, is_name};
 use page_state::Step;
 
 /// What a step line of a call has.
-#[derive(Clone, Copy, PartialEq, Debug)]
+#[derive(Clone, Copy)]
 pub struct Called {
     /// The number of its words: its CPU, the call's name, and the arguments.
     pub words: usize,

@@ -31,7 +31,7 @@ impl Allows {
 }
 
 /// The name of a setting.
-#[derive(Clone, Copy, PartialEq, Debug)]
+#[derive(Clone, Copy)]
 pub enum SettingName {
     Geometry,
     Cpus,
@@ -42,7 +42,7 @@ pub enum SettingName {
 }
 
 /// What a line asks for, as far as its place goes.
-#[derive(Clone, Copy, PartialEq, Debug)]
+#[derive(Clone, Copy)]
 pub enum Verb {
     Setting(SettingName),
     Boot,

@@ -8,7 +8,7 @@ use trace_lines::LineFault;
 use world::BootFault;
 
 /// What is wrong with a line.
-#[derive(Clone, Copy, PartialEq, Debug)]
+#[derive(Clone, Copy)]
 pub enum Fault {
     /// Line 1,048,577.
     Lines,

@@ -9,7 +9,7 @@ use std::fmt;
 use trace_lines::Response;
 
 /// A line of a report, without its end.
-#[derive(Clone, Copy, PartialEq, Debug)]
+#[derive(Clone, Copy)]
 pub enum ReportLine {
     /// What a line of the trace reports.
     Response(Response),

@@ -23,7 +23,7 @@ use trace_lines::{Allows, Line, LineFault, Query, Response, Setting, Settings, T
 use world::World;
 
 /// Why a line ends the run.
-#[derive(Clone, Copy, PartialEq, Debug)]
+#[derive(Clone, Copy)]
 pub enum Stop {
     Fault(Fault),
     /// A growth that no line of the report tells of was refused.
@@ -31,7 +31,7 @@ pub enum Stop {
 }
 
 /// What a line reports.
-#[derive(Clone, Copy, PartialEq, Debug)]
+#[derive(Clone, Copy)]
 pub enum Reported {
     Nothing,
     /// One line.

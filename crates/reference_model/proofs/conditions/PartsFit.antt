@@ -1,30 +1,28 @@
 -- What a step decides to change of the slots and of its guest can be made.
-use Rattle.std.proofs.Common.{◌≡◌, ◌≢◌, ℕ, ◌+◌, ◌^◌, ◌≤◌, ◌<◌, refl, ap, sym, ◌∙◌, subst, arith}
-use Rattle.std.specs.Prelude.{Bool, true, false, not, ◌&&◌, ◌||◌, nat_le, nat_lt, is_some, is_none, unwrap_or, length, Option, Some, None, Ok}
+use Rattle.std.proofs.Common.{◌≡◌, ℕ, ◌+◌, ◌^◌, ◌≤◌, ◌<◌, refl, ap, sym, ◌∙◌, subst, arith}
+use Rattle.std.specs.Prelude.{Bool, true, false, ◌||◌, nat_le, nat_lt, is_some, is_none, unwrap_or, length, Option, Some, None}
 use Rattle.std.proofs.lemmas.Bool.Decides.{nat_tests}
 use Rattle.page_state.specs.declared.row.Usage.TheVariants.{InHand}
 use Rattle.page_state.specs.declared.step.Step.{Step}
 use Rattle.page_state.specs.declared.step.Step.TheVariants.{ShareHyp, UnshareHyp, DonateHyp, HypDonateHost, HostAbort, HostTranslate, HypTranslate, OwnerOf, Fund, Unfund, ShareGuest, UnshareGuest, DonateGuest, GuestShareHost, GuestUnshareHost, Install, Topup, ReclaimPage, ReclaimPool, FinishGuest, GuestRelax, GuestTranslate, MarkDying, VmReserve, VmOpen, VcpuLoad, VcpuPut, Teardown, VmRelease}
 use Rattle.page_state.specs.declared.step.VmId.{VmId}
 use Rattle.page_state.specs.Accepted.{IsAcceptedLayout}
-use Rattle.page_state.specs.Geometries.{pages_below}
-use Rattle.page_state.specs.Layouts.{Layout, hyp_page}
+use Rattle.page_state.specs.Layouts.{Layout}
 use Rattle.page_state.specs.Map.{is_within}
 use Rattle.page_state.specs.Regions.{end_of}
 use Rattle.reference_model.specs.declared.changes.Changes.{Changes}
 use Rattle.reference_model.specs.declared.changes.Loaded.{Loaded}
 use Rattle.reference_model.specs.declared.changes.Stage.TheVariants.{Booked as booked, Installed as installed, ClosingVm as closing_vm, Finished as finished}
 use Rattle.reference_model.specs.declared.changes.Ticket.{Ticket}
-use Rattle.reference_model.specs.Answers.{decides}
 use Rattle.reference_model.specs.Bounds.{Bounded}
-use Rattle.reference_model.specs.ChangeLaws.{CanInstall, CanGain, PartsFit, PartChangesFit}
+use Rattle.reference_model.specs.ChangeLaws.{PartsFit, PartChangesFit}
 use Rattle.reference_model.specs.Conditions.{hyps, Legal, IsUsable, one, in_vm, guest_uses}
 use Rattle.reference_model.specs.GuestRules.{ticket_vm, guest_table_count, is_guest}
 use Rattle.reference_model.specs.Parts.{names, guest_slot, lacks_slot, has_stage}
 use Rattle.reference_model.specs.Rule.{Rule}
 use Rattle.reference_model.specs.Rules.{rule}
 use Rattle.reference_model.specs.SharedRules.{hand_of}
-use Rattle.reference_model.specs.State.{Contents, Reference, Guest, empty, live, dying, vacant}
+use Rattle.reference_model.specs.State.{Reference, empty, live, dying, vacant}
 use Rattle.reference_model.specs.Step.{first_test}
 use Rattle.reference_model.specs.Used.{Used, used_of}
 use Rattle.reference_model.specs.VmRules.{vacant_slot, load_of, stand_eq}
@@ -32,7 +30,7 @@ use Rattle.page_state.proofs.Common.{or-neither, not-false}
 use Rattle.reference_model.proofs.Answers.{told-ok}
 use Rattle.reference_model.proofs.ChangesUsed.{lacking}
 use Rattle.reference_model.proofs.conditions.Bounding.{hand-few}
-use Rattle.reference_model.proofs.conditions.Keeps.{named-slot, loaded-at, staged-at}
+use Rattle.reference_model.proofs.conditions.Keeps.{loaded-at, staged-at}
 use Rattle.reference_model.proofs.conditions.PageSteps.{live-alive, dying-alive}
 use Rattle.reference_model.proofs.conditions.RangeMoves.{range-in, hand-some, hand-was, memory-of}
 use Rattle.reference_model.proofs.conditions.RunsLegal.{accepted_usable, few-pages}
