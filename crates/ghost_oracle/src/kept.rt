@@ -42,9 +42,9 @@ pub(crate) fn shared_from<A: Allocator>(
     ensures rows { IfOk result (λ s. s.rows ≡ rows) }
 {
     Ok(Shared {
+        free: frames_of(alloc, &part.pool)?,
         host: tree_from(alloc, &part.host, Source::Words)?,
         hyp: tree_from(alloc, &part.hyp, Source::Words)?,
-        free: frames_of(alloc, &part.pool)?,
         rows,
     })
 }
@@ -120,10 +120,10 @@ fn shared_with_maplets<A: Allocator>(
     ensures rows { IfOk result (λ s. s.rows.runs ≡ part.now.rows) }
 {
     Ok(Shared {
-        host: tree_with_maplets(alloc, &found.host, &part.host)?,
-        hyp: tree_with_maplets(alloc, &found.hyp, &part.hyp)?,
         free: Vec::from_slice(alloc, found.free.as_slice())?,
         rows: copied_rows(alloc, part.rows.runs())?,
+        host: tree_with_maplets(alloc, &found.host, &part.host)?,
+        hyp: tree_with_maplets(alloc, &found.hyp, &part.hyp)?,
     })
 }
 

@@ -9,7 +9,6 @@ ghost use Rattle.ghost_oracle.specs.Poked.{IsBeside, IsPokedSeen, IsPokedTree, p
 ghost use Rattle.ghost_oracle.specs.Seen.{raw_seen, slot_seen, taken_seen, tree_seen};
 
 use crate::raw::{RawComponent, RawGuest, RawParts, RawShared, Which};
-use arrayvec::ArrayVec;
 use component::Component;
 use guest_component::Body;
 use guest_steps::{GuestPart, SharedPart};
@@ -117,9 +116,9 @@ pub fn raw_parts<A: Allocator>(parts: Parts<A>, poked: Vec<Option<RawGuest<A>>>)
 fn slot_word<A: Allocator>(
     part: &GuestPart<A>,
     held: &Option<RawGuest<A>>,
-    path: &ArrayVec<u16, 4>,
+    path: &[u16],
 ) -> Option<u64>
-    ensures { result ≡ (slot_seen part.now held.now).words path.now.items }
+    ensures { result ≡ (slot_seen part.now held.now).words path.now }
 {
     match held {
         Some(guest) => guest.map.tree.word_at(path),
@@ -154,11 +153,11 @@ fn take_guest<A: Allocator>(
 fn set_slot<A: Allocator>(
     part: &mut GuestPart<A>,
     held: &mut Option<RawGuest<A>>,
-    path: &ArrayVec<u16, 4>,
+    path: &[u16],
     word: u64,
 )
-    requires there { IsSome ((slot_seen part.old held.old).words path.now.items) }
-    ensures poked { (g : TreeGeometry) → IsSlotOf g part.old held.old → IsPokedSeen (block_of g path.now.items) (slot_seen part.old held.old) (slot_seen part.new held.new) path.now.items word }
+    requires there { IsSome ((slot_seen part.old held.old).words path.now) }
+    ensures poked { (g : TreeGeometry) → IsSlotOf g part.old held.old → IsPokedSeen (block_of g path.now) (slot_seen part.old held.old) (slot_seen part.new held.new) path.now word }
     ensures beside { slot_beside part.new held.new ≡ slot_beside part.old held.old }
     ensures depth { (g : TreeGeometry) → IsSlotOf g part.old held.old → IsSlotOf g part.new held.new }
 {
@@ -174,13 +173,13 @@ fn set_place<A: Allocator>(
     guests: &mut Vec<GuestPart<A>>,
     poked: &mut Vec<Option<RawGuest<A>>>,
     slot: u64,
-    path: &ArrayVec<u16, 4>,
+    path: &[u16],
     word: u64,
 )
     requires slots { vec_len guests.old ≡ 64 }
     requires places { vec_len poked.old ≡ 64 }
-    requires there { IsSome ((guest_seen guests.old.items poked.old.items slot).words path.now.items) }
-    ensures poked { (g : TreeGeometry) → AreSlotsOf g guests.old.items poked.old.items → IsPokedSeen (block_of g path.now.items) (guest_seen guests.old.items poked.old.items slot) (guest_seen guests.new.items poked.new.items slot) path.now.items word }
+    requires there { IsSome ((guest_seen guests.old.items poked.old.items slot).words path.now) }
+    ensures poked { (g : TreeGeometry) → AreSlotsOf g guests.old.items poked.old.items → IsPokedSeen (block_of g path.now) (guest_seen guests.old.items poked.old.items slot) (guest_seen guests.new.items poked.new.items slot) path.now word }
     ensures others { (v : ℕ) → (v ≡ slot → ⊥) → guest_seen guests.new.items poked.new.items v ≡ guest_seen guests.old.items poked.old.items v }
     ensures beside { (v : ℕ) → guest_beside guests.new.items poked.new.items v ≡ guest_beside guests.old.items poked.old.items v }
     ensures depth { (g : TreeGeometry) → AreSlotsOf g guests.old.items poked.old.items → AreSlotsOf g guests.new.items poked.new.items }
@@ -195,9 +194,9 @@ impl<A: Allocator> RawComponent<A> {
     ghost use Rattle.table_tree.specs.RawView.{raw_word_of};
 
     /// Sets the word at a path that has one.
-    fn set(&mut self, path: &ArrayVec<u16, 4>, word: u64)
-        requires there { IsSome (raw_word_of self.old.tree path.now.items) }
-        ensures poked { IsPokedSeen (block_of self.old.tree.geometry path.now.items) (raw_seen self.old.tree) (raw_seen self.new.tree) path.now.items word }
+    fn set(&mut self, path: &[u16], word: u64)
+        requires there { IsSome (raw_word_of self.old.tree path.now) }
+        ensures poked { IsPokedSeen (block_of self.old.tree.geometry path.now) (raw_seen self.old.tree) (raw_seen self.new.tree) path.now word }
         ensures maplets { self.new.maplets ≡ self.old.maplets }
         ensures geometry { self.new.tree.geometry ≡ self.old.tree.geometry }
     {
@@ -207,8 +206,8 @@ impl<A: Allocator> RawComponent<A> {
 
 impl<A: Allocator> RawParts<A> {
     /// The word at a path of a tree; None where there is none.
-    pub fn word_at(&self, which: Which, path: &ArrayVec<u16, 4>) -> Option<u64>
-        ensures { result ≡ (raw_trees self.now which).words path.now.items }
+    pub fn word_at(&self, which: Which, path: &[u16]) -> Option<u64>
+        ensures { result ≡ (raw_trees self.now which).words path.now }
     {
         match which {
             Which::Host => self.shared.host.tree.word_at(path),
@@ -218,8 +217,8 @@ impl<A: Allocator> RawParts<A> {
     }
 
     /// The same of a guest's tree; no slot is past the 64th.
-    fn guest_word(&self, slot: u64, path: &ArrayVec<u16, 4>) -> Option<u64>
-        ensures { result ≡ (guest_seen self.now.guests.items self.now.poked.items slot).words path.now.items }
+    fn guest_word(&self, slot: u64, path: &[u16]) -> Option<u64>
+        ensures { result ≡ (guest_seen self.now.guests.items self.now.poked.items slot).words path.now }
     {
         let place = slot as usize;
         let part = self.guests.get(place)?;
@@ -232,12 +231,12 @@ impl<A: Allocator> RawParts<A> {
     pub fn poke(
         self,
         which: Which,
-        path: &ArrayVec<u16, 4>,
+        path: &[u16],
         word: u64,
     ) -> Result<RawParts<A>, (RawParts<A>, PathFault)>
-        ensures fault { IsOk result ↔ IsSome ((raw_trees self which).words path.now.items) }
+        ensures fault { IsOk result ↔ IsSome ((raw_trees self which).words path.now) }
         ensures kept { IfErr result (λ e. e.0 ≡ self) }
-        ensures poked { IfOk result (λ p. IsPokedTree (block_of self.layout.geometry path.now.items) (raw_trees self) (raw_trees p) which path.now.items word) }
+        ensures poked { IfOk result (λ p. IsPokedTree (block_of self.layout.geometry path.now) (raw_trees self) (raw_trees p) which path.now word) }
         ensures beside { IfOk result (λ p. raw_beside_of p ≡ raw_beside_of self) }
     {
         if self.word_at(which, path).is_none() {
@@ -249,9 +248,9 @@ impl<A: Allocator> RawParts<A> {
     }
 
     /// The same in place, where there is a word.
-    pub fn set(&mut self, which: Which, path: &ArrayVec<u16, 4>, word: u64)
-        requires there { IsSome ((raw_trees self.old which).words path.now.items) }
-        ensures poked { IsPokedTree (block_of self.old.layout.geometry path.now.items) (raw_trees self.old) (raw_trees self.new) which path.now.items word }
+    pub fn set(&mut self, which: Which, path: &[u16], word: u64)
+        requires there { IsSome ((raw_trees self.old which).words path.now) }
+        ensures poked { IsPokedTree (block_of self.old.layout.geometry path.now) (raw_trees self.old) (raw_trees self.new) which path.now word }
         ensures beside { raw_beside_of self.new ≡ raw_beside_of self.old }
     {
         match which {
@@ -261,27 +260,27 @@ impl<A: Allocator> RawParts<A> {
         }
     }
 
-    fn set_host(&mut self, path: &ArrayVec<u16, 4>, word: u64)
-        requires there { IsSome ((raw_seen self.old.shared.host.tree).words path.now.items) }
-        ensures poked { IsPokedTree (block_of self.old.layout.geometry path.now.items) (raw_trees self.old) (raw_trees self.new) WhichTree.Host path.now.items word }
+    fn set_host(&mut self, path: &[u16], word: u64)
+        requires there { IsSome ((raw_seen self.old.shared.host.tree).words path.now) }
+        ensures poked { IsPokedTree (block_of self.old.layout.geometry path.now) (raw_trees self.old) (raw_trees self.new) WhichTree.Host path.now word }
         ensures beside { raw_beside_of self.new ≡ raw_beside_of self.old }
     {
         let shared = &mut self.shared;
         shared.host.set(path, word);
     }
 
-    fn set_hyp(&mut self, path: &ArrayVec<u16, 4>, word: u64)
-        requires there { IsSome ((raw_seen self.old.shared.hyp.tree).words path.now.items) }
-        ensures poked { IsPokedTree (block_of self.old.layout.geometry path.now.items) (raw_trees self.old) (raw_trees self.new) WhichTree.Hyp path.now.items word }
+    fn set_hyp(&mut self, path: &[u16], word: u64)
+        requires there { IsSome ((raw_seen self.old.shared.hyp.tree).words path.now) }
+        ensures poked { IsPokedTree (block_of self.old.layout.geometry path.now) (raw_trees self.old) (raw_trees self.new) WhichTree.Hyp path.now word }
         ensures beside { raw_beside_of self.new ≡ raw_beside_of self.old }
     {
         let shared = &mut self.shared;
         shared.hyp.set(path, word);
     }
 
-    fn set_guest(&mut self, slot: u64, path: &ArrayVec<u16, 4>, word: u64)
-        requires there { IsSome ((guest_seen self.old.guests.items self.old.poked.items slot).words path.now.items) }
-        ensures poked { IsPokedTree (block_of self.old.layout.geometry path.now.items) (raw_trees self.old) (raw_trees self.new) (WhichTree.Guest slot) path.now.items word }
+    fn set_guest(&mut self, slot: u64, path: &[u16], word: u64)
+        requires there { IsSome ((guest_seen self.old.guests.items self.old.poked.items slot).words path.now) }
+        ensures poked { IsPokedTree (block_of self.old.layout.geometry path.now) (raw_trees self.old) (raw_trees self.new) (WhichTree.Guest slot) path.now word }
         ensures beside { raw_beside_of self.new ≡ raw_beside_of self.old }
     {
         set_place(&mut self.guests, &mut self.poked, slot, path, word);
@@ -289,8 +288,8 @@ impl<A: Allocator> RawParts<A> {
 }
 
 /// The word at a path of a tree; None where there is none.
-fn parts_word<A: Allocator>(parts: &Parts<A>, which: Which, path: &ArrayVec<u16, 4>) -> Option<u64>
-    ensures { result ≡ (parts_trees parts.now which).words path.now.items }
+fn parts_word<A: Allocator>(parts: &Parts<A>, which: Which, path: &[u16]) -> Option<u64>
+    ensures { result ≡ (parts_trees parts.now which).words path.now }
 {
     match which {
         Which::Host => parts.shared().host.tree.word_at(path),
@@ -300,8 +299,8 @@ fn parts_word<A: Allocator>(parts: &Parts<A>, which: Which, path: &ArrayVec<u16,
 }
 
 /// The same of a guest's tree; no slot is past the 64th.
-fn guest_word<A: Allocator>(parts: &Parts<A>, slot: u64, path: &ArrayVec<u16, 4>) -> Option<u64>
-    ensures { result ≡ (guest_seen parts.now.guests.items [] slot).words path.now.items }
+fn guest_word<A: Allocator>(parts: &Parts<A>, slot: u64, path: &[u16]) -> Option<u64>
+    ensures { result ≡ (guest_seen parts.now.guests.items [] slot).words path.now }
 {
     let part = parts.guests.get(slot as usize)?;
     slot_word(part, &None, path)
@@ -313,13 +312,13 @@ pub fn poke<A: Allocator>(
     parts: Parts<A>,
     poked: Vec<Option<RawGuest<A>>>,
     which: Which,
-    path: &ArrayVec<u16, 4>,
+    path: &[u16],
     word: u64,
 ) -> Result<RawParts<A>, (Parts<A>, PathFault)>
     requires nothing { poked.items ≡ replicate 64 None }
-    ensures fault { IsOk result ↔ IsSome ((parts_trees parts which).words path.now.items) }
+    ensures fault { IsOk result ↔ IsSome ((parts_trees parts which).words path.now) }
     ensures kept { IfErr result (λ e. e.0 ≡ parts) }
-    ensures poked { IfOk result (λ p. IsPokedTree (block_of parts.layout.geometry path.now.items) (parts_trees parts) (raw_trees p) which path.now.items word) }
+    ensures poked { IfOk result (λ p. IsPokedTree (block_of parts.layout.geometry path.now) (parts_trees parts) (raw_trees p) which path.now word) }
     ensures beside { IfOk result (λ p. IsBeside parts (raw_beside_of p)) }
 {
     if parts_word(&parts, which, path).is_none() {

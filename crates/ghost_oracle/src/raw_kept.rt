@@ -36,7 +36,7 @@ fn raw_tree<A: Allocator>(
     ensures runs { source ≡ Source.Maplets → IfOk result (λ t. t.runs.items ≡ component.now.maplets.runs) }
 {
     let tree = &component.tree;
-    let walked = walk(alloc, tree.geometry, &tree.table, &mut Reads::new())?;
+    let walked = walk(alloc, 0, tree.geometry, &tree.table, &mut Reads::new())?;
     match source {
         Source::Maplets => with_maplets(alloc, &walked, &component.maplets),
         Source::Words => Ok(walked),
@@ -111,9 +111,9 @@ fn raw_shared<A: Allocator>(
     ensures rows { IfOk result (λ s. s.rows ≡ rows) }
 {
     Ok(Shared {
+        free: frames_of(alloc, &part.pool)?,
         host: raw_tree(alloc, &part.host, source)?,
         hyp: raw_tree(alloc, &part.hyp, source)?,
-        free: frames_of(alloc, &part.pool)?,
         rows,
     })
 }
@@ -141,15 +141,15 @@ fn raw_from<A: Allocator>(
     Ok(Ghost {
         layout: copied_layout(&parts.layout)?,
         vms: slots_from(alloc, &parts.vms[0].table)?,
-        shared: raw_shared(alloc, &parts.shared, source, rows)?,
+        cpus: cpus_from(alloc, parts.cpus.as_slice())?,
+        rooms: raw_rooms(alloc, parts)?,
         guests: slot_guests(
             alloc,
             parts.guests.as_slice(),
             parts.poked.as_slice(),
             source,
         )?,
-        cpus: cpus_from(alloc, parts.cpus.as_slice())?,
-        rooms: raw_rooms(alloc, parts)?,
+        shared: raw_shared(alloc, &parts.shared, source, rows)?,
     })
 }
 

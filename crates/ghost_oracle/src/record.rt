@@ -193,9 +193,9 @@ pub fn record<A: Allocator>(
     let recorded = Ghost {
         layout: copied_layout(layout)?,
         vms: slots_given(alloc, vms)?,
-        shared: shared_given(alloc, shared)?,
-        guests: guests_given(alloc, guest)?,
         cpus: cpus_with(alloc, cpus, cpu, state)?,
+        guests: guests_given(alloc, guest)?,
+        shared: shared_given(alloc, shared)?,
         rooms,
     };
     Ok(recorded)

@@ -16,7 +16,7 @@ ghost use Rattle.ghost_trees.specs.Trees.{tree_in_lists};
 ghost use Rattle.guest_component.specs.Bodies.{body_of, phase_of};
 ghost use Rattle.ghost_oracle.specs.Low.{IsLowGuest};
 
-use crate::walk::walk_with_room;
+use crate::walk::walk;
 use component::Component;
 use ghost_spec::parts::{GhostGuest, GhostPhase};
 use ghost_trees::tree::Tree;
@@ -35,15 +35,6 @@ pub enum Source {
     Maplets,
     /// A walk of all words.
     Words,
-}
-
-/// How many runs maplets have.
-fn count_of(maplets: &Maplets) -> usize {
-    let mut count = 0usize;
-    for _ in maplets.iter() {
-        count = count.saturating_add(1);
-    }
-    count
 }
 
 /// The runs of maplets. Room for so many is taken at once.
@@ -81,8 +72,8 @@ pub(crate) fn tree_from<A: Allocator>(
     ensures runs { source ≡ Source.Maplets → IfOk result (λ t. t.runs.items ≡ component.now.maplets.runs) }
 {
     let tree = component.tree();
-    let room = count_of(component.maplets());
-    let walked = walk_with_room(alloc, room, tree.geometry, &tree.table, &mut Reads::new())?;
+    let room = component.maplets().len();
+    let walked = walk(alloc, room, tree.geometry, &tree.table, &mut Reads::new())?;
     match source {
         Source::Maplets => tree_with_maplets(alloc, &walked, component),
         Source::Words => Ok(walked),

@@ -19,23 +19,9 @@ use table_tree::word::entry_of;
 use table_tree::{Reads, Slot, Table};
 
 /// The tree that a root table and the tables below it say, whose words may be any. Each word is read once. It takes memory
-/// for the runs and tables that it finds alone.
+/// for the runs and tables that it finds alone; for so many runs as `room` it is taken at once, so that the list grows by no
+/// copies where no more are found.
 pub fn walk<A: Allocator>(
-    alloc: Global,
-    geometry: Geometry,
-    table: &Table<A>,
-    reads: &mut Reads,
-) -> Result<Tree, AllocError>
-    requires raw { IsRaw (levels_below geometry) table.now }
-    ensures tree { IfOk result (λ t. tree_in_lists t ≡ tree_under geometry table.now) }
-    ensures kept { IfOk result IsKeptTree }
-    ensures reads { OnOk result (count_of reads.new ≡ min (count_of reads.old + 512 * tables_in (levels_below geometry) table.now) 18446744073709551615) }
-{
-    walk_with_room(alloc, 0, geometry, table, reads)
-}
-
-/// The same, where room for so many runs is taken at once: the list grows by no copies where no more are found.
-pub(crate) fn walk_with_room<A: Allocator>(
     alloc: Global,
     room: usize,
     geometry: Geometry,

@@ -333,7 +333,11 @@ pub fn copied_rows(alloc: Global, runs: &[Run<Row>]) -> Result<RunList<Row>, All
     requires reach { AreInReach HasPageBelow runs.now }
     ensures { IfOk result (λ r. r.runs ≡ runs.now) }
 {
-    Ok(RunList::of(Vec::from_slice(alloc, runs)?))
+    let mut rows = Vec::with_capacity(alloc, runs.len())?;
+    for run in runs {
+        rows.push(*run)?;
+    }
+    Ok(RunList::of(rows))
 }
 
 /// The rows of the memory frames of a range are found, where there is no guest, and no frame is in a hand.

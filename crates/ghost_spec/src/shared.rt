@@ -55,10 +55,10 @@ impl Shared {
         ensures kept { IfOk result IsKeptShared }
     {
         Ok(Shared {
-            host: self.host.copied(alloc)?,
-            hyp: self.hyp.copied(alloc)?,
             free: Vec::from_slice(alloc, self.free.as_slice())?,
             rows: copied_rows(alloc, self.rows.runs())?,
+            host: self.host.copied(alloc)?,
+            hyp: self.hyp.copied(alloc)?,
         })
     }
 }

@@ -129,10 +129,10 @@ impl Ghost {
         Ok(Ghost {
             layout: copied_layout(&self.layout)?,
             vms: copied_slots(alloc, self.vms.as_slice())?,
-            shared: self.shared.copied(alloc)?,
-            guests: copied_guests(alloc, self.guests.as_slice())?,
             cpus: Vec::from_slice(alloc, self.cpus.as_slice())?,
             rooms: self.rooms.copied(alloc)?,
+            guests: copied_guests(alloc, self.guests.as_slice())?,
+            shared: self.shared.copied(alloc)?,
         })
     }
 

@@ -147,7 +147,7 @@ fn walks_each_level(rt: HostRuntime) {
     let alloc = rt.alloc();
     let root = tree(&rt, alloc);
     let mut reads = Reads::new();
-    let found = walk(alloc, Geometry::Bits39, &root, &mut reads).expect(&rt, "memory");
+    let found = walk(alloc, 0, Geometry::Bits39, &root, &mut reads).expect(&rt, "memory");
     expect_found(&rt, &found);
     assert_eq!(rt; reads.count(), 1536);
 }

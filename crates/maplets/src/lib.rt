@@ -51,6 +51,13 @@ impl Maplets {
         self.list.room()
     }
 
+    /// How many runs the map has.
+    pub fn len(&self) -> usize
+        ensures { result ≡ length self.now.runs }
+    {
+        self.list.runs().len()
+    }
+
     /// Makes the room at least `extra`. A refusal changes nothing: runs and room are as they were.
     pub fn reserve(&mut self, extra: usize) -> Result<(), AllocError>
         ensures ok { OnOk result (extra ≤ self.new.room) }

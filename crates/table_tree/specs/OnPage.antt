@@ -11,12 +11,6 @@ abbrev pub path_of : ℕ → ℕ → ℕ → List ℕ
 path_of page below zero = []
 path_of page below (suc more) = index_at below page ∷ path_of page (below - 1) more
 
--- the path to the word on a page's path at a level, where the page is an input page and the level is one of the geometry's trees
-unfoldable pub path_on : Geometry → ℕ → ℕ → Option (List ℕ)
-path_on geometry page level =
-    let depth = levels_below geometry in
-    if nat_lt page (input_pages geometry) && (nat_le (3 - depth) level && nat_le level 3) then Some (path_of page depth (level + 1 - (3 - depth))) else None
-
 -- the word on a page's path at a level. None where the page isn't good, the level isn't one of the tree's, the root's being
 -- 3 less the levels below it, or no table of the tree has that word
 unfoldable pub word_on : {A : Type 0} → Tree A → ℕ → ℕ → Option ℕ

@@ -13,7 +13,6 @@ mod tree;
 pub mod word;
 
 pub use chain::Chain;
-pub use path::path_on;
 pub use raw::{PathFault, RawTree};
 pub use spares::Spares;
 pub use stock::Stock;

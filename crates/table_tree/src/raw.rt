@@ -8,7 +8,6 @@ use crate::Table;
 use crate::look::{look_in, word_in};
 use crate::poke::poke_in;
 use crate::tree::{Tree, depth_of};
-use arrayvec::ArrayVec;
 use page_state::{Entry, Geometry, Page};
 use std::alloc::Allocator;
 
@@ -47,22 +46,18 @@ impl<A: Allocator> RawTree<A> {
 
     /// The word at a path of indices, the root's first; None where no table stands on the path, or an index is
     /// over 511.
-    pub fn word_at(&self, path: &ArrayVec<u16, 4>) -> Option<u64>
-        ensures { result ≡ raw_word_of self.now path.now.items }
+    pub fn word_at(&self, path: &[u16]) -> Option<u64>
+        ensures { result ≡ raw_word_of self.now path.now }
     {
-        word_in(&self.table, depth_of(self.geometry), path.as_slice())
+        word_in(&self.table, depth_of(self.geometry), path)
     }
 
     /// Sets the word at a path. Where that word stands there all stays, a child too; any other word takes the child out.
-    pub fn poke(
-        self,
-        path: &ArrayVec<u16, 4>,
-        word: u64,
-    ) -> Result<RawTree<A>, (RawTree<A>, PathFault)>
-        ensures fault { IsOk result ↔ IsSome (raw_word_of self path.now.items) }
+    pub fn poke(self, path: &[u16], word: u64) -> Result<RawTree<A>, (RawTree<A>, PathFault)>
+        ensures fault { IsOk result ↔ IsSome (raw_word_of self path.now) }
         ensures kept { IfErr result (λ e. e.0 ≡ self) }
-        ensures poked { IfOk result (λ t. IsPoked (raw_word_of self) (raw_word_of t) path.now.items word) }
-        ensures map { IfOk result (λ t. IsPokedMap (block_of self.geometry path.now.items) (raw_word_of self) (raw_meaning self) (raw_meaning t) path.now.items word) }
+        ensures poked { IfOk result (λ t. IsPoked (raw_word_of self) (raw_word_of t) path.now word) }
+        ensures map { IfOk result (λ t. IsPokedMap (block_of self.geometry path.now) (raw_word_of self) (raw_meaning self) (raw_meaning t) path.now word) }
         ensures geometry { IfOk result (λ t. t.geometry ≡ self.geometry) }
     {
         if self.word_at(path).is_none() {
@@ -74,15 +69,15 @@ impl<A: Allocator> RawTree<A> {
     }
 
     /// The same in place, at a path that has a word.
-    pub fn set(&mut self, path: &ArrayVec<u16, 4>, word: u64)
-        requires there { IsSome (raw_word_of self.old path.now.items) }
-        ensures poked { IsPoked (raw_word_of self.old) (raw_word_of self.new) path.now.items word }
-        ensures map { IsPokedMap (block_of self.old.geometry path.now.items) (raw_word_of self.old) (raw_meaning self.old) (raw_meaning self.new) path.now.items word }
+    pub fn set(&mut self, path: &[u16], word: u64)
+        requires there { IsSome (raw_word_of self.old path.now) }
+        ensures poked { IsPoked (raw_word_of self.old) (raw_word_of self.new) path.now word }
+        ensures map { IsPokedMap (block_of self.old.geometry path.now) (raw_word_of self.old) (raw_meaning self.old) (raw_meaning self.new) path.now word }
         ensures geometry { self.new.geometry ≡ self.old.geometry }
     {
         let depth = depth_of(self.geometry);
         let table = &mut self.table;
-        poke_in(table, depth, path.as_slice(), word);
+        poke_in(table, depth, path, word);
     }
 }
 
@@ -107,16 +102,12 @@ impl<A: Allocator> Tree<A> {
     }
 
     /// Sets the word at a path. Where that word stands there all stays, a child too; any other word takes the child out.
-    pub fn poke(
-        self,
-        path: &ArrayVec<u16, 4>,
-        word: u64,
-    ) -> Result<RawTree<A>, (Tree<A>, PathFault)>
-        ensures fault { IsOk result ↔ HasWord self.geometry (tree_of self) path.now.items }
-        ensures none { IsOk result ↔ IsSome (word_at_path self path.now.items) }
+    pub fn poke(self, path: &[u16], word: u64) -> Result<RawTree<A>, (Tree<A>, PathFault)>
+        ensures fault { IsOk result ↔ HasWord self.geometry (tree_of self) path.now }
+        ensures none { IsOk result ↔ IsSome (word_at_path self path.now) }
         ensures kept { IfErr result (λ e. e.0 ≡ self) }
-        ensures poked { IfOk result (λ t. IsPoked (word_at_path self) (raw_word_of t) path.now.items word) }
-        ensures map { IfOk result (λ t. IsPokedMap (block_of self.geometry path.now.items) (word_at_path self) (meaning self) (raw_meaning t) path.now.items word) }
+        ensures poked { IfOk result (λ t. IsPoked (word_at_path self) (raw_word_of t) path.now word) }
+        ensures map { IfOk result (λ t. IsPokedMap (block_of self.geometry path.now) (word_at_path self) (meaning self) (raw_meaning t) path.now word) }
         ensures geometry { IfOk result (λ t. t.geometry ≡ self.geometry) }
     {
         match self.word_at(path) {

@@ -11,7 +11,6 @@ ghost use Rattle.table_tree.specs.Tables.{frame_times, AreDistinct, AreDistinct-
 use crate::look::{count_in, frames_in, is_empty_in, look_in, word_in};
 use crate::path::path_to;
 use crate::{Spares, Table};
-use arrayvec::ArrayVec;
 use descriptor::Frame;
 use page_state::{Entry, Geometry, Page};
 use std::alloc::{AllocError, Allocator, Global};
@@ -91,13 +90,13 @@ impl<A: Allocator> Tree<A> {
 
     /// The word at a path of indices, the root's first; None where no table stands on the path, or an index is
     /// over 511.
-    pub fn word_at(&self, path: &ArrayVec<u16, 4>) -> Option<u64>
-        ensures value { result ≡ word_at_path self.now path.now.items }
-        ensures found { IsSome result ↔ HasWord self.now.geometry (tree_of self.now) path.now.items }
-        ensures said { IfSome result (λ w. IsWordOf (tree_of self.now) (block_of self.now.geometry path.now.items) w) }
-        ensures run { IfSome result (λ _. IsRunOrTable (tree_of self.now) (block_of self.now.geometry path.now.items)) }
+    pub fn word_at(&self, path: &[u16]) -> Option<u64>
+        ensures value { result ≡ word_at_path self.now path.now }
+        ensures found { IsSome result ↔ HasWord self.now.geometry (tree_of self.now) path.now }
+        ensures said { IfSome result (λ w. IsWordOf (tree_of self.now) (block_of self.now.geometry path.now) w) }
+        ensures run { IfSome result (λ _. IsRunOrTable (tree_of self.now) (block_of self.now.geometry path.now)) }
     {
-        word_in(&self.table, depth_of(self.geometry), path.as_slice())
+        word_in(&self.table, depth_of(self.geometry), path)
     }
 
     /// The word on a page's path at a level. None where the page isn't an input page, the level isn't one of the tree's, or no
@@ -112,7 +111,8 @@ impl<A: Allocator> Tree<A> {
         if page.0 >= self.geometry.pages() || level < u64::from(top) || level > 3 {
             return None;
         }
-        self.word_at(&path_to(page.0, top, level as u32))
+        let path = path_to(page.0, top, level as u32);
+        self.word_at(path.as_slice())
     }
 
     /// The number of tables: that of the blocks that have one.

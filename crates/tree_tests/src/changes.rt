@@ -11,7 +11,6 @@ ghost use Rattle.walk_plan.specs.Changes.{CanBeSaidOn};
 
 use crate::expect::{expect_entry, expect_number, expect_word};
 use crate::sample::{leaf, pages};
-use arrayvec::ArrayVec;
 use descriptor::{Frame, State};
 use hyp_pool::{Pool, PoolFault, laws};
 use linked_list_allocator::LocalHeap;
@@ -99,13 +98,7 @@ impl<A: Allocator + Copy> Bench<A> {
 
     /// The word at a path.
     fn word(&self, path: &[u16]) -> Option<u64> {
-        let mut indices: ArrayVec<u16, 4> = ArrayVec::new();
-        for index in path {
-            if indices.try_push(*index).is_err() {
-                return None;
-            }
-        }
-        self.tree.word_at(&indices)
+        self.tree.word_at(path)
     }
 
     /// Compares the word at a path.

@@ -3,7 +3,6 @@ ghost use Rattle.std.specs.Prelude.{◌<◌};
 ghost use Rattle.table_tree.specs.Shape.{IsWide};
 
 use crate::expect::{expect_entry, expect_number, expect_word};
-use arrayvec::ArrayVec;
 use descriptor::{Frame, Owner};
 use linked_list_allocator::LocalHeap;
 use page_state::{Entry, Geometry, Page};
@@ -83,25 +82,15 @@ fn slots(rt: HostRuntime) {
 #[test]
 fn words_at_paths(rt: HostRuntime) {
     let tree = Tree::new(rt.alloc(), ROOT, Geometry::Bits39).expect(&rt, "memory");
-    let mut path = ArrayVec::new();
-    expect_word(&rt, tree.word_at(&path), None);
-    path.push(511);
-    expect_word(&rt, tree.word_at(&path), Some(0));
-    path.push(0);
-    expect_word(&rt, tree.word_at(&path), None);
-    let mut over = ArrayVec::new();
-    over.push(512);
-    expect_word(&rt, tree.word_at(&over), None);
-}
-
-fn path(indices: &[u16]) -> ArrayVec<u16, 4> {
-    let mut path = ArrayVec::new();
-    for i in indices {
-        if !path.is_full() {
-            path.push(*i);
-        }
+    let words: [(&[u16], Option<u64>); 4] = [
+        (&[], None),
+        (&[511], Some(0)),
+        (&[511, 0], None),
+        (&[512], None),
+    ];
+    for (path, word) in words {
+        expect_word(&rt, tree.word_at(path), word);
     }
-    path
 }
 
 /// A tree of two tables: the root, and one in frame 6 behind its slot 3.
@@ -118,19 +107,19 @@ fn two_tables(alloc: Global) -> Result<RawTree<Global>, AllocError> {
 /// A tree of its root alone, one of whose words is poked.
 fn one_table(rt: &impl Abort, alloc: Global, indices: &[u16], word: u64) -> RawTree<Global> {
     let tree = Tree::new(alloc, ROOT, Geometry::Bits39).expect(rt, "memory");
-    let poked = tree.poke(&path(indices), word);
+    let poked = tree.poke(indices, word);
     poked.ok().expect(rt, "a word there")
 }
 
 /// Pokes a word.
 fn poke(rt: &impl Abort, tree: RawTree<Global>, indices: &[u16], word: u64) -> RawTree<Global> {
-    let poked = tree.poke(&path(indices), word);
+    let poked = tree.poke(indices, word);
     poked.ok().expect(rt, "a word there")
 }
 
 /// The word at a path.
 fn word_at(tree: &RawTree<Global>, indices: &[u16]) -> Option<u64> {
-    tree.word_at(&path(indices))
+    tree.word_at(indices)
 }
 
 #[test]
@@ -159,7 +148,7 @@ fn poked_children(rt: HostRuntime) {
 
 /// Pokes at a path that a tree doesn't have, and gives the tree back.
 fn poke_badly(rt: &impl Abort, tree: RawTree<Global>, indices: &[u16]) -> RawTree<Global> {
-    let refused = tree.poke(&path(indices), 1).err();
+    let refused = tree.poke(indices, 1).err();
     let (same, PathFault) = refused.expect(rt, "no word there");
     same
 }

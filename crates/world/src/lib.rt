@@ -15,7 +15,6 @@ mod merge;
 mod raw;
 mod same;
 
-use arrayvec::ArrayVec;
 pub use boot::BootFault;
 use ghost_judge::audit::audit;
 use ghost_judge::disagreement::Disagreement;
@@ -216,13 +215,13 @@ impl<A: Allocator> World<A> {
         self,
         places: Vec<Option<RawGuest<A>>>,
         which: Which,
-        path: &ArrayVec<u16, 4>,
+        path: &[u16],
         word: u64,
     ) -> Result<RawWorld<A>, (World<A>, PathFault)>
         requires nothing { places.items ≡ replicate 64 None }
-        ensures fault { IsOk result ↔ IsSome ((parts_trees self.parts which).words path.now.items) }
+        ensures fault { IsOk result ↔ IsSome ((parts_trees self.parts which).words path.now) }
         ensures kept { IfErr result (λ e. e.0.parts ≡ self.parts) }
-        ensures poked { IfOk result (λ w. IsPokedTree (block_of self.parts.layout.geometry path.now.items) (parts_trees self.parts) (raw_trees w.parts) which path.now.items word) }
+        ensures poked { IfOk result (λ w. IsPokedTree (block_of self.parts.layout.geometry path.now) (parts_trees self.parts) (raw_trees w.parts) which path.now word) }
         ensures beside { IfOk result (λ w. IsBeside self.parts (raw_beside_of w.parts)) }
     {
         let World { alloc, parts } = self;

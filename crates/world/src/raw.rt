@@ -9,7 +9,6 @@ ghost use Rattle.ghost_oracle.specs.Poked.{IsPokedTree, raw_beside_of, raw_trees
 ghost use Rattle.ghost_oracle.specs.RawFound.{IsRawFound, SaysRawRows};
 ghost use Rattle.ghost_oracle.specs.declared.trees.Source.TheVariants.{Maplets, Words};
 
-use arrayvec::ArrayVec;
 use ghost_oracle::raw::{RawParts, Which};
 use ghost_oracle::raw_kept::{kept_raw, recompute_raw};
 use ghost_spec::state::Ghost;
@@ -35,12 +34,12 @@ impl<A: Allocator> RawWorld<A> {
     pub fn poke(
         self,
         which: Which,
-        path: &ArrayVec<u16, 4>,
+        path: &[u16],
         word: u64,
     ) -> Result<RawWorld<A>, (RawWorld<A>, PathFault)>
-        ensures fault { IsOk result ↔ IsSome ((raw_trees self.parts which).words path.now.items) }
+        ensures fault { IsOk result ↔ IsSome ((raw_trees self.parts which).words path.now) }
         ensures kept { IfErr result (λ e. e.0 ≡ self) }
-        ensures poked { IfOk result (λ w. IsPokedTree (block_of self.parts.layout.geometry path.now.items) (raw_trees self.parts) (raw_trees w.parts) which path.now.items word) }
+        ensures poked { IfOk result (λ w. IsPokedTree (block_of self.parts.layout.geometry path.now) (raw_trees self.parts) (raw_trees w.parts) which path.now word) }
         ensures beside { IfOk result (λ w. raw_beside_of w.parts ≡ raw_beside_of self.parts) }
     {
         let RawWorld { parts } = self;

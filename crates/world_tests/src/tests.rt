@@ -126,7 +126,8 @@ fn compare_tables(rt: &impl Abort, kept: &Tree<Global>, lists: &[Table]) {
             assert!(rt; kept.root().0 == table.frame);
         } else {
             let word = encode(Level::Two, &Desc::Table(Frame(table.frame)));
-            assert!(rt; kept.word_at(&path_of(table.block)) == word);
+            let path = path_of(table.block);
+            assert!(rt; kept.word_at(path.as_slice()) == word);
         }
     }
 }

@@ -224,10 +224,12 @@ fn row_at(runs: &[Run<Row>], here: Stand, frame: u64) -> Option<Row>
 impl Lists {
     ghost use Rattle.ghost_rows.specs.RowsTold.{told, AreReached, AreStanding, AreCarried};
 
-    /// The runs of the annotations and of the loans together: about so many pieces there are where frames are in few uses.
+    /// Twice the runs of the annotations and of the loans: about so many pieces there are where frames are in few uses, one for
+    /// each run and one for what stands before it.
     pub(crate) fn count(&self) -> usize {
         let annotated = self.annotated.runs().len();
-        annotated.saturating_add(self.lent.runs().len())
+        let runs = annotated.saturating_add(self.lent.runs().len());
+        runs.saturating_add(runs)
     }
 
     /// The row of a frame, at which the lists stand so.

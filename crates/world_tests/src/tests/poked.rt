@@ -6,13 +6,7 @@ use ghost_judge::disagreement::TreeOf;
 use ghost_oracle::pokes::no_pokes;
 
 /// The indices that lead to the word of page 0x40100.
-fn path() -> ArrayVec<u16, 4> {
-    let mut path = ArrayVec::new();
-    for index in [1, 0, 0x100] {
-        let _pushed = path.try_push(index);
-    }
-    path
-}
+const PATH: [u16; 3] = [1, 0, 0x100];
 
 /// The host's entry of page 0x40100, which it shares.
 const SHARED: Entry = Entry::Leaf {
@@ -64,7 +58,7 @@ fn poke_page(
 ) -> RawWorld<Global>
     requires { places.items ≡ replicate 64 None }
 {
-    let poked = world.poke(places, Which::Host, &path(), word);
+    let poked = world.poke(places, Which::Host, &PATH, word);
     poked.ok().expect(rt, "a word there")
 }
 
@@ -76,7 +70,7 @@ fn poke_first(rt: &impl Abort, alloc: Global, world: World<Global>, word: u64) -
 
 /// The same in a world that was poked.
 fn poke_again(rt: &impl Abort, world: RawWorld<Global>, word: u64) -> RawWorld<Global> {
-    let poked = world.poke(Which::Host, &path(), word);
+    let poked = world.poke(Which::Host, &PATH, word);
     poked.ok().expect(rt, "a word there")
 }
 
@@ -99,7 +93,7 @@ fn expect_difference(
 
 /// The page's word in the host's tree.
 fn word_of(world: &World<Global>) -> u64 {
-    let word = world.parts().shared().host.tree().word_at(&path());
+    let word = world.parts().shared().host.tree().word_at(&PATH);
     word.unwrap_or(0)
 }
 

@@ -7,5 +7,5 @@ use Rattle.ghost_oracle.proofs.pokes.poke.Goals as goal
 pub returns-clause-poked : goal.returns-clause-poked
 returns-clause-poked g c =
     let e : raw_trees c.raw_parts-raw.result ≡ parts_trees c.args.parts = fun_ext c.raw_parts-raw.ensures.trees in
-    subst (λ f. IsPokedTree (block_of c.args.parts.layout.geometry c.args.path.now.items) f (raw_trees c.set.new.self) c.args.which c.args.path.now.items c.args.word) e
-    (subst (λ l. IsPokedTree (block_of l.geometry c.args.path.now.items) (raw_trees c.raw_parts-raw.result) (raw_trees c.set.new.self) c.args.which c.args.path.now.items c.args.word) c.raw_parts-raw.ensures.layout c.set.ensures.poked)
+    subst (λ f. IsPokedTree (block_of c.args.parts.layout.geometry c.args.path.now) f (raw_trees c.set.new.self) c.args.which c.args.path.now c.args.word) e
+    (subst (λ l. IsPokedTree (block_of l.geometry c.args.path.now) (raw_trees c.raw_parts-raw.result) (raw_trees c.set.new.self) c.args.which c.args.path.now c.args.word) c.raw_parts-raw.ensures.layout c.set.ensures.poked)

@@ -14,7 +14,7 @@ use Rattle.ghost_oracle.proofs.pokes.set_slot.Given as Given
 
 pub returns-in-Some-clause-poked : goal.returns-in-Some-clause-poked
 returns-in-Some-clause-poked g c = λ geometry h.
-    let path = c.args.path.now.items in
+    let path = c.args.path.now in
     subst (λ t. IsPokedSeen (block_of geometry path) t (raw_seen c.set.new.self.tree) path c.args.word) c.in-Some.ensures.seen
     (poked_alike c.in-Some.guest.map.tree.geometry geometry _ _ path c.args.word (c.in-Some.ensures.depth geometry h).1 c.set.ensures.poked)
 
@@ -27,7 +27,7 @@ pub returns-in-Some-clause-depth : goal.returns-in-Some-clause-depth
 returns-in-Some-clause-depth g c = λ geometry h. let depth = c.in-Some.ensures.depth geometry h in (depth.0, ap levels_below c.set.ensures.geometry ∙ depth.1)
 
 gone : (g : Given.Over) (c : goal.In_default g) → ⊥
-gone g c = unseen (slot_seen c.args.part.now c.args.held.now) c.args.path.now.items c.in_default.ensures.seen c.requires.there
+gone g c = unseen (slot_seen c.args.part.now c.args.held.now) c.args.path.now c.in_default.ensures.seen c.requires.there
 
 pub returns-in_default-clause-poked : goal.returns-in_default-clause-poked
 returns-in_default-clause-poked g c = absurd (gone g c)
@@ -40,5 +40,5 @@ returns-in_default-clause-depth g c = absurd (gone g c)
 
 pub set-requires : goal.set-requires
 set-requires g c = record {
-  there = subst (λ t. IsSome (t.words c.args.path.now.items)) (sym c.in-Some.ensures.seen) c.requires.there;
+  there = subst (λ t. IsSome (t.words c.args.path.now)) (sym c.in-Some.ensures.seen) c.requires.there;
 }

@@ -16,10 +16,10 @@ returns-clause-found g c = record {
   host_runs = c.in_ok-raw_shared.ensures.host_runs;
   hyp_runs = c.in_ok-raw_shared.ensures.hyp_runs;
   free = c.in_ok-raw_shared.ensures.free;
-  guests = subst (λ ps. AreSlotsFound c.args.source ps c.args.parts.now.poked.items c.in_ok-slot_guests.field-0.items) c.as_slice.ensures.value (subst (λ hs. AreSlotsFound c.args.source c.as_slice.result.now hs c.in_ok-slot_guests.field-0.items) c.as_slice-2.ensures.value c.in_ok-slot_guests.ensures.found);
+  guests = subst (λ ps. AreSlotsFound c.args.source ps c.args.parts.now.poked.items c.in_ok-slot_guests.field-0.items) c.as_slice-2.ensures.value (subst (λ hs. AreSlotsFound c.args.source c.as_slice-2.result.now hs c.in_ok-slot_guests.field-0.items) c.as_slice-3.ensures.value c.in_ok-slot_guests.ensures.found);
   count = c.in_ok-slot_guests.ensures.count;
   slots = all_one (λ v. (slot : ℕ) → get_or (map slot_in c.in_ok-slots_from.field-0.items) slot (no_slot 1) ≡ (vm_slots v).slot slot) c.args.parts.now.vms.items c.index.result.now _ (omega (arith, c.args.parts.now.one_vms, c.args.parts.now.vms.ok.0)) c.index.ensures c.in_ok-slots_from.ensures.slots;
-  cpus = c.in_ok-cpus_from.ensures ∙ ap (map cpu_of) c.as_slice-3.ensures.value;
+  cpus = c.in_ok-cpus_from.ensures ∙ ap (map cpu_of) c.as_slice.ensures.value;
 }
 
 pub returns-clause-rows : goal.returns-clause-rows

@@ -5,8 +5,8 @@ use Rattle.table_tree.proofs.RawTables.{shaped_raw}
 use Rattle.table_tree.specs.View.{tree_of}
 use Rattle.ghost_oracle.proofs.trees.tree_from.Goals as goal
 
-pub walk_with_room-requires : goal.walk_with_room-requires
-walk_with_room-requires g c = record { raw = shaped_raw (levels_below c.tree-tree.result.now.geometry) c.tree-tree.result.now.table c.tree-tree.result.now.shaped }
+pub walk-requires : goal.walk-requires
+walk-requires g c = record { raw = shaped_raw (levels_below c.tree-tree.result.now.geometry) c.tree-tree.result.now.table c.tree-tree.result.now.shaped }
 
 pub tree_with_maplets-requires : goal.tree_with_maplets-requires
 tree_with_maplets-requires g c = c.in_ok-walked.ensures.tree ∙ under_tree c.tree-tree.result.now ∙ ap tree_of c.tree-tree.ensures
