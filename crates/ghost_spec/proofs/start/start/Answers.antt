@@ -12,3 +12,15 @@ returns-clause-state c =
     state-booted (layout_of c.args.layout) c.requires
     (record { layout = c.args.layout; vms = c.in_ok-vms.vms; shared = c.find_all.new.shared; guests = c.in_ok-guests.guests; cpus = c.in_ok-cpus.cpus; rooms = record { vms = c.args.layout.config.log; shared = c.args.layout.config.log; guests = c.in_ok-guest_rooms.guest_rooms; cpus = c.in_ok-cpu_rooms.cpu_rooms } })
     refl c.in_ok-vms.ensures.empty shared c.in_ok-guests.ensures.empty c.in_ok-cpus.ensures.idle refl refl c.in_ok-guest_rooms.ensures.rooms c.in_ok-cpu_rooms.ensures.rooms
+
+pub returns-in_default-clause-state : goal.returns-in_default-clause-state
+returns-in_default-clause-state c = tt
+
+pub returns-in_default-clause-layout : goal.returns-in_default-clause-layout
+returns-in_default-clause-layout c = tt
+
+pub returns-in_default-clause-kept : goal.returns-in_default-clause-kept
+returns-in_default-clause-kept c = tt
+
+pub returns-clause-layout : goal.returns-clause-layout
+returns-clause-layout c = refl

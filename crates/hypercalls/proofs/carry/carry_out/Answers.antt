@@ -32,3 +32,39 @@ returns-in-Err-NoMemory-clause-carried g c = λ step grows.
 
 pub returns-in-Err-NoMemory-clause-wants : goal.returns-in-Err-NoMemory-clause-wants
 returns-in-Err-NoMemory-clause-wants g c = λ e roomy ready. c.in-Err-NoMemory.ensures.no_memory (ap (λ e. Err e) c.in-Err-NoMemory.field-0-is) roomy ready
+
+pub returns-in-Err-NoPool-clause-vms_log : goal.returns-in-Err-NoPool-clause-vms_log
+returns-in-Err-NoPool-clause-vms_log g c = refl
+
+pub returns-in-Err-NoPool-clause-own_log : goal.returns-in-Err-NoPool-clause-own_log
+returns-in-Err-NoPool-clause-own_log g c = refl
+
+pub returns-in-Err-NoPool-clause-log : goal.returns-in-Err-NoPool-clause-log
+returns-in-Err-NoPool-clause-log g c = c.in-Err-NoPool.ensures.log
+
+pub returns-in-Err-NoPool-clause-guest_log : goal.returns-in-Err-NoPool-clause-guest_log
+returns-in-Err-NoPool-clause-guest_log g c = c.in-Err-NoPool.ensures.guest_log
+
+pub returns-in-Err-NoPool-clause-suits : goal.returns-in-Err-NoPool-clause-suits
+returns-in-Err-NoPool-clause-suits g c = c.in-Err-NoPool.ensures.suits
+
+pub returns-in-Err-NoPool-clause-guest_suits : goal.returns-in-Err-NoPool-clause-guest_suits
+returns-in-Err-NoPool-clause-guest_suits g c = c.in-Err-NoPool.ensures.guest_suits
+
+pub returns-in-Err-NoMemory-clause-vms_log : goal.returns-in-Err-NoMemory-clause-vms_log
+returns-in-Err-NoMemory-clause-vms_log g c = refl
+
+pub returns-in-Err-NoMemory-clause-own_log : goal.returns-in-Err-NoMemory-clause-own_log
+returns-in-Err-NoMemory-clause-own_log g c = refl
+
+pub returns-in-Err-NoMemory-clause-log : goal.returns-in-Err-NoMemory-clause-log
+returns-in-Err-NoMemory-clause-log g c = c.in-Err-NoMemory.ensures.log
+
+pub returns-in-Err-NoMemory-clause-guest_log : goal.returns-in-Err-NoMemory-clause-guest_log
+returns-in-Err-NoMemory-clause-guest_log g c = c.in-Err-NoMemory.ensures.guest_log
+
+pub returns-in-Err-NoMemory-clause-suits : goal.returns-in-Err-NoMemory-clause-suits
+returns-in-Err-NoMemory-clause-suits g c = c.in-Err-NoMemory.ensures.suits
+
+pub returns-in-Err-NoMemory-clause-guest_suits : goal.returns-in-Err-NoMemory-clause-guest_suits
+returns-in-Err-NoMemory-clause-guest_suits g c = c.in-Err-NoMemory.ensures.guest_suits

@@ -67,3 +67,33 @@ returns-clause-guest_log g c =
     ap (map (λ (p : GuestPart _). p.log)) (set_single c.args.guest.now c.change_with_guest.new.part c.if-guest-ne1.false)
     ∙ ap (λ (x : StoredCalls). x ∷ []) c.change_with_guest.ensures.guest_log
     ∙ sym (ap (map (λ (p : GuestPart _). p.log)) (single c.args.guest.now c.index-guest-0.result c.if-guest-ne1.false))
+
+pub returns-then-guest-ne1-clause-made : goal.returns-then-guest-ne1-clause-made
+returns-then-guest-ne1-clause-made g c = c.change_shared.ensures.made
+
+pub returns-then-guest-ne1-clause-err : goal.returns-then-guest-ne1-clause-err
+returns-then-guest-ne1-clause-err g c = c.change_shared.ensures.err
+
+pub returns-then-guest-ne1-clause-suits : goal.returns-then-guest-ne1-clause-suits
+returns-then-guest-ne1-clause-suits g c = c.change_shared.ensures.suits
+
+pub returns-then-guest-ne1-clause-log : goal.returns-then-guest-ne1-clause-log
+returns-then-guest-ne1-clause-log g c = c.change_shared.ensures.log
+
+pub returns-then-guest-ne1-clause-guest_suits : goal.returns-then-guest-ne1-clause-guest_suits
+returns-then-guest-ne1-clause-guest_suits g c = c.requires.guest_suits
+
+pub returns-then-guest-ne1-clause-guest_log : goal.returns-then-guest-ne1-clause-guest_log
+returns-then-guest-ne1-clause-guest_log g c = refl
+
+pub returns-clause-made : goal.returns-clause-made
+returns-clause-made g c = c.change_with_guest.ensures.made
+
+pub returns-clause-err : goal.returns-clause-err
+returns-clause-err g c = c.change_with_guest.ensures.err
+
+pub returns-clause-suits : goal.returns-clause-suits
+returns-clause-suits g c = c.change_with_guest.ensures.suits
+
+pub returns-clause-log : goal.returns-clause-log
+returns-clause-log g c = c.change_with_guest.ensures.log

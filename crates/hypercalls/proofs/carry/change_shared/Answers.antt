@@ -1,4 +1,4 @@
-use Rattle.std.proofs.Common.{◌≡◌, ◌<◌, ◌↔◌, List, [], ◌∷◌, length, map, Err, OnErr, OnOk, ap, subst}
+use Rattle.std.proofs.Common.{refl, ◌≡◌, ◌<◌, ◌↔◌, List, [], ◌∷◌, length, map, Err, OnErr, OnOk, ap, subst}
 use Rattle.hyp_pool.specs.declared.PoolFault.TheVariants.{NoPool, NoMemory}
 use Rattle.guest_steps.specs.declared.parts.SharedPart.{SharedPart}
 use Rattle.guest_steps.specs.Lent.{Each, SharedSuits, one}
@@ -61,3 +61,12 @@ returns-clause-log g c =
     let xs = c.args.shared.now in
     on_singles (single xs c.index-shared-0.result c.if-shared-ne1.false) (set_single xs c.change_part.new.shared c.if-shared-ne1.false)
     (λ (olds news : List (SharedPart _)). map (λ (p : SharedPart _). p.log) news ≡ map (λ (p : SharedPart _). p.log) olds) (ap (λ (x : StoredCalls). x ∷ []) c.change_part.ensures.log)
+
+pub returns-then-shared-ne1-clause-err : goal.returns-then-shared-ne1-clause-err
+returns-then-shared-ne1-clause-err g c = tt
+
+pub returns-then-shared-ne1-clause-log : goal.returns-then-shared-ne1-clause-log
+returns-then-shared-ne1-clause-log g c = refl
+
+pub returns-then-shared-ne1-clause-suits : goal.returns-then-shared-ne1-clause-suits
+returns-then-shared-ne1-clause-suits g c = c.requires.suits

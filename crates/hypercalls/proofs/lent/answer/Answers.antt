@@ -44,3 +44,39 @@ returns-in-Ok-clause-wants g c = λ told h is roomy ready.
 
 pub returns-in-Err-clause-answered : goal.returns-in-Err-clause-answered
 returns-in-Err-clause-answered g c = c.answers.ensures.barred (layout_of c.args.layout.now) c.args.id c.args.slot c.args.step _ (used_in (lent c.args.vms.now c.args.shared.now c.args.guest.now c.args.cpu.now)) c.in-Err.why (sym c.in-Err.ensures.decided)
+
+pub returns-in-Err-clause-guest_log : goal.returns-in-Err-clause-guest_log
+returns-in-Err-clause-guest_log g c = refl
+
+pub returns-in-Err-clause-log : goal.returns-in-Err-clause-log
+returns-in-Err-clause-log g c = refl
+
+pub returns-in-Err-clause-own_log : goal.returns-in-Err-clause-own_log
+returns-in-Err-clause-own_log g c = refl
+
+pub returns-in-Err-clause-vms_log : goal.returns-in-Err-clause-vms_log
+returns-in-Err-clause-vms_log g c = refl
+
+pub returns-in-Err-clause-suits : goal.returns-in-Err-clause-suits
+returns-in-Err-clause-suits g c = c.requires.suits
+
+pub returns-in-Err-clause-guest_suits : goal.returns-in-Err-clause-guest_suits
+returns-in-Err-clause-guest_suits g c = c.requires.guest_suits
+
+pub returns-in-Ok-clause-guest_log : goal.returns-in-Ok-clause-guest_log
+returns-in-Ok-clause-guest_log g c = c.carry_out.ensures.guest_log
+
+pub returns-in-Ok-clause-log : goal.returns-in-Ok-clause-log
+returns-in-Ok-clause-log g c = c.carry_out.ensures.log
+
+pub returns-in-Ok-clause-own_log : goal.returns-in-Ok-clause-own_log
+returns-in-Ok-clause-own_log g c = c.carry_out.ensures.own_log
+
+pub returns-in-Ok-clause-vms_log : goal.returns-in-Ok-clause-vms_log
+returns-in-Ok-clause-vms_log g c = c.carry_out.ensures.vms_log
+
+pub returns-in-Ok-clause-suits : goal.returns-in-Ok-clause-suits
+returns-in-Ok-clause-suits g c = c.carry_out.ensures.suits
+
+pub returns-in-Ok-clause-guest_suits : goal.returns-in-Ok-clause-guest_suits
+returns-in-Ok-clause-guest_suits g c = c.carry_out.ensures.guest_suits

@@ -1,4 +1,4 @@
-use Rattle.std.proofs.Common.{◌≡◌, ◌==◌, false, List, ◌∷◌, [], map, ap, sym, ◌∙◌, subst}
+use Rattle.std.proofs.Common.{refl, ◌≡◌, ◌==◌, false, List, ◌∷◌, [], map, ap, sym, ◌∙◌, subst}
 use Rattle.guest_component.specs.View.{guest_depth}
 use Rattle.guest_steps.specs.declared.parts.GuestPart.{GuestPart}
 use Rattle.guest_steps.specs.Lent.{one, with_call}
@@ -31,3 +31,9 @@ returns-clause-log g c =
     ap (map (λ (p : GuestPart _). p.log)) (set_single xs _ c.if-guest-ne1.false)
     ∙ ap (λ (x : StoredCalls). x ∷ []) (eq_with c.args.call _ c.store.new.self c.store.ensures.calls c.store.ensures.room)
     ∙ sym (ap (λ (ys : List (GuestPart _)). map (with_call c.args.call) (map (λ (p : GuestPart _). p.log) ys)) (single xs c.index-guest-0.result c.if-guest-ne1.false))
+
+pub returns-then-guest-ne1-clause-same : goal.returns-then-guest-ne1-clause-same
+returns-then-guest-ne1-clause-same g c = refl
+
+pub returns-then-guest-ne1-clause-depth : goal.returns-then-guest-ne1-clause-depth
+returns-then-guest-ne1-clause-depth g c = refl

@@ -1,4 +1,4 @@
-use Rattle.std.proofs.Common.{◌≡◌, ◌==◌, false, List, ◌∷◌, [], map, ap, sym, ◌∙◌, subst}
+use Rattle.std.proofs.Common.{refl, ◌≡◌, ◌==◌, false, List, ◌∷◌, [], map, ap, sym, ◌∙◌, subst}
 use Rattle.guest_steps.specs.declared.parts.SharedPart.{SharedPart}
 use Rattle.guest_steps.specs.Lent.{one, with_call}
 use Rattle.guest_steps.specs.Logs.{StoredCalls}
@@ -35,3 +35,12 @@ returns-clause-log g c =
     ap (map (λ (p : SharedPart _). p.log)) (set_single xs _ c.if-shared-ne1.false)
     ∙ ap (λ (x : StoredCalls). x ∷ []) (eq_with c.args.call _ c.store.new.self c.store.ensures.calls c.store.ensures.room)
     ∙ sym (ap (λ (ys : List (SharedPart _)). map (with_call c.args.call) (map (λ (p : SharedPart _). p.log) ys)) (single xs c.index-shared-0.result c.if-shared-ne1.false))
+
+pub returns-then-shared-ne1-clause-same : goal.returns-then-shared-ne1-clause-same
+returns-then-shared-ne1-clause-same g c = refl
+
+pub returns-then-shared-ne1-clause-rows : goal.returns-then-shared-ne1-clause-rows
+returns-then-shared-ne1-clause-rows g c = refl
+
+pub returns-then-shared-ne1-clause-depth : goal.returns-then-shared-ne1-clause-depth
+returns-then-shared-ne1-clause-depth g c = refl

@@ -8,7 +8,7 @@ use Rattle.part_table.specs.declared.rule.View.{View}
 use Rattle.part_table.specs.declared.slot.Slot.{Slot}
 use Rattle.part_table.specs.Parts.{log_of}
 use Rattle.part_table.specs.Does.{only_at}
-use Rattle.part_table.specs.Rule.{held_at, taking, letting, storing}
+use Rattle.part_table.specs.Rule.{Seated, AtRest, held_at, taking, letting, storing}
 use Rattle.part_table.proofs.Holding.{one_held, only_like, only_here}
 use Rattle.part_table.proofs.Telling.{does_as, does_for, left_of, log_grows, away_first, full_first, stored_first}
 use Rattle.part_table.proofs.tries.one.Goals as goal
@@ -81,3 +81,20 @@ returns-then-room-eq0-clause-tells g c =
     let e : c.take.new.seat.me.0 ≡ taking v k x = ap (λ z. z.0) c.in-Some.ensures.taken.0 in
     let last : c.put_back.new.seat.me.0 ≡ letting (taking v k x) k = ap (λ z. z.0) c.put_back.ensures.home ∙ ap (λ (u : View g.row.A.Denot). letting u k) e in
     full_first v c.put_back.new.seat.me.0 k [] x last (sym c.room.ensures ∙ c.if-room-eq0.true)
+
+pub returns-clause-table : goal.returns-clause-table
+returns-clause-table g c = c.commit.ensures.table ∙ c.take.ensures.table
+
+pub returns-in_default-clause-table : goal.returns-in_default-clause-table
+returns-in_default-clause-table g c = c.take.ensures.table
+
+pub returns-in_default-clause-left : goal.returns-in_default-clause-left
+returns-in_default-clause-left g c = subst (λ (z : Seated g.row.A.Denot). AtRest z.0) (sym c.in_default.ensures.missed) c.requires.left
+
+pub returns-in_default-clause-rest : goal.returns-in_default-clause-rest
+returns-in_default-clause-rest g c =
+    let e = c.in_default.ensures.missed in
+    (ap (λ (z : Seated g.row.A.Denot). z.1) e ∙ c.requires.rest.0, λ j. ap (λ (z : Seated g.row.A.Denot). held_at z.0.held j) e ∙ c.requires.rest.1 j)
+
+pub returns-then-room-eq0-clause-table : goal.returns-then-room-eq0-clause-table
+returns-then-room-eq0-clause-table g c = c.put_back.ensures.table ∙ c.take.ensures.table
