@@ -327,13 +327,16 @@ pub(crate) fn find_rows(
     }
 }
 
+/// For how many more runs `copied_rows` takes room: most steps put no more in, and a list that grows is copied once more.
+const MORE_ROWS: usize = 16;
+
 /// Rows of these runs.
 pub fn copied_rows(alloc: Global, runs: &[Run<Row>]) -> Result<RunList<Row>, AllocError>
     requires coarsest { IsCoarsest advance_row runs.now }
     requires reach { AreInReach HasPageBelow runs.now }
     ensures { IfOk result (λ r. r.runs ≡ runs.now) }
 {
-    let mut rows = Vec::with_capacity(alloc, runs.len())?;
+    let mut rows = Vec::with_capacity(alloc, runs.len().saturating_add(MORE_ROWS))?;
     for run in runs {
         rows.push(*run)?;
     }

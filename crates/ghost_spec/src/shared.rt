@@ -11,6 +11,7 @@ use page_state::Row;
 use reference_model::{Changes, MapChange};
 use run_list::RunList;
 use std::alloc::{AllocError, Global};
+use std::mem;
 
 /// The Shared part.
 #[derive(Drop)]
@@ -81,26 +82,26 @@ pub(crate) fn needed(
     }
 }
 
-/// The tree after a change, whose new tables get the frames, in order.
+/// The tree after a change, whose new tables get the frames, in order; without one it is the same.
 pub(crate) fn edited(
     alloc: Global,
     depth: u64,
-    tree: &Tree,
+    tree: Tree,
     change: Option<MapChange>,
     frames: &[u64],
 ) -> Result<EditedTree, AllocError>
     requires depth { depth ≤ 3 }
-    requires kept { IsKeptTree tree.now }
+    requires kept { IsKeptTree tree }
     requires small { IsSmallChange change }
-    ensures tree { IfOk result (λ e. tree_in_lists e.tree ≡ edited_of depth (tree_in_lists tree.now) (edit_of change) frames.now) }
+    ensures tree { IfOk result (λ e. tree_in_lists e.tree ≡ edited_of depth (tree_in_lists tree) (edit_of change) frames.now) }
     ensures kept { IfOk result (λ e. IsKeptTree e.tree) }
-    ensures need { IfOk result (λ e. e.need ≡ need_of depth (tree_in_lists tree.now) (edit_of change)) }
-    ensures returned { IfOk result (λ e. e.returned.items ≡ returned_of depth (tree_in_lists tree.now) (edit_of change)) }
+    ensures need { IfOk result (λ e. e.need ≡ need_of depth (tree_in_lists tree) (edit_of change)) }
+    ensures returned { IfOk result (λ e. e.returned.items ≡ returned_of depth (tree_in_lists tree) (edit_of change)) }
 {
     match change {
-        Some(change) => tree::edited(alloc, depth, tree, change.range, change.entry, frames),
+        Some(change) => tree::edited(alloc, depth, &tree, change.range, change.entry, frames),
         None => Ok(EditedTree {
-            tree: tree.copied(alloc)?,
+            tree,
             need: 0,
             returned: Vec::new(alloc),
         }),
@@ -140,7 +141,7 @@ pub(crate) fn is_short(
 }
 
 /// Both maps change: the host's new tables get the lowest frames, the hypervisor's the next, and freed frames come back.
-/// Where memory is refused, nothing changes.
+/// Where memory is refused, both trees may be lost.
 pub(crate) fn change(
     alloc: Global,
     depth: u64,
@@ -155,10 +156,12 @@ pub(crate) fn change(
     ensures rows { shared.new.rows ≡ shared.old.rows }
     ensures kept { IsKeptShared shared.new }
 {
+    let was_host = mem::replace(&mut shared.host, Tree::none(alloc));
+    let was_hyp = mem::replace(&mut shared.hyp, Tree::none(alloc));
     let free = shared.free.as_slice();
-    let host = edited(alloc, depth, &shared.host, changes.host, free)?;
+    let host = edited(alloc, depth, was_host, changes.host, free)?;
     let rest = behind(free, host.need);
-    let hyp = edited(alloc, depth, &shared.hyp, changes.hyp, rest)?;
+    let hyp = edited(alloc, depth, was_hyp, changes.hyp, rest)?;
     let mut left = Vec::from_slice(alloc, behind(rest, hyp.need))?;
     give_all(&mut left, hyp.returned.as_slice())?;
     give_all(&mut left, host.returned.as_slice())?;

@@ -14,9 +14,9 @@ returns-clause-kept c =
     let t = tree_in_lists c.args.guest.now.tree in
     let e = edit_of c.args.change in
     let fs = c.args.guest.now.free.items in
-    let tree : tree_in_lists c.in_ok-edit.edit.tree ≡ edited d t e fs = rw c.as_slice-free.ensures.value at c.in_ok-edit.ensures.tree in
-    let back : c.as_slice.result.now ≡ returned d t e = c.as_slice.ensures.value ∙ c.in_ok-edit.ensures.returned in
-    let left : c.in_ok-left.left.items ≡ drop (need d t e) fs = c.in_ok-left.ensures.items ∙ c.behind.ensures ∙ same2 drop c.in_ok-edit.ensures.need c.as_slice-free.ensures.value in
+    let tree : tree_in_lists c.in_ok-edit.edit.tree ≡ edited d t e fs = rw (c.as_slice-free.ensures.value, c.replace-was.ensures.value) at c.in_ok-edit.ensures.tree in
+    let back : c.as_slice.result.now ≡ returned d t e = c.as_slice.ensures.value ∙ (rw c.replace-was.ensures.value at c.in_ok-edit.ensures.returned) in
+    let left : c.in_ok-left.left.items ≡ drop (need d t e) fs = c.in_ok-left.ensures.items ∙ c.behind.ensures ∙ same2 drop (rw c.replace-was.ensures.value at c.in_ok-edit.ensures.need) c.as_slice-free.ensures.value in
     let free : c.give_all.new.free.items ≡ all_given (returned d t e) (drop (need d t e) fs) = c.in_ok-give_all.ensures ∙ same2 all_given back left in
     record {
       tree = c.in_ok-edit.ensures.kept;
