@@ -1,3 +1,4 @@
+pub mod Comparing
 pub mod Ended
 pub mod FoundTables
 pub mod Founds

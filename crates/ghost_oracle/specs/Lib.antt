@@ -1,4 +1,5 @@
 pub mod Beside
+pub mod Compared
 pub mod Found
 pub mod Levels
 pub mod Low

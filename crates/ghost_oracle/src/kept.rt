@@ -12,9 +12,11 @@ ghost use Rattle.ghost_trees.specs.Trees.{tree_in_lists};
 ghost use Rattle.table_tree.specs.View.{tree_of};
 ghost use Rattle.ghost_spec.specs.Views.{row_in, shared_in_lists};
 ghost use Rattle.hypercalls.specs.Stands.{parts_layout, state_of, HasHistory};
+ghost use Rattle.ghost_oracle.specs.Compared.{walked_in};
 ghost use Rattle.ghost_oracle.specs.Found.{found_state, walked_state, with_row, HasRowsOf, SaysMaplets, SaysRows};
 ghost use Rattle.ghost_oracle.specs.Low.{IsLowCpu};
 
+use crate::compared::{Compared, is_kept};
 use crate::parts::{cpu_rooms, cpus_from, guest_rooms, slots_from};
 use crate::trees::{
     Source, frames_of, guests_from, guests_with_maplets, tree_from, tree_with_maplets,
@@ -197,26 +199,33 @@ pub fn recompute<A: Allocator>(alloc: Global, parts: &Parts<A>) -> Result<Ghost,
     with_scratch(alloc, parts, found)
 }
 
-/// What is kept, as `kept` gives it, and what walking every descriptor finds, as `recompute` does, of one walk: each word is
-/// read once for both.
+/// What is kept, as `kept` gives it, and what walking every descriptor finds, as `recompute` does. Where the walk finds just
+/// the runs that are kept, as it does in every state that calls lead to, each word is read once, and one state is both.
 pub fn kept_and_walked<A: Allocator>(
     alloc: Global,
     parts: &Parts<A>,
-) -> Result<(Ghost, Ghost), AllocError>
+) -> Result<Compared, AllocError>
     requires history { ∥ HasHistory parts.now ∥₁ }
-    ensures state { IfOk result (λ g. ghost_state g.0 ≡ state_of parts.now) }
-    ensures layout { IfOk result (λ g. layout_of g.0.layout ≡ parts_layout parts.now) }
-    ensures kept { IfOk result (λ g. IsKept g.0) }
-    ensures maplets { IfOk result (λ g. SaysMaplets parts.now g.0) }
-    ensures rows { IfOk result (λ g. SaysRows parts.now g.0) }
-    ensures frames { IfOk result (λ g. HasRowsOf (parts_layout parts.now) g.0) }
-    ensures walked { IfOk result (λ g. ghost_state g.1 ≡ walked_state (parts_layout parts.now) (state_of parts.now)) }
-    ensures walked_layout { IfOk result (λ g. layout_of g.1.layout ≡ parts_layout parts.now) }
-    ensures walked_kept { IfOk result (λ g. IsKept g.1) }
-    ensures walked_frames { IfOk result (λ g. HasRowsOf (parts_layout parts.now) g.1) }
+    ensures state { IfOk result (λ c. ghost_state c.kept ≡ state_of parts.now) }
+    ensures layout { IfOk result (λ c. layout_of c.kept.layout ≡ parts_layout parts.now) }
+    ensures kept { IfOk result (λ c. IsKept c.kept) }
+    ensures maplets { IfOk result (λ c. SaysMaplets parts.now c.kept) }
+    ensures rows { IfOk result (λ c. SaysRows parts.now c.kept) }
+    ensures frames { IfOk result (λ c. HasRowsOf (parts_layout parts.now) c.kept) }
+    ensures walked { IfOk result (λ c. ghost_state (walked_in c) ≡ walked_state (parts_layout parts.now) (state_of parts.now)) }
+    ensures walked_layout { IfOk result (λ c. layout_of (walked_in c).layout ≡ parts_layout parts.now) }
+    ensures walked_kept { IfOk result (λ c. IsKept (walked_in c)) }
+    ensures walked_frames { IfOk result (λ c. HasRowsOf (parts_layout parts.now) (walked_in c)) }
 {
-    let found = found(alloc, parts)?;
-    let kept = with_kept(alloc, parts, &found)?;
-    let walked = with_scratch(alloc, parts, found)?;
-    Ok((kept, walked))
+    let walked = recompute(alloc, parts)?;
+    if is_kept(&walked, parts) {
+        return Ok(Compared {
+            kept: walked,
+            other: None,
+        });
+    }
+    Ok(Compared {
+        kept: kept(alloc, parts)?,
+        other: Some(walked),
+    })
 }

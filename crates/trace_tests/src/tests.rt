@@ -1,5 +1,6 @@
 use crate::texts::joined;
 use ghost_judge::disagreement::Disagreement;
+use ghost_oracle::compared::Compared;
 use ghost_spec::state::Ghost;
 use linked_list_allocator::LocalHeap;
 use page_state::{Reply, Step};
@@ -210,8 +211,7 @@ impl Oracle for Doubting {
         cpu: u64,
         _step: Step,
         _reply: Reply,
-        _after: &Ghost,
-        _walked: &Ghost,
+        _after: &Compared,
     ) -> Result<Verdict, AllocError> {
         let doubts = self.doubts;
         self.doubts = !doubts;

@@ -11,7 +11,7 @@ use Rattle.ghost_spec.specs.States.{contents_in}
 use Rattle.ghost_judge.specs.Audits.{AuditAgrees}
 use Rattle.ghost_judge.specs.Judgements.{JudgeAgrees, told_of}
 use Rattle.ghost_judge.proofs.JudgedSteps.{step_agrees}
-use Rattle.world.proofs.WalkedState.{none_differs}
+use Rattle.ghost_oracle.proofs.Comparing.{none_differs}
 use Rattle.trace_text.specs.Oracles.{IsShown}
 use Rattle.trace_text.specs.Worlds.{Machine}
 

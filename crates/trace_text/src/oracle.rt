@@ -2,15 +2,16 @@
 ghost use Rattle.std.specs.Prelude.{◌≡◌, ◌≤◌, ◌↔◌, IfOk, IfSome, None, length};
 ghost use Rattle.ghost_judge.specs.Audits.{AuditAgrees, IsFirstDifference};
 ghost use Rattle.ghost_judge.specs.Judgements.{IsFirstJudged, JudgeAgrees, told_of};
+ghost use Rattle.ghost_oracle.specs.Compared.{walked_in};
 ghost use Rattle.ghost_spec.specs.States.{contents_in};
 ghost use Rattle.page_state.specs.declared.reply.Call.{Call};
 ghost use Rattle.reference_model.specs.State.{Reference};
 ghost use Rattle.trace_text.specs.Oracles.{CanCompare, IsAgreed, IsShown, audited_lines, judged_lines, verdict_lines};
 ghost use Rattle.trace_text.specs.Worlds.{Machine};
 
-use ghost_judge::audit::audit;
 use ghost_judge::disagreement::Disagreement;
 use ghost_judge::judge::judge_last;
+use ghost_oracle::compared::Compared;
 use ghost_spec::state::Ghost;
 use page_state::{Reply, Step};
 use std::alloc::{AllocError, Global};
@@ -53,8 +54,8 @@ pub trait Oracle {
     /// What it may tell of a call that leads from a machine's state to another.
     ghost gives: { Machine → Call → Reference → Verdict → Type 0 };
 
-    /// Looks at a step of a CPU: what the world keeps before and after it, the reply, and what walking every word finds
-    /// after it. The state before is given away: nothing else wants it. Err where memory is refused.
+    /// Looks at a step of a CPU: what the world keeps before it, the reply, and what the world keeps after it and walking
+    /// every word finds then. The state before is given away: nothing else wants it. Err where memory is refused.
     fn check(
         &mut self,
         global: Global,
@@ -62,11 +63,10 @@ pub trait Oracle {
         cpu: u64,
         step: Step,
         reply: Reply,
-        after: &Ghost,
-        walked: &Ghost,
+        after: &Compared,
     ) -> Result<Verdict, AllocError>
-        requires comparable { CanCompare before cpu after.now walked.now }
-        ensures told { IfOk result (λ v. (m : Machine) (c : Call) (t : Reference) → IsShown m c t before cpu step reply after.now walked.now → gives m c t v) };
+        requires comparable { CanCompare before cpu after.now.kept (walked_in after.now) }
+        ensures told { IfOk result (λ v. (m : Machine) (c : Call) (t : Reference) → IsShown m c t before cpu step reply after.now.kept (walked_in after.now) → gives m c t v) };
 }
 
 /// The oracle of `replay`: it judges each step by the model, and audits what is kept by the walk. In a replay it finds no
@@ -84,19 +84,18 @@ impl Oracle for GhostOracle {
         cpu: u64,
         step: Step,
         reply: Reply,
-        after: &Ghost,
-        walked: &Ghost,
+        after: &Compared,
     ) -> Result<Verdict, AllocError>
-        requires comparable { CanCompare before cpu after.now walked.now }
-        ensures told { IfOk result (λ v. (m : Machine) (c : Call) (t : Reference) → IsShown m c t before cpu step reply after.now walked.now → IsAgreed v) }
-        ensures judged { IfOk result (λ v. (v.judged ≡ None) ↔ JudgeAgrees (contents_in before) step reply (contents_in after.now) (told_of before cpu step)) }
-        ensures first_judged { IfOk result (λ v. IfSome v.judged (IsFirstJudged (contents_in before) step reply (contents_in after.now) (told_of before cpu step))) }
-        ensures audited { IfOk result (λ v. (v.audited ≡ None) ↔ AuditAgrees (contents_in after.now) (contents_in walked.now)) }
-        ensures first_audited { IfOk result (λ v. IfSome v.audited (IsFirstDifference (contents_in after.now) (contents_in walked.now))) }
+        requires comparable { CanCompare before cpu after.now.kept (walked_in after.now) }
+        ensures told { IfOk result (λ v. (m : Machine) (c : Call) (t : Reference) → IsShown m c t before cpu step reply after.now.kept (walked_in after.now) → IsAgreed v) }
+        ensures judged { IfOk result (λ v. (v.judged ≡ None) ↔ JudgeAgrees (contents_in before) step reply (contents_in after.now.kept) (told_of before cpu step)) }
+        ensures first_judged { IfOk result (λ v. IfSome v.judged (IsFirstJudged (contents_in before) step reply (contents_in after.now.kept) (told_of before cpu step))) }
+        ensures audited { IfOk result (λ v. (v.audited ≡ None) ↔ AuditAgrees (contents_in after.now.kept) (contents_in (walked_in after.now))) }
+        ensures first_audited { IfOk result (λ v. IfSome v.audited (IsFirstDifference (contents_in after.now.kept) (contents_in (walked_in after.now)))) }
     {
         Ok(Verdict {
-            judged: judge_last(global, before, cpu, step, &reply, after)?,
-            audited: audit(after, walked),
+            judged: judge_last(global, before, cpu, step, &reply, &after.kept)?,
+            audited: after.audit(),
         })
     }
 }

@@ -306,12 +306,12 @@ fn checked<A: Allocator + Copy, O: Oracle>(
 {
     let before = state_before(global, world, remembered)?;
     let reply = world.step(cpu, step);
-    let (after, walked) = world.kept_and_walked(global)?;
-    let verdict = oracle.check(global, before, cpu, step, reply, &after, &walked)?;
+    let after = world.kept_and_walked(global)?;
+    let verdict = oracle.check(global, before, cpu, step, reply, &after)?;
     Ok(Made {
         reply,
         verdict,
-        after,
+        after: after.kept,
     })
 }
 

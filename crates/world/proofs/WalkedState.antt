@@ -9,7 +9,6 @@ use Rattle.page_state.specs.Layouts.{is_memory}
 use Rattle.page_state.specs.Regions.{Memory, has_memory}
 use Rattle.reference_model.specs.Owner.{row_of}
 use Rattle.reference_model.specs.State.{Contents, no_shared, plain_row}
-use Rattle.ghost_judge.specs.Audits.{AuditAgrees}
 use Rattle.reference_model.proofs.conditions.RunsLegal.{run_rows}
 use Rattle.owner_table.specs.Rows.{row_at}
 use Rattle.guest_steps.specs.declared.parts.SharedPart.{SharedPart}
@@ -45,10 +44,3 @@ module _ {A : Type 0} (p : Parts A) (past : ∥ HasHistory p ∥₁) where
 
   pub walked_is : state_of p ≡ walked_state (parts_layout p) (state_of p)
   walked_is = ap (λ r. found_state r (state_of p)) (fun_ext rows_are)
-
--- one state doesn't differ from itself
-pub none_differs : (s t : Contents) → s ≡ t → AuditAgrees s t
-none_differs s t e = record {
-  maps = record { host = ap (λ (x : Contents). x.shared.host.map) e; hyp = ap (λ (x : Contents). x.shared.hyp.map) e; guests = λ v. ap (λ (x : Contents). (x.guest v).tree.map) e };
-  rows = ap (λ (x : Contents). x.shared.row) e;
-}

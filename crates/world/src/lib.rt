@@ -16,8 +16,8 @@ mod raw;
 mod same;
 
 pub use boot::BootFault;
-use ghost_judge::audit::audit;
 use ghost_judge::disagreement::Disagreement;
+use ghost_oracle::compared::Compared;
 use ghost_oracle::kept::{kept, kept_and_walked, recompute};
 use ghost_oracle::pokes::poke;
 use ghost_oracle::raw::{RawGuest, Which};
@@ -93,6 +93,7 @@ impl<A: Allocator> World<A> {
     ghost use Rattle.std.specs.Prelude.{◌↔◌, IfErr, IsOk, IsSome, List, None, replicate};
     ghost use Rattle.page_state.specs.LayoutView.{layout_of};
     ghost use Rattle.table_tree.specs.Said.{block_of};
+    ghost use Rattle.ghost_oracle.specs.Compared.{walked_in};
     ghost use Rattle.ghost_oracle.specs.Poked.{IsBeside, IsPokedTree, parts_trees, raw_beside_of, raw_trees};
     ghost use Rattle.ghost_spec.specs.States.{ghost_state, IsKept};
     ghost use Rattle.ghost_oracle.specs.Found.{walked_state, HasRowsOf, SaysMaplets, SaysRows};
@@ -175,19 +176,20 @@ impl<A: Allocator> World<A> {
         recompute(global, &self.parts)
     }
 
-    /// Both, of one walk: what `to_ghost` gives, and what `recompute` gives. Each word is read once.
-    pub fn kept_and_walked(&self, global: Global) -> Result<(Ghost, Ghost), AllocError>
-        ensures state { IfOk result (λ g. ghost_state g.0 ≡ state_of self.now.parts) }
-        ensures layout { IfOk result (λ g. layout_of g.0.layout ≡ parts_layout self.now.parts) }
-        ensures maplets { IfOk result (λ g. SaysMaplets self.now.parts g.0) }
-        ensures rows { IfOk result (λ g. SaysRows self.now.parts g.0) }
-        ensures kept { IfOk result (λ g. IsKept g.0) }
-        ensures frames { IfOk result (λ g. HasRowsOf (parts_layout self.now.parts) g.0) }
-        ensures walked { IfOk result (λ g. ghost_state g.1 ≡ walked_state (parts_layout self.now.parts) (state_of self.now.parts)) }
-        ensures same { IfOk result (λ g. ghost_state g.1 ≡ ghost_state g.0) }
-        ensures walked_layout { IfOk result (λ g. layout_of g.1.layout ≡ parts_layout self.now.parts) }
-        ensures walked_kept { IfOk result (λ g. IsKept g.1) }
-        ensures walked_frames { IfOk result (λ g. HasRowsOf (parts_layout self.now.parts) g.1) }
+    /// Both: what `to_ghost` gives, and what `recompute` gives. By the headline they are the same, and then each word is read
+    /// once, and one state is both.
+    pub fn kept_and_walked(&self, global: Global) -> Result<Compared, AllocError>
+        ensures state { IfOk result (λ c. ghost_state c.kept ≡ state_of self.now.parts) }
+        ensures layout { IfOk result (λ c. layout_of c.kept.layout ≡ parts_layout self.now.parts) }
+        ensures maplets { IfOk result (λ c. SaysMaplets self.now.parts c.kept) }
+        ensures rows { IfOk result (λ c. SaysRows self.now.parts c.kept) }
+        ensures kept { IfOk result (λ c. IsKept c.kept) }
+        ensures frames { IfOk result (λ c. HasRowsOf (parts_layout self.now.parts) c.kept) }
+        ensures walked { IfOk result (λ c. ghost_state (walked_in c) ≡ walked_state (parts_layout self.now.parts) (state_of self.now.parts)) }
+        ensures same { IfOk result (λ c. ghost_state (walked_in c) ≡ ghost_state c.kept) }
+        ensures walked_layout { IfOk result (λ c. layout_of (walked_in c).layout ≡ parts_layout self.now.parts) }
+        ensures walked_kept { IfOk result (λ c. IsKept (walked_in c)) }
+        ensures walked_frames { IfOk result (λ c. HasRowsOf (parts_layout self.now.parts) (walked_in c)) }
     {
         kept_and_walked(global, &self.parts)
     }
@@ -196,8 +198,8 @@ impl<A: Allocator> World<A> {
     pub fn audit(&self, global: Global) -> Result<Option<Disagreement>, AllocError>
         ensures { IfOk result (λ o. o ≡ None) }
     {
-        let (kept, walked) = self.kept_and_walked(global)?;
-        Ok(audit(&kept, &walked))
+        let compared = self.kept_and_walked(global)?;
+        Ok(compared.audit())
     }
 
     /// The geometry of its trees.

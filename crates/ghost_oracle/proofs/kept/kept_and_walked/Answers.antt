@@ -1,38 +1,10 @@
+use Rattle.std.proofs.Common.{arith}
+use Rattle.hypercalls.specs.Stands.{state_of}
+use Rattle.ghost_spec.specs.States.{ghost_state}
+use Rattle.ghost_oracle.proofs.Comparing.{found_kept, rows_kept}
 use Rattle.ghost_oracle.proofs.kept.kept_and_walked.Goals as goal
 
-pub returns-clause-state : goal.returns-clause-state
-returns-clause-state g c = c.in_ok-kept.ensures.state
-
-pub returns-clause-layout : goal.returns-clause-layout
-returns-clause-layout g c = c.in_ok-kept.ensures.layout
-
-pub returns-clause-kept : goal.returns-clause-kept
-returns-clause-kept g c = c.in_ok-kept.ensures.kept
-
-pub returns-clause-maplets : goal.returns-clause-maplets
-returns-clause-maplets g c = c.in_ok-kept.ensures.maplets
-
-pub returns-clause-rows : goal.returns-clause-rows
-returns-clause-rows g c = c.in_ok-kept.ensures.rows
-
-pub returns-clause-frames : goal.returns-clause-frames
-returns-clause-frames g c = c.in_ok-kept.ensures.frames
-
-pub returns-clause-walked : goal.returns-clause-walked
-returns-clause-walked g c = c.in_ok-walked.ensures.state
-
-pub returns-clause-walked_layout : goal.returns-clause-walked_layout
-returns-clause-walked_layout g c = c.in_ok-walked.ensures.layout
-
-pub returns-clause-walked_kept : goal.returns-clause-walked_kept
-returns-clause-walked_kept g c = c.in_ok-walked.ensures.kept
-
-pub returns-clause-walked_frames : goal.returns-clause-walked_frames
-returns-clause-walked_frames g c = c.in_ok-walked.ensures.frames
-
-pub with_scratch-requires : goal.with_scratch-requires
-with_scratch-requires g c = record {
-  state = c.in_ok-found.ensures.state;
-  layout = c.in_ok-found.ensures.layout;
-  kept = c.in_ok-found.ensures.kept;
-}
+pub returns-then-is_kept-clause-state : goal.returns-then-is_kept-clause-state
+returns-then-is_kept-clause-state g c =
+    let p = c.args.parts.now in
+    found_kept _ (state_of p) (ghost_state c.in_ok-walked.walked) c.in_ok-walked.ensures.state (rows_kept p.shared.items c.in_ok-walked.walked.shared.rows.runs (omega (arith, p.one_shared, p.shared.ok.0)) (c.is_kept.ensures.rows c.if-is_kept.true))

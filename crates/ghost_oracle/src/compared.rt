@@ -1,0 +1,144 @@
+//! What is kept, compared with what walking every descriptor finds.
+ghost use Rattle.std.specs.Prelude.{◌≡◌, ◌↔◌, IfSome, IsTrue, None, length, map};
+ghost use Rattle.ghost_judge.specs.Audits.{AreMapsKept, AuditAgrees, IsFirstDifference, HaveSameFrames};
+ghost use Rattle.ghost_oracle.specs.Compared.{walked_in};
+ghost use Rattle.ghost_oracle.specs.Found.{SaysMaplets, SaysRows};
+ghost use Rattle.ghost_spec.specs.States.{contents_in};
+ghost use Rattle.guest_component.specs.View.{runs_of};
+
+use ghost_judge::audit::audit;
+use ghost_judge::disagreement::Disagreement;
+use ghost_spec::parts::GhostGuest;
+use ghost_spec::shared::Shared;
+use ghost_spec::state::Ghost;
+use guest_component::Guest;
+use guest_steps::{GuestPart, SharedPart};
+use hypercalls::Parts;
+use maplets::Maplets;
+use page_state::{PageRange, Row, Run, Target};
+use run_list::Advance;
+use std::alloc::Allocator;
+
+/// What is kept, and what walking every descriptor finds. Mostly one state is both, and then it stands here once.
+#[derive(Drop)]
+pub struct Compared {
+    /// What is kept.
+    pub kept: Ghost,
+    /// What walking finds. None where it has just the runs of what is kept.
+    pub other: Option<Ghost>,
+}
+
+impl Compared {
+    /// The first difference, in the order of `ghost_judge::audit`. Where one state is both, none is looked for.
+    pub fn audit(&self) -> Option<Disagreement>
+        requires kept { AreMapsKept self.now.kept }
+        requires walked { AreMapsKept (walked_in self.now) }
+        requires frames { HaveSameFrames self.now.kept (walked_in self.now) }
+        ensures none { (result ≡ None) ↔ AuditAgrees (contents_in self.now.kept) (contents_in (walked_in self.now)) }
+        ensures first { IfSome result (IsFirstDifference (contents_in self.now.kept) (contents_in (walked_in self.now))) }
+    {
+        match &self.other {
+            Some(walked) => audit(&self.kept, walked),
+            None => None,
+        }
+    }
+}
+
+/// Whether two ranges are the same.
+fn is_same_range(a: PageRange, b: PageRange) -> bool
+    ensures { IsTrue result ↔ (a ≡ b) }
+{
+    a.first.0 == b.first.0 && a.count == b.count
+}
+
+/// Whether two targets are the same.
+fn is_same_target(a: Target, b: Target) -> bool
+    ensures { IsTrue result ↔ (a ≡ b) }
+{
+    a.is_same(b)
+}
+
+/// Whether two runs of a map are the same.
+fn is_same_run(a: Run, b: Run) -> bool
+    ensures { IsTrue result ↔ (a ≡ b) }
+{
+    is_same_range(a.pages, b.pages) && is_same_target(a.target, b.target)
+}
+
+/// Whether two runs of rows are the same.
+fn is_same_row_run(a: run_list::Run<Row>, b: run_list::Run<Row>) -> bool
+    ensures { IsTrue result ↔ (a ≡ b) }
+{
+    a.pages.first.0 == b.pages.first.0 && a.pages.count == b.pages.count && a.value.is_same(b.value)
+}
+
+/// Whether the runs that a walk found are those of maplets.
+fn are_maplets(found: &[Run], maplets: &Maplets) -> bool
+    ensures { IsTrue result ↔ (found.now ≡ maplets.now.runs) }
+{
+    let mut at = 0;
+    for run in maplets.iter() {
+        if at == found.len() || !is_same_run(found[at], run) {
+            return false;
+        }
+        at += 1;
+    }
+    at == found.len()
+}
+
+/// Whether two lists of rows have the same runs.
+fn are_same_rows(found: &[run_list::Run<Row>], kept: &[run_list::Run<Row>]) -> bool
+    ensures { IsTrue result ↔ (found.now ≡ kept.now) }
+{
+    if found.len() != kept.len() {
+        return false;
+    }
+    for at in 0..found.len() {
+        if !is_same_row_run(found[at], kept[at]) {
+            return false;
+        }
+    }
+    true
+}
+
+/// Whether a guest was found with the runs of its maplets.
+fn is_guest_kept<A: Allocator>(found: &GhostGuest, guest: &Guest<A>) -> bool
+    ensures { IsTrue result ↔ (found.now.tree.runs.items ≡ runs_of guest.now.body) }
+{
+    match guest.body() {
+        Some(body) => are_maplets(found.tree.runs.as_slice(), body.map.maplets()),
+        None => found.tree.runs.is_empty(),
+    }
+}
+
+/// Whether all guests were.
+fn are_guests_kept<A: Allocator>(found: &[GhostGuest], parts: &[GuestPart<A>]) -> bool
+    requires { length found.now ≡ length parts.now }
+    ensures { IsTrue result ↔ (map (λ x. x.tree.runs.items) found.now ≡ map (λ x. runs_of x.guest.body) parts.now) }
+{
+    for v in 0..parts.len() {
+        if !is_guest_kept(&found[v], &parts[v].guest) {
+            return false;
+        }
+    }
+    true
+}
+
+/// Whether the Shared part was found with the runs of its maplets and of the owner table.
+fn is_shared_kept<A: Allocator>(found: &Shared, part: &SharedPart<A>) -> bool
+    ensures { IsTrue result ↔ (found.now.host.runs.items ≡ part.now.host.maplets.runs) × (found.now.hyp.runs.items ≡ part.now.hyp.maplets.runs) × (found.now.rows.runs ≡ part.now.rows) }
+{
+    are_maplets(found.host.runs.as_slice(), part.host.maplets())
+        && are_maplets(found.hyp.runs.as_slice(), part.hyp.maplets())
+        && are_same_rows(found.rows.runs(), part.rows.runs())
+}
+
+/// Whether all parts were.
+pub(crate) fn is_kept<A: Allocator>(found: &Ghost, parts: &Parts<A>) -> bool
+    requires { length found.now.guests.items ≡ 64 }
+    ensures maplets { IsTrue result → SaysMaplets parts.now found.now }
+    ensures rows { IsTrue result → SaysRows parts.now found.now }
+{
+    is_shared_kept(&found.shared, parts.shared())
+        && are_guests_kept(found.guests.as_slice(), parts.guests.as_slice())
+}
