@@ -183,3 +183,6 @@ module _ {V : Type 0} (advance : V → ℕ → V) (can : V → ℕ → Type 0) (
 
     pub left_only_two : (y : T) (s : Run V) → length ts ≤ i → i < length ws → y ≡ get_or ws i y → s ≡ f y → IsLeft advance can (map f ts) (map f ws) (map f (drop i ts)) (map f (drop i ws)) → IsFirstApart (run_map advance (map f ts)) (run_map advance (map f ws)) s.pages.first.0
     left_only_two y s h k e b l = rw b (left_two (map f ts) (map f ws) (map f (drop (i + 1) ws)) (f y) (subst (λ ys. IsLeft advance can (map f ts) (map f ws) [] ys) (told_head f ws i y k e) (subst (λ xs. IsLeft advance can (map f ts) (map f ws) xs (map f (drop i ws))) (told_end f ts i h) l)))
+
+    pub left_no_one : length ts ≤ i → length ws ≤ i → IsLeft advance can (map f ts) (map f ws) (map f (drop i ts)) (map f (drop i ws)) → (p : ℕ) → run_map advance (map f ts) p ≡ run_map advance (map f ws) p
+    left_no_one h k l = left_none (map f ts) (map f ws) (subst (λ ys. IsLeft advance can (map f ts) (map f ws) [] ys) (told_end f ws i k) (subst (λ xs. IsLeft advance can (map f ts) (map f ws) xs (map f (drop i ws))) (told_end f ts i h) l))

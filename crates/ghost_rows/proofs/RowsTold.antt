@@ -1,5 +1,5 @@
 -- Pieces of frames, and the row that four lists tell.
-use Rattle.std.proofs.Common.{◌≡◌, ℕ, zero, suc, ◌+◌, ◌-◌, ◌^◌, ◌<◌, ◌≤◌, Bool, true, false, List, [], ◌∷◌, take, drop, length, get_or, Option, Some, None, refl, sym, ap, subst, ◌∙◌, arith}
+use Rattle.std.proofs.Common.{◌≡◌, ℕ, zero, suc, ◌+◌, ◌-◌, ◌^◌, ◌<◌, ◌≤◌, Bool, true, false, cond, List, [], ◌∷◌, take, drop, length, get_or, Option, Some, None, refl, sym, ap, subst, ◌∙◌, arith}
 use Rattle.std.proofs.lemmas.List.{drop_all, drop_more, get_or_default}
 use Rattle.std.specs.Option.{option_or}
 use Rattle.std.specs.Prelude.{if◌then◌else◌}
@@ -8,7 +8,7 @@ use Rattle.page_state.specs.declared.row.Lent.{Lent}
 use Rattle.page_state.specs.declared.row.Row.{Row}
 use Rattle.page_state.specs.LayoutFaults.{IsAccepted}
 use Rattle.page_state.specs.Map.{is_within}
-use Rattle.page_state.specs.Regions.{Memory, has_memory, is_memory_region}
+use Rattle.page_state.specs.Regions.{Memory, find_region, has_memory, is_in_range, is_memory_kind, is_memory_region}
 use Rattle.page_state.specs.Rows.{advance_row, HasLentBelow, HasPageBelow}
 use Rattle.page_state.proofs.Accepted.{memory_below}
 use Rattle.page_state.proofs.Cases.{by_test, by_lt}
@@ -259,3 +259,24 @@ pub memory-rows : (m : Memory) (f : ℕ) (o : Option Row) (row other : Row) → 
 memory-rows m f o row other a e same = by_test (has_memory m f)
     (λ t. let some : o ≡ Some row = rw t at e in rw t (some ∙ ap Some (same (memory_below m f a t))))
     (λ t. let none : o ≡ None = rw t at e in rw t none)
+
+kind-row : (k : Bool) (row : Row) → (if k then Some row else None) ≡ (elim k [ true ↦ Some row | false ↦ None ])
+kind-row true row = refl
+kind-row false row = refl
+
+region-row : (inside : Bool) (r : Region) (found : Option Region) (row : Row) (old : Option Row) → old ≡ memory_row found row
+    → (if inside then (if is_memory_kind r.kind then Some row else None) else old) ≡ memory_row (cond inside (Some r) found) row
+region-row true r found row old h = kind-row (is_memory_kind r.kind) row
+region-row false r found row old h = h
+
+-- the regions from one more on
+pub regions-more : (regions : List Region) (i : ℕ) (d : Region) (f : ℕ) (row : Row) (new old : Option Row) → 0 < i → i ≤ length regions
+    → new ≡ (if is_in_range (get_or regions (i - 1) d).pages f then (if is_memory_kind (get_or regions (i - 1) d).kind then Some row else None) else old)
+    → old ≡ memory_row (find_region (drop i regions) f) row → new ≡ memory_row (find_region (drop (i - 1) regions) f) row
+regions-more regions i d f row new old some within e same =
+    let r : Region = get_or regions (i - 1) d in
+    let next : i ≡ i - 1 + 1 = omega arith in
+    let behind : old ≡ memory_row (find_region (drop (i - 1 + 1) regions) f) row = same ∙ ap (λ (j : ℕ). memory_row (find_region (drop j regions) f) row) next in
+    let here : (if is_in_range r.pages f then (if is_memory_kind r.kind then Some row else None) else old) ≡ memory_row (find_region (r ∷ drop (i - 1 + 1) regions) f) row =
+    region-row (is_in_range r.pages f) r (find_region (drop (i - 1 + 1) regions) f) row old behind in
+    e ∙ here ∙ sym (ap (λ (rs : List Region). memory_row (find_region rs f) row) (drop_more regions (i - 1) d (omega arith)))

@@ -4,8 +4,11 @@ ghost use Rattle.page_state.specs.Trees.{frames_from as frames_of, root_tree as 
 ghost use Rattle.reference_model.specs.Boot.{boot_shared, IsCarveEnough};
 ghost use Rattle.page_state.specs.EntryTests.{annotation, leaf};
 ghost use Rattle.page_state.specs.Layouts.{hyp_page as hyp_page_of};
+ghost use Rattle.page_state.specs.Regions.{end_of};
+ghost use Rattle.page_state.specs.Tables.{put, need as need_of, edited as edited_of};
 ghost use Rattle.ghost_spec.specs.Kept.{IsKeptShared};
 ghost use Rattle.ghost_trees.specs.KeptTrees.{IsKeptTree};
+ghost use Rattle.ghost_trees.specs.Small.{HasLowFrames};
 ghost use Rattle.ghost_spec.specs.Views.{layout_with, shared_in_lists};
 ghost use Rattle.ghost_trees.specs.Trees.{tree_in_lists};
 
@@ -32,24 +35,60 @@ pub fn boot(
     let carve = memory.carve();
     let first = carve.first.0;
     let hyp_pages = hyp_range(carve);
-    let host_root = root_tree(alloc, depth, first)?;
-    let hyp_root = root_tree(alloc, depth, first + 1)?;
-    let host_need = need(alloc, depth, &host_root, carve, host_entry())?;
-    let hyp_need = need(alloc, depth, &hyp_root, hyp_pages, hyp_entry(first))?;
+    let host_need = need_at_boot(alloc, depth, first, carve, host_entry())?;
+    let hyp_need = need_at_boot(alloc, depth, first + 1, hyp_pages, hyp_entry(first))?;
     if !is_enough(carve.count, host_need, hyp_need) {
         return Ok(None);
     }
     let frames = frames_from(alloc, first, carve.count)?;
     let spare = behind(frames.as_slice(), 2);
     let rest = behind(spare, host_need);
-    let host = edited(alloc, depth, &host_root, carve, host_entry(), spare)?;
-    let hyp = edited(alloc, depth, &hyp_root, hyp_pages, hyp_entry(first), rest)?;
+    let free = Vec::from_slice(alloc, behind(rest, hyp_need))?;
+    let host = tree_at_boot(alloc, depth, first, carve, host_entry(), spare)?;
+    let hyp = tree_at_boot(alloc, depth, first + 1, hyp_pages, hyp_entry(first), rest)?;
     Ok(Some(Shared {
-        host: host.tree,
-        hyp: hyp.tree,
-        free: Vec::from_slice(alloc, behind(rest, hyp_need))?,
+        host,
+        hyp,
+        free,
         rows: RunList::new(alloc),
     }))
+}
+
+/// How many tables a tree of its root alone needs once a range has an entry.
+fn need_at_boot(
+    alloc: Global,
+    depth: u64,
+    root: u64,
+    range: PageRange,
+    entry: Entry,
+) -> Result<usize, AllocError>
+    requires depth { depth ≤ 3 }
+    requires pages { end_of range ≤ 2 ^ 63 }
+    requires frames { HasLowFrames entry range.count }
+    ensures { IfOk result (λ n. n ≡ need_of depth (root_tree_of depth root) (put range.first.0 range.count entry)) }
+{
+    let tree = root_tree(alloc, depth, root)?;
+    need(alloc, depth, &tree, range, entry)
+}
+
+/// A tree of its root alone, once a range has an entry: the tables that it needs get the frames, in order.
+fn tree_at_boot(
+    alloc: Global,
+    depth: u64,
+    root: u64,
+    range: PageRange,
+    entry: Entry,
+    frames: &[u64],
+) -> Result<Tree, AllocError>
+    requires depth { depth ≤ 3 }
+    requires pages { end_of range ≤ 2 ^ 63 }
+    requires frames { HasLowFrames entry range.count }
+    ensures tree { IfOk result (λ t. tree_in_lists t ≡ edited_of depth (root_tree_of depth root) (put range.first.0 range.count entry) frames.now) }
+    ensures kept { IfOk result IsKeptTree }
+{
+    let tree = root_tree(alloc, depth, root)?;
+    let made = edited(alloc, depth, &tree, range, entry, frames)?;
+    Ok(made.tree)
 }
 
 /// The hypervisor's pages of the carve-out.

@@ -337,9 +337,7 @@ pub fn copied_rows(alloc: Global, runs: &[Run<Row>]) -> Result<RunList<Row>, All
     ensures { IfOk result (λ r. r.runs ≡ runs.now) }
 {
     let mut rows = Vec::with_capacity(alloc, runs.len().saturating_add(MORE_ROWS))?;
-    for run in runs {
-        rows.push(*run)?;
-    }
+    rows.extend_from_slice(runs)?;
     Ok(RunList::of(rows))
 }
 

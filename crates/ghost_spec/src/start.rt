@@ -1,18 +1,20 @@
 //! The state at boot.
 ghost use Rattle.std.specs.Prelude.{◌≡◌, ◌<◌, ◌↔◌, All, IfOk, IfSome, IsSome, length};
 ghost use Rattle.page_state.specs.LayoutView.{layout_of};
-ghost use Rattle.reference_model.specs.Boot.{boot as boot_of, IsCarveEnough};
+ghost use Rattle.reference_model.specs.Boot.{boot as boot_of, booted, IsCarveEnough};
 ghost use Rattle.reference_model.specs.State.{no_cpu};
+ghost use Rattle.ghost_spec.specs.Kept.{IsKeptShared};
 ghost use Rattle.ghost_spec.specs.States.{ghost_state, AreKeptCpus, IsKept};
-ghost use Rattle.ghost_spec.specs.Views.{cpu_in};
+ghost use Rattle.ghost_spec.specs.Views.{cpu_in, shared_in_lists};
 
 use crate::answer::depth;
 use crate::boot;
 use crate::cpu::GhostCpu;
 use crate::parts::{empty_guests, empty_slots};
 use crate::rows::find_all;
+use crate::shared::Shared;
 use crate::state::{Ghost, GhostRooms};
-use page_state::Layout;
+use page_state::{Config, Layout};
 use std::alloc::{AllocError, Global};
 
 /// So many CPUs with nothing.
@@ -40,6 +42,39 @@ pub fn equal_rooms(alloc: Global, count: u64, room: u64) -> Result<Vec<u64>, All
     Ok(rooms)
 }
 
+/// The rooms of logs in which no call is stored.
+fn unused_rooms(alloc: Global, config: Config) -> Result<GhostRooms, AllocError>
+    ensures vms { IfOk result (λ r. r.vms ≡ config.log) }
+    ensures shared { IfOk result (λ r. r.shared ≡ config.log) }
+    ensures guests { IfOk result (λ r. All (λ n. n ≡ config.log) r.guests.items) }
+    ensures guests_count { IfOk result (λ r. length r.guests.items ≡ 64) }
+    ensures cpus { IfOk result (λ r. All (λ n. n ≡ config.log) r.cpus.items) }
+    ensures cpus_count { IfOk result (λ r. length r.cpus.items ≡ config.cpus) }
+{
+    let log = config.log;
+    Ok(GhostRooms {
+        vms: log,
+        shared: log,
+        guests: equal_rooms(alloc, 64, log)?,
+        cpus: equal_rooms(alloc, config.cpus, log)?,
+    })
+}
+
+/// The Shared part at boot. None where the carve-out has fewer frames than boot needs tables. The row of each memory frame is
+/// found by a search of all lists.
+fn shared_at_boot(alloc: Global, layout: &Layout) -> Result<Option<Shared>, AllocError>
+    requires { 0 < layout.now.config.cpus }
+    ensures enough { IfOk result (λ o. IsSome o ↔ IsCarveEnough (layout_of layout.now)) }
+    ensures shared { IfOk result (λ o. IfSome o (λ s. shared_in_lists s ≡ (booted (layout_of layout.now)).shared)) }
+    ensures kept { IfOk result (λ o. IfSome o IsKeptShared) }
+{
+    let Some(mut shared) = boot::boot(alloc, &layout.map, layout.config, depth(layout))? else {
+        return Ok(None);
+    };
+    find_all(alloc, layout, &mut shared)?;
+    Ok(Some(shared))
+}
+
 /// The state at boot. None where the carve-out has fewer frames than boot needs tables. The row of each memory frame is found
 /// by a search of all lists.
 pub fn start(alloc: Global, layout: Layout) -> Result<Option<Ghost>, AllocError>
@@ -49,21 +84,12 @@ pub fn start(alloc: Global, layout: Layout) -> Result<Option<Ghost>, AllocError>
     ensures layout { IfOk result (λ o. IfSome o (λ g. g.layout ≡ layout)) }
     ensures kept { IfOk result (λ o. IfSome o IsKept) }
 {
-    let Some(mut shared) = boot::boot(alloc, &layout.map, layout.config, depth(&layout))? else {
-        return Ok(None);
-    };
-    find_all(alloc, &layout, &mut shared)?;
+    let rooms = unused_rooms(alloc, layout.config)?;
+    let cpus = idle_cpus(alloc, layout.config.cpus)?;
     let vms = empty_slots(alloc, 64)?;
     let guests = empty_guests(alloc, 64)?;
-    let cpus = idle_cpus(alloc, layout.config.cpus)?;
-    let log = layout.config.log;
-    let guest_rooms = equal_rooms(alloc, 64, log)?;
-    let cpu_rooms = equal_rooms(alloc, layout.config.cpus, log)?;
-    let rooms = GhostRooms {
-        vms: log,
-        shared: log,
-        guests: guest_rooms,
-        cpus: cpu_rooms,
+    let Some(shared) = shared_at_boot(alloc, &layout)? else {
+        return Ok(None);
     };
     Ok(Some(Ghost {
         layout,

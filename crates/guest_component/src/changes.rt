@@ -1,5 +1,6 @@
 //! Changes of a guest, in words of the reference state.
 ghost use Rattle.std.specs.Prelude.{◌≡◌, ◌<◌, ◌≤◌, ◌↔◌, length, Err, None, IfOk, OnOk, OnErr};
+ghost use Rattle.guest_component.specs.Bodies.{IsOfGeometry};
 ghost use Rattle.guest_component.specs.Changing.{CanInstallFrom, GuestCanChange, MakesNone, StaysMade};
 ghost use Rattle.guest_component.specs.Plans.{HasReadyMap, IsMadeFor, IsReadyFor, WantsNoMemory};
 ghost use Rattle.guest_component.specs.View.{guest_of, guest_depth, guest_spares, runs_of};
@@ -87,11 +88,20 @@ impl<A: Allocator + Copy> Guest<A> {
     {
         let GuestPlan { need, made } = plan;
         match changes.part {
-            GuestChange::Install { .. } => self.body = made,
-            GuestChange::Empty => self.body = None,
+            GuestChange::Install { .. } => self.put(made),
+            GuestChange::Empty => self.put(None),
             GuestChange::Keep | GuestChange::Gain(_) | GuestChange::LoseLowest | GuestChange::Die =>
                 self.change_body(alloc, changes, need),
         }
+    }
+
+    /// The guest becomes another one, or Empty. What it was is let go.
+    fn put(&mut self, body: Option<Body<A>>)
+        requires { IsOfGeometry self.old.geometry body }
+        ensures body { self.new.body ≡ body }
+        ensures geometry { self.new.geometry ≡ self.old.geometry }
+    {
+        self.body = body;
     }
 
     /// Changes that make no guest and end none: those of what isn't Empty.

@@ -54,6 +54,11 @@ pub stored_in_none : {P : Type 0} (log : P → StoredCalls) (c : Call) (ps : Lis
 stored_in_none log c [] few many = refl
 stored_in_none log c (p ∷ ps) few many = absurd (many (omega (arith, few)))
 
+-- and none is full
+pub none_full : {P : Type 0} (log : P → StoredCalls) (ps : List P) → length ps ≤ 1 → (length ps ≡ 1 → ⊥) → false ≡ one false (λ g. g.room == 0) (map log ps)
+none_full log [] few many = refl
+none_full log (p ∷ ps) few many = absurd (many (omega (arith, few)))
+
 -- a log that isn't full has room
 pub some_room : (n : ℕ) → (n == 0) ≡ false → 0 < n
 some_room n h = grind (arith, nat_tests)

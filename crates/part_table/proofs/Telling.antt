@@ -25,9 +25,10 @@ use Rattle.guest_steps.specs.View.{cpu_of}
 use Rattle.hypercalls.specs.Uses.{parts_of}
 use Rattle.part_table.specs.Parts.{in_order, uses, log_of, IsPart, IsOwn}
 use Rattle.part_table.specs.Does.{Does, IsLeft, none_at}
-use Rattle.part_table.specs.Rule.{Hands, held_at, seen_at, seen_with, StartsWith, taking, missing, letting, storing, IsSame, Adds, Extends, Known, known_of, Standing, AtRest}
+use Rattle.part_table.specs.Rule.{Hands, IsIdle, Seated, tail, held_at, seen_at, seen_with, StartsWith, taking, missing, letting, storing, IsSame, Adds, Extends, Known, known_of, Standing, AtRest}
 use Rattle.part_table.specs.Tried.{AllTaken, EndsIn, FoundFull, FoundRoom, Tells, TriesOf, Try, reply_of}
 use Rattle.part_table.specs.Answered.{Answers, FindsAway, FindsLogFull, MeetsAnother, StoresCall, TellsOf, used_by}
+use Rattle.part_table.proofs.Holding.{one_gone}
 use Rattle.part_table.proofs.Pairs.{at_same, at_other, unused_seen, part_same}
 
 module _ {A : Type 0} where
@@ -119,6 +120,24 @@ module _ {A : Type 0} where
         (log_of y, [], refl, room', begun', at_same ((1, (log_of s).calls) ∷ v.seen) g (log_of t).calls [] ∙ ap (λ (z : StoredCalls). z.calls) grown', refl),
       ),
     ),
+  )
+
+  -- what a view keeps of its CPU, from the view that it is
+  pub cpu_told : (l : TheLayout) (id : ℕ) (own : CpuState) (w u : View A) → w ≡ u → u.layout ≡ l → u.cpu ≡ id → u.own ≡ own → u.on ≡ true → (w.layout ≡ l) × (w.cpu ≡ id) × (w.own ≡ own) × (w.on ≡ true)
+  cpu_told l id own w u e a b d on = (ap (λ (z : View A). z.layout) e ∙ a, ap (λ (z : View A). z.cpu) e ∙ b, ap (λ (z : View A). z.own) e ∙ d, ap (λ (z : View A). z.on) e ∙ on)
+
+  -- a seat whose pass found the part k taken
+  pub missed_left : (k : ℕ) (m n : Seated A) → n ≡ (missing m.0 k, m.1) → AtRest m.0 → AtRest n.0
+  missed_left k m n e r = subst (λ (z : Seated A). AtRest z.0) (sym e) r
+
+  pub missed_rest : (k : ℕ) (m n : Seated A) → n ≡ (missing m.0 k, m.1) → (m.1 ≡ []) × IsIdle m.0 → (n.1 ≡ []) × IsIdle n.0
+  missed_rest k m n e r = (ap (λ (z : Seated A). z.1) e ∙ r.0, λ j. ap (λ (z : Seated A). held_at z.0.held j) e ∙ r.1 j)
+
+  -- a seat whose pass took the part k and let it home
+  pub back_rest : (k : ℕ) (x : Slot A) (m t n : Seated A) → t ≡ (taking m.0 k x, (k, None) ∷ m.1) → n ≡ (letting t.0 k, tail t.1) → (m.1 ≡ []) × IsIdle m.0 → (n.1 ≡ []) × IsIdle n.0
+  back_rest k x m t n e f r = (
+    ap (λ (z : Seated A). z.1) f ∙ (ap (λ (z : Seated A). tail z.1) e ∙ r.0),
+    λ j. ap (λ (z : Seated A). held_at z.0.held j) f ∙ (ap (λ (z : Seated A). held_at ((k, None) ∷ z.0.held) j) e ∙ one_gone m.0.held k (Some x) r.1 j),
   )
 
   -- what a step may rely on, from what the last take told

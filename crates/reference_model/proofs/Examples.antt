@@ -1,18 +1,55 @@
--- The worked rows, computed.
-use Rattle.std.proofs.Common.{◌≡◌, ℕ, zero, suc, ◌^◌, ◌≤◌, refl, arith, true, [], ◌∷◌, All, AllPairs}
+-- The worked rows, computed. That a block of 262,144 pages on which nothing is mapped is one word isn't searched, but follows from the map.
+use Rattle.std.proofs.Common.{◌≡◌, ℕ, zero, suc, ◌^◌, ◌≤◌, Bool, true, false, cond, refl, ap, sym, ◌∙◌, arith, List, [], ◌∷◌, length, All, AllPairs}
+use Rattle.std.specs.Prelude.{◌+◌, not, is_some, filter}
 use Rattle.std.proofs.lemmas.Bool.Decides.{nat_tests}
+use Rattle.descriptor.specs.declared.Prot.TheVariants.{RWX}
+use Rattle.descriptor.specs.declared.State.TheVariants.{Owned}
 use Rattle.page_state.specs.declared.layout.Region.{Region}
 use Rattle.page_state.specs.LayoutFaults.{IsAccepted, AreDisjoint}
-use Rattle.page_state.specs.Map.{is_within}
 use Rattle.page_state.specs.Regions.{end_of}
-use Rattle.page_state.specs.Blocks.{is_one_word, is_empty, blocks_on}
-use Rattle.page_state.specs.Tables.{needs}
-use Rattle.reference_model.specs.Examples.{layout, NeedRow, SplitRow, RemovalRow, CanBootRow, BootRow, WideBootRow, ShareRow, BesideRow, NearRow, AgainRow, CarveRow, DeviceRow, PastRow, NoFrameRow, OneFrameRow, FullLogRow, FullSharedRow, RoomRow, OwnerRow}
+use Rattle.page_state.specs.declared.entry.Entry.{Entry}
+use Rattle.page_state.specs.declared.entry.Entry.TheVariants.{Unmapped}
+use Rattle.page_state.specs.Blocks.{fits_word, first_page, is_one_word, is_empty, blocks_on}
+use Rattle.page_state.specs.Entries.{advance}
+use Rattle.page_state.specs.EntryTests.{leaf}
+use Rattle.page_state.specs.Map.{Map, empty_map, is_within, update}
+use Rattle.page_state.specs.Tables.{put, edit_blocks, needs}
+use Rattle.page_state.specs.Trees.{Block, root_tree}
+use Rattle.page_state.proofs.Blocks.{one_word_means}
+use Rattle.page_state.proofs.Cases.{by_test}
+use Rattle.reference_model.specs.Examples.{layout, need_of, NeedRow, SplitRow, RemovalRow, CanBootRow, BootRow, WideBootRow, ShareRow, BesideRow, NearRow, AgainRow, CarveRow, DeviceRow, PastRow, NoFrameRow, OneFrameRow, FullLogRow, FullSharedRow, RoomRow, OwnerRow}
 use Rattle.reference_model.proofs.Foretold.{computing}
 
-pub need_row : NeedRow
+-- where nothing is mapped, no block needs a table
+one-word : (m : Map) (b : Block) → ((p : ℕ) → m p ≡ Unmapped) → is_one_word m b ≡ true
+one-word m b none = (one_word_means m b).1 (ap (fits_word b.0) (none (first_page b)), λ i less. none (first_page b + i) ∙ sym (ap (λ (e : Entry). advance e i) (none (first_page b))))
+
+no-block : (test : Block → Bool) (bs : List Block) → ((b : Block) → test b ≡ false) → length (filter test bs) ≡ 0
+no-block test [] none = refl
+no-block test (b ∷ bs) none = ap (λ (t : Bool). length (cond t (b ∷ filter test bs) (filter test bs))) (none b) ∙ no-block test bs none
+
+left-out : (has : Bool) {one : Bool} → one ≡ true → (elim has [ true ↦ false | false ↦ not one ]) ≡ false
+left-out true e = refl
+left-out false e = ap not e
+
+need-none : need_of 0x401ff 2 Unmapped ≡ 0
+unfolding needs
+need-none = no-block (λ b. elim (is_some ((root_tree 2 0).table b)) [ true ↦ false | false ↦ not (is_one_word (update empty_map 0x401ff 2 Unmapped) b) ]) (edit_blocks 2 (put 0x401ff 2 Unmapped)) (λ b. left-out (is_some ((root_tree 2 0).table b)) (one-word (update empty_map 0x401ff 2 Unmapped) b (λ p. by_test (is_within 0x401ff 2 p) (λ t. rw t refl) (λ t. rw t refl))))
+
+needs-three : need_of 0x401ff 2 (leaf RWX 0x401ff Owned) ≡ 3
 unfolding computing
-need_row = (refl, refl, refl, refl)
+needs-three = refl
+
+needs-one : need_of 0x40200 512 (leaf RWX 0x40200 Owned) ≡ 1
+unfolding computing
+needs-one = refl
+
+needs-two : need_of 0x40200 512 (leaf RWX 0x50001 Owned) ≡ 2
+unfolding computing
+needs-two = refl
+
+pub need_row : NeedRow
+need_row = (needs-three, needs-one, needs-two, need-none)
 
 pub split_row : SplitRow
 unfolding computing

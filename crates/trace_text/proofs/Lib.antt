@@ -1,6 +1,7 @@
 mod Agreeing
 mod Asked
 mod Checked
+mod Failing
 mod Fronts
 mod Lined
 mod Machines

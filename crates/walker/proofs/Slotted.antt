@@ -26,6 +26,7 @@ use Rattle.walk_plan.specs.inner.Needs.{slot_need, table_need}
 use Rattle.walk_plan.specs.inner.Ranks.{given_rank, slot_rank, table_rank, slot_gone, table_gone}
 use Rattle.walker.specs.inner.Steps.{IsOpened, IsReady, is_emptied}
 use Rattle.walker.proofs.Maps.{changed_at}
+use Rattle.walker.proofs.Writes.{put_here}
 use Rattle.table_tree.proofs.Blank.{entry_word, entry_in_block, unmapped_blank}
 use Rattle.walker.proofs.Emptied.{emptied_each, emptied_by}
 
@@ -45,8 +46,12 @@ module _ {A : Type 0} where
     spent_entry p wide q x = entry_word (d + 1) u q 0 (set_here t u i (index_at (d + 1) q) (Word 0) o.slots p wide x) ∙ zero_entry (d + 1) q
 
     -- what is done to the pages of the slot
-    pub grown_map : (q : ℕ) → index_at (d + 1) q ≡ i → entry_at d b' q ≡ changed_entry (d + 1) (entry_at (d + 1) t) c q
+    grown_map : (q : ℕ) → index_at (d + 1) q ≡ i → entry_at d b' q ≡ changed_entry (d + 1) (entry_at (d + 1) t) c q
     grown_map q x = g.map q ∙ changed_at (d + 1) (entry_at d b) (entry_at (d + 1) t) c q (o.map q x)
+
+    -- the same where the child was put back
+    pub back_map : (v : Table A) → IsAttached i u v b' → (q : ℕ) → index_at (d + 1) q ≡ i → entry_at (d + 1) v q ≡ changed_entry (d + 1) (entry_at (d + 1) t) c q
+    back_map v a q x = put_here d i u v b' a q x ∙ grown_map q x
 
     pub all_spare : hs ≡ drop (slot_need (d + 1) (slot_at t i) c) fs
     all_spare = g.spare ∙ ap (λ l. drop (table_need d b c) l) o.stock ∙ drop-drop (table_need d b c) (fresh (slot_at t i)) fs ∙ ap (λ n. drop n fs) r.need

@@ -1,6 +1,6 @@
 -- A call that stands first in all its logs can be taken out of each list that has them all.
 use Rattle.std.proofs.Common.{◌≡◌, ◌≢◌, ◌⊎◌, ℕ, zero, suc, ◌+◌, ◌<◌, ◌≤◌, List, [], ◌∷◌, ◌++◌, Bool, true, false, refl, sym, ap, ◌∙◌, subst, inl, inr, arith, length, append_assoc, append-nil, map}
-use Rattle.std.specs.Prelude.{Option, Some, None, ◌==◌, filter, drop, slice_index, slice_index_or, slice_get, Vec}
+use Rattle.std.specs.Prelude.{Option, Some, None, ◌==◌, filter, drop, slice_index, slice_index_or, slice_get, Vec, Result, Ok, Err, IsErrAnd, IfOk, replicate}
 use Rattle.std.proofs.lemmas.List.{map-append, length-drop}
 use Rattle.std.proofs.lemmas.List.Elements.{filter-append}
 use Rattle.std.specs.Global.{Global}
@@ -200,6 +200,23 @@ log_here logs i v e = ap (at_place [] (λ w. w.items)) e
 
 pub log_past : {Z : Type 0} (logs : List (Vec Call Z)) (i : ℕ) → length logs ≤ i → log_at logs i ≡ []
 log_past logs i past = ap (at_place [] (λ w. w.items)) (slice_get_past logs i past)
+
+-- where a growth was refused, nothing is said of an Ok
+pub if_not_ok : {T E : Type 0} (P : T → Type 0) (Q : E → Type 0) (r : Result T E) → IsErrAnd r Q → IfOk r P
+if_not_ok P Q (Ok x) h = absurd h
+if_not_ok P Q (Err x) h = tt
+
+pub zeros : (n k : ℕ) → slice_index (replicate n 0) k ≡ 0
+zeros zero k = refl
+zeros (suc n) zero = refl
+zeros (suc n) (suc k) = zeros n k
+
+-- nothing is left of a log whose calls were given, as a look at it told
+pub given_here : {Z : Type 0} (logs : List (Vec Call Z)) (i place : ℕ) (v : Vec Call Z) (read : List Call) → i < length logs → v ≡ slice_index_or logs i v → read ≡ v.items → drop place read ≡ [] → drop place (log_at logs i) ≡ []
+given_here logs i place v read inside log is none = ap (drop place) (log_here logs i v (get_of logs i v inside log) ∙ sym is) ∙ none
+
+pub given_back : {Z : Type 0} (logs : List (Vec Call Z)) (i place : ℕ) (v : Vec Call Z) (read : List Call) → i < length logs → v ≡ slice_index_or logs i v → read ≡ v.items → drop place (log_at logs i) ≡ [] → drop place read ≡ []
+given_back logs i place v read inside log is none = ap (drop place) (is ∙ sym (log_here logs i v (get_of logs i v inside log))) ∙ none
 
 nothing_left : (l : List Call) (n : ℕ) → l ≡ [] → drop n l ≡ []
 nothing_left l n e = ap (drop n) e ∙ drop_past [] n (omega arith)

@@ -41,6 +41,12 @@ use Rattle.reference_model.proofs.conditions.Slots.{loaded-open, ticket-slot}
 use Rattle.reference_model.proofs.conditions.VmSteps.{vm_open-keeps, vm_release-keeps, vm_reserve-keeps, teardown-made, has_stage-is}
 use Rattle.reference_model.proofs.conditions.Loads.{vcpu_load-made, vcpu_put-keeps}
 
+differ : false ≡ true → ⊥
+differ h = cc
+
+no-slot : (v : ℕ) → Some v ≡ None → ⊥
+no-slot v h = cc
+
 -- the slot that a step names
 
 pub named-slot : (vm : VmId) (v : ℕ) → slot_of vm ≡ Some v → v < 64
@@ -134,17 +140,17 @@ module _ (l : Layout) (usable : IsUsable l) (s : Contents) (legal : Legal l s) (
   each (ReclaimPage vm g) (Some v) e h = reclaim_page-keeps l s legal usable cpu v (named-slot vm v (sym e)) vm g h
   each (ReclaimPool vm) (Some v) e h = reclaim_pool-keeps l s legal usable cpu v (named-slot vm v (sym e)) vm h
   each FinishGuest (Some v) e h = let a = staged-at dying_vm v (sym e) in finish_guest-keeps l s legal usable cpu v a.0 a.1.0 a.1.1 a.1.2 a.1.3 h
-  each (GuestRelax g p) (Some v) e h = alone (let a = loaded-at v (sym e) in guest_relax-keeps l s legal usable cpu v a.0 g p a.1 h) (λ f k. cc)
-  each (GuestTranslate vm g) (Some v) e h = alone (guest_translate-keeps l s legal usable cpu v (named-slot vm v (sym e)) vm g h) (λ f k. cc)
-  each MarkDying (Some v) e h = alone (let a = staged-at closing_vm v (sym e) in mark_dying-keeps l s legal usable cpu v a.0 a.1.0 a.1.1 a.1.2 a.1.3 h) (λ f k. cc)
-  each (VmReserve kind vcpus) None e h = alone (vm_reserve-keeps l s legal cpu kind vcpus h) (λ f k. cc)
-  each VmOpen None e h = alone (vm_open-keeps l s legal cpu h) (λ f k. cc)
-  each (VcpuLoad vm i) None e h = alone (keeps-if (VcpuLoad vm i) (λ x. vcpu_load cpu x vm i) vm (λ x k. (or-neither (nat_le 64 vm.slot) (nat_le 8 i) k).0) (vcpu_load-made l s legal cpu vm i) h) (λ f k. cc)
-  each VcpuPut None e h = alone (vcpu_put-keeps l s legal cpu h) (λ f k. cc)
-  each (Teardown vm) None e h = alone (keeps-if (Teardown vm) (λ x. teardown x vm) vm (λ x k. k) (teardown-made l s legal cpu vm) h) (λ f k. cc)
-  each VmRelease None e h = alone (vm_release-keeps l s legal cpu h) (λ f k. cc)
+  each (GuestRelax g p) (Some v) e h = alone (let a = loaded-at v (sym e) in guest_relax-keeps l s legal usable cpu v a.0 g p a.1 h) (λ f k. differ k)
+  each (GuestTranslate vm g) (Some v) e h = alone (guest_translate-keeps l s legal usable cpu v (named-slot vm v (sym e)) vm g h) (λ f k. differ k)
+  each MarkDying (Some v) e h = alone (let a = staged-at closing_vm v (sym e) in mark_dying-keeps l s legal usable cpu v a.0 a.1.0 a.1.1 a.1.2 a.1.3 h) (λ f k. differ k)
+  each (VmReserve kind vcpus) None e h = alone (vm_reserve-keeps l s legal cpu kind vcpus h) (λ f k. differ k)
+  each VmOpen None e h = alone (vm_open-keeps l s legal cpu h) (λ f k. differ k)
+  each (VcpuLoad vm i) None e h = alone (keeps-if (VcpuLoad vm i) (λ x. vcpu_load cpu x vm i) vm (λ x k. (or-neither (nat_le 64 vm.slot) (nat_le 8 i) k).0) (vcpu_load-made l s legal cpu vm i) h) (λ f k. differ k)
+  each VcpuPut None e h = alone (vcpu_put-keeps l s legal cpu h) (λ f k. differ k)
+  each (Teardown vm) None e h = alone (keeps-if (Teardown vm) (λ x. teardown x vm) vm (λ x k. k) (teardown-made l s legal cpu vm) h) (λ f k. differ k)
+  each VmRelease None e h = alone (vm_release-keeps l s legal cpu h) (λ f k. differ k)
   each step None e h = lacking (rule l cpu None step (x_at None step)) (x_at None step) h
-  each step (Some v) e h = cc
+  each step (Some v) e h = absurd (no-slot v e)
 
 -- what an answered call leaves
 answered : (l : Layout) (w : Bool) (s : Contents) (c : Call) (x y : Used) → Legal l (put_back (names c.step) c.slot c.cpu s x) → (fails l c.cpu c.slot c.step x ≡ None → Legal l (put_back (names c.step) c.slot c.cpu s (made l c.cpu c.slot c.step x))) → Answered l c.cpu c.slot c.step w x c.reply y → Legal l (put_back (names c.step) c.slot c.cpu s y)

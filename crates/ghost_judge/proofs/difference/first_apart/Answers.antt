@@ -1,5 +1,5 @@
 use Rattle.std.proofs.Common.{◌≡◌, map, drop, sym, subst, ◌∙◌, arith}
-use Rattle.ghost_judge.proofs.Apart.{IsLeft, left_step, left_found, left_only_one, left_only_two}
+use Rattle.ghost_judge.proofs.Apart.{IsLeft, left_all, left_step, left_found, left_only_one, left_only_two, left_no_one}
 use Rattle.ghost_judge.proofs.difference.first_apart.Goals as goal
 
 pub returns-then-is_some : goal.returns-then-is_some
@@ -24,4 +24,13 @@ returns-then-both-b g c =
     let end : c.loop-i.i ≡ c.min-both.result = omega (arith, c.loop-i.auto.i-end, c.loop-i-test.false) in
     left_only_two g.V.Advance.advance g.V.Advance.CanAdvance g.V.Advance.same g.met.V.Advance.laws g.T.Told.told c.args.a.now c.args.b.now c.min-both.result c.index-b-both.result c.run-then-both-b.result c.if-both-a.false
     c.if-both-b.true c.index-b-both.is c.run-then-both-b.ensures
+    (subst (λ i. IsLeft g.V.Advance.advance g.V.Advance.CanAdvance (map g.T.Told.told c.args.a.now) (map g.T.Told.told c.args.b.now) (map g.T.Told.told (drop i c.args.a.now)) (map g.T.Told.told (drop i c.args.b.now))) end c.loop-i.invariant)
+
+pub loop-i-init : goal.loop-i-init
+loop-i-init g c = left_all g.V.Advance.advance g.V.Advance.CanAdvance g.V.Advance.same g.met.V.Advance.laws (map g.T.Told.told c.args.a.now) (map g.T.Told.told c.args.b.now) c.requires.a c.requires.b
+
+pub returns : goal.returns
+returns g c =
+    let end : c.loop-i.i ≡ c.min-both.result = omega (arith, c.loop-i.auto.i-end, c.loop-i-test.false) in
+    left_no_one g.V.Advance.advance g.V.Advance.CanAdvance g.V.Advance.same g.met.V.Advance.laws g.T.Told.told c.args.a.now c.args.b.now c.min-both.result c.if-both-a.false c.if-both-b.false
     (subst (λ i. IsLeft g.V.Advance.advance g.V.Advance.CanAdvance (map g.T.Told.told c.args.a.now) (map g.T.Told.told c.args.b.now) (map g.T.Told.told (drop i c.args.a.now)) (map g.T.Told.told (drop i c.args.b.now))) end c.loop-i.invariant)

@@ -1,4 +1,5 @@
 use Rattle.std.proofs.Common.{◌≡◌, ◌^◌, ◌≤◌, refl, sym, subst, ◌∙◌, drop, arith}
+use Rattle.std.proofs.lemmas.Result.{IfOk-from_err}
 use Rattle.descriptor.specs.declared.Prot.{Prot}
 use Rattle.descriptor.specs.declared.State.{State}
 use Rattle.page_state.specs.declared.entry.Entry.{Entry}
@@ -30,70 +31,58 @@ frames_low : (a b hyp : PageRange) (entry : Entry) (p : Prot) (s : State) → a 
 frames_low a b hyp entry p s e low is leaf_is =
     subst (λ (r : PageRange). HasLowFrames entry r.count) (sym is) (subst (λ (x : Entry). HasLowFrames x a.count) (sym leaf_is) (carve_low a b e low))
 
-pub need-requires-clause-kept : goal.need-requires-clause-kept
-need-requires-clause-kept c = c.in_ok-host_root.ensures.kept
+pub need_at_boot-requires-clause-pages : goal.need_at_boot-requires-clause-pages
+need_at_boot-requires-clause-pages c = carve_low c.carve-carve.result c.args.memory.now.carve c.carve-carve.ensures.value c.carve-carve.ensures.low
 
-pub need-requires-clause-pages : goal.need-requires-clause-pages
-need-requires-clause-pages c = carve_low c.carve-carve.result c.args.memory.now.carve c.carve-carve.ensures.value c.carve-carve.ensures.low
+pub need_at_boot-requires-clause-frames : goal.need_at_boot-requires-clause-frames
+need_at_boot-requires-clause-frames c = subst (λ (e : Entry). HasLowFrames e c.carve-carve.result.count) (sym c.host_entry.ensures) tt
 
-pub need-requires-clause-frames : goal.need-requires-clause-frames
-need-requires-clause-frames c = subst (λ (e : Entry). HasLowFrames e c.carve-carve.result.count) (sym c.host_entry.ensures) tt
+pub tree_at_boot-requires-clause-pages : goal.tree_at_boot-requires-clause-pages
+tree_at_boot-requires-clause-pages c = carve_low c.carve-carve.result c.args.memory.now.carve c.carve-carve.ensures.value c.carve-carve.ensures.low
 
-pub edited-requires-clause-kept : goal.edited-requires-clause-kept
-edited-requires-clause-kept c = c.in_ok-host_root.ensures.kept
+pub tree_at_boot-requires-clause-frames : goal.tree_at_boot-requires-clause-frames
+tree_at_boot-requires-clause-frames c = subst (λ (e : Entry). HasLowFrames e c.carve-carve.result.count) (sym c.host_entry-2.ensures) tt
 
-pub edited-requires-clause-pages : goal.edited-requires-clause-pages
-edited-requires-clause-pages c = carve_low c.carve-carve.result c.args.memory.now.carve c.carve-carve.ensures.value c.carve-carve.ensures.low
+pub need_at_boot-requires-2-clause-pages : goal.need_at_boot-requires-2-clause-pages
+need_at_boot-requires-2-clause-pages c = hyp_low c.carve-carve.result c.args.memory.now.carve c.hyp_range-hyp_pages.result c.carve-carve.ensures.value c.carve-carve.ensures.low c.hyp_range-hyp_pages.ensures
 
-pub edited-requires-clause-frames : goal.edited-requires-clause-frames
-edited-requires-clause-frames c = subst (λ (e : Entry). HasLowFrames e c.carve-carve.result.count) (sym c.host_entry-2.ensures) tt
+pub need_at_boot-requires-2-clause-frames : goal.need_at_boot-requires-2-clause-frames
+need_at_boot-requires-2-clause-frames c = frames_low c.carve-carve.result c.args.memory.now.carve c.hyp_range-hyp_pages.result c.hyp_entry.result _ _ c.carve-carve.ensures.value c.carve-carve.ensures.low c.hyp_range-hyp_pages.ensures c.hyp_entry.ensures
 
-pub need-requires-2-clause-kept : goal.need-requires-2-clause-kept
-need-requires-2-clause-kept c = c.in_ok-hyp_root.ensures.kept
+pub tree_at_boot-requires-2-clause-pages : goal.tree_at_boot-requires-2-clause-pages
+tree_at_boot-requires-2-clause-pages c = hyp_low c.carve-carve.result c.args.memory.now.carve c.hyp_range-hyp_pages.result c.carve-carve.ensures.value c.carve-carve.ensures.low c.hyp_range-hyp_pages.ensures
 
-pub need-requires-2-clause-pages : goal.need-requires-2-clause-pages
-need-requires-2-clause-pages c = hyp_low c.carve-carve.result c.args.memory.now.carve c.hyp_range-hyp_pages.result c.carve-carve.ensures.value c.carve-carve.ensures.low c.hyp_range-hyp_pages.ensures
-
-pub need-requires-2-clause-frames : goal.need-requires-2-clause-frames
-need-requires-2-clause-frames c = frames_low c.carve-carve.result c.args.memory.now.carve c.hyp_range-hyp_pages.result c.hyp_entry.result _ _ c.carve-carve.ensures.value c.carve-carve.ensures.low c.hyp_range-hyp_pages.ensures c.hyp_entry.ensures
-
-pub edited-requires-2-clause-kept : goal.edited-requires-2-clause-kept
-edited-requires-2-clause-kept c = c.in_ok-hyp_root.ensures.kept
-
-pub edited-requires-2-clause-pages : goal.edited-requires-2-clause-pages
-edited-requires-2-clause-pages c = hyp_low c.carve-carve.result c.args.memory.now.carve c.hyp_range-hyp_pages.result c.carve-carve.ensures.value c.carve-carve.ensures.low c.hyp_range-hyp_pages.ensures
-
-pub edited-requires-2-clause-frames : goal.edited-requires-2-clause-frames
-edited-requires-2-clause-frames c = frames_low c.carve-carve.result c.args.memory.now.carve c.hyp_range-hyp_pages.result c.hyp_entry-2.result _ _ c.carve-carve.ensures.value c.carve-carve.ensures.low c.hyp_range-hyp_pages.ensures c.hyp_entry-2.ensures
+pub tree_at_boot-requires-2-clause-frames : goal.tree_at_boot-requires-2-clause-frames
+tree_at_boot-requires-2-clause-frames c = frames_low c.carve-carve.result c.args.memory.now.carve c.hyp_range-hyp_pages.result c.hyp_entry-2.result _ _ c.carve-carve.ensures.value c.carve-carve.ensures.low c.hyp_range-hyp_pages.ensures c.hyp_entry-2.ensures
 
 pub frames_from-requires : goal.frames_from-requires
 frames_from-requires c = carve_low c.carve-carve.result c.args.memory.now.carve c.carve-carve.ensures.value c.carve-carve.ensures.low
 
 pub returns-then-not-is_enough-clause-enough : goal.returns-then-not-is_enough-clause-enough
 returns-then-not-is_enough-clause-enough c =
-    let host : c.in_ok-host_need.host_need ≡ host_need (layout_with c.args.memory.now c.args.config c.args.depth) = rw (c.in_ok-host_root.ensures.tree, c.host_entry.ensures, c.carve-carve.ensures.value) at c.in_ok-host_need.ensures in
-    let hyp : c.in_ok-hyp_need.hyp_need ≡ hyp_need (layout_with c.args.memory.now c.args.config c.args.depth) = rw (c.in_ok-hyp_root.ensures.tree, c.hyp_range-hyp_pages.ensures, c.hyp_entry.ensures, c.carve-carve.ensures.value) at c.in_ok-hyp_need.ensures in
+    let host : c.in_ok-host_need.host_need ≡ host_need (layout_with c.args.memory.now c.args.config c.args.depth) = rw (c.host_entry.ensures, c.carve-carve.ensures.value) at c.in_ok-host_need.ensures in
+    let hyp : c.in_ok-hyp_need.hyp_need ≡ hyp_need (layout_with c.args.memory.now c.args.config c.args.depth) = rw (c.hyp_range-hyp_pages.ensures, c.hyp_entry.ensures, c.carve-carve.ensures.value) at c.in_ok-hyp_need.ensures in
     let enough = rw (host, hyp, c.carve-carve.ensures.value) at c.is_enough.ensures in
     (λ e. cc, λ h. sym c.if-not-is_enough.true ∙ enough.1 h)
 
 pub returns-clause-enough : goal.returns-clause-enough
 returns-clause-enough c =
-    let host : c.in_ok-host_need.host_need ≡ host_need (layout_with c.args.memory.now c.args.config c.args.depth) = rw (c.in_ok-host_root.ensures.tree, c.host_entry.ensures, c.carve-carve.ensures.value) at c.in_ok-host_need.ensures in
-    let hyp : c.in_ok-hyp_need.hyp_need ≡ hyp_need (layout_with c.args.memory.now c.args.config c.args.depth) = rw (c.in_ok-hyp_root.ensures.tree, c.hyp_range-hyp_pages.ensures, c.hyp_entry.ensures, c.carve-carve.ensures.value) at c.in_ok-hyp_need.ensures in
+    let host : c.in_ok-host_need.host_need ≡ host_need (layout_with c.args.memory.now c.args.config c.args.depth) = rw (c.host_entry.ensures, c.carve-carve.ensures.value) at c.in_ok-host_need.ensures in
+    let hyp : c.in_ok-hyp_need.hyp_need ≡ hyp_need (layout_with c.args.memory.now c.args.config c.args.depth) = rw (c.hyp_range-hyp_pages.ensures, c.hyp_entry.ensures, c.carve-carve.ensures.value) at c.in_ok-hyp_need.ensures in
     let enough = rw (host, hyp, c.carve-carve.ensures.value) at c.is_enough.ensures in
     (λ e. enough.0 c.if-not-is_enough.false, λ h. refl)
 
 pub returns-clause-shared : goal.returns-clause-shared
 returns-clause-shared c =
     let l : Layout = layout_with c.args.memory.now c.args.config c.args.depth in
-    let host_n : c.in_ok-host_need.host_need ≡ host_need l = rw (c.in_ok-host_root.ensures.tree, c.host_entry.ensures, c.carve-carve.ensures.value) at c.in_ok-host_need.ensures in
-    let hyp_n : c.in_ok-hyp_need.hyp_need ≡ hyp_need l = rw (c.in_ok-hyp_root.ensures.tree, c.hyp_range-hyp_pages.ensures, c.hyp_entry.ensures, c.carve-carve.ensures.value) at c.in_ok-hyp_need.ensures in
+    let host_n : c.in_ok-host_need.host_need ≡ host_need l = rw (c.host_entry.ensures, c.carve-carve.ensures.value) at c.in_ok-host_need.ensures in
+    let hyp_n : c.in_ok-hyp_need.hyp_need ≡ hyp_need l = rw (c.hyp_range-hyp_pages.ensures, c.hyp_entry.ensures, c.carve-carve.ensures.value) at c.in_ok-hyp_need.ensures in
     let first : c.behind-spare.result.now ≡ spare l = rw (c.as_slice.ensures.value, c.in_ok-frames.ensures, c.carve-carve.ensures.value) at c.behind-spare.ensures in
     let rest : c.behind-rest.result.now ≡ drop (host_need l) (spare l) = rw (first, host_n) at c.behind-rest.ensures in
-    let left : c.in_ok-from_slice.field-0.items ≡ drop (hyp_need l) (drop (host_need l) (spare l)) = rw (c.behind.ensures, rest, hyp_n) at c.in_ok-from_slice.ensures.items in
-    let host : tree_in_lists c.in_ok-host.host.tree ≡ edited l.depth (host_root l) (host_edit l) (spare l) = rw (c.in_ok-host_root.ensures.tree, c.host_entry-2.ensures, first, c.carve-carve.ensures.value) at c.in_ok-host.ensures.tree in
-    let hyp : tree_in_lists c.in_ok-hyp.hyp.tree ≡ edited l.depth (hyp_root l) (hyp_edit l) (drop (host_need l) (spare l)) = rw (c.in_ok-hyp_root.ensures.tree, c.hyp_range-hyp_pages.ensures, c.hyp_entry-2.ensures, rest, c.carve-carve.ensures.value) at c.in_ok-hyp.ensures.tree in
-    booted l (record { host = c.in_ok-host.host.tree; hyp = c.in_ok-hyp.hyp.tree; free = c.in_ok-from_slice.field-0; rows = c.new.result }) host hyp left c.new.ensures
+    let left : c.in_ok-free.free.items ≡ drop (hyp_need l) (drop (host_need l) (spare l)) = rw (c.behind.ensures, rest, hyp_n) at c.in_ok-free.ensures.items in
+    let host : tree_in_lists c.in_ok-host.host ≡ edited l.depth (host_root l) (host_edit l) (spare l) = rw (c.host_entry-2.ensures, first, c.carve-carve.ensures.value) at c.in_ok-host.ensures.tree in
+    let hyp : tree_in_lists c.in_ok-hyp.hyp ≡ edited l.depth (hyp_root l) (hyp_edit l) (drop (host_need l) (spare l)) = rw (c.hyp_range-hyp_pages.ensures, c.hyp_entry-2.ensures, rest, c.carve-carve.ensures.value) at c.in_ok-hyp.ensures.tree in
+    booted l (record { host = c.in_ok-host.host; hyp = c.in_ok-hyp.hyp; free = c.in_ok-free.free; rows = c.new.result }) host hyp left c.new.ensures
 
 pub returns-clause-kept : goal.returns-clause-kept
 returns-clause-kept c = record {
@@ -101,3 +90,63 @@ returns-clause-kept c = record {
   hyp = c.in_ok-hyp.ensures.kept;
   rows = subst (AreInReach HasPageBelow) (sym c.new.ensures) tt;
 }
+
+pub returns-in_err-host_need-clause-enough : goal.returns-in_err-host_need-clause-enough
+returns-in_err-host_need-clause-enough c = IfOk-from_err _ _ c.from_residual.ensures.0
+
+pub returns-in_err-host_need-clause-shared : goal.returns-in_err-host_need-clause-shared
+returns-in_err-host_need-clause-shared c = IfOk-from_err _ _ c.from_residual.ensures.0
+
+pub returns-in_err-host_need-clause-kept : goal.returns-in_err-host_need-clause-kept
+returns-in_err-host_need-clause-kept c = IfOk-from_err _ _ c.from_residual.ensures.0
+
+pub returns-in_err-hyp_need-clause-enough : goal.returns-in_err-hyp_need-clause-enough
+returns-in_err-hyp_need-clause-enough c = IfOk-from_err _ _ c.from_residual-in_err-hyp_need.ensures.0
+
+pub returns-in_err-hyp_need-clause-shared : goal.returns-in_err-hyp_need-clause-shared
+returns-in_err-hyp_need-clause-shared c = IfOk-from_err _ _ c.from_residual-in_err-hyp_need.ensures.0
+
+pub returns-in_err-hyp_need-clause-kept : goal.returns-in_err-hyp_need-clause-kept
+returns-in_err-hyp_need-clause-kept c = IfOk-from_err _ _ c.from_residual-in_err-hyp_need.ensures.0
+
+pub returns-in_err-frames-clause-enough : goal.returns-in_err-frames-clause-enough
+returns-in_err-frames-clause-enough c = IfOk-from_err _ _ c.from_residual-in_err-frames.ensures.0
+
+pub returns-in_err-frames-clause-shared : goal.returns-in_err-frames-clause-shared
+returns-in_err-frames-clause-shared c = IfOk-from_err _ _ c.from_residual-in_err-frames.ensures.0
+
+pub returns-in_err-frames-clause-kept : goal.returns-in_err-frames-clause-kept
+returns-in_err-frames-clause-kept c = IfOk-from_err _ _ c.from_residual-in_err-frames.ensures.0
+
+pub returns-in_err-free-clause-enough : goal.returns-in_err-free-clause-enough
+returns-in_err-free-clause-enough c = IfOk-from_err _ _ c.from_residual-in_err-free.ensures.0
+
+pub returns-in_err-free-clause-shared : goal.returns-in_err-free-clause-shared
+returns-in_err-free-clause-shared c = IfOk-from_err _ _ c.from_residual-in_err-free.ensures.0
+
+pub returns-in_err-free-clause-kept : goal.returns-in_err-free-clause-kept
+returns-in_err-free-clause-kept c = IfOk-from_err _ _ c.from_residual-in_err-free.ensures.0
+
+pub returns-in_err-host-clause-enough : goal.returns-in_err-host-clause-enough
+returns-in_err-host-clause-enough c = IfOk-from_err _ _ c.from_residual-in_err-host.ensures.0
+
+pub returns-in_err-host-clause-shared : goal.returns-in_err-host-clause-shared
+returns-in_err-host-clause-shared c = IfOk-from_err _ _ c.from_residual-in_err-host.ensures.0
+
+pub returns-in_err-host-clause-kept : goal.returns-in_err-host-clause-kept
+returns-in_err-host-clause-kept c = IfOk-from_err _ _ c.from_residual-in_err-host.ensures.0
+
+pub returns-in_err-hyp-clause-enough : goal.returns-in_err-hyp-clause-enough
+returns-in_err-hyp-clause-enough c = IfOk-from_err _ _ c.from_residual-in_err-hyp.ensures.0
+
+pub returns-in_err-hyp-clause-shared : goal.returns-in_err-hyp-clause-shared
+returns-in_err-hyp-clause-shared c = IfOk-from_err _ _ c.from_residual-in_err-hyp.ensures.0
+
+pub returns-in_err-hyp-clause-kept : goal.returns-in_err-hyp-clause-kept
+returns-in_err-hyp-clause-kept c = IfOk-from_err _ _ c.from_residual-in_err-hyp.ensures.0
+
+pub returns-then-not-is_enough-clause-shared : goal.returns-then-not-is_enough-clause-shared
+returns-then-not-is_enough-clause-shared c = tt
+
+pub returns-then-not-is_enough-clause-kept : goal.returns-then-not-is_enough-clause-kept
+returns-then-not-is_enough-clause-kept c = tt

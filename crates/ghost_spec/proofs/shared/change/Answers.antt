@@ -1,5 +1,6 @@
 use Rattle.std.proofs.Common.{◌≡◌, ◌+◌, drop, ◌∙◌, sym, refl}
 use Rattle.std.proofs.lemmas.List.{drop-drop}
+use Rattle.std.proofs.lemmas.Result.{IfOk-from_err}
 use Rattle.page_state.specs.Tables.{edited, need, returned}
 use Rattle.reference_model.specs.Changes.{edit_of}
 use Rattle.ghost_trees.specs.Trees.{tree_in_lists}
@@ -36,3 +37,36 @@ returns-in_err-give_all-clause-kept c = record { host = rw c.replace-was_host.en
 
 pub returns-in_err-give_all-2-clause-kept : goal.returns-in_err-give_all-2-clause-kept
 returns-in_err-give_all-2-clause-kept c = record { host = rw c.replace-was_host.ensures.after c.none.ensures.kept; hyp = rw c.replace-was_hyp.ensures.after c.none-2.ensures.kept; rows = c.requires.kept.rows }
+
+pub returns-in_err-host-clause-after : goal.returns-in_err-host-clause-after
+returns-in_err-host-clause-after c = IfOk-from_err _ _ c.from_residual.ensures.0
+
+pub returns-in_err-host-clause-rows : goal.returns-in_err-host-clause-rows
+returns-in_err-host-clause-rows c = refl
+
+pub returns-in_err-hyp-clause-after : goal.returns-in_err-hyp-clause-after
+returns-in_err-hyp-clause-after c = IfOk-from_err _ _ c.from_residual-in_err-hyp.ensures.0
+
+pub returns-in_err-hyp-clause-rows : goal.returns-in_err-hyp-clause-rows
+returns-in_err-hyp-clause-rows c = refl
+
+pub returns-in_err-left-clause-after : goal.returns-in_err-left-clause-after
+returns-in_err-left-clause-after c = IfOk-from_err _ _ c.from_residual-in_err-left.ensures.0
+
+pub returns-in_err-left-clause-rows : goal.returns-in_err-left-clause-rows
+returns-in_err-left-clause-rows c = refl
+
+pub returns-in_err-give_all-clause-after : goal.returns-in_err-give_all-clause-after
+returns-in_err-give_all-clause-after c = IfOk-from_err _ _ c.from_residual-in_err-give_all.ensures.0
+
+pub returns-in_err-give_all-clause-rows : goal.returns-in_err-give_all-clause-rows
+returns-in_err-give_all-clause-rows c = refl
+
+pub returns-in_err-give_all-2-clause-after : goal.returns-in_err-give_all-2-clause-after
+returns-in_err-give_all-2-clause-after c = IfOk-from_err _ _ c.from_residual-in_err-give_all-2.ensures.0
+
+pub returns-in_err-give_all-2-clause-rows : goal.returns-in_err-give_all-2-clause-rows
+returns-in_err-give_all-2-clause-rows c = refl
+
+pub returns-clause-rows : goal.returns-clause-rows
+returns-clause-rows c = refl

@@ -1,4 +1,4 @@
-use Rattle.std.proofs.Common.{refl, ◌≡◌, ◌==◌, false, List, ◌∷◌, [], map, ap, sym, ◌∙◌, subst}
+use Rattle.std.proofs.Common.{arith, get_or, refl, ◌≡◌, ◌==◌, false, List, ◌∷◌, [], map, ap, sym, ◌∙◌, subst}
 use Rattle.guest_steps.specs.declared.parts.SharedPart.{SharedPart}
 use Rattle.guest_steps.specs.Lent.{one, with_call}
 use Rattle.guest_steps.specs.Logs.{StoredCalls}
@@ -44,3 +44,9 @@ returns-then-shared-ne1-clause-rows g c = refl
 
 pub returns-then-shared-ne1-clause-depth : goal.returns-then-shared-ne1-clause-depth
 returns-then-shared-ne1-clause-depth g c = refl
+
+pub bounds-shared-0 : goal.bounds-shared-0
+bounds-shared-0 g c = omega (arith, c.if-shared-ne1.false)
+
+pub invariant_of-part : goal.invariant_of-part
+invariant_of-part g c = let part = get_or c.args.shared.now 0 c.index-shared-0.result in record { apart = part.apart; alike = part.alike }

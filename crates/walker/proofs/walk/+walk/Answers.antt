@@ -1,20 +1,40 @@
-use Rattle.std.proofs.Common.{◌≡◌, ◌≢◌, ℕ, ◌+◌, ◌-◌, ◌*◌, ◌<◌, ◌≤◌, sym, ap, subst, refl, arith, ◌∙◌, length, length-drop}
+use Rattle.std.proofs.Common.{◌≡◌, ◌≢◌, ℕ, ◌+◌, ◌-◌, ◌*◌, ◌<◌, ◌≤◌, sym, ap, subst, refl, arith, ◌∙◌, length, length-drop, drop}
 use Rattle.table_tree.specs.Meaning.{index_at, slot_at, entry_at}
 use Rattle.table_tree.specs.Reading.{count_of}
 use Rattle.table_tree.specs.Stocks.{frames_of}
 use Rattle.table_tree.specs.declared.table.Slot.TheVariants.{Word}
-use Rattle.table_tree.proofs.Slots.{shaped_wide, set_here, set_wide}
+use Rattle.table_tree.proofs.Slots.{shaped_wide, set_here, set_others, set_wide}
 use Rattle.walk_plan.specs.Changes.{IsChange, part}
 use Rattle.walk_plan.specs.inner.Needs.{met, sum_to, table_parts, slot_need}
 use Rattle.walk_plan.specs.inner.Ranks.{gone_parts}
 use Rattle.walk_plan.proofs.Ranges.{part_in, part_is, met_start, met_end, sum_mono, span, change_below}
 use Rattle.walk_plan.proofs.Looks.{ends_start, ends_next, ends_end, whole_parts, whole_edges, child_reads, some_part}
-use Rattle.walker.specs.inner.Steps.{IsOpening}
+use Rattle.walker.specs.inner.Steps.{IsReady, IsOpening}
 use Rattle.walker.proofs.Maps.{start_map, end_map, next_map}
-use Rattle.walker.proofs.Slotted.{IsGrown, all_spare, spent_map, spent_kept, spent_uses, spent_freed, spent_tables, back_kept, back_uses, back_freed, back_tables}
+use Rattle.walker.proofs.Slotted.{IsGrown, all_spare, back_map, spent_map, spent_kept, spent_uses, spent_freed, spent_tables, back_kept, back_uses, back_freed, back_tables}
 use Rattle.walker.proofs.Walked.{blank_entry, need_next, gone_next, kept_start, kept_next, kept_end, spare_next, taken_next}
+use Rattle.walker.proofs.Writes.{written_other, put_other, put_stand, word_map, word_kept, word_uses}
 use Rattle.walker.proofs.walk.+walk.Goals as goal
+use Rattle.walker.proofs.walk.+walk.Goals.{set_slot-After-is_spent}
 use Rattle.walker.proofs.Opened.{false_true}
+
+-- a table has a level below it where a child is opened
+one_less : (g : _) (t : _) (c : set_slot-After-is_spent g t) → c.args.depth - 1 + 1 ≡ c.args.depth
+one_less g t c = let k : 1 ≤ c.args.depth = (c.in-Opening.ensures.found.0).deep in omega arith
+
+is_ready : (g : _) (t : _) (c : set_slot-After-is_spent g t) → IsReady (c.args.depth - 1 + 1) (c.args.depth - 1) c.args.i c.args.table.now c.opened-child.result.value (frames_of c.args.spare.now) (frames_of c.opened-child.new.spare) c.args.change
+is_ready g t c = c.opened-child.ensures.ready c.args.change (subst (λ m. IsChange m c.args.change) (sym (one_less g t c)) c.requires.change_in) (subst (λ m. IsOpening m (slot_at c.args.table.now c.args.i) c.args.change) (sym (one_less g t c)) (c.in-Opening.ensures.found.0))
+
+is_grown : (g : _) (t : _) (c : set_slot-After-is_spent g t) → IsGrown (c.args.depth - 1) c.opened-child.result.value c.set_all.new.table c.args.change (frames_of c.opened-child.new.spare) (frames_of c.set_all.new.spare)
+is_grown g t c = record {
+  frame = rw c.deref_mut.ensures.value at c.set_all.ensures.frame;
+  shape = c.set_all.ensures.shape;
+  tight = c.set_all.ensures.tight;
+  map = rw c.deref_mut.ensures.value at c.set_all.ensures.map;
+  kept = rw c.deref_mut.ensures.value at c.set_all.ensures.kept;
+  spare = rw c.deref_mut.ensures.value at c.set_all.ensures.spare;
+  uses = rw c.deref_mut.ensures.value at c.set_all.ensures.uses;
+}
 
 pub set_slot-put-requires-clause-wide : goal.set_slot-put-requires-clause-wide
 set_slot-put-requires-clause-wide g t c = shaped_wide c.args.depth c.args.table.now c.requires.shape
@@ -38,92 +58,37 @@ set_slot-attach-requires-clause-holds g t c = (0, set_here c.args.table.now c.op
 pub set_slot-returns-then-is_spent-clause-map : goal.set_slot-returns-then-is_spent-clause-map
 set_slot-returns-then-is_spent-clause-map g t c =
     let n = c.args.depth in
-    let opening = c.in-Opening.ensures.found.0 in
-    let o : n - 1 + 1 ≡ n = let k : 1 ≤ n = opening.deep in omega arith in
-    let opened = c.opened-child.ensures in
-    let ready = opened.ready c.args.change (subst (λ m. IsChange m c.args.change) (sym o) c.requires.change_in) (subst (λ m. IsOpening m (slot_at c.args.table.now c.args.i) c.args.change) (sym o) opening) in
-    let grown : IsGrown (n - 1) c.opened-child.result.value c.set_all.new.table c.args.change (frames_of c.opened-child.new.spare) (frames_of c.set_all.new.spare) = record {
-      frame = rw c.deref_mut.ensures.value at c.set_all.ensures.frame;
-      shape = c.set_all.ensures.shape;
-      tight = c.set_all.ensures.tight;
-      map = rw c.deref_mut.ensures.value at c.set_all.ensures.map;
-      kept = rw c.deref_mut.ensures.value at c.set_all.ensures.kept;
-      spare = rw c.deref_mut.ensures.value at c.set_all.ensures.spare;
-      uses = rw c.deref_mut.ensures.value at c.set_all.ensures.uses;
-    } in
-    rw o at (spent_map (n - 1) c.args.i c.args.table.now c.opened-child.new.table c.opened-child.result.value c.set_all.new.table c.args.change (frames_of c.args.spare.now) (frames_of c.opened-child.new.spare) (frames_of c.set_all.new.spare) opened ready grown c.push.ensures.tree c.requires.index_in (shaped_wide c.args.depth c.args.table.now c.requires.shape))
+    let at = (goal.at.set_slot-returns-then-is_spent-clause-map g t c).After-is_spent in
+    let o = one_less g t at in
+    rw o at (spent_map (n - 1) c.args.i c.args.table.now c.opened-child.new.table c.opened-child.result.value c.set_all.new.table c.args.change (frames_of c.args.spare.now) (frames_of c.opened-child.new.spare) (frames_of c.set_all.new.spare) c.opened-child.ensures (is_ready g t at) (is_grown g t at) c.push.ensures.tree c.requires.index_in (shaped_wide c.args.depth c.args.table.now c.requires.shape))
 
 pub set_slot-returns-then-is_spent-clause-kept : goal.set_slot-returns-then-is_spent-clause-kept
 set_slot-returns-then-is_spent-clause-kept g t c =
     let n = c.args.depth in
-    let opening = c.in-Opening.ensures.found.0 in
-    let o : n - 1 + 1 ≡ n = let k : 1 ≤ n = opening.deep in omega arith in
-    let opened = c.opened-child.ensures in
-    let ready = opened.ready c.args.change (subst (λ m. IsChange m c.args.change) (sym o) c.requires.change_in) (subst (λ m. IsOpening m (slot_at c.args.table.now c.args.i) c.args.change) (sym o) opening) in
-    let grown : IsGrown (n - 1) c.opened-child.result.value c.set_all.new.table c.args.change (frames_of c.opened-child.new.spare) (frames_of c.set_all.new.spare) = record {
-      frame = rw c.deref_mut.ensures.value at c.set_all.ensures.frame;
-      shape = c.set_all.ensures.shape;
-      tight = c.set_all.ensures.tight;
-      map = rw c.deref_mut.ensures.value at c.set_all.ensures.map;
-      kept = rw c.deref_mut.ensures.value at c.set_all.ensures.kept;
-      spare = rw c.deref_mut.ensures.value at c.set_all.ensures.spare;
-      uses = rw c.deref_mut.ensures.value at c.set_all.ensures.uses;
-    } in
-    rw o at (spent_kept (n - 1) c.args.i c.args.table.now c.opened-child.new.table c.opened-child.result.value c.set_all.new.table c.args.change (frames_of c.args.spare.now) (frames_of c.opened-child.new.spare) (frames_of c.set_all.new.spare) opened ready grown c.requires.index_in (shaped_wide c.args.depth c.args.table.now c.requires.shape))
+    let at = (goal.at.set_slot-returns-then-is_spent-clause-kept g t c).After-is_spent in
+    let o = one_less g t at in
+    rw o at (spent_kept (n - 1) c.args.i c.args.table.now c.opened-child.new.table c.opened-child.result.value c.set_all.new.table c.args.change (frames_of c.args.spare.now) (frames_of c.opened-child.new.spare) (frames_of c.set_all.new.spare) c.opened-child.ensures (is_ready g t at) (is_grown g t at) c.requires.index_in (shaped_wide c.args.depth c.args.table.now c.requires.shape))
 
 pub set_slot-returns-then-is_spent-clause-uses : goal.set_slot-returns-then-is_spent-clause-uses
 set_slot-returns-then-is_spent-clause-uses g t c =
     let n = c.args.depth in
-    let opening = c.in-Opening.ensures.found.0 in
-    let o : n - 1 + 1 ≡ n = let k : 1 ≤ n = opening.deep in omega arith in
-    let opened = c.opened-child.ensures in
-    let ready = opened.ready c.args.change (subst (λ m. IsChange m c.args.change) (sym o) c.requires.change_in) (subst (λ m. IsOpening m (slot_at c.args.table.now c.args.i) c.args.change) (sym o) opening) in
-    let grown : IsGrown (n - 1) c.opened-child.result.value c.set_all.new.table c.args.change (frames_of c.opened-child.new.spare) (frames_of c.set_all.new.spare) = record {
-      frame = rw c.deref_mut.ensures.value at c.set_all.ensures.frame;
-      shape = c.set_all.ensures.shape;
-      tight = c.set_all.ensures.tight;
-      map = rw c.deref_mut.ensures.value at c.set_all.ensures.map;
-      kept = rw c.deref_mut.ensures.value at c.set_all.ensures.kept;
-      spare = rw c.deref_mut.ensures.value at c.set_all.ensures.spare;
-      uses = rw c.deref_mut.ensures.value at c.set_all.ensures.uses;
-    } in
-    rw o at (spent_uses (n - 1) c.args.i c.args.table.now c.opened-child.new.table c.opened-child.result.value c.set_all.new.table c.args.change (frames_of c.args.spare.now) (frames_of c.opened-child.new.spare) (frames_of c.set_all.new.spare) opened ready grown c.push.ensures.tree)
+    let at = (goal.at.set_slot-returns-then-is_spent-clause-uses g t c).After-is_spent in
+    let o = one_less g t at in
+    rw o at (spent_uses (n - 1) c.args.i c.args.table.now c.opened-child.new.table c.opened-child.result.value c.set_all.new.table c.args.change (frames_of c.args.spare.now) (frames_of c.opened-child.new.spare) (frames_of c.set_all.new.spare) c.opened-child.ensures (is_ready g t at) (is_grown g t at) c.push.ensures.tree)
 
 pub set_slot-returns-then-is_spent-clause-freed : goal.set_slot-returns-then-is_spent-clause-freed
 set_slot-returns-then-is_spent-clause-freed g t c f =
     let n = c.args.depth in
-    let opening = c.in-Opening.ensures.found.0 in
-    let o : n - 1 + 1 ≡ n = let k : 1 ≤ n = opening.deep in omega arith in
-    let opened = c.opened-child.ensures in
-    let ready = opened.ready c.args.change (subst (λ m. IsChange m c.args.change) (sym o) c.requires.change_in) (subst (λ m. IsOpening m (slot_at c.args.table.now c.args.i) c.args.change) (sym o) opening) in
-    let grown : IsGrown (n - 1) c.opened-child.result.value c.set_all.new.table c.args.change (frames_of c.opened-child.new.spare) (frames_of c.set_all.new.spare) = record {
-      frame = rw c.deref_mut.ensures.value at c.set_all.ensures.frame;
-      shape = c.set_all.ensures.shape;
-      tight = c.set_all.ensures.tight;
-      map = rw c.deref_mut.ensures.value at c.set_all.ensures.map;
-      kept = rw c.deref_mut.ensures.value at c.set_all.ensures.kept;
-      spare = rw c.deref_mut.ensures.value at c.set_all.ensures.spare;
-      uses = rw c.deref_mut.ensures.value at c.set_all.ensures.uses;
-    } in
-    rw o at (spent_freed (n - 1) c.args.i c.args.table.now c.opened-child.new.table c.opened-child.result.value c.set_all.new.table c.args.change (frames_of c.args.spare.now) (frames_of c.opened-child.new.spare) (frames_of c.set_all.new.spare) opened ready grown c.push.ensures.tree f (frames_of c.args.freed.now) (frames_of c.set_all.new.freed) (frames_of c.push.new.self) (rw c.deref_mut.ensures.value at (c.set_all.ensures.freed f)) c.push.ensures.frames)
+    let at = (goal.at.set_slot-returns-then-is_spent-clause-freed g t c).After-is_spent in
+    let o = one_less g t at in
+    rw o at (spent_freed (n - 1) c.args.i c.args.table.now c.opened-child.new.table c.opened-child.result.value c.set_all.new.table c.args.change (frames_of c.args.spare.now) (frames_of c.opened-child.new.spare) (frames_of c.set_all.new.spare) c.opened-child.ensures (is_ready g t at) (is_grown g t at) c.push.ensures.tree f (frames_of c.args.freed.now) (frames_of c.set_all.new.freed) (frames_of c.push.new.self) (rw c.deref_mut.ensures.value at (c.set_all.ensures.freed f)) c.push.ensures.frames)
 
 pub set_slot-returns-then-is_spent-clause-tables : goal.set_slot-returns-then-is_spent-clause-tables
 set_slot-returns-then-is_spent-clause-tables g t c =
     let n = c.args.depth in
-    let opening = c.in-Opening.ensures.found.0 in
-    let o : n - 1 + 1 ≡ n = let k : 1 ≤ n = opening.deep in omega arith in
-    let opened = c.opened-child.ensures in
-    let ready = opened.ready c.args.change (subst (λ m. IsChange m c.args.change) (sym o) c.requires.change_in) (subst (λ m. IsOpening m (slot_at c.args.table.now c.args.i) c.args.change) (sym o) opening) in
-    let grown : IsGrown (n - 1) c.opened-child.result.value c.set_all.new.table c.args.change (frames_of c.opened-child.new.spare) (frames_of c.set_all.new.spare) = record {
-      frame = rw c.deref_mut.ensures.value at c.set_all.ensures.frame;
-      shape = c.set_all.ensures.shape;
-      tight = c.set_all.ensures.tight;
-      map = rw c.deref_mut.ensures.value at c.set_all.ensures.map;
-      kept = rw c.deref_mut.ensures.value at c.set_all.ensures.kept;
-      spare = rw c.deref_mut.ensures.value at c.set_all.ensures.spare;
-      uses = rw c.deref_mut.ensures.value at c.set_all.ensures.uses;
-    } in
-    rw o at (spent_tables (n - 1) c.args.i c.args.table.now c.opened-child.new.table c.opened-child.result.value c.set_all.new.table c.args.change (frames_of c.args.spare.now) (frames_of c.opened-child.new.spare) (frames_of c.set_all.new.spare) opened ready grown c.push.ensures.tree (length (frames_of c.args.freed.now)) (length (frames_of c.set_all.new.freed)) (length (frames_of c.push.new.self)) (rw c.deref_mut.ensures.value at c.set_all.ensures.tables) (ap length c.push.ensures.frames))
+    let at = (goal.at.set_slot-returns-then-is_spent-clause-tables g t c).After-is_spent in
+    let o = one_less g t at in
+    rw o at (spent_tables (n - 1) c.args.i c.args.table.now c.opened-child.new.table c.opened-child.result.value c.set_all.new.table c.args.change (frames_of c.args.spare.now) (frames_of c.opened-child.new.spare) (frames_of c.set_all.new.spare) c.opened-child.ensures (is_ready g t at) (is_grown g t at) c.push.ensures.tree (length (frames_of c.args.freed.now)) (length (frames_of c.set_all.new.freed)) (length (frames_of c.push.new.self)) (rw c.deref_mut.ensures.value at c.set_all.ensures.tables) (ap length c.push.ensures.frames))
 
 pub set_slot-returns-then-is_spent-clause-reads : goal.set_slot-returns-then-is_spent-clause-reads
 set_slot-returns-then-is_spent-clause-reads g t c =
@@ -134,74 +99,30 @@ set_slot-returns-then-is_spent-clause-reads g t c =
 pub set_slot-returns-else-is_spent-clause-kept : goal.set_slot-returns-else-is_spent-clause-kept
 set_slot-returns-else-is_spent-clause-kept g t c =
     let n = c.args.depth in
-    let opening = c.in-Opening.ensures.found.0 in
-    let o : n - 1 + 1 ≡ n = let k : 1 ≤ n = opening.deep in omega arith in
-    let opened = c.opened-child.ensures in
-    let ready = opened.ready c.args.change (subst (λ m. IsChange m c.args.change) (sym o) c.requires.change_in) (subst (λ m. IsOpening m (slot_at c.args.table.now c.args.i) c.args.change) (sym o) opening) in
-    let grown : IsGrown (n - 1) c.opened-child.result.value c.set_all.new.table c.args.change (frames_of c.opened-child.new.spare) (frames_of c.set_all.new.spare) = record {
-      frame = rw c.deref_mut.ensures.value at c.set_all.ensures.frame;
-      shape = c.set_all.ensures.shape;
-      tight = c.set_all.ensures.tight;
-      map = rw c.deref_mut.ensures.value at c.set_all.ensures.map;
-      kept = rw c.deref_mut.ensures.value at c.set_all.ensures.kept;
-      spare = rw c.deref_mut.ensures.value at c.set_all.ensures.spare;
-      uses = rw c.deref_mut.ensures.value at c.set_all.ensures.uses;
-    } in
-    rw o at (back_kept (n - 1) c.args.i c.args.table.now c.opened-child.new.table c.opened-child.result.value c.set_all.new.table c.args.change (frames_of c.args.spare.now) (frames_of c.opened-child.new.spare) (frames_of c.set_all.new.spare) opened ready grown c.attach.new.self c.attach.ensures.tree (λ blank. false_true c.is_spent.result (c.is_spent.ensures.blank.1 (rw c.deref.ensures blank)) c.if-is_spent.false))
+    let at = (goal.at.set_slot-returns-else-is_spent-clause-kept g t c).After-is_spent in
+    let o = one_less g t at in
+    rw o at (back_kept (n - 1) c.args.i c.args.table.now c.opened-child.new.table c.opened-child.result.value c.set_all.new.table c.args.change (frames_of c.args.spare.now) (frames_of c.opened-child.new.spare) (frames_of c.set_all.new.spare) c.opened-child.ensures (is_ready g t at) (is_grown g t at) c.attach.new.self c.attach.ensures.tree (λ blank. false_true c.is_spent.result (c.is_spent.ensures.blank.1 (rw c.deref.ensures blank)) c.if-is_spent.false))
 
 pub set_slot-returns-else-is_spent-clause-uses : goal.set_slot-returns-else-is_spent-clause-uses
 set_slot-returns-else-is_spent-clause-uses g t c =
     let n = c.args.depth in
-    let opening = c.in-Opening.ensures.found.0 in
-    let o : n - 1 + 1 ≡ n = let k : 1 ≤ n = opening.deep in omega arith in
-    let opened = c.opened-child.ensures in
-    let ready = opened.ready c.args.change (subst (λ m. IsChange m c.args.change) (sym o) c.requires.change_in) (subst (λ m. IsOpening m (slot_at c.args.table.now c.args.i) c.args.change) (sym o) opening) in
-    let grown : IsGrown (n - 1) c.opened-child.result.value c.set_all.new.table c.args.change (frames_of c.opened-child.new.spare) (frames_of c.set_all.new.spare) = record {
-      frame = rw c.deref_mut.ensures.value at c.set_all.ensures.frame;
-      shape = c.set_all.ensures.shape;
-      tight = c.set_all.ensures.tight;
-      map = rw c.deref_mut.ensures.value at c.set_all.ensures.map;
-      kept = rw c.deref_mut.ensures.value at c.set_all.ensures.kept;
-      spare = rw c.deref_mut.ensures.value at c.set_all.ensures.spare;
-      uses = rw c.deref_mut.ensures.value at c.set_all.ensures.uses;
-    } in
-    rw o at (back_uses (n - 1) c.args.i c.args.table.now c.opened-child.new.table c.opened-child.result.value c.set_all.new.table c.args.change (frames_of c.args.spare.now) (frames_of c.opened-child.new.spare) (frames_of c.set_all.new.spare) opened ready grown c.attach.new.self c.attach.ensures.tree (λ blank. false_true c.is_spent.result (c.is_spent.ensures.blank.1 (rw c.deref.ensures blank)) c.if-is_spent.false))
+    let at = (goal.at.set_slot-returns-else-is_spent-clause-uses g t c).After-is_spent in
+    let o = one_less g t at in
+    rw o at (back_uses (n - 1) c.args.i c.args.table.now c.opened-child.new.table c.opened-child.result.value c.set_all.new.table c.args.change (frames_of c.args.spare.now) (frames_of c.opened-child.new.spare) (frames_of c.set_all.new.spare) c.opened-child.ensures (is_ready g t at) (is_grown g t at) c.attach.new.self c.attach.ensures.tree (λ blank. false_true c.is_spent.result (c.is_spent.ensures.blank.1 (rw c.deref.ensures blank)) c.if-is_spent.false))
 
 pub set_slot-returns-else-is_spent-clause-freed : goal.set_slot-returns-else-is_spent-clause-freed
 set_slot-returns-else-is_spent-clause-freed g t c f =
     let n = c.args.depth in
-    let opening = c.in-Opening.ensures.found.0 in
-    let o : n - 1 + 1 ≡ n = let k : 1 ≤ n = opening.deep in omega arith in
-    let opened = c.opened-child.ensures in
-    let ready = opened.ready c.args.change (subst (λ m. IsChange m c.args.change) (sym o) c.requires.change_in) (subst (λ m. IsOpening m (slot_at c.args.table.now c.args.i) c.args.change) (sym o) opening) in
-    let grown : IsGrown (n - 1) c.opened-child.result.value c.set_all.new.table c.args.change (frames_of c.opened-child.new.spare) (frames_of c.set_all.new.spare) = record {
-      frame = rw c.deref_mut.ensures.value at c.set_all.ensures.frame;
-      shape = c.set_all.ensures.shape;
-      tight = c.set_all.ensures.tight;
-      map = rw c.deref_mut.ensures.value at c.set_all.ensures.map;
-      kept = rw c.deref_mut.ensures.value at c.set_all.ensures.kept;
-      spare = rw c.deref_mut.ensures.value at c.set_all.ensures.spare;
-      uses = rw c.deref_mut.ensures.value at c.set_all.ensures.uses;
-    } in
-    rw o at (back_freed (n - 1) c.args.i c.args.table.now c.opened-child.new.table c.opened-child.result.value c.set_all.new.table c.args.change (frames_of c.args.spare.now) (frames_of c.opened-child.new.spare) (frames_of c.set_all.new.spare) opened ready grown c.attach.new.self c.attach.ensures.tree (λ blank. false_true c.is_spent.result (c.is_spent.ensures.blank.1 (rw c.deref.ensures blank)) c.if-is_spent.false) f (frames_of c.args.freed.now) (frames_of c.set_all.new.freed) (rw c.deref_mut.ensures.value at (c.set_all.ensures.freed f)))
+    let at = (goal.at.set_slot-returns-else-is_spent-clause-freed g t c).After-is_spent in
+    let o = one_less g t at in
+    rw o at (back_freed (n - 1) c.args.i c.args.table.now c.opened-child.new.table c.opened-child.result.value c.set_all.new.table c.args.change (frames_of c.args.spare.now) (frames_of c.opened-child.new.spare) (frames_of c.set_all.new.spare) c.opened-child.ensures (is_ready g t at) (is_grown g t at) c.attach.new.self c.attach.ensures.tree (λ blank. false_true c.is_spent.result (c.is_spent.ensures.blank.1 (rw c.deref.ensures blank)) c.if-is_spent.false) f (frames_of c.args.freed.now) (frames_of c.set_all.new.freed) (rw c.deref_mut.ensures.value at (c.set_all.ensures.freed f)))
 
 pub set_slot-returns-else-is_spent-clause-tables : goal.set_slot-returns-else-is_spent-clause-tables
 set_slot-returns-else-is_spent-clause-tables g t c =
     let n = c.args.depth in
-    let opening = c.in-Opening.ensures.found.0 in
-    let o : n - 1 + 1 ≡ n = let k : 1 ≤ n = opening.deep in omega arith in
-    let opened = c.opened-child.ensures in
-    let ready = opened.ready c.args.change (subst (λ m. IsChange m c.args.change) (sym o) c.requires.change_in) (subst (λ m. IsOpening m (slot_at c.args.table.now c.args.i) c.args.change) (sym o) opening) in
-    let grown : IsGrown (n - 1) c.opened-child.result.value c.set_all.new.table c.args.change (frames_of c.opened-child.new.spare) (frames_of c.set_all.new.spare) = record {
-      frame = rw c.deref_mut.ensures.value at c.set_all.ensures.frame;
-      shape = c.set_all.ensures.shape;
-      tight = c.set_all.ensures.tight;
-      map = rw c.deref_mut.ensures.value at c.set_all.ensures.map;
-      kept = rw c.deref_mut.ensures.value at c.set_all.ensures.kept;
-      spare = rw c.deref_mut.ensures.value at c.set_all.ensures.spare;
-      uses = rw c.deref_mut.ensures.value at c.set_all.ensures.uses;
-    } in
-    rw o at (back_tables (n - 1) c.args.i c.args.table.now c.opened-child.new.table c.opened-child.result.value c.set_all.new.table c.args.change (frames_of c.args.spare.now) (frames_of c.opened-child.new.spare) (frames_of c.set_all.new.spare) opened ready grown c.attach.new.self c.attach.ensures.tree (λ blank. false_true c.is_spent.result (c.is_spent.ensures.blank.1 (rw c.deref.ensures blank)) c.if-is_spent.false) (length (frames_of c.args.freed.now)) (length (frames_of c.set_all.new.freed)) (rw c.deref_mut.ensures.value at c.set_all.ensures.tables))
+    let at = (goal.at.set_slot-returns-else-is_spent-clause-tables g t c).After-is_spent in
+    let o = one_less g t at in
+    rw o at (back_tables (n - 1) c.args.i c.args.table.now c.opened-child.new.table c.opened-child.result.value c.set_all.new.table c.args.change (frames_of c.args.spare.now) (frames_of c.opened-child.new.spare) (frames_of c.set_all.new.spare) c.opened-child.ensures (is_ready g t at) (is_grown g t at) c.attach.new.self c.attach.ensures.tree (λ blank. false_true c.is_spent.result (c.is_spent.ensures.blank.1 (rw c.deref.ensures blank)) c.if-is_spent.false) (length (frames_of c.args.freed.now)) (length (frames_of c.set_all.new.freed)) (rw c.deref_mut.ensures.value at c.set_all.ensures.tables))
 
 pub set_slot-returns-else-is_spent-clause-reads : goal.set_slot-returns-else-is_spent-clause-reads
 set_slot-returns-else-is_spent-clause-reads g t c =
@@ -212,38 +133,16 @@ set_slot-returns-else-is_spent-clause-reads g t c =
 pub set_slot-returns-then-is_spent-clause-spare : goal.set_slot-returns-then-is_spent-clause-spare
 set_slot-returns-then-is_spent-clause-spare g t c =
     let n = c.args.depth in
-    let opening = c.in-Opening.ensures.found.0 in
-    let o : n - 1 + 1 ≡ n = let k : 1 ≤ n = opening.deep in omega arith in
-    let opened = c.opened-child.ensures in
-    let ready = opened.ready c.args.change (subst (λ m. IsChange m c.args.change) (sym o) c.requires.change_in) (subst (λ m. IsOpening m (slot_at c.args.table.now c.args.i) c.args.change) (sym o) opening) in
-    let grown : IsGrown (n - 1) c.opened-child.result.value c.set_all.new.table c.args.change (frames_of c.opened-child.new.spare) (frames_of c.set_all.new.spare) = record {
-      frame = rw c.deref_mut.ensures.value at c.set_all.ensures.frame;
-      shape = c.set_all.ensures.shape;
-      tight = c.set_all.ensures.tight;
-      map = rw c.deref_mut.ensures.value at c.set_all.ensures.map;
-      kept = rw c.deref_mut.ensures.value at c.set_all.ensures.kept;
-      spare = rw c.deref_mut.ensures.value at c.set_all.ensures.spare;
-      uses = rw c.deref_mut.ensures.value at c.set_all.ensures.uses;
-    } in
-    rw o at (all_spare (n - 1) c.args.i c.args.table.now c.opened-child.new.table c.opened-child.result.value c.set_all.new.table c.args.change (frames_of c.args.spare.now) (frames_of c.opened-child.new.spare) (frames_of c.set_all.new.spare) opened ready grown)
+    let at = (goal.at.set_slot-returns-then-is_spent-clause-spare g t c).After-is_spent in
+    let o = one_less g t at in
+    rw o at (all_spare (n - 1) c.args.i c.args.table.now c.opened-child.new.table c.opened-child.result.value c.set_all.new.table c.args.change (frames_of c.args.spare.now) (frames_of c.opened-child.new.spare) (frames_of c.set_all.new.spare) c.opened-child.ensures (is_ready g t at) (is_grown g t at))
 
 pub set_slot-returns-else-is_spent-clause-spare : goal.set_slot-returns-else-is_spent-clause-spare
 set_slot-returns-else-is_spent-clause-spare g t c =
     let n = c.args.depth in
-    let opening = c.in-Opening.ensures.found.0 in
-    let o : n - 1 + 1 ≡ n = let k : 1 ≤ n = opening.deep in omega arith in
-    let opened = c.opened-child.ensures in
-    let ready = opened.ready c.args.change (subst (λ m. IsChange m c.args.change) (sym o) c.requires.change_in) (subst (λ m. IsOpening m (slot_at c.args.table.now c.args.i) c.args.change) (sym o) opening) in
-    let grown : IsGrown (n - 1) c.opened-child.result.value c.set_all.new.table c.args.change (frames_of c.opened-child.new.spare) (frames_of c.set_all.new.spare) = record {
-      frame = rw c.deref_mut.ensures.value at c.set_all.ensures.frame;
-      shape = c.set_all.ensures.shape;
-      tight = c.set_all.ensures.tight;
-      map = rw c.deref_mut.ensures.value at c.set_all.ensures.map;
-      kept = rw c.deref_mut.ensures.value at c.set_all.ensures.kept;
-      spare = rw c.deref_mut.ensures.value at c.set_all.ensures.spare;
-      uses = rw c.deref_mut.ensures.value at c.set_all.ensures.uses;
-    } in
-    rw o at (all_spare (n - 1) c.args.i c.args.table.now c.opened-child.new.table c.opened-child.result.value c.set_all.new.table c.args.change (frames_of c.args.spare.now) (frames_of c.opened-child.new.spare) (frames_of c.set_all.new.spare) opened ready grown)
+    let at = (goal.at.set_slot-returns-else-is_spent-clause-spare g t c).After-is_spent in
+    let o = one_less g t at in
+    rw o at (all_spare (n - 1) c.args.i c.args.table.now c.opened-child.new.table c.opened-child.result.value c.set_all.new.table c.args.change (frames_of c.args.spare.now) (frames_of c.opened-child.new.spare) (frames_of c.set_all.new.spare) c.opened-child.ensures (is_ready g t at) (is_grown g t at))
 
 pub set_all-loop-i-init : goal.set_all-loop-i-init
 set_all-loop-i-init g t c =
@@ -360,3 +259,93 @@ set_all-returns-clause-whole g t c x y =
     let z = whole_edges (1028 * c.args.depth) (c.args.depth + 1) c.args.change x y in
     let w = whole_parts c.args.depth c.loop-i.i c.args.change x y c.loop-i-test.false in
     omega (arith, e.0, e.1, z, w.0, w.1, c.loop-i.invariant.reads)
+
+pub set_slot-returns-in-Word-clause-frame : goal.set_slot-returns-in-Word-clause-frame
+set_slot-returns-in-Word-clause-frame g t c = c.put.ensures.frame
+
+pub set_slot-returns-in-Word-clause-shape : goal.set_slot-returns-in-Word-clause-shape
+set_slot-returns-in-Word-clause-shape g t c = c.put.ensures.tree.shape c.args.depth c.requires.shape c.in-Word.ensures.found.word
+
+pub set_slot-returns-in-Word-clause-tight : goal.set_slot-returns-in-Word-clause-tight
+set_slot-returns-in-Word-clause-tight g t c = c.put.ensures.tree.tight c.args.depth c.requires.tight
+
+pub set_slot-returns-in-Word-clause-others : goal.set_slot-returns-in-Word-clause-others
+set_slot-returns-in-Word-clause-others g t c j n = set_others c.args.table.now c.put.new.self c.args.i j (Word c.in-Word.word) c.put.ensures.slots n
+
+pub set_slot-returns-in-Word-clause-map : goal.set_slot-returns-in-Word-clause-map
+set_slot-returns-in-Word-clause-map g t c =
+    word_map c.args.depth c.args.i c.in-Word.word c.args.change c.args.table.now c.put.new.self c.put.ensures.tree c.in-Word.ensures.found
+
+pub set_slot-returns-in-Word-clause-other : goal.set_slot-returns-in-Word-clause-other
+set_slot-returns-in-Word-clause-other g t c = written_other c.args.depth c.args.i c.in-Word.word c.args.table.now c.put.new.self c.put.ensures.tree
+
+pub set_slot-returns-in-Word-clause-kept : goal.set_slot-returns-in-Word-clause-kept
+set_slot-returns-in-Word-clause-kept g t c =
+    word_kept c.args.depth c.args.i c.in-Word.word c.args.change c.args.table.now c.put.new.self c.put.ensures.tree c.in-Word.ensures.found (frames_of c.args.spare.now)
+
+pub set_slot-returns-in-Word-clause-stand : goal.set_slot-returns-in-Word-clause-stand
+set_slot-returns-in-Word-clause-stand g t c low q l x = c.put.ensures.tree.standing c.args.depth low q
+
+pub set_slot-returns-in-Word-clause-spare : goal.set_slot-returns-in-Word-clause-spare
+set_slot-returns-in-Word-clause-spare g t c = ap (λ n. drop n (frames_of c.args.spare.now)) (sym c.in-Word.ensures.found.need)
+
+pub set_slot-returns-in-Word-clause-uses : goal.set_slot-returns-in-Word-clause-uses
+set_slot-returns-in-Word-clause-uses g t c =
+    word_uses c.args.depth c.args.i c.in-Word.word c.args.change c.args.table.now c.put.new.self c.put.ensures.tree c.in-Word.ensures.found (frames_of c.args.spare.now)
+
+pub set_slot-returns-in-Word-clause-freed : goal.set_slot-returns-in-Word-clause-freed
+set_slot-returns-in-Word-clause-freed g t c f = omega (arith, c.in-Word.ensures.found.gone f)
+
+pub set_slot-returns-in-Word-clause-tables : goal.set_slot-returns-in-Word-clause-tables
+set_slot-returns-in-Word-clause-tables g t c = omega (arith, c.put.ensures.tree.tables c.args.depth, c.in-Word.ensures.found.need)
+
+pub set_slot-returns-in-Word-clause-reads : goal.set_slot-returns-in-Word-clause-reads
+set_slot-returns-in-Word-clause-reads g t c = omega (arith, c.look_for.ensures.reads, c.requires.change_in.some)
+
+pub set_slot-returns-then-is_spent-clause-frame : goal.set_slot-returns-then-is_spent-clause-frame
+set_slot-returns-then-is_spent-clause-frame g t c = c.opened-child.ensures.frame
+
+pub set_slot-returns-then-is_spent-clause-shape : goal.set_slot-returns-then-is_spent-clause-shape
+set_slot-returns-then-is_spent-clause-shape g t c = rw (one_less g t (goal.at.set_slot-returns-then-is_spent-clause-shape g t c).After-is_spent) at c.opened-child.ensures.shape
+
+pub set_slot-returns-then-is_spent-clause-tight : goal.set_slot-returns-then-is_spent-clause-tight
+set_slot-returns-then-is_spent-clause-tight g t c = rw (one_less g t (goal.at.set_slot-returns-then-is_spent-clause-tight g t c).After-is_spent) at c.opened-child.ensures.tight
+
+pub set_slot-returns-then-is_spent-clause-others : goal.set_slot-returns-then-is_spent-clause-others
+set_slot-returns-then-is_spent-clause-others g t c j n = set_others c.args.table.now c.opened-child.new.table c.args.i j (Word 0) c.opened-child.ensures.slots n
+
+pub set_slot-returns-then-is_spent-clause-other : goal.set_slot-returns-then-is_spent-clause-other
+set_slot-returns-then-is_spent-clause-other g t c = rw (one_less g t (goal.at.set_slot-returns-then-is_spent-clause-other g t c).After-is_spent) at c.opened-child.ensures.other
+
+pub set_slot-returns-then-is_spent-clause-stand : goal.set_slot-returns-then-is_spent-clause-stand
+set_slot-returns-then-is_spent-clause-stand g t c = rw (one_less g t (goal.at.set_slot-returns-then-is_spent-clause-stand g t c).After-is_spent) at c.opened-child.ensures.stand
+
+pub set_slot-returns-else-is_spent-clause-frame : goal.set_slot-returns-else-is_spent-clause-frame
+set_slot-returns-else-is_spent-clause-frame g t c = c.attach.ensures.frame ∙ c.opened-child.ensures.frame
+
+pub set_slot-returns-else-is_spent-clause-shape : goal.set_slot-returns-else-is_spent-clause-shape
+set_slot-returns-else-is_spent-clause-shape g t c = let n = c.args.depth in let o = one_less g t (goal.at.set_slot-returns-else-is_spent-clause-shape g t c).After-is_spent in rw o at (c.attach.ensures.tree.shape (n - 1) c.opened-child.ensures.shape c.set_all.ensures.shape)
+
+pub set_slot-returns-else-is_spent-clause-tight : goal.set_slot-returns-else-is_spent-clause-tight
+set_slot-returns-else-is_spent-clause-tight g t c = let n = c.args.depth in let o = one_less g t (goal.at.set_slot-returns-else-is_spent-clause-tight g t c).After-is_spent in rw o at (c.attach.ensures.tree.tight (n - 1) c.opened-child.ensures.tight (λ blank. false_true c.is_spent.result (c.is_spent.ensures.blank.1 (rw c.deref.ensures blank)) c.if-is_spent.false) c.set_all.ensures.tight)
+
+pub set_slot-returns-else-is_spent-clause-others : goal.set_slot-returns-else-is_spent-clause-others
+set_slot-returns-else-is_spent-clause-others g t c j m = set_others c.opened-child.new.table c.attach.new.self c.args.i j _ c.attach.ensures.slots m ∙ set_others c.args.table.now c.opened-child.new.table c.args.i j (Word 0) c.opened-child.ensures.slots m
+
+pub set_slot-returns-else-is_spent-clause-map : goal.set_slot-returns-else-is_spent-clause-map
+set_slot-returns-else-is_spent-clause-map g t c =
+    let n = c.args.depth in
+    let at = (goal.at.set_slot-returns-else-is_spent-clause-map g t c).After-is_spent in
+    rw (one_less g t at) at (back_map (n - 1) c.args.i c.args.table.now c.opened-child.new.table c.opened-child.result.value c.set_all.new.table c.args.change (frames_of c.args.spare.now) (frames_of c.opened-child.new.spare) (frames_of c.set_all.new.spare) c.opened-child.ensures (is_ready g t at) (is_grown g t at) c.attach.new.self c.attach.ensures.tree)
+
+pub set_slot-returns-else-is_spent-clause-other : goal.set_slot-returns-else-is_spent-clause-other
+set_slot-returns-else-is_spent-clause-other g t c q x =
+    let n = c.args.depth in
+    let o = one_less g t (goal.at.set_slot-returns-else-is_spent-clause-other g t c).After-is_spent in
+    rw o at (put_other (n - 1) c.args.i c.opened-child.new.table c.attach.new.self c.set_all.new.table c.attach.ensures.tree) q x ∙ rw o at c.opened-child.ensures.other q x
+
+pub set_slot-returns-else-is_spent-clause-stand : goal.set_slot-returns-else-is_spent-clause-stand
+set_slot-returns-else-is_spent-clause-stand g t c low q l x =
+    let n = c.args.depth in
+    let o = one_less g t (goal.at.set_slot-returns-else-is_spent-clause-stand g t c).After-is_spent in
+    rw o at (put_stand (n - 1) c.args.i c.opened-child.new.table c.attach.new.self c.set_all.new.table c.attach.ensures.tree) low q l x ∙ rw o at c.opened-child.ensures.stand low q l x

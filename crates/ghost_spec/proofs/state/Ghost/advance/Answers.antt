@@ -1,5 +1,6 @@
-use Rattle.std.proofs.Common.{◌≡◌, ℕ, ◌<◌, Option, length, map, get_or, sym, ap, ◌∙◌}
+use Rattle.std.proofs.Common.{◌≡◌, ℕ, ◌<◌, Option, length, map, get_or, refl, sym, ap, ◌∙◌}
 use Rattle.std.proofs.lemmas.List.{get_or-map}
+use Rattle.std.proofs.lemmas.Result.{IfOk-from_err}
 use Rattle.page_state.specs.declared.reply.Reply.{Reply}
 use Rattle.page_state.specs.LayoutView.{layout_of}
 use Rattle.page_state.proofs.Common.{same2}
@@ -41,3 +42,33 @@ returns-clause-foretold c =
     let before : (ghost_state c.put_back.new.self).rooms ≡ (ghost_state g).rooms = same2 rooms_in (ap (λ l. l.config.log) (c.put_back.ensures.layout ∙ c.take.ensures.layout)) (c.put_back.ensures.rooms ∙ c.take.ensures.rooms) in
     let rooms = c.store.ensures.rooms ∙ ap (λ (r : Rooms). put_rooms (names c.args.step) slot c.args.cpu r (stored (rooms_of (names c.args.step) slot c.args.cpu r))) before in
     ap (pair c.in_ok-reply.reply) (same2 state-with contents rooms) ∙ sym (foretold-answer (layout_of g.layout) (ghost_state g) c.args.cpu c.args.step slot named c.in_ok-reply.reply (used_in c.answer.new.used) (sym c.is_full.ensures ∙ c.if-is_full.false) said)
+
+pub returns-in_err-used-clause-foretold : goal.returns-in_err-used-clause-foretold
+returns-in_err-used-clause-foretold c = IfOk-from_err _ _ c.from_residual.ensures.0
+
+pub returns-in_err-used-clause-kept : goal.returns-in_err-used-clause-kept
+returns-in_err-used-clause-kept c = IfOk-from_err _ _ c.from_residual.ensures.0
+
+pub returns-in_err-reply-clause-foretold : goal.returns-in_err-reply-clause-foretold
+returns-in_err-reply-clause-foretold c = IfOk-from_err _ _ c.from_residual-in_err-reply.ensures.0
+
+pub returns-in_err-reply-clause-kept : goal.returns-in_err-reply-clause-kept
+returns-in_err-reply-clause-kept c = IfOk-from_err _ _ c.from_residual-in_err-reply.ensures.0
+
+pub returns-in_err-used-clause-layout : goal.returns-in_err-used-clause-layout
+returns-in_err-used-clause-layout c = c.take.ensures.layout
+
+pub returns-in_err-reply-clause-layout : goal.returns-in_err-reply-clause-layout
+returns-in_err-reply-clause-layout c = c.take.ensures.layout
+
+pub returns-then-is_full-clause-layout : goal.returns-then-is_full-clause-layout
+returns-then-is_full-clause-layout c = refl
+
+pub returns-then-is_full-clause-kept : goal.returns-then-is_full-clause-kept
+returns-then-is_full-clause-kept c = c.requires.kept
+
+pub returns-clause-layout : goal.returns-clause-layout
+returns-clause-layout c = c.store.ensures.layout ∙ c.put_back.ensures.layout ∙ c.take.ensures.layout
+
+pub returns-clause-kept : goal.returns-clause-kept
+returns-clause-kept c = c.store.ensures.kept
