@@ -8,6 +8,7 @@ ghost use Rattle.ghost_spec.specs.States.{IsKept};
 ghost use Rattle.ghost_judge.specs.Audits.{HaveSameFrames};
 ghost use Rattle.table_tree.specs.Raw.{IsRaw};
 
+use crate::expect::expect_told;
 use crate::sample::{memory, started};
 use descriptor::{Frame, Kind, Owner, Prot, State};
 use ghost_judge::audit::audit;
@@ -226,7 +227,7 @@ fn expect_audit(rt: &impl Abort, kept: &Ghost, walked: &Ghost, told: Option<Disa
     requires walked { IsKept walked.now }
     requires frames { HaveSameFrames kept.now walked.now }
 {
-    assert_eq!(rt; audit(kept, walked), told);
+    expect_told(rt, audit(kept, walked), told);
 }
 
 /// Compares the first difference of these states as first rows and then maps of them differ too.

@@ -2,6 +2,7 @@
 ghost use Rattle.std.specs.Prelude.{◌≡◌, ◌<◌};
 ghost use Rattle.ghost_spec.specs.States.{IsKept};
 
+use crate::expect::expect_told;
 use crate::sample::{memory, started};
 use ghost_judge::disagreement::{Disagreement, TreeOf};
 use ghost_judge::judge::{differs, judge};
@@ -99,68 +100,60 @@ fn make(state: &mut Ghost, change: Change)
     }
 }
 
-/// The first difference from this state of one that is changed.
-fn told_after(rt: &impl Abort, alloc: Global, spec: &Ghost, change: Change) -> Option<Disagreement>
+/// Compares the first difference from this state of one that is changed.
+fn expect_change_of(
+    rt: &impl Abort,
+    alloc: Global,
+    spec: &Ghost,
+    change: Change,
+    wanted: Option<Disagreement>,
+)
     requires kept { IsKept spec.now }
     requires cpus { 1 < spec.now.layout.config.cpus }
 {
     let mut post = spec.copied(alloc).expect(rt, "memory");
     make(&mut post, change);
-    differs(alloc, &post, spec).expect(rt, "memory")
+    let told = differs(alloc, &post, spec).expect(rt, "memory");
+    expect_told(rt, told, wanted);
 }
 
-/// The first difference from the boot state of one that is changed.
-fn told(rt: &impl Abort, alloc: Global, change: Change) -> Option<Disagreement> {
+/// Compares the first difference from the boot state of one that is changed.
+fn expect_change(rt: &impl Abort, alloc: Global, change: Change, wanted: Option<Disagreement>) {
     let spec = booted(rt, alloc);
-    told_after(rt, alloc, &spec, change)
-}
-
-/// Compares that difference.
-fn expect_told(rt: &impl Abort, alloc: Global, change: Change, wanted: Option<Disagreement>) {
-    assert_eq!(rt; told(rt, alloc, change), wanted);
+    expect_change_of(rt, alloc, &spec, change, wanted);
 }
 
 #[test]
 fn tells_the_part_that_differs(rt: HostRuntime) {
     let alloc = rt.alloc();
-    expect_told(&rt, alloc, Change::Nothing, None);
-    expect_told(&rt, alloc, Change::Room, None);
-    expect_told(&rt, alloc, Change::Pool, Some(Disagreement::Free));
-    expect_told(&rt, alloc, Change::Guest, Some(Disagreement::GuestFree(3)));
-    expect_told(&rt, alloc, Change::Slot, Some(Disagreement::Vm(3)));
-    expect_told(&rt, alloc, Change::Cpu, Some(Disagreement::Cpu(1)));
+    expect_change(&rt, alloc, Change::Nothing, None);
+    expect_change(&rt, alloc, Change::Room, None);
+    expect_change(&rt, alloc, Change::Pool, Some(Disagreement::Free));
+    expect_change(&rt, alloc, Change::Guest, Some(Disagreement::GuestFree(3)));
+    expect_change(&rt, alloc, Change::Slot, Some(Disagreement::Vm(3)));
+    expect_change(&rt, alloc, Change::Cpu, Some(Disagreement::Cpu(1)));
 }
 
-/// The judgement of a step of this state that makes this change alone.
-fn judged_after(
+/// Compares the judgement of a step of this state that makes this change alone.
+fn expect_judged_of(
     rt: &impl Abort,
     alloc: Global,
     pre: &Ghost,
     step: Step,
     reply: Reply,
     change: Change,
-) -> Option<Disagreement>
+    wanted: Option<Disagreement>,
+)
     requires kept { IsKept pre.now }
     requires cpus { 1 < pre.now.layout.config.cpus }
 {
     let mut post = pre.copied(alloc).expect(rt, "memory");
     make(&mut post, change);
-    judge(alloc, pre, 0, step, &reply, &post).expect(rt, "memory")
+    let told = judge(alloc, pre, 0, step, &reply, &post).expect(rt, "memory");
+    expect_told(rt, told, wanted);
 }
 
-/// The judgement of a step of the boot state that makes this change alone.
-fn judged(
-    rt: &impl Abort,
-    alloc: Global,
-    step: Step,
-    reply: Reply,
-    change: Change,
-) -> Option<Disagreement> {
-    let pre = booted(rt, alloc);
-    judged_after(rt, alloc, &pre, step, reply, change)
-}
-
-/// Compares that judgement.
+/// Compares the judgement of a step of the boot state that makes this change alone.
 fn expect_judged(
     rt: &impl Abort,
     alloc: Global,
@@ -169,7 +162,8 @@ fn expect_judged(
     change: Change,
     wanted: Option<Disagreement>,
 ) {
-    assert_eq!(rt; judged(rt, alloc, step, reply, change), wanted);
+    let pre = booted(rt, alloc);
+    expect_judged_of(rt, alloc, &pre, step, reply, change, wanted);
 }
 
 /// The share of a page of the host, which is made.

@@ -5,6 +5,8 @@
 #[cfg(test)]
 mod audit;
 #[cfg(test)]
+mod expect;
+#[cfg(test)]
 mod judge;
 #[cfg(test)]
 mod record;

@@ -9,7 +9,7 @@ ghost use Rattle.table_tree.specs.Stocks.{frames_of};
 ghost use Rattle.table_tree.specs.View.{tree_of, uses, tables_of};
 ghost use Rattle.walk_plan.specs.Changes.{CanBeSaidOn};
 
-use crate::expect::{expect_entry, expect_number, expect_word};
+use crate::expect::{expect_entry, expect_number, expect_same, expect_word};
 use crate::sample::{leaf, pages};
 use descriptor::{Frame, State};
 use hyp_pool::{Pool, PoolFault, laws};
@@ -26,7 +26,18 @@ const ROOT: Frame = Frame(0x40600);
 
 /// Compares what a change answers.
 fn expect_answer(rt: &impl Abort, found: Result<(), PoolFault>, wanted: Result<(), PoolFault>) {
-    assert_eq!(rt; found, wanted);
+    expect_same(rt, &found, &wanted);
+}
+
+/// The leaf of the first page's frame in a state, or nothing.
+fn leaf_or_nothing(range: PageRange, state: Option<State>) -> Entry
+    requires { range.first.0 + range.count ≤ 2 ^ 36 }
+    ensures { IsRangeEntry range.count result }
+{
+    match state {
+        Some(state) => leaf(range.first.0, state),
+        None => Entry::Unmapped,
+    }
 }
 
 /// A tree and its pool.
@@ -106,31 +117,39 @@ impl<A: Allocator + Copy> Bench<A> {
         expect_word(rt, self.word(path), Some(word));
     }
 
+    /// Compares words behind their paths.
+    fn expect_words(&self, rt: &impl Abort, words: Words) {
+        for (path, word) in words {
+            self.expect_word(rt, path, *word);
+        }
+    }
+
     /// Makes a change that is made; compares the tables that it needs, and words, tables and free frames after it.
-    fn expect_words(
-        &mut self,
-        rt: &impl Abort,
-        range: PageRange,
-        entry: Entry,
-        needed: usize,
-        words: Words,
-        left: (usize, usize),
-    )
+    fn expect_row(&mut self, rt: &impl Abort, row: Row)
         requires bits { self.old.tree.geometry ≡ Bits39 }
         requires distinct { (f : ℕ) → uses self.old.tree f + frame_count f self.old.pool.frames ≤ 1 }
         requires covered { tables_of self.old.tree + length self.old.pool.frames ≤ self.old.pool.room + 1 }
-        requires some { 1 ≤ range.count }
-        requires within { range.first.0 + range.count ≤ 2 ^ 27 }
-        requires entry_in { IsRangeEntry range.count entry }
         ensures bits { self.new.tree.geometry ≡ Bits39 }
         ensures distinct { (f : ℕ) → uses self.new.tree f + frame_count f self.new.pool.frames ≤ 1 }
         ensures covered { tables_of self.new.tree + length self.new.pool.frames ≤ self.new.pool.room + 1 }
     {
-        self.expect_set(rt, range, entry, needed, Ok(()));
-        for (path, word) in words {
-            self.expect_word(rt, path, *word);
-        }
+        let (first, count, state, needed, words, left) = row;
+        assert!(rt; first < 0x10_0000 && count > 0 && count < 0x1000);
+        let range = pages(first, count);
+        self.expect_set(rt, range, leaf_or_nothing(range, state), needed, Ok(()));
+        self.expect_words(rt, words);
         self.expect_frames(rt, left.0, left.1);
+    }
+
+    /// Makes changes, one after another.
+    fn expect_rows(&mut self, rt: &impl Abort, rows: &[Row])
+        requires bits { self.old.tree.geometry ≡ Bits39 }
+        requires distinct { (f : ℕ) → uses self.old.tree f + frame_count f self.old.pool.frames ≤ 1 }
+        requires covered { tables_of self.old.tree + length self.old.pool.frames ≤ self.old.pool.room + 1 }
+    {
+        for row in rows {
+            self.expect_row(rt, *row);
+        }
     }
 
     /// Compares the entry of a page.
@@ -143,7 +162,17 @@ impl<A: Allocator + Copy> Bench<A> {
         expect_number(rt, self.tree.tables(), tables);
         expect_number(rt, self.pool.free(), free);
     }
+
+    /// Compares the number of tables, of free frames, and of spares.
+    fn expect_left(&self, rt: &impl Abort, left: (usize, usize, usize)) {
+        self.expect_frames(rt, left.0, left.1);
+        expect_number(rt, self.tree.spares(), left.2);
+    }
 }
+
+/// A change of pages to leaves of the frames of their own numbers, or to nothing: the first page, how many, and the state of the
+/// leaves; how many tables it needs; and words, and (tables, free frames), after it.
+type Row = (u64, u64, Option<State>, usize, Words, (usize, usize));
 
 /// Words, each behind its path.
 type Words = &'static [(&'static [u16], u64)];
@@ -167,19 +196,19 @@ const PAGES: Words = &[(&[1, 1], 0x40602003), (&[1, 1, 511], 0x00000000403ff7ff)
 /// Nothing.
 const NOTHING: Words = &[(&[1], 0)];
 
-/// Changes of one tree, one after another: a block as one word, a page of it, and back.
+/// The changes of a tree, one after another: a block as one word, a page of it, and back.
+const ROWS: &[Row] = &[
+    (0x40200, 512, Some(State::Owned), 1, BLOCK, (2, 7)),
+    (0x40300, 1, Some(State::SharedOwned), 1, SPLIT, (3, 6)),
+    (0x40300, 1, Some(State::Owned), 0, PAGE, (3, 6)),
+    (0x40200, 512, Some(State::Owned), 0, PAGES, (3, 6)),
+    (0x40200, 512, None, 0, NOTHING, (1, 8)),
+];
+
+/// Makes these changes.
 fn rows<A: Allocator + Copy>(rt: &impl Abort, global: Global, alloc: A) {
     let mut bench = empty_bench(global, alloc, 8).expect(rt, "memory");
-    let block = pages(0x40200, 512);
-    let page = pages(0x40300, 1);
-    let whole = leaf(0x40200, State::Owned);
-    bench.expect_words(rt, block, whole, 1, BLOCK, (2, 7));
-    let shared = leaf(0x40300, State::SharedOwned);
-    bench.expect_words(rt, page, shared, 1, SPLIT, (3, 6));
-    let owned = leaf(0x40300, State::Owned);
-    bench.expect_words(rt, page, owned, 0, PAGE, (3, 6));
-    bench.expect_words(rt, block, whole, 0, PAGES, (3, 6));
-    bench.expect_words(rt, block, Entry::Unmapped, 0, NOTHING, (1, 8));
+    bench.expect_rows(rt, ROWS);
     bench.expect_entry(rt, 0x40300, Entry::Unmapped);
 }
 
@@ -215,8 +244,7 @@ fn with_frames<A: Allocator + Copy>(
     let mut bench = empty_bench(global, alloc, free).expect(rt, "memory");
     bench.expect_set(rt, range, entry, needed, wanted);
     bench.expect_entry(rt, range.first.0, found);
-    bench.expect_frames(rt, left.0, left.1);
-    expect_number(rt, bench.tree.spares(), left.2);
+    bench.expect_left(rt, left);
 }
 
 /// A change of an empty tree: refused where the pool has fewer frames than it needs, made where it has as many.
@@ -380,14 +408,14 @@ fn in_hand<A: Allocator + Copy>(
     Ok(spare)
 }
 
-/// Makes a change with the tables in hand, which takes no memory.
-fn expect_made(rt: &impl Abort, heap: &LocalHeap, bench: &mut Bench<&LocalHeap>)
+/// Makes a change with the tables in hand. The memory that was used before it.
+fn made(rt: &impl Abort, heap: &LocalHeap, bench: &mut Bench<&LocalHeap>, shared: Entry) -> usize
     requires bits { bench.old.tree.geometry ≡ Bits39 }
     requires distinct { (f : ℕ) → uses bench.old.tree f + frame_count f bench.old.pool.frames ≤ 1 }
     requires covered { tables_of bench.old.tree + length bench.old.pool.frames ≤ bench.old.pool.room + 1 }
+    requires entry { IsRangeEntry 1 shared }
 {
     let range = pages(0x40100, 1);
-    let shared = leaf(0x40100, State::SharedOwned);
     let spare = in_hand(bench, range, shared).expect(rt, "tables in hand");
     let used = heap.used();
     set_with(
@@ -398,20 +426,24 @@ fn expect_made(rt: &impl Abort, heap: &LocalHeap, bench: &mut Bench<&LocalHeap>)
         spare,
         &mut Reads::new(),
     );
+    used
+}
+
+/// Makes a change with the tables in hand, which takes no memory.
+fn expect_made(rt: &impl Abort, heap: &LocalHeap, bench: &mut Bench<&LocalHeap>)
+    requires bits { bench.old.tree.geometry ≡ Bits39 }
+    requires distinct { (f : ℕ) → uses bench.old.tree f + frame_count f bench.old.pool.frames ≤ 1 }
+    requires covered { tables_of bench.old.tree + length bench.old.pool.frames ≤ bench.old.pool.room + 1 }
+{
+    let shared = leaf(0x40100, State::SharedOwned);
+    let used = made(rt, heap, bench, shared);
     expect_number(rt, heap.used(), used);
     bench.expect_entry(rt, 0x40100, shared);
     expect_number(rt, bench.tree.tables(), 3);
 }
 
-#[test]
-fn set_from_hand(rt: HostRuntime) {
-    let heap = LocalHeap::new(rt.alloc(), 1 << 20).expect(&rt, "memory");
-    let mut bench = empty_bench(rt.alloc(), &heap, 2).expect(&rt, "memory");
-    expect_made(&rt, &heap, &mut bench);
-}
-
-/// Gives the tables in hand back, which frees no memory.
-fn expect_released(rt: &impl Abort, heap: &LocalHeap, bench: &mut Bench<&LocalHeap>)
+/// Takes the tables for a change in hand and gives them back. The memory that was used in between.
+fn released(rt: &impl Abort, heap: &LocalHeap, bench: &mut Bench<&LocalHeap>) -> usize
     requires bits { bench.old.tree.geometry ≡ Bits39 }
     requires distinct { (f : ℕ) → uses bench.old.tree f + frame_count f bench.old.pool.frames ≤ 1 }
     requires covered { tables_of bench.old.tree + length bench.old.pool.frames ≤ bench.old.pool.room + 1 }
@@ -421,17 +453,41 @@ fn expect_released(rt: &impl Abort, heap: &LocalHeap, bench: &mut Bench<&LocalHe
     let used = heap.used();
     expect_number(rt, bench.pool.free(), 0);
     release(spare, &mut bench.tree, &mut bench.pool);
+    used
+}
+
+/// Gives the tables in hand back, which frees no memory.
+fn expect_released(rt: &impl Abort, heap: &LocalHeap, bench: &mut Bench<&LocalHeap>)
+    requires bits { bench.old.tree.geometry ≡ Bits39 }
+    requires distinct { (f : ℕ) → uses bench.old.tree f + frame_count f bench.old.pool.frames ≤ 1 }
+    requires covered { tables_of bench.old.tree + length bench.old.pool.frames ≤ bench.old.pool.room + 1 }
+{
+    let used = released(rt, heap, bench);
     expect_number(rt, heap.used(), used);
-    expect_number(rt, bench.tree.spares(), 2);
-    expect_number(rt, bench.pool.free(), 2);
+    bench.expect_left(rt, (1, 2, 2));
     assert!(rt; bench.pool.take() == Some(Frame(0x40601)));
+}
+
+/// Takes the tables for a change in hand, and gives them back or makes it with them.
+fn expect_from_hand(rt: &impl Abort, global: Global, heap: &LocalHeap, gives_back: bool) {
+    let mut bench = empty_bench(global, heap, 2).expect(rt, "memory");
+    if gives_back {
+        expect_released(rt, heap, &mut bench);
+    } else {
+        expect_made(rt, heap, &mut bench);
+    }
+}
+
+#[test]
+fn set_from_hand(rt: HostRuntime) {
+    let heap = LocalHeap::new(rt.alloc(), 1 << 20).expect(&rt, "memory");
+    expect_from_hand(&rt, rt.alloc(), &heap, false);
 }
 
 #[test]
 fn released_from_hand(rt: HostRuntime) {
     let heap = LocalHeap::new(rt.alloc(), 1 << 20).expect(&rt, "memory");
-    let mut bench = empty_bench(rt.alloc(), &heap, 2).expect(&rt, "memory");
-    expect_released(&rt, &heap, &mut bench);
+    expect_from_hand(&rt, rt.alloc(), &heap, true);
 }
 
 /// Takes the rest of a heap, so that no request for memory is met.
@@ -464,10 +520,9 @@ fn leave_spares(rt: &impl Abort, bench: &mut Bench<&LocalHeap>, page: PageRange,
     ensures covered { tables_of bench.new.tree + length bench.new.pool.frames ≤ bench.new.pool.room + 1 }
 {
     bench.expect_set(rt, page, owned, 2, Ok(()));
-    expect_number(rt, bench.tree.spares(), 0);
+    bench.expect_left(rt, (3, 0, 0));
     bench.expect_set(rt, page, Entry::Unmapped, 0, Ok(()));
-    expect_number(rt, bench.tree.spares(), 2);
-    bench.expect_frames(rt, 1, 2);
+    bench.expect_left(rt, (1, 2, 2));
 }
 
 /// Maps the page from the spares, while the heap has no room, and then one that would need further frames.
@@ -490,8 +545,7 @@ fn take_spares(
     bench.expect_set(rt, page, owned, 2, Ok(()));
     expect_number(rt, heap.used(), used);
     bench.expect_entry(rt, 0x40100, owned);
-    expect_number(rt, bench.tree.spares(), 0);
-    bench.expect_frames(rt, 3, 0);
+    bench.expect_left(rt, (3, 0, 0));
     let short = Err(PoolFault::NoPool);
     bench.expect_set(rt, pages(0x80000, 1), owned, 2, short);
 }

@@ -1,18 +1,24 @@
 //! Comparisons, each of which stands here once.
 use page_state::Entry;
+use std::fmt::Debug;
 use std::process::Abort;
+
+/// Compares two values.
+pub fn expect_same<T: PartialEq + Debug>(rt: &impl Abort, found: &T, wanted: &T) {
+    assert_eq!(rt; found, wanted);
+}
 
 /// Compares a number.
 pub fn expect_number(rt: &impl Abort, found: usize, wanted: usize) {
-    assert_eq!(rt; found, wanted);
+    expect_same(rt, &found, &wanted);
 }
 
 /// Compares a word, or that there is none.
 pub fn expect_word(rt: &impl Abort, found: Option<u64>, wanted: Option<u64>) {
-    assert_eq!(rt; found, wanted);
+    expect_same(rt, &found, &wanted);
 }
 
 /// Compares an entry.
 pub fn expect_entry(rt: &impl Abort, found: Entry, wanted: Entry) {
-    assert_eq!(rt; found, wanted);
+    expect_same(rt, &found, &wanted);
 }

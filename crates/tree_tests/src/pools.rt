@@ -1,6 +1,7 @@
 //! Pools of free frames.
 ghost use Rattle.std.specs.Prelude.{◌≡◌, [], ◌∷◌};
 
+use crate::expect::expect_same;
 use hyp_pool::{Pool, PoolFault};
 use page_state::Frame;
 use std::alloc::{AllocError, Global};
@@ -18,7 +19,7 @@ fn told(rt: &impl Abort, alloc: Global, pool: &Pool) -> Vec<u64> {
 /// Compares the free frames.
 fn expect_told(rt: &impl Abort, alloc: Global, pool: &Pool, wanted: &[u64]) {
     let found = told(rt, alloc, pool);
-    assert_eq!(rt; found.as_slice(), wanted);
+    expect_same(rt, &found.as_slice(), &wanted);
 }
 
 /// Compares how many frames are free, and for how many there is room.
@@ -29,7 +30,7 @@ fn expect_counts(rt: &impl Abort, pool: &Pool, free: usize, room: usize) {
 
 /// Takes a frame, and compares it.
 fn expect_taken(rt: &impl Abort, pool: &mut Pool, wanted: Option<Frame>) {
-    assert_eq!(rt; pool.take(), wanted);
+    expect_same(rt, &pool.take(), &wanted);
 }
 
 /// Gives frames 6 and 5 back to a pool of frame 7 alone.
@@ -45,7 +46,7 @@ fn give_six_and_five(pool: &mut Pool)
 fn takes_the_lowest_frames_all_or_none(rt: HostRuntime) {
     let mut pool = Pool::of(rt.alloc(), Frame(5), 3).expect(&rt, "memory");
     let taken = pool.take_many(rt.alloc(), 2).expect(&rt, "frames");
-    assert_eq!(rt; taken.as_slice(), [Frame(5), Frame(6)].as_slice());
+    assert!(rt; taken.as_slice() == [Frame(5), Frame(6)].as_slice());
     expect_counts(&rt, &pool, 1, 3);
     let fault = pool.take_many(rt.alloc(), 2).err();
     assert!(rt; fault == Some(PoolFault::NoPool));
@@ -80,7 +81,7 @@ fn grows_its_room(rt: HostRuntime) {
 /// Compares the text of a fault.
 fn expect_text(rt: &impl Abort, alloc: Global, fault: PoolFault, wanted: &str) {
     let text = format!(in alloc; "{fault}").expect(rt, "memory");
-    assert_eq!(rt; text.as_str(), wanted);
+    expect_same(rt, &text.as_str(), &wanted);
 }
 
 #[test]

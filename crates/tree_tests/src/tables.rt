@@ -12,13 +12,27 @@ use table_tree::{PathFault, RawTree, Reads, Slot, Table, Tree};
 
 const ROOT: Frame = Frame(0x40600);
 
+/// Compares the frame of a table that was a tree's one spare, and that the tree has no other.
+fn expect_taken(rt: &impl Abort, tree: &Tree<&LocalHeap>, table: &Table<&LocalHeap>) {
+    assert!(rt; table.frame() == Frame(7));
+    expect_number(rt, tree.spares(), 0);
+}
+
 /// Takes the one spare of a tree as a table of a frame, and puts it back.
 fn take_and_keep(rt: &impl Abort, tree: &mut Tree<&LocalHeap>) {
     let table = tree.take_spare(Frame(7)).expect(rt, "a spare");
-    assert!(rt; table.frame() == Frame(7));
-    expect_number(rt, tree.spares(), 0);
+    expect_taken(rt, tree, &table);
     tree.keep_spare(table);
+}
+
+/// Takes the one spare of a tree, puts it back and asks for one, which takes no memory.
+fn keep_one_spare<'a>(rt: &impl Abort, heap: &'a LocalHeap, tree: &mut Tree<&'a LocalHeap>) {
+    let used = heap.used();
+    take_and_keep(rt, tree);
     expect_number(rt, tree.spares(), 1);
+    assert!(rt; tree.grow_spares(heap, 1).is_ok());
+    expect_number(rt, heap.used(), used);
+    expect_number(rt, tree.tables(), 1);
 }
 
 /// Asks for more spares than a heap has room for, and for the one that it has.
@@ -26,11 +40,7 @@ fn expect_one_spare<'a>(rt: &impl Abort, heap: &'a LocalHeap, tree: &mut Tree<&'
     expect_number(rt, tree.spares(), 0);
     assert!(rt; tree.grow_spares(heap, 3).is_err());
     expect_number(rt, tree.spares(), 1);
-    let used = heap.used();
-    take_and_keep(rt, tree);
-    assert!(rt; tree.grow_spares(heap, 1).is_ok());
-    expect_number(rt, heap.used(), used);
-    expect_number(rt, tree.tables(), 1);
+    keep_one_spare(rt, heap, tree);
 }
 
 #[test]

@@ -2,6 +2,7 @@
 ghost use Rattle.std.specs.Prelude.{◌≡◌, ◌+◌, ◌<◌, ◌≤◌, ◌^◌};
 ghost use Rattle.run_list.specs.Targets.{HasFrameBelow};
 
+use crate::expect::expect_same;
 use maplets::Maplets;
 use page_state::{Frame, Kind, Page, PageRange, Prot, Run, State, Target};
 use std::alloc::Global;
@@ -52,42 +53,57 @@ fn clear(rt: &impl Abort, map: &mut Maplets, first: u64, count: u64)
 /// Compares the runs of a map, in order.
 fn expect_runs(rt: &impl Abort, alloc: Global, map: &Maplets, wanted: &[Run]) {
     let runs: Vec<Run> = map.iter().collect(alloc).expect(rt, "memory");
-    assert_eq!(rt; runs.as_slice(), wanted);
+    expect_same(rt, &runs.as_slice(), &wanted);
 }
 
 /// Compares the target of a page.
 fn expect_at(rt: &impl Abort, map: &Maplets, page: u64, wanted: Option<Target>) {
-    assert_eq!(rt; map.at(Page(page)), wanted);
+    expect_same(rt, &map.at(Page(page)), &wanted);
 }
 
-#[test]
-fn splits_and_joins(rt: HostRuntime) {
-    let mut map = Maplets::new(rt.alloc());
-    put_leaves(&rt, &mut map, 0x40200, 512, State::Owned);
-    put_leaves(&rt, &mut map, 0x40300, 1, State::SharedOwned);
+/// Splits and joins runs of an empty map.
+fn expect_splits(rt: &impl Abort, alloc: Global, map: &mut Maplets) {
+    put_leaves(rt, map, 0x40200, 512, State::Owned);
+    put_leaves(rt, map, 0x40300, 1, State::SharedOwned);
     let split = [
         leaves(0x40200, 256, State::Owned),
         leaves(0x40300, 1, State::SharedOwned),
         leaves(0x40301, 255, State::Owned),
     ];
-    expect_runs(&rt, rt.alloc(), &map, split.as_slice());
-    put_leaves(&rt, &mut map, 0x40300, 1, State::Owned);
+    expect_runs(rt, alloc, map, split.as_slice());
+    put_leaves(rt, map, 0x40300, 1, State::Owned);
     let joined = [leaves(0x40200, 512, State::Owned)];
-    expect_runs(&rt, rt.alloc(), &map, joined.as_slice());
-    clear(&rt, &mut map, 0x40300, 0x10);
+    expect_runs(rt, alloc, map, joined.as_slice());
+}
+
+/// Cuts the one run of a map.
+fn expect_cut(rt: &impl Abort, alloc: Global, map: &mut Maplets) {
+    clear(rt, map, 0x40300, 0x10);
     let cut = [
         leaves(0x40200, 256, State::Owned),
         leaves(0x40310, 240, State::Owned),
     ];
-    expect_runs(&rt, rt.alloc(), &map, cut.as_slice());
+    expect_runs(rt, alloc, map, cut.as_slice());
+}
+
+#[test]
+fn splits_and_joins(rt: HostRuntime) {
+    let mut map = Maplets::new(rt.alloc());
+    expect_splits(&rt, rt.alloc(), &mut map);
+    expect_cut(&rt, rt.alloc(), &mut map);
+}
+
+/// Compares the targets of a page of a map's one run, and of those at both its ends.
+fn expect_targets(rt: &impl Abort, map: &Maplets) {
+    let target = leaves(0x402ff, 1, State::Owned).target;
+    expect_at(rt, map, 0x402ff, Some(target));
+    expect_at(rt, map, 0x40400, None);
+    expect_at(rt, map, 0x401ff, None);
 }
 
 #[test]
 fn gives_each_page_its_target(rt: HostRuntime) {
     let mut map = Maplets::new(rt.alloc());
     put_leaves(&rt, &mut map, 0x40200, 512, State::Owned);
-    let target = leaves(0x402ff, 1, State::Owned).target;
-    expect_at(&rt, &map, 0x402ff, Some(target));
-    expect_at(&rt, &map, 0x40400, None);
-    expect_at(&rt, &map, 0x401ff, None);
+    expect_targets(&rt, &map);
 }
