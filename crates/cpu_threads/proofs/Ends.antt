@@ -1,6 +1,6 @@
 -- Lists of passes.
-use Rattle.std.proofs.Common.{◌≡◌, ◌≢◌, false, true≢false, ◌⊎◌, ℕ, zero, suc, ◌<◌, List, [], ◌∷◌, ◌++◌, length, refl, sym, ap, subst, ⊎_elim, inl, inr, arith, length-set, ◌∙◌, true}
-use Rattle.std.specs.Prelude.{Option, Some, None, slice_get, slice_set, slice_index_or, is_none}
+use Rattle.std.proofs.Common.{◌≡◌, false, true≢false, ◌⊎◌, ℕ, zero, suc, ◌<◌, List, [], ◌∷◌, ◌++◌, length, refl, sym, ap, subst, ⊎_elim, inl, inr, arith, length-set, ◌∙◌}
+use Rattle.std.specs.Prelude.{Option, Some, None, slice_get, slice_set, slice_index_or, is_none, is_some}
 use mathlib.Core.Logic.{dite}
 use native.Mathlib.Decide.{ℕ_discrete}
 use Rattle.part_table.specs.Passes.{AreHomeFrom, IsPassOf, Opened, Pass}
@@ -29,9 +29,9 @@ module _ {X : Type 0} where
   get_bound (y ∷ ys) zero x e = omega arith
   get_bound (y ∷ ys) (suc j) x e = let r = get_bound ys j x e in omega arith
 
-  pub none_there : (o : Option X) → is_none o ≡ true → o ≡ None
-  none_there None e = refl
-  none_there (Some x) e = absurd (true≢false (sym e))
+  pub no_some : (o : Option X) → is_some o ≡ false → o ≡ None
+  no_some None e = refl
+  no_some (Some x) e = absurd (true≢false e)
 
   pub there_or_none : (l : List X) (j : ℕ) → j < length l → (x : X) × (slice_get l j ≡ Some x)
   there_or_none [] j lt = absurd (omega arith)

@@ -86,6 +86,10 @@ as_long f g xs ys n h k = sym (length-map xs f) ∙ ap length h ∙ length-map y
 pub each_one : {P : Type 0} (Is : P → Type 0) (xs : List P) (x : P) → xs ≡ x ∷ [] → Is x → Each Is xs
 each_one Is xs x e h = subst (Each Is) (sym e) (h, tt)
 
+-- and what holds of such a list, of the one
+pub of_one : {P : Type 0} (Is : P → Type 0) (xs : List P) (x : P) → xs ≡ x ∷ [] → Each Is xs → Is x
+of_one Is xs x e h = (subst (Each Is) e h).0
+
 -- what holds of the one of a list of one holds of all of it
 pub all_one : {P : Type 0} (Is : P → Type 0) (xs : List P) (x d : P) → length xs ≡ 1 → x ≡ get_or xs 0 d → Is x → All Is xs
 all_one Is [] x d n e h = absurd (omega (arith, n))

@@ -2,7 +2,7 @@
 ghost use Rattle.std.specs.Prelude.{◌≡◌, ◌↔◌, IfSome, IsTrue, None, length, map};
 ghost use Rattle.ghost_judge.specs.Audits.{AreMapsKept, AuditAgrees, IsFirstDifference, HaveSameFrames};
 ghost use Rattle.ghost_oracle.specs.Compared.{walked_in};
-ghost use Rattle.ghost_oracle.specs.Found.{SaysMaplets, SaysRows};
+ghost use Rattle.ghost_oracle.specs.Found.{SaysMaplets};
 ghost use Rattle.ghost_spec.specs.States.{contents_in};
 ghost use Rattle.guest_component.specs.View.{runs_of};
 
@@ -15,7 +15,7 @@ use guest_component::Guest;
 use guest_steps::{GuestPart, SharedPart};
 use hypercalls::Parts;
 use maplets::Maplets;
-use page_state::{PageRange, Row, Run, Target};
+use page_state::{PageRange, Run, Target};
 use run_list::Advance;
 use std::alloc::Allocator;
 
@@ -24,7 +24,7 @@ use std::alloc::Allocator;
 pub struct Compared {
     /// What is kept.
     pub kept: Ghost,
-    /// What walking finds. None where it has just the runs of what is kept.
+    /// What walking finds. None where that is just what is kept.
     pub other: Option<Ghost>,
 }
 
@@ -65,13 +65,6 @@ fn is_same_run(a: Run, b: Run) -> bool
     is_same_range(a.pages, b.pages) && is_same_target(a.target, b.target)
 }
 
-/// Whether two runs of rows are the same.
-fn is_same_row_run(a: run_list::Run<Row>, b: run_list::Run<Row>) -> bool
-    ensures { IsTrue result ↔ (a ≡ b) }
-{
-    a.pages.first.0 == b.pages.first.0 && a.pages.count == b.pages.count && a.value.is_same(b.value)
-}
-
 /// Whether the runs that a walk found are those of maplets.
 fn are_maplets(found: &[Run], maplets: &Maplets) -> bool
     ensures { IsTrue result ↔ (found.now ≡ maplets.now.runs) }
@@ -84,21 +77,6 @@ fn are_maplets(found: &[Run], maplets: &Maplets) -> bool
         at += 1;
     }
     at == found.len()
-}
-
-/// Whether two lists of rows have the same runs.
-fn are_same_rows(found: &[run_list::Run<Row>], kept: &[run_list::Run<Row>]) -> bool
-    ensures { IsTrue result ↔ (found.now ≡ kept.now) }
-{
-    if found.len() != kept.len() {
-        return false;
-    }
-    for at in 0..found.len() {
-        if !is_same_row_run(found[at], kept[at]) {
-            return false;
-        }
-    }
-    true
 }
 
 /// Whether a guest was found with the runs of its maplets.
@@ -124,20 +102,18 @@ fn are_guests_kept<A: Allocator>(found: &[GhostGuest], parts: &[GuestPart<A>]) -
     true
 }
 
-/// Whether the Shared part was found with the runs of its maplets and of the owner table.
+/// Whether the Shared part was found with the runs of its maplets.
 fn is_shared_kept<A: Allocator>(found: &Shared, part: &SharedPart<A>) -> bool
-    ensures { IsTrue result ↔ (found.now.host.runs.items ≡ part.now.host.maplets.runs) × (found.now.hyp.runs.items ≡ part.now.hyp.maplets.runs) × (found.now.rows.runs ≡ part.now.rows) }
+    ensures { IsTrue result ↔ (found.now.host.runs.items ≡ part.now.host.maplets.runs) × (found.now.hyp.runs.items ≡ part.now.hyp.maplets.runs) }
 {
     are_maplets(found.host.runs.as_slice(), part.host.maplets())
         && are_maplets(found.hyp.runs.as_slice(), part.hyp.maplets())
-        && are_same_rows(found.rows.runs(), part.rows.runs())
 }
 
 /// Whether all parts were.
 pub(crate) fn is_kept<A: Allocator>(found: &Ghost, parts: &Parts<A>) -> bool
     requires { length found.now.guests.items ≡ 64 }
-    ensures maplets { IsTrue result → SaysMaplets parts.now found.now }
-    ensures rows { IsTrue result → SaysRows parts.now found.now }
+    ensures { IsTrue result ↔ SaysMaplets parts.now found.now }
 {
     is_shared_kept(&found.shared, parts.shared())
         && are_guests_kept(found.guests.as_slice(), parts.guests.as_slice())

@@ -16,7 +16,8 @@ ghost use Rattle.ghost_oracle.specs.Compared.{walked_in};
 ghost use Rattle.ghost_oracle.specs.Found.{found_state, walked_state, with_row, HasRowsOf, SaysMaplets, SaysRows};
 ghost use Rattle.ghost_oracle.specs.Low.{IsLowCpu};
 
-use crate::compared::{Compared, is_kept};
+use crate::both::compared;
+use crate::compared::Compared;
 use crate::parts::{cpu_rooms, cpus_from, guest_rooms, slots_from};
 use crate::trees::{
     Source, frames_of, guests_from, guests_with_maplets, tree_from, tree_with_maplets,
@@ -130,7 +131,7 @@ fn shared_with_maplets<A: Allocator>(
 }
 
 /// All parts with the runs of all maplets, the tables that a walk found, and the rows of the owner table.
-fn with_kept<A: Allocator>(
+pub(crate) fn with_kept<A: Allocator>(
     alloc: Global,
     parts: &Parts<A>,
     found: &Ghost,
@@ -151,7 +152,7 @@ fn with_kept<A: Allocator>(
 }
 
 /// What a walk found, with the owner row of each memory frame from scratch: by the maps, the tables, the pools and the hands.
-fn with_scratch<A: Allocator>(
+pub(crate) fn with_scratch<A: Allocator>(
     alloc: Global,
     parts: &Parts<A>,
     found: Ghost,
@@ -199,8 +200,9 @@ pub fn recompute<A: Allocator>(alloc: Global, parts: &Parts<A>) -> Result<Ghost,
     with_scratch(alloc, parts, found)
 }
 
-/// What is kept, as `kept` gives it, and what walking every descriptor finds, as `recompute` does. Where the walk finds just
-/// the runs that are kept, as it does in every state that calls lead to, each word is read once, and one state is both.
+/// What is kept, as `kept` gives it, and what walking every descriptor finds, as `recompute` does, by one walk: each word is read
+/// once. Where the walk finds just the runs that are kept, and the rows from scratch are the kept ones, as in every state that
+/// calls lead to, one state is both.
 pub fn kept_and_walked<A: Allocator>(
     alloc: Global,
     parts: &Parts<A>,
@@ -217,15 +219,6 @@ pub fn kept_and_walked<A: Allocator>(
     ensures walked_kept { IfOk result (λ c. IsKept (walked_in c)) }
     ensures walked_frames { IfOk result (λ c. HasRowsOf (parts_layout parts.now) (walked_in c)) }
 {
-    let walked = recompute(alloc, parts)?;
-    if is_kept(&walked, parts) {
-        return Ok(Compared {
-            kept: walked,
-            other: None,
-        });
-    }
-    Ok(Compared {
-        kept: kept(alloc, parts)?,
-        other: Some(walked),
-    })
+    let found = found(alloc, parts)?;
+    compared(alloc, parts, found)
 }

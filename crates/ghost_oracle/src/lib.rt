@@ -2,6 +2,7 @@
 //! such lists compare is `ghost_judge`'s.
 #![tactic(auto)]
 
+mod both;
 pub mod compared;
 mod found;
 pub mod kept;

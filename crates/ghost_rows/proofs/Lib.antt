@@ -1,5 +1,6 @@
 mod RowsAhead
 mod RowsFound
+mod RowsKept
 mod RowsLaid
 mod RowsPages
 mod RowsTold

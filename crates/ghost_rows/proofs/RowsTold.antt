@@ -166,6 +166,16 @@ carried-on {a} {b} {s} {rs} h here = record {
     front : EndBefore (b + 1) (take s.place rs)
     front = ends_later (a + 1) (b + 1) (take s.place rs) (omega (arith, h)) here.at.front
 
+-- where a list goes on so far as a frame, from one before it
+pub carried-later : {a b : ℕ} {s : Stand} {rs : List (Run Row)} → a ≤ b → IsCarried a s rs → IsCarried b s rs
+carried-later {a} {b} {s} {rs} h c = record {
+  near = record { within = c.near.within; front = ends_later (a + 1) (b + 1) (take s.place rs) (omega (arith, h)) c.near.front };
+  stays = λ less. (carried-on h (c.stays (omega (arith, h, less)))).stays less;
+}
+
+pub all-later : (a b : ℕ) (s : Stands) (x : Lists) → a ≤ b → AreCarried a s x → AreCarried b s x
+all-later a b s x h c = record { annotated = carried-later h c.annotated; lent = carried-later h c.lent; shared = carried-later h c.shared; used = carried-later h c.used }
+
 pub all-carried : (a b : ℕ) (s : Stands) (x : Lists) → a ≤ b → AreStanding a s x → AreCarried b s x
 all-carried a b s x h here = record { annotated = carried-on h here.annotated; lent = carried-on h here.lent; shared = carried-on h here.shared; used = carried-on h here.used }
 

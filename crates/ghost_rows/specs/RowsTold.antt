@@ -6,7 +6,7 @@ use Rattle.page_state.specs.declared.row.Usage.{Usage}
 use Rattle.page_state.specs.declared.row.Usage.TheVariants.{Plain}
 use Rattle.page_state.specs.Rows.{advance_row, HasPageBelow}
 use Rattle.run_list.specs.declared.run.Run.{Run}
-use Rattle.run_list.specs.Runs.{run_end, run_map, EndBefore, AreInReach}
+use Rattle.run_list.specs.Runs.{run_end, run_map, value_on, EndBefore, AreInReach}
 use Rattle.run_list.specs.Parts.{IsEndedAt}
 use Rattle.ghost_rows.specs.declared.rows.pieces.Lists.{Lists}
 use Rattle.ghost_rows.specs.declared.rows.pieces.Stand.{Stand}
@@ -44,6 +44,10 @@ row_told annotated lent shared used = record { owner = record { 0 = owner_told a
 -- the row of a frame by the lists
 abbrev pub told : Lists → ℕ → Row
 told x f = row_told (run_map advance_row x.annotated.runs f) (run_map advance_row x.lent.runs f) (run_map advance_row x.shared.runs f) (run_map advance_row x.used.runs f)
+
+-- the lists tell of each frame of a run what the run has there
+abbrev pub IsTold : Lists → Run Row → Type 0
+IsTold x r = (f : ℕ) → r.pages.first.0 ≤ f → f < run_end r → told x f ≡ value_on advance_row r f
 
 -- the numbers of each list are small
 pub record AreReached (x : Lists) : Type 0 where

@@ -3,4 +3,4 @@
 
 mod rows;
 
-pub use rows::rows_from_scratch;
+pub use rows::{are_from_scratch, rows_from_scratch};

@@ -1,27 +1,29 @@
 //! The owner rows of a state, found from its runs, pools, tables and hands.
+mod kept;
 mod loans;
 mod overlay;
 mod pieces;
 mod uses;
 
-ghost use Rattle.std.specs.Prelude.{◌≡◌, ℕ, ◌≤◌, ◌<◌, ◌^◌, true, false, IfOk, OnOk, Some, None, length, if◌then◌else◌};
+ghost use Rattle.std.specs.Prelude.{◌≡◌, ℕ, ◌≤◌, ◌<◌, ◌^◌, ◌↔◌, true, false, IfOk, IsTrue, OnOk, Some, None, is_some, length, if◌then◌else◌};
 ghost use Rattle.page_state.specs.Layouts.{is_memory};
 ghost use Rattle.page_state.specs.LayoutView.{layout_of};
 ghost use Rattle.page_state.specs.Regions.{end_of, is_in_range, is_memory_kind};
 ghost use Rattle.page_state.specs.Rows.{advance_row, HasPageBelow};
 ghost use Rattle.reference_model.specs.Owner.{row_of};
-ghost use Rattle.run_list.specs.Runs.{run_map, AreInReach};
+ghost use Rattle.run_list.specs.Runs.{run_map, IsCoarsest, AreInReach};
 ghost use Rattle.ghost_trees.specs.KeptTrees.{IsKeptTree};
 ghost use Rattle.ghost_spec.specs.States.{contents_in};
 ghost use Rattle.ghost_rows.specs.RowsLaid.{HaveKeptTrees};
 ghost use Rattle.ghost_rows.specs.RowsTold.{told, AreReached};
 
 use ghost_spec::state::Ghost;
+use kept::are_told;
 use loans::{all_loans, annotated, guest_loans};
 use overlay::{lay, lay_all, put_last};
-use page_state::{Page, PageRange, Region, RegionKind, Row, State};
+use page_state::{Layout, Page, PageRange, Region, RegionKind, Row, State};
 use pieces::{Lists, Stands};
-use run_list::RunList;
+use run_list::{Run, RunList};
 use std::alloc::{AllocError, Global};
 use uses::all_uses;
 
@@ -114,4 +116,29 @@ pub fn rows_from_scratch(alloc: Global, state: &Ghost) -> Result<RunList<Row>, A
         add_region(alloc, &mut rows, &lists, regions[i])?;
     }
     Ok(rows)
+}
+
+/// Memory lies below frame 2^26: this was accepted of its regions.
+fn is_low_memory(layout: &Layout)
+    ensures { (f : ℕ) → is_memory (layout_of layout.now) f ≡ true → f < 2 ^ 26 }
+{
+    let _regions = layout.map.regions();
+}
+
+/// Whether rows, one for each memory frame, are those from scratch, which `rows_from_scratch` finds. They are compared with
+/// what is told as it is found, and no list of rows is made.
+pub fn are_from_scratch(alloc: Global, state: &Ghost, rows: &[Run<Row>]) -> Result<bool, AllocError>
+    requires host { IsKeptTree state.now.shared.host }
+    requires hyp { IsKeptTree state.now.shared.hyp }
+    requires guests { HaveKeptTrees state.now.guests.items }
+    requires guests_count { length state.now.guests.items ≡ 64 }
+    requires cpus_count { length state.now.cpus.items ≡ state.now.layout.config.cpus }
+    requires coarsest { IsCoarsest advance_row rows.now }
+    requires reach { AreInReach HasPageBelow rows.now }
+    requires frames { (f : ℕ) → is_some (run_map advance_row rows.now f) ≡ is_memory (layout_of state.now.layout) f }
+    ensures { IfOk result (λ b. IsTrue b ↔ ((f : ℕ) → run_map advance_row rows.now f ≡ elim (is_memory (layout_of state.now.layout) f) [ true ↦ Some (row_of (layout_of state.now.layout) (contents_in state.now) f) | false ↦ None ])) }
+{
+    is_low_memory(&state.layout);
+    let lists = lists_of(alloc, state)?;
+    Ok(are_told(&lists, rows))
 }

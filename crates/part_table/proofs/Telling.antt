@@ -1,5 +1,5 @@
 -- What a try tells, from the views that its exchanges leave.
-use Rattle.std.proofs.Common.{◌≡◌, ◌≢◌, ◌⊎◌, ℕ, List, [], ◌∷◌, ◌++◌, Bool, true, false, true≢false, refl, sym, ap, ◌∙◌, subst, ⊎_elim, inl, inr, append_assoc}
+use Rattle.std.proofs.Common.{◌≡◌, ◌≢◌, ◌⊎◌, ℕ, List, [], ◌∷◌, ◌++◌, true, false, true≢false, refl, sym, ap, ◌∙◌, subst, ⊎_elim, inl, inr, append_assoc}
 use Rattle.std.specs.Prelude.{Option, Some, None}
 use Rattle.std.proofs.lemmas.List.{append_cancel_left}
 use Rattle.page_state.specs.declared.layout.Layout.{Layout as TheLayout}
@@ -24,11 +24,11 @@ use Rattle.reference_model.specs.Parts.{guest_slot, names}
 use Rattle.guest_steps.specs.View.{cpu_of}
 use Rattle.hypercalls.specs.Uses.{parts_of}
 use Rattle.part_table.specs.Parts.{in_order, uses, log_of, IsPart, IsOwn}
-use Rattle.part_table.specs.Does.{Does, IsLeft, none_at}
+use Rattle.part_table.specs.Does.{Does, IsCalled, IsLeft, none_at, only_at, both_at}
 use Rattle.part_table.specs.Rule.{Hands, IsIdle, Seated, tail, held_at, seen_at, seen_with, StartsWith, taking, missing, letting, storing, IsSame, Adds, Extends, Known, known_of, Standing, AtRest}
 use Rattle.part_table.specs.Tried.{AllTaken, EndsIn, FoundFull, FoundRoom, Tells, TriesOf, Try, reply_of}
 use Rattle.part_table.specs.Answered.{Answers, FindsAway, FindsLogFull, MeetsAnother, StoresCall, TellsOf, used_by}
-use Rattle.part_table.proofs.Holding.{one_gone}
+use Rattle.part_table.proofs.Holding.{only_here, at_first, at_second}
 use Rattle.part_table.proofs.Pairs.{at_same, at_other, unused_seen, part_same}
 
 module _ {A : Type 0} where
@@ -54,96 +54,116 @@ module _ {A : Type 0} where
   pub two_tries : (v : View A) (g : ℕ) (x y : Slot A) → (taking (taking v 1 x) g y).tries ≡ v.tries ++ (1, Some (log_of x)) ∷ (g, Some (log_of y)) ∷ []
   two_tries v g x y = append_assoc v.tries ((1, Some (log_of x)) ∷ []) ((g, Some (log_of y)) ∷ [])
 
+  -- a seat once its pass took the part k
+  abbrev pub with_taken : Seated A → ℕ → Slot A → Seated A
+  with_taken m k x = (taking m.0 k x, (k, None) ∷ m.1)
+
+  -- the Shared part, then the guest g
+  abbrev pub with_both : Seated A → Slot A → ℕ → Slot A → Seated A
+  with_both m x g y = with_taken (with_taken m 1 x) g y
+
+  -- or found it taken
+  abbrev pub with_missed : Seated A → ℕ → Seated A
+  with_missed m k = (missing m.0 k, m.1)
+
+  -- or put it home, unused or with a call stored
+  abbrev pub with_home : Seated A → ℕ → Seated A
+  with_home m k = (letting m.0 k, tail m.1)
+
+  abbrev pub with_stored : Seated A → CpuState → Hands A → ℕ → Seated A
+  with_stored m own after k = (storing own after m.0 k, tail after)
+
+  pub home_of : {m t n : Seated A} (k : ℕ) → t ≡ m → n ≡ with_home t k → n ≡ with_home m k
+  home_of k e home = home ∙ ap (λ m. with_home m k) e
+
+  -- what a call that isn't stored tells, of a seat of which all but the tries is as before
+  abbrev tells_none : List ℕ → Tried → Seated A → Seated A → Type 0
+  tells_none ks t m n = IsSame (known_of m.0) (known_of n.0) × TriesOf ks t (known_of m.0) (known_of n.0)
+
   -- of a step that uses one part
-  pub away_first : (v w : View A) (k : ℕ) (ks : List ℕ) → w ≡ missing v k → IsSame (known_of v) (known_of w) × TriesOf (k ∷ ks) Contended (known_of v) (known_of w)
-  away_first v w k ks e = subst (λ (u : View A). IsSame (known_of v) (known_of u) × TriesOf (k ∷ ks) Contended (known_of v) (known_of u)) (sym e)
+  pub away_first : {n : Seated A} (m : Seated A) (k : ℕ) (ks : List ℕ) → n ≡ with_missed m k → tells_none (k ∷ ks) Contended m n
+  away_first m k ks e = subst (tells_none (k ∷ ks) Contended m) (sym e)
       (record { layout = refl; cpu = refl; own = refl; seen = refl }, ((k, None) ∷ [], refl, (None, [], refl, inl (refl, refl))))
 
-  pub full_first : (v w : View A) (k : ℕ) (ks : List ℕ) (x : Slot A) → w ≡ letting (taking v k x) k → (log_of x).room ≡ 0 → IsSame (known_of v) (known_of w) × TriesOf (k ∷ ks) LogFull (known_of v) (known_of w)
-  full_first v w k ks x e full = subst (λ (u : View A). IsSame (known_of v) (known_of u) × TriesOf (k ∷ ks) LogFull (known_of v) (known_of u)) (sym e)
+  pub full_first : {n : Seated A} (m : Seated A) (k : ℕ) (ks : List ℕ) (x : Slot A) → n ≡ with_home (with_taken m k x) k → (log_of x).room ≡ 0 → tells_none (k ∷ ks) LogFull m n
+  full_first m k ks x e full = subst (tells_none (k ∷ ks) LogFull m) (sym e)
       (record { layout = refl; cpu = refl; own = refl; seen = refl }, ((k, Some (log_of x)) ∷ [], refl, (Some (log_of x), [], refl, inl ((log_of x, refl, full), refl))))
 
-  pub stored_first : (c : Call) (own : CpuState) (v w : View A) (k : ℕ) (x y : Slot A) → w ≡ storing own ((k, Some y) ∷ []) (taking v k x) k
-      → (log_of x).room ≢ 0 → StartsWith (log_of x).calls (seen_at v.seen k) → log_of y ≡ with_call c (log_of x) → own.log ≡ with_call c v.own.log
-      → ((j : ℕ) (z : Slot A) → held_at ((k, Some y) ∷ []) j ≡ Some z → uses c j ≡ true) → Extends c (known_of w) → Adds c (known_of v) (known_of w) × TriesOf (k ∷ []) (Stored c) (known_of v) (known_of w)
-  stored_first c own v w k x y e room begun grown mine only h = (
-    added_by c ((k, Some y) ∷ []) (known_of v) (known_of w) (ap (λ (u : View A). u.layout) e) (ap (λ (u : View A). u.cpu) e) (ap (λ (u : View A). u.own.log) e ∙ mine) (ap (λ (u : View A). u.seen) e) only h,
-    subst (λ (u : View A). TriesOf (k ∷ []) (Stored c) (known_of v) (known_of u)) (sym e)
-        ((k, Some (log_of x)) ∷ [], refl, (log_of x, [], refl, room, begun, at_same v.seen k (log_of y).calls [] ∙ ap (λ (g : StoredCalls). g.calls) grown, refl)),
+  -- A stored call is the step's, by the seat z that it left, of which what was tried is told by itself
+  pub told_stored : {step : Step} {c : Call} {l : Layout} {id : ℕ} {own owned : CpuState} {b : ℕ → Option (Slot A)} {z n : Seated A} (ks : List ℕ) (m : Seated A) (es : Hands A) → n ≡ z
+      → (z.0.layout ≡ m.0.layout) × (z.0.cpu ≡ m.0.cpu) × (z.0.own ≡ owned) × (z.0.seen ≡ seen_with es m.0.seen) → m.0.cpu ≡ id → m.0.own ≡ own → IsCalled id own step c → Does l c b own (held_at es) owned
+      → Extends c (known_of n.0) → TriesOf ks (Stored c) (known_of m.0) (known_of z.0) → Tells step ks (Stored c) (known_of m.0) (known_of n.0)
+  told_stored {step = step} {c = c} {n = n} ks m es e same a b called d h tries = (
+    subst (λ (z : ℕ × CpuState). IsCalled z.0 z.1 step c) (λ i. (sym a i, sym b i)) called,
+    d.stored,
+    added_by c es (known_of m.0) (known_of n.0) (ap (λ (z : Seated A). z.0.layout) e ∙ same.0) (ap (λ (z : Seated A). z.0.cpu) e ∙ same.1)
+        (ap (λ (z : Seated A). z.0.own.log) e ∙ (ap (λ (k : CpuState). k.log) same.2 ∙ (d.mine ∙ ap (λ (k : CpuState). with_call c k.log) (sym b)))) (ap (λ (z : Seated A). z.0.seen) e ∙ same.3) d.only h,
+    subst (λ (z : Seated A). TriesOf ks (Stored c) (known_of m.0) (known_of z.0)) (sym e) tries,
   )
 
-  -- of a step that uses no part
-  pub stored_none : (c : Call) (own : CpuState) (v w : View A) → w ≡ storing own [] v 0 → own.log ≡ with_call c v.own.log → Extends c (known_of w) → Adds c (known_of v) (known_of w) × TriesOf [] (Stored c) (known_of v) (known_of w)
-  stored_none c own v w e mine h = (
-    added_by c [] (known_of v) (known_of w) (ap (λ (u : View A). u.layout) e) (ap (λ (u : View A). u.cpu) e) (ap (λ (u : View A). u.own.log) e ∙ mine) (ap (λ (u : View A). u.seen) e) (λ j y q. absurd cc) h,
-    ([], ap (λ (u : View A). u.tries) e ∙ sym (Rattle.std.proofs.Common.append-nil v.tries), refl),
-  )
+  pub stored_first : {step : Step} {c : Call} {l : Layout} {id : ℕ} {own owned : CpuState} {n : Seated A} (m : Seated A) (k : ℕ) (x y : Slot A) → n ≡ with_stored (with_taken m k x) owned ((k, Some y) ∷ []) k
+      → m.0.cpu ≡ id → m.0.own ≡ own → (log_of x).room ≢ 0 → StartsWith (log_of x).calls (seen_at m.0.seen k)
+      → IsCalled id own step c → Does l c (only_at k x) own (only_at k y) owned → Extends c (known_of n.0) → Tells step (k ∷ []) (Stored c) (known_of m.0) (known_of n.0)
+  stored_first {c = c} {l = l} {own = own} {owned = owned} m k x y e a b room begun called d h =
+      let grown = log_grows l c (only_at k x) (only_at k y) own owned k x y d (only_here k x) (only_here k y) in
+      told_stored (k ∷ []) m ((k, Some y) ∷ []) e (refl, refl, refl, refl) a b called d h
+      ((k, Some (log_of x)) ∷ [], refl, (log_of x, [], refl, room, begun, at_same m.0.seen k (log_of y).calls [] ∙ ap (λ (g : StoredCalls). g.calls) grown, refl))
 
   -- of a step that uses two
-  pub away_second : (v w : View A) (g : ℕ) (x : Slot A) → w ≡ letting (missing (taking v 1 x) g) 1 → (log_of x).room ≢ 0 → IsSame (known_of v) (known_of w) × TriesOf (1 ∷ g ∷ []) Contended (known_of v) (known_of w)
-  away_second v w g x e room = subst (λ (u : View A). IsSame (known_of v) (known_of u) × TriesOf (1 ∷ g ∷ []) Contended (known_of v) (known_of u)) (sym e) (
+  pub away_second : {n : Seated A} (m : Seated A) (g : ℕ) (x : Slot A) → n ≡ with_home (with_missed (with_taken m 1 x) g) 1 → (log_of x).room ≢ 0 → tells_none (1 ∷ g ∷ []) Contended m n
+  away_second m g x e room = subst (tells_none (1 ∷ g ∷ []) Contended m) (sym e) (
     record { layout = refl; cpu = refl; own = refl; seen = refl },
     (
       (1, Some (log_of x)) ∷ (g, None) ∷ [],
-      append_assoc v.tries ((1, Some (log_of x)) ∷ []) ((g, None) ∷ []),
+      append_assoc m.0.tries ((1, Some (log_of x)) ∷ []) ((g, None) ∷ []),
       (Some (log_of x), (g, None) ∷ [], refl, inr ((log_of x, refl, room), (None, [], refl, inl (refl, refl)))),
     ),
   )
 
-  pub full_second : (v w : View A) (g : ℕ) (x y : Slot A) → w ≡ letting (letting (taking (taking v 1 x) g y) g) 1 → (log_of x).room ≢ 0 → (log_of y).room ≡ 0
-      → IsSame (known_of v) (known_of w) × TriesOf (1 ∷ g ∷ []) LogFull (known_of v) (known_of w)
-  full_second v w g x y e room full = subst (λ (u : View A). IsSame (known_of v) (known_of u) × TriesOf (1 ∷ g ∷ []) LogFull (known_of v) (known_of u)) (sym e) (
+  pub full_second : {n : Seated A} (m : Seated A) (g : ℕ) (x y : Slot A) → n ≡ with_home (with_home (with_both m x g y) g) 1 → (log_of x).room ≢ 0 → (log_of y).room ≡ 0 → tells_none (1 ∷ g ∷ []) LogFull m n
+  full_second m g x y e room full = subst (tells_none (1 ∷ g ∷ []) LogFull m) (sym e) (
     record { layout = refl; cpu = refl; own = refl; seen = refl },
     (
       (1, Some (log_of x)) ∷ (g, Some (log_of y)) ∷ [],
-      two_tries v g x y,
+      two_tries m.0 g x y,
       (Some (log_of x), (g, Some (log_of y)) ∷ [], refl, inr ((log_of x, refl, room), (Some (log_of y), [], refl, inl ((log_of y, refl, full), refl)))),
     ),
   )
 
-  pub stored_second : (c : Call) (own : CpuState) (v w : View A) (g : ℕ) (x y s t : Slot A) → w ≡ letting (storing own ((g, Some t) ∷ (1, Some s) ∷ []) (taking (taking v 1 x) g y) g) 1 → 1 ≢ g
-      → (log_of x).room ≢ 0 → (log_of y).room ≢ 0 → StartsWith (log_of x).calls (seen_at v.seen 1) → StartsWith (log_of y).calls (seen_at v.seen g)
-      → log_of s ≡ with_call c (log_of x) → log_of t ≡ with_call c (log_of y) → own.log ≡ with_call c v.own.log
-      → ((j : ℕ) (z : Slot A) → held_at ((g, Some t) ∷ (1, Some s) ∷ []) j ≡ Some z → uses c j ≡ true) → Extends c (known_of w) → Adds c (known_of v) (known_of w) × TriesOf (1 ∷ g ∷ []) (Stored c) (known_of v) (known_of w)
-  stored_second c own v w g x y s t e ne room room' begun begun' grown grown' mine only h = (
-    added_by c ((g, Some t) ∷ (1, Some s) ∷ []) (known_of v) (known_of w) (ap (λ (u : View A). u.layout) e) (ap (λ (u : View A). u.cpu) e) (ap (λ (u : View A). u.own.log) e ∙ mine) (ap (λ (u : View A). u.seen) e) only h,
-    subst (λ (u : View A). TriesOf (1 ∷ g ∷ []) (Stored c) (known_of v) (known_of u)) (sym e) (
-      (1, Some (log_of x)) ∷ (g, Some (log_of y)) ∷ [],
-      two_tries v g x y,
-      (
-        log_of x,
-        (g, Some (log_of y)) ∷ [],
-        refl,
-        room,
-        begun,
-        at_other ((1, (log_of s).calls) ∷ v.seen) g 1 (log_of t).calls [] ne ∙ (at_same v.seen 1 (log_of s).calls [] ∙ ap (λ (z : StoredCalls). z.calls) grown),
-        (log_of y, [], refl, room', begun', at_same ((1, (log_of s).calls) ∷ v.seen) g (log_of t).calls [] ∙ ap (λ (z : StoredCalls). z.calls) grown', refl),
-      ),
-    ),
-  )
+  pub stored_second : {step : Step} {c : Call} {l : Layout} {id : ℕ} {own owned : CpuState} {n : Seated A} (m : Seated A) (g : ℕ) (x y s t : Slot A)
+      → n ≡ with_home (with_stored (with_both m x g y) owned ((g, Some t) ∷ (1, Some s) ∷ []) g) 1 → 1 ≢ g
+      → m.0.cpu ≡ id → m.0.own ≡ own → (log_of x).room ≢ 0 → (log_of y).room ≢ 0 → StartsWith (log_of x).calls (seen_at m.0.seen 1) → StartsWith (log_of y).calls (seen_at m.0.seen g)
+      → IsCalled id own step c → Does l c (both_at g y 1 x) own (both_at g t 1 s) owned → Extends c (known_of n.0) → Tells step (1 ∷ g ∷ []) (Stored c) (known_of m.0) (known_of n.0)
+  stored_second {c = c} {l = l} {own = own} {owned = owned} m g x y s t e ne a b room room' begun begun' called d h =
+      let grown = λ (k : ℕ) (z r : Slot A). log_grows l c (both_at g y 1 x) (both_at g t 1 s) own owned k z r d in
+      told_stored (1 ∷ g ∷ []) m ((g, Some t) ∷ (1, Some s) ∷ []) e (refl, refl, refl, refl) a b called d h (
+        (1, Some (log_of x)) ∷ (g, Some (log_of y)) ∷ [],
+        two_tries m.0 g x y,
+        (
+          log_of x,
+          (g, Some (log_of y)) ∷ [],
+          refl,
+          room,
+          begun,
+          at_other ((1, (log_of s).calls) ∷ m.0.seen) g 1 (log_of t).calls [] ne ∙ (at_same m.0.seen 1 (log_of s).calls [] ∙ ap (λ (z : StoredCalls). z.calls) (grown 1 x s (at_second g 1 y x ne) (at_second g 1 t s ne))),
+          (log_of y, [], refl, room', begun', at_same ((1, (log_of s).calls) ∷ m.0.seen) g (log_of t).calls [] ∙ ap (λ (z : StoredCalls). z.calls) (grown g y t (at_first g 1 y x) (at_first g 1 t s)), refl),
+        ),
+      )
 
-  -- what a view keeps of its CPU, from the view that it is
-  pub cpu_told : (l : TheLayout) (id : ℕ) (own : CpuState) (w u : View A) → w ≡ u → u.layout ≡ l → u.cpu ≡ id → u.own ≡ own → u.on ≡ true → (w.layout ≡ l) × (w.cpu ≡ id) × (w.own ≡ own) × (w.on ≡ true)
-  cpu_told l id own w u e a b d on = (ap (λ (z : View A). z.layout) e ∙ a, ap (λ (z : View A). z.cpu) e ∙ b, ap (λ (z : View A). z.own) e ∙ d, ap (λ (z : View A). z.on) e ∙ on)
+  -- what a seat keeps of its CPU and holds of the table, from the seat that it is
+  pub cpu_told : {l : TheLayout} {id : ℕ} {own : CpuState} {m n : Seated A} → n ≡ m → (m.0.layout ≡ l) × (m.0.cpu ≡ id) × (m.0.own ≡ own) → m.0.on ≡ true → (n.0.layout ≡ l) × (n.0.cpu ≡ id) × (n.0.own ≡ own) × (n.0.on ≡ true)
+  cpu_told {l = l} {id = id} {own = own} e q on = subst (λ (z : Seated A). (z.0.layout ≡ l) × (z.0.cpu ≡ id) × (z.0.own ≡ own) × (z.0.on ≡ true)) (sym e) (q.0, q.1, q.2, on)
 
-  -- a seat whose pass found the part k taken
-  pub missed_left : (k : ℕ) (m n : Seated A) → n ≡ (missing m.0 k, m.1) → AtRest m.0 → AtRest n.0
-  missed_left k m n e r = subst (λ (z : Seated A). AtRest z.0) (sym e) r
+  pub left_told : {m n : Seated A} → n ≡ m → AtRest m.0 → AtRest n.0
+  left_told e r = subst (λ (z : Seated A). AtRest z.0) (sym e) r
 
-  pub missed_rest : (k : ℕ) (m n : Seated A) → n ≡ (missing m.0 k, m.1) → (m.1 ≡ []) × IsIdle m.0 → (n.1 ≡ []) × IsIdle n.0
-  missed_rest k m n e r = (ap (λ (z : Seated A). z.1) e ∙ r.0, λ j. ap (λ (z : Seated A). held_at z.0.held j) e ∙ r.1 j)
-
-  -- a seat whose pass took the part k and let it home
-  pub back_rest : (k : ℕ) (x : Slot A) (m t n : Seated A) → t ≡ (taking m.0 k x, (k, None) ∷ m.1) → n ≡ (letting t.0 k, tail t.1) → (m.1 ≡ []) × IsIdle m.0 → (n.1 ≡ []) × IsIdle n.0
-  back_rest k x m t n e f r = (
-    ap (λ (z : Seated A). z.1) f ∙ (ap (λ (z : Seated A). tail z.1) e ∙ r.0),
-    λ j. ap (λ (z : Seated A). held_at z.0.held j) f ∙ (ap (λ (z : Seated A). held_at ((k, None) ∷ z.0.held) j) e ∙ one_gone m.0.held k (Some x) r.1 j),
-  )
+  pub rest_told : {m n : Seated A} → n ≡ m → m.1 ≡ [] → IsIdle m.0 → (n.1 ≡ []) × IsIdle n.0
+  rest_told e none idle = subst (λ (z : Seated A). (z.1 ≡ []) × IsIdle z.0) (sym e) (none, idle)
 
   -- what a step may rely on, from what the last take told
-  pub left_of : (l : TheLayout) (cpu : ℕ) (own : CpuState) (w : View A) (f : ℕ → Option (Slot A)) → Standing w → w.layout ≡ l → w.cpu ≡ cpu → w.own ≡ own → ((j : ℕ) → f j ≡ held_at w.held j)
+  pub left_of : {l : TheLayout} {cpu : ℕ} {own : CpuState} {f : ℕ → Option (Slot A)} (w : View A) → Standing w → w.layout ≡ l → w.cpu ≡ cpu → w.own ≡ own → ((j : ℕ) → f j ≡ held_at w.held j)
       → IsLeft (layout_of l) cpu own f
-  left_of l cpu own w f s a b d h = record {
+  left_of w s a b d h = record {
     ready = subst (λ (z : TheLayout). CanBoot (layout_of z)) a s.ready;
     log = s.log;
     state = s.state;
@@ -167,13 +187,7 @@ module _ {A : Type 0} where
     logs = λ j x q. absurd cc;
   }
 
-  -- a pass's own state is left by a run, before and after each try
-  pub rest_same : (v w : View A) → IsSame (known_of v) (known_of w) → AtRest v → AtRest w
-  rest_same v w s r = left_of_rest v w (sym s.layout) (sym s.cpu) (sym s.own) r
-    where
-      left_of_rest : (v w : View A) → v.layout ≡ w.layout → v.cpu ≡ w.cpu → v.own ≡ w.own → AtRest v → AtRest w
-      left_of_rest v w a b d r = left_idle w.layout w.cpu w.own v r a b d
-
+  -- after a stored call a pass's own state is as a run leaves it
   pub rest_added : (c : Call) (w : View A) → Extends c (known_of w) → AtRest w
   rest_added c w h = record {
     ready = h.ready;
@@ -186,9 +200,9 @@ module _ {A : Type 0} where
     logs = λ j x q. absurd cc;
   }
 
-  -- what a call left of a view stands after a further part went home
-  pub rest_home : (c : Call) (v w : View A) → w ≡ letting v 1 → Extends c (known_of v) → Extends c (known_of w)
-  rest_home c v w e h = subst (λ (u : View A). Extends c (known_of u)) (sym e) record {
+  -- what a call left of a seat's view stands after a further part went home
+  pub rest_home : {c : Call} {n : Seated A} (m : Seated A) → n ≡ with_home m 1 → Extends c (known_of m.0) → Extends c (known_of n.0)
+  rest_home {c = c} m e h = subst (λ (z : Seated A). Extends c (known_of z.0)) (sym e) record {
     ready = h.ready;
     log = h.log;
     state = h.state;
@@ -199,20 +213,16 @@ module _ {A : Type 0} where
     seen = h.seen;
   }
 
-  -- the same step on what reads as the same
-  pub does_as : (l : Layout) (c : Call) (b b' : ℕ → Option (Slot A)) (n : CpuState) (a a' : ℕ → Option (Slot A)) (m : CpuState) → ((k : ℕ) → b k ≡ b' k) → ((k : ℕ) → a k ≡ a' k)
-      → Does l c b n a m → Does l c b' n a' m
-  does_as l c b b' n a a' m B C d = record {
+  -- the step that a view's layout, parts and state give, from that which the call was lent
+  pub does_for : {l : TheLayout} {c : Call} {b a : ℕ → Option (Slot A)} {own owned : CpuState} (w : View A) → w.layout ≡ l → w.own ≡ own → ((k : ℕ) → b k ≡ held_at w.held k) → Does (layout_of l) c b own a owned
+      → Does (layout_of w.layout) c (held_at w.held) w.own a owned
+  does_for {c = c} {a = a} {owned = owned} w p q h d = subst (λ (z : TheLayout × CpuState). Does (layout_of z.0) c (held_at w.held) z.1 a owned) (λ i. (sym p i, sym q i)) record {
     stored = d.stored;
     mine = d.mine;
-    used = λ k u. let t = d.used k u in (t.0, t.1, sym (B k) ∙ t.2, sym (C k) ∙ t.3, t.4);
-    only = λ k y e. d.only k y (C k ∙ e);
-    goes = λ s ps o. let t = d.goes s (λ k x e. ps k x (sym (B k) ∙ e)) o in (t.0, t.1, (λ k y e. t.2 k y (C k ∙ e)), t.3, t.4, t.5);
+    used = λ k u. let t = d.used k u in (t.0, t.1, sym (h k) ∙ t.2, t.3, t.4);
+    only = d.only;
+    goes = λ s ps o. d.goes s (λ k x e. ps k x (sym (h k) ∙ e)) o;
   }
-
-  -- the step that a view's layout and state give, from that which the call was lent
-  pub does_for : (l l' : TheLayout) (c : Call) (b : ℕ → Option (Slot A)) (n n' : CpuState) (a : ℕ → Option (Slot A)) (m : CpuState) → l' ≡ l → n' ≡ n → Does (layout_of l) c b n a m → Does (layout_of l') c b n' a m
-  does_for l l' c b n n' a m p q d = subst (λ (z : TheLayout × CpuState). Does (layout_of z.0) c b z.1 a m) (λ i. (sym p i, sym q i)) d
 
 -- the answer to a try, where the CPU's own log had room
 pub answers_of : (step : Step) (t : Tried) (reply : Reply) (u v w : Known) (own : CpuState) → u ≡ v → v.own ≡ own → reply ≡ reply_of t → own.log.room ≢ 0

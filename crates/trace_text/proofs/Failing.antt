@@ -6,6 +6,11 @@ use Rattle.trace_reader.specs.declared.outcome.EngineFault.{EngineFault}
 use Rattle.trace_reader.specs.declared.outcome.EngineFault.TheVariants.{Read, Write, NoMemory}
 use Rattle.trace_text.specs.Failures.{CountsReads, CountsWrites, TellsWrite}
 
+-- what fails is none that is well
+pub failed : {X E : Type 0} (P : X → Type 0) (Q : E → Type 0) (r : Result X E) → IsErrAnd r Q → IfOk r P
+failed P Q (Ok x) h = absurd h
+failed P Q (Err e) h = tt
+
 module _ {X : Type 0} where
   -- a fault is no report
   pub no_report : (P : X → Type 0) (Q : EngineFault → Type 0) (r : Result X EngineFault) → IsErrAnd r Q → IfOk r P

@@ -14,6 +14,7 @@ ghost use Rattle.trace_text.specs.Worlds.{IsWordOn, free_told, guest_free_told, 
 
 use crate::fault::Fault;
 use crate::oracle::{Oracle, Verdict};
+use ghost_oracle::compared::Compared;
 use ghost_spec::state::Ghost;
 use guest_component::Body;
 use maplets::Maplets;
@@ -170,8 +171,9 @@ impl<A: Allocator + Copy> Session<A> {
         match self.booted(carve) {
             Ok(world) => {
                 let line = boot_line(&world);
-                self.world = Some(world);
-                self.state = None;
+                // What stood there goes to `drop`, as in `checked`.
+                drop(self.world.replace(world));
+                drop(self.state.take());
                 Ok(Reported::Line(line))
             }
             Err(stop) => Err(stop),
@@ -215,7 +217,8 @@ impl<A: Allocator + Copy> Session<A> {
         };
         self.steps += 1;
         self.disagreements += made.verdict.count();
-        self.state = Some(made.after);
+        // The state before goes to `drop`, as in `checked`.
+        drop(self.state.replace(made.after));
         let line = Response::Step {
             line: number,
             cpu,
@@ -306,12 +309,22 @@ fn checked<A: Allocator + Copy, O: Oracle>(
 {
     let before = state_before(global, world, remembered)?;
     let reply = world.step(cpu, step);
-    let after = world.kept_and_walked(global)?;
-    let verdict = oracle.check(global, before, cpu, step, reply, &after)?;
+    // States are handed to `drop`: the proof of a scope's end would go through all parts of each.
+    let Ok(after) = world.kept_and_walked(global) else {
+        drop(before);
+        return Err(AllocError);
+    };
+    let verdict = oracle.check(global, before, cpu, step, reply, &after);
+    let Compared { kept, other } = after;
+    drop(other);
+    let Ok(verdict) = verdict else {
+        drop(kept);
+        return Err(AllocError);
+    };
     Ok(Made {
         reply,
         verdict,
-        after: after.kept,
+        after: kept,
     })
 }
 

@@ -65,7 +65,7 @@ pub fn replay_with<A: Allocator + Copy, S: Source, K: Sink, O: Oracle>(
     let mut text = String::with_capacity(global, MOST_BYTES).map_err(|_| EngineFault::NoMemory)?;
     let mut ahead = ReadAhead::new(global).map_err(|_| EngineFault::NoMemory)?;
     let mut session = Session::new(global, alloc);
-    replay_lines(
+    let outcome = replay_lines(
         &mut session,
         oracle,
         source,
@@ -73,7 +73,10 @@ pub fn replay_with<A: Allocator + Copy, S: Source, K: Sink, O: Oracle>(
         &mut line,
         sink,
         &mut text,
-    )
+    );
+    // As in `session::checked`.
+    drop(session);
+    outcome
 }
 
 /// Carries out the lines of what is left of a trace. `ahead` is what was read ahead of them, `line` and `text` are room for

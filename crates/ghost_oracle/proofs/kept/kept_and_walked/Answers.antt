@@ -1,10 +1,33 @@
-use Rattle.std.proofs.Common.{arith}
-use Rattle.hypercalls.specs.Stands.{state_of}
-use Rattle.ghost_spec.specs.States.{ghost_state}
-use Rattle.ghost_oracle.proofs.Comparing.{found_kept, rows_kept}
+use Rattle.ghost_oracle.specs.declared.compared.Compared.{Compared}
+use Rattle.ghost_oracle.proofs.Scratch.{if_ok}
 use Rattle.ghost_oracle.proofs.kept.kept_and_walked.Goals as goal
 
-pub returns-then-is_kept-clause-state : goal.returns-then-is_kept-clause-state
-returns-then-is_kept-clause-state g c =
-    let p = c.args.parts.now in
-    found_kept _ (state_of p) (ghost_state c.in_ok-walked.walked) c.in_ok-walked.ensures.state (rows_kept p.shared.items c.in_ok-walked.walked.shared.rows.runs (omega (arith, p.one_shared, p.shared.ok.0)) (c.is_kept.ensures.rows c.if-is_kept.true))
+pub returns-clause-state : goal.returns-clause-state
+returns-clause-state g c = if_ok _ _ c.compared.result (λ (x : Compared) e. e.state) c.compared.ensures
+
+pub returns-clause-layout : goal.returns-clause-layout
+returns-clause-layout g c = if_ok _ _ c.compared.result (λ (x : Compared) e. e.layout) c.compared.ensures
+
+pub returns-clause-kept : goal.returns-clause-kept
+returns-clause-kept g c = if_ok _ _ c.compared.result (λ (x : Compared) e. e.kept) c.compared.ensures
+
+pub returns-clause-maplets : goal.returns-clause-maplets
+returns-clause-maplets g c = if_ok _ _ c.compared.result (λ (x : Compared) e. e.maplets) c.compared.ensures
+
+pub returns-clause-rows : goal.returns-clause-rows
+returns-clause-rows g c = if_ok _ _ c.compared.result (λ (x : Compared) e. e.rows) c.compared.ensures
+
+pub returns-clause-frames : goal.returns-clause-frames
+returns-clause-frames g c = if_ok _ _ c.compared.result (λ (x : Compared) e. e.frames) c.compared.ensures
+
+pub returns-clause-walked : goal.returns-clause-walked
+returns-clause-walked g c = if_ok _ _ c.compared.result (λ (x : Compared) e. e.walked) c.compared.ensures
+
+pub returns-clause-walked_layout : goal.returns-clause-walked_layout
+returns-clause-walked_layout g c = if_ok _ _ c.compared.result (λ (x : Compared) e. e.walked_layout) c.compared.ensures
+
+pub returns-clause-walked_kept : goal.returns-clause-walked_kept
+returns-clause-walked_kept g c = if_ok _ _ c.compared.result (λ (x : Compared) e. e.walked_kept) c.compared.ensures
+
+pub returns-clause-walked_frames : goal.returns-clause-walked_frames
+returns-clause-walked_frames g c = if_ok _ _ c.compared.result (λ (x : Compared) e. e.walked_frames) c.compared.ensures

@@ -1,9 +1,5 @@
-use Rattle.std.proofs.Common.{[], sym, refl}
-use Rattle.page_state.specs.LayoutView.{layout_of}
-use Rattle.part_table.specs.declared.rule.View.{View}
-use Rattle.part_table.specs.Does.{none_at}
-use Rattle.part_table.specs.Rule.{held_at}
-use Rattle.part_table.proofs.Telling.{does_as, does_for, left_idle}
+use Rattle.std.proofs.Common.{[], sym, refl, append-nil}
+use Rattle.part_table.proofs.Telling.{does_for, left_idle, told_stored}
 use Rattle.part_table.proofs.tries.none.Goals as goal
 
 pub idle-call-requires-clause-left : goal.idle-call-requires-clause-left
@@ -11,7 +7,10 @@ idle-call-requires-clause-left g c = let q = c.requires.cpu in ∣ left_idle c.a
 
 pub enter-requires-clause-does : goal.enter-requires-clause-does
 enter-requires-clause-does g c =
-    let v : View g.row.A.Denot = c.args.seat.now.me.0 in
     let q = c.requires.cpu in
-    does_for c.args.layout.now v.layout c.idle-call.result (held_at v.held) c.args.cpu.now v.own (held_at []) c.idle-call.new.cpu q.0 q.2
-    (does_as (layout_of c.args.layout.now) c.idle-call.result none_at (held_at v.held) c.args.cpu.now none_at (held_at []) c.idle-call.new.cpu (λ j. sym (c.requires.rest.1 j)) (λ j. refl) c.idle-call.ensures.does)
+    does_for c.args.seat.now.me.0 q.0 q.2 (λ j. sym (c.requires.rest.1 j)) c.idle-call.ensures.does
+
+pub returns-clause-tells : goal.returns-clause-tells
+returns-clause-tells g c =
+    let q = c.requires.cpu in
+    told_stored [] c.args.seat.now.me [] c.enter.ensures.entered (refl, refl, refl, refl) q.1 q.2 c.idle-call.ensures.call c.idle-call.ensures.does c.enter.ensures.history ([], sym (append-nil c.args.seat.now.me.0.tries), refl)

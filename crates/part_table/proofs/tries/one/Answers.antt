@@ -1,87 +1,51 @@
-use Rattle.std.proofs.Common.{rules, ◌≡◌, ◌≢◌, ℕ, ◌∷◌, [], sym, ap, ◌∙◌, subst, refl}
+use Rattle.std.proofs.Common.{◌≡◌, ℕ, ◌∷◌, [], sym, ap, ◌∙◌, refl}
 use Rattle.std.specs.Prelude.{Some, None}
-use Rattle.page_state.specs.declared.reply.Call.{Call}
-use Rattle.page_state.specs.LayoutView.{layout_of}
-use Rattle.guest_steps.specs.declared.parts.CpuState.{CpuState}
-use Rattle.guest_steps.specs.Lent.{with_call}
-use Rattle.part_table.specs.declared.rule.View.{View}
-use Rattle.part_table.specs.declared.slot.Slot.{Slot}
-use Rattle.part_table.specs.Parts.{log_of}
 use Rattle.part_table.specs.Does.{only_at}
-use Rattle.part_table.specs.Rule.{Seated, AtRest, held_at, taking, missing, letting, storing}
-use Rattle.part_table.proofs.Holding.{one_held, only_like, only_here}
+use Rattle.part_table.specs.Rule.{Seated, held_at}
+use Rattle.part_table.proofs.Holding.{one_held, one_gone, only_like}
 use Rattle.part_table.proofs.Pairs.{at_same, by_front}
-use Rattle.part_table.proofs.Telling.{does_as, does_for, left_of, log_grows, away_first, full_first, stored_first, cpu_told, missed_left, missed_rest, back_rest, rest_added}
+use Rattle.part_table.proofs.Telling.{with_taken, with_home, with_stored, home_of, does_for, left_of, away_first, full_first, stored_first, cpu_told, left_told, rest_told, rest_added}
+use Rattle.part_table.proofs.tries.one.Goals.{In-Some, After-put_back, After-commit}
 use Rattle.part_table.proofs.tries.one.Goals as goal
+
+-- the seat's view holds the part alone
+held : (g : _) (c : In-Some g) (j : ℕ) → only_at c.args.k c.in-Some.part j ≡ held_at c.take.new.seat.me.0.held j
+held g c j = one_held c.args.seat.now.me.0.held c.args.k c.in-Some.part c.requires.rest.1 j ∙ ap (λ (m : Seated g.row.A.Denot). held_at m.0.held j) (sym c.in-Some.ensures.taken.0)
+
+-- the seat where the part is home again, unused, and where a call was stored in its log
+back : (g : _) (c : After-put_back g) → c.put_back.new.seat.me ≡ with_home (with_taken c.args.seat.now.me c.args.k c.in-Some.part) c.args.k
+back g c = home_of c.args.k c.in-Some.ensures.taken.0 c.put_back.ensures.home
+
+stored : (g : _) (c : After-commit g) → c.commit.new.seat.me ≡ with_stored (with_taken c.args.seat.now.me c.args.k c.in-Some.part) c.alone-part.new.cpu ((c.args.k, Some c.alone-part.result.0) ∷ []) c.args.k
+stored g c = c.commit.ensures.home ∙ ap (λ (m : Seated g.row.A.Denot). with_stored m c.alone-part.new.cpu ((c.args.k, Some c.alone-part.result.0) ∷ []) c.args.k) c.in-Some.ensures.taken.0
 
 pub alone-part-requires-clause-left : goal.alone-part-requires-clause-left
 alone-part-requires-clause-left g c =
-    let k : ℕ = c.args.k in
-    let x : Slot g.row.A.Denot = c.in-Some.part in
-    let v : View g.row.A.Denot = c.args.seat.now.me.0 in
-    let w : View g.row.A.Denot = c.take.new.seat.me.0 in
-    let t = c.in-Some.ensures.taken in
-    let e : w ≡ taking v k x = ap (λ z. z.0) t.0 in
-    let q = c.requires.cpu in
-    ∣ left_of c.args.layout.now c.args.id c.args.cpu.now w (only_at k x) t.2
-    (ap (λ (u : View g.row.A.Denot). u.layout) e ∙ q.0) (ap (λ (u : View g.row.A.Denot). u.cpu) e ∙ q.1) (ap (λ (u : View g.row.A.Denot). u.own) e ∙ q.2)
-    (λ j. one_held v.held k x c.requires.rest.1 j ∙ ap (λ (u : View g.row.A.Denot). held_at u.held j) (sym e)) ∣₁
+    let q = cpu_told c.in-Some.ensures.taken.0 c.requires.cpu c.requires.on in
+    ∣ left_of c.take.new.seat.me.0 c.in-Some.ensures.taken.2 q.0 q.1 q.2 (held g (goal.at.alone-part-requires-clause-left g c).In-Some) ∣₁
 
 pub commit-requires-clause-used : goal.commit-requires-clause-used
 commit-requires-clause-used g c j z h =
-    let k : ℕ = c.args.k in
-    let x : Slot g.row.A.Denot = c.in-Some.part in
-    let y : Slot g.row.A.Denot = c.alone-part.result.0 in
-    let v : View g.row.A.Denot = c.args.seat.now.me.0 in
-    let e : c.take.new.seat.me.0 ≡ taking v k x = ap (λ z. z.0) c.in-Some.ensures.taken.0 in
-    c.alone-part.ensures.does.only j y (only_like k j x y z (one_held v.held k x c.requires.rest.1 j ∙ (ap (λ (u : View g.row.A.Denot). held_at u.held j) (sym e) ∙ h)))
+    let y = c.alone-part.result.0 in
+    c.alone-part.ensures.does.only j y (only_like c.args.k j c.in-Some.part y z (held g (goal.at.commit-requires-clause-used g c).In-Some j ∙ h))
 
 pub commit-requires-clause-does : goal.commit-requires-clause-does
 commit-requires-clause-does g c =
-    let k : ℕ = c.args.k in
-    let x : Slot g.row.A.Denot = c.in-Some.part in
-    let y : Slot g.row.A.Denot = c.alone-part.result.0 in
-    let call : Call = c.alone-part.result.1 in
-    let v : View g.row.A.Denot = c.args.seat.now.me.0 in
-    let w : View g.row.A.Denot = c.take.new.seat.me.0 in
-    let n : CpuState = c.alone-part.new.cpu in
-    let e : w ≡ taking v k x = ap (λ z. z.0) c.in-Some.ensures.taken.0 in
-    let q = c.requires.cpu in
-    does_for c.args.layout.now w.layout call (held_at w.held) c.args.cpu.now w.own (held_at ((k, Some y) ∷ [])) n (ap (λ (u : View g.row.A.Denot). u.layout) e ∙ q.0) (ap (λ (u : View g.row.A.Denot). u.own) e ∙ q.2)
-    (does_as (layout_of c.args.layout.now) call (only_at k x) (held_at w.held) c.args.cpu.now (only_at k y) (held_at ((k, Some y) ∷ [])) n
-    (λ j. one_held v.held k x c.requires.rest.1 j ∙ ap (λ (u : View g.row.A.Denot). held_at u.held j) (sym e)) (λ j. refl) c.alone-part.ensures.does)
+    let q = cpu_told c.in-Some.ensures.taken.0 c.requires.cpu c.requires.on in
+    does_for c.take.new.seat.me.0 q.0 q.2 (held g (goal.at.commit-requires-clause-does g c).In-Some) c.alone-part.ensures.does
 
 pub returns-clause-tells : goal.returns-clause-tells
 returns-clause-tells g c =
-    let k : ℕ = c.args.k in
-    let x : Slot g.row.A.Denot = c.in-Some.part in
-    let y : Slot g.row.A.Denot = c.alone-part.result.0 in
-    let call : Call = c.alone-part.result.1 in
-    let v : View g.row.A.Denot = c.args.seat.now.me.0 in
-    let w : View g.row.A.Denot = c.commit.new.seat.me.0 in
-    let n : CpuState = c.alone-part.new.cpu in
-    let e : c.take.new.seat.me.0 ≡ taking v k x = ap (λ z. z.0) c.in-Some.ensures.taken.0 in
-    let last : w ≡ storing n ((k, Some y) ∷ []) (taking v k x) k = ap (λ z. z.0) c.commit.ensures.home ∙ ap (λ (u : View g.row.A.Denot). storing n ((k, Some y) ∷ []) u k) e in
-    let d = c.alone-part.ensures.does in
     let q = c.requires.cpu in
-    let room : (log_of x).room ≢ 0 = search rules in
-    let called = c.alone-part.ensures.call in
-    let mine : n.log ≡ with_call call v.own.log = d.mine ∙ ap (λ (s : CpuState). with_call call s.log) (sym q.2) in
-    let t = stored_first call n v w k x y last room c.in-Some.ensures.taken.1
-    (log_grows (layout_of c.args.layout.now) call (only_at k x) (only_at k y) c.args.cpu.now n k x y d (only_here k x) (only_here k y)) mine d.only c.commit.ensures.history in
-    (subst (λ (z : ℕ × CpuState). Rattle.part_table.specs.Does.IsCalled z.0 z.1 c.args.step call) (λ i. (sym q.1 i, sym q.2 i)) called, d.stored, t.0, t.1)
+    let e = stored g (goal.at.returns-clause-tells g c).After-commit in
+    stored_first c.args.seat.now.me c.args.k c.in-Some.part c.alone-part.result.0 e q.1 q.2 (λ e. c.if-room-eq0.false (c.room.ensures ∙ e)) c.in-Some.ensures.taken.1 c.alone-part.ensures.call c.alone-part.ensures.does c.commit.ensures.history
 
 pub returns-in_default-clause-tells : goal.returns-in_default-clause-tells
-returns-in_default-clause-tells g c = away_first c.args.seat.now.me.0 c.take.new.seat.me.0 c.args.k [] (ap (λ z. z.0) c.in_default.ensures.missed)
+returns-in_default-clause-tells g c = away_first c.args.seat.now.me c.args.k [] c.in_default.ensures.missed
 
 pub returns-then-room-eq0-clause-tells : goal.returns-then-room-eq0-clause-tells
 returns-then-room-eq0-clause-tells g c =
-    let k : ℕ = c.args.k in
-    let x : Slot g.row.A.Denot = c.in-Some.part in
-    let v : View g.row.A.Denot = c.args.seat.now.me.0 in
-    let e : c.take.new.seat.me.0 ≡ taking v k x = ap (λ z. z.0) c.in-Some.ensures.taken.0 in
-    let last : c.put_back.new.seat.me.0 ≡ letting (taking v k x) k = ap (λ z. z.0) c.put_back.ensures.home ∙ ap (λ (u : View g.row.A.Denot). letting u k) e in
-    full_first v c.put_back.new.seat.me.0 k [] x last (sym c.room.ensures ∙ c.if-room-eq0.true)
+    full_first c.args.seat.now.me c.args.k [] c.in-Some.part (back g (goal.at.returns-then-room-eq0-clause-tells g c).After-put_back) (sym c.room.ensures ∙ c.if-room-eq0.true)
 
 pub returns-clause-table : goal.returns-clause-table
 returns-clause-table g c = c.commit.ensures.table ∙ c.take.ensures.table
@@ -90,52 +54,32 @@ pub returns-in_default-clause-table : goal.returns-in_default-clause-table
 returns-in_default-clause-table g c = c.take.ensures.table
 
 pub returns-in_default-clause-left : goal.returns-in_default-clause-left
-returns-in_default-clause-left g c = missed_left c.args.k c.args.seat.now.me c.take.new.seat.me c.in_default.ensures.missed c.requires.left
+returns-in_default-clause-left g c = left_told c.in_default.ensures.missed c.requires.left
 
 pub returns-in_default-clause-rest : goal.returns-in_default-clause-rest
-returns-in_default-clause-rest g c = missed_rest c.args.k c.args.seat.now.me c.take.new.seat.me c.in_default.ensures.missed c.requires.rest
+returns-in_default-clause-rest g c = rest_told c.in_default.ensures.missed c.requires.rest.0 c.requires.rest.1
 
 pub returns-then-room-eq0-clause-table : goal.returns-then-room-eq0-clause-table
 returns-then-room-eq0-clause-table g c = c.put_back.ensures.table ∙ c.take.ensures.table
 
 pub returns-in_default-clause-cpu : goal.returns-in_default-clause-cpu
-returns-in_default-clause-cpu g c =
-    let q = c.requires.cpu in
-    cpu_told c.args.layout.now c.args.id c.args.cpu.now c.take.new.seat.me.0 (missing c.args.seat.now.me.0 c.args.k) (ap (λ z. z.0) c.in_default.ensures.missed) q.0 q.1 q.2 c.requires.on
+returns-in_default-clause-cpu g c = cpu_told c.in_default.ensures.missed c.requires.cpu c.requires.on
 
 pub returns-then-room-eq0-clause-cpu : goal.returns-then-room-eq0-clause-cpu
-returns-then-room-eq0-clause-cpu g c =
-    let k : ℕ = c.args.k in
-    let x : Slot g.row.A.Denot = c.in-Some.part in
-    let v : View g.row.A.Denot = c.args.seat.now.me.0 in
-    let e : c.take.new.seat.me.0 ≡ taking v k x = ap (λ z. z.0) c.in-Some.ensures.taken.0 in
-    let last : c.put_back.new.seat.me.0 ≡ letting (taking v k x) k = ap (λ z. z.0) c.put_back.ensures.home ∙ ap (λ (u : View g.row.A.Denot). letting u k) e in
-    let q = c.requires.cpu in
-    cpu_told c.args.layout.now c.args.id c.args.cpu.now c.put_back.new.seat.me.0 (letting (taking v k x) k) last q.0 q.1 q.2 c.requires.on
+returns-then-room-eq0-clause-cpu g c = cpu_told (back g (goal.at.returns-then-room-eq0-clause-cpu g c).After-put_back) c.requires.cpu c.requires.on
 
 pub returns-then-room-eq0-clause-left : goal.returns-then-room-eq0-clause-left
-returns-then-room-eq0-clause-left g c =
-    let k : ℕ = c.args.k in
-    let x : Slot g.row.A.Denot = c.in-Some.part in
-    let v : View g.row.A.Denot = c.args.seat.now.me.0 in
-    let e : c.take.new.seat.me.0 ≡ taking v k x = ap (λ z. z.0) c.in-Some.ensures.taken.0 in
-    let last : c.put_back.new.seat.me.0 ≡ letting (taking v k x) k = ap (λ z. z.0) c.put_back.ensures.home ∙ ap (λ (u : View g.row.A.Denot). letting u k) e in
-    subst (λ (u : View g.row.A.Denot). AtRest u) (sym last) c.requires.left
+returns-then-room-eq0-clause-left g c = left_told (back g (goal.at.returns-then-room-eq0-clause-left g c).After-put_back) c.requires.left
 
 pub returns-then-room-eq0-clause-rest : goal.returns-then-room-eq0-clause-rest
-returns-then-room-eq0-clause-rest g c = back_rest c.args.k c.in-Some.part c.args.seat.now.me c.take.new.seat.me c.put_back.new.seat.me c.in-Some.ensures.taken.0 c.put_back.ensures.home c.requires.rest
+returns-then-room-eq0-clause-rest g c =
+    rest_told (back g (goal.at.returns-then-room-eq0-clause-rest g c).After-put_back) c.requires.rest.0 (one_gone c.args.seat.now.me.0.held c.args.k (Some c.in-Some.part) c.requires.rest.1)
 
 pub returns-clause-cpu : goal.returns-clause-cpu
-returns-clause-cpu g c =
-    let k : ℕ = c.args.k in
-    let x : Slot g.row.A.Denot = c.in-Some.part in
-    let y : Slot g.row.A.Denot = c.alone-part.result.0 in
-    let v : View g.row.A.Denot = c.args.seat.now.me.0 in
-    let n : CpuState = c.alone-part.new.cpu in
-    let e : c.take.new.seat.me.0 ≡ taking v k x = ap (λ z. z.0) c.in-Some.ensures.taken.0 in
-    let last : c.commit.new.seat.me.0 ≡ storing n ((k, Some y) ∷ []) (taking v k x) k = ap (λ z. z.0) c.commit.ensures.home ∙ ap (λ (u : View g.row.A.Denot). storing n ((k, Some y) ∷ []) u k) e in
-    let q = c.requires.cpu in
-    cpu_told c.args.layout.now c.args.id n c.commit.new.seat.me.0 (storing n ((k, Some y) ∷ []) (taking v k x) k) last q.0 q.1 refl c.requires.on
+returns-clause-cpu g c = cpu_told (stored g (goal.at.returns-clause-cpu g c).After-commit) (c.requires.cpu.0, c.requires.cpu.1, refl) c.requires.on
+
+pub returns-clause-rest : goal.returns-clause-rest
+returns-clause-rest g c = rest_told (stored g (goal.at.returns-clause-rest g c).After-commit) refl (one_gone [] c.args.k (Some c.alone-part.result.0) (λ j. refl))
 
 pub returns-clause-left : goal.returns-clause-left
 returns-clause-left g c = rest_added c.alone-part.result.1 c.commit.new.seat.me.0 c.commit.ensures.history

@@ -1,148 +1,94 @@
-use Rattle.std.proofs.Common.{rules, ◌≡◌, ◌≢◌, ℕ, ◌+◌, ◌∷◌, [], sym, ap, ◌∙◌, subst, refl, arith}
+use Rattle.std.proofs.Common.{◌≡◌, ℕ, ◌+◌, ◌∷◌, [], sym, ap, ◌∙◌, refl, subst, arith}
 use Rattle.std.specs.Prelude.{Some, None}
-use Rattle.page_state.specs.declared.reply.Call.{Call}
-use Rattle.page_state.specs.LayoutView.{layout_of}
-use Rattle.guest_steps.specs.declared.parts.CpuState.{CpuState}
-use Rattle.guest_steps.specs.Lent.{with_call}
-use Rattle.part_table.specs.declared.rule.View.{View}
-use Rattle.part_table.specs.declared.slot.Slot.{Slot}
 use Rattle.part_table.specs.Parts.{log_of}
-use Rattle.part_table.specs.Does.{IsCalled, both_at}
-use Rattle.part_table.specs.Rule.{Extends, Seated, AtRest, StartsWith, held_at, known_of, seen_at, taking, missing, letting, storing, tail}
-use Rattle.part_table.proofs.Holding.{one_gone, two_gone, two_held, both_like, at_first, at_second, second_held}
+use Rattle.part_table.specs.Does.{both_at}
+use Rattle.part_table.specs.Rule.{Extends, Seated, StartsWith, held_at, known_of, seen_at}
+use Rattle.part_table.proofs.Holding.{one_gone, two_gone, two_held, both_like, second_held}
 use Rattle.part_table.proofs.Pairs.{at_same, by_front}
-use Rattle.part_table.proofs.Telling.{cpu_told, missed_left, missed_rest, back_rest, does_as, does_for, left_of, log_grows, away_first, full_first, away_second, full_second, stored_second, rest_added, rest_home}
+use Rattle.part_table.proofs.Telling.{with_taken, with_both, with_missed, with_home, with_stored, home_of, cpu_told, left_told, rest_told, does_for, left_of, away_first, full_first, away_second, full_second, stored_second, rest_added, rest_home}
+use Rattle.part_table.proofs.tries.two.Goals.{In-Some-take, After-put_back, After-put_back-in_default-take, After-put_back-then-room-eq0-2, After-put_back-then-room-eq0-2-2, After-let_home}
 use Rattle.part_table.proofs.tries.two.Goals as goal
+
+-- the seat with both parts, the guest in front
+both : (g : _) (c : In-Some-take g) → c.take-2.new.seat.me ≡ with_both c.args.seat.now.me c.in-Some.shared (c.args.v + 2) c.in-Some-take.guest
+both g c = c.in-Some-take.ensures.taken.0 ∙ ap (λ (m : Seated g.row.A.Denot). with_taken m (c.args.v + 2) c.in-Some-take.guest) c.in-Some.ensures.taken.0
+
+-- its view holds these two
+held : (g : _) (c : In-Some-take g) (j : ℕ) → both_at (c.args.v + 2) c.in-Some-take.guest 1 c.in-Some.shared j ≡ held_at c.take-2.new.seat.me.0.held j
+held g c j =
+    two_held c.args.seat.now.me.0.held (c.args.v + 2) 1 c.in-Some-take.guest c.in-Some.shared c.requires.rest.1 j ∙ ap (λ (m : Seated g.row.A.Denot). held_at m.0.held j) (sym (both g c))
+
+-- the seat where the Shared part is home again, unused: its log was full, or another pass had the guest
+back : (g : _) (c : After-put_back g) → c.put_back.new.seat.me ≡ with_home (with_taken c.args.seat.now.me 1 c.in-Some.shared) 1
+back g c = home_of 1 c.in-Some.ensures.taken.0 c.put_back.ensures.home
+
+back_away : (g : _) (c : After-put_back-in_default-take g) → c.put_back-in_default-take.new.seat.me ≡ with_home (with_missed (with_taken c.args.seat.now.me 1 c.in-Some.shared) (c.args.v + 2)) 1
+back_away g c = home_of 1 (c.in_default-take.ensures.missed ∙ ap (λ (m : Seated g.row.A.Denot). with_missed m (c.args.v + 2)) c.in-Some.ensures.taken.0) c.put_back-in_default-take.ensures.home
+
+-- where the guest is home again, and both are
+guest_back : (g : _) (c : After-put_back-then-room-eq0-2 g) → c.put_back-then-room-eq0-2.new.seat.me ≡ with_home (with_both c.args.seat.now.me c.in-Some.shared (c.args.v + 2) c.in-Some-take.guest) (c.args.v + 2)
+guest_back g c = home_of (c.args.v + 2) (both g (goal.at.After-put_back-then-room-eq0-2 g c).In-Some-take) c.put_back-then-room-eq0-2.ensures.home
+
+both_back : (g : _) (c : After-put_back-then-room-eq0-2-2 g) → c.put_back-then-room-eq0-2-2.new.seat.me ≡ with_home (with_home (with_both c.args.seat.now.me c.in-Some.shared (c.args.v + 2) c.in-Some-take.guest) (c.args.v + 2)) 1
+both_back g c = home_of 1 (guest_back g (goal.at.After-put_back-then-room-eq0-2-2 g c).After-put_back-then-room-eq0-2) c.put_back-then-room-eq0-2-2.ensures.home
+
+-- where a call was stored in both logs
+stored : (g : _) (c : After-let_home g) → let k = c.args.v + 2 in
+    c.let_home.new.seat.me ≡ with_home (with_stored (with_both c.args.seat.now.me c.in-Some.shared k c.in-Some-take.guest) c.both-shared.new.cpu ((k, Some c.both-shared.result.1) ∷ (1, Some c.both-shared.result.0) ∷ []) k) 1
+stored g c =
+    let k = c.args.v + 2 in
+    let laid = (k, Some c.both-shared.result.1) ∷ (1, Some c.both-shared.result.0) ∷ [] in
+    home_of 1 (c.commit_first.ensures.home ∙ ap (λ (m : Seated g.row.A.Denot). with_stored m c.both-shared.new.cpu laid k) (both g (goal.at.After-let_home g c).In-Some-take)) c.let_home.ensures.home
+
+history : (g : _) (c : After-let_home g) → Extends c.both-shared.result.2 (known_of c.let_home.new.seat.me.0)
+history g c = rest_home c.commit_first.new.seat.me c.let_home.ensures.home c.commit_first.ensures.history
 
 pub both-shared-requires-clause-left : goal.both-shared-requires-clause-left
 both-shared-requires-clause-left g c =
-    let k : ℕ = c.args.v + 2 in
-    let x : Slot g.row.A.Denot = c.in-Some.shared in
-    let y : Slot g.row.A.Denot = c.in-Some-take.guest in
-    let v : View g.row.A.Denot = c.args.seat.now.me.0 in
-    let w : View g.row.A.Denot = c.take-2.new.seat.me.0 in
-    let t = c.in-Some-take.ensures.taken in
-    let first : c.take.new.seat.me.0 ≡ taking v 1 x = ap (λ z. z.0) c.in-Some.ensures.taken.0 in
-    let e : w ≡ taking (taking v 1 x) k y = ap (λ z. z.0) t.0 ∙ ap (λ (u : View g.row.A.Denot). taking u k y) first in
-    let q = c.requires.cpu in
-    ∣ left_of c.args.layout.now c.args.id c.args.cpu.now w (both_at k y 1 x) t.2
-    (ap (λ (u : View g.row.A.Denot). u.layout) e ∙ q.0) (ap (λ (u : View g.row.A.Denot). u.cpu) e ∙ q.1) (ap (λ (u : View g.row.A.Denot). u.own) e ∙ q.2)
-    (λ j. two_held v.held k 1 y x c.requires.rest.1 j ∙ ap (λ (u : View g.row.A.Denot). held_at u.held j) (sym e)) ∣₁
+    let at = goal.at.both-shared-requires-clause-left g c in
+    let q = cpu_told (both g at.In-Some-take) c.requires.cpu c.requires.on in
+    ∣ left_of c.take-2.new.seat.me.0 c.in-Some-take.ensures.taken.2 q.0 q.1 q.2 (held g at.In-Some-take) ∣₁
 
 pub commit_first-requires-clause-used : goal.commit_first-requires-clause-used
 commit_first-requires-clause-used g c j z h =
-    let k : ℕ = c.args.v + 2 in
-    let x : Slot g.row.A.Denot = c.in-Some.shared in
-    let y : Slot g.row.A.Denot = c.in-Some-take.guest in
-    let x' : Slot g.row.A.Denot = c.both-shared.result.0 in
-    let y' : Slot g.row.A.Denot = c.both-shared.result.1 in
-    let v : View g.row.A.Denot = c.args.seat.now.me.0 in
-    let first : c.take.new.seat.me.0 ≡ taking v 1 x = ap (λ z. z.0) c.in-Some.ensures.taken.0 in
-    let e : c.take-2.new.seat.me.0 ≡ taking (taking v 1 x) k y = ap (λ z. z.0) c.in-Some-take.ensures.taken.0 ∙ ap (λ (u : View g.row.A.Denot). taking u k y) first in
-    let there = both_like k 1 j y x y' x' z (two_held v.held k 1 y x c.requires.rest.1 j ∙ (ap (λ (u : View g.row.A.Denot). held_at u.held j) (sym e) ∙ h)) in
+    let there = both_like (c.args.v + 2) 1 j c.in-Some-take.guest c.in-Some.shared c.both-shared.result.1 c.both-shared.result.0 z (held g (goal.at.commit_first-requires-clause-used g c).In-Some-take j ∙ h) in
     c.both-shared.ensures.does.only j there.0 there.1
 
 pub commit_first-requires-clause-does : goal.commit_first-requires-clause-does
 commit_first-requires-clause-does g c =
-    let k : ℕ = c.args.v + 2 in
-    let x : Slot g.row.A.Denot = c.in-Some.shared in
-    let y : Slot g.row.A.Denot = c.in-Some-take.guest in
-    let x' : Slot g.row.A.Denot = c.both-shared.result.0 in
-    let y' : Slot g.row.A.Denot = c.both-shared.result.1 in
-    let call : Call = c.both-shared.result.2 in
-    let v : View g.row.A.Denot = c.args.seat.now.me.0 in
-    let w : View g.row.A.Denot = c.take-2.new.seat.me.0 in
-    let n : CpuState = c.both-shared.new.cpu in
-    let first : c.take.new.seat.me.0 ≡ taking v 1 x = ap (λ z. z.0) c.in-Some.ensures.taken.0 in
-    let e : w ≡ taking (taking v 1 x) k y = ap (λ z. z.0) c.in-Some-take.ensures.taken.0 ∙ ap (λ (u : View g.row.A.Denot). taking u k y) first in
-    let q = c.requires.cpu in
-    does_for c.args.layout.now w.layout call (held_at w.held) c.args.cpu.now w.own (held_at ((k, Some y') ∷ (1, Some x') ∷ [])) n (ap (λ (u : View g.row.A.Denot). u.layout) e ∙ q.0) (ap (λ (u : View g.row.A.Denot). u.own) e ∙ q.2)
-    (does_as (layout_of c.args.layout.now) call (both_at k y 1 x) (held_at w.held) c.args.cpu.now (both_at k y' 1 x') (held_at ((k, Some y') ∷ (1, Some x') ∷ [])) n
-    (λ j. two_held v.held k 1 y x c.requires.rest.1 j ∙ ap (λ (u : View g.row.A.Denot). held_at u.held j) (sym e)) (λ j. refl) c.both-shared.ensures.does)
+    let at = goal.at.commit_first-requires-clause-does g c in
+    let q = cpu_told (both g at.In-Some-take) c.requires.cpu c.requires.on in
+    does_for c.take-2.new.seat.me.0 q.0 q.2 (held g at.In-Some-take) c.both-shared.ensures.does
 
 pub let_home-requires-clause-held : goal.let_home-requires-clause-held
 let_home-requires-clause-held g c =
-    let k : ℕ = c.args.v + 2 in
-    let x' : Slot g.row.A.Denot = c.both-shared.result.0 in
-    let y' : Slot g.row.A.Denot = c.both-shared.result.1 in
     let home = c.commit_first.ensures.home in
-    let e = ap (λ z. z.1) home in
-    let ne : 1 ≢ k = λ e. omega arith in
-    (x', e ∙ ap (λ l. (1, Some x') ∷ l) (sym (ap tail e)), ap (λ z. held_at z.0.held 1) home ∙ second_held k y' x' [] ne)
+    (c.both-shared.result.0, by_front (ap (λ (m : Seated g.row.A.Denot). m.1) home), ap (λ (m : Seated g.row.A.Denot). held_at m.0.held 1) home ∙ second_held (c.args.v + 2) c.both-shared.result.1 c.both-shared.result.0 [] (λ e. omega arith))
 
 pub returns-then-room-eq0-2-clause-tells : goal.returns-then-room-eq0-2-clause-tells
 returns-then-room-eq0-2-clause-tells g c =
-    let k : ℕ = c.args.v + 2 in
-    let x : Slot g.row.A.Denot = c.in-Some.shared in
-    let y : Slot g.row.A.Denot = c.in-Some-take.guest in
-    let v : View g.row.A.Denot = c.args.seat.now.me.0 in
-    let first : c.take.new.seat.me.0 ≡ taking v 1 x = ap (λ z. z.0) c.in-Some.ensures.taken.0 in
-    let both : c.take-2.new.seat.me.0 ≡ taking (taking v 1 x) k y = ap (λ z. z.0) c.in-Some-take.ensures.taken.0 ∙ ap (λ (w : View g.row.A.Denot). taking w k y) first in
-    let one : c.put_back-then-room-eq0-2.new.seat.me.0 ≡ letting (taking (taking v 1 x) k y) k = ap (λ z. z.0) c.put_back-then-room-eq0-2.ensures.home ∙ ap (λ (w : View g.row.A.Denot). letting w k) both in
-    let last : c.put_back-then-room-eq0-2-2.new.seat.me.0 ≡ letting (letting (taking (taking v 1 x) k y) k) 1 = ap (λ z. z.0) c.put_back-then-room-eq0-2-2.ensures.home ∙ ap (λ (w : View g.row.A.Denot). letting w 1) one in
-    let room : (log_of x).room ≢ 0 = search rules in
-    let full : (log_of y).room ≡ 0 = search rules in
-    full_second v _ k x y last room full
+    full_second c.args.seat.now.me (c.args.v + 2) c.in-Some.shared c.in-Some-take.guest (both_back g (goal.at.returns-then-room-eq0-2-clause-tells g c).After-put_back-then-room-eq0-2-2) (λ e. c.if-room-eq0.false (c.room.ensures ∙ e)) (sym c.room-2.ensures ∙ c.if-room-eq0-2.true)
 
 pub returns-clause-tells : goal.returns-clause-tells
 returns-clause-tells g c =
-    let k : ℕ = c.args.v + 2 in
-    let x : Slot g.row.A.Denot = c.in-Some.shared in
-    let y : Slot g.row.A.Denot = c.in-Some-take.guest in
-    let x' : Slot g.row.A.Denot = c.both-shared.result.0 in
-    let y' : Slot g.row.A.Denot = c.both-shared.result.1 in
-    let call : Call = c.both-shared.result.2 in
-    let v : View g.row.A.Denot = c.args.seat.now.me.0 in
-    let n : CpuState = c.both-shared.new.cpu in
-    let w : View g.row.A.Denot = c.let_home.new.seat.me.0 in
-    let first : c.take.new.seat.me.0 ≡ taking v 1 x = ap (λ z. z.0) c.in-Some.ensures.taken.0 in
-    let both : c.take-2.new.seat.me.0 ≡ taking (taking v 1 x) k y = ap (λ z. z.0) c.in-Some-take.ensures.taken.0 ∙ ap (λ (w : View g.row.A.Denot). taking w k y) first in
-    let done : c.commit_first.new.seat.me.0 ≡ storing n ((k, Some y') ∷ (1, Some x') ∷ []) (taking (taking v 1 x) k y) k = ap (λ z. z.0) c.commit_first.ensures.home ∙ ap (λ (w : View g.row.A.Denot). storing n ((k, Some y') ∷ (1, Some x') ∷ []) w k) both in
-    let home : w ≡ letting c.commit_first.new.seat.me.0 1 = ap (λ z. z.0) c.let_home.ensures.home in
-    let last : w ≡ letting (storing n ((k, Some y') ∷ (1, Some x') ∷ []) (taking (taking v 1 x) k y) k) 1 = home ∙ ap (λ (u : View g.row.A.Denot). letting u 1) done in
-    let d = c.both-shared.ensures.does in
-    let l = layout_of c.args.layout.now in
+    let at = goal.at.returns-clause-tells g c in
     let q = c.requires.cpu in
-    let ne : 1 ≢ k = λ e. omega arith in
-    let room : (log_of x).room ≢ 0 = search rules in
-    let room' : (log_of y).room ≢ 0 = search rules in
-    let begun' : StartsWith (log_of y).calls (seen_at v.seen k) = subst (λ (u : View g.row.A.Denot). StartsWith (log_of y).calls (seen_at u.seen k)) first c.in-Some-take.ensures.taken.1 in
-    let history : Extends call (known_of w) = rest_home call c.commit_first.new.seat.me.0 w home c.commit_first.ensures.history in
-    let mine : n.log ≡ with_call call v.own.log = d.mine ∙ ap (λ (s : CpuState). with_call call s.log) (sym q.2) in
-    let t = stored_second call n v w k x y x' y' last ne room room' c.in-Some.ensures.taken.1 begun'
-    (log_grows l call (both_at k y 1 x) (both_at k y' 1 x') c.args.cpu.now n 1 x x' d (at_second k 1 y x ne) (at_second k 1 y' x' ne))
-    (log_grows l call (both_at k y 1 x) (both_at k y' 1 x') c.args.cpu.now n k y y' d (at_first k 1 y x) (at_first k 1 y' x')) mine d.only history in
-    (subst (λ (z : ℕ × CpuState). IsCalled z.0 z.1 c.args.step call) (λ i. (sym q.1 i, sym q.2 i)) c.both-shared.ensures.call, d.stored, t.0, t.1)
+    let m = c.args.seat.now.me in
+    let begun = subst (λ (n : Seated g.row.A.Denot). StartsWith (log_of c.in-Some-take.guest).calls (seen_at n.0.seen (c.args.v + 2))) c.in-Some.ensures.taken.0 c.in-Some-take.ensures.taken.1 in
+    stored_second m (c.args.v + 2) c.in-Some.shared c.in-Some-take.guest c.both-shared.result.0 c.both-shared.result.1 (stored g at.After-let_home) (λ e. omega arith) q.1 q.2
+    (λ e. c.if-room-eq0.false (c.room.ensures ∙ e)) (λ e. c.if-room-eq0-2.false (c.room-2.ensures ∙ e)) c.in-Some.ensures.taken.1 begun c.both-shared.ensures.call c.both-shared.ensures.does (history g at.After-let_home)
 
 pub returns-clause-left : goal.returns-clause-left
-returns-clause-left g c =
-    let call : Call = c.both-shared.result.2 in
-    let w : View g.row.A.Denot = c.let_home.new.seat.me.0 in
-    let home : w ≡ letting c.commit_first.new.seat.me.0 1 = ap (λ z. z.0) c.let_home.ensures.home in
-    rest_added call w (rest_home call c.commit_first.new.seat.me.0 w home c.commit_first.ensures.history)
+returns-clause-left g c = rest_added c.both-shared.result.2 c.let_home.new.seat.me.0 (history g (goal.at.returns-clause-left g c).After-let_home)
 
 pub returns-in_default-clause-tells : goal.returns-in_default-clause-tells
-returns-in_default-clause-tells g c = away_first c.args.seat.now.me.0 c.take.new.seat.me.0 1 ((c.args.v + 2) ∷ []) (ap (λ z. z.0) c.in_default.ensures.missed)
+returns-in_default-clause-tells g c = away_first c.args.seat.now.me 1 ((c.args.v + 2) ∷ []) c.in_default.ensures.missed
 
 pub returns-then-room-eq0-clause-tells : goal.returns-then-room-eq0-clause-tells
-returns-then-room-eq0-clause-tells g c =
-    let x : Slot g.row.A.Denot = c.in-Some.shared in
-    let v : View g.row.A.Denot = c.args.seat.now.me.0 in
-    let e : c.take.new.seat.me.0 ≡ taking v 1 x = ap (λ z. z.0) c.in-Some.ensures.taken.0 in
-    let last : c.put_back.new.seat.me.0 ≡ letting (taking v 1 x) 1 = ap (λ z. z.0) c.put_back.ensures.home ∙ ap (λ (u : View g.row.A.Denot). letting u 1) e in
-    full_first v c.put_back.new.seat.me.0 1 ((c.args.v + 2) ∷ []) x last (sym c.room.ensures ∙ c.if-room-eq0.true)
+returns-then-room-eq0-clause-tells g c = full_first c.args.seat.now.me 1 ((c.args.v + 2) ∷ []) c.in-Some.shared (back g (goal.at.returns-then-room-eq0-clause-tells g c).After-put_back) (sym c.room.ensures ∙ c.if-room-eq0.true)
 
 pub returns-in_default-take-clause-tells : goal.returns-in_default-take-clause-tells
-returns-in_default-take-clause-tells g c =
-    let k : ℕ = c.args.v + 2 in
-    let x : Slot g.row.A.Denot = c.in-Some.shared in
-    let v : View g.row.A.Denot = c.args.seat.now.me.0 in
-    let w : View g.row.A.Denot = c.put_back-in_default-take.new.seat.me.0 in
-    let first : c.take.new.seat.me.0 ≡ taking v 1 x = ap (λ z. z.0) c.in-Some.ensures.taken.0 in
-    let away : c.take-2.new.seat.me.0 ≡ missing (taking v 1 x) k = ap (λ z. z.0) c.in_default-take.ensures.missed ∙ ap (λ (u : View g.row.A.Denot). missing u k) first in
-    let last : w ≡ letting (missing (taking v 1 x) k) 1 = ap (λ z. z.0) c.put_back-in_default-take.ensures.home ∙ ap (λ (u : View g.row.A.Denot). letting u 1) away in
-    let room : (log_of x).room ≢ 0 = search rules in
-    away_second v w k x last room
+returns-in_default-take-clause-tells g c = away_second c.args.seat.now.me (c.args.v + 2) c.in-Some.shared (back_away g (goal.at.returns-in_default-take-clause-tells g c).After-put_back-in_default-take) (λ e. c.if-room-eq0.false (c.room.ensures ∙ e))
 
 pub take-requires-clause-table : goal.take-requires-clause-table
 take-requires-clause-table g c = c.requires.table
@@ -163,8 +109,7 @@ pub commit_first-requires-clause-part : goal.commit_first-requires-clause-part
 commit_first-requires-clause-part g c = c.requires.part
 
 pub commit_first-requires-clause-hand : goal.commit_first-requires-clause-hand
-commit_first-requires-clause-hand g c =
-    ap (λ (z : Seated g.row.A.Denot). z.1) c.in-Some-take.ensures.taken.0 ∙ ap (λ l. (c.args.v + 2, None) ∷ l) (ap (λ (z : Seated g.row.A.Denot). z.1) c.in-Some.ensures.taken.0 ∙ ap (λ l. (1, None) ∷ l) c.requires.rest.0)
+commit_first-requires-clause-hand g c = ap (λ (m : Seated g.row.A.Denot). m.1) (both g (goal.at.commit_first-requires-clause-hand g c).In-Some-take) ∙ ap (λ h. (c.args.v + 2, None) ∷ (1, None) ∷ h) c.requires.rest.0
 
 pub returns-clause-table : goal.returns-clause-table
 returns-clause-table g c = c.let_home.ensures.table ∙ (c.commit_first.ensures.table ∙ (c.take-2.ensures.table ∙ c.take.ensures.table))
@@ -173,15 +118,13 @@ pub returns-in_default-clause-table : goal.returns-in_default-clause-table
 returns-in_default-clause-table g c = c.take.ensures.table
 
 pub returns-in_default-clause-cpu : goal.returns-in_default-clause-cpu
-returns-in_default-clause-cpu g c =
-    let q = c.requires.cpu in
-    cpu_told c.args.layout.now c.args.id c.args.cpu.now c.take.new.seat.me.0 (missing c.args.seat.now.me.0 1) (ap (λ z. z.0) c.in_default.ensures.missed) q.0 q.1 q.2 c.requires.on
+returns-in_default-clause-cpu g c = cpu_told c.in_default.ensures.missed c.requires.cpu c.requires.on
 
 pub returns-in_default-clause-left : goal.returns-in_default-clause-left
-returns-in_default-clause-left g c = missed_left 1 c.args.seat.now.me c.take.new.seat.me c.in_default.ensures.missed c.requires.left
+returns-in_default-clause-left g c = left_told c.in_default.ensures.missed c.requires.left
 
 pub returns-in_default-clause-rest : goal.returns-in_default-clause-rest
-returns-in_default-clause-rest g c = missed_rest 1 c.args.seat.now.me c.take.new.seat.me c.in_default.ensures.missed c.requires.rest
+returns-in_default-clause-rest g c = rest_told c.in_default.ensures.missed c.requires.rest.0 c.requires.rest.1
 
 pub returns-then-room-eq0-clause-table : goal.returns-then-room-eq0-clause-table
 returns-then-room-eq0-clause-table g c = c.put_back.ensures.table ∙ c.take.ensures.table
@@ -221,136 +164,40 @@ pub let_home-requires-clause-table : goal.let_home-requires-clause-table
 let_home-requires-clause-table g c = (c.commit_first.ensures.table ∙ (c.take-2.ensures.table ∙ (c.take.ensures.table ∙ c.requires.table.0)), c.requires.table.1)
 
 pub let_home-requires-clause-on : goal.let_home-requires-clause-on
-let_home-requires-clause-on g c = ap (λ (z : Seated g.row.A.Denot). z.0.on) c.commit_first.ensures.home ∙ (ap (λ (z : Seated g.row.A.Denot). z.0.on) c.in-Some-take.ensures.taken.0 ∙ (ap (λ (z : Seated g.row.A.Denot). z.0.on) c.in-Some.ensures.taken.0 ∙ c.requires.on))
+let_home-requires-clause-on g c = ap (λ (m : Seated g.row.A.Denot). m.0.on) c.commit_first.ensures.home ∙ (ap (λ (m : Seated g.row.A.Denot). m.0.on) (both g (goal.at.let_home-requires-clause-on g c).In-Some-take) ∙ c.requires.on)
 
 pub returns-then-room-eq0-clause-cpu : goal.returns-then-room-eq0-clause-cpu
-returns-then-room-eq0-clause-cpu g c =
-    let x : Slot g.row.A.Denot = c.in-Some.shared in
-    let v : View g.row.A.Denot = c.args.seat.now.me.0 in
-    let e : c.take.new.seat.me.0 ≡ taking v 1 x = ap (λ z. z.0) c.in-Some.ensures.taken.0 in
-    let last : c.put_back.new.seat.me.0 ≡ letting (taking v 1 x) 1 = ap (λ z. z.0) c.put_back.ensures.home ∙ ap (λ (u : View g.row.A.Denot). letting u 1) e in
-    let q = c.requires.cpu in
-    cpu_told c.args.layout.now c.args.id c.args.cpu.now c.put_back.new.seat.me.0 (letting (taking v 1 x) 1) last q.0 q.1 q.2 c.requires.on
+returns-then-room-eq0-clause-cpu g c = cpu_told (back g (goal.at.returns-then-room-eq0-clause-cpu g c).After-put_back) c.requires.cpu c.requires.on
 
 pub returns-then-room-eq0-clause-left : goal.returns-then-room-eq0-clause-left
-returns-then-room-eq0-clause-left g c =
-    let x : Slot g.row.A.Denot = c.in-Some.shared in
-    let v : View g.row.A.Denot = c.args.seat.now.me.0 in
-    let e : c.take.new.seat.me.0 ≡ taking v 1 x = ap (λ z. z.0) c.in-Some.ensures.taken.0 in
-    let last : c.put_back.new.seat.me.0 ≡ letting (taking v 1 x) 1 = ap (λ z. z.0) c.put_back.ensures.home ∙ ap (λ (u : View g.row.A.Denot). letting u 1) e in
-    subst (λ (u : View g.row.A.Denot). AtRest u) (sym last) c.requires.left
+returns-then-room-eq0-clause-left g c = left_told (back g (goal.at.returns-then-room-eq0-clause-left g c).After-put_back) c.requires.left
 
 pub returns-then-room-eq0-clause-rest : goal.returns-then-room-eq0-clause-rest
-returns-then-room-eq0-clause-rest g c = back_rest 1 c.in-Some.shared c.args.seat.now.me c.take.new.seat.me c.put_back.new.seat.me c.in-Some.ensures.taken.0 c.put_back.ensures.home c.requires.rest
+returns-then-room-eq0-clause-rest g c = rest_told (back g (goal.at.returns-then-room-eq0-clause-rest g c).After-put_back) c.requires.rest.0 (one_gone c.args.seat.now.me.0.held 1 (Some c.in-Some.shared) c.requires.rest.1)
 
 pub returns-in_default-take-clause-cpu : goal.returns-in_default-take-clause-cpu
-returns-in_default-take-clause-cpu g c =
-    let k : ℕ = c.args.v + 2 in
-    let x : Slot g.row.A.Denot = c.in-Some.shared in
-    let v : View g.row.A.Denot = c.args.seat.now.me.0 in
-    let w : View g.row.A.Denot = c.put_back-in_default-take.new.seat.me.0 in
-    let first : c.take.new.seat.me.0 ≡ taking v 1 x = ap (λ z. z.0) c.in-Some.ensures.taken.0 in
-    let away : c.take-2.new.seat.me.0 ≡ missing (taking v 1 x) k = ap (λ z. z.0) c.in_default-take.ensures.missed ∙ ap (λ (u : View g.row.A.Denot). missing u k) first in
-    let last : w ≡ letting (missing (taking v 1 x) k) 1 = ap (λ z. z.0) c.put_back-in_default-take.ensures.home ∙ ap (λ (u : View g.row.A.Denot). letting u 1) away in
-    let q = c.requires.cpu in
-    cpu_told c.args.layout.now c.args.id c.args.cpu.now w (letting (missing (taking v 1 x) k) 1) last q.0 q.1 q.2 c.requires.on
+returns-in_default-take-clause-cpu g c = cpu_told (back_away g (goal.at.returns-in_default-take-clause-cpu g c).After-put_back-in_default-take) c.requires.cpu c.requires.on
 
 pub returns-in_default-take-clause-left : goal.returns-in_default-take-clause-left
-returns-in_default-take-clause-left g c =
-    let k : ℕ = c.args.v + 2 in
-    let x : Slot g.row.A.Denot = c.in-Some.shared in
-    let v : View g.row.A.Denot = c.args.seat.now.me.0 in
-    let w : View g.row.A.Denot = c.put_back-in_default-take.new.seat.me.0 in
-    let first : c.take.new.seat.me.0 ≡ taking v 1 x = ap (λ z. z.0) c.in-Some.ensures.taken.0 in
-    let away : c.take-2.new.seat.me.0 ≡ missing (taking v 1 x) k = ap (λ z. z.0) c.in_default-take.ensures.missed ∙ ap (λ (u : View g.row.A.Denot). missing u k) first in
-    let last : w ≡ letting (missing (taking v 1 x) k) 1 = ap (λ z. z.0) c.put_back-in_default-take.ensures.home ∙ ap (λ (u : View g.row.A.Denot). letting u 1) away in
-    subst (λ (u : View g.row.A.Denot). AtRest u) (sym last) c.requires.left
+returns-in_default-take-clause-left g c = left_told (back_away g (goal.at.returns-in_default-take-clause-left g c).After-put_back-in_default-take) c.requires.left
 
 pub returns-in_default-take-clause-rest : goal.returns-in_default-take-clause-rest
-returns-in_default-take-clause-rest g c =
-    let k : ℕ = c.args.v + 2 in
-    let x : Slot g.row.A.Denot = c.in-Some.shared in
-    let v : View g.row.A.Denot = c.args.seat.now.me.0 in
-    let w : View g.row.A.Denot = c.put_back-in_default-take.new.seat.me.0 in
-    let first : c.take.new.seat.me.0 ≡ taking v 1 x = ap (λ z. z.0) c.in-Some.ensures.taken.0 in
-    let away : c.take-2.new.seat.me.0 ≡ missing (taking v 1 x) k = ap (λ z. z.0) c.in_default-take.ensures.missed ∙ ap (λ (u : View g.row.A.Denot). missing u k) first in
-    let last : w ≡ letting (missing (taking v 1 x) k) 1 = ap (λ z. z.0) c.put_back-in_default-take.ensures.home ∙ ap (λ (u : View g.row.A.Denot). letting u 1) away in
-    let hand = ap (λ (z : Seated g.row.A.Denot). z.1) c.put_back-in_default-take.ensures.home ∙ (ap (λ (z : Seated g.row.A.Denot). tail z.1) c.in_default-take.ensures.missed ∙ (ap (λ (z : Seated g.row.A.Denot). tail z.1) c.in-Some.ensures.taken.0 ∙ c.requires.rest.0)) in
-    (hand, λ j. ap (λ (u : View g.row.A.Denot). held_at u.held j) last ∙ one_gone v.held 1 (Some x) c.requires.rest.1 j)
+returns-in_default-take-clause-rest g c = rest_told (back_away g (goal.at.returns-in_default-take-clause-rest g c).After-put_back-in_default-take) c.requires.rest.0 (one_gone c.args.seat.now.me.0.held 1 (Some c.in-Some.shared) c.requires.rest.1)
 
 pub returns-then-room-eq0-2-clause-cpu : goal.returns-then-room-eq0-2-clause-cpu
-returns-then-room-eq0-2-clause-cpu g c =
-    let k : ℕ = c.args.v + 2 in
-    let x : Slot g.row.A.Denot = c.in-Some.shared in
-    let y : Slot g.row.A.Denot = c.in-Some-take.guest in
-    let v : View g.row.A.Denot = c.args.seat.now.me.0 in
-    let first : c.take.new.seat.me.0 ≡ taking v 1 x = ap (λ z. z.0) c.in-Some.ensures.taken.0 in
-    let both : c.take-2.new.seat.me.0 ≡ taking (taking v 1 x) k y = ap (λ z. z.0) c.in-Some-take.ensures.taken.0 ∙ ap (λ (w : View g.row.A.Denot). taking w k y) first in
-    let one : c.put_back-then-room-eq0-2.new.seat.me.0 ≡ letting (taking (taking v 1 x) k y) k = ap (λ z. z.0) c.put_back-then-room-eq0-2.ensures.home ∙ ap (λ (w : View g.row.A.Denot). letting w k) both in
-    let last : c.put_back-then-room-eq0-2-2.new.seat.me.0 ≡ letting (letting (taking (taking v 1 x) k y) k) 1 = ap (λ z. z.0) c.put_back-then-room-eq0-2-2.ensures.home ∙ ap (λ (w : View g.row.A.Denot). letting w 1) one in
-    let q = c.requires.cpu in
-    cpu_told c.args.layout.now c.args.id c.args.cpu.now c.put_back-then-room-eq0-2-2.new.seat.me.0 (letting (letting (taking (taking v 1 x) k y) k) 1) last q.0 q.1 q.2 c.requires.on
+returns-then-room-eq0-2-clause-cpu g c = cpu_told (both_back g (goal.at.returns-then-room-eq0-2-clause-cpu g c).After-put_back-then-room-eq0-2-2) c.requires.cpu c.requires.on
 
 pub returns-then-room-eq0-2-clause-left : goal.returns-then-room-eq0-2-clause-left
-returns-then-room-eq0-2-clause-left g c =
-    let k : ℕ = c.args.v + 2 in
-    let x : Slot g.row.A.Denot = c.in-Some.shared in
-    let y : Slot g.row.A.Denot = c.in-Some-take.guest in
-    let v : View g.row.A.Denot = c.args.seat.now.me.0 in
-    let first : c.take.new.seat.me.0 ≡ taking v 1 x = ap (λ z. z.0) c.in-Some.ensures.taken.0 in
-    let both : c.take-2.new.seat.me.0 ≡ taking (taking v 1 x) k y = ap (λ z. z.0) c.in-Some-take.ensures.taken.0 ∙ ap (λ (w : View g.row.A.Denot). taking w k y) first in
-    let one : c.put_back-then-room-eq0-2.new.seat.me.0 ≡ letting (taking (taking v 1 x) k y) k = ap (λ z. z.0) c.put_back-then-room-eq0-2.ensures.home ∙ ap (λ (w : View g.row.A.Denot). letting w k) both in
-    let last : c.put_back-then-room-eq0-2-2.new.seat.me.0 ≡ letting (letting (taking (taking v 1 x) k y) k) 1 = ap (λ z. z.0) c.put_back-then-room-eq0-2-2.ensures.home ∙ ap (λ (w : View g.row.A.Denot). letting w 1) one in
-    subst (λ (u : View g.row.A.Denot). AtRest u) (sym last) c.requires.left
+returns-then-room-eq0-2-clause-left g c = left_told (both_back g (goal.at.returns-then-room-eq0-2-clause-left g c).After-put_back-then-room-eq0-2-2) c.requires.left
 
 pub returns-then-room-eq0-2-clause-rest : goal.returns-then-room-eq0-2-clause-rest
-returns-then-room-eq0-2-clause-rest g c =
-    let k : ℕ = c.args.v + 2 in
-    let x : Slot g.row.A.Denot = c.in-Some.shared in
-    let y : Slot g.row.A.Denot = c.in-Some-take.guest in
-    let v : View g.row.A.Denot = c.args.seat.now.me.0 in
-    let first : c.take.new.seat.me.0 ≡ taking v 1 x = ap (λ z. z.0) c.in-Some.ensures.taken.0 in
-    let both : c.take-2.new.seat.me.0 ≡ taking (taking v 1 x) k y = ap (λ z. z.0) c.in-Some-take.ensures.taken.0 ∙ ap (λ (w : View g.row.A.Denot). taking w k y) first in
-    let one : c.put_back-then-room-eq0-2.new.seat.me.0 ≡ letting (taking (taking v 1 x) k y) k = ap (λ z. z.0) c.put_back-then-room-eq0-2.ensures.home ∙ ap (λ (w : View g.row.A.Denot). letting w k) both in
-    let last : c.put_back-then-room-eq0-2-2.new.seat.me.0 ≡ letting (letting (taking (taking v 1 x) k y) k) 1 = ap (λ z. z.0) c.put_back-then-room-eq0-2-2.ensures.home ∙ ap (λ (w : View g.row.A.Denot). letting w 1) one in
-    let hand = ap (λ (z : Seated g.row.A.Denot). z.1) c.put_back-then-room-eq0-2-2.ensures.home ∙ (ap (λ (z : Seated g.row.A.Denot). tail z.1) c.put_back-then-room-eq0-2.ensures.home ∙ (ap (λ (z : Seated g.row.A.Denot). tail (tail z.1)) c.in-Some-take.ensures.taken.0 ∙ (ap (λ (z : Seated g.row.A.Denot). tail z.1) c.in-Some.ensures.taken.0 ∙ c.requires.rest.0))) in
-    (hand, λ j. ap (λ (u : View g.row.A.Denot). held_at u.held j) last ∙ two_gone v.held k 1 (Some y) (Some x) c.requires.rest.1 j)
+returns-then-room-eq0-2-clause-rest g c = rest_told (both_back g (goal.at.returns-then-room-eq0-2-clause-rest g c).After-put_back-then-room-eq0-2-2) c.requires.rest.0 (two_gone c.args.seat.now.me.0.held (c.args.v + 2) 1 (Some c.in-Some-take.guest) (Some c.in-Some.shared) c.requires.rest.1)
 
 pub returns-clause-cpu : goal.returns-clause-cpu
-returns-clause-cpu g c =
-    let k : ℕ = c.args.v + 2 in
-    let x : Slot g.row.A.Denot = c.in-Some.shared in
-    let y : Slot g.row.A.Denot = c.in-Some-take.guest in
-    let x' : Slot g.row.A.Denot = c.both-shared.result.0 in
-    let y' : Slot g.row.A.Denot = c.both-shared.result.1 in
-    let v : View g.row.A.Denot = c.args.seat.now.me.0 in
-    let n : CpuState = c.both-shared.new.cpu in
-    let w : View g.row.A.Denot = c.let_home.new.seat.me.0 in
-    let first : c.take.new.seat.me.0 ≡ taking v 1 x = ap (λ z. z.0) c.in-Some.ensures.taken.0 in
-    let both : c.take-2.new.seat.me.0 ≡ taking (taking v 1 x) k y = ap (λ z. z.0) c.in-Some-take.ensures.taken.0 ∙ ap (λ (w : View g.row.A.Denot). taking w k y) first in
-    let done : c.commit_first.new.seat.me.0 ≡ storing n ((k, Some y') ∷ (1, Some x') ∷ []) (taking (taking v 1 x) k y) k = ap (λ z. z.0) c.commit_first.ensures.home ∙ ap (λ (w : View g.row.A.Denot). storing n ((k, Some y') ∷ (1, Some x') ∷ []) w k) both in
-    let home : w ≡ letting c.commit_first.new.seat.me.0 1 = ap (λ z. z.0) c.let_home.ensures.home in
-    let last : w ≡ letting (storing n ((k, Some y') ∷ (1, Some x') ∷ []) (taking (taking v 1 x) k y) k) 1 = home ∙ ap (λ (u : View g.row.A.Denot). letting u 1) done in
-    let q = c.requires.cpu in
-    cpu_told c.args.layout.now c.args.id n w (letting (storing n ((k, Some y') ∷ (1, Some x') ∷ []) (taking (taking v 1 x) k y) k) 1) last q.0 q.1 refl c.requires.on
+returns-clause-cpu g c = cpu_told (stored g (goal.at.returns-clause-cpu g c).After-let_home) (c.requires.cpu.0, c.requires.cpu.1, refl) c.requires.on
 
 pub returns-clause-rest : goal.returns-clause-rest
-returns-clause-rest g c =
-    let k : ℕ = c.args.v + 2 in
-    let x : Slot g.row.A.Denot = c.in-Some.shared in
-    let y : Slot g.row.A.Denot = c.in-Some-take.guest in
-    let x' : Slot g.row.A.Denot = c.both-shared.result.0 in
-    let y' : Slot g.row.A.Denot = c.both-shared.result.1 in
-    let v : View g.row.A.Denot = c.args.seat.now.me.0 in
-    let n : CpuState = c.both-shared.new.cpu in
-    let w : View g.row.A.Denot = c.let_home.new.seat.me.0 in
-    let first : c.take.new.seat.me.0 ≡ taking v 1 x = ap (λ z. z.0) c.in-Some.ensures.taken.0 in
-    let both : c.take-2.new.seat.me.0 ≡ taking (taking v 1 x) k y = ap (λ z. z.0) c.in-Some-take.ensures.taken.0 ∙ ap (λ (w : View g.row.A.Denot). taking w k y) first in
-    let done : c.commit_first.new.seat.me.0 ≡ storing n ((k, Some y') ∷ (1, Some x') ∷ []) (taking (taking v 1 x) k y) k = ap (λ z. z.0) c.commit_first.ensures.home ∙ ap (λ (w : View g.row.A.Denot). storing n ((k, Some y') ∷ (1, Some x') ∷ []) w k) both in
-    let home : w ≡ letting c.commit_first.new.seat.me.0 1 = ap (λ z. z.0) c.let_home.ensures.home in
-    let last : w ≡ letting (storing n ((k, Some y') ∷ (1, Some x') ∷ []) (taking (taking v 1 x) k y) k) 1 = home ∙ ap (λ (u : View g.row.A.Denot). letting u 1) done in
-    let hand = ap (λ (z : Seated g.row.A.Denot). z.1) c.let_home.ensures.home ∙ ap (λ (z : Seated g.row.A.Denot). tail z.1) c.commit_first.ensures.home in
-    (hand, λ j. ap (λ (u : View g.row.A.Denot). held_at u.held j) last ∙ two_gone [] k 1 (Some y') (Some x') (λ i. refl) j)
+returns-clause-rest g c = rest_told (stored g (goal.at.returns-clause-rest g c).After-let_home) refl (two_gone [] (c.args.v + 2) 1 (Some c.both-shared.result.1) (Some c.both-shared.result.0) (λ j. refl))
 
 pub both-shared-requires-clause-known : goal.both-shared-requires-clause-known
 both-shared-requires-clause-known g c = c.requires.known
@@ -371,13 +218,13 @@ pub take-requires-2-clause-part : goal.take-requires-2-clause-part
 take-requires-2-clause-part g c = c.requires.part
 
 pub commit_first-requires-clause-on : goal.commit_first-requires-clause-on
-commit_first-requires-clause-on g c = ap (λ (z : Seated g.row.A.Denot). z.0.on) c.in-Some-take.ensures.taken.0 ∙ (ap (λ (z : Seated g.row.A.Denot). z.0.on) c.in-Some.ensures.taken.0 ∙ c.requires.on)
+commit_first-requires-clause-on g c = ap (λ (m : Seated g.row.A.Denot). m.0.on) (both g (goal.at.commit_first-requires-clause-on g c).In-Some-take) ∙ c.requires.on
 
 pub put_back-requires-then-room-eq0-2-clause-table : goal.put_back-requires-then-room-eq0-2-clause-table
 put_back-requires-then-room-eq0-2-clause-table g c = (c.take-2.ensures.table ∙ (c.take.ensures.table ∙ c.requires.table.0), c.requires.table.1)
 
 pub put_back-requires-then-room-eq0-2-clause-on : goal.put_back-requires-then-room-eq0-2-clause-on
-put_back-requires-then-room-eq0-2-clause-on g c = ap (λ (z : Seated g.row.A.Denot). z.0.on) c.in-Some-take.ensures.taken.0 ∙ (ap (λ (z : Seated g.row.A.Denot). z.0.on) c.in-Some.ensures.taken.0 ∙ c.requires.on)
+put_back-requires-then-room-eq0-2-clause-on g c = ap (λ (m : Seated g.row.A.Denot). m.0.on) (both g (goal.at.put_back-requires-then-room-eq0-2-clause-on g c).In-Some-take) ∙ c.requires.on
 
 pub put_back-requires-then-room-eq0-2-clause-part : goal.put_back-requires-then-room-eq0-2-clause-part
 put_back-requires-then-room-eq0-2-clause-part g c = c.requires.part
@@ -389,22 +236,13 @@ pub put_back-requires-then-room-eq0-2-2-clause-table : goal.put_back-requires-th
 put_back-requires-then-room-eq0-2-2-clause-table g c = (c.put_back-then-room-eq0-2.ensures.table ∙ (c.take-2.ensures.table ∙ (c.take.ensures.table ∙ c.requires.table.0)), c.requires.table.1)
 
 pub put_back-requires-then-room-eq0-2-2-clause-on : goal.put_back-requires-then-room-eq0-2-2-clause-on
-put_back-requires-then-room-eq0-2-2-clause-on g c = ap (λ (z : Seated g.row.A.Denot). z.0.on) c.put_back-then-room-eq0-2.ensures.home ∙ (ap (λ (z : Seated g.row.A.Denot). z.0.on) c.in-Some-take.ensures.taken.0 ∙ (ap (λ (z : Seated g.row.A.Denot). z.0.on) c.in-Some.ensures.taken.0 ∙ c.requires.on))
+put_back-requires-then-room-eq0-2-2-clause-on g c = ap (λ (m : Seated g.row.A.Denot). m.0.on) (guest_back g (goal.at.put_back-requires-then-room-eq0-2-2-clause-on g c).After-put_back-then-room-eq0-2) ∙ c.requires.on
 
 pub put_back-requires-then-room-eq0-2-clause-held : goal.put_back-requires-then-room-eq0-2-clause-held
 put_back-requires-then-room-eq0-2-clause-held g c = ap (λ (z : Seated g.row.A.Denot). held_at z.0.held (c.args.v + 2)) c.in-Some-take.ensures.taken.0 ∙ at_same c.take.new.seat.me.0.held (c.args.v + 2) (Some c.in-Some-take.guest) None
 
 pub put_back-requires-then-room-eq0-2-2-clause-hand : goal.put_back-requires-then-room-eq0-2-2-clause-hand
-put_back-requires-then-room-eq0-2-2-clause-hand g c = by_front (ap (λ (z : Seated g.row.A.Denot). z.1) c.put_back-then-room-eq0-2.ensures.home ∙ (ap (λ (z : Seated g.row.A.Denot). tail z.1) c.in-Some-take.ensures.taken.0 ∙ ap (λ (z : Seated g.row.A.Denot). z.1) c.in-Some.ensures.taken.0))
+put_back-requires-then-room-eq0-2-2-clause-hand g c = by_front (ap (λ (m : Seated g.row.A.Denot). m.1) (guest_back g (goal.at.put_back-requires-then-room-eq0-2-2-clause-hand g c).After-put_back-then-room-eq0-2))
 
 pub put_back-requires-then-room-eq0-2-2-clause-held : goal.put_back-requires-then-room-eq0-2-2-clause-held
-put_back-requires-then-room-eq0-2-2-clause-held g c =
-    let k : ℕ = c.args.v + 2 in
-    let x : Slot g.row.A.Denot = c.in-Some.shared in
-    let y : Slot g.row.A.Denot = c.in-Some-take.guest in
-    let v : View g.row.A.Denot = c.args.seat.now.me.0 in
-    let first : c.take.new.seat.me.0 ≡ taking v 1 x = ap (λ z. z.0) c.in-Some.ensures.taken.0 in
-    let both : c.take-2.new.seat.me.0 ≡ taking (taking v 1 x) k y = ap (λ z. z.0) c.in-Some-take.ensures.taken.0 ∙ ap (λ (w : View g.row.A.Denot). taking w k y) first in
-    let one : c.put_back-then-room-eq0-2.new.seat.me.0 ≡ letting (taking (taking v 1 x) k y) k = ap (λ z. z.0) c.put_back-then-room-eq0-2.ensures.home ∙ ap (λ (w : View g.row.A.Denot). letting w k) both in
-    let ne : 1 ≢ k = λ e. omega arith in
-    ap (λ (u : View g.row.A.Denot). held_at u.held 1) one ∙ second_held k y x v.held ne
+put_back-requires-then-room-eq0-2-2-clause-held g c = ap (λ (m : Seated g.row.A.Denot). held_at m.0.held 1) (guest_back g (goal.at.put_back-requires-then-room-eq0-2-2-clause-held g c).After-put_back-then-room-eq0-2) ∙ second_held (c.args.v + 2) c.in-Some-take.guest c.in-Some.shared c.args.seat.now.me.0.held (λ e. omega arith)

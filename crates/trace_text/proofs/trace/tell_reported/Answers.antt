@@ -1,4 +1,4 @@
-use Rattle.std.proofs.Common.{rules, ◌≡◌, OnErr, subst}
+use Rattle.std.proofs.Common.{rules, ◌≡◌, OnErr, refl, subst}
 use Rattle.trace_text.specs.Played.{WritesFront}
 use Rattle.trace_text.specs.View.{kept_runs}
 use Rattle.trace_text.proofs.Lined.{shown}
@@ -16,3 +16,30 @@ returns-in-Some-clause-front g c =
 
 pub returns-in-Step-clause-front : goal.returns-in-Step-clause-front
 returns-in-Step-clause-front g c = rw c.in-Step.is c.tell_step.ensures.front
+
+pub returns-in-Line-clause-ok : goal.returns-in-Line-clause-ok
+returns-in-Line-clause-ok g c = rw c.in-Line.is c.tell.ensures.ok
+
+pub returns-in-Line-clause-counted : goal.returns-in-Line-clause-counted
+returns-in-Line-clause-counted g c = c.tell.ensures.counted
+
+pub returns-in-Step-clause-ok : goal.returns-in-Step-clause-ok
+returns-in-Step-clause-ok g c = rw c.in-Step.is c.tell_step.ensures.ok
+
+pub returns-in-Step-clause-counted : goal.returns-in-Step-clause-counted
+returns-in-Step-clause-counted g c = c.tell_step.ensures.counted
+
+pub returns-in-Some-clause-counted : goal.returns-in-Some-clause-counted
+returns-in-Some-clause-counted g c = c.tell_runs.ensures.counted
+
+pub returns-in-Nothing-clause-front : goal.returns-in-Nothing-clause-front
+returns-in-Nothing-clause-front g c = tt
+
+pub returns-in-Nothing-clause-counted : goal.returns-in-Nothing-clause-counted
+returns-in-Nothing-clause-counted g c = refl
+
+pub returns-in-None-clause-front : goal.returns-in-None-clause-front
+returns-in-None-clause-front g c = tt
+
+pub returns-in-None-clause-counted : goal.returns-in-None-clause-counted
+returns-in-None-clause-counted g c = refl

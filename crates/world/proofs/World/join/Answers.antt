@@ -1,5 +1,8 @@
-use Rattle.std.proofs.Common.{rules}
+use Rattle.std.proofs.Common.{refl}
 use Rattle.world.proofs.World.join.Goals as goal
 
+pub invariant_of-result : goal.invariant_of-result
+invariant_of-result g c = record { history = c.requires.history }
+
 pub returns : goal.returns
-returns g c = search rules
+returns g c = refl

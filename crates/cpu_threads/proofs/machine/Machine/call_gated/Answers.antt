@@ -1,4 +1,5 @@
-use Rattle.std.proofs.Common.{rules, ◌≡◌, refl, sym, ap, ◌∙◌, subst}
+use Rattle.std.proofs.Common.{◌≡◌, refl, sym, ap, ◌∙◌, subst}
+use Rattle.std.proofs.lemmas.Bool.{false≢true}
 use Rattle.page_state.specs.declared.reply.Refusal.TheVariants.{Contended}
 use Rattle.page_state.specs.declared.reply.Reply.TheVariants.{Refused}
 use Rattle.part_table.specs.Passes.{IsPassOf, Opened}
@@ -23,7 +24,16 @@ returns-then-not-is_contended-clause-log_full g c s = record { last = c.loop.pas
 
 pub loop-preserved : goal.loop-preserved
 loop-preserved g c =
-    let e : c.try_step-reply.result ≡ Refused Contended = search rules in (
+    let e : c.try_step-reply.result ≡ Refused Contended = c.is_contended.ensures.0 c.if-not-is_contended.false in (
       subst (λ (t : Opened). IsPassOf t c.try_step-reply.new.pass) (ap (λ (m : Machine). m.table) c.self.view_is) c.try_step-reply.ensures.pass,
       same_on c.args.pass.now.knows c.loop.pass.knows c.try_step-reply.new.pass.knows c.loop.invariant.1 ((c.try_step-reply.ensures.contended e).same),
     )
+
+pub returns-then-not-is_contended-clause-pass : goal.returns-then-not-is_contended-clause-pass
+returns-then-not-is_contended-clause-pass g c = subst (λ (t : Opened). IsPassOf t c.try_step-reply.new.pass) (ap (λ (m : Machine). m.table) c.self.view_is) c.try_step-reply.ensures.pass
+
+pub returns-then-not-is_contended-clause-rest : goal.returns-then-not-is_contended-clause-rest
+returns-then-not-is_contended-clause-rest g c = c.try_step-reply.ensures.rest
+
+pub returns-then-not-is_contended-clause-answered : goal.returns-then-not-is_contended-clause-answered
+returns-then-not-is_contended-clause-answered g c e = absurd (false≢true (sym c.if-not-is_contended.true ∙ c.is_contended.ensures.1 e))

@@ -1,6 +1,7 @@
-use Rattle.std.proofs.Common.{rules, refl, ap, arith, ◌+◌, ◌∙◌, Some, inr}
+use Rattle.std.proofs.Common.{rules, refl, ap, sym, subst, arith, ◌+◌, ◌∙◌, Some, IfSome, inl, inr}
 use Rattle.hypercalls.specs.Stands.{parts_layout, state_of}
 use Rattle.hypercalls.specs.Whole.{call_of}
+use Rattle.trace_text.specs.Ready.{IsStateAt}
 use Rattle.trace_text.specs.Session.{MakesStep}
 use Rattle.trace_text.specs.View.{standing_of}
 use Rattle.trace_text.proofs.Standing.{on_machine}
@@ -27,3 +28,19 @@ returns-clause-done g c =
             ∙ ap (λ n. record old { machine = Some (record { layout = (parts_layout before.parts); state = state_of after.parts }); steps = old.steps + 1; disagreements = old.disagreements + n }) c.count.ensures.count;
       }),
     )
+
+pub returns-in_default-clause-ready : goal.returns-in_default-clause-ready
+returns-in_default-clause-ready g c = c.requires.ready
+
+pub checked-requires-clause-cpu : goal.checked-requires-clause-cpu
+checked-requires-clause-cpu g c = omega arith
+
+pub returns-clause-ready : goal.returns-clause-ready
+returns-clause-ready g c = record {
+  remembered = subst (λ state. IfSome state (IsStateAt c.checked.new.world)) (sym c.replace.ensures.after) c.in-Ok.ensures.after;
+  few = omega (arith, c.requires.ready.few, c.count.ensures.few);
+}
+
+pub returns-in_default-checked-clause-done : goal.returns-in_default-checked-clause-done
+returns-in_default-checked-clause-done g c =
+    on_machine (MakesStep g.O.Oracle.gives c.args.number c.args.cpu c.args.step) _ c.args.self.now.world c.in-Some.world.now _ _ refl (search rules) (λ over. absurd (omega arith), λ in_range. inl refl)

@@ -1,0 +1,62 @@
+//! What is kept and what walking finds, of one walk.
+ghost use Rattle.std.specs.Prelude.{◌≡◌, [], IfOk};
+ghost use Rattle.page_state.specs.LayoutView.{layout_of};
+ghost use Rattle.ghost_spec.specs.States.{ghost_state, IsKept};
+ghost use Rattle.ghost_spec.specs.Views.{row_in};
+ghost use Rattle.hypercalls.specs.Stands.{parts_layout, state_of, HasHistory};
+ghost use Rattle.ghost_oracle.specs.Compared.{IsCompared};
+ghost use Rattle.ghost_oracle.specs.Found.{found_state};
+
+use crate::compared::{Compared, is_kept};
+use crate::kept::{with_kept, with_scratch};
+use ghost_rows::are_from_scratch;
+use ghost_spec::rows::copied_rows;
+use ghost_spec::state::Ghost;
+use hypercalls::Parts;
+use std::alloc::{AllocError, Allocator, Global};
+
+/// What is kept, and beside it what a walk found.
+fn one_for_each<A: Allocator>(
+    alloc: Global,
+    parts: &Parts<A>,
+    found: Ghost,
+) -> Result<Compared, AllocError>
+    requires history { ∥ HasHistory parts.now ∥₁ }
+    requires state { ghost_state found ≡ found_state (row_in []) (state_of parts.now) }
+    requires layout { layout_of found.layout ≡ parts_layout parts.now }
+    requires kept { IsKept found }
+    ensures { IfOk result (IsCompared parts.now) }
+{
+    let kept = with_kept(alloc, parts, &found)?;
+    let walked = with_scratch(alloc, parts, found)?;
+    Ok(Compared {
+        kept,
+        other: Some(walked),
+    })
+}
+
+/// What is kept, and what a walk found. Where the walk found just the runs that are kept, and by these the rows that are kept, one
+/// state is both, with a copy of these rows.
+pub(crate) fn compared<A: Allocator>(
+    alloc: Global,
+    parts: &Parts<A>,
+    found: Ghost,
+) -> Result<Compared, AllocError>
+    requires history { ∥ HasHistory parts.now ∥₁ }
+    requires state { ghost_state found ≡ found_state (row_in []) (state_of parts.now) }
+    requires layout { layout_of found.layout ≡ parts_layout parts.now }
+    requires kept { IsKept found }
+    ensures { IfOk result (IsCompared parts.now) }
+{
+    let rows = parts.shared().rows.runs();
+    if !is_kept(&found, parts) {
+        return one_for_each(alloc, parts, found);
+    }
+    if !are_from_scratch(alloc, &found, rows)? {
+        return one_for_each(alloc, parts, found);
+    }
+    let rows = copied_rows(alloc, rows)?;
+    let mut kept = found;
+    kept.shared.rows = rows;
+    Ok(Compared { kept, other: None })
+}

@@ -1,0 +1,17 @@
+use Rattle.std.proofs.Common.{arith}
+use Rattle.page_state.specs.Rows.{HasPageBelow}
+use Rattle.run_list.proofs.Found.{reach_at}
+use Rattle.ghost_rows.proofs.RowsKept.{told-one-more, before-next}
+use Rattle.ghost_rows.proofs.RowsTold.{all-later}
+use Rattle.ghost_rows.proofs.rows.kept.are_told.Goals as goal
+
+pub is_told-requires-clause-run : goal.is_told-requires-clause-run
+is_told-requires-clause-run c = reach_at HasPageBelow c.loop-i.i c.args.rows.now _ c.requires.reach c.loop-i-test.true
+
+pub loop-i-preserved : goal.loop-i-preserved
+loop-i-preserved c =
+    let told = c.is_told.ensures.told.0 c.if-not-is_told.false in
+    record {
+      told = told-one-more c.args.lists.now c.args.rows.now c.loop-i.i _ c.loop-i-test.true c.loop-i.invariant.told told;
+      near = λ d less. all-later _ _ c.is_told.new.near c.args.lists.now (before-next c.args.rows.now c.loop-i.i _ d c.requires.coarsest less) (c.is_told.ensures.near c.if-not-is_told.false);
+    }
