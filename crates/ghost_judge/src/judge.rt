@@ -273,6 +273,36 @@ fn changed_since(
     }
 }
 
+/// Judges a call of the state before it, which then is what the model says of the state after it.
+fn judge_on(
+    alloc: Global,
+    spec: &mut Ghost,
+    cpu: u64,
+    step: Step,
+    reply: &Reply,
+    post: &Ghost,
+) -> Result<Option<Disagreement>, AllocError>
+    requires cpu { cpu < spec.old.layout.config.cpus }
+    requires pre { IsKept spec.old }
+    requires post { IsKept post.now }
+    requires layout { layout_of post.now.layout ≡ layout_of spec.old.layout }
+    ensures none { IfOk result (λ o. (o ≡ None) ↔ JudgeAgrees (contents_in spec.old) step reply.now (contents_in post.now) (told_of spec.old cpu step)) }
+    ensures first { IfOk result (λ o. IfSome o (IsFirstJudged (contents_in spec.old) step reply.now (contents_in post.now) (told_of spec.old cpu step))) }
+{
+    let changed = changed_since(alloc, spec, *reply, post)?;
+    let told = spec.advance(alloc, cpu, step)?;
+    if wants_memory(step, *reply, told) {
+        return Ok(changed);
+    }
+    if !is_same_reply(*reply, told) {
+        return Ok(Some(Disagreement::Reply {
+            said: *reply,
+            spec: told,
+        }));
+    }
+    differs(alloc, post, spec)
+}
+
 /// As `judge`, where the state before isn't wanted any more: it becomes the one that the model says, and no copy is made.
 pub fn judge_last(
     alloc: Global,
@@ -289,19 +319,10 @@ pub fn judge_last(
     ensures none { IfOk result (λ o. (o ≡ None) ↔ JudgeAgrees (contents_in pre) step reply.now (contents_in post.now) (told_of pre cpu step)) }
     ensures first { IfOk result (λ o. IfSome o (IsFirstJudged (contents_in pre) step reply.now (contents_in post.now) (told_of pre cpu step))) }
 {
-    let changed = changed_since(alloc, &pre, *reply, post)?;
     let mut spec = pre;
-    let told = spec.advance(alloc, cpu, step)?;
-    if wants_memory(step, *reply, told) {
-        return Ok(changed);
-    }
-    if !is_same_reply(*reply, told) {
-        return Ok(Some(Disagreement::Reply {
-            said: *reply,
-            spec: told,
-        }));
-    }
-    differs(alloc, post, &spec)
+    let judged = judge_on(alloc, &mut spec, cpu, step, reply, post);
+    drop(spec);
+    judged
 }
 
 /// Judges a call of a CPU by the state before it, its reply and the state after it: none where the reply and the state are

@@ -27,8 +27,14 @@ fn one_for_each<A: Allocator>(
     requires kept { IsKept found }
     ensures { IfOk result (IsCompared parts.now) }
 {
-    let kept = with_kept(alloc, parts, &found)?;
-    let walked = with_scratch(alloc, parts, found)?;
+    let Ok(kept) = with_kept(alloc, parts, &found) else {
+        drop(found);
+        return Err(AllocError);
+    };
+    let Ok(walked) = with_scratch(alloc, parts, found) else {
+        drop(kept);
+        return Err(AllocError);
+    };
     Ok(Compared {
         kept,
         other: Some(walked),
@@ -52,10 +58,17 @@ pub(crate) fn compared<A: Allocator>(
     if !is_kept(&found, parts) {
         return one_for_each(alloc, parts, found);
     }
-    if !are_from_scratch(alloc, &found, rows)? {
+    let Ok(are_kept) = are_from_scratch(alloc, &found, rows) else {
+        drop(found);
+        return Err(AllocError);
+    };
+    if !are_kept {
         return one_for_each(alloc, parts, found);
     }
-    let rows = copied_rows(alloc, rows)?;
+    let Ok(rows) = copied_rows(alloc, rows) else {
+        drop(found);
+        return Err(AllocError);
+    };
     let mut kept = found;
     kept.shared.rows = rows;
     Ok(Compared { kept, other: None })

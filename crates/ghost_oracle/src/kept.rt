@@ -85,13 +85,30 @@ fn ghost_with<A: Allocator>(
     ensures shared { IfOk result (λ g. g.shared ≡ shared) }
     ensures guests { IfOk result (λ g. g.guests ≡ guests) }
 {
+    // One call gives both back, however many lists they hold.
+    let Ok(layout) = copied_layout(&parts.layout) else {
+        drop((shared, guests));
+        return Err(AllocError);
+    };
+    let Ok(vms) = slots_from(alloc, &parts.vms[0].table) else {
+        drop((shared, guests));
+        return Err(AllocError);
+    };
+    let Ok(cpus) = cpus_from(alloc, parts.cpus.as_slice()) else {
+        drop((shared, guests));
+        return Err(AllocError);
+    };
+    let Ok(rooms) = rooms_from(alloc, parts) else {
+        drop((shared, guests));
+        return Err(AllocError);
+    };
     Ok(Ghost {
-        layout: copied_layout(&parts.layout)?,
-        vms: slots_from(alloc, &parts.vms[0].table)?,
+        layout,
+        vms,
         shared,
         guests,
-        cpus: cpus_from(alloc, parts.cpus.as_slice())?,
-        rooms: rooms_from(alloc, parts)?,
+        cpus,
+        rooms,
     })
 }
 
@@ -102,8 +119,8 @@ fn found<A: Allocator>(alloc: Global, parts: &Parts<A>) -> Result<Ghost, AllocEr
     ensures layout { IfOk result (λ g. layout_of g.layout ≡ parts_layout parts.now) }
     ensures kept { IfOk result IsKept }
 {
-    let shared = shared_from(alloc, parts.shared(), RunList::new(alloc))?;
     let guests = guests_from(alloc, parts.guests.as_slice())?;
+    let shared = shared_from(alloc, parts.shared(), RunList::new(alloc))?;
     ghost_with(alloc, parts, shared, guests)
 }
 
@@ -146,8 +163,8 @@ pub(crate) fn with_kept<A: Allocator>(
     ensures rows { IfOk result (SaysRows parts.now) }
     ensures frames { IfOk result (HasRowsOf (parts_layout parts.now)) }
 {
-    let shared = shared_with_maplets(alloc, &found.shared, parts.shared())?;
     let guests = guests_with_maplets(alloc, found.guests.as_slice(), parts.guests.as_slice())?;
+    let shared = shared_with_maplets(alloc, &found.shared, parts.shared())?;
     ghost_with(alloc, parts, shared, guests)
 }
 
@@ -166,7 +183,10 @@ pub(crate) fn with_scratch<A: Allocator>(
     ensures frames { IfOk result (HasRowsOf (parts_layout parts.now)) }
 {
     let mut walked = found;
-    let rows = rows_from_scratch(alloc, &walked)?;
+    let Ok(rows) = rows_from_scratch(alloc, &walked) else {
+        drop(walked);
+        return Err(AllocError);
+    };
     walked.shared.rows = rows;
     Ok(walked)
 }

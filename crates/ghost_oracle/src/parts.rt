@@ -10,9 +10,20 @@ ghost use Rattle.ghost_oracle.specs.Low.{IsLowCpu};
 
 use ghost_spec::cpu::GhostCpu;
 use ghost_spec::parts::{GhostSlot, GhostStand};
+use ghost_spec::state::GhostRooms;
 use guest_steps::{CpuState, GuestPart};
+use page_state::Layout;
 use std::alloc::{AllocError, Allocator, Global};
 use vm_table::{Slot, SlotState, VmTable};
+
+/// What a state holds beside its trees, their pools and the owner rows.
+#[derive(Drop)]
+pub(crate) struct SlotsAndCpus {
+    pub layout: Layout,
+    pub vms: Vec<GhostSlot>,
+    pub cpus: Vec<GhostCpu>,
+    pub rooms: GhostRooms,
+}
 
 /// How a slot stands.
 fn stand_from(state: SlotState) -> GhostStand

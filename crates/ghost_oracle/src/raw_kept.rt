@@ -1,15 +1,18 @@
 //! What parts some of whose trees were poked keep, and what walking every word of them finds.
-ghost use Rattle.std.specs.Prelude.{◌≡◌, ℕ, IfOk, Some, length};
+ghost use Rattle.std.specs.Prelude.{◌≡◌, ℕ, All, IfOk, Some, get_or, length, map};
 ghost use Rattle.page_state.specs.LayoutView.{layout_of};
 ghost use Rattle.ghost_trees.specs.KeptTrees.{IsKeptTree};
-ghost use Rattle.ghost_spec.specs.States.{contents_in};
+ghost use Rattle.reference_model.specs.State.{no_slot};
+ghost use Rattle.guest_steps.specs.View.{cpu_of, vm_slots};
+ghost use Rattle.ghost_spec.specs.States.{contents_in, slot_in};
+ghost use Rattle.ghost_spec.specs.Views.{cpu_in};
 ghost use Rattle.ghost_trees.specs.Trees.{tree_in_lists};
 ghost use Rattle.ghost_judge.specs.Audits.{AreMapsKept};
 ghost use Rattle.ghost_oracle.specs.Found.{scratch_rows, HasRowsOf};
 ghost use Rattle.ghost_oracle.specs.RawFound.{AreSlotsFound, IsRawFound, IsSlotFound, SaysRawRows};
 ghost use Rattle.ghost_oracle.specs.Seen.{raw_seen};
 
-use crate::parts::{cpu_rooms, cpus_from, guest_rooms, slots_from};
+use crate::parts::{SlotsAndCpus, cpu_rooms, cpus_from, guest_rooms, slots_from};
 use crate::raw::{RawComponent, RawGuest, RawParts, RawShared};
 use crate::trees::{Source, frames_of, guest_from, phase_from, with_maplets};
 use crate::walk::walk;
@@ -128,6 +131,23 @@ fn raw_rooms<A: Allocator>(alloc: Global, parts: &RawParts<A>) -> Result<GhostRo
     })
 }
 
+/// The slots, the CPUs and the rooms as they stand.
+fn raw_slots_and_cpus<A: Allocator>(
+    alloc: Global,
+    parts: &RawParts<A>,
+) -> Result<SlotsAndCpus, AllocError>
+    ensures layout { IfOk result (λ b. layout_of b.layout ≡ layout_of parts.now.layout) }
+    ensures slots { IfOk result (λ b. All (λ v. (slot : ℕ) → get_or (map slot_in b.vms.items) slot (no_slot 1) ≡ (vm_slots v).slot slot) parts.now.vms.items) }
+    ensures cpus { IfOk result (λ b. map cpu_in b.cpus.items ≡ map cpu_of parts.now.cpus.items) }
+{
+    Ok(SlotsAndCpus {
+        layout: copied_layout(&parts.layout)?,
+        vms: slots_from(alloc, &parts.vms[0].table)?,
+        cpus: cpus_from(alloc, parts.cpus.as_slice())?,
+        rooms: raw_rooms(alloc, parts)?,
+    })
+}
+
 /// All parts, with these rows.
 fn raw_from<A: Allocator>(
     alloc: Global,
@@ -138,18 +158,31 @@ fn raw_from<A: Allocator>(
     ensures found { IfOk result (IsRawFound source parts.now) }
     ensures rows { IfOk result (λ g. g.shared.rows ≡ rows) }
 {
+    let guests = slot_guests(
+        alloc,
+        parts.guests.as_slice(),
+        parts.poked.as_slice(),
+        source,
+    )?;
+    let shared = raw_shared(alloc, &parts.shared, source, rows)?;
+    let Ok(beside) = raw_slots_and_cpus(alloc, parts) else {
+        drop(shared);
+        drop(guests);
+        return Err(AllocError);
+    };
+    let SlotsAndCpus {
+        layout,
+        vms,
+        cpus,
+        rooms,
+    } = beside;
     Ok(Ghost {
-        layout: copied_layout(&parts.layout)?,
-        vms: slots_from(alloc, &parts.vms[0].table)?,
-        cpus: cpus_from(alloc, parts.cpus.as_slice())?,
-        rooms: raw_rooms(alloc, parts)?,
-        guests: slot_guests(
-            alloc,
-            parts.guests.as_slice(),
-            parts.poked.as_slice(),
-            source,
-        )?,
-        shared: raw_shared(alloc, &parts.shared, source, rows)?,
+        layout,
+        vms,
+        cpus,
+        rooms,
+        guests,
+        shared,
     })
 }
 
@@ -173,7 +206,10 @@ pub fn recompute_raw<A: Allocator>(alloc: Global, parts: &RawParts<A>) -> Result
     ensures ready { IfOk result AreMapsKept }
 {
     let mut found = raw_from(alloc, parts, Source::Words, RunList::new(alloc))?;
-    let rows = rows_from_scratch(alloc, &found)?;
+    let Ok(rows) = rows_from_scratch(alloc, &found) else {
+        drop(found);
+        return Err(AllocError);
+    };
     found.shared.rows = rows;
     Ok(found)
 }

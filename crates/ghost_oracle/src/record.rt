@@ -13,7 +13,7 @@ ghost use Rattle.ghost_oracle.specs.Low.{IsLowCpu, IsLowGuest};
 ghost use Rattle.ghost_oracle.specs.Recorded.{given, put_given, recorded};
 
 use crate::kept::shared_from;
-use crate::parts::{cpu_from, slots_from};
+use crate::parts::{SlotsAndCpus, cpu_from, slots_from};
 use crate::trees::{Source, guest_from};
 use ghost_spec::cpu::GhostCpu;
 use ghost_spec::parts::{GhostGuest, GhostSlot, empty_guests, empty_slots};
@@ -163,6 +163,33 @@ fn shared_room<A: Allocator>(log: u64, shared: Option<&SharedPart<A>>) -> u64
     }
 }
 
+/// The slots of the VM part and the CPU's own state, with blank ones beside them, and these rooms.
+fn slots_and_cpus_given(
+    alloc: Global,
+    layout: &Layout,
+    cpu: u64,
+    vms: Option<&VmPart>,
+    state: &CpuState,
+    rooms: GhostRooms,
+) -> Result<SlotsAndCpus, AllocError>
+    requires cpu { cpu < layout.now.config.cpus }
+    requires low { IsLowCpu (cpu_of state.now) }
+    ensures layout { IfOk result (λ b. layout_of b.layout ≡ layout_of layout.now) }
+    ensures slots { IfOk result (λ b. (slot : ℕ) → get_or (map slot_in b.vms.items) slot (no_slot 1) ≡ (at_place blank.vms vm_slots (option_copied vms.entry)).slot slot) }
+    ensures slots_count { IfOk result (λ b. length b.vms.items ≡ 64) }
+    ensures cpus { IfOk result (λ b. (c : ℕ) → get_or (map cpu_in b.cpus.items) c no_cpu ≡ put_at blank.cpu cpu (cpu_of state.now) c) }
+    ensures cpus_count { IfOk result (λ b. length b.cpus.items ≡ layout.now.config.cpus) }
+    ensures kept { IfOk result (λ b. AreKeptCpus b.cpus.items) }
+    ensures rooms { IfOk result (λ b. b.rooms ≡ rooms) }
+{
+    Ok(SlotsAndCpus {
+        layout: copied_layout(layout)?,
+        vms: slots_given(alloc, vms)?,
+        cpus: cpus_with(alloc, layout.config.cpus, cpu, state)?,
+        rooms,
+    })
+}
+
 /// What the given parts and a CPU hold, and nothing else: the map of each of their trees by its words alone, each of which is
 /// read once, and the tables, pools, rows, phases, slots and rooms as they stand. Every other part, slot and CPU is empty, and
 /// so is its log.
@@ -190,12 +217,28 @@ pub fn record<A: Allocator>(
         guests: guest_rooms_given(alloc, log, guest)?,
         cpus: rooms_with(alloc, cpus, log, cpu, state.log.room())?,
     };
+    let beside = slots_and_cpus_given(alloc, layout, cpu, vms, state, rooms)?;
+    let Ok(guests) = guests_given(alloc, guest) else {
+        drop(beside);
+        return Err(AllocError);
+    };
+    let Ok(shared) = shared_given(alloc, shared) else {
+        drop(beside);
+        drop(guests);
+        return Err(AllocError);
+    };
+    let SlotsAndCpus {
+        layout,
+        vms,
+        cpus,
+        rooms,
+    } = beside;
     let recorded = Ghost {
-        layout: copied_layout(layout)?,
-        vms: slots_given(alloc, vms)?,
-        cpus: cpus_with(alloc, cpus, cpu, state)?,
-        guests: guests_given(alloc, guest)?,
-        shared: shared_given(alloc, shared)?,
+        layout,
+        vms,
+        cpus,
+        guests,
+        shared,
         rooms,
     };
     Ok(recorded)

@@ -14,14 +14,19 @@ use Rattle.ghost_trees.proofs.Overlaid.{within_means}
 use Rattle.ghost_rows.specs.declared.rows.pieces.Lists.{Lists}
 use Rattle.ghost_rows.specs.RowsTold.{told, IsTold}
 
--- one piece more of a run
-pub told-more : (x : Lists) (r : Run Row) (low high : ℕ) → r.pages.first.0 ≤ low → ((f : ℕ) → low ≤ f → f < high → told x f ≡ advance_row (told x low) (f - low))
-    → told x low ≡ advance_row r.value (low - r.pages.first.0) → ((f : ℕ) → r.pages.first.0 ≤ f → f < low → told x f ≡ value_on advance_row r f)
-    → (f : ℕ) → r.pages.first.0 ≤ f → f < high → told x f ≡ value_on advance_row r f
-told-more x r low high a on here before f b c = by_lt f low
+-- one piece more of a run, whose frames are told from one on
+pub told-more : (x : Lists) (r : Run Row) (from low high : ℕ) → r.pages.first.0 ≤ low → ((f : ℕ) → low ≤ f → f < high → told x f ≡ advance_row (told x low) (f - low))
+    → told x low ≡ advance_row r.value (low - r.pages.first.0) → ((f : ℕ) → from ≤ f → f < low → told x f ≡ value_on advance_row r f)
+    → (f : ℕ) → from ≤ f → f < high → told x f ≡ value_on advance_row r f
+told-more x r from low high a on here before f b c = by_lt f low
     (λ h. before f b h)
     (λ h. let offset : low - r.pages.first.0 + (f - low) ≡ f - r.pages.first.0 = omega (arith, a, h) in
     on f h c ∙ ap (λ (v : Row). advance_row v (f - low)) here ∙ row_laws.more r.value (low - r.pages.first.0) (f - low) ∙ ap (λ (n : ℕ). advance_row r.value n) offset)
+
+-- the first piece of a run
+pub told-first : (x : Lists) (r : Run Row) (high : ℕ) → ((f : ℕ) → r.pages.first.0 ≤ f → f < high → told x f ≡ advance_row (told x r.pages.first.0) (f - r.pages.first.0))
+    → told x r.pages.first.0 ≡ r.value → (f : ℕ) → r.pages.first.0 ≤ f → f < high → told x f ≡ value_on advance_row r f
+told-first x r high on here f a b = on f a b ∙ ap (λ (v : Row). advance_row v (f - r.pages.first.0)) here
 
 some-of : (a b : Row) → Some a ≡ Some b → a ≡ b
 some-of a b h = cc

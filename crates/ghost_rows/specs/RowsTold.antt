@@ -49,6 +49,10 @@ told x f = row_told (run_map advance_row x.annotated.runs f) (run_map advance_ro
 abbrev pub IsTold : Lists → Run Row → Type 0
 IsTold x r = (f : ℕ) → r.pages.first.0 ≤ f → f < run_end r → told x f ≡ value_on advance_row r f
 
+-- and of those from one on
+abbrev pub IsToldFrom : Lists → Run Row → ℕ → Type 0
+IsToldFrom x r from = (f : ℕ) → from ≤ f → f < run_end r → told x f ≡ value_on advance_row r f
+
 -- the numbers of each list are small
 pub record AreReached (x : Lists) : Type 0 where
   pub annotated : AreInReach HasPageBelow x.annotated.runs

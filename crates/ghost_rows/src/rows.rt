@@ -61,13 +61,12 @@ fn range_rows(alloc: Global, lists: &Lists, pages: PageRange) -> Result<RunList<
     let mut stands = Stands::FIRST;
     let mut rows = Vec::with_capacity(alloc, lists.count())?;
     while low < end {
-        let (here, high) = lists.look(stands, low, end);
+        let high = lists.look(&mut stands, low, end);
         let piece = PageRange {
             first: Page(low),
             count: high - low,
         };
-        put_last(&mut rows, piece, lists.row(here, low))?;
-        stands = here;
+        put_last(&mut rows, piece, lists.row(&stands, low))?;
         low = high;
     }
     Ok(RunList::of(rows))

@@ -12,13 +12,11 @@ ghost use Rattle.ghost_spec.specs.States.{guest_in};
 
 use crate::boot::{frames_from, root_tree};
 use crate::parts::{GhostGuest, GhostPhase};
-use crate::shared::{behind, edited, needed};
+use crate::shared::{behind, edit, needed};
 use ghost_trees::pool::give_all;
-use ghost_trees::tree::Tree;
 use page_state::{PageRange, VmKind};
 use reference_model::{Changes, GuestChange, MapChange};
 use std::alloc::{AllocError, Global};
-use std::mem;
 
 /// A guest's map changes: new tables get the lowest frames of its own pool, and freed frames come back to it.
 fn change_map(
@@ -33,12 +31,10 @@ fn change_map(
     ensures after { OnOk result (guest_in guest.new ≡ mapped_guest depth change (guest_in guest.old)) }
     ensures kept { OnOk result (IsKeptGuest guest.new) }
 {
-    let was = mem::replace(&mut guest.tree, Tree::none(alloc));
     let free = guest.free.as_slice();
-    let edit = edited(alloc, depth, was, change, free)?;
-    let mut left = Vec::from_slice(alloc, behind(free, edit.need))?;
-    give_all(&mut left, edit.returned.as_slice())?;
-    guest.tree = edit.tree;
+    let edited = edit(alloc, depth, &mut guest.tree, change, free)?;
+    let mut left = Vec::from_slice(alloc, behind(free, edited.need))?;
+    give_all(&mut left, edited.returned.as_slice())?;
     guest.free = left;
     Ok(())
 }

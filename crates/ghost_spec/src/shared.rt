@@ -6,7 +6,7 @@ ghost use Rattle.reference_model.specs.Step.{shared_after, shared_need};
 
 use crate::rows::copied_rows;
 use ghost_trees::pool::give_all;
-use ghost_trees::tree::{self, EditedTree, Tree};
+use ghost_trees::tree::{self, Tree};
 use page_state::Row;
 use reference_model::{Changes, MapChange};
 use run_list::RunList;
@@ -82,26 +82,42 @@ pub(crate) fn needed(
     }
 }
 
-/// The tree after a change, whose new tables get the frames, in order; without one it is the same.
-pub(crate) fn edited(
+/// What a change of a tree took and gave.
+#[derive(Drop)]
+pub(crate) struct Edited {
+    /// How many tables it needed.
+    pub(crate) need: usize,
+    /// The frames of the tables that went, in order.
+    pub(crate) returned: Vec<u64>,
+}
+
+/// A tree changes: its new tables get the frames, in order. Without a change it stays.
+pub(crate) fn edit(
     alloc: Global,
     depth: u64,
-    tree: Tree,
+    tree: &mut Tree,
     change: Option<MapChange>,
     frames: &[u64],
-) -> Result<EditedTree, AllocError>
+) -> Result<Edited, AllocError>
     requires depth { depth ≤ 3 }
-    requires kept { IsKeptTree tree }
+    requires kept { IsKeptTree tree.old }
     requires small { IsSmallChange change }
-    ensures tree { IfOk result (λ e. tree_in_lists e.tree ≡ edited_of depth (tree_in_lists tree) (edit_of change) frames.now) }
-    ensures kept { IfOk result (λ e. IsKeptTree e.tree) }
-    ensures need { IfOk result (λ e. e.need ≡ need_of depth (tree_in_lists tree) (edit_of change)) }
-    ensures returned { IfOk result (λ e. e.returned.items ≡ returned_of depth (tree_in_lists tree) (edit_of change)) }
+    ensures tree { OnOk result (tree_in_lists tree.new ≡ edited_of depth (tree_in_lists tree.old) (edit_of change) frames.now) }
+    ensures kept { IsKeptTree tree.new }
+    ensures need { IfOk result (λ e. e.need ≡ need_of depth (tree_in_lists tree.old) (edit_of change)) }
+    ensures returned { IfOk result (λ e. e.returned.items ≡ returned_of depth (tree_in_lists tree.old) (edit_of change)) }
 {
     match change {
-        Some(change) => tree::edited(alloc, depth, &tree, change.range, change.entry, frames),
-        None => Ok(EditedTree {
-            tree,
+        Some(change) => {
+            let made = tree::edited(alloc, depth, tree, change.range, change.entry, frames)?;
+            // What stood there goes to `drop`: the proof of a place written over would go through all parts of it.
+            drop(mem::replace(tree, made.tree));
+            Ok(Edited {
+                need: made.need,
+                returned: made.returned,
+            })
+        }
+        None => Ok(Edited {
             need: 0,
             returned: Vec::new(alloc),
         }),
@@ -141,7 +157,7 @@ pub(crate) fn is_short(
 }
 
 /// Both maps change: the host's new tables get the lowest frames, the hypervisor's the next, and freed frames come back.
-/// Where memory is refused, both trees may be lost.
+/// Where memory is refused, both trees may have changed.
 pub(crate) fn change(
     alloc: Global,
     depth: u64,
@@ -156,17 +172,13 @@ pub(crate) fn change(
     ensures rows { shared.new.rows ≡ shared.old.rows }
     ensures kept { IsKeptShared shared.new }
 {
-    let was_host = mem::replace(&mut shared.host, Tree::none(alloc));
-    let was_hyp = mem::replace(&mut shared.hyp, Tree::none(alloc));
     let free = shared.free.as_slice();
-    let host = edited(alloc, depth, was_host, changes.host, free)?;
+    let host = edit(alloc, depth, &mut shared.host, changes.host, free)?;
     let rest = behind(free, host.need);
-    let hyp = edited(alloc, depth, was_hyp, changes.hyp, rest)?;
+    let hyp = edit(alloc, depth, &mut shared.hyp, changes.hyp, rest)?;
     let mut left = Vec::from_slice(alloc, behind(rest, hyp.need))?;
     give_all(&mut left, hyp.returned.as_slice())?;
     give_all(&mut left, host.returned.as_slice())?;
-    shared.host = host.tree;
-    shared.hyp = hyp.tree;
     shared.free = left;
     Ok(())
 }

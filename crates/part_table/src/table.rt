@@ -55,7 +55,7 @@ fn lay<A: Allocator>(shelf: &Shelf<A>, seat: &mut Place<A>, k: usize, part: Slot
     ensures laid { seat.new.me ≡ (seat.old.me.0, (k, Some part) ∷ tail seat.old.me.1) }
 {
     // Nothing lay there.
-    let _ = shelf.shared.exchange(seat, k, Some(part));
+    drop(shelf.shared.exchange(seat, k, Some(part)));
 }
 
 /// Puts a part home as it was taken.

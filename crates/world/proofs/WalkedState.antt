@@ -8,7 +8,7 @@ use Rattle.page_state.specs.declared.row.Row.{Row}
 use Rattle.page_state.specs.Layouts.{is_memory}
 use Rattle.page_state.specs.Regions.{Memory, has_memory}
 use Rattle.reference_model.specs.Owner.{row_of}
-use Rattle.reference_model.specs.State.{Contents, no_shared, plain_row}
+use Rattle.reference_model.specs.State.{no_shared, plain_row}
 use Rattle.reference_model.proofs.conditions.RunsLegal.{run_rows}
 use Rattle.owner_table.specs.Rows.{row_at}
 use Rattle.guest_steps.specs.declared.parts.SharedPart.{SharedPart}

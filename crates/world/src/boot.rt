@@ -207,7 +207,11 @@ fn roots<A: Allocator + Copy>(
     let host_root = take_root(&mut pool);
     let hyp_root = take_root(&mut pool);
     let host = Component::new(global, Tree::new(alloc, host_root, geometry)?);
-    let hyp = Component::new(global, Tree::new(alloc, hyp_root, geometry)?);
+    let Ok(tree) = Tree::new(alloc, hyp_root, geometry) else {
+        drop((host, pool));
+        return Err(AllocError);
+    };
+    let hyp = Component::new(global, tree);
     Ok((host, hyp, pool))
 }
 
@@ -226,12 +230,21 @@ fn new_shared<A: Allocator + Copy>(
     ensures log { IfOk result (λ s. IsNewLog calls s.log) }
 {
     let (host, hyp, pool) = roots(global, alloc, map, geometry)?;
+    let Ok(rows) = OwnerTable::of(global, map) else {
+        drop((host, hyp, pool));
+        return Err(AllocError);
+    };
+    let Ok(log) = Log::new(global, calls) else {
+        drop((host, hyp, pool));
+        drop(rows);
+        return Err(AllocError);
+    };
     Ok(SharedPart {
         host,
         hyp,
         pool,
-        rows: OwnerTable::of(global, map)?,
-        log: Log::new(global, calls)?,
+        rows,
+        log,
     })
 }
 
@@ -278,15 +291,12 @@ fn vms_at_boot(global: Global, calls: u64) -> Result<Vec<VmPart>, AllocError>
     Ok(vms)
 }
 
-/// The Shared part as a list of one.
-fn list_of<A: Allocator>(
-    global: Global,
-    shared: SharedPart<A>,
-) -> Result<Vec<SharedPart<A>>, AllocError>
-    ensures { IfOk result (λ parts. parts.items ≡ shared ∷ []) }
+/// A part as a list of one.
+fn list_of<T: Drop>(global: Global, part: T) -> Result<Vec<T>, AllocError>
+    ensures { IfOk result (λ parts. parts.items ≡ part ∷ []) }
 {
     let mut parts = Vec::with_capacity(global, 1)?;
-    parts.push(shared).map_err(AllocError::from)?;
+    parts.push(part).unwrap();
     Ok(parts)
 }
 

@@ -199,7 +199,9 @@ impl<A: Allocator> World<A> {
         ensures { IfOk result (λ o. o ≡ None) }
     {
         let compared = self.kept_and_walked(global)?;
-        Ok(compared.audit())
+        let found = compared.audit();
+        drop(compared);
+        Ok(found)
     }
 
     /// The geometry of its trees.

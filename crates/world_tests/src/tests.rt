@@ -27,6 +27,7 @@ use page_state::{
     Config, Entry, Lent, MemoryMap, Page, Refusal, Reply, Row, Run, Step, Usage, Value,
 };
 use std::alloc::{Allocator, Global};
+use std::mem;
 use std::process::Abort;
 use table_tree::Tree;
 use world::{BootFault, Histories, MergeFault, RawWorld, World};
@@ -80,6 +81,7 @@ fn shares_until_the_log_is_full(rt: HostRuntime) {
     expect_shared(&rt, &world, 58, 0);
     expect_replies(&rt, &mut world, replies.as_slice());
     expect_shared(&rt, &world, 56, 3);
+    drop(world);
 }
 
 #[test]
@@ -89,6 +91,7 @@ fn refuses_small_carve_outs(rt: HostRuntime) {
     assert_eq!(rt; world.err(), Some(BootFault::CarveSmall));
     let lists = boot::boot(rt.alloc(), &map, config(1, 3), DEPTH).expect(&rt, "memory");
     assert!(rt; lists.is_none());
+    drop(lists);
 }
 
 /// The levels below a root of 39 bits.
@@ -200,7 +203,7 @@ fn foretell(rt: &impl Abort, alloc: Global, lists: &mut Ghost, cpu: u64, step: S
     ensures kept { IsKept lists.new }
 {
     let (foretold, after) = predict(alloc, lists, cpu, step).expect(rt, "memory");
-    *lists = after;
+    drop(mem::replace(lists, after));
     foretold
 }
 
@@ -261,6 +264,8 @@ fn expect_shares(rt: &impl Abort, alloc: Global, frames: u64, log: u64, shares: 
     let mut lists = started(rt, alloc, frames, log);
     let mut world = world_of(rt, alloc, &map, config(1, log));
     expect_shares_on_both(rt, alloc, &mut world, &mut lists, shares);
+    drop(world);
+    drop(lists);
 }
 
 #[test]
@@ -322,6 +327,7 @@ fn makes_each_call(rt: HostRuntime) {
     ];
     let mut world = booted(&rt, rt.alloc(), 10);
     expect_replies(&rt, &mut world, calls.as_slice());
+    drop(world);
 }
 
 /// What a step that wants memory must leave as it was: free frames, tables of both trees, runs of both lists, and the entries
@@ -402,6 +408,7 @@ fn with_few_tables(rt: &impl Abort, global: Global, step: Step, tables: usize, r
     let heap = LocalHeap::new(global, 1 << 20).expect(rt, "memory");
     let mut world = World::boot(global, &heap, &map, config(1, 3)).expect(rt, "a world");
     expect_with_few_tables(rt, global, &heap, &mut world, step, tables, refused);
+    drop(world);
 }
 
 #[test]

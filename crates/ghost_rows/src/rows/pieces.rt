@@ -174,44 +174,47 @@ fn stand_at(runs: &[Run<Row>], place: usize, frame: u64) -> Stand
     }
 }
 
-/// Where a list stands at a frame, by where it stood at one before it: no run is looked at while it goes on from there.
+/// Where a list stands goes on to a frame: no run is looked at, and nothing written, while it goes on as it stands.
 #[inline(always)]
-fn stand_from(runs: &[Run<Row>], near: Stand, frame: u64) -> Stand
+fn go_to(runs: &[Run<Row>], stand: &mut Stand, frame: u64)
     requires low { frame < 2 ^ 63 }
     requires reach { AreInReach HasPageBelow runs.now }
-    requires near { IsCarried frame near runs.now }
-    ensures { IsStanding frame result runs.now }
+    requires stand { IsCarried frame stand.old runs.now }
+    ensures { IsStanding frame stand.new runs.now }
 {
-    if frame < near.until {
-        return near;
+    if stand.until <= frame {
+        let place = place_from(runs, stand.place, frame);
+        let here = stand_at(runs, place, frame);
+        // Field by field: written as a whole, the bytes between them would be copied too.
+        stand.place = here.place;
+        stand.inside = here.inside;
+        stand.until = here.until;
     }
-    let place = place_from(runs, near.place, frame);
-    stand_at(runs, place, frame)
 }
 
-/// The same, and the frame before which the list goes on so, no later than another.
+/// The same; the frame before which the list goes on so, no later than another.
 #[inline(always)]
-fn look(runs: &[Run<Row>], near: Stand, low: u64, high: u64) -> (Stand, u64)
+fn look(runs: &[Run<Row>], stand: &mut Stand, low: u64, high: u64) -> u64
     requires low { low < 2 ^ 63 }
     requires order { low < high }
     requires coarsest { IsCoarsest advance_row runs.now }
     requires reach { AreInReach HasPageBelow runs.now }
-    requires near { IsCarried low near runs.now }
-    ensures standing { IsStanding low result.0 runs.now }
-    ensures above { low < result.1 }
-    ensures below { result.1 ≤ high }
-    ensures goes_on { (f : ℕ) → low ≤ f → f < result.1 → run_map advance_row runs.now f ≡ option_advance advance_row (run_map advance_row runs.now low) (f - low) }
+    requires stand { IsCarried low stand.old runs.now }
+    ensures standing { IsStanding low stand.new runs.now }
+    ensures above { low < result }
+    ensures below { result ≤ high }
+    ensures goes_on { (f : ℕ) → low ≤ f → f < result → run_map advance_row runs.now f ≡ option_advance advance_row (run_map advance_row runs.now low) (f - low) }
 {
-    let here = stand_from(runs, near, low);
-    (here, high.min(here.until))
+    go_to(runs, stand, low);
+    high.min(stand.until)
 }
 
 /// The row that a list has for a frame, at which it stands so.
 #[inline(always)]
-fn row_at(runs: &[Run<Row>], here: Stand, frame: u64) -> Option<Row>
+fn row_at(runs: &[Run<Row>], here: &Stand, frame: u64) -> Option<Row>
     requires coarsest { IsCoarsest advance_row runs.now }
     requires reach { AreInReach HasPageBelow runs.now }
-    requires here { IsStanding frame here runs.now }
+    requires here { IsStanding frame here.now runs.now }
     ensures { result ≡ run_map advance_row runs.now frame }
 {
     if here.inside {
@@ -234,14 +237,14 @@ impl Lists {
 
     /// The row of a frame, at which the lists stand so.
     #[inline(always)]
-    pub(crate) fn row(&self, here: Stands, frame: u64) -> Row
-        requires { AreStanding frame here self.now }
+    pub(crate) fn row(&self, here: &Stands, frame: u64) -> Row
+        requires { AreStanding frame here.now self.now }
         ensures { result ≡ told self.now frame }
     {
-        let annotated = row_at(self.annotated.runs(), here.annotated, frame);
-        let lent = row_at(self.lent.runs(), here.lent, frame);
-        let shared = row_at(self.shared.runs(), here.shared, frame);
-        let used = row_at(self.used.runs(), here.used, frame);
+        let annotated = row_at(self.annotated.runs(), &here.annotated, frame);
+        let lent = row_at(self.lent.runs(), &here.lent, frame);
+        let shared = row_at(self.shared.runs(), &here.shared, frame);
+        let used = row_at(self.used.runs(), &here.used, frame);
         Row {
             owner: owner_of(annotated, lent, shared),
             lent: lent_of(lent),
@@ -249,30 +252,22 @@ impl Lists {
         }
     }
 
-    /// Where the lists stand at a frame, by where they stood at one before it, and the frame before which all go on so, no later
-    /// than another.
+    /// Where the lists stand goes on to a frame; the frame before which all go on so, no later than another.
     #[inline(always)]
-    pub(crate) fn look(&self, near: Stands, low: u64, high: u64) -> (Stands, u64)
+    pub(crate) fn look(&self, stands: &mut Stands, low: u64, high: u64) -> u64
         requires low { low < 2 ^ 63 }
         requires order { low < high }
         requires reach { AreReached self.now }
-        requires near { AreCarried low near self.now }
-        ensures standing { AreStanding low result.0 self.now }
-        ensures above { low < result.1 }
-        ensures below { result.1 ≤ high }
-        ensures goes_on { (f : ℕ) → low ≤ f → f < result.1 → told self.now f ≡ advance_row (told self.now low) (f - low) }
-        ensures small { HasPageBelow (told self.now low) (result.1 - low) }
+        requires stands { AreCarried low stands.old self.now }
+        ensures standing { AreStanding low stands.new self.now }
+        ensures above { low < result }
+        ensures below { result ≤ high }
+        ensures goes_on { (f : ℕ) → low ≤ f → f < result → told self.now f ≡ advance_row (told self.now low) (f - low) }
+        ensures small { HasPageBelow (told self.now low) (result - low) }
     {
-        let (annotated, high) = look(self.annotated.runs(), near.annotated, low, high);
-        let (lent, high) = look(self.lent.runs(), near.lent, low, high);
-        let (shared, high) = look(self.shared.runs(), near.shared, low, high);
-        let (used, high) = look(self.used.runs(), near.used, low, high);
-        let here = Stands {
-            annotated,
-            lent,
-            shared,
-            used,
-        };
-        (here, high)
+        let high = look(self.annotated.runs(), &mut stands.annotated, low, high);
+        let high = look(self.lent.runs(), &mut stands.lent, low, high);
+        let high = look(self.shared.runs(), &mut stands.shared, low, high);
+        look(self.used.runs(), &mut stands.used, low, high)
     }
 }

@@ -104,6 +104,7 @@ fn expect_both<R: Wait + Abort>(rt: &R, alloc: Global, vm: VmId, reply: Reply) {
     let (first, second) = ask_both(&machine, &mut zero, one, vm);
     assert_eq!(rt; first, UNMAPPED);
     assert!(rt; second == Some(reply));
+    drop((machine, zero));
 }
 
 #[test]

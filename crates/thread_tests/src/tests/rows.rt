@@ -1,4 +1,5 @@
 //! Two CPUs, one after the other.
+ghost use Rattle.std.specs.Prelude.{◌≡◌};
 ghost use Rattle.part_table.specs.Passes.{IsPassOf};
 
 use super::*;
@@ -82,14 +83,24 @@ pub(super) fn make_both<R: Wait + Abort>(
     make_second(rt, machine, one);
 }
 
+/// Asks for a pass that was handed out before, or of a CPU that there isn't.
+fn expect_no_pass(rt: &impl Abort, machine: &mut Machine<Global>, cpu: usize)
+    ensures { machine.new.table ≡ machine.old.table }
+{
+    let pass = machine.pass(cpu);
+    assert!(rt; pass.is_none());
+    drop(pass);
+}
+
 #[test]
 fn makes_vms(rt: HostRuntime) {
     let mut machine = new_machine(&rt, rt.alloc(), 2, 64);
     let mut zero = machine.pass(0).expect(&rt, "the pass of CPU 0");
     let mut one = machine.pass(1).expect(&rt, "the pass of CPU 1");
-    assert!(rt; machine.pass(0).is_none());
-    assert!(rt; machine.pass(2).is_none());
+    expect_no_pass(&rt, &mut machine, 0);
+    expect_no_pass(&rt, &mut machine, 2);
     make_both(&rt, &machine, &mut zero, &mut one);
+    drop((machine, zero, one));
 }
 
 #[test]
@@ -102,4 +113,5 @@ fn shares_once(rt: HostRuntime) {
     expect_try(&rt, &machine, &mut zero, share, done);
     let perm = Reply::Refused(Refusal::Perm);
     expect_try(&rt, &machine, &mut one, share, perm);
+    drop((machine, zero, one));
 }

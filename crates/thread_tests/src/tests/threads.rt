@@ -89,6 +89,7 @@ fn gate_two_threads(rt: HostRuntime) {
     assert_eq!(rt; first, UNMAPPED);
     assert!(rt; second == Some(UNMAPPED));
     assert_eq!(rt; gate.late.load(Ordering::SeqCst), 0);
+    drop(machine);
 }
 
 /// The CPUs of the many calls.
@@ -259,6 +260,7 @@ fn all_agree(rt: &impl Abort, alloc: Global, calls: &[(u64, Step, Reply)]) {
     for call in calls {
         agrees(rt, alloc, &mut lists, call).expect(rt, "memory");
     }
+    drop(lists);
 }
 
 #[test]
@@ -270,6 +272,7 @@ fn eight_cpus(rt: HostRuntime) {
     let ended = machine.shutdown(alloc, passes);
     let world = ended.ok().expect(&rt, "a machine that is shut down");
     let logs = world.histories(alloc).expect(&rt, "memory");
+    drop(world);
     let calls = World::<Global>::merge(alloc, &logs).expect(&rt, "merged logs");
     assert_eq!(rt; calls.len() as u64, LOG);
     all_agree(&rt, alloc, calls.as_slice());

@@ -288,6 +288,8 @@ fn agrees(rt: &impl Abort, alloc: Global, seed: u64) {
     let mut lists = started(rt, alloc, has_blocks);
     let mut world = world_of(rt, alloc, &map, sample::config(2, 40));
     agree_on(rt, alloc, &mut world, &mut lists, seed);
+    drop(world);
+    drop(lists);
 }
 
 /// The same for the traces of so many seeds.

@@ -169,9 +169,9 @@ fn expect_merged(
     replies: &[Reply],
 ) {
     let merged = merged(rt, alloc, world);
-    assert!(rt; merged.len() == steps.len());
-    for (call, (asked, reply)) in merged.iter().zip(steps.iter().zip(replies.iter())) {
-        expect_call(rt, *call, *asked, *reply);
+    assert!(rt; merged.len() == steps.len() && replies.len() == steps.len());
+    for at in 0..steps.len() {
+        expect_call(rt, merged[at], steps[at], replies[at]);
     }
 }
 
@@ -196,4 +196,5 @@ fn merges_a_run(rt: HostRuntime) {
     let mut world = world_of(&rt, alloc, &map, config(2, 8));
     assert!(rt; world.cpus() > 1);
     run_and_merge(&rt, alloc, &mut world);
+    drop(world);
 }

@@ -37,6 +37,7 @@ fn share(rt: &impl Abort, alloc: Global, world: &mut World<Global>)
 fn expect_shared(rt: &impl Abort, alloc: Global, world: &World<Global>) {
     let kept = world.to_ghost(alloc).expect(rt, "memory");
     let entry = runs::at(kept.shared.host.runs.as_slice(), Page(0x40100));
+    drop(kept);
     assert!(rt; entry == SHARED);
 }
 
@@ -78,7 +79,9 @@ fn poke_again(rt: &impl Abort, world: RawWorld<Global>, word: u64) -> RawWorld<G
 fn difference(rt: &impl Abort, alloc: Global, world: &RawWorld<Global>) -> Option<Disagreement> {
     let kept = world.to_ghost(alloc).expect(rt, "memory");
     let walked = world.recompute(alloc).expect(rt, "memory");
-    audit(&kept, &walked)
+    let found = audit(&kept, &walked);
+    drop((kept, walked));
+    found
 }
 
 /// Compares that difference.
@@ -102,6 +105,7 @@ fn expect_lost(rt: &impl Abort, alloc: Global, poked: RawWorld<Global>, word: u6
     expect_difference(rt, alloc, &poked, Some(LOST));
     let again = poke_again(rt, poked, word);
     expect_difference(rt, alloc, &again, None);
+    drop(again);
 }
 
 #[test]

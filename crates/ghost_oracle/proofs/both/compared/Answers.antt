@@ -23,15 +23,15 @@ returns g c =
     let p = c.args.parts.now in
     let found = c.args.found in
     let s = c.shared.result.now in
-    let rows = c.in_ok-rows.rows.runs in
-    let copied : rows ≡ c.runs-rows.result.now = c.in_ok-rows.ensures in
+    let rows = c.in-Ok-copied_rows.rows.runs in
+    let copied : rows ≡ c.runs-rows.result.now = c.in-Ok-copied_rows.ensures in
     let same : rows ≡ s.rows = copied ∙ c.runs-rows.ensures.runs in
     let maps : run_map advance_row rows ≡ run_map advance_row s.rows = ap (run_map advance_row) same in
     let scratch : (f : ℕ) → run_map advance_row rows f ≡ elim (is_memory (layout_of found.layout) f) [ true ↦ Some (row_of (layout_of found.layout) (ghost_state found).contents f) | false ↦ None ] =
-    λ f. ap (λ x. run_map advance_row x f) copied ∙ c.in_ok-are_from_scratch.ensures.0 c.if-not-branch.false f in
+    λ f. ap (λ x. run_map advance_row x f) copied ∙ c.in-Ok.ensures.0 c.if-not-are_kept.false f in
     let k = c.requires.kept in
     let m = c.is_kept.ensures.0 c.if-not-is_kept.false in
-    let kept : IsKept (record found { shared = record found.shared { rows = c.in_ok-rows.rows } }) = record {
+    let kept : IsKept (record found { shared = record found.shared { rows = c.in-Ok-copied_rows.rows } }) = record {
       shared = record { host = k.shared.host; hyp = k.shared.hyp; rows = subst (AreInReach HasPageBelow) (sym same) c.runs-rows.ensures.reach };
       guests = k.guests;
       cpus = k.cpus;

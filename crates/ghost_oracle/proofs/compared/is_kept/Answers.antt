@@ -1,4 +1,4 @@
-use Rattle.std.proofs.Common.{◌≡◌, ◌∙◌, ap, sym, map}
+use Rattle.std.proofs.Common.{◌∙◌, ap, sym, map}
 use Rattle.guest_component.specs.View.{runs_of}
 use Rattle.ghost_oracle.proofs.Founds.{each_one, of_one}
 use Rattle.ghost_oracle.proofs.compared.is_kept.Goals as goal

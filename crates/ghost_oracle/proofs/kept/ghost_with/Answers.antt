@@ -10,34 +10,34 @@ use Rattle.ghost_oracle.proofs.kept.ghost_with.Goals as goal
 use Rattle.ghost_oracle.proofs.kept.ghost_with.Given as Given
 
 pub returns-clause-state : goal.returns-clause-state
-returns-clause-state g c = is_found c.args.parts.now (record { layout = c.in_ok-copied_layout.field-0; vms = c.in_ok-slots_from.field-0; shared = c.args.shared; guests = c.args.guests; cpus = c.in_ok-cpus_from.field-0; rooms = c.in_ok-rooms_from.field-0 }) (shared_in_lists c.args.shared).row (record {
-  layout = c.in_ok-copied_layout.ensures;
-  slots = λ v. c.in_ok-slots_from.ensures.slots v ∙ ap (λ w. (vm_slots w).slot v) c.index.ensures ∙ ap (λ (m : Vms). m.slot v) (sym (one_at no_vms vm_slots c.args.parts.now.vms.items _ (omega (arith, c.args.parts.now.one_vms, c.args.parts.now.vms.ok.0))));
+returns-clause-state g c = is_found c.args.parts.now (record { layout = c.in-Ok.layout; vms = c.in-Ok-slots_from.vms; shared = c.args.shared; guests = c.args.guests; cpus = c.in-Ok-cpus_from.cpus; rooms = c.in-Ok-rooms_from.rooms }) (shared_in_lists c.args.shared).row (record {
+  layout = c.in-Ok.ensures;
+  slots = λ v. c.in-Ok-slots_from.ensures.slots v ∙ ap (λ w. (vm_slots w).slot v) c.index.ensures ∙ ap (λ (m : Vms). m.slot v) (sym (one_at no_vms vm_slots c.args.parts.now.vms.items _ (omega (arith, c.args.parts.now.one_vms, c.args.parts.now.vms.ok.0))));
   shared = c.requires.shared;
   guests = c.requires.guests;
-  cpus = c.in_ok-cpus_from.ensures ∙ ap (map cpu_of) c.as_slice.ensures.value;
-  vms_room = c.in_ok-rooms_from.ensures.vms;
-  shared_room = c.in_ok-rooms_from.ensures.shared;
-  guest_rooms = c.in_ok-rooms_from.ensures.guests;
-  cpu_rooms = c.in_ok-rooms_from.ensures.cpus;
+  cpus = c.in-Ok-cpus_from.ensures ∙ ap (map cpu_of) c.as_slice.ensures.value;
+  vms_room = c.in-Ok-rooms_from.ensures.vms;
+  shared_room = c.in-Ok-rooms_from.ensures.shared;
+  guest_rooms = c.in-Ok-rooms_from.ensures.guests;
+  cpu_rooms = c.in-Ok-rooms_from.ensures.cpus;
 })
 
 pub returns-clause-layout : goal.returns-clause-layout
-returns-clause-layout g c = c.in_ok-copied_layout.ensures
+returns-clause-layout g c = c.in-Ok.ensures
 
-counted : (g : Given.Over) (c : goal.In_ok-rooms_from g) → length c.args.parts.now.cpus.items ≡ c.in_ok-copied_layout.field-0.config.cpus
-counted g c = let told = ap (λ l. l.config.cpus) c.in_ok-copied_layout.ensures in omega (arith, told, c.args.parts.now.counted, c.args.parts.now.cpus.ok.0)
+counted : (g : Given.Over) (c : goal.In-Ok-rooms_from g) → length c.args.parts.now.cpus.items ≡ c.in-Ok.layout.config.cpus
+counted g c = let told = ap (λ l. l.config.cpus) c.in-Ok.ensures in omega (arith, told, c.args.parts.now.counted, c.args.parts.now.cpus.ok.0)
 
 pub returns-clause-kept : goal.returns-clause-kept
 returns-clause-kept g c = record {
   shared = c.requires.shared_kept;
   guests = c.requires.guests_kept;
-  cpus = low_cpus_kept c.in_ok-cpus_from.field-0.items c.args.parts.now.cpus.items (c.in_ok-cpus_from.ensures ∙ ap (map cpu_of) c.as_slice.ensures.value) c.requires.cpus;
-  vms_count = c.in_ok-slots_from.ensures.count;
+  cpus = low_cpus_kept c.in-Ok-cpus_from.cpus.items c.args.parts.now.cpus.items (c.in-Ok-cpus_from.ensures ∙ ap (map cpu_of) c.as_slice.ensures.value) c.requires.cpus;
+  vms_count = c.in-Ok-slots_from.ensures.count;
   guests_count = as_long guest_in guest_held c.args.guests.items c.args.parts.now.guests.items 64 c.requires.guests (omega (arith, c.args.parts.now.slots, c.args.parts.now.guests.ok.0));
-  cpus_count = as_long cpu_in cpu_of c.in_ok-cpus_from.field-0.items c.args.parts.now.cpus.items c.in_ok-copied_layout.field-0.config.cpus (c.in_ok-cpus_from.ensures ∙ ap (map cpu_of) c.as_slice.ensures.value) (counted g c);
-  guest_rooms_count = ap length c.in_ok-rooms_from.ensures.guests ∙ length-map c.args.parts.now.guests.items (λ x. x.log.room) ∙ omega (arith, c.args.parts.now.slots, c.args.parts.now.guests.ok.0);
-  cpu_rooms_count = ap length c.in_ok-rooms_from.ensures.cpus ∙ length-map c.args.parts.now.cpus.items (λ k. k.log.room) ∙ counted g c;
+  cpus_count = as_long cpu_in cpu_of c.in-Ok-cpus_from.cpus.items c.args.parts.now.cpus.items c.in-Ok.layout.config.cpus (c.in-Ok-cpus_from.ensures ∙ ap (map cpu_of) c.as_slice.ensures.value) (counted g c);
+  guest_rooms_count = ap length c.in-Ok-rooms_from.ensures.guests ∙ length-map c.args.parts.now.guests.items (λ x. x.log.room) ∙ omega (arith, c.args.parts.now.slots, c.args.parts.now.guests.ok.0);
+  cpu_rooms_count = ap length c.in-Ok-rooms_from.ensures.cpus ∙ length-map c.args.parts.now.cpus.items (λ k. k.log.room) ∙ counted g c;
 }
 
 pub index-requires : goal.index-requires

@@ -5,4 +5,4 @@ use Rattle.world.proofs.WalkedState.{walked_is}
 use Rattle.world.proofs.World.audit.Goals as goal
 
 pub returns : goal.returns
-returns g c = let p = c.args.self.now.parts in c.audit.ensures.none.1 (none_differs _ _ (ap (λ (s : Reference). s.contents) (c.in_ok-compared.ensures.state ∙ walked_is p c.args.self.now.history ∙ sym c.in_ok-compared.ensures.walked)))
+returns g c = let p = c.args.self.now.parts in c.audit-found.ensures.none.1 (none_differs _ _ (ap (λ (s : Reference). s.contents) (c.in_ok-compared.ensures.state ∙ walked_is p c.args.self.now.history ∙ sym c.in_ok-compared.ensures.walked)))

@@ -1,5 +1,4 @@
 use Rattle.std.proofs.Math.Logic.{∥∥₁_map}
-use Rattle.page_state.specs.declared.reply.Call.{Call}
 use Rattle.hypercalls.specs.declared.parts.Parts.{Parts}
 use Rattle.hypercalls.specs.Stands.{HasHistory, kept_of, parts_layout}
 use Rattle.ghost_oracle.proofs.Scratch.{if_ok}

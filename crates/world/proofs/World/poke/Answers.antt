@@ -1,4 +1,4 @@
-use Rattle.std.proofs.Common.{rules, ◌≡◌, sym, subst}
+use Rattle.std.proofs.Common.{rules, sym, subst}
 use Rattle.hypercalls.specs.Stands.{HasHistory}
 use Rattle.world.proofs.World.poke.Goals as goal
 

@@ -33,30 +33,6 @@ returns-in_err-host-clause-rows g c = if_not_ok _ _ c.from_residual.result c.fro
 pub returns-in_err-host-clause-log : goal.returns-in_err-host-clause-log
 returns-in_err-host-clause-log g c = if_not_ok _ _ c.from_residual.result c.from_residual.ensures.1
 
-pub returns-in_err-of-clause-shared : goal.returns-in_err-of-clause-shared
-returns-in_err-of-clause-shared g c = if_not_ok _ _ c.from_residual-in_err-of.result c.from_residual-in_err-of.ensures.1
-
-pub returns-in_err-of-clause-depth : goal.returns-in_err-of-clause-depth
-returns-in_err-of-clause-depth g c = if_not_ok _ _ c.from_residual-in_err-of.result c.from_residual-in_err-of.ensures.1
-
-pub returns-in_err-of-clause-rows : goal.returns-in_err-of-clause-rows
-returns-in_err-of-clause-rows g c = if_not_ok _ _ c.from_residual-in_err-of.result c.from_residual-in_err-of.ensures.1
-
-pub returns-in_err-of-clause-log : goal.returns-in_err-of-clause-log
-returns-in_err-of-clause-log g c = if_not_ok _ _ c.from_residual-in_err-of.result c.from_residual-in_err-of.ensures.1
-
-pub returns-in_err-new-clause-shared : goal.returns-in_err-new-clause-shared
-returns-in_err-new-clause-shared g c = if_not_ok _ _ c.from_residual-in_err-new.result c.from_residual-in_err-new.ensures.1
-
-pub returns-in_err-new-clause-depth : goal.returns-in_err-new-clause-depth
-returns-in_err-new-clause-depth g c = if_not_ok _ _ c.from_residual-in_err-new.result c.from_residual-in_err-new.ensures.1
-
-pub returns-in_err-new-clause-rows : goal.returns-in_err-new-clause-rows
-returns-in_err-new-clause-rows g c = if_not_ok _ _ c.from_residual-in_err-new.result c.from_residual-in_err-new.ensures.1
-
-pub returns-in_err-new-clause-log : goal.returns-in_err-new-clause-log
-returns-in_err-new-clause-log g c = if_not_ok _ _ c.from_residual-in_err-new.result c.from_residual-in_err-new.ensures.1
-
 pub invariant_of-result : goal.invariant_of-result
 invariant_of-result g c = record {
   apart = c.in_ok-host.ensures.apart;
@@ -68,14 +44,14 @@ returns-clause-shared g c = λ i. record {
   host = c.in_ok-host.ensures.host i;
   hyp = c.in_ok-host.ensures.hyp i;
   free = c.in_ok-host.ensures.pool i;
-  row = fun_ext (λ f. plain (row_at c.in_ok-of.field-0 f) (has_memory c.args.map.now f) plain_row (c.in_ok-of.ensures.frames f)) i;
+  row = fun_ext (λ f. plain (row_at c.in-Ok.rows f) (has_memory c.args.map.now f) plain_row (c.in-Ok.ensures.frames f)) i;
 }
 
 pub returns-clause-depth : goal.returns-clause-depth
 returns-clause-depth g c = ap levels_below c.in_ok-host.ensures.host_geometry
 
 pub returns-clause-rows : goal.returns-clause-rows
-returns-clause-rows g c f = there (row_at c.in_ok-of.field-0 f) (has_memory c.args.map.now f) plain_row (c.in_ok-of.ensures.frames f)
+returns-clause-rows g c f = there (row_at c.in-Ok.rows f) (has_memory c.args.map.now f) plain_row (c.in-Ok.ensures.frames f)
 
 pub returns-clause-log : goal.returns-clause-log
-returns-clause-log g c = c.in_ok-new.ensures
+returns-clause-log g c = c.in-Ok-new.ensures

@@ -30,7 +30,7 @@ returns-clause-host g c =
 
 pub returns-clause-hyp : goal.returns-clause-hyp
 returns-clause-hyp g c =
-    ap tree_of c.new-hyp.ensures ∙ new_is (levels_below c.args.geometry) c.in_ok-new-2.field-0 c.take_root-hyp_root.result.0 c.in_ok-new-2.ensures.map c.in_ok-new-2.ensures.standing ∙ ap (root_tree (levels_below c.args.geometry)) ((taken g c).1 ∙ ap (λ (r : PageRange). r.first.0 + 1) c.carve-carve.ensures.value)
+    ap tree_of c.new-hyp.ensures ∙ new_is (levels_below c.args.geometry) c.in-Ok.tree c.take_root-hyp_root.result.0 c.in-Ok.ensures.map c.in-Ok.ensures.standing ∙ ap (root_tree (levels_below c.args.geometry)) ((taken g c).1 ∙ ap (λ (r : PageRange). r.first.0 + 1) c.carve-carve.ensures.value)
 
 pub returns-clause-pool : goal.returns-clause-pool
 returns-clause-pool g c =
@@ -42,11 +42,11 @@ returns-clause-apart g c = (
       let a = ap (frame_count f) c.take_root-host_root.ensures.taken ∙ count_next f c.take_root-host_root.result.0 c.take_root-host_root.new.pool.frames in
       let b = ap (frame_count f) c.take_root-hyp_root.ensures.taken ∙ count_next f c.take_root-hyp_root.result.0 c.take_root-hyp_root.new.pool.frames in
       let h = ap (λ t. uses t f) c.new-host.ensures ∙ c.in_ok-new.ensures.uses f in
-      let y = ap (λ t. uses t f) c.new-hyp.ensures ∙ c.in_ok-new-2.ensures.uses f in
+      let y = ap (λ t. uses t f) c.new-hyp.ensures ∙ c.in-Ok.ensures.uses f in
       omega (arith, a, b, h, y, c.counted_frames.ensures.once f c.in_ok-pool.pool.frames c.in_ok-pool.ensures.pool.rising),
   let a = ap length c.take_root-host_root.ensures.taken in
       let b = ap length c.take_root-hyp_root.ensures.taken in
       let h = ap tables_of c.new-host.ensures ∙ c.in_ok-new.ensures.tables in
-      let y = ap tables_of c.new-hyp.ensures ∙ c.in_ok-new-2.ensures.tables in
+      let y = ap tables_of c.new-hyp.ensures ∙ c.in-Ok.ensures.tables in
       omega (arith, a, b, h, y, c.in_ok-pool.ensures.pool.covered, c.take_root-host_root.ensures.room, c.take_root-hyp_root.ensures.room),
 )

@@ -1,4 +1,4 @@
-use Rattle.std.proofs.Common.{◌≡◌, ◌∙◌, map, ap}
+use Rattle.std.proofs.Common.{◌∙◌, map, ap}
 use Rattle.std.proofs.lemmas.List.{take_all}
 use Rattle.ghost_oracle.proofs.Lists.{mapped_next}
 use Rattle.world.proofs.histories.guest_logs.Goals as goal

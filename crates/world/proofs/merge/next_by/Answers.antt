@@ -1,5 +1,5 @@
 use Rattle.std.proofs.Common.{rules, ◌≡◌, ◌≢◌, ◌<◌, ◌≤◌, true, length, sym, ap, ◌∙◌}
-use Rattle.std.specs.Prelude.{Some, None, slice_get, List}
+use Rattle.std.specs.Prelude.{Some, None, List}
 use Rattle.std.proofs.lemmas.Option.{slice_get_past}
 use Rattle.page_state.specs.declared.reply.Call.{Call}
 use Rattle.reference_model.specs.Parts.{Part, call_uses}

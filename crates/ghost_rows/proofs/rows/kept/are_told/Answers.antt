@@ -1,4 +1,3 @@
-use Rattle.std.proofs.Common.{arith}
 use Rattle.page_state.specs.Rows.{HasPageBelow}
 use Rattle.run_list.proofs.Found.{reach_at}
 use Rattle.ghost_rows.proofs.RowsKept.{told-one-more, before-next}

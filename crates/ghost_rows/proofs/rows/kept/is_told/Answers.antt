@@ -1,21 +1,9 @@
-use Rattle.std.proofs.Common.{◌∙◌, sym, arith}
-use Rattle.run_list.specs.OwnerRows.{row_laws}
-use Rattle.ghost_rows.proofs.RowsKept.{told-more}
-use Rattle.ghost_rows.proofs.RowsTold.{all-carried, all-later}
+use Rattle.std.proofs.Common.{arith}
+use Rattle.ghost_rows.proofs.RowsTold.{all-carried}
 use Rattle.ghost_rows.proofs.rows.kept.is_told.Goals as goal
 
-pub loop-low-preserved : goal.loop-low-preserved
-loop-low-preserved c =
-    let high = c.look-high.result.1 in
-    let begun = c.loop-low.invariant.begun in
-    let above = c.look-high.ensures.above in
-    record {
-      begun = omega (arith, begun, above);
-      within = c.look-high.ensures.below;
-      told = told-more c.args.lists.now c.args.run c.loop-low.low high begun c.look-high.ensures.goes_on
-          (sym c.row.ensures ∙ row_laws.is_equal _ _ (sym c.is_same.ensures ∙ c.if-not-is_same.false) ∙ c.advanced.ensures) c.loop-low.invariant.told;
-      near = all-carried c.loop-low.low high c.look-high.result.0 c.args.lists.now (omega (arith, above)) c.look-high.ensures.standing;
-    }
+pub is_rest_told-requires-clause-near : goal.is_rest_told-requires-clause-near
+is_rest_told-requires-clause-near c = all-carried c.args.run.now.pages.first.0 c.look-high.result c.look-high.new.stands c.args.lists.now (omega (arith, c.look-high.ensures.above)) c.look-high.ensures.standing
 
-pub returns-clause-near : goal.returns-clause-near
-returns-clause-near c = λ h. all-later c.loop-low.low _ c.loop-low.near c.args.lists.now (omega (arith, c.loop-low-test.false)) c.loop-low.invariant.near
+pub returns-then-high-end-clause-near : goal.returns-then-high-end-clause-near
+returns-then-high-end-clause-near c = λ h. all-carried c.args.run.now.pages.first.0 _ c.look-high.new.stands c.args.lists.now (omega (arith, c.look-high.ensures.above, c.if-high-end.true)) c.look-high.ensures.standing

@@ -4,9 +4,9 @@ use Rattle.ghost_rows.proofs.rows.pieces.Lists.look.Goals as goal
 
 pub returns-clause-small : goal.returns-clause-small
 returns-clause-small c =
-    let high = c.look-high-4.result.1 in
-    let a = c.look-high-4.ensures.above in
-    let b = c.look-high-4.ensures.below in
+    let high = c.look.result in
+    let a = c.look.ensures.above in
+    let b = c.look.ensures.below in
     let d = c.look-high-3.ensures.below in
     let on = rw c.runs-2.ensures.runs at c.look-high-2.ensures.goes_on in
     small-piece c.args.self.now.lent.runs c.args.low high c.requires.reach.lent a (on (high - 1) (omega (arith, a)) (omega (arith, a, b, d)))
