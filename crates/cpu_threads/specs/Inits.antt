@@ -1,15 +1,15 @@
 -- Making a VM by four calls.
 use Rattle.std.specs.Prelude.{◌≡◌, ◌≢◌, ℕ, Result, Ok, Err}
-use Rattle.page_state.specs.declared.reply.Refusal.{Refusal}
-use Rattle.page_state.specs.declared.reply.Refusal.TheVariants.{Contended, LogFull}
-use Rattle.page_state.specs.declared.reply.Reply.{Reply}
-use Rattle.page_state.specs.declared.reply.Reply.TheVariants.{Done, Refused}
-use Rattle.page_state.specs.declared.reply.Value.{Value}
-use Rattle.page_state.specs.declared.reply.Value.TheVariants.{Vm}
-use Rattle.page_state.specs.declared.step.Step.{Step}
-use Rattle.page_state.specs.declared.step.Step.TheVariants.{VmReserve, Fund, Install, VmOpen}
-use Rattle.page_state.specs.declared.step.VmId.{VmId}
-use Rattle.page_state.specs.declared.step.VmKind.{VmKind}
+use Rattle.step_reply.specs.declared.reply.Refusal.{Refusal}
+use Rattle.step_reply.specs.declared.reply.Refusal.TheVariants.{Contended, LogFull}
+use Rattle.step_reply.specs.declared.reply.Reply.{Reply}
+use Rattle.step_reply.specs.declared.reply.Reply.TheVariants.{Done, Refused}
+use Rattle.step_reply.specs.declared.reply.Value.{Value}
+use Rattle.step_reply.specs.declared.reply.Value.TheVariants.{Vm}
+use Rattle.step_reply.specs.declared.step.Step.{Step}
+use Rattle.step_reply.specs.declared.step.Step.TheVariants.{VmReserve, Fund, Install, VmOpen}
+use Rattle.step_reply.specs.declared.step.VmId.{VmId}
+use Rattle.step_reply.specs.declared.step.VmKind.{VmKind}
 use Rattle.reference_model.specs.History.{IsStored}
 use Rattle.part_table.specs.Rule.{Known}
 use Rattle.cpu_threads.specs.Machines.{FullInTheEnd, StoresInTheEnd}

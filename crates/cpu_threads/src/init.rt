@@ -1,16 +1,16 @@
 //! Making a VM by four calls.
 ghost use Rattle.std.specs.Prelude.{◌≡◌, [], MatchResult};
-ghost use Rattle.page_state.specs.declared.reply.Reply.TheVariants.{Done, Refused};
-ghost use Rattle.page_state.specs.declared.reply.Value.TheVariants.{Vm};
-ghost use Rattle.page_state.specs.declared.step.VmId.{VmId as VmIdOf};
+ghost use Rattle.step_reply.specs.declared.reply.Reply.TheVariants.{Done, Refused};
+ghost use Rattle.step_reply.specs.declared.reply.Value.TheVariants.{Vm};
+ghost use Rattle.step_reply.specs.declared.step.VmId.{VmId as VmIdOf};
 ghost use Rattle.part_table.specs.Passes.{IsPassOf};
 ghost use Rattle.cpu_threads.specs.Inits.{InitsVm, IsCallOf};
 
 use crate::machine::Machine;
-use page_state::{Refusal, Reply, Step, Value, VmId, VmKind};
 use part_table::CpuPass;
 use std::alloc::Allocator;
 use std::sync::Wait;
+use step_reply::{Refusal, Reply, Step, Value, VmId, VmKind};
 
 /// The four calls that make a VM, in their order.
 #[derive(Clone, Copy, PartialEq, Debug)]

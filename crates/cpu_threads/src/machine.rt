@@ -1,17 +1,17 @@
 //! The machine: all parts of a world under one table, and the passes of its CPUs.
 ghost use Rattle.std.specs.Prelude.{◌≡◌, ◌≢◌, ◌<◌, ◌↔◌, [], IsTrue, IfSome};
-ghost use Rattle.page_state.specs.declared.reply.Refusal.TheVariants.{Contended, LogFull};
-ghost use Rattle.page_state.specs.declared.reply.Reply.TheVariants.{Refused};
+ghost use Rattle.step_reply.specs.declared.reply.Refusal.TheVariants.{Contended, LogFull};
+ghost use Rattle.step_reply.specs.declared.reply.Reply.TheVariants.{Refused};
 ghost use Rattle.reference_model.specs.History.{IsStored};
 ghost use Rattle.part_table.specs.Answered.{FindsAway, FindsLogFull, MeetsAnother, StoresCall};
 ghost use Rattle.part_table.specs.Passes.{IsPassOf};
 ghost use Rattle.cpu_threads.specs.Machines.{FullInTheEnd, HandsOut, StoresInTheEnd};
 
-use page_state::{Refusal, Reply, Step};
 use part_table::{CpuPass, Gate, Open, PartTable};
 use std::alloc::Allocator;
 use std::marker::Model;
 use std::sync::Wait;
+use step_reply::{Refusal, Reply, Step};
 
 /// A booted machine. It may be shared by threads, each with the pass of a CPU. `A` is where the tables of all trees lie.
 #[derive(Drop)]

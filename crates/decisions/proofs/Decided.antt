@@ -1,9 +1,9 @@
 -- Which parts are lent to a call, by what it uses.
 use Rattle.std.proofs.Common.{◌≡◌, ℕ, Bool, true, false, List, [], ◌∷◌, slice_get, Option, Some, None, is_some, unwrap_or, Result, refl, ap, sym, subst, ◌∙◌}
-use Rattle.page_state.specs.declared.step.Step.{Step}
-use Rattle.page_state.specs.declared.step.Step.TheVariants.{ShareGuest, UnshareGuest, DonateGuest, GuestShareHost, GuestUnshareHost, Install, Topup, ReclaimPage, ReclaimPool, FinishGuest, GuestRelax, GuestTranslate, MarkDying, VmReserve, VmOpen, VcpuLoad, VcpuPut, Teardown, VmRelease}
+use Rattle.step_reply.specs.declared.step.Step.{Step}
+use Rattle.step_reply.specs.declared.step.Step.TheVariants.{ShareGuest, UnshareGuest, DonateGuest, GuestShareHost, GuestUnshareHost, Install, Topup, ReclaimPage, ReclaimPool, FinishGuest, GuestRelax, GuestTranslate, MarkDying, VmReserve, VmOpen, VcpuLoad, VcpuPut, Teardown, VmRelease}
 use Rattle.reference_model.specs.Parts.{names, guest as just_guest, guest_slot, shared_and_guest, uses_shared, uses_vms}
-use Rattle.page_state.specs.declared.reply.Refusal.{Refusal}
+use Rattle.step_reply.specs.declared.reply.Refusal.{Refusal}
 use Rattle.page_state.specs.Layouts.{Layout}
 use Rattle.reference_model.specs.Answers.{decides}
 use Rattle.reference_model.specs.declared.changes.Changes.{Changes}

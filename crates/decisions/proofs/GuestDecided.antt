@@ -3,10 +3,10 @@ use Rattle.std.proofs.Common.{◌≡◌, ◌≢◌, ℕ, ◌+◌, ◌<◌, ◌�
 use Rattle.std.proofs.lemmas.Bool.Decides.{nat_tests}
 use Rattle.page_state.specs.declared.entry.PageRange.{PageRange}
 use Rattle.page_state.specs.declared.layout.Layout.{Layout as TheLayout}
-use Rattle.page_state.specs.declared.reply.Refusal.TheVariants.{Perm}
-use Rattle.page_state.specs.declared.step.Step.TheVariants.{FinishGuest, Install, ReclaimPool, Topup}
-use Rattle.page_state.specs.declared.step.VmId.{VmId}
-use Rattle.page_state.specs.declared.step.VmKind.{VmKind}
+use Rattle.step_reply.specs.declared.reply.Refusal.TheVariants.{Perm}
+use Rattle.step_reply.specs.declared.step.Step.TheVariants.{FinishGuest, Install, ReclaimPool, Topup}
+use Rattle.step_reply.specs.declared.step.VmId.{VmId}
+use Rattle.step_reply.specs.declared.step.VmKind.{VmKind}
 use Rattle.page_state.specs.EntryTests.{is_unmapped}
 use Rattle.page_state.specs.Geometries.{pages_below}
 use Rattle.page_state.specs.Layouts.{Layout}

@@ -4,7 +4,7 @@ use Rattle.page_state.specs.declared.entry.PageRange.{PageRange}
 use Rattle.page_state.specs.declared.layout.Geometry.{Geometry}
 use Rattle.page_state.specs.declared.layout.Geometry.TheVariants.{Bits39}
 use Rattle.page_state.specs.declared.layout.Layout.{Layout as TheLayout}
-use Rattle.page_state.specs.declared.step.Step.TheVariants.{Unfund}
+use Rattle.step_reply.specs.declared.step.Step.TheVariants.{Unfund}
 use Rattle.page_state.specs.Geometries.{levels_below, pages_below}
 use Rattle.page_state.specs.LayoutView.{layout_of}
 use Rattle.reference_model.specs.Rely.{CanRely}

@@ -37,10 +37,11 @@ use guest_pages::{
 };
 use guest_steps::{CpuState, GuestPart, SharedPart, VmPart};
 use hand::{decide_fund, decide_unfund};
-use page_state::{Entry, Layout, Page, PageRange, Refusal, Step};
+use page_state::{Entry, Layout, Page, PageRange};
 use reference_model::{Changes, MapChange};
 use share::decide_share_hyp;
 use std::alloc::Allocator;
+use step_reply::{Refusal, Step};
 use unshare::decide_unshare_hyp;
 use vms::{
     decide_teardown, decide_vcpu_load, decide_vcpu_put, decide_vm_open, decide_vm_release,

@@ -1,5 +1,6 @@
 //! What the oracle tells where two states disagree.
-use page_state::{Entry, Reply, Row};
+use page_state::{Entry, Row};
+use step_reply::Reply;
 
 /// Whose tree.
 #[derive(Clone, Copy, PartialEq, Debug)]

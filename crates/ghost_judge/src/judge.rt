@@ -21,9 +21,10 @@ use crate::same::{is_same_cpu, is_same_guest, is_same_pool, is_same_reply, is_sa
 use ghost_spec::cpu::GhostCpu;
 use ghost_spec::parts::{GhostGuest, GhostSlot};
 use ghost_spec::state::Ghost;
-use page_state::{Owner, Refusal, Reply, Row, Step, Usage};
+use page_state::{Owner, Row, Usage};
 use run_list::{Advance, Run, RunList};
 use std::alloc::{AllocError, Global};
+use step_reply::{Refusal, Reply, Step};
 
 /// The row of a frame that is the host's, lent to nobody, and in no use.
 const PLAIN_ROW: Row = Row {

@@ -10,9 +10,10 @@ use ghost_spec::cpu::GhostCpu;
 use ghost_spec::parts::{GhostGuest, GhostPhase, GhostSlot, GhostStand};
 use ghost_spec::shared::Shared;
 use ghost_trees::tree::{Table, table_at};
-use page_state::{PageRange, Refusal, Reply, Row, Value, VmId, VmKind};
+use page_state::{PageRange, Row};
 use reference_model::{Loaded, Ticket};
 use run_list::Advance;
+use step_reply::{Refusal, Reply, Value, VmId, VmKind};
 
 /// Whether two lists of frames are the same.
 fn is_same_list(a: &[u64], b: &[u64]) -> bool

@@ -3,7 +3,7 @@ use Rattle.std.proofs.Common.{◌≡◌, ℕ, ◌+◌, ◌-◌, ◌<◌, ◌≤�
 use Rattle.std.specs.Prelude.{true, false}
 use Rattle.std.proofs.lemmas.Option.{slice_get_cases}
 use mathlib.Core.Path.{fun_ext}
-use Rattle.page_state.specs.declared.reply.Call.{Call}
+use Rattle.step_reply.specs.declared.reply.Call.{Call}
 use Rattle.page_state.specs.Layouts.{Layout}
 use Rattle.page_state.proofs.Cases.{by_lt, by_test}
 use Rattle.page_state.proofs.Common.{same2, same4, eq-same}

@@ -3,7 +3,7 @@ use Rattle.std.specs.Prelude.{◌≡◌, ℕ, List, Option, Some, None, IfSome, 
 use Rattle.hyp_pool.specs.Pools.{StoredFrames}
 use Rattle.maplets.specs.View.{KeptMaplets}
 use Rattle.page_state.specs.declared.layout.Geometry.{Geometry}
-use Rattle.page_state.specs.declared.step.VmKind.{VmKind}
+use Rattle.step_reply.specs.declared.step.VmKind.{VmKind}
 use Rattle.page_state.specs.Geometries.{levels_below}
 use Rattle.guest_component.specs.declared.body.Body.{Body}
 use Rattle.guest_component.specs.declared.body.Phase.{Phase}

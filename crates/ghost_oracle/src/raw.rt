@@ -9,8 +9,9 @@ use guest_steps::{CpuState, GuestPart, Log, VmPart};
 use hyp_pool::Pool;
 use maplets::Maplets;
 use owner_table::OwnerTable;
-use page_state::{Layout, VmKind};
+use page_state::Layout;
 use std::alloc::Allocator;
+use step_reply::VmKind;
 use table_tree::RawTree;
 
 /// Which tree of a world: a guest's by its slot.

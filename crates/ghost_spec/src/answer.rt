@@ -12,9 +12,10 @@ use crate::decide::decide;
 use crate::rows::find_rows;
 use crate::used::GhostUsed;
 use crate::{cpu, guest, shared, vms};
-use page_state::{Geometry, Layout, PageRange, Refusal, Reply, Step};
+use page_state::{Geometry, Layout, PageRange};
 use reference_model::Changes;
 use std::alloc::{AllocError, Global};
+use step_reply::{Refusal, Reply, Step};
 
 /// The levels below a root's.
 pub(crate) fn depth(layout: &Layout) -> u64

@@ -3,8 +3,8 @@ ghost use Rattle.std.specs.Prelude.{◌≡◌, All, IfOk, length, map};
 ghost use Rattle.reference_model.specs.State.{no_guest, no_slot};
 
 use ghost_trees::tree::Tree;
-use page_state::VmKind;
 use std::alloc::{AllocError, Global};
+use step_reply::VmKind;
 
 /// How a slot of the VM part stands.
 #[derive(Clone, Copy, PartialEq, Debug)]

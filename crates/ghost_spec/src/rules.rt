@@ -1,6 +1,6 @@
 //! The rules of the calls on the Shared part alone: the first of a call's tests that fails, or all that it changes.
 ghost use Rattle.std.specs.Prelude.{◌≡◌, ℕ, ◌+◌, ◌<◌, ◌≤◌, ◌^◌, ◌&&◌, Option, IfOk};
-ghost use Rattle.page_state.specs.declared.step.Step.TheVariants.{ShareHyp, UnshareHyp, DonateHyp, HypDonateHost, HostAbort, HostTranslate, HypTranslate, OwnerOf, Fund, Unfund};
+ghost use Rattle.step_reply.specs.declared.step.Step.TheVariants.{ShareHyp, UnshareHyp, DonateHyp, HypDonateHost, HostAbort, HostTranslate, HypTranslate, OwnerOf, Fund, Unfund};
 ghost use Rattle.page_state.specs.Blocks.{block_at, first_page as first_page_of, span as span_of};
 ghost use Rattle.page_state.specs.EntryTests.{is_free_page as is_free_page_of, is_unmapped as is_unmapped_of};
 ghost use Rattle.page_state.specs.Layouts.{hyp_page as hyp_page_of};
@@ -25,10 +25,9 @@ use crate::shared::Shared;
 use crate::used::GhostUsed;
 use ghost_trees::blocks::is_empty;
 use ghost_trees::runs::at;
-use page_state::{
-    Entry, Layout, Page, PageRange, Prot, Refusal, Region, RegionKind, State, Usage, Value,
-};
+use page_state::{Entry, Layout, Page, PageRange, Prot, Region, RegionKind, State, Usage};
 use reference_model::{Changes, CpuChange, MapChange, Update};
+use step_reply::{Refusal, Value};
 
 /// A change of a map: so many pages from the first on.
 pub(crate) fn change(first: u64, count: u64, entry: Entry) -> Option<MapChange>

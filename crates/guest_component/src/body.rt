@@ -5,9 +5,10 @@ use crate::hand::{give_frames, split_hand};
 use crate::map::{change_map, make_ready};
 use component::Component;
 use hyp_pool::{Pool, PoolFault};
-use page_state::{Geometry, Page, PageRange, VmId, VmKind};
+use page_state::{Geometry, Page, PageRange};
 use reference_model::{Changes, GuestChange, MapChange};
 use std::alloc::{AllocError, Allocator, Global};
+use step_reply::{VmId, VmKind};
 use table_tree::Tree;
 
 /// The levels below a word of the root.

@@ -13,9 +13,10 @@ ghost use Rattle.reference_model.specs.Step.{guest_need};
 use crate::body::{Body, Phase};
 use crate::guest::Guest;
 use hyp_pool::Pool;
-use page_state::{Entry, Geometry, Page, VmId, VmKind};
+use page_state::{Entry, Geometry, Page};
 use reference_model::Changes;
 use std::alloc::{Allocator, Global};
+use step_reply::{VmId, VmKind};
 
 impl<A: Allocator> Guest<A> {
     /// An Empty guest; trees have the geometry. It takes no memory.

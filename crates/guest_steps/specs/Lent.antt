@@ -1,8 +1,8 @@
 -- What is lent to a step: of each kind of part none or one, and a CPU's own state.
 use Rattle.std.specs.Prelude.{◌≡◌, ℕ, ◌+◌, ◌-◌, ◌++◌, Bool, true, false, is_some, length, map, List, [], ◌∷◌, Option}
-use Rattle.page_state.specs.declared.reply.Call.{Call}
-use Rattle.page_state.specs.declared.reply.Reply.{Reply}
-use Rattle.page_state.specs.declared.step.Step.{Step}
+use Rattle.step_reply.specs.declared.reply.Call.{Call}
+use Rattle.step_reply.specs.declared.reply.Reply.{Reply}
+use Rattle.step_reply.specs.declared.step.Step.{Step}
 use Rattle.page_state.specs.Layouts.{Layout}
 use Rattle.reference_model.specs.Parts.{Names, guest_slot, uses_vms, uses_shared}
 use Rattle.reference_model.specs.State.{no_vms, no_shared, no_guest}

@@ -1,6 +1,6 @@
 -- What contracts see of a log.
 use Rattle.std.specs.Prelude.{◌≡◌, ℕ, ◌+◌, List, [], length}
-use Rattle.page_state.specs.declared.reply.Call.{Call}
+use Rattle.step_reply.specs.declared.reply.Call.{Call}
 
 -- the stored calls, the oldest first, and how many more can be stored
 pub record StoredCalls : Type 0 where

@@ -2,9 +2,9 @@
 ghost use Rattle.guest_steps.specs.Logs.{IsNewLog};
 ghost use Rattle.std.specs.Prelude.{◌≡◌, ◌+◌, ◌-◌, ◌^◌, ◌<◌, ◌↔◌, [], ◌∷◌, ◌++◌, length, IfOk, IsTrue};
 
-use page_state::Call;
 use std::alloc::{AllocError, Global};
 use std::marker::Model;
+use step_reply::Call;
 
 /// The stored calls of one part or CPU, the oldest first.
 #[derive(Drop)]

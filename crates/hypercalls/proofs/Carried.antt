@@ -5,9 +5,9 @@ use Rattle.hyp_pool.specs.declared.PoolFault.{PoolFault}
 use Rattle.hyp_pool.specs.declared.PoolFault.TheVariants.{NoPool}
 use Rattle.page_state.specs.declared.entry.PageRange.{PageRange}
 use Rattle.page_state.specs.declared.row.Row.{Row}
-use Rattle.page_state.specs.declared.reply.Refusal.TheVariants.{NoMemory, NoPool as NoPoolReply}
-use Rattle.page_state.specs.declared.reply.Reply.TheVariants.{Done, Refused}
-use Rattle.page_state.specs.declared.step.Step.{Step}
+use Rattle.step_reply.specs.declared.reply.Refusal.TheVariants.{NoMemory, NoPool as NoPoolReply}
+use Rattle.step_reply.specs.declared.reply.Reply.TheVariants.{Done, Refused}
+use Rattle.step_reply.specs.declared.step.Step.{Step}
 use Rattle.page_state.specs.Layouts.{Layout, is_memory}
 use Rattle.page_state.specs.Tables.{need, needs, edited, freed, returned}
 use Rattle.page_state.proofs.Common.{or-false, not-holds}

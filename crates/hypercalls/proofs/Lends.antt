@@ -3,7 +3,7 @@ use Rattle.std.proofs.Common.{arith, ◌≡◌, ℕ, zero, suc, ◌-◌, ◌<◌
 use Rattle.std.proofs.lemmas.List.Elements.{All-set}
 use Rattle.page_state.specs.Geometries.{levels_below}
 use Rattle.reference_model.specs.Parts.{names, guest_slot, uses_vms, uses_shared}
-use Rattle.page_state.specs.declared.step.Step.{Step}
+use Rattle.step_reply.specs.declared.step.Step.{Step}
 use Rattle.guest_steps.specs.declared.parts.VmPart.{VmPart}
 use Rattle.guest_steps.specs.declared.parts.SharedPart.{SharedPart}
 use Rattle.guest_steps.specs.declared.parts.GuestPart.{GuestPart}

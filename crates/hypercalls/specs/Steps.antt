@@ -1,9 +1,9 @@
 -- What a step on lent parts does.
 use Rattle.std.specs.Prelude.{◌≡◌, ℕ, Bool, true, false, ◌==◌, ◌||◌, Option, Ok, if◌then◌else◌}
-use Rattle.page_state.specs.declared.reply.Refusal.TheVariants.{NoMemory}
-use Rattle.page_state.specs.declared.reply.Reply.{Reply}
-use Rattle.page_state.specs.declared.reply.Reply.TheVariants.{Refused}
-use Rattle.page_state.specs.declared.step.Step.{Step}
+use Rattle.step_reply.specs.declared.reply.Refusal.TheVariants.{NoMemory}
+use Rattle.step_reply.specs.declared.reply.Reply.{Reply}
+use Rattle.step_reply.specs.declared.reply.Reply.TheVariants.{Refused}
+use Rattle.step_reply.specs.declared.step.Step.{Step}
 use Rattle.page_state.specs.Layouts.{Layout}
 use Rattle.reference_model.specs.declared.changes.Changes.{Changes}
 use Rattle.reference_model.specs.Answers.{decides}

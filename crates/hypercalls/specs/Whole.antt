@@ -1,10 +1,10 @@
 -- What a step of a CPU does to all parts, by the reference step.
 use Rattle.std.specs.Prelude.{◌≡◌, ℕ, ◌+◌, Bool, true, false, length, slice_get, Option, Some, Ok}
-use Rattle.page_state.specs.declared.reply.Call.{Call}
-use Rattle.page_state.specs.declared.reply.Refusal.TheVariants.{NoMemory}
-use Rattle.page_state.specs.declared.reply.Reply.{Reply}
-use Rattle.page_state.specs.declared.reply.Reply.TheVariants.{Refused}
-use Rattle.page_state.specs.declared.step.Step.{Step}
+use Rattle.step_reply.specs.declared.reply.Call.{Call}
+use Rattle.step_reply.specs.declared.reply.Refusal.TheVariants.{NoMemory}
+use Rattle.step_reply.specs.declared.reply.Reply.{Reply}
+use Rattle.step_reply.specs.declared.reply.Reply.TheVariants.{Refused}
+use Rattle.step_reply.specs.declared.step.Step.{Step}
 use Rattle.reference_model.specs.declared.changes.Changes.{Changes}
 use Rattle.reference_model.specs.Answers.{decides}
 use Rattle.reference_model.specs.History.{IsStored}

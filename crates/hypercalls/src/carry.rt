@@ -5,7 +5,7 @@ ghost use Rattle.guest_component.specs.Plans.{WantsNoMemory};
 ghost use Rattle.guest_steps.specs.Lent.{Each, GuestSuits, SharedSuits, lent, one, used_in};
 ghost use Rattle.guest_steps.specs.View.{guest_held, shared_of, vm_slots};
 ghost use Rattle.hypercalls.specs.Carried.{IsLentOr, IsRoomy, LeavesGuest, LeavesShared, OnlyLent, is_either_short, rows_told};
-ghost use Rattle.page_state.specs.declared.step.Step.{Step};
+ghost use Rattle.step_reply.specs.declared.step.Step.{Step};
 ghost use Rattle.page_state.specs.LayoutView.{layout_of};
 ghost use Rattle.reference_model.specs.Answers.{CarriesOut};
 ghost use Rattle.reference_model.specs.ChangeLaws.{AllFit, FitsTable, PartsFit, TouchedFits};
@@ -16,9 +16,10 @@ ghost use Rattle.reference_model.specs.Step.{guest_after, shared_after, shared_n
 use crate::rows::{first_row, touched};
 use guest_steps::{CpuState, GuestPart, SharedPart, VmPart};
 use hyp_pool::PoolFault;
-use page_state::{Layout, Refusal, Reply};
+use page_state::Layout;
 use reference_model::{Changes, SlotChange};
 use std::alloc::Allocator;
+use step_reply::{Refusal, Reply};
 
 /// Gives the touched frames their row, where they are memory.
 fn write_rows<A: Allocator>(

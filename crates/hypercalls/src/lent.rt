@@ -14,9 +14,10 @@ ghost use Rattle.reference_model.specs.Step.{Answered};
 use crate::carry::carry_out;
 use decisions::{decide, is_stage};
 use guest_steps::{CpuState, GuestPart, SharedPart, VmPart};
-use page_state::{Call, Layout, Refusal, Reply, Step, VmId};
+use page_state::Layout;
 use reference_model::{Stage, laws};
 use std::alloc::Allocator;
+use step_reply::{Call, Refusal, Reply, Step, VmId};
 
 /// The slot of a VM, where there is such a slot.
 fn slot_of(vm: VmId) -> Option<u64>

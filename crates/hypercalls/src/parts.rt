@@ -7,8 +7,9 @@ ghost use Rattle.page_state.specs.Geometries.{levels_below};
 use crate::lent::{guest_slot, step_on};
 use crate::uses::{count_of, range_of, uses_shared, uses_vms};
 use guest_steps::{CpuState, GuestPart, SharedPart, VmPart};
-use page_state::{Layout, Reply, Step};
+use page_state::Layout;
 use std::alloc::Allocator;
+use step_reply::{Reply, Step};
 
 /// The layout, which never changes, the VM part, the Shared part, the Guest parts by slot, and the CPUs by number. The first
 /// two are lists of one, so that they are lent as all are: as a range.

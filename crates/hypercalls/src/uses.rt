@@ -7,7 +7,7 @@ ghost use Rattle.reference_model.specs.Parts.{guest_slot as guest_slot_of, names
 
 use crate::lent::guest_slot;
 use guest_steps::CpuState;
-use page_state::Step;
+use step_reply::Step;
 
 /// Whether a step uses the VM part.
 pub fn uses_vms(step: Step) -> bool

@@ -139,6 +139,3 @@ fn frames_of(region: Region) -> u64
         RegionKind::Device => 0,
     }
 }
-
-#[cfg(test)]
-mod tests;

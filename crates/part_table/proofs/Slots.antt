@@ -2,7 +2,7 @@
 use Rattle.std.proofs.Common.{◌≡◌, ℕ, ◌<◌, Bool, true, false, refl, sym, ap, ◌∙◌}
 use Rattle.std.specs.Prelude.{Option, Some, None}
 use Rattle.page_state.specs.declared.layout.Layout.{Layout as TheLayout}
-use Rattle.page_state.specs.declared.step.Step.{Step}
+use Rattle.step_reply.specs.declared.step.Step.{Step}
 use Rattle.page_state.specs.LayoutView.{layout_of}
 use Rattle.reference_model.specs.Parts.{Names, names, guest_slot, uses_vms, uses_shared}
 use Rattle.reference_model.specs.State.{Contents, Cpu}

@@ -1,8 +1,8 @@
 -- What the answer to a call tells.
 use Rattle.std.specs.Prelude.{◌≡◌, ◌≢◌, ◌⊎◌, ℕ, List, [], ◌∷◌, ◌++◌, None}
-use Rattle.page_state.specs.declared.reply.Call.{Call}
-use Rattle.page_state.specs.declared.reply.Reply.{Reply}
-use Rattle.page_state.specs.declared.step.Step.{Step}
+use Rattle.step_reply.specs.declared.reply.Call.{Call}
+use Rattle.step_reply.specs.declared.reply.Reply.{Reply}
+use Rattle.step_reply.specs.declared.step.Step.{Step}
 use Rattle.reference_model.specs.Parts.{guest_slot, names}
 use Rattle.guest_steps.specs.View.{cpu_of}
 use Rattle.hypercalls.specs.Uses.{parts_of}

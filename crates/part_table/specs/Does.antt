@@ -1,7 +1,7 @@
 -- What one call does to the parts that it uses and to its CPU's own state, whatever else stands beside them.
 use Rattle.std.specs.Prelude.{◌≡◌, ◌≢◌, ℕ, ◌+◌, false, true, cond, eqb, length, List, Option, Some, None}
-use Rattle.page_state.specs.declared.reply.Call.{Call}
-use Rattle.page_state.specs.declared.step.Step.{Step}
+use Rattle.step_reply.specs.declared.reply.Call.{Call}
+use Rattle.step_reply.specs.declared.step.Step.{Step}
 use Rattle.page_state.specs.Layouts.{Layout}
 use Rattle.reference_model.specs.Boot.{CanBoot}
 use Rattle.reference_model.specs.History.{IsStored, calls_on, calls_by}

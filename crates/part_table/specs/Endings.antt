@@ -3,7 +3,7 @@ use Rattle.std.specs.Prelude.{◌≡◌, ℕ, ◌<◌, Bool, false, List, [], le
 use mathlib.Core.Option.{some}
 use lib.ListN.{get_elem?}
 use Rattle.page_state.specs.declared.layout.Layout.{Layout as TheLayout}
-use Rattle.page_state.specs.declared.reply.Call.{Call}
+use Rattle.step_reply.specs.declared.reply.Call.{Call}
 use Rattle.page_state.specs.LayoutView.{layout_of}
 use Rattle.reference_model.specs.Boot.{CanBoot, boot}
 use Rattle.reference_model.specs.History.{IsStored, calls_by, calls_on}

@@ -1,6 +1,6 @@
 -- The 66 parts by number, and how what a slot of the table holds stands in a reference state.
 use Rattle.std.specs.Prelude.{◌≡◌, ℕ, zero, suc, ◌+◌, Bool, List, [], ◌∷◌}
-use Rattle.page_state.specs.declared.reply.Call.{Call}
+use Rattle.step_reply.specs.declared.reply.Call.{Call}
 use Rattle.page_state.specs.Layouts.{Layout}
 use Rattle.reference_model.specs.Parts.{Part, vm_part, shared_part, guest_part, call_uses}
 use Rattle.reference_model.specs.State.{Reference}

@@ -6,10 +6,10 @@ use lib.ListN.{get_elem?}
 use Rattle.atomic_table.specs.Table.{State, Me, Step}
 use Rattle.page_state.specs.declared.layout.Layout.{Layout as TheLayout}
 use Rattle.page_state.specs.declared.layout.Geometry.TheVariants.{Bits39}
-use Rattle.page_state.specs.declared.reply.Call.{Call}
-use Rattle.page_state.specs.declared.reply.Reply.TheVariants.{Done}
-use Rattle.page_state.specs.declared.reply.Value.TheVariants.{Nothing}
-use Rattle.page_state.specs.declared.step.Step.TheVariants.{Unfund}
+use Rattle.step_reply.specs.declared.reply.Call.{Call}
+use Rattle.step_reply.specs.declared.reply.Reply.TheVariants.{Done}
+use Rattle.step_reply.specs.declared.reply.Value.TheVariants.{Nothing}
+use Rattle.step_reply.specs.declared.step.Step.TheVariants.{Unfund}
 use Rattle.page_state.specs.LayoutView.{layout_of}
 use Rattle.reference_model.specs.Boot.{CanBoot}
 use Rattle.reference_model.specs.History.{IsStored, calls_on, calls_by}

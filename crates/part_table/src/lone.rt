@@ -15,9 +15,10 @@ use crate::bench::{Bench, lay, lift};
 use crate::slot::Slot;
 use guest_steps::{CpuState, GuestPart, SharedPart, VmPart};
 use hypercalls::{guest_slot, step_on};
-use page_state::{Call, Layout, Step};
+use page_state::Layout;
 use std::alloc::Allocator;
 use std::slice;
+use step_reply::{Call, Step};
 
 /// The step on lent parts, none of whose logs is full, and its call.
 fn call_on<'a, A: Allocator + Copy>(

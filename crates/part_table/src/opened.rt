@@ -17,9 +17,10 @@ use crate::table::{Place, Shelf};
 use crate::tries::Gate;
 use atomic_table::{Closed, Table};
 use guest_steps::CpuState;
-use page_state::{Layout, Reply, Step};
+use page_state::Layout;
 use std::alloc::{AllocError, Allocator, Global};
 use std::marker::Model;
+use step_reply::{Reply, Step};
 
 /// The parts of a world under one table of words. Contracts see which table it is, and its layout.
 #[derive(Drop)]
@@ -179,8 +180,8 @@ impl<A: Allocator> PartTable<A> {
 
 impl<A: Allocator + Copy> PartTable<A> {
     ghost use Rattle.std.specs.Prelude.{◌≡◌, []};
-    ghost use Rattle.page_state.specs.declared.reply.Refusal.TheVariants.{Contended, LogFull};
-    ghost use Rattle.page_state.specs.declared.reply.Reply.TheVariants.{Refused};
+    ghost use Rattle.step_reply.specs.declared.reply.Refusal.TheVariants.{Contended, LogFull};
+    ghost use Rattle.step_reply.specs.declared.reply.Reply.TheVariants.{Refused};
     ghost use Rattle.reference_model.specs.History.{IsStored};
     ghost use Rattle.part_table.specs.Answered.{FindsAway, FindsLogFull, MeetsAnother, StoresCall};
     ghost use Rattle.part_table.specs.Passes.{IsPassOf};

@@ -1,7 +1,7 @@
 //! What a CPU carries.
 ghost use Rattle.std.specs.Prelude.{◌≡◌, ◌+◌, [], length};
-ghost use Rattle.page_state.specs.declared.reply.Reply.TheVariants.{Refused};
-ghost use Rattle.page_state.specs.declared.reply.Refusal.TheVariants.{Contended, LogFull};
+ghost use Rattle.step_reply.specs.declared.reply.Reply.TheVariants.{Refused};
+ghost use Rattle.step_reply.specs.declared.reply.Refusal.TheVariants.{Contended, LogFull};
 ghost use Rattle.reference_model.specs.History.{IsStored};
 ghost use Rattle.part_table.specs.Answered.{Answers, FindsAway, FindsLogFull, StoresCall};
 ghost use Rattle.part_table.specs.Parts.{parts};
@@ -10,9 +10,10 @@ use crate::bench::Bench;
 use crate::table::{Place, Shelf};
 use crate::tries::{Gate, any};
 use guest_steps::CpuState;
-use page_state::{Layout, Refusal, Reply, Step};
+use page_state::Layout;
 use std::alloc::Allocator;
 use std::marker::Model;
+use step_reply::{Refusal, Reply, Step};
 
 /// A CPU's pass: its own state, and the right to take parts. Contracts see the table that it is of, and what it knows.
 #[derive(Drop)]

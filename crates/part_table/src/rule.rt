@@ -2,10 +2,11 @@
 use crate::slot::Slot;
 use atomic_table::{Join, Play, Split, TableRule};
 use guest_steps::{CpuState, Log};
-use page_state::{Call, Layout};
+use page_state::Layout;
 use std::alloc::Allocator;
 use std::collections::LinkedList;
 use std::marker::{Brand, PhantomData};
+use step_reply::Call;
 
 /// What a pass knows, or the root, from which passes come. No value of it is made. A list of pairs stands for a function
 /// of a part's number: the first pair of a number counts.
@@ -60,7 +61,7 @@ impl<A: Allocator> Play<Option<Slot<A>>, View<A>> for Return {
 
 /// A call, and the state in which it leaves its CPU.
 pub trait Deed {
-    ghost use Rattle.page_state.specs.declared.reply.Call.{Call};
+    ghost use Rattle.step_reply.specs.declared.reply.Call.{Call};
     ghost use Rattle.guest_steps.specs.declared.parts.CpuState.{CpuState};
 
     ghost call: { Call };

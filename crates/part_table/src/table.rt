@@ -10,9 +10,10 @@ use crate::rule::{Deed, Enter, Law, Return, Store, Take, View};
 use crate::slot::Slot;
 use atomic_table::{Seat, Table};
 use guest_steps::CpuState;
-use page_state::{Call, Layout};
+use page_state::Layout;
 use std::alloc::{Allocator, Global};
 use std::marker::Brand;
+use step_reply::Call;
 
 /// The parts' words, and the parts that are at home.
 pub type Shelf<A> = Table<Option<Slot<A>>, View<A>, Layout, Law, Global>;

@@ -13,8 +13,9 @@ use crate::slot::Slot;
 use crate::table::{Place, Shelf, commit, commit_first, enter, let_home, put_back, take};
 use guest_steps::CpuState;
 use hypercalls::{Uses, parts_used};
-use page_state::{Call, Layout, Refusal, Reply, Step};
+use page_state::Layout;
 use std::alloc::Allocator;
+use step_reply::{Call, Refusal, Reply, Step};
 
 /// What is called in the middle of a call, with the CPU and its number of the call.
 pub trait Gate {

@@ -5,10 +5,10 @@ use Rattle.descriptor.specs.declared.State.TheVariants.{Owned, SharedOwned, Shar
 use Rattle.page_state.specs.declared.entry.Entry.{Entry}
 use Rattle.page_state.specs.declared.entry.Entry.TheVariants.{Unmapped}
 use Rattle.page_state.specs.declared.layout.RegionKind.TheVariants.{Memory as MemoryKind, Device}
-use Rattle.page_state.specs.declared.reply.Refusal.TheVariants.{Perm, Invalid, NoPool, LogFull}
-use Rattle.page_state.specs.declared.reply.Reply.{Reply}
-use Rattle.page_state.specs.declared.reply.Reply.TheVariants.{Refused}
-use Rattle.page_state.specs.declared.step.Step.TheVariants.{ShareHyp}
+use Rattle.step_reply.specs.declared.reply.Refusal.TheVariants.{Perm, Invalid, NoPool, LogFull}
+use Rattle.step_reply.specs.declared.reply.Reply.{Reply}
+use Rattle.step_reply.specs.declared.reply.Reply.TheVariants.{Refused}
+use Rattle.step_reply.specs.declared.step.Step.TheVariants.{ShareHyp}
 use Rattle.page_state.specs.EntryTests.{leaf, annotation}
 use Rattle.page_state.specs.declared.row.Usage.TheVariants.{Plain}
 use Rattle.page_state.specs.Map.{empty_map}

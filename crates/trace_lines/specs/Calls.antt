@@ -1,11 +1,11 @@
 -- The calls that a step line can name, a row for each (profile).
 use Rattle.std.specs.Prelude.{ℕ, ◌+◌, List, [], ◌∷◌, length, codes, Option, Some, option_map, option_and_then}
 use Rattle.descriptor.specs.declared.Prot.{Prot}
-use Rattle.page_state.specs.declared.step.Step.{Step}
-use Rattle.page_state.specs.declared.step.Step.TheVariants as steps
+use Rattle.step_reply.specs.declared.step.Step.{Step}
+use Rattle.step_reply.specs.declared.step.Step.TheVariants as steps
 use Rattle.trace_lines.specs.declared.call.Called.{Called}
-use Rattle.page_state.specs.declared.step.VmId.{VmId}
-use Rattle.page_state.specs.declared.step.VmKind.{VmKind}
+use Rattle.step_reply.specs.declared.step.VmId.{VmId}
+use Rattle.step_reply.specs.declared.step.VmKind.{VmKind}
 use Rattle.trace_lines.specs.Arguments.{number_at, vm_word_at, kind_word_at, rights_word_at}
 use Rattle.trace_lines.specs.Words.{named}
 

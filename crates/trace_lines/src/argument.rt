@@ -18,7 +18,8 @@ ghost use Rattle.trace_lines.specs.Words.{named};
 
 use crate::number::{decimal, number};
 use crate::words::{Words, is_name};
-use page_state::{Page, PageRange, Prot, VmId, VmKind};
+use page_state::{Page, PageRange, Prot};
+use step_reply::{VmId, VmKind};
 
 /// The last level of a tree.
 const LAST_LEVEL: u64 = 3;

@@ -22,7 +22,7 @@ use crate::call::Called;
 use crate::line::{Line, Poke, Query, Setting, TreeName};
 use crate::place::{SettingName, Verb};
 use crate::words::{Words, is_name};
-use page_state::Step;
+use step_reply::Step;
 
 /// What a line asks for by its first words, and what all of them say.
 #[derive(Clone, Copy)]

@@ -1,6 +1,6 @@
 //! The calls that a step line can name.
 ghost use Rattle.std.specs.Prelude.{◌≡◌, [], ◌∷◌, Some};
-ghost use Rattle.page_state.specs.declared.step.Step.TheVariants.{
+ghost use Rattle.step_reply.specs.declared.step.Step.TheVariants.{
   DonateGuest,
   DonateHyp,
   Fund,
@@ -17,7 +17,7 @@ ghost use Rattle.trace_lines.specs.Calls.{called as called_by, called_in, guest_
 
 use crate::argument::{kind_at, number_at, rights_at, vm_at};
 use crate::words::{Words, is_name};
-use page_state::Step;
+use step_reply::Step;
 
 /// What a step line of a call has.
 #[derive(Clone, Copy)]

@@ -1,8 +1,9 @@
 //! What a line of a trace can say.
-use page_state::{PageRange, Step};
+use page_state::PageRange;
+use step_reply::Step;
 
 /// A line that can be carried out.
-#[derive(Clone, Copy, PartialEq, Debug)]
+#[derive(Clone, Copy)]
 pub enum Line {
     /// What is told before the boot.
     Setting(Setting),
@@ -17,7 +18,7 @@ pub enum Line {
 }
 
 /// A setting of a trace.
-#[derive(Clone, Copy, PartialEq, Debug)]
+#[derive(Clone, Copy)]
 pub enum Setting {
     /// The width of input addresses in bits.
     Geometry(u64),
@@ -34,7 +35,7 @@ pub enum Setting {
 }
 
 /// A question.
-#[derive(Clone, Copy, PartialEq, Debug)]
+#[derive(Clone, Copy)]
 pub enum Query {
     /// The word on a page's path, at a level of 0 to 3.
     Word {
@@ -51,7 +52,7 @@ pub enum Query {
 }
 
 /// A word that is set, on a page's path at a level of 0 to 3.
-#[derive(Clone, Copy, PartialEq, Debug)]
+#[derive(Clone, Copy)]
 pub struct Poke {
     pub tree: TreeName,
     pub page: u64,
@@ -60,7 +61,7 @@ pub struct Poke {
 }
 
 /// A tree that a line names.
-#[derive(Clone, Copy, PartialEq, Debug)]
+#[derive(Clone, Copy)]
 pub enum TreeName {
     Host,
     Hyp,

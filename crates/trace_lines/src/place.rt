@@ -6,7 +6,7 @@ ghost use Rattle.trace_lines.specs.Settings.{told_of};
 use crate::settings::Settings;
 
 /// Which lines a program allows at a place of a trace.
-#[derive(Clone, Copy, PartialEq, Debug)]
+#[derive(Clone, Copy)]
 pub struct Allows {
     pub settings: bool,
     pub boot: bool,

@@ -2,11 +2,12 @@
 ghost use Rattle.std.specs.Prelude.{Some};
 ghost use Rattle.trace_lines.specs.Texts.{digits_16, text_of_response};
 
-use page_state::{Entry, Reply, Run};
+use page_state::{Entry, Run};
 use std::fmt;
+use step_reply::Reply;
 
 /// A line of the report that a line of the trace makes, without its end.
-#[derive(Clone, Copy, PartialEq, Debug)]
+#[derive(Clone, Copy)]
 pub enum Response {
     /// The tables of each tree and the free frames of the shared pool after boot.
     Boot {

@@ -1,9 +1,9 @@
 -- Laws of reports.
 use Rattle.std.specs.Prelude.{◌≡◌, ℕ, ◌+◌, ◌<◌, true, ◌⊎◌, ⊤, List, [], ◌∷◌, ◌++◌, length, map, filter_map, All, Option, Some, None, Result, Ok, Err}
 use Rattle.page_state.specs.declared.entry.PageRange.{PageRange}
-use Rattle.page_state.specs.declared.reply.Call.{Call}
-use Rattle.page_state.specs.declared.reply.Reply.{Reply}
-use Rattle.page_state.specs.declared.step.Step.{Step}
+use Rattle.step_reply.specs.declared.reply.Call.{Call}
+use Rattle.step_reply.specs.declared.reply.Reply.{Reply}
+use Rattle.step_reply.specs.declared.step.Step.{Step}
 use Rattle.reference_model.specs.Run.{IsRun, Runs}
 use Rattle.reference_model.specs.State.{Reference}
 use Rattle.reference_model.specs.Step.{Steps}

@@ -5,10 +5,10 @@ use Rattle.page_state.specs.declared.entry.Run.{Run}
 use Rattle.page_state.specs.declared.layout.Config.{Config}
 use Rattle.page_state.specs.declared.layout.LayoutFault.{LayoutFault}
 use Rattle.page_state.specs.declared.layout.LayoutFault.TheVariants as layouts
-use Rattle.page_state.specs.declared.reply.Call.{Call}
+use Rattle.step_reply.specs.declared.reply.Call.{Call}
 use Rattle.page_state.specs.LayoutFaults.{IsAccepted, IsFirstFault}
 use Rattle.page_state.specs.Regions.{Memory, memory_of}
-use Rattle.page_state.specs.declared.step.Step.{Step}
+use Rattle.step_reply.specs.declared.step.Step.{Step}
 use Rattle.world.specs.Boots.{IsNoBoot}
 use Rattle.reference_model.specs.State.{Reference}
 use Rattle.reference_model.specs.Step.{Steps}

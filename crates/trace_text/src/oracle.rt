@@ -4,7 +4,7 @@ ghost use Rattle.ghost_judge.specs.Audits.{AuditAgrees, IsFirstDifference};
 ghost use Rattle.ghost_judge.specs.Judgements.{IsFirstJudged, JudgeAgrees, told_of};
 ghost use Rattle.ghost_oracle.specs.Compared.{walked_in};
 ghost use Rattle.ghost_spec.specs.States.{contents_in};
-ghost use Rattle.page_state.specs.declared.reply.Call.{Call};
+ghost use Rattle.step_reply.specs.declared.reply.Call.{Call};
 ghost use Rattle.reference_model.specs.State.{Reference};
 ghost use Rattle.trace_text.specs.Oracles.{CanCompare, IsAgreed, IsShown, audited_lines, judged_lines, verdict_lines};
 ghost use Rattle.trace_text.specs.Worlds.{Machine};
@@ -13,8 +13,8 @@ use ghost_judge::disagreement::Disagreement;
 use ghost_judge::judge::judge_last;
 use ghost_oracle::compared::Compared;
 use ghost_spec::state::Ghost;
-use page_state::{Reply, Step};
 use std::alloc::{AllocError, Global};
+use step_reply::{Reply, Step};
 
 /// What an oracle tells of a step.
 #[derive(Clone, Copy, PartialEq, Debug)]

@@ -18,8 +18,9 @@ use ghost_oracle::compared::Compared;
 use ghost_spec::state::Ghost;
 use guest_component::Body;
 use maplets::Maplets;
-use page_state::{MemoryMap, Page, PageRange, Region, Reply, Step};
+use page_state::{MemoryMap, Page, PageRange, Region};
 use std::alloc::{AllocError, Allocator, Global};
+use step_reply::{Reply, Step};
 use trace_lines::{Allows, Line, LineFault, Query, Response, Setting, Settings, TreeName, said};
 use world::World;
 

@@ -4,21 +4,21 @@ use std::fmt::Debug;
 use std::process::Abort;
 
 /// Compares two values.
-pub fn expect_same<T: PartialEq + Debug>(rt: &impl Abort, found: &T, wanted: &T) {
+pub(crate) fn expect_same<T: PartialEq + Debug>(rt: &impl Abort, found: &T, wanted: &T) {
     assert_eq!(rt; found, wanted);
 }
 
 /// Compares a number.
-pub fn expect_number(rt: &impl Abort, found: usize, wanted: usize) {
+pub(crate) fn expect_number(rt: &impl Abort, found: usize, wanted: usize) {
     expect_same(rt, &found, &wanted);
 }
 
 /// Compares a word, or that there is none.
-pub fn expect_word(rt: &impl Abort, found: Option<u64>, wanted: Option<u64>) {
+pub(crate) fn expect_word(rt: &impl Abort, found: Option<u64>, wanted: Option<u64>) {
     expect_same(rt, &found, &wanted);
 }
 
 /// Compares an entry.
-pub fn expect_entry(rt: &impl Abort, found: Entry, wanted: Entry) {
+pub(crate) fn expect_entry(rt: &impl Abort, found: Entry, wanted: Entry) {
     expect_same(rt, &found, &wanted);
 }

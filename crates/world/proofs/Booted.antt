@@ -6,7 +6,7 @@ use mathlib.Core.Path.{fun_ext}
 use Rattle.page_state.specs.declared.layout.Config.{Config}
 use Rattle.page_state.specs.declared.layout.Geometry.{Geometry}
 use Rattle.page_state.specs.declared.layout.Geometry.TheVariants.{Bits39}
-use Rattle.page_state.specs.declared.reply.Call.{Call}
+use Rattle.step_reply.specs.declared.reply.Call.{Call}
 use Rattle.page_state.specs.LayoutFaults.{IsAccepted}
 use Rattle.reference_model.specs.Boot.{boot, booted, IsCarveEnough}
 use Rattle.reference_model.specs.Held.{held_state}

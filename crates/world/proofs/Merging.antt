@@ -6,9 +6,9 @@ use Rattle.std.proofs.lemmas.List.Elements.{filter-append}
 use Rattle.std.specs.Global.{Global}
 use Rattle.std.proofs.lemmas.Option.{slice_get_past}
 use Rattle.page_state.proofs.Cases.{by_lt}
-use Rattle.page_state.specs.declared.reply.Call.{Call}
-use Rattle.page_state.specs.declared.reply.Reply.{Reply}
-use Rattle.page_state.specs.declared.step.Step.{Step}
+use Rattle.step_reply.specs.declared.reply.Call.{Call}
+use Rattle.step_reply.specs.declared.reply.Reply.{Reply}
+use Rattle.step_reply.specs.declared.step.Step.{Step}
 use Rattle.page_state.proofs.Common.{both, eq-self, eq-same, eq-other, if-true, if-false}
 use Rattle.reference_model.proofs.Ends.{filter-true, filter-false}
 use Rattle.reference_model.specs.Parts.{Part, vm_part, shared_part, guest_part, call_uses, is_slot}

@@ -23,25 +23,25 @@ use Rattle.descriptor.specs.contracts.StatePartialEq.TheImpl as states
 use Rattle.descriptor.specs.declared.Frame.{Frame}
 use Rattle.descriptor.specs.declared.Owner.{Owner}
 use Rattle.page_state.proofs.Common.{and-both, both as both_ways}
-use Rattle.page_state.specs.declared.reply.Call.{Call}
+use Rattle.step_reply.specs.declared.reply.Call.{Call}
 use Rattle.page_state.specs.contracts.entry.Entry
 use Rattle.page_state.specs.contracts.entry.EntryPartialEq.TheImpl as entries
-use Rattle.page_state.specs.contracts.reply.CallPartialEq.TheImpl as calls
-use Rattle.page_state.specs.contracts.reply.Refusal
-use Rattle.page_state.specs.contracts.reply.RefusalPartialEq.TheImpl as refusals
-use Rattle.page_state.specs.contracts.reply.Reply
-use Rattle.page_state.specs.contracts.reply.ReplyPartialEq.TheImpl as replies
-use Rattle.page_state.specs.contracts.reply.Value
-use Rattle.page_state.specs.contracts.reply.ValuePartialEq.TheImpl as values
+use Rattle.step_reply.specs.contracts.reply.CallPartialEq.TheImpl as calls
+use Rattle.step_reply.specs.contracts.reply.Refusal
+use Rattle.step_reply.specs.contracts.reply.RefusalPartialEq.TheImpl as refusals
+use Rattle.step_reply.specs.contracts.reply.Reply
+use Rattle.step_reply.specs.contracts.reply.ReplyPartialEq.TheImpl as replies
+use Rattle.step_reply.specs.contracts.reply.Value
+use Rattle.step_reply.specs.contracts.reply.ValuePartialEq.TheImpl as values
 use Rattle.page_state.specs.contracts.row.Lent
 use Rattle.page_state.specs.contracts.row.LentPartialEq.TheImpl as loans
 use Rattle.page_state.specs.contracts.row.RowPartialEq.TheImpl as rows
 use Rattle.page_state.specs.contracts.row.Usage
-use Rattle.page_state.specs.contracts.step.Step
-use Rattle.page_state.specs.contracts.step.StepPartialEq.TheImpl as steps
-use Rattle.page_state.specs.contracts.step.VmIdPartialEq.TheImpl as vms
-use Rattle.page_state.specs.contracts.step.VmKind
-use Rattle.page_state.specs.contracts.step.VmKindPartialEq.TheImpl as vm_kinds
+use Rattle.step_reply.specs.contracts.step.Step
+use Rattle.step_reply.specs.contracts.step.StepPartialEq.TheImpl as steps
+use Rattle.step_reply.specs.contracts.step.VmIdPartialEq.TheImpl as vms
+use Rattle.step_reply.specs.contracts.step.VmKind
+use Rattle.step_reply.specs.contracts.step.VmKindPartialEq.TheImpl as vm_kinds
 
 -- a test of two values tells whether they are the same
 abbrev Tells : {X : Type 0} → (X → X → Bool) → Type 0

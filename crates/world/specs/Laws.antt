@@ -2,7 +2,7 @@
 use Rattle.std.specs.Prelude.{◌≡◌, ℕ, ◌+◌, ◌<◌, ◌⊎◌, true, List, Option, Some, None}
 use Rattle.descriptor.specs.declared.State.{State}
 use Rattle.page_state.specs.declared.layout.Config.{Config}
-use Rattle.page_state.specs.declared.reply.Call.{Call}
+use Rattle.step_reply.specs.declared.reply.Call.{Call}
 use Rattle.page_state.specs.Layouts.{Layout, is_memory}
 use Rattle.page_state.specs.Regions.{Memory}
 use Rattle.page_state.specs.Runs.{map_of, IsCoarsest}

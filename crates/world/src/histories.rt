@@ -6,8 +6,8 @@ ghost use Rattle.world.specs.Merges.{AreLogsOf};
 use crate::merge::Histories;
 use guest_steps::{CpuState, GuestPart};
 use hypercalls::Parts;
-use page_state::Call;
 use std::alloc::{AllocError, Allocator, Global};
+use step_reply::Call;
 
 /// The logs of guests, by slot.
 fn guest_logs<A: Allocator>(

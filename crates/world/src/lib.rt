@@ -24,9 +24,10 @@ use ghost_oracle::raw::{RawGuest, Which};
 use ghost_spec::state::Ghost;
 use hypercalls::Parts;
 pub use merge::{Histories, MergeFault};
-use page_state::{Config, Geometry, MemoryMap, Reply, Step};
+use page_state::{Config, Geometry, MemoryMap};
 pub use raw::RawWorld;
 use std::alloc::{AllocError, Allocator, Global};
+use step_reply::{Reply, Step};
 use table_tree::PathFault;
 
 /// A booted world, which stands at the end of one legal history. `A` is where the tables of all trees lie.
@@ -98,7 +99,7 @@ impl<A: Allocator> World<A> {
     ghost use Rattle.ghost_spec.specs.States.{ghost_state, IsKept};
     ghost use Rattle.ghost_oracle.specs.Found.{walked_state, HasRowsOf, SaysMaplets, SaysRows};
     ghost use Rattle.hypercalls.specs.Stands.{kept_of, parts_layout, state_of};
-    ghost use Rattle.page_state.specs.declared.reply.Call.{Call};
+    ghost use Rattle.step_reply.specs.declared.reply.Call.{Call};
     ghost use Rattle.world.specs.Merges.{AreLogsOf, IsMerged, IsOfHistory, TellsMerged};
     ghost use Rattle.world.specs.declared.merge.MergeFault.TheVariants.{NoOrder};
 

@@ -1,6 +1,6 @@
 //! Logs of a world become one list of calls: the call that stands next in all its logs, again and again.
 ghost use Rattle.std.specs.Prelude.{◌≡◌, ◌<◌, ◌↔◌, ◌==◌, ℕ, true, IsTrue, IfErr, IfNone, IfOk, IfSome, List, Some, [], drop, length, slice_index, if◌then◌else◌};
-ghost use Rattle.page_state.specs.declared.reply.Call.{Call};
+ghost use Rattle.step_reply.specs.declared.reply.Call.{Call};
 ghost use Rattle.reference_model.specs.Parts.{call_uses, is_slot, Part};
 ghost use Rattle.world.specs.Merges.{IsMerged, IsOfHistory, TellsMerged, log_at, merge_number};
 ghost use Rattle.world.specs.declared.merge.MergeFault.TheVariants.{NoOrder};
@@ -8,8 +8,8 @@ ghost use Rattle.world.specs.inner.Merging.{after_call, first_of, left, on, rest
 
 use crate::same::is_same_call;
 use hypercalls::{uses_shared, uses_vms};
-use page_state::{Call, Reply, Step};
 use std::alloc::{AllocError, Global};
+use step_reply::{Call, Reply, Step};
 use thiserror::Error;
 
 /// The logs of a world as lists of calls, the oldest first. They need not be those of one history.

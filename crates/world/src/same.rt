@@ -1,7 +1,7 @@
 //! Whether two calls are the same.
 ghost use Rattle.std.specs.Prelude.{◌≡◌, ◌↔◌, IsTrue};
 
-use page_state::Call;
+use step_reply::Call;
 
 /// Whether two calls are the same.
 pub(crate) fn is_same_call(a: &Call, b: &Call) -> bool

@@ -1,7 +1,26 @@
-//! Tests of worlds, and the numbers that they draw. They stand in a crate of their own, since tests are proved with all functions
-//! of their crate.
+//! Tests of the plain program and the oracle (`audit`, `judge`, `record`, `rows`, `spec`), of worlds, of machines, and of
+//! replays. They stand in a crate of their own, since tests are proved with all functions of their crate.
 #![tactic(auto)]
 
-pub mod numbers;
 #[cfg(test)]
-mod tests;
+mod audit;
+#[cfg(test)]
+mod expect;
+#[cfg(test)]
+mod judge;
+#[cfg(test)]
+mod machines;
+#[cfg(test)]
+mod numbers;
+#[cfg(test)]
+mod record;
+#[cfg(test)]
+mod replays;
+#[cfg(test)]
+mod rows;
+#[cfg(test)]
+mod sample;
+#[cfg(test)]
+mod spec;
+#[cfg(test)]
+mod worlds;

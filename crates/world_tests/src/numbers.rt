@@ -3,20 +3,20 @@ ghost use Rattle.std.specs.Prelude.{◌≡◌, ◌<◌};
 
 /// Numbers that look random, the same for the same seed: a linear congruence of 64 bits.
 #[derive(Drop)]
-pub struct Numbers {
-    pub state: u64,
+pub(crate) struct Numbers {
+    state: u64,
 }
 
 impl Numbers {
     /// Those of a seed.
-    pub fn of(seed: u64) -> Numbers
+    pub(crate) fn of(seed: u64) -> Numbers
         ensures { result.state ≡ seed }
     {
         Numbers { state: seed }
     }
 
     /// The next number below `bound`.
-    pub fn below(&mut self, bound: u64) -> u64
+    pub(crate) fn below(&mut self, bound: u64) -> u64
         requires { 0 < bound }
         ensures { result < bound }
     {

@@ -6,16 +6,17 @@ ghost use Rattle.reference_model.specs.Answers.{decides};
 ghost use Rattle.reference_model.specs.State.{Cpu};
 ghost use Rattle.reference_model.specs.Used.{used_alone};
 ghost use Rattle.page_state.specs.Blocks.{block_at, first_page, span};
-ghost use Rattle.page_state.specs.declared.step.Step.TheVariants.{HostAbort};
+ghost use Rattle.step_reply.specs.declared.step.Step.TheVariants.{HostAbort};
 ghost use Rattle.reference_model.specs.SharedRules.{abort_depth as abort_depth_of, abort_leaf as abort_leaf_of, may_map as may_map_of};
 ghost use Rattle.table_tree.specs.View.{meaning};
 
 use super::change;
 use crate::pages::{device_leaf, leaf};
 use guest_steps::SharedPart;
-use page_state::{Entry, Layout, Page, PageRange, Prot, Refusal, Region, RegionKind, State};
+use page_state::{Entry, Layout, Page, PageRange, Prot, Region, RegionKind, State};
 use reference_model::Changes;
 use std::alloc::Allocator;
+use step_reply::Refusal;
 
 /// The pages of the block that holds a page and has `depth` levels below it, at most 2.
 fn block(depth: u32, page: u64) -> PageRange

@@ -7,16 +7,17 @@ ghost use Rattle.page_state.specs.LayoutView.{layout_of};
 ghost use Rattle.reference_model.specs.Answers.{decides};
 ghost use Rattle.reference_model.specs.State.{Cpu};
 ghost use Rattle.reference_model.specs.Used.{used_alone};
-ghost use Rattle.page_state.specs.declared.step.Step.TheVariants.{DonateHyp};
+ghost use Rattle.step_reply.specs.declared.step.Step.TheVariants.{DonateHyp};
 ghost use Rattle.reference_model.specs.SharedRules.{may_donate as may_donate_of};
 ghost use Rattle.table_tree.specs.View.{meaning};
 
 use super::change;
 use crate::pages::{HYPERVISOR, hyp_page, is_free_page, is_mapped, leaf};
 use guest_steps::SharedPart;
-use page_state::{Entry, Layout, Page, Prot, Refusal, State};
+use page_state::{Entry, Layout, Page, Prot, State};
 use reference_model::Changes;
 use std::alloc::Allocator;
+use step_reply::Refusal;
 
 /// Whether a frame's page is free to give, and the hypervisor's page of the frame unmapped.
 fn may_give<A: Allocator>(shared: &SharedPart<A>, frame: u64) -> bool

@@ -7,16 +7,17 @@ ghost use Rattle.reference_model.specs.Answers.{decides};
 ghost use Rattle.reference_model.specs.State.{Cpu};
 ghost use Rattle.reference_model.specs.Used.{used_alone};
 ghost use Rattle.owner_table.specs.Rows.{row_at};
-ghost use Rattle.page_state.specs.declared.step.Step.TheVariants.{HypDonateHost};
+ghost use Rattle.step_reply.specs.declared.step.Step.TheVariants.{HypDonateHost};
 ghost use Rattle.page_state.specs.Search.{all_below};
 ghost use Rattle.reference_model.specs.SharedRules.{may_return as may_return_of};
 
 use super::change;
 use crate::pages::{HYPERVISOR, hyp_page, is_in};
 use guest_steps::SharedPart;
-use page_state::{Entry, Frame, Layout, Page, Refusal, State, Usage};
+use page_state::{Entry, Frame, Layout, Page, State, Usage};
 use reference_model::Changes;
 use std::alloc::Allocator;
+use step_reply::Refusal;
 
 /// Whether the hypervisor owns a frame that is in no other use. It asks for a frame that has an owner row.
 fn may_return<A: Allocator>(shared: &SharedPart<A>, frame: u64) -> bool

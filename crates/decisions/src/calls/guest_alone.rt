@@ -7,7 +7,7 @@ ghost use Rattle.reference_model.specs.Answers.{decides};
 ghost use Rattle.page_state.specs.Layouts.{Layout as ReferenceLayout};
 ghost use Rattle.reference_model.specs.State.{Cpu, Guest as ReferenceGuest};
 ghost use Rattle.reference_model.specs.Used.{guest_alone};
-ghost use Rattle.page_state.specs.declared.step.Step.TheVariants.{GuestRelax, GuestTranslate, MarkDying};
+ghost use Rattle.step_reply.specs.declared.step.Step.TheVariants.{GuestRelax, GuestTranslate, MarkDying};
 ghost use Rattle.decisions.specs.Grows.{GrowsOnly};
 
 use super::change;
@@ -16,9 +16,10 @@ use super::vms::SLOTS;
 use crate::pages::{is_in, with_rights};
 use guest_component::Guest;
 use guest_steps::CpuState;
-use page_state::{Layout, Page, Prot, Refusal, State, Value, VmId};
+use page_state::{Layout, Page, Prot, State};
 use reference_model::{Changes, GuestChange, Stage};
 use std::alloc::Allocator;
+use step_reply::{Refusal, Value, VmId};
 
 /// The guest gets more rights at a page that it borrows.
 #[tactic(auto, unfolding(reference_model::specs::Rules::rule))]

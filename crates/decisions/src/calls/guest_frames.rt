@@ -4,7 +4,7 @@ ghost use Rattle.guest_component.specs.View.{guest_depth, guest_of};
 ghost use Rattle.guest_steps.specs.View.{cpu_of, shared_of};
 ghost use Rattle.page_state.specs.LayoutView.{layout_of};
 ghost use Rattle.page_state.specs.Layouts.{Layout as ReferenceLayout};
-ghost use Rattle.page_state.specs.declared.step.Step.TheVariants.{FinishGuest, Install, ReclaimPool, Topup};
+ghost use Rattle.step_reply.specs.declared.step.Step.TheVariants.{FinishGuest, Install, ReclaimPool, Topup};
 ghost use Rattle.reference_model.specs.Answers.{decides};
 ghost use Rattle.reference_model.specs.GuestRules.{moved_on as moved_on_of, ticket_kind as ticket_kind_of, ticket_vm as ticket_vm_of};
 ghost use Rattle.reference_model.specs.Rely.{CanRely};
@@ -17,9 +17,10 @@ use super::vms::{SLOTS, ticket_becomes};
 use crate::pages::hyp_page;
 use guest_component::Guest;
 use guest_steps::{CpuState, SharedPart};
-use page_state::{Entry, Frame, Layout, Page, PageRange, Refusal, Value, VmId, VmKind};
+use page_state::{Entry, Frame, Layout, Page, PageRange};
 use reference_model::{Changes, CpuChange, GuestChange, Stage, Ticket, Update};
 use std::alloc::Allocator;
+use step_reply::{Refusal, Value, VmId, VmKind};
 
 /// The most frames that a guest holds (profile).
 const MOST_FRAMES: u64 = 512;

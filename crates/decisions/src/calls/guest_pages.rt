@@ -7,7 +7,7 @@ ghost use Rattle.page_state.specs.LayoutView.{layout_of};
 ghost use Rattle.reference_model.specs.Answers.{decides};
 ghost use Rattle.reference_model.specs.State.{Cpu};
 ghost use Rattle.reference_model.specs.Used.{with_guest};
-ghost use Rattle.page_state.specs.declared.step.Step.TheVariants.{ShareGuest, UnshareGuest, DonateGuest, GuestShareHost, GuestUnshareHost, ReclaimPage};
+ghost use Rattle.step_reply.specs.declared.step.Step.TheVariants.{ShareGuest, UnshareGuest, DonateGuest, GuestShareHost, GuestUnshareHost, ReclaimPage};
 ghost use Rattle.reference_model.specs.GuestRules.{guest_owner, two_pages as two_pages_of};
 
 use super::change;
@@ -15,9 +15,10 @@ use super::vms::SLOTS;
 use crate::pages::{entry_frame, is_free_page, is_in, is_mapped, leaf, with_state};
 use guest_component::Guest;
 use guest_steps::SharedPart;
-use page_state::{Entry, Layout, Owner, Page, Prot, Refusal, State, VmId};
+use page_state::{Entry, Layout, Owner, Page, Prot, State};
 use reference_model::Changes;
 use std::alloc::Allocator;
+use step_reply::{Refusal, VmId};
 
 /// A page of the host and a page of the guest change.
 fn two_pages(pfn: u64, host: Entry, gfn: u64, guest: Entry) -> Changes

@@ -5,15 +5,16 @@ ghost use Rattle.page_state.specs.LayoutView.{layout_of};
 ghost use Rattle.reference_model.specs.Answers.{decides};
 ghost use Rattle.reference_model.specs.Rely.{CanRely};
 ghost use Rattle.reference_model.specs.Used.{used_alone};
-ghost use Rattle.page_state.specs.declared.step.Step.TheVariants.{Fund, Unfund};
+ghost use Rattle.step_reply.specs.declared.step.Step.TheVariants.{Fund, Unfund};
 
 use super::change;
 use super::donate::may_donate;
 use crate::pages::{HYPERVISOR, hyp_page, leaf};
 use guest_steps::{CpuState, SharedPart};
-use page_state::{Entry, Layout, Page, PageRange, Prot, Refusal, State};
+use page_state::{Entry, Layout, Page, PageRange, Prot, State};
 use reference_model::{Changes, CpuChange, Update};
 use std::alloc::Allocator;
+use step_reply::Refusal;
 
 /// The host gives 1 to 512 memory frames into the CPU's hand, which must be empty. The frames go to the hypervisor, as those
 /// of a donation do.

@@ -5,14 +5,15 @@ ghost use Rattle.page_state.specs.LayoutView.{layout_of};
 ghost use Rattle.reference_model.specs.Answers.{decides};
 ghost use Rattle.reference_model.specs.State.{Cpu};
 ghost use Rattle.reference_model.specs.Used.{used_alone};
-ghost use Rattle.page_state.specs.declared.step.Step.TheVariants.{UnshareHyp};
+ghost use Rattle.step_reply.specs.declared.step.Step.TheVariants.{UnshareHyp};
 
 use super::change;
 use crate::pages::{hyp_page, is_in, leaf};
 use guest_steps::SharedPart;
-use page_state::{Entry, Layout, Page, Prot, Refusal, State};
+use page_state::{Entry, Layout, Page, Prot, State};
 use reference_model::Changes;
 use std::alloc::Allocator;
+use step_reply::Refusal;
 
 /// The host takes back a frame that it shares with the hypervisor: its page must be shared, and the hypervisor's page of the
 /// frame borrowed.

@@ -9,13 +9,13 @@ ghost use Rattle.reference_model.specs.Used.{vms_alone};
 ghost use Rattle.reference_model.specs.VmRules.{load_becomes};
 ghost use Rattle.reference_model.specs.declared.changes.Update.TheVariants.{Becomes};
 ghost use Rattle.reference_model.specs.Changes.{same_cpu};
-ghost use Rattle.page_state.specs.declared.step.Step.TheVariants.{VmReserve, VmOpen, VcpuLoad, VcpuPut, Teardown, VmRelease};
+ghost use Rattle.step_reply.specs.declared.step.Step.TheVariants.{VmReserve, VmOpen, VcpuLoad, VcpuPut, Teardown, VmRelease};
 ghost use Rattle.vm_table.specs.View.{vms_of};
 
 use crate::stages::is_stage;
 use guest_steps::CpuState;
-use page_state::{Refusal, Value, VmId, VmKind};
 use reference_model::{Changes, CpuChange, Loaded, SlotChange, Stage, Ticket, Update};
+use step_reply::{Refusal, Value, VmId, VmKind};
 use vm_table::VmTable;
 
 /// The most vCPUs of a VM (profile).

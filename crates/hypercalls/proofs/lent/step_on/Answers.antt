@@ -1,6 +1,6 @@
 use Rattle.std.proofs.Common.{◌≡◌, ◌+◌, ℕ, Option, sym, ap, subst, ◌∙◌, true}
 use Rattle.page_state.specs.LayoutView.{layout_of}
-use Rattle.page_state.specs.declared.reply.Call.{Call}
+use Rattle.step_reply.specs.declared.reply.Call.{Call}
 use Rattle.reference_model.specs.Step.{Answered}
 use Rattle.guest_steps.specs.Lent.{all_with, call_in, lent, logs_in, used_in}
 use Rattle.hypercalls.proofs.Stepping.{few_of, few_logs, suits_after, full_step, stored_step, same_logs}

@@ -1,6 +1,6 @@
 use Rattle.std.proofs.Common.{◌≡◌, ◌∙◌, ℕ, List, [], ap, sym, map, arith}
 use Rattle.std.specs.Prelude.{get_or, slice_get, Vec}
-use Rattle.page_state.specs.declared.reply.Call.{Call}
+use Rattle.step_reply.specs.declared.reply.Call.{Call}
 use Rattle.guest_steps.specs.Lent.{one}
 use Rattle.hypercalls.specs.Stands.{at_place}
 use Rattle.ghost_oracle.proofs.Founds.{one_at, placed, as_long}

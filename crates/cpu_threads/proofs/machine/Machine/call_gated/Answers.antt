@@ -1,7 +1,7 @@
 use Rattle.std.proofs.Common.{◌≡◌, refl, sym, ap, ◌∙◌, subst}
 use Rattle.std.proofs.lemmas.Bool.{false≢true}
-use Rattle.page_state.specs.declared.reply.Refusal.TheVariants.{Contended}
-use Rattle.page_state.specs.declared.reply.Reply.TheVariants.{Refused}
+use Rattle.step_reply.specs.declared.reply.Refusal.TheVariants.{Contended}
+use Rattle.step_reply.specs.declared.reply.Reply.TheVariants.{Refused}
 use Rattle.part_table.specs.Passes.{IsPassOf, Opened}
 use Rattle.cpu_threads.specs.Machines.{Machine}
 use Rattle.cpu_threads.proofs.Tries.{same_on}

@@ -1,7 +1,7 @@
 use Rattle.std.proofs.Common.{◌≡◌, ℕ, ◌<◌, Option, length, map, get_or, refl, sym, ap, ◌∙◌}
 use Rattle.std.proofs.lemmas.List.{get_or-map}
 use Rattle.std.proofs.lemmas.Result.{IfOk-from_err}
-use Rattle.page_state.specs.declared.reply.Reply.{Reply}
+use Rattle.step_reply.specs.declared.reply.Reply.{Reply}
 use Rattle.page_state.specs.LayoutView.{layout_of}
 use Rattle.page_state.proofs.Common.{same2}
 use Rattle.reference_model.specs.Parts.{names, guest_slot}

@@ -1,5 +1,0 @@
-use Rattle.std.proofs.Common.{rules}
-use Rattle.ghost_tests.proofs.sample.config.Goals as goal
-
-pub returns : goal.returns
-returns c = search rules

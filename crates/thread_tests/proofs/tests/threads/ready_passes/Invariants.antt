@@ -1,6 +1,0 @@
-use Rattle.std.proofs.Common.{◌≡◌}
-use Rattle.cpu_threads.specs.Ends.{AreOf}
-use Rattle.thread_tests.proofs.tests.threads.ready_passes.Given as goal
-
-abbrev pub invariant-loop-cpu : goal.invariant-loop-cpu
-invariant-loop-cpu g l = (l.machine.table ≡ l.initial.machine.table) × AreOf l.machine.table l.passes.items

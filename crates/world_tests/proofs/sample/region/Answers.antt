@@ -1,0 +1,5 @@
+use Rattle.std.proofs.Common.{rules}
+use Rattle.world_tests.proofs.sample.region.Goals as goal
+
+pub returns : goal.returns
+returns c = search rules

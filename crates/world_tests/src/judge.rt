@@ -1,0 +1,232 @@
+//! What the judge says of a step.
+ghost use Rattle.std.specs.Prelude.{◌≡◌, ◌<◌};
+ghost use Rattle.ghost_spec.specs.States.{IsKept};
+
+use crate::expect::expect_told;
+use crate::sample::{memory, started};
+use ghost_judge::disagreement::{Disagreement, TreeOf};
+use ghost_judge::judge::{differs, judge};
+use ghost_spec::state::Ghost;
+use page_state::{Entry, Frame, Kind, Owner, Page, PageRange, Prot, Row, State, Usage};
+use std::alloc::Global;
+use std::process::Abort;
+use step_reply::{Refusal, Reply, Step, Value};
+
+/// The boot state of two CPUs.
+fn booted(rt: &impl Abort, alloc: Global) -> Ghost
+    ensures kept { IsKept result }
+    ensures cpus { result.layout.config.cpus ≡ 2 }
+{
+    let map = memory(alloc, 0x40).expect(rt, "a memory");
+    let made = started(alloc, map, 2, 64).expect(rt, "memory");
+    made.expect(rt, "enough frames")
+}
+
+/// The one part of a state that changes.
+#[derive(Clone, Copy)]
+enum Change {
+    Nothing,
+    Pool,
+    Guest,
+    Slot,
+    Cpu,
+    Room,
+}
+
+/// The shared pool loses its last frame.
+fn lose_frame(state: &mut Ghost)
+    requires { IsKept state.old }
+    ensures kept { IsKept state.new }
+    ensures layout { state.new.layout ≡ state.old.layout }
+{
+    state.shared.free.pop();
+}
+
+/// The guest of a slot gets another generation.
+fn renew_guest(state: &mut Ghost)
+    requires { IsKept state.old }
+    ensures kept { IsKept state.new }
+    ensures layout { state.new.layout ≡ state.old.layout }
+{
+    state.guests[3].generation = 9;
+}
+
+/// The slot gets another generation.
+fn renew_slot(state: &mut Ghost)
+    requires { IsKept state.old }
+    ensures kept { IsKept state.new }
+    ensures layout { state.new.layout ≡ state.old.layout }
+{
+    state.vms[3].generation = 9;
+}
+
+/// The second CPU holds frames.
+fn hold(state: &mut Ghost)
+    requires kept { IsKept state.old }
+    requires cpus { 1 < state.old.layout.config.cpus }
+    ensures kept { IsKept state.new }
+    ensures layout { state.new.layout ≡ state.old.layout }
+{
+    state.cpus[1].hand = Some(PageRange {
+        first: Page(0x40100),
+        count: 1,
+    });
+}
+
+/// More calls can be stored.
+fn widen(state: &mut Ghost)
+    requires { IsKept state.old }
+    ensures kept { IsKept state.new }
+    ensures layout { state.new.layout ≡ state.old.layout }
+{
+    state.rooms.shared = 99;
+}
+
+fn make(state: &mut Ghost, change: Change)
+    requires kept { IsKept state.old }
+    requires cpus { 1 < state.old.layout.config.cpus }
+    ensures kept { IsKept state.new }
+    ensures layout { state.new.layout ≡ state.old.layout }
+{
+    match change {
+        Change::Nothing => {}
+        Change::Pool => lose_frame(state),
+        Change::Guest => renew_guest(state),
+        Change::Slot => renew_slot(state),
+        Change::Cpu => hold(state),
+        Change::Room => widen(state),
+    }
+}
+
+/// Compares the first difference from this state of one that is changed.
+fn expect_change_of(
+    rt: &impl Abort,
+    alloc: Global,
+    spec: &Ghost,
+    change: Change,
+    wanted: Option<Disagreement>,
+)
+    requires kept { IsKept spec.now }
+    requires cpus { 1 < spec.now.layout.config.cpus }
+{
+    let mut post = spec.copied(alloc).expect(rt, "memory");
+    make(&mut post, change);
+    let told = differs(alloc, &post, spec).expect(rt, "memory");
+    expect_told(rt, told, wanted);
+}
+
+/// Compares the first difference from the boot state of one that is changed.
+fn expect_change(rt: &impl Abort, alloc: Global, change: Change, wanted: Option<Disagreement>) {
+    let spec = booted(rt, alloc);
+    expect_change_of(rt, alloc, &spec, change, wanted);
+}
+
+#[test]
+fn tells_the_part_that_differs(rt: HostRuntime) {
+    let alloc = rt.alloc();
+    expect_change(&rt, alloc, Change::Nothing, None);
+    expect_change(&rt, alloc, Change::Room, None);
+    expect_change(&rt, alloc, Change::Pool, Some(Disagreement::Free));
+    expect_change(&rt, alloc, Change::Guest, Some(Disagreement::GuestFree(3)));
+    expect_change(&rt, alloc, Change::Slot, Some(Disagreement::Vm(3)));
+    expect_change(&rt, alloc, Change::Cpu, Some(Disagreement::Cpu(1)));
+}
+
+/// Compares the judgement of a step of this state that makes this change alone.
+fn expect_judged_of(
+    rt: &impl Abort,
+    alloc: Global,
+    pre: &Ghost,
+    step: Step,
+    reply: Reply,
+    change: Change,
+    wanted: Option<Disagreement>,
+)
+    requires kept { IsKept pre.now }
+    requires cpus { 1 < pre.now.layout.config.cpus }
+{
+    let mut post = pre.copied(alloc).expect(rt, "memory");
+    make(&mut post, change);
+    let told = judge(alloc, pre, 0, step, &reply, &post).expect(rt, "memory");
+    expect_told(rt, told, wanted);
+}
+
+/// Compares the judgement of a step of the boot state that makes this change alone.
+fn expect_judged(
+    rt: &impl Abort,
+    alloc: Global,
+    step: Step,
+    reply: Reply,
+    change: Change,
+    wanted: Option<Disagreement>,
+) {
+    let pre = booted(rt, alloc);
+    expect_judged_of(rt, alloc, &pre, step, reply, change, wanted);
+}
+
+/// The share of a page of the host, which is made.
+const SHARE: Step = Step::ShareHyp { pfn: 0x40100 };
+
+/// The share of a page of the carve-out, which is refused.
+const CARVED: Step = Step::ShareHyp { pfn: 0x40600 };
+
+/// A question.
+const ASKS: Step = Step::OwnerOf { pfn: 0x40100 };
+
+const DONE: Reply = Reply::Done(Value::Nothing);
+
+const PERM: Reply = Reply::Refused(Refusal::Perm);
+
+const SHORT: Reply = Reply::Refused(Refusal::NoMemory);
+
+#[test]
+fn judges_replies(rt: HostRuntime) {
+    let alloc = rt.alloc();
+    let wrong = Some(Disagreement::Reply {
+        said: PERM,
+        spec: DONE,
+    });
+    let free = Some(Disagreement::Free);
+    expect_judged(&rt, alloc, SHARE, PERM, Change::Nothing, wrong);
+    expect_judged(&rt, alloc, CARVED, PERM, Change::Nothing, None);
+    expect_judged(&rt, alloc, CARVED, PERM, Change::Pool, free);
+}
+
+#[test]
+fn judges_state_that_stayed(rt: HostRuntime) {
+    let stayed = Some(Disagreement::Map {
+        tree: TreeOf::Host,
+        page: 0x40100,
+        kept: Entry::Unmapped,
+        walked: Entry::Leaf {
+            frame: Frame(0x40100),
+            prot: Prot::RWX,
+            kind: Kind::Normal,
+            state: State::SharedOwned,
+        },
+    });
+    expect_judged(&rt, rt.alloc(), SHARE, DONE, Change::Nothing, stayed);
+}
+
+#[test]
+fn judges_want_of_memory(rt: HostRuntime) {
+    let alloc = rt.alloc();
+    let refused = Some(Disagreement::Reply {
+        said: SHORT,
+        spec: PERM,
+    });
+    let row = Row {
+        owner: Owner(0),
+        lent: None,
+        usage: Usage::Plain,
+    };
+    let told = Some(Disagreement::Reply {
+        said: SHORT,
+        spec: Reply::Done(Value::Row(row)),
+    });
+    let free = Some(Disagreement::Free);
+    expect_judged(&rt, alloc, SHARE, SHORT, Change::Nothing, None);
+    expect_judged(&rt, alloc, SHARE, SHORT, Change::Pool, free);
+    expect_judged(&rt, alloc, CARVED, SHORT, Change::Nothing, refused);
+    expect_judged(&rt, alloc, ASKS, SHORT, Change::Nothing, told);
+}

@@ -1,0 +1,279 @@
+//! CPUs on threads of their own.
+ghost use Rattle.std.specs.Prelude.{◌≡◌, ◌<◌, ◌^◌, IfOk, OnOk};
+ghost use Rattle.ghost_spec.specs.States.{IsKept};
+ghost use Rattle.part_table.specs.Passes.{IsPassOf};
+ghost use Rattle.cpu_threads.specs.Ends.{AreOf};
+
+use super::gates::{FIRST, SECOND, UNMAPPED, question};
+use super::rows::make_both;
+use super::*;
+use crate::numbers::Numbers;
+use crate::sample::started;
+use ghost_spec::state::Ghost;
+use std::alloc::AllocError;
+use std::sync::atomic::{AtomicU64, Ordering};
+use std::thread;
+use std::thread::{Threads, join};
+use world::World;
+
+/// The turns that are waited at most.
+const TURNS: u64 = 50_000_000;
+
+/// A call that holds its parts until another CPU's call was answered.
+#[derive(Drop)]
+struct Held {
+    taken: AtomicU64,
+    answered: AtomicU64,
+    late: AtomicU64,
+}
+
+/// Waits until a word is set, for so many turns at most, and tells whether it was set.
+fn is_set_in_time(word: &AtomicU64) -> bool {
+    for _ in 0..TURNS {
+        if word.load(Ordering::SeqCst) != 0 {
+            return true;
+        }
+    }
+    false
+}
+
+impl Gate for Held {
+    fn taken(&self, _cpu: u64, _number: u64) {
+        self.taken.store(1, Ordering::SeqCst);
+        if !is_set_in_time(&self.answered) {
+            self.late.store(1, Ordering::SeqCst);
+        }
+    }
+
+    fn answered(&self, _cpu: u64, _number: u64) {}
+}
+
+/// Asks about the first VM, and is held in the middle of the call.
+fn ask_held(machine: &Machine<Global>, pass: CpuPass<Global>, gate: &Held) -> Reply
+    requires { IsPassOf machine.now.table pass }
+{
+    let mut pass = pass;
+    machine.try_call_gated(gate, &mut pass, question(FIRST))
+}
+
+/// Asks about the second VM once the other call holds its parts.
+fn ask_beside(machine: &Machine<Global>, pass: CpuPass<Global>, gate: &Held) -> Option<Reply>
+    requires { IsPassOf machine.now.table pass }
+{
+    if !is_set_in_time(&gate.taken) {
+        return None;
+    }
+    let mut pass = pass;
+    let reply = machine.try_call(&mut pass, question(SECOND));
+    gate.answered.store(1, Ordering::SeqCst);
+    Some(reply)
+}
+
+#[test]
+fn gate_two_threads(rt: HostRuntime) {
+    let mut machine = new_machine(&rt, rt.alloc(), 2, 64);
+    let mut zero = machine.pass(0).expect(&rt, "the pass of CPU 0");
+    let mut one = machine.pass(1).expect(&rt, "the pass of CPU 1");
+    make_both(&rt, &machine, &mut zero, &mut one);
+    let gate = Held {
+        taken: AtomicU64::new(0),
+        answered: AtomicU64::new(0),
+        late: AtomicU64::new(0),
+    };
+    let (shared, held) = (&machine, &gate);
+    let (first, second) = join(
+        &rt,
+        || ask_held(shared, zero, held),
+        || ask_beside(shared, one, held),
+    );
+    assert_eq!(rt; first, UNMAPPED);
+    assert!(rt; second == Some(UNMAPPED));
+    assert_eq!(rt; gate.late.load(Ordering::SeqCst), 0);
+    drop(machine);
+}
+
+/// The CPUs of the many calls.
+const CPUS: u64 = 8;
+
+/// The calls of each.
+const CALLS: u64 = 2_000;
+
+/// The calls that a log holds: each CPU's, with those that make its VM.
+const LOG: u64 = CPUS * (CALLS + 4);
+
+/// The VM that a CPU makes.
+fn vm_of(cpu: u64) -> VmId {
+    VmId {
+        slot: cpu,
+        generation: 1,
+    }
+}
+
+/// A CPU that makes calls by chance.
+#[derive(Drop)]
+struct Caller {
+    cpu: u64,
+    numbers: Numbers,
+}
+
+impl Caller {
+    /// A frame that several CPUs ask for.
+    fn frame(&mut self) -> u64
+        ensures { result < 2 ^ 32 }
+    {
+        0x40100 + self.numbers.below(24)
+    }
+
+    /// An input page of a guest.
+    fn guest_page(&mut self) -> u64 {
+        0x80000 + self.numbers.below(4)
+    }
+
+    /// A call about the host, the hypervisor or an owner.
+    fn step_of_host(&mut self) -> Step {
+        let pfn = self.frame();
+        match self.numbers.below(7) {
+            0 => Step::ShareHyp { pfn },
+            1 => Step::UnshareHyp { pfn },
+            2 => Step::DonateHyp { pfn, n: 1 },
+            3 => Step::HypDonateHost { pfn, n: 1 },
+            4 => Step::HostAbort { page: pfn },
+            5 => Step::HostTranslate { page: pfn },
+            _ => Step::OwnerOf { pfn },
+        }
+    }
+
+    /// A call about a guest, mostly the CPU's own.
+    fn step_of_guest(&mut self) -> Step {
+        let other = self.numbers.below(CPUS);
+        let is_own = self.numbers.below(4) > 0;
+        let vm = vm_of(if is_own { self.cpu } else { other });
+        let gfn = self.guest_page();
+        let pfn = self.frame();
+        match self.numbers.below(9) {
+            0 => Step::VcpuLoad { vm, vcpu: 0 },
+            1 => Step::VcpuPut,
+            2 | 3 => Step::DonateGuest { pfn, gfn },
+            4 => Step::GuestShareHost { gfn },
+            5 => Step::GuestUnshareHost { gfn },
+            6 => Step::ReclaimPage { vm, gfn },
+            _ => Step::GuestTranslate { vm, gfn },
+        }
+    }
+
+    /// Any call.
+    fn step(&mut self) -> Step {
+        if self.numbers.below(2) == 0 {
+            self.step_of_host()
+        } else {
+            self.step_of_guest()
+        }
+    }
+}
+
+/// Makes a call: it is tried again while another CPU has a part that it uses.
+fn make(machine: &Machine<Global>, pass: &mut CpuPass<Global>, step: Step)
+    requires { IsPassOf machine.now.table pass.old }
+    ensures { IsPassOf machine.now.table pass.new }
+{
+    for _ in 0..TURNS {
+        let reply = machine.try_call(pass, step);
+        if reply != Reply::Refused(Refusal::Contended) {
+            return;
+        }
+    }
+}
+
+/// Makes many calls of a CPU.
+fn make_many(machine: &Machine<Global>, pass: &mut CpuPass<Global>)
+    requires { IsPassOf machine.now.table pass.old }
+    ensures { IsPassOf machine.now.table pass.new }
+{
+    let cpu = pass.cpu();
+    let mut caller = Caller {
+        cpu,
+        numbers: Numbers::of(cpu),
+    };
+    for _ in 0..CALLS {
+        let step = caller.step();
+        make(machine, pass, step);
+    }
+}
+
+/// Makes the calls of all CPUs, each on a thread of its own.
+fn make_all<R: Threads + Sync>(rt: &R, machine: &Machine<Global>, passes: &mut [CpuPass<Global>])
+    requires { AreOf machine.now.table passes.old }
+    ensures { AreOf machine.now.table passes.new }
+{
+    thread::for_each_mut(
+        rt,
+        passes,
+        CPUS as usize,
+        &|_: usize, pass: &mut CpuPass<Global>|
+            requires { IsPassOf machine.now.table pass.now }
+            ensures { IsPassOf machine.entry.now.table pass.exit.now }
+        { make_many(machine, pass) },
+    );
+}
+
+/// The passes of all CPUs, each with a VM of its own.
+fn ready_passes<R: Wait + Abort>(
+    rt: &R,
+    alloc: Global,
+    machine: &mut Machine<Global>,
+) -> Result<Vec<CpuPass<Global>>, AllocError>
+    ensures table { machine.new.table ≡ machine.old.table }
+    ensures passes { IfOk result (λ v. AreOf machine.new.table v.items) }
+{
+    let mut passes = Vec::with_capacity(alloc, CPUS as usize)?;
+    for cpu in 0..CPUS {
+        let mut pass = machine.pass(cpu as usize).expect(rt, "a pass");
+        let asked = (VmKind::Protected, 1, 0x40400 + 8 * cpu, 4);
+        expect_init(rt, machine, &mut pass, asked, Ok(vm_of(cpu)));
+        passes.push(pass)?;
+    }
+    Ok(passes)
+}
+
+/// Makes a call on lists, and compares its reply.
+fn agrees(
+    rt: &impl Abort,
+    alloc: Global,
+    lists: &mut Ghost,
+    call: &(u64, Step, Reply),
+) -> Result<(), AllocError>
+    requires kept { IsKept lists.old }
+    ensures kept { OnOk result (IsKept lists.new) }
+{
+    let (cpu, step, reply) = *call;
+    assert!(rt; cpu < lists.layout.config.cpus);
+    let foretold = lists.advance(alloc, cpu, step)?;
+    assert_eq!(rt; reply, foretold);
+    Ok(())
+}
+
+/// Makes the calls of one list on lists, from boot on.
+fn all_agree(rt: &impl Abort, alloc: Global, calls: &[(u64, Step, Reply)]) {
+    let map = memory(alloc, 0x40).expect(rt, "a layout");
+    let begun = started(alloc, map, CPUS, LOG).expect(rt, "memory");
+    let mut lists = begun.expect(rt, "enough frames");
+    for call in calls {
+        agrees(rt, alloc, &mut lists, call).expect(rt, "memory");
+    }
+    drop(lists);
+}
+
+#[test]
+fn eight_cpus(rt: HostRuntime) {
+    let alloc = rt.alloc();
+    let mut machine = new_machine(&rt, alloc, CPUS, LOG);
+    let mut passes = ready_passes(&rt, alloc, &mut machine).expect(&rt, "memory");
+    make_all(&rt, &machine, passes.as_mut_slice());
+    let ended = machine.shutdown(alloc, passes);
+    let world = ended.ok().expect(&rt, "a machine that is shut down");
+    let logs = world.histories(alloc).expect(&rt, "memory");
+    drop(world);
+    let calls = World::<Global>::merge(alloc, &logs).expect(&rt, "merged logs");
+    assert_eq!(rt; calls.len() as u64, LOG);
+    all_agree(&rt, alloc, calls.as_slice());
+}

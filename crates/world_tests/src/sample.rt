@@ -1,0 +1,71 @@
+//! What tests begin with: memory, a configuration, and the boot state on lists.
+ghost use Rattle.std.specs.Prelude.{◌≡◌, ◌<◌, ◌↔◌, [], ◌∷◌, IfOk, IfSome, IsSome};
+ghost use Rattle.reference_model.specs.Boot.{IsCarveEnough};
+ghost use Rattle.ghost_spec.specs.States.{IsKept};
+
+use ghost_spec::start::start;
+use ghost_spec::state::Ghost;
+use page_state::{
+    Config, Geometry, Layout, LayoutFault, MemoryMap, Page, PageRange, Region, RegionKind,
+};
+use std::alloc::{AllocError, Global};
+
+/// A region of so many pages.
+pub(crate) fn region(kind: RegionKind, first: u64, count: u64) -> Region
+    ensures { result ≡ record { kind = kind; pages = record { first = record { 0 = first }; count = count } } }
+{
+    let pages = PageRange {
+        first: Page(first),
+        count,
+    };
+    Region { kind, pages }
+}
+
+/// 16 pages of a device from page 0x9000 on, and 2,048 of memory from 0x40000 on, with a carve-out of so many frames at
+/// 0x40600. Refused where the carve-out is empty or ends past the memory.
+pub(crate) fn memory(alloc: Global, frames: u64) -> Result<MemoryMap, LayoutFault>
+    ensures regions { IfOk result (λ m. m.regions ≡ record { kind = RegionKind.Device; pages = record { first = record { 0 = 0x9000 }; count = 16 } } ∷ record { kind = RegionKind.Memory; pages = record { first = record { 0 = 0x40000 }; count = 0x800 } } ∷ []) }
+    ensures carve { IfOk result (λ m. m.carve ≡ record { first = record { 0 = 0x40600 }; count = frames }) }
+{
+    let regions = [
+        region(RegionKind::Device, 0x9000, 16),
+        region(RegionKind::Memory, 0x40000, 0x800),
+    ];
+    let carve = PageRange {
+        first: Page(0x40600),
+        count: frames,
+    };
+    MemoryMap::new(alloc, regions.as_slice(), carve)
+}
+
+/// A configuration of 39 bits.
+pub(crate) fn config(cpus: u64, log: u64) -> Config
+    ensures { result ≡ record { cpus = cpus; log = log; geometry = 39 } }
+{
+    Config {
+        cpus,
+        log,
+        geometry: 39,
+    }
+}
+
+/// The boot state of a memory. None where its carve-out has too few frames.
+pub(crate) fn started(
+    alloc: Global,
+    map: MemoryMap,
+    cpus: u64,
+    log: u64,
+) -> Result<Option<Ghost>, AllocError>
+    requires { 0 < cpus }
+    ensures enough { IfOk result (λ o. IsSome o ↔ IsCarveEnough (record { memory = map; config = record { cpus = cpus; log = log; geometry = 39 }; depth = 2 })) }
+    ensures config { IfOk result (λ o. IfSome o (λ g. g.layout.config ≡ record { cpus = cpus; log = log; geometry = 39 })) }
+    ensures memory { IfOk result (λ o. IfSome o (λ g. g.layout.map ≡ map)) }
+    ensures kept { IfOk result (λ o. IfSome o IsKept) }
+{
+    let layout = Layout {
+        map,
+        config: config(cpus, log),
+        geometry: Geometry::Bits39,
+    };
+    start(alloc, layout)
+}
