@@ -3,4 +3,6 @@ mod RowsFound
 mod RowsKept
 mod RowsLaid
 mod RowsPages
+mod RowsPushed
 mod RowsTold
+mod RowsWhole

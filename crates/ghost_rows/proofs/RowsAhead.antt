@@ -14,9 +14,6 @@ use Rattle.page_state.specs.Map.{is_within}
 use Rattle.page_state.specs.Regions.{end_of, is_in_range}
 use Rattle.page_state.specs.Runs.{map_of, run_end, entry_on, IsCoarsest}
 use Rattle.page_state.proofs.Cases.{by_test}
-use Rattle.run_list.specs.declared.run.Run.{Run as RowRun}
-use Rattle.run_list.specs.Runs.{EndBefore}
-use Rattle.run_list.proofs.Maps.{ends_later}
 use Rattle.ghost_spec.specs.Found.{run_page}
 use Rattle.ghost_trees.proofs.Coarse.{BeginsFrom, begins_before, begins_next}
 use Rattle.ghost_trees.proofs.Overlaid.{within_means}
@@ -35,17 +32,13 @@ begins_at low (r ∷ rs) zero d c b h = b
 begins_at low (r ∷ rs) (suc i) d c b h = begins_at low rs i d c.2 (begins_before low (run_end r) rs (omega (arith, b)) (begins_next r rs c.1)) (omega (arith, h))
 
 -- a run begins where the one in front of it ends, or behind that
-next_begins : (rs : List Run) (i : ℕ) (d e : Run) → IsCoarsest rs → i + 1 < length rs → run_end (get_or rs i d) ≤ (get_or rs (i + 1) e).pages.first.0
+pub next_begins : (rs : List Run) (i : ℕ) (d e : Run) → IsCoarsest rs → i + 1 < length rs → run_end (get_or rs i d) ≤ (get_or rs (i + 1) e).pages.first.0
 next_begins rs i d e c h = let next : i + 1 ≡ suc i = omega arith in subst (λ (j : ℕ). run_end (get_or rs i d) ≤ (get_or rs j e).pages.first.0) (sym next) (there rs i d e c (omega (arith, h)))
   where
     there : (rs : List Run) (i : ℕ) (d e : Run) → IsCoarsest rs → suc i < length rs → run_end (get_or rs i d) ≤ (get_or rs (suc i) e).pages.first.0
     there [] i d e c h = absurd (omega (arith, h))
     there (r ∷ rs) zero d e c h = begins_at (run_end r) rs 0 e c.2 (begins_next r rs c.1) (omega (arith, h))
     there (r ∷ rs) (suc i) d e c h = there rs i d e c.2 (omega (arith, h))
-
--- so rows that end with a run's pages stand in front of the next run
-pub behind_next : (rs : List Run) (i : ℕ) (d e : Run) (rows : List (RowRun Row)) → IsCoarsest rs → i + 1 < length rs → EndBefore (run_end (get_or rs i d) + 1) rows → EndBefore ((get_or rs (i + 1) e).pages.first.0 + 1) rows
-behind_next rs i d e rows c h b = let next = next_begins rs i d e c h in ends_later (run_end (get_or rs i d) + 1) ((get_or rs (i + 1) e).pages.first.0 + 1) rows (omega (arith, next)) b
 
 outside : (a n p : ℕ) → a + n ≤ p → is_within a n p ≡ false
 outside a n p h = grind (arith, nat_tests)

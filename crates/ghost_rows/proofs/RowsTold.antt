@@ -72,12 +72,12 @@ run-on r rest low high f c more none a b =
     ∙ sym (ap (λ (o : Option Row). option_advance advance_row o (f - low)) (run_in advance_row r rest low h more)
     ∙ ap Some (row_laws.more r.value (low - r.pages.first.0) (f - low) ∙ ap (λ (n : ℕ). advance_row r.value n) offset)))
 
-skipped : (q i : ℕ) (rs : List (Run Row)) (f : ℕ) → EndBefore q (take i rs) → q ≤ f + 1 → run_map advance_row rs f ≡ run_map advance_row (drop i rs) f
+pub skipped : (q i : ℕ) (rs : List (Run Row)) (f : ℕ) → EndBefore q (take i rs) → q ≤ f + 1 → run_map advance_row rs f ≡ run_map advance_row (drop i rs) f
 skipped q zero rs f e h = refl
 skipped q (suc i) [] f e h = refl
 skipped q (suc i) (r ∷ rs) f e h = run_high advance_row r rs f (omega (arith, e.0, h)) ∙ skipped q i rs f e.1 h
 
-from_place : (i : ℕ) (rs : List (Run Row)) → IsCoarsest advance_row rs → IsCoarsest advance_row (drop i rs)
+pub from_place : (i : ℕ) (rs : List (Run Row)) → IsCoarsest advance_row rs → IsCoarsest advance_row (drop i rs)
 from_place zero rs c = c
 from_place (suc i) [] c = tt
 from_place (suc i) (r ∷ rs) c = from_place i rs c.2

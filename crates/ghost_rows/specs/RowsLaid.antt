@@ -12,10 +12,11 @@ use Rattle.page_state.specs.declared.entry.Target.TheVariants.{Leaf}
 use Rattle.page_state.specs.declared.row.Row.{Row}
 use Rattle.page_state.specs.declared.row.Usage.{Usage}
 use Rattle.page_state.specs.declared.row.Usage.TheVariants.{Plain, SharedPool, VmPool, InHand}
+use Rattle.page_state.specs.Entries.{entry_of_target}
 use Rattle.page_state.specs.EntryTests.{state_eq}
 use Rattle.page_state.specs.Layouts.{Layout}
 use Rattle.page_state.specs.Regions.{end_of, is_in_range}
-use Rattle.page_state.specs.Runs.{entry_on}
+use Rattle.page_state.specs.Runs.{entry_on, run_end}
 use Rattle.page_state.specs.Map.{Map}
 use Rattle.page_state.specs.Trees.{Tree, Pool}
 use Rattle.reference_model.specs.Owner.{page_of, lent_at, is_free, is_table_frame, is_in_hand}
@@ -52,6 +53,10 @@ annotated_row other = None
 -- the row of a run's owner, on its pages
 abbrev pub annotation_on : Run → ℕ → Option Row
 annotation_on r f = if is_in_range r.pages f then annotated_row (entry_on r f) else None
+
+-- where the pages of an annotated run end, and the page given where it isn't annotated
+abbrev pub annotated_end : ℕ → Run → ℕ
+annotated_end high r = elim (annotated_row (entry_of_target r.target)) [ Some row ↦ run_end r | None ↦ high ]
 
 -- lent to the component of a number at its page, as a row
 abbrev pub loan_row : ℕ → ℕ → Row

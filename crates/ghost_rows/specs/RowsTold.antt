@@ -1,5 +1,6 @@
 -- The row of a frame by four lists, and pieces of frames along which they go on.
-use Rattle.std.specs.Prelude.{◌≡◌, ℕ, ◌+◌, ◌<◌, ◌≤◌, Bool, true, false, ◌==◌, List, take, length, get_or, Option, Some, None}
+use Rattle.std.specs.Prelude.{◌≡◌, ℕ, ◌+◌, ◌<◌, ◌≤◌, Bool, true, false, ◌==◌, List, take, length, get_or, Option, Some, None, ◌&&◌}
+use Rattle.page_state.specs.declared.entry.PageRange.{PageRange}
 use Rattle.page_state.specs.declared.row.Lent.{Lent}
 use Rattle.page_state.specs.declared.row.Row.{Row}
 use Rattle.page_state.specs.declared.row.Usage.{Usage}
@@ -8,9 +9,11 @@ use Rattle.page_state.specs.Rows.{advance_row, HasPageBelow}
 use Rattle.run_list.specs.declared.run.Run.{Run}
 use Rattle.run_list.specs.Runs.{run_end, run_map, value_on, EndBefore, AreInReach}
 use Rattle.run_list.specs.Parts.{IsEndedAt}
+use Rattle.ghost_rows.specs.declared.rows.kept.Near.{Near}
 use Rattle.ghost_rows.specs.declared.rows.pieces.Lists.{Lists}
 use Rattle.ghost_rows.specs.declared.rows.pieces.Stand.{Stand}
 use Rattle.ghost_rows.specs.declared.rows.pieces.Stands.{Stands}
+use Rattle.ghost_rows.specs.declared.rows.pieces.Steady.{Steady}
 
 -- to whom a row's frame is lent
 abbrev pub lent_told : Option Row → Option Lent
@@ -49,9 +52,35 @@ told x f = row_told (run_map advance_row x.annotated.runs f) (run_map advance_ro
 abbrev pub IsTold : Lists → Run Row → Type 0
 IsTold x r = (f : ℕ) → r.pages.first.0 ≤ f → f < run_end r → told x f ≡ value_on advance_row r f
 
--- and of those from one on
-abbrev pub IsToldFrom : Lists → Run Row → ℕ → Type 0
-IsToldFrom x r from = (f : ℕ) → from ≤ f → f < run_end r → told x f ≡ value_on advance_row r f
+-- a row of an owner, a loan and a use
+abbrev pub row_with : ℕ → Option Lent → Usage → Row
+row_with owner lent usage = record { owner = record { 0 = owner }; lent = lent; usage = usage }
+
+-- the owner of a frame that is lent and not annotated: who shares it where the host borrows it, and else the host
+abbrev pub lender : Option Lent → ℕ → ℕ
+lender lent sharer = elim (is_of_host lent) [ true ↦ sharer | false ↦ 0 ]
+
+-- the lists tell so who shares a frame, and what holds it
+pub record IsSteady (x : Lists) (s : Steady) (f : ℕ) : Type 0 where
+  pub sharer : number_told (lent_told (run_map advance_row x.shared.runs f)) ≡ s.sharer.0
+  pub usage : usage_told (run_map advance_row x.used.runs f) ≡ s.usage
+
+-- and so of each frame from one on
+abbrev pub AreSteady : ℕ → Steady → Lists → Type 0
+AreSteady frame s x = (f : ℕ) → frame ≤ f → f < s.until → IsSteady x s f
+
+-- none is shared, and none used
+abbrev pub quiet_to : ℕ → Steady
+quiet_to until = record { until = until; sharer = record { 0 = 0 }; usage = Plain }
+
+-- in no use
+abbrev pub is_plain : Usage → Bool
+is_plain Plain = true
+is_plain other = false
+
+-- the frames aren't shared, and in no use
+abbrev pub is_quiet : Steady → Bool
+is_quiet s = s.sharer.0 == 0 && is_plain s.usage
 
 -- the numbers of each list are small
 pub record AreReached (x : Lists) : Type 0 where
@@ -97,3 +126,29 @@ pub record AreCarried (frame : ℕ) (s : Stands) (x : Lists) : Type 0 where
   pub lent : IsCarried frame s.lent x.lent.runs
   pub shared : IsCarried frame s.shared x.shared.runs
   pub used : IsCarried frame s.used x.used.runs
+
+-- the run at a place has these frames and no others
+pub record IsOn (pages : PageRange) (place : ℕ) (rs : List (Run Row)) : Type 0 where
+  pub within : place < length rs
+  pub first : (d : Run Row) → (get_or rs place d).pages.first.0 ≡ pages.first.0
+  pub count : (d : Run Row) → (get_or rs place d).pages.count ≡ pages.count
+
+-- a run has just the frames of the annotation at a place, and what is told of them
+pub record IsAnnotatedOn (r : Run Row) (s : Steady) (place : ℕ) (rs : List (Run Row)) : Type 0 where
+  pub on : IsOn r.pages place rs
+  pub same : (d : Run Row) → r.value ≡ row_with (get_or rs place d).value.owner.0 None s.usage
+
+-- a run has just the frames of the loan at a place, and what is told of them
+pub record IsLentOn (r : Run Row) (s : Steady) (place : ℕ) (rs : List (Run Row)) : Type 0 where
+  pub on : IsOn r.pages place rs
+  pub same : (d : Run Row) → r.value ≡ row_with (lender (get_or rs place d).value.lent s.sharer.0) (get_or rs place d).value.lent s.usage
+
+-- a run that the lists tell as a whole: where they stand goes on to its end
+pub record IsPassed (x : Lists) (r : Run Row) (s : Stands) : Type 0 where
+  pub told : IsTold x r
+  pub carried : AreCarried (run_end r) s x
+
+-- where each list stood at a frame before, and how far from there on none is shared and none used
+pub record AreNear (frame : ℕ) (n : Near) (x : Lists) : Type 0 where
+  pub carried : AreCarried frame n.stands x
+  pub quiet : AreSteady frame (quiet_to n.quiet) x

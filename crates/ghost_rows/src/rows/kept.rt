@@ -1,32 +1,46 @@
-//! Kept rows, compared piece by piece with what the lists tell.
-ghost use Rattle.std.specs.Prelude.{◌↔◌, ◌≤◌, All, IsTrue};
+//! Kept rows, compared with what the lists tell: a run as a whole where it is annotated, or lent, or neither, from its first frame
+//! to its last, and else piece by piece.
+ghost use Rattle.std.specs.Prelude.{◌≡◌, ◌↔◌, ◌≤◌, true, false, All, IsTrue, drop};
 ghost use Rattle.page_state.specs.Rows.{advance_row, HasPageBelow};
-ghost use Rattle.run_list.specs.Runs.{run_end, InReach, IsCoarsest, AreInReach};
-ghost use Rattle.ghost_rows.specs.RowsTold.{AreReached, AreCarried, IsTold, IsToldFrom};
+ghost use Rattle.run_list.specs.Runs.{run_end, InReach, IsCoarsest, AreInReach, StartsFrom};
+ghost use Rattle.ghost_rows.specs.RowsTold.{lender, row_with, AreReached, AreCarried, AreNear, AreSteady, IsAnnotatedOn, IsLentOn, IsOn, IsPassed, IsTold};
 
-use super::pieces::{Lists, Stands};
-use page_state::Row;
+use super::pieces::{Lists, Stands, Steady, is_of_host};
+use page_state::{Lent, Owner, PageRange, Row};
 use run_list::{Advance, Run};
 
-/// Whether the lists tell of each frame of a run, from one on, what the run has there. If they do, where they stand goes on to its
-/// end.
-#[inline(never)]
-fn is_rest_told(lists: &Lists, near: &mut Stands, run: &Run<Row>, from: u64) -> bool
+/// Where the comparison stands at a frame.
+#[derive(Clone, Copy)]
+pub(crate) struct Near {
+    /// Where each list stands.
+    stands: Stands,
+    /// A frame: from the one at which the lists stand up to it, none is shared and none used.
+    quiet: u64,
+}
+
+impl Near {
+    /// In front of all runs, and of each frame.
+    const FIRST: Near = Near {
+        stands: Stands::FIRST,
+        quiet: 0,
+    };
+}
+
+/// Whether the lists tell of each frame of a run what the run has there. If they do, where they stand goes on to its end.
+fn are_pieces_told(lists: &Lists, stands: &mut Stands, run: &Run<Row>) -> bool
     requires lists { AreReached lists.now }
     requires run { InReach HasPageBelow run.now }
-    requires from { run.now.pages.first.0 ≤ from }
-    requires within { from ≤ run_end run.now }
-    requires near { AreCarried from near.old lists.now }
-    ensures told { IsTrue result ↔ IsToldFrom lists.now run.now from }
-    ensures near { IsTrue result → AreCarried (run_end run.now) near.new lists.now }
+    requires stands { AreCarried run.now.pages.first.0 stands.old lists.now }
+    ensures told { IsTrue result ↔ IsTold lists.now run.now }
+    ensures stands { IsTrue result → AreCarried (run_end run.now) stands.new lists.now }
 {
     let first = run.pages.first.0;
     let end = first + run.pages.count;
-    let mut low = from;
+    let mut low = first;
     while low < end {
-        let high = lists.look(near, low, end);
+        let high = lists.look(stands, low, end);
         if !lists
-            .row(near, low)
+            .row(stands, low)
             .is_same(run.value.advanced(low - first))
         {
             return false;
@@ -36,28 +50,144 @@ fn is_rest_told(lists: &Lists, near: &mut Stands, run: &Run<Row>, from: u64) -> 
     true
 }
 
-/// The same from its first frame on. Most runs are one piece, which is compared as it stands.
+/// Whether no run of a list, from a place on, begins before a frame.
 #[inline(always)]
-fn is_told(lists: &Lists, near: &mut Stands, run: &Run<Row>) -> bool
-    requires lists { AreReached lists.now }
-    requires run { InReach HasPageBelow run.now }
-    requires near { AreCarried run.now.pages.first.0 near.old lists.now }
-    ensures told { IsTrue result ↔ IsTold lists.now run.now }
-    ensures near { IsTrue result → AreCarried (run_end run.now) near.new lists.now }
+fn is_clear(runs: &[Run<Row>], place: usize, end: u64) -> bool
+    ensures { IsTrue result ↔ StartsFrom end (drop place runs.now) }
 {
-    let first = run.pages.first.0;
-    let end = first + run.pages.count;
-    if first == end {
-        return true;
-    }
-    let high = lists.look(near, first, end);
-    if !lists.row(near, first).is_same(run.value) {
+    place >= runs.len() || end <= runs[place].pages.first.0
+}
+
+/// Whether the run of a list at a place has these frames and no others.
+#[inline(always)]
+fn is_on(runs: &[Run<Row>], place: usize, pages: PageRange) -> bool
+    ensures { IsTrue result ↔ IsOn pages place runs.now }
+{
+    if place >= runs.len() {
         return false;
     }
-    if high == end {
+    let own = runs[place].pages;
+    own.first.0 == pages.first.0 && own.count == pages.count
+}
+
+/// The owner of a frame that is lent and not annotated: who shares it where the host borrows it, and else the host.
+#[inline(always)]
+fn lender_of(lent: Option<Lent>, sharer: Owner) -> Owner
+    ensures { result.0 ≡ lender lent sharer.0 }
+{
+    if is_of_host(lent) { sharer } else { Owner(0) }
+}
+
+/// Whether a row has this owner, this loan, and what is told to hold its frame.
+#[inline(always)]
+fn is_row(row: Row, owner: Owner, lent: Option<Lent>, steady: Steady) -> bool
+    ensures { IsTrue result ↔ (row ≡ row_with owner.0 lent steady.usage) }
+{
+    row.is_same(Row {
+        owner,
+        lent,
+        usage: steady.usage,
+    })
+}
+
+/// Whether a run has just the frames of the annotation at a place, and what is told of them.
+#[inline(always)]
+fn is_annotated_on(annotated: &[Run<Row>], place: usize, steady: Steady, run: &Run<Row>) -> bool
+    ensures { IsTrue result ↔ IsAnnotatedOn run.now steady place annotated.now }
+{
+    if !is_on(annotated, place, run.pages) {
+        return false;
+    }
+    is_row(run.value, annotated[place].value.owner, None, steady)
+}
+
+/// Whether a run has just the frames of the loan at a place, and what is told of them.
+#[inline(always)]
+fn is_lent_on(lent: &[Run<Row>], place: usize, steady: Steady, run: &Run<Row>) -> bool
+    ensures { IsTrue result ↔ IsLentOn run.now steady place lent.now }
+{
+    if !is_on(lent, place, run.pages) {
+        return false;
+    }
+    let to = lent[place].value.lent;
+    is_row(run.value, lender_of(to, steady.sharer), to, steady)
+}
+
+/// Whether a run has what is told of its frames, where these are told as a whole: none of them is annotated or lent, or one run of
+/// either list has just these, and up to its end it is known who shares them and what holds them. If so, where the lists stand goes
+/// on to its end, and else it stays.
+#[inline(always)]
+fn is_told_whole(lists: &Lists, stands: &mut Stands, steady: Steady, run: &Run<Row>) -> bool
+    requires run { InReach HasPageBelow run.now }
+    requires stands { AreCarried run.now.pages.first.0 stands.old lists.now }
+    requires steady { AreSteady run.now.pages.first.0 steady lists.now }
+    ensures passed { result ≡ true → IsPassed lists.now run.now stands.new }
+    ensures stays { result ≡ false → stands.new ≡ stands.old }
+{
+    let end = run.pages.first.0 + run.pages.count;
+    if steady.until < end {
+        return false;
+    }
+    let annotated = lists.annotated.runs();
+    let lent = lists.lent.runs();
+    let owner_place = stands.annotated.place;
+    let loan_place = stands.lent.place;
+    if is_clear(annotated, owner_place, end) {
+        if is_clear(lent, loan_place, end) {
+            return is_row(run.value, Owner(0), None, steady);
+        }
+        if !is_lent_on(lent, loan_place, steady, run) {
+            return false;
+        }
+        stands.lent.place = loan_place + 1;
         return true;
     }
-    is_rest_told(lists, near, run, high)
+    if !is_clear(lent, loan_place, end) {
+        return false;
+    }
+    if !is_annotated_on(annotated, owner_place, steady, run) {
+        return false;
+    }
+    stands.annotated.place = owner_place + 1;
+    true
+}
+
+/// Whether the lists tell of each frame of a run what the run has there. If they do, where they stand goes on to its end. Who shares
+/// its frames and what holds them is looked up first.
+#[inline(never)]
+fn is_told_anew(lists: &Lists, near: &mut Near, run: &Run<Row>) -> bool
+    requires lists { AreReached lists.now }
+    requires run { InReach HasPageBelow run.now }
+    requires near { AreNear run.now.pages.first.0 near.old lists.now }
+    ensures told { IsTrue result ↔ IsTold lists.now run.now }
+    ensures near { IsTrue result → AreNear (run_end run.now) near.new lists.now }
+{
+    let steady = lists.steady(&mut near.stands, run.pages.first.0);
+    near.quiet = steady.quiet();
+    if is_told_whole(lists, &mut near.stands, steady, run) {
+        return true;
+    }
+    if !are_pieces_told(lists, &mut near.stands, run) {
+        return false;
+    }
+    lists.go_on(&mut near.stands, run.pages.first.0 + run.pages.count);
+    true
+}
+
+/// The same. Most runs are told as a whole, and none of their frames is shared or used.
+#[inline(always)]
+fn is_told(lists: &Lists, near: &mut Near, run: &Run<Row>) -> bool
+    requires lists { AreReached lists.now }
+    requires run { InReach HasPageBelow run.now }
+    requires near { AreNear run.now.pages.first.0 near.old lists.now }
+    ensures told { IsTrue result ↔ IsTold lists.now run.now }
+    ensures near { IsTrue result → AreNear (run_end run.now) near.new lists.now }
+{
+    let quiet = Steady::quiet_to(near.quiet);
+    if is_told_whole(lists, &mut near.stands, quiet, run) {
+        return true;
+    }
+    is_told_anew(lists, near, run)
 }
 
 /// Whether they tell of each frame of rows what these have there. Where each list stands goes on with the runs, so that no list
@@ -68,7 +198,7 @@ pub(crate) fn are_told(lists: &Lists, rows: &[Run<Row>]) -> bool
     requires reach { AreInReach HasPageBelow rows.now }
     ensures { IsTrue result ↔ All (IsTold lists.now) rows.now }
 {
-    let mut near = Stands::FIRST;
+    let mut near = Near::FIRST;
     for i in 0..rows.len() {
         if !is_told(lists, &mut near, &rows[i]) {
             return false;

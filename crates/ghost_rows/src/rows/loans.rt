@@ -1,5 +1,5 @@
 //! Annotations of frames, and loans: which component maps a frame first, and at which page.
-ghost use Rattle.std.specs.Prelude.{◌≡◌, ℕ, ◌+◌, ◌-◌, ◌≤◌, ◌^◌, IfOk, IfSome, OnOk, is_some, length, min};
+ghost use Rattle.std.specs.Prelude.{◌≡◌, ℕ, ◌+◌, ◌-◌, ◌<◌, ◌≤◌, ◌^◌, IfOk, IfSome, OnOk, is_some, length, min};
 ghost use Rattle.std.specs.List.{list_any};
 ghost use Rattle.std.specs.Option.{option_or, ForSome};
 ghost use Rattle.page_state.specs.Entries.{entry_of_target};
@@ -16,9 +16,9 @@ ghost use Rattle.ghost_spec.specs.Found.{run_page};
 ghost use Rattle.ghost_trees.specs.KeptTrees.{IsKeptTree};
 ghost use Rattle.ghost_trees.specs.Small.{IsSmall, AreSmall};
 ghost use Rattle.ghost_trees.specs.Trees.{tree_in_lists};
-ghost use Rattle.ghost_rows.specs.RowsLaid.{annotated_row, annotation_on, loan_row, loan_at, low_page, maps_in, run_below, guests_loan, any_loan, run_frames, next_above, last_above, HaveKeptTrees};
+ghost use Rattle.ghost_rows.specs.RowsLaid.{annotated_row, annotated_end, annotation_on, loan_row, loan_at, low_page, maps_in, run_below, guests_loan, any_loan, run_frames, next_above, last_above, HaveKeptTrees};
 
-use super::overlay::{lay, lay_all, put_last};
+use super::overlay::{lay, lay_all, put_behind};
 use ghost_spec::parts::GhostGuest;
 use ghost_trees::tree::Tree;
 use page_state::{Layout, Lent, Owner, Page, PageRange, Row, Run, State, Target, Usage};
@@ -39,20 +39,25 @@ fn annotation(target: Target) -> Option<Row>
     }
 }
 
-/// The pages of a run get its owner, where it is annotated. They stand behind those of all rows.
-fn annotate(rows: &mut Vec<RowRun<Row>>, run: Run) -> Result<(), AllocError>
+/// The pages of a run get its owner, where it is annotated. They stand behind those of all rows, which end at `high` or before it.
+/// The page behind them, or `high` where the run isn't annotated.
+#[inline(always)]
+fn annotate(rows: &mut Vec<RowRun<Row>>, high: u64, run: Run) -> Result<u64, AllocError>
     requires run { IsSmall run }
+    requires some { 0 < run.pages.count }
     requires kept { IsKept advance_row HasPageBelow rows.old.items }
-    requires behind { EndBefore (run.pages.first.0 + 1) rows.old.items }
-    ensures map { OnOk result ((f : ℕ) → run_map advance_row rows.new.items f ≡ option_or (annotation_on run f) (run_map advance_row rows.old.items f)) }
-    ensures kept { OnOk result (IsKept advance_row HasPageBelow rows.new.items) }
-    ensures behind { OnOk result (EndBefore (run_end run + 1) rows.new.items) }
+    requires behind { EndBefore (high + 1) rows.old.items }
+    requires order { high ≤ run.pages.first.0 }
+    ensures end { IfOk result (λ n. n ≡ annotated_end high run) }
+    ensures map { IfOk result (λ n. (f : ℕ) → run_map advance_row rows.new.items f ≡ option_or (annotation_on run f) (run_map advance_row rows.old.items f)) }
+    ensures kept { IfOk result (λ n. IsKept advance_row HasPageBelow rows.new.items) }
+    ensures behind { IfOk result (λ n. EndBefore (n + 1) rows.new.items) }
 {
     let Some(row) = annotation(run.target) else {
-        return Ok(());
+        return Ok(high);
     };
-    put_last(rows, run.pages, row)?;
-    Ok(())
+    put_behind(rows, high, run.pages, row)?;
+    Ok(run.pages.first.0 + run.pages.count)
 }
 
 /// The owners of the pages that are annotated in runs that are in order.
@@ -63,8 +68,9 @@ pub(crate) fn annotated(alloc: Global, runs: &[Run]) -> Result<RunList<Row>, All
     ensures reach { IfOk result (λ r. AreInReach HasPageBelow r.runs) }
 {
     let mut rows = Vec::with_capacity(alloc, runs.len())?;
+    let mut high = 0;
     for i in 0..runs.len() {
-        annotate(&mut rows, runs[i])?;
+        high = annotate(&mut rows, high, runs[i])?;
     }
     Ok(RunList::of(rows))
 }
@@ -184,7 +190,10 @@ fn lend_next(
     if frames.first.0 < high {
         return Ok(None);
     }
-    put_last(rows, frames, loan(number, run.pages.first.0))?;
+    if frames.count == 0 {
+        return Ok(Some(frames.first.0));
+    }
+    put_behind(rows, high, frames, loan(number, run.pages.first.0))?;
     Ok(Some(frames.first.0 + frames.count))
 }
 

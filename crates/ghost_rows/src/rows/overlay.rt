@@ -82,3 +82,32 @@ pub(crate) fn put_last(
     push_run(rows, run)?;
     Ok(())
 }
+
+/// The same of frames that aren't none, behind rows that end at a frame or before it: no row is looked at where these frames begin
+/// behind that.
+#[inline(always)]
+pub(crate) fn put_behind(
+    rows: &mut Vec<Run<Row>>,
+    high: u64,
+    frames: PageRange,
+    row: Row,
+) -> Result<(), AllocError>
+    requires frames { end_of frames ≤ 2 ^ 63 }
+    requires some { 0 < frames.count }
+    requires small { HasPageBelow row frames.count }
+    requires kept { IsKept advance_row HasPageBelow rows.old.items }
+    requires behind { EndBefore (high + 1) rows.old.items }
+    requires order { high ≤ frames.first.0 }
+    ensures map { OnOk result (run_map advance_row rows.new.items ≡ map_updated advance_row (run_map advance_row rows.old.items) frames.first.0 frames.count (Some row)) }
+    ensures kept { OnOk result (IsKept advance_row HasPageBelow rows.new.items) }
+    ensures behind { OnOk result (EndBefore (end_of frames + 1) rows.new.items) }
+{
+    if frames.first.0 == high {
+        return put_last(rows, frames, row);
+    }
+    rows.push(Run {
+        pages: frames,
+        value: row,
+    })?;
+    Ok(())
+}

@@ -1,9 +1,9 @@
 //! Pieces of frames along which all lists go on as they begin.
-ghost use Rattle.std.specs.Prelude.{◌≡◌, ℕ, ◌+◌, ◌-◌, ◌^◌, ◌≤◌, ◌<◌, nat_lt};
+ghost use Rattle.std.specs.Prelude.{◌≡◌, ℕ, ◌+◌, ◌-◌, ◌^◌, ◌≤◌, ◌<◌, nat_lt, if◌then◌else◌};
 ghost use Rattle.page_state.specs.Rows.{advance_row, HasPageBelow};
 ghost use Rattle.run_list.specs.Runs.{run_end, run_map, option_advance, IsCoarsest, AreInReach};
 ghost use Rattle.run_list.specs.Parts.{IsEndedAt};
-ghost use Rattle.ghost_rows.specs.RowsTold.{lent_told, usage_told, number_told, is_of_host as is_of_host_told, owner_told, IsNear, IsStanding, IsCarried};
+ghost use Rattle.ghost_rows.specs.RowsTold.{lent_told, usage_told, number_told, is_of_host as is_of_host_told, is_plain as is_plain_use, is_quiet, owner_told, quiet_to, IsNear, IsStanding, IsCarried};
 
 use page_state::{Lent, Owner, Row, Usage};
 use run_list::{Advance, Run, RunList};
@@ -25,7 +25,7 @@ pub(crate) struct Lists {
 #[derive(Clone, Copy)]
 pub(crate) struct Stand {
     /// How many of its runs end at the frame or before it.
-    place: usize,
+    pub(crate) place: usize,
     /// Whether the run at the place has the frame.
     inside: bool,
     /// A frame behind it: up to there the list goes on as it does at the frame.
@@ -44,8 +44,8 @@ impl Stand {
 /// Where each list stands at a frame.
 #[derive(Clone, Copy)]
 pub(crate) struct Stands {
-    annotated: Stand,
-    lent: Stand,
+    pub(crate) annotated: Stand,
+    pub(crate) lent: Stand,
     shared: Stand,
     used: Stand,
 }
@@ -58,6 +58,52 @@ impl Stands {
         shared: Stand::FIRST,
         used: Stand::FIRST,
     };
+}
+
+/// Who shares frames and what holds them, from one frame on up to another.
+#[derive(Clone, Copy)]
+pub(crate) struct Steady {
+    /// A frame behind the first: up to there it is so.
+    pub(crate) until: u64,
+    /// The guest that shares each of them, or the host where none does.
+    pub(crate) sharer: Owner,
+    /// What holds each of them.
+    pub(crate) usage: Usage,
+}
+
+impl Steady {
+    /// None is shared, and none used.
+    #[inline(always)]
+    pub(crate) fn quiet_to(until: u64) -> Steady
+        ensures { result ≡ quiet_to until }
+    {
+        Steady {
+            until,
+            sharer: Owner(0),
+            usage: Usage::Plain,
+        }
+    }
+
+    /// The frame up to which none is shared and none used: 0 where the first is.
+    pub(crate) fn quiet(self) -> u64
+        ensures { result ≡ (if is_quiet self then self.until else 0) }
+    {
+        if self.sharer.0 == 0 && is_plain(self.usage) {
+            self.until
+        } else {
+            0
+        }
+    }
+}
+
+/// Whether a frame is in no use.
+fn is_plain(usage: Usage) -> bool
+    ensures { result ≡ is_plain_use usage }
+{
+    match usage {
+        Usage::Plain => true,
+        _ => false,
+    }
 }
 
 /// To whom a row's frame is lent.
@@ -95,7 +141,7 @@ fn number_of(lent: Option<Lent>) -> Owner
 
 /// Whether a frame is lent to the host.
 #[inline(always)]
-fn is_of_host(lent: Option<Lent>) -> bool
+pub(crate) fn is_of_host(lent: Option<Lent>) -> bool
     ensures { result ≡ is_of_host_told lent }
 {
     match lent {
@@ -147,7 +193,7 @@ fn place_from(runs: &[Run<Row>], near: usize, frame: u64) -> usize
 /// Where a list stands at a frame, whose place is given.
 #[inline(always)]
 fn stand_at(runs: &[Run<Row>], place: usize, frame: u64) -> Stand
-    requires low { frame < 2 ^ 63 }
+    requires low { frame ≤ 2 ^ 63 }
     requires reach { AreInReach HasPageBelow runs.now }
     requires place { IsEndedAt (frame + 1) place runs.now }
     ensures { IsStanding frame result runs.now }
@@ -177,7 +223,7 @@ fn stand_at(runs: &[Run<Row>], place: usize, frame: u64) -> Stand
 /// Where a list stands goes on to a frame: no run is looked at, and nothing written, while it goes on as it stands.
 #[inline(always)]
 fn go_to(runs: &[Run<Row>], stand: &mut Stand, frame: u64)
-    requires low { frame < 2 ^ 63 }
+    requires low { frame ≤ 2 ^ 63 }
     requires reach { AreInReach HasPageBelow runs.now }
     requires stand { IsCarried frame stand.old runs.now }
     ensures { IsStanding frame stand.new runs.now }
@@ -225,7 +271,7 @@ fn row_at(runs: &[Run<Row>], here: &Stand, frame: u64) -> Option<Row>
 }
 
 impl Lists {
-    ghost use Rattle.ghost_rows.specs.RowsTold.{told, AreReached, AreStanding, AreCarried};
+    ghost use Rattle.ghost_rows.specs.RowsTold.{told, AreReached, AreStanding, AreCarried, IsSteady};
 
     /// Twice the runs of the annotations and of the loans: about so many pieces there are where frames are in few uses, one for
     /// each run and one for what stands before it.
@@ -269,5 +315,38 @@ impl Lists {
         let high = look(self.lent.runs(), &mut stands.lent, low, high);
         let high = look(self.shared.runs(), &mut stands.shared, low, high);
         look(self.used.runs(), &mut stands.used, low, high)
+    }
+
+    /// Who shares frames and what holds them, from one on. Where the lists of these stand goes on to it.
+    pub(crate) fn steady(&self, stands: &mut Stands, frame: u64) -> Steady
+        requires low { frame ≤ 2 ^ 63 }
+        requires reach { AreReached self.now }
+        requires stands { AreCarried frame stands.old self.now }
+        ensures stands { AreCarried frame stands.new self.now }
+        ensures above { frame < result.until }
+        ensures steady { (f : ℕ) → frame ≤ f → f < result.until → IsSteady self.now result f }
+    {
+        let shared = self.shared.runs();
+        let used = self.used.runs();
+        go_to(shared, &mut stands.shared, frame);
+        go_to(used, &mut stands.used, frame);
+        Steady {
+            until: stands.shared.until.min(stands.used.until),
+            sharer: number_of(lent_of(row_at(shared, &stands.shared, frame))),
+            usage: usage_of(row_at(used, &stands.used, frame)),
+        }
+    }
+
+    /// Where the lists of annotations and loans stand goes on to a frame.
+    pub(crate) fn go_on(&self, stands: &mut Stands, frame: u64)
+        requires low { frame ≤ 2 ^ 63 }
+        requires reach { AreReached self.now }
+        requires stands { AreCarried frame stands.old self.now }
+        ensures stands { AreCarried frame stands.new self.now }
+        ensures annotated { IsStanding frame stands.new.annotated self.now.annotated.runs }
+        ensures lent { IsStanding frame stands.new.lent self.now.lent.runs }
+    {
+        go_to(self.annotated.runs(), &mut stands.annotated, frame);
+        go_to(self.lent.runs(), &mut stands.lent, frame);
     }
 }

@@ -1,7 +1,7 @@
 use Rattle.page_state.specs.Rows.{HasPageBelow}
 use Rattle.run_list.proofs.Found.{reach_at}
 use Rattle.ghost_rows.proofs.RowsKept.{told-one-more, before-next}
-use Rattle.ghost_rows.proofs.RowsTold.{all-later}
+use Rattle.ghost_rows.proofs.RowsWhole.{near-later}
 use Rattle.ghost_rows.proofs.rows.kept.are_told.Goals as goal
 
 pub is_told-requires-clause-run : goal.is_told-requires-clause-run
@@ -12,5 +12,5 @@ loop-i-preserved c =
     let told = c.is_told.ensures.told.0 c.if-not-is_told.false in
     record {
       told = told-one-more c.args.lists.now c.args.rows.now c.loop-i.i _ c.loop-i-test.true c.loop-i.invariant.told told;
-      near = λ d less. all-later _ _ c.is_told.new.near c.args.lists.now (before-next c.args.rows.now c.loop-i.i _ d c.requires.coarsest less) (c.is_told.ensures.near c.if-not-is_told.false);
+      near = λ d less. near-later _ _ c.is_told.new.near c.args.lists.now (before-next c.args.rows.now c.loop-i.i _ d c.requires.coarsest less) (c.is_told.ensures.near c.if-not-is_told.false);
     }

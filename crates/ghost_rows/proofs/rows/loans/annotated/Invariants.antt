@@ -1,4 +1,4 @@
-use Rattle.std.proofs.Common.{◌≡◌, ◌+◌, ◌<◌, ℕ, get_or, length, take}
+use Rattle.std.proofs.Common.{◌≡◌, ◌+◌, ◌<◌, ◌≤◌, ℕ, get_or, length, take}
 use Rattle.page_state.specs.declared.entry.Run.{Run}
 use Rattle.page_state.specs.Rows.{advance_row, HasPageBelow}
 use Rattle.page_state.specs.Runs.{map_of}
@@ -11,5 +11,6 @@ abbrev pub invariant-loop-i : goal.invariant-loop-i
 invariant-loop-i l = record {
   map : (f : ℕ) → run_map advance_row l.rows.items f ≡ annotated_row (map_of (take l.i l.runs) f);
   kept : IsKept advance_row HasPageBelow l.rows.items;
-  behind : (d : Run) → l.i < length l.runs → EndBefore ((get_or l.runs l.i d).pages.first.0 + 1) l.rows.items;
+  behind : EndBefore (l.high + 1) l.rows.items;
+  order : (d : Run) → l.i < length l.runs → l.high ≤ (get_or l.runs l.i d).pages.first.0;
 }

@@ -9,10 +9,10 @@ use Rattle.ghost_rows.proofs.RowsLaid.{lent-one}
 use Rattle.ghost_rows.proofs.rows.loans.lend_next.Goals as goal
 
 pub returns-clause-map : goal.returns-clause-map
-returns-clause-map c = λ f. lent-one c.args.number f (run_map advance_row c.args.rows.now.items) (run_map advance_row c.put_last.new.rows.items) c.loan.result (run_below (pages_below (layout_of c.args.layout.now).depth) c.args.run) c.args.state c.in-Some.frames
+returns-clause-map c = λ f. lent-one c.args.number f (run_map advance_row c.args.rows.now.items) (run_map advance_row c.put_behind.new.rows.items) c.loan.result (run_below (pages_below (layout_of c.args.layout.now).depth) c.args.run) c.args.state c.in-Some.frames
     (sym c.in-Some.is ∙ c.frames_of.ensures.frames)
     c.loan.ensures
-    c.in_ok-put_last.ensures.map
+    c.in_ok-put_behind.ensures.map
 
-pub put_last-requires-clause-behind : goal.put_last-requires-clause-behind
-put_last-requires-clause-behind c = ends_later (c.args.high + 1) (c.in-Some.frames.first.0 + 1) c.args.rows.now.items (omega (arith, c.if-frames-high.false)) c.requires.behind
+pub returns-then-frames-eq0-clause-behind : goal.returns-then-frames-eq0-clause-behind
+returns-then-frames-eq0-clause-behind c = ends_later (c.args.high + 1) (c.in-Some.frames.first.0 + 1) c.args.rows.now.items (omega (arith, c.if-frames-high.false)) c.requires.behind

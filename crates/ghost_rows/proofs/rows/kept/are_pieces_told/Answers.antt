@@ -2,7 +2,7 @@ use Rattle.std.proofs.Common.{◌∙◌, sym, arith}
 use Rattle.run_list.specs.OwnerRows.{row_laws}
 use Rattle.ghost_rows.proofs.RowsKept.{told-more}
 use Rattle.ghost_rows.proofs.RowsTold.{all-carried, all-later}
-use Rattle.ghost_rows.proofs.rows.kept.is_rest_told.Goals as goal
+use Rattle.ghost_rows.proofs.rows.kept.are_pieces_told.Goals as goal
 
 pub loop-low-preserved : goal.loop-low-preserved
 loop-low-preserved c =
@@ -11,12 +11,11 @@ loop-low-preserved c =
     let above = c.look-high.ensures.above in
     record {
       begun = omega (arith, begun, above);
-      behind = omega (arith, c.loop-low.invariant.behind, above);
       within = c.look-high.ensures.below;
-      told = told-more c.args.lists.now c.args.run.now c.args.from c.loop-low.low high begun c.look-high.ensures.goes_on
+      told = told-more c.args.lists.now c.args.run.now c.args.run.now.pages.first.0 c.loop-low.low high begun c.look-high.ensures.goes_on
           (sym c.row.ensures ∙ row_laws.is_equal _ _ (sym c.is_same.ensures ∙ c.if-not-is_same.false) ∙ c.advanced.ensures) c.loop-low.invariant.told;
       near = all-carried c.loop-low.low high c.look-high.new.stands c.args.lists.now (omega (arith, above)) c.look-high.ensures.standing;
     }
 
-pub returns-clause-near : goal.returns-clause-near
-returns-clause-near c = λ h. all-later c.loop-low.low _ c.loop-low.near c.args.lists.now (omega (arith, c.loop-low-test.false)) c.loop-low.invariant.near
+pub returns-clause-stands : goal.returns-clause-stands
+returns-clause-stands c = λ h. all-later c.loop-low.low _ c.loop-low.stands c.args.lists.now (omega (arith, c.loop-low-test.false)) c.loop-low.invariant.near
