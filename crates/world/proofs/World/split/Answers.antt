@@ -1,5 +1,8 @@
-use Rattle.std.proofs.Common.{rules}
+use Rattle.std.proofs.Common.{refl}
 use Rattle.world.proofs.World.split.Goals as goal
 
 pub returns-clause-parts : goal.returns-clause-parts
-returns-clause-parts g c = search rules
+returns-clause-parts g c = refl
+
+pub returns-clause-history : goal.returns-clause-history
+returns-clause-history g c = c.args.self.history
