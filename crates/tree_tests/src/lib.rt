@@ -12,8 +12,7 @@ mod owners;
 mod pools;
 #[cfg(test)]
 mod runs;
-#[cfg(test)]
-mod sample;
+pub mod sample;
 #[cfg(test)]
 mod tables;
 #[cfg(test)]

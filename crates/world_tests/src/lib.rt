@@ -10,8 +10,7 @@ mod expect;
 mod judge;
 #[cfg(test)]
 mod machines;
-#[cfg(test)]
-mod numbers;
+pub mod numbers;
 #[cfg(test)]
 mod record;
 #[cfg(test)]

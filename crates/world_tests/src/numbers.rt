@@ -3,8 +3,8 @@ ghost use Rattle.std.specs.Prelude.{◌≡◌, ◌<◌};
 
 /// Numbers that look random, the same for the same seed: a linear congruence of 64 bits.
 #[derive(Drop)]
-pub(crate) struct Numbers {
-    state: u64,
+pub struct Numbers {
+    pub state: u64,
 }
 
 impl Numbers {
@@ -16,7 +16,7 @@ impl Numbers {
     }
 
     /// The next number below `bound`.
-    pub(crate) fn below(&mut self, bound: u64) -> u64
+    pub fn below(&mut self, bound: u64) -> u64
         requires { 0 < bound }
         ensures { result < bound }
     {
