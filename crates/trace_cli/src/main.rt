@@ -1,4 +1,18 @@
 //! Replays traces of hypercalls on a model of protected KVM's page ownership.
+//!
+//! `trace_cli replay FILE [--heap BYTES]` carries the lines of FILE out in order and writes the report to standard output.
+//! The tables of the trees lie in a heap of BYTES (4,096 to 1,073,741,824), or in the machine's memory. The lines of a trace,
+//! its report and each fault are explained in docs/TRACES.md.
+//!
+//! The exit status:
+//!
+//! - 0: the report ends without a fault, and no step disagreed with the model.
+//! - 1: the report ends with a fault or tells of a disagreement; or reading, writing or memory failed, which one line on
+//!   standard error tells.
+//! - 2: FILE can't be opened, the words are refused, or help was asked for. The reason, or help, is on standard error.
+//!
+//! What the words ask for is read in `trace_command`, the trace is replayed by `trace_text`. Here the file is opened, and what
+//! no report tells is told.
 #![tactic(auto)]
 
 ghost use Rattle.std.specs.Prelude.{◌≤◌, IfOk};

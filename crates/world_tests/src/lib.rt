@@ -1,5 +1,4 @@
-//! Tests of the plain program and the oracle (`audit`, `judge`, `record`, `rows`, `spec`), of worlds, of machines, and of
-//! replays. They stand in a crate of their own, since tests are proved with all functions of their crate.
+//! Tests of the plain program and the oracle (`audit`, `judge`, `record`, `spec`), of worlds, of machines, and of replays. They stand in a crate of their own, since tests are proved with all functions of their crate.
 #![tactic(auto)]
 
 #[cfg(test)]
@@ -15,8 +14,6 @@ pub mod numbers;
 mod record;
 #[cfg(test)]
 mod replays;
-#[cfg(test)]
-mod rows;
 #[cfg(test)]
 mod sample;
 #[cfg(test)]

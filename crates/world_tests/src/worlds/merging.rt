@@ -1,8 +1,12 @@
 //! Logs merged into one list.
 ghost use Rattle.std.specs.Prelude.{◌<◌};
 
-use super::*;
-use step_reply::{Call, VmId, VmKind};
+use super::world_of;
+use crate::sample::{config, memory};
+use std::alloc::Global;
+use std::process::Abort;
+use step_reply::{Call, Reply, Step, Value, VmId, VmKind};
+use world::{Histories, MergeFault, World};
 
 /// A call of a CPU that was made.
 fn call(cpu: u64, number: u64, step: Step, slot: Option<u64>) -> Call {

@@ -1,9 +1,18 @@
 //! A world that makes steps, is told, walked and compared, and then some of whose words are poked.
 ghost use Rattle.std.specs.Prelude.{◌≡◌, ◌<◌, None, replicate};
 
-use super::*;
-use ghost_judge::disagreement::TreeOf;
+use super::booted;
+use descriptor::{Frame, Kind, Prot, State};
+use ghost_judge::audit::audit;
+use ghost_judge::disagreement::{Disagreement, TreeOf};
 use ghost_oracle::pokes::no_pokes;
+use ghost_oracle::raw::{RawGuest, Which};
+use ghost_trees::runs;
+use page_state::{Entry, Page};
+use std::alloc::Global;
+use std::process::Abort;
+use step_reply::{Reply, Step, Value};
+use world::{RawWorld, World};
 
 /// The indices that lead to the word of page 0x40100.
 const PATH: [u16; 3] = [1, 0, 0x100];
@@ -30,7 +39,7 @@ fn share(rt: &impl Abort, alloc: Global, world: &mut World<Global>)
 {
     let steps = [(0, Step::ShareHyp { pfn: 0x40100 })];
     let replies = world.run(alloc, steps.as_slice()).expect(rt, "memory");
-    assert!(rt; replies.as_slice() == [DONE].as_slice());
+    assert!(rt; replies.as_slice() == [Reply::Done(Value::Nothing)].as_slice());
 }
 
 /// Compares the entry of the page that the world keeps.
