@@ -9,21 +9,19 @@ ghost use Rattle.hyp_pool.specs.Pools.{IsPool, numbers};
 
 mod frames;
 pub mod laws;
+mod text;
 
 pub use frames::Frames;
 use page_state::Frame;
 use std::alloc::{AllocError, Global};
 use std::marker::Model;
-use thiserror::Error;
 
 /// Why frames aren't taken. NoPool is told before memory is asked for.
-#[derive(Clone, Copy, PartialEq, Debug, Error)]
+#[derive(Clone, Copy, PartialEq, Debug)]
 pub enum PoolFault {
     /// Fewer frames are free.
-    #[error("too few free frames")]
     NoPool,
     /// A growth was refused.
-    #[error("out of memory")]
     NoMemory,
 }
 
