@@ -3,7 +3,7 @@ use crate::{Step, VmId};
 use page_state::{Entry, Frame, Row};
 
 /// What a call gives on Ok.
-#[derive(Clone, Copy, PartialEq, Debug)]
+#[derive(Clone, Copy, PartialEq)]
 pub enum Value {
     /// No value.
     Nothing,
@@ -18,7 +18,7 @@ pub enum Value {
 }
 
 /// Why a call was refused. In brackets the number of the reply (profile).
-#[derive(Clone, Copy, PartialEq, Debug)]
+#[derive(Clone, Copy, PartialEq)]
 pub enum Refusal {
     /// (-1) The pages or frames aren't in the state that the call asks.
     Perm,
@@ -39,7 +39,7 @@ pub enum Refusal {
 }
 
 /// The answer of a call: Ok with a value, which is 0 as a number, or a refusal.
-#[derive(Clone, Copy, PartialEq, Debug)]
+#[derive(Clone, Copy, PartialEq)]
 pub enum Reply {
     /// The call was made.
     Done(Value),
@@ -48,7 +48,7 @@ pub enum Reply {
 }
 
 /// A call as logs store it.
-#[derive(Clone, Copy, PartialEq, Debug)]
+#[derive(Clone, Copy, PartialEq)]
 pub struct Call {
     /// The CPU that made it.
     pub cpu: u64,

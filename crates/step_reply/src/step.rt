@@ -20,7 +20,7 @@ pub enum VmKind {
 }
 
 /// A call of one CPU. Its numbers are as the caller gave them, and may be no page, no frame and no slot (profile).
-#[derive(Clone, Copy, PartialEq, Debug)]
+#[derive(Clone, Copy, PartialEq)]
 pub enum Step {
     /// The host shares the frame `pfn` with the hypervisor.
     ShareHyp { pfn: u64 },

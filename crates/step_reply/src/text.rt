@@ -22,8 +22,14 @@ impl fmt::Display for Value {
             Value::Vm(vm) => write!(f, "vm {vm}"),
             Value::Frame(frame) => write!(f, "frame 0x{:x}", frame.0),
             Value::Entry(entry) => write!(f, "entry {entry}"),
-            Value::Row(row) => write!(f, "{row}"),
+            Value::Row(row) => fmt::Display::fmt(row, f),
         }
+    }
+}
+
+impl fmt::Debug for Value {
+    fn fmt<W: fmt::Write>(&self, f: &mut fmt::Formatter<W>) -> fmt::Result {
+        fmt::Display::fmt(&Reply::Done(*self), f)
     }
 }
 
@@ -41,7 +47,13 @@ impl fmt::Display for Refusal {
             Refusal::LogFull => "logfull",
             Refusal::Contended => "contended",
         };
-        write!(f, "{word}")
+        f.write_str(word)
+    }
+}
+
+impl fmt::Debug for Refusal {
+    fn fmt<W: fmt::Write>(&self, f: &mut fmt::Formatter<W>) -> fmt::Result {
+        fmt::Display::fmt(self, f)
     }
 }
 
@@ -50,9 +62,15 @@ impl fmt::Display for Reply {
 
     fn fmt<W: fmt::Write>(&self, f: &mut fmt::Formatter<W>) -> fmt::Result {
         match self {
-            Reply::Done(Value::Nothing) => write!(f, "ok"),
+            Reply::Done(Value::Nothing) => f.write_str("ok"),
             Reply::Done(value) => write!(f, "ok {value}"),
-            Reply::Refused(refusal) => write!(f, "{refusal}"),
+            Reply::Refused(refusal) => fmt::Display::fmt(refusal, f),
         }
+    }
+}
+
+impl fmt::Debug for Reply {
+    fn fmt<W: fmt::Write>(&self, f: &mut fmt::Formatter<W>) -> fmt::Result {
+        fmt::Display::fmt(self, f)
     }
 }
