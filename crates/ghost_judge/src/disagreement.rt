@@ -3,7 +3,7 @@ use page_state::{Entry, Row};
 use step_reply::Reply;
 
 /// Whose tree.
-#[derive(Clone, Copy, PartialEq, Debug)]
+#[derive(Clone, Copy, PartialEq)]
 pub enum TreeOf {
     Host,
     Hyp,
@@ -12,7 +12,7 @@ pub enum TreeOf {
 }
 
 /// Where what is kept and what was found from scratch, or what was said and what the model says, disagree.
-#[derive(Clone, Copy, PartialEq, Debug)]
+#[derive(Clone, Copy, PartialEq)]
 pub enum Disagreement {
     /// On a page of a tree.
     Map {

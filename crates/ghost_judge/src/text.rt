@@ -11,10 +11,16 @@ impl fmt::Display for TreeOf {
 
     fn fmt<W: fmt::Write>(&self, f: &mut fmt::Formatter<W>) -> fmt::Result {
         match self {
-            TreeOf::Host => write!(f, "host"),
-            TreeOf::Hyp => write!(f, "hyp"),
+            TreeOf::Host => f.write_str("host"),
+            TreeOf::Hyp => f.write_str("hyp"),
             TreeOf::Guest(slot) => write!(f, "guest {slot}"),
         }
+    }
+}
+
+impl fmt::Debug for TreeOf {
+    fn fmt<W: fmt::Write>(&self, f: &mut fmt::Formatter<W>) -> fmt::Result {
+        fmt::Display::fmt(self, f)
     }
 }
 
@@ -27,7 +33,7 @@ impl fmt::Display for ToldRow {
 
     #[tactic(auto, unfolding(crate::specs::Texts::text_of_told_row))]
     fn fmt<W: fmt::Write>(&self, f: &mut fmt::Formatter<W>) -> fmt::Result {
-        write!(f, "{}", self.0)
+        fmt::Display::fmt(&self.0, f)
     }
 }
 
@@ -54,11 +60,17 @@ impl fmt::Display for Disagreement {
             Disagreement::Reply { said, spec } => {
                 write!(f, "disagree reply said {said} spec {spec}")
             }
-            Disagreement::Free => write!(f, "disagree free"),
+            Disagreement::Free => f.write_str("disagree free"),
             Disagreement::GuestFree(slot) => write!(f, "disagree guest_free {slot}"),
             Disagreement::Vm(slot) => write!(f, "disagree vm {slot}"),
             Disagreement::Cpu(cpu) => write!(f, "disagree cpu {cpu}"),
         }
+    }
+}
+
+impl fmt::Debug for Disagreement {
+    fn fmt<W: fmt::Write>(&self, f: &mut fmt::Formatter<W>) -> fmt::Result {
+        fmt::Display::fmt(self, f)
     }
 }
 
@@ -86,13 +98,7 @@ impl fmt::Display for Judgement {
                 let walked = ToldRow(walked);
                 write!(f, "disagree owner 0x{frame:x} post {kept} spec {walked}")
             }
-            Disagreement::Reply { said, spec } => {
-                write!(f, "disagree reply said {said} spec {spec}")
-            }
-            Disagreement::Free => write!(f, "disagree free"),
-            Disagreement::GuestFree(slot) => write!(f, "disagree guest_free {slot}"),
-            Disagreement::Vm(slot) => write!(f, "disagree vm {slot}"),
-            Disagreement::Cpu(cpu) => write!(f, "disagree cpu {cpu}"),
+            other => fmt::Display::fmt(&other, f),
         }
     }
 }
