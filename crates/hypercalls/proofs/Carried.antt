@@ -1,5 +1,5 @@
 -- Changes that were carried out, in words of the reference state.
-use Rattle.std.proofs.Common.{◌≡◌, ℕ, ◌<◌, ◌↔◌, Bool, true, false, ◌&&◌, ◌||◌, nat_lt, length, List, [], ◌∷◌, slice_get, Option, Some, None, Result, Ok, Err, OnOk, OnErr, refl, ap, sym, ◌∙◌, subst, arith, inl, inr}
+use Rattle.std.proofs.Common.{◌≡◌, ℕ, ◌*◌, ◌<◌, Fits, w64, ◌↔◌, Bool, true, false, ◌&&◌, ◌||◌, nat_lt, length, List, [], ◌∷◌, slice_get, Option, Some, None, Result, Ok, Err, OnOk, OnErr, refl, ap, sym, ◌∙◌, subst, arith, inl, inr}
 use mathlib.Core.Path.{fun_ext}
 use Rattle.hyp_pool.specs.declared.PoolFault.{PoolFault}
 use Rattle.hyp_pool.specs.declared.PoolFault.TheVariants.{NoPool}
@@ -177,6 +177,10 @@ grows_by h step ss gs only short = go (may_grow step) only
     go : (b : Bool) → (b ≡ false → (h.host ≡ None) × (h.hyp ≡ None) × (h.guest ≡ None) × MakesNone h.part) → b ≡ true
     go true k = refl
     go false k = let o = k refl in absurd (short (roomy_of_none h o.0 o.1 ss) (guests_roomy h o.2 o.3 gs))
+
+-- what stands at the place 0 of a list begins with it
+pub first_fits : (n : ℕ) → Fits w64 (0 * n)
+first_fits n = omega arith
 
 -- where a pool is short
 pub guest_short_iff : {R : Type 0} (a : Bool) (m n : ℕ) → a ≡ false → R ↔ (m < n) → R ↔ ((a || nat_lt m n) ≡ true)

@@ -10,7 +10,7 @@ use Rattle.reference_model.specs.ChangeLaws.{PartsFit}
 use Rattle.reference_model.specs.State.{Guest, no_guest, no_shared}
 use Rattle.reference_model.specs.Step.{guest_after}
 use Rattle.hypercalls.specs.Carried.{IsRoomy, is_either_short}
-use Rattle.hypercalls.proofs.Carried.{always_ok, always_err, guest_of_none, no_need_of_none, shared_short_iff}
+use Rattle.hypercalls.proofs.Carried.{first_fits, always_ok, always_err, guest_of_none, no_need_of_none, shared_short_iff}
 use Rattle.decisions.proofs.Singles.{single, set_single}
 use Rattle.hypercalls.proofs.carry.change_maps.Goals as goal
 
@@ -97,3 +97,36 @@ returns-clause-suits g c = c.change_with_guest.ensures.suits
 
 pub returns-clause-log : goal.returns-clause-log
 returns-clause-log g c = c.change_with_guest.ensures.log
+
+pub change_shared-requires-clause-slot : goal.change_shared-requires-clause-slot
+change_shared-requires-clause-slot g c = c.requires.slot
+
+pub change_shared-requires-clause-lent : goal.change_shared-requires-clause-lent
+change_shared-requires-clause-lent g c = c.requires.lent
+
+pub change_shared-requires-clause-fit : goal.change_shared-requires-clause-fit
+change_shared-requires-clause-fit g c = c.requires.fit
+
+pub change_shared-requires-clause-touched : goal.change_shared-requires-clause-touched
+change_shared-requires-clause-touched g c = c.requires.touched
+
+pub change_shared-requires-clause-suits : goal.change_shared-requires-clause-suits
+change_shared-requires-clause-suits g c = c.requires.suits
+
+pub change_with_guest-requires-clause-slot : goal.change_with_guest-requires-clause-slot
+change_with_guest-requires-clause-slot g c = c.requires.slot
+
+pub change_with_guest-requires-clause-lent : goal.change_with_guest-requires-clause-lent
+change_with_guest-requires-clause-lent g c = c.requires.lent
+
+pub change_with_guest-requires-clause-fit : goal.change_with_guest-requires-clause-fit
+change_with_guest-requires-clause-fit g c = c.requires.fit
+
+pub change_with_guest-requires-clause-touched : goal.change_with_guest-requires-clause-touched
+change_with_guest-requires-clause-touched g c = c.requires.touched
+
+pub change_with_guest-requires-clause-suits : goal.change_with_guest-requires-clause-suits
+change_with_guest-requires-clause-suits g c = c.requires.suits
+
+pub offset_bounds-0 : goal.offset_bounds-0
+offset_bounds-0 g c = first_fits _

@@ -1,4 +1,4 @@
-use Rattle.std.proofs.Common.{refl, ◌≡◌, ◌<◌, ◌↔◌, List, [], ◌∷◌, length, map, Err, OnErr, OnOk, ap, subst}
+use Rattle.std.proofs.Common.{refl, arith, ◌≡◌, ◌<◌, ◌↔◌, List, [], ◌∷◌, length, map, Result, Ok, Err, OnErr, OnOk, ap, subst}
 use Rattle.hyp_pool.specs.declared.PoolFault.TheVariants.{NoPool, NoMemory}
 use Rattle.guest_steps.specs.declared.parts.SharedPart.{SharedPart}
 use Rattle.guest_steps.specs.Lent.{Each, SharedSuits, one}
@@ -8,9 +8,12 @@ use Rattle.page_state.specs.LayoutView.{layout_of}
 use Rattle.reference_model.specs.State.{no_shared}
 use Rattle.reference_model.specs.Step.{shared_after, shared_need}
 use Rattle.hypercalls.specs.Carried.{IsRoomy, rows_told}
-use Rattle.hypercalls.proofs.Carried.{made_of_none, short_of_none}
+use Rattle.hypercalls.proofs.Carried.{first_fits, made_of_none, short_of_none}
 use Rattle.decisions.proofs.Singles.{on_singles, single, set_single}
 use Rattle.hypercalls.proofs.carry.change_shared.Goals as goal
+
+never : {X E : Type 0} {x : X} {e : E} → ◌≡◌ {A = Result X E} (Ok x) (Err e) → ⊥
+never h = cc
 
 pub returns-then-shared-ne1-clause-made : goal.returns-then-shared-ne1-clause-made
 returns-then-shared-ne1-clause-made g c = made_of_none (layout_of c.args.layout.now) c.args.id c.args.slot c.args.changes.now c.args.shared.now c.requires.lent c.if-shared-ne1.true
@@ -70,3 +73,21 @@ returns-then-shared-ne1-clause-log g c = refl
 
 pub returns-then-shared-ne1-clause-suits : goal.returns-then-shared-ne1-clause-suits
 returns-then-shared-ne1-clause-suits g c = c.requires.suits
+
+pub returns-then-shared-ne1-clause-no_memory : goal.returns-then-shared-ne1-clause-no_memory
+returns-then-shared-ne1-clause-no_memory g c = λ e roomy. never e
+
+pub change_part-requires-clause-slot : goal.change_part-requires-clause-slot
+change_part-requires-clause-slot g c = c.requires.slot
+
+pub change_part-requires-clause-fit : goal.change_part-requires-clause-fit
+change_part-requires-clause-fit g c = c.requires.fit
+
+pub change_part-requires-clause-touched : goal.change_part-requires-clause-touched
+change_part-requires-clause-touched g c = c.requires.touched
+
+pub bounds-shared-0 : goal.bounds-shared-0
+bounds-shared-0 g c = omega (arith, c.if-shared-ne1.false)
+
+pub offset_bounds-0 : goal.offset_bounds-0
+offset_bounds-0 g c = first_fits _

@@ -80,3 +80,24 @@ returns-in-Ok-clause-suits g c = c.carry_out.ensures.suits
 
 pub returns-in-Ok-clause-guest_suits : goal.returns-in-Ok-clause-guest_suits
 returns-in-Ok-clause-guest_suits g c = c.carry_out.ensures.guest_suits
+
+pub decide-requires-clause-slot : goal.decide-requires-clause-slot
+decide-requires-clause-slot g c = c.requires.slot
+
+pub decide-requires-clause-lent : goal.decide-requires-clause-lent
+decide-requires-clause-lent g c = c.requires.lent
+
+pub decide-requires-clause-suits : goal.decide-requires-clause-suits
+decide-requires-clause-suits g c = c.requires.suits
+
+pub decide-requires-clause-guest_suits : goal.decide-requires-clause-guest_suits
+decide-requires-clause-guest_suits g c = c.requires.guest_suits
+
+pub decide-requires-clause-rely : goal.decide-requires-clause-rely
+decide-requires-clause-rely g c = c.requires.rely
+
+pub carry_out-requires-clause-suits : goal.carry_out-requires-clause-suits
+carry_out-requires-clause-suits g c = c.requires.suits
+
+pub carry_out-requires-clause-guest_suits : goal.carry_out-requires-clause-guest_suits
+carry_out-requires-clause-guest_suits g c = c.requires.guest_suits

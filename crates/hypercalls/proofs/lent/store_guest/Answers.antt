@@ -6,6 +6,7 @@ use Rattle.guest_steps.specs.Logs.{StoredCalls}
 use Rattle.guest_steps.specs.View.{guest_held}
 use Rattle.reference_model.specs.State.{no_guest}
 use Rattle.decisions.proofs.Singles.{single, set_single}
+use Rattle.hypercalls.proofs.Carried.{first_fits}
 use Rattle.hypercalls.proofs.Stepping.{some_room, eq_with, stored_in_none}
 use Rattle.hypercalls.proofs.lent.store_guest.Goals as goal
 
@@ -37,3 +38,6 @@ returns-then-guest-ne1-clause-same g c = refl
 
 pub returns-then-guest-ne1-clause-depth : goal.returns-then-guest-ne1-clause-depth
 returns-then-guest-ne1-clause-depth g c = refl
+
+pub offset_bounds-0 : goal.offset_bounds-0
+offset_bounds-0 g c = first_fits _
