@@ -1,4 +1,5 @@
 use Rattle.std.proofs.Common.{◌≡◌, ◌+◌, ◌-◌, ◌*◌, ◌≤◌, ◌++◌, sym, ap, subst, ◌∙◌, arith}
+use Rattle.std.proofs.lemmas.Result.{IfOk-from_err}
 use Rattle.page_state.specs.Entries.{advance}
 use Rattle.page_state.specs.Geometries.{block_pages}
 use Rattle.page_state.specs.Runs.{map_of}
@@ -81,3 +82,39 @@ pub returns-clause-reads : goal.returns-clause-reads
 returns-clause-reads g t c =
     let all = tables_all c.args.depth c.loop-i.i c.args.table.now (raw_wide c.args.depth c.args.table.now c.requires.raw) c.loop-i-test.false in
     read_all (count_of c.args.reads.now) (count_of c.loop-i.reads) c.loop-i.i (slots_before c.args.depth c.args.table.now c.loop-i.i) (tables_in c.args.depth c.args.table.now) 18446744073709551615 c.loop-i.auto.i-end c.loop-i-test.false (c.loop-i.invariant.fits (omega (arith, c.loop-i-test.false))) c.loop-i.invariant.reads all
+
+pub returns-in_err-push-clause-runs : goal.returns-in_err-push-clause-runs
+returns-in_err-push-clause-runs g t c = IfOk-from_err _ _ c.from_residual.ensures.0
+
+pub returns-in_err-push-clause-map : goal.returns-in_err-push-clause-map
+returns-in_err-push-clause-map g t c = IfOk-from_err _ _ c.from_residual.ensures.0
+
+pub returns-in_err-push-clause-tables : goal.returns-in_err-push-clause-tables
+returns-in_err-push-clause-tables g t c = IfOk-from_err _ _ c.from_residual.ensures.0
+
+pub returns-in_err-push-clause-reads : goal.returns-in_err-push-clause-reads
+returns-in_err-push-clause-reads g t c = IfOk-from_err _ _ c.from_residual.ensures.0
+
+pub returns-in_err-put_block-in-Word-clause-runs : goal.returns-in_err-put_block-in-Word-clause-runs
+returns-in_err-put_block-in-Word-clause-runs g t c = IfOk-from_err _ _ c.from_residual-in_err-put_block-in-Word.ensures.0
+
+pub returns-in_err-put_block-in-Word-clause-map : goal.returns-in_err-put_block-in-Word-clause-map
+returns-in_err-put_block-in-Word-clause-map g t c = IfOk-from_err _ _ c.from_residual-in_err-put_block-in-Word.ensures.0
+
+pub returns-in_err-put_block-in-Word-clause-tables : goal.returns-in_err-put_block-in-Word-clause-tables
+returns-in_err-put_block-in-Word-clause-tables g t c = IfOk-from_err _ _ c.from_residual-in_err-put_block-in-Word.ensures.0
+
+pub returns-in_err-put_block-in-Word-clause-reads : goal.returns-in_err-put_block-in-Word-clause-reads
+returns-in_err-put_block-in-Word-clause-reads g t c = IfOk-from_err _ _ c.from_residual-in_err-put_block-in-Word.ensures.0
+
+pub returns-in_err-walk_table-in-Child-clause-runs : goal.returns-in_err-walk_table-in-Child-clause-runs
+returns-in_err-walk_table-in-Child-clause-runs g t c = IfOk-from_err _ _ c.from_residual-in_err-walk_table-in-Child.ensures.0
+
+pub returns-in_err-walk_table-in-Child-clause-map : goal.returns-in_err-walk_table-in-Child-clause-map
+returns-in_err-walk_table-in-Child-clause-map g t c = IfOk-from_err _ _ c.from_residual-in_err-walk_table-in-Child.ensures.0
+
+pub returns-in_err-walk_table-in-Child-clause-tables : goal.returns-in_err-walk_table-in-Child-clause-tables
+returns-in_err-walk_table-in-Child-clause-tables g t c = IfOk-from_err _ _ c.from_residual-in_err-walk_table-in-Child.ensures.0
+
+pub returns-in_err-walk_table-in-Child-clause-reads : goal.returns-in_err-walk_table-in-Child-clause-reads
+returns-in_err-walk_table-in-Child-clause-reads g t c = IfOk-from_err _ _ c.from_residual-in_err-walk_table-in-Child.ensures.0
