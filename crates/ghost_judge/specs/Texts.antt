@@ -18,23 +18,22 @@ text_of_tree (Guest slot) = codes "guest " ++ decimal slot
 unfoldable pub text_of_told_row : Row → List ℕ
 text_of_told_row row = text_of_row row
 
-abbrev pub text_of_disagreement : Disagreement → List ℕ
-text_of_disagreement (MapDiffers tree page kept walked) =
-    codes "disagree " ++ text_of_tree tree ++ codes " " ++ text_of_page page ++ codes " kept " ++ text_of_entry kept ++ codes " walked " ++ text_of_entry walked
-text_of_disagreement (OwnerDiffers frame kept walked) = codes "disagree owner " ++ text_of_page frame ++ codes " kept " ++ text_of_told_row kept ++ codes " walked " ++ text_of_told_row walked
-text_of_disagreement (ReplyDiffers said spec) = codes "disagree reply said " ++ text_of_reply said ++ codes " spec " ++ text_of_reply spec
-text_of_disagreement Free = codes "disagree free"
-text_of_disagreement (GuestFree slot) = codes "disagree guest_free " ++ decimal slot
-text_of_disagreement (Vm slot) = codes "disagree vm " ++ decimal slot
-text_of_disagreement (Cpu cpu) = codes "disagree cpu " ++ decimal cpu
+-- a disagreement, with what stands before its first side and before its second
+abbrev pub text_of_sides : List ℕ → List ℕ → Disagreement → List ℕ
+text_of_sides first second (MapDiffers tree page one other) =
+    codes "disagree " ++ text_of_tree tree ++ codes " " ++ text_of_page page ++ first ++ text_of_entry one ++ second ++ text_of_entry other
+text_of_sides first second (OwnerDiffers frame one other) =
+    codes "disagree owner " ++ text_of_page frame ++ first ++ text_of_told_row one ++ second ++ text_of_told_row other
+text_of_sides _ _ (ReplyDiffers said spec) = codes "disagree reply said " ++ text_of_reply said ++ codes " spec " ++ text_of_reply spec
+text_of_sides _ _ Free = codes "disagree free"
+text_of_sides _ _ (GuestFree slot) = codes "disagree guest_free " ++ decimal slot
+text_of_sides _ _ (Vm slot) = codes "disagree vm " ++ decimal slot
+text_of_sides _ _ (Cpu cpu) = codes "disagree cpu " ++ decimal cpu
 
--- the same, of a judgement
+-- of an audit: what is kept, and what the walk found
+abbrev pub text_of_disagreement : Disagreement → List ℕ
+text_of_disagreement d = text_of_sides (codes " kept ") (codes " walked ") d
+
+-- of a judgement: what stands after the step, and what the model says
 abbrev pub text_of_judgement : Disagreement → List ℕ
-text_of_judgement (MapDiffers tree page post spec) =
-    codes "disagree " ++ text_of_tree tree ++ codes " " ++ text_of_page page ++ codes " post " ++ text_of_entry post ++ codes " spec " ++ text_of_entry spec
-text_of_judgement (OwnerDiffers frame post spec) = codes "disagree owner " ++ text_of_page frame ++ codes " post " ++ text_of_told_row post ++ codes " spec " ++ text_of_told_row spec
-text_of_judgement (ReplyDiffers said spec) = codes "disagree reply said " ++ text_of_reply said ++ codes " spec " ++ text_of_reply spec
-text_of_judgement Free = codes "disagree free"
-text_of_judgement (GuestFree slot) = codes "disagree guest_free " ++ decimal slot
-text_of_judgement (Vm slot) = codes "disagree vm " ++ decimal slot
-text_of_judgement (Cpu cpu) = codes "disagree cpu " ++ decimal cpu
+text_of_judgement d = text_of_sides (codes " post ") (codes " spec ") d

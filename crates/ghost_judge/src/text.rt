@@ -1,6 +1,6 @@
 //! How disagreements are written.
 ghost use Rattle.std.specs.Prelude.{Some};
-ghost use Rattle.ghost_judge.specs.Texts.{text_of_tree, text_of_told_row, text_of_disagreement, text_of_judgement};
+ghost use Rattle.ghost_judge.specs.Texts.{text_of_tree, text_of_told_row, text_of_sides, text_of_disagreement, text_of_judgement};
 
 use crate::disagreement::{Disagreement, TreeOf};
 use page_state::Row;
@@ -37,25 +37,34 @@ impl fmt::Display for ToldRow {
     }
 }
 
-impl fmt::Display for Disagreement {
-    ghost output = { λ d. Some (text_of_disagreement d) };
+/// A disagreement, with what stands before its two sides.
+#[derive(Clone, Copy)]
+struct Sides {
+    told: Disagreement,
+    first: &'static str,
+    second: &'static str,
+}
+
+impl fmt::Display for Sides {
+    ghost output = { λ sides. Some (text_of_sides sides.first.now sides.second.now sides.told) };
 
     fn fmt<W: fmt::Write>(&self, f: &mut fmt::Formatter<W>) -> fmt::Result {
-        match self {
+        let (first, second) = (self.first, self.second);
+        match self.told {
             Disagreement::Map {
                 tree,
                 page,
                 kept,
                 walked,
-            } => write!(f, "disagree {tree} 0x{page:x} kept {kept} walked {walked}"),
+            } => write!(f, "disagree {tree} 0x{page:x}{first}{kept}{second}{walked}"),
             Disagreement::Owner {
                 frame,
                 kept,
                 walked,
             } => {
-                let kept = ToldRow(*kept);
-                let walked = ToldRow(*walked);
-                write!(f, "disagree owner 0x{frame:x} kept {kept} walked {walked}")
+                let kept = ToldRow(kept);
+                let walked = ToldRow(walked);
+                write!(f, "disagree owner 0x{frame:x}{first}{kept}{second}{walked}")
             }
             Disagreement::Reply { said, spec } => {
                 write!(f, "disagree reply said {said} spec {spec}")
@@ -65,6 +74,19 @@ impl fmt::Display for Disagreement {
             Disagreement::Vm(slot) => write!(f, "disagree vm {slot}"),
             Disagreement::Cpu(cpu) => write!(f, "disagree cpu {cpu}"),
         }
+    }
+}
+
+impl fmt::Display for Disagreement {
+    ghost output = { λ d. Some (text_of_disagreement d) };
+
+    fn fmt<W: fmt::Write>(&self, f: &mut fmt::Formatter<W>) -> fmt::Result {
+        let sides = Sides {
+            told: *self,
+            first: " kept ",
+            second: " walked ",
+        };
+        fmt::Display::fmt(&sides, f)
     }
 }
 
@@ -82,23 +104,11 @@ impl fmt::Display for Judgement {
     ghost output = { λ j. Some (text_of_judgement j.0) };
 
     fn fmt<W: fmt::Write>(&self, f: &mut fmt::Formatter<W>) -> fmt::Result {
-        match self.0 {
-            Disagreement::Map {
-                tree,
-                page,
-                kept,
-                walked,
-            } => write!(f, "disagree {tree} 0x{page:x} post {kept} spec {walked}"),
-            Disagreement::Owner {
-                frame,
-                kept,
-                walked,
-            } => {
-                let kept = ToldRow(kept);
-                let walked = ToldRow(walked);
-                write!(f, "disagree owner 0x{frame:x} post {kept} spec {walked}")
-            }
-            other => fmt::Display::fmt(&other, f),
-        }
+        let sides = Sides {
+            told: self.0,
+            first: " post ",
+            second: " spec ",
+        };
+        fmt::Display::fmt(&sides, f)
     }
 }
