@@ -5,7 +5,8 @@ ghost use Rattle.trace_cli.specs.Status.{HasCleanReport, HasStatus};
 use linked_list_allocator::LocalHeap;
 use std::alloc::Allocator;
 use std::io;
-use trace_command::{UsageFault, exit_status};
+use trace_command::UsageFault;
+use trace_reader::exit_status;
 use trace_text::{EngineFault, Stopped, replay_buffered};
 
 /// The status where the words are refused or the file can't be opened.

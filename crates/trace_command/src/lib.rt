@@ -1,9 +1,7 @@
-//! What the words of the program ask for, and the status that a run ends with.
+//! What the words of the program ask for.
 #![tactic(auto)]
 
 mod heap_size;
-mod status;
 mod words;
 
-pub use status::exit_status;
 pub use words::{Invocation, UsageFault, command};

@@ -35,22 +35,21 @@ pub enum UsageFault {
     HeapSize,
 }
 
-impl From<Error> for UsageFault {
-    ghost from_gives = { StandsFor };
-
-    fn from(error: Error) -> UsageFault {
-        match error.kind() {
-            ErrorKind::OutOfMemory => UsageFault::NoMemory,
-            _ => UsageFault::Usage(error),
-        }
-    }
-}
-
 impl From<AllocError> for UsageFault {
     ghost from_gives = { λ _ fault. fault ≡ NoMemory };
 
     fn from(_error: AllocError) -> UsageFault {
         UsageFault::NoMemory
+    }
+}
+
+/// The fault that stands for an error of clap's.
+fn fault_of(error: Error) -> UsageFault
+    ensures { StandsFor error result }
+{
+    match error.kind() {
+        ErrorKind::OutOfMemory => UsageFault::NoMemory,
+        _ => UsageFault::Usage(error),
     }
 }
 
@@ -108,7 +107,10 @@ pub fn command<'a>(global: Global, words: &'a [String]) -> Result<Invocation<'a>
     ensures file { TakesFile (map (λ w. w.bytes.items) words.entry.now) result }
     ensures heap { TakesHeap (map (λ w. w.bytes.items) words.entry.now) result }
 {
-    let matches = form(global)?.try_get_matches_from(words)?;
+    let matches = match form(global)?.try_get_matches_from(words) {
+        Ok(matches) => matches,
+        Err(error) => return Err(fault_of(error)),
+    };
     // Words in which clap finds no fault name the one subcommand, `replay`, and its file.
     let (_, inner) = matches.subcommand().unwrap();
     let file = inner.get_str("FILE").unwrap();

@@ -1,7 +1,7 @@
 //! The exit status of a run.
 ghost use Rattle.std.specs.Prelude.{◌≡◌, ◌≢◌};
 
-use trace_reader::{EngineFault, Outcome};
+use crate::{EngineFault, Outcome};
 
 /// The exit status of a run: 0 for Clean and 1 for all else.
 pub fn exit_status(answer: Result<Outcome, EngineFault>) -> u8
