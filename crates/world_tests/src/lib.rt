@@ -1,4 +1,5 @@
-//! Tests of the plain program and the oracle (`audit`, `judge`, `record`, `spec`), of worlds, of machines, and of replays. They stand in a crate of their own, since tests are proved with all functions of their crate.
+//! Tests of the layers below (`layers`), of the plain program and the oracle (`audit`, `judge`, `record`, `spec`), of worlds, of
+//! machines, and of replays. They stand in a crate of their own, since tests are proved with all functions of their crate.
 #![tactic(auto)]
 
 #[cfg(test)]
@@ -7,6 +8,8 @@ mod audit;
 mod expect;
 #[cfg(test)]
 mod judge;
+#[cfg(test)]
+mod layers;
 #[cfg(test)]
 mod machines;
 pub mod numbers;

@@ -2,7 +2,7 @@
 ghost use Rattle.std.specs.Prelude.{◌≡◌, ◌+◌, ◌<◌, ◌≤◌, ◌^◌};
 ghost use Rattle.run_list.specs.Targets.{HasFrameBelow};
 
-use crate::expect::expect_same;
+use super::expect::expect_same;
 use maplets::Maplets;
 use page_state::{Frame, Kind, Page, PageRange, Prot, Run, State, Target};
 use std::alloc::Global;

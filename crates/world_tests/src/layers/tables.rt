@@ -2,7 +2,7 @@
 ghost use Rattle.std.specs.Prelude.{◌<◌};
 ghost use Rattle.table_tree.specs.Shape.{IsWide};
 
-use crate::expect::{expect_entry, expect_number, expect_word};
+use super::expect::{expect_entry, expect_number, expect_word};
 use descriptor::{Frame, Owner};
 use linked_list_allocator::LocalHeap;
 use page_state::{Entry, Geometry, Page};

@@ -1,7 +1,7 @@
 use Rattle.std.proofs.Common.{◌≡◌}
 use Rattle.table_tree.specs.Shape.{IsShaped}
 use Rattle.table_tree.proofs.RawTables.{shaped_raw}
-use Rattle.tree_tests.proofs.tables.two_tables.Goals as goal
+use Rattle.world_tests.proofs.layers.tables.two_tables.Goals as goal
 
 pub invariant_of-result : goal.invariant_of-result
 invariant_of-result c =

@@ -9,8 +9,8 @@ ghost use Rattle.table_tree.specs.Stocks.{frames_of};
 ghost use Rattle.table_tree.specs.View.{tree_of, uses, tables_of};
 ghost use Rattle.walk_plan.specs.Changes.{CanBeSaidOn};
 
-use crate::expect::{expect_entry, expect_number, expect_same, expect_word};
-use crate::sample::{leaf, pages};
+use super::expect::{expect_entry, expect_number, expect_same, expect_word};
+use super::sample::{leaf, pages};
 use descriptor::{Frame, State};
 use hyp_pool::{Pool, PoolFault, laws};
 use linked_list_allocator::LocalHeap;

@@ -4,7 +4,7 @@ ghost use Rattle.page_state.specs.Regions.{end_of};
 ghost use Rattle.page_state.specs.Rows.{HasPageBelow};
 ghost use Rattle.owner_table.specs.Rows.{HasRows};
 
-use crate::sample::pages;
+use super::sample::pages;
 use owner_table::OwnerTable;
 use page_state::{Frame, Lent, MemoryMap, Owner, Page, PageRange, Region, RegionKind, Row, Usage};
 use run_list::RunList;

@@ -1,7 +1,7 @@
 //! Pools of free frames.
 ghost use Rattle.std.specs.Prelude.{◌≡◌, [], ◌∷◌};
 
-use crate::expect::expect_same;
+use super::expect::expect_same;
 use hyp_pool::{Pool, PoolFault};
 use page_state::Frame;
 use std::alloc::{AllocError, Global};
