@@ -1,4 +1,10 @@
-use Rattle.std.proofs.Common.{◌≡◌, ap, arith, sym, ◌∙◌, length, take, drop}
+use Rattle.std.proofs.Common.{◌≡◌, Result, Ok, Err, OnErr, refl, ap, arith, sym, ◌∙◌, length, take, drop}
+use Rattle.std.specs.Prelude.{is_ok}
+use Rattle.std.specs.Result.{IsErrAnd}
+use Rattle.std.proofs.lemmas.Bool.{false≢true}
+use Rattle.std.proofs.lemmas.Result.{IfOk-from_err}
+use Rattle.hyp_pool.specs.declared.PoolFault.{PoolFault}
+use Rattle.hyp_pool.specs.declared.PoolFault.TheVariants.{NoPool, NoMemory}
 use Rattle.page_state.specs.Tables.{put, need, edited, returned, all_given}
 use Rattle.page_state.specs.Geometries.{levels_below}
 use Rattle.page_state.specs.Counts.{frame_count}
@@ -10,6 +16,26 @@ use Rattle.table_tree.specs.View.{tree_of}
 use Rattle.table_tree.proofs.Same.{root_is, same_uses, same_count, by_views}
 use Rattle.walk_plan.proofs.Given.{take_drop_length, take_length}
 use Rattle.walker.proofs.change.set.Goals as goal
+
+err_is : {X E : Type 0} {a b : E} → ◌≡◌ {A = Result X E} (Err a) (Err b) → a ≡ b
+err_is h = cc
+
+never : {X E : Type 0} {x : X} {e : E} → ◌≡◌ {A = Result X E} (Ok x) (Err e) → ⊥
+never h = cc
+
+-- what is so where a result is a fault
+if_err : {T E : Type 0} (r : Result T E) (P : Type 0) → P → OnErr r P
+if_err (Ok x) P p = tt
+if_err (Err e) P p = p
+
+-- a fault that is passed on is the one that was told
+told_on : {X Y : Type 0} (r : Result X PoolFault) (q : Result Y PoolFault) (f x : PoolFault) → q ≡ Err f → IsErrAnd r (λ g. g ≡ f) → q ≡ Err x → r ≡ Err x
+told_on (Ok y) q f x was h e = absurd h
+told_on (Err g) q f x was h e = ap Err (h ∙ err_is (sym was ∙ e))
+
+told_back : {X Y : Type 0} (r : Result X PoolFault) (q : Result Y PoolFault) (f x : PoolFault) → q ≡ Err f → IsErrAnd r (λ g. g ≡ f) → r ≡ Err x → q ≡ Err x
+told_back (Ok y) q f x was h e = absurd h
+told_back (Err g) q f x was h e = was ∙ ap Err (sym h ∙ err_is e)
 
 pub set_with-requires-clause-just : goal.set_with-requires-clause-just
 set_with-requires-clause-just g c =
@@ -90,3 +116,75 @@ pub returns-in_err-spare-clause-tables : goal.returns-in_err-spare-clause-tables
 returns-in_err-spare-clause-tables g c =
     let a = ap (λ q. length q.frames) c.in_err-spare.ensures.err in
     omega (arith, a, same_count c.reserve.new.tree c.args.tree.now c.reserve.ensures.geometry c.reserve.ensures.table)
+
+pub reserve-requires-clause-some : goal.reserve-requires-clause-some
+reserve-requires-clause-some g c = c.requires.some
+
+pub reserve-requires-clause-within : goal.reserve-requires-clause-within
+reserve-requires-clause-within g c = c.requires.within
+
+pub reserve-requires-clause-entry_in : goal.reserve-requires-clause-entry_in
+reserve-requires-clause-entry_in g c = c.requires.entry_in
+
+pub returns-in_err-spare-clause-tree : goal.returns-in_err-spare-clause-tree
+returns-in_err-spare-clause-tree g c = IfOk-from_err _ _ c.from_residual.ensures.0
+
+pub returns-in_err-spare-clause-pool : goal.returns-in_err-spare-clause-pool
+returns-in_err-spare-clause-pool g c = IfOk-from_err _ _ c.from_residual.ensures.0
+
+pub returns-in_err-spare-clause-no_pool : goal.returns-in_err-spare-clause-no_pool
+returns-in_err-spare-clause-no_pool g c = (λ e. c.reserve.ensures.no_pool.0 (told_back c.from_residual.result c.reserve.result c.in_err-spare.field-0.0 NoPool c.in_err-spare.was c.from_residual.ensures.1 e), λ few. told_on c.from_residual.result c.reserve.result c.in_err-spare.field-0.0 NoPool c.in_err-spare.was c.from_residual.ensures.1 (c.reserve.ensures.no_pool.1 few))
+
+pub returns-in_err-spare-clause-no_memory : goal.returns-in_err-spare-clause-no_memory
+returns-in_err-spare-clause-no_memory g c = λ e. c.reserve.ensures.no_memory (told_back c.from_residual.result c.reserve.result c.in_err-spare.field-0.0 NoMemory c.in_err-spare.was c.from_residual.ensures.1 e)
+
+pub returns-in_err-spare-clause-nothing : goal.returns-in_err-spare-clause-nothing
+returns-in_err-spare-clause-nothing g c = λ none. absurd (false≢true (sym (ap is_ok c.in_err-spare.was) ∙ c.reserve.ensures.nothing none))
+
+pub returns-in_err-spare-clause-spares : goal.returns-in_err-spare-clause-spares
+returns-in_err-spare-clause-spares g c = IfOk-from_err _ _ c.from_residual.ensures.0
+
+pub returns-in_err-spare-clause-err : goal.returns-in_err-spare-clause-err
+returns-in_err-spare-clause-err g c = if_err _ _ c.reserve.ensures.table
+
+pub returns-in_err-spare-clause-err_spares : goal.returns-in_err-spare-clause-err_spares
+returns-in_err-spare-clause-err_spares g c = if_err _ _ c.in_err-spare.ensures.err_spares
+
+pub returns-in_err-spare-clause-err_pool : goal.returns-in_err-spare-clause-err_pool
+returns-in_err-spare-clause-err_pool g c = if_err _ _ c.in_err-spare.ensures.err
+
+pub returns-in_err-spare-clause-geometry : goal.returns-in_err-spare-clause-geometry
+returns-in_err-spare-clause-geometry g c = c.reserve.ensures.geometry
+
+pub returns-in_err-spare-clause-room : goal.returns-in_err-spare-clause-room
+returns-in_err-spare-clause-room g c = c.reserve.ensures.room
+
+pub set_with-requires-clause-some : goal.set_with-requires-clause-some
+set_with-requires-clause-some g c = c.requires.some
+
+pub set_with-requires-clause-entry_in : goal.set_with-requires-clause-entry_in
+set_with-requires-clause-entry_in g c = c.requires.entry_in
+
+pub returns-clause-no_pool : goal.returns-clause-no_pool
+returns-clause-no_pool g c = (λ e. absurd (never e), λ few. absurd (omega (arith, few, c.in_ok-spare.ensures.enough)))
+
+pub returns-clause-no_memory : goal.returns-clause-no_memory
+returns-clause-no_memory g c = λ e. absurd (never e)
+
+pub returns-clause-nothing : goal.returns-clause-nothing
+returns-clause-nothing g c = λ none. refl
+
+pub returns-clause-err : goal.returns-clause-err
+returns-clause-err g c = tt
+
+pub returns-clause-err_spares : goal.returns-clause-err_spares
+returns-clause-err_spares g c = tt
+
+pub returns-clause-err_pool : goal.returns-clause-err_pool
+returns-clause-err_pool g c = tt
+
+pub returns-clause-geometry : goal.returns-clause-geometry
+returns-clause-geometry g c = c.set_with.ensures.geometry ∙ c.reserve.ensures.geometry
+
+pub returns-clause-room : goal.returns-clause-room
+returns-clause-room g c = c.set_with.ensures.room ∙ c.reserve.ensures.room

@@ -1,6 +1,8 @@
 use Rattle.std.proofs.Common.{◌≡◌, ◌≢◌, ℕ, ◌+◌, ◌-◌, ◌*◌, ◌<◌, ◌≤◌, sym, ap, subst, refl, arith, ◌∙◌, length, length-drop, drop}
-use Rattle.table_tree.specs.Meaning.{index_at, slot_at, entry_at}
+use Rattle.table_tree.specs.Meaning.{IsDepth, index_at, slot_at, entry_at}
 use Rattle.table_tree.specs.Reading.{count_of}
+use Rattle.table_tree.specs.Shape.{IsShaped}
+use Rattle.table_tree.specs.Tight.{IsTight}
 use Rattle.table_tree.specs.Stocks.{frames_of}
 use Rattle.table_tree.specs.declared.table.Slot.TheVariants.{Word}
 use Rattle.table_tree.proofs.Slots.{shaped_wide, set_here, set_others, set_wide}
@@ -17,6 +19,9 @@ use Rattle.walker.proofs.Writes.{written_other, put_other, put_stand, word_map, 
 use Rattle.walker.proofs.walk.+walk.Goals as goal
 use Rattle.walker.proofs.walk.+walk.Goals.{set_slot-After-is_spent}
 use Rattle.walker.proofs.Opened.{false_true}
+
+less_more : (n : ℕ) → 1 ≤ n → n - 1 + 1 ≡ n
+less_more n h = omega arith
 
 -- a table has a level below it where a child is opened
 one_less : (g : _) (t : _) (c : set_slot-After-is_spent g t) → c.args.depth - 1 + 1 ≡ c.args.depth
@@ -349,3 +354,54 @@ set_slot-returns-else-is_spent-clause-stand g t c low q l x =
     let n = c.args.depth in
     let o = one_less g t (goal.at.set_slot-returns-else-is_spent-clause-stand g t c).After-is_spent in
     rw o at (put_stand (n - 1) c.args.i c.opened-child.new.table c.attach.new.self c.set_all.new.table c.attach.ensures.tree) low q l x ∙ rw o at c.opened-child.ensures.stand low q l x
+
+pub set_all-part-part-requires-clause-depth_in : goal.set_all-part-part-requires-clause-depth_in
+set_all-part-part-requires-clause-depth_in g t c = c.requires.depth_in
+
+pub set_all-returns-clause-frame : goal.set_all-returns-clause-frame
+set_all-returns-clause-frame g t c = c.loop-i.invariant.frame
+
+pub set_all-returns-clause-shape : goal.set_all-returns-clause-shape
+set_all-returns-clause-shape g t c = c.loop-i.invariant.shape
+
+pub set_all-returns-clause-tight : goal.set_all-returns-clause-tight
+set_all-returns-clause-tight g t c = c.loop-i.invariant.tight
+
+pub set_slot-look_for-requires-clause-depth_in : goal.set_slot-look_for-requires-clause-depth_in
+set_slot-look_for-requires-clause-depth_in g t c = c.requires.depth_in
+
+pub set_slot-look_for-requires-clause-index_in : goal.set_slot-look_for-requires-clause-index_in
+set_slot-look_for-requires-clause-index_in g t c = c.requires.index_in
+
+pub set_slot-look_for-requires-clause-shape : goal.set_slot-look_for-requires-clause-shape
+set_slot-look_for-requires-clause-shape g t c = c.requires.shape
+
+pub set_slot-look_for-requires-clause-change_in : goal.set_slot-look_for-requires-clause-change_in
+set_slot-look_for-requires-clause-change_in g t c = c.requires.change_in
+
+pub set_slot-put-requires-clause-within : goal.set_slot-put-requires-clause-within
+set_slot-put-requires-clause-within g t c = c.requires.index_in
+
+pub set_slot-overflow_sub-depth : goal.set_slot-overflow_sub-depth
+set_slot-overflow_sub-depth g t c = (c.in-Opening.ensures.found.0).deep
+
+pub set_slot-opened-child-requires-clause-depth_in : goal.set_slot-opened-child-requires-clause-depth_in
+set_slot-opened-child-requires-clause-depth_in g t c = subst IsDepth (sym (less_more _ ((c.in-Opening.ensures.found.0).deep))) c.requires.depth_in
+
+pub set_slot-opened-child-requires-clause-index_in : goal.set_slot-opened-child-requires-clause-index_in
+set_slot-opened-child-requires-clause-index_in g t c = c.requires.index_in
+
+pub set_slot-opened-child-requires-clause-shape : goal.set_slot-opened-child-requires-clause-shape
+set_slot-opened-child-requires-clause-shape g t c = subst (λ m. IsShaped m c.args.table.now) (sym (less_more _ ((c.in-Opening.ensures.found.0).deep))) c.requires.shape
+
+pub set_slot-opened-child-requires-clause-tight : goal.set_slot-opened-child-requires-clause-tight
+set_slot-opened-child-requires-clause-tight g t c = subst (λ m. IsTight m c.args.table.now) (sym (less_more _ ((c.in-Opening.ensures.found.0).deep))) c.requires.tight
+
+pub set_slot-opened-child-requires-clause-seen : goal.set_slot-opened-child-requires-clause-seen
+set_slot-opened-child-requires-clause-seen g t c = c.look_for.ensures.seen
+
+pub set_slot-overflow_sub-depth-2 : goal.set_slot-overflow_sub-depth-2
+set_slot-overflow_sub-depth-2 g t c = (c.in-Opening.ensures.found.0).deep
+
+pub set_slot-attach-requires-clause-within : goal.set_slot-attach-requires-clause-within
+set_slot-attach-requires-clause-within g t c = c.requires.index_in
