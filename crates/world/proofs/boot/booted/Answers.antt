@@ -54,3 +54,9 @@ invariant_of-result-2 g c =
       guest_logs = λ k d less. (c.in_ok-guests.ensures.vacant k d less).log.size;
       own_logs = λ k d less. (c.in_ok-cpus.ensures.idle k d less).log.size;
     }
+
+pub returns-in_default : goal.returns-in_default
+returns-in_default g c = c.in_default.ensures
+
+pub invariant_of-result : goal.invariant_of-result
+invariant_of-result g c = record { known = c.in-Some.ensures.geometry }

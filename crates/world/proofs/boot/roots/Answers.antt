@@ -1,4 +1,5 @@
 use Rattle.std.proofs.Common.{◌≡◌, ◌+◌, ap, sym, ◌∙◌, arith, length, drop}
+use Rattle.std.proofs.lemmas.Result.{IfOk-from_err}
 use Rattle.hyp_pool.proofs.Order.{length-frames_from}
 use Rattle.page_state.specs.Trees.{frames_from, root_tree}
 use Rattle.page_state.specs.declared.entry.PageRange.{PageRange}
@@ -50,3 +51,57 @@ returns-clause-apart g c = (
       let y = ap tables_of c.new-hyp.ensures ∙ c.in-Ok.ensures.tables in
       omega (arith, a, b, h, y, c.in_ok-pool.ensures.pool.covered, c.take_root-host_root.ensures.room, c.take_root-hyp_root.ensures.room),
 )
+
+pub returns-in_err-pool-clause-host : goal.returns-in_err-pool-clause-host
+returns-in_err-pool-clause-host g c = IfOk-from_err _ _ c.from_residual.ensures.0
+
+pub returns-in_err-pool-clause-hyp : goal.returns-in_err-pool-clause-hyp
+returns-in_err-pool-clause-hyp g c = IfOk-from_err _ _ c.from_residual.ensures.0
+
+pub returns-in_err-pool-clause-pool : goal.returns-in_err-pool-clause-pool
+returns-in_err-pool-clause-pool g c = IfOk-from_err _ _ c.from_residual.ensures.0
+
+pub returns-in_err-pool-clause-host_geometry : goal.returns-in_err-pool-clause-host_geometry
+returns-in_err-pool-clause-host_geometry g c = IfOk-from_err _ _ c.from_residual.ensures.0
+
+pub returns-in_err-pool-clause-hyp_geometry : goal.returns-in_err-pool-clause-hyp_geometry
+returns-in_err-pool-clause-hyp_geometry g c = IfOk-from_err _ _ c.from_residual.ensures.0
+
+pub returns-in_err-pool-clause-apart : goal.returns-in_err-pool-clause-apart
+returns-in_err-pool-clause-apart g c = IfOk-from_err _ _ c.from_residual.ensures.0
+
+pub returns-in_err-new-clause-host : goal.returns-in_err-new-clause-host
+returns-in_err-new-clause-host g c = IfOk-from_err _ _ c.from_residual-in_err-new.ensures.0
+
+pub returns-in_err-new-clause-hyp : goal.returns-in_err-new-clause-hyp
+returns-in_err-new-clause-hyp g c = IfOk-from_err _ _ c.from_residual-in_err-new.ensures.0
+
+pub returns-in_err-new-clause-pool : goal.returns-in_err-new-clause-pool
+returns-in_err-new-clause-pool g c = IfOk-from_err _ _ c.from_residual-in_err-new.ensures.0
+
+pub returns-in_err-new-clause-host_geometry : goal.returns-in_err-new-clause-host_geometry
+returns-in_err-new-clause-host_geometry g c = IfOk-from_err _ _ c.from_residual-in_err-new.ensures.0
+
+pub returns-in_err-new-clause-hyp_geometry : goal.returns-in_err-new-clause-hyp_geometry
+returns-in_err-new-clause-hyp_geometry g c = IfOk-from_err _ _ c.from_residual-in_err-new.ensures.0
+
+pub returns-in_err-new-clause-apart : goal.returns-in_err-new-clause-apart
+returns-in_err-new-clause-apart g c = IfOk-from_err _ _ c.from_residual-in_err-new.ensures.0
+
+pub returns-in_default-clause-host : goal.returns-in_default-clause-host
+returns-in_default-clause-host g c = tt
+
+pub returns-in_default-clause-hyp : goal.returns-in_default-clause-hyp
+returns-in_default-clause-hyp g c = tt
+
+pub returns-in_default-clause-pool : goal.returns-in_default-clause-pool
+returns-in_default-clause-pool g c = tt
+
+pub returns-in_default-clause-host_geometry : goal.returns-in_default-clause-host_geometry
+returns-in_default-clause-host_geometry g c = tt
+
+pub returns-in_default-clause-hyp_geometry : goal.returns-in_default-clause-hyp_geometry
+returns-in_default-clause-hyp_geometry g c = tt
+
+pub returns-in_default-clause-apart : goal.returns-in_default-clause-apart
+returns-in_default-clause-apart g c = tt
