@@ -27,14 +27,15 @@ impl fmt::Display for LineFault {
     ghost output = { λ fault. Some (text_of_line_fault fault) };
 
     fn fmt<W: fmt::Write>(&self, f: &mut fmt::Formatter<W>) -> fmt::Result {
-        match self {
-            LineFault::Long => write!(f, "long"),
-            LineFault::Byte => write!(f, "byte"),
-            LineFault::Space => write!(f, "space"),
-            LineFault::Word => write!(f, "word"),
-            LineFault::Place => write!(f, "place"),
-            LineFault::Count => write!(f, "count"),
-            LineFault::Form => write!(f, "form"),
-        }
+        let word = match self {
+            LineFault::Long => "long",
+            LineFault::Byte => "byte",
+            LineFault::Space => "space",
+            LineFault::Word => "word",
+            LineFault::Place => "place",
+            LineFault::Count => "count",
+            LineFault::Form => "form",
+        };
+        f.write_str(word)
     }
 }
