@@ -29,12 +29,12 @@ impl fmt::Display for Fault {
 
     fn fmt<W: fmt::Write>(&self, f: &mut fmt::Formatter<W>) -> fmt::Result {
         match self {
-            Fault::Lines => write!(f, "lines"),
-            Fault::Line(fault) => write!(f, "{fault}"),
-            Fault::Cpu => write!(f, "cpu"),
+            Fault::Lines => f.write_str("lines"),
+            Fault::Line(fault) => fmt::Display::fmt(fault, f),
+            Fault::Cpu => f.write_str("cpu"),
             Fault::Layout(fault) => write!(f, "layout {}", fault.number()),
             Fault::Boot(fault) => write!(f, "boot {}", fault.number()),
-            Fault::Path => write!(f, "path"),
+            Fault::Path => f.write_str("path"),
         }
     }
 }

@@ -29,12 +29,9 @@ impl fmt::Display for ReportLine {
     #[tactic(auto, unfolding(crate::specs::Texts::text_of))]
     fn fmt<W: fmt::Write>(&self, f: &mut fmt::Formatter<W>) -> fmt::Result {
         match self {
-            ReportLine::Response(response) => write!(f, "{response}"),
-            ReportLine::Judged(found) => {
-                let judgement = Judgement(*found);
-                write!(f, "{judgement}")
-            }
-            ReportLine::Audited(found) => write!(f, "{found}"),
+            ReportLine::Response(response) => fmt::Display::fmt(response, f),
+            ReportLine::Judged(found) => fmt::Display::fmt(&Judgement(*found), f),
+            ReportLine::Audited(found) => fmt::Display::fmt(found, f),
             ReportLine::Fault { line, fault } => write!(f, "{line} fault {fault}"),
             ReportLine::End {
                 steps,
@@ -44,7 +41,7 @@ impl fmt::Display for ReportLine {
                     steps: *steps,
                     disagreements: *disagreements,
                 };
-                write!(f, "{ending}")
+                fmt::Display::fmt(&ending, f)
             }
         }
     }
