@@ -72,3 +72,39 @@ returns-clause-layout c = c.store.ensures.layout âˆ™ c.put_back.ensures.layout â
 
 pub returns-clause-kept : goal.returns-clause-kept
 returns-clause-kept c = c.store.ensures.kept
+
+pub is_full-requires-clause-cpu : goal.is_full-requires-clause-cpu
+is_full-requires-clause-cpu c = rw c.requires.kept.cpu_rooms_count c.requires.cpu
+
+pub is_full-requires-clause-guests : goal.is_full-requires-clause-guests
+is_full-requires-clause-guests c = c.requires.kept.guest_rooms_count
+
+pub is_full-requires-clause-slot : goal.is_full-requires-clause-slot
+is_full-requires-clause-slot c = c.guest_slot-slot.ensures.low
+
+pub take-requires-clause-cpu : goal.take-requires-clause-cpu
+take-requires-clause-cpu c = rw c.requires.kept.cpus_count c.requires.cpu
+
+pub take-requires-clause-kept : goal.take-requires-clause-kept
+take-requires-clause-kept c = c.requires.kept
+
+pub take-requires-clause-slot : goal.take-requires-clause-slot
+take-requires-clause-slot c = c.guest_slot-slot.ensures.low
+
+pub answer-requires-clause-cpu : goal.answer-requires-clause-cpu
+answer-requires-clause-cpu c = rw c.take.ensures.layout c.requires.cpu
+
+pub answer-requires-clause-kept : goal.answer-requires-clause-kept
+answer-requires-clause-kept c = c.in_ok-used.ensures.kept
+
+pub answer-requires-clause-slot : goal.answer-requires-clause-slot
+answer-requires-clause-slot c = c.guest_slot-slot.ensures.low
+
+pub put_back-requires-clause-slot : goal.put_back-requires-clause-slot
+put_back-requires-clause-slot c = c.guest_slot-slot.ensures.low
+
+pub store-requires-clause-kept : goal.store-requires-clause-kept
+store-requires-clause-kept c = c.put_back.ensures.kept
+
+pub store-requires-clause-slot : goal.store-requires-clause-slot
+store-requires-clause-slot c = c.guest_slot-slot.ensures.low
