@@ -1,2 +1,1 @@
 pub mod PokedTables
-pub mod PutRows

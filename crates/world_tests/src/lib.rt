@@ -1,5 +1,5 @@
-//! Tests of the layers below (`layers`), of the plain program and the oracle (`audit`, `judge`, `record`, `spec`), of worlds, of
-//! machines, and of replays. They stand in a crate of their own, since tests are proved with all functions of their crate.
+//! Tests of the layers below (`layers`), of the oracle (`audit`, `judge`, `record`), of worlds, of machines, and of replays. They
+//! stand in a crate of their own, since tests are proved with all functions of their crate.
 #![tactic(auto)]
 
 #[cfg(test)]
@@ -19,7 +19,5 @@ mod record;
 mod replays;
 #[cfg(test)]
 mod sample;
-#[cfg(test)]
-mod spec;
 #[cfg(test)]
 mod worlds;
