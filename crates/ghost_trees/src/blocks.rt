@@ -18,7 +18,7 @@ use std::alloc::{AllocError, Global};
 pub type Block = (u64, u64);
 
 /// The blocks of depth `top` and less that meet a range, by page, the parent before the child.
-pub fn blocks_on(alloc: Global, top: u64, range: PageRange) -> Result<Vec<Block>, AllocError>
+pub(crate) fn blocks_on(alloc: Global, top: u64, range: PageRange) -> Result<Vec<Block>, AllocError>
     requires top { top ≤ 3 }
     requires pages { end_of range ≤ 2 ^ 63 }
     ensures value { IfOk result (λ v. v.items ≡ blocks_on_range top range.first.0 range.count) }
