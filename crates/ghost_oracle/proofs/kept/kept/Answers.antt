@@ -5,7 +5,7 @@ pub returns-clause-state : goal.returns-clause-state
 returns-clause-state g c = search rules
 
 pub returns-clause-maplets : goal.returns-clause-maplets
-returns-clause-maplets g c = search rules
+returns-clause-maplets g c = c.with_kept.ensures.maplets
 
 pub returns-clause-rows : goal.returns-clause-rows
-returns-clause-rows g c = search rules
+returns-clause-rows g c = c.with_kept.ensures.rows

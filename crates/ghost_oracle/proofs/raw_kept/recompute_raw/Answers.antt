@@ -16,6 +16,22 @@ rows_from_scratch-requires-clause-guests g c = guests_kept Words c.args.parts.no
 pub rows_from_scratch-requires-clause-cpus_count : goal.rows_from_scratch-requires-clause-cpus_count
 rows_from_scratch-requires-clause-cpus_count g c = cpus_counted Words c.args.parts.now c.in_ok-found.found c.in_ok-found.ensures.found
 
+pub returns-clause-found : goal.returns-clause-found
+returns-clause-found g c = let found = c.in_ok-found.ensures.found in record {
+  layout = found.layout;
+  host_kept = found.host_kept;
+  hyp_kept = found.hyp_kept;
+  host_words = found.host_words;
+  hyp_words = found.hyp_words;
+  host_runs = found.host_runs;
+  hyp_runs = found.hyp_runs;
+  free = found.free;
+  guests = found.guests;
+  count = found.count;
+  slots = found.slots;
+  cpus = found.cpus;
+}
+
 pub returns-clause-rows : goal.returns-clause-rows
 returns-clause-rows g c = scratch_told (layout_of c.args.parts.now.layout) (contents_in c.in_ok-found.found) c.in-Ok.rows.runs
     (subst (λ (l : Layout). (f : ℕ) → run_map advance_row c.in-Ok.rows.runs f ≡ elim (is_memory l f) [ true ↦ Some (row_of l (contents_in c.in_ok-found.found) f) | false ↦ None ]) c.in_ok-found.ensures.found.layout c.in-Ok.ensures.rows)

@@ -1,5 +1,4 @@
-use Rattle.std.proofs.Common.{rules}
 use Rattle.world.proofs.World.step.Goals as goal
 
 pub returns-clause-step : goal.returns-clause-step
-returns-clause-step g c = search rules
+returns-clause-step g c = c.step.ensures.step

@@ -1,4 +1,5 @@
 use Rattle.std.proofs.Common.{◌<◌, ◌∙◌, ℕ, List, None, Option, ap, arith, length, sym, take, take_all}
+use Rattle.std.proofs.lemmas.Result.{IfOk-from_err}
 use Rattle.page_state.specs.declared.row.Row.{Row}
 use Rattle.page_state.specs.Geometries.{pages_below}
 use Rattle.page_state.specs.LayoutView.{layout_of}
@@ -9,6 +10,36 @@ use Rattle.ghost_rows.specs.RowsLaid.{loan_at, low_page}
 use Rattle.ghost_rows.proofs.RowsAhead.{lent-more, next-above, none-more, or-none, rises-more}
 use Rattle.ghost_rows.proofs.RowsPages.{low_page-is}
 use Rattle.ghost_rows.proofs.rows.loans.rising_loans.Goals as goal
+
+pub returns-in_err-rows-clause-map : goal.returns-in_err-rows-clause-map
+returns-in_err-rows-clause-map c = IfOk-from_err _ _ c.from_residual.ensures.0
+
+pub returns-in_err-rows-clause-reach : goal.returns-in_err-rows-clause-reach
+returns-in_err-rows-clause-reach c = IfOk-from_err _ _ c.from_residual.ensures.0
+
+pub returns-in_err-rows-clause-rises : goal.returns-in_err-rows-clause-rises
+returns-in_err-rows-clause-rises c = IfOk-from_err _ _ c.from_residual.ensures.0
+
+pub returns-in_err-end-clause-map : goal.returns-in_err-end-clause-map
+returns-in_err-end-clause-map c = IfOk-from_err _ _ c.from_residual-in_err-end.ensures.0
+
+pub returns-in_err-end-clause-reach : goal.returns-in_err-end-clause-reach
+returns-in_err-end-clause-reach c = IfOk-from_err _ _ c.from_residual-in_err-end.ensures.0
+
+pub returns-in_err-end-clause-rises : goal.returns-in_err-end-clause-rises
+returns-in_err-end-clause-rises c = IfOk-from_err _ _ c.from_residual-in_err-end.ensures.0
+
+pub returns-in_default-clause-map : goal.returns-in_default-clause-map
+returns-in_default-clause-map c = tt
+
+pub returns-in_default-clause-reach : goal.returns-in_default-clause-reach
+returns-in_default-clause-reach c = tt
+
+pub lend_next-requires-clause-kept : goal.lend_next-requires-clause-kept
+lend_next-requires-clause-kept c = c.loop-i.invariant.kept
+
+pub lend_next-requires-clause-behind : goal.lend_next-requires-clause-behind
+lend_next-requires-clause-behind c = c.loop-i.invariant.behind
 
 pub loop-i-preserved : goal.loop-i-preserved
 loop-i-preserved c =

@@ -1,5 +1,4 @@
-use Rattle.std.proofs.Common.{rules}
 use Rattle.world.proofs.raw.RawWorld.poke.Goals as goal
 
 pub returns-in-Ok-clause-poked : goal.returns-in-Ok-clause-poked
-returns-in-Ok-clause-poked g c = search rules
+returns-in-Ok-clause-poked g c = c.in-Ok.ensures.poked
