@@ -1,5 +1,6 @@
 -- What calls on a guest decide, where the CPU's hand or what a run leaves of the guest matters.
-use Rattle.std.proofs.Common.{◌≡◌, ◌≢◌, ℕ, ◌+◌, ◌<◌, ◌≤◌, ◌^◌, ◌==◌, true, false, Option, None, Some, Ok, Err, unwrap_or, length, nat_lt, nat_le, refl, sym, subst, arith}
+use Rattle.std.proofs.Common.{◌≡◌, ◌≢◌, ℕ, ◌+◌, ◌<◌, ◌≤◌, ◌^◌, ◌==◌, true, false, Bool, Option, None, Some, Ok, Err, unwrap_or, length, nat_lt, nat_le, not, ◌||◌, refl, sym, subst, arith}
+use Rattle.std.proofs.lemmas.Bool.{false≢true}
 use Rattle.std.proofs.lemmas.Bool.Decides.{nat_tests}
 use Rattle.page_state.specs.declared.entry.PageRange.{PageRange}
 use Rattle.page_state.specs.declared.layout.Layout.{Layout as TheLayout}
@@ -53,6 +54,11 @@ module _ (l : Layout) (id slot : ℕ) (s : Shared) (g : Guest) (k : Cpu) where
         let is_low : nat_le 64 vm.slot ≡ false = grind (arith, nat_tests) in
         let over : nat_lt 512 (guest_table_count l g.tree + length g.free + r.count) ≡ true = grind (arith, nat_tests) in
         subst (λ (h : Option PageRange). Err Perm ≡ decides l id (Some slot) (Topup vm) (with_guest s g (record k { hand = h }))) (sym held) (rw (is_low, lives, over) refl)
+
+-- what holds nothing maps no page and has no free frame
+pub holds_none : (bare : Bool) (n : ℕ) → not bare || nat_lt 0 n ≡ false → (bare ≡ true) × (n ≤ 0)
+holds_none true n e = (refl, grind (arith, nat_tests))
+holds_none false n e = absurd (false≢true (sym e))
 
 -- frames that go back to the host have a page of the hypervisor
 module _ (l : TheLayout) (id slot : ℕ) (s : Shared) (g : Guest) (k : Cpu) where

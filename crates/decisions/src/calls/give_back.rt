@@ -9,7 +9,7 @@ ghost use Rattle.reference_model.specs.Used.{used_alone};
 ghost use Rattle.owner_table.specs.Rows.{row_at};
 ghost use Rattle.step_reply.specs.declared.step.Step.TheVariants.{HypDonateHost};
 ghost use Rattle.page_state.specs.Search.{all_below};
-ghost use Rattle.reference_model.specs.SharedRules.{may_return as may_return_of};
+ghost use Rattle.reference_model.specs.SharedRules.{is_plain as is_plain_of, may_return as may_return_of};
 
 use super::change;
 use crate::pages::{HYPERVISOR, hyp_page, is_in};
@@ -19,6 +19,13 @@ use reference_model::Changes;
 use std::alloc::Allocator;
 use step_reply::Refusal;
 
+/// Whether a frame is in no other use: in no pool and in no hand, and no table.
+fn is_plain(usage: Usage) -> bool
+    ensures { result ≡ is_plain_of usage }
+{
+    matches!(usage, Usage::Plain)
+}
+
 /// Whether the hypervisor owns a frame that is in no other use. It asks for a frame that has an owner row.
 fn may_return<A: Allocator>(shared: &SharedPart<A>, frame: u64) -> bool
     requires low { frame < 2 ^ 26 }
@@ -27,7 +34,7 @@ fn may_return<A: Allocator>(shared: &SharedPart<A>, frame: u64) -> bool
 {
     let row = shared.rows.row(Frame(frame));
     row.owner.0 == HYPERVISOR.0
-        && matches!(row.usage, Usage::Plain)
+        && is_plain(row.usage)
         && is_in(State::Owned, shared.hyp.translate(hyp_page(frame)))
 }
 

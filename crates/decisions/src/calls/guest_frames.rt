@@ -1,9 +1,12 @@
 //! Calls that give frames to a guest, or take them back.
-ghost use Rattle.std.specs.Prelude.{◌≡◌, ◌+◌, ◌<◌, ◌^◌, ℕ, Some};
+ghost use Rattle.std.specs.Prelude.{◌≡◌, ◌+◌, ◌<◌, ◌^◌, ◌||◌, ℕ, Some, length, nat_lt, not};
 ghost use Rattle.guest_component.specs.View.{guest_depth, guest_of};
 ghost use Rattle.guest_steps.specs.View.{cpu_of, shared_of};
+ghost use Rattle.page_state.specs.EntryTests.{is_unmapped as is_unmapped_entry};
+ghost use Rattle.page_state.specs.Geometries.{pages_below};
 ghost use Rattle.page_state.specs.LayoutView.{layout_of};
 ghost use Rattle.page_state.specs.Layouts.{Layout as ReferenceLayout};
+ghost use Rattle.page_state.specs.Search.{all_below};
 ghost use Rattle.step_reply.specs.declared.step.Step.TheVariants.{FinishGuest, Install, ReclaimPool, Topup};
 ghost use Rattle.reference_model.specs.Answers.{decides};
 ghost use Rattle.reference_model.specs.GuestRules.{moved_on as moved_on_of, ticket_kind as ticket_kind_of, ticket_vm as ticket_vm_of};
@@ -167,6 +170,13 @@ pub(crate) fn decide_reclaim_pool<A: Allocator>(
     })
 }
 
+/// Whether a guest maps a page or its pool has a frame.
+fn holds_any<A: Allocator>(guest: &Guest<A>) -> bool
+    ensures { result ≡ not (all_below (pages_below (guest_depth guest.now)) (λ p. is_unmapped_entry ((guest_of guest.now).tree.map p))) || nat_lt 0 (length (guest_of guest.now).free) }
+{
+    !guest.is_unmapped() || guest.free() > 0
+}
+
 /// The host gets the root of the Dying guest of the CPU's ticket back, of which nothing else is left, and the guest is Empty.
 /// It asks for a guest that a run leaves.
 #[tactic(auto, unfolding(reference_model::specs::Rules::rule))]
@@ -182,8 +192,7 @@ pub(crate) fn decide_finish_guest<A: Allocator>(
     requires rely { CanRely (layout_of layout.now) id (Some slot) FinishGuest (with_guest (shared_of shared.now) (guest_of guest.now) (cpu_of cpu.now)) }
     ensures decided { result ≡ decides (layout_of layout.now) id (Some slot) FinishGuest (with_guest (shared_of shared.now) (guest_of guest.now) (cpu_of cpu.now)) }
 {
-    let left = guest.free();
-    if !guest.is_unmapped() || left > 0 {
+    if holds_any(guest) {
         return Err(Refusal::Perm);
     }
     Ok(Changes {
