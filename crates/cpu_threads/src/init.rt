@@ -13,7 +13,7 @@ use std::sync::Wait;
 use step_reply::{Refusal, Reply, Step, Value, VmId, VmKind};
 
 /// The four calls that make a VM, in their order.
-#[derive(Clone, Copy, PartialEq, Debug)]
+#[derive(Clone, Copy, PartialEq)]
 pub enum InitStage {
     /// A slot is reserved.
     Reserve,

@@ -18,12 +18,6 @@ impl fmt::Display for TreeOf {
     }
 }
 
-impl fmt::Debug for TreeOf {
-    fn fmt<W: fmt::Write>(&self, f: &mut fmt::Formatter<W>) -> fmt::Result {
-        fmt::Display::fmt(self, f)
-    }
-}
-
 /// A row in a disagreement.
 #[derive(Clone, Copy)]
 struct ToldRow(Row);

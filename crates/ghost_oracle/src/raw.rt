@@ -15,7 +15,7 @@ use step_reply::VmKind;
 use table_tree::RawTree;
 
 /// Which tree of a world: a guest's by its slot.
-#[derive(Clone, Copy, PartialEq, Debug)]
+#[derive(Clone, Copy, PartialEq)]
 pub enum Which {
     Host,
     Hyp,

@@ -6,7 +6,7 @@ use page_state::PageRange;
 use reference_model::{CpuChange, Loaded, Ticket, Update};
 
 /// A CPU's own state.
-#[derive(Clone, Copy, PartialEq, Debug)]
+#[derive(Clone, Copy, PartialEq)]
 pub struct GhostCpu {
     /// The vCPU that it has loaded.
     pub loaded: Option<Loaded>,

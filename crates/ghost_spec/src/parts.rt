@@ -7,7 +7,7 @@ use std::alloc::{AllocError, Global};
 use step_reply::VmKind;
 
 /// How a slot of the VM part stands.
-#[derive(Clone, Copy, PartialEq, Debug)]
+#[derive(Clone, Copy, PartialEq)]
 pub enum GhostStand {
     Vacant,
     Reserved,
@@ -27,7 +27,7 @@ pub struct GhostSlot {
 }
 
 /// The phase of a guest.
-#[derive(Clone, Copy, PartialEq, Debug)]
+#[derive(Clone, Copy, PartialEq)]
 pub enum GhostPhase {
     Empty,
     Live,

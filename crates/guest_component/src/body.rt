@@ -18,7 +18,7 @@ const SLOT_DEPTH: u32 = 2;
 const SLOT_BITS: u32 = 18;
 
 /// The phase of a guest that isn't Empty.
-#[derive(Clone, Copy, PartialEq, Debug)]
+#[derive(Clone, Copy, PartialEq)]
 pub enum Phase {
     /// Its VM runs, or is being made.
     Live,

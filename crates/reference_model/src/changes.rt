@@ -61,7 +61,7 @@ pub enum SlotChange {
 }
 
 /// How far a ticket has come.
-#[derive(Clone, Copy, PartialEq, Debug)]
+#[derive(Clone, Copy, PartialEq)]
 pub enum Stage {
     /// The slot is reserved.
     Booked,
@@ -76,7 +76,7 @@ pub enum Stage {
 }
 
 /// A CPU's ticket: the VM that it is making or ending.
-#[derive(Clone, Copy, PartialEq, Debug)]
+#[derive(Clone, Copy, PartialEq)]
 pub struct Ticket {
     /// The VM.
     pub vm: VmId,
@@ -87,7 +87,7 @@ pub struct Ticket {
 }
 
 /// A vCPU that a CPU has loaded.
-#[derive(Clone, Copy, PartialEq, Debug)]
+#[derive(Clone, Copy, PartialEq)]
 pub struct Loaded {
     /// Its VM.
     pub vm: VmId,

@@ -2,7 +2,7 @@
 use page_state::Prot;
 
 /// A slot of the VM part and its generation.
-#[derive(Clone, Copy, PartialEq, Debug)]
+#[derive(Clone, Copy, PartialEq)]
 pub struct VmId {
     /// The slot, below 64 where there is such a VM.
     pub slot: u64,
@@ -11,7 +11,7 @@ pub struct VmId {
 }
 
 /// Whether the host can reach a VM's memory.
-#[derive(Clone, Copy, PartialEq, Debug)]
+#[derive(Clone, Copy, PartialEq)]
 pub enum VmKind {
     /// The host can't reach what it donates to the VM.
     Protected,

@@ -27,12 +27,6 @@ impl fmt::Display for Value {
     }
 }
 
-impl fmt::Debug for Value {
-    fn fmt<W: fmt::Write>(&self, f: &mut fmt::Formatter<W>) -> fmt::Result {
-        fmt::Display::fmt(&Reply::Done(*self), f)
-    }
-}
-
 impl fmt::Display for Refusal {
     ghost output = { λ refusal. Some (text_of_refusal refusal) };
 

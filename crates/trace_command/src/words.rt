@@ -10,7 +10,7 @@ use clap::{Arg, ArgAction, Error};
 use std::alloc::{AllocError, Global};
 
 /// What the program is to do.
-#[derive(Clone, Copy, PartialEq, Debug)]
+#[derive(Clone, Copy, PartialEq)]
 pub enum Invocation<'a> {
     /// Run the steps of a trace in order.
     Replay {

@@ -2,7 +2,7 @@
 use thiserror::Error;
 
 /// How a report ends.
-#[derive(Clone, Copy, PartialEq, Debug)]
+#[derive(Clone, Copy, PartialEq)]
 pub enum Outcome {
     /// No fault and no disagreement.
     Clean,

@@ -17,7 +17,7 @@ use std::alloc::{AllocError, Global};
 use step_reply::{Reply, Step};
 
 /// What an oracle tells of a step.
-#[derive(Clone, Copy, PartialEq, Debug)]
+#[derive(Clone, Copy, PartialEq)]
 pub struct Verdict {
     /// Where its reply, or the state after it, is not what the model says.
     pub judged: Option<Disagreement>,

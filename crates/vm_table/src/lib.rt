@@ -15,7 +15,7 @@ use std::marker::Model;
 use step_reply::{VmId, VmKind};
 
 /// How a slot stands.
-#[derive(Clone, Copy, PartialEq, Debug)]
+#[derive(Clone, Copy, PartialEq)]
 pub enum SlotState {
     /// No VM has it.
     Vacant,

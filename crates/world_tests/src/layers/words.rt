@@ -17,12 +17,20 @@ fn owned(frame: u64) -> Desc {
 
 /// Compares what a word says at a level.
 fn expect_decoded(rt: &impl Abort, level: Level, word: u64, desc: Desc) {
-    assert!(rt; decode(level, word) == desc, "{word:#x} at {level:?}");
+    assert!(rt;
+        decode(level, word) == desc,
+        "{word:#x} over {} pages",
+        block_pages_of(level)
+    );
 }
 
 /// Compares the word of a descriptor at a level, or that it has none there.
 fn expect_encoded(rt: &impl Abort, level: Level, desc: Desc, word: Option<u64>) {
-    assert!(rt; encode(level, &desc) == word, "{desc:?} at {level:?}");
+    assert!(rt;
+        encode(level, &desc) == word,
+        "{word:?} over {} pages",
+        block_pages_of(level)
+    );
 }
 
 #[test]
