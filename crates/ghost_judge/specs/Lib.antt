@@ -1,5 +1,6 @@
 pub mod Apart
 pub mod Audits
 pub mod Judgements
+pub mod TextRows
 pub mod Texts
 pub mod inner

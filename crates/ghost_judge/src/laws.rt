@@ -1,8 +1,18 @@
-//! A law about judgements. The function does nothing, and its contract is the law.
+//! A law about judgements, and worked rows of texts. Each function does nothing, and its contract is the law or the rows.
 ghost use Rattle.ghost_judge.specs.Judgements.{StepsAgree};
+ghost use Rattle.ghost_judge.specs.TextRows.{FreeWritten, JudgementWritten, MapWritten, OwnerWritten, ReplyWritten};
 
 /// The judgement agrees with each step of the model: the reply and the state after it are those that are foretold, or the
 /// call wanted memory in a step that is foretold to be made, and nothing changed.
 pub fn steps_agree()
     ensures agree { StepsAgree }
+{}
+
+/// How disagreements are written.
+pub fn written()
+    ensures map { MapWritten }
+    ensures owner { OwnerWritten }
+    ensures reply { ReplyWritten }
+    ensures free { FreeWritten }
+    ensures judgement { JudgementWritten }
 {}

@@ -1,9 +1,7 @@
-//! Tests of the layers below (`layers`), of the oracle (`audit`, `judge`, `record`), of worlds, of machines, and of replays. They
+//! Tests of the layers below (`layers`), of the oracle (`judge`, `record`), of worlds, of machines, and of replays. They
 //! stand in a crate of their own, since tests are proved with all functions of their crate.
 #![tactic(auto)]
 
-#[cfg(test)]
-mod audit;
 #[cfg(test)]
 mod expect;
 #[cfg(test)]

@@ -4,8 +4,8 @@ ghost use Rattle.hyp_pool.specs.Pools.{IsPool};
 ghost use Rattle.page_state.specs.Geometries.{levels_below};
 ghost use Rattle.reference_model.specs.ChangeLaws.{Fits};
 ghost use Rattle.guest_steps.specs.Apart.{IsApart};
-ghost use Rattle.guest_steps.specs.View.{cpu_of, depth_of, guest_held};
-ghost use Rattle.ghost_oracle.specs.Low.{IsLowCpu, IsLowGuest};
+ghost use Rattle.guest_steps.specs.View.{cpu_of, depth_of};
+ghost use Rattle.ghost_oracle.specs.Low.{IsLowCpu};
 
 use crate::sample::{config, memory};
 use component::Component;
@@ -14,8 +14,7 @@ use ghost_spec::cpu::GhostCpu;
 use ghost_spec::shared::Shared;
 use ghost_spec::state::{Ghost, GhostRooms};
 use ghost_trees::tree::Table;
-use guest_component::Guest;
-use guest_steps::{CpuState, GuestPart, Log, SharedPart, VmPart};
+use guest_steps::{CpuState, Log, SharedPart};
 use hyp_pool::{Pool, laws};
 use owner_table::OwnerTable;
 use page_state::{
@@ -27,7 +26,6 @@ use run_list::RunList;
 use std::alloc::Global;
 use std::process::Abort;
 use table_tree::Tree;
-use vm_table::VmTable;
 
 /// Takes the lowest frame.
 fn taken(pool: &mut Pool) -> Frame
@@ -225,11 +223,6 @@ fn expect_rooms(rt: &impl Abort, told: &GhostRooms, vms: u64, shared: u64, cpus:
     assert!(rt; told.cpus.as_slice() == cpus);
 }
 
-/// Compares the room of a guest's log.
-fn expect_guest_room(rt: &impl Abort, told: &GhostRooms, slot: usize, room: u64) {
-    assert!(rt; told.guests.get(slot).copied() == Some(room));
-}
-
 /// Compares what is recorded of CPUs, logs and what isn't given.
 fn expect_rest(rt: &impl Abort, told: &Ghost) {
     expect_cpus(rt, told.cpus.as_slice());
@@ -253,62 +246,4 @@ fn records_what_is_given_alone(rt: HostRuntime) {
     let told = shared_recorded(&rt, rt.alloc(), &layout);
     expect_shared(&rt, &told.shared);
     expect_rest(&rt, &told);
-}
-
-/// A Guest part whose guest is Empty.
-fn empty_part(rt: &impl Abort, alloc: Global) -> GuestPart<Global>
-    ensures { IsLowGuest (guest_held result) }
-{
-    GuestPart {
-        guest: Guest::new(alloc, Geometry::Bits39),
-        log: Log::new(alloc, 4).expect(rt, "memory"),
-    }
-}
-
-/// A VM part of Vacant slots.
-fn vacant_part(rt: &impl Abort, alloc: Global) -> VmPart {
-    VmPart {
-        table: VmTable::new(alloc).expect(rt, "memory"),
-        log: Log::new(alloc, 6).expect(rt, "memory"),
-    }
-}
-
-/// What is recorded of the VM part and of this guest and CPU.
-fn guest_recorded(
-    rt: &impl Abort,
-    alloc: Global,
-    layout: &Layout,
-    guest: &GuestPart<Global>,
-    own: &CpuState,
-) -> Ghost
-    requires cpus { layout.now.config.cpus ≡ 2 }
-    requires guest { IsLowGuest (guest_held guest.now) }
-    requires own { IsLowCpu (cpu_of own.now) }
-{
-    let vms = vacant_part(rt, alloc);
-    record(alloc, layout, 0, Some(&vms), None, Some((3, guest)), own).expect(rt, "memory")
-}
-
-/// What is recorded of a VM part, an Empty guest and the first CPU.
-fn vms_recorded(rt: &impl Abort, alloc: Global, layout: &Layout) -> Ghost
-    requires { layout.now.config.cpus ≡ 2 }
-{
-    let own = own_state(rt, alloc);
-    let guest = empty_part(rt, alloc);
-    guest_recorded(rt, alloc, layout, &guest, &own)
-}
-
-/// Compares the rooms of those logs.
-fn expect_given_rooms(rt: &impl Abort, told: &GhostRooms) {
-    expect_rooms(rt, told, 6, 9, [7, 9].as_slice());
-    expect_guest_room(rt, told, 2, 9);
-    expect_guest_room(rt, told, 3, 4);
-}
-
-#[test]
-fn records_rooms_of_given_logs(rt: HostRuntime) {
-    let layout = layout(&rt, rt.alloc());
-    let told = vms_recorded(&rt, rt.alloc(), &layout);
-    expect_given_rooms(&rt, &told.rooms);
-    assert!(rt; told.shared.host.tables.is_empty());
 }
