@@ -1,4 +1,2 @@
-mod Digits
 mod Hexadecimal
-mod Kept
 pub mod Saying

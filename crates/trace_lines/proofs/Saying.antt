@@ -31,7 +31,7 @@ use Rattle.trace_lines.specs.Calls.{Argument, number, vm, kind, rights, StepMake
 use Rattle.trace_lines.specs.Places.{IsAllowed, may_stand, may_tell}
 use Rattle.trace_lines.specs.Said.{said_by_asked, said_by_words}
 use Rattle.trace_lines.specs.Settings.{Told}
-use Rattle.trace_lines.specs.Words.{named}
+use Rattle.trace_words.specs.Words.{named}
 
 pub mapped : {X Y : Type 0} (P : Y → Type 0) (f : X → Y) → ((x : X) → P (f x)) → (o : Option X) → IfSome (option_map f o) P
 mapped P f h None = tt

@@ -7,8 +7,8 @@ use Rattle.page_state.specs.declared.entry.PageRange.{PageRange}
 use Rattle.step_reply.specs.declared.step.VmId.{VmId}
 use Rattle.step_reply.specs.declared.step.VmKind.{VmKind}
 use Rattle.step_reply.specs.declared.step.VmKind.TheVariants.{Protected, Plain}
-use Rattle.trace_lines.specs.Numbers.{number_of, decimal_of}
-use Rattle.trace_lines.specs.Words.{named}
+use Rattle.trace_words.specs.Numbers.{number_of, decimal_of}
+use Rattle.trace_words.specs.Words.{named}
 
 -- the number that stands at a place, the first place being 0
 abbrev pub number_at : List (List ℕ) → ℕ → Option ℕ

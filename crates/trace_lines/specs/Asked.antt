@@ -17,8 +17,8 @@ use Rattle.trace_lines.specs.declared.place.SettingName.TheVariants as names
 use Rattle.trace_lines.specs.declared.place.Verb.TheVariants as verbs
 use Rattle.trace_lines.specs.Arguments.{number_at, range_of, level_word_at, slot_word_at}
 use Rattle.trace_lines.specs.Calls.{called as called_by}
-use Rattle.trace_lines.specs.Numbers.{is_decimal_digit}
-use Rattle.trace_lines.specs.Words.{named}
+use Rattle.trace_words.specs.Numbers.{is_decimal_digit}
+use Rattle.trace_words.specs.Words.{named}
 
 -- whether a word begins with a digit, as that of a step line does
 abbrev pub begins_with_digit : List ℕ → Bool

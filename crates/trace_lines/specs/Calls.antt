@@ -7,7 +7,7 @@ use Rattle.trace_lines.specs.declared.call.Called.{Called}
 use Rattle.step_reply.specs.declared.step.VmId.{VmId}
 use Rattle.step_reply.specs.declared.step.VmKind.{VmKind}
 use Rattle.trace_lines.specs.Arguments.{number_at, vm_word_at, kind_word_at, rights_word_at}
-use Rattle.trace_lines.specs.Words.{named}
+use Rattle.trace_words.specs.Words.{named}
 
 -- what an argument is: a number, a VM, a kind of VMs, or rights
 pub data Argument : Type 0 where

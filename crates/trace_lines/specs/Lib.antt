@@ -1,9 +1,7 @@
 pub mod Arguments
 pub mod Asked
 pub mod Calls
-pub mod Numbers
 pub mod Places
 pub mod Said
 pub mod Settings
 pub mod Texts
-pub mod Words

@@ -8,7 +8,7 @@ use Rattle.trace_lines.specs.declared.place.Allows.{Allows}
 use Rattle.trace_lines.specs.Asked.{asked}
 use Rattle.trace_lines.specs.Places.{may_stand}
 use Rattle.trace_lines.specs.Settings.{Told}
-use Rattle.trace_lines.specs.Words.{has_stray_byte, is_silent, words_of, has_stray_space}
+use Rattle.trace_words.specs.Words.{has_stray_byte, is_silent, words_of, has_stray_space}
 
 -- what so many words say that ask for this
 abbrev pub said_by_asked : Allows → Told → ℕ → Option Asked → Result (Option Line) LineFault

@@ -14,12 +14,11 @@ ghost use Rattle.trace_lines.specs.Arguments.{
   vm_of,
   vm_word_at,
 };
-ghost use Rattle.trace_lines.specs.Words.{named};
+ghost use Rattle.trace_words.specs.Words.{named};
 
-use crate::number::{decimal, number};
-use crate::words::{Words, is_name};
 use page_state::{Page, PageRange, Prot};
 use step_reply::{VmId, VmKind};
+use trace_words::{Words, decimal, is_name, number};
 
 /// The last level of a tree.
 const LAST_LEVEL: u64 = 3;

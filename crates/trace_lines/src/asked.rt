@@ -15,14 +15,14 @@ ghost use Rattle.trace_lines.specs.Asked.{
   word_of as word_by,
 };
 ghost use Rattle.trace_lines.specs.Calls.{called as called_by};
-ghost use Rattle.trace_lines.specs.Words.{named};
+ghost use Rattle.trace_words.specs.Words.{named};
 
 use crate::argument::{level_at, number_at, range_of, slot_at};
 use crate::call::Called;
 use crate::line::{Line, Poke, Query, Setting, TreeName};
 use crate::place::{SettingName, Verb};
-use crate::words::{Words, is_name};
 use step_reply::Step;
+use trace_words::{Words, is_name};
 
 /// What a line asks for by its first words, and what all of them say.
 #[derive(Clone, Copy)]

@@ -16,8 +16,8 @@ ghost use Rattle.step_reply.specs.declared.step.Step.TheVariants.{
 ghost use Rattle.trace_lines.specs.Calls.{called as called_by, called_in, guest_calls, hand_calls, kind, number, rights, step_from, vm, vm_calls};
 
 use crate::argument::{kind_at, number_at, rights_at, vm_at};
-use crate::words::{Words, is_name};
 use step_reply::Step;
+use trace_words::{Words, is_name};
 
 /// What a step line of a call has.
 #[derive(Clone, Copy)]

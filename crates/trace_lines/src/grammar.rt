@@ -3,15 +3,15 @@ ghost use Rattle.std.specs.Prelude.{◌≡◌, IfOk, IfSome};
 ghost use Rattle.trace_lines.specs.Places.{IsAllowed};
 ghost use Rattle.trace_lines.specs.Said.{said as said_by, said_by_words as said_by_all_words};
 ghost use Rattle.trace_lines.specs.Settings.{told_of};
-ghost use Rattle.trace_lines.specs.Words.{is_silent as is_silent_line};
+ghost use Rattle.trace_words.specs.Words.{is_silent as is_silent_line};
 
 use crate::asked::Asked;
 use crate::fault::LineFault;
 use crate::line::Line;
 use crate::place::{Allows, may_stand};
 use crate::settings::Settings;
-use crate::words::{Words, has_stray_byte};
 use trace_reader::MOST_BYTES;
+use trace_words::{Words, has_stray_byte};
 
 /// What a line says after the settings that were told, where the program allows these lines: nothing, a line, or its
 /// first fault.

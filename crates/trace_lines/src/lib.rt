@@ -7,11 +7,9 @@ mod call;
 mod fault;
 mod grammar;
 mod line;
-mod number;
 mod place;
 mod response;
 mod settings;
-mod words;
 
 pub use fault::LineFault;
 pub use grammar::said;

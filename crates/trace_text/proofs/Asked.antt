@@ -14,7 +14,7 @@ use Rattle.trace_lines.specs.Asked.{asked}
 use Rattle.trace_lines.specs.Places.{may_stand, may_tell}
 use Rattle.trace_lines.specs.Said.{said, said_by_asked}
 use Rattle.trace_lines.specs.Settings.{Told, nothing_told}
-use Rattle.trace_lines.specs.Words.{words_of, has_stray_byte, is_silent, has_stray_space}
+use Rattle.trace_words.specs.Words.{words_of, has_stray_byte, is_silent, has_stray_space}
 use Rattle.trace_lines.proofs.Saying.{IsOf, asked_suits}
 use Rattle.trace_text.specs.Laws.{step_said, step_asked}
 use Rattle.trace_text.specs.Session.{allowed}

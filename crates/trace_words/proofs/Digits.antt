@@ -5,7 +5,7 @@ use Rattle.std.proofs.Math.Seq.{take-suc}
 use Rattle.std.proofs.lemmas.Bool.Decides.{nat_tests}
 use Rattle.std.proofs.lemmas.Nat.{pow-add}
 use Rattle.std.proofs.lemmas.List.{take-append-drop, length-append}
-use Rattle.trace_lines.specs.Numbers.{digit_of, value_of, in_64_bits}
+use Rattle.trace_words.specs.Numbers.{digit_of, value_of, in_64_bits}
 
 -- digits behind others: those before count by the power of how many follow
 pub value_of-append : (base : ℕ) (xs ys : List ℕ) → value_of base (xs ++ ys) ≡ value_of base xs * base ^ length ys + value_of base ys

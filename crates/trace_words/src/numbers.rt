@@ -1,7 +1,7 @@
 //! Numbers of a trace.
 ghost use Rattle.std.specs.Prelude.{◌≡◌, ◌≤◌, ◌+◌, ◌*◌};
 ghost use Rattle.std.specs.List.{list_all};
-ghost use Rattle.trace_lines.specs.Numbers.{
+ghost use Rattle.trace_words.specs.Numbers.{
   decimal_of,
   digit_of,
   in_64_bits,
@@ -32,11 +32,10 @@ pub fn number(word: &[u8]) -> Option<u64>
 pub fn decimal(word: &[u8]) -> Option<u64>
     ensures { result ≡ decimal_of word.now }
 {
-    if is_decimal(word) {
-        value_of(10, word)
-    } else {
-        None
+    if !is_decimal(word) {
+        return None;
     }
+    value_of(10, word)
 }
 
 /// Whether a word is decimal digits, of which the first isn't 0 unless it stands alone.

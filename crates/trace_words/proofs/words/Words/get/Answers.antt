@@ -2,8 +2,8 @@ use Rattle.std.proofs.Common.{rules, tests, ◌≡◌, map, ap, ◌∙◌, subst
 use Rattle.std.specs.Prelude.{option_copied, slice_get}
 use Rattle.std.proofs.lemmas.Iterator.Consumers.{nth_from_yields_List}
 use Rattle.std.proofs.lemmas.Iterator.Splits.{YieldsList-from_slice_split}
-use Rattle.trace_lines.proofs.Kept.{kept_word}
-use Rattle.trace_lines.proofs.words.Words.get.Goals as goal
+use Rattle.trace_words.proofs.Kept.{kept_word}
+use Rattle.trace_words.proofs.words.Words.get.Goals as goal
 
 pub returns-else-place-kept : goal.returns-else-place-kept
 returns-else-place-kept c =

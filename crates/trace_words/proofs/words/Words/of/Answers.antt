@@ -2,8 +2,8 @@ use Rattle.std.proofs.Common.{rules, tests, ap, ◌∙◌, subst}
 use Rattle.std.specs.Slice.Iter as slice
 use Rattle.std.proofs.lemmas.Iterator.Consumers.{YieldsList-end}
 use Rattle.std.proofs.lemmas.Iterator.Splits.{YieldsList-from_slice_split}
-use Rattle.trace_lines.specs.Words.{AreKept}
-use Rattle.trace_lines.proofs.words.Words.of.Goals as goal
+use Rattle.trace_words.specs.Words.{AreKept}
+use Rattle.trace_words.proofs.words.Words.of.Goals as goal
 
 pub invariant_of-result : goal.invariant_of-result
 invariant_of-result c =

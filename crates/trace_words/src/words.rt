@@ -1,7 +1,7 @@
 //! The words of a line.
 ghost use Rattle.std.specs.Prelude.{◌≡◌, length, slice_get, option_copied};
 ghost use Rattle.std.specs.Str.{bytes_eq};
-ghost use Rattle.trace_lines.specs.Words.{has_empty_word, has_stray_byte as has_stray_byte_in, words_of};
+ghost use Rattle.trace_words.specs.Words.{has_empty_word, has_stray_byte as has_stray_byte_in, words_of};
 
 use arrayvec::ArrayVec;
 use std::marker::Model;
@@ -20,7 +20,7 @@ pub struct Words<'a> {
 
 impl<'a> Model for Words<'a> {
     ghost use Rattle.std.specs.Prelude.{ℕ, List};
-    ghost use Rattle.trace_lines.specs.Words.{words_of, AreKept};
+    ghost use Rattle.trace_words.specs.Words.{words_of, AreKept};
 
     ghost Value = { List (List ℕ) };
 

@@ -1,6 +1,6 @@
 use Rattle.std.proofs.Common.{rules, arith}
-use Rattle.trace_lines.proofs.Digits.{stops, goes}
-use Rattle.trace_lines.proofs.number.value_of.Goals as goal
+use Rattle.trace_words.proofs.Digits.{stops, goes}
+use Rattle.trace_words.proofs.numbers.value_of.Goals as goal
 
 pub returns-in_err-value : goal.returns-in_err-value
 returns-in_err-value c =
