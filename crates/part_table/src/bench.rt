@@ -19,8 +19,12 @@ pub struct Bench<A: Allocator> {
 impl<A: Allocator> Bench<A> {
     /// Takes the room.
     pub(crate) fn new(global: Global) -> Result<Bench<A>, AllocError> {
-        let shared = Vec::with_capacity(global, 1)?;
-        let guest = Vec::with_capacity(global, 1)?;
+        let Ok(shared) = Vec::with_capacity(global, 1) else {
+            return Err(AllocError);
+        };
+        let Ok(guest) = Vec::with_capacity(global, 1) else {
+            return Err(AllocError);
+        };
         Ok(Bench { shared, guest })
     }
 }

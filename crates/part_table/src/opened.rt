@@ -63,10 +63,14 @@ fn new_shelf<A: Allocator>(
 fn new_benches<A: Allocator>(global: Global, count: usize) -> Result<Vec<Bench<A>>, AllocError>
     ensures { IfOk result (λ v. vec_len v ≡ count) }
 {
-    let mut benches = Vec::with_capacity(global, count)?;
+    let Ok(mut benches) = Vec::with_capacity(global, count) else {
+        return Err(AllocError);
+    };
     for i in 0..count {
         let _ = i;
-        let bench = Bench::new(global)?;
+        let Ok(bench) = Bench::new(global) else {
+            return Err(AllocError);
+        };
         push_in_room(&mut benches, bench);
     }
     Ok(benches)
@@ -140,9 +144,16 @@ impl<A: Allocator> PartTable<A> {
         ensures layout { IfOk result (λ t. t.0.layout ≡ layout) }
         ensures passes { IfOk result (λ t. AreFirst t.0 layout.config.cpus t.1.items) }
     {
-        let benches = new_benches(global, owns.len())?;
-        let passes = Vec::with_capacity(global, owns.len())?;
-        let (shelf, mut root) = new_shelf(global, &layout, slots)?;
+        let count = owns.len();
+        let Ok(benches) = new_benches(global, count) else {
+            return Err(AllocError);
+        };
+        let Ok(passes) = Vec::with_capacity(global, count) else {
+            return Err(AllocError);
+        };
+        let Ok((shelf, mut root)) = new_shelf(global, &layout, slots) else {
+            return Err(AllocError);
+        };
         let passes = new_passes(&shelf, &mut root, owns, benches, passes);
         let table = PartTable {
             shelf,

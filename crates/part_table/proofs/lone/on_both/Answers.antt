@@ -1,4 +1,5 @@
-use Rattle.std.proofs.Common.{◌∷◌, [], ◌∙◌, ◌+◌, ap, length, refl}
+use Rattle.std.proofs.Common.{◌∷◌, [], ℕ, ◌≤◌, ◌∙◌, ◌+◌, ap, sym, subst, length, refl, le_refl}
+use Rattle.step_reply.specs.declared.reply.Call.{Call}
 use Rattle.page_state.specs.LayoutView.{layout_of}
 use Rattle.guest_steps.specs.declared.parts.SharedPart.{SharedPart}
 use Rattle.guest_steps.specs.declared.parts.GuestPart.{GuestPart}
@@ -46,3 +47,51 @@ returns-clause-does g c =
     c.call_on-call.ensures.call c.call_on-call.ensures.step c.call_on-call.ensures.suits
     (same_lent new.vms [] new.shared (q ∷ []) new.guest (r ∷ []) new.cpu (no_items new.vms kept.vms) (lifted {P = SharedPart g.row.A.Denot} c.lay.new.place.len c.lay.new.place.items new.shared q c.lay.ensures.len (kept.shared ∙ ap length given) c.lift-shared.ensures.items) (lifted {P = GuestPart g.row.A.Denot} c.lay-2.new.place.len c.lay-2.new.place.items new.guest r c.lay-2.ensures.len (kept.guest ∙ ap length guest_given) c.lift-guest.ensures.items))
     (both_is (slot_in (lent {A = g.row.A.Denot} [] (s ∷ []) (p ∷ []) k) step) new.cpu v q r (both_slot step k v c.requires.uses))
+
+pub lay-requires-clause-empty : goal.lay-requires-clause-empty
+lay-requires-clause-empty g c = c.requires.empty
+
+pub lay-requires-clause-room : goal.lay-requires-clause-room
+lay-requires-clause-room g c = c.requires.bench_room
+
+pub lay-requires-2-clause-empty : goal.lay-requires-2-clause-empty
+lay-requires-2-clause-empty g c = c.requires.guest_empty
+
+pub lay-requires-2-clause-room : goal.lay-requires-2-clause-room
+lay-requires-2-clause-room g c = c.requires.guest_bench_room
+
+pub call_on-call-requires-clause-known : goal.call_on-call-requires-clause-known
+call_on-call-requires-clause-known g c = c.requires.known
+
+pub lift-shared-requires-clause-one : goal.lift-shared-requires-clause-one
+lift-shared-requires-clause-one g c = c.lay.ensures.len
+
+pub lift-shared-requires-clause-room : goal.lift-shared-requires-clause-room
+lift-shared-requires-clause-room g c = c.lay.ensures.room
+
+pub lift-guest-requires-clause-one : goal.lift-guest-requires-clause-one
+lift-guest-requires-clause-one g c = c.lay-2.ensures.len
+
+pub lift-guest-requires-clause-room : goal.lift-guest-requires-clause-room
+lift-guest-requires-clause-room g c = c.lay-2.ensures.room
+
+pub returns-clause-call : goal.returns-clause-call
+returns-clause-call g c = let e = c.call_on-call.ensures.call in record { by = ap (λ (k : Call). k.cpu) e; number = ap (λ (k : Call). k.number) e; asked = ap (λ (k : Call). k.step) e; slot = ap (λ (k : Call). k.slot) e }
+
+pub returns-clause-empty : goal.returns-clause-empty
+returns-clause-empty g c = c.lift-shared.ensures.len
+
+pub returns-clause-bench_room : goal.returns-clause-bench_room
+returns-clause-bench_room g c = c.lift-shared.ensures.room
+
+pub returns-clause-guest_empty : goal.returns-clause-guest_empty
+returns-clause-guest_empty g c = c.lift-guest.ensures.len
+
+pub returns-clause-guest_bench_room : goal.returns-clause-guest_bench_room
+returns-clause-guest_bench_room g c = c.lift-guest.ensures.room
+
+pub slice_mut-requires-clause-in_bounds : goal.slice_mut-requires-clause-in_bounds
+slice_mut-requires-clause-in_bounds g c = subst (λ (n : ℕ). 1 ≤ n) (sym c.lay.ensures.len) (le_refl 1)
+
+pub slice_mut-requires-2-clause-in_bounds : goal.slice_mut-requires-2-clause-in_bounds
+slice_mut-requires-2-clause-in_bounds g c = subst (λ (n : ℕ). 1 ≤ n) (sym c.lay-2.ensures.len) (le_refl 1)

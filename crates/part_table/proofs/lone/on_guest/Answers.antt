@@ -1,4 +1,5 @@
-use Rattle.std.proofs.Common.{◌∷◌, [], ◌∙◌, ap, length, refl}
+use Rattle.std.proofs.Common.{◌∷◌, [], ℕ, ◌≤◌, ◌∙◌, ap, sym, subst, length, refl, le_refl}
+use Rattle.step_reply.specs.declared.reply.Call.{Call}
 use Rattle.page_state.specs.LayoutView.{layout_of}
 use Rattle.guest_steps.specs.declared.parts.GuestPart.{GuestPart}
 use Rattle.guest_steps.specs.Lent.{lent, slot_in}
@@ -40,3 +41,30 @@ returns-clause-does g c =
     c.call_on-call.ensures.call c.call_on-call.ensures.step c.call_on-call.ensures.suits
     (same_lent new.vms [] new.shared [] new.guest (q ∷ []) new.cpu (no_items new.vms kept.vms) (no_items new.shared kept.shared) (lifted {P = GuestPart g.row.A.Denot} c.lay.new.place.len c.lay.new.place.items new.guest q c.lay.ensures.len (kept.guest ∙ ap length given) c.lift-part.ensures.items))
     (guest_only (slot_in (lent {A = g.row.A.Denot} [] [] (p ∷ []) k) step) new.cpu at.0 n q at.1 at.2)
+
+pub lay-requires-clause-empty : goal.lay-requires-clause-empty
+lay-requires-clause-empty g c = c.requires.empty
+
+pub lay-requires-clause-room : goal.lay-requires-clause-room
+lay-requires-clause-room g c = c.requires.bench_room
+
+pub slice_mut-requires-clause-in_bounds : goal.slice_mut-requires-clause-in_bounds
+slice_mut-requires-clause-in_bounds g c = subst (λ (n : ℕ). 1 ≤ n) (sym c.lay.ensures.len) (le_refl 1)
+
+pub call_on-call-requires-clause-known : goal.call_on-call-requires-clause-known
+call_on-call-requires-clause-known g c = c.requires.known
+
+pub lift-part-requires-clause-one : goal.lift-part-requires-clause-one
+lift-part-requires-clause-one g c = c.lay.ensures.len
+
+pub lift-part-requires-clause-room : goal.lift-part-requires-clause-room
+lift-part-requires-clause-room g c = c.lay.ensures.room
+
+pub returns-clause-call : goal.returns-clause-call
+returns-clause-call g c = let e = c.call_on-call.ensures.call in record { by = ap (λ (k : Call). k.cpu) e; number = ap (λ (k : Call). k.number) e; asked = ap (λ (k : Call). k.step) e; slot = ap (λ (k : Call). k.slot) e }
+
+pub returns-clause-empty : goal.returns-clause-empty
+returns-clause-empty g c = c.lift-part.ensures.len
+
+pub returns-clause-bench_room : goal.returns-clause-bench_room
+returns-clause-bench_room g c = c.lift-part.ensures.room

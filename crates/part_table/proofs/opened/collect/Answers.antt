@@ -1,4 +1,4 @@
-use Rattle.std.proofs.Common.{rules, ◌≡◌, ℕ, ◌+◌, [], ◌∷◌, ◌++◌, length, false, arith, refl, sym, ap, ◌∙◌, subst, ◌<◌, le_refl, length-append, get_or-set_other}
+use Rattle.std.proofs.Common.{◌≡◌, ℕ, ◌+◌, [], ◌∷◌, ◌++◌, length, false, arith, refl, sym, ap, ◌∙◌, subst, ◌<◌, ◌≤◌, le_refl, length-append, get_or-set_other}
 use Rattle.std.specs.Prelude.{Bool, Option, Some, IsSome, List, slice_get, slice_index_or, slice_set}
 use mathlib.Core.Option.{some, some-injective}
 use mathlib.Core.Logic.{dite}
@@ -11,6 +11,28 @@ use Rattle.std.specs.Vec.{vec_len}
 use Rattle.std.specs.Mem.Slots.Ownership.{Filled}
 use Rattle.part_table.proofs.Lists.{set_false, get_front, get_last}
 use Rattle.part_table.proofs.opened.collect.Goals as goal
+
+le_le : (a b c : ℕ) → a ≤ b → b ≤ c → a ≤ c
+le_le a b c h k = omega arith
+
+-- places before and behind the k-th
+above : (k j : ℕ) → k + 1 ≤ j → k ≤ j
+above k j le = omega arith
+
+above_ne : (k j : ℕ) → k + 1 ≤ j → j ≡ k → ⊥
+above_ne k j le e = omega arith
+
+below : (k j : ℕ) → j < k + 1 → (j ≡ k → ⊥) → j < k
+below k j lt ne = omega arith
+
+below_all : (k j n : ℕ) → k ≡ n → j < n → j < k
+below_all k j n e lt = omega arith
+
+reaches : (k n : ℕ) → n ≤ k → k ≤ n → k ≡ n
+reaches k n a b = omega arith
+
+none_below : (j : ℕ) → j < 0 → ⊥
+none_below j lt = omega arith
 
 pub unwrap-part-requires : goal.unwrap-part-requires
 unwrap-part-requires g c =
@@ -32,36 +54,36 @@ loop-k-preserved g c =
     let long : length xs ≡ k = i.4.0 in (
       o.0 ∙ i.0,
       o.2 ∙ i.1,
-      (λ j le lt. ap (λ (l : List Bool). slice_index_or l j false) o.1 ∙ (get_or-set_other fs k j false false (λ e. omega arith) ∙ i.2 j (omega arith) lt)),
+      (λ j le lt. ap (λ (l : List Bool). slice_index_or l j false) o.1 ∙ (get_or-set_other fs k j false false (above_ne k j le) ∙ i.2 j (above k j le) lt)),
       (λ j lt. ap (λ (l : List Bool). slice_index_or l j false) o.1 ∙ dite (ℕ_discrete j k)
           (λ e. ap (λ n. slice_index_or (slice_set fs k false) n false) e ∙ set_false fs k)
-          (λ ne. get_or-set_other fs k j false false ne ∙ i.3 j (omega arith))),
+          (λ ne. get_or-set_other fs k j false false ne ∙ i.3 j (below k j lt ne))),
       (
         ap (λ (l : List (Slot g.row.A.Denot)). length l) items ∙ (length-append xs (y ∷ []) ∙ ap (λ n. n + 1) long),
         λ j x lt e. ap (λ (l : List (Slot g.row.A.Denot)). slice_get l j) items ∙ dite (ℕ_discrete j k)
             (λ is. let same : Some y ≡ Some x = some-injective (Some y) (Some x) (ap some (sym c.unwrap-part.ensures) ∙ (sym c.take.ensures.value ∙ (ap (λ (l : List (Option (Slot g.row.A.Denot))). get_elem? l k) i.0 ∙ (ap (get_elem? (slots_items c.args.closed.now.slots)) (sym is) ∙ e)))) in
             get_last xs y j (is ∙ sym long) ∙ same)
-            (λ ne. get_front xs (y ∷ []) x j (i.4.1 j x (omega arith) e)),
+            (λ ne. get_front xs (y ∷ []) x j (i.4.1 j x (below k j lt ne) e)),
       ),
-      search rules,
-      search rules,
+      c.push_in_room.ensures.len ∙ ap (λ n. n + 1) i.5,
+      le_le _ _ _ i.6 c.push_in_room.ensures.room,
     )
 
 pub returns-clause-gives : goal.returns-clause-gives
 returns-clause-gives g c =
     let i = c.loop-k.invariant in
-    let last : c.loop-k.k ≡ parts = search rules in
-    (i.4.0 ∙ last, λ k x lt e. i.4.1 k x (omega arith) e)
+    let last : c.loop-k.k ≡ parts = reaches c.loop-k.k parts c.loop-k-test.false c.loop-k.auto.k-end in
+    (i.4.0 ∙ last, λ k x lt e. i.4.1 k x (below_all c.loop-k.k k parts last lt) e)
 
 pub loop-k-init : goal.loop-k-init
 loop-k-init g c =
     let full : Filled (slots_filled c.args.closed.now.slots) 0 parts = subst (λ (n : ℕ). Filled (slots_filled c.args.closed.now.slots) 0 n) c.requires.full.1 c.requires.full.0 in
-    let none : vec_len c.args.found ≡ 0 = search rules in (
+    let none : vec_len c.args.found ≡ 0 = c.args.found.ok.0 ∙ ap (λ (l : List (Slot g.row.A.Denot)). length l) c.requires.room.0 in (
       refl,
       c.requires.full.1,
       full,
-      (λ j lt. absurd (omega arith)),
-      (ap (λ (l : List (Slot g.row.A.Denot)). length l) c.requires.room.0, λ j x lt e. absurd (omega arith)),
+      (λ j lt. absurd (none_below j lt)),
+      (ap (λ (l : List (Slot g.row.A.Denot)). length l) c.requires.room.0, λ j x lt e. absurd (none_below j lt)),
       none,
       c.requires.room.1,
     )

@@ -1,4 +1,4 @@
-use Rattle.std.proofs.Common.{◌≡◌, ℕ, length, true, sym, ap, ◌∙◌, subst}
+use Rattle.std.proofs.Common.{◌≡◌, ℕ, ◌<◌, length, true, sym, ap, ◌∙◌, subst}
 use Rattle.std.specs.Prelude.{Option, List}
 use Rattle.atomic_table.specs.Table.{Final, Seen}
 use Rattle.page_state.specs.declared.layout.Layout.{Layout as TheLayout}
@@ -36,3 +36,27 @@ returns g c =
       count = j.ended.1 ∙ (c.requires.root.3 ∙ c.requires.all);
       each_cpu = λ k e at. f.each_cpu k e (elem_of_get c.join_all-cpus.result.items k e at);
     }
+
+pub join_all-cpus-requires-clause-table : goal.join_all-cpus-requires-clause-table
+join_all-cpus-requires-clause-table g c = (c.requires.table.0, c.requires.table.1)
+
+pub join_all-cpus-requires-clause-root : goal.join_all-cpus-requires-clause-root
+join_all-cpus-requires-clause-root g c = c.requires.root
+
+pub join_all-cpus-requires-clause-home : goal.join_all-cpus-requires-clause-home
+join_all-cpus-requires-clause-home g c = c.requires.home
+
+pub join_all-cpus-requires-clause-room : goal.join_all-cpus-requires-clause-room
+join_all-cpus-requires-clause-room g c = (c.requires.room.0, c.requires.room.1)
+
+pub close_with-closed-requires : goal.close_with-closed-requires
+close_with-closed-requires g c = c.join_all-cpus.ensures.root.0 ∙ c.requires.table.0
+
+pub collect-found-requires-clause-full : goal.collect-found-requires-clause-full
+collect-found-requires-clause-full g c = (c.close_with-closed.ensures.values.1, c.close_with-closed.ensures.counts.1 ∙ c.requires.table.2)
+
+pub collect-found-requires-clause-room : goal.collect-found-requires-clause-room
+collect-found-requires-clause-room g c = (c.requires.room.2, c.requires.room.3)
+
+pub free-requires : goal.free-requires
+free-requires g c k lt = let e = c.collect-found.ensures.emptied in e.1 k (subst (λ (n : ℕ). k < n) e.0 lt)

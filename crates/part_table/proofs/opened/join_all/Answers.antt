@@ -1,4 +1,4 @@
-use Rattle.std.proofs.Common.{rules, ◌≡◌, ℕ, ◌+◌, ◌<◌, ◌≤◌, [], ◌∷◌, ◌++◌, length, arith, sym, ap, ◌∙◌, refl, subst, length-append, le_refl}
+use Rattle.std.proofs.Common.{◌≡◌, ℕ, ◌+◌, ◌<◌, ◌≤◌, [], ◌∷◌, ◌++◌, length, arith, sym, ap, ◌∙◌, refl, subst, length-append, le_refl}
 use Rattle.std.specs.Prelude.{Option, Some, None, IsSome, List, slice_get, slice_set}
 use Rattle.std.specs.Vec.{vec_capacity, vec_len}
 use Rattle.atomic_table.specs.Table.{Joins}
@@ -10,6 +10,9 @@ use Rattle.part_table.specs.Rule.{IsLawful, with_end, nobody}
 use Rattle.part_table.proofs.Lists.{from, or_of_get, get_set_else}
 use Rattle.part_table.proofs.Root.{joins}
 use Rattle.part_table.proofs.opened.join_all.Goals as goal
+
+le_le : (a b c : ℕ) → a ≤ b → b ≤ c → a ≤ c
+le_le a b c h k = omega arith
 
 pub unwrap-pass-requires : goal.unwrap-pass-requires
 unwrap-pass-requires g c =
@@ -59,8 +62,8 @@ loop-cpu-preserved g c =
       ap (λ m. m.1) e.2 ∙ i.4,
       ap (λ m. m.0.ended) e.2 ∙ ((λ k. i.5 k ++ q.4 k ∷ []) ∙ sym items),
       ap (λ (l : List CpuState). length l) items ∙ (length-append c.loop-cpu.cpus.items (c.pass.inside.own ∷ []) ∙ ap (λ m. m + 1) i.6),
-      search rules,
-      search rules,
+      c.push_in_room.ensures.len ∙ ap (λ m. m + 1) i.7,
+      le_le _ _ _ i.8 c.push_in_room.ensures.room,
       i.9,
       λ j from below. let h = i.10 j (omega arith) below in (h.0, ap (λ (o : Option Pass). slice_get (slice_set c.loop-cpu.passes.items n o) j) c.take.ensures.after ∙ (get_set_else c.loop-cpu.passes.items n j None (λ z. omega arith) ∙ h.1), h.2, h.3),
     )
@@ -69,7 +72,7 @@ pub loop-cpu-init : goal.loop-cpu-init
 loop-cpu-init g c =
     let r = c.requires.root in
     let count : vec_len c.args.passes ≡ c.len-count.result = sym c.len-count.ensures in
-    let none : vec_len c.args.cpus ≡ 0 = search rules in (
+    let none : vec_len c.args.cpus ≡ 0 = c.args.cpus.ok.0 ∙ ap (λ (l : List CpuState). length l) c.requires.room.0 in (
       refl,
       r.0,
       r.1,

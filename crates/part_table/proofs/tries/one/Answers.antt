@@ -131,3 +131,6 @@ put_back-requires-clause-hand g c = by_front (ap (λ (z : Seated g.row.A.Denot).
 
 pub put_back-requires-clause-held : goal.put_back-requires-clause-held
 put_back-requires-clause-held g c = ap (λ (z : Seated g.row.A.Denot). held_at z.0.held c.args.k) c.in-Some.ensures.taken.0 ∙ at_same c.args.seat.now.me.0.held c.args.k (Some c.in-Some.part) None
+
+pub commit-requires-clause-by : goal.commit-requires-clause-by
+commit-requires-clause-by g c = c.alone-part.ensures.call.by ∙ sym (ap (λ (z : Seated g.row.A.Denot). z.0.cpu) c.in-Some.ensures.taken.0 ∙ c.requires.cpu.1)

@@ -1,6 +1,6 @@
-use Rattle.std.proofs.Common.{◌≡◌, ℕ, ◌+◌, ◌∷◌, [], sym, ap, ◌∙◌, refl, subst, arith}
+use Rattle.std.proofs.Common.{◌≡◌, ℕ, ◌+◌, ◌<◌, ◌∷◌, [], sym, ap, ◌∙◌, refl, subst, arith}
 use Rattle.std.specs.Prelude.{Some, None}
-use Rattle.part_table.specs.Parts.{log_of}
+use Rattle.part_table.specs.Parts.{log_of, parts}
 use Rattle.part_table.specs.Does.{both_at}
 use Rattle.part_table.specs.Rule.{Extends, Seated, StartsWith, held_at, known_of, seen_at}
 use Rattle.part_table.proofs.Holding.{one_gone, two_gone, two_held, both_like, second_held}
@@ -8,6 +8,10 @@ use Rattle.part_table.proofs.Pairs.{at_same, by_front}
 use Rattle.part_table.proofs.Telling.{with_taken, with_both, with_missed, with_home, with_stored, home_of, cpu_told, left_told, rest_told, does_for, left_of, away_first, full_first, away_second, full_second, stored_second, rest_added, rest_home}
 use Rattle.part_table.proofs.tries.two.Goals.{In-Some-take, After-put_back, After-put_back-in_default-take, After-put_back-then-room-eq0-2, After-put_back-then-room-eq0-2-2, After-let_home}
 use Rattle.part_table.proofs.tries.two.Goals as goal
+
+-- there are more parts than one
+low : 1 < parts
+low = omega arith
 
 -- the seat with both parts, the guest in front
 both : (g : _) (c : In-Some-take g) → c.take-2.new.seat.me ≡ with_both c.args.seat.now.me c.in-Some.shared (c.args.v + 2) c.in-Some-take.guest
@@ -246,3 +250,21 @@ put_back-requires-then-room-eq0-2-2-clause-hand g c = by_front (ap (λ (m : Seat
 
 pub put_back-requires-then-room-eq0-2-2-clause-held : goal.put_back-requires-then-room-eq0-2-2-clause-held
 put_back-requires-then-room-eq0-2-2-clause-held g c = ap (λ (m : Seated g.row.A.Denot). held_at m.0.held 1) (guest_back g (goal.at.put_back-requires-then-room-eq0-2-2-clause-held g c).After-put_back-then-room-eq0-2) ∙ second_held (c.args.v + 2) c.in-Some-take.guest c.in-Some.shared c.args.seat.now.me.0.held (λ e. omega arith)
+
+pub commit_first-requires-clause-by : goal.commit_first-requires-clause-by
+commit_first-requires-clause-by g c = c.both-shared.ensures.call.by ∙ sym (ap (λ (m : Seated g.row.A.Denot). m.0.cpu) (both g (goal.at.commit_first-requires-clause-by g c).In-Some-take) ∙ c.requires.cpu.1)
+
+pub take-requires-clause-part : goal.take-requires-clause-part
+take-requires-clause-part g c = low
+
+pub put_back-requires-clause-part : goal.put_back-requires-clause-part
+put_back-requires-clause-part g c = low
+
+pub put_back-requires-in_default-take-clause-part : goal.put_back-requires-in_default-take-clause-part
+put_back-requires-in_default-take-clause-part g c = low
+
+pub put_back-requires-then-room-eq0-2-2-clause-part : goal.put_back-requires-then-room-eq0-2-2-clause-part
+put_back-requires-then-room-eq0-2-2-clause-part g c = low
+
+pub let_home-requires-clause-part : goal.let_home-requires-clause-part
+let_home-requires-clause-part g c = low
