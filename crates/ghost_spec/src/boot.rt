@@ -12,6 +12,7 @@ ghost use Rattle.ghost_trees.specs.Small.{HasLowFrames};
 ghost use Rattle.ghost_spec.specs.Views.{layout_with, shared_in_lists};
 ghost use Rattle.ghost_trees.specs.Trees.{tree_in_lists};
 
+use crate::both::both;
 use crate::leaves::hyp_page;
 use crate::shared::{Shared, behind};
 use ghost_trees::tree::{Table, Tree, edited, need};
@@ -43,9 +44,10 @@ pub fn boot(
     let frames = frames_from(alloc, first, carve.count)?;
     let spare = behind(frames.as_slice(), 2);
     let rest = behind(spare, host_need);
-    let free = Vec::from_slice(alloc, behind(rest, hyp_need))?;
-    let host = tree_at_boot(alloc, depth, first, carve, host_entry(), spare)?;
-    let hyp = tree_at_boot(alloc, depth, first + 1, hyp_pages, hyp_entry(first), rest)?;
+    let free = Vec::from_slice(alloc, behind(rest, hyp_need));
+    let host = tree_at_boot(alloc, depth, first, carve, host_entry(), spare);
+    let hyp = tree_at_boot(alloc, depth, first + 1, hyp_pages, hyp_entry(first), rest);
+    let (free, (host, hyp)) = both(free, both(host, hyp))?;
     Ok(Some(Shared {
         host,
         hyp,

@@ -3,6 +3,7 @@
 
 mod answer;
 pub mod boot;
+mod both;
 pub mod cpu;
 mod decide;
 mod found;

@@ -234,8 +234,7 @@ fn set_row(rows: &mut RunList<Row>, frame: u64, row: Row) -> Result<(), AllocErr
         first: Page(frame),
         count: 1,
     };
-    set_run(rows, Run { pages, value: row })?;
-    Ok(())
+    set_run(rows, Run { pages, value: row })
 }
 
 /// The frames of a run get its rows.

@@ -4,6 +4,7 @@ ghost use Rattle.page_state.specs.Tables.{need as need_of, returned as returned_
 ghost use Rattle.reference_model.specs.Changes.{edit_of};
 ghost use Rattle.reference_model.specs.Step.{shared_after, shared_need};
 
+use crate::both::both;
 use crate::rows::copied_rows;
 use ghost_trees::pool::give_all;
 use ghost_trees::tree::{self, Tree};
@@ -55,11 +56,16 @@ impl Shared {
         ensures same { IfOk result (λ s. shared_in_lists s ≡ shared_in_lists self.now) }
         ensures kept { IfOk result IsKeptShared }
     {
+        let free = Vec::from_slice(alloc, self.free.as_slice());
+        let rows = copied_rows(alloc, self.rows.runs());
+        let host = self.host.copied(alloc);
+        let hyp = self.hyp.copied(alloc);
+        let ((free, rows), (host, hyp)) = both(both(free, rows), both(host, hyp))?;
         Ok(Shared {
-            free: Vec::from_slice(alloc, self.free.as_slice())?,
-            rows: copied_rows(alloc, self.rows.runs())?,
-            host: self.host.copied(alloc)?,
-            hyp: self.hyp.copied(alloc)?,
+            host,
+            hyp,
+            free,
+            rows,
         })
     }
 }

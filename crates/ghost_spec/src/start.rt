@@ -9,6 +9,7 @@ ghost use Rattle.ghost_spec.specs.Views.{cpu_in, shared_in_lists};
 
 use crate::answer::depth;
 use crate::boot;
+use crate::both::both;
 use crate::cpu::GhostCpu;
 use crate::parts::{empty_guests, empty_slots};
 use crate::rows::find_all;
@@ -71,7 +72,10 @@ fn shared_at_boot(alloc: Global, layout: &Layout) -> Result<Option<Shared>, Allo
     let Some(mut shared) = boot::boot(alloc, &layout.map, layout.config, depth(layout))? else {
         return Ok(None);
     };
-    find_all(alloc, layout, &mut shared)?;
+    let Ok(()) = find_all(alloc, layout, &mut shared) else {
+        drop(shared);
+        return Err(AllocError);
+    };
     Ok(Some(shared))
 }
 
@@ -84,13 +88,16 @@ pub fn start(alloc: Global, layout: Layout) -> Result<Option<Ghost>, AllocError>
     ensures layout { IfOk result (λ o. IfSome o (λ g. g.layout ≡ layout)) }
     ensures kept { IfOk result (λ o. IfSome o IsKept) }
 {
-    let rooms = unused_rooms(alloc, layout.config)?;
-    let cpus = idle_cpus(alloc, layout.config.cpus)?;
-    let vms = empty_slots(alloc, 64)?;
-    let guests = empty_guests(alloc, 64)?;
     let Some(shared) = shared_at_boot(alloc, &layout)? else {
         return Ok(None);
     };
+    let rooms = unused_rooms(alloc, layout.config);
+    let cpus = idle_cpus(alloc, layout.config.cpus);
+    let vms = empty_slots(alloc, 64);
+    let guests = empty_guests(alloc, 64);
+    let small = both(both(rooms, cpus), Ok(layout));
+    let large = both(both(vms, guests), Ok(shared));
+    let (((rooms, cpus), layout), ((vms, guests), shared)) = both(small, large)?;
     Ok(Some(Ghost {
         layout,
         vms,

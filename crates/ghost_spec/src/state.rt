@@ -4,6 +4,7 @@ ghost use Rattle.page_state.specs.LayoutView.{layout_of};
 ghost use Rattle.reference_model.specs.Step.{foretell};
 
 use crate::answer::answer;
+use crate::both::both;
 use crate::cpu::GhostCpu;
 use crate::parts::{GhostGuest, GhostSlot, copied_guests, copied_slots};
 use crate::shared::Shared;
@@ -127,13 +128,22 @@ impl Ghost {
         ensures layout { IfOk result (λ g. layout_of g.layout ≡ layout_of self.now.layout) }
         ensures kept { IfOk result IsKept }
     {
+        let layout = copied_layout(&self.layout);
+        let vms = copied_slots(alloc, self.vms.as_slice());
+        let cpus = Vec::from_slice(alloc, self.cpus.as_slice());
+        let rooms = self.rooms.copied(alloc);
+        let guests = copied_guests(alloc, self.guests.as_slice());
+        let shared = self.shared.copied(alloc);
+        let small = both(layout, both(cpus, rooms));
+        let large = both(vms, both(guests, shared));
+        let ((layout, (cpus, rooms)), (vms, (guests, shared))) = both(small, large)?;
         Ok(Ghost {
-            layout: copied_layout(&self.layout)?,
-            vms: copied_slots(alloc, self.vms.as_slice())?,
-            cpus: Vec::from_slice(alloc, self.cpus.as_slice())?,
-            rooms: self.rooms.copied(alloc)?,
-            guests: copied_guests(alloc, self.guests.as_slice())?,
-            shared: self.shared.copied(alloc)?,
+            layout,
+            vms,
+            shared,
+            guests,
+            cpus,
+            rooms,
         })
     }
 
@@ -237,7 +247,10 @@ impl Ghost {
             return Ok(Reply::Refused(Refusal::LogFull));
         }
         let mut used = self.take(alloc, place, step, slot)?;
-        let reply = answer(alloc, &self.layout, cpu, slot, &mut used, step)?;
+        let Ok(reply) = answer(alloc, &self.layout, cpu, slot, &mut used, step) else {
+            drop(used);
+            return Err(AllocError);
+        };
         self.put_back(place, step, slot, used);
         self.store(place, step, slot);
         Ok(reply)
@@ -259,6 +272,9 @@ pub fn predict(
     ensures kept { IfOk result (λ r. IsKept r.1) }
 {
     let mut after = state.copied(alloc)?;
-    let reply = after.advance(alloc, cpu, step)?;
+    let Ok(reply) = after.advance(alloc, cpu, step) else {
+        drop(after);
+        return Err(AllocError);
+    };
     Ok((reply, after))
 }

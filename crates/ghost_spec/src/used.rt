@@ -35,7 +35,7 @@ pub(crate) fn used_vms(
     ensures count { uses_vms_of (names step) ≡ true → IfOk result (λ v. length v.items ≡ length vms.now) }
 {
     if uses_vms(step) {
-        Ok(copied_slots(alloc, vms)?)
+        copied_slots(alloc, vms)
     } else {
         Ok(Vec::new(alloc))
     }

@@ -1,5 +1,5 @@
 //! What a change does to the slots of the VM part.
-ghost use Rattle.std.specs.Prelude.{◌≡◌, ℕ, ◌+◌, ◌<◌, None, IfOk, OnOk, length, get_or};
+ghost use Rattle.std.specs.Prelude.{◌≡◌, ℕ, ◌+◌, ◌<◌, None, OnOk, length, get_or};
 ghost use Rattle.reference_model.specs.Changes.{vms_by};
 ghost use Rattle.reference_model.specs.State.{closing, no_slot, opened, put_at, reserved};
 ghost use Rattle.ghost_spec.specs.Kept.{FitsSlots};
@@ -34,20 +34,21 @@ fn close(slot: &mut GhostSlot)
     slot.stand = GhostStand::Closing;
 }
 
-/// An Empty slot of the generation after this one. None where that passes 64 bits.
-fn released(alloc: Global, generation: u64) -> Result<GhostSlot, AllocError>
-    ensures { IfOk result (λ s. slot_in s ≡ no_slot (generation + 1)) }
+/// A slot becomes an Empty one of the generation after this one. Err where that passes 64 bits.
+fn release(alloc: Global, slot: &mut GhostSlot, generation: u64) -> Result<(), AllocError>
+    ensures { OnOk result (slot_in slot.new ≡ no_slot (generation + 1)) }
 {
     let Some(next) = generation.checked_add(1) else {
         return Err(AllocError);
     };
-    Ok(GhostSlot {
+    *slot = GhostSlot {
         stand: GhostStand::Vacant,
         generation: next,
         kind: VmKind::Plain,
         vcpus: 0,
         loaded: Vec::new(alloc),
-    })
+    };
+    Ok(())
 }
 
 /// The list goes as far as the vCPU.
@@ -95,17 +96,10 @@ pub(crate) fn change(
             close(&mut vms[slot as usize]);
             Ok(())
         }
-        SlotChange::Release { vm } => {
-            vms[vm.slot as usize] = released(alloc, vm.generation)?;
-            Ok(())
-        }
+        SlotChange::Release { vm } => release(alloc, &mut vms[vm.slot as usize], vm.generation),
         SlotChange::Load { slot, vcpu, cpu } => {
-            set_loaded(&mut vms[slot as usize], vcpu, Some(cpu))?;
-            Ok(())
+            set_loaded(&mut vms[slot as usize], vcpu, Some(cpu))
         }
-        SlotChange::Unload { slot, vcpu } => {
-            set_loaded(&mut vms[slot as usize], vcpu, None)?;
-            Ok(())
-        }
+        SlotChange::Unload { slot, vcpu } => set_loaded(&mut vms[slot as usize], vcpu, None),
     }
 }

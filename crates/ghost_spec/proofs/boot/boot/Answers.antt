@@ -1,5 +1,5 @@
 use Rattle.std.proofs.Common.{◌≡◌, ◌^◌, ◌≤◌, refl, sym, subst, ◌∙◌, drop, arith}
-use Rattle.std.proofs.lemmas.Result.{IfOk-from_err}
+use Rattle.std.proofs.lemmas.Result.{IfOk-from_err, IfOk-at_ok}
 use Rattle.descriptor.specs.declared.Prot.{Prot}
 use Rattle.descriptor.specs.declared.State.{State}
 use Rattle.page_state.specs.declared.entry.Entry.{Entry}
@@ -37,11 +37,11 @@ need_at_boot-requires-clause-pages c = carve_low c.carve-carve.result c.args.mem
 pub need_at_boot-requires-clause-frames : goal.need_at_boot-requires-clause-frames
 need_at_boot-requires-clause-frames c = subst (λ (e : Entry). HasLowFrames e c.carve-carve.result.count) (sym c.host_entry.ensures) tt
 
-pub tree_at_boot-requires-clause-pages : goal.tree_at_boot-requires-clause-pages
-tree_at_boot-requires-clause-pages c = carve_low c.carve-carve.result c.args.memory.now.carve c.carve-carve.ensures.value c.carve-carve.ensures.low
+pub tree_at_boot-host-requires-clause-pages : goal.tree_at_boot-host-requires-clause-pages
+tree_at_boot-host-requires-clause-pages c = carve_low c.carve-carve.result c.args.memory.now.carve c.carve-carve.ensures.value c.carve-carve.ensures.low
 
-pub tree_at_boot-requires-clause-frames : goal.tree_at_boot-requires-clause-frames
-tree_at_boot-requires-clause-frames c = subst (λ (e : Entry). HasLowFrames e c.carve-carve.result.count) (sym c.host_entry-2.ensures) tt
+pub tree_at_boot-host-requires-clause-frames : goal.tree_at_boot-host-requires-clause-frames
+tree_at_boot-host-requires-clause-frames c = subst (λ (e : Entry). HasLowFrames e c.carve-carve.result.count) (sym c.host_entry-2.ensures) tt
 
 pub need_at_boot-requires-2-clause-pages : goal.need_at_boot-requires-2-clause-pages
 need_at_boot-requires-2-clause-pages c = hyp_low c.carve-carve.result c.args.memory.now.carve c.hyp_range-hyp_pages.result c.carve-carve.ensures.value c.carve-carve.ensures.low c.hyp_range-hyp_pages.ensures
@@ -49,11 +49,11 @@ need_at_boot-requires-2-clause-pages c = hyp_low c.carve-carve.result c.args.mem
 pub need_at_boot-requires-2-clause-frames : goal.need_at_boot-requires-2-clause-frames
 need_at_boot-requires-2-clause-frames c = frames_low c.carve-carve.result c.args.memory.now.carve c.hyp_range-hyp_pages.result c.hyp_entry.result _ _ c.carve-carve.ensures.value c.carve-carve.ensures.low c.hyp_range-hyp_pages.ensures c.hyp_entry.ensures
 
-pub tree_at_boot-requires-2-clause-pages : goal.tree_at_boot-requires-2-clause-pages
-tree_at_boot-requires-2-clause-pages c = hyp_low c.carve-carve.result c.args.memory.now.carve c.hyp_range-hyp_pages.result c.carve-carve.ensures.value c.carve-carve.ensures.low c.hyp_range-hyp_pages.ensures
+pub tree_at_boot-hyp-requires-clause-pages : goal.tree_at_boot-hyp-requires-clause-pages
+tree_at_boot-hyp-requires-clause-pages c = hyp_low c.carve-carve.result c.args.memory.now.carve c.hyp_range-hyp_pages.result c.carve-carve.ensures.value c.carve-carve.ensures.low c.hyp_range-hyp_pages.ensures
 
-pub tree_at_boot-requires-2-clause-frames : goal.tree_at_boot-requires-2-clause-frames
-tree_at_boot-requires-2-clause-frames c = frames_low c.carve-carve.result c.args.memory.now.carve c.hyp_range-hyp_pages.result c.hyp_entry-2.result _ _ c.carve-carve.ensures.value c.carve-carve.ensures.low c.hyp_range-hyp_pages.ensures c.hyp_entry-2.ensures
+pub tree_at_boot-hyp-requires-clause-frames : goal.tree_at_boot-hyp-requires-clause-frames
+tree_at_boot-hyp-requires-clause-frames c = frames_low c.carve-carve.result c.args.memory.now.carve c.hyp_range-hyp_pages.result c.hyp_entry-2.result _ _ c.carve-carve.ensures.value c.carve-carve.ensures.low c.hyp_range-hyp_pages.ensures c.hyp_entry-2.ensures
 
 pub frames_from-requires : goal.frames_from-requires
 frames_from-requires c = carve_low c.carve-carve.result c.args.memory.now.carve c.carve-carve.ensures.value c.carve-carve.ensures.low
@@ -77,17 +77,18 @@ returns-clause-shared c =
     let l : Layout = layout_with c.args.memory.now c.args.config c.args.depth in
     let host_n : c.in_ok-host_need.host_need ≡ host_need l = rw (c.host_entry.ensures, c.carve-carve.ensures.value) at c.in_ok-host_need.ensures in
     let hyp_n : c.in_ok-hyp_need.hyp_need ≡ hyp_need l = rw (c.hyp_range-hyp_pages.ensures, c.hyp_entry.ensures, c.carve-carve.ensures.value) at c.in_ok-hyp_need.ensures in
+    let trees = c.in_ok-free.ensures.second in
     let first : c.behind-spare.result.now ≡ spare l = rw (c.as_slice.ensures.value, c.in_ok-frames.ensures, c.carve-carve.ensures.value) at c.behind-spare.ensures in
     let rest : c.behind-rest.result.now ≡ drop (host_need l) (spare l) = rw (first, host_n) at c.behind-rest.ensures in
-    let left : c.in_ok-free.free.items ≡ drop (hyp_need l) (drop (host_need l) (spare l)) = rw (c.behind.ensures, rest, hyp_n) at c.in_ok-free.ensures.items in
-    let host : tree_in_lists c.in_ok-host.host ≡ edited l.depth (host_root l) (host_edit l) (spare l) = rw (c.host_entry-2.ensures, first, c.carve-carve.ensures.value) at c.in_ok-host.ensures.tree in
-    let hyp : tree_in_lists c.in_ok-hyp.hyp ≡ edited l.depth (hyp_root l) (hyp_edit l) (drop (host_need l) (spare l)) = rw (c.hyp_range-hyp_pages.ensures, c.hyp_entry-2.ensures, rest, c.carve-carve.ensures.value) at c.in_ok-hyp.ensures.tree in
-    booted l (record { host = c.in_ok-host.host; hyp = c.in_ok-hyp.hyp; free = c.in_ok-free.free; rows = c.new.result }) host hyp left c.new.ensures
+    let left : c.in_ok-free.free.items ≡ drop (hyp_need l) (drop (host_need l) (spare l)) = rw (c.behind.ensures, rest, hyp_n) at (IfOk-at_ok _ c.in_ok-free.ensures.first c.from_slice-free.ensures.items) in
+    let host : tree_in_lists c.in_ok-free.host ≡ edited l.depth (host_root l) (host_edit l) (spare l) = rw (c.host_entry-2.ensures, first, c.carve-carve.ensures.value) at (IfOk-at_ok _ (IfOk-at_ok _ trees c.both.ensures.first) c.tree_at_boot-host.ensures.tree) in
+    let hyp : tree_in_lists c.in_ok-free.hyp ≡ edited l.depth (hyp_root l) (hyp_edit l) (drop (host_need l) (spare l)) = rw (c.hyp_range-hyp_pages.ensures, c.hyp_entry-2.ensures, rest, c.carve-carve.ensures.value) at (IfOk-at_ok _ (IfOk-at_ok _ trees c.both.ensures.second) c.tree_at_boot-hyp.ensures.tree) in
+    booted l (record { host = c.in_ok-free.host; hyp = c.in_ok-free.hyp; free = c.in_ok-free.free; rows = c.new.result }) host hyp left c.new.ensures
 
 pub returns-clause-kept : goal.returns-clause-kept
 returns-clause-kept c = record {
-  host = c.in_ok-host.ensures.kept;
-  hyp = c.in_ok-hyp.ensures.kept;
+  host = IfOk-at_ok _ (IfOk-at_ok _ c.in_ok-free.ensures.second c.both.ensures.first) c.tree_at_boot-host.ensures.kept;
+  hyp = IfOk-at_ok _ (IfOk-at_ok _ c.in_ok-free.ensures.second c.both.ensures.second) c.tree_at_boot-hyp.ensures.kept;
   rows = subst (AreInReach HasPageBelow) (sym c.new.ensures) tt;
 }
 
@@ -126,24 +127,6 @@ returns-in_err-free-clause-shared c = IfOk-from_err _ _ c.from_residual-in_err-f
 
 pub returns-in_err-free-clause-kept : goal.returns-in_err-free-clause-kept
 returns-in_err-free-clause-kept c = IfOk-from_err _ _ c.from_residual-in_err-free.ensures.0
-
-pub returns-in_err-host-clause-enough : goal.returns-in_err-host-clause-enough
-returns-in_err-host-clause-enough c = IfOk-from_err _ _ c.from_residual-in_err-host.ensures.0
-
-pub returns-in_err-host-clause-shared : goal.returns-in_err-host-clause-shared
-returns-in_err-host-clause-shared c = IfOk-from_err _ _ c.from_residual-in_err-host.ensures.0
-
-pub returns-in_err-host-clause-kept : goal.returns-in_err-host-clause-kept
-returns-in_err-host-clause-kept c = IfOk-from_err _ _ c.from_residual-in_err-host.ensures.0
-
-pub returns-in_err-hyp-clause-enough : goal.returns-in_err-hyp-clause-enough
-returns-in_err-hyp-clause-enough c = IfOk-from_err _ _ c.from_residual-in_err-hyp.ensures.0
-
-pub returns-in_err-hyp-clause-shared : goal.returns-in_err-hyp-clause-shared
-returns-in_err-hyp-clause-shared c = IfOk-from_err _ _ c.from_residual-in_err-hyp.ensures.0
-
-pub returns-in_err-hyp-clause-kept : goal.returns-in_err-hyp-clause-kept
-returns-in_err-hyp-clause-kept c = IfOk-from_err _ _ c.from_residual-in_err-hyp.ensures.0
 
 pub returns-then-not-is_enough-clause-shared : goal.returns-then-not-is_enough-clause-shared
 returns-then-not-is_enough-clause-shared c = tt

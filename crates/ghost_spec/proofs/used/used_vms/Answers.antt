@@ -1,10 +1,13 @@
-use Rattle.std.proofs.Common.{List, get_or, sym, ap, ◌∙◌}
+use Rattle.std.proofs.Common.{◌≡◌, List, get_or, map, sym, ap, ◌∙◌}
+use Rattle.std.proofs.lemmas.Result.{IfOk-weaker}
 use Rattle.reference_model.specs.State.{Slot, Vms, no_slot}
+use Rattle.ghost_spec.specs.States.{slot_in}
+use Rattle.ghost_spec.specs.Used.{vms_in}
 use Rattle.ghost_spec.proofs.used.used_vms.Goals as goal
 
 vms-of : List Slot → Vms
 vms-of xs = record { slot = λ v. get_or xs v (no_slot 1) }
 
-pub returns-in_ok-copied_slots-clause-vms : goal.returns-in_ok-copied_slots-clause-vms
+pub returns-then-uses_vms-clause-vms : goal.returns-then-uses_vms-clause-vms
 unfolding vms-of
-returns-in_ok-copied_slots-clause-vms c = rw (sym c.uses_vms.ensures ∙ c.if-uses_vms.true) (ap vms-of c.in_ok-copied_slots.ensures)
+returns-then-uses_vms-clause-vms c = rw (sym c.uses_vms.ensures ∙ c.if-uses_vms.true) (IfOk-weaker c.copied_slots.result (λ v. map slot_in v.items ≡ map slot_in c.args.vms.now) (λ v. vms_in v.items ≡ vms_in c.args.vms.now) (λ v e. ap vms-of e) c.copied_slots.ensures)

@@ -1,4 +1,5 @@
 use Rattle.std.proofs.Common.{◌<◌, ◌+◌, Some, None, length}
+use Rattle.std.proofs.lemmas.Result.{IfOk-weaker}
 use Rattle.reference_model.specs.State.{Slot, closing, no_slot, opened, put_at, reserved}
 use Rattle.ghost_spec.proofs.Slots.{slot-by, slot-changed}
 use Rattle.ghost_spec.proofs.vms.change.Goals as goal
@@ -18,17 +19,17 @@ returns-in-Close-clause-after c =
     let less : c.in-Close.slot < length c.args.vms.now.items = rw c.in-Close.is at c.requires in
     rw c.in-Close.is (slot-by c.args.vms.now.items c.in-Close.slot c.index_mut-in-Close.result.now c.close.new.slot (λ (y : Slot). record y { stand = closing }) less c.index_mut-in-Close.ensures.value c.close.ensures)
 
-pub returns-in_ok-vms-in-Release-clause-after : goal.returns-in_ok-vms-in-Release-clause-after
-returns-in_ok-vms-in-Release-clause-after c =
+pub returns-in-Release-clause-after : goal.returns-in-Release-clause-after
+returns-in-Release-clause-after c =
     let less : c.in-Release.vm.slot < length c.args.vms.now.items = rw c.in-Release.is at c.requires in
-    rw c.in-Release.is (slot-changed c.args.vms.now.items c.in-Release.vm.slot c.in_ok-vms-in-Release.field-0 (λ (y : Slot). no_slot (c.in-Release.vm.generation + 1)) less c.in_ok-vms-in-Release.ensures)
+    rw c.in-Release.is (IfOk-weaker _ _ _ (λ _ h. slot-changed c.args.vms.now.items c.in-Release.vm.slot c.release.new.slot (λ (y : Slot). no_slot (c.in-Release.vm.generation + 1)) less h) c.release.ensures)
 
-pub returns-in_ok-set_loaded-in-Load-clause-after : goal.returns-in_ok-set_loaded-in-Load-clause-after
-returns-in_ok-set_loaded-in-Load-clause-after c =
+pub returns-in-Load-clause-after : goal.returns-in-Load-clause-after
+returns-in-Load-clause-after c =
     let less : c.in-Load.slot < length c.args.vms.now.items = rw c.in-Load.is at c.requires in
-    rw c.in-Load.is (slot-by c.args.vms.now.items c.in-Load.slot c.index_mut-in-Load.result.now _ (λ (y : Slot). record y { loaded = put_at y.loaded c.in-Load.vcpu (Some c.in-Load.cpu) }) less c.index_mut-in-Load.ensures.value c.in_ok-set_loaded-in-Load.ensures)
+    rw c.in-Load.is (IfOk-weaker _ _ _ (λ _ h. slot-by c.args.vms.now.items c.in-Load.slot c.index_mut-in-Load.result.now c.set_loaded.new.slot (λ (y : Slot). record y { loaded = put_at y.loaded c.in-Load.vcpu (Some c.in-Load.cpu) }) less c.index_mut-in-Load.ensures.value h) c.set_loaded.ensures)
 
-pub returns-in_ok-set_loaded-in-Unload-clause-after : goal.returns-in_ok-set_loaded-in-Unload-clause-after
-returns-in_ok-set_loaded-in-Unload-clause-after c =
+pub returns-in-Unload-clause-after : goal.returns-in-Unload-clause-after
+returns-in-Unload-clause-after c =
     let less : c.in-Unload.slot < length c.args.vms.now.items = rw c.in-Unload.is at c.requires in
-    rw c.in-Unload.is (slot-by c.args.vms.now.items c.in-Unload.slot c.index_mut-in-Unload.result.now _ (λ (y : Slot). record y { loaded = put_at y.loaded c.in-Unload.vcpu None }) less c.index_mut-in-Unload.ensures.value c.in_ok-set_loaded-in-Unload.ensures)
+    rw c.in-Unload.is (IfOk-weaker _ _ _ (λ _ h. slot-by c.args.vms.now.items c.in-Unload.slot c.index_mut-in-Unload.result.now c.set_loaded-in-Unload.new.slot (λ (y : Slot). record y { loaded = put_at y.loaded c.in-Unload.vcpu None }) less c.index_mut-in-Unload.ensures.value h) c.set_loaded-in-Unload.ensures)

@@ -1,6 +1,6 @@
 use Rattle.std.proofs.Common.{◌≡◌, ℕ, ◌<◌, Option, length, map, get_or, refl, sym, ap, ◌∙◌}
 use Rattle.std.proofs.lemmas.List.{get_or-map}
-use Rattle.std.proofs.lemmas.Result.{IfOk-from_err}
+use Rattle.std.proofs.lemmas.Result.{IfOk-from_err, IfOk-at_ok}
 use Rattle.step_reply.specs.declared.reply.Reply.{Reply}
 use Rattle.page_state.specs.LayoutView.{layout_of}
 use Rattle.page_state.proofs.Common.{same2}
@@ -37,11 +37,11 @@ returns-clause-foretold c =
     let less : c.args.cpu < length g.cpus.items = rw c.requires.kept.cpus_count c.requires.cpu in
     let own : get_or (map cpu_in g.cpus.items) c.args.cpu no_cpu ≡ cpu_in c.index.result.now = get_or-map cpu_in g.cpus.items c.args.cpu c.index.result.now no_cpu less ∙ ap cpu_in (sym c.index.ensures) in
     let named : slot ≡ guest_slot ((ghost_state g).contents.cpu c.args.cpu) c.args.step = c.guest_slot-slot.ensures.value ∙ ap (λ (k : Cpu). guest_slot k c.args.step) (sym own) in
-    let said = ap (answer (layout_of g.layout) c.args.cpu slot c.args.step) (sym c.in_ok-used.ensures.used) ∙ ap (λ (l : _). answer l c.args.cpu slot c.args.step (used_in c.in_ok-used.used)) (ap layout_of (sym c.take.ensures.layout)) ∙ sym c.in_ok-reply.ensures.answer in
+    let said = ap (answer (layout_of g.layout) c.args.cpu slot c.args.step) (sym c.in_ok-used.ensures.used) ∙ ap (λ (l : _). answer l c.args.cpu slot c.args.step (used_in c.in_ok-used.used)) (ap layout_of (sym c.take.ensures.layout)) ∙ sym (IfOk-at_ok _ c.in-Ok.is c.answer.ensures.answer) in
     let contents = c.store.ensures.contents ∙ c.put_back.ensures.contents ∙ c.in_ok-used.ensures.others _ in
     let before : (ghost_state c.put_back.new.self).rooms ≡ (ghost_state g).rooms = same2 rooms_in (ap (λ l. l.config.log) (c.put_back.ensures.layout ∙ c.take.ensures.layout)) (c.put_back.ensures.rooms ∙ c.take.ensures.rooms) in
     let rooms = c.store.ensures.rooms ∙ ap (λ (r : Rooms). put_rooms (names c.args.step) slot c.args.cpu r (stored (rooms_of (names c.args.step) slot c.args.cpu r))) before in
-    ap (pair c.in_ok-reply.reply) (same2 state-with contents rooms) ∙ sym (foretold-answer (layout_of g.layout) (ghost_state g) c.args.cpu c.args.step slot named c.in_ok-reply.reply (used_in c.answer.new.used) (sym c.is_full.ensures ∙ c.if-is_full.false) said)
+    ap (pair c.in-Ok.reply) (same2 state-with contents rooms) ∙ sym (foretold-answer (layout_of g.layout) (ghost_state g) c.args.cpu c.args.step slot named c.in-Ok.reply (used_in c.answer.new.used) (sym c.is_full.ensures ∙ c.if-is_full.false) said)
 
 pub returns-in_err-used-clause-foretold : goal.returns-in_err-used-clause-foretold
 returns-in_err-used-clause-foretold c = IfOk-from_err _ _ c.from_residual.ensures.0
@@ -49,17 +49,8 @@ returns-in_err-used-clause-foretold c = IfOk-from_err _ _ c.from_residual.ensure
 pub returns-in_err-used-clause-kept : goal.returns-in_err-used-clause-kept
 returns-in_err-used-clause-kept c = IfOk-from_err _ _ c.from_residual.ensures.0
 
-pub returns-in_err-reply-clause-foretold : goal.returns-in_err-reply-clause-foretold
-returns-in_err-reply-clause-foretold c = IfOk-from_err _ _ c.from_residual-in_err-reply.ensures.0
-
-pub returns-in_err-reply-clause-kept : goal.returns-in_err-reply-clause-kept
-returns-in_err-reply-clause-kept c = IfOk-from_err _ _ c.from_residual-in_err-reply.ensures.0
-
 pub returns-in_err-used-clause-layout : goal.returns-in_err-used-clause-layout
 returns-in_err-used-clause-layout c = c.take.ensures.layout
-
-pub returns-in_err-reply-clause-layout : goal.returns-in_err-reply-clause-layout
-returns-in_err-reply-clause-layout c = c.take.ensures.layout
 
 pub returns-then-is_full-clause-layout : goal.returns-then-is_full-clause-layout
 returns-then-is_full-clause-layout c = refl
@@ -108,3 +99,30 @@ store-requires-clause-kept c = c.put_back.ensures.kept
 
 pub store-requires-clause-slot : goal.store-requires-clause-slot
 store-requires-clause-slot c = c.guest_slot-slot.ensures.low
+
+pub answer-requires-clause-vms : goal.answer-requires-clause-vms
+answer-requires-clause-vms c = c.in_ok-used.ensures.count
+
+pub returns-in_default-clause-foretold : goal.returns-in_default-clause-foretold
+returns-in_default-clause-foretold c = tt
+
+pub returns-in_default-clause-kept : goal.returns-in_default-clause-kept
+returns-in_default-clause-kept c = tt
+
+pub returns-in_default-clause-layout : goal.returns-in_default-clause-layout
+returns-in_default-clause-layout c = c.take.ensures.layout
+
+pub put_back-requires-clause-cpu : goal.put_back-requires-clause-cpu
+put_back-requires-clause-cpu c = rw (c.in_ok-used.ensures.left.cpus_count, c.take.ensures.layout) c.requires.cpu
+
+pub put_back-requires-clause-kept : goal.put_back-requires-clause-kept
+put_back-requires-clause-kept c = c.in_ok-used.ensures.left
+
+pub put_back-requires-clause-used : goal.put_back-requires-clause-used
+put_back-requires-clause-used c = IfOk-at_ok _ c.in-Ok.is c.answer.ensures.kept
+
+pub put_back-requires-clause-count : goal.put_back-requires-clause-count
+put_back-requires-clause-count c t = IfOk-at_ok _ c.in-Ok.is c.answer.ensures.count ∙ c.in_ok-used.ensures.count t
+
+pub store-requires-clause-cpu : goal.store-requires-clause-cpu
+store-requires-clause-cpu c = rw (c.put_back.ensures.kept.cpu_rooms_count, c.put_back.ensures.layout, c.take.ensures.layout) c.requires.cpu

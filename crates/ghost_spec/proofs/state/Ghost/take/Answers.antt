@@ -1,9 +1,11 @@
-use Rattle.std.proofs.Common.{refl, sym, ap, ◌∙◌}
+use Rattle.std.proofs.Common.{refl, sym, ap, subst, ◌∙◌}
 use Rattle.std.proofs.lemmas.List.{get_or-map}
+use Rattle.std.proofs.lemmas.Result.{IfOk-from_err}
 use Rattle.page_state.proofs.Common.{same4}
 use Rattle.reference_model.specs.Parts.{names, uses_shared}
 use Rattle.reference_model.specs.State.{Vms, Shared, Guest, Cpu, no_cpu}
 use Rattle.reference_model.specs.Used.{Used, used_of, put_back}
+use Rattle.ghost_spec.specs.Kept.{IsKeptCpu}
 use Rattle.ghost_spec.specs.Views.{cpu_in, shared_in_lists}
 use Rattle.ghost_spec.proofs.Foretold.{contents-same, if-stays}
 use Rattle.ghost_spec.proofs.state.Ghost.take.Goals as goal
@@ -32,3 +34,52 @@ returns-clause-left c = record {
   guest_rooms_count = c.requires.kept.guest_rooms_count;
   cpu_rooms_count = c.requires.kept.cpu_rooms_count;
 }
+
+pub returns-in_err-used_vms-clause-used : goal.returns-in_err-used_vms-clause-used
+returns-in_err-used_vms-clause-used c = IfOk-from_err _ _ c.from_residual.ensures.0
+
+pub returns-in_err-used_vms-clause-kept : goal.returns-in_err-used_vms-clause-kept
+returns-in_err-used_vms-clause-kept c = IfOk-from_err _ _ c.from_residual.ensures.0
+
+pub returns-in_err-used_vms-clause-others : goal.returns-in_err-used_vms-clause-others
+returns-in_err-used_vms-clause-others c = IfOk-from_err _ _ c.from_residual.ensures.0
+
+pub returns-in_err-used_vms-clause-left : goal.returns-in_err-used_vms-clause-left
+returns-in_err-used_vms-clause-left c = IfOk-from_err _ _ c.from_residual.ensures.0
+
+pub returns-in_err-used_vms-clause-count : goal.returns-in_err-used_vms-clause-count
+returns-in_err-used_vms-clause-count c t = IfOk-from_err _ _ c.from_residual.ensures.0
+
+pub returns-in_err-used_vms-clause-layout : goal.returns-in_err-used_vms-clause-layout
+returns-in_err-used_vms-clause-layout c = refl
+
+pub returns-in_err-used_vms-clause-rooms : goal.returns-in_err-used_vms-clause-rooms
+returns-in_err-used_vms-clause-rooms c = refl
+
+pub returns-clause-layout : goal.returns-clause-layout
+returns-clause-layout c = refl
+
+pub returns-clause-rooms : goal.returns-clause-rooms
+returns-clause-rooms c = refl
+
+pub take_shared-requires : goal.take_shared-requires
+take_shared-requires c = c.requires.kept.shared
+
+pub take_guest-requires-clause-count : goal.take_guest-requires-clause-count
+take_guest-requires-clause-count c = c.requires.kept.guests_count
+
+pub take_guest-requires-clause-kept : goal.take_guest-requires-clause-kept
+take_guest-requires-clause-kept c = c.requires.kept.guests
+
+pub take_guest-requires-clause-slot : goal.take_guest-requires-clause-slot
+take_guest-requires-clause-slot c = c.requires.slot
+
+pub returns-clause-kept : goal.returns-clause-kept
+returns-clause-kept c = record {
+  shared = c.take_shared.ensures.kept;
+  guest = c.take_guest.ensures.kept;
+  own = subst IsKeptCpu (sym c.index.ensures) (c.requires.kept.cpus c.args.cpu c.index.result.now c.requires.cpu);
+}
+
+pub returns-clause-count : goal.returns-clause-count
+returns-clause-count c t = rw c.as_slice.ensures.value at (c.in_ok-used_vms.ensures.count t) ∙ c.requires.kept.vms_count
