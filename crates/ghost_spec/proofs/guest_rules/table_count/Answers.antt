@@ -24,3 +24,6 @@ returns-clause-value c =
     (c.tables_at.ensures.value ∙ ap (λ (ts : List Table). count_below 1 (λ i. is_some (table_of ts (3, i)))) c.as_slice-tables.ensures.value)
     (c.tables_at-2.ensures.value ∙ ap (λ (ts : List Table). count_below 512 (λ i. is_some (table_of ts (2, i)))) c.as_slice-tables.ensures.value)
     (c.tables_at-3.ensures.value ∙ ap (λ (ts : List Table). count_below 262144 (λ i. is_some (table_of ts (1, i)))) c.as_slice-tables.ensures.value)
+
+pub overflow_add-result : goal.overflow_add-result
+overflow_add-result c = omega (arith, c.tables_at.ensures.low, c.tables_at-2.ensures.low)
