@@ -1,13 +1,13 @@
-//! Tests of the layers below (`layers`), of the oracle (`judge`, `record`), of worlds, of machines, and of replays. They
-//! stand in a crate of their own, since tests are proved with all functions of their crate.
+//! Tests of the oracle (`audit`, `judge`, `record`), of worlds, of machines, and of replays. They stand in a crate of their own,
+//! since tests are proved with all functions of their crate.
 #![tactic(auto)]
 
+#[cfg(test)]
+mod audit;
 #[cfg(test)]
 mod expect;
 #[cfg(test)]
 mod judge;
-#[cfg(test)]
-mod layers;
 #[cfg(test)]
 mod machines;
 pub mod numbers;

@@ -8,7 +8,7 @@ use Rattle.table_tree.specs.View.{tree_of}
 use Rattle.table_tree.proofs.Same.{same_uses, same_count, by_views}
 use Rattle.table_tree.proofs.Sums.{tree_some}
 use Rattle.walk_plan.proofs.Given.{take_drop_length, take_length}
-use Rattle.world_tests.proofs.layers.changes.in_hand.Goals as goal
+use Rattle.layer_tests.proofs.changes.in_hand.Goals as goal
 
 pub returns-clause-just : goal.returns-clause-just
 returns-clause-just g c =

@@ -16,7 +16,7 @@ pub(crate) fn pages(first: u64, count: u64) -> PageRange
 }
 
 /// The entry of an owner that may do all: an RWX Normal leaf.
-pub(crate) fn leaf(frame: u64, state: State) -> Entry
+pub fn leaf(frame: u64, state: State) -> Entry
     ensures leaf { result ≡ leaf_of Prot.RWX frame state }
     ensures fits { (n : ℕ) → frame + n ≤ 2 ^ 36 → IsRangeEntry n result }
 {

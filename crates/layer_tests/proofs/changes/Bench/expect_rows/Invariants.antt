@@ -2,7 +2,7 @@ use Rattle.std.proofs.Common.{◌≡◌, ℕ, ◌+◌, ◌≤◌, length}
 use Rattle.page_state.specs.Counts.{frame_count}
 use Rattle.page_state.specs.declared.layout.Geometry.TheVariants.{Bits39}
 use Rattle.table_tree.specs.View.{uses, tables_of}
-use Rattle.world_tests.proofs.layers.changes.Bench.expect_rows.Given as goal
+use Rattle.layer_tests.proofs.changes.Bench.expect_rows.Given as goal
 
 abbrev pub invariant-loop-row : goal.invariant-loop-row
 invariant-loop-row g l =
