@@ -137,8 +137,8 @@ one_owner l = record { host_owned = host_owned; owned = owned; no_other = no_oth
     by_map : (f component page : ℕ) (state : State) → Maps (booted l) component page f state → component ≡ owner l (booted l) f
     by_map f component page state m = let a = maps-booted l component page f state m in a.hyps ∙ sym (owner-carve l f a.carved)
 
-    no_other : (f component page : ℕ) → IsTrue (is_memory l f) → Holds (booted l) component page f → component ≡ owner l (booted l) f
-    no_other f component page m h = elim h [ inl a ↦ by_map f component page Owned a | inr a ↦ by_map f component page SharedOwned a ]
+    no_other : (f component page : ℕ) → Holds (booted l) component page f → component ≡ owner l (booted l) f
+    no_other f component page h = elim h [ inl a ↦ by_map f component page Owned a | inr a ↦ by_map f component page SharedOwned a ]
 
 not-borrowed : (l : Layout) (component page f : ℕ) → Maps (booted l) component page f SharedBorrowed → ⊥
 not-borrowed l component page f m = let e = (maps-booted l component page f SharedBorrowed m).is_owned in cc

@@ -25,6 +25,7 @@ pub mod SharedMoves
 pub mod SharedSteps
 pub mod Slots
 pub mod SoundOf
+pub mod SoundOnce
 pub mod Stands
 pub mod Tables
 pub mod Tests

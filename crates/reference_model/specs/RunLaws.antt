@@ -28,6 +28,10 @@ LegalRows = (l : Layout) (s : Contents) (legal : Legal l s) → IsUsable l → (
 abbrev pub LegalSound : Type 0
 LegalSound = (l : Layout) (s : Contents) → Legal l s → IsUsable l → Sound l s
 
+-- nobody need hold how a state is legal: that it is so is enough to have all of Sound, the pages and places that it names too
+abbrev pub KnownLegalSound : Type 0
+KnownLegalSound = (l : Layout) (s : Contents) → IsUsable l → ∥ Legal l s ∥₁ → Sound l s
+
 -- the boot state is legal
 abbrev pub BootLegal : Type 0
 BootLegal = (l : Layout) → IsCarveEnough l → IsUsable l → Legal l (boot l).contents

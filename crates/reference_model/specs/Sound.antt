@@ -50,11 +50,11 @@ owner l s f = (row_of l s f).owner.0
 abbrev pub usage : Layout → Contents → ℕ → Usage
 usage l s f = (row_of l s f).usage
 
--- one owner: what it owns the host has Unmapped, Owned or SharedOwned; another owner has exactly one such entry; nobody but the owner has one
+-- one owner of each memory frame: what it owns the host has Unmapped, Owned or SharedOwned; another owner has exactly one such entry. Of any frame, memory or not, nobody but the owner has one
 pub record OneOwner (l : Layout) (s : Contents) : Type 0 where
   pub host_owned : (f : ℕ) → IsTrue (is_memory l f) → owner l s f ≡ 0 → IsHostsOwn f (s.shared.host.map f)
   pub owned : (f : ℕ) → IsTrue (is_memory l f) → owner l s f ≢ 0 → IsOne (λ page. Holds s (owner l s f) page f)
-  pub no_other : (f component page : ℕ) → IsTrue (is_memory l f) → Holds s component page f → component ≡ owner l s f
+  pub no_other : (f component page : ℕ) → Holds s component page f → component ≡ owner l s f
 
 -- somebody borrows the frame
 abbrev pub IsBorrowed : Contents → ℕ → Type 0

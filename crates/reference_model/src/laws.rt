@@ -6,7 +6,7 @@ ghost use Rattle.reference_model.specs.Held.{HistorySteps, CallGrows, HeldStored
 ghost use Rattle.reference_model.specs.Rely.{ReachedRelies, RelyingAnswers};
 ghost use Rattle.reference_model.specs.RoomLaws.{StoredFalls, RunRooms};
 ghost use Rattle.reference_model.specs.Examples.{NeedRow, SplitRow, RemovalRow, CanBootRow, BootRow, WideBootRow, ShareRow, BesideRow, NearRow, AgainRow, CarveRow, DeviceRow, PastRow, NoFrameRow, OneFrameRow, FullLogRow, FullSharedRow, RoomRow, OwnerRow};
-ghost use Rattle.reference_model.specs.RunLaws.{LegalRows, LegalSound, BootLegal, BootRowsTold, LegalKeeps, RunLegal, RunSound, RunRows, AcceptedUsable, AcceptedDepth, AcceptedMade, RowsTold};
+ghost use Rattle.reference_model.specs.RunLaws.{LegalRows, LegalSound, KnownLegalSound, BootLegal, BootRowsTold, LegalKeeps, RunLegal, RunSound, RunRows, AcceptedUsable, AcceptedDepth, AcceptedMade, RowsTold};
 ghost use Rattle.reference_model.specs.RowLaws.{LegalRowsTrue, RunRowsTrue, RowOnce};
 ghost use Rattle.reference_model.specs.ConditionChanges.{ConditionOnce, ConditionsMove};
 ghost use Rattle.reference_model.specs.OrderLaws.{PartsRun, PartsHistory};
@@ -111,9 +111,10 @@ pub fn legal_rows()
     ensures { LegalRows }
 {}
 
-/// A legal state is sound.
+/// A legal state is sound, and that it is legal somehow is enough.
 pub fn legal_sound()
-    ensures { LegalSound }
+    ensures legal { LegalSound }
+    ensures known { KnownLegalSound }
 {}
 
 /// The boot state is legal, and its rows say that the carve-out is the hypervisor's and all other memory the host's.

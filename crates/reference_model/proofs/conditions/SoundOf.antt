@@ -169,14 +169,21 @@ own-fits f (guests v g) e i h o = absurd (omega arith)
 own-fits f (lent_back v g) e i h o = absurd (omega arith)
 
 abbrev guest-page : Condition → ℕ
+guest-page (with_guest v g) = g
 guest-page (guests v g) = g
 guest-page (lent_back v g) = g
 guest-page other = 0
 
-named-page : (state : State) (v p : ℕ) → (state ≡ SharedBorrowed → ⊥) → guest-page (guest_condition state v p) ≡ p
-named-page Owned v p n = refl
-named-page SharedOwned v p n = refl
-named-page SharedBorrowed v p n = absurd (n refl)
+named-page : (state : State) (v p : ℕ) → guest-page (guest_condition state v p) ≡ p
+named-page Owned v p = refl
+named-page SharedOwned v p = refl
+named-page SharedBorrowed v p = refl
+
+-- a component maps a frame in a state at one page at most
+pub maps-once : (l : Layout) (s : Contents) (f : ℕ) (c : Condition) (x : SharedStands l s.shared f c) (g : GuestsStand l s.guest f c) (component a b : ℕ) (state : State) → Maps s component a f state → Maps s component b f state → b ≡ a
+maps-once l s f c x g zero a b state m n = (host-at l s f c x g b state n).0 ∙ sym (host-at l s f c x g a state m).0
+maps-once l s f c x g (suc zero) a b state m n = (hyp-at l s f c x g b state n).0 ∙ sym (hyp-at l s f c x g a state m).0
+maps-once l s f c x g (suc (suc v)) a b state m n = sym (named-page state v b) ∙ ap guest-page (sym (guest-at l s f c x g v b state n) ∙ guest-at l s f c x g v a state m) ∙ named-page state v a
 
 -- the one entry of another owner
 pub own-one : (l : Layout) (s : Contents) (f : ℕ) (c : Condition) (x : SharedStands l s.shared f c) (g : GuestsStand l s.guest f c) → ((row_in f c).owner.0 ≡ 0 → ⊥) → IsOne (λ page. Holds s (row_in f c).owner.0 page f)
@@ -185,8 +192,8 @@ own-one l s f hosts x g n = absurd (n refl)
 own-one l s f with_hyp x g n = absurd (n refl)
 own-one l s f (with_guest v q) x g n = absurd (n refl)
 own-one l s f (hyps u) x g n = (hyp_page f, inl (leaf-is f Owned (s.shared.hyp.map (hyp_page f)) (leaf RW f Owned) x.hyp (leaf-maps RW f Owned)), λ page h. holds-state s 1 page f h (λ state m k. (hyp-at l s f (hyps u) x g page state m).0))
-own-one l s f (guests v q) x g n = (q, inl (guest-maps l s f (guests v q) x g v q Owned refl), λ page h. holds-state s (2 + v) page f h (λ state m k. sym (ap guest-page (guest-at l s f (guests v q) x g v page state (subst (λ a. Maps s a page f state) (two-more v) m)) ∙ named-page state v page k)))
-own-one l s f (lent_back v q) x g n = (q, inr (guest-maps l s f (lent_back v q) x g v q SharedOwned refl), λ page h. holds-state s (2 + v) page f h (λ state m k. sym (ap guest-page (guest-at l s f (lent_back v q) x g v page state (subst (λ a. Maps s a page f state) (two-more v) m)) ∙ named-page state v page k)))
+own-one l s f (guests v q) x g n = (q, inl (guest-maps l s f (guests v q) x g v q Owned refl), λ page h. holds-state s (2 + v) page f h (λ state m k. sym (ap guest-page (guest-at l s f (guests v q) x g v page state (subst (λ a. Maps s a page f state) (two-more v) m)) ∙ named-page state v page)))
+own-one l s f (lent_back v q) x g n = (q, inr (guest-maps l s f (lent_back v q) x g v q SharedOwned refl), λ page h. holds-state s (2 + v) page f h (λ state m k. sym (ap guest-page (guest-at l s f (lent_back v q) x g v page state (subst (λ a. Maps s a page f state) (two-more v) m)) ∙ named-page state v page)))
 
 -- it is borrowed exactly where its owner's entry is shared
 lent-shared : (l : Layout) (s : Contents) (f : ℕ) (c : Condition) (x : SharedStands l s.shared f c) (g : GuestsStand l s.guest f c) → IsBorrowed s f → (page : ℕ) × Maps s (row_in f c).owner.0 page f SharedOwned
@@ -215,7 +222,7 @@ shared-lent l s f (guests v q) x g page m = let e = guest-at l s f (guests v q) 
 
 -- where a frame is held
 
-contains-count : (fs : List ℕ) (f k : ℕ) → k < length fs → slice_index_or fs k f ≡ f → 1 ≤ frame_count f fs
+pub contains-count : (fs : List ℕ) (f k : ℕ) → k < length fs → slice_index_or fs k f ≡ f → 1 ≤ frame_count f fs
 contains-count [] f k less h = absurd (omega arith)
 contains-count (g ∷ gs) f zero less h = let n = count_next f g gs in let e : is_one g f ≡ 1 = ap one (eq-made g f h) in omega arith
 contains-count (g ∷ gs) f (suc k) less h = let n = count_next f g gs in let m = contains-count gs f k (omega arith) h in omega arith
@@ -250,7 +257,7 @@ table-found l t f h = is_table_frame-block l t f (is_table_frame-uses l t f ∙ 
 pool-found : (fs : List ℕ) (f : ℕ) → 1 ≤ frame_count f fs → Contains fs f
 pool-found fs f h = is_free-contains fs f (is_free-count fs f ∙ grind (arith, nat_tests))
 
-one-most : (b : Bool) → one b ≤ 1
+pub one-most : (b : Bool) → one b ≤ 1
 one-most true = omega arith
 one-most false = omega arith
 
@@ -363,7 +370,7 @@ module _ (l : Layout) (s : Contents) (legal : Legal l s) (usable : IsUsable l) w
   one_owner = record {
     host_owned = λ f m o. own-fits f (legal.condition f) (s.shared.host.map f) (legal.of_layout.inside f ∙ m) (legal.maps.host f) (sym (owner-is f) ∙ o);
     owned = λ f m o. subst (λ n. IsOne (λ page. Holds s n page f)) (sym (owner-is f)) (own-one l s f (legal.condition f) (x f) (g f) (λ e. o (owner-is f ∙ e)));
-    no_other = λ f component page m h. holds-state s component page f h (λ state k n. owner-of l s f (legal.condition f) (x f) (g f) component page state k n ∙ sym (owner-is f));
+    no_other = λ f component page h. holds-state s component page f h (λ state k n. owner-of l s f (legal.condition f) (x f) (g f) component page state k n ∙ sym (owner-is f));
   }
 
   one_borrower : OneBorrower l s
