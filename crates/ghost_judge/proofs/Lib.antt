@@ -3,3 +3,4 @@ pub mod Audited
 pub mod Judged
 pub mod JudgedSteps
 pub mod Marked
+pub mod OneAnswer
