@@ -4,4 +4,5 @@ pub mod Lends
 pub mod Loans
 pub mod Ranges
 pub mod Stepping
+pub mod Wants
 pub mod Whole

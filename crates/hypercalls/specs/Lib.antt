@@ -3,4 +3,5 @@ pub mod Carried
 pub mod Stands
 pub mod Steps
 pub mod Uses
+pub mod Wants
 pub mod Whole

@@ -2,6 +2,7 @@
 #![tactic(auto)]
 
 mod carry;
+pub mod laws;
 mod lent;
 mod parts;
 mod rows;
