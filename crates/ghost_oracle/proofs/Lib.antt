@@ -7,6 +7,7 @@ pub mod Lists
 pub mod LowKept
 pub mod LowParts
 pub mod Places
+pub mod PokedOnce
 pub mod PokedParts
 pub mod Reached
 pub mod Recording

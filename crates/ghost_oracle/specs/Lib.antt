@@ -4,6 +4,7 @@ pub mod Found
 pub mod Levels
 pub mod Low
 pub mod Poked
+pub mod PokedLaws
 pub mod RawFound
 pub mod Recorded
 pub mod Seen

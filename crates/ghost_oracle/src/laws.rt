@@ -1,4 +1,5 @@
-//! A law about records. The function does nothing, and its contract is the law.
+//! Laws about records and pokes. Each function does nothing, and its contract is the law.
+ghost use Rattle.ghost_oracle.specs.PokedLaws.{BesideOnce, PokedOnce};
 ghost use Rattle.ghost_oracle.specs.Recorded.{RecordsUsed};
 
 use std::alloc::Allocator;
@@ -7,4 +8,10 @@ use std::alloc::Allocator;
 /// loaded, and each log is empty.
 pub fn record_is_put_back<A: Allocator>()
     ensures { RecordsUsed A }
+{}
+
+/// What a poke leaves is told whole: the words and the map of each tree, and all that stands beside the trees.
+pub fn poked_once<A: Allocator>()
+    ensures trees { PokedOnce }
+    ensures beside { BesideOnce A }
 {}
