@@ -1,6 +1,6 @@
 -- What holds after any list of steps, made one after another.
 use Rattle.std.proofs.Common.{◌≡◌, ℕ, ◌+◌, ◌<◌, zero, suc, refl, ap, sym, ◌∙◌, subst, arith, List, [], ◌∷◌, ◌++◌, map, length, take, get_or, All}
-use Rattle.std.proofs.Math.Logic.{∥∥₁_map}
+use Rattle.std.proofs.Math.Logic.{∥∥₁_elim, ∥∥₁_map}
 use Rattle.std.proofs.lemmas.List.{map_push}
 use Rattle.std.proofs.lemmas.List.Elements.{All-append, All-cons, All-nil}
 use Rattle.std.proofs.Math.Seq.{take-suc}
@@ -9,18 +9,21 @@ use Rattle.step_reply.specs.declared.reply.Reply.{Reply}
 use Rattle.step_reply.specs.declared.step.Step.{Step}
 use Rattle.page_state.specs.Layouts.{Layout}
 use Rattle.reference_model.specs.Boot.{boot, CanBoot}
+use Rattle.reference_model.specs.Conditions.{IsUsable, Legal}
 use Rattle.reference_model.specs.Run.{Runs, IsRun}
 use Rattle.reference_model.specs.State.{Reference}
 use Rattle.reference_model.specs.Step.{Steps}
 use Rattle.reference_model.proofs.Steps.{refusal_keeps}
-use Rattle.reference_model.proofs.conditions.Isolates.{run_isolated, run_kept_out}
-use Rattle.reference_model.proofs.conditions.RunsLegal.{run_sound, run_rows}
+use Rattle.reference_model.proofs.conditions.Isolates.{run_isolated}
+use Rattle.reference_model.proofs.conditions.RunsLegal.{ready-usable, run_legal, run_rows, run_sound}
+use Rattle.reference_model.proofs.conditions.SoundOnce.{kept_out_once, sound_once}
 use Rattle.hypercalls.specs.declared.parts.Parts.{Parts}
 use Rattle.hypercalls.specs.Stands.{parts_layout, state_of, HasHistory}
 use Rattle.hypercalls.specs.Whole.{call_of, IsStep}
 use Rattle.world.specs.Headline.{IsRight, CallKeeps, Headline}
 use Rattle.world.specs.Laws.{Goes}
 use Rattle.ghost_oracle.proofs.Reached.{run_to}
+use Rattle.world.proofs.WalkedState.{row_prop}
 use Rattle.world.proofs.Runs.{runs_from, known, layout_stays, all_of_parts}
 
 -- one run after another
@@ -68,17 +71,14 @@ module _ {A : Type 0} (p : Parts A) where
     ends : IsRun l (h.log ++ calls) (state_of q)
     ends = so_far calls (state_of q) (known calls p q goes) (runs_from calls p q goes)
 
-    right : IsRight q
-    right =
-        let same : parts_layout q ≡ l = layout_stays calls p q goes in
-        let run : IsRun (parts_layout q) (h.log ++ calls) (state_of q) = subst (λ (k : Layout). IsRun k (h.log ++ calls) (state_of q)) (sym same) ends in
-        let ready : CanBoot (parts_layout q) = subst CanBoot (sym same) h.ready in
-        record {
-          agree = all_of_parts q;
-          rows = λ f m. run_rows (parts_layout q) (h.log ++ calls) (state_of q) ready run f m;
-          sound = run_sound (parts_layout q) (h.log ++ calls) (state_of q) ready run;
-          kept_out = λ v f component page state owned maps. run_kept_out (parts_layout q) (h.log ++ calls) (state_of q) v f component page state ready run owned maps;
-        }
+    same : parts_layout q ≡ l
+    same = layout_stays calls p q goes
+
+    ready_after : CanBoot (parts_layout q)
+    ready_after = subst CanBoot (sym same) h.ready
+
+    run_after : IsRun (parts_layout q) (h.log ++ calls) (state_of q)
+    run_after = subst (λ (k : Layout). IsRun k (h.log ++ calls) (state_of q)) (sym same) ends
 
     each : (done left : List Call) (c : Call) (s t : Reference) → calls ≡ done ++ c ∷ left → Runs (Steps l) (state_of p) done s → Steps l s c t → CallKeeps l s c t
     each done left c s t e run step =
@@ -99,9 +99,23 @@ module _ {A : Type 0} (p : Parts A) where
         first [] b ds all = all zero b (omega arith)
         first (a ∷ cs) b ds all = first cs b ds (λ k d less. all (suc k) d (omega arith))
 
+-- what the parts stand for afterwards is right, whichever their history is
+right : {A : Type 0} (p q : Parts A) (calls : List Call) → ∥ HasHistory p ∥₁ → Runs Goes p calls q → IsRight q
+right p q calls past goes =
+    let l : Layout = parts_layout q in
+    let s : Reference = state_of q in
+    let legal : ∥ IsUsable l × Legal l s.contents ∥₁ = ∥∥₁_map past (λ h. (ready-usable l (ready_after p q h calls goes), run_legal l (h.log ++ calls) s (ready_after p q h calls goes) (run_after p q h calls goes))) in
+    record {
+      agree = all_of_parts q;
+      rows = λ f m. ∥∥₁_elim past (row_prop _ _) (λ h. run_rows l (h.log ++ calls) s (ready_after p q h calls goes) (run_after p q h calls goes) f m);
+      sound = sound_once l s.contents legal;
+      kept_out = kept_out_once l s.contents legal;
+    }
+
 pub headline : {A : Type 0} (p q : Parts A) (steps : List (ℕ × Step)) (replies : List Reply) → ∥ HasHistory p ∥₁ → Made p steps replies q → Headline p steps replies q
 headline p q steps replies past m = record {
   layout = layout_stays m.calls p q m.goes;
+  right = right p q m.calls past m.goes;
   run = ∥∥₁_map past (λ h. record {
     before = h.log;
     calls = m.calls;
@@ -109,7 +123,6 @@ headline p q steps replies past m = record {
     replied = m.replied;
     begins = run_to p h;
     ends = ends p q h m.calls m.goes;
-    right = right p q h m.calls m.goes;
     each = each p q h m.calls m.goes;
   });
 }

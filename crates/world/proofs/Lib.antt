@@ -3,6 +3,7 @@ pub mod Boots
 pub mod Runs
 pub mod WalkedState
 pub mod Headline
+pub mod HeadlineLaws
 pub mod SameCalls
 pub mod Merging
 pub mod MergedLists

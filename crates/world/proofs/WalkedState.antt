@@ -20,7 +20,7 @@ use Rattle.hypercalls.specs.Stands.{parts_layout, state_of, HasHistory}
 use Rattle.ghost_oracle.specs.Found.{found_state, scratch_rows, walked_state}
 use Rattle.ghost_oracle.proofs.Reached.{run_to}
 
-row_prop : (a b : Row) → IsProp (a ≡ b)
+pub row_prop : (a b : Row) → IsProp (a ≡ b)
 row_prop a b = hlevel props
 
 none_of : {X : Type 0} (o : Option X) → is_some o ≡ false → o ≡ None

@@ -39,7 +39,7 @@ pub record CallKeeps (l : Layout) (s : Reference) (c : Call) (t : Reference) : T
   pub refused : (why : Refusal) → c.reply ≡ Refused why → t.contents ≡ s.contents
   pub isolated : (v f : ℕ) → (s.contents.guest v).phase ≡ live → owner l s.contents f ≡ 2 + v → FrameStays l s.contents t.contents c v f
 
--- the calls of a list of steps with these replies: they go on from a run of the reference step, which comes from the boot state to where the steps begin, and the run then ends where they end, which is right. Each call keeps what it must
+-- the calls of a list of steps with these replies: they go on from a run of the reference step, which comes from the boot state to where the steps begin, and the run then ends where they end. Each call keeps what it must
 pub record RunsOn {A : Type 0} (p : Parts A) (steps : List (ℕ × Step)) (replies : List Reply) (q : Parts A) : Type 0 where
   pub before : List Call
   pub calls : List Call
@@ -47,10 +47,10 @@ pub record RunsOn {A : Type 0} (p : Parts A) (steps : List (ℕ × Step)) (repli
   pub replied : map (λ c. c.reply) calls ≡ replies
   pub begins : IsRun (parts_layout p) before (state_of p)
   pub ends : IsRun (parts_layout p) (before ++ calls) (state_of q)
-  pub right : IsRight q
   pub each : (done left : List Call) (c : Call) (s t : Reference) → calls ≡ done ++ c ∷ left → Runs (Steps (parts_layout p)) (state_of p) done s → Steps (parts_layout p) s c t → CallKeeps (parts_layout p) s c t
 
--- the headline
+-- the headline: the layout stays, what the parts stand for afterwards is right, and there is such a run
 pub record Headline {A : Type 0} (p : Parts A) (steps : List (ℕ × Step)) (replies : List Reply) (q : Parts A) : Type 0 where
   pub layout : parts_layout q ≡ parts_layout p
+  pub right : IsRight q
   pub run : ∥ RunsOn p steps replies q ∥₁

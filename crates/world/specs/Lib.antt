@@ -1,5 +1,6 @@
 pub mod Boots
 pub mod Laws
 pub mod Headline
+pub mod HeadlineLaws
 pub mod Merges
 pub mod inner

@@ -1,4 +1,5 @@
 //! Laws over lists of steps. Each function does nothing, and its contract is the law.
+ghost use Rattle.world.specs.HeadlineLaws.{BeginsRight, BootedElse, FaultOnce, RefusalsLeave, StepKeepsFrames};
 ghost use Rattle.world.specs.Merges.{HistoryMerges, MergedHistory, MergedRun};
 ghost use Rattle.world.specs.Laws.{StepsAgree, StepsIsolate, StepsKeepOut, StepsRun, StepsRows, StepsSound};
 
@@ -37,4 +38,20 @@ pub fn merged_lists()
     ensures merges { HistoryMerges }
     ensures history { MergedHistory }
     ensures run { MergedRun }
+{}
+
+/// What the headline gives who made the steps: where all are refused, the state has all that it had. One step leaves a Live
+/// guest its frames, and its pages of them but for its share with the host or the end of that. Where a step is made, the state
+/// before it was right.
+pub fn after_run<A: Allocator>()
+    ensures refused { RefusalsLeave A }
+    ensures frames { StepKeepsFrames A }
+    ensures begins { BeginsRight A }
+{}
+
+/// Of one memory and configuration a boot tells one fault alone, and where another boot made a world only that memory was
+/// refused.
+pub fn one_fault<A: Allocator>()
+    ensures once { FaultOnce }
+    ensures booted { BootedElse A }
 {}

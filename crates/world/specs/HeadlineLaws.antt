@@ -1,0 +1,53 @@
+-- What the headline gives who made the steps, in words of the states before and after, and that a boot has one fault.
+use Rattle.std.specs.Prelude.{◌≡◌, ℕ, ◌+◌, List, [], ◌∷◌, All}
+use Rattle.page_state.specs.declared.layout.Config.{Config}
+use Rattle.page_state.specs.Layouts.{Layout}
+use Rattle.page_state.specs.Regions.{Memory}
+use Rattle.step_reply.specs.declared.reply.Refusal.{Refusal}
+use Rattle.step_reply.specs.declared.reply.Reply.{Reply}
+use Rattle.step_reply.specs.declared.reply.Reply.TheVariants.{Refused}
+use Rattle.step_reply.specs.declared.step.Step.{Step}
+use Rattle.step_reply.specs.declared.step.Step.TheVariants.{GuestShareHost, GuestUnshareHost}
+use Rattle.reference_model.specs.Isolation.{guest_entry_at}
+use Rattle.reference_model.specs.Sound.{Sound, Holds, owner}
+use Rattle.reference_model.specs.State.{Contents, live}
+use Rattle.hypercalls.specs.Booted.{IsBooted}
+use Rattle.hypercalls.specs.declared.parts.Parts.{Parts}
+use Rattle.hypercalls.specs.Stands.{parts_layout, state_of}
+use Rattle.world.specs.Boots.{IsNoBoot}
+use Rattle.world.specs.declared.boot.BootFault.{BootFault}
+use Rattle.world.specs.declared.boot.BootFault.TheVariants.{NoMemory}
+use Rattle.world.specs.Headline.{Headline, RowsAgree}
+
+-- a refusal, want of memory included
+abbrev pub IsRefusal : Reply → Type 0
+IsRefusal reply = (why : Refusal) × (reply ≡ Refused why)
+
+-- steps that are all refused leave all that the state has
+abbrev pub RefusalsLeave : Type 0 → Type 0
+RefusalsLeave A = (p q : Parts A) (steps : List (ℕ × Step)) (replies : List Reply) → Headline p steps replies q → All IsRefusal replies → (state_of q).contents ≡ (state_of p).contents
+
+-- a guest owns the frame still, and its pages of it have the entries that they had, but for a share with the host or its end
+pub record KeepsFrame (l : Layout) (s t : Contents) (step : Step) (v f : ℕ) : Type 0 where
+  pub owner_stays : owner l t f ≡ 2 + v
+  pub page_stays : (g : ℕ) → Holds s (2 + v) g f → (step ≡ GuestShareHost g → ⊥) → (step ≡ GuestUnshareHost g → ⊥) → guest_entry_at t v g ≡ guest_entry_at s v g
+
+-- a step leaves a Live guest its frames
+abbrev pub StepKeepsFrames : Type 0 → Type 0
+StepKeepsFrames A = (p q : Parts A) (cpu : ℕ) (step : Step) (reply : Reply) (v f : ℕ) → Headline p ((cpu, step) ∷ []) (reply ∷ []) q → ((state_of p).contents.guest v).phase ≡ live
+    → owner (parts_layout p) (state_of p).contents f ≡ 2 + v → KeepsFrame (parts_layout p) (state_of p).contents (state_of q).contents step v f
+
+-- where a step is made, all was right before it
+pub record WasRight {A : Type 0} (p : Parts A) : Type 0 where
+  pub rows : RowsAgree (parts_layout p) (state_of p).contents
+  pub sound : ∥ Sound (parts_layout p) (state_of p).contents ∥₁
+
+abbrev pub BeginsRight : Type 0 → Type 0
+BeginsRight A = (p q : Parts A) (asked : ℕ × Step) (steps : List (ℕ × Step)) (replies : List Reply) → Headline p (asked ∷ steps) replies q → WasRight p
+
+-- of the same memory and configuration one fault alone is told, and where a world boots only that memory was refused
+abbrev pub FaultOnce : Type 0
+FaultOnce = (m : Memory) (config : Config) (a b : BootFault) → IsNoBoot a m config → IsNoBoot b m config → a ≡ b
+
+abbrev pub BootedElse : Type 0 → Type 0
+BootedElse A = (m : Memory) (config : Config) (p : Parts A) (fault : BootFault) → IsBooted m config p → IsNoBoot fault m config → fault ≡ NoMemory
