@@ -1,5 +1,6 @@
 mod Agreeing
 mod Asked
+mod BrokenOff
 mod Checked
 mod Failing
 mod Fronts

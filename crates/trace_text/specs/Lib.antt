@@ -1,3 +1,4 @@
+pub mod BrokenOff
 pub mod Failures
 pub mod Laws
 pub mod Oracles
