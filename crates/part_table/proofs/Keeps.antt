@@ -92,6 +92,7 @@ module _ (A : Type 0) (key : TheLayout) where
           fresh = o.fresh;
           few = o.few;
           ended = λ c e at. let k = o.ended c e at in (k.0, k.1, ended_else w c k.2);
+          seen = o.seen;
         })
         (at_set s.views id 0 w v e)
 
@@ -260,9 +261,10 @@ module _ (A : Type 0) (key : TheLayout) where
         fresh = λ j le. let other : j ≢ c.cpu = λ is. omega (arith, is, by) in
             ((picked_same (λ (d : Call). eqb d.cpu j) r.log c (ne_eqb c.cpu j (λ is. other (sym is))) ∙ (o.fresh j le).0), gone.5 j (own_at_boot key) other (o.fresh j le).1);
         few = o.few;
+        seen = λ j z at_j i. picked_longer (call_uses (part_of i)) r.log c (seen_at z.1 i) (o.seen j z at_j i);
         ended = λ j z at_j. let k = o.ended j z at_j in
             let other : j ≢ c.cpu = λ is. let same : j + 1 ≡ id = ap (λ n. n + 1) (is ∙ by) ∙ at in absurd (true≢false (sym on ∙ k.2 w (ap (get_elem? (set s.views id w)) same ∙ set_at s.views id m.0 w here))) in
-            (k.0 ∙ sym (picked_same (λ (d : Call). eqb d.cpu j) r.log c (ne_eqb c.cpu j (λ is. other (sym is)))), gone.5 j z other k.1, k.2);
+            (k.0 ∙ sym (picked_same (λ (d : Call). eqb d.cpu j) r.log c (ne_eqb c.cpu j (λ is. other (sym is)))), gone.5 j z.0 other k.1, k.2);
       }
 
       own_list : owned.log.calls ≡ calls_by m.0.cpu log'

@@ -11,3 +11,4 @@ pub mod Rests
 pub mod Root
 pub mod TakenApart
 pub mod PutTogether
+pub mod Apart

@@ -16,12 +16,11 @@ use Rattle.reference_model.specs.Boot.{CanBoot, boot, booted}
 use Rattle.reference_model.specs.History.{IsStored, calls_by, calls_on}
 use Rattle.reference_model.specs.Run.{IsRun}
 use Rattle.reference_model.specs.State.{Reference}
-use Rattle.guest_steps.specs.declared.parts.CpuState.{CpuState}
 use Rattle.part_table.specs.declared.rule.View.{View}
 use Rattle.part_table.specs.declared.slot.Slot.{Slot}
 use Rattle.part_table.specs.Parts.{parts, part_of, log_of, IsPart, IsOwn}
 use Rattle.part_table.specs.Does.{IsLeft, none_at}
-use Rattle.part_table.specs.Rule.{held_at, Knows, Rooted, IsLawful, IsIdle, nobody, rooted, one_more, newcomer, with_end, own_at_boot}
+use Rattle.part_table.specs.Rule.{Ended, StartsWith, held_at, seen_at, Knows, Rooted, IsLawful, IsIdle, nobody, rooted, one_more, newcomer, with_end, own_at_boot}
 use Rattle.part_table.proofs.Pairs.{set_at, at_bound, at_end, seats, still_held}
 
 idle_is : {A : Type 0} → (x : Slot A) (o : Option (Slot A)) → o ≡ None → o ≡ Some x → ⊥
@@ -103,6 +102,7 @@ module _ (A : Type 0) (key : TheLayout) where
               count = length-append vs (right ∷ []) ∙ ap (λ n. n + 1) long;
               fresh = λ c le. o.fresh c (omega arith);
               few = let f = o.few in omega arith;
+              seen = o.seen;
               ended = λ c e at'. let k = o.ended c e at' in let lt = at_bound v.ended c e at' in let few = o.few in (
                 k.0,
                 k.1,
@@ -150,7 +150,11 @@ module _ (A : Type 0) (key : TheLayout) where
               layout = o.layout;
               count = length-set vs other nobody ∙ (length-set s.views 0 both ∙ o.count);
               fresh = o.fresh;
-              few = let l = length-append v.ended (w.own ∷ []) in omega arith;
+              few = let l = length-append v.ended ((w.own, w.seen) ∷ []) in omega arith;
+              seen = λ c e at k. ⊎_elim
+                  (λ old. o.seen c e old k)
+                  (λ (q : (c ≡ length v.ended) × ((w.own, w.seen) ≡ e)). subst (λ (z : Ended). StartsWith (calls_on (part_of k) r.log) (seen_at z.1 k)) q.1 (theirs.seen on k))
+                  (at_end v.ended (w.own, w.seen) e c at);
               ended = λ c e at. ⊎_elim
                   (λ old. let k = o.ended c e old in (
                     k.0,
@@ -160,28 +164,29 @@ module _ (A : Type 0) (key : TheLayout) where
                         (λ (q : (c + 1 ≢ other) × (get_elem? vs (c + 1) ≡ some x)). k.2 x (sym (set_else s.views 0 (c + 1) both (λ z. omega arith)) ∙ q.1))
                         (at_set vs other (c + 1) nobody x p),
                   ))
-                  (λ (q : (c ≡ length v.ended) × (w.own ≡ e)). let same : c ≡ w.cpu = q.0 ∙ sym next in (
-                    ap (λ (z : CpuState). z.log.calls) (sym q.1) ∙ (theirs.mine on ∙ ap (λ n. calls_by n r.log) (sym same)),
-                    subst (λ (z : ℕ × CpuState). IsOwn (layout_of key) r.state z.0 z.1) (λ i. (sym same i, q.1 i)) (theirs.own on),
+                  (λ (q : (c ≡ length v.ended) × ((w.own, w.seen) ≡ e)). let same : c ≡ w.cpu = q.0 ∙ sym next in (
+                    ap (λ (z : Ended). z.0.log.calls) (sym q.1) ∙ (theirs.mine on ∙ ap (λ n. calls_by n r.log) (sym same)),
+                    subst (λ (z : ℕ × Ended). IsOwn (layout_of key) r.state z.0 z.1.0) (λ i. (sym same i, q.1 i)) (theirs.own on),
                     λ x p. let here' : get_elem? (set vs other nobody) other ≡ some x = ap (get_elem? (set vs other nobody)) (sym seat ∙ ap (λ n. n + 1) (sym q.0)) ∙ p in
                         ap (λ (z : View A). z.on) (sym (some-injective nobody x (sym (set_at vs other w nobody there) ∙ here'))),
                   ))
-                  (at_end v.ended w.own e c at);
+                  (at_end v.ended (w.own, w.seen) e c at);
             })
             (at_set vs other 0 nobody u e);
       }
 
-  -- the history that stands once all CPUs have ended: every part is at home, as after it
-  pub record Ends (ended : List CpuState) (xs : List (Option (Slot A))) : Type 0 where
+  -- the history that stands once all CPUs have ended: every part is at home, as after it, and what each had seen begins its parts
+  pub record Ends (ended : List Ended) (xs : List (Option (Slot A))) : Type 0 where
     pub ready : CanBoot (layout_of key)
     pub log : List Call
     pub state : Reference
     pub run : IsRun (layout_of key) log state
     pub stored : All (λ c. IsStored c.reply) log
     pub each_part : (k : ℕ) → k < parts → (x : Slot A) × (get_elem? xs k ≡ some (Some x)) × IsPart (layout_of key) state k x × ((log_of x).calls ≡ calls_on (part_of k) log)
-    pub each_cpu : (c : ℕ) (e : CpuState) → get_elem? ended c ≡ some e → (e.log.calls ≡ calls_by c log) × IsOwn (layout_of key) state c e
+    pub each_cpu : (c : ℕ) (e : Ended) → get_elem? ended c ≡ some e → (e.0.log.calls ≡ calls_by c log) × IsOwn (layout_of key) state c e.0
+    pub seen : (c : ℕ) (e : Ended) → get_elem? ended c ≡ some e → (k : ℕ) → StartsWith (calls_on (part_of k) log) (seen_at e.1 k)
 
-  in_list : (l : List CpuState) (c : ℕ) → c < length l → (e : CpuState) × (get_elem? l c ≡ some e)
+  in_list : (l : List Ended) (c : ℕ) → c < length l → (e : Ended) × (get_elem? l c ≡ some e)
   in_list [] c lt = absurd (omega arith)
   in_list (x ∷ xs) zero lt = (x, refl)
   in_list (x ∷ xs) (suc c) lt = in_list xs c (omega arith)
@@ -202,6 +207,7 @@ module _ (A : Type 0) (key : TheLayout) where
             (λ z. let h = r.at_home k lt z in (h.0, f.4 k (Some h.0) h.1, h.2.0, h.2.1))
             (λ nz. let h = r.taken k lt nz in absurd (true≢false (sym ((r.each_seat (r.holder k) h.0 h.2).held k h.1 h.3).0 ∙ on_false v all s r f.1.1 o (r.holder k) h.0 h.2)));
         each_cpu = λ c e at. let k = o.ended c e at in (k.0, k.1);
+        seen = o.seen;
       }
 
   pub opens : (l : TheLayout) → l ≡ key → CanBoot (layout_of key) → (ws : List ℕ) (xs : List (Option (Slot A))) → length ws ≡ parts → length xs ≡ parts
@@ -225,6 +231,7 @@ module _ (A : Type 0) (key : TheLayout) where
       fresh = λ c le. (refl, fresh_stands key c);
       few = omega arith;
       ended = λ c e at. absurd (some-ne-none e (sym at));
+      seen = λ c e at. absurd (some-ne-none e (sym at));
     };
   }
     where

@@ -12,6 +12,8 @@ use Rattle.reference_model.specs.State.{Reference}
 use Rattle.guest_steps.specs.declared.parts.CpuState.{CpuState}
 use Rattle.part_table.specs.declared.slot.Slot.{Slot}
 use Rattle.part_table.specs.Parts.{parts, part_of, log_of, IsPart, IsOwn}
+use Rattle.part_table.specs.Passes.{Pass}
+use Rattle.part_table.specs.Rule.{Ended, StartsWith, seen_at}
 
 -- each of 66 places has its part as at boot, with an empty log
 pub record IsRow {A : Type 0} (l : TheLayout) (xs : List (Option (Slot A))) : Type 0 where
@@ -29,6 +31,23 @@ pub record IsEndOf {A : Type 0} (l : TheLayout) (found : List (Slot A)) (cpus : 
   pub each_part : (k : ℕ) → k < parts → (x : Slot A) × (slice_get found k ≡ Some x) × IsPart (layout_of l) state k x × ((log_of x).calls ≡ calls_on (part_of k) log)
   pub count : length cpus ≡ l.config.cpus
   pub each_cpu : (c : ℕ) (e : CpuState) → slice_get cpus c ≡ Some e → (e.log.calls ≡ calls_by c log) × IsOwn (layout_of l) state c e
+
+-- at its CPU's place of the list stands the state in which the pass ends, with all its calls
+abbrev pub KeepsOwn : List CpuState → Pass → Type 0
+KeepsOwn cpus p = slice_get cpus p.knows.cpu ≡ Some p.knows.own
+
+-- each part's log begins with what the pass has seen of it
+abbrev pub KeepsSeen : {A : Type 0} → List (Slot A) → Pass → Type 0
+KeepsSeen {A = A} found p = (k : ℕ) (x : Slot A) → slice_get found k ≡ Some x → StartsWith (log_of x).calls (seen_at p.knows.seen k)
+
+-- so for each pass of the list
+abbrev pub ForEach : List (Option Pass) → (Pass → Type 0) → Type 0
+ForEach passes F = (c : ℕ) (p : Pass) → slice_get passes c ≡ Some (Some p) → F p
+
+-- the first n passes have ended: the root has the state in which each ends and what it has seen, and the list has the states
+abbrev pub HaveEnded : ℕ → List (Option Pass) → List Ended → List CpuState → Type 0
+HaveEnded n passes ended cpus = (length ended ≡ n) × (length cpus ≡ n)
+    × ((c : ℕ) (p : Pass) → c < n → slice_get passes c ≡ Some (Some p) → (get_elem? ended c ≡ some (p.knows.own, p.knows.seen)) × (slice_get cpus c ≡ Some p.knows.own))
 
 -- each slot has its part
 abbrev pub AllHome : {A : Type 0} → List (Option (Slot A)) → Type 0

@@ -40,6 +40,10 @@ held_at h k = at h None k
 abbrev pub seen_at : List (ℕ × List Call) → ℕ → List Call
 seen_at seen k = at seen [] k
 
+-- the state in which a CPU's pass ends, and what it has seen of each part's log
+abbrev pub Ended : Type 0
+Ended = CpuState × List (ℕ × List Call)
+
 -- What a pass knows while it holds no part: the layout, its CPU's number and own state with its log, what it has seen of each part's log, and each part that it tried, with its log as it was taken, or none where another pass had it
 pub record Known : Type 0 where
   pub layout : TheLayout
@@ -73,16 +77,17 @@ module _ {A : Type 0} (key : TheLayout) (ws : List ℕ) (holder : ℕ → ℕ) (
     pub seen : v.on ≡ true → (k : ℕ) → StartsWith (calls_on (part_of k) log) (seen_at v.seen k)
     pub held : (k : ℕ) (x : Slot A) → held_at v.held k ≡ Some x → (v.on ≡ true) × (k < parts) × (slice_index ws k ≢ 0) × (holder k ≡ j) × StandsAfter k x
 
--- what the root knows: how many CPUs have a seat, of the first ones, which have ended, their states, and that the others are as at boot
+-- what the root knows: how many CPUs have a seat, of the first ones, which have ended, their states, what they have seen, and that the others are as at boot
 pub record Rooted {A : Type 0} (key : TheLayout) (views : List (View A)) (log : List Call) (state : Reference) (v : View A) : Type 0 where
   pub off : v.on ≡ false
   pub layout : v.layout ≡ key
   pub count : length views ≡ v.made + 1
   pub fresh : (c : ℕ) → v.made ≤ c → (calls_by c log ≡ []) × IsOwn (layout_of key) state c (own_at_boot key)
   pub few : length v.ended ≤ v.made
-  pub ended : (c : ℕ) (e : CpuState) → get_elem? v.ended c ≡ some e → (e.log.calls ≡ calls_by c log) × IsOwn (layout_of key) state c e × ((u : View A) → get_elem? views (c + 1) ≡ some u → u.on ≡ false)
+  pub ended : (c : ℕ) (e : Ended) → get_elem? v.ended c ≡ some e → (e.0.log.calls ≡ calls_by c log) × IsOwn (layout_of key) state c e.0 × ((u : View A) → get_elem? views (c + 1) ≡ some u → u.on ≡ false)
+  pub seen : (c : ℕ) (e : Ended) → get_elem? v.ended c ≡ some e → (k : ℕ) → StartsWith (calls_on (part_of k) log) (seen_at e.1 k)
 
--- The rule: a word says whether its part is taken, a taken part is held by just one seat, and there is a legal history at whose end all parts and all CPUs' own states stand. What a pass has seen of a part begins its log
+-- The rule: a word says whether its part is taken, a taken part is held by just one seat, and there is a legal history at whose end all parts and all CPUs' own states stand. What a pass has seen of a part begins its log, also once the pass has ended
 pub record IsLawful {A : Type 0} (key : TheLayout) (s : State (Option (Slot A)) (View A)) : Type 0 where
   pub ready : CanBoot (layout_of key)
   pub log : List Call
@@ -121,9 +126,25 @@ one_more v = record v { made = v.made + 1 }
 abbrev pub newcomer : {A : Type 0} → View A → View A
 newcomer v = record nobody { on = true; layout = v.layout; cpu = v.made; own = own_at_boot v.layout }
 
--- the root has taken in the view of a CPU that ends
+-- the root has taken in the view of a CPU that ends, with what it has seen
 abbrev pub with_end : {A : Type 0} → View A → View A → View A
-with_end v w = record v { ended = v.ended ++ w.own ∷ [] }
+with_end v w = record v { ended = v.ended ++ (w.own, w.seen) ∷ [] }
+
+-- a seat's view, and the slots that it has out
+abbrev pub Seated : Type 0 → Type 0
+Seated A = Me (Option (Slot A)) (View A)
+
+-- a view that no seat has under the rule: it is a CPU's, of a layout without CPUs
+abbrev pub nowhere : {A : Type 0} → View A
+nowhere = record nobody { on = true }
+
+-- what two seats of one CPU would come to
+abbrev pub clash : {A : Type 0} → View A → View A → View A
+clash v w = nowhere
+
+-- what a step from there would find
+abbrev pub never : {A : Type 0} → Step (Option (Slot A)) → Seated A → ℕ → Seated A → Type 0
+never st m r n = ⊥
 
 -- the part k is in hand, and it is told with which log it was taken
 abbrev pub taking : {A : Type 0} → View A → ℕ → Slot A → View A
@@ -136,10 +157,6 @@ missing v k = record v { tries = v.tries ++ (k, None) ∷ [] }
 -- the part k is out of hand
 abbrev pub letting : {A : Type 0} → View A → ℕ → View A
 letting v k = record v { held = (k, None) ∷ v.held }
-
--- a seat's view, and the slots that it has out
-abbrev pub Seated : Type 0 → Type 0
-Seated A = Me (Option (Slot A)) (View A)
 
 -- what the pass holds, and its CPU's own state, stand where a run ends
 abbrev pub Standing : {A : Type 0} → View A → Type 0

@@ -1,17 +1,17 @@
 //! The table of the 66 parts: it is opened as at boot, gives each CPU its pass, and is closed once all passes are back.
-ghost use Rattle.std.specs.Prelude.{◌≡◌, ◌<◌, ◌≤◌, [], true, length, All, IfOk};
+ghost use Rattle.std.specs.Prelude.{◌≡◌, ◌≢◌, ◌<◌, ◌≤◌, [], true, length, All, IfOk};
 ghost use Rattle.std.specs.Vec.{vec_capacity, vec_len};
 ghost use Rattle.std.specs.Slots.{slots_items, slots_filled, slots_len, IsFull};
 ghost use Rattle.page_state.specs.LayoutView.{layout_of};
 ghost use Rattle.reference_model.specs.Boot.{CanBoot};
-ghost use Rattle.part_table.specs.Endings.{AllHome, Gives, IsEndOf, IsRow, emptied_to};
+ghost use Rattle.part_table.specs.Endings.{AllHome, ForEach, Gives, HaveEnded, IsEndOf, IsRow, KeepsOwn, KeepsSeen, emptied_to};
 ghost use Rattle.part_table.specs.Parts.{parts};
-ghost use Rattle.part_table.specs.Passes.{AreFirst, AreHomeFrom, first_pass};
+ghost use Rattle.part_table.specs.Passes.{AreFirst, AreHomeFrom, IsPassOf, first_pass};
 ghost use Rattle.part_table.specs.Rule.{one_more, own_at_boot, rooted};
 
 use crate::bench::{Bench, push_in_room};
 use crate::pass::CpuPass;
-use crate::rule::Root;
+use crate::rule::{Clash, Root};
 use crate::slot::Slot;
 use crate::table::{Place, Shelf};
 use crate::tries::Gate;
@@ -164,8 +164,18 @@ impl<A: Allocator> PartTable<A> {
         Ok((table, passes))
     }
 
-    /// The parts, by number, and the CPUs' own states, at the end of the one legal history. It asks for the passes of all
-    /// CPUs, by number, and for room in both lists, which it fills.
+    /// Two passes of a table are of different CPUs. It ends both.
+    pub fn apart(&self, one: CpuPass<A>, other: CpuPass<A>)
+        requires passes { IsPassOf self.now one × IsPassOf self.now other }
+        ensures { one.knows.cpu ≢ other.knows.cpu }
+    {
+        let _ = &self.root;
+        clash(&self.shelf, one, other);
+    }
+
+    /// The parts, by number, and the CPUs' own states, at the end of the one legal history. Each CPU's own state, with its
+    /// calls, is that of its pass, and each part's log begins with what each pass has seen of it. It asks for the passes of
+    /// all CPUs, by number, and for room in both lists, which it fills.
     pub fn close(
         self,
         passes: Vec<Option<CpuPass<A>>>,
@@ -177,6 +187,8 @@ impl<A: Allocator> PartTable<A> {
         requires room { (cpus.items ≡ []) × (vec_len passes ≤ vec_capacity cpus) × (found.items ≡ []) × (parts ≤ vec_capacity found) }
         ensures layout { result.1 ≡ self.layout }
         ensures end { IsEndOf self.layout result.2.items result.3.items }
+        ensures own { ForEach passes.items (KeepsOwn result.3.items) }
+        ensures seen { ForEach passes.items (KeepsSeen result.2.items) }
     {
         let PartTable {
             shelf,
@@ -213,6 +225,20 @@ impl<A: Allocator + Copy> PartTable<A> {
     }
 }
 
+/// Two passes of one CPU can't be had: the rule has a seat for each CPU alone.
+fn clash<A: Allocator>(shelf: &Shelf<A>, one: CpuPass<A>, other: CpuPass<A>)
+    requires table { (one.table ≡ shelf.now.shared.table_id) × (other.table ≡ shelf.now.shared.table_id) × (shelf.now.shared.table_id.words ≡ parts) }
+    ensures { one.knows.cpu ≢ other.knows.cpu }
+{
+    if one.id != other.id {
+        return;
+    }
+    let mut seat = one.seat;
+    let spent = other.seat;
+    shelf.shared.join_seat::<Clash>(&mut seat, spent);
+    shelf.shared.load::<Clash>(&mut seat, 0);
+}
+
 /// All passes are joined, in the order of their CPUs.
 fn join_all<A: Allocator>(
     shelf: &Shelf<A>,
@@ -225,7 +251,7 @@ fn join_all<A: Allocator>(
     requires home { AreHomeFrom root.old.table_id (vec_len passes) 0 passes.items }
     requires room { (cpus.items ≡ []) × (vec_len passes ≤ vec_capacity cpus) }
     ensures root { (root.new.table_id ≡ root.old.table_id) × (root.new.id ≡ 0) × (root.new.me.0.root ≡ true) × (root.new.me.0.made ≡ root.old.me.0.made) }
-    ensures ended { (root.new.me.0.ended ≡ result.items) × (length result.items ≡ root.old.me.0.made) }
+    ensures ended { HaveEnded root.old.me.0.made passes.items root.new.me.0.ended result.items }
 {
     let count = passes.len();
     for cpu in 0..count {
@@ -273,7 +299,9 @@ fn end<A: Allocator>(
     requires all { vec_len passes ≡ shelf.shared.key.config.cpus }
     requires home { AreHomeFrom root.table_id (vec_len passes) 0 passes.items }
     requires room { (cpus.items ≡ []) × (vec_len passes ≤ vec_capacity cpus) × (found.items ≡ []) × (parts ≤ vec_capacity found) }
-    ensures { IsEndOf shelf.shared.key result.0.items result.1.items }
+    ensures end { IsEndOf shelf.shared.key result.0.items result.1.items }
+    ensures own { ForEach passes.items (KeepsOwn result.1.items) }
+    ensures seen { ForEach passes.items (KeepsSeen result.0.items) }
 {
     let cpus = join_all(&shelf, &mut root, passes, cpus);
     let mut closed = shelf.close_with(root);

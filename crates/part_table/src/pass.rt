@@ -1,5 +1,5 @@
 //! What a CPU carries.
-ghost use Rattle.std.specs.Prelude.{◌≡◌, ◌+◌, [], length};
+ghost use Rattle.std.specs.Prelude.{◌≡◌, ◌+◌, ◌<◌, [], length};
 ghost use Rattle.step_reply.specs.declared.reply.Reply.TheVariants.{Refused};
 ghost use Rattle.step_reply.specs.declared.reply.Refusal.TheVariants.{Contended, LogFull};
 ghost use Rattle.reference_model.specs.History.{IsStored};
@@ -13,7 +13,7 @@ use guest_steps::CpuState;
 use page_state::Layout;
 use std::alloc::Allocator;
 use std::marker::Model;
-use step_reply::{Refusal, Reply, Step};
+use step_reply::{Call, Refusal, Reply, Step};
 
 /// A CPU's pass: its own state, and the right to take parts. Contracts see the table that it is of, and what it knows.
 #[derive(Drop)]
@@ -39,7 +39,8 @@ impl<A: Allocator> Model for CpuPass<A> {
 impl<A: Allocator> CpuPass<A> {
     /// The CPU's number.
     pub fn cpu(&self) -> u64
-        ensures { result ≡ self.now.knows.cpu }
+        ensures number { result ≡ self.now.knows.cpu }
+        ensures below { result < self.now.knows.layout.config.cpus }
     {
         let _ = &self.seat;
         self.id
@@ -51,6 +52,14 @@ impl<A: Allocator> CpuPass<A> {
     {
         let _ = &self.seat;
         self.own.log.len() as u64 + 1
+    }
+
+    /// The CPU's own list: its calls that are stored, the oldest first.
+    pub fn calls(&self) -> &[Call]
+        ensures { result.now ≡ self.now.knows.own.log.calls }
+    {
+        let _ = &self.seat;
+        self.own.log.calls()
     }
 }
 

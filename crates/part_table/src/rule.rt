@@ -26,8 +26,8 @@ pub struct View<A: Allocator> {
     pub root: bool,
     /// Of the root: how many CPUs have a pass.
     pub made: u64,
-    /// Of the root: the CPUs' own states at the end.
-    pub ended: LinkedList<CpuState>,
+    /// Of the root: each CPU's own state at the end, and what its pass has seen of each part's log.
+    pub ended: LinkedList<(CpuState, LinkedList<(u64, LinkedList<Call>)>)>,
 }
 
 /// The rule of the table: there is one legal history.
@@ -116,4 +116,21 @@ impl<A: Allocator> Join<View<A>> for Root {
     ghost both = { with_end };
 
     ghost spent = { nobody };
+}
+
+/// What two seats of one CPU would come to, which can't be had.
+pub(crate) struct Clash;
+
+impl<A: Allocator> Join<View<A>> for Clash {
+    ghost use Rattle.part_table.specs.Rule.{clash, nobody};
+
+    ghost both = { clash };
+
+    ghost spent = { nobody };
+}
+
+impl<A: Allocator> Play<Option<Slot<A>>, View<A>> for Clash {
+    ghost use Rattle.part_table.specs.Rule.{never};
+
+    ghost then = { never };
 }

@@ -1,31 +1,38 @@
-use Rattle.std.proofs.Common.{◌≡◌, ℕ, ◌+◌, ◌<◌, ◌≤◌, [], ◌∷◌, ◌++◌, length, arith, sym, ap, ◌∙◌, refl, subst, length-append, le_refl}
+use Rattle.std.proofs.Common.{◌≡◌, ℕ, ◌+◌, ◌<◌, ◌≤◌, length, arith, sym, ap, ◌∙◌, refl, subst, le_refl}
 use Rattle.std.specs.Prelude.{Option, Some, None, IsSome, List, slice_get, slice_set}
 use Rattle.std.specs.Vec.{vec_capacity, vec_len}
 use Rattle.atomic_table.specs.Table.{Joins}
 use Rattle.page_state.specs.declared.layout.Layout.{Layout as TheLayout}
 use Rattle.guest_steps.specs.declared.parts.CpuState.{CpuState}
 use Rattle.part_table.specs.declared.rule.View.{View}
-use Rattle.part_table.specs.Passes.{AreHomeFrom, Pass}
-use Rattle.part_table.specs.Rule.{IsLawful, with_end, nobody}
-use Rattle.part_table.proofs.Lists.{from, or_of_get, get_set_else}
+use Rattle.part_table.specs.Endings.{HaveEnded}
+use Rattle.part_table.specs.Passes.{Pass}
+use Rattle.part_table.specs.Rule.{Ended, IsLawful, with_end, nobody}
+use Rattle.part_table.proofs.Lists.{from, or_of_get, get_set_else, one_more_ended}
 use Rattle.part_table.proofs.Root.{joins}
 use Rattle.part_table.proofs.opened.join_all.Goals as goal
 
 le_le : (a b c : ℕ) → a ≤ b → b ≤ c → a ≤ c
 le_le a b c h k = omega arith
 
+less_all : (n m k : ℕ) → n < k → k ≡ m → n < m
+less_all n m k h e = omega arith
+
 pub unwrap-pass-requires : goal.unwrap-pass-requires
 unwrap-pass-requires g c =
-    let h = c.loop-cpu.invariant.10 c.loop-cpu.cpu (le_refl c.loop-cpu.cpu) c.loop-cpu-test.true in
-    let is : c.index_mut.result.now ≡ Some h.0 = c.index_mut.ensures.value ∙ or_of_get c.loop-cpu.passes.items c.loop-cpu.cpu c.index_mut.result.now (Some h.0) h.1 in
+    let n : ℕ = c.loop-cpu.cpu in
+    let h = c.requires.home n (omega arith) (less_all _ _ _ c.loop-cpu-test.true c.len-count.ensures) in
+    let there : slice_get c.loop-cpu.passes.items n ≡ Some (Some h.0) = c.loop-cpu.invariant.9 n (le_refl n) ∙ h.1 in
+    let is : c.index_mut.result.now ≡ Some h.0 = c.index_mut.ensures.value ∙ or_of_get c.loop-cpu.passes.items n c.index_mut.result.now (Some h.0) there in
     subst IsSome (sym (c.take.ensures.value ∙ is)) refl
 
 pub join_seat-requires : goal.join_seat-requires
 join_seat-requires g c =
     let i = c.loop-cpu.invariant in
     let n : ℕ = c.loop-cpu.cpu in
-    let h = i.10 n (le_refl n) c.loop-cpu-test.true in
-    let was : c.index_mut.result.now ≡ Some h.0 = c.index_mut.ensures.value ∙ or_of_get c.loop-cpu.passes.items n c.index_mut.result.now (Some h.0) h.1 in
+    let h = c.requires.home n (omega arith) (less_all _ _ _ c.loop-cpu-test.true c.len-count.ensures) in
+    let there : slice_get c.loop-cpu.passes.items n ≡ Some (Some h.0) = i.9 n (le_refl n) ∙ h.1 in
+    let was : c.index_mut.result.now ≡ Some h.0 = c.index_mut.ensures.value ∙ or_of_get c.loop-cpu.passes.items n c.index_mut.result.now (Some h.0) there in
     let same : Some c.unwrap-pass.result ≡ Some h.0 = sym c.unwrap-pass.ensures ∙ (c.take.ensures.value ∙ was) in
     let p : Pass = c.unwrap-pass.result in
     let is : p ≡ h.0 = ap (from p) same in
@@ -35,7 +42,7 @@ join_seat-requires g c =
     let see = c.pass.view_is in
     let cpu : w.cpu ≡ n = ap (λ (z : Pass). z.knows.cpu) see ∙ (ap (λ (z : Pass). z.knows.cpu) is ∙ h.3) in
     let table : c.pass.inside.seat.table_id ≡ c.args.root.now.table_id = ap (λ (z : Pass). z.table) see ∙ (ap (λ (z : Pass). z.table) is ∙ h.2) in
-    let long : length v.ended ≡ n = ap (λ (l : List CpuState). length l) i.5 ∙ i.6 in
+    let long : length v.ended ≡ n = i.5.0 in
     let key : TheLayout = c.args.shelf.now.shared.key in
     let made : v.made ≡ c.args.root.now.me.0.made = i.3 in
     let count : c.args.root.now.me.0.made ≡ c.len-count.result = c.requires.root.3 ∙ sym c.len-count.ensures in
@@ -54,18 +61,28 @@ loop-cpu-preserved g c =
     let n : ℕ = c.loop-cpu.cpu in
     let e = c.join_seat.ensures in
     let q = c.pass.invariant in
-    let items = c.push_in_room.ensures.items in (
+    let items = c.push_in_room.ensures.items in
+    let ps : List (Option Pass) = c.args.passes.items in
+    let h = c.requires.home n (omega arith) (less_all _ _ _ c.loop-cpu-test.true c.len-count.ensures) in
+    let there : slice_get c.loop-cpu.passes.items n ≡ Some (Some h.0) = i.9 n (le_refl n) ∙ h.1 in
+    let was : c.index_mut.result.now ≡ Some h.0 = c.index_mut.ensures.value ∙ or_of_get c.loop-cpu.passes.items n c.index_mut.result.now (Some h.0) there in
+    let p : Pass = c.unwrap-pass.result in
+    let is : p ≡ h.0 = ap (from p) (sym c.unwrap-pass.ensures ∙ (c.take.ensures.value ∙ was)) in
+    let see = c.pass.view_is ∙ is in
+    let w : View g.row.A.Denot = c.pass.inside.seat.me.0 in (
       e.0 ∙ i.0,
       e.1 ∙ i.1,
       ap (λ m. m.0.root) e.2 ∙ i.2,
       ap (λ m. m.0.made) e.2 ∙ i.3,
       ap (λ m. m.1) e.2 ∙ i.4,
-      ap (λ m. m.0.ended) e.2 ∙ ((λ k. i.5 k ++ q.4 k ∷ []) ∙ sym items),
-      ap (λ (l : List CpuState). length l) items ∙ (length-append c.loop-cpu.cpus.items (c.pass.inside.own ∷ []) ∙ ap (λ m. m + 1) i.6),
-      c.push_in_room.ensures.len ∙ ap (λ m. m + 1) i.7,
-      le_le _ _ _ i.8 c.push_in_room.ensures.room,
-      i.9,
-      λ j from below. let h = i.10 j (omega arith) below in (h.0, ap (λ (o : Option Pass). slice_get (slice_set c.loop-cpu.passes.items n o) j) c.take.ensures.after ∙ (get_set_else c.loop-cpu.passes.items n j None (λ z. omega arith) ∙ h.1), h.2, h.3),
+      subst (λ (z : List Ended × List CpuState). HaveEnded (n + 1) ps z.0 z.1) (λ k. (sym (ap (λ m. m.0.ended) e.2) k, sym items k))
+          (one_more_ended n ps c.loop-cpu.root.me.0.ended c.loop-cpu.cpus.items h.0 (w.own, w.seen) c.pass.inside.own i.5 h.1
+          (ap (λ (z : Pass). (z.knows.own, z.knows.seen)) see)
+          (sym q.4 ∙ ap (λ (z : Pass). z.knows.own) see)),
+      c.push_in_room.ensures.len ∙ ap (λ m. m + 1) i.6,
+      le_le _ _ _ i.7 c.push_in_room.ensures.room,
+      i.8,
+      λ j from. ap (λ (o : Option Pass). slice_get (slice_set c.loop-cpu.passes.items n o) j) c.take.ensures.after ∙ (get_set_else c.loop-cpu.passes.items n j None (λ z. omega arith) ∙ i.9 j (omega arith)),
     )
 
 pub loop-cpu-init : goal.loop-cpu-init
@@ -78,10 +95,14 @@ loop-cpu-init g c =
       r.1,
       refl,
       r.4,
-      r.2 ∙ sym c.requires.room.0,
-      ap (λ (l : List CpuState). length l) c.requires.room.0,
+      (ap (λ (l : List Ended). length l) r.2, ap (λ (l : List CpuState). length l) c.requires.room.0, λ j p lt _. absurd (omega arith)),
       none,
       subst (λ (n : ℕ). n ≤ vec_capacity c.args.cpus) count c.requires.room.1,
       count,
-      subst (λ (n : ℕ). AreHomeFrom c.args.root.now.table_id n 0 c.args.passes.items) count c.requires.home,
+      λ j from. refl,
     )
+
+pub returns-clause-ended : goal.returns-clause-ended
+returns-clause-ended g c =
+    let n : c.loop-cpu.cpu ≡ c.args.root.now.me.0.made = omega (arith, c.loop-cpu-test.false, c.loop-cpu.auto.cpu-end, c.len-count.ensures, c.requires.root.3) in
+    subst (λ (k : ℕ). HaveEnded k c.args.passes.items c.loop-cpu.root.me.0.ended c.loop-cpu.cpus.items) n c.loop-cpu.invariant.5

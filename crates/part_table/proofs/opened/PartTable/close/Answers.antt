@@ -29,4 +29,10 @@ pub returns-clause-layout : goal.returns-clause-layout
 returns-clause-layout g c = ap (λ (o : Opened). o.layout) c.self.view_is
 
 pub returns-clause-end : goal.returns-clause-end
-returns-clause-end g c = subst (λ (l : TheLayout). IsEndOf l c.end-found.result.0.items c.end-found.result.1.items) (c.self.invariant.key_is ∙ ap (λ (o : Opened). o.layout) c.self.view_is) c.end-found.ensures
+returns-clause-end g c = subst (λ (l : TheLayout). IsEndOf l c.end-found.result.0.items c.end-found.result.1.items) (c.self.invariant.key_is ∙ ap (λ (o : Opened). o.layout) c.self.view_is) c.end-found.ensures.end
+
+pub returns-clause-own : goal.returns-clause-own
+returns-clause-own g c = c.end-found.ensures.own
+
+pub returns-clause-seen : goal.returns-clause-seen
+returns-clause-seen g c = c.end-found.ensures.seen
