@@ -4,7 +4,7 @@ use denote.Hole.{as_row}
 use denote.Param.Send.{IsSend, IsSync, sendable, part_keyless}
 use denote.Param.SendFields.{declared_send, declared_sync, variants_send, variants_sync}
 use denote.Struct.Field.{u64-field}
-use Rattle.std.proofs.Crossing.{crosses, send, sync, frees, Vec-send, Vec-sync}
+use Rattle.std.proofs.Crossing.{crosses, send, sync, frees}
 use Rattle.std.specs.contracts.option.Option as Option
 use Rattle.std_heap.specs.contracts.Global as Heap
 use Rattle.std_heap.specs.contracts.GlobalAllocator.TheImpl.{ghosts}

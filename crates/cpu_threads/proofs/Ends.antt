@@ -1,12 +1,16 @@
 -- Lists of passes.
-use Rattle.std.proofs.Common.{◌≡◌, false, true≢false, ◌⊎◌, ℕ, zero, suc, ◌<◌, List, [], ◌∷◌, ◌++◌, length, refl, sym, ap, subst, ⊎_elim, inl, inr, arith, length-set, ◌∙◌}
+use Rattle.std.proofs.Common.{◌≡◌, true, false, true≢false, ◌⊎◌, ℕ, zero, suc, ◌+◌, ◌<◌, ◌≤◌, Bool, List, [], ◌∷◌, ◌++◌, length, refl, sym, ap, subst, ⊎_elim, inl, inr, arith, length-set, ◌∙◌}
 use Rattle.std.specs.Prelude.{Option, Some, None, slice_get, slice_set, slice_index_or, is_none, is_some}
 use mathlib.Core.Logic.{dite}
 use native.Mathlib.Decide.{ℕ_discrete}
+use Rattle.step_reply.specs.declared.reply.Call.{Call}
 use Rattle.part_table.specs.Passes.{AreHomeFrom, IsPassOf, Opened, Pass}
 use Rattle.part_table.proofs.Lists.{from, get_front, get_last, get_set_else}
-use Rattle.cpu_threads.specs.Ends.{AreOf, HasAll, IsOut}
+use Rattle.part_table.specs.Endings.{ForEach}
+use Rattle.cpu_threads.specs.Ends.{AreOf, HasAll, IsBack, IsOut, OfGiven}
 use Rattle.cpu_threads.specs.Machines.{AreTheirs}
+use Rattle.cpu_threads.specs.Rooms.{total, total_given}
+use Rattle.cpu_threads.proofs.Totals.{given_end, total_set}
 
 module _ {X : Type 0} where
   pub get_end : (l : List X) (a b : X) (j : ℕ) → slice_get (l ++ a ∷ []) j ≡ Some b → (slice_get l j ≡ Some b) ⊎ ((j ≡ length l) × (a ≡ b))
@@ -19,6 +23,10 @@ module _ {X : Type 0} where
   get_of_or [] j d lt e = absurd (omega arith)
   get_of_or (y ∷ ys) zero d lt e = ap (λ (z : X). Some z) (sym e)
   get_of_or (y ∷ ys) (suc j) d lt e = get_of_or ys j d (omega arith) e
+
+  pub none_there : (o : Option X) → is_none o ≡ true → o ≡ None
+  none_there None e = refl
+  none_there (Some x) e = absurd (true≢false (sym e))
 
   pub one_there : (o : Option X) → is_none o ≡ false → (x : X) × (o ≡ Some x)
   one_there None e = absurd (true≢false e)
@@ -60,13 +68,6 @@ module _ (t : Opened) (passes : List (Option Pass)) (front : List Pass) (p : Pas
       (λ (w : (h.place ≡ length front) × (p ≡ h.pass)). absurd (ne (sym (ap (λ (z : Pass). z.knows.cpu) w.1 ∙ h.cpu))))
       (get_end front p h.pass h.place h.there))
 
-  -- a pass whose place isn't free is let go
-  pub others_all : HasAll passes (front ++ p ∷ []) → (IsOut passes p.knows.cpu → ⊥) → HasAll passes front
-  others_all old taken c lt out = let h = old c lt out in ⊎_elim
-      (λ was. record { place = h.place; pass = h.pass; there = was; cpu = h.cpu })
-      (λ (w : (h.place ≡ length front) × (p ≡ h.pass)). absurd (taken (ap (slice_get passes) (ap (λ (z : Pass). z.knows.cpu) w.1 ∙ h.cpu) ∙ out)))
-      (get_end front p h.pass h.place h.there)
-
   pub of_front : AreOf t (front ++ p ∷ []) → AreOf t front
   of_front old j q e = old j q (get_front front (p ∷ []) q j e)
 
@@ -80,3 +81,42 @@ all_home_by t passes theirs all j from below = let h = there_or_none passes j be
     at : (o : Option Pass) → slice_get passes j ≡ Some o → (p : Pass) × (slice_get passes j ≡ Some (Some p)) × (p.table ≡ t.table) × (p.knows.cpu ≡ j)
     at None e = let h = all j below e in let never = h.there in absurd cc
     at (Some p) e = let h = theirs j p e in (p, e, h.0.table, h.1)
+
+-- while passes go back: a given one is still to come, or at its place; those that never were handed out are at theirs; and the calls of all are no more
+pub record Backs (first : List (Option Pass)) (all : List Pass) (passes : List (Option Pass)) (given : List Pass) : Type 0 where
+  pub each : (j : ℕ) (p : Pass) → slice_get all j ≡ Some p → (slice_get given j ≡ Some p) ⊎ IsBack passes p
+  pub home : ForEach first (IsBack passes)
+  pub few : (f : Call → Bool) → total f passes + total_given f given ≤ total f first + total_given f all
+
+pub backs_none : (t : Opened) (passes : List (Option Pass)) (given : List Pass) → AreTheirs t passes → Backs passes given passes given
+backs_none t passes given theirs = record {
+  each = λ j p e. inl e;
+  home = λ c p e. ap (slice_get passes) (theirs c p e).1 ∙ e;
+  few = λ f. omega arith;
+}
+
+module _ (first passes : List (Option Pass)) (all front : List Pass) (p : Pass) where
+  -- a pass goes back to a place that is free
+  pub backs_one : Backs first all passes (front ++ p ∷ []) → IsOut passes p.knows.cpu → Backs first all (slice_set passes p.knows.cpu (Some p)) front
+  backs_one b gone =
+      let after : List (Option Pass) = slice_set passes p.knows.cpu (Some p) in
+      let here : slice_get after p.knows.cpu ≡ Some (Some p) = get_set_here passes p.knows.cpu (Some p) (get_bound passes p.knows.cpu None gone) in
+      let stays : (q : Pass) → IsBack passes q → IsBack after q = λ q e. get_set_else passes p.knows.cpu q.knows.cpu (Some p) (λ is. let never : Some q ≡ None = ap (from (Some q)) (sym e ∙ (ap (slice_get passes) is ∙ gone)) in absurd cc) ∙ e in record {
+        each = λ j q e. ⊎_elim
+            (λ (w : slice_get (front ++ p ∷ []) j ≡ Some q). ⊎_elim
+            (λ was. inl was)
+            (λ (z : (j ≡ length front) × (p ≡ q)). inr (subst (IsBack after) z.1 here))
+            (get_end front p q j w))
+            (λ (w : IsBack passes q). inr (stays q w))
+            (b.each j q e);
+        home = λ c q e. stays q (b.home c q e);
+        few = λ f. omega (arith, b.few f, total_set f passes p.knows.cpu p gone, given_end f front p);
+      }
+
+-- once no pass is left, each given one is back
+pub backs_all : (first passes : List (Option Pass)) (all : List Pass) → Backs first all passes [] → OfGiven all (IsBack passes)
+backs_all first passes all b j p e = ⊎_elim (λ (w : slice_get [] j ≡ Some p). absurd cc) (λ (w : IsBack passes p). w) (b.each j p e)
+
+-- what holds of each pass at its place holds of each given one, once it is back
+pub of_given_back : (passes : List (Option Pass)) (given : List Pass) (F : Pass → Type 0) → OfGiven given (IsBack passes) → ForEach passes F → OfGiven given F
+of_given_back passes given F back each j p e = each p.knows.cpu p (back j p e)

@@ -1,4 +1,11 @@
 pub mod Tries
 pub mod Opens
+pub mod Totals
 pub mod Ends
+pub mod Counts
+pub mod Tallies
+pub mod Bounds
 pub mod Crossing
+pub mod Growing
+pub mod Stopping
+pub mod InitCalls

@@ -1,16 +1,41 @@
 -- Tries, one after another, and passes that are handed out.
-use Rattle.std.proofs.Common.{◌≡◌, ℕ, ◌<◌, List, length, length-set, sym, ap, ◌∙◌, arith}
-use Rattle.std.specs.Prelude.{Option, Some, None, IfSome, slice_get, slice_set}
+use Rattle.std.proofs.Common.{◌≡◌, ◌≢◌, ℕ, ◌<◌, List, [], ◌∷◌, ◌++◌, append-nil, length, length-set, refl, sym, ap, ◌∙◌, subst, arith}
+use Rattle.std.specs.Prelude.{Option, Some, None, IfSome, flat_map, slice_get, slice_set}
+use Rattle.std.proofs.lemmas.List.{append_assoc}
+use Rattle.std.proofs.lemmas.List.Elements.{All-nil, All-push}
+use Rattle.std.proofs.lemmas.List.Concat.{flat_map-append}
 use mathlib.Core.Logic.{dite}
 use native.Mathlib.Decide.{ℕ_discrete}
+use Rattle.step_reply.specs.declared.step.Step.{Step}
+use Rattle.reference_model.specs.Parts.{guest_slot, names}
+use Rattle.guest_steps.specs.declared.parts.CpuState.{CpuState}
+use Rattle.guest_steps.specs.View.{cpu_of}
+use Rattle.hypercalls.specs.Uses.{parts_of}
+use Rattle.part_table.specs.Answered.{FindsAway, used_by}
+use Rattle.part_table.specs.Parts.{in_order}
 use Rattle.part_table.specs.Passes.{AreFirst, IsPassOf, Opened, Pass, first_pass}
 use Rattle.part_table.specs.Rule.{IsSame, Known}
+use Rattle.part_table.specs.Tried.{EndsIn, FoundAway}
 use Rattle.part_table.proofs.Lists.{get_set_else}
-use Rattle.cpu_threads.specs.Machines.{AreTheirs, HandsOut}
+use Rattle.cpu_threads.specs.Machines.{AreFresh, AreTheirs, HandsOut, MeetsOnly}
 use Rattle.cpu_threads.proofs.Ends.{get_bound, get_set_here}
 
 pub same_on : (u v w : Known) → IsSame u v → IsSame v w → IsSame u w
 same_on u v w a b = record { layout = b.layout ∙ a.layout; cpu = b.cpu ∙ a.cpu; own = b.own ∙ a.own; seen = b.seen ∙ a.seen }
+
+-- before the first try
+pub meets_none : (step : Step) (v : Known) → MeetsOnly step v v
+meets_none step v = record { same = record { layout = refl; cpu = refl; own = refl; seen = refl }; rounds = []; tried = sym (append-nil v.tries); away = All-nil (λ ts. (v.own.log.room ≢ 0) × EndsIn FoundAway (used_by step v) ts) }
+
+-- one try more that met another pass
+pub meets_more : (step : Step) (v w x : Known) → MeetsOnly step v w → FindsAway step w x → MeetsOnly step v x
+meets_more step v w x m f = record {
+  same = same_on v w x m.same f.same;
+  rounds = m.rounds ++ f.tries ∷ [];
+  tried = f.tried ∙ (ap (λ ts. ts ++ f.tries) m.tried ∙ (append_assoc v.tries (flat_map (λ ts. ts) m.rounds) f.tries ∙ ap (λ ts. v.tries ++ ts) (ap (λ ts. flat_map (λ us. us) m.rounds ++ ts) (sym (append-nil f.tries)) ∙ sym (flat_map-append (λ ts. ts) m.rounds (f.tries ∷ [])))));
+  away = All-push (λ ts. (v.own.log.room ≢ 0) × EndsIn FoundAway (used_by step v) ts) m.rounds f.tries m.away
+      (subst (λ (k : CpuState). (k.log.room ≢ 0) × EndsIn FoundAway (in_order (parts_of (names step) (guest_slot (cpu_of k) step))) f.tries) m.same.own (f.room, f.away));
+}
 
 -- what lies at a CPU's place is its pass, or nothing
 pub handed : (t : Opened) (passes : List (Option Pass)) (cpu : ℕ) (o : Option Pass) → AreTheirs t passes → slice_get passes cpu ≡ Some o → IfSome o (λ p. IsPassOf t p × (p.knows.cpu ≡ cpu))
@@ -22,13 +47,17 @@ or_pass d None = d
 or_pass d (Some None) = d
 or_pass d (Some (Some p)) = p
 
--- passes before their first calls are of the table
-pub first_theirs : (t : Opened) (n : ℕ) (passes : List (Option Pass)) → AreFirst t n passes → AreTheirs t passes
-first_theirs t n passes first c p e =
+-- a pass that has made no call is of the table, and its CPU's
+pub fresh_theirs : (t : Opened) (passes : List (Option Pass)) → AreFresh t passes → AreTheirs t passes
+fresh_theirs t passes fresh c p e =
+    let is : p ≡ first_pass t.table t.layout c = fresh c p e in
+    (record { table = ap (λ (q : Pass). q.table) is; layout = ap (λ (q : Pass). q.knows.layout) is }, ap (λ (q : Pass). q.knows.cpu) is)
+
+pub first_fresh : (t : Opened) (n : ℕ) (passes : List (Option Pass)) → AreFirst t n passes → AreFresh t passes
+first_fresh t n passes first c p e =
     let below : c < length passes = get_bound passes c (Some p) e in
     let long : length passes ≡ n = first.0 in
-    let is : first_pass t.table t.layout c ≡ p = ap (or_pass p) (sym (first.1 c (omega arith)) ∙ e) in
-    (record { table = ap (λ (q : Pass). q.table) (sym is); layout = ap (λ (q : Pass). q.knows.layout) (sym is) }, ap (λ (q : Pass). q.knows.cpu) (sym is))
+    ap (or_pass p) (sym e ∙ first.1 c (omega arith))
 
 abbrev or_none : Option Pass → Option (Option Pass) → Option Pass
 or_none d None = d
@@ -47,7 +76,7 @@ module _ (passes : List (Option Pass)) (cpu : ℕ) (left : Option Pass) (inside 
     count = length-set passes cpu left;
   }
 
-  pub others_theirs : (t : Opened) → AreTheirs t passes → AreTheirs t (slice_set passes cpu left)
-  others_theirs t theirs c p e = dite (ℕ_discrete c cpu)
+  pub others_fresh : (t : Opened) → AreFresh t passes → AreFresh t (slice_set passes cpu left)
+  others_fresh t fresh c p e = dite (ℕ_discrete c cpu)
       (λ is. let never : None ≡ Some p = ap (or_none None) (sym empty_there ∙ (ap (slice_get (slice_set passes cpu left)) (sym is) ∙ e)) in absurd cc)
-      (λ ne. theirs c p (sym (get_set_else passes cpu c left ne) ∙ e))
+      (λ ne. fresh c p (sym (get_set_else passes cpu c left ne) ∙ e))

@@ -1,10 +1,18 @@
--- Which passes are given where a machine is shut down.
+-- Which passes are given where a machine is shut down, and what the world keeps of each.
 use Rattle.std.specs.Prelude.{◌≡◌, ◌≢◌, ℕ, ◌<◌, List, length, Option, Some, None, slice_get}
+use Rattle.page_state.specs.declared.layout.Layout.{Layout as TheLayout}
+use Rattle.guest_steps.specs.declared.parts.CpuState.{CpuState}
+use Rattle.part_table.specs.Endings.{KeepsOwn}
 use Rattle.part_table.specs.Passes.{IsPassOf, Opened, Pass}
+use Rattle.part_table.specs.Rule.{own_at_boot}
+
+-- F holds of each given pass
+abbrev pub OfGiven : List Pass → (Pass → Type 0) → Type 0
+OfGiven given F = (j : ℕ) (p : Pass) → slice_get given j ≡ Some p → F p
 
 -- the given passes are all of this table
 abbrev pub AreOf : Opened → List Pass → Type 0
-AreOf t given = (j : ℕ) (p : Pass) → slice_get given j ≡ Some p → IsPassOf t p
+AreOf t given = OfGiven given (IsPassOf t)
 
 -- the pass of the CPU was handed out
 abbrev pub IsOut : List (Option Pass) → ℕ → Type 0
@@ -31,3 +39,16 @@ pub record LacksOne (passes : List (Option Pass)) (given : List Pass) : Type 0 w
 -- each pass that was handed out is given
 abbrev pub HasAll : List (Option Pass) → List Pass → Type 0
 HasAll passes given = (c : ℕ) → c < length passes → IsOut passes c → IsGiven given c
+
+-- the pass of the CPU was never handed out
+abbrev pub IsAtHome : List (Option Pass) → ℕ → Type 0
+IsAtHome passes c = (p : Pass) × (slice_get passes c ≡ Some (Some p))
+
+-- the CPU of each given pass has the state in which the pass ends, with all its calls; a CPU whose pass was never handed out is as at boot, with no call
+pub record KeepsStates (l : TheLayout) (passes : List (Option Pass)) (given : List Pass) (cpus : List CpuState) : Type 0 where
+  pub ended : OfGiven given (KeepsOwn cpus)
+  pub fresh : (c : ℕ) → IsAtHome passes c → slice_get cpus c ≡ Some (own_at_boot l)
+
+-- the pass is at its CPU's place
+abbrev pub IsBack : List (Option Pass) → Pass → Type 0
+IsBack passes p = slice_get passes p.knows.cpu ≡ Some (Some p)

@@ -1,3 +1,5 @@
 pub mod Machines
 pub mod Inits
 pub mod Ends
+pub mod Laws
+pub mod Rooms

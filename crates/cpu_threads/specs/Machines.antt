@@ -1,14 +1,17 @@
 -- A machine, its passes, and what a call tells that is tried again.
-use Rattle.std.specs.Prelude.{◌≡◌, ◌≢◌, ℕ, ◌<◌, ◌≤◌, List, length, Option, Some, None, slice_get}
+use Rattle.std.specs.Prelude.{◌≡◌, ◌≢◌, ℕ, ◌<◌, ◌≤◌, List, ◌++◌, flat_map, length, All, Option, Some, None, slice_get}
 use Rattle.page_state.specs.declared.layout.Config.{Config}
 use Rattle.page_state.specs.declared.layout.Geometry.{Geometry}
 use Rattle.step_reply.specs.declared.reply.Reply.{Reply}
 use Rattle.step_reply.specs.declared.step.Step.{Step}
+use Rattle.page_state.specs.LayoutFaults.{IsAccepted}
 use Rattle.page_state.specs.LayoutView.{layout_of}
 use Rattle.page_state.specs.Regions.{Memory}
-use Rattle.part_table.specs.Answered.{FindsLogFull, StoresCall}
-use Rattle.part_table.specs.Passes.{AreFirst, IsPassOf, Opened, Pass}
+use Rattle.reference_model.specs.Boot.{IsCarveEnough}
+use Rattle.part_table.specs.Answered.{FindsLogFull, StoresCall, used_by}
+use Rattle.part_table.specs.Passes.{AreFirst, IsPassOf, Opened, Pass, first_pass}
 use Rattle.part_table.specs.Rule.{IsSame, Known}
+use Rattle.part_table.specs.Tried.{EndsIn, FoundAway, Try}
 use Rattle.hypercalls.specs.declared.parts.Parts.{Parts}
 use Rattle.hypercalls.specs.Booted.{IsBooted, IsConfig, layout_for}
 
@@ -17,14 +20,18 @@ pub record Machine : Type 0 where
   pub table : Opened
   pub passes : List (Option Pass)
 
--- a pass that wasn't handed out is of the table, and is its CPU's
+-- a pass at a place is of the table, and is the CPU's of that place
 abbrev pub AreTheirs : Opened → List (Option Pass) → Type 0
 AreTheirs t passes = (c : ℕ) (p : Pass) → slice_get passes c ≡ Some (Some p) → IsPassOf t p × (p.knows.cpu ≡ c)
+
+-- a pass that wasn't handed out has made no call
+abbrev pub AreFresh : Opened → List (Option Pass) → Type 0
+AreFresh t passes = (c : ℕ) (p : Pass) → slice_get passes c ≡ Some (Some p) → p ≡ first_pass t.table t.layout c
 
 -- there is a place for each CPU
 pub record IsReady (t : Opened) (passes : List (Option Pass)) : Type 0 where
   pub count : length passes ≡ t.layout.config.cpus
-  pub theirs : AreTheirs t passes
+  pub fresh : AreFresh t passes
 
 -- the pass that was there is handed out, and the others stay
 pub record HandsOut (result : Option Pass) (cpu : ℕ) (before after : List (Option Pass)) : Type 0 where
@@ -37,21 +44,30 @@ pub record HandsOut (result : Option Pass) (cpu : ℕ) (before after : List (Opt
 abbrev pub HaveBooted : {A : Type 0} → Parts A → Type 0
 HaveBooted p = (m : Memory) × (c : Config) × IsBooted m c p
 
--- a machine that has booted: it is of the memory and the configuration, and no pass was handed out
+-- a machine that has booted, where no test failed: it is of the memory and the configuration, and no pass was handed out
 pub record IsBootedMachine (m : Memory) (c : Config) (it : Machine) : Type 0 where
   pub geometry : Geometry
+  pub memory : IsAccepted m
   pub accepted : IsConfig c geometry
+  pub enough : IsCarveEnough (layout_for m c geometry)
   pub layout : layout_of it.table.layout ≡ layout_for m c geometry
   pub passes : AreFirst it.table c.cpus it.passes
 
--- tries of a step that met another pass, which changed nothing but what was tried, and then one that stored the call
+-- Tries of a step, one after another, each of which found a part that another pass had, with room in the CPU's own log. None changed anything else
+pub record MeetsOnly (step : Step) (v w : Known) : Type 0 where
+  pub same : IsSame v w
+  pub rounds : List (List Try)
+  pub tried : w.tries ≡ v.tries ++ flat_map (λ ts. ts) rounds
+  pub away : All (λ ts. (v.own.log.room ≢ 0) × EndsIn FoundAway (used_by step v) ts) rounds
+
+-- a step is tried while another pass is in its way, and then the call is stored
 pub record StoresInTheEnd (step : Step) (reply : Reply) (v w : Known) : Type 0 where
   pub last : Known
-  pub same : IsSame v last
+  pub met : MeetsOnly step v last
   pub stores : StoresCall step reply last w
 
--- tries of a step that met another pass, which changed nothing but what was tried, and then one that found a log full
+-- a step is tried while another pass is in its way, and then a log is found full
 pub record FullInTheEnd (step : Step) (v w : Known) : Type 0 where
   pub last : Known
-  pub same : IsSame v last
+  pub met : MeetsOnly step v last
   pub full : FindsLogFull step last w

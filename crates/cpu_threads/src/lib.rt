@@ -4,7 +4,9 @@
 mod boot;
 mod ending;
 mod init;
+pub mod laws;
 mod machine;
+mod rooms;
 mod shutdown;
 
 pub use init::InitStage;

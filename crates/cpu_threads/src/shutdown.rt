@@ -1,19 +1,21 @@
 //! Shutting a machine down.
 ghost use Rattle.std.specs.Prelude.{◌≡◌, ◌≤◌, [], IfOk, IfErr};
 ghost use Rattle.std.specs.Vec.{vec_capacity, vec_len};
-ghost use Rattle.part_table.specs.Endings.{IsEndOf};
+ghost use Rattle.part_table.specs.Endings.{ForEach, IsEndOf, KeepsOwn, KeepsSeen};
 ghost use Rattle.part_table.specs.Passes.{AreHomeFrom};
 ghost use Rattle.part_table.specs.Whole.{slots_of};
-ghost use Rattle.cpu_threads.specs.Ends.{AreOf, HasAll, LacksOne};
+ghost use Rattle.cpu_threads.specs.Ends.{AreOf, HasAll, KeepsStates, LacksOne, OfGiven};
+ghost use Rattle.cpu_threads.specs.Rooms.{AreHistories};
 ghost use Rattle.cpu_threads.specs.declared.shutdown.ShutdownFault.TheVariants.{Missing, NoMemory};
 
 use crate::ending::{all_back, lacks};
 use crate::machine::Machine;
+use crate::rooms::{copied, log_rooms};
 use guest_steps::{CpuState, GuestPart, SharedPart, VmPart};
 use part_table::whole::together;
 use part_table::{CpuPass, PartTable, Slot};
 use std::alloc::{AllocError, Allocator, Global};
-use world::World;
+use world::{Histories, World};
 
 /// Why a machine isn't shut down. In brackets the number of the fault.
 #[derive(Clone, Copy, PartialEq, Debug)]
@@ -66,11 +68,12 @@ fn ended<A: Allocator>(
     requires home { AreHomeFrom table.table (vec_len passes) 0 passes.items }
     requires found { (rooms.found.items ≡ []) × (66 ≤ vec_capacity rooms.found) }
     requires cpus { (rooms.cpus.items ≡ []) × (vec_len passes ≤ vec_capacity rooms.cpus) }
-    requires vms { (rooms.vms.items ≡ []) × (1 ≤ vec_capacity rooms.vms) }
-    requires shared { (rooms.shared.items ≡ []) × (1 ≤ vec_capacity rooms.shared) }
+    requires first { (rooms.vms.items ≡ []) × (1 ≤ vec_capacity rooms.vms) × (rooms.shared.items ≡ []) × (1 ≤ vec_capacity rooms.shared) }
     requires guests { (rooms.guests.items ≡ []) × (64 ≤ vec_capacity rooms.guests) }
     ensures layout { result.parts.layout ≡ table.layout }
     ensures end { IsEndOf table.layout (slots_of result.parts) result.parts.cpus.items }
+    ensures own { ForEach passes.items (KeepsOwn result.parts.cpus.items) }
+    ensures seen { ForEach passes.items (KeepsSeen (slots_of result.parts)) }
 {
     let Rooms {
         found,
@@ -85,15 +88,21 @@ fn ended<A: Allocator>(
 }
 
 impl<A: Allocator> Machine<A> {
-    /// The world after the one legal history of all calls, once each pass that was handed out is given. Its parts and
-    /// CPUs have the history's calls in their logs. On a refusal the machine and what was given come back.
+    /// The world after the one legal history of all calls, once each pass that was handed out is given. Each CPU has the
+    /// state in which its pass ends, with the pass's calls, and each part's log begins with what each pass has seen there
+    /// (`laws::one_history`). With it come copies of all logs, for which room is taken before the machine ends. On a
+    /// refusal the machine and what was given come back.
     pub fn shutdown(
         self,
         global: Global,
         given: Vec<CpuPass<A>>,
-    ) -> Result<World<A>, (Machine<A>, Vec<CpuPass<A>>, ShutdownFault)>
+    ) -> Result<(World<A>, Histories), (Machine<A>, Vec<CpuPass<A>>, ShutdownFault)>
         requires pass { AreOf self.table given.items }
-        ensures end { IfOk result (λ w. IsEndOf self.table.layout (slots_of w.parts) w.parts.cpus.items) }
+        ensures layout { IfOk result (λ r. r.0.parts.layout ≡ self.table.layout) }
+        ensures end { IfOk result (λ r. IsEndOf self.table.layout (slots_of r.0.parts) r.0.parts.cpus.items) }
+        ensures own { IfOk result (λ r. KeepsStates self.table.layout self.passes given.items r.0.parts.cpus.items) }
+        ensures seen { IfOk result (λ r. OfGiven given.items (KeepsSeen (slots_of r.0.parts))) }
+        ensures logs { IfOk result (λ r. AreHistories r.0.parts r.1) }
         ensures all { IfOk result (λ _. HasAll self.passes given.items) }
         ensures missing { IfErr result (λ e. e.2 ≡ Missing → LacksOne self.passes given.items) }
         ensures no_memory { IfErr result (λ e. e.2 ≡ NoMemory → HasAll self.passes given.items) }
@@ -105,8 +114,13 @@ impl<A: Allocator> Machine<A> {
         let Ok(rooms) = rooms_for(global, self.passes.len()) else {
             return Err((self, given, ShutdownFault::NoMemory));
         };
+        let Ok(logs) = log_rooms(global, &self.passes, &given) else {
+            return Err((self, given, ShutdownFault::NoMemory));
+        };
         let Machine { table, passes } = self;
         let passes = all_back(&table, passes, given);
-        Ok(ended(table, passes, rooms))
+        let world = ended(table, passes, rooms);
+        let histories = copied(logs, world.parts());
+        Ok((world, histories))
     }
 }

@@ -7,7 +7,7 @@ use Rattle.guest_steps.specs.declared.parts.CpuState.{CpuState}
 use Rattle.part_table.specs.Endings.{IsRow}
 use Rattle.part_table.specs.Passes.{AreFirst}
 use Rattle.part_table.specs.Rule.{own_at_boot}
-use Rattle.cpu_threads.proofs.Tries.{first_theirs}
+use Rattle.cpu_threads.proofs.Tries.{first_fresh}
 use Rattle.cpu_threads.proofs.boot.machine_of.Goals as goal
 
 pub open-requires-clause-row : goal.open-requires-clause-row
@@ -34,7 +34,7 @@ pub invariant_of-result : goal.invariant_of-result
 invariant_of-result g c =
     let e = c.in_ok-table.ensures in record {
       count = e.passes.0 ∙ ap (λ (l : TheLayout). l.config.cpus) (sym e.layout);
-      theirs = first_theirs c.in_ok-table.table c.apart-layout.result.0.config.cpus c.in_ok-table.passes.items e.passes;
+      fresh = first_fresh c.in_ok-table.table c.apart-layout.result.0.config.cpus c.in_ok-table.passes.items e.passes;
     }
 
 pub returns-clause-passes : goal.returns-clause-passes

@@ -1,10 +1,10 @@
-use Rattle.std.proofs.Common.{sym, subst}
+use Rattle.std.proofs.Common.{sym, ap, subst}
 use Rattle.std.specs.Prelude.{List}
 use Rattle.page_state.specs.declared.layout.Layout.{Layout as TheLayout}
 use Rattle.guest_steps.specs.declared.parts.CpuState.{CpuState}
 use Rattle.hypercalls.specs.declared.parts.Parts.{Parts}
 use Rattle.part_table.specs.declared.slot.Slot.{Slot}
-use Rattle.part_table.specs.Endings.{IsEndOf}
+use Rattle.part_table.specs.Endings.{IsEndOf, KeepsOwn, KeepsSeen}
 use Rattle.part_table.specs.Whole.{slots_of}
 use Rattle.cpu_threads.proofs.shutdown.ended.Goals as goal
 
@@ -21,3 +21,13 @@ returns-clause-end g c =
     let j = c.join.ensures in
     subst (λ (p : Parts g.row.A.Denot). IsEndOf l (slots_of p) p.cpus.items) (sym j)
     (subst (λ (z : List (Slot g.row.A.Denot) × List CpuState). IsEndOf {A = g.row.A.Denot} l z.0 z.1) (λ i. (sym t.parts i, (sym t.cpus i).items)) e.end)
+
+pub returns-clause-own : goal.returns-clause-own
+returns-clause-own g c n p there =
+    subst (λ (w : Parts g.row.A.Denot). KeepsOwn w.cpus.items p) (sym c.join.ensures)
+    (subst (λ (cpus : List CpuState). KeepsOwn cpus p) (ap (λ v. v.items) (sym c.together-parts.ensures.cpus)) (c.close-alloc.ensures.own n p there))
+
+pub returns-clause-seen : goal.returns-clause-seen
+returns-clause-seen g c n p there =
+    subst (λ (w : Parts g.row.A.Denot). KeepsSeen (slots_of w) p) (sym c.join.ensures)
+    (subst (λ (found : List (Slot g.row.A.Denot)). KeepsSeen {A = g.row.A.Denot} found p) (sym c.together-parts.ensures.parts) (c.close-alloc.ensures.seen n p there))

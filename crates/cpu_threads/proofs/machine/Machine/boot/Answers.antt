@@ -31,7 +31,9 @@ returns g c =
     let e = c.in_ok-machine.ensures in
     record {
       geometry = b.geometry;
+      memory = b.memory;
       accepted = b.accepted;
+      enough = b.enough;
       layout = ap layout_of e.layout ∙ b.layout;
       passes = subst (λ (n : ℕ). AreFirst c.in_ok-machine.machine.table n c.in_ok-machine.machine.passes) (ap (λ (l : Layout). l.config.cpus) b.layout) e.passes;
     }

@@ -5,4 +5,7 @@ pub returns-clause-answered : goal.returns-clause-answered
 returns-clause-answered g c = search rules
 
 pub returns-clause-stored : goal.returns-clause-stored
-returns-clause-stored g c = search rules
+returns-clause-stored g c = c.call_gated.ensures.stored
+
+pub returns-clause-log_full : goal.returns-clause-log_full
+returns-clause-log_full g c = c.call_gated.ensures.log_full

@@ -1,32 +1,32 @@
-use Rattle.std.proofs.Common.{◌≡◌, refl, sym, ap, ◌∙◌, subst}
+use Rattle.std.proofs.Common.{◌≡◌, sym, ap, ◌∙◌, subst}
 use Rattle.std.proofs.lemmas.Bool.{false≢true}
 use Rattle.step_reply.specs.declared.reply.Refusal.TheVariants.{Contended}
 use Rattle.step_reply.specs.declared.reply.Reply.TheVariants.{Refused}
 use Rattle.part_table.specs.Passes.{IsPassOf, Opened}
 use Rattle.cpu_threads.specs.Machines.{Machine}
-use Rattle.cpu_threads.proofs.Tries.{same_on}
+use Rattle.cpu_threads.proofs.Tries.{meets_more, meets_none}
 use Rattle.cpu_threads.proofs.machine.Machine.call_gated.Goals as goal
 
 pub loop-init : goal.loop-init
-loop-init g c = (c.requires.pass, record { layout = refl; cpu = refl; own = refl; seen = refl })
+loop-init g c = (c.requires.pass, meets_none c.args.step c.args.pass.now.knows)
 
 pub try_step-reply-requires : goal.try_step-reply-requires
 try_step-reply-requires g c = record { pass = subst (λ (t : Opened). IsPassOf t c.loop.pass) (ap (λ (m : Machine). m.table) (sym c.self.view_is)) c.loop.invariant.0 }
 
 pub returns-then-not-is_contended-clause-cpu : goal.returns-then-not-is_contended-clause-cpu
-returns-then-not-is_contended-clause-cpu g c = c.try_step-reply.ensures.cpu ∙ c.loop.invariant.1.cpu
+returns-then-not-is_contended-clause-cpu g c = c.try_step-reply.ensures.cpu ∙ c.loop.invariant.1.same.cpu
 
 pub returns-then-not-is_contended-clause-stored : goal.returns-then-not-is_contended-clause-stored
-returns-then-not-is_contended-clause-stored g c s = record { last = c.loop.pass.knows; same = c.loop.invariant.1; stores = c.try_step-reply.ensures.stored s }
+returns-then-not-is_contended-clause-stored g c s = record { last = c.loop.pass.knows; met = c.loop.invariant.1; stores = c.try_step-reply.ensures.stored s }
 
 pub returns-then-not-is_contended-clause-log_full : goal.returns-then-not-is_contended-clause-log_full
-returns-then-not-is_contended-clause-log_full g c s = record { last = c.loop.pass.knows; same = c.loop.invariant.1; full = c.try_step-reply.ensures.log_full s }
+returns-then-not-is_contended-clause-log_full g c s = record { last = c.loop.pass.knows; met = c.loop.invariant.1; full = c.try_step-reply.ensures.log_full s }
 
 pub loop-preserved : goal.loop-preserved
 loop-preserved g c =
     let e : c.try_step-reply.result ≡ Refused Contended = c.is_contended.ensures.0 c.if-not-is_contended.false in (
       subst (λ (t : Opened). IsPassOf t c.try_step-reply.new.pass) (ap (λ (m : Machine). m.table) c.self.view_is) c.try_step-reply.ensures.pass,
-      same_on c.args.pass.now.knows c.loop.pass.knows c.try_step-reply.new.pass.knows c.loop.invariant.1 ((c.try_step-reply.ensures.contended e).same),
+      meets_more c.args.step c.args.pass.now.knows c.loop.pass.knows c.try_step-reply.new.pass.knows c.loop.invariant.1 (c.try_step-reply.ensures.contended e),
     )
 
 pub returns-then-not-is_contended-clause-pass : goal.returns-then-not-is_contended-clause-pass

@@ -3,7 +3,7 @@ use Rattle.std.specs.Prelude.{Option, Some, slice_get, slice_set, IfSome}
 use Rattle.part_table.specs.Passes.{IsPassOf, Opened, Pass}
 use Rattle.cpu_threads.specs.Machines.{HandsOut, Machine}
 use Rattle.cpu_threads.proofs.Ends.{get_of_or}
-use Rattle.cpu_threads.proofs.Tries.{handed, hands_out, others_theirs}
+use Rattle.cpu_threads.proofs.Tries.{fresh_theirs, handed, hands_out, others_fresh}
 use Rattle.cpu_threads.proofs.machine.Machine.pass.Goals as goal
 
 pub returns-clause-pass : goal.returns-clause-pass
@@ -13,7 +13,7 @@ returns-clause-pass g c =
     let o : Option Pass = c.index_mut.result.now in
     let inside : n < length ps = omega (arith, c.if-cpu-len.false, c.len.ensures, c.self.inside.passes.ok.0) in
     let there : slice_get ps n ≡ Some c.take.result = get_of_or ps n o inside c.index_mut.ensures.value ∙ ap (λ (p : Option Pass). Some p) (sym c.take.ensures.value) in
-    subst (λ (t : Opened). IfSome c.take.result (λ p. IsPassOf t p × (p.knows.cpu ≡ n))) (ap (λ (m : Machine). m.table) c.self.view_is) (handed c.self.inside.table ps n c.take.result c.self.invariant.theirs there)
+    subst (λ (t : Opened). IfSome c.take.result (λ p. IsPassOf t p × (p.knows.cpu ≡ n))) (ap (λ (m : Machine). m.table) c.self.view_is) (handed c.self.inside.table ps n c.take.result (fresh_theirs c.self.inside.table ps c.self.invariant.fresh) there)
 
 pub returns-then-cpu-len-clause-table : goal.returns-then-cpu-len-clause-table
 returns-then-cpu-len-clause-table g c = refl
@@ -37,7 +37,7 @@ invariant_of-self g c =
     let inside : n < length ps = omega (arith, c.if-cpu-len.false, c.len.ensures, c.self.inside.passes.ok.0) in
     record {
       count = length-set ps n c.take.new.self ∙ c.self.invariant.count;
-      theirs = others_theirs ps n c.take.new.self inside c.take.ensures.after c.self.inside.table c.self.invariant.theirs;
+      fresh = others_fresh ps n c.take.new.self inside c.take.ensures.after c.self.inside.table c.self.invariant.fresh;
     }
 
 pub returns-clause-table : goal.returns-clause-table

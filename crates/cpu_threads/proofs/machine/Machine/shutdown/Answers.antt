@@ -1,12 +1,27 @@
-use Rattle.std.proofs.Common.{◌≡◌, ℕ, refl, sym, ap, subst, arith}
-use Rattle.std.specs.Prelude.{List, Option}
-use Rattle.part_table.specs.Endings.{IsEndOf}
+use Rattle.std.proofs.Common.{◌≡◌, ℕ, [], length, refl, sym, ap, ◌∙◌, subst, arith}
+use Rattle.std.specs.Prelude.{List, Option, Some, slice_get}
+use Rattle.std.specs.Vec.{vec_len}
+use Rattle.std.proofs.Math.Logic.{∥∥₁_map}
+use Rattle.guest_steps.specs.declared.parts.CpuState.{CpuState}
+use Rattle.part_table.specs.Endings.{IsEndOf, KeepsOwn}
 use Rattle.part_table.specs.Whole.{slots_of}
 use Rattle.part_table.specs.Passes.{AreHomeFrom, Opened, Pass}
-use Rattle.cpu_threads.specs.Ends.{AreOf, HasAll, LacksOne}
+use Rattle.page_state.specs.declared.layout.Layout.{Layout as TheLayout}
+use Rattle.hypercalls.specs.declared.parts.Parts.{Parts}
+use Rattle.hypercalls.specs.Stands.{HasHistory, kept_of, parts_layout}
+use Rattle.world.specs.declared.merge.Histories.{Histories}
+use Rattle.world.specs.Merges.{AreLogsOf, IsOfHistory}
+use Rattle.cpu_threads.specs.Rooms.{CanHold, HaveRoom}
+use Rattle.cpu_threads.proofs.Bounds.{can_hold, room_back}
+use Rattle.cpu_threads.specs.Ends.{AreOf, HasAll, KeepsStates, LacksOne}
 use Rattle.cpu_threads.specs.declared.shutdown.ShutdownFault.TheVariants.{Missing, NoMemory}
 use Rattle.cpu_threads.specs.Machines.{Machine}
+use Rattle.cpu_threads.proofs.Ends.{of_given_back}
+use Rattle.cpu_threads.proofs.Tries.{fresh_theirs}
 use Rattle.cpu_threads.proofs.machine.Machine.shutdown.Goals as goal
+
+of_history : {A : Type 0} (p : Parts A) (h : Histories) → HasHistory p → AreLogsOf h (parts_layout p) (kept_of p) → IsOfHistory h
+of_history p h has logs = record { layout = parts_layout p; ready = has.ready; kept = kept_of p; log = has.log; history = has.history; logs = logs }
 
 differ : Missing ≡ NoMemory → ⊥
 differ e = cc
@@ -18,8 +33,11 @@ pub all_back-passes-requires-clause-all : goal.all_back-passes-requires-clause-a
 all_back-passes-requires-clause-all g c =
     c.lacks.ensures.all c.if-lacks.false
 
-pub ended-requires-clause-home : goal.ended-requires-clause-home
-ended-requires-clause-home g c = subst (λ (n : ℕ). AreHomeFrom c.self.inside.table.table n 0 c.all_back-passes.result.items) (sym c.all_back-passes.ensures.count.1) c.all_back-passes.ensures.home
+pub all_back-passes-requires-clause-count : goal.all_back-passes-requires-clause-count
+all_back-passes-requires-clause-count g c = c.self.invariant.count
+
+pub ended-world-requires-clause-home : goal.ended-world-requires-clause-home
+ended-world-requires-clause-home g c = subst (λ (n : ℕ). AreHomeFrom c.self.inside.table.table n 0 c.all_back-passes.result.items) (sym c.all_back-passes.ensures.count.1) c.all_back-passes.ensures.home
 
 pub returns-clause-all : goal.returns-clause-all
 returns-clause-all g c =
@@ -56,28 +74,25 @@ pub returns-in_default-clause-same : goal.returns-in_default-clause-same
 returns-in_default-clause-same g c = (refl, refl)
 
 pub all_back-passes-requires-clause-theirs : goal.all_back-passes-requires-clause-theirs
-all_back-passes-requires-clause-theirs g c = c.self.invariant.theirs
+all_back-passes-requires-clause-theirs g c = fresh_theirs c.self.inside.table c.self.inside.passes.items c.self.invariant.fresh
 
-pub ended-requires-clause-count : goal.ended-requires-clause-count
-ended-requires-clause-count g c = omega (arith, c.all_back-passes.ensures.count.1, c.self.inside.passes.ok.0, c.self.invariant.count)
+pub ended-world-requires-clause-count : goal.ended-world-requires-clause-count
+ended-world-requires-clause-count g c = omega (arith, c.all_back-passes.ensures.count.1, c.self.inside.passes.ok.0, c.self.invariant.count)
 
-pub ended-requires-clause-found : goal.ended-requires-clause-found
-ended-requires-clause-found g c = c.in-Ok.ensures.found
+pub ended-world-requires-clause-found : goal.ended-world-requires-clause-found
+ended-world-requires-clause-found g c = c.in-Ok.ensures.found
 
-pub ended-requires-clause-cpus : goal.ended-requires-clause-cpus
-ended-requires-clause-cpus g c = (c.in-Ok.ensures.cpus.0, omega (arith, c.all_back-passes.ensures.count.1, c.len.ensures, c.in-Ok.ensures.cpus.1))
+pub ended-world-requires-clause-cpus : goal.ended-world-requires-clause-cpus
+ended-world-requires-clause-cpus g c = (c.in-Ok.ensures.cpus.0, omega (arith, c.all_back-passes.ensures.count.1, c.len.ensures, c.in-Ok.ensures.cpus.1))
 
-pub ended-requires-clause-vms : goal.ended-requires-clause-vms
-ended-requires-clause-vms g c = c.in-Ok.ensures.vms
+pub ended-world-requires-clause-first : goal.ended-world-requires-clause-first
+ended-world-requires-clause-first g c = let r = c.in-Ok.ensures in (r.vms.0, r.vms.1, r.shared.0, r.shared.1)
 
-pub ended-requires-clause-shared : goal.ended-requires-clause-shared
-ended-requires-clause-shared g c = c.in-Ok.ensures.shared
-
-pub ended-requires-clause-guests : goal.ended-requires-clause-guests
-ended-requires-clause-guests g c = c.in-Ok.ensures.guests
+pub ended-world-requires-clause-guests : goal.ended-world-requires-clause-guests
+ended-world-requires-clause-guests g c = c.in-Ok.ensures.guests
 
 pub returns-clause-end : goal.returns-clause-end
-returns-clause-end g c = subst (λ (t : Opened). IsEndOf {A = g.row.A.Denot} t.layout (slots_of c.ended.result.parts) c.ended.result.parts.cpus.items) (ap (λ (m : Machine). m.table) c.self.view_is) c.ended.ensures.end
+returns-clause-end g c = subst (λ (t : Opened). IsEndOf {A = g.row.A.Denot} t.layout (slots_of c.ended-world.result.parts) c.ended-world.result.parts.cpus.items) (ap (λ (m : Machine). m.table) c.self.view_is) c.ended-world.ensures.end
 
 pub returns-clause-missing : goal.returns-clause-missing
 returns-clause-missing g c = tt
@@ -87,3 +102,65 @@ returns-clause-no_memory g c = tt
 
 pub returns-clause-same : goal.returns-clause-same
 returns-clause-same g c = tt
+
+pub returns-clause-layout : goal.returns-clause-layout
+returns-clause-layout g c = c.ended-world.ensures.layout ∙ ap (λ (m : Machine). m.table.layout) c.self.view_is
+
+pub returns-clause-own : goal.returns-clause-own
+returns-clause-own g c =
+    let l : TheLayout = c.self.inside.table.layout in
+    let cpus : List CpuState = c.ended-world.result.parts.cpus.items in
+    let e = c.all_back-passes.ensures in
+    subst (λ (m : Machine). KeepsStates m.table.layout m.passes c.args.given.items cpus) c.self.view_is record {
+      ended = of_given_back c.all_back-passes.result.items c.args.given.items (KeepsOwn cpus) e.back c.ended-world.ensures.own;
+      fresh = λ n home. let is = c.self.invariant.fresh n home.0 home.1 in
+          ap (slice_get cpus) (sym (ap (λ (p : Pass). p.knows.cpu) is)) ∙ (c.ended-world.ensures.own home.0.knows.cpu home.0 (e.stays n home.0 home.1) ∙ ap (λ (p : Pass). Some p.knows.own) is);
+    }
+
+pub returns-clause-seen : goal.returns-clause-seen
+returns-clause-seen g c = of_given_back c.all_back-passes.result.items c.args.given.items _ c.all_back-passes.ensures.back c.ended-world.ensures.seen
+
+pub returns-then-lacks-clause-layout : goal.returns-then-lacks-clause-layout
+returns-then-lacks-clause-layout g c = tt
+
+pub returns-then-lacks-clause-own : goal.returns-then-lacks-clause-own
+returns-then-lacks-clause-own g c = tt
+
+pub returns-in_default-clause-layout : goal.returns-in_default-clause-layout
+returns-in_default-clause-layout g c = tt
+
+pub returns-in_default-clause-own : goal.returns-in_default-clause-own
+returns-in_default-clause-own g c = tt
+
+pub returns-then-lacks-clause-seen : goal.returns-then-lacks-clause-seen
+returns-then-lacks-clause-seen g c = tt
+
+pub returns-in_default-clause-seen : goal.returns-in_default-clause-seen
+returns-in_default-clause-seen g c = tt
+
+pub returns-then-lacks-clause-logs : goal.returns-then-lacks-clause-logs
+returns-then-lacks-clause-logs g c = tt
+
+pub returns-in_default-clause-logs : goal.returns-in_default-clause-logs
+returns-in_default-clause-logs g c = tt
+
+pub copied-histories-requires : goal.copied-histories-requires
+copied-histories-requires g c =
+    let w : Parts g.row.A.Denot = c.ended-world.result.parts in
+    let k = c.all_back-passes.ensures in
+    let long : length c.all_back-passes.result.items ≡ length c.self.inside.passes.items = k.count.0 in
+    let count : length c.all_back-passes.result.items ≡ w.layout.config.cpus = omega (arith, long, c.self.inside.passes.ok.0, c.self.invariant.count, ap (λ (l : TheLayout). l.config.cpus) c.ended-world.ensures.layout) in
+    let all : vec_len c.self.inside.passes ≡ length c.all_back-passes.result.items = omega (arith, long, c.self.inside.passes.ok.0) in
+    let home = subst (λ (n : ℕ). AreHomeFrom c.self.inside.table.table n 0 c.all_back-passes.result.items) all k.home in
+    let room = room_back c.self.inside.passes.items c.all_back-passes.result.items c.args.given.items _ c.in-Ok-log_rooms.logs k.few c.in-Ok-log_rooms.ensures in
+    let there : CanHold (kept_of w) w.layout.config.cpus c.in-Ok-log_rooms.logs = can_hold w c.self.inside.table.table c.all_back-passes.result.items c.in-Ok-log_rooms.logs count home c.ended-world.ensures.own c.ended-world.result.history (subst (λ (n : ℕ). HaveRoom c.all_back-passes.result.items [] n c.in-Ok-log_rooms.logs) all room) in
+    record { room = subst (λ (q : Parts g.row.A.Denot). CanHold (kept_of q) q.layout.config.cpus c.in-Ok-log_rooms.logs) (sym c.parts.ensures) there }
+
+pub returns-clause-logs : goal.returns-clause-logs
+returns-clause-logs g c =
+    let w : Parts g.row.A.Denot = c.ended-world.result.parts in
+    let logs = subst (λ (q : Parts g.row.A.Denot). AreLogsOf c.copied-histories.result (parts_layout q) (kept_of q)) c.parts.ensures c.copied-histories.ensures in
+    record { logs = logs; history = ∥∥₁_map c.ended-world.result.history (λ has. of_history w c.copied-histories.result has logs) }
+
+pub returns-in_default-log_rooms-clause-no_memory : goal.returns-in_default-log_rooms-clause-no_memory
+returns-in_default-log_rooms-clause-no_memory g c = λ _. subst (λ (l : List (Option Pass)). HasAll l c.args.given.items) (ap (λ (m : Machine). m.passes) c.self.view_is) (c.lacks.ensures.all c.if-lacks.false)

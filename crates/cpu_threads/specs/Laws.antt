@@ -1,0 +1,92 @@
+-- What follows from a machine's calls and its end: the laws of this crate.
+use Rattle.std.specs.Prelude.{◌≡◌, ◌⊎◌, ℕ, ◌<◌, true, map, All, List, [], ◌∷◌, ◌++◌, Option, Ok, Err}
+use Rattle.page_state.specs.declared.layout.Layout.{Layout as TheLayout}
+use Rattle.step_reply.specs.declared.reply.Call.{Call}
+use Rattle.step_reply.specs.declared.reply.Refusal.{Refusal}
+use Rattle.step_reply.specs.declared.reply.Reply.{Reply}
+use Rattle.step_reply.specs.declared.reply.Reply.TheVariants.{Done, Refused}
+use Rattle.step_reply.specs.declared.reply.Value.{Value}
+use Rattle.step_reply.specs.declared.reply.Value.TheVariants.{Vm}
+use Rattle.step_reply.specs.declared.step.Step.{Step}
+use Rattle.step_reply.specs.declared.step.Step.TheVariants.{VmReserve, Fund, Install, VmOpen}
+use Rattle.step_reply.specs.declared.step.VmId.{VmId}
+use Rattle.step_reply.specs.declared.step.VmKind.{VmKind}
+use Rattle.reference_model.specs.History.{IsStored, calls_by, calls_on}
+use Rattle.guest_steps.specs.declared.parts.CpuState.{CpuState}
+use Rattle.guest_steps.specs.Logs.{StoredCalls}
+use Rattle.part_table.specs.declared.slot.Slot.{Slot}
+use Rattle.part_table.specs.Answered.{FindsAway, FindsLogFull, MeetsAnother, StoresCall, used_by}
+use Rattle.part_table.specs.Endings.{IsEndOf, KeepsSeen}
+use Rattle.part_table.specs.Parts.{parts, part_of, uses}
+use Rattle.part_table.specs.Passes.{Pass}
+use Rattle.part_table.specs.Rule.{Known, StartsWith, seen_at}
+use Rattle.part_table.specs.Tried.{FoundAway, FoundFull, FoundRoom, Try}
+use Rattle.cpu_threads.specs.Ends.{HasAll, IsAtHome, KeepsStates, LacksOne, OfGiven}
+use Rattle.cpu_threads.specs.Inits.{InitsVm}
+use Rattle.cpu_threads.specs.declared.init.InitStage.{InitStage}
+use Rattle.cpu_threads.specs.declared.init.InitStage.TheVariants.{Reserve, Fund as FundStage, Install as InstallStage, Open}
+
+-- The history is a pass's: its CPU's calls in it are the pass's own list, in order and with their replies, and its calls on each part begin with what the pass has seen there
+pub record IsHistoryOf (log : List Call) (p : Pass) : Type 0 where
+  pub calls : calls_by p.knows.cpu log ≡ p.knows.own.log.calls
+  pub seen : (k : ℕ) → k < parts → StartsWith (calls_on (part_of k) log) (seen_at p.knows.seen k)
+
+-- There is one legal history at whose end the parts and the CPUs are. It is each given pass's, and has no call of a CPU whose pass was never handed out
+pub record OneHistory {A : Type 0} (l : TheLayout) (found : List (Slot A)) (cpus : List CpuState) (passes : List (Option Pass)) (given : List Pass) : Type 0 where
+  pub end : IsEndOf l found cpus
+  pub each : OfGiven given (IsHistoryOf end.log)
+  pub idle : (c : ℕ) → IsAtHome passes c → calls_by c end.log ≡ []
+
+-- so it is where the parts and the CPUs are what a shutdown gives: the end of a legal history, which keeps each CPU's state, and what each given pass has seen
+abbrev pub EndsInOne : Type 0 → Type 0
+EndsInOne A = (l : TheLayout) (found : List (Slot A)) (cpus : List CpuState) (passes : List (Option Pass)) (given : List Pass) → IsEndOf l found cpus → KeepsStates l passes given cpus → OfGiven given (KeepsSeen found)
+    → OneHistory l found cpus passes given
+
+-- what a pass has seen of a part only grows, and of a part that its call used it ends with the call
+abbrev pub SeenGrows : Type 0
+SeenGrows = (step : Step) (reply : Reply) (v w : Known) (s : StoresCall step reply v w) (k : ℕ)
+    → StartsWith (seen_at w.seen k) (seen_at v.seen k) × (uses s.call k ≡ true → (before : List Call) × (seen_at w.seen k ≡ before ++ s.call ∷ []))
+
+-- a stored call tried just the parts that its step uses, in their order and each once, and took each with room in its log
+abbrev pub TakesEach : Type 0
+TakesEach = (step : Step) (reply : Reply) (v w : Known) (s : StoresCall step reply v w)
+    → (map (λ t. t.0) s.tries ≡ used_by step v) × All (λ t. FoundRoom t.1) s.tries
+
+-- tries of the first of these parts, in their order and each once: the last one found this, and each before it took its part with room in its log
+pub record StopAt (Last : Option StoredCalls → Type 0) (ks : List ℕ) (tries : List Try) : Type 0 where
+  pub before : List Try
+  pub last : Try
+  pub all : tries ≡ before ++ last ∷ []
+  pub numbers : (more : List ℕ) × (ks ≡ map (λ t. t.0) tries ++ more)
+  pub room : All (λ t. FoundRoom t.1) before
+  pub found : Last last.1
+
+-- a try of a step that finds a part with another pass stops there, and has recorded it
+abbrev pub StopsAtAnother : Type 0
+StopsAtAnother = (step : Step) (v w : Known) (f : FindsAway step v w) → StopAt FoundAway (used_by step v) f.tries × MeetsAnother v w
+
+-- a try of a step that finds a log full: the CPU's own, and no part is tried, or that of the part at which it stops
+abbrev pub StopsAtFullLog : Type 0
+StopsAtFullLog = (step : Step) (v w : Known) (f : FindsLogFull step v w) → ((v.own.log.room ≡ 0) × (f.tries ≡ [])) ⊎ StopAt FoundFull (used_by step v) f.tries
+
+-- a CPU's list has these steps and replies more, in this order
+abbrev pub HasMore : List (Step × Reply) → Known → Known → Type 0
+HasMore told v w = (more : List Call) × (w.own.log.calls ≡ v.own.log.calls ++ more) × (map (λ c. (c.step, c.reply)) more ≡ told)
+
+module _ (kind : VmKind) (vcpus pfn n : ℕ) where
+  -- the calls up to the one of a stage: each was made, but for the last, which got this reply
+  abbrev pub AddsTo : InitStage → Reply → Known → Known → Type 0
+  AddsTo Reserve r v w = HasMore ((VmReserve kind vcpus, r) ∷ []) v w
+  AddsTo FundStage r v w = (a : Value) × HasMore ((VmReserve kind vcpus, Done a) ∷ (Fund pfn n, r) ∷ []) v w
+  AddsTo InstallStage r v w = (a b : Value) × HasMore ((VmReserve kind vcpus, Done a) ∷ (Fund pfn n, Done b) ∷ (Install, r) ∷ []) v w
+  AddsTo Open r v w = (a b c : Value) × HasMore ((VmReserve kind vcpus, Done a) ∷ (Fund pfn n, Done b) ∷ (Install, Done c) ∷ (VmOpen, r) ∷ []) v w
+
+-- making a VM adds the calls of all four stages to the CPU's list, or those up to the refused one, where that is stored
+abbrev pub InitAdds : Type 0
+InitAdds = (kind : VmKind) (vcpus pfn n : ℕ) (v w : Known)
+    → ((vm : VmId) → InitsVm kind vcpus pfn n (Ok vm) v w → AddsTo kind vcpus pfn n Open (Done (Vm vm)) v w)
+    × ((stage : InitStage) (why : Refusal) → IsStored (Refused why) → InitsVm kind vcpus pfn n (Err (stage, why)) v w → AddsTo kind vcpus pfn n stage (Refused why) v w)
+
+-- where a pass is missing, not all are given
+abbrev pub MissingOne : Type 0
+MissingOne = (passes : List (Option Pass)) (given : List Pass) → LacksOne passes given → HasAll passes given → ⊥

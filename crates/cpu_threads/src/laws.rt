@@ -1,0 +1,32 @@
+//! The laws of a machine's calls and of its end. The functions do nothing, and their contracts are the laws.
+ghost use Rattle.cpu_threads.specs.Laws.{EndsInOne, InitAdds, MissingOne, SeenGrows, StopsAtAnother, StopsAtFullLog, TakesEach};
+
+use std::alloc::Allocator;
+
+/// Once a machine is shut down (`Machine::shutdown`: `end`, `own`, `seen`), there is one legal history at whose end the
+/// world is. The calls of each CPU in it are those of its given pass's list, each once, in that order and with the replies
+/// that were answered; a CPU whose pass was never handed out has none. At each part the history begins with what each
+/// given pass had seen there.
+pub fn one_history<A: Allocator>()
+    ensures { EndsInOne A }
+{}
+
+/// What the tries of a call tell (`Machine::try_call`): a stored call took each part that its step uses once, in their
+/// order, and what its pass has seen of each part only grows. A try that finds a part with another pass, or a log full,
+/// stops there.
+pub fn tries()
+    ensures grows { SeenGrows }
+    ensures takes { TakesEach }
+    ensures met { StopsAtAnother }
+    ensures full { StopsAtFullLog }
+{}
+
+/// What making a VM (`Machine::init_vm`) adds to the CPU's list: its four calls, or those up to the refused one.
+pub fn init_calls()
+    ensures { InitAdds }
+{}
+
+/// A shutdown that tells a missing pass wasn't given all.
+pub fn missing()
+    ensures { MissingOne }
+{}
