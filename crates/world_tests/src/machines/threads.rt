@@ -270,8 +270,7 @@ fn eight_cpus(rt: HostRuntime) {
     let mut passes = ready_passes(&rt, alloc, &mut machine).expect(&rt, "memory");
     make_all(&rt, &machine, passes.as_mut_slice());
     let ended = machine.shutdown(alloc, passes);
-    let world = ended.ok().expect(&rt, "a machine that is shut down");
-    let logs = world.histories(alloc).expect(&rt, "memory");
+    let (world, logs) = ended.ok().expect(&rt, "a machine that is shut down");
     drop(world);
     let calls = World::<Global>::merge(alloc, &logs).expect(&rt, "merged logs");
     assert_eq!(rt; calls.len() as u64, LOG);
