@@ -1,5 +1,7 @@
 pub mod Comparing
+pub mod Eights
 pub mod Ended
+pub mod Extended
 pub mod FoundTables
 pub mod Founds
 pub mod Lasts
@@ -8,11 +10,12 @@ pub mod LowKept
 pub mod LowParts
 pub mod Places
 pub mod PokedParts
-pub mod Reached
-pub mod Recording
 pub mod RawReady
 pub mod RawUnder
+pub mod Reached
+pub mod Recording
 pub mod Scratch
 pub mod Under
 pub mod Walked
 pub mod Walking
+pub mod Walks
