@@ -1,4 +1,5 @@
 pub mod Comparing
+pub mod Counting
 pub mod Eights
 pub mod Ended
 pub mod Extended

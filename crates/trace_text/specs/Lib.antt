@@ -1,5 +1,6 @@
 pub mod Failures
 pub mod Laws
+pub mod Looks
 pub mod Oracles
 pub mod Played
 pub mod Ready

@@ -1,13 +1,15 @@
-use Rattle.std.proofs.Common.{ℕ, ◌∙◌, ap, length, sym}
+use Rattle.std.proofs.Common.{ℕ, ◌≤◌, ◌∙◌, ap, arith, length, sym}
 use Rattle.std.specs.Option.{option_copied, option_map}
 use denote.Bor.{Bor}
 use Rattle.page_state.specs.LayoutView.{layout_of}
 use Rattle.reference_model.specs.State.{put_at}
 use Rattle.guest_steps.specs.declared.parts.GuestPart.{GuestPart}
 use Rattle.ghost_spec.specs.Used.{rooms_of}
+use Rattle.table_tree.specs.Reading.{count_of}
 use Rattle.ghost_oracle.specs.Recorded.{given}
+use Rattle.ghost_oracle.proofs.Counting.{read_given}
 use Rattle.ghost_oracle.proofs.Recording.{is_recorded}
-use Rattle.ghost_oracle.proofs.record.record.Goals as goal
+use Rattle.ghost_oracle.proofs.record.record_counted.Goals as goal
 
 pub returns-clause-state : goal.returns-clause-state
 returns-clause-state g c =
@@ -57,3 +59,6 @@ guests_given-requires g c = record { slot = c.requires.slot; low = c.requires.gu
 
 pub guest_rooms_given-requires : goal.guest_rooms_given-requires
 guest_rooms_given-requires g c = c.requires.slot
+
+pub returns-clause-reads : goal.returns-clause-reads
+returns-clause-reads g c = read_given (count_of c.args.reads.now) (count_of c.guests_given.new.reads) (count_of c.shared_given.new.reads) _ _ (omega (arith, c.count-count.type_inv, c.count-count.ensures)) c.in-Ok.ensures.reads c.in-Ok-shared_given.ensures.reads

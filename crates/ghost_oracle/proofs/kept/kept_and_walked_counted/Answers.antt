@@ -1,6 +1,6 @@
 use Rattle.ghost_oracle.specs.declared.compared.Compared.{Compared}
 use Rattle.ghost_oracle.proofs.Scratch.{if_ok}
-use Rattle.ghost_oracle.proofs.kept.kept_and_walked.Goals as goal
+use Rattle.ghost_oracle.proofs.kept.kept_and_walked_counted.Goals as goal
 
 pub returns-clause-state : goal.returns-clause-state
 returns-clause-state g c = if_ok _ _ c.compared.result (λ (x : Compared) e. e.state) c.compared.ensures
