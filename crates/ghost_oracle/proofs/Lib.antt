@@ -1,5 +1,8 @@
 pub mod Comparing
+pub mod Counting
+pub mod Eights
 pub mod Ended
+pub mod Extended
 pub mod FoundTables
 pub mod Founds
 pub mod Lasts
@@ -9,11 +12,12 @@ pub mod LowParts
 pub mod Places
 pub mod PokedOnce
 pub mod PokedParts
-pub mod Reached
-pub mod Recording
 pub mod RawReady
 pub mod RawUnder
+pub mod Reached
+pub mod Recording
 pub mod Scratch
 pub mod Under
 pub mod Walked
 pub mod Walking
+pub mod Walks

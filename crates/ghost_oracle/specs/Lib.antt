@@ -1,5 +1,6 @@
 pub mod Beside
 pub mod Compared
+pub mod Counted
 pub mod Found
 pub mod Levels
 pub mod Low

@@ -1,1 +1,3 @@
+pub mod Eights
+pub mod Pending
 pub mod Walking

@@ -1,5 +1,6 @@
-//! The reference state of all parts on lists: what is kept, and what walking every word finds.
-ghost use Rattle.std.specs.Prelude.{◌≡◌, ℕ, ◌∷◌, [], All, IfOk, map};
+//! The reference state of all parts on lists: what is kept, and what walking every word finds. The calls whose names end in
+//! `counted` count each word that they read.
+ghost use Rattle.std.specs.Prelude.{◌≡◌, ℕ, ◌∷◌, [], All, IfOk, OnOk, map};
 ghost use Rattle.page_state.specs.LayoutView.{layout_of};
 ghost use Rattle.page_state.specs.Rows.{HasPageBelow};
 ghost use Rattle.run_list.specs.Runs.{AreInReach};
@@ -9,10 +10,12 @@ ghost use Rattle.guest_steps.specs.View.{cpu_of, guest_held, shared_of};
 ghost use Rattle.ghost_spec.specs.Kept.{IsKeptShared};
 ghost use Rattle.ghost_spec.specs.States.{ghost_state, guest_in, AreKeptGuests, IsKept};
 ghost use Rattle.ghost_trees.specs.Trees.{tree_in_lists};
+ghost use Rattle.table_tree.specs.Reading.{count_of};
 ghost use Rattle.table_tree.specs.View.{tree_of};
 ghost use Rattle.ghost_spec.specs.Views.{row_in, shared_in_lists};
 ghost use Rattle.hypercalls.specs.Stands.{parts_layout, state_of, HasHistory};
 ghost use Rattle.ghost_oracle.specs.Compared.{walked_in};
+ghost use Rattle.ghost_oracle.specs.Counted.{HasRead, shared_tables, tables_of_parts};
 ghost use Rattle.ghost_oracle.specs.Found.{found_state, walked_state, with_row, HasRowsOf, SaysMaplets, SaysRows};
 ghost use Rattle.ghost_oracle.specs.Low.{IsLowCpu};
 
@@ -32,22 +35,25 @@ use hypercalls::Parts;
 use page_state::Row;
 use run_list::RunList;
 use std::alloc::{AllocError, Allocator, Global};
+use table_tree::Reads;
 
 /// The Shared part as a walk finds it, with these rows.
 pub(crate) fn shared_from<A: Allocator>(
     alloc: Global,
     part: &SharedPart<A>,
     rows: RunList<Row>,
+    reads: &mut Reads,
 ) -> Result<Shared, AllocError>
     requires reach { AreInReach HasPageBelow rows.runs }
     ensures shared { IfOk result (λ s. shared_in_lists s ≡ with_row (row_in rows.runs) (shared_of part.now)) }
     ensures kept { IfOk result IsKeptShared }
     ensures rows { IfOk result (λ s. s.rows ≡ rows) }
+    ensures reads { OnOk result (HasRead (count_of reads.old) (shared_tables part.now) (count_of reads.new)) }
 {
     Ok(Shared {
         free: frames_of(alloc, &part.pool)?,
-        host: tree_from(alloc, &part.host, Source::Words)?,
-        hyp: tree_from(alloc, &part.hyp, Source::Words)?,
+        host: tree_from(alloc, &part.host, Source::Words, reads)?,
+        hyp: tree_from(alloc, &part.hyp, Source::Words, reads)?,
         rows,
     })
 }
@@ -113,14 +119,19 @@ fn ghost_with<A: Allocator>(
 }
 
 /// All parts as a walk finds them, without owner rows.
-fn found<A: Allocator>(alloc: Global, parts: &Parts<A>) -> Result<Ghost, AllocError>
+fn found<A: Allocator>(
+    alloc: Global,
+    parts: &Parts<A>,
+    reads: &mut Reads,
+) -> Result<Ghost, AllocError>
     requires history { ∥ HasHistory parts.now ∥₁ }
     ensures state { IfOk result (λ g. ghost_state g ≡ found_state (row_in []) (state_of parts.now)) }
     ensures layout { IfOk result (λ g. layout_of g.layout ≡ parts_layout parts.now) }
     ensures kept { IfOk result IsKept }
+    ensures reads { OnOk result (HasRead (count_of reads.old) (tables_of_parts parts.now) (count_of reads.new)) }
 {
-    let guests = guests_from(alloc, parts.guests.as_slice())?;
-    let shared = shared_from(alloc, parts.shared(), RunList::new(alloc))?;
+    let guests = guests_from(alloc, parts.guests.as_slice(), reads)?;
+    let shared = shared_from(alloc, parts.shared(), RunList::new(alloc), reads)?;
     ghost_with(alloc, parts, shared, guests)
 }
 
@@ -202,7 +213,7 @@ pub fn kept<A: Allocator>(alloc: Global, parts: &Parts<A>) -> Result<Ghost, Allo
     ensures rows { IfOk result (SaysRows parts.now) }
     ensures frames { IfOk result (HasRowsOf (parts_layout parts.now)) }
 {
-    let found = found(alloc, parts)?;
+    let found = found(alloc, parts, &mut Reads::new())?;
     with_kept(alloc, parts, &found)
 }
 
@@ -216,7 +227,23 @@ pub fn recompute<A: Allocator>(alloc: Global, parts: &Parts<A>) -> Result<Ghost,
     ensures kept { IfOk result IsKept }
     ensures frames { IfOk result (HasRowsOf (parts_layout parts.now)) }
 {
-    let found = found(alloc, parts)?;
+    recompute_counted(alloc, parts, &mut Reads::new())
+}
+
+/// As `recompute`, and adds to a count each word that it reads.
+pub fn recompute_counted<A: Allocator>(
+    alloc: Global,
+    parts: &Parts<A>,
+    reads: &mut Reads,
+) -> Result<Ghost, AllocError>
+    requires history { ∥ HasHistory parts.now ∥₁ }
+    ensures state { IfOk result (λ g. ghost_state g ≡ walked_state (parts_layout parts.now) (state_of parts.now)) }
+    ensures layout { IfOk result (λ g. layout_of g.layout ≡ parts_layout parts.now) }
+    ensures kept { IfOk result IsKept }
+    ensures frames { IfOk result (HasRowsOf (parts_layout parts.now)) }
+    ensures reads { OnOk result (HasRead (count_of reads.old) (tables_of_parts parts.now) (count_of reads.new)) }
+{
+    let found = found(alloc, parts, reads)?;
     with_scratch(alloc, parts, found)
 }
 
@@ -239,6 +266,28 @@ pub fn kept_and_walked<A: Allocator>(
     ensures walked_kept { IfOk result (λ c. IsKept (walked_in c)) }
     ensures walked_frames { IfOk result (λ c. HasRowsOf (parts_layout parts.now) (walked_in c)) }
 {
-    let found = found(alloc, parts)?;
+    kept_and_walked_counted(alloc, parts, &mut Reads::new())
+}
+
+/// As `kept_and_walked`, and adds to a count each word that it reads.
+pub fn kept_and_walked_counted<A: Allocator>(
+    alloc: Global,
+    parts: &Parts<A>,
+    reads: &mut Reads,
+) -> Result<Compared, AllocError>
+    requires history { ∥ HasHistory parts.now ∥₁ }
+    ensures state { IfOk result (λ c. ghost_state c.kept ≡ state_of parts.now) }
+    ensures layout { IfOk result (λ c. layout_of c.kept.layout ≡ parts_layout parts.now) }
+    ensures kept { IfOk result (λ c. IsKept c.kept) }
+    ensures maplets { IfOk result (λ c. SaysMaplets parts.now c.kept) }
+    ensures rows { IfOk result (λ c. SaysRows parts.now c.kept) }
+    ensures frames { IfOk result (λ c. HasRowsOf (parts_layout parts.now) c.kept) }
+    ensures walked { IfOk result (λ c. ghost_state (walked_in c) ≡ walked_state (parts_layout parts.now) (state_of parts.now)) }
+    ensures walked_layout { IfOk result (λ c. layout_of (walked_in c).layout ≡ parts_layout parts.now) }
+    ensures walked_kept { IfOk result (λ c. IsKept (walked_in c)) }
+    ensures walked_frames { IfOk result (λ c. HasRowsOf (parts_layout parts.now) (walked_in c)) }
+    ensures reads { OnOk result (HasRead (count_of reads.old) (tables_of_parts parts.now) (count_of reads.new)) }
+{
+    let found = found(alloc, parts, reads)?;
     compared(alloc, parts, found)
 }

@@ -4,10 +4,12 @@
 
 mod both;
 pub mod compared;
+mod eight;
 mod found;
 pub mod kept;
 pub mod laws;
 mod parts;
+mod pending;
 pub mod pokes;
 pub mod raw;
 pub mod raw_kept;

@@ -74,7 +74,7 @@ fn slot_guest<A: Allocator>(
 {
     match held {
         Some(guest) => raw_guest(alloc, guest, source),
-        None => guest_from(alloc, &part.guest, source),
+        None => guest_from(alloc, &part.guest, source, &mut Reads::new()),
     }
 }
 

@@ -1,5 +1,5 @@
 //! A record of given parts alone: what a walk of their trees finds, and what stands in no tree.
-ghost use Rattle.std.specs.Prelude.{◌≡◌, ℕ, ◌<◌, IfOk, IfSome, get_or, length, map};
+ghost use Rattle.std.specs.Prelude.{◌≡◌, ℕ, ◌*◌, ◌<◌, IfOk, IfSome, OnOk, get_or, length, map};
 ghost use Rattle.std.specs.Option.{option_copied, option_map};
 ghost use Rattle.page_state.specs.LayoutView.{layout_of};
 ghost use Rattle.reference_model.specs.State.{blank, no_cpu, no_slot, put_at};
@@ -9,8 +9,11 @@ ghost use Rattle.ghost_spec.specs.Kept.{IsKeptGuest, IsKeptShared};
 ghost use Rattle.ghost_spec.specs.States.{ghost_state, guest_in, slot_in, AreKeptCpus, AreKeptGuests, IsKept};
 ghost use Rattle.ghost_spec.specs.Used.{guests_in, rooms_of};
 ghost use Rattle.ghost_spec.specs.Views.{cpu_in, shared_in_lists};
+ghost use Rattle.table_tree.specs.Reading.{count_of};
+ghost use Rattle.ghost_oracle.specs.Counted.{HasRead, shared_tables, slot_tables, tables_given};
 ghost use Rattle.ghost_oracle.specs.Low.{IsLowCpu, IsLowGuest};
 ghost use Rattle.ghost_oracle.specs.Recorded.{given, put_given, recorded};
+ghost use Rattle.ghost_oracle.specs.inner.Eights.{HasLooked};
 
 use crate::kept::shared_from;
 use crate::parts::{SlotsAndCpus, cpu_from, slots_from};
@@ -24,6 +27,7 @@ use ghost_spec::state::{Ghost, GhostRooms, copied_layout};
 use guest_steps::{CpuState, GuestPart, SharedPart, VmPart};
 use page_state::{Config, Layout};
 use std::alloc::{AllocError, Allocator, Global};
+use table_tree::Reads;
 
 /// The slots of the VM part, or Empty ones.
 fn slots_given(alloc: Global, vms: Option<&VmPart>) -> Result<Vec<GhostSlot>, AllocError>
@@ -37,24 +41,31 @@ fn slots_given(alloc: Global, vms: Option<&VmPart>) -> Result<Vec<GhostSlot>, Al
 }
 
 /// The Shared part: the maps as a walk finds them, and the pool and the rows as they stand.
-fn shared_walked<A: Allocator>(alloc: Global, part: &SharedPart<A>) -> Result<Shared, AllocError>
+fn shared_walked<A: Allocator>(
+    alloc: Global,
+    part: &SharedPart<A>,
+    reads: &mut Reads,
+) -> Result<Shared, AllocError>
     ensures shared { IfOk result (λ s. shared_in_lists s ≡ shared_of part.now) }
     ensures kept { IfOk result IsKeptShared }
+    ensures reads { OnOk result (HasRead (count_of reads.old) (shared_tables part.now) (count_of reads.new)) }
 {
     let rows = copied_rows(alloc, part.rows.runs())?;
-    shared_from(alloc, part, rows)
+    shared_from(alloc, part, rows, reads)
 }
 
 /// The Shared part, or a blank one.
 fn shared_given<A: Allocator>(
     alloc: Global,
     shared: Option<&SharedPart<A>>,
+    reads: &mut Reads,
 ) -> Result<Shared, AllocError>
     ensures shared { IfOk result (λ s. shared_in_lists s ≡ at_place blank.shared shared_of (option_copied shared.entry)) }
     ensures kept { IfOk result IsKeptShared }
+    ensures reads { OnOk result (HasLooked (count_of reads.old) (512 * at_place 0 shared_tables (option_copied shared.entry)) (count_of reads.new)) }
 {
     match shared {
-        Some(part) => shared_walked(alloc, part),
+        Some(part) => shared_walked(alloc, part, reads),
         None => Ok(Shared::none(alloc)),
     }
 }
@@ -76,16 +87,18 @@ fn guests_with(alloc: Global, slot: u64, guest: GhostGuest) -> Result<Vec<GhostG
 fn guests_given<A: Allocator>(
     alloc: Global,
     guest: Option<(u64, &GuestPart<A>)>,
+    reads: &mut Reads,
 ) -> Result<Vec<GhostGuest>, AllocError>
     requires slot { IfSome guest (λ g. g.0 < 64) }
     requires low { IfSome guest (λ g. IsLowGuest (guest_held g.1.now)) }
     ensures guests { IfOk result (λ v. guests_in v.items ≡ put_given blank.guest guest_held (option_map (λ g. (g.0, g.1.now)) guest.entry)) }
     ensures count { IfOk result (λ v. length v.items ≡ 64) }
     ensures kept { IfOk result (λ v. AreKeptGuests v.items) }
+    ensures reads { OnOk result (HasLooked (count_of reads.old) (512 * slot_tables (option_map (λ g. (g.0, g.1.now)) guest.entry)) (count_of reads.new)) }
 {
     match guest {
         Some((slot, part)) => {
-            let found = guest_from(alloc, &part.guest, Source::Words)?;
+            let found = guest_from(alloc, &part.guest, Source::Words, reads)?;
             guests_with(alloc, slot, found)
         }
         None => empty_guests(alloc, 64),
@@ -210,6 +223,32 @@ pub fn record<A: Allocator>(
     ensures layout { IfOk result (λ g. layout_of g.layout ≡ layout_of layout.now) }
     ensures kept { IfOk result IsKept }
 {
+    let reads = &mut Reads::new();
+    record_counted(alloc, layout, cpu, vms, shared, guest, state, reads)
+}
+
+/// As `record`, and adds to a count each word that it reads.
+pub fn record_counted<A: Allocator>(
+    alloc: Global,
+    layout: &Layout,
+    cpu: u64,
+    vms: Option<&VmPart>,
+    shared: Option<&SharedPart<A>>,
+    guest: Option<(u64, &GuestPart<A>)>,
+    state: &CpuState,
+    reads: &mut Reads,
+) -> Result<Ghost, AllocError>
+    requires cpu { cpu < layout.now.config.cpus }
+    requires slot { IfSome guest (λ g. g.0 < 64) }
+    requires guest { IfSome guest (λ g. IsLowGuest (guest_held g.1.now)) }
+    requires own { IsLowCpu (cpu_of state.now) }
+    ensures state { IfOk result (λ g. ghost_state g ≡ recorded (given (option_copied vms.entry) (option_copied shared.entry) (option_map (λ g. (g.0, g.1.now)) guest.entry) cpu state.now) (layout_of layout.now)) }
+    ensures layout { IfOk result (λ g. layout_of g.layout ≡ layout_of layout.now) }
+    ensures kept { IfOk result IsKept }
+    ensures reads { OnOk result (HasRead (count_of reads.old) (tables_given (given (option_copied vms.entry) (option_copied shared.entry) (option_map (λ g. (g.0, g.1.now)) guest.entry) cpu state.now)) (count_of reads.new)) }
+{
+    // For its contract alone: a count is at most the greatest u64.
+    let _count = reads.count();
     let Config { cpus, log, .. } = layout.config;
     let rooms = GhostRooms {
         vms: vms_room(log, vms),
@@ -218,11 +257,11 @@ pub fn record<A: Allocator>(
         cpus: rooms_with(alloc, cpus, log, cpu, state.log.room())?,
     };
     let beside = slots_and_cpus_given(alloc, layout, cpu, vms, state, rooms)?;
-    let Ok(guests) = guests_given(alloc, guest) else {
+    let Ok(guests) = guests_given(alloc, guest, reads) else {
         drop(beside);
         return Err(AllocError);
     };
-    let Ok(shared) = shared_given(alloc, shared) else {
+    let Ok(shared) = shared_given(alloc, shared, reads) else {
         drop(beside);
         drop(guests);
         return Err(AllocError);

@@ -1,8 +1,9 @@
 //! The trees of parts on lists: their tables as a walk finds them, and their runs as the maplets keep them or as the walk
 //! finds them too.
-ghost use Rattle.std.specs.Prelude.{◌≡◌, All, IfOk, length, map, slice_get};
+ghost use Rattle.std.specs.Prelude.{◌≡◌, ◌*◌, All, IfOk, OnOk, length, map, slice_get, sum_by};
 ghost use Rattle.page_state.specs.Runs.{IsCoarsest};
-ghost use Rattle.table_tree.specs.View.{tree_of};
+ghost use Rattle.table_tree.specs.Reading.{count_of};
+ghost use Rattle.table_tree.specs.View.{tables_of, tree_of};
 ghost use Rattle.guest_component.specs.View.{guest_of, runs_of as runs_kept};
 ghost use Rattle.guest_steps.specs.View.{guest_held};
 ghost use Rattle.hypercalls.specs.Stands.{at_place};
@@ -14,7 +15,9 @@ ghost use Rattle.ghost_trees.specs.Small.{AreSmall};
 ghost use Rattle.ghost_spec.specs.States.{guest_in, phase_in, AreKeptGuests};
 ghost use Rattle.ghost_trees.specs.Trees.{tree_in_lists};
 ghost use Rattle.guest_component.specs.Bodies.{body_of, phase_of};
+ghost use Rattle.ghost_oracle.specs.Counted.{HasRead, body_tables, guest_tables};
 ghost use Rattle.ghost_oracle.specs.Low.{IsLowGuest};
+ghost use Rattle.ghost_oracle.specs.inner.Eights.{HasLooked};
 
 use crate::walk::walk;
 use component::Component;
@@ -66,14 +69,16 @@ pub(crate) fn tree_from<A: Allocator>(
     alloc: Global,
     component: &Component<A>,
     source: Source,
+    reads: &mut Reads,
 ) -> Result<Tree, AllocError>
     ensures tree { IfOk result (λ t. tree_in_lists t ≡ tree_of component.now.tree) }
     ensures kept { IfOk result IsKeptTree }
+    ensures reads { OnOk result (HasRead (count_of reads.old) (tables_of component.now.tree) (count_of reads.new)) }
     ensures runs { source ≡ Source.Maplets → IfOk result (λ t. t.runs.items ≡ component.now.maplets.runs) }
 {
     let tree = component.tree();
     let room = component.maplets().len();
-    let walked = walk(alloc, room, tree.geometry, &tree.table, &mut Reads::new())?;
+    let walked = walk(alloc, room, tree.geometry, &tree.table, reads)?;
     match source {
         Source::Maplets => tree_with_maplets(alloc, &walked, component),
         Source::Words => Ok(walked),
@@ -125,9 +130,11 @@ fn body_from<A: Allocator>(
     alloc: Global,
     body: &Body<A>,
     source: Source,
+    reads: &mut Reads,
 ) -> Result<GhostGuest, AllocError>
     ensures guest { IfOk result (λ g. guest_in g ≡ body_of body.now) }
     ensures tree { IfOk result (λ g. IsKeptTree g.tree) }
+    ensures reads { OnOk result (HasRead (count_of reads.old) (tables_of body.now.map.tree) (count_of reads.new)) }
     ensures kept { IsLowGuest (body_of body.now) → IfOk result IsKeptGuest }
     ensures runs { source ≡ Source.Maplets → IfOk result (λ g. g.tree.runs.items ≡ body.now.map.maplets.runs) }
 {
@@ -135,7 +142,7 @@ fn body_from<A: Allocator>(
         phase: phase_from(body.phase),
         generation: body.generation,
         kind: body.kind,
-        tree: tree_from(alloc, &body.map, source)?,
+        tree: tree_from(alloc, &body.map, source, reads)?,
         free: frames_of(alloc, &body.pool)?,
     })
 }
@@ -145,14 +152,16 @@ pub(crate) fn guest_from<A: Allocator>(
     alloc: Global,
     guest: &Guest<A>,
     source: Source,
+    reads: &mut Reads,
 ) -> Result<GhostGuest, AllocError>
     ensures guest { IfOk result (λ g. guest_in g ≡ guest_of guest.now) }
     ensures tree { IfOk result (λ g. IsKeptTree g.tree) }
+    ensures reads { OnOk result (HasLooked (count_of reads.old) (512 * body_tables guest.now.body) (count_of reads.new)) }
     ensures kept { IsLowGuest (guest_of guest.now) → IfOk result IsKeptGuest }
     ensures runs { source ≡ Source.Maplets → IfOk result (λ g. g.tree.runs.items ≡ runs_kept guest.now.body) }
 {
     match guest.body() {
-        Some(body) => body_from(alloc, body, source),
+        Some(body) => body_from(alloc, body, source, reads),
         None => Ok(GhostGuest::none(alloc)),
     }
 }
@@ -161,14 +170,16 @@ pub(crate) fn guest_from<A: Allocator>(
 pub(crate) fn guests_from<A: Allocator>(
     alloc: Global,
     parts: &[GuestPart<A>],
+    reads: &mut Reads,
 ) -> Result<Vec<GhostGuest>, AllocError>
     requires low { All (λ g. IsLowGuest (guest_held g)) parts.now }
     ensures guests { IfOk result (λ v. map guest_in v.items ≡ map guest_held parts.now) }
     ensures kept { IfOk result (λ v. AreKeptGuests v.items) }
+    ensures reads { OnOk result (HasLooked (count_of reads.old) (512 * sum_by guest_tables parts.now) (count_of reads.new)) }
 {
     let mut guests = Vec::with_capacity(alloc, parts.len())?;
     for part in parts {
-        guests.push(guest_from(alloc, &part.guest, Source::Words)?)?;
+        guests.push(guest_from(alloc, &part.guest, Source::Words, reads)?)?;
     }
     Ok(guests)
 }

@@ -11,16 +11,16 @@ ghost use Rattle.table_tree.specs.Raw.{IsRaw};
 ghost use Rattle.ghost_oracle.specs.Walked.{tree_under};
 ghost use Rattle.ghost_oracle.specs.inner.Walking.{AreRunsTo, GoesOn, found_under};
 
-use crate::found::put_block;
+use crate::eight::{go_on, one_of};
+use crate::pending::{nothing_pending, put_pending, take_word};
 use ghost_trees::tree::{Table as FoundTable, Tree};
 use page_state::Geometry;
 use std::alloc::{AllocError, Allocator, Global};
-use table_tree::word::entry_of;
 use table_tree::{Reads, Slot, Table};
 
 /// The tree that a root table and the tables below it say, whose words may be any. Each word is read once. It takes memory
-/// for the runs and tables that it finds alone; for so many runs as `room` it is taken at once, so that the list grows by no
-/// copies where no more are found.
+/// for the runs and tables that it finds alone; room for `room` runs is taken at once, so that the list isn't
+/// copied as it grows if no more are found.
 pub fn walk<A: Allocator>(
     alloc: Global,
     room: usize,
@@ -50,7 +50,7 @@ fn depth_of(geometry: Geometry) -> u32
     }
 }
 
-/// The pages under a word with so many levels below it.
+/// The pages under a word of a table with `depth` levels below it.
 fn pages_under(depth: u32) -> u64
     requires { IsDepth depth }
     ensures value { result ≡ block_pages depth }
@@ -64,7 +64,7 @@ fn pages_under(depth: u32) -> u64
     }
 }
 
-/// Goes on with what a table says, which has so many levels below it and stands at this block of them.
+/// Adds what a table says, and the tables below it. It has `depth` levels below it, and is at block `number` of its level.
 fn walk_table<A: Allocator>(
     table: &Table<A>,
     depth: u32,
@@ -86,14 +86,29 @@ fn walk_table<A: Allocator>(
         frame: table.frame().0,
     })?;
     let pages = pages_under(depth);
-    for i in 0..512usize {
-        let part = number * 512 + i as u64;
-        match table.slot(i, reads) {
-            Slot::Word(word) => {
-                put_block(&mut found.runs, part * pages, pages, entry_of(depth, *word))?;
+    let mut pending = nothing_pending(number * 512 * pages);
+    let mut from = 0usize;
+    while let Some((c, slots)) = go_on(table, from, &mut pending, reads) {
+        for k in 0..8usize {
+            let part = number * 512 + (8 * c + k) as u64;
+            match one_of(slots, k) {
+                Slot::Word(word) => take_word(
+                    &mut found.runs,
+                    &mut pending,
+                    depth,
+                    pages,
+                    part * pages,
+                    *word,
+                )?,
+                Slot::Child(child) => {
+                    put_pending(&mut found.runs, pending, part * pages)?;
+                    walk_table(child, depth - 1, part, reads, found)?;
+                    pending = nothing_pending((part + 1) * pages);
+                }
             }
-            Slot::Child(child) => walk_table(child, depth - 1, part, reads, found)?,
         }
+        from = c + 1;
     }
+    put_pending(&mut found.runs, pending, (number + 1) * 512 * pages)?;
     Ok(())
 }

@@ -6,3 +6,4 @@ mod RowsPages
 mod RowsPushed
 mod RowsTold
 mod RowsWhole
+pub mod TableFrames

@@ -77,7 +77,7 @@ pub(crate) fn page_of(layout: &Layout, tree: &Tree, state: State, frame: u64) ->
 }
 
 /// Whether a block may have a table in trees of the layout, the root's among them.
-fn has_place(layout: &Layout, block: Block) -> bool
+pub(crate) fn has_place(layout: &Layout, block: Block) -> bool
     ensures { result ≡ has_place_of (layout_of layout.now).depth block }
 {
     match block.0 {

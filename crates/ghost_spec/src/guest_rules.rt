@@ -1,12 +1,12 @@
 //! The rules of the calls on a guest, alone or with the Shared part: the first of a call's tests that fails, or all that it
 //! changes.
-ghost use Rattle.std.specs.Prelude.{◌≡◌, ℕ, ◌+◌, ◌<◌, ◌≤◌, ◌^◌, Option, Some, IfOk, is_some, nat_lt, unwrap_or};
+ghost use Rattle.std.specs.Prelude.{◌≡◌, ℕ, ◌+◌, ◌<◌, ◌≤◌, ◌^◌, Option, Some, IfOk, nat_lt, unwrap_or};
 ghost use Rattle.step_reply.specs.declared.step.Step.TheVariants.{ShareGuest, UnshareGuest, DonateGuest, GuestShareHost, GuestUnshareHost, Install, Topup, ReclaimPage, ReclaimPool, FinishGuest, GuestRelax, GuestTranslate, MarkDying};
 ghost use Rattle.page_state.specs.EntryTests.{entry_frame as entry_frame_of, is_unmapped as is_unmapped_of, join as join_of, with_rights as with_rights_of, with_state as with_state_of};
 ghost use Rattle.page_state.specs.Layouts.{Layout as ReferenceLayout, is_good_page as is_good_page_of};
 ghost use Rattle.page_state.specs.LayoutView.{layout_of};
 ghost use Rattle.page_state.specs.Runs.{map_of};
-ghost use Rattle.page_state.specs.Search.{all_below, count_below};
+ghost use Rattle.page_state.specs.Search.{all_below};
 ghost use Rattle.reference_model.specs.declared.changes.Update.TheVariants.{Becomes};
 ghost use Rattle.reference_model.specs.Answers.{decides};
 ghost use Rattle.reference_model.specs.GuestRules.{guest_table_count as guest_table_count_of, is_guest as is_guest_of, is_protected as is_protected_of, least as least_of, moved_on as moved_on_of, two_pages as two_pages_of};
@@ -22,15 +22,15 @@ ghost use Rattle.ghost_spec.specs.Views.{cpu_in};
 
 use crate::answer::depth;
 use crate::cpu::GhostCpu;
-use crate::found::pages;
+use crate::found::{has_place, pages};
 use crate::leaves::{annotation, hyp_page, is_free_page, is_in, is_mapped, is_unmapped, leaf};
 use crate::parts::{GhostGuest, GhostPhase};
 use crate::rules::{change, host_entry};
 use crate::used::GhostUsed;
 use crate::uses::{ticket_kind, ticket_vm};
 use ghost_trees::runs::at;
-use ghost_trees::tree::{Table, Tree, table_at};
-use page_state::{Entry, Frame, Geometry, Layout, Page, Prot, State};
+use ghost_trees::tree::{Tree, table_at};
+use page_state::{Entry, Frame, Layout, Page, Prot, State};
 use reference_model::{Changes, CpuChange, GuestChange, Stage, Ticket, Update};
 use step_reply::{Refusal, Value, VmId, VmKind};
 
@@ -377,38 +377,20 @@ pub(crate) fn install(used: &GhostUsed, slot: Option<u64>) -> Result<Changes, Re
     })
 }
 
-/// Whether a depth's block has a table.
-fn has_table_at(tables: &[Table], depth: u64, number: u64) -> bool
-    ensures { result ≡ is_some (table_of tables.now (depth, number)) }
-{
-    table_at(tables, (depth, number)).is_some()
-}
-
-/// How many of a depth's first blocks have tables.
-fn tables_at(tables: &[Table], depth: u64, count: u64) -> u64
-    ensures value { result ≡ count_below count (λ i. is_some (table_of tables.now (depth, i))) }
-    ensures low { result ≤ count }
-{
-    let mut found = 0;
-    for i in 0..count {
-        if has_table_at(tables, depth, i) {
-            found += 1;
-        }
-    }
-    found
-}
-
-/// How many tables a tree of the layout has.
+/// How many tables a tree of the layout has: those at a block of the tree that have no later one at their block. It looks at
+/// the list of tables alone.
 fn table_count(layout: &Layout, tree: &Tree) -> u64
-    ensures value { result ≡ guest_table_count_of (layout_of layout.now) (tree_in_lists tree.now) }
-    ensures low { result ≤ 2 ^ 20 }
+    ensures { result ≡ guest_table_count_of (layout_of layout.now) (tree_in_lists tree.now) }
 {
     let tables = tree.tables.as_slice();
-    match layout.geometry {
-        Geometry::Bits39 => {
-            tables_at(tables, 3, 1) + tables_at(tables, 2, 512) + tables_at(tables, 1, 262_144)
+    let mut count = 0;
+    for i in 0..tables.len() {
+        let block = tables[i].block;
+        if has_place(layout, block) && table_at(&tables[i + 1..], block).is_none() {
+            count += 1;
         }
     }
+    count
 }
 
 /// Whether tables, free frames and more of them are more than a guest may have.

@@ -329,9 +329,6 @@ pub(crate) fn find_rows(
 /// For how many more runs `copied_rows` takes room: most steps put no more in, and a list that grows is copied once more.
 const MORE_ROWS: usize = 16;
 
-/// How many runs are copied at a time: 1 KB of them. Longer copies go byte by byte in what counts instructions.
-const PART: usize = 16;
-
 /// Rows of these runs.
 pub fn copied_rows(alloc: Global, runs: &[Run<Row>]) -> Result<RunList<Row>, AllocError>
     requires coarsest { IsCoarsest advance_row runs.now }
@@ -339,12 +336,7 @@ pub fn copied_rows(alloc: Global, runs: &[Run<Row>]) -> Result<RunList<Row>, All
     ensures { IfOk result (λ r. r.runs ≡ runs.now) }
 {
     let mut rows = Vec::with_capacity(alloc, runs.len().saturating_add(MORE_ROWS))?;
-    let mut at = 0;
-    while at < runs.len() {
-        let to = runs.len().min(at.saturating_add(PART));
-        rows.extend_from_slice(&runs[at..to])?;
-        at = to;
-    }
+    rows.extend_from_slice(runs)?;
     Ok(RunList::of(rows))
 }
 

@@ -1,17 +1,15 @@
 //! Aligned blocks of pages: which meet a range, which can be one word, and which map nothing.
 ghost use Rattle.std.specs.Prelude.{◌≡◌, ℕ, true, false, ◌+◌, ◌*◌, ◌^◌, ◌<◌, ◌≤◌, ◌++◌, ◌||◌, ◌==◌, All, IfOk, OnOk, filter};
-ghost use Rattle.page_state.specs.EntryTests.{entry_eq, is_unmapped};
-ghost use Rattle.page_state.specs.Entries.{advance};
+ghost use Rattle.page_state.specs.EntryTests.{is_unmapped};
 ghost use Rattle.page_state.specs.Geometries.{block_pages};
 ghost use Rattle.page_state.specs.Regions.{end_of, is_in_range};
-ghost use Rattle.page_state.specs.Runs.{map_of};
+ghost use Rattle.page_state.specs.Runs.{map_of, run_end, IsCoarsest};
 ghost use Rattle.page_state.specs.Search.{all_below};
 ghost use Rattle.page_state.specs.Blocks.{first_page as first_page_of, is_one_word as is_one_word_of, is_empty as is_empty_of, blocks_with, blocks_from, blocks_on as blocks_on_range};
-ghost use Rattle.ghost_trees.specs.Small.{HasLowFrames, AreSmall, IsSmall};
+ghost use Rattle.ghost_trees.specs.Small.{AreSmall, IsSmall};
 ghost use Rattle.ghost_trees.specs.Trees.{IsLowBlock};
 
-use crate::runs::at;
-use page_state::{Entry, Page, PageRange, Run};
+use page_state::{Entry, PageRange, Run};
 use std::alloc::{AllocError, Global};
 
 /// A block (d, i): the 512^d aligned pages from page i * 512^d on (Arm DDI 0487, D8.2, 4 KiB granule).
@@ -31,15 +29,26 @@ pub(crate) fn blocks_on(alloc: Global, top: u64, range: PageRange) -> Result<Vec
     Ok(blocks)
 }
 
-/// Whether one word can say what the map of runs says of a block. It looks at each page of the block.
+/// Whether one word can say what the map of a coarsest list of runs says of a block: no run meets the block, or one covers
+/// it and gives it an entry that fits. It looks at the runs alone.
 pub fn is_one_word(runs: &[Run], block: Block) -> bool
     requires runs { AreSmall runs.now }
+    requires coarsest { IsCoarsest runs.now }
     requires block { IsLowBlock block }
     ensures { result ≡ is_one_word_of (map_of runs.now) block }
 {
     let first = first_page(block);
-    let entry = at(runs, Page(first));
-    entry.fits_word(block.0 as u32) && has_entry(runs, first, span(block.0), entry)
+    let count = span(block.0);
+    for run in runs {
+        if meets(run, first, count) {
+            if !covers(run, first, count) {
+                return false;
+            }
+            let entry = Entry::from(run.target).advance(first - run.pages.first.0);
+            return entry.fits_word(block.0 as u32);
+        }
+    }
+    true
 }
 
 /// Whether the map of runs maps nothing on a block. It looks at the runs alone.
@@ -97,20 +106,14 @@ fn is_met(block: Block, page: u64, all: bool) -> bool
     all || first_page(block) == page
 }
 
-/// Whether an entry advances along `count` pages from `first` on.
-fn has_entry(runs: &[Run], first: u64, count: u64, entry: Entry) -> bool
-    requires runs { AreSmall runs.now }
+/// Whether a run has all of `count` pages from `first` on.
+fn covers(run: &Run, first: u64, count: u64) -> bool
+    requires run { IsSmall run.now }
     requires pages { first + count < 2 ^ 64 }
-    requires count { count ≤ 2 ^ 27 }
-    requires entry { HasLowFrames entry 1 }
-    ensures { result ≡ all_below count (λ i. entry_eq (map_of runs.now (first + i)) (advance entry i)) }
+    ensures all { result ≡ true → (run.now.pages.first.0 ≤ first) × (first + count ≤ run_end run.now) }
+    ensures not_all { result ≡ false → run.now.pages.first.0 ≤ first → first + count ≤ run_end run.now → ⊥ }
 {
-    for i in 0..count {
-        if !at(runs, Page(first + i)).is_same(entry.advance(i)) {
-            return false;
-        }
-    }
-    true
+    run.pages.first.0 <= first && first + count <= run.pages.first.0 + run.pages.count
 }
 
 /// Whether a run has one of `count` pages from `first` on.

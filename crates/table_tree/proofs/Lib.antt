@@ -1,5 +1,6 @@
 pub mod Slots
 pub mod Words
+pub mod Ahead
 pub mod Digits
 pub mod PathNumbers
 pub mod Steps

@@ -1,5 +1,6 @@
 pub mod Reading
 pub mod Meaning
+pub mod Ahead
 pub mod Shape
 pub mod Tables
 pub mod Chain

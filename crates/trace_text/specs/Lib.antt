@@ -1,6 +1,7 @@
 pub mod BrokenOff
 pub mod Failures
 pub mod Laws
+pub mod Looks
 pub mod Oracles
 pub mod Played
 pub mod Ready

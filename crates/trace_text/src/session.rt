@@ -6,7 +6,10 @@ ghost use Rattle.page_state.specs.Regions.{memory_of};
 ghost use Rattle.trace_text.specs.Session.{Answers, Boots, DoesLine, IsNoWorld, MakesStep, OnMachine, RunsLine, Tells, allowed, at_start};
 ghost use Rattle.hypercalls.specs.Stands.{state_of};
 ghost use Rattle.hypercalls.specs.Whole.{call_of, IsStep};
+ghost use Rattle.trace_text.specs.Looks.{Looks, world_tables};
 ghost use Rattle.trace_text.specs.Ready.{IsReady, IsStateAt};
+ghost use Rattle.table_tree.specs.Reading.{count_of};
+ghost use Rattle.ghost_oracle.specs.Counted.{HasRead};
 ghost use Rattle.trace_text.specs.View.{answer_of, body_at, kept_runs, machine_of, standing_of};
 ghost use Rattle.trace_lines.specs.Settings.{config_of, told_of};
 ghost use Rattle.hypercalls.specs.Booted.{IsBooted};
@@ -21,6 +24,7 @@ use maplets::Maplets;
 use page_state::{MemoryMap, Page, PageRange, Region};
 use std::alloc::{AllocError, Allocator, Global};
 use step_reply::{Reply, Step};
+use table_tree::Reads;
 use trace_lines::{Allows, Line, LineFault, Query, Response, Setting, Settings, TreeName, said};
 use world::World;
 
@@ -55,6 +59,8 @@ pub struct Session<A: Allocator> {
     state: Option<Ghost>,
     steps: u64,
     disagreements: u64,
+    /// The words that the checks of its steps have read.
+    reads: Reads,
 }
 
 impl<A: Allocator + Copy> Session<A> {
@@ -71,6 +77,7 @@ impl<A: Allocator + Copy> Session<A> {
             state: None,
             steps: 0,
             disagreements: 0,
+            reads: Reads::new(),
         }
     }
 
@@ -116,6 +123,7 @@ impl<A: Allocator + Copy> Session<A> {
         requires ready { IsReady self.old }
         ensures done { RunsLine O.gives number line.now (standing_of self.old) (answer_of self.new result) (standing_of self.new) }
         ensures steps { (standing_of self.new).steps ≤ (standing_of self.old).steps + 1 }
+        ensures looks { Looks self.old self.new }
         ensures ready { IsReady self.new }
     {
         match said(self.allows(), &self.settings, line) {
@@ -135,6 +143,7 @@ impl<A: Allocator + Copy> Session<A> {
         requires ready { IsReady self.old }
         ensures done { DoesLine O.gives number said (standing_of self.old) (answer_of self.new result) (standing_of self.new) }
         ensures steps { self.new.steps ≤ self.old.steps + 1 }
+        ensures looks { Looks self.old self.new }
         ensures ready { IsReady self.new }
     {
         match said {
@@ -204,6 +213,7 @@ impl<A: Allocator + Copy> Session<A> {
         requires ready { IsReady self.old }
         ensures done { OnMachine (MakesStep O.gives number cpu step) (standing_of self.old) (answer_of self.new result) (standing_of self.new) }
         ensures steps { self.new.steps ≤ self.old.steps + 1 }
+        ensures looks { Looks self.old self.new }
         ensures ready { IsReady self.new }
     {
         let Some(world) = self.world.as_mut() else {
@@ -213,7 +223,8 @@ impl<A: Allocator + Copy> Session<A> {
             return Err(Stop::Fault(Fault::Cpu));
         }
         let remembered = self.state.take();
-        let Ok(made) = checked(self.global, oracle, world, remembered, cpu, step) else {
+        let reads = &mut self.reads;
+        let Ok(made) = checked(self.global, oracle, world, remembered, cpu, step, reads) else {
             return Err(Stop::NoMemory);
         };
         self.steps += 1;
@@ -293,7 +304,8 @@ fn state_before<A: Allocator>(
     }
 }
 
-/// Makes a step, and asks the oracle. The state before it may be remembered.
+/// Makes a step, and asks the oracle. The state before it may be remembered. Each word that is read of the state after it is
+/// counted.
 fn checked<A: Allocator + Copy, O: Oracle>(
     global: Global,
     oracle: &mut O,
@@ -301,17 +313,19 @@ fn checked<A: Allocator + Copy, O: Oracle>(
     remembered: Option<Ghost>,
     cpu: u64,
     step: Step,
+    reads: &mut Reads,
 ) -> Result<Made, AllocError>
     requires cpu { cpu < world.old.parts.layout.config.cpus }
     requires remembered { IfSome remembered (IsStateAt world.old) }
     ensures step { IfOk result (λ made. IsStep world.old.parts cpu step made.reply world.new.parts) }
     ensures given { IfOk result (λ made. O.gives (machine_of world.old) (call_of world.old.parts cpu step made.reply) (state_of world.new.parts) made.verdict) }
     ensures after { IfOk result (λ made. IsStateAt world.new made.after) }
+    ensures reads { OnOk result (HasRead (count_of reads.old) (world_tables world.new) (count_of reads.new)) }
 {
     let before = state_before(global, world, remembered)?;
     let reply = world.step(cpu, step);
     // States are handed to `drop`: the proof of a scope's end would go through all parts of each.
-    let Ok(after) = world.kept_and_walked(global) else {
+    let Ok(after) = world.kept_and_walked_counted(global, reads) else {
         drop(before);
         return Err(AllocError);
     };

@@ -3,6 +3,7 @@ ghost use Rattle.std.specs.Prelude.{◌≡◌, ◌≢◌, ℕ, ◌+◌, ◌<◌,
 ghost use Rattle.descriptor.specs.Word.{desc_of, CanBeSaid};
 ghost use Rattle.page_state.specs.declared.entry.Entry.TheVariants.{Unmapped};
 ghost use Rattle.page_state.specs.Entries.{advance, entry_of_word, word_of_entry};
+ghost use Rattle.table_tree.specs.Ahead.{GoesAhead};
 ghost use Rattle.table_tree.specs.Meaning.{IsDepth, level_at, slot_at, frame_of, word_entry};
 ghost use Rattle.table_tree.specs.Changes.{IsNew, IsSeen};
 ghost use Rattle.table_tree.specs.Reading.{count_of};
@@ -75,6 +76,18 @@ pub(crate) fn look_for<A: Allocator>(
     }
 }
 
+/// The difference between the words of neighbouring parts of a block that has the entry.
+fn step_of(depth: u32, entry: Entry) -> u64
+    requires depth_in { IsDepth (depth + 1) }
+    requires entry_in { CanBeSaid (level_at (depth + 1)) (word_of_entry entry) }
+    ensures { GoesAhead depth entry result }
+{
+    match entry {
+        Entry::Leaf { .. } => 4096 * pages_before(depth, 1),
+        Entry::Unmapped | Entry::Malformed | Entry::Annotated(_) => 0,
+    }
+}
+
 /// Writes into a table of zeros what an entry gives the parts of its block.
 // kept out of the walk, which mostly finds tables
 #[inline(never)]
@@ -87,9 +100,10 @@ fn fill<A: Allocator>(table: &mut Table<A>, depth: u32, entry: Entry)
     ensures frame { frame_of table.new ≡ frame_of table.old }
     ensures filled { IsFilled depth entry table.new }
 {
+    let first = word_of(depth, entry);
+    let step = step_of(depth, entry);
     for i in 0..512usize {
-        let part = entry.advance(pages_before(depth, i as u64));
-        table.put(i, word_of(depth, part));
+        table.put(i, first + i as u64 * step);
     }
 }
 

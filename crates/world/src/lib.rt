@@ -18,7 +18,7 @@ mod same;
 pub use boot::BootFault;
 use ghost_judge::disagreement::Disagreement;
 use ghost_oracle::compared::Compared;
-use ghost_oracle::kept::{kept, kept_and_walked, recompute};
+use ghost_oracle::kept::{kept, kept_and_walked_counted, recompute_counted};
 use ghost_oracle::pokes::poke;
 use ghost_oracle::raw::{RawGuest, Which};
 use ghost_spec::state::Ghost;
@@ -28,7 +28,7 @@ use page_state::{Config, Geometry, MemoryMap};
 pub use raw::RawWorld;
 use std::alloc::{AllocError, Allocator, Global};
 use step_reply::{Reply, Step};
-use table_tree::PathFault;
+use table_tree::{PathFault, Reads};
 
 /// A booted world, which stands at the end of one legal history. `A` is where the tables of all trees lie.
 #[derive(Drop)]
@@ -91,10 +91,12 @@ impl<A: Allocator + Copy> World<A> {
 }
 
 impl<A: Allocator> World<A> {
-    ghost use Rattle.std.specs.Prelude.{◌↔◌, IfErr, IsOk, IsSome, List, None, replicate};
+    ghost use Rattle.std.specs.Prelude.{◌↔◌, IfErr, IsOk, IsSome, List, None, OnOk, replicate};
     ghost use Rattle.page_state.specs.LayoutView.{layout_of};
     ghost use Rattle.table_tree.specs.Said.{block_of};
+    ghost use Rattle.table_tree.specs.Reading.{count_of};
     ghost use Rattle.ghost_oracle.specs.Compared.{walked_in};
+    ghost use Rattle.ghost_oracle.specs.Counted.{HasRead, tables_of_parts};
     ghost use Rattle.ghost_oracle.specs.Poked.{IsBeside, IsPokedTree, parts_trees, raw_beside_of, raw_trees};
     ghost use Rattle.ghost_spec.specs.States.{ghost_state, IsKept};
     ghost use Rattle.ghost_oracle.specs.Found.{walked_state, HasRowsOf, SaysMaplets, SaysRows};
@@ -174,7 +176,18 @@ impl<A: Allocator> World<A> {
         ensures kept { IfOk result IsKept }
         ensures frames { IfOk result (HasRowsOf (parts_layout self.now.parts)) }
     {
-        recompute(global, &self.parts)
+        self.recompute_counted(global, &mut Reads::new())
+    }
+
+    /// As `recompute`, and adds to a count each word that it reads.
+    pub fn recompute_counted(&self, global: Global, reads: &mut Reads) -> Result<Ghost, AllocError>
+        ensures state { IfOk result (λ g. ghost_state g ≡ walked_state (parts_layout self.now.parts) (state_of self.now.parts)) }
+        ensures layout { IfOk result (λ g. layout_of g.layout ≡ parts_layout self.now.parts) }
+        ensures kept { IfOk result IsKept }
+        ensures frames { IfOk result (HasRowsOf (parts_layout self.now.parts)) }
+        ensures reads { OnOk result (HasRead (count_of reads.old) (tables_of_parts self.now.parts) (count_of reads.new)) }
+    {
+        recompute_counted(global, &self.parts, reads)
     }
 
     /// Both: what `to_ghost` gives, and what `recompute` gives. By the headline they are the same, and then each word is read
@@ -192,14 +205,48 @@ impl<A: Allocator> World<A> {
         ensures walked_kept { IfOk result (λ c. IsKept (walked_in c)) }
         ensures walked_frames { IfOk result (λ c. HasRowsOf (parts_layout self.now.parts) (walked_in c)) }
     {
-        kept_and_walked(global, &self.parts)
+        self.kept_and_walked_counted(global, &mut Reads::new())
+    }
+
+    /// As `kept_and_walked`, and adds to a count each word that it reads.
+    pub fn kept_and_walked_counted(
+        &self,
+        global: Global,
+        reads: &mut Reads,
+    ) -> Result<Compared, AllocError>
+        ensures state { IfOk result (λ c. ghost_state c.kept ≡ state_of self.now.parts) }
+        ensures layout { IfOk result (λ c. layout_of c.kept.layout ≡ parts_layout self.now.parts) }
+        ensures maplets { IfOk result (λ c. SaysMaplets self.now.parts c.kept) }
+        ensures rows { IfOk result (λ c. SaysRows self.now.parts c.kept) }
+        ensures kept { IfOk result (λ c. IsKept c.kept) }
+        ensures frames { IfOk result (λ c. HasRowsOf (parts_layout self.now.parts) c.kept) }
+        ensures walked { IfOk result (λ c. ghost_state (walked_in c) ≡ walked_state (parts_layout self.now.parts) (state_of self.now.parts)) }
+        ensures same { IfOk result (λ c. ghost_state (walked_in c) ≡ ghost_state c.kept) }
+        ensures walked_layout { IfOk result (λ c. layout_of (walked_in c).layout ≡ parts_layout self.now.parts) }
+        ensures walked_kept { IfOk result (λ c. IsKept (walked_in c)) }
+        ensures walked_frames { IfOk result (λ c. HasRowsOf (parts_layout self.now.parts) (walked_in c)) }
+        ensures reads { OnOk result (HasRead (count_of reads.old) (tables_of_parts self.now.parts) (count_of reads.new)) }
+    {
+        kept_and_walked_counted(global, &self.parts, reads)
     }
 
     /// Compares what the world keeps with what a walk of every word finds. By the headline they agree.
     pub fn audit(&self, global: Global) -> Result<Option<Disagreement>, AllocError>
         ensures { IfOk result (λ o. o ≡ None) }
     {
-        let compared = self.kept_and_walked(global)?;
+        self.audit_counted(global, &mut Reads::new())
+    }
+
+    /// As `audit`, and adds to a count each word that it reads.
+    pub fn audit_counted(
+        &self,
+        global: Global,
+        reads: &mut Reads,
+    ) -> Result<Option<Disagreement>, AllocError>
+        ensures none { IfOk result (λ o. o ≡ None) }
+        ensures reads { OnOk result (HasRead (count_of reads.old) (tables_of_parts self.now.parts) (count_of reads.new)) }
+    {
+        let compared = self.kept_and_walked_counted(global, reads)?;
         let found = compared.audit();
         drop(compared);
         Ok(found)

@@ -46,19 +46,6 @@ fn use_range(rows: &mut RunList<Row>, frames: PageRange, usage: Usage) -> Result
     Ok(())
 }
 
-/// A frame gets a use.
-fn use_frame(rows: &mut RunList<Row>, frame: u64, usage: Usage) -> Result<(), AllocError>
-    requires reach { AreInReach HasPageBelow rows.old.runs }
-    ensures map { OnOk result ((f : ℕ) → f < 2 ^ 26 → run_map advance_row rows.new.runs f ≡ option_or (used_if (frame == f) usage) (run_map advance_row rows.old.runs f)) }
-    ensures reach { AreInReach HasPageBelow rows.new.runs }
-{
-    let one = PageRange {
-        first: Page(frame),
-        count: 1,
-    };
-    use_range(rows, one, usage)
-}
-
 /// Whether a frame comes right behind another.
 fn follows(frame: u64, next: u64) -> bool
     ensures { Decides result (next ≡ frame + 1) }
@@ -122,20 +109,31 @@ fn frame_at(layout: &Layout, tables: &[Table], block: Block) -> Option<u64>
     }
 }
 
-/// A frame gets a use, where there is one.
-fn use_found(rows: &mut RunList<Row>, frame: Option<u64>, usage: Usage) -> Result<(), AllocError>
-    requires reach { AreInReach HasPageBelow rows.old.runs }
-    ensures map { OnOk result ((f : ℕ) → f < 2 ^ 26 → run_map advance_row rows.new.runs f ≡ option_or (used_if (is_frame f frame) usage) (run_map advance_row rows.old.runs f)) }
-    ensures reach { AreInReach HasPageBelow rows.new.runs }
+/// Puts a frame, where there is one, at the end of a list.
+fn push_found(frames: &mut Vec<u64>, frame: Option<u64>) -> Result<(), AllocError>
+    ensures { OnOk result ((f : ℕ) → is_free frames.new.items f ≡ (is_free frames.old.items f || is_frame f frame)) }
 {
-    match frame {
-        Some(frame) => use_frame(rows, frame, usage),
-        None => Ok(()),
+    if let Some(frame) = frame {
+        frames.push(frame)?;
     }
+    Ok(())
+}
+
+/// The frames of the tables that count, in increasing order.
+fn table_frames(alloc: Global, layout: &Layout, tables: &[Table]) -> Result<Vec<u64>, AllocError>
+    ensures { IfOk result (λ v. (f : ℕ) → is_free v.items f ≡ any_table_with (layout_of layout.now).depth tables.now f) }
+{
+    let mut frames = Vec::with_capacity(alloc, tables.len())?;
+    for table in tables {
+        push_found(&mut frames, frame_at(layout, tables, table.block))?;
+    }
+    frames.sort_unstable();
+    Ok(frames)
 }
 
 /// The frames of the tables that count get a use.
 fn use_tables(
+    alloc: Global,
     layout: &Layout,
     rows: &mut RunList<Row>,
     tables: &[Table],
@@ -145,14 +143,13 @@ fn use_tables(
     ensures map { OnOk result ((f : ℕ) → f < 2 ^ 26 → run_map advance_row rows.new.runs f ≡ option_or (used_if (any_table_with (layout_of layout.now).depth tables.now f) usage) (run_map advance_row rows.old.runs f)) }
     ensures reach { AreInReach HasPageBelow rows.new.runs }
 {
-    for i in (0..tables.len()).rev() {
-        use_found(rows, frame_at(layout, tables, tables[i].block), usage)?;
-    }
-    Ok(())
+    let frames = table_frames(alloc, layout, tables)?;
+    use_frames(rows, frames.as_slice(), usage)
 }
 
 /// The frames of a tree's tables get a use.
 fn use_tree(
+    alloc: Global,
     layout: &Layout,
     rows: &mut RunList<Row>,
     tree: &Tree,
@@ -162,12 +159,13 @@ fn use_tree(
     ensures map { OnOk result ((f : ℕ) → f < 2 ^ 26 → run_map advance_row rows.new.runs f ≡ option_or (used_if (is_table_frame (layout_of layout.now) (tree_in_lists tree.now) f) usage) (run_map advance_row rows.old.runs f)) }
     ensures reach { AreInReach HasPageBelow rows.new.runs }
 {
-    use_tables(layout, rows, tree.tables.as_slice(), usage)?;
+    use_tables(alloc, layout, rows, tree.tables.as_slice(), usage)?;
     Ok(())
 }
 
 /// The frames of a pool and of a tree's tables get a use.
 fn use_pool(
+    alloc: Global,
     layout: &Layout,
     rows: &mut RunList<Row>,
     free: &[u64],
@@ -178,7 +176,7 @@ fn use_pool(
     ensures map { OnOk result ((f : ℕ) → f < 2 ^ 26 → run_map advance_row rows.new.runs f ≡ option_or (used_if (is_free free.now f || is_table_frame (layout_of layout.now) (tree_in_lists tree.now) f) usage) (run_map advance_row rows.old.runs f)) }
     ensures reach { AreInReach HasPageBelow rows.new.runs }
 {
-    use_tree(layout, rows, tree, usage)?;
+    use_tree(alloc, layout, rows, tree, usage)?;
     use_frames(rows, free, usage)
 }
 
@@ -212,6 +210,7 @@ fn hands(alloc: Global, cpus: &[GhostCpu]) -> Result<RunList<Row>, AllocError>
 
 /// The frames of the guests' pools and tables are of the pool of the first guest that has them.
 fn use_pools(
+    alloc: Global,
     layout: &Layout,
     rows: &mut RunList<Row>,
     guests: &[GhostGuest],
@@ -223,6 +222,7 @@ fn use_pools(
     for v in (0..guests.len()).rev() {
         let guest = &guests[v];
         use_pool(
+            alloc,
             layout,
             rows,
             guest.free.as_slice(),
@@ -245,9 +245,10 @@ pub(crate) fn all_uses(
     ensures reach { IfOk result (λ r. AreInReach HasPageBelow r.runs) }
 {
     let mut rows = hands(alloc, cpus)?;
-    use_pools(layout, &mut rows, guests)?;
-    use_tree(layout, &mut rows, &shared.hyp, Usage::SharedPool)?;
+    use_pools(alloc, layout, &mut rows, guests)?;
+    use_tree(alloc, layout, &mut rows, &shared.hyp, Usage::SharedPool)?;
     use_pool(
+        alloc,
         layout,
         &mut rows,
         shared.free.as_slice(),

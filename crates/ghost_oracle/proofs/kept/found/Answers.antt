@@ -9,6 +9,11 @@ use Rattle.ghost_oracle.specs.Low.{IsLowGuest}
 use Rattle.ghost_oracle.proofs.Founds.{own_row}
 use Rattle.ghost_oracle.proofs.LowParts.{low_guests, low_cpus}
 use Rattle.ghost_oracle.proofs.Scratch.{if_ok}
+use Rattle.std.specs.Prelude.{◌*◌, sum_by}
+use Rattle.table_tree.specs.Reading.{count_of}
+use Rattle.ghost_oracle.specs.Counted.{guest_tables}
+use Rattle.ghost_oracle.specs.inner.Eights.{HasLooked}
+use Rattle.ghost_oracle.proofs.Counting.{on_ok, read_parts}
 use Rattle.ghost_oracle.proofs.kept.found.Goals as goal
 
 pub guests_from-requires : goal.guests_from-requires
@@ -27,3 +32,9 @@ ghost_with-requires g c = record {
 
 pub returns-clause-state : goal.returns-clause-state
 returns-clause-state g c = if_ok _ _ c.ghost_with.result (λ x e. e ∙ ap (λ (s : Shared). found_state s.row (state_of c.args.parts.now)) c.in_ok-shared.ensures.shared ∙ ap (λ rs. found_state (row_in rs) (state_of c.args.parts.now)) c.new.ensures) c.ghost_with.ensures.state
+
+pub returns-clause-reads : goal.returns-clause-reads
+returns-clause-reads g c =
+    let p = c.args.parts.now in
+    let guests = subst (λ gs. HasLooked (count_of c.args.reads.now) (512 * sum_by guest_tables gs) (count_of c.guests_from.new.reads)) c.as_slice.ensures.value c.in_ok-guests.ensures.reads in
+    on_ok _ c.ghost_with.result (read_parts p.shared.items c.shared.result.now (count_of c.args.reads.now) (count_of c.guests_from.new.reads) (count_of c.shared_from.new.reads) (sum_by guest_tables p.guests.items) c.shared.ensures guests c.in_ok-shared.ensures.reads)

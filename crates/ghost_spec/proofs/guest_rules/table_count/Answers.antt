@@ -1,29 +1,27 @@
-use Rattle.std.proofs.Common.{◌+◌, ◌-◌, Bool, List, ap, ◌∙◌, arith}
-use Rattle.std.specs.Prelude.{is_some}
-use Rattle.page_state.specs.declared.layout.Geometry.{Geometry}
-use Rattle.page_state.specs.Geometries.{block_pages, levels_below}
-use Rattle.page_state.specs.Search.{count_below}
-use Rattle.page_state.specs.Trees.{Block}
-use Rattle.ghost_trees.specs.declared.tree.Table.{Table}
-use Rattle.ghost_trees.specs.Trees.{table_of}
-use Rattle.ghost_spec.proofs.TableCounts.{counts, geometry-is}
+use Rattle.std.proofs.Common.{◌≡◌, sym, ap, ◌∙◌, arith}
+use Rattle.std.specs.Prelude.{not}
+use Rattle.page_state.specs.LayoutView.{layout_of}
+use Rattle.ghost_spec.proofs.TableCounts.{standing, counted_one, counted_again, counted_off, all_counted}
 use Rattle.ghost_spec.proofs.guest_rules.table_count.Goals as goal
+use Rattle.ghost_spec.proofs.guest_rules.table_count.Goals.{then-has_place+then-is_none, else-has_place, else-has_place-via-then-has_place+else-is_none, else-has_place-via-else-has_place}
 
-pub overflow_add-result-2 : goal.overflow_add-result-2
-overflow_add-result-2 c = omega (arith, c.tables_at.ensures.low, c.tables_at-2.ensures.low, c.tables_at-3.ensures.low)
+pub loop-i-preserved : goal.loop-i-preserved
+loop-i-preserved c =
+    let depth = (layout_of c.args.layout.now).depth in
+    let ts = c.as_slice-tables.result.now in
+    elim c.if-has_place.branch [
+      | then-has_place+then-is_none w ↦ record {
+        counted = counted_one depth c.loop-i.i c.loop-i.count c.if-has_place.count ts _ c.loop-i-test.true c.loop-i.invariant.counted (sym c.has_place.ensures ∙ w.if-has_place.true) (rw w.table_at.ensures at (w.is_none.ensures ∙ ap not w.if-is_none.true)) w.count-is;
+        few = omega (arith, w.count-is, c.loop-i.invariant.few);
+      }
+      | else-has_place w ↦ record {
+        counted = elim w.else-has_place.branch [
+          | else-has_place-via-then-has_place+else-is_none v ↦ counted_again depth c.loop-i.i c.loop-i.count c.if-has_place.count ts _ c.loop-i-test.true c.loop-i.invariant.counted (sym c.has_place.ensures ∙ v.if-has_place.true) (rw v.table_at.ensures at (v.is_none.ensures ∙ ap not v.if-is_none.false)) w.count-is
+          | else-has_place-via-else-has_place v ↦ counted_off depth c.loop-i.i c.loop-i.count c.if-has_place.count ts _ c.loop-i-test.true c.loop-i.invariant.counted (sym c.has_place.ensures ∙ v.if-has_place.false) w.count-is
+        ];
+        few = omega (arith, w.count-is, c.loop-i.invariant.few);
+      }
+    ]
 
-pub returns-clause-low : goal.returns-clause-low
-returns-clause-low c = omega (arith, c.tables_at.ensures.low, c.tables_at-2.ensures.low, c.tables_at-3.ensures.low)
-
-pub returns-clause-value : goal.returns-clause-value
-returns-clause-value c =
-    let g = c.args.layout.now.geometry in
-    let test : Block → Bool = λ b. is_some (table_of c.args.tree.now.tables.items b) in
-    counts (levels_below g + 1) 1 512 262144 test c.tables_at.result c.tables_at-2.result c.tables_at-3.result
-    (ap (λ (x : Geometry). levels_below x + 1) (geometry-is g)) (ap (λ (x : Geometry). block_pages (levels_below x + 1 - 3)) (geometry-is g)) (ap (λ (x : Geometry). block_pages (levels_below x + 1 - 2)) (geometry-is g)) (ap (λ (x : Geometry). block_pages (levels_below x + 1 - 1)) (geometry-is g))
-    (c.tables_at.ensures.value ∙ ap (λ (ts : List Table). count_below 1 (λ i. is_some (table_of ts (3, i)))) c.as_slice-tables.ensures.value)
-    (c.tables_at-2.ensures.value ∙ ap (λ (ts : List Table). count_below 512 (λ i. is_some (table_of ts (2, i)))) c.as_slice-tables.ensures.value)
-    (c.tables_at-3.ensures.value ∙ ap (λ (ts : List Table). count_below 262144 (λ i. is_some (table_of ts (1, i)))) c.as_slice-tables.ensures.value)
-
-pub overflow_add-result : goal.overflow_add-result
-overflow_add-result c = omega (arith, c.tables_at.ensures.low, c.tables_at-2.ensures.low)
+pub returns : goal.returns
+returns c = all_counted (layout_of c.args.layout.now).depth c.loop-i.i c.loop-i.count c.as_slice-tables.result.now c.loop-i-test.false c.loop-i.invariant.counted ∙ ap (standing (layout_of c.args.layout.now).depth) c.as_slice-tables.ensures.value

@@ -1,0 +1,7 @@
+use Rattle.std.proofs.Common.{◌*◌, sym, subst}
+use Rattle.table_tree.specs.Ahead.{GoesAhead}
+use Rattle.table_tree.proofs.Ahead.{leaf_goes}
+use Rattle.ghost_oracle.proofs.pending.step_of.Goals as goal
+
+pub returns-then-frame-pages : goal.returns-then-frame-pages
+returns-then-frame-pages c = subst (λ e. GoesAhead c.args.depth e (4096 * c.args.pages)) (sym c.in-Leaf.is) (leaf_goes c.args.depth c.args.pages c.in-Leaf.frame c.in-Leaf.prot c.in-Leaf.kind c.in-Leaf.state c.requires.depth_in c.requires.pages c.if-frame-pages.true)

@@ -1,0 +1,176 @@
+//! Slots of a table, eight at a time, and how far their words continue a run.
+ghost use Rattle.std.specs.Prelude.{◌≡◌, ◌+◌, ◌-◌, ◌*◌, ◌^◌, ◌<◌, ◌≤◌, min, IfSome, IsTrue, MatchOption};
+ghost use Rattle.table_tree.specs.Reading.{count_of};
+ghost use Rattle.table_tree.specs.Shape.{IsWide};
+ghost use Rattle.ghost_oracle.specs.inner.Eights.{AreSlots, AreNext, GoesTo, HasLooked, nth};
+
+use crate::pending::Pending;
+use std::alloc::Allocator;
+use std::mem;
+use table_tree::{Reads, Slot, Table};
+
+/// Eight slots in a row.
+pub(crate) type Eight<'a, A> = (
+    &'a Slot<A>,
+    &'a Slot<A>,
+    &'a Slot<A>,
+    &'a Slot<A>,
+    &'a Slot<A>,
+    &'a Slot<A>,
+    &'a Slot<A>,
+    &'a Slot<A>,
+);
+
+/// Looks at eight slots, from slot `i` on.
+#[inline(always)]
+fn eight_at<'a, A: Allocator>(table: &'a Table<A>, i: usize, reads: &mut Reads) -> Eight<'a, A>
+    requires within { i + 8 ≤ 512 }
+    requires wide { IsWide table.now }
+    ensures slots { AreSlots table.now i result.0.now result.1.now result.2.now result.3.now result.4.now result.5.now result.6.now result.7.now }
+    ensures reads { count_of reads.new ≡ min (count_of reads.old + 8) 18446744073709551615 }
+{
+    let mut looked = mem::replace(reads, Reads::new());
+    let slots = (
+        table.slot(i, &mut looked),
+        table.slot(i + 1, &mut looked),
+        table.slot(i + 2, &mut looked),
+        table.slot(i + 3, &mut looked),
+        table.slot(i + 4, &mut looked),
+        table.slot(i + 5, &mut looked),
+        table.slot(i + 6, &mut looked),
+        table.slot(i + 7, &mut looked),
+    );
+    *reads = looked;
+    slots
+}
+
+/// Whether a slot holds the word.
+#[inline(always)]
+fn holds<A: Allocator>(slot: &Slot<A>, word: u64) -> bool
+    ensures { IsTrue result → slot.now ≡ Slot.Word word }
+{
+    match slot {
+        Slot::Word(other) => *other == word,
+        Slot::Child(_) => false,
+    }
+}
+
+/// Whether a slot holds a word. Asked of eight slots first, it leaves one branch for them all.
+#[inline(always)]
+fn is_word<A: Allocator>(slot: &Slot<A>) -> bool {
+    match slot {
+        Slot::Word(_) => true,
+        Slot::Child(_) => false,
+    }
+}
+
+/// Whether eight slots hold `next`, `next + step`, and so on.
+#[inline(always)]
+fn are_next<A: Allocator>(slots: Eight<'_, A>, next: u64, step: u64) -> bool
+    requires { next + 8 * step < 2 ^ 64 }
+    ensures { IsTrue result → AreNext next step slots.entry.0.now slots.entry.1.now slots.entry.2.now slots.entry.3.now slots.entry.4.now slots.entry.5.now slots.entry.6.now slots.entry.7.now }
+{
+    let (a, b, c, d, e, f, g, h) = slots;
+    let all = is_word(a)
+        & is_word(b)
+        & is_word(c)
+        & is_word(d)
+        & is_word(e)
+        & is_word(f)
+        & is_word(g)
+        & is_word(h);
+    let second = next + step;
+    let third = second + step;
+    let fourth = third + step;
+    let fifth = fourth + step;
+    let sixth = fifth + step;
+    let seventh = sixth + step;
+    let eighth = seventh + step;
+    all && holds(a, next)
+        && holds(b, second)
+        && holds(c, third)
+        && holds(d, fourth)
+        && holds(e, fifth)
+        && holds(f, sixth)
+        && holds(g, seventh)
+        && holds(h, eighth)
+}
+
+/// Slot `k` of eight.
+#[inline(always)]
+pub(crate) fn one_of<'a, A: Allocator>(slots: Eight<'a, A>, k: usize) -> &'a Slot<A>
+    requires { k < 8 }
+    ensures { result.now ≡ nth k slots.entry.0.now slots.entry.1.now slots.entry.2.now slots.entry.3.now slots.entry.4.now slots.entry.5.now slots.entry.6.now slots.entry.7.now }
+{
+    let (a, b, c, d, e, f, g, h) = slots;
+    match k {
+        0 => a,
+        1 => b,
+        2 => c,
+        3 => d,
+        4 => e,
+        5 => f,
+        6 => g,
+        _ => h,
+    }
+}
+
+/// As `go_on`, for a step that the caller may know.
+#[inline(always)]
+fn go_on_by<'a, A: Allocator>(
+    table: &'a Table<A>,
+    from: usize,
+    pending: &mut Pending,
+    step: u64,
+    reads: &mut Reads,
+) -> Option<(usize, Eight<'a, A>)>
+    requires within { from ≤ 64 }
+    requires step { step ≡ pending.old.step }
+    requires wide { IsWide table.now }
+    requires room { IsTrue pending.old.goes_on → pending.old.next + (512 - 8 * from) * step < 2 ^ 64 }
+    ensures words { MatchOption result (GoesTo table.now (8 * from) 512 pending.old pending.new) (λ r. GoesTo table.now (8 * from) (8 * r.0) pending.old pending.new) }
+    ensures reads { MatchOption result (HasLooked (count_of reads.old) (512 - 8 * from) (count_of reads.new)) (λ r. HasLooked (count_of reads.old) (8 * r.0 + 8 - 8 * from) (count_of reads.new)) }
+    ensures slots { IfSome result (λ r. (from ≤ r.0) × (r.0 < 64) × AreSlots table.now (8 * r.0) r.1.0.now r.1.1.now r.1.2.now r.1.3.now r.1.4.now r.1.5.now r.1.6.now r.1.7.now) }
+{
+    let goes_on = pending.goes_on;
+    let mut next = pending.next;
+    let mut looked = mem::replace(reads, Reads::new());
+    for c in from..64usize {
+        let slots = eight_at(table, 8 * c, &mut looked);
+        if goes_on && are_next(slots, next, step) {
+            next += 8 * step;
+        } else {
+            pending.next = next;
+            *reads = looked;
+            return Some((c, slots));
+        }
+    }
+    pending.next = next;
+    *reads = looked;
+    None
+}
+
+/// Extends a run over the words of a table, eight at a time from slot `8 * from` on, while they are the words that continue
+/// it. Gives the number and the slots of the first eight that don't, or None where all do. Each slot is looked at once.
+#[inline(never)]
+pub(crate) fn go_on<'a, A: Allocator>(
+    table: &'a Table<A>,
+    from: usize,
+    pending: &mut Pending,
+    reads: &mut Reads,
+) -> Option<(usize, Eight<'a, A>)>
+    requires within { from ≤ 64 }
+    requires wide { IsWide table.now }
+    requires room { IsTrue pending.old.goes_on → pending.old.next + (512 - 8 * from) * pending.old.step < 2 ^ 64 }
+    ensures words { MatchOption result (GoesTo table.now (8 * from) 512 pending.old pending.new) (λ r. GoesTo table.now (8 * from) (8 * r.0) pending.old pending.new) }
+    ensures reads { MatchOption result (HasLooked (count_of reads.old) (512 - 8 * from) (count_of reads.new)) (λ r. HasLooked (count_of reads.old) (8 * r.0 + 8 - 8 * from) (count_of reads.new)) }
+    ensures slots { IfSome result (λ r. (from ≤ r.0) × (r.0 < 64) × AreSlots table.now (8 * r.0) r.1.0.now r.1.1.now r.1.2.now r.1.3.now r.1.4.now r.1.5.now r.1.6.now r.1.7.now) }
+{
+    // Most words are 0: with a known step of 0 there is no addition for each of them.
+    if pending.step == 0 {
+        go_on_by(table, from, pending, 0, reads)
+    } else {
+        let step = pending.step;
+        go_on_by(table, from, pending, step, reads)
+    }
+}
