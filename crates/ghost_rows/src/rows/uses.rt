@@ -59,7 +59,7 @@ fn use_frame(rows: &mut RunList<Row>, frame: u64, usage: Usage) -> Result<(), Al
     use_range(rows, one, usage)
 }
 
-/// Whether a frame comes right behind another.
+/// Whether a frame comes right after another.
 fn follows(frame: u64, next: u64) -> bool
     ensures { Decides result (next ≡ frame + 1) }
 {
