@@ -134,7 +134,7 @@ impl<A: Allocator> Component<A> {
     }
 
     /// Gives all that is in hand for a change back, and makes none: the frames to the pool, the tables to the tree's spares.
-    /// It asks that all frames are distinct and that the pool's room covers them.
+    /// Requires that all frames are distinct and that the pool's room covers them.
     pub fn release(&mut self, pool: &mut Pool, plan: Plan<A>)
         requires distinct { (f : ℕ) → frame_count f (frames_of plan.spare.stock) + frame_count f pool.old.frames ≤ 1 }
         requires covered { length (frames_of plan.spare.stock) + length pool.old.frames ≤ pool.old.room }

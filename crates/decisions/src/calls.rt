@@ -48,7 +48,7 @@ use vms::{
     decide_vm_reserve,
 };
 
-/// A change of so many pages from the first on.
+/// A change of `count` pages from the first on.
 fn change(first: Page, count: u64, entry: Entry) -> Option<MapChange>
     ensures { result ≡ Some (record { range = record { first = first; count = count }; entry = entry }) }
 {
@@ -225,7 +225,7 @@ fn refusal_of_none(layout: &Layout, step: Step) -> Refusal
 }
 
 /// What a step decides on the parts that it uses, with the slot of its Guest part; a step whose VM or CPU names no slot uses
-/// no part. It asks for parts of the layout that a run leaves.
+/// no part. Requires parts of the layout that some run can reach.
 pub fn decide<A: Allocator>(
     layout: &Layout,
     vms: &[VmPart],

@@ -79,7 +79,7 @@ pub fn is_free_page(entry: Entry) -> bool
     )
 }
 
-/// Whether something stands at a page.
+/// Whether a page's entry is anything but Unmapped.
 pub fn is_mapped(entry: Entry) -> bool
     ensures { result ≡ is_mapped_entry entry }
 {

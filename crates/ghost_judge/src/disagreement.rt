@@ -1,4 +1,4 @@
-//! What the oracle tells where two states disagree.
+//! What the oracle reports where two states disagree.
 use page_state::{Entry, Row};
 use step_reply::Reply;
 

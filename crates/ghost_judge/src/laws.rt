@@ -4,7 +4,7 @@ ghost use Rattle.ghost_judge.specs.OneAnswer.{AuditElse, AuditOnce, JudgedElse, 
 ghost use Rattle.ghost_judge.specs.TextRows.{FreeWritten, JudgementWritten, MapWritten, OwnerWritten, ReplyWritten};
 
 /// The judgement agrees with each step of the model: the reply and the state after it are those that are foretold, or the
-/// call wanted memory in a step that is foretold to be made, and nothing changed.
+/// call wanted memory in a step that `foretell` makes, and nothing changed.
 pub fn steps_agree()
     ensures agree { StepsAgree }
 {}

@@ -31,7 +31,7 @@ fn are_alike(tables: &[Table], a: &[Table], b: &[Table]) -> bool
         .all(|t| table_at(a, t.block) == table_at(b, t.block))
 }
 
-/// Whether two lists stand for the same tables.
+/// Whether two lists have the same tables.
 pub(crate) fn same_tables(a: &[Table], b: &[Table]) -> bool
     ensures { IsTrue result ↔ (table_of a.now ≡ table_of b.now) }
 {
@@ -72,7 +72,7 @@ pub(crate) fn is_same_guest(a: &GhostGuest, b: &GhostGuest) -> bool
         && is_same_list(a.free.as_slice(), b.free.as_slice())
 }
 
-/// Whether two slots stand alike.
+/// Whether two slots are in the same state.
 fn is_same_stand(a: GhostStand, b: GhostStand) -> bool
     ensures { IsTrue result ↔ (stand_in a ≡ stand_in b) }
 {

@@ -31,7 +31,7 @@ impl fmt::Display for ToldRow {
     }
 }
 
-/// A disagreement, with what stands before its two sides.
+/// A disagreement, with the words before its two sides.
 #[derive(Clone, Copy)]
 struct Sides {
     told: Disagreement,
@@ -90,7 +90,7 @@ impl fmt::Debug for Disagreement {
     }
 }
 
-/// A disagreement that a judgement tells: what the state after a call says, and what the model says.
+/// A disagreement found by a judgement: what the state after a call has, and what the model says.
 #[derive(Clone, Copy)]
 pub struct Judgement(pub Disagreement);
 

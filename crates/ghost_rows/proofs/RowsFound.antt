@@ -23,7 +23,7 @@ use Rattle.ghost_trees.specs.Trees.{tree_in_lists}
 use Rattle.ghost_rows.specs.RowsLaid.{first_some, guests_in, cpus_in, annotated_row, loan_at, guest_loan, guests_loan, any_loan, used_row, used_if, guest_use, hand_use, guests_use, hands_use, any_use}
 use Rattle.ghost_rows.specs.RowsTold.{lent_told, usage_told, number_told, is_of_host, owner_told, row_told}
 
--- the first of so many
+-- the first that a test takes
 
 -- a number where a test holds there, and else what is found behind it
 abbrev here_or : Bool → ℕ → Option ℕ → Option ℕ

@@ -27,7 +27,7 @@ use run_list::{Run, RunList};
 use std::alloc::{AllocError, Global};
 use uses::all_uses;
 
-/// What is told of each frame by all parts of the state.
+/// What all parts of the state say of each frame.
 fn lists_of(alloc: Global, state: &Ghost) -> Result<Lists, AllocError>
     requires host { IsKeptTree state.now.shared.host }
     requires hyp { IsKeptTree state.now.shared.hyp }
@@ -49,7 +49,7 @@ fn lists_of(alloc: Global, state: &Ghost) -> Result<Lists, AllocError>
 }
 
 /// The rows of the frames of a range, piece by piece: along a piece each list goes on as it begins.
-/// Where each list stands goes on with the pieces, so that no list is searched.
+/// The place in each list goes on with the pieces, so that no list is searched.
 fn range_rows(alloc: Global, lists: &Lists, pages: PageRange) -> Result<RunList<Row>, AllocError>
     requires low { end_of pages ≤ 2 ^ 26 }
     requires lists { AreReached lists.now }
@@ -125,7 +125,7 @@ fn is_low_memory(layout: &Layout)
 }
 
 /// Whether rows, one for each memory frame, are those from scratch, which `rows_from_scratch` finds. They are compared with
-/// what is told as it is found, and no list of rows is made.
+/// what the lists say, as it is found, and no list of rows is made.
 pub fn are_from_scratch(alloc: Global, state: &Ghost, rows: &[Run<Row>]) -> Result<bool, AllocError>
     requires host { IsKeptTree state.now.shared.host }
     requires hyp { IsKeptTree state.now.shared.hyp }

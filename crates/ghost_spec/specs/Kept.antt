@@ -79,7 +79,7 @@ IsSmallPart (Install kind generation hand) = end_of hand ≤ 2 ^ 62
 IsSmallPart (Gain range) = end_of range ≤ 2 ^ 62
 IsSmallPart other = Unit {0}
 
--- what changes of the slots is one of so many
+-- what changes of the slots is one of the first n
 abbrev pub FitsSlots : ℕ → SlotChange → Type 0
 FitsSlots n KeepSlots = Unit {0}
 FitsSlots n (Reserve v kind vcpus) = v < n

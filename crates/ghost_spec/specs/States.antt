@@ -44,7 +44,7 @@ contents_in g = record {
   cpu = λ c. get_or (map cpu_in g.cpus.items) c no_cpu;
 }
 
--- the rooms of all logs, which store so many calls; past a list's end they are empty
+-- the rooms of all logs, which can store `log` calls each; past a list's end they are empty
 abbrev pub rooms_in : ℕ → GhostRooms → Rooms
 rooms_in log r = record { vms = r.vms; shared = r.shared; guest = λ v. get_or r.guests.items v log; cpu = λ c. get_or r.cpus.items c log }
 

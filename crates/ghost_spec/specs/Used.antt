@@ -24,7 +24,7 @@ vms_in slots = record { slot = λ v. get_or (map slot_in slots) v (no_slot 1) }
 abbrev pub guests_in : List GhostGuest → ℕ → Guest
 guests_in guests v = get_or (map guest_in guests) v no_guest
 
--- rooms; past the list's end they are those of empty logs, which store so many calls
+-- rooms; past the list's end they are those of empty logs, which can store `log` calls each
 abbrev pub rooms_of : ℕ → List ℕ → ℕ → ℕ
 rooms_of log rooms v = get_or rooms v log
 

@@ -140,7 +140,7 @@ pub(crate) fn root_tree(alloc: Global, depth: u64, root: u64) -> Result<Tree, Al
     })
 }
 
-/// Whether so many frames are one for each root, and one for each table that the trees need beside it.
+/// Whether `frames` are enough: one for each root, and one for each further table of the trees.
 fn is_enough(frames: u64, host_need: usize, hyp_need: usize) -> bool
     ensures { IsTrue result ↔ (2 + host_need + hyp_need ≤ frames) }
 {

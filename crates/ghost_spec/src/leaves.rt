@@ -1,4 +1,4 @@
-//! Entries that rules ask about and write.
+//! Entries that rules test and write.
 ghost use Rattle.std.specs.Prelude.{◌≡◌, ◌+◌, ◌<◌, ◌^◌};
 ghost use Rattle.page_state.specs.EntryTests.{annotation as annotation_of, device_leaf as device_leaf_of, is_annotated as is_annotated_of, is_free_page as is_free_page_of, is_in as is_in_of, is_mapped as is_mapped_of, is_unmapped as is_unmapped_of, leaf as leaf_of};
 ghost use Rattle.page_state.specs.Layouts.{hyp_page as hyp_page_of};
@@ -26,14 +26,14 @@ pub(crate) fn is_unmapped(entry: Entry) -> bool
     }
 }
 
-/// Whether something stands there.
+/// Whether the page is mapped or annotated.
 pub(crate) fn is_mapped(entry: Entry) -> bool
     ensures { result ≡ is_mapped_of entry }
 {
     !is_unmapped(entry)
 }
 
-/// Whether an annotation stands there.
+/// Whether the page is annotated.
 pub(crate) fn is_annotated(entry: Entry) -> bool
     ensures { result ≡ is_annotated_of entry }
 {

@@ -1,4 +1,4 @@
-//! The definitions of the model as a program: plain and slow, on maps told as lists of runs.
+//! The definitions of the model as a program: plain and slow, on maps as lists of runs.
 #![tactic(auto)]
 
 mod answer;

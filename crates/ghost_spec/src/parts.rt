@@ -6,7 +6,7 @@ use ghost_trees::tree::Tree;
 use std::alloc::{AllocError, Global};
 use step_reply::VmKind;
 
-/// How a slot of the VM part stands.
+/// The state of a slot of the VM part.
 #[derive(Clone, Copy, PartialEq)]
 pub enum GhostStand {
     Vacant,

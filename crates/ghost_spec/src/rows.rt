@@ -29,7 +29,7 @@ const PLAIN_ROW: Row = Row {
     usage: Usage::Plain,
 };
 
-/// The row of a frame as it stands.
+/// The row of a frame as it is kept.
 pub(crate) fn row_at(shared: &Shared, frame: u64) -> Row
     ensures { result ≡ row_in shared.now.rows.runs frame }
 {

@@ -29,7 +29,7 @@ use page_state::{Entry, Layout, Page, PageRange, Prot, Region, RegionKind, State
 use reference_model::{Changes, CpuChange, MapChange, Update};
 use step_reply::{Refusal, Value};
 
-/// A change of a map: so many pages from the first on.
+/// A change of a map: `count` pages from the first on.
 pub(crate) fn change(first: u64, count: u64, entry: Entry) -> Option<MapChange>
     ensures { result ≡ change_of first count entry }
 {

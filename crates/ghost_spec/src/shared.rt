@@ -116,7 +116,7 @@ pub(crate) fn edit(
     match change {
         Some(change) => {
             let made = tree::edited(alloc, depth, tree, change.range, change.entry, frames)?;
-            // What stood there goes to `drop`: the proof of a place written over would go through all parts of it.
+            // What was there goes to `drop`: the proof of a place written over would go through all parts of it.
             drop(mem::replace(tree, made.tree));
             Ok(Edited {
                 need: made.need,
@@ -130,7 +130,7 @@ pub(crate) fn edit(
     }
 }
 
-/// The frames behind the first `n`.
+/// The frames after the first `n`.
 pub(crate) fn behind(free: &[u64], n: usize) -> &[u64]
     ensures { result.now ≡ drop n free.now }
 {

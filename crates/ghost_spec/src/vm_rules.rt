@@ -122,7 +122,7 @@ fn loaded_becomes(loaded: Option<Loaded>) -> CpuChange
     }
 }
 
-/// Whether a VM may have so many vCPUs.
+/// Whether a VM may have this number of vCPUs.
 fn is_good_count(vcpus: u64) -> bool
     ensures { result ≡ (nat_le 1 vcpus && nat_le vcpus 8) }
 {

@@ -11,7 +11,7 @@ use reference_model::SlotChange;
 use std::alloc::{AllocError, Global};
 use step_reply::VmKind;
 
-/// A slot becomes Reserved for a VM of the kind with so many vCPUs.
+/// A slot becomes Reserved for a VM of the kind with `vcpus` vCPUs.
 fn reserve(slot: &mut GhostSlot, kind: VmKind, vcpus: u64)
     ensures { slot_in slot.new ≡ record (slot_in slot.old) { stand = reserved; kind = kind; vcpus = vcpus } }
 {

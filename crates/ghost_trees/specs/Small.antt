@@ -6,7 +6,7 @@ use Rattle.page_state.specs.declared.entry.Run.{Run}
 use Rattle.page_state.specs.Entries.{entry_of_target}
 use Rattle.page_state.specs.Runs.{run_end}
 
--- the frames of a leaf and of the pages behind it, so many in all, are below 2^63
+-- the frames of a leaf and of the pages after it, `count` in all, are below 2^63
 abbrev pub HasLowFrames : Entry → ℕ → Type 0
 HasLowFrames (Leaf frame prot kind state) count = frame.0 + count ≤ 2 ^ 63
 HasLowFrames other count = Unit {0}

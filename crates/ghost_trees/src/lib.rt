@@ -1,4 +1,4 @@
-//! Trees told as lists: runs, blocks, the tables of blocks, and free frames. Plain and slow.
+//! Trees as lists: runs, blocks, the tables of blocks, and free frames. Plain and slow.
 #![tactic(auto)]
 
 pub mod blocks;

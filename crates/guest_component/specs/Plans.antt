@@ -18,7 +18,7 @@ use Rattle.guest_component.specs.Bodies.{body_of}
 use Rattle.guest_component.specs.Changing.{GuestCanChange, MakesNone}
 use Rattle.guest_component.specs.View.{guest_of, guest_depth}
 
--- a guest's tree has so many spares, and its maplets the room that a change of its map asks
+-- a guest's tree has n spares or more, and its maplets the room that a change of its map needs
 abbrev pub HasReadyMap : {A : Type 0} → ℕ → Option MapChange → Option (Body A) → Type 0
 HasReadyMap n c None = Unit {0}
 HasReadyMap n c (Some b) = (n ≤ spares_of b.map.tree) × HasRoomFor c b.map.maplets

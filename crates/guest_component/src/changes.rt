@@ -61,9 +61,9 @@ impl<A: Allocator + Copy> Guest<A> {
     }
 
     /// Takes all memory that changes need: spares for the tables, room in the maplets, and for an install the new guest. It
-    /// changes nothing that the guest stands for. NoPool is answered exactly where its pool has fewer frames than its map's
+    /// changes nothing that the guest represents. NoPool is answered exactly where its pool has fewer frames than its map's
     /// change needs tables, before memory is asked for, NoMemory only for an install, or where its tree has fewer spares than
-    /// that, or its maplets no room, and memory was refused. It asks for changes that can be made of the guest.
+    /// that, or its maplets no room, and memory was refused. Requires changes that can be made of the guest.
     pub fn reserve(&mut self, alloc: A, changes: &Changes) -> Result<GuestPlan<A>, PoolFault>
         requires { GuestCanChange (guest_depth self.old) changes.now (guest_of self.old) }
         ensures ready { IfOk result (λ p. IsReadyFor changes.now self.new p) }

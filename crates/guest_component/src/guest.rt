@@ -16,7 +16,7 @@ pub struct Guest<A: Allocator> {
     pub ghost alike: { IsOfGeometry geometry body } by { IsOfGeometry-prop geometry body },
 }
 
-/// What a change of a guest asks beside what the guest has: the tables that it needs, counted, and for an install the new
+/// What a change of a guest takes beside what the guest has: the tables that it needs, counted, and for an install the new
 /// guest. It may be dropped, and the change is then not made.
 #[derive(Drop)]
 pub struct GuestPlan<A: Allocator> {

@@ -1,4 +1,4 @@
-//! What calls ask of a guest.
+//! What calls read of a guest.
 ghost use Rattle.std.specs.Prelude.{◌≡◌, ◌+◌, ◌≤◌, ◌^◌, ◌≢◌, true, is_some, length, unwrap_or, MatchOption, None, Some};
 ghost use Rattle.guest_component.specs.View.{guest_of, guest_depth};
 ghost use Rattle.page_state.specs.EntryTests.{is_unmapped as is_unmapped_entry};
@@ -109,7 +109,7 @@ impl<A: Allocator> Guest<A> {
         }
     }
 
-    /// The frame of its root; an Empty guest has none, and 0 is told.
+    /// The frame of its root; 0 of an Empty guest, which has none.
     pub fn root(&self) -> u64
         ensures { result ≡ unwrap_or ((guest_of self.now).tree.table (guest_depth self.now + 1, 0)) 0 }
     {
@@ -129,7 +129,7 @@ impl<A: Allocator> Guest<A> {
         }
     }
 
-    /// The tables that the change of its map needs. It asks for a change that fits, and for none where it is Empty.
+    /// The tables that the change of its map needs. Requires a change that fits, and none where it is Empty.
     pub fn need(&self, changes: &Changes) -> usize
         requires map { FitsWhere (guest_depth self.now) changes.now.guest }
         requires mapped { is_some changes.now.guest ≡ true → (guest_of self.now).phase ≢ empty }

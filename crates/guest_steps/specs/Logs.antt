@@ -7,7 +7,7 @@ pub record StoredCalls : Type 0 where
   pub calls : List Call
   pub room : ℕ
 
--- a log that can store so many calls in all
+-- a log that can store `most` calls in all
 abbrev pub IsOfSize : ℕ → StoredCalls → Type 0
 IsOfSize most log = length log.calls + log.room ≡ most
 

@@ -72,7 +72,7 @@ impl Log {
         self.calls.as_slice()
     }
 
-    /// Stores a call. It takes no memory, and asks for room.
+    /// Stores a call. It takes no memory. Requires room.
     pub fn store(&mut self, call: Call)
         requires { 0 < self.old.room }
         ensures calls { self.new.calls ≡ self.old.calls ++ call ∷ [] }

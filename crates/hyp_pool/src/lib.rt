@@ -16,7 +16,7 @@ use page_state::Frame;
 use std::alloc::{AllocError, Global};
 use std::marker::Model;
 
-/// Why frames aren't taken. NoPool is told before memory is asked for.
+/// Why frames aren't taken. NoPool is answered before memory is asked for.
 #[derive(Clone, Copy, PartialEq, Debug)]
 pub enum PoolFault {
     /// Fewer frames are free.
@@ -56,7 +56,7 @@ impl Model for Pool {
 }
 
 impl Pool {
-    /// A pool of the `n` frames from `first` on, with room for as many. It asks that all of them are below 2^36.
+    /// A pool of the `n` frames from `first` on, with room for as many. Requires that all of them are below 2^36.
     pub fn of(alloc: Global, first: Frame, n: usize) -> Result<Pool, AllocError>
         requires { (i : ℕ) → i < n → first.0 + i < 2 ^ 36 }
         ensures frames { IfOk result (λ pool. pool.frames ≡ frames_from first.0 n) }

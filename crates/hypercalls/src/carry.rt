@@ -199,7 +199,7 @@ fn change_vms(change: &SlotChange, vms: &mut [VmPart])
 }
 
 /// Carries changes out, or nothing: NoPool where a pool has too few free frames, and NoMemory only where a tree has too few
-/// spares, or maplets no room, or a guest is made, and memory was refused. It asks that the changes fit, and that what they
+/// spares, or maplets no room, or a guest is made, and memory was refused. Requires that the changes fit, and that what they
 /// change is lent.
 pub fn carry_out<A: Allocator + Copy>(
     alloc: A,

@@ -215,8 +215,8 @@ fn answer<A: Allocator + Copy>(
 }
 
 /// Makes a step of a CPU on the parts that it uses, each lent as a slice of one, and none of the others, and stores the call
-/// in their logs and the CPU's, where none is full. It asks for parts of the layout, and for parts and a CPU's state that
-/// stand in a state that a run leaves. Whatever else stands in that state, it is a step of it.
+/// in their logs and the CPU's, where none is full. Requires parts of the layout, and parts and a CPU's state that
+/// belong to a state that some run can reach. Whatever else that state has, it is a step of it.
 pub fn step_on<A: Allocator + Copy>(
     alloc: A,
     layout: &Layout,

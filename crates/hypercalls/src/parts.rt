@@ -46,7 +46,7 @@ impl<A: Allocator + Copy> Parts<A> {
     ghost use Rattle.hypercalls.specs.Stands.{HasHistory};
     ghost use Rattle.hypercalls.specs.Whole.{IsStep};
 
-    /// Makes one step of a CPU: the parts that it uses are lent to it. It asks for parts that stand at the end of one legal
+    /// Makes one step of a CPU: the parts that it uses are lent to it. Requires parts at the end of one legal
     /// history, and leaves them at the end of one.
     pub fn step(&mut self, alloc: A, cpu: u64, step: Step) -> Reply
         requires known { cpu < self.old.layout.config.cpus }

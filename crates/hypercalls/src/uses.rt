@@ -50,7 +50,7 @@ pub fn uses_shared(step: Step, slot: Option<u64>) -> bool
 }
 
 /// The parts that a step uses beside its CPU's own state: none, one of them, or the Shared part and the Guest part of a
-/// slot. Guests are told by slot.
+/// slot. Guests are named by slot.
 #[derive(Clone, Copy)]
 pub enum Uses {
     Nothing,

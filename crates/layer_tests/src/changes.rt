@@ -21,7 +21,7 @@ use table_tree::{Reads, Tree};
 use walk_plan::{Spare, need, need_of_new, release, reserve};
 use walker::{set, set_with};
 
-/// The frame of each root; the pool's frames are those behind it.
+/// The frame of each root; the pool's frames are those after it.
 const ROOT: Frame = Frame(0x40600);
 
 /// Compares what a change answers.
@@ -117,7 +117,7 @@ impl<A: Allocator + Copy> Bench<A> {
         expect_word(rt, self.word(path), Some(word));
     }
 
-    /// Compares words behind their paths.
+    /// Compares words, each given after its path.
     fn expect_words(&self, rt: &impl Abort, words: Words) {
         for (path, word) in words {
             self.expect_word(rt, path, *word);
@@ -174,7 +174,7 @@ impl<A: Allocator + Copy> Bench<A> {
 /// leaves; how many tables it needs; and words, and (tables, free frames), after it.
 type Row = (u64, u64, Option<State>, usize, Words, (usize, usize));
 
-/// Words, each behind its path.
+/// Words, each after its path.
 type Words = &'static [(&'static [u16], u64)];
 
 /// A block as one word.
@@ -223,7 +223,7 @@ fn rows_at_local_heap(rt: HostRuntime) {
     rows(&rt, rt.alloc(), &heap);
 }
 
-/// A change of an empty tree with so many free frames; compares its answer, the first page's entry, and tables, free frames and spares.
+/// A change of an empty tree, with `free` free frames; compares its answer, the first entry, tables, free frames and spares.
 fn with_frames<A: Allocator + Copy>(
     rt: &impl Abort,
     global: Global,

@@ -1,4 +1,4 @@
-//! Comparisons, each of which stands here once.
+//! Comparisons, each of which is written here once.
 use page_state::Entry;
 use std::fmt::Debug;
 use std::process::Abort;

@@ -1,4 +1,4 @@
-//! Tests of words, layouts and replies, of pools, of pokes, and of changes of trees. They stand in a crate of their own, since
+//! Tests of words, layouts and replies, of pools, of pokes, and of changes of trees. They have a crate of their own, since
 //! tests are proved with all functions of their crate.
 #![tactic(auto)]
 

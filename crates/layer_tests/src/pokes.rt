@@ -6,7 +6,7 @@ use std::alloc::{AllocError, Global};
 use std::process::Abort;
 use table_tree::{PathFault, RawTree, Table};
 
-/// A tree of two tables: the root, and one in frame 6 behind its slot 3.
+/// A tree of two tables: the root, and one in frame 6 at its slot 3.
 fn two_tables(alloc: Global) -> Result<RawTree<Global>, AllocError> {
     let mut table = Table::new(alloc, Frame(0x40600))?;
     let child = Table::new(alloc, Frame(6))?;

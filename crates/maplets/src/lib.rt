@@ -72,7 +72,7 @@ impl Maplets {
     }
 
     /// Gives the pages of a range a target, which advances along it, or none.
-    /// It asks for room of two more runs, and takes no memory. Room and runs are together what they were.
+    /// Requires room of two more runs, and takes no memory. Room and runs are together what they were.
     #[tactic(auto, using(crate::proofs::TargetRuns::coarsest_targets))]
     pub fn set(&mut self, range: PageRange, target: Option<Target>)
         requires pages { range.first.0 + range.count ≤ 2 ^ 63 }

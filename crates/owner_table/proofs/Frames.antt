@@ -23,7 +23,7 @@ few_enough runs room end h = let few = runs_no_more advance_row runs end h.coars
 pub inside : (first count f : ℕ) → is_within first count f ≡ true → (first ≤ f) × (f < first + count)
 inside first count f h = (grind (arith, nat_tests), grind (arith, nat_tests))
 
--- a frame of a range has the row so many frames on, and any other what it had
+-- a frame of a range has the row, advanced by its distance from the first, and any other what it had
 pub set-in : (m : ℕ → Option Row) (frames : PageRange) (row : Row) (f : ℕ) → is_in_range frames f ≡ true → rows_set m frames row f ≡ Some (advance_row row (f - frames.first.0))
 set-in m frames row f h = if-true (is_in_range frames f) (Some (advance_row row (f - frames.first.0))) (m f) h
 

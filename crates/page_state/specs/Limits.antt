@@ -7,14 +7,14 @@ use Rattle.page_state.specs.LayoutFaults.{IsInLimits}
 use Rattle.page_state.specs.Layouts.{Layout}
 use Rattle.page_state.specs.Regions.{Memory}
 
--- memory of so many pages from 0x40000 on, with a carve-out of its first 64
+-- memory of `count` pages from 0x40000 on, with a carve-out of its first 64
 abbrev pub memory : ℕ → Memory
 memory count = record {
   regions = record { kind = memory_kind; pages = record { first = record { 0 = 0x40000 }; count = count } } ∷ [];
   carve = record { first = record { 0 = 0x40000 }; count = 64 };
 }
 
--- these CPUs, logs of so many calls, and input addresses of so many bits
+-- the numbers of CPUs, of calls in a log, and of bits of input addresses
 abbrev pub config : ℕ → ℕ → ℕ → Config
 config cpus log bits = record { cpus = cpus; log = log; geometry = bits }
 

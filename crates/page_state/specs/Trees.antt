@@ -19,7 +19,7 @@ Pool = List ℕ
 abbrev pub no_tree : Tree
 no_tree = record { map = empty_map; table = λ b. None }
 
--- a tree of its root alone, which has so many levels below it, in which nothing is mapped
+-- a tree of its root alone, which has `depth` levels below it, in which nothing is mapped
 abbrev pub root_tree : ℕ → ℕ → Tree
 root_tree depth root = record { map = empty_map; table = λ b. if b.0 == depth + 1 && b.1 == 0 then Some root else None }
 

@@ -64,7 +64,7 @@ HostAbortRegions =
     (r.0 ≡ ok) × (at r.1.contents.shared.host.map (0x147e ∷ 0x147f ∷ 0x1480 ∷ []) ≡ Unmapped ∷ leaf RWX 0x147f Owned ∷ Unmapped ∷ [])
     × (q.0 ≡ ok) × (at q.1.contents.shared.host.map (0x147f ∷ 0x1480 ∷ 0x1481 ∷ []) ≡ Unmapped ∷ leaf RWX 0x1480 Owned ∷ Unmapped ∷ [])
 
--- two stretches of memory in trees of three levels, 0x40000 pages apart, with a carve-out of so many frames in the second
+-- two stretches of memory in trees of three levels, 0x40000 pages apart, with a carve-out of `carve` frames in the second
 abbrev pub stretches : ℕ → Layout
 stretches carve = record (small 2) {
   memory = record {

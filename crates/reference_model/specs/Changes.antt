@@ -62,7 +62,7 @@ vms_by (Release vm) x = with_slot vm.slot (λ y. no_slot (vm.generation + 1)) x
 vms_by (Load v i c) x = with_slot v (λ y. record y { loaded = put_at y.loaded i (Some c) }) x
 vms_by (Unload v i) x = with_slot v (λ y. record y { loaded = put_at y.loaded i None }) x
 
--- a change of a map: so many pages from the first on
+-- a change of a map: `count` pages from the first on
 abbrev pub change : ℕ → ℕ → Entry → Option MapChange
 change first count entry = Some (record { range = record { first = record { 0 = first }; count = count }; entry = entry })
 

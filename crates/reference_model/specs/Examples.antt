@@ -21,7 +21,7 @@ use Rattle.reference_model.specs.Step.{foretell}
 use Rattle.reference_model.specs.Scene.{ok}
 use Rattle.reference_model.specs.Boot.{boot, CanBoot}
 
--- 0x800 frames of memory from 0x40000 on and 16 device pages, with a carve-out of so many frames from 0x40600 on, and logs of so many calls
+-- 0x800 frames of memory from 0x40000 on and 16 device pages, with a carve-out of `carve` frames from 0x40600 on, and logs of `log` calls
 abbrev pub layout : ℕ → ℕ → Layout
 layout carve log = record {
   memory = record {

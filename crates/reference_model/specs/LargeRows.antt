@@ -15,7 +15,7 @@ use Rattle.reference_model.specs.Step.{foretell}
 use Rattle.reference_model.specs.Scene.{small, range, at, Refuses}
 use Rattle.reference_model.specs.SceneState.{scene, with_free}
 
--- a region of memory of so many pages from 0x40000 on
+-- a region of memory of `count` pages from 0x40000 on
 abbrev pub stretch : ℕ → Region
 stretch count = record { kind = MemoryKind; pages = range 0x40000 count }
 

@@ -20,7 +20,7 @@ use Rattle.page_state.specs.Trees.{Block}
 use Rattle.reference_model.specs.State.{Reference}
 use Rattle.reference_model.specs.Step.{foretell}
 
--- 0x800 frames of memory from 0x1000 on, 16 device pages from 0x900 on, a carve-out of 64 frames from 0x1600 on, logs of 64 calls, and trees with so many levels below the root
+-- 0x800 frames of memory from 0x1000 on, 16 device pages from 0x900 on, a carve-out of 64 frames from 0x1600 on, logs of 64 calls, and trees with `depth` levels below the root
 abbrev pub small : ℕ → Layout
 small depth = record {
   memory = record {
@@ -35,7 +35,7 @@ small depth = record {
 abbrev pub ok : Reply
 ok = Done Nothing
 
--- a range of so many pages
+-- a range of `count` pages
 abbrev pub range : ℕ → ℕ → PageRange
 range first count = record { first = record { 0 = first }; count = count }
 

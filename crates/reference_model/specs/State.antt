@@ -102,6 +102,6 @@ no_cpu = record { loaded = None; hand = None; ticket = None }
 abbrev pub blank : Contents
 blank = record { vms = no_vms; shared = no_shared; guest = λ v. no_guest; cpu = λ c. no_cpu }
 
--- each log can store so many calls
+-- each log can store n calls
 abbrev pub all_rooms : ℕ → Rooms
 all_rooms n = record { vms = n; shared = n; guest = λ v. n; cpu = λ c. n }

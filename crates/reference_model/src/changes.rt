@@ -46,7 +46,7 @@ pub enum GuestChange {
 pub enum SlotChange {
     /// Nothing.
     Keep,
-    /// The slot becomes Reserved for a VM of the kind with so many vCPUs.
+    /// The slot becomes Reserved for a VM of the kind with `vcpus` vCPUs.
     Reserve { slot: u64, kind: VmKind, vcpus: u64 },
     /// The slot becomes Open.
     Open { slot: u64 },

@@ -66,7 +66,7 @@ pub fn change_laws()
     ensures touched { TouchedWhole }
 {}
 
-/// Each stored call lowers just the rooms of its used logs by one, so a log's room is told by its calls.
+/// Each stored call lowers just the rooms of its used logs by one, so a log's room follows from its calls.
 pub fn rooms()
     ensures falls { StoredFalls }
     ensures told { RunRooms }
@@ -146,7 +146,7 @@ pub fn accepted_usable()
     ensures made { AcceptedMade }
 {}
 
-/// The rows that a made step finds again are told by its changes.
+/// The rows that a made step finds again follow from its changes.
 pub fn rows_told()
     ensures { RowsTold }
 {}
@@ -173,7 +173,7 @@ pub fn row_laws()
     ensures once { RowOnce }
 {}
 
-/// A state determines the condition of each frame, and a made step moves it as its changes tell.
+/// A state determines the condition of each frame, and a made step moves it as its changes say.
 pub fn conditions()
     ensures once { ConditionOnce }
     ensures moved { ConditionsMove }
@@ -184,7 +184,7 @@ pub fn pools_in_order()
     ensures { RunInOrder }
 {}
 
-/// What a step may rely on where what it uses stands in a state that a run leaves.
+/// What a step may rely on where what it uses belongs to a state that a run can reach.
 pub fn relies()
     ensures relies { ReachedRelies }
     ensures answers { RelyingAnswers }

@@ -147,7 +147,7 @@ pub fn part_rows()
     ensures numbers_only { NumbersOnly }
 {}
 
-/// The owner rows that steps tell, keep and find.
+/// The owner rows that steps answer, keep and find.
 pub fn owner_rows()
     ensures share_rows { ShareRows }
     ensures donate_rows { DonateRows }

@@ -1,4 +1,4 @@
-//! Steps, replies and calls: what a CPU asks, what it is answered, and what logs store of both.
+//! Steps, replies and calls: what a CPU asks for, what it is answered, and what logs store of both.
 #![tactic(auto)]
 
 mod reply;

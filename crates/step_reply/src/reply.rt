@@ -20,7 +20,7 @@ pub enum Value {
 /// Why a call was refused. In brackets the number of the reply (profile).
 #[derive(Clone, Copy, PartialEq)]
 pub enum Refusal {
-    /// (-1) The pages or frames aren't in the state that the call asks.
+    /// (-1) The pages or frames aren't in the state that the call requires.
     Perm,
     /// (-2) There is no such VM, or the CPU hasn't the vCPU or ticket.
     NoVm,
@@ -28,7 +28,7 @@ pub enum Refusal {
     Contended,
     /// (-12) A growth was refused.
     NoMemory,
-    /// (-16) What the call asks for is in use.
+    /// (-16) What the call needs is in use.
     Busy,
     /// (-22) An argument is out of its range.
     Invalid,

@@ -68,7 +68,7 @@ pub enum Step {
     GuestTranslate { vm: VmId, gfn: u64 },
     /// The guest of the CPU's Closing ticket becomes Dying.
     MarkDying,
-    /// The lowest Empty slot is reserved for a VM with so many vCPUs, 1 to 8.
+    /// The lowest Empty slot is reserved for a VM with `vcpus` vCPUs, 1 to 8.
     VmReserve { kind: VmKind, vcpus: u64 },
     /// The VM of the CPU's Installed ticket opens.
     VmOpen,

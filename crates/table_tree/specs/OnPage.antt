@@ -6,7 +6,7 @@ use Rattle.table_tree.specs.declared.tree.Tree.{Tree}
 use Rattle.table_tree.specs.Meaning.{index_at}
 use Rattle.table_tree.specs.View.{word_of}
 
--- the indices of a page in so many tables, of which the first has `below` levels below it (Arm DDI 0487, D8.2)
+-- the indices of a page in a number of tables, of which the first has `below` levels below it (Arm DDI 0487, D8.2)
 abbrev pub path_of : ℕ → ℕ → ℕ → List ℕ
 path_of page below zero = []
 path_of page below (suc more) = index_at below page ∷ path_of page (below - 1) more

@@ -111,7 +111,7 @@ pub(crate) fn frames_in<A: Allocator>(
 }
 
 /// Whether nothing is mapped on the block of a depth that holds a page, by one look at each table on the way: a table that
-/// stands at the block isn't empty.
+/// is at the block isn't empty.
 pub(crate) fn is_empty_in<A: Allocator>(table: &Table<A>, top: u32, depth: u32, page: u64) -> bool
     requires depth_in { IsDepth top }
     requires within { depth ≤ top }

@@ -23,7 +23,7 @@ fn poke_slot<A: Allocator>(table: &mut Table<A>, i: usize, word: u64)
     table.write(i, Slot::Word(word));
 }
 
-/// Sets the word at a path that has one. The word that stands there keeps the slot's child; any other takes the child out.
+/// Sets the word at a path that has one. The word that is there keeps the slot's child; any other takes the child out.
 pub(crate) fn poke_in<A: Allocator>(table: &mut Table<A>, depth: u32, path: &[u16], word: u64)
     requires depth_in { IsDepth depth }
     requires raw { IsRaw depth table.old }

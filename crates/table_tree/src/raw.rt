@@ -44,7 +44,7 @@ impl<A: Allocator> RawTree<A> {
         look_in(&self.table, depth, page.0)
     }
 
-    /// The word at a path of indices, the root's first; None where no table stands on the path, or an index is
+    /// The word at a path of indices, the root's first; None where there is no table on the path, or an index is
     /// over 511.
     pub fn word_at(&self, path: &[u16]) -> Option<u64>
         ensures { result ≡ raw_word_of self.now path.now }
@@ -52,7 +52,7 @@ impl<A: Allocator> RawTree<A> {
         word_in(&self.table, depth_of(self.geometry), path)
     }
 
-    /// Sets the word at a path. Where that word stands there all stays, a child too; any other word takes the child out.
+    /// Sets the word at a path. Where that word is there already all stays, a child too; any other word takes the child out.
     pub fn poke(self, path: &[u16], word: u64) -> Result<RawTree<A>, (RawTree<A>, PathFault)>
         ensures fault { IsOk result ↔ IsSome (raw_word_of self path.now) }
         ensures kept { IfErr result (λ e. e.0 ≡ self) }
@@ -101,7 +101,7 @@ impl<A: Allocator> Tree<A> {
         RawTree { geometry, table }
     }
 
-    /// Sets the word at a path. Where that word stands there all stays, a child too; any other word takes the child out.
+    /// Sets the word at a path. Where that word is there already all stays, a child too; any other word takes the child out.
     pub fn poke(self, path: &[u16], word: u64) -> Result<RawTree<A>, (Tree<A>, PathFault)>
         ensures fault { IsOk result ↔ HasWord self.geometry (tree_of self) path.now }
         ensures none { IsOk result ↔ IsSome (word_at_path self path.now) }

@@ -62,7 +62,7 @@ impl<A: Allocator> Stock<A> {
         turned
     }
 
-    /// The end of a stock. It asks that no table is left.
+    /// The end of a stock. Requires that no table is left.
     pub fn close(self)
         requires { frames_of self ≡ [] }
     {

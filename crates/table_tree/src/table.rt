@@ -63,14 +63,14 @@ impl<A: Allocator> Table<A> {
         Ok(Table { frame, slots })
     }
 
-    /// The frame that the table stands in.
+    /// The frame that the table is in.
     pub fn frame(&self) -> Frame
         ensures { result.0 ≡ frame_of self.now }
     {
         self.frame
     }
 
-    /// Gives the table a frame to stand in.
+    /// Gives the table a frame to be in.
     pub(crate) fn stand_in(&mut self, place: Frame)
         ensures frame { frame_of self.new ≡ place.0 }
         ensures slots { slots_of self.new ≡ slots_of self.old }

@@ -63,7 +63,7 @@ impl<A: Allocator> Tree<A> {
         })
     }
 
-    /// The frame of the root's table, which stands at the block of all input pages.
+    /// The frame of the root's table, which is at the block of all input pages.
     pub fn root(&self) -> Frame
         ensures value { result.0 ≡ root_of self.now }
         ensures standing { (tree_of self.now).table (levels_below self.now.geometry + 1, 0) ≡ Some result.0 }
@@ -88,7 +88,7 @@ impl<A: Allocator> Tree<A> {
         look_in(&self.table, depth, page.0)
     }
 
-    /// The word at a path of indices, the root's first; None where no table stands on the path, or an index is
+    /// The word at a path of indices, the root's first; None where there is no table on the path, or an index is
     /// over 511.
     pub fn word_at(&self, path: &[u16]) -> Option<u64>
         ensures value { result ≡ word_at_path self.now path.now }
@@ -100,7 +100,7 @@ impl<A: Allocator> Tree<A> {
     }
 
     /// The word on a page's path at a level. None where the page isn't an input page, the level isn't one of the tree's, or no
-    /// table stands there. It is the word of the level's block that holds the page.
+    /// table is there. It is the word of the level's block that holds the page.
     #[tactic(auto, unfolding(crate::specs::OnPage::word_on))]
     pub fn word_on(&self, page: Page, level: u64) -> Option<u64>
         ensures value { result ≡ word_on_page self.now page.0 level }
@@ -158,7 +158,7 @@ impl<A: Allocator> Tree<A> {
         spares.keep(table);
     }
 
-    /// The frames of all tables of a tree that goes: those that stand at its blocks, in their order, the root's first.
+    /// The frames of all tables of a tree that goes: those at its blocks, in their order, the root's first.
     pub fn dismantle(self, alloc: Global) -> Result<Vec<Frame>, (Tree<A>, AllocError)>
         ensures frames { IfOk result (λ v. map (λ f. f.0) v.items ≡ table_frames self.geometry (tree_of self)) }
         ensures root { IfOk result (λ v. slice_get (map (λ f. f.0) v.items) 0 ≡ Some (root_of self)) }

@@ -22,7 +22,7 @@ pub trait Source {
     /// How many reads have failed.
     ghost failures: { Self → ℕ };
 
-    /// Reads bytes into the front of a chunk, and tells how many: none only at the end, or where the chunk has no room.
+    /// Reads bytes into the front of a chunk, and answers how many: none only at the end, or where the chunk has no room.
     fn read(&mut self, chunk: &mut [u8]) -> Result<usize, Failed>
         requires few { failures self.old < 2 ^ 63 }
         ensures bound { ReadsAtMost result chunk.new }

@@ -38,7 +38,7 @@ pub fn decimal(word: &[u8]) -> Option<u64>
     value_of(10, word)
 }
 
-/// Whether a word is decimal digits, of which the first isn't 0 unless it stands alone.
+/// Whether a word is decimal digits, of which the first isn't 0 unless it is the only one.
 fn is_decimal(word: &[u8]) -> bool
     ensures { result ≡ is_decimal_word word.now }
 {
@@ -94,7 +94,7 @@ fn digit(byte: u8) -> u64
     }
 }
 
-/// A value with one more digit behind it. None where it isn't below 2^64.
+/// A value with one more digit at its end. None where it isn't below 2^64.
 fn with_digit(base: u64, value: u64, byte: u8) -> Option<u64>
     ensures { result ≡ in_64_bits (value * base + digit_of byte) }
 {

@@ -6,7 +6,7 @@ ghost use Rattle.trace_words.specs.Words.{has_empty_word, has_stray_byte as has_
 use arrayvec::ArrayVec;
 use std::marker::Model;
 
-/// How many words of a line are kept. Those behind them are looked up in the line.
+/// How many words of a line are kept. Later ones are looked up in the line.
 const MOST_KEPT: usize = 8;
 
 /// A line as words, which are separated by one space each.

@@ -1,4 +1,4 @@
-//! The VM table: how each of the 64 VM slots stands, and which CPU has each vCPU loaded.
+//! The VM table: the state of each of the 64 VM slots, and which CPU has each vCPU loaded.
 #![tactic(auto)]
 
 ghost use Rattle.std.specs.Prelude.{◌≡◌, ℕ, ◌+◌, ◌<◌, ◌≤◌, ◌^◌, IfOk, IfSome, Some, is_some};
@@ -14,7 +14,7 @@ use std::alloc::{AllocError, Global};
 use std::marker::Model;
 use step_reply::{VmId, VmKind};
 
-/// How a slot stands.
+/// The state of a slot.
 #[derive(Clone, Copy, PartialEq)]
 pub enum SlotState {
     /// No VM has it.
@@ -30,7 +30,7 @@ pub enum SlotState {
 /// A slot of the VM part.
 #[derive(Clone, Copy)]
 pub struct Slot {
-    /// How it stands.
+    /// Its state.
     pub state: SlotState,
     /// Its generation, 1 at boot, one more each time it is released.
     pub generation: u64,
@@ -101,7 +101,7 @@ impl VmTable {
         self.slots[slot as usize]
     }
 
-    /// Past the 64 slots nothing but Empty ones is told. It does nothing, and its contract is the law.
+    /// Past the 64 slots there are Empty ones alone. It does nothing, and its contract is the law.
     pub fn empty_past(&self)
         ensures { (v : ℕ) → 64 ≤ v → (vms_of self.now).slot v ≡ no_slot 1 }
     {
@@ -167,7 +167,7 @@ impl VmTable {
         None
     }
 
-    /// The slot becomes Reserved for a VM of the kind with so many vCPUs.
+    /// The slot becomes Reserved for a VM of the kind with `vcpus` vCPUs.
     pub fn reserve(&mut self, slot: u64, kind: VmKind, vcpus: u64)
         requires { slot < 64 }
         ensures { vms_of self.new ≡ vms_by (Reserve slot kind vcpus) (vms_of self.old) }
@@ -232,7 +232,7 @@ impl VmTable {
         );
     }
 
-    /// The VM's slot becomes Vacant, with the generation after the VM's. It asks for one below the greatest u64.
+    /// The VM's slot becomes Vacant, with the generation after the VM's. Requires one below the greatest u64.
     pub fn finish(&mut self, vm: VmId)
         requires slot { vm.slot < 64 }
         requires generation { vm.generation + 1 < 2 ^ 64 }
@@ -241,7 +241,7 @@ impl VmTable {
         self.put_slot(vm.slot, Slot::empty(vm.generation + 1));
     }
 
-    /// Changes a slot as told, or none. It asks for a slot of the table, for one of its vCPUs, and for a generation below the
+    /// Changes a slot, or none. Requires a slot of the table, one of its vCPUs, and a generation below the
     /// greatest u64 where it rises.
     pub fn change(&mut self, change: &SlotChange)
         requires { FitsTable change.now }

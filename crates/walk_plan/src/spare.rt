@@ -105,7 +105,7 @@ fn in_frames<A: Allocator>(tree: &mut Tree<A>, pool: &mut Pool, count: usize) ->
     stock.turned()
 }
 
-/// Gives the frames of a stock's tables to a pool, and keeps the tables as spares. It asks that all frames are distinct and
+/// Gives the frames of a stock's tables to a pool, and keeps the tables as spares. Requires that all frames are distinct and
 /// that the room covers them.
 pub fn drain<A: Allocator>(stock: Stock<A>, tree: &mut Tree<A>, pool: &mut Pool)
     requires distinct { (f : ℕ) → frame_count f (frames_of stock) + frame_count f pool.old.frames ≤ 1 }
@@ -127,7 +127,7 @@ pub fn drain<A: Allocator>(stock: Stock<A>, tree: &mut Tree<A>, pool: &mut Pool)
     stock.close();
 }
 
-/// Gives all that is in hand back: the frames to the pool, and the tables to the tree's spares. It asks that all frames are
+/// Gives all that is in hand back: the frames to the pool, and the tables to the tree's spares. Requires that all frames are
 /// distinct and that the room covers them.
 pub fn release<A: Allocator>(spare: Spare<A>, tree: &mut Tree<A>, pool: &mut Pool)
     requires distinct { (f : ℕ) → frame_count f (frames_of spare.stock) + frame_count f pool.old.frames ≤ 1 }

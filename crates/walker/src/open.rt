@@ -47,7 +47,7 @@ fn word_after(depth: u32, word: u64, change: Change) -> Option<u64>
 pub(crate) enum Found {
     /// A word that goes on as a word: the one that the slot gets.
     Word(u64),
-    /// A table to go on in: what the slot's word gives the first page of its block, or None where a child stands.
+    /// A table to go on in: what the slot's word gives the first page of its block, or None where there is a child.
     Opening(Option<Entry>),
 }
 

@@ -45,12 +45,12 @@ IsNoBoot config_fault m c = IsAcceptedConfig c → ⊥
 IsNoBoot CarveSmall m c = (g : Geometry) × IsConfig c g × (IsCarveEnough (layout_for m c g) → ⊥)
 IsNoBoot NoMemory m c = (g : Geometry) × IsConfig c g × IsCarveEnough (layout_for m c g)
 
--- a CPU that does nothing, with an empty log of so many calls
+-- a CPU that does nothing, with an empty log of `calls` calls
 pub record IsIdle (calls : ℕ) (k : CpuState) : Type 0 where
   pub idle : cpu_of k ≡ no_cpu
   pub log : IsNewLog calls k.log
 
--- a Guest part whose guest is Empty, in trees of the geometry, with an empty log of so many calls
+-- a Guest part whose guest is Empty, in trees of the geometry, with an empty log of `calls` calls
 pub record IsVacant {A : Type 0} (g : Geometry) (calls : ℕ) (p : GuestPart A) : Type 0 where
   pub empty : guest_held p ≡ no_guest
   pub depth : guest_depth p.guest ≡ levels_below g

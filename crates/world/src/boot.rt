@@ -50,7 +50,7 @@ const SLOTS: u64 = 64;
 /// The hypervisor's owner number (profile).
 const HYPERVISOR: Owner = Owner(1);
 
-/// Why a world doesn't boot. The first that is true is told.
+/// Why a world doesn't boot. The first that is true is answered.
 #[derive(Clone, Copy, PartialEq, Debug, Error)]
 pub enum BootFault {
     /// (1)
@@ -155,7 +155,7 @@ fn pool_row() -> Row
     }
 }
 
-/// Whether so many frames are one for each root, and one for each table below them.
+/// Whether `frames` are enough: one for each root, and one for each table below them.
 fn is_enough(frames: u64, host_need: usize, hyp_need: usize) -> bool
     ensures { IsTrue result ↔ (2 + host_need + hyp_need ≤ frames) }
 {

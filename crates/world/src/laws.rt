@@ -5,13 +5,13 @@ ghost use Rattle.world.specs.Laws.{StepsAgree, StepsIsolate, StepsKeepOut, Steps
 
 use std::alloc::Allocator;
 
-/// After any list of steps of any CPUs the world stands for the end of a run of the reference step, with the replies
+/// After any list of steps of any CPUs the world is at the end of a run of the reference step, with the replies
 /// that were given.
 pub fn steps_run<A: Allocator>()
     ensures { StepsRun A }
 {}
 
-/// After any list of steps of any CPUs the state that the world stands for is sound: each memory frame has one owner,
+/// After any list of steps of any CPUs the state that the world represents is sound: each memory frame has one owner,
 /// each frame at most one borrower, and what is in use is held once. Its owner rows are those from scratch.
 pub fn steps_sound<A: Allocator>()
     ensures sound { StepsSound A }

@@ -30,7 +30,7 @@ use std::alloc::{AllocError, Allocator, Global};
 use step_reply::{Reply, Step};
 use table_tree::{PathFault, Reads};
 
-/// A booted world, which stands at the end of one legal history. `A` is where the tables of all trees lie.
+/// A booted world, at the end of one legal history. `A` is where the tables of all trees lie.
 #[derive(Drop)]
 pub struct World<A: Allocator> {
     alloc: A,
@@ -137,7 +137,7 @@ impl<A: Allocator> World<A> {
         self.parts.layout.config.cpus
     }
 
-    /// All parts, which stand at the end of one legal history.
+    /// All parts, at the end of one legal history.
     pub fn split(self) -> Parts<A>
         ensures parts { result ≡ self.parts }
         ensures history { ∥ HasHistory result ∥₁ }
@@ -146,7 +146,7 @@ impl<A: Allocator> World<A> {
         parts
     }
 
-    /// A world of parts, which keeps its trees' tables in `alloc`. It asks for parts that stand at the end of one legal
+    /// A world of parts, which keeps its trees' tables in `alloc`. Requires parts at the end of one legal
     /// history.
     pub fn join(alloc: A, parts: Parts<A>) -> World<A>
         requires history { ∥ HasHistory parts ∥₁ }
@@ -156,7 +156,7 @@ impl<A: Allocator> World<A> {
     }
 
     /// What the world keeps, as the reference state on lists: the maplets' runs, the owner table's, and the tables, pools,
-    /// slots, CPUs and rooms as they stand. By the headline it is what walking every word from scratch finds.
+    /// slots, CPUs and rooms as they are. By the headline it is what walking every word from scratch finds.
     pub fn to_ghost(&self, global: Global) -> Result<Ghost, AllocError>
         ensures state { IfOk result (λ g. ghost_state g ≡ state_of self.now.parts) }
         ensures layout { IfOk result (λ g. layout_of g.layout ≡ parts_layout self.now.parts) }
@@ -169,7 +169,7 @@ impl<A: Allocator> World<A> {
         kept(global, &self.parts)
     }
 
-    /// What walking every word of the world's tables from scratch finds, with what stands in no table as it stands.
+    /// What walking every word of the world's tables from scratch finds, with what is in no table as it is.
     pub fn recompute(&self, global: Global) -> Result<Ghost, AllocError>
         ensures state { IfOk result (λ g. ghost_state g ≡ walked_state (parts_layout self.now.parts) (state_of self.now.parts)) }
         ensures layout { IfOk result (λ g. layout_of g.layout ≡ parts_layout self.now.parts) }
@@ -260,8 +260,8 @@ impl<A: Allocator> World<A> {
     }
 
     /// Sets the word at a path of a tree, and leaves all else: the world is one of any words then, and makes no step any more.
-    /// PathFault is told where there is no such word, of an Empty guest too, and then the world is as it was. A poke of the
-    /// word that stands there keeps the table behind it; any other takes it out. `places` is where guests are kept that are
+    /// PathFault is answered where there is no such word, of an Empty guest too, and then the world is as it was. A poke of the
+    /// word that is there keeps the table under it; any other takes it out. `places` is where guests are kept that are
     /// poked, and a poke takes no memory.
     pub fn poke(
         self,

@@ -1,4 +1,4 @@
-//! Logs of a world become one list of calls: the call that stands next in all its logs, again and again.
+//! Logs of a world become one list of calls: the call that is next in all its logs, again and again.
 ghost use Rattle.std.specs.Prelude.{◌≡◌, ◌<◌, ◌↔◌, ◌==◌, ℕ, true, IsTrue, IfErr, IfNone, IfOk, IfSome, List, Some, [], drop, length, slice_index, if◌then◌else◌};
 ghost use Rattle.step_reply.specs.declared.reply.Call.{Call};
 ghost use Rattle.reference_model.specs.Parts.{call_uses, is_slot, Part};
@@ -82,7 +82,7 @@ fn all_starts(global: Global, histories: &Histories) -> Result<Places, AllocErro
     })
 }
 
-/// Whether a call stands next in a log.
+/// Whether a call is next in a log.
 fn is_next_in(log: &[Call], place: usize, call: &Call) -> bool
     ensures { IsTrue result ↔ (first_of (drop place log.now) ≡ Some call.now) }
 {
@@ -92,14 +92,14 @@ fn is_next_in(log: &[Call], place: usize, call: &Call) -> bool
     }
 }
 
-/// Whether a call stands next in a log, where it is one of the log's.
+/// Whether a call is next in a log, where it is one of the log's.
 fn is_next_where(used: bool, log: &[Call], place: usize, call: &Call) -> bool
     ensures { IsTrue result ↔ (used ≡ true → first_of (drop place log.now) ≡ Some call.now) }
 {
     !used || is_next_in(log, place, call)
 }
 
-/// Whether a call stands next in the log of a number, in a list of logs.
+/// Whether a call is next in the log of a number, in a list of logs.
 fn is_next_at(logs: &[Vec<Call>], places: &[usize], i: u64, call: &Call) -> bool
     requires { length places.now ≡ length logs.now }
     ensures { IsTrue result ↔ (first_of (drop (slice_index places.now i) (log_at logs.now i)) ≡ Some call.now) }
@@ -112,7 +112,7 @@ fn is_next_at(logs: &[Vec<Call>], places: &[usize], i: u64, call: &Call) -> bool
     }
 }
 
-/// Whether a call stands next in the log of the guest that it uses, if any.
+/// Whether a call is next in the log of the guest that it uses, if any.
 fn is_next_on_guest(histories: &Histories, places: &Places, call: &Call) -> bool
     requires { IsPlaced histories.now places.now }
     ensures { IsTrue result ↔ ((v : ℕ) → is_slot call.now.slot v ≡ true → first_of (drop (slice_index places.now.guests.items v) (log_at histories.now.guests.items v)) ≡ Some call.now) }
@@ -128,7 +128,7 @@ fn is_next_on_guest(histories: &Histories, places: &Places, call: &Call) -> bool
     }
 }
 
-/// Whether a call stands next in the log of each part that it uses.
+/// Whether a call is next in the log of each part that it uses.
 fn is_next_on_parts(histories: &Histories, places: &Places, call: &Call) -> bool
     requires { IsPlaced histories.now places.now }
     ensures { IsTrue result ↔ ((p : Part) → call_uses p call.now ≡ true → first_of (left histories.now places.now (on p)) ≡ Some call.now) }
@@ -152,7 +152,7 @@ fn is_next_on_parts(histories: &Histories, places: &Places, call: &Call) -> bool
     is_next_on_guest(histories, places, call)
 }
 
-/// The next call of a CPU, where it stands next in all its logs.
+/// The next call of a CPU, where it is next in all its logs.
 fn next_by(histories: &Histories, places: &Places, cpu: usize) -> Option<Call>
     requires placed { IsPlaced histories.now places.now }
     requires inside { cpu < length histories.now.cpus.items }
@@ -172,7 +172,7 @@ fn next_by(histories: &Histories, places: &Places, cpu: usize) -> Option<Call>
     }
 }
 
-/// A call that stands next in all its logs. The CPUs are asked in order.
+/// A call that is next in all its logs. The CPUs are tried in order.
 fn find_next(histories: &Histories, places: &Places) -> Option<Call>
     requires { IsPlaced histories.now places.now }
     ensures next { IfSome result (IsNext (left histories.now places.now)) }
@@ -186,7 +186,7 @@ fn find_next(histories: &Histories, places: &Places) -> Option<Call>
     None
 }
 
-/// The place behind a log's next call, where that was given.
+/// The place after a log's next call, where that was given.
 fn place_after(given: bool, log: &[Call], place: usize) -> usize
     ensures { drop result log.now ≡ (if given then rest_of (drop place log.now) else drop place log.now) }
 {

@@ -1,4 +1,4 @@
-//! Where two states differ: the first difference that an audit tells.
+//! Where two states differ: the first difference that an audit finds.
 ghost use Rattle.std.specs.Prelude.{◌≡◌, ℕ, ◌+◌, ◌<◌, ◌≤◌, ◌^◌, [], Some, OnOk};
 ghost use Rattle.page_state.specs.Entries.{entry_of_target};
 ghost use Rattle.page_state.specs.Rows.{advance_row, HasPageBelow};

@@ -1,4 +1,4 @@
-//! A comparison that stands here once.
+//! A comparison that is written here once.
 use ghost_judge::disagreement::Disagreement;
 use std::process::Abort;
 

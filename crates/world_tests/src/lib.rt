@@ -1,4 +1,4 @@
-//! Tests of the oracle (`audit`, `judge`, `record`), of worlds, of machines, and of replays. They stand in a crate of their own,
+//! Tests of the oracle (`audit`, `judge`, `record`), of worlds, of machines, and of replays. They have a crate of their own,
 //! since tests are proved with all functions of their crate.
 #![tactic(auto)]
 

@@ -12,7 +12,7 @@ use std::process::Abort;
 use std::sync::Wait;
 use step_reply::{Refusal, Reply, Step, Value, VmId, VmKind};
 
-/// A machine with a carve-out of 64 frames, and so many CPUs and logs of so many calls. Its tables lie in the same heap as all
+/// A machine with a carve-out of 64 frames, `cpus` CPUs and logs of `log` calls. Its tables lie in the same heap as all
 /// else.
 fn new_machine(rt: &impl Abort, alloc: Global, cpus: u64, log: u64) -> Machine<Global> {
     let map = memory(alloc, 0x40).expect(rt, "a layout");

@@ -187,7 +187,7 @@ fn expect_free(rt: &impl Abort, told: &[u64]) {
     assert!(rt; told.len() == 10);
 }
 
-/// Compares the row of a frame, and that there is none behind the memory.
+/// Compares the row of a frame, and that there is none after the memory.
 fn expect_rows(rt: &impl Abort, told: &RunList<Row>) {
     let row = Row {
         owner: Owner(0),

@@ -9,7 +9,7 @@ use trace_text::{
     Counting, EngineFault, Oracle, Outcome, Verdict, replay, replay_buffered, replay_with,
 };
 
-/// Two texts, one behind the other.
+/// Two texts, one after the other.
 fn joined(alloc: Global, first: &[u8], second: &[u8]) -> Result<Vec<u8>, AllocError> {
     let mut text = Vec::from_slice(alloc, first)?;
     text.extend_from_slice(second)?;
@@ -20,7 +20,7 @@ fn joined(alloc: Global, first: &[u8], second: &[u8]) -> Result<Vec<u8>, AllocEr
 const BOOT: &[u8] =
     b"memory 0x40000 0x800\ndevice 0x9000 0x10\ncarve 0x40600 0x40\ncpus 2\nlog 64\nboot\n";
 
-/// A reader that gives so many bytes, and then fails.
+/// A reader that gives a number of bytes, and then fails.
 #[derive(Drop)]
 struct Cut {
     bytes: &'static [u8],

@@ -10,7 +10,7 @@ use page_state::{
 };
 use std::alloc::{AllocError, Global};
 
-/// A region of so many pages.
+/// A region of `count` pages.
 pub(crate) fn region(kind: RegionKind, first: u64, count: u64) -> Region
     ensures { result ≡ record { kind = kind; pages = record { first = record { 0 = first }; count = count } } }
 {
@@ -21,7 +21,7 @@ pub(crate) fn region(kind: RegionKind, first: u64, count: u64) -> Region
     Region { kind, pages }
 }
 
-/// 16 pages of a device from page 0x9000 on, and 2,048 of memory from 0x40000 on, with a carve-out of so many frames at
+/// 16 pages of a device from page 0x9000 on, and 2,048 of memory from 0x40000 on, with a carve-out of `frames` frames at
 /// 0x40600. Refused where the carve-out is empty or ends past the memory.
 pub(crate) fn memory(alloc: Global, frames: u64) -> Result<MemoryMap, LayoutFault>
     ensures regions { IfOk result (λ m. m.regions ≡ record { kind = RegionKind.Device; pages = record { first = record { 0 = 0x9000 }; count = 16 } } ∷ record { kind = RegionKind.Memory; pages = record { first = record { 0 = 0x40000 }; count = 0x800 } } ∷ []) }

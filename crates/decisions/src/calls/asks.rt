@@ -1,4 +1,4 @@
-//! Calls that tell an entry or an owner row, and change nothing.
+//! Calls that answer an entry or an owner row, and change nothing.
 ghost use Rattle.std.specs.Prelude.{◌≡◌, ℕ, None, IfOk};
 ghost use Rattle.guest_steps.specs.Lent.{SharedSuits};
 ghost use Rattle.guest_steps.specs.View.{shared_of};
@@ -53,7 +53,7 @@ pub(crate) fn decide_hyp_translate<A: Allocator>(
     })
 }
 
-/// The owner row of a memory frame. It asks for a Shared part of the layout.
+/// The owner row of a memory frame. Requires a Shared part of the layout.
 #[tactic(auto, unfolding(reference_model::specs::Rules::rule))]
 pub(crate) fn decide_owner_of<A: Allocator>(
     layout: &Layout,

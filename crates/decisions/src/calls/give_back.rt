@@ -26,7 +26,7 @@ fn is_plain(usage: Usage) -> bool
     matches!(usage, Usage::Plain)
 }
 
-/// Whether the hypervisor owns a frame that is in no other use. It asks for a frame that has an owner row.
+/// Whether the hypervisor owns a frame that is in no other use. Requires a frame that has an owner row.
 fn may_return<A: Allocator>(shared: &SharedPart<A>, frame: u64) -> bool
     requires low { frame < 2 ^ 26 }
     requires row { IsSome (row_at shared.now.rows frame) }
@@ -53,7 +53,7 @@ fn may_return_all<A: Allocator>(shared: &SharedPart<A>, pfn: u64, n: u64) -> boo
 }
 
 /// The hypervisor gives 1 to 512 memory frames back to the host: it must own each of them, and none may be in a pool, in a
-/// hand or a table. Afterwards neither maps them. It asks for a Shared part of the layout.
+/// hand or a table. Afterwards neither maps them. Requires a Shared part of the layout.
 #[tactic(auto, unfolding(reference_model::specs::Rules::rule))]
 pub(crate) fn decide_hyp_donate_host<A: Allocator>(
     layout: &Layout,

@@ -139,7 +139,7 @@ pub(crate) fn decide_topup<A: Allocator>(
     })
 }
 
-/// The host gets the least free frame of a Dying guest's pool back. It asks for a guest that a run leaves.
+/// The host gets the least free frame of a Dying guest's pool back. Requires a guest that some run can reach.
 #[tactic(auto, unfolding(reference_model::specs::Rules::rule))]
 pub(crate) fn decide_reclaim_pool<A: Allocator>(
     layout: &Layout,
@@ -178,7 +178,7 @@ fn holds_any<A: Allocator>(guest: &Guest<A>) -> bool
 }
 
 /// The host gets the root of the Dying guest of the CPU's ticket back, of which nothing else is left, and the guest is Empty.
-/// It asks for a guest that a run leaves.
+/// Requires a guest that some run can reach.
 #[tactic(auto, unfolding(reference_model::specs::Rules::rule))]
 pub(crate) fn decide_finish_guest<A: Allocator>(
     layout: &Layout,

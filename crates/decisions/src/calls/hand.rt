@@ -51,7 +51,7 @@ pub(crate) fn decide_fund<A: Allocator>(
     })
 }
 
-/// The frames of the CPU's hand go back to the host, and the hand is empty afterwards. It asks for a hand that a run leaves.
+/// The frames of the CPU's hand go back to the host, and the hand is empty afterwards. Requires a hand that some run can reach.
 #[tactic(auto, unfolding(reference_model::specs::Rules::rule))]
 pub(crate) fn decide_unfund<A: Allocator>(
     layout: &Layout,

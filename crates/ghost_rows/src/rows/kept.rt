@@ -1,4 +1,4 @@
-//! Kept rows, compared with what the lists tell: a run as a whole where it is annotated, or lent, or neither, from its first frame
+//! Kept rows, compared with what the lists say: a run as a whole where it is annotated, or lent, or neither, from its first frame
 //! to its last, and else piece by piece.
 ghost use Rattle.std.specs.Prelude.{◌≡◌, ◌↔◌, ◌≤◌, true, false, All, IsTrue, drop};
 ghost use Rattle.page_state.specs.Rows.{advance_row, HasPageBelow};
@@ -9,12 +9,12 @@ use super::pieces::{Lists, Stands, Steady, is_of_host};
 use page_state::{Lent, Owner, PageRange, Row};
 use run_list::{Advance, Run};
 
-/// Where the comparison stands at a frame.
+/// How far the comparison has come, at a frame.
 #[derive(Clone, Copy)]
 pub(crate) struct Near {
-    /// Where each list stands.
+    /// The place in each list.
     stands: Stands,
-    /// A frame: from the one at which the lists stand up to it, none is shared and none used.
+    /// A frame: from the one that the lists have come to up to this, none is shared and none used.
     quiet: u64,
 }
 
@@ -26,7 +26,7 @@ impl Near {
     };
 }
 
-/// Whether the lists tell of each frame of a run what the run has there. If they do, where they stand goes on to its end.
+/// Whether the lists say of each frame of a run what the run has there. If they do, they go on to its end.
 fn are_pieces_told(lists: &Lists, stands: &mut Stands, run: &Run<Row>) -> bool
     requires lists { AreReached lists.now }
     requires run { InReach HasPageBelow run.now }
@@ -78,7 +78,7 @@ fn lender_of(lent: Option<Lent>, sharer: Owner) -> Owner
     if is_of_host(lent) { sharer } else { Owner(0) }
 }
 
-/// Whether a row has this owner, this loan, and what is told to hold its frame.
+/// Whether a row has this owner, this loan, and this use.
 #[inline(always)]
 fn is_row(row: Row, owner: Owner, lent: Option<Lent>, steady: Steady) -> bool
     ensures { IsTrue result ↔ (row ≡ row_with owner.0 lent steady.usage) }
@@ -90,7 +90,7 @@ fn is_row(row: Row, owner: Owner, lent: Option<Lent>, steady: Steady) -> bool
     })
 }
 
-/// Whether a run has just the frames of the annotation at a place, and what is told of them.
+/// Whether a run has just the frames of the annotation at a place, and the row that follows.
 #[inline(always)]
 fn is_annotated_on(annotated: &[Run<Row>], place: usize, steady: Steady, run: &Run<Row>) -> bool
     ensures { IsTrue result ↔ IsAnnotatedOn run.now steady place annotated.now }
@@ -101,7 +101,7 @@ fn is_annotated_on(annotated: &[Run<Row>], place: usize, steady: Steady, run: &R
     is_row(run.value, annotated[place].value.owner, None, steady)
 }
 
-/// Whether a run has just the frames of the loan at a place, and what is told of them.
+/// Whether a run has just the frames of the loan at a place, and the row that follows.
 #[inline(always)]
 fn is_lent_on(lent: &[Run<Row>], place: usize, steady: Steady, run: &Run<Row>) -> bool
     ensures { IsTrue result ↔ IsLentOn run.now steady place lent.now }
@@ -113,8 +113,8 @@ fn is_lent_on(lent: &[Run<Row>], place: usize, steady: Steady, run: &Run<Row>) -
     is_row(run.value, lender_of(to, steady.sharer), to, steady)
 }
 
-/// Whether a run has what is told of its frames, where these are told as a whole: none of them is annotated or lent, or one run of
-/// either list has just these, and up to its end it is known who shares them and what holds them. If so, where the lists stand goes
+/// Whether a run has what the lists say of its frames as a whole: none of them is annotated or lent, or one run of
+/// either list has just these, and up to its end it is known who shares them and what holds them. If so, the lists go
 /// on to its end, and else it stays.
 #[inline(always)]
 fn is_told_whole(lists: &Lists, stands: &mut Stands, steady: Steady, run: &Run<Row>) -> bool
@@ -152,7 +152,7 @@ fn is_told_whole(lists: &Lists, stands: &mut Stands, steady: Steady, run: &Run<R
     true
 }
 
-/// Whether the lists tell of each frame of a run what the run has there. If they do, where they stand goes on to its end. Who shares
+/// Whether the lists say of each frame of a run what the run has there. If they do, they go on to its end. Who shares
 /// its frames and what holds them is looked up first.
 #[inline(never)]
 fn is_told_anew(lists: &Lists, near: &mut Near, run: &Run<Row>) -> bool
@@ -174,7 +174,7 @@ fn is_told_anew(lists: &Lists, near: &mut Near, run: &Run<Row>) -> bool
     true
 }
 
-/// The same. Most runs are told as a whole, and none of their frames is shared or used.
+/// The same. Most runs can be compared as a whole, and none of their frames is shared or used.
 #[inline(always)]
 fn is_told(lists: &Lists, near: &mut Near, run: &Run<Row>) -> bool
     requires lists { AreReached lists.now }
@@ -190,7 +190,7 @@ fn is_told(lists: &Lists, near: &mut Near, run: &Run<Row>) -> bool
     is_told_anew(lists, near, run)
 }
 
-/// Whether they tell of each frame of rows what these have there. Where each list stands goes on with the runs, so that no list
+/// Whether they say of each frame of rows what these have there. The place in each list goes on with the runs, so that no list
 /// is searched.
 pub(crate) fn are_told(lists: &Lists, rows: &[Run<Row>]) -> bool
     requires lists { AreReached lists.now }

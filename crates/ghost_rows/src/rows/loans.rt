@@ -39,8 +39,8 @@ fn annotation(target: Target) -> Option<Row>
     }
 }
 
-/// The pages of a run get its owner, where it is annotated. They stand behind those of all rows, which end at `high` or before it.
-/// The page behind them, or `high` where the run isn't annotated.
+/// The pages of a run get its owner, where it is annotated. They come after those of all rows, which end at `high` or before it.
+/// The page after them, or `high` where the run isn't annotated.
 #[inline(always)]
 fn annotate(rows: &mut Vec<RowRun<Row>>, high: u64, run: Run) -> Result<u64, AllocError>
     requires run { IsSmall run }
@@ -166,8 +166,8 @@ fn lend_back(
     Ok(())
 }
 
-/// The frames that a run maps in the state are lent to the component of a number, behind those of all rows, which stand before
-/// `high`. The frame behind them, or `high` where the run maps none; None where they begin before that.
+/// The frames that a run maps in the state are lent to the component of a number, after those of all rows, which end before
+/// `high`. The frame after them, or `high` where the run maps none; None where they begin before that.
 fn lend_next(
     layout: &Layout,
     rows: &mut Vec<RowRun<Row>>,

@@ -1,4 +1,4 @@
-//! Lists of rows that are written range by range: what is written last stands.
+//! Lists of rows that are written range by range: what is written last counts.
 ghost use Rattle.std.specs.Prelude.{◌≡◌, ℕ, ◌+◌, ◌<◌, ◌≤◌, ◌^◌, true, Some, None, OnOk};
 ghost use Rattle.std.specs.Option.{option_or, ForSome};
 ghost use Rattle.page_state.specs.Regions.{end_of};
@@ -10,7 +10,7 @@ use page_state::{PageRange, Row};
 use run_list::{Run, RunList, push_run};
 use std::alloc::AllocError;
 
-/// Whether each run begins at a frame or behind it.
+/// Whether each run begins at a frame or after it.
 fn begins_from(rows: &RunList<Row>, frame: u64) -> bool
     ensures { result ≡ true → (f : ℕ) → f < frame → run_map advance_row rows.now.runs f ≡ None }
 {
@@ -18,7 +18,7 @@ fn begins_from(rows: &RunList<Row>, frame: u64) -> bool
     runs.is_empty() || frame <= runs[0].pages.first.0
 }
 
-/// The frames of a range get a row, which advances along it, or none: in front of all rows there is nothing to take away.
+/// The frames of a range get a row, which advances along it, or none: before all rows there is nothing to take away.
 pub(crate) fn lay(
     rows: &mut RunList<Row>,
     frames: PageRange,
@@ -57,7 +57,7 @@ pub(crate) fn lay_all(rows: &mut RunList<Row>, over: RunList<Row>) -> Result<(),
     Ok(())
 }
 
-/// Frames behind those of all rows of a list get a row, which advances along them. No row is searched.
+/// Frames after those of all rows of a list get a row, which advances along them. No row is searched.
 #[inline(always)]
 pub(crate) fn put_last(
     rows: &mut Vec<Run<Row>>,
@@ -83,8 +83,8 @@ pub(crate) fn put_last(
     Ok(())
 }
 
-/// The same of frames that aren't none, behind rows that end at a frame or before it: no row is looked at where these frames begin
-/// behind that.
+/// The same for at least one frame, after rows that end at a frame or before it: no row is looked at where these frames begin
+/// after that.
 #[inline(always)]
 pub(crate) fn put_behind(
     rows: &mut Vec<Run<Row>>,

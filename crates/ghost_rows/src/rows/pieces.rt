@@ -8,7 +8,7 @@ ghost use Rattle.ghost_rows.specs.RowsTold.{lent_told, usage_told, number_told, 
 use page_state::{Lent, Owner, Row, Usage};
 use run_list::{Advance, Run, RunList};
 
-/// What is told of frames: each list has a row for those of which it tells something.
+/// What is known of frames: each list has a row for those that it speaks of.
 #[derive(Drop)]
 pub(crate) struct Lists {
     /// The owners of annotated pages.
@@ -21,14 +21,14 @@ pub(crate) struct Lists {
     pub(crate) used: RunList<Row>,
 }
 
-/// Where a list stands at a frame.
+/// The place in a list at a frame.
 #[derive(Clone, Copy)]
 pub(crate) struct Stand {
     /// How many of its runs end at the frame or before it.
     pub(crate) place: usize,
     /// Whether the run at the place has the frame.
     inside: bool,
-    /// A frame behind it: up to there the list goes on as it does at the frame.
+    /// A later frame: up to there the list goes on as it does at the frame.
     until: u64,
 }
 
@@ -41,7 +41,7 @@ impl Stand {
     };
 }
 
-/// Where each list stands at a frame.
+/// The place in each list at a frame.
 #[derive(Clone, Copy)]
 pub(crate) struct Stands {
     pub(crate) annotated: Stand,
@@ -63,7 +63,7 @@ impl Stands {
 /// Who shares frames and what holds them, from one frame on up to another.
 #[derive(Clone, Copy)]
 pub(crate) struct Steady {
-    /// A frame behind the first: up to there it is so.
+    /// A later frame: up to there it is so.
     pub(crate) until: u64,
     /// The guest that shares each of them, or the host where none does.
     pub(crate) sharer: Owner,
@@ -190,7 +190,7 @@ fn place_from(runs: &[Run<Row>], near: usize, frame: u64) -> usize
     place
 }
 
-/// Where a list stands at a frame, whose place is given.
+/// The place in a list at a frame, given where to look.
 #[inline(always)]
 fn stand_at(runs: &[Run<Row>], place: usize, frame: u64) -> Stand
     requires low { frame ≤ 2 ^ 63 }
@@ -220,7 +220,7 @@ fn stand_at(runs: &[Run<Row>], place: usize, frame: u64) -> Stand
     }
 }
 
-/// Where a list stands goes on to a frame: no run is looked at, and nothing written, while it goes on as it stands.
+/// The place in a list goes on to a frame: no run is looked at, and nothing written, before the next run begins or ends.
 #[inline(always)]
 fn go_to(runs: &[Run<Row>], stand: &mut Stand, frame: u64)
     requires low { frame ≤ 2 ^ 63 }
@@ -255,7 +255,7 @@ fn look(runs: &[Run<Row>], stand: &mut Stand, low: u64, high: u64) -> u64
     high.min(stand.until)
 }
 
-/// The row that a list has for a frame, at which it stands so.
+/// The row that a list has for a frame, by its place there.
 #[inline(always)]
 fn row_at(runs: &[Run<Row>], here: &Stand, frame: u64) -> Option<Row>
     requires coarsest { IsCoarsest advance_row runs.now }
@@ -273,15 +273,15 @@ fn row_at(runs: &[Run<Row>], here: &Stand, frame: u64) -> Option<Row>
 impl Lists {
     ghost use Rattle.ghost_rows.specs.RowsTold.{told, AreReached, AreStanding, AreCarried, IsSteady};
 
-    /// Twice the runs of the annotations and of the loans: about so many pieces there are where frames are in few uses, one for
-    /// each run and one for what stands before it.
+    /// Twice the runs of the annotations and of the loans: about the number of pieces where frames are in few uses, one for
+    /// each run and one for what comes before it.
     pub(crate) fn count(&self) -> usize {
         let annotated = self.annotated.runs().len();
         let runs = annotated.saturating_add(self.lent.runs().len());
         runs.saturating_add(runs)
     }
 
-    /// The row of a frame, at which the lists stand so.
+    /// The row of a frame, by the places of the lists there.
     #[inline(always)]
     pub(crate) fn row(&self, here: &Stands, frame: u64) -> Row
         requires { AreStanding frame here.now self.now }
@@ -298,7 +298,7 @@ impl Lists {
         }
     }
 
-    /// Where the lists stand goes on to a frame; the frame before which all go on so, no later than another.
+    /// The lists go on to a frame; the frame before which all go on so, no later than another.
     #[inline(always)]
     pub(crate) fn look(&self, stands: &mut Stands, low: u64, high: u64) -> u64
         requires low { low < 2 ^ 63 }
@@ -317,7 +317,7 @@ impl Lists {
         look(self.used.runs(), &mut stands.used, low, high)
     }
 
-    /// Who shares frames and what holds them, from one on. Where the lists of these stand goes on to it.
+    /// Who shares frames and what holds them, from one on. The lists of these go on to it.
     pub(crate) fn steady(&self, stands: &mut Stands, frame: u64) -> Steady
         requires low { frame ≤ 2 ^ 63 }
         requires reach { AreReached self.now }
@@ -337,7 +337,7 @@ impl Lists {
         }
     }
 
-    /// Where the lists of annotations and loans stand goes on to a frame.
+    /// The lists of annotations and loans go on to a frame.
     pub(crate) fn go_on(&self, stands: &mut Stands, frame: u64)
         requires low { frame ≤ 2 ^ 63 }
         requires reach { AreReached self.now }

@@ -46,7 +46,7 @@ fn use_range(rows: &mut RunList<Row>, frames: PageRange, usage: Usage) -> Result
     Ok(())
 }
 
-/// Whether a frame comes right behind another.
+/// Whether a frame comes right after another.
 fn follows(frame: u64, next: u64) -> bool
     ensures { Decides result (next ≡ frame + 1) }
 {

@@ -4,7 +4,7 @@ use Rattle.table_tree.specs.declared.table.Table.{Table}
 use Rattle.table_tree.specs.Meaning.{index_at, frame_of, entry_at, word_at, word_entry}
 use Rattle.table_tree.specs.Raw.{IsRaw, IsPoked}
 
--- the page is under the path, from a table with so many levels below it on
+-- the page is under the path, from a table with `depth` levels below it on
 unfoldable pub Leads : ℕ → ℕ → List ℕ → Type 0
 Leads depth page [] = Unit {0}
 Leads depth page (i ∷ rest) = (index_at depth page ≡ i) × Leads (depth - 1) page rest

@@ -19,7 +19,7 @@ fn call(cpu: u64, number: u64, step: Step, slot: Option<u64>) -> Call {
     }
 }
 
-/// What a merged list tells of a call.
+/// What a merged list has of a call.
 fn told(call: Call) -> (u64, Step, Reply) {
     (call.cpu, call.step, call.reply)
 }

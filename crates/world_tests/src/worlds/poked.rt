@@ -1,4 +1,4 @@
-//! A world that makes steps, is told, walked and compared, and then some of whose words are poked.
+//! A world that makes steps, is kept as lists, walked and compared, and then some of its words are poked.
 ghost use Rattle.std.specs.Prelude.{◌≡◌, ◌<◌, None, replicate};
 
 use super::booted;
