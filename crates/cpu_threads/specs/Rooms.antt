@@ -88,7 +88,7 @@ pub record Grew (f : (Call → Bool) → ℕ) (before after : Tally) : Type 0 wh
 abbrev pub HasOneMore : Option ℕ → List ℕ → List ℕ → Type 0
 HasOneMore place xs ys = (length ys ≡ length xs) × ((j : ℕ) → j < length xs → get_or ys j 0 ≡ get_or xs j 0 + one_if (is_slot place j))
 
--- an empty list for each number, with room for so many calls
+-- an empty list for each number, with room for that many calls
 abbrev pub AllRoomy : {Z : Type 0} → List ℕ → List (Vec Call Z) → Type 0
 AllRoomy {Z = Z} counts rooms = (length rooms ≡ length counts) × ((j : ℕ) (v : Vec Call Z) → slice_get rooms j ≡ Some v → (v.items ≡ []) × (get_or counts j 0 ≤ vec_capacity v))
 

@@ -25,7 +25,7 @@ pub enum InitStage {
     Open,
 }
 
-/// The VM that a value tells.
+/// The VM of a value.
 fn vm_in(value: Value) -> VmId
     requires vm { (vm : VmIdOf) × (value ≡ Vm vm) }
     ensures { value ≡ Vm result }
@@ -40,7 +40,7 @@ fn vm_in(value: Value) -> VmId
 }
 
 impl<A: Allocator + Copy> Machine<A> {
-    /// Makes a step, and tells its value or its refusal.
+    /// Makes a step, and answers its value or its refusal.
     fn make<R: Wait>(&self, rt: &R, pass: &mut CpuPass<A>, step: Step) -> Result<Value, Refusal>
         requires pass { IsPassOf self.now.table pass.old }
         ensures pass { IsPassOf self.now.table pass.new }
@@ -54,8 +54,8 @@ impl<A: Allocator + Copy> Machine<A> {
         }
     }
 
-    /// Makes a VM of the kind with so many vCPUs, and funds it with `n` frames from `pfn` on: reserves a slot, funds the
-    /// CPU's hand, installs and opens, each as `call` does, up to the first refusal, which it tells with its stage. What
+    /// Makes a VM of the kind with `vcpus` vCPUs, and funds it with `n` frames from `pfn` on: reserves a slot, funds the
+    /// CPU's hand, installs and opens, each as `call` does, up to the first refusal, which it answers with its stage. What
     /// was booked or funded then stays with the CPU. It may wait.
     pub fn init_vm<R: Wait>(
         &self,

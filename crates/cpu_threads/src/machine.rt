@@ -52,7 +52,7 @@ impl<A: Allocator> Machine<A> {
 }
 
 impl<A: Allocator + Copy> Machine<A> {
-    /// One try of a step, which waits for nobody. Contended tells that another pass has a part that the step uses.
+    /// One try of a step, which waits for nobody. Contended means that another pass has a part that the step uses.
     pub fn try_call(&self, pass: &mut CpuPass<A>, step: Step) -> Reply
         requires pass { IsPassOf self.now.table pass.old }
         ensures pass { IsPassOf self.now.table pass.new }

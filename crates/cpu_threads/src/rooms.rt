@@ -22,7 +22,7 @@ pub(crate) struct Tally {
 }
 
 impl Tally {
-    /// No calls, for a world with so many CPUs.
+    /// No calls, for a world with `cpus` CPUs.
     fn new(global: Global, cpus: usize) -> Result<Tally, AllocError>
         ensures { IfOk result (IsZero cpus) }
     {
@@ -122,7 +122,7 @@ fn count_given<A: Allocator>(tally: &mut Tally, given: &Vec<CpuPass<A>>) -> bool
     true
 }
 
-/// An empty list for each count, with room for so many calls.
+/// An empty list for each count, with room for that many calls.
 fn roomy(global: Global, counts: &Vec<usize>) -> Result<Vec<Vec<Call>>, AllocError>
     ensures { IfOk result (λ v. AllRoomy counts.now.items v.items) }
 {

@@ -36,7 +36,7 @@ struct Rooms<A: Allocator> {
     guests: Vec<GuestPart<A>>,
 }
 
-/// Takes the room of a world with so many CPUs.
+/// Takes the room of a world with `count` CPUs.
 fn rooms_for<A: Allocator>(global: Global, count: usize) -> Result<Rooms<A>, AllocError>
     ensures found { IfOk result (λ r. (r.found.items ≡ []) × (66 ≤ vec_capacity r.found)) }
     ensures cpus { IfOk result (λ r. (r.cpus.items ≡ []) × (count ≤ vec_capacity r.cpus)) }
@@ -91,7 +91,7 @@ impl<A: Allocator> Machine<A> {
     /// The world after the one legal history of all calls, once each pass that was handed out is given. Each CPU has the
     /// state in which its pass ends, with the pass's calls, and each part's log begins with what each pass has seen there
     /// (`laws::one_history`). With it come copies of all logs, for which room is taken before the machine ends. On a
-    /// refusal the machine and what was given come back.
+    /// refusal the machine and the passes are returned.
     pub fn shutdown(
         self,
         global: Global,

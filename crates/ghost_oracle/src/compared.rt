@@ -19,7 +19,7 @@ use page_state::{PageRange, Run, Target};
 use run_list::Advance;
 use std::alloc::Allocator;
 
-/// What is kept, and what walking every descriptor finds. Mostly one state is both, and then it stands here once.
+/// What is kept, and what walking every descriptor finds. Mostly one state is both, and then it is here once.
 #[derive(Drop)]
 pub struct Compared {
     /// What is kept.

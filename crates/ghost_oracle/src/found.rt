@@ -18,7 +18,7 @@ fn is_continued(run: Run, next: Run) -> bool
         && Entry::from(run.target.advance(run.pages.count)).is_same(Entry::from(next.target))
 }
 
-/// Puts a run behind a list, or gives its pages to the last run where it continues that one.
+/// Puts a run at the end of a list, or gives its pages to the last run where it continues that one.
 fn put_last(runs: &mut Vec<Run>, run: Run) -> Result<(), AllocError>
     requires runs { AreSmall runs.old.items }
     requires run { IsSmall run }
@@ -33,7 +33,7 @@ fn put_last(runs: &mut Vec<Run>, run: Run) -> Result<(), AllocError>
     Ok(())
 }
 
-/// Puts the pages of a block behind a list: the first has the entry, which advances along the block.
+/// Puts the pages of a block at the end of a list: the first has the entry, which advances along the block.
 pub(crate) fn put_block(
     runs: &mut Vec<Run>,
     first: u64,

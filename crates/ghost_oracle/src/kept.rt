@@ -73,7 +73,7 @@ fn rooms_from<A: Allocator>(alloc: Global, parts: &Parts<A>) -> Result<GhostRoom
     })
 }
 
-/// All parts with this Shared part and these guests: the slots, the CPUs and the rooms as they stand.
+/// All parts with this Shared part and these guests: the slots, the CPUs and the rooms as they are.
 fn ghost_with<A: Allocator>(
     alloc: Global,
     parts: &Parts<A>,
@@ -203,7 +203,7 @@ pub(crate) fn with_scratch<A: Allocator>(
 }
 
 /// What is kept: the runs of all maplets and of the owner table, and the tables, pools, slots, CPUs and rooms as they
-/// stand. Where tables stand is found by a walk, since nothing else keeps it.
+/// are. Which tables there are is found by a walk, since nothing else keeps it.
 pub fn kept<A: Allocator>(alloc: Global, parts: &Parts<A>) -> Result<Ghost, AllocError>
     requires history { ∥ HasHistory parts.now ∥₁ }
     ensures state { IfOk result (λ g. ghost_state g ≡ state_of parts.now) }
@@ -217,9 +217,9 @@ pub fn kept<A: Allocator>(alloc: Global, parts: &Parts<A>) -> Result<Ghost, Allo
     with_kept(alloc, parts, &found)
 }
 
-/// What walking every descriptor from scratch finds: the map of each tree by its words alone, each of which is read once, and
+/// What walking every descriptor from scratch finds: the map of each tree by its words alone, and
 /// the owner row of each memory frame by these maps, the tables, the pools and the hands. Pools, slots, CPUs and rooms, which
-/// stand in no table, are as they stand.
+/// are in no table, are as they are.
 pub fn recompute<A: Allocator>(alloc: Global, parts: &Parts<A>) -> Result<Ghost, AllocError>
     requires history { ∥ HasHistory parts.now ∥₁ }
     ensures state { IfOk result (λ g. ghost_state g ≡ walked_state (parts_layout parts.now) (state_of parts.now)) }

@@ -1,4 +1,4 @@
-//! The run-time oracle: what walking every descriptor from scratch finds, and what is kept, told as lists of one type. How two
+//! The run-time oracle: what walking every descriptor from scratch finds, and what is kept, as lists of one type. How two
 //! such lists compare is `ghost_judge`'s.
 #![tactic(auto)]
 

@@ -25,7 +25,7 @@ pub(crate) struct SlotsAndCpus {
     pub rooms: GhostRooms,
 }
 
-/// How a slot stands.
+/// The state of a slot.
 fn stand_from(state: SlotState) -> GhostStand
     ensures { stand_in result ≡ stand_of state }
 {

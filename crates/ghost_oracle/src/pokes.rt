@@ -226,7 +226,7 @@ impl<A: Allocator> RawParts<A> {
         slot_word(part, held, path)
     }
 
-    /// Sets the word at a path of a tree, and leaves all else. PathFault is told where there is no such word; then all is as
+    /// Sets the word at a path of a tree, and leaves all else. PathFault is answered where there is no such word; then all is as
     /// it was.
     pub fn poke(
         self,
@@ -306,7 +306,7 @@ fn guest_word<A: Allocator>(parts: &Parts<A>, slot: u64, path: &[u16]) -> Option
     slot_word(part, &None, path)
 }
 
-/// Sets the word at a path of a tree of parts, and leaves all else. PathFault is told where there is no such word; then all is
+/// Sets the word at a path of a tree of parts, and leaves all else. PathFault is answered where there is no such word; then all is
 /// as it was.
 pub fn poke<A: Allocator>(
     parts: Parts<A>,

@@ -49,7 +49,7 @@ pub struct RawGuest<A: Allocator> {
     pub pool: Pool,
 }
 
-/// All parts. A guest that was poked stands at its slot's place of `poked`, and its Guest part then holds an Empty one.
+/// All parts. A guest that was poked is at its slot's place of `poked`, and its Guest part then holds an Empty one.
 #[derive(Drop)]
 pub struct RawParts<A: Allocator> {
     pub layout: Layout,

@@ -131,7 +131,7 @@ fn raw_rooms<A: Allocator>(alloc: Global, parts: &RawParts<A>) -> Result<GhostRo
     })
 }
 
-/// The slots, the CPUs and the rooms as they stand.
+/// The slots, the CPUs and the rooms as they are.
 fn raw_slots_and_cpus<A: Allocator>(
     alloc: Global,
     parts: &RawParts<A>,
@@ -186,7 +186,7 @@ fn raw_from<A: Allocator>(
     })
 }
 
-/// What the parts keep: the runs of their maplets, poked or not, and of the owner table, and what else there is as it stands.
+/// What the parts keep: the runs of their maplets, poked or not, and of the owner table, and all else as it is.
 pub fn kept_raw<A: Allocator>(alloc: Global, parts: &RawParts<A>) -> Result<Ghost, AllocError>
     ensures found { IfOk result (IsRawFound Source.Maplets parts.now) }
     ensures rows { IfOk result (SaysRawRows parts.now) }
@@ -197,7 +197,7 @@ pub fn kept_raw<A: Allocator>(alloc: Global, parts: &RawParts<A>) -> Result<Ghos
     raw_from(alloc, parts, Source::Maplets, rows)
 }
 
-/// What walking every word of them from scratch finds: the map of each tree by its words alone, each read once, malformed
+/// What walking every word of them from scratch finds: the map of each tree by its words alone, malformed
 /// ones among them, and the owner row of each memory frame by these maps, the tables, the pools and the hands.
 pub fn recompute_raw<A: Allocator>(alloc: Global, parts: &RawParts<A>) -> Result<Ghost, AllocError>
     ensures found { IfOk result (IsRawFound Source.Words parts.now) }

@@ -1,4 +1,4 @@
-//! A record of given parts alone: what a walk of their trees finds, and what stands in no tree.
+//! A record of given parts alone: what a walk of their trees finds, and what is in no tree.
 ghost use Rattle.std.specs.Prelude.{◌≡◌, ℕ, ◌*◌, ◌<◌, IfOk, IfSome, OnOk, get_or, length, map};
 ghost use Rattle.std.specs.Option.{option_copied, option_map};
 ghost use Rattle.page_state.specs.LayoutView.{layout_of};
@@ -40,7 +40,7 @@ fn slots_given(alloc: Global, vms: Option<&VmPart>) -> Result<Vec<GhostSlot>, Al
     }
 }
 
-/// The Shared part: the maps as a walk finds them, and the pool and the rows as they stand.
+/// The Shared part: the maps as a walk finds them, and the pool and the rows as they are.
 fn shared_walked<A: Allocator>(
     alloc: Global,
     part: &SharedPart<A>,
@@ -123,7 +123,7 @@ fn cpus_with(
     Ok(cpus)
 }
 
-/// The room of a log at its place, and those of empty logs beside it, which store so many calls.
+/// The room of a log at its place, and at the others those of empty logs, which can store `most` calls.
 fn rooms_with(
     alloc: Global,
     count: u64,
@@ -204,7 +204,7 @@ fn slots_and_cpus_given(
 }
 
 /// What the given parts and a CPU hold, and nothing else: the map of each of their trees by its words alone, each of which is
-/// read once, and the tables, pools, rows, phases, slots and rooms as they stand. Every other part, slot and CPU is empty, and
+/// read, and the tables, pools, rows, phases, slots and rooms as they are. Every other part, slot and CPU is empty, and
 /// so is its log.
 pub fn record<A: Allocator>(
     alloc: Global,

@@ -40,7 +40,7 @@ pub enum Source {
     Words,
 }
 
-/// The runs of maplets. Room for so many is taken at once.
+/// The runs of maplets. Room for all of them is taken at once.
 fn runs_of(alloc: Global, maplets: &Maplets, few: usize) -> Result<Vec<Run>, AllocError>
     ensures runs { IfOk result (λ v. v.items ≡ maplets.now.runs) }
     ensures small { IfOk result (λ v. AreSmall v.items) }
@@ -64,7 +64,7 @@ pub(crate) fn frames_of(alloc: Global, pool: &Pool) -> Result<Vec<u64>, AllocErr
     Ok(frames)
 }
 
-/// A component's tree. The walk takes room for as many runs as the maplets have: mostly it finds so many.
+/// A component's tree. The walk takes room for as many runs as the maplets have: mostly it finds just as many.
 pub(crate) fn tree_from<A: Allocator>(
     alloc: Global,
     component: &Component<A>,

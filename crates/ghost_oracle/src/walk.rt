@@ -1,4 +1,4 @@
-//! Walks a tree from scratch: reads each word once, by page.
+//! Walks a tree from scratch: reads its words, by page.
 ghost use Rattle.std.specs.Prelude.{◌≡◌, ◌+◌, ◌*◌, ◌^◌, ◌<◌, ◌≤◌, ◌++◌, min, IfOk, OnOk};
 ghost use Rattle.page_state.specs.Geometries.{levels_below, block_pages};
 ghost use Rattle.page_state.specs.Runs.{map_of};
@@ -18,7 +18,7 @@ use page_state::Geometry;
 use std::alloc::{AllocError, Allocator, Global};
 use table_tree::{Reads, Slot, Table};
 
-/// The tree that a root table and the tables below it say, whose words may be any. Each word is read once. It takes memory
+/// The tree that a root table and the tables below it say, whose words may be any. It takes memory
 /// for the runs and tables that it finds alone; room for `room` runs is taken at once, so that the list isn't
 /// copied as it grows if no more are found.
 pub fn walk<A: Allocator>(

@@ -29,7 +29,7 @@ impl<A: Allocator> Bench<A> {
     }
 }
 
-/// Pushes behind a list that has room.
+/// Pushes onto a list that has room.
 pub(crate) fn push_in_room<T: Drop>(list: &mut Vec<T>, item: T)
     requires room { vec_len list.old < vec_capacity list.old }
     ensures items { list.new.items ≡ list.old.items ++ item ∷ [] }

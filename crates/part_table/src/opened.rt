@@ -59,7 +59,7 @@ fn new_shelf<A: Allocator>(
     }
 }
 
-/// A bench for each of so many passes.
+/// One bench for each of `count` passes.
 fn new_benches<A: Allocator>(global: Global, count: usize) -> Result<Vec<Bench<A>>, AllocError>
     ensures { IfOk result (λ v. vec_len v ≡ count) }
 {
@@ -129,7 +129,7 @@ fn new_passes<A: Allocator>(
 }
 
 impl<A: Allocator> PartTable<A> {
-    /// A table of parts that are as at boot, and the passes of all CPUs, by number. It asks for the CPUs' own states, as at
+    /// A table of parts that are as at boot, and the passes of all CPUs, by number. Requires the CPUs' own states, as at
     /// boot. `alloc` is where the tables of all trees lie.
     pub fn open(
         global: Global,
@@ -174,7 +174,7 @@ impl<A: Allocator> PartTable<A> {
     }
 
     /// The parts, by number, and the CPUs' own states, at the end of the one legal history. Each CPU's own state, with its
-    /// calls, is that of its pass, and each part's log begins with what each pass has seen of it. It asks for the passes of
+    /// calls, is that of its pass, and each part's log begins with what each pass has seen of it. Requires the passes of
     /// all CPUs, by number, and for room in both lists, which it fills.
     pub fn close(
         self,

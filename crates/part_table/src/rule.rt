@@ -8,7 +8,7 @@ use std::collections::LinkedList;
 use std::marker::{Brand, PhantomData};
 use step_reply::Call;
 
-/// What a pass knows, or the root, from which passes come. No value of it is made. A list of pairs stands for a function
+/// What a pass knows, or the root, from which passes come. No value of it is made. A list of pairs represents a function
 /// of a part's number: the first pair of a number counts.
 pub struct View<A: Allocator> {
     /// A CPU's pass has it.

@@ -44,7 +44,7 @@ fn lay_first<A: Allocator>(
     slots
 }
 
-/// The parts by number, each in a slot, and the CPUs' own states. It asks for room in the list of slots, and takes no
+/// The parts by number, each in a slot, and the CPUs' own states. Requires room in the list of slots, and takes no
 /// memory.
 pub fn apart<A: Allocator>(
     parts: Parts<A>,
@@ -97,8 +97,8 @@ fn first_of<A: Allocator>(mut found: Vec<Slot<A>>) -> (VmPart, SharedPart<A>, Ve
     (vm, part, found)
 }
 
-/// The parts of which these are the slots, by number, with the CPUs' own states, where they stand at the end of one legal
-/// history. It asks for room in the lists of parts, and takes no memory.
+/// The parts of which these are the slots, by number, with the CPUs' own states, where they are at the end of one legal
+/// history. Requires room in the lists of parts, and takes no memory.
 pub fn together<A: Allocator>(
     layout: Layout,
     found: Vec<Slot<A>>,

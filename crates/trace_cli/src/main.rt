@@ -7,12 +7,12 @@
 //! The exit status:
 //!
 //! - 0: the report ends without a fault, and no step disagreed with the model.
-//! - 1: the report ends with a fault or tells of a disagreement; or reading, writing or memory failed, which one line on
-//!   standard error tells.
+//! - 1: the report ends with a fault or has a disagreement; or reading, writing or memory failed, which one line on
+//!   standard error says.
 //! - 2: FILE can't be opened, the words are refused, or help was asked for. The reason, or help, is on standard error.
 //!
 //! What the words ask for is read in `trace_command`, the trace is replayed by `trace_text`. Here the file is opened, and what
-//! no report tells is told.
+//! is in no report is written to standard error.
 #![tactic(auto)]
 
 ghost use Rattle.std.specs.Prelude.{◌≤◌, IfOk};

@@ -12,7 +12,7 @@ use trace_text::{EngineFault, Stopped, replay_buffered};
 /// The status where the words are refused or the file can't be opened.
 const REFUSED: u8 = 2;
 
-/// The status of a fault that no report tells of.
+/// The status of a fault that is in no report.
 pub const FAILED: u8 = 1;
 
 /// A trace to be replayed: its path, the size of the heap for the trees' tables, if any, and what came of opening it.
@@ -23,7 +23,7 @@ pub struct Opened<'a, F> {
     pub file: Result<F, io::Error>,
 }
 
-/// Does what was asked, tells on standard error what no report tells, and gives the exit status.
+/// Does what was asked, writes to standard error what is in no report, and gives the exit status.
 pub fn status_of<R: AllocGlobal + Print + Eprint, F: io::Read + Drop>(
     rt: &R,
     asked: Result<Opened<'_, F>, UsageFault>,

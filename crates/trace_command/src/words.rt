@@ -43,7 +43,7 @@ impl From<AllocError> for UsageFault {
     }
 }
 
-/// The fault that stands for an error of clap's.
+/// The fault for an error of clap's.
 fn fault_of(error: Error) -> UsageFault
     ensures { StandsFor error result }
 {
@@ -53,9 +53,9 @@ fn fault_of(error: Error) -> UsageFault
     }
 }
 
-/// What help shows behind the words.
+/// What help shows after the words.
 const HELP: &str =
-    "Examples:\n  trace_cli replay examples/first_share.trace\n  trace_cli replay examples/first_share.trace --heap 262144\n\nExit status:\n  0  the report ends without a fault\n  1  the report ends with a fault, or reading, writing or memory failed\n  2  FILE can't be opened, the words are refused, or help was asked for\n\nThe lines of a trace, its report and each fault are explained in docs/TRACES.md.";
+    "Examples:\n  ./run replay examples/first_share.trace\n  ./run replay examples/first_share.trace --heap 262144\n\nExit status:\n  0  the report ends without a fault or a disagreement\n  1  the report has a fault or a disagreement, or reading, writing or memory failed\n  2  FILE can't be opened, the words are refused, or help was asked for\n\nThe lines of a trace, its report and each fault are explained in docs/TRACES.md.";
 
 /// The form of the words: the program's name and one subcommand.
 fn form<'a>(global: Global) -> Result<clap::Command<'a>, AllocError>

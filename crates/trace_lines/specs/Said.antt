@@ -10,7 +10,7 @@ use Rattle.trace_lines.specs.Places.{may_stand}
 use Rattle.trace_lines.specs.Settings.{Told}
 use Rattle.trace_words.specs.Words.{has_stray_byte, is_silent, words_of, has_stray_space}
 
--- what so many words say that ask for this
+-- what a number of words say that ask for this
 abbrev pub said_by_asked : Allows → Told → ℕ → Option Asked → Result (Option Line) LineFault
 said_by_asked allows told count None = Err Word
 said_by_asked allows told count (Some asked) =

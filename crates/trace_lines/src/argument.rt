@@ -1,4 +1,4 @@
-//! Words that stand for numbers, ranges, levels, slots, VMs, their kinds, and rights.
+//! Words that are numbers, ranges, levels, slots, VMs, their kinds, and rights.
 ghost use Rattle.std.specs.Prelude.{◌≡◌, option_copied, slice_get};
 ghost use Rattle.trace_lines.specs.Arguments.{
   decimal_part as decimal_of_part,
@@ -26,14 +26,14 @@ const LAST_LEVEL: u64 = 3;
 /// The last slot of a guest.
 const LAST_SLOT: u64 = 63;
 
-/// The number that stands at a place, counted from 0.
+/// The number at a place, counted from 0.
 pub fn number_at(words: &Words<'_>, place: usize) -> Option<u64>
     ensures { result ≡ number_at_place words.now place }
 {
     number(words.get(place)?)
 }
 
-/// The level of a tree that stands at a place, 0 to 3.
+/// The level of a tree at a place, 0 to 3.
 pub fn level_at(words: &Words<'_>, place: usize) -> Option<u64>
     ensures { result ≡ level_at_place words.now place }
 {
@@ -44,7 +44,7 @@ pub fn level_at(words: &Words<'_>, place: usize) -> Option<u64>
     Some(level)
 }
 
-/// The slot of a guest that stands at a place, 0 to 63.
+/// The slot of a guest at a place, 0 to 63.
 pub fn slot_at(words: &Words<'_>, place: usize) -> Option<u64>
     ensures { result ≡ slot_word_at words.now place }
 {
@@ -55,7 +55,7 @@ pub fn slot_at(words: &Words<'_>, place: usize) -> Option<u64>
     Some(slot)
 }
 
-/// The range that the second and third word tell.
+/// The range that the second and third word give.
 pub fn range_of(words: &Words<'_>) -> Option<PageRange>
     ensures { result ≡ range_by words.now }
 {
@@ -91,7 +91,7 @@ fn vm(word: &[u8]) -> Option<VmId>
     Some(VmId { slot, generation })
 }
 
-/// The VM that stands at a place, counted from 0.
+/// The VM at a place, counted from 0.
 pub fn vm_at(words: &Words<'_>, place: usize) -> Option<VmId>
     ensures { result ≡ vm_word_at words.now place }
 {
@@ -111,7 +111,7 @@ fn kind(word: &[u8]) -> Option<VmKind>
     None
 }
 
-/// The kind of VMs that stands at a place, counted from 0.
+/// The kind of VMs at a place, counted from 0.
 pub fn kind_at(words: &Words<'_>, place: usize) -> Option<VmKind>
     ensures { result ≡ kind_word_at words.now place }
 {
@@ -137,7 +137,7 @@ fn rights(word: &[u8]) -> Option<Prot>
     None
 }
 
-/// The rights that stand at a place, counted from 0.
+/// The rights at a place, counted from 0.
 pub fn rights_at(words: &Words<'_>, place: usize) -> Option<Prot>
     ensures { result ≡ rights_word_at words.now place }
 {

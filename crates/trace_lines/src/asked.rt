@@ -109,7 +109,7 @@ fn header(first: &[u8], words: &Words<'_>) -> Option<Asked>
     }
 }
 
-/// A line that tells a setting.
+/// A line that gives a setting.
 fn setting_line(name: SettingName, words: usize, setting: Option<Setting>) -> Asked
     ensures { result ≡ record { verb = Verb.Setting name; words = words; line = option_map Line.Setting setting } }
 {
@@ -159,7 +159,7 @@ fn word_line(named: NamedTree, words: &Words<'_>) -> Option<Line>
     word_of(named.tree?, words, 1 + named.words)
 }
 
-/// The question for a word on a path, whose page stands at a place and its level behind it.
+/// The query for a word on a path, whose page is at a place and its level after it.
 fn word_of(tree: TreeName, words: &Words<'_>, place: usize) -> Option<Line>
     requires low { place ≤ 3 }
     ensures { result ≡ word_by words.now place tree }
@@ -188,7 +188,7 @@ fn poke_line(named: NamedTree, words: &Words<'_>) -> Option<Line>
     poke_of(named.tree?, words, 1 + named.words)
 }
 
-/// The poke whose page stands at a place, its level behind it, and its word behind that.
+/// The poke whose page is at a place, its level after it, and its word after that.
 fn poke_of(tree: TreeName, words: &Words<'_>, place: usize) -> Option<Line>
     requires low { place ≤ 3 }
     ensures { result ≡ poke_by words.now place tree }

@@ -167,7 +167,7 @@ fn row(words: usize, step: Option<Step>) -> Option<Called>
     Some(Called { words, step })
 }
 
-/// A donation of the told frames to the hypervisor.
+/// A donation of frames to the hypervisor.
 fn donate_hyp(words: &Words<'_>) -> Option<Step>
     ensures { result ≡ step_from (number ∷ number ∷ []) DonateHyp words.now 2 }
 {
@@ -176,7 +176,7 @@ fn donate_hyp(words: &Words<'_>) -> Option<Step>
     Some(Step::DonateHyp { pfn, n })
 }
 
-/// A donation of the told frames to the host.
+/// A donation of frames to the host.
 fn hyp_donate_host(words: &Words<'_>) -> Option<Step>
     ensures { result ≡ step_from (number ∷ number ∷ []) HypDonateHost words.now 2 }
 {
@@ -185,7 +185,7 @@ fn hyp_donate_host(words: &Words<'_>) -> Option<Step>
     Some(Step::HypDonateHost { pfn, n })
 }
 
-/// A funding by the told frames.
+/// A funding by frames.
 fn fund(words: &Words<'_>) -> Option<Step>
     ensures { result ≡ step_from (number ∷ number ∷ []) Fund words.now 2 }
 {
@@ -194,7 +194,7 @@ fn fund(words: &Words<'_>) -> Option<Step>
     Some(Step::Fund { pfn, n })
 }
 
-/// A share of the told frame with the guest, at the told page and with the told rights.
+/// A share of a frame with the guest, at a page and with rights.
 fn share_guest(words: &Words<'_>) -> Option<Step>
     ensures { result ≡ step_from (number ∷ number ∷ rights ∷ []) ShareGuest words.now 2 }
 {
@@ -204,7 +204,7 @@ fn share_guest(words: &Words<'_>) -> Option<Step>
     Some(Step::ShareGuest { pfn, gfn, prot })
 }
 
-/// The end of a share with the told VM's guest at the told page.
+/// The end of a share with a VM's guest at a page.
 fn unshare_guest(words: &Words<'_>) -> Option<Step>
     ensures { result ≡ step_from (vm ∷ number ∷ []) UnshareGuest words.now 2 }
 {
@@ -213,7 +213,7 @@ fn unshare_guest(words: &Words<'_>) -> Option<Step>
     Some(Step::UnshareGuest { vm, gfn })
 }
 
-/// A donation of the told frame to the guest, at the told page.
+/// A donation of a frame to the guest, at a page.
 fn donate_guest(words: &Words<'_>) -> Option<Step>
     ensures { result ≡ step_from (number ∷ number ∷ []) DonateGuest words.now 2 }
 {
@@ -222,7 +222,7 @@ fn donate_guest(words: &Words<'_>) -> Option<Step>
     Some(Step::DonateGuest { pfn, gfn })
 }
 
-/// The reclaim of the told page of the told VM.
+/// The reclaim of a page of a VM.
 fn reclaim_page(words: &Words<'_>) -> Option<Step>
     ensures { result ≡ step_from (vm ∷ number ∷ []) ReclaimPage words.now 2 }
 {
@@ -231,7 +231,7 @@ fn reclaim_page(words: &Words<'_>) -> Option<Step>
     Some(Step::ReclaimPage { vm, gfn })
 }
 
-/// More rights, those told, for the guest at the told page.
+/// More rights for the guest at a page.
 fn guest_relax(words: &Words<'_>) -> Option<Step>
     ensures { result ≡ step_from (number ∷ rights ∷ []) GuestRelax words.now 2 }
 {
@@ -240,7 +240,7 @@ fn guest_relax(words: &Words<'_>) -> Option<Step>
     Some(Step::GuestRelax { gfn, prot })
 }
 
-/// The question for the told VM's entry of the told page.
+/// The call that answers a VM's entry of a page.
 fn guest_translate(words: &Words<'_>) -> Option<Step>
     ensures { result ≡ step_from (vm ∷ number ∷ []) GuestTranslate words.now 2 }
 {
@@ -249,7 +249,7 @@ fn guest_translate(words: &Words<'_>) -> Option<Step>
     Some(Step::GuestTranslate { vm, gfn })
 }
 
-/// A reservation of a slot for a VM of the told kind and number of vCPUs.
+/// A reservation of a slot for a VM of a kind and a number of vCPUs.
 fn vm_reserve(words: &Words<'_>) -> Option<Step>
     ensures { result ≡ step_from (kind ∷ number ∷ []) VmReserve words.now 2 }
 {
@@ -258,7 +258,7 @@ fn vm_reserve(words: &Words<'_>) -> Option<Step>
     Some(Step::VmReserve { kind, vcpus })
 }
 
-/// A load of the told vCPU of the told VM.
+/// A load of a vCPU of a VM.
 fn vcpu_load(words: &Words<'_>) -> Option<Step>
     ensures { result ≡ step_from (vm ∷ number ∷ []) VcpuLoad words.now 2 }
 {

@@ -1,4 +1,4 @@
-//! Faults of a line by itself. The first that holds is told, in the order of the variants.
+//! Faults of a line by itself. The first that holds is reported, in the order of the variants.
 ghost use Rattle.std.specs.Prelude.{Some};
 ghost use Rattle.trace_lines.specs.Texts.{text_of_line_fault};
 
@@ -15,7 +15,7 @@ pub enum LineFault {
     Space,
     /// The first word is unknown, or the call, tree or pool after it is unknown or missing.
     Word,
-    /// The line stands where it isn't allowed, or `boot` without a carve-out.
+    /// The line is where it isn't allowed, or `boot` without a carve-out.
     Place,
     /// Too few or too many words.
     Count,

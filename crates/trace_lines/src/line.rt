@@ -5,7 +5,7 @@ use step_reply::Step;
 /// A line that can be carried out.
 #[derive(Clone, Copy)]
 pub enum Line {
-    /// What is told before the boot.
+    /// What is set before the boot.
     Setting(Setting),
     /// The boot.
     Boot,

@@ -1,4 +1,4 @@
-//! Where a line may stand.
+//! Where a line may be.
 ghost use Rattle.std.specs.Prelude.{◌≡◌};
 ghost use Rattle.trace_lines.specs.Places.{before_boot as before_boot_by, may_stand as may_stand_by, may_tell as may_tell_by};
 ghost use Rattle.trace_lines.specs.Settings.{told_of};
@@ -51,7 +51,7 @@ pub enum Verb {
     Poke,
 }
 
-/// Whether a line may stand after these settings, where the program allows these lines.
+/// Whether a line may come after these settings, where the program allows these lines.
 pub fn may_stand(allows: Allows, settings: &Settings, verb: Verb) -> bool
     ensures { result ≡ may_stand_by allows (told_of settings.now) verb }
 {
@@ -64,7 +64,7 @@ pub fn may_stand(allows: Allows, settings: &Settings, verb: Verb) -> bool
     }
 }
 
-/// Whether a setting may be told after these: any number of regions, and all else once.
+/// Whether a setting may come after these: any number of regions, and all else once.
 fn may_tell(settings: &Settings, name: SettingName) -> bool
     ensures { result ≡ may_tell_by (told_of settings.now) name }
 {

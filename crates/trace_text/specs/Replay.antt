@@ -41,7 +41,7 @@ module _ (gives : Gives) where
       (answer : Answer) × (new : Standing) × IsPlayed number line old answer new
       × Begins number answer (λ more end. IsReport (number + 1) new rest more end) lines outcome
 
-  -- so many lines of it: a report that may break off behind each line of the trace
+  -- a number of its lines: a report that may break off after each line of the trace
   abbrev pub IsBeginning : ℕ → Standing → List (List ℕ) → List ReportLine → Type 0
   IsBeginning number old [] lines = (lines ≡ []) ⊎ (lines ≡ end_line old ∷ [])
   IsBeginning number old (line ∷ rest) lines =

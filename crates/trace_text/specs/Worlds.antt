@@ -49,7 +49,7 @@ free_told m = length m.state.contents.shared.free
 abbrev pub guest_free_told : Machine → ℕ → ℕ
 guest_free_told m slot = length (m.state.contents.guest slot).free
 
--- a tree with so many levels below its root's has a word on a page's path at a level: it has a root, which an Empty guest's tree hasn't, the page is good, the level is none above the root's, and below the root's the table stands that has the word
+-- a tree with that many levels below its root's has a word on a page's path at a level: it has a root, which an Empty guest's tree hasn't, the page is good, the level is none above the root's, and below the root's the table stands that has the word
 pub record HasWordOn (depth : ℕ) (tree : Tree) (page level : ℕ) : Type 0 where
   pub root : IsSome (tree.table (depth + 1, 0))
   pub good : page < pages_below depth

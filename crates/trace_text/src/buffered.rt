@@ -8,7 +8,7 @@ use std::alloc::{Allocator, Global};
 use std::io::{BufWriter, Error, Read, Write};
 use trace_reader::{Counting, EngineFault, Outcome};
 
-/// Why a replay stopped before the end of its report, and what the system told of a read or a write that failed.
+/// Why a replay stopped before the end of its report, and what the system said of a read or a write that failed.
 #[derive(Debug, Drop)]
 pub struct Stopped {
     pub fault: EngineFault,

@@ -1,4 +1,4 @@
-//! Faults of a trace. The first that holds is told, in the order of the variants, and ends the run.
+//! Faults of a trace. The first that holds is reported, in the order of the variants, and ends the run.
 ghost use Rattle.std.specs.Prelude.{Some};
 ghost use Rattle.trace_text.specs.Texts.{text_of_fault};
 

@@ -4,7 +4,7 @@ ghost use Rattle.trace_text.specs.Laws.{MachineReaches, MachineRuns, TraceAgrees
 
 use crate::oracle::Oracle;
 
-/// The step lines of a report are the replies of a run of the reference step, from the boot state of what was told.
+/// The step lines of a report are the replies of a run of the reference step, from the boot state of the settings.
 pub fn replies_run<O: Oracle>()
     ensures machine { MachineRuns O.gives }
     ensures reached { MachineReaches O.gives }

@@ -16,7 +16,7 @@ use ghost_spec::state::Ghost;
 use std::alloc::{AllocError, Global};
 use step_reply::{Reply, Step};
 
-/// What an oracle tells of a step.
+/// What an oracle finds at a step.
 #[derive(Clone, Copy, PartialEq)]
 pub struct Verdict {
     /// Where its reply, or the state after it, is not what the model says.
@@ -26,7 +26,7 @@ pub struct Verdict {
 }
 
 impl Verdict {
-    /// How many lines of the report tell it.
+    /// How many lines of the report it has.
     pub fn count(&self) -> u64
         ensures count { result ≡ length (verdict_lines self.now) }
         ensures few { result ≤ 2 }
@@ -35,7 +35,7 @@ impl Verdict {
     }
 }
 
-/// How many lines tell what was found, if anything.
+/// How many lines report what was found, if anything.
 fn count_of(found: Option<Disagreement>) -> u64
     ensures judged { result ≡ length (judged_lines found) }
     ensures audited { result ≡ length (audited_lines found) }
@@ -51,7 +51,7 @@ fn count_of(found: Option<Disagreement>) -> u64
 pub trait Oracle {
     ghost use Rattle.trace_text.specs.declared.oracle.Verdict.{Verdict};
 
-    /// What it may tell of a call that leads from a machine's state to another.
+    /// What it may find at a call that leads from a machine's state to another.
     ghost gives: { Machine → Call → Reference → Verdict → Type 0 };
 
     /// Looks at a step of a CPU: what the world keeps before it, the reply, and what the world keeps after it and walking
@@ -70,7 +70,7 @@ pub trait Oracle {
 }
 
 /// The oracle of `replay`: it judges each step by the model, and audits what is kept by the walk. In a replay it finds no
-/// disagreement; of any other states it tells the first, of each kind, and none exactly where there is none.
+/// disagreement; of any other states it finds the first, of each kind, and none exactly where there is none.
 #[derive(Drop)]
 pub struct GhostOracle;
 

@@ -13,9 +13,9 @@ use trace_lines::Response;
 pub enum ReportLine {
     /// What a line of the trace reports.
     Response(Response),
-    /// What the judgement of a step found. It stands behind the step's line.
+    /// What the judgement of a step found. It follows the step's line.
     Judged(Disagreement),
-    /// What the audit after a step found. It stands behind the judgement's line.
+    /// What the audit after a step found. It follows the judgement's line.
     Audited(Disagreement),
     /// The fault of a line. It ends the report.
     Fault { line: u64, fault: Fault },

@@ -32,7 +32,7 @@ use world::World;
 #[derive(Clone, Copy)]
 pub enum Stop {
     Fault(Fault),
-    /// A growth that no line of the report tells of was refused.
+    /// Memory was refused where no line of the report can say so.
     NoMemory,
 }
 
@@ -42,7 +42,7 @@ pub enum Reported {
     Nothing,
     /// One line.
     Line(Response),
-    /// The line of a step, and what the oracle tells of it.
+    /// The line of a step, and what the oracle found at it.
     Step(Response, Verdict),
     /// The maplets of a tree, a line for each run.
     Maplets(TreeName),
@@ -88,14 +88,14 @@ impl<A: Allocator + Copy> Session<A> {
         self.steps
     }
 
-    /// How many disagreements were told.
+    /// How many disagreements were reported.
     pub fn disagreements(&self) -> u64
         ensures { result ≡ (standing_of self.now).disagreements }
     {
         self.disagreements
     }
 
-    /// What `replay` allows where the session stands.
+    /// What `replay` allows at this point of the session.
     fn allows(&self) -> Allows
         ensures { result ≡ allowed (is_some (standing_of self.now).machine) }
     {
@@ -112,7 +112,7 @@ impl<A: Allocator + Copy> Session<A> {
         }
     }
 
-    /// Carries out the line of this number, and tells what it reports. Of a line of over 256 bytes any 257 serve.
+    /// Carries out the line of this number, and answers what it reports. Of a line of over 256 bytes any 257 serve.
     pub fn run<O: Oracle>(
         &mut self,
         oracle: &mut O,
@@ -181,7 +181,7 @@ impl<A: Allocator + Copy> Session<A> {
         match self.booted(carve) {
             Ok(world) => {
                 let line = boot_line(&world);
-                // What stood there goes to `drop`, as in `checked`.
+                // What was there goes to `drop`, as in `checked`.
                 drop(self.world.replace(world));
                 drop(self.state.take());
                 Ok(Reported::Line(line))
@@ -190,7 +190,7 @@ impl<A: Allocator + Copy> Session<A> {
         }
     }
 
-    /// The world of what was told, with this carve-out.
+    /// The world of the settings, with this carve-out.
     fn booted(&self, carve: PageRange) -> Result<World<A>, Stop>
         ensures { let told = told_of self.now.settings in MatchResult result (λ w. IsBooted (memory_of told.regions carve) (config_of told) w.parts) (λ stop. IsNoWorld stop (memory_of told.regions carve) (config_of told)) }
     {
@@ -376,7 +376,7 @@ fn word_on<A: Allocator>(world: &World<A>, tree: TreeName, page: u64, level: u64
     }
 }
 
-/// What a report tells of a boot.
+/// What a report says of a boot.
 fn boot_line<A: Allocator>(world: &World<A>) -> Response
     ensures { let m = machine_of world.now in result ≡ Response.Boot (tables_told m TreeName.Host) (tables_told m TreeName.Hyp) (free_told m) }
 {
@@ -388,7 +388,7 @@ fn boot_line<A: Allocator>(world: &World<A>) -> Response
     }
 }
 
-/// The memory of the regions and the carve-out that were told.
+/// The memory of the regions and the carve-out that were given.
 fn told_memory(global: Global, regions: &[Region], carve: PageRange) -> Result<MemoryMap, Stop>
     ensures { let memory = memory_of regions.now carve in MatchResult result (λ map. (map ≡ memory) × IsAccepted memory) (λ stop. (config : Config) → IsNoWorld stop memory config) }
 {

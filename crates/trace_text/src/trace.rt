@@ -26,7 +26,7 @@ use trace_reader::{EngineFault, Failed, MOST_BYTES, Outcome, ReadAhead, Source, 
 const MOST_LINES: u64 = 1_048_576;
 
 /// Reads a trace line by line, carries it out, and writes its report. `alloc` is where the tables of the trees lie. A
-/// fault of the trace ends the report, and the report of the lines before it stands. It reads ahead of the line that it
+/// fault of the trace ends the report, and the report of the lines before it remains. It reads ahead of the line that it
 /// carries out. Each step is judged by the model, and what is kept after it audited by a walk of every word; no
 /// disagreement is found. Err where the source or the sink failed, once, or memory was refused: what was written until
 /// then is a beginning of the report.
@@ -46,7 +46,7 @@ pub fn replay<A: Allocator + Copy, S: Source, K: Sink>(
     replay_with(global, alloc, source, sink, &mut GhostOracle)
 }
 
-/// Replays a trace as `replay` does, and asks another oracle after each step. What it tells follows the step's line.
+/// Replays a trace as `replay` does, and asks another oracle after each step. What it finds follows the step's line.
 pub fn replay_with<A: Allocator + Copy, S: Source, K: Sink, O: Oracle>(
     global: Global,
     alloc: A,
@@ -168,7 +168,7 @@ fn tell_reported<A: Allocator + Copy, K: Sink>(
     }
 }
 
-/// Writes the line of a step, and what the oracle tells of it.
+/// Writes the line of a step, and what the oracle found at it.
 fn tell_step<K: Sink>(
     sink: &mut K,
     text: &mut String,
@@ -184,7 +184,7 @@ fn tell_step<K: Sink>(
     tell_verdict(sink, text, verdict)
 }
 
-/// Writes what the oracle tells of a step.
+/// Writes what the oracle found at a step.
 fn tell_verdict<K: Sink>(
     sink: &mut K,
     text: &mut String,

@@ -31,7 +31,7 @@ joined_last (n ∷ (m ∷ rs)) r = n ∷ joined_last (m ∷ rs) r
 abbrev pub GoesOn : Map → ℕ → ℕ → Map → Map → Type 0
 GoesOn m from to old new = (page : ℕ) → page < to → new page ≡ (if nat_lt page from then old page else m page)
 
--- a table that stands at a block of so many levels, where it is found
+-- a table at a block with `depth` levels below it, where it is found
 abbrev pub found_at : {A : Type 0} → ℕ → ℕ → Table A → FoundTable
 found_at depth number t = record { block = (depth + 1, number); frame = frame_of t }
 

@@ -27,7 +27,7 @@ struct Held {
     late: AtomicU64,
 }
 
-/// Waits until a word is set, for so many turns at most, and tells whether it was set.
+/// Waits until a word is set, for a number of turns at most, and answers whether it was set.
 fn is_set_in_time(word: &AtomicU64) -> bool {
     for _ in 0..TURNS {
         if word.load(Ordering::SeqCst) != 0 {

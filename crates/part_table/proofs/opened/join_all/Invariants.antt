@@ -4,7 +4,7 @@ use Rattle.std.specs.Vec.{vec_capacity, vec_len}
 use Rattle.part_table.specs.Endings.{HaveEnded}
 use Rattle.part_table.proofs.opened.join_all.Given as goal
 
--- so many passes have ended, and the others are at their places
+-- the passes before this one have ended, and the others are at their places
 abbrev pub invariant-loop-cpu : goal.invariant-loop-cpu
 invariant-loop-cpu g l =
     (l.root.table_id ≡ l.initial.root.table_id) × (l.root.id ≡ 0) × (l.root.me.0.root ≡ true) × (l.root.me.0.made ≡ l.initial.root.me.0.made) × (l.root.me.1 ≡ [])
