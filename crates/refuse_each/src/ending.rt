@@ -1,5 +1,5 @@
 //! The end of a machine, with each of its requests for memory refused in turn.
-ghost use Rattle.std.specs.Prelude.{◌≡◌, ◌<◌, IfSome};
+ghost use Rattle.std.specs.Prelude.{◌≡◌, ◌<◌, IfErr, IfSome};
 ghost use Rattle.part_table.specs.Passes.{IsPassOf};
 ghost use Rattle.cpu_threads.specs.Ends.{AreOf};
 
@@ -58,6 +58,16 @@ const STEPS: [[Step; 4]; 2] = [
     ],
 ];
 
+/// Makes the calls of a CPU.
+fn make_calls(machine: &Machine<Global>, pass: &mut CpuPass<Global>, steps: &[Step])
+    requires { IsPassOf machine.now.table pass.old }
+    ensures { IsPassOf machine.now.table pass.new }
+{
+    for step in steps {
+        let _ = machine.try_call(pass, *step);
+    }
+}
+
 /// Boots a machine, and makes the calls.
 pub fn used(global: Global) -> Option<(Machine<Global>, Vec<CpuPass<Global>>)>
     ensures { IfSome result (λ m. AreOf m.0.table m.1.items) }
@@ -65,16 +75,19 @@ pub fn used(global: Global) -> Option<(Machine<Global>, Vec<CpuPass<Global>>)>
     let mut machine = Machine::boot(global, global, &memory(global)?, CONFIG).ok()?;
     let mut passes = Vec::with_capacity(global, STEPS.len()).ok()?;
     for cpu in 0..STEPS.len() {
-        let mut pass = machine.pass(cpu)?;
-        for step in STEPS[cpu] {
-            let _ = machine.try_call(&mut pass, step);
-        }
-        passes.push(pass).ok()?;
+        let Some(mut pass) = machine.pass(cpu) else {
+            return None;
+        };
+        make_calls(&machine, &mut pass, STEPS[cpu].as_slice());
+        let Ok(()) = passes.push(pass) else {
+            return None;
+        };
     }
     Some((machine, passes))
 }
 
 /// How a machine ended.
+#[derive(Drop)]
 pub struct Ended {
     /// The logs of all parts and CPUs.
     pub logs: Histories,
@@ -82,8 +95,35 @@ pub struct Ended {
     pub refused: usize,
 }
 
-/// Shuts a machine down until a try is refused nothing. None where a try that was refused a request tells anything but
-/// NoMemory, or one that wasn't is refused.
+/// A machine, and its passes.
+type Held = (Machine<Global>, Vec<CpuPass<Global>>);
+
+/// Shuts a machine down with the Nth request refused. On such a refusal machine and passes come back; None where one that
+/// was refused a request tells anything but NoMemory, or one that wasn't is refused.
+fn try_end(global: Global, held: Held, n: usize) -> Result<Histories, Option<Held>>
+    requires { AreOf held.0.table held.1.items }
+    ensures { IfErr result (λ back. IfSome back (λ b. AreOf b.0.table b.1.items)) }
+{
+    let (machine, passes) = held;
+    refuse_nth(global, n);
+    let ended = machine.shutdown(global, passes);
+    let met = has_met(global);
+    match ended {
+        Ok((world, logs)) => {
+            drop(world);
+            if met { Err(None) } else { Ok(logs) }
+        }
+        Err((machine, passes, fault)) => {
+            if met && fault == ShutdownFault::NoMemory {
+                Err(Some((machine, passes)))
+            } else {
+                Err(None)
+            }
+        }
+    }
+}
+
+/// Shuts a machine down until a try is refused nothing. None where one goes wrong.
 pub fn end_in_turn(
     global: Global,
     machine: Machine<Global>,
@@ -93,16 +133,13 @@ pub fn end_in_turn(
 {
     let mut held = (machine, passes);
     for n in 1..MOST {
-        refuse_nth(global, n);
-        let ended = held.0.shutdown(global, held.1);
-        let met = has_met(global);
-        match ended {
-            Ok((_, logs)) if !met => {
+        match try_end(global, held, n) {
+            Ok(logs) => {
                 let refused = n - 1;
                 return Some(Ended { logs, refused });
             }
-            Err((machine, passes, ShutdownFault::NoMemory)) if met => held = (machine, passes),
-            _ => return None,
+            Err(Some(back)) => held = back,
+            Err(None) => return None,
         }
     }
     None
