@@ -43,6 +43,8 @@ pub fn audit(kept: &Ghost, walked: &Ghost) -> Option<Disagreement>
 }
 
 /// The first difference of two maps.
+// inlined: most guests are Empty, and map nothing
+#[inline(always)]
 pub(crate) fn in_trees(tree: TreeOf, kept: &Tree, walked: &Tree) -> Option<Disagreement>
     requires kept { IsKeptTree kept.now }
     requires walked { IsKeptTree walked.now }

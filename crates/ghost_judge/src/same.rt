@@ -32,9 +32,14 @@ fn are_alike(tables: &[Table], a: &[Table], b: &[Table]) -> bool
 }
 
 /// Whether two lists have the same tables.
+// inlined: most guests are Empty, and have none
+#[inline(always)]
 pub(crate) fn same_tables(a: &[Table], b: &[Table]) -> bool
     ensures { IsTrue result ↔ (table_of a.now ≡ table_of b.now) }
 {
+    if a.is_empty() && b.is_empty() {
+        return true;
+    }
     are_alike(a, a, b) && are_alike(b, a, b)
 }
 
@@ -62,6 +67,7 @@ fn is_same_phase(a: GhostPhase, b: GhostPhase) -> bool
 }
 
 /// Whether two guests are the same but for their maps.
+#[inline(always)]
 pub(crate) fn is_same_guest(a: &GhostGuest, b: &GhostGuest) -> bool
     ensures { IsTrue result ↔ (without_map (guest_in a.now) ≡ without_map (guest_in b.now)) }
 {

@@ -4,15 +4,18 @@ use Rattle.page_state.specs.declared.entry.Run.{Run}
 use Rattle.page_state.specs.LayoutView.{layout_of}
 use Rattle.page_state.specs.Rows.{advance_row}
 use Rattle.page_state.specs.Trees.{Pool}
-use Rattle.reference_model.specs.State.{no_slot}
+use Rattle.step_reply.specs.declared.step.VmKind.{VmKind}
+use Rattle.reference_model.specs.State.{Phase, no_slot}
 use Rattle.run_list.specs.Runs.{run_map}
+use Rattle.guest_component.specs.Bodies.{phase_of}
 use Rattle.guest_component.specs.View.{guest_of, runs_of}
 use Rattle.guest_steps.specs.declared.parts.GuestPart.{GuestPart}
 use Rattle.guest_steps.specs.View.{vm_slots, cpu_of}
 use Rattle.ghost_spec.specs.declared.parts.GhostGuest.{GhostGuest}
 use Rattle.ghost_spec.specs.declared.state.Ghost.{Ghost}
+use Rattle.ghost_spec.specs.declared.state.GhostRooms.{GhostRooms}
 use Rattle.ghost_trees.specs.KeptTrees.{IsKeptTree}
-use Rattle.ghost_spec.specs.States.{slot_in}
+use Rattle.ghost_spec.specs.States.{phase_in, slot_in}
 use Rattle.ghost_trees.specs.Trees.{tree_in_lists}
 use Rattle.ghost_spec.specs.Views.{cpu_in}
 use Rattle.ghost_oracle.specs.declared.raw.RawGuest.{RawGuest}
@@ -31,16 +34,39 @@ abbrev pub slot_runs : {A : Type 0} → GuestPart A → Option (RawGuest A) → 
 slot_runs g None = runs_of g.guest.body
 slot_runs g (Some r) = r.map.maplets.runs
 
+-- its phase, generation and kind
+abbrev pub slot_phase : {A : Type 0} → GuestPart A → Option (RawGuest A) → Phase
+slot_phase g None = (guest_of g.guest).phase
+slot_phase g (Some r) = phase_of r.phase
+
+abbrev pub slot_generation : {A : Type 0} → GuestPart A → Option (RawGuest A) → ℕ
+slot_generation g None = (guest_of g.guest).generation
+slot_generation g (Some r) = r.generation
+
+abbrev pub slot_kind : {A : Type 0} → GuestPart A → Option (RawGuest A) → VmKind
+slot_kind g None = (guest_of g.guest).kind
+slot_kind g (Some r) = r.kind
+
 -- a guest on lists is that of a slot, its runs from where they are asked for
 pub record IsSlotFound {A : Type 0} (source : Source) (part : GuestPart A) (held : Option (RawGuest A)) (g : GhostGuest) : Type 0 where
   pub kept : IsKeptTree g.tree
   pub words : source ≡ Words → tree_in_lists g.tree ≡ (slot_seen part held).tree
   pub runs : source ≡ Maplets → g.tree.runs.items ≡ slot_runs part held
   pub free : g.free.items ≡ slot_free part held
+  pub phase : phase_in g.phase ≡ slot_phase part held
+  pub generation : g.generation ≡ slot_generation part held
+  pub kind : g.kind ≡ slot_kind part held
 
 -- each guest of a list is that of its slot
 abbrev pub AreSlotsFound : {A : Type 0} → Source → List (GuestPart A) → List (Option (RawGuest A)) → List GhostGuest → Type 0
 AreSlotsFound {A} source parts helds gs = (v : ℕ) (part : GuestPart A) (held : Option (RawGuest A)) (g : GhostGuest) → v < 64 → IsSlotFound source (get_or parts v part) (get_or helds v held) (get_or gs v g)
+
+-- the rooms of all logs are those of the parts
+pub record AreRoomsFound {A : Type 0} (p : RawParts A) (r : GhostRooms) : Type 0 where
+  pub vms : All (λ v. r.vms ≡ v.log.room) p.vms.items
+  pub shared : r.shared ≡ p.shared.log.room
+  pub guests : r.guests.items ≡ map (λ g. g.log.room) p.guests.items
+  pub cpus : r.cpus.items ≡ map (λ k. k.log.room) p.cpus.items
 
 -- a state on lists is that of the parts, its runs from where they are asked for, but for its rows
 pub record IsRawFound {A : Type 0} (source : Source) (p : RawParts A) (g : Ghost) : Type 0 where
@@ -56,6 +82,7 @@ pub record IsRawFound {A : Type 0} (source : Source) (p : RawParts A) (g : Ghost
   pub count : length g.guests.items ≡ 64
   pub slots : All (λ v. (slot : ℕ) → get_or (map slot_in g.vms.items) slot (no_slot 1) ≡ (vm_slots v).slot slot) p.vms.items
   pub cpus : map cpu_in g.cpus.items ≡ map cpu_of p.cpus.items
+  pub rooms : AreRoomsFound p g.rooms
 
 -- its rows are those that the owner table keeps
 abbrev pub SaysRawRows : {A : Type 0} → RawParts A → Ghost → Type 0

@@ -9,7 +9,7 @@ ghost use Rattle.ghost_spec.specs.Views.{cpu_in};
 ghost use Rattle.ghost_trees.specs.Trees.{tree_in_lists};
 ghost use Rattle.ghost_judge.specs.Audits.{AreMapsKept};
 ghost use Rattle.ghost_oracle.specs.Found.{scratch_rows, HasRowsOf};
-ghost use Rattle.ghost_oracle.specs.RawFound.{AreSlotsFound, IsRawFound, IsSlotFound, SaysRawRows};
+ghost use Rattle.ghost_oracle.specs.RawFound.{AreRoomsFound, AreSlotsFound, IsRawFound, IsSlotFound, SaysRawRows};
 ghost use Rattle.ghost_oracle.specs.Seen.{raw_seen};
 
 use crate::parts::{SlotsAndCpus, cpu_rooms, cpus_from, guest_rooms, slots_from};
@@ -122,7 +122,9 @@ fn raw_shared<A: Allocator>(
 }
 
 /// The rooms of all logs.
-fn raw_rooms<A: Allocator>(alloc: Global, parts: &RawParts<A>) -> Result<GhostRooms, AllocError> {
+fn raw_rooms<A: Allocator>(alloc: Global, parts: &RawParts<A>) -> Result<GhostRooms, AllocError>
+    ensures { IfOk result (AreRoomsFound parts.now) }
+{
     Ok(GhostRooms {
         vms: parts.vms[0].log.room(),
         shared: parts.shared.log.room(),
@@ -139,6 +141,7 @@ fn raw_slots_and_cpus<A: Allocator>(
     ensures layout { IfOk result (λ b. layout_of b.layout ≡ layout_of parts.now.layout) }
     ensures slots { IfOk result (λ b. All (λ v. (slot : ℕ) → get_or (map slot_in b.vms.items) slot (no_slot 1) ≡ (vm_slots v).slot slot) parts.now.vms.items) }
     ensures cpus { IfOk result (λ b. map cpu_in b.cpus.items ≡ map cpu_of parts.now.cpus.items) }
+    ensures rooms { IfOk result (λ b. AreRoomsFound parts.now b.rooms) }
 {
     Ok(SlotsAndCpus {
         layout: copied_layout(&parts.layout)?,

@@ -264,6 +264,8 @@ fn any_in(runs: &[Run], state: State) -> bool
 
 /// The frames that a tree maps in the state are lent to the component of a number, each at the first page that maps it. A tree
 /// none of whose runs maps a frame so is passed over.
+// inlined: most guests are Empty, and have no runs
+#[inline(always)]
 fn lend_tree(
     alloc: Global,
     layout: &Layout,

@@ -119,19 +119,30 @@ fn push_found(frames: &mut Vec<u64>, frame: Option<u64>) -> Result<(), AllocErro
     Ok(())
 }
 
-/// The frames of the tables that count, in increasing order.
-fn table_frames(alloc: Global, layout: &Layout, tables: &[Table]) -> Result<Vec<u64>, AllocError>
-    ensures { IfOk result (λ v. (f : ℕ) → is_free v.items f ≡ any_table_with (layout_of layout.now).depth tables.now f) }
+/// Adds the frames of the tables that count to a list.
+fn add_tables(frames: &mut Vec<u64>, layout: &Layout, tables: &[Table]) -> Result<(), AllocError>
+    ensures { OnOk result ((f : ℕ) → is_free frames.new.items f ≡ (is_free frames.old.items f || any_table_with (layout_of layout.now).depth tables.now f)) }
 {
-    let mut frames = Vec::with_capacity(alloc, tables.len())?;
     for table in tables {
-        push_found(&mut frames, frame_at(layout, tables, table.block))?;
+        push_found(frames, frame_at(layout, tables, table.block))?;
     }
+    Ok(())
+}
+
+/// The frames of a list get a use. They are put in order first, so that those that follow one another get it together.
+fn use_sorted(rows: &mut RunList<Row>, frames: Vec<u64>, usage: Usage) -> Result<(), AllocError>
+    requires reach { AreInReach HasPageBelow rows.old.runs }
+    ensures map { OnOk result ((f : ℕ) → f < 2 ^ 26 → run_map advance_row rows.new.runs f ≡ option_or (used_if (is_free frames.items f) usage) (run_map advance_row rows.old.runs f)) }
+    ensures reach { AreInReach HasPageBelow rows.new.runs }
+{
+    let mut frames = frames;
     frames.sort_unstable();
-    Ok(frames)
+    use_frames(rows, frames.as_slice(), usage)?;
+    Ok(())
 }
 
 /// The frames of the tables that count get a use.
+#[inline(always)]
 fn use_tables(
     alloc: Global,
     layout: &Layout,
@@ -143,11 +154,17 @@ fn use_tables(
     ensures map { OnOk result ((f : ℕ) → f < 2 ^ 26 → run_map advance_row rows.new.runs f ≡ option_or (used_if (any_table_with (layout_of layout.now).depth tables.now f) usage) (run_map advance_row rows.old.runs f)) }
     ensures reach { AreInReach HasPageBelow rows.new.runs }
 {
-    let frames = table_frames(alloc, layout, tables)?;
-    use_frames(rows, frames.as_slice(), usage)
+    if tables.is_empty() {
+        return Ok(());
+    }
+    let mut frames = Vec::with_capacity(alloc, tables.len())?;
+    add_tables(&mut frames, layout, tables)?;
+    use_sorted(rows, frames, usage)?;
+    Ok(())
 }
 
 /// The frames of a tree's tables get a use.
+#[inline(always)]
 fn use_tree(
     alloc: Global,
     layout: &Layout,
@@ -164,6 +181,7 @@ fn use_tree(
 }
 
 /// The frames of a pool and of a tree's tables get a use.
+#[inline(always)]
 fn use_pool(
     alloc: Global,
     layout: &Layout,
@@ -233,6 +251,25 @@ fn use_pools(
     Ok(())
 }
 
+/// The frames of the shared pool, and of the tables of the host's tree and the hypervisor's, are of the shared pool.
+fn use_shared(
+    alloc: Global,
+    layout: &Layout,
+    rows: &mut RunList<Row>,
+    shared: &Shared,
+) -> Result<(), AllocError>
+    requires reach { AreInReach HasPageBelow rows.old.runs }
+    ensures map { OnOk result ((f : ℕ) → f < 2 ^ 26 → run_map advance_row rows.new.runs f ≡ option_or (used_if (is_free shared.now.free.items f || is_table_frame (layout_of layout.now) (tree_in_lists shared.now.host) f || is_table_frame (layout_of layout.now) (tree_in_lists shared.now.hyp) f) Usage.SharedPool) (run_map advance_row rows.old.runs f)) }
+    ensures reach { AreInReach HasPageBelow rows.new.runs }
+{
+    let mut frames = Vec::new(alloc);
+    add_tables(&mut frames, layout, shared.host.tables.as_slice())?;
+    add_tables(&mut frames, layout, shared.hyp.tables.as_slice())?;
+    use_sorted(rows, frames, Usage::SharedPool)?;
+    use_frames(rows, shared.free.as_slice(), Usage::SharedPool)?;
+    Ok(())
+}
+
 /// The use of each frame: that of the shared pool before those of guests, and these before hands.
 pub(crate) fn all_uses(
     alloc: Global,
@@ -246,14 +283,6 @@ pub(crate) fn all_uses(
 {
     let mut rows = hands(alloc, cpus)?;
     use_pools(alloc, layout, &mut rows, guests)?;
-    use_tree(alloc, layout, &mut rows, &shared.hyp, Usage::SharedPool)?;
-    use_pool(
-        alloc,
-        layout,
-        &mut rows,
-        shared.free.as_slice(),
-        &shared.host,
-        Usage::SharedPool,
-    )?;
+    use_shared(alloc, layout, &mut rows, shared)?;
     Ok(rows)
 }

@@ -16,6 +16,7 @@ returns-clause-found g c = record {
   count = c.in_ok-guests.ensures.count;
   slots = c.in-Ok.ensures.slots;
   cpus = c.in-Ok.ensures.cpus;
+  rooms = c.in-Ok.ensures.rooms;
 }
 
 pub returns-clause-rows : goal.returns-clause-rows

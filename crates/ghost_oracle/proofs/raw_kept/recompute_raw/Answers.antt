@@ -30,6 +30,7 @@ returns-clause-found g c = let found = c.in_ok-found.ensures.found in record {
   count = found.count;
   slots = found.slots;
   cpus = found.cpus;
+  rooms = found.rooms;
 }
 
 pub returns-clause-rows : goal.returns-clause-rows
