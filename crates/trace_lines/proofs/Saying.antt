@@ -100,7 +100,8 @@ called_has P h words name = onward (named calls name) (found _ calls name h)
 
 -- what holds of the lines of each row, by their verb
 module _ (R : Verb → Line → Type 0) (of_setting : (name : SettingName) (setting : Setting) → R (verbs.Setting name) (lines.Setting setting)) (of_boot : R verbs.Boot lines.Boot)
-    (of_step : OfCalls (λ step. (cpu : ℕ) → R verbs.Step (lines.Step cpu step))) (of_query : (query : Query) → R verbs.Query (lines.Query query)) (of_poke_line : (poke : Poke) → R verbs.Poke (lines.Poke poke)) (words : List (List ℕ)) where
+    (of_step : OfCalls (λ step. (cpu : ℕ) → R verbs.Step (lines.Step cpu step))) (of_query : (query : Query) → R verbs.Query (lines.Query query)) (of_poke_line : (poke : Poke) → R verbs.Poke (lines.Poke poke))
+    (of_start : R verbs.Start lines.Start) (words : List (List ℕ)) where
   abbrev Holds : Asked → Type 0
   Holds a = IfSome a.line (R a.verb)
 
@@ -117,7 +118,7 @@ module _ (R : Verb → Line → Type 0) (of_setting : (name : SettingName) (sett
       number_row names.Cpus settings.Cpus,
       (
         number_row names.Log settings.Log,
-        (range_row names.Memory settings.Memory, (range_row names.Device settings.Device, (range_row names.Carve settings.Carve, (of_boot, tt)))),
+        (range_row names.Memory settings.Memory, (range_row names.Device settings.Device, (range_row names.Carve settings.Carve, (of_boot, (of_start, tt))))),
       ),
     ),
   )
@@ -184,10 +185,11 @@ IsOf verbs.Boot lines.Boot = Unit {0}
 IsOf verbs.Step (lines.Step cpu step) = Unit {0}
 IsOf verbs.Query (lines.Query query) = Unit {0}
 IsOf verbs.Poke (lines.Poke poke) = Unit {0}
+IsOf verbs.Start lines.Start = Unit {0}
 IsOf verb line = ⊥
 
 pub asked_suits : (words : List (List ℕ)) → IfSome (asked words) (λ a. IfSome a.line (IsOf a.verb))
-asked_suits words = of_asked IsOf (λ name setting. tt) tt (of_names (λ step. (cpu : ℕ) → Unit {0}) (λ step cpu. tt) calls) (λ query. tt) (λ poke. tt) words
+asked_suits words = of_asked IsOf (λ name setting. tt) tt (of_names (λ step. (cpu : ℕ) → Unit {0}) (λ step cpu. tt) calls) (λ query. tt) (λ poke. tt) tt words
 
 -- the line that words say has a property, where that of what they ask for has it in its place
 module _ (Q : Line → Type 0) (allows : Allows) (told : Told) where
@@ -214,6 +216,7 @@ stands allows told verbs.Boot lines.Boot h may = first allows.boot (is_some told
 stands allows told verbs.Step (lines.Step cpu step) h may = may
 stands allows told verbs.Query (lines.Query query) h may = may
 stands allows told verbs.Poke (lines.Poke poke) h may = may
+stands allows told verbs.Start lines.Start h may = may
 stands allows told verb line h may = absurd h
 
 pub words_allowed : (allows : Allows) (told : Told) (words : List (List ℕ)) → IfOk (said_by_words allows told words) (λ said. IfSome said (IsAllowed allows))

@@ -43,7 +43,8 @@ module _ (words : List (List ℕ)) where
       (codes "geometry", of_number names.Geometry settings.Geometry) ∷ (codes "cpus", of_number names.Cpus settings.Cpus)
       ∷ (codes "log", of_number names.Log settings.Log) ∷ (codes "memory", of_range names.Memory settings.Memory)
       ∷ (codes "device", of_range names.Device settings.Device) ∷ (codes "carve", of_range names.Carve settings.Carve)
-      ∷ (codes "boot", record { verb = verbs.Boot; words = 1; line = Some lines.Boot }) ∷ []
+      ∷ (codes "boot", record { verb = verbs.Boot; words = 1; line = Some lines.Boot })
+      ∷ (codes "start", record { verb = verbs.Start; words = 1; line = Some lines.Start }) ∷ []
 
   -- a step line
   abbrev pub of_call : Called → Asked

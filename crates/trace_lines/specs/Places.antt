@@ -1,17 +1,33 @@
 -- Where a line may stand (profile).
-use Rattle.std.specs.Prelude.{Bool, true, false, ◌&&◌, is_some, is_none, IsTrue}
+use Rattle.std.specs.Prelude.{Bool, true, false, not, ◌&&◌, is_some, is_none, IsTrue}
 use Rattle.trace_lines.specs.declared.line.Line.{Line}
 use Rattle.trace_lines.specs.declared.line.Line.TheVariants as lines
 use Rattle.trace_lines.specs.declared.place.Allows.{Allows}
 use Rattle.trace_lines.specs.declared.place.SettingName.{SettingName}
 use Rattle.trace_lines.specs.declared.place.SettingName.TheVariants.{Geometry, Cpus, Log, Memory, Device, Carve}
 use Rattle.trace_lines.specs.declared.place.Verb.{Verb}
-use Rattle.trace_lines.specs.declared.place.Verb.TheVariants.{Setting, Boot, Step, Query, Poke}
+use Rattle.trace_lines.specs.declared.place.Verb.TheVariants.{Setting, Boot, Step, Query, Poke, Start}
 use Rattle.trace_lines.specs.Settings.{Told}
 
 -- what each program allows before the boot
 abbrev pub before_boot : Allows
-before_boot = record { settings = true; boot = true; steps = false; queries = false; pokes = false }
+before_boot = record { settings = true; boot = true; steps = false; queries = false; pokes = false; start = false }
+
+-- what `replay` allows after it, and whether it was told already that the CPUs go on at once, which is told once at most
+abbrev pub of_replay : Bool → Allows
+of_replay started = record { settings = false; boot = false; steps = true; queries = true; pokes = false; start = not started }
+
+-- `race`: no question
+abbrev pub of_race : Bool → Allows
+of_race started = record { settings = false; boot = false; steps = true; queries = false; pokes = false; start = not started }
+
+-- `audit`, up to the first poke
+abbrev pub of_audit : Bool → Allows
+of_audit started = record { settings = false; boot = false; steps = true; queries = true; pokes = true; start = not started }
+
+-- and after it: further pokes
+abbrev pub after_poke : Allows
+after_poke = record { settings = false; boot = false; steps = false; queries = false; pokes = true; start = false }
 
 -- whether a setting may be told after these: any number of regions, and all else once
 abbrev pub may_tell : Told → SettingName → Bool
@@ -29,6 +45,7 @@ may_stand allows told Boot = allows.boot && is_some told.carve
 may_stand allows told Step = allows.steps
 may_stand allows told Query = allows.queries
 may_stand allows told Poke = allows.pokes
+may_stand allows told Start = allows.start
 
 -- a line of a kind that the program allows
 abbrev pub IsAllowed : Allows → Line → Type 0
@@ -37,3 +54,4 @@ IsAllowed allows lines.Boot = IsTrue allows.boot
 IsAllowed allows (lines.Step cpu step) = IsTrue allows.steps
 IsAllowed allows (lines.Query query) = IsTrue allows.queries
 IsAllowed allows (lines.Poke poke) = IsTrue allows.pokes
+IsAllowed allows lines.Start = IsTrue allows.start

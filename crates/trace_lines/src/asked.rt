@@ -104,6 +104,12 @@ fn header(first: &[u8], words: &Words<'_>) -> Option<Asked>
             words: 1,
             line: Some(Line::Boot),
         })
+    } else if is_name(first, b"start") {
+        Some(Asked {
+            verb: Verb::Start,
+            words: 1,
+            line: Some(Line::Start),
+        })
     } else {
         None
     }

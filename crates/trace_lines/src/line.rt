@@ -15,6 +15,8 @@ pub enum Line {
     Query(Query),
     /// Another word in place of one of a tree.
     Poke(Poke),
+    /// The CPUs go on at once.
+    Start,
 }
 
 /// A setting of a trace.

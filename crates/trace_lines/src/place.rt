@@ -1,6 +1,14 @@
 //! Where a line may be.
 ghost use Rattle.std.specs.Prelude.{◌≡◌};
-ghost use Rattle.trace_lines.specs.Places.{before_boot as before_boot_by, may_stand as may_stand_by, may_tell as may_tell_by};
+ghost use Rattle.trace_lines.specs.Places.{
+  after_poke as after_poke_by,
+  before_boot as before_boot_by,
+  may_stand as may_stand_by,
+  may_tell as may_tell_by,
+  of_audit as of_audit_by,
+  of_race as of_race_by,
+  of_replay as of_replay_by,
+};
 ghost use Rattle.trace_lines.specs.Settings.{told_of};
 
 use crate::settings::Settings;
@@ -13,6 +21,7 @@ pub struct Allows {
     pub steps: bool,
     pub queries: bool,
     pub pokes: bool,
+    pub start: bool,
 }
 
 impl Allows {
@@ -26,6 +35,63 @@ impl Allows {
             steps: false,
             queries: false,
             pokes: false,
+            start: false,
+        }
+    }
+
+    /// What `replay` allows after it. `started`: `start` was told.
+    pub fn of_replay(started: bool) -> Allows
+        ensures { result ≡ of_replay_by started }
+    {
+        Allows {
+            settings: false,
+            boot: false,
+            steps: true,
+            queries: true,
+            pokes: false,
+            start: !started,
+        }
+    }
+
+    /// What `race` allows after it.
+    pub fn of_race(started: bool) -> Allows
+        ensures { result ≡ of_race_by started }
+    {
+        Allows {
+            settings: false,
+            boot: false,
+            steps: true,
+            queries: false,
+            pokes: false,
+            start: !started,
+        }
+    }
+
+    /// What `audit` allows after it, up to the first poke.
+    pub fn of_audit(started: bool) -> Allows
+        ensures { result ≡ of_audit_by started }
+    {
+        Allows {
+            settings: false,
+            boot: false,
+            steps: true,
+            queries: true,
+            pokes: true,
+            start: !started,
+        }
+    }
+
+    /// What `audit` allows after a poke.
+    pub fn after_poke() -> Allows
+        ensures { result ≡ after_poke_by }
+    {
+        Allows {
+            settings: false,
+            boot: false,
+            steps: false,
+            queries: false,
+            pokes: true,
+            start: false,
         }
     }
 }
@@ -49,6 +115,7 @@ pub enum Verb {
     Step,
     Query,
     Poke,
+    Start,
 }
 
 /// Whether a line may come after these settings, where the program allows these lines.
@@ -61,6 +128,7 @@ pub fn may_stand(allows: Allows, settings: &Settings, verb: Verb) -> bool
         Verb::Step => allows.steps,
         Verb::Query => allows.queries,
         Verb::Poke => allows.pokes,
+        Verb::Start => allows.start,
     }
 }
 

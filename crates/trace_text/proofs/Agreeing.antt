@@ -1,6 +1,6 @@
 -- A report of a replay whose oracle finds no disagreement.
-use Rattle.std.proofs.Common.{◌≡◌, ◌<◌, ℕ, zero, suc, ◌+◌, ◌∙◌, refl, sym, ap, arith, subst, All, List, [], ◌∷◌, ◌++◌, length, map, Option, Some, None, Result, Ok, Err, MatchOption, MatchResult, is_some, inl, inr}
-use Rattle.std.specs.Prelude.{◌⊎◌, ⊤, ok_or, option_map}
+use Rattle.std.proofs.Common.{◌≡◌, ℕ, zero, suc, ◌+◌, ◌∙◌, refl, sym, ap, arith, subst, All, List, [], ◌∷◌, ◌++◌, length, map, Option, Some, None, Result, Ok, Err, MatchOption, MatchResult, is_some, inl, inr}
+use Rattle.std.specs.Prelude.{⊤, ok_or, option_map}
 use Rattle.std.proofs.lemmas.Bool.{cases_lt}
 use Rattle.std.proofs.lemmas.List.Elements.{All-append, All-cons, All-nil}
 use Rattle.page_state.specs.declared.entry.PageRange.{PageRange}
@@ -29,8 +29,9 @@ use Rattle.trace_text.specs.declared.session.Stop.{Stop}
 use Rattle.trace_text.specs.declared.session.Stop.TheVariants as stops
 use Rattle.trace_text.specs.Laws.{HasNoDisagreement, IsAgreeing, TraceAgrees}
 use Rattle.trace_text.specs.Oracles.{IsAgreed, agreed, audited_lines, judged_lines, verdict_lines}
-use Rattle.trace_text.specs.Replay.{Begins, IsReport, outcome_of}
-use Rattle.trace_text.specs.Session.{Answer, Answers, Follows, HasBooted, IsNoWorld, MakesStep, Standing, allowed, at_start}
+use Rattle.trace_text.specs.Replay.{IsReport, outcome_of}
+use Rattle.trace_text.specs.Reports.{Begins}
+use Rattle.trace_text.specs.Session.{Answer, Answers, Follows, HasBooted, IsNoWorld, MakesStep, Standing, Starts, allowed, at_start}
 use Rattle.trace_text.specs.Worlds.{Machine, free_told, guest_free_told}
 
 -- an answer that tells of no disagreement, and none was told before
@@ -41,7 +42,7 @@ pub record Quiet (answer : Answer) (new : Standing) : Type 0 where
 none_told : (v : Verdict) → IsAgreed v → verdict_lines v ≡ []
 none_told v a = ap (λ o. judged_lines o ++ audited_lines v.audited) a.judged ∙ ap audited_lines a.audited
 
-stopped : (answer : Answer) (stop : Stop) (new : Standing) → answer ≡ Err stop → Quiet answer new
+pub stopped : (answer : Answer) (stop : Stop) (new : Standing) → answer ≡ Err stop → Quiet answer new
 stopped answer stop new e = subst (λ a. Quiet a new) (sym e) (record { lines = tt; count = tt })
 
 one : (line : Response) → All IsAgreeing (report.Response line ∷ [])
@@ -102,7 +103,7 @@ module _ (old new : Standing) (answer : Answer) (none : old.disagreements ≡ 0)
   by_boot None h = stopped answer (stops.Fault (faults.Line Place)) new h.0
   by_boot (Some carve) h = booted carve answer refl h
 
-  by_said : (number : ℕ) (r : Result (Option Line) LineFault) → Follows agreed number r old answer new → Quiet answer new
+  pub by_said : (number : ℕ) (r : Result (Option Line) LineFault) → Follows agreed number r old answer new → Quiet answer new
   by_said number (Err fault) h = stopped answer (stops.Fault (faults.Line fault)) new h.0
   by_said number (Ok None) h = told [] h.0 (All-nil IsAgreeing) (kept h.1)
   by_said number (Ok (Some (lines.Setting setting))) h = tells setting answer refl h
@@ -110,6 +111,7 @@ module _ (old new : Standing) (answer : Answer) (none : old.disagreements ≡ 0)
   by_said number (Ok (Some (lines.Step cpu step))) h = by_machine (MakesStep agreed number cpu step) (by_step number cpu step) old.machine h
   by_said number (Ok (Some (lines.Query query))) h = by_machine (Answers query) (λ m. by_query m query) old.machine h
   by_said number (Ok (Some (lines.Poke poke))) h = stopped answer (stops.Fault (faults.Line Place)) new h.0
+  by_said number (Ok (Some lines.Start)) h = by_machine Starts (λ m k. told [] k.0 (All-nil IsAgreeing) (ap (λ (s : Standing). s.disagreements) k.1 ∙ none)) old.machine h
 
 unlike : outcomes.Fault ≡ outcomes.Disagreed → ⊥
 unlike h = cc
@@ -140,7 +142,7 @@ agrees (line ∷ rest) number old reported outcome none (answer, new, played, be
     by_answer number new rest reported outcome (λ more zero' report. agrees rest (number + 1) new more outcome zero' report) answer
     (elim (cases_lt 1048576 number) [
       | inl many ↦ stopped answer (stops.Fault faults.Lines) new (played.past many).0
-      | inr few ↦ by_said old new answer none number (said (allowed (is_some old.machine)) old.told line) (played.runs few)
+      | inr few ↦ by_said old new answer none number (said (allowed (is_some old.machine) old.started) old.told line) (played.runs few)
     ])
     begins
 

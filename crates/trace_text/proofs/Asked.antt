@@ -11,7 +11,7 @@ use Rattle.trace_lines.specs.declared.place.SettingName.{SettingName}
 use Rattle.trace_lines.specs.declared.place.Verb.{Verb}
 use Rattle.trace_lines.specs.declared.place.Verb.TheVariants as verbs
 use Rattle.trace_lines.specs.Asked.{asked}
-use Rattle.trace_lines.specs.Places.{may_stand, may_tell}
+use Rattle.trace_lines.specs.Places.{may_stand, may_tell, of_replay}
 use Rattle.trace_lines.specs.Said.{said, said_by_asked}
 use Rattle.trace_lines.specs.Settings.{Told, nothing_told}
 use Rattle.trace_words.specs.Words.{words_of, has_stray_byte, is_silent, has_stray_space}
@@ -26,6 +26,7 @@ FitsLine booted wanted lines.Boot = (booted ≡ false) × (wanted ≡ None)
 FitsLine booted wanted (lines.Step cpu step) = (booted ≡ true) × (wanted ≡ Some (cpu, step))
 FitsLine booted wanted (lines.Query query) = (booted ≡ true) × (wanted ≡ None)
 FitsLine booted wanted (lines.Poke poke) = ⊥
+FitsLine booted wanted lines.Start = (booted ≡ true) × (wanted ≡ None)
 
 abbrev pub Fits : Bool → Result (Option Line) LineFault → Option (ℕ × Step) → Type 0
 Fits booted (Err fault) wanted = Unit {0}
@@ -67,24 +68,32 @@ of_query None h = tt
 of_query (Some (lines.Query query)) h = (refl, refl)
 of_query (Some line) h = absurd h
 
-by_verb : (told : Told) (booted counted : Bool) (verb : Verb) (o : Option Line) → IfSome o (IsOf verb)
-    → Fits booted (if not (may_stand (allowed booted) told verb) then Err Place else (if not counted then Err Count else ok_or (option_map Some o) Form))
-    (step_said (if not (may_stand (allowed true) nothing_told verb) then Err Place else (if not counted then Err Count else ok_or (option_map Some o) Form)))
-by_verb told true counted (verbs.Setting name) o h = tt
-by_verb told true counted verbs.Boot o h = tt
-by_verb told true counted verbs.Step o h = after counted o (of_step o h)
-by_verb told true counted verbs.Query o h = after counted o (of_query o h)
-by_verb told true counted verbs.Poke o h = tt
-by_verb told false counted (verbs.Setting name) o h = before (may_tell told name) counted o (of_setting name o h)
-by_verb told false counted verbs.Boot o h = before (is_some told.carve) counted o (of_boot o h)
-by_verb told false counted verbs.Step o h = tt
-by_verb told false counted verbs.Query o h = tt
-by_verb told false counted verbs.Poke o h = tt
+of_start : (o : Option Line) → IfSome o (IsOf verbs.Start) → IfSome o (λ line. FitsLine true (step_said (Ok (Some line))) line)
+of_start None h = tt
+of_start (Some lines.Start) h = (refl, refl)
+of_start (Some line) h = absurd h
 
-by_asked : (told : Told) (booted : Bool) (count : ℕ) (o : Option Asked) → IfSome o (λ a. IfSome a.line (IsOf a.verb))
-    → Fits booted (said_by_asked (allowed booted) told count o) (step_said (said_by_asked (allowed true) nothing_told count o))
-by_asked told booted count None h = tt
-by_asked told booted count (Some a) h = by_verb told booted (count == a.words) a.verb a.line h
+by_verb : (told : Told) (booted started counted : Bool) (verb : Verb) (o : Option Line) → IfSome o (IsOf verb)
+    → Fits booted (if not (may_stand (allowed booted started) told verb) then Err Place else (if not counted then Err Count else ok_or (option_map Some o) Form))
+    (step_said (if not (may_stand (of_replay false) nothing_told verb) then Err Place else (if not counted then Err Count else ok_or (option_map Some o) Form)))
+by_verb told true started counted (verbs.Setting name) o h = tt
+by_verb told true started counted verbs.Boot o h = tt
+by_verb told true started counted verbs.Step o h = after counted o (of_step o h)
+by_verb told true started counted verbs.Query o h = after counted o (of_query o h)
+by_verb told true started counted verbs.Poke o h = tt
+by_verb told true false counted verbs.Start o h = after counted o (of_start o h)
+by_verb told true true counted verbs.Start o h = tt
+by_verb told false started counted (verbs.Setting name) o h = before (may_tell told name) counted o (of_setting name o h)
+by_verb told false started counted verbs.Boot o h = before (is_some told.carve) counted o (of_boot o h)
+by_verb told false started counted verbs.Step o h = tt
+by_verb told false started counted verbs.Query o h = tt
+by_verb told false started counted verbs.Poke o h = tt
+by_verb told false started counted verbs.Start o h = tt
+
+by_asked : (told : Told) (booted started : Bool) (count : ℕ) (o : Option Asked) → IfSome o (λ a. IfSome a.line (IsOf a.verb))
+    → Fits booted (said_by_asked (allowed booted started) told count o) (step_said (said_by_asked (of_replay false) nothing_told count o))
+by_asked told booted started count None h = tt
+by_asked told booted started count (Some a) h = by_verb told booted started (count == a.words) a.verb a.line h
 
 -- the tests of bytes and spaces in front
 behind : (booted long stray silent spaced : Bool) (x y : Result (Option Line) LineFault) → Fits booted x (step_said y)
@@ -96,8 +105,8 @@ behind booted false false true spaced x y h = refl
 behind booted false false false true x y h = tt
 behind booted false false false false x y h = h
 
-pub fits : (told : Told) (booted : Bool) (line : List ℕ) → Fits booted (said (allowed booted) told line) (step_asked line)
+pub fits : (told : Told) (booted started : Bool) (line : List ℕ) → Fits booted (said (allowed booted started) told line) (step_asked line)
 unfolding said
-fits told booted line =
+fits told booted started line =
     behind booted (nat_lt 256 (length line)) (has_stray_byte line) (is_silent line) (has_stray_space line) _ _
-    (by_asked told booted (length (words_of line)) (asked (words_of line)) (asked_suits (words_of line)))
+    (by_asked told booted started (length (words_of line)) (asked (words_of line)) (asked_suits (words_of line)))

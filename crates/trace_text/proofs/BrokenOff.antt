@@ -13,9 +13,10 @@ use Rattle.trace_text.specs.declared.session.Stop.TheVariants as stops
 use Rattle.trace_text.specs.BrokenOff.{AllAnswered, BeginningReports, BegunWrites, FirstAnswered, ReportsFront, asking, replying}
 use Rattle.trace_text.specs.Laws.{TellsBoot, TellsNoBoot, TellsRun, replies_told, reply_of, reply_told, steps_asked}
 use Rattle.trace_text.specs.Oracles.{Gives}
-use Rattle.trace_text.specs.Replay.{Begins, IsBeginning, IsPlayed, IsReport, end_line, outcome_of}
+use Rattle.trace_text.specs.Replay.{IsBeginning, IsPlayed, IsReport, end_line, outcome_of}
+use Rattle.trace_text.specs.Reports.{Begins}
 use Rattle.trace_text.specs.Session.{Answer, Standing, at_start}
-use Rattle.trace_text.specs.Texts.{text_of, text_of_report}
+use Rattle.trace_text.specs.Texts.{text_of_report}
 use Rattle.trace_text.specs.Worlds.{Machine}
 use Rattle.trace_text.proofs.ReplayLemmas.{text_of_report-append}
 use Rattle.trace_text.proofs.ToldRuns.{trace_runs}
@@ -69,7 +70,7 @@ module _ (gives : Gives) where
 
   front_of : (trace : List (List ℕ)) (number : ℕ) (old : Standing) (lines : List ReportLine) → IsBeginning gives number old trace lines → ReportsFront gives number old trace lines
   front_of [] number old lines (inl e) = at_once number old [] lines e
-  front_of [] number old lines (inr e) = whole number old lines e
+  front_of [] number old lines (inr (outcome, e)) = whole number old lines e.0
   front_of (line ∷ rest) number old lines (inl e) = at_once number old (line ∷ rest) lines e
   front_of (line ∷ rest) number old lines (inr h) = one_more number old line rest lines h.0 h.1 h.2 h.3 (λ more k. front_of rest (number + 1) h.1 more k) h.4
 

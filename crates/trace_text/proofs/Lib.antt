@@ -1,12 +1,13 @@
-mod Agreeing
-mod Asked
+pub mod Agreeing
+pub mod Asked
 mod BrokenOff
 mod Checked
-mod Failing
-mod Fronts
-mod Lined
-mod Machines
+pub mod Failing
+pub mod Fronts
+pub mod Kept
+pub mod Lined
+pub mod Machines
 mod OneLine
-mod ReplayLemmas
+pub mod ReplayLemmas
 mod Standing
 mod ToldRuns

@@ -25,9 +25,10 @@ use Rattle.trace_text.specs.declared.session.Stop.TheVariants as stops
 use Rattle.trace_text.specs.Laws.{reply_of, replies_told, step_asked}
 use Rattle.ghost_judge.specs.declared.disagreement.Disagreement.{Disagreement}
 use Rattle.trace_text.specs.Oracles.{Gives, audited_lines, judged_lines, verdict_lines}
-use Rattle.trace_text.specs.Replay.{Begins, IsReport}
+use Rattle.trace_text.specs.Replay.{IsReport}
+use Rattle.trace_text.specs.Reports.{Begins}
 use Rattle.trace_lines.specs.Said.{said}
-use Rattle.trace_text.specs.Session.{Standing, Answer, Answers, Follows, MakesStep, allowed}
+use Rattle.trace_text.specs.Session.{Standing, Answer, Answers, Follows, MakesStep, Starts, allowed}
 use Rattle.trace_text.specs.Worlds.{Machine, in_state, free_told, guest_free_told}
 use Rattle.trace_text.proofs.Asked.{Fits, fits}
 use Rattle.trace_lines.proofs.Saying.{mapped}
@@ -135,6 +136,10 @@ module _ (gives : Gives) (number : ℕ) (line : List ℕ) (rest : List (List ℕ
       ]
   by_said (Ok (Some (lines.Query query))) fit f = by_query query (of_some old.machine world _ (λ w. Answers query w old answer new) stands f) fit.1
   by_said (Ok (Some (lines.Poke poke))) fit f = absurd fit
+  by_said (Ok (Some lines.Start)) fit f =
+      let m = of_some old.machine world _ (λ w. Starts w old answer new) stands f in
+      let b = rw m.0 at begins in
+      inr (inl (record { new = new; stands = ap (λ (s : Standing). s.machine) m.1 ∙ stands; silent = fit.1; says = []; more = b.0; is = b.1; no_step = refl; report = b.2 }))
 
 pub one_line : (gives : Gives) (number : ℕ) (old : Standing) (world : Machine) (line : List ℕ) (rest : List (List ℕ)) (reported : List ReportLine) (outcome : Outcome)
     → old.machine ≡ Some world → IsReport gives number old (line ∷ rest) reported outcome → OneLine gives number world line rest reported outcome
@@ -142,6 +147,6 @@ one_line gives number old world line rest reported outcome stands (answer, new, 
     elim (cases_lt 1048576 number) [
       | inl many ↦ let x = played.past many in fault_ends gives number line rest old new answer reported outcome begins world stands faults.Lines x.0
       | inr few ↦
-          by_said gives number line rest old new answer reported outcome begins world stands (said (allowed true) old.told line) (fits old.told true line)
-          (subst (λ b. Follows gives number (said (allowed b) old.told line) old answer new) (ap (λ o. is_some o) stands) (played.runs few))
+          by_said gives number line rest old new answer reported outcome begins world stands (said (allowed true old.started) old.told line) (fits old.told true old.started line)
+          (subst (λ b. Follows gives number (said (allowed b old.started) old.told line) old answer new) (ap (λ o. is_some o) stands) (played.runs few))
     ]

@@ -21,13 +21,13 @@ use Rattle.trace_lines.specs.declared.line.Setting.{Setting}
 use Rattle.trace_lines.specs.declared.response.Response.{Response}
 use Rattle.trace_lines.specs.declared.response.Response.TheVariants as responses
 use Rattle.trace_reader.specs.declared.outcome.Outcome.{Outcome}
-use Rattle.trace_reader.specs.declared.outcome.Outcome.TheVariants as outcomes
 use Rattle.trace_text.specs.declared.report.ReportLine.{ReportLine}
 use Rattle.trace_text.specs.declared.report.ReportLine.TheVariants as report
 use Rattle.trace_text.specs.declared.session.Stop.TheVariants as stops
 use Rattle.trace_text.specs.Laws.{reply_told, replies_told, step_asked, steps_asked, Leads, TellsRun, StopsIn, Reaches, TellsNoBoot, TellsBoot, TraceRuns}
 use Rattle.trace_text.specs.Oracles.{Gives}
-use Rattle.trace_text.specs.Replay.{IsPlayed, Begins, IsReport, end_line}
+use Rattle.trace_text.specs.Replay.{IsPlayed, IsReport, end_line}
+use Rattle.trace_text.specs.Reports.{Begins}
 use Rattle.trace_lines.specs.Said.{said}
 use Rattle.trace_text.specs.Session.{Standing, Answer, Follows, Tells, HasBooted, IsNoWorld, allowed, at_start}
 use Rattle.trace_lines.specs.Settings.{config_of}
@@ -289,6 +289,7 @@ module _ (gives : Gives) (number : ℕ) (line : List ℕ) (rest : List (List ℕ
   before_boot answer played begins (Ok (Some (lines.Step cpu step))) fit f = absurd (on fit.0)
   before_boot answer played begins (Ok (Some (lines.Query query))) fit f = absurd (on fit.0)
   before_boot answer played begins (Ok (Some (lines.Poke poke))) fit f = absurd fit
+  before_boot answer played begins (Ok (Some lines.Start)) fit f = absurd (on fit.0)
 
 unbooted_runs : (gives : Gives) (trace : List (List ℕ)) (number : ℕ) (old : Standing) (reported : List ReportLine) (outcome : Outcome)
     → old.machine ≡ None → IsReport gives number old trace reported outcome → Told gives number old trace reported outcome
@@ -299,8 +300,8 @@ unbooted_runs gives (line ∷ rest) number old reported outcome unbooted (answer
     elim (cases_lt 1048576 number) [
       | inl many ↦ let x = played.past many in fault_alone gives number line rest old new reported outcome unbooted follows answer faults.Lines begins x.0
       | inr few ↦
-          before_boot gives number line rest old new reported outcome unbooted follows answer played begins (said (allowed false) old.told line) (fits old.told false line)
-          (subst (λ b. Follows gives number (said (allowed b) old.told line) old answer new) (ap (λ o. is_some o) unbooted) (played.runs few))
+          before_boot gives number line rest old new reported outcome unbooted follows answer played begins (said (allowed false old.started) old.told line) (fits old.told false old.started line)
+          (subst (λ b. Follows gives number (said (allowed b old.started) old.told line) old answer new) (ap (λ o. is_some o) unbooted) (played.runs few))
     ]
 
 pub trace_runs : (gives : Gives) → TraceRuns gives

@@ -1,5 +1,5 @@
 -- Laws of reports.
-use Rattle.std.specs.Prelude.{◌≡◌, ℕ, ◌+◌, ◌<◌, true, ◌⊎◌, ⊤, List, [], ◌∷◌, ◌++◌, length, map, filter_map, All, Option, Some, None, Result, Ok, Err}
+use Rattle.std.specs.Prelude.{◌≡◌, ℕ, ◌+◌, ◌<◌, false, ◌⊎◌, ⊤, List, [], ◌∷◌, ◌++◌, length, map, filter_map, All, Option, Some, None, Result, Ok, Err}
 use Rattle.page_state.specs.declared.entry.PageRange.{PageRange}
 use Rattle.step_reply.specs.declared.reply.Call.{Call}
 use Rattle.step_reply.specs.declared.reply.Reply.{Reply}
@@ -19,8 +19,9 @@ use Rattle.trace_text.specs.declared.report.ReportLine.{ReportLine}
 use Rattle.trace_text.specs.declared.report.ReportLine.TheVariants as report
 use Rattle.trace_text.specs.Oracles.{Gives, agreed}
 use Rattle.trace_text.specs.Replay.{IsPlayed, IsReport}
+use Rattle.trace_lines.specs.Places.{of_replay}
 use Rattle.trace_lines.specs.Said.{said}
-use Rattle.trace_text.specs.Session.{Standing, HasBooted, allowed, at_start}
+use Rattle.trace_text.specs.Session.{Standing, HasBooted, at_start}
 use Rattle.trace_text.specs.Worlds.{Machine, in_state}
 use Rattle.trace_lines.specs.Settings.{nothing_told}
 
@@ -53,10 +54,11 @@ step_said (Ok (Some lines.Boot)) = None
 step_said (Ok (Some (lines.Step cpu step))) = Some (cpu, step)
 step_said (Ok (Some (lines.Query query))) = None
 step_said (Ok (Some (lines.Poke poke))) = None
+step_said (Ok (Some lines.Start)) = None
 
 -- the CPU and the step that the bytes of a line ask for; what was told before has no part in it
 abbrev pub step_asked : List ℕ → Option (ℕ × Step)
-step_asked line = step_said (said (allowed true) nothing_told line)
+step_asked line = step_said (said (of_replay false) nothing_told line)
 
 -- those of all step lines of a trace, in order
 abbrev pub steps_asked : List (List ℕ) → List (ℕ × Step)

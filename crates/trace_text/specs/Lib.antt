@@ -6,6 +6,7 @@ pub mod Oracles
 pub mod Played
 pub mod Ready
 pub mod Replay
+pub mod Reports
 pub mod Session
 pub mod Texts
 pub mod View

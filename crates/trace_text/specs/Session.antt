@@ -30,27 +30,29 @@ use Rattle.trace_text.specs.declared.report.ReportLine.{ReportLine}
 use Rattle.trace_text.specs.declared.report.ReportLine.TheVariants as report
 use Rattle.trace_text.specs.declared.session.Stop.{Stop}
 use Rattle.trace_text.specs.declared.session.Stop.TheVariants as stops
-use Rattle.trace_lines.specs.Places.{before_boot}
+use Rattle.trace_lines.specs.Places.{before_boot, of_replay}
 use Rattle.trace_lines.specs.Said.{said}
 use Rattle.trace_lines.specs.Settings.{Told, nothing_told, told_after, config_of}
 use Rattle.trace_text.specs.Oracles.{Gives, verdict_lines}
 use Rattle.trace_text.specs.Worlds.{Machine, HasMaplets, IsBootOf, IsWordOn, in_state, tree_told, tables_told, free_told, guest_free_told}
 
--- where a trace stands: what was told, the machine once it is booted, how many step lines were carried out, and how many disagreements were told
+-- where a trace stands: what was told, the machine once it is booted, whether `start` was told, how many step lines were carried out, and how many
+-- disagreements were told
 pub record Standing : Type 0 where
   pub told : Told
   pub machine : Option Machine
+  pub started : Bool
   pub steps : ℕ
   pub disagreements : ℕ
 
 -- before the first line
 abbrev pub at_start : Standing
-at_start = record { told = nothing_told; machine = None; steps = 0; disagreements = 0 }
+at_start = record { told = nothing_told; machine = None; started = false; steps = 0; disagreements = 0 }
 
 -- what `replay` allows, before and after the boot
-abbrev pub allowed : Bool → Allows
-allowed false = before_boot
-allowed true = record { settings = false; boot = false; steps = true; queries = true; pokes = false }
+abbrev pub allowed : Bool → Bool → Allows
+allowed false started = before_boot
+allowed true started = of_replay started
 
 -- what a line answers: lines of the report, or why it ends the run
 abbrev pub Answer : Type 0
@@ -101,6 +103,10 @@ Asks told fault old answer new = (answer ≡ ok_or (option_map (λ line. report.
 abbrev pub OnMachine : (Machine → Standing → Answer → Standing → Type 0) → Standing → Answer → Standing → Type 0
 OnMachine does old answer new = MatchOption old.machine (Faults (faults.Line Place) old answer new) (λ m. does m old answer new)
 
+-- `start`, which says nothing here
+abbrev pub Starts : Machine → Standing → Answer → Standing → Type 0
+Starts m old answer new = (answer ≡ Ok []) × (new ≡ record old { started = true })
+
 -- a query
 abbrev pub Answers : Query → Machine → Standing → Answer → Standing → Type 0
 Answers (queries.Word tree page level) m old answer new =
@@ -136,6 +142,7 @@ module _ (gives : Gives) where
   DoesLine number (lines.Step cpu step) = OnMachine (MakesStep number cpu step)
   DoesLine number (lines.Query query) = OnMachine (Answers query)
   DoesLine number (lines.Poke poke) = Faults (faults.Line Place)
+  DoesLine number lines.Start = OnMachine Starts
 
   -- what follows from what a line says
   abbrev pub Follows : ℕ → Result (Option Line) LineFault → Standing → Answer → Standing → Type 0
@@ -145,4 +152,4 @@ module _ (gives : Gives) where
 
   -- what the bytes of a line do
   abbrev pub RunsLine : ℕ → List ℕ → Standing → Answer → Standing → Type 0
-  RunsLine number bytes old answer new = Follows number (said (allowed (is_some old.machine)) old.told bytes) old answer new
+  RunsLine number bytes old answer new = Follows number (said (allowed (is_some old.machine) old.started) old.told bytes) old answer new

@@ -28,7 +28,7 @@ machine_of w = record { layout = parts_layout w.parts; state = state_of w.parts 
 
 -- where a session stands
 abbrev pub standing_of : {A : Type 0} → Session A → Standing
-standing_of s = record { told = told_of s.settings; machine = option_map machine_of s.world; steps = s.steps; disagreements = s.disagreements }
+standing_of s = record { told = told_of s.settings; machine = option_map machine_of s.world; started = s.started; steps = s.steps; disagreements = s.disagreements }
 
 -- what the guest in a slot holds, if it isn't Empty and there is such a slot
 abbrev pub body_in : {A : Type 0} → Option (GuestPart A) → Option (Body A)

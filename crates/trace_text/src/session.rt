@@ -1,12 +1,13 @@
 //! What a trace has said so far, and what a line does.
-ghost use Rattle.std.specs.Prelude.{◌≡◌, ◌+◌, ◌<◌, ◌≤◌, ◌^◌, List, [], Option, Some, None, is_some, IfOk, IfSome, OnOk, OnErr, MatchOption, MatchResult};
+ghost use Rattle.std.specs.Prelude.{◌≡◌, ◌+◌, ◌<◌, ◌≤◌, ◌^◌, List, [], Option, Some, None, is_some, option_copied, option_map, IfOk, IfSome, OnOk, OnErr, MatchOption, MatchResult};
 ghost use Rattle.page_state.specs.declared.layout.Config.{Config};
 ghost use Rattle.page_state.specs.LayoutFaults.{IsAccepted};
 ghost use Rattle.page_state.specs.Regions.{memory_of};
-ghost use Rattle.trace_text.specs.Session.{Answers, Boots, DoesLine, IsNoWorld, MakesStep, OnMachine, RunsLine, Tells, allowed, at_start};
+ghost use Rattle.trace_text.specs.Session.{Answers, Boots, DoesLine, IsNoWorld, MakesStep, OnMachine, RunsLine, Starts, Tells, allowed, at_start};
 ghost use Rattle.hypercalls.specs.Stands.{state_of};
 ghost use Rattle.hypercalls.specs.Whole.{call_of, IsStep};
 ghost use Rattle.trace_text.specs.Looks.{Looks, world_tables};
+ghost use Rattle.trace_text.specs.Oracles.{agreed};
 ghost use Rattle.trace_text.specs.Ready.{IsReady, IsStateAt};
 ghost use Rattle.table_tree.specs.Reading.{count_of};
 ghost use Rattle.ghost_oracle.specs.Counted.{HasRead};
@@ -57,6 +58,8 @@ pub struct Session<A: Allocator> {
     world: Option<World<A>>,
     /// What the world keeps, where a step was made: the state before the next one.
     state: Option<Ghost>,
+    /// Whether `start` was told.
+    started: bool,
     steps: u64,
     disagreements: u64,
     /// The words that the checks of its steps have read.
@@ -75,10 +78,51 @@ impl<A: Allocator + Copy> Session<A> {
             settings: Settings::new(global),
             world: None,
             state: None,
+            started: false,
             steps: 0,
             disagreements: 0,
             reads: Reads::new(),
         }
+    }
+
+    /// What was told before the boot.
+    pub fn settings(&self) -> &Settings
+        ensures { told_of result.now ≡ (standing_of self.now).told }
+    {
+        &self.settings
+    }
+
+    /// Whether the machine has booted.
+    pub fn has_booted(&self) -> bool
+        ensures { result ≡ is_some (standing_of self.now).machine }
+    {
+        self.world.is_some()
+    }
+
+    /// Whether `start` was told.
+    pub fn has_started(&self) -> bool
+        ensures { result ≡ (standing_of self.now).started }
+    {
+        self.started
+    }
+
+    /// The world, if there is one.
+    pub fn world(&self) -> Option<&World<A>>
+        ensures { option_map machine_of (option_copied result) ≡ (standing_of self.now).machine }
+    {
+        self.world.as_ref()
+    }
+
+    /// Takes the world out, if there is one. All else stays as it was, and no machine is there any more.
+    pub fn take_world(&mut self) -> Option<World<A>>
+        requires ready { IsReady self.old }
+        ensures world { option_map machine_of result ≡ (standing_of self.old).machine }
+        ensures rest { standing_of self.new ≡ record (standing_of self.old) { machine = None } }
+        ensures ready { IsReady self.new }
+    {
+        // What was remembered goes to `drop`, as in `checked`.
+        drop(self.state.take());
+        self.world.take()
     }
 
     /// How many step lines were carried out.
@@ -97,16 +141,10 @@ impl<A: Allocator + Copy> Session<A> {
 
     /// What `replay` allows at this point of the session.
     fn allows(&self) -> Allows
-        ensures { result ≡ allowed (is_some (standing_of self.now).machine) }
+        ensures { result ≡ allowed (is_some (standing_of self.now).machine) (standing_of self.now).started }
     {
         if self.world.is_some() {
-            Allows {
-                settings: false,
-                boot: false,
-                steps: true,
-                queries: true,
-                pokes: false,
-            }
+            Allows::of_replay(self.started)
         } else {
             Allows::before_boot()
         }
@@ -152,7 +190,40 @@ impl<A: Allocator + Copy> Session<A> {
             Line::Step { cpu, step } => self.step(oracle, number, cpu, step),
             Line::Query(query) => self.ask(query),
             Line::Poke(_) => Err(Stop::Fault(Fault::Line(LineFault::Place))),
+            Line::Start => self.start(),
         }
+    }
+
+    /// Carries out a line as a session does whose steps no oracle looks at. A poke has no place here.
+    pub fn carry_out_unasked(&mut self, number: u64, said: Line) -> Result<Reported, Stop>
+        requires few { (standing_of self.old).steps < 2 ^ 62 }
+        requires ready { IsReady self.old }
+        ensures done { DoesLine agreed number said (standing_of self.old) (answer_of self.new result) (standing_of self.new) }
+        ensures steps { (standing_of self.new).steps ≤ (standing_of self.old).steps + 1 }
+        ensures ready { IsReady self.new }
+    {
+        match said {
+            Line::Setting(setting) => self.tell(setting),
+            Line::Boot => self.boot(),
+            Line::Step { cpu, step } => self.make(number, cpu, step),
+            Line::Query(query) => self.ask(query),
+            Line::Poke(_) => Err(Stop::Fault(Fault::Line(LineFault::Place))),
+            Line::Start => self.start(),
+        }
+    }
+
+    /// Takes up that `start` was told.
+    fn start(&mut self) -> Result<Reported, Stop>
+        requires ready { IsReady self.old }
+        ensures done { OnMachine Starts (standing_of self.old) (answer_of self.new result) (standing_of self.new) }
+        ensures steps { self.new.steps ≡ self.old.steps }
+        ensures ready { IsReady self.new }
+    {
+        if self.world.is_none() {
+            return Err(Stop::Fault(Fault::Line(LineFault::Place)));
+        }
+        self.started = true;
+        Ok(Reported::Nothing)
     }
 
     /// Takes up a setting.
@@ -237,6 +308,31 @@ impl<A: Allocator + Copy> Session<A> {
             reply: made.reply,
         };
         Ok(Reported::Step(line, made.verdict))
+    }
+
+    /// Makes one step, at which no oracle looks.
+    fn make(&mut self, number: u64, cpu: u64, step: Step) -> Result<Reported, Stop>
+        requires few { self.old.steps < 2 ^ 62 }
+        requires ready { IsReady self.old }
+        ensures done { OnMachine (MakesStep agreed number cpu step) (standing_of self.old) (answer_of self.new result) (standing_of self.new) }
+        ensures steps { self.new.steps ≤ self.old.steps + 1 }
+        ensures ready { IsReady self.new }
+    {
+        let Some(world) = self.world.as_mut() else {
+            return Err(Stop::Fault(Fault::Line(LineFault::Place)));
+        };
+        if world.cpus() <= cpu {
+            return Err(Stop::Fault(Fault::Cpu));
+        }
+        let told = world.step(cpu, step);
+        // What was remembered is no state of this world any more.
+        drop(self.state.take());
+        self.steps = self.steps + 1;
+        Ok(Reported::Line(Response::Step {
+            line: number,
+            cpu,
+            reply: told,
+        }))
     }
 
     /// Answers a query.
@@ -377,7 +473,7 @@ fn word_on<A: Allocator>(world: &World<A>, tree: TreeName, page: u64, level: u64
 }
 
 /// What a report says of a boot.
-fn boot_line<A: Allocator>(world: &World<A>) -> Response
+pub fn boot_line<A: Allocator>(world: &World<A>) -> Response
     ensures { let m = machine_of world.now in result ≡ Response.Boot (tables_told m TreeName.Host) (tables_told m TreeName.Hyp) (free_told m) }
 {
     let shared = world.parts().shared();
@@ -389,7 +485,7 @@ fn boot_line<A: Allocator>(world: &World<A>) -> Response
 }
 
 /// The memory of the regions and the carve-out that were given.
-fn told_memory(global: Global, regions: &[Region], carve: PageRange) -> Result<MemoryMap, Stop>
+pub fn told_memory(global: Global, regions: &[Region], carve: PageRange) -> Result<MemoryMap, Stop>
     ensures { let memory = memory_of regions.now carve in MatchResult result (λ map. (map ≡ memory) × IsAccepted memory) (λ stop. (config : Config) → IsNoWorld stop memory config) }
 {
     match MemoryMap::new(global, regions, carve) {

@@ -1,18 +1,18 @@
 //! Replaying a trace.
-ghost use Rattle.std.specs.Prelude.{◌≡◌, ◌<◌, ◌≤◌, ◌+◌, ◌^◌, [], ◌∷◌, IfOk, OnErr, OnOk, map};
+ghost use Rattle.std.specs.Prelude.{◌≡◌, ◌<◌, ◌^◌, [], ◌∷◌, IfOk, OnErr, OnOk, map};
 ghost use Rattle.trace_text.specs.Oracles.{agreed, audited_lines, judged_lines, verdict_lines};
 ghost use Rattle.trace_text.specs.Ready.{IsReady};
-ghost use Rattle.trace_text.specs.Session.{at_start};
+ghost use Rattle.trace_text.specs.Session.{RunsLine, at_start};
 ghost use Rattle.std.specs.Io.KnownBytes.{Appends};
 ghost use Rattle.trace_text.specs.Failures.{CountsReads, CountsWrites, TellsWrite};
-ghost use Rattle.trace_text.specs.Replay.{IsBegun, IsReplayed, end_line, outcome_of};
-ghost use Rattle.trace_text.specs.Played.{Plays, PlaysFront, WritesFront};
+ghost use Rattle.trace_text.specs.Replay.{Ends, IsBegun, IsReplayed, outcome_of};
+ghost use Rattle.trace_text.specs.Played.{Writes, WritesFront, lines_told};
 ghost use Rattle.trace_text.specs.Texts.{text_of_report};
-ghost use Rattle.trace_reader.specs.Ahead.{left};
-ghost use Rattle.trace_text.specs.View.{lines_reported, standing_of};
+ghost use Rattle.trace_text.specs.View.{answer_of, lines_reported, standing_of};
 
 use crate::fault::Fault;
 use crate::oracle::{GhostOracle, Oracle, Verdict};
+use crate::player::{Player, play_trace};
 use crate::report::ReportLine;
 use crate::session::{Reported, Session, Stop};
 use crate::sink::Sink;
@@ -20,10 +20,7 @@ use ghost_judge::disagreement::Disagreement;
 use maplets::Runs;
 use std::alloc::{Allocator, Global};
 use trace_lines::Response;
-use trace_reader::{EngineFault, Failed, MOST_BYTES, Outcome, ReadAhead, Source, read_line};
-
-/// The most lines of a trace.
-const MOST_LINES: u64 = 1_048_576;
+use trace_reader::{EngineFault, Failed, Outcome, Source};
 
 /// Reads a trace line by line, carries it out, and writes its report. `alloc` is where the tables of the trees lie. A
 /// fault of the trace ends the report, and the report of the lines before it remains. It reads ahead of the line that it
@@ -61,78 +58,74 @@ pub fn replay_with<A: Allocator + Copy, S: Source, K: Sink, O: Oracle>(
     ensures reads { CountsReads (S.failures source.old) (S.failures source.new) result }
     ensures writes { CountsWrites (K.failures sink.old) (K.failures sink.new) result }
 {
-    let mut line = Vec::with_capacity(global, MOST_BYTES + 1).map_err(|_| EngineFault::NoMemory)?;
-    let mut text = String::with_capacity(global, MOST_BYTES).map_err(|_| EngineFault::NoMemory)?;
-    let mut ahead = ReadAhead::new(global).map_err(|_| EngineFault::NoMemory)?;
-    let mut session = Session::new(global, alloc);
-    let outcome = replay_lines(
-        &mut session,
-        oracle,
-        source,
-        &mut ahead,
-        &mut line,
-        sink,
-        &mut text,
-    );
+    let mut replaying = Replaying::new(global, alloc, oracle);
+    let outcome = play_trace(global, &mut replaying, source, sink);
     // As in `session::checked`.
-    drop(session);
+    drop(replaying);
     outcome
 }
 
-/// Carries out the lines of what is left of a trace. `ahead` is what was read ahead of them, `line` and `text` are room for
-/// one line of the trace and of the report.
-fn replay_lines<A: Allocator + Copy, S: Source, K: Sink, O: Oracle>(
-    session: &mut Session<A>,
-    oracle: &mut O,
-    source: &mut S,
-    ahead: &mut ReadAhead,
-    line: &mut Vec<u8>,
-    sink: &mut K,
-    text: &mut String,
-) -> Result<Outcome, EngineFault>
-    requires few_reads { S.failures source.old < 2 ^ 63 }
-    requires few_writes { K.failures sink.old < 2 ^ 63 }
-    requires start { standing_of session.old ≡ at_start }
-    requires ready { IsReady session.old }
-    ensures report { IfOk result (λ outcome. IsReplayed O.gives (left ahead.old (S.remaining source.old)) (K.contents sink.old) (K.contents sink.new) outcome) }
-    ensures begun { OnErr result (IsBegun O.gives (left ahead.old (S.remaining source.old)) (K.contents sink.old) (K.contents sink.new)) }
-    ensures reads { CountsReads (S.failures source.old) (S.failures source.new) result }
-    ensures writes { CountsWrites (K.failures sink.old) (K.failures sink.new) result }
-{
-    for number in 1..MOST_LINES + 1 {
-        if !read_line(source, ahead, line)? {
-            return ended(session, sink, text);
-        }
-        let played = play(session, oracle, number, line.as_slice(), sink, text)?;
-        if let Some(outcome) = played {
-            return Ok(outcome);
-        }
-    }
-    if read_line(source, ahead, line)? {
-        return faulted(sink, text, MOST_LINES + 1, Fault::Lines);
-    }
-    ended(session, sink, text)
+/// What carries a trace out under `replay`: a session, and the oracle that is asked after each step.
+#[derive(Drop)]
+pub(crate) struct Replaying<'a, A: Allocator, O: Oracle> {
+    session: Session<A>,
+    oracle: &'a mut O,
 }
 
-/// Carries a line out and writes what it reports, and gives the outcome where the line ends the run.
-fn play<A: Allocator + Copy, O: Oracle, K: Sink>(
-    session: &mut Session<A>,
-    oracle: &mut O,
-    number: u64,
-    line: &[u8],
+impl<'a, A: Allocator + Copy, O: Oracle> Replaying<'a, A, O> {
+    pub(crate) fn new(global: Global, alloc: A, oracle: &'a mut O) -> Replaying<'a, A, O>
+        ensures start { standing_of result.session ≡ at_start }
+        ensures ready { IsReady result.session }
+    {
+        Replaying {
+            session: Session::new(global, alloc),
+            oracle,
+        }
+    }
+}
+
+impl<'a, A: Allocator + Copy, O: Oracle> Player for Replaying<'a, A, O> {
+    ghost ready = { λ number replay. IsReady replay.session × ((standing_of replay.session).steps < number) };
+
+    ghost does = { λ number line old answer new. RunsLine O.gives number line (standing_of old.session) answer (standing_of new.session) };
+
+    ghost ends = { λ replaying. Ends (standing_of replaying.session) };
+
+    fn play<K: Sink>(
+        &mut self,
+        number: u64,
+        line: &[u8],
+        sink: &mut K,
+        text: &mut String,
+    ) -> Result<Option<Outcome>, EngineFault> {
+        let ran = self.session.run(self.oracle, number, line);
+        tell_answer(&self.session, sink, text, number, ran)
+    }
+
+    fn end<K: Sink>(&self, sink: &mut K, text: &mut String) -> Result<Outcome, EngineFault> {
+        tell_end(
+            sink,
+            text,
+            self.session.steps(),
+            self.session.disagreements(),
+        )
+    }
+}
+
+/// Writes what the line of a number answered, and gives the outcome where that ends the run.
+pub fn tell_answer<A: Allocator + Copy, K: Sink>(
+    session: &Session<A>,
     sink: &mut K,
     text: &mut String,
+    number: u64,
+    ran: Result<Reported, Stop>,
 ) -> Result<Option<Outcome>, EngineFault>
-    requires steps { (standing_of session.old).steps < 2 ^ 62 }
-    requires ready { IsReady session.old }
     requires few { K.failures sink.old < 2 ^ 63 }
-    ensures played { IfOk result (λ ended. Plays O.gives number line.now (standing_of session.old) (standing_of session.new) (K.contents sink.old) (K.contents sink.new) ended) }
-    ensures steps { (standing_of session.new).steps ≤ (standing_of session.old).steps + 1 }
-    ensures ready { IsReady session.new }
-    ensures front { OnErr result (PlaysFront O.gives number line.now (standing_of session.old) (K.contents sink.old) (K.contents sink.new)) }
+    ensures ok { IfOk result (Writes number (answer_of session.now ran) (K.contents sink.old) (K.contents sink.new)) }
+    ensures front { OnErr result (WritesFront (lines_told number (answer_of session.now ran)) (K.contents sink.old) (K.contents sink.new)) }
     ensures counted { TellsWrite (K.failures sink.old) (K.failures sink.new) result }
 {
-    match session.run(oracle, number, line) {
+    match ran {
         Ok(reported) => {
             tell_reported(session, sink, text, reported)?;
             Ok(None)
@@ -217,7 +210,7 @@ fn tell_judged<K: Sink>(
 }
 
 /// Writes what an audit found, if anything.
-fn tell_audited<K: Sink>(
+pub fn tell_audited<K: Sink>(
     sink: &mut K,
     text: &mut String,
     found: Option<Disagreement>,
@@ -247,7 +240,7 @@ fn tell_runs<K: Sink>(sink: &mut K, text: &mut String, runs: Runs<'_>) -> Result
 }
 
 /// Writes a line of the report, which is made in `text` first.
-fn tell<K: Sink>(sink: &mut K, text: &mut String, told: ReportLine) -> Result<(), EngineFault>
+pub fn tell<K: Sink>(sink: &mut K, text: &mut String, told: ReportLine) -> Result<(), EngineFault>
     requires few { K.failures sink.old < 2 ^ 63 }
     ensures ok { OnOk result (Appends (K.contents sink.old) (K.contents sink.new) (text_of_report (told ∷ []))) }
     ensures front { OnErr result (WritesFront (told ∷ []) (K.contents sink.old) (K.contents sink.new)) }
@@ -262,23 +255,24 @@ fn tell<K: Sink>(sink: &mut K, text: &mut String, told: ReportLine) -> Result<()
     }
 }
 
-/// Ends the report of a whole trace.
-fn ended<A: Allocator + Copy, K: Sink>(
-    session: &Session<A>,
+/// Ends the report of a whole trace: its numbers of step lines and of disagreements.
+pub fn tell_end<K: Sink>(
     sink: &mut K,
     text: &mut String,
+    steps: u64,
+    disagreements: u64,
 ) -> Result<Outcome, EngineFault>
     requires few { K.failures sink.old < 2 ^ 63 }
-    ensures ok { IfOk result (λ outcome. (outcome ≡ outcome_of (standing_of session.now).disagreements) × Appends (K.contents sink.old) (K.contents sink.new) (text_of_report (end_line (standing_of session.now) ∷ []))) }
-    ensures front { OnErr result (WritesFront (end_line (standing_of session.now) ∷ []) (K.contents sink.old) (K.contents sink.new)) }
+    ensures ok { IfOk result (λ outcome. (outcome ≡ outcome_of disagreements) × Appends (K.contents sink.old) (K.contents sink.new) (text_of_report (ReportLine.End steps disagreements ∷ []))) }
+    ensures front { OnErr result (WritesFront (ReportLine.End steps disagreements ∷ []) (K.contents sink.old) (K.contents sink.new)) }
     ensures counted { TellsWrite (K.failures sink.old) (K.failures sink.new) result }
 {
     let told = ReportLine::End {
-        steps: session.steps(),
-        disagreements: session.disagreements(),
+        steps,
+        disagreements,
     };
     tell(sink, text, told)?;
-    Ok(if session.disagreements() == 0 {
+    Ok(if disagreements == 0 {
         Outcome::Clean
     } else {
         Outcome::Disagreed
@@ -286,7 +280,7 @@ fn ended<A: Allocator + Copy, K: Sink>(
 }
 
 /// Ends the report with a fault.
-fn faulted<K: Sink>(
+pub fn faulted<K: Sink>(
     sink: &mut K,
     text: &mut String,
     line: u64,

@@ -7,6 +7,9 @@ returns-in-Step c = search rules
 pub returns-in-Poke : goal.returns-in-Poke
 returns-in-Poke c = search rules
 
+pub returns-in-Start : goal.returns-in-Start
+returns-in-Start c = search rules
+
 pub returns-in-Query : goal.returns-in-Query
 returns-in-Query c = search rules
 
