@@ -1,0 +1,4 @@
+pub mod Audited
+pub mod Laws
+pub mod Paths
+pub mod View

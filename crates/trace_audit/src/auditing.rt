@@ -1,0 +1,84 @@
+//! Auditing a trace.
+ghost use Rattle.std.specs.Prelude.{◌≡◌, ◌<◌, ◌^◌, ◌++◌, ◌∷◌, [], IfOk, OnErr, length};
+ghost use Rattle.std.specs.Io.KnownBytes.{Appends};
+ghost use Rattle.trace_audit.specs.Audited.{Ends, IsAuditBegun, IsAuditTold, RunsLine};
+ghost use Rattle.trace_audit.specs.View.{audited_of};
+ghost use Rattle.trace_text.specs.Failures.{CountsReads, CountsWrites, TellsWrite};
+ghost use Rattle.trace_text.specs.Oracles.{audited_lines};
+ghost use Rattle.trace_text.specs.Played.{WritesFront};
+ghost use Rattle.trace_text.specs.Ready.{IsReady};
+ghost use Rattle.trace_text.specs.Replay.{outcome_of};
+ghost use Rattle.trace_text.specs.Texts.{text_of_report};
+ghost use Rattle.trace_text.specs.View.{standing_of};
+
+use crate::poked::Audit;
+use ghost_judge::disagreement::Disagreement;
+use std::alloc::{Allocator, Global};
+use trace_reader::{EngineFault, Outcome, Source};
+use trace_text::{Player, ReportLine, Sink, play_trace, tell_answer, tell_audited, tell_end};
+
+/// Reads a trace line by line, carries it out, pokes too, and writes its report. No oracle looks at its steps: at the end
+/// what is kept is compared once with what a walk of all words finds, and the first difference is told. `alloc` is where the
+/// tables of the trees lie. Err where the source or the sink failed, once, or memory was refused: what was written until
+/// then is a beginning of the report.
+pub fn audit<A: Allocator + Copy, S: Source, K: Sink>(
+    global: Global,
+    alloc: A,
+    source: &mut S,
+    sink: &mut K,
+) -> Result<Outcome, EngineFault>
+    requires few_reads { S.failures source.old < 2 ^ 63 }
+    requires few_writes { K.failures sink.old < 2 ^ 63 }
+    ensures report { IfOk result (λ outcome. IsAuditTold A (S.remaining source.old) (K.contents sink.old) (K.contents sink.new) outcome) }
+    ensures begun { OnErr result (IsAuditBegun A (S.remaining source.old) (K.contents sink.old) (K.contents sink.new)) }
+    ensures reads { CountsReads (S.failures source.old) (S.failures source.new) result }
+    ensures writes { CountsWrites (K.failures sink.old) (K.failures sink.new) result }
+{
+    let mut audit = Audit::new(global, alloc);
+    let outcome = play_trace(global, &mut audit, source, sink);
+    // The proof of a scope's end would go through all parts.
+    drop(audit);
+    outcome
+}
+
+impl<A: Allocator + Copy> Player for Audit<A> {
+    ghost ready = { λ number audit. IsReady audit.session × ((standing_of audit.session).steps < number) };
+
+    ghost does = { λ number line old answer new. RunsLine number line (audited_of old) answer (audited_of new) };
+
+    ghost ends = { λ audit. Ends (audited_of audit) };
+
+    fn play<K: Sink>(
+        &mut self,
+        number: u64,
+        line: &[u8],
+        sink: &mut K,
+        text: &mut String,
+    ) -> Result<Option<Outcome>, EngineFault> {
+        let ran = self.run(number, line);
+        tell_answer(&self.session, sink, text, number, ran)
+    }
+
+    fn end<K: Sink>(&self, sink: &mut K, text: &mut String) -> Result<Outcome, EngineFault> {
+        let Ok(found) = self.audited() else {
+            return Err(EngineFault::NoMemory);
+        };
+        tell_found(sink, text, self.session.steps(), found)
+    }
+}
+
+/// Reports what an audit found, and ends the report of a trace that has `steps` step lines.
+fn tell_found<K: Sink>(
+    sink: &mut K,
+    text: &mut String,
+    steps: u64,
+    found: Option<Disagreement>,
+) -> Result<Outcome, EngineFault>
+    requires few { K.failures sink.old < 2 ^ 63 }
+    ensures ok { IfOk result (λ outcome. (outcome ≡ outcome_of (length (audited_lines found))) × Appends (K.contents sink.old) (K.contents sink.new) (text_of_report (audited_lines found ++ ReportLine.End steps (length (audited_lines found)) ∷ []))) }
+    ensures front { OnErr result (WritesFront (audited_lines found ++ ReportLine.End steps (length (audited_lines found)) ∷ []) (K.contents sink.old) (K.contents sink.new)) }
+    ensures counted { TellsWrite (K.failures sink.old) (K.failures sink.new) result }
+{
+    tell_audited(sink, text, found)?;
+    tell_end(sink, text, steps, u64::from(found.is_some()))
+}
