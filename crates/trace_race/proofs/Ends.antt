@@ -1,0 +1,96 @@
+-- The calls that each CPU's pass has made are its calls in the history at whose end the machine is.
+use Rattle.std.proofs.Common.{◌≡◌, ◌≢◌, ℕ, refl, sym, ap, subst, ◌∙◌, inl, inr, ◌⊎◌, true, false, List, [], ◌∷◌, ◌++◌, filter, map, Option, Some, slice_get, arith}
+use Rattle.std.proofs.lemmas.List.{append_assoc, append-nil}
+use Rattle.page_state.specs.LayoutView.{layout_of}
+use Rattle.step_reply.specs.declared.reply.Call.{Call}
+use Rattle.step_reply.specs.declared.reply.Refusal.TheVariants as refusals
+use Rattle.step_reply.specs.declared.reply.Reply.{Reply}
+use Rattle.step_reply.specs.declared.reply.Reply.TheVariants.{Done, Refused}
+use Rattle.step_reply.specs.declared.step.Step.{Step}
+use Rattle.reference_model.specs.History.{IsStored}
+use Rattle.guest_steps.specs.declared.parts.CpuState.{CpuState}
+use Rattle.part_table.specs.declared.slot.Slot.{Slot}
+use Rattle.part_table.specs.Endings.{IsEndOf}
+use Rattle.part_table.specs.Passes.{Opened, Pass}
+use Rattle.part_table.specs.Rule.{Known}
+use Rattle.cpu_threads.specs.Ends.{AreOf, KeepsStates}
+use Rattle.cpu_threads.specs.Machines.{FullInTheEnd, StoresInTheEnd}
+use Rattle.trace_race.proofs.Made.{at_place, map-append}
+use Rattle.trace_race.specs.declared.course.Asked.{Asked}
+use Rattle.trace_race.specs.Made.{AreDone, IsCpus, Makes, OneHistory, answers_of, first_known, is_stored}
+
+-- what is told of a call
+abbrev told : Call → Step × Reply
+told c = (c.step, c.reply)
+
+-- a reply is stored, or a log was full
+kept_cases : (reply : Reply) → reply ≢ Refused refusals.Contended → (IsStored reply × (is_stored reply ≡ true)) ⊎ ((reply ≡ Refused refusals.LogFull) × (is_stored reply ≡ false))
+kept_cases (Done value) other = inl (tt, refl)
+kept_cases (Refused refusals.Perm) other = inl (tt, refl)
+kept_cases (Refused refusals.NoVm) other = inl (tt, refl)
+kept_cases (Refused refusals.NoMemory) other = inl (tt, refl)
+kept_cases (Refused refusals.Busy) other = inl (tt, refl)
+kept_cases (Refused refusals.Invalid) other = inl (tt, refl)
+kept_cases (Refused refusals.NoPool) other = inl (tt, refl)
+kept_cases (Refused refusals.LogFull) other = inr (refl, refl)
+kept_cases (Refused refusals.Contended) other = absurd (other refl)
+
+-- a stored call is one more
+one_stored : (step : Step) (reply : Reply) (v w : Known) → StoresInTheEnd step reply v w → map told w.own.log.calls ≡ map told v.own.log.calls ++ (step, reply) ∷ []
+one_stored step reply v w s =
+    let calls : w.own.log.calls ≡ v.own.log.calls ++ s.stores.call ∷ [] = ap (λ l. l.calls) s.stores.added.own ∙ ap (λ (k : CpuState). k.log.calls ++ s.stores.call ∷ []) s.met.same.own in
+    let one : told s.stores.call ≡ (step, reply) = ap (λ x. (x, s.stores.call.reply)) s.stores.called.asked ∙ ap (λ x. (step, x)) s.stores.reply_is in
+    ap (map told) calls ∙ (map-append told v.own.log.calls (s.stores.call ∷ []) ∙ ap (λ x. map told v.own.log.calls ++ x ∷ []) one)
+
+-- where a log is full nothing is added
+none_stored : (step : Step) (v w : Known) → FullInTheEnd step v w → map told w.own.log.calls ≡ map told v.own.log.calls
+none_stored step v w f = ap (λ (k : CpuState). map told k.log.calls) (f.full.same.own ∙ f.met.same.own)
+
+abbrev kept : List (Step × Reply) → List (Step × Reply)
+kept answers = filter (λ a. is_stored a.1) answers
+
+-- so calls add those of them that are stored
+made_calls : (v w : Known) (answers : List (Step × Reply)) → Makes v answers w → map told w.own.log.calls ≡ map told v.own.log.calls ++ kept answers
+made_calls v w [] made = ap (λ (k : Known). map told k.own.log.calls) made ∙ sym (append-nil (map told v.own.log.calls))
+made_calls v w (a ∷ more) made =
+    let rest = made_calls made.0 w more made.2 in
+    elim (kept_cases a.1 made.1.answered) [
+      | inl k ↦
+          let one = one_stored a.0 a.1 v made.0 (made.1.stored k.0) in
+          let first : kept (a ∷ more) ≡ a ∷ kept more = rw k.1 refl in
+          rest ∙ (ap (λ xs. xs ++ kept more) one ∙ ((rw append_assoc refl) ∙ ap (λ xs. map told v.own.log.calls ++ xs) (sym first)))
+      | inr k ↦
+          let one = none_stored a.0 v made.0 (made.1.full k.0) in
+          let first : kept (a ∷ more) ≡ kept more = rw k.1 refl in
+          rest ∙ (ap (λ xs. xs ++ kept more) one ∙ ap (λ xs. map told v.own.log.calls ++ xs) (sym first))
+    ]
+
+-- the passes are of the table
+pub are_of : (t : Opened) (steps : List Asked) (replies : List Reply) (passes : List Pass) → AreDone t steps replies passes → AreOf t passes
+are_of t steps replies passes done j p there = (done.each j p there).of
+
+-- the one history
+pub one_history : {A : Type 0} (t : Opened) (steps : List Asked) (replies : List Reply) (out : List (Option Pass)) (passes : List Pass) (found : List (Slot A)) (cpus : List CpuState)
+    → AreDone t steps replies passes → IsEndOf t.layout found cpus → KeepsStates t.layout out passes cpus → OneHistory (layout_of t.layout) steps replies
+one_history t steps replies out passes found cpus done end own = record {
+  key = t.layout;
+  key_is = refl;
+  log = end.log;
+  end = end.state;
+  run = end.run;
+  stored = end.stored;
+  each = λ cpu less. each cpu (at_place passes cpu (let n = done.count in omega (arith, n, less)));
+}
+  where
+    each : (cpu : ℕ) → (p : Pass) × (slice_get passes cpu ≡ Some p) → IsCpus t.layout cpu (answers_of cpu steps replies) end.log
+    each cpu found =
+        let p = found.0 in
+        let one = done.each cpu p found.1 in
+        let state : slice_get cpus cpu ≡ Some p.knows.own = subst (λ (c : ℕ). slice_get cpus c ≡ Some p.knows.own) one.cpu_is (own.ended cpu p found.1) in
+        let calls = (end.each_cpu cpu p.knows.own state).0 in
+        record {
+          calls = ap (map told) (sym calls) ∙ made_calls (first_known t.layout cpu) p.knows (answers_of cpu steps replies) one.makes;
+          last = p.knows;
+          makes = one.makes;
+          own = sym calls;
+        }

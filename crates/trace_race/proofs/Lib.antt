@@ -1,0 +1,10 @@
+pub mod Boots
+pub mod Crossing
+pub mod Ends
+pub mod Gathering
+pub mod Judging
+pub mod Lines
+pub mod Made
+pub mod Readings
+pub mod Reports
+pub mod Threads

@@ -1,0 +1,11 @@
+use Rattle.std.proofs.Common.{◌∙◌, ap, subst}
+use Rattle.ghost_spec.specs.States.{ghost_state}
+use Rattle.reference_model.specs.Boot.{boot}
+use Rattle.trace_race.specs.Judged.{ComparesAll}
+use Rattle.trace_race.proofs.Judging.{none_after}
+use Rattle.trace_race.proofs.ending.compare.Goals as goal
+
+pub returns-clause-agree : goal.returns-clause-agree
+returns-clause-agree c =
+    let compares = subst (λ l. ComparesAll l (ghost_state c.args.state) c.args.logs.now c.in_ok-judged.judged.items) c.requires.layout c.in_ok-judged.ensures in
+    (none_after c.args.world.now.parts c.args.logs.now (ghost_state c.args.state) c.in_ok-judged.judged.items c.args.world.now.history c.requires.logs (c.requires.boot ∙ ap boot c.requires.layout) compares, c.in_ok-audited.ensures.none)

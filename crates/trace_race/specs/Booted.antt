@@ -1,0 +1,37 @@
+-- A booted machine beside the model's boot state (profile).
+use Rattle.std.specs.Prelude.{◌≡◌, ⊤}
+use Rattle.page_state.specs.declared.layout.Config.{Config}
+use Rattle.page_state.specs.LayoutView.{layout_of}
+use Rattle.page_state.specs.Regions.{Memory}
+use Rattle.ghost_spec.specs.declared.state.Ghost.{Ghost}
+use Rattle.ghost_spec.specs.States.{IsKept, ghost_state}
+use Rattle.part_table.specs.Passes.{AreFirst}
+use Rattle.trace_lines.specs.declared.line.TreeName.TheVariants.{Host, Hyp}
+use Rattle.trace_lines.specs.declared.response.Response.{Response}
+use Rattle.trace_lines.specs.declared.response.Response.TheVariants as responses
+use Rattle.trace_text.specs.declared.session.Stop.{Stop}
+use Rattle.trace_text.specs.declared.session.Stop.TheVariants as stops
+use Rattle.trace_text.specs.Session.{IsNoWorld}
+use Rattle.trace_text.specs.Worlds.{IsBootOf, Machine, free_told, tables_told}
+use Rattle.trace_race.specs.declared.booting.Booted.{Booted}
+
+-- the model's machine in a state on lists
+abbrev pub machine_in : Ghost → Machine
+machine_in g = record { layout = layout_of g.layout; state = ghost_state g }
+
+-- what a report says of a boot
+abbrev pub boot_told : Machine → Response
+boot_told m = responses.Boot (tables_told m Host) (tables_told m Hyp) (free_told m)
+
+-- why there is no machine: the layout's fault or the boot's, or memory was refused beside it
+abbrev pub StopsBoot : Memory → Config → Stop → Type 0
+StopsBoot memory config (stops.Fault fault) = IsNoWorld (stops.Fault fault) memory config
+StopsBoot memory config stops.NoMemory = ⊤
+
+-- all of this memory and configuration: the model's machine that boots on them, its boot line, and a machine of its layout with no pass handed out
+pub record IsBootedOf (memory : Memory) (config : Config) (b : Booted) : Type 0 where
+  pub kept : IsKept b.state
+  pub booted : IsBootOf memory config (machine_in b.state)
+  pub line : b.line ≡ boot_told (machine_in b.state)
+  pub layout : layout_of b.machine.table.layout ≡ layout_of b.state.layout
+  pub first : AreFirst b.machine.table config.cpus b.machine.passes

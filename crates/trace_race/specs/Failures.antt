@@ -1,0 +1,21 @@
+-- How a race can fail, and how a source and a sink count their failures.
+use Rattle.std.specs.Prelude.{◌≡◌, ℕ, Result, Ok, Err}
+use Rattle.trace_race.specs.declared.fault.RaceFault.{RaceFault}
+use Rattle.trace_race.specs.declared.fault.RaceFault.TheVariants.{Engine, Start}
+use Rattle.trace_text.specs.Failures.{CountsReads, CountsWrites, TellsWrite}
+
+-- as for a replay; where a thread couldn't be started neither has failed
+abbrev pub RaceReads : {X : Type 0} → ℕ → ℕ → Result X RaceFault → Type 0
+RaceReads before after (Ok x) = after ≡ before
+RaceReads {X = X} before after (Err (Engine fault)) = CountsReads {X = X} before after (Err fault)
+RaceReads before after (Err Start) = after ≡ before
+
+abbrev pub RaceWrites : {X : Type 0} → ℕ → ℕ → Result X RaceFault → Type 0
+RaceWrites before after (Ok x) = after ≡ before
+RaceWrites {X = X} before after (Err (Engine fault)) = CountsWrites {X = X} before after (Err fault)
+RaceWrites before after (Err Start) = after ≡ before
+
+abbrev pub RaceTells : {X : Type 0} → ℕ → ℕ → Result X RaceFault → Type 0
+RaceTells before after (Ok x) = after ≡ before
+RaceTells {X = X} before after (Err (Engine fault)) = TellsWrite {X = X} before after (Err fault)
+RaceTells before after (Err Start) = after ≡ before

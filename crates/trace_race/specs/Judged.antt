@@ -1,0 +1,59 @@
+-- The replies of a list of calls, each compared with the model's on the state that the calls before it lead to (profile).
+use Rattle.std.specs.Prelude.{◌≡◌, ◌≢◌, ◌↔◌, ℕ, List, [], ◌∷◌, map, All, IfSome, Option, Some, None}
+use Rattle.page_state.specs.Layouts.{Layout}
+use Rattle.step_reply.specs.declared.reply.Call.{Call}
+use Rattle.step_reply.specs.declared.reply.Refusal.TheVariants.{NoMemory}
+use Rattle.step_reply.specs.declared.reply.Reply.{Reply}
+use Rattle.step_reply.specs.declared.reply.Reply.TheVariants.{Refused}
+use Rattle.step_reply.specs.declared.step.Step.{Step}
+use Rattle.reference_model.specs.History.{IsStored}
+use Rattle.reference_model.specs.Run.{IsRun}
+use Rattle.reference_model.specs.State.{Reference}
+use Rattle.reference_model.specs.Step.{foretell}
+use Rattle.ghost_judge.specs.declared.disagreement.Disagreement.{Disagreement}
+use Rattle.ghost_judge.specs.declared.disagreement.Disagreement.TheVariants.{Reply as ReplyDiffers}
+use Rattle.ghost_judge.specs.Judgements.{IsFirstJudged, JudgeAgrees}
+use Rattle.world.specs.declared.merge.Histories.{Histories}
+use Rattle.world.specs.Merges.{TellsMerged}
+
+-- a reply that isn't the model's is told with the model's
+pub record IsApart (said spec : Reply) (found : Option Disagreement) : Type 0 where
+  pub same : said ≡ spec → found ≡ None
+  pub differ : said ≢ spec → found ≡ Some (ReplyDiffers said spec)
+
+-- a call that wanted memory, where all stays: none where the model makes the step and it can take memory, and else the first difference
+pub record IsJudgedWant (l : Layout) (g : Reference) (cpu : ℕ) (step : Step) (said : Reply) (found : Option Disagreement) : Type 0 where
+  pub none : (found ≡ None) ↔ JudgeAgrees g.contents step said g.contents (foretell l g cpu step)
+  pub first : IfSome found (IsFirstJudged g.contents step said g.contents (foretell l g cpu step))
+
+-- how one call of a list is judged, on the state before it, and the state after it: a call that wanted memory leaves it
+pub record Judges (l : Layout) (g : Reference) (cpu : ℕ) (step : Step) (said : Reply) (found : Option Disagreement) (h : Reference) : Type 0 where
+  pub wants : said ≡ Refused NoMemory → (h ≡ g) × IsJudgedWant l g cpu step said found
+  pub other : said ≢ Refused NoMemory → (h ≡ (foretell l g cpu step).1) × IsApart said (foretell l g cpu step).0 found
+
+-- what is found at one call, in front of what is found behind it
+abbrev pub with_found : Option Disagreement → List Disagreement → List Disagreement
+with_found None more = more
+with_found (Some d) more = d ∷ more
+
+-- and all calls of a list, one after another
+abbrev pub JudgesAll : Layout → Reference → List (ℕ × Step × Reply) → List Disagreement → Type 0
+JudgesAll l g [] found = found ≡ []
+JudgesAll l g (call ∷ more) found =
+    (one : Option Disagreement) × (h : Reference) × (rest : List Disagreement) × Judges l g call.0 call.1 call.2 one h × JudgesAll l h more rest × (found ≡ with_found one rest)
+
+-- what is told of calls: CPU, step and reply of each
+abbrev pub told_of : List Call → List (ℕ × Step × Reply)
+told_of calls = map (λ c. (c.cpu, c.step, c.reply)) calls
+
+-- the calls are those of a legal history
+pub record IsToldOf (l : Layout) (told : List (ℕ × Step × Reply)) : Type 0 where
+  pub log : List Call
+  pub end : Reference
+  pub run : IsRun l log end
+  pub stored : All (λ c. IsStored c.reply) log
+  pub told_is : told_of log ≡ told
+
+-- the replies of logs are judged along a merged list of them
+abbrev pub ComparesAll : Layout → Reference → Histories → List Disagreement → Type 0
+ComparesAll l g logs found = (told : List (ℕ × Step × Reply)) × TellsMerged logs told × JudgesAll l g told found

@@ -1,0 +1,9 @@
+pub mod Booted
+pub mod Courses
+pub mod Failures
+pub mod Judged
+pub mod Made
+pub mod Raced
+pub mod Readings
+pub mod Told
+pub mod Workers

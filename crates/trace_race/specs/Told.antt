@@ -1,0 +1,58 @@
+-- What the parts of a race come to (profile).
+use Rattle.std.specs.Prelude.{◌≡◌, ◌⊎◌, ℕ, List, [], ◌∷◌, length, Option, Result}
+use Rattle.std.specs.Io.KnownBytes.{Appends}
+use Rattle.page_state.specs.Layouts.{Layout}
+use Rattle.page_state.specs.Regions.{Memory}
+use Rattle.step_reply.specs.declared.reply.Reply.{Reply}
+use Rattle.trace_lines.specs.Settings.{config_of}
+use Rattle.trace_reader.specs.declared.outcome.Outcome.{Outcome}
+use Rattle.trace_reader.specs.declared.outcome.Outcome.TheVariants as outcomes
+use Rattle.trace_text.specs.declared.fault.Fault.{Fault}
+use Rattle.trace_text.specs.declared.report.ReportLine.{ReportLine}
+use Rattle.trace_text.specs.declared.report.ReportLine.TheVariants as report
+use Rattle.trace_text.specs.declared.session.Stop.{Stop}
+use Rattle.trace_text.specs.declared.session.Stop.TheVariants as stops
+use Rattle.trace_text.specs.Played.{WritesFront}
+use Rattle.trace_text.specs.Texts.{text_of_report}
+use Rattle.trace_text.specs.Worlds.{Machine}
+use Rattle.trace_race.specs.Booted.{IsBootedOf}
+use Rattle.trace_race.specs.declared.booting.Booted.{Booted}
+use Rattle.trace_race.specs.declared.course.Asked.{Asked}
+use Rattle.trace_race.specs.Courses.{Asking}
+use Rattle.trace_race.specs.Made.{OneHistory}
+use Rattle.trace_race.specs.Raced.{HasForm, HasOneHistory, IsRead, lines_behind, lines_of_run}
+
+-- a machine was booted with the configuration that was asked for
+abbrev pub IsBootedRun : Asking → Booted → Type 0
+IsBootedRun a b = (memory : Memory) × IsBootedOf memory (config_of a.told) b
+
+-- behind the boot line the whole report of steps that were made, in one legal history
+abbrev pub StepsEnd : Layout → List Asked → List Reply → Option (List ℕ) → Option (List ℕ) → Outcome → Type 0
+StepsEnd l steps replies old new outcome = (outcome ≡ outcomes.Clean) × OneHistory l steps replies × Appends old new (text_of_report (lines_behind steps replies))
+
+-- the whole report of a machine that was booted
+abbrev pub RunEnds : Machine → List Asked → Option (List ℕ) → Option (List ℕ) → Outcome → Type 0
+RunEnds m steps old new outcome =
+    (outcome ≡ outcomes.Clean) × (replies : List Reply) × (length replies ≡ length steps) × OneHistory m.layout steps replies × Appends old new (text_of_report (lines_of_run m steps replies))
+
+-- and a front of what has its form
+abbrev pub RunBegins : Machine → List Asked → Option (List ℕ) → Option (List ℕ) → Type 0
+RunBegins m steps old new = (replies : List Reply) × (length replies ≡ length steps) × WritesFront (lines_of_run m steps replies) old new
+
+-- the whole report of what reading a trace came to
+abbrev pub TellsRace : Result Asking (ℕ × Fault) → Option (List ℕ) → Option (List ℕ) → Outcome → Type 0
+TellsRace asked old new outcome = (lines : List ReportLine) × IsRead HasOneHistory asked lines outcome × Appends old new (text_of_report lines)
+
+-- and a front of what has its form, or nothing
+abbrev pub TellsBegun : Result Asking (ℕ × Fault) → Option (List ℕ) → Option (List ℕ) → Type 0
+TellsBegun asked old new = (new ≡ old) ⊎ ((lines : List ReportLine) × (outcome : Outcome) × IsRead HasForm asked lines outcome × WritesFront lines old new)
+
+-- the line of a boot's fault
+abbrev pub TellsStop : ℕ → Stop → Option (List ℕ) → Option (List ℕ) → Outcome → Type 0
+TellsStop line (stops.Fault fault) old new outcome = (outcome ≡ outcomes.Fault) × Appends old new (text_of_report (report.Fault line fault ∷ []))
+TellsStop line stops.NoMemory old new outcome = ⊥
+
+-- and a front of it; where memory was refused nothing was written
+abbrev pub BeginsStop : ℕ → Stop → Option (List ℕ) → Option (List ℕ) → Type 0
+BeginsStop line (stops.Fault fault) old new = WritesFront (report.Fault line fault ∷ []) old new
+BeginsStop line stops.NoMemory old new = new ≡ old

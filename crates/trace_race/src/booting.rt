@@ -1,0 +1,57 @@
+//! Booting the machine of a trace.
+ghost use Rattle.std.specs.Prelude.{MatchResult};
+ghost use Rattle.page_state.specs.Regions.{memory_of};
+ghost use Rattle.trace_lines.specs.Settings.{config_of, told_of};
+ghost use Rattle.trace_race.specs.Booted.{IsBootedOf, StopsBoot};
+
+use cpu_threads::Machine;
+use ghost_spec::state::Ghost;
+use page_state::PageRange;
+use std::alloc::Global;
+use trace_lines::{Response, Settings};
+use trace_text::{Fault, Stop, boot_line, told_memory};
+use world::World;
+
+/// The booted machine, its boot line, and its boot state on lists.
+#[derive(Drop)]
+pub(crate) struct Booted {
+    pub machine: Machine<Global>,
+    pub line: Response,
+    pub state: Ghost,
+}
+
+/// Boots the machine of what was told. A world of the same memory tells the boot line and the boot state.
+pub(crate) fn boot_machine(
+    global: Global,
+    settings: &Settings,
+    carve: PageRange,
+) -> Result<Booted, Stop>
+    ensures { let memory = memory_of settings.now.regions.items carve in MatchResult result (IsBootedOf memory (config_of (told_of settings.now))) (StopsBoot memory (config_of (told_of settings.now))) }
+{
+    let map = match told_memory(global, settings.regions.as_slice(), carve) {
+        Ok(map) => map,
+        Err(stop) => return Err(stop),
+    };
+    let config = settings.config();
+    let world = match World::boot(global, global, &map, config) {
+        Ok(world) => world,
+        Err(fault) => return Err(Stop::Fault(Fault::Boot(fault))),
+    };
+    let line = boot_line(&world);
+    let Ok(state) = world.to_ghost(global) else {
+        drop(world);
+        return Err(Stop::NoMemory);
+    };
+    drop(world);
+    match Machine::boot(global, global, &map, config) {
+        Ok(machine) => Ok(Booted {
+            machine,
+            line,
+            state,
+        }),
+        Err(fault) => {
+            drop(state);
+            Err(Stop::Fault(Fault::Boot(fault)))
+        }
+    }
+}

@@ -1,0 +1,76 @@
+//! Each reply of the merged list, compared with the model's.
+ghost use Rattle.std.specs.Prelude.{◌≡◌, ◌↔◌, ◌<◌, All, IfOk, IsTrue, OnOk};
+ghost use Rattle.step_reply.specs.declared.reply.Refusal.TheVariants.{NoMemory};
+ghost use Rattle.step_reply.specs.declared.reply.Reply.TheVariants.{Refused};
+ghost use Rattle.page_state.specs.LayoutView.{layout_of};
+ghost use Rattle.ghost_spec.specs.States.{IsKept, ghost_state};
+ghost use Rattle.trace_race.specs.Judged.{IsApart, Judges, JudgesAll};
+
+use ghost_judge::disagreement::Disagreement;
+use ghost_judge::judge::judge;
+use ghost_spec::state::Ghost;
+use std::alloc::{AllocError, Global};
+use step_reply::{Refusal, Reply, Step};
+
+/// Where a reply isn't the model's.
+fn differs(said: Reply, spec: Reply) -> Option<Disagreement>
+    ensures { IsApart said spec result }
+{
+    if said == spec {
+        None
+    } else {
+        Some(Disagreement::Reply { said, spec })
+    }
+}
+
+/// Makes the next call of a list on the state before it, and tells where its reply isn't the model's. A call that wanted
+/// memory leaves the state, and is judged as one that changed nothing.
+fn judged_next(
+    global: Global,
+    state: &mut Ghost,
+    cpu: u64,
+    step: Step,
+    said: Reply,
+) -> Result<Option<Disagreement>, AllocError>
+    requires cpu { cpu < state.old.layout.config.cpus }
+    requires kept { IsKept state.old }
+    ensures kept { OnOk result (IsKept state.new) }
+    ensures layout { state.new.layout ≡ state.old.layout }
+    ensures judged { IfOk result (λ found. Judges (layout_of state.old.layout) (ghost_state state.old) cpu step said found (ghost_state state.new)) }
+{
+    if is_want(said) {
+        return judge(global, state, cpu, step, &said, state);
+    }
+    let spec = state.advance(global, cpu, step)?;
+    Ok(differs(said, spec))
+}
+
+/// Whether memory was wanted.
+fn is_want(said: Reply) -> bool
+    ensures { IsTrue result ↔ (said ≡ Refused NoMemory) }
+{
+    matches!(said, Reply::Refused(Refusal::NoMemory))
+}
+
+/// Where the replies of a list of calls aren't the model's, from a state on.
+pub(crate) fn judge_all(
+    global: Global,
+    state: Ghost,
+    calls: &[(u64, Step, Reply)],
+) -> Result<Vec<Disagreement>, AllocError>
+    requires kept { IsKept state }
+    requires cpus { All (λ c. c.0 < state.layout.config.cpus) calls.now }
+    ensures judged { IfOk result (λ found. JudgesAll (layout_of state.layout) (ghost_state state) calls.now found.items) }
+{
+    let mut state = state;
+    let mut found = Vec::new(global);
+    for i in 0..calls.len() {
+        let (cpu, step, said) = calls[i];
+        let Some(told) = judged_next(global, &mut state, cpu, step, said)? else {
+            continue;
+        };
+        found.push(told)?;
+    }
+    drop(state);
+    Ok(found)
+}

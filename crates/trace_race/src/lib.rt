@@ -1,0 +1,19 @@
+//! Races: a trace is read whole, the steps before `start` are made in order, and those behind it by a thread for each CPU.
+#![tactic(auto)]
+
+mod booting;
+mod buffered;
+mod course;
+mod ending;
+mod fault;
+mod judged;
+mod making;
+mod racing;
+mod reading;
+mod telling;
+mod workers;
+
+pub use buffered::{Halted, race_buffered};
+pub use course::{Asked, Course};
+pub use fault::RaceFault;
+pub use racing::race;

@@ -1,0 +1,225 @@
+//! A whole race: read, made, merged, judged, audited, reported.
+ghost use Rattle.std.specs.Prelude.{◌≡◌, ◌<◌, ◌^◌, ◌∷◌, [], IfOk, OnErr, MatchResult, Ok, Err};
+ghost use Rattle.std.specs.Io.KnownBytes.{Appends};
+ghost use Rattle.page_state.specs.LayoutView.{layout_of};
+ghost use Rattle.reference_model.specs.Boot.{boot};
+ghost use Rattle.ghost_spec.specs.States.{IsKept, ghost_state};
+ghost use Rattle.trace_race.specs.Booted.{machine_in};
+ghost use Rattle.trace_race.specs.Courses.{IsSound, course_in};
+ghost use Rattle.trace_race.specs.Failures.{RaceReads, RaceTells, RaceWrites};
+ghost use Rattle.trace_race.specs.Made.{IsMadeOf};
+ghost use Rattle.trace_race.specs.Raced.{IsRaceBegun, IsRaced, lines_behind};
+ghost use Rattle.trace_race.specs.Readings.{IsSoundRead, asked_in};
+ghost use Rattle.trace_race.specs.Told.{BeginsStop, IsBootedRun, RunBegins, RunEnds, StepsEnd, TellsBegun, TellsRace, TellsStop};
+ghost use Rattle.trace_text.specs.Failures.{TellsWrite};
+ghost use Rattle.trace_text.specs.Played.{WritesFront};
+ghost use Rattle.trace_text.specs.Texts.{text_of_report};
+
+use crate::booting::{Booted, boot_machine};
+use crate::course::{Asked, Course};
+use crate::ending::{Compared, compared_at_end};
+use crate::fault::RaceFault;
+use crate::making::{Made, make};
+use crate::reading::{Read, read_all};
+use crate::telling::{tell_found, tell_steps};
+use cpu_threads::Gate;
+use ghost_spec::state::Ghost;
+use std::alloc::Global;
+use std::sync::Wait;
+use std::thread::Threads;
+use trace_reader::{EngineFault, MOST_BYTES, Outcome, Source};
+use trace_text::{ReportLine, Sink, Stop, faulted, tell, tell_end};
+
+/// Reads a whole trace, and carries it out: the steps before `start` in order, those behind it on one thread for each CPU,
+/// and writes its report. A fault of a line, wherever it stands, is the whole report. The gate hears of the calls that are
+/// made at once. There is one legal history of the steps, with the replies that the report tells, and no line disagrees. Err
+/// where the source or the sink failed, once, memory was refused, or a thread couldn't be started.
+pub fn race<R: Threads + Wait + Sync, S: Source, K: Sink, G: Gate + Sync>(
+    rt: &R,
+    global: Global,
+    source: &mut S,
+    sink: &mut K,
+    gate: &G,
+) -> Result<Outcome, RaceFault>
+    requires few_reads { S.failures source.old < 2 ^ 63 }
+    requires few_writes { K.failures sink.old < 2 ^ 63 }
+    ensures report { IfOk result (λ outcome. IsRaced (S.remaining source.old) (K.contents sink.old) (K.contents sink.new) outcome) }
+    ensures begun { OnErr result (IsRaceBegun (S.remaining source.old) (K.contents sink.old) (K.contents sink.new)) }
+    ensures reads { RaceReads (S.failures source.old) (S.failures source.new) result }
+    ensures writes { RaceWrites (K.failures sink.old) (K.failures sink.new) result }
+{
+    let Ok(mut text) = String::with_capacity(global, MOST_BYTES) else {
+        return Err(RaceFault::Engine(EngineFault::NoMemory));
+    };
+    match read_all(global, source) {
+        Ok(read) => report(rt, global, read, sink, &mut text, gate),
+        Err(fault) => Err(RaceFault::Engine(fault)),
+    }
+}
+
+/// Writes the report of what reading came to.
+fn report<R: Threads + Wait + Sync, K: Sink, G: Gate + Sync>(
+    rt: &R,
+    global: Global,
+    read: Read,
+    sink: &mut K,
+    text: &mut String,
+    gate: &G,
+) -> Result<Outcome, RaceFault>
+    requires few { K.failures sink.old < 2 ^ 63 }
+    requires sound { IsSoundRead read }
+    ensures report { IfOk result (λ outcome. TellsRace (asked_in read) (K.contents sink.old) (K.contents sink.new) outcome) }
+    ensures begun { OnErr result (TellsBegun (asked_in read) (K.contents sink.old) (K.contents sink.new)) }
+    ensures counted { RaceTells (K.failures sink.old) (K.failures sink.new) result }
+{
+    match read {
+        Read::Whole(course) => carry_out(rt, global, &course, sink, text, gate),
+        Read::Fault(line, fault) => engine(faulted(sink, text, line, fault)),
+    }
+}
+
+/// Carries out what a whole trace asks for, and writes its report.
+fn carry_out<R: Threads + Wait + Sync, K: Sink, G: Gate + Sync>(
+    rt: &R,
+    global: Global,
+    course: &Course,
+    sink: &mut K,
+    text: &mut String,
+    gate: &G,
+) -> Result<Outcome, RaceFault>
+    requires few { K.failures sink.old < 2 ^ 63 }
+    requires sound { IsSound (course_in course.now) }
+    ensures report { IfOk result (λ outcome. TellsRace (Ok (course_in course.now)) (K.contents sink.old) (K.contents sink.new) outcome) }
+    ensures begun { OnErr result (TellsBegun (Ok (course_in course.now)) (K.contents sink.old) (K.contents sink.new)) }
+    ensures counted { RaceTells (K.failures sink.old) (K.failures sink.new) result }
+{
+    let boot = match course.boot {
+        Some(boot) => boot,
+        None => return tell_idle(sink, text),
+    };
+    let carve = match course.settings.carve {
+        Some(carve) => carve,
+        None => return tell_idle(sink, text),
+    };
+    match boot_machine(global, &course.settings, carve) {
+        Ok(booted) => run(rt, global, booted, course, gate, sink, text),
+        Err(stop) => tell_stop(sink, text, boot, stop),
+    }
+}
+
+/// Ends the report with the fault of a boot at this line.
+fn tell_stop<K: Sink>(
+    sink: &mut K,
+    text: &mut String,
+    line: u64,
+    stop: Stop,
+) -> Result<Outcome, RaceFault>
+    requires few { K.failures sink.old < 2 ^ 63 }
+    ensures report { IfOk result (TellsStop line stop (K.contents sink.old) (K.contents sink.new)) }
+    ensures begun { OnErr result (BeginsStop line stop (K.contents sink.old) (K.contents sink.new)) }
+    ensures counted { RaceTells (K.failures sink.old) (K.failures sink.new) result }
+{
+    match stop {
+        Stop::Fault(fault) => engine(faulted(sink, text, line, fault)),
+        Stop::NoMemory => Err(RaceFault::Engine(EngineFault::NoMemory)),
+    }
+}
+
+/// Writes the report of a trace that boots nothing.
+fn tell_idle<K: Sink>(sink: &mut K, text: &mut String) -> Result<Outcome, RaceFault>
+    requires few { K.failures sink.old < 2 ^ 63 }
+    ensures ok { IfOk result (λ outcome. (outcome ≡ Outcome.Clean) × Appends (K.contents sink.old) (K.contents sink.new) (text_of_report (ReportLine.End 0 0 ∷ []))) }
+    ensures front { OnErr result (WritesFront (ReportLine.End 0 0 ∷ []) (K.contents sink.old) (K.contents sink.new)) }
+    ensures counted { RaceTells (K.failures sink.old) (K.failures sink.new) result }
+{
+    engine(tell_end(sink, text, 0, 0))
+}
+
+/// Makes the steps on a booted machine, and writes the report.
+fn run<R: Threads + Wait + Sync, K: Sink, G: Gate + Sync>(
+    rt: &R,
+    global: Global,
+    booted: Booted,
+    course: &Course,
+    gate: &G,
+    sink: &mut K,
+    text: &mut String,
+) -> Result<Outcome, RaceFault>
+    requires few { K.failures sink.old < 2 ^ 63 }
+    requires sound { IsSound (course_in course.now) }
+    requires booted { IsBootedRun (course_in course.now) booted }
+    ensures report { IfOk result (λ outcome. RunEnds (machine_in booted.state) course.now.steps.items (K.contents sink.old) (K.contents sink.new) outcome) }
+    ensures begun { OnErr result (RunBegins (machine_in booted.state) course.now.steps.items (K.contents sink.old) (K.contents sink.new)) }
+    ensures counted { RaceTells (K.failures sink.old) (K.failures sink.new) result }
+{
+    let Booted {
+        machine,
+        line,
+        state,
+    } = booted;
+    if let Err(fault) = tell(sink, text, ReportLine::Response(line)) {
+        drop(state);
+        drop(machine);
+        return Err(RaceFault::Engine(fault));
+    }
+    let steps = course.steps.as_slice();
+    let cpus = course.settings.config().cpus;
+    let made = match make(rt, global, machine, gate, cpus, steps, course.in_order()) {
+        Ok(Some(made)) => made,
+        Ok(None) => {
+            drop(state);
+            return Err(RaceFault::Start);
+        }
+        Err(_) => {
+            drop(state);
+            return Err(RaceFault::Engine(EngineFault::NoMemory));
+        }
+    };
+    engine(tell_made(global, made, state, steps, sink, text))
+}
+
+/// Writes the lines of the steps that were made, compares, and writes the rest of the report. `state` is the model's at boot.
+fn tell_made<K: Sink>(
+    global: Global,
+    made: Made,
+    state: Ghost,
+    steps: &[Asked],
+    sink: &mut K,
+    text: &mut String,
+) -> Result<Outcome, EngineFault>
+    requires few { K.failures sink.old < 2 ^ 63 }
+    requires made { IsMadeOf steps.now made }
+    requires kept { IsKept state }
+    requires layout { layout_of made.machine.table.layout ≡ layout_of state.layout }
+    requires boot { ghost_state state ≡ boot (layout_of state.layout) }
+    ensures report { IfOk result (λ outcome. StepsEnd (layout_of state.layout) steps.now made.replies.items (K.contents sink.old) (K.contents sink.new) outcome) }
+    ensures begun { OnErr result (WritesFront (lines_behind steps.now made.replies.items) (K.contents sink.old) (K.contents sink.new)) }
+    ensures counted { TellsWrite (K.failures sink.old) (K.failures sink.new) result }
+{
+    let Made {
+        machine,
+        passes,
+        replies,
+    } = made;
+    if let Err(fault) = tell_steps(sink, text, steps, replies.as_slice()) {
+        drop(state);
+        drop(machine);
+        return Err(fault);
+    }
+    let Ok(found) = compared_at_end(global, machine, passes, steps, replies.as_slice(), state)
+    else {
+        return Err(EngineFault::NoMemory);
+    };
+    let Compared { judged, audited } = found;
+    tell_found(sink, text, judged.as_slice(), audited, steps.len() as u64)
+}
+
+/// An answer of a replay's kind.
+fn engine(answer: Result<Outcome, EngineFault>) -> Result<Outcome, RaceFault>
+    ensures { MatchResult answer (λ outcome. result ≡ Ok outcome) (λ fault. result ≡ Err (RaceFault.Engine fault)) }
+{
+    match answer {
+        Ok(outcome) => Ok(outcome),
+        Err(fault) => Err(RaceFault::Engine(fault)),
+    }
+}

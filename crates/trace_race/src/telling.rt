@@ -1,0 +1,87 @@
+//! The lines of a race's report.
+ghost use Rattle.std.specs.Prelude.{◌≡◌, ◌<◌, ◌^◌, ◌+◌, ◌++◌, ◌∷◌, [], IfOk, OnOk, OnErr, length, map};
+ghost use Rattle.std.specs.Io.KnownBytes.{Appends};
+ghost use Rattle.trace_race.specs.Raced.{found_lines, step_lines as step_lines_of};
+ghost use Rattle.trace_text.specs.Failures.{TellsWrite};
+ghost use Rattle.trace_text.specs.Oracles.{audited_lines};
+ghost use Rattle.trace_text.specs.Played.{WritesFront};
+ghost use Rattle.trace_text.specs.Replay.{outcome_of};
+ghost use Rattle.trace_text.specs.Texts.{text_of_report};
+
+use crate::course::Asked;
+use ghost_judge::disagreement::Disagreement;
+use std::alloc::{AllocError, Global};
+use step_reply::Reply;
+use trace_lines::Response;
+use trace_reader::{EngineFault, Outcome};
+use trace_text::{ReportLine, Sink, tell, tell_audited, tell_end};
+
+/// Tells the lines of all steps, one after another.
+pub(crate) fn tell_steps<K: Sink>(
+    sink: &mut K,
+    text: &mut String,
+    steps: &[Asked],
+    replies: &[Reply],
+) -> Result<(), EngineFault>
+    requires few { K.failures sink.old < 2 ^ 63 }
+    requires count { length replies.now ≡ length steps.now }
+    ensures ok { OnOk result (Appends (K.contents sink.old) (K.contents sink.new) (text_of_report (step_lines_of steps.now replies.now))) }
+    ensures front { OnErr result (WritesFront (step_lines_of steps.now replies.now) (K.contents sink.old) (K.contents sink.new)) }
+    ensures counted { TellsWrite (K.failures sink.old) (K.failures sink.new) result }
+{
+    for i in 0..steps.len() {
+        tell(
+            sink,
+            text,
+            ReportLine::Response(step_line(steps[i], replies[i])),
+        )?;
+    }
+    Ok(())
+}
+
+/// The line of a step.
+fn step_line(asked: Asked, reply: Reply) -> Response
+    ensures { result ≡ Response.Step asked.line asked.cpu reply }
+{
+    Response::Step {
+        line: asked.line,
+        cpu: asked.cpu,
+        reply,
+    }
+}
+
+/// Tells what a judgement found, one after another.
+fn tell_judged<K: Sink>(
+    sink: &mut K,
+    text: &mut String,
+    found: &[Disagreement],
+) -> Result<(), EngineFault>
+    requires few { K.failures sink.old < 2 ^ 63 }
+    ensures ok { OnOk result (Appends (K.contents sink.old) (K.contents sink.new) (text_of_report (map ReportLine.Judged found.now))) }
+    ensures front { OnErr result (WritesFront (map ReportLine.Judged found.now) (K.contents sink.old) (K.contents sink.new)) }
+    ensures counted { TellsWrite (K.failures sink.old) (K.failures sink.new) result }
+{
+    for i in 0..found.len() {
+        tell(sink, text, ReportLine::Judged(found[i]))?;
+    }
+    Ok(())
+}
+
+/// Reports what a judgement and an audit found, and ends the report of a trace that has `steps` step lines.
+pub(crate) fn tell_found<K: Sink>(
+    sink: &mut K,
+    text: &mut String,
+    judged: &[Disagreement],
+    audited: Option<Disagreement>,
+    steps: u64,
+) -> Result<Outcome, EngineFault>
+    requires few { K.failures sink.old < 2 ^ 63 }
+    ensures ok { IfOk result (λ outcome. (outcome ≡ outcome_of (length judged.now + length (audited_lines audited))) × Appends (K.contents sink.old) (K.contents sink.new) (text_of_report (found_lines judged.now audited steps))) }
+    ensures front { OnErr result (WritesFront (found_lines judged.now audited steps) (K.contents sink.old) (K.contents sink.new)) }
+    ensures counted { TellsWrite (K.failures sink.old) (K.failures sink.new) result }
+{
+    tell_judged(sink, text, judged)?;
+    tell_audited(sink, text, audited)?;
+    let disagreements = judged.len() as u64 + u64::from(audited.is_some());
+    tell_end(sink, text, steps, disagreements)
+}
