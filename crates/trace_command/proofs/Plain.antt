@@ -1,5 +1,5 @@
 -- `replay FILE` and `replay FILE --heap BYTES` are taken, where FILE and BYTES begin with no hyphen.
-use Rattle.std.proofs.Common.{◌≡◌, ◌≢◌, ℕ, ◌==◌, ◌∙◌, arith, Result, Ok, Err, slice_get, ap, subst, refl, sym, true≢false, cond, Bool, true, false, codes, List, [], ◌∷◌, Option, Some, None, is_some, option_map, option_and_then}
+use Rattle.std.proofs.Common.{◌≡◌, ◌≢◌, ℕ, ◌==◌, ◌∙◌, arith, Result, Ok, Err, slice_get, ap, subst, refl, sym, true≢false, cond, Bool, true, false, codes, List, [], ◌∷◌, Option, Some, None, is_some, option_map, option_and_then, inl, inr}
 use Rattle.std.specs.Option.{option_map_or}
 use Rattle.std.specs.Str.{bytes_eq}
 use Rattle.std.proofs.lemmas.Bool.Decides.{nat_tests}
@@ -11,11 +11,11 @@ use Rattle.clap.specs.Lexer.{long_of, long_of_rest, short_of, short_of_rest, str
 use Rattle.clap.specs.Simple.{Shape, subcommand_of}
 use Rattle.clap.specs.Walk.{Held, Rule, Step, Text, Waiting, Walk, after_step, finished, first_of, idle, long_or_other, nothing_held, plain_word, settled, short_or_plain, subcommand_or_other, to_positional, arg_by_index, trailing, walk, walk_from, walked}
 use Rattle.clap.specs.Words.{kind_of}
-use Rattle.trace_command.specs.Words.{Gives, IsRead, NamesFile, TakesFile, TakesHeap, file_in, heap_told, heap_word, program}
-use Rattle.trace_command.proofs.Taken.{replays}
+use Rattle.trace_command.specs.Words.{Gives, GivesAudit, GivesRace, IsRead, IsRefused, NamesFile, TakesAudit, TakesFile, TakesHeap, TakesNoHeap, TakesRace, file_in, heap_told, heap_word, program}
+use Rattle.trace_command.proofs.Taken.{plain_leaf, replays}
 use Rattle.trace_command.proofs.Values.{some_is}
 use Rattle.trace_command.specs.declared.words.Invocation.{Invocation}
-use Rattle.trace_command.specs.declared.words.Invocation.TheVariants.{Replay}
+use Rattle.trace_command.specs.declared.words.Invocation.TheVariants.{Audit, Race, Replay}
 use Rattle.trace_command.specs.declared.words.UsageFault.{UsageFault}
 use Rattle.trace_command.specs.declared.words.UsageFault.TheVariants.{HeapSize, NoMemory, Usage}
 
@@ -96,6 +96,91 @@ module _ (path : Text) (plain : strip_byte 45 path ≡ None) where
   unfolding clap_on_literals
   no_heap name = ap (λ (w : Walk). first_of (codes "heap") (finished replays.rules w.held)) walk_is
 
+-- there is a fault
+abbrev HasFault : Kinds → Type 0
+HasFault [] = ⊥
+HasFault (kind ∷ kinds) = Unit {0}
+
+or_fault : (a b : Kinds) → HasFault a → HasFault (or_else a b)
+or_fault [] b h = absurd h
+or_fault (kind ∷ kinds) b h = tt
+
+-- the same of `race` and `audit`, which take FILE alone
+module _ (leaf : Text) where
+  abbrev ended_plain : Walk → Kinds
+  ended_plain w = or_else (settle_fault (plain_leaf leaf).rules false w.held)
+      (or_else (defaults_fault (settled (plain_leaf leaf).rules w.held).rows (plain_leaf leaf).rules) (check_fault (plain_leaf leaf) (finished (plain_leaf leaf).rules w.held) false))
+
+  abbrev after_plain : Text → Walk
+  after_plain path = to_positional (plain_leaf leaf).rules (arg_by_index (plain_leaf leaf).rules 1) path (walk_from nothing_held) nothing_held
+
+  module _ (path : Text) (plain : strip_byte 45 path ≡ None) where
+    plain_walked : walked (plain_leaf leaf).rules [] (walk_from nothing_held) path ≡ after_plain path
+    unfolding clap_on_literals
+    plain_walked = ap (λ (m : Held × Step). after_step (plain_leaf leaf).rules path (walk_from nothing_held) m.0 m.1) (met_is path plain (plain_leaf leaf).rules idle 1 nothing_held)
+
+    plain_no_file_fault : turn_fault (plain_leaf leaf) [] (walk_from nothing_held) path ≡ []
+    unfolding clap_on_literals
+    plain_no_file_fault =
+        let met = subcommand_or_other (plain_leaf leaf).rules None idle 1 path nothing_held in
+        ap (λ k. or_else k (step_fault (plain_leaf leaf) 1 met.0 met.1)) (no_flag_fault path plain (plain_leaf leaf) nothing_held)
+        ∙ ap (λ (m : Held × Step). step_fault (plain_leaf leaf) 1 m.0 m.1) (met_is path plain (plain_leaf leaf).rules idle 1 nothing_held)
+
+    plain_walk_is : walk (plain_leaf leaf).rules [] nothing_held (path ∷ []) ≡ after_plain path
+    unfolding clap_on_literals
+    plain_walk_is = plain_walked
+
+    plain_no_fault : walk_fault (plain_leaf leaf) [] (walk_from nothing_held) (path ∷ []) ≡ []
+    unfolding clap_on_literals
+    plain_no_fault = ap (λ k. or_else k []) plain_no_file_fault
+
+    plain_no_fault_after : ended_plain (after_plain path) ≡ []
+    unfolding clap_on_literals
+    plain_no_fault_after = refl
+
+    plain_none : level_fault (plain_leaf leaf) [] nothing_held (path ∷ []) false [] ≡ []
+    plain_none = ap (λ k. or_else k (ended_plain (walk (plain_leaf leaf).rules [] nothing_held (path ∷ [])))) plain_no_fault ∙ ap ended_plain plain_walk_is ∙ plain_no_fault_after
+
+    -- after FILE a heap is a fault
+    heap_turn : (bytes : Text) → HasFault (walk_fault (plain_leaf leaf) [] (after_plain path) (codes "--heap" ∷ bytes ∷ []))
+    unfolding clap_on_literals
+    heap_turn bytes = tt
+
+    heap_walk : (bytes : Text) → HasFault (walk_fault (plain_leaf leaf) [] (walk_from nothing_held) (path ∷ codes "--heap" ∷ bytes ∷ []))
+    unfolding clap_on_literals
+    heap_walk bytes =
+        let more = codes "--heap" ∷ bytes ∷ [] in
+        subst (λ k. HasFault (or_else k (walk_fault (plain_leaf leaf) [] (walked (plain_leaf leaf).rules [] (walk_from nothing_held) path) more))) (sym plain_no_file_fault)
+        (subst (λ w. HasFault (walk_fault (plain_leaf leaf) [] w more)) (sym plain_walked) (heap_turn bytes))
+
+    heap_level : (bytes : Text) → HasFault (level_fault (plain_leaf leaf) [] nothing_held (path ∷ codes "--heap" ∷ bytes ∷ []) false [])
+    heap_level bytes = or_fault _ _ (heap_walk bytes)
+
+module _ (path : Text) (plain : strip_byte 45 path ≡ None) (name : Text) where
+  race_heap : (bytes : Text) → HasFault (fault_of program (name ∷ codes "race" ∷ path ∷ codes "--heap" ∷ bytes ∷ []))
+  unfolding clap_on_literals
+  race_heap bytes = or_fault _ [] (heap_level (codes "race") path plain bytes)
+
+  audit_heap : (bytes : Text) → HasFault (fault_of program (name ∷ codes "audit" ∷ path ∷ codes "--heap" ∷ bytes ∷ []))
+  unfolding clap_on_literals
+  audit_heap bytes = or_fault _ [] (heap_level (codes "audit") path plain bytes)
+
+  race_taken : fault_of program (name ∷ codes "race" ∷ path ∷ []) ≡ []
+  unfolding clap_on_literals
+  race_taken = ap (λ k. or_else k []) (plain_none (codes "race") path plain)
+
+  race_file : option_map file_in (subcommand_of program (name ∷ codes "race" ∷ path ∷ [])) ≡ Some (codes "race", Some path)
+  unfolding clap_on_literals
+  race_file = ap (λ (w : Walk). Some (codes "race", first_of (codes "FILE") (finished (plain_leaf (codes "race")).rules w.held))) (plain_walk_is (codes "race") path plain)
+
+  audit_taken : fault_of program (name ∷ codes "audit" ∷ path ∷ []) ≡ []
+  unfolding clap_on_literals
+  audit_taken = ap (λ k. or_else k []) (plain_none (codes "audit") path plain)
+
+  audit_file : option_map file_in (subcommand_of program (name ∷ codes "audit" ∷ path ∷ [])) ≡ Some (codes "audit", Some path)
+  unfolding clap_on_literals
+  audit_file = ap (λ (w : Walk). Some (codes "audit", first_of (codes "FILE") (finished (plain_leaf (codes "audit")).rules w.held))) (plain_walk_is (codes "audit") path plain)
+
 -- the walk after `FILE --heap`, and after BYTES
 abbrev awaiting : Text → Walk
 awaiting path = walked replays.rules [] (after path) (codes "--heap")
@@ -166,21 +251,101 @@ plain_of (x ∷ xs) other = go (x == 45) refl
     go true e = absurd (other (ap Some (grind (arith, nat_tests))))
     go false e = rw e refl
 
+-- the names of the subcommands differ
+replay_is_no_race : codes "replay" ≡ codes "race" → ⊥
+replay_is_no_race e = true≢false (sym ((bytes_eq-Decides (codes "replay") (codes "race")).1 e))
+
+replay_is_no_audit : codes "replay" ≡ codes "audit" → ⊥
+replay_is_no_audit e = true≢false (sym ((bytes_eq-Decides (codes "replay") (codes "audit")).1 e))
+
+race_is_no_audit : codes "race" ≡ codes "audit" → ⊥
+race_is_no_audit e = true≢false (sym ((bytes_eq-Decides (codes "race") (codes "audit")).1 e))
+
+-- what words name of one subcommand and file they name of no other
+module _ (words : List Text) (name path : Text) (is : option_map file_in (subcommand_of program words) ≡ Some (name, Some path)) where
+  same_name : (other file : Text) → NamesFile words other file → name ≡ other
+  same_name other file names = ap (λ q. q.0) (some_is (sym is ∙ names.file))
+
+  same_path : (other file : Text) → NamesFile words other file → file ≡ path
+  same_path other file names = sym (some_is (ap (λ q. q.1) (some_is (sym is ∙ names.file))))
+
 gives : (path : Text) (told : Option (Option ℕ)) (words : List Text) (r : Result Invocation UsageFault) → fault_of program words ≡ []
     → option_map file_in (subcommand_of program words) ≡ Some (codes "replay", Some path) → heap_told (heap_word words) ≡ told → IsRead words r → Gives path told r
-gives path told words (Ok (Replay file size)) none is heap read =
-    (sym (some_is (ap (λ q. q.1) (some_is (sym is ∙ read.0.file)))), sym heap ∙ read.1)
+gives path told words (Ok (Replay file size)) none is heap read = (same_path words _ path is _ _ read.0, sym heap ∙ read.1)
+gives path told words (Ok (Race file)) none is heap read = absurd (replay_is_no_race (same_name words _ path is _ _ read))
+gives path told words (Ok (Audit file)) none is heap read = absurd (replay_is_no_audit (same_name words _ path is _ _ read))
 gives path told words (Err (Usage error)) none is heap read = subst (IsAmong (kind_of error)) none read
 gives path told words (Err NoMemory) none is heap read = tt
-gives path told words (Err HeapSize) none is heap read = sym heap ∙ read.1
+gives path told words (Err HeapSize) none is heap read = sym heap ∙ read.2
+
+gives_race : (path : Text) (words : List Text) (r : Result Invocation UsageFault) → fault_of program words ≡ []
+    → option_map file_in (subcommand_of program words) ≡ Some (codes "race", Some path) → IsRead words r → GivesRace path r
+gives_race path words (Ok (Replay file size)) none is read = absurd (replay_is_no_race (sym (same_name words _ path is _ _ read.0)))
+gives_race path words (Ok (Race file)) none is read = same_path words _ path is _ _ read
+gives_race path words (Ok (Audit file)) none is read = absurd (race_is_no_audit (same_name words _ path is _ _ read))
+gives_race path words (Err (Usage error)) none is read = subst (IsAmong (kind_of error)) none read
+gives_race path words (Err NoMemory) none is read = tt
+gives_race path words (Err HeapSize) none is read = absurd (replay_is_no_race (sym (same_name words _ path is _ _ read.1)))
+
+gives_audit : (path : Text) (words : List Text) (r : Result Invocation UsageFault) → fault_of program words ≡ []
+    → option_map file_in (subcommand_of program words) ≡ Some (codes "audit", Some path) → IsRead words r → GivesAudit path r
+gives_audit path words (Ok (Replay file size)) none is read = absurd (replay_is_no_audit (sym (same_name words _ path is _ _ read.0)))
+gives_audit path words (Ok (Race file)) none is read = absurd (race_is_no_audit (sym (same_name words _ path is _ _ read)))
+gives_audit path words (Ok (Audit file)) none is read = same_path words _ path is _ _ read
+gives_audit path words (Err (Usage error)) none is read = subst (IsAmong (kind_of error)) none read
+gives_audit path words (Err NoMemory) none is read = tt
+gives_audit path words (Err HeapSize) none is read = absurd (replay_is_no_audit (sym (same_name words _ path is _ _ read.1)))
 
 -- what is given of the file and the word that stand in the words is what was read
-pub is_read : (words : List Text) (path : Text) (told : Option (Option ℕ)) (r : Result Invocation UsageFault) → NamesFile words path → told ≡ heap_told (heap_word words) → Gives path told r
+pub is_read : (words : List Text) (path : Text) (told : Option (Option ℕ)) (r : Result Invocation UsageFault) → NamesFile words (codes "replay") path → told ≡ heap_told (heap_word words) → Gives path told r
     → IsRead words r
-is_read words path told (Ok (Replay file size)) names heap gives_it = (subst (NamesFile words) (sym gives_it.0) names, sym heap ∙ gives_it.1)
+is_read words path told (Ok (Replay file size)) names heap gives_it = (subst (NamesFile words (codes "replay")) (sym gives_it.0) names, sym heap ∙ gives_it.1)
+is_read words path told (Ok (Race file)) names heap gives_it = absurd gives_it
+is_read words path told (Ok (Audit file)) names heap gives_it = absurd gives_it
 is_read words path told (Err (Usage error)) names heap gives_it = absurd gives_it
 is_read words path told (Err NoMemory) names heap gives_it = tt
-is_read words path told (Err HeapSize) names heap gives_it = (names.faultless, sym heap ∙ gives_it)
+is_read words path told (Err HeapSize) names heap gives_it = (path, names, sym heap ∙ gives_it)
+
+pub race_read : (words : List Text) (path : Text) (r : Result Invocation UsageFault) → NamesFile words (codes "race") path → GivesRace path r → IsRead words r
+race_read words path (Ok (Replay file size)) names gives_it = absurd gives_it
+race_read words path (Ok (Race file)) names gives_it = subst (NamesFile words (codes "race")) (sym gives_it) names
+race_read words path (Ok (Audit file)) names gives_it = absurd gives_it
+race_read words path (Err (Usage error)) names gives_it = absurd gives_it
+race_read words path (Err NoMemory) names gives_it = tt
+race_read words path (Err HeapSize) names gives_it = absurd gives_it
+
+pub audit_read : (words : List Text) (path : Text) (r : Result Invocation UsageFault) → NamesFile words (codes "audit") path → GivesAudit path r → IsRead words r
+audit_read words path (Ok (Replay file size)) names gives_it = absurd gives_it
+audit_read words path (Ok (Race file)) names gives_it = absurd gives_it
+audit_read words path (Ok (Audit file)) names gives_it = subst (NamesFile words (codes "audit")) (sym gives_it) names
+audit_read words path (Err (Usage error)) names gives_it = absurd gives_it
+audit_read words path (Err NoMemory) names gives_it = tt
+audit_read words path (Err HeapSize) names gives_it = absurd gives_it
+
+pub takes_race : (words : List Text) (r : Result Invocation UsageFault) → IsRead words r → TakesRace words r
+takes_race words r read name path is other =
+    let plain = plain_of path other in
+    gives_race path words r (ap (fault_of program) is ∙ race_taken path plain name) (ap (λ ws. option_map file_in (subcommand_of program ws)) is ∙ race_file path plain name) read
+
+pub takes_audit : (words : List Text) (r : Result Invocation UsageFault) → IsRead words r → TakesAudit words r
+takes_audit words r read name path is other =
+    let plain = plain_of path other in
+    gives_audit path words r (ap (fault_of program) is ∙ audit_taken path plain name) (ap (λ ws. option_map file_in (subcommand_of program ws)) is ∙ audit_file path plain name) read
+
+-- words in which clap finds a fault are refused
+refused : (words : List Text) (r : Result Invocation UsageFault) → HasFault (fault_of program words) → IsRead words r → IsRefused r
+refused words (Ok (Replay file size)) fault read = absurd (subst HasFault read.0.faultless fault)
+refused words (Ok (Race file)) fault read = absurd (subst HasFault read.faultless fault)
+refused words (Ok (Audit file)) fault read = absurd (subst HasFault read.faultless fault)
+refused words (Err (Usage error)) fault read = tt
+refused words (Err NoMemory) fault read = tt
+refused words (Err HeapSize) fault read = absurd (subst HasFault read.1.faultless fault)
+
+pub takes_no_heap : (words : List Text) (r : Result Invocation UsageFault) → IsRead words r → TakesNoHeap words r
+takes_no_heap words r read name subcommand path bytes (inl race) is other =
+    refused words r (subst (λ ws. HasFault (fault_of program ws)) (sym (is ∙ ap (λ s. name ∷ s ∷ path ∷ codes "--heap" ∷ bytes ∷ []) race)) (race_heap path (plain_of path other) name bytes)) read
+takes_no_heap words r read name subcommand path bytes (inr audit) is other =
+    refused words r (subst (λ ws. HasFault (fault_of program ws)) (sym (is ∙ ap (λ s. name ∷ s ∷ path ∷ codes "--heap" ∷ bytes ∷ []) audit)) (audit_heap path (plain_of path other) name bytes)) read
 
 pub takes_file : (words : List Text) (r : Result Invocation UsageFault) → IsRead words r → TakesFile words r
 takes_file words r read name path is other =

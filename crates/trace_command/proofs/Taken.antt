@@ -1,6 +1,6 @@
--- Where clap finds no fault in the words, they name `replay` and its file.
-use Rattle.std.proofs.Common.{◌≡◌, ◌≢◌, ◌∙◌, ◌&&◌, ◌||◌, ◌++◌, ℕ, zero, suc, Bool, true, false, not, cond, true≢false, refl, sym, ap, codes, List, [], ◌∷◌, drop, fold, find, length, Option, Some, None, is_some, option_map, option_and_then, slice_get}
-use Rattle.std.specs.Prelude.{⊤, encode_utf8}
+-- Where clap finds no fault in the words, they name a subcommand and its file.
+use Rattle.std.proofs.Common.{◌≡◌, ◌≢◌, ◌∙◌, ◌&&◌, ◌||◌, ◌++◌, ℕ, zero, suc, Bool, true, false, not, cond, true≢false, refl, sym, ap, codes, List, [], ◌∷◌, drop, fold, find, length, Option, Some, None, is_some, option_map, option_and_then, slice_get, inl, inr}
+use Rattle.std.specs.Prelude.{⊤, ◌⊎◌, encode_utf8}
 use Rattle.std.specs.List.{list_any}
 use Rattle.std.specs.Option.{option_map_or}
 use Rattle.std.specs.Str.{bytes_eq, chars}
@@ -13,7 +13,7 @@ use Rattle.clap.specs.Simple.{Shape, argument_words, built, built_leaf, entered,
 use Rattle.clap.specs.Takes.{is_given}
 use Rattle.clap.specs.Walk.{Held, Names, Outcome, Row, Rule, Step, Text, Waiting, Walk, after_flag, after_step, arg_by_id, arg_by_index, arg_by_long, arg_by_short, at_row, attached_value, bundle_met, bundle_step, done, finished, first_of, flag_met, has_long, has_row, has_short, idle, is_pending, long_met, long_or_other, more_values, next, nothing_held, option, option_met, option_word, plain, plain_word, positional, positional_held, pushed, reacted, refused, rows_after, settled, settled_rows, short_met, short_or_plain, started, subcommand, subcommand_met, subcommand_or_other, takes_several, takes_values, to_positional, trailing, used, used_by_id, value, values_or_missing, waits, walk, walk_from, walked, walked_from, with_default, without, word_met}
 use Rattle.clap.specs.declared.error.kind.ErrorKind.TheVariants as kind
-use Rattle.trace_command.specs.Words.{file, file_in, heap, program, replay}
+use Rattle.trace_command.specs.Words.{file, file_in, heap, program, replay, with_file}
 
 cases : (P : Type 0) (b : Bool) → (b ≡ true → P) → (b ≡ false → P) → P
 cases P true yes_ no_ = yes_ refl
@@ -352,6 +352,48 @@ full_replay words =
     full_either (has_row (codes "help") heaped_rows) heaped_rows
     (full_either (has_row (codes "heap") filed_rows) filed_rows (full_either (has_row (codes "FILE") rows) rows full))
 
+-- ---- `race` and `audit`, which take FILE alone
+
+-- one of these as the program has it once it is built
+abbrev pub plain_leaf : Text → Shape
+plain_leaf name = built_leaf (inherited (with_leaf_noted (marked_built program.top)) (with_file name).top)
+
+is_helped : (y : Bool) → IsOfOther (cond y (Some helped) None)
+is_helped true = (help_not_file, λ values rows full. full)
+is_helped false = tt
+
+full_plain : (x z : Bool) (values : List Text) (rows : List Row) → (x ≡ true → HasValue values) → AreFull rows → AreFull (used_by_id (cond x (Some filed) (cond z (Some helped) None)) values rows)
+full_plain true z values rows has full = full_changed (codes "FILE") _ (values_or_missing filed values) _ (without (codes "FILE") rows) (λ _. value_or_missing filed values (has refl)) (full_without (codes "FILE") rows full)
+full_plain false true values rows has full = full
+full_plain false false values rows has full = full
+
+full_leaf : (name : Text) (words : List Text) → AreFull (rows_after (plain_leaf name).rules [] words)
+full_leaf name words =
+    let rules = (plain_leaf name).rules in
+    let rows = (settled rules (walk rules [] nothing_held words).held).rows in
+    let full = full_rows rules (λ long. is_helped (has_long helped long)) (λ x. is_helped (has_short helped x))
+    (λ id values rows full. full_plain (bytes_eq (codes "FILE") id) (bytes_eq (codes "help") id) values rows
+    (λ e. full (sym ((bytes_eq-Decides (codes "FILE") id).0 e)))) words in
+    let filed_rows = with_default rows filed in
+    full_either (has_row (codes "help") filed_rows) filed_rows (full_either (has_row (codes "FILE") rows) rows full)
+
+plain_wants_file : (name : Text) (rows : List Row) → check_fault (plain_leaf name) rows false ≡ [] → is_given (codes "FILE") rows ≡ true
+plain_wants_file name rows = go (is_given (codes "FILE") rows)
+  where
+    go : (b : Bool) → cond (not b || false) (kind.MissingRequiredArgument ∷ []) [] ≡ [] → b ≡ true
+    go true none = refl
+    go false none = absurd (let e = none in cc)
+
+plain_given : (name : Text) (words : List Text) → level_fault (plain_leaf name) [] nothing_held words false [] ≡ []
+    → (v : Text) × (first_of (codes "FILE") (rows_after (plain_leaf name).rules [] words) ≡ Some v)
+plain_given name words none =
+    let leaf = plain_leaf name in
+    let rows = rows_after leaf.rules [] words in
+    let walked_by = (neither (walk_fault leaf [] (walk_from nothing_held) words) _ none).1 in
+    let settled_by = (neither (settle_fault leaf.rules leaf.args_override_self (walk leaf.rules [] nothing_held words).held) _ walked_by).1 in
+    let checked_by = (neither (defaults_fault (settled leaf.rules (walk leaf.rules [] nothing_held words).held).rows leaf.rules) (check_fault leaf rows false) settled_by).1 in
+    first_given (find (λ r. bytes_eq r.id (codes "FILE")) rows) (full_found rows (full_leaf name words)) (plain_wants_file name rows checked_by)
+
 wants_file : (rows : List Row) → check_fault replays rows false ≡ [] → is_given (codes "FILE") rows ≡ true
 wants_file rows = go (is_given (codes "FILE") rows)
   where
@@ -378,17 +420,30 @@ wants_subcommand rows false none = go (list_any (λ r. explicit_source r.source)
     go true none = absurd (let e = none in cc)
     go false none = absurd (let e = none in cc)
 
-abbrev HasFile : Option (Text × List Row) → Type 0
-HasFile found = (v : Text) × (option_map file_in found ≡ Some (codes "replay", Some v))
+-- the subcommands
+abbrev pub IsName : Text → Type 0
+IsName name = (name ≡ codes "replay") ⊎ ((name ≡ codes "race") ⊎ (name ≡ codes "audit"))
 
-found_in : (x y : Bool) (words : List Text) → y ≡ false → is_some (option_map (λ s. rows_at s words) (cond x (Some replays) (cond y (Some helps) None))) ≡ true
-    → option_map_or (λ s. level_fault s [] nothing_held words false []) (cond x (Some replays) (cond y (Some helps) None)) [] ≡ []
-    → HasFile (option_map (λ s. rows_at s words) (cond x (Some replays) (cond y (Some helps) None)))
-found_in true y words other has none =
+abbrev pub HasFile : Option (Text × List Row) → Type 0
+HasFile found = (name v : Text) × IsName name × (option_map file_in found ≡ Some (name, Some v))
+
+abbrev leaf_of : Bool → Bool → Bool → Bool → Option Shape
+leaf_of x r a y = cond x (Some replays) (cond r (Some (plain_leaf (codes "race"))) (cond a (Some (plain_leaf (codes "audit"))) (cond y (Some helps) None)))
+
+found_in : (x r a y : Bool) (words : List Text) → y ≡ false → is_some (option_map (λ s. rows_at s words) (leaf_of x r a y)) ≡ true
+    → option_map_or (λ s. level_fault s [] nothing_held words false []) (leaf_of x r a y) [] ≡ []
+    → HasFile (option_map (λ s. rows_at s words) (leaf_of x r a y))
+found_in true r a y words other has none =
     let given = file_given words none in
-    (given.0, ap (λ (o : Option Text). Some (codes "replay", o)) given.1)
-found_in false true words other has none = absurd (true≢false other)
-found_in false false words other has none = absurd (true≢false (sym has))
+    (codes "replay", given.0, inl refl, ap (λ (o : Option Text). Some (codes "replay", o)) given.1)
+found_in false true a y words other has none =
+    let given = plain_given (codes "race") words none in
+    (codes "race", given.0, inr (inl refl), ap (λ (o : Option Text). Some (codes "race", o)) given.1)
+found_in false false true y words other has none =
+    let given = plain_given (codes "audit") words none in
+    (codes "audit", given.0, inr (inr refl), ap (λ (o : Option Text). Some (codes "audit", o)) given.1)
+found_in false false false true words other has none = absurd (true≢false other)
+found_in false false false false words other has none = absurd (true≢false (sym has))
 
 file_entered : (stop : Option (Text × List Text)) → IsOther stop → is_some (entered (built program) stop) ≡ true → entered_fault (built program) stop ≡ []
     → HasFile (entered (built program) stop)
@@ -398,7 +453,7 @@ file_entered (Some p) other has none =
     (λ e. let same : codes "help" ≡ p.0 = (bytes_eq-Decides (codes "help") p.0).0 e in
     absurd (true≢false (sym ((bytes_eq-Decides p.0 (codes "help")).1 (sym same)) ∙ other)))
     (λ e. e) in
-    found_in (bytes_eq (codes "replay") p.0 || false) (bytes_eq (codes "help") p.0 || false) p.1 (ap (λ b. b || false) not_help) has none
+    found_in (bytes_eq (codes "replay") p.0 || false) (bytes_eq (codes "race") p.0 || false) (bytes_eq (codes "audit") p.0 || false) (bytes_eq (codes "help") p.0 || false) p.1 (ap (λ b. b || false) not_help) has none
 
 pub file_taken : (words : List Text) → fault_of program words ≡ [] → HasFile (subcommand_of program words)
 file_taken words none =

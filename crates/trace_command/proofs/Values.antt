@@ -13,9 +13,14 @@ pub some_is : {X : Type 0} {x y : X} → Some x ≡ Some y → x ≡ y
 some_is h = cc
 
 -- the file in the rows of a subcommand
-pub file_of : (o : Option (Text × List Row)) (rows : List Row) (path : Text) → Some rows ≡ option_map (λ p. p.1) o → option_map file_in o ≡ Some (codes "replay", Some path) → first_of (codes "FILE") rows ≡ Some path
-file_of None rows path a b = absurd (let e = a in cc)
-file_of (Some p) rows path a b = ap (first_of (codes "FILE")) (some_is a) ∙ ap (λ q. q.1) (some_is b)
+pub file_of : (o : Option (Text × List Row)) (rows : List Row) (name path : Text) → Some rows ≡ option_map (λ p. p.1) o → option_map file_in o ≡ Some (name, Some path) → first_of (codes "FILE") rows ≡ Some path
+file_of None rows name path a b = absurd (let e = a in cc)
+file_of (Some p) rows name path a b = ap (first_of (codes "FILE")) (some_is a) ∙ ap (λ q. q.1) (some_is b)
+
+-- and its name
+pub name_of : (o : Option (Text × List Row)) (found name path : Text) → Some found ≡ option_map (λ p. p.0) o → option_map file_in o ≡ Some (name, Some path) → found ≡ name
+name_of None found name path a b = absurd (let e = a in cc)
+name_of (Some p) found name path a b = some_is a ∙ ap (λ q. q.0) (some_is b)
 
 -- the word for BYTES in them
 pub heap_of : (o : Option (Text × List Row)) (rows : List Row) → Some rows ≡ option_map (λ p. p.1) o → first_of (codes "heap") rows ≡ option_and_then (λ found. first_of (codes "heap") found.1) o

@@ -1,5 +1,5 @@
 -- The words of the program, as clap reads them.
-use Rattle.std.specs.Prelude.{◌≡◌, ◌≢◌, ◌&&◌, ⊤, ℕ, true, List, [], ◌∷◌, Option, Result, Some, None, Ok, Err, codes, if◌then◌else◌, nat_le, nat_lt, option_and_then, option_map, slice_get, slice_index}
+use Rattle.std.specs.Prelude.{◌≡◌, ◌≢◌, ◌&&◌, ◌⊎◌, ⊤, ℕ, true, List, [], ◌∷◌, Option, Result, Some, None, Ok, Err, codes, if◌then◌else◌, nat_le, nat_lt, option_and_then, option_map, slice_get, slice_index}
 use Rattle.std.specs.Str.{all_ascii_digits}
 use Rattle.std.specs.Str.Parse.{digits_value}
 use Rattle.clap.specs.declared.builder.ArgAction.TheVariants.{Set}
@@ -7,11 +7,11 @@ use Rattle.clap.specs.declared.error.Error.{Error}
 use Rattle.clap.specs.declared.error.kind.ErrorKind.TheVariants.{OutOfMemory}
 use Rattle.clap.specs.Words.{App, IsAmong, Row, Rule, Text, fault_of, first_of, kind_of, new_app, new_rule, subcommand_of, with_rule, with_subcommand}
 use Rattle.trace_command.specs.declared.words.Invocation.{Invocation}
-use Rattle.trace_command.specs.declared.words.Invocation.TheVariants.{Replay}
+use Rattle.trace_command.specs.declared.words.Invocation.TheVariants.{Audit, Race, Replay}
 use Rattle.trace_command.specs.declared.words.UsageFault.{UsageFault}
 use Rattle.trace_command.specs.declared.words.UsageFault.TheVariants.{HeapSize, NoMemory, Usage}
 
--- the file of `replay`
+-- the file of each subcommand
 abbrev pub file : Rule
 file = record (new_rule (codes "FILE")) { required = true; action = Some Set }
 
@@ -23,18 +23,24 @@ heap = record (new_rule (codes "heap")) { long = Some (codes "heap"); action = S
 abbrev pub replay : App
 replay = with_rule (with_rule (new_app (codes "replay")) file) heap
 
+-- `race FILE` and `audit FILE`
+abbrev pub with_file : Text → App
+with_file name = with_rule (new_app name) file
+
 -- the program: it needs a subcommand, and shows help without words
 abbrev pub program : App
-program = with_subcommand (record (new_app (codes "trace_cli")) { top = record (new_app (codes "trace_cli")).top { subcommand_required = true; arg_required_else_help = true } }) replay.top
+program =
+    with_subcommand (with_subcommand (with_subcommand (record (new_app (codes "trace_cli")) { top = record (new_app (codes "trace_cli")).top { subcommand_required = true; arg_required_else_help = true } }) replay.top)
+    (with_file (codes "race")).top) (with_file (codes "audit")).top
 
 -- a subcommand's name, and its value of FILE
 abbrev pub file_in : Text × List Row → Text × Option Text
 file_in found = (found.0, first_of (codes "FILE") found.1)
 
--- clap finds no fault in the words, and this file
-pub record NamesFile (words : List Text) (path : Text) : Type 0 where
+-- clap finds no fault in the words, and this subcommand with this file
+pub record NamesFile (words : List Text) (name path : Text) : Type 0 where
   pub faultless : fault_of program words ≡ []
-  pub file : option_map file_in (subcommand_of program words) ≡ Some (codes "replay", Some path)
+  pub file : option_map file_in (subcommand_of program words) ≡ Some (name, Some path)
 
 -- the word for BYTES
 abbrev pub heap_word : List Text → Option Text
@@ -51,20 +57,35 @@ abbrev pub heap_told : Option Text → Option (Option ℕ)
 heap_told None = Some None
 heap_told (Some word) = option_map (λ size. Some size) (heap_size word)
 
--- what was read: the file and the heap that the words name, a fault that clap finds in them, that it finds none and the word
+-- what was read: the subcommand, the file and the heap that the words name, a fault that clap finds in them, that it finds none and the word
 -- for BYTES says no size, or that memory was refused
 abbrev pub IsRead : List Text → Result Invocation UsageFault → Type 0
-IsRead words (Ok (Replay path size)) = NamesFile words path.now × (heap_told (heap_word words) ≡ Some size)
+IsRead words (Ok (Replay path size)) = NamesFile words (codes "replay") path.now × (heap_told (heap_word words) ≡ Some size)
+IsRead words (Ok (Race path)) = NamesFile words (codes "race") path.now
+IsRead words (Ok (Audit path)) = NamesFile words (codes "audit") path.now
 IsRead words (Err (Usage error)) = IsAmong (kind_of error) (fault_of program words)
 IsRead words (Err NoMemory) = ⊤
-IsRead words (Err HeapSize) = (fault_of program words ≡ []) × (heap_told (heap_word words) ≡ None)
+IsRead words (Err HeapSize) = (path : Text) × NamesFile words (codes "replay") path × (heap_told (heap_word words) ≡ None)
 
--- this file and this heap are what was read, or the refusal of a word that says no size, unless memory was refused
+-- a replay of this file with this heap is what was read, or the refusal of a word that says no size, unless memory was refused
 abbrev pub Gives : Text → Option (Option ℕ) → Result Invocation UsageFault → Type 0
-Gives path told (Ok (Replay file size)) = (file.now ≡ path) × (told ≡ Some size)
+Gives path told (Ok (Replay given size)) = (given.now ≡ path) × (told ≡ Some size)
+Gives path told (Ok (Race _)) = ⊥
+Gives path told (Ok (Audit _)) = ⊥
 Gives path told (Err (Usage error)) = ⊥
 Gives path told (Err NoMemory) = ⊤
 Gives path told (Err HeapSize) = told ≡ None
+
+-- and so a race, or an audit, of this file
+abbrev pub GivesRace : Text → Result Invocation UsageFault → Type 0
+GivesRace path (Ok (Race given)) = given.now ≡ path
+GivesRace path (Err NoMemory) = ⊤
+GivesRace path r = ⊥
+
+abbrev pub GivesAudit : Text → Result Invocation UsageFault → Type 0
+GivesAudit path (Ok (Audit given)) = given.now ≡ path
+GivesAudit path (Err NoMemory) = ⊤
+GivesAudit path r = ⊥
 
 -- the words `NAME replay FILE` give that file and no heap, where FILE begins with no hyphen (45)
 abbrev pub TakesFile : List Text → Result Invocation UsageFault → Type 0
@@ -74,6 +95,26 @@ TakesFile words r = (name path : Text) → words ≡ name ∷ codes "replay" ∷
 abbrev pub TakesHeap : List Text → Result Invocation UsageFault → Type 0
 TakesHeap words r = (name path bytes : Text) → words ≡ name ∷ codes "replay" ∷ path ∷ codes "--heap" ∷ bytes ∷ [] → slice_get path 0 ≢ Some 45 → slice_get bytes 0 ≢ Some 45
     → Gives path (heap_told (Some bytes)) r
+
+-- the words `NAME race FILE` give a race of that file, and `NAME audit FILE` an audit, where FILE begins with no hyphen
+abbrev pub TakesRace : List Text → Result Invocation UsageFault → Type 0
+TakesRace words r = (name path : Text) → words ≡ name ∷ codes "race" ∷ path ∷ [] → slice_get path 0 ≢ Some 45 → GivesRace path r
+
+abbrev pub TakesAudit : List Text → Result Invocation UsageFault → Type 0
+TakesAudit words r = (name path : Text) → words ≡ name ∷ codes "audit" ∷ path ∷ [] → slice_get path 0 ≢ Some 45 → GivesAudit path r
+
+-- the words were refused, or memory was
+abbrev pub IsRefused : Result Invocation UsageFault → Type 0
+IsRefused (Ok asked) = ⊥
+IsRefused (Err (Usage error)) = ⊤
+IsRefused (Err NoMemory) = ⊤
+IsRefused (Err HeapSize) = ⊥
+
+-- a race and an audit take no heap: `NAME race FILE --heap BYTES` and `NAME audit FILE --heap BYTES` are refused, where FILE begins with no hyphen
+abbrev pub TakesNoHeap : List Text → Result Invocation UsageFault → Type 0
+TakesNoHeap words r =
+    (name subcommand path bytes : Text) → (subcommand ≡ codes "race") ⊎ (subcommand ≡ codes "audit") → words ≡ name ∷ subcommand ∷ path ∷ codes "--heap" ∷ bytes ∷ [] → slice_get path 0 ≢ Some 45
+    → IsRefused r
 
 -- the fault that stands for an error of clap's
 abbrev pub StandsFor : Error → UsageFault → Type 0
