@@ -1,5 +1,5 @@
-//! Tests of the oracle (`audit`, `judge`, `record`), of worlds, of machines, and of replays. They have a crate of their own,
-//! since tests are proved with all functions of their crate.
+//! Tests of the oracle (`audit`, `judge`, `record`), of worlds, of machines, of replays, and of races and audits. They have a
+//! crate of their own, since tests are proved with all functions of their crate.
 #![tactic(auto)]
 
 #[cfg(test)]
@@ -7,10 +7,14 @@ mod audit;
 #[cfg(test)]
 mod expect;
 #[cfg(test)]
+mod held;
+#[cfg(test)]
 mod judge;
 #[cfg(test)]
 mod machines;
 pub mod numbers;
+#[cfg(test)]
+mod races;
 #[cfg(test)]
 mod record;
 #[cfg(test)]

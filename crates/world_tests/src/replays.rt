@@ -5,8 +5,9 @@ use ghost_spec::state::Ghost;
 use std::alloc::{AllocError, Global};
 use std::io::{Cursor, Error, ErrorKind, Read, Write};
 use step_reply::{Reply, Step};
+use trace_audit::audit_buffered;
 use trace_text::{
-    Counting, EngineFault, Oracle, Outcome, Verdict, replay, replay_buffered, replay_with,
+    Counting, EngineFault, Oracle, Outcome, Stopped, Verdict, replay, replay_buffered, replay_with,
 };
 
 /// Two texts, one after the other.
@@ -128,7 +129,42 @@ fn writes_all_that_buffers_hold(rt: HostRuntime) {
     let wanted: &[u8] = b"boot host 3 hyp 3 free 58\nend steps 0 disagreements 0\n";
     assert!(rt; matches!(&ended, Ok((Outcome::Clean, written)) if written.as_slice() == wanted));
     let ended = replay_buffered(rt.alloc(), rt.alloc(), Cursor::new(BOOT), Full);
-    assert!(rt; matches!(&ended, Err(stopped) if stopped.fault == EngineFault::Write));
+    assert!(rt;
+        matches!(&ended, Err(stopped) if stopped.fault == EngineFault::Write && stopped.writer.is_none())
+    );
+}
+
+/// The boot, after which a read fails.
+fn boot_cut_short() -> Cut {
+    Cut {
+        bytes: BOOT,
+        left: BOOT.len(),
+    }
+}
+
+/// Whether a run through a buffer told of a read that failed after the boot, and wrote what the boot reports.
+fn is_cut_after_boot(ended: &Result<(Outcome, Vec<u8>), Stopped<Vec<u8>>>) -> bool {
+    let wanted: &[u8] = b"boot host 3 hyp 3 free 58\n";
+    match ended {
+        Err(
+            Stopped {
+                fault: EngineFault::Read,
+                cause: Some(cause),
+                writer: Some(written),
+            },
+        ) => cause.kind() == ErrorKind::Other && written.as_slice() == wanted,
+        _ => false,
+    }
+}
+
+#[test]
+fn gives_back_what_was_written(rt: HostRuntime) {
+    let writer = Vec::new(rt.alloc());
+    let ended = replay_buffered(rt.alloc(), rt.alloc(), boot_cut_short(), writer);
+    assert!(rt; is_cut_after_boot(&ended));
+    let writer = Vec::new(rt.alloc());
+    let ended = audit_buffered(rt.alloc(), rt.alloc(), boot_cut_short(), writer);
+    assert!(rt; is_cut_after_boot(&ended));
 }
 
 /// An oracle that disagrees after each second step.

@@ -7,46 +7,14 @@ ghost use Rattle.cpu_threads.specs.Ends.{AreOf};
 use super::gates::{FIRST, SECOND, UNMAPPED, question};
 use super::rows::make_both;
 use super::*;
+use crate::held::{Held, TURNS};
 use crate::numbers::Numbers;
 use crate::sample::started;
 use ghost_spec::state::Ghost;
 use std::alloc::AllocError;
-use std::sync::atomic::{AtomicU64, Ordering};
 use std::thread;
 use std::thread::{Threads, join};
 use world::World;
-
-/// The turns that are waited at most.
-const TURNS: u64 = 50_000_000;
-
-/// A call that holds its parts until another CPU's call was answered.
-#[derive(Drop)]
-struct Held {
-    taken: AtomicU64,
-    answered: AtomicU64,
-    late: AtomicU64,
-}
-
-/// Waits until a word is set, for a number of turns at most, and answers whether it was set.
-fn is_set_in_time(word: &AtomicU64) -> bool {
-    for _ in 0..TURNS {
-        if word.load(Ordering::SeqCst) != 0 {
-            return true;
-        }
-    }
-    false
-}
-
-impl Gate for Held {
-    fn taken(&self, _cpu: u64, _number: u64) {
-        self.taken.store(1, Ordering::SeqCst);
-        if !is_set_in_time(&self.answered) {
-            self.late.store(1, Ordering::SeqCst);
-        }
-    }
-
-    fn answered(&self, _cpu: u64, _number: u64) {}
-}
 
 /// Asks about the first VM, and is held in the middle of the call.
 fn ask_held(machine: &Machine<Global>, pass: CpuPass<Global>, gate: &Held) -> Reply
@@ -60,13 +28,11 @@ fn ask_held(machine: &Machine<Global>, pass: CpuPass<Global>, gate: &Held) -> Re
 fn ask_beside(machine: &Machine<Global>, pass: CpuPass<Global>, gate: &Held) -> Option<Reply>
     requires { IsPassOf machine.now.table pass }
 {
-    if !is_set_in_time(&gate.taken) {
+    if !gate.is_taken() {
         return None;
     }
     let mut pass = pass;
-    let reply = machine.try_call(&mut pass, question(SECOND));
-    gate.answered.store(1, Ordering::SeqCst);
-    Some(reply)
+    Some(machine.try_call_gated(gate, &mut pass, question(SECOND)))
 }
 
 #[test]
@@ -75,11 +41,7 @@ fn gate_two_threads(rt: HostRuntime) {
     let mut zero = machine.pass(0).expect(&rt, "the pass of CPU 0");
     let mut one = machine.pass(1).expect(&rt, "the pass of CPU 1");
     make_both(&rt, &machine, &mut zero, &mut one);
-    let gate = Held {
-        taken: AtomicU64::new(0),
-        answered: AtomicU64::new(0),
-        late: AtomicU64::new(0),
-    };
+    let gate = Held::new();
     let (shared, held) = (&machine, &gate);
     let (first, second) = join(
         &rt,
@@ -88,7 +50,7 @@ fn gate_two_threads(rt: HostRuntime) {
     );
     assert_eq!(rt; first, UNMAPPED);
     assert!(rt; second == Some(UNMAPPED));
-    assert_eq!(rt; gate.late.load(Ordering::SeqCst), 0);
+    assert!(rt; !gate.was_late());
     drop(machine);
 }
 
