@@ -37,7 +37,6 @@ use Rattle.guest_steps.specs.contracts.VmPart as VmPart
 use Rattle.guest_steps.specs.contracts.SharedPart as SharedPart
 use Rattle.guest_steps.specs.contracts.GuestPart as GuestPart
 use Rattle.guest_steps.specs.contracts.CpuState as CpuState
-use Rattle.part_table.specs.contracts.Bench as Bench
 use Rattle.part_table.specs.contracts.CpuPass as CpuPass
 use Rattle.part_table.specs.contracts.PartTable as PartTable
 use Rattle.part_table.specs.contracts.Slot as Slot
@@ -171,10 +170,10 @@ maybe_ticket_sync : IsSync (Option.the_row Ticket.the_row)
 maybe_ticket_sync = search (sendable, ticket_sync) depth 40
 
 cpu_send : IsSend CpuState.the_row
-cpu_send = declared_send CpuState.the_type (maybe_loaded_send, (maybe_range_send, (maybe_ticket_send, (log_send, tt))))
+cpu_send = declared_send CpuState.the_type (number_send, (maybe_loaded_send, (maybe_range_send, (maybe_ticket_send, (log_send, tt)))))
 
 cpu_sync : IsSync CpuState.the_row
-cpu_sync = declared_sync CpuState.the_type (maybe_loaded_sync, (maybe_range_sync, (maybe_ticket_sync, (log_sync, tt))))
+cpu_sync = declared_sync CpuState.the_type (number_sync, (maybe_loaded_sync, (maybe_range_sync, (maybe_ticket_sync, (log_sync, tt)))))
 
 component_send : IsSend (Component.the_row Heap.the_row ghosts)
 component_send = declared_send (Component.the_type Heap.the_row ghosts) (tree_send, (maplets_send, tt))
@@ -248,12 +247,6 @@ seat_send = SeatSend.the_send slot view slot_send
 -- a `&` to a seat shares a part of what the seat owns
 seat_sync : IsSync (Seat.the_row slot view)
 seat_sync = record { shared = λ d b o ν q. part_keyless (Seat.the_row slot view) seat_send q d b o }
-
-bench_send : IsSend (Bench.the_row Heap.the_row ghosts)
-bench_send = search (sendable, crosses, shared_send, guest_part_send) depth 40 fits 5000
-
-bench_sync : IsSync (Bench.the_row Heap.the_row ghosts)
-bench_sync = search (sendable, crosses, shared_sync, guest_part_sync) depth 40 fits 5000
 
 pub pass_send : IsSend (CpuPass.the_row Heap.the_row ghosts)
 pass_send = search (sendable, crosses, call_send, slot_send, log_send, maybe_loaded_send, maybe_range_send, maybe_ticket_send, shared_send, guest_part_send, SeatSend.the_send) depth 40 fits 5000

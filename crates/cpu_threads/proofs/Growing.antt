@@ -11,7 +11,7 @@ use Rattle.reference_model.specs.Parts.{guest, guest_slot, is_used, names, share
 use Rattle.reference_model.specs.State.{Cpu}
 use Rattle.guest_steps.specs.View.{cpu_of}
 use Rattle.hypercalls.specs.Uses.{or_vms, parts_of}
-use Rattle.hypercalls.specs.declared.uses.Uses.TheVariants.{Nothing}
+use Rattle.hypercalls.specs.declared.used_parts.UsedParts.TheVariants.{Nothing}
 use Rattle.part_table.specs.Answered.{used_by}
 use Rattle.part_table.specs.Parts.{in_order, part_of, uses}
 use Rattle.part_table.specs.Rule.{Known, StartsWith, seen_at}

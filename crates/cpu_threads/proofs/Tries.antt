@@ -7,10 +7,9 @@ use Rattle.std.proofs.lemmas.List.Concat.{flat_map-append}
 use mathlib.Core.Logic.{dite}
 use native.Mathlib.Decide.{ℕ_discrete}
 use Rattle.step_reply.specs.declared.step.Step.{Step}
-use Rattle.reference_model.specs.Parts.{guest_slot, names}
 use Rattle.guest_steps.specs.declared.parts.CpuState.{CpuState}
 use Rattle.guest_steps.specs.View.{cpu_of}
-use Rattle.hypercalls.specs.Uses.{parts_of}
+use Rattle.hypercalls.specs.Uses.{uses_of}
 use Rattle.part_table.specs.Answered.{FindsAway, used_by}
 use Rattle.part_table.specs.Parts.{in_order}
 use Rattle.part_table.specs.Passes.{AreFirst, IsPassOf, Opened, Pass, first_pass}
@@ -34,7 +33,7 @@ meets_more step v w x m f = record {
   rounds = m.rounds ++ f.tries ∷ [];
   tried = f.tried ∙ (ap (λ ts. ts ++ f.tries) m.tried ∙ (append_assoc v.tries (flat_map (λ ts. ts) m.rounds) f.tries ∙ ap (λ ts. v.tries ++ ts) (ap (λ ts. flat_map (λ us. us) m.rounds ++ ts) (sym (append-nil f.tries)) ∙ sym (flat_map-append (λ ts. ts) m.rounds (f.tries ∷ [])))));
   away = All-push (λ ts. (v.own.log.room ≢ 0) × EndsIn FoundAway (used_by step v) ts) m.rounds f.tries m.away
-      (subst (λ (k : CpuState). (k.log.room ≢ 0) × EndsIn FoundAway (in_order (parts_of (names step) (guest_slot (cpu_of k) step))) f.tries) m.same.own (f.room, f.away));
+      (subst (λ (k : CpuState). (k.log.room ≢ 0) × EndsIn FoundAway (in_order (uses_of (cpu_of k) step)) f.tries) m.same.own (f.room, f.away));
 }
 
 -- what lies at a CPU's place is its pass, or nothing

@@ -47,7 +47,7 @@ IsAtHome passes c = (p : Pass) × (slice_get passes c ≡ Some (Some p))
 -- the CPU of each given pass has the state in which the pass ends, with all its calls; a CPU whose pass was never handed out is as at boot, with no call
 pub record KeepsStates (l : TheLayout) (passes : List (Option Pass)) (given : List Pass) (cpus : List CpuState) : Type 0 where
   pub ended : OfGiven given (KeepsOwn cpus)
-  pub fresh : (c : ℕ) → IsAtHome passes c → slice_get cpus c ≡ Some (own_at_boot l)
+  pub fresh : (c : ℕ) → IsAtHome passes c → slice_get cpus c ≡ Some (own_at_boot l c)
 
 -- the pass is at its CPU's place
 abbrev pub IsBack : List (Option Pass) → Pass → Type 0

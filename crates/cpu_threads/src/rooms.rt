@@ -199,8 +199,8 @@ pub(crate) fn copied<A: Allocator>(mut rooms: Histories, parts: &Parts<A>) -> Hi
     requires room { CanHold (kept_of parts.now) parts.now.layout.config.cpus rooms }
     ensures { AreLogsOf result (parts_layout parts.now) (kept_of parts.now) }
 {
-    fill(&mut rooms.vms, parts.vms[0].log.calls());
-    fill(&mut rooms.shared, parts.shared().log.calls());
+    fill(&mut rooms.vms, parts.vms.log.calls());
+    fill(&mut rooms.shared, parts.shared.log.calls());
     fill_guests(&mut rooms.guests, &parts.guests);
     fill_cpus(&mut rooms.cpus, &parts.cpus);
     rooms

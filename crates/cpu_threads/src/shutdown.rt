@@ -11,7 +11,7 @@ ghost use Rattle.cpu_threads.specs.declared.shutdown.ShutdownFault.TheVariants.{
 use crate::ending::{all_back, lacks};
 use crate::machine::Machine;
 use crate::rooms::{copied, log_rooms};
-use guest_steps::{CpuState, GuestPart, SharedPart, VmPart};
+use guest_steps::{CpuState, GuestPart};
 use part_table::whole::together;
 use part_table::{CpuPass, PartTable, Slot};
 use std::alloc::{AllocError, Allocator, Global};
@@ -31,8 +31,6 @@ pub enum ShutdownFault {
 struct Rooms<A: Allocator> {
     found: Vec<Slot<A>>,
     cpus: Vec<CpuState>,
-    vms: Vec<VmPart>,
-    shared: Vec<SharedPart<A>>,
     guests: Vec<GuestPart<A>>,
 }
 
@@ -40,20 +38,14 @@ struct Rooms<A: Allocator> {
 fn rooms_for<A: Allocator>(global: Global, count: usize) -> Result<Rooms<A>, AllocError>
     ensures found { IfOk result (λ r. (r.found.items ≡ []) × (66 ≤ vec_capacity r.found)) }
     ensures cpus { IfOk result (λ r. (r.cpus.items ≡ []) × (count ≤ vec_capacity r.cpus)) }
-    ensures vms { IfOk result (λ r. (r.vms.items ≡ []) × (1 ≤ vec_capacity r.vms)) }
-    ensures shared { IfOk result (λ r. (r.shared.items ≡ []) × (1 ≤ vec_capacity r.shared)) }
     ensures guests { IfOk result (λ r. (r.guests.items ≡ []) × (64 ≤ vec_capacity r.guests)) }
 {
     let found = Vec::with_capacity(global, 66)?;
     let cpus = Vec::with_capacity(global, count)?;
-    let vms = Vec::with_capacity(global, 1)?;
-    let shared = Vec::with_capacity(global, 1)?;
     let guests = Vec::with_capacity(global, 64)?;
     Ok(Rooms {
         found,
         cpus,
-        vms,
-        shared,
         guests,
     })
 }
@@ -68,7 +60,6 @@ fn ended<A: Allocator>(
     requires home { AreHomeFrom table.table (vec_len passes) 0 passes.items }
     requires found { (rooms.found.items ≡ []) × (66 ≤ vec_capacity rooms.found) }
     requires cpus { (rooms.cpus.items ≡ []) × (vec_len passes ≤ vec_capacity rooms.cpus) }
-    requires first { (rooms.vms.items ≡ []) × (1 ≤ vec_capacity rooms.vms) × (rooms.shared.items ≡ []) × (1 ≤ vec_capacity rooms.shared) }
     requires guests { (rooms.guests.items ≡ []) × (64 ≤ vec_capacity rooms.guests) }
     ensures layout { result.parts.layout ≡ table.layout }
     ensures end { IsEndOf table.layout (slots_of result.parts) result.parts.cpus.items }
@@ -78,12 +69,10 @@ fn ended<A: Allocator>(
     let Rooms {
         found,
         cpus,
-        vms,
-        shared,
         guests,
     } = rooms;
     let (alloc, layout, found, cpus) = table.close(passes, found, cpus);
-    let parts = together(layout, found, cpus, vms, shared, guests);
+    let parts = together(layout, found, cpus, guests);
     World::join(alloc, parts)
 }
 

@@ -1,4 +1,3 @@
-pub mod Singles
 pub mod Tickets
 pub mod Ranged
 pub mod Decided

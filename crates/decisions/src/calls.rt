@@ -1,7 +1,7 @@
 //! What each call decides: the first of its tests that fails, or all that it changes. Nothing is changed here.
 ghost use Rattle.std.specs.Prelude.{◌≡◌, ◌<◌, ℕ, true, false, not, ◌||◌, Some, None, Err, IfOk, if◌then◌else◌};
 ghost use Rattle.guest_component.specs.View.{guest_depth, guest_of};
-ghost use Rattle.guest_steps.specs.Lent.{Each, GuestSuits, IsLent, IsOneWhere, SharedSuits, lent, one, slot_in, used_in};
+ghost use Rattle.guest_steps.specs.Lent.{SharedSuits};
 ghost use Rattle.guest_steps.specs.View.{cpu_of, shared_of, vm_slots};
 ghost use Rattle.decisions.specs.Grows.{GrowsOnly};
 ghost use Rattle.page_state.specs.LayoutView.{layout_of};
@@ -9,7 +9,7 @@ ghost use Rattle.reference_model.specs.Answers.{decides};
 ghost use Rattle.page_state.specs.Layouts.{Layout as ReferenceLayout, is_good_page, is_memory};
 ghost use Rattle.reference_model.specs.Parts.{guest as just_guest, guest_slot, names, shared_and_guest, uses_shared, uses_vms};
 ghost use Rattle.reference_model.specs.Rely.{CanRely};
-ghost use Rattle.reference_model.specs.State.{Cpu, no_guest, no_shared};
+ghost use Rattle.reference_model.specs.State.{Cpu, no_guest};
 ghost use Rattle.reference_model.specs.Used.{guest_alone, used_alone, vms_alone, with_guest};
 
 mod abort;
@@ -35,7 +35,7 @@ use guest_pages::{
     decide_donate_guest, decide_guest_share_host, decide_guest_unshare_host, decide_reclaim_page,
     decide_share_guest, decide_unshare_guest,
 };
-use guest_steps::{CpuState, GuestPart, SharedPart, VmPart};
+use guest_steps::{CpuState, SharedPart, VmPart};
 use hand::{decide_fund, decide_unfund};
 use page_state::{Entry, Layout, Page, PageRange};
 use reference_model::{Changes, MapChange};
@@ -59,15 +59,15 @@ fn change(first: Page, count: u64, entry: Entry) -> Option<MapChange>
 }
 
 /// What a call on the VM part decides.
-fn decide_vms(vms: &VmPart, id: u64, cpu: &CpuState, step: Step) -> Result<Changes, Refusal>
+pub fn decide_vms(vms: &VmPart, cpu: &CpuState, step: Step) -> Result<Changes, Refusal>
     requires names { uses_vms (names step) ≡ true }
-    ensures decided { (l : ReferenceLayout) → result ≡ decides l id None step (vms_alone (vm_slots vms.now) (cpu_of cpu.now)) }
+    ensures decided { (l : ReferenceLayout) → result ≡ decides l cpu.now.id None step (vms_alone (vm_slots vms.now) (cpu_of cpu.now)) }
     ensures grows { IfOk result (GrowsOnly step) }
 {
     match step {
         Step::VmReserve { kind, vcpus } => decide_vm_reserve(&vms.table, cpu, kind, vcpus),
         Step::VmOpen => decide_vm_open(&vms.table, cpu),
-        Step::VcpuLoad { vm, vcpu } => decide_vcpu_load(&vms.table, id, cpu, vm, vcpu),
+        Step::VcpuLoad { vm, vcpu } => decide_vcpu_load(&vms.table, cpu, vm, vcpu),
         Step::VcpuPut => decide_vcpu_put(&vms.table, cpu),
         Step::Teardown { vm } => decide_teardown(&vms.table, cpu, vm),
         Step::VmRelease => decide_vm_release(&vms.table, cpu),
@@ -76,17 +76,16 @@ fn decide_vms(vms: &VmPart, id: u64, cpu: &CpuState, step: Step) -> Result<Chang
 }
 
 /// What a call on the Shared part decides.
-fn decide_shared<A: Allocator>(
+pub fn decide_shared<A: Allocator>(
     layout: &Layout,
     shared: &SharedPart<A>,
-    id: u64,
     cpu: &CpuState,
     step: Step,
 ) -> Result<Changes, Refusal>
     requires names { uses_shared (names step) None ≡ true }
     requires suits { SharedSuits (layout_of layout.now) shared.now }
-    requires rely { CanRely (layout_of layout.now) id None step (used_alone (shared_of shared.now) (cpu_of cpu.now)) }
-    ensures decided { result ≡ decides (layout_of layout.now) id None step (used_alone (shared_of shared.now) (cpu_of cpu.now)) }
+    requires rely { CanRely (layout_of layout.now) cpu.now.id None step (used_alone (shared_of shared.now) (cpu_of cpu.now)) }
+    ensures decided { result ≡ decides (layout_of layout.now) cpu.now.id None step (used_alone (shared_of shared.now) (cpu_of cpu.now)) }
     ensures grows { IfOk result (GrowsOnly step) }
 {
     match step {
@@ -99,17 +98,16 @@ fn decide_shared<A: Allocator>(
         Step::HypTranslate { page } => decide_hyp_translate(layout, shared, page),
         Step::OwnerOf { pfn } => decide_owner_of(layout, shared, pfn),
         Step::Fund { pfn, n } => decide_fund(layout, shared, cpu, pfn, n),
-        Step::Unfund => decide_unfund(layout, shared, id, cpu),
+        Step::Unfund => decide_unfund(layout, shared, cpu),
         _ => unreachable!(),
     }
 }
 
 /// What a call on the Shared part and a guest decides.
-fn decide_with_guest<A: Allocator>(
+pub fn decide_with_guest<A: Allocator>(
     layout: &Layout,
     shared: &SharedPart<A>,
     guest: &Guest<A>,
-    id: u64,
     slot: u64,
     cpu: &CpuState,
     step: Step,
@@ -117,8 +115,8 @@ fn decide_with_guest<A: Allocator>(
     requires names { names step ≡ shared_and_guest }
     requires slot { slot < 64 }
     requires depth { guest_depth guest.now ≡ (layout_of layout.now).depth }
-    requires rely { CanRely (layout_of layout.now) id (Some slot) step (with_guest (shared_of shared.now) (guest_of guest.now) (cpu_of cpu.now)) }
-    ensures decided { result ≡ decides (layout_of layout.now) id (Some slot) step (with_guest (shared_of shared.now) (guest_of guest.now) (cpu_of cpu.now)) }
+    requires rely { CanRely (layout_of layout.now) cpu.now.id (Some slot) step (with_guest (shared_of shared.now) (guest_of guest.now) (cpu_of cpu.now)) }
+    ensures decided { result ≡ decides (layout_of layout.now) cpu.now.id (Some slot) step (with_guest (shared_of shared.now) (guest_of guest.now) (cpu_of cpu.now)) }
     ensures grows { IfOk result (GrowsOnly step) }
 {
     match step {
@@ -136,14 +134,14 @@ fn decide_with_guest<A: Allocator>(
         Step::Install => decide_install(cpu),
         Step::Topup { vm } => decide_topup(layout, guest, cpu, vm),
         Step::ReclaimPage { vm, gfn } => decide_reclaim_page(layout, shared, guest, vm, gfn),
-        Step::ReclaimPool { vm } => decide_reclaim_pool(layout, shared, guest, id, slot, cpu, vm),
-        Step::FinishGuest => decide_finish_guest(layout, shared, guest, id, slot, cpu),
+        Step::ReclaimPool { vm } => decide_reclaim_pool(layout, shared, guest, slot, cpu, vm),
+        Step::FinishGuest => decide_finish_guest(layout, shared, guest, slot, cpu),
         _ => unreachable!(),
     }
 }
 
 /// What a call on a guest alone decides.
-fn decide_guest<A: Allocator>(
+pub fn decide_guest<A: Allocator>(
     layout: &Layout,
     guest: &Guest<A>,
     cpu: &CpuState,
@@ -159,30 +157,6 @@ fn decide_guest<A: Allocator>(
         Step::MarkDying => decide_mark_dying(cpu),
         _ => unreachable!(),
     }
-}
-
-/// What a call on a guest decides, with the Shared part or without it.
-fn decide_on_guest<A: Allocator>(
-    layout: &Layout,
-    shared: &[SharedPart<A>],
-    guest: &Guest<A>,
-    id: u64,
-    slot: u64,
-    cpu: &CpuState,
-    step: Step,
-) -> Result<Changes, Refusal>
-    requires slot { slot < 64 }
-    requires named { guest_slot (cpu_of cpu.now) step ≡ Some slot }
-    requires lent { IsOneWhere (uses_shared (names step) (Some slot)) shared.now }
-    requires depth { guest_depth guest.now ≡ (layout_of layout.now).depth }
-    requires rely { CanRely (layout_of layout.now) id (Some slot) step (with_guest (one no_shared shared_of shared.now) (guest_of guest.now) (cpu_of cpu.now)) }
-    ensures decided { result ≡ decides (layout_of layout.now) id (Some slot) step (with_guest (one no_shared shared_of shared.now) (guest_of guest.now) (cpu_of cpu.now)) }
-    ensures grows { IfOk result (GrowsOnly step) }
-{
-    if let Some(part) = shared.first() {
-        return decide_with_guest(layout, part, guest, id, slot, cpu, step);
-    }
-    decide_guest(layout, guest, cpu, step)
 }
 
 /// The refusal of a call on a guest that there is none of: Invalid where the frame isn't memory, or the page not an input
@@ -208,7 +182,7 @@ fn unloaded_page(layout: &Layout, gfn: u64) -> Refusal
 
 /// The refusal of a call that uses no part: its VM names no slot, or the CPU has no vCPU loaded, or no ticket of the stage.
 #[tactic(auto, using(crate::proofs::Slots::no_slot, crate::proofs::Slots::not_low), unfolding(reference_model::specs::Rules::rule))]
-fn refusal_of_none(layout: &Layout, step: Step) -> Refusal
+pub fn refusal_of_none(layout: &Layout, step: Step) -> Refusal
     requires vms { uses_vms (names step) ≡ false }
     requires shared { uses_shared (names step) None ≡ false }
     ensures { (id : ℕ) (k : Cpu) → guest_slot k step ≡ None → Err result ≡ decides (layout_of layout.now) id None step (guest_alone no_guest k) }
@@ -222,44 +196,4 @@ fn refusal_of_none(layout: &Layout, step: Step) -> Refusal
         Step::Install | Step::FinishGuest | Step::MarkDying => Refusal::NoVm,
         _ => Refusal::Invalid,
     }
-}
-
-/// What a step decides on the parts that it uses, with the slot of its Guest part; a step whose VM or CPU names no slot uses
-/// no part. Requires parts of the layout that some run can reach.
-pub fn decide<A: Allocator>(
-    layout: &Layout,
-    vms: &[VmPart],
-    shared: &[SharedPart<A>],
-    guest: &[GuestPart<A>],
-    id: u64,
-    slot: Option<u64>,
-    cpu: &CpuState,
-    step: Step,
-) -> Result<Changes, Refusal>
-    requires slot { slot ≡ slot_in (lent vms.now shared.now guest.now cpu.now) step }
-    requires lent { IsLent (names step) slot (lent vms.now shared.now guest.now cpu.now) }
-    requires suits { Each (SharedSuits (layout_of layout.now)) shared.now }
-    requires guest_suits { Each (GuestSuits (layout_of layout.now)) guest.now }
-    requires rely { CanRely (layout_of layout.now) id slot step (used_in (lent vms.now shared.now guest.now cpu.now)) }
-    ensures decided { result ≡ decides (layout_of layout.now) id slot step (used_in (lent vms.now shared.now guest.now cpu.now)) }
-    ensures grows { IfOk result (GrowsOnly step) }
-{
-    if let Some(part) = vms.first() {
-        return decide_vms(part, id, cpu, step);
-    }
-    if let Some(part) = guest.first() {
-        return decide_on_guest(
-            layout,
-            shared,
-            &part.guest,
-            id,
-            slot.unwrap_or(0),
-            cpu,
-            step,
-        );
-    }
-    if let Some(part) = shared.first() {
-        return decide_shared(layout, part, id, cpu, step);
-    }
-    Err(refusal_of_none(layout, step))
 }

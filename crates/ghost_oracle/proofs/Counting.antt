@@ -1,5 +1,5 @@
 -- Counts of reads, added up.
-use Rattle.std.proofs.Common.{◌≡◌, ℕ, zero, ◌+◌, ◌*◌, ◌<◌, ◌≤◌, min, List, [], ◌∷◌, take, get_or, length, refl, sym, ap, subst, ◌∙◌, arith}
+use Rattle.std.proofs.Common.{◌≡◌, ℕ, ◌+◌, ◌*◌, ◌<◌, ◌≤◌, List, take, get_or, length, refl, sym, ap, ◌∙◌, arith}
 use Rattle.std.specs.Prelude.{Result, Ok, Err, OnOk, sum_by}
 use Rattle.std.proofs.lemmas.List.{take_more}
 use Rattle.std.proofs.lemmas.List.Sums.{sum_by_push}
@@ -9,7 +9,6 @@ use Rattle.table_tree.specs.declared.tree.Tree.{Tree}
 use Rattle.table_tree.specs.Tables.{tables_in}
 use Rattle.table_tree.specs.View.{tables_of}
 use Rattle.guest_steps.specs.declared.parts.SharedPart.{SharedPart}
-use Rattle.guest_steps.specs.Lent.{one}
 use Rattle.ghost_oracle.specs.Counted.{HasRead, shared_tables}
 use Rattle.ghost_oracle.specs.inner.Eights.{HasLooked}
 
@@ -54,8 +53,8 @@ pub read_given : (old mid new guest shared : ℕ) → old ≤ 184467440737095516
 read_given old mid new guest shared l x y = read_looked old (shared + guest) new l (looked_both old mid new (512 * guest) (512 * shared) (512 * (shared + guest)) x y (omega arith))
 
 -- the guests of parts, and then their Shared part
-pub read_parts : {A : Type 0} (ss : List (SharedPart A)) (s : SharedPart A) (old mid new guests : ℕ) → ss ≡ s ∷ [] → HasLooked old (512 * guests) mid → HasRead mid (shared_tables s) new → HasRead old (one 0 shared_tables ss + guests) new
-read_parts ss s old mid new guests e x y = subst (λ xs. HasRead old (one 0 shared_tables xs + guests) new) (sym e) (read_after old mid new guests (shared_tables s) x y)
+pub read_parts : {A : Type 0} (s : SharedPart A) (old mid new guests : ℕ) → HasLooked old (512 * guests) mid → HasRead mid (shared_tables s) new → HasRead old (shared_tables s + guests) new
+read_parts s old mid new guests x y = read_after old mid new guests (shared_tables s) x y
 
 -- a list of parts, one part further
 pub sum_next : {X : Type 0} (f : X → ℕ) (xs : List X) (i : ℕ) (x : X) → i < length xs → x ≡ get_or xs i x → 512 * sum_by f (take i xs) + 512 * f x ≡ 512 * sum_by f (take (i + 1) xs)

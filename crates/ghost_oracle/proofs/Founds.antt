@@ -1,12 +1,10 @@
 -- A state on lists whose parts are those of the world's parts is the state that these stand for.
-use Rattle.std.proofs.Common.{◌≡◌, ℕ, zero, suc, ◌-◌, ◌<◌, refl, ap, sym, ◌∙◌, subst, arith, List, [], ◌∷◌, length, map, All}
+use Rattle.std.proofs.Common.{◌≡◌, ℕ, zero, suc, ◌-◌, ◌<◌, refl, ap, sym, ◌∙◌, arith, List, [], ◌∷◌, length, map, All}
 use Rattle.std.specs.Prelude.{get_or, slice_get}
 use mathlib.Core.Path.{fun_ext}
 use Rattle.page_state.specs.declared.row.Row.{Row}
-use Rattle.reference_model.specs.State.{Guest, Cpu, Shared, Slot, no_vms, no_shared, no_guest, no_cpu, no_slot}
-use Rattle.guest_steps.specs.Lent.{one, Each}
+use Rattle.reference_model.specs.State.{Guest, Cpu, Shared, Slot, no_guest, no_cpu, no_slot}
 use Rattle.std.proofs.lemmas.List.{get_or-map, length-map}
-use Rattle.std.proofs.lemmas.List.Elements.{All-cons, All-nil}
 use Rattle.guest_steps.specs.Logs.{StoredCalls, IsOfSize}
 use Rattle.guest_steps.specs.View.{vm_slots, shared_of, guest_held, cpu_of}
 use Rattle.hypercalls.specs.declared.parts.Parts.{Parts}
@@ -29,20 +27,12 @@ pub held_at : {X Y Z : Type 0} (f : X → Z) (blank : Z) (g : Y → Z) (xs : Lis
 held_at f blank g xs ys i x y same less within first second =
     ap f first ∙ sym (get_or-map f xs i x blank less) ∙ ap (λ (h : ℕ → _). h i) same ∙ sym (placed blank g ys i) ∙ get_or-map g ys i y blank within ∙ ap g (sym second)
 
--- the one of a list of one
-pub one_at : {P X : Type 0} (blank : X) (f : P → X) (xs : List P) (d : P) → length xs ≡ 1 → one blank f xs ≡ f (get_or xs 0 d)
-one_at blank f [] d h = absurd (omega (arith, h))
-one_at blank f (x ∷ []) d h = refl
-one_at blank f (x ∷ (y ∷ ys)) d h = absurd (omega (arith, h))
-
 -- a log's room is what its calls leave
 left : (most : ℕ) (log : StoredCalls) → IsOfSize most log → log.room ≡ most - length log.calls
 left most log h = omega (arith, h)
 
-one_room : {P : Type 0} (log : P → StoredCalls) (most room : ℕ) (xs : List P) → length xs ≡ 1 → All (λ p. IsOfSize most (log p)) xs → All (λ p. (log p).room ≡ room) xs → room ≡ most - length (one [] (λ p. (log p).calls) xs)
-one_room log most room [] n h k = absurd (omega (arith, n))
-one_room log most room (x ∷ []) n h k = sym (k 0 x (omega arith)) ∙ left most (log x) (h 0 x (omega arith))
-one_room log most room (x ∷ (y ∷ ys)) n h k = absurd (omega (arith, n))
+full_room : (most room : ℕ) (log : StoredCalls) → IsOfSize most log → log.room ≡ room → room ≡ most - length log.calls
+full_room most room log h k = sym k ∙ left most log h
 
 none_left : (n : ℕ) → n ≡ n - 0
 none_left n = omega arith
@@ -56,12 +46,12 @@ module _ {A : Type 0} (p : Parts A) (g : Ghost) (row : ℕ → Row) where
   -- the parts of a state on lists are those of the parts, but for the rows
   pub record HasParts : Type 0 where
     pub layout : layout_of g.layout ≡ parts_layout p
-    pub slots : (v : ℕ) → get_or (map slot_in g.vms.items) v (no_slot 1) ≡ (one no_vms vm_slots p.vms.items).slot v
-    pub shared : shared_in_lists g.shared ≡ with_row row (one no_shared shared_of p.shared.items)
+    pub slots : (v : ℕ) → get_or (map slot_in g.vms.items) v (no_slot 1) ≡ (vm_slots p.vms).slot v
+    pub shared : shared_in_lists g.shared ≡ with_row row (shared_of p.shared)
     pub guests : map guest_in g.guests.items ≡ map guest_held p.guests.items
     pub cpus : map cpu_in g.cpus.items ≡ map cpu_of p.cpus.items
-    pub vms_room : All (λ v. v.log.room ≡ g.rooms.vms) p.vms.items
-    pub shared_room : All (λ s. s.log.room ≡ g.rooms.shared) p.shared.items
+    pub vms_room : p.vms.log.room ≡ g.rooms.vms
+    pub shared_room : p.shared.log.room ≡ g.rooms.shared
     pub guest_rooms : g.rooms.guests.items ≡ map (λ x. x.log.room) p.guests.items
     pub cpu_rooms : g.rooms.cpus.items ≡ map (λ k. k.log.room) p.cpus.items
 
@@ -73,28 +63,14 @@ module _ {A : Type 0} (p : Parts A) (g : Ghost) (row : ℕ → Row) where
       h.shared
       (λ v. ap (λ (gs : List Guest). get_or gs v no_guest) h.guests ∙ placed no_guest guest_held p.guests.items v)
       (λ c. ap (λ (ks : List Cpu). get_or ks c no_cpu) h.cpus ∙ placed no_cpu cpu_of p.cpus.items c)
-      (one_room (λ v. v.log) p.layout.config.log g.rooms.vms p.vms.items (omega (arith, p.one_vms, p.vms.ok.0)) p.vm_log h.vms_room)
-      (one_room (λ s. s.log) p.layout.config.log g.rooms.shared p.shared.items (omega (arith, p.one_shared, p.shared.ok.0)) p.shared_log h.shared_room)
+      (full_room p.layout.config.log g.rooms.vms p.vms.log p.vm_log h.vms_room)
+      (full_room p.layout.config.log g.rooms.shared p.shared.log p.shared_log h.shared_room)
       (λ v. ap (λ (rs : List ℕ). get_or rs v g.layout.config.log) h.guest_rooms ∙ ap (λ n. get_or (map (λ x. x.log.room) p.guests.items) v n) log ∙ placed_room (λ x. x.log) p.layout.config.log p.guests.items v p.guest_logs)
       (λ c. ap (λ (rs : List ℕ). get_or rs c g.layout.config.log) h.cpu_rooms ∙ ap (λ n. get_or (map (λ k. k.log.room) p.cpus.items) c n) log ∙ placed_room (λ k. k.log) p.layout.config.log p.cpus.items c p.own_logs)
 
 -- lists that give the same are as long
 pub as_long : {P Q X : Type 0} (f : P → X) (g : Q → X) (xs : List P) (ys : List Q) (n : ℕ) → map f xs ≡ map g ys → length ys ≡ n → length xs ≡ n
 as_long f g xs ys n h k = sym (length-map xs f) ∙ ap length h ∙ length-map ys g ∙ k
-
--- what holds of the one of a list of one
-pub each_one : {P : Type 0} (Is : P → Type 0) (xs : List P) (x : P) → xs ≡ x ∷ [] → Is x → Each Is xs
-each_one Is xs x e h = subst (Each Is) (sym e) (h, tt)
-
--- and what holds of such a list, of the one
-pub of_one : {P : Type 0} (Is : P → Type 0) (xs : List P) (x : P) → xs ≡ x ∷ [] → Each Is xs → Is x
-of_one Is xs x e h = (subst (Each Is) e h).0
-
--- what holds of the one of a list of one holds of all of it
-pub all_one : {P : Type 0} (Is : P → Type 0) (xs : List P) (x d : P) → length xs ≡ 1 → x ≡ get_or xs 0 d → Is x → All Is xs
-all_one Is [] x d n e h = absurd (omega (arith, n))
-all_one Is (y ∷ []) x d n e h = All-cons Is y [] (subst Is e h) (All-nil Is)
-all_one Is (y ∷ (z ∷ zs)) x d n e h = absurd (omega (arith, n))
 
 -- a Shared part that is another but for its rows is that one with its own rows
 pub own_row : (x y : Shared) (row : ℕ → Row) → x ≡ with_row row y → x ≡ with_row x.row y

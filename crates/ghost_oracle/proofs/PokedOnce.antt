@@ -1,5 +1,5 @@
 -- What a poke leaves is told whole.
-use Rattle.std.proofs.Common.{◌≡◌, ℕ, zero, suc, ◌/◌, refl, ap, sym, ◌∙◌, subst, arith, inl, inr, List, [], ◌∷◌, ◌++◌, length, Option, Some, None, slice_get}
+use Rattle.std.proofs.Common.{◌≡◌, ℕ, ◌/◌, refl, ap, sym, ◌∙◌, subst, inl, inr, List, [], ◌∷◌, ◌++◌, Option, Some, None}
 use Rattle.std.specs.Prelude.{◌⊎◌}
 use Rattle.std.proofs.lemmas.List.{append-nil}
 use mathlib.Core.Path.{fun_ext}
@@ -8,11 +8,9 @@ use Rattle.page_state.specs.Map.{Map}
 use Rattle.page_state.specs.Trees.{Block}
 use Rattle.page_state.proofs.Cases.{by_eq}
 use Rattle.table_tree.specs.Raw.{BeginsWith, IsPoked, IsPokedMap}
-use Rattle.hypercalls.specs.declared.parts.Parts.{Parts}
-use Rattle.guest_steps.specs.declared.parts.SharedPart.{SharedPart}
 use Rattle.ghost_oracle.specs.declared.raw.Which.{Which}
 use Rattle.ghost_oracle.specs.declared.raw.Which.TheVariants.{Host, Hyp, Guest}
-use Rattle.ghost_oracle.specs.Poked.{Beside, IsBeside, IsPokedTree}
+use Rattle.ghost_oracle.specs.Poked.{Beside}
 use Rattle.ghost_oracle.specs.PokedLaws.{BesideOnce, PokedOnce, SaysTheSame}
 use Rattle.ghost_oracle.specs.Seen.{SeenTree}
 
@@ -78,14 +76,8 @@ poked_once block before x y which path word a b tree = elim (is_or_not tree whic
 
 -- beside them
 
-only : {X : Type 0} (xs : List X) → length xs ≡ 1 → (s : X) × (slice_get xs 0 ≡ Some s)
-only [] h = absurd (omega arith)
-only (s ∷ xs) h = (s, refl)
-
 by_fields : (x y : Beside) → x.layout ≡ y.layout → x.vms ≡ y.vms → x.shared ≡ y.shared → x.guest ≡ y.guest → x.cpus ≡ y.cpus → x ≡ y
 by_fields x y a b c d e = λ i. record { layout = a i; vms = b i; shared = c i; guest = d i; cpus = e i }
 
 pub beside_once : {A : Type 0} → BesideOnce A
-beside_once p x y one a b =
-    let s = only p.shared.items one in
-    by_fields x y (a.layout ∙ sym b.layout) (a.vms ∙ sym b.vms) (a.shared s.0 s.1 ∙ sym (b.shared s.0 s.1)) (fun_ext (λ v. a.guest v ∙ sym (b.guest v))) (a.cpus ∙ sym b.cpus)
+beside_once p x y a b = by_fields x y (a.layout ∙ sym b.layout) (a.vms ∙ sym b.vms) (a.shared ∙ sym b.shared) (fun_ext (λ v. a.guest v ∙ sym (b.guest v))) (a.cpus ∙ sym b.cpus)

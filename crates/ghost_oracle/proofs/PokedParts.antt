@@ -1,5 +1,5 @@
 -- Parts of which one tree was poked.
-use Rattle.std.proofs.Common.{◌≡◌, ◌≤◌, true, false, ℕ, zero, suc, ◌+◌, ◌-◌, ◌<◌, length-append, List, [], ◌∷◌, ◌++◌, All, IfSome, length, get_or, replicate, slice_get, Option, Some, None, refl, sym, ap, subst, arith, ◌∙◌}
+use Rattle.std.proofs.Common.{◌≡◌, ◌≤◌, true, false, ℕ, zero, suc, ◌+◌, ◌-◌, ◌<◌, List, [], ◌∷◌, All, IfSome, length, get_or, replicate, slice_get, Option, Some, None, refl, sym, ap, subst, arith, ◌∙◌}
 use Rattle.std.proofs.Math.ListN.{set}
 use Rattle.std.proofs.lemmas.List.Elements.{All-set}
 use Rattle.std.proofs.lemmas.Bool.Decides.{nat_tests}
@@ -120,17 +120,6 @@ pub all_trees : (f k : Which → SeenTree) → f Host ≡ k Host → f Hyp ≡ k
 all_trees f k x y g Host = x
 all_trees f k x y g Hyp = y
 all_trees f k x y g (Guest v) = g v
-
--- a list of one whose one was taken
-pub one_of : {X : Type 0} (xs ys : List X) (x : X) → xs ≡ ys ++ x ∷ [] → length xs ≡ 1 → xs ≡ x ∷ []
-one_of xs [] x e l = e
-one_of {X} xs (y ∷ ys) x e l =
-    let a : length xs ≡ suc (length (ys ++ x ∷ [])) = ap length e in
-    let b : length (ys ++ x ∷ []) ≡ length ys + 1 = length-append ys (x ∷ []) in
-    absurd (omega (arith, a, b, l))
-
-pub get_one : {X : Type 0} (xs : List X) (x y : X) → xs ≡ x ∷ [] → slice_get xs 0 ≡ Some y → x ≡ y
-get_one xs x y e h = let a : Some x ≡ Some y = sym (ap (λ zs. slice_get zs 0) e) ∙ h in cc
 
 -- where nothing is seen there is no word
 pub unseen : (t : SeenTree) (path : List ℕ) → nothing_seen ≡ t → IsSome (t.words path) → ⊥

@@ -33,11 +33,11 @@ module _ {A : Type 0} (x : Given A) (l : Layout) (g : Ghost) where
     pub slots : (v : ℕ) → get_or (map slot_in g.vms.items) v (no_slot 1) ≡ (at_place blank.vms vm_slots x.vms).slot v
     pub shared : shared_in_lists g.shared ≡ at_place blank.shared shared_of x.shared
     pub guests : guests_in g.guests.items ≡ put_given blank.guest guest_held x.guest
-    pub cpus : (c : ℕ) → get_or (map cpu_in g.cpus.items) c no_cpu ≡ put_at blank.cpu x.cpu (cpu_of x.own) c
+    pub cpus : (c : ℕ) → get_or (map cpu_in g.cpus.items) c no_cpu ≡ put_at blank.cpu x.own.id (cpu_of x.own) c
     pub vms_room : g.rooms.vms ≡ at_place l.config.log (λ v. v.log.room) x.vms
     pub shared_room : g.rooms.shared ≡ at_place l.config.log (λ s. s.log.room) x.shared
     pub guest_rooms : rooms_of l.config.log g.rooms.guests.items ≡ put_given (λ v. l.config.log) (λ p. p.log.room) x.guest
-    pub cpu_rooms : rooms_of l.config.log g.rooms.cpus.items ≡ put_at (λ c. l.config.log) x.cpu x.own.log.room
+    pub cpu_rooms : rooms_of l.config.log g.rooms.cpus.items ≡ put_at (λ c. l.config.log) x.own.id x.own.log.room
 
   pub is_recorded : HasGiven → ghost_state g ≡ recorded x l
   is_recorded h =
@@ -70,7 +70,7 @@ pub records_used : {A : Type 0} → RecordsUsed A
 unfolding put_back put_rooms
 records_used l n slot x h =
     let log = l.config.log in
-    state_same (recorded x l) (record { contents = put_back n slot x.cpu blank (used_given x); rooms = put_rooms n slot x.cpu (all_rooms log) (rooms_given x) })
+    state_same (recorded x l) (record { contents = put_back n slot x.own.id blank (used_given x); rooms = put_rooms n slot x.own.id (all_rooms log) (rooms_given x) })
     (used_place (uses_vms n) no_vms no_vms vm_slots x.vms h.vms)
     (used_place (uses_shared n slot) no_shared no_shared shared_of x.shared h.shared)
     (λ v. ap (λ f. f v) (guest_place blank.guest x.guest) ∙ ap (λ o. put_guest blank.guest o (at_place no_guest (λ g. guest_held g.1) x.guest) v) h.guest)

@@ -1,17 +1,15 @@
 -- Rows that are replaced in a state: by those that are kept it stays, and by those from scratch it is the walked one.
-use Rattle.std.proofs.Common.{◌≡◌, ℕ, refl, ap, sym, ◌∙◌, subst, List, [], ◌∷◌, true, false, Some, None, arith}
-use Rattle.std.specs.Prelude.{Bool, Result, Ok, Err, IfOk, All, is_some, unwrap_or}
-use Rattle.guest_steps.specs.MemoryRows.{HasMemoryRows}
+use Rattle.std.proofs.Common.{◌≡◌, ℕ, refl, ap, sym, ◌∙◌, List, true, false, Some, None}
+use Rattle.std.specs.Prelude.{Bool, Result, Ok, Err, IfOk, is_some, unwrap_or}
 use mathlib.Core.Path.{fun_ext}
 use Rattle.page_state.specs.declared.row.Row.{Row}
 use Rattle.page_state.specs.Layouts.{Layout, is_memory}
 use Rattle.page_state.specs.Rows.{advance_row}
 use Rattle.reference_model.specs.Owner.{row_of}
-use Rattle.reference_model.specs.State.{Contents, Reference, no_shared, plain_row}
+use Rattle.reference_model.specs.State.{Contents, Reference, plain_row}
 use Rattle.run_list.specs.declared.run.Run.{Run}
 use Rattle.run_list.specs.Runs.{run_map}
 use Rattle.guest_steps.specs.declared.parts.SharedPart.{SharedPart}
-use Rattle.guest_steps.specs.Lent.{one}
 use Rattle.guest_steps.specs.View.{shared_of}
 use Rattle.hypercalls.specs.declared.parts.Parts.{Parts}
 use Rattle.hypercalls.specs.Stands.{parts_layout, state_of}
@@ -24,17 +22,14 @@ if_ok P Q (Ok x) go h = go x h
 if_ok P Q (Err e) go h = tt
 
 -- rows that say the same
-pub rows_same : {A : Type 0} (s : SharedPart A) (runs : List (Run Row)) → run_map advance_row runs ≡ run_map advance_row s.rows → row_in runs ≡ (shared_of s).row
+pub rows_same : {A : Type 0} (s : SharedPart A) (runs : List (Run Row)) → run_map advance_row runs ≡ run_map advance_row s.owners → row_in runs ≡ (shared_of s).row
 rows_same s runs same = ap (λ m f. unwrap_or (m f) plain_row) same
 
-pub shared_same_rows : {A : Type 0} (s : SharedPart A) (runs : List (Run Row)) → run_map advance_row runs ≡ run_map advance_row s.rows → with_row (row_in runs) (shared_of s) ≡ shared_of s
+pub shared_same_rows : {A : Type 0} (s : SharedPart A) (runs : List (Run Row)) → run_map advance_row runs ≡ run_map advance_row s.owners → with_row (row_in runs) (shared_of s) ≡ shared_of s
 shared_same_rows s runs same = ap (λ r. with_row r (shared_of s)) (rows_same s runs same)
 
-pub same_rows : {A : Type 0} (p : Parts A) (s : SharedPart A) (runs : List (Run Row)) → p.shared.items ≡ s ∷ [] → run_map advance_row runs ≡ run_map advance_row s.rows → found_state (row_in runs) (state_of p) ≡ state_of p
-same_rows p s runs e same =
-    let here : row_in runs ≡ (shared_of s).row = rows_same s runs same in
-    let there : (shared_of s).row ≡ (state_of p).contents.shared.row = ap (λ ss. (one no_shared shared_of ss).row) (sym e) in
-    ap (λ r. found_state r (state_of p)) (here ∙ there)
+pub same_rows : {A : Type 0} (p : Parts A) (runs : List (Run Row)) → run_map advance_row runs ≡ run_map advance_row p.shared.owners → found_state (row_in runs) (state_of p) ≡ state_of p
+same_rows p runs same = ap (λ r. found_state r (state_of p)) (rows_same p.shared runs same)
 
 -- rows from scratch look at no row
 row_alone : (l : Layout) (s : Contents) (row : ℕ → Row) (f : ℕ) → row_of l (record s { shared = with_row row s.shared }) f ≡ row_of l s f
@@ -58,8 +53,8 @@ rows_of l row runs h f = ap is_some (h f) ∙ test (is_memory l f)
     test true = refl
     test false = refl
 
-pub kept_frames : {A : Type 0} (p : Parts A) (ss : List (SharedPart A)) (s : SharedPart A) (runs : List (Run Row)) → ss ≡ s ∷ [] → All (λ x. HasMemoryRows p.layout.map x.rows) ss → run_map advance_row runs ≡ run_map advance_row s.rows → (f : ℕ) → is_some (run_map advance_row runs f) ≡ is_memory (parts_layout p) f
-kept_frames p ss s runs e all same f = ap (λ m. is_some (m f)) same ∙ (subst (λ xs. All (λ x. HasMemoryRows p.layout.map x.rows) xs) e all) 0 s (omega arith) f
+pub kept_frames : {A : Type 0} (p : Parts A) (runs : List (Run Row)) → run_map advance_row runs ≡ run_map advance_row p.shared.owners → (f : ℕ) → is_some (run_map advance_row runs f) ≡ is_memory (parts_layout p) f
+kept_frames p runs same f = ap (λ m. is_some (m f)) same ∙ p.rows f
 
 pub scratch_told : (l : Layout) (s : Contents) (runs : List (Run Row)) → ((f : ℕ) → run_map advance_row runs f ≡ elim (is_memory l f) [ true ↦ Some (row_of l s f) | false ↦ None ]) → (f : ℕ) → row_in runs f ≡ scratch_rows l (record s { shared = with_row (row_in runs) s.shared }) f
 scratch_told l s runs h f = ap (λ o. unwrap_or o plain_row) (h f) ∙ told (is_memory l f) (row_of l s f) (row_of l (record s { shared = with_row (row_in runs) s.shared }) f) (sym (row_alone l s (row_in runs) f))

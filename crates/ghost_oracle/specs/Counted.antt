@@ -4,7 +4,6 @@ use Rattle.table_tree.specs.View.{tables_of}
 use Rattle.guest_component.specs.declared.body.Body.{Body}
 use Rattle.guest_steps.specs.declared.parts.GuestPart.{GuestPart}
 use Rattle.guest_steps.specs.declared.parts.SharedPart.{SharedPart}
-use Rattle.guest_steps.specs.Lent.{one}
 use Rattle.hypercalls.specs.declared.parts.Parts.{Parts}
 use Rattle.hypercalls.specs.Stands.{at_place}
 use Rattle.ghost_oracle.specs.Recorded.{Given}
@@ -34,7 +33,7 @@ module _ {A : Type 0} where
 
   -- the tables of all trees: the host's, the hypervisor's and each guest's
   abbrev pub tables_of_parts : Parts A → ℕ
-  tables_of_parts p = one 0 shared_tables p.shared.items + sum_by guest_tables p.guests.items
+  tables_of_parts p = shared_tables p.shared + sum_by guest_tables p.guests.items
 
   -- the tables of the parts that are given to a record
   abbrev pub tables_given : Given A → ℕ

@@ -7,7 +7,6 @@ use Rattle.reference_model.specs.Owner.{row_of}
 use Rattle.reference_model.specs.State.{Shared, Contents, Reference, plain_row}
 use Rattle.run_list.specs.Runs.{run_map}
 use Rattle.guest_component.specs.View.{runs_of}
-use Rattle.guest_steps.specs.Lent.{Each}
 use Rattle.hypercalls.specs.declared.parts.Parts.{Parts}
 use Rattle.ghost_spec.specs.declared.state.Ghost.{Ghost}
 
@@ -29,13 +28,13 @@ walked_state l s = found_state (scratch_rows l s.contents) s
 
 -- its runs are those that the maplets of the parts keep
 pub record SaysMaplets {A : Type 0} (p : Parts A) (g : Ghost) : Type 0 where
-  pub host : Each (λ s. g.shared.host.runs.items ≡ s.host.maplets.runs) p.shared.items
-  pub hyp : Each (λ s. g.shared.hyp.runs.items ≡ s.hyp.maplets.runs) p.shared.items
+  pub host : g.shared.host.runs.items ≡ p.shared.host.maplets.runs
+  pub hyp : g.shared.hyp.runs.items ≡ p.shared.hyp.maplets.runs
   pub guests : map (λ x. x.tree.runs.items) g.guests.items ≡ map (λ x. runs_of x.guest.body) p.guests.items
 
 -- its rows are those that the owner table of the parts keeps
 abbrev pub SaysRows : {A : Type 0} → Parts A → Ghost → Type 0
-SaysRows p g = Each (λ s. run_map advance_row g.shared.rows.runs ≡ run_map advance_row s.rows) p.shared.items
+SaysRows p g = run_map advance_row g.shared.rows.runs ≡ run_map advance_row p.shared.owners
 
 -- just the memory frames have a row
 abbrev pub HasRowsOf : Layout → Ghost → Type 0

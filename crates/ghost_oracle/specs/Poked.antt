@@ -11,7 +11,6 @@ use Rattle.guest_steps.specs.declared.parts.CpuState.{CpuState}
 use Rattle.guest_steps.specs.declared.parts.GuestPart.{GuestPart}
 use Rattle.guest_steps.specs.declared.parts.SharedPart.{SharedPart}
 use Rattle.guest_steps.specs.declared.parts.VmPart.{VmPart}
-use Rattle.guest_steps.specs.Lent.{one}
 use Rattle.guest_steps.specs.Logs.{StoredCalls}
 use Rattle.hypercalls.specs.declared.parts.Parts.{Parts}
 use Rattle.hypercalls.specs.Stands.{at_place}
@@ -44,7 +43,7 @@ pub record SharedBeside : Type 0 where
 -- all that parts have beside their trees
 pub record Beside : Type 0 where
   pub layout : Layout
-  pub vms : List VmPart
+  pub vms : VmPart
   pub shared : SharedBeside
   pub guest : ℕ → Option SlotBeside
   pub cpus : List CpuState
@@ -68,26 +67,26 @@ module _ {A : Type 0} where
   raw_trees p (Guest v) = guest_seen p.guests.items p.poked.items v
 
   abbrev pub shared_beside : RawShared A → SharedBeside
-  shared_beside s = record { host = s.host.maplets; hyp = s.hyp.maplets; pool = s.pool; rows = s.rows; log = s.log }
+  shared_beside s = record { host = s.host.maplets; hyp = s.hyp.maplets; pool = s.pool; rows = s.owners; log = s.log }
 
   -- what they have beside
   abbrev pub raw_beside_of : RawParts A → Beside
-  raw_beside_of p = record { layout = p.layout; vms = p.vms.items; shared = shared_beside p.shared; guest = guest_beside p.guests.items p.poked.items; cpus = p.cpus.items }
+  raw_beside_of p = record { layout = p.layout; vms = p.vms; shared = shared_beside p.shared; guest = guest_beside p.guests.items p.poked.items; cpus = p.cpus.items }
 
   -- the trees of parts
   abbrev pub parts_trees : Parts A → Which → SeenTree
-  parts_trees p Host = one nothing_seen (λ s. tree_seen s.host.tree) p.shared.items
-  parts_trees p Hyp = one nothing_seen (λ s. tree_seen s.hyp.tree) p.shared.items
+  parts_trees p Host = tree_seen p.shared.host.tree
+  parts_trees p Hyp = tree_seen p.shared.hyp.tree
   parts_trees p (Guest v) = guest_seen p.guests.items [] v
 
-  -- the Shared part of parts is one
+  -- what a Shared part has beside its trees
   abbrev pub part_beside : SharedPart A → SharedBeside
-  part_beside s = record { host = s.host.maplets; hyp = s.hyp.maplets; pool = s.pool; rows = s.rows; log = s.log }
+  part_beside s = record { host = s.host.maplets; hyp = s.hyp.maplets; pool = s.pool; rows = s.owners; log = s.log }
 
   -- the parts `p` have beside their trees what `x` says
   pub record IsBeside (p : Parts A) (x : Beside) : Type 0 where
     pub layout : x.layout ≡ p.layout
-    pub vms : x.vms ≡ p.vms.items
-    pub shared : (s : SharedPart A) → slice_get p.shared.items 0 ≡ Some s → x.shared ≡ part_beside s
+    pub vms : x.vms ≡ p.vms
+    pub shared : x.shared ≡ part_beside p.shared
     pub guest : (v : ℕ) → x.guest v ≡ guest_beside p.guests.items [] v
     pub cpus : x.cpus ≡ p.cpus.items

@@ -1,5 +1,5 @@
 -- What a poke leaves is told whole: no two outcomes are a poke of the same word. So nothing that is said of a poke can be left out.
-use Rattle.std.specs.Prelude.{◌≡◌, ℕ, List, length}
+use Rattle.std.specs.Prelude.{◌≡◌, ℕ, List}
 use Rattle.page_state.specs.Trees.{Block}
 use Rattle.hypercalls.specs.declared.parts.Parts.{Parts}
 use Rattle.ghost_oracle.specs.declared.raw.Which.{Which}
@@ -17,4 +17,4 @@ PokedOnce = (b : Block) (before x y : Which → SeenTree) (which : Which) (path 
 
 -- all that stands beside the trees
 abbrev pub BesideOnce : Type 0 → Type 0
-BesideOnce A = (p : Parts A) (x y : Beside) → length p.shared.items ≡ 1 → IsBeside p x → IsBeside p y → x ≡ y
+BesideOnce A = (p : Parts A) (x y : Beside) → IsBeside p x → IsBeside p y → x ≡ y

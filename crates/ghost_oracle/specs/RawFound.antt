@@ -1,5 +1,5 @@
 -- What a state on lists says of parts some of whose trees were poked.
-use Rattle.std.specs.Prelude.{◌≡◌, ℕ, ◌<◌, List, Option, Some, None, All, get_or, length, map}
+use Rattle.std.specs.Prelude.{◌≡◌, ℕ, ◌<◌, List, Option, Some, None, get_or, length, map}
 use Rattle.page_state.specs.declared.entry.Run.{Run}
 use Rattle.page_state.specs.LayoutView.{layout_of}
 use Rattle.page_state.specs.Rows.{advance_row}
@@ -63,7 +63,7 @@ AreSlotsFound {A} source parts helds gs = (v : ℕ) (part : GuestPart A) (held :
 
 -- the rooms of all logs are those of the parts
 pub record AreRoomsFound {A : Type 0} (p : RawParts A) (r : GhostRooms) : Type 0 where
-  pub vms : All (λ v. r.vms ≡ v.log.room) p.vms.items
+  pub vms : r.vms ≡ p.vms.log.room
   pub shared : r.shared ≡ p.shared.log.room
   pub guests : r.guests.items ≡ map (λ g. g.log.room) p.guests.items
   pub cpus : r.cpus.items ≡ map (λ k. k.log.room) p.cpus.items
@@ -80,10 +80,10 @@ pub record IsRawFound {A : Type 0} (source : Source) (p : RawParts A) (g : Ghost
   pub free : g.shared.free.items ≡ p.shared.pool.frames
   pub guests : AreSlotsFound source p.guests.items p.poked.items g.guests.items
   pub count : length g.guests.items ≡ 64
-  pub slots : All (λ v. (slot : ℕ) → get_or (map slot_in g.vms.items) slot (no_slot 1) ≡ (vm_slots v).slot slot) p.vms.items
+  pub slots : (slot : ℕ) → get_or (map slot_in g.vms.items) slot (no_slot 1) ≡ (vm_slots p.vms).slot slot
   pub cpus : map cpu_in g.cpus.items ≡ map cpu_of p.cpus.items
   pub rooms : AreRoomsFound p g.rooms
 
 -- its rows are those that the owner table keeps
 abbrev pub SaysRawRows : {A : Type 0} → RawParts A → Ghost → Type 0
-SaysRawRows p g = run_map advance_row g.shared.rows.runs ≡ run_map advance_row p.shared.rows
+SaysRawRows p g = run_map advance_row g.shared.rows.runs ≡ run_map advance_row p.shared.owners

@@ -11,17 +11,16 @@ use Rattle.guest_steps.specs.declared.parts.VmPart.{VmPart}
 use Rattle.guest_steps.specs.View.{cpu_of, guest_held, shared_of, vm_slots}
 use Rattle.hypercalls.specs.Stands.{at_place}
 
--- what is given: the VM part, the Shared part and the Guest part of a slot, each or none, and a CPU with its own state
+-- what is given: the VM part, the Shared part and the Guest part of a slot, each or none, and a CPU's own state
 pub record Given (A : Type 0) : Type 0 where
   pub vms : Option VmPart
   pub shared : Option (SharedPart A)
   pub guest : Option (ℕ × GuestPart A)
-  pub cpu : ℕ
   pub own : CpuState
 
 -- these
-abbrev pub given : {A : Type 0} → Option VmPart → Option (SharedPart A) → Option (ℕ × GuestPart A) → ℕ → CpuState → Given A
-given v s g c k = record { vms = v; shared = s; guest = g; cpu = c; own = k }
+abbrev pub given : {A : Type 0} → Option VmPart → Option (SharedPart A) → Option (ℕ × GuestPart A) → CpuState → Given A
+given v s g k = record { vms = v; shared = s; guest = g; own = k }
 
 -- a function with what the given part stands for at its number, where one is given
 abbrev pub put_given : {P X : Type 0} → (ℕ → X) → (P → X) → Option (ℕ × P) → ℕ → X
@@ -35,7 +34,7 @@ module _ {A : Type 0} (x : Given A) where
     vms = at_place blank.vms vm_slots x.vms;
     shared = at_place blank.shared shared_of x.shared;
     guest = put_given blank.guest guest_held x.guest;
-    cpu = put_at blank.cpu x.cpu (cpu_of x.own);
+    cpu = put_at blank.cpu x.own.id (cpu_of x.own);
   }
 
   -- the rooms of their logs, put into those of empty logs
@@ -44,7 +43,7 @@ module _ {A : Type 0} (x : Given A) where
     vms = at_place r.vms (λ v. v.log.room) x.vms;
     shared = at_place r.shared (λ s. s.log.room) x.shared;
     guest = put_given r.guest (λ g. g.log.room) x.guest;
-    cpu = put_at r.cpu x.cpu x.own.log.room;
+    cpu = put_at r.cpu x.own.id x.own.log.room;
   }
 
   -- the state
@@ -68,4 +67,4 @@ module _ {A : Type 0} (x : Given A) where
 -- where just the parts that a call uses are given, the record is what the call uses, put into a state in which nothing is
 -- mapped, held or loaded, and each log is empty
 abbrev pub RecordsUsed : Type 0 → Type 0
-RecordsUsed A = (l : Layout) (n : Names) (slot : Option ℕ) (x : Given A) → IsGivenFor x n slot → recorded x l ≡ record { contents = put_back n slot x.cpu blank (used_given x); rooms = put_rooms n slot x.cpu (all_rooms l.config.log) (rooms_given x) }
+RecordsUsed A = (l : Layout) (n : Names) (slot : Option ℕ) (x : Given A) → IsGivenFor x n slot → recorded x l ≡ record { contents = put_back n slot x.own.id blank (used_given x); rooms = put_rooms n slot x.own.id (all_rooms l.config.log) (rooms_given x) }

@@ -54,7 +54,7 @@ pub(crate) fn compared<A: Allocator>(
     requires kept { IsKept found }
     ensures { IfOk result (IsCompared parts.now) }
 {
-    let rows = parts.shared().rows.runs();
+    let rows = parts.shared.owners.runs();
     if !is_kept(&found, parts) {
         return one_for_each(alloc, parts, found);
     }

@@ -115,6 +115,6 @@ pub(crate) fn is_kept<A: Allocator>(found: &Ghost, parts: &Parts<A>) -> bool
     requires { length found.now.guests.items ≡ 64 }
     ensures { IsTrue result ↔ SaysMaplets parts.now found.now }
 {
-    is_shared_kept(&found.shared, parts.shared())
+    is_shared_kept(&found.shared, &parts.shared)
         && are_guests_kept(found.guests.as_slice(), parts.guests.as_slice())
 }

@@ -4,8 +4,6 @@ ghost use Rattle.std.specs.Prelude.{◌≡◌, ℕ, ◌∷◌, [], All, IfOk, On
 ghost use Rattle.page_state.specs.LayoutView.{layout_of};
 ghost use Rattle.page_state.specs.Rows.{HasPageBelow};
 ghost use Rattle.run_list.specs.Runs.{AreInReach};
-ghost use Rattle.reference_model.specs.State.{no_shared};
-ghost use Rattle.guest_steps.specs.Lent.{one};
 ghost use Rattle.guest_steps.specs.View.{cpu_of, guest_held, shared_of};
 ghost use Rattle.ghost_spec.specs.Kept.{IsKeptShared};
 ghost use Rattle.ghost_spec.specs.States.{ghost_state, guest_in, AreKeptGuests, IsKept};
@@ -60,14 +58,14 @@ pub(crate) fn shared_from<A: Allocator>(
 
 /// The rooms of all logs.
 fn rooms_from<A: Allocator>(alloc: Global, parts: &Parts<A>) -> Result<GhostRooms, AllocError>
-    ensures vms { IfOk result (λ r. All (λ v. v.log.room ≡ r.vms) parts.now.vms.items) }
-    ensures shared { IfOk result (λ r. All (λ s. s.log.room ≡ r.shared) parts.now.shared.items) }
+    ensures vms { IfOk result (λ r. parts.now.vms.log.room ≡ r.vms) }
+    ensures shared { IfOk result (λ r. parts.now.shared.log.room ≡ r.shared) }
     ensures guests { IfOk result (λ r. r.guests.items ≡ map (λ g. g.log.room) parts.now.guests.items) }
     ensures cpus { IfOk result (λ r. r.cpus.items ≡ map (λ k. k.log.room) parts.now.cpus.items) }
 {
     Ok(GhostRooms {
-        vms: parts.vms[0].log.room(),
-        shared: parts.shared().log.room(),
+        vms: parts.vms.log.room(),
+        shared: parts.shared.log.room(),
         guests: guest_rooms(alloc, parts.guests.as_slice())?,
         cpus: cpu_rooms(alloc, parts.cpus.as_slice())?,
     })
@@ -80,7 +78,7 @@ fn ghost_with<A: Allocator>(
     shared: Shared,
     guests: Vec<GhostGuest>,
 ) -> Result<Ghost, AllocError>
-    requires shared { shared_in_lists shared ≡ with_row (shared_in_lists shared).row (one no_shared shared_of parts.now.shared.items) }
+    requires shared { shared_in_lists shared ≡ with_row (shared_in_lists shared).row (shared_of parts.now.shared) }
     requires guests { map guest_in guests.items ≡ map guest_held parts.now.guests.items }
     requires cpus { All (λ k. IsLowCpu (cpu_of k)) parts.now.cpus.items }
     requires shared_kept { IsKeptShared shared }
@@ -96,7 +94,7 @@ fn ghost_with<A: Allocator>(
         drop((shared, guests));
         return Err(AllocError);
     };
-    let Ok(vms) = slots_from(alloc, &parts.vms[0].table) else {
+    let Ok(vms) = slots_from(alloc, &parts.vms.table) else {
         drop((shared, guests));
         return Err(AllocError);
     };
@@ -131,7 +129,7 @@ fn found<A: Allocator>(
     ensures reads { OnOk result (HasRead (count_of reads.old) (tables_of_parts parts.now) (count_of reads.new)) }
 {
     let guests = guests_from(alloc, parts.guests.as_slice(), reads)?;
-    let shared = shared_from(alloc, parts.shared(), RunList::new(alloc), reads)?;
+    let shared = shared_from(alloc, &parts.shared, RunList::new(alloc), reads)?;
     ghost_with(alloc, parts, shared, guests)
 }
 
@@ -148,11 +146,11 @@ fn shared_with_maplets<A: Allocator>(
     ensures kept { IfOk result IsKeptShared }
     ensures host { IfOk result (λ s. s.host.runs.items ≡ part.now.host.maplets.runs) }
     ensures hyp { IfOk result (λ s. s.hyp.runs.items ≡ part.now.hyp.maplets.runs) }
-    ensures rows { IfOk result (λ s. s.rows.runs ≡ part.now.rows) }
+    ensures rows { IfOk result (λ s. s.rows.runs ≡ part.now.owners) }
 {
     Ok(Shared {
         free: Vec::from_slice(alloc, found.free.as_slice())?,
-        rows: copied_rows(alloc, part.rows.runs())?,
+        rows: copied_rows(alloc, part.owners.runs())?,
         host: tree_with_maplets(alloc, &found.host, &part.host)?,
         hyp: tree_with_maplets(alloc, &found.hyp, &part.hyp)?,
     })
@@ -175,7 +173,7 @@ pub(crate) fn with_kept<A: Allocator>(
     ensures frames { IfOk result (HasRowsOf (parts_layout parts.now)) }
 {
     let guests = guests_with_maplets(alloc, found.guests.as_slice(), parts.guests.as_slice())?;
-    let shared = shared_with_maplets(alloc, &found.shared, parts.shared())?;
+    let shared = shared_with_maplets(alloc, &found.shared, &parts.shared)?;
     ghost_with(alloc, parts, shared, guests)
 }
 

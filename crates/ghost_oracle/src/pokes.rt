@@ -63,14 +63,14 @@ fn raw_shared<A: Allocator>(part: SharedPart<A>) -> RawShared<A>
         host,
         hyp,
         pool,
-        rows,
+        owners,
         log,
     } = part;
     RawShared {
         host: raw_component(host),
         hyp: raw_component(hyp),
         pool,
-        rows,
+        owners,
         log,
     }
 }
@@ -100,12 +100,10 @@ pub fn raw_parts<A: Allocator>(parts: Parts<A>, poked: Vec<Option<RawGuest<A>>>)
         guests,
         cpus,
     } = parts;
-    let mut shared = shared;
-    let part = shared.pop().unwrap();
     RawParts {
         layout,
         vms,
-        shared: raw_shared(part),
+        shared: raw_shared(shared),
         guests,
         poked,
         cpus,
@@ -292,8 +290,8 @@ fn parts_word<A: Allocator>(parts: &Parts<A>, which: Which, path: &[u16]) -> Opt
     ensures { result ≡ (parts_trees parts.now which).words path.now }
 {
     match which {
-        Which::Host => parts.shared().host.tree.word_at(path),
-        Which::Hyp => parts.shared().hyp.tree.word_at(path),
+        Which::Host => parts.shared.host.tree.word_at(path),
+        Which::Hyp => parts.shared.hyp.tree.word_at(path),
         Which::Guest(slot) => guest_word(parts, slot, path),
     }
 }

@@ -35,7 +35,7 @@ pub struct RawShared<A: Allocator> {
     pub host: RawComponent<A>,
     pub hyp: RawComponent<A>,
     pub pool: Pool,
-    pub rows: OwnerTable,
+    pub owners: OwnerTable,
     pub log: Log,
 }
 
@@ -53,16 +53,15 @@ pub struct RawGuest<A: Allocator> {
 #[derive(Drop)]
 pub struct RawParts<A: Allocator> {
     pub layout: Layout,
-    pub vms: Vec<VmPart>,
+    pub vms: VmPart,
     pub shared: RawShared<A>,
     pub guests: Vec<GuestPart<A>>,
     pub poked: Vec<Option<RawGuest<A>>>,
     pub cpus: Vec<CpuState>,
-    pub ghost one_vms: { vec_len vms ≡ 1 },
     pub ghost slots: { vec_len guests ≡ 64 },
     pub ghost places: { vec_len poked ≡ 64 },
     pub ghost counted: { vec_len cpus ≡ layout.config.cpus },
-    pub ghost memory_rows: { HasMemoryRows layout.map shared.rows },
+    pub ghost memory_rows: { HasMemoryRows layout.map shared.owners },
     pub ghost host_depth: { levels_below shared.host.tree.geometry ≡ levels_below layout.geometry },
     pub ghost hyp_depth: { levels_below shared.hyp.tree.geometry ≡ levels_below layout.geometry },
     pub ghost guest_depth: { All (λ g. levels_below g.guest.geometry ≡ levels_below layout.geometry) guests.items },

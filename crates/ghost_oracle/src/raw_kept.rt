@@ -126,7 +126,7 @@ fn raw_rooms<A: Allocator>(alloc: Global, parts: &RawParts<A>) -> Result<GhostRo
     ensures { IfOk result (AreRoomsFound parts.now) }
 {
     Ok(GhostRooms {
-        vms: parts.vms[0].log.room(),
+        vms: parts.vms.log.room(),
         shared: parts.shared.log.room(),
         guests: guest_rooms(alloc, parts.guests.as_slice())?,
         cpus: cpu_rooms(alloc, parts.cpus.as_slice())?,
@@ -139,13 +139,13 @@ fn raw_slots_and_cpus<A: Allocator>(
     parts: &RawParts<A>,
 ) -> Result<SlotsAndCpus, AllocError>
     ensures layout { IfOk result (λ b. layout_of b.layout ≡ layout_of parts.now.layout) }
-    ensures slots { IfOk result (λ b. All (λ v. (slot : ℕ) → get_or (map slot_in b.vms.items) slot (no_slot 1) ≡ (vm_slots v).slot slot) parts.now.vms.items) }
+    ensures slots { IfOk result (λ b. (slot : ℕ) → get_or (map slot_in b.vms.items) slot (no_slot 1) ≡ (vm_slots parts.now.vms).slot slot) }
     ensures cpus { IfOk result (λ b. map cpu_in b.cpus.items ≡ map cpu_of parts.now.cpus.items) }
     ensures rooms { IfOk result (λ b. AreRoomsFound parts.now b.rooms) }
 {
     Ok(SlotsAndCpus {
         layout: copied_layout(&parts.layout)?,
-        vms: slots_from(alloc, &parts.vms[0].table)?,
+        vms: slots_from(alloc, &parts.vms.table)?,
         cpus: cpus_from(alloc, parts.cpus.as_slice())?,
         rooms: raw_rooms(alloc, parts)?,
     })
@@ -196,7 +196,7 @@ pub fn kept_raw<A: Allocator>(alloc: Global, parts: &RawParts<A>) -> Result<Ghos
     ensures frames { IfOk result (HasRowsOf (layout_of parts.now.layout)) }
     ensures ready { IfOk result AreMapsKept }
 {
-    let rows = copied_rows(alloc, parts.shared.rows.runs())?;
+    let rows = copied_rows(alloc, parts.shared.owners.runs())?;
     raw_from(alloc, parts, Source::Maplets, rows)
 }
 

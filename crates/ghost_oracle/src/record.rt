@@ -50,7 +50,7 @@ fn shared_walked<A: Allocator>(
     ensures kept { IfOk result IsKeptShared }
     ensures reads { OnOk result (HasRead (count_of reads.old) (shared_tables part.now) (count_of reads.new)) }
 {
-    let rows = copied_rows(alloc, part.rows.runs())?;
+    let rows = copied_rows(alloc, part.owners.runs())?;
     shared_from(alloc, part, rows, reads)
 }
 
@@ -106,20 +106,15 @@ fn guests_given<A: Allocator>(
 }
 
 /// A CPU with its own state, and idle ones beside it.
-fn cpus_with(
-    alloc: Global,
-    count: u64,
-    cpu: u64,
-    state: &CpuState,
-) -> Result<Vec<GhostCpu>, AllocError>
-    requires cpu { cpu < count }
+fn cpus_with(alloc: Global, count: u64, state: &CpuState) -> Result<Vec<GhostCpu>, AllocError>
+    requires cpu { state.now.id < count }
     requires low { IsLowCpu (cpu_of state.now) }
-    ensures cpus { IfOk result (λ v. (c : ℕ) → get_or (map cpu_in v.items) c no_cpu ≡ put_at blank.cpu cpu (cpu_of state.now) c) }
+    ensures cpus { IfOk result (λ v. (c : ℕ) → get_or (map cpu_in v.items) c no_cpu ≡ put_at blank.cpu state.now.id (cpu_of state.now) c) }
     ensures count { IfOk result (λ v. length v.items ≡ count) }
     ensures kept { IfOk result (λ v. AreKeptCpus v.items) }
 {
     let mut cpus = idle_cpus(alloc, count)?;
-    cpus[cpu as usize] = cpu_from(state);
+    cpus[state.id as usize] = cpu_from(state);
     Ok(cpus)
 }
 
@@ -180,17 +175,16 @@ fn shared_room<A: Allocator>(log: u64, shared: Option<&SharedPart<A>>) -> u64
 fn slots_and_cpus_given(
     alloc: Global,
     layout: &Layout,
-    cpu: u64,
     vms: Option<&VmPart>,
     state: &CpuState,
     rooms: GhostRooms,
 ) -> Result<SlotsAndCpus, AllocError>
-    requires cpu { cpu < layout.now.config.cpus }
+    requires cpu { state.now.id < layout.now.config.cpus }
     requires low { IsLowCpu (cpu_of state.now) }
     ensures layout { IfOk result (λ b. layout_of b.layout ≡ layout_of layout.now) }
     ensures slots { IfOk result (λ b. (slot : ℕ) → get_or (map slot_in b.vms.items) slot (no_slot 1) ≡ (at_place blank.vms vm_slots (option_copied vms.entry)).slot slot) }
     ensures slots_count { IfOk result (λ b. length b.vms.items ≡ 64) }
-    ensures cpus { IfOk result (λ b. (c : ℕ) → get_or (map cpu_in b.cpus.items) c no_cpu ≡ put_at blank.cpu cpu (cpu_of state.now) c) }
+    ensures cpus { IfOk result (λ b. (c : ℕ) → get_or (map cpu_in b.cpus.items) c no_cpu ≡ put_at blank.cpu state.now.id (cpu_of state.now) c) }
     ensures cpus_count { IfOk result (λ b. length b.cpus.items ≡ layout.now.config.cpus) }
     ensures kept { IfOk result (λ b. AreKeptCpus b.cpus.items) }
     ensures rooms { IfOk result (λ b. b.rooms ≡ rooms) }
@@ -198,7 +192,7 @@ fn slots_and_cpus_given(
     Ok(SlotsAndCpus {
         layout: copied_layout(layout)?,
         vms: slots_given(alloc, vms)?,
-        cpus: cpus_with(alloc, layout.config.cpus, cpu, state)?,
+        cpus: cpus_with(alloc, layout.config.cpus, state)?,
         rooms,
     })
 }
@@ -209,43 +203,41 @@ fn slots_and_cpus_given(
 pub fn record<A: Allocator>(
     alloc: Global,
     layout: &Layout,
-    cpu: u64,
     vms: Option<&VmPart>,
     shared: Option<&SharedPart<A>>,
     guest: Option<(u64, &GuestPart<A>)>,
     state: &CpuState,
 ) -> Result<Ghost, AllocError>
-    requires cpu { cpu < layout.now.config.cpus }
+    requires cpu { state.now.id < layout.now.config.cpus }
     requires slot { IfSome guest (λ g. g.0 < 64) }
     requires guest { IfSome guest (λ g. IsLowGuest (guest_held g.1.now)) }
     requires own { IsLowCpu (cpu_of state.now) }
-    ensures state { IfOk result (λ g. ghost_state g ≡ recorded (given (option_copied vms.entry) (option_copied shared.entry) (option_map (λ g. (g.0, g.1.now)) guest.entry) cpu state.now) (layout_of layout.now)) }
+    ensures state { IfOk result (λ g. ghost_state g ≡ recorded (given (option_copied vms.entry) (option_copied shared.entry) (option_map (λ g. (g.0, g.1.now)) guest.entry) state.now) (layout_of layout.now)) }
     ensures layout { IfOk result (λ g. layout_of g.layout ≡ layout_of layout.now) }
     ensures kept { IfOk result IsKept }
 {
     let reads = &mut Reads::new();
-    record_counted(alloc, layout, cpu, vms, shared, guest, state, reads)
+    record_counted(alloc, layout, vms, shared, guest, state, reads)
 }
 
 /// As `record`, and adds to a count each word that it reads.
 pub fn record_counted<A: Allocator>(
     alloc: Global,
     layout: &Layout,
-    cpu: u64,
     vms: Option<&VmPart>,
     shared: Option<&SharedPart<A>>,
     guest: Option<(u64, &GuestPart<A>)>,
     state: &CpuState,
     reads: &mut Reads,
 ) -> Result<Ghost, AllocError>
-    requires cpu { cpu < layout.now.config.cpus }
+    requires cpu { state.now.id < layout.now.config.cpus }
     requires slot { IfSome guest (λ g. g.0 < 64) }
     requires guest { IfSome guest (λ g. IsLowGuest (guest_held g.1.now)) }
     requires own { IsLowCpu (cpu_of state.now) }
-    ensures state { IfOk result (λ g. ghost_state g ≡ recorded (given (option_copied vms.entry) (option_copied shared.entry) (option_map (λ g. (g.0, g.1.now)) guest.entry) cpu state.now) (layout_of layout.now)) }
+    ensures state { IfOk result (λ g. ghost_state g ≡ recorded (given (option_copied vms.entry) (option_copied shared.entry) (option_map (λ g. (g.0, g.1.now)) guest.entry) state.now) (layout_of layout.now)) }
     ensures layout { IfOk result (λ g. layout_of g.layout ≡ layout_of layout.now) }
     ensures kept { IfOk result IsKept }
-    ensures reads { OnOk result (HasRead (count_of reads.old) (tables_given (given (option_copied vms.entry) (option_copied shared.entry) (option_map (λ g. (g.0, g.1.now)) guest.entry) cpu state.now)) (count_of reads.new)) }
+    ensures reads { OnOk result (HasRead (count_of reads.old) (tables_given (given (option_copied vms.entry) (option_copied shared.entry) (option_map (λ g. (g.0, g.1.now)) guest.entry) state.now)) (count_of reads.new)) }
 {
     // For its contract alone: a count is at most the greatest u64.
     let _count = reads.count();
@@ -254,9 +246,9 @@ pub fn record_counted<A: Allocator>(
         vms: vms_room(log, vms),
         shared: shared_room(log, shared),
         guests: guest_rooms_given(alloc, log, guest)?,
-        cpus: rooms_with(alloc, cpus, log, cpu, state.log.room())?,
+        cpus: rooms_with(alloc, cpus, log, state.id, state.log.room())?,
     };
-    let beside = slots_and_cpus_given(alloc, layout, cpu, vms, state, rooms)?;
+    let beside = slots_and_cpus_given(alloc, layout, vms, state, rooms)?;
     let Ok(guests) = guests_given(alloc, guest, reads) else {
         drop(beside);
         return Err(AllocError);

@@ -32,20 +32,20 @@ same_row false old new = refl
 
 module _ {A : Type 0} (s : SharedPart A) where
   -- rows of a range that were replaced
-  pub given : (frames : PageRange) (row : Row) (rows : List (Run Row)) → row_at rows ≡ rows_set (row_at s.rows) frames row
+  pub given : (frames : PageRange) (row : Row) (rows : List (Run Row)) → row_at rows ≡ rows_set (row_at s.owners) frames row
       → shared (λ f. unwrap_or (row_at rows f) plain_row) (tree_of s.host.tree) (tree_of s.hyp.tree) s.pool.frames ≡ rows_given frames row (shared_of s)
   given frames row rows e =
       ap (λ r. shared r (tree_of s.host.tree) (tree_of s.hyp.tree) s.pool.frames)
-      (fun_ext (λ f. ap (λ m. unwrap_or (m f) plain_row) e ∙ same_row (is_in_range frames f) (row_at s.rows f) (advance_row row (f - frames.first.0))))
+      (fun_ext (λ f. ap (λ m. unwrap_or (m f) plain_row) e ∙ same_row (is_in_range frames f) (row_at s.owners f) (advance_row row (f - frames.first.0))))
 
   -- maps that stayed, whatever spares their trees have now
   pub unchanged : (r : Result (Unit {0}) PoolFault) (host hyp : TableTree A) (pool : StoredFrames)
       → host.geometry ≡ s.host.tree.geometry → hyp.geometry ≡ s.hyp.tree.geometry
       → OnErr r (host.table ≡ s.host.tree.table) → OnErr r (hyp.table ≡ s.hyp.tree.table) → OnErr r (pool ≡ s.pool)
-      → OnErr r (shared (λ f. unwrap_or (row_at s.rows f) plain_row) (tree_of host) (tree_of hyp) pool.frames ≡ shared_of s)
+      → OnErr r (shared (λ f. unwrap_or (row_at s.owners f) plain_row) (tree_of host) (tree_of hyp) pool.frames ≡ shared_of s)
   unchanged (Ok x) host hyp pool g h a b e = _
   unchanged (Err why) host hyp pool g h a b e =
-      let r : ℕ → Row = λ f. unwrap_or (row_at s.rows f) plain_row in
+      let r : ℕ → Row = λ f. unwrap_or (row_at s.owners f) plain_row in
       ap (λ x. shared r x (tree_of hyp) pool.frames) (same_tree host s.host.tree g a)
       ∙ ap (λ x. shared r (tree_of s.host.tree) x pool.frames) (same_tree hyp s.hyp.tree h b)
       ∙ ap (λ (p : StoredFrames). shared r (tree_of s.host.tree) (tree_of s.hyp.tree) p.frames) e
@@ -55,11 +55,11 @@ module _ {A : Type 0} (s : SharedPart A) where
       → OnOk result (tree_of host ≡ tree_after s.host.tree h.host s.pool.frames)
       → OnOk result (tree_of hyp ≡ tree_after s.hyp.tree h.hyp (drop (need_for s.host.tree h.host) s.pool.frames))
       → OnOk result (pool.frames ≡ all_given (back_from s.host.tree h.host ++ back_from s.hyp.tree h.hyp) (drop (need_for s.host.tree h.host + need_for s.hyp.tree h.hyp) s.pool.frames))
-      → OnOk result (shared (λ f. unwrap_or (row_at s.rows f) plain_row) (tree_of host) (tree_of hyp) pool.frames ≡ shared_after (depth_of s) h (shared_of s))
+      → OnOk result (shared (λ f. unwrap_or (row_at s.owners f) plain_row) (tree_of host) (tree_of hyp) pool.frames ≡ shared_after (depth_of s) h (shared_of s))
   unfolding shared_after
   changed (Err e) h host hyp pool a b c = _
   changed (Ok x) h host hyp pool a b c =
-      let r : ℕ → Row = λ f. unwrap_or (row_at s.rows f) plain_row in
+      let r : ℕ → Row = λ f. unwrap_or (row_at s.owners f) plain_row in
       let same = s.alike in
       let back = ap (λ d. all_given (back_from s.host.tree h.host ++ returned d (tree_of s.hyp.tree) (edit_of h.hyp)) (drop (need_for s.host.tree h.host + need d (tree_of s.hyp.tree) (edit_of h.hyp)) s.pool.frames)) same in
       ap (λ x. shared r x (tree_of hyp) pool.frames) a

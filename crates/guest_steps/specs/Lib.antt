@@ -2,4 +2,5 @@ pub mod Apart
 pub mod Lent
 pub mod Logs
 pub mod MemoryRows
+pub mod Numbers
 pub mod View

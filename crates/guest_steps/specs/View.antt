@@ -21,7 +21,7 @@ vm_slots v = vms_of v.table
 
 -- the Shared part; a frame that has no row in the table is no memory frame, and has the plain one
 abbrev pub shared_of : {A : Type 0} → SharedPart A → Shared
-shared_of s = record { host = tree_of s.host.tree; hyp = tree_of s.hyp.tree; free = s.pool.frames; row = λ f. unwrap_or (row_at s.rows f) plain_row }
+shared_of s = record { host = tree_of s.host.tree; hyp = tree_of s.hyp.tree; free = s.pool.frames; row = λ f. unwrap_or (row_at s.owners f) plain_row }
 
 -- the depth of its trees
 abbrev pub depth_of : {A : Type 0} → SharedPart A → ℕ

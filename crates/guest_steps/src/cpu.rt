@@ -17,10 +17,11 @@ fn updated<T: Copy>(update: Update<T>, field: T) -> T
 }
 
 impl CpuState {
-    /// Changes what the CPU has loaded, its hand and its ticket. Its log stays.
+    /// Changes what the CPU has loaded, its hand and its ticket. Its number and its log stay.
     pub fn change(&mut self, change: &CpuChange)
         ensures made { cpu_of self.new ≡ cpu_by change.now (cpu_of self.old) }
         ensures log { self.new.log ≡ self.old.log }
+        ensures id { self.new.id ≡ self.old.id }
     {
         self.loaded = updated(change.loaded, self.loaded);
         self.hand = updated(change.hand, self.hand);

@@ -26,7 +26,7 @@ pub struct SharedPart<A: Allocator> {
     pub host: Component<A>,
     pub hyp: Component<A>,
     pub pool: Pool,
-    pub rows: OwnerTable,
+    pub owners: OwnerTable,
     pub log: Log,
     pub ghost apart: { IsApart host.tree hyp.tree pool } by { IsApart-prop host.tree hyp.tree pool },
     pub ghost alike: { levels_below hyp.tree.geometry ≡ levels_below host.tree.geometry },
@@ -42,6 +42,8 @@ pub struct GuestPart<A: Allocator> {
 /// One CPU's own state, and the log of its own calls.
 #[derive(Drop)]
 pub struct CpuState {
+    /// Its number, which never changes.
+    pub id: u64,
     /// The vCPU that it has loaded.
     pub loaded: Option<Loaded>,
     /// Its hand: a range of funded frames.

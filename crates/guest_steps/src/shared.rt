@@ -44,7 +44,7 @@ impl<A: Allocator + Copy> SharedPart<A> {
         ensures err { OnErr result (shared_of self.new ≡ shared_of self.old) }
         ensures err_host { OnErr result (self.new.host.maplets.runs ≡ self.old.host.maplets.runs) }
         ensures err_hyp { OnErr result (self.new.hyp.maplets.runs ≡ self.old.hyp.maplets.runs) }
-        ensures rows { self.new.rows ≡ self.old.rows }
+        ensures rows { self.new.owners ≡ self.old.owners }
         ensures log { self.new.log ≡ self.old.log }
         ensures depth { depth_of self.new ≡ depth_of self.old }
     {
@@ -60,12 +60,12 @@ impl<A: Allocator> SharedPart<A> {
     pub fn give_rows(&mut self, frames: PageRange, row: Row)
         requires frames { end_of frames ≤ 2 ^ 63 }
         requires row { HasPageBelow row frames.count }
-        requires known { HasRows self.old.rows frames }
+        requires known { HasRows self.old.owners frames }
         ensures made { shared_of self.new ≡ rows_given frames row (shared_of self.old) }
-        ensures known { HasSameFrames self.old.rows self.new.rows }
+        ensures known { HasSameFrames self.old.owners self.new.owners }
         ensures log { self.new.log ≡ self.old.log }
         ensures depth { depth_of self.new ≡ depth_of self.old }
     {
-        self.rows.set(frames, row);
+        self.owners.set(frames, row);
     }
 }

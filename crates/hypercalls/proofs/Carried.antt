@@ -1,32 +1,30 @@
 -- Changes that were carried out, in words of the reference state.
-use Rattle.std.proofs.Common.{◌≡◌, ℕ, ◌*◌, ◌<◌, Fits, w64, ◌↔◌, Bool, true, false, ◌&&◌, ◌||◌, nat_lt, length, List, [], ◌∷◌, slice_get, Option, Some, None, Result, Ok, Err, OnOk, OnErr, refl, ap, sym, ◌∙◌, subst, arith, inl, inr}
+use Rattle.std.proofs.Common.{◌≡◌, ℕ, ◌<◌, ◌↔◌, Bool, true, false, ◌&&◌, ◌||◌, nat_lt, length, Option, Some, None, IfSome, Result, Ok, Err, OnOk, OnErr, refl, ap, sym, ◌∙◌, subst, arith, inl, inr}
 use mathlib.Core.Path.{fun_ext}
 use Rattle.hyp_pool.specs.declared.PoolFault.{PoolFault}
-use Rattle.hyp_pool.specs.declared.PoolFault.TheVariants.{NoPool}
+use Rattle.hyp_pool.specs.declared.PoolFault.TheVariants.{NoPool, NoMemory as NoMemoryFault}
 use Rattle.page_state.specs.declared.entry.PageRange.{PageRange}
 use Rattle.page_state.specs.declared.row.Row.{Row}
-use Rattle.step_reply.specs.declared.reply.Refusal.TheVariants.{NoMemory, NoPool as NoPoolReply}
-use Rattle.step_reply.specs.declared.reply.Reply.TheVariants.{Done, Refused}
+use Rattle.step_reply.specs.declared.reply.Refusal.TheVariants.{NoMemory}
+use Rattle.step_reply.specs.declared.reply.Reply.{Reply}
+use Rattle.step_reply.specs.declared.reply.Reply.TheVariants.{Refused}
 use Rattle.step_reply.specs.declared.step.Step.{Step}
 use Rattle.page_state.specs.Layouts.{Layout, is_memory}
 use Rattle.page_state.specs.Tables.{need, needs, edited, freed, returned}
 use Rattle.page_state.proofs.Common.{or-false, not-holds}
 use Rattle.reference_model.specs.declared.changes.Changes.{Changes}
 use Rattle.reference_model.specs.declared.changes.MapChange.{MapChange}
-use Rattle.reference_model.specs.declared.changes.SlotChange.{SlotChange}
-use Rattle.reference_model.specs.declared.changes.SlotChange.TheVariants.{Keep as KeepSlots}
 use Rattle.reference_model.specs.Answers.{CarriesOut}
-use Rattle.reference_model.specs.ChangeLaws.{AllFit, FitsWhere, PartsFit}
+use Rattle.reference_model.specs.ChangeLaws.{AllFit, FitsWhere, OnlyUses, PartsFit}
 use Rattle.reference_model.specs.Rules.{may_grow}
 use Rattle.reference_model.specs.Changes.{edit_of, touched, cpu_by, vms_by}
 use Rattle.reference_model.specs.Owner.{is_in_hand}
 use Rattle.reference_model.specs.RowChanges.{first_of, told_row, with_told}
-use Rattle.reference_model.specs.State.{Vms, Shared, Guest, Cpu, no_shared, no_vms, no_guest}
+use Rattle.reference_model.specs.State.{Vms, Shared, Guest, Cpu, no_vms, no_shared, no_guest}
 use Rattle.reference_model.specs.Step.{shared_need, shared_after, guest_need, guest_after, is_short, changed}
 use Rattle.reference_model.specs.Used.{Used}
 use Rattle.guest_steps.specs.declared.parts.GuestPart.{GuestPart}
 use Rattle.guest_steps.specs.declared.parts.SharedPart.{SharedPart}
-use Rattle.guest_steps.specs.declared.parts.VmPart.{VmPart}
 use Rattle.std.proofs.lemmas.Bool.{ltb-true, lt-ltb}
 use Rattle.std.proofs.lemmas.Bool.Decides.{nat_tests}
 use Rattle.component.specs.View.{HasRoomFor, need_for}
@@ -39,11 +37,13 @@ use Rattle.component.proofs.Keeps.{need_keep}
 use Rattle.page_state.specs.Geometries.{levels_below}
 use Rattle.table_tree.specs.View.{tree_of}
 use Rattle.guest_steps.specs.declared.parts.CpuState.{CpuState}
-use Rattle.guest_steps.specs.Lent.{Each, SharedSuits, lent, one, used_in}
+use Rattle.guest_steps.specs.declared.parts.VmPart.{VmPart}
+use Rattle.guest_steps.specs.Lent.{Lent, lent_both, lent_guest, lent_shared, lent_vms, used_in}
 use Rattle.guest_steps.specs.View.{vm_slots, shared_of, guest_held, cpu_of}
-use Rattle.decisions.proofs.Singles.{by_first}
+use Rattle.reference_model.specs.declared.changes.SlotChange.TheVariants.{Keep as KeepSlots}
+use Rattle.reference_model.specs.Parts.{Names, uses_shared}
 use Rattle.decisions.specs.Grows.{GrowsOnly}
-use Rattle.hypercalls.specs.Carried.{IsLentOr, IsRoomy, LeavesGuest, LeavesShared, is_either_short, rows_told}
+use Rattle.hypercalls.specs.Carried.{Ends, IsRoomy, LeavesGuest, LeavesShared, is_either_short, rows_told}
 
 less_none : (n : ℕ) → nat_lt n 0 ≡ false
 less_none n = grind (arith, nat_tests)
@@ -70,38 +70,8 @@ module _ (l : Layout) (h : Changes) (leaves : LeavesShared h) where
       ap (λ (r : ℕ → Row). record no_shared { row = r }) (fun_ext (λ f. row_kept (is_memory l (first_of (touched h))) (is_in_hand (touched h) f) (told_row id slot h f) (no_shared.row f) (untouched f)))
       ∙ ap (rows_told l id slot h) (sym same_after)
 
-  pub none_short : (◌≡◌ {A = Result (Unit {0}) PoolFault} (Ok tt) (Err NoPool)) ↔ (length no_shared.free < shared_need l.depth h no_shared)
-  none_short = (λ e. cc, λ less. absurd (omega (arith, less, no_need)))
-
--- a list of the Shared part, or of none
-module _ {A : Type 0} (l : Layout) (id : ℕ) (slot : Option ℕ) (h : Changes) where
-  pub made_of_none : (ss : List (SharedPart A)) → IsLentOr (LeavesShared h) ss → (length ss ≡ 1 → ⊥) → one no_shared shared_of ss ≡ rows_told l id slot h (shared_after l.depth h (one no_shared shared_of ss))
-  made_of_none [] only many = none_made l h only id slot
-  made_of_none (s ∷ []) only many = absurd (many refl)
-  made_of_none (s ∷ (t ∷ ss)) only many = absurd only
-
-  pub short_of_none : (ss : List (SharedPart A)) → IsLentOr (LeavesShared h) ss → (length ss ≡ 1 → ⊥) → (◌≡◌ {A = Result (Unit {0}) PoolFault} (Ok tt) (Err NoPool)) ↔ (length (one no_shared shared_of ss).free < shared_need l.depth h (one no_shared shared_of ss))
-  short_of_none [] only many = none_short l h only
-  short_of_none (s ∷ []) only many = absurd (many refl)
-  short_of_none (s ∷ (t ∷ ss)) only many = absurd only
-
--- a pool that isn't lent is not short
-pub enough_of_none : {A : Type 0} (l : Layout) (h : Changes) (ss : List (SharedPart A)) → IsLentOr (LeavesShared h) ss → slice_get ss 0 ≡ None → false ≡ nat_lt (length (one no_shared shared_of ss).free) (shared_need l.depth h (one no_shared shared_of ss))
-enough_of_none l h [] only e = sym (ap (nat_lt 0) (no_need l h only) ∙ less_none 0)
-enough_of_none l h (s ∷ ss) only e = absurd cc
-
--- and one that is lent is the first
-pub short_of_first : {A : Type 0} (l : Layout) (h : Changes) (ss : List (SharedPart A)) (s : SharedPart A) → slice_get ss 0 ≡ Some s → nat_lt (length (shared_of s).free) (shared_need l.depth h (shared_of s)) ≡ nat_lt (length (one no_shared shared_of ss).free) (shared_need l.depth h (one no_shared shared_of ss))
-short_of_first {A = A} l h ss s e = ap (λ (xs : List (SharedPart A)). nat_lt (length (one no_shared shared_of xs).free) (shared_need l.depth h (one no_shared shared_of xs))) (sym (by_first ss s e))
-
-pub first_suits : {A : Type 0} (l : Layout) (ss : List (SharedPart A)) (s : SharedPart A) → slice_get ss 0 ≡ Some s → Each (SharedSuits l) ss → SharedSuits l s
-first_suits l ss s e suits = (subst (Each (SharedSuits l)) (by_first ss s e) suits).0
-
--- the VM part, where it isn't lent
-pub slots_of_none : (change : SlotChange) (vs : List VmPart) → IsLentOr (change ≡ KeepSlots) vs → (length vs ≡ 1 → ⊥) → one no_vms vm_slots vs ≡ vms_by change (one no_vms vm_slots vs)
-slots_of_none change [] only many = sym (ap (λ c. vms_by c no_vms) only)
-slots_of_none change (v ∷ []) only many = absurd (many refl)
-slots_of_none change (v ∷ (w ∷ vs)) only many = absurd only
+  pub none_short : nat_lt (length no_shared.free) (shared_need l.depth h no_shared) ≡ false
+  none_short = ap (nat_lt 0) no_need ∙ less_none 0
 
 same_used : (v v' : Vms) (s s' : Shared) (g g' : Guest) (k k' : Cpu) → v ≡ v' → s ≡ s' → g ≡ g' → k ≡ k' → ◌≡◌ {A = Used} (record { vms = v; shared = s; guest = g; cpu = k }) (record { vms = v'; shared = s'; guest = g'; cpu = k' })
 same_used v v' s s' g g' k k' a b c d = cc
@@ -120,17 +90,8 @@ guest_same d h g stays = rw (stays.guest, stays.part) refl
 pub need_same : (d : ℕ) (h : Changes) (g : Guest) → LeavesGuest h → guest_need d h g ≡ 0
 need_same d h g stays = ap (λ (o : Option MapChange). need d g.tree (edit_of o)) stays.guest ∙ need_keep d g.tree
 
--- a guest's list, where none is lent
-module _ {A : Type 0} (d : ℕ) (h : Changes) where
-  pub guest_of_none : (gs : List (GuestPart A)) → IsLentOr (LeavesGuest h) gs → (length gs ≡ 1 → ⊥) → one no_guest guest_held gs ≡ guest_after d h (one no_guest guest_held gs)
-  guest_of_none [] only many = sym (guest_same d h no_guest only)
-  guest_of_none (g ∷ []) only many = absurd (many refl)
-  guest_of_none (g ∷ (k ∷ gs)) only many = absurd only
-
-  pub no_need_of_none : (gs : List (GuestPart A)) → IsLentOr (LeavesGuest h) gs → (length gs ≡ 1 → ⊥) → nat_lt (length (one no_guest guest_held gs).free) (guest_need d h (one no_guest guest_held gs)) ≡ false
-  no_need_of_none [] only many = ap (nat_lt 0) (need_same d h no_guest only) ∙ less_none 0
-  no_need_of_none (g ∷ []) only many = absurd (many refl)
-  no_need_of_none (g ∷ (k ∷ gs)) only many = absurd only
+pub guest_short : (d : ℕ) (h : Changes) → LeavesGuest h → nat_lt (length no_guest.free) (guest_need d h no_guest) ≡ false
+guest_short d h stays = ap (nat_lt 0) (need_same d h no_guest stays) ∙ less_none 0
 
 -- so it is, whatever was answered
 pub always_ok : {X E P : Type 0} (r : Result X E) → P → OnOk r P
@@ -146,41 +107,33 @@ pub can_change : {A : Type 0} (l : Layout) (h : Changes) (g : GuestComponent A) 
 can_change l h g e fit parts = record { map = subst (λ d. FitsWhere d h.guest) (sym e) fit.guest; mapped = parts.mapped; part = (l, (sym e, parts.part)) }
 
 -- where neither map changes, no growth can be needed
-pub roomy_of_none : {A : Type 0} (h : Changes) → h.host ≡ None → h.hyp ≡ None → (ss : List (SharedPart A)) → Each (IsRoomy h) ss
-roomy_of_none h a b [] = tt
-roomy_of_none h a b (s ∷ ss) = (
-  record {
-    host = subst (λ (o : Option MapChange). HasRoomFor o s.host.maplets) (sym a) tt;
-    hyp = subst (λ (o : Option MapChange). HasRoomFor o s.hyp.maplets) (sym b) tt;
-    host_spares = let e = ap (need_for s.host.tree) a in omega (arith, e ∙ need_keep (levels_below s.host.tree.geometry) (tree_of s.host.tree));
-    hyp_spares = let e = ap (need_for s.hyp.tree) b in omega (arith, e ∙ need_keep (levels_below s.hyp.tree.geometry) (tree_of s.hyp.tree));
-  },
-  roomy_of_none h a b ss,
-)
+roomy : {A : Type 0} (h : Changes) → h.host ≡ None → h.hyp ≡ None → (s : SharedPart A) → IsRoomy h s
+roomy h a b s = record {
+  host = subst (λ (o : Option MapChange). HasRoomFor o s.host.maplets) (sym a) tt;
+  hyp = subst (λ (o : Option MapChange). HasRoomFor o s.hyp.maplets) (sym b) tt;
+  host_spares = let e = ap (need_for s.host.tree) a in omega (arith, e ∙ need_keep (levels_below s.host.tree.geometry) (tree_of s.host.tree));
+  hyp_spares = let e = ap (need_for s.hyp.tree) b in omega (arith, e ∙ need_keep (levels_below s.hyp.tree.geometry) (tree_of s.hyp.tree));
+}
 
 ready_none : {A : Type 0} (n : ℕ) (c : Option MapChange) → n ≡ 0 → c ≡ None → (o : Option (Body A)) → HasReadyMap n c o
 ready_none n c z e None = tt
 ready_none n c z e (Some b) = (omega (arith, z), subst (λ (o : Option MapChange). HasRoomFor o b.map.maplets) (sym e) tt)
 
 -- nor where the guest's map stays and no guest is made
-guests_roomy : {A : Type 0} (h : Changes) → h.guest ≡ None → MakesNone h.part → (gs : List (GuestPart A)) → Each (λ g. WantsNoMemory h g.guest) gs
-guests_roomy h a m [] = tt
-guests_roomy h a m (g ∷ gs) = (
-  record { made = m; map = ready_none _ h.guest (ap (λ (o : Option MapChange). need (guest_depth g.guest) (guest_held g).tree (edit_of o)) a ∙ need_keep (guest_depth g.guest) (guest_held g).tree) a g.guest.body },
-  guests_roomy h a m gs,
-)
+ready : {A : Type 0} (h : Changes) → h.guest ≡ None → MakesNone h.part → (g : GuestPart A) → WantsNoMemory h g.guest
+ready h a m g = record { made = m; map = ready_none _ h.guest (ap (λ (o : Option MapChange). need (guest_depth g.guest) (guest_held g).tree (edit_of o)) a ∙ need_keep (guest_depth g.guest) (guest_held g).tree) a g.guest.body }
+
+some_all : {P : Type 0} (Is : P → Type 0) → ((p : P) → Is p) → (o : Option P) → IfSome o Is
+some_all Is all None = tt
+some_all Is all (Some p) = all p
 
 -- a step whose change wanted memory may grow
-pub grows_by : {A : Type 0} (h : Changes) (step : Step) (ss : List (SharedPart A)) (gs : List (GuestPart A)) → GrowsOnly step h → (Each (IsRoomy h) ss → Each (λ g. WantsNoMemory h g.guest) gs → ⊥) → may_grow step ≡ true
-grows_by h step ss gs only short = go (may_grow step) only
+grows_by : {A : Type 0} (h : Changes) (step : Step) (x : Lent A) → GrowsOnly step h → (IfSome x.shared (λ s. IsRoomy h s) → IfSome x.guest (λ g. WantsNoMemory h g.guest) → ⊥) → may_grow step ≡ true
+grows_by h step x only short = go (may_grow step) only
   where
     go : (b : Bool) → (b ≡ false → (h.host ≡ None) × (h.hyp ≡ None) × (h.guest ≡ None) × MakesNone h.part) → b ≡ true
     go true k = refl
-    go false k = let o = k refl in absurd (short (roomy_of_none h o.0 o.1 ss) (guests_roomy h o.2 o.3 gs))
-
--- what stands at the place 0 of a list begins with it
-pub first_fits : (n : ℕ) → Fits w64 (0 * n)
-first_fits n = omega arith
+    go false k = let o = k refl in absurd (short (some_all (λ s. IsRoomy h s) (roomy h o.0 o.1) x.shared) (some_all (λ g. WantsNoMemory h g.guest) (ready h o.2 o.3) x.guest))
 
 -- where a pool is short
 pub guest_short_iff : {R : Type 0} (a : Bool) (m n : ℕ) → a ≡ false → R ↔ (m < n) → R ↔ ((a || nat_lt m n) ≡ true)
@@ -189,47 +142,134 @@ guest_short_iff a m n p iff = (λ r. rw p (lt-ltb m n (iff.0 r)), λ e. iff.1 (l
 pub shared_short_iff : {R : Type 0} (m n : ℕ) (b : Bool) → b ≡ false → R ↔ (m < n) → R ↔ ((nat_lt m n || b) ≡ true)
 shared_short_iff m n b p iff = (λ r. rw (lt-ltb m n (iff.0 r)) refl, λ e. iff.1 (ltb-true m n (let t : (nat_lt m n || false) ≡ true = rw p at e in sym (or-false (nat_lt m n)) ∙ t)))
 
--- lent parts that were changed, or weren't
-module _ {A : Type 0} (l : Layout) (id : ℕ) (slot : Option ℕ) (step : Step) (h : Changes) (vs ws : List VmPart) (ss ts : List (SharedPart A)) (gs hs : List (GuestPart A)) (k j : CpuState) where
-  abbrev before : Used
-  before = used_in (lent vs ss gs k)
+-- how the parts of a call came out that were to be changed: all are, or none is
+pub record Comes {A : Type 0} (l : Layout) (id : ℕ) (slot : Option ℕ) (h : Changes) (x : Lent A) (r : Result (Unit {0}) PoolFault) (y : Lent A) : Type 0 where
+  pub vms : OnOk r ((used_in y).vms ≡ vms_by h.slot (used_in x).vms)
+  pub shared : OnOk r ((used_in y).shared ≡ rows_told l id slot h (shared_after l.depth h (used_in x).shared))
+  pub guest : OnOk r ((used_in y).guest ≡ guest_after l.depth h (used_in x).guest)
+  pub err_vms : OnErr r ((used_in y).vms ≡ (used_in x).vms)
+  pub err_shared : OnErr r ((used_in y).shared ≡ (used_in x).shared)
+  pub err_guest : OnErr r ((used_in y).guest ≡ (used_in x).guest)
+  pub no_pool : (r ≡ Err NoPool) ↔ (is_either_short l.depth h (used_in x).shared (used_in x).guest ≡ true)
+  pub no_memory : r ≡ Err NoMemoryFault → IfSome x.shared (λ s. IsRoomy h s) → IfSome x.guest (λ g. WantsNoMemory h g.guest) → ⊥
 
-  abbrev after : Used
-  after = used_in (lent ws ts hs j)
+never : {X E : Type 0} {x : X} {e : E} → ◌≡◌ {A = Result X E} (Ok x) (Err e) → ⊥
+never e = cc
 
-  abbrev few : Bool
-  few = is_either_short l.depth h (one no_shared shared_of ss) (one no_guest guest_held gs)
+other : ◌≡◌ {A = Result (Unit {0}) PoolFault} (Err NoMemoryFault) (Err NoPool) → ⊥
+other e = cc
 
-  short_is : is_short l.depth h before ≡ few
+module _ {A : Type 0} (l : Layout) (id : ℕ) (slot : Option ℕ) (step : Step) (h : Changes) (x y : Lent A) where
+  short_is : is_short l.depth h (used_in x) ≡ is_either_short l.depth h (used_in x).shared (used_in x).guest
   unfolding is_short
   short_is = refl
 
-  enough_is : (few ≡ true → ⊥) → is_short l.depth h before ≡ false
-  enough_is enough = short_is ∙ not-holds few enough
+  enough : (is_either_short l.depth h (used_in x).shared (used_in x).guest ≡ true → ⊥) → is_short l.depth h (used_in x) ≡ false
+  enough never_short = short_is ∙ not-holds _ never_short
 
-  same_after_all : one no_vms vm_slots ws ≡ one no_vms vm_slots vs → one no_shared shared_of ts ≡ one no_shared shared_of ss → one no_guest guest_held hs ≡ one no_guest guest_held gs → cpu_of j ≡ cpu_of k → after ≡ before
-  same_after_all a b c d = same_used _ _ _ _ _ _ _ _ a b c d
-
-  pub carried : (few ≡ true → ⊥) → one no_vms vm_slots ws ≡ vms_by h.slot (one no_vms vm_slots vs) → one no_shared shared_of ts ≡ rows_told l id slot h (shared_after l.depth h (one no_shared shared_of ss)) → one no_guest guest_held hs ≡ guest_after l.depth h (one no_guest guest_held gs) → cpu_of j ≡ cpu_by h.cpu (cpu_of k)
-      → CarriesOut l id slot step true h before (Done h.value) after
-  carried enough a b c d = inl (record {
-    enough = enough_is enough;
-    reply_is = refl;
-    next = all_made l h id slot (one no_vms vm_slots vs) (one no_vms vm_slots ws) (one no_shared shared_of ss) (one no_shared shared_of ts) (one no_guest guest_held gs) (one no_guest guest_held hs) (cpu_of k) (cpu_of j) a b c d;
+  pub carries : (r : Result (Unit {0}) PoolFault) (reply : Reply) → GrowsOnly step h → Comes l id slot h x r y → Ends r h (cpu_of x.cpu) reply (cpu_of y.cpu) → CarriesOut l id slot step true h (used_in x) reply (used_in y)
+  carries (Ok u) reply grows c e = inl (record {
+    enough = enough (λ few. never (c.no_pool.1 few));
+    reply_is = e.0;
+    next = all_made l h id slot (used_in x).vms (used_in y).vms (used_in x).shared (used_in y).shared (used_in x).guest (used_in y).guest (cpu_of x.cpu) (cpu_of y.cpu) c.vms c.shared c.guest e.1;
   })
-
-  pub short : few ≡ true → one no_vms vm_slots ws ≡ one no_vms vm_slots vs → one no_shared shared_of ts ≡ one no_shared shared_of ss → one no_guest guest_held hs ≡ one no_guest guest_held gs → cpu_of j ≡ cpu_of k → CarriesOut l id slot step true h before (Refused NoPoolReply) after
-  short is a b c d = inr (inl (record {
-    short = short_is ∙ is;
-    reply_is = refl;
-    next = same_after_all a b c d;
+  carries (Err NoPool) reply grows c e = inr (inl (record {
+    short = short_is ∙ c.no_pool.0 refl;
+    reply_is = e.0;
+    next = same_used _ _ _ _ _ _ _ _ c.err_vms c.err_shared c.err_guest e.1;
   }))
-
-  pub halted : (few ≡ true → ⊥) → may_grow step ≡ true → one no_vms vm_slots ws ≡ one no_vms vm_slots vs → one no_shared shared_of ts ≡ one no_shared shared_of ss → one no_guest guest_held hs ≡ one no_guest guest_held gs → cpu_of j ≡ cpu_of k → CarriesOut l id slot step true h before (Refused NoMemory) after
-  halted enough grows a b c d = inr (inr (record {
-    enough = enough_is enough;
-    grows = grows;
+  carries (Err NoMemoryFault) reply grows c e = inr (inr (record {
+    enough = enough (λ few. other (c.no_pool.1 few));
+    grows = grows_by h step x grows (c.no_memory refl);
     wanted = refl;
-    reply_is = refl;
-    next = same_after_all a b c d;
+    reply_is = e.0;
+    next = same_used _ _ _ _ _ _ _ _ c.err_vms c.err_shared c.err_guest e.1;
   }))
+
+-- by what was handed on
+pub ok_at : {E P X : Type 0} (r : Result (Unit {0}) E) (f : P → X) (v : X) {a b : P} → a ≡ b → OnOk r (f b ≡ v) → OnOk r (f a ≡ v)
+ok_at (Ok u) f v e h = ap f e ∙ h
+ok_at (Err x) f v e h = tt
+
+pub err_at : {E P X : Type 0} (r : Result (Unit {0}) E) (f : P → X) (v : X) {a b : P} → a ≡ b → OnErr r (f b ≡ v) → OnErr r (f a ≡ v)
+err_at (Ok u) f v e h = tt
+err_at (Err x) f v e h = ap f e ∙ h
+
+pub ends_at : (r : Result (Unit {0}) PoolFault) (h : Changes) (k : Cpu) {a b : Reply} {i j : CpuState} → a ≡ b → i ≡ j → Ends r h k b (cpu_of j) → Ends r h k a (cpu_of i)
+ends_at r h k {a} {b} {i} {j} e f ends = subst (λ (x : CpuState). Ends r h k a (cpu_of x)) (sym f) (subst (λ (x : Reply). Ends r h k x (cpu_of j)) (sym e) ends)
+
+-- memory was wanted where that is told
+pub told_memory : (r : Result (Unit {0}) PoolFault) (h : Changes) (k j : Cpu) (reply : Reply) → Ends r h k reply j → reply ≡ Refused NoMemory → r ≡ Err NoMemoryFault
+told_memory (Ok u) h k j reply e told = absurd (let clash = sym e.0 ∙ told in cc)
+told_memory (Err NoPool) h k j reply e told = absurd (let clash = sym e.0 ∙ told in cc)
+told_memory (Err NoMemoryFault) h k j reply e told = refl
+
+slots_stay : (h : Changes) → h.slot ≡ KeepSlots → no_vms ≡ vms_by h.slot no_vms
+slots_stay h e = sym (ap (λ c. vms_by c no_vms) e)
+
+never_iff : {m n : ℕ} → nat_lt m n ≡ false → (◌≡◌ {A = Result (Unit {0}) PoolFault} (Ok tt) (Err NoPool)) ↔ (m < n)
+never_iff {m} {n} e = (λ o. absurd (never o), λ less. let yes = lt-ltb m n less in absurd (let clash = sym yes ∙ e in cc))
+
+module _ {A : Type 0} (l : Layout) (id : ℕ) (slot : Option ℕ) (h : Changes) where
+  -- of the Shared part alone
+  pub comes_shared : (s t : SharedPart A) (k j : CpuState) (r : Result (Unit {0}) PoolFault) → h.slot ≡ KeepSlots → LeavesGuest h
+      → OnOk r (shared_of t ≡ rows_told l id slot h (shared_after l.depth h (shared_of s))) → OnErr r (shared_of t ≡ shared_of s) → (r ≡ Err NoPool) ↔ (length (shared_of s).free < shared_need l.depth h (shared_of s)) → (r ≡ Err NoMemoryFault → IsRoomy h s → ⊥) → Comes l id slot h (lent_shared s k) r (lent_shared t j)
+  comes_shared s t k j r vms guest made err short memory = record {
+    vms = always_ok r (slots_stay h vms);
+    shared = made;
+    guest = always_ok r (sym (guest_same l.depth h no_guest guest));
+    err_vms = always_err r refl;
+    err_shared = err;
+    err_guest = always_err r refl;
+    no_pool = shared_short_iff _ _ _ (guest_short l.depth h guest) short;
+    no_memory = λ e roomy ready. memory e roomy;
+  }
+
+  -- of a guest alone
+  pub comes_guest : (g p : GuestPart A) (k j : CpuState) (r : Result (Unit {0}) PoolFault) → h.slot ≡ KeepSlots → LeavesShared h
+      → OnOk r (guest_held p ≡ guest_after l.depth h (guest_held g)) → OnErr r (guest_held p ≡ guest_held g) → (r ≡ Err NoPool) ↔ (length (guest_held g).free < guest_need l.depth h (guest_held g)) → (r ≡ Err NoMemoryFault → WantsNoMemory h g.guest → ⊥) → Comes l id slot h (lent_guest g k) r (lent_guest p j)
+  comes_guest g p k j r vms shared made err short memory = record {
+    vms = always_ok r (slots_stay h vms);
+    shared = always_ok r (none_made l h shared id slot);
+    guest = made;
+    err_vms = always_err r refl;
+    err_shared = always_err r refl;
+    err_guest = err;
+    no_pool = guest_short_iff _ _ _ (none_short l h shared) short;
+    no_memory = λ e roomy ready. memory e ready;
+  }
+
+  -- of both
+  pub comes_both : (s t : SharedPart A) (g p : GuestPart A) (k j : CpuState) (r : Result (Unit {0}) PoolFault) → h.slot ≡ KeepSlots
+      → OnOk r (shared_of t ≡ rows_told l id slot h (shared_after l.depth h (shared_of s))) → OnErr r (shared_of t ≡ shared_of s) → OnOk r (guest_held p ≡ guest_after l.depth h (guest_held g)) → OnErr r (guest_held p ≡ guest_held g)
+      → (r ≡ Err NoPool) ↔ (is_either_short l.depth h (shared_of s) (guest_held g) ≡ true) → (r ≡ Err NoMemoryFault → IsRoomy h s → WantsNoMemory h g.guest → ⊥) → Comes l id slot h (lent_both s g k) r (lent_both t p j)
+  comes_both s t g p k j r vms made err made_guest err_guest short memory = record {
+    vms = always_ok r (slots_stay h vms);
+    shared = made;
+    guest = made_guest;
+    err_vms = always_err r refl;
+    err_shared = err;
+    err_guest = err_guest;
+    no_pool = short;
+    no_memory = memory;
+  }
+
+  -- of the VM part, which always can be
+  pub comes_vms : (v w : VmPart) (k j : CpuState) → LeavesShared h → LeavesGuest h → vm_slots w ≡ vms_by h.slot (vm_slots v) → Comes {A = A} l id slot h (lent_vms v k) (Ok tt) (lent_vms w j)
+  comes_vms v w k j shared guest made = record {
+    vms = made;
+    shared = none_made l h shared id slot;
+    guest = sym (guest_same l.depth h no_guest guest);
+    err_vms = tt;
+    err_shared = tt;
+    err_guest = tt;
+    no_pool = shared_short_iff _ _ _ (guest_short l.depth h guest) (never_iff (none_short l h shared));
+    no_memory = λ e roomy ready. never e;
+  }
+
+-- what a step changes is of parts that it uses
+pub leaves_shared : (n : Names) (slot : Option ℕ) (h : Changes) → OnlyUses n slot h → uses_shared n slot ≡ false → LeavesShared h
+leaves_shared n slot h only e = record { host = only.host e; hyp = only.hyp e; moved = only.moved e }
+
+pub leaves_guest : (n : Names) (slot : Option ℕ) (h : Changes) → OnlyUses n slot h → slot ≡ None → LeavesGuest h
+leaves_guest n slot h only e = record { guest = only.guest e; part = only.part e }

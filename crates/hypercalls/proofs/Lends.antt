@@ -1,119 +1,131 @@
--- What the parts lend to a step, and what comes back to them.
-use Rattle.std.proofs.Common.{arith, ◌≡◌, ℕ, zero, suc, ◌-◌, ◌<◌, All, Bool, true, false, List, [], ◌∷◌, length, take, slice_get, slice_range, Option, Some, None, sym, subst, if◌then◌else◌}
-use Rattle.std.proofs.lemmas.List.Elements.{All-set}
+-- What the parts lend to a step by its kind of use, and the parts after it.
+use Rattle.std.proofs.Common.{arith, ◌≡◌, ◌∙◌, ℕ, zero, suc, ◌<◌, All, Bool, get_or, refl, List, [], ◌∷◌, length, slice_get, slice_set, unwrap_or, Option, Some, sym, ap, subst}
+use Rattle.std.proofs.Math.Logic.{∥∥₁_map}
+use Rattle.std.proofs.lemmas.Option.{slice_get_read}
 use Rattle.page_state.specs.Geometries.{levels_below}
-use Rattle.reference_model.specs.Parts.{names, guest_slot, uses_vms, uses_shared}
+use Rattle.page_state.specs.Layouts.{Layout}
+use Rattle.reference_model.specs.Parts.{names, guest_slot, uses_shared}
+use Rattle.reference_model.specs.Rely.{IsReached}
+use Rattle.step_reply.specs.declared.reply.Call.{Call}
+use Rattle.step_reply.specs.declared.reply.Reply.{Reply}
 use Rattle.step_reply.specs.declared.step.Step.{Step}
 use Rattle.guest_steps.specs.declared.parts.VmPart.{VmPart}
-use Rattle.guest_steps.specs.declared.parts.SharedPart.{SharedPart}
 use Rattle.guest_steps.specs.declared.parts.GuestPart.{GuestPart}
 use Rattle.guest_steps.specs.declared.parts.CpuState.{CpuState}
-use Rattle.guest_steps.specs.Lent.{Lent, IsLent, Suits, GuestSuits, SharedSuits, Each, lent}
+use Rattle.guest_steps.specs.Lent.{Lent, GuestSuits, lent_alone, lent_vms, used_in}
 use Rattle.guest_steps.specs.Logs.{IsOfSize}
-use Rattle.guest_steps.specs.MemoryRows.{HasMemoryRows}
 use Rattle.guest_steps.specs.View.{cpu_of}
 use Rattle.hypercalls.specs.declared.parts.Parts.{Parts}
-use Rattle.hypercalls.specs.Stands.{one_where, from_of, to_of, parts_layout}
-use Rattle.hypercalls.proofs.Ranges.{when, Inside, inside_of, range_at, one_range, put_list, lent_one, is_one, is_range, cut, place}
-use Rattle.hypercalls.proofs.Whole.{x as lent_of}
+use Rattle.hypercalls.specs.Stands.{parts_layout, HasHistory}
+use Rattle.hypercalls.specs.Steps.{IsStepOn, reply_in}
+use Rattle.hypercalls.specs.Whole.{IsStep}
+use Rattle.hypercalls.proofs.Numbered.{IsStepAt, at_number}
+use Rattle.hypercalls.proofs.Places.{when, Inside, inside_of, get_at, put_list}
+use Rattle.hypercalls.proofs.Using.{IsKind}
+use Rattle.hypercalls.proofs.Whole.{x as lent_of, reached, is_step, history, slot_below}
 
-same_lent : {A : Type 0} (v v' : List VmPart) (s s' : List (SharedPart A)) (g g' : List (GuestPart A)) (k : CpuState) → v ≡ v' → s ≡ s' → g ≡ g' → lent v s g k ≡ lent v' s' g' k
-same_lent v v' s s' g g' k a b c = cc
-
--- by place, and by element
-pub all_each : {P : Type 0} (Is : P → Type 0) (xs : List P) → Each Is xs → All Is xs
-all_each Is [] h k d less = absurd (omega (arith, less))
-all_each Is (x ∷ xs) h zero d less = h.0
-all_each Is (x ∷ xs) h (suc k) d less = all_each Is xs h.1 k d (omega (arith, less))
-
-pub each_all : {P : Type 0} (Is : P → Type 0) (xs : List P) → All Is xs → Each Is xs
-each_all Is [] h = tt
-each_all Is (x ∷ xs) h = (h 0 x (omega arith), each_all Is xs (λ k d less. h (suc k) d (omega (arith, less))))
-
-pub all_one : {P : Type 0} (Is : P → Type 0) (used : Bool) (xs ys : List P) → All Is xs → Each Is ys → All Is (if used then ys else xs)
-all_one Is true xs ys h e = all_each Is ys e
-all_one Is false xs ys h e = h
-
-pub all_put : {P : Type 0} (Is : P → Type 0) (xs : List P) (slot : Option ℕ) (ys : List P) → All Is xs → Each Is ys → All Is (put_list xs slot ys)
-all_put Is xs None ys h e = h
-all_put Is xs (Some v) [] h e = h
-all_put Is xs (Some v) (y ∷ ys) h e = All-set Is xs v y e.0 h
-
-each_when : {P : Type 0} (Is : P → Type 0) (used : Bool) (xs : List P) → Each Is xs → Each Is (when used xs)
-each_when Is true xs h = h
-each_when Is false xs h = tt
-
-get_all : {P : Type 0} (Is : P → Type 0) (xs : List P) (v : ℕ) (p : P) → Each Is xs → slice_get xs v ≡ Some p → Is p
-get_all Is [] v p h e = cc
-get_all Is (x ∷ xs) zero p h e = subst Is (let s : x ≡ p = cc in s) h.0
-get_all Is (x ∷ xs) (suc v) p h e = get_all Is xs v p h.1 e
-
-each_range : {P : Type 0} (Is : P → Type 0) (xs : List P) (slot : Option ℕ) → Inside slot (length xs) → Each Is xs → Each Is (range_at xs slot)
-each_range Is xs None h e = tt
-each_range Is xs (Some v) h e = subst (Each Is) (sym (one_range xs v h)) (get_all Is xs v (place xs v h).0 e (place xs v h).2, tt)
+-- what holds of all holds of what stands at a place
+pub all_get : {P : Type 0} (Is : P → Type 0) (xs : List P) (v : ℕ) (p : P) → All Is xs → slice_get xs v ≡ Some p → Is p
+all_get Is [] v p h e = cc
+all_get Is (x ∷ xs) zero p h e = subst Is (let s : x ≡ p = cc in s) (h 0 x (omega arith))
+all_get Is (x ∷ xs) (suc v) p h e = all_get Is xs v p (λ k d less. h (suc k) d (omega (arith, less))) e
 
 module _ {A : Type 0} (p : Parts A) where
-  suits_by : (ss : List (SharedPart A)) → Each (λ s. levels_below s.host.tree.geometry ≡ levels_below p.layout.geometry) ss → Each (λ s. HasMemoryRows p.layout.map s.rows) ss → Each (λ s. IsOfSize p.layout.config.log s.log) ss → Each (SharedSuits (parts_layout p)) ss
-  suits_by [] d r h = tt
-  suits_by (s ∷ ss) d r h = (record { depth = d.0; rows = r.0; log = h.0 }, suits_by ss d.1 r.1 h.1)
+  -- a CPU's own state, and a guest
+  pub own_at : (cpu : ℕ) (k : CpuState) → cpu < p.layout.config.cpus → k ≡ get_or p.cpus.items cpu k → slice_get p.cpus.items cpu ≡ Some k
+  own_at cpu k known e = let within : cpu < length p.cpus.items = omega (arith, p.counted, p.cpus.ok.0, known) in slice_get_read p.cpus.items (length p.cpus.items) cpu k refl within e
 
-  pub shared_suits : Each (SharedSuits (parts_layout p)) p.shared.items
-  shared_suits = suits_by p.shared.items (each_all _ p.shared.items p.depth) (each_all _ p.shared.items p.rows) (each_all _ p.shared.items p.shared_log)
+  -- its number is that of its place
+  pub known_here : (cpu : ℕ) (k : CpuState) → slice_get p.cpus.items cpu ≡ Some k → cpu < p.layout.config.cpus → k.id < p.layout.config.cpus
+  known_here cpu k at known = subst (λ n. n < p.layout.config.cpus) (sym (p.numbers cpu k at)) known
 
-  pub depths : (ss : List (SharedPart A)) → Each (SharedSuits (parts_layout p)) ss → Each (λ s. levels_below s.host.tree.geometry ≡ levels_below p.layout.geometry) ss
-  depths [] h = tt
-  depths (s ∷ ss) h = (h.0.depth, depths ss h.1)
+  pub guest_at : (v : ℕ) (g : GuestPart A) → v < length p.guests.items → g ≡ get_or p.guests.items v g → slice_get p.guests.items v ≡ Some g
+  guest_at v g within e = slice_get_read p.guests.items (length p.guests.items) v g refl within e
 
-  pub all_rows : (ss : List (SharedPart A)) → Each (SharedSuits (parts_layout p)) ss → Each (λ s. HasMemoryRows p.layout.map s.rows) ss
-  all_rows [] h = tt
-  all_rows (s ∷ ss) h = (h.0.rows, all_rows ss h.1)
+  pub guest_suits : (v : ℕ) (g : GuestPart A) → slice_get p.guests.items v ≡ Some g → GuestSuits (parts_layout p) g
+  guest_suits v g at = record {
+    depth = all_get (λ (w : GuestPart A). levels_below w.guest.geometry ≡ levels_below p.layout.geometry) p.guests.items v g p.guest_depth at;
+    log = all_get (λ (w : GuestPart A). IsOfSize p.layout.config.log w.log) p.guests.items v g p.guest_logs at;
+  }
 
-  pub shared_logs : (ss : List (SharedPart A)) → Each (SharedSuits (parts_layout p)) ss → Each (λ s. IsOfSize p.layout.config.log s.log) ss
-  shared_logs [] h = tt
-  shared_logs (s ∷ ss) h = (h.0.log, shared_logs ss h.1)
+-- a step without tables is one in any memory
+pub alone_anywhere : {A : Type 0} (l : Layout) (step : Step) (k j : CpuState) (call : Option Call) → IsStepOn {A = Unit {0}} l step (lent_alone k) call (lent_alone j) → IsStepOn {A = A} l step (lent_alone k) call (lent_alone j)
+alone_anywhere l step k j call made = record {
+  on = made.on;
+  told = made.told;
+  logs = made.logs;
+  full = λ e. ap (λ (z : Lent (Unit {0})). lent_alone z.cpu) (made.full e);
+  stored = made.stored;
+  wants = made.wants;
+  id = made.id;
+}
 
-  guests_by : (gs : List (GuestPart A)) → Each (λ g. levels_below g.guest.geometry ≡ levels_below p.layout.geometry) gs → Each (λ g. IsOfSize p.layout.config.log g.log) gs → Each (GuestSuits (parts_layout p)) gs
-  guests_by [] d h = tt
-  guests_by (g ∷ gs) d h = (record { depth = d.0; log = h.0 }, guests_by gs d.1 h.1)
+pub vms_anywhere : {A : Type 0} (l : Layout) (step : Step) (v w : VmPart) (k j : CpuState) (call : Option Call) → IsStepOn {A = Unit {0}} l step (lent_vms v k) call (lent_vms w j) → IsStepOn {A = A} l step (lent_vms v k) call (lent_vms w j)
+vms_anywhere l step v w k j call made = record {
+  on = made.on;
+  told = made.told;
+  logs = made.logs;
+  full = λ e. ap (λ (z : Lent (Unit {0})). lent_vms (unwrap_or z.vms v) z.cpu) (made.full e);
+  stored = made.stored;
+  wants = made.wants;
+  id = made.id;
+}
 
-  pub guest_suits : Each (GuestSuits (parts_layout p)) p.guests.items
-  guest_suits = guests_by p.guests.items (each_all _ p.guests.items p.guest_depth) (each_all _ p.guests.items p.guest_logs)
+module _ {A : Type 0} (p : Parts A) (cpu : ℕ) (step : Step) (k : CpuState) (at : slice_get p.cpus.items cpu ≡ Some k) (known : cpu < p.layout.config.cpus) (past : ∥ HasHistory p ∥₁) where
+  within : cpu < length p.cpus.items
+  within = omega (arith, p.counted, p.cpus.ok.0, known)
 
-  pub guest_depths : (gs : List (GuestPart A)) → Each (GuestSuits (parts_layout p)) gs → Each (λ g. levels_below g.guest.geometry ≡ levels_below p.layout.geometry) gs
-  guest_depths [] h = tt
-  guest_depths (g ∷ gs) h = (h.0.depth, guest_depths gs h.1)
+  low : (v : ℕ) → guest_slot (cpu_of k) step ≡ Some v → v < 64
+  low = slot_below p cpu step k at known past
 
-  pub guest_sizes : (gs : List (GuestPart A)) → Each (GuestSuits (parts_layout p)) gs → Each (λ g. IsOfSize p.layout.config.log g.log) gs
-  guest_sizes [] h = tt
-  guest_sizes (g ∷ gs) h = (h.0.log, guest_sizes gs h.1)
+  many : length p.guests.items ≡ 64
+  many = omega (arith, p.slots, p.guests.ok.0)
 
-  module _ (cpu : ℕ) (step : Step) (k : CpuState) (at : slice_get p.cpus.items cpu ≡ Some k) (within : cpu < length p.cpus.items)
-      (vms_one : length p.vms.items ≡ 1) (shared_one : length p.shared.items ≡ 1) (many : length p.guests.items ≡ 64) (low : (v : ℕ) → guest_slot (cpu_of k) step ≡ Some v → v < 64) where
-    abbrev pub slot : Option ℕ
-    slot = guest_slot (cpu_of k) step
+  inner : Inside (guest_slot (cpu_of k) step) (length p.guests.items)
+  inner = inside_of (guest_slot (cpu_of k) step) (length p.guests.items) (λ v e. subst (λ n. v < n) (sym many) (low v e))
 
-    pub inner : Inside slot (length p.guests.items)
-    inner = inside_of slot (length p.guests.items) (λ v e. subst (λ n. v < n) (sym many) (low v e))
+  abbrev x : Lent A
+  x = lent_of p cpu step k at within inner
 
-    abbrev pub x : Lent A
-    x = lent_of p cpu step k at within vms_one shared_one inner
+  module _ (v s : Bool) (o : Option ℕ) (kind : IsKind (cpu_of k) step v s o) where
+    -- the slot is one of the list
+    pub slot_inside : (u : ℕ) → o ≡ Some u → u < length p.guests.items
+    slot_inside u e = subst (λ n. u < n) (sym many) (low u (kind.slot ∙ e))
 
-    pub fits : IsLent (names step) slot x
-    fits = record { vms = is_one (uses_vms (names step)) p.vms.items vms_one; shared = is_one (uses_shared (names step) slot) p.shared.items shared_one; guest = is_range p.guests.items slot inner }
+    abbrev pub lends : Lent A
+    lends = record { vms = when v p.vms; shared = when s p.shared; guest = get_at p.guests.items o; cpu = k }
 
-    pub suits : Suits (parts_layout p) x
-    suits = record {
-      vms = each_when _ (uses_vms (names step)) p.vms.items (each_all _ p.vms.items p.vm_log);
-      shared = each_when _ (uses_shared (names step) slot) p.shared.items shared_suits;
-      guest = each_range _ p.guests.items slot inner guest_suits;
-      cpu = get_all (λ (j : CpuState). IsOfSize p.layout.config.log j.log) p.cpus.items cpu k (each_all _ p.cpus.items p.own_logs) at;
-    }
+    lent_is : x ≡ lends
+    lent_is = let a = kind.vms in let e = kind.slot in let b = ap (uses_shared (names step)) e ∙ kind.shared in cc
 
-    -- the same, by the ranges that code lends
-    pub lent_is : (vs : List VmPart) (ss : List (SharedPart A)) (gs : List (GuestPart A)) (nv ns a b : ℕ) → vs ≡ p.vms.items → ss ≡ p.shared.items → gs ≡ slice_range p.guests.items a b → nv ≡ one_where (uses_vms (names step)) → ns ≡ one_where (uses_shared (names step) slot) → a ≡ from_of slot → b ≡ to_of slot
-        → x ≡ lent (take (nv - 0) vs) (take (ns - 0) ss) gs k
-    lent_is vs ss gs nv ns a b ev es eg cv cs ea eb =
-        let v = lent_one (uses_vms (names step)) p.vms.items vs nv vms_one ev cv in
-        let s = lent_one (uses_shared (names step) slot) p.shared.items ss ns shared_one es cs in
-        let g = cut p.guests.items gs slot a b eg ea eb in
-        same_lent (when (uses_vms (names step)) p.vms.items) (take (nv - 0) vs) (when (uses_shared (names step) slot) p.shared.items) (take (ns - 0) ss) (range_at p.guests.items slot) gs k (sym v) (sym s) (sym g)
+    module _ (y : Lent A) (is : lends ≡ y) where
+      -- what is lent stands where the parts do
+      pub stands : ∥ IsReached (parts_layout p) (names step) o k.id (used_in y) ∥₁
+      stands = subst (λ (i : ℕ). ∥ IsReached (parts_layout p) (names step) o i (used_in y) ∥₁) (sym (p.numbers cpu k at)) (∥∥₁_map past (λ h. subst (λ (z : Lent A). IsReached (parts_layout p) (names step) o cpu (used_in z)) (lent_is ∙ is)
+          (subst (λ (i : Option ℕ). IsReached (parts_layout p) (names step) i cpu (used_in x)) kind.slot (reached p cpu step k at within inner h known low))))
+
+      module _ (call : Option Call) (z : Lent A) (made : IsStepOn (parts_layout p) step y call z) (q : Parts A) (layout : q.layout ≡ p.layout) (vms : q.vms ≡ unwrap_or z.vms p.vms) (shared : q.shared ≡ unwrap_or z.shared p.shared)
+          (guests : q.guests.items ≡ put_list p.guests.items o z.guest) (cpus : q.cpus.items ≡ slice_set p.cpus.items cpu z.cpu) where
+        made_here : IsStepAt (parts_layout p) cpu step x call z
+        made_here = at_number (parts_layout p) cpu step x call z (p.numbers cpu k at) (subst (λ (w : Lent A). IsStepOn (parts_layout p) step w call z) (sym (lent_is ∙ is)) made)
+
+        put_here : q.guests.items ≡ put_list p.guests.items (guest_slot (cpu_of k) step) z.guest
+        put_here = guests ∙ sym (ap (λ i. put_list p.guests.items i z.guest) kind.slot)
+
+        sized : (u : ℕ) (g : GuestPart A) → slice_get p.guests.items u ≡ Some g → IsOfSize p.layout.config.log g.log
+        sized u g e = all_get (λ (w : GuestPart A). IsOfSize p.layout.config.log w.log) p.guests.items u g p.guest_logs e
+
+        own_sized : IsOfSize p.layout.config.log k.log
+        own_sized = all_get (λ (w : CpuState). IsOfSize p.layout.config.log w.log) p.cpus.items cpu k p.own_logs at
+
+        pub steps : IsStep p cpu step (reply_in call) q × ∥ HasHistory q ∥₁
+        steps = (
+          is_step p cpu step k at within inner own_sized p.vm_log p.shared_log sized call z made_here q layout vms shared put_here cpus,
+          ∥∥₁_map past (λ h. history p cpu step k at within inner own_sized p.vm_log p.shared_log sized call z made_here q layout vms shared put_here cpus h known),
+        )
+
+-- so it is of what was handed on
+pub handed : {A : Type 0} (p : Parts A) (cpu : ℕ) (step : Step) {q r : Parts A} {reply : Reply} {made call : Option Call} → q ≡ r → reply ≡ reply_in made → made ≡ call → IsStep p cpu step (reply_in call) r × ∥ HasHistory r ∥₁ → IsStep p cpu step reply q × ∥ HasHistory q ∥₁
+handed p cpu step {q} {r} {reply} {made} {call} e f d h =
+    let told : reply ≡ reply_in call = f ∙ ap reply_in d in
+    (subst (λ (w : Parts _). IsStep p cpu step reply w) (sym e) (subst (λ (a : Reply). IsStep p cpu step a r) (sym told) h.0), subst (λ (w : Parts _). ∥ HasHistory w ∥₁) (sym e) h.1)

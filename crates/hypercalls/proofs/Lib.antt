@@ -1,8 +1,9 @@
 pub mod AtBoot
 pub mod Carried
 pub mod Lends
-pub mod Loans
-pub mod Ranges
+pub mod Numbered
+pub mod Using
+pub mod Places
 pub mod Stepping
 pub mod Wants
 pub mod Whole

@@ -27,7 +27,6 @@ use Rattle.guest_component.specs.Changing.{MakesNone}
 use Rattle.guest_component.specs.Plans.{HasReadyMap}
 use Rattle.guest_component.specs.View.{guest_depth}
 use Rattle.guest_steps.specs.declared.parts.SharedPart.{SharedPart}
-use Rattle.guest_steps.specs.Lent.{Each}
 use Rattle.hypercalls.specs.Carried.{IsRoomy}
 use Rattle.hypercalls.specs.declared.parts.Parts.{Parts}
 use Rattle.hypercalls.specs.Stands.{parts_layout, state_of}
@@ -119,17 +118,13 @@ has_room None k h = tt
 has_room (Some c) k h = h
 
 module _ {A : Type 0} (h : Changes) (small : IsOfPages h) where
-  roomy : (ss : List (SharedPart A)) → Each (λ s. IsStocked (levels_below s.host.tree.geometry) s.host × IsStocked (levels_below s.hyp.tree.geometry) s.hyp) ss → Each (IsRoomy h) ss
-  roomy [] all = tt
-  roomy (s ∷ ss) all = (
-    record {
-      host = has_room h.host s.host all.0.0.room;
-      hyp = has_room h.hyp s.hyp all.0.1.room;
-      host_spares = let n : need_for s.host.tree h.host ≤ levels_below s.host.tree.geometry = need_most (levels_below s.host.tree.geometry) _ h.host small.host in let m = all.0.0.spares in omega arith;
-      hyp_spares = let n : need_for s.hyp.tree h.hyp ≤ levels_below s.hyp.tree.geometry = need_most (levels_below s.hyp.tree.geometry) _ h.hyp small.hyp in let m = all.0.1.spares in omega arith;
-    },
-    roomy ss all.1,
-  )
+  roomy : (s : SharedPart A) → IsStocked (levels_below s.host.tree.geometry) s.host × IsStocked (levels_below s.hyp.tree.geometry) s.hyp → IsRoomy h s
+  roomy s stocked = record {
+    host = has_room h.host s.host stocked.0.room;
+    hyp = has_room h.hyp s.hyp stocked.1.room;
+    host_spares = let n : need_for s.host.tree h.host ≤ levels_below s.host.tree.geometry = need_most (levels_below s.host.tree.geometry) _ h.host small.host in let m = stocked.0.spares in omega arith;
+    hyp_spares = let n : need_for s.hyp.tree h.hyp ≤ levels_below s.hyp.tree.geometry = need_most (levels_below s.hyp.tree.geometry) _ h.hyp small.hyp in let m = stocked.1.spares in omega arith;
+  }
 
   ready : (depth : ℕ) (t : Tree) (o : Option (Body A)) → IsGuestStocked depth o → HasReadyMap (need depth t (edit_of h.guest)) h.guest o
   ready depth t None s = tt
@@ -144,7 +139,7 @@ stocked_wants {A} p q cpu step reply is page stocked wanted = elim is.steps.on.a
   | inr answer ↦ elim answer.answered [
     | inl made ↦ let e = made.reply_is in cc
     | inr (inl refused) ↦ fails_else l cpu slot step x (refused.fail ∙ ap Some (same refused.why (sym refused.reply_is ∙ wanted)))
-    | inr (inr wants) ↦ is.wants wanted h (decides_ok l cpu slot step x wants.passes) (roomy h small p.shared.items stocked.shared) (roomy_guest h small p cpu step stocked)
+    | inr (inr wants) ↦ is.wants wanted h (decides_ok l cpu slot step x wants.passes) (roomy h small p.shared stocked.shared) (roomy_guest h small p cpu step stocked)
   ]
 ]
   where

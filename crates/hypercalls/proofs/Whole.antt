@@ -1,5 +1,5 @@
 -- From the step on lent parts to the step on all.
-use Rattle.std.proofs.Common.{arith, ◌≡◌, ◌∙◌, ℕ, ◌+◌, ◌-◌, ◌<◌, ◌==◌, ◌++◌, Bool, true, false, List, [], ◌∷◌, length, map, slice_get, slice_set, Option, Some, None, refl, sym, ap, subst, ◌⊎◌, inl, inr, if◌then◌else◌}
+use Rattle.std.proofs.Common.{arith, ◌≡◌, ◌∙◌, ℕ, ◌+◌, ◌-◌, ◌<◌, ◌==◌, ◌++◌, option_map, unwrap_or, Bool, true, false, List, [], ◌∷◌, length, slice_get, slice_set, IfSome, Option, Some, None, refl, sym, ap, subst, ◌⊎◌, inl, inr, if◌then◌else◌}
 use Rattle.std.proofs.lemmas.Bool.Decides.{nat_tests}
 use Rattle.page_state.proofs.Cases.{by_test}
 use Rattle.step_reply.specs.declared.reply.Call.{Call}
@@ -31,40 +31,38 @@ use Rattle.guest_steps.specs.declared.parts.SharedPart.{SharedPart}
 use Rattle.guest_steps.specs.declared.parts.GuestPart.{GuestPart}
 use Rattle.guest_steps.specs.declared.parts.CpuState.{CpuState}
 use Rattle.guest_component.specs.Plans.{WantsNoMemory}
-use Rattle.reference_model.specs.declared.changes.Changes.{Changes}
-use Rattle.guest_steps.specs.Lent.{Lent, LentLogs, IsLent, Suits, GuestSuits, Each, lent, used_in, logs_in, rooms_in, one, call_in, all_with, with_call}
+use Rattle.guest_steps.specs.Lent.{Lent, LentLogs, used_in, logs_in, rooms_in, all_with, with_call}
 use Rattle.guest_steps.specs.Logs.{StoredCalls, IsOfSize}
 use Rattle.guest_steps.specs.View.{vm_slots, shared_of, guest_held, cpu_of}
 use Rattle.hypercalls.specs.Carried.{IsRoomy}
 use Rattle.hypercalls.specs.declared.parts.Parts.{Parts}
 use Rattle.hypercalls.specs.Stands.{at_place, parts_layout, kept_of, state_of, HasHistory}
-use Rattle.hypercalls.specs.Steps.{IsStepOn, any_full}
+use Rattle.hypercalls.specs.Steps.{any_full, reply_in}
 use Rattle.hypercalls.specs.Whole.{slot_here, call_of, is_log_full, IsStep}
-use Rattle.hypercalls.proofs.Ranges.{when, Inside, range_at, one_range, put_list, put_same, set_same, all_of, each_of, stores_one, stores_at, place}
-use Rattle.hypercalls.proofs.Stepping.{full_is, rooms_stored}
+use Rattle.hypercalls.proofs.Numbered.{IsStepAt, call_at}
+use Rattle.hypercalls.proofs.Places.{when, is_when, Inside, get_at, is_at, put_list, put_same, set_same, each_of, stores_one, stores_at, place}
+use Rattle.hypercalls.proofs.Stepping.{Fits, full_is, rooms_stored}
 
-one_when : {P X : Type 0} (blank : X) (f : P → X) (used : Bool) (xs : List P) → one blank f (when used xs) ≡ (if used then one blank f xs else blank)
-one_when blank f true xs = refl
-one_when blank f false xs = refl
+use_when : {P X : Type 0} (blank : X) (f : P → X) (used : Bool) (p : P) → unwrap_or (option_map f (when used p)) blank ≡ (if used then f p else blank)
+use_when blank f true p = refl
+use_when blank f false p = refl
 
--- what a range of none or one stands for
-range_is : {P : Type 0} (f : P → Guest) (xs : List P) (slot : Option ℕ) → Inside slot (length xs) → one no_guest f (range_at xs slot) ≡ guest_at (λ v. at_place no_guest f (slice_get xs v)) slot
-range_is f xs None h = refl
-range_is f xs (Some v) h = ap (one no_guest f) (one_range xs v h) ∙ sym (ap (at_place no_guest f) (place xs v h).2)
+-- what a slot of none or one stands for
+at_is : {P : Type 0} (f : P → Guest) (xs : List P) (slot : Option ℕ) → Inside slot (length xs) → unwrap_or (option_map f (get_at xs slot)) no_guest ≡ guest_at (λ v. at_place no_guest f (slice_get xs v)) slot
+at_is f xs None h = refl
+at_is f xs (Some v) h = let r = place xs v h in ap (λ o. unwrap_or (option_map f o) no_guest) r.1 ∙ sym (ap (at_place no_guest f) r.1)
 
-room_when : {P : Type 0} (log : P → StoredCalls) (limit : ℕ) (used : Bool) (xs : List P) → length xs ≡ 1 → Each (λ p. IsOfSize limit (log p)) xs → one 0 (λ g. g.room) (map log (when used xs)) ≡ (if used then limit - length (one [] (λ p. (log p).calls) xs) else 0)
-room_when log limit true [] n h = absurd (omega (arith, n))
-room_when log limit true (x ∷ xs) n h = let e : length (log x).calls + (log x).room ≡ limit = h.0 in omega (arith, e)
-room_when log limit false xs n h = refl
+room_when : {P : Type 0} (log : P → StoredCalls) (limit : ℕ) (used : Bool) (p : P) → IsOfSize limit (log p) → unwrap_or (option_map (λ g. g.room) (option_map log (when used p))) 0 ≡ (if used then limit - length (log p).calls else 0)
+room_when log limit true p e = let e : length (log p).calls + (log p).room ≡ limit = e in omega (arith, e)
+room_when log limit false p e = refl
 
-room_range : {P : Type 0} (log : P → StoredCalls) (limit : ℕ) (xs : List P) (slot : Option ℕ) → Inside slot (length xs) → Each (λ p. IsOfSize limit (log p)) (range_at xs slot) → one 0 (λ g. g.room) (map log (range_at xs slot)) ≡ room_at (λ v. limit - length (at_place [] (λ p. (log p).calls) (slice_get xs v))) slot
+room_range : {P : Type 0} (log : P → StoredCalls) (limit : ℕ) (xs : List P) (slot : Option ℕ) → Inside slot (length xs) → ((v : ℕ) (p : P) → slice_get xs v ≡ Some p → IsOfSize limit (log p)) → unwrap_or (option_map (λ g. g.room) (option_map log (get_at xs slot))) 0 ≡ room_at (λ v. limit - length (at_place [] (λ p. (log p).calls) (slice_get xs v))) slot
 room_range log limit xs None h e = refl
 room_range log limit xs (Some v) h e =
     let r = place xs v h in
-    let is = one_range xs v h in
-    let size : length (log r.0).calls + (log r.0).room ≡ limit = (subst (Each (λ p. IsOfSize limit (log p))) is e).0 in
+    let size : length (log r.0).calls + (log r.0).room ≡ limit = e v r.0 r.1 in
     let room : (log r.0).room ≡ limit - length (log r.0).calls = omega (arith, size) in
-    ap (λ l. one 0 (λ g. g.room) (map log l)) is ∙ room ∙ sym (ap (λ o. limit - length (at_place [] (λ p. (log p).calls) o)) r.2)
+    ap (λ o. unwrap_or (option_map (λ g. g.room) (option_map log o)) 0) r.1 ∙ room ∙ sym (ap (λ o. limit - length (at_place [] (λ p. (log p).calls) o)) r.1)
 
 same_used : (v v' : Vms) (s s' : Shared) (g g' : Guest) (k k' : Cpu) → v ≡ v' → s ≡ s' → g ≡ g' → k ≡ k' → ◌≡◌ {A = Used} (record { vms = v; shared = s; guest = g; cpu = k }) (record { vms = v'; shared = s'; guest = g'; cpu = k' })
 same_used v v' s s' g g' k k' a b c d = cc
@@ -72,13 +70,9 @@ same_used v v' s s' g g' k k' a b c d = cc
 same_rooms : (v v' s s' g g' k k' : ℕ) → v ≡ v' → s ≡ s' → g ≡ g' → k ≡ k' → ◌≡◌ {A = UsedRooms} (record { vms = v; shared = s; guest = g; cpu = k }) (record { vms = v'; shared = s'; guest = g'; cpu = k' })
 same_rooms v v' s s' g g' k k' a b c d = cc
 
-when_same : {P : Type 0} (used : Bool) (xs : List P) → (if used then when used xs else xs) ≡ xs
-when_same true xs = refl
-when_same false xs = refl
-
-each_when : {P : Type 0} (Is : P → Type 0) (used : Bool) (xs : List P) → Each Is xs → Each Is (when used xs)
-each_when Is true xs h = h
-each_when Is false xs h = tt
+when_same : {P : Type 0} (used : Bool) (p : P) → unwrap_or (when used p) p ≡ p
+when_same true p = refl
+when_same false p = refl
 
 eq_flip : (i j : ℕ) → (i == j) ≡ (j == i)
 eq_flip i j = by_test (i == j) (λ e. let s : i ≡ j = grind (arith, nat_tests) in rw s refl) (λ e. by_test (j == i) (λ d. let s : j ≡ i = grind (arith, nat_tests) in rw s refl) (λ d. e ∙ sym d))
@@ -90,14 +84,14 @@ full_reply l c x o y q full on = go on.answers
     go (inl f) = f.reply
     go (inr a) = let clash = sym full ∙ a.room in cc
 
-guest_logs : {A : Type 0} (l : Layout) (gs : List (GuestPart A)) → Each (GuestSuits l) gs → Each (λ g. IsOfSize l.config.log g.log) gs
-guest_logs l [] h = tt
-guest_logs l (g ∷ gs) h = (h.0.log, guest_logs l gs h.1)
+-- what holds of a part holds of it where it is used
+some_when : {P : Type 0} (Is : P → Type 0) (used : Bool) (p : P) → Is p → IfSome (when used p) Is
+some_when Is true p h = h
+some_when Is false p h = tt
 
--- what holds of the guest of a slot holds of each of the range
-each_ready : {A : Type 0} (h : Changes) (gs : List (GuestPart A)) (slot : Option ℕ) → Inside slot (length gs) → ((v : ℕ) (g : GuestPart A) → slot ≡ Some v → slice_get gs v ≡ Some g → WantsNoMemory h g.guest) → Each (λ g. WantsNoMemory h g.guest) (range_at gs slot)
-each_ready h gs None inside ready = tt
-each_ready h gs (Some v) inside ready = subst (Each (λ (g : GuestPart _). WantsNoMemory h g.guest)) (sym (one_range gs v inside)) (ready v (place gs v inside).0 refl (place gs v inside).2, tt)
+some_at : {P : Type 0} (Is : P → Type 0) (xs : List P) (slot : Option ℕ) → Inside slot (length xs) → ((v : ℕ) (p : P) → slot ≡ Some v → slice_get xs v ≡ Some p → Is p) → IfSome (get_at xs slot) Is
+some_at Is xs None inside h = tt
+some_at Is xs (Some v) inside h = let r = place xs v inside in subst (λ o. IfSome o Is) (sym r.1) (h v r.0 refl r.1)
 
 -- a guest that is put at a slot
 put_is : (guests : ℕ → Guest) (slot : Option ℕ) (g : Guest) (v : ℕ) → (if is_slot slot v then g else guests v) ≡ put_guest guests slot g v
@@ -105,7 +99,7 @@ put_is guests None g v = refl
 put_is guests (Some u) g v = refl
 
 module _ {A : Type 0} (p : Parts A) (cpu : ℕ) (step : Step) (k : CpuState) (at : slice_get p.cpus.items cpu ≡ Some k) (within : cpu < length p.cpus.items)
-    (vms_one : length p.vms.items ≡ 1) (shared_one : length p.shared.items ≡ 1) (inner : Inside (guest_slot (cpu_of k) step) (length p.guests.items)) where
+    (inner : Inside (guest_slot (cpu_of k) step) (length p.guests.items)) where
   abbrev n : Names
   n = names step
 
@@ -117,17 +111,20 @@ module _ {A : Type 0} (p : Parts A) (cpu : ℕ) (step : Step) (k : CpuState) (at
 
   -- what is lent
   abbrev pub x : Lent A
-  x = lent (when (uses_vms n) p.vms.items) (when (uses_shared n slot) p.shared.items) (range_at p.guests.items slot) k
+  x = record { vms = when (uses_vms n) p.vms; shared = when (uses_shared n slot) p.shared; guest = get_at p.guests.items slot; cpu = k }
+
+  pub fits : Fits n slot x
+  fits = record { vms = is_when (uses_vms n) p.vms; shared = is_when (uses_shared n slot) p.shared; guest = is_at p.guests.items slot inner }
 
   slot_is : slot_here p cpu step ≡ slot
   slot_is = ap (λ o. guest_slot (at_place no_cpu cpu_of o) step) at
 
-  call_is : (reply : Reply) → call_of p cpu step reply ≡ call_in x cpu step reply
+  call_is : (reply : Reply) → call_of p cpu step reply ≡ call_at x cpu step reply
   call_is reply = ap (λ (o : Option CpuState). record { cpu = cpu; number = length (at_place [] (λ (j : CpuState). j.log.calls) o) + 1; step = step; reply = reply; slot = guest_slot (at_place no_cpu cpu_of o) step }) at
 
   used_is : used_in x ≡ used_of n slot cpu (state_of p).contents
   unfolding used_of
-  used_is = same_used _ _ _ _ _ _ _ _ (one_when no_vms vm_slots (uses_vms n) p.vms.items) (one_when no_shared shared_of (uses_shared n slot) p.shared.items) (range_is guest_held p.guests.items slot inner) (sym (ap (at_place no_cpu cpu_of) at))
+  used_is = same_used _ _ _ _ _ _ _ _ (use_when no_vms vm_slots (uses_vms n) p.vms) (use_when no_shared shared_of (uses_shared n slot) p.shared) (at_is guest_held p.guests.items slot inner) (sym (ap (at_place no_cpu cpu_of) at))
 
   -- what is lent stands where the parts do
   pub reached : HasHistory p → cpu < p.layout.config.cpus → ((v : ℕ) → slot ≡ Some v → v < 64) → IsReached l n slot cpu (used_in x)
@@ -150,28 +147,31 @@ module _ {A : Type 0} (p : Parts A) (cpu : ℕ) (step : Step) (k : CpuState) (at
       guest_same None less e = refl
       guest_same (Some v) less e = e v (less v refl)
 
-  module _ (suits : Suits l x) (vms_sized : Each (λ v. IsOfSize l.config.log v.log) p.vms.items) (shared_sized : Each (λ s. IsOfSize l.config.log s.log) p.shared.items) (fits : IsLent n slot x) where
+  module _ (own_sized : IsOfSize l.config.log k.log) (vms_sized : IsOfSize l.config.log p.vms.log) (shared_sized : IsOfSize l.config.log p.shared.log) (guests_sized : (v : ℕ) (g : GuestPart A) → slice_get p.guests.items v ≡ Some g → IsOfSize l.config.log g.log) where
     rooms_is : rooms_in (logs_in x) ≡ rooms_of n slot cpu (state_of p).rooms
     unfolding rooms_of
     rooms_is =
-        let own : k.log.room ≡ l.config.log - length k.log.calls = (let e = suits.cpu in omega (arith, e)) in
+        let own : k.log.room ≡ l.config.log - length k.log.calls = (let e : length k.log.calls + k.log.room ≡ l.config.log = own_sized in omega (arith, e)) in
         same_rooms _ _ _ _ _ _ _ _
-        (room_when (λ v. v.log) l.config.log (uses_vms n) p.vms.items vms_one vms_sized)
-        (room_when (λ s. s.log) l.config.log (uses_shared n slot) p.shared.items shared_one shared_sized)
-        (room_range (λ g. g.log) l.config.log p.guests.items slot inner (guest_logs l (range_at p.guests.items slot) suits.guest))
+        (room_when (λ v. v.log) l.config.log (uses_vms n) p.vms vms_sized)
+        (room_when (λ s. s.log) l.config.log (uses_shared n slot) p.shared shared_sized)
+        (room_range (λ g. g.log) l.config.log p.guests.items slot inner guests_sized)
         (own ∙ sym (ap (λ o. l.config.log - length (at_place [] (λ (j : CpuState). j.log.calls) o)) at))
 
     full_same : is_log_full p cpu step ≡ any_full (logs_in x)
     full_same = ap (λ o. has_full_log n o (rooms_of n o cpu (state_of p).rooms)) slot_is ∙ ap (has_full_log n slot) (sym rooms_is) ∙ full_is n slot x fits
 
     -- what came back
-    module _ (reply : Reply) (y : Lent A) (made : IsStepOn l cpu step x reply y) (q : Parts A) (layout : q.layout ≡ p.layout)
-        (vms : q.vms.items ≡ (if uses_vms n then y.vms else p.vms.items))
-        (shared : q.shared.items ≡ (if uses_shared n slot then y.shared else p.shared.items))
+    module _ (stored_call : Option Call) (y : Lent A) (made : IsStepAt l cpu step x stored_call y) (q : Parts A) (layout : q.layout ≡ p.layout)
+        (vms : q.vms ≡ unwrap_or y.vms p.vms)
+        (shared : q.shared ≡ unwrap_or y.shared p.shared)
         (guests : q.guests.items ≡ put_list p.guests.items slot y.guest)
         (cpus : q.cpus.items ≡ slice_set p.cpus.items cpu y.cpu) where
+      abbrev reply : Reply
+      reply = reply_in stored_call
+
       abbrev c : Call
-      c = call_in x cpu step reply
+      c = call_at x cpu step reply
 
       abbrev s : Reference
       s = state_of p
@@ -186,37 +186,34 @@ module _ {A : Type 0} (p : Parts A) (cpu : ℕ) (step : Step) (k : CpuState) (at
       to_used = used_steps l s c (used_in y) r on_is
 
       -- what the parts have, by their lists
-      abbrev kept_by : List VmPart → List (SharedPart A) → List (GuestPart A) → List CpuState → Kept
+      abbrev kept_by : VmPart → SharedPart A → List (GuestPart A) → List CpuState → Kept
       kept_by v h g j = record {
-        vms = all_of no_vms vm_slots (λ (w : VmPart). w.log) v;
-        shared = all_of no_shared shared_of (λ (w : SharedPart A). w.log) h;
+        vms = (vm_slots v, v.log.calls);
+        shared = (shared_of h, h.log.calls);
         guest = each_of no_guest guest_held (λ (w : GuestPart A). w.log) g;
         cpu = each_of no_cpu cpu_of (λ (w : CpuState). w.log) j;
       }
 
       abbrev after : Kept
-      after = kept_by (if uses_vms n then y.vms else p.vms.items) (if uses_shared n slot then y.shared else p.shared.items) (put_list p.guests.items slot y.guest) (slice_set p.cpus.items cpu y.cpu)
+      after = kept_by (unwrap_or y.vms p.vms) (unwrap_or y.shared p.shared) (put_list p.guests.items slot y.guest) (slice_set p.cpus.items cpu y.cpu)
 
       after_is : kept_of q ≡ after
       after_is =
-          ap (λ v. kept_by v q.shared.items q.guests.items q.cpus.items) vms
-          ∙ ap (λ h. kept_by (if uses_vms n then y.vms else p.vms.items) h q.guests.items q.cpus.items) shared
-          ∙ ap (λ g. kept_by (if uses_vms n then y.vms else p.vms.items) (if uses_shared n slot then y.shared else p.shared.items) g q.cpus.items) guests
-          ∙ ap (kept_by (if uses_vms n then y.vms else p.vms.items) (if uses_shared n slot then y.shared else p.shared.items) (put_list p.guests.items slot y.guest)) cpus
-
-      own_range : range_at p.cpus.items (Some cpu) ≡ k ∷ []
-      own_range = one_range p.cpus.items cpu within ∙ ap (λ w. w ∷ []) (let a = sym (place p.cpus.items cpu within).2 ∙ at in cc)
+          ap (λ v. kept_by v q.shared q.guests.items q.cpus.items) vms
+          ∙ ap (λ h. kept_by (unwrap_or y.vms p.vms) h q.guests.items q.cpus.items) shared
+          ∙ ap (λ g. kept_by (unwrap_or y.vms p.vms) (unwrap_or y.shared p.shared) g q.cpus.items) guests
+          ∙ ap (kept_by (unwrap_or y.vms p.vms) (unwrap_or y.shared p.shared) (put_list p.guests.items slot y.guest)) cpus
 
       -- where a log is full
       module _ (h : any_full (logs_in x) ≡ true) where
         same_kept : kept_of q ≡ kept_of p
         same_kept =
             let e = made.full h in
-            after_is ∙ ap (λ (z : Lent A). kept_by (if uses_vms n then z.vms else p.vms.items) (if uses_shared n slot then z.shared else p.shared.items) (put_list p.guests.items slot z.guest) (slice_set p.cpus.items cpu z.cpu)) e
-            ∙ ap (λ v. kept_by v (if uses_shared n slot then when (uses_shared n slot) p.shared.items else p.shared.items) (put_list p.guests.items slot (range_at p.guests.items slot)) (slice_set p.cpus.items cpu k)) (when_same (uses_vms n) p.vms.items)
-            ∙ ap (λ v. kept_by p.vms.items v (put_list p.guests.items slot (range_at p.guests.items slot)) (slice_set p.cpus.items cpu k)) (when_same (uses_shared n slot) p.shared.items)
-            ∙ ap (λ g. kept_by p.vms.items p.shared.items g (slice_set p.cpus.items cpu k)) (put_same p.guests.items slot inner)
-            ∙ ap (kept_by p.vms.items p.shared.items p.guests.items) (set_same p.cpus.items cpu k at)
+            after_is ∙ ap (λ (z : Lent A). kept_by (unwrap_or z.vms p.vms) (unwrap_or z.shared p.shared) (put_list p.guests.items slot z.guest) (slice_set p.cpus.items cpu z.cpu)) e
+            ∙ ap (λ v. kept_by v (unwrap_or (when (uses_shared n slot) p.shared) p.shared) (put_list p.guests.items slot (get_at p.guests.items slot)) (slice_set p.cpus.items cpu k)) (when_same (uses_vms n) p.vms)
+            ∙ ap (λ v. kept_by p.vms v (put_list p.guests.items slot (get_at p.guests.items slot)) (slice_set p.cpus.items cpu k)) (when_same (uses_shared n slot) p.shared)
+            ∙ ap (λ g. kept_by p.vms p.shared g (slice_set p.cpus.items cpu k)) (put_same p.guests.items slot inner)
+            ∙ ap (kept_by p.vms p.shared p.guests.items) (set_same p.cpus.items cpu k at)
 
         full_steps : Steps l s c (state_of q)
         full_steps =
@@ -240,10 +237,10 @@ module _ {A : Type 0} (p : Parts A) (cpu : ℕ) (step : Step) (k : CpuState) (at
         stores_after : StoresCall c t.contents (kept_of p) after
         unfolding put_back
         stores_after = record {
-          vms = stores_one no_vms vm_slots (λ (w : VmPart). w.log) c (uses_vms n) p.vms.items y.vms vms_one (ap (λ (g : LentLogs). g.vms) logs_are);
-          shared = stores_one no_shared shared_of (λ (w : SharedPart A). w.log) c (uses_shared n slot) p.shared.items y.shared shared_one (ap (λ (g : LentLogs). g.shared) logs_are);
-          guest = λ v. subst (λ g. Stores (is_slot slot v) c g ((kept_of p).guest v) (after.guest v)) (put_is s.contents.guest slot (one no_guest guest_held y.guest) v) (stores_at no_guest guest_held (λ (w : GuestPart A). w.log) c p.guests.items y.guest slot inner (ap (λ (g : LentLogs). g.guest) logs_are) v);
-          cpu = λ j. subst (λ b. Stores b c (put_at s.contents.cpu cpu (cpu_of y.cpu) j) ((kept_of p).cpu j) (after.cpu j)) (eq_flip j cpu) (stores_at no_cpu cpu_of (λ (w : CpuState). w.log) c p.cpus.items (y.cpu ∷ []) (Some cpu) within (ap (λ (g : LentLogs). g.cpu ∷ []) logs_are ∙ sym (ap (λ xs. map (with_call c) (map (λ (w : CpuState). w.log) xs)) own_range)) j);
+          vms = stores_one no_vms vm_slots (λ (w : VmPart). w.log) c (uses_vms n) p.vms y.vms (ap (λ (g : LentLogs). g.vms) logs_are);
+          shared = stores_one no_shared shared_of (λ (w : SharedPart A). w.log) c (uses_shared n slot) p.shared y.shared (ap (λ (g : LentLogs). g.shared) logs_are);
+          guest = λ v. subst (λ g. Stores (is_slot slot v) c g ((kept_of p).guest v) (after.guest v)) (put_is s.contents.guest slot (unwrap_or (option_map guest_held y.guest) no_guest) v) (stores_at no_guest guest_held (λ (w : GuestPart A). w.log) c p.guests.items y.guest slot inner (ap (λ (g : LentLogs). g.guest) logs_are) v);
+          cpu = λ j. subst (λ b. Stores b c (put_at s.contents.cpu cpu (cpu_of y.cpu) j) ((kept_of p).cpu j) (after.cpu j)) (eq_flip j cpu) (stores_at no_cpu cpu_of (λ (w : CpuState). w.log) c p.cpus.items (Some y.cpu) (Some cpu) within (ap (λ (g : LentLogs). Some g.cpu) logs_are ∙ sym (ap (λ o. option_map (with_call c) (option_map (λ (w : CpuState). w.log) o)) at)) j);
         }
 
         stores_now : StoresCall c t.contents (kept_of p) (kept_of q)
@@ -274,7 +271,7 @@ module _ {A : Type 0} (p : Parts A) (cpu : ℕ) (step : Step) (k : CpuState) (at
             full = λ f. same_kept (sym full_same ∙ f);
             stored = λ f. made.stored (sym full_same ∙ f);
             stores = λ f. let h = sym full_same ∙ f in subst (λ d. StoresCall d (state_of q).contents (kept_of p) (kept_of q)) (sym call) (subst (λ (u : Reference). StoresCall c u.contents (kept_of p) (kept_of q)) (sym (stands h)) (stores_now h));
-            wants = λ told h is roomy ready. made.wants told h (ap (λ u. decides l cpu slot step u) used_is ∙ rw slot_is at is) (each_when (IsRoomy h) (uses_shared n slot) p.shared.items roomy) (each_ready h p.guests.items slot inner (λ v g e. ready v g (slot_is ∙ e)));
+            wants = λ told h is roomy ready. made.wants told h (ap (λ u. decides l cpu slot step u) used_is ∙ rw slot_is at is) (some_when (λ s. IsRoomy h s) (uses_shared n slot) p.shared roomy) (some_at (λ g. WantsNoMemory h g.guest) p.guests.items slot inner (λ v g e. ready v g (slot_is ∙ e)));
           }
 
       pub history : HasHistory p → cpu < p.layout.config.cpus → HasHistory q

@@ -1,16 +1,19 @@
--- How changes are carried out on lent parts.
-use Rattle.std.specs.Prelude.{◌≡◌, ◌≤◌, ℕ, Bool, true, false, ◌&&◌, ◌||◌, nat_lt, length, List, [], ◌∷◌, Option, None}
+-- How changes are carried out on parts.
+use Rattle.std.specs.Prelude.{◌≡◌, ◌≤◌, ℕ, Bool, true, false, ◌&&◌, ◌||◌, nat_lt, length, Option, None, Result, Ok, Err}
 use Rattle.page_state.specs.Layouts.{Layout, is_memory}
 use Rattle.component.specs.View.{HasRoomFor, need_for}
 use Rattle.table_tree.specs.View.{spares_of}
+use Rattle.hyp_pool.specs.declared.PoolFault.{PoolFault}
+use Rattle.hyp_pool.specs.declared.PoolFault.TheVariants.{NoPool, NoMemory}
+use Rattle.step_reply.specs.declared.reply.Refusal.TheVariants.{NoMemory as NoMemoryReply, NoPool as NoPoolReply}
+use Rattle.step_reply.specs.declared.reply.Reply.{Reply}
+use Rattle.step_reply.specs.declared.reply.Reply.TheVariants.{Done, Refused}
 use Rattle.guest_steps.specs.declared.parts.SharedPart.{SharedPart}
-use Rattle.guest_steps.specs.Lent.{Lent}
 use Rattle.reference_model.specs.declared.changes.Changes.{Changes}
 use Rattle.reference_model.specs.declared.changes.GuestChange.TheVariants.{Keep as KeepGuest}
-use Rattle.reference_model.specs.declared.changes.SlotChange.TheVariants.{Keep as KeepSlots}
-use Rattle.reference_model.specs.Changes.{touched}
+use Rattle.reference_model.specs.Changes.{touched, cpu_by}
 use Rattle.reference_model.specs.RowChanges.{first_of, told_row}
-use Rattle.reference_model.specs.State.{Shared, Guest}
+use Rattle.reference_model.specs.State.{Shared, Guest, Cpu}
 use Rattle.reference_model.specs.Step.{is_touched, shared_need, guest_need}
 
 -- nothing changes of the guest
@@ -24,17 +27,11 @@ pub record LeavesShared (h : Changes) : Type 0 where
   pub hyp : h.hyp ≡ None
   pub moved : touched h ≡ None
 
--- at most one part is lent, and where none is it stays
-abbrev pub IsLentOr : {P : Type 0} → Type 0 → List P → Type 0
-IsLentOr Stays [] = Stays
-IsLentOr Stays (p ∷ []) = Unit {0}
-IsLentOr Stays (p ∷ (q ∷ ps)) = ⊥
-
--- each part of which something changes is lent
-pub record OnlyLent {A : Type 0} (h : Changes) (x : Lent A) : Type 0 where
-  pub vms : IsLentOr (h.slot ≡ KeepSlots) x.vms
-  pub shared : IsLentOr (LeavesShared h) x.shared
-  pub guest : IsLentOr (LeavesGuest h) x.guest
+-- how a call ends whose changes of parts were made or weren't: its CPU's own state changes with them, or the refusal tells why
+abbrev pub Ends : Result (Unit {0}) PoolFault → Changes → Cpu → Reply → Cpu → Type 0
+Ends (Ok u) h before reply after = (reply ≡ Done h.value) × (after ≡ cpu_by h.cpu before)
+Ends (Err NoPool) h before reply after = (reply ≡ Refused NoPoolReply) × (after ≡ before)
+Ends (Err NoMemory) h before reply after = (reply ≡ Refused NoMemoryReply) × (after ≡ before)
 
 -- no growth can be needed: both maplets have the room that a change asks, and each tree a spare for each table that it needs
 pub record IsRoomy {A : Type 0} (h : Changes) (s : SharedPart A) : Type 0 where

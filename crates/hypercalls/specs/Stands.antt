@@ -1,29 +1,14 @@
 -- The reference state that all parts stand for, and their history.
-use Rattle.std.specs.Prelude.{ℕ, ◌+◌, Bool, true, false, List, [], Option, Some, None, slice_get}
+use Rattle.std.specs.Prelude.{List, [], Option, Some, None, slice_get}
 use Rattle.step_reply.specs.declared.reply.Call.{Call}
 use Rattle.page_state.specs.LayoutView.{layout_of as layout_told}
 use Rattle.page_state.specs.Layouts.{Layout}
 use Rattle.reference_model.specs.Boot.{CanBoot}
 use Rattle.reference_model.specs.Held.{held_state}
 use Rattle.reference_model.specs.History.{Kept, IsHistory}
-use Rattle.reference_model.specs.State.{Reference, no_vms, no_shared, no_guest, no_cpu}
-use Rattle.guest_steps.specs.Lent.{one}
+use Rattle.reference_model.specs.State.{Reference, no_guest, no_cpu}
 use Rattle.guest_steps.specs.View.{vm_slots, shared_of, guest_held, cpu_of}
 use Rattle.hypercalls.specs.declared.parts.Parts.{Parts}
-
--- a list's length where its one part is used
-abbrev pub one_where : Bool → ℕ
-one_where true = 1
-one_where false = 0
-
--- the range of a slot in the list of all guests, or an empty one
-abbrev pub from_of : Option ℕ → ℕ
-from_of None = 0
-from_of (Some v) = v
-
-abbrev pub to_of : Option ℕ → ℕ
-to_of None = 0
-to_of (Some v) = v + 1
 
 -- what stands at a place of a list, or what stands for none
 abbrev pub at_place : {P X : Type 0} → X → (P → X) → Option P → X
@@ -38,8 +23,8 @@ module _ {A : Type 0} (p : Parts A) where
   -- what the parts have: their contents and their logs
   abbrev pub kept_of : Kept
   kept_of = record {
-    vms = (one no_vms vm_slots p.vms.items, one [] (λ v. v.log.calls) p.vms.items);
-    shared = (one no_shared shared_of p.shared.items, one [] (λ s. s.log.calls) p.shared.items);
+    vms = (vm_slots p.vms, p.vms.log.calls);
+    shared = (shared_of p.shared, p.shared.log.calls);
     guest = λ v. (at_place no_guest guest_held (slice_get p.guests.items v), at_place [] (λ g. g.log.calls) (slice_get p.guests.items v));
     cpu = λ c. (at_place no_cpu cpu_of (slice_get p.cpus.items c), at_place [] (λ k. k.log.calls) (slice_get p.cpus.items c));
   }

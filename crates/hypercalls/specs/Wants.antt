@@ -11,7 +11,6 @@ use Rattle.component.specs.declared.Component.{Component}
 use Rattle.guest_component.specs.declared.body.Body.{Body}
 use Rattle.guest_component.specs.View.{guest_depth}
 use Rattle.guest_steps.specs.declared.parts.GuestPart.{GuestPart}
-use Rattle.guest_steps.specs.Lent.{Each}
 use Rattle.hypercalls.specs.declared.parts.Parts.{Parts}
 use Rattle.hypercalls.specs.Whole.{IsStep, slot_here}
 
@@ -40,7 +39,7 @@ IsGuestStocked depth (Some b) = IsStocked depth b.map
 
 -- with both trees of the Shared part, and with that of the guest of a slot
 pub record AreStocked {A : Type 0} (p : Parts A) (slot : Option ℕ) : Type 0 where
-  pub shared : Each (λ s. IsStocked (levels_below s.host.tree.geometry) s.host × IsStocked (levels_below s.hyp.tree.geometry) s.hyp) p.shared.items
+  pub shared : IsStocked (levels_below p.shared.host.tree.geometry) p.shared.host × IsStocked (levels_below p.shared.hyp.tree.geometry) p.shared.hyp
   pub guest : (v : ℕ) (g : GuestPart A) → slot ≡ Some v → slice_get p.guests.items v ≡ Some g → IsGuestStocked (guest_depth g.guest) g.guest.body
 
 -- a step that changes a page is then not refused for memory

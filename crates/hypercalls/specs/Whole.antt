@@ -14,7 +14,6 @@ use Rattle.reference_model.specs.Step.{Steps, is_full as has_full_log}
 use Rattle.reference_model.specs.Used.{used_of, rooms_of}
 use Rattle.guest_component.specs.Plans.{WantsNoMemory}
 use Rattle.guest_steps.specs.declared.parts.GuestPart.{GuestPart}
-use Rattle.guest_steps.specs.Lent.{Each}
 use Rattle.hypercalls.specs.Carried.{IsRoomy}
 use Rattle.hypercalls.specs.declared.parts.Parts.{Parts}
 use Rattle.hypercalls.specs.Stands.{parts_layout, kept_of, state_of}
@@ -38,7 +37,7 @@ module _ {A : Type 0} (p : Parts A) (cpu : ℕ) (step : Step) where
 
   -- memory can be wanted: what is decided can need a growth
   abbrev pub CanWant : Type 0
-  CanWant = (h : Changes) → decides (parts_layout p) cpu slot_here step (used_of (names step) slot_here cpu (state_of p).contents) ≡ Ok h → Each (IsRoomy h) p.shared.items → HasRoomyGuest h → ⊥
+  CanWant = (h : Changes) → decides (parts_layout p) cpu slot_here step (used_of (names step) slot_here cpu (state_of p).contents) ≡ Ok h → IsRoomy h p.shared → HasRoomyGuest h → ⊥
 
   -- the parts after a step, and its reply: those after the reference step. Where a log is full nothing changes, and else the call is stored in the logs of the parts that it uses and of its CPU. Memory is wanted only where it can be
   pub record IsStep (reply : Reply) (q : Parts A) : Type 0 where

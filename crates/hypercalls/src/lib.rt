@@ -1,14 +1,13 @@
-//! The step on lent parts and on all: which parts it uses, and how what is decided is carried out.
+//! The step by its kind of use, and on all parts: which parts it uses, and how what is decided is carried out.
 #![tactic(auto)]
 
 mod carry;
 pub mod laws;
-mod lent;
 mod parts;
 mod rows;
-mod uses;
+mod step;
+mod used_parts;
 
-pub use carry::carry_out;
-pub use lent::{guest_slot, step_on};
 pub use parts::Parts;
-pub use uses::{Uses, parts_used, uses_shared, uses_vms};
+pub use step::{reply_of, step_alone, step_on_both, step_on_guest, step_on_shared, step_on_vms};
+pub use used_parts::{UsedParts, uses, uses_shared, uses_vms};

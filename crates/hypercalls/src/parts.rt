@@ -1,53 +1,43 @@
-//! All parts, of which those that a step uses are lent to it.
-ghost use Rattle.std.specs.Prelude.{◌≡◌, ◌<◌, [], ◌∷◌, vec_len, All};
+//! All parts, and the step on those that it uses.
+ghost use Rattle.std.specs.Prelude.{◌≡◌, ◌<◌, vec_len, All};
 ghost use Rattle.guest_steps.specs.Logs.{IsOfSize};
 ghost use Rattle.guest_steps.specs.MemoryRows.{HasMemoryRows};
+ghost use Rattle.guest_steps.specs.Numbers.{AreNumbered};
 ghost use Rattle.page_state.specs.Geometries.{levels_below};
 
-use crate::lent::{guest_slot, step_on};
-use crate::uses::{count_of, range_of, uses_shared, uses_vms};
+use crate::step::{reply_of, step_alone, step_on_both, step_on_guest, step_on_shared, step_on_vms};
+use crate::used_parts::{UsedParts, uses};
 use guest_steps::{CpuState, GuestPart, SharedPart, VmPart};
 use page_state::Layout;
 use std::alloc::Allocator;
 use step_reply::{Reply, Step};
 
-/// The layout, which never changes, the VM part, the Shared part, the Guest parts by slot, and the CPUs by number. The first
-/// two are lists of one, so that they are lent as all are: as a range.
+/// The layout, which never changes, the VM part, the Shared part, the Guest parts by slot, and the CPUs by number.
 #[derive(Drop)]
 pub struct Parts<A: Allocator> {
     pub layout: Layout,
-    pub vms: Vec<VmPart>,
-    pub shared: Vec<SharedPart<A>>,
+    pub vms: VmPart,
+    pub shared: SharedPart<A>,
     pub guests: Vec<GuestPart<A>>,
     pub cpus: Vec<CpuState>,
-    pub ghost one_vms: { vec_len vms ≡ 1 },
-    pub ghost one_shared: { vec_len shared ≡ 1 },
     pub ghost slots: { vec_len guests ≡ 64 },
     pub ghost counted: { vec_len cpus ≡ layout.config.cpus },
-    pub ghost vm_log: { All (λ v. IsOfSize layout.config.log v.log) vms.items },
-    pub ghost shared_log: { All (λ s. IsOfSize layout.config.log s.log) shared.items },
-    pub ghost depth: { All (λ s. levels_below s.host.tree.geometry ≡ levels_below layout.geometry) shared.items },
-    pub ghost rows: { All (λ s. HasMemoryRows layout.map s.rows) shared.items },
+    pub ghost vm_log: { IsOfSize layout.config.log vms.log },
+    pub ghost shared_log: { IsOfSize layout.config.log shared.log },
+    pub ghost depth: { levels_below shared.host.tree.geometry ≡ levels_below layout.geometry },
+    pub ghost rows: { HasMemoryRows layout.map shared.owners },
     pub ghost guest_depth: { All (λ g. levels_below g.guest.geometry ≡ levels_below layout.geometry) guests.items },
     pub ghost guest_logs: { All (λ g. IsOfSize layout.config.log g.log) guests.items },
+    pub ghost numbers: { AreNumbered cpus.items },
     pub ghost own_logs: { All (λ k. IsOfSize layout.config.log k.log) cpus.items },
-}
-
-impl<A: Allocator> Parts<A> {
-    /// The Shared part.
-    pub fn shared(&self) -> &SharedPart<A>
-        ensures { self.now.shared.items ≡ result.now ∷ [] }
-    {
-        &self.shared[0]
-    }
 }
 
 impl<A: Allocator + Copy> Parts<A> {
     ghost use Rattle.hypercalls.specs.Stands.{HasHistory};
     ghost use Rattle.hypercalls.specs.Whole.{IsStep};
 
-    /// Makes one step of a CPU: the parts that it uses are lent to it. Requires parts at the end of one legal
-    /// history, and leaves them at the end of one.
+    /// Makes one step of a CPU on the parts that it uses. Requires parts at the end of one legal history, and leaves them at
+    /// the end of one.
     pub fn step(&mut self, alloc: A, cpu: u64, step: Step) -> Reply
         requires known { cpu < self.old.layout.config.cpus }
         requires history { ∥ HasHistory self.old ∥₁ }
@@ -56,19 +46,28 @@ impl<A: Allocator + Copy> Parts<A> {
         ensures history { ∥ HasHistory self.new ∥₁ }
     {
         let own = &mut self.cpus[cpu as usize];
-        let slot = guest_slot(own, step);
-        let vms = count_of(uses_vms(step));
-        let shared = count_of(uses_shared(step, slot));
-        let (from, to) = range_of(slot);
-        step_on(
-            alloc,
-            &self.layout,
-            &mut self.vms[0..vms],
-            &mut self.shared[0..shared],
-            self.guests.slice_mut(from..to),
-            cpu,
-            own,
-            step,
-        )
+        let made = match uses(own, &step) {
+            UsedParts::Nothing => step_alone(&self.layout, own, step),
+            UsedParts::Vms => step_on_vms(&self.layout, &mut self.vms, own, step),
+            UsedParts::Shared => step_on_shared(alloc, &self.layout, &mut self.shared, own, step),
+            UsedParts::Guest(v) => step_on_guest(
+                alloc,
+                &self.layout,
+                &mut self.guests[v as usize],
+                v,
+                own,
+                step,
+            ),
+            UsedParts::Both(v) => step_on_both(
+                alloc,
+                &self.layout,
+                &mut self.shared,
+                &mut self.guests[v as usize],
+                v,
+                own,
+                step,
+            ),
+        };
+        reply_of(made)
     }
 }

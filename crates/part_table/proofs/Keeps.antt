@@ -25,7 +25,7 @@ use Rattle.part_table.specs.declared.rule.View.{View}
 use Rattle.part_table.specs.declared.slot.Slot.{Slot}
 use Rattle.part_table.specs.Parts.{parts, part_of, uses, log_of, IsPart, IsOwn}
 use Rattle.part_table.specs.Does.{Does}
-use Rattle.part_table.specs.Rule.{at, Hands, held_at, seen_at, seen_with, StartsWith, StandsAfter, Knows, Rooted, IsLawful, taking, missing, letting, took, Standing, returned, Extends, stored, entered, storing, own_at_boot, tail, known_of}
+use Rattle.part_table.specs.Rule.{at, Hands, held_at, seen_at, seen_with, StartsWith, StandsAfter, Knows, Rooted, IsLawful, taking, missing, releasing, took, Standing, returned, Extends, stored, entered, storing, own_at_boot, tail, known_of}
 use Rattle.part_table.proofs.Pairs.{at_same, at_other, set_at, at_bound, part_same, still_held, seats, picked_more, picked_same, picked_longer, runs_more, after_seen, unused_seen}
 
 pub either_bool : (b : Bool) → (b ≡ true) ⊎ (b ≡ false)
@@ -180,9 +180,9 @@ module _ (A : Type 0) (key : TheLayout) where
         }
 
     -- a part goes home as it is recorded
-    returns_it : (x : Slot A) (cs : Hands A) → held_at m.0.held k ≡ Some x → Rule (stepped s k 0 id ((k, Some x) ∷ cs) (letting m.0 k) gives)
+    returns_it : (x : Slot A) (cs : Hands A) → held_at m.0.held k ≡ Some x → Rule (stepped s k 0 id ((k, Some x) ∷ cs) (releasing m.0 k) gives)
     returns_it x cs holds =
-        let w : View A = letting m.0 k in
+        let w : View A = releasing m.0 k in
         let ws : List ℕ = set s.words k 0 in
         let mine = r.each_seat id m.0 here in
         let old = mine.held k x holds in
@@ -259,7 +259,7 @@ module _ (A : Type 0) (key : TheLayout) where
         layout = o.layout;
         count = o.count;
         fresh = λ j le. let other : j ≢ c.cpu = λ is. omega (arith, is, by) in
-            ((picked_same (λ (d : Call). eqb d.cpu j) r.log c (ne_eqb c.cpu j (λ is. other (sym is))) ∙ (o.fresh j le).0), gone.5 j (own_at_boot key) other (o.fresh j le).1);
+            ((picked_same (λ (d : Call). eqb d.cpu j) r.log c (ne_eqb c.cpu j (λ is. other (sym is))) ∙ (o.fresh j le).0), gone.5 j (own_at_boot key j) other (o.fresh j le).1);
         few = o.few;
         seen = λ j z at_j i. picked_longer (call_uses (part_of i)) r.log c (seen_at z.1 i) (o.seen j z at_j i);
         ended = λ j z at_j. let k = o.ended j z at_j in
@@ -397,11 +397,11 @@ module _ (A : Type 0) (key : TheLayout) where
   pub return_keeps : (slots id k : ℕ) (m : M) (x : Slot A) (cs : Hands A) → m.0.on ≡ true → k < parts → m.1 ≡ (k, Some x) ∷ cs → held_at m.0.held k ≡ Some x
       → Allows Rule slots id m k (λ _. 0) (returned (step slots k 0 0 none) m)
   return_keeps slots id k m x cs on inside is holds s r deep here small = (
-    letting m.0 k,
+    releasing m.0 k,
     gives,
     tt,
-    subst (λ c. Rule (stepped s k 0 id c (letting m.0 k) gives)) (sym is) (returns_it s r id k m on inside here x cs holds),
-    subst (λ c. returned (step slots k 0 0 none) (m.0, c) (get_or s.words k 0) (letting m.0 k, Rattle.atomic_table.specs.Table.rest c)) (sym is) refl,
+    subst (λ c. Rule (stepped s k 0 id c (releasing m.0 k) gives)) (sym is) (returns_it s r id k m on inside here x cs holds),
+    subst (λ c. returned (step slots k 0 0 none) (m.0, c) (get_or s.words k 0) (releasing m.0 k, Rattle.atomic_table.specs.Table.rest c)) (sym is) refl,
   )
 
   -- what a step does, of the layout that a view carries, is of the key's

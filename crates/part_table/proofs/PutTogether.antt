@@ -1,6 +1,7 @@
 -- Slots by number, as the parts that lie in them.
-use Rattle.std.proofs.Common.{◌≡◌, ◌∙◌, ℕ, zero, suc, ◌<◌, List, [], ◌∷◌, ◌++◌, length, map, drop, slice_get, slice_index_or, All, Some, refl, sym, ap, subst, arith, append_assoc, append-nil}
+use Rattle.std.proofs.Common.{◌≡◌, ◌∙◌, ℕ, zero, suc, ◌<◌, ◌==◌, false, List, [], ◌∷◌, ◌++◌, length, map, drop, slice_get, slice_index_or, All, Some, refl, sym, ap, subst, arith, append_assoc, append-nil}
 use Rattle.std.proofs.lemmas.List.{map-append}
+use Rattle.std.proofs.lemmas.Bool.Decides.{nat_tests}
 use Rattle.part_table.specs.declared.slot.Slot.{Slot}
 use Rattle.part_table.specs.declared.slot.Slot.TheVariants.{Vm as VmSlot, Shared as SharedSlot, Guest as GuestSlot}
 use Rattle.guest_steps.specs.declared.parts.VmPart.{VmPart}
@@ -11,10 +12,10 @@ use Rattle.page_state.specs.LayoutView.{layout_of}
 use Rattle.page_state.specs.Layouts.{Layout}
 use Rattle.reference_model.specs.History.{calls_on}
 use Rattle.reference_model.specs.Parts.{vm_part, shared_part, guest_part}
-use Rattle.reference_model.specs.State.{Reference, no_vms, no_shared, no_guest, no_cpu}
+use Rattle.reference_model.specs.State.{Reference, no_guest, no_cpu}
 use Rattle.guest_steps.specs.declared.parts.CpuState.{CpuState}
-use Rattle.guest_steps.specs.Lent.{one}
-use Rattle.guest_steps.specs.View.{vm_slots, shared_of, guest_held, cpu_of}
+use Rattle.guest_steps.specs.Numbers.{AreNumbered}
+use Rattle.guest_steps.specs.View.{guest_held, cpu_of}
 use Rattle.hypercalls.specs.declared.parts.Parts.{Parts}
 use Rattle.hypercalls.specs.Stands.{at_place, HasHistory}
 use Rattle.part_table.specs.Endings.{IsEndOf}
@@ -28,12 +29,16 @@ pub first_out : {P : Type 0} (xs rest : List P) (x : P) → 0 < length xs → x 
 first_out [] rest x some e is = absurd (omega (arith, some))
 first_out (y ∷ ys) rest x some e is = λ i. sym e i ∷ sym is i
 
--- what is laid behind a list
+-- what is pushed onto a list
 pub moved : {P Q : Type 0} (f : P → Q) (done now : List Q) (xs rest : List P) (x : P) → xs ≡ x ∷ rest → now ≡ done ++ f x ∷ [] → now ++ map f rest ≡ done ++ map f xs
 moved f done now xs rest x e is = ap (λ l. l ++ map f rest) is ∙ append_assoc done (f x ∷ []) (map f rest) ∙ sym (ap (λ l. done ++ map f l) e)
 
 pub moved_back : {P Q : Type 0} (f : P → Q) (done now : List P) (xs rest : List Q) (x : P) → xs ≡ f x ∷ rest → now ≡ done ++ x ∷ [] → map f now ++ rest ≡ map f done ++ xs
 moved_back f done now xs rest x e is = ap (λ l. map f l ++ rest) is ∙ ap (λ l. l ++ rest) (map-append f done (x ∷ [])) ∙ append_assoc (map f done) (f x ∷ []) rest ∙ sym (ap (λ l. map f done ++ l) e)
+
+-- a list that isn't empty
+pub some_items : (n : ℕ) → (n == 0) ≡ false → 0 < n
+some_items n h = grind (arith, nat_tests)
 
 pub none_left : {P : Type 0} (done xs : List P) → length xs ≡ 0 → done ++ xs ≡ done
 none_left done [] e = append-nil done
@@ -47,13 +52,6 @@ get_below : {P : Type 0} (xs : List P) (j : ℕ) (x : P) → slice_get xs j ≡ 
 get_below [] j x e = absurd cc
 get_below (y ∷ xs) zero x e = omega arith
 get_below (y ∷ xs) (suc j) x e = let less = get_below xs j x e in omega (arith, less)
-
-one_all : {P : Type 0} (Is : P → Type 0) (x : P) → Is x → All Is (x ∷ [])
-one_all Is x h zero d less = h
-one_all Is x h (suc k) d less = absurd (omega (arith, less))
-
-pub all_alone : {P : Type 0} (Is : P → Type 0) (xs : List P) (x : P) → xs ≡ x ∷ [] → Is x → All Is xs
-all_alone Is xs x e h = subst (All Is) (sym e) (one_all Is x h)
 
 pub all_got : {P : Type 0} (Is : P → Type 0) (xs : List P) → ((k : ℕ) (x : P) → slice_get xs k ≡ Some x → Is x) → All Is xs
 all_got Is [] h k d less = absurd (omega (arith, less))
@@ -164,9 +162,11 @@ module _ {A : Type 0} where
         (subst (IsPart at end.state (suc (suc j))) e t.2, sym (ap (λ (x : Slot A). (log_of x).calls) e) ∙ t.3)
 
   -- parts that are put together so stand at the end of the history
-  pub has_history : (q : Parts A) (found : List (Slot A)) (end : IsEndOf q.layout found q.cpus.items) (v : VmPart) (s : SharedPart A) → q.vms.items ≡ v ∷ [] → q.shared.items ≡ s ∷ [] → found ≡ VmSlot v ∷ (SharedSlot s ∷ map (λ (h : GuestPart A). GuestSlot h) q.guests.items) → HasHistory q
-  has_history q found end v s ev es is =
+  pub has_history : (q : Parts A) (found : List (Slot A)) (end : IsEndOf q.layout found q.cpus.items) → found ≡ VmSlot q.vms ∷ (SharedSlot q.shared ∷ map (λ (h : GuestPart A). GuestSlot h) q.guests.items) → HasHistory q
+  has_history q found end is =
       let l = q.layout in
+      let v = q.vms in
+      let s = q.shared in
       let gs = q.guests.items in
       let vs = vms_end l found q.cpus.items end v s gs is in
       let ss = shared_end l found q.cpus.items end v s gs is in
@@ -178,8 +178,8 @@ module _ {A : Type 0} where
           end = end.state;
           run = end.run;
           stored = end.stored;
-          vms = pair _ _ _ _ (ap (one no_vms vm_slots) ev ∙ vs.0.content) (ap (one [] (λ (w : VmPart). w.log.calls)) ev ∙ vs.1);
-          shared = pair _ _ _ _ (ap (one no_shared shared_of) es ∙ ss.0.content) (ap (one [] (λ (w : SharedPart A). w.log.calls)) es ∙ ss.1);
+          vms = pair _ _ _ _ vs.0.content vs.1;
+          shared = pair _ _ _ _ ss.0.content ss.1;
           guest = λ j less. let g = got gs j (let many = guests_count l found q.cpus.items end v s gs is in omega (arith, less, many)) in
               let t = guest_end l found q.cpus.items end v s gs is j g.0 g.1 in
               pair _ _ _ _ (ap (at_place no_guest guest_held) g.1 ∙ t.0.content) (ap (at_place [] (λ (w : GuestPart A). w.log.calls)) g.1 ∙ t.1);
@@ -188,3 +188,7 @@ module _ {A : Type 0} where
               pair _ _ _ _ (ap (at_place no_cpu cpu_of) k.1 ∙ t.1.content) (ap (at_place [] (λ (w : CpuState). w.log.calls)) k.1 ∙ t.0);
         };
       }
+
+  -- and the CPUs' own states are by number
+  pub numbers : (l : TheLayout) (found : List (Slot A)) (cpus : List CpuState) → IsEndOf l found cpus → AreNumbered cpus
+  numbers l found cpus end c k there = (end.each_cpu c k there).1.id

@@ -27,12 +27,12 @@ idle_is : {A : Type 0} → (x : Slot A) (o : Option (Slot A)) → o ≡ None →
 idle_is x o a b = let never : None ≡ Some x = sym a ∙ b in absurd cc
 
 -- before its first call a CPU's own state stands in the boot state
-pub fresh_stands : (key : TheLayout) (c : ℕ) → IsOwn (layout_of key) (boot (layout_of key)) c (own_at_boot key)
+pub fresh_stands : (key : TheLayout) (c : ℕ) → IsOwn (layout_of key) (boot (layout_of key)) c (own_at_boot key c)
 unfolding booted
-fresh_stands key c = record { content = refl; room = refl; size = omega arith }
+fresh_stands key c = record { id = refl; content = refl; room = refl; size = omega arith }
 
 -- a pass before its first call is at rest
-pub fresh_rest : (A : Type 0) (key : TheLayout) (c : ℕ) → CanBoot (layout_of key) → IsLeft {A = A} (layout_of key) c (own_at_boot key) none_at
+pub fresh_rest : (A : Type 0) (key : TheLayout) (c : ℕ) → CanBoot (layout_of key) → IsLeft {A = A} (layout_of key) c (own_at_boot key c) none_at
 fresh_rest A key c can = record {
   ready = can;
   log = [];
@@ -89,7 +89,7 @@ module _ (A : Type 0) (key : TheLayout) where
               known = λ _. few_made;
               seat = λ _. sym long;
               mine = λ _. sym fresh.0;
-              own = λ _. subst (λ (l : TheLayout). IsOwn (layout_of key) r.state v.made (own_at_boot l)) (sym of) fresh.1;
+              own = λ _. subst (λ (l : TheLayout). IsOwn (layout_of key) r.state v.made (own_at_boot l v.made)) (sym of) fresh.1;
               seen = λ _ k. (calls_on (part_of k) r.log, refl);
               held = λ k x e. absurd (idle_is x None refl e);
             })

@@ -10,7 +10,7 @@ use Rattle.reference_model.specs.Used.{used_of}
 use Rattle.reference_model.proofs.Rely.{reached_relies}
 use Rattle.guest_steps.specs.declared.parts.CpuState.{CpuState}
 use Rattle.guest_steps.specs.View.{cpu_of}
-use Rattle.hypercalls.specs.declared.uses.Uses.TheVariants.{Guest, Both}
+use Rattle.hypercalls.specs.declared.used_parts.UsedParts.TheVariants.{Guest, Both}
 use Rattle.hypercalls.specs.Uses.{parts_of, or_vms, by_slot}
 use Rattle.part_table.specs.Does.{IsLeft, none_at}
 

@@ -1,49 +1,39 @@
 -- What a step on parts by number asks and gives, by what is lent to it.
-use Rattle.std.proofs.Common.{◌≡◌, ◌∙◌, ℕ, suc, ◌+◌, ◌<◌, false, cond, eqb, Some, None, eq-eqb, ne_eqb, List, [], ◌∷◌, length, ◌++◌, take, drop, slice_range, slice_index_or, Option, refl, sym, ap, subst, arith}
+use Rattle.std.proofs.Common.{◌≡◌, ◌≢◌, ◌∙◌, ℕ, suc, ◌+◌, ◌<◌, ◌==◌, false, cond, eqb, unwrap_or, IsSome, Some, None, eq-eqb, ne_eqb, List, [], ◌∷◌, length, Option, refl, sym, ap, subst, arith}
 use Rattle.std.proofs.Math.Logic.{∥∥₁_elim, ∥∥₁_map}
 use Rattle.std.proofs.Props.{props}
+use Rattle.std.proofs.lemmas.Bool.Decides.{nat_tests}
 use Rattle.std.specs.Coded.{le_prop}
 use Rattle.step_reply.specs.declared.reply.Call.{Call}
 use Rattle.step_reply.specs.declared.step.Step.{Step}
 use Rattle.page_state.specs.Layouts.{Layout}
-use Rattle.reference_model.specs.Parts.{guest_slot, names, uses_shared, uses_vms}
+use Rattle.reference_model.specs.Parts.{guest_slot, names}
 use Rattle.reference_model.specs.Rely.{IsReached}
 use Rattle.reference_model.specs.State.{Reference}
 use Rattle.guest_steps.specs.declared.parts.VmPart.{VmPart}
 use Rattle.guest_steps.specs.declared.parts.SharedPart.{SharedPart}
 use Rattle.guest_steps.specs.declared.parts.GuestPart.{GuestPart}
 use Rattle.guest_steps.specs.declared.parts.CpuState.{CpuState}
-use Rattle.guest_steps.specs.Lent.{Lent, IsLent, Suits, lent, used_in, logs_in, slot_in, call_in}
+use Rattle.guest_steps.specs.Lent.{Lent, Suits, call_in, lent_alone, lent_both, lent_guest, lent_shared, lent_vms, logs_in, slot_in, used_in}
 use Rattle.guest_steps.specs.View.{cpu_of}
-use Rattle.hypercalls.specs.Steps.{IsStepOn, any_full}
-use Rattle.decisions.proofs.Singles.{single}
-use Rattle.hypercalls.specs.Uses.{parts_of}
+use Rattle.hypercalls.specs.declared.used_parts.UsedParts.TheVariants.{Nothing, Vms, Shared, Guest, Both}
+use Rattle.hypercalls.specs.Steps.{IsStepOn, any_full, reply_in}
+use Rattle.hypercalls.specs.Uses.{uses_of}
+use Rattle.hypercalls.proofs.Stepping.{Fits, fits_of}
+use Rattle.hypercalls.proofs.Using.{nothing, vms, shared, guest, both}
 use Rattle.part_table.specs.declared.slot.Slot.{Slot}
 use Rattle.part_table.specs.declared.slot.Slot.TheVariants.{Vm as VmSlot, Shared as SharedSlot, Guest as GuestSlot}
-use Rattle.part_table.specs.Does.{Does, IsLeft, none_at, only_at, both_at}
-use Rattle.part_table.specs.Parts.{IsPart, in_order}
+use Rattle.part_table.specs.Does.{Does, IsCalled, IsLeft, none_at, only_at, both_at}
+use Rattle.part_table.specs.Parts.{IsPart}
 use Rattle.part_table.proofs.Stepping.{lent_at, reached, suits, does, nat_prop}
-use Rattle.part_table.proofs.SteppingByNumber.{left_as, does_as, vms_number, shared_number, guest_number, none_fits, none_is, vms_fits, vms_only, shared_fits, shared_only, guest_fits, guest_only, guest_used, both_fits, both_is, both_used}
+use Rattle.part_table.proofs.SteppingByNumber.{left_as, does_as, vms_number, shared_number, guest_number, none_is, vms_only, shared_only, guest_only, both_is}
 
 pub no_items : {P : Type 0} (xs : List P) → length xs ≡ 0 → xs ≡ []
 no_items [] e = refl
 no_items (x ∷ xs) e = absurd (omega (arith, e))
 
--- a list of one that is lent as a range, and comes back
-module _ {P : Type 0} where
-  pub laid : (rs xs : List P) (p : P) → rs ≡ slice_range xs 0 1 → xs ≡ p ∷ [] → rs ≡ p ∷ []
-  laid rs xs p e is = e ∙ ap (λ zs. slice_range zs 0 1) is
-
-  pub lifted : (n : ℕ) (xs ys : List P) (q : P) → n ≡ 1 → length ys ≡ 1 → take n ((ys ++ drop (length ys) xs) ++ drop (length (ys ++ drop (length ys) xs)) xs) ≡ q ∷ [] → ys ≡ q ∷ []
-  lifted n xs [] q one many h = absurd (omega (arith, many))
-  lifted n xs (y ∷ []) q one many h = ap (λ m. take m ((y ∷ drop 1 xs) ++ drop (length (y ∷ drop 1 xs)) xs)) (sym one) ∙ h
-  lifted n xs (y ∷ (z ∷ ys)) q one many h = absurd (omega (arith, many))
-
-pub one_item : {P : Type 0} (xs : List P) (d : P) → length xs ≡ 1 → xs ≡ slice_index_or xs 0 d ∷ []
-one_item xs d e = single xs d e
-
-pub same_lent : {A : Type 0} (v v' : List VmPart) (s s' : List (SharedPart A)) (g g' : List (GuestPart A)) (k : CpuState) → v ≡ v' → s ≡ s' → g ≡ g' → lent v s g k ≡ lent v' s' g' k
-same_lent v v' s s' g g' k a b c = cc
+pub not_full : (n : ℕ) → n ≢ 0 → (n == 0) ≡ false
+not_full n h = grind (arith, nat_tests)
 
 -- the number of a part that is told by number, by its kind
 module _ {A : Type 0} (l : Layout) (id : ℕ) (own : CpuState) (k : ℕ) (x : Slot A) where
@@ -116,85 +106,58 @@ module _ {A : Type 0} where
         let t = guest_kind l h.state v y (subst (λ k. IsPart l h.state k y) two part) in
         never t.0 t.1)
 
--- `x` are the parts that `f` tells by number, and `x'` is how they are lent to a step that uses just them
-pub record LentAs {A : Type 0} (l : Layout) (id : ℕ) (step : Step) (x x' : Lent A) (f : ℕ → Option (Slot A)) : Type 0 where
-  pub same : x ≡ x'
-  pub fits : IsLent (names step) (slot_in x step) x
+-- `x` is what is lent of the parts that `f` tells by number
+pub record LentAs {A : Type 0} (l : Layout) (step : Step) (x : Lent A) (f : ℕ → Option (Slot A)) : Type 0 where
+  pub fits : Fits (names step) (slot_in x step) x
   pub told : (j : ℕ) → lent_at (slot_in x step) x j ≡ f j
-  pub left : ∥ IsLeft l id x.cpu f ∥₁
+  pub left : ∥ IsLeft l x.cpu.id x.cpu f ∥₁
 
-module _ {A : Type 0} {l : Layout} {id : ℕ} {step : Step} {x x' : Lent A} {f : ℕ → Option (Slot A)} (way : LentAs l id step x x' f) where
-  left_on : ∥ IsLeft l id x.cpu (lent_at (slot_in x step) x) ∥₁
-  left_on = ∥∥₁_map way.left (left_as l id x.cpu (lent_at (slot_in x step) x) f way.told)
+pub some_made : (o : Option Call) {c : Call} → o ≡ Some c → IsSome o
+some_made None e = absurd cc
+some_made (Some d) e = refl
 
-  pub asks_lent : IsLent (names step) (slot_in x' step) x'
-  asks_lent = subst (λ (z : Lent A). IsLent (names step) (slot_in z step) z) way.same way.fits
+some_call : (c d : Call) → ◌≡◌ {A = Option Call} (Some c) (Some d) → c ≡ d
+some_call c d e = ap (λ o. unwrap_or o c) e
 
-  pub asks_suits : Suits l x'
-  asks_suits = subst (Suits l) way.same (suits l id step x way.fits left_on)
+module _ {A : Type 0} {l : Layout} {step : Step} {x : Lent A} {f : ℕ → Option (Slot A)} (way : LentAs l step x f) where
+  left_on : ∥ IsLeft l x.cpu.id x.cpu (lent_at (slot_in x step) x) ∥₁
+  left_on = ∥∥₁_map way.left (left_as l x.cpu.id x.cpu (lent_at (slot_in x step) x) f way.told)
 
-  pub asks_reached : ∥ IsReached l (names step) (slot_in x' step) id (used_in x') ∥₁
-  asks_reached = subst (λ (z : Lent A). ∥ IsReached l (names step) (slot_in z step) id (used_in z) ∥₁) way.same (reached l id step x way.fits left_on)
+  pub asks_suits : Suits l x
+  asks_suits = suits l step x way.fits left_on
 
-  -- `z` is what comes back, and `h` tells it by number
-  pub gives : (c : Call) (y z : Lent A) (h : ℕ → Option (Slot A)) → any_full (logs_in x) ≡ false → c ≡ call_in x' id step c.reply → IsStepOn l id step x' c.reply y → Suits l y → y ≡ z → ((j : ℕ) → lent_at (slot_in x step) z j ≡ h j) → Does l c f x.cpu h y.cpu
-  gives c y z h room called made sized is back =
-      let made_x : IsStepOn l id step x c.reply y = subst (λ (w : Lent A). IsStepOn l id step w c.reply y) (sym way.same) made in
-      let c_is : c ≡ call_in x id step c.reply = called ∙ sym (ap (λ (w : Lent A). call_in w id step c.reply) way.same) in
-      let d = does l id step x way.fits c.reply y room made_x sized in
-      let by_number = does_as l (call_in x id step c.reply) (lent_at (slot_in x step) x) f x.cpu (lent_at (slot_in x step) y) h y.cpu way.told (λ j. ap (λ (w : Lent A). lent_at (slot_in x step) w j) is ∙ back j) d in
-      subst (λ (e : Call). Does l e f x.cpu h y.cpu) (sym c_is) by_number
+  pub asks_reached : (o : Option ℕ) → slot_in x step ≡ o → ∥ IsReached l (names step) o x.cpu.id (used_in x) ∥₁
+  asks_reached o e = subst (λ (i : Option ℕ). ∥ IsReached l (names step) i x.cpu.id (used_in x) ∥₁) e (reached l step x way.fits left_on)
 
--- the slot of the guest's part that a step uses beside the Shared part
-pub both_slot : (step : Step) (k : CpuState) (v : ℕ) → in_order (parts_of (names step) (guest_slot (cpu_of k) step)) ≡ 1 ∷ (v + 2) ∷ [] → guest_slot (cpu_of k) step ≡ Some v
-both_slot step k v uses = (both_used (uses_vms (names step)) (uses_shared (names step) (guest_slot (cpu_of k) step)) (guest_slot (cpu_of k) step) v uses).2
+  -- what comes back, where no log is full
+  module _ (made : Option Call) (y : Lent A) (room : any_full (logs_in x) ≡ false) (did : IsStepOn l step x made y) where
+    pub stores : made ≡ Some (call_in x step (reply_in made))
+    stores = did.told ∙ rw room refl
+
+    call_is : (c : Call) → made ≡ Some c → call_in x step (reply_in made) ≡ c
+    call_is c e = some_call (call_in x step (reply_in made)) c (sym stores ∙ e)
+
+    pub called : (c : Call) → made ≡ Some c → IsCalled x.cpu.id x.cpu step c
+    called c e = subst (IsCalled x.cpu.id x.cpu step) (call_is c e) (record { by = refl; number = refl; asked = refl; slot = refl })
+
+    pub gives : (c : Call) → made ≡ Some c → (h : ℕ → Option (Slot A)) → Suits l y → ((j : ℕ) → lent_at (slot_in x step) y j ≡ h j) → Does l c f x.cpu h y.cpu
+    gives c e h sized back =
+        let d = does l step x way.fits made y room did sized in
+        subst (λ (k : Call). Does l k f x.cpu h y.cpu) (call_is c e) (does_as l (call_in x step (reply_in made)) (lent_at (slot_in x step) x) f x.cpu (lent_at (slot_in x step) y) h y.cpu way.told back d)
 
 -- how the parts are lent that a step uses, by their numbers
-module _ {A : Type 0} (l : Layout) (id : ℕ) (step : Step) (k : CpuState) where
-  pub none_as : in_order (parts_of (names step) (guest_slot (cpu_of k) step)) ≡ [] → ∥ IsLeft {A = A} l id k none_at ∥₁ → LentAs l id step (lent {A = A} [] [] [] k) (lent [] [] [] k) none_at
-  none_as uses left = record {
-    same = refl;
-    fits = none_fits k step uses;
-    told = none_is (guest_slot (cpu_of k) step) k;
-    left = left;
-  }
+module _ {A : Type 0} (l : Layout) (step : Step) (k : CpuState) where
+  pub none_as : uses_of (cpu_of k) step ≡ Nothing → ∥ IsLeft {A = A} l k.id k none_at ∥₁ → LentAs {A = A} l step (lent_alone k) none_at
+  none_as is left = record { fits = fits_of (lent_alone {A = A} k) step None (nothing (cpu_of k) step is) refl; told = none_is (guest_slot (cpu_of k) step) k; left = left }
 
-  pub vms_as : (p : VmPart) (ps : List VmPart) → ps ≡ p ∷ [] → in_order (parts_of (names step) (guest_slot (cpu_of k) step)) ≡ 0 ∷ [] → ∥ IsLeft {A = A} l id k (only_at 0 (VmSlot p)) ∥₁ → LentAs l id step (lent {A = A} (p ∷ []) [] [] k) (lent ps [] [] k) (only_at 0 (VmSlot p))
-  vms_as p ps is uses left = record {
-    same = same_lent (p ∷ []) ps [] [] [] [] k (sym is) refl refl;
-    fits = vms_fits k step p uses;
-    told = vms_only (guest_slot (cpu_of k) step) k p;
-    left = left;
-  }
+  pub vms_as : (p : VmPart) → uses_of (cpu_of k) step ≡ Vms → ∥ IsLeft {A = A} l k.id k (only_at 0 (VmSlot p)) ∥₁ → LentAs {A = A} l step (lent_vms p k) (only_at 0 (VmSlot p))
+  vms_as p is left = record { fits = fits_of (lent_vms {A = A} p k) step None (vms (cpu_of k) step is) refl; told = vms_only (guest_slot (cpu_of k) step) k p; left = left }
 
-  pub shared_as : (p : SharedPart A) (ps : List (SharedPart A)) → ps ≡ p ∷ [] → in_order (parts_of (names step) (guest_slot (cpu_of k) step)) ≡ 1 ∷ [] → ∥ IsLeft l id k (only_at 1 (SharedSlot p)) ∥₁ → LentAs l id step (lent [] (p ∷ []) [] k) (lent [] ps [] k) (only_at 1 (SharedSlot p))
-  shared_as p ps is uses left = record {
-    same = same_lent [] [] (p ∷ []) ps [] [] k refl (sym is) refl;
-    fits = shared_fits k step p uses;
-    told = shared_only (guest_slot (cpu_of k) step) k p;
-    left = left;
-  }
+  pub shared_as : (p : SharedPart A) → uses_of (cpu_of k) step ≡ Shared → ∥ IsLeft l k.id k (only_at 1 (SharedSlot p)) ∥₁ → LentAs l step (lent_shared p k) (only_at 1 (SharedSlot p))
+  shared_as p is left = record { fits = fits_of (lent_shared p k) step None (shared (cpu_of k) step is) refl; told = shared_only (guest_slot (cpu_of k) step) k p; left = left }
 
-  -- the slot of the part of number n, which is a guest's
-  pub guest_at : (n : ℕ) (p : GuestPart A) → in_order (parts_of (names step) (guest_slot (cpu_of k) step)) ≡ n ∷ [] → ∥ IsLeft l id k (only_at n (GuestSlot p)) ∥₁ → (v : ℕ) × (guest_slot (cpu_of k) step ≡ Some v) × (n ≡ v + 2)
-  guest_at n p uses left =
-      let at = guest_used (uses_vms (names step)) (uses_shared (names step) (guest_slot (cpu_of k) step)) (guest_slot (cpu_of k) step) n (guest_past l id k n (GuestSlot p) p refl left) uses in
-      (at.2, at.3, at.4)
+  pub guest_as : (v n : ℕ) (p : GuestPart A) → n ≡ v + 2 → uses_of (cpu_of k) step ≡ Guest v → ∥ IsLeft l k.id k (only_at n (GuestSlot p)) ∥₁ → LentAs l step (lent_guest p k) (only_at n (GuestSlot p))
+  guest_as v n p at is left = let kind = guest (cpu_of k) step v is in record { fits = fits_of (lent_guest p k) step (Some v) kind refl; told = guest_only (guest_slot (cpu_of k) step) k v n p kind.slot at; left = left }
 
-  pub guest_as : (n : ℕ) (p : GuestPart A) (ps : List (GuestPart A)) → ps ≡ p ∷ [] → in_order (parts_of (names step) (guest_slot (cpu_of k) step)) ≡ n ∷ [] → ∥ IsLeft l id k (only_at n (GuestSlot p)) ∥₁ → LentAs l id step (lent [] [] (p ∷ []) k) (lent [] [] ps k) (only_at n (GuestSlot p))
-  guest_as n p ps is uses left =
-      let at = guest_at n p uses left in
-      record {
-        same = same_lent [] [] [] [] (p ∷ []) ps k refl refl (sym is);
-        fits = guest_fits k step n p (guest_past l id k n (GuestSlot p) p refl left) uses;
-        told = guest_only (guest_slot (cpu_of k) step) k at.0 n p at.1 at.2;
-        left = left;
-      }
-
-  pub both_as : (v : ℕ) (s : SharedPart A) (ss : List (SharedPart A)) (p : GuestPart A) (ps : List (GuestPart A)) → ss ≡ s ∷ [] → ps ≡ p ∷ [] → in_order (parts_of (names step) (guest_slot (cpu_of k) step)) ≡ 1 ∷ (v + 2) ∷ [] → ∥ IsLeft l id k (both_at (v + 2) (GuestSlot p) 1 (SharedSlot s)) ∥₁ → LentAs l id step (lent [] (s ∷ []) (p ∷ []) k) (lent [] ss ps k) (both_at (v + 2) (GuestSlot p) 1 (SharedSlot s))
-  both_as v s ss p ps is guest_is uses left = record {
-    same = same_lent [] [] (s ∷ []) ss (p ∷ []) ps k refl (sym is) (sym guest_is);
-    fits = both_fits k step v s p uses;
-    told = both_is (guest_slot (cpu_of k) step) k v s p (both_slot step k v uses);
-    left = left;
-  }
+  pub both_as : (v : ℕ) (s : SharedPart A) (p : GuestPart A) → uses_of (cpu_of k) step ≡ Both v → ∥ IsLeft l k.id k (both_at (v + 2) (GuestSlot p) 1 (SharedSlot s)) ∥₁ → LentAs l step (lent_both s p k) (both_at (v + 2) (GuestSlot p) 1 (SharedSlot s))
+  both_as v s p is left = let kind = both (cpu_of k) step v is in record { fits = fits_of (lent_both s p k) step (Some v) kind refl; told = both_is (guest_slot (cpu_of k) step) k v s p kind.slot; left = left }

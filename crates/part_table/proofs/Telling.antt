@@ -25,7 +25,7 @@ use Rattle.guest_steps.specs.View.{cpu_of}
 use Rattle.hypercalls.specs.Uses.{parts_of}
 use Rattle.part_table.specs.Parts.{in_order, uses, log_of, IsPart, IsOwn}
 use Rattle.part_table.specs.Does.{Does, IsCalled, IsLeft, none_at, only_at, both_at}
-use Rattle.part_table.specs.Rule.{Hands, IsIdle, Seated, tail, held_at, seen_at, seen_with, StartsWith, taking, missing, letting, storing, IsSame, Adds, Extends, Known, known_of, Standing, AtRest}
+use Rattle.part_table.specs.Rule.{Hands, IsIdle, Seated, tail, held_at, seen_at, seen_with, StartsWith, taking, missing, releasing, storing, IsSame, Adds, Extends, Known, known_of, Standing, AtRest}
 use Rattle.part_table.specs.Tried.{AllTaken, EndsIn, FoundFull, FoundRoom, Tells, TriesOf, Try, reply_of}
 use Rattle.part_table.specs.Answered.{Answers, FindsAway, FindsLogFull, MeetsAnother, StoresCall, TellsOf, used_by}
 use Rattle.part_table.proofs.Holding.{only_here, at_first, at_second}
@@ -68,7 +68,7 @@ module _ {A : Type 0} where
 
   -- or put it home, unused or with a call stored
   abbrev pub with_home : Seated A → ℕ → Seated A
-  with_home m k = (letting m.0 k, tail m.1)
+  with_home m k = (releasing m.0 k, tail m.1)
 
   abbrev pub with_stored : Seated A → CpuState → Hands A → ℕ → Seated A
   with_stored m own after k = (storing own after m.0 k, tail after)

@@ -11,8 +11,8 @@ use Rattle.guest_steps.specs.declared.parts.CpuState.{CpuState}
 use Rattle.guest_steps.specs.Lent.{SharedSuits, GuestSuits}
 use Rattle.guest_steps.specs.Logs.{StoredCalls, IsOfSize}
 use Rattle.guest_steps.specs.View.{vm_slots, shared_of, guest_held, cpu_of}
-use Rattle.hypercalls.specs.declared.uses.Uses.{Uses}
-use Rattle.hypercalls.specs.declared.uses.Uses.TheVariants.{Nothing, Vms, Shared, Guest, Both}
+use Rattle.hypercalls.specs.declared.used_parts.UsedParts.{UsedParts}
+use Rattle.hypercalls.specs.declared.used_parts.UsedParts.TheVariants.{Nothing, Vms, Shared, Guest, Both}
 use Rattle.part_table.specs.declared.slot.Slot.{Slot}
 use Rattle.part_table.specs.declared.slot.Slot.TheVariants.{Vm as VmSlot, Shared as SharedSlot, Guest as GuestSlot}
 
@@ -31,7 +31,7 @@ abbrev pub uses : Call → ℕ → Bool
 uses c k = call_uses (part_of k) c
 
 -- the parts of a step by number, in the order in which they are taken
-abbrev pub in_order : Uses → List ℕ
+abbrev pub in_order : UsedParts → List ℕ
 in_order Nothing = []
 in_order Vms = 0 ∷ []
 in_order Shared = 1 ∷ []
@@ -86,8 +86,9 @@ module _ (l : Layout) (s : Reference) where
   IsPart (suc (suc v)) (GuestSlot p) = IsGuest v p
   IsPart (suc (suc v)) other = ⊥
 
-  -- a CPU's own state stands in a state
+  -- a CPU's own state, which has its number, stands in a state
   pub record IsOwn (cpu : ℕ) (own : CpuState) : Type 0 where
+    pub id : own.id ≡ cpu
     pub content : cpu_of own ≡ s.contents.cpu cpu
     pub room : own.log.room ≡ s.rooms.cpu cpu
     pub size : IsOfSize l.config.log own.log

@@ -21,7 +21,7 @@ numbers_held h = filter (λ k. is_some (held_at h k)) (numbers_below parts)
 
 -- a pass of a CPU before its first call
 abbrev pub first_pass : TableId → TheLayout → ℕ → Pass
-first_pass table l cpu = record { table = table; knows = record { layout = l; cpu = cpu; own = own_at_boot l; seen = []; tries = [] }; holds = [] }
+first_pass table l cpu = record { table = table; knows = record { layout = l; cpu = cpu; own = own_at_boot l cpu; seen = []; tries = [] }; holds = [] }
 
 -- a table of parts: which it is, and its layout
 pub record Opened : Type 0 where

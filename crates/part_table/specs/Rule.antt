@@ -1,5 +1,5 @@
 -- What holds of the table between any two steps: there is one legal history.
-use Rattle.std.specs.Prelude.{◌≡◌, ◌≢◌, ℕ, ◌+◌, ◌<◌, ◌≤◌, true, false, cond, eqb, List, [], ◌∷◌, ◌++◌, length, slice_index, All, Option, Some, None}
+use Rattle.std.specs.Prelude.{◌≡◌, ◌≢◌, ℕ, ◌+◌, ◌<◌, ◌≤◌, true, false, cond, eqb, List, [], ◌∷◌, ◌++◌, length, slice_get, slice_index, All, Option, Some, None}
 use Rattle.std.proofs.Common.{refl}
 use mathlib.Core.Option.{some}
 use lib.ListN.{get_elem?}
@@ -59,8 +59,12 @@ abbrev pub StartsWith : List Call → List Call → Type 0
 StartsWith xs ys = (rest : List Call) × (xs ≡ ys ++ rest)
 
 -- a CPU's own state before its first call
-abbrev pub own_at_boot : TheLayout → CpuState
-own_at_boot l = record { loaded = None; hand = None; ticket = None; log = record { calls = []; room = l.config.log } }
+abbrev pub own_at_boot : TheLayout → ℕ → CpuState
+own_at_boot l cpu = record { id = cpu; loaded = None; hand = None; ticket = None; log = record { calls = []; room = l.config.log } }
+
+-- those of all CPUs, by number
+abbrev pub AreOwnAtBoot : TheLayout → List CpuState → Type 0
+AreOwnAtBoot l ks = (cpu : ℕ) (k : CpuState) → slice_get ks cpu ≡ Some k → k ≡ own_at_boot l cpu
 
 module _ {A : Type 0} (key : TheLayout) (ws : List ℕ) (holder : ℕ → ℕ) (log : List Call) (state : Reference) where
   -- the part is as after the history, and its log is the history's part of it
@@ -82,7 +86,7 @@ pub record Rooted {A : Type 0} (key : TheLayout) (views : List (View A)) (log : 
   pub off : v.on ≡ false
   pub layout : v.layout ≡ key
   pub count : length views ≡ v.made + 1
-  pub fresh : (c : ℕ) → v.made ≤ c → (calls_by c log ≡ []) × IsOwn (layout_of key) state c (own_at_boot key)
+  pub fresh : (c : ℕ) → v.made ≤ c → (calls_by c log ≡ []) × IsOwn (layout_of key) state c (own_at_boot key c)
   pub few : length v.ended ≤ v.made
   pub ended : (c : ℕ) (e : Ended) → get_elem? v.ended c ≡ some e → (e.0.log.calls ≡ calls_by c log) × IsOwn (layout_of key) state c e.0 × ((u : View A) → get_elem? views (c + 1) ≡ some u → u.on ≡ false)
   pub seen : (c : ℕ) (e : Ended) → get_elem? v.ended c ≡ some e → (k : ℕ) → StartsWith (calls_on (part_of k) log) (seen_at e.1 k)
@@ -106,7 +110,7 @@ abbrev pub no_layout : TheLayout
 no_layout = record { map = record { regions = []; carve = record { first = record { 0 = 0 }; count = 0 } }; config = record { cpus = 0; log = 0; geometry = 39 }; geometry = Bits39; known = refl }
 
 abbrev pub no_own : CpuState
-no_own = own_at_boot no_layout
+no_own = own_at_boot no_layout 0
 
 abbrev pub no_call : Call
 no_call = record { cpu = 0; number = 0; step = Unfund; reply = Done Nothing; slot = None }
@@ -124,7 +128,7 @@ one_more v = record v { made = v.made + 1 }
 
 -- the view of the next CPU
 abbrev pub newcomer : {A : Type 0} → View A → View A
-newcomer v = record nobody { on = true; layout = v.layout; cpu = v.made; own = own_at_boot v.layout }
+newcomer v = record nobody { on = true; layout = v.layout; cpu = v.made; own = own_at_boot v.layout v.made }
 
 -- the root has taken in the view of a CPU that ends, with what it has seen
 abbrev pub with_end : {A : Type 0} → View A → View A → View A
@@ -155,8 +159,8 @@ abbrev pub missing : {A : Type 0} → View A → ℕ → View A
 missing v k = record v { tries = v.tries ++ (k, None) ∷ [] }
 
 -- the part k is out of hand
-abbrev pub letting : {A : Type 0} → View A → ℕ → View A
-letting v k = record v { held = (k, None) ∷ v.held }
+abbrev pub releasing : {A : Type 0} → View A → ℕ → View A
+releasing v k = record v { held = (k, None) ∷ v.held }
 
 -- what the pass holds, and its CPU's own state, stand where a run ends
 abbrev pub Standing : {A : Type 0} → View A → Type 0
@@ -174,7 +178,7 @@ tail (x ∷ xs) = xs
 
 -- a part goes home as it is recorded
 abbrev pub returned : {A : Type 0} → Step (Option (Slot A)) → Seated A → ℕ → Seated A → Type 0
-returned st m r n = n ≡ (letting m.0 st.word, tail m.1)
+returned st m r n = n ≡ (releasing m.0 st.word, tail m.1)
 
 -- what has been seen of a part is its log as it goes home
 abbrev pub seen_of : {A : Type 0} → Option (Slot A) → List Call → List Call
@@ -213,12 +217,12 @@ abbrev pub IsInHand : {A : Type 0} → Hands A → ℕ → Type 0
 IsInHand cs k = cs ≡ (k, None) ∷ tail cs
 
 -- the part k lies in the slot that was taken last
-abbrev pub IsLaid : {A : Type 0} → Hands A → ℕ → Type 0
-IsLaid {A = A} cs k = (x : Slot A) × (cs ≡ (k, Some x) ∷ tail cs)
+abbrev pub IsInSlot : {A : Type 0} → Hands A → ℕ → Type 0
+IsInSlot {A = A} cs k = (x : Slot A) × (cs ≡ (k, Some x) ∷ tail cs)
 
 -- it lies there as it is recorded
-abbrev pub IsLaidAsHeld : {A : Type 0} → Seated A → ℕ → Type 0
-IsLaidAsHeld {A = A} m k = (x : Slot A) × (m.1 ≡ (k, Some x) ∷ tail m.1) × (held_at m.0.held k ≡ Some x)
+abbrev pub IsInSlotAsHeld : {A : Type 0} → Seated A → ℕ → Type 0
+IsInSlotAsHeld {A = A} m k = (x : Slot A) × (m.1 ≡ (k, Some x) ∷ tail m.1) × (held_at m.0.held k ≡ Some x)
 
 -- a pass at rest holds no part
 abbrev pub IsIdle : {A : Type 0} → View A → Type 0

@@ -1,5 +1,5 @@
 -- All parts, as the slots of a table by number.
-use Rattle.std.specs.Prelude.{◌≡◌, List, [], ◌∷◌, ◌++◌, map, All, Option}
+use Rattle.std.specs.Prelude.{List, [], ◌∷◌, map, Option}
 use Rattle.page_state.specs.declared.layout.Config.{Config}
 use Rattle.page_state.specs.declared.layout.Layout.{Layout as TheLayout}
 use Rattle.page_state.specs.LayoutView.{layout_of}
@@ -10,13 +10,13 @@ use Rattle.hypercalls.specs.declared.parts.Parts.{Parts}
 use Rattle.part_table.specs.declared.slot.Slot.{Slot}
 use Rattle.part_table.specs.declared.slot.Slot.TheVariants.{Vm as VmSlot, Shared as SharedSlot, Guest as GuestSlot}
 use Rattle.part_table.specs.Endings.{IsRow}
-use Rattle.part_table.specs.Rule.{own_at_boot}
+use Rattle.part_table.specs.Rule.{AreOwnAtBoot}
 use Rattle.hypercalls.specs.Booted.{IsBooted}
 
 module _ {A : Type 0} where
   -- the parts by number, each in its slot
   abbrev pub slots_of : Parts A → List (Slot A)
-  slots_of p = map (λ v. VmSlot v) p.vms.items ++ (map (λ s. SharedSlot s) p.shared.items ++ map (λ g. GuestSlot g) p.guests.items)
+  slots_of p = VmSlot p.vms ∷ (SharedSlot p.shared ∷ map (λ g. GuestSlot g) p.guests.items)
 
   -- slots of guests alone
   abbrev pub AreGuests : List (Slot A) → Type 0
@@ -34,7 +34,7 @@ module _ {A : Type 0} where
 pub record AreAtBoot {A : Type 0} (l : TheLayout) (slots : List (Option (Slot A))) (cpus : List CpuState) : Type 0 where
   pub ready : CanBoot (layout_of l)
   pub row : IsRow l slots
-  pub owns : All (λ k. k ≡ own_at_boot l) cpus
+  pub owns : AreOwnAtBoot l cpus
 
 -- parts that have booted are so
 abbrev pub BootsAtBoot : {A : Type 0} → Parts A → List (Option (Slot A)) → List CpuState → Type 0

@@ -1,19 +1,18 @@
 //! The parts of a world under one table of words: a CPU takes the parts of a call, makes its step on them, and puts them home.
 #![tactic(auto)]
 
-mod bench;
-mod lone;
-pub mod opened;
+pub mod exchanges;
 pub mod pass;
+mod room;
 pub mod rule;
 mod slot;
+mod step;
 pub mod table;
 pub mod tries;
 pub mod whole;
 
-pub use bench::Bench;
-pub use lone::{alone, both, idle};
-pub use opened::PartTable;
 pub use pass::CpuPass;
 pub use slot::Slot;
+pub use step::{alone, both, idle};
+pub use table::PartTable;
 pub use tries::{Gate, Open};

@@ -6,8 +6,7 @@ ghost use Rattle.reference_model.specs.History.{IsStored};
 ghost use Rattle.part_table.specs.Answered.{Answers, FindsAway, FindsLogFull, StoresCall};
 ghost use Rattle.part_table.specs.Parts.{parts};
 
-use crate::bench::Bench;
-use crate::table::{Place, Shelf};
+use crate::exchanges::{PartSeat, SlotTable};
 use crate::tries::{Gate, any};
 use guest_steps::CpuState;
 use page_state::Layout;
@@ -18,10 +17,8 @@ use step_reply::{Call, Refusal, Reply, Step};
 /// A CPU's pass: its own state, and the right to take parts. Contracts see the table that it is of, and what it knows.
 #[derive(Drop)]
 pub struct CpuPass<A: Allocator> {
-    pub(crate) seat: Place<A>,
-    pub(crate) id: u64,
+    pub(crate) seat: PartSeat<A>,
     pub(crate) own: CpuState,
-    pub(crate) bench: Bench<A>,
 }
 
 impl<A: Allocator> Model for CpuPass<A> {
@@ -33,7 +30,7 @@ impl<A: Allocator> Model for CpuPass<A> {
 
     ghost view = { λ p. record { table = p.seat.table_id; knows = known_of p.seat.me.0; holds = numbers_held p.seat.me.0.held } };
 
-    ghost invariant = { λ p. (p.seat.me.1 ≡ []) × IsIdle p.seat.me.0 × (p.seat.me.0.on ≡ true) × (p.seat.me.0.cpu ≡ p.id) × (p.seat.me.0.own ≡ p.own) × (p.seat.me.0.cpu < p.seat.me.0.layout.config.cpus) × AtRest p.seat.me.0 };
+    ghost invariant = { λ p. (p.seat.me.1 ≡ []) × IsIdle p.seat.me.0 × (p.seat.me.0.on ≡ true) × (p.seat.me.0.cpu ≡ p.own.id) × (p.seat.me.0.own ≡ p.own) × (p.seat.me.0.cpu < p.seat.me.0.layout.config.cpus) × AtRest p.seat.me.0 };
 }
 
 impl<A: Allocator> CpuPass<A> {
@@ -43,7 +40,7 @@ impl<A: Allocator> CpuPass<A> {
         ensures below { result < self.now.knows.layout.config.cpus }
     {
         let _ = &self.seat;
-        self.id
+        self.own.id
     }
 
     /// The CPU's number of its next call that is stored.
@@ -68,12 +65,12 @@ impl<A: Allocator + Copy> CpuPass<A> {
     pub(crate) fn try_step<G: Gate>(
         &mut self,
         gate: &G,
-        shelf: &Shelf<A>,
+        table: &SlotTable<A>,
         alloc: A,
         layout: &Layout,
         step: Step,
     ) -> Reply
-        requires table { (self.old.table ≡ shelf.now.shared.table_id) × (shelf.now.shared.table_id.words ≡ parts) }
+        requires table { (self.old.table ≡ table.now.shared.table_id) × (table.now.shared.table_id.words ≡ parts) }
         requires layout { self.old.knows.layout ≡ layout.now }
         ensures table { self.new.table ≡ self.old.table }
         ensures rest { self.new.holds ≡ [] }
@@ -82,10 +79,8 @@ impl<A: Allocator + Copy> CpuPass<A> {
         if self.own.log.room() == 0 {
             return Reply::Refused(Refusal::LogFull);
         }
-        let id = self.id;
         let seat = &mut self.seat;
         let own = &mut self.own;
-        let bench = &mut self.bench;
-        any(gate, shelf, seat, alloc, layout, bench, id, own, step).reply()
+        any(gate, table, seat, alloc, layout, own, step).reply()
     }
 }

@@ -1,181 +1,273 @@
-//! The exchanges: a part is taken, goes home as it is recorded, or goes home with a call stored.
-ghost use Rattle.std.specs.Prelude.{◌≡◌, ℕ, ◌<◌, ◌∷◌, [], true, None, Some, IfSome, IfNone};
+//! The table of the 66 parts: it is opened as at boot, gives each CPU its pass, and is closed once all passes are back.
+ghost use Rattle.std.specs.Prelude.{◌≡◌, ◌≢◌, ◌<◌, ◌≤◌, [], true, length, IfOk};
+ghost use Rattle.std.specs.Vec.{vec_capacity, vec_len};
+ghost use Rattle.std.specs.Slots.{slots_items, slots_filled, slots_len, IsFull};
 ghost use Rattle.page_state.specs.LayoutView.{layout_of};
-ghost use Rattle.reference_model.specs.History.{IsStored};
-ghost use Rattle.part_table.specs.Does.{Does};
-ghost use Rattle.part_table.specs.Parts.{log_of, parts, uses};
-ghost use Rattle.part_table.specs.Rule.{Extends, IsInHand, IsLaid, IsLaidAsHeld, Standing, StartsWith, held_at, known_of, letting, missing, seen_at, storing, tail, taking};
+ghost use Rattle.reference_model.specs.Boot.{CanBoot};
+ghost use Rattle.part_table.specs.Endings.{AllHome, ForEach, Gives, HaveEnded, IsEndOf, IsRow, KeepsOwn, KeepsSeen, emptied_to};
+ghost use Rattle.part_table.specs.Parts.{parts};
+ghost use Rattle.part_table.specs.Passes.{AreFirst, AreHomeFrom, IsPassOf, first_pass};
+ghost use Rattle.part_table.specs.Rule.{AreOwnAtBoot, one_more, own_at_boot, rooted};
 
-use crate::rule::{Deed, Enter, Law, Return, Store, Take, View};
+use crate::exchanges::{PartSeat, SlotTable};
+use crate::pass::CpuPass;
+use crate::room::push_in_room;
+use crate::rule::{Clash, Root};
 use crate::slot::Slot;
-use atomic_table::{Seat, Table};
+use crate::tries::Gate;
+use atomic_table::{Closed, Table};
 use guest_steps::CpuState;
 use page_state::Layout;
-use std::alloc::{Allocator, Global};
-use std::marker::Brand;
-use step_reply::Call;
+use std::alloc::{AllocError, Allocator, Global};
+use std::marker::Model;
+use step_reply::{Reply, Step};
 
-/// The parts' words, and the parts that are at home.
-pub type Shelf<A> = Table<Option<Slot<A>>, View<A>, Layout, Law, Global>;
+/// The parts of a world under one table of words. Contracts see which table it is, and its layout.
+#[derive(Drop)]
+pub struct PartTable<A: Allocator> {
+    table: SlotTable<A>,
+    root: PartSeat<A>,
+    alloc: A,
+    layout: Layout,
+}
 
-/// The right to step on the table, with what is known.
-pub type Place<A> = Seat<Option<Slot<A>>, View<A>>;
+impl<A: Allocator> Model for PartTable<A> {
+    ghost use Rattle.part_table.specs.Passes.{IsReady, Opened};
 
-/// Takes a part, unless another pass has it.
-pub fn take<A: Allocator>(shelf: &Shelf<A>, seat: &mut Place<A>, k: usize) -> Option<Slot<A>>
-    requires table { (seat.old.table_id ≡ shelf.now.shared.table_id) × (shelf.now.shared.table_id.words ≡ parts) }
-    requires on { seat.old.me.0.on ≡ true }
-    requires part { k < parts }
-    ensures table { seat.new.table_id ≡ seat.old.table_id }
-    ensures taken { IfSome result (λ x. (seat.new.me ≡ (taking seat.old.me.0 k x, (k, None) ∷ seat.old.me.1)) × StartsWith (log_of x).calls (seen_at seat.old.me.0.seen k) × Standing seat.new.me.0) }
-    ensures missed { IfNone result (seat.new.me ≡ (missing seat.old.me.0 k, seat.old.me.1)) }
+    ghost Value = { Opened };
+
+    ghost view = { λ t. record { table = t.table.shared.table_id; layout = t.layout } };
+
+    ghost invariant = { λ t. IsReady t.table.shared.table_id t.table.shared.key t.root.table_id t.root.id t.root.me t.layout };
+}
+
+/// The words and slots of the table.
+fn new_table<A: Allocator>(
+    global: Global,
+    layout: &Layout,
+    slots: Vec<Option<Slot<A>>>,
+) -> Result<(SlotTable<A>, PartSeat<A>), AllocError>
+    requires row { IsRow layout.now slots.items }
+    requires ready { CanBoot (layout_of layout.now) }
+    ensures table { IfOk result (λ t. (t.0.shared.table_id.words ≡ parts) × (t.0.shared.table_id.slots ≡ parts) × (t.0.shared.key ≡ layout.now)) }
+    ensures root { IfOk result (λ t. (t.1.table_id ≡ t.0.shared.table_id) × (t.1.id ≡ 0) × (t.1.me ≡ (rooted layout.now, []))) }
 {
-    if shelf.shared.swap::<Take>(seat, k, 1) != 0 {
-        return None;
+    let words = [0u64; 66];
+    match Table::new(global, &words, slots, layout) {
+        Ok(made) => Ok(made),
+        Err(_) => Err(AllocError),
     }
-    shelf.shared.exchange(seat, k, None)
 }
 
-/// Puts a part home that lies in its slot, as it is recorded.
-pub fn let_home<A: Allocator>(shelf: &Shelf<A>, seat: &mut Place<A>, k: usize)
-    requires table { (seat.old.table_id ≡ shelf.now.shared.table_id) × (shelf.now.shared.table_id.words ≡ parts) }
-    requires on { seat.old.me.0.on ≡ true }
-    requires part { k < parts }
-    requires held { IsLaidAsHeld seat.old.me k }
-    ensures table { seat.new.table_id ≡ seat.old.table_id }
-    ensures home { seat.new.me ≡ (letting seat.old.me.0 k, tail seat.old.me.1) }
+/// The pass of the next CPU.
+fn new_pass<A: Allocator>(table: &SlotTable<A>, root: &mut PartSeat<A>, own: CpuState) -> CpuPass<A>
+    requires table { (root.old.table_id ≡ table.now.shared.table_id) × (table.now.shared.table_id.words ≡ parts) }
+    requires root { (root.old.id ≡ 0) × (root.old.me.0.root ≡ true) × (root.old.me.0.made ≡ own.id) × (root.old.me.0.layout ≡ table.now.shared.key) }
+    requires known { own.id < table.now.shared.key.config.cpus }
+    requires ready { CanBoot (layout_of table.now.shared.key) }
+    requires own { own ≡ own_at_boot table.now.shared.key own.id }
+    ensures root { (root.new.table_id ≡ root.old.table_id) × (root.new.id ≡ 0) × (root.new.me ≡ (one_more root.old.me.0, root.old.me.1)) }
+    ensures pass { result ≡ first_pass root.old.table_id table.now.shared.key own.id }
 {
-    shelf.shared.swap::<Return>(seat, k, 0);
+    let seat = table.shared.split_seat::<Root>(root);
+    CpuPass { seat, own }
 }
 
-/// Lays a part into its slot, the one that was taken last. No other pass sees it there before a play sends it home.
-fn lay<A: Allocator>(shelf: &Shelf<A>, seat: &mut Place<A>, k: usize, part: Slot<A>)
-    requires table { seat.old.table_id ≡ shelf.now.shared.table_id }
-    requires hand { IsInHand seat.old.me.1 k }
-    ensures table { seat.new.table_id ≡ seat.old.table_id }
-    ensures laid { seat.new.me ≡ (seat.old.me.0, (k, Some part) ∷ tail seat.old.me.1) }
+/// A pass for each CPU, by number.
+fn new_passes<A: Allocator>(
+    table: &SlotTable<A>,
+    root: &mut PartSeat<A>,
+    mut owns: Vec<CpuState>,
+    mut passes: Vec<Option<CpuPass<A>>>,
+) -> Vec<Option<CpuPass<A>>>
+    requires table { (root.old.table_id ≡ table.now.shared.table_id) × (table.now.shared.table_id.words ≡ parts) }
+    requires root { (root.old.id ≡ 0) × (root.old.me ≡ (rooted table.now.shared.key, [])) }
+    requires ready { CanBoot (layout_of table.now.shared.key) }
+    requires count { vec_len owns ≡ table.now.shared.key.config.cpus }
+    requires owns { AreOwnAtBoot table.now.shared.key owns.items }
+    requires room { (passes.items ≡ []) × (vec_len owns ≤ vec_capacity passes) }
+    ensures root { (root.new.table_id ≡ root.old.table_id) × (root.new.id ≡ 0) × (root.new.me ≡ (record (rooted table.now.shared.key) { made = table.now.shared.key.config.cpus }, [])) }
+    ensures passes { AreFirst (record { table = root.old.table_id; layout = table.now.shared.key }) (vec_len owns) result.items }
 {
-    // Nothing lay there.
-    drop(shelf.shared.exchange(seat, k, Some(part)));
+    let count = owns.len();
+    for _made in 0..count {
+        let own = owns.remove(0);
+        let pass = new_pass(table, root, own);
+        push_in_room(&mut passes, Some(pass));
+    }
+    passes
 }
 
-/// Puts a part home as it was taken.
-pub fn put_back<A: Allocator>(shelf: &Shelf<A>, seat: &mut Place<A>, k: usize, part: Slot<A>)
-    requires table { (seat.old.table_id ≡ shelf.now.shared.table_id) × (shelf.now.shared.table_id.words ≡ parts) }
-    requires on { seat.old.me.0.on ≡ true }
-    requires part { k < parts }
-    requires hand { IsInHand seat.old.me.1 k }
-    requires held { held_at seat.old.me.0.held k ≡ Some part }
-    ensures table { seat.new.table_id ≡ seat.old.table_id }
-    ensures home { seat.new.me ≡ (letting seat.old.me.0 k, tail seat.old.me.1) }
-{
-    lay(shelf, seat, k, part);
-    let_home(shelf, seat, k);
+impl<A: Allocator> PartTable<A> {
+    /// A table of parts that are as at boot, and the passes of all CPUs, by number. Requires the CPUs' own states, as at
+    /// boot. `alloc` is where the tables of all trees lie.
+    pub fn open(
+        global: Global,
+        alloc: A,
+        layout: Layout,
+        slots: Vec<Option<Slot<A>>>,
+        owns: Vec<CpuState>,
+    ) -> Result<(PartTable<A>, Vec<Option<CpuPass<A>>>), AllocError>
+        requires row { IsRow layout slots.items }
+        requires ready { CanBoot (layout_of layout) }
+        requires owns { (vec_len owns ≡ layout.config.cpus) × AreOwnAtBoot layout owns.items }
+        ensures layout { IfOk result (λ t. t.0.layout ≡ layout) }
+        ensures passes { IfOk result (λ t. AreFirst t.0 layout.config.cpus t.1.items) }
+    {
+        let count = owns.len();
+        let Ok(passes) = Vec::with_capacity(global, count) else {
+            return Err(AllocError);
+        };
+        let Ok((table, mut root)) = new_table(global, &layout, slots) else {
+            return Err(AllocError);
+        };
+        let passes = new_passes(&table, &mut root, owns, passes);
+        let table = PartTable {
+            table,
+            root,
+            alloc,
+            layout,
+        };
+        Ok((table, passes))
+    }
+
+    /// Two passes of a table are of different CPUs. It ends both.
+    pub fn apart(&self, one: CpuPass<A>, other: CpuPass<A>)
+        requires passes { IsPassOf self.now one × IsPassOf self.now other }
+        ensures { one.knows.cpu ≢ other.knows.cpu }
+    {
+        let _ = &self.root;
+        clash(&self.table, one, other);
+    }
+
+    /// The parts, by number, and the CPUs' own states, at the end of the one legal history. Each CPU's own state, with its
+    /// calls, is that of its pass, and each part's log begins with what each pass has seen of it. Requires the passes of
+    /// all CPUs, by number, and for room in both lists, which it fills.
+    pub fn close(
+        self,
+        passes: Vec<Option<CpuPass<A>>>,
+        found: Vec<Slot<A>>,
+        cpus: Vec<CpuState>,
+    ) -> (A, Layout, Vec<Slot<A>>, Vec<CpuState>)
+        requires count { vec_len passes ≡ self.layout.config.cpus }
+        requires home { AreHomeFrom self.table (vec_len passes) 0 passes.items }
+        requires room { (cpus.items ≡ []) × (vec_len passes ≤ vec_capacity cpus) × (found.items ≡ []) × (parts ≤ vec_capacity found) }
+        ensures layout { result.1 ≡ self.layout }
+        ensures end { IsEndOf self.layout result.2.items result.3.items }
+        ensures own { ForEach passes.items (KeepsOwn result.3.items) }
+        ensures seen { ForEach passes.items (KeepsSeen result.2.items) }
+    {
+        let PartTable {
+            table,
+            root,
+            alloc,
+            layout,
+        } = self;
+        let (found, cpus) = end(table, root, passes, found, cpus);
+        (alloc, layout, found, cpus)
+    }
 }
 
-/// The part that lies in the slot taken last goes home with the call stored.
-fn store<A: Allocator, J: Deed>(
-    shelf: &Shelf<A>,
-    seat: &mut Place<A>,
-    k: usize,
-    call: &Call,
-    own: &CpuState,
-)
-    requires table { (seat.old.table_id ≡ shelf.now.shared.table_id) × (shelf.now.shared.table_id.words ≡ parts) }
-    requires on { seat.old.me.0.on ≡ true }
-    requires part { k < parts }
-    requires laid { IsLaid seat.old.me.1 k }
-    requires used { (j : ℕ) (x : _) → held_at seat.old.me.0.held j ≡ Some x → uses J.call j ≡ true }
-    requires by { J.call.cpu ≡ seat.old.me.0.cpu }
-    requires does { Does (layout_of seat.old.me.0.layout) J.call (held_at seat.old.me.0.held) seat.old.me.0.own (held_at seat.old.me.1) J.own }
-    ensures table { seat.new.table_id ≡ seat.old.table_id }
-    ensures history { Extends J.call (known_of seat.new.me.0) }
-    ensures home { seat.new.me ≡ (storing J.own seat.old.me.1 seat.old.me.0 k, tail seat.old.me.1) }
-{
-    shelf.shared.swap::<Store<J>>(seat, k, 0);
+impl<A: Allocator + Copy> PartTable<A> {
+    ghost use Rattle.std.specs.Prelude.{◌≡◌, []};
+    ghost use Rattle.step_reply.specs.declared.reply.Refusal.TheVariants.{Contended, LogFull};
+    ghost use Rattle.step_reply.specs.declared.reply.Reply.TheVariants.{Refused};
+    ghost use Rattle.reference_model.specs.History.{IsStored};
+    ghost use Rattle.part_table.specs.Answered.{FindsAway, FindsLogFull, MeetsAnother, StoresCall};
+    ghost use Rattle.part_table.specs.Passes.{IsPassOf};
+
+    /// One try of a step, which waits for nobody. `taken` of the gate is called in it, and `answered` isn't.
+    pub fn try_step<G: Gate>(&self, gate: &G, pass: &mut CpuPass<A>, step: Step) -> Reply
+        requires pass { IsPassOf self.now pass.old }
+        ensures pass { IsPassOf self.now pass.new }
+        ensures cpu { pass.new.knows.cpu ≡ pass.old.knows.cpu }
+        ensures rest { pass.new.holds ≡ [] }
+        ensures stored { IsStored result → StoresCall step result pass.old.knows pass.new.knows }
+        ensures contended { result ≡ Refused Contended → FindsAway step pass.old.knows pass.new.knows }
+        ensures met { MeetsAnother pass.old.knows pass.new.knows → result ≡ Refused Contended }
+        ensures log_full { result ≡ Refused LogFull → FindsLogFull step pass.old.knows pass.new.knows }
+    {
+        let _ = &self.root;
+        pass.try_step(gate, &self.table, self.alloc, &self.layout, step)
+    }
 }
 
-/// Puts the one part of a call home with the call stored: the commit.
-pub fn commit<A: Allocator>(
-    shelf: &Shelf<A>,
-    seat: &mut Place<A>,
-    k: usize,
-    part: Slot<A>,
-    call: &Call,
-    own: &CpuState,
-)
-    requires table { (seat.old.table_id ≡ shelf.now.shared.table_id) × (shelf.now.shared.table_id.words ≡ parts) }
-    requires on { seat.old.me.0.on ≡ true }
-    requires part { k < parts }
-    requires hand { seat.old.me.1 ≡ (k, None) ∷ [] }
-    requires used { (j : ℕ) (x : _) → held_at seat.old.me.0.held j ≡ Some x → uses call.now j ≡ true }
-    requires by { call.now.cpu ≡ seat.old.me.0.cpu }
-    requires does { Does (layout_of seat.old.me.0.layout) call.now (held_at seat.old.me.0.held) seat.old.me.0.own (held_at ((k, Some part) ∷ [])) own.now }
-    ensures table { seat.new.table_id ≡ seat.old.table_id }
-    ensures history { Extends call.now (known_of seat.new.me.0) }
-    ensures home { seat.new.me ≡ (storing own.now ((k, Some part) ∷ []) seat.old.me.0 k, []) }
+/// Two passes of one CPU can't be had: the rule has a seat for each CPU alone.
+fn clash<A: Allocator>(table: &SlotTable<A>, one: CpuPass<A>, other: CpuPass<A>)
+    requires table { (one.table ≡ table.now.shared.table_id) × (other.table ≡ table.now.shared.table_id) × (table.now.shared.table_id.words ≡ parts) }
+    ensures { one.knows.cpu ≢ other.knows.cpu }
 {
-    lay(shelf, seat, k, part);
-    store::<A, Brand>(shelf, seat, k, call, own);
+    if one.own.id != other.own.id {
+        return;
+    }
+    let mut seat = one.seat;
+    let spent = other.seat;
+    table.shared.join_seat::<Clash>(&mut seat, spent);
+    table.shared.load::<Clash>(&mut seat, 0);
 }
 
-/// Puts a guest home with the call stored, the commit of both parts. The Shared part lies in its slot, and stays in hand.
-pub fn commit_first<A: Allocator>(
-    shelf: &Shelf<A>,
-    seat: &mut Place<A>,
-    guest: usize,
-    part: Slot<A>,
-    shared: Slot<A>,
-    call: &Call,
-    own: &CpuState,
-)
-    requires table { (seat.old.table_id ≡ shelf.now.shared.table_id) × (shelf.now.shared.table_id.words ≡ parts) }
-    requires on { seat.old.me.0.on ≡ true }
-    requires part { guest < parts }
-    requires hand { seat.old.me.1 ≡ (guest, None) ∷ (1, None) ∷ [] }
-    requires used { (j : ℕ) (x : _) → held_at seat.old.me.0.held j ≡ Some x → uses call.now j ≡ true }
-    requires by { call.now.cpu ≡ seat.old.me.0.cpu }
-    requires does { Does (layout_of seat.old.me.0.layout) call.now (held_at seat.old.me.0.held) seat.old.me.0.own (held_at ((guest, Some part) ∷ (1, Some shared) ∷ [])) own.now }
-    ensures table { seat.new.table_id ≡ seat.old.table_id }
-    ensures history { Extends call.now (known_of seat.new.me.0) }
-    ensures home { seat.new.me ≡ (storing own.now ((guest, Some part) ∷ (1, Some shared) ∷ []) seat.old.me.0 guest, (1, Some shared) ∷ []) }
+/// All passes are joined, in the order of their CPUs.
+fn join_all<A: Allocator>(
+    table: &SlotTable<A>,
+    root: &mut PartSeat<A>,
+    mut passes: Vec<Option<CpuPass<A>>>,
+    mut cpus: Vec<CpuState>,
+) -> Vec<CpuState>
+    requires table { (root.old.table_id ≡ table.now.shared.table_id) × (table.now.shared.table_id.words ≡ parts) }
+    requires root { (root.old.id ≡ 0) × (root.old.me.0.root ≡ true) × (root.old.me.0.ended ≡ []) × (root.old.me.0.made ≡ vec_len passes) × (root.old.me.1 ≡ []) }
+    requires home { AreHomeFrom root.old.table_id (vec_len passes) 0 passes.items }
+    requires room { (cpus.items ≡ []) × (vec_len passes ≤ vec_capacity cpus) }
+    ensures root { (root.new.table_id ≡ root.old.table_id) × (root.new.id ≡ 0) × (root.new.me.0.root ≡ true) × (root.new.me.0.made ≡ root.old.me.0.made) }
+    ensures ended { HaveEnded root.old.me.0.made passes.items root.new.me.0.ended result.items }
 {
-    lay(shelf, seat, guest, part);
-    seat.turn();
-    lay(shelf, seat, 1, shared);
-    seat.turn();
-    store::<A, Brand>(shelf, seat, guest, call, own);
+    let count = passes.len();
+    for cpu in 0..count {
+        let pass = passes[cpu].take().unwrap();
+        let CpuPass { seat, own } = pass;
+        table.shared.join_seat::<Root>(root, seat);
+        push_in_room(&mut cpus, own);
+    }
+    cpus
 }
 
-/// A load that enters the call.
-fn load_entry<A: Allocator, J: Deed>(
-    shelf: &Shelf<A>,
-    seat: &mut Place<A>,
-    call: &Call,
-    own: &CpuState,
-)
-    requires table { (seat.old.table_id ≡ shelf.now.shared.table_id) × (shelf.now.shared.table_id.words ≡ parts) }
-    requires on { seat.old.me.0.on ≡ true }
-    requires used { (j : ℕ) (x : _) → held_at seat.old.me.0.held j ≡ Some x → uses J.call j ≡ true }
-    requires by { J.call.cpu ≡ seat.old.me.0.cpu }
-    requires does { Does (layout_of seat.old.me.0.layout) J.call (held_at seat.old.me.0.held) seat.old.me.0.own (held_at []) J.own }
-    ensures table { seat.new.table_id ≡ seat.old.table_id }
-    ensures history { Extends J.call (known_of seat.new.me.0) }
-    ensures entered { seat.new.me ≡ (storing J.own [] seat.old.me.0 0, seat.old.me.1) }
+/// The part of each slot, in order.
+fn collect<A: Allocator>(
+    closed: &mut Closed<Option<Slot<A>>, Global>,
+    mut found: Vec<Slot<A>>,
+) -> Vec<Slot<A>>
+    requires full { IsFull closed.old.slots × (slots_len closed.old.slots ≡ parts) }
+    requires home { AllHome (slots_items closed.old.slots) }
+    requires room { (found.items ≡ []) × (parts ≤ vec_capacity found) }
+    ensures gives { Gives parts (slots_items closed.old.slots) result.items }
+    ensures emptied { (slots_len closed.new.slots ≡ parts) × emptied_to parts (slots_filled closed.new.slots) }
 {
-    shelf.shared.load::<Enter<J>>(seat, 0);
+    for k in 0..66usize {
+        let part = closed.take(k).unwrap();
+        push_in_room(&mut found, part);
+    }
+    found
 }
 
-/// Enters a call that used no part in the pass's own list.
-pub fn enter<A: Allocator>(shelf: &Shelf<A>, seat: &mut Place<A>, call: &Call, own: &CpuState)
-    requires table { (seat.old.table_id ≡ shelf.now.shared.table_id) × (shelf.now.shared.table_id.words ≡ parts) }
-    requires on { seat.old.me.0.on ≡ true }
-    requires used { (j : ℕ) (x : _) → held_at seat.old.me.0.held j ≡ Some x → uses call.now j ≡ true }
-    requires by { call.now.cpu ≡ seat.old.me.0.cpu }
-    requires does { Does (layout_of seat.old.me.0.layout) call.now (held_at seat.old.me.0.held) seat.old.me.0.own (held_at []) own.now }
-    ensures table { seat.new.table_id ≡ seat.old.table_id }
-    ensures history { Extends call.now (known_of seat.new.me.0) }
-    ensures entered { seat.new.me ≡ (storing own.now [] seat.old.me.0 0, seat.old.me.1) }
+/// Joins all passes, and closes the table.
+fn end<A: Allocator>(
+    table: SlotTable<A>,
+    mut root: PartSeat<A>,
+    passes: Vec<Option<CpuPass<A>>>,
+    found: Vec<Slot<A>>,
+    cpus: Vec<CpuState>,
+) -> (Vec<Slot<A>>, Vec<CpuState>)
+    requires table { (root.table_id ≡ table.shared.table_id) × (table.shared.table_id.words ≡ parts) × (table.shared.table_id.slots ≡ parts) }
+    requires root { (root.id ≡ 0) × (root.me.0.root ≡ true) × (root.me.0.ended ≡ []) × (root.me.0.made ≡ vec_len passes) × (root.me.1 ≡ []) }
+    requires all { vec_len passes ≡ table.shared.key.config.cpus }
+    requires home { AreHomeFrom root.table_id (vec_len passes) 0 passes.items }
+    requires room { (cpus.items ≡ []) × (vec_len passes ≤ vec_capacity cpus) × (found.items ≡ []) × (parts ≤ vec_capacity found) }
+    ensures end { IsEndOf table.shared.key result.0.items result.1.items }
+    ensures own { ForEach passes.items (KeepsOwn result.1.items) }
+    ensures seen { ForEach passes.items (KeepsSeen result.0.items) }
 {
-    load_entry::<A, Brand>(shelf, seat, call, own);
+    let cpus = join_all(&table, &mut root, passes, cpus);
+    let mut closed = table.close_with(root);
+    let found = collect(&mut closed, found);
+    closed.free();
+    (found, cpus)
 }

@@ -1,18 +1,16 @@
 //! One try of a call.
 ghost use Rattle.std.specs.Prelude.{◌≡◌, ◌≢◌, ◌+◌, ◌<◌, ◌∷◌, [], true};
 ghost use Rattle.guest_steps.specs.View.{cpu_of};
-ghost use Rattle.reference_model.specs.Parts.{guest_slot, names};
-ghost use Rattle.hypercalls.specs.Uses.{parts_of};
+ghost use Rattle.hypercalls.specs.Uses.{uses_of};
 ghost use Rattle.part_table.specs.Parts.{in_order, parts};
 ghost use Rattle.part_table.specs.Rule.{AtRest, IsIdle, known_of};
 ghost use Rattle.part_table.specs.Tried.{Tells};
 
-use crate::bench::Bench;
-use crate::lone::{alone, both, idle};
+use crate::exchanges::{PartSeat, SlotTable, commit, commit_first, enter, put_back, release, take};
 use crate::slot::Slot;
-use crate::table::{Place, Shelf, commit, commit_first, enter, let_home, put_back, take};
+use crate::step::{alone, both, idle};
 use guest_steps::CpuState;
-use hypercalls::{Uses, parts_used};
+use hypercalls::{UsedParts, uses};
 use page_state::Layout;
 use std::alloc::Allocator;
 use step_reply::{Call, Refusal, Reply, Step};
@@ -48,173 +46,154 @@ pub enum Tried {
 /// Tries a step that uses no part.
 pub fn none<A: Allocator + Copy, G: Gate>(
     gate: &G,
-    shelf: &Shelf<A>,
-    seat: &mut Place<A>,
-    alloc: A,
+    table: &SlotTable<A>,
+    seat: &mut PartSeat<A>,
     layout: &Layout,
-    id: u64,
     cpu: &mut CpuState,
     step: Step,
 ) -> Tried
-    requires table { (seat.old.table_id ≡ shelf.now.shared.table_id) × (shelf.now.shared.table_id.words ≡ parts) }
+    requires table { (seat.old.table_id ≡ table.now.shared.table_id) × (table.now.shared.table_id.words ≡ parts) }
     requires on { seat.old.me.0.on ≡ true }
-    requires cpu { (seat.old.me.0.layout ≡ layout.now) × (seat.old.me.0.cpu ≡ id) × (seat.old.me.0.own ≡ cpu.old) }
-    requires known { id < layout.now.config.cpus }
+    requires cpu { (seat.old.me.0.layout ≡ layout.now) × (seat.old.me.0.cpu ≡ cpu.old.id) × (seat.old.me.0.own ≡ cpu.old) }
+    requires known { cpu.old.id < layout.now.config.cpus }
     requires own_room { cpu.old.log.room ≢ 0 }
     requires rest { (seat.old.me.1 ≡ []) × IsIdle seat.old.me.0 }
     requires left { AtRest seat.old.me.0 }
-    requires uses { in_order (parts_of (names step) (guest_slot (cpu_of cpu.old) step)) ≡ [] }
+    requires uses { in_order (uses_of (cpu_of cpu.old) step) ≡ [] }
     ensures table { seat.new.table_id ≡ seat.old.table_id }
     ensures rest { (seat.new.me.1 ≡ []) × IsIdle seat.new.me.0 }
-    ensures cpu { (seat.new.me.0.layout ≡ layout.now) × (seat.new.me.0.cpu ≡ id) × (seat.new.me.0.own ≡ cpu.new) × (seat.new.me.0.on ≡ true) }
+    ensures cpu { (seat.new.me.0.layout ≡ layout.now) × (seat.new.me.0.cpu ≡ cpu.old.id) × (seat.new.me.0.own ≡ cpu.new) × (seat.new.me.0.on ≡ true) }
     ensures left { AtRest seat.new.me.0 }
     ensures tells { Tells step [] result (known_of seat.old.me.0) (known_of seat.new.me.0) }
 {
     let number = cpu.log.len() as u64 + 1;
-    gate.taken(id, number);
-    let call = idle(alloc, layout, id, cpu, step);
-    enter(shelf, seat, &call, cpu);
+    gate.taken(cpu.id, number);
+    let call = idle::<A>(layout, cpu, step);
+    enter(table, seat, &call, cpu);
     Tried::Stored(call)
 }
 
 /// Tries a step that uses the part k alone.
 pub fn one<A: Allocator + Copy, G: Gate>(
     gate: &G,
-    shelf: &Shelf<A>,
-    seat: &mut Place<A>,
+    table: &SlotTable<A>,
+    seat: &mut PartSeat<A>,
     alloc: A,
     layout: &Layout,
-    bench: &mut Bench<A>,
     k: u64,
-    id: u64,
     cpu: &mut CpuState,
     step: Step,
 ) -> Tried
-    requires table { (seat.old.table_id ≡ shelf.now.shared.table_id) × (shelf.now.shared.table_id.words ≡ parts) }
+    requires table { (seat.old.table_id ≡ table.now.shared.table_id) × (table.now.shared.table_id.words ≡ parts) }
     requires on { seat.old.me.0.on ≡ true }
-    requires cpu { (seat.old.me.0.layout ≡ layout.now) × (seat.old.me.0.cpu ≡ id) × (seat.old.me.0.own ≡ cpu.old) }
-    requires known { id < layout.now.config.cpus }
+    requires cpu { (seat.old.me.0.layout ≡ layout.now) × (seat.old.me.0.cpu ≡ cpu.old.id) × (seat.old.me.0.own ≡ cpu.old) }
+    requires known { cpu.old.id < layout.now.config.cpus }
     requires own_room { cpu.old.log.room ≢ 0 }
     requires rest { (seat.old.me.1 ≡ []) × IsIdle seat.old.me.0 }
     requires left { AtRest seat.old.me.0 }
     requires part { k < parts }
-    requires uses { in_order (parts_of (names step) (guest_slot (cpu_of cpu.old) step)) ≡ k ∷ [] }
+    requires uses { in_order (uses_of (cpu_of cpu.old) step) ≡ k ∷ [] }
     ensures table { seat.new.table_id ≡ seat.old.table_id }
     ensures rest { (seat.new.me.1 ≡ []) × IsIdle seat.new.me.0 }
-    ensures cpu { (seat.new.me.0.layout ≡ layout.now) × (seat.new.me.0.cpu ≡ id) × (seat.new.me.0.own ≡ cpu.new) × (seat.new.me.0.on ≡ true) }
+    ensures cpu { (seat.new.me.0.layout ≡ layout.now) × (seat.new.me.0.cpu ≡ cpu.old.id) × (seat.new.me.0.own ≡ cpu.new) × (seat.new.me.0.on ≡ true) }
     ensures left { AtRest seat.new.me.0 }
     ensures tells { Tells step (k ∷ []) result (known_of seat.old.me.0) (known_of seat.new.me.0) }
 {
-    let place = k as usize;
-    let Some(part) = take(shelf, seat, place) else {
+    let at = k as usize;
+    let Some(part) = take(table, seat, at) else {
         return Tried::Contended;
     };
     if part.room() == 0 {
-        put_back(shelf, seat, place, part);
+        put_back(table, seat, at, part);
         return Tried::LogFull;
     }
     let number = cpu.log.len() as u64 + 1;
-    gate.taken(id, number);
-    let (part, call) = alone(alloc, layout, bench, part, k, id, cpu, step);
-    commit(shelf, seat, place, part, &call, cpu);
+    gate.taken(cpu.id, number);
+    let (part, call) = alone(alloc, layout, part, k, cpu, step);
+    commit(table, seat, at, part, &call, cpu);
     Tried::Stored(call)
 }
 
 /// Tries a step that uses the Shared part and the Guest part of slot v. The Shared part is taken first, and goes home last.
 pub fn two<A: Allocator + Copy, G: Gate>(
     gate: &G,
-    shelf: &Shelf<A>,
-    seat: &mut Place<A>,
+    table: &SlotTable<A>,
+    seat: &mut PartSeat<A>,
     alloc: A,
     layout: &Layout,
-    bench: &mut Bench<A>,
     v: u64,
-    id: u64,
     cpu: &mut CpuState,
     step: Step,
 ) -> Tried
-    requires table { (seat.old.table_id ≡ shelf.now.shared.table_id) × (shelf.now.shared.table_id.words ≡ parts) }
+    requires table { (seat.old.table_id ≡ table.now.shared.table_id) × (table.now.shared.table_id.words ≡ parts) }
     requires on { seat.old.me.0.on ≡ true }
-    requires cpu { (seat.old.me.0.layout ≡ layout.now) × (seat.old.me.0.cpu ≡ id) × (seat.old.me.0.own ≡ cpu.old) }
-    requires known { id < layout.now.config.cpus }
+    requires cpu { (seat.old.me.0.layout ≡ layout.now) × (seat.old.me.0.cpu ≡ cpu.old.id) × (seat.old.me.0.own ≡ cpu.old) }
+    requires known { cpu.old.id < layout.now.config.cpus }
     requires own_room { cpu.old.log.room ≢ 0 }
     requires rest { (seat.old.me.1 ≡ []) × IsIdle seat.old.me.0 }
     requires left { AtRest seat.old.me.0 }
     requires part { v + 2 < parts }
-    requires uses { in_order (parts_of (names step) (guest_slot (cpu_of cpu.old) step)) ≡ 1 ∷ (v + 2) ∷ [] }
+    requires uses { in_order (uses_of (cpu_of cpu.old) step) ≡ 1 ∷ (v + 2) ∷ [] }
     ensures table { seat.new.table_id ≡ seat.old.table_id }
     ensures rest { (seat.new.me.1 ≡ []) × IsIdle seat.new.me.0 }
-    ensures cpu { (seat.new.me.0.layout ≡ layout.now) × (seat.new.me.0.cpu ≡ id) × (seat.new.me.0.own ≡ cpu.new) × (seat.new.me.0.on ≡ true) }
+    ensures cpu { (seat.new.me.0.layout ≡ layout.now) × (seat.new.me.0.cpu ≡ cpu.old.id) × (seat.new.me.0.own ≡ cpu.new) × (seat.new.me.0.on ≡ true) }
     ensures left { AtRest seat.new.me.0 }
     ensures tells { Tells step (1 ∷ (v + 2) ∷ []) result (known_of seat.old.me.0) (known_of seat.new.me.0) }
 {
-    let place = v as usize + 2;
-    let Some(shared) = take(shelf, seat, 1) else {
+    let at = v as usize + 2;
+    let Some(shared) = take(table, seat, 1) else {
         return Tried::Contended;
     };
     if shared.room() == 0 {
-        put_back(shelf, seat, 1, shared);
+        put_back(table, seat, 1, shared);
         return Tried::LogFull;
     }
-    let Some(guest) = take(shelf, seat, place) else {
-        put_back(shelf, seat, 1, shared);
+    let Some(guest) = take(table, seat, at) else {
+        put_back(table, seat, 1, shared);
         return Tried::Contended;
     };
     if guest.room() == 0 {
-        put_back(shelf, seat, place, guest);
-        put_back(shelf, seat, 1, shared);
+        put_back(table, seat, at, guest);
+        put_back(table, seat, 1, shared);
         return Tried::LogFull;
     }
     let number = cpu.log.len() as u64 + 1;
-    gate.taken(id, number);
-    let (shared, guest, call) = both(alloc, layout, bench, shared, guest, v, id, cpu, step);
-    commit_first(shelf, seat, place, guest, shared, &call, cpu);
-    let_home(shelf, seat, 1);
+    gate.taken(cpu.id, number);
+    let (shared, guest, call) = both(alloc, layout, shared, guest, v, cpu, step);
+    commit_first(table, seat, at, guest, shared, &call, cpu);
+    release(table, seat, 1);
     Tried::Stored(call)
 }
 
 /// Tries a step on the parts that it uses.
 pub fn any<A: Allocator + Copy, G: Gate>(
     gate: &G,
-    shelf: &Shelf<A>,
-    seat: &mut Place<A>,
+    table: &SlotTable<A>,
+    seat: &mut PartSeat<A>,
     alloc: A,
     layout: &Layout,
-    bench: &mut Bench<A>,
-    id: u64,
     cpu: &mut CpuState,
     step: Step,
 ) -> Tried
-    requires table { (seat.old.table_id ≡ shelf.now.shared.table_id) × (shelf.now.shared.table_id.words ≡ parts) }
+    requires table { (seat.old.table_id ≡ table.now.shared.table_id) × (table.now.shared.table_id.words ≡ parts) }
     requires on { seat.old.me.0.on ≡ true }
-    requires cpu { (seat.old.me.0.layout ≡ layout.now) × (seat.old.me.0.cpu ≡ id) × (seat.old.me.0.own ≡ cpu.old) }
-    requires known { id < layout.now.config.cpus }
+    requires cpu { (seat.old.me.0.layout ≡ layout.now) × (seat.old.me.0.cpu ≡ cpu.old.id) × (seat.old.me.0.own ≡ cpu.old) }
+    requires known { cpu.old.id < layout.now.config.cpus }
     requires own_room { cpu.old.log.room ≢ 0 }
     requires rest { (seat.old.me.1 ≡ []) × IsIdle seat.old.me.0 }
     requires left { AtRest seat.old.me.0 }
     ensures table { seat.new.table_id ≡ seat.old.table_id }
     ensures rest { (seat.new.me.1 ≡ []) × IsIdle seat.new.me.0 }
-    ensures cpu { (seat.new.me.0.layout ≡ layout.now) × (seat.new.me.0.cpu ≡ id) × (seat.new.me.0.own ≡ cpu.new) × (seat.new.me.0.on ≡ true) }
+    ensures cpu { (seat.new.me.0.layout ≡ layout.now) × (seat.new.me.0.cpu ≡ cpu.old.id) × (seat.new.me.0.own ≡ cpu.new) × (seat.new.me.0.on ≡ true) }
     ensures left { AtRest seat.new.me.0 }
-    ensures tells { Tells step (in_order (parts_of (names step) (guest_slot (cpu_of cpu.old) step))) result (known_of seat.old.me.0) (known_of seat.new.me.0) }
+    ensures tells { Tells step (in_order (uses_of (cpu_of cpu.old) step)) result (known_of seat.old.me.0) (known_of seat.new.me.0) }
 {
-    match parts_used(cpu, &step) {
-        Uses::Nothing => none(gate, shelf, seat, alloc, layout, id, cpu, step),
-        Uses::Vms => one(gate, shelf, seat, alloc, layout, bench, 0, id, cpu, step),
-        Uses::Shared => one(gate, shelf, seat, alloc, layout, bench, 1, id, cpu, step),
-        Uses::Guest(v) => one(
-            gate,
-            shelf,
-            seat,
-            alloc,
-            layout,
-            bench,
-            v + 2,
-            id,
-            cpu,
-            step,
-        ),
-        Uses::Both(v) => two(gate, shelf, seat, alloc, layout, bench, v, id, cpu, step),
+    match uses(cpu, &step) {
+        UsedParts::Nothing => none(gate, table, seat, layout, cpu, step),
+        UsedParts::Vms => one(gate, table, seat, alloc, layout, 0, cpu, step),
+        UsedParts::Shared => one(gate, table, seat, alloc, layout, 1, cpu, step),
+        UsedParts::Guest(v) => one(gate, table, seat, alloc, layout, v + 2, cpu, step),
+        UsedParts::Both(v) => two(gate, table, seat, alloc, layout, v, cpu, step),
     }
 }
 

@@ -5,15 +5,15 @@ ghost use Rattle.hypercalls.specs.Stands.{HasHistory};
 ghost use Rattle.part_table.specs.Endings.{IsEndOf};
 ghost use Rattle.part_table.specs.Whole.{AreGuests, AreParts, BootsAtBoot, slots_of};
 
-use crate::bench::{lay, lift, push_in_room};
+use crate::room::push_in_room;
 use crate::slot::Slot;
 use guest_steps::{CpuState, GuestPart, SharedPart, VmPart};
 use hypercalls::Parts;
 use page_state::Layout;
 use std::alloc::Allocator;
 
-/// Lays guests into slots, in their order.
-fn lay_guests<A: Allocator>(
+/// Pushes guests, each in a slot, in their order.
+fn push_guests<A: Allocator>(
     mut slots: Vec<Option<Slot<A>>>,
     mut guests: Vec<GuestPart<A>>,
 ) -> Vec<Option<Slot<A>>>
@@ -27,8 +27,8 @@ fn lay_guests<A: Allocator>(
     slots
 }
 
-/// Lays the VM part and the Shared part into slots.
-fn lay_first<A: Allocator>(
+/// Pushes the VM part and the Shared part, each in a slot.
+fn push_first<A: Allocator>(
     mut slots: Vec<Option<Slot<A>>>,
     vm: VmPart,
     shared: SharedPart<A>,
@@ -59,15 +59,13 @@ pub fn apart<A: Allocator>(
 {
     let Parts {
         layout,
-        mut vms,
-        mut shared,
+        vms,
+        shared,
         guests,
         cpus,
     } = parts;
-    let vm = lift(&mut vms);
-    let part = lift(&mut shared);
-    let slots = lay_first(slots, vm, part);
-    let slots = lay_guests(slots, guests);
+    let slots = push_first(slots, vms, shared);
+    let slots = push_guests(slots, guests);
     (layout, slots, cpus)
 }
 
@@ -103,21 +101,17 @@ pub fn together<A: Allocator>(
     layout: Layout,
     found: Vec<Slot<A>>,
     cpus: Vec<CpuState>,
-    mut vms: Vec<VmPart>,
-    mut shared: Vec<SharedPart<A>>,
     guests: Vec<GuestPart<A>>,
 ) -> Parts<A>
     requires end { IsEndOf layout found.items cpus.items }
-    requires empty { (vec_len vms ≡ 0) × (vec_len shared ≡ 0) × (guests.items ≡ []) }
-    requires room { (1 ≤ vec_capacity vms) × (1 ≤ vec_capacity shared) × (64 ≤ vec_capacity guests) }
+    requires empty { guests.items ≡ [] }
+    requires room { 64 ≤ vec_capacity guests }
     ensures layout { result.layout ≡ layout }
     ensures parts { slots_of result ≡ found.items }
     ensures cpus { result.cpus ≡ cpus }
     ensures history { ∥ HasHistory result ∥₁ }
 {
-    let (vm, part, found) = first_of(found);
-    lay(&mut vms, vm);
-    lay(&mut shared, part);
+    let (vms, shared, found) = first_of(found);
     let guests = guests_of(found, guests);
     Parts {
         layout,

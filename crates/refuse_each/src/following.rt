@@ -28,6 +28,7 @@ fn foretells(global: Global, begun: Ghost, calls: &[(u64, Step, Reply)]) -> Resu
 
 /// Whether the calls get, from boot on, the replies that the model foretells. None where memory is refused.
 pub fn follows(global: Global, calls: &[(u64, Step, Reply)]) -> Option<bool> {
-    let begun = booted_world(global)?.to_ghost(global).ok()?;
+    let world = booted_world(global)?;
+    let begun = world.to_ghost(global).ok()?;
     foretells(global, begun, calls).ok()
 }

@@ -1,5 +1,5 @@
 -- What setting a word comes to.
-use Rattle.std.proofs.Common.{◌≡◌, ℕ, refl, subst, List, Option, Some, None, Result, Ok, Err, IsSome, MatchOption, inr}
+use Rattle.std.proofs.Common.{◌≡◌, ℕ, false, true, refl, ap, subst, List, [], Option, Some, None, Result, Ok, Err, IsSome, MatchOption, inr}
 use Rattle.page_state.specs.declared.layout.Geometry.{Geometry}
 use Rattle.table_tree.specs.Said.{block_of}
 use Rattle.ghost_oracle.specs.declared.raw.Which.{Which}
@@ -15,6 +15,9 @@ use Rattle.world.specs.declared.World.{World}
 use Rattle.world.specs.declared.raw.RawWorld.{RawWorld}
 use Rattle.trace_audit.specs.Audited.{Audited, Comes, Pokes, PokesFirst, Sets}
 use Rattle.trace_audit.specs.Paths.{path_on, which_of}
+
+pub not_true : false ≡ true → ⊥
+not_true e = cc
 
 matched : {X : Type 0} (o : Option X) (x : X) (P : Type 0) (Q : X → Type 0) → o ≡ Some x → Q x → MatchOption o P Q
 matched o x P Q e h = rw e h

@@ -48,7 +48,7 @@ Makes v (a ∷ more) w = (u : Known) × Calls a.0 a.1 v u × Makes u more w
 
 -- what a CPU's pass knows before its first call
 abbrev pub first_known : TheLayout → ℕ → Known
-first_known l cpu = record { layout = l; cpu = cpu; own = own_at_boot l; seen = []; tries = [] }
+first_known l cpu = record { layout = l; cpu = cpu; own = own_at_boot l cpu; seen = []; tries = [] }
 
 -- the reply of a call that is stored
 abbrev pub is_stored : Reply → Bool

@@ -1,5 +1,5 @@
 -- The machine that a world stands for.
-use Rattle.std.proofs.Common.{◌≡◌, ◌∙◌, ◌+◌, ◌-◌, ◌<◌, ◌≤◌, ℕ, zero, All, refl, sym, ap, subst, arith, suc, true, false, List, [], ◌∷◌, filter, get_or, length, slice_get, Option, Some, None, IsSome, IfSome, is_some, nat_lt, nat_le, ◌&&◌, Bool, if◌then◌else◌, inl, inr}
+use Rattle.std.proofs.Common.{◌≡◌, ◌∙◌, ◌+◌, ◌-◌, ◌<◌, ◌≤◌, ℕ, zero, All, refl, sym, ap, subst, arith, suc, true, false, List, filter, get_or, length, slice_get, Option, Some, None, IsSome, IfSome, is_some, nat_lt, nat_le, ◌&&◌, Bool, if◌then◌else◌, inl, inr}
 use Rattle.std.proofs.lemmas.Bool.Decides.{nat_tests}
 use Rattle.std.proofs.lemmas.Option.{slice_get-get_or, slice_get_cases, slice_get_past}
 use Rattle.page_state.specs.declared.layout.Geometry.{Geometry}
@@ -13,14 +13,13 @@ use Rattle.page_state.specs.Accepted.{IsAcceptedConfig}
 use Rattle.page_state.specs.LayoutFaults.{IsAccepted}
 use Rattle.page_state.specs.Layouts.{Layout}
 use Rattle.reference_model.specs.Boot.{IsCarveEnough}
-use Rattle.reference_model.specs.State.{Guest as ReferenceGuest, Shared, no_guest, no_shared}
+use Rattle.reference_model.specs.State.{Guest as ReferenceGuest, no_guest}
 use Rattle.guest_component.specs.declared.body.Body.{Body}
 use Rattle.guest_component.specs.Bodies.{IsOfGeometry}
 use Rattle.guest_component.specs.View.{guest_in, runs_of}
 use Rattle.guest_steps.specs.declared.parts.GuestPart.{GuestPart}
 use Rattle.guest_steps.specs.declared.parts.SharedPart.{SharedPart}
-use Rattle.guest_steps.specs.Lent.{one}
-use Rattle.guest_steps.specs.View.{guest_held, shared_of}
+use Rattle.guest_steps.specs.View.{guest_held}
 use Rattle.hypercalls.specs.Stands.{at_place}
 use Rattle.table_tree.specs.AllBlocks.{blocks_in, table_count}
 use Rattle.table_tree.specs.declared.tree.Tree.{Tree}
@@ -38,24 +37,15 @@ use Rattle.trace_text.specs.Worlds.{IsBootOf, HasMaplets, HasWordOn, IsWordOn, t
 use Rattle.hypercalls.specs.Booted.{IsBooted}
 use Rattle.world.specs.declared.World.{World}
 
-first_of : {P : Type 0} (Is : P → Type 0) (xs : List P) (x : P) → xs ≡ x ∷ [] → All Is xs → Is x
-first_of Is xs x e h = let k : All Is (x ∷ []) = subst (All Is) e h in k 0 x (omega arith)
-
-module _ {A : Type 0} (w : World A) (s : SharedPart A) (e : w.parts.shared.items ≡ s ∷ []) where
-  shared_is : (machine_of w).state.contents.shared ≡ shared_of s
-  shared_is = ap (one no_shared shared_of) e
+module _ {A : Type 0} (w : World A) where
+  abbrev s : SharedPart A
+  s = w.parts.shared
 
   host_depth : levels_below s.host.tree.geometry ≡ (machine_of w).layout.depth
-  host_depth = first_of (λ x. levels_below x.host.tree.geometry ≡ levels_below w.parts.layout.geometry) w.parts.shared.items s e w.parts.depth
+  host_depth = w.parts.depth
 
   hyp_depth : levels_below s.hyp.tree.geometry ≡ (machine_of w).layout.depth
   hyp_depth = s.alike ∙ host_depth
-
-  host_told : tree_told (machine_of w) Host ≡ tree_of s.host.tree
-  host_told = ap (λ (x : Shared). x.host) shared_is
-
-  hyp_told : tree_told (machine_of w) Hyp ≡ tree_of s.hyp.tree
-  hyp_told = ap (λ (x : Shared). x.hyp) shared_is
 
   count_is : (name : TreeName) (t : Tree A) → levels_below t.geometry ≡ (machine_of w).layout.depth → tree_told (machine_of w) name ≡ tree_of t → table_count t.geometry (tree_of t) ≡ tables_told (machine_of w) name
   count_is name t depth told =
@@ -63,13 +53,13 @@ module _ {A : Type 0} (w : World A) (s : SharedPart A) (e : w.parts.shared.items
       ∙ ap (λ (x : ReferenceTree). length (filter (λ b. is_some (x.table b)) (blocks_in ((machine_of w).layout.depth + 1) 0))) (sym told)
 
   pub host_count : table_count s.host.tree.geometry (tree_of s.host.tree) ≡ tables_told (machine_of w) Host
-  host_count = count_is Host s.host.tree host_depth host_told
+  host_count = count_is Host s.host.tree host_depth refl
 
   pub hyp_count : table_count s.hyp.tree.geometry (tree_of s.hyp.tree) ≡ tables_told (machine_of w) Hyp
-  hyp_count = count_is Hyp s.hyp.tree hyp_depth hyp_told
+  hyp_count = count_is Hyp s.hyp.tree hyp_depth refl
 
   pub free_is : length s.pool.frames ≡ free_told (machine_of w)
-  free_is = ap (λ (x : Shared). length x.free) (sym shared_is)
+  free_is = refl
 
 -- the guest in a slot is that of what it holds
 guest_is : {A : Type 0} (o : Option (GuestPart A)) → at_place no_guest guest_held o ≡ guest_in (body_in o)
@@ -96,26 +86,13 @@ module _ {A : Type 0} (w : World A) (slot : ℕ) where
 
 -- the maplets that a world keeps are those of its trees
 module _ {A : Type 0} (w : World A) where
-  sole : length w.parts.shared.items ≡ 1
-  sole = omega (arith, w.parts.one_shared, w.parts.shared.ok.0)
-
-  of_host : (xs : List (SharedPart A)) → w.parts.shared.items ≡ xs → length xs ≡ 1 → HasMaplets (tree_told (machine_of w) Host) (one [] (λ (s : SharedPart A). s.host.maplets.runs) xs)
-  of_host [] e n = absurd (omega (arith, n))
-  of_host (s ∷ []) e n = record { map_is = ap (λ (x : ReferenceTree). x.map) (host_told w s e) ∙ s.host.agree; coarsest = s.host.coarsest }
-  of_host (s ∷ (t ∷ xs)) e n = absurd (omega (arith, n))
-
-  of_hyp : (xs : List (SharedPart A)) → w.parts.shared.items ≡ xs → length xs ≡ 1 → HasMaplets (tree_told (machine_of w) Hyp) (one [] (λ (s : SharedPart A). s.hyp.maplets.runs) xs)
-  of_hyp [] e n = absurd (omega (arith, n))
-  of_hyp (s ∷ []) e n = record { map_is = ap (λ (x : ReferenceTree). x.map) (hyp_told w s e) ∙ s.hyp.agree; coarsest = s.hyp.coarsest }
-  of_hyp (s ∷ (t ∷ xs)) e n = absurd (omega (arith, n))
-
   of_guest : (slot : ℕ) (o : Option (Body A)) → body_at w slot ≡ o → HasMaplets (tree_told (machine_of w) (Guest slot)) (runs_of o)
   of_guest slot None e = record { map_is = ap (λ (x : ReferenceTree). x.map) (guest_tree w slot None e); coarsest = tt }
   of_guest slot (Some b) e = record { map_is = ap (λ (x : ReferenceTree). x.map) (guest_tree w slot (Some b) e) ∙ b.map.agree; coarsest = b.map.coarsest }
 
   pub has_maplets : (tree : TreeName) → HasMaplets (tree_told (machine_of w) tree) (runs_in (Some w) tree)
-  has_maplets Host = of_host w.parts.shared.items refl sole
-  has_maplets Hyp = of_hyp w.parts.shared.items refl sole
+  has_maplets Host = record { map_is = w.parts.shared.host.agree; coarsest = w.parts.shared.host.coarsest }
+  has_maplets Hyp = record { map_is = w.parts.shared.hyp.agree; coarsest = w.parts.shared.hyp.coarsest }
   has_maplets (Guest slot) = of_guest slot (body_at w slot) refl
 
 -- the machine that has booted
@@ -228,16 +205,16 @@ module _ {A : Type 0} (t : Tree A) (page level : ℕ) where
           (λ has. let top = has.top in off (sym (all_passed _ _ _ _ has.good (omega (arith, top)) has.bottom) ∙ n))
 
 -- the word that a world's tree has, told of its machine
-module _ {A : Type 0} (w : World A) (s : SharedPart A) (e : w.parts.shared.items ≡ s ∷ []) (page level : ℕ) (r : Option ℕ) where
+module _ {A : Type 0} (w : World A) (page level : ℕ) (r : Option ℕ) where
   on_tree : (name : TreeName) (t : Tree A) → levels_below t.geometry ≡ (machine_of w).layout.depth → tree_told (machine_of w) name ≡ tree_of t → IsWordOn (levels_below t.geometry) (tree_of t) page level r
       → IsWordOn (machine_of w).layout.depth (tree_told (machine_of w) name) page level r
   on_tree name t depth told h = subst (λ x. IsWordOn (machine_of w).layout.depth x page level r) (sym told) (subst (λ d. IsWordOn d (tree_of t) page level r) depth h)
 
-  pub host_word : IsWordOn (levels_below s.host.tree.geometry) (tree_of s.host.tree) page level r → IsWordOn (machine_of w).layout.depth (tree_told (machine_of w) Host) page level r
-  host_word h = on_tree Host s.host.tree (host_depth w s e) (host_told w s e) h
+  pub host_word : IsWordOn (levels_below w.parts.shared.host.tree.geometry) (tree_of w.parts.shared.host.tree) page level r → IsWordOn (machine_of w).layout.depth (tree_told (machine_of w) Host) page level r
+  host_word h = on_tree Host w.parts.shared.host.tree (host_depth w) refl h
 
-  pub hyp_word : IsWordOn (levels_below s.hyp.tree.geometry) (tree_of s.hyp.tree) page level r → IsWordOn (machine_of w).layout.depth (tree_told (machine_of w) Hyp) page level r
-  hyp_word h = on_tree Hyp s.hyp.tree (hyp_depth w s e) (hyp_told w s e) h
+  pub hyp_word : IsWordOn (levels_below w.parts.shared.hyp.tree.geometry) (tree_of w.parts.shared.hyp.tree) page level r → IsWordOn (machine_of w).layout.depth (tree_told (machine_of w) Hyp) page level r
+  hyp_word h = on_tree Hyp w.parts.shared.hyp.tree (hyp_depth w) refl h
 
 -- what holds of all holds at a place
 all_at : {P : Type 0} (Is : P → Type 0) (xs : List P) (k : ℕ) → All Is xs → IfSome (slice_get xs k) Is

@@ -3,8 +3,6 @@ use Rattle.std.specs.Prelude.{ℕ, List, [], ◌∷◌, map, slice_get, Option, 
 use Rattle.guest_component.specs.declared.body.Body.{Body}
 use Rattle.guest_component.specs.View.{runs_of}
 use Rattle.guest_steps.specs.declared.parts.GuestPart.{GuestPart}
-use Rattle.guest_steps.specs.declared.parts.SharedPart.{SharedPart}
-use Rattle.guest_steps.specs.Lent.{one}
 use Rattle.hypercalls.specs.Stands.{parts_layout, state_of}
 use Rattle.page_state.specs.declared.entry.Run.{Run}
 use Rattle.trace_lines.specs.declared.line.TreeName.{TreeName}
@@ -39,8 +37,8 @@ body_at w slot = body_in (slice_get w.parts.guests.items slot)
 
 -- the runs of the maplets beside a named tree, of an Empty guest none
 abbrev pub maplets_of : {A : Type 0} → World A → TreeName → List Run
-maplets_of w Host = one [] (λ (s : SharedPart _). s.host.maplets.runs) w.parts.shared.items
-maplets_of w Hyp = one [] (λ (s : SharedPart _). s.hyp.maplets.runs) w.parts.shared.items
+maplets_of w Host = w.parts.shared.host.maplets.runs
+maplets_of w Hyp = w.parts.shared.hyp.maplets.runs
 maplets_of w (Guest slot) = runs_of (body_at w slot)
 
 -- those that a world keeps, if there is one

@@ -348,7 +348,7 @@ impl<A: Allocator + Copy> Session<A> {
                 None => Err(Stop::Fault(Fault::Path)),
             },
             Query::FreeShared => {
-                let free = world.parts().shared().pool.free();
+                let free = world.parts().shared.pool.free();
                 Ok(Reported::Line(Response::Free(free)))
             }
             Query::FreeGuest(slot) => {
@@ -364,7 +364,7 @@ impl<A: Allocator + Copy> Session<A> {
         ensures { MatchOption result (kept_runs self.now tree ≡ []) (λ maplets. maplets.now.runs ≡ kept_runs self.now tree) }
     {
         let world = self.world.as_ref()?;
-        let shared = world.parts().shared();
+        let shared = &world.parts().shared;
         match tree {
             TreeName::Host => Some(shared.host.maplets()),
             TreeName::Hyp => Some(shared.hyp.maplets()),
@@ -461,7 +461,7 @@ fn guest_free<A: Allocator>(world: &World<A>, slot: u64) -> usize
 fn word_on<A: Allocator>(world: &World<A>, tree: TreeName, page: u64, level: u64) -> Option<u64>
     ensures { let m = machine_of world.now in IsWordOn m.layout.depth (tree_told m tree) page level result }
 {
-    let shared = world.parts().shared();
+    let shared = &world.parts().shared;
     match tree {
         TreeName::Host => shared.host.tree().word_on(Page(page), level),
         TreeName::Hyp => shared.hyp.tree().word_on(Page(page), level),
@@ -476,7 +476,7 @@ fn word_on<A: Allocator>(world: &World<A>, tree: TreeName, page: u64, level: u64
 pub fn boot_line<A: Allocator>(world: &World<A>) -> Response
     ensures { let m = machine_of world.now in result ≡ Response.Boot (tables_told m TreeName.Host) (tables_told m TreeName.Hyp) (free_told m) }
 {
-    let shared = world.parts().shared();
+    let shared = &world.parts().shared;
     Response::Boot {
         host: shared.host.tree().tables(),
         hyp: shared.hyp.tree().tables(),

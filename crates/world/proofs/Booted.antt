@@ -1,5 +1,5 @@
 -- The parts of a world that has booted stand for the boot state.
-use Rattle.std.proofs.Common.{◌≡◌, ℕ, ◌+◌, ◌-◌, ◌*◌, ◌==◌, List, [], ◌∷◌, zero, suc, ◌<◌, slice_index_or, Some, None, All, inl, inr, refl, ap, sym, ◌∙◌, subst, slice_get, arith}
+use Rattle.std.proofs.Common.{◌≡◌, ℕ, ◌+◌, ◌-◌, ◌*◌, ◌==◌, List, [], Some, None, All, inl, inr, refl, ap, sym, ◌∙◌, subst, slice_get, arith}
 use Rattle.std.proofs.lemmas.Bool.Decides.{nat_tests}
 use Rattle.std.proofs.lemmas.Option.{slice_get_cases}
 use mathlib.Core.Path.{fun_ext}
@@ -13,15 +13,12 @@ use Rattle.reference_model.specs.Held.{held_state}
 use Rattle.page_state.specs.Geometries.{geometry_of, levels_below}
 use Rattle.page_state.specs.Layouts.{Layout, HasItsDepth}
 use Rattle.page_state.specs.Regions.{Memory}
-use Rattle.reference_model.specs.State.{Vms, Shared, Guest, Cpu, Reference, all_rooms, no_vms, no_shared, no_guest, no_cpu}
+use Rattle.reference_model.specs.State.{Vms, Shared, Guest, Cpu, Reference, all_rooms, no_vms, no_guest, no_cpu}
 use Rattle.std.specs.Prelude.{Result, Ok, Err, IsErrAnd, MatchResult}
 use Rattle.world.specs.declared.boot.BootFault.{BootFault}
 use Rattle.world.specs.declared.boot.BootFault.TheVariants.{NoMemory}
 use Rattle.guest_steps.specs.declared.parts.CpuState.{CpuState}
 use Rattle.guest_steps.specs.declared.parts.GuestPart.{GuestPart}
-use Rattle.guest_steps.specs.declared.parts.SharedPart.{SharedPart}
-use Rattle.guest_steps.specs.declared.parts.VmPart.{VmPart}
-use Rattle.guest_steps.specs.Lent.{one}
 use Rattle.guest_steps.specs.Logs.{StoredCalls, IsNewLog}
 use Rattle.guest_steps.specs.View.{vm_slots, shared_of, guest_held, cpu_of}
 use Rattle.hypercalls.specs.declared.parts.Parts.{Parts}
@@ -44,29 +41,19 @@ minus-none n = omega arith
 pair : {X Y : Type 0} {a b : X} {d e : Y} → a ≡ b → d ≡ e → ◌≡◌ {A = X × Y} (a, d) (b, e)
 pair m n = cc
 
-one_empty : {P : Type 0} (log : P → StoredCalls) (n : ℕ) (xs : List P) → All (λ p. IsNewLog n (log p)) xs → one [] (λ p. (log p).calls) xs ≡ []
-one_empty log n [] h = refl
-one_empty log n (x ∷ xs) h = (h 0 x (omega arith)).empty
-
 each_empty : {P : Type 0} (log : P → StoredCalls) (n : ℕ) (xs : List P) (v : ℕ) → All (λ p. IsNewLog n (log p)) xs → at_place [] (λ p. (log p).calls) (slice_get xs v) ≡ []
 each_empty log n xs v h = elim (slice_get_cases xs v).1 [
   | inl (k, inside, at, is) ↦ rw at (subst (λ x. (log x).calls ≡ []) is (h v k inside).empty)
   | inr past ↦ rw past.1 refl
 ]
 
--- what a list of one or none stands for, where each of it stands for the blank
-one_is : {P X : Type 0} (f : P → X) (blank : X) (xs : List P) → All (λ p. f p ≡ blank) xs → one blank f xs ≡ blank
-one_is f blank [] h = refl
-one_is f blank (x ∷ xs) h = h 0 x (omega arith)
-
-module _ {A : Type 0} (m : Memory) (c : Config) (g : Geometry) (p : Parts A) (s : SharedPart A)
+module _ {A : Type 0} (m : Memory) (c : Config) (g : Geometry) (p : Parts A)
     (mapped : p.layout.map ≡ m)
     (configured : p.layout.config ≡ c)
     (deep : p.layout.geometry ≡ g)
-    (vacant : All (λ v. vm_slots v ≡ no_vms) p.vms.items)
-    (vms_log : All (λ v. IsNewLog c.log v.log) p.vms.items)
-    (alone : p.shared.items ≡ s ∷ [])
-    (shared_log : IsNewLog c.log s.log)
+    (vacant : vm_slots p.vms ≡ no_vms)
+    (vms_log : IsNewLog c.log p.vms.log)
+    (shared_log : IsNewLog c.log p.shared.log)
     (new : All (IsVacant g c.log) p.guests.items)
     (idle : All (IsIdle c.log) p.cpus.items) where
   abbrev l : Layout
@@ -81,9 +68,6 @@ module _ {A : Type 0} (m : Memory) (c : Config) (g : Geometry) (p : Parts A) (s 
     | inr past ↦ rw past.1 refl
   ]
 
-  slots_are : one no_vms vm_slots p.vms.items ≡ no_vms
-  slots_are = one_is vm_slots no_vms p.vms.items vacant
-
   guest_is : (v : ℕ) → at_place no_guest guest_held (slice_get p.guests.items v) ≡ no_guest
   guest_is v = elim (slice_get_cases p.guests.items v).1 [
     | inl (k, inside, at, is) ↦ rw at (subst (λ (x : GuestPart A). guest_held x ≡ no_guest) is (new v k inside).empty)
@@ -92,8 +76,8 @@ module _ {A : Type 0} (m : Memory) (c : Config) (g : Geometry) (p : Parts A) (s 
 
   none : HasNoCalls p
   none = record {
-    vms = one_empty (λ (v : VmPart). v.log) c.log p.vms.items vms_log;
-    shared = ap (one [] (λ (x : SharedPart A). x.log.calls)) alone ∙ shared_log.empty;
+    vms = vms_log.empty;
+    shared = shared_log.empty;
     guests = λ v. each_empty (λ (x : GuestPart A). x.log) c.log p.guests.items v (λ k d less. (new k d less).log);
     cpus = λ v. each_empty (λ (x : CpuState). x.log) c.log p.cpus.items v (λ k d less. (idle k d less).log);
   }
@@ -102,13 +86,13 @@ module _ {A : Type 0} (m : Memory) (c : Config) (g : Geometry) (p : Parts A) (s 
   abbrev standing : Layout → Vms × List Call → Shared × List Call → (ℕ → Guest × List Call) → (ℕ → Cpu × List Call) → Reference
   standing lay vms shared guests cpus = held_state lay (record { vms = vms; shared = shared; guest = guests; cpu = cpus })
 
-  module _ (made : shared_of s ≡ (booted l).shared) where
+  module _ (made : shared_of p.shared ≡ (booted l).shared) where
     stands : boot l ≡ held_state l (kept_of p)
     unfolding booted
     stands =
         ap (λ n. record { contents = booted l; rooms = all_rooms n }) (minus-none c.log)
-        ∙ ap (λ x. standing l x ((booted l).shared, []) (λ v. (no_guest, [])) (λ k. (no_cpu, []))) (sym (pair slots_are none.vms))
-        ∙ ap (λ x. standing l (kept_of p).vms x (λ v. (no_guest, [])) (λ k. (no_cpu, []))) (sym (pair (ap (one no_shared shared_of) alone ∙ made) none.shared))
+        ∙ ap (λ x. standing l x ((booted l).shared, []) (λ v. (no_guest, [])) (λ k. (no_cpu, []))) (sym (pair vacant none.vms))
+        ∙ ap (λ x. standing l (kept_of p).vms x (λ v. (no_guest, [])) (λ k. (no_cpu, []))) (sym (pair made none.shared))
         ∙ ap (λ x. standing l (kept_of p).vms (kept_of p).shared x (λ k. (no_cpu, []))) (sym (fun_ext (λ v. pair (guest_is v) (none.guests v))))
         ∙ ap (standing l (kept_of p).vms (kept_of p).shared (kept_of p).guest) (sym (fun_ext (λ k. pair (cpu_is k) (none.cpus k))))
 
@@ -132,11 +116,3 @@ err_is h = cc
 pub no_memory : {A : Type 0} (m : Memory) (c : Config) (g : Geometry) (r : Result (Parts A) BootFault) → IsConfig c g → IsCarveEnough (layout_for m c g) → IsErrAnd r (λ f. f ≡ NoMemory) → MatchResult r (IsBooted m c) (λ fault. IsNoBoot fault m c)
 no_memory m c g (Ok p) accepted enough h = absurd h
 no_memory m c g (Err f) accepted enough h = subst (λ x. IsNoBoot x m c) (sym h) (g, accepted, enough)
-
--- so it is with each of a list of one
-pub all_alone : {P : Type 0} (Is : P → Type 0) (xs : List P) (p : P) → xs ≡ p ∷ [] → Is p → All Is xs
-all_alone Is xs p e h = subst (All Is) (sym e) (λ k d less. first Is p h k d less)
-  where
-    first : {P : Type 0} (Is : P → Type 0) (p : P) → Is p → (k : ℕ) (d : P) → k < 1 → Is (slice_index_or (p ∷ []) k d)
-    first Is p h zero d less = h
-    first Is p h (suc k) d less = absurd (omega (arith, less))

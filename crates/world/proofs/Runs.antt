@@ -9,9 +9,6 @@ use Rattle.reference_model.proofs.conditions.RunsLegal.{run_sound, run_rows}
 use Rattle.reference_model.specs.Step.{Steps}
 use Rattle.component.specs.declared.Component.{Component}
 use Rattle.guest_component.specs.declared.body.Body.{Body}
-use Rattle.guest_steps.specs.declared.parts.GuestPart.{GuestPart}
-use Rattle.guest_steps.specs.declared.parts.SharedPart.{SharedPart}
-use Rattle.guest_steps.specs.Lent.{Each}
 use Rattle.hypercalls.specs.declared.parts.Parts.{Parts}
 use Rattle.hypercalls.specs.Stands.{parts_layout, state_of}
 use Rattle.world.specs.Laws.{Goes, StepsRun, StepsSound, StepsRows, StepsAgree, StepsIsolate, StepsKeepOut, Agrees, GuestAgrees, AllAgree}
@@ -45,21 +42,13 @@ module _ {A : Type 0} where
   agrees : (c : Component A) → Agrees c
   agrees c = record { walk = c.agree; coarsest = c.coarsest }
 
-  all_agree : (ss : List (SharedPart A)) → Each (λ s. Agrees s.host × Agrees s.hyp) ss
-  all_agree [] = tt
-  all_agree (s ∷ ss) = ((agrees s.host, agrees s.hyp), all_agree ss)
-
   guest_agrees : (o : Option (Body A)) → GuestAgrees o
   guest_agrees None = tt
   guest_agrees (Some b) = agrees b.map
 
-  guests_agree : (gs : List (GuestPart A)) → Each (λ g. GuestAgrees g.guest.body) gs
-  guests_agree [] = tt
-  guests_agree (g ∷ gs) = (guest_agrees g.guest.body, guests_agree gs)
-
   -- all trees of some parts agree with their maplets
   pub all_of_parts : (q : Parts A) → AllAgree q
-  all_of_parts q = record { shared = all_agree q.shared.items; guests = guests_agree q.guests.items }
+  all_of_parts q = record { shared = (agrees q.shared.host, agrees q.shared.hyp); guests = λ k d less. guest_agrees (slice_index_or q.guests.items k d).guest.body }
 
   pub steps_agree : StepsAgree A
   steps_agree m config p q cs booted h = all_of_parts q

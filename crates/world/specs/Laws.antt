@@ -1,5 +1,5 @@
 -- Laws over lists of steps, each proved on the contract of the function of its name.
-use Rattle.std.specs.Prelude.{◌≡◌, ℕ, ◌+◌, ◌<◌, ◌⊎◌, true, List, Option, Some, None}
+use Rattle.std.specs.Prelude.{◌≡◌, ℕ, ◌+◌, ◌<◌, ◌⊎◌, true, List, Option, Some, None, All}
 use Rattle.descriptor.specs.declared.State.{State}
 use Rattle.page_state.specs.declared.layout.Config.{Config}
 use Rattle.step_reply.specs.declared.reply.Call.{Call}
@@ -13,7 +13,6 @@ use Rattle.reference_model.specs.Sound.{Sound, Maps, owner}
 use Rattle.reference_model.specs.State.{live}
 use Rattle.component.specs.declared.Component.{Component}
 use Rattle.guest_component.specs.declared.body.Body.{Body}
-use Rattle.guest_steps.specs.Lent.{Each}
 use Rattle.hypercalls.specs.declared.parts.Parts.{Parts}
 use Rattle.hypercalls.specs.Stands.{parts_layout, state_of}
 use Rattle.hypercalls.specs.Whole.{call_of, IsStep}
@@ -54,8 +53,8 @@ GuestAgrees (Some b) = Agrees b.map
 
 -- with both trees of the Shared part, and with each guest's
 pub record AllAgree {A : Type 0} (p : Parts A) : Type 0 where
-  pub shared : Each (λ s. Agrees s.host × Agrees s.hyp) p.shared.items
-  pub guests : Each (λ g. GuestAgrees g.guest.body) p.guests.items
+  pub shared : Agrees p.shared.host × Agrees p.shared.hyp
+  pub guests : All (λ g. GuestAgrees g.guest.body) p.guests.items
 
 -- and so it is after any list of steps
 abbrev pub StepsAgree : Type 0 → Type 0

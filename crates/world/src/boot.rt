@@ -9,6 +9,7 @@ ghost use Rattle.reference_model.specs.State.{no_vms};
 ghost use Rattle.guest_steps.specs.Apart.{IsApart};
 ghost use Rattle.guest_steps.specs.Logs.{IsNewLog};
 ghost use Rattle.guest_steps.specs.MemoryRows.{HasMemoryRows};
+ghost use Rattle.guest_steps.specs.Numbers.{AreNumbered};
 ghost use Rattle.guest_steps.specs.View.{depth_of, shared_of, vm_slots};
 ghost use Rattle.page_state.specs.Accepted.{IsAcceptedConfig};
 ghost use Rattle.page_state.specs.EntryTests.{leaf as leaf_of, annotation};
@@ -226,7 +227,7 @@ fn new_shared<A: Allocator + Copy>(
     requires { 2 ≤ map.now.carve.count }
     ensures shared { IfOk result (λ s. shared_of s ≡ new_shared_of map.now geometry) }
     ensures depth { IfOk result (λ s. depth_of s ≡ levels_below geometry) }
-    ensures rows { IfOk result (λ s. HasMemoryRows map.now s.rows) }
+    ensures rows { IfOk result (λ s. HasMemoryRows map.now s.owners) }
     ensures log { IfOk result (λ s. IsNewLog calls s.log) }
 {
     let (host, hyp, pool) = roots(global, alloc, map, geometry)?;
@@ -243,7 +244,7 @@ fn new_shared<A: Allocator + Copy>(
         host,
         hyp,
         pool,
-        rows,
+        owners: rows,
         log,
     })
 }
@@ -260,7 +261,7 @@ fn shared_at_boot<A: Allocator + Copy>(
     requires usable { IsUsable (layout_for map.now config geometry) }
     ensures shared { IfOk result (λ s. shared_of s ≡ (booted_of (layout_for map.now config geometry)).shared) }
     ensures depth { IfOk result (λ s. depth_of s ≡ levels_below geometry) }
-    ensures rows { IfOk result (λ s. HasMemoryRows map.now s.rows) }
+    ensures rows { IfOk result (λ s. HasMemoryRows map.now s.owners) }
     ensures log { IfOk result (λ s. IsNewLog config.log s.log) }
     ensures err { OnErr result (result ≡ Err BootFault.NoMemory) }
 {
@@ -278,26 +279,14 @@ fn shared_at_boot<A: Allocator + Copy>(
     Ok(shared)
 }
 
-/// The VM part at boot, as a list of one.
-fn vms_at_boot(global: Global, calls: u64) -> Result<Vec<VmPart>, AllocError>
-    ensures count { IfOk result (λ vms. vec_len vms ≡ 1) }
-    ensures slots { IfOk result (λ vms. All (λ v. vm_slots v ≡ no_vms) vms.items) }
-    ensures logs { IfOk result (λ vms. All (λ v. IsNewLog calls v.log) vms.items) }
+/// The VM part at boot.
+fn vms_at_boot(global: Global, calls: u64) -> Result<VmPart, AllocError>
+    ensures slots { IfOk result (λ v. vm_slots v ≡ no_vms) }
+    ensures log { IfOk result (λ v. IsNewLog calls v.log) }
 {
-    let mut vms = Vec::with_capacity(global, 1)?;
     let table = VmTable::new(global)?;
     let log = Log::new(global, calls)?;
-    vms.push(VmPart { table, log }).map_err(AllocError::from)?;
-    Ok(vms)
-}
-
-/// A part as a list of one.
-fn list_of<T: Drop>(global: Global, part: T) -> Result<Vec<T>, AllocError>
-    ensures { IfOk result (λ parts. parts.items ≡ part ∷ []) }
-{
-    let mut parts = Vec::with_capacity(global, 1)?;
-    parts.push(part).unwrap();
-    Ok(parts)
+    Ok(VmPart { table, log })
 }
 
 /// A Guest part whose guest is Empty.
@@ -330,15 +319,17 @@ fn guests_at_boot<A: Allocator>(
     Ok(guests)
 }
 
-/// The CPUs at boot.
+/// The CPUs at boot, by number.
 fn cpus_at_boot(global: Global, config: Config) -> Result<Vec<CpuState>, AllocError>
     ensures count { IfOk result (λ cpus. vec_len cpus ≡ config.cpus) }
     ensures idle { IfOk result (λ cpus. All (λ k. IsIdle config.log k) cpus.items) }
+    ensures numbers { IfOk result (λ cpus. AreNumbered cpus.items) }
 {
     let mut cpus = Vec::with_capacity(global, config.cpus as usize)?;
-    for _made in 0..config.cpus {
+    for id in 0..config.cpus {
         let log = Log::new(global, config.log)?;
         let cpu = CpuState {
+            id,
             loaded: None,
             hand: None,
             ticket: None,
@@ -367,7 +358,6 @@ pub fn booted<A: Allocator + Copy>(
     let _ = map.regions();
     accepted_usable();
     let shared = shared_at_boot(global, alloc, map, config, geometry)?;
-    let shared = list_of(global, shared)?;
     let vms = vms_at_boot(global, config.log)?;
     let guests = guests_at_boot(global, geometry, config.log)?;
     let cpus = cpus_at_boot(global, config)?;

@@ -43,8 +43,8 @@ pub(crate) fn histories<A: Allocator>(
     ensures lists { IfOk result (λ h. (length h.guests.items ≡ 64) × (length h.cpus.items ≡ parts.now.layout.config.cpus)) }
 {
     Ok(Histories {
-        vms: Vec::from_slice(global, parts.vms[0].log.calls())?,
-        shared: Vec::from_slice(global, parts.shared().log.calls())?,
+        vms: Vec::from_slice(global, parts.vms.log.calls())?,
+        shared: Vec::from_slice(global, parts.shared.log.calls())?,
         guests: guest_logs(global, parts.guests.as_slice())?,
         cpus: cpu_logs(global, parts.cpus.as_slice())?,
     })

@@ -20,9 +20,13 @@ use ghost_judge::disagreement::Disagreement;
 use ghost_oracle::compared::Compared;
 use ghost_oracle::kept::{kept, kept_and_walked_counted, recompute_counted};
 use ghost_oracle::pokes::poke;
-use ghost_oracle::raw::{RawGuest, Which};
+use ghost_oracle::raw::RawGuest;
+pub use ghost_oracle::raw::Which;
 use ghost_spec::state::Ghost;
 use hypercalls::Parts;
+pub use hypercalls::{
+    UsedParts, reply_of, step_alone, step_on_both, step_on_guest, step_on_shared, step_on_vms, uses,
+};
 pub use merge::{Histories, MergeFault};
 use page_state::{Config, Geometry, MemoryMap};
 pub use raw::RawWorld;

@@ -68,7 +68,7 @@ pub(crate) fn decide_owner_of<A: Allocator>(
         return Err(Refusal::Invalid);
     }
     Ok(Changes {
-        value: Value::Row(shared.rows.row(Frame(pfn))),
+        value: Value::Row(shared.owners.row(Frame(pfn))),
         ..Changes::NONE
     })
 }

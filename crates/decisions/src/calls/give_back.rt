@@ -29,10 +29,10 @@ fn is_plain(usage: Usage) -> bool
 /// Whether the hypervisor owns a frame that is in no other use. Requires a frame that has an owner row.
 fn may_return<A: Allocator>(shared: &SharedPart<A>, frame: u64) -> bool
     requires low { frame < 2 ^ 26 }
-    requires row { IsSome (row_at shared.now.rows frame) }
+    requires row { IsSome (row_at shared.now.owners frame) }
     ensures { (k : Cpu) → result ≡ may_return_of (used_alone (shared_of shared.now) k) frame }
 {
-    let row = shared.rows.row(Frame(frame));
+    let row = shared.owners.row(Frame(frame));
     row.owner.0 == HYPERVISOR.0
         && is_plain(row.usage)
         && is_in(State::Owned, shared.hyp.translate(hyp_page(frame)))
@@ -41,7 +41,7 @@ fn may_return<A: Allocator>(shared: &SharedPart<A>, frame: u64) -> bool
 /// Whether it owns so each frame of a range.
 fn may_return_all<A: Allocator>(shared: &SharedPart<A>, pfn: u64, n: u64) -> bool
     requires low { pfn + n ≤ 2 ^ 26 }
-    requires rows { (i : ℕ) → i < n → IsSome (row_at shared.now.rows (pfn + i)) }
+    requires rows { (i : ℕ) → i < n → IsSome (row_at shared.now.owners (pfn + i)) }
     ensures { (k : Cpu) → result ≡ all_below n (λ i. may_return_of (used_alone (shared_of shared.now) k) (pfn + i)) }
 {
     for i in 0..n {

@@ -145,13 +145,12 @@ pub(crate) fn decide_reclaim_pool<A: Allocator>(
     layout: &Layout,
     shared: &SharedPart<A>,
     guest: &Guest<A>,
-    id: u64,
     slot: u64,
     cpu: &CpuState,
     vm: VmId,
 ) -> Result<Changes, Refusal>
-    requires rely { CanRely (layout_of layout.now) id (Some slot) (ReclaimPool vm) (with_guest (shared_of shared.now) (guest_of guest.now) (cpu_of cpu.now)) }
-    ensures decided { result ≡ decides (layout_of layout.now) id (Some slot) (ReclaimPool vm) (with_guest (shared_of shared.now) (guest_of guest.now) (cpu_of cpu.now)) }
+    requires rely { CanRely (layout_of layout.now) cpu.now.id (Some slot) (ReclaimPool vm) (with_guest (shared_of shared.now) (guest_of guest.now) (cpu_of cpu.now)) }
+    ensures decided { result ≡ decides (layout_of layout.now) cpu.now.id (Some slot) (ReclaimPool vm) (with_guest (shared_of shared.now) (guest_of guest.now) (cpu_of cpu.now)) }
 {
     if vm.slot >= SLOTS {
         return Err(Refusal::Invalid);
@@ -184,13 +183,12 @@ pub(crate) fn decide_finish_guest<A: Allocator>(
     layout: &Layout,
     shared: &SharedPart<A>,
     guest: &Guest<A>,
-    id: u64,
     slot: u64,
     cpu: &CpuState,
 ) -> Result<Changes, Refusal>
     requires depth { guest_depth guest.now ≡ (layout_of layout.now).depth }
-    requires rely { CanRely (layout_of layout.now) id (Some slot) FinishGuest (with_guest (shared_of shared.now) (guest_of guest.now) (cpu_of cpu.now)) }
-    ensures decided { result ≡ decides (layout_of layout.now) id (Some slot) FinishGuest (with_guest (shared_of shared.now) (guest_of guest.now) (cpu_of cpu.now)) }
+    requires rely { CanRely (layout_of layout.now) cpu.now.id (Some slot) FinishGuest (with_guest (shared_of shared.now) (guest_of guest.now) (cpu_of cpu.now)) }
+    ensures decided { result ≡ decides (layout_of layout.now) cpu.now.id (Some slot) FinishGuest (with_guest (shared_of shared.now) (guest_of guest.now) (cpu_of cpu.now)) }
 {
     if holds_any(guest) {
         return Err(Refusal::Perm);

@@ -56,11 +56,10 @@ pub(crate) fn decide_fund<A: Allocator>(
 pub(crate) fn decide_unfund<A: Allocator>(
     layout: &Layout,
     shared: &SharedPart<A>,
-    id: u64,
     cpu: &CpuState,
 ) -> Result<Changes, Refusal>
-    requires rely { CanRely (layout_of layout.now) id None Unfund (used_alone (shared_of shared.now) (cpu_of cpu.now)) }
-    ensures decided { result ≡ decides (layout_of layout.now) id None Unfund (used_alone (shared_of shared.now) (cpu_of cpu.now)) }
+    requires rely { CanRely (layout_of layout.now) cpu.now.id None Unfund (used_alone (shared_of shared.now) (cpu_of cpu.now)) }
+    ensures decided { result ≡ decides (layout_of layout.now) cpu.now.id None Unfund (used_alone (shared_of shared.now) (cpu_of cpu.now)) }
 {
     let Some(hand) = cpu.hand else {
         return Err(Refusal::Perm);

@@ -129,12 +129,11 @@ pub(crate) fn decide_vm_open(table: &VmTable, cpu: &CpuState) -> Result<Changes,
 #[tactic(auto, unfolding(reference_model::specs::Rules::rule))]
 pub(crate) fn decide_vcpu_load(
     table: &VmTable,
-    id: u64,
     cpu: &CpuState,
     vm: VmId,
     vcpu: u64,
 ) -> Result<Changes, Refusal>
-    ensures decided { (l : ReferenceLayout) → result ≡ decides l id None (VcpuLoad vm vcpu) (vms_alone (vms_of table.now) (cpu_of cpu.now)) }
+    ensures decided { (l : ReferenceLayout) → result ≡ decides l cpu.now.id None (VcpuLoad vm vcpu) (vms_alone (vms_of table.now) (cpu_of cpu.now)) }
     ensures grows { IfOk result (GrowsOnly (VcpuLoad vm vcpu)) }
 {
     if vm.slot >= SLOTS || vcpu >= MOST_VCPUS {
@@ -153,7 +152,7 @@ pub(crate) fn decide_vcpu_load(
         slot: SlotChange::Load {
             slot: vm.slot,
             vcpu,
-            cpu: id,
+            cpu: cpu.id,
         },
         cpu: loaded_becomes(Some(Loaded { vm, vcpu })),
         ..Changes::NONE

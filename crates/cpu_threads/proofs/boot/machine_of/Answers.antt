@@ -1,12 +1,11 @@
-use Rattle.std.proofs.Common.{◌≡◌, ℕ, All, sym, ap, ◌∙◌, subst}
+use Rattle.std.proofs.Common.{ℕ, sym, ap, ◌∙◌, subst}
 use Rattle.std.specs.Vec.{vec_len}
 use Rattle.page_state.specs.declared.layout.Layout.{Layout as TheLayout}
 use Rattle.page_state.specs.LayoutView.{layout_of}
 use Rattle.reference_model.specs.Boot.{CanBoot}
-use Rattle.guest_steps.specs.declared.parts.CpuState.{CpuState}
 use Rattle.part_table.specs.Endings.{IsRow}
 use Rattle.part_table.specs.Passes.{AreFirst}
-use Rattle.part_table.specs.Rule.{own_at_boot}
+use Rattle.part_table.specs.Rule.{AreOwnAtBoot}
 use Rattle.cpu_threads.proofs.Tries.{first_fresh}
 use Rattle.cpu_threads.proofs.boot.machine_of.Goals as goal
 
@@ -27,7 +26,7 @@ open-requires-clause-owns g c =
     let b = c.requires.booted in
     let a = c.apart-layout.ensures in (
       ap vec_len a.cpus ∙ (c.args.parts.counted ∙ ap (λ (l : TheLayout). l.config.cpus) (sym a.layout)),
-      subst (λ (l : TheLayout). All (λ (k : CpuState). k ≡ own_at_boot l) c.apart-layout.result.2.items) (sym a.layout) (a.booted b.0 b.1 b.2).owns,
+      subst (λ (l : TheLayout). AreOwnAtBoot l c.apart-layout.result.2.items) (sym a.layout) (a.booted b.0 b.1 b.2).owns,
     )
 
 pub invariant_of-result : goal.invariant_of-result

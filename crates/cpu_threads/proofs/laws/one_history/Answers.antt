@@ -20,7 +20,7 @@ ends_in_one : (A : Type 0) → EndsInOne A
 ends_in_one A l found cpus passes given e own seen = record {
   end = e;
   each = λ j p there. of_kept l found cpus e p (own.ended j p there) (seen j p there);
-  idle = λ c home. sym (e.each_cpu c (own_at_boot l) (own.fresh c home)).0;
+  idle = λ c home. sym (e.each_cpu c (own_at_boot l c) (own.fresh c home)).0;
 }
 
 pub returns : goal.returns

@@ -6,11 +6,5 @@ returns-clause-found g c = (c.in_ok-found.ensures.items, c.in_ok-found.ensures.c
 pub returns-clause-cpus : goal.returns-clause-cpus
 returns-clause-cpus g c = (c.in_ok-cpus.ensures.items, c.in_ok-cpus.ensures.capacity)
 
-pub returns-clause-vms : goal.returns-clause-vms
-returns-clause-vms g c = (c.in_ok-vms.ensures.items, c.in_ok-vms.ensures.capacity)
-
-pub returns-clause-shared : goal.returns-clause-shared
-returns-clause-shared g c = (c.in_ok-shared.ensures.items, c.in_ok-shared.ensures.capacity)
-
 pub returns-clause-guests : goal.returns-clause-guests
 returns-clause-guests g c = (c.in_ok-guests.ensures.items, c.in_ok-guests.ensures.capacity)

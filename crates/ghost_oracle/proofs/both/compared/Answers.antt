@@ -9,24 +9,23 @@ use Rattle.hypercalls.specs.Stands.{parts_layout, state_of}
 use Rattle.ghost_spec.specs.States.{ghost_state, IsKept}
 use Rattle.ghost_spec.specs.Views.{row_in}
 use Rattle.ghost_oracle.specs.Found.{found_state}
-use Rattle.ghost_oracle.proofs.Founds.{each_one}
 use Rattle.ghost_oracle.proofs.Scratch.{kept_frames, same_rows, walked}
 use Rattle.ghost_oracle.proofs.both.compared.Goals as goal
 
 pub are_from_scratch-requires-clause-frames : goal.are_from_scratch-requires-clause-frames
 are_from_scratch-requires-clause-frames g c = λ f.
-    kept_frames c.args.parts.now c.args.parts.now.shared.items c.shared.result.now c.runs-rows.result.now c.shared.ensures c.args.parts.now.rows (ap (run_map advance_row) c.runs-rows.ensures.runs) f
+    kept_frames c.args.parts.now c.runs-rows.result.now (ap (run_map advance_row) c.runs-rows.ensures.runs) f
     ∙ ap (λ l. is_memory l f) (sym c.requires.layout)
 
 pub returns : goal.returns
 returns g c =
     let p = c.args.parts.now in
     let found = c.args.found in
-    let s = c.shared.result.now in
+    let s = p.shared in
     let rows = c.in-Ok-copied_rows.rows.runs in
     let copied : rows ≡ c.runs-rows.result.now = c.in-Ok-copied_rows.ensures in
-    let same : rows ≡ s.rows = copied ∙ c.runs-rows.ensures.runs in
-    let maps : run_map advance_row rows ≡ run_map advance_row s.rows = ap (run_map advance_row) same in
+    let same : rows ≡ s.owners = copied ∙ c.runs-rows.ensures.runs in
+    let maps : run_map advance_row rows ≡ run_map advance_row s.owners = ap (run_map advance_row) same in
     let scratch : (f : ℕ) → run_map advance_row rows f ≡ elim (is_memory (layout_of found.layout) f) [ true ↦ Some (row_of (layout_of found.layout) (ghost_state found).contents f) | false ↦ None ] =
     λ f. ap (λ x. run_map advance_row x f) copied ∙ c.in-Ok.ensures.0 c.if-not-are_kept.false f in
     let k = c.requires.kept in
@@ -41,13 +40,13 @@ returns g c =
       guest_rooms_count = k.guest_rooms_count;
       cpu_rooms_count = k.cpu_rooms_count;
     } in
-    let frames : (f : ℕ) → is_some (run_map advance_row rows f) ≡ is_memory (parts_layout p) f = λ f. kept_frames p p.shared.items s rows c.shared.ensures p.rows maps f in
+    let frames : (f : ℕ) → is_some (run_map advance_row rows f) ≡ is_memory (parts_layout p) f = λ f. kept_frames p rows maps f in
     record {
-      state = ap (found_state (row_in rows)) c.requires.state ∙ same_rows p s rows c.shared.ensures maps;
+      state = ap (found_state (row_in rows)) c.requires.state ∙ same_rows p rows maps;
       layout = c.requires.layout;
       kept = kept;
       maplets = record { host = m.host; hyp = m.hyp; guests = m.guests };
-      rows = each_one (λ x. run_map advance_row rows ≡ run_map advance_row x.rows) p.shared.items s c.shared.ensures maps;
+      rows = maps;
       frames = frames;
       walked = walked (parts_layout p) (state_of p) _ (ghost_state found) rows c.requires.state
           (subst (λ (l : Layout). (f : ℕ) → run_map advance_row rows f ≡ elim (is_memory l f) [ true ↦ Some (row_of l (ghost_state found).contents f) | false ↦ None ]) c.requires.layout scratch);

@@ -1,10 +1,9 @@
 use Rattle.std.proofs.Common.{◌∙◌, All, ap, map, subst, sym}
-use Rattle.reference_model.specs.State.{Shared, no_shared}
-use Rattle.guest_steps.specs.Lent.{one}
+use Rattle.reference_model.specs.State.{Shared}
 use Rattle.guest_steps.specs.View.{shared_of, guest_held}
 use Rattle.hypercalls.specs.Stands.{state_of}
 use Rattle.ghost_spec.specs.Views.{row_in, shared_in_lists}
-use Rattle.ghost_oracle.specs.Found.{found_state, with_row}
+use Rattle.ghost_oracle.specs.Found.{found_state}
 use Rattle.ghost_oracle.specs.Low.{IsLowGuest}
 use Rattle.ghost_oracle.proofs.Founds.{own_row}
 use Rattle.ghost_oracle.proofs.LowParts.{low_guests, low_cpus}
@@ -23,7 +22,7 @@ guests_from-requires g c = record {
 
 pub ghost_with-requires : goal.ghost_with-requires
 ghost_with-requires g c = record {
-  shared = own_row (shared_in_lists c.in_ok-shared.shared) (one no_shared shared_of c.args.parts.now.shared.items) (row_in c.new.result.runs) (c.in_ok-shared.ensures.shared ∙ ap (λ ss. with_row (row_in c.new.result.runs) (one no_shared shared_of ss)) (sym c.shared.ensures));
+  shared = own_row (shared_in_lists c.in_ok-shared.shared) (shared_of c.args.parts.now.shared) (row_in c.new.result.runs) c.in_ok-shared.ensures.shared;
   guests = c.in_ok-guests.ensures.guests ∙ ap (map guest_held) c.as_slice.ensures.value;
   cpus = low_cpus c.args.parts.now c.requires.history;
   shared_kept = c.in_ok-shared.ensures.kept;
@@ -37,4 +36,4 @@ pub returns-clause-reads : goal.returns-clause-reads
 returns-clause-reads g c =
     let p = c.args.parts.now in
     let guests = subst (λ gs. HasLooked (count_of c.args.reads.now) (512 * sum_by guest_tables gs) (count_of c.guests_from.new.reads)) c.as_slice.ensures.value c.in_ok-guests.ensures.reads in
-    on_ok _ c.ghost_with.result (read_parts p.shared.items c.shared.result.now (count_of c.args.reads.now) (count_of c.guests_from.new.reads) (count_of c.shared_from.new.reads) (sum_by guest_tables p.guests.items) c.shared.ensures guests c.in_ok-shared.ensures.reads)
+    on_ok _ c.ghost_with.result (read_parts p.shared (count_of c.args.reads.now) (count_of c.guests_from.new.reads) (count_of c.shared_from.new.reads) (sum_by guest_tables p.guests.items) guests c.in_ok-shared.ensures.reads)

@@ -1,10 +1,9 @@
-use Rattle.std.proofs.Common.{◌≡◌, ◌∙◌, ap, arith, length, map, sym}
-use Rattle.reference_model.specs.State.{Vms, no_vms}
-use Rattle.guest_steps.specs.View.{vm_slots, guest_held, cpu_of}
+use Rattle.std.proofs.Common.{◌≡◌, ◌∙◌, ap, arith, length, map}
+use Rattle.guest_steps.specs.View.{guest_held, cpu_of}
 use Rattle.ghost_spec.specs.States.{guest_in}
 use Rattle.ghost_spec.specs.Views.{cpu_in, shared_in_lists}
 use Rattle.std.proofs.lemmas.List.{length-map}
-use Rattle.ghost_oracle.proofs.Founds.{is_found, one_at, as_long}
+use Rattle.ghost_oracle.proofs.Founds.{is_found, as_long}
 use Rattle.ghost_oracle.proofs.LowKept.{low_cpus_kept}
 use Rattle.ghost_oracle.proofs.kept.ghost_with.Goals as goal
 use Rattle.ghost_oracle.proofs.kept.ghost_with.Given as Given
@@ -12,7 +11,7 @@ use Rattle.ghost_oracle.proofs.kept.ghost_with.Given as Given
 pub returns-clause-state : goal.returns-clause-state
 returns-clause-state g c = is_found c.args.parts.now (record { layout = c.in-Ok.layout; vms = c.in-Ok-slots_from.vms; shared = c.args.shared; guests = c.args.guests; cpus = c.in-Ok-cpus_from.cpus; rooms = c.in-Ok-rooms_from.rooms }) (shared_in_lists c.args.shared).row (record {
   layout = c.in-Ok.ensures;
-  slots = λ v. c.in-Ok-slots_from.ensures.slots v ∙ ap (λ w. (vm_slots w).slot v) c.index.ensures ∙ ap (λ (m : Vms). m.slot v) (sym (one_at no_vms vm_slots c.args.parts.now.vms.items _ (omega (arith, c.args.parts.now.one_vms, c.args.parts.now.vms.ok.0))));
+  slots = λ v. c.in-Ok-slots_from.ensures.slots v;
   shared = c.requires.shared;
   guests = c.requires.guests;
   cpus = c.in-Ok-cpus_from.ensures ∙ ap (map cpu_of) c.as_slice.ensures.value;
@@ -39,6 +38,3 @@ returns-clause-kept g c = record {
   guest_rooms_count = ap length c.in-Ok-rooms_from.ensures.guests ∙ length-map c.args.parts.now.guests.items (λ x. x.log.room) ∙ omega (arith, c.args.parts.now.slots, c.args.parts.now.guests.ok.0);
   cpu_rooms_count = ap length c.in-Ok-rooms_from.ensures.cpus ∙ length-map c.args.parts.now.cpus.items (λ k. k.log.room) ∙ counted g c;
 }
-
-pub index-requires : goal.index-requires
-index-requires g c = omega (arith, c.args.parts.now.one_vms)

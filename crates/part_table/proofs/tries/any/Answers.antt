@@ -11,7 +11,7 @@ use Rattle.part_table.proofs.tries.any.Goals as goal
 slot : (g : _) (c : In-Guest g) → c.in-Guest.v < 64
 slot g c =
     let q = c.requires.cpu in
-    guest_low {A = g.row.A.Denot} c.args.layout.now c.args.id c.args.cpu.now c.args.step (left_idle c.args.layout.now c.args.id c.args.cpu.now c.args.seat.now.me.0 c.requires.left q.0 q.1 q.2) c.requires.known c.in-Guest.v (sym c.parts_used.ensures ∙ c.in-Guest.is)
+    guest_low {A = g.row.A.Denot} c.args.layout.now c.args.cpu.now.id c.args.cpu.now c.args.step (left_idle c.args.layout.now c.args.cpu.now.id c.args.cpu.now c.args.seat.now.me.0 c.requires.left q.0 q.1 q.2) c.requires.known c.in-Guest.v (sym c.uses.ensures ∙ c.in-Guest.is)
 
 pub overflow_add-v : goal.overflow_add-v
 overflow_add-v g c = let v = slot g (goal.at.overflow_add-v g c).In-Guest in omega (arith, v)
@@ -22,7 +22,7 @@ one-requires-in-Guest-clause-part g c = let v = slot g (goal.at.one-requires-in-
 pub two-requires-clause-part : goal.two-requires-clause-part
 two-requires-clause-part g c =
     let q = c.requires.cpu in
-    let v : c.in-Both.v < 64 = both_low {A = g.row.A.Denot} c.args.layout.now c.args.id c.args.cpu.now c.args.step (left_idle c.args.layout.now c.args.id c.args.cpu.now c.args.seat.now.me.0 c.requires.left q.0 q.1 q.2) c.requires.known c.in-Both.v (sym c.parts_used.ensures ∙ c.in-Both.is) in
+    let v : c.in-Both.v < 64 = both_low {A = g.row.A.Denot} c.args.layout.now c.args.cpu.now.id c.args.cpu.now c.args.step (left_idle c.args.layout.now c.args.cpu.now.id c.args.cpu.now c.args.seat.now.me.0 c.requires.left q.0 q.1 q.2) c.requires.known c.in-Both.v (sym c.uses.ensures ∙ c.in-Both.is) in
     omega arith
 
 pub returns-in-Both-clause-table : goal.returns-in-Both-clause-table
@@ -83,10 +83,10 @@ pub none-requires-clause-left : goal.none-requires-clause-left
 none-requires-clause-left g c = c.requires.left
 
 pub none-requires-clause-uses : goal.none-requires-clause-uses
-none-requires-clause-uses g c = ap in_order (sym c.parts_used.ensures ∙ c.in-Nothing.is)
+none-requires-clause-uses g c = ap in_order (sym c.uses.ensures ∙ c.in-Nothing.is)
 
 pub returns-in-Nothing-clause-tells : goal.returns-in-Nothing-clause-tells
-returns-in-Nothing-clause-tells g c = subst (λ ks. Tells c.args.step ks c.none.result (known_of c.args.seat.now.me.0) (known_of c.none.new.seat.me.0)) (sym (ap in_order (sym c.parts_used.ensures ∙ c.in-Nothing.is))) c.none.ensures.tells
+returns-in-Nothing-clause-tells g c = subst (λ ks. Tells c.args.step ks c.none.result (known_of c.args.seat.now.me.0) (known_of c.none.new.seat.me.0)) (sym (ap in_order (sym c.uses.ensures ∙ c.in-Nothing.is))) c.none.ensures.tells
 
 pub one-requires-clause-table : goal.one-requires-clause-table
 one-requires-clause-table g c = c.requires.table
@@ -110,7 +110,7 @@ pub one-requires-clause-left : goal.one-requires-clause-left
 one-requires-clause-left g c = c.requires.left
 
 pub one-requires-clause-uses : goal.one-requires-clause-uses
-one-requires-clause-uses g c = ap in_order (sym c.parts_used.ensures ∙ c.in-Vms.is)
+one-requires-clause-uses g c = ap in_order (sym c.uses.ensures ∙ c.in-Vms.is)
 
 pub returns-in-Vms-clause-table : goal.returns-in-Vms-clause-table
 returns-in-Vms-clause-table g c = c.one.ensures.table
@@ -125,7 +125,7 @@ pub returns-in-Vms-clause-left : goal.returns-in-Vms-clause-left
 returns-in-Vms-clause-left g c = c.one.ensures.left
 
 pub returns-in-Vms-clause-tells : goal.returns-in-Vms-clause-tells
-returns-in-Vms-clause-tells g c = subst (λ ks. Tells c.args.step ks c.one.result (known_of c.args.seat.now.me.0) (known_of c.one.new.seat.me.0)) (sym (ap in_order (sym c.parts_used.ensures ∙ c.in-Vms.is))) c.one.ensures.tells
+returns-in-Vms-clause-tells g c = subst (λ ks. Tells c.args.step ks c.one.result (known_of c.args.seat.now.me.0) (known_of c.one.new.seat.me.0)) (sym (ap in_order (sym c.uses.ensures ∙ c.in-Vms.is))) c.one.ensures.tells
 
 pub one-requires-in-Shared-clause-table : goal.one-requires-in-Shared-clause-table
 one-requires-in-Shared-clause-table g c = c.requires.table
@@ -149,7 +149,7 @@ pub one-requires-in-Shared-clause-left : goal.one-requires-in-Shared-clause-left
 one-requires-in-Shared-clause-left g c = c.requires.left
 
 pub one-requires-in-Shared-clause-uses : goal.one-requires-in-Shared-clause-uses
-one-requires-in-Shared-clause-uses g c = ap in_order (sym c.parts_used.ensures ∙ c.in-Shared.is)
+one-requires-in-Shared-clause-uses g c = ap in_order (sym c.uses.ensures ∙ c.in-Shared.is)
 
 pub returns-in-Shared-clause-table : goal.returns-in-Shared-clause-table
 returns-in-Shared-clause-table g c = c.one-in-Shared.ensures.table
@@ -164,7 +164,7 @@ pub returns-in-Shared-clause-left : goal.returns-in-Shared-clause-left
 returns-in-Shared-clause-left g c = c.one-in-Shared.ensures.left
 
 pub returns-in-Shared-clause-tells : goal.returns-in-Shared-clause-tells
-returns-in-Shared-clause-tells g c = subst (λ ks. Tells c.args.step ks c.one-in-Shared.result (known_of c.args.seat.now.me.0) (known_of c.one-in-Shared.new.seat.me.0)) (sym (ap in_order (sym c.parts_used.ensures ∙ c.in-Shared.is))) c.one-in-Shared.ensures.tells
+returns-in-Shared-clause-tells g c = subst (λ ks. Tells c.args.step ks c.one-in-Shared.result (known_of c.args.seat.now.me.0) (known_of c.one-in-Shared.new.seat.me.0)) (sym (ap in_order (sym c.uses.ensures ∙ c.in-Shared.is))) c.one-in-Shared.ensures.tells
 
 pub one-requires-in-Guest-clause-table : goal.one-requires-in-Guest-clause-table
 one-requires-in-Guest-clause-table g c = c.requires.table
@@ -188,10 +188,10 @@ pub one-requires-in-Guest-clause-left : goal.one-requires-in-Guest-clause-left
 one-requires-in-Guest-clause-left g c = c.requires.left
 
 pub one-requires-in-Guest-clause-uses : goal.one-requires-in-Guest-clause-uses
-one-requires-in-Guest-clause-uses g c = ap in_order (sym c.parts_used.ensures ∙ c.in-Guest.is)
+one-requires-in-Guest-clause-uses g c = ap in_order (sym c.uses.ensures ∙ c.in-Guest.is)
 
 pub returns-in-Guest-clause-tells : goal.returns-in-Guest-clause-tells
-returns-in-Guest-clause-tells g c = subst (λ ks. Tells c.args.step ks c.one-in-Guest.result (known_of c.args.seat.now.me.0) (known_of c.one-in-Guest.new.seat.me.0)) (sym (ap in_order (sym c.parts_used.ensures ∙ c.in-Guest.is))) c.one-in-Guest.ensures.tells
+returns-in-Guest-clause-tells g c = subst (λ ks. Tells c.args.step ks c.one-in-Guest.result (known_of c.args.seat.now.me.0) (known_of c.one-in-Guest.new.seat.me.0)) (sym (ap in_order (sym c.uses.ensures ∙ c.in-Guest.is))) c.one-in-Guest.ensures.tells
 
 pub two-requires-clause-table : goal.two-requires-clause-table
 two-requires-clause-table g c = c.requires.table
@@ -215,7 +215,7 @@ pub two-requires-clause-left : goal.two-requires-clause-left
 two-requires-clause-left g c = c.requires.left
 
 pub two-requires-clause-uses : goal.two-requires-clause-uses
-two-requires-clause-uses g c = ap in_order (sym c.parts_used.ensures ∙ c.in-Both.is)
+two-requires-clause-uses g c = ap in_order (sym c.uses.ensures ∙ c.in-Both.is)
 
 pub returns-in-Both-clause-tells : goal.returns-in-Both-clause-tells
-returns-in-Both-clause-tells g c = subst (λ ks. Tells c.args.step ks c.two.result (known_of c.args.seat.now.me.0) (known_of c.two.new.seat.me.0)) (sym (ap in_order (sym c.parts_used.ensures ∙ c.in-Both.is))) c.two.ensures.tells
+returns-in-Both-clause-tells g c = subst (λ ks. Tells c.args.step ks c.two.result (known_of c.args.seat.now.me.0) (known_of c.two.new.seat.me.0)) (sym (ap in_order (sym c.uses.ensures ∙ c.in-Both.is))) c.two.ensures.tells

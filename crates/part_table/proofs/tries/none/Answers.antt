@@ -13,7 +13,7 @@ gone {A = A} k j = go (eqb j k)
     go false = refl
 
 pub idle-call-requires-clause-left : goal.idle-call-requires-clause-left
-idle-call-requires-clause-left g c = let q = c.requires.cpu in ∣ left_idle c.args.layout.now c.args.id c.args.cpu.now c.args.seat.now.me.0 c.requires.left q.0 q.1 q.2 ∣₁
+idle-call-requires-clause-left g c = let q = c.requires.cpu in ∣ left_idle c.args.layout.now c.args.cpu.now.id c.args.cpu.now c.args.seat.now.me.0 c.requires.left q.0 q.1 q.2 ∣₁
 
 pub enter-requires-clause-does : goal.enter-requires-clause-does
 enter-requires-clause-does g c =

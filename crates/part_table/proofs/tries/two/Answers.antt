@@ -6,7 +6,7 @@ use Rattle.part_table.specs.Rule.{Extends, Seated, StartsWith, held_at, known_of
 use Rattle.part_table.proofs.Holding.{one_gone, two_gone, two_held, both_like, second_held}
 use Rattle.part_table.proofs.Pairs.{at_same, by_front}
 use Rattle.part_table.proofs.Telling.{with_taken, with_both, with_missed, with_home, with_stored, home_of, cpu_told, left_told, rest_told, does_for, left_of, away_first, full_first, away_second, full_second, stored_second, rest_added, rest_home}
-use Rattle.part_table.proofs.tries.two.Goals.{In-Some-take, After-put_back, After-put_back-in_default-take, After-put_back-then-room-eq0-2, After-put_back-then-room-eq0-2-2, After-let_home}
+use Rattle.part_table.proofs.tries.two.Goals.{In-Some-take, After-put_back, After-put_back-in_default-take, After-put_back-then-room-eq0-2, After-put_back-then-room-eq0-2-2, After-release}
 use Rattle.part_table.proofs.tries.two.Goals as goal
 
 -- there are more parts than one
@@ -37,15 +37,15 @@ both_back : (g : _) (c : After-put_back-then-room-eq0-2-2 g) → c.put_back-then
 both_back g c = home_of 1 (guest_back g (goal.at.After-put_back-then-room-eq0-2-2 g c).After-put_back-then-room-eq0-2) c.put_back-then-room-eq0-2-2.ensures.home
 
 -- where a call was stored in both logs
-stored : (g : _) (c : After-let_home g) → let k = c.args.v + 2 in
-    c.let_home.new.seat.me ≡ with_home (with_stored (with_both c.args.seat.now.me c.in-Some.shared k c.in-Some-take.guest) c.both-shared.new.cpu ((k, Some c.both-shared.result.1) ∷ (1, Some c.both-shared.result.0) ∷ []) k) 1
+stored : (g : _) (c : After-release g) → let k = c.args.v + 2 in
+    c.release.new.seat.me ≡ with_home (with_stored (with_both c.args.seat.now.me c.in-Some.shared k c.in-Some-take.guest) c.both-shared.new.cpu ((k, Some c.both-shared.result.1) ∷ (1, Some c.both-shared.result.0) ∷ []) k) 1
 stored g c =
     let k = c.args.v + 2 in
-    let laid = (k, Some c.both-shared.result.1) ∷ (1, Some c.both-shared.result.0) ∷ [] in
-    home_of 1 (c.commit_first.ensures.home ∙ ap (λ (m : Seated g.row.A.Denot). with_stored m c.both-shared.new.cpu laid k) (both g (goal.at.After-let_home g c).In-Some-take)) c.let_home.ensures.home
+    let in_slot = (k, Some c.both-shared.result.1) ∷ (1, Some c.both-shared.result.0) ∷ [] in
+    home_of 1 (c.commit_first.ensures.home ∙ ap (λ (m : Seated g.row.A.Denot). with_stored m c.both-shared.new.cpu in_slot k) (both g (goal.at.After-release g c).In-Some-take)) c.release.ensures.home
 
-history : (g : _) (c : After-let_home g) → Extends c.both-shared.result.2 (known_of c.let_home.new.seat.me.0)
-history g c = rest_home c.commit_first.new.seat.me c.let_home.ensures.home c.commit_first.ensures.history
+history : (g : _) (c : After-release g) → Extends c.both-shared.result.2 (known_of c.release.new.seat.me.0)
+history g c = rest_home c.commit_first.new.seat.me c.release.ensures.home c.commit_first.ensures.history
 
 pub both-shared-requires-clause-left : goal.both-shared-requires-clause-left
 both-shared-requires-clause-left g c =
@@ -64,8 +64,8 @@ commit_first-requires-clause-does g c =
     let q = cpu_told (both g at.In-Some-take) c.requires.cpu c.requires.on in
     does_for c.take-2.new.seat.me.0 q.0 q.2 (held g at.In-Some-take) c.both-shared.ensures.does
 
-pub let_home-requires-clause-held : goal.let_home-requires-clause-held
-let_home-requires-clause-held g c =
+pub release-requires-clause-held : goal.release-requires-clause-held
+release-requires-clause-held g c =
     let home = c.commit_first.ensures.home in
     (c.both-shared.result.0, by_front (ap (λ (m : Seated g.row.A.Denot). m.1) home), ap (λ (m : Seated g.row.A.Denot). held_at m.0.held 1) home ∙ second_held (c.args.v + 2) c.both-shared.result.1 c.both-shared.result.0 [] (λ e. omega arith))
 
@@ -79,11 +79,11 @@ returns-clause-tells g c =
     let q = c.requires.cpu in
     let m = c.args.seat.now.me in
     let begun = subst (λ (n : Seated g.row.A.Denot). StartsWith (log_of c.in-Some-take.guest).calls (seen_at n.0.seen (c.args.v + 2))) c.in-Some.ensures.taken.0 c.in-Some-take.ensures.taken.1 in
-    stored_second m (c.args.v + 2) c.in-Some.shared c.in-Some-take.guest c.both-shared.result.0 c.both-shared.result.1 (stored g at.After-let_home) (λ e. omega arith) q.1 q.2
-    (λ e. c.if-room-eq0.false (c.room.ensures ∙ e)) (λ e. c.if-room-eq0-2.false (c.room-2.ensures ∙ e)) c.in-Some.ensures.taken.1 begun c.both-shared.ensures.call c.both-shared.ensures.does (history g at.After-let_home)
+    stored_second m (c.args.v + 2) c.in-Some.shared c.in-Some-take.guest c.both-shared.result.0 c.both-shared.result.1 (stored g at.After-release) (λ e. omega arith) q.1 q.2
+    (λ e. c.if-room-eq0.false (c.room.ensures ∙ e)) (λ e. c.if-room-eq0-2.false (c.room-2.ensures ∙ e)) c.in-Some.ensures.taken.1 begun c.both-shared.ensures.call c.both-shared.ensures.does (history g at.After-release)
 
 pub returns-clause-left : goal.returns-clause-left
-returns-clause-left g c = rest_added c.both-shared.result.2 c.let_home.new.seat.me.0 (history g (goal.at.returns-clause-left g c).After-let_home)
+returns-clause-left g c = rest_added c.both-shared.result.2 c.release.new.seat.me.0 (history g (goal.at.returns-clause-left g c).After-release)
 
 pub returns-in_default-clause-tells : goal.returns-in_default-clause-tells
 returns-in_default-clause-tells g c = away_first c.args.seat.now.me 1 ((c.args.v + 2) ∷ []) c.in_default.ensures.missed
@@ -116,7 +116,7 @@ pub commit_first-requires-clause-hand : goal.commit_first-requires-clause-hand
 commit_first-requires-clause-hand g c = ap (λ (m : Seated g.row.A.Denot). m.1) (both g (goal.at.commit_first-requires-clause-hand g c).In-Some-take) ∙ ap (λ h. (c.args.v + 2, None) ∷ (1, None) ∷ h) c.requires.rest.0
 
 pub returns-clause-table : goal.returns-clause-table
-returns-clause-table g c = c.let_home.ensures.table ∙ (c.commit_first.ensures.table ∙ (c.take-2.ensures.table ∙ c.take.ensures.table))
+returns-clause-table g c = c.release.ensures.table ∙ (c.commit_first.ensures.table ∙ (c.take-2.ensures.table ∙ c.take.ensures.table))
 
 pub returns-in_default-clause-table : goal.returns-in_default-clause-table
 returns-in_default-clause-table g c = c.take.ensures.table
@@ -164,11 +164,11 @@ put_back-requires-in_default-take-clause-hand g c = by_front (ap (λ (z : Seated
 pub put_back-requires-in_default-take-clause-held : goal.put_back-requires-in_default-take-clause-held
 put_back-requires-in_default-take-clause-held g c = ap (λ (z : Seated g.row.A.Denot). held_at z.0.held 1) c.in_default-take.ensures.missed ∙ ap (λ (z : Seated g.row.A.Denot). held_at z.0.held 1) c.in-Some.ensures.taken.0
 
-pub let_home-requires-clause-table : goal.let_home-requires-clause-table
-let_home-requires-clause-table g c = (c.commit_first.ensures.table ∙ (c.take-2.ensures.table ∙ (c.take.ensures.table ∙ c.requires.table.0)), c.requires.table.1)
+pub release-requires-clause-table : goal.release-requires-clause-table
+release-requires-clause-table g c = (c.commit_first.ensures.table ∙ (c.take-2.ensures.table ∙ (c.take.ensures.table ∙ c.requires.table.0)), c.requires.table.1)
 
-pub let_home-requires-clause-on : goal.let_home-requires-clause-on
-let_home-requires-clause-on g c = ap (λ (m : Seated g.row.A.Denot). m.0.on) c.commit_first.ensures.home ∙ (ap (λ (m : Seated g.row.A.Denot). m.0.on) (both g (goal.at.let_home-requires-clause-on g c).In-Some-take) ∙ c.requires.on)
+pub release-requires-clause-on : goal.release-requires-clause-on
+release-requires-clause-on g c = ap (λ (m : Seated g.row.A.Denot). m.0.on) c.commit_first.ensures.home ∙ (ap (λ (m : Seated g.row.A.Denot). m.0.on) (both g (goal.at.release-requires-clause-on g c).In-Some-take) ∙ c.requires.on)
 
 pub returns-then-room-eq0-clause-cpu : goal.returns-then-room-eq0-clause-cpu
 returns-then-room-eq0-clause-cpu g c = cpu_told (back g (goal.at.returns-then-room-eq0-clause-cpu g c).After-put_back) c.requires.cpu c.requires.on
@@ -198,10 +198,10 @@ pub returns-then-room-eq0-2-clause-rest : goal.returns-then-room-eq0-2-clause-re
 returns-then-room-eq0-2-clause-rest g c = rest_told (both_back g (goal.at.returns-then-room-eq0-2-clause-rest g c).After-put_back-then-room-eq0-2-2) c.requires.rest.0 (two_gone c.args.seat.now.me.0.held (c.args.v + 2) 1 (Some c.in-Some-take.guest) (Some c.in-Some.shared) c.requires.rest.1)
 
 pub returns-clause-cpu : goal.returns-clause-cpu
-returns-clause-cpu g c = cpu_told (stored g (goal.at.returns-clause-cpu g c).After-let_home) (c.requires.cpu.0, c.requires.cpu.1, refl) c.requires.on
+returns-clause-cpu g c = cpu_told (stored g (goal.at.returns-clause-cpu g c).After-release) (c.requires.cpu.0, c.requires.cpu.1, refl) c.requires.on
 
 pub returns-clause-rest : goal.returns-clause-rest
-returns-clause-rest g c = rest_told (stored g (goal.at.returns-clause-rest g c).After-let_home) refl (two_gone [] (c.args.v + 2) 1 (Some c.both-shared.result.1) (Some c.both-shared.result.0) (λ j. refl))
+returns-clause-rest g c = rest_told (stored g (goal.at.returns-clause-rest g c).After-release) refl (two_gone [] (c.args.v + 2) 1 (Some c.both-shared.result.1) (Some c.both-shared.result.0) (λ j. refl))
 
 pub both-shared-requires-clause-known : goal.both-shared-requires-clause-known
 both-shared-requires-clause-known g c = c.requires.known
@@ -266,5 +266,5 @@ put_back-requires-in_default-take-clause-part g c = low
 pub put_back-requires-then-room-eq0-2-2-clause-part : goal.put_back-requires-then-room-eq0-2-2-clause-part
 put_back-requires-then-room-eq0-2-2-clause-part g c = low
 
-pub let_home-requires-clause-part : goal.let_home-requires-clause-part
-let_home-requires-clause-part g c = low
+pub release-requires-clause-part : goal.release-requires-clause-part
+release-requires-clause-part g c = low

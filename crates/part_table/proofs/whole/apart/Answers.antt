@@ -2,21 +2,21 @@ use Rattle.std.proofs.Common.{◌∙◌, arith, refl}
 use Rattle.part_table.proofs.TakenApart.{at_boot, row_same}
 use Rattle.part_table.proofs.whole.apart.Goals as goal
 
-pub lay_guests-slots-requires : goal.lay_guests-slots-requires
-lay_guests-slots-requires g c =
-    let a = c.lay_first-slots.ensures.len in
+pub push_guests-slots-requires : goal.push_guests-slots-requires
+push_guests-slots-requires g c =
+    let a = c.push_first-slots.ensures.len in
     let b = c.args.parts.slots in
-    let d = c.lay_first-slots.ensures.room in
+    let d = c.push_first-slots.ensures.room in
     let e = c.requires.room in
     record { room = omega (arith, a, b, d, e) }
 
 pub returns-clause-slots : goal.returns-clause-slots
 returns-clause-slots g c =
     let p = c.args.parts in
-    c.lay_guests-slots.ensures ∙ row_same {A = g.row.A.Denot} p.vms.items p.shared.items p.guests.items c.lay_first-slots.result.items c.lift-vm.result c.lift-part.result c.lift-vm.ensures.items c.lift-part.ensures.items c.lay_first-slots.ensures.items
+    c.push_guests-slots.ensures ∙ row_same {A = g.row.A.Denot} p.vms p.shared p.guests.items c.push_first-slots.result.items c.push_first-slots.ensures.items
 
 pub returns-clause-booted : goal.returns-clause-booted
 returns-clause-booted g c = λ m d is.
     let p = c.args.parts in
-    let slots = c.lay_guests-slots.ensures ∙ row_same {A = g.row.A.Denot} p.vms.items p.shared.items p.guests.items c.lay_first-slots.result.items c.lift-vm.result c.lift-part.result c.lift-vm.ensures.items c.lift-part.ensures.items c.lay_first-slots.ensures.items in
-    at_boot p m d is c.lay_guests-slots.result.items p.cpus.items slots refl
+    let slots = c.push_guests-slots.ensures ∙ row_same {A = g.row.A.Denot} p.vms p.shared p.guests.items c.push_first-slots.result.items c.push_first-slots.ensures.items in
+    at_boot p m d is c.push_guests-slots.result.items p.cpus.items slots refl

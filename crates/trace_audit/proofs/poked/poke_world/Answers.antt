@@ -2,7 +2,7 @@ use Rattle.std.proofs.Common.{◌≡◌, ◌∙◌, ap, refl, sym, Some, option_
 use Rattle.page_state.specs.declared.layout.Geometry.{Geometry}
 use Rattle.ghost_oracle.specs.Poked.{IsBeside, parts_trees}
 use Rattle.trace_audit.specs.Paths.{path_on}
-use Rattle.trace_audit.proofs.Setting.{sets, sets_nothing}
+use Rattle.trace_audit.proofs.Setting.{not_true, sets, sets_nothing}
 use Rattle.trace_audit.proofs.poked.poke_world.Goals as goal
 
 pub returns-in-Ok : goal.returns-in-Ok
@@ -17,4 +17,4 @@ returns-in-Err g c =
     let leads : path_on c.args.world.parts.layout.geometry c.args.poke.page c.args.poke.level ≡ Some c.in-Some.path.items
     = ap (λ (x : Geometry). path_on x c.args.poke.page c.args.poke.level) (sym c.geometry.ensures) ∙ sym c.path_on.ensures ∙ ap (option_map (λ p. p.items)) c.in-Some.is in
     sets_nothing c.args.world.parts.layout.geometry (parts_trees c.args.world.parts) (IsBeside c.args.world.parts) c.args.poke c.in-Some.path.items c.as_slice.result.now c.which_of.result leads c.as_slice.ensures.value c.which_of.ensures g.row.A.Denot
-    (λ there. let ok = c.in-Err.ensures.fault.1 there in cc)
+    (λ there. not_true (c.in-Err.ensures.fault.1 there))

@@ -1,4 +1,4 @@
-use Rattle.std.proofs.Common.{rules, ◌≡◌, ◌∷◌, [], ◌∙◌, ℕ, refl}
+use Rattle.std.proofs.Common.{rules, ◌≡◌, ◌∙◌, ℕ, refl}
 use Rattle.trace_lines.specs.declared.response.Response.TheVariants as responses
 use Rattle.trace_text.proofs.Machines.{host_count, hyp_count, free_is}
 use Rattle.trace_text.proofs.session.boot_line.Goals as goal
@@ -9,6 +9,4 @@ boot_is a b c d e f h k l = rw (h, k, l) refl
 pub returns : goal.returns
 returns g c =
     let w = c.args.world.now in
-    let s = c.shared-shared.result.now in
-    let is : w.parts.shared.items ≡ s ∷ [] = search rules in
-    boot_is _ _ _ _ _ _ (search rules ∙ host_count w s is) (search rules ∙ hyp_count w s is) (search rules ∙ free_is w s is)
+    boot_is _ _ _ _ _ _ (search rules ∙ host_count w) (search rules ∙ hyp_count w) (search rules ∙ free_is w)

@@ -1,17 +1,12 @@
-use Rattle.std.proofs.Common.{◌≡◌, refl, ap, sym, subst, ◌∙◌, length, arith}
+use Rattle.std.proofs.Common.{◌≡◌, refl, ap, sym, subst, ◌∙◌}
 use Rattle.std.specs.Prelude.{IsErrAnd}
-use Rattle.page_state.specs.Geometries.{levels_below}
 use Rattle.page_state.specs.Regions.{has_memory}
-use Rattle.guest_steps.specs.declared.parts.SharedPart.{SharedPart}
-use Rattle.guest_steps.specs.Logs.{IsOfSize}
-use Rattle.guest_steps.specs.MemoryRows.{HasMemoryRows}
-use Rattle.guest_steps.specs.View.{depth_of}
-use Rattle.world.proofs.Booted.{has_booted, no_memory, err_is, all_alone}
+use Rattle.world.proofs.Booted.{has_booted, no_memory, err_is}
 use Rattle.world.proofs.boot.booted.Goals as goal
 
 pub returns : goal.returns
 returns g c =
-    has_booted c.args.map.now c.args.config c.in-Some.geometry _ c.in_ok-shared.shared c.in_ok-clone.ensures.cases refl refl c.in_ok-vms.ensures.slots c.in_ok-vms.ensures.logs c.in_ok-shared-2.ensures c.in_ok-shared.ensures.log c.in_ok-guests.ensures.vacant c.in_ok-cpus.ensures.idle c.in_ok-shared.ensures.shared c.regions.ensures.accepted c.in-Some.ensures ((c.is_carve_enough.ensures c.args.config).0 c.if-not-is_carve_enough.false)
+    has_booted c.args.map.now c.args.config c.in-Some.geometry _ c.in_ok-clone.ensures.cases refl refl c.in_ok-vms.ensures.slots c.in_ok-vms.ensures.log c.in_ok-shared.ensures.log c.in_ok-guests.ensures.vacant c.in_ok-cpus.ensures.idle c.in_ok-shared.ensures.shared c.regions.ensures.accepted c.in-Some.ensures ((c.is_carve_enough.ensures c.args.config).0 c.if-not-is_carve_enough.false)
 
 pub shared_at_boot-requires-clause-enough : goal.shared_at_boot-requires-clause-enough
 shared_at_boot-requires-clause-enough g c = (c.is_carve_enough.ensures c.args.config).0 c.if-not-is_carve_enough.false
@@ -21,9 +16,6 @@ returns-then-not-is_carve_enough g c = (c.in-Some.geometry, c.in-Some.ensures, �
 
 pub returns-in_err-shared : goal.returns-in_err-shared
 returns-in_err-shared g c = no_memory c.args.map.now c.args.config c.in-Some.geometry c.from_residual.result c.in-Some.ensures ((c.is_carve_enough.ensures c.args.config).0 c.if-not-is_carve_enough.false) (subst (λ e. IsErrAnd c.from_residual.result (λ f. f ≡ e)) (err_is c.in_err-shared.ensures.err) c.from_residual.ensures.1)
-
-pub returns-in_err-shared-2 : goal.returns-in_err-shared-2
-returns-in_err-shared-2 g c = no_memory c.args.map.now c.args.config c.in-Some.geometry c.from_residual-in_err-shared-2.result c.in-Some.ensures ((c.is_carve_enough.ensures c.args.config).0 c.if-not-is_carve_enough.false) c.from_residual-in_err-shared-2.ensures.1
 
 pub returns-in_err-vms : goal.returns-in_err-vms
 returns-in_err-vms g c = no_memory c.args.map.now c.args.config c.in-Some.geometry c.from_residual-in_err-vms.result c.in-Some.ensures ((c.is_carve_enough.ensures c.args.config).0 c.if-not-is_carve_enough.false) c.from_residual-in_err-vms.ensures.1
@@ -38,22 +30,18 @@ pub returns-in_err-clone : goal.returns-in_err-clone
 returns-in_err-clone g c = no_memory c.args.map.now c.args.config c.in-Some.geometry c.from_residual-in_err-clone.result c.in-Some.ensures ((c.is_carve_enough.ensures c.args.config).0 c.if-not-is_carve_enough.false) c.from_residual-in_err-clone.ensures.1
 
 pub invariant_of-result-2 : goal.invariant_of-result-2
-invariant_of-result-2 g c =
-    let s = c.in_ok-shared.shared in
-    let many = ap length c.in_ok-shared-2.ensures in
-    record {
-      one_vms = c.in_ok-vms.ensures.count;
-      one_shared = omega (arith, many, c.in_ok-shared-2.shared.ok.0);
-      slots = c.in_ok-guests.ensures.count;
-      counted = c.in_ok-cpus.ensures.count;
-      vm_log = λ k d less. (c.in_ok-vms.ensures.logs k d less).size;
-      shared_log = all_alone (λ (x : SharedPart _). IsOfSize c.args.config.log x.log) c.in_ok-shared-2.shared.items s c.in_ok-shared-2.ensures c.in_ok-shared.ensures.log.size;
-      depth = all_alone (λ (x : SharedPart _). depth_of x ≡ levels_below c.in-Some.geometry) c.in_ok-shared-2.shared.items s c.in_ok-shared-2.ensures c.in_ok-shared.ensures.depth;
-      rows = all_alone (λ (x : SharedPart _). HasMemoryRows c.in_ok-clone.field-0 x.rows) c.in_ok-shared-2.shared.items s c.in_ok-shared-2.ensures (λ f. c.in_ok-shared.ensures.rows f ∙ ap (λ m. has_memory m f) (sym c.in_ok-clone.ensures.cases));
-      guest_depth = λ k d less. (c.in_ok-guests.ensures.vacant k d less).depth;
-      guest_logs = λ k d less. (c.in_ok-guests.ensures.vacant k d less).log.size;
-      own_logs = λ k d less. (c.in_ok-cpus.ensures.idle k d less).log.size;
-    }
+invariant_of-result-2 g c = record {
+  slots = c.in_ok-guests.ensures.count;
+  counted = c.in_ok-cpus.ensures.count;
+  vm_log = c.in_ok-vms.ensures.log.size;
+  shared_log = c.in_ok-shared.ensures.log.size;
+  depth = c.in_ok-shared.ensures.depth;
+  rows = λ f. c.in_ok-shared.ensures.rows f ∙ ap (λ m. has_memory m f) (sym c.in_ok-clone.ensures.cases);
+  guest_depth = λ k d less. (c.in_ok-guests.ensures.vacant k d less).depth;
+  guest_logs = λ k d less. (c.in_ok-guests.ensures.vacant k d less).log.size;
+  numbers = c.in_ok-cpus.ensures.numbers;
+  own_logs = λ k d less. (c.in_ok-cpus.ensures.idle k d less).log.size;
+}
 
 pub returns-in_default : goal.returns-in_default
 returns-in_default g c = c.in_default.ensures

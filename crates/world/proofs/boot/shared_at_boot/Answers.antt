@@ -32,7 +32,7 @@ returns-in_err-change-clause-err g c =
     told c.from_residual-in_err-change.result c.in_err-change.field-0.0 (λ e. let less = c.change.ensures.no_pool.0 (c.in_err-change.was ∙ ap Err e) in absurd (omega (arith, less, room))) c.from_residual-in_err-change.ensures.1
 
 pub give_rows-requires-clause-known : goal.give_rows-requires-clause-known
-give_rows-requires-clause-known g c = known_rows c.args.map.now c.args.config c.args.geometry c.carve-carve.result c.change.new.self.rows c.carve-carve.ensures.value c.requires.usable (λ f. rw c.change.ensures.rows (c.in_ok-shared.ensures.rows f))
+give_rows-requires-clause-known g c = known_rows c.args.map.now c.args.config c.args.geometry c.carve-carve.result c.change.new.self.owners c.carve-carve.ensures.value c.requires.usable (λ f. rw c.change.ensures.rows (c.in_ok-shared.ensures.rows f))
 
 pub returns-clause-shared : goal.returns-clause-shared
 returns-clause-shared g c =
@@ -116,7 +116,7 @@ pub returns-clause-depth : goal.returns-clause-depth
 returns-clause-depth g c = c.give_rows.ensures.depth ∙ c.change.ensures.depth ∙ c.in_ok-shared.ensures.depth
 
 pub returns-clause-rows : goal.returns-clause-rows
-returns-clause-rows g c f = both_same (is_some (row_at c.give_rows.new.self.rows f)) (is_some (row_at c.change.new.self.rows f)) (c.give_rows.ensures.known f) ∙ ap (λ rows. is_some (row_at rows f)) c.change.ensures.rows ∙ c.in_ok-shared.ensures.rows f
+returns-clause-rows g c f = both_same (is_some (row_at c.give_rows.new.self.owners f)) (is_some (row_at c.change.new.self.owners f)) (c.give_rows.ensures.known f) ∙ ap (λ rows. is_some (row_at rows f)) c.change.ensures.rows ∙ c.in_ok-shared.ensures.rows f
 
 pub returns-clause-log : goal.returns-clause-log
 returns-clause-log g c = subst (IsNewLog c.args.config.log) (sym (c.give_rows.ensures.log ∙ c.change.ensures.log)) c.in_ok-shared.ensures.log

@@ -1,9 +1,8 @@
 use Rattle.std.proofs.Common.{◌≡◌, ◌∙◌, ℕ, List, [], ap, sym, map, arith}
 use Rattle.std.specs.Prelude.{get_or, slice_get, Vec}
 use Rattle.step_reply.specs.declared.reply.Call.{Call}
-use Rattle.guest_steps.specs.Lent.{one}
 use Rattle.hypercalls.specs.Stands.{at_place}
-use Rattle.ghost_oracle.proofs.Founds.{one_at, placed, as_long}
+use Rattle.ghost_oracle.proofs.Founds.{placed, as_long}
 use Rattle.world.specs.Merges.{log_at}
 use Rattle.world.proofs.histories.histories.Goals as goal
 
@@ -24,8 +23,8 @@ returns-clause-logs g c =
     let guests = c.in_ok-guest_logs.ensures ∙ ap (map (λ w. w.log.calls)) c.as_slice.ensures.value in
     let cpus = c.in_ok-cpu_logs.ensures ∙ ap (map (λ k. k.log.calls)) c.as_slice-2.ensures.value in
     record {
-      vms = c.in_ok-from_slice.ensures.items ∙ c.calls.ensures ∙ ap (λ v. v.log.calls) c.index.ensures ∙ sym (one_at [] (λ v. v.log.calls) p.vms.items _ (omega (arith, p.one_vms, p.vms.ok.0)));
-      shared = c.in_ok-from_slice-2.ensures.items ∙ c.calls-2.ensures ∙ sym (ap (one [] (λ s. s.log.calls)) c.shared.ensures);
+      vms = c.in_ok-from_slice.ensures.items ∙ c.calls.ensures;
+      shared = c.in_ok-from_slice-2.ensures.items ∙ c.calls-2.ensures;
       guest = λ v low. same_at (λ w. w.log.calls) c.in_ok-guest_logs.field-0.items p.guests.items v guests;
       guests = let n = as_long (λ v. v.items) (λ w. w.log.calls) c.in_ok-guest_logs.field-0.items p.guests.items 64 guests (omega (arith, p.slots, p.guests.ok.0)) in omega (arith, n);
       cpu = λ k low. same_at (λ w. w.log.calls) c.in_ok-cpu_logs.field-0.items p.cpus.items k cpus;

@@ -85,9 +85,6 @@ ended-world-requires-clause-found g c = c.in-Ok.ensures.found
 pub ended-world-requires-clause-cpus : goal.ended-world-requires-clause-cpus
 ended-world-requires-clause-cpus g c = (c.in-Ok.ensures.cpus.0, omega (arith, c.all_back-passes.ensures.count.1, c.len.ensures, c.in-Ok.ensures.cpus.1))
 
-pub ended-world-requires-clause-first : goal.ended-world-requires-clause-first
-ended-world-requires-clause-first g c = let r = c.in-Ok.ensures in (r.vms.0, r.vms.1, r.shared.0, r.shared.1)
-
 pub ended-world-requires-clause-guests : goal.ended-world-requires-clause-guests
 ended-world-requires-clause-guests g c = c.in-Ok.ensures.guests
 

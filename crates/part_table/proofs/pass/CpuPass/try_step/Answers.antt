@@ -24,7 +24,7 @@ invariant_of-self g c =
     let old : View g.row.A.Denot = c.self.inside.seat.me.0 in
     let same : old.layout ≡ c.args.layout.now = ap (λ (p : Pass). p.knows.layout) c.self.view_is ∙ c.requires.layout in
     let few : c.any.new.seat.me.0.cpu < c.any.new.seat.me.0.layout.config.cpus = subst (λ (z : ℕ × TheLayout). z.0 < z.1.config.cpus) (λ j. ((i.3 ∙ sym a.1) j, (same ∙ sym a.0) j)) i.5 in
-    (c.any.ensures.rest.0, c.any.ensures.rest.1, a.3, a.1, a.2, few, c.any.ensures.left)
+    (c.any.ensures.rest.0, c.any.ensures.rest.1, a.3, sym c.any.ensures.left.own.id ∙ ap (λ (k : CpuState). k.id) a.2, a.2, few, c.any.ensures.left)
 
 pub returns-clause-rest : goal.returns-clause-rest
 returns-clause-rest g c = none_held c.any.new.seat.me.0.held c.any.ensures.rest.1

@@ -1,0 +1,134 @@
+//! Which parts a step uses.
+ghost use Rattle.std.specs.Prelude.{◌≡◌};
+ghost use Rattle.guest_steps.specs.View.{cpu_of};
+ghost use Rattle.hypercalls.specs.Uses.{uses_of};
+ghost use Rattle.reference_model.specs.Parts.{guest_slot as guest_slot_of, names, slot_of as slot_of_vm, ticket_slot as ticket_slot_of, uses_shared as uses_shared_part, uses_vms as uses_vm_part};
+
+use decisions::is_stage;
+use guest_steps::CpuState;
+use reference_model::Stage;
+use step_reply::{Step, VmId};
+
+/// The slot of a VM, where there is such a slot.
+fn slot_of(vm: VmId) -> Option<u64>
+    ensures { result ≡ slot_of_vm vm }
+{
+    if vm.slot < 64 { Some(vm.slot) } else { None }
+}
+
+/// The slot of the CPU's ticket of a stage.
+fn ticket_slot(stage: Stage, cpu: &CpuState) -> Option<u64>
+    ensures { result ≡ ticket_slot_of stage (cpu_of cpu.now) }
+{
+    match cpu.ticket {
+        Some(ticket) => {
+            if is_stage(ticket.stage, stage) {
+                Some(ticket.vm.slot)
+            } else {
+                None
+            }
+        }
+        None => None,
+    }
+}
+
+/// The slot of the Guest part that a step of the CPU uses: by its VM, or by what the CPU has loaded or holds a ticket of.
+/// None where it uses none.
+pub fn guest_slot(cpu: &CpuState, step: Step) -> Option<u64>
+    ensures { result ≡ guest_slot_of (cpu_of cpu.now) step }
+{
+    match step {
+        Step::ShareGuest { .. }
+        | Step::DonateGuest { .. }
+        | Step::GuestShareHost { .. }
+        | Step::GuestUnshareHost { .. }
+        | Step::GuestRelax { .. } => cpu.loaded.map(|loaded| loaded.vm.slot),
+        Step::UnshareGuest { vm, .. }
+        | Step::Topup { vm }
+        | Step::ReclaimPage { vm, .. }
+        | Step::ReclaimPool { vm }
+        | Step::GuestTranslate { vm, .. } => slot_of(vm),
+        Step::Install => ticket_slot(Stage::Booked, cpu),
+        Step::MarkDying => ticket_slot(Stage::ClosingVm, cpu),
+        Step::FinishGuest => ticket_slot(Stage::DyingVm, cpu),
+        _ => None,
+    }
+}
+
+/// Whether a step uses the VM part.
+pub fn uses_vms(step: Step) -> bool
+    ensures { result ≡ uses_vm_part (names step) }
+{
+    match step {
+        Step::VmReserve { .. } | Step::VmOpen | Step::VcpuPut | Step::VmRelease => true,
+        Step::VcpuLoad { vm, .. } | Step::Teardown { vm } => vm.slot < 64,
+        _ => false,
+    }
+}
+
+/// Whether a step uses the Shared part, where the slot of its Guest part was found or not.
+pub fn uses_shared(step: Step, slot: Option<u64>) -> bool
+    ensures { result ≡ uses_shared_part (names step) slot }
+{
+    match step {
+        Step::ShareHyp { .. }
+        | Step::UnshareHyp { .. }
+        | Step::DonateHyp { .. }
+        | Step::HypDonateHost { .. }
+        | Step::HostAbort { .. }
+        | Step::HostTranslate { .. }
+        | Step::HypTranslate { .. }
+        | Step::OwnerOf { .. }
+        | Step::Fund { .. }
+        | Step::Unfund => true,
+        Step::ShareGuest { .. }
+        | Step::UnshareGuest { .. }
+        | Step::DonateGuest { .. }
+        | Step::GuestShareHost { .. }
+        | Step::GuestUnshareHost { .. }
+        | Step::Install
+        | Step::Topup { .. }
+        | Step::ReclaimPage { .. }
+        | Step::ReclaimPool { .. }
+        | Step::FinishGuest => slot.is_some(),
+        _ => false,
+    }
+}
+
+/// The parts that a step uses beside its CPU's own state: none, one of them, or the Shared part and the Guest part of a
+/// slot. Guests are named by slot.
+#[derive(Clone, Copy)]
+pub enum UsedParts {
+    Nothing,
+    Vms,
+    Shared,
+    Guest(u64),
+    Both(u64),
+}
+
+/// The parts that a step of a CPU uses, found from the CPU's own state and the step alone.
+pub fn uses(cpu: &CpuState, step: &Step) -> UsedParts
+    ensures { result ≡ uses_of (cpu_of cpu.now) step.now }
+{
+    let slot = guest_slot(cpu, *step);
+    if uses_vms(*step) {
+        return UsedParts::Vms;
+    }
+    let shared = uses_shared(*step, slot);
+    match slot {
+        Some(v) => {
+            if shared {
+                UsedParts::Both(v)
+            } else {
+                UsedParts::Guest(v)
+            }
+        }
+        None => {
+            if shared {
+                UsedParts::Shared
+            } else {
+                UsedParts::Nothing
+            }
+        }
+    }
+}
