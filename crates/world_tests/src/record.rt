@@ -67,7 +67,7 @@ fn new_shared(rt: &impl Abort, alloc: Global, map: &MemoryMap) -> SharedPart<Glo
         host,
         hyp,
         pool,
-        rows,
+        owners: rows,
         log,
     }
 }
@@ -130,11 +130,13 @@ const HAND: PageRange = PageRange {
     count: 3,
 };
 
-/// A CPU with that hand.
+/// CPU 1, with that hand.
 fn own_state(rt: &impl Abort, alloc: Global) -> CpuState
-    ensures { IsLowCpu (cpu_of result) }
+    ensures low { IsLowCpu (cpu_of result) }
+    ensures id { result.id ≡ 1 }
 {
     CpuState {
+        id: 1,
         loaded: None,
         hand: Some(HAND),
         ticket: None,
@@ -237,7 +239,7 @@ fn shared_recorded(rt: &impl Abort, alloc: Global, layout: &Layout) -> Ghost
 {
     let own = own_state(rt, alloc);
     let shared = shared(rt, alloc, &layout.map);
-    record(alloc, layout, 1, None, Some(&shared), None, &own).expect(rt, "memory")
+    record(alloc, layout, None, Some(&shared), None, &own).expect(rt, "memory")
 }
 
 #[test]

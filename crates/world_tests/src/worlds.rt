@@ -1,4 +1,5 @@
 //! Worlds.
+mod lent;
 mod merging;
 mod poked;
 

@@ -105,7 +105,7 @@ fn expect_difference(
 
 /// The page's word in the host's tree.
 fn word_of(world: &World<Global>) -> u64 {
-    let word = world.parts().shared().host.tree().word_at(&PATH);
+    let word = world.parts().shared.host.tree().word_at(&PATH);
     word.unwrap_or(0)
 }
 
