@@ -11,8 +11,8 @@ no_run (Some x) n = absurd (n x refl)
 
 pub returns-in_default-clause-items : goal.returns-in_default-clause-items
 returns-in_default-clause-items g c =
-    sym (glue_none g.V.Advance.advance g.V.Advance.CanAdvance g.V.Advance.same g.met.V.Advance.laws c.args.runs.now.items)
-    ∙ ap (λ us. glue g.V.Advance.advance g.V.Advance.same c.args.runs.now.items us) (no_run c.args.run c.in_default.not-Some)
+    sym (glue_none g.V.Advance.advance g.V.Advance.CanAdvance g.V.PartialEq.eq g.met.V.Advance.laws c.args.runs.now.items)
+    ∙ ap (λ us. glue g.V.Advance.advance g.V.PartialEq.eq c.args.runs.now.items us) (no_run c.args.run c.in_default.not-Some)
 
 pub returns-then-join_last-clause-items : goal.returns-then-join_last-clause-items
 returns-then-join_last-clause-items g c = rw c.in-Some.is (c.join_last.ensures.joined c.if-join_last.true)

@@ -19,8 +19,8 @@ returns-then-is_continued_by-clause-joined g c = λ told.
     let x = c.index.result.now in
     let y = c.args.run in
     let some : length rs ≡ suc (c.len-last.result - 1) = omega (arith, c.args.runs.now.ok.0, c.len-last.ensures, c.if-last-gt0.true) in
-    let goes : continues g.V.Advance.advance g.V.Advance.same x y ≡ true = sym c.is_continued_by.ensures ∙ c.if-is_continued_by.true in
-    let long = last_longer g.V.Advance.advance g.V.Advance.CanAdvance g.V.Advance.same g.met.V.Advance.laws rs (c.len-last.result - 1) x y some (subst (λ r. continues g.V.Advance.advance g.V.Advance.same r y ≡ true) c.index.ensures goes) in
+    let goes : continues g.V.Advance.advance g.V.PartialEq.eq x y ≡ true = sym c.is_continued_by.ensures ∙ c.if-is_continued_by.true in
+    let long = last_longer g.V.Advance.advance g.V.Advance.CanAdvance g.V.PartialEq.eq g.met.V.Advance.laws rs (c.len-last.result - 1) x y some (subst (λ r. continues g.V.Advance.advance g.V.PartialEq.eq r y ≡ true) c.index.ensures goes) in
     let again : c.index-then-is_continued_by.result.now ≡ get_or rs (c.len-last.result - 1) x = same_place rs (c.len-last.result - 1) c.index-then-is_continued_by.result.now x some c.index-then-is_continued_by.ensures in
     rw (c.longer_by.ensures, again) long
 
@@ -30,7 +30,7 @@ returns-clause-apart g c = λ told.
     let y = c.args.run in
     let old : length rs ≡ c.len-last.result = omega (arith, c.args.runs.now.ok.0, c.len-last.ensures) in
     elim c.else-last-gt0.branch [
-      | else-last-gt0-via-then-last-gt0+else-is_continued_by w ↦ last_behind g.V.Advance.advance g.V.Advance.CanAdvance g.V.Advance.same g.met.V.Advance.laws rs (c.len-last.result - 1) w.index.result.now y (omega (arith, old, w.if-last-gt0.true))
-          (subst (λ r. continues g.V.Advance.advance g.V.Advance.same r y ≡ false) w.index.ensures (sym w.is_continued_by.ensures ∙ w.if-is_continued_by.false))
-      | else-last-gt0-via-else-last-gt0 w ↦ first_behind g.V.Advance.advance g.V.Advance.CanAdvance g.V.Advance.same g.met.V.Advance.laws rs y (omega (arith, old, w.if-last-gt0.false))
+      | else-last-gt0-via-then-last-gt0+else-is_continued_by w ↦ last_behind g.V.Advance.advance g.V.Advance.CanAdvance g.V.PartialEq.eq g.met.V.Advance.laws rs (c.len-last.result - 1) w.index.result.now y (omega (arith, old, w.if-last-gt0.true))
+          (subst (λ r. continues g.V.Advance.advance g.V.PartialEq.eq r y ≡ false) w.index.ensures (sym w.is_continued_by.ensures ∙ w.if-is_continued_by.false))
+      | else-last-gt0-via-else-last-gt0 w ↦ first_behind g.V.Advance.advance g.V.Advance.CanAdvance g.V.PartialEq.eq g.met.V.Advance.laws rs y (omega (arith, old, w.if-last-gt0.false))
     ]
