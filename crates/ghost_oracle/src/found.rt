@@ -15,7 +15,7 @@ fn is_continued(run: Run, next: Run) -> bool
     ensures { result ≡ continues run next }
 {
     run.pages.first.0 + run.pages.count == next.pages.first.0
-        && Entry::from(run.target.advance(run.pages.count)).is_same(Entry::from(next.target))
+        && run.target.advance(run.pages.count) == next.target
 }
 
 /// Puts a run at the end of a list, or gives its pages to the last run where it continues that one.

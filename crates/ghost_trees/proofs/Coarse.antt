@@ -1,15 +1,18 @@
 -- A run in front of a coarsest list, and the map of both.
-use Rattle.std.proofs.Common.{◌≡◌, ℕ, suc, ◌+◌, ◌-◌, ◌<◌, ◌≤◌, true, false, ◌==◌, List, [], ◌∷◌, All, refl, sym, ap, ◌∙◌, arith}
+use Rattle.std.proofs.Common.{◌≡◌, ℕ, suc, ◌+◌, ◌-◌, ◌<◌, ◌≤◌, Bool, true, false, ◌&&◌, ◌==◌, List, [], ◌∷◌, All, refl, sym, ap, ◌∙◌, arith}
 use Rattle.std.proofs.lemmas.List.Elements.{All-nil, All-cons}
 use Rattle.std.proofs.lemmas.Bool.Decides.{nat_tests}
 use Rattle.page_state.specs.declared.entry.Run.{Run}
-use Rattle.page_state.specs.Entries.{advance, entry_of_target}
+use Rattle.page_state.specs.contracts.entry.TargetPartialEq.TheImpl as targets
+use Rattle.page_state.specs.declared.entry.Entry.{Entry}
+use Rattle.page_state.specs.Entries.{advance, advance_target, entry_of_target}
 use Rattle.page_state.specs.EntryTests.{entry_eq}
 use Rattle.page_state.specs.Map.{is_within}
 use Rattle.page_state.specs.Runs.{map_of, entry_on, run_end, IsCoarsest, Precedes, PrecedesFirst}
 use Rattle.page_state.proofs.Cases.{by_test}
 use Rattle.page_state.proofs.Common.{eq-same, and-left, and-right}
-use Rattle.page_state.proofs.Entries.{advance-more, entry_eq-same, entry_eq-self}
+use Rattle.page_state.proofs.Entries.{advance-more, entry_advanced, entry_eq-same, entry_eq-self}
+use Rattle.page_state.proofs.Equality.{targets_test}
 use Rattle.ghost_trees.specs.Small.{HasLowFrames, IsSmall, AreSmall}
 use Rattle.ghost_trees.specs.Joins.{continues, longer, joined}
 use Rattle.ghost_trees.proofs.Entries.{low_before}
@@ -38,6 +41,14 @@ does_continue : (r n : Run) → run_end r ≡ n.pages.first.0 → entry_on r (ru
 does_continue r n e f =
     let p : (run_end r == n.pages.first.0) ≡ true = grind (arith, nat_tests) in
     rw (p, f) (entry_eq-self (entry_of_target n.target))
+
+-- where the pages go on, the code's test of the targets says whether the run does
+pub target_continues : (r n : Run) → run_end r ≡ n.pages.first.0 → targets.ghosts.eq (advance_target r.target r.pages.count) n.target ≡ continues r n
+target_continues r n e =
+    let p : (run_end r == n.pages.first.0) ≡ true = grind (arith, nat_tests) in
+    targets_test (advance_target r.target r.pages.count) n.target
+    ∙ ap (λ (x : Entry). entry_eq x (entry_of_target n.target)) (entry_advanced r.target r.pages.count ∙ ap (advance (entry_of_target r.target)) (sym (from_first r)))
+    ∙ sym (ap (λ (b : Bool). b && entry_eq (entry_on r (run_end r)) (entry_of_target n.target)) p)
 
 in_both : (a b c d p : ℕ) → a + c ≡ b → is_within b d p ≡ true → is_within a (c + d) p ≡ true
 in_both a b c d p e h = grind (arith, nat_tests)

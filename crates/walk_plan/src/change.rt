@@ -47,6 +47,6 @@ impl Change {
         requires small { HasSmallFrame old }
         ensures { result ≡ stays_one_word depth old self }
     {
-        self.is_whole(depth) || old.advance(self.first).is_same(self.entry)
+        self.is_whole(depth) || old.advance(self.first) == self.entry
     }
 }

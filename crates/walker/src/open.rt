@@ -21,6 +21,7 @@ use table_tree::{Reads, Slot, Stock, Table};
 use walk_plan::Change;
 
 /// The word of a block without a table after a change, where it is one.
+#[tactic(auto, using(page_state::proofs::Equality::entries_test))]
 fn word_after(depth: u32, word: u64, change: Change) -> Option<u64>
     requires depth_in { IsDepth depth }
     requires word_in { IsEntryWord depth word }
@@ -33,10 +34,7 @@ fn word_after(depth: u32, word: u64, change: Change) -> Option<u64>
     if change.is_whole(depth) {
         return Some(word_of(depth, change.entry));
     }
-    if entry_of(depth, word)
-        .advance(change.first)
-        .is_same(change.entry)
-    {
+    if entry_of(depth, word).advance(change.first) == change.entry {
         return Some(word);
     }
     None
