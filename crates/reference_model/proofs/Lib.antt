@@ -6,6 +6,7 @@ pub mod ChangesUsed
 pub mod ConditionRows
 pub mod EndRows
 pub mod Ends
+pub mod Equality
 pub mod Examples
 pub mod Foretold
 pub mod FoundRows
