@@ -3,8 +3,6 @@
 
 mod calls;
 mod pages;
-mod stages;
 
 pub use calls::{decide_guest, decide_shared, decide_vms, decide_with_guest, refusal_of_none};
 pub use pages::{HOST, HYPERVISOR, hyp_page, leaf};
-pub use stages::is_stage;

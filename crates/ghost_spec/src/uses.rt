@@ -1,7 +1,7 @@
 //! What a step uses: the slot of its guest, and whether it uses the VM part and the Shared part.
 ghost use Rattle.std.specs.Prelude.{◌≡◌, ◌<◌};
 ghost use Rattle.reference_model.specs.GuestRules.{ticket_kind as ticket_kind_of, ticket_vm as ticket_vm_of};
-ghost use Rattle.reference_model.specs.Parts.{guest_slot as guest_slot_of, has_stage as has_stage_of, loaded_slot as loaded_slot_of, names, slot_of as slot_of_vm, stage_eq, ticket_slot as ticket_slot_of, uses_shared as uses_shared_of, uses_vms as uses_vms_of};
+ghost use Rattle.reference_model.specs.Parts.{guest_slot as guest_slot_of, has_stage as has_stage_of, loaded_slot as loaded_slot_of, names, slot_of as slot_of_vm, ticket_slot as ticket_slot_of, uses_shared as uses_shared_of, uses_vms as uses_vms_of};
 ghost use Rattle.ghost_spec.specs.Kept.{IsKeptCpu, IsLowSlot};
 ghost use Rattle.ghost_spec.specs.Views.{cpu_in};
 
@@ -17,26 +17,12 @@ fn slot_of(vm: VmId) -> Option<u64>
     if vm.slot < 64 { Some(vm.slot) } else { None }
 }
 
-/// Whether two stages are the same.
-fn is_stage(a: Stage, b: Stage) -> bool
-    ensures { result ≡ stage_eq a b }
-{
-    matches!(
-        (a, b),
-        (Stage::Booked, Stage::Booked)
-            | (Stage::Installed, Stage::Installed)
-            | (Stage::ClosingVm, Stage::ClosingVm)
-            | (Stage::DyingVm, Stage::DyingVm)
-            | (Stage::Finished, Stage::Finished)
-    )
-}
-
 /// Whether the CPU has a ticket of a stage.
 pub(crate) fn has_stage(stage: Stage, own: &GhostCpu) -> bool
     ensures { result ≡ has_stage_of stage (cpu_in own.now) }
 {
     match own.ticket {
-        Some(ticket) => is_stage(ticket.stage, stage),
+        Some(ticket) => ticket.stage == stage,
         None => false,
     }
 }

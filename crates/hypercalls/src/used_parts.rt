@@ -4,7 +4,6 @@ ghost use Rattle.guest_steps.specs.View.{cpu_of};
 ghost use Rattle.hypercalls.specs.Uses.{uses_of};
 ghost use Rattle.reference_model.specs.Parts.{guest_slot as guest_slot_of, names, slot_of as slot_of_vm, ticket_slot as ticket_slot_of, uses_shared as uses_shared_part, uses_vms as uses_vm_part};
 
-use decisions::is_stage;
 use guest_steps::CpuState;
 use reference_model::Stage;
 use step_reply::{Step, VmId};
@@ -22,7 +21,7 @@ fn ticket_slot(stage: Stage, cpu: &CpuState) -> Option<u64>
 {
     match cpu.ticket {
         Some(ticket) => {
-            if is_stage(ticket.stage, stage) {
+            if ticket.stage == stage {
                 Some(ticket.vm.slot)
             } else {
                 None

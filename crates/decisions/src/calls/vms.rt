@@ -12,7 +12,6 @@ ghost use Rattle.reference_model.specs.Changes.{same_cpu};
 ghost use Rattle.step_reply.specs.declared.step.Step.TheVariants.{VmReserve, VmOpen, VcpuLoad, VcpuPut, Teardown, VmRelease};
 ghost use Rattle.vm_table.specs.View.{vms_of};
 
-use crate::stages::is_stage;
 use guest_steps::CpuState;
 use reference_model::{Changes, CpuChange, Loaded, SlotChange, Stage, Ticket, Update};
 use step_reply::{Refusal, Value, VmId, VmKind};
@@ -30,7 +29,7 @@ fn ticket_at(stage: Stage, cpu: &CpuState) -> Option<Ticket>
 {
     match cpu.ticket {
         Some(ticket) => {
-            if is_stage(ticket.stage, stage) {
+            if ticket.stage == stage {
                 Some(ticket)
             } else {
                 None
