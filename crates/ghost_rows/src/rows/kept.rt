@@ -39,10 +39,7 @@ fn are_pieces_told(lists: &Lists, stands: &mut Stands, run: &Run<Row>) -> bool
     let mut low = first;
     while low < end {
         let high = lists.look(stands, low, end);
-        if !lists
-            .row(stands, low)
-            .is_same(run.value.advanced(low - first))
-        {
+        if lists.row(stands, low) != run.value.advanced(low - first) {
             return false;
         }
         low = high;
@@ -79,15 +76,17 @@ fn lender_of(lent: Option<Lent>, sharer: Owner) -> Owner
 }
 
 /// Whether a row has this owner, this loan, and this use.
+#[tactic(auto, using(page_state::proofs::Equality::rows_tell))]
 #[inline(always)]
 fn is_row(row: Row, owner: Owner, lent: Option<Lent>, steady: Steady) -> bool
     ensures { IsTrue result ↔ (row ≡ row_with owner.0 lent steady.usage) }
 {
-    row.is_same(Row {
+    let other = Row {
         owner,
         lent,
         usage: steady.usage,
-    })
+    };
+    row == other
 }
 
 /// Whether a run has just the frames of the annotation at a place, and the row that follows.

@@ -3,7 +3,6 @@ ghost use Rattle.std.specs.Prelude.{◌≡◌, ℕ, ◌+◌, ◌-◌, ◌<◌, �
 ghost use Rattle.std.specs.List.{list_any};
 ghost use Rattle.std.specs.Option.{option_or, ForSome};
 ghost use Rattle.page_state.specs.Entries.{entry_of_target};
-ghost use Rattle.page_state.specs.EntryTests.{state_eq};
 ghost use Rattle.page_state.specs.Geometries.{pages_below};
 ghost use Rattle.page_state.specs.LayoutView.{layout_of};
 ghost use Rattle.page_state.specs.Regions.{end_of};
@@ -96,14 +95,8 @@ fn count_before(pages: PageRange, limit: u64) -> u64
     pages.count.min(limit.saturating_sub(pages.first.0))
 }
 
-/// Whether two states are the same.
-fn is_same(own: State, state: State) -> bool
-    ensures { result ≡ state_eq own state }
-{
-    own == state
-}
-
 /// The frames that a run maps in the state at input pages.
+#[tactic(auto, using(page_state::proofs::Equality::states_test))]
 fn frames_of(layout: &Layout, state: State, run: Run) -> Option<PageRange>
     requires { IsSmall run }
     ensures frames { result ≡ run_frames state (run_below (pages_below (layout_of layout.now).depth) run) }
@@ -118,7 +111,7 @@ fn frames_of(layout: &Layout, state: State, run: Run) -> Option<PageRange>
     else {
         return None;
     };
-    if !is_same(own, state) {
+    if own != state {
         return None;
     }
     Some(PageRange {
@@ -246,11 +239,12 @@ fn lend_runs(
 }
 
 /// Whether a run maps frames in the state.
+#[tactic(auto, using(page_state::proofs::Equality::states_test))]
 fn is_in(run: &Run, state: State) -> bool
     ensures { result ≡ maps_in state run.now }
 {
     match run.target {
-        Target::Leaf { state: own, .. } => is_same(own, state),
+        Target::Leaf { state: own, .. } => own == state,
         _ => false,
     }
 }

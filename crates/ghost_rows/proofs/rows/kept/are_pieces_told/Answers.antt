@@ -1,4 +1,5 @@
 use Rattle.std.proofs.Common.{◌∙◌, sym, arith}
+use Rattle.page_state.proofs.Common.{not-false}
 use Rattle.run_list.specs.OwnerRows.{row_laws}
 use Rattle.ghost_rows.proofs.RowsKept.{told-more}
 use Rattle.ghost_rows.proofs.RowsTold.{all-carried, all-later}
@@ -13,7 +14,7 @@ loop-low-preserved c =
       begun = omega (arith, begun, above);
       within = c.look-high.ensures.below;
       told = told-more c.args.lists.now c.args.run.now c.args.run.now.pages.first.0 c.loop-low.low high begun c.look-high.ensures.goes_on
-          (sym c.row.ensures ∙ row_laws.is_equal _ _ (sym c.is_same.ensures ∙ c.if-not-is_same.false) ∙ c.advanced.ensures) c.loop-low.invariant.told;
+          (sym c.row.ensures ∙ row_laws.is_equal _ _ (not-false _ (sym c.ne.ensures ∙ c.if-ne.false)) ∙ c.advanced.ensures) c.loop-low.invariant.told;
       near = all-carried c.loop-low.low high c.look-high.new.stands c.args.lists.now (omega (arith, above)) c.look-high.ensures.standing;
     }
 
