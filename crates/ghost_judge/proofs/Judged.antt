@@ -71,6 +71,9 @@ not_both b e f = let g : true ≡ false = sym e ∙ f in cc
 pub place_same : {S X Y : Type 0} (view : S → X) (blank : X) (rest : X → Y) (xs ys : List S) (i : ℕ) (x y : S) → i < length xs → i < length ys → rest (view (get_or xs i x)) ≡ rest (view (get_or ys i y)) → rest (get_or (map view xs) i blank) ≡ rest (get_or (map view ys) i blank)
 place_same view blank rest xs ys i x y l k e = ap rest (get_or-map view xs i x blank l) ∙ e ∙ sym (ap rest (get_or-map view ys i y blank k))
 
+pub place_view : {S X : Type 0} (view : S → X) (blank : X) (xs ys : List S) (i : ℕ) (x y : S) → i < length xs → i < length ys → get_or (map view xs) i blank ≡ get_or (map view ys) i blank → view (get_or xs i x) ≡ view (get_or ys i y)
+place_view view blank xs ys i x y l k e = sym (get_or-map view xs i x blank l) ∙ e ∙ get_or-map view ys i y blank k
+
 pub place_told : {S X Y : Type 0} (view : S → X) (blank : X) (rest : X → Y) (xs ys : List S) (i : ℕ) (x y : S) → i < length xs → i < length ys → x ≡ get_or xs i x → y ≡ get_or ys i y → rest (view x) ≡ rest (view y) → rest (get_or (map view xs) i blank) ≡ rest (get_or (map view ys) i blank)
 place_told view blank rest xs ys i x y l k e f g = place_same view blank rest xs ys i x y l k (sym (ap (λ z. rest (view z)) e) ∙ g ∙ ap (λ z. rest (view z)) f)
 

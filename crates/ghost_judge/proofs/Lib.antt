@@ -1,5 +1,6 @@
 pub mod Apart
 pub mod Audited
+pub mod Equality
 pub mod Judged
 pub mod JudgedSteps
 pub mod Marked

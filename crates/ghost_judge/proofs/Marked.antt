@@ -7,7 +7,7 @@ use Rattle.page_state.specs.Regions.{is_in_range}
 use Rattle.page_state.specs.Rows.{advance_lent, advance_row, plain_row, HasPageBelow}
 use Rattle.page_state.proofs.Cases.{by_test}
 use Rattle.run_list.specs.declared.run.Run.{Run}
-use Rattle.run_list.specs.OwnerRows.{lent_eq, row_eq, row_laws}
+use Rattle.run_list.specs.OwnerRows.{row_eq, row_laws}
 use Rattle.run_list.specs.Runs.{run_end, run_map, value_on, Precedes, PrecedesFirst, IsCoarsest, AreInReach}
 use Rattle.run_list.specs.View.{IsKept}
 use Rattle.run_list.proofs.Maps.{none_low, starts_behind}
@@ -43,12 +43,12 @@ abbrev other_row : Option Row → Option Row
 other_row None = None
 other_row (Some r) = cond (not (row_eq r plain_row)) (Some r) None
 
-lent_on : (l : Option Lent) (n : ℕ) → lent_eq (advance_lent l n) None ≡ lent_eq l None
-lent_on None n = refl
-lent_on (Some l) n = refl
+marked_with : (l : Option Lent) (r : Row) (n : ℕ) → row_eq (record r { lent = advance_lent l n }) plain_row ≡ row_eq (record r { lent = l }) plain_row
+marked_with None r n = refl
+marked_with (Some l) r n = refl
 
 marked_on : (r : Row) (n : ℕ) → row_eq (advance_row r n) plain_row ≡ row_eq r plain_row
-marked_on r n = rw (lent_on r.lent n) refl
+marked_on r n = marked_with r.lent r n
 
 hit : (r : Run Row) (rs : List (Run Row)) (f : ℕ) → is_in_range r.pages f ≡ true → run_map advance_row (r ∷ rs) f ≡ Some (value_on advance_row r f)
 hit r rs f t = rw t refl

@@ -1,9 +1,7 @@
 -- An audit and a judgement have one answer.
-use Rattle.std.proofs.Common.{◌≡◌, ℕ, ◌<◌, ◌≤◌, true, false, refl, sym, ap, subst, ◌∙◌, arith, inl, inr}
+use Rattle.std.proofs.Common.{◌≡◌, ℕ, true, false, refl, sym, ap, subst, ◌∙◌, arith, inl, inr}
 use Rattle.std.specs.Prelude.{◌⊎◌}
-use Rattle.step_reply.specs.declared.reply.Refusal.TheVariants.{NoMemory}
 use Rattle.step_reply.specs.declared.reply.Reply.{Reply}
-use Rattle.step_reply.specs.declared.reply.Reply.TheVariants.{Refused}
 use Rattle.step_reply.specs.declared.step.Step.{Step}
 use Rattle.page_state.specs.declared.entry.Entry.{Entry}
 use Rattle.page_state.specs.declared.row.Row.{Row}
@@ -14,7 +12,7 @@ use Rattle.ghost_judge.specs.declared.disagreement.Disagreement.TheVariants.{Map
 use Rattle.ghost_judge.specs.declared.disagreement.TreeOf.{TreeOf}
 use Rattle.ghost_judge.specs.declared.disagreement.TreeOf.TheVariants.{Host, Hyp, Guest}
 use Rattle.ghost_judge.specs.Apart.{IsFirstApart}
-use Rattle.ghost_judge.specs.Audits.{AuditAgrees, IsFirstDifference, IsFirstMap, IsTold, MapsAgree}
+use Rattle.ghost_judge.specs.Audits.{IsFirstMap, IsTold, MapsAgree}
 use Rattle.ghost_judge.specs.Judgements.{IsFirstChange, IsFirstJudged, IsFirstOfState, IsFirstUntold, IsOtherReply, JudgeAgrees, WantsMemory, is_done}
 use Rattle.ghost_judge.specs.OneAnswer.{AuditElse, AuditOnce, JudgedElse, JudgedOnce, StateElse, StateOnce}
 

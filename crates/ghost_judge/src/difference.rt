@@ -40,13 +40,13 @@ impl Told<Target> for page_state::Run {
 fn parted<V: Advance>(a: Run<V>, b: Run<V>) -> Option<u64>
     requires a { run_end a ≤ 2 ^ 63 }
     requires b { run_end b ≤ 2 ^ 63 }
-    ensures { result ≡ parted_at V.same a b }
+    ensures { result ≡ parted_at V.eq a b }
 {
     let first = a.pages.first.0;
     if first != b.pages.first.0 {
         return Some(first.min(b.pages.first.0));
     }
-    if !a.value.is_same(b.value) {
+    if a.value != b.value {
         return Some(first);
     }
     if a.pages.count == b.pages.count {

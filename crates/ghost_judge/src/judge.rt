@@ -17,12 +17,12 @@ ghost use Rattle.ghost_judge.specs.inner.Same.{marked};
 use crate::audit::{in_guests, in_trees, row_of};
 use crate::difference::first_apart;
 use crate::disagreement::{Disagreement, TreeOf};
-use crate::same::{is_same_cpu, is_same_guest, is_same_pool, is_same_reply, is_same_slot};
+use crate::same::{is_same_guest, is_same_pool, is_same_slot};
 use ghost_spec::cpu::GhostCpu;
 use ghost_spec::parts::{GhostGuest, GhostSlot};
 use ghost_spec::state::Ghost;
 use page_state::{Owner, Row, Usage};
-use run_list::{Advance, Run, RunList};
+use run_list::{Run, RunList};
 use std::alloc::{AllocError, Global};
 use step_reply::{Refusal, Reply, Step};
 
@@ -41,7 +41,7 @@ fn marked_runs(alloc: Global, rows: &RunList<Row>) -> Result<Vec<Run<Row>>, Allo
     rows.runs()
         .iter()
         .copied()
-        .filter(|run| !run.value.is_same(PLAIN_ROW))
+        .filter(|run| run.value != PLAIN_ROW)
         .collect(alloc)
 }
 
@@ -114,7 +114,7 @@ fn cpu_apart(post: &[GhostCpu], spec: &[GhostCpu]) -> Option<u64>
     ensures { IsFoundApart (λ c. get_or (map cpu_in post.now) c no_cpu) (λ c. get_or (map cpu_in spec.now) c no_cpu) result }
 {
     for c in 0..post.len() {
-        if !is_same_cpu(post[c], spec[c]) {
+        if post[c] != spec[c] {
             return Some(c as u64);
         }
     }
@@ -295,7 +295,7 @@ fn judge_on(
     if wants_memory(step, *reply, told) {
         return Ok(changed);
     }
-    if !is_same_reply(*reply, told) {
+    if *reply != told {
         return Ok(Some(Disagreement::Reply {
             said: *reply,
             spec: told,

@@ -15,8 +15,7 @@ use guest_component::Guest;
 use guest_steps::{GuestPart, SharedPart};
 use hypercalls::Parts;
 use maplets::Maplets;
-use page_state::{PageRange, Run, Target};
-use run_list::Advance;
+use page_state::Run;
 use std::alloc::Allocator;
 
 /// What is kept, and what walking every descriptor finds. Mostly one state is both, and then it is here once.
@@ -44,34 +43,14 @@ impl Compared {
     }
 }
 
-/// Whether two ranges are the same.
-fn is_same_range(a: PageRange, b: PageRange) -> bool
-    ensures { IsTrue result ↔ (a ≡ b) }
-{
-    a.first.0 == b.first.0 && a.count == b.count
-}
-
-/// Whether two targets are the same.
-fn is_same_target(a: Target, b: Target) -> bool
-    ensures { IsTrue result ↔ (a ≡ b) }
-{
-    a.is_same(b)
-}
-
-/// Whether two runs of a map are the same.
-fn is_same_run(a: Run, b: Run) -> bool
-    ensures { IsTrue result ↔ (a ≡ b) }
-{
-    is_same_range(a.pages, b.pages) && is_same_target(a.target, b.target)
-}
-
 /// Whether the runs that a walk found are those of maplets.
+#[tactic(auto, using(page_state::proofs::Equality::runs_tell))]
 fn are_maplets(found: &[Run], maplets: &Maplets) -> bool
     ensures { IsTrue result ↔ (found.now ≡ maplets.now.runs) }
 {
     let mut at = 0;
     for run in maplets.iter() {
-        if at == found.len() || !is_same_run(found[at], run) {
+        if at == found.len() || found[at] != run {
             return false;
         }
         at += 1;

@@ -4,6 +4,5 @@ pub mod Runs
 pub mod WalkedState
 pub mod Headline
 pub mod HeadlineLaws
-pub mod SameCalls
 pub mod Merging
 pub mod MergedLists

@@ -17,7 +17,15 @@ use Rattle.world.specs.declared.merge.Histories.{Histories}
 use Rattle.world.specs.declared.merge.Places.{Places}
 use Rattle.world.specs.Merges.{IsMerged, TellsMerged, log_at}
 use Rattle.world.specs.inner.Merging.{LogName, on, by, has, whole, left, first_of, rest_of, IsNext, after_call, left_by}
-use Rattle.world.proofs.SameCalls.{same_call}
+use Rattle.step_reply.specs.contracts.reply.CallPartialEq.TheImpl as calls
+use Rattle.step_reply.proofs.Equality.{calls_tell}
+
+-- two calls are the same, or not
+same_call : (x y : Call) → (x ≡ y) ⊎ (x ≢ y)
+same_call x y = elim (both (calls.ghosts.eq x y)) [
+  | inl t ↦ inl ((calls_tell x y).0 t)
+  | inr f ↦ inr (λ e. let t : calls.ghosts.eq x y ≡ true = (calls_tell x y).1 e in cc)
+]
 
 drop_next : (l : List Call) (n m : ℕ) → m ≡ n + 1 → drop m l ≡ rest_of (drop n l)
 drop_next l n zero e = absurd (omega (arith, e))

@@ -13,7 +13,6 @@ mod histories;
 pub mod laws;
 mod merge;
 mod raw;
-mod same;
 
 pub use boot::BootFault;
 use ghost_judge::disagreement::Disagreement;

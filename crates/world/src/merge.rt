@@ -6,7 +6,6 @@ ghost use Rattle.world.specs.Merges.{IsMerged, IsOfHistory, TellsMerged, log_at,
 ghost use Rattle.world.specs.declared.merge.MergeFault.TheVariants.{NoOrder};
 ghost use Rattle.world.specs.inner.Merging.{after_call, first_of, left, on, rest_of, whole, IsNext, IsPlaced, LogName};
 
-use crate::same::is_same_call;
 use hypercalls::{uses_shared, uses_vms};
 use std::alloc::{AllocError, Global};
 use step_reply::{Call, Reply, Step};
@@ -83,11 +82,12 @@ fn all_starts(global: Global, histories: &Histories) -> Result<Places, AllocErro
 }
 
 /// Whether a call is next in a log.
+#[tactic(auto, using(step_reply::proofs::Equality::calls_tell))]
 fn is_next_in(log: &[Call], place: usize, call: &Call) -> bool
     ensures { IsTrue result ↔ (first_of (drop place log.now) ≡ Some call.now) }
 {
     match log.get(place) {
-        Some(next) => is_same_call(next, call),
+        Some(next) => next == call,
         None => false,
     }
 }

@@ -1,4 +1,7 @@
 use Rattle.std.proofs.lemmas.Result.{IfOk-from_err}
+use Rattle.std.proofs.Common.{◌≡◌, sym, ◌∙◌, rules}
+use Rattle.page_state.proofs.Common.{not-false}
+use Rattle.step_reply.proofs.Equality.{replies_tell}
 use Rattle.ghost_judge.proofs.judge.judge_on.Goals as goal
 
 pub changed_since-requires-clause-pre : goal.changed_since-requires-clause-pre
@@ -27,3 +30,13 @@ returns-in_err-told-clause-none c = IfOk-from_err _ _ c.from_residual-in_err-tol
 
 pub returns-in_err-told-clause-first : goal.returns-in_err-told-clause-first
 returns-in_err-told-clause-first c = IfOk-from_err _ _ c.from_residual-in_err-told.ensures.0
+
+pub returns-clause-none : goal.returns-clause-none
+returns-clause-none c =
+    let same : c.args.reply.now ≡ c.in_ok-told.told = (replies_tell c.args.reply.now c.in_ok-told.told).0 (not-false _ (sym c.ne.ensures ∙ c.if-ne.false)) in
+    search rules
+
+pub returns-clause-first : goal.returns-clause-first
+returns-clause-first c =
+    let same : c.args.reply.now ≡ c.in_ok-told.told = (replies_tell c.args.reply.now c.in_ok-told.told).0 (not-false _ (sym c.ne.ensures ∙ c.if-ne.false)) in
+    search rules
