@@ -44,7 +44,6 @@ impl Compared {
 }
 
 /// Whether the runs that a walk found are those of maplets.
-#[tactic(auto, using(page_state::proofs::Equality::runs_tell))]
 fn are_maplets(found: &[Run], maplets: &Maplets) -> bool
     ensures { IsTrue result ↔ (found.now ≡ maplets.now.runs) }
 {
