@@ -82,7 +82,6 @@ fn all_starts(global: Global, histories: &Histories) -> Result<Places, AllocErro
 }
 
 /// Whether a call is next in a log.
-#[tactic(auto, using(step_reply::proofs::Equality::calls_tell))]
 fn is_next_in(log: &[Call], place: usize, call: &Call) -> bool
     ensures { IsTrue result ↔ (first_of (drop place log.now) ≡ Some call.now) }
 {
