@@ -1,6 +1,5 @@
 -- A derived `==` tells whether two stages, tickets or loaded vCPUs are the same.
 use Rattle.std.proofs.Common.{◌≡◌, refl}
-use Rattle.std.specs.Prelude.{Decides}
 use Rattle.std.proofs.lemmas.Bool.Decides.{Decides-like}
 use Rattle.std.specs.contracts.prelude.U64PartialEq.TheImpl as numbers
 use Rattle.page_state.proofs.Equality.{Tells, bare_tells, both_tell, one, more, numbers_tell}

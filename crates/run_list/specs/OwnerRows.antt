@@ -1,6 +1,6 @@
 -- Owner rows go on along a run: a lent page grows with the frame, and all else stays.
 use Rattle.std.specs.Prelude.{◌≡◌, ℕ, ◌+◌, ◌≤◌, Bool, Option, Some, None, refl}
-use Rattle.std.proofs.Common.{ap, ◌∙◌, add_assoc, add-zero, arith}
+use Rattle.std.proofs.Common.{ap, add_assoc, add-zero, arith}
 use Rattle.page_state.specs.declared.row.Row.{Row}
 use Rattle.page_state.specs.declared.row.Lent.{Lent}
 use Rattle.page_state.specs.Rows.{advance_lent, advance_row, HasLentBelow, HasPageBelow}

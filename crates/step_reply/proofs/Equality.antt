@@ -1,6 +1,4 @@
 -- A derived `==` tells whether two VMs, steps, replies or calls are the same.
-use Rattle.std.proofs.Common.{◌≡◌, refl}
-use Rattle.std.specs.Prelude.{Decides}
 use Rattle.std.proofs.lemmas.Bool.Decides.{Decides-like}
 use denote.Builtin.{u64}
 use Rattle.std.specs.contracts.prelude.U64PartialEq.TheImpl as numbers
