@@ -1,3 +1,5 @@
+pub mod LeftOptions
+pub mod LentSteps
 pub mod Booted
 pub mod Boots
 pub mod Runs

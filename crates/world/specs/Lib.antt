@@ -1,3 +1,4 @@
+pub mod LentParts
 pub mod Boots
 pub mod Laws
 pub mod Headline

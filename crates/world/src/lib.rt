@@ -11,6 +11,7 @@ ghost use Rattle.world.specs.Headline.{Headline};
 mod boot;
 mod histories;
 pub mod laws;
+mod lent;
 mod merge;
 mod raw;
 
@@ -23,9 +24,8 @@ use ghost_oracle::raw::RawGuest;
 pub use ghost_oracle::raw::Which;
 use ghost_spec::state::Ghost;
 use hypercalls::Parts;
-pub use hypercalls::{
-    UsedParts, reply_of, step_alone, step_on_both, step_on_guest, step_on_shared, step_on_vms, uses,
-};
+pub use hypercalls::{UsedParts, uses};
+pub use lent::step_on;
 pub use merge::{Histories, MergeFault};
 use page_state::{Config, Geometry, MemoryMap};
 pub use raw::RawWorld;

@@ -7,50 +7,52 @@ use hypercalls::Parts;
 use std::alloc::Global;
 use std::process::Abort;
 use step_reply::{Refusal, Reply, Step, Value, VmId};
-use world::{
-    UsedParts, reply_of, step_alone, step_on_both, step_on_guest, step_on_shared, step_on_vms, uses,
-};
+use world::{UsedParts, step_on, uses};
 
-/// A step of a CPU, made on the parts that it uses.
-fn step_of_lent(alloc: Global, parts: &mut Parts<Global>, cpu: u64, step: Step) -> Reply
-    requires known { cpu < parts.old.layout.config.cpus }
-    requires history { ∥ HasHistory parts.old ∥₁ }
+/// The reply of a step of a CPU, made on the parts that it uses, and how many calls the CPU's log then has.
+fn step_of_lent(alloc: Global, parts: Parts<Global>, cpu: u64, step: Step) -> (Reply, usize)
+    requires known { cpu < parts.layout.config.cpus }
+    requires history { ∥ HasHistory parts ∥₁ }
 {
-    let own = &mut parts.cpus[cpu as usize];
-    let made = match uses(own, &step) {
-        UsedParts::Nothing => step_alone(&parts.layout, own, step),
-        UsedParts::Vms => step_on_vms(&parts.layout, &mut parts.vms, own, step),
-        UsedParts::Shared => step_on_shared(alloc, &parts.layout, &mut parts.shared, own, step),
-        UsedParts::Guest(v) => step_on_guest(
-            alloc,
-            &parts.layout,
-            &mut parts.guests[v as usize],
-            v,
-            own,
-            step,
-        ),
-        UsedParts::Both(v) => step_on_both(
-            alloc,
-            &parts.layout,
-            &mut parts.shared,
-            &mut parts.guests[v as usize],
-            v,
-            own,
-            step,
-        ),
+    let Parts {
+        layout,
+        mut vms,
+        mut shared,
+        mut guests,
+        mut cpus,
+    } = parts;
+    let own = &mut cpus[cpu as usize];
+    let reply = match uses(own, &step) {
+        UsedParts::Nothing => step_on(alloc, &layout, None, None, None, own, &step),
+        UsedParts::Vms => step_on(alloc, &layout, Some(&mut vms), None, None, own, &step),
+        UsedParts::Shared => step_on(alloc, &layout, None, Some(&mut shared), None, own, &step),
+        UsedParts::Guest(v) => {
+            let guest = &mut guests[v as usize];
+            step_on(alloc, &layout, None, None, Some(guest), own, &step)
+        }
+        UsedParts::Both(v) => {
+            let guest = &mut guests[v as usize];
+            step_on(
+                alloc,
+                &layout,
+                None,
+                Some(&mut shared),
+                Some(guest),
+                own,
+                &step,
+            )
+        }
     };
-    reply_of(made)
+    (reply, own.log.calls().len())
 }
 
 /// Compares the reply of a step that is the first one of a world, and that its CPU's log has it.
 fn expect_step(rt: &impl Abort, alloc: Global, step: Step, reply: Reply) {
     let world = booted(rt, alloc, 9);
     assert!(rt; 0 < world.cpus());
-    let mut parts = world.split();
-    let told = step_of_lent(alloc, &mut parts, 0, step);
+    let (told, calls) = step_of_lent(alloc, world.split(), 0, step);
     assert!(rt; told == reply);
-    assert!(rt; 0 < parts.cpus.len());
-    assert!(rt; parts.cpus[0].log.calls().len() == 1);
+    assert!(rt; calls == 1);
 }
 
 /// A VM that there isn't.

@@ -1,128 +1,104 @@
-use Rattle.std.proofs.Common.{arith, ◌≡◌, ◌∙◌, refl, sym, ap, true, false, Option, Some, None}
-use Rattle.std.proofs.lemmas.List.Elements.{All-set}
-use Rattle.page_state.specs.Geometries.{levels_below}
+use Rattle.std.proofs.Common.{arith, ◌≡◌, ◌∙◌, ◌<◌, ℕ, Bool, true, false, Option, Some, None, get_or, length, refl, slice_get, sym, ap, subst, Global}
+use Rattle.step_reply.specs.declared.step.Step.{Step}
+use Rattle.reference_model.specs.Parts.{guest_slot, names}
+use Rattle.reference_model.specs.Rely.{IsReached}
 use Rattle.guest_steps.specs.declared.parts.GuestPart.{GuestPart}
 use Rattle.guest_steps.specs.declared.parts.CpuState.{CpuState}
-use Rattle.guest_steps.specs.Lent.{lent_both, lent_guest, lent_shared, lent_vms}
+use Rattle.guest_steps.specs.Lent.{Lent, lent_alone, lent_both, lent_guest, lent_shared, lent_vms, used_in}
 use Rattle.guest_steps.specs.Logs.{IsOfSize}
 use Rattle.guest_steps.specs.View.{cpu_of}
-use Rattle.hypercalls.proofs.Lends.{guest_at, guest_suits, known_here, own_at, slot_inside, stands}
-use Rattle.hypercalls.proofs.Numbered.{numbered}
-use Rattle.hypercalls.proofs.Using.{vms, shared, guest, both}
+use Rattle.hypercalls.specs.declared.parts.Parts.{Parts}
+use Rattle.hypercalls.specs.Stands.{HasHistory, parts_layout}
+use Rattle.hypercalls.proofs.Lends.{all_get, guest_at, guest_suits, known_here, lends, own_at, slot_inside, stands}
+use Rattle.hypercalls.proofs.Using.{IsKind, nothing, vms, shared, guest, both}
+use Rattle.world.specs.LentParts.{parts_used}
 use Rattle.world_tests.proofs.worlds.lent.step_of_lent.Goals as goal
 
-pub step_on_vms-made-requires-clause-known : goal.step_on_vms-made-requires-clause-known
-step_on_vms-made-requires-clause-known c = known_here c.args.parts.now c.args.cpu c.index_mut-own.result.now (own_at c.args.parts.now c.args.cpu c.index_mut-own.result.now c.requires.known c.index_mut-own.ensures.value) c.requires.known
+module _ (p : Parts Global) (cpu : ℕ) (step : Step) (k : CpuState) (known : cpu < p.layout.config.cpus) (is : k ≡ get_or p.cpus.items cpu k) where
+  at : slice_get p.cpus.items cpu ≡ Some k
+  at = own_at p cpu k known is
 
-pub step_on_shared-made-requires-clause-known : goal.step_on_shared-made-requires-clause-known
-step_on_shared-made-requires-clause-known c = known_here c.args.parts.now c.args.cpu c.index_mut-own.result.now (own_at c.args.parts.now c.args.cpu c.index_mut-own.result.now c.requires.known c.index_mut-own.ensures.value) c.requires.known
+  own_sized : IsOfSize p.layout.config.log k.log
+  own_sized = all_get (λ (j : CpuState). IsOfSize p.layout.config.log j.log) p.cpus.items cpu k p.own_logs at
 
-pub step_on_guest-made-requires-clause-known : goal.step_on_guest-made-requires-clause-known
-step_on_guest-made-requires-clause-known c = known_here c.args.parts.now c.args.cpu c.index_mut-own.result.now (own_at c.args.parts.now c.args.cpu c.index_mut-own.result.now c.requires.known c.index_mut-own.ensures.value) c.requires.known
+  id_known : k.id < p.layout.config.cpus
+  id_known = known_here p cpu k at known
 
-pub step_on_both-made-requires-clause-known : goal.step_on_both-made-requires-clause-known
-step_on_both-made-requires-clause-known c = known_here c.args.parts.now c.args.cpu c.index_mut-own.result.now (own_at c.args.parts.now c.args.cpu c.index_mut-own.result.now c.requires.known c.index_mut-own.ensures.value) c.requires.known
+  module _ (past : ∥ HasHistory p ∥₁) (v s : Bool) (o : Option ℕ) (kind : IsKind (cpu_of k) step v s o) where
+    reached : (y : Lent Global) → lends p cpu step k at known past v s o kind ≡ y → ∥ IsReached (parts_layout p) (names step) (guest_slot (cpu_of k) step) k.id (used_in y) ∥₁
+    reached y e = subst (λ i. ∥ IsReached (parts_layout p) (names step) i k.id (used_in y) ∥₁) (sym kind.slot) (stands p cpu step k at known past v s o kind y e)
 
-pub step_on_vms-made-requires-clause-reached : goal.step_on_vms-made-requires-clause-reached
-step_on_vms-made-requires-clause-reached c = stands c.args.parts.now c.args.cpu c.args.step c.index_mut-own.result.now (own_at c.args.parts.now c.args.cpu c.index_mut-own.result.now c.requires.known c.index_mut-own.ensures.value) c.requires.known c.requires.history true false None (vms (cpu_of c.index_mut-own.result.now) c.args.step (sym c.uses.ensures ∙ c.in-Vms.is)) (lent_vms c.args.parts.now.vms c.index_mut-own.result.now) refl
+    inside : (u : ℕ) → o ≡ Some u → u < length p.guests.items
+    inside = slot_inside p cpu step k at known past v s o kind
 
-pub step_on_shared-made-requires-clause-reached : goal.step_on_shared-made-requires-clause-reached
-step_on_shared-made-requires-clause-reached c = stands c.args.parts.now c.args.cpu c.args.step c.index_mut-own.result.now (own_at c.args.parts.now c.args.cpu c.index_mut-own.result.now c.requires.known c.index_mut-own.ensures.value) c.requires.known c.requires.history false true None (shared (cpu_of c.index_mut-own.result.now) c.args.step (sym c.uses.ensures ∙ c.in-Shared.is)) (lent_shared c.args.parts.now.shared c.index_mut-own.result.now) refl
+pub step_on-reply-requires-clause-reached : goal.step_on-reply-requires-clause-reached
+step_on-reply-requires-clause-reached c = reached c.args.parts c.args.cpu c.args.step c.index_mut-own.result.now c.requires.known c.index_mut-own.ensures.value c.requires.history false false None (nothing (cpu_of c.index_mut-own.result.now) c.args.step (sym c.uses.ensures ∙ c.in-Nothing.is)) (lent_alone c.index_mut-own.result.now) refl
 
-pub step_on_guest-made-requires-clause-reached : goal.step_on_guest-made-requires-clause-reached
-step_on_guest-made-requires-clause-reached c = stands c.args.parts.now c.args.cpu c.args.step c.index_mut-own.result.now (own_at c.args.parts.now c.args.cpu c.index_mut-own.result.now c.requires.known c.index_mut-own.ensures.value) c.requires.known c.requires.history false false (Some c.in-Guest.v) (guest (cpu_of c.index_mut-own.result.now) c.args.step c.in-Guest.v (sym c.uses.ensures ∙ c.in-Guest.is)) (lent_guest c.index_mut.result.now c.index_mut-own.result.now) (ap (λ (o : Option (GuestPart _)). record { vms = None; shared = None; guest = o; cpu = c.index_mut-own.result.now }) (guest_at c.args.parts.now c.in-Guest.v c.index_mut.result.now (slot_inside c.args.parts.now c.args.cpu c.args.step c.index_mut-own.result.now (own_at c.args.parts.now c.args.cpu c.index_mut-own.result.now c.requires.known c.index_mut-own.ensures.value) c.requires.known c.requires.history false false (Some c.in-Guest.v) (guest (cpu_of c.index_mut-own.result.now) c.args.step c.in-Guest.v (sym c.uses.ensures ∙ c.in-Guest.is)) c.in-Guest.v refl) c.index_mut.ensures.value))
+pub step_on-reply-requires-in-Vms-clause-known : goal.step_on-reply-requires-in-Vms-clause-known
+step_on-reply-requires-in-Vms-clause-known c = id_known c.args.parts c.args.cpu c.args.step c.index_mut-own.result.now c.requires.known c.index_mut-own.ensures.value
 
-pub index_mut-requires : goal.index_mut-requires
-index_mut-requires c = let p = c.args.parts.now in let within = (slot_inside c.args.parts.now c.args.cpu c.args.step c.index_mut-own.result.now (own_at c.args.parts.now c.args.cpu c.index_mut-own.result.now c.requires.known c.index_mut-own.ensures.value) c.requires.known c.requires.history false false (Some c.in-Guest.v) (guest (cpu_of c.index_mut-own.result.now) c.args.step c.in-Guest.v (sym c.uses.ensures ∙ c.in-Guest.is)) c.in-Guest.v refl) in omega (arith, within, p.guests.ok.0)
+pub step_on-reply-requires-in-Vms-clause-reached : goal.step_on-reply-requires-in-Vms-clause-reached
+step_on-reply-requires-in-Vms-clause-reached c = reached c.args.parts c.args.cpu c.args.step c.index_mut-own.result.now c.requires.known c.index_mut-own.ensures.value c.requires.history true false None (vms (cpu_of c.index_mut-own.result.now) c.args.step (sym c.uses.ensures ∙ c.in-Vms.is)) (lent_vms c.args.parts.vms c.index_mut-own.result.now) refl
 
-pub step_on_guest-made-requires-clause-suits : goal.step_on_guest-made-requires-clause-suits
-step_on_guest-made-requires-clause-suits c = guest_suits c.args.parts.now c.in-Guest.v c.index_mut.result.now (guest_at c.args.parts.now c.in-Guest.v c.index_mut.result.now (slot_inside c.args.parts.now c.args.cpu c.args.step c.index_mut-own.result.now (own_at c.args.parts.now c.args.cpu c.index_mut-own.result.now c.requires.known c.index_mut-own.ensures.value) c.requires.known c.requires.history false false (Some c.in-Guest.v) (guest (cpu_of c.index_mut-own.result.now) c.args.step c.in-Guest.v (sym c.uses.ensures ∙ c.in-Guest.is)) c.in-Guest.v refl) c.index_mut.ensures.value)
+pub step_on-reply-requires-in-Shared-clause-known : goal.step_on-reply-requires-in-Shared-clause-known
+step_on-reply-requires-in-Shared-clause-known c = id_known c.args.parts c.args.cpu c.args.step c.index_mut-own.result.now c.requires.known c.index_mut-own.ensures.value
 
-pub step_on_both-made-requires-clause-reached : goal.step_on_both-made-requires-clause-reached
-step_on_both-made-requires-clause-reached c = stands c.args.parts.now c.args.cpu c.args.step c.index_mut-own.result.now (own_at c.args.parts.now c.args.cpu c.index_mut-own.result.now c.requires.known c.index_mut-own.ensures.value) c.requires.known c.requires.history false true (Some c.in-Both.v) (both (cpu_of c.index_mut-own.result.now) c.args.step c.in-Both.v (sym c.uses.ensures ∙ c.in-Both.is)) (lent_both c.args.parts.now.shared c.index_mut-in-Both.result.now c.index_mut-own.result.now) (ap (λ (o : Option (GuestPart _)). record { vms = None; shared = Some c.args.parts.now.shared; guest = o; cpu = c.index_mut-own.result.now }) (guest_at c.args.parts.now c.in-Both.v c.index_mut-in-Both.result.now (slot_inside c.args.parts.now c.args.cpu c.args.step c.index_mut-own.result.now (own_at c.args.parts.now c.args.cpu c.index_mut-own.result.now c.requires.known c.index_mut-own.ensures.value) c.requires.known c.requires.history false true (Some c.in-Both.v) (both (cpu_of c.index_mut-own.result.now) c.args.step c.in-Both.v (sym c.uses.ensures ∙ c.in-Both.is)) c.in-Both.v refl) c.index_mut-in-Both.ensures.value))
+pub step_on-reply-requires-in-Shared-clause-reached : goal.step_on-reply-requires-in-Shared-clause-reached
+step_on-reply-requires-in-Shared-clause-reached c = reached c.args.parts c.args.cpu c.args.step c.index_mut-own.result.now c.requires.known c.index_mut-own.ensures.value c.requires.history false true None (shared (cpu_of c.index_mut-own.result.now) c.args.step (sym c.uses.ensures ∙ c.in-Shared.is)) (lent_shared c.args.parts.shared c.index_mut-own.result.now) refl
 
-pub index_mut-requires-in-Both : goal.index_mut-requires-in-Both
-index_mut-requires-in-Both c = let p = c.args.parts.now in let within = (slot_inside c.args.parts.now c.args.cpu c.args.step c.index_mut-own.result.now (own_at c.args.parts.now c.args.cpu c.index_mut-own.result.now c.requires.known c.index_mut-own.ensures.value) c.requires.known c.requires.history false true (Some c.in-Both.v) (both (cpu_of c.index_mut-own.result.now) c.args.step c.in-Both.v (sym c.uses.ensures ∙ c.in-Both.is)) c.in-Both.v refl) in omega (arith, within, p.guests.ok.0)
+pub index_mut-guest-requires : goal.index_mut-guest-requires
+index_mut-guest-requires c =
+    let p = c.args.parts in
+    let within = inside c.args.parts c.args.cpu c.args.step c.index_mut-own.result.now c.requires.known c.index_mut-own.ensures.value c.requires.history false false (Some c.in-Guest.v) (guest (cpu_of c.index_mut-own.result.now) c.args.step c.in-Guest.v (sym c.uses.ensures ∙ c.in-Guest.is)) c.in-Guest.v refl in
+    omega (arith, within, p.guests.ok.0)
 
-pub step_on_both-made-requires-clause-guest_suits : goal.step_on_both-made-requires-clause-guest_suits
-step_on_both-made-requires-clause-guest_suits c = guest_suits c.args.parts.now c.in-Both.v c.index_mut-in-Both.result.now (guest_at c.args.parts.now c.in-Both.v c.index_mut-in-Both.result.now (slot_inside c.args.parts.now c.args.cpu c.args.step c.index_mut-own.result.now (own_at c.args.parts.now c.args.cpu c.index_mut-own.result.now c.requires.known c.index_mut-own.ensures.value) c.requires.known c.requires.history false true (Some c.in-Both.v) (both (cpu_of c.index_mut-own.result.now) c.args.step c.in-Both.v (sym c.uses.ensures ∙ c.in-Both.is)) c.in-Both.v refl) c.index_mut-in-Both.ensures.value)
+pub step_on-reply-requires-in-Guest-clause-known : goal.step_on-reply-requires-in-Guest-clause-known
+step_on-reply-requires-in-Guest-clause-known c = id_known c.args.parts c.args.cpu c.args.step c.index_mut-own.result.now c.requires.known c.index_mut-own.ensures.value
 
-pub invariant_of-parts : goal.invariant_of-parts
-invariant_of-parts c =
-    let p = c.args.parts.now in
-    record {
-      slots = p.slots;
-      counted = p.counted;
-      vm_log = p.vm_log;
-      shared_log = p.shared_log;
-      depth = p.depth;
-      rows = p.rows;
-      guest_depth = p.guest_depth;
-      guest_logs = p.guest_logs;
-      numbers = numbered p.cpus.items c.args.cpu c.index_mut-own.result.now c.step_alone-made.new.cpu p.numbers (own_at c.args.parts.now c.args.cpu c.index_mut-own.result.now c.requires.known c.index_mut-own.ensures.value) c.step_alone-made.ensures.step.id;
-      own_logs = All-set (λ (j : CpuState). IsOfSize p.layout.config.log j.log) p.cpus.items c.args.cpu c.step_alone-made.new.cpu c.step_alone-made.ensures.own p.own_logs;
-    }
+pub step_on-reply-requires-in-Guest-clause-suits : goal.step_on-reply-requires-in-Guest-clause-suits
+step_on-reply-requires-in-Guest-clause-suits c = record { vms = tt; shared = tt; guest = guest_suits c.args.parts c.in-Guest.v c.index_mut-guest.result.now (guest_at c.args.parts c.in-Guest.v c.index_mut-guest.result.now (inside c.args.parts c.args.cpu c.args.step c.index_mut-own.result.now c.requires.known c.index_mut-own.ensures.value c.requires.history false false (Some c.in-Guest.v) (guest (cpu_of c.index_mut-own.result.now) c.args.step c.in-Guest.v (sym c.uses.ensures ∙ c.in-Guest.is)) c.in-Guest.v refl) c.index_mut-guest.ensures.value); cpu = own_sized c.args.parts c.args.cpu c.args.step c.index_mut-own.result.now c.requires.known c.index_mut-own.ensures.value }
 
-pub invariant_of-parts-in-Shared : goal.invariant_of-parts-in-Shared
-invariant_of-parts-in-Shared c =
-    let p = c.args.parts.now in
-    record {
-      slots = p.slots;
-      counted = p.counted;
-      vm_log = p.vm_log;
-      shared_log = c.step_on_shared-made.ensures.suits.log;
-      depth = c.step_on_shared-made.ensures.suits.depth;
-      rows = c.step_on_shared-made.ensures.suits.rows;
-      guest_depth = p.guest_depth;
-      guest_logs = p.guest_logs;
-      numbers = numbered p.cpus.items c.args.cpu c.index_mut-own.result.now c.step_on_shared-made.new.cpu p.numbers (own_at c.args.parts.now c.args.cpu c.index_mut-own.result.now c.requires.known c.index_mut-own.ensures.value) c.step_on_shared-made.ensures.step.id;
-      own_logs = All-set (λ (j : CpuState). IsOfSize p.layout.config.log j.log) p.cpus.items c.args.cpu c.step_on_shared-made.new.cpu c.step_on_shared-made.ensures.own p.own_logs;
-    }
+pub step_on-reply-requires-in-Guest-clause-reached : goal.step_on-reply-requires-in-Guest-clause-reached
+step_on-reply-requires-in-Guest-clause-reached c = reached c.args.parts c.args.cpu c.args.step c.index_mut-own.result.now c.requires.known c.index_mut-own.ensures.value c.requires.history false false (Some c.in-Guest.v) (guest (cpu_of c.index_mut-own.result.now) c.args.step c.in-Guest.v (sym c.uses.ensures ∙ c.in-Guest.is)) (lent_guest c.index_mut-guest.result.now c.index_mut-own.result.now) (ap (λ (o : Option (GuestPart Global)). record { vms = None; shared = None; guest = o; cpu = c.index_mut-own.result.now }) (guest_at c.args.parts c.in-Guest.v c.index_mut-guest.result.now (inside c.args.parts c.args.cpu c.args.step c.index_mut-own.result.now c.requires.known c.index_mut-own.ensures.value c.requires.history false false (Some c.in-Guest.v) (guest (cpu_of c.index_mut-own.result.now) c.args.step c.in-Guest.v (sym c.uses.ensures ∙ c.in-Guest.is)) c.in-Guest.v refl) c.index_mut-guest.ensures.value))
 
-pub invariant_of-parts-in-Vms : goal.invariant_of-parts-in-Vms
-invariant_of-parts-in-Vms c =
-    let p = c.args.parts.now in
-    record {
-      slots = p.slots;
-      counted = p.counted;
-      vm_log = c.step_on_vms-made.ensures.suits;
-      shared_log = p.shared_log;
-      depth = p.depth;
-      rows = p.rows;
-      guest_depth = p.guest_depth;
-      guest_logs = p.guest_logs;
-      numbers = numbered c.args.parts.now.cpus.items c.args.cpu c.index_mut-own.result.now c.step_on_vms-made.new.cpu c.args.parts.now.numbers (own_at c.args.parts.now c.args.cpu c.index_mut-own.result.now c.requires.known c.index_mut-own.ensures.value) c.step_on_vms-made.ensures.step.id;
-      own_logs = All-set (λ (j : CpuState). IsOfSize p.layout.config.log j.log) p.cpus.items c.args.cpu c.step_on_vms-made.new.cpu c.step_on_vms-made.ensures.own p.own_logs;
-    }
+pub index_mut-guest-requires-in-Both : goal.index_mut-guest-requires-in-Both
+index_mut-guest-requires-in-Both c =
+    let p = c.args.parts in
+    let within = inside c.args.parts c.args.cpu c.args.step c.index_mut-own.result.now c.requires.known c.index_mut-own.ensures.value c.requires.history false true (Some c.in-Both.v) (both (cpu_of c.index_mut-own.result.now) c.args.step c.in-Both.v (sym c.uses.ensures ∙ c.in-Both.is)) c.in-Both.v refl in
+    omega (arith, within, p.guests.ok.0)
 
-pub invariant_of-parts-in-Guest : goal.invariant_of-parts-in-Guest
-invariant_of-parts-in-Guest c =
-    let p = c.args.parts.now in
-    record {
-      slots = p.slots;
-      counted = p.counted;
-      vm_log = p.vm_log;
-      shared_log = p.shared_log;
-      depth = p.depth;
-      rows = p.rows;
-      guest_depth = All-set (λ (v : GuestPart _). levels_below v.guest.geometry ≡ levels_below p.layout.geometry) p.guests.items c.in-Guest.v c.step_on_guest-made.new.part c.step_on_guest-made.ensures.suits.depth p.guest_depth;
-      guest_logs = All-set (λ (v : GuestPart _). IsOfSize p.layout.config.log v.log) p.guests.items c.in-Guest.v c.step_on_guest-made.new.part c.step_on_guest-made.ensures.suits.log p.guest_logs;
-      numbers = numbered c.args.parts.now.cpus.items c.args.cpu c.index_mut-own.result.now c.step_on_guest-made.new.cpu c.args.parts.now.numbers (own_at c.args.parts.now c.args.cpu c.index_mut-own.result.now c.requires.known c.index_mut-own.ensures.value) c.step_on_guest-made.ensures.step.id;
-      own_logs = All-set (λ (j : CpuState). IsOfSize p.layout.config.log j.log) p.cpus.items c.args.cpu c.step_on_guest-made.new.cpu c.step_on_guest-made.ensures.own p.own_logs;
-    }
+pub step_on-reply-requires-in-Both-clause-known : goal.step_on-reply-requires-in-Both-clause-known
+step_on-reply-requires-in-Both-clause-known c = id_known c.args.parts c.args.cpu c.args.step c.index_mut-own.result.now c.requires.known c.index_mut-own.ensures.value
 
-pub invariant_of-parts-in-Both : goal.invariant_of-parts-in-Both
-invariant_of-parts-in-Both c =
-    let p = c.args.parts.now in
-    record {
-      slots = p.slots;
-      counted = p.counted;
-      vm_log = p.vm_log;
-      shared_log = c.step_on_both-made.ensures.suits.log;
-      depth = c.step_on_both-made.ensures.suits.depth;
-      rows = c.step_on_both-made.ensures.suits.rows;
-      guest_depth = All-set (λ (v : GuestPart _). levels_below v.guest.geometry ≡ levels_below p.layout.geometry) p.guests.items c.in-Both.v c.step_on_both-made.new.part c.step_on_both-made.ensures.guest_suits.depth p.guest_depth;
-      guest_logs = All-set (λ (v : GuestPart _). IsOfSize p.layout.config.log v.log) p.guests.items c.in-Both.v c.step_on_both-made.new.part c.step_on_both-made.ensures.guest_suits.log p.guest_logs;
-      numbers = numbered c.args.parts.now.cpus.items c.args.cpu c.index_mut-own.result.now c.step_on_both-made.new.cpu c.args.parts.now.numbers (own_at c.args.parts.now c.args.cpu c.index_mut-own.result.now c.requires.known c.index_mut-own.ensures.value) c.step_on_both-made.ensures.step.id;
-      own_logs = All-set (λ (j : CpuState). IsOfSize p.layout.config.log j.log) p.cpus.items c.args.cpu c.step_on_both-made.new.cpu c.step_on_both-made.ensures.own p.own_logs;
-    }
+pub step_on-reply-requires-in-Both-clause-suits : goal.step_on-reply-requires-in-Both-clause-suits
+step_on-reply-requires-in-Both-clause-suits c = record { vms = tt; shared = record { depth = c.args.parts.depth; rows = c.args.parts.rows; log = c.args.parts.shared_log }; guest = guest_suits c.args.parts c.in-Both.v c.index_mut-guest-in-Both.result.now (guest_at c.args.parts c.in-Both.v c.index_mut-guest-in-Both.result.now (inside c.args.parts c.args.cpu c.args.step c.index_mut-own.result.now c.requires.known c.index_mut-own.ensures.value c.requires.history false true (Some c.in-Both.v) (both (cpu_of c.index_mut-own.result.now) c.args.step c.in-Both.v (sym c.uses.ensures ∙ c.in-Both.is)) c.in-Both.v refl) c.index_mut-guest-in-Both.ensures.value); cpu = own_sized c.args.parts c.args.cpu c.args.step c.index_mut-own.result.now c.requires.known c.index_mut-own.ensures.value }
+
+pub step_on-reply-requires-in-Both-clause-reached : goal.step_on-reply-requires-in-Both-clause-reached
+step_on-reply-requires-in-Both-clause-reached c = reached c.args.parts c.args.cpu c.args.step c.index_mut-own.result.now c.requires.known c.index_mut-own.ensures.value c.requires.history false true (Some c.in-Both.v) (both (cpu_of c.index_mut-own.result.now) c.args.step c.in-Both.v (sym c.uses.ensures ∙ c.in-Both.is)) (lent_both c.args.parts.shared c.index_mut-guest-in-Both.result.now c.index_mut-own.result.now) (ap (λ (o : Option (GuestPart Global)). record { vms = None; shared = Some c.args.parts.shared; guest = o; cpu = c.index_mut-own.result.now }) (guest_at c.args.parts c.in-Both.v c.index_mut-guest-in-Both.result.now (inside c.args.parts c.args.cpu c.args.step c.index_mut-own.result.now c.requires.known c.index_mut-own.ensures.value c.requires.history false true (Some c.in-Both.v) (both (cpu_of c.index_mut-own.result.now) c.args.step c.in-Both.v (sym c.uses.ensures ∙ c.in-Both.is)) c.in-Both.v refl) c.index_mut-guest-in-Both.ensures.value))
+
+pub step_on-reply-requires-clause-known : goal.step_on-reply-requires-clause-known
+step_on-reply-requires-clause-known c = id_known c.args.parts c.args.cpu c.args.step c.index_mut-own.result.now c.requires.known c.index_mut-own.ensures.value
+
+pub step_on-reply-requires-clause-lent : goal.step_on-reply-requires-clause-lent
+step_on-reply-requires-clause-lent c = ap parts_used (sym c.in-Nothing.is ∙ c.uses.ensures)
+
+pub step_on-reply-requires-clause-suits : goal.step_on-reply-requires-clause-suits
+step_on-reply-requires-clause-suits c = record { vms = tt; shared = tt; guest = tt; cpu = own_sized c.args.parts c.args.cpu c.args.step c.index_mut-own.result.now c.requires.known c.index_mut-own.ensures.value }
+
+pub step_on-reply-requires-in-Vms-clause-lent : goal.step_on-reply-requires-in-Vms-clause-lent
+step_on-reply-requires-in-Vms-clause-lent c = ap parts_used (sym c.in-Vms.is ∙ c.uses.ensures)
+
+pub step_on-reply-requires-in-Vms-clause-suits : goal.step_on-reply-requires-in-Vms-clause-suits
+step_on-reply-requires-in-Vms-clause-suits c = record { vms = c.args.parts.vm_log; shared = tt; guest = tt; cpu = own_sized c.args.parts c.args.cpu c.args.step c.index_mut-own.result.now c.requires.known c.index_mut-own.ensures.value }
+
+pub step_on-reply-requires-in-Shared-clause-lent : goal.step_on-reply-requires-in-Shared-clause-lent
+step_on-reply-requires-in-Shared-clause-lent c = ap parts_used (sym c.in-Shared.is ∙ c.uses.ensures)
+
+pub step_on-reply-requires-in-Shared-clause-suits : goal.step_on-reply-requires-in-Shared-clause-suits
+step_on-reply-requires-in-Shared-clause-suits c = record { vms = tt; shared = record { depth = c.args.parts.depth; rows = c.args.parts.rows; log = c.args.parts.shared_log }; guest = tt; cpu = own_sized c.args.parts c.args.cpu c.args.step c.index_mut-own.result.now c.requires.known c.index_mut-own.ensures.value }
+
+pub step_on-reply-requires-in-Guest-clause-lent : goal.step_on-reply-requires-in-Guest-clause-lent
+step_on-reply-requires-in-Guest-clause-lent c = ap parts_used (sym c.in-Guest.is ∙ c.uses.ensures)
+
+pub step_on-reply-requires-in-Both-clause-lent : goal.step_on-reply-requires-in-Both-clause-lent
+step_on-reply-requires-in-Both-clause-lent c = ap parts_used (sym c.in-Both.is ∙ c.uses.ensures)
