@@ -1,0 +1,4 @@
+pub mod Lists
+pub mod OneWord
+pub mod Least
+pub mod Stays

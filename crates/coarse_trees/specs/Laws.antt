@@ -1,0 +1,54 @@
+-- Laws of coarsest trees, each proved on the contract of a function of this crate.
+use Rattle.std.specs.Prelude.{◌≡◌, ℕ, suc, ◌+◌, ◌*◌, ◌≤◌, ◌<◌, ◌↔◌, true, false, is_some, List, length, Option, Some, None, All, Contains}
+use Rattle.page_state.specs.declared.entry.Entry.{Entry}
+use Rattle.page_state.specs.Blocks.{first_page, fits_word, is_one_word}
+use Rattle.page_state.specs.Entries.{advance}
+use Rattle.page_state.specs.Geometries.{block_pages}
+use Rattle.page_state.specs.Map.{Map}
+use Rattle.page_state.specs.Tables.{Edit, edited_map, needs, need, freed, edited}
+use Rattle.page_state.specs.Trees.{Block, Tree, root_tree, no_tree}
+use Rattle.coarse_trees.specs.Coarsest.{IsInTree, wants_table, IsCoarsest, IsTreeOf, table_number, IsInRange, map_need}
+
+-- the parts of a block that is one word are one word
+abbrev pub PartsAreOneWord : Type 0
+PartsAreOneWord = (m : Map) (d j i : ℕ) → i < 512 → is_one_word m (suc d, j) ≡ true → is_one_word m (d, 512 * j + i) ≡ true
+
+-- a block is one word where its parts are, each begins with what the first one's entry advances to, and a word can say that entry
+abbrev pub OneWordOfParts : Type 0
+OneWordOfParts = (m : Map) (d j : ℕ) (x : Entry) → fits_word (suc d) x ≡ true → ((i : ℕ) → i < 512 → (is_one_word m (d, 512 * j + i) ≡ true) × (m (first_page (d, 512 * j + i)) ≡ advance x (i * block_pages d))) → is_one_word m (suc d, j) ≡ true
+
+-- two coarsest trees of a map have tables at the same blocks
+abbrev pub OneCoarsest : Type 0
+OneCoarsest = (depth : ℕ) (t u : Tree) → IsCoarsest depth t → IsCoarsest depth u → u.map ≡ t.map → (b : Block) → IsInTree depth b → b.0 ≤ depth → is_some (u.table b) ≡ is_some (t.table b)
+
+-- where the coarsest tree of a map has a table, each tree of the map has one
+abbrev pub FewestTables : Type 0
+FewestTables = (depth : ℕ) (t u : Tree) → IsCoarsest depth t → IsTreeOf depth u → u.map ≡ t.map → (b : Block) (f : ℕ) → t.table b ≡ Some f → is_some (u.table b) ≡ true
+
+-- so no tree of the map has fewer
+abbrev pub FewestCounted : Type 0
+FewestCounted = (depth : ℕ) (t u : Tree) → IsCoarsest depth t → IsTreeOf depth u → u.map ≡ t.map → (bs : List Block) → table_number t bs ≤ table_number u bs
+
+-- a tree of its root alone, in which nothing is mapped, is coarsest
+abbrev pub RootIsCoarsest : Type 0
+RootIsCoarsest = (depth root : ℕ) → IsCoarsest depth (root_tree depth root)
+
+-- and so is no tree
+abbrev pub NoneIsCoarsest : Type 0
+NoneIsCoarsest = (depth : ℕ) → IsCoarsest depth no_tree
+
+-- a change of a coarsest tree with frames enough leaves a coarsest tree
+abbrev pub EditKeepsCoarsest : Type 0
+EditKeepsCoarsest = (depth : ℕ) (t : Tree) (e : Edit) (fs : List ℕ) → IsInRange depth e → IsCoarsest depth t → need depth t e ≤ length fs → IsCoarsest depth (edited depth t e fs)
+
+-- the tables that a change needs are those that are wanted afterwards and weren't there
+abbrev pub NeededAreNew : Type 0
+NeededAreNew = (depth : ℕ) (t : Tree) (e : Edit) → IsCoarsest depth t → (b : Block) → IsInTree depth b → b.0 ≤ depth → Contains (needs depth t e) b ↔ ((wants_table (edited_map t.map e) b ≡ true) × (t.table b ≡ None))
+
+-- those that go are those that were there and aren't wanted afterwards
+abbrev pub FreedAreNeedless : Type 0
+FreedAreNeedless = (depth : ℕ) (t : Tree) (e : Edit) → IsCoarsest depth t → (b : Block) → IsInTree depth b → b.0 ≤ depth → Contains (freed depth t e) b ↔ ((wants_table (edited_map t.map e) b ≡ false) × (is_some (t.table b) ≡ true))
+
+-- the need is a function of the maps
+abbrev pub NeedOfMaps : Type 0
+NeedOfMaps = (depth : ℕ) (t : Tree) (e : Edit) → IsInRange depth e → IsCoarsest depth t → need depth t e ≡ map_need depth t.map e

@@ -1,0 +1,2 @@
+pub mod Coarsest
+pub mod Laws
