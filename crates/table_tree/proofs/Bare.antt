@@ -19,7 +19,7 @@ use Rattle.table_tree.specs.Shape.{IsShaped}
 use Rattle.table_tree.specs.Tight.{IsTight}
 use Rattle.table_tree.specs.Tables.{table_in}
 use Rattle.table_tree.specs.View.{meaning}
-use Rattle.table_tree.proofs.Blank.{advance_none, entry_word, unmapped_gone}
+use Rattle.table_tree.proofs.OneWord.{advance_none, entry_word, unmapped_gone}
 use Rattle.table_tree.proofs.NoneWord.{none_word}
 use Rattle.table_tree.proofs.Standing.{table_below, table_top, stand_child}
 use Rattle.table_tree.proofs.Steps.{entry_step, child_gives}

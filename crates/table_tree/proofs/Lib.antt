@@ -17,7 +17,7 @@ pub mod Joined
 pub mod AllFrames
 pub mod OnPage
 pub mod NoneWord
-pub mod Blank
+pub mod OneWord
 pub mod Bare
 pub mod Same
 pub mod RawTables

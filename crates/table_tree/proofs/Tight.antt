@@ -7,7 +7,7 @@ use Rattle.table_tree.specs.declared.table.Table.{Table}
 use Rattle.table_tree.specs.declared.table.Slot.TheVariants.{Word, Child}
 use Rattle.table_tree.specs.Meaning.{slot_at, slots_of, frame_of}
 use Rattle.table_tree.specs.Shape.{IsWide, IsBlank, IsShaped, HoldsWord}
-use Rattle.table_tree.specs.Tight.{IsTight}
+use Rattle.table_tree.specs.Tight.{IsOneWord, IsTight}
 use Rattle.table_tree.specs.Changes.{IsNew, IsCleared}
 use Rattle.table_tree.proofs.Slots.{meets_child, word_meets, child_meets, set_here, set_others, shaped_wide, shaped_slot, shaped_made, shaped_set, slot_word_made}
 use Rattle.table_tree.proofs.Words.{zero_said}
@@ -20,23 +20,23 @@ module _ {A : Type 0} where
   unfolding IsTight
   tight_word zero t u i w h s p e = tt
   tight_word (suc d) t u i w h s p e = λ j q. by_eq j i
-      (λ z. rw (set_here t u i j (Word w) e p s z) (word_meets (λ _. Unit {0}) (λ c. (IsBlank c → ⊥) × IsTight d c) w tt))
+      (λ z. rw (set_here t u i j (Word w) e p s z) (word_meets (λ _. Unit {0}) (λ c. (IsOneWord d c → ⊥) × IsTight d c) w tt))
       (λ z. rw (set_others t u i j (Word w) e z) (h j q))
 
-  pub tight_attach : (d : ℕ) (t u : Table A) (i : ℕ) (b : Box (Table A) A) → IsTight (suc d) t → IsWide t → i < 512 → slots_of u ≡ set (slots_of t) i (Child b) → (IsBlank b.value → ⊥) → IsTight d b.value → IsTight (suc d) u
+  pub tight_attach : (d : ℕ) (t u : Table A) (i : ℕ) (b : Box (Table A) A) → IsTight (suc d) t → IsWide t → i < 512 → slots_of u ≡ set (slots_of t) i (Child b) → (IsOneWord d b.value → ⊥) → IsTight d b.value → IsTight (suc d) u
   unfolding IsTight
   tight_attach d t u i b h s p e n m = λ j q. by_eq j i
-      (λ z. rw (set_here t u i j (Child b) e p s z) (child_meets (λ _. Unit {0}) (λ c. (IsBlank c → ⊥) × IsTight d c) b (n, m)))
+      (λ z. rw (set_here t u i j (Child b) e p s z) (child_meets (λ _. Unit {0}) (λ c. (IsOneWord d c → ⊥) × IsTight d c) b (n, m)))
       (λ z. rw (set_others t u i j (Child b) e z) (h j q))
 
-  pub tight_child : (d : ℕ) (u : Table A) (i : ℕ) (b : Box (Table A) A) → IsTight (suc d) u → i < 512 → slot_at u i ≡ Child b → (IsBlank b.value → ⊥) × IsTight d b.value
+  pub tight_child : (d : ℕ) (u : Table A) (i : ℕ) (b : Box (Table A) A) → IsTight (suc d) u → i < 512 → slot_at u i ≡ Child b → (IsOneWord d b.value → ⊥) × IsTight d b.value
   unfolding IsTight
-  tight_child d u i b h p e = meets_child (λ _. Unit {0}) (λ c. (IsBlank c → ⊥) × IsTight d c) b (rw e at (h i p))
+  tight_child d u i b h p e = meets_child (λ _. Unit {0}) (λ c. (IsOneWord d c → ⊥) × IsTight d c) b (rw e at (h i p))
 
   words_tight : (d : ℕ) (t : Table A) → ((i : ℕ) → i < 512 → HoldsWord (slot_at t i)) → IsTight d t
   unfolding IsTight
   words_tight zero t h = tt
-  words_tight (suc d) t h = λ i p. let x = h i p in rw x.1 (word_meets (λ _. Unit {0}) (λ c. (IsBlank c → ⊥) × IsTight d c) x.0 tt)
+  words_tight (suc d) t h = λ i p. let x = h i p in rw x.1 (word_meets (λ _. Unit {0}) (λ c. (IsOneWord d c → ⊥) × IsTight d c) x.0 tt)
 
   same_shape : (d : ℕ) (t u : Table A) → slots_of u ≡ slots_of t → IsShaped d t → IsShaped d u
   same_shape d t u e x = shaped_made d u (rw e (shaped_wide d t x)) (λ i p. rw (ap (λ l. get_or l i (Word 0)) e) (shaped_slot d t i x p))

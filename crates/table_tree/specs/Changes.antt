@@ -7,8 +7,8 @@ use Rattle.table_tree.specs.declared.table.Table.{Table}
 use Rattle.table_tree.specs.declared.table.Slot.{Slot}
 use Rattle.table_tree.specs.declared.table.Slot.TheVariants.{Word, Child}
 use Rattle.table_tree.specs.Meaning.{index_at, frame_of, word_entry, entry_at}
-use Rattle.table_tree.specs.Shape.{IsBlank, IsEntryWord, IsShaped}
-use Rattle.table_tree.specs.Tight.{IsTight}
+use Rattle.table_tree.specs.Shape.{IsEntryWord, IsShaped}
+use Rattle.table_tree.specs.Tight.{IsOneWord, IsTight}
 use Rattle.table_tree.specs.Tables.{tables_in, uses_in, table_in}
 
 -- `u` is `t` with another word in slot `i`, which held a word
@@ -28,7 +28,7 @@ pub record IsAttached {A : Type 0} (i : ℕ) (t u c : Table A) : Type 0 where
   pub standing : (depth low q : ℕ) → low ≤ depth → table_in (depth + 1) u low q ≡ (if index_at (depth + 1) q == i then table_in depth c low q else table_in (depth + 1) t low q)
   pub shape : (depth : ℕ) → IsShaped (depth + 1) t → IsShaped depth c → IsShaped (depth + 1) u
   pub child : (depth : ℕ) → IsShaped (depth + 1) u → IsShaped depth c
-  pub tight : (depth : ℕ) → IsTight (depth + 1) t → (IsBlank c → ⊥) → IsTight depth c → IsTight (depth + 1) u
+  pub tight : (depth : ℕ) → IsTight (depth + 1) t → (IsOneWord depth c → ⊥) → IsTight depth c → IsTight (depth + 1) u
   pub child_tight : (depth : ℕ) → IsTight (depth + 1) u → IsTight depth c
 
 -- a table of zeros, at any depth

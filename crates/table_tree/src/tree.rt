@@ -15,8 +15,8 @@ use descriptor::Frame;
 use page_state::{Entry, Geometry, Page};
 use std::alloc::{AllocError, Allocator, Global};
 
-/// A tree of tables. Its root table has the geometry's levels below it, no table below the root is empty, and no two tables
-/// have one frame. Beside them it keeps spares, tables without a frame, for later changes.
+/// A tree of tables. Its root table has the geometry's levels below it, no word can say what a table below the root says, and
+/// no two tables have one frame. Beside them it keeps spares, tables without a frame, for later changes.
 #[derive(Drop)]
 pub struct Tree<A: Allocator> {
     pub geometry: Geometry,
