@@ -1,28 +1,25 @@
 -- Lists of blocks that lose their table, and searches on blocks.
-use Rattle.std.proofs.Common.{◌≡◌, ℕ, zero, suc, ◌+◌, ◌<◌, ◌≤◌, ap, refl, subst, arith, ◌∙◌, inl, inr, ◌⊎◌, Bool, true, false, is_some, Option, Some, None, List, [], ◌∷◌, filter, All, Contains}
+use Rattle.std.proofs.Common.{◌≡◌, ℕ, ap, refl, subst, ◌∙◌, inl, inr, ◌⊎◌, Bool, true, false, is_some, Option, Some, None, List, [], ◌∷◌, filter, All, Contains}
 use Rattle.std.proofs.lemmas.List.Elements.{All-nil, All-cons, All-head, All-tail, All-weaker, All-contains, All-contains_itself, filter_passes}
-use Rattle.page_state.specs.declared.entry.Entry.TheVariants.{Unmapped}
-use Rattle.page_state.specs.EntryTests.{is_unmapped}
-use Rattle.page_state.specs.Search.{all_from}
 use Rattle.page_state.specs.Map.{Map}
 use Rattle.page_state.specs.Trees.{Block}
-use Rattle.page_state.specs.Blocks.{span, first_page, block_eq, is_empty}
+use Rattle.page_state.specs.Blocks.{block_eq, is_one_word}
 use Rattle.page_state.specs.Tables.{cleared}
 use Rattle.page_state.proofs.Cases.{by_test}
 use Rattle.page_state.proofs.BlockTests.{block_eq-same}
 use Rattle.walk_plan.proofs.Places.{block_self, block_other}
 
--- a block loses its table: it has one, and nothing is mapped on it in the map `n`
+-- a block loses its table: it has one, and a word can say it in the map `n`
 abbrev pub is_freed : (Block → Option ℕ) → Map → Block → Bool
-is_freed ts n b = elim (is_some (ts b)) [ true ↦ is_empty n b | false ↦ false ]
+is_freed ts n b = elim (is_some (ts b)) [ true ↦ is_one_word n b | false ↦ false ]
 
 pub bare_not : (ts : Block → Option ℕ) (n : Map) (b : Block) → ts b ≡ None → is_freed ts n b ≡ false
-bare_not ts n b h = ap (λ (o : Option ℕ). elim (is_some o) [ true ↦ is_empty n b | false ↦ false ]) h
+bare_not ts n b h = ap (λ (o : Option ℕ). elim (is_some o) [ true ↦ is_one_word n b | false ↦ false ]) h
 
-pub empty_freed : (ts : Block → Option ℕ) (n : Map) (b : Block) (f : ℕ) → ts b ≡ Some f → is_empty n b ≡ true → is_freed ts n b ≡ true
-empty_freed ts n b f h k = ap (λ (o : Option ℕ). elim (is_some o) [ true ↦ is_empty n b | false ↦ false ]) h ∙ k
+pub said_freed : (ts : Block → Option ℕ) (n : Map) (b : Block) (f : ℕ) → ts b ≡ Some f → is_one_word n b ≡ true → is_freed ts n b ≡ true
+said_freed ts n b f h k = ap (λ (o : Option ℕ). elim (is_some o) [ true ↦ is_one_word n b | false ↦ false ]) h ∙ k
 
-pub full_not : (ts : Block → Option ℕ) (n : Map) (b : Block) → is_empty n b ≡ false → is_freed ts n b ≡ false
+pub full_not : (ts : Block → Option ℕ) (n : Map) (b : Block) → is_one_word n b ≡ false → is_freed ts n b ≡ false
 full_not ts n b h = by_test (is_some (ts b)) (λ e. rw (e, h, is_freed) refl) (λ e. rw (e, is_freed) refl)
 
 abbrev pub IsAbsent : Block → List Block → Type 0
@@ -53,19 +50,3 @@ cleared_filter pass (a ∷ bs) old b h =
 
 pub cleared_present : (pass : Block → Bool) (bs : List Block) (old : Block → Option ℕ) (b : Block) → pass b ≡ true → Contains bs b → cleared (filter pass bs) old b ≡ None
 cleared_present pass bs old b h k = elim (cleared_filter pass bs old b h) [ inl p ↦ p | inr p ↦ absurd (present b bs k p) ]
-
--- a test that doesn't hold on a range fails at a number of it
-failing : (from n : ℕ) (test : ℕ → Bool) → all_from from n test ≡ false → (i : ℕ) × (from ≤ i) × (i < from + n) × (test i ≡ false)
-failing from zero test h = cc
-failing from (suc n) test h =
-    by_test (test from)
-    (λ t. let more : all_from (suc from) n test ≡ false = rw (t, all_from) at h in let x = failing (suc from) n test more in let low = x.1 in let high = x.2 in (x.0, omega arith, omega arith, x.3))
-    (λ t. (from, omega arith, omega arith, t))
-
--- a block that isn't empty has a page that is mapped
-pub mapped_page : (n : Map) (b : Block) → is_empty n b ≡ false → (i : ℕ) × (i < span b) × (n (first_page b + i) ≡ Unmapped → ⊥)
-unfolding is_empty
-mapped_page n b h =
-    let x = failing 0 (span b) (λ i. is_unmapped (n (first_page b + i))) h in
-    let less : x.0 < 0 + span b = x.2 in
-    (x.0, omega arith, λ e. let y : is_unmapped (n (first_page b + x.0)) ≡ true = ap is_unmapped e in let z = x.3 in cc)

@@ -1,14 +1,14 @@
 -- A tree after a change, as its walk leaves it, is the edited tree.
-use Rattle.std.proofs.Common.{◌≡◌, ℕ, zero, suc, ◌+◌, ◌-◌, ◌*◌, ◌/◌, ◌<◌, ◌≤◌, refl, sym, ap, arith, add-one, ◌∙◌, inl, inr, ◌⊎◌, true, false, Option, Some, None, List, length, Contains}
+use Rattle.std.proofs.Common.{◌≡◌, ℕ, zero, suc, ◌+◌, ◌-◌, ◌*◌, ◌/◌, ◌%◌, ◌<◌, ◌≤◌, refl, sym, ap, arith, add-one, ◌∙◌, inl, inr, ◌⊎◌, true, false, Option, Some, None, List, length, Contains}
 use Rattle.std.proofs.lemmas.List.Elements.{All-filter}
 use mathlib.Core.Path.{fun_ext}
 use Rattle.page_state.specs.declared.entry.Entry.{Entry}
-use Rattle.page_state.specs.declared.entry.Entry.TheVariants.{Unmapped}
+use Rattle.page_state.specs.Entries.{advance}
 use Rattle.page_state.specs.Map.{Map, update}
 use Rattle.page_state.specs.Trees.{Block}
-use Rattle.page_state.specs.Blocks.{span, first_page, block_eq, is_one_word, is_empty, blocks_on}
+use Rattle.page_state.specs.Blocks.{block_eq, is_one_word, blocks_on}
 use Rattle.page_state.specs.Tables.{Edit, put, needs, need, freed, placed, cleared, edited}
-use Rattle.page_state.proofs.Blocks.{empty_means}
+use Rattle.page_state.proofs.Blocks.{one_word_means}
 use Rattle.page_state.proofs.BlockLists.{blocks_meet}
 use Rattle.page_state.specs.Geometries.{levels_below, input_pages, block_pages}
 use Rattle.page_state.proofs.Cases.{by_test, by_lt}
@@ -16,6 +16,7 @@ use Rattle.page_state.proofs.Edits.{tree-same}
 use Rattle.table_tree.specs.declared.tree.Tree.{Tree}
 use Rattle.table_tree.specs.Meaning.{entry_at, frame_of}
 use Rattle.table_tree.specs.Tables.{table_in}
+use Rattle.table_tree.specs.Tight.{IsOneWordAt}
 use Rattle.table_tree.specs.View.{meaning, table_at, tree_of}
 use Rattle.table_tree.proofs.Standing.{table_top}
 use Rattle.walk_plan.specs.declared.change.Change.{Change}
@@ -30,7 +31,8 @@ use Rattle.walk_plan.proofs.Matched.{meaning_in, table_at_in, all_pages, table_d
 use Rattle.walk_plan.proofs.OfTree.{made_tree}
 use Rattle.walk_plan.proofs.Needed.{is_needed, one_word_not, need_walked}
 use Rattle.walk_plan.proofs.Places.{place_none, place_filter, placed_old}
-use Rattle.walk_plan.proofs.Cleared.{is_freed, bare_not, full_not, empty_freed, absent, cleared_absent, absent_filter, cleared_present, mapped_page}
+use Rattle.walk_plan.proofs.Cleared.{is_freed, bare_not, full_not, said_freed, absent, cleared_absent, absent_filter, cleared_present}
+use Rattle.walk_plan.proofs.Numbers.{place_in}
 use Rattle.walk_plan.proofs.Ranked.{ranked_at}
 
 -- what the walk leaves of a tree
@@ -39,10 +41,39 @@ pub record IsWalked {A : Type 0} (t u : Tree A) (c : Change) (fs : List ℕ) : T
   pub frame : frame_of u.table ≡ frame_of t.table
   pub enough : table_need (levels_below t.geometry) t.table c ≤ length fs
   pub map : (q : ℕ) → entry_at (levels_below t.geometry) u.table q ≡ changed_entry (levels_below t.geometry + 1) (entry_at (levels_below t.geometry) t.table) c q
-  pub kept : (low q p : ℕ) → low < levels_below t.geometry → p / block_pages (low + 1) ≡ q / block_pages (low + 1) → (entry_at (levels_below t.geometry) u.table p ≡ Unmapped → ⊥)
+  pub kept : (low q : ℕ) → low < levels_below t.geometry → (IsOneWordAt (low + 1) (entry_at (levels_below t.geometry) u.table) q → ⊥)
       → table_in (levels_below t.geometry) u.table low q ≡ given_rank fs (table_in (levels_below t.geometry) t.table low q) (table_rank (levels_below t.geometry) t.table c low q)
-  pub gone : (low q : ℕ) → low < levels_below t.geometry → ((p : ℕ) → p / block_pages (low + 1) ≡ q / block_pages (low + 1) → entry_at (levels_below t.geometry) u.table p ≡ Unmapped) → table_in (levels_below t.geometry) u.table low q ≡ None
-  pub full : (low q : ℕ) → low < levels_below t.geometry → ((p : ℕ) → p / block_pages (low + 1) ≡ q / block_pages (low + 1) → entry_at (levels_below t.geometry) t.table p ≡ Unmapped) → table_in (levels_below t.geometry) t.table low q ≡ None
+  pub gone : (low q : ℕ) → low < levels_below t.geometry → IsOneWordAt (low + 1) (entry_at (levels_below t.geometry) u.table) q → table_in (levels_below t.geometry) u.table low q ≡ None
+  pub full : (low q : ℕ) → low < levels_below t.geometry → IsOneWordAt (low + 1) (entry_at (levels_below t.geometry) t.table) q → table_in (levels_below t.geometry) t.table low q ≡ None
+
+-- a block that a word can say, told by the pages of its first page's block
+pub said_at : (m n : ℕ → Entry) (low j : ℕ) → ((p : ℕ) → IsIn (suc low) j p → m p ≡ n p) → is_one_word n (suc low, j) ≡ true → IsOneWordAt (low + 1) m (j * block_pages (suc low))
+said_at m n low j same h =
+    let s = block_pages (suc low) in
+    let o : suc low ≡ low + 1 = omega arith in
+    let x = (one_word_means n (suc low, j)).0 h in
+    record {
+      entry = n (j * s);
+      fits = rw (sym o) x.0;
+      along = λ p e.
+          let k = page_under low j p (rw add-one at e) in
+          let low' = k.low in
+          let high = k.high in
+          let at : j * s + (p - j * s) ≡ p = omega arith in
+          let place : p % block_pages (low + 1) ≡ p - j * s = ap (λ d. p % block_pages d) (sym o) ∙ place_in (suc low) j p low' high in
+          same p k ∙ ap n (sym at) ∙ x.1 (p - j * s) (omega arith) ∙ ap (λ i. advance (n (j * s)) i) (sym place);
+    }
+
+pub at_said : (m n : ℕ → Entry) (low j : ℕ) → ((p : ℕ) → IsIn (suc low) j p → m p ≡ n p) → IsOneWordAt (low + 1) m (j * block_pages (suc low)) → is_one_word n (suc low, j) ≡ true
+at_said m n low j same a =
+    let s = block_pages (suc low) in
+    let o : low + 1 ≡ suc low = omega arith in
+    one_word_made n (suc low) j a.entry (rw o at a.fits)
+    (λ i l.
+    let k : IsIn (suc low) j (j * s + i) = record { low = omega arith; high = omega arith } in
+    let under : (j * s + i) / block_pages (low + 1) ≡ j * s / block_pages (low + 1) = rw o (under_page low j (j * s + i) k) in
+    let place : (j * s + i) % block_pages (low + 1) ≡ i = ap (λ d. (j * s + i) % block_pages d) o ∙ place_in (suc low) j (j * s + i) k.low k.high ∙ omega arith in
+    sym (same (j * s + i) k) ∙ a.along (j * s + i) under ∙ ap (λ r. advance a.entry r) place)
 
 module _ {A : Type 0} (t u : Tree A) (first count : ℕ) (e : Entry) (c : Change) (fs : List ℕ) (some : 0 < count) (within : first + count ≤ input_pages t.geometry) (from : c.first ≡ first) (to : c.end ≡ first + count) (gives : c.entry ≡ e) where
   abbrev top : ℕ
@@ -114,31 +145,21 @@ module _ {A : Type 0} (t u : Tree A) (first count : ℕ) (e : Entry) (c : Change
       input_page : (p : ℕ) → IsIn (suc low) j p → p < input_pages t.geometry
       input_page p h = let e = all_pages t in let x = block_within top low j p deep (omega arith) h in omega arith
 
-      -- nothing is mapped on it afterwards
-      module _ (empty : is_empty after (suc low, j) ≡ true) where
-        unmapped : (p : ℕ) → IsIn (suc low) j p → after p ≡ Unmapped
-        unmapped p h =
-            let l = h.low in
-            let r = h.high in
-            let at : first_page (suc low, j) + (p - first_of) ≡ p = omega arith in
-            ap after (sym at) ∙ (empty_means after (suc low, j)).0 empty (p - first_of) (omega arith)
+      -- what it has afterwards
+      now_after : (p : ℕ) → IsIn (suc low) j p → entry_at top u.table p ≡ after p
+      now_after p h = map_after p (input_page p h)
 
-        unmapped_now : (p : ℕ) → p / block_pages (low + 1) ≡ first_of / block_pages (low + 1) → entry_at top u.table p ≡ Unmapped
-        unmapped_now p h = let k = page_under low j p (rw add-one at h) in map_after p (input_page p k) ∙ unmapped p k
-
-        empty_now : table_at u (suc low) j ≡ None
-        empty_now = table_now low j begins ∙ w.gone low first_of deep unmapped_now
-
-        one_word : is_one_word after (suc low, j) ≡ true
-        one_word = one_word_made after (suc low) j Unmapped refl (λ i p. unmapped (first_of + i) (record { low = omega arith; high = omega arith }))
+      -- a word can say it afterwards
+      module _ (said : is_one_word after (suc low, j) ≡ true) where
+        said_now : table_at u (suc low) j ≡ None
+        said_now = table_now low j begins ∙ w.gone low first_of deep (said_at (entry_at top u.table) after low j now_after said)
 
         -- a change beside it
         left_beside : (first_of < first + count → first < first_of + block_pages (suc low) → ⊥) → left (suc low, j) ≡ None
         left_beside off =
             let side : (p : ℕ) → IsIn (suc low) j p → (p < c.first) ⊎ (c.end ≤ p) = λ p h. let l = h.low in let r = h.high in by_lt p c.first (λ a. inl a) (λ a. by_lt p c.end (λ z. absurd (off (omega arith) (omega arith))) (λ z. inr z)) in
-            let was : (p : ℕ) → p / block_pages (low + 1) ≡ first_of / block_pages (low + 1) → entry_at top t.table p ≡ Unmapped =
-            λ p h. let k = page_under low j p (rw add-one at h) in sym (meaning_in t p (input_page p k)) ∙ sym (made.outside p (side p k)) ∙ unmapped p k in
-            left_off (suc low, j) (λ k. let m = (blocks_meet top first count (suc low, j) some).0 k in off (omega (arith, m.2)) (omega (arith, m.3))) ∙ table_at_in t low j begins ∙ w.full low first_of deep was
+            let was : (p : ℕ) → IsIn (suc low) j p → entry_at top t.table p ≡ after p = λ p h. sym (meaning_in t p (input_page p h)) ∙ sym (made.outside p (side p h)) in
+            left_off (suc low, j) (λ k. let m = (blocks_meet top first count (suc low, j) some).0 k in off (omega (arith, m.2)) (omega (arith, m.3))) ∙ table_at_in t low j begins ∙ w.full low first_of deep (said_at (entry_at top t.table) after low j was said)
 
         on_range : first_of < first + count → first < first_of + block_pages (suc low) → Contains (blocks_on top first count) (suc low, j)
         on_range p q =
@@ -148,28 +169,24 @@ module _ {A : Type 0} (t u : Tree A) (first count : ℕ) (e : Entry) (c : Change
         left_some f h =
             by_lt first_of (first + count)
             (λ p. by_lt first (first_of + block_pages (suc low))
-            (λ q. left_gone (suc low, j) (empty_freed standing after (suc low, j) f h empty) (on_range p q))
+            (λ q. left_gone (suc low, j) (said_freed standing after (suc low, j) f h said) (on_range p q))
             (λ q. left_beside (λ x y. omega arith)))
             (λ p. left_beside (λ x y. omega arith))
 
         left_none : left (suc low, j) ≡ None
         left_none = by_option (standing (suc low, j))
             left_some
-            (λ h. left_placed (suc low, j) (bare_not standing after (suc low, j) h) ∙ left_one_word (suc low, j) one_word ∙ h)
+            (λ h. left_placed (suc low, j) (bare_not standing after (suc low, j) h) ∙ left_one_word (suc low, j) said ∙ h)
 
-      -- a page of it is mapped afterwards
-      full_now : is_empty after (suc low, j) ≡ false → left (suc low, j) ≡ table_at u (suc low) j
+      -- no word can say it afterwards
+      full_now : is_one_word after (suc low, j) ≡ false → left (suc low, j) ≡ table_at u (suc low) j
       full_now h =
-          let x = mapped_page after (suc low, j) h in
-          let less : x.0 < span (suc low, j) = x.1 in
-          let page : IsIn (suc low) j (first_of + x.0) = record { low = omega arith; high = omega arith } in
-          let mapped : entry_at top u.table (first_of + x.0) ≡ Unmapped → ⊥ = λ z. x.2 (sym (map_after (first_of + x.0) (input_page (first_of + x.0) page)) ∙ z) in
-          let under : (first_of + x.0) / block_pages (low + 1) ≡ first_of / block_pages (low + 1) = rw add-one (under_page low j (first_of + x.0) page) in
+          let none : IsOneWordAt (low + 1) (entry_at top u.table) first_of → ⊥ = λ a. let bad : true ≡ false = sym (at_said (entry_at top u.table) after low j now_after a) ∙ h in cc in
           let enough : need top (tree_of t) edit ≤ length fs = let z = need_walked t first count e c some within from to gives in let k = w.enough in omega arith in
           left_placed (suc low, j) (full_not standing after (suc low, j) h)
           ∙ ranked_at t first count e c some within from to gives fs low j deep begins enough
           ∙ ap (λ o. given_rank fs o (table_rank top t.table c low first_of)) (table_at_in t low j begins)
-          ∙ sym (table_now low j begins ∙ w.kept low first_of (first_of + x.0) deep under mapped)
+          ∙ sym (table_now low j begins ∙ w.kept low first_of deep none)
 
     -- the tables afterwards
     tables_after : (b : Block) → table_at u b.0 b.1 ≡ left b
@@ -177,7 +194,7 @@ module _ {A : Type 0} (t u : Tree A) (first count : ℕ) (e : Entry) (c : Change
     tables_after (suc low, j) =
         by_lt (j * block_pages (suc low)) (input_pages t.geometry)
         (λ h. by_lt low top
-        (λ l. by_test (is_empty after (suc low, j)) (λ z. empty_now low j l h z ∙ sym (left_none low j l h z)) (λ z. sym (full_now low j l h z)))
+        (λ l. by_test (is_one_word after (suc low, j)) (λ z. said_now low j l h z ∙ sym (left_none low j l h z)) (λ z. sym (full_now low j l h z)))
         (λ l. table_now low j h ∙ root_now low (j * block_pages (suc low)) l ∙ sym (left_off (suc low, j) (λ k. let m = (blocks_meet top first count (suc low, j) some).0 k in omega (arith, m.1)) ∙ table_at_in t low j h)))
         (λ h. table_past u low j (let z = same_pages in omega arith) ∙ sym (left_off (suc low, j) (λ k. let m = (blocks_meet top first count (suc low, j) some).0 k in omega (arith, m.2)) ∙ table_past t low j h))
       where

@@ -74,7 +74,7 @@ word_said l w =
     (λ _. either l (is_upper l && field w 0 12 == 3 && field w 48 16 == 0) (table_word (record { 0 = field w 12 36 })) (leaf_of l w) (λ _. record { says = λ e. absurd e })
     (λ _. leaf_said l _ (kind_of_bits (field w 2 4)) (prot_of_bits (field w 6 2) (field w 54 1)) (state_of_bits (field w 55 2)) (field w 12 36) (λ t. (omega arith, aligned (has_leaf_form l w) (field w 12 36) (level_pages l) t)))))
 
-fits : (d : ℕ) → d < 3 → FitsWord d (level_at d)
+pub fits : (d : ℕ) → d < 3 → FitsWord d (level_at d)
 fits zero p = fits_each_word.0
 fits (suc zero) p = fits_each_word.1
 fits (suc (suc zero)) p = fits_each_word.2

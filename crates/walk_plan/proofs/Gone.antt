@@ -1,20 +1,22 @@
 -- The frames of tables that a change's walk takes out are those that come back.
-use Rattle.std.proofs.Common.{◌≡◌, ℕ, zero, suc, ◌+◌, ◌-◌, ◌*◌, ◌%◌, ◌<◌, ◌≤◌, refl, sym, ap, arith, ◌∙◌, inl, inr, Bool, true, false, cond, is_some, Option, Some, List, [], ◌∷◌, filter, filter_map}
+use Rattle.std.proofs.Common.{◌≡◌, ℕ, zero, suc, ◌+◌, ◌-◌, ◌*◌, ◌%◌, ◌<◌, ◌≤◌, refl, sym, ap, arith, ◌∙◌, inl, inr, Bool, true, false, ◌&&◌, cond, is_some, Option, Some, List, [], ◌∷◌, filter, filter_map}
 use Rattle.std.specs.declared.boxed.Box.{Box}
 use Rattle.std.proofs.lemmas.List.Elements.{filter_map-append}
 use Rattle.std.proofs.lemmas.List.Sums.{sum_by-append}
 use Rattle.descriptor.specs.Word.{desc_of}
 use Rattle.page_state.specs.declared.entry.Entry.{Entry}
 use Rattle.page_state.specs.Entries.{advance, entry_of_word}
-use Rattle.page_state.specs.EntryTests.{is_unmapped}
-use Rattle.page_state.specs.Search.{all_from, all_below}
+use Rattle.page_state.specs.EntryTests.{entry_eq}
+use Rattle.page_state.specs.Search.{all_from}
 use Rattle.page_state.specs.Map.{Map, update}
 use Rattle.page_state.specs.Trees.{Block}
-use Rattle.page_state.specs.Blocks.{is_empty}
+use Rattle.page_state.specs.Blocks.{fits_word, is_one_word}
 use Rattle.page_state.specs.Tables.{put, freed, returned}
 use Rattle.page_state.specs.Geometries.{levels_below, input_pages, block_pages}
 use Rattle.page_state.specs.Counts.{is_one, frame_count}
 use Rattle.page_state.proofs.Cases.{by_test, by_lt}
+use Rattle.page_state.proofs.Common.{same2}
+use Rattle.page_state.proofs.Sizes.{size_some}
 use Rattle.table_tree.specs.declared.table.Table.{Table}
 use Rattle.table_tree.specs.declared.table.Slot.{Slot}
 use Rattle.table_tree.specs.declared.table.Slot.TheVariants.{Word, Child}
@@ -28,7 +30,7 @@ use Rattle.table_tree.proofs.Slots.{by_slot, case_word, case_child, shaped_slot,
 use Rattle.walk_plan.specs.declared.change.Change.{Change}
 use Rattle.walk_plan.specs.Changes.{part, changed_entry}
 use Rattle.walk_plan.specs.inner.Needs.{sum_to, met}
-use Rattle.walk_plan.specs.inner.Ranks.{slot_gone, gone_parts, table_gone}
+use Rattle.walk_plan.specs.inner.Ranks.{is_folded, slot_gone, gone_parts, table_gone}
 use Rattle.walk_plan.proofs.Numbers.{place_in, place_small}
 use Rattle.table_tree.specs.AllBlocks.{gathered}
 use Rattle.table_tree.proofs.Joined.{joined_none}
@@ -122,16 +124,22 @@ module _ {A : Type 0} (c : Change) (m n : Map) (ts : Block → Option ℕ) (made
       (λ r. made_inside c m n made (suc d) b i l r ∙ sym (changed_inside (suc d) (entry_at d t) c' i p l r))
       (λ r. made_outside c m n made (suc d) b i p (inr r) ∙ old ∙ sym (changed_outside (suc d) (entry_at d t) c' i p (inr r))))
 
-  empty_after : (d b : ℕ) (t : Table A) → Matches m ts d (suc d) b (entry_at d t) (table_in d t) → is_empty n (suc d, b) ≡ all_below (block_pages (suc d)) (λ i. is_unmapped (changed_entry (suc d) (entry_at d t) (part (suc d) b c) i))
-  unfolding is_empty
-  empty_after d b t h =
-      all_same 0 (block_pages (suc d)) (λ i. is_unmapped (n (b * block_pages (suc d) + i))) (λ i. is_unmapped (changed_entry (suc d) (entry_at d t) (part (suc d) b c) i)) (λ i l u. let p : i < block_pages (suc d) = omega arith in ap is_unmapped (entry_after d b i t h p))
+  folded_after : (d b : ℕ) (t : Table A) → Matches m ts d (suc d) b (entry_at d t) (table_in d t) → is_one_word n (suc d, b) ≡ is_folded (suc d) (entry_at d t) (part (suc d) b c)
+  unfolding is_one_word is_folded
+  folded_after d b t h =
+      let s = block_pages (suc d) in
+      let x = changed_entry (suc d) (entry_at d t) (part (suc d) b c) in
+      let some = size_some (suc d) in
+      let z : b * s + 0 ≡ b * s = omega arith in
+      let first : n (b * s) ≡ x 0 = ap n (sym z) ∙ entry_after d b 0 t h (omega (arith, some)) in
+      same2 (λ (p q : Bool). p && q) (ap (fits_word (suc d)) first)
+      (all_same 0 s (λ i. entry_eq (n (b * s + i)) (advance (n (b * s)) i)) (λ i. entry_eq (x i) (advance (x 0) i)) (λ i l u. let p : i < s = omega arith in same2 entry_eq (entry_after d b i t h p) (ap (λ e. advance e i) first)))
 
   gone_word : (d w : ℕ) (s : Slot A) (z : Change) (f : ℕ) → s ≡ Word w → slot_gone (suc d) s z f ≡ 0
   unfolding slot_gone
   gone_word d w s z f e = rw e (case_word _ _ w)
 
-  gone_child : (d : ℕ) (x : Box (Table A) A) (s : Slot A) (z : Change) (f : ℕ) → s ≡ Child x → slot_gone (suc d) s z f ≡ table_gone d x.value z f + cond (all_below (block_pages (suc d)) (λ i. is_unmapped (changed_entry (suc d) (entry_at d x.value) z i))) (is_one (frame_of x.value) f) 0
+  gone_child : (d : ℕ) (x : Box (Table A) A) (s : Slot A) (z : Change) (f : ℕ) → s ≡ Child x → slot_gone (suc d) s z f ≡ table_gone d x.value z f + cond (is_folded (suc d) (entry_at d x.value) z) (is_one (frame_of x.value) f) 0
   unfolding slot_gone gone_parts
   gone_child d x s z f e = rw e (case_child _ _ x)
 
@@ -145,13 +153,13 @@ module _ {A : Type 0} (c : Change) (m n : Map) (ts : Block → Option ℕ) (made
       (λ t.
       let has = child_here m ts d b s x e h in
       let inner = match_child m ts d b s x e h in
-      let test = is_empty n (suc d, b) in
+      let test = is_one_word n (suc d, b) in
       let freed' : is_freed ts n (suc d, b) ≡ test = ap (λ (o : Option ℕ). elim (is_some o) as (λ _. Bool) [ true ↦ test | false ↦ false ]) has in
       let all = frames_below c n ts f d b (gone_parts d x.value f) (λ i p. slot_frames f d (512 * b + i) (slot_at x.value i) (shaped_slot d x.value i (child_shaped d x s shape e) p) (match_slot m ts d b i x.value p inner)) in
       ap (frames c n ts f) (lost_met c n ts f d b test t freed')
       ∙ frames_head c n ts f d b (frame_of x.value) test has
       ∙ ap (λ k. k + cond test (is_one (frame_of x.value) f) 0) all
-      ∙ ap (λ k. table_gone d x.value (part (suc d) b c) f + cond k (is_one (frame_of x.value) f) 0) (empty_after d b x.value inner)
+      ∙ ap (λ k. table_gone d x.value (part (suc d) b c) f + cond k (is_one (frame_of x.value) f) 0) (folded_after d b x.value inner)
       ∙ sym (gone_child d x s (part (suc d) b c) f e)
       ∙ ap (λ k. cond k (slot_gone (suc d) s (part (suc d) b c) f) 0) (sym t))
       (frames_unmet c n ts f (suc d) b (slot_gone (suc d) s (part (suc d) b c) f)))

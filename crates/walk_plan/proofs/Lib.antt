@@ -16,6 +16,7 @@ pub mod InBlocks
 pub mod Ranked
 pub mod Changed
 pub mod Cleared
+pub mod Coarse
 pub mod Edited
 pub mod Gone
 pub mod Given

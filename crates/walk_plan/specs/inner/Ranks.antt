@@ -1,9 +1,10 @@
 -- Which of the tables that a change makes stands at a block, and which tables of a tree go.
-use Rattle.std.specs.Prelude.{ℕ, zero, suc, ◌+◌, ◌*◌, ◌==◌, nat_lt, Option, Some, None, if◌then◌else◌, List, slice_index_or}
+use Rattle.std.specs.Prelude.{ℕ, zero, suc, ◌+◌, ◌*◌, ◌==◌, ◌&&◌, Bool, nat_lt, Option, Some, None, if◌then◌else◌, List, slice_index_or}
 use Rattle.descriptor.specs.Word.{desc_of}
 use Rattle.page_state.specs.declared.entry.Entry.{Entry}
 use Rattle.page_state.specs.Entries.{advance, entry_of_word}
-use Rattle.page_state.specs.EntryTests.{is_unmapped}
+use Rattle.page_state.specs.EntryTests.{entry_eq}
+use Rattle.page_state.specs.Blocks.{fits_word}
 use Rattle.page_state.specs.Search.{all_below}
 use Rattle.page_state.specs.Geometries.{block_pages}
 use Rattle.page_state.specs.Counts.{is_one}
@@ -53,12 +54,16 @@ slot_rank (suc depth) s c low q = slot_case
 unfoldable pub table_rank : {A : Type 0} → ℕ → Table A → Change → ℕ → ℕ → Option ℕ
 table_rank depth t c low q = later (sum_to (met depth c (table_parts depth t)) (index_at depth q)) (met_at depth c (λ i d. slot_rank depth (slot_at t i) d low q) (index_at depth q))
 
--- how often a frame is that of a table at a slot or below it that goes: the block's map is empty afterwards
+-- whether a word can say what a change leaves of the entries `m` of a block
+unfoldable pub is_folded : ℕ → (ℕ → Entry) → Change → Bool
+is_folded depth m c = fits_word depth (changed_entry depth m c 0) && all_below (block_pages depth) (λ i. entry_eq (changed_entry depth m c i) (advance (changed_entry depth m c 0) i))
+
+-- how often a frame is that of a table at a slot or below it that goes: a word can say the block's map afterwards
 unfoldable pub slot_gone : {A : Type 0} → ℕ → Slot A → Change → ℕ → ℕ
 slot_gone zero s c f = 0
 slot_gone (suc depth) s c f = slot_case
     (λ _. 0)
-    (λ t. sum_to (met depth c (λ i d. slot_gone depth (slot_at t i) d f)) 512 + (if all_below (block_pages (suc depth)) (λ i. is_unmapped (changed_entry (suc depth) (entry_at depth t) c i)) then is_one (frame_of t) f else 0))
+    (λ t. sum_to (met depth c (λ i d. slot_gone depth (slot_at t i) d f)) 512 + (if is_folded (suc depth) (entry_at depth t) c then is_one (frame_of t) f else 0))
     s
 
 -- the same in slot `i` of a table
