@@ -11,7 +11,6 @@ use Rattle.page_state.specs.declared.layout.Region.{Region}
 use Rattle.page_state.specs.declared.row.Row.{Row}
 use Rattle.page_state.specs.declared.row.Usage.{Usage}
 use Rattle.page_state.specs.declared.row.Usage.TheVariants.{Plain, SharedPool, VmPool, InHand}
-use Rattle.page_state.specs.Blocks.{is_empty}
 use Rattle.page_state.specs.Counts.{frame_count}
 use Rattle.page_state.specs.EntryTests.{leaf, device_leaf, annotation}
 use Rattle.page_state.specs.Geometries.{block_pages, pages_below}
@@ -19,7 +18,8 @@ use Rattle.page_state.specs.Layouts.{Layout, is_memory, hyp_page}
 use Rattle.reference_model.specs.Owner.{count_blocks, is_frame, is_in_hand, lent_at}
 use Rattle.page_state.specs.Regions.{region_of, is_in_range}
 use Rattle.reference_model.specs.Sound.{SlotsAgree}
-use Rattle.page_state.specs.Trees.{Block, Tree}
+use Rattle.page_state.specs.Trees.{Tree}
+use Rattle.coarse_trees.specs.Coarsest.{IsCoarsest}
 use Rattle.reference_model.specs.State.{Shared, Guest, empty, vacant, Contents, no_guest, plain_row}
 
 -- the condition of a page: it is no memory frame, or the frame is the host's, shared by the host with the hypervisor, the hypervisor's in some use, shared by the host with a guest at a page, a guest's at a page, or lent back by a guest from a page
@@ -138,22 +138,11 @@ row_in f (guests v g) = record { owner = record { 0 = 2 + v }; lent = None; usag
 row_in f (lent_back v g) = record { owner = record { 0 = 2 + v }; lent = Some (lent_at 0 f); usage = Plain }
 row_in f other = plain_row
 
--- a block of a tree of the depth, its root's among them
-pub record IsInTree (depth : ℕ) (b : Block) : Type 0 where
-  pub some : 1 ≤ b.0
-  pub top : b.0 ≤ depth + 1
-  pub index : b.1 < block_pages (depth + 1 - b.0)
-
--- tables stand on blocks of the tree alone, and below the root only where something is mapped
-pub record IsTidy (depth : ℕ) (t : Tree) : Type 0 where
-  pub inside : (b : Block) (f : ℕ) → t.table b ≡ Some f → IsInTree depth b
-  pub full : (b : Block) (f : ℕ) → t.table b ≡ Some f → b.0 ≤ depth → is_empty t.map b ≡ false
-
--- all trees are so
-pub record AreTidy (l : Layout) (s : Contents) : Type 0 where
-  pub host : IsTidy l.depth s.shared.host
-  pub hyp : IsTidy l.depth s.shared.hyp
-  pub guest : (v : ℕ) → IsTidy l.depth (s.guest v).tree
+-- each tree is the coarsest tree of its map
+pub record AreCoarsest (l : Layout) (s : Contents) : Type 0 where
+  pub host : IsCoarsest l.depth s.shared.host
+  pub hyp : IsCoarsest l.depth s.shared.hyp
+  pub guest : (v : ℕ) → IsCoarsest l.depth (s.guest v).tree
 
 -- an Empty guest has nothing, and any other a root
 pub record GuestsFit (l : Layout) (s : Contents) : Type 0 where
@@ -183,7 +172,7 @@ pub record Legal (l : Layout) (s : Contents) : Type 0 where
   pub maps : MapsFit s condition
   pub held : HeldFit l s condition
   pub rows : RowsFit l s condition
-  pub trees : AreTidy l s
+  pub trees : AreCoarsest l s
   pub guest_parts : GuestsFit l s
   pub slots : SlotsFit s
 

@@ -136,7 +136,7 @@ install l x = record fine {
 abbrev pub topup : Layout → Used → VmId → Rule
 topup l x vm = record fine {
   invalid = nat_le 64 vm.slot;
-  no_vm = not (is_guest live vm x.guest);
+  no_vm = not (is_guest live vm x.guest || is_guest dying vm x.guest);
   perm = is_none x.cpu.hand || nat_lt 512 (guest_table_count l x.guest.tree + length x.guest.free + (hand_of x.cpu).count);
   changes = record no_changes { part = Gain (hand_of x.cpu); cpu = hand_becomes None; moved = x.cpu.hand };
 }

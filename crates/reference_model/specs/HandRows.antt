@@ -89,9 +89,9 @@ TopupMade =
 abbrev pub TopupEnough : Type 0
 TopupEnough = (foretell (small 1) (with_cpu 2 (record no_cpu { hand = Some (range 0x1200 508) }) scene) 2 (Topup (vm 3 5))).0 ≡ ok
 
--- it is refused: no such slot, though there is no hand either; another generation, a Dying guest, an Empty one; an empty hand; over 512 frames held
+-- it is refused: no such slot, though there is no hand either; another generation of a Live guest and of a Dying one, an Empty one; an empty hand; over 512 frames held
 abbrev pub TopupRefused : Type 0
 TopupRefused =
     Refuses (small 1) scene 2 (Topup (vm 64 5)) Invalid × Refuses (small 1) scene 2 (Topup (vm 3 4)) NoVm × Refuses (small 1) scene 3 (Topup (vm 3 6)) NoVm
-    × Refuses (small 1) scene 3 (Topup (vm 5 3)) NoVm × Refuses (small 1) scene 3 (Topup (vm 6 0)) NoVm × Refuses (small 1) scene 2 (Topup (vm 3 5)) Perm
+    × Refuses (small 1) scene 3 (Topup (vm 5 2)) NoVm × Refuses (small 1) scene 3 (Topup (vm 6 0)) NoVm × Refuses (small 1) scene 2 (Topup (vm 3 5)) Perm
     × Refuses (small 1) (with_cpu 2 (record no_cpu { hand = Some (range 0x1200 509) }) scene) 2 (Topup (vm 3 5)) Perm

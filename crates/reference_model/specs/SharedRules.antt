@@ -85,7 +85,7 @@ hand_becomes hand = record same_cpu { hand = Becomes hand }
 abbrev pub may_map : Map → Region → ℕ → ℕ → Bool
 may_map m r d page =
     let b = block_at d page in
-    is_memory_kind r.kind && nat_le r.pages.first.0 (first_page b) && nat_le (first_page b + span b) (end_of r.pages) && is_empty m b
+    nat_le r.pages.first.0 (first_page b) && nat_le (first_page b + span b) (end_of r.pages) && is_empty m b
 
 -- the leaf that host_abort maps from a page on
 abbrev pub abort_leaf : Region → ℕ → Entry

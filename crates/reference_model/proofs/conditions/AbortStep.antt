@@ -34,11 +34,11 @@ use Rattle.reference_model.specs.ConditionChanges.{told_condition}
 use Rattle.reference_model.specs.Conditions.{row_in, Condition, outside, hosts, HostFits, hyp_says, Legal, IsUsable, in_shared, in_hand, is_inside, IsGood}
 use Rattle.page_state.proofs.Blocks.{empty_means}
 use Rattle.page_state.proofs.Common.{both, if-true, if-false}
+use Rattle.coarse_trees.specs.Coarsest.{IsInRange}
 use Rattle.reference_model.proofs.conditions.Moves.{moved_to, outside-is, is_calm, host-moved, moved-out, moved-fact}
 use Rattle.reference_model.proofs.conditions.FrameMoves.{StepKept}
-use Rattle.reference_model.proofs.conditions.RangeMoves.{within-is, one-within, one-frame, advance-leaf, range-in, free-is, hands-stay}
+use Rattle.reference_model.proofs.conditions.RangeMoves.{within-is, within-made, one-within, one-frame, advance-leaf, range-in, free-is, hands-stay}
 use Rattle.reference_model.proofs.conditions.SharedMoves.{x_of, shared-keeps}
-use Rattle.reference_model.proofs.conditions.Tables.{IsInRange}
 use Rattle.reference_model.proofs.conditions.Tests.{Passed, passed}
 
 -- a rule that changes the host's map alone
@@ -98,31 +98,30 @@ module _ (l : Layout) (s : Contents) (legal : Legal l s) (usable : IsUsable l) (
       same-keeps (HostAbort page) refl (change first n (leaf RWX first Owned)) first n hosts refl refl (λ d. refl) tt (let e : first + n ≤ pages_below l.depth = omega arith in e) (λ q. refl)
       (λ q w. unmapped-hosts q (mem q w) (each q w).1) (host-moved s.shared.host.map first n (leaf RWX first Owned) hosts legal.condition (λ q w. inr (advance-leaf RWX first n q Owned w)) legal.maps.host) (λ q w. refl) (λ q w m. refl)
 
-  -- a page of a device region
-  device-keeps : (page : ℕ) (r : Region) → is_memory_kind r.kind ≡ false → region_of l.memory page ≡ Some r → IsKept (HostAbort page) (change page 1 (device_leaf page))
-  device-keeps page r kind at =
-      let less = usable.below page r at in
-      let not-memory : is_memory l page ≡ false = ap is_memory_region at ∙ kind in
-      let was : legal.condition page ≡ outside = outside-is (legal.condition page) (legal.of_layout.inside page ∙ not-memory) in
-      same-keeps (HostAbort page) refl (change page 1 (device_leaf page)) page 1 outside refl refl (λ d. refl) tt (let e : page + 1 ≤ pages_below l.depth = omega arith in e) (λ q. refl)
-      (one-frame page (λ q. legal.condition q ≡ outside) was) (host-moved s.shared.host.map page 1 (device_leaf page) outside legal.condition (λ q w. inr (device-advance page q w)) legal.maps.host) (λ q w. refl)
-      (λ q w m. let bad : true ≡ false = sym m ∙ one-frame page (λ q. is_memory l q ≡ false) not-memory q w in cc)
+  -- a block of unmapped pages of a device region
+  device-keeps : (page first n : ℕ) (r : Region) → 1 ≤ n → is_memory_kind r.kind ≡ false → ((q : ℕ) → is_within first n q ≡ true → (region_of l.memory q ≡ Some r) × (s.shared.host.map q ≡ Unmapped)) → IsKept (HostAbort page) (change first n (device_leaf first))
+  device-keeps page first n r some kind each =
+      let not-memory : (q : ℕ) → is_within first n q ≡ true → is_memory l q ≡ false = λ q w. ap is_memory_region (each q w).0 ∙ kind in
+      let last : first + n - 1 < pages_below l.depth = usable.below (first + n - 1) r (each (first + n - 1) (within-made first n (first + n - 1) (omega arith) (omega arith))).0 in
+      let was : (q : ℕ) → is_within first n q ≡ true → legal.condition q ≡ outside = λ q w. outside-is (legal.condition q) (legal.of_layout.inside q ∙ not-memory q w) in
+      same-keeps (HostAbort page) refl (change first n (device_leaf first)) first n outside refl refl (λ d. refl) tt (let e : first + n ≤ pages_below l.depth = omega arith in e) (λ q. refl)
+      was (host-moved s.shared.host.map first n (device_leaf first) outside legal.condition (λ q w. inr (device-advance first n q w)) legal.maps.host) (λ q w. refl)
+      (λ q w m. let bad : true ≡ false = sym m ∙ not-memory q w in cc)
     where
-      device-advance : (page q : ℕ) → is_within page 1 q ≡ true → advance (device_leaf page) (q - page) ≡ device_leaf q
-      device-advance page q w = let same = one-within page q w in let e : page + (q - page) ≡ q = omega arith in ap device_leaf e
+      device-advance : (first n q : ℕ) → is_within first n q ≡ true → advance (device_leaf first) (q - first) ≡ device_leaf q
+      device-advance first n q w = let at = within-is first n q w in let low : first ≤ q = at.0 in let e : first + (q - first) ≡ q = omega arith in ap device_leaf e
 
 -- the block of a depth, where it may be mapped
-may-map : (m : Map) (r : Region) (d page : ℕ) → may_map m r d page ≡ true → (is_memory_kind r.kind ≡ true) × ((q : ℕ) → is_within (first_page (block_at d page)) (span (block_at d page)) q ≡ true → (is_in_range r.pages q ≡ true) × (m q ≡ Unmapped))
+may-map : (m : Map) (r : Region) (d page : ℕ) → may_map m r d page ≡ true → ((q : ℕ) → is_within (first_page (block_at d page)) (span (block_at d page)) q ≡ true → (is_in_range r.pages q ≡ true) × (m q ≡ Unmapped))
 may-map m r d page h =
     let b = block_at d page in
-    let t = four (is_memory_kind r.kind) (nat_le r.pages.first.0 (first_page b)) (nat_le (first_page b + span b) (end_of r.pages)) (is_empty m b) h in
-    (t.0, λ q w. (in-region r.pages.first.0 r.pages.count (first_page b) (span b) q t.1 t.2 w, unmapped b t.3 q w))
+    let t = three (nat_le r.pages.first.0 (first_page b)) (nat_le (first_page b + span b) (end_of r.pages)) (is_empty m b) h in
+    λ q w. (in-region r.pages.first.0 r.pages.count (first_page b) (span b) q t.0 t.1 w, unmapped b t.2 q w)
   where
-    four : (a b c d : Bool) → (a && b && c && d) ≡ true → (a ≡ true) × (b ≡ true) × (c ≡ true) × (d ≡ true)
-    four true true true d h = (refl, refl, refl, h)
-    four true true false d h = cc
-    four true false c d h = cc
-    four false b c d h = cc
+    three : (a b c : Bool) → (a && b && c) ≡ true → (a ≡ true) × (b ≡ true) × (c ≡ true)
+    three true true c h = (refl, refl, h)
+    three true false c h = cc
+    three false b c h = cc
 
     in-region : (first count f n q : ℕ) → nat_le first f ≡ true → nat_le (f + n) (first + count) ≡ true → is_within f n q ≡ true → is_within first count q ≡ true
     in-region first count f n q a b w = grind (arith, nat_tests)
@@ -149,22 +148,25 @@ unmapped-is : (e : Entry) → is_unmapped e ≡ true → e ≡ Unmapped
 unmapped-is Unmapped h = refl
 unmapped-is e h = cc
 
--- what holds where nothing changes, of each block of unmapped pages of a memory region, and of a device page holds of what host_abort changes
+-- what holds where nothing changes, and of each block of unmapped pages of a region of memory or of a device, holds of what host_abort changes
 module _ (l : Layout) (usable : IsUsable l) (m : Map) (page : ℕ) (P : Option MapChange → Type 0) (still : P None)
     (block : (first n : ℕ) (r : Region) → 1 ≤ n → is_memory_kind r.kind ≡ true → ((q : ℕ) → is_within first n q ≡ true → (region_of l.memory q ≡ Some r) × (m q ≡ Unmapped)) → P (change first n (leaf RWX first Owned)))
-    (device : (r : Region) → is_memory_kind r.kind ≡ false → region_of l.memory page ≡ Some r → P (change page 1 (device_leaf page))) where
+    (device : (first n : ℕ) (r : Region) → 1 ≤ n → is_memory_kind r.kind ≡ false → ((q : ℕ) → is_within first n q ≡ true → (region_of l.memory q ≡ Some r) × (m q ≡ Unmapped)) → P (change first n (device_leaf first))) where
+  -- a block of the region, by its kind
+  any : (first n : ℕ) (r : Region) → 1 ≤ n → ((q : ℕ) → is_within first n q ≡ true → (region_of l.memory q ≡ Some r) × (m q ≡ Unmapped)) → P (change first n (abort_leaf r first))
+  any first n r some each = elim (both (is_memory_kind r.kind)) [
+    | inl h ↦ subst (λ e. P (change first n e)) (sym (abort-memory r first h)) (block first n r some h each)
+    | inr h ↦ subst (λ e. P (change first n e)) (sym (abort-device r first h)) (device first n r some h each)
+  ]
+
   -- a block of a depth at which it may be mapped, and the page alone
   deep : (r : Region) (d : ℕ) → region_of l.memory page ≡ Some r → may_map m r d page ≡ true → P (change (first_page (block_at d page)) (span (block_at d page)) (abort_leaf r (first_page (block_at d page))))
   deep r d at may =
       let t = may-map m r d page may in
-      subst (λ e. P (change (first_page (block_at d page)) (span (block_at d page)) e)) (sym (abort-memory r (first_page (block_at d page)) t.0))
-      (block (first_page (block_at d page)) (span (block_at d page)) r (size_some d) t.0 (λ q w. (usable.regions page q r at (t.1 q w).0, (t.1 q w).1)))
+      any (first_page (block_at d page)) (span (block_at d page)) r (size_some d) (λ q w. (usable.regions page q r at (t q w).0, (t q w).1))
 
   flat : (r : Region) → region_of l.memory page ≡ Some r → m page ≡ Unmapped → P (change (first_page (block_at 0 page)) (span (block_at 0 page)) (abort_leaf r (first_page (block_at 0 page))))
-  flat r at bare = subst (λ n. P (change n 1 (abort_leaf r n))) (sym (page-first page)) (elim (both (is_memory_kind r.kind)) [
-    | inl h ↦ subst (λ e. P (change page 1 e)) (sym (abort-memory r page h)) (block page 1 r (omega arith) h (λ q w. (ap (region_of l.memory) (sym (one-within page q w)) ∙ at, ap m (sym (one-within page q w)) ∙ bare)))
-    | inr h ↦ subst (λ e. P (change page 1 e)) (sym (abort-device r page h)) (device r h at)
-  ])
+  flat r at bare = subst (λ n. P (change n 1 (abort_leaf r n))) (sym (page-first page)) (any page 1 r (omega arith) (λ q w. (ap (region_of l.memory) (sym (one-within page q w)) ∙ at, ap m (sym (one-within page q w)) ∙ bare)))
 
   abbrev block_edit : Region → ℕ → Option MapChange
   block_edit r d = change (first_page (block_at d page)) (span (block_at d page)) (abort_leaf r (first_page (block_at d page)))

@@ -19,10 +19,12 @@ use Rattle.reference_model.specs.Parts.{guest}
 use Rattle.reference_model.specs.Used.{Used, used_of, put_back}
 use Rattle.reference_model.specs.Step.{refusal, changed, with_rows, guest_after}
 use Rattle.page_state.specs.Tables.{put, needs, freed, returned, edited}
-use Rattle.reference_model.specs.Conditions.{guest_condition, GuestFits, IsMemoryLeaf, Legal, IsUsable, in_vm, one, guest_uses, IsTidy, SlotsFit}
+use Rattle.reference_model.specs.Conditions.{guest_condition, GuestFits, IsMemoryLeaf, Legal, IsUsable, in_vm, one, guest_uses, SlotsFit}
 use Rattle.page_state.proofs.Common.{both, if-true, if-false}
+use Rattle.coarse_trees.specs.Coarsest.{IsCoarsest}
+use Rattle.coarse_trees.proofs.Stays.{edit_keeps_coarsest}
 use Rattle.reference_model.proofs.Steps.{state_of}
-use Rattle.reference_model.proofs.conditions.Conserved.{tree-conserved, edited-tidy, edited-root}
+use Rattle.reference_model.proofs.conditions.Conserved.{tree-conserved, edited-root}
 use Rattle.reference_model.proofs.conditions.Moves.{LegalAlone, same-agree, cpu-fact}
 use Rattle.reference_model.proofs.conditions.GuestMoves.{new_guest, new_cpu, guest-fact, slots-stay}
 use Rattle.reference_model.proofs.conditions.PageMoves.{advance-none}
@@ -35,11 +37,11 @@ use Rattle.reference_model.proofs.conditions.PoolSteps.{turned}
 -- a state of which one guest and a CPU changed, but no hand and no condition
 pub alone-legal : (l : Layout) (s : Contents) (legal : Legal l s) (cpu v : ℕ) (g : Guest) (k : Cpu)
     → ((p : ℕ) → GuestFits legal.condition v p (g.tree.map p)) → ((p f : ℕ) (state : State) → legal.condition f ≡ guest_condition state v p → IsMemoryLeaf f state (g.tree.map p))
-    → ((f : ℕ) → guest_uses l.depth g f ≡ one (in_vm v (legal.condition f))) → IsTidy l.depth g.tree → (g.phase ≡ empty → g ≡ no_guest) → (g.phase ≢ empty → (root : ℕ) × (g.tree.table (l.depth + 1, 0) ≡ Some root))
+    → ((f : ℕ) → guest_uses l.depth g f ≡ one (in_vm v (legal.condition f))) → IsCoarsest l.depth g.tree → (g.phase ≡ empty → g ≡ no_guest) → (g.phase ≢ empty → (root : ℕ) × (g.tree.table (l.depth + 1, 0) ≡ Some root))
     → k.hand ≡ (s.cpu cpu).hand → SlotsFit (state_of s.vms s.shared (put_at s.guest v g) (put_at s.cpu cpu k))
     → LegalAlone l s legal (record { vms = s.vms; shared = s.shared; guest = put_at s.guest v g; cpu = put_at s.cpu cpu k })
 unfolding state_of
-alone-legal l s legal cpu v g k fits has held tidy blank rooted same slots = (
+alone-legal l s legal cpu v g k fits has held coarse blank rooted same slots = (
   record {
     condition = legal.condition;
     of_layout = legal.of_layout;
@@ -56,7 +58,7 @@ alone-legal l s legal cpu v g k fits has held tidy blank rooted same slots = (
       hand = λ c f. ap (λ h. is_in_hand h f) (cpu-fact (λ (d : Cpu). d.hand) s.cpu cpu k c same) ∙ legal.held.hand c f;
     };
     rows = legal.rows;
-    trees = record { host = legal.trees.host; hyp = legal.trees.hyp; guest = guest-fact (λ u x. IsTidy l.depth x.tree) s.guest v g tidy (λ u d. legal.trees.guest u) };
+    trees = record { host = legal.trees.host; hyp = legal.trees.hyp; guest = guest-fact (λ u x. IsCoarsest l.depth x.tree) s.guest v g coarse (λ u d. legal.trees.guest u) };
     guest_parts = record {
       blank = guest-fact (λ u x. x.phase ≡ empty → x ≡ no_guest) s.guest v g blank (λ u d. legal.guest_parts.blank u);
       rooted = guest-fact (λ u x. x.phase ≢ empty → (root : ℕ) × (x.tree.table (l.depth + 1, 0) ≡ Some root)) s.guest v g rooted (λ u d. legal.guest_parts.rooted u);
@@ -108,7 +110,7 @@ module _ (l : Layout) (s : Contents) (legal : Legal l s) (usable : IsUsable l) (
       alone-legal l s legal cpu v (new_guest l s v r.changes) (new_cpu s cpu r.changes)
       (relaxed g rights) (relaxed-has g rights)
       (λ f. tree-conserved l.depth (put g 1 e) (s.guest v).tree (s.guest v).free f range p.guest_enough ∙ legal.held.vm v f)
-      (edited-tidy l.depth (put g 1 e) (s.guest v).tree (s.guest v).free range (legal.trees.guest v))
+      (edit_keeps_coarsest l.depth (s.guest v).tree (put g 1 e) (s.guest v).free range (legal.trees.guest v) p.guest_enough)
       (λ k. absurd (alive k))
       (λ k. let old = legal.guest_parts.rooted v k in (old.0, edited-root l.depth (put g 1 e) (s.guest v).tree (s.guest v).free range ∙ old.1))
       refl

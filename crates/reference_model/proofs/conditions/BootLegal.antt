@@ -26,14 +26,16 @@ use Rattle.reference_model.specs.RunLaws.{BootLegal, BootRowsTold}
 use Rattle.reference_model.proofs.Boot.{spare-frames, boot_sound}
 use Rattle.page_state.proofs.Common.{both, if-true, if-false}
 use Rattle.page_state.proofs.Counts.{count_next, count_parts, count_split}
+use Rattle.coarse_trees.specs.Coarsest.{IsInRange}
 use Rattle.reference_model.proofs.conditions.Stands.{row-stands}
 use Rattle.reference_model.proofs.conditions.OfLegal.{shared-of, guests-of}
-use Rattle.reference_model.proofs.conditions.Tables.{IsInRange, edited-uses, freed-below}
-use Rattle.reference_model.proofs.conditions.Conserved.{edited-tidy, length-drop}
+use Rattle.reference_model.proofs.conditions.Tables.{edited-uses, freed-below}
+use Rattle.coarse_trees.proofs.Stays.{root_is_coarsest, none_is_coarsest, edit_keeps_coarsest}
+use Rattle.reference_model.proofs.conditions.Conserved.{length-drop}
 use Rattle.reference_model.proofs.conditions.Moves.{pageless-named, is_calm, calm-pageless, calm-vm}
 use Rattle.reference_model.proofs.conditions.FrameMoves.{no-uses}
 use Rattle.reference_model.proofs.conditions.RangeMoves.{range-in, within-is}
-use Rattle.reference_model.proofs.conditions.PoolSteps.{count-frames, root-none, root-tidy}
+use Rattle.reference_model.proofs.conditions.PoolSteps.{count-frames, root-none}
 use Rattle.reference_model.proofs.conditions.HandSteps.{root-table-uses}
 
 -- the carve-out is the hypervisor's, for trees and pool, and the rest of memory the host's
@@ -190,6 +192,9 @@ module _ (l : Layout) (enough : IsCarveEnough l) (usable : IsUsable l) where
   unfolding s
   row-at f m = row-stands l (boot_without_rows l) f (boot_condition l f) (shared-of (boot_without_rows l) (boot_condition l) maps f l held) (guests-of (boot_without_rows l) (boot_condition l) maps f l held) (λ c. held.hand c f) (good f) (λ i. usable.pages f m)
 
+  spare-size : length (spare l) ≡ l.memory.carve.count - 2
+  spare-size = ap length (spare-frames l) ∙ length-frames (carve_first l + 2) (l.memory.carve.count - 2)
+
   legal : Legal l (booted l)
   unfolding s booted
   legal = record {
@@ -199,9 +204,9 @@ module _ (l : Layout) (enough : IsCarveEnough l) (usable : IsUsable l) where
     held = record { shared = held.shared; vm = held.vm; hand = held.hand };
     rows = λ f m. elim-true (is_memory l f) (row_of l (boot_without_rows l) f) m ∙ row-at f m;
     trees = record {
-      host = edited-tidy l.depth (host_edit l) (host_root l) (spare l) host_range (root-tidy l.depth (carve_first l));
-      hyp = edited-tidy l.depth (hyp_edit l) (hyp_root l) (drop (host_need l) (spare l)) hyp_range (root-tidy l.depth (carve_first l + 1));
-      guest = λ v. record { inside = λ b f h. cc; full = λ b f h. cc };
+      host = edit_keeps_coarsest l.depth (host_root l) (host_edit l) (spare l) host_range (root_is_coarsest l.depth (carve_first l)) (let size = spare-size in omega arith);
+      hyp = edit_keeps_coarsest l.depth (hyp_root l) (hyp_edit l) (drop (host_need l) (spare l)) hyp_range (root_is_coarsest l.depth (carve_first l + 1)) (let size = spare-size in let left = length-drop (host_need l) (spare l) in omega arith);
+      guest = λ v. none_is_coarsest l.depth;
     };
     guest_parts = record { blank = λ v h. refl; rooted = λ v h. absurd (h refl) };
     slots = record { agree = (boot_sound l enough).slots_agree; few_slots = λ v h. refl; few_vcpus = λ v i c h. cc; some_hand = λ c r h. cc };

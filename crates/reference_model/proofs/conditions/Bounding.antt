@@ -28,7 +28,7 @@ use Rattle.reference_model.proofs.Frames.{count_blocks-none}
 use Rattle.reference_model.proofs.conditions.Conserved.{length-drop}
 use Rattle.reference_model.proofs.conditions.PageSteps.{good-page}
 use Rattle.reference_model.proofs.conditions.PoolSteps.{root_block, root-inside, root-none, root-here}
-use Rattle.reference_model.proofs.conditions.Tables.{IsInRange, some_of, some-put, edited-some}
+use Rattle.reference_model.proofs.conditions.Tables.{some_of, some-put, edited-some}
 use Rattle.reference_model.specs.Conditions.{Legal, IsUsable, one}
 use Rattle.reference_model.specs.GuestRules.{ticket_vm, guest_table_count}
 use Rattle.page_state.specs.Layouts.{Layout, is_memory, is_good_range, is_good_page}
@@ -42,6 +42,7 @@ use Rattle.reference_model.specs.Step.{guest_need, guest_after, fails, made, cha
 use Rattle.reference_model.specs.Used.{Used, used_of, put_back, guest_at, put_guest}
 use Rattle.reference_model.specs.VmRules.{vacant_slot, stand_eq}
 use Rattle.page_state.proofs.Common.{both, or-neither, and-both, not-false, if-true, if-false}
+use Rattle.coarse_trees.specs.Coarsest.{IsInRange}
 use Rattle.reference_model.proofs.RoomLaws.{stored_falls}
 use Rattle.reference_model.proofs.Steps.{refusal_keeps, log_full_keeps, answered-room}
 use Rattle.reference_model.proofs.conditions.BootLegal.{boot_legal}

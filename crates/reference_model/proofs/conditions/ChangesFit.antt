@@ -1,5 +1,5 @@
 -- What a step decides to change in a legal state can be written, and touches memory frames alone or none.
-use Rattle.std.proofs.Common.{◌≡◌, ℕ, ◌+◌, ◌^◌, ◌≤◌, ◌<◌, refl, ap, sym, ◌∙◌, subst, arith}
+use Rattle.std.proofs.Common.{◌≡◌, ℕ, ◌+◌, ◌-◌, ◌^◌, ◌≤◌, ◌<◌, refl, ap, sym, ◌∙◌, subst, arith}
 use Rattle.std.specs.Prelude.{Bool, true, false, not, nat_le, is_none, unwrap_or, Option, Some, None, Ok, if◌then◌else◌}
 use Rattle.descriptor.specs.declared.Prot.{Prot}
 use Rattle.descriptor.specs.declared.Prot.TheVariants.{RWX}
@@ -191,10 +191,11 @@ module _ (l : Layout) (s : Contents) (legal : Legal l s) (usable : IsUsable l) (
           let low = range-in l usable first n some all in
           host-writes l usable few cpu slot first n (leaf RWX first Owned) None None some (omega arith) (let said : first + n ≤ 2 ^ 36 = omega arith in said) tt tt tt (λ q w. all q w ∙ sym (all first (within-made first n first (omega arith) (omega arith))))
 
-      device : (r : Region) → is_memory_kind r.kind ≡ false → region_of l.memory page ≡ Some r → Writes l cpu slot (record no_changes { host = change page 1 (device_leaf page) })
-      device r kind at =
-          let low = usable.below page r at in
-          host-writes l usable few cpu slot page 1 (device_leaf page) None None (omega arith) (omega arith) (let said : page + 1 ≤ 2 ^ 36 = omega arith in said) tt tt tt (λ q w. ap (is_memory l) (sym (one-within page q w)))
+      device : (first n : ℕ) (r : Region) → 1 ≤ n → is_memory_kind r.kind ≡ false → ((q : ℕ) → is_within first n q ≡ true → (region_of l.memory q ≡ Some r) × (s.shared.host.map q ≡ Unmapped)) → Writes l cpu slot (record no_changes { host = change first n (device_leaf first) })
+      device first n r some kind each =
+          let none : (q : ℕ) → is_within first n q ≡ true → is_memory l q ≡ false = λ q w. ap is_memory_region (each q w).0 ∙ kind in
+          let low = usable.below (first + n - 1) r (each (first + n - 1) (within-made first n (first + n - 1) (omega arith) (omega arith))).0 in
+          host-writes l usable few cpu slot first n (device_leaf first) None None some (omega arith) (let said : first + n ≤ 2 ^ 36 = omega arith in said) tt tt tt (λ q w. none q w ∙ sym (none first (within-made first n first (omega arith) (omega arith))))
 
   pass : (slot : Option ℕ) (step : Step) → first_test (r_at slot step) (lacks_slot (names step) slot) ≡ None → Tested (r_at slot step) (lacks_slot (names step) slot)
   pass slot step h = tested (r_at slot step) (lacks_slot (names step) slot) h

@@ -1,4 +1,4 @@
--- A change keeps each frame's count over the trees and the pool of a part, and keeps trees tidy.
+-- A change keeps each frame's count over the trees and the pool of a part.
 use Rattle.std.proofs.Common.{◌≡◌, ℕ, zero, suc, ◌+◌, ◌-◌, ◌≤◌, ◌<◌, refl, ap, sym, ◌∙◌, subst, arith, inl, inr, List, [], ◌∷◌, ◌++◌, length, take, drop}
 use Rattle.std.specs.Prelude.{true, false, nat_lt, ◌⊎◌, Option, Some, None, Contains}
 use Rattle.std.proofs.lemmas.List.Sums.{sum_by-append}
@@ -12,8 +12,7 @@ use Rattle.page_state.specs.Tables.{Edit, keep, put, edited_map, edit_blocks, ne
 use Rattle.reference_model.specs.declared.changes.Changes.{Changes}
 use Rattle.reference_model.specs.Changes.{edit_of}
 use Rattle.reference_model.specs.Step.{shared_after, shared_need}
-use Rattle.reference_model.specs.Conditions.{table_uses, shared_uses, IsInTree, IsTidy}
-use Rattle.page_state.proofs.BlockLists.{blocks_meet}
+use Rattle.reference_model.specs.Conditions.{table_uses, shared_uses}
 use Rattle.page_state.proofs.Blocks.{empty_means, one_word_means}
 use Rattle.page_state.proofs.Common.{both, if-true, if-false}
 use Rattle.page_state.proofs.Counts.{count_next, count_parts, count_split}
@@ -25,7 +24,8 @@ use Rattle.page_state.specs.Entries.{advance}
 use Rattle.page_state.proofs.Cases.{by_lt}
 use Rattle.page_state.proofs.Sizes.{size_some}
 use Rattle.page_state.proofs.Updates.{update_outside}
-use Rattle.reference_model.proofs.conditions.Tables.{IsInRange, AreOnce, edited-uses, block-self, needs-once, need-all, freed-has, freed-below, needs-below, root-absent, cleared-absent, placed-absent}
+use Rattle.coarse_trees.specs.Coarsest.{IsCoarsest, IsInRange, IsInTree}
+use Rattle.reference_model.proofs.conditions.Tables.{AreOnce, edited-uses, block-self, needs-once, need-all, freed-has, freed-below, needs-below, root-absent, cleared-absent, placed-absent}
 
 pub given-count : (f g : ℕ) (p : Pool) → frame_count f (given g p) ≡ is_one g f + frame_count f p
 given-count f g [] = count_next f g []
@@ -89,8 +89,7 @@ tree-conserved depth e t free f range less =
     sum : (free' tree' r left took free tree : ℕ) → tree' + r ≡ tree + took → free' ≡ r + left → took + left ≡ free → free' + tree' ≡ free + tree
     sum free' tree' r left took free tree a c p = omega arith
 
--- tidy trees
-
+-- where nothing is mapped a word can say it
 pub empty-one_word : (m : Map) (b : Block) → is_empty m b ≡ true → is_one_word m b ≡ true
 empty-one_word m b h =
     let each : (i : ℕ) → i < span b → m (first_page b + i) ≡ Unmapped = (empty_means m b).0 h in
@@ -100,76 +99,6 @@ empty-one_word m b h =
   where
     plus-none : (n : ℕ) → n ≡ n + 0
     plus-none n = omega arith
-
-placed-inside : (depth : ℕ) (bs : List Block) (fs : List ℕ) (old : Block → Option ℕ) (b : Block) (f : ℕ) → AreOnce depth bs → placed bs fs old b ≡ Some f → (old b ≡ Some f) ⊎ IsInTree depth b
-placed-inside depth [] fs old b f once h = inl h
-placed-inside depth (a ∷ bs) [] old b f once h = inl h
-placed-inside depth (a ∷ bs) (g ∷ fs) old b f once h = elim (both (block_eq a b)) [
-  | inl e ↦ inr (subst (IsInTree depth) (block_eq-same a b e) once.0)
-  | inr e ↦ placed-inside depth bs fs old b f once.2 (sym (if-false (block_eq a b) (Some g) (placed bs fs old b) e) ∙ h)
-]
-
-placed-needed : (P : Block → Type 0) (bs : List Block) (fs : List ℕ) (old : Block → Option ℕ) (b : Block) (f : ℕ) → All P bs → old b ≡ None → placed bs fs old b ≡ Some f → P b
-placed-needed P [] fs old b f all none h = let bad : None ≡ Some f = sym none ∙ h in cc
-placed-needed P (a ∷ bs) [] old b f all none h = let bad : None ≡ Some f = sym none ∙ h in cc
-placed-needed P (a ∷ bs) (g ∷ fs) old b f all none h = elim (both (block_eq a b)) [
-  | inl e ↦ subst P (block_eq-same a b e) (all 0 a (omega arith))
-  | inr e ↦ placed-needed P bs fs old b f (λ k d less. all (suc k) d (omega arith)) none (sym (if-false (block_eq a b) (Some g) (placed bs fs old b) e) ∙ h)
-]
-
-cleared-in : (bs : List Block) (old : Block → Option ℕ) (b : Block) → Contains bs b → cleared bs old b ≡ None
-cleared-in [] old b h = let less = h.1 in absurd (omega arith)
-cleared-in (a ∷ bs) old b h = elim (both (block_eq a b)) [
-  | inl e ↦ if-true (block_eq a b) None (cleared bs old b) e
-  | inr e ↦ if-false (block_eq a b) None (cleared bs old b) e ∙ cleared-in bs old b (Contains-tail a bs b (λ same. let t : block_eq a b ≡ true = ap (block_eq a) (sym same) ∙ block-self a in let bad : true ≡ false = sym t ∙ e in cc) h)
-]
-
--- a block on which a change leaves nothing, and had something, is one of the change's
-met-block : (depth : ℕ) (e : Edit) (m : Map) (b : Block) → 1 ≤ b.0 → b.0 ≤ depth → is_empty (edited_map m e) b ≡ true → is_empty m b ≡ false → Contains (edit_blocks depth e) b
-met-block depth keep m b low high now before = let bad : true ≡ false = sym now ∙ before in cc
-met-block depth (put first count entry) m b low high now before = by_lt 0 count
-    (λ some. by_lt (first_page b) (first + count)
-    (λ below. by_lt first (first_page b + span b)
-    (λ above. (blocks_meet depth first count b some).1 (low, high, below, above))
-    (λ past. stays (λ i less. inl (let le : first_page b + i < first = omega arith in le))))
-    (λ past. stays (λ i less. inr (let le : first + count ≤ first_page b + i = omega arith in le))))
-    (λ none. stays (λ i less. outside-none (first_page b + i) none))
-  where
-    each : (i : ℕ) → i < span b → edited_map m (put first count entry) (first_page b + i) ≡ Unmapped
-    each = (empty_means (edited_map m (put first count entry)) b).0 now
-
-    outside-none : (p : ℕ) → count ≤ 0 → (p < first) ⊎ (first + count ≤ p)
-    outside-none p none = by_lt p first (λ less. inl less) (λ more. inr (omega arith))
-
-    stays : ((i : ℕ) → i < span b → (first_page b + i < first) ⊎ (first + count ≤ first_page b + i)) → Contains (edit_blocks depth (put first count entry)) b
-    stays out =
-        let bad : is_empty m b ≡ true = (empty_means m b).1 (λ i less. sym (update_outside m first count entry (first_page b + i) (out i less)) ∙ each i less) in
-        let no_way : true ≡ false = sym bad ∙ before in
-        cc
-
-by_option : {P : Type 0} (o : Option ℕ) → ((f : ℕ) → o ≡ Some f → P) → (o ≡ None → P) → P
-by_option None f g = g refl
-by_option (Some x) f g = f x refl
-
-pub edited-tidy : (depth : ℕ) (e : Edit) (t : Tree) (fs : List ℕ) → IsInRange depth e → IsTidy depth t → IsTidy depth (edited depth t e fs)
-unfolding edited
-edited-tidy depth e t fs range tidy = record { inside = inside; full = full }
-  where
-    inside : (b : Block) (f : ℕ) → cleared (freed depth t e) (placed (needs depth t e) fs t.table) b ≡ Some f → IsInTree depth b
-    inside b f h = elim (placed-inside depth (needs depth t e) fs t.table b f (needs-once depth t e range) (cleared-old (freed depth t e) (placed (needs depth t e) fs t.table) b f h)) [ inl old ↦ tidy.inside b f old | inr new ↦ new ]
-
-    full : (b : Block) (f : ℕ) → cleared (freed depth t e) (placed (needs depth t e) fs t.table) b ≡ Some f → b.0 ≤ depth → is_empty (edited_map t.map e) b ≡ false
-    full b f h low = elim (both (is_empty (edited_map t.map e) b)) [
-      | inr some ↦ some
-      | inl now ↦ by_option (t.table b)
-          (λ g old.
-          let bad : None ≡ Some f = sym (cleared-in (freed depth t e) (placed (needs depth t e) fs t.table) b (freed-has depth t e b g old now (met-block depth e t.map b (tidy.inside b g old).some low now (tidy.full b g old low)))) ∙ h in
-          cc)
-          (λ none.
-          let word = placed-needed (λ a. (t.table a ≡ None) × (is_one_word (edited_map t.map e) a ≡ false)) (needs depth t e) fs t.table b f (need-all depth t e) none (cleared-old (freed depth t e) (placed (needs depth t e) fs t.table) b f h) in
-          let bad : true ≡ false = sym (empty-one_word (edited_map t.map e) b now) ∙ word.1 in
-          cc)
-    ]
 
 -- the root's table stays
 pub edited-root : (depth : ℕ) (e : Edit) (t : Tree) (fs : List ℕ) → IsInRange depth e → (edited depth t e fs).table (depth + 1, 0) ≡ t.table (depth + 1, 0)

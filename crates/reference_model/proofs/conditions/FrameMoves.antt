@@ -13,7 +13,7 @@ use Rattle.page_state.specs.Trees.{no_tree}
 use Rattle.reference_model.specs.declared.changes.Changes.{Changes}
 use Rattle.reference_model.specs.Changes.{edit_of, cpu_by, touched}
 use Rattle.reference_model.specs.ConditionChanges.{conditions_after, told_condition}
-use Rattle.reference_model.specs.Conditions.{Condition, HostFits, hyp_says, MapsFit, HeldFit, IsOfLayout, Legal, row_in, in_shared, in_hand, one, shared_uses, table_uses, IsTidy, is_inside, IsGood}
+use Rattle.reference_model.specs.Conditions.{Condition, HostFits, hyp_says, MapsFit, HeldFit, IsOfLayout, Legal, row_in, in_shared, in_hand, one, shared_uses, table_uses, is_inside, IsGood}
 use Rattle.reference_model.specs.Owner.{is_in_hand, is_frame}
 use Rattle.reference_model.specs.Parts.{Names}
 use Rattle.reference_model.specs.RowChanges.{told_row, first_of}
@@ -21,12 +21,13 @@ use Rattle.reference_model.specs.State.{Cpu, Contents, put_at, no_cpu}
 use Rattle.reference_model.specs.Step.{is_touched, changed, with_rows, own_row, shared_after, shared_need}
 use Rattle.reference_model.specs.Used.{used_of, put_back}
 use Rattle.page_state.proofs.Common.{both, eq-self, if-true, if-false}
+use Rattle.coarse_trees.specs.Coarsest.{IsCoarsest, IsInRange}
+use Rattle.coarse_trees.proofs.Stays.{edit_keeps_coarsest}
 use Rattle.reference_model.proofs.Frames.{count_blocks-none}
-use Rattle.reference_model.proofs.conditions.Conserved.{shared-conserved, edited-tidy}
+use Rattle.reference_model.proofs.conditions.Conserved.{shared-conserved, length-drop}
 use Rattle.reference_model.proofs.conditions.Moves.{moved_to, moved-in, moved-out, moved-told, moved-fact, moved-all, rows-moved}
 use Rattle.reference_model.proofs.conditions.OfLegal.{shared-of}
 use Rattle.reference_model.proofs.conditions.Stands.{SharedStands, HandsStand}
-use Rattle.reference_model.proofs.conditions.Tables.{IsInRange}
 
 -- the first frame of a range that has one lies in it
 first-touched : (o : Option PageRange) (f : ℕ) → is_in_hand o f ≡ true → is_in_hand o (first_of o) ≡ true
@@ -85,13 +86,13 @@ module _ {l : Layout} {s : Contents} (legal : Legal l s) {cpu : ℕ} {slot : Opt
   pub held-after : shared_need l.depth r s.shared ≤ length s.shared.free → (f : ℕ) → shared_uses l.depth (shared_after l.depth r s.shared) f ≡ one (in_shared (after f))
   held-after enough f = shared-conserved l.depth r s.shared f m.host_range m.hyp_range enough ∙ legal.held.shared f ∙ ap one (moved-fact in_shared c first n legal.condition f (m.same_use f))
 
-  pub host-tidy : IsTidy l.depth (shared_after l.depth r s.shared).host
+  pub host-coarsest : shared_need l.depth r s.shared ≤ length s.shared.free → IsCoarsest l.depth (shared_after l.depth r s.shared).host
   unfolding shared_after
-  host-tidy = edited-tidy l.depth (edit_of r.host) s.shared.host s.shared.free m.host_range legal.trees.host
+  host-coarsest enough = edit_keeps_coarsest l.depth s.shared.host (edit_of r.host) s.shared.free m.host_range legal.trees.host (omega arith)
 
-  pub hyp-tidy : IsTidy l.depth (shared_after l.depth r s.shared).hyp
+  pub hyp-coarsest : shared_need l.depth r s.shared ≤ length s.shared.free → IsCoarsest l.depth (shared_after l.depth r s.shared).hyp
   unfolding shared_after
-  hyp-tidy = edited-tidy l.depth (edit_of r.hyp) s.shared.hyp (drop (need l.depth s.shared.host (edit_of r.host)) s.shared.free) m.hyp_range legal.trees.hyp
+  hyp-coarsest enough = edit_keeps_coarsest l.depth s.shared.hyp (edit_of r.hyp) (drop (need l.depth s.shared.host (edit_of r.host)) s.shared.free) m.hyp_range legal.trees.hyp (let left = length-drop (need l.depth s.shared.host (edit_of r.host)) s.shared.free in omega arith)
 
   -- the rows of the memory frames, where those that are found again are of the new condition
   pub rows-after : (own : ℕ → Row) → ((f : ℕ) → is_memory l f ≡ true → is_within first n f ≡ true → own f ≡ row_in f c) → (f : ℕ) → is_memory l f ≡ true → elim (is_memory l f && is_touched r f) [ true ↦ own f | false ↦ s.shared.row f ] ≡ row_in f (after f)

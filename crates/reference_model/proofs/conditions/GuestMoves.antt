@@ -18,14 +18,15 @@ use Rattle.reference_model.specs.declared.changes.Changes.{Changes}
 use Rattle.reference_model.specs.Changes.{cpu_by}
 use Rattle.reference_model.specs.Step.{changed, with_rows, own_row, shared_after, shared_need, guest_after}
 use Rattle.page_state.specs.Tables.{edited}
-use Rattle.reference_model.specs.Conditions.{Condition, outside, hosts, with_hyp, hyps, with_guest, guests, lent_back, guest_condition, GuestFits, IsMemoryLeaf, MapsFit, HeldFit, Legal, IsUsable, row_in, in_vm, one, guest_uses, IsTidy, AreTidy, GuestsFit, SlotsFit, RowsFit}
+use Rattle.reference_model.specs.Conditions.{Condition, outside, hosts, with_hyp, hyps, with_guest, guests, lent_back, guest_condition, GuestFits, IsMemoryLeaf, MapsFit, HeldFit, Legal, IsUsable, row_in, in_vm, one, guest_uses, AreCoarsest, GuestsFit, SlotsFit, RowsFit}
 use Rattle.page_state.proofs.Common.{both, eq-same, eq-self, if-true, if-false}
+use Rattle.coarse_trees.specs.Coarsest.{IsCoarsest}
 use Rattle.reference_model.proofs.Steps.{state_of}
 use Rattle.reference_model.proofs.conditions.Slots.{put-fact}
 use Rattle.reference_model.proofs.conditions.Stands.{GuestsStand, row-stands}
 use Rattle.reference_model.proofs.conditions.OfLegal.{guests-of}
 use Rattle.reference_model.proofs.conditions.Moves.{moved_to, moved-in, moved-out, moved-fact, SameSlots, same-agree, cpu-fact}
-use Rattle.reference_model.proofs.conditions.FrameMoves.{StepKept, FramesMove, no-uses, layout-after, held-after, host-tidy, hyp-tidy, rows-after, shared-stands, hand-stands, kept-after}
+use Rattle.reference_model.proofs.conditions.FrameMoves.{StepKept, FramesMove, no-uses, layout-after, held-after, host-coarsest, hyp-coarsest, rows-after, shared-stands, hand-stands, kept-after}
 
 -- a condition that names no guest but this one
 abbrev pub only : ℕ → Condition → Bool
@@ -72,7 +73,7 @@ pub record GuestMove (l : Layout) (s : Contents) (condition : ℕ → Condition)
   pub guest : (p : ℕ) → GuestFits (moved_to c first n condition) v p ((new_guest l s v r).tree.map p)
   pub guest_has : (p f : ℕ) (state : State) → moved_to c first n condition f ≡ guest_condition state v p → IsMemoryLeaf f state ((new_guest l s v r).tree.map p)
   pub held : (f : ℕ) → guest_uses l.depth (new_guest l s v r) f ≡ one (in_vm v (moved_to c first n condition f))
-  pub tidy : IsTidy l.depth (new_guest l s v r).tree
+  pub coarse : IsCoarsest l.depth (new_guest l s v r).tree
   pub blank : (new_guest l s v r).phase ≡ empty → new_guest l s v r ≡ no_guest
   pub rooted : (new_guest l s v r).phase ≢ empty → (root : ℕ) × ((new_guest l s v r).tree.table (l.depth + 1, 0) ≡ Some root)
   pub slots : SlotsFit (state_of s.vms s.shared (put_at s.guest v (new_guest l s v r)) (put_at s.cpu cpu (new_cpu s cpu r)))
@@ -204,9 +205,9 @@ module _ (l : Layout) (s : Contents) (legal : Legal l s) (usable : IsUsable l) (
       let same : SameSlots (state_of s.vms s.shared (put_at s.guest v (new_guest l s v r)) (put_at s.cpu cpu (new_cpu s cpu r))) t = record { slot = λ u. refl; phase = λ u. refl; generation = λ u. refl; kind = λ u. refl; loaded = λ d. refl; ticket = λ d. refl } in
       record { agree = same-agree _ t same m.slots.agree; few_slots = m.slots.few_slots; few_vcpus = m.slots.few_vcpus; some_hand = m.slots.some_hand }
 
-  trees : AreTidy l t
+  trees : AreCoarsest l t
   unfolding t y put_back with_rows changed used_of
-  trees = record { host = host-tidy legal m.frames; hyp = hyp-tidy legal m.frames; guest = guest-fact (λ u g. IsTidy l.depth g.tree) s.guest v (new_guest l s v r) m.tidy (λ u d. legal.trees.guest u) }
+  trees = record { host = host-coarsest legal m.frames enough; hyp = hyp-coarsest legal m.frames enough; guest = guest-fact (λ u g. IsCoarsest l.depth g.tree) s.guest v (new_guest l s v r) m.coarse (λ u d. legal.trees.guest u) }
 
   parts : GuestsFit l t
   unfolding t y put_back with_rows changed used_of

@@ -29,16 +29,17 @@ use Rattle.page_state.specs.Tables.{all_given, needs, freed, returned, edited}
 use Rattle.reference_model.specs.Conditions.{Condition, hyps, HostFits, hyp_says, guest_condition, Legal, IsUsable, in_shared, in_vm, one, table_uses, guest_uses}
 use Rattle.page_state.proofs.Common.{both, eq-self, or-neither, not-false}
 use Rattle.page_state.proofs.Counts.{count_next}
+use Rattle.coarse_trees.proofs.Stays.{root_is_coarsest}
 use Rattle.reference_model.proofs.conditions.Conserved.{all_given-count}
 use Rattle.reference_model.proofs.conditions.Tables.{uses_of}
 use Rattle.reference_model.proofs.conditions.Moves.{moved_to, is_pageless, guest-kept, has-kept, moved-in, moved-out, moved-fact}
 use Rattle.reference_model.proofs.conditions.FrameMoves.{StepKept, FramesMove, no-uses}
 use Rattle.reference_model.proofs.conditions.GuestMoves.{only, g_of, new_guest, new_cpu, GuestMove, guest-keeps, slots-stay}
-use Rattle.reference_model.proofs.conditions.PageSteps.{live-alive}
+use Rattle.reference_model.proofs.conditions.PageSteps.{stands-alive}
 use Rattle.reference_model.proofs.conditions.RangeMoves.{hand-range, hand-some, hand-was, memory-of, hands-emptied}
 use Rattle.reference_model.proofs.conditions.Tests.{Passed, passed}
 use Rattle.reference_model.proofs.conditions.Slots.{ticket-told, ticket-fits, slots-turn}
-use Rattle.reference_model.proofs.conditions.PoolSteps.{count-frames, root-uses, root-none, root-here, root-tidy, turned}
+use Rattle.reference_model.proofs.conditions.PoolSteps.{count-frames, root-uses, root-none, root-here, turned}
 
 pub root-table-uses : (depth root f : ℕ) → table_uses depth (root_tree depth root) f ≡ is_one root f
 unfolding table_uses uses_of
@@ -113,7 +114,7 @@ module _ (l : Layout) (s : Contents) (legal : Legal l s) (usable : IsUsable l) (
   unfolding used_of guest_after edited freed needs returned
   topup-move vm p =
       let some : is_none (s.cpu cpu).hand ≡ false = (or-neither (is_none (s.cpu cpu).hand) (nat_lt 512 (guest_table_count l (s.guest v).tree + length (s.guest v).free + hand.count)) p.perm).0 in
-      let alive = live-alive vm (s.guest v) (not-false (is_guest live vm (s.guest v)) p.no_vm) in
+      let alive = stands-alive vm (s.guest v) p.no_vm in
       record {
         frames = hand-frames some (Gain hand) (hand_becomes None) refl;
         only_new = eq-self v;
@@ -121,7 +122,7 @@ module _ (l : Layout) (s : Contents) (legal : Legal l s) (usable : IsUsable l) (
         guest = λ q. guest-kept (hyps (VmPool v)) hand.first.0 hand.count legal.condition (λ f w. ap is_pageless (was some f w)) v q ((s.guest v).tree.map q) (legal.maps.guest v q);
         guest_has = λ q w state h. legal.maps.guest_has v q w state (has-same some q w state h);
         held = λ q. filled q some;
-        tidy = legal.trees.guest v;
+        coarse = legal.trees.guest v;
         blank = λ k. absurd (alive k);
         rooted = legal.guest_parts.rooted v;
         slots = slots-stay legal cpu v (new_guest l s v (topup l x vm).changes) (new_cpu s cpu (topup l x vm).changes) refl refl refl refl refl (λ h e. cc);
@@ -156,7 +157,7 @@ module _ (l : Layout) (s : Contents) (legal : Legal l s) (usable : IsUsable l) (
         guest = λ q. inl refl;
         guest_has = λ q w state h. absurd (unnamed q w state blank (has-same some q w state h));
         held = λ q. rooted q some blank;
-        tidy = root-tidy l.depth hand.first.0;
+        coarse = root_is_coarsest l.depth hand.first.0;
         blank = λ k. cc;
         rooted = λ k. (hand.first.0, root-here l.depth hand.first.0);
         slots = slots-turn s legal.slots cpu v t (new_guest l s v (install l x).changes) (new_cpu s cpu (install l x).changes) installed has at-slot (here.0, refl) (λ k. (generation, kind)) refl (turned (s.cpu cpu).ticket t installed has) (λ h e. cc);

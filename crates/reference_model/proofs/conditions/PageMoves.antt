@@ -20,9 +20,10 @@ use Rattle.reference_model.specs.ConditionChanges.{told_condition}
 use Rattle.reference_model.specs.RowChanges.{told_row}
 use Rattle.reference_model.specs.Conditions.{row_in, Condition, HostFits, hyp_says, guest_condition, GuestFits, IsMemoryLeaf, Legal, IsUsable, in_shared, in_vm, in_hand, one, is_inside, IsGood}
 use Rattle.page_state.proofs.Common.{both, if-true, if-false}
+use Rattle.coarse_trees.proofs.Stays.{edit_keeps_coarsest}
 use Rattle.reference_model.proofs.conditions.Moves.{moved_to, host-moved, moved-in, moved-out, moved-fact}
 use Rattle.reference_model.proofs.conditions.GuestMoves.{only, new_guest, new_cpu, GuestMove, slots-stay}
-use Rattle.reference_model.proofs.conditions.Conserved.{tree-conserved, edited-tidy, edited-root}
+use Rattle.reference_model.proofs.conditions.Conserved.{tree-conserved, edited-root}
 use Rattle.reference_model.proofs.conditions.RangeMoves.{within-made, one-within, one-frame, range-in, hands-stay}
 
 -- where the frame and the page stand before, and how after
@@ -150,7 +151,7 @@ module _ (l : Layout) (s : Contents) (legal : Legal l s) (usable : IsUsable l) (
         guest = guest;
         guest_has = guest_has;
         held = λ q. tree-conserved l.depth (put g 1 e') (s.guest v).tree (s.guest v).free q range enough ∙ legal.held.vm v q ∙ ap one (see (in_vm v) q m.same_vm);
-        tidy = edited-tidy l.depth (put g 1 e') (s.guest v).tree (s.guest v).free range (legal.trees.guest v);
+        coarse = edit_keeps_coarsest l.depth (s.guest v).tree (put g 1 e') (s.guest v).free range (legal.trees.guest v) enough;
         blank = λ k. absurd (m.alive k);
         rooted = λ k. let old = legal.guest_parts.rooted v k in (old.0, edited-root l.depth (put g 1 e') (s.guest v).tree (s.guest v).free range ∙ old.1);
         slots = slots-stay legal cpu v (new_guest l s v r) (new_cpu s cpu r) refl refl refl refl refl (legal.slots.some_hand cpu);

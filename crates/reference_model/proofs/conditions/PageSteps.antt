@@ -7,6 +7,7 @@ use Rattle.descriptor.specs.declared.Prot.TheVariants.{RWX}
 use Rattle.descriptor.specs.declared.State.{State}
 use Rattle.descriptor.specs.declared.State.TheVariants.{Owned, SharedOwned, SharedBorrowed}
 use Rattle.page_state.specs.declared.entry.Entry.{Entry}
+use Rattle.page_state.proofs.Cases.{by_test}
 use Rattle.page_state.specs.declared.entry.Entry.TheVariants.{Unmapped}
 use Rattle.step_reply.specs.declared.step.Step.{Step}
 use Rattle.step_reply.specs.declared.step.Step.TheVariants.{ShareGuest, UnshareGuest, DonateGuest, GuestShareHost, GuestUnshareHost, ReclaimPage}
@@ -226,6 +227,13 @@ live-alive vm g h e = let t = (and-both (phase_eq g.phase live) (g.generation ==
 
 pub dying-alive : (vm : VmId) (g : Guest) → is_guest dying vm g ≡ true → g.phase ≢ empty
 dying-alive vm g h e = let t = (and-both (phase_eq g.phase dying) (g.generation == vm.generation) h).0 in let bad : false ≡ true = sym (ap (λ p. phase_eq p dying) e) ∙ t in cc
+
+pub stands-alive : (vm : VmId) (g : Guest) → not (is_guest live vm g || is_guest dying vm g) ≡ false → g.phase ≢ empty
+stands-alive vm g h = by_test (is_guest live vm g) (λ a. live-alive vm g a) (λ a. dying-alive vm g (second (is_guest live vm g) (is_guest dying vm g) a (not-false (is_guest live vm g || is_guest dying vm g) h)))
+  where
+    second : (a b : Bool) → a ≡ false → a || b ≡ true → b ≡ true
+    second false b h k = k
+    second true b h k = cc
 
 page-advance : (f q g : ℕ) → is_within f 1 q ≡ true → g ≡ g + (q - f)
 page-advance f q g w = let same = one-within f q w in omega arith

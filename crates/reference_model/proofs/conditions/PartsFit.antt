@@ -31,7 +31,7 @@ use Rattle.reference_model.proofs.Answers.{told-ok}
 use Rattle.reference_model.proofs.ChangesUsed.{lacking}
 use Rattle.reference_model.proofs.conditions.Bounding.{hand-few}
 use Rattle.reference_model.proofs.conditions.Keeps.{loaded-at, staged-at}
-use Rattle.reference_model.proofs.conditions.PageSteps.{live-alive, dying-alive}
+use Rattle.reference_model.proofs.conditions.PageSteps.{live-alive, dying-alive, stands-alive}
 use Rattle.reference_model.proofs.conditions.RangeMoves.{range-in, hand-some, hand-was, memory-of}
 use Rattle.reference_model.proofs.conditions.RunsLegal.{accepted_usable, few-pages}
 use Rattle.reference_model.proofs.conditions.Slots.{ticket-told, ticket-fits, ticket-slot, loaded-open}
@@ -127,7 +127,7 @@ module _ (l : Layout) (accepted : IsAcceptedLayout l) (s : Reference) (legal : L
   each (Topup vm) (Some v) e h =
       let p = pass (Some v) (Topup vm) h in
       let t = or-neither (is_none (s.contents.cpu cpu).hand) (nat_lt 512 (guest_table_count l (s.contents.guest v).tree + length (s.contents.guest v).free + (hand_of (s.contents.cpu cpu)).count)) p.perm in
-      record { slot = tt; mapped = λ k. cc; part = record { made = live-alive vm (s.contents.guest v) (not-false (is_guest live vm (s.contents.guest v)) p.no_vm); apart = hand-apart v t.0; few = at-most 512 _ t.1; low = hand-low t.0 } }
+      record { slot = tt; mapped = λ k. cc; part = record { made = stands-alive vm (s.contents.guest v) p.no_vm; apart = hand-apart v t.0; few = at-most 512 _ t.1; low = hand-low t.0 } }
   each (ReclaimPage vm g) (Some v) e h = record { slot = tt; mapped = λ k. dying-alive vm (s.contents.guest v) (not-false (is_guest dying vm (s.contents.guest v)) (pass (Some v) (ReclaimPage vm g) h).no_vm); part = tt }
   each (ReclaimPool vm) (Some v) e h = record { slot = tt; mapped = λ k. cc; part = tt }
   each FinishGuest (Some v) e h = record { slot = tt; mapped = λ k. cc; part = tt }

@@ -1,6 +1,6 @@
 -- The made steps that move frames into and out of a guest's pool and root keep the invariant.
 use Rattle.std.proofs.Common.{◌≡◌, ◌≢◌, ℕ, zero, suc, ◌+◌, ◌-◌, ◌*◌, ◌≤◌, ◌<◌, refl, ap, sym, ◌∙◌, subst, arith, inl, inr, [], ◌∷◌, length, mul-le-mul_right}
-use Rattle.std.specs.Prelude.{Bool, true, false, not, ◌&&◌, ◌==◌, nat_lt, unwrap_or, Option, Some, None}
+use Rattle.std.specs.Prelude.{Bool, true, false, not, ◌&&◌, ◌==◌, nat_lt, unwrap_or, is_some, Option, Some, None}
 use Rattle.std.proofs.lemmas.Bool.Decides.{nat_tests}
 use Rattle.descriptor.specs.declared.State.{State}
 use Rattle.descriptor.specs.declared.State.TheVariants.{Owned, SharedOwned, SharedBorrowed}
@@ -34,7 +34,10 @@ use Rattle.reference_model.specs.Parts.{shared_and_guest}
 use Rattle.reference_model.specs.Used.{Used, used_of}
 use Rattle.reference_model.specs.Step.{refusal, guest_after}
 use Rattle.page_state.specs.Tables.{needs, freed, returned, edited}
-use Rattle.reference_model.specs.Conditions.{Condition, hosts, hyps, guest_condition, GuestFits, Legal, IsUsable, in_vm, in_hand, one, table_uses, guest_uses, IsTidy, IsInTree, IsGood}
+use Rattle.page_state.specs.Blocks.{is_one_word}
+use Rattle.coarse_trees.proofs.Stays.{root_is_coarsest, none_is_coarsest}
+use Rattle.reference_model.proofs.conditions.Conserved.{empty-one_word}
+use Rattle.reference_model.specs.Conditions.{Condition, hosts, hyps, guest_condition, GuestFits, Legal, IsUsable, in_vm, in_hand, one, table_uses, guest_uses, IsGood}
 use Rattle.page_state.proofs.Blocks.{all_from-each, empty_means, is_unmapped-same}
 use Rattle.page_state.proofs.Cases.{by_eq, by_lt}
 use Rattle.page_state.proofs.Common.{both, eq-same, eq-self, eq-made, if-true, if-false, and-both, or-neither, not-false}
@@ -42,6 +45,7 @@ use Rattle.page_state.proofs.Counts.{count_next}
 use Rattle.page_state.proofs.BlockTests.{block-same}
 use Rattle.reference_model.proofs.Frames.{count_blocks-none}
 use Rattle.page_state.proofs.Sizes.{size_some, size_split}
+use Rattle.coarse_trees.specs.Coarsest.{IsCoarsest, IsInTree}
 use Rattle.reference_model.proofs.conditions.Tables.{uses_of, uses-put}
 use Rattle.reference_model.proofs.conditions.Moves.{moved_to, is_pageless, guest-kept, has-kept, moved-in, moved-out}
 use Rattle.reference_model.proofs.conditions.FrameMoves.{StepKept, FramesMove, no-uses}
@@ -112,34 +116,25 @@ root-here depth root = if-true (depth + 1 == depth + 1 && 0 == 0) (Some root) No
     go true e = refl
     go false e = cc
 
-pub root-tidy : (depth root : ℕ) → IsTidy depth (root_tree depth root)
-root-tidy depth root = record {
-  inside = λ b f h. subst (IsInTree depth) (sym (at b f h)) (root-inside depth);
-  full = λ b f h low. absurd (let e : b.0 ≡ depth + 1 = ap (λ (x : Block). x.0) (at b f h) in omega arith);
-}
-  where
-    at : (b : Block) (f : ℕ) → (root_tree depth root).table b ≡ Some f → b ≡ root_block depth
-    at b f h = elim (both (b.0 == depth + 1 && b.1 == 0)) [
-      | inl e ↦ let k = and-both (b.0 == depth + 1) (b.1 == 0) e in block-same (eq-same b.0 (depth + 1) k.0) (eq-same b.1 0 k.1)
-      | inr e ↦ let bad : None ≡ Some f = sym (if-false (b.0 == depth + 1 && b.1 == 0) (Some root) None e) ∙ h in cc
-    ]
-
--- a tidy tree in which nothing is mapped has no table but its root
+-- a coarsest tree in which nothing is mapped has no table but its root
 pages-of : (depth : ℕ) (b : Block) (i : ℕ) → IsInTree depth b → i < span b → first_page b + i < pages_below depth
 pages-of depth b i inside less =
     let size : block_pages (depth + 1) ≡ block_pages (depth + 1 - b.0) * block_pages b.0 = size_split (depth + 1) (b.0) inside.top in
     let up : (b.1 + 1) * block_pages b.0 ≤ block_pages (depth + 1 - b.0) * block_pages b.0 = mul-le-mul_right (block_pages b.0) (let k = inside.index in omega arith) in
     omega arith
 
-pub bare-tree : (depth : ℕ) (t : Tree) → IsTidy depth t → ((p : ℕ) → p < pages_below depth → t.map p ≡ Unmapped) → (b : Block) → (b ≡ root_block depth → ⊥) → t.table b ≡ None
-bare-tree depth t tidy bare b off = go (t.table b) refl
+pub bare-tree : (depth : ℕ) (t : Tree) → IsCoarsest depth t → ((p : ℕ) → p < pages_below depth → t.map p ≡ Unmapped) → (b : Block) → (b ≡ root_block depth → ⊥) → t.table b ≡ None
+bare-tree depth t coarse bare b off = go (t.table b) refl
   where
     go : (o : Option ℕ) → t.table b ≡ o → o ≡ None
     go None h = refl
     go (Some f) h =
-        let inside = tidy.inside b f h in
+        let inside = coarse.inside b f h in
         by_lt b.0 (depth + 1)
-        (λ low. let z : true ≡ false = sym ((empty_means t.map b).1 (λ i less. bare (first_page b + i) (pages-of depth b i inside less))) ∙ tidy.full b f h (omega arith) in cc)
+        (λ low.
+        let said : is_one_word t.map b ≡ true = empty-one_word t.map b ((empty_means t.map b).1 (λ i less. bare (first_page b + i) (pages-of depth b i inside less))) in
+        let z : true ≡ false = sym (ap (λ (x : Option ℕ). is_some x) h) ∙ coarse.below b inside (omega arith) ∙ ap (λ w. not w) said in
+        cc)
         (λ high.
         let top : b.0 ≡ depth + 1 = let k = inside.top in omega arith in
         let zero-index : b.1 ≡ 0 = let k : b.1 < block_pages (depth + 1 - (depth + 1)) = subst (λ d. b.1 < block_pages (depth + 1 - d)) top inside.index in let z : depth + 1 - (depth + 1) ≡ 0 = omega arith in let m : b.1 < 1 = subst (λ d. b.1 < block_pages d) z k in omega arith in
@@ -226,7 +221,7 @@ module _ (l : Layout) (s : Contents) (legal : Legal l s) (usable : IsUsable l) (
         guest = λ q. pool-guest f was q ((s.guest v).tree.map q) (legal.maps.guest v q);
         guest_has = λ q w state h. legal.maps.guest_has v q w state (pool-has f was q w state h);
         held = λ q. pool-held f was q (next q) (ap one (eq-self f));
-        tidy = legal.trees.guest v;
+        coarse = legal.trees.guest v;
         blank = λ k. absurd (alive k);
         rooted = legal.guest_parts.rooted v;
         slots = slots-stay legal cpu v (new_guest l s v (reclaim_pool l x vm).changes) (new_cpu s cpu (reclaim_pool l x vm).changes) refl refl refl refl refl (legal.slots.some_hand cpu);
@@ -289,7 +284,7 @@ module _ (l : Layout) (s : Contents) (legal : Legal l s) (usable : IsUsable l) (
         guest = λ q. inl refl;
         guest_has = λ q w state h. absurd (unnamed q w state (pool-has f left.was q w state h) left.bare);
         held = λ q. blank-uses q ∙ sym (none-left f q (left.uses q));
-        tidy = record { inside = λ b w h. cc; full = λ b w h. cc };
+        coarse = none_is_coarsest l.depth;
         blank = λ k. refl;
         rooted = λ k. absurd (k refl);
         slots = slots-turn s legal.slots cpu v t (new_guest l s v (finish_guest l x).changes) (new_cpu s cpu (finish_guest l x).changes) finished has at-slot (here.0, refl) (λ k. absurd (k refl)) refl (turned (s.cpu cpu).ticket t finished has) (legal.slots.some_hand cpu);

@@ -9,14 +9,14 @@ use Rattle.page_state.specs.Map.{is_within}
 use Rattle.page_state.specs.Tables.{edited}
 use Rattle.reference_model.specs.declared.changes.Changes.{Changes}
 use Rattle.reference_model.specs.Changes.{cpu_by}
-use Rattle.reference_model.specs.Conditions.{Condition, MapsFit, HeldFit, Legal, IsUsable, row_in, in_vm, one, AreTidy, GuestsFit, SlotsFit, RowsFit, IsGood}
+use Rattle.reference_model.specs.Conditions.{Condition, MapsFit, HeldFit, Legal, IsUsable, row_in, in_vm, one, AreCoarsest, GuestsFit, SlotsFit, RowsFit, IsGood}
 use Rattle.reference_model.specs.Owner.{row_of}
 use Rattle.reference_model.specs.Parts.{names, shared}
 use Rattle.reference_model.specs.State.{Cpu, Contents, put_at, no_guest, no_cpu, blank}
 use Rattle.reference_model.specs.Step.{changed, with_rows, own_row, shared_after, shared_need}
 use Rattle.reference_model.specs.Used.{Used, used_of, put_back}
 use Rattle.page_state.proofs.Common.{both, if-true, if-false}
-use Rattle.reference_model.proofs.conditions.FrameMoves.{StepKept, FramesMove, no-uses, layout-after, held-after, host-tidy, hyp-tidy, rows-after, shared-stands, hand-stands, kept-after}
+use Rattle.reference_model.proofs.conditions.FrameMoves.{StepKept, FramesMove, no-uses, layout-after, held-after, host-coarsest, hyp-coarsest, rows-after, shared-stands, hand-stands, kept-after}
 use Rattle.reference_model.proofs.conditions.Moves.{moved_to, pageless-named, guest-kept, has-kept, is_calm, calm-pageless, calm-vm, CalmMove, moved-fact, SameSlots, same-agree, cpu-fact}
 use Rattle.reference_model.proofs.conditions.Stands.{SharedStands, GuestsStand, HandsStand, row-stands}
 
@@ -105,9 +105,9 @@ module _ (l : Layout) (s : Contents) (legal : Legal l s) (usable : IsUsable l) (
         | inr q ↦ legal.slots.some_hand d h (sym (ap (λ (j : Cpu). j.hand) (if-false (d == cpu) (cpu_by r.cpu (s.cpu cpu)) (s.cpu d) q)) ∙ e)
       ]
 
-  trees : AreTidy l t
+  trees : AreCoarsest l t
   unfolding t y put_back with_rows changed used_of
-  trees = record { host = host-tidy legal m.frames; hyp = hyp-tidy legal m.frames; guest = legal.trees.guest }
+  trees = record { host = host-coarsest legal m.frames enough; hyp = hyp-coarsest legal m.frames enough; guest = legal.trees.guest }
 
   parts : GuestsFit l t
   unfolding t y put_back with_rows changed used_of

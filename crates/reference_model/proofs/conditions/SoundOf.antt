@@ -17,12 +17,13 @@ use Rattle.page_state.specs.Layouts.{Layout, is_memory, hyp_page}
 use Rattle.reference_model.specs.Owner.{lent_at}
 use Rattle.page_state.specs.Counts.{is_one, frame_count}
 use Rattle.reference_model.specs.Sound.{IsOne, IsLeafOf, Maps, Holds, IsHostsOwn, owner, usage, OneOwner, IsBorrowed, OneBorrower, Place, shared_pool, vm_pool, table_of, hand, IsHeld, HeldOnce, Sound}
-use Rattle.reference_model.specs.Conditions.{Condition, outside, hosts, with_hyp, hyps, with_guest, guests, lent_back, HostFits, hyp_says, guest_condition, Legal, IsUsable, row_in, in_shared, in_vm, in_hand, one, table_uses, shared_uses, guest_uses, IsTidy, is_inside}
+use Rattle.reference_model.specs.Conditions.{Condition, outside, hosts, with_hyp, hyps, with_guest, guests, lent_back, HostFits, hyp_says, guest_condition, Legal, IsUsable, row_in, in_shared, in_vm, in_hand, one, table_uses, shared_uses, guest_uses, is_inside}
 use Rattle.reference_model.specs.RowLaws.{use_of}
 use Rattle.reference_model.specs.RunLaws.{LegalSound}
 use Rattle.page_state.proofs.Cases.{by_lt}
 use Rattle.page_state.proofs.Common.{eq-same, eq-made, eq-self, and-both}
 use Rattle.page_state.proofs.Counts.{count_next}
+use Rattle.coarse_trees.specs.Coarsest.{IsCoarsest}
 use Rattle.reference_model.proofs.conditions.Stands.{SharedStands, GuestsStand, HandsStand, usage-stands, is_free-count, is_table_frame-uses}
 use Rattle.reference_model.proofs.Frames.{is_free-contains, is_table_frame-block}
 use Rattle.reference_model.proofs.conditions.Tables.{uses_of, uses-some, uses-once}
@@ -243,13 +244,13 @@ pub in_hand-is : (v : ℕ) (c : Condition) → in_hand v c ≡ true → c ≡ hy
 in_hand-is v (hyps (InHand u)) h = ap (λ n. hyps (InHand n)) (eq-same u v h)
 in_hand-is v c h = cc
 
-table-some : (depth f : ℕ) (t : Tree) (b : Block) → IsTidy depth t → t.table b ≡ Some f → 1 ≤ table_uses depth t f
+table-some : (depth f : ℕ) (t : Tree) (b : Block) → IsCoarsest depth t → t.table b ≡ Some f → 1 ≤ table_uses depth t f
 unfolding table_uses uses_of
-table-some depth f t b tidy h = uses-some depth f b t.table (tidy.inside b f h) h
+table-some depth f t b coarse h = uses-some depth f b t.table (coarse.inside b f h) h
 
-table-once : (depth f : ℕ) (t : Tree) (a b : Block) → IsTidy depth t → t.table a ≡ Some f → t.table b ≡ Some f → table_uses depth t f ≤ 1 → b ≡ a
+table-once : (depth f : ℕ) (t : Tree) (a b : Block) → IsCoarsest depth t → t.table a ≡ Some f → t.table b ≡ Some f → table_uses depth t f ≤ 1 → b ≡ a
 unfolding table_uses uses_of
-table-once depth f t a b tidy h k less = uses-once depth f a b t.table (tidy.inside a f h) (tidy.inside b f k) h k less
+table-once depth f t a b coarse h k less = uses-once depth f a b t.table (coarse.inside a f h) (coarse.inside b f k) h k less
 
 table-found : (l : Layout) (t : Tree) (f : ℕ) → 1 ≤ table_uses l.depth t f → (b : Block) × (t.table b ≡ Some f)
 table-found l t f h = is_table_frame-block l t f (is_table_frame-uses l t f ∙ grind (arith, nat_tests))
@@ -261,7 +262,7 @@ pub one-most : (b : Bool) → one b ≤ 1
 one-most true = omega arith
 one-most false = omega arith
 
-module _ (l : Layout) (s : Contents) (f : ℕ) (c : Condition) (x : SharedStands l s.shared f c) (g : GuestsStand l s.guest f c) (k : HandsStand s.cpu f c) (host : IsTidy l.depth s.shared.host) (hyp : IsTidy l.depth s.shared.hyp) (guest : (v : ℕ) → IsTidy l.depth (s.guest v).tree) where
+module _ (l : Layout) (s : Contents) (f : ℕ) (c : Condition) (x : SharedStands l s.shared f c) (g : GuestsStand l s.guest f c) (k : HandsStand s.cpu f c) (host : IsCoarsest l.depth s.shared.host) (hyp : IsCoarsest l.depth s.shared.hyp) (guest : (v : ℕ) → IsCoarsest l.depth (s.guest v).tree) where
   -- a held frame is the hypervisor's, in the use of its place
   pub held-use : (p : Place) → IsHeld s f p → c ≡ hyps (use_of p)
   held-use shared_pool h = let n = contains-count s.shared.free f h.0 h.1 h.2 in let e = x.held in in_shared-is c (one-true (in_shared c) (shared_uses l.depth s.shared f) (omega arith) e)

@@ -5,7 +5,7 @@ use Rattle.std.specs.List.{cons_option}
 use Rattle.std.proofs.Common.{mul-le-mul_right}
 use Rattle.std.proofs.lemmas.List.Elements.{All-nil, All-weaker, All-filter, filter_passes, All-contains_itself}
 use Rattle.std.proofs.lemmas.List.Kept.{AllPairs-filter}
-use Rattle.page_state.specs.Blocks.{first_page, blocks_on, is_one_word, is_needless, block_eq}
+use Rattle.page_state.specs.Blocks.{first_page, blocks_on, is_one_word, block_eq}
 use Rattle.page_state.specs.Laws.{ComesBefore}
 use Rattle.page_state.specs.Tables.{Edit, keep, put, edited_map, edit_blocks, needs, need, freed, returned, edited, placed, cleared}
 use Rattle.page_state.proofs.BlockLists.{blocks_meet, blocks_ordered, contains-filter}
@@ -17,7 +17,8 @@ use Rattle.page_state.specs.Geometries.{block_pages}
 use Rattle.page_state.specs.Search.{count_below}
 use Rattle.page_state.specs.Trees.{Block, Tree}
 use Rattle.reference_model.specs.Owner.{count_blocks, is_frame}
-use Rattle.reference_model.specs.Conditions.{one, table_uses, IsInTree}
+use Rattle.coarse_trees.specs.Coarsest.{IsInTree, IsInRange}
+use Rattle.reference_model.specs.Conditions.{one, table_uses}
 use Rattle.page_state.proofs.Common.{both, eq-self, if-true, if-false}
 use Rattle.page_state.proofs.Counts.{count_next}
 use Rattle.page_state.proofs.BlockTests.{block-same, block_eq-same}
@@ -264,11 +265,6 @@ uses-once depth f a b table ia ib h k less = elim (both (block_eq a b)) [
 
 -- the blocks of a change
 
--- a change of pages of the tree
-abbrev pub IsInRange : ℕ → Edit → Type 0
-IsInRange depth keep = Unit {0}
-IsInRange depth (put first count entry) = first + count ≤ block_pages (depth + 1)
-
 less-scaled : (a b s : ℕ) → a * s < b * s → a < b
 less-scaled a b s h = by_lt a b (λ l. l) (λ l. absurd (let e = mul-le-mul_right s l in omega arith))
 
@@ -348,11 +344,11 @@ module _ (depth : ℕ) (t : Tree) (e : Edit) where
       (λ b h. need-bare (t.table b) (is_one_word (edited_map t.map e) b) h) (needs depth t e)
       (filter_passes (λ b. elim (is_some (t.table b)) [ true ↦ false | false ↦ not (is_one_word (edited_map t.map e) b) ]) (edit_blocks depth e))
 
-  freed-all : All (λ b. ((f : ℕ) × (t.table b ≡ Some f)) × (is_needless (edited_map t.map e) b ≡ true)) (freed depth t e)
+  freed-all : All (λ b. ((f : ℕ) × (t.table b ≡ Some f)) × (is_one_word (edited_map t.map e) b ≡ true)) (freed depth t e)
   unfolding freed
-  freed-all = All-weaker (λ b. elim (is_some (t.table b)) [ true ↦ is_needless (edited_map t.map e) b | false ↦ false ] ≡ true) (λ b. ((f : ℕ) × (t.table b ≡ Some f)) × (is_needless (edited_map t.map e) b ≡ true))
-      (λ b h. freed-table (t.table b) (is_needless (edited_map t.map e) b) h) (freed depth t e)
-      (filter_passes (λ b. elim (is_some (t.table b)) [ true ↦ is_needless (edited_map t.map e) b | false ↦ false ]) (edit_blocks depth e))
+  freed-all = All-weaker (λ b. elim (is_some (t.table b)) [ true ↦ is_one_word (edited_map t.map e) b | false ↦ false ] ≡ true) (λ b. ((f : ℕ) × (t.table b ≡ Some f)) × (is_one_word (edited_map t.map e) b ≡ true))
+      (λ b h. freed-table (t.table b) (is_one_word (edited_map t.map e) b) h) (freed depth t e)
+      (filter_passes (λ b. elim (is_some (t.table b)) [ true ↦ is_one_word (edited_map t.map e) b | false ↦ false ]) (edit_blocks depth e))
 
   pub needs-once : IsInRange depth e → AreOnce depth (needs depth t e)
   unfolding needs
@@ -363,13 +359,13 @@ module _ (depth : ℕ) (t : Tree) (e : Edit) where
   freed-once : IsInRange depth e → AreOnce depth (freed depth t e)
   unfolding freed
   freed-once r = once-of depth (freed depth t e)
-      (AllPairs-filter ComesBefore (λ b. elim (is_some (t.table b)) [ true ↦ is_needless (edited_map t.map e) b | false ↦ false ]) (edit_blocks depth e) (edit-ordered depth e))
-      (All-weaker (IsMet depth e) (IsInTree depth) (λ b m. m.inside) (freed depth t e) (All-filter (λ b. elim (is_some (t.table b)) [ true ↦ is_needless (edited_map t.map e) b | false ↦ false ]) (IsMet depth e) (edit_blocks depth e) (edit-blocks depth e r)))
+      (AllPairs-filter ComesBefore (λ b. elim (is_some (t.table b)) [ true ↦ is_one_word (edited_map t.map e) b | false ↦ false ]) (edit_blocks depth e) (edit-ordered depth e))
+      (All-weaker (IsMet depth e) (IsInTree depth) (λ b m. m.inside) (freed depth t e) (All-filter (λ b. elim (is_some (t.table b)) [ true ↦ is_one_word (edited_map t.map e) b | false ↦ false ]) (IsMet depth e) (edit_blocks depth e) (edit-blocks depth e r)))
 
   -- a block of the change with a table on which nothing is left loses it
-  pub freed-has : (b : Block) (f : ℕ) → t.table b ≡ Some f → is_needless (edited_map t.map e) b ≡ true → Contains (edit_blocks depth e) b → Contains (freed depth t e) b
+  pub freed-has : (b : Block) (f : ℕ) → t.table b ≡ Some f → is_one_word (edited_map t.map e) b ≡ true → Contains (edit_blocks depth e) b → Contains (freed depth t e) b
   unfolding freed
-  freed-has b f h now k = contains-filter (λ a. elim (is_some (t.table a)) [ true ↦ is_needless (edited_map t.map e) a | false ↦ false ]) (edit_blocks depth e) b k (passes (t.table b) (is_needless (edited_map t.map e) b) f h now)
+  freed-has b f h now k = contains-filter (λ a. elim (is_some (t.table a)) [ true ↦ is_one_word (edited_map t.map e) a | false ↦ false ]) (edit_blocks depth e) b k (passes (t.table b) (is_one_word (edited_map t.map e) b) f h now)
 
   pub needs-below : IsInRange depth e → All (λ b. b.0 ≤ depth) (needs depth t e)
   unfolding needs
@@ -377,7 +373,7 @@ module _ (depth : ℕ) (t : Tree) (e : Edit) where
 
   pub freed-below : IsInRange depth e → All (λ b. b.0 ≤ depth) (freed depth t e)
   unfolding freed
-  freed-below r = All-weaker (IsMet depth e) (λ b. b.0 ≤ depth) (λ b m. m.below) (freed depth t e) (All-filter (λ b. elim (is_some (t.table b)) [ true ↦ is_needless (edited_map t.map e) b | false ↦ false ]) (IsMet depth e) (edit_blocks depth e) (edit-blocks depth e r))
+  freed-below r = All-weaker (IsMet depth e) (λ b. b.0 ≤ depth) (λ b m. m.below) (freed depth t e) (All-filter (λ b. elim (is_some (t.table b)) [ true ↦ is_one_word (edited_map t.map e) b | false ↦ false ]) (IsMet depth e) (edit_blocks depth e) (edit-blocks depth e r))
 
   -- a block with a table gets none
   placed-stays : (fs : List ℕ) (b : Block) (f : ℕ) → t.table b ≡ Some f → placed (needs depth t e) fs t.table b ≡ t.table b
@@ -390,7 +386,7 @@ module _ (depth : ℕ) (t : Tree) (e : Edit) where
   edited-uses fs f r less =
       let placing = placed-uses depth f (needs depth t e) fs t.table (bare-of depth t.table (needs depth t e) (needs-once r) (All-weaker (λ b. (t.table b ≡ None) × (is_one_word (edited_map t.map e) b ≡ false)) (λ b. t.table b ≡ None) (λ b h. h.0) (needs depth t e) need-all)) less in
       let clearing = cleared-uses depth f (freed depth t e) (placed (needs depth t e) fs t.table) t.table (freed-once r)
-      (read-of (placed (needs depth t e) fs t.table) t.table (freed depth t e) (All-weaker (λ b. ((g : ℕ) × (t.table b ≡ Some g)) × (is_needless (edited_map t.map e) b ≡ true)) (λ b. placed (needs depth t e) fs t.table b ≡ t.table b) (λ b h. placed-stays fs b h.0.0 h.0.1) (freed depth t e) freed-all)) in
+      (read-of (placed (needs depth t e) fs t.table) t.table (freed depth t e) (All-weaker (λ b. ((g : ℕ) × (t.table b ≡ Some g)) × (is_one_word (edited_map t.map e) b ≡ true)) (λ b. placed (needs depth t e) fs t.table b ≡ t.table b) (λ b h. placed-stays fs b h.0.0 h.0.1) (freed depth t e) freed-all)) in
       clearing ∙ placing
 
   -- the number of tables grows by the needs, and falls by those that go
@@ -399,5 +395,5 @@ module _ (depth : ℕ) (t : Tree) (e : Edit) where
   edited-some fs r less =
       let placing = placed-some depth (needs depth t e) fs t.table (bare-of depth t.table (needs depth t e) (needs-once r) (All-weaker (λ b. (t.table b ≡ None) × (is_one_word (edited_map t.map e) b ≡ false)) (λ b. t.table b ≡ None) (λ b h. h.0) (needs depth t e) need-all)) less in
       let clearing = cleared-some depth (freed depth t e) (placed (needs depth t e) fs t.table) t.table (freed-once r)
-      (read-of (placed (needs depth t e) fs t.table) t.table (freed depth t e) (All-weaker (λ b. ((g : ℕ) × (t.table b ≡ Some g)) × (is_needless (edited_map t.map e) b ≡ true)) (λ b. placed (needs depth t e) fs t.table b ≡ t.table b) (λ b h. placed-stays fs b h.0.0 h.0.1) (freed depth t e) freed-all)) in
+      (read-of (placed (needs depth t e) fs t.table) t.table (freed depth t e) (All-weaker (λ b. ((g : ℕ) × (t.table b ≡ Some g)) × (is_one_word (edited_map t.map e) b ≡ true)) (λ b. placed (needs depth t e) fs t.table b ≡ t.table b) (λ b h. placed-stays fs b h.0.0 h.0.1) (freed depth t e) freed-all)) in
       clearing ∙ placing
