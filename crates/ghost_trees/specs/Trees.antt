@@ -2,7 +2,7 @@
 use Rattle.std.specs.Prelude.{ℕ, Bool, true, false, not, is_some, ◌^◌, ◌≤◌, List, [], ◌∷◌, Option, Some, None, if◌then◌else◌}
 use Rattle.std.specs.List.{list_any}
 use Rattle.page_state.specs.Trees.{Block, Tree}
-use Rattle.page_state.specs.Blocks.{block_eq, first_page, is_one_word, is_needless}
+use Rattle.page_state.specs.Blocks.{block_eq, first_page, is_one_word}
 use Rattle.page_state.specs.Map.{Map}
 use Rattle.page_state.specs.Runs.{map_of}
 use Rattle.ghost_trees.specs.declared.tree.Table.{Table}
@@ -25,9 +25,9 @@ IsLowBlock b = (b.0 ≤ 3) × (first_page b ≤ 2 ^ 63)
 abbrev pub lacks_table : Map → List Table → Block → Bool
 lacks_table m ts b = elim (is_some (table_of ts b)) [ true ↦ false | false ↦ not (is_one_word m b) ]
 
--- a block has a table, and the map has no need of it
+-- a block has a table, and can be one word of the map
 abbrev pub loses_table : Map → List Table → Block → Bool
-loses_table m ts b = elim (is_some (table_of ts b)) [ true ↦ is_needless m b | false ↦ false ]
+loses_table m ts b = elim (is_some (table_of ts b)) [ true ↦ is_one_word m b | false ↦ false ]
 
 -- a block is one of a list
 abbrev pub has_block : Block → List Block → Bool
