@@ -1,5 +1,5 @@
 -- A map has one coarsest tree, and no tree of the map has fewer tables.
-use Rattle.std.proofs.Common.{◌≡◌, ℕ, zero, suc, ◌+◌, ◌-◌, ◌*◌, ◌/◌, ◌%◌, ◌<◌, ◌≤◌, refl, sym, ap, subst, arith, ◌∙◌, Bool, true, false, not, is_some, Some}
+use Rattle.std.proofs.Common.{◌≡◌, ℕ, zero, suc, ◌+◌, ◌-◌, ◌*◌, ◌/◌, ◌%◌, ◌<◌, ◌≤◌, refl, sym, ap, subst, arith, ◌∙◌, Bool, true, false, not, is_some, Some, List}
 use Rattle.page_state.specs.Blocks.{is_one_word}
 use Rattle.page_state.specs.Geometries.{block_pages}
 use Rattle.page_state.specs.Map.{Map}
@@ -8,12 +8,12 @@ use Rattle.page_state.proofs.BlockTests.{block-same}
 use Rattle.page_state.proofs.Cases.{by_test, by_lt}
 use Rattle.page_state.proofs.Common.{not-false}
 use Rattle.page_state.proofs.Sizes.{size_step}
-use Rattle.coarse_trees.specs.Coarsest.{IsInTree, wants_table, IsCoarsest, block_above, IsTreeOf}
-use Rattle.coarse_trees.specs.Laws.{OneCoarsest, FewestTables, FewestCounted}
+use Rattle.coarse_trees.specs.Coarsest.{IsInTree, wants_table, IsCoarsest, block_above, IsTreeOf, table_number}
+use Rattle.coarse_trees.specs.Laws.{CoarsestIsCanonical, CoarsestIsTree}
 use Rattle.coarse_trees.proofs.Lists.{some-of, some-made, filter-fewer}
 use Rattle.coarse_trees.proofs.OneWord.{parts_are_one_word}
 
-pub one_coarsest : OneCoarsest
+one_coarsest : (depth : ℕ) (t u : Tree) → IsCoarsest depth t → IsCoarsest depth u → u.map ≡ t.map → (b : Block) → IsInTree depth b → b.0 ≤ depth → is_some (u.table b) ≡ is_some (t.table b)
 one_coarsest depth t u p q e b i l = q.below b i l ∙ ap (λ (m : Map). wants_table m b) e ∙ sym (p.below b i l)
 
 -- the block above one of a tree is one of it
@@ -55,7 +55,8 @@ module _ (depth : ℕ) (u : Tree) (tree : IsTreeOf depth u) where
       (λ y. y)
       (λ y. let bad : true ≡ false = sym (tree.words b i l up y) ∙ n in cc)
 
-pub fewest_tables : FewestTables
+-- where the coarsest tree of a map has a table, each tree of the map has one
+fewest_tables : (depth : ℕ) (t u : Tree) → IsCoarsest depth t → IsTreeOf depth u → u.map ≡ t.map → (b : Block) (f : ℕ) → t.table b ≡ Some f → is_some (u.table b) ≡ true
 fewest_tables depth t u p tree e b f h =
     let i = p.inside b f h in
     let top = i.top in
@@ -70,6 +71,24 @@ fewest_tables depth t u p tree e b f h =
     not-said true h = cc
     not-said false h = refl
 
-pub fewest_counted : FewestCounted
+-- so no tree of the map has fewer
+fewest_counted : (depth : ℕ) (t u : Tree) → IsCoarsest depth t → IsTreeOf depth u → u.map ≡ t.map → (bs : List Block) → table_number t bs ≤ table_number u bs
 fewest_counted depth t u p tree e bs =
     filter-fewer (λ b. is_some (t.table b)) (λ b. is_some (u.table b)) bs (λ b h. let x = some-of (t.table b) h in fewest_tables depth t u p tree e b x.0 x.1)
+
+pub coarsest_is_canonical : CoarsestIsCanonical
+coarsest_is_canonical depth t p = record {
+  coarsest = p;
+  only = λ u q e b i l. one_coarsest depth t u p q e b i l;
+  fewest = λ u q e bs. fewest_counted depth t u p q e bs;
+}
+
+pub coarsest_is_tree : CoarsestIsTree
+coarsest_is_tree depth t p root = record {
+  root = root;
+  words = λ b i l up none. not-wanted (is_one_word t.map b) (sym (p.below b i l) ∙ none);
+}
+  where
+    not-wanted : (w : Bool) → not w ≡ false → w ≡ true
+    not-wanted true h = refl
+    not-wanted false h = cc

@@ -7,27 +7,23 @@ use Rattle.page_state.specs.Geometries.{block_pages}
 use Rattle.page_state.specs.Map.{Map}
 use Rattle.page_state.specs.Tables.{Edit, edited_map, needs, need, freed, edited}
 use Rattle.page_state.specs.Trees.{Block, Tree, root_tree, no_tree}
-use Rattle.coarse_trees.specs.Coarsest.{IsInTree, wants_table, IsCoarsest, IsTreeOf, table_number, IsInRange, map_need}
+use Rattle.coarse_trees.specs.Coarsest.{IsInTree, wants_table, IsCoarsest, IsTreeOf, IsCanonical, IsInRange, map_need}
 
 -- the parts of a block that is one word are one word
 abbrev pub PartsAreOneWord : Type 0
 PartsAreOneWord = (m : Map) (d j i : ℕ) → i < 512 → is_one_word m (suc d, j) ≡ true → is_one_word m (d, 512 * j + i) ≡ true
 
--- a block is one word where its parts are, each begins with what the first one's entry advances to, and a word can say that entry
+-- a block is one word where its parts are, the first page of each has what one entry advances to, and a word can say that entry
 abbrev pub OneWordOfParts : Type 0
 OneWordOfParts = (m : Map) (d j : ℕ) (x : Entry) → fits_word (suc d) x ≡ true → ((i : ℕ) → i < 512 → (is_one_word m (d, 512 * j + i) ≡ true) × (m (first_page (d, 512 * j + i)) ≡ advance x (i * block_pages d))) → is_one_word m (suc d, j) ≡ true
 
--- two coarsest trees of a map have tables at the same blocks
-abbrev pub OneCoarsest : Type 0
-OneCoarsest = (depth : ℕ) (t u : Tree) → IsCoarsest depth t → IsCoarsest depth u → u.map ≡ t.map → (b : Block) → IsInTree depth b → b.0 ≤ depth → is_some (u.table b) ≡ is_some (t.table b)
+-- a coarsest tree is the only one of its map, and no tree of the map has fewer tables
+abbrev pub CoarsestIsCanonical : Type 0
+CoarsestIsCanonical = (depth : ℕ) (t : Tree) → IsCoarsest depth t → IsCanonical depth t
 
--- where the coarsest tree of a map has a table, each tree of the map has one
-abbrev pub FewestTables : Type 0
-FewestTables = (depth : ℕ) (t u : Tree) → IsCoarsest depth t → IsTreeOf depth u → u.map ≡ t.map → (b : Block) (f : ℕ) → t.table b ≡ Some f → is_some (u.table b) ≡ true
-
--- so no tree of the map has fewer
-abbrev pub FewestCounted : Type 0
-FewestCounted = (depth : ℕ) (t u : Tree) → IsCoarsest depth t → IsTreeOf depth u → u.map ≡ t.map → (bs : List Block) → table_number t bs ≤ table_number u bs
+-- one with a root is among the trees of its map
+abbrev pub CoarsestIsTree : Type 0
+CoarsestIsTree = (depth : ℕ) (t : Tree) → IsCoarsest depth t → is_some (t.table (depth + 1, 0)) ≡ true → IsTreeOf depth t
 
 -- a tree of its root alone, in which nothing is mapped, is coarsest
 abbrev pub RootIsCoarsest : Type 0

@@ -1,19 +1,19 @@
 //! Laws of coarsest trees. Each function does nothing, and its contract is the law.
 #![tactic(auto)]
 
-ghost use Rattle.coarse_trees.specs.Laws.{PartsAreOneWord, OneWordOfParts, OneCoarsest, FewestTables, FewestCounted, EditKeepsCoarsest, NeededAreNew, FreedAreNeedless, NeedOfMaps, RootIsCoarsest, NoneIsCoarsest};
+ghost use Rattle.coarse_trees.specs.Laws.{PartsAreOneWord, OneWordOfParts, CoarsestIsCanonical, CoarsestIsTree, EditKeepsCoarsest, NeededAreNew, FreedAreNeedless, NeedOfMaps, RootIsCoarsest, NoneIsCoarsest};
 
-/// A block is one word just where its parts are, each goes on with what the first has, and a word of its depth can say that.
+/// A block can be one word just where its parts can, each goes on with what the first has, and a word of the block's depth can
+/// say that.
 pub fn one_word_in_parts()
     ensures down { PartsAreOneWord }
     ensures up { OneWordOfParts }
 {}
 
 /// A map has one coarsest tree, up to its tables' frames, and no tree of the map has fewer tables.
-pub fn coarsest_is_least()
-    ensures one { OneCoarsest }
-    ensures fewest { FewestTables }
-    ensures counted { FewestCounted }
+pub fn coarsest_is_canonical()
+    ensures canonical { CoarsestIsCanonical }
+    ensures tree { CoarsestIsTree }
 {}
 
 /// A tree without a mapped page is coarsest, and each change leaves a coarsest tree.
