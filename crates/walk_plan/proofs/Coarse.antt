@@ -1,6 +1,8 @@
--- Each tree is the coarsest tree of its map.
+-- Each tree is the coarsest tree of its map, and what a change of it needs is a function of the map.
 use Rattle.std.proofs.Common.{◌≡◌, ℕ, zero, suc, ◌+◌, ◌-◌, ◌*◌, ◌<◌, ◌≤◌, refl, sym, ap, arith, ◌∙◌, true, false, not, is_some, Some, None}
 use Rattle.std.proofs.Math.Nat.{mul-lt-mul_of_pos_right}
+use Rattle.page_state.specs.declared.entry.Entry.{Entry}
+use Rattle.page_state.specs.Tables.{put, need}
 use Rattle.page_state.specs.Trees.{Block}
 use Rattle.page_state.specs.Blocks.{is_one_word}
 use Rattle.page_state.specs.Geometries.{levels_below, input_pages, block_pages}
@@ -10,7 +12,9 @@ use Rattle.table_tree.specs.declared.tree.Tree.{Tree}
 use Rattle.table_tree.specs.Meaning.{entry_at}
 use Rattle.table_tree.specs.View.{meaning, table_at, tree_of}
 use Rattle.table_tree.proofs.OneWord.{one_word_gone, bare_said}
-use Rattle.coarse_trees.specs.Coarsest.{IsInTree, wants_table, IsCoarsest}
+use Rattle.coarse_trees.specs.Coarsest.{IsInTree, wants_table, IsCoarsest, IsCanonical, map_need}
+use Rattle.coarse_trees.proofs.Least.{coarsest_is_canonical}
+use Rattle.coarse_trees.proofs.Stays.{need_of_maps}
 use Rattle.walk_plan.proofs.Cases.{by_option}
 use Rattle.walk_plan.proofs.Entries.{word_fits}
 use Rattle.walk_plan.proofs.Edited.{said_at, at_said}
@@ -62,3 +66,9 @@ module _ {A : Type 0} (t : Tree A) where
 
   pub tree_coarsest : IsCoarsest top (tree_of t)
   tree_coarsest = record { inside = λ b f h. inside b.0 b.1 f h; below = each }
+
+  pub tree_canonical : IsCanonical top (tree_of t)
+  tree_canonical = coarsest_is_canonical top (tree_of t) tree_coarsest
+
+  pub need_by_map : (first count : ℕ) (e : Entry) → first + count ≤ input_pages t.geometry → need top (tree_of t) (put first count e) ≡ map_need top (meaning t) (put first count e)
+  need_by_map first count e within = need_of_maps top (tree_of t) (put first count e) within tree_coarsest

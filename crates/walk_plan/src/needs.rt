@@ -1,5 +1,6 @@
 //! The tables that a change of a range needs.
 ghost use Rattle.std.specs.Prelude.{◌≡◌, ℕ, ◌+◌, ◌-◌, ◌*◌, ◌^◌, ◌<◌, ◌≤◌};
+ghost use Rattle.coarse_trees.specs.Coarsest.{map_need};
 ghost use Rattle.page_state.specs.declared.entry.Entry.TheVariants.{Unmapped};
 ghost use Rattle.page_state.specs.Entries.{IsRangeEntry};
 ghost use Rattle.page_state.specs.Trees.{root_tree};
@@ -9,7 +10,7 @@ ghost use Rattle.page_state.specs.Geometries.{levels_below, input_pages, block_p
 ghost use Rattle.table_tree.specs.Meaning.{IsDepth};
 ghost use Rattle.table_tree.specs.Reading.{count_of};
 ghost use Rattle.table_tree.specs.Shape.{IsShaped};
-ghost use Rattle.table_tree.specs.View.{tree_of};
+ghost use Rattle.table_tree.specs.View.{meaning, tree_of};
 ghost use Rattle.walk_plan.specs.Changes.{CanBeSaidOn, IsChange};
 ghost use Rattle.walk_plan.specs.inner.Needs.{block_need, block_parts, met, sum_to, table_need};
 ghost use Rattle.walk_plan.specs.inner.Looks.{edges};
@@ -74,7 +75,8 @@ fn need_of_table<A: Allocator>(
 }
 
 /// The tables that a change of a range of a tree needs: one for each aligned block that meets the range, has no table, and
-/// can't be one word afterwards. It looks at no more slots than 1.5 for each page and 4.
+/// can't be one word afterwards. It is a function of the map alone: these blocks are those that can be one word before the
+/// change and can't afterwards. It looks at no more slots than 1.5 for each page and 4.
 pub fn need<A: Allocator>(
     tree: &Tree<A>,
     range: PageRange,
@@ -85,6 +87,7 @@ pub fn need<A: Allocator>(
     requires within { end_of range ≤ input_pages tree.now.geometry }
     requires entry_in { CanBeSaidOn range.count entry.now }
     ensures value { result ≡ need_of (levels_below tree.now.geometry) (tree_of tree.now) (put range.first.0 range.count entry.now) }
+    ensures by_map { result ≡ map_need (levels_below tree.now.geometry) (meaning tree.now) (put range.first.0 range.count entry.now) }
     ensures small { result ≤ 2 ^ 30 }
     ensures reads { 2 * count_of reads.new ≤ 2 * count_of reads.old + 3 * range.count + 8 }
 {
