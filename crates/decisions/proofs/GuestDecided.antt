@@ -38,7 +38,7 @@ module _ (l : Layout) (id slot : ℕ) (s : Shared) (g : Guest) (k : Cpu) where
   unfolding rule
   installs_none e = subst (λ (h : Option PageRange). Err Perm ≡ decides l id (Some slot) Install (with_guest s g (record k { hand = h }))) (sym e) refl
 
-  module _ (vm : VmId) (r : PageRange) (low : vm.slot < 64) (lives : is_guest live vm g ≡ true) (held : k.hand ≡ Some r) where
+  module _ (vm : VmId) (r : PageRange) (low : vm.slot < 64) (lives : (is_guest live vm g || is_guest dying vm g) ≡ true) (held : k.hand ≡ Some r) where
     -- the pool gets the hand
     pub tops_up : (left : CpuChange) → left ≡ hand_becomes None → guest_table_count l g.tree + length g.free + r.count ≤ 512 → Ok (record no_changes { part = Gain r; cpu = left; moved = Some r }) ≡ decides l id (Some slot) (Topup vm) (with_guest s g k)
     unfolding rule

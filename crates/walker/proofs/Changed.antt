@@ -19,7 +19,7 @@ use Rattle.walk_plan.specs.inner.Ranks.{table_gone}
 use Rattle.walk_plan.proofs.Needed.{need_walked}
 use Rattle.walk_plan.proofs.Edited.{IsWalked, tree_edited}
 use Rattle.walk_plan.proofs.Gone.{gone_returned}
-use Rattle.table_tree.proofs.Blank.{unmapped_gone}
+use Rattle.table_tree.proofs.OneWord.{one_word_gone}
 use Rattle.walker.proofs.Slotted.{IsGrown}
 
 module _ {A : Type 0} where
@@ -44,8 +44,8 @@ module _ {A : Type 0} (t u : Tree A) (first count : ℕ) (e : Entry) (c : Change
     enough = let n = need_is in omega (arith, n);
     map = grown.map;
     kept = grown.kept;
-    gone = λ low q l h. unmapped_gone (levels_below t.geometry) u.table low q grown.shape grown.tight l h;
-    full = λ low q l h. unmapped_gone (levels_below t.geometry) t.table low q t.shaped t.tight l h;
+    gone = λ low q l a. one_word_gone (levels_below t.geometry) u.table low q grown.shape grown.tight l a;
+    full = λ low q l a. one_word_gone (levels_below t.geometry) t.table low q t.shaped t.tight l a;
   }
 
   pub edited_tree : tree_of u ≡ edited (levels_below t.geometry) (tree_of t) (put first count e) fs

@@ -1,9 +1,10 @@
 pub mod Maps
 pub mod Ranks
 pub mod Parts
-pub mod Emptied
+pub mod Folded
 pub mod Opened
 pub mod Writes
 pub mod Slotted
 pub mod Walked
 pub mod Changed
+pub mod Says

@@ -36,11 +36,10 @@ use Rattle.walk_plan.proofs.Ranges.{block_one, block_split, slot_word, slot_chil
 use Rattle.walk_plan.proofs.Seen.{seen_deep}
 use Rattle.walk_plan.proofs.Ranked.{rank_child}
 use Rattle.walker.specs.inner.Steps.{IsRewritten, IsOpening, IsFilled, IsReady, IsOpened}
-use Rattle.walker.proofs.Maps.{changed_in, changed_before, changed_after, changed_at}
+use Rattle.walker.proofs.Maps.{changed_at}
 use Rattle.walker.proofs.Ranks.{given_later, given_some, block_rank_one, block_rank_split, slot_rank_word}
 use Rattle.walker.proofs.Parts.{parts_need, parts_ranked, parts_gone, gone_word, gone_child}
-use Rattle.table_tree.proofs.Blank.{advance_none}
-use Rattle.walker.proofs.Emptied.{emptied_each}
+use Rattle.walker.proofs.Folded.{split_not}
 
 -- at the last level each change leaves one word
 can_last : (n : ℕ) (e : Entry) → 1 ≤ n → IsRangeEntry n e → fits_word 0 e ≡ true
@@ -65,38 +64,6 @@ from_one : (d : ℕ) (x : Entry) (c : Change) → IsChange d c → stays_one_wor
 from_one zero x c h z = false_true _ (zero_word x c h) z
 from_one (suc d) x c h z = omega arith
 
-same_none : (x : Entry) (n : ℕ) → entry_eq (advance x n) Unmapped ≡ false → x ≡ Unmapped → ⊥
-same_none x n h e = let h' = rw e at h in absurd (cc)
-
-whole_none : (d : ℕ) (c : Change) → c.entry ≡ Unmapped → c.first ≡ 0 → c.end ≡ 2 ^ (9 * d) → is_whole d c ≡ false → ⊥
-whole_none d c e a b z =
-    let a' : (c.first == 0) ≡ true = grind (arith, nat_tests) in
-    let b' : (c.end == 2 ^ (9 * d)) ≡ true = grind (arith, nat_tests) in
-    let z' = rw (a', b', e) at z in absurd (cc)
-
--- what a split block has afterwards is not empty
-split_some : (d : ℕ) (x : Entry) (c : Change) (m : ℕ → Entry) → IsChange d c → stays_one_word d x c ≡ false → ((q : ℕ) → m q ≡ advance x (q % 2 ^ (9 * d))) → ((q : ℕ) → q < 2 ^ (9 * d) → changed_entry d m c q ≡ Unmapped) → ⊥
-split_some d x c m h z k all =
-    let s = 2 ^ (9 * d) in
-    let p = size_some d in
-    let some = h.some in
-    let within = h.within in
-    let lt : c.first < s = omega arith in
-    let f : c.first % s ≡ c.first = mod-eq_of_lt lt in
-    let e : c.entry ≡ Unmapped = advance_none c.entry (c.first % s - c.first) (sym (changed_in d m c c.first (omega (arith, f)) (omega (arith, f))) ∙ all c.first lt) in
-    let o = or-neither (is_whole d c) (entry_eq (advance x c.first) c.entry) z in
-    let n = same_none x c.first (rw e at o.1) in
-    by_eq c.first 0
-    (λ a. by_eq c.end s
-    (λ b. whole_none d c e a b o.0)
-    (λ b.
-    let lt' : c.end < s = omega (arith, b) in
-    let g : c.end % s ≡ c.end = mod-eq_of_lt lt' in
-    n (advance_none x (c.end % s) (sym (k c.end) ∙ sym (changed_after d m c c.end (omega (arith, g))) ∙ all c.end lt'))))
-    (λ a.
-    let g : 0 % s ≡ 0 = omega (arith, p) in
-    n (advance_none x (0 % s) (sym (k 0) ∙ sym (changed_before d m c 0 (omega (arith, g, a))) ∙ all 0 (omega (arith, p)))))
-
 -- a stock that is long enough has a first table
 pub popped_some : {X : Type 0} (r : Option X) (fs : List ℕ) (P : X → Type 0) → MatchOption r (fs ≡ []) P → 1 ≤ length fs → IsSome r
 popped_some None fs P h p = absurd (let e : length fs ≡ 0 = ap length h in omega arith)
@@ -110,7 +77,7 @@ module _ {A : Type 0} where
   kind_of_slot : Slot A → ℕ
   kind_of_slot s = slot_case (λ _. 0) (λ _. 1) s
 
-  same_word : (w v : ℕ) (s : Slot A) → s ≡ Word w → s ≡ Word v → w ≡ v
+  pub same_word : (w v : ℕ) (s : Slot A) → s ≡ Word w → s ≡ Word v → w ≡ v
   unfolding word_of_slot
   same_word w v s x y =
       let a : word_of_slot s ≡ w = ap word_of_slot x ∙ case_word {A = A} {R = ℕ} (λ a. a) (λ _. 0) w in
@@ -203,9 +170,9 @@ module _ {A : Type 0} where
 
   -- a new table in the place of a word
   ready_word : (d i w : ℕ) (t child : Table A) (x : Entry) (after : List ℕ) (c : Change) → slot_at t i ≡ Word w → x ≡ entry_of_word (desc_of (level_at (suc d)) w)
-      → ((low q : ℕ) → low < suc d → index_at (suc d) q ≡ i → table_in (suc d) t low q ≡ None) → IsFilled d x child → IsChange (suc d) c → IsOpening (suc d) (slot_at t i) c
+      → ((low q : ℕ) → low < suc d → index_at (suc d) q ≡ i → table_in (suc d) t low q ≡ None) → IsFilled d x child → fits_word (suc d) x ≡ true → IsChange (suc d) c → IsOpening (suc d) (slot_at t i) c
       → IsReady (suc d) d i t child (frame_of child ∷ after) after c
-  ready_word d i w t child x after c e k none filled h opening =
+  ready_word d i w t child x after c e k none filled fits h opening =
       let z = fresh_word w (slot_at t i) e in
       let split : stays_one_word (suc d) x c ≡ false = rw k (opening.split w e) in
       let need = slot_word (suc d) w (slot_at t i) c e ∙ ap (λ y. block_need (suc d) y c) (sym k) ∙ block_split (suc d) x c (omega arith) split in
@@ -224,12 +191,12 @@ module _ {A : Type 0} where
             rw (none low q l' y, filled.standing low q l) (ap (λ r. given_rank after None r) (parts_ranked d x child filled.parts c low q) ∙ given_later (frame_of child ∷ after) 1 None (parts_rank d x c low q)
             ∙ sym (ap (λ r. given_rank (frame_of child ∷ after) None r) (rank low q ∙ ap (λ a. cond a (Some 0) (later 1 (parts_rank d x c low q))) (eq-other low d ne))));
         stays = λ f y. omega (arith, gone f, none_gone f);
-        goes = λ f y. absurd (split_some (suc d) x c (entry_at d child) h split (λ q. filled.map q ∙ ap (λ m. advance x (q % block_pages m)) (sym n)) (emptied_each (suc d) (entry_at d child) c y));
+        goes = λ f y. absurd (split_not (suc d) (entry_at d child) c x h fits (λ q. filled.map q ∙ ap (λ m. advance x (q % block_pages m)) (sym n)) split y);
       }
 
   pub opened_word : (d i w : ℕ) (t u child : Table A) (x : Entry) (before after : List ℕ) → slot_at t i ≡ Word w → x ≡ entry_of_word (desc_of (level_at (suc d)) w) → IsSeen i t (slot_at t i) → IsWritten i 0 t u
-      → slots_of u ≡ set (slots_of t) i (Word 0) → frame_of u ≡ frame_of t → IsShaped (suc d) t → IsTight (suc d) t → before ≡ frame_of child ∷ after → IsFilled d x child → IsOpened (suc d) d i t u child before after
-  opened_word d i w t u child x before after e k seen h slots frame shape tight stock filled =
+      → slots_of u ≡ set (slots_of t) i (Word 0) → frame_of u ≡ frame_of t → IsShaped (suc d) t → IsTight (suc d) t → before ≡ frame_of child ∷ after → IsFilled d x child → fits_word (suc d) x ≡ true → IsOpened (suc d) d i t u child before after
+  opened_word d i w t u child x before after e k seen h slots frame shape tight stock filled fits =
       let z = fresh_word w (slot_at t i) e in
       let n : suc d ≡ d + 1 = omega arith in
       let none : (low q : ℕ) → low < suc d → index_at (suc d) q ≡ i → table_in (suc d) t low q ≡ None = λ low q l y. seen.no_table w (suc d) low q e y l in
@@ -246,5 +213,5 @@ module _ {A : Type 0} where
         uses = λ f. rw (z, stock) (let a = filled.uses f in let b = h.uses (suc d) f in omega (arith, a, b));
         tables = omega (arith, filled.tables, h.tables (suc d), z);
         stock = rw (z, stock) refl;
-        ready = λ c p q. rw stock (ready_word d i w t child x after c e k none filled p q);
+        ready = λ c p q. rw stock (ready_word d i w t child x after c e k none filled fits p q);
       }

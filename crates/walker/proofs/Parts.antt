@@ -16,10 +16,10 @@ use Rattle.table_tree.proofs.Slots.{case_word, case_child}
 use Rattle.walk_plan.specs.declared.change.Change.{Change}
 use Rattle.walk_plan.specs.Changes.{part}
 use Rattle.walk_plan.specs.inner.Needs.{sum_to, met, block_need, block_parts, slot_need, table_parts, table_need}
-use Rattle.walk_plan.specs.inner.Ranks.{later, block_rank, parts_rank, slot_rank, table_rank, slot_gone, gone_parts, table_gone}
+use Rattle.walk_plan.specs.inner.Ranks.{is_folded, later, block_rank, parts_rank, slot_rank, table_rank, slot_gone, gone_parts, table_gone}
 use Rattle.walk_plan.proofs.Ranges.{slot_word, sum_none}
 use Rattle.walk_plan.proofs.Joined.{sum_same}
-use Rattle.walker.specs.inner.Steps.{IsPart, is_emptied}
+use Rattle.walker.specs.inner.Steps.{IsPart}
 use Rattle.walker.proofs.Ranks.{slot_rank_word, met_at_same}
 
 zero_either : (b : Bool) (x : ℕ) → x ≡ 0 → cond b x 0 ≡ 0
@@ -45,7 +45,7 @@ module _ {A : Type 0} where
   gone_word (suc n) w f s c e = rw e (case_word _ _ w)
 
   pub gone_child : (n f : ℕ) (b : Box (Table A) A) (s : Slot A) (c : Change) → s ≡ Child b
-      → slot_gone (suc n) s c f ≡ table_gone n b.value c f + cond (is_emptied (suc n) (entry_at n b.value) c) (is_one (frame_of b.value) f) 0
+      → slot_gone (suc n) s c f ≡ table_gone n b.value c f + cond (is_folded (suc n) (entry_at n b.value) c) (is_one (frame_of b.value) f) 0
   unfolding slot_gone gone_parts
   gone_child n f b s c e = rw e (case_child _ _ b)
 

@@ -1,31 +1,25 @@
 -- A table as a change goes on, slot by slot.
 use Rattle.std.proofs.Common.{◌≡◌, ◌≢◌, ℕ, ◌+◌, ◌-◌, ◌*◌, ◌/◌, ◌%◌, ◌^◌, ◌<◌, ◌≤◌, refl, sym, ap, arith, ◌∙◌, List, drop, take}
 use Rattle.std.proofs.lemmas.List.{drop-drop}
-use Rattle.std.proofs.Math.Nat.{mod-eq_of_lt}
-use Rattle.page_state.specs.declared.entry.Entry.{Entry}
-use Rattle.page_state.specs.declared.entry.Entry.TheVariants.{Unmapped}
 use Rattle.page_state.specs.Geometries.{block_pages}
 use Rattle.page_state.specs.Counts.{frame_count}
 use Rattle.page_state.proofs.Counts.{count_split}
 use Rattle.page_state.proofs.Cases.{by_eq, by_lt}
-use Rattle.table_tree.specs.Shape.{IsBlank}
 use Rattle.table_tree.specs.declared.table.Table.{Table}
 use Rattle.table_tree.specs.Meaning.{index_at, slot_at, entry_at}
 use Rattle.table_tree.specs.Tables.{table_in}
+use Rattle.table_tree.specs.Tight.{IsOneWordAt}
 use Rattle.table_tree.proofs.PathNumbers.{index_same}
-use Rattle.table_tree.proofs.Steps.{blank_entries}
 use Rattle.walk_plan.specs.declared.change.Change.{Change}
 use Rattle.walk_plan.specs.Changes.{IsChange, changed_entry, part}
 use Rattle.walk_plan.specs.inner.Needs.{sum_to, met, slot_need, table_parts}
 use Rattle.walk_plan.specs.inner.Ranks.{given_rank, later, slot_rank, table_rank, slot_gone, gone_parts}
 use Rattle.walk_plan.proofs.Ranges.{met_some, sum_next, table_parts_is}
 use Rattle.walker.proofs.Ranks.{given_later, given_none, rank_before, rank_after, rank_met}
-use Rattle.walker.proofs.Maps.{changed_in}
-use Rattle.table_tree.proofs.Blank.{advance_none}
 
--- the tables of the slots before slot `i`, as far as something is mapped there
+-- the tables of the slots before slot `i`, as far as no word can say what is there
 pub IsKept : {A : Type 0} → ℕ → ℕ → Change → List ℕ → Table A → Table A → Type 0
-IsKept d i c fs o t = (low q p : ℕ) → low < d → p / block_pages (low + 1) ≡ q / block_pages (low + 1) → index_at d q < i → (entry_at d t p ≡ Unmapped → ⊥) → table_in d t low q ≡ given_rank fs (table_in d o low q) (table_rank d o c low q)
+IsKept d i c fs o t = (low q : ℕ) → low < d → index_at d q < i → (IsOneWordAt (low + 1) (entry_at d t) q → ⊥) → table_in d t low q ≡ given_rank fs (table_in d o low q) (table_rank d o c low q)
 
 module _ {A : Type 0} where
   gone_parts_is : (d f : ℕ) (t : Table A) (i : ℕ) (c : Change) → gone_parts d t f i c ≡ slot_gone d (slot_at t i) c f
@@ -41,29 +35,29 @@ module _ {A : Type 0} where
 
   pub kept_start : (d : ℕ) (c : Change) (fs : List ℕ) (o : Table A) → IsKept d (c.first / 2 ^ (9 * d)) c fs o o
   unfolding IsKept
-  kept_start d c fs o low q p l e x n = sym (given_none fs (table_in d o low q) (table_rank d o c low q) (rank_before d c o low q x))
+  kept_start d c fs o low q l x n = sym (given_none fs (table_in d o low q) (table_rank d o c low q) (rank_before d c o low q x))
 
   pub kept_next : (d i : ℕ) (c : Change) (o t u : Table A) (fs : List ℕ) → IsChange d (part d i c) → slot_at t i ≡ slot_at o i → IsKept d i c fs o t
       → ((low q : ℕ) → low < d → i ≤ index_at d q → table_in d t low q ≡ table_in d o low q)
-      → ((low q p : ℕ) → low < d → p / block_pages (low + 1) ≡ q / block_pages (low + 1) → index_at d q ≡ i → (entry_at d u p ≡ Unmapped → ⊥)
+      → ((low q : ℕ) → low < d → index_at d q ≡ i → (IsOneWordAt (low + 1) (entry_at d u) q → ⊥)
       → table_in d u low q ≡ given_rank (drop (sum_to (met d c (table_parts d o)) i) fs) (table_in d t low q) (slot_rank d (slot_at t i) (part d i c) low q))
       → ((low q : ℕ) → low < d → index_at d q ≢ i → table_in d u low q ≡ table_in d t low q)
       → ((q : ℕ) → index_at d q ≢ i → entry_at d u q ≡ entry_at d t q)
       → IsKept d (i + 1) c fs o u
   unfolding IsKept
-  kept_next d i c o t u fs h slot before stand here aside other low q p l e x n =
+  kept_next d i c o t u fs h slot before stand here aside other low q l x n =
       by_eq (index_at d q) i
-      (λ y. here low q p l e y n ∙ given_later fs (sum_to (met d c (table_parts d o)) i) (table_in d t low q) (slot_rank d (slot_at t i) (part d i c) low q)
+      (λ y. here low q l y n ∙ given_later fs (sum_to (met d c (table_parts d o)) i) (table_in d t low q) (slot_rank d (slot_at t i) (part d i c) low q)
       ∙ ap (λ s. given_rank fs (table_in d t low q) (later (sum_to (met d c (table_parts d o)) i) (slot_rank d s (part d i c) low q))) slot
       ∙ ap (λ r. given_rank fs (table_in d t low q) r) (sym (rank_met d i c o low q h y)) ∙ ap (λ a. given_rank fs a (table_rank d o c low q)) (stand low q l (omega (arith, y))))
-      (λ y. let z : index_at d p ≢ i = λ w. y (sym (index_same d low p q l e) ∙ w) in aside low q l y ∙ before low q p l e (omega (arith, x, y)) (λ w. n (other p z ∙ w)))
+      (λ y. aside low q l y ∙ before low q l (omega (arith, x, y)) (λ a. n (record { entry = a.entry; fits = a.fits; along = λ p e. let z : index_at d p ≢ i = λ w. y (sym (index_same d low p q l e) ∙ w) in other p z ∙ a.along p e })))
 
   pub kept_end : (d i : ℕ) (c : Change) (o t : Table A) (fs : List ℕ) → 1 ≤ c.end → (c.end - 1) / 2 ^ (9 * d) + 1 ≤ i → IsKept d i c fs o t → ((low q : ℕ) → low < d → i ≤ index_at d q → table_in d t low q ≡ table_in d o low q)
-      → (low q p : ℕ) → low < d → p / block_pages (low + 1) ≡ q / block_pages (low + 1) → (entry_at d t p ≡ Unmapped → ⊥) → table_in d t low q ≡ given_rank fs (table_in d o low q) (table_rank d o c low q)
+      → (low q : ℕ) → low < d → (IsOneWordAt (low + 1) (entry_at d t) q → ⊥) → table_in d t low q ≡ given_rank fs (table_in d o low q) (table_rank d o c low q)
   unfolding IsKept
-  kept_end d i c o t fs some last before stand low q p l e n =
+  kept_end d i c o t fs some last before stand low q l n =
       by_lt (index_at d q) i
-      (λ y. before low q p l e y n)
+      (λ y. before low q l y n)
       (λ y. stand low q l y ∙ sym (given_none fs (table_in d o low q) (table_rank d o c low q) (rank_after d c o low q some (omega (arith, last, y)))))
 
 -- the frames that are left and that were taken, over one more part
@@ -72,12 +66,3 @@ spare_next n m k fs gs hs a b e = b ∙ ap (λ l. drop m l) a ∙ drop-drop m n 
 
 pub taken_next : (f n m k : ℕ) (fs gs : List ℕ) → gs ≡ drop n fs → k ≡ n + m → frame_count f (take k fs) ≡ frame_count f (take n fs) + frame_count f (take m gs)
 taken_next f n m k fs gs a e = ap (λ j. frame_count f (take j fs)) e ∙ count_split f n m fs ∙ ap (λ l. frame_count f (take n fs) + frame_count f (take m l)) (sym a)
-
--- a change that leaves all words 0 is one to Unmapped
-pub blank_entry : {A : Type 0} (d : ℕ) (t : Table A) (m : ℕ → Entry) (c : Change) → IsChange (d + 1) c → IsBlank t → ((q : ℕ) → entry_at d t q ≡ changed_entry (d + 1) m c q) → c.entry ≡ Unmapped
-blank_entry d t m c h blank map =
-    let some = h.some in
-    let within = h.within in
-    let lt : c.first < 2 ^ (9 * (d + 1)) = omega arith in
-    let f : c.first % 2 ^ (9 * (d + 1)) ≡ c.first = mod-eq_of_lt lt in
-    advance_none c.entry (c.first % 2 ^ (9 * (d + 1)) - c.first) (sym (changed_in (d + 1) m c c.first (omega (arith, f)) (omega (arith, f))) ∙ sym (map c.first) ∙ blank_entries d t blank c.first)

@@ -3,7 +3,6 @@ use Rattle.std.proofs.Common.{◌≡◌, ℕ, ◌+◌, ◌*◌, ◌/◌, ◌%◌
 use Rattle.std.proofs.Math.ListN.{set}
 use Rattle.descriptor.specs.Word.{desc_of}
 use Rattle.page_state.specs.declared.entry.Entry.{Entry}
-use Rattle.page_state.specs.declared.entry.Entry.TheVariants.{Unmapped}
 use Rattle.page_state.specs.Counts.{frame_count}
 use Rattle.page_state.specs.Entries.{advance, entry_of_word}
 use Rattle.page_state.specs.Geometries.{block_pages}
@@ -18,6 +17,7 @@ use Rattle.table_tree.specs.Changes.{IsAttached, IsWritten}
 use Rattle.table_tree.proofs.Digits.{digits}
 use Rattle.table_tree.proofs.Slots.{set_here, set_others}
 use Rattle.table_tree.specs.Tables.{uses_in, table_in}
+use Rattle.table_tree.specs.Tight.{IsOneWordAt}
 use Rattle.walk_plan.specs.declared.change.Change.{Change}
 use Rattle.walk_plan.specs.Changes.{changed_entry}
 use Rattle.walk_plan.specs.inner.Needs.{slot_need}
@@ -66,8 +66,8 @@ module _ {A : Type 0} where
     pub word_map : (q : ℕ) → index_at d q ≡ i → entry_at d u q ≡ changed_entry d (entry_at d t) c q
     word_map q x = h.map d q ∙ ap (λ o. cond o (word_entry d q w) (entry_at d t q)) (eq-made (index_at d q) i x) ∙ r.map q x
 
-    pub word_kept : (fs : List ℕ) (low q p : ℕ) → low < d → p / block_pages (low + 1) ≡ q / block_pages (low + 1) → index_at d q ≡ i → (entry_at d u p ≡ Unmapped → ⊥) → table_in d u low q ≡ given_rank fs (table_in d t low q) (slot_rank d (slot_at t i) c low q)
-    word_kept fs low q p l b x n = h.standing d low q ∙ no_rank fs (table_in d t low q) (slot_rank d (slot_at t i) c low q) (r.rank low q)
+    pub word_kept : (fs : List ℕ) (low q : ℕ) → low < d → index_at d q ≡ i → (IsOneWordAt (low + 1) (entry_at d u) q → ⊥) → table_in d u low q ≡ given_rank fs (table_in d t low q) (slot_rank d (slot_at t i) c low q)
+    word_kept fs low q l x n = h.standing d low q ∙ no_rank fs (table_in d t low q) (slot_rank d (slot_at t i) c low q) (r.rank low q)
 
     pub word_uses : (fs : List ℕ) (f : ℕ) → uses_in d u f + slot_gone d (slot_at t i) c f ≡ uses_in d t f + frame_count f (take (slot_need d (slot_at t i) c) fs)
     word_uses fs f = rw (r.need, r.gone f) (ap (λ n. n + 0) (h.uses d f))

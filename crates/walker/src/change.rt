@@ -1,12 +1,13 @@
 //! A change of a range of a tree: with tables in hand, or with tables taken for it.
 ghost use Rattle.std.specs.Prelude.{◌≡◌, ℕ, ◌+◌, ◌-◌, ◌*◌, ◌<◌, ◌≤◌, ◌↔◌, Err, length, drop, IsOk, OnOk, OnErr};
+ghost use Rattle.coarse_trees.specs.Coarsest.{IsCanonical, map_need};
 ghost use Rattle.page_state.specs.Regions.{end_of};
 ghost use Rattle.page_state.specs.Tables.{put, need, returned, edited, all_given};
 ghost use Rattle.page_state.specs.Geometries.{levels_below, input_pages};
 ghost use Rattle.page_state.specs.Counts.{frame_count};
 ghost use Rattle.table_tree.specs.Reading.{count_of};
 ghost use Rattle.table_tree.specs.Stocks.{frames_of};
-ghost use Rattle.table_tree.specs.View.{tree_of, uses, tables_of, root_of, spares_of};
+ghost use Rattle.table_tree.specs.View.{meaning, tree_of, uses, tables_of, root_of, spares_of};
 ghost use Rattle.walk_plan.specs.Changes.{CanBeSaidOn};
 
 use crate::walk::set_all;
@@ -61,7 +62,8 @@ pub fn set_with<A: Allocator>(
 
 /// Gives the pages of a range an entry, which advances along the range, or changes nothing but that the tree may have more
 /// spares: NoPool is answered exactly where the pool has fewer frames than the change needs tables, NoMemory only where the
-/// tree has fewer spares and memory was refused.
+/// tree has fewer spares and memory was refused. The tree is the one coarsest tree of its map, before and afterwards, so the
+/// maps and the number of free frames alone decide whether NoPool is answered.
 pub fn set<A: Allocator + Copy>(
     alloc: A,
     tree: &mut Tree<A>,
@@ -78,6 +80,8 @@ pub fn set<A: Allocator + Copy>(
     ensures tree { OnOk result (tree_of tree.new ≡ edited (levels_below tree.old.geometry) (tree_of tree.old) (put range.first.0 range.count entry) pool.old.frames) }
     ensures pool { OnOk result (pool.new.frames ≡ all_given (returned (levels_below tree.old.geometry) (tree_of tree.old) (put range.first.0 range.count entry)) (drop (need (levels_below tree.old.geometry) (tree_of tree.old) (put range.first.0 range.count entry)) pool.old.frames)) }
     ensures no_pool { (result ≡ Err PoolFault.NoPool) ↔ (length pool.old.frames < need (levels_below tree.old.geometry) (tree_of tree.old) (put range.first.0 range.count entry)) }
+    ensures canonical { IsCanonical (levels_below tree.new.geometry) (tree_of tree.new) }
+    ensures no_pool_by_map { (result ≡ Err PoolFault.NoPool) ↔ (length pool.old.frames < map_need (levels_below tree.old.geometry) (meaning tree.old) (put range.first.0 range.count entry)) }
     ensures no_memory { result ≡ Err PoolFault.NoMemory → spares_of tree.old < need (levels_below tree.old.geometry) (tree_of tree.old) (put range.first.0 range.count entry) }
     ensures nothing { need (levels_below tree.old.geometry) (tree_of tree.old) (put range.first.0 range.count entry) ≡ 0 → IsOk result }
     ensures spares { OnOk result (spares_of tree.new ≡ spares_of tree.old - need (levels_below tree.old.geometry) (tree_of tree.old) (put range.first.0 range.count entry) + length (returned (levels_below tree.old.geometry) (tree_of tree.old) (put range.first.0 range.count entry))) }

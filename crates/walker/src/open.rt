@@ -1,18 +1,18 @@
-//! What a change does to one slot: a word in the place of a word, or a table to go on in.
-ghost use Rattle.std.specs.Prelude.{◌≡◌, ◌≢◌, ℕ, ◌+◌, ◌<◌, ◌≤◌, None, IfSome, is_some, length, Decides};
+//! What a change does to one slot: a word in the place of a word, or a table to go on in, which is put back.
+ghost use Rattle.std.specs.Prelude.{◌≡◌, ◌≢◌, ℕ, ◌+◌, ◌*◌, ◌<◌, ◌≤◌, None, IfSome, MatchOption, is_some, length, Decides};
 ghost use Rattle.descriptor.specs.Word.{desc_of, CanBeSaid};
-ghost use Rattle.page_state.specs.declared.entry.Entry.TheVariants.{Unmapped};
 ghost use Rattle.page_state.specs.Entries.{advance, entry_of_word, word_of_entry};
+ghost use Rattle.page_state.specs.Geometries.{block_pages};
 ghost use Rattle.table_tree.specs.Ahead.{GoesAhead};
 ghost use Rattle.table_tree.specs.Meaning.{IsDepth, level_at, slot_at, frame_of, word_entry};
 ghost use Rattle.table_tree.specs.Changes.{IsNew, IsSeen};
 ghost use Rattle.table_tree.specs.Reading.{count_of};
-ghost use Rattle.table_tree.specs.Shape.{IsWide, IsBlank, HoldsWord, IsEntryWord, IsShaped};
+ghost use Rattle.table_tree.specs.Shape.{IsWide, IsBlank, HoldsWord, HasSmallFrame, IsEntryWord, IsShaped};
 ghost use Rattle.table_tree.specs.Slots.{fresh};
 ghost use Rattle.table_tree.specs.Stocks.{frames_of};
-ghost use Rattle.table_tree.specs.Tight.{IsTight};
+ghost use Rattle.table_tree.specs.Tight.{HasEntry, IsOneWord, IsTight};
 ghost use Rattle.walk_plan.specs.Changes.{IsChange, changed_entry, stays_one_word};
-ghost use Rattle.walker.specs.inner.Steps.{IsFilled, IsFirst, IsFound, IsOpened};
+ghost use Rattle.walker.specs.inner.Steps.{IsFilled, IsFirst, IsFound, IsOpened, IsPutBack, IsSaidBy};
 
 use page_state::Entry;
 use std::alloc::Allocator;
@@ -134,31 +134,95 @@ pub(crate) fn opened<A: Allocator>(
     }
 }
 
-/// Whether all words of a table are 0.
-fn is_blank<A: Allocator>(table: &Table<A>, reads: &mut Reads) -> bool
-    requires wide { IsWide table.now }
-    ensures blank { Decides result (IsBlank table.now) }
-    ensures reads { count_of reads.new ≤ count_of reads.old + 512 }
+/// Whether a slot holds a word that gives the first page of its block an entry.
+fn gives<A: Allocator>(slot: &Slot<A>, depth: u32, entry: Entry) -> bool
+    requires { IsDepth depth }
+    ensures { Decides result (HasEntry depth entry slot.now) }
 {
-    for i in 0..512usize {
-        match table.slot(i, reads) {
-            Slot::Word(0) => {}
-            _ => return false,
+    match slot {
+        Slot::Word(word) => entry_of(depth, *word).is_same(entry),
+        Slot::Child(_) => false,
+    }
+}
+
+/// Whether the slots of a table behind its first go on with an entry.
+fn goes_on<A: Allocator>(table: &Table<A>, depth: u32, first: Entry, reads: &mut Reads) -> bool
+    requires depth_in { IsDepth depth }
+    requires wide { IsWide table.now }
+    requires small { HasSmallFrame first }
+    ensures on { Decides result ((k : ℕ) → 1 ≤ k → k < 512 → HasEntry depth (advance first (k * block_pages depth)) (slot_at table.now k)) }
+    ensures reads { count_of reads.new ≤ count_of reads.old + 511 }
+{
+    for i in 1..512usize {
+        let part = first.advance(pages_before(depth, i as u64));
+        if !gives(table.slot(i, reads), depth, part) {
+            return false;
         }
     }
     true
 }
 
-/// Whether a change to the entry left all words of a table 0. It looks only where the entry is Unmapped.
-pub(crate) fn is_spent<A: Allocator>(table: &Table<A>, entry: Entry, reads: &mut Reads) -> bool
+/// The word one level up that says what a table says, where there is one. It looks at the slots as far as they go on.
+fn folded<A: Allocator>(table: &Table<A>, depth: u32, reads: &mut Reads) -> Option<u64>
+    requires depth_in { IsDepth (depth + 1) }
     requires wide { IsWide table.now }
-    requires kept { IsBlank table.now → entry ≡ Unmapped }
-    ensures blank { Decides result (IsBlank table.now) }
+    ensures found { MatchOption result (IsOneWord depth table.now → ⊥) (λ w. IsSaidBy depth table.now w) }
     ensures reads { count_of reads.new ≤ count_of reads.old + 512 }
-    ensures unread { entry ≢ Unmapped → reads.new ≡ reads.old }
 {
-    match entry {
-        Entry::Unmapped => is_blank(table, reads),
-        _ => false,
+    page_state::laws::block_tests();
+    let first = match table.slot(0, reads) {
+        Slot::Word(word) => entry_of(depth, *word),
+        Slot::Child(_) => return None,
+    };
+    if !first.fits_word(depth + 1) {
+        return None;
+    }
+    if !goes_on(table, depth, first, reads) {
+        return None;
+    }
+    Some(word_of(depth + 1, first))
+}
+
+/// Writes 0 over all words of a table.
+fn wipe<A: Allocator>(table: &mut Table<A>)
+    requires wide { IsWide table.old }
+    requires words { (k : ℕ) → k < 512 → HoldsWord (slot_at table.old k) }
+    ensures frame { frame_of table.new ≡ frame_of table.old }
+    ensures wide { IsWide table.new }
+    ensures blank { IsBlank table.new }
+{
+    for i in 0..512usize {
+        table.put(i, 0);
+    }
+}
+
+/// Puts a child that was changed back into its slot: itself, or the word that says what it says, where there is one. Then
+/// the child goes to the stock. The child has `depth` levels below it, the table one more.
+pub(crate) fn put_back<A: Allocator>(
+    table: &mut Table<A>,
+    depth: u32,
+    i: usize,
+    child: Box<Table<A>, A>,
+    freed: &mut Stock<A>,
+    reads: &mut Reads,
+)
+    requires depth_in { IsDepth (depth + 1) }
+    requires index_in { i < 512 }
+    requires wide { IsWide table.old }
+    requires holds { HoldsWord (slot_at table.old i) }
+    requires child_wide { IsWide child.value }
+    ensures frame { frame_of table.new ≡ frame_of table.old }
+    ensures others { (j : ℕ) → j ≢ i → slot_at table.new j ≡ slot_at table.old j }
+    ensures put { IsPutBack depth i table.old table.new child.value (frames_of freed.old) (frames_of freed.new) }
+    ensures reads { count_of reads.new ≤ count_of reads.old + 512 }
+{
+    let mut child = child;
+    match folded(&child, depth, reads) {
+        Some(word) => {
+            table.put(i, word);
+            wipe(&mut child);
+            freed.push(child);
+        }
+        None => table.attach(i, child),
     }
 }

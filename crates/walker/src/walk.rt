@@ -1,6 +1,5 @@
 //! A change of a table, slot by slot.
-ghost use Rattle.std.specs.Prelude.{◌≡◌, ◌≢◌, ℕ, ◌+◌, ◌-◌, ◌*◌, ◌/◌, ◌<◌, ◌≤◌, length, take, drop};
-ghost use Rattle.page_state.specs.declared.entry.Entry.TheVariants.{Unmapped};
+ghost use Rattle.std.specs.Prelude.{◌≡◌, ◌≢◌, ℕ, ◌+◌, ◌-◌, ◌*◌, ◌<◌, ◌≤◌, length, take, drop};
 ghost use Rattle.page_state.specs.Geometries.{block_pages};
 ghost use Rattle.page_state.specs.Counts.{frame_count};
 ghost use Rattle.table_tree.specs.Meaning.{IsDepth, index_at, slot_at, frame_of, entry_at};
@@ -8,13 +7,13 @@ ghost use Rattle.table_tree.specs.Reading.{count_of};
 ghost use Rattle.table_tree.specs.Shape.{IsShaped};
 ghost use Rattle.table_tree.specs.Stocks.{frames_of};
 ghost use Rattle.table_tree.specs.Tables.{tables_in, uses_in, table_in};
-ghost use Rattle.table_tree.specs.Tight.{IsTight};
+ghost use Rattle.table_tree.specs.Tight.{IsOneWordAt, IsTight};
 ghost use Rattle.walk_plan.specs.Changes.{IsChange, changed_entry};
 ghost use Rattle.walk_plan.specs.inner.Needs.{slot_need, table_need};
 ghost use Rattle.walk_plan.specs.inner.Looks.{edges};
 ghost use Rattle.walk_plan.specs.inner.Ranks.{given_rank, slot_rank, table_rank, slot_gone, table_gone};
 
-use crate::open::{Found, is_spent, look_for, opened};
+use crate::open::{Found, look_for, opened, put_back};
 use std::alloc::Allocator;
 use table_tree::{Reads, Stock, Table};
 use walk_plan::Change;
@@ -42,7 +41,7 @@ fn set_slot<A: Allocator>(
     ensures others { (j : ℕ) → j ≢ i → slot_at table.new j ≡ slot_at table.old j }
     ensures map { (q : ℕ) → index_at depth q ≡ i → entry_at depth table.new q ≡ changed_entry depth (entry_at depth table.old) change q }
     ensures other { (q : ℕ) → index_at depth q ≢ i → entry_at depth table.new q ≡ entry_at depth table.old q }
-    ensures kept { (low q p : ℕ) → low < depth → p / block_pages (low + 1) ≡ q / block_pages (low + 1) → index_at depth q ≡ i → (entry_at depth table.new p ≡ Unmapped → ⊥) → table_in depth table.new low q ≡ given_rank (frames_of spare.old) (table_in depth table.old low q) (slot_rank depth (slot_at table.old i) change low q) }
+    ensures kept { (low q : ℕ) → low < depth → index_at depth q ≡ i → (IsOneWordAt (low + 1) (entry_at depth table.new) q → ⊥) → table_in depth table.new low q ≡ given_rank (frames_of spare.old) (table_in depth table.old low q) (slot_rank depth (slot_at table.old i) change low q) }
     ensures stand { (low q : ℕ) → low < depth → index_at depth q ≢ i → table_in depth table.new low q ≡ table_in depth table.old low q }
     ensures spare { frames_of spare.new ≡ drop (slot_need depth (slot_at table.old i) change) (frames_of spare.old) }
     ensures uses { (f : ℕ) → uses_in depth table.new f + slot_gone depth (slot_at table.old i) change f ≡ uses_in depth table.old f + frame_count f (take (slot_need depth (slot_at table.old i) change) (frames_of spare.old)) }
@@ -59,11 +58,7 @@ fn set_slot<A: Allocator>(
     };
     let mut child = opened(table, depth - 1, i, first, spare);
     set_all(&mut child, depth - 1, change, spare, freed, reads);
-    if is_spent(&child, change.entry, reads) {
-        freed.push(child);
-    } else {
-        table.attach(i, child);
-    }
+    put_back(table, depth - 1, i, child, freed, reads);
 }
 
 /// Makes a change in a table.
@@ -85,7 +80,7 @@ pub(crate) fn set_all<A: Allocator>(
     ensures shape { IsShaped depth table.new }
     ensures tight { IsTight depth table.new }
     ensures map { (q : ℕ) → entry_at depth table.new q ≡ changed_entry (depth + 1) (entry_at depth table.old) change q }
-    ensures kept { (low q p : ℕ) → low < depth → p / block_pages (low + 1) ≡ q / block_pages (low + 1) → (entry_at depth table.new p ≡ Unmapped → ⊥) → table_in depth table.new low q ≡ given_rank (frames_of spare.old) (table_in depth table.old low q) (table_rank depth table.old change low q) }
+    ensures kept { (low q : ℕ) → low < depth → (IsOneWordAt (low + 1) (entry_at depth table.new) q → ⊥) → table_in depth table.new low q ≡ given_rank (frames_of spare.old) (table_in depth table.old low q) (table_rank depth table.old change low q) }
     ensures spare { frames_of spare.new ≡ drop (table_need depth table.old change) (frames_of spare.old) }
     ensures uses { (f : ℕ) → uses_in depth table.new f + table_gone depth table.old change f ≡ uses_in depth table.old f + frame_count f (take (table_need depth table.old change) (frames_of spare.old)) }
     ensures freed { (f : ℕ) → frame_count f (frames_of freed.new) ≡ table_gone depth table.old change f + frame_count f (frames_of freed.old) }

@@ -35,14 +35,12 @@ fn block(depth: u32, page: u64) -> PageRange
     }
 }
 
-/// Whether the block of a depth that holds a page lies in the page's region, one of memory, and is all unmapped.
+/// Whether the block of a depth that holds a page lies in the page's region and is all unmapped.
 fn may_map<A: Allocator>(shared: &SharedPart<A>, region: Region, depth: u32, page: u64) -> bool
     requires { depth ≤ 2 }
     ensures { result ≡ may_map_of (meaning shared.now.host.tree) region depth page }
 {
-    region.kind == RegionKind::Memory
-        && block(depth, page).is_within(region.pages)
-        && shared.host.is_empty(depth, Page(page))
+    block(depth, page).is_within(region.pages) && shared.host.is_empty(depth, Page(page))
 }
 
 /// The depth of the largest block that may be mapped, and 0 for the page alone.
@@ -70,8 +68,7 @@ fn abort_leaf(region: Region, first: u64) -> Entry
 }
 
 /// The host touches a page of a region. One that is annotated is somebody else's. One that is unmapped gets mapped, with the
-/// largest aligned block around it that lies in one memory region and is all unmapped; a page of a device alone. What is
-/// mapped already stays.
+/// largest aligned block around it that lies in one region and is all unmapped. What is mapped already stays.
 #[tactic(auto, unfolding(reference_model::specs::Rules::rule, reference_model::specs::SharedRules::abort_edit))]
 pub(crate) fn decide_host_abort<A: Allocator>(
     layout: &Layout,

@@ -9,10 +9,10 @@ ghost use Rattle.page_state.specs.Layouts.{Layout as ReferenceLayout};
 ghost use Rattle.page_state.specs.Search.{all_below};
 ghost use Rattle.step_reply.specs.declared.step.Step.TheVariants.{FinishGuest, Install, ReclaimPool, Topup};
 ghost use Rattle.reference_model.specs.Answers.{decides};
-ghost use Rattle.reference_model.specs.GuestRules.{moved_on as moved_on_of, ticket_kind as ticket_kind_of, ticket_vm as ticket_vm_of};
+ghost use Rattle.reference_model.specs.GuestRules.{is_guest, moved_on as moved_on_of, ticket_kind as ticket_kind_of, ticket_vm as ticket_vm_of};
 ghost use Rattle.reference_model.specs.Rely.{CanRely};
 ghost use Rattle.reference_model.specs.SharedRules.{hand_becomes as hand_becomes_of, to_host as to_host_of};
-ghost use Rattle.reference_model.specs.State.{Guest as ReferenceGuest, Shared};
+ghost use Rattle.reference_model.specs.State.{Guest as ReferenceGuest, Shared, live, dying};
 ghost use Rattle.reference_model.specs.Used.{with_guest};
 
 use super::change;
@@ -107,7 +107,14 @@ pub(crate) fn decide_install(cpu: &CpuState) -> Result<Changes, Refusal>
     })
 }
 
-/// A Live guest's pool gets the hand: it holds at most 512 frames with it, its tables among them.
+/// Whether the guest is Live or Dying, of that slot's generation.
+fn is_standing<A: Allocator>(guest: &Guest<A>, vm: VmId) -> bool
+    ensures { result ≡ (is_guest live vm (guest_of guest.now) || is_guest dying vm (guest_of guest.now)) }
+{
+    guest.is_live(vm) || guest.is_dying(vm)
+}
+
+/// A Live or Dying guest's pool gets the hand: it holds at most 512 frames with it, its tables among them.
 #[tactic(auto, unfolding(reference_model::specs::Rules::rule))]
 pub(crate) fn decide_topup<A: Allocator>(
     layout: &Layout,
@@ -121,7 +128,7 @@ pub(crate) fn decide_topup<A: Allocator>(
     if vm.slot >= SLOTS {
         return Err(Refusal::Invalid);
     }
-    if !guest.is_live(vm) {
+    if !is_standing(guest, vm) {
         return Err(Refusal::NoVm);
     }
     let Some(hand) = cpu.hand else {

@@ -1,10 +1,9 @@
 -- What a change does to one slot.
-use Rattle.std.specs.Prelude.{◌≡◌, ◌≢◌, ℕ, ◌+◌, ◌*◌, ◌%◌, ◌<◌, ◌≤◌, Bool, true, false, List, Option, IfSome, Some, None, drop, take, slice_set}
+use Rattle.std.specs.Prelude.{◌≡◌, ◌≢◌, ℕ, ◌+◌, ◌*◌, ◌%◌, ◌<◌, ◌≤◌, ◌⊎◌, true, false, List, ◌∷◌, Option, IfSome, Some, None, drop, take, slice_set}
 use Rattle.descriptor.specs.Word.{desc_of, CanBeSaid}
 use Rattle.page_state.specs.declared.entry.Entry.{Entry}
 use Rattle.page_state.specs.Entries.{advance, entry_of_word, word_of_entry}
-use Rattle.page_state.specs.EntryTests.{is_unmapped}
-use Rattle.page_state.specs.Search.{all_below}
+use Rattle.page_state.specs.Blocks.{fits_word}
 use Rattle.page_state.specs.Geometries.{block_pages}
 use Rattle.page_state.specs.Counts.{frame_count, is_one}
 use Rattle.table_tree.specs.declared.table.Table.{Table}
@@ -14,13 +13,14 @@ use Rattle.table_tree.specs.Meaning.{level_at, index_at, slot_at, slots_of, fram
 use Rattle.table_tree.specs.Shape.{HoldsWord, IsEntryWord, IsShaped}
 use Rattle.table_tree.specs.Slots.{fresh}
 use Rattle.table_tree.specs.Tables.{tables_in, uses_in, table_in}
-use Rattle.table_tree.specs.Tight.{IsTight}
+use Rattle.table_tree.specs.Tight.{HasEntry, IsOneWord, IsTight}
+use Rattle.table_tree.specs.Changes.{IsAttached, IsWritten}
 use Rattle.walk_plan.specs.declared.change.Change.{Change}
 use Rattle.walk_plan.specs.Changes.{IsChange, changed_entry, stays_one_word}
 use Rattle.walk_plan.specs.inner.Needs.{slot_need, table_need}
 use Rattle.walker.specs.declared.open.Found.{Found}
 use Rattle.walker.specs.declared.open.Found.TheVariants.{Word as FoundWord, Opening}
-use Rattle.walk_plan.specs.inner.Ranks.{given_rank, slot_rank, table_rank, slot_gone, table_gone}
+use Rattle.walk_plan.specs.inner.Ranks.{is_folded, given_rank, slot_rank, table_rank, slot_gone, table_gone}
 
 -- a slot holds the word that gives part `k` of a block whose first page has the entry `x`
 unfoldable pub IsPart : {A : Type 0} → ℕ → Entry → ℕ → Slot A → Type 0
@@ -52,17 +52,13 @@ abbrev pub IsFound : {A : Type 0} → ℕ → ℕ → Table A → Change → Fou
 IsFound depth i t c (FoundWord w) = IsRewritten depth i t c w
 IsFound depth i t c (Opening first) = IsOpening depth (slot_at t i) c × IsFirst depth (slot_at t i) first
 
--- whether nothing is mapped after the change
-abbrev pub is_emptied : ℕ → (ℕ → Entry) → Change → Bool
-is_emptied depth m c = all_below (block_pages depth) (λ i. is_unmapped (changed_entry depth m c i))
-
 -- what a change finds in the child of slot `i` of `t`, or in the new table that means what the slot's word did; `t` has depth `n` and they `d`
 pub record IsReady {A : Type 0} (n d i : ℕ) (t child : Table A) (before after : List ℕ) (c : Change) : Type 0 where
   pub need : fresh (slot_at t i) + table_need d child c ≡ slot_need n (slot_at t i) c
   pub here : (q : ℕ) → index_at n q ≡ i → given_rank before (table_in n t d q) (slot_rank n (slot_at t i) c d q) ≡ Some (frame_of child)
   pub below : (low q : ℕ) → low < d → index_at n q ≡ i → given_rank after (table_in d child low q) (table_rank d child c low q) ≡ given_rank before (table_in n t low q) (slot_rank n (slot_at t i) c low q)
-  pub stays : (f : ℕ) → is_emptied n (entry_at d child) c ≡ false → slot_gone n (slot_at t i) c f ≡ table_gone d child c f
-  pub goes : (f : ℕ) → is_emptied n (entry_at d child) c ≡ true → slot_gone n (slot_at t i) c f ≡ table_gone d child c f + is_one (frame_of child) f
+  pub stays : (f : ℕ) → is_folded n (entry_at d child) c ≡ false → slot_gone n (slot_at t i) c f ≡ table_gone d child c f
+  pub goes : (f : ℕ) → is_folded n (entry_at d child) c ≡ true → slot_gone n (slot_at t i) c f ≡ table_gone d child c f + is_one (frame_of child) f
 
 -- `child` is the child of slot `i` of `t`, or a new table that means what its word did; `u` is `t` without it
 pub record IsOpened {A : Type 0} (n d i : ℕ) (t u child : Table A) (before after : List ℕ) : Type 0 where
@@ -89,3 +85,27 @@ pub record IsFilled {A : Type 0} (d : ℕ) (x : Entry) (t : Table A) : Type 0 wh
   pub tables : tables_in d t ≡ 1
   pub standing : (low q : ℕ) → low < d → table_in d t low q ≡ None
   pub parts : (k : ℕ) → k < 512 → IsPart d x k (slot_at t k)
+
+-- a word one level up says what a table with `depth` levels below it says
+pub record IsSaidBy {A : Type 0} (depth : ℕ) (t : Table A) (word : ℕ) : Type 0 where
+  pub said : IsEntryWord (depth + 1) word
+  pub fits : fits_word (depth + 1) (entry_of_word (desc_of (level_at (depth + 1)) word)) ≡ true
+  pub parts : (k : ℕ) → k < 512 → HasEntry depth (advance (entry_of_word (desc_of (level_at (depth + 1)) word)) (k * block_pages depth)) (slot_at t k)
+
+-- the word that says what the child says stands in slot `i` of `u`, which is `t` but for it; the child's frame is in front
+pub record IsFoldedIn {A : Type 0} (depth i : ℕ) (t u child : Table A) (before after : List ℕ) : Type 0 where
+  pub word : ℕ
+  pub says : IsSaidBy depth child word
+  pub written : IsWritten i word t u
+  pub here : slot_at u i ≡ Word word
+  pub freed : after ≡ frame_of child ∷ before
+
+-- no word says it, and the child stands there
+pub record IsPutIn {A : Type 0} (depth i : ℕ) (t u child : Table A) (before after : List ℕ) : Type 0 where
+  pub none : IsOneWord depth child → ⊥
+  pub attached : IsAttached i t u child
+  pub freed : after ≡ before
+
+-- one of the two
+abbrev pub IsPutBack : {A : Type 0} → ℕ → ℕ → Table A → Table A → Table A → List ℕ → List ℕ → Type 0
+IsPutBack depth i t u child before after = IsFoldedIn depth i t u child before after ⊎ IsPutIn depth i t u child before after

@@ -14,6 +14,7 @@ use Rattle.table_tree.specs.Meaning.{frame_of}
 use Rattle.table_tree.specs.Stocks.{frames_of}
 use Rattle.table_tree.specs.View.{tree_of}
 use Rattle.table_tree.proofs.Same.{root_is, same_uses, same_count, by_views}
+use Rattle.walk_plan.proofs.Coarse.{tree_canonical, need_by_map}
 use Rattle.walk_plan.proofs.Given.{take_drop_length, take_length}
 use Rattle.walker.proofs.change.set.Goals as goal
 
@@ -135,6 +136,16 @@ returns-in_err-spare-clause-pool g c = IfOk-from_err _ _ c.from_residual.ensures
 pub returns-in_err-spare-clause-no_pool : goal.returns-in_err-spare-clause-no_pool
 returns-in_err-spare-clause-no_pool g c = (λ e. c.reserve.ensures.no_pool.0 (told_back c.from_residual.result c.reserve.result c.in_err-spare.field-0.0 NoPool c.in_err-spare.was c.from_residual.ensures.1 e), λ few. told_on c.from_residual.result c.reserve.result c.in_err-spare.field-0.0 NoPool c.in_err-spare.was c.from_residual.ensures.1 (c.reserve.ensures.no_pool.1 few))
 
+pub returns-in_err-spare-clause-canonical : goal.returns-in_err-spare-clause-canonical
+returns-in_err-spare-clause-canonical g c = tree_canonical c.reserve.new.tree
+
+pub returns-in_err-spare-clause-no_pool_by_map : goal.returns-in_err-spare-clause-no_pool_by_map
+returns-in_err-spare-clause-no_pool_by_map g c =
+    let same = need_by_map c.args.tree.now c.args.range.first.0 c.args.range.count c.args.entry c.requires.within in (
+      λ e. omega (arith, same, c.reserve.ensures.no_pool.0 (told_back c.from_residual.result c.reserve.result c.in_err-spare.field-0.0 NoPool c.in_err-spare.was c.from_residual.ensures.1 e)),
+      λ few. told_on c.from_residual.result c.reserve.result c.in_err-spare.field-0.0 NoPool c.in_err-spare.was c.from_residual.ensures.1 (c.reserve.ensures.no_pool.1 (omega (arith, same, few))),
+    )
+
 pub returns-in_err-spare-clause-no_memory : goal.returns-in_err-spare-clause-no_memory
 returns-in_err-spare-clause-no_memory g c = λ e. c.reserve.ensures.no_memory (told_back c.from_residual.result c.reserve.result c.in_err-spare.field-0.0 NoMemory c.in_err-spare.was c.from_residual.ensures.1 e)
 
@@ -167,6 +178,14 @@ set_with-requires-clause-entry_in g c = c.requires.entry_in
 
 pub returns-clause-no_pool : goal.returns-clause-no_pool
 returns-clause-no_pool g c = (λ e. absurd (never e), λ few. absurd (omega (arith, few, c.in_ok-spare.ensures.enough)))
+
+pub returns-clause-canonical : goal.returns-clause-canonical
+returns-clause-canonical g c = tree_canonical c.set_with.new.tree
+
+pub returns-clause-no_pool_by_map : goal.returns-clause-no_pool_by_map
+returns-clause-no_pool_by_map g c =
+    let same = need_by_map c.args.tree.now c.args.range.first.0 c.args.range.count c.args.entry c.requires.within in
+    (λ e. absurd (never e), λ few. absurd (omega (arith, same, few, c.in_ok-spare.ensures.enough)))
 
 pub returns-clause-no_memory : goal.returns-clause-no_memory
 returns-clause-no_memory g c = λ e. absurd (never e)

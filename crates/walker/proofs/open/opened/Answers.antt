@@ -1,5 +1,6 @@
-use Rattle.std.proofs.Common.{◌≡◌, ◌+◌, suc, ◌∷◌, sym, ap, subst, arith, ◌∙◌, add-one}
+use Rattle.std.proofs.Common.{◌≡◌, ◌+◌, suc, ◌∷◌, sym, ap, subst, arith, ◌∙◌, add-one, true}
 use Rattle.descriptor.specs.Word.{desc_of}
+use Rattle.page_state.specs.Blocks.{fits_word}
 use Rattle.page_state.specs.Entries.{entry_of_word}
 use Rattle.table_tree.specs.Meaning.{level_at, slot_at, frame_of}
 use Rattle.table_tree.specs.Shape.{IsShaped}
@@ -7,6 +8,7 @@ use Rattle.table_tree.specs.Stocks.{frames_of}
 use Rattle.table_tree.specs.Tight.{IsTight}
 use Rattle.table_tree.proofs.Slots.{shaped_wide}
 use Rattle.table_tree.proofs.Sums.{fresh_word}
+use Rattle.walk_plan.proofs.Entries.{fits}
 use Rattle.walker.specs.inner.Steps.{IsFirst, IsOpened}
 use Rattle.walker.proofs.Opened.{popped_some, opened_word, opened_child}
 use Rattle.walker.proofs.open.opened.Goals as goal
@@ -33,7 +35,8 @@ returns-in-Some g c =
     subst (λ n. IsOpened n d c.args.i t c.put.new.self c.fill.new.table (frames_of c.args.spare.now) (frames_of c.pop.new.self)) (sym o)
     (opened_word d c.args.i w.0 t c.put.new.self c.fill.new.table c.in-Some.entry (frames_of c.args.spare.now) (frames_of c.pop.new.self) w.1 (subst (λ n. c.in-Some.entry ≡ entry_of_word (desc_of (level_at n) w.0)) o w.2) c.requires.seen c.put.ensures.tree
     c.put.ensures.slots c.put.ensures.frame (subst (λ n. IsShaped n t) o c.requires.shape) (subst (λ n. IsTight n t) o c.requires.tight)
-    (frames ∙ ap (λ f. f ∷ frames_of c.pop.new.self) (sym frame)) c.fill.ensures.filled)
+    (frames ∙ ap (λ f. f ∷ frames_of c.pop.new.self) (sym frame)) c.fill.ensures.filled
+    (let said = (subst (λ o. IsFirst (c.args.depth + 1) (slot_at c.args.table.now c.args.i) o) c.in-Some.is c.requires.first).said in subst (λ n. fits_word n c.in-Some.entry ≡ true) o ((fits (d + 1) c.requires.depth_in c.in-Some.entry).1 said)))
 
 pub returns-in-None : goal.returns-in-None
 returns-in-None g c =

@@ -13,24 +13,23 @@ use Rattle.walk_plan.proofs.Ranges.{part_in, part_is, met_start, met_end, sum_mo
 use Rattle.walk_plan.proofs.Looks.{ends_start, ends_next, ends_end, whole_parts, whole_edges, child_reads, some_part}
 use Rattle.walker.specs.inner.Steps.{IsReady, IsOpening}
 use Rattle.walker.proofs.Maps.{start_map, end_map, next_map}
-use Rattle.walker.proofs.Slotted.{IsGrown, all_spare, back_map, spent_map, spent_kept, spent_uses, spent_freed, spent_tables, back_kept, back_uses, back_freed, back_tables}
-use Rattle.walker.proofs.Walked.{blank_entry, need_next, gone_next, kept_start, kept_next, kept_end, spare_next, taken_next}
-use Rattle.walker.proofs.Writes.{written_other, put_other, put_stand, word_map, word_kept, word_uses}
+use Rattle.walker.proofs.Slotted.{IsGrown, all_spare, slot_shape, slot_tight, slot_map, slot_other, slot_stand, slot_kept, slot_uses, slot_freed, slot_tables}
+use Rattle.walker.proofs.Walked.{need_next, gone_next, kept_start, kept_next, kept_end, spare_next, taken_next}
+use Rattle.walker.proofs.Writes.{written_other, word_map, word_kept, word_uses}
 use Rattle.walker.proofs.walk.+walk.Goals as goal
-use Rattle.walker.proofs.walk.+walk.Goals.{set_slot-After-is_spent}
-use Rattle.walker.proofs.Opened.{false_true}
+use Rattle.walker.proofs.walk.+walk.Goals.{set_slot-After-set_all}
 
 less_more : (n : ℕ) → 1 ≤ n → n - 1 + 1 ≡ n
 less_more n h = omega arith
 
 -- a table has a level below it where a child is opened
-one_less : (g : _) (t : _) (c : set_slot-After-is_spent g t) → c.args.depth - 1 + 1 ≡ c.args.depth
+one_less : (g : _) (t : _) (c : set_slot-After-set_all g t) → c.args.depth - 1 + 1 ≡ c.args.depth
 one_less g t c = let k : 1 ≤ c.args.depth = (c.in-Opening.ensures.found.0).deep in omega arith
 
-is_ready : (g : _) (t : _) (c : set_slot-After-is_spent g t) → IsReady (c.args.depth - 1 + 1) (c.args.depth - 1) c.args.i c.args.table.now c.opened-child.result.value (frames_of c.args.spare.now) (frames_of c.opened-child.new.spare) c.args.change
+is_ready : (g : _) (t : _) (c : set_slot-After-set_all g t) → IsReady (c.args.depth - 1 + 1) (c.args.depth - 1) c.args.i c.args.table.now c.opened-child.result.value (frames_of c.args.spare.now) (frames_of c.opened-child.new.spare) c.args.change
 is_ready g t c = c.opened-child.ensures.ready c.args.change (subst (λ m. IsChange m c.args.change) (sym (one_less g t c)) c.requires.change_in) (subst (λ m. IsOpening m (slot_at c.args.table.now c.args.i) c.args.change) (sym (one_less g t c)) (c.in-Opening.ensures.found.0))
 
-is_grown : (g : _) (t : _) (c : set_slot-After-is_spent g t) → IsGrown (c.args.depth - 1) c.opened-child.result.value c.set_all.new.table c.args.change (frames_of c.opened-child.new.spare) (frames_of c.set_all.new.spare)
+is_grown : (g : _) (t : _) (c : set_slot-After-set_all g t) → IsGrown (c.args.depth - 1) c.opened-child.result.value c.set_all.new.table c.args.change (frames_of c.opened-child.new.spare) (frames_of c.set_all.new.spare)
 is_grown g t c = record {
   frame = rw c.deref_mut.ensures.value at c.set_all.ensures.frame;
   shape = c.set_all.ensures.shape;
@@ -41,113 +40,85 @@ is_grown g t c = record {
   uses = rw c.deref_mut.ensures.value at c.set_all.ensures.uses;
 }
 
+pub set_slot-returns-clause-shape : goal.set_slot-returns-clause-shape
+set_slot-returns-clause-shape g t c =
+    let at = (goal.at.set_slot-returns-clause-shape g t c).After-set_all in
+    rw (one_less g t at) at (slot_shape (c.args.depth - 1) c.args.i c.args.table.now c.opened-child.new.table c.opened-child.result.value c.set_all.new.table c.args.change (frames_of c.args.spare.now) (frames_of c.opened-child.new.spare) (frames_of c.set_all.new.spare) c.opened-child.ensures (is_ready g t at) (is_grown g t at) c.put_back.new.table (frames_of c.set_all.new.freed) (frames_of c.put_back.new.freed) c.put_back.ensures.put)
+
+pub set_slot-returns-clause-tight : goal.set_slot-returns-clause-tight
+set_slot-returns-clause-tight g t c =
+    let at = (goal.at.set_slot-returns-clause-tight g t c).After-set_all in
+    rw (one_less g t at) at (slot_tight (c.args.depth - 1) c.args.i c.args.table.now c.opened-child.new.table c.opened-child.result.value c.set_all.new.table c.args.change (frames_of c.args.spare.now) (frames_of c.opened-child.new.spare) (frames_of c.set_all.new.spare) c.opened-child.ensures (is_ready g t at) (is_grown g t at) c.put_back.new.table (frames_of c.set_all.new.freed) (frames_of c.put_back.new.freed) c.put_back.ensures.put)
+
+pub set_slot-returns-clause-map : goal.set_slot-returns-clause-map
+set_slot-returns-clause-map g t c =
+    let at = (goal.at.set_slot-returns-clause-map g t c).After-set_all in
+    rw (one_less g t at) at (slot_map (c.args.depth - 1) c.args.i c.args.table.now c.opened-child.new.table c.opened-child.result.value c.set_all.new.table c.args.change (frames_of c.args.spare.now) (frames_of c.opened-child.new.spare) (frames_of c.set_all.new.spare) c.opened-child.ensures (is_ready g t at) (is_grown g t at) c.put_back.new.table (frames_of c.set_all.new.freed) (frames_of c.put_back.new.freed) c.put_back.ensures.put)
+
+pub set_slot-returns-clause-other : goal.set_slot-returns-clause-other
+set_slot-returns-clause-other g t c =
+    let at = (goal.at.set_slot-returns-clause-other g t c).After-set_all in
+    rw (one_less g t at) at (slot_other (c.args.depth - 1) c.args.i c.args.table.now c.opened-child.new.table c.opened-child.result.value c.set_all.new.table c.args.change (frames_of c.args.spare.now) (frames_of c.opened-child.new.spare) (frames_of c.set_all.new.spare) c.opened-child.ensures (is_ready g t at) (is_grown g t at) c.put_back.new.table (frames_of c.set_all.new.freed) (frames_of c.put_back.new.freed) c.put_back.ensures.put)
+
+pub set_slot-returns-clause-stand : goal.set_slot-returns-clause-stand
+set_slot-returns-clause-stand g t c =
+    let at = (goal.at.set_slot-returns-clause-stand g t c).After-set_all in
+    rw (one_less g t at) at (slot_stand (c.args.depth - 1) c.args.i c.args.table.now c.opened-child.new.table c.opened-child.result.value c.set_all.new.table c.args.change (frames_of c.args.spare.now) (frames_of c.opened-child.new.spare) (frames_of c.set_all.new.spare) c.opened-child.ensures (is_ready g t at) (is_grown g t at) c.put_back.new.table (frames_of c.set_all.new.freed) (frames_of c.put_back.new.freed) c.put_back.ensures.put)
+
+pub set_slot-returns-clause-kept : goal.set_slot-returns-clause-kept
+set_slot-returns-clause-kept g t c =
+    let at = (goal.at.set_slot-returns-clause-kept g t c).After-set_all in
+    rw (one_less g t at) at (slot_kept (c.args.depth - 1) c.args.i c.args.table.now c.opened-child.new.table c.opened-child.result.value c.set_all.new.table c.args.change (frames_of c.args.spare.now) (frames_of c.opened-child.new.spare) (frames_of c.set_all.new.spare) c.opened-child.ensures (is_ready g t at) (is_grown g t at) c.put_back.new.table (frames_of c.set_all.new.freed) (frames_of c.put_back.new.freed) c.put_back.ensures.put)
+
+pub set_slot-returns-clause-uses : goal.set_slot-returns-clause-uses
+set_slot-returns-clause-uses g t c =
+    let at = (goal.at.set_slot-returns-clause-uses g t c).After-set_all in
+    rw (one_less g t at) at (slot_uses (c.args.depth - 1) c.args.i c.args.table.now c.opened-child.new.table c.opened-child.result.value c.set_all.new.table c.args.change (frames_of c.args.spare.now) (frames_of c.opened-child.new.spare) (frames_of c.set_all.new.spare) c.opened-child.ensures (is_ready g t at) (is_grown g t at) c.put_back.new.table (frames_of c.set_all.new.freed) (frames_of c.put_back.new.freed) c.put_back.ensures.put)
+
+pub set_slot-returns-clause-spare : goal.set_slot-returns-clause-spare
+set_slot-returns-clause-spare g t c =
+    let at = (goal.at.set_slot-returns-clause-spare g t c).After-set_all in
+    rw (one_less g t at) at (all_spare (c.args.depth - 1) c.args.i c.args.table.now c.opened-child.new.table c.opened-child.result.value c.set_all.new.table c.args.change (frames_of c.args.spare.now) (frames_of c.opened-child.new.spare) (frames_of c.set_all.new.spare) c.opened-child.ensures (is_ready g t at) (is_grown g t at))
+
+pub set_slot-returns-clause-freed : goal.set_slot-returns-clause-freed
+set_slot-returns-clause-freed g t c f =
+    let at = (goal.at.set_slot-returns-clause-freed g t c).After-set_all in
+    rw (one_less g t at) at (slot_freed (c.args.depth - 1) c.args.i c.args.table.now c.opened-child.new.table c.opened-child.result.value c.set_all.new.table c.args.change (frames_of c.args.spare.now) (frames_of c.opened-child.new.spare) (frames_of c.set_all.new.spare) c.opened-child.ensures (is_ready g t at) (is_grown g t at) c.put_back.new.table (frames_of c.set_all.new.freed) (frames_of c.put_back.new.freed) c.put_back.ensures.put f (frames_of c.args.freed.now) (rw c.deref_mut.ensures.value at (c.set_all.ensures.freed f)))
+
+pub set_slot-returns-clause-tables : goal.set_slot-returns-clause-tables
+set_slot-returns-clause-tables g t c =
+    let at = (goal.at.set_slot-returns-clause-tables g t c).After-set_all in
+    rw (one_less g t at) at (slot_tables (c.args.depth - 1) c.args.i c.args.table.now c.opened-child.new.table c.opened-child.result.value c.set_all.new.table c.args.change (frames_of c.args.spare.now) (frames_of c.opened-child.new.spare) (frames_of c.set_all.new.spare) c.opened-child.ensures (is_ready g t at) (is_grown g t at) c.put_back.new.table (frames_of c.set_all.new.freed) (frames_of c.put_back.new.freed) c.put_back.ensures.put (length (frames_of c.args.freed.now)) (rw c.deref_mut.ensures.value at c.set_all.ensures.tables))
+
+pub set_slot-returns-clause-frame : goal.set_slot-returns-clause-frame
+set_slot-returns-clause-frame g t c = c.put_back.ensures.frame ∙ c.opened-child.ensures.frame
+
+pub set_slot-returns-clause-others : goal.set_slot-returns-clause-others
+set_slot-returns-clause-others g t c j m = c.put_back.ensures.others j m ∙ set_others c.args.table.now c.opened-child.new.table c.args.i j (Word 0) c.opened-child.ensures.slots m
+
+pub set_slot-returns-clause-reads : goal.set_slot-returns-clause-reads
+set_slot-returns-clause-reads g t c =
+    let k : 1 ≤ c.args.depth = (c.in-Opening.ensures.found.0).deep in
+    let r = child_reads c.args.depth (count_of c.look_for.new.reads) (count_of c.set_all.new.reads) c.args.change k c.set_all.ensures.reads c.set_all.ensures.whole in
+    omega (arith, r, c.put_back.ensures.reads, c.in-Opening.ensures.reads)
+
+pub set_slot-put_back-requires-clause-depth_in : goal.set_slot-put_back-requires-clause-depth_in
+set_slot-put_back-requires-clause-depth_in g t c = subst IsDepth (sym (less_more _ ((c.in-Opening.ensures.found.0).deep))) c.requires.depth_in
+
+pub set_slot-put_back-requires-clause-index_in : goal.set_slot-put_back-requires-clause-index_in
+set_slot-put_back-requires-clause-index_in g t c = c.requires.index_in
+
+pub set_slot-put_back-requires-clause-wide : goal.set_slot-put_back-requires-clause-wide
+set_slot-put_back-requires-clause-wide g t c = set_wide c.args.table.now c.opened-child.new.table c.args.i (Word 0) c.opened-child.ensures.slots (shaped_wide c.args.depth c.args.table.now c.requires.shape)
+
+pub set_slot-put_back-requires-clause-holds : goal.set_slot-put_back-requires-clause-holds
+set_slot-put_back-requires-clause-holds g t c = (0, set_here c.args.table.now c.opened-child.new.table c.args.i c.args.i (Word 0) c.opened-child.ensures.slots c.requires.index_in (shaped_wide c.args.depth c.args.table.now c.requires.shape) refl)
+
+pub set_slot-put_back-requires-clause-child_wide : goal.set_slot-put_back-requires-clause-child_wide
+set_slot-put_back-requires-clause-child_wide g t c = shaped_wide (c.args.depth - 1) c.set_all.new.table c.set_all.ensures.shape
+
 pub set_slot-put-requires-clause-wide : goal.set_slot-put-requires-clause-wide
 set_slot-put-requires-clause-wide g t c = shaped_wide c.args.depth c.args.table.now c.requires.shape
-
-pub set_slot-is_spent-requires-clause-wide : goal.set_slot-is_spent-requires-clause-wide
-set_slot-is_spent-requires-clause-wide g t c = rw c.deref.ensures (shaped_wide (c.args.depth - 1) c.set_all.new.table c.set_all.ensures.shape)
-
-pub set_slot-is_spent-requires-clause-kept : goal.set_slot-is_spent-requires-clause-kept
-set_slot-is_spent-requires-clause-kept g t c blank =
-    blank_entry (c.args.depth - 1) c.set_all.new.table (entry_at (c.args.depth - 1) c.deref_mut.result.now) c.args.change (let k : 1 ≤ c.args.depth = (c.in-Opening.ensures.found.0).deep in change_below c.args.depth c.args.change k c.requires.change_in) (rw c.deref.ensures at blank) c.set_all.ensures.map
-
-pub set_slot-push-requires-clause-wide : goal.set_slot-push-requires-clause-wide
-set_slot-push-requires-clause-wide g t c = shaped_wide (c.args.depth - 1) c.set_all.new.table c.set_all.ensures.shape
-
-pub set_slot-attach-requires-clause-wide : goal.set_slot-attach-requires-clause-wide
-set_slot-attach-requires-clause-wide g t c = set_wide c.args.table.now c.opened-child.new.table c.args.i (Word 0) c.opened-child.ensures.slots (shaped_wide c.args.depth c.args.table.now c.requires.shape)
-
-pub set_slot-attach-requires-clause-holds : goal.set_slot-attach-requires-clause-holds
-set_slot-attach-requires-clause-holds g t c = (0, set_here c.args.table.now c.opened-child.new.table c.args.i c.args.i (Word 0) c.opened-child.ensures.slots c.requires.index_in (shaped_wide c.args.depth c.args.table.now c.requires.shape) refl)
-
-pub set_slot-returns-then-is_spent-clause-map : goal.set_slot-returns-then-is_spent-clause-map
-set_slot-returns-then-is_spent-clause-map g t c =
-    let n = c.args.depth in
-    let at = (goal.at.set_slot-returns-then-is_spent-clause-map g t c).After-is_spent in
-    let o = one_less g t at in
-    rw o at (spent_map (n - 1) c.args.i c.args.table.now c.opened-child.new.table c.opened-child.result.value c.set_all.new.table c.args.change (frames_of c.args.spare.now) (frames_of c.opened-child.new.spare) (frames_of c.set_all.new.spare) c.opened-child.ensures (is_ready g t at) (is_grown g t at) c.push.ensures.tree c.requires.index_in (shaped_wide c.args.depth c.args.table.now c.requires.shape))
-
-pub set_slot-returns-then-is_spent-clause-kept : goal.set_slot-returns-then-is_spent-clause-kept
-set_slot-returns-then-is_spent-clause-kept g t c =
-    let n = c.args.depth in
-    let at = (goal.at.set_slot-returns-then-is_spent-clause-kept g t c).After-is_spent in
-    let o = one_less g t at in
-    rw o at (spent_kept (n - 1) c.args.i c.args.table.now c.opened-child.new.table c.opened-child.result.value c.set_all.new.table c.args.change (frames_of c.args.spare.now) (frames_of c.opened-child.new.spare) (frames_of c.set_all.new.spare) c.opened-child.ensures (is_ready g t at) (is_grown g t at) c.requires.index_in (shaped_wide c.args.depth c.args.table.now c.requires.shape))
-
-pub set_slot-returns-then-is_spent-clause-uses : goal.set_slot-returns-then-is_spent-clause-uses
-set_slot-returns-then-is_spent-clause-uses g t c =
-    let n = c.args.depth in
-    let at = (goal.at.set_slot-returns-then-is_spent-clause-uses g t c).After-is_spent in
-    let o = one_less g t at in
-    rw o at (spent_uses (n - 1) c.args.i c.args.table.now c.opened-child.new.table c.opened-child.result.value c.set_all.new.table c.args.change (frames_of c.args.spare.now) (frames_of c.opened-child.new.spare) (frames_of c.set_all.new.spare) c.opened-child.ensures (is_ready g t at) (is_grown g t at) c.push.ensures.tree)
-
-pub set_slot-returns-then-is_spent-clause-freed : goal.set_slot-returns-then-is_spent-clause-freed
-set_slot-returns-then-is_spent-clause-freed g t c f =
-    let n = c.args.depth in
-    let at = (goal.at.set_slot-returns-then-is_spent-clause-freed g t c).After-is_spent in
-    let o = one_less g t at in
-    rw o at (spent_freed (n - 1) c.args.i c.args.table.now c.opened-child.new.table c.opened-child.result.value c.set_all.new.table c.args.change (frames_of c.args.spare.now) (frames_of c.opened-child.new.spare) (frames_of c.set_all.new.spare) c.opened-child.ensures (is_ready g t at) (is_grown g t at) c.push.ensures.tree f (frames_of c.args.freed.now) (frames_of c.set_all.new.freed) (frames_of c.push.new.self) (rw c.deref_mut.ensures.value at (c.set_all.ensures.freed f)) c.push.ensures.frames)
-
-pub set_slot-returns-then-is_spent-clause-tables : goal.set_slot-returns-then-is_spent-clause-tables
-set_slot-returns-then-is_spent-clause-tables g t c =
-    let n = c.args.depth in
-    let at = (goal.at.set_slot-returns-then-is_spent-clause-tables g t c).After-is_spent in
-    let o = one_less g t at in
-    rw o at (spent_tables (n - 1) c.args.i c.args.table.now c.opened-child.new.table c.opened-child.result.value c.set_all.new.table c.args.change (frames_of c.args.spare.now) (frames_of c.opened-child.new.spare) (frames_of c.set_all.new.spare) c.opened-child.ensures (is_ready g t at) (is_grown g t at) c.push.ensures.tree (length (frames_of c.args.freed.now)) (length (frames_of c.set_all.new.freed)) (length (frames_of c.push.new.self)) (rw c.deref_mut.ensures.value at c.set_all.ensures.tables) (ap length c.push.ensures.frames))
-
-pub set_slot-returns-then-is_spent-clause-reads : goal.set_slot-returns-then-is_spent-clause-reads
-set_slot-returns-then-is_spent-clause-reads g t c =
-    let k : 1 ≤ c.args.depth = (c.in-Opening.ensures.found.0).deep in
-    let r = child_reads c.args.depth (count_of c.look_for.new.reads) (count_of c.set_all.new.reads) c.args.change k c.set_all.ensures.reads c.set_all.ensures.whole in
-    omega (arith, r, c.is_spent.ensures.reads, c.in-Opening.ensures.reads)
-
-pub set_slot-returns-else-is_spent-clause-kept : goal.set_slot-returns-else-is_spent-clause-kept
-set_slot-returns-else-is_spent-clause-kept g t c =
-    let n = c.args.depth in
-    let at = (goal.at.set_slot-returns-else-is_spent-clause-kept g t c).After-is_spent in
-    let o = one_less g t at in
-    rw o at (back_kept (n - 1) c.args.i c.args.table.now c.opened-child.new.table c.opened-child.result.value c.set_all.new.table c.args.change (frames_of c.args.spare.now) (frames_of c.opened-child.new.spare) (frames_of c.set_all.new.spare) c.opened-child.ensures (is_ready g t at) (is_grown g t at) c.attach.new.self c.attach.ensures.tree (λ blank. false_true c.is_spent.result (c.is_spent.ensures.blank.1 (rw c.deref.ensures blank)) c.if-is_spent.false))
-
-pub set_slot-returns-else-is_spent-clause-uses : goal.set_slot-returns-else-is_spent-clause-uses
-set_slot-returns-else-is_spent-clause-uses g t c =
-    let n = c.args.depth in
-    let at = (goal.at.set_slot-returns-else-is_spent-clause-uses g t c).After-is_spent in
-    let o = one_less g t at in
-    rw o at (back_uses (n - 1) c.args.i c.args.table.now c.opened-child.new.table c.opened-child.result.value c.set_all.new.table c.args.change (frames_of c.args.spare.now) (frames_of c.opened-child.new.spare) (frames_of c.set_all.new.spare) c.opened-child.ensures (is_ready g t at) (is_grown g t at) c.attach.new.self c.attach.ensures.tree (λ blank. false_true c.is_spent.result (c.is_spent.ensures.blank.1 (rw c.deref.ensures blank)) c.if-is_spent.false))
-
-pub set_slot-returns-else-is_spent-clause-freed : goal.set_slot-returns-else-is_spent-clause-freed
-set_slot-returns-else-is_spent-clause-freed g t c f =
-    let n = c.args.depth in
-    let at = (goal.at.set_slot-returns-else-is_spent-clause-freed g t c).After-is_spent in
-    let o = one_less g t at in
-    rw o at (back_freed (n - 1) c.args.i c.args.table.now c.opened-child.new.table c.opened-child.result.value c.set_all.new.table c.args.change (frames_of c.args.spare.now) (frames_of c.opened-child.new.spare) (frames_of c.set_all.new.spare) c.opened-child.ensures (is_ready g t at) (is_grown g t at) c.attach.new.self c.attach.ensures.tree (λ blank. false_true c.is_spent.result (c.is_spent.ensures.blank.1 (rw c.deref.ensures blank)) c.if-is_spent.false) f (frames_of c.args.freed.now) (frames_of c.set_all.new.freed) (rw c.deref_mut.ensures.value at (c.set_all.ensures.freed f)))
-
-pub set_slot-returns-else-is_spent-clause-tables : goal.set_slot-returns-else-is_spent-clause-tables
-set_slot-returns-else-is_spent-clause-tables g t c =
-    let n = c.args.depth in
-    let at = (goal.at.set_slot-returns-else-is_spent-clause-tables g t c).After-is_spent in
-    let o = one_less g t at in
-    rw o at (back_tables (n - 1) c.args.i c.args.table.now c.opened-child.new.table c.opened-child.result.value c.set_all.new.table c.args.change (frames_of c.args.spare.now) (frames_of c.opened-child.new.spare) (frames_of c.set_all.new.spare) c.opened-child.ensures (is_ready g t at) (is_grown g t at) c.attach.new.self c.attach.ensures.tree (λ blank. false_true c.is_spent.result (c.is_spent.ensures.blank.1 (rw c.deref.ensures blank)) c.if-is_spent.false) (length (frames_of c.args.freed.now)) (length (frames_of c.set_all.new.freed)) (rw c.deref_mut.ensures.value at c.set_all.ensures.tables))
-
-pub set_slot-returns-else-is_spent-clause-reads : goal.set_slot-returns-else-is_spent-clause-reads
-set_slot-returns-else-is_spent-clause-reads g t c =
-    let k : 1 ≤ c.args.depth = (c.in-Opening.ensures.found.0).deep in
-    let r = child_reads c.args.depth (count_of c.look_for.new.reads) (count_of c.set_all.new.reads) c.args.change k c.set_all.ensures.reads c.set_all.ensures.whole in
-    omega (arith, r, c.is_spent.ensures.reads, c.in-Opening.ensures.reads)
-
-pub set_slot-returns-then-is_spent-clause-spare : goal.set_slot-returns-then-is_spent-clause-spare
-set_slot-returns-then-is_spent-clause-spare g t c =
-    let n = c.args.depth in
-    let at = (goal.at.set_slot-returns-then-is_spent-clause-spare g t c).After-is_spent in
-    let o = one_less g t at in
-    rw o at (all_spare (n - 1) c.args.i c.args.table.now c.opened-child.new.table c.opened-child.result.value c.set_all.new.table c.args.change (frames_of c.args.spare.now) (frames_of c.opened-child.new.spare) (frames_of c.set_all.new.spare) c.opened-child.ensures (is_ready g t at) (is_grown g t at))
-
-pub set_slot-returns-else-is_spent-clause-spare : goal.set_slot-returns-else-is_spent-clause-spare
-set_slot-returns-else-is_spent-clause-spare g t c =
-    let n = c.args.depth in
-    let at = (goal.at.set_slot-returns-else-is_spent-clause-spare g t c).After-is_spent in
-    let o = one_less g t at in
-    rw o at (all_spare (n - 1) c.args.i c.args.table.now c.opened-child.new.table c.opened-child.result.value c.set_all.new.table c.args.change (frames_of c.args.spare.now) (frames_of c.opened-child.new.spare) (frames_of c.set_all.new.spare) c.opened-child.ensures (is_ready g t at) (is_grown g t at))
 
 pub set_all-loop-i-init : goal.set_all-loop-i-init
 set_all-loop-i-init g t c =
@@ -307,54 +278,6 @@ set_slot-returns-in-Word-clause-tables g t c = omega (arith, c.put.ensures.tree.
 pub set_slot-returns-in-Word-clause-reads : goal.set_slot-returns-in-Word-clause-reads
 set_slot-returns-in-Word-clause-reads g t c = omega (arith, c.look_for.ensures.reads, c.requires.change_in.some)
 
-pub set_slot-returns-then-is_spent-clause-frame : goal.set_slot-returns-then-is_spent-clause-frame
-set_slot-returns-then-is_spent-clause-frame g t c = c.opened-child.ensures.frame
-
-pub set_slot-returns-then-is_spent-clause-shape : goal.set_slot-returns-then-is_spent-clause-shape
-set_slot-returns-then-is_spent-clause-shape g t c = rw (one_less g t (goal.at.set_slot-returns-then-is_spent-clause-shape g t c).After-is_spent) at c.opened-child.ensures.shape
-
-pub set_slot-returns-then-is_spent-clause-tight : goal.set_slot-returns-then-is_spent-clause-tight
-set_slot-returns-then-is_spent-clause-tight g t c = rw (one_less g t (goal.at.set_slot-returns-then-is_spent-clause-tight g t c).After-is_spent) at c.opened-child.ensures.tight
-
-pub set_slot-returns-then-is_spent-clause-others : goal.set_slot-returns-then-is_spent-clause-others
-set_slot-returns-then-is_spent-clause-others g t c j n = set_others c.args.table.now c.opened-child.new.table c.args.i j (Word 0) c.opened-child.ensures.slots n
-
-pub set_slot-returns-then-is_spent-clause-other : goal.set_slot-returns-then-is_spent-clause-other
-set_slot-returns-then-is_spent-clause-other g t c = rw (one_less g t (goal.at.set_slot-returns-then-is_spent-clause-other g t c).After-is_spent) at c.opened-child.ensures.other
-
-pub set_slot-returns-then-is_spent-clause-stand : goal.set_slot-returns-then-is_spent-clause-stand
-set_slot-returns-then-is_spent-clause-stand g t c = rw (one_less g t (goal.at.set_slot-returns-then-is_spent-clause-stand g t c).After-is_spent) at c.opened-child.ensures.stand
-
-pub set_slot-returns-else-is_spent-clause-frame : goal.set_slot-returns-else-is_spent-clause-frame
-set_slot-returns-else-is_spent-clause-frame g t c = c.attach.ensures.frame ∙ c.opened-child.ensures.frame
-
-pub set_slot-returns-else-is_spent-clause-shape : goal.set_slot-returns-else-is_spent-clause-shape
-set_slot-returns-else-is_spent-clause-shape g t c = let n = c.args.depth in let o = one_less g t (goal.at.set_slot-returns-else-is_spent-clause-shape g t c).After-is_spent in rw o at (c.attach.ensures.tree.shape (n - 1) c.opened-child.ensures.shape c.set_all.ensures.shape)
-
-pub set_slot-returns-else-is_spent-clause-tight : goal.set_slot-returns-else-is_spent-clause-tight
-set_slot-returns-else-is_spent-clause-tight g t c = let n = c.args.depth in let o = one_less g t (goal.at.set_slot-returns-else-is_spent-clause-tight g t c).After-is_spent in rw o at (c.attach.ensures.tree.tight (n - 1) c.opened-child.ensures.tight (λ blank. false_true c.is_spent.result (c.is_spent.ensures.blank.1 (rw c.deref.ensures blank)) c.if-is_spent.false) c.set_all.ensures.tight)
-
-pub set_slot-returns-else-is_spent-clause-others : goal.set_slot-returns-else-is_spent-clause-others
-set_slot-returns-else-is_spent-clause-others g t c j m = set_others c.opened-child.new.table c.attach.new.self c.args.i j _ c.attach.ensures.slots m ∙ set_others c.args.table.now c.opened-child.new.table c.args.i j (Word 0) c.opened-child.ensures.slots m
-
-pub set_slot-returns-else-is_spent-clause-map : goal.set_slot-returns-else-is_spent-clause-map
-set_slot-returns-else-is_spent-clause-map g t c =
-    let n = c.args.depth in
-    let at = (goal.at.set_slot-returns-else-is_spent-clause-map g t c).After-is_spent in
-    rw (one_less g t at) at (back_map (n - 1) c.args.i c.args.table.now c.opened-child.new.table c.opened-child.result.value c.set_all.new.table c.args.change (frames_of c.args.spare.now) (frames_of c.opened-child.new.spare) (frames_of c.set_all.new.spare) c.opened-child.ensures (is_ready g t at) (is_grown g t at) c.attach.new.self c.attach.ensures.tree)
-
-pub set_slot-returns-else-is_spent-clause-other : goal.set_slot-returns-else-is_spent-clause-other
-set_slot-returns-else-is_spent-clause-other g t c q x =
-    let n = c.args.depth in
-    let o = one_less g t (goal.at.set_slot-returns-else-is_spent-clause-other g t c).After-is_spent in
-    rw o at (put_other (n - 1) c.args.i c.opened-child.new.table c.attach.new.self c.set_all.new.table c.attach.ensures.tree) q x ∙ rw o at c.opened-child.ensures.other q x
-
-pub set_slot-returns-else-is_spent-clause-stand : goal.set_slot-returns-else-is_spent-clause-stand
-set_slot-returns-else-is_spent-clause-stand g t c low q l x =
-    let n = c.args.depth in
-    let o = one_less g t (goal.at.set_slot-returns-else-is_spent-clause-stand g t c).After-is_spent in
-    rw o at (put_stand (n - 1) c.args.i c.opened-child.new.table c.attach.new.self c.set_all.new.table c.attach.ensures.tree) low q l x ∙ rw o at c.opened-child.ensures.stand low q l x
-
 pub set_all-part-part-requires-clause-depth_in : goal.set_all-part-part-requires-clause-depth_in
 set_all-part-part-requires-clause-depth_in g t c = c.requires.depth_in
 
@@ -402,6 +325,3 @@ set_slot-opened-child-requires-clause-seen g t c = c.look_for.ensures.seen
 
 pub set_slot-overflow_sub-depth-2 : goal.set_slot-overflow_sub-depth-2
 set_slot-overflow_sub-depth-2 g t c = (c.in-Opening.ensures.found.0).deep
-
-pub set_slot-attach-requires-clause-within : goal.set_slot-attach-requires-clause-within
-set_slot-attach-requires-clause-within g t c = c.requires.index_in
