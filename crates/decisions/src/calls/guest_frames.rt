@@ -107,8 +107,8 @@ pub(crate) fn decide_install(cpu: &CpuState) -> Result<Changes, Refusal>
     })
 }
 
-/// Whether the guest is Live or Dying, of that slot's generation.
-fn is_standing<A: Allocator>(guest: &Guest<A>, vm: VmId) -> bool
+/// Whether the guest is Live or Dying, with the generation of the name.
+fn is_live_or_dying<A: Allocator>(guest: &Guest<A>, vm: VmId) -> bool
     ensures { result ≡ (is_guest live vm (guest_of guest.now) || is_guest dying vm (guest_of guest.now)) }
 {
     guest.is_live(vm) || guest.is_dying(vm)
@@ -128,7 +128,7 @@ pub(crate) fn decide_topup<A: Allocator>(
     if vm.slot >= SLOTS {
         return Err(Refusal::Invalid);
     }
-    if !is_standing(guest, vm) {
+    if !is_live_or_dying(guest, vm) {
         return Err(Refusal::NoVm);
     }
     let Some(hand) = cpu.hand else {

@@ -12,7 +12,7 @@ returns-then-not-gives-clause-on g c =
     let e = c.advance-part.ensures ∙ ap (λ n. advance c.args.first n) c.pages_before.ensures.value in (
       λ h. cc,
       λ all.
-          let y : c.gives.result ≡ true = c.gives.ensures.1 (rw (e, c.slot.ensures.value) (all i (omega (arith, c.loop-i.auto.i)) c.loop-i-test.true)) in
+          let y : c.gives.result ≡ true = c.gives.ensures.1 (rw (e, c.slot.ensures.value) (all i (omega (arith, c.loop-i.auto.i)) (omega (arith, c.loop-i-test.true)))) in
           sym c.if-not-gives.true ∙ y,
     )
 
