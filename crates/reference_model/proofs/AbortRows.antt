@@ -1,6 +1,6 @@
 -- The rows of AbortRows, computed.
 use Rattle.std.proofs.Common.{refl}
-use Rattle.reference_model.specs.AbortRows.{HostAbortBlock, HostAbortPage, HostAbortKeeps, HostAbortDevice, HostAbortRegions, HostAbortTable, HostAbortRefused, HostTranslateMade, HypTranslateMade, TranslateRefused, OwnerOfMade, OwnerOfRefused}
+use Rattle.reference_model.specs.AbortRows.{HostAbortBlock, HostAbortPage, HostAbortKeeps, HostAbortDevice, HostAbortDeviceBlock, HostAbortRegions, HostAbortTable, HostAbortRefused, HostTranslateMade, HypTranslateMade, TranslateRefused, OwnerOfMade, OwnerOfRefused}
 use Rattle.reference_model.proofs.Foretold.{computing, refuses}
 
 pub host_abort_block : HostAbortBlock
@@ -18,6 +18,10 @@ host_abort_keeps = (refl, (refl, refl, refl), refl, refl, refl, refl)
 pub host_abort_device : HostAbortDevice
 unfolding computing
 host_abort_device = (refl, refl, refl, refl, refl, refl)
+
+pub host_abort_device_block : HostAbortDeviceBlock
+unfolding computing
+host_abort_device_block = (refl, (refl, refl, refl), refl, refl, refl, refl)
 
 pub host_abort_regions : HostAbortRegions
 unfolding computing

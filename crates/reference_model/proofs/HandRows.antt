@@ -1,6 +1,6 @@
 -- The rows of HandRows, computed.
 use Rattle.std.proofs.Common.{refl}
-use Rattle.reference_model.specs.HandRows.{FundMade, FundRefused, UnfundMade, UnfundSplits, UnfundRefused, InstallMade, InstallPlain, InstallRefused, TopupMade, TopupEnough, TopupRefused}
+use Rattle.reference_model.specs.HandRows.{FundMade, FundRefused, UnfundMade, UnfundSplits, UnfundRefused, InstallMade, InstallPlain, InstallRefused, TopupMade, TopupDying, TopupEnough, TopupRefused}
 use Rattle.reference_model.proofs.Foretold.{computing, refuses}
 
 pub fund_made : FundMade
@@ -38,6 +38,10 @@ install_refused = (refuses refl, refuses refl, refuses refl, refuses refl, refus
 pub topup_made : TopupMade
 unfolding computing
 topup_made = (refl, refl, refl, refl, refl, refl, refl)
+
+pub topup_dying : TopupDying
+unfolding computing
+topup_dying = (refl, refl, refl)
 
 pub topup_enough : TopupEnough
 unfolding computing

@@ -2,6 +2,7 @@ pub mod AbortStep
 pub mod AloneSteps
 pub mod BootLegal
 pub mod Bounding
+pub mod Canonical
 pub mod ChangesFit
 pub mod ConditionFacts
 pub mod Conserved

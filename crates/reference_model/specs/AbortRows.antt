@@ -3,7 +3,7 @@ use Rattle.std.specs.Prelude.{◌≡◌, ℕ, [], ◌∷◌, Some, None}
 use Rattle.descriptor.specs.declared.Prot.TheVariants.{RW, RWX}
 use Rattle.descriptor.specs.declared.State.TheVariants.{Owned, SharedBorrowed}
 use Rattle.page_state.specs.declared.entry.Entry.TheVariants.{Unmapped}
-use Rattle.page_state.specs.declared.layout.RegionKind.TheVariants.{Memory as MemoryKind}
+use Rattle.page_state.specs.declared.layout.RegionKind.TheVariants.{Memory as MemoryKind, Device as DeviceKind}
 use Rattle.step_reply.specs.declared.reply.Refusal.TheVariants.{Perm, Invalid, NoPool}
 use Rattle.step_reply.specs.declared.reply.Reply.TheVariants.{Done}
 use Rattle.step_reply.specs.declared.reply.Value.TheVariants.{Entry as EntryOf, Row as RowOf}
@@ -39,13 +39,31 @@ HostAbortKeeps =
     (r.0 ≡ ok) × SharedAlone scene 2 r.1 × (r.1.contents.shared.host.map ≡ host_map) × (r.1.contents.shared.free ≡ 0x1610 ∷ 0x1612 ∷ 0x1620 ∷ [])
     × ((foretell (small 1) scene 2 (HostAbort 0x1007)).0 ≡ ok) × ((foretell (small 1) scene 2 (HostAbort 0x1000)).0 ≡ ok)
 
--- a device page is mapped alone, though its block is empty, up to the region's edges
+-- a page of a device region that has no whole block is mapped alone, up to the region's edges
 abbrev pub HostAbortDevice : Type 0
 HostAbortDevice =
     let r = foretell (small 1) scene 2 (HostAbort 0x905) in
     (r.0 ≡ ok) × (at r.1.contents.shared.host.map (0x904 ∷ 0x905 ∷ 0x906 ∷ []) ≡ Unmapped ∷ device_leaf 0x905 ∷ Unmapped ∷ [])
     × (r.1.contents.shared.host.table (1, 4) ≡ Some 0x1610) × (r.1.contents.shared.free ≡ 0x1612 ∷ 0x1620 ∷ [])
     × ((foretell (small 1) scene 2 (HostAbort 0x900)).0 ≡ ok) × ((foretell (small 1) scene 2 (HostAbort 0x90f)).0 ≡ ok)
+
+-- two device regions that meet at 0xb00
+abbrev pub devices : Layout
+devices = record (small 1) {
+  memory = record {
+    regions = record { kind = MemoryKind; pages = range 0x1000 0x800 } ∷ record { kind = DeviceKind; pages = range 0x800 0x300 } ∷ record { kind = DeviceKind; pages = range 0xb00 0x100 } ∷ [];
+    carve = range 0x1600 0x40;
+  };
+}
+
+-- a page of an empty block of a device region: the block is mapped as one word; where the block lies in two regions, the page alone
+abbrev pub HostAbortDeviceBlock : Type 0
+HostAbortDeviceBlock =
+    let r = foretell devices (with_free [] scene) 2 (HostAbort 0x905) in
+    let q = foretell devices scene 2 (HostAbort 0xa05) in
+    (r.0 ≡ ok) × SharedAlone scene 2 r.1
+    × (at r.1.contents.shared.host.map (0x7ff ∷ 0x800 ∷ 0x905 ∷ 0x9ff ∷ 0xa00 ∷ []) ≡ Unmapped ∷ device_leaf 0x800 ∷ device_leaf 0x905 ∷ device_leaf 0x9ff ∷ Unmapped ∷ [])
+    × (r.1.contents.shared.host.table (1, 4) ≡ None) × (q.0 ≡ ok) × (at q.1.contents.shared.host.map (0xa04 ∷ 0xa05 ∷ 0xa06 ∷ []) ≡ Unmapped ∷ device_leaf 0xa05 ∷ Unmapped ∷ [])
 
 -- memory of two regions that meet at 0x1480
 abbrev pub halves : Layout

@@ -67,6 +67,21 @@ RemovalRow =
     let gone = edited 1 page (put 0x300 1 Unmapped) [] in
     (page.table (1, 1) ≡ Some 1) × (returned 1 page (put 0x300 1 Unmapped) ≡ 1 ∷ []) × (gone.table (1, 1) ≡ None) × (gone.table (2, 0) ≡ Some 0)
 
+-- there too: a page of a mapped block is shared, which splits the block, and the share ends: the block is one word again, and its table goes; where the page has another state in the end, the table stays
+abbrev pub FoldRow : Type 0
+FoldRow =
+    let block = edited 1 (root_tree 1 0) (put 0x200 512 (leaf RWX 0x200 Owned)) [] in
+    let split = edited 1 block (put 0x300 1 (leaf RWX 0x300 SharedOwned)) (1 ∷ []) in
+    let folded = edited 1 split (put 0x300 1 (leaf RWX 0x300 Owned)) [] in
+    (block.table (1, 1) ≡ None) × (split.table (1, 1) ≡ Some 1) × (returned 1 split (put 0x300 1 (leaf RWX 0x300 Owned)) ≡ 1 ∷ []) × (folded.table (1, 1) ≡ None) × (folded.map 0x300 ≡ leaf RWX 0x300 Owned)
+    × (returned 1 split (put 0x301 1 (leaf RWX 0x301 SharedOwned)) ≡ [])
+
+-- pages whose frames advance are one word only where the first frame is aligned
+abbrev pub UnalignedRow : Type 0
+UnalignedRow =
+    let pages = edited 1 (root_tree 1 0) (put 0x200 511 (leaf RWX 0x201 Owned)) (1 ∷ []) in
+    (returned 1 pages (put 0x3ff 1 (leaf RWX 0x400 Owned)) ≡ [])
+
 -- the layout of these rows can boot, so the laws of runs speak of it, and one whose carve-out lacks a frame can't
 abbrev pub CanBootRow : Type 0
 CanBootRow = CanBoot (layout 64 64) × ¬ CanBoot (layout 5 64)

@@ -12,7 +12,7 @@ use Rattle.reference_model.specs.State.{live, no_cpu}
 use Rattle.page_state.specs.Trees.{root_tree}
 use Rattle.reference_model.specs.Step.{foretell}
 use Rattle.reference_model.specs.Scene.{small, ok, range, vm, at, Refuses}
-use Rattle.reference_model.specs.SceneState.{scene, protected_guest, ticketed, with_free, with_cpu}
+use Rattle.reference_model.specs.SceneState.{scene, protected_guest, dying_guest, ticketed, with_free, with_cpu}
 
 -- a fund annotates the host's range and maps the hypervisor's, and the CPU has the range in its hand; its ticket stays
 abbrev pub FundMade : Type 0
@@ -84,6 +84,12 @@ TopupMade =
     (r.0 ≡ ok) × (r.1.contents.guest 3 ≡ record protected_guest { free = 0x1702 ∷ 0x1703 ∷ 0x1704 ∷ 0x1705 ∷ [] })
     × (r.1.contents.cpu 7 ≡ ticketed 9 1 Installed) × (r.1.contents.shared.host.map 0x1703 ≡ annotation 1) × (r.1.contents.shared.hyp.map 0x4001703 ≡ leaf RW 0x1703 Owned)
     × (r.1.contents.shared.free ≡ 0x1610 ∷ 0x1612 ∷ 0x1620 ∷ []) × (r.1.contents.vms ≡ scene.contents.vms)
+
+-- so does a Dying guest's
+abbrev pub TopupDying : Type 0
+TopupDying =
+    let r = foretell (small 1) (with_cpu 7 (record no_cpu { hand = Some (range 0x1703 2) }) scene) 7 (Topup (vm 5 3)) in
+    (r.0 ≡ ok) × (r.1.contents.guest 5 ≡ record dying_guest { free = 0x1703 ∷ 0x1704 ∷ 0x1722 ∷ 0x1724 ∷ [] }) × (r.1.contents.cpu 7 ≡ no_cpu)
 
 -- with two tables and two free frames, 508 more make just 512
 abbrev pub TopupEnough : Type 0

@@ -45,6 +45,7 @@ pub mod ShortRows
 pub mod Sound
 pub mod State
 pub mod Step
+pub mod TreeLaws
 pub mod Used
 pub mod VmRows
 pub mod VmRules

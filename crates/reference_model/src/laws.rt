@@ -5,7 +5,7 @@ ghost use Rattle.reference_model.specs.ChangeLaws.{ChangesUsed, ChangesFit, Part
 ghost use Rattle.reference_model.specs.Held.{HistorySteps, CallGrows, HeldStored};
 ghost use Rattle.reference_model.specs.Rely.{ReachedRelies, RelyingAnswers};
 ghost use Rattle.reference_model.specs.RoomLaws.{StoredFalls, RunRooms};
-ghost use Rattle.reference_model.specs.Examples.{NeedRow, SplitRow, RemovalRow, CanBootRow, BootRow, WideBootRow, ShareRow, BesideRow, NearRow, AgainRow, CarveRow, DeviceRow, PastRow, NoFrameRow, OneFrameRow, FullLogRow, FullSharedRow, RoomRow, OwnerRow};
+ghost use Rattle.reference_model.specs.Examples.{NeedRow, SplitRow, RemovalRow, FoldRow, UnalignedRow, CanBootRow, BootRow, WideBootRow, ShareRow, BesideRow, NearRow, AgainRow, CarveRow, DeviceRow, PastRow, NoFrameRow, OneFrameRow, FullLogRow, FullSharedRow, RoomRow, OwnerRow};
 ghost use Rattle.reference_model.specs.RunLaws.{LegalRows, LegalSound, KnownLegalSound, BootLegal, BootRowsTold, LegalKeeps, RunLegal, RunSound, RunRows, AcceptedUsable, AcceptedDepth, AcceptedMade, RowsTold};
 ghost use Rattle.reference_model.specs.RowLaws.{LegalRowsTrue, RunRowsTrue, RowOnce};
 ghost use Rattle.reference_model.specs.ConditionChanges.{ConditionOnce, ConditionsMove};
@@ -13,6 +13,7 @@ ghost use Rattle.reference_model.specs.OrderLaws.{PartsRun, PartsHistory};
 ghost use Rattle.reference_model.specs.PoolOrder.{RunInOrder};
 ghost use Rattle.reference_model.specs.Bounds.{BoundedKeeps, RunBounded};
 ghost use Rattle.reference_model.specs.Isolation.{Isolated, RunIsolated, OthersKeptOut, RunKeptOut};
+ghost use Rattle.reference_model.specs.TreeLaws.{RunCanonical, RunFailsByMaps};
 
 /// A step that refuses leaves the state but for the rooms of logs, and with LogFull these too.
 pub fn refusal_keeps()
@@ -88,6 +89,8 @@ pub fn worked_rows()
     ensures need { NeedRow }
     ensures split { SplitRow }
     ensures removal { RemovalRow }
+    ensures fold { FoldRow }
+    ensures unaligned { UnalignedRow }
     ensures can_boot { CanBootRow }
     ensures boot { BootRow }
     ensures wide_boot { WideBootRow }
@@ -137,6 +140,13 @@ pub fn run_legal()
 pub fn run_sound()
     ensures sound { RunSound }
     ensures rows { RunRows }
+{}
+
+/// Each tree of each state of a run is the one coarsest tree of its map, and no tree of the map has fewer tables. So a step's
+/// first test that fails is told by maps and numbers of free frames, where it is the pools'.
+pub fn run_canonical()
+    ensures trees { RunCanonical }
+    ensures by_maps { RunFailsByMaps }
 {}
 
 /// What is asked of a layout holds of each that is accepted, and its depth is that of its geometry.

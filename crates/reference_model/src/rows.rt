@@ -1,12 +1,12 @@
 //! Worked rows: what the definitions answer on small states. Each function does nothing, and its contract is the rows.
 ghost use Rattle.reference_model.specs.SharedRows.{ShareHypMade, ShareHypNear, ShareHypEnough, ShareHypRefused, UnshareHypMade, UnshareHypRemoves, UnshareHypRefused, DonateHypMade, DonateHypBlock, DonateHypRefused, HypDonateHostMade, HypDonateHostSplits, HypDonateHostRemoves, HypDonateHostRefused};
-ghost use Rattle.reference_model.specs.HandRows.{FundMade, FundRefused, UnfundMade, UnfundSplits, UnfundRefused, InstallMade, InstallPlain, InstallRefused, TopupMade, TopupEnough, TopupRefused};
+ghost use Rattle.reference_model.specs.HandRows.{FundMade, FundRefused, UnfundMade, UnfundSplits, UnfundRefused, InstallMade, InstallPlain, InstallRefused, TopupMade, TopupDying, TopupEnough, TopupRefused};
 ghost use Rattle.reference_model.specs.GuestRows.{ShareGuestMade, ShareGuestNear, ShareGuestRefused, UnshareGuestMade, UnshareGuestRefused, DonateGuestMade, DonateGuestNear};
 ghost use Rattle.reference_model.specs.LoadedRows.{DonateGuestRefused, GuestShareHostMade, GuestShareHostRefused, GuestUnshareHostMade, GuestUnshareHostRefused, GuestRelaxMade, RightsJoined, GuestRelaxRefused, GuestTranslateMade, GuestTranslateRefused};
 ghost use Rattle.reference_model.specs.ShortRows.{TablesShort};
 ghost use Rattle.reference_model.specs.EndRows.{MarkDyingMade, MarkDyingRefused, ReclaimPageOwned, ReclaimPageShared, ReclaimPageRemoves, ReclaimPageRefused, ReclaimPoolMade, ReclaimPoolRefused, FinishGuestMade, FinishGuestRefused};
 ghost use Rattle.reference_model.specs.VmRows.{VmReserveMade, VmReservePlain, VmReserveRefused, VmOpenMade, VmOpenRefused, VcpuLoadMade, VcpuLoadRefused, VcpuPutMade, VcpuPutRefused, TeardownMade, TeardownRefused, VmReleaseMade, VmReleaseRefused};
-ghost use Rattle.reference_model.specs.AbortRows.{HostAbortBlock, HostAbortPage, HostAbortKeeps, HostAbortDevice, HostAbortRegions, HostAbortTable, HostAbortRefused, HostTranslateMade, HypTranslateMade, TranslateRefused, OwnerOfMade, OwnerOfRefused};
+ghost use Rattle.reference_model.specs.AbortRows.{HostAbortBlock, HostAbortPage, HostAbortKeeps, HostAbortDevice, HostAbortDeviceBlock, HostAbortRegions, HostAbortTable, HostAbortRefused, HostTranslateMade, HypTranslateMade, TranslateRefused, OwnerOfMade, OwnerOfRefused};
 ghost use Rattle.reference_model.specs.BootRows.{BootTables, BootMaps, BootBlock, BootOwners, ShareTables, UnshareTables, ShareEnough};
 ghost use Rattle.reference_model.specs.PartRows.{SharedUses, GuestUses, GuestAloneUses, VmsUses, NoneUsed, OwnLogFull, SharedLogFull, GuestLogFull, VmsLogFull};
 ghost use Rattle.reference_model.specs.GrowthRows.{Grows, NeverGrows};
@@ -46,6 +46,7 @@ pub fn hand_rows()
     ensures install_plain { InstallPlain }
     ensures install_refused { InstallRefused }
     ensures topup_made { TopupMade }
+    ensures topup_dying { TopupDying }
     ensures topup_enough { TopupEnough }
     ensures topup_refused { TopupRefused }
 {}
@@ -109,6 +110,7 @@ pub fn abort_rows()
     ensures host_abort_page { HostAbortPage }
     ensures host_abort_keeps { HostAbortKeeps }
     ensures host_abort_device { HostAbortDevice }
+    ensures host_abort_device_block { HostAbortDeviceBlock }
     ensures host_abort_regions { HostAbortRegions }
     ensures host_abort_table { HostAbortTable }
     ensures host_abort_refused { HostAbortRefused }

@@ -1,4 +1,4 @@
-use Rattle.reference_model.proofs.Examples.{need_row, split_row, removal_row, can_boot_row, boot_row, wide_boot_row, share_row, beside_row, near_row, again_row, carve_row, device_row, past_row, no_frame_row, one_frame_row, full_log_row, full_shared_row, room_row, owner_row}
+use Rattle.reference_model.proofs.Examples.{need_row, split_row, removal_row, fold_row, unaligned_row, can_boot_row, boot_row, wide_boot_row, share_row, beside_row, near_row, again_row, carve_row, device_row, past_row, no_frame_row, one_frame_row, full_log_row, full_shared_row, room_row, owner_row}
 use Rattle.reference_model.proofs.laws.worked_rows.Goals as goal
 
 pub returns-clause-boot : goal.returns-clause-boot
@@ -51,6 +51,12 @@ returns-clause-split c = split_row
 
 pub returns-clause-removal : goal.returns-clause-removal
 returns-clause-removal c = removal_row
+
+pub returns-clause-fold : goal.returns-clause-fold
+returns-clause-fold c = fold_row
+
+pub returns-clause-unaligned : goal.returns-clause-unaligned
+returns-clause-unaligned c = unaligned_row
 
 pub returns-clause-can_boot : goal.returns-clause-can_boot
 returns-clause-can_boot c = can_boot_row

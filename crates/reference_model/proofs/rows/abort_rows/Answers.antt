@@ -1,4 +1,4 @@
-use Rattle.reference_model.proofs.AbortRows.{host_abort_block, host_abort_page, host_abort_keeps, host_abort_device, host_abort_regions, host_abort_table, host_abort_refused, host_translate_made, hyp_translate_made, translate_refused, owner_of_made, owner_of_refused}
+use Rattle.reference_model.proofs.AbortRows.{host_abort_block, host_abort_page, host_abort_keeps, host_abort_device, host_abort_device_block, host_abort_regions, host_abort_table, host_abort_refused, host_translate_made, hyp_translate_made, translate_refused, owner_of_made, owner_of_refused}
 use Rattle.reference_model.proofs.rows.abort_rows.Goals as goal
 
 pub returns-clause-host_abort_block : goal.returns-clause-host_abort_block
@@ -12,6 +12,9 @@ returns-clause-host_abort_keeps c = host_abort_keeps
 
 pub returns-clause-host_abort_device : goal.returns-clause-host_abort_device
 returns-clause-host_abort_device c = host_abort_device
+
+pub returns-clause-host_abort_device_block : goal.returns-clause-host_abort_device_block
+returns-clause-host_abort_device_block c = host_abort_device_block
 
 pub returns-clause-host_abort_regions : goal.returns-clause-host_abort_regions
 returns-clause-host_abort_regions c = host_abort_regions

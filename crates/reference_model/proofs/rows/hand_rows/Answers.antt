@@ -1,4 +1,4 @@
-use Rattle.reference_model.proofs.HandRows.{fund_made, fund_refused, unfund_made, unfund_splits, unfund_refused, install_made, install_plain, install_refused, topup_made, topup_enough, topup_refused}
+use Rattle.reference_model.proofs.HandRows.{fund_made, fund_refused, unfund_made, unfund_splits, unfund_refused, install_made, install_plain, install_refused, topup_made, topup_dying, topup_enough, topup_refused}
 use Rattle.reference_model.proofs.rows.hand_rows.Goals as goal
 
 pub returns-clause-fund_made : goal.returns-clause-fund_made
@@ -27,6 +27,9 @@ returns-clause-install_refused c = install_refused
 
 pub returns-clause-topup_made : goal.returns-clause-topup_made
 returns-clause-topup_made c = topup_made
+
+pub returns-clause-topup_dying : goal.returns-clause-topup_dying
+returns-clause-topup_dying c = topup_dying
 
 pub returns-clause-topup_enough : goal.returns-clause-topup_enough
 returns-clause-topup_enough c = topup_enough
