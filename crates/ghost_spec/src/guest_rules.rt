@@ -1,6 +1,6 @@
 //! The rules of the calls on a guest, alone or with the Shared part: the first of a call's tests that fails, or all that it
 //! changes.
-ghost use Rattle.std.specs.Prelude.{◌≡◌, ℕ, ◌+◌, ◌<◌, ◌≤◌, ◌^◌, Option, Some, IfOk, nat_lt, unwrap_or};
+ghost use Rattle.std.specs.Prelude.{◌≡◌, ℕ, ◌+◌, ◌<◌, ◌≤◌, ◌^◌, Option, Some, IfOk, ◌||◌, nat_lt, unwrap_or};
 ghost use Rattle.step_reply.specs.declared.step.Step.TheVariants.{ShareGuest, UnshareGuest, DonateGuest, GuestShareHost, GuestUnshareHost, Install, Topup, ReclaimPage, ReclaimPool, FinishGuest, GuestRelax, GuestTranslate, MarkDying};
 ghost use Rattle.page_state.specs.EntryTests.{entry_frame as entry_frame_of, is_unmapped as is_unmapped_of, join as join_of, with_rights as with_rights_of, with_state as with_state_of};
 ghost use Rattle.page_state.specs.Layouts.{Layout as ReferenceLayout, is_good_page as is_good_page_of};
@@ -78,6 +78,13 @@ fn is_dying(vm: VmId, guest: &GhostGuest) -> bool
     ensures { result ≡ is_guest_of dying vm (guest_in guest.now) }
 {
     matches!(guest.phase, GhostPhase::Dying) && guest.generation == vm.generation
+}
+
+/// Whether the guest is Live or Dying, with the generation of the name.
+fn is_live_or_dying(vm: VmId, guest: &GhostGuest) -> bool
+    ensures { result ≡ (is_guest_of live vm (guest_in guest.now) || is_guest_of dying vm (guest_in guest.now)) }
+{
+    is_live(vm, guest) || is_dying(vm, guest)
 }
 
 /// The frame of a leaf, and 0 where there is none.
@@ -418,7 +425,7 @@ pub(crate) fn topup(
     if vm.slot >= SLOTS {
         return Err(Refusal::Invalid);
     }
-    if slot.is_none() || !is_live(vm, &used.guest) {
+    if slot.is_none() || !is_live_or_dying(vm, &used.guest) {
         return Err(Refusal::NoVm);
     }
     let Some(hand) = used.own.hand else {

@@ -241,8 +241,7 @@ fn may_map(shared: &Shared, region: Region, depth: u64, page: u64) -> bool
     ensures { result ≡ may_map_of (map_of shared.now.host.runs.items) region depth page }
 {
     let pages = block_of(depth, page);
-    region.kind == RegionKind::Memory
-        && pages.is_within(region.pages)
+    pages.is_within(region.pages)
         && is_empty(shared.host.runs.as_slice(), (depth, page / pages.count))
 }
 
