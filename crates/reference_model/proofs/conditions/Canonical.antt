@@ -1,5 +1,8 @@
 -- The trees of a run, and what of their pools maps and numbers of free frames tell.
 use Rattle.std.proofs.Common.{◌≡◌, ℕ, ◌+◌, ◌<◌, refl, ap, sym, ◌∙◌, Bool, true, false, nat_lt, length, cond, List, Option, Some, None, Result, Ok, Err, if◌then◌else◌, ◌||◌}
+use Rattle.std.specs.Coded.{le_prop}
+use Rattle.std.proofs.Math.Logic.{∥∥₁_elim, ∥∥₁_map}
+use Rattle.std.proofs.Props.{props}
 use Rattle.coarse_trees.specs.Coarsest.{IsCoarsest, IsCanonical, map_need}
 use Rattle.coarse_trees.proofs.Least.{coarsest_is_canonical}
 use Rattle.coarse_trees.proofs.Stays.{none_is_coarsest, need_of_maps}
@@ -35,6 +38,28 @@ run_canonical l cs t ready run =
       hyp = coarsest_is_canonical l.depth t.contents.shared.hyp trees.hyp;
       guest = λ v. coarsest_is_canonical l.depth (t.contents.guest v).tree (trees.guest v);
     }
+
+-- a tree is coarsest where that is known somehow
+coarsest_once : (depth : ℕ) (t : Tree) → ∥ IsCoarsest depth t ∥₁ → IsCoarsest depth t
+coarsest_once depth t somehow = record {
+  inside = λ b f h. record {
+    some = ∥∥₁_elim somehow le_prop (λ k. (k.inside b f h).some);
+    top = ∥∥₁_elim somehow le_prop (λ k. (k.inside b f h).top);
+    index = ∥∥₁_elim somehow le_prop (λ k. (k.inside b f h).index);
+  };
+  below = λ b i l. ∥∥₁_elim somehow (hlevel props) (λ k. k.below b i l);
+}
+
+-- so are the trees of a state of which it is known only that it is legal somehow
+pub canonical_once : (l : Layout) (s : Contents) → ∥ Legal l s ∥₁ → AreCanonical l s
+canonical_once l s somehow = record {
+  host = once s.shared.host (λ h. h.trees.host);
+  hyp = once s.shared.hyp (λ h. h.trees.hyp);
+  guest = λ v. once (s.guest v).tree (λ h. h.trees.guest v);
+}
+  where
+    once : (t : Tree) → (Legal l s → IsCoarsest l.depth t) → IsCanonical l.depth t
+    once t told = coarsest_is_canonical l.depth t (coarsest_once l.depth t (∥∥₁_map somehow told))
 
 -- the need of a change that fits
 need_same : (depth : ℕ) (t : Tree) (c : Option MapChange) → IsCoarsest depth t → FitsWhere depth c → need depth t (edit_of c) ≡ map_need depth t.map (edit_of c)
