@@ -3,7 +3,7 @@ use Rattle.std.proofs.Common.{◌≡◌, ℕ, ◌+◌, ◌≤◌, ◌<◌, Bool,
 use Rattle.std.proofs.lemmas.Bool.Decides.{nat_tests}
 use Rattle.std.proofs.lemmas.List.Elements.{All-weaker, All-contains_itself}
 use mathlib.Core.Path.{fun_ext}
-use Rattle.page_state.specs.Blocks.{blocks_on, is_needless}
+use Rattle.page_state.specs.Blocks.{blocks_on, is_one_word}
 use Rattle.descriptor.specs.declared.Prot.TheVariants.{RW}
 use Rattle.descriptor.specs.declared.State.TheVariants.{Owned}
 use Rattle.page_state.specs.Trees.{frames_from, root_tree, Block, Tree}
@@ -61,7 +61,7 @@ module _ (meet : BlocksMeet) where
   pub none_back : (l : Layout) (root first count : ℕ) (e : Entry) → 0 < count → returned l.depth (root_tree l.depth root) (put first count e) ≡ []
   unfolding returned freed
   none_back l root first count e some =
-      let goes : Block → Bool = λ b. elim (is_some ((root_tree l.depth root).table b)) [ true ↦ is_needless (edited_map empty_map (put first count e)) b | false ↦ false ] in
+      let goes : Block → Bool = λ b. elim (is_some ((root_tree l.depth root).table b)) [ true ↦ is_one_word (edited_map empty_map (put first count e)) b | false ↦ false ] in
       let bs = blocks_on l.depth first count in
       ap (filter_map (root_tree l.depth root).table) (filter_none goes bs (All-weaker (λ b. b.0 ≤ l.depth) (λ b. goes b ≡ false) (λ b h. rw (not_root l root b h) refl) bs (low_blocks l.depth first count some)))
 

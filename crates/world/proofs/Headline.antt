@@ -12,8 +12,11 @@ use Rattle.reference_model.specs.Boot.{boot, CanBoot}
 use Rattle.reference_model.specs.Conditions.{IsUsable, Legal}
 use Rattle.reference_model.specs.Run.{Runs, IsRun}
 use Rattle.reference_model.specs.State.{Reference}
+use Rattle.reference_model.specs.Parts.{guest_slot}
 use Rattle.reference_model.specs.Step.{Steps}
+use Rattle.reference_model.specs.Used.{used_of}
 use Rattle.reference_model.proofs.Steps.{refusal_keeps}
+use Rattle.reference_model.proofs.conditions.Canonical.{canonical_once, run_canonical, run_fails_by_maps}
 use Rattle.reference_model.proofs.conditions.Isolates.{run_isolated}
 use Rattle.reference_model.proofs.conditions.RunsLegal.{ready-usable, run_legal, run_rows, run_sound}
 use Rattle.reference_model.proofs.conditions.SoundOnce.{kept_out_once, sound_once}
@@ -30,6 +33,11 @@ use Rattle.world.proofs.Runs.{runs_from, known, layout_stays, all_of_parts}
 pub runs_after : {S : Type 0} (Go : S → Call → S → Type 0) (cs ds : List Call) (s m t : S) → Runs Go s cs m → Runs Go m ds t → Runs Go s (cs ++ ds) t
 runs_after Go [] ds s m t h k = subst (λ x. Runs Go x ds t) (sym h) k
 runs_after Go (c ∷ cs) ds s m t h k = (h.0, h.1, runs_after Go cs ds h.0 m t h.2 k)
+
+-- the slot that a step finds
+slot_named : (l : Layout) (s t : Reference) (c : Call) → Steps l s c t → c.slot ≡ guest_slot (s.contents.cpu c.cpu) c.step
+unfolding used_of
+slot_named l s t c step = step.on.slot
 
 -- the calls of some steps with these replies lead from parts to others
 pub record Made {A : Type 0} (p : Parts A) (steps : List (ℕ × Step)) (replies : List Reply) (q : Parts A) : Type 0 where
@@ -87,6 +95,8 @@ module _ {A : Type 0} (p : Parts A) where
         record {
           sound = run_sound l (h.log ++ done) s h.ready to_here;
           rows = λ f m. run_rows l (h.log ++ done) s h.ready to_here f m;
+          trees = run_canonical l (h.log ++ done) s h.ready to_here;
+          by_maps = run_fails_by_maps l (h.log ++ done) s c.cpu c.slot c.step h.ready to_here (first done c left inside) (slot_named l s t c step);
           refused = λ why r. refusal_keeps l s t c why step r;
           isolated = λ v f alive owned. run_isolated l (h.log ++ done) s t c v f h.ready (first done c left inside) to_here step alive owned;
         }
@@ -110,6 +120,7 @@ right p q calls past goes =
       rows = λ f m. ∥∥₁_elim past (row_prop _ _) (λ h. run_rows l (h.log ++ calls) s (ready_after p q h calls goes) (run_after p q h calls goes) f m);
       sound = sound_once l s.contents legal;
       kept_out = kept_out_once l s.contents legal;
+      trees = canonical_once l s.contents (∥∥₁_map legal (λ h. h.1));
     }
 
 pub headline : {A : Type 0} (p q : Parts A) (steps : List (ℕ × Step)) (replies : List Reply) → ∥ HasHistory p ∥₁ → Made p steps replies q → Headline p steps replies q

@@ -12,7 +12,8 @@ use Rattle.reference_model.specs.Owner.{row_of}
 use Rattle.reference_model.specs.Run.{Runs, IsRun}
 use Rattle.reference_model.specs.Sound.{Sound, Maps, owner}
 use Rattle.reference_model.specs.State.{Contents, Reference, live}
-use Rattle.reference_model.specs.Step.{Steps}
+use Rattle.reference_model.specs.Step.{Steps, used_by, fails}
+use Rattle.reference_model.specs.TreeLaws.{AreCanonical, fails_by_maps}
 use Rattle.hypercalls.specs.declared.parts.Parts.{Parts}
 use Rattle.hypercalls.specs.Stands.{parts_layout, state_of}
 use Rattle.world.specs.Laws.{AllAgree}
@@ -25,17 +26,20 @@ RowsAgree l s = (f : ℕ) → is_memory l f ≡ true → s.shared.row f ≡ row_
 abbrev pub KeepsOut : Layout → Contents → Type 0
 KeepsOut l s = (v f component page : ℕ) (state : State) → owner l s f ≡ 2 + v → Maps s component page f state → (component ≡ 2 + v) ⊎ ((component ≡ 0) × SharesWithHost s v f)
 
--- what the parts stand for: the maplets are the coarsest lists of what walks of all words find, the owner rows are those from scratch, each memory frame has one owner and each frame one borrower at most, what holds a frame holds it alone, and guests' frames are kept apart
+-- what the parts stand for: the maplets are the coarsest lists of what walks of all words find, the owner rows are those from scratch, each memory frame has one owner and each frame one borrower at most, what holds a frame holds it alone, guests' frames are kept apart, and each tree is the one coarsest tree of its map
 pub record IsRight {A : Type 0} (p : Parts A) : Type 0 where
   pub agree : AllAgree p
   pub rows : RowsAgree (parts_layout p) (state_of p).contents
   pub sound : Sound (parts_layout p) (state_of p).contents
   pub kept_out : KeepsOut (parts_layout p) (state_of p).contents
+  pub trees : AreCanonical (parts_layout p) (state_of p).contents
 
--- a call of a run: it begins in a sound state whose rows are those from scratch; where it is refused, want of memory included, all that the state has stays; and it takes no frame from a Live guest, nor changes its page but where the guest shares it or takes it back
+-- a call of a run: it begins in a sound state whose rows are those from scratch and whose trees are the coarsest of their maps; maps and numbers of free frames tell whether a pool is short for it; where it is refused, want of memory included, all that the state has stays; and it takes no frame from a Live guest, nor changes its page but where the guest shares it or takes it back
 pub record CallKeeps (l : Layout) (s : Reference) (c : Call) (t : Reference) : Type 0 where
   pub sound : Sound l s.contents
   pub rows : RowsAgree l s.contents
+  pub trees : AreCanonical l s.contents
+  pub by_maps : fails l c.cpu c.slot c.step (used_by c s) ≡ fails_by_maps l c.cpu c.slot c.step (used_by c s)
   pub refused : (why : Refusal) → c.reply ≡ Refused why → t.contents ≡ s.contents
   pub isolated : (v f : ℕ) → (s.contents.guest v).phase ≡ live → owner l s.contents f ≡ 2 + v → FrameStays l s.contents t.contents c v f
 
