@@ -187,21 +187,16 @@ const SPLIT: Words = &[
     (&[1, 1, 0x101], 0x00000000403017ff),
 ];
 
-/// That page as it was.
-const PAGE: Words = &[(&[1, 1, 0x100], 0x00000000403007ff)];
-
-/// The block as words of pages.
-const PAGES: Words = &[(&[1, 1], 0x40602003), (&[1, 1, 511], 0x00000000403ff7ff)];
-
 /// Nothing.
 const NOTHING: Words = &[(&[1], 0)];
 
-/// The changes of a tree, one after another: a block as one word, a page of it, and back.
+/// The changes of a tree, one after another: a block as one word, a page of it and back, which makes it one word again, the block
+/// once more, and nothing.
 const ROWS: &[Row] = &[
     (0x40200, 512, Some(State::Owned), 1, BLOCK, (2, 7)),
     (0x40300, 1, Some(State::SharedOwned), 1, SPLIT, (3, 6)),
-    (0x40300, 1, Some(State::Owned), 0, PAGE, (3, 6)),
-    (0x40200, 512, Some(State::Owned), 0, PAGES, (3, 6)),
+    (0x40300, 1, Some(State::Owned), 0, BLOCK, (2, 7)),
+    (0x40200, 512, Some(State::Owned), 0, BLOCK, (2, 7)),
     (0x40200, 512, None, 0, NOTHING, (1, 8)),
 ];
 
