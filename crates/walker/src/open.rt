@@ -140,7 +140,7 @@ fn gives<A: Allocator>(slot: &Slot<A>, depth: u32, entry: Entry) -> bool
     ensures { Decides result (HasEntry depth entry slot.now) }
 {
     match slot {
-        Slot::Word(word) => entry_of(depth, *word).is_same(entry),
+        Slot::Word(word) => entry_of(depth, *word) == entry,
         Slot::Child(_) => false,
     }
 }
