@@ -19,4 +19,4 @@ returns-then-frame-block_pages_of-eq0-clause-value c =
 pub returns-then-frame-2-clause-value : goal.returns-then-frame-2-clause-value
 returns-then-frame-2-clause-value c =
     value_said c.args.level _ c.args.desc.now (omega (arith, c.if-frame-2.true))
-    (rw c.in-Table.is (record { upper = λ e. elim c.in-One.is as (λ _. ⊥) [ inl a ↦ cc | inr a ↦ cc ]; valid = omega arith; middle = omega arith; frame_is = omega (arith, c.if-frame-2.true); top = omega (arith, c.if-frame-2.true) }))
+    (rw c.in-Table.is (record { upper = λ e. elim c.in-Zero.is as (λ _. ⊥) [ inl a ↦ cc | inr b ↦ elim b as (λ _. ⊥) [ inl a ↦ cc | inr a ↦ cc ] ]; valid = omega arith; middle = omega arith; frame_is = omega (arith, c.if-frame-2.true); top = omega (arith, c.if-frame-2.true) }))
