@@ -30,6 +30,11 @@ largest_row = (
     config = record { some_cpus = omega arith; cpus = omega arith; some_calls = omega arith; calls = omega arith; known = refl };
     depth = refl;
   },
+  record {
+    memory = accepted;
+    config = record { some_cpus = omega arith; cpus = omega arith; some_calls = omega arith; calls = omega arith; known = refl };
+    depth = refl;
+  },
   record { some_cpus = omega arith; cpus = omega arith; some_calls = omega arith; calls = omega arith; known = refl },
 )
 

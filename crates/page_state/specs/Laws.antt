@@ -1,7 +1,7 @@
 -- Laws of the definitions, each proved on the contract of the function of its name.
 use Rattle.std.specs.Prelude.{◌≡◌, ℕ, ◌+◌, ◌-◌, ◌≤◌, ◌<◌, ◌⊎◌, ◌↔◌, true, List, Contains, AllPairs}
 use Rattle.descriptor.specs.declared.Level.{Level}
-use Rattle.descriptor.specs.declared.Level.TheVariants.{One, Two, Three}
+use Rattle.descriptor.specs.declared.Level.TheVariants.{Zero, One, Two, Three}
 use Rattle.page_state.specs.declared.entry.Entry.{Entry}
 use Rattle.page_state.specs.declared.entry.Entry.TheVariants.{Unmapped}
 use Rattle.page_state.specs.declared.entry.Run.{Run}
@@ -36,9 +36,9 @@ CoarsestExists = (rs : List Run) → (cs : List Run) × IsCoarsest cs × (map_of
 abbrev pub FitsWord : ℕ → Level → Type 0
 FitsWord depth level = (e : Entry) → (fits_word depth e ≡ true) ↔ CanBeSaid level (word_of_entry e)
 
--- at the three levels of 39 bits
+-- at each level
 abbrev pub FitsEachWord : Type 0
-FitsEachWord = FitsWord 0 Three × FitsWord 1 Two × FitsWord 2 One
+FitsEachWord = FitsWord 0 Three × FitsWord 1 Two × FitsWord 2 One × FitsWord 3 Zero
 
 -- a block can be one word where one entry that fits advances along all of it
 abbrev pub OneWordMeans : Type 0

@@ -22,9 +22,9 @@ config cpus log bits = record { cpus = cpus; log = log; geometry = bits }
 abbrev pub largest : Layout
 largest = record { memory = memory 0x80000; config = config 64 0x100000 39; depth = 2 }
 
--- the largest layout is accepted, and so are one CPU and logs of one call
+-- the largest layout is accepted, with either width of input addresses, and so are one CPU and logs of one call
 abbrev pub LargestRow : Type 0
-LargestRow = IsAcceptedLayout largest × IsAcceptedConfig (config 1 1 39)
+LargestRow = IsAcceptedLayout largest × IsAcceptedLayout (record largest { config = config 64 0x100000 48; depth = 3 }) × IsAcceptedConfig (config 1 1 39)
 
 -- one page, CPU or call more isn't, nor are none, nor another width of input addresses
 abbrev pub PastLimitsRow : Type 0

@@ -9,5 +9,7 @@ mod text;
 
 pub use descriptor::{Frame, Kind, Owner, Prot, State};
 pub use entry::{Entry, Page, PageRange, Run, Target};
-pub use layout::{Config, Geometry, Layout, LayoutFault, MemoryMap, Region, RegionKind};
+pub use layout::{
+    Config, Geometry, Layout, LayoutFault, MemoryMap, Region, RegionKind, pages_under,
+};
 pub use row::{Lent, Row, Usage};
