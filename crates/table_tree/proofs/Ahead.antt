@@ -1,5 +1,6 @@
 -- The words that continue a run from a word on.
 use Rattle.std.proofs.Common.{◌≡◌, ℕ, zero, suc, ◌+◌, ◌-◌, ◌*◌, ◌%◌, ◌^◌, ◌<◌, ◌≤◌, refl, sym, ap, subst, ◌∙◌, arith}
+use Rattle.std.specs.Prelude.{true, false}
 use Rattle.std.proofs.Math.Nat.{mul-le-mul_right}
 use Rattle.descriptor.specs.declared.Level.{Level}
 use Rattle.descriptor.specs.declared.Frame.{Frame}
@@ -36,7 +37,7 @@ leaf_more l w m f p k s r x h a =
     let e55 = x.state_is in
     let e57 = x.form.zero_57 in
     record {
-      form = record { valid = omega (arith, e0); page = omega (arith, e1); shareable = omega (arith, e8); accessed = omega (arith, e10); zero_11 = omega (arith, e11); zero_48 = omega (arith, e12, e48); zero_57 = omega (arith, e12, e48, e57) };
+      form = record { leaves = x.form.leaves; valid = omega (arith, e0); page = omega (arith, e1); shareable = omega (arith, e8); accessed = omega (arith, e10); zero_11 = omega (arith, e11); zero_48 = omega (arith, e12, e48); zero_57 = omega (arith, e12, e48, e57) };
       kind_is = omega (arith, e2);
       access_is = omega (arith, e6);
       execute_never_is = omega (arith, e12, e48, e54);
@@ -73,18 +74,19 @@ leaf_ahead l w m f p k s r e h a =
 record AreSized (l : Level) (P : ℕ) : Type 0 where
   aligned : (f k : ℕ) → f % level_pages l ≡ 0 → (f + k * P) % level_pages l ≡ 0
   inside : (k : ℕ) → k < 512 → k * P < 512 * P
-  few : P ≤ 2 ^ 18
+  few : P ≤ 2 ^ 27
 
-sized : (d : ℕ) → d < 3 → AreSized (level_at d) (block_pages d)
+sized : (d : ℕ) → d < 4 → AreSized (level_at d) (block_pages d)
 sized zero h = record { aligned = λ f k e. omega arith; inside = λ k l. omega arith; few = omega arith }
 sized (suc zero) h = record { aligned = λ f k e. omega arith; inside = λ k l. omega arith; few = omega arith }
 sized (suc (suc zero)) h = record { aligned = λ f k e. omega arith; inside = λ k l. omega arith; few = omega arith }
-sized (suc (suc (suc d))) h = absurd (omega arith)
+sized (suc (suc (suc zero))) h = record { aligned = λ f k e. omega arith; inside = λ k l. omega arith; few = omega arith }
+sized (suc (suc (suc (suc d)))) h = absurd (omega arith)
 
-pub leaf_goes : (d pages : ℕ) (f : Frame) (p : Prot) (k : Kind) (s : State) → d < 3 → pages ≡ block_pages d → f.0 ≤ 2 ^ 36 - 512 * pages → GoesAhead d (Leaf f p k s) (4096 * pages)
+pub leaf_goes : (d pages : ℕ) (f : Frame) (p : Prot) (k : Kind) (s : State) → d < 4 → pages ≡ block_pages d → f.0 ≤ 2 ^ 36 - 512 * pages → GoesAhead d (Leaf f p k s) (4096 * pages)
 leaf_goes d pages f p k s dd e h =
     let z = sized d dd in
-    let few : block_pages d ≤ 2 ^ 18 = z.few in
+    let few : block_pages d ≤ 2 ^ 27 = z.few in
     let below : f.0 + 512 * block_pages d ≤ 2 ^ 36 = omega (arith, few, h, e) in
     rw e (record {
       ahead = λ w n r g l.
@@ -120,12 +122,13 @@ unfolding desc_of
 zero_gives d = refl
 
 -- a leaf that a word one level up can say goes on to the end of its block
-leaf_below : (d : ℕ) (f : Frame) (p : Prot) (k : Kind) (s : State) → d + 1 < 3 → CanBeSaid (level_at (d + 1)) (leaf_word f p k s) → f.0 ≤ 2 ^ 36 - 512 * block_pages d
-leaf_below zero f p k s h c = let x = c.0 in let y = c.1 in omega (arith, x, y)
-leaf_below (suc zero) f p k s h c = let x = c.0 in let y = c.1 in omega (arith, x, y)
-leaf_below (suc (suc d)) f p k s h c = absurd (omega (arith, h))
+leaf_below : (d : ℕ) (f : Frame) (p : Prot) (k : Kind) (s : State) → d + 1 < 4 → CanBeSaid (level_at (d + 1)) (leaf_word f p k s) → f.0 ≤ 2 ^ 36 - 512 * block_pages d
+leaf_below zero f p k s h c = let x = c.1 in let y = c.2 in omega (arith, x, y)
+leaf_below (suc zero) f p k s h c = let x = c.1 in let y = c.2 in omega (arith, x, y)
+leaf_below (suc (suc zero)) f p k s h c = let no : false ≡ true = c.0 in absurd (cc)
+leaf_below (suc (suc (suc d))) f p k s h c = absurd (omega (arith, h))
 
-pub said_leaf_goes : (d pages : ℕ) (f : Frame) (p : Prot) (k : Kind) (s : State) → d + 1 < 3 → pages ≡ block_pages d → CanBeSaid (level_at (d + 1)) (word_of_entry (Leaf f p k s)) → GoesAhead d (Leaf f p k s) (4096 * pages)
+pub said_leaf_goes : (d pages : ℕ) (f : Frame) (p : Prot) (k : Kind) (s : State) → d + 1 < 4 → pages ≡ block_pages d → CanBeSaid (level_at (d + 1)) (word_of_entry (Leaf f p k s)) → GoesAhead d (Leaf f p k s) (4096 * pages)
 said_leaf_goes d pages f p k s h e c = leaf_goes d pages f p k s (omega (arith, h)) e (rw e (leaf_below d f p k s h c))
 
 -- such words are of a tree

@@ -48,8 +48,8 @@ path_length q below zero = refl
 path_length q below (suc k) = ap (λ n. suc n) (path_length q (below - 1) k)
 
 -- the block of a page's path is the one that holds the page
-pub page_block : (g : Geometry) (path : List ℕ) (q top level : ℕ) → 3 - top ≡ levels_below g → 1 ≤ top → top ≤ level → level ≤ 3 → q < input_pages g → path ≡ path_of q (3 - top) (level + 1 - top) → block_of g path ≡ block_at (3 - level) q
-page_block g path q top level e some l h inside is =
+pub page_block : (g : Geometry) (path : List ℕ) (q top level : ℕ) → 3 - top ≡ levels_below g → top ≤ level → level ≤ 3 → q < input_pages g → path ≡ path_of q (3 - top) (level + 1 - top) → block_of g path ≡ block_at (3 - level) q
+page_block g path q top level e l h inside is =
     let path' : path ≡ path_of q (levels_below g) (level + 1 - top) = is ∙ ap (λ n. path_of q n (level + 1 - top)) e in
     let depth : levels_below g + 1 - length path ≡ 3 - level = omega (arith, ap length path', path_length q (levels_below g) (level + 1 - top)) in
     let below : levels_below g + 1 - (level + 1 - top) ≡ 3 - level = omega arith in

@@ -184,7 +184,7 @@ module _ {A : Type 0} where
       }
 
   -- and a block in which no table stands is in one
-  pub bare_said : (d : ℕ) (t : Table A) (low q : ℕ) → ((n w : ℕ) → n < 3 → IsEntryWord n w → fits_word n (entry_of_word (desc_of (level_at n) w)) ≡ true) → d < 3 → IsShaped d t → low < d → table_in d t low q ≡ None → IsOneWordAt (low + 1) (entry_at d t) q
+  pub bare_said : (d : ℕ) (t : Table A) (low q : ℕ) → ((n w : ℕ) → n < 4 → IsEntryWord n w → fits_word n (entry_of_word (desc_of (level_at n) w)) ≡ true) → d < 4 → IsShaped d t → low < d → table_in d t low q ≡ None → IsOneWordAt (low + 1) (entry_at d t) q
   bare_said zero t low q fit p h l none = absurd (omega arith)
   bare_said (suc d) t low q fit p h l none =
       let i = index_at (suc d) q in

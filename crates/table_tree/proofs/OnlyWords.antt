@@ -7,7 +7,7 @@ use Rattle.descriptor.specs.declared.Kind.{Kind}
 use Rattle.descriptor.specs.declared.Prot.{Prot}
 use Rattle.descriptor.specs.declared.State.{State}
 use Rattle.descriptor.specs.declared.Desc.{Desc}
-use Rattle.descriptor.proofs.Unique.{cond_ind, kind_right, state_right, prot_right, form_right}
+use Rattle.descriptor.proofs.Unique.{both, cond_ind, kind_right, state_right, prot_right, form_right}
 use Rattle.page_state.specs.declared.entry.Entry.{Entry}
 use Rattle.page_state.specs.declared.entry.Entry.TheVariants.{Unmapped, Malformed, Annotated, Leaf}
 use Rattle.page_state.specs.Entries.{entry_of_word}
@@ -33,7 +33,7 @@ leaf_for : (l : Level) (w : ℕ) → w < 2 ^ 64 → (b : Bool) (k : Option Kind)
     → IsWordFor l w (leaf_or_malformed b k p s (field w 12 36))
 unfolding IsWordFor word_for
 leaf_for l w r true (Some k) (Some p) (Some s) eb ek ep es = λ _.
-    let form = form_right l w (grind (arith, nat_tests)) in
+    let form = form_right l w (both (has_leaf_form l w) (field w 12 36 % level_pages l == 0) eb).0 in
     let x = prot_right (field w 6 2) (field w 54 1) p ep in
     whole w (page_bit l) (kind_bits k) (access_bits p) (field w 12 36) (execute_never_bit p) (state_bits s) r form.valid form.page (sym (kind_right (field w 2 4) k ek)) (sym x.0) form.shareable form.accessed form.zero_11 refl form.zero_48 (sym x.1) (sym (state_right (field w 55 2) s es)) form.zero_57
 leaf_for l w r false k p s eb ek ep es = λ h. absurd h

@@ -149,8 +149,9 @@ module _ {A : Type 0} where
   unfolding tables_of
   tree_some t = tables_some (levels_below t.geometry) t.table
 
-pub powers : (n : ℕ) → 1 ≤ n → n < 3 → (1024 ^ n ≡ 1024 * 1024 ^ (n - 1)) × ((1 ≤ 1024 ^ (n - 1)) × (1024 ^ (n - 1) ≤ 1024))
+pub powers : (n : ℕ) → 1 ≤ n → n < 4 → (1024 ^ n ≡ 1024 * 1024 ^ (n - 1)) × ((1 ≤ 1024 ^ (n - 1)) × (1024 ^ (n - 1) ≤ 1048576))
 powers zero p q = absurd (omega arith)
 powers (suc zero) p q = (omega arith, (omega arith, omega arith))
 powers (suc (suc zero)) p q = (omega arith, (omega arith, omega arith))
-powers (suc (suc (suc n))) p q = absurd (omega arith)
+powers (suc (suc (suc zero))) p q = (omega arith, (omega arith, omega arith))
+powers (suc (suc (suc (suc n)))) p q = absurd (omega arith)

@@ -13,7 +13,7 @@ pub said_entry : (l : Level) (w : ℕ) (d : Desc) → IsSaid l w d → IsWellFor
 said_entry l w malformed_word h e = absurd e
 said_entry l w unmapped_word h e = tt
 said_entry l w (annotated_word o) h e = (h.from_one, h.byte)
-said_entry l w (leaf_word f p k s) h e = let x = h.frame_is in (omega arith, h.aligned)
+said_entry l w (leaf_word f p k s) h e = let x = h.frame_is in (h.form.leaves, omega arith, h.aligned)
 said_entry l w (table_word f) h e = absurd e
 
 pub small_entry : (l : Level) (w : ℕ) (d : Desc) → IsSaid l w d → HasSmallFrame (entry_of_word d)
@@ -23,7 +23,7 @@ small_entry l w (annotated_word o) h = tt
 small_entry l w (leaf_word f p k s) h = let x = h.frame_is in omega arith
 small_entry l w (table_word f) h = tt
 
-pub can_advance : (e : Entry) (n : ℕ) → HasSmallFrame e → n < 2 ^ 27 → CanAdvance e n
+pub can_advance : (e : Entry) (n : ℕ) → HasSmallFrame e → n < 2 ^ 36 → CanAdvance e n
 can_advance Unmapped n h p = tt
 can_advance Malformed n h p = tt
 can_advance (Annotated o) n h p = tt

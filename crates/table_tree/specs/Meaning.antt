@@ -2,7 +2,7 @@
 use Rattle.std.specs.Prelude.{ℕ, zero, suc, ◌+◌, ◌*◌, ◌/◌, ◌%◌, ◌^◌, ◌<◌, List, [], ◌∷◌, slice_index_or, Option, Some, None, nat_lt, if◌then◌else◌}
 use Rattle.descriptor.specs.Word.{desc_of}
 use Rattle.descriptor.specs.declared.Level.{Level}
-use Rattle.descriptor.specs.declared.Level.TheVariants.{One, Two, Three}
+use Rattle.descriptor.specs.declared.Level.TheVariants.{Zero, One, Two, Three}
 use Rattle.page_state.specs.declared.entry.Entry.{Entry}
 use Rattle.page_state.specs.declared.entry.Entry.TheVariants.{Malformed}
 use Rattle.page_state.specs.Entries.{advance, entry_of_word}
@@ -12,15 +12,16 @@ use Rattle.table_tree.specs.declared.table.Slot.{Slot, out-Slot}
 use Rattle.table_tree.specs.declared.table.Slot.TheOpen.{Word, Child}
 use Rattle.table_tree.specs.declared.table.Slot.TheVariants.{Word as word_slot}
 
--- the depths of tables: levels 3, 2 and 1
+-- the depths of tables: levels 3 to 0
 abbrev pub IsDepth : ℕ → Type 0
-IsDepth depth = depth < 3
+IsDepth depth = depth < 4
 
 -- the level of a table
 abbrev pub level_at : ℕ → Level
 level_at zero = Three
 level_at (suc zero) = Two
-level_at (suc (suc depth)) = One
+level_at (suc (suc zero)) = One
+level_at (suc (suc (suc depth))) = Zero
 
 -- the index of a page in a table (Arm DDI 0487, D8.2)
 abbrev pub index_at : ℕ → ℕ → ℕ

@@ -7,7 +7,7 @@ ghost use Rattle.table_tree.specs.Said.{block_of};
 use crate::Table;
 use crate::look::{look_in, word_in};
 use crate::poke::poke_in;
-use crate::tree::{Tree, depth_of};
+use crate::tree::Tree;
 use page_state::{Entry, Geometry, Page};
 use std::alloc::Allocator;
 
@@ -37,7 +37,7 @@ impl<A: Allocator> RawTree<A> {
     pub fn look(&self, page: Page) -> Entry
         ensures { result ≡ raw_meaning self.now page.0 }
     {
-        let depth = depth_of(self.geometry);
+        let depth = self.geometry.depth();
         if page.0 >> (9 * (depth + 1)) != 0 {
             return Entry::Unmapped;
         }
@@ -49,7 +49,7 @@ impl<A: Allocator> RawTree<A> {
     pub fn word_at(&self, path: &[u16]) -> Option<u64>
         ensures { result ≡ raw_word_of self.now path.now }
     {
-        word_in(&self.table, depth_of(self.geometry), path)
+        word_in(&self.table, self.geometry.depth(), path)
     }
 
     /// Sets the word at a path. Where that word is there already all stays, a child too; any other word takes the child out.
@@ -75,7 +75,7 @@ impl<A: Allocator> RawTree<A> {
         ensures map { IsPokedMap (block_of self.old.geometry path.now) (raw_word_of self.old) (raw_meaning self.old) (raw_meaning self.new) path.now word }
         ensures geometry { self.new.geometry ≡ self.old.geometry }
     {
-        let depth = depth_of(self.geometry);
+        let depth = self.geometry.depth();
         let table = &mut self.table;
         poke_in(table, depth, path, word);
     }

@@ -27,17 +27,6 @@ pub struct Tree<A: Allocator> {
     pub ghost distinct: { AreDistinct (levels_below geometry) table } by { AreDistinct-prop (levels_below geometry) table },
 }
 
-/// The levels below the root.
-pub(crate) fn depth_of(geometry: Geometry) -> u32
-    ensures value { result ≡ levels_below geometry }
-    ensures small { result < 3 }
-    ensures large { 2 ≤ result }
-{
-    match geometry {
-        Geometry::Bits39 => 2,
-    }
-}
-
 impl<A: Allocator> Tree<A> {
     ghost use Rattle.table_tree.specs.View.{meaning, word_of as word_at_path, table_at, uses, tables_of, root_of, spares_of, tree_of};
     ghost use Rattle.page_state.specs.Blocks.{block_at, is_empty as is_empty_block};
@@ -81,7 +70,7 @@ impl<A: Allocator> Tree<A> {
     pub fn look(&self, page: Page) -> Entry
         ensures { result ≡ meaning self.now page.0 }
     {
-        let depth = depth_of(self.geometry);
+        let depth = self.geometry.depth();
         if page.0 >> (9 * (depth + 1)) != 0 {
             return Entry::Unmapped;
         }
@@ -96,7 +85,7 @@ impl<A: Allocator> Tree<A> {
         ensures said { IfSome result (λ w. IsWordOf (tree_of self.now) (block_of self.now.geometry path.now) w) }
         ensures run { IfSome result (λ _. IsRunOrTable (tree_of self.now) (block_of self.now.geometry path.now)) }
     {
-        word_in(&self.table, depth_of(self.geometry), path)
+        word_in(&self.table, self.geometry.depth(), path)
     }
 
     /// The word on a page's path at a level. None where the page isn't an input page, the level isn't one of the tree's, or no
@@ -107,7 +96,7 @@ impl<A: Allocator> Tree<A> {
         ensures said { IfSome result (λ w. IsWordOf (tree_of self.now) (block_at (3 - level) page.0) w) }
         ensures run { IfSome result (λ _. IsRunOrTable (tree_of self.now) (block_at (3 - level) page.0)) }
     {
-        let top = 3 - depth_of(self.geometry);
+        let top = 3 - self.geometry.depth();
         if page.0 >= self.geometry.pages() || level < u64::from(top) || level > 3 {
             return None;
         }
@@ -120,7 +109,7 @@ impl<A: Allocator> Tree<A> {
         ensures value { result ≡ tables_of self.now }
         ensures count { result ≡ table_count self.now.geometry (tree_of self.now) }
     {
-        count_in(&self.table, depth_of(self.geometry))
+        count_in(&self.table, self.geometry.depth())
     }
 
     /// How many spares the tree keeps. The greatest usize stays.
@@ -168,19 +157,19 @@ impl<A: Allocator> Tree<A> {
         ensures refused { IfErr result (λ e. e.0 ≡ self) }
     {
         let mut frames = Vec::new(alloc);
-        match frames_in(&self.table, depth_of(self.geometry), &mut frames) {
+        match frames_in(&self.table, self.geometry.depth(), &mut frames) {
             Ok(()) => Ok(frames),
             Err(error) => Err((self, error)),
         }
     }
 
-    /// Whether nothing is mapped on the block that holds a page and has `depth` levels below it, at most 2 as a leaf's block.
+    /// Whether nothing is mapped on the block that holds a page and has `depth` levels below it, at most the root's words'.
     /// It looks at one slot of each table on the page's path, down to the block's.
     pub fn is_empty(&self, depth: u32, page: Page) -> bool
-        requires { depth ≤ 2 }
+        requires { depth ≤ levels_below self.now.geometry }
         ensures { result ≡ is_empty_block (meaning self.now) (block_at depth page.0) }
     {
-        let top = depth_of(self.geometry);
+        let top = self.geometry.depth();
         if page.0 >> (9 * (top + 1)) != 0 {
             return true;
         }

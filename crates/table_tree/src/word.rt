@@ -7,7 +7,7 @@ ghost use Rattle.table_tree.specs.Meaning.{IsDepth, level_at, index_at, word_ent
 ghost use Rattle.table_tree.specs.Shape.{IsEntryWord, HasSmallFrame};
 
 use descriptor::{Desc, Level, decode, encode};
-use page_state::Entry;
+use page_state::{Entry, pages_under};
 
 /// The level of a table with `depth` levels below it.
 pub(crate) fn level_of(depth: u32) -> Level
@@ -17,7 +17,8 @@ pub(crate) fn level_of(depth: u32) -> Level
     match depth {
         0 => Level::Three,
         1 => Level::Two,
-        _ => Level::One,
+        2 => Level::One,
+        _ => Level::Zero,
     }
 }
 
@@ -63,11 +64,7 @@ pub fn pages_before(depth: u32, i: u64) -> u64
     requires depth_in { IsDepth depth }
     requires index_in { i < 512 }
     ensures value { result ≡ i * block_pages depth }
-    ensures small { result < 2 ^ 27 }
+    ensures small { result < 2 ^ 36 }
 {
-    match depth {
-        0 => i,
-        1 => i * 512,
-        _ => i * 262144,
-    }
+    i * pages_under(depth)
 }

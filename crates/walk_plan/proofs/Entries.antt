@@ -1,5 +1,6 @@
 -- Entries: how they advance, when they are one, and which a word can say.
 use Rattle.std.proofs.Common.{◌≡◌, ℕ, zero, suc, ◌+◌, ◌*◌, ◌/◌, ◌%◌, ◌^◌, ◌<◌, ◌≤◌, refl, ap, arith, Bool, true, false, ◌&&◌, ◌==◌, nat_le, if◌then◌else◌, Option, Some}
+use Rattle.std.specs.Prelude.{IsTrue}
 use Rattle.std.proofs.lemmas.Bool.Decides.{nat_tests}
 use Rattle.descriptor.specs.declared.Frame.{Frame}
 use Rattle.descriptor.specs.declared.Prot.{Prot}
@@ -8,7 +9,8 @@ use Rattle.descriptor.specs.declared.State.{State}
 use Rattle.descriptor.specs.declared.Level.{Level}
 use Rattle.descriptor.specs.declared.Desc.{Desc}
 use Rattle.descriptor.specs.declared.Desc.TheVariants.{Table as table_word}
-use Rattle.descriptor.specs.Word.{desc_of, CanBeSaid, level_pages, field, is_upper, has_leaf_form, leaf_or_malformed, kind_of_bits, prot_of_bits, state_of_bits}
+use Rattle.descriptor.specs.Word.{desc_of, CanBeSaid, level_pages, field, has_leaves, is_upper, has_leaf_form, leaf_or_malformed, kind_of_bits, prot_of_bits, state_of_bits}
+use Rattle.descriptor.proofs.Unique.{form_right}
 use Rattle.page_state.specs.declared.entry.Entry.{Entry}
 use Rattle.page_state.specs.declared.entry.Entry.TheVariants.{Unmapped, Malformed, Annotated, Leaf}
 use Rattle.page_state.specs.Entries.{advance, entry_of_word, word_of_entry}
@@ -49,7 +51,7 @@ either : (l : Level) (b : Bool) (x y : Desc) → (b ≡ true → IsSayable l x) 
 either l true x y f g = f refl
 either l false x y f g = g refl
 
-leaf_said : (l : Level) (form : Bool) (k : Option Kind) (p : Option Prot) (s : Option State) (f : ℕ) → (form ≡ true → (f < 2 ^ 36) × (f % level_pages l ≡ 0)) → IsSayable l (leaf_or_malformed form k p s f)
+leaf_said : (l : Level) (form : Bool) (k : Option Kind) (p : Option Prot) (s : Option State) (f : ℕ) → (form ≡ true → IsTrue (has_leaves l) × (f < 2 ^ 36) × (f % level_pages l ≡ 0)) → IsSayable l (leaf_or_malformed form k p s f)
 leaf_said l true (Some k) (Some p) (Some s) f h = record { says = λ e. h refl }
 leaf_said l form k p s f h = record { says = λ e. absurd e }
 
@@ -72,26 +74,15 @@ unfolding desc_of
 word_said l w =
     either l (w == 0) _ _ (λ _. record { says = λ _. tt }) (λ p. either l _ _ _ (λ q. record { says = λ e. owner_said w p q })
     (λ _. either l (is_upper l && field w 0 12 == 3 && field w 48 16 == 0) (table_word (record { 0 = field w 12 36 })) (leaf_of l w) (λ _. record { says = λ e. absurd e })
-    (λ _. leaf_said l _ (kind_of_bits (field w 2 4)) (prot_of_bits (field w 6 2) (field w 54 1)) (state_of_bits (field w 55 2)) (field w 12 36) (λ t. (omega arith, aligned (has_leaf_form l w) (field w 12 36) (level_pages l) t)))))
+    (λ _. leaf_said l _ (kind_of_bits (field w 2 4)) (prot_of_bits (field w 6 2) (field w 54 1)) (state_of_bits (field w 55 2)) (field w 12 36) (λ t. ((form_right l w (and-both (has_leaf_form l w) (field w 12 36 % level_pages l == 0) t).0).leaves, omega arith, aligned (has_leaf_form l w) (field w 12 36) (level_pages l) t)))))
 
-pub fits : (d : ℕ) → d < 3 → FitsWord d (level_at d)
+pub fits : (d : ℕ) → d < 4 → FitsWord d (level_at d)
 fits zero p = fits_each_word.0
 fits (suc zero) p = fits_each_word.1
 fits (suc (suc zero)) p = fits_each_word.2
-fits (suc (suc (suc d))) p = absurd (omega arith)
+fits (suc (suc (suc zero))) p = fits_each_word.3
+fits (suc (suc (suc (suc d)))) p = absurd (omega arith)
 
 -- what a word of a tree gives fits a word of its depth
-pub word_fits : (d w : ℕ) → d < 3 → IsEntryWord d w → fits_word d (entry_of_word (desc_of (level_at d) w)) ≡ true
+pub word_fits : (d w : ℕ) → d < 4 → IsEntryWord d w → fits_word d (entry_of_word (desc_of (level_at d) w)) ≡ true
 word_fits d w p h = (fits d p (entry_of_word (desc_of (level_at d) w))).1 ((word_said (level_at d) w).says h.1)
-
-can_part : (d i : ℕ) (x : Entry) → d + 1 < 3 → i < 512 → CanBeSaid (level_at (suc d)) (word_of_entry x) → CanBeSaid (level_at d) (word_of_entry (advance x (i * block_pages d)))
-can_part d i Malformed p r h = absurd h
-can_part d i Unmapped p r h = tt
-can_part d i (Annotated o) p r h = h
-can_part zero i (Leaf f a k s) p r h = let x = h.0 in let y = h.1 in (omega arith, omega arith)
-can_part (suc zero) i (Leaf f a k s) p r h = let x = h.0 in let y = h.1 in (omega arith, omega arith)
-can_part (suc (suc d)) i (Leaf f a k s) p r h = absurd (omega arith)
-
--- the parts of what fits a word fit a word one level below
-pub part_fits : (d i : ℕ) (x : Entry) → suc d < 3 → i < 512 → fits_word (suc d) x ≡ true → fits_word d (advance x (i * block_pages d)) ≡ true
-part_fits d i x p r h = (fits d (omega arith) (advance x (i * block_pages d))).1 (can_part d i x (omega arith) r ((fits (suc d) p x).0 h))

@@ -20,10 +20,11 @@ use Rattle.table_tree.specs.Tables.{table_in}
 use Rattle.table_tree.specs.Slots.{IsSlot, slot_entry, slot_table}
 use Rattle.table_tree.specs.View.{meaning, table_at, tree_of}
 use Rattle.table_tree.proofs.Slots.{by_slot, case_word, case_child, shaped_slot, slot_word_is, child_shaped}
+use Rattle.page_state.proofs.Fits.{fits_part}
 use Rattle.walk_plan.specs.declared.change.Change.{Change}
 use Rattle.walk_plan.specs.Changes.{part, stays_one_word as is_one_word_after}
 use Rattle.walk_plan.specs.inner.Needs.{sum_to, met, block_need, slot_need, table_need, table_parts}
-use Rattle.walk_plan.proofs.Entries.{word_fits, part_fits}
+use Rattle.walk_plan.proofs.Entries.{word_fits}
 use Rattle.walk_plan.proofs.Numbers.{part_part}
 use Rattle.table_tree.specs.AllBlocks.{gathered}
 use Rattle.table_tree.proofs.Joined.{joined_none}
@@ -91,11 +92,11 @@ module _ (c : Change) (n : Map) (ts : Block → Option ℕ) where
   needed_past d b h k = needed_met d b h ∙ ap (λ t. cond t ((suc d, b) ∷ needed_below d b) (needed_below d b)) k
 
   -- a block that is one word needs no table, nor does one below it
-  pub one_word_none : (d b : ℕ) → d < 3 → is_one_word n (d, b) ≡ true → needed d b ≡ []
+  pub one_word_none : (d b : ℕ) → d < 4 → is_one_word n (d, b) ≡ true → needed d b ≡ []
   one_word_none zero b p h = needed_page b
   one_word_none (suc d) b p h =
       by_test (meets c (suc d) b)
-      (λ t. needed_past d b t (one_word_not (suc d, b) h) ∙ joined_none (λ i. needed d (512 * b + i)) 512 (λ i q. one_word_none d (512 * b + i) (omega arith) (one_word_part n d b i p q h)))
+      (λ t. needed_past d b t (one_word_not (suc d, b) h) ∙ joined_none (λ i. needed d (512 * b + i)) 512 (λ i q. one_word_none d (512 * b + i) (omega arith) (one_word_part n d b i q h)))
       (needed_unmet (suc d) b)
 
   -- the number of needed blocks
@@ -110,7 +111,7 @@ module _ (c : Change) (n : Map) (ts : Block → Option ℕ) where
   count_unmet d b k h = ap length (needed_unmet d b h) ∙ ap (λ t. cond t k 0) (sym h)
 
 module _ (c : Change) (m n : Map) (ts : Block → Option ℕ) (made : IsMade c m n) where
-  pub block_count : (d b : ℕ) (x : Entry) → d < 3 → fits_word d x ≡ true → IsBare m ts d b x → count c n ts d b ≡ cond (meets c d b) (block_need d x (part d b c)) 0
+  pub block_count : (d b : ℕ) (x : Entry) → d < 4 → fits_word d x ≡ true → IsBare m ts d b x → count c n ts d b ≡ cond (meets c d b) (block_need d x (part d b c)) 0
   unfolding block_need
   block_count zero b x p fits h = by_test (meets c zero b) (λ t. ap length (needed_page c n ts b) ∙ ap (λ z. cond z 0 0) (sym t)) (count_unmet c n ts zero b 0)
   block_count (suc d) b x p fits h =
@@ -119,7 +120,7 @@ module _ (c : Change) (m n : Map) (ts : Block → Option ℕ) (made : IsMade c m
       let same = one_word_same c m n made (suc d) b x t fits (bare_map m ts (suc d) b x h) in
       let is = bare_needed c n ts (suc d, b) (bare_here m ts d b x h) in
       let parts : length (needed_below c n ts d b) ≡ sum_to (met d (part (suc d) b c) (λ i. block_need d (advance x (i * block_pages d)))) 512 =
-      count_below c n ts d b (λ i. block_need d (advance x (i * block_pages d))) (λ i q. block_count d (512 * b + i) (advance x (i * block_pages d)) (omega arith) (part_fits d i x p q fits) (bare_part m ts d b i x q h)) in
+      count_below c n ts d b (λ i. block_need d (advance x (i * block_pages d))) (λ i q. block_count d (512 * b + i) (advance x (i * block_pages d)) (omega arith) (fits_part d i x q fits) (bare_part m ts d b i x q h)) in
       let goal : count c n ts (suc d) b ≡ block_need (suc d) x (part (suc d) b c) =
       by_test (is_one_word n (suc d, b))
       (λ u. ap length (one_word_none c n ts (suc d) b p u) ∙ sym (block_need_step d x (part (suc d) b c) ∙ rw (sym same, u) refl))
@@ -129,7 +130,7 @@ module _ (c : Change) (m n : Map) (ts : Block → Option ℕ) (made : IsMade c m
 
   -- a slot of a table, and a table
   module _ {A : Type 0} where
-    pub slot_count : (d b : ℕ) (s : Slot A) → d < 3 → IsSlot d s → Matches m ts d d b (slot_entry d s) (slot_table d s) → count c n ts d b ≡ cond (meets c d b) (slot_need d s (part d b c)) 0
+    pub slot_count : (d b : ℕ) (s : Slot A) → d < 4 → IsSlot d s → Matches m ts d d b (slot_entry d s) (slot_table d s) → count c n ts d b ≡ cond (meets c d b) (slot_need d s (part d b c)) 0
     unfolding slot_need table_parts
     slot_count zero b s p shape h = by_test (meets c zero b) (λ t. ap length (needed_page c n ts b) ∙ ap (λ z. cond z 0 0) (sym t)) (count_unmet c n ts zero b 0)
     slot_count (suc d) b s p shape h =
@@ -143,7 +144,7 @@ module _ (c : Change) (m n : Map) (ts : Block → Option ℕ) (made : IsMade c m
         ap length (needed_past c n ts d b t (table_not c n ts (suc d, b) _ has)) ∙ all ∙ sym (need_child d x s (part (suc d) b c) e) ∙ ap (λ z. cond z (slot_need (suc d) s (part (suc d) b c)) 0) (sym t))
         (count_unmet c n ts (suc d) b (slot_need (suc d) s (part (suc d) b c))))
 
-    pub table_count : (d b : ℕ) (t : Table A) → d < 3 → IsShaped d t → Matches m ts d (suc d) b (entry_at d t) (table_in d t) → length (needed_below c n ts d b) ≡ table_need d t (part (suc d) b c)
+    pub table_count : (d b : ℕ) (t : Table A) → d < 4 → IsShaped d t → Matches m ts d (suc d) b (entry_at d t) (table_in d t) → length (needed_below c n ts d b) ≡ table_need d t (part (suc d) b c)
     unfolding table_parts
     table_count d b t p shape h = count_below c n ts d b (table_parts d t) (λ i q. slot_count d (512 * b + i) (slot_at t i) p (shaped_slot d t i shape q) (match_slot m ts d b i t q h))
 

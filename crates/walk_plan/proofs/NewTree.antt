@@ -26,7 +26,7 @@ not_root d low root j h = let e : (suc low == d + 1) ≡ false = grind (arith, n
 new_bare : (d root b : ℕ) → IsBare empty_map (root_tree d root).table d b Unmapped
 new_bare d root b = record { map = λ q l u. refl; tables = λ low j k l u. not_root d low root j k }
 
-module _ (d root first count : ℕ) (e : Entry) (c : Change) (low : d < 3) (some : 0 < count) (within : first + count ≤ block_pages (suc d)) (from : c.first ≡ first) (to : c.end ≡ first + count) (gives : c.entry ≡ e) where
+module _ (d root first count : ℕ) (e : Entry) (c : Change) (low : d < 4) (some : 0 < count) (within : first + count ≤ block_pages (suc d)) (from : c.first ≡ first) (to : c.end ≡ first + count) (gives : c.entry ≡ e) where
   made_new : IsMade c empty_map (update empty_map first count e)
   made_new = record {
     inside = λ q p r. rw (from, gives) (update_inside empty_map first count e q (omega arith) (omega arith));

@@ -2,10 +2,10 @@
 use Rattle.std.proofs.Common.{◌≡◌, ℕ, suc, ◌+◌, ◌<◌, ◌≤◌, arith, inl, inr}
 use Rattle.page_state.specs.declared.entry.Entry.{Entry}
 use Rattle.page_state.specs.declared.layout.Geometry.{Geometry}
-use Rattle.page_state.specs.declared.layout.Geometry.TheVariants.{Bits39}
 use Rattle.page_state.specs.Map.{update}
 use Rattle.page_state.specs.Blocks.{blocks_on}
 use Rattle.page_state.specs.Geometries.{levels_below, input_pages}
+use Rattle.page_state.proofs.Geometries.{levels_most}
 use Rattle.page_state.proofs.Updates.{update_inside, update_outside}
 use Rattle.table_tree.specs.declared.tree.Tree.{Tree}
 use Rattle.table_tree.specs.View.{meaning}
@@ -17,8 +17,8 @@ use Rattle.walk_plan.proofs.Ordered.{blocks_below}
 use Rattle.walk_plan.proofs.OneWord.{IsMade}
 use Rattle.walk_plan.proofs.Matched.{all_pages}
 
-pub low_depth : (g : Geometry) → levels_below g < 3
-low_depth Bits39 = omega arith
+pub low_depth : (g : Geometry) → levels_below g < 4
+low_depth g = let most = levels_most g in omega arith
 
 module _ {A : Type 0} (t : Tree A) (first count : ℕ) (e : Entry) (c : Change) (some : 0 < count) (within : first + count ≤ input_pages t.geometry) (from : c.first ≡ first) (to : c.end ≡ first + count) (gives : c.entry ≡ e) where
   pub made_tree : IsMade c (meaning t) (update (meaning t) first count e)

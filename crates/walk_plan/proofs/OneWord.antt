@@ -12,9 +12,10 @@ use Rattle.page_state.proofs.Sizes.{size_step, size_some}
 use Rattle.page_state.proofs.Cases.{by_lt}
 use Rattle.page_state.proofs.Common.{eq-same, and-both, eq-made}
 use Rattle.page_state.proofs.Entries.{advance-none, advance-more, entry_eq-same, entry_eq-self}
+use Rattle.page_state.proofs.Fits.{fits_part}
 use Rattle.walk_plan.specs.declared.change.Change.{Change}
 use Rattle.walk_plan.specs.Changes.{part, is_whole, stays_one_word as is_one_word_after}
-use Rattle.walk_plan.proofs.Entries.{advance_back, part_fits}
+use Rattle.walk_plan.proofs.Entries.{advance_back}
 use Rattle.walk_plan.proofs.Walked.{meets}
 
 -- tests
@@ -68,11 +69,11 @@ one_word_made n d b y f h =
     (one_word_means n (d, b)).1 along
 
 -- the parts of a block that is one word are one word
-pub one_word_part : (n : Map) (d b i : ℕ) → suc d < 3 → i < 512 → is_one_word n (suc d, b) ≡ true → is_one_word n (d, 512 * b + i) ≡ true
-one_word_part n d b i p q h =
+pub one_word_part : (n : Map) (d b i : ℕ) → i < 512 → is_one_word n (suc d, b) ≡ true → is_one_word n (d, 512 * b + i) ≡ true
+one_word_part n d b i q h =
     let y = n (b * block_pages (suc d)) in
     let x = one_word_says n (suc d) b h in
-    one_word_made n d (512 * b + i) (advance y (i * block_pages d)) (part_fits d i y p q x.0)
+    one_word_made n d (512 * b + i) (advance y (i * block_pages d)) (fits_part d i y q x.0)
     (λ j r.
     let at = places (block_pages d) (block_pages (suc d)) b i j (size_step d) q r in
     ap n at.0 ∙ x.1 (i * block_pages d + j) at.1 ∙ sym (advance-more y (i * block_pages d) j))

@@ -137,14 +137,14 @@ module _ {A : Type 0} where
   slot_child (suc n) b s c k e = rw e (case_child _ _ b ∙ simp unary_clauses)
 
 -- every page under a word has an entry that the last level can say
-pub said_range : (d : ℕ) (x : Entry) → d < 3 → CanBeSaid (level_at d) (word_of_entry x) → IsRangeEntry (2 ^ (9 * d)) x
+pub said_range : (d : ℕ) (x : Entry) → d < 4 → CanBeSaid (level_at d) (word_of_entry x) → IsRangeEntry (2 ^ (9 * d)) x
 said_range d Malformed p h = absurd h
 said_range d Unmapped p h = tt
 said_range d (Annotated o) p h = h
-said_range zero (Leaf f a k s) p h = let z = h.1 in let y = h.0 in omega arith
-said_range (suc zero) (Leaf f a k s) p h = let z = h.1 in let y = h.0 in omega arith
-said_range (suc (suc zero)) (Leaf f a k s) p h = let z = h.1 in let y = h.0 in omega arith
-said_range (suc (suc (suc d))) (Leaf f a k s) p h = absurd (omega arith)
+said_range zero (Leaf f a k s) p h = let z = h.2 in let y = h.1 in omega arith
+said_range (suc zero) (Leaf f a k s) p h = let z = h.2 in let y = h.1 in omega arith
+said_range (suc (suc zero)) (Leaf f a k s) p h = let z = h.2 in let y = h.1 in omega arith
+said_range (suc (suc (suc d))) (Leaf f a k s) p h = let no : false ≡ true = h.0 in absurd (cc)
 
 pub change_below : (d : ℕ) (c : Change) → 1 ≤ d → IsChange d c → IsChange (d - 1 + 1) c
 change_below d c k h = let e : d - 1 + 1 ≡ d = omega arith in rw e h
@@ -183,14 +183,16 @@ pub table_parts_is : {A : Type 0} (d : ℕ) (t : Table A) (i : ℕ) (c : Change)
 unfolding table_parts
 table_parts_is d t i c = refl
 
-pub powers_next : (n : ℕ) → n < 3 → (1024 ^ (n + 1) ≡ 1024 * 1024 ^ n) × (1 ≤ 1024 ^ n) × (1024 ^ n ≤ 1048576)
+pub powers_next : (n : ℕ) → n < 4 → (1024 ^ (n + 1) ≡ 1024 * 1024 ^ n) × (1 ≤ 1024 ^ n) × (1024 ^ n ≤ 1073741824)
 powers_next zero p = (omega arith, omega arith, omega arith)
 powers_next (suc zero) p = (omega arith, omega arith, omega arith)
 powers_next (suc (suc zero)) p = (omega arith, omega arith, omega arith)
-powers_next (suc (suc (suc n))) p = absurd (omega arith)
+powers_next (suc (suc (suc zero))) p = (omega arith, omega arith, omega arith)
+powers_next (suc (suc (suc (suc n)))) p = absurd (omega arith)
 
-pub powers : (n : ℕ) → 1 ≤ n → n < 3 → (1024 ^ n ≡ 1024 * 1024 ^ (n - 1)) × (1 ≤ 1024 ^ (n - 1)) × (1024 ^ (n - 1) ≤ 1024)
+pub powers : (n : ℕ) → 1 ≤ n → n < 4 → (1024 ^ n ≡ 1024 * 1024 ^ (n - 1)) × (1 ≤ 1024 ^ (n - 1)) × (1024 ^ (n - 1) ≤ 1048576)
 powers zero p q = absurd (omega arith)
 powers (suc zero) p q = (omega arith, omega arith, omega arith)
 powers (suc (suc zero)) p q = (omega arith, omega arith, omega arith)
-powers (suc (suc (suc n))) p q = absurd (omega arith)
+powers (suc (suc (suc zero))) p q = (omega arith, omega arith, omega arith)
+powers (suc (suc (suc (suc n)))) p q = absurd (omega arith)

@@ -23,11 +23,12 @@ use Rattle.table_tree.specs.Tables.{table_in}
 use Rattle.table_tree.specs.Slots.{IsSlot, slot_entry, slot_table}
 use Rattle.table_tree.specs.View.{meaning, table_at, tree_of}
 use Rattle.table_tree.proofs.Slots.{by_slot, case_word, case_child, shaped_slot, slot_word_is, child_shaped}
+use Rattle.page_state.proofs.Fits.{fits_part}
 use Rattle.walk_plan.specs.declared.change.Change.{Change}
 use Rattle.walk_plan.specs.Changes.{part, stays_one_word as is_one_word_after}
 use Rattle.walk_plan.specs.inner.Needs.{sum_to, met, block_parts, table_parts}
 use Rattle.walk_plan.specs.inner.Ranks.{given_rank, later, met_at, block_rank, slot_rank, table_rank}
-use Rattle.walk_plan.proofs.Entries.{word_fits, part_fits, eq_differ}
+use Rattle.walk_plan.proofs.Entries.{word_fits, eq_differ}
 use Rattle.walk_plan.proofs.Numbers.{part_part}
 use Rattle.walk_plan.proofs.Joined.{sum_same}
 use Rattle.walk_plan.proofs.Cases.{by_option}
@@ -105,7 +106,7 @@ module _ (c : Change) (m n : Map) (ts : Block → Option ℕ) (made : IsMade c m
   abbrev at : ℕ
   at = j * block_pages (suc low)
 
-  block_place : (d b : ℕ) (x : Entry) → d < 3 → fits_word d x ≡ true → IsBare m ts d b x → low < d → IsIn d b at → place (needed c n ts d b) (suc low, j) ≡ cond (meets c d b) (block_rank d x (part d b c) low at) None
+  block_place : (d b : ℕ) (x : Entry) → d < 4 → fits_word d x ≡ true → IsBare m ts d b x → low < d → IsIn d b at → place (needed c n ts d b) (suc low, j) ≡ cond (meets c d b) (block_rank d x (part d b c) low at) None
   unfolding block_parts
   block_place zero b x p fits h l in' = absurd (omega arith)
   block_place (suc d) b x p fits h l in' =
@@ -122,14 +123,14 @@ module _ (c : Change) (m n : Map) (ts : Block → Option ℕ) (made : IsMade c m
       (λ v. head ∙ place_here (suc d, b) (suc low, j) (needed_below c n ts d b) (block_self (suc d, b) (suc low, j) (top_block d b low j (eq-same low d v) in')) ∙ sym (rank_here d x (part (suc d) b c) low at (sym same ∙ u) v))
       (λ v.
       let parts = below_place c n ts low j d b (block_parts d x) (λ i z. block_rank d (advance x (i * block_pages d)) z low at)
-      (λ i q. block_count c m n ts made d (512 * b + i) (advance x (i * block_pages d)) (omega arith) (part_fits d i x p q fits) (bare_part m ts d b i x q h))
-      (block_place d (512 * b + index_at d at) (advance x (index_at d at * block_pages d)) (omega arith) (part_fits d (index_at d at) x p (omega arith) fits) (bare_part m ts d b (index_at d at) x (omega arith) h) (let ne = eq_differ low d v in below_top low d l ne) (in_part d b at in')) in
+      (λ i q. block_count c m n ts made d (512 * b + i) (advance x (i * block_pages d)) (omega arith) (fits_part d i x q fits) (bare_part m ts d b i x q h))
+      (block_place d (512 * b + index_at d at) (advance x (index_at d at * block_pages d)) (omega arith) (fits_part d (index_at d at) x (omega arith) fits) (bare_part m ts d b (index_at d at) x (omega arith) h) (let ne = eq_differ low d v in below_top low d l ne) (in_part d b at in')) in
       head ∙ place_later (suc d, b) (suc low, j) (needed_below c n ts d b) (block_other (suc d, b) (suc low, j) (top_other d b low j (eq_differ low d v))) ∙ ap (later 1) parts ∙ sym (rank_past d x (part (suc d) b c) low at (sym same ∙ u) v))) in
       goal ∙ ap (λ z. cond z (block_rank (suc d) x (part (suc d) b c) low at) None) (sym t))
       (place_unmet c n ts low j (suc d) b (block_rank (suc d) x (part (suc d) b c) low at))
 
   module _ {A : Type 0} where
-    slot_place : (d b : ℕ) (s : Slot A) → d < 3 → IsSlot d s → Matches m ts d d b (slot_entry d s) (slot_table d s) → low < d → IsIn d b at → ts (suc low, j) ≡ None → place (needed c n ts d b) (suc low, j) ≡ cond (meets c d b) (slot_rank d s (part d b c) low at) None
+    slot_place : (d b : ℕ) (s : Slot A) → d < 4 → IsSlot d s → Matches m ts d d b (slot_entry d s) (slot_table d s) → low < d → IsIn d b at → ts (suc low, j) ≡ None → place (needed c n ts d b) (suc low, j) ≡ cond (meets c d b) (slot_rank d s (part d b c) low at) None
     unfolding table_parts table_rank
     slot_place zero b s p shape h l in' none = absurd (omega arith)
     slot_place (suc d) b s p shape h l in' none =
@@ -150,7 +151,7 @@ module _ (c : Change) (m n : Map) (ts : Block → Option ℕ) (made : IsMade c m
         ap (λ xs. place xs (suc low, j)) (needed_past c n ts d b t (table_not c n ts (suc d, b) _ has)) ∙ all ∙ sym (rank_child d x s (part (suc d) b c) low at e) ∙ ap (λ z. cond z (slot_rank (suc d) s (part (suc d) b c) low at) None) (sym t))
         (place_unmet c n ts low j (suc d) b (slot_rank (suc d) s (part (suc d) b c) low at)))
 
-    table_place : (d b : ℕ) (t : Table A) → d < 3 → IsShaped d t → Matches m ts d (suc d) b (entry_at d t) (table_in d t) → low < d → IsIn (suc d) b at → ts (suc low, j) ≡ None → place (needed_below c n ts d b) (suc low, j) ≡ table_rank d t (part (suc d) b c) low at
+    table_place : (d b : ℕ) (t : Table A) → d < 4 → IsShaped d t → Matches m ts d (suc d) b (entry_at d t) (table_in d t) → low < d → IsIn (suc d) b at → ts (suc low, j) ≡ None → place (needed_below c n ts d b) (suc low, j) ≡ table_rank d t (part (suc d) b c) low at
     unfolding table_parts table_rank
     table_place d b t p shape h l in' none =
         let i = index_at d at in

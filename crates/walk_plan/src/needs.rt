@@ -76,7 +76,7 @@ fn need_of_table<A: Allocator>(
 
 /// The tables that a change of a range of a tree needs: one for each aligned block that meets the range, has no table, and
 /// can't be one word afterwards. It is a function of the map alone: these blocks are those that can be one word before the
-/// change and can't afterwards. It looks at no more slots than 1.5 for each page and 4.
+/// change and can't afterwards. It looks at no more slots than 1.5 for each page and 6.
 pub fn need<A: Allocator>(
     tree: &Tree<A>,
     range: PageRange,
@@ -88,8 +88,8 @@ pub fn need<A: Allocator>(
     requires entry_in { CanBeSaidOn range.count entry.now }
     ensures value { result ≡ need_of (levels_below tree.now.geometry) (tree_of tree.now) (put range.first.0 range.count entry.now) }
     ensures by_map { result ≡ map_need (levels_below tree.now.geometry) (meaning tree.now) (put range.first.0 range.count entry.now) }
-    ensures small { result ≤ 2 ^ 30 }
-    ensures reads { 2 * count_of reads.new ≤ 2 * count_of reads.old + 3 * range.count + 8 }
+    ensures small { result ≤ 2 ^ 40 }
+    ensures reads { 2 * count_of reads.new ≤ 2 * count_of reads.old + 3 * range.count + 12 }
 {
     let change = Change {
         first: range.first.0,

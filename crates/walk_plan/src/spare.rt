@@ -46,7 +46,7 @@ pub fn reserve<A: Allocator + Copy>(
     ensures err_spares { OnErr result (spares_of tree.old ≤ spares_of tree.new) }
     ensures err { OnErr result (pool.new ≡ pool.old) }
     ensures room { pool.new.room ≡ pool.old.room }
-    ensures reads { 2 * count_of reads.new ≤ 2 * count_of reads.old + 3 * range.count + 8 }
+    ensures reads { 2 * count_of reads.new ≤ 2 * count_of reads.old + 3 * range.count + 12 }
 {
     let need = need(tree, range, entry, reads);
     reserve_tables(alloc, tree, pool, need)

@@ -41,7 +41,7 @@ pub fn set_with<A: Allocator>(
     ensures frames { (f : ℕ) → uses tree.new f + frame_count f pool.new.frames ≡ uses tree.old f + frame_count f (frames_of spare.stock) + frame_count f pool.old.frames }
     ensures tables { tables_of tree.new + length pool.new.frames ≡ tables_of tree.old + length (frames_of spare.stock) + length pool.old.frames }
     ensures spares { spares_of tree.new ≡ spares_of tree.old + length (returned (levels_below tree.old.geometry) (tree_of tree.old) (put range.first.0 range.count entry)) }
-    ensures reads { 2 * count_of reads.new ≤ 2 * count_of reads.old + 5 * range.count + 4112 }
+    ensures reads { 2 * count_of reads.new ≤ 2 * count_of reads.old + 5 * range.count + 6168 }
 {
     laws::given_in_any_order();
     laws::given_many();

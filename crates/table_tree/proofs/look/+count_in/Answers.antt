@@ -20,7 +20,7 @@ count_in-count-requires g t c κs within =
 pub overflow_add-count : goal.overflow_add-count
 overflow_add-count g t c =
     let p = powers c.args.depth (omega (arith, c.if-depth-eq0.false)) c.requires.depth_in in
-    let m : c.loop-i.i * 1024 ^ (c.args.depth - 1) ≤ c.loop-i.i * 1024 = mul-le-mul_left c.loop-i.i p.1.1 in
+    let m : c.loop-i.i * 1024 ^ (c.args.depth - 1) ≤ c.loop-i.i * 1048576 = mul-le-mul_left c.loop-i.i p.1.1 in
     omega (arith, p.1.1, m, c.count_in-count.ensures.small, c.loop-i.invariant.small, c.loop-i-test.true)
 
 pub loop-i-preserved : goal.loop-i-preserved

@@ -22,6 +22,9 @@ loop-i-init t c = record { counted = omega (arith, met_start (c.args.depth - 1) 
 pub part-requires-clause-within : goal.part-requires-clause-within
 part-requires-clause-within t c = part_in (c.args.depth - 1) c.loop-i.i c.args.change (change_below c.args.depth c.args.change (omega (arith, c.if-depth-eq0.false)) c.requires.change_in) c.loop-i-test.true
 
+pub pages_before-requires-clause-index_in : goal.pages_before-requires-clause-index_in
+pages_before-requires-clause-index_in t c = part_in (c.args.depth - 1) c.loop-i.i c.args.change (change_below c.args.depth c.args.change (omega (arith, c.if-depth-eq0.false)) c.requires.change_in) c.loop-i-test.true
+
 met_part : (t : ℕ) (c : goal.After-part t) → IsChange (c.args.depth - 1) (part (c.args.depth - 1) c.loop-i.i c.args.change)
 met_part t c = part_is (c.args.depth - 1) c.loop-i.i c.args.change (change_below c.args.depth c.args.change (omega (arith, c.if-depth-eq0.false)) c.requires.change_in) c.loop-i.auto.i c.loop-i-test.true
 
@@ -35,7 +38,7 @@ pub overflow_add-count : goal.overflow_add-count
 overflow_add-count t c =
     let p = powers c.args.depth (omega (arith, c.if-depth-eq0.false)) c.requires.depth_in in
     let i = part_in (c.args.depth - 1) c.loop-i.i c.args.change (change_below c.args.depth c.args.change (omega (arith, c.if-depth-eq0.false)) c.requires.change_in) c.loop-i-test.true in
-    let m : c.loop-i.i * 1024 ^ (c.args.depth - 1) ≤ c.loop-i.i * 1024 = mul-le-mul_left c.loop-i.i p.2 in
+    let m : c.loop-i.i * 1024 ^ (c.args.depth - 1) ≤ c.loop-i.i * 1048576 = mul-le-mul_left c.loop-i.i p.2 in
     omega (arith, p.2, c.need_of_block-count.ensures.small, c.loop-i.invariant.small, m, i)
 
 pub loop-i-preserved : goal.loop-i-preserved

@@ -41,7 +41,7 @@ pub overflow_add-count : goal.overflow_add-count
 overflow_add-count g t c =
     let p = powers_next c.args.depth c.requires.depth_in in
     let i = (part_in c.args.depth c.loop-i.i c.args.change c.requires.change_in c.loop-i-test.true) in
-    let m : c.loop-i.i * 1024 ^ c.args.depth ≤ c.loop-i.i * 1048576 = mul-le-mul_left c.loop-i.i p.2 in
+    let m : c.loop-i.i * 1024 ^ c.args.depth ≤ c.loop-i.i * 1073741824 = mul-le-mul_left c.loop-i.i p.2 in
     elim c.match-slot.branch [
       | in-Word w ↦ omega (arith, p.2, w.count-is, w.need_of_block.ensures.small, c.loop-i.invariant.small, m, i)
       | in-Child+then-depth-eq1 w ↦ omega (arith, p.2, w.count-is, c.loop-i.invariant.small, m, i)

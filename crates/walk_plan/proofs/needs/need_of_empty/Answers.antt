@@ -19,7 +19,7 @@ pub overflow_add-count : goal.overflow_add-count
 overflow_add-count c =
     let p = powers_next c.args.depth c.requires.depth_in in
     let i = part_in c.args.depth c.loop-i.i c.args.change c.requires.change_in c.loop-i-test.true in
-    let m : c.loop-i.i * 1024 ^ c.args.depth ≤ c.loop-i.i * 1048576 = mul-le-mul_left c.loop-i.i p.2 in
+    let m : c.loop-i.i * 1024 ^ c.args.depth ≤ c.loop-i.i * 1073741824 = mul-le-mul_left c.loop-i.i p.2 in
     omega (arith, p.2, c.need_of_block-count.ensures.small, c.loop-i.invariant.small, m, i)
 
 pub loop-i-preserved : goal.loop-i-preserved

@@ -28,7 +28,7 @@ change r e = record { first = r.first.0; end = r.first.0 + r.count; entry = e }
 -- what the change made of the root table
 grown : (g : _) (c : After-set_all g) → IsGrown (levels_below c.args.tree.now.geometry) c.args.tree.now.table c.set_all.new.table (change c.args.range c.args.entry) (frames_of c.args.spare.stock) (frames_of c.set_all.new.spare)
 grown g c =
-    let e : c.depth-depth.result ≡ levels_below c.args.tree.now.geometry = c.depth-depth.ensures ∙ ap levels_below c.geometry.ensures in
+    let e : c.depth-depth.result ≡ levels_below c.args.tree.now.geometry = c.depth-depth.ensures.value ∙ ap levels_below c.geometry.ensures in
     record {
       frame = c.set_all.ensures.frame;
       shape = rw e at c.set_all.ensures.shape;
@@ -50,7 +50,7 @@ tree_edited g c =
 -- each frame is where it was, was moved, or went
 tree_uses : (g : _) (c : After-set_all g) (f : ℕ) → uses (tree g c) f + frame_count f (frames_of c.set_all.new.freed) ≡ uses c.args.tree.now f + frame_count f (frames_of c.args.spare.stock)
 tree_uses g c f =
-    let e : c.depth-depth.result ≡ levels_below c.args.tree.now.geometry = c.depth-depth.ensures ∙ ap levels_below c.geometry.ensures in
+    let e : c.depth-depth.result ≡ levels_below c.args.tree.now.geometry = c.depth-depth.ensures.value ∙ ap levels_below c.geometry.ensures in
     let m = moved c.args.tree.now (tree g c) c.args.range.first.0 c.args.range.count c.args.entry (change c.args.range c.args.entry) (frames_of c.args.spare.stock) (frames_of c.set_all.new.spare) (omega (arith, c.requires.some)) c.requires.within refl refl refl refl c.requires.just (grown g c) f in
     let none = ap (frame_count f) c.new-freed.ensures in
     let gone = rw e at (c.set_all.ensures.freed f) in
@@ -58,7 +58,7 @@ tree_uses g c f =
 
 tree_tables : (g : _) (c : After-set_all g) → tables_of (tree g c) + length (frames_of c.set_all.new.freed) ≡ tables_of c.args.tree.now + length (frames_of c.args.spare.stock)
 tree_tables g c =
-    let e : c.depth-depth.result ≡ levels_below c.args.tree.now.geometry = c.depth-depth.ensures ∙ ap levels_below c.geometry.ensures in
+    let e : c.depth-depth.result ≡ levels_below c.args.tree.now.geometry = c.depth-depth.ensures.value ∙ ap levels_below c.geometry.ensures in
     let tables = rw e at c.set_all.ensures.tables in
     let n = counted c.args.tree.now (tree g c) c.args.range.first.0 c.args.range.count c.args.entry (change c.args.range c.args.entry) (frames_of c.args.spare.stock) (frames_of c.set_all.new.spare) (omega (arith, c.requires.some)) c.requires.within refl refl refl refl c.requires.just (grown g c) (length (frames_of c.new-freed.result)) (length (frames_of c.set_all.new.freed)) tables in
     let zero = ap length c.new-freed.ensures in
@@ -67,14 +67,14 @@ tree_tables g c =
 -- the frames that went are those that come back
 pool_back : (g : _) (c : After-set_all g) → all_given (frames_of c.set_all.new.freed) c.args.pool.now.frames ≡ all_given (returned (levels_below c.args.tree.now.geometry) (tree_of c.args.tree.now) (put c.args.range.first.0 c.args.range.count c.args.entry)) c.args.pool.now.frames
 pool_back g c =
-    let e : c.depth-depth.result ≡ levels_below c.args.tree.now.geometry = c.depth-depth.ensures ∙ ap levels_below c.geometry.ensures in
+    let e : c.depth-depth.result ≡ levels_below c.args.tree.now.geometry = c.depth-depth.ensures.value ∙ ap levels_below c.geometry.ensures in
     let none = λ (f : ℕ). ap (frame_count f) c.new-freed.ensures in
     let gone = λ (f : ℕ). (rw e at (c.set_all.ensures.freed f)) in
     came_back c.args.tree.now (tree g c) c.args.range.first.0 c.args.range.count c.args.entry (change c.args.range c.args.entry) (frames_of c.args.spare.stock) (frames_of c.set_all.new.spare) (omega (arith, c.requires.some)) c.requires.within refl refl refl refl c.requires.just (grown g c) c.given_in_any_order.ensures.counted (frames_of c.set_all.new.freed) c.args.pool.now.frames (λ f. omega (arith, none f, gone f))
 
 pub set_all-requires-clause-enough : goal.set_all-requires-clause-enough
 set_all-requires-clause-enough g c =
-    let e : c.depth-depth.result ≡ levels_below c.args.tree.now.geometry = c.depth-depth.ensures ∙ ap levels_below c.geometry.ensures in
+    let e : c.depth-depth.result ≡ levels_below c.args.tree.now.geometry = c.depth-depth.ensures.value ∙ ap levels_below c.geometry.ensures in
     let n = need_walked c.args.tree.now c.args.range.first.0 c.args.range.count c.args.entry (change c.args.range c.args.entry) (omega (arith, c.requires.some)) c.requires.within refl refl refl in
     rw e (omega (arith, n, c.requires.just))
 
@@ -92,7 +92,7 @@ pub close-requires : goal.close-requires
 close-requires g c =
     let t = c.args.tree.now in
     let fs = frames_of c.args.spare.stock in
-    let e : c.depth-depth.result ≡ levels_below t.geometry = c.depth-depth.ensures ∙ ap levels_below c.geometry.ensures in
+    let e : c.depth-depth.result ≡ levels_below t.geometry = c.depth-depth.ensures.value ∙ ap levels_below c.geometry.ensures in
     let n = need_walked t c.args.range.first.0 c.args.range.count c.args.entry (change c.args.range c.args.entry) (omega (arith, c.requires.some)) c.requires.within refl refl refl in
     let left = ap length (rw e at c.set_all.ensures.spare) in
     none_left (frames_of c.set_all.new.spare) (omega (arith, left, length-drop (table_need (levels_below t.geometry) t.table (change c.args.range c.args.entry)) fs, n, c.requires.just))
@@ -133,7 +133,7 @@ returns-clause-tables g c =
 pub returns-clause-reads : goal.returns-clause-reads
 returns-clause-reads g c =
     let t = c.args.tree.now in
-    let e : c.depth-depth.result ≡ levels_below t.geometry = c.depth-depth.ensures ∙ ap levels_below c.geometry.ensures in
+    let e : c.depth-depth.result ≡ levels_below t.geometry = c.depth-depth.ensures.value ∙ ap levels_below c.geometry.ensures in
     let l = low_depth t.geometry in
     let m = edges_most (1028 * c.depth-depth.result) (c.depth-depth.result + 1) (change c.args.range c.args.entry) in
     omega (arith, c.set_all.ensures.reads, m, e, l)

@@ -10,20 +10,20 @@ use Rattle.table_tree.proofs.tree.Tree.dismantle.Goals as goal
 pub returns-in-Ok-clause-uses : goal.returns-in-Ok-clause-uses
 unfolding uses
 returns-in-Ok-clause-uses g c f =
-    let x = rw c.depth_of.ensures.value at (c.in-Ok.ensures.count f) in
+    let x = rw c.depth.ensures.value at (c.in-Ok.ensures.count f) in
     let y = count_none f c.new-frames.result.items c.new-frames.ensures.items in
     omega (arith, x, y)
 
 pub returns-in-Ok-clause-len : goal.returns-in-Ok-clause-len
 unfolding tables_of
 returns-in-Ok-clause-len g c =
-    let x = rw c.depth_of.ensures.value at c.in-Ok.ensures.len in
+    let x = rw c.depth.ensures.value at c.in-Ok.ensures.len in
     let y = ap length c.new-frames.ensures.items in
     omega (arith, x, y)
 
 pub returns-in-Ok-clause-frames : goal.returns-in-Ok-clause-frames
 returns-in-Ok-clause-frames g c =
-    let x = rw c.depth_of.ensures.value at c.in-Ok.ensures.frames in
+    let x = rw c.depth.ensures.value at c.in-Ok.ensures.frames in
     x ∙ ap (λ fs. map (λ (f : Frame). f.0) fs ++ all_frames_in (levels_below c.args.self.geometry) c.args.self.table) c.new-frames.ensures.items ∙ sym (tree_frames c.args.self)
 
 pub returns-in-Ok-clause-root : goal.returns-in-Ok-clause-root
