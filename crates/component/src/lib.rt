@@ -64,7 +64,7 @@ impl<A: Allocator> Component<A> {
     pub fn need(&self, change: &Option<MapChange>) -> usize
         requires { FitsWhere (levels_below self.now.tree.geometry) change.now }
         ensures value { result ≡ need_for self.now.tree change.now }
-        ensures small { result ≤ 2 ^ 30 }
+        ensures small { result ≤ 2 ^ 40 }
     {
         match change {
             Some(change) => {
@@ -163,10 +163,10 @@ impl<A: Allocator> Component<A> {
         &self.maplets
     }
 
-    /// Whether nothing is mapped on the block that holds a page and has `depth` levels below it, at most 2, as the tree says
-    /// it. It looks at one slot of each table on the page's path.
+    /// Whether nothing is mapped on the block that holds a page and has `depth` levels below it, at most the root's words', as
+    /// the tree says it. It looks at one slot of each table on the page's path.
     pub fn is_empty(&self, depth: u32, page: Page) -> bool
-        requires { depth ≤ 2 }
+        requires { depth ≤ levels_below self.now.tree.geometry }
         ensures { result ≡ is_empty_block (meaning self.now.tree) (block_at depth page.0) }
     {
         self.tree.is_empty(depth, page)

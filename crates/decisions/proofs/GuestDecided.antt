@@ -25,7 +25,7 @@ use Rattle.reference_model.specs.Rules.{rule}
 use Rattle.reference_model.specs.SharedRules.{hand_becomes}
 use Rattle.reference_model.specs.State.{Cpu, Guest, Shared, dying, live}
 use Rattle.reference_model.specs.Used.{with_guest}
-use Rattle.decisions.proofs.Hands.{pages_are}
+use Rattle.page_state.proofs.Geometries.{pages_most}
 
 module _ (l : Layout) (id slot : ℕ) (s : Shared) (g : Guest) (k : Cpu) where
   -- the hand is installed
@@ -63,24 +63,24 @@ holds_none false n e = absurd (false≢true (sym e))
 -- frames that go back to the host have a page of the hypervisor
 module _ (l : TheLayout) (id slot : ℕ) (s : Shared) (g : Guest) (k : Cpu) where
   -- the least frame of a Dying guest's pool
-  pub least_low : (vm : VmId) (frame : ℕ) → frame ≡ least g.free → vm.slot < 64 → is_guest dying vm g ≡ true → length g.free ≢ 0 → CanRely (layout_of l) id (Some slot) (ReclaimPool vm) (with_guest s g k) → frame < 2 ^ 26
+  pub least_low : (vm : VmId) (frame : ℕ) → frame ≡ least g.free → vm.slot < 64 → is_guest dying vm g ≡ true → length g.free ≢ 0 → CanRely (layout_of l) id (Some slot) (ReclaimPool vm) (with_guest s g k) → frame < 2 ^ 36
   unfolding rule
   least_low vm frame is low ends some rely =
       let is_low : nat_le 64 vm.slot ≡ false = grind (arith, nat_tests) in
       let has : (length g.free == 0) ≡ false = grind (arith, nat_tests) in
       let fit = (rely.fit (reclaim_pool (layout_of l) (with_guest s g k) vm).changes (rw (is_low, ends, has) refl)).hyp in
-      let most = pages_are l.geometry in
+      let most = pages_most l.geometry in
       let within = fit.within in
       omega (arith, is, within, most)
 
   -- the root of a guest of which nothing else is left
-  pub root_low : (d root : ℕ) → d ≡ (layout_of l).depth → root ≡ unwrap_or (g.tree.table (d + 1, 0)) 0 → all_below (pages_below d) (λ p. is_unmapped (g.tree.map p)) ≡ true → length g.free ≤ 0 → CanRely (layout_of l) id (Some slot) FinishGuest (with_guest s g k) → root < 2 ^ 26
+  pub root_low : (d root : ℕ) → d ≡ (layout_of l).depth → root ≡ unwrap_or (g.tree.table (d + 1, 0)) 0 → all_below (pages_below d) (λ p. is_unmapped (g.tree.map p)) ≡ true → length g.free ≤ 0 → CanRely (layout_of l) id (Some slot) FinishGuest (with_guest s g k) → root < 2 ^ 36
   unfolding rule
   root_low d root same is bare spent rely =
       let bare_all = subst (λ (n : ℕ). all_below (pages_below n) (λ p. is_unmapped (g.tree.map p)) ≡ true) same bare in
       let none : nat_lt 0 (length g.free) ≡ false = grind (arith, nat_tests) in
       let fit = (rely.fit (finish_guest (layout_of l) (with_guest s g k)).changes (rw (bare_all, none) refl)).hyp in
-      let most = pages_are l.geometry in
+      let most = pages_most l.geometry in
       let within = fit.within in
       let is_root = subst (λ (n : ℕ). root ≡ unwrap_or (g.tree.table (n + 1, 0)) 0) same is in
       omega (arith, is_root, within, most)

@@ -1,28 +1,23 @@
 -- A hand that a run leaves is of frames.
 use Rattle.std.proofs.Common.{◌≡◌, ℕ, ◌<◌, ◌^◌, Option, None, Some, refl, subst, arith}
 use Rattle.page_state.specs.declared.entry.PageRange.{PageRange}
-use Rattle.page_state.specs.declared.layout.Geometry.{Geometry}
-use Rattle.page_state.specs.declared.layout.Geometry.TheVariants.{Bits39}
 use Rattle.page_state.specs.declared.layout.Layout.{Layout as TheLayout}
 use Rattle.step_reply.specs.declared.step.Step.TheVariants.{Unfund}
-use Rattle.page_state.specs.Geometries.{levels_below, pages_below}
 use Rattle.page_state.specs.LayoutView.{layout_of}
+use Rattle.page_state.proofs.Geometries.{pages_most}
 use Rattle.reference_model.specs.Rely.{CanRely}
 use Rattle.reference_model.specs.Rules.{rule}
 use Rattle.reference_model.specs.SharedRules.{unfund}
 use Rattle.reference_model.specs.State.{Shared, Cpu}
 use Rattle.reference_model.specs.Used.{used_alone}
 
-pub pages_are : (g : Geometry) → pages_below (levels_below g) ≡ 2 ^ 27
-pages_are Bits39 = refl
-
 -- what goes back to the host can be written, so the hypervisor's pages of the hand are input pages
-pub hand_low : (l : TheLayout) (id : ℕ) (s : Shared) (k : Cpu) (r : PageRange) → k.hand ≡ Some r → CanRely (layout_of l) id None Unfund (used_alone s k) → r.first.0 < 2 ^ 26
+pub hand_low : (l : TheLayout) (id : ℕ) (s : Shared) (k : Cpu) (r : PageRange) → k.hand ≡ Some r → CanRely (layout_of l) id None Unfund (used_alone s k) → r.first.0 < 2 ^ 36
 unfolding rule
 hand_low l id s k r e rely =
     let full = subst (λ (h : Option PageRange). CanRely (layout_of l) id None Unfund (used_alone s (record k { hand = h }))) e rely in
     let fit = (full.fit (unfund (used_alone s (record k { hand = Some r }))).changes refl).hyp in
-    let most = pages_are l.geometry in
+    let most = pages_most l.geometry in
     let some = fit.some in
     let within = fit.within in
     omega (arith, some, within, most)

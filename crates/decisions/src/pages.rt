@@ -22,7 +22,7 @@ pub const HYPERVISOR: Owner = Owner(1);
 
 /// The hypervisor's page of a frame (profile).
 pub fn hyp_page(frame: u64) -> Page
-    requires { frame < 2 ^ 26 }
+    requires { frame < 2 ^ 36 }
     ensures { result.0 ≡ frame + 0x4000000 }
 {
     Page(frame + 0x400_0000)

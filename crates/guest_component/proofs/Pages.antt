@@ -1,12 +1,10 @@
 -- Whether a map is empty, by its pages and by its blocks.
-use Rattle.std.proofs.Common.{◌≡◌, ℕ, ◌+◌, ◌*◌, ◌/◌, ◌%◌, ◌≤◌, ◌<◌, refl, sym, ap, subst, arith, true, false}
+use Rattle.std.proofs.Common.{◌≡◌, ℕ, zero, suc, ◌+◌, ◌*◌, ◌/◌, ◌%◌, ◌^◌, ◌≤◌, ◌<◌, sym, ap, subst, arith, true, false}
 use Rattle.std.proofs.Math.Nat.{div-lt_iff_lt-mul}
 use Rattle.page_state.specs.declared.entry.Entry.TheVariants.{Unmapped}
-use Rattle.page_state.specs.declared.layout.Geometry.{Geometry}
-use Rattle.page_state.specs.declared.layout.Geometry.TheVariants.{Bits39}
 use Rattle.page_state.specs.Blocks.{is_empty}
 use Rattle.page_state.specs.EntryTests.{is_unmapped}
-use Rattle.page_state.specs.Geometries.{block_pages, input_pages}
+use Rattle.page_state.specs.Geometries.{block_pages}
 use Rattle.page_state.specs.Map.{Map}
 use Rattle.page_state.specs.Search.{all_below}
 use Rattle.page_state.proofs.Blocks.{all_from-each, all_from-by}
@@ -41,6 +39,10 @@ all_empty m n d k whole h = sym (all_from-by 0 n (λ p. is_unmapped (m p)) (λ p
     let one : is_unmapped (m (p / s * s + p % s)) ≡ true = all_from-each 0 s (λ i. is_unmapped (m (p / s * s + i))) (h (p / s) less) (p % s) (omega arith) (omega (arith, at.1)) in
     subst (λ q. is_unmapped (m q) ≡ true) at.0 one))
 
--- the blocks of the root's words
-pub slots_are : (g : Geometry) → input_pages g ≡ 512 * block_pages 2
-slots_are Bits39 = refl
+-- the page at which a word of the root begins is in its block
+pub slot_page : (d j : ℕ) → d < 4 → j < 512 → j * 2 ^ (9 * d) % 18446744073709551616 / block_pages d ≡ j
+slot_page zero j p q = omega arith
+slot_page (suc zero) j p q = omega arith
+slot_page (suc (suc zero)) j p q = omega arith
+slot_page (suc (suc (suc zero))) j p q = omega arith
+slot_page (suc (suc (suc (suc d)))) j p q = absurd (omega arith)

@@ -11,12 +11,6 @@ use std::alloc::{AllocError, Allocator, Global};
 use step_reply::{VmId, VmKind};
 use table_tree::Tree;
 
-/// The levels below a word of the root.
-const SLOT_DEPTH: u32 = 2;
-
-/// The bits of a page's number below its slot of the root.
-const SLOT_BITS: u32 = 18;
-
 /// The phase of a guest that isn't Empty.
 #[derive(Clone, Copy, PartialEq)]
 pub enum Phase {
@@ -103,8 +97,9 @@ impl<A: Allocator> Body<A> {
         ensures { result ≡ all_below (pages_below (levels_below self.now.map.tree.geometry)) (λ p. is_unmapped_entry ((body_of self.now).tree.map p)) }
     {
         let map = &self.map;
-        for slot in 0..map.tree().geometry().pages() >> SLOT_BITS {
-            if !map.is_empty(SLOT_DEPTH, Page(slot << SLOT_BITS)) {
+        let depth = map.tree().geometry().depth();
+        for slot in 0..512u64 {
+            if !map.is_empty(depth, Page(slot << (9 * depth))) {
                 return false;
             }
         }

@@ -134,7 +134,7 @@ impl<A: Allocator> Guest<A> {
         requires map { FitsWhere (guest_depth self.now) changes.now.guest }
         requires mapped { is_some changes.now.guest ≡ true → (guest_of self.now).phase ≢ empty }
         ensures value { result ≡ guest_need (guest_depth self.now) changes.now (guest_of self.now) }
-        ensures small { result ≤ 2 ^ 30 }
+        ensures small { result ≤ 2 ^ 40 }
     {
         match &self.body {
             Some(body) => body.map.need(&changes.guest),

@@ -13,7 +13,7 @@ ghost use Rattle.table_tree.specs.View.{meaning};
 use super::change;
 use crate::pages::{device_leaf, leaf};
 use guest_steps::SharedPart;
-use page_state::{Entry, Layout, Page, PageRange, Prot, Region, RegionKind, State};
+use page_state::{Entry, Layout, Page, PageRange, Prot, Region, RegionKind, State, pages_under};
 use reference_model::Changes;
 use std::alloc::Allocator;
 use step_reply::Refusal;
@@ -24,11 +24,7 @@ fn block(depth: u32, page: u64) -> PageRange
     ensures first { result.first.0 ≡ first_page (block_at depth page) }
     ensures count { result.count ≡ span (block_at depth page) }
 {
-    let count = match depth {
-        0 => 1,
-        1 => 512,
-        _ => 262_144,
-    };
+    let count = pages_under(depth);
     PageRange {
         first: Page(page - page % count),
         count,

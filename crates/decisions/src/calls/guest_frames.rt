@@ -74,7 +74,7 @@ fn hand_becomes(hand: Option<PageRange>) -> CpuChange
 
 /// A frame goes back to the host: neither the host's page of it nor the hypervisor's is mapped.
 fn to_host(frame: u64) -> Changes
-    requires { frame < 2 ^ 26 }
+    requires { frame < 2 ^ 36 }
     ensures { result ≡ to_host_of frame 1 }
 {
     Changes {

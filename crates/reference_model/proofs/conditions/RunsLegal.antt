@@ -7,7 +7,6 @@ use Rattle.page_state.specs.declared.entry.PageRange.{PageRange}
 use Rattle.page_state.specs.declared.layout.Region.{Region}
 use Rattle.step_reply.specs.declared.reply.Call.{Call}
 use Rattle.page_state.specs.declared.layout.Geometry.{Geometry}
-use Rattle.page_state.specs.declared.layout.Geometry.TheVariants.{Bits39}
 use Rattle.reference_model.specs.Boot.{boot, CanBoot}
 use Rattle.page_state.specs.Accepted.{IsAcceptedLayout}
 use Rattle.page_state.specs.Geometries.{geometry_of, levels_below, block_pages, pages_below}
@@ -20,6 +19,7 @@ use Rattle.reference_model.specs.Step.{Steps}
 use Rattle.reference_model.specs.Conditions.{Legal, IsUsable}
 use Rattle.reference_model.specs.RunLaws.{RunLegal, RunSound, RunRows, AcceptedUsable, AcceptedDepth, AcceptedMade}
 use Rattle.page_state.proofs.Accepted.{memory_below}
+use Rattle.page_state.proofs.Geometries.{levels_least, pages_most, width_is}
 use Rattle.page_state.proofs.Regions.{found-in, same-region, find-holds}
 use Rattle.std.proofs.Common.{mul-le-mul_right}
 use Rattle.page_state.proofs.Sizes.{size_some, size_split}
@@ -88,29 +88,15 @@ usable_of l a deep = record {
 
 -- the depth by the geometry
 
--- each known width is that of the offset in a page and of the levels of its geometry
-width-is : (bits : ℕ) (g : Geometry) → geometry_of bits ≡ Some g → bits ≡ 12 + 9 * (levels_below g + 1)
-width-is bits g h = go (both (bits == 39)) h
-  where
-    known : (k : Geometry) → Bits39 ≡ k → 39 ≡ 12 + 9 * (levels_below k + 1)
-    known k e = ap (λ w. 12 + 9 * (levels_below w + 1)) e
-
-    go : ((bits == 39) ≡ true) ⊎ ((bits == 39) ≡ false) → geometry_of bits ≡ Some g → bits ≡ 12 + 9 * (levels_below g + 1)
-    go (inl e) h = let here : Some Bits39 ≡ Some g = rw e at h in eq-same bits 39 e ∙ known g cc
-    go (inr e) h = let none : None ≡ Some g = rw e at h in cc
-
-levels-some : (g : Geometry) → 2 ≤ levels_below g
-levels-some Bits39 = omega arith
-
 pub accepted_depth : AcceptedDepth
 accepted_depth l g accepted h =
-    let width = width-is l.config.geometry g h in
+    let width = width_is l.config.geometry g h in
     let told : l.config.geometry ≡ 12 + 9 * (l.depth + 1) = accepted.depth in
-    let some = levels-some g in
+    let some = levels_least g in
     (omega arith, omega arith)
 
 pub accepted_made : AcceptedMade
-accepted_made m c g memory config h = record { memory = memory; config = config; depth = width-is c.geometry g h }
+accepted_made m c g memory config h = record { memory = memory; config = config; depth = width_is c.geometry g h }
 
 geometry-some : (o : Option Geometry) → IsSome o → (g : Geometry) × (o ≡ Some g)
 geometry-some (Some g) h = (g, refl)
@@ -121,10 +107,7 @@ accepted_usable l accepted = let g = geometry-some (geometry_of l.config.geometr
 
 -- the pages of an accepted layout's trees have numbers of 36 bits
 pub few-pages : (l : Layout) → IsAcceptedLayout l → pages_below l.depth ≤ 2 ^ 36
-few-pages l accepted = let g = geometry-some (geometry_of l.config.geometry) accepted.config.known in subst (λ d. pages_below d ≤ 2 ^ 36) (sym (accepted_depth l g.0 accepted g.1).0) (few g.0)
-  where
-    few : (g : Geometry) → pages_below (levels_below g) ≤ 2 ^ 36
-    few Bits39 = omega arith
+few-pages l accepted = let g = geometry-some (geometry_of l.config.geometry) accepted.config.known in subst (λ d. pages_below d ≤ 2 ^ 36) (sym (accepted_depth l g.0 accepted g.1).0) (pages_most g.0)
 
 pub ready-usable : (l : Layout) → CanBoot l → IsUsable l
 ready-usable l ready = accepted_usable l ready.accepted

@@ -4,4 +4,4 @@ use Rattle.table_tree.specs.View.{meaning}
 use Rattle.guest_component.proofs.body.Body.is_unmapped.Given as goal
 
 abbrev pub invariant-loop-slot : goal.invariant-loop-slot
-invariant-loop-slot g l = (j : ℕ) → j < l.slot → is_empty (meaning l.fn.self.map.tree) (2, j) ≡ true
+invariant-loop-slot g l = (j : ℕ) → j < l.slot → is_empty (meaning l.fn.self.map.tree) (l.depth, j) ≡ true
