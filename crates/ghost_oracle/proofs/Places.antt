@@ -1,5 +1,5 @@
 -- The pages of a part of a block, and how a map goes on over parts.
-use Rattle.std.proofs.Common.{◌≡◌, ℕ, ◌+◌, ◌-◌, ◌*◌, ◌/◌, ◌%◌, ◌^◌, ◌<◌, ◌≤◌, true, false, cond, ltb, sym, ap, ◌∙◌, arith}
+use Rattle.std.proofs.Common.{◌≡◌, ℕ, zero, suc, ◌+◌, ◌-◌, ◌*◌, ◌/◌, ◌%◌, ◌^◌, ◌<◌, ◌≤◌, true, false, cond, ltb, sym, ap, ◌∙◌, arith}
 use Rattle.std.proofs.lemmas.Nat.{div-mul-add}
 use Rattle.std.proofs.lemmas.Bool.Decides.{nat_tests}
 use Rattle.std.proofs.Math.Nat.{mul-le-mul_right}
@@ -24,11 +24,19 @@ index_in d n i p l a b = let e : p / block_pages d ≡ n * 512 + i = part_of (bl
 pub first_part : (d n : ℕ) → n * block_pages (d + 1) ≡ n * 512 * block_pages d
 first_part d n = rw (size_next d) (omega arith)
 
+-- the pages under a word of a table
+pub pages_few : (d : ℕ) → d < 4 → block_pages d ≤ 2 ^ 27
+pages_few zero h = omega arith
+pages_few (suc zero) h = omega arith
+pages_few (suc (suc zero)) h = omega arith
+pages_few (suc (suc (suc zero))) h = omega arith
+pages_few (suc (suc (suc (suc d)))) h = absurd (omega arith)
+
 -- a part of a block ends where the block does or before
 pub part_ends : (d n i : ℕ) → i < 512 → (n * 512 + i + 1) * block_pages d ≤ (n + 1) * block_pages (d + 1)
 part_ends d n i h = let e : (n + 1) * block_pages (d + 1) ≡ (n + 1) * 512 * block_pages d = first_part d (n + 1) in let m : (n * 512 + i + 1) * block_pages d ≤ (n + 1) * 512 * block_pages d = mul-le-mul_right (block_pages d) (omega arith) in omega (arith, e, m)
 
-pub part_small : (d n i s : ℕ) → i < 512 → s ≡ block_pages d → (n + 1) * block_pages (d + 1) ≤ 2 ^ 27 → (n * 512 + i) * s + s ≤ 2 ^ 27
+pub part_small : (d n i s : ℕ) → i < 512 → s ≡ block_pages d → (n + 1) * block_pages (d + 1) ≤ 2 ^ 36 → (n * 512 + i) * s + s ≤ 2 ^ 36
 part_small d n i s h e p = let m = part_ends d n i h in rw e (omega (arith, m, p))
 
 less_test : (p q : ℕ) → p < q → ltb p q ≡ true

@@ -67,7 +67,7 @@ ends_last d n i p q = let k : n * 512 + i ≡ (n + 1) * 512 = omega arith in let
 pub starts_first : (d n : ℕ) → n * block_pages (d + 1) ≡ (n * 512 + 0) * block_pages d
 starts_first d n = first_part d n ∙ ap (λ m. m * block_pages d) (omega arith)
 
-pub child_place : (d n i : ℕ) → 1 ≤ d → i < 512 → (n + 1) * block_pages (d + 1) ≤ 2 ^ 27 → (n * 512 + i + 1) * block_pages (d - 1 + 1) ≤ 2 ^ 27
+pub child_place : (d n i : ℕ) → 1 ≤ d → i < 512 → (n + 1) * block_pages (d + 1) ≤ 2 ^ 36 → (n * 512 + i + 1) * block_pages (d - 1 + 1) ≤ 2 ^ 36
 child_place d n i k h p = let e : d - 1 + 1 ≡ d = omega arith in let m = part_ends d n i h in rw e (omega (arith, m, p))
 
 pub word_ends : (d n i s : ℕ) → s ≡ block_pages d → (n * 512 + i) * s + s ≡ (n * 512 + (i + 1)) * block_pages d

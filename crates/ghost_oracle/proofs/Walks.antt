@@ -48,10 +48,10 @@ part_next d n i = omega arith
 part_more : (d n i j : ℕ) → part_at d n i + j * block_pages d ≡ part_at d n (i + j)
 part_more d n i j = omega arith
 
-pub block_small : (d n : ℕ) → (n + 1) * block_pages (d + 1) ≤ 2 ^ 27 → n + 1 ≤ 2 ^ 27
+pub block_small : (d n : ℕ) → (n + 1) * block_pages (d + 1) ≤ 2 ^ 36 → n + 1 ≤ 2 ^ 36
 block_small d n h = let some : 1 ≤ block_pages (d + 1) = size_some (d + 1) in let more : (n + 1) * 1 ≤ (n + 1) * block_pages (d + 1) = mul-le-mul_left (n + 1) some in omega (arith, h, more)
 
-pub whole_small : (d n s : ℕ) → s ≡ block_pages d → (n + 1) * block_pages (d + 1) ≤ 2 ^ 27 → (n + 1) * 512 * s ≤ 2 ^ 27
+pub whole_small : (d n s : ℕ) → s ≡ block_pages d → (n + 1) * block_pages (d + 1) ≤ 2 ^ 36 → (n + 1) * 512 * s ≤ 2 ^ 36
 whole_small d n s e h = let all : (n + 1) * block_pages (d + 1) ≡ (n + 1) * 512 * block_pages d = first_part d (n + 1) in rw e (omega (arith, all, h))
 
 module _ {A : Type 0} (d n : ℕ) (t : Table A) where

@@ -90,7 +90,7 @@ fn pending_of(depth: u32, pages: u64, first: u64, word: u64) -> Pending
 #[inline(never)]
 pub(crate) fn put_pending(runs: &mut Vec<Run>, pending: Pending, end: u64) -> Result<(), AllocError>
     requires order { pending.first ≤ end }
-    requires pages { end ≤ 2 ^ 27 }
+    requires pages { end ≤ 2 ^ 36 }
     requires small { HasSmallFrame pending.entry }
     requires before { AreRunsTo pending.first runs.old.items }
     ensures runs { OnOk result (AreRunsTo end runs.new.items) }
@@ -114,7 +114,7 @@ fn begin_pending(
 ) -> Result<(), AllocError>
     requires depth_in { IsDepth depth }
     requires pages { pages ≡ block_pages depth }
-    requires place { end + pages ≤ 2 ^ 27 }
+    requires place { end + pages ≤ 2 ^ 36 }
     requires order { pending.old.first ≤ end }
     requires small { HasSmallFrame pending.old.entry }
     requires before { AreRunsTo pending.old.first runs.old.items }
@@ -140,7 +140,7 @@ pub(crate) fn take_word(
 ) -> Result<(), AllocError>
     requires depth_in { IsDepth depth }
     requires pages { pages ≡ block_pages depth }
-    requires place { end + pages ≤ 2 ^ 27 }
+    requires place { end + pages ≤ 2 ^ 36 }
     requires order { pending.old.first ≤ end }
     requires small { HasSmallFrame pending.old.entry }
     requires room { IsTrue pending.old.goes_on → pending.old.next + pending.old.step < 2 ^ 64 }

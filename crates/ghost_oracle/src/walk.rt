@@ -14,7 +14,7 @@ ghost use Rattle.ghost_oracle.specs.inner.Walking.{AreRunsTo, GoesOn, found_unde
 use crate::eight::{go_on, one_of};
 use crate::pending::{nothing_pending, put_pending, take_word};
 use ghost_trees::tree::{Table as FoundTable, Tree};
-use page_state::Geometry;
+use page_state::{Geometry, pages_under};
 use std::alloc::{AllocError, Allocator, Global};
 use table_tree::{Reads, Slot, Table};
 
@@ -36,32 +36,8 @@ pub fn walk<A: Allocator>(
     let runs = Vec::with_capacity(alloc, room)?;
     let tables = Vec::new(alloc);
     let mut found = Tree { runs, tables };
-    walk_table(table, depth_of(geometry), 0, reads, &mut found)?;
+    walk_table(table, geometry.depth(), 0, reads, &mut found)?;
     Ok(found)
-}
-
-/// The levels below the root.
-fn depth_of(geometry: Geometry) -> u32
-    ensures value { result ≡ levels_below geometry }
-    ensures small { result < 3 }
-{
-    match geometry {
-        Geometry::Bits39 => 2,
-    }
-}
-
-/// The pages under a word of a table with `depth` levels below it.
-fn pages_under(depth: u32) -> u64
-    requires { IsDepth depth }
-    ensures value { result ≡ block_pages depth }
-    ensures some { 0 < result }
-    ensures small { result ≤ 2 ^ 18 }
-{
-    match depth {
-        0 => 1,
-        1 => 512,
-        _ => 262_144,
-    }
 }
 
 /// Adds what a table says, and the tables below it. It has `depth` levels below it, and is at block `number` of its level.
@@ -74,7 +50,7 @@ fn walk_table<A: Allocator>(
 ) -> Result<(), AllocError>
     requires depth_in { IsDepth depth }
     requires raw { IsRaw depth table.now }
-    requires place { (number + 1) * block_pages (depth + 1) ≤ 2 ^ 27 }
+    requires place { (number + 1) * block_pages (depth + 1) ≤ 2 ^ 36 }
     requires before { AreRunsTo (number * block_pages (depth + 1)) found.old.runs.items }
     ensures runs { OnOk result (AreRunsTo ((number + 1) * block_pages (depth + 1)) found.new.runs.items) }
     ensures map { OnOk result (GoesOn (entry_at depth table.now) (number * block_pages (depth + 1)) ((number + 1) * block_pages (depth + 1)) (map_of found.old.runs.items) (map_of found.new.runs.items)) }

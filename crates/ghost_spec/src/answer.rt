@@ -12,7 +12,7 @@ use crate::decide::decide;
 use crate::rows::find_rows;
 use crate::used::GhostUsed;
 use crate::{cpu, guest, shared, vms};
-use page_state::{Geometry, Layout, PageRange};
+use page_state::{Layout, PageRange};
 use reference_model::Changes;
 use std::alloc::{AllocError, Global};
 use step_reply::{Refusal, Reply, Step};
@@ -22,9 +22,7 @@ pub(crate) fn depth(layout: &Layout) -> u64
     ensures value { result ≡ (layout_of layout.now).depth }
     ensures low { result ≤ 3 }
 {
-    match layout.geometry {
-        Geometry::Bits39 => 2,
-    }
+    u64::from(layout.geometry.depth())
 }
 
 /// The frames whose rows a call finds again.

@@ -11,7 +11,7 @@ ghost use Rattle.ghost_trees.specs.Trees.{tree_in_lists};
 
 use ghost_trees::blocks::Block;
 use ghost_trees::tree::{Table, Tree, table_at};
-use page_state::{Geometry, Layout, Page, PageRange, Run, State, Target};
+use page_state::{Layout, Page, PageRange, Run, State, Target};
 
 /// The page of a run that maps the frame in the state.
 fn run_page(run: Run, state: State, frame: u64) -> Option<u64>
@@ -53,9 +53,7 @@ pub(crate) fn pages(layout: &Layout) -> u64
     ensures value { result ≡ pages_below (layout_of layout.now).depth }
     ensures low { result ≤ 2 ^ 62 }
 {
-    match layout.geometry {
-        Geometry::Bits39 => 1 << 27,
-    }
+    layout.geometry.pages()
 }
 
 /// The first page that a tree maps to the frame in the state.
@@ -80,12 +78,8 @@ pub(crate) fn page_of(layout: &Layout, tree: &Tree, state: State, frame: u64) ->
 pub(crate) fn has_place(layout: &Layout, block: Block) -> bool
     ensures { result ≡ has_place_of (layout_of layout.now).depth block }
 {
-    match block.0 {
-        1 => block.1 < 262_144,
-        2 => block.1 < 512,
-        3 => block.1 < 1,
-        _ => false,
-    }
+    let root = u64::from(layout.geometry.depth()) + 1;
+    block.0 >= 1 && block.0 <= root && block.1 < 1 << (9 * (root - block.0))
 }
 
 /// Whether a table that counts stands in its place and has the frame.

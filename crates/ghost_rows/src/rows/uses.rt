@@ -90,12 +90,8 @@ fn use_frames(rows: &mut RunList<Row>, frames: &[u64], usage: Usage) -> Result<(
 fn has_place(layout: &Layout, block: Block) -> bool
     ensures { result ≡ has_place_of (layout_of layout.now).depth block }
 {
-    match block.0 {
-        1 => block.1 < 262_144,
-        2 => block.1 < 512,
-        3 => block.1 < 1,
-        _ => false,
-    }
+    let root = u64::from(layout.geometry.depth()) + 1;
+    block.0 >= 1 && block.0 <= root && block.1 < 1 << (9 * (root - block.0))
 }
 
 /// The frame of a table that counts: the first of its block, where trees have one.

@@ -14,6 +14,9 @@ use Rattle.ghost_oracle.proofs.Walks.{IsWalked, walk_begins, walk_on, walk_word_
 use Rattle.ghost_oracle.proofs.walk.+walk_table.Goals as goal
 use Rattle.ghost_oracle.proofs.walk.+walk_table.Goals.{in-Word+in_ok-take_word-in-Word, in-Child+in_ok-put_pending-in-Child+in_ok-walk_table-in-Child}
 
+pub overflow_mul-number-2 : goal.overflow_mul-number-2
+overflow_mul-number-2 g t c = let x = whole_small c.args.depth c.args.number c.pages_under-pages.result c.pages_under-pages.ensures.value c.requires.place in omega (arith, x)
+
 pub loop-c-init : goal.loop-c-init
 loop-c-init g t c = record {
   within = omega arith;

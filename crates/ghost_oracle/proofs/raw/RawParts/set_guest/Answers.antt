@@ -12,3 +12,9 @@ returns-clause-poked g c = record {
 
 pub returns-clause-beside : goal.returns-clause-beside
 returns-clause-beside g c = ap (λ f. record (raw_beside_of c.args.self.now) { guest = f }) (fun_ext c.set_place.ensures.beside)
+
+pub invariant_of-self-clause-guest_depth : goal.invariant_of-self-clause-guest_depth
+invariant_of-self-clause-guest_depth g c = (c.set_place.ensures.depth c.args.self.now.layout.geometry (c.args.self.now.guest_depth, c.args.self.now.poked_depth)).0
+
+pub invariant_of-self-clause-poked_depth : goal.invariant_of-self-clause-poked_depth
+invariant_of-self-clause-poked_depth g c = (c.set_place.ensures.depth c.args.self.now.layout.geometry (c.args.self.now.guest_depth, c.args.self.now.poked_depth)).1
