@@ -6,7 +6,7 @@ ghost use Rattle.trace_audit.specs.Paths.{path_on as path_on_level};
 use arrayvec::ArrayVec;
 use page_state::Geometry;
 
-/// The indices of a page in the tables from a level, 1 to 3, down to another.
+/// The indices of a page in the tables from a level, 0 to 3, down to another.
 fn path_to(page: u64, top: u32, level: u32) -> ArrayVec<u16, 4>
     requires first { top ≤ 3 }
     requires order { top ≤ level }

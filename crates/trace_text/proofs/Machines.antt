@@ -2,8 +2,6 @@
 use Rattle.std.proofs.Common.{◌≡◌, ◌∙◌, ◌+◌, ◌-◌, ◌<◌, ◌≤◌, ℕ, zero, All, refl, sym, ap, subst, arith, suc, true, false, List, filter, get_or, length, slice_get, Option, Some, None, IsSome, IfSome, is_some, nat_lt, nat_le, ◌&&◌, Bool, if◌then◌else◌, inl, inr}
 use Rattle.std.proofs.lemmas.Bool.Decides.{nat_tests}
 use Rattle.std.proofs.lemmas.Option.{slice_get-get_or, slice_get_cases, slice_get_past}
-use Rattle.page_state.specs.declared.layout.Geometry.{Geometry}
-use Rattle.page_state.specs.declared.layout.Geometry.TheVariants.{Bits39}
 use Rattle.page_state.specs.declared.layout.Config.{Config}
 use Rattle.page_state.specs.Blocks.{block_at}
 use Rattle.page_state.specs.Geometries.{levels_below, input_pages}
@@ -14,6 +12,7 @@ use Rattle.page_state.specs.LayoutFaults.{IsAccepted}
 use Rattle.page_state.specs.Layouts.{Layout}
 use Rattle.reference_model.specs.Boot.{IsCarveEnough}
 use Rattle.reference_model.specs.State.{Guest as ReferenceGuest, no_guest}
+use Rattle.page_state.proofs.Geometries.{levels_most}
 use Rattle.guest_component.specs.declared.body.Body.{Body}
 use Rattle.guest_component.specs.Bodies.{IsOfGeometry}
 use Rattle.guest_component.specs.View.{guest_in, runs_of}
@@ -113,9 +112,6 @@ boots m c w b = record {
 
 -- ---- the word on a page's path
 
-few_levels : (g : Geometry) → levels_below g ≤ 2
-few_levels Bits39 = omega arith
-
 indices_small : (page below n : ℕ) → Small (path_of page below n)
 unfolding Small
 indices_small page below zero = tt
@@ -150,8 +146,8 @@ module _ {A : Type 0} (t : Tree A) (page level : ℕ) where
   block_is : page < input_pages t.geometry → 3 - levels_below t.geometry ≤ level → level ≤ 3 → block_of t.geometry path ≡ block_at (3 - level) page
   unfolding path
   block_is a b c =
-      let few = few_levels t.geometry in
-      page_block t.geometry _ page (3 - levels_below t.geometry) level (omega (arith, few)) (omega (arith, few)) b c a
+      let few = levels_most t.geometry in
+      page_block t.geometry _ page (3 - levels_below t.geometry) level (omega (arith, few)) b c a
       (ap (λ d. path_of page d (level + 1 - (3 - levels_below t.geometry))) (let same : levels_below t.geometry ≡ 3 - (3 - levels_below t.geometry) = omega (arith, few) in same))
 
   count : length path ≡ level + 1 - (3 - levels_below t.geometry)
@@ -164,7 +160,7 @@ module _ {A : Type 0} (t : Tree A) (page level : ℕ) where
 
   to_page : page < input_pages t.geometry → 3 - levels_below t.geometry ≤ level → level ≤ 3 → HasWord t.geometry (tree_of t) path → HasWordOn (levels_below t.geometry) (tree_of t) page level
   to_page a b c h =
-      let few = few_levels t.geometry in
+      let few = levels_most t.geometry in
       let many = count in
       record {
         root = subst IsSome (sym (root_stands t)) refl;
@@ -176,7 +172,7 @@ module _ {A : Type 0} (t : Tree A) (page level : ℕ) where
 
   from_page : HasWordOn (levels_below t.geometry) (tree_of t) page level → HasWord t.geometry (tree_of t) path
   from_page h =
-      let few = few_levels t.geometry in
+      let few = levels_most t.geometry in
       let many = count in
       let top = h.top in
       let bottom = h.bottom in

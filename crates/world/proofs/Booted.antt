@@ -1,16 +1,14 @@
 -- The parts of a world that has booted stand for the boot state.
-use Rattle.std.proofs.Common.{◌≡◌, ℕ, ◌+◌, ◌-◌, ◌*◌, ◌==◌, List, [], Some, None, All, inl, inr, refl, ap, sym, ◌∙◌, subst, slice_get, arith}
-use Rattle.std.proofs.lemmas.Bool.Decides.{nat_tests}
+use Rattle.std.proofs.Common.{◌≡◌, ℕ, ◌-◌, List, [], All, inl, inr, refl, ap, sym, ◌∙◌, subst, slice_get, arith}
 use Rattle.std.proofs.lemmas.Option.{slice_get_cases}
 use mathlib.Core.Path.{fun_ext}
 use Rattle.page_state.specs.declared.layout.Config.{Config}
 use Rattle.page_state.specs.declared.layout.Geometry.{Geometry}
-use Rattle.page_state.specs.declared.layout.Geometry.TheVariants.{Bits39}
 use Rattle.step_reply.specs.declared.reply.Call.{Call}
 use Rattle.page_state.specs.LayoutFaults.{IsAccepted}
 use Rattle.reference_model.specs.Boot.{boot, booted, IsCarveEnough}
 use Rattle.reference_model.specs.Held.{held_state}
-use Rattle.page_state.specs.Geometries.{geometry_of, levels_below}
+use Rattle.page_state.specs.Geometries.{levels_below}
 use Rattle.page_state.specs.Layouts.{Layout, HasItsDepth}
 use Rattle.page_state.specs.Regions.{Memory}
 use Rattle.reference_model.specs.State.{Vms, Shared, Guest, Cpu, Reference, all_rooms, no_vms, no_guest, no_cpu}
@@ -23,13 +21,9 @@ use Rattle.guest_steps.specs.Logs.{StoredCalls, IsNewLog}
 use Rattle.guest_steps.specs.View.{vm_slots, shared_of, guest_held, cpu_of}
 use Rattle.hypercalls.specs.declared.parts.Parts.{Parts}
 use Rattle.hypercalls.specs.Stands.{at_place, parts_layout, kept_of}
-use Rattle.page_state.proofs.Cases.{by_test}
+use Rattle.page_state.proofs.Geometries.{width_is}
 use Rattle.hypercalls.specs.Booted.{IsConfig, HasNoCalls, IsBooted, layout_for}
 use Rattle.world.specs.Boots.{IsIdle, IsVacant, IsNoBoot}
-
--- the depth of a known geometry is that of its width
-width : (bits : ℕ) (g : Geometry) → geometry_of bits ≡ Some g → bits ≡ 12 + 9 * (levels_below g + 1)
-width bits Bits39 h = by_test (bits == 39) (λ e. grind (arith, nat_tests)) (λ e. let no : None ≡ Some Bits39 = rw e at h in absurd cc)
 
 -- a layout by its parts
 abbrev layout : Memory → Config → ℕ → Layout
@@ -104,7 +98,7 @@ module _ {A : Type 0} (m : Memory) (c : Config) (g : Geometry) (p : Parts A)
       accepted = accepted;
       enough = enough;
       layout = layout_is;
-      depth = subst HasItsDepth (sym layout_is) (width c.geometry g accepted.geometry);
+      depth = subst HasItsDepth (sym layout_is) (width_is c.geometry g accepted.geometry);
       stands = subst (λ x. boot x ≡ held_state x (kept_of p)) (sym layout_is) stands;
       no_calls = none;
     }
