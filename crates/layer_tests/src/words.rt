@@ -111,3 +111,18 @@ fn refuses_unaligned_block(rt: HostRuntime) {
     expect_encoded(&rt, Level::Two, owned(0x40100), None);
     assert_eq!(rt; block_pages_of(Level::Two), 512);
 }
+
+#[test]
+fn has_no_leaf_at_level_0(rt: HostRuntime) {
+    for (word, desc) in [
+        (0, Desc::Unmapped),
+        (0x104, Desc::Annotated(Owner(65))),
+        (0x4060_2003, Desc::Table(Frame(0x40602))),
+    ] {
+        expect_decoded(&rt, Level::Zero, word, desc);
+        expect_encoded(&rt, Level::Zero, desc, Some(word));
+    }
+    expect_decoded(&rt, Level::Zero, 0x7fd, Desc::Malformed);
+    expect_encoded(&rt, Level::Zero, owned(0), None);
+    assert_eq!(rt; block_pages_of(Level::Zero), 0x800_0000);
+}
