@@ -13,7 +13,7 @@ use Rattle.trace_text.specs.Session.{Answer}
 use Rattle.trace_text.specs.View.{machine_of}
 use Rattle.world.specs.declared.World.{World}
 use Rattle.world.specs.declared.raw.RawWorld.{RawWorld}
-use Rattle.trace_audit.specs.Audited.{Audited, Comes, Pokes, PokesFirst, Sets}
+use Rattle.trace_audit.specs.Audited.{Audited, Comes, Pokes, PokesAgain, PokesFirst, Sets}
 use Rattle.trace_audit.specs.Paths.{path_on, which_of}
 
 pub not_true : false ≡ true → ⊥
@@ -53,3 +53,8 @@ pub pokes_first : {A : Type 0} (poke : Poke) (old : Audited A) (answer : Answer)
     → Comes result (record old.session { machine = None }) answer new → Pokes poke old answer new
 pokes_first poke old answer new w result none there sets comes =
     nothing old.poked _ _ none (matched old.session.machine (machine_of w) _ (λ m. PokesFirst poke m old answer new) there (inr (w, refl, result, sets, comes)))
+
+-- a further poke
+pub pokes_again : {A : Type 0} (poke : Poke) (old : Audited A) (answer : Answer) (new : Audited A) (before : RawWorld A) (result : Result (RawWorld A) Stop) → old.poked ≡ Some before
+    → Sets before.parts.layout.geometry (raw_trees before.parts) (λ beside. beside ≡ raw_beside_of before.parts) poke result → Comes result old.session answer new → Pokes poke old answer new
+pokes_again poke old answer new before result is sets comes = matched old.poked before _ (λ w. PokesAgain poke w old answer new) is (result, sets, comes)
