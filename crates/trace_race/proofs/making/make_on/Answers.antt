@@ -1,5 +1,6 @@
-use Rattle.std.proofs.Common.{arith, ◌≡◌, ◌∙◌, Some, length, map, ap, slice_get, subst, sym}
+use Rattle.std.proofs.Common.{arith, ◌≡◌, ◌∙◌, Some, get_or, length, map, ap, slice_get, subst, sym}
 use Rattle.std.proofs.lemmas.List.{length-append}
+use Rattle.std.proofs.lemmas.Option.{slice_get-get_or}
 use Rattle.trace_race.specs.declared.workers.Done.{Done}
 use Rattle.trace_race.specs.Made.{AreBelow, AreDone, HaveMade, IsGathered}
 use Rattle.trace_race.specs.Workers.{AllFinish}
@@ -15,6 +16,9 @@ finish : (g : _) (c : After-as_slice g) → AllFinish c.args.machine.now.table c
 finish g c =
     let all = rw c.in-Some.is at c.in_ok-done.ensures in
     subst (λ ps. AllFinish c.args.machine.now.table c.split_at.result.1.now ps c.in-Some.done.items) c.in_ok-workers.ensures.passes_are all
+
+pub all_workers-requires : goal.all_workers-requires
+all_workers-requires g c k d less = (c.in_ok-make_first.ensures.made.each k (get_or c.make_first.new.passes.items k d) (slice_get-get_or c.make_first.new.passes.items k d less)).of
 
 pub gather-requires-clause-below : goal.gather-requires-clause-below
 gather-requires-clause-below g c =
