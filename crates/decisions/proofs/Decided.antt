@@ -17,9 +17,9 @@ vms_parts k slot other h = cc
 
 -- a call that uses a guest and the Shared part names both
 pub named_both : (k : Cpu) (v : ℕ) (step : Step) → guest_slot k step ≡ Some v → uses_shared (names step) (Some v) ≡ true → names step ≡ shared_and_guest
-named_both k v (ShareGuest f g p) h u = refl
+named_both k v (ShareGuest f g p n) h u = refl
 named_both k v (UnshareGuest vm g) h u = refl
-named_both k v (DonateGuest f g) h u = refl
+named_both k v (DonateGuest f g n) h u = refl
 named_both k v (GuestShareHost g) h u = refl
 named_both k v (GuestUnshareHost g) h u = refl
 named_both k v Install h u = refl

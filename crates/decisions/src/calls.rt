@@ -6,7 +6,8 @@ ghost use Rattle.guest_steps.specs.View.{cpu_of, shared_of, vm_slots};
 ghost use Rattle.decisions.specs.Grows.{GrowsOnly};
 ghost use Rattle.page_state.specs.LayoutView.{layout_of};
 ghost use Rattle.reference_model.specs.Answers.{decides};
-ghost use Rattle.page_state.specs.Layouts.{Layout as ReferenceLayout, is_good_page, is_memory};
+ghost use Rattle.page_state.specs.Layouts.{Layout as ReferenceLayout, is_good_page, is_good_range};
+ghost use Rattle.reference_model.specs.GuestRules.{are_good_pages as are_good_pages_of};
 ghost use Rattle.reference_model.specs.Parts.{guest as just_guest, guest_slot, names, shared_and_guest, uses_shared, uses_vms};
 ghost use Rattle.reference_model.specs.Rely.{CanRely};
 ghost use Rattle.reference_model.specs.State.{Cpu, no_guest};
@@ -32,8 +33,8 @@ use guest_alone::{decide_guest_relax, decide_guest_translate, decide_mark_dying}
 use guest_component::Guest;
 use guest_frames::{decide_finish_guest, decide_install, decide_reclaim_pool, decide_topup};
 use guest_pages::{
-    decide_donate_guest, decide_guest_share_host, decide_guest_unshare_host, decide_reclaim_page,
-    decide_share_guest, decide_unshare_guest,
+    are_good_pages, decide_donate_guest, decide_guest_share_host, decide_guest_unshare_host,
+    decide_reclaim_page, decide_share_guest, decide_unshare_guest,
 };
 use guest_steps::{CpuState, SharedPart, VmPart};
 use hand::{decide_fund, decide_unfund};
@@ -120,12 +121,12 @@ pub fn decide_with_guest<A: Allocator>(
     ensures grows { IfOk result (GrowsOnly step) }
 {
     match step {
-        Step::ShareGuest { pfn, gfn, prot } => decide_share_guest(
-            layout, shared, guest, pfn, gfn, prot,
+        Step::ShareGuest { pfn, gfn, prot, n } => decide_share_guest(
+            layout, shared, guest, pfn, gfn, prot, n,
         ),
         Step::UnshareGuest { vm, gfn } => decide_unshare_guest(layout, shared, guest, vm, gfn),
-        Step::DonateGuest { pfn, gfn } => decide_donate_guest(
-            layout, shared, guest, slot, pfn, gfn,
+        Step::DonateGuest { pfn, gfn, n } => decide_donate_guest(
+            layout, shared, guest, slot, pfn, gfn, n,
         ),
         Step::GuestShareHost { gfn } => decide_guest_share_host(layout, shared, guest, gfn),
         Step::GuestUnshareHost { gfn } => decide_guest_unshare_host(
@@ -159,12 +160,12 @@ pub fn decide_guest<A: Allocator>(
     }
 }
 
-/// The refusal of a call on a guest that there is none of: Invalid where the frame isn't memory, or the page not an input
-/// page.
-fn unloaded(layout: &Layout, pfn: u64, gfn: u64) -> Refusal
-    ensures { result ≡ (if not (is_memory (layout_of layout.now) pfn) || not (is_good_page (layout_of layout.now) gfn) then Refusal.Invalid else Refusal.NoVm) }
+/// The refusal of a call on a guest that there is none of: Invalid where the frames aren't a good range, or the pages not all
+/// input pages.
+fn unloaded(layout: &Layout, pfn: u64, gfn: u64, n: u64) -> Refusal
+    ensures { result ≡ (if not (is_good_range (layout_of layout.now) pfn n) || not (are_good_pages_of (layout_of layout.now) gfn n) then Refusal.Invalid else Refusal.NoVm) }
 {
-    if !layout.map.is_memory(Page(pfn)) || gfn >= layout.geometry.pages() {
+    if !layout.is_good_range(Page(pfn), n) || !are_good_pages(layout, gfn, n) {
         return Refusal::Invalid;
     }
     Refusal::NoVm
@@ -188,8 +189,8 @@ pub fn refusal_of_none(layout: &Layout, step: Step) -> Refusal
     ensures { (id : ℕ) (k : Cpu) → guest_slot k step ≡ None → Err result ≡ decides (layout_of layout.now) id None step (guest_alone no_guest k) }
 {
     match step {
-        Step::ShareGuest { pfn, gfn, .. } => unloaded(layout, pfn, gfn),
-        Step::DonateGuest { pfn, gfn } => unloaded(layout, pfn, gfn),
+        Step::ShareGuest { pfn, gfn, n, .. } => unloaded(layout, pfn, gfn, n),
+        Step::DonateGuest { pfn, gfn, n } => unloaded(layout, pfn, gfn, n),
         Step::GuestShareHost { gfn } => unloaded_page(layout, gfn),
         Step::GuestUnshareHost { gfn } => unloaded_page(layout, gfn),
         Step::GuestRelax { gfn, .. } => unloaded_page(layout, gfn),

@@ -13,3 +13,4 @@ pub mod Slots
 pub mod TableCounts
 pub mod Tickets
 pub mod Starts
+pub mod GoodPages

@@ -45,9 +45,11 @@ pub(crate) fn decide(
         Step::OwnerOf { pfn } => owner_of(layout, used, pfn),
         Step::Fund { pfn, n } => fund(layout, used, pfn, n),
         Step::Unfund => unfund(layout, used),
-        Step::ShareGuest { pfn, gfn, prot } => share_guest(layout, used, slot, pfn, gfn, prot),
+        Step::ShareGuest { pfn, gfn, prot, n } => {
+            share_guest(layout, used, slot, pfn, gfn, prot, n)
+        }
         Step::UnshareGuest { vm, gfn } => unshare_guest(layout, used, slot, vm, gfn),
-        Step::DonateGuest { pfn, gfn } => donate_guest(layout, used, slot, pfn, gfn),
+        Step::DonateGuest { pfn, gfn, n } => donate_guest(layout, used, slot, pfn, gfn, n),
         Step::GuestShareHost { gfn } => guest_share_host(layout, used, slot, gfn),
         Step::GuestUnshareHost { gfn } => guest_unshare_host(layout, used, slot, gfn),
         Step::Install => install(used, slot),

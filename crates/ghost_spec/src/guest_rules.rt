@@ -1,18 +1,18 @@
 //! The rules of the calls on a guest, alone or with the Shared part: the first of a call's tests that fails, or all that it
 //! changes.
-ghost use Rattle.std.specs.Prelude.{◌≡◌, ℕ, ◌+◌, ◌<◌, ◌≤◌, ◌^◌, Option, Some, IfOk, ◌||◌, nat_lt, unwrap_or};
+ghost use Rattle.std.specs.Prelude.{◌≡◌, ℕ, ◌+◌, ◌<◌, ◌≤◌, ◌^◌, ◌&&◌, Option, Some, IfOk, IsTrue, ◌||◌, nat_lt, unwrap_or};
 ghost use Rattle.step_reply.specs.declared.step.Step.TheVariants.{ShareGuest, UnshareGuest, DonateGuest, GuestShareHost, GuestUnshareHost, Install, Topup, ReclaimPage, ReclaimPool, FinishGuest, GuestRelax, GuestTranslate, MarkDying};
-ghost use Rattle.page_state.specs.EntryTests.{entry_frame as entry_frame_of, is_unmapped as is_unmapped_of, join as join_of, with_rights as with_rights_of, with_state as with_state_of};
+ghost use Rattle.page_state.specs.EntryTests.{entry_frame as entry_frame_of, is_free_page as is_free_page_of, is_unmapped as is_unmapped_of, join as join_of, with_rights as with_rights_of, with_state as with_state_of};
 ghost use Rattle.page_state.specs.Layouts.{Layout as ReferenceLayout, is_good_page as is_good_page_of};
 ghost use Rattle.page_state.specs.LayoutView.{layout_of};
 ghost use Rattle.page_state.specs.Runs.{map_of};
 ghost use Rattle.page_state.specs.Search.{all_below};
 ghost use Rattle.reference_model.specs.declared.changes.Update.TheVariants.{Becomes};
 ghost use Rattle.reference_model.specs.Answers.{decides};
-ghost use Rattle.reference_model.specs.GuestRules.{guest_table_count as guest_table_count_of, is_guest as is_guest_of, is_protected as is_protected_of, least as least_of, moved_on as moved_on_of, two_pages as two_pages_of};
+ghost use Rattle.reference_model.specs.GuestRules.{are_good_pages as are_good_pages_of, guest_table_count as guest_table_count_of, is_guest as is_guest_of, is_protected as is_protected_of, least as least_of, moved_on as moved_on_of, two_pages as two_pages_of, two_ranges as two_ranges_of};
 ghost use Rattle.reference_model.specs.SharedRules.{to_host as to_host_of};
 ghost use Rattle.reference_model.specs.State.{live, dying};
-ghost use Rattle.ghost_spec.specs.Kept.{AreSmallChanges, IsKeptCpu, IsKeptGuest, IsLowSlot};
+ghost use Rattle.ghost_spec.specs.Kept.{AreSmallChanges, IsKeptCpu, IsKeptGuest, IsKeptShared, IsLowSlot};
 ghost use Rattle.ghost_trees.specs.KeptTrees.{IsKeptTree};
 ghost use Rattle.ghost_trees.specs.Small.{HasLowFrames};
 ghost use Rattle.ghost_spec.specs.States.{guest_in};
@@ -23,9 +23,10 @@ ghost use Rattle.ghost_spec.specs.Views.{cpu_in};
 use crate::answer::depth;
 use crate::cpu::GhostCpu;
 use crate::found::{has_place, pages};
-use crate::leaves::{annotation, hyp_page, is_free_page, is_in, is_mapped, is_unmapped, leaf};
+use crate::leaves::{annotation, hyp_page, is_free_page, is_in, is_unmapped, leaf};
 use crate::parts::{GhostGuest, GhostPhase};
 use crate::rules::{change, host_entry};
+use crate::shared::Shared;
 use crate::used::GhostUsed;
 use crate::uses::{ticket_kind, ticket_vm};
 use ghost_trees::runs::at;
@@ -45,6 +46,16 @@ fn is_good_page(layout: &Layout, page: u64) -> bool
     ensures value { result ≡ is_good_page_of (layout_of layout.now) page }
 {
     page < pages(layout)
+}
+
+/// Whether the pages of a range are input pages.
+fn are_good_pages(layout: &Layout, page: u64, n: u64) -> bool
+    requires { 1 ≤ n }
+    ensures value { result ≡ are_good_pages_of (layout_of layout.now) page n }
+    ensures low { IsTrue result → page + n ≤ 2 ^ 62 }
+{
+    let last = pages(layout);
+    n <= last && page <= last - n
 }
 
 /// The guest's entry of a page.
@@ -156,15 +167,47 @@ fn with_rights(rights: Prot, entry: Entry) -> Entry
     }
 }
 
+/// A range of the host and one of the guest change.
+fn two_ranges(frame: u64, entry: Entry, page: u64, guest_entry: Entry, n: u64) -> Changes
+    ensures { result ≡ two_ranges_of frame entry page guest_entry n }
+{
+    Changes {
+        host: change(frame, n, entry),
+        guest: change(page, n, guest_entry),
+        ..Changes::NONE
+    }
+}
+
 /// A page of the host and a page of the guest change.
 fn two_pages(frame: u64, entry: Entry, page: u64, guest_entry: Entry) -> Changes
     ensures { result ≡ two_pages_of frame entry page guest_entry }
 {
-    Changes {
-        host: change(frame, 1, entry),
-        guest: change(page, 1, guest_entry),
-        ..Changes::NONE
+    two_ranges(frame, entry, page, guest_entry, 1)
+}
+
+/// Whether the host's page of a frame is free to give, and a page of the guest is unmapped.
+fn may_give_frame(shared: &Shared, guest: &GhostGuest, frame: u64, page: u64) -> bool
+    requires kept { IsKeptShared shared.now }
+    requires guest { IsKeptGuest guest.now }
+    ensures { result ≡ (is_free_page_of (map_of shared.now.host.runs.items frame) && is_unmapped_of (map_of guest.now.tree.runs.items page)) }
+{
+    is_free_page(host_entry(shared, frame)) && is_unmapped(guest_entry(guest, page))
+}
+
+/// Whether that is so of each frame of a range and its page.
+fn may_give(shared: &Shared, guest: &GhostGuest, pfn: u64, gfn: u64, n: u64) -> bool
+    requires kept { IsKeptShared shared.now }
+    requires guest { IsKeptGuest guest.now }
+    requires frames { pfn + n ≤ 2 ^ 62 }
+    requires pages { gfn + n ≤ 2 ^ 62 }
+    ensures { result ≡ all_below n (λ i. is_free_page_of (map_of shared.now.host.runs.items (pfn + i)) && is_unmapped_of (map_of guest.now.tree.runs.items (gfn + i))) }
+{
+    for i in 0..n {
+        if !may_give_frame(shared, guest, pfn + i, gfn + i) {
+            return false;
+        }
     }
+    true
 }
 
 /// A range goes back to the host.
@@ -194,7 +237,7 @@ fn moved_on(stage: Stage, own: &GhostCpu) -> CpuChange
     }
 }
 
-/// The host shares a frame with the guest.
+/// The host shares a range with the guest.
 #[tactic(auto, unfolding(reference_model::specs::Rules::rule))]
 pub(crate) fn share_guest(
     layout: &Layout,
@@ -203,28 +246,27 @@ pub(crate) fn share_guest(
     pfn: u64,
     gfn: u64,
     prot: Prot,
+    n: u64,
 ) -> Result<Changes, Refusal>
     requires { IsKeptUsed used.now }
-    ensures decided { (cpu : ℕ) → result ≡ decides (layout_of layout.now) cpu slot (ShareGuest pfn gfn prot) (used_in used.now) }
+    ensures decided { (cpu : ℕ) → result ≡ decides (layout_of layout.now) cpu slot (ShareGuest pfn gfn prot n) (used_in used.now) }
     ensures small { IfOk result AreSmallChanges }
 {
-    if !layout.map.is_memory(Page(pfn)) || !is_good_page(layout, gfn) {
+    if !layout.is_good_range(Page(pfn), n) || !are_good_pages(layout, gfn, n) {
         return Err(Refusal::Invalid);
     }
     if slot.is_none() {
         return Err(Refusal::NoVm);
     }
-    if is_protected(used.guest.kind)
-        || !is_free_page(host_entry(&used.shared, pfn))
-        || is_mapped(guest_entry(&used.guest, gfn))
-    {
+    if is_protected(used.guest.kind) || !may_give(&used.shared, &used.guest, pfn, gfn, n) {
         return Err(Refusal::Perm);
     }
-    Ok(two_pages(
+    Ok(two_ranges(
         pfn,
         leaf(Prot::RWX, pfn, State::SharedOwned),
         gfn,
         leaf(prot, pfn, State::SharedBorrowed),
+        n,
     ))
 }
 
@@ -260,7 +302,7 @@ pub(crate) fn unshare_guest(
     ))
 }
 
-/// The host gives a frame to the guest.
+/// The host gives a range to the guest.
 #[tactic(auto, unfolding(reference_model::specs::Rules::rule))]
 pub(crate) fn donate_guest(
     layout: &Layout,
@@ -268,29 +310,28 @@ pub(crate) fn donate_guest(
     slot: Option<u64>,
     pfn: u64,
     gfn: u64,
+    n: u64,
 ) -> Result<Changes, Refusal>
     requires kept { IsKeptUsed used.now }
     requires slot { IsLowSlot slot }
-    ensures decided { (cpu : ℕ) → result ≡ decides (layout_of layout.now) cpu slot (DonateGuest pfn gfn) (used_in used.now) }
+    ensures decided { (cpu : ℕ) → result ≡ decides (layout_of layout.now) cpu slot (DonateGuest pfn gfn n) (used_in used.now) }
     ensures small { IfOk result AreSmallChanges }
 {
-    if !layout.map.is_memory(Page(pfn)) || !is_good_page(layout, gfn) {
+    if !layout.is_good_range(Page(pfn), n) || !are_good_pages(layout, gfn, n) {
         return Err(Refusal::Invalid);
     }
     let Some(number) = slot else {
         return Err(Refusal::NoVm);
     };
-    if !is_protected(used.guest.kind)
-        || !is_free_page(host_entry(&used.shared, pfn))
-        || is_mapped(guest_entry(&used.guest, gfn))
-    {
+    if !is_protected(used.guest.kind) || !may_give(&used.shared, &used.guest, pfn, gfn, n) {
         return Err(Refusal::Perm);
     }
-    Ok(two_pages(
+    Ok(two_ranges(
         pfn,
         annotation(2 + number),
         gfn,
         leaf(Prot::RWX, pfn, State::Owned),
+        n,
     ))
 }
 

@@ -4,6 +4,7 @@ pub mod Lends
 pub mod Numbered
 pub mod Using
 pub mod Places
+pub mod Splits
 pub mod Stepping
 pub mod Wants
 pub mod Whole

@@ -1,14 +1,18 @@
--- A step that changes a page isn't refused for memory where its trees keep spares and its maplets have room.
-use Rattle.std.proofs.Common.{◌≡◌, ◌≤◌, ◌∙◌, ℕ, zero, suc, refl, ap, sym, subst, arith, inl, inr, List, [], ◌∷◌, ◌++◌, length, Option, Some, None}
-use Rattle.std.specs.Prelude.{Bool, true, false, ◌||◌, filter, Ok, Err, Result, if◌then◌else◌}
+-- A step that changes a range isn't refused for memory where its trees keep spares and its maplets have room.
+use Rattle.std.proofs.Common.{◌≡◌, ◌≤◌, ◌∙◌, ◌*◌, ℕ, refl, ap, sym, subst, arith, inl, inr, length, Option, Some, None}
+use Rattle.std.proofs.Math.Nat.{mul-le-mul_right}
+use Rattle.std.specs.Prelude.{Bool, true, false, not, ◌==◌, ◌||◌, ◌⊎◌, Ok, Err, Result, if◌then◌else◌}
 use Rattle.step_reply.specs.declared.reply.Refusal.{Refusal}
 use Rattle.step_reply.specs.declared.reply.Refusal.TheVariants.{Invalid, NoVm, Busy, Perm, NoPool, NoMemory}
 use Rattle.step_reply.specs.declared.reply.Reply.TheVariants.{Refused}
 use Rattle.step_reply.specs.declared.step.Step.{Step}
 use Rattle.step_reply.specs.declared.step.Step.TheVariants.{ShareHyp, UnshareHyp, ShareGuest, UnshareGuest, DonateGuest, GuestShareHost, GuestUnshareHost, ReclaimPage, GuestRelax}
-use Rattle.page_state.specs.Blocks.{blocks_on, blocks_with}
+use Rattle.page_state.specs.declared.entry.Entry.{Entry}
+use Rattle.page_state.specs.Blocks.{blocks_on}
+use Rattle.page_state.proofs.Cases.{by_test}
+use Rattle.page_state.proofs.Common.{eq-same, not-false, or-neither}
 use Rattle.page_state.specs.Geometries.{levels_below}
-use Rattle.page_state.specs.Layouts.{Layout}
+use Rattle.page_state.specs.Layouts.{Layout, is_good_range}
 use Rattle.page_state.specs.Tables.{need, needs, put}
 use Rattle.page_state.specs.Trees.{Tree}
 use Rattle.reference_model.specs.declared.changes.Changes.{Changes}
@@ -30,8 +34,11 @@ use Rattle.guest_steps.specs.declared.parts.SharedPart.{SharedPart}
 use Rattle.hypercalls.specs.Carried.{IsRoomy}
 use Rattle.hypercalls.specs.declared.parts.Parts.{Parts}
 use Rattle.hypercalls.specs.Stands.{parts_layout, state_of}
-use Rattle.hypercalls.specs.Wants.{AreStocked, IsGuestStocked, IsStocked, StockedWants, changes_a_page}
+use Rattle.hypercalls.specs.Wants.{AreStocked, IsGuestStocked, IsStocked, StockedWants, blocks_met, changes_a_range}
 use Rattle.hypercalls.specs.Whole.{HasRoomyGuest, slot_here}
+use Rattle.hypercalls.proofs.Splits.{fewer, on_page, on_range}
+use Rattle.reference_model.proofs.conditions.Bounding.{good-count}
+use Rattle.reference_model.proofs.conditions.Tests.{tested}
 
 differ : {P : Type 0} → false ≡ true → P
 differ h = cc
@@ -69,68 +76,87 @@ decides_ok : (l : Layout) (cpu : ℕ) (slot : Option ℕ) (step : Step) (x : Use
 unfolding fails refusal
 decides_ok l cpu slot step x e = decided_ok (rule_of l cpu slot step x) (lacks_slot (names step) slot) (first_none _ _ e)
 
--- changes of one page
+passed_valid : (l : Layout) (cpu : ℕ) (slot : Option ℕ) (step : Step) (x : Used) → fails l cpu slot step x ≡ None → (rule_of l cpu slot step x).invalid ≡ false
+unfolding fails refusal
+passed_valid l cpu slot step x e = (tested (rule_of l cpu slot step x) (lacks_slot (names step) slot) (first_none _ _ e)).invalid
 
-abbrev OnePage : Option MapChange → Type 0
-OnePage None = Unit {0}
-OnePage (Some c) = c.range.count ≡ 1
+-- changes of one page, or of a range of up to 512
 
-record IsOfPages (h : Changes) : Type 0 where
-  host : OnePage h.host
-  hyp : OnePage h.hyp
-  guest : OnePage h.guest
+abbrev FewPages : ℕ → ℕ → Type 0
+FewPages k n = ((1 ≤ k) × (n ≡ 1)) ⊎ ((2 ≤ k) × (n ≤ 512))
+
+abbrev HasFewPages : ℕ → Option MapChange → Type 0
+HasFewPages k None = Unit {0}
+HasFewPages k (Some c) = FewPages k c.range.count
+
+record HaveFewPages (k : ℕ) (h : Changes) : Type 0 where
+  host : HasFewPages k h.host
+  hyp : HasFewPages k h.hyp
+  guest : HasFewPages k h.guest
   part : MakesNone h.part
 
-one_page : (l : Layout) (cpu : ℕ) (slot : Option ℕ) (step : Step) (x : Used) → changes_a_page step ≡ true → IsOfPages (rule l cpu slot step x).changes
-unfolding rule
-one_page l cpu slot (ShareHyp f) x h = record { host = refl; hyp = refl; guest = tt; part = tt }
-one_page l cpu slot (UnshareHyp f) x h = record { host = refl; hyp = refl; guest = tt; part = tt }
-one_page l cpu slot (ShareGuest f g p) x h = record { host = refl; hyp = tt; guest = refl; part = tt }
-one_page l cpu slot (UnshareGuest vm g) x h = record { host = refl; hyp = tt; guest = refl; part = tt }
-one_page l cpu slot (DonateGuest f g) x h = record { host = refl; hyp = tt; guest = refl; part = tt }
-one_page l cpu slot (GuestShareHost g) x h = record { host = refl; hyp = tt; guest = refl; part = tt }
-one_page l cpu slot (GuestUnshareHost g) x h = record { host = refl; hyp = tt; guest = refl; part = tt }
-one_page l cpu slot (ReclaimPage vm g) x h = record { host = refl; hyp = tt; guest = refl; part = tt }
-one_page l cpu slot (GuestRelax g p) x h = record { host = tt; hyp = tt; guest = refl; part = tt }
-one_page l cpu slot other x h = absurd (differ h)
+page_alone : FewPages 1 1
+page_alone = inl (omega arith, refl)
 
--- they need a table a level at most
-
-fewer : {X : Type 0} (test : X → Bool) (xs : List X) → length (filter test xs) ≤ length xs
-fewer test [] = omega arith
-fewer test (x ∷ xs) = go (test x) (fewer test xs)
+few_pages : (l : Layout) (f n : ℕ) (other : Bool) → (not (is_good_range l f n) || other) ≡ false → FewPages (if n == 1 then 1 else 2) n
+few_pages l f n other h = by_test (n == 1)
+    (λ e. ap_few (n == 1) true e (inl (omega arith, eq-same n 1 e)))
+    (λ e. ap_few (n == 1) false e (inr (omega arith, good-count l f n (not-false (is_good_range l f n) (or-neither (not (is_good_range l f n)) other h).0))))
   where
-    go : (b : Bool) → length (filter test xs) ≤ length xs → length (if b then x ∷ filter test xs else filter test xs) ≤ suc (length xs)
-    go true h = omega arith
-    go false h = omega arith
+    ap_few : (b t : Bool) → b ≡ t → FewPages (if t then 1 else 2) n → FewPages (if b then 1 else 2) n
+    ap_few b t e k = subst (λ (a : Bool). FewPages (if a then 1 else 2) n) (sym e) k
 
-with_many : (d page : ℕ) → length (blocks_with d page ++ []) ≡ d
-with_many zero page = refl
-with_many (suc d) page = ap suc (with_many d page)
+range_few : (l : Layout) (cpu : ℕ) (slot : Option ℕ) (step : Step) (x : Used) → changes_a_range step ≡ true → (rule l cpu slot step x).invalid ≡ false → HaveFewPages (blocks_met step) (rule l cpu slot step x).changes
+unfolding rule
+range_few l cpu slot (ShareHyp f) x h i = record { host = page_alone; hyp = page_alone; guest = tt; part = tt }
+range_few l cpu slot (UnshareHyp f) x h i = record { host = page_alone; hyp = page_alone; guest = tt; part = tt }
+range_few l cpu slot (ShareGuest f g p n) x h i = record { host = few_pages l f n _ i; hyp = tt; guest = few_pages l f n _ i; part = tt }
+range_few l cpu slot (UnshareGuest vm g) x h i = record { host = page_alone; hyp = tt; guest = page_alone; part = tt }
+range_few l cpu slot (DonateGuest f g n) x h i = record { host = few_pages l f n _ i; hyp = tt; guest = few_pages l f n _ i; part = tt }
+range_few l cpu slot (GuestShareHost g) x h i = record { host = page_alone; hyp = tt; guest = page_alone; part = tt }
+range_few l cpu slot (GuestUnshareHost g) x h i = record { host = page_alone; hyp = tt; guest = page_alone; part = tt }
+range_few l cpu slot (ReclaimPage vm g) x h i = record { host = page_alone; hyp = tt; guest = page_alone; part = tt }
+range_few l cpu slot (GuestRelax g p) x h i = record { host = tt; hyp = tt; guest = page_alone; part = tt }
+range_few l cpu slot other x h i = absurd (differ h)
 
-need_most : (top : ℕ) (t : Tree) (c : Option MapChange) → OnePage c → need top t (edit_of c) ≤ top
-unfolding needs blocks_on
-need_most top t None h = omega arith
-need_most top t (Some c) h = subst (λ n. need top t (put c.range.first.0 n c.entry) ≤ top) (sym h) (let few : need top t (put c.range.first.0 1 c.entry) ≤ length (blocks_with top c.range.first.0 ++ []) = fewer _ (blocks_with top c.range.first.0 ++ []) in let many = with_many top c.range.first.0 in omega arith)
+-- they need a table at most for each block that the range meets
+
+need_on : (top : ℕ) (t : Tree) (f n : ℕ) (e : Entry) → need top t (put f n e) ≤ length (blocks_on top f n)
+unfolding needs
+need_on top t f n e = fewer _ (blocks_on top f n)
+
+need_most : (k top : ℕ) (t : Tree) (c : Option MapChange) → HasFewPages k c → need top t (edit_of c) ≤ k * top
+unfolding needs
+need_most k top t None h = omega arith
+need_most k top t (Some c) (inl (some, one)) =
+    let n = need_on top t c.range.first.0 c.range.count c.entry in
+    let on : length (blocks_on top c.range.first.0 c.range.count) ≤ top = subst (λ m. length (blocks_on top c.range.first.0 m) ≤ top) (sym one) (on_page top c.range.first.0) in
+    let more : 1 * top ≤ k * top = mul-le-mul_right top some in
+    omega (arith, n, on, more)
+need_most k top t (Some c) (inr (some, few)) =
+    let n = need_on top t c.range.first.0 c.range.count c.entry in
+    let on = on_range top c.range.first.0 c.range.count few in
+    let more : 2 * top ≤ k * top = mul-le-mul_right top some in
+    omega (arith, n, on, more)
 
 has_room : {A : Type 0} (c : Option MapChange) (k : Component A) → 2 ≤ k.maplets.room → HasRoomFor c k.maplets
 has_room None k h = tt
 has_room (Some c) k h = h
 
-module _ {A : Type 0} (h : Changes) (small : IsOfPages h) where
-  roomy : (s : SharedPart A) → IsStocked (levels_below s.host.tree.geometry) s.host × IsStocked (levels_below s.hyp.tree.geometry) s.hyp → IsRoomy h s
+module _ {A : Type 0} (k : ℕ) (h : Changes) (small : HaveFewPages k h) where
+  roomy : (s : SharedPart A) → IsStocked (k * levels_below s.host.tree.geometry) s.host × IsStocked (k * levels_below s.hyp.tree.geometry) s.hyp → IsRoomy h s
   roomy s stocked = record {
     host = has_room h.host s.host stocked.0.room;
     hyp = has_room h.hyp s.hyp stocked.1.room;
-    host_spares = let n : need_for s.host.tree h.host ≤ levels_below s.host.tree.geometry = need_most (levels_below s.host.tree.geometry) _ h.host small.host in let m = stocked.0.spares in omega arith;
-    hyp_spares = let n : need_for s.hyp.tree h.hyp ≤ levels_below s.hyp.tree.geometry = need_most (levels_below s.hyp.tree.geometry) _ h.hyp small.hyp in let m = stocked.1.spares in omega arith;
+    host_spares = let n : need_for s.host.tree h.host ≤ k * levels_below s.host.tree.geometry = need_most k (levels_below s.host.tree.geometry) _ h.host small.host in let m = stocked.0.spares in omega arith;
+    hyp_spares = let n : need_for s.hyp.tree h.hyp ≤ k * levels_below s.hyp.tree.geometry = need_most k (levels_below s.hyp.tree.geometry) _ h.hyp small.hyp in let m = stocked.1.spares in omega arith;
   }
 
-  ready : (depth : ℕ) (t : Tree) (o : Option (Body A)) → IsGuestStocked depth o → HasReadyMap (need depth t (edit_of h.guest)) h.guest o
+  ready : (depth : ℕ) (t : Tree) (o : Option (Body A)) → IsGuestStocked (k * depth) o → HasReadyMap (need depth t (edit_of h.guest)) h.guest o
   ready depth t None s = tt
-  ready depth t (Some b) s = (let n = need_most depth t h.guest small.guest in let m = s.spares in omega arith, has_room h.guest b.map s.room)
+  ready depth t (Some b) s = (let n = need_most k depth t h.guest small.guest in let m = s.spares in omega arith, has_room h.guest b.map s.room)
 
-  roomy_guest : (p : Parts A) (cpu : ℕ) (step : Step) → AreStocked p (slot_here p cpu step) → HasRoomyGuest p cpu step h
+  roomy_guest : (p : Parts A) (cpu : ℕ) (step : Step) → AreStocked p (slot_here p cpu step) k → HasRoomyGuest p cpu step h
   roomy_guest p cpu step s v g slot at = record { made = small.part; map = ready (guest_depth g.guest) _ g.guest.body (s.guest v g slot at) }
 
 pub stocked_wants : {A : Type 0} → StockedWants A
@@ -139,7 +165,7 @@ stocked_wants {A} p q cpu step reply is page stocked wanted = elim is.steps.on.a
   | inr answer ↦ elim answer.answered [
     | inl made ↦ let e = made.reply_is in cc
     | inr (inl refused) ↦ fails_else l cpu slot step x (refused.fail ∙ ap Some (same refused.why (sym refused.reply_is ∙ wanted)))
-    | inr (inr wants) ↦ is.wants wanted h (decides_ok l cpu slot step x wants.passes) (roomy h small p.shared stocked.shared) (roomy_guest h small p cpu step stocked)
+    | inr (inr wants) ↦ is.wants wanted h (decides_ok l cpu slot step x wants.passes) (roomy (blocks_met step) h (small wants.passes) p.shared stocked.shared) (roomy_guest (blocks_met step) h (small wants.passes) p cpu step stocked)
   ]
 ]
   where
@@ -155,8 +181,8 @@ stocked_wants {A} p q cpu step reply is page stocked wanted = elim is.steps.on.a
     h : Changes
     h = (rule_of l cpu slot step x).changes
 
-    small : IsOfPages h
-    small = one_page l cpu slot step x page
+    small : fails l cpu slot step x ≡ None → HaveFewPages (blocks_met step) h
+    small passes = range_few l cpu slot step x page (passed_valid l cpu slot step x passes)
 
     same : (why : Refusal) → Refused why ≡ Refused NoMemory → why ≡ NoMemory
     same why e = cc

@@ -39,8 +39,8 @@ module _ (l : Layout) (s : Contents) (legal : Legal l s) (cpu v : ℕ) where
   by-ticket stage h = let t = stage-slot stage (s.cpu cpu) v h in subst (λ n. n < 64) t.2 (ticket-slot s legal.slots cpu t.0 t.1)
 
   pub slot-low : (step : Step) → guest_slot (s.cpu cpu) step ≡ Some v → v < 64
-  slot-low (ShareGuest f g p) h = by-load h
-  slot-low (DonateGuest f g) h = by-load h
+  slot-low (ShareGuest f g p n) h = by-load h
+  slot-low (DonateGuest f g n) h = by-load h
   slot-low (GuestShareHost g) h = by-load h
   slot-low (GuestUnshareHost g) h = by-load h
   slot-low (GuestRelax g p) h = by-load h

@@ -23,6 +23,7 @@ pub mod NumberRows
 pub mod OwnerRows
 pub mod PartRows
 pub mod PutAt
+pub mod RangeRows
 pub mod RoomLaws
 pub mod RunRows
 pub mod SharedRows

@@ -59,7 +59,7 @@ KeepersRow = (map (λ u. in_shared (hyps u)) (Plain ∷ (SharedPool ∷ (VmPool 
 
 -- the condition that changes of CPU 3 with the guest of slot 2 move a frame to
 abbrev pub moves_to : Changes → Condition
-moves_to h = told_condition 3 (Some 2) h
+moves_to h = told_condition 3 (Some 2) h 5
 
 -- a page of the host, and page 9 of the guest
 abbrev pub two_sides : Entry → Entry → Changes

@@ -81,8 +81,8 @@ UsesFound = at found (0x104 ∷ 0x105 ∷ 0x106 ∷ 0x107 ∷ 0x108 ∷ 0x109 �
 -- the rows that steps on guests' pages keep, and that of a page beside
 abbrev pub GuestKept : Type 0
 GuestKept =
-    (kept 0 (DonateGuest 0x10d 9) 0x10d ≡ row 5 Plain) × (kept 0 (GuestShareHost 7) 0x100 ≡ lent_row 5 0 0x100) × (kept 0 (GuestUnshareHost 8) 0x101 ≡ row 5 Plain)
-    × (kept 1 (ShareGuest 0x10d 17 RW) 0x10d ≡ lent_row 0 6 17) × (kept 1 (ShareGuest 0x10d 17 RW) 0x10e ≡ old_row)
+    (kept 0 (DonateGuest 0x10d 9 1) 0x10d ≡ row 5 Plain) × (kept 0 (GuestShareHost 7) 0x100 ≡ lent_row 5 0 0x100) × (kept 0 (GuestUnshareHost 8) 0x101 ≡ row 5 Plain)
+    × (kept 1 (ShareGuest 0x10d 17 RW 1) 0x10d ≡ lent_row 0 6 17) × (kept 1 (ShareGuest 0x10d 17 RW 1) 0x10e ≡ old_row)
     × (kept 2 (HostAbort 0x10c) 0x10c ≡ plain_row) × (kept 2 (HostAbort 0x10d) 0x10d ≡ old_row)
 
 -- the rows that steps on the hypervisor's frames keep

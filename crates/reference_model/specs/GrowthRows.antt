@@ -10,7 +10,7 @@ use Rattle.reference_model.specs.Scene.{vm}
 abbrev pub Grows : Type 0
 Grows =
     (may_grow (ShareHyp 0) ≡ true) × (may_grow (UnshareHyp 0) ≡ true) × (may_grow (DonateHyp 0 1) ≡ true) × (may_grow (HypDonateHost 0 1) ≡ true) × (may_grow (HostAbort 0) ≡ true)
-    × (may_grow (Fund 0 1) ≡ true) × (may_grow Unfund ≡ true) × (may_grow (ShareGuest 0 0 RW) ≡ true) × (may_grow (UnshareGuest (vm 0 1) 0) ≡ true) × (may_grow (DonateGuest 0 0) ≡ true)
+    × (may_grow (Fund 0 1) ≡ true) × (may_grow Unfund ≡ true) × (may_grow (ShareGuest 0 0 RW 1) ≡ true) × (may_grow (UnshareGuest (vm 0 1) 0) ≡ true) × (may_grow (DonateGuest 0 0 1) ≡ true)
     × (may_grow (GuestShareHost 0) ≡ true) × (may_grow (GuestUnshareHost 0) ≡ true) × (may_grow Install ≡ true) × (may_grow (Topup (vm 0 1)) ≡ true) × (may_grow (ReclaimPage (vm 0 1) 0) ≡ true)
     × (may_grow (ReclaimPool (vm 0 1)) ≡ true) × (may_grow FinishGuest ≡ true) × (may_grow (GuestRelax 0 RW) ≡ true)
 

@@ -13,7 +13,7 @@ use Rattle.reference_model.specs.SceneState.{scene, protected_guest, plain_guest
 -- a share with a plain guest marks the host's page and the guest's with the told rights alone; the tables come from their own pools
 abbrev pub ShareGuestMade : Type 0
 ShareGuestMade =
-    let r = foretell (small 1) scene 1 (ShareGuest 0x1401 0x300 RW) in
+    let r = foretell (small 1) scene 1 (ShareGuest 0x1401 0x300 RW 1) in
     let g = r.1.contents.guest 4 in
     (r.0 ≡ ok) × (at r.1.contents.shared.host.map (0x1400 ∷ 0x1401 ∷ 0x1402 ∷ []) ≡ Unmapped ∷ leaf RWX 0x1401 SharedOwned ∷ Unmapped ∷ [])
     × (at g.tree.map (0x2ff ∷ 0x300 ∷ 0x301 ∷ []) ≡ Unmapped ∷ leaf RW 0x1401 SharedBorrowed ∷ Unmapped ∷ []) × (r.1.contents.shared.hyp.map 0x4001401 ≡ Unmapped)
@@ -23,9 +23,9 @@ ShareGuestMade =
 -- an Owned page is shared as well, and where tables stand none is taken; one free frame in each pool is just enough where they don't
 abbrev pub ShareGuestNear : Type 0
 ShareGuestNear =
-    let r = foretell (small 1) scene 1 (ShareGuest 0x1000 17 RX) in
+    let r = foretell (small 1) scene 1 (ShareGuest 0x1000 17 RX 1) in
     let s = with_free (0x1610 ∷ []) (with_guest_part 4 (record plain_guest { free = 0x1714 ∷ [] }) scene) in
-    let q = foretell (small 1) s 1 (ShareGuest 0x1401 0x3ffff R) in
+    let q = foretell (small 1) s 1 (ShareGuest 0x1401 0x3ffff R 1) in
     (r.0 ≡ ok) × (at r.1.contents.shared.host.map (0xfff ∷ 0x1000 ∷ 0x1001 ∷ []) ≡ Unmapped ∷ leaf RWX 0x1000 SharedOwned ∷ leaf RWX 0x1001 SharedOwned ∷ [])
     × (at (r.1.contents.guest 4).tree.map (16 ∷ 17 ∷ 18 ∷ []) ≡ leaf RX 0x1006 SharedBorrowed ∷ leaf RX 0x1000 SharedBorrowed ∷ Unmapped ∷ [])
     × ((r.1.contents.guest 4).free ≡ 0x1710 ∷ 0x1714 ∷ []) × (r.1.contents.shared.free ≡ 0x1610 ∷ 0x1612 ∷ 0x1620 ∷ []) × (r.1.contents.guest 3 ≡ protected_guest)
@@ -34,10 +34,10 @@ ShareGuestNear =
 -- it is refused: a bad frame or guest page, though no vCPU is loaded; none loaded, though the page isn't free; a protected VM; a page that isn't free; a guest page that is mapped; too few free frames in either pool
 abbrev pub ShareGuestRefused : Type 0
 ShareGuestRefused =
-    Refuses (small 1) scene 2 (ShareGuest 0x900 17 RW) Invalid × Refuses (small 1) scene 1 (ShareGuest 0x1000 0x40000 RW) Invalid × Refuses (small 1) scene 2 (ShareGuest 0x1001 17 RW) NoVm
-    × Refuses (small 1) scene 0 (ShareGuest 0x1000 17 RW) Perm × Refuses (small 1) scene 1 (ShareGuest 0x1001 17 RW) Perm × Refuses (small 1) scene 1 (ShareGuest 0x1007 17 RW) Perm
-    × Refuses (small 1) scene 1 (ShareGuest 0x1009 17 RW) Perm × Refuses (small 1) scene 1 (ShareGuest 0x1000 16 RW) Perm × Refuses (small 1) (with_free [] scene) 1 (ShareGuest 0x1300 17 RW) Perm
-    × Refuses (small 1) (with_free [] scene) 1 (ShareGuest 0x1401 17 RW) NoPool × Refuses (small 1) (with_guest_part 4 (record plain_guest { free = [] }) scene) 1 (ShareGuest 0x1000 0x300 RW) NoPool
+    Refuses (small 1) scene 2 (ShareGuest 0x900 17 RW 1) Invalid × Refuses (small 1) scene 1 (ShareGuest 0x1000 0x40000 RW 1) Invalid × Refuses (small 1) scene 2 (ShareGuest 0x1001 17 RW 1) NoVm
+    × Refuses (small 1) scene 0 (ShareGuest 0x1000 17 RW 1) Perm × Refuses (small 1) scene 1 (ShareGuest 0x1001 17 RW 1) Perm × Refuses (small 1) scene 1 (ShareGuest 0x1007 17 RW 1) Perm
+    × Refuses (small 1) scene 1 (ShareGuest 0x1009 17 RW 1) Perm × Refuses (small 1) scene 1 (ShareGuest 0x1000 16 RW 1) Perm × Refuses (small 1) (with_free [] scene) 1 (ShareGuest 0x1300 17 RW 1) Perm
+    × Refuses (small 1) (with_free [] scene) 1 (ShareGuest 0x1401 17 RW 1) NoPool × Refuses (small 1) (with_guest_part 4 (record plain_guest { free = [] }) scene) 1 (ShareGuest 0x1000 0x300 RW 1) NoPool
 
 -- the guest's page is unmapped, and the host has its page for itself; the guest's emptied table goes, and its frame comes back to its place in the guest's own pool
 abbrev pub UnshareGuestMade : Type 0
@@ -58,7 +58,7 @@ UnshareGuestRefused =
 -- a donation to a protected guest leaves the host its owner's number, and maps the guest's page
 abbrev pub DonateGuestMade : Type 0
 DonateGuestMade =
-    let r = foretell (small 1) scene 0 (DonateGuest 0x1401 0x300) in
+    let r = foretell (small 1) scene 0 (DonateGuest 0x1401 0x300 1) in
     let g = r.1.contents.guest 3 in
     (r.0 ≡ ok) × (at r.1.contents.shared.host.map (0x1400 ∷ 0x1401 ∷ 0x1402 ∷ []) ≡ Unmapped ∷ annotation 5 ∷ Unmapped ∷ [])
     × (at g.tree.map (0x2ff ∷ 0x300 ∷ 0x301 ∷ []) ≡ Unmapped ∷ leaf RWX 0x1401 Owned ∷ Unmapped ∷ []) × (r.1.contents.shared.hyp.map 0x4001401 ≡ Unmapped)
@@ -68,7 +68,7 @@ DonateGuestMade =
 -- an Owned page is donated as well, and where tables stand none is taken
 abbrev pub DonateGuestNear : Type 0
 DonateGuestNear =
-    let r = foretell (small 1) scene 0 (DonateGuest 0x1000 9) in
+    let r = foretell (small 1) scene 0 (DonateGuest 0x1000 9 1) in
     (r.0 ≡ ok) × (at r.1.contents.shared.host.map (0xfff ∷ 0x1000 ∷ 0x1001 ∷ []) ≡ Unmapped ∷ annotation 5 ∷ leaf RWX 0x1001 SharedOwned ∷ [])
     × (at (r.1.contents.guest 3).tree.map (8 ∷ 9 ∷ 10 ∷ []) ≡ leaf RWX 0x1007 SharedOwned ∷ leaf RWX 0x1000 Owned ∷ Unmapped ∷ [])
     × ((r.1.contents.guest 3).free ≡ 0x1702 ∷ 0x1705 ∷ []) × (r.1.contents.shared.free ≡ 0x1610 ∷ 0x1612 ∷ 0x1620 ∷ [])

@@ -11,9 +11,9 @@ use Rattle.step_reply.specs.declared.step.VmId.{VmId}
 use Rattle.step_reply.specs.declared.step.VmKind.{VmKind}
 use Rattle.step_reply.specs.declared.step.VmKind.TheVariants.{Protected, Plain as PlainVm}
 use Rattle.step_reply.specs.declared.reply.Value.TheVariants.{Frame as FrameOf, Entry as EntryOf}
-use Rattle.page_state.specs.EntryTests.{is_mapped, is_unmapped, is_in, is_free_page, leaf, annotation, entry_frame, with_state, with_rights}
+use Rattle.page_state.specs.EntryTests.{is_unmapped, is_in, is_free_page, leaf, annotation, entry_frame, with_state, with_rights}
 use Rattle.page_state.specs.Geometries.{pages_below}
-use Rattle.page_state.specs.Layouts.{Layout, is_memory, is_good_page}
+use Rattle.page_state.specs.Layouts.{Layout, is_good_range, is_good_page}
 use Rattle.reference_model.specs.Owner.{count_blocks}
 use Rattle.page_state.specs.Search.{all_below}
 use Rattle.page_state.specs.Trees.{Tree, Pool}
@@ -76,16 +76,28 @@ least (f ∷ fs) = f
 abbrev pub guest_table_count : Layout → Tree → ℕ
 guest_table_count l t = count_blocks (l.depth + 1) (l.depth + 1) (λ b. is_some (t.table b))
 
+-- a range of the host and one of the guest change
+abbrev pub two_ranges : ℕ → Entry → ℕ → Entry → ℕ → Changes
+two_ranges f e g e' n = record no_changes { host = change f n e; guest = change g n e' }
+
 -- a page of the host and a page of the guest change
 abbrev pub two_pages : ℕ → Entry → ℕ → Entry → Changes
-two_pages f e g e' = record no_changes { host = change f 1 e; guest = change g 1 e' }
+two_pages f e g e' = two_ranges f e g e' 1
 
--- the host shares the frame with the guest
-abbrev pub share_guest : Layout → Used → ℕ → ℕ → Prot → Rule
-share_guest l x f g rights = record fine {
-  invalid = not (is_memory l f) || not (is_good_page l g);
-  perm = is_protected x.guest.kind || not (is_free_page (host_entry x f)) || is_mapped (guest_entry x g);
-  changes = two_pages f (leaf RWX f SharedOwned) g (leaf rights f SharedBorrowed);
+-- the pages of a range are good guest pages
+abbrev pub are_good_pages : Layout → ℕ → ℕ → Bool
+are_good_pages l g n = all_below n (λ i. is_good_page l (g + i))
+
+-- each page of the host's range is free, and the guest's page of it is unmapped
+abbrev pub may_give : Used → ℕ → ℕ → ℕ → Bool
+may_give x f g n = all_below n (λ i. is_free_page (host_entry x (f + i)) && is_unmapped (guest_entry x (g + i)))
+
+-- the host shares a range with the guest
+abbrev pub share_guest : Layout → Used → ℕ → ℕ → Prot → ℕ → Rule
+share_guest l x f g rights n = record fine {
+  invalid = not (is_good_range l f n) || not (are_good_pages l g n);
+  perm = is_protected x.guest.kind || not (may_give x f g n);
+  changes = two_ranges f (leaf RWX f SharedOwned) g (leaf rights f SharedBorrowed) n;
 }
 
 -- the host takes back what it shared with the guest
@@ -97,12 +109,12 @@ unshare_guest l x vm g = record fine {
   changes = two_pages (entry_frame (guest_entry x g)) (leaf RWX (entry_frame (guest_entry x g)) Owned) g Unmapped;
 }
 
--- the host gives the frame to the guest
-abbrev pub donate_guest : Layout → Option ℕ → Used → ℕ → ℕ → Rule
-donate_guest l slot x f g = record fine {
-  invalid = not (is_memory l f) || not (is_good_page l g);
-  perm = not (is_protected x.guest.kind) || not (is_free_page (host_entry x f)) || is_mapped (guest_entry x g);
-  changes = two_pages f (annotation (guest_owner slot)) g (leaf RWX f Owned);
+-- the host gives a range to the guest
+abbrev pub donate_guest : Layout → Option ℕ → Used → ℕ → ℕ → ℕ → Rule
+donate_guest l slot x f g n = record fine {
+  invalid = not (is_good_range l f n) || not (are_good_pages l g n);
+  perm = not (is_protected x.guest.kind) || not (may_give x f g n);
+  changes = two_ranges f (annotation (guest_owner slot)) g (leaf RWX f Owned) n;
 }
 
 -- the guest shares a page with the host

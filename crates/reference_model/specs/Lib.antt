@@ -28,6 +28,7 @@ pub mod OwnerRows
 pub mod PartRows
 pub mod Parts
 pub mod PoolOrder
+pub mod RangeRows
 pub mod Rely
 pub mod RoomLaws
 pub mod RowChanges

@@ -15,10 +15,10 @@ use Rattle.reference_model.specs.SceneState.{scene, protected_guest, with_free, 
 -- a donation is refused: a bad frame or guest page, though no vCPU is loaded; none loaded, though the page isn't free; a plain VM; a page that isn't free; a guest page that is mapped; too few free frames in either pool
 abbrev pub DonateGuestRefused : Type 0
 DonateGuestRefused =
-    Refuses (small 1) scene 2 (DonateGuest 0x900 9) Invalid × Refuses (small 1) scene 0 (DonateGuest 0x1000 0x40000) Invalid × Refuses (small 1) scene 2 (DonateGuest 0x1001 9) NoVm
-    × Refuses (small 1) scene 1 (DonateGuest 0x1000 17) Perm × Refuses (small 1) scene 0 (DonateGuest 0x1001 9) Perm × Refuses (small 1) scene 0 (DonateGuest 0x1007 9) Perm
-    × Refuses (small 1) scene 0 (DonateGuest 0x1009 9) Perm × Refuses (small 1) scene 0 (DonateGuest 0x1000 7) Perm × Refuses (small 1) (with_free [] scene) 0 (DonateGuest 0x1300 9) Perm
-    × Refuses (small 1) (with_free [] scene) 0 (DonateGuest 0x1401 9) NoPool × Refuses (small 1) (with_guest_part 3 (record protected_guest { free = [] }) scene) 0 (DonateGuest 0x1000 0x300) NoPool
+    Refuses (small 1) scene 2 (DonateGuest 0x900 9 1) Invalid × Refuses (small 1) scene 0 (DonateGuest 0x1000 0x40000 1) Invalid × Refuses (small 1) scene 2 (DonateGuest 0x1001 9 1) NoVm
+    × Refuses (small 1) scene 1 (DonateGuest 0x1000 17 1) Perm × Refuses (small 1) scene 0 (DonateGuest 0x1001 9 1) Perm × Refuses (small 1) scene 0 (DonateGuest 0x1007 9 1) Perm
+    × Refuses (small 1) scene 0 (DonateGuest 0x1009 9 1) Perm × Refuses (small 1) scene 0 (DonateGuest 0x1000 7 1) Perm × Refuses (small 1) (with_free [] scene) 0 (DonateGuest 0x1300 9 1) Perm
+    × Refuses (small 1) (with_free [] scene) 0 (DonateGuest 0x1401 9 1) NoPool × Refuses (small 1) (with_guest_part 3 (record protected_guest { free = [] }) scene) 0 (DonateGuest 0x1000 0x300 1) NoPool
 
 -- a guest shares a page: its own entry changes its state and nothing else, and the host borrows the frame
 abbrev pub GuestShareHostMade : Type 0

@@ -59,13 +59,13 @@ MapRows =
 -- shared with a plain guest, the frame is lent to its page; taken back, it is the host's alone
 abbrev pub LendRows : Type 0
 LendRows =
-    (at (here 1 (ShareGuest 0x1401 0x300 RW)) (0x1400 ∷ 0x1401 ∷ 0x1402 ∷ []) ≡ old_row ∷ lent_row 0 6 0x300 ∷ old_row ∷ [])
+    (at (here 1 (ShareGuest 0x1401 0x300 RW 1)) (0x1400 ∷ 0x1401 ∷ 0x1402 ∷ []) ≡ old_row ∷ lent_row 0 6 0x300 ∷ old_row ∷ [])
     × (at (here 2 (UnshareGuest (vm 4 2) 16)) (0x1005 ∷ 0x1006 ∷ 0x1007 ∷ []) ≡ old_row ∷ plain_row ∷ old_row ∷ [])
 
 -- a protected guest owns what it is given, also where it lends it to the host, and when it takes that back
 abbrev pub GuestOwns : Type 0
 GuestOwns =
-    (at (here 0 (DonateGuest 0x1401 9)) (0x1400 ∷ 0x1401 ∷ 0x1402 ∷ []) ≡ old_row ∷ row 5 Plain ∷ old_row ∷ [])
+    (at (here 0 (DonateGuest 0x1401 9 1)) (0x1400 ∷ 0x1401 ∷ 0x1402 ∷ []) ≡ old_row ∷ row 5 Plain ∷ old_row ∷ [])
     × (at (here 0 (GuestShareHost 7)) (0x1008 ∷ 0x1009 ∷ 0x100a ∷ []) ≡ old_row ∷ lent_row 5 0 0x1009 ∷ old_row ∷ [])
     × (at (here 0 (GuestUnshareHost 8)) (0x1006 ∷ 0x1007 ∷ 0x1008 ∷ []) ≡ old_row ∷ row 5 Plain ∷ old_row ∷ [])
 

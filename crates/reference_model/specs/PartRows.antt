@@ -48,7 +48,7 @@ SharedUses =
 -- the calls of a guest and the Shared part use both: the guest that the CPU has loaded, that the call names, or that the CPU's ticket names
 abbrev pub GuestUses : Type 0
 GuestUses =
-    (rooms_after 1 (ShareGuest 0x1401 17 RW) 4 ≡ both_logs) × (rooms_after 2 (UnshareGuest (vm 4 2) 16) 4 ≡ both_logs) × (rooms_after 0 (DonateGuest 0x1401 9) 3 ≡ both_logs) × (rooms_after 0 (GuestShareHost 7) 3 ≡ both_logs)
+    (rooms_after 1 (ShareGuest 0x1401 17 RW 1) 4 ≡ both_logs) × (rooms_after 2 (UnshareGuest (vm 4 2) 16) 4 ≡ both_logs) × (rooms_after 0 (DonateGuest 0x1401 9 1) 3 ≡ both_logs) × (rooms_after 0 (GuestShareHost 7) 3 ≡ both_logs)
     × (rooms_after 0 (GuestUnshareHost 8) 3 ≡ both_logs) × (rooms_after 4 Install 6 ≡ both_logs) × (rooms_after 3 (Topup (vm 3 5)) 3 ≡ both_logs) × (rooms_after 2 (ReclaimPage (vm 5 3) 1) 5 ≡ both_logs)
     × (rooms_after 2 (ReclaimPool (vm 5 3)) 5 ≡ both_logs) × (rooms_after 6 FinishGuest 8 ≡ both_logs) × (rooms_after 2 (Topup (vm 63 1)) 63 ≡ both_logs) × (rooms_after 0 (Topup (vm 4 2)) 3 ≡ shared_log)
 
@@ -65,7 +65,7 @@ VmsUses =
 -- a call that lacks its slot uses no part: nothing loaded, no ticket of the stage, or a slot of 64
 abbrev pub NoneUsed : Type 0
 NoneUsed =
-    (rooms_after 2 (ShareGuest 0x1401 17 RW) 0 ≡ own_log) × (rooms_after 2 (DonateGuest 0x1401 9) 0 ≡ own_log) × (rooms_after 2 (GuestShareHost 7) 0 ≡ own_log) × (rooms_after 2 (GuestUnshareHost 8) 0 ≡ own_log)
+    (rooms_after 2 (ShareGuest 0x1401 17 RW 1) 0 ≡ own_log) × (rooms_after 2 (DonateGuest 0x1401 9 1) 0 ≡ own_log) × (rooms_after 2 (GuestShareHost 7) 0 ≡ own_log) × (rooms_after 2 (GuestUnshareHost 8) 0 ≡ own_log)
     × (rooms_after 2 (GuestRelax 16 RW) 0 ≡ own_log) × (rooms_after 7 Install 9 ≡ own_log) × (rooms_after 5 FinishGuest 7 ≡ own_log) × (rooms_after 6 MarkDying 8 ≡ own_log) × (rooms_after 2 (UnshareGuest (vm 64 1) 16) 64 ≡ own_log)
     × (rooms_after 2 (Topup (vm 64 1)) 64 ≡ own_log) × (rooms_after 2 (ReclaimPage (vm 64 1) 1) 64 ≡ own_log) × (rooms_after 2 (ReclaimPool (vm 64 1)) 64 ≡ own_log) × (rooms_after 2 (GuestTranslate (vm 64 1) 8) 64 ≡ own_log)
     × (rooms_after 2 (VcpuLoad (vm 64 1) 0) 64 ≡ own_log) × (rooms_after 2 (Teardown (vm 64 1)) 64 ≡ own_log)
@@ -93,7 +93,7 @@ abbrev pub GuestLogFull : Type 0
 GuestLogFull =
     let s = with_rooms (record (all_rooms 64) { guest = put_at (λ v. 64) 3 0 }) in
     Refuses (small 1) s 0 (GuestShareHost 7) LogFull × Refuses (small 1) s 2 (GuestTranslate (vm 3 5) 0x40000) LogFull × (rooms (foretell (small 1) s 0 (GuestShareHost 7)).1 0 3 ≡ 64 ∷ 64 ∷ 0 ∷ 64 ∷ 64 ∷ [])
-    × ((foretell (small 1) s 1 (ShareGuest 0x1000 17 RW)).0 ≡ ok) × ((foretell (small 1) s 0 (ShareHyp 0x1401)).0 ≡ ok) × ((foretell (small 1) s 0 VcpuPut).0 ≡ ok)
+    × ((foretell (small 1) s 1 (ShareGuest 0x1000 17 RW 1)).0 ≡ ok) × ((foretell (small 1) s 0 (ShareHyp 0x1401)).0 ≡ ok) × ((foretell (small 1) s 0 VcpuPut).0 ≡ ok)
 
 -- a full log of the VM part stops the calls that use it, and no others
 abbrev pub VmsLogFull : Type 0

@@ -34,9 +34,9 @@ names (HypTranslate p) = shared
 names (OwnerOf f) = shared
 names (Fund f n) = shared
 names Unfund = shared
-names (ShareGuest f g p) = shared_and_guest
+names (ShareGuest f g p n) = shared_and_guest
 names (UnshareGuest vm g) = shared_and_guest
-names (DonateGuest f g) = shared_and_guest
+names (DonateGuest f g n) = shared_and_guest
 names (GuestShareHost g) = shared_and_guest
 names (GuestUnshareHost g) = shared_and_guest
 names Install = shared_and_guest
@@ -81,8 +81,8 @@ ticket_slot stage k = if has_stage stage k then option_map (λ t. t.vm.slot) k.t
 
 -- the slot of the Guest part that a step names, by its VmId or by what the CPU has loaded or holds a ticket of; none where there is none
 abbrev pub guest_slot : Cpu → Step → Option ℕ
-guest_slot k (ShareGuest f g p) = loaded_slot k
-guest_slot k (DonateGuest f g) = loaded_slot k
+guest_slot k (ShareGuest f g p n) = loaded_slot k
+guest_slot k (DonateGuest f g n) = loaded_slot k
 guest_slot k (GuestShareHost g) = loaded_slot k
 guest_slot k (GuestUnshareHost g) = loaded_slot k
 guest_slot k (GuestRelax g p) = loaded_slot k

@@ -36,7 +36,7 @@ frame f = Done (FrameOf (record { 0 = f }))
 
 -- a protected VM is made, gets a page and shares it with the host
 abbrev pub begin_life : List Step
-begin_life = VmReserve Protected 1 ∷ Fund 0x140 4 ∷ Install ∷ VmOpen ∷ VcpuLoad (vm 0 1) 0 ∷ DonateGuest 0x110 0x80 ∷ GuestShareHost 0x80 ∷ []
+begin_life = VmReserve Protected 1 ∷ Fund 0x140 4 ∷ Install ∷ VmOpen ∷ VcpuLoad (vm 0 1) 0 ∷ DonateGuest 0x110 0x80 1 ∷ GuestShareHost 0x80 ∷ []
 
 -- and is ended
 abbrev pub end_life : List Step
@@ -61,7 +61,7 @@ LifeEnds =
 -- in trees of two levels: a protected VM gets a page in a table of its own, shares it, and is ended but for its root; its table's frame comes back to its pool, and to the host with the others
 abbrev pub LifeTables : Type 0
 LifeTables =
-    let steps = VmReserve Protected 1 ∷ Fund 0x1400 4 ∷ Install ∷ VmOpen ∷ VcpuLoad (vm 0 1) 0 ∷ DonateGuest 0x1100 0x300 ∷ GuestShareHost 0x300 ∷ [] in
+    let steps = VmReserve Protected 1 ∷ Fund 0x1400 4 ∷ Install ∷ VmOpen ∷ VcpuLoad (vm 0 1) 0 ∷ DonateGuest 0x1100 0x300 1 ∷ GuestShareHost 0x300 ∷ [] in
     let ends = VcpuPut ∷ Teardown (vm 0 1) ∷ MarkDying ∷ ReclaimPage (vm 0 1) 0x300 ∷ ReclaimPool (vm 0 1) ∷ ReclaimPool (vm 0 1) ∷ ReclaimPool (vm 0 1) ∷ ReclaimPool (vm 0 1) ∷ [] in
     let s = after (small 1) (boot (small 1)) steps in
     ((s.contents.guest 0).tree.table (1, 1) ≡ Some 0x1401) × ((s.contents.guest 0).free ≡ 0x1402 ∷ 0x1403 ∷ []) × (s.contents.shared.free ≡ frames_from 0x1607 57)
@@ -71,8 +71,8 @@ LifeTables =
 abbrev pub PlainLife : Type 0
 PlainLife =
     let s = after (small 1) (boot (small 1)) (VmReserve PlainVm 1 ∷ Fund 0x1400 1 ∷ Install ∷ VmOpen ∷ VcpuLoad (vm 0 1) 0 ∷ []) in
-    let t = after (small 1) s (Fund 0x1404 2 ∷ Topup (vm 0 1) ∷ ShareGuest 0x1100 0x10 RX ∷ []) in
-    (replies (small 1) s (ShareGuest 0x1100 0x10 RX ∷ HostTranslate 0x1100 ∷ []) ≡ Refused NoPool ∷ Done (EntryOf Unmapped) ∷ [])
-    × (replies (small 1) s (Fund 0x1404 2 ∷ Topup (vm 0 1) ∷ ShareGuest 0x1100 0x10 RX ∷ GuestRelax 0x10 RW ∷ []) ≡ ok ∷ ok ∷ ok ∷ ok ∷ [])
+    let t = after (small 1) s (Fund 0x1404 2 ∷ Topup (vm 0 1) ∷ ShareGuest 0x1100 0x10 RX 1 ∷ []) in
+    (replies (small 1) s (ShareGuest 0x1100 0x10 RX 1 ∷ HostTranslate 0x1100 ∷ []) ≡ Refused NoPool ∷ Done (EntryOf Unmapped) ∷ [])
+    × (replies (small 1) s (Fund 0x1404 2 ∷ Topup (vm 0 1) ∷ ShareGuest 0x1100 0x10 RX 1 ∷ GuestRelax 0x10 RW ∷ []) ≡ ok ∷ ok ∷ ok ∷ ok ∷ [])
     × ((t.contents.guest 0).tree.map 0x10 ≡ leaf RX 0x1100 SharedBorrowed) × ((t.contents.guest 0).free ≡ 0x1405 ∷ [])
     × (((after (small 1) t (GuestRelax 0x10 RW ∷ [])).contents.guest 0).tree.map 0x10 ≡ leaf RWX 0x1100 SharedBorrowed)

@@ -16,6 +16,7 @@ ghost use Rattle.reference_model.specs.FoundRows.{OwnersFound, FirstFound, UsesF
 ghost use Rattle.reference_model.specs.LargeRows.{HostAbortLargest, HostAbortSmaller, FinishGuestShort, FinishGuestSplits};
 ghost use Rattle.reference_model.specs.ConditionRows.{HostAloneRow, HostSharedRow, HypRow, GuestRow, RowsOfEach, KeepersRow, MovesRow};
 ghost use Rattle.reference_model.specs.RunRows.{LifeBegins, LifeEnds, LifeTables, PlainLife};
+ghost use Rattle.reference_model.specs.RangeRows.{BlockGiven, BlockSplit, BlockRefused, BlockReclaimed, RangeAcross, RangeRefused, RangeShared, RangeKept, RangeMoves};
 
 /// The rows of the calls between the host and the hypervisor.
 pub fn shared_rows()
@@ -181,6 +182,19 @@ pub fn run_rows()
     ensures life_ends { LifeEnds }
     ensures life_tables { LifeTables }
     ensures plain_life { PlainLife }
+{}
+
+/// The rows of ranges that are given to a guest and shared with one.
+pub fn range_rows()
+    ensures block_given { BlockGiven }
+    ensures block_split { BlockSplit }
+    ensures block_refused { BlockRefused }
+    ensures block_reclaimed { BlockReclaimed }
+    ensures range_across { RangeAcross }
+    ensures range_refused { RangeRefused }
+    ensures range_shared { RangeShared }
+    ensures range_kept { RangeKept }
+    ensures range_moves { RangeMoves }
 {}
 
 /// The rows of the conditions of a frame: what each says of its pages, row and keepers, and where calls move it.

@@ -30,14 +30,15 @@ pub steps_tell : Tells steps.ghosts.eq
 steps_tell =
     let n1 = one numbers.ghosts.eq numbers_tell in
     let n2 = more numbers.ghosts.eq numbers_tell _ n1 in
+    let n3 = more numbers.ghosts.eq numbers_tell _ n2 in
     let vm1 = one vms.ghosts.eq vms_tell in
     let vm2 = more vms.ghosts.eq vms_tell _ n1 in
     let right = more numbers.ghosts.eq numbers_tell _ (one _ prots_tell) in
-    let lend = more numbers.ghosts.eq numbers_tell _ right in
+    let lend = more numbers.ghosts.eq numbers_tell _ (more numbers.ghosts.eq numbers_tell _ (more _ prots_tell _ n1)) in
     let kind = more kinds.ghosts.eq kinds_tell _ n1 in
     enum_tells step_type.enum _ (
       n1,
-      (n1, (n2, (n2, (n1, (n1, (n1, (n1, (n2, (none, (lend, (vm2, (n2, (n1, (n1, (none, (vm1, (vm2, (vm1, (none, (right, (vm2, (none, (kind, (none, (vm2, (none, (vm1, (none, tt)))))))))))))))))))))))))))),
+      (n1, (n2, (n2, (n1, (n1, (n1, (n1, (n2, (none, (lend, (vm2, (n3, (n1, (n1, (none, (vm1, (vm2, (vm1, (none, (right, (vm2, (none, (kind, (none, (vm2, (none, (vm1, (none, tt)))))))))))))))))))))))))))),
     )
 
 pub values_tell : Tells values.ghosts.eq

@@ -23,61 +23,120 @@ pub enum VmKind {
 #[derive(Clone, Copy, PartialEq)]
 pub enum Step {
     /// The host shares the frame `pfn` with the hypervisor.
-    ShareHyp { pfn: u64 },
+    ShareHyp {
+        pfn: u64,
+    },
     /// The host takes back the frame `pfn`, which it shares with the hypervisor.
-    UnshareHyp { pfn: u64 },
+    UnshareHyp {
+        pfn: u64,
+    },
     /// The host gives `n` frames from `pfn` on to the hypervisor; 1 to 512.
-    DonateHyp { pfn: u64, n: u64 },
+    DonateHyp {
+        pfn: u64,
+        n: u64,
+    },
     /// The hypervisor gives `n` frames from `pfn` on back to the host; 1 to 512.
-    HypDonateHost { pfn: u64, n: u64 },
+    HypDonateHost {
+        pfn: u64,
+        n: u64,
+    },
     /// The host touched `page`, and gets it mapped where it may.
-    HostAbort { page: u64 },
+    HostAbort {
+        page: u64,
+    },
     /// Asks for the host's entry of `page`.
-    HostTranslate { page: u64 },
+    HostTranslate {
+        page: u64,
+    },
     /// Asks for the hypervisor's entry of `page`.
-    HypTranslate { page: u64 },
+    HypTranslate {
+        page: u64,
+    },
     /// Asks for the owner row of the frame `pfn`.
-    OwnerOf { pfn: u64 },
+    OwnerOf {
+        pfn: u64,
+    },
     /// The host gives `n` frames from `pfn` on into the CPU's hand; 1 to 512.
-    Fund { pfn: u64, n: u64 },
+    Fund {
+        pfn: u64,
+        n: u64,
+    },
     /// The CPU's hand goes back to the host.
     Unfund,
-    /// The host shares the frame `pfn` with the guest of the loaded vCPU, at its page `gfn`, with these rights.
-    ShareGuest { pfn: u64, gfn: u64, prot: Prot },
+    /// The host shares `n` frames from `pfn` on with the guest of the loaded vCPU, at its pages from `gfn` on and with these
+    /// rights; 1 to 512.
+    ShareGuest {
+        pfn: u64,
+        gfn: u64,
+        prot: Prot,
+        n: u64,
+    },
     /// The host takes back the frame that it shares with the VM's guest at `gfn`.
-    UnshareGuest { vm: VmId, gfn: u64 },
-    /// The host gives the frame `pfn` to the guest of the loaded vCPU, at its page `gfn`.
-    DonateGuest { pfn: u64, gfn: u64 },
+    UnshareGuest {
+        vm: VmId,
+        gfn: u64,
+    },
+    /// The host gives `n` frames from `pfn` on to the guest of the loaded vCPU, at its pages from `gfn` on; 1 to 512.
+    DonateGuest {
+        pfn: u64,
+        gfn: u64,
+        n: u64,
+    },
     /// The guest of the loaded vCPU shares its page `gfn` with the host.
-    GuestShareHost { gfn: u64 },
+    GuestShareHost {
+        gfn: u64,
+    },
     /// The guest of the loaded vCPU takes back its page `gfn`, which it shares with the host.
-    GuestUnshareHost { gfn: u64 },
+    GuestUnshareHost {
+        gfn: u64,
+    },
     /// The VM of the CPU's Booked ticket gets the CPU's hand as its root and its pool.
     Install,
     /// The VM's pool gets the CPU's hand.
-    Topup { vm: VmId },
+    Topup {
+        vm: VmId,
+    },
     /// The host gets the frame at page `gfn` of a Dying VM back.
-    ReclaimPage { vm: VmId, gfn: u64 },
+    ReclaimPage {
+        vm: VmId,
+        gfn: u64,
+    },
     /// The host gets the lowest free frame of a Dying VM's pool back.
-    ReclaimPool { vm: VmId },
+    ReclaimPool {
+        vm: VmId,
+    },
     /// The host gets the root of the VM of the CPU's Dying ticket back, and its guest is Empty.
     FinishGuest,
     /// The guest of the loaded vCPU gets these rights too at `gfn`, a page that it borrows.
-    GuestRelax { gfn: u64, prot: Prot },
+    GuestRelax {
+        gfn: u64,
+        prot: Prot,
+    },
     /// Asks for the entry of the VM's page `gfn`.
-    GuestTranslate { vm: VmId, gfn: u64 },
+    GuestTranslate {
+        vm: VmId,
+        gfn: u64,
+    },
     /// The guest of the CPU's Closing ticket becomes Dying.
     MarkDying,
     /// The lowest Empty slot is reserved for a VM with `vcpus` vCPUs, 1 to 8.
-    VmReserve { kind: VmKind, vcpus: u64 },
+    VmReserve {
+        kind: VmKind,
+        vcpus: u64,
+    },
     /// The VM of the CPU's Installed ticket opens.
     VmOpen,
     /// The CPU loads the vCPU of this number, 0 to 7.
-    VcpuLoad { vm: VmId, vcpu: u64 },
+    VcpuLoad {
+        vm: VmId,
+        vcpu: u64,
+    },
     /// The CPU puts its loaded vCPU back.
     VcpuPut,
     /// The Open VM begins to close.
-    Teardown { vm: VmId },
+    Teardown {
+        vm: VmId,
+    },
     /// The slot of the CPU's Booked or Finished ticket becomes Empty, with the next generation.
     VmRelease,
 }

@@ -25,9 +25,9 @@ use Rattle.trace_lines.specs.declared.place.SettingName.{SettingName}
 use Rattle.trace_lines.specs.declared.place.SettingName.TheVariants as names
 use Rattle.trace_lines.specs.declared.place.Verb.{Verb}
 use Rattle.trace_lines.specs.declared.place.Verb.TheVariants as verbs
-use Rattle.trace_lines.specs.Arguments.{number_at, range_of, level_word_at, slot_word_at, vm_word_at, kind_word_at, rights_word_at}
+use Rattle.trace_lines.specs.Arguments.{number_at, range_of, level_word_at, slot_word_at, vm_word_at, kind_word_at, rights_word_at, count_word_at}
 use Rattle.trace_lines.specs.Asked.{asked, asked_from, begins_with_digit, headers, of_call, of_number, of_range, of_tree, of_poke, of_show, poke_of, pools, tree_names, word_of}
-use Rattle.trace_lines.specs.Calls.{Argument, number, vm, kind, rights, StepMaker, Shape, calls, called as called_by, called_in, step_from}
+use Rattle.trace_lines.specs.Calls.{Argument, number, vm, kind, rights, last_number, StepMaker, Shape, calls, called as called_by, called_in, step_from, words_from}
 use Rattle.trace_lines.specs.Places.{IsAllowed, may_stand, may_tell}
 use Rattle.trace_lines.specs.Said.{said_by_asked, said_by_words}
 use Rattle.trace_lines.specs.Settings.{Told}
@@ -59,6 +59,7 @@ OfEach P (number ∷ more) make = (n : ℕ) → OfEach P more (make n)
 OfEach P (vm ∷ more) make = (v : VmId) → OfEach P more (make v)
 OfEach P (kind ∷ more) make = (k : VmKind) → OfEach P more (make k)
 OfEach P (rights ∷ more) make = (r : Prot) → OfEach P more (make r)
+OfEach P (last_number ∷ more) make = (n : ℕ) → OfEach P more (make n)
 
 -- a property of each step that a call of the grammar makes
 abbrev pub OfCalls : (Step → Type 0) → Type 0
@@ -72,6 +73,7 @@ module _ (P : Step → Type 0) (h : (step : Step) → P step) where
   of_each (vm ∷ more) make = λ v. of_each more (make v)
   of_each (kind ∷ more) make = λ k. of_each more (make k)
   of_each (rights ∷ more) make = λ r. of_each more (make r)
+  of_each (last_number ∷ more) make = λ n. of_each more (make n)
 
   of_names : (names : List (List ℕ × Shape)) → Each (λ (shape : Shape). OfEach P shape.arguments shape.step) names
   of_names [] = tt
@@ -88,13 +90,15 @@ from_words P (kind ∷ more) make words place h =
     chained P (λ k. step_from more (make k) words (place + 1)) (λ k. from_words P more (make k) words (place + 1) (h k)) (kind_word_at words place)
 from_words P (rights ∷ more) make words place h =
     chained P (λ r. step_from more (make r) words (place + 1)) (λ r. from_words P more (make r) words (place + 1) (h r)) (rights_word_at words place)
+from_words P (last_number ∷ more) make words place h =
+    chained P (λ n. step_from more (make n) words (place + 1)) (λ n. from_words P more (make n) words (place + 1) (h n)) (count_word_at words place)
 
 called_has : (P : Step → Type 0) → OfCalls P → (words : List (List ℕ)) (name : List ℕ) → IfSome (called_by words name) (λ called. IfSome called.step P)
 unfolding called_in
 called_has P h words name = onward (named calls name) (found _ calls name h)
   where
     onward : (o : Option Shape) → IfSome o (λ shape. OfEach P shape.arguments shape.step)
-        → IfSome (option_map (λ shape. record { words = 2 + length shape.arguments; step = step_from shape.arguments shape.step words 2 }) o) (λ (called : Called). IfSome called.step P)
+        → IfSome (option_map (λ shape. record { words = 2 + words_from shape.arguments words 2; step = step_from shape.arguments shape.step words 2 }) o) (λ (called : Called). IfSome called.step P)
     onward None k = tt
     onward (Some shape) k = from_words P shape.arguments shape.step words 2 k
 

@@ -14,6 +14,14 @@ use Rattle.trace_words.specs.Words.{named}
 abbrev pub number_at : List (List ℕ) → ℕ → Option ℕ
 number_at words place = option_and_then number_of (slice_get words place)
 
+-- the number at a place, and 1 where the line ends before it
+abbrev pub count_word_at : List (List ℕ) → ℕ → Option ℕ
+count_word_at words place = elim (slice_get words place) [ None ↦ Some 1 | Some word ↦ number_of word ]
+
+-- 1 where the line has a word at the place
+abbrev pub one_more : List (List ℕ) → ℕ → ℕ
+one_more words place = if is_some (slice_get words place) then 1 else 0
+
 -- the range that the second and third word tell: its first page and how many pages
 abbrev pub range_of : List (List ℕ) → Option PageRange
 range_of words =

@@ -1,12 +1,14 @@
 //! Words that are numbers, ranges, levels, slots, VMs, their kinds, and rights.
-ghost use Rattle.std.specs.Prelude.{◌≡◌, option_copied, slice_get};
+ghost use Rattle.std.specs.Prelude.{◌≡◌, ◌≤◌, option_copied, slice_get};
 ghost use Rattle.trace_lines.specs.Arguments.{
+  count_word_at,
   decimal_part as decimal_of_part,
   dotted,
   kind_word_at,
   kinds,
   level_word_at as level_at_place,
   number_at as number_at_place,
+  one_more as one_more_by,
   range_of as range_by,
   rights_names,
   rights_word_at,
@@ -31,6 +33,24 @@ pub fn number_at(words: &Words<'_>, place: usize) -> Option<u64>
     ensures { result ≡ number_at_place words.now place }
 {
     number(words.get(place)?)
+}
+
+/// The number at a place, and 1 where the line ends before it.
+pub fn count_at(words: &Words<'_>, place: usize) -> Option<u64>
+    ensures { result ≡ count_word_at words.now place }
+{
+    match words.get(place) {
+        Some(word) => number(word),
+        None => Some(1),
+    }
+}
+
+/// 1 where the line has a word at the place, and else 0.
+pub fn one_more(words: &Words<'_>, place: usize) -> usize
+    ensures value { result ≡ one_more_by words.now place }
+    ensures few { result ≤ 1 }
+{
+    if words.get(place).is_some() { 1 } else { 0 }
 }
 
 /// The level of a tree at a place, 0 to 3.

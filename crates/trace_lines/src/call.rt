@@ -13,9 +13,9 @@ ghost use Rattle.step_reply.specs.declared.step.Step.TheVariants.{
   VcpuLoad,
   VmReserve,
 };
-ghost use Rattle.trace_lines.specs.Calls.{called as called_by, called_in, guest_calls, hand_calls, kind, number, rights, step_from, vm, vm_calls};
+ghost use Rattle.trace_lines.specs.Calls.{called as called_by, called_in, guest_calls, hand_calls, kind, last_number, number, rights, step_from, vm, vm_calls};
 
-use crate::argument::{kind_at, number_at, rights_at, vm_at};
+use crate::argument::{count_at, kind_at, number_at, one_more, rights_at, vm_at};
 use step_reply::Step;
 use trace_words::{Words, is_name};
 
@@ -80,13 +80,13 @@ fn hand_call(name: &[u8], words: &Words<'_>) -> Option<Called>
         return row(2, Some(Step::Unfund));
     }
     if is_name(name, b"share_guest") {
-        return row(5, share_guest(words));
+        return row(5 + one_more(words, 5), share_guest(words));
     }
     if is_name(name, b"unshare_guest") {
         return row(4, unshare_guest(words));
     }
     if is_name(name, b"donate_guest") {
-        return row(4, donate_guest(words));
+        return row(4 + one_more(words, 4), donate_guest(words));
     }
     if is_name(name, b"guest_share_host") {
         return row(
@@ -194,14 +194,15 @@ fn fund(words: &Words<'_>) -> Option<Step>
     Some(Step::Fund { pfn, n })
 }
 
-/// A share of a frame with the guest, at a page and with rights.
+/// A share of frames with the guest, from a page on and with rights.
 fn share_guest(words: &Words<'_>) -> Option<Step>
-    ensures { result ≡ step_from (number ∷ number ∷ rights ∷ []) ShareGuest words.now 2 }
+    ensures { result ≡ step_from (number ∷ number ∷ rights ∷ last_number ∷ []) ShareGuest words.now 2 }
 {
     let pfn = number_at(words, 2)?;
     let gfn = number_at(words, 3)?;
     let prot = rights_at(words, 4)?;
-    Some(Step::ShareGuest { pfn, gfn, prot })
+    let n = count_at(words, 5)?;
+    Some(Step::ShareGuest { pfn, gfn, prot, n })
 }
 
 /// The end of a share with a VM's guest at a page.
@@ -213,13 +214,14 @@ fn unshare_guest(words: &Words<'_>) -> Option<Step>
     Some(Step::UnshareGuest { vm, gfn })
 }
 
-/// A donation of a frame to the guest, at a page.
+/// A donation of frames to the guest, from a page on.
 fn donate_guest(words: &Words<'_>) -> Option<Step>
-    ensures { result ≡ step_from (number ∷ number ∷ []) DonateGuest words.now 2 }
+    ensures { result ≡ step_from (number ∷ number ∷ last_number ∷ []) DonateGuest words.now 2 }
 {
     let pfn = number_at(words, 2)?;
     let gfn = number_at(words, 3)?;
-    Some(Step::DonateGuest { pfn, gfn })
+    let n = count_at(words, 4)?;
+    Some(Step::DonateGuest { pfn, gfn, n })
 }
 
 /// The reclaim of a page of a VM.

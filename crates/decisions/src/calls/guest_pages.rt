@@ -1,14 +1,15 @@
-//! Calls that change a page of the host and a page of a guest.
-ghost use Rattle.std.specs.Prelude.{◌≡◌, ◌<◌, ℕ, Some, if◌then◌else◌};
+//! Calls that change pages of the host and of a guest.
+ghost use Rattle.std.specs.Prelude.{◌≡◌, ◌+◌, ◌<◌, ◌≤◌, ◌^◌, ◌&&◌, ℕ, IsTrue, Some, if◌then◌else◌};
 ghost use Rattle.guest_component.specs.View.{guest_of};
 ghost use Rattle.guest_steps.specs.View.{shared_of};
-ghost use Rattle.page_state.specs.EntryTests.{annotation, entry_frame as frame_of_entry, is_in as is_entry_in, leaf as leaf_of};
+ghost use Rattle.page_state.specs.EntryTests.{annotation, entry_frame as frame_of_entry, is_free_page as is_free_entry, is_in as is_entry_in, is_unmapped, leaf as leaf_of};
 ghost use Rattle.page_state.specs.LayoutView.{layout_of};
 ghost use Rattle.reference_model.specs.Answers.{decides};
 ghost use Rattle.reference_model.specs.State.{Cpu};
 ghost use Rattle.reference_model.specs.Used.{with_guest};
 ghost use Rattle.step_reply.specs.declared.step.Step.TheVariants.{ShareGuest, UnshareGuest, DonateGuest, GuestShareHost, GuestUnshareHost, ReclaimPage};
-ghost use Rattle.reference_model.specs.GuestRules.{guest_owner, two_pages as two_pages_of};
+ghost use Rattle.reference_model.specs.GuestRules.{are_good_pages as are_good_pages_of, guest_owner, may_give as may_give_of, two_pages as two_pages_of, two_ranges as two_ranges_of};
+ghost use Rattle.table_tree.specs.View.{meaning};
 
 use super::change;
 use super::vms::SLOTS;
@@ -20,15 +21,64 @@ use reference_model::Changes;
 use std::alloc::Allocator;
 use step_reply::{Refusal, VmId};
 
+/// A range of the host and one of the guest change.
+fn two_ranges(pfn: u64, host: Entry, gfn: u64, guest: Entry, n: u64) -> Changes
+    ensures { result ≡ two_ranges_of pfn host gfn guest n }
+{
+    Changes {
+        host: change(Page(pfn), n, host),
+        guest: change(Page(gfn), n, guest),
+        ..Changes::NONE
+    }
+}
+
 /// A page of the host and a page of the guest change.
 fn two_pages(pfn: u64, host: Entry, gfn: u64, guest: Entry) -> Changes
     ensures { result ≡ two_pages_of pfn host gfn guest }
 {
-    Changes {
-        host: change(Page(pfn), 1, host),
-        guest: change(Page(gfn), 1, guest),
-        ..Changes::NONE
+    two_ranges(pfn, host, gfn, guest, 1)
+}
+
+/// Whether the pages of a range are input pages.
+pub(super) fn are_good_pages(layout: &Layout, gfn: u64, n: u64) -> bool
+    requires { 1 ≤ n }
+    ensures value { result ≡ are_good_pages_of (layout_of layout.now) gfn n }
+    ensures low { IsTrue result → gfn + n ≤ 2 ^ 62 }
+{
+    let pages = layout.geometry.pages();
+    n <= pages && gfn <= pages - n
+}
+
+/// Whether the host's page of a frame is free to give, and a page of the guest is unmapped.
+fn may_give_page<A: Allocator>(
+    shared: &SharedPart<A>,
+    guest: &Guest<A>,
+    frame: u64,
+    page: u64,
+) -> bool
+    ensures { result ≡ (is_free_entry (meaning shared.now.host.tree frame) && is_unmapped ((guest_of guest.now).tree.map page)) }
+{
+    is_free_page(shared.host.translate(Page(frame))) && !is_mapped(guest.translate(Page(page)))
+}
+
+/// Whether that is so of each frame of a range and its page.
+fn may_give<A: Allocator>(
+    shared: &SharedPart<A>,
+    guest: &Guest<A>,
+    pfn: u64,
+    gfn: u64,
+    n: u64,
+) -> bool
+    requires frames { pfn + n ≤ 2 ^ 26 }
+    requires pages { gfn + n ≤ 2 ^ 62 }
+    ensures { (k : Cpu) → result ≡ may_give_of (with_guest (shared_of shared.now) (guest_of guest.now) k) pfn gfn n }
+{
+    for i in 0..n {
+        if !may_give_page(shared, guest, pfn + i, gfn + i) {
+            return false;
+        }
     }
+    true
 }
 
 /// The host's entry of a page whose frame the guest of a slot owns.
@@ -39,7 +89,7 @@ fn owned_by_guest(slot: u64) -> Entry
     Entry::Annotated(Owner(2 + slot))
 }
 
-/// The host shares a frame with a plain VM: its page must be free to give, and the guest's page unmapped.
+/// The host shares 1 to 512 memory frames with a plain VM: their pages must be free to give, and the guest's pages unmapped.
 #[tactic(auto, unfolding(reference_model::specs::Rules::rule))]
 pub(crate) fn decide_share_guest<A: Allocator>(
     layout: &Layout,
@@ -48,23 +98,22 @@ pub(crate) fn decide_share_guest<A: Allocator>(
     pfn: u64,
     gfn: u64,
     prot: Prot,
+    n: u64,
 ) -> Result<Changes, Refusal>
-    ensures decided { (id slot : ℕ) (k : Cpu) → result ≡ decides (layout_of layout.now) id (Some slot) (ShareGuest pfn gfn prot) (with_guest (shared_of shared.now) (guest_of guest.now) k) }
+    ensures decided { (id slot : ℕ) (k : Cpu) → result ≡ decides (layout_of layout.now) id (Some slot) (ShareGuest pfn gfn prot n) (with_guest (shared_of shared.now) (guest_of guest.now) k) }
 {
-    if !layout.map.is_memory(Page(pfn)) || gfn >= layout.geometry.pages() {
+    if !layout.is_good_range(Page(pfn), n) || !are_good_pages(layout, gfn, n) {
         return Err(Refusal::Invalid);
     }
-    if guest.is_protected()
-        || !is_free_page(shared.host.translate(Page(pfn)))
-        || is_mapped(guest.translate(Page(gfn)))
-    {
+    if guest.is_protected() || !may_give(shared, guest, pfn, gfn, n) {
         return Err(Refusal::Perm);
     }
-    Ok(two_pages(
+    Ok(two_ranges(
         pfn,
         leaf(pfn, Prot::RWX, State::SharedOwned),
         gfn,
         leaf(pfn, prot, State::SharedBorrowed),
+        n,
     ))
 }
 
@@ -98,7 +147,7 @@ pub(crate) fn decide_unshare_guest<A: Allocator>(
     ))
 }
 
-/// The host gives a frame to a protected VM: its page must be free to give, and the guest's page unmapped.
+/// The host gives 1 to 512 memory frames to a protected VM: their pages must be free to give, and the guest's pages unmapped.
 #[tactic(auto, unfolding(reference_model::specs::Rules::rule))]
 pub(crate) fn decide_donate_guest<A: Allocator>(
     layout: &Layout,
@@ -107,21 +156,19 @@ pub(crate) fn decide_donate_guest<A: Allocator>(
     slot: u64,
     pfn: u64,
     gfn: u64,
+    n: u64,
 ) -> Result<Changes, Refusal>
     requires { slot < 64 }
-    ensures decided { (id : ℕ) (k : Cpu) → result ≡ decides (layout_of layout.now) id (Some slot) (DonateGuest pfn gfn) (with_guest (shared_of shared.now) (guest_of guest.now) k) }
+    ensures decided { (id : ℕ) (k : Cpu) → result ≡ decides (layout_of layout.now) id (Some slot) (DonateGuest pfn gfn n) (with_guest (shared_of shared.now) (guest_of guest.now) k) }
 {
-    if !layout.map.is_memory(Page(pfn)) || gfn >= layout.geometry.pages() {
+    if !layout.is_good_range(Page(pfn), n) || !are_good_pages(layout, gfn, n) {
         return Err(Refusal::Invalid);
     }
-    if !guest.is_protected()
-        || !is_free_page(shared.host.translate(Page(pfn)))
-        || is_mapped(guest.translate(Page(gfn)))
-    {
+    if !guest.is_protected() || !may_give(shared, guest, pfn, gfn, n) {
         return Err(Refusal::Perm);
     }
     let given = leaf(pfn, Prot::RWX, State::Owned);
-    Ok(two_pages(pfn, owned_by_guest(slot), gfn, given))
+    Ok(two_ranges(pfn, owned_by_guest(slot), gfn, given, n))
 }
 
 /// The guest shares a page that it owns with the host.

@@ -35,7 +35,7 @@ use Rattle.reference_model.specs.Conditions.{row_in, Condition, outside, hosts, 
 use Rattle.page_state.proofs.Blocks.{empty_means}
 use Rattle.page_state.proofs.Common.{both, if-true, if-false}
 use Rattle.coarse_trees.specs.Coarsest.{IsInRange}
-use Rattle.reference_model.proofs.conditions.Moves.{moved_to, outside-is, is_calm, host-moved, moved-out, moved-fact}
+use Rattle.reference_model.proofs.conditions.Moves.{moved_to, always, outside-is, is_calm, host-moved, moved-out, moved-fact}
 use Rattle.reference_model.proofs.conditions.FrameMoves.{StepKept}
 use Rattle.reference_model.proofs.conditions.RangeMoves.{within-is, within-made, one-within, one-frame, advance-leaf, range-in, free-is, hands-stay}
 use Rattle.reference_model.proofs.conditions.SharedMoves.{x_of, shared-keeps}
@@ -55,24 +55,25 @@ module _ (l : Layout) (s : Contents) (legal : Legal l s) (usable : IsUsable l) (
 
   -- frames of one condition keep it, where the host's map changes or stays
   same-keeps : (step : Step) → names step ≡ shared → (e : Option MapChange) (first n : ℕ) (c : Condition) → is_calm c ≡ true → in_shared c ≡ false → ((d : ℕ) → in_hand d c ≡ false) → IsGood l c → IsInRange l.depth (edit_of e) → ((q : ℕ) → is_touched (host_rule invalid perm e value).changes q ≡ is_within first n q)
-      → ((q : ℕ) → is_within first n q ≡ true → legal.condition q ≡ c) → ((q : ℕ) → HostFits q (moved_to c first n legal.condition q) (edited_map s.shared.host.map (edit_of e) q))
-      → ((q : ℕ) → is_within first n q ≡ true → row_in q c ≡ told_row cpu None (host_rule invalid perm e value).changes q) → ((q : ℕ) → is_within first n q ≡ true → is_memory l q ≡ true → c ≡ told_condition cpu None (host_rule invalid perm e value).changes) → IsKept step e
+      → ((q : ℕ) → is_within first n q ≡ true → legal.condition q ≡ c) → ((q : ℕ) → HostFits q (moved_to (always c) first n legal.condition q) (edited_map s.shared.host.map (edit_of e) q))
+      → ((q : ℕ) → is_within first n q ≡ true → row_in q c ≡ told_row cpu None (host_rule invalid perm e value).changes q) → ((q : ℕ) → is_within first n q ≡ true → is_memory l q ≡ true → c ≡ told_condition cpu None (host_rule invalid perm e value).changes q) → IsKept step e
   unfolding used_of
   same-keeps step named e first n c calm unused hand good range touched was fits told goes p = shared-keeps l s legal usable cpu step named (host_rule invalid perm e value).changes first n c (record {
     frames = record {
       inside = λ q w. sym (legal.of_layout.inside q) ∙ ap is_inside (was q w);
-      good = good;
+      alike = λ q k w z. refl;
+      good = λ q w. good;
       same_use = λ q w. ap in_shared (was q w);
       host = fits;
-      hyp = λ q. legal.maps.hyp q ∙ moved-fact (hyp_says q) c first n legal.condition q (λ w. ap (hyp_says q) (was q w));
+      hyp = λ q. legal.maps.hyp q ∙ moved-fact (hyp_says q) (always c) first n legal.condition q (λ w. ap (hyp_says q) (was q w));
       hyp_below = legal.maps.hyp_below;
       touched = touched;
       told = told;
       goes = goes;
       host_range = range;
       hyp_range = tt;
-      hand = hands-stay legal cpu same_cpu c first n refl (λ d q w. ap (in_hand d) (was q w));
-      own_hand = λ d h. let z : true ≡ false = sym h ∙ hand d in cc;
+      hand = hands-stay legal cpu same_cpu (always c) first n refl (λ d q w. ap (in_hand d) (was q w));
+      own_hand = λ d q w h. let z : true ≡ false = sym h ∙ hand d in cc;
     };
     calm = record { calm = calm; was_calm = λ q w. ap is_calm (was q w) ∙ calm };
     loaded = refl;
@@ -82,7 +83,7 @@ module _ (l : Layout) (s : Contents) (legal : Legal l s) (usable : IsUsable l) (
 
   still-keeps : (step : Step) → names step ≡ shared → IsKept step None
   still-keeps step named = same-keeps step named None 0 0 hosts refl refl (λ d. refl) tt tt (λ q. sym (none-within q)) (λ q w. absurd (off q w))
-      (λ q. subst (λ c. HostFits q c (s.shared.host.map q)) (sym (moved-out hosts 0 0 legal.condition q (none-within q))) (legal.maps.host q)) (λ q w. absurd (off q w)) (λ q w m. absurd (off q w))
+      (λ q. subst (λ c. HostFits q c (s.shared.host.map q)) (sym (moved-out (always hosts) 0 0 legal.condition q (none-within q))) (legal.maps.host q)) (λ q w. absurd (off q w)) (λ q w m. absurd (off q w))
     where
       off : (q : ℕ) → is_within 0 0 q ≡ true → ⊥
       off q w = let z : true ≡ false = sym w ∙ none-within q in cc
@@ -96,7 +97,7 @@ module _ (l : Layout) (s : Contents) (legal : Legal l s) (usable : IsUsable l) (
       let mem : (q : ℕ) → is_within first n q ≡ true → is_memory l q ≡ true = λ q w. ap is_memory_region (each q w).0 ∙ kind in
       let low = range-in l usable first n some mem in
       same-keeps (HostAbort page) refl (change first n (leaf RWX first Owned)) first n hosts refl refl (λ d. refl) tt (let e : first + n ≤ pages_below l.depth = omega arith in e) (λ q. refl)
-      (λ q w. unmapped-hosts q (mem q w) (each q w).1) (host-moved s.shared.host.map first n (leaf RWX first Owned) hosts legal.condition (λ q w. inr (advance-leaf RWX first n q Owned w)) legal.maps.host) (λ q w. refl) (λ q w m. refl)
+      (λ q w. unmapped-hosts q (mem q w) (each q w).1) (host-moved s.shared.host.map first n (leaf RWX first Owned) (always hosts) legal.condition (λ q w. inr (advance-leaf RWX first n q Owned w)) legal.maps.host) (λ q w. refl) (λ q w m. refl)
 
   -- a block of unmapped pages of a device region
   device-keeps : (page first n : ℕ) (r : Region) → 1 ≤ n → is_memory_kind r.kind ≡ false → ((q : ℕ) → is_within first n q ≡ true → (region_of l.memory q ≡ Some r) × (s.shared.host.map q ≡ Unmapped)) → IsKept (HostAbort page) (change first n (device_leaf first))
@@ -105,7 +106,7 @@ module _ (l : Layout) (s : Contents) (legal : Legal l s) (usable : IsUsable l) (
       let last : first + n - 1 < pages_below l.depth = usable.below (first + n - 1) r (each (first + n - 1) (within-made first n (first + n - 1) (omega arith) (omega arith))).0 in
       let was : (q : ℕ) → is_within first n q ≡ true → legal.condition q ≡ outside = λ q w. outside-is (legal.condition q) (legal.of_layout.inside q ∙ not-memory q w) in
       same-keeps (HostAbort page) refl (change first n (device_leaf first)) first n outside refl refl (λ d. refl) tt (let e : first + n ≤ pages_below l.depth = omega arith in e) (λ q. refl)
-      was (host-moved s.shared.host.map first n (device_leaf first) outside legal.condition (λ q w. inr (device-advance first n q w)) legal.maps.host) (λ q w. refl)
+      was (host-moved s.shared.host.map first n (device_leaf first) (always outside) legal.condition (λ q w. inr (device-advance first n q w)) legal.maps.host) (λ q w. refl)
       (λ q w m. let bad : true ≡ false = sym m ∙ not-memory q w in cc)
     where
       device-advance : (first n q : ℕ) → is_within first n q ≡ true → advance (device_leaf first) (q - first) ≡ device_leaf q

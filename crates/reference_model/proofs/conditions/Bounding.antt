@@ -30,7 +30,7 @@ use Rattle.reference_model.proofs.conditions.PageSteps.{good-page}
 use Rattle.reference_model.proofs.conditions.PoolSteps.{root_block, root-inside, root-none, root-here}
 use Rattle.reference_model.proofs.conditions.Tables.{some_of, some-put, edited-some}
 use Rattle.reference_model.specs.Conditions.{Legal, IsUsable, one}
-use Rattle.reference_model.specs.GuestRules.{ticket_vm, guest_table_count}
+use Rattle.reference_model.specs.GuestRules.{ticket_vm, guest_table_count, are_good_pages}
 use Rattle.page_state.specs.Layouts.{Layout, is_memory, is_good_range, is_good_page}
 use Rattle.reference_model.specs.Parts.{names, lacks_slot, uses_vms, has_stage}
 use Rattle.reference_model.specs.Rules.{rule}
@@ -48,7 +48,7 @@ use Rattle.reference_model.proofs.Steps.{refusal_keeps, log_full_keeps, answered
 use Rattle.reference_model.proofs.conditions.BootLegal.{boot_legal}
 use Rattle.reference_model.proofs.conditions.Keeps.{legal_keeps}
 use Rattle.reference_model.proofs.conditions.RunsLegal.{ready-usable}
-use Rattle.reference_model.proofs.conditions.RangeMoves.{hand-some}
+use Rattle.reference_model.proofs.conditions.RangeMoves.{good-range, good-pages, hand-some}
 use Rattle.reference_model.proofs.conditions.Tests.{Passed, passed}
 use Rattle.reference_model.proofs.conditions.Slots.{put-fact, ticket-told}
 use Rattle.reference_model.proofs.conditions.VmSteps.{has_stage-is, stand_eq-same, first-spec, some-is}
@@ -189,11 +189,14 @@ record Modest (l : Layout) (x : Used) (h : Changes) : Type 0 where
 page-range : (l : Layout) (g : ℕ) → not (is_good_page l g) ≡ false → g + 1 ≤ pages_below l.depth
 page-range l g h = let less = good-page l g h in omega arith
 
+pages-range : (l : Layout) (f g n : ℕ) → (not (is_good_range l f n) || not (are_good_pages l g n)) ≡ false → g + n ≤ pages_below l.depth
+pages-range l f g n h = let a = or-neither (not (is_good_range l f n)) (not (are_good_pages l g n)) h in good-pages l g n (good-range l f n (not-false (is_good_range l f n) a.0)).0 a.1
+
 pub hand-few : (o : Option PageRange) → is_none o ≡ false → ((r : PageRange) → o ≡ Some r → r.count ≤ 512) → (unwrap_or o no_range).count ≤ 512
 hand-few (Some r) h k = k r refl
 hand-few None h k = cc
 
-good-count : (l : Layout) (f n : ℕ) → is_good_range l f n ≡ true → n ≤ 512
+pub good-count : (l : Layout) (f n : ℕ) → is_good_range l f n ≡ true → n ≤ 512
 good-count l f n h = go (nat_le 1 n) (nat_le n 512) (all_below n (λ i. is_memory l (f + i))) refl h
   where
     go : (a b c : Bool) → nat_le n 512 ≡ b → (a && b && c) ≡ true → n ≤ 512
@@ -239,9 +242,9 @@ module _ (l : Layout) (s : Contents) (legal : Legal l s) (cpu : ℕ) (hands : (r
   modest : (step : Step) (slot : Option ℕ) → fails l cpu slot step (x_at slot step) ≡ None → Modest l (x_at slot step) (h_at slot step).changes
   unfolding rule ModestSlot ModestHand ModestPart used_of
   modest (Fund f n) o h = record { slot = tt; hand = good-count l f n (not-false (is_good_range l f n) (pass o (Fund f n) h).invalid); range = tt; part = tt }
-  modest (ShareGuest f g p) o h = record { slot = tt; hand = tt; range = page-range l g (or-neither (not (is_memory l f)) (not (is_good_page l g)) (pass o (ShareGuest f g p) h).invalid).1; part = tt }
+  modest (ShareGuest f g p n) o h = record { slot = tt; hand = tt; range = pages-range l f g n (pass o (ShareGuest f g p n) h).invalid; part = tt }
   modest (UnshareGuest vm g) o h = record { slot = tt; hand = tt; range = page-range l g (or-neither (nat_le 64 vm.slot) (not (is_good_page l g)) (pass o (UnshareGuest vm g) h).invalid).1; part = tt }
-  modest (DonateGuest f g) o h = record { slot = tt; hand = tt; range = page-range l g (or-neither (not (is_memory l f)) (not (is_good_page l g)) (pass o (DonateGuest f g) h).invalid).1; part = tt }
+  modest (DonateGuest f g n) o h = record { slot = tt; hand = tt; range = pages-range l f g n (pass o (DonateGuest f g n) h).invalid; part = tt }
   modest (GuestShareHost g) o h = record { slot = tt; hand = tt; range = page-range l g (pass o (GuestShareHost g) h).invalid; part = tt }
   modest (GuestUnshareHost g) o h = record { slot = tt; hand = tt; range = page-range l g (pass o (GuestUnshareHost g) h).invalid; part = tt }
   modest Install o h = record { slot = tt; hand = tt; range = tt; part = (hand-some (s.cpu cpu).hand (pass o Install h).perm (legal.slots.some_hand cpu), hand-few (s.cpu cpu).hand (pass o Install h).perm hands) }

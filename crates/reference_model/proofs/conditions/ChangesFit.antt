@@ -1,6 +1,6 @@
 -- What a step decides to change in a legal state can be written, and touches memory frames alone or none.
 use Rattle.std.proofs.Common.{◌≡◌, ℕ, ◌+◌, ◌-◌, ◌^◌, ◌≤◌, ◌<◌, refl, ap, sym, ◌∙◌, subst, arith}
-use Rattle.std.specs.Prelude.{Bool, true, false, not, nat_le, is_none, unwrap_or, Option, Some, None, Ok, if◌then◌else◌}
+use Rattle.std.specs.Prelude.{Bool, true, false, not, ◌||◌, nat_le, is_none, unwrap_or, Option, Some, None, Ok, if◌then◌else◌}
 use Rattle.descriptor.specs.declared.Prot.{Prot}
 use Rattle.descriptor.specs.declared.Prot.TheVariants.{RWX}
 use Rattle.descriptor.specs.declared.State.{State}
@@ -31,6 +31,7 @@ use Rattle.reference_model.specs.Answers.{decides}
 use Rattle.reference_model.specs.ChangeLaws.{FitsWhere, AllFit, ChangesFit, TouchedFits, TouchedWhole}
 use Rattle.reference_model.specs.Changes.{change, no_changes}
 use Rattle.reference_model.specs.Conditions.{hyps, Legal, IsUsable}
+use Rattle.reference_model.specs.GuestRules.{are_good_pages}
 use Rattle.reference_model.specs.Parts.{names, guest_slot, lacks_slot}
 use Rattle.reference_model.specs.Rule.{Rule}
 use Rattle.reference_model.specs.Rules.{rule}
@@ -48,7 +49,7 @@ use Rattle.reference_model.proofs.conditions.PageSteps.{mapped-named, named-memo
 use Rattle.reference_model.proofs.conditions.PoolSteps.{least-was, root-left}
 use Rattle.reference_model.proofs.conditions.RunsLegal.{accepted_usable, few-pages}
 use Rattle.reference_model.proofs.conditions.Slots.{ticket-fits}
-use Rattle.reference_model.proofs.conditions.RangeMoves.{within-made, one-within, one-frame, range-in, good-range, hand-some, hand-was, memory-of}
+use Rattle.reference_model.proofs.conditions.RangeMoves.{within-made, one-within, one-frame, range-in, good-range, good-pages, hand-some, hand-was, memory-of}
 use Rattle.reference_model.proofs.conditions.Tests.{Tested, tested}
 
 -- the row of the first frame of a host's change, by the loan that the changes tell
@@ -108,13 +109,26 @@ module _ (l : Layout) (usable : IsUsable l) (few : pages_below l.depth ≤ 2 ^ 3
       → Writes l cpu slot (changing (change f n e) (change (hyp_page f) n e') None None part slots k value)
   good-writes f n e e' good = let g = good-range l f n (not-false (is_good_range l f n) good) in range-writes f n e e' g.0 g.1
 
+  -- a range of memory and as many pages of the guest
+  ranges-writes : (f n : ℕ) (e : Entry) (g : ℕ) (e' : Entry) → 1 ≤ n → ((q : ℕ) → is_within f n q ≡ true → is_memory l q ≡ true) → g + n ≤ pages_below l.depth → (f + n ≤ 2 ^ 36 → IsRangeEntry n e) → (f + n ≤ 2 ^ 36 → IsRangeEntry n e')
+      → Writes l cpu slot (changing (change f n e) None (change g n e') None part slots k value)
+  ranges-writes f n e g e' some all page a b =
+      let low = range-in l usable f n some all in
+      let first : is_memory l f ≡ true = all f (within-made f n f (omega arith) (omega arith)) in
+      host-writes f n e None (change g n e') some (omega arith) (a (omega arith)) tt (record { some = some; within = page; entry = b (omega arith) }) (let small : g + n ≤ 2 ^ 63 = omega arith in small) (λ q w. all q w ∙ sym first)
+
   -- a memory frame's page and a page of the guest
   pages-writes : (f : ℕ) (e : Entry) (g : ℕ) (e' : Entry) → is_memory l f ≡ true → g < pages_below l.depth → (f + 1 ≤ 2 ^ 36 → IsRangeEntry 1 e) → (f + 1 ≤ 2 ^ 36 → IsRangeEntry 1 e')
       → Writes l cpu slot (changing (change f 1 e) None (change g 1 e') None part slots k value)
-  pages-writes f e g e' memory page a b =
-      let all : (q : ℕ) → is_within f 1 q ≡ true → is_memory l q ≡ true = one-frame f (λ q. is_memory l q ≡ true) memory in
-      let low = range-in l usable f 1 (omega arith) all in
-      host-writes f 1 e None (change g 1 e') (omega arith) (omega arith) (a (omega arith)) tt (record { some = omega arith; within = omega arith; entry = b (omega arith) }) (let small : g + 1 ≤ 2 ^ 63 = omega arith in small) (λ q w. all q w ∙ sym memory)
+  pages-writes f e g e' memory page = ranges-writes f 1 e g e' (omega arith) (one-frame f (λ q. is_memory l q ≡ true) memory) (omega arith)
+
+  -- a good range and as many good pages of the guest
+  given-writes : (f n : ℕ) (e : Entry) (g : ℕ) (e' : Entry) → (not (is_good_range l f n) || not (are_good_pages l g n)) ≡ false → (f + n ≤ 2 ^ 36 → IsRangeEntry n e) → (f + n ≤ 2 ^ 36 → IsRangeEntry n e')
+      → Writes l cpu slot (changing (change f n e) None (change g n e') None part slots k value)
+  given-writes f n e g e' args =
+      let a = or-neither (not (is_good_range l f n)) (not (are_good_pages l g n)) args in
+      let good = good-range l f n (not-false (is_good_range l f n) a.0) in
+      ranges-writes f n e g e' good.0 good.1 (good-pages l g n good.0 a.1)
 
   -- the host's map stays
   still-writes : (guest : Option MapChange) → FitsWhere l.depth guest → Writes l cpu slot (changing None None guest None part slots k value)
@@ -174,6 +188,9 @@ module _ (l : Layout) (s : Contents) (legal : Legal l s) (usable : IsUsable l) (
   for-guest : (v n : ℕ) → v < 64 → n + 1 ≤ 2 ^ 36 → IsRangeEntry 1 (annotation (2 + v))
   for-guest v n less low = (omega arith, omega arith)
 
+  for-guests : (v f n : ℕ) → v < 64 → f + n ≤ 2 ^ 36 → IsRangeEntry n (annotation (2 + v))
+  for-guests v f n less low = (omega arith, omega arith)
+
   for-hyp : (f n : ℕ) → f + n ≤ 2 ^ 36 → IsRangeEntry n (annotation 1)
   for-hyp f n low = (omega arith, omega arith)
 
@@ -219,8 +236,8 @@ module _ (l : Layout) (s : Contents) (legal : Legal l s) (usable : IsUsable l) (
   each (Fund f n) o e h = good-writes l usable few cpu o f n _ _ (pass o (Fund f n) h).invalid (for-hyp f n) (λ k. k)
   each Unfund o e h = let some = (pass o Unfund h).perm in range-writes l usable few cpu o _ _ _ _ (hand-count some) (hand-memory some) (λ k. tt) (λ k. tt)
   each (HostAbort p) o e h = abort-writes p o (region_of l.memory p) refl
-  each (ShareGuest f g p) (Some v) e h = let a = or-neither (not (is_memory l f)) (not (is_good_page l g)) (pass (Some v) (ShareGuest f g p) h).invalid in pages-writes l usable few cpu (Some v) f _ g _ (not-false (is_memory l f) a.0) (good-page l g a.1) (λ k. k) (λ k. k)
-  each (DonateGuest f g) (Some v) e h = let a = or-neither (not (is_memory l f)) (not (is_good_page l g)) (pass (Some v) (DonateGuest f g) h).invalid in pages-writes l usable few cpu (Some v) f _ g _ (not-false (is_memory l f) a.0) (good-page l g a.1) (for-guest v f (loaded-at l usable s legal cpu known v (sym e)).0) (λ k. k)
+  each (ShareGuest f g p n) (Some v) e h = given-writes l usable few cpu (Some v) f n _ g _ (pass (Some v) (ShareGuest f g p n) h).invalid (λ k. k) (λ k. k)
+  each (DonateGuest f g n) (Some v) e h = given-writes l usable few cpu (Some v) f n _ g _ (pass (Some v) (DonateGuest f g n) h).invalid (for-guests v f n (loaded-at l usable s legal cpu known v (sym e)).0) (λ k. k)
   each (UnshareGuest vm g) (Some v) e h =
       let p = pass (Some v) (UnshareGuest vm g) h in
       guest-writes v g _ _ SharedBorrowed p.perm (or-neither (nat_le 64 vm.slot) (not (is_good_page l g)) p.invalid).1 (λ k. k) (λ k. tt)

@@ -1,4 +1,4 @@
--- A made step on the Shared part and a guest that moves a range of frames to one condition that names no other guest.
+-- A made step on the Shared part and a guest that moves a range of frames to conditions that name no other guest.
 use Rattle.std.proofs.Common.{◌≡◌, ◌≢◌, ℕ, ◌+◌, ◌≤◌, refl, ap, sym, ◌∙◌, subst, arith, inl, inr, length}
 use Rattle.std.specs.Prelude.{Bool, true, false, ◌==◌, Some}
 use Rattle.descriptor.specs.declared.State.{State}
@@ -65,10 +65,10 @@ new_guest l s v r = guest_after l.depth r (s.guest v)
 abbrev pub new_cpu : Contents → ℕ → Changes → Cpu
 new_cpu s cpu r = cpu_by r.cpu (s.cpu cpu)
 
--- what a rule on the Shared part and a guest does to the conditions: a range of frames goes from conditions that name no other guest to one such condition
-pub record GuestMove (l : Layout) (s : Contents) (condition : ℕ → Condition) (cpu v : ℕ) (r : Changes) (first n : ℕ) (c : Condition) : Type 0 where
+-- what a rule on the Shared part and a guest does to the conditions: a range of frames goes from conditions that name no other guest to such conditions
+pub record GuestMove (l : Layout) (s : Contents) (condition : ℕ → Condition) (cpu v : ℕ) (r : Changes) (first n : ℕ) (c : ℕ → Condition) : Type 0 where
   pub frames : FramesMove l s condition cpu (Some v) r first n c
-  pub only_new : only v c ≡ true
+  pub only_new : (f : ℕ) → is_within first n f ≡ true → only v (c f) ≡ true
   pub only_old : (f : ℕ) → is_within first n f ≡ true → only v (condition f) ≡ true
   pub guest : (p : ℕ) → GuestFits (moved_to c first n condition) v p ((new_guest l s v r).tree.map p)
   pub guest_has : (p f : ℕ) (state : State) → moved_to c first n condition f ≡ guest_condition state v p → IsMemoryLeaf f state ((new_guest l s v r).tree.map p)
@@ -126,7 +126,7 @@ only-guests l f v c g o has alone held = record { has = λ u p state. has-at u p
       | inr e ↦ ap (λ (x : Guest). guest_uses l.depth x f) (if-false (u == v) g no_guest e) ∙ none ∙ ap one (sym (only-vm v u c o e))
     ]
 
-module _ (l : Layout) (s : Contents) (legal : Legal l s) (usable : IsUsable l) (cpu v : ℕ) (step : Step) (named : names step ≡ shared_and_guest) (r : Changes) (first n : ℕ) (c : Condition) (m : GuestMove l s legal.condition cpu v r first n c) (enough : shared_need l.depth r s.shared ≤ length s.shared.free) where
+module _ (l : Layout) (s : Contents) (legal : Legal l s) (usable : IsUsable l) (cpu v : ℕ) (step : Step) (named : names step ≡ shared_and_guest) (r : Changes) (first n : ℕ) (c : ℕ → Condition) (m : GuestMove l s legal.condition cpu v r first n c) (enough : shared_need l.depth r s.shared ≤ length s.shared.free) where
   abbrev after : ℕ → Condition
   after = moved_to c first n legal.condition
 
@@ -152,7 +152,7 @@ module _ (l : Layout) (s : Contents) (legal : Legal l s) (usable : IsUsable l) (
 
   other-has : (u p f : ℕ) (state : State) → (u == v) ≡ false → after f ≡ guest_condition state u p → legal.condition f ≡ guest_condition state u p
   other-has u p f state d h = elim (both (is_within first n f)) [
-    | inl w ↦ absurd (let same = only-named v c state u p m.only_new (sym (moved-in c first n legal.condition f w) ∙ h) in let bad : true ≡ false = sym (ap (λ z. z == v) same ∙ eq-self v) ∙ d in cc)
+    | inl w ↦ absurd (let same = only-named v (c f) state u p (m.only_new f w) (sym (moved-in c first n legal.condition f w) ∙ h) in let bad : true ≡ false = sym (ap (λ z. z == v) same ∙ eq-self v) ∙ d in cc)
     | inr w ↦ sym (moved-out c first n legal.condition f w) ∙ h
   ]
 
@@ -171,29 +171,29 @@ module _ (l : Layout) (s : Contents) (legal : Legal l s) (usable : IsUsable l) (
   held = record {
     shared = held-after legal m.frames enough;
     vm = guest-fact (λ u g. (f : ℕ) → guest_uses l.depth g f ≡ one (in_vm u (after f))) s.guest v (new_guest l s v r) m.held
-        (λ u d f. legal.held.vm u f ∙ ap one (moved-fact (in_vm u) c first n legal.condition f (λ w. only-vm v u (legal.condition f) (m.only_old f w) d ∙ sym (only-vm v u c m.only_new d))));
+        (λ u d f. legal.held.vm u f ∙ ap one (moved-fact (in_vm u) c first n legal.condition f (λ w. only-vm v u (legal.condition f) (m.only_old f w) d ∙ sym (only-vm v u (c f) (m.only_new f w) d))));
     hand = m.frames.hand;
   }
 
   guest-same : put_at s.guest v (new_guest l s v r) v ≡ new_guest l s v r
   guest-same = if-true (v == v) (new_guest l s v r) (s.guest v) (eq-self v)
 
-  guest-stands : (f : ℕ) → is_within first n f ≡ true → GuestsStand l (put_at (λ u. no_guest) v y.guest) f c
+  guest-stands : (f : ℕ) → is_within first n f ≡ true → GuestsStand l (put_at (λ u. no_guest) v y.guest) f (c f)
   unfolding t y put_back with_rows changed used_of shared_after
   guest-stands f w =
       let st = guests-of t after maps f l held in
       let at = moved-in c first n legal.condition f w in
-      only-guests l f v c (new_guest l s v r) m.only_new
+      only-guests l f v (c f) (new_guest l s v r) (m.only_new f w)
       (λ p state e. sym (ap (λ (x : Guest). maps_frame f state (x.tree.map p)) guest-same) ∙ st.has v p state (at ∙ e))
       (λ p state e. sym at ∙ st.alone v p state (ap (λ (x : Guest). maps_frame f state (x.tree.map p)) guest-same ∙ e))
       (m.held f ∙ ap (λ d. one (in_vm v d)) at)
 
-  own : (f : ℕ) → is_memory l f ≡ true → is_within first n f ≡ true → own_row l cpu (Some v) step y f ≡ row_in f c
+  own : (f : ℕ) → is_memory l f ≡ true → is_within first n f ≡ true → own_row l cpu (Some v) step y f ≡ row_in f (c f)
   unfolding own_row t y put_back with_rows changed used_of shared_after
   own f mem w =
       let st = shared-stands legal m.frames t maps held f w in
       ap (λ k. row_of l (put_back k (Some v) cpu blank y) f) named
-      ∙ row-stands l (put_back shared_and_guest (Some v) cpu blank y) f c (record { host = st.host; host_alone = st.host_alone; hyp = st.hyp; hyp_alone = st.hyp_alone; held = st.held }) (guest-stands f w) (hand-stands legal m.frames f w) m.frames.good (λ i. usable.pages f mem)
+      ∙ row-stands l (put_back shared_and_guest (Some v) cpu blank y) f (c f) (record { host = st.host; host_alone = st.host_alone; hyp = st.hyp; hyp_alone = st.hyp_alone; held = st.held }) (guest-stands f w) (hand-stands legal m.frames f w) (m.frames.good f w) (λ i. usable.pages f mem)
 
   rows : RowsFit l t after
   unfolding t y put_back with_rows changed used_of shared_after

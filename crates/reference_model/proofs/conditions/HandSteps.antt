@@ -32,7 +32,7 @@ use Rattle.page_state.proofs.Counts.{count_next}
 use Rattle.coarse_trees.proofs.Stays.{root_is_coarsest}
 use Rattle.reference_model.proofs.conditions.Conserved.{all_given-count}
 use Rattle.reference_model.proofs.conditions.Tables.{uses_of}
-use Rattle.reference_model.proofs.conditions.Moves.{moved_to, is_pageless, guest-kept, has-kept, moved-in, moved-out, moved-fact}
+use Rattle.reference_model.proofs.conditions.Moves.{moved_to, always, is_pageless, guest-kept, has-kept, moved-in, moved-out, moved-fact}
 use Rattle.reference_model.proofs.conditions.FrameMoves.{StepKept, FramesMove, no-uses}
 use Rattle.reference_model.proofs.conditions.GuestMoves.{only, g_of, new_guest, new_cpu, GuestMove, guest-keeps, slots-stay}
 use Rattle.reference_model.proofs.conditions.PageSteps.{stands-alive}
@@ -58,7 +58,7 @@ module _ (l : Layout) (s : Contents) (legal : Legal l s) (usable : IsUsable l) (
   hand = hand_of (s.cpu cpu)
 
   abbrev after : ℕ → Condition
-  after = moved_to (hyps (VmPool v)) hand.first.0 hand.count legal.condition
+  after = moved_to (always (hyps (VmPool v))) hand.first.0 hand.count legal.condition
 
   module _ (some : is_none (s.cpu cpu).hand ≡ false) where
     was : (q : ℕ) → is_within hand.first.0 hand.count q ≡ true → legal.condition q ≡ hyps (InHand cpu)
@@ -70,18 +70,19 @@ module _ (l : Layout) (s : Contents) (legal : Legal l s) (usable : IsUsable l) (
       | inl w ↦
           let old : HostFits p (hyps (InHand cpu)) (s.shared.host.map p) = subst (λ c. HostFits p c (s.shared.host.map p)) (was p w) (legal.maps.host p) in
           let new : HostFits p (hyps (VmPool v)) (s.shared.host.map p) = old in
-          subst (λ c. HostFits p c (s.shared.host.map p)) (sym (moved-in (hyps (VmPool v)) hand.first.0 hand.count legal.condition p w)) new
-      | inr w ↦ subst (λ c. HostFits p c (s.shared.host.map p)) (sym (moved-out (hyps (VmPool v)) hand.first.0 hand.count legal.condition p w)) (legal.maps.host p)
+          subst (λ c. HostFits p c (s.shared.host.map p)) (sym (moved-in (always (hyps (VmPool v))) hand.first.0 hand.count legal.condition p w)) new
+      | inr w ↦ subst (λ c. HostFits p c (s.shared.host.map p)) (sym (moved-out (always (hyps (VmPool v))) hand.first.0 hand.count legal.condition p w)) (legal.maps.host p)
     ]
 
     -- the frames of the hand go to the guest's pool
-    hand-frames : (part : GuestChange) (k : CpuChange) → (cpu_by k (s.cpu cpu)).hand ≡ None → FramesMove l s legal.condition cpu (Some v) (record no_changes { part = part; cpu = k; moved = (s.cpu cpu).hand }) hand.first.0 hand.count (hyps (VmPool v))
+    hand-frames : (part : GuestChange) (k : CpuChange) → (cpu_by k (s.cpu cpu)).hand ≡ None → FramesMove l s legal.condition cpu (Some v) (record no_changes { part = part; cpu = k; moved = (s.cpu cpu).hand }) hand.first.0 hand.count (always (hyps (VmPool v)))
     hand-frames part k none = record {
       inside = memory-of legal (hyps (InHand cpu)) refl hand.first.0 hand.count was;
-      good = slot;
+      alike = λ q k w z. refl;
+      good = λ q w. slot;
       same_use = λ q w. ap in_shared (was q w);
       host = host-same;
-      hyp = λ f. legal.maps.hyp f ∙ moved-fact (hyp_says f) (hyps (VmPool v)) hand.first.0 hand.count legal.condition f (λ w. ap (hyp_says f) (was f w));
+      hyp = λ f. legal.maps.hyp f ∙ moved-fact (hyp_says f) (always (hyps (VmPool v))) hand.first.0 hand.count legal.condition f (λ w. ap (hyp_says f) (was f w));
       hyp_below = legal.maps.hyp_below;
       touched = λ q. hand-range (s.cpu cpu).hand q some;
       told = λ q w. refl;
@@ -89,7 +90,7 @@ module _ (l : Layout) (s : Contents) (legal : Legal l s) (usable : IsUsable l) (
       host_range = tt;
       hyp_range = tt;
       hand = hands-emptied legal cpu k (hyps (VmPool v)) none some (λ d. refl);
-      own_hand = λ d h. cc;
+      own_hand = λ d q w h. cc;
     }
 
     has-same : (p q : ℕ) (state : State) → after q ≡ guest_condition state v p → legal.condition q ≡ guest_condition state v p
@@ -101,23 +102,23 @@ module _ (l : Layout) (s : Contents) (legal : Legal l s) (usable : IsUsable l) (
       | inl w ↦
           let a : one (is_within hand.first.0 hand.count q) ≡ 1 = ap one w in
           let b : guest_uses l.depth (s.guest v) q ≡ 0 = legal.held.vm v q ∙ ap (λ c. one (in_vm v c)) (was q w) in
-          let c : one (in_vm v (after q)) ≡ 1 = ap (λ d. one (in_vm v d)) (moved-in (hyps (VmPool v)) hand.first.0 hand.count legal.condition q w) ∙ ap one (eq-self v) in
+          let c : one (in_vm v (after q)) ≡ 1 = ap (λ d. one (in_vm v d)) (moved-in (always (hyps (VmPool v))) hand.first.0 hand.count legal.condition q w) ∙ ap one (eq-self v) in
           omega arith
       | inr w ↦
           let a : one (is_within hand.first.0 hand.count q) ≡ 0 = ap one w in
           let b = legal.held.vm v q in
-          let c : one (in_vm v (after q)) ≡ one (in_vm v (legal.condition q)) = ap (λ d. one (in_vm v d)) (moved-out (hyps (VmPool v)) hand.first.0 hand.count legal.condition q w) in
+          let c : one (in_vm v (after q)) ≡ one (in_vm v (legal.condition q)) = ap (λ d. one (in_vm v d)) (moved-out (always (hyps (VmPool v))) hand.first.0 hand.count legal.condition q w) in
           omega arith
     ]
 
-  topup-move : (vm : VmId) → Passed l.depth (topup l x vm) false x → GuestMove l s legal.condition cpu v (topup l x vm).changes hand.first.0 hand.count (hyps (VmPool v))
+  topup-move : (vm : VmId) → Passed l.depth (topup l x vm) false x → GuestMove l s legal.condition cpu v (topup l x vm).changes hand.first.0 hand.count (always (hyps (VmPool v)))
   unfolding used_of guest_after edited freed needs returned
   topup-move vm p =
       let some : is_none (s.cpu cpu).hand ≡ false = (or-neither (is_none (s.cpu cpu).hand) (nat_lt 512 (guest_table_count l (s.guest v).tree + length (s.guest v).free + hand.count)) p.perm).0 in
       let alive = stands-alive vm (s.guest v) p.no_vm in
       record {
         frames = hand-frames some (Gain hand) (hand_becomes None) refl;
-        only_new = eq-self v;
+        only_new = λ q w. eq-self v;
         only_old = λ q w. ap (only v) (was some q w);
         guest = λ q. guest-kept (hyps (VmPool v)) hand.first.0 hand.count legal.condition (λ f w. ap is_pageless (was some f w)) v q ((s.guest v).tree.map q) (legal.maps.guest v q);
         guest_has = λ q w state h. legal.maps.guest_has v q w state (has-same some q w state h);
@@ -139,9 +140,9 @@ module _ (l : Layout) (s : Contents) (legal : Legal l s) (usable : IsUsable l) (
   unfolding used_of
   topup-keeps vm h =
       let p = passed l.depth (topup l x vm) false x h in
-      guest-keeps l s legal usable cpu v (Topup vm) refl (topup l x vm).changes hand.first.0 hand.count (hyps (VmPool v)) (topup-move vm p) p.shared_enough
+      guest-keeps l s legal usable cpu v (Topup vm) refl (topup l x vm).changes hand.first.0 hand.count (always (hyps (VmPool v))) (topup-move vm p) p.shared_enough
 
-  install-move : (t : Ticket) → (s.cpu cpu).ticket ≡ Some t → t.vm.slot ≡ v → t.stage ≡ booked → Passed l.depth (install l x) false x → GuestMove l s legal.condition cpu v (install l x).changes hand.first.0 hand.count (hyps (VmPool v))
+  install-move : (t : Ticket) → (s.cpu cpu).ticket ≡ Some t → t.vm.slot ≡ v → t.stage ≡ booked → Passed l.depth (install l x) false x → GuestMove l s legal.condition cpu v (install l x).changes hand.first.0 hand.count (always (hyps (VmPool v)))
   unfolding used_of guest_after edited freed needs returned
   install-move t has at-slot stage p =
       let some : is_none (s.cpu cpu).hand ≡ false = p.perm in
@@ -152,7 +153,7 @@ module _ (l : Layout) (s : Contents) (legal : Legal l s) (usable : IsUsable l) (
       let kind : ticket_kind (s.cpu cpu) ≡ (s.vms.slot v).kind = (ticket-told (s.cpu cpu) t has).1 ∙ fits.kind ∙ ap (λ u. (s.vms.slot u).kind) at-slot in
       record {
         frames = hand-frames some (Begin (ticket_kind (s.cpu cpu)) (ticket_vm (s.cpu cpu)).generation hand) (record (moved_on installed (s.cpu cpu)) { hand = Becomes None }) refl;
-        only_new = eq-self v;
+        only_new = λ q w. eq-self v;
         only_old = λ q w. ap (only v) (was some q w);
         guest = λ q. inl refl;
         guest_has = λ q w state h. absurd (unnamed q w state blank (has-same some q w state h));
@@ -182,4 +183,4 @@ module _ (l : Layout) (s : Contents) (legal : Legal l s) (usable : IsUsable l) (
   unfolding used_of
   install-keeps t has at stage h =
       let p = passed l.depth (install l x) false x h in
-      guest-keeps l s legal usable cpu v Install refl (install l x).changes hand.first.0 hand.count (hyps (VmPool v)) (install-move t has at stage p) p.shared_enough
+      guest-keeps l s legal usable cpu v Install refl (install l x).changes hand.first.0 hand.count (always (hyps (VmPool v))) (install-move t has at stage p) p.shared_enough

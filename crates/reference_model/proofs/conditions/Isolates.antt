@@ -1,6 +1,6 @@
 -- Isolation of Live guests.
 use Rattle.std.proofs.Common.{◌≡◌, ◌≢◌, ℕ, zero, suc, ◌+◌, ◌-◌, refl, ap, sym, ◌∙◌, subst, arith, inl, inr}
-use Rattle.std.specs.Prelude.{Bool, true, false, not, ◌||◌, ◌==◌, ◌⊎◌, Option, Some, None}
+use Rattle.std.specs.Prelude.{Bool, true, false, not, ◌&&◌, ◌||◌, ◌==◌, ◌⊎◌, Option, Some, None}
 use Rattle.descriptor.specs.declared.Prot.{Prot}
 use Rattle.descriptor.specs.declared.Prot.TheVariants.{RWX}
 use Rattle.descriptor.specs.declared.State.{State}
@@ -16,11 +16,12 @@ use Rattle.step_reply.specs.declared.step.Step.TheVariants.{ShareHyp, UnshareHyp
 use Rattle.step_reply.specs.declared.step.VmId.{VmId}
 use Rattle.reference_model.specs.Conditions.{Condition, outside, hosts, with_hyp, hyps, with_guest, guests, lent_back, HostFits, hyp_says, guest_condition, Legal, IsUsable, row_in}
 use Rattle.page_state.specs.Entries.{advance}
-use Rattle.page_state.specs.EntryTests.{is_in, is_free_page, with_rights, is_mapped, leaf, entry_frame, state_eq, with_state}
+use Rattle.page_state.specs.EntryTests.{is_in, is_free_page, with_rights, is_unmapped, leaf, entry_frame, state_eq, with_state}
 use Rattle.reference_model.specs.GuestRules.{is_guest, phase_eq, is_protected}
 use Rattle.reference_model.specs.Isolation.{PageStays, Isolated, RunIsolated, OthersKeptOut, RunKeptOut, SharesWithHost}
 use Rattle.page_state.specs.Layouts.{Layout, hyp_page}
 use Rattle.page_state.specs.Map.{Map, update, is_within}
+use Rattle.page_state.specs.Search.{all_below}
 use Rattle.reference_model.specs.Parts.{names, guest_slot, loaded_slot, lacks_slot}
 use Rattle.reference_model.specs.Rules.{rule}
 use Rattle.reference_model.specs.Rule.{Rule}
@@ -30,13 +31,13 @@ use Rattle.reference_model.specs.Step.{fails, made, Answered, guest_after, chang
 use Rattle.page_state.specs.Tables.{edited}
 use Rattle.reference_model.specs.Used.{Used, used_of, put_back, put_guest}
 use Rattle.page_state.proofs.Cases.{by_lt}
-use Rattle.page_state.proofs.Common.{both, if-true, if-false, and-both, not-false, eq-same, eq-self, same2}
+use Rattle.page_state.proofs.Common.{both, if-true, if-false, and-both, or-neither, not-false, eq-same, eq-self, same2}
 use Rattle.reference_model.proofs.conditions.Keeps.{legal_keeps, loaded-slot, stage-slot}
 use Rattle.reference_model.proofs.conditions.OfLegal.{legal_rows, leaf-maps}
 use Rattle.reference_model.proofs.conditions.PageMoves.{advance-none}
 use Rattle.reference_model.proofs.conditions.RunsLegal.{ready-usable, run_legal}
 use Rattle.reference_model.proofs.conditions.Slots.{ticket-fits}
-use Rattle.reference_model.proofs.conditions.RangeMoves.{one-within}
+use Rattle.reference_model.proofs.conditions.RangeMoves.{one-within, second-all}
 use Rattle.reference_model.proofs.conditions.Tests.{Passed, passed}
 use Rattle.reference_model.proofs.conditions.SoundOf.{two-more, holds-state, leaf-is}
 
@@ -63,6 +64,13 @@ off-page m g p e n = elim (both (is_within g 1 p)) [
   | inr w ↦ if-false (is_within g 1 p) (advance e (p - g)) (m p) w
 ]
 
+-- and so does that of a page beside a range
+off-range : (m : Map) (g n p : ℕ) (e : Entry) → (is_within g n p ≡ true → ⊥) → update m g n e p ≡ m p
+off-range m g n p e out = elim (both (is_within g n p)) [
+  | inl w ↦ absurd (out w)
+  | inr w ↦ if-false (is_within g n p) (advance e (p - g)) (m p) w
+]
+
 -- the entry of the page itself
 on-page : (m : Map) (g p : ℕ) (e : Entry) → is_within g 1 p ≡ true → update m g 1 e p ≡ e
 on-page m g p e w = if-true (is_within g 1 p) (advance e (p - g)) (m p) w ∙ ap (λ n. advance e (p - n)) (one-within g p w) ∙ advance-none e p
@@ -79,18 +87,19 @@ some-slot h = cc
 no-slot : {P : Type 0} {a : ℕ} → None ≡ Some a → P
 no-slot h = cc
 
-three : (a b c : Bool) → (a || b || c) ≡ false → c ≡ false
-three false false c h = h
-three true b c h = cc
-three false true c h = cc
-
 module _ (l : Layout) (s : Contents) (legal : Legal l s) (cpu v g f : ℕ) (alive : (s.guest v).phase ≡ live) (owns : OwnsAt s v g f) where
   e : Entry
   e = (s.guest v).tree.map g
 
-  -- the page isn't one that is unmapped, nor one that is borrowed
-  not-bare : (p : ℕ) → is_mapped ((s.guest v).tree.map p) ≡ false → p ≡ g → ⊥
-  not-bare p h same = let bad : true ≡ false = sym (ap is_mapped (ap (s.guest v).tree.map same ∙ owns.leaf_is)) ∙ h in cc
+  -- each page of a range of the host is free, and the guest's page of it is unmapped
+  abbrev given_at : ℕ → ℕ → ℕ → Bool
+  given_at q p n = all_below n (λ i. is_free_page (s.shared.host.map (q + i)) && is_unmapped ((s.guest v).tree.map (p + i)))
+
+  -- the page isn't one of the unmapped ones, nor one that is borrowed
+  not-given : (kind : Bool) (q p n : ℕ) → (kind || not (given_at q p n)) ≡ false → is_within p n g ≡ true → ⊥
+  not-given kind q p n h w =
+      let t : is_unmapped ((s.guest v).tree.map g) ≡ true = second-all q p n (λ k. is_free_page (s.shared.host.map k)) (λ k. is_unmapped ((s.guest v).tree.map k)) (not-false (given_at q p n) (or-neither kind (not (given_at q p n)) h).1) g w in
+      let bad : false ≡ true = sym (ap is_unmapped owns.leaf_is) ∙ t in cc
 
   not-borrowed : (p : ℕ) → not (is_in SharedBorrowed ((s.guest v).tree.map p)) ≡ false → p ≡ g → ⊥
   not-borrowed p h same =
@@ -128,9 +137,9 @@ module _ (l : Layout) (s : Contents) (legal : Legal l s) (cpu v g f : ℕ) (aliv
 
   page-after : (step : Step) → Some v ≡ guest_slot (s.cpu cpu) step → fails l cpu (Some v) step (x_at step) ≡ None → Stands step
   unfolding rule guest_after edited used_of e
-  page-after (ShareGuest q p r) at h = inl (off-page (s.guest v).tree.map p g (leaf r q SharedBorrowed) (not-bare p (three (is_protected (s.guest v).kind) (not (is_free_page (s.shared.host.map q))) (is_mapped ((s.guest v).tree.map p)) (pass (ShareGuest q p r) h).perm)))
+  page-after (ShareGuest q p r n) at h = inl (off-range (s.guest v).tree.map p n g (leaf r q SharedBorrowed) (not-given (is_protected (s.guest v).kind) q p n (pass (ShareGuest q p r n) h).perm))
   page-after (UnshareGuest vm p) at h = inl (off-page (s.guest v).tree.map p g Unmapped (not-borrowed p (pass (UnshareGuest vm p) h).perm))
-  page-after (DonateGuest q p) at h = inl (off-page (s.guest v).tree.map p g (leaf RWX q Owned) (not-bare p (three (not (is_protected (s.guest v).kind)) (not (is_free_page (s.shared.host.map q))) (is_mapped ((s.guest v).tree.map p)) (pass (DonateGuest q p) h).perm)))
+  page-after (DonateGuest q p n) at h = inl (off-range (s.guest v).tree.map p n g (leaf RWX q Owned) (not-given (not (is_protected (s.guest v).kind)) q p n (pass (DonateGuest q p n) h).perm))
   page-after (GuestShareHost p) at h = elim (both (is_within p 1 g)) [
     | inl w ↦ inr (inl (ap GuestShareHost (one-within p g w), on-page (s.guest v).tree.map p g (with_state SharedOwned ((s.guest v).tree.map p)) w ∙ ap (λ n. with_state SharedOwned ((s.guest v).tree.map n)) (one-within p g w)))
     | inr w ↦ inl (if-false (is_within p 1 g) (advance (with_state SharedOwned ((s.guest v).tree.map p)) (g - p)) ((s.guest v).tree.map g) w)

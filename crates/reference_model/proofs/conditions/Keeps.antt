@@ -116,7 +116,7 @@ module _ (l : Layout) (usable : IsUsable l) (s : Contents) (legal : Legal l s) (
 
   -- a step that touches no frame
   alone : {n : Names} {slot : Option ℕ} {step : Step} {h : Changes} → LegalAlone l s legal (put_back n slot cpu s (with_rows l cpu slot step h (changed l.depth h (used_of n slot cpu s)))) → ((f : ℕ) → is_touched h f ≡ true → ⊥) → StepKept l s legal.condition n slot cpu step h
-  alone {n} {slot} {step} {h} kept none = record { legal = kept.0; told = λ f m k. absurd (none f k); moved = λ f. kept.1 f ∙ moved-none l (told_condition cpu slot h) (legal.condition f) f (is_touched h f) (none f); whole = λ f k. absurd (none f k) }
+  alone {n} {slot} {step} {h} kept none = record { legal = kept.0; told = λ f m k. absurd (none f k); moved = λ f. kept.1 f ∙ moved-none l (told_condition cpu slot h f) (legal.condition f) f (is_touched h f) (none f); whole = λ f k. absurd (none f k) }
 
   pub each : (step : Step) (slot : Option ℕ) → slot ≡ guest_slot (s.cpu cpu) step → Keeps slot step
   unfolding rule fails made KeepsIf used_if back_if used_of put_back
@@ -130,9 +130,9 @@ module _ (l : Layout) (usable : IsUsable l) (s : Contents) (legal : Legal l s) (
   each (OwnerOf p) None e h = owner_of-keeps l s legal usable cpu p h
   each (Fund f n) None e h = fund-keeps l s legal usable cpu f n known h
   each Unfund None e h = unfund-keeps l s legal usable cpu h
-  each (ShareGuest f g p) (Some v) e h = let a = loaded-at v (sym e) in share_guest-keeps l s legal usable cpu v a.0 a.1 f g p h
+  each (ShareGuest f g p n) (Some v) e h = let a = loaded-at v (sym e) in share_guest-keeps l s legal usable cpu v a.0 a.1 f g p n h
   each (UnshareGuest vm g) (Some v) e h = unshare_guest-keeps l s legal usable cpu v (named-slot vm v (sym e)) vm g h
-  each (DonateGuest f g) (Some v) e h = let a = loaded-at v (sym e) in donate_guest-keeps l s legal usable cpu v a.0 a.1 f g h
+  each (DonateGuest f g n) (Some v) e h = let a = loaded-at v (sym e) in donate_guest-keeps l s legal usable cpu v a.0 a.1 f g n h
   each (GuestShareHost g) (Some v) e h = let a = loaded-at v (sym e) in guest_share_host-keeps l s legal usable cpu v a.0 a.1 g h
   each (GuestUnshareHost g) (Some v) e h = let a = loaded-at v (sym e) in guest_unshare_host-keeps l s legal usable cpu v a.0 a.1 g h
   each Install (Some v) e h = let a = staged-at booked v (sym e) in install-keeps l s legal usable cpu v a.0 a.1.0 a.1.1 a.1.2 a.1.3 h

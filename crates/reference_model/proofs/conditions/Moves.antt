@@ -17,17 +17,21 @@ use Rattle.reference_model.specs.Sound.{IsOne, SlotsAgree, LoadsAgree, GuestsAgr
 use Rattle.reference_model.specs.Conditions.{Condition, outside, hosts, with_hyp, hyps, with_guest, guests, lent_back, HostFits, hyp_says, guest_condition, GuestFits, row_in, in_vm, is_inside, Legal}
 use Rattle.page_state.proofs.Common.{both, eq-same, if-true, if-false}
 
--- the conditions with another one on a range
-abbrev pub moved_to : Condition → ℕ → ℕ → (ℕ → Condition) → ℕ → Condition
-moved_to c first count condition f = if is_within first count f then c else condition f
+-- the conditions with others on a range, each told by its frame
+abbrev pub moved_to : (ℕ → Condition) → ℕ → ℕ → (ℕ → Condition) → ℕ → Condition
+moved_to c first count condition f = if is_within first count f then c f else condition f
+
+-- one condition for each frame
+abbrev pub always : Condition → ℕ → Condition
+always c f = c
 
 -- maps
 
-pub moved-in : (c : Condition) (first n : ℕ) (condition : ℕ → Condition) (f : ℕ) → is_within first n f ≡ true → moved_to c first n condition f ≡ c
-moved-in c first n condition f h = if-true (is_within first n f) c (condition f) h
+pub moved-in : (c : ℕ → Condition) (first n : ℕ) (condition : ℕ → Condition) (f : ℕ) → is_within first n f ≡ true → moved_to c first n condition f ≡ c f
+moved-in c first n condition f h = if-true (is_within first n f) (c f) (condition f) h
 
-pub moved-out : (c : Condition) (first n : ℕ) (condition : ℕ → Condition) (f : ℕ) → is_within first n f ≡ false → moved_to c first n condition f ≡ condition f
-moved-out c first n condition f h = if-false (is_within first n f) c (condition f) h
+pub moved-out : (c : ℕ → Condition) (first n : ℕ) (condition : ℕ → Condition) (f : ℕ) → is_within first n f ≡ false → moved_to c first n condition f ≡ condition f
+moved-out c first n condition f h = if-false (is_within first n f) (c f) (condition f) h
 
 pub outside-is : (c : Condition) → is_inside c ≡ false → c ≡ outside
 outside-is outside h = refl
@@ -51,13 +55,13 @@ chosen-out true false d k p = refl
 chosen-out false t d k p = refl
 
 -- a move of a range is one of its memory frames, since what isn't memory stays outside
-pub moved-told : (l : Layout) (c d : Condition) (first n : ℕ) (condition : ℕ → Condition) (f : ℕ) (touched : Bool) → touched ≡ is_within first n f → (is_within first n f ≡ true → is_memory l f ≡ is_inside c) → is_inside (condition f) ≡ is_memory l f
-    → (is_within first n f ≡ true → is_memory l f ≡ true → c ≡ d) → moved_to c first n condition f ≡ chosen (is_memory l f && touched) d (condition f)
+pub moved-told : (l : Layout) (c : ℕ → Condition) (d : Condition) (first n : ℕ) (condition : ℕ → Condition) (f : ℕ) (touched : Bool) → touched ≡ is_within first n f → (is_within first n f ≡ true → is_memory l f ≡ is_inside (c f)) → is_inside (condition f) ≡ is_memory l f
+    → (is_within first n f ≡ true → is_memory l f ≡ true → c f ≡ d) → moved_to c first n condition f ≡ chosen (is_memory l f && touched) d (condition f)
 moved-told l c d first n condition f touched same inside was goes = elim (both (is_within first n f)) [
   | inr w ↦ moved-out c first n condition f w ∙ sym (chosen-out (is_memory l f) touched d (condition f) (same ∙ w))
   | inl w ↦ elim (both (is_memory l f)) [
     | inl m ↦ moved-in c first n condition f w ∙ goes w m ∙ sym (chosen-in (is_memory l f) touched d (condition f) m (same ∙ w))
-    | inr m ↦ moved-in c first n condition f w ∙ outside-is c (sym (inside w) ∙ m) ∙ sym (outside-is (condition f) (was ∙ m)) ∙ sym (chosen-other (is_memory l f) touched d (condition f) m)
+    | inr m ↦ moved-in c first n condition f w ∙ outside-is (c f) (sym (inside w) ∙ m) ∙ sym (outside-is (condition f) (was ∙ m)) ∙ sym (chosen-other (is_memory l f) touched d (condition f) m)
   ]
 ]
 
@@ -70,10 +74,10 @@ pub moved-none : (l : Layout) (d k : Condition) (f : ℕ) (touched : Bool) → (
 moved-none l d k f true none = absurd (none refl)
 moved-none l d k f false none = sym (chosen-out (is_memory l f) false d k refl)
 
-pub host-moved : (m : Map) (first n : ℕ) (e : Entry) (c : Condition) (condition : ℕ → Condition) → ((p : ℕ) → is_within first n p ≡ true → HostFits p c (advance e (p - first))) → ((p : ℕ) → HostFits p (condition p) (m p)) → (p : ℕ) → HostFits p (moved_to c first n condition p) (update m first n e p)
+pub host-moved : (m : Map) (first n : ℕ) (e : Entry) (c condition : ℕ → Condition) → ((p : ℕ) → is_within first n p ≡ true → HostFits p (c p) (advance e (p - first))) → ((p : ℕ) → HostFits p (condition p) (m p)) → (p : ℕ) → HostFits p (moved_to c first n condition p) (update m first n e p)
 host-moved m first n e c condition new old p = go (is_within first n p) (new p) (old p)
   where
-    go : (b : Bool) → (b ≡ true → HostFits p c (advance e (p - first))) → HostFits p (condition p) (m p) → HostFits p (if b then c else condition p) (if b then advance e (p - first) else m p)
+    go : (b : Bool) → (b ≡ true → HostFits p (c p) (advance e (p - first))) → HostFits p (condition p) (m p) → HostFits p (if b then c p else condition p) (if b then advance e (p - first) else m p)
     go true new old = new refl
     go false new old = old
 
@@ -83,7 +87,7 @@ within-hyp first n f = elim (both (is_within first n f)) [
   | inr e ↦ let a : is_within (hyp_page first) n (hyp_page f) ≡ false = grind (arith, nat_tests) in a ∙ sym e
 ]
 
-pub hyp-moved : (m : Map) (first n : ℕ) (e : Entry) (c : Condition) (condition : ℕ → Condition) → ((f : ℕ) → is_within first n f ≡ true → advance e (f - first) ≡ hyp_says f c) → ((f : ℕ) → m (hyp_page f) ≡ hyp_says f (condition f)) → (f : ℕ) → update m (hyp_page first) n e (hyp_page f) ≡ hyp_says f (moved_to c first n condition f)
+pub hyp-moved : (m : Map) (first n : ℕ) (e : Entry) (c condition : ℕ → Condition) → ((f : ℕ) → is_within first n f ≡ true → advance e (f - first) ≡ hyp_says f (c f)) → ((f : ℕ) → m (hyp_page f) ≡ hyp_says f (condition f)) → (f : ℕ) → update m (hyp_page first) n e (hyp_page f) ≡ hyp_says f (moved_to c first n condition f)
 hyp-moved m first n e c condition new old f = elim (both (is_within first n f)) [
   | inl h ↦
       let at : hyp_page f - hyp_page first ≡ f - first = omega arith in
@@ -108,7 +112,7 @@ pageless-named c SharedBorrowed v g h e = let bad : true ≡ false = sym h ∙ a
 
 -- guests' entries, where frames go from conditions that name no page of a guest to such a condition
 
-pub guest-kept : (c : Condition) (first n : ℕ) (condition : ℕ → Condition) → ((f : ℕ) → is_within first n f ≡ true → is_pageless (condition f) ≡ true) → (v g : ℕ) (e : Entry) → GuestFits condition v g e → GuestFits (moved_to c first n condition) v g e
+pub guest-kept : (c : Condition) (first n : ℕ) (condition : ℕ → Condition) → ((f : ℕ) → is_within first n f ≡ true → is_pageless (condition f) ≡ true) → (v g : ℕ) (e : Entry) → GuestFits condition v g e → GuestFits (moved_to (always c) first n condition) v g e
 guest-kept c first n condition was v g e (inl h) = inl h
 guest-kept c first n condition was v g e (inr h) = inr (record {
   frame = h.frame;
@@ -117,14 +121,14 @@ guest-kept c first n condition was v g e (inr h) = inr (record {
   leaf_is = h.leaf_is;
   named = elim (both (is_within first n h.frame)) [
     | inl w ↦ pageless-named (condition h.frame) h.state v g (was h.frame w) h.named
-    | inr w ↦ moved-out c first n condition h.frame w ∙ h.named
+    | inr w ↦ moved-out (always c) first n condition h.frame w ∙ h.named
   ];
 })
 
-pub has-kept : (c : Condition) (first n : ℕ) (condition : ℕ → Condition) → is_pageless c ≡ true → (v g f : ℕ) (state : State) → moved_to c first n condition f ≡ guest_condition state v g → condition f ≡ guest_condition state v g
+pub has-kept : (c : Condition) (first n : ℕ) (condition : ℕ → Condition) → is_pageless c ≡ true → (v g f : ℕ) (state : State) → moved_to (always c) first n condition f ≡ guest_condition state v g → condition f ≡ guest_condition state v g
 has-kept c first n condition new v g f state h = elim (both (is_within first n f)) [
-  | inl w ↦ pageless-named c state v g new (sym (moved-in c first n condition f w) ∙ h)
-  | inr w ↦ sym (moved-out c first n condition f w) ∙ h
+  | inl w ↦ pageless-named c state v g new (sym (moved-in (always c) first n condition f w) ∙ h)
+  | inr w ↦ sym (moved-out (always c) first n condition f w) ∙ h
 ]
 
 -- a condition that names no guest
@@ -162,19 +166,19 @@ pub record CalmMove (c : Condition) (first n : ℕ) (condition : ℕ → Conditi
   pub was_calm : (f : ℕ) → is_within first n f ≡ true → is_calm (condition f) ≡ true
 
 -- a fact on the condition of each frame, where a move doesn't change it
-pub moved-fact : {X : Type 0} (see : Condition → X) (c : Condition) (first n : ℕ) (condition : ℕ → Condition) (f : ℕ) → (is_within first n f ≡ true → see (condition f) ≡ see c) → see (condition f) ≡ see (moved_to c first n condition f)
+pub moved-fact : {X : Type 0} (see : Condition → X) (c : ℕ → Condition) (first n : ℕ) (condition : ℕ → Condition) (f : ℕ) → (is_within first n f ≡ true → see (condition f) ≡ see (c f)) → see (condition f) ≡ see (moved_to c first n condition f)
 moved-fact see c first n condition f h = go (is_within first n f) h
   where
-    go : (b : Bool) → (b ≡ true → see (condition f) ≡ see c) → see (condition f) ≡ see (if b then c else condition f)
+    go : (b : Bool) → (b ≡ true → see (condition f) ≡ see (c f)) → see (condition f) ≡ see (if b then c f else condition f)
     go true h = h refl
     go false h = refl
 
-pub moved-all : (P : Condition → Type 0) (c : Condition) (first n : ℕ) (condition : ℕ → Condition) (f : ℕ) → P c → P (condition f) → P (moved_to c first n condition f)
-moved-all P c first n condition f new old = go (is_within first n f)
+pub moved-all : (P : Condition → Type 0) (c : ℕ → Condition) (first n : ℕ) (condition : ℕ → Condition) (f : ℕ) → (is_within first n f ≡ true → P (c f)) → P (condition f) → P (moved_to c first n condition f)
+moved-all P c first n condition f new old = go (is_within first n f) new
   where
-    go : (b : Bool) → P (if b then c else condition f)
-    go true = new
-    go false = old
+    go : (b : Bool) → (b ≡ true → P (c f)) → P (if b then c f else condition f)
+    go true new = new refl
+    go false new = old
 
 -- slots
 
@@ -234,11 +238,11 @@ cpu-fact see k cpu new c e = elim (both (c == cpu)) [
 
 -- rows
 
-pub rows-moved : (l : Layout) (own old : ℕ → Row) (touched : Bool) (c : Condition) (first n : ℕ) (condition : ℕ → Condition) (f : ℕ) → is_memory l f ≡ true → touched ≡ is_within first n f → (is_within first n f ≡ true → own f ≡ row_in f c) → old f ≡ row_in f (condition f)
+pub rows-moved : (l : Layout) (own old : ℕ → Row) (touched : Bool) (c : ℕ → Condition) (first n : ℕ) (condition : ℕ → Condition) (f : ℕ) → is_memory l f ≡ true → touched ≡ is_within first n f → (is_within first n f ≡ true → own f ≡ row_in f (c f)) → old f ≡ row_in f (condition f)
     → elim (is_memory l f && touched) [ true ↦ own f | false ↦ old f ] ≡ row_in f (moved_to c first n condition f)
 rows-moved l own old touched c first n condition f m t new kept = go (is_memory l f) touched (is_within first n f) m t new
   where
-    go : (a b w : Bool) → a ≡ true → b ≡ w → (w ≡ true → own f ≡ row_in f c) → elim (a && b) [ true ↦ own f | false ↦ old f ] ≡ row_in f (if w then c else condition f)
+    go : (a b w : Bool) → a ≡ true → b ≡ w → (w ≡ true → own f ≡ row_in f (c f)) → elim (a && b) [ true ↦ own f | false ↦ old f ] ≡ row_in f (if w then c f else condition f)
     go true true true p q new = new refl
     go true false false p q new = kept
     go true true false p q new = cc

@@ -1,4 +1,4 @@
--- The made steps that change a host page and a guest page keep the invariant.
+-- The made steps that change pages of the host and of a guest keep the invariant.
 use Rattle.std.proofs.Common.{◌≤◌, length, ◌≡◌, ◌≢◌, ℕ, ◌+◌, ◌-◌, ◌<◌, refl, ap, sym, ◌∙◌, subst, arith, inl, inr}
 use Rattle.std.specs.Prelude.{Bool, true, false, not, ◌||◌, ◌==◌, ◌⊎◌, nat_le, Some, None, if◌then◌else◌}
 use Rattle.std.proofs.lemmas.Bool.Decides.{nat_tests}
@@ -13,12 +13,12 @@ use Rattle.step_reply.specs.declared.step.Step.{Step}
 use Rattle.step_reply.specs.declared.step.Step.TheVariants.{ShareGuest, UnshareGuest, DonateGuest, GuestShareHost, GuestUnshareHost, ReclaimPage}
 use Rattle.step_reply.specs.declared.step.VmId.{VmId}
 use Rattle.page_state.specs.Entries.{advance}
-use Rattle.page_state.specs.EntryTests.{is_unmapped, is_mapped, is_in, is_free_page, leaf, entry_frame, with_state}
+use Rattle.page_state.specs.EntryTests.{is_unmapped, is_in, is_free_page, leaf, entry_frame, with_state}
 use Rattle.page_state.specs.Geometries.{pages_below}
-use Rattle.reference_model.specs.GuestRules.{share_guest, unshare_guest, donate_guest, guest_share_host, guest_unshare_host, reclaim_page, is_guest, phase_eq, two_pages}
+use Rattle.reference_model.specs.GuestRules.{share_guest, unshare_guest, donate_guest, guest_share_host, guest_unshare_host, reclaim_page, is_guest, phase_eq, is_protected, two_ranges, are_good_pages, may_give}
 use Rattle.page_state.specs.Map.{is_within}
-use Rattle.reference_model.specs.State.{Guest, Contents, empty, live, dying, plain_row}
-use Rattle.page_state.specs.Layouts.{Layout, is_memory, is_good_page}
+use Rattle.reference_model.specs.State.{Guest, Contents, empty, live, dying}
+use Rattle.page_state.specs.Layouts.{Layout, is_memory, is_good_range, is_good_page}
 use Rattle.reference_model.specs.Parts.{names, shared_and_guest}
 use Rattle.reference_model.specs.Used.{Used, used_of}
 use Rattle.reference_model.specs.Step.{refusal, shared_need, guest_need}
@@ -31,8 +31,8 @@ use Rattle.reference_model.proofs.conditions.FrameMoves.{StepKept}
 use Rattle.page_state.proofs.Common.{eq-self, and-both, or-neither, not-false}
 use Rattle.reference_model.proofs.conditions.GuestMoves.{only, g_of, guest-keeps}
 use Rattle.reference_model.proofs.conditions.OfLegal.{state_eq-same}
-use Rattle.reference_model.proofs.conditions.PageMoves.{PageMove, page-move}
-use Rattle.reference_model.proofs.conditions.RangeMoves.{range-advance, one-within, advance-leaf, free-is}
+use Rattle.reference_model.proofs.conditions.PageMoves.{PagesMove, advance-none, within-turned, turned-back, pages-move}
+use Rattle.reference_model.proofs.conditions.RangeMoves.{within-is, range-advance, one-within, one-frame, advance-leaf, good-range, good-pages, both-all, free-is}
 use Rattle.reference_model.proofs.conditions.Tests.{passed}
 
 -- conditions that name a guest's page
@@ -95,7 +95,7 @@ hosts-named Owned v g h = cc
 hosts-named SharedOwned v g h = cc
 hosts-named SharedBorrowed v g h = cc
 
--- a frame and a guest's page before, and after, a step: the frame is the host's and nothing stands at the page, or the condition names the page
+-- a frame and a guest's page of it before, and after, a step: the frame is the host's and the page is unmapped, or the condition names the page
 
 data Side : Type 0 where
   apart : Side
@@ -109,20 +109,21 @@ abbrev SideFits : Side → ℕ → Entry → Type 0
 SideFits apart f e = e ≡ Unmapped
 SideFits (joined a) f e = IsMemoryLeaf f a e
 
--- the memory frame and the page before
-record SideBefore (l : Layout) (s : Contents) (condition : ℕ → Condition) (v f g : ℕ) (old : Side) : Type 0 where
-  memory : is_memory l f ≡ true
-  page : g < pages_below l.depth
+-- the memory frames and their pages before
+record SideBefore (l : Layout) (s : Contents) (condition : ℕ → Condition) (v f g n : ℕ) (old : Side) : Type 0 where
+  some : 1 ≤ n
+  memory : (q : ℕ) → is_within f n q ≡ true → is_memory l q ≡ true
+  pages : g + n ≤ pages_below l.depth
   alive : (s.guest v).phase ≢ empty
-  was : condition f ≡ side_condition old v g
-  stood : SideFits old f ((s.guest v).tree.map g)
+  was : (q : ℕ) → is_within f n q ≡ true → condition q ≡ side_condition old v (g + (q - f))
+  stood : (q : ℕ) → is_within f n q ≡ true → SideFits old q ((s.guest v).tree.map (g + (q - f)))
 
--- and after a change of the host's page and the guest's
-record SideAfter (v f : ℕ) (e : Entry) (g : ℕ) (e' : Entry) (new : Side) : Type 0 where
-  stands : SideFits new f e'
-  host : (p : ℕ) → is_within f 1 p ≡ true → HostFits p (side_condition new v g) (advance e (p - f))
-  told : (cpu q : ℕ) → is_within f 1 q ≡ true → row_in q (side_condition new v g) ≡ told_row cpu (Some v) (two_pages f e g e') q
-  goes : (cpu : ℕ) → side_condition new v g ≡ told_condition cpu (Some v) (two_pages f e g e')
+-- and after a change of the host's pages and the guest's
+record SideAfter (v f : ℕ) (e : Entry) (g : ℕ) (e' : Entry) (n : ℕ) (new : Side) : Type 0 where
+  stands : (q : ℕ) → is_within f n q ≡ true → SideFits new q (advance e' (q - f))
+  host : (q : ℕ) → is_within f n q ≡ true → HostFits q (side_condition new v (g + (q - f))) (advance e (q - f))
+  told : (cpu q : ℕ) → is_within f n q ≡ true → row_in q (side_condition new v (g + (q - f))) ≡ told_row cpu (Some v) (two_ranges f e g e' n) q
+  goes : (cpu q : ℕ) → is_within f n q ≡ true → side_condition new v (g + (q - f)) ≡ told_condition cpu (Some v) (two_ranges f e g e' n) q
 
 side-only : (a : Side) (v g : ℕ) → only v (side_condition a v g) ≡ true
 side-only apart v g = refl
@@ -165,28 +166,45 @@ side-frame : (a : Side) (f q : ℕ) (b : State) (e : Entry) → SideFits a f e �
 side-frame apart f q b e h k = let bad : Unmapped ≡ leaf k.0 q b = sym h ∙ k.1 in cc
 side-frame (joined a) f q b e h k = ap entry_frame (sym k.1 ∙ h.1)
 
-side-move : (l : Layout) (s : Contents) (legal : Legal l s) {v f : ℕ} {e : Entry} {g : ℕ} {e' : Entry} {old new : Side} → v < 64 → SideBefore l s legal.condition v f g old → SideAfter v f e g e' new → PageMove l s legal.condition v f e g e' (side_condition new v g)
-side-move l s legal {v} {f} {e} {g} {e'} {old} {new} slot b m = record {
+side-move : (l : Layout) (s : Contents) (legal : Legal l s) {v f : ℕ} {e : Entry} {g : ℕ} {e' : Entry} {n : ℕ} {old new : Side} → v < 64 → SideBefore l s legal.condition v f g n old → SideAfter v f e g e' n new → PagesMove l s legal.condition v f e g e' n (λ q. side_condition new v (g + (q - f)))
+side-move l s legal {v} {f} {e} {g} {e'} {n} {old} {new} slot b m = record {
+  some_pages = b.some;
   memory = b.memory;
-  page = b.page;
+  pages = b.pages;
   alive = b.alive;
-  good = side-good l new v g slot b.page;
-  some = side-inside new v g;
-  only_new = side-only new v g;
-  only_old = ap (only v) b.was ∙ side-only old v g;
-  same_shared = ap in_shared b.was ∙ side-shared old v g ∙ sym (side-shared new v g);
-  same_vm = ap (in_vm v) b.was ∙ side-vm old v v g ∙ sym (side-vm new v v g);
-  same_hand = λ d. ap (in_hand d) b.was ∙ side-hand old d v g ∙ sym (side-hand new d v g);
-  no_hand = λ d. side-hand new d v g;
-  same_hyp = ap (hyp_says f) b.was ∙ side-hyp old f v g ∙ sym (side-hyp new f v g);
+  good = λ q w. side-good l new v (g + (q - f)) slot (page-low q w);
+  some = λ q w. side-inside new v (g + (q - f));
+  only_new = λ q w. side-only new v (g + (q - f));
+  only_old = λ q w. ap (only v) (b.was q w) ∙ side-only old v (g + (q - f));
+  same_shared = λ q w. ap in_shared (b.was q w) ∙ side-shared old v (g + (q - f)) ∙ sym (side-shared new v (g + (q - f)));
+  same_vm = λ q w. ap (in_vm v) (b.was q w) ∙ side-vm old v v (g + (q - f)) ∙ sym (side-vm new v v (g + (q - f)));
+  same_hand = λ d q w. ap (in_hand d) (b.was q w) ∙ side-hand old d v (g + (q - f)) ∙ sym (side-hand new d v (g + (q - f)));
+  no_hand = λ d q w. side-hand new d v (g + (q - f));
+  same_hyp = λ q w. ap (hyp_says q) (b.was q w) ∙ side-hyp old q v (g + (q - f)) ∙ sym (side-hyp new q v (g + (q - f)));
   host = m.host;
   told = m.told;
   goes = m.goes;
-  old_page = λ p state h. (side-page old v g p state (sym b.was ∙ h)).0;
-  old_frame = λ q state h. side-frame old f q state ((s.guest v).tree.map g) b.stood (legal.maps.guest_has v g q state h);
-  new_page = side-new new v f g e' m.stands;
-  new_has = λ p state h. let k = side-page new v g p state h in (k.0, subst (λ a. SideFits a f e') k.1 m.stands);
+  old_page = λ q p state w h. (side-page old v (g + (q - f)) p state (sym (b.was q w) ∙ h)).0;
+  old_frame = λ q p state w h. side-frame old (f + (p - g)) q state ((s.guest v).tree.map p) (stood-at p w) (legal.maps.guest_has v p q state h);
+  new_page = λ p w. subst (Lands p) (at-page p w) (side-new new v (f + (p - g)) (g + (f + (p - g) - f)) (advance e' (p - g)) (stands-at p w));
+  new_has = λ q p state w h. let k = side-page new v (g + (q - f)) p state h in (k.0, subst (λ a. SideFits a q (advance e' (q - f))) k.1 (m.stands q w));
 }
+  where
+    page-low : (q : ℕ) → is_within f n q ≡ true → g + (q - f) < pages_below l.depth
+    page-low q w = let at = within-is f n q w in let low : f ≤ q = at.0 in let high : q < f + n = at.1 in let all : g + n ≤ pages_below l.depth = b.pages in omega arith
+
+    -- the page of the frame of a page
+    at-page : (p : ℕ) → is_within g n p ≡ true → g + (f + (p - g) - f) ≡ p
+    at-page p w = turned-back g f n p w
+
+    stood-at : (p : ℕ) → is_within g n p ≡ true → SideFits old (f + (p - g)) ((s.guest v).tree.map p)
+    stood-at p w = subst (λ k. SideFits old (f + (p - g)) ((s.guest v).tree.map k)) (at-page p w) (b.stood (f + (p - g)) (within-turned g f n p w))
+
+    stands-at : (p : ℕ) → is_within g n p ≡ true → SideFits new (f + (p - g)) (advance e' (p - g))
+    stands-at p w = let same : f + (p - g) - f ≡ p - g = omega arith in subst (λ k. SideFits new (f + (p - g)) (advance e' k)) same (m.stands (f + (p - g)) (within-turned g f n p w))
+
+    Lands : ℕ → ℕ → Type 0
+    Lands p k = (advance e' (p - g) ≡ Unmapped) ⊎ ((prot : Prot) × (state : State) × (advance e' (p - g) ≡ leaf prot (f + (p - g)) state) × (side_condition new v (g + (f + (p - g) - f)) ≡ guest_condition state v k))
 
 -- what the guest's entry tells of the frame
 
@@ -217,7 +235,7 @@ named-memory l s legal f v g state h = sym (legal.of_layout.inside f) ∙ ap is_
 pub good-page : (l : Layout) (g : ℕ) → not (is_good_page l g) ≡ false → g < pages_below l.depth
 good-page l g h = let t : is_good_page l g ≡ true = not-false (is_good_page l g) h in grind (arith, nat_tests)
 
-unmapped-entry : (e : Entry) → is_mapped e ≡ false → e ≡ Unmapped
+unmapped-entry : (e : Entry) → is_unmapped e ≡ true → e ≡ Unmapped
 unmapped-entry Unmapped h = refl
 unmapped-entry e h = cc
 
@@ -238,6 +256,13 @@ stands-alive vm g h = by_test (is_guest live vm g) (λ a. live-alive vm g a) (λ
 page-advance : (f q g : ℕ) → is_within f 1 q ≡ true → g ≡ g + (q - f)
 page-advance f q g w = let same = one-within f q w in omega arith
 
+-- what holds of a frame and its page holds along the range of that frame
+one-page : (f g : ℕ) (P : ℕ → ℕ → Type 0) → P f g → (q : ℕ) → is_within f 1 q ≡ true → P q (g + (q - f))
+one-page f g P p q w = subst (λ k. P k (g + (q - f))) (one-within f q w) (subst (P f) (page-advance f q g w) p)
+
+one-stands : (new : Side) (f : ℕ) (e' : Entry) → SideFits new f e' → (q : ℕ) → is_within f 1 q ≡ true → SideFits new q (advance e' (q - f))
+one-stands new f e' h = one-frame f (λ q. SideFits new q (advance e' (q - f))) (subst (SideFits new f) (sym (advance-none e' f)) h)
+
 module _ (l : Layout) (s : Contents) (legal : Legal l s) (usable : IsUsable l) (cpu v : ℕ) (slot : v < 64) where
   abbrev pub x : Used
   x = g_of v cpu s
@@ -249,80 +274,95 @@ module _ (l : Layout) (s : Contents) (legal : Legal l s) (usable : IsUsable l) (
   abbrev frame_at : ℕ → ℕ
   frame_at g = entry_frame (entry_at g)
 
-  three : {a b c : Bool} → (a || b || c) ≡ false → (a ≡ false) × (b ≡ false) × (c ≡ false)
-  three {a = false} {b = false} h = (refl, refl, h)
-  three {a = true} h = cc
-  three {a = false} {b = true} h = cc
-
-  -- a free frame of the host and a page at which nothing stands
-  free-before : (f g : ℕ) → (s.guest v).phase ≢ empty → (not (is_memory l f) || not (is_good_page l g)) ≡ false → not (is_free_page (s.shared.host.map f)) ≡ false → is_mapped (entry_at g) ≡ false → SideBefore l s legal.condition v f g apart
-  free-before f g alive args free bare =
-      let a = or-neither (not (is_memory l f)) (not (is_good_page l g)) args in
-      let mem : is_memory l f ≡ true = not-false (is_memory l f) a.0 in
-      record { memory = mem; page = good-page l g a.1; alive = alive; was = free-is legal f mem (not-false (is_free_page (s.shared.host.map f)) free); stood = unmapped-entry (entry_at g) bare }
+  -- free frames of the host and unmapped pages
+  free-before : (f g n : ℕ) (kind : Bool) → (s.guest v).phase ≢ empty → (not (is_good_range l f n) || not (are_good_pages l g n)) ≡ false → (kind || not (may_give x f g n)) ≡ false → SideBefore l s legal.condition v f g n apart
+  unfolding used_of
+  free-before f g n kind alive args perm =
+      let a = or-neither (not (is_good_range l f n)) (not (are_good_pages l g n)) args in
+      let good = good-range l f n (not-false (is_good_range l f n) a.0) in
+      let t = both-all f g n (λ q. is_free_page (s.shared.host.map q)) (λ p. is_unmapped (entry_at p)) (not-false (may_give x f g n) (or-neither kind (not (may_give x f g n)) perm).1) in
+      record {
+        some = good.0;
+        memory = good.1;
+        pages = good-pages l g n good.0 a.1;
+        alive = alive;
+        was = λ q w. free-is legal q (good.1 q w) (t q w).0;
+        stood = λ q w. unmapped-entry (entry_at (g + (q - f))) (t q w).1;
+      }
 
   -- a page and the frame that it maps
-  named-before : (g : ℕ) (state : State) → (s.guest v).phase ≢ empty → not (is_good_page l g) ≡ false → Named s legal.condition v g state → SideBefore l s legal.condition v (frame_at g) g (joined state)
-  named-before g state alive good at = record { memory = named-memory l s legal (frame_at g) v g state at.named; page = good-page l g good; alive = alive; was = at.named; stood = at.is_leaf }
+  named-before : (g : ℕ) (state : State) → (s.guest v).phase ≢ empty → not (is_good_page l g) ≡ false → Named s legal.condition v g state → SideBefore l s legal.condition v (frame_at g) g 1 (joined state)
+  named-before g state alive good at = record {
+    some = omega arith;
+    memory = one-frame (frame_at g) (λ q. is_memory l q ≡ true) (named-memory l s legal (frame_at g) v g state at.named);
+    pages = let low = good-page l g good in omega arith;
+    alive = alive;
+    was = one-page (frame_at g) g (λ q p. legal.condition q ≡ guest_condition state v p) at.named;
+    stood = one-page (frame_at g) g (λ q p. IsMemoryLeaf q state (entry_at p)) at.is_leaf;
+  }
 
-  in-before : (g : ℕ) (state : State) → (s.guest v).phase ≢ empty → not (is_good_page l g) ≡ false → not (is_in state (entry_at g)) ≡ false → SideBefore l s legal.condition v (frame_at g) g (joined state)
-  in-before g state alive good t = named-before g state alive good (in-named l s legal v g state (not-false (is_in state (entry_at g)) t))
+  in-state : (g : ℕ) (state : State) → not (is_in state (entry_at g)) ≡ false → Named s legal.condition v g state
+  in-state g state t = in-named l s legal v g state (not-false (is_in state (entry_at g)) t)
 
-  -- such a frame and page change, where the pools have the frames that are needed
-  side-keeps : (step : Step) → names step ≡ shared_and_guest → {f : ℕ} {e : Entry} {g : ℕ} {e' : Entry} {old new : Side} → SideBefore l s legal.condition v f g old → SideAfter v f e g e' new
-      → shared_need l.depth (two_pages f e g e') s.shared ≤ length s.shared.free → guest_need l.depth (two_pages f e g e') (s.guest v) ≤ length (s.guest v).free → StepKept l s legal.condition shared_and_guest (Some v) cpu step (two_pages f e g e')
-  side-keeps step named {f} {e} {g} {e'} {old} {new} b m enough own = guest-keeps l s legal usable cpu v step named (two_pages f e g e') f 1 (side_condition new v g) (page-move l s legal usable cpu v f e g e' (side_condition new v g) (side-move l s legal slot b m) own) enough
+  -- such frames and pages change, where the pools have the frames that are needed
+  side-keeps : (step : Step) → names step ≡ shared_and_guest → {f : ℕ} {e : Entry} {g : ℕ} {e' : Entry} {n : ℕ} {old new : Side} → SideBefore l s legal.condition v f g n old → SideAfter v f e g e' n new
+      → shared_need l.depth (two_ranges f e g e' n) s.shared ≤ length s.shared.free → guest_need l.depth (two_ranges f e g e' n) (s.guest v) ≤ length (s.guest v).free → StepKept l s legal.condition shared_and_guest (Some v) cpu step (two_ranges f e g e' n)
+  side-keeps step named {f} {e} {g} {e'} {n} {old} {new} b m enough own =
+      guest-keeps l s legal usable cpu v step named (two_ranges f e g e' n) f n (λ q. side_condition new v (g + (q - f))) (pages-move l s legal usable cpu v f e g e' n (λ q. side_condition new v (g + (q - f))) (side-move l s legal slot b m) own) enough
 
   module _ (alive : (s.guest v).phase ≢ empty) where
-    pub donate_guest-keeps : (f g : ℕ) → refusal l.depth (donate_guest l (Some v) x f g) false x ≡ None → StepKept l s legal.condition shared_and_guest (Some v) cpu (DonateGuest f g) (donate_guest l (Some v) x f g).changes
+    pub donate_guest-keeps : (f g n : ℕ) → refusal l.depth (donate_guest l (Some v) x f g n) false x ≡ None → StepKept l s legal.condition shared_and_guest (Some v) cpu (DonateGuest f g n) (donate_guest l (Some v) x f g n).changes
     unfolding used_of
-    donate_guest-keeps f g h =
-        let p = passed l.depth (donate_guest l (Some v) x f g) false x h in
-        let tests = three p.perm in
-        side-keeps (DonateGuest f g) refl {new = joined Owned} (free-before f g alive p.invalid tests.1 tests.2) (record { stands = (RWX, refl); host = λ q w. refl; told = λ d q w. refl; goes = λ d. refl }) p.shared_enough p.guest_enough
+    donate_guest-keeps f g n h =
+        let p = passed l.depth (donate_guest l (Some v) x f g n) false x h in
+        side-keeps (DonateGuest f g n) refl {new = joined Owned} (free-before f g n (not (is_protected (s.guest v).kind)) alive p.invalid p.perm) (record {
+          stands = λ q w. (RWX, advance-leaf RWX f n q Owned w);
+          host = λ q w. refl;
+          told = λ d q w. refl;
+          goes = λ d q w. refl;
+        }) p.shared_enough p.guest_enough
 
-    pub share_guest-keeps : (f g : ℕ) (rights : Prot) → refusal l.depth (share_guest l x f g rights) false x ≡ None → StepKept l s legal.condition shared_and_guest (Some v) cpu (ShareGuest f g rights) (share_guest l x f g rights).changes
+    pub share_guest-keeps : (f g : ℕ) (rights : Prot) (n : ℕ) → refusal l.depth (share_guest l x f g rights n) false x ≡ None → StepKept l s legal.condition shared_and_guest (Some v) cpu (ShareGuest f g rights n) (share_guest l x f g rights n).changes
     unfolding used_of
-    share_guest-keeps f g rights h =
-        let p = passed l.depth (share_guest l x f g rights) false x h in
-        let tests = three p.perm in
-        side-keeps (ShareGuest f g rights) refl {new = joined SharedBorrowed} (free-before f g alive p.invalid tests.1 tests.2) (record {
-          stands = (rights, refl);
-          host = λ q w. advance-leaf RWX f 1 q SharedOwned w;
-          told = λ d q w. ap (λ p. record plain_row { lent = Some (lent_at (2 + v) p) }) (page-advance f q g w);
-          goes = λ d. refl;
+    share_guest-keeps f g rights n h =
+        let p = passed l.depth (share_guest l x f g rights n) false x h in
+        side-keeps (ShareGuest f g rights n) refl {new = joined SharedBorrowed} (free-before f g n (is_protected (s.guest v).kind) alive p.invalid p.perm) (record {
+          stands = λ q w. (rights, advance-leaf rights f n q SharedBorrowed w);
+          host = λ q w. advance-leaf RWX f n q SharedOwned w;
+          told = λ d q w. refl;
+          goes = λ d q w. refl;
         }) p.shared_enough p.guest_enough
 
     pub guest_share_host-keeps : (g : ℕ) → refusal l.depth (guest_share_host l x g) false x ≡ None → StepKept l s legal.condition shared_and_guest (Some v) cpu (GuestShareHost g) (guest_share_host l x g).changes
     unfolding used_of
     guest_share_host-keeps g h =
         let p = passed l.depth (guest_share_host l x g) false x h in
-        let b = in-before g Owned alive p.invalid p.perm in
-        side-keeps (GuestShareHost g) refl {new = joined SharedOwned} b (record {
-          stands = (b.stood.0, ap (with_state SharedOwned) b.stood.1);
+        let at = in-state g Owned p.perm in
+        side-keeps (GuestShareHost g) refl {new = joined SharedOwned} (named-before g Owned alive p.invalid at) (record {
+          stands = one-stands (joined SharedOwned) (frame_at g) (with_state SharedOwned (entry_at g)) (at.is_leaf.0, ap (with_state SharedOwned) at.is_leaf.1);
           host = λ q w. advance-leaf RWX (frame_at g) 1 q SharedBorrowed w;
           told = λ d q w. ap (λ p. record { owner = record { 0 = 2 + v }; lent = Some (lent_at 0 p); usage = Plain }) (range-advance (frame_at g) 1 q w);
-          goes = λ d. refl;
+          goes = λ d q w. refl;
         }) p.shared_enough p.guest_enough
 
     pub guest_unshare_host-keeps : (g : ℕ) → refusal l.depth (guest_unshare_host l (Some v) x g) false x ≡ None → StepKept l s legal.condition shared_and_guest (Some v) cpu (GuestUnshareHost g) (guest_unshare_host l (Some v) x g).changes
     unfolding used_of
     guest_unshare_host-keeps g h =
         let p = passed l.depth (guest_unshare_host l (Some v) x g) false x h in
-        let b = in-before g SharedOwned alive p.invalid p.perm in
-        side-keeps (GuestUnshareHost g) refl {new = joined Owned} b (record { stands = (b.stood.0, ap (with_state Owned) b.stood.1); host = λ q w. refl; told = λ d q w. refl; goes = λ d. refl }) p.shared_enough p.guest_enough
+        let at = in-state g SharedOwned p.perm in
+        side-keeps (GuestUnshareHost g) refl {new = joined Owned} (named-before g SharedOwned alive p.invalid at) (record { stands = one-stands (joined Owned) (frame_at g) (with_state Owned (entry_at g)) (at.is_leaf.0, ap (with_state Owned) at.is_leaf.1); host = λ q w. refl; told = λ d q w. refl; goes = λ d q w. refl }) p.shared_enough p.guest_enough
 
   pub unshare_guest-keeps : (vm : VmId) (g : ℕ) → refusal l.depth (unshare_guest l x vm g) false x ≡ None → StepKept l s legal.condition shared_and_guest (Some v) cpu (UnshareGuest vm g) (unshare_guest l x vm g).changes
   unfolding used_of
   unshare_guest-keeps vm g h =
       let p = passed l.depth (unshare_guest l x vm g) false x h in
-      let b = in-before g SharedBorrowed (live-alive vm (s.guest v) (not-false (is_guest live vm (s.guest v)) p.no_vm)) (or-neither (nat_le 64 vm.slot) (not (is_good_page l g)) p.invalid).1 p.perm in
-      side-keeps (UnshareGuest vm g) refl {new = apart} b (record { stands = refl; host = λ q w. inr (advance-leaf RWX (frame_at g) 1 q Owned w); told = λ d q w. refl; goes = λ d. refl }) p.shared_enough p.guest_enough
+      let b = named-before g SharedBorrowed (live-alive vm (s.guest v) (not-false (is_guest live vm (s.guest v)) p.no_vm)) (or-neither (nat_le 64 vm.slot) (not (is_good_page l g)) p.invalid).1 (in-state g SharedBorrowed p.perm) in
+      side-keeps (UnshareGuest vm g) refl {new = apart} b (record { stands = λ q w. refl; host = λ q w. inr (advance-leaf RWX (frame_at g) 1 q Owned w); told = λ d q w. refl; goes = λ d q w. refl }) p.shared_enough p.guest_enough
 
   -- what the host gets back
-  reclaimed : (b : Bool) (f g : ℕ) → SideAfter v f (if b then Unmapped else leaf RWX f Owned) g Unmapped apart
-  reclaimed true f g = record { stands = refl; host = λ q w. inl refl; told = λ d q w. refl; goes = λ d. refl }
-  reclaimed false f g = record { stands = refl; host = λ q w. inr (advance-leaf RWX f 1 q Owned w); told = λ d q w. refl; goes = λ d. refl }
+  reclaimed : (b : Bool) (f g : ℕ) → SideAfter v f (if b then Unmapped else leaf RWX f Owned) g Unmapped 1 apart
+  reclaimed true f g = record { stands = λ q w. refl; host = λ q w. inl refl; told = λ d q w. refl; goes = λ d q w. refl }
+  reclaimed false f g = record { stands = λ q w. refl; host = λ q w. inr (advance-leaf RWX f 1 q Owned w); told = λ d q w. refl; goes = λ d q w. refl }
 
   pub reclaim_page-keeps : (vm : VmId) (g : ℕ) → refusal l.depth (reclaim_page l x vm g) false x ≡ None → StepKept l s legal.condition shared_and_guest (Some v) cpu (ReclaimPage vm g) (reclaim_page l x vm g).changes
   unfolding used_of

@@ -113,9 +113,9 @@ module _ (l : Layout) (accepted : IsAcceptedLayout l) (s : Reference) (legal : L
 
   each : (step : Step) (o : Option ℕ) → o ≡ guest_slot (s.contents.cpu cpu) step → FitsAt o step
   unfolding rule used_of
-  each (ShareGuest f g p) (Some v) e h = record { slot = tt; mapped = λ k. (loaded-at l usable s.contents legal cpu known v (sym e)).1; part = tt }
+  each (ShareGuest f g p n) (Some v) e h = record { slot = tt; mapped = λ k. (loaded-at l usable s.contents legal cpu known v (sym e)).1; part = tt }
   each (UnshareGuest vm g) (Some v) e h = record { slot = tt; mapped = λ k. live-alive vm (s.contents.guest v) (not-false (is_guest live vm (s.contents.guest v)) (pass (Some v) (UnshareGuest vm g) h).no_vm); part = tt }
-  each (DonateGuest f g) (Some v) e h = record { slot = tt; mapped = λ k. (loaded-at l usable s.contents legal cpu known v (sym e)).1; part = tt }
+  each (DonateGuest f g n) (Some v) e h = record { slot = tt; mapped = λ k. (loaded-at l usable s.contents legal cpu known v (sym e)).1; part = tt }
   each (GuestShareHost g) (Some v) e h = record { slot = tt; mapped = λ k. (loaded-at l usable s.contents legal cpu known v (sym e)).1; part = tt }
   each (GuestUnshareHost g) (Some v) e h = record { slot = tt; mapped = λ k. (loaded-at l usable s.contents legal cpu known v (sym e)).1; part = tt }
   each (GuestRelax g p) (Some v) e h = record { slot = tt; mapped = λ k. (loaded-at l usable s.contents legal cpu known v (sym e)).1; part = tt }

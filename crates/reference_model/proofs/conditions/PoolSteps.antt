@@ -47,7 +47,7 @@ use Rattle.reference_model.proofs.Frames.{count_blocks-none}
 use Rattle.page_state.proofs.Sizes.{size_some, size_split}
 use Rattle.coarse_trees.specs.Coarsest.{IsCoarsest, IsInTree}
 use Rattle.reference_model.proofs.conditions.Tables.{uses_of, uses-put}
-use Rattle.reference_model.proofs.conditions.Moves.{moved_to, is_pageless, guest-kept, has-kept, moved-in, moved-out}
+use Rattle.reference_model.proofs.conditions.Moves.{moved_to, always, is_pageless, guest-kept, has-kept, moved-in, moved-out}
 use Rattle.reference_model.proofs.conditions.FrameMoves.{StepKept, FramesMove, no-uses}
 use Rattle.reference_model.proofs.conditions.GuestMoves.{only, g_of, new_guest, new_cpu, GuestMove, guest-keeps, slots-stay}
 use Rattle.reference_model.proofs.conditions.PageSteps.{dying-alive}
@@ -190,13 +190,13 @@ module _ (l : Layout) (s : Contents) (legal : Legal l s) (usable : IsUsable l) (
     at-range : {X : Type 0} (see : Condition → X) (q : ℕ) → is_within f 1 q ≡ true → see (legal.condition q) ≡ see (hyps (VmPool v))
     at-range see = one-frame f (λ q. see (legal.condition q) ≡ see (hyps (VmPool v))) (ap see was)
 
-    root-frames : (part : GuestChange) (k : CpuChange) (value : Value) → (cpu_by k (s.cpu cpu)).hand ≡ (s.cpu cpu).hand → FramesMove l s legal.condition cpu (Some v) (range_changes f 1 Unmapped Unmapped part k value) f 1 hosts
-    root-frames part k value same = back-frames legal usable cpu (Some v) part k value f 1 (VmPool v) (omega arith) (at-range (λ c. c)) refl (hands-stay legal cpu k hosts f 1 same (λ d. at-range (in_hand d)))
+    root-frames : (part : GuestChange) (k : CpuChange) (value : Value) → (cpu_by k (s.cpu cpu)).hand ≡ (s.cpu cpu).hand → FramesMove l s legal.condition cpu (Some v) (range_changes f 1 Unmapped Unmapped part k value) f 1 (always hosts)
+    root-frames part k value same = back-frames legal usable cpu (Some v) part k value f 1 (VmPool v) (omega arith) (at-range (λ c. c)) refl (hands-stay legal cpu k (always hosts) f 1 same (λ d. at-range (in_hand d)))
 
-    pool-guest : (p : ℕ) (e : Entry) → GuestFits legal.condition v p e → GuestFits (moved_to hosts f 1 legal.condition) v p e
+    pool-guest : (p : ℕ) (e : Entry) → GuestFits legal.condition v p e → GuestFits (moved_to (always hosts) f 1 legal.condition) v p e
     pool-guest = guest-kept hosts f 1 legal.condition (at-range is_pageless) v
 
-    pool-has : (p q : ℕ) (state : State) → moved_to hosts f 1 legal.condition q ≡ guest_condition state v p → legal.condition q ≡ guest_condition state v p
+    pool-has : (p q : ℕ) (state : State) → moved_to (always hosts) f 1 legal.condition q ≡ guest_condition state v p → legal.condition q ≡ guest_condition state v p
     pool-has p q state = has-kept hosts f 1 legal.condition refl v p q state
 
   -- the least free frame of the guest's pool
@@ -207,7 +207,7 @@ module _ (l : Layout) (s : Contents) (legal : Legal l s) (usable : IsUsable l) (
       let mine : is_one f f ≡ 1 = ap one (eq-self f) in
       in_vm-hyps v (legal.condition f) (one-some (in_vm v (legal.condition f)) (guest_uses l.depth (s.guest v) f) (legal.held.vm v f) (omega arith))
 
-  reclaim_pool-move : (vm : VmId) → Passed l.depth (reclaim_pool l x vm) false x → GuestMove l s legal.condition cpu v (reclaim_pool l x vm).changes (least (s.guest v).free) 1 hosts
+  reclaim_pool-move : (vm : VmId) → Passed l.depth (reclaim_pool l x vm) false x → GuestMove l s legal.condition cpu v (reclaim_pool l x vm).changes (least (s.guest v).free) 1 (always hosts)
   unfolding used_of guest_after edited freed needs returned
   reclaim_pool-move vm p =
       let f = least (s.guest v).free in
@@ -216,7 +216,7 @@ module _ (l : Layout) (s : Contents) (legal : Legal l s) (usable : IsUsable l) (
       let was = least-was p.perm in
       record {
         frames = root-frames f was LoseLowest same_cpu (FrameOf (record { 0 = f })) refl;
-        only_new = refl;
+        only_new = λ q w. refl;
         only_old = λ q w. at-range f was (only v) q w ∙ eq-self v;
         guest = λ q. pool-guest f was q ((s.guest v).tree.map q) (legal.maps.guest v q);
         guest_has = λ q w state h. legal.maps.guest_has v q w state (pool-has f was q w state h);
@@ -227,19 +227,19 @@ module _ (l : Layout) (s : Contents) (legal : Legal l s) (usable : IsUsable l) (
         slots = slots-stay legal cpu v (new_guest l s v (reclaim_pool l x vm).changes) (new_cpu s cpu (reclaim_pool l x vm).changes) refl refl refl refl refl (legal.slots.some_hand cpu);
       }
     where
-      pool-held : (f : ℕ) → legal.condition f ≡ hyps (VmPool v) → (q : ℕ) → frame_count q (s.guest v).free ≡ is_one f q + frame_count q (rest (s.guest v).free) → is_one f f ≡ 1 → frame_count q (rest (s.guest v).free) + table_uses l.depth (s.guest v).tree q ≡ one (in_vm v (moved_to hosts f 1 legal.condition q))
+      pool-held : (f : ℕ) → legal.condition f ≡ hyps (VmPool v) → (q : ℕ) → frame_count q (s.guest v).free ≡ is_one f q + frame_count q (rest (s.guest v).free) → is_one f f ≡ 1 → frame_count q (rest (s.guest v).free) + table_uses l.depth (s.guest v).tree q ≡ one (in_vm v (moved_to (always hosts) f 1 legal.condition q))
       pool-held f was q next mine = elim (both (is_within f 1 q)) [
         | inl w ↦
             let same : f ≡ q = one-within f q w in
             let here : is_one f q ≡ 1 = ap (is_one f) (sym same) ∙ mine in
             let old = legal.held.vm v q in
             let was-one : one (in_vm v (legal.condition q)) ≡ 1 = ap (λ k. one (in_vm v (legal.condition k))) (sym same) ∙ ap (λ k. one (in_vm v k)) was ∙ ap one (eq-self v) in
-            let now : one (in_vm v (moved_to hosts f 1 legal.condition q)) ≡ 0 = ap (λ k. one (in_vm v k)) (moved-in hosts f 1 legal.condition q w) in
+            let now : one (in_vm v (moved_to (always hosts) f 1 legal.condition q)) ≡ 0 = ap (λ k. one (in_vm v k)) (moved-in (always hosts) f 1 legal.condition q w) in
             omega arith
         | inr w ↦
             let ne : (f == q) ≡ false = one-off f q w in let off : is_one f q ≡ 0 = ap one ne in
             let old = legal.held.vm v q in
-            let now : one (in_vm v (moved_to hosts f 1 legal.condition q)) ≡ one (in_vm v (legal.condition q)) = ap (λ k. one (in_vm v k)) (moved-out hosts f 1 legal.condition q w) in
+            let now : one (in_vm v (moved_to (always hosts) f 1 legal.condition q)) ≡ one (in_vm v (legal.condition q)) = ap (λ k. one (in_vm v k)) (moved-out (always hosts) f 1 legal.condition q w) in
             omega arith
       ]
 
@@ -247,7 +247,7 @@ module _ (l : Layout) (s : Contents) (legal : Legal l s) (usable : IsUsable l) (
   unfolding used_of
   reclaim_pool-keeps vm h =
       let p = passed l.depth (reclaim_pool l x vm) false x h in
-      guest-keeps l s legal usable cpu v (ReclaimPool vm) refl (reclaim_pool l x vm).changes (least (s.guest v).free) 1 hosts (reclaim_pool-move vm p) p.shared_enough
+      guest-keeps l s legal usable cpu v (ReclaimPool vm) refl (reclaim_pool l x vm).changes (least (s.guest v).free) 1 (always hosts) (reclaim_pool-move vm p) p.shared_enough
 
   -- finish_guest: the root goes back
 
@@ -271,7 +271,7 @@ module _ (l : Layout) (s : Contents) (legal : Legal l s) (usable : IsUsable l) (
       let n = uses f in
       record { bare = bare; uses = uses; was = in_vm-hyps v (legal.condition f) (one-some (in_vm v (legal.condition f)) (guest_uses l.depth (s.guest v) f) (legal.held.vm v f) (omega arith)) }
 
-  finish_guest-move : (t : Ticket) → (s.cpu cpu).ticket ≡ Some t → t.vm.slot ≡ v → t.stage ≡ dying_vm → Passed l.depth (finish_guest l x) false x → GuestMove l s legal.condition cpu v (finish_guest l x).changes (unwrap_or ((s.guest v).tree.table (l.depth + 1, 0)) 0) 1 hosts
+  finish_guest-move : (t : Ticket) → (s.cpu cpu).ticket ≡ Some t → t.vm.slot ≡ v → t.stage ≡ dying_vm → Passed l.depth (finish_guest l x) false x → GuestMove l s legal.condition cpu v (finish_guest l x).changes (unwrap_or ((s.guest v).tree.table (l.depth + 1, 0)) 0) 1 (always hosts)
   unfolding used_of guest_after edited freed needs returned
   finish_guest-move t has at-slot stage p =
       let f = unwrap_or ((s.guest v).tree.table (l.depth + 1, 0)) 0 in
@@ -279,7 +279,7 @@ module _ (l : Layout) (s : Contents) (legal : Legal l s) (usable : IsUsable l) (
       let left = root-left here.1 p.perm in
       record {
         frames = root-frames f left.was Empty (moved_on finished (s.cpu cpu)) Nothing refl;
-        only_new = refl;
+        only_new = λ q w. refl;
         only_old = λ q w. at-range f left.was (only v) q w ∙ eq-self v;
         guest = λ q. inl refl;
         guest_has = λ q w state h. absurd (unnamed q w state (pool-has f left.was q w state h) left.bare);
@@ -290,13 +290,13 @@ module _ (l : Layout) (s : Contents) (legal : Legal l s) (usable : IsUsable l) (
         slots = slots-turn s legal.slots cpu v t (new_guest l s v (finish_guest l x).changes) (new_cpu s cpu (finish_guest l x).changes) finished has at-slot (here.0, refl) (λ k. absurd (k refl)) refl (turned (s.cpu cpu).ticket t finished has) (legal.slots.some_hand cpu);
       }
     where
-      none-left : (f q : ℕ) → guest_uses l.depth (s.guest v) q ≡ is_one f q → one (in_vm v (moved_to hosts f 1 legal.condition q)) ≡ 0
+      none-left : (f q : ℕ) → guest_uses l.depth (s.guest v) q ≡ is_one f q → one (in_vm v (moved_to (always hosts) f 1 legal.condition q)) ≡ 0
       none-left f q uses = elim (both (is_within f 1 q)) [
-        | inl w ↦ ap (λ k. one (in_vm v k)) (moved-in hosts f 1 legal.condition q w)
+        | inl w ↦ ap (λ k. one (in_vm v k)) (moved-in (always hosts) f 1 legal.condition q w)
         | inr w ↦
             let ne : (f == q) ≡ false = one-off f q w in
             let off : is_one f q ≡ 0 = ap one ne in
-            ap (λ k. one (in_vm v k)) (moved-out hosts f 1 legal.condition q w) ∙ sym (legal.held.vm v q) ∙ uses ∙ off
+            ap (λ k. one (in_vm v k)) (moved-out (always hosts) f 1 legal.condition q w) ∙ sym (legal.held.vm v q) ∙ uses ∙ off
       ]
 
       unnamed : (q w : ℕ) (state : State) → legal.condition w ≡ guest_condition state v q → ((p : ℕ) → p < pages_below l.depth → (s.guest v).tree.map p ≡ Unmapped) → ⊥
@@ -313,4 +313,4 @@ module _ (l : Layout) (s : Contents) (legal : Legal l s) (usable : IsUsable l) (
   unfolding used_of
   finish_guest-keeps t has at stage h =
       let p = passed l.depth (finish_guest l x) false x h in
-      guest-keeps l s legal usable cpu v FinishGuest refl (finish_guest l x).changes (unwrap_or ((s.guest v).tree.table (l.depth + 1, 0)) 0) 1 hosts (finish_guest-move t has at stage p) p.shared_enough
+      guest-keeps l s legal usable cpu v FinishGuest refl (finish_guest l x).changes (unwrap_or ((s.guest v).tree.table (l.depth + 1, 0)) 0) 1 (always hosts) (finish_guest-move t has at stage p) p.shared_enough

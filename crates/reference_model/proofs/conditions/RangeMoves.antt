@@ -1,6 +1,6 @@
 -- A range of frames that a call moves to one condition, by the entries that its pages get.
 use Rattle.std.proofs.Common.{◌≡◌, ℕ, ◌+◌, ◌-◌, ◌≤◌, ◌<◌, refl, ap, sym, ◌∙◌, subst, arith, inl, inr}
-use Rattle.std.specs.Prelude.{Bool, true, false, ◌&&◌, ◌==◌, nat_le, is_none, unwrap_or, Option, Some, None}
+use Rattle.std.specs.Prelude.{Bool, true, false, not, ◌&&◌, ◌==◌, nat_le, is_none, unwrap_or, Option, Some, None}
 use Rattle.std.proofs.lemmas.Bool.Decides.{nat_tests}
 use Rattle.descriptor.specs.declared.Prot.{Prot}
 use Rattle.descriptor.specs.declared.Prot.TheVariants.{RW}
@@ -15,7 +15,7 @@ use Rattle.page_state.specs.declared.row.Usage.TheVariants.{InHand}
 use Rattle.page_state.specs.Entries.{advance}
 use Rattle.page_state.specs.EntryTests.{is_free_page, leaf, annotation}
 use Rattle.page_state.specs.Geometries.{pages_below}
-use Rattle.page_state.specs.Layouts.{Layout, is_memory, is_good_range, hyp_page}
+use Rattle.page_state.specs.Layouts.{Layout, is_memory, is_good_range, is_good_page, hyp_page}
 use Rattle.page_state.specs.Map.{is_within}
 use Rattle.page_state.specs.Search.{all_below}
 use Rattle.reference_model.specs.declared.changes.Changes.{Changes}
@@ -24,14 +24,15 @@ use Rattle.reference_model.specs.declared.changes.GuestChange.{GuestChange}
 use Rattle.reference_model.specs.Changes.{cpu_by, change, no_changes}
 use Rattle.reference_model.specs.ConditionChanges.{told_condition}
 use Rattle.reference_model.specs.Conditions.{Condition, outside, hosts, with_hyp, hyps, with_guest, guests, lent_back, HostFits, hyp_says, Legal, IsUsable, row_in, in_shared, in_hand, is_inside, IsGood}
+use Rattle.reference_model.specs.GuestRules.{are_good_pages}
 use Rattle.reference_model.specs.Owner.{is_in_hand}
 use Rattle.reference_model.specs.RowChanges.{told_row, use_by}
 use Rattle.reference_model.specs.SharedRules.{hand_of, no_range}
 use Rattle.reference_model.specs.State.{Cpu, Contents, put_at}
 use Rattle.page_state.proofs.Blocks.{all_from-each}
-use Rattle.page_state.proofs.Common.{both, eq-same, if-true, if-false}
+use Rattle.page_state.proofs.Common.{both, eq-same, if-true, if-false, and-both, not-false}
 use Rattle.reference_model.proofs.conditions.FrameMoves.{FramesMove}
-use Rattle.reference_model.proofs.conditions.Moves.{moved_to, host-moved, hyp-moved, hyp-below, moved-in, moved-out, moved-fact, cpu-fact}
+use Rattle.reference_model.proofs.conditions.Moves.{moved_to, always, host-moved, hyp-moved, hyp-below, moved-in, moved-out, moved-fact, cpu-fact}
 
 -- frames of a range
 
@@ -83,6 +84,32 @@ good-range l f n h = let a = go (nat_le 1 n) (nat_le n 512) (all_below n (λ i. 
     some : nat_le 1 n ≡ true → 1 ≤ n
     some h = grind (arith, nat_tests)
 
+-- good pages of a guest lie in its tree
+pub good-pages : (l : Layout) (g n : ℕ) → 1 ≤ n → not (are_good_pages l g n) ≡ false → g + n ≤ pages_below l.depth
+good-pages l g n some h =
+    let t : is_good_page l (g + (n - 1)) ≡ true = all_from-each 0 n (λ i. is_good_page l (g + i)) (not-false (are_good_pages l g n) h) (n - 1) (omega arith) (omega arith) in
+    let less : g + (n - 1) < pages_below l.depth = grind (arith, nat_tests) in
+    omega arith
+
+-- two tests that hold along two ranges, one of each
+pub both-all : (f g n : ℕ) (a b : ℕ → Bool) → all_below n (λ i. a (f + i) && b (g + i)) ≡ true → (q : ℕ) → is_within f n q ≡ true → (a q ≡ true) × (b (g + (q - f)) ≡ true)
+both-all f g n a b h q w =
+    let at = within-is f n q w in
+    let low : f ≤ q = at.0 in
+    let high : q < f + n = at.1 in
+    let e : f + (q - f) ≡ q = omega arith in
+    let t = and-both (a (f + (q - f))) (b (g + (q - f))) (all_from-each 0 n (λ i. a (f + i) && b (g + i)) h (q - f) (omega arith) (omega arith)) in
+    (subst (λ p. a p ≡ true) e t.0, t.1)
+
+pub second-all : (f g n : ℕ) (a b : ℕ → Bool) → all_below n (λ i. a (f + i) && b (g + i)) ≡ true → (p : ℕ) → is_within g n p ≡ true → b p ≡ true
+second-all f g n a b h p w =
+    let at = within-is g n p w in
+    let low : g ≤ p = at.0 in
+    let high : p < g + n = at.1 in
+    let e : g + (p - g) ≡ p = omega arith in
+    let t = and-both (a (f + (p - g))) (b (g + (p - g))) (all_from-each 0 n (λ i. a (f + i) && b (g + i)) h (p - g) (omega arith) (omega arith)) in
+    subst (λ k. b k ≡ true) e t.1
+
 pub free-hosts : (f : ℕ) (c : Condition) (e : Entry) → is_inside c ≡ true → HostFits f c e → is_free_page e ≡ true → c ≡ hosts
 free-hosts f outside e i h t = cc
 free-hosts f hosts e i h t = refl
@@ -119,22 +146,22 @@ module _ {l : Layout} {s : Contents} (legal : Legal l s) where
   memory-of c inside first n was q w = sym (legal.of_layout.inside q) ∙ ap is_inside (was q w) ∙ inside
 
   -- the hands, where the CPU's stays and no frame of the range goes into one or out of one
-  pub hands-stay : (cpu : ℕ) (k : CpuChange) (c : Condition) (first n : ℕ) → (cpu_by k (s.cpu cpu)).hand ≡ (s.cpu cpu).hand → ((d q : ℕ) → is_within first n q ≡ true → in_hand d (legal.condition q) ≡ in_hand d c)
+  pub hands-stay : (cpu : ℕ) (k : CpuChange) (c : ℕ → Condition) (first n : ℕ) → (cpu_by k (s.cpu cpu)).hand ≡ (s.cpu cpu).hand → ((d q : ℕ) → is_within first n q ≡ true → in_hand d (legal.condition q) ≡ in_hand d (c q))
       → (d q : ℕ) → is_in_hand (put_at s.cpu cpu (cpu_by k (s.cpu cpu)) d).hand q ≡ in_hand d (moved_to c first n legal.condition q)
   hands-stay cpu k c first n same stay d q = ap (λ h. is_in_hand h q) (cpu-fact (λ (j : Cpu). j.hand) s.cpu cpu (cpu_by k (s.cpu cpu)) d same) ∙ legal.held.hand d q ∙ moved-fact (in_hand d) c first n legal.condition q (stay d q)
 
   -- the hands after the CPU's was emptied
   pub hands-emptied : (cpu : ℕ) (k : CpuChange) (c : Condition) → (cpu_by k (s.cpu cpu)).hand ≡ None → is_none (s.cpu cpu).hand ≡ false → ((d : ℕ) → in_hand d c ≡ false)
-      → (d q : ℕ) → is_in_hand (put_at s.cpu cpu (cpu_by k (s.cpu cpu)) d).hand q ≡ in_hand d (moved_to c (hand_of (s.cpu cpu)).first.0 (hand_of (s.cpu cpu)).count legal.condition q)
+      → (d q : ℕ) → is_in_hand (put_at s.cpu cpu (cpu_by k (s.cpu cpu)) d).hand q ≡ in_hand d (moved_to (always c) (hand_of (s.cpu cpu)).first.0 (hand_of (s.cpu cpu)).count legal.condition q)
   hands-emptied cpu k c none some free d q =
       let hand = hand_of (s.cpu cpu) in
       let new = cpu_by k (s.cpu cpu) in
       elim (both (d == cpu)) [
         | inl e ↦ ap (λ (j : Cpu). is_in_hand j.hand q) (if-true (d == cpu) new (s.cpu d) e) ∙ ap (λ o. is_in_hand o q) none ∙ elim (both (is_within hand.first.0 hand.count q)) [
-          | inl w ↦ sym (ap (in_hand d) (moved-in c hand.first.0 hand.count legal.condition q w) ∙ free d)
-          | inr w ↦ sym (ap (in_hand d) (moved-out c hand.first.0 hand.count legal.condition q w) ∙ sym (legal.held.hand d q) ∙ ap (λ j. is_in_hand (s.cpu j).hand q) (eq-same d cpu e) ∙ hand-range (s.cpu cpu).hand q some ∙ w)
+          | inl w ↦ sym (ap (in_hand d) (moved-in (always c) hand.first.0 hand.count legal.condition q w) ∙ free d)
+          | inr w ↦ sym (ap (in_hand d) (moved-out (always c) hand.first.0 hand.count legal.condition q w) ∙ sym (legal.held.hand d q) ∙ ap (λ j. is_in_hand (s.cpu j).hand q) (eq-same d cpu e) ∙ hand-range (s.cpu cpu).hand q some ∙ w)
         ]
-        | inr e ↦ ap (λ (j : Cpu). is_in_hand j.hand q) (if-false (d == cpu) new (s.cpu d) e) ∙ legal.held.hand d q ∙ moved-fact (in_hand d) c hand.first.0 hand.count legal.condition q (λ w. ap (in_hand d) (hand-was cpu some q w) ∙ other d e ∙ sym (free d))
+        | inr e ↦ ap (λ (j : Cpu). is_in_hand j.hand q) (if-false (d == cpu) new (s.cpu d) e) ∙ legal.held.hand d q ∙ moved-fact (in_hand d) (always c) hand.first.0 hand.count legal.condition q (λ w. ap (in_hand d) (hand-was cpu some q w) ∙ other d e ∙ sym (free d))
       ]
     where
       other : (d : ℕ) → (d == cpu) ≡ false → (cpu == d) ≡ false
@@ -156,33 +183,34 @@ module _ {l : Layout} {s : Contents} (legal : Legal l s) (usable : IsUsable l) (
     pub host : (q : ℕ) → is_within first n q ≡ true → HostFits q c (advance e (q - first))
     pub hyp : (q : ℕ) → is_within first n q ≡ true → advance e' (q - first) ≡ hyp_says q c
     pub told : (q : ℕ) → is_within first n q ≡ true → row_in q c ≡ told_row cpu slot (range_changes first n e e' part k value) q
-    pub goes : c ≡ told_condition cpu slot (range_changes first n e e' part k value)
-    pub hand : (d q : ℕ) → is_in_hand (put_at s.cpu cpu (cpu_by k (s.cpu cpu)) d).hand q ≡ in_hand d (moved_to c first n legal.condition q)
+    pub goes : (q : ℕ) → is_within first n q ≡ true → c ≡ told_condition cpu slot (range_changes first n e e' part k value) q
+    pub hand : (d q : ℕ) → is_in_hand (put_at s.cpu cpu (cpu_by k (s.cpu cpu)) d).hand q ≡ in_hand d (moved_to (always c) first n legal.condition q)
     pub own_hand : (d : ℕ) → in_hand d c ≡ true → d ≡ cpu
 
-  pub range-frames : {first n : ℕ} {e e' : Entry} {old c : Condition} → RangeMove first n e e' old c → FramesMove l s legal.condition cpu slot (range_changes first n e e' part k value) first n c
+  pub range-frames : {first n : ℕ} {e e' : Entry} {old c : Condition} → RangeMove first n e e' old c → FramesMove l s legal.condition cpu slot (range_changes first n e e' part k value) first n (always c)
   range-frames {first} {n} {e} {e'} {old} {c} m =
       let low = range-in l usable first n m.some m.memory in
       record {
         inside = λ q w. m.memory q w ∙ sym m.inside;
-        good = m.good;
+        alike = λ q k w z. refl;
+        good = λ q w. m.good;
         same_use = λ q w. ap in_shared (m.was q w) ∙ m.same_use;
-        host = host-moved s.shared.host.map first n e c legal.condition m.host legal.maps.host;
-        hyp = hyp-moved s.shared.hyp.map first n e' c legal.condition m.hyp legal.maps.hyp;
+        host = host-moved s.shared.host.map first n e (always c) legal.condition m.host legal.maps.host;
+        hyp = hyp-moved s.shared.hyp.map first n e' (always c) legal.condition m.hyp legal.maps.hyp;
         hyp_below = hyp-below s.shared.hyp.map first n e' legal.maps.hyp_below;
         touched = λ q. refl;
         told = m.told;
-        goes = λ q w i. m.goes;
+        goes = λ q w i. m.goes q w;
         host_range = let e : first + n ≤ pages_below l.depth = omega arith in e;
         hyp_range = low;
         hand = m.hand;
-        own_hand = m.own_hand;
+        own_hand = λ d q w. m.own_hand d;
       }
 
   -- the host's frames become the hypervisor's, in a use
   pub given-frames : (first n : ℕ) (usage : Usage) → 1 ≤ n → ((q : ℕ) → is_within first n q ≡ true → legal.condition q ≡ hosts) → in_shared (hyps usage) ≡ false → use_by cpu k.hand ≡ usage → IsGood l (hyps usage)
-      → ((d q : ℕ) → is_in_hand (put_at s.cpu cpu (cpu_by k (s.cpu cpu)) d).hand q ≡ in_hand d (moved_to (hyps usage) first n legal.condition q)) → ((d : ℕ) → in_hand d (hyps usage) ≡ true → d ≡ cpu)
-      → FramesMove l s legal.condition cpu slot (range_changes first n (annotation 1) (leaf RW first Owned) part k value) first n (hyps usage)
+      → ((d q : ℕ) → is_in_hand (put_at s.cpu cpu (cpu_by k (s.cpu cpu)) d).hand q ≡ in_hand d (moved_to (always (hyps usage)) first n legal.condition q)) → ((d : ℕ) → in_hand d (hyps usage) ≡ true → d ≡ cpu)
+      → FramesMove l s legal.condition cpu slot (range_changes first n (annotation 1) (leaf RW first Owned) part k value) first n (always (hyps usage))
   given-frames first n usage some was apart is good hand own = range-frames (record {
     some = some;
     memory = memory-of legal hosts refl first n was;
@@ -193,15 +221,15 @@ module _ {l : Layout} {s : Contents} (legal : Legal l s) (usable : IsUsable l) (
     host = λ q w. refl;
     hyp = λ q w. advance-leaf RW first n q Owned w;
     told = λ q w. ap (λ u. record { owner = record { 0 = 1 }; lent = None; usage = u }) (sym is);
-    goes = ap hyps (sym is);
+    goes = λ q w. ap hyps (sym is);
     hand = hand;
     own_hand = own;
   })
 
   -- the hypervisor's frames in a use go back to the host
   pub back-frames : (first n : ℕ) (usage : Usage) → 1 ≤ n → ((q : ℕ) → is_within first n q ≡ true → legal.condition q ≡ hyps usage) → in_shared (hyps usage) ≡ false
-      → ((d q : ℕ) → is_in_hand (put_at s.cpu cpu (cpu_by k (s.cpu cpu)) d).hand q ≡ in_hand d (moved_to hosts first n legal.condition q))
-      → FramesMove l s legal.condition cpu slot (range_changes first n Unmapped Unmapped part k value) first n hosts
+      → ((d q : ℕ) → is_in_hand (put_at s.cpu cpu (cpu_by k (s.cpu cpu)) d).hand q ≡ in_hand d (moved_to (always hosts) first n legal.condition q))
+      → FramesMove l s legal.condition cpu slot (range_changes first n Unmapped Unmapped part k value) first n (always hosts)
   back-frames first n usage some was apart hand = range-frames (record {
     some = some;
     memory = memory-of legal (hyps usage) refl first n was;
@@ -212,7 +240,7 @@ module _ {l : Layout} {s : Contents} (legal : Legal l s) (usable : IsUsable l) (
     host = λ q w. inl refl;
     hyp = λ q w. refl;
     told = λ q w. refl;
-    goes = refl;
+    goes = λ q w. refl;
     hand = hand;
     own_hand = λ d h. cc;
   })

@@ -17,7 +17,7 @@ use Rattle.reference_model.specs.Step.{changed, with_rows, own_row, shared_after
 use Rattle.reference_model.specs.Used.{Used, used_of, put_back}
 use Rattle.page_state.proofs.Common.{both, if-true, if-false}
 use Rattle.reference_model.proofs.conditions.FrameMoves.{StepKept, FramesMove, no-uses, layout-after, held-after, host-coarsest, hyp-coarsest, rows-after, shared-stands, hand-stands, kept-after}
-use Rattle.reference_model.proofs.conditions.Moves.{moved_to, pageless-named, guest-kept, has-kept, is_calm, calm-pageless, calm-vm, CalmMove, moved-fact, SameSlots, same-agree, cpu-fact}
+use Rattle.reference_model.proofs.conditions.Moves.{moved_to, always, pageless-named, guest-kept, has-kept, is_calm, calm-pageless, calm-vm, CalmMove, moved-fact, SameSlots, same-agree, cpu-fact}
 use Rattle.reference_model.proofs.conditions.Stands.{SharedStands, GuestsStand, HandsStand, row-stands}
 
 -- the part of a state that a call on the Shared part uses
@@ -26,7 +26,7 @@ x_of cpu s = used_of shared None cpu s
 
 -- what a rule on the Shared part does to the conditions: a range of frames goes from conditions that name no guest to one such condition, and nothing changes of the CPU but the hand
 pub record SharedMove (l : Layout) (s : Contents) (condition : ℕ → Condition) (cpu : ℕ) (r : Changes) (first n : ℕ) (c : Condition) : Type 0 where
-  pub frames : FramesMove l s condition cpu None r first n c
+  pub frames : FramesMove l s condition cpu None r first n (always c)
   pub calm : CalmMove c first n condition
   pub loaded : (cpu_by r.cpu (s.cpu cpu)).loaded ≡ (s.cpu cpu).loaded
   pub ticket : (cpu_by r.cpu (s.cpu cpu)).ticket ≡ (s.cpu cpu).ticket
@@ -47,7 +47,7 @@ own-shared l cpu y f c x calm hands good less = row-stands l (put_back shared No
 
 module _ (l : Layout) (s : Contents) (legal : Legal l s) (usable : IsUsable l) (cpu : ℕ) (step : Step) (named : names step ≡ shared) (r : Changes) (first n : ℕ) (c : Condition) (m : SharedMove l s legal.condition cpu r first n c) (enough : shared_need l.depth r s.shared ≤ length s.shared.free) where
   abbrev at : ℕ → Condition
-  at = moved_to c first n legal.condition
+  at = moved_to (always c) first n legal.condition
 
   -- the used parts after the change, before rows
   y : Used
@@ -70,7 +70,7 @@ module _ (l : Layout) (s : Contents) (legal : Legal l s) (usable : IsUsable l) (
   unfolding t y put_back with_rows changed used_of shared_after
   held = record {
     shared = held-after legal m.frames enough;
-    vm = λ v f. legal.held.vm v f ∙ ap one (moved-fact (in_vm v) c first n legal.condition f (λ w. calm-vm v (legal.condition f) (m.calm.was_calm f w) ∙ sym (calm-vm v c m.calm.calm)));
+    vm = λ v f. legal.held.vm v f ∙ ap one (moved-fact (in_vm v) (always c) first n legal.condition f (λ w. calm-vm v (legal.condition f) (m.calm.was_calm f w) ∙ sym (calm-vm v c m.calm.calm)));
     hand = m.frames.hand;
   }
 
@@ -79,7 +79,7 @@ module _ (l : Layout) (s : Contents) (legal : Legal l s) (usable : IsUsable l) (
   own f mem w =
       let st = shared-stands legal m.frames t maps held f w in
       ap (λ k. row_of l (put_back k None cpu blank y) f) named
-      ∙ own-shared l cpu y f c (record { host = st.host; host_alone = st.host_alone; hyp = st.hyp; hyp_alone = st.hyp_alone; held = st.held }) m.calm.calm (hand-stands legal m.frames f w) m.frames.good (usable.pages f mem)
+      ∙ own-shared l cpu y f c (record { host = st.host; host_alone = st.host_alone; hyp = st.hyp; hyp_alone = st.hyp_alone; held = st.held }) m.calm.calm (hand-stands legal m.frames f w) (m.frames.good f w) (usable.pages f mem)
 
   rows : RowsFit l t at
   unfolding t y put_back with_rows changed used_of shared_after

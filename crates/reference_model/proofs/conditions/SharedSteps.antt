@@ -26,7 +26,7 @@ use Rattle.reference_model.specs.Step.{refusal, shared_need}
 use Rattle.reference_model.specs.Used.{used_of}
 use Rattle.page_state.proofs.Common.{both, eq-same, eq-self, if-true, if-false, and-both, or-neither, not-false}
 use Rattle.reference_model.proofs.conditions.FrameMoves.{StepKept, FramesMove}
-use Rattle.reference_model.proofs.conditions.Moves.{moved_to, is_calm, moved-in, moved-out, moved-fact}
+use Rattle.reference_model.proofs.conditions.Moves.{moved_to, always, is_calm, moved-in, moved-out, moved-fact}
 use Rattle.reference_model.proofs.conditions.RangeMoves.{within-is, one-frame, range-all, advance-leaf, good-range, hand-some, free-is, hand-was, hands-stay, hands-emptied, range-frames, given-frames, back-frames}
 use Rattle.reference_model.proofs.conditions.SharedMoves.{x_of, shared-keeps}
 use Rattle.reference_model.proofs.conditions.Tests.{passed}
@@ -67,7 +67,7 @@ eq-turned c d h = grind (arith, nat_tests)
 
 module _ (l : Layout) (s : Contents) (legal : Legal l s) (usable : IsUsable l) (cpu : ℕ) where
   -- the range's frames go from a condition that names no guest to another, and the CPU keeps all but its hand
-  calm-keeps : (step : Step) → names step ≡ shared → {r : Changes} {first n : ℕ} (old : Condition) {c : Condition} → FramesMove l s legal.condition cpu None r first n c → is_calm old ≡ true → is_calm c ≡ true → ((q : ℕ) → is_within first n q ≡ true → legal.condition q ≡ old)
+  calm-keeps : (step : Step) → names step ≡ shared → {r : Changes} {first n : ℕ} (old : Condition) {c : Condition} → FramesMove l s legal.condition cpu None r first n (always c) → is_calm old ≡ true → is_calm c ≡ true → ((q : ℕ) → is_within first n q ≡ true → legal.condition q ≡ old)
       → (cpu_by r.cpu (s.cpu cpu)).loaded ≡ (s.cpu cpu).loaded → (cpu_by r.cpu (s.cpu cpu)).ticket ≡ (s.cpu cpu).ticket → ((h : PageRange) → (cpu_by r.cpu (s.cpu cpu)).hand ≡ Some h → 1 ≤ h.count)
       → shared_need l.depth r s.shared ≤ length s.shared.free → StepKept l s legal.condition shared None cpu step r
   calm-keeps step named {r} {first} {n} old {c} m before new was loaded ticket some enough = shared-keeps l s legal usable cpu step named r first n c (record {
@@ -95,8 +95,8 @@ module _ (l : Layout) (s : Contents) (legal : Legal l s) (usable : IsUsable l) (
         host = λ q w. advance-leaf RWX f 1 q SharedOwned w;
         hyp = λ q w. advance-leaf RW f 1 q SharedBorrowed w;
         told = λ q w. ap (λ p. record plain_row { lent = Some (lent_at 1 p) }) (hyp-advance f 1 q w);
-        goes = refl;
-        hand = hands-stay legal cpu same_cpu with_hyp f 1 refl (λ d q w. ap (in_hand d) (was q w));
+        goes = λ q w. refl;
+        hand = hands-stay legal cpu same_cpu (always with_hyp) f 1 refl (λ d q w. ap (in_hand d) (was q w));
         own_hand = λ d h. cc;
       })) refl refl was refl refl (legal.slots.some_hand cpu) p.shared_enough
 
@@ -116,8 +116,8 @@ module _ (l : Layout) (s : Contents) (legal : Legal l s) (usable : IsUsable l) (
         host = λ q w. inr (advance-leaf RWX f 1 q Owned w);
         hyp = λ q w. refl;
         told = λ q w. refl;
-        goes = refl;
-        hand = hands-stay legal cpu same_cpu hosts f 1 refl (λ d q w. ap (in_hand d) (was q w));
+        goes = λ q w. refl;
+        hand = hands-stay legal cpu same_cpu (always hosts) f 1 refl (λ d q w. ap (in_hand d) (was q w));
         own_hand = λ d h. cc;
       })) refl refl was refl refl (legal.slots.some_hand cpu) p.shared_enough
 
@@ -133,7 +133,7 @@ module _ (l : Layout) (s : Contents) (legal : Legal l s) (usable : IsUsable l) (
         let p = passed l.depth (donate_hyp l (x_of cpu s) f n) false (x_of cpu s) h in
         let good = good-range l f n (not-false (is_good_range l f n) p.invalid) in
         let was = donated (not-false (may_donate (x_of cpu s) f n) p.perm) good.1 in
-        let frames = given-frames legal usable cpu None KeepGuest same_cpu Nothing f n Plain good.0 was refl refl tt (hands-stay legal cpu same_cpu (hyps Plain) f n refl (λ d q w. ap (in_hand d) (was q w))) (λ d h. cc) in
+        let frames = given-frames legal usable cpu None KeepGuest same_cpu Nothing f n Plain good.0 was refl refl tt (hands-stay legal cpu same_cpu (always (hyps Plain)) f n refl (λ d q w. ap (in_hand d) (was q w))) (λ d h. cc) in
         calm-keeps (DonateHyp f n) refl hosts frames refl refl was refl refl (legal.slots.some_hand cpu) p.shared_enough
 
     -- the frames of a range that may go back are the hypervisor's, in no other use
@@ -150,22 +150,22 @@ module _ (l : Layout) (s : Contents) (legal : Legal l s) (usable : IsUsable l) (
         let p = passed l.depth (hyp_donate_host l (x_of cpu s) f n) false (x_of cpu s) h in
         let good = good-range l f n (not-false (is_good_range l f n) p.invalid) in
         let was = returned (not-false (all_below n (λ i. may_return (x_of cpu s) (f + i))) p.perm) good.1 in
-        let frames = back-frames legal usable cpu None KeepGuest same_cpu Nothing f n Plain good.0 was refl (hands-stay legal cpu same_cpu hosts f n refl (λ d q w. ap (in_hand d) (was q w))) in
+        let frames = back-frames legal usable cpu None KeepGuest same_cpu Nothing f n Plain good.0 was refl (hands-stay legal cpu same_cpu (always hosts) f n refl (λ d q w. ap (in_hand d) (was q w))) in
         calm-keeps (HypDonateHost f n) refl (hyps Plain) frames refl refl was refl refl (legal.slots.some_hand cpu) p.shared_enough
 
     -- the hands after a range of the host's went into an empty one
-    hands-filled : (s.cpu cpu).hand ≡ None → ((q : ℕ) → is_within f n q ≡ true → legal.condition q ≡ hosts) → (d q : ℕ) → is_in_hand (put_at s.cpu cpu (record (s.cpu cpu) { hand = Some (record { first = record { 0 = f }; count = n }) }) d).hand q ≡ in_hand d (moved_to (hyps (InHand cpu)) f n legal.condition q)
+    hands-filled : (s.cpu cpu).hand ≡ None → ((q : ℕ) → is_within f n q ≡ true → legal.condition q ≡ hosts) → (d q : ℕ) → is_in_hand (put_at s.cpu cpu (record (s.cpu cpu) { hand = Some (record { first = record { 0 = f }; count = n }) }) d).hand q ≡ in_hand d (moved_to (always (hyps (InHand cpu))) f n legal.condition q)
     hands-filled none at d q = elim (both (d == cpu)) [
       | inl e ↦
           let same : d ≡ cpu = eq-same d cpu e in
           let new : Cpu = record (s.cpu cpu) { hand = Some (record { first = record { 0 = f }; count = n }) } in
           ap (λ (k : Cpu). is_in_hand k.hand q) (if-true (d == cpu) new (s.cpu d) e) ∙ elim (both (is_within f n q)) [
-            | inl w ↦ w ∙ sym (ap (in_hand d) (moved-in (hyps (InHand cpu)) f n legal.condition q w) ∙ ap (λ k. cpu == k) same ∙ eq-self cpu)
-            | inr w ↦ w ∙ sym (ap (in_hand d) (moved-out (hyps (InHand cpu)) f n legal.condition q w) ∙ sym (legal.held.hand d q) ∙ ap (λ k. is_in_hand (s.cpu k).hand q) same ∙ ap (λ o. is_in_hand o q) none)
+            | inl w ↦ w ∙ sym (ap (in_hand d) (moved-in (always (hyps (InHand cpu))) f n legal.condition q w) ∙ ap (λ k. cpu == k) same ∙ eq-self cpu)
+            | inr w ↦ w ∙ sym (ap (in_hand d) (moved-out (always (hyps (InHand cpu))) f n legal.condition q w) ∙ sym (legal.held.hand d q) ∙ ap (λ k. is_in_hand (s.cpu k).hand q) same ∙ ap (λ o. is_in_hand o q) none)
           ]
       | inr e ↦
           let new : Cpu = record (s.cpu cpu) { hand = Some (record { first = record { 0 = f }; count = n }) } in
-          ap (λ (k : Cpu). is_in_hand k.hand q) (if-false (d == cpu) new (s.cpu d) e) ∙ legal.held.hand d q ∙ moved-fact (in_hand d) (hyps (InHand cpu)) f n legal.condition q (λ w. ap (in_hand d) (at q w) ∙ sym (eq-turned cpu d e))
+          ap (λ (k : Cpu). is_in_hand k.hand q) (if-false (d == cpu) new (s.cpu d) e) ∙ legal.held.hand d q ∙ moved-fact (in_hand d) (always (hyps (InHand cpu))) f n legal.condition q (λ w. ap (in_hand d) (at q w) ∙ sym (eq-turned cpu d e))
     ]
 
     pub fund-keeps : cpu < l.config.cpus → refusal l.depth (fund l (x_of cpu s) f n) false (x_of cpu s) ≡ None → StepKept l s legal.condition shared None cpu (Fund f n) (fund l (x_of cpu s) f n).changes

@@ -115,7 +115,7 @@ impl Caller {
         match self.numbers.below(9) {
             0 => Step::VcpuLoad { vm, vcpu: 0 },
             1 => Step::VcpuPut,
-            2 | 3 => Step::DonateGuest { pfn, gfn },
+            2 | 3 => Step::DonateGuest { pfn, gfn, n: 1 },
             4 => Step::GuestShareHost { gfn },
             5 => Step::GuestUnshareHost { gfn },
             6 => Step::ReclaimPage { vm, gfn },
