@@ -27,8 +27,6 @@ pub fn audit<A: Allocator + Copy, S: Source, K: Sink>(
     source: &mut S,
     sink: &mut K,
 ) -> Result<Outcome, EngineFault>
-    requires few_reads { S.failures source.old < 2 ^ 63 }
-    requires few_writes { K.failures sink.old < 2 ^ 63 }
     ensures report { IfOk result (λ outcome. IsAuditTold A (S.remaining source.old) (K.contents sink.old) (K.contents sink.new) outcome) }
     ensures begun { OnErr result (IsAuditBegun A (S.remaining source.old) (K.contents sink.old) (K.contents sink.new)) }
     ensures reads { CountsReads (S.failures source.old) (S.failures source.new) result }
@@ -74,7 +72,6 @@ fn tell_found<K: Sink>(
     steps: u64,
     found: Option<Disagreement>,
 ) -> Result<Outcome, EngineFault>
-    requires few { K.failures sink.old < 2 ^ 63 }
     ensures ok { IfOk result (λ outcome. (outcome ≡ outcome_of (length (audited_lines found))) × Appends (K.contents sink.old) (K.contents sink.new) (text_of_report (audited_lines found ++ ReportLine.End steps (length (audited_lines found)) ∷ []))) }
     ensures front { OnErr result (WritesFront (audited_lines found ++ ReportLine.End steps (length (audited_lines found)) ∷ []) (K.contents sink.old) (K.contents sink.new)) }
     ensures counted { TellsWrite (K.failures sink.old) (K.failures sink.new) result }

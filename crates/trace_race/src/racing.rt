@@ -41,8 +41,6 @@ pub fn race<R: Threads + Wait + Sync, S: Source, K: Sink, G: Gate + Sync>(
     sink: &mut K,
     gate: &G,
 ) -> Result<Outcome, RaceFault>
-    requires few_reads { S.failures source.old < 2 ^ 63 }
-    requires few_writes { K.failures sink.old < 2 ^ 63 }
     ensures report { IfOk result (λ outcome. IsRaced (S.remaining source.old) (K.contents sink.old) (K.contents sink.new) outcome) }
     ensures begun { OnErr result (IsRaceBegun (S.remaining source.old) (K.contents sink.old) (K.contents sink.new)) }
     ensures reads { RaceReads (S.failures source.old) (S.failures source.new) result }
@@ -66,7 +64,6 @@ fn report<R: Threads + Wait + Sync, K: Sink, G: Gate + Sync>(
     text: &mut String,
     gate: &G,
 ) -> Result<Outcome, RaceFault>
-    requires few { K.failures sink.old < 2 ^ 63 }
     requires sound { IsSoundRead read }
     ensures report { IfOk result (λ outcome. TellsRace (asked_in read) (K.contents sink.old) (K.contents sink.new) outcome) }
     ensures begun { OnErr result (TellsBegun (asked_in read) (K.contents sink.old) (K.contents sink.new)) }
@@ -87,7 +84,6 @@ fn carry_out<R: Threads + Wait + Sync, K: Sink, G: Gate + Sync>(
     text: &mut String,
     gate: &G,
 ) -> Result<Outcome, RaceFault>
-    requires few { K.failures sink.old < 2 ^ 63 }
     requires sound { IsSound (course_in course.now) }
     ensures report { IfOk result (λ outcome. TellsRace (Ok (course_in course.now)) (K.contents sink.old) (K.contents sink.new) outcome) }
     ensures begun { OnErr result (TellsBegun (Ok (course_in course.now)) (K.contents sink.old) (K.contents sink.new)) }
@@ -114,7 +110,6 @@ fn tell_stop<K: Sink>(
     line: u64,
     stop: Stop,
 ) -> Result<Outcome, RaceFault>
-    requires few { K.failures sink.old < 2 ^ 63 }
     ensures report { IfOk result (TellsStop line stop (K.contents sink.old) (K.contents sink.new)) }
     ensures begun { OnErr result (BeginsStop line stop (K.contents sink.old) (K.contents sink.new)) }
     ensures counted { RaceTells (K.failures sink.old) (K.failures sink.new) result }
@@ -127,7 +122,6 @@ fn tell_stop<K: Sink>(
 
 /// Writes the report of a trace that boots nothing.
 fn tell_idle<K: Sink>(sink: &mut K, text: &mut String) -> Result<Outcome, RaceFault>
-    requires few { K.failures sink.old < 2 ^ 63 }
     ensures ok { IfOk result (λ outcome. (outcome ≡ Outcome.Clean) × Appends (K.contents sink.old) (K.contents sink.new) (text_of_report (ReportLine.End 0 0 ∷ []))) }
     ensures front { OnErr result (WritesFront (ReportLine.End 0 0 ∷ []) (K.contents sink.old) (K.contents sink.new)) }
     ensures counted { RaceTells (K.failures sink.old) (K.failures sink.new) result }
@@ -145,7 +139,6 @@ fn run<R: Threads + Wait + Sync, K: Sink, G: Gate + Sync>(
     sink: &mut K,
     text: &mut String,
 ) -> Result<Outcome, RaceFault>
-    requires few { K.failures sink.old < 2 ^ 63 }
     requires sound { IsSound (course_in course.now) }
     requires booted { IsBootedRun (course_in course.now) booted }
     ensures report { IfOk result (λ outcome. RunEnds (machine_in booted.state) course.now.steps.items (K.contents sink.old) (K.contents sink.new) outcome) }
@@ -187,7 +180,6 @@ fn tell_made<K: Sink>(
     sink: &mut K,
     text: &mut String,
 ) -> Result<Outcome, EngineFault>
-    requires few { K.failures sink.old < 2 ^ 63 }
     requires made { IsMadeOf steps.now made }
     requires kept { IsKept state }
     requires layout { layout_of made.machine.table.layout ≡ layout_of state.layout }

@@ -20,7 +20,6 @@ pub(crate) enum Read {
 
 /// Reads all lines.
 pub(crate) fn read_all<S: Source>(global: Global, source: &mut S) -> Result<Read, EngineFault>
-    requires few { S.failures source.old < 2 ^ 63 }
     ensures read { IfOk result (HasRead (S.remaining source.old)) }
     ensures counted { TellsRead (S.failures source.old) (S.failures source.new) result }
 {
@@ -35,7 +34,6 @@ fn read_lines<S: Source>(
     ahead: &mut ReadAhead,
     line: &mut Vec<u8>,
 ) -> Result<Read, EngineFault>
-    requires few { S.failures source.old < 2 ^ 63 }
     requires start { course_in course ≡ nothing_asked }
     ensures read { IfOk result (HasRead (left ahead.old (S.remaining source.old))) }
     ensures counted { TellsRead (S.failures source.old) (S.failures source.new) result }

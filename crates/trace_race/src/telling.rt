@@ -23,7 +23,6 @@ pub(crate) fn tell_steps<K: Sink>(
     steps: &[Asked],
     replies: &[Reply],
 ) -> Result<(), EngineFault>
-    requires few { K.failures sink.old < 2 ^ 63 }
     requires count { length replies.now ≡ length steps.now }
     ensures ok { OnOk result (Appends (K.contents sink.old) (K.contents sink.new) (text_of_report (step_lines_of steps.now replies.now))) }
     ensures front { OnErr result (WritesFront (step_lines_of steps.now replies.now) (K.contents sink.old) (K.contents sink.new)) }
@@ -56,7 +55,6 @@ fn tell_judged<K: Sink>(
     text: &mut String,
     found: &[Disagreement],
 ) -> Result<(), EngineFault>
-    requires few { K.failures sink.old < 2 ^ 63 }
     ensures ok { OnOk result (Appends (K.contents sink.old) (K.contents sink.new) (text_of_report (map ReportLine.Judged found.now))) }
     ensures front { OnErr result (WritesFront (map ReportLine.Judged found.now) (K.contents sink.old) (K.contents sink.new)) }
     ensures counted { TellsWrite (K.failures sink.old) (K.failures sink.new) result }
@@ -75,7 +73,6 @@ pub(crate) fn tell_found<K: Sink>(
     audited: Option<Disagreement>,
     steps: u64,
 ) -> Result<Outcome, EngineFault>
-    requires few { K.failures sink.old < 2 ^ 63 }
     ensures ok { IfOk result (λ outcome. (outcome ≡ outcome_of (length judged.now + length (audited_lines audited))) × Appends (K.contents sink.old) (K.contents sink.new) (text_of_report (found_lines judged.now audited steps))) }
     ensures front { OnErr result (WritesFront (found_lines judged.now audited steps) (K.contents sink.old) (K.contents sink.new)) }
     ensures counted { TellsWrite (K.failures sink.old) (K.failures sink.new) result }

@@ -49,7 +49,6 @@ impl ReadAhead {
 
     /// Where nothing is held, reads once. At the end there is nothing to be had.
     pub(crate) fn fill<S: Source>(&mut self, source: &mut S) -> Result<(), Failed>
-        requires few { S.failures source.old < 2 ^ 63 }
         ensures bytes { OnOk result (Keeps (left self.old (S.remaining source.old)) (left self.new (S.remaining source.new))) }
         ensures end { OnOk result (held self.new ≡ [] → IsAtEnd (S.remaining source.new)) }
         ensures counted { Counts (S.failures source.old) (S.failures source.new) result }

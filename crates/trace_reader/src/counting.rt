@@ -1,5 +1,6 @@
 //! A reader or a writer of std that counts its failures.
-ghost use Rattle.std.specs.Prelude.{◌≡◌, ◌+◌, ◌<◌, ◌^◌};
+ghost use Rattle.std.specs.Prelude.{◌≡◌};
+ghost use Rattle.trace_reader.specs.Devices.{one_more};
 
 use crate::source::Failed;
 use std::io::Error;
@@ -8,7 +9,7 @@ use std::io::Error;
 #[derive(Drop)]
 pub struct Counting<D> {
     pub device: D,
-    /// How many of its reads or writes have failed.
+    /// How many of its reads or writes have failed. The greatest u64 stays.
     pub failed: u64,
     pub cause: Option<Error>,
 }
@@ -26,13 +27,12 @@ impl<D> Counting<D> {
         }
     }
 
-    /// Counts a failure.
+    /// Counts a failure, and keeps why.
     pub fn fail(&mut self, error: Error) -> Failed
-        requires few { self.old.failed < 2 ^ 63 }
         ensures device { self.new.device ≡ self.old.device }
-        ensures counted { self.new.failed ≡ self.old.failed + 1 }
+        ensures counted { self.new.failed ≡ one_more self.old.failed }
     {
-        self.failed += 1;
+        self.failed = self.failed.saturating_add(1);
         self.cause = Some(error);
         Failed
     }

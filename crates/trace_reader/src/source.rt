@@ -24,7 +24,6 @@ pub trait Source {
 
     /// Reads bytes into the front of a chunk, and answers how many: none only at the end, or where the chunk has no room.
     fn read(&mut self, chunk: &mut [u8]) -> Result<usize, Failed>
-        requires few { failures self.old < 2 ^ 63 }
         ensures bound { ReadsAtMost result chunk.new }
         ensures bytes { ReadConsumes (remaining self.old) (remaining self.new) result chunk.new }
         ensures counted { Counts (failures self.old) (failures self.new) result };

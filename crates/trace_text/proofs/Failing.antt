@@ -1,7 +1,7 @@
 -- What a call that ends a replay early tells of the failures of source and sink.
-use Rattle.std.proofs.Common.{◌≡◌, ℕ, ◌+◌, ◌∙◌, ap, subst, sym, Result, Ok, Err, IfOk}
+use Rattle.std.proofs.Common.{◌≡◌, ℕ, ◌∙◌, ap, subst, sym, Result, Ok, Err, IfOk}
 use Rattle.std.specs.Prelude.{IsErrAnd}
-use Rattle.trace_reader.specs.Devices.{TellsRead}
+use Rattle.trace_reader.specs.Devices.{TellsRead, one_more}
 use Rattle.trace_reader.specs.declared.outcome.EngineFault.{EngineFault}
 use Rattle.trace_reader.specs.declared.outcome.EngineFault.TheVariants.{Read, Write, NoMemory}
 use Rattle.trace_text.specs.Failures.{CountsReads, CountsWrites, TellsWrite}
@@ -27,7 +27,7 @@ module _ {X : Type 0} where
   pub writes_told : (r : Result X EngineFault) (w0 w1 w2 : ℕ) → w1 ≡ w0 → TellsWrite w1 w2 r → CountsWrites w0 w2 r
   writes_told (Ok x) w0 w1 w2 e h = h ∙ e
   writes_told (Err Read) w0 w1 w2 e h = absurd h
-  writes_told (Err Write) w0 w1 w2 e h = h ∙ ap (λ n. n + 1) e
+  writes_told (Err Write) w0 w1 w2 e h = h ∙ ap one_more e
   writes_told (Err NoMemory) w0 w1 w2 e h = h ∙ e
 
   -- and where its fault is passed on
@@ -46,7 +46,7 @@ module _ {X : Type 0} where
   -- by what a read told, where its fault is passed on
   pub read_failed : (r : Result X EngineFault) (e : EngineFault) (s0 s1 s2 : ℕ) → IsErrAnd r (λ f. f ≡ e) → s1 ≡ s0 → TellsRead {X = X} s1 s2 (Err e) → CountsReads s0 s2 r
   read_failed (Ok x) e s0 s1 s2 h same t = absurd h
-  read_failed (Err Read) e s0 s1 s2 h same t = subst (λ f. TellsRead {X = X} s1 s2 (Err f)) (sym h) t ∙ ap (λ n. n + 1) same
+  read_failed (Err Read) e s0 s1 s2 h same t = subst (λ f. TellsRead {X = X} s1 s2 (Err f)) (sym h) t ∙ ap one_more same
   read_failed (Err Write) e s0 s1 s2 h same t = absurd (subst (λ f. TellsRead {X = X} s1 s2 (Err f)) (sym h) t)
   read_failed (Err NoMemory) e s0 s1 s2 h same t = subst (λ f. TellsRead {X = X} s1 s2 (Err f)) (sym h) t ∙ same
 

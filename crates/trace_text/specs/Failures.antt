@@ -1,6 +1,7 @@
 -- How a replay can fail, and how a source and a sink count their failures.
-use Rattle.std.specs.Prelude.{◌≡◌, ℕ, ◌+◌, List, take, Option, Result, Ok, Err, MatchResult}
+use Rattle.std.specs.Prelude.{◌≡◌, ℕ, List, take, Option, Result, Ok, Err, MatchResult}
 use Rattle.std.specs.Io.KnownBytes.{Appends}
+use Rattle.trace_reader.specs.Devices.{one_more}
 use Rattle.trace_reader.specs.declared.outcome.EngineFault.{EngineFault}
 use Rattle.trace_reader.specs.declared.outcome.EngineFault.TheVariants.{Read, Write, NoMemory}
 
@@ -12,13 +13,13 @@ WritesAll old new r bytes = MatchResult r (λ _. Appends old new bytes) (λ _. (
 abbrev pub TellsWrite : {X : Type 0} → ℕ → ℕ → Result X EngineFault → Type 0
 TellsWrite before after (Ok x) = after ≡ before
 TellsWrite before after (Err Read) = ⊥
-TellsWrite before after (Err Write) = after ≡ before + 1
+TellsWrite before after (Err Write) = after ≡ one_more before
 TellsWrite before after (Err NoMemory) = after ≡ before
 
 -- a failed read is told just where the source has failed, which was once
 abbrev pub CountsReads : {X : Type 0} → ℕ → ℕ → Result X EngineFault → Type 0
 CountsReads before after (Ok x) = after ≡ before
-CountsReads before after (Err Read) = after ≡ before + 1
+CountsReads before after (Err Read) = after ≡ one_more before
 CountsReads before after (Err Write) = after ≡ before
 CountsReads before after (Err NoMemory) = after ≡ before
 
@@ -26,5 +27,5 @@ CountsReads before after (Err NoMemory) = after ≡ before
 abbrev pub CountsWrites : {X : Type 0} → ℕ → ℕ → Result X EngineFault → Type 0
 CountsWrites before after (Ok x) = after ≡ before
 CountsWrites before after (Err Read) = after ≡ before
-CountsWrites before after (Err Write) = after ≡ before + 1
+CountsWrites before after (Err Write) = after ≡ one_more before
 CountsWrites before after (Err NoMemory) = after ≡ before

@@ -41,7 +41,6 @@ pub trait Player {
     ) -> Result<Option<Outcome>, EngineFault>
         requires number { number < 2 ^ 62 }
         requires ready { ready number self.old }
-        requires few { K.failures sink.old < 2 ^ 63 }
         ensures played { IfOk result (λ ended. Plays does number line.now self.old self.new (K.contents sink.old) (K.contents sink.new) ended) }
         ensures ready { ready (number + 1) self.new }
         ensures front { OnErr result (PlaysFront does number line.now self.old (K.contents sink.old) (K.contents sink.new)) }
@@ -49,7 +48,6 @@ pub trait Player {
 
     /// Ends the report of a whole trace.
     fn end<K: Sink>(&self, sink: &mut K, text: &mut String) -> Result<Outcome, EngineFault>
-        requires few { K.failures sink.old < 2 ^ 63 }
         ensures ok { IfOk result (WritesEnd ends self.now (K.contents sink.old) (K.contents sink.new)) }
         ensures front { OnErr result (WritesEndFront ends self.now (K.contents sink.old) (K.contents sink.new)) }
         ensures counted { TellsWrite (K.failures sink.old) (K.failures sink.new) result };
@@ -66,8 +64,6 @@ pub fn play_trace<P: Player, S: Source, K: Sink>(
 ) -> Result<Outcome, EngineFault>
     requires enough { Enough P.does }
     requires ready { P.ready 1 player.old }
-    requires few_reads { S.failures source.old < 2 ^ 63 }
-    requires few_writes { K.failures sink.old < 2 ^ 63 }
     ensures report { IfOk result (IsWritten P.does P.ends player.old (S.remaining source.old) (K.contents sink.old) (K.contents sink.new)) }
     ensures begun { OnErr result (IsWriteBegun P.does P.ends player.old (S.remaining source.old) (K.contents sink.old) (K.contents sink.new)) }
     ensures reads { CountsReads (S.failures source.old) (S.failures source.new) result }
@@ -91,8 +87,6 @@ fn play_lines<P: Player, S: Source, K: Sink>(
 ) -> Result<Outcome, EngineFault>
     requires enough { Enough P.does }
     requires ready { P.ready 1 player.old }
-    requires few_reads { S.failures source.old < 2 ^ 63 }
-    requires few_writes { K.failures sink.old < 2 ^ 63 }
     ensures report { IfOk result (IsWritten P.does P.ends player.old (left ahead.old (S.remaining source.old)) (K.contents sink.old) (K.contents sink.new)) }
     ensures begun { OnErr result (IsWriteBegun P.does P.ends player.old (left ahead.old (S.remaining source.old)) (K.contents sink.old) (K.contents sink.new)) }
     ensures reads { CountsReads (S.failures source.old) (S.failures source.new) result }

@@ -19,7 +19,6 @@ pub trait Sink {
 
     /// Writes all bytes, or, where it fails, a front of them.
     fn write(&mut self, bytes: &[u8]) -> Result<(), Failed>
-        requires few { failures self.old < 2 ^ 63 }
         ensures bytes { WritesAll (contents self.old) (contents self.new) result bytes.now }
         ensures counted { Counts (failures self.old) (failures self.new) result };
 }

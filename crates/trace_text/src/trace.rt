@@ -33,8 +33,6 @@ pub fn replay<A: Allocator + Copy, S: Source, K: Sink>(
     source: &mut S,
     sink: &mut K,
 ) -> Result<Outcome, EngineFault>
-    requires few_reads { S.failures source.old < 2 ^ 63 }
-    requires few_writes { K.failures sink.old < 2 ^ 63 }
     ensures report { IfOk result (λ outcome. IsReplayed agreed (S.remaining source.old) (K.contents sink.old) (K.contents sink.new) outcome) }
     ensures begun { OnErr result (IsBegun agreed (S.remaining source.old) (K.contents sink.old) (K.contents sink.new)) }
     ensures reads { CountsReads (S.failures source.old) (S.failures source.new) result }
@@ -51,8 +49,6 @@ pub fn replay_with<A: Allocator + Copy, S: Source, K: Sink, O: Oracle>(
     sink: &mut K,
     oracle: &mut O,
 ) -> Result<Outcome, EngineFault>
-    requires few_reads { S.failures source.old < 2 ^ 63 }
-    requires few_writes { K.failures sink.old < 2 ^ 63 }
     ensures report { IfOk result (λ outcome. IsReplayed O.gives (S.remaining source.old) (K.contents sink.old) (K.contents sink.new) outcome) }
     ensures begun { OnErr result (IsBegun O.gives (S.remaining source.old) (K.contents sink.old) (K.contents sink.new)) }
     ensures reads { CountsReads (S.failures source.old) (S.failures source.new) result }
@@ -120,7 +116,6 @@ pub fn tell_answer<A: Allocator + Copy, K: Sink>(
     number: u64,
     ran: Result<Reported, Stop>,
 ) -> Result<Option<Outcome>, EngineFault>
-    requires few { K.failures sink.old < 2 ^ 63 }
     ensures ok { IfOk result (Writes number (answer_of session.now ran) (K.contents sink.old) (K.contents sink.new)) }
     ensures front { OnErr result (WritesFront (lines_told number (answer_of session.now ran)) (K.contents sink.old) (K.contents sink.new)) }
     ensures counted { TellsWrite (K.failures sink.old) (K.failures sink.new) result }
@@ -145,7 +140,6 @@ fn tell_reported<A: Allocator + Copy, K: Sink>(
     text: &mut String,
     reported: Reported,
 ) -> Result<(), EngineFault>
-    requires few { K.failures sink.old < 2 ^ 63 }
     ensures ok { OnOk result (Appends (K.contents sink.old) (K.contents sink.new) (text_of_report (lines_reported session.now reported))) }
     ensures front { OnErr result (WritesFront (lines_reported session.now reported) (K.contents sink.old) (K.contents sink.new)) }
     ensures counted { TellsWrite (K.failures sink.old) (K.failures sink.new) result }
@@ -168,7 +162,6 @@ fn tell_step<K: Sink>(
     told: Response,
     verdict: Verdict,
 ) -> Result<(), EngineFault>
-    requires few { K.failures sink.old < 2 ^ 63 }
     ensures ok { OnOk result (Appends (K.contents sink.old) (K.contents sink.new) (text_of_report (ReportLine.Response told ∷ verdict_lines verdict))) }
     ensures front { OnErr result (WritesFront (ReportLine.Response told ∷ verdict_lines verdict) (K.contents sink.old) (K.contents sink.new)) }
     ensures counted { TellsWrite (K.failures sink.old) (K.failures sink.new) result }
@@ -183,7 +176,6 @@ fn tell_verdict<K: Sink>(
     text: &mut String,
     verdict: Verdict,
 ) -> Result<(), EngineFault>
-    requires few { K.failures sink.old < 2 ^ 63 }
     ensures ok { OnOk result (Appends (K.contents sink.old) (K.contents sink.new) (text_of_report (verdict_lines verdict))) }
     ensures front { OnErr result (WritesFront (verdict_lines verdict) (K.contents sink.old) (K.contents sink.new)) }
     ensures counted { TellsWrite (K.failures sink.old) (K.failures sink.new) result }
@@ -198,7 +190,6 @@ fn tell_judged<K: Sink>(
     text: &mut String,
     found: Option<Disagreement>,
 ) -> Result<(), EngineFault>
-    requires few { K.failures sink.old < 2 ^ 63 }
     ensures ok { OnOk result (Appends (K.contents sink.old) (K.contents sink.new) (text_of_report (judged_lines found))) }
     ensures front { OnErr result (WritesFront (judged_lines found) (K.contents sink.old) (K.contents sink.new)) }
     ensures counted { TellsWrite (K.failures sink.old) (K.failures sink.new) result }
@@ -215,7 +206,6 @@ pub fn tell_audited<K: Sink>(
     text: &mut String,
     found: Option<Disagreement>,
 ) -> Result<(), EngineFault>
-    requires few { K.failures sink.old < 2 ^ 63 }
     ensures ok { OnOk result (Appends (K.contents sink.old) (K.contents sink.new) (text_of_report (audited_lines found))) }
     ensures front { OnErr result (WritesFront (audited_lines found) (K.contents sink.old) (K.contents sink.new)) }
     ensures counted { TellsWrite (K.failures sink.old) (K.failures sink.new) result }
@@ -228,7 +218,6 @@ pub fn tell_audited<K: Sink>(
 
 /// Writes a line for each run of maplets.
 fn tell_runs<K: Sink>(sink: &mut K, text: &mut String, runs: Runs<'_>) -> Result<(), EngineFault>
-    requires few { K.failures sink.old < 2 ^ 63 }
     ensures ok { OnOk result (Appends (K.contents sink.old) (K.contents sink.new) (text_of_report (map ReportLine.Response (map Response.Run runs.entry)))) }
     ensures front { OnErr result (WritesFront (map ReportLine.Response (map Response.Run runs.entry)) (K.contents sink.old) (K.contents sink.new)) }
     ensures counted { TellsWrite (K.failures sink.old) (K.failures sink.new) result }
@@ -241,7 +230,6 @@ fn tell_runs<K: Sink>(sink: &mut K, text: &mut String, runs: Runs<'_>) -> Result
 
 /// Writes a line of the report, which is made in `text` first.
 pub fn tell<K: Sink>(sink: &mut K, text: &mut String, told: ReportLine) -> Result<(), EngineFault>
-    requires few { K.failures sink.old < 2 ^ 63 }
     ensures ok { OnOk result (Appends (K.contents sink.old) (K.contents sink.new) (text_of_report (told ∷ []))) }
     ensures front { OnErr result (WritesFront (told ∷ []) (K.contents sink.old) (K.contents sink.new)) }
     ensures counted { TellsWrite (K.failures sink.old) (K.failures sink.new) result }
@@ -262,7 +250,6 @@ pub fn tell_end<K: Sink>(
     steps: u64,
     disagreements: u64,
 ) -> Result<Outcome, EngineFault>
-    requires few { K.failures sink.old < 2 ^ 63 }
     ensures ok { IfOk result (λ outcome. (outcome ≡ outcome_of disagreements) × Appends (K.contents sink.old) (K.contents sink.new) (text_of_report (ReportLine.End steps disagreements ∷ []))) }
     ensures front { OnErr result (WritesFront (ReportLine.End steps disagreements ∷ []) (K.contents sink.old) (K.contents sink.new)) }
     ensures counted { TellsWrite (K.failures sink.old) (K.failures sink.new) result }
@@ -286,7 +273,6 @@ pub fn faulted<K: Sink>(
     line: u64,
     fault: Fault,
 ) -> Result<Outcome, EngineFault>
-    requires few { K.failures sink.old < 2 ^ 63 }
     ensures ok { IfOk result (λ outcome. (outcome ≡ Outcome.Fault) × Appends (K.contents sink.old) (K.contents sink.new) (text_of_report (ReportLine.Fault line fault ∷ []))) }
     ensures front { OnErr result (WritesFront (ReportLine.Fault line fault ∷ []) (K.contents sink.old) (K.contents sink.new)) }
     ensures counted { TellsWrite (K.failures sink.old) (K.failures sink.new) result }
