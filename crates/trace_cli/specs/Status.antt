@@ -17,7 +17,7 @@ use Rattle.trace_race.specs.Raced.{HasOneHistory, IsRaceReport}
 use Rattle.trace_command.specs.declared.words.Invocation.{Invocation}
 use Rattle.trace_command.specs.declared.words.Invocation.TheVariants.{Audit, Race, Replay}
 use Rattle.trace_command.specs.declared.words.UsageFault.{UsageFault}
-use Rattle.trace_command.specs.declared.words.UsageFault.TheVariants.{HeapSize, NoMemory, Usage}
+use Rattle.trace_command.specs.declared.words.UsageFault.TheVariants.{NoMemory, Usage}
 use Rattle.trace_cli.specs.declared.opened.Opened.{Opened}
 
 -- the report of a replay of these bytes, where they are known, has this outcome
@@ -59,5 +59,4 @@ pub record HasAnswer (asked : Invocation) (bytes : Option (List ℕ)) (status : 
 abbrev pub HasStatus : {F : Type 0} → (F → Option (List ℕ)) → Result (Opened F) UsageFault → ℕ → Type 0
 HasStatus bytes (Ok opened) status = MatchResult opened.file (λ file. HasAnswer opened.asked (bytes file) status) (λ _. status ≡ 2)
 HasStatus bytes (Err (Usage error)) status = status ≡ 2
-HasStatus bytes (Err HeapSize) status = status ≡ 2
 HasStatus bytes (Err NoMemory) status = status ≡ 1

@@ -68,10 +68,6 @@ pub fn status_of<R: AllocGlobal + Print + Eprint + Threads + Wait + Sync, F: io:
             let _ = rt.eprint(error);
             REFUSED
         }
-        Err(UsageFault::HeapSize) => {
-            let _ = eprintln!(rt; "trace_cli: {}", UsageFault::HeapSize);
-            REFUSED
-        }
         Err(UsageFault::NoMemory) => {
             let _ = eprintln!(rt; "trace_cli: out of memory");
             FAILED

@@ -17,7 +17,7 @@ use Rattle.trace_command.proofs.Values.{some_is}
 use Rattle.trace_command.specs.declared.words.Invocation.{Invocation}
 use Rattle.trace_command.specs.declared.words.Invocation.TheVariants.{Audit, Race, Replay}
 use Rattle.trace_command.specs.declared.words.UsageFault.{UsageFault}
-use Rattle.trace_command.specs.declared.words.UsageFault.TheVariants.{HeapSize, NoMemory, Usage}
+use Rattle.trace_command.specs.declared.words.UsageFault.TheVariants.{NoMemory, Usage}
 
 -- a word that begins with no hyphen is no flag
 module _ (word : Text) (plain : strip_byte 45 word ≡ None) where
@@ -274,27 +274,27 @@ gives : (path : Text) (told : Option (Option ℕ)) (words : List Text) (r : Resu
 gives path told words (Ok (Replay file size)) none is heap read = (same_path words _ path is _ _ read.0, sym heap ∙ read.1)
 gives path told words (Ok (Race file)) none is heap read = absurd (replay_is_no_race (same_name words _ path is _ _ read))
 gives path told words (Ok (Audit file)) none is heap read = absurd (replay_is_no_audit (same_name words _ path is _ _ read))
-gives path told words (Err (Usage error)) none is heap read = subst (IsAmong (kind_of error)) none read
+gives path told words (Err (Usage error)) none is heap (inl among) = absurd (subst (IsAmong (kind_of error)) none among)
+gives path told words (Err (Usage error)) none is heap (inr no_size) = sym heap ∙ no_size.2
 gives path told words (Err NoMemory) none is heap read = tt
-gives path told words (Err HeapSize) none is heap read = sym heap ∙ read.2
 
 gives_race : (path : Text) (words : List Text) (r : Result Invocation UsageFault) → fault_of program words ≡ []
     → option_map file_in (subcommand_of program words) ≡ Some (codes "race", Some path) → IsRead words r → GivesRace path r
 gives_race path words (Ok (Replay file size)) none is read = absurd (replay_is_no_race (sym (same_name words _ path is _ _ read.0)))
 gives_race path words (Ok (Race file)) none is read = same_path words _ path is _ _ read
 gives_race path words (Ok (Audit file)) none is read = absurd (race_is_no_audit (same_name words _ path is _ _ read))
-gives_race path words (Err (Usage error)) none is read = subst (IsAmong (kind_of error)) none read
+gives_race path words (Err (Usage error)) none is (inl among) = absurd (subst (IsAmong (kind_of error)) none among)
+gives_race path words (Err (Usage error)) none is (inr no_size) = absurd (replay_is_no_race (sym (same_name words _ path is _ _ no_size.1)))
 gives_race path words (Err NoMemory) none is read = tt
-gives_race path words (Err HeapSize) none is read = absurd (replay_is_no_race (sym (same_name words _ path is _ _ read.1)))
 
 gives_audit : (path : Text) (words : List Text) (r : Result Invocation UsageFault) → fault_of program words ≡ []
     → option_map file_in (subcommand_of program words) ≡ Some (codes "audit", Some path) → IsRead words r → GivesAudit path r
 gives_audit path words (Ok (Replay file size)) none is read = absurd (replay_is_no_audit (sym (same_name words _ path is _ _ read.0)))
 gives_audit path words (Ok (Race file)) none is read = absurd (race_is_no_audit (sym (same_name words _ path is _ _ read)))
 gives_audit path words (Ok (Audit file)) none is read = same_path words _ path is _ _ read
-gives_audit path words (Err (Usage error)) none is read = subst (IsAmong (kind_of error)) none read
+gives_audit path words (Err (Usage error)) none is (inl among) = absurd (subst (IsAmong (kind_of error)) none among)
+gives_audit path words (Err (Usage error)) none is (inr no_size) = absurd (replay_is_no_audit (sym (same_name words _ path is _ _ no_size.1)))
 gives_audit path words (Err NoMemory) none is read = tt
-gives_audit path words (Err HeapSize) none is read = absurd (replay_is_no_audit (sym (same_name words _ path is _ _ read.1)))
 
 -- what is given of the file and the word that stand in the words is what was read
 pub is_read : (words : List Text) (path : Text) (told : Option (Option ℕ)) (r : Result Invocation UsageFault) → NamesFile words (codes "replay") path → told ≡ heap_told (heap_word words) → Gives path told r
@@ -302,9 +302,8 @@ pub is_read : (words : List Text) (path : Text) (told : Option (Option ℕ)) (r 
 is_read words path told (Ok (Replay file size)) names heap gives_it = (subst (NamesFile words (codes "replay")) (sym gives_it.0) names, sym heap ∙ gives_it.1)
 is_read words path told (Ok (Race file)) names heap gives_it = absurd gives_it
 is_read words path told (Ok (Audit file)) names heap gives_it = absurd gives_it
-is_read words path told (Err (Usage error)) names heap gives_it = absurd gives_it
+is_read words path told (Err (Usage error)) names heap gives_it = inr (path, names, sym heap ∙ gives_it)
 is_read words path told (Err NoMemory) names heap gives_it = tt
-is_read words path told (Err HeapSize) names heap gives_it = (path, names, sym heap ∙ gives_it)
 
 pub race_read : (words : List Text) (path : Text) (r : Result Invocation UsageFault) → NamesFile words (codes "race") path → GivesRace path r → IsRead words r
 race_read words path (Ok (Replay file size)) names gives_it = absurd gives_it
@@ -312,7 +311,6 @@ race_read words path (Ok (Race file)) names gives_it = subst (NamesFile words (c
 race_read words path (Ok (Audit file)) names gives_it = absurd gives_it
 race_read words path (Err (Usage error)) names gives_it = absurd gives_it
 race_read words path (Err NoMemory) names gives_it = tt
-race_read words path (Err HeapSize) names gives_it = absurd gives_it
 
 pub audit_read : (words : List Text) (path : Text) (r : Result Invocation UsageFault) → NamesFile words (codes "audit") path → GivesAudit path r → IsRead words r
 audit_read words path (Ok (Replay file size)) names gives_it = absurd gives_it
@@ -320,7 +318,6 @@ audit_read words path (Ok (Race file)) names gives_it = absurd gives_it
 audit_read words path (Ok (Audit file)) names gives_it = subst (NamesFile words (codes "audit")) (sym gives_it) names
 audit_read words path (Err (Usage error)) names gives_it = absurd gives_it
 audit_read words path (Err NoMemory) names gives_it = tt
-audit_read words path (Err HeapSize) names gives_it = absurd gives_it
 
 pub takes_race : (words : List Text) (r : Result Invocation UsageFault) → IsRead words r → TakesRace words r
 takes_race words r read name path is other =
@@ -339,7 +336,6 @@ refused words (Ok (Race file)) fault read = absurd (subst HasFault read.faultles
 refused words (Ok (Audit file)) fault read = absurd (subst HasFault read.faultless fault)
 refused words (Err (Usage error)) fault read = tt
 refused words (Err NoMemory) fault read = tt
-refused words (Err HeapSize) fault read = absurd (subst HasFault read.1.faultless fault)
 
 pub takes_no_heap : (words : List Text) (r : Result Invocation UsageFault) → IsRead words r → TakesNoHeap words r
 takes_no_heap words r read name subcommand path bytes (inl race) is other =

@@ -9,7 +9,7 @@ use Rattle.clap.specs.Words.{App, IsAmong, Row, Rule, Text, fault_of, first_of, 
 use Rattle.trace_command.specs.declared.words.Invocation.{Invocation}
 use Rattle.trace_command.specs.declared.words.Invocation.TheVariants.{Audit, Race, Replay}
 use Rattle.trace_command.specs.declared.words.UsageFault.{UsageFault}
-use Rattle.trace_command.specs.declared.words.UsageFault.TheVariants.{HeapSize, NoMemory, Usage}
+use Rattle.trace_command.specs.declared.words.UsageFault.TheVariants.{NoMemory, Usage}
 
 -- the file of each subcommand
 abbrev pub file : Rule
@@ -57,24 +57,26 @@ abbrev pub heap_told : Option Text → Option (Option ℕ)
 heap_told None = Some None
 heap_told (Some word) = option_map (λ size. Some size) (heap_size word)
 
+-- clap finds no fault in the words, and the word for BYTES says no size
+abbrev pub NamesNoSize : List Text → Type 0
+NamesNoSize words = (path : Text) × NamesFile words (codes "replay") path × (heap_told (heap_word words) ≡ None)
+
 -- what was read: the subcommand, the file and the heap that the words name, a fault that clap finds in them, that it finds none and the word
 -- for BYTES says no size, or that memory was refused
 abbrev pub IsRead : List Text → Result Invocation UsageFault → Type 0
 IsRead words (Ok (Replay path size)) = NamesFile words (codes "replay") path.now × (heap_told (heap_word words) ≡ Some size)
 IsRead words (Ok (Race path)) = NamesFile words (codes "race") path.now
 IsRead words (Ok (Audit path)) = NamesFile words (codes "audit") path.now
-IsRead words (Err (Usage error)) = IsAmong (kind_of error) (fault_of program words)
+IsRead words (Err (Usage error)) = IsAmong (kind_of error) (fault_of program words) ⊎ NamesNoSize words
 IsRead words (Err NoMemory) = ⊤
-IsRead words (Err HeapSize) = (path : Text) × NamesFile words (codes "replay") path × (heap_told (heap_word words) ≡ None)
 
 -- a replay of this file with this heap is what was read, or the refusal of a word that says no size, unless memory was refused
 abbrev pub Gives : Text → Option (Option ℕ) → Result Invocation UsageFault → Type 0
 Gives path told (Ok (Replay given size)) = (given.now ≡ path) × (told ≡ Some size)
 Gives path told (Ok (Race _)) = ⊥
 Gives path told (Ok (Audit _)) = ⊥
-Gives path told (Err (Usage error)) = ⊥
+Gives path told (Err (Usage error)) = told ≡ None
 Gives path told (Err NoMemory) = ⊤
-Gives path told (Err HeapSize) = told ≡ None
 
 -- and so a race, or an audit, of this file
 abbrev pub GivesRace : Text → Result Invocation UsageFault → Type 0
@@ -108,7 +110,6 @@ abbrev pub IsRefused : Result Invocation UsageFault → Type 0
 IsRefused (Ok asked) = ⊥
 IsRefused (Err (Usage error)) = ⊤
 IsRefused (Err NoMemory) = ⊤
-IsRefused (Err HeapSize) = ⊥
 
 -- a race and an audit take no heap: `NAME race FILE --heap BYTES` and `NAME audit FILE --heap BYTES` are refused, where FILE begins with no hyphen
 abbrev pub TakesNoHeap : List Text → Result Invocation UsageFault → Type 0
@@ -120,4 +121,3 @@ TakesNoHeap words r =
 abbrev pub StandsFor : Error → UsageFault → Type 0
 StandsFor error (Usage shown) = (shown ≡ error) × (kind_of error ≢ OutOfMemory)
 StandsFor error NoMemory = kind_of error ≡ OutOfMemory
-StandsFor error HeapSize = ⊥

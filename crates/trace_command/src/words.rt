@@ -51,15 +51,12 @@ pub enum Invocation<'a> {
 /// Why the words were refused.
 #[derive(Debug, Drop, thiserror::Error)]
 pub enum UsageFault {
-    /// (1) The words are no command, or ask for help; the text to show.
+    /// (1) The words are no command, ask for help, or BYTES is no size of a heap; the text to show.
     #[error(transparent)]
     Usage(Error),
     /// (2)
     #[error("out of memory")]
     NoMemory,
-    /// (3)
-    #[error("BYTES must be a decimal number from 4096 to 1073741824")]
-    HeapSize,
 }
 
 impl From<AllocError> for UsageFault {
@@ -156,6 +153,7 @@ fn form<'a>(global: Global) -> Result<clap::Command<'a>, AllocError>
 
 /// The invocation of this subcommand, this file and this word for BYTES.
 fn asked<'a>(
+    global: Global,
     name: &str,
     file: &'a str,
     bytes: Option<&'a str>,
@@ -170,11 +168,24 @@ fn asked<'a>(
     if name == "audit" {
         return Ok(Invocation::Audit { file });
     }
-    replay_asked(file, bytes)
+    replay_asked(global, file, bytes)
+}
+
+/// The error for a word that says no size of a heap.
+fn no_size(global: Global) -> Result<Error, AllocError> {
+    let mut form = form(global)?;
+    form.error(
+        ErrorKind::ValueValidation,
+        "BYTES must be a decimal number from 4096 to 1073741824",
+    )
 }
 
 /// The replay of this file with this word for BYTES.
-fn replay_asked<'a>(file: &'a str, bytes: Option<&'a str>) -> Result<Invocation<'a>, UsageFault>
+fn replay_asked<'a>(
+    global: Global,
+    file: &'a str,
+    bytes: Option<&'a str>,
+) -> Result<Invocation<'a>, UsageFault>
     ensures { Gives file.entry.now (heap_told (option_map (λ word. word.now) bytes.entry)) result }
 {
     let Some(word) = bytes else {
@@ -185,7 +196,7 @@ fn replay_asked<'a>(file: &'a str, bytes: Option<&'a str>) -> Result<Invocation<
             file,
             heap: Some(size),
         }),
-        None => Err(UsageFault::HeapSize),
+        None => Err(UsageFault::Usage(no_size(global)?)),
     }
 }
 
@@ -205,5 +216,5 @@ pub fn command<'a>(global: Global, words: &'a [String]) -> Result<Invocation<'a>
     // Words in which clap finds no fault name a subcommand, and its file.
     let (name, inner) = matches.subcommand().unwrap();
     let file = inner.get_str("FILE").unwrap();
-    asked(name, file, inner.get_str("heap"))
+    asked(global, name, file, inner.get_str("heap"))
 }
