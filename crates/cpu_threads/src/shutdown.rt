@@ -15,14 +15,17 @@ use guest_steps::{CpuState, GuestPart};
 use part_table::whole::together;
 use part_table::{CpuPass, PartTable, Slot};
 use std::alloc::{AllocError, Allocator, Global};
+use thiserror::Error;
 use world::{Histories, World};
 
 /// Why a machine isn't shut down. In brackets the number of the fault.
-#[derive(Clone, Copy, PartialEq, Debug)]
+#[derive(Clone, Copy, PartialEq, Debug, Error)]
 pub enum ShutdownFault {
     /// (1) A pass that was handed out isn't given.
+    #[error("a pass that was handed out is missing")]
     Missing,
     /// (2) A growth was refused.
+    #[error("out of memory")]
     NoMemory,
 }
 

@@ -9,19 +9,21 @@ ghost use Rattle.hyp_pool.specs.Pools.{IsPool, numbers};
 
 mod frames;
 pub mod laws;
-mod text;
 
 pub use frames::Frames;
 use page_state::Frame;
 use std::alloc::{AllocError, Global};
 use std::marker::Model;
+use thiserror::Error;
 
 /// Why frames aren't taken. NoPool is answered before memory is asked for.
-#[derive(Clone, Copy, PartialEq, Debug)]
+#[derive(Clone, Copy, PartialEq, Debug, Error)]
 pub enum PoolFault {
     /// Fewer frames are free.
+    #[error("too few free frames")]
     NoPool,
     /// A growth was refused.
+    #[error("out of memory")]
     NoMemory,
 }
 

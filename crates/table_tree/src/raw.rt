@@ -10,6 +10,7 @@ use crate::poke::poke_in;
 use crate::tree::Tree;
 use page_state::{Entry, Geometry, Page};
 use std::alloc::Allocator;
+use thiserror::Error;
 
 /// A tree that may hold any words: a table word leads on only where its slot holds a child of that frame, and else it is
 /// malformed.
@@ -21,7 +22,8 @@ pub struct RawTree<A: Allocator> {
 }
 
 /// Why a word isn't poked: no table of the tree has a word at the path.
-#[derive(Clone, Copy, PartialEq, Debug)]
+#[derive(Clone, Copy, PartialEq, Debug, Error)]
+#[error("no table has a word at the path")]
 pub struct PathFault;
 
 impl<A: Allocator> RawTree<A> {
