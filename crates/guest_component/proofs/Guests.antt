@@ -1,5 +1,5 @@
 -- A guest after its changes, in words of the reference state.
-use Rattle.std.proofs.Common.{◌≡◌, ◌≢◌, ℕ, ◌+◌, refl, sym, ap, subst, ◌∙◌, arith, true, is_some, Option, Some, None}
+use Rattle.std.proofs.Common.{◌≡◌, ◌≢◌, ℕ, ◌+◌, ◌<◌, ◌↔◌, refl, sym, ap, subst, ◌∙◌, arith, true, is_some, Option, Some, None, Result, Ok, Err}
 use Rattle.page_state.specs.declared.layout.Geometry.{Geometry}
 use Rattle.page_state.specs.declared.entry.PageRange.{PageRange}
 use Rattle.step_reply.specs.declared.step.VmKind.{VmKind}
@@ -8,7 +8,10 @@ use Rattle.page_state.specs.Geometries.{levels_below}
 use Rattle.page_state.specs.Layouts.{Layout}
 use Rattle.page_state.specs.Tables.{need, needs, edited, freed, returned}
 use Rattle.page_state.specs.Trees.{Pool, Tree}
+use Rattle.component.specs.declared.Plan.{Plan}
 use Rattle.component.proofs.Keeps.{need_keep}
+use Rattle.hyp_pool.specs.declared.PoolFault.{PoolFault}
+use Rattle.hyp_pool.specs.declared.PoolFault.TheVariants.{NoPool}
 use Rattle.hyp_pool.specs.Pools.{StoredFrames}
 use Rattle.reference_model.specs.declared.changes.Changes.{Changes}
 use Rattle.reference_model.specs.declared.changes.GuestChange.{GuestChange}
@@ -27,7 +30,7 @@ use Rattle.guest_component.specs.declared.body.Body.{Body}
 use Rattle.guest_component.specs.Bodies.{body_of}
 use Rattle.guest_component.specs.Changing.{CanGainFrames, CanTake, GuestCanChange, PartFits, StaysMade, map_changed}
 use Rattle.guest_component.specs.Own.{HoldsOwn}
-use Rattle.guest_component.specs.Plans.{IsMadeFor}
+use Rattle.guest_component.specs.Plans.{IsMadeFor, IsMapInHand, map_with}
 use Rattle.guest_component.specs.View.{guest_in}
 use Rattle.guest_component.proofs.Frames.{tables_counted, uses_counted}
 
@@ -63,6 +66,9 @@ no_need d h o e mapped =
     let none : guest_in o ≡ no_guest = ap guest_in e in
     none_needed d h.guest (subst (λ (g : Guest). is_some h.guest ≡ true → g.phase ≢ empty) none mapped) ∙ sym (ap (guest_need d h) none)
 
+pub none_short : {X : Type 0} {x : X} (m n : ℕ) → 0 ≡ n → (◌≡◌ {A = Result X PoolFault} (Ok x) (Err NoPool)) ↔ (m < n)
+none_short m n e = (λ told. absurd (let clash = told in cc), λ less. absurd (omega (arith, less, e)))
+
 -- and what else changes of it leaves it Empty
 none_by : (d : ℕ) (c : Option MapChange) (part : GuestChange) → (is_some c ≡ true → empty ≢ empty) → StaysMade part → PartFits d no_guest part → no_guest ≡ guest_by d part (map_changed d c no_guest)
 unfolding edited needs freed returned
@@ -81,37 +87,41 @@ none_after d h o e stays fits =
     let can : GuestCanChange d h no_guest = subst (λ (g : Guest). GuestCanChange d h g) none fits in
     none ∙ none_by d h.guest h.part can.mapped stays can.part ∙ sym (ap (λ g. guest_by d h.part (map_changed d h.guest g)) none)
 
+-- where no plan of its map is there, it is Empty
+pub none_planned : {A : Type 0} (d : ℕ) (h : Changes) (o : Option (Body A)) (plan : Option (Plan A)) → plan ≡ None → IsMapInHand o plan → StaysMade h.part → GuestCanChange d h (map_with plan o) → guest_in o ≡ guest_after d h (map_with plan o)
+none_planned {A = A} d h None None e here stays fits = none_after {A = A} d h None refl stays fits
+none_planned d h (Some b) None e here stays fits = absurd here
+none_planned d h o (Some p) e here stays fits = absurd (let clash = e in cc)
+
+-- what a guest stands for, part by part
+abbrev pub guest_told : Phase → ℕ → VmKind → Tree → Pool → Guest
+guest_told phase generation kind tree free = record { phase = phase; generation = generation; kind = kind; tree = tree; free = free }
+
+pub same_parts : (phase : Phase) (generation : ℕ) (kind : VmKind) (t u : Tree) (p q : Pool) → t ≡ u → p ≡ q → guest_told phase generation kind t p ≡ guest_told phase generation kind u q
+same_parts phase generation kind t u p q a b = ap (λ x. guest_told phase generation kind x p) a ∙ ap (guest_told phase generation kind u) b
+
 -- frames that can come to a guest can come to what it holds
-gains : {A : Type 0} (b : Body A) (l : Layout) (r : PageRange) → l.depth ≡ levels_below b.map.tree.geometry → CanGain l (body_of b) r → CanGainFrames b.map.tree b.pool r
-gains b l r e can = record {
+gains : {A : Type 0} (t : TableTree A) (p : StoredFrames) (phase : Phase) (generation : ℕ) (kind : VmKind) (l : Layout) (r : PageRange) → l.depth ≡ levels_below t.geometry → CanGain l (guest_told phase generation kind (tree_of t) p.frames) r → CanGainFrames t p r
+gains t p phase generation kind l r e can = record {
   apart = λ f k.
-      let t = b.map.tree in
       let used = uses_counted t f in
       let same : table_uses l.depth (tree_of t) f ≡ table_uses (levels_below t.geometry) (tree_of t) f = ap (λ d. table_uses d (tree_of t) f) e in
-      let none : frame_count f b.pool.frames + table_uses l.depth (tree_of t) f ≡ 0 = can.apart f k in
+      let none : frame_count f p.frames + table_uses l.depth (tree_of t) f ≡ 0 = can.apart f k in
       omega (arith, used, same, none);
   few =
-      let t = b.map.tree in
       let count = ap (λ (d : ℕ). count_blocks (d + 1) (d + 1) (λ x. is_some ((tree_of t).table x))) e ∙ tables_counted t in
       let few = can.few in
       omega (arith, count, few);
   low = can.low;
 }
 
-pub can_take : {A : Type 0} (b : Body A) (d : ℕ) (part : GuestChange) → d ≡ levels_below b.map.tree.geometry → PartFits d (body_of b) part → CanTake b.map.tree b.pool part
-can_take b d Keep e fits = _
-can_take b d (Install k n r) e fits = _
-can_take b d (Gain r) e fits = gains b fits.0 r (fits.1.0 ∙ e) fits.1.1
-can_take b d LoseLowest e fits = _
-can_take b d Die e fits = _
-can_take b d Empty e fits = _
-
--- what a guest stands for, part by part
-abbrev guest_told : Phase → ℕ → VmKind → Tree → Pool → Guest
-guest_told phase generation kind tree free = record { phase = phase; generation = generation; kind = kind; tree = tree; free = free }
-
-pub same_parts : (phase : Phase) (generation : ℕ) (kind : VmKind) (t u : Tree) (p q : Pool) → t ≡ u → p ≡ q → guest_told phase generation kind t p ≡ guest_told phase generation kind u q
-same_parts phase generation kind t u p q a b = ap (λ x. guest_told phase generation kind x p) a ∙ ap (guest_told phase generation kind u) b
+pub can_take : {A : Type 0} (t : TableTree A) (p : StoredFrames) (phase : Phase) (generation : ℕ) (kind : VmKind) (d : ℕ) (part : GuestChange) → d ≡ levels_below t.geometry → PartFits d (guest_told phase generation kind (tree_of t) p.frames) part → CanTake t p part
+can_take t p phase generation kind d Keep e fits = _
+can_take t p phase generation kind d (Install k n r) e fits = _
+can_take t p phase generation kind d (Gain r) e fits = gains t p phase generation kind fits.0 r (fits.1.0 ∙ e) fits.1.1
+can_take t p phase generation kind d LoseLowest e fits = _
+can_take t p phase generation kind d Die e fits = _
+can_take t p phase generation kind d Empty e fits = _
 
 -- a tree that is one but for its spares has the same frames
 pub owned : {A : Type 0} (u t : TableTree A) (q p : StoredFrames) → u.geometry ≡ t.geometry → u.table ≡ t.table → q ≡ p → HoldsOwn t p → HoldsOwn u q

@@ -1,5 +1,6 @@
 pub mod Own
 pub mod Bodies
 pub mod View
+pub mod InHand
 pub mod Changing
 pub mod Plans

@@ -1,5 +1,6 @@
 -- What a change of a guest needs, and what is ready for it.
-use Rattle.std.specs.Prelude.{◌≡◌, ℕ, ◌≤◌, length, Option, Some, None}
+use Rattle.std.specs.Prelude.{◌≡◌, ℕ, ◌≤◌, Option, Some, None}
+use Rattle.component.specs.declared.Plan.{Plan}
 use Rattle.component.specs.View.{HasRoomFor}
 use Rattle.page_state.specs.declared.layout.Geometry.{Geometry}
 use Rattle.page_state.specs.Geometries.{levels_below}
@@ -8,7 +9,7 @@ use Rattle.reference_model.specs.declared.changes.GuestChange.{GuestChange}
 use Rattle.reference_model.specs.declared.changes.GuestChange.TheVariants.{Install}
 use Rattle.reference_model.specs.declared.changes.MapChange.{MapChange}
 use Rattle.reference_model.specs.Changes.{guest_by}
-use Rattle.reference_model.specs.State.{no_guest}
+use Rattle.reference_model.specs.State.{Guest, no_guest}
 use Rattle.reference_model.specs.Step.{guest_need}
 use Rattle.table_tree.specs.View.{spares_of}
 use Rattle.guest_component.specs.declared.body.Body.{Body}
@@ -16,7 +17,8 @@ use Rattle.guest_component.specs.declared.guest.Guest.{Guest as GuestComponent}
 use Rattle.guest_component.specs.declared.guest.GuestPlan.{GuestPlan}
 use Rattle.guest_component.specs.Bodies.{body_of}
 use Rattle.guest_component.specs.Changing.{GuestCanChange, MakesNone}
-use Rattle.guest_component.specs.View.{guest_of, guest_depth}
+use Rattle.guest_component.specs.InHand.{IsInHand, body_with}
+use Rattle.guest_component.specs.View.{guest_of, guest_in, guest_depth}
 
 -- a guest's tree has n spares or more, and its maplets the room that a change of its map needs
 abbrev pub HasReadyMap : {A : Type 0} → ℕ → Option MapChange → Option (Body A) → Type 0
@@ -29,12 +31,30 @@ IsMadeFor geometry (Install kind generation hand) None = ⊥
 IsMadeFor geometry (Install kind generation hand) (Some b) = (body_of b ≡ guest_by (levels_below geometry) (Install kind generation hand) no_guest) × (b.map.tree.geometry ≡ geometry)
 IsMadeFor geometry other o = Unit {0}
 
--- the changes can be made of the guest, and all memory for them is there
+-- a plan of the map's change is there just where a guest is, and is for it as it stands
+abbrev pub IsMapInHand : {A : Type 0} → Option (Body A) → Option (Plan A) → Type 0
+IsMapInHand None None = Unit {0}
+IsMapInHand (Some b) (Some p) = IsInHand p.change b p
+IsMapInHand o p = ⊥
+
+-- it is one of this change, which an Empty guest's map hasn't
+abbrev pub PlansFor : {A : Type 0} → Option MapChange → Option (Plan A) → Type 0
+PlansFor c None = Unit {0}
+PlansFor c (Some p) = p.change ≡ c
+
+-- the guest with the frames that a plan has in hand given back
+abbrev pub map_with : {A : Type 0} → Option (Plan A) → Option (Body A) → Guest
+map_with (Some p) (Some b) = body_with p b
+map_with p o = guest_in o
+
+abbrev pub guest_with : {A : Type 0} → GuestPlan A → GuestComponent A → Guest
+guest_with p g = map_with p.map g.body
+
+-- the changes can be made of the guest, and all that they need is in hand
 pub record IsReadyFor {A : Type 0} (h : Changes) (g : GuestComponent A) (p : GuestPlan A) : Type 0 where
-  pub fits : GuestCanChange (guest_depth g) h (guest_of g)
-  pub need : p.need ≡ guest_need (guest_depth g) h (guest_of g)
-  pub enough : p.need ≤ length (guest_of g).free
-  pub map : HasReadyMap p.need h.guest g.body
+  pub fits : GuestCanChange (guest_depth g) h (guest_with p g)
+  pub map : IsMapInHand g.body p.map
+  pub planned : PlansFor h.guest p.map
   pub made : IsMadeFor g.geometry h.part p.made
 
 -- memory for the changes is there already: they make no guest, and the tree has spares for them and the maplets room

@@ -2,8 +2,7 @@
 ghost use Rattle.guest_component.specs.Own.{HoldsOwn, HoldsOwn-prop};
 
 use crate::hand::{give_frames, split_hand};
-use crate::map::{change_map, make_ready};
-use component::Component;
+use component::{Component, Plan};
 use hyp_pool::{Pool, PoolFault};
 use page_state::{Geometry, Page, PageRange};
 use reference_model::{Changes, GuestChange, MapChange};
@@ -136,74 +135,97 @@ impl<A: Allocator> Body<A> {
     }
 }
 
-impl<A: Allocator + Copy> Body<A> {
-    ghost use Rattle.std.specs.Prelude.{◌≡◌, ℕ, ◌+◌, ◌<◌, ◌≤◌, ◌↔◌, length, OnOk, Err};
-    ghost use Rattle.component.specs.View.{HasRoomFor, need_for};
-    ghost use Rattle.guest_component.specs.Changing.{CanTake, StaysMade, map_changed};
+impl<A: Allocator> Body<A> {
+    ghost use Rattle.std.specs.Prelude.{◌≡◌, ℕ, ◌+◌, length};
+    ghost use Rattle.component.specs.View.{HasRoomFor};
     ghost use Rattle.guest_component.specs.Bodies.{body_of};
+    ghost use Rattle.guest_component.specs.Changing.{CanTake, StaysMade, map_changed};
+    ghost use Rattle.guest_component.specs.InHand.{IsInHand, body_with, pool_with};
     ghost use Rattle.page_state.specs.Counts.{frame_count};
     ghost use Rattle.page_state.specs.Geometries.{levels_below};
     ghost use Rattle.reference_model.specs.ChangeLaws.{FitsWhere};
     ghost use Rattle.reference_model.specs.Step.{guest_after};
+    ghost use Rattle.table_tree.specs.Stocks.{frames_of};
     ghost use Rattle.table_tree.specs.View.{spares_of, tables_of, uses};
 
-    /// Makes the tree's spares as many as a change needs tables, and room in the maplets.
-    pub(crate) fn make_ready(
-        &mut self,
-        alloc: A,
-        change: Option<MapChange>,
-        need: usize,
-    ) -> Result<(), PoolFault>
-        ensures enough { OnOk result (need ≤ length self.old.pool.frames) }
-        ensures spares { OnOk result (need ≤ spares_of self.new.map.tree) }
-        ensures room { OnOk result (HasRoomFor change self.new.map.maplets) }
-        ensures no_pool { (result ≡ Err PoolFault.NoPool) ↔ (length self.old.pool.frames < need) }
-        ensures no_memory { result ≡ Err PoolFault.NoMemory → HasRoomFor change self.old.map.maplets → spares_of self.old.map.tree < need }
-        ensures grows { spares_of self.old.map.tree ≤ spares_of self.new.map.tree }
-        ensures same { body_of self.new ≡ body_of self.old }
+    /// Gives all that is in hand for a change back.
+    pub(crate) fn release(&mut self, plan: Plan<A>)
+        requires { IsInHand plan.change self.old plan }
+        ensures same { body_of self.new ≡ body_with plan self.old }
+        ensures spares { spares_of self.new.map.tree ≡ spares_of self.old.map.tree + length (frames_of plan.spare.stock) }
         ensures geometry { self.new.map.tree.geometry ≡ self.old.map.tree.geometry }
         ensures runs { self.new.map.maplets.runs ≡ self.old.map.maplets.runs }
     {
         let map = &mut self.map;
         let pool = &mut self.pool;
-        make_ready(alloc, map, pool, change, need)
+        map.release(pool, plan);
     }
 
-    /// Changes the map, for which all is ready.
-    fn set(&mut self, alloc: A, change: Option<MapChange>, need: usize)
-        requires change { FitsWhere (levels_below self.old.map.tree.geometry) change }
-        requires need { need ≡ need_for self.old.map.tree change }
-        requires enough { need ≤ length self.old.pool.frames }
-        requires spares { need ≤ spares_of self.old.map.tree }
-        requires room { HasRoomFor change self.old.map.maplets }
-        ensures made { body_of self.new ≡ map_changed (levels_below self.old.map.tree.geometry) change (body_of self.old) }
+    /// Changes the map, with what is in hand for it.
+    fn set(&mut self, plan: Plan<A>)
+        requires change { FitsWhere (levels_below self.old.map.tree.geometry) plan.change }
+        requires in_hand { IsInHand plan.change self.old plan }
+        ensures made { body_of self.new ≡ map_changed (levels_below self.old.map.tree.geometry) plan.change (body_with plan self.old) }
         ensures geometry { self.new.map.tree.geometry ≡ self.old.map.tree.geometry }
-        ensures frames { (f : ℕ) → uses self.new.map.tree f + frame_count f self.new.pool.frames ≡ uses self.old.map.tree f + frame_count f self.old.pool.frames }
-        ensures tables { tables_of self.new.map.tree + length self.new.pool.frames ≡ tables_of self.old.map.tree + length self.old.pool.frames }
+        ensures frames { (f : ℕ) → uses self.new.map.tree f + frame_count f self.new.pool.frames ≡ uses self.old.map.tree f + frame_count f (pool_with plan self.old).frames }
+        ensures tables { tables_of self.new.map.tree + length self.new.pool.frames ≡ tables_of self.old.map.tree + length (pool_with plan self.old).frames }
     {
         let map = &mut self.map;
         let pool = &mut self.pool;
-        change_map(alloc, map, pool, change, need);
+        map.commit(pool, plan);
     }
 
-    /// Changes the map, for which all is ready, and then what else changes of a guest that doesn't become Empty.
-    pub(crate) fn change(&mut self, alloc: A, changes: &Changes, need: usize)
+    /// Changes the map, with what is in hand for it, and then what else changes of a guest that doesn't become Empty.
+    pub(crate) fn change(&mut self, changes: &Changes, plan: Plan<A>)
         requires stays { StaysMade changes.now.part }
-        requires part { CanTake self.old.map.tree self.old.pool changes.now.part }
+        requires part { CanTake self.old.map.tree (pool_with plan self.old) changes.now.part }
         requires change { FitsWhere (levels_below self.old.map.tree.geometry) changes.now.guest }
-        requires need { need ≡ need_for self.old.map.tree changes.now.guest }
-        requires enough { need ≤ length self.old.pool.frames }
-        requires spares { need ≤ spares_of self.old.map.tree }
-        requires room { HasRoomFor changes.now.guest self.old.map.maplets }
-        ensures made { body_of self.new ≡ guest_after (levels_below self.old.map.tree.geometry) changes.now (body_of self.old) }
+        requires in_hand { IsInHand changes.now.guest self.old plan }
+        ensures made { body_of self.new ≡ guest_after (levels_below self.old.map.tree.geometry) changes.now (body_with plan self.old) }
         ensures geometry { self.new.map.tree.geometry ≡ self.old.map.tree.geometry }
     {
-        self.set(alloc, changes.guest, need);
+        self.set(plan);
         match changes.part {
             GuestChange::Keep | GuestChange::Install { .. } | GuestChange::Empty => {}
             GuestChange::Gain(frames) => self.gain(frames),
             GuestChange::LoseLowest => self.lose_lowest(),
             GuestChange::Die => self.die(),
         }
+    }
+}
+
+impl<A: Allocator + Copy> Body<A> {
+    ghost use Rattle.std.specs.Prelude.{◌≡◌, ◌<◌, ◌≤◌, ◌↔◌, length, Err, IfOk, OnErr};
+    ghost use Rattle.component.specs.View.{HasRoomFor, need_for};
+    ghost use Rattle.guest_component.specs.Bodies.{body_of};
+    ghost use Rattle.guest_component.specs.InHand.{IsInHand, body_with};
+    ghost use Rattle.page_state.specs.Geometries.{levels_below};
+    ghost use Rattle.reference_model.specs.ChangeLaws.{FitsWhere};
+    ghost use Rattle.table_tree.specs.View.{spares_of};
+
+    /// Takes what a change of the map needs in hand. NoPool is answered exactly where the pool has fewer frames than it needs
+    /// tables, before memory is asked for. A refusal changes nothing but the number of spares.
+    pub(crate) fn reserve(
+        &mut self,
+        alloc: A,
+        change: Option<MapChange>,
+    ) -> Result<Plan<A>, PoolFault>
+        requires { FitsWhere (levels_below self.old.map.tree.geometry) change }
+        ensures in_hand { IfOk result (λ p. IsInHand change self.new p) }
+        ensures whole { IfOk result (λ p. body_with p self.new ≡ body_of self.old) }
+        ensures no_pool { (result ≡ Err PoolFault.NoPool) ↔ (length self.old.pool.frames < need_for self.old.map.tree change) }
+        ensures no_memory { result ≡ Err PoolFault.NoMemory → HasRoomFor change self.old.map.maplets → spares_of self.old.map.tree < need_for self.old.map.tree change }
+        ensures err { OnErr result (body_of self.new ≡ body_of self.old) }
+        ensures err_spares { OnErr result (spares_of self.old.map.tree ≤ spares_of self.new.map.tree) }
+        ensures geometry { self.new.map.tree.geometry ≡ self.old.map.tree.geometry }
+        ensures runs { self.new.map.maplets.runs ≡ self.old.map.maplets.runs }
+    {
+        let map = &mut self.map;
+        let pool = &mut self.pool;
+        let need = map.need(&change);
+        if pool.free() < need {
+            return Err(PoolFault::NoPool);
+        }
+        map.reserve(alloc, pool, change, need)
     }
 }

@@ -1,13 +1,14 @@
 //! Changes of a guest, in words of the reference state.
-ghost use Rattle.std.specs.Prelude.{◌≡◌, ◌<◌, ◌≤◌, ◌↔◌, length, Err, None, IfOk, OnOk, OnErr};
+ghost use Rattle.std.specs.Prelude.{◌≡◌, ◌<◌, ◌≤◌, ◌↔◌, length, Err, IfOk, OnOk, OnErr};
 ghost use Rattle.guest_component.specs.Bodies.{IsOfGeometry};
 ghost use Rattle.guest_component.specs.Changing.{CanInstallFrom, GuestCanChange, MakesNone, StaysMade};
-ghost use Rattle.guest_component.specs.Plans.{HasReadyMap, IsMadeFor, IsReadyFor, WantsNoMemory};
-ghost use Rattle.guest_component.specs.View.{guest_of, guest_depth, guest_spares, runs_of};
+ghost use Rattle.guest_component.specs.Plans.{HasReadyMap, IsMadeFor, IsMapInHand, IsReadyFor, PlansFor, WantsNoMemory, guest_with, map_with};
+ghost use Rattle.guest_component.specs.View.{guest_of, guest_depth, guest_in, guest_spares, runs_of};
 ghost use Rattle.reference_model.specs.Step.{guest_after, guest_need};
 
 use crate::body::Body;
 use crate::guest::{Guest, GuestPlan};
+use component::Plan;
 use hyp_pool::PoolFault;
 use page_state::Geometry;
 use reference_model::{Changes, GuestChange};
@@ -41,81 +42,115 @@ fn installed<A: Allocator>(
     }
 }
 
-impl<A: Allocator + Copy> Guest<A> {
-    /// Makes the map ready for its change.
-    fn make_ready(&mut self, alloc: A, changes: &Changes, need: usize) -> Result<(), PoolFault>
-        requires { self.old.body ≡ None → need ≡ 0 }
-        ensures enough { OnOk result (need ≤ length (guest_of self.old).free) }
-        ensures ready { OnOk result (HasReadyMap need changes.now.guest self.new.body) }
-        ensures no_pool { (result ≡ Err PoolFault.NoPool) ↔ (length (guest_of self.old).free < need) }
-        ensures no_memory { result ≡ Err PoolFault.NoMemory → HasReadyMap need changes.now.guest self.old.body → ⊥ }
-        ensures same { guest_of self.new ≡ guest_of self.old }
+impl<A: Allocator> Guest<A> {
+    /// Gives what is in hand for a change of its map back.
+    fn release_map(&mut self, plan: Option<Plan<A>>)
+        requires { IsMapInHand self.old.body plan }
+        ensures same { guest_of self.new ≡ map_with plan self.old.body }
         ensures geometry { self.new.geometry ≡ self.old.geometry }
         ensures runs { runs_of self.new.body ≡ runs_of self.old.body }
         ensures spares { guest_spares self.old.body ≤ guest_spares self.new.body }
     {
-        match &mut self.body {
-            Some(body) => body.make_ready(alloc, changes.guest, need),
-            None => Ok(()),
+        if let Some(plan) = plan {
+            self.body.as_mut().unwrap().release(plan);
         }
     }
 
-    /// Takes all memory that changes need: spares for the tables, room in the maplets, and for an install the new guest. It
-    /// changes nothing that the guest represents. NoPool is answered exactly where its pool has fewer frames than its map's
-    /// change needs tables, before memory is asked for, NoMemory only for an install, or where its tree has fewer spares than
-    /// that, or its maplets no room, and memory was refused. Requires changes that can be made of the guest.
-    pub fn reserve(&mut self, alloc: A, changes: &Changes) -> Result<GuestPlan<A>, PoolFault>
-        requires { GuestCanChange (guest_depth self.old) changes.now (guest_of self.old) }
-        ensures ready { IfOk result (λ p. IsReadyFor changes.now self.new p) }
-        ensures no_pool { (result ≡ Err PoolFault.NoPool) ↔ (length (guest_of self.old).free < guest_need (guest_depth self.old) changes.now (guest_of self.old)) }
-        ensures no_memory { result ≡ Err PoolFault.NoMemory → WantsNoMemory changes.now self.old → ⊥ }
-        ensures same { guest_of self.new ≡ guest_of self.old }
+    /// Gives all that is in hand for changes back, and makes none. It can't fail.
+    pub fn release(&mut self, plan: GuestPlan<A>)
+        requires { IsMapInHand self.old.body plan.map }
+        ensures same { guest_of self.new ≡ guest_with plan self.old }
         ensures depth { guest_depth self.new ≡ guest_depth self.old }
         ensures runs { runs_of self.new.body ≡ runs_of self.old.body }
         ensures spares { guest_spares self.old.body ≤ guest_spares self.new.body }
     {
-        let need = self.need(changes);
-        self.make_ready(alloc, changes, need)?;
-        let made = installed(alloc, self.global, self.geometry, &changes.part)?;
-        Ok(GuestPlan { need, made })
+        let GuestPlan { map, made: _ } = plan;
+        self.release_map(map);
     }
 
-    /// Makes changes for which all is ready. It takes no memory and can't fail.
-    pub fn commit(&mut self, alloc: A, changes: &Changes, plan: GuestPlan<A>)
+    /// Makes changes with all that they need in hand. It takes no memory and can't fail.
+    pub fn commit(&mut self, changes: &Changes, plan: GuestPlan<A>)
         requires { IsReadyFor changes.now self.old plan }
-        ensures made { guest_of self.new ≡ guest_after (guest_depth self.old) changes.now (guest_of self.old) }
+        ensures made { guest_of self.new ≡ guest_after (guest_depth self.old) changes.now (guest_with plan self.old) }
         ensures depth { guest_depth self.new ≡ guest_depth self.old }
     {
-        let GuestPlan { need, made } = plan;
+        let GuestPlan { map, made } = plan;
         match changes.part {
-            GuestChange::Install { .. } => self.put(made),
-            GuestChange::Empty => self.put(None),
+            GuestChange::Install { .. } => self.put(map, made),
+            GuestChange::Empty => self.put(map, None),
             GuestChange::Keep | GuestChange::Gain(_) | GuestChange::LoseLowest | GuestChange::Die =>
-                self.change_body(alloc, changes, need),
+                self.change_body(changes, map),
         }
     }
 
     /// The guest becomes another one, or Empty. What it was is let go.
-    fn put(&mut self, body: Option<Body<A>>)
-        requires { IsOfGeometry self.old.geometry body }
+    fn put(&mut self, plan: Option<Plan<A>>, body: Option<Body<A>>)
+        requires alike { IsOfGeometry self.old.geometry body }
+        requires in_hand { IsMapInHand self.old.body plan }
         ensures body { self.new.body ≡ body }
         ensures geometry { self.new.geometry ≡ self.old.geometry }
     {
+        self.release_map(plan);
         self.body = body;
     }
 
     /// Changes that make no guest and end none: those of what isn't Empty.
-    fn change_body(&mut self, alloc: A, changes: &Changes, need: usize)
+    fn change_body(&mut self, changes: &Changes, plan: Option<Plan<A>>)
         requires stays { StaysMade changes.now.part }
-        requires fits { GuestCanChange (guest_depth self.old) changes.now (guest_of self.old) }
-        requires need { need ≡ guest_need (guest_depth self.old) changes.now (guest_of self.old) }
-        requires enough { need ≤ length (guest_of self.old).free }
-        requires ready { HasReadyMap need changes.now.guest self.old.body }
-        ensures made { guest_of self.new ≡ guest_after (guest_depth self.old) changes.now (guest_of self.old) }
+        requires fits { GuestCanChange (guest_depth self.old) changes.now (map_with plan self.old.body) }
+        requires in_hand { IsMapInHand self.old.body plan }
+        requires planned { PlansFor changes.now.guest plan }
+        ensures made { guest_of self.new ≡ guest_after (guest_depth self.old) changes.now (map_with plan self.old.body) }
         ensures depth { guest_depth self.new ≡ guest_depth self.old }
     {
-        if let Some(body) = &mut self.body {
-            body.change(alloc, changes, need);
+        if let Some(plan) = plan {
+            self.body.as_mut().unwrap().change(changes, plan);
+        }
+    }
+}
+
+impl<A: Allocator + Copy> Guest<A> {
+    /// Takes what the change of its map needs in hand.
+    fn reserve_map(&mut self, alloc: A, changes: &Changes) -> Result<Option<Plan<A>>, PoolFault>
+        requires { GuestCanChange (guest_depth self.old) changes.now (guest_of self.old) }
+        ensures in_hand { IfOk result (λ p. IsMapInHand self.new.body p) }
+        ensures planned { IfOk result (λ p. PlansFor changes.now.guest p) }
+        ensures whole { IfOk result (λ p. map_with p self.new.body ≡ guest_of self.old) }
+        ensures no_pool { (result ≡ Err PoolFault.NoPool) ↔ (length (guest_of self.old).free < guest_need (guest_depth self.old) changes.now (guest_of self.old)) }
+        ensures no_memory { result ≡ Err PoolFault.NoMemory → HasReadyMap (guest_need (guest_depth self.old) changes.now (guest_of self.old)) changes.now.guest self.old.body → ⊥ }
+        ensures err { OnErr result (guest_of self.new ≡ guest_of self.old) }
+        ensures err_spares { OnErr result (guest_spares self.old.body ≤ guest_spares self.new.body) }
+        ensures geometry { self.new.geometry ≡ self.old.geometry }
+        ensures runs { runs_of self.new.body ≡ runs_of self.old.body }
+    {
+        match &mut self.body {
+            Some(body) => Ok(Some(body.reserve(alloc, changes.guest)?)),
+            None => Ok(None),
+        }
+    }
+
+    /// Takes all that changes need in hand: tables with frames of its pool, room in the maplets, and for an install the new
+    /// guest. NoPool is answered exactly where its pool has fewer frames than its map's change needs tables, before memory is
+    /// asked for, NoMemory only for an install, or where its tree has fewer spares than that, or its maplets no room, and
+    /// memory was refused. Then it is as it was, but for the number of spares. Requires changes that can be made of the guest.
+    pub fn reserve(&mut self, alloc: A, changes: &Changes) -> Result<GuestPlan<A>, PoolFault>
+        requires { GuestCanChange (guest_depth self.old) changes.now (guest_of self.old) }
+        ensures ready { IfOk result (λ p. IsReadyFor changes.now self.new p) }
+        ensures whole { IfOk result (λ p. guest_with p self.new ≡ guest_of self.old) }
+        ensures no_pool { (result ≡ Err PoolFault.NoPool) ↔ (length (guest_of self.old).free < guest_need (guest_depth self.old) changes.now (guest_of self.old)) }
+        ensures no_memory { result ≡ Err PoolFault.NoMemory → WantsNoMemory changes.now self.old → ⊥ }
+        ensures err { OnErr result (guest_of self.new ≡ guest_of self.old) }
+        ensures err_spares { OnErr result (guest_spares self.old.body ≤ guest_spares self.new.body) }
+        ensures depth { guest_depth self.new ≡ guest_depth self.old }
+        ensures runs { runs_of self.new.body ≡ runs_of self.old.body }
+    {
+        let map = self.reserve_map(alloc, changes)?;
+        match installed(alloc, self.global, self.geometry, &changes.part) {
+            Ok(made) => Ok(GuestPlan { map, made }),
+            Err(_) => {
+                self.release_map(map);
+                Err(PoolFault::NoMemory)
+            }
         }
     }
 
@@ -131,7 +166,7 @@ impl<A: Allocator + Copy> Guest<A> {
         ensures depth { guest_depth self.new ≡ guest_depth self.old }
     {
         let plan = self.reserve(alloc, changes)?;
-        self.commit(alloc, changes, plan);
+        self.commit(changes, plan);
         Ok(())
     }
 }

@@ -2,6 +2,7 @@
 ghost use Rattle.guest_component.specs.Bodies.{IsOfGeometry, IsOfGeometry-prop};
 
 use crate::body::Body;
+use component::Plan;
 use page_state::Geometry;
 use std::alloc::{Allocator, Global};
 
@@ -16,10 +17,11 @@ pub struct Guest<A: Allocator> {
     pub ghost alike: { IsOfGeometry geometry body } by { IsOfGeometry-prop geometry body },
 }
 
-/// What a change of a guest takes beside what the guest has: the tables that it needs, counted, and for an install the new
-/// guest. It may be dropped, and the change is then not made.
-#[derive(Drop)]
+/// All that changes of a guest need, in hand: the tables, with frames of its pool, and room in its maplets; for an install the
+/// new guest. It must be spent, by `commit` or by `release`.
 pub struct GuestPlan<A: Allocator> {
-    pub need: usize,
+    /// Of the map; None where the guest is Empty.
+    pub map: Option<Plan<A>>,
+    /// The new guest.
     pub made: Option<Body<A>>,
 }

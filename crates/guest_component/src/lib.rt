@@ -6,7 +6,6 @@ mod body;
 mod changes;
 mod guest;
 mod hand;
-mod map;
 mod reads;
 
 pub use body::{Body, Phase};
