@@ -26,6 +26,10 @@ use Rattle.guest_steps.specs.View.{shared_of, depth_of, rows_given}
 abbrev pub shared : (ℕ → Row) → Tree → Tree → List ℕ → Shared
 shared row host hyp free = record { host = host; hyp = hyp; free = free; row = row }
 
+-- its rows
+abbrev pub row_of : {A : Type 0} → SharedPart A → ℕ → Row
+row_of s f = unwrap_or (row_at s.owners f) plain_row
+
 same_row : (b : Bool) (old : Option Row) (new : Row) → unwrap_or (if b then Some new else old) plain_row ≡ (if b then new else unwrap_or old plain_row)
 same_row true old new = refl
 same_row false old new = refl
@@ -39,9 +43,9 @@ module _ {A : Type 0} (s : SharedPart A) where
       (fun_ext (λ f. ap (λ m. unwrap_or (m f) plain_row) e ∙ same_row (is_in_range frames f) (row_at s.owners f) (advance_row row (f - frames.first.0))))
 
   -- maps that stayed, whatever spares their trees have now
-  pub unchanged : (r : Result (Unit {0}) PoolFault) (host hyp : TableTree A) (pool : StoredFrames)
+  pub unchanged : {X : Type 0} (r : Result X PoolFault) (host hyp : TableTree A) (pool : StoredFrames)
       → host.geometry ≡ s.host.tree.geometry → hyp.geometry ≡ s.hyp.tree.geometry
-      → OnErr r (host.table ≡ s.host.tree.table) → OnErr r (hyp.table ≡ s.hyp.tree.table) → OnErr r (pool ≡ s.pool)
+      → host.table ≡ s.host.tree.table → hyp.table ≡ s.hyp.tree.table → OnErr r (pool ≡ s.pool)
       → OnErr r (shared (λ f. unwrap_or (row_at s.owners f) plain_row) (tree_of host) (tree_of hyp) pool.frames ≡ shared_of s)
   unchanged (Ok x) host hyp pool g h a b e = _
   unchanged (Err why) host hyp pool g h a b e =
@@ -50,18 +54,15 @@ module _ {A : Type 0} (s : SharedPart A) where
       ∙ ap (λ x. shared r (tree_of s.host.tree) x pool.frames) (same_tree hyp s.hyp.tree h b)
       ∙ ap (λ (p : StoredFrames). shared r (tree_of s.host.tree) (tree_of s.hyp.tree) p.frames) e
 
-  -- both maps that were changed
-  pub changed : (result : Result (Unit {0}) PoolFault) (h : Changes) (host hyp : TableTree A) (pool : StoredFrames)
-      → OnOk result (tree_of host ≡ tree_after s.host.tree h.host s.pool.frames)
-      → OnOk result (tree_of hyp ≡ tree_after s.hyp.tree h.hyp (drop (need_for s.host.tree h.host) s.pool.frames))
-      → OnOk result (pool.frames ≡ all_given (back_from s.host.tree h.host ++ back_from s.hyp.tree h.hyp) (drop (need_for s.host.tree h.host + need_for s.hyp.tree h.hyp) s.pool.frames))
-      → OnOk result (shared (λ f. unwrap_or (row_at s.owners f) plain_row) (tree_of host) (tree_of hyp) pool.frames ≡ shared_after (depth_of s) h (shared_of s))
+  -- both maps that were changed, with frames of a list that begins with those of the new tables
+  pub changed : (all : List ℕ) (h : Changes) (host hyp : TableTree A) (free : List ℕ) → tree_of host ≡ tree_after s.host.tree h.host all → tree_of hyp ≡ tree_after s.hyp.tree h.hyp (drop (need_for s.host.tree h.host) all)
+      → free ≡ all_given (back_from s.host.tree h.host ++ back_from s.hyp.tree h.hyp) (drop (need_for s.host.tree h.host + need_for s.hyp.tree h.hyp) all)
+      → shared (row_of s) (tree_of host) (tree_of hyp) free ≡ shared_after (depth_of s) h (shared (row_of s) (tree_of s.host.tree) (tree_of s.hyp.tree) all)
   unfolding shared_after
-  changed (Err e) h host hyp pool a b c = _
-  changed (Ok x) h host hyp pool a b c =
-      let r : ℕ → Row = λ f. unwrap_or (row_at s.owners f) plain_row in
+  changed all h host hyp free a b c =
+      let r = row_of s in
       let same = s.alike in
-      let back = ap (λ d. all_given (back_from s.host.tree h.host ++ returned d (tree_of s.hyp.tree) (edit_of h.hyp)) (drop (need_for s.host.tree h.host + need d (tree_of s.hyp.tree) (edit_of h.hyp)) s.pool.frames)) same in
-      ap (λ x. shared r x (tree_of hyp) pool.frames) a
-      ∙ ap (λ x. shared r (tree_after s.host.tree h.host s.pool.frames) x pool.frames) (b ∙ ap (λ d. edited d (tree_of s.hyp.tree) (edit_of h.hyp) (drop (need_for s.host.tree h.host) s.pool.frames)) same)
-      ∙ ap (λ x. shared r (tree_after s.host.tree h.host s.pool.frames) (edited (depth_of s) (tree_of s.hyp.tree) (edit_of h.hyp) (drop (need_for s.host.tree h.host) s.pool.frames)) x) (c ∙ back)
+      let back = ap (λ d. all_given (back_from s.host.tree h.host ++ returned d (tree_of s.hyp.tree) (edit_of h.hyp)) (drop (need_for s.host.tree h.host + need d (tree_of s.hyp.tree) (edit_of h.hyp)) all)) same in
+      ap (λ x. shared r x (tree_of hyp) free) a
+      ∙ ap (λ x. shared r (tree_after s.host.tree h.host all) x free) (b ∙ ap (λ d. edited d (tree_of s.hyp.tree) (edit_of h.hyp) (drop (need_for s.host.tree h.host) all)) same)
+      ∙ ap (λ x. shared r (tree_after s.host.tree h.host all) (edited (depth_of s) (tree_of s.hyp.tree) (edit_of h.hyp) (drop (need_for s.host.tree h.host) all)) x) (c ∙ back)

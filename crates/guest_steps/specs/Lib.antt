@@ -3,4 +3,5 @@ pub mod Lent
 pub mod Logs
 pub mod MemoryRows
 pub mod Numbers
+pub mod Planned
 pub mod View

@@ -9,3 +9,4 @@ mod shared;
 
 pub use log::Log;
 pub use parts::{CpuState, GuestPart, SharedPart, VmPart};
+pub use shared::{SharedNeed, SharedPlan};

@@ -1,6 +1,7 @@
 //! Changes of the Shared part, in words of the reference state.
-ghost use Rattle.std.specs.Prelude.{◌≡◌, ◌+◌, ◌-◌, ◌<◌, ◌≤◌, ◌^◌, ◌↔◌, Err, length, nat_lt, OnOk, OnErr};
+ghost use Rattle.std.specs.Prelude.{◌≡◌, ◌+◌, ◌-◌, ◌<◌, ◌≤◌, ◌^◌, ◌↔◌, Err, length, nat_lt, IfOk, OnOk, OnErr};
 ghost use Rattle.component.specs.View.{HasRoomFor, need_for, back_from};
+ghost use Rattle.guest_steps.specs.Planned.{IsPlanOf, PlansBoth, planned, shared_with};
 ghost use Rattle.guest_steps.specs.View.{shared_of, depth_of, rows_given};
 ghost use Rattle.owner_table.specs.Rows.{HasRows, HasSameFrames};
 ghost use Rattle.page_state.specs.Regions.{end_of};
@@ -9,25 +10,137 @@ ghost use Rattle.reference_model.specs.Step.{shared_need, shared_after};
 ghost use Rattle.page_state.specs.Rows.{HasPageBelow};
 ghost use Rattle.table_tree.specs.View.{spares_of};
 
-use crate::both::change_both;
+use crate::both::reserve_both;
 use crate::parts::SharedPart;
+use component::Plan;
 use hyp_pool::PoolFault;
 use page_state::{PageRange, Row};
 use reference_model::Changes;
 use std::alloc::Allocator;
 
+/// The tables that the changes of the host's and of the hypervisor's map need.
+#[derive(Clone, Copy)]
+pub struct SharedNeed {
+    pub host: usize,
+    pub hyp: usize,
+}
+
+/// All that changes of the host's and the hypervisor's map need, in hand: the tables, the host's with the lowest frames, and
+/// room in the maplets. It must be spent, by `commit` or by `release`.
+pub struct SharedPlan<A: Allocator> {
+    pub host: Plan<A>,
+    pub hyp: Plan<A>,
+}
+
 impl<A: Allocator> SharedPart<A> {
-    /// Whether the pool has fewer free frames than both changes need tables.
-    pub fn is_short(&self, changes: &Changes) -> bool
+    /// The tables that both changes need.
+    pub fn need(&self, changes: &Changes) -> SharedNeed
         requires host_change { FitsWhere (depth_of self.now) changes.now.host }
         requires hyp_change { FitsWhere (depth_of self.now) changes.now.hyp }
-        ensures { result ≡ nat_lt (length (shared_of self.now).free) (shared_need (depth_of self.now) changes.now (shared_of self.now)) }
+        ensures host { result.host ≡ need_for self.now.host.tree changes.now.host }
+        ensures hyp { result.hyp ≡ need_for self.now.hyp.tree changes.now.hyp }
+        ensures total { result.host + result.hyp ≡ shared_need (depth_of self.now) changes.now (shared_of self.now) }
+        ensures small { result.host + result.hyp ≤ 2 ^ 41 }
     {
-        self.pool.free() < self.host.need(&changes.host) + self.hyp.need(&changes.hyp)
+        SharedNeed {
+            host: self.host.need(&changes.host),
+            hyp: self.hyp.need(&changes.hyp),
+        }
+    }
+
+    /// Whether the pool has fewer free frames than both changes need tables.
+    pub fn is_short(&self, need: SharedNeed) -> bool
+        requires { need.host + need.hyp ≤ 2 ^ 41 }
+        ensures { result ≡ nat_lt (length self.now.pool.frames) (need.host + need.hyp) }
+    {
+        self.pool.free() < need.host + need.hyp
+    }
+
+    /// Makes the changes of both maps, with what is in hand for them. It takes no memory and can't fail. Rows and log stay.
+    pub fn commit(&mut self, plan: SharedPlan<A>)
+        requires host_change { FitsWhere (depth_of self.old) plan.host.change }
+        requires hyp_change { FitsWhere (depth_of self.old) plan.hyp.change }
+        requires planned { IsPlanOf self.old plan }
+        ensures made { shared_of self.new ≡ shared_after (depth_of self.old) (planned plan) (shared_with plan self.old) }
+        ensures host_spares { spares_of self.new.host.tree ≡ spares_of self.old.host.tree + length (back_from self.old.host.tree plan.host.change) }
+        ensures hyp_spares { spares_of self.new.hyp.tree ≡ spares_of self.old.hyp.tree + length (back_from self.old.hyp.tree plan.hyp.change) }
+        ensures rows { self.new.owners ≡ self.old.owners }
+        ensures log { self.new.log ≡ self.old.log }
+        ensures depth { depth_of self.new ≡ depth_of self.old }
+    {
+        let SharedPlan {
+            host: host_plan,
+            hyp: hyp_plan,
+        } = plan;
+        let host = &mut self.host;
+        let hyp = &mut self.hyp;
+        let pool = &mut self.pool;
+        host.commit(pool, host_plan);
+        hyp.commit(pool, hyp_plan);
+    }
+
+    /// Gives all that is in hand back, and changes nothing but the number of spares.
+    pub fn release(&mut self, plan: SharedPlan<A>)
+        requires { IsPlanOf self.old plan }
+        ensures same { shared_of self.new ≡ shared_with plan self.old }
+        ensures host_spares { spares_of self.old.host.tree ≤ spares_of self.new.host.tree }
+        ensures hyp_spares { spares_of self.old.hyp.tree ≤ spares_of self.new.hyp.tree }
+        ensures host_runs { self.new.host.maplets.runs ≡ self.old.host.maplets.runs }
+        ensures hyp_runs { self.new.hyp.maplets.runs ≡ self.old.hyp.maplets.runs }
+        ensures rows { self.new.owners ≡ self.old.owners }
+        ensures log { self.new.log ≡ self.old.log }
+        ensures depth { depth_of self.new ≡ depth_of self.old }
+    {
+        let SharedPlan {
+            host: host_plan,
+            hyp: hyp_plan,
+        } = plan;
+        let host = &mut self.host;
+        let hyp = &mut self.hyp;
+        let pool = &mut self.pool;
+        hyp.release(pool, hyp_plan);
+        host.release(pool, host_plan);
     }
 }
 
 impl<A: Allocator + Copy> SharedPart<A> {
+    /// Takes all that both changes need in hand. NoPool is answered exactly where the pool has fewer frames than both need
+    /// tables, before memory is asked for; NoMemory only where a tree has fewer spares than it needs tables, or maplets no
+    /// room, and memory was refused. A refusal changes nothing but the number of spares.
+    pub fn reserve(
+        &mut self,
+        alloc: A,
+        changes: &Changes,
+        need: SharedNeed,
+    ) -> Result<SharedPlan<A>, PoolFault>
+        requires host { need.host ≡ need_for self.old.host.tree changes.now.host }
+        requires hyp { need.hyp ≡ need_for self.old.hyp.tree changes.now.hyp }
+        requires small { need.host + need.hyp ≤ 2 ^ 41 }
+        ensures ready { IfOk result (λ p. IsPlanOf self.new p) }
+        ensures planned { IfOk result (λ p. PlansBoth changes.now p) }
+        ensures whole { IfOk result (λ p. shared_with p self.new ≡ shared_of self.old) }
+        ensures no_pool { (result ≡ Err PoolFault.NoPool) ↔ (length self.old.pool.frames < need.host + need.hyp) }
+        ensures no_memory { result ≡ Err PoolFault.NoMemory → HasRoomFor changes.now.host self.old.host.maplets → HasRoomFor changes.now.hyp self.old.hyp.maplets → need.host ≤ spares_of self.old.host.tree → need.hyp ≤ spares_of self.old.hyp.tree → ⊥ }
+        ensures host_spares { OnOk result (spares_of self.new.host.tree ≡ spares_of self.old.host.tree - need.host) }
+        ensures hyp_spares { OnOk result (spares_of self.new.hyp.tree ≡ spares_of self.old.hyp.tree - need.hyp) }
+        ensures err { OnErr result (shared_of self.new ≡ shared_of self.old) }
+        ensures err_host_spares { OnErr result (spares_of self.old.host.tree ≤ spares_of self.new.host.tree) }
+        ensures err_hyp_spares { OnErr result (spares_of self.old.hyp.tree ≤ spares_of self.new.hyp.tree) }
+        ensures host_runs { self.new.host.maplets.runs ≡ self.old.host.maplets.runs }
+        ensures hyp_runs { self.new.hyp.maplets.runs ≡ self.old.hyp.maplets.runs }
+        ensures rows { self.new.owners ≡ self.old.owners }
+        ensures log { self.new.log ≡ self.old.log }
+        ensures depth { depth_of self.new ≡ depth_of self.old }
+    {
+        let host = &mut self.host;
+        let hyp = &mut self.hyp;
+        let pool = &mut self.pool;
+        if pool.free() < need.host + need.hyp {
+            return Err(PoolFault::NoPool);
+        }
+        reserve_both(alloc, host, hyp, pool, changes, need)
+    }
+
     /// Makes the changes of the host's and the hypervisor's map, or none: NoPool is answered exactly where the pool has fewer
     /// frames than both need tables, NoMemory only where a tree has fewer spares than it needs tables, or maplets no room, and
     /// memory was refused. Rows and log stay.
@@ -48,10 +161,10 @@ impl<A: Allocator + Copy> SharedPart<A> {
         ensures log { self.new.log ≡ self.old.log }
         ensures depth { depth_of self.new ≡ depth_of self.old }
     {
-        let host = &mut self.host;
-        let hyp = &mut self.hyp;
-        let pool = &mut self.pool;
-        change_both(alloc, host, hyp, pool, changes)
+        let need = self.need(changes);
+        let plan = self.reserve(alloc, changes, need)?;
+        self.commit(plan);
+        Ok(())
     }
 }
 

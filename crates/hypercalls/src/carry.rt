@@ -80,12 +80,11 @@ pub(crate) fn change_guest<A: Allocator + Copy>(
     ensures suits { GuestSuits (layout_of layout.now) part.new }
     ensures log { part.new.log ≡ part.old.log }
 {
-    let plan = part.guest.reserve(alloc, changes)?;
-    part.guest.commit(alloc, changes, plan);
-    Ok(())
+    part.guest.change(alloc, changes)
 }
 
-/// Makes the changes of the Shared part, with its rows, and of the guest of a slot, or none of them.
+/// Makes the changes of the Shared part, with its rows, and of the guest of a slot, or none of them. What both need is found,
+/// then all of it is taken in hand, and then both are changed.
 pub(crate) fn change_both<A: Allocator + Copy>(
     alloc: A,
     layout: &Layout,
@@ -112,13 +111,23 @@ pub(crate) fn change_both<A: Allocator + Copy>(
     ensures log { shared.new.log ≡ shared.old.log }
     ensures guest_log { part.new.log ≡ part.old.log }
 {
-    if shared.is_short(changes) {
+    let need = shared.need(changes);
+    if shared.is_short(need) {
         return Err(PoolFault::NoPool);
     }
-    let plan = part.guest.reserve(alloc, changes)?;
-    change_shared(alloc, layout, id, Some(slot), changes, shared)?;
-    part.guest.commit(alloc, changes, plan);
-    Ok(())
+    let guest_plan = part.guest.reserve(alloc, changes)?;
+    match shared.reserve(alloc, changes, need) {
+        Ok(plan) => {
+            shared.commit(plan);
+            write_rows(layout, id, Some(slot), changes, shared);
+            part.guest.commit(changes, guest_plan);
+            Ok(())
+        }
+        Err(fault) => {
+            part.guest.release(guest_plan);
+            Err(fault)
+        }
+    }
 }
 
 /// The reply of a call whose parts were changed, and then the CPU's own state changes too; or weren't, for want of free

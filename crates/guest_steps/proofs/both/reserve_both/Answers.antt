@@ -28,7 +28,7 @@ err_is (Err f) e m h = ap Err (h ∙ m)
 pub release-requires-clause-distinct : goal.release-requires-clause-distinct
 release-requires-clause-distinct g c f =
     let p = c.args.pool.now.frames in
-    let n = c.args.host_need in
+    let n = c.args.need.host in
     let a : frame_count f (frames_of c.in_ok-host_plan.host_plan.spare.stock) ≡ frame_count f (take n p) = ap (frame_count f) c.in_ok-host_plan.ensures.spare in
     let b : frame_count f c.reserve-2.new.pool.frames ≡ frame_count f (drop n p) = ap (λ q. frame_count f q.frames) c.in-Err.ensures.err ∙ ap (frame_count f) c.in_ok-host_plan.ensures.pool in
     omega (arith, a, b, count_parts f n p, c.counted_frames.ensures.once f p c.requires.pool.rising)
@@ -36,7 +36,7 @@ release-requires-clause-distinct g c f =
 pub release-requires-clause-covered : goal.release-requires-clause-covered
 release-requires-clause-covered g c =
     let p = c.args.pool.now.frames in
-    let n = c.args.host_need in
+    let n = c.args.need.host in
     let a : length (frames_of c.in_ok-host_plan.host_plan.spare.stock) ≡ length (take n p) = ap length c.in_ok-host_plan.ensures.spare in
     let b : length c.reserve-2.new.pool.frames ≡ length (drop n p) = ap (λ q. length q.frames) c.in-Err.ensures.err ∙ ap length c.in_ok-host_plan.ensures.pool in
     omega (arith, a, b, take_drop_length n p, c.requires.pool.covered, c.reserve.ensures.room, c.reserve-2.ensures.room)
@@ -44,17 +44,14 @@ release-requires-clause-covered g c =
 pub returns-in-Err-clause-err : goal.returns-in-Err-clause-err
 returns-in-Err-clause-err g c =
     let p = c.args.pool.now.frames in
-    let n = c.args.host_need in
+    let n = c.args.need.host in
     let a : frames_of c.in_ok-host_plan.host_plan.spare.stock ≡ take n p = c.in_ok-host_plan.ensures.spare in
     let b : c.reserve-2.new.pool.frames ≡ drop n p = ap (λ q. q.frames) c.in-Err.ensures.err ∙ c.in_ok-host_plan.ensures.pool in
     same_pool c.release.new.pool c.args.pool.now (c.release.ensures.frames ∙ ap (λ l. all_given l c.reserve-2.new.pool.frames) a ∙ ap (all_given (take n p)) b ∙ c.given_back.ensures n p c.requires.pool.rising)
     (c.release.ensures.room ∙ c.reserve-2.ensures.room ∙ c.reserve.ensures.room)
 
-pub returns-in_err-host_plan-clause-host_change : goal.returns-in_err-host_plan-clause-host_change
-returns-in_err-host_plan-clause-host_change g c = IfOk-from_err _ _ c.from_residual.ensures.0
-
-pub returns-in_err-host_plan-clause-hyp_change : goal.returns-in_err-host_plan-clause-hyp_change
-returns-in_err-host_plan-clause-hyp_change g c = IfOk-from_err _ _ c.from_residual.ensures.0
+pub returns-in_err-host_plan-clause-planned : goal.returns-in_err-host_plan-clause-planned
+returns-in_err-host_plan-clause-planned g c = IfOk-from_err _ _ c.from_residual.ensures.0
 
 pub returns-in_err-host_plan-clause-host : goal.returns-in_err-host_plan-clause-host
 returns-in_err-host_plan-clause-host g c = IfOk-from_err _ _ c.from_residual.ensures.0
@@ -113,17 +110,14 @@ returns-in_err-host_plan-clause-host_runs g c = c.reserve.ensures.runs
 pub returns-in_err-host_plan-clause-hyp_runs : goal.returns-in_err-host_plan-clause-hyp_runs
 returns-in_err-host_plan-clause-hyp_runs g c = refl
 
-pub returns-in-Ok-clause-host_change : goal.returns-in-Ok-clause-host_change
-returns-in-Ok-clause-host_change g c = c.in_ok-host_plan.ensures.change
-
-pub returns-in-Ok-clause-hyp_change : goal.returns-in-Ok-clause-hyp_change
-returns-in-Ok-clause-hyp_change g c = c.in-Ok.ensures.change
+pub returns-in-Ok-clause-planned : goal.returns-in-Ok-clause-planned
+returns-in-Ok-clause-planned g c = record { host = c.in_ok-host_plan.ensures.change; hyp = c.in-Ok.ensures.change }
 
 pub returns-in-Ok-clause-host : goal.returns-in-Ok-clause-host
 returns-in-Ok-clause-host g c = c.in_ok-host_plan.ensures.spare
 
 pub returns-in-Ok-clause-hyp : goal.returns-in-Ok-clause-hyp
-returns-in-Ok-clause-hyp g c = c.in-Ok.ensures.spare ∙ ap (take c.args.hyp_need) c.in_ok-host_plan.ensures.pool
+returns-in-Ok-clause-hyp g c = c.in-Ok.ensures.spare ∙ ap (take c.args.need.hyp) c.in_ok-host_plan.ensures.pool
 
 pub returns-in-Ok-clause-host_ready : goal.returns-in-Ok-clause-host_ready
 returns-in-Ok-clause-host_ready g c = c.in_ok-host_plan.ensures.ready
@@ -132,7 +126,7 @@ pub returns-in-Ok-clause-hyp_ready : goal.returns-in-Ok-clause-hyp_ready
 returns-in-Ok-clause-hyp_ready g c = c.in-Ok.ensures.ready
 
 pub returns-in-Ok-clause-left : goal.returns-in-Ok-clause-left
-returns-in-Ok-clause-left g c = c.in-Ok.ensures.pool ∙ ap (drop c.args.hyp_need) c.in_ok-host_plan.ensures.pool
+returns-in-Ok-clause-left g c = c.in-Ok.ensures.pool ∙ ap (drop c.args.need.hyp) c.in_ok-host_plan.ensures.pool
 
 pub returns-in-Ok-clause-succeeds : goal.returns-in-Ok-clause-succeeds
 returns-in-Ok-clause-succeeds g c = λ _ _ _ _. refl
@@ -176,11 +170,8 @@ returns-in-Ok-clause-host_runs g c = c.reserve.ensures.runs
 pub returns-in-Ok-clause-hyp_runs : goal.returns-in-Ok-clause-hyp_runs
 returns-in-Ok-clause-hyp_runs g c = c.reserve-2.ensures.runs
 
-pub returns-in-Err-clause-host_change : goal.returns-in-Err-clause-host_change
-returns-in-Err-clause-host_change g c = tt
-
-pub returns-in-Err-clause-hyp_change : goal.returns-in-Err-clause-hyp_change
-returns-in-Err-clause-hyp_change g c = tt
+pub returns-in-Err-clause-planned : goal.returns-in-Err-clause-planned
+returns-in-Err-clause-planned g c = tt
 
 pub returns-in-Err-clause-host : goal.returns-in-Err-clause-host
 returns-in-Err-clause-host g c = tt
@@ -198,10 +189,10 @@ pub returns-in-Err-clause-left : goal.returns-in-Err-clause-left
 returns-in-Err-clause-left g c = tt
 
 pub returns-in-Err-clause-succeeds : goal.returns-in-Err-clause-succeeds
-returns-in-Err-clause-succeeds g c = λ _ h _ r. absurd (omega (arith, h, c.in-Err.ensures.no_memory (ap Err (no_memory _ (λ e. let less = c.in-Err.ensures.no_pool (ap Err e) in omega (arith, less, c.requires.enough, ap length c.in_ok-host_plan.ensures.pool, length-drop c.args.host_need c.args.pool.now.frames)))) r))
+returns-in-Err-clause-succeeds g c = λ _ h _ r. absurd (omega (arith, h, c.in-Err.ensures.no_memory (ap Err (no_memory _ (λ e. let less = c.in-Err.ensures.no_pool (ap Err e) in omega (arith, less, c.requires.enough, ap length c.in_ok-host_plan.ensures.pool, length-drop c.args.need.host c.args.pool.now.frames)))) r))
 
 pub returns-in-Err-clause-no_memory : goal.returns-in-Err-clause-no_memory
-returns-in-Err-clause-no_memory g c = ap Err (no_memory _ (λ e. let less = c.in-Err.ensures.no_pool (ap Err e) in omega (arith, less, c.requires.enough, ap length c.in_ok-host_plan.ensures.pool, length-drop c.args.host_need c.args.pool.now.frames)))
+returns-in-Err-clause-no_memory g c = ap Err (no_memory _ (λ e. let less = c.in-Err.ensures.no_pool (ap Err e) in omega (arith, less, c.requires.enough, ap length c.in_ok-host_plan.ensures.pool, length-drop c.args.need.host c.args.pool.now.frames)))
 
 pub returns-in-Err-clause-room : goal.returns-in-Err-clause-room
 returns-in-Err-clause-room g c = c.release.ensures.room ∙ c.reserve-2.ensures.room ∙ c.reserve.ensures.room
@@ -225,7 +216,7 @@ pub returns-in-Err-clause-hyp_spares : goal.returns-in-Err-clause-hyp_spares
 returns-in-Err-clause-hyp_spares g c = tt
 
 pub returns-in-Err-clause-err_host_spares : goal.returns-in-Err-clause-err_host_spares
-returns-in-Err-clause-err_host_spares g c = omega (arith, c.release.ensures.spares, c.in_ok-host_plan.ensures.spares, ap length c.in_ok-host_plan.ensures.spare, take_length c.args.host_need c.args.pool.now.frames (omega (arith, c.requires.enough)))
+returns-in-Err-clause-err_host_spares g c = omega (arith, c.release.ensures.spares, c.in_ok-host_plan.ensures.spares, ap length c.in_ok-host_plan.ensures.spare, take_length c.args.need.host c.args.pool.now.frames (omega (arith, c.requires.enough)))
 
 pub returns-in-Err-clause-err_hyp_spares : goal.returns-in-Err-clause-err_hyp_spares
 returns-in-Err-clause-err_hyp_spares g c = c.in-Err.ensures.err_spares

@@ -1,8 +1,13 @@
-use Rattle.guest_steps.proofs.Shares.{changed, unchanged}
+use Rattle.std.proofs.Common.{ap, ◌∙◌}
+use Rattle.reference_model.specs.Step.{shared_after}
+use Rattle.guest_steps.specs.Planned.{planned, shared_with}
+use Rattle.guest_steps.specs.View.{depth_of}
+use Rattle.guest_steps.proofs.Planned.{after_planned}
 use Rattle.guest_steps.proofs.parts.SharedPart.change.Goals as goal
 
 pub returns-clause-made : goal.returns-clause-made
-returns-clause-made g c = changed c.args.self.now c.change_both.result c.args.changes.now c.change_both.new.host.tree c.change_both.new.hyp.tree c.change_both.new.pool c.change_both.ensures.host c.change_both.ensures.hyp c.change_both.ensures.pool
-
-pub returns-clause-err : goal.returns-clause-err
-returns-clause-err g c = unchanged c.args.self.now c.change_both.result c.change_both.new.host.tree c.change_both.new.hyp.tree c.change_both.new.pool c.change_both.ensures.host_geometry c.change_both.ensures.hyp_geometry c.change_both.ensures.err_host c.change_both.ensures.err_hyp c.change_both.ensures.err_pool
+returns-clause-made g c =
+    let s = c.args.self.now in
+    let p = c.in_ok-plan.plan in
+    c.commit.ensures.made ∙ ap (λ d. shared_after d (planned p) (shared_with p c.reserve.new.self)) c.reserve.ensures.depth ∙ after_planned (depth_of s) c.args.changes.now p (shared_with p c.reserve.new.self) c.in_ok-plan.ensures.planned
+    ∙ ap (shared_after (depth_of s) c.args.changes.now) c.in_ok-plan.ensures.whole
