@@ -17,7 +17,7 @@ use Rattle.reference_model.specs.declared.changes.CpuChange.{CpuChange}
 use Rattle.reference_model.specs.declared.changes.GuestChange.TheVariants.{Gain, Install as InstallGuest}
 use Rattle.reference_model.specs.declared.changes.Stage.TheVariants.{Installed as installed}
 use Rattle.reference_model.specs.declared.changes.Update.TheVariants.{Becomes}
-use Rattle.reference_model.specs.Answers.{decides}
+use Rattle.reference_model.specs.Decides.{decides}
 use Rattle.reference_model.specs.Changes.{no_changes}
 use Rattle.reference_model.specs.GuestRules.{finish_guest, guest_table_count, is_guest, least, moved_on, reclaim_pool, ticket_kind, ticket_vm}
 use Rattle.reference_model.specs.Rely.{CanRely}

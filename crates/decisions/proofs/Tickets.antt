@@ -8,7 +8,7 @@ use Rattle.page_state.specs.Layouts.{Layout}
 use Rattle.reference_model.specs.declared.changes.CpuChange.{CpuChange}
 use Rattle.reference_model.specs.declared.changes.SlotChange.TheVariants.{Open, Release}
 use Rattle.reference_model.specs.declared.changes.Stage.TheVariants.{Booked, Installed, Finished}
-use Rattle.reference_model.specs.Answers.{decides}
+use Rattle.reference_model.specs.Decides.{decides}
 use Rattle.reference_model.specs.Changes.{no_changes}
 use Rattle.reference_model.specs.GuestRules.{ticket_vm}
 use Rattle.reference_model.specs.Rules.{rule}

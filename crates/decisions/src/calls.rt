@@ -5,7 +5,7 @@ ghost use Rattle.guest_steps.specs.Lent.{SharedSuits};
 ghost use Rattle.guest_steps.specs.View.{cpu_of, shared_of, vm_slots};
 ghost use Rattle.decisions.specs.Grows.{GrowsOnly};
 ghost use Rattle.page_state.specs.LayoutView.{layout_of};
-ghost use Rattle.reference_model.specs.Answers.{decides};
+ghost use Rattle.reference_model.specs.Decides.{decides};
 ghost use Rattle.page_state.specs.Layouts.{Layout as ReferenceLayout, is_good_page, is_good_range};
 ghost use Rattle.reference_model.specs.GuestRules.{are_good_pages as are_good_pages_of};
 ghost use Rattle.reference_model.specs.Parts.{guest as just_guest, guest_slot, names, shared_and_guest, uses_shared, uses_vms};

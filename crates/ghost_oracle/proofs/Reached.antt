@@ -9,7 +9,7 @@ use Rattle.page_state.proofs.Cases.{by_lt, by_test}
 use Rattle.page_state.proofs.Common.{same2, same4, eq-same}
 use Rattle.reference_model.specs.Boot.{boot, booted}
 use Rattle.reference_model.specs.Conditions.{Legal, IsUsable}
-use Rattle.reference_model.specs.Held.{held_state}
+use Rattle.reference_model.specs.Stored.{held_state}
 use Rattle.reference_model.specs.Parts.{guest_part, call_uses, is_slot}
 use Rattle.reference_model.specs.Run.{Runs, IsRun}
 use Rattle.reference_model.specs.State.{Reference, no_guest, no_cpu}

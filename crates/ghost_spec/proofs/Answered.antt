@@ -9,7 +9,7 @@ use Rattle.step_reply.specs.declared.step.Step.{Step}
 use Rattle.page_state.specs.Layouts.{Layout}
 use Rattle.page_state.proofs.Cases.{by_test}
 use Rattle.reference_model.specs.declared.changes.Changes.{Changes}
-use Rattle.reference_model.specs.Answers.{decides}
+use Rattle.reference_model.specs.Decides.{decides}
 use Rattle.reference_model.specs.ChangeLaws.{OnlyUses}
 use Rattle.reference_model.specs.Changes.{touched}
 use Rattle.reference_model.specs.Parts.{names, uses_vms, lacks_slot}

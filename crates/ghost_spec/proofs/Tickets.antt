@@ -17,7 +17,7 @@ use Rattle.reference_model.specs.declared.changes.Stage.{Stage}
 use Rattle.reference_model.specs.declared.changes.Stage.TheVariants.{Booked, Installed, Finished}
 use Rattle.reference_model.specs.declared.changes.Ticket.{Ticket}
 use Rattle.reference_model.specs.declared.changes.Update.TheVariants.{Becomes}
-use Rattle.reference_model.specs.Answers.{decides}
+use Rattle.reference_model.specs.Decides.{decides}
 use Rattle.reference_model.specs.Changes.{no_changes}
 use Rattle.reference_model.specs.GuestRules.{ticket_vm, ticket_kind, ticket_becomes, moved_on}
 use Rattle.reference_model.specs.Parts.{stage_eq, has_stage, ticket_slot}

@@ -1,7 +1,7 @@
 //! What a call decides.
 ghost use Rattle.std.specs.Prelude.{◌≡◌, IfOk, length, true};
 ghost use Rattle.page_state.specs.LayoutView.{layout_of};
-ghost use Rattle.reference_model.specs.Answers.{decides};
+ghost use Rattle.reference_model.specs.Decides.{decides};
 ghost use Rattle.reference_model.specs.Parts.{names, uses_vms as uses_vms_of};
 ghost use Rattle.ghost_spec.specs.Kept.{AreSmallChanges, IsLowSlot};
 ghost use Rattle.ghost_spec.specs.Used.{IsKeptUsed, used_in};

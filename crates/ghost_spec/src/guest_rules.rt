@@ -8,7 +8,7 @@ ghost use Rattle.page_state.specs.LayoutView.{layout_of};
 ghost use Rattle.page_state.specs.Runs.{map_of};
 ghost use Rattle.page_state.specs.Search.{all_below};
 ghost use Rattle.reference_model.specs.declared.changes.Update.TheVariants.{Becomes};
-ghost use Rattle.reference_model.specs.Answers.{decides};
+ghost use Rattle.reference_model.specs.Decides.{decides};
 ghost use Rattle.reference_model.specs.GuestRules.{are_good_pages as are_good_pages_of, guest_table_count as guest_table_count_of, is_guest as is_guest_of, is_protected as is_protected_of, least as least_of, moved_on as moved_on_of, two_pages as two_pages_of, two_ranges as two_ranges_of};
 ghost use Rattle.reference_model.specs.SharedRules.{to_host as to_host_of};
 ghost use Rattle.reference_model.specs.State.{live, dying};

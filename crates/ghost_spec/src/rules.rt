@@ -7,7 +7,7 @@ ghost use Rattle.page_state.specs.Layouts.{hyp_page as hyp_page_of};
 ghost use Rattle.page_state.specs.LayoutView.{layout_of};
 ghost use Rattle.page_state.specs.Runs.{map_of};
 ghost use Rattle.page_state.specs.Search.{all_below};
-ghost use Rattle.reference_model.specs.Answers.{decides};
+ghost use Rattle.reference_model.specs.Decides.{decides};
 ghost use Rattle.reference_model.specs.Changes.{change as change_of};
 ghost use Rattle.reference_model.specs.SharedRules.{abort_depth as abort_depth_of, abort_leaf as abort_leaf_of, is_plain as is_plain_of, may_map as may_map_of};
 ghost use Rattle.ghost_spec.specs.Kept.{AreSmallChanges, IsKeptShared};

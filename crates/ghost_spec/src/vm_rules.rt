@@ -3,7 +3,7 @@ ghost use Rattle.std.specs.Prelude.{◌≡◌, ℕ, ◌<◌, ◌&&◌, ◌||◌,
 ghost use Rattle.step_reply.specs.declared.step.Step.TheVariants.{VmReserve, VmOpen, VcpuLoad, VcpuPut, Teardown, VmRelease};
 ghost use Rattle.page_state.specs.Layouts.{Layout as ReferenceLayout};
 ghost use Rattle.reference_model.specs.declared.changes.Update.TheVariants.{Becomes};
-ghost use Rattle.reference_model.specs.Answers.{decides};
+ghost use Rattle.reference_model.specs.Decides.{decides};
 ghost use Rattle.reference_model.specs.Changes.{same_cpu};
 ghost use Rattle.reference_model.specs.Parts.{has_stage as has_stage_of};
 ghost use Rattle.reference_model.specs.State.{vacant};

@@ -52,11 +52,6 @@ abbrev pub CanTake : {A : Type 0} → TableTree A → StoredFrames → GuestChan
 CanTake t p (Gain r) = CanGainFrames t p r
 CanTake t p other = Unit {0}
 
--- the change makes no guest
-abbrev pub MakesNone : GuestChange → Type 0
-MakesNone (Install kind generation hand) = ⊥
-MakesNone other = Unit {0}
-
 -- the change makes no guest, and ends none
 abbrev pub StaysMade : GuestChange → Type 0
 StaysMade (Install kind generation hand) = ⊥

@@ -4,3 +4,4 @@ pub mod View
 pub mod InHand
 pub mod Changing
 pub mod Plans
+pub mod Wants

@@ -16,14 +16,9 @@ use Rattle.guest_component.specs.declared.body.Body.{Body}
 use Rattle.guest_component.specs.declared.guest.Guest.{Guest as GuestComponent}
 use Rattle.guest_component.specs.declared.guest.GuestPlan.{GuestPlan}
 use Rattle.guest_component.specs.Bodies.{body_of}
-use Rattle.guest_component.specs.Changing.{GuestCanChange, MakesNone}
+use Rattle.guest_component.specs.Changing.{GuestCanChange}
 use Rattle.guest_component.specs.InHand.{IsInHand, body_with}
 use Rattle.guest_component.specs.View.{guest_of, guest_in, guest_depth}
-
--- a guest's tree has n spares or more, and its maplets the room that a change of its map needs
-abbrev pub HasReadyMap : {A : Type 0} → ℕ → Option MapChange → Option (Body A) → Type 0
-HasReadyMap n c None = Unit {0}
-HasReadyMap n c (Some b) = (n ≤ spares_of b.map.tree) × HasRoomFor c b.map.maplets
 
 -- the guest that an install makes is there
 abbrev pub IsMadeFor : {A : Type 0} → Geometry → GuestChange → Option (Body A) → Type 0
@@ -56,8 +51,3 @@ pub record IsReadyFor {A : Type 0} (h : Changes) (g : GuestComponent A) (p : Gue
   pub map : IsMapInHand g.body p.map
   pub planned : PlansFor h.guest p.map
   pub made : IsMadeFor g.geometry h.part p.made
-
--- memory for the changes is there already: they make no guest, and the tree has spares for them and the maplets room
-pub record WantsNoMemory {A : Type 0} (h : Changes) (g : GuestComponent A) : Type 0 where
-  pub made : MakesNone h.part
-  pub map : HasReadyMap (guest_need (guest_depth g) h (guest_of g)) h.guest g.body

@@ -1,8 +1,10 @@
 //! Changes of a guest, in words of the reference state.
 ghost use Rattle.std.specs.Prelude.{◌≡◌, ◌<◌, ◌≤◌, ◌↔◌, length, Err, IfOk, OnOk, OnErr};
 ghost use Rattle.guest_component.specs.Bodies.{IsOfGeometry};
-ghost use Rattle.guest_component.specs.Changing.{CanInstallFrom, GuestCanChange, MakesNone, StaysMade};
-ghost use Rattle.guest_component.specs.Plans.{HasReadyMap, IsMadeFor, IsMapInHand, IsReadyFor, PlansFor, WantsNoMemory, guest_with, map_with};
+ghost use Rattle.guest_component.specs.Changing.{CanInstallFrom, GuestCanChange, StaysMade};
+ghost use Rattle.guest_component.specs.Wants.{MakesNone};
+ghost use Rattle.guest_component.specs.Plans.{IsMadeFor, IsMapInHand, IsReadyFor, PlansFor, guest_with, map_with};
+ghost use Rattle.guest_component.specs.Wants.{HasReadyMap, WantsNoMemory};
 ghost use Rattle.guest_component.specs.View.{guest_of, guest_depth, guest_in, guest_spares, runs_of};
 ghost use Rattle.reference_model.specs.Step.{guest_after, guest_need};
 

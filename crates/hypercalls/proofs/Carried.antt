@@ -30,8 +30,9 @@ use Rattle.std.proofs.lemmas.Bool.Decides.{nat_tests}
 use Rattle.component.specs.View.{HasRoomFor, need_for}
 use Rattle.guest_component.specs.declared.body.Body.{Body}
 use Rattle.guest_component.specs.declared.guest.Guest.{Guest as GuestComponent}
-use Rattle.guest_component.specs.Changing.{GuestCanChange, MakesNone}
-use Rattle.guest_component.specs.Plans.{HasReadyMap, WantsNoMemory}
+use Rattle.guest_component.specs.Changing.{GuestCanChange}
+use Rattle.guest_component.specs.Wants.{MakesNone}
+use Rattle.guest_component.specs.Wants.{HasReadyMap, WantsNoMemory}
 use Rattle.guest_component.specs.View.{guest_depth, guest_of}
 use Rattle.component.proofs.Keeps.{need_keep}
 use Rattle.page_state.specs.Geometries.{levels_below}
@@ -43,7 +44,8 @@ use Rattle.guest_steps.specs.View.{vm_slots, shared_of, guest_held, cpu_of}
 use Rattle.reference_model.specs.declared.changes.SlotChange.TheVariants.{Keep as KeepSlots}
 use Rattle.reference_model.specs.Parts.{Names, uses_shared}
 use Rattle.decisions.specs.Grows.{GrowsOnly}
-use Rattle.hypercalls.specs.Carried.{Ends, IsRoomy, LeavesGuest, LeavesShared, is_either_short, rows_told}
+use Rattle.hypercalls.specs.Carried.{Ends, LeavesGuest, LeavesShared, is_either_short, rows_told}
+use Rattle.hypercalls.specs.Roomy.{IsRoomy}
 
 less_none : (n : ℕ) → nat_lt n 0 ≡ false
 less_none n = grind (arith, nat_tests)

@@ -3,7 +3,7 @@ use Rattle.std.proofs.Common.{arith, ◌≡◌, ◌∙◌, ℕ, zero, suc, ◌<�
 use Rattle.std.proofs.lemmas.Bool.Decides.{nat_tests}
 use Rattle.page_state.proofs.Cases.{by_test}
 use Rattle.step_reply.specs.declared.reply.Call.{Call}
-use Rattle.reference_model.specs.Laws.{Stores}
+use Rattle.reference_model.specs.Stored.{Stores}
 use Rattle.reference_model.specs.Parts.{is_slot}
 use Rattle.guest_steps.specs.Lent.{with_call}
 use Rattle.guest_steps.specs.Logs.{StoredCalls}

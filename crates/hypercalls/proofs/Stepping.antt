@@ -14,14 +14,16 @@ use Rattle.guest_steps.specs.Lent.{LentLogs, Lent, with_call, all_with, call_in,
 use Rattle.guest_steps.specs.Logs.{StoredCalls, IsOfSize}
 use Rattle.guest_steps.specs.View.{cpu_of}
 use Rattle.reference_model.specs.declared.changes.Changes.{Changes}
-use Rattle.reference_model.specs.Answers.{AnswerSteps, BarredAnswers, FullSteps, decides}
+use Rattle.reference_model.specs.Answers.{AnswerSteps, BarredAnswers, FullSteps}
+use Rattle.reference_model.specs.Decides.{decides}
 use Rattle.reference_model.proofs.Answers.{answer-stored}
 use Rattle.reference_model.specs.Parts.{Names, names, uses_vms, uses_shared}
 use Rattle.reference_model.specs.Rely.{CanRely, RelyingAnswers}
 use Rattle.reference_model.specs.Step.{is_full, stored as stored_rooms, Answered, StepsOn}
 use Rattle.reference_model.specs.Used.{Used}
-use Rattle.guest_component.specs.Plans.{WantsNoMemory}
-use Rattle.hypercalls.specs.Carried.{Ends, IsRoomy}
+use Rattle.guest_component.specs.Wants.{WantsNoMemory}
+use Rattle.hypercalls.specs.Carried.{Ends}
+use Rattle.hypercalls.specs.Roomy.{IsRoomy}
 use Rattle.hypercalls.specs.Steps.{any_full, is_full_in, CanWantOn, IsStepOn}
 use Rattle.hypercalls.proofs.Carried.{Comes, carries, told_memory}
 use Rattle.hypercalls.proofs.Using.{IsKind}

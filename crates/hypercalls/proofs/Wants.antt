@@ -17,7 +17,7 @@ use Rattle.page_state.specs.Tables.{need, needs, put}
 use Rattle.page_state.specs.Trees.{Tree}
 use Rattle.reference_model.specs.declared.changes.Changes.{Changes}
 use Rattle.reference_model.specs.declared.changes.MapChange.{MapChange}
-use Rattle.reference_model.specs.Answers.{decided, decides}
+use Rattle.reference_model.specs.Decides.{decided, decides}
 use Rattle.reference_model.specs.Changes.{edit_of}
 use Rattle.reference_model.specs.Parts.{lacks_slot, names}
 use Rattle.reference_model.specs.Rule.{Rule}
@@ -27,11 +27,11 @@ use Rattle.reference_model.specs.Used.{Used, used_of}
 use Rattle.component.specs.declared.Component.{Component}
 use Rattle.component.specs.View.{HasRoomFor, need_for}
 use Rattle.guest_component.specs.declared.body.Body.{Body}
-use Rattle.guest_component.specs.Changing.{MakesNone}
-use Rattle.guest_component.specs.Plans.{HasReadyMap}
+use Rattle.guest_component.specs.Wants.{MakesNone}
+use Rattle.guest_component.specs.Wants.{HasReadyMap}
 use Rattle.guest_component.specs.View.{guest_depth}
 use Rattle.guest_steps.specs.declared.parts.SharedPart.{SharedPart}
-use Rattle.hypercalls.specs.Carried.{IsRoomy}
+use Rattle.hypercalls.specs.Roomy.{IsRoomy}
 use Rattle.hypercalls.specs.declared.parts.Parts.{Parts}
 use Rattle.hypercalls.specs.Stands.{parts_layout, state_of}
 use Rattle.hypercalls.specs.Wants.{AreStocked, IsGuestStocked, IsStocked, StockedWants, blocks_met, changes_a_range}

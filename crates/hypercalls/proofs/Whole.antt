@@ -9,13 +9,13 @@ use Rattle.step_reply.specs.declared.reply.Reply.TheVariants.{Refused}
 use Rattle.step_reply.specs.declared.step.Step.{Step}
 use Rattle.page_state.specs.Layouts.{Layout}
 use Rattle.page_state.specs.LayoutView.{layout_of as layout_told}
-use Rattle.reference_model.specs.Answers.{decides}
+use Rattle.reference_model.specs.Decides.{decides}
 use Rattle.reference_model.specs.Boot.{CanBoot}
-use Rattle.reference_model.specs.Held.{held_state}
+use Rattle.reference_model.specs.Stored.{held_state}
 use Rattle.reference_model.specs.History.{Kept, IsHistory}
-use Rattle.reference_model.specs.Laws.{Stores, StoresCall}
+use Rattle.reference_model.specs.Stored.{Stores, StoresCall}
 use Rattle.reference_model.specs.Parts.{Names, names, guest_slot, is_slot, uses_vms, uses_shared}
-use Rattle.reference_model.specs.Rely.{IsReached}
+use Rattle.reference_model.specs.Reached.{IsReached}
 use Rattle.reference_model.specs.State.{Vms, Shared, Guest, Cpu, Reference, no_vms, no_shared, no_guest, no_cpu, put_at}
 use Rattle.reference_model.specs.Step.{Steps, StepsOn, FindsFull, IsStoredAnswer, is_full as has_full_log, stored, used_by, rooms_by, with_used}
 use Rattle.reference_model.specs.Used.{Used, UsedRooms, used_of, put_back, rooms_of, guest_at, put_guest, room_at}
@@ -30,11 +30,11 @@ use Rattle.guest_steps.specs.declared.parts.VmPart.{VmPart}
 use Rattle.guest_steps.specs.declared.parts.SharedPart.{SharedPart}
 use Rattle.guest_steps.specs.declared.parts.GuestPart.{GuestPart}
 use Rattle.guest_steps.specs.declared.parts.CpuState.{CpuState}
-use Rattle.guest_component.specs.Plans.{WantsNoMemory}
+use Rattle.guest_component.specs.Wants.{WantsNoMemory}
 use Rattle.guest_steps.specs.Lent.{Lent, LentLogs, used_in, logs_in, rooms_in, all_with, with_call}
 use Rattle.guest_steps.specs.Logs.{StoredCalls, IsOfSize}
 use Rattle.guest_steps.specs.View.{vm_slots, shared_of, guest_held, cpu_of}
-use Rattle.hypercalls.specs.Carried.{IsRoomy}
+use Rattle.hypercalls.specs.Roomy.{IsRoomy}
 use Rattle.hypercalls.specs.declared.parts.Parts.{Parts}
 use Rattle.hypercalls.specs.Stands.{at_place, parts_layout, kept_of, state_of, HasHistory}
 use Rattle.hypercalls.specs.Steps.{any_full, reply_in}

@@ -33,13 +33,6 @@ Ends (Ok u) h before reply after = (reply ≡ Done h.value) × (after ≡ cpu_by
 Ends (Err NoPool) h before reply after = (reply ≡ Refused NoPoolReply) × (after ≡ before)
 Ends (Err NoMemory) h before reply after = (reply ≡ Refused NoMemoryReply) × (after ≡ before)
 
--- no growth can be needed: both maplets have the room that a change asks, and each tree a spare for each table that it needs
-pub record IsRoomy {A : Type 0} (h : Changes) (s : SharedPart A) : Type 0 where
-  pub host : HasRoomFor h.host s.host.maplets
-  pub hyp : HasRoomFor h.hyp s.hyp.maplets
-  pub host_spares : need_for s.host.tree h.host ≤ spares_of s.host.tree
-  pub hyp_spares : need_for s.hyp.tree h.hyp ≤ spares_of s.hyp.tree
-
 -- a pool has fewer free frames than the changes need on its trees
 abbrev pub is_either_short : ℕ → Changes → Shared → Guest → Bool
 is_either_short depth h x g = nat_lt (length x.free) (shared_need depth h x) || nat_lt (length g.free) (guest_need depth h g)

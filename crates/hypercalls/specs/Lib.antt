@@ -1,5 +1,6 @@
 pub mod Booted
 pub mod Carried
+pub mod Roomy
 pub mod Stands
 pub mod Steps
 pub mod Uses

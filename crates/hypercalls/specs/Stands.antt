@@ -4,7 +4,7 @@ use Rattle.step_reply.specs.declared.reply.Call.{Call}
 use Rattle.page_state.specs.LayoutView.{layout_of as layout_told}
 use Rattle.page_state.specs.Layouts.{Layout}
 use Rattle.reference_model.specs.Boot.{CanBoot}
-use Rattle.reference_model.specs.Held.{held_state}
+use Rattle.reference_model.specs.Stored.{held_state}
 use Rattle.reference_model.specs.History.{Kept, IsHistory}
 use Rattle.reference_model.specs.State.{Reference, no_guest, no_cpu}
 use Rattle.guest_steps.specs.View.{vm_slots, shared_of, guest_held, cpu_of}

@@ -7,13 +7,13 @@ use Rattle.step_reply.specs.declared.reply.Reply.TheVariants.{Refused}
 use Rattle.step_reply.specs.declared.step.Step.{Step}
 use Rattle.page_state.specs.Layouts.{Layout}
 use Rattle.reference_model.specs.declared.changes.Changes.{Changes}
-use Rattle.reference_model.specs.Answers.{decides}
+use Rattle.reference_model.specs.Decides.{decides}
 use Rattle.reference_model.specs.History.{IsStored}
 use Rattle.reference_model.specs.Step.{StepsOn}
-use Rattle.guest_component.specs.Plans.{WantsNoMemory}
+use Rattle.guest_component.specs.Wants.{WantsNoMemory}
 use Rattle.guest_steps.specs.Lent.{Lent, LentLogs, used_in, slot_in, logs_in, rooms_in, call_in, all_with}
 use Rattle.guest_steps.specs.Logs.{StoredCalls}
-use Rattle.hypercalls.specs.Carried.{IsRoomy}
+use Rattle.hypercalls.specs.Roomy.{IsRoomy}
 
 -- a log is lent, and full
 abbrev pub is_full_in : Option StoredCalls → Bool

@@ -6,15 +6,15 @@ use Rattle.step_reply.specs.declared.reply.Reply.{Reply}
 use Rattle.step_reply.specs.declared.reply.Reply.TheVariants.{Refused}
 use Rattle.step_reply.specs.declared.step.Step.{Step}
 use Rattle.reference_model.specs.declared.changes.Changes.{Changes}
-use Rattle.reference_model.specs.Answers.{decides}
+use Rattle.reference_model.specs.Decides.{decides}
 use Rattle.reference_model.specs.History.{IsStored}
-use Rattle.reference_model.specs.Laws.{StoresCall}
+use Rattle.reference_model.specs.Stored.{StoresCall}
 use Rattle.reference_model.specs.Parts.{names, guest_slot}
 use Rattle.reference_model.specs.Step.{Steps, is_full as has_full_log}
 use Rattle.reference_model.specs.Used.{used_of, rooms_of}
-use Rattle.guest_component.specs.Plans.{WantsNoMemory}
+use Rattle.guest_component.specs.Wants.{WantsNoMemory}
 use Rattle.guest_steps.specs.declared.parts.GuestPart.{GuestPart}
-use Rattle.hypercalls.specs.Carried.{IsRoomy}
+use Rattle.hypercalls.specs.Roomy.{IsRoomy}
 use Rattle.hypercalls.specs.declared.parts.Parts.{Parts}
 use Rattle.hypercalls.specs.Stands.{parts_layout, kept_of, state_of}
 

@@ -7,7 +7,7 @@ ghost use Rattle.hypercalls.specs.Steps.{IsStepOn, reply_in};
 ghost use Rattle.hypercalls.specs.Uses.{uses_of};
 ghost use Rattle.page_state.specs.LayoutView.{layout_of};
 ghost use Rattle.reference_model.specs.Parts.{names};
-ghost use Rattle.reference_model.specs.Rely.{IsReached};
+ghost use Rattle.reference_model.specs.Reached.{IsReached};
 ghost use Rattle.reference_model.specs.Used.{guest_alone, used_alone, vms_alone, with_guest};
 
 use crate::carry::{change_both, change_guest, change_shared, ended};

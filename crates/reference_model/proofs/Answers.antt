@@ -13,7 +13,8 @@ use Rattle.reference_model.specs.Parts.{names, lacks_slot}
 use Rattle.reference_model.specs.RowChanges.{with_told}
 use Rattle.reference_model.specs.Rule.{Rule}
 use Rattle.reference_model.specs.Used.{Used, used_of}
-use Rattle.reference_model.specs.Answers.{decided, CarriesOut, BarredAnswers, CarriedAnswers, AnswerSteps, FullSteps, UsedSteps}
+use Rattle.reference_model.specs.Answers.{CarriesOut, BarredAnswers, CarriedAnswers, AnswerSteps, FullSteps, UsedSteps}
+use Rattle.reference_model.specs.Decides.{decided}
 use Rattle.reference_model.specs.Step.{or_else, first_test, refusal, rule_of, fails, made, changed, Answered}
 use Rattle.reference_model.proofs.conditions.Keeps.{rows_told}
 use Rattle.page_state.proofs.Common.{if-true, if-false}

@@ -10,9 +10,11 @@ use Rattle.reference_model.specs.Answers.{Does}
 use Rattle.step_reply.specs.declared.step.Step.TheVariants.{ShareHyp, UnshareHyp, DonateHyp, HypDonateHost, HostAbort, HostTranslate, HypTranslate, OwnerOf, Fund, Unfund, ShareGuest, UnshareGuest, DonateGuest, GuestShareHost, GuestUnshareHost, Install, Topup, ReclaimPage, ReclaimPool, FinishGuest, GuestRelax, GuestTranslate, MarkDying, VmReserve, VmOpen, VcpuLoad, VcpuPut, Teardown, VmRelease}
 use Rattle.reference_model.specs.declared.changes.Stage.TheVariants.{Booked, ClosingVm, DyingVm}
 use Rattle.reference_model.specs.Conditions.{Legal, IsUsable}
-use Rattle.reference_model.specs.Held.{held_state, HistorySteps, CallGrows}
+use Rattle.reference_model.specs.Held.{HistorySteps, CallGrows}
+use Rattle.reference_model.specs.Stored.{held_state}
 use Rattle.reference_model.specs.History.{calls_by, Kept, IsHistory, IsStored}
-use Rattle.reference_model.specs.Laws.{Agree, Stores, StoresCall}
+use Rattle.reference_model.specs.Laws.{Agree}
+use Rattle.reference_model.specs.Stored.{Stores, StoresCall}
 use Rattle.page_state.specs.Layouts.{Layout}
 use Rattle.reference_model.specs.Parts.{names, lacks_slot, vm_part, shared_part, guest_part, call_uses, guest_slot, loaded_slot, ticket_slot, is_slot}
 use Rattle.reference_model.specs.State.{Contents, Reference}

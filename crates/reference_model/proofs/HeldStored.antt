@@ -6,8 +6,9 @@ use mathlib.Core.Path.{fun_ext}
 use Rattle.step_reply.specs.declared.reply.Call.{Call}
 use Rattle.page_state.specs.Layouts.{Layout}
 use Rattle.page_state.proofs.Common.{eq-same}
-use Rattle.reference_model.specs.Held.{left_of, HeldStored}
-use Rattle.reference_model.specs.Laws.{Stores}
+use Rattle.reference_model.specs.Held.{HeldStored}
+use Rattle.reference_model.specs.Stored.{left_of}
+use Rattle.reference_model.specs.Stored.{Stores}
 use Rattle.reference_model.specs.Parts.{names, uses_vms, uses_shared, is_slot}
 use Rattle.reference_model.specs.State.{Vms, Shared, Guest, Cpu, Contents, Rooms, Reference, put_at}
 use Rattle.reference_model.specs.Step.{stored}

@@ -8,7 +8,8 @@ use Rattle.reference_model.specs.Step.{Steps}
 use Rattle.reference_model.specs.Boot.{boot}
 use Rattle.reference_model.specs.Run.{Runs}
 use Rattle.reference_model.specs.History.{IsStored}
-use Rattle.reference_model.specs.Laws.{AgreeBeside, Stores, HistoryBegins, HistoryGrows}
+use Rattle.reference_model.specs.Laws.{AgreeBeside, HistoryBegins, HistoryGrows}
+use Rattle.reference_model.specs.Stored.{Stores}
 use Rattle.reference_model.proofs.Steps.{step_changes, first-same}
 use Rattle.reference_model.proofs.Ends.{filter-true, filter-false, eq-unlike}
 

@@ -19,7 +19,8 @@ use Rattle.reference_model.specs.declared.changes.SlotChange.TheVariants.{Keep a
 use Rattle.reference_model.specs.Answers.{CarriesOut}
 use Rattle.reference_model.specs.ChangeLaws.{FitsPart, FitsTable, FitsWhere, AllFit, PartsFit, TouchedFits}
 use Rattle.reference_model.specs.Parts.{names, guest_slot, lacks_slot}
-use Rattle.reference_model.specs.Rely.{IsReached, CanRely, ReachedRelies, RelyingAnswers}
+use Rattle.reference_model.specs.Rely.{CanRely, ReachedRelies, RelyingAnswers}
+use Rattle.reference_model.specs.Reached.{IsReached}
 use Rattle.reference_model.specs.RowChanges.{first_row}
 use Rattle.reference_model.specs.State.{Contents, Guest}
 use Rattle.reference_model.specs.Step.{rule_of}

@@ -16,16 +16,9 @@ use Rattle.reference_model.specs.Rule.{Rule}
 use Rattle.reference_model.specs.Rules.{may_grow}
 use Rattle.reference_model.specs.State.{Contents, Reference}
 use Rattle.reference_model.specs.Step.{is_short, changed, first_test, rule_of, Answered, is_full, stored, StepsOn, used_by, rooms_by, with_used, Steps}
-
--- what a rule decides: the first of its four tests that fails, or its changes
-abbrev pub decided : Rule → Bool → Result Changes Refusal
-decided r lacks = elim (first_test r lacks) [ Some why ↦ Err why | None ↦ Ok r.changes ]
+use Rattle.reference_model.specs.Decides.{decides}
 
 module _ (l : Layout) (cpu : ℕ) (slot : Option ℕ) (step : Step) where
-  -- what a step decides: this is the contract of a call's `decide`
-  abbrev pub decides : Used → Result Changes Refusal
-  decides x = decided (rule_of l cpu slot step x) (lacks_slot (names step) slot)
-
   -- all changes are made, and the rows of the touched range are those that the changes tell
   pub record IsCarried (h : Changes) (x : Used) (reply : Reply) (y : Used) : Type 0 where
     pub enough : is_short l.depth h x ≡ false
@@ -53,14 +46,14 @@ module _ (l : Layout) (cpu : ℕ) (slot : Option ℕ) (step : Step) where
   -- barred: the first of the four tests that fails is told, and nothing has changed
   pub record IsBarred (x : Used) (reply : Reply) (y : Used) : Type 0 where
     pub why : Refusal
-    pub bars : decides x ≡ Err why
+    pub bars : decides l cpu slot step x ≡ Err why
     pub reply_is : reply ≡ Refused why
     pub next : y ≡ x
 
   -- let through: the rule's changes are carried out
   pub record IsLet (wants : Bool) (x : Used) (reply : Reply) (y : Used) : Type 0 where
     pub changes : Changes
-    pub lets : decides x ≡ Ok changes
+    pub lets : decides l cpu slot step x ≡ Ok changes
     pub carried : CarriesOut wants changes x reply y
 
   -- how code does a step: it decides, and then carries out

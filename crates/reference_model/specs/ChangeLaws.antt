@@ -14,7 +14,7 @@ use Rattle.reference_model.specs.declared.changes.GuestChange.TheVariants.{Keep 
 use Rattle.reference_model.specs.declared.changes.SlotChange.{SlotChange}
 use Rattle.reference_model.specs.declared.changes.SlotChange.TheVariants.{Keep as KeepSlots, Reserve, Open, Close, Release, Load, Unload}
 use Rattle.reference_model.specs.declared.changes.Changes.{Changes}
-use Rattle.reference_model.specs.Answers.{decides}
+use Rattle.reference_model.specs.Decides.{decides}
 use Rattle.reference_model.specs.Bounds.{Bounded}
 use Rattle.reference_model.specs.Changes.{touched}
 use Rattle.reference_model.specs.Conditions.{Legal, guest_uses}

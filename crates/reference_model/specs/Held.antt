@@ -3,24 +3,14 @@ use Rattle.std.specs.Prelude.{◌≡◌, ℕ, ◌+◌, ◌-◌, ◌<◌, Bool, f
 use Rattle.step_reply.specs.declared.reply.Call.{Call}
 use Rattle.reference_model.specs.Boot.{CanBoot}
 use Rattle.reference_model.specs.History.{IsStored, Kept, IsHistory}
-use Rattle.reference_model.specs.Laws.{StoresCall}
+use Rattle.reference_model.specs.Stored.{StoresCall}
 use Rattle.page_state.specs.Layouts.{Layout}
 use Rattle.reference_model.specs.State.{Reference}
 use Rattle.reference_model.specs.Step.{is_full, stored, StepsOn, used_by, rooms_by, with_used}
 use Rattle.reference_model.specs.Answers.{Does}
 use Rattle.reference_model.specs.Parts.{names, guest_slot}
 use Rattle.reference_model.specs.Used.{Used, UsedRooms}
-
--- the room that a log leaves
-abbrev pub left_of : Layout → List Call → ℕ
-left_of l log = l.config.log - length log
-
--- what there is, as a state: a log's room is what its calls leave
-abbrev pub held_state : Layout → Kept → Reference
-held_state l k = record {
-  contents = record { vms = k.vms.0; shared = k.shared.0; guest = λ v. (k.guest v).0; cpu = λ c. (k.cpu c).0 };
-  rooms = record { vms = left_of l k.vms.1; shared = left_of l k.shared.1; guest = λ v. left_of l (k.guest v).1; cpu = λ c. left_of l (k.cpu c).1 };
-}
+use Rattle.reference_model.specs.Stored.{held_state}
 
 -- a step on what a call uses of what there is, stored there, makes the history longer
 abbrev pub HistorySteps : Type 0

@@ -13,6 +13,7 @@ use Rattle.reference_model.specs.Step.{Steps, foretell}
 use Rattle.reference_model.specs.Boot.{boot, IsCarveEnough}
 use Rattle.reference_model.specs.Run.{IsRun}
 use Rattle.reference_model.specs.History.{calls_on, calls_by, IsStored, Kept, IsHistory}
+use Rattle.reference_model.specs.Stored.{StoresCall}
 
 -- a step that refuses leaves the state but for the rooms of logs
 abbrev pub RefusalKeeps : Type 0
@@ -87,17 +88,6 @@ StepAgrees = (l : Layout) (s t s' t' : Reference) (c : Call) → Agree c s s' �
 -- the boot state is sound, where the carve-out has a frame for each table
 abbrev pub BootSound : Type 0
 BootSound = (l : Layout) → IsCarveEnough l → Sound l (boot l).contents
-
--- what a part or a CPU has, before and after a call: where the call uses it, the content of the next state and the log with the call, and else the same
-abbrev pub Stores : {X : Type 0} → Bool → Call → X → X × List Call → X × List Call → Type 0
-Stores used c next before after = elim used [ true ↦ after ≡ (next, before.1 ++ c ∷ []) | false ↦ after ≡ before ]
-
--- what there is stores a call that leads to a state
-pub record StoresCall (c : Call) (t : Contents) (before after : Kept) : Type 0 where
-  pub vms : Stores (call_uses vm_part c) c t.vms before.vms after.vms
-  pub shared : Stores (call_uses shared_part c) c t.shared before.shared after.shared
-  pub guest : (v : ℕ) → Stores (call_uses (guest_part v) c) c (t.guest v) (before.guest v) (after.guest v)
-  pub cpu : (cpu : ℕ) → Stores (c.cpu == cpu) c (t.cpu cpu) (before.cpu cpu) (after.cpu cpu)
 
 -- the boot state with empty logs has the empty history
 abbrev pub HistoryBegins : Type 0

@@ -8,6 +8,7 @@ pub mod Changes
 pub mod ConditionChanges
 pub mod ConditionRows
 pub mod Conditions
+pub mod Decides
 pub mod EndRows
 pub mod Examples
 pub mod FoundRows
@@ -29,6 +30,7 @@ pub mod PartRows
 pub mod Parts
 pub mod PoolOrder
 pub mod RangeRows
+pub mod Reached
 pub mod Rely
 pub mod RoomLaws
 pub mod RowChanges
@@ -46,6 +48,7 @@ pub mod ShortRows
 pub mod Sound
 pub mod State
 pub mod Step
+pub mod Stored
 pub mod TreeLaws
 pub mod Used
 pub mod VmRows

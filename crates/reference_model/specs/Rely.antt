@@ -5,7 +5,8 @@ use Rattle.step_reply.specs.declared.reply.Reply.{Reply}
 use Rattle.step_reply.specs.declared.step.Step.{Step}
 use Rattle.page_state.specs.Layouts.{Layout}
 use Rattle.reference_model.specs.declared.changes.Changes.{Changes}
-use Rattle.reference_model.specs.Answers.{decides, CarriesOut}
+use Rattle.reference_model.specs.Answers.{CarriesOut}
+use Rattle.reference_model.specs.Decides.{decides}
 use Rattle.reference_model.specs.Boot.{CanBoot}
 use Rattle.reference_model.specs.ChangeLaws.{AllFit, PartsFit, TouchedFits}
 use Rattle.reference_model.specs.Parts.{Names, names, guest_slot}
@@ -14,14 +15,7 @@ use Rattle.reference_model.specs.Run.{IsRun}
 use Rattle.reference_model.specs.State.{Reference}
 use Rattle.reference_model.specs.Step.{rule_of, fails, made, changed, Answered}
 use Rattle.reference_model.specs.Used.{Used, used_of}
-
--- what a call uses stands in some state that a run leaves
-pub record IsReached (l : Layout) (n : Names) (slot : Option ℕ) (cpu : ℕ) (x : Used) : Type 0 where
-  pub ready : CanBoot l
-  pub log : List Call
-  pub state : Reference
-  pub run : IsRun l log state
-  pub used : x ≡ used_of n slot cpu state.contents
+use Rattle.reference_model.specs.Reached.{IsReached}
 
 -- what a step may rely on: its slot is one of the 64, what it decides to change can be written in the maps and made of the slots and the guest, and the rows that it finds again are those that its changes tell
 pub record CanRely (l : Layout) (cpu : ℕ) (slot : Option ℕ) (step : Step) (x : Used) : Type 0 where

@@ -7,7 +7,7 @@ use Rattle.page_state.specs.declared.layout.Geometry.{Geometry}
 use Rattle.step_reply.specs.declared.reply.Call.{Call}
 use Rattle.page_state.specs.LayoutFaults.{IsAccepted}
 use Rattle.reference_model.specs.Boot.{boot, booted, IsCarveEnough}
-use Rattle.reference_model.specs.Held.{held_state}
+use Rattle.reference_model.specs.Stored.{held_state}
 use Rattle.page_state.specs.Geometries.{levels_below}
 use Rattle.page_state.specs.Layouts.{Layout, HasItsDepth}
 use Rattle.page_state.specs.Regions.{Memory}

@@ -11,7 +11,7 @@ use Rattle.reference_model.proofs.Rely.{reached_relies}
 use Rattle.reference_model.specs.Boot.{boot, CanBoot}
 use Rattle.reference_model.specs.History.{calls_on, calls_by}
 use Rattle.reference_model.specs.Parts.{Part, vm_part, shared_part, guest_part, call_uses, is_slot, names}
-use Rattle.reference_model.specs.Rely.{IsReached}
+use Rattle.reference_model.specs.Reached.{IsReached}
 use Rattle.reference_model.specs.Run.{Runs, IsRun}
 use Rattle.reference_model.specs.State.{Reference}
 use Rattle.reference_model.specs.Step.{Steps, used_by}

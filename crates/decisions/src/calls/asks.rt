@@ -5,7 +5,7 @@ ghost use Rattle.guest_steps.specs.View.{shared_of};
 ghost use Rattle.decisions.specs.Grows.{GrowsOnly};
 ghost use Rattle.step_reply.specs.declared.step.Step.TheVariants.{HostTranslate, HypTranslate, OwnerOf};
 ghost use Rattle.page_state.specs.LayoutView.{layout_of};
-ghost use Rattle.reference_model.specs.Answers.{decides};
+ghost use Rattle.reference_model.specs.Decides.{decides};
 ghost use Rattle.reference_model.specs.State.{Cpu};
 ghost use Rattle.reference_model.specs.Used.{used_alone};
 

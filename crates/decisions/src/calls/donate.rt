@@ -4,7 +4,7 @@ ghost use Rattle.guest_steps.specs.View.{shared_of};
 ghost use Rattle.page_state.specs.EntryTests.{is_free_page as is_free_entry, is_unmapped};
 ghost use Rattle.page_state.specs.Layouts.{hyp_page as hyp_page_of};
 ghost use Rattle.page_state.specs.LayoutView.{layout_of};
-ghost use Rattle.reference_model.specs.Answers.{decides};
+ghost use Rattle.reference_model.specs.Decides.{decides};
 ghost use Rattle.reference_model.specs.State.{Cpu};
 ghost use Rattle.reference_model.specs.Used.{used_alone};
 ghost use Rattle.step_reply.specs.declared.step.Step.TheVariants.{DonateHyp};

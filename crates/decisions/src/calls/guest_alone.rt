@@ -3,7 +3,7 @@ ghost use Rattle.std.specs.Prelude.{◌≡◌, ℕ, Some, IfOk};
 ghost use Rattle.guest_component.specs.View.{guest_of};
 ghost use Rattle.guest_steps.specs.View.{cpu_of};
 ghost use Rattle.page_state.specs.LayoutView.{layout_of};
-ghost use Rattle.reference_model.specs.Answers.{decides};
+ghost use Rattle.reference_model.specs.Decides.{decides};
 ghost use Rattle.page_state.specs.Layouts.{Layout as ReferenceLayout};
 ghost use Rattle.reference_model.specs.State.{Cpu, Guest as ReferenceGuest};
 ghost use Rattle.reference_model.specs.Used.{guest_alone};

@@ -8,7 +8,7 @@ ghost use Rattle.page_state.specs.LayoutView.{layout_of};
 ghost use Rattle.page_state.specs.Layouts.{Layout as ReferenceLayout};
 ghost use Rattle.page_state.specs.Search.{all_below};
 ghost use Rattle.step_reply.specs.declared.step.Step.TheVariants.{FinishGuest, Install, ReclaimPool, Topup};
-ghost use Rattle.reference_model.specs.Answers.{decides};
+ghost use Rattle.reference_model.specs.Decides.{decides};
 ghost use Rattle.reference_model.specs.GuestRules.{is_guest, moved_on as moved_on_of, ticket_kind as ticket_kind_of, ticket_vm as ticket_vm_of};
 ghost use Rattle.reference_model.specs.Rely.{CanRely};
 ghost use Rattle.reference_model.specs.SharedRules.{hand_becomes as hand_becomes_of, to_host as to_host_of};

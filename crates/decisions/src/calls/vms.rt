@@ -3,7 +3,7 @@ ghost use Rattle.std.specs.Prelude.{◌≡◌, ℕ, ◌||◌, true, false, None,
 ghost use Rattle.guest_steps.specs.View.{cpu_of};
 ghost use Rattle.decisions.specs.Grows.{GrowsOnly};
 ghost use Rattle.page_state.specs.Layouts.{Layout as ReferenceLayout};
-ghost use Rattle.reference_model.specs.Answers.{decides};
+ghost use Rattle.reference_model.specs.Decides.{decides};
 ghost use Rattle.reference_model.specs.Parts.{has_stage};
 ghost use Rattle.reference_model.specs.Used.{vms_alone};
 ghost use Rattle.reference_model.specs.VmRules.{load_becomes};

@@ -17,7 +17,7 @@ use Rattle.step_reply.specs.declared.reply.Refusal.TheVariants.{NoPool}
 use Rattle.step_reply.specs.declared.step.Step.{Step}
 use Rattle.reference_model.specs.declared.changes.Changes.{Changes}
 use Rattle.reference_model.specs.declared.changes.MapChange.{MapChange}
-use Rattle.reference_model.specs.Answers.{decided}
+use Rattle.reference_model.specs.Decides.{decided}
 use Rattle.reference_model.specs.ChangeLaws.{FitsWhere, AllFit}
 use Rattle.reference_model.specs.Changes.{edit_of}
 use Rattle.reference_model.specs.Conditions.{Legal}

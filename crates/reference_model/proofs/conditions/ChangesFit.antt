@@ -27,7 +27,7 @@ use Rattle.reference_model.specs.declared.changes.GuestChange.{GuestChange}
 use Rattle.reference_model.specs.declared.changes.MapChange.{MapChange}
 use Rattle.reference_model.specs.declared.changes.SlotChange.{SlotChange}
 use Rattle.reference_model.specs.declared.changes.Stage.TheVariants.{DyingVm as dying_vm}
-use Rattle.reference_model.specs.Answers.{decides}
+use Rattle.reference_model.specs.Decides.{decides}
 use Rattle.reference_model.specs.ChangeLaws.{FitsWhere, AllFit, ChangesFit, TouchedFits, TouchedWhole}
 use Rattle.reference_model.specs.Changes.{change, no_changes}
 use Rattle.reference_model.specs.Conditions.{hyps, Legal, IsUsable}
