@@ -20,7 +20,7 @@ use page_state::{Entry, Page};
 use reference_model::MapChange;
 use std::alloc::{AllocError, Allocator, Global};
 use table_tree::{Reads, Tree};
-use walk_plan::Spare;
+use walker::Spare;
 
 /// The most runs that one change adds to a list of maplets.
 const MOST_NEW_RUNS: usize = 2;
@@ -69,7 +69,7 @@ impl<A: Allocator> Component<A> {
         match change {
             Some(change) => {
                 let mut reads = Reads::new();
-                walk_plan::need(&self.tree, change.range, &change.entry, &mut reads)
+                walker::need(&self.tree, change.range, &change.entry, &mut reads)
             }
             None => 0,
         }
@@ -146,7 +146,7 @@ impl<A: Allocator> Component<A> {
         ensures maplets { self.new.maplets ≡ self.old.maplets }
     {
         let Plan { change: _, spare } = plan;
-        walk_plan::release(spare, &mut self.tree, pool);
+        walker::release(spare, &mut self.tree, pool);
     }
 
     /// The tree.
@@ -200,7 +200,7 @@ impl<A: Allocator + Copy> Component<A> {
         ensures room { pool.new.room ≡ pool.old.room }
     {
         self.make_room(&change)?;
-        let spare = walk_plan::reserve_tables(alloc, &mut self.tree, pool, need)?;
+        let spare = walker::reserve_tables(alloc, &mut self.tree, pool, need)?;
         Ok(Plan { change, spare })
     }
 }

@@ -18,8 +18,8 @@ use page_state::{Entry, Geometry, Page, PageRange};
 use std::alloc::{AllocError, Allocator, Global};
 use std::process::Abort;
 use table_tree::{Reads, Tree};
-use walk_plan::{Spare, need, need_of_new, release, reserve};
-use walker::{set, set_with};
+use walk_plan::need_of_new;
+use walker::{Spare, need, release, reserve, set, set_with};
 
 /// The frame of each root; the pool's frames are those after it.
 const ROOT: Frame = Frame(0x40600);
