@@ -39,8 +39,10 @@ use Rattle.page_state.specs.Geometries.{levels_below}
 use Rattle.table_tree.specs.View.{tree_of}
 use Rattle.guest_steps.specs.declared.parts.CpuState.{CpuState}
 use Rattle.guest_steps.specs.declared.parts.VmPart.{VmPart}
-use Rattle.guest_steps.specs.Lent.{Lent, lent_both, lent_guest, lent_shared, lent_vms, used_in}
-use Rattle.guest_steps.specs.View.{vm_slots, shared_of, guest_held, cpu_of}
+use Rattle.guest_steps.specs.Lent.{Lent, SharedSuits, lent_both, lent_guest, lent_shared, lent_vms, used_in}
+use Rattle.guest_steps.specs.Logs.{IsOfSize}
+use Rattle.guest_steps.specs.MemoryRows.{HasMemoryRows}
+use Rattle.guest_steps.specs.View.{vm_slots, shared_of, guest_held, cpu_of, depth_of}
 use Rattle.reference_model.specs.declared.changes.SlotChange.TheVariants.{Keep as KeepSlots}
 use Rattle.reference_model.specs.Parts.{Names, uses_shared}
 use Rattle.decisions.specs.Grows.{GrowsOnly}
@@ -103,6 +105,14 @@ always_ok (Err e) h = tt
 pub always_err : {X E P : Type 0} (r : Result X E) → P → OnErr r P
 always_err (Ok x) h = tt
 always_err (Err e) h = h
+
+-- a part of the layout whose trees' depth, rows and log stay is one
+pub suits_after : {A : Type 0} (l : Layout) (s t : SharedPart A) → depth_of t ≡ depth_of s → t.owners ≡ s.owners → t.log ≡ s.log → SharedSuits l s → SharedSuits l t
+suits_after l s t depth rows log is = record {
+  depth = depth ∙ is.depth;
+  rows = subst (HasMemoryRows l.memory) (sym rows) is.rows;
+  log = subst (IsOfSize l.config.log) (sym log) is.log;
+}
 
 -- what can be made of parts can be made of the guest
 pub can_change : {A : Type 0} (l : Layout) (h : Changes) (g : GuestComponent A) → guest_depth g ≡ l.depth → AllFit l.depth h → PartsFit l h (guest_of g) → GuestCanChange (guest_depth g) h (guest_of g)
