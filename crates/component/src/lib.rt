@@ -4,6 +4,7 @@
 ghost use Rattle.std.specs.Prelude.{◌≡◌, ℕ, ◌+◌, ◌-◌, ◌<◌, ◌≤◌, ◌^◌, ◌↔◌, length, take, drop, IsOk, IfOk, OnOk, OnErr, Some, Err};
 ghost use Rattle.component.specs.Maps.{coarsest_prop, maps_prop};
 ghost use Rattle.component.specs.View.{HasRoomFor, need_for, tree_after, back_from};
+ghost use Rattle.hyp_pool.specs.Pools.{IsPool};
 ghost use Rattle.page_state.specs.Blocks.{block_at, is_empty as is_empty_block};
 ghost use Rattle.page_state.specs.Map.{empty_map};
 ghost use Rattle.page_state.specs.Runs.{map_of, IsCoarsest};
@@ -175,9 +176,9 @@ impl<A: Allocator> Component<A> {
 
 impl<A: Allocator + Copy> Component<A> {
     /// Takes what a change needs in hand: the lowest frames of the pool, a table for each, the tree's spares first, and room
-    /// in the maplets. NoPool is answered only where fewer frames are free, NoMemory only where the spares are too few or
-    /// that room isn't there, and memory was refused. Then runs, pool and tree are as they were, but that the tree may have
-    /// more spares.
+    /// in the maplets. NoPool is answered exactly where fewer frames are free, before memory is asked for, NoMemory only where
+    /// the spares are too few or that room isn't there, and memory was refused. Then runs, pool and tree are as they were, but
+    /// that the tree may have more spares.
     pub fn reserve(
         &mut self,
         alloc: A,
@@ -189,7 +190,9 @@ impl<A: Allocator + Copy> Component<A> {
         ensures spare { IfOk result (λ p. frames_of p.spare.stock ≡ take need pool.old.frames) }
         ensures pool { OnOk result (pool.new.frames ≡ drop need pool.old.frames) }
         ensures ready { OnOk result (HasRoomFor change self.new.maplets) }
-        ensures no_pool { result ≡ Err PoolFault.NoPool → length pool.old.frames < need }
+        ensures no_pool { (result ≡ Err PoolFault.NoPool) ↔ (length pool.old.frames < need) }
+        ensures enough { OnOk result (need ≤ length pool.old.frames) }
+        ensures is_pool { IsPool pool.old }
         ensures no_memory { result ≡ Err PoolFault.NoMemory → HasRoomFor change self.old.maplets → spares_of self.old.tree < need }
         ensures spares { OnOk result (spares_of self.new.tree ≡ spares_of self.old.tree - need) }
         ensures geometry { self.new.tree.geometry ≡ self.old.tree.geometry }
@@ -199,6 +202,9 @@ impl<A: Allocator + Copy> Component<A> {
         ensures err_spares { OnErr result (spares_of self.old.tree ≤ spares_of self.new.tree) }
         ensures room { pool.new.room ≡ pool.old.room }
     {
+        if pool.free() < need {
+            return Err(PoolFault::NoPool);
+        }
         self.make_room(&change)?;
         let spare = walker::reserve_tables(alloc, &mut self.tree, pool, need)?;
         Ok(Plan { change, spare })

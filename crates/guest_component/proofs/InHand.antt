@@ -54,7 +54,7 @@ module _ {A : Type 0} where
         pool : Pool → ℕ → StoredFrames
         pool fs r = record { frames = fs; room = r }
 
-    pub taken : (r : Result (Plan A) PoolFault) → IsPool b.pool → n ≤ length b.pool.frames → IfOk r (λ p. p.change ≡ c) → IfOk r (λ p. frames_of p.spare.stock ≡ take n b.pool.frames) → OnOk r (y.pool.frames ≡ drop n b.pool.frames) → OnOk r (HasRoomFor c y.map.maplets) → IfOk r (λ p. IsInHand c y p)
+    pub taken : (r : Result (Plan A) PoolFault) → IsPool b.pool → OnOk r (n ≤ length b.pool.frames) → IfOk r (λ p. p.change ≡ c) → IfOk r (λ p. frames_of p.spare.stock ≡ take n b.pool.frames) → OnOk r (y.pool.frames ≡ drop n b.pool.frames) → OnOk r (HasRoomFor c y.map.maplets) → IfOk r (λ p. IsInHand c y p)
     taken (Err e) is enough change stock left ready = tt
     taken (Ok p) is enough change stock left ready =
         let all = pool_is p (whole p stock left) in record {

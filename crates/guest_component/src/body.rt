@@ -223,9 +223,6 @@ impl<A: Allocator + Copy> Body<A> {
         let map = &mut self.map;
         let pool = &mut self.pool;
         let need = map.need(&change);
-        if pool.free() < need {
-            return Err(PoolFault::NoPool);
-        }
         map.reserve(alloc, pool, change, need)
     }
 }

@@ -7,7 +7,7 @@ mod layout;
 mod row;
 mod text;
 
-pub use descriptor::{Frame, Kind, Owner, Prot, State};
+pub use descriptor::{Desc, Frame, Kind, Level, Owner, Prot, State};
 pub use entry::{Entry, Page, PageRange, Run, Target};
 pub use layout::{
     Config, Geometry, Layout, LayoutFault, MemoryMap, Region, RegionKind, pages_under,

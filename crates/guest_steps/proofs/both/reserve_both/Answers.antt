@@ -69,10 +69,10 @@ pub returns-in_err-host_plan-clause-left : goal.returns-in_err-host_plan-clause-
 returns-in_err-host_plan-clause-left g c = IfOk-from_err _ _ c.from_residual.ensures.0
 
 pub returns-in_err-host_plan-clause-succeeds : goal.returns-in_err-host_plan-clause-succeeds
-returns-in_err-host_plan-clause-succeeds g c = λ h _ r _. absurd (omega (arith, h, c.reserve.ensures.no_memory (c.in_err-host_plan.was ∙ ap Err (no_memory _ (λ e. let less = c.reserve.ensures.no_pool (c.in_err-host_plan.was ∙ ap Err e) in omega (arith, less, c.requires.enough)))) r))
+returns-in_err-host_plan-clause-succeeds g c = λ h _ r _. absurd (omega (arith, h, c.reserve.ensures.no_memory (c.in_err-host_plan.was ∙ ap Err (no_memory _ (λ e. let less = c.reserve.ensures.no_pool.0 (c.in_err-host_plan.was ∙ ap Err e) in omega (arith, less, c.requires.enough)))) r))
 
 pub returns-in_err-host_plan-clause-no_memory : goal.returns-in_err-host_plan-clause-no_memory
-returns-in_err-host_plan-clause-no_memory g c = err_is _ _ (no_memory _ (λ e. let less = c.reserve.ensures.no_pool (c.in_err-host_plan.was ∙ ap Err e) in omega (arith, less, c.requires.enough))) c.from_residual.ensures.1
+returns-in_err-host_plan-clause-no_memory g c = err_is _ _ (no_memory _ (λ e. let less = c.reserve.ensures.no_pool.0 (c.in_err-host_plan.was ∙ ap Err e) in omega (arith, less, c.requires.enough))) c.from_residual.ensures.1
 
 pub returns-in_err-host_plan-clause-err : goal.returns-in_err-host_plan-clause-err
 returns-in_err-host_plan-clause-err g c = if_err _ _ c.in_err-host_plan.ensures.err
@@ -189,10 +189,10 @@ pub returns-in-Err-clause-left : goal.returns-in-Err-clause-left
 returns-in-Err-clause-left g c = tt
 
 pub returns-in-Err-clause-succeeds : goal.returns-in-Err-clause-succeeds
-returns-in-Err-clause-succeeds g c = λ _ h _ r. absurd (omega (arith, h, c.in-Err.ensures.no_memory (ap Err (no_memory _ (λ e. let less = c.in-Err.ensures.no_pool (ap Err e) in omega (arith, less, c.requires.enough, ap length c.in_ok-host_plan.ensures.pool, length-drop c.args.need.host c.args.pool.now.frames)))) r))
+returns-in-Err-clause-succeeds g c = λ _ h _ r. absurd (omega (arith, h, c.in-Err.ensures.no_memory (ap Err (no_memory _ (λ e. let less = c.in-Err.ensures.no_pool.0 (ap Err e) in omega (arith, less, c.requires.enough, ap length c.in_ok-host_plan.ensures.pool, length-drop c.args.need.host c.args.pool.now.frames)))) r))
 
 pub returns-in-Err-clause-no_memory : goal.returns-in-Err-clause-no_memory
-returns-in-Err-clause-no_memory g c = ap Err (no_memory _ (λ e. let less = c.in-Err.ensures.no_pool (ap Err e) in omega (arith, less, c.requires.enough, ap length c.in_ok-host_plan.ensures.pool, length-drop c.args.need.host c.args.pool.now.frames)))
+returns-in-Err-clause-no_memory g c = ap Err (no_memory _ (λ e. let less = c.in-Err.ensures.no_pool.0 (ap Err e) in omega (arith, less, c.requires.enough, ap length c.in_ok-host_plan.ensures.pool, length-drop c.args.need.host c.args.pool.now.frames)))
 
 pub returns-in-Err-clause-room : goal.returns-in-Err-clause-room
 returns-in-Err-clause-room g c = c.release.ensures.room ∙ c.reserve-2.ensures.room ∙ c.reserve.ensures.room

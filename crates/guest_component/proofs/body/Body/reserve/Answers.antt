@@ -1,9 +1,8 @@
-use Rattle.std.proofs.Common.{◌∙◌, ◌≤◌, arith, length}
 use Rattle.guest_component.proofs.InHand.{owned_after, taken, told, untaken}
 use Rattle.guest_component.proofs.body.Body.reserve.Goals as goal
 
-pub invariant_of-self-2 : goal.invariant_of-self-2
-invariant_of-self-2 g c =
+pub invariant_of-self : goal.invariant_of-self
+invariant_of-self g c =
     let e = c.reserve.ensures in
     record { own = owned_after c.args.self.now c.reserve.new.self.tree c.reserve.new.pool c.need-need.result c.reserve.result e.geometry e.table e.room e.pool e.err }
 
@@ -11,8 +10,7 @@ pub returns-clause-in_hand : goal.returns-clause-in_hand
 returns-clause-in_hand g c =
     let b = c.args.self.now in
     let e = c.reserve.ensures in
-    let enough : c.need-need.result ≤ length b.pool.frames = omega (arith, c.if-free-need.false, c.free.ensures.value) in
-    taken b _ c.args.change c.need-need.result c.need-need.ensures.value e.geometry e.table e.room c.reserve.result c.free.ensures.pool enough e.change e.spare e.pool e.ready
+    taken b _ c.args.change c.need-need.result c.need-need.ensures.value e.geometry e.table e.room c.reserve.result e.is_pool e.enough e.change e.spare e.pool e.ready
 
 pub returns-clause-whole : goal.returns-clause-whole
 returns-clause-whole g c =
