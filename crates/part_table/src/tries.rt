@@ -22,6 +22,10 @@ pub trait Gate {
 
     /// The parts are home again, and the call is answered.
     fn answered(&self, cpu: u64, number: u64);
+
+    /// An exchange was made, of this kind: 1 took a part, 2 found it with another pass, 3 put the one part of a call home
+    /// with the call, 4 the guest of a call that uses the Shared part too, 5 a part without a call.
+    fn exchanged(&self, _cpu: u64, _number: u64, _kind: u64) {}
 }
 
 /// A gate that does nothing.
@@ -100,17 +104,21 @@ pub fn one<A: Allocator + Copy, G: Gate>(
     ensures tells { Tells step (k ∷ []) result (known_of seat.old.me.0) (known_of seat.new.me.0) }
 {
     let at = k as usize;
+    let (id, number) = (cpu.id, cpu.log.len() as u64 + 1);
     let Some(part) = take(table, seat, at) else {
+        gate.exchanged(id, number, 2);
         return Tried::Contended;
     };
+    gate.exchanged(id, number, 1);
     if part.room() == 0 {
         put_back(table, seat, at, part);
+        gate.exchanged(id, number, 5);
         return Tried::LogFull;
     }
-    let number = cpu.log.len() as u64 + 1;
-    gate.taken(cpu.id, number);
+    gate.taken(id, number);
     let (part, call) = alone(alloc, layout, part, k, cpu, step);
     commit(table, seat, at, part, &call, cpu);
+    gate.exchanged(id, number, 3);
     Tried::Stored(call)
 }
 
@@ -141,27 +149,37 @@ pub fn two<A: Allocator + Copy, G: Gate>(
     ensures tells { Tells step (1 ∷ (v + 2) ∷ []) result (known_of seat.old.me.0) (known_of seat.new.me.0) }
 {
     let at = v as usize + 2;
+    let (id, number) = (cpu.id, cpu.log.len() as u64 + 1);
     let Some(shared) = take(table, seat, 1) else {
+        gate.exchanged(id, number, 2);
         return Tried::Contended;
     };
+    gate.exchanged(id, number, 1);
     if shared.room() == 0 {
         put_back(table, seat, 1, shared);
+        gate.exchanged(id, number, 5);
         return Tried::LogFull;
     }
     let Some(guest) = take(table, seat, at) else {
+        gate.exchanged(id, number, 2);
         put_back(table, seat, 1, shared);
+        gate.exchanged(id, number, 5);
         return Tried::Contended;
     };
+    gate.exchanged(id, number, 1);
     if guest.room() == 0 {
         put_back(table, seat, at, guest);
+        gate.exchanged(id, number, 5);
         put_back(table, seat, 1, shared);
+        gate.exchanged(id, number, 5);
         return Tried::LogFull;
     }
-    let number = cpu.log.len() as u64 + 1;
-    gate.taken(cpu.id, number);
+    gate.taken(id, number);
     let (shared, guest, call) = both(alloc, layout, shared, guest, v, cpu, step);
     commit_first(table, seat, at, guest, shared, &call, cpu);
+    gate.exchanged(id, number, 4);
     release(table, seat, 1);
+    gate.exchanged(id, number, 5);
     Tried::Stored(call)
 }
 
