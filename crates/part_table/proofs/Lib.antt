@@ -6,6 +6,7 @@ pub mod Lists
 pub mod Keeps
 pub mod Holding
 pub mod Telling
+pub mod Making
 pub mod Slots
 pub mod Rests
 pub mod Root

@@ -3,6 +3,7 @@ pub mod Does
 pub mod Rule
 pub mod Tried
 pub mod Answered
+pub mod Made
 pub mod Passes
 pub mod Endings
 pub mod Whole

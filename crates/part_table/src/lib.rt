@@ -2,6 +2,7 @@
 #![tactic(auto)]
 
 pub mod exchanges;
+pub mod maker;
 pub mod pass;
 mod room;
 pub mod rule;
@@ -11,6 +12,7 @@ pub mod table;
 pub mod tries;
 pub mod whole;
 
+pub use maker::{Maker, Plain};
 pub use pass::CpuPass;
 pub use slot::Slot;
 pub use step::{alone, both, idle};

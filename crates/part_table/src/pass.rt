@@ -4,9 +4,11 @@ ghost use Rattle.step_reply.specs.declared.reply.Reply.TheVariants.{Refused};
 ghost use Rattle.step_reply.specs.declared.reply.Refusal.TheVariants.{Contended, LogFull};
 ghost use Rattle.reference_model.specs.History.{IsStored};
 ghost use Rattle.part_table.specs.Answered.{Answers, FindsAway, FindsLogFull, StoresCall};
+ghost use Rattle.part_table.specs.Made.{MakesFor};
 ghost use Rattle.part_table.specs.Parts.{parts};
 
 use crate::exchanges::{PartSeat, SlotTable};
+use crate::maker::Maker;
 use crate::tries::{Gate, any};
 use guest_steps::CpuState;
 use page_state::Layout;
@@ -62,25 +64,28 @@ impl<A: Allocator> CpuPass<A> {
 
 impl<A: Allocator + Copy> CpuPass<A> {
     /// One try of a step.
-    pub(crate) fn try_step<G: Gate>(
+    pub(crate) fn try_step<T, G: Gate, M: Maker<T>>(
         &mut self,
         gate: &G,
+        maker: &M,
         table: &SlotTable<A>,
         alloc: A,
         layout: &Layout,
         step: Step,
+        told: &mut T,
     ) -> Reply
         requires table { (self.old.table ≡ table.now.shared.table_id) × (table.now.shared.table_id.words ≡ parts) }
         requires layout { self.old.knows.layout ≡ layout.now }
         ensures table { self.new.table ≡ self.old.table }
         ensures rest { self.new.holds ≡ [] }
         ensures answers { Answers step result self.old.knows self.new.knows }
+        ensures made { MakesFor {A = A} M.tells step result self.old.knows self.new.knows told.old told.new }
     {
         if self.own.log.room() == 0 {
             return Reply::Refused(Refusal::LogFull);
         }
         let seat = &mut self.seat;
         let own = &mut self.own;
-        any(gate, table, seat, alloc, layout, own, step).reply()
+        any(gate, maker, table, seat, alloc, layout, own, step, told).reply()
     }
 }

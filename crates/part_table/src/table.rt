@@ -10,6 +10,7 @@ ghost use Rattle.part_table.specs.Passes.{AreFirst, AreHomeFrom, IsPassOf, first
 ghost use Rattle.part_table.specs.Rule.{AreOwnAtBoot, one_more, own_at_boot, rooted};
 
 use crate::exchanges::{PartSeat, SlotTable};
+use crate::maker::{Maker, Plain};
 use crate::pass::CpuPass;
 use crate::room::push_in_room;
 use crate::rule::{Clash, Root};
@@ -174,6 +175,7 @@ impl<A: Allocator + Copy> PartTable<A> {
     ghost use Rattle.step_reply.specs.declared.reply.Reply.TheVariants.{Refused};
     ghost use Rattle.reference_model.specs.History.{IsStored};
     ghost use Rattle.part_table.specs.Answered.{FindsAway, FindsLogFull, MeetsAnother, StoresCall};
+    ghost use Rattle.part_table.specs.Made.{IsMade};
     ghost use Rattle.part_table.specs.Passes.{IsPassOf};
 
     /// One try of a step, which waits for nobody. `taken` of the gate is called in it, and `answered` isn't.
@@ -187,8 +189,31 @@ impl<A: Allocator + Copy> PartTable<A> {
         ensures met { MeetsAnother pass.old.knows pass.new.knows → result ≡ Refused Contended }
         ensures log_full { result ≡ Refused LogFull → FindsLogFull step pass.old.knows pass.new.knows }
     {
+        self.try_step_by(gate, &Plain, pass, step, &mut ())
+    }
+
+    /// The same where a maker makes the step. It does so once, where the call is stored, and else tells nothing.
+    pub fn try_step_by<T, G: Gate, M: Maker<T>>(
+        &self,
+        gate: &G,
+        maker: &M,
+        pass: &mut CpuPass<A>,
+        step: Step,
+        told: &mut T,
+    ) -> Reply
+        requires pass { IsPassOf self.now pass.old }
+        ensures pass { IsPassOf self.now pass.new }
+        ensures cpu { pass.new.knows.cpu ≡ pass.old.knows.cpu }
+        ensures rest { pass.new.holds ≡ [] }
+        ensures stored { IsStored result → StoresCall step result pass.old.knows pass.new.knows }
+        ensures contended { result ≡ Refused Contended → FindsAway step pass.old.knows pass.new.knows }
+        ensures met { MeetsAnother pass.old.knows pass.new.knows → result ≡ Refused Contended }
+        ensures log_full { result ≡ Refused LogFull → FindsLogFull step pass.old.knows pass.new.knows }
+        ensures made { IsStored result → IsMade {A = A} M.tells step result pass.old.knows pass.new.knows told.old told.new }
+        ensures untold { (IsStored result → ⊥) → told.new ≡ told.old }
+    {
         let _ = &self.root;
-        pass.try_step(gate, &self.table, self.alloc, &self.layout, step)
+        pass.try_step(gate, maker, &self.table, self.alloc, &self.layout, step, told)
     }
 }
 

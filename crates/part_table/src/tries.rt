@@ -2,13 +2,14 @@
 ghost use Rattle.std.specs.Prelude.{◌≡◌, ◌≢◌, ◌+◌, ◌<◌, ◌∷◌, [], true};
 ghost use Rattle.guest_steps.specs.View.{cpu_of};
 ghost use Rattle.hypercalls.specs.Uses.{uses_of};
+ghost use Rattle.part_table.specs.Made.{MakesOf};
 ghost use Rattle.part_table.specs.Parts.{in_order, parts};
 ghost use Rattle.part_table.specs.Rule.{AtRest, IsIdle, known_of};
 ghost use Rattle.part_table.specs.Tried.{Tells};
 
 use crate::exchanges::{PartSeat, SlotTable, commit, commit_first, enter, put_back, release, take};
+use crate::maker::Maker;
 use crate::slot::Slot;
-use crate::step::{alone, both, idle};
 use guest_steps::CpuState;
 use hypercalls::{UsedParts, uses};
 use page_state::Layout;
@@ -48,13 +49,15 @@ pub enum Tried {
 }
 
 /// Tries a step that uses no part.
-pub fn none<A: Allocator + Copy, G: Gate>(
+pub fn none<A: Allocator + Copy, T, G: Gate, M: Maker<T>>(
     gate: &G,
+    maker: &M,
     table: &SlotTable<A>,
     seat: &mut PartSeat<A>,
     layout: &Layout,
     cpu: &mut CpuState,
     step: Step,
+    told: &mut T,
 ) -> Tried
     requires table { (seat.old.table_id ≡ table.now.shared.table_id) × (table.now.shared.table_id.words ≡ parts) }
     requires on { seat.old.me.0.on ≡ true }
@@ -69,17 +72,19 @@ pub fn none<A: Allocator + Copy, G: Gate>(
     ensures cpu { (seat.new.me.0.layout ≡ layout.now) × (seat.new.me.0.cpu ≡ cpu.old.id) × (seat.new.me.0.own ≡ cpu.new) × (seat.new.me.0.on ≡ true) }
     ensures left { AtRest seat.new.me.0 }
     ensures tells { Tells step [] result (known_of seat.old.me.0) (known_of seat.new.me.0) }
+    ensures made { MakesOf {A = A} M.tells step [] result (known_of seat.old.me.0) (known_of seat.new.me.0) told.old told.new }
 {
     let number = cpu.log.len() as u64 + 1;
     gate.taken(cpu.id, number);
-    let call = idle::<A>(layout, cpu, step);
+    let call = maker.idle::<A>(layout, cpu, step, told);
     enter(table, seat, &call, cpu);
     Tried::Stored(call)
 }
 
 /// Tries a step that uses the part k alone.
-pub fn one<A: Allocator + Copy, G: Gate>(
+pub fn one<A: Allocator + Copy, T, G: Gate, M: Maker<T>>(
     gate: &G,
+    maker: &M,
     table: &SlotTable<A>,
     seat: &mut PartSeat<A>,
     alloc: A,
@@ -87,6 +92,7 @@ pub fn one<A: Allocator + Copy, G: Gate>(
     k: u64,
     cpu: &mut CpuState,
     step: Step,
+    told: &mut T,
 ) -> Tried
     requires table { (seat.old.table_id ≡ table.now.shared.table_id) × (table.now.shared.table_id.words ≡ parts) }
     requires on { seat.old.me.0.on ≡ true }
@@ -102,6 +108,7 @@ pub fn one<A: Allocator + Copy, G: Gate>(
     ensures cpu { (seat.new.me.0.layout ≡ layout.now) × (seat.new.me.0.cpu ≡ cpu.old.id) × (seat.new.me.0.own ≡ cpu.new) × (seat.new.me.0.on ≡ true) }
     ensures left { AtRest seat.new.me.0 }
     ensures tells { Tells step (k ∷ []) result (known_of seat.old.me.0) (known_of seat.new.me.0) }
+    ensures made { MakesOf {A = A} M.tells step (k ∷ []) result (known_of seat.old.me.0) (known_of seat.new.me.0) told.old told.new }
 {
     let at = k as usize;
     let (id, number) = (cpu.id, cpu.log.len() as u64 + 1);
@@ -116,15 +123,16 @@ pub fn one<A: Allocator + Copy, G: Gate>(
         return Tried::LogFull;
     }
     gate.taken(id, number);
-    let (part, call) = alone(alloc, layout, part, k, cpu, step);
+    let (part, call) = maker.alone(alloc, layout, part, k, cpu, step, told);
     commit(table, seat, at, part, &call, cpu);
     gate.exchanged(id, number, 3);
     Tried::Stored(call)
 }
 
 /// Tries a step that uses the Shared part and the Guest part of slot v. The Shared part is taken first, and goes home last.
-pub fn two<A: Allocator + Copy, G: Gate>(
+pub fn two<A: Allocator + Copy, T, G: Gate, M: Maker<T>>(
     gate: &G,
+    maker: &M,
     table: &SlotTable<A>,
     seat: &mut PartSeat<A>,
     alloc: A,
@@ -132,6 +140,7 @@ pub fn two<A: Allocator + Copy, G: Gate>(
     v: u64,
     cpu: &mut CpuState,
     step: Step,
+    told: &mut T,
 ) -> Tried
     requires table { (seat.old.table_id ≡ table.now.shared.table_id) × (table.now.shared.table_id.words ≡ parts) }
     requires on { seat.old.me.0.on ≡ true }
@@ -147,6 +156,7 @@ pub fn two<A: Allocator + Copy, G: Gate>(
     ensures cpu { (seat.new.me.0.layout ≡ layout.now) × (seat.new.me.0.cpu ≡ cpu.old.id) × (seat.new.me.0.own ≡ cpu.new) × (seat.new.me.0.on ≡ true) }
     ensures left { AtRest seat.new.me.0 }
     ensures tells { Tells step (1 ∷ (v + 2) ∷ []) result (known_of seat.old.me.0) (known_of seat.new.me.0) }
+    ensures made { MakesOf {A = A} M.tells step (1 ∷ (v + 2) ∷ []) result (known_of seat.old.me.0) (known_of seat.new.me.0) told.old told.new }
 {
     let at = v as usize + 2;
     let (id, number) = (cpu.id, cpu.log.len() as u64 + 1);
@@ -175,7 +185,7 @@ pub fn two<A: Allocator + Copy, G: Gate>(
         return Tried::LogFull;
     }
     gate.taken(id, number);
-    let (shared, guest, call) = both(alloc, layout, shared, guest, v, cpu, step);
+    let (shared, guest, call) = maker.both(alloc, layout, shared, guest, v, cpu, step, told);
     commit_first(table, seat, at, guest, shared, &call, cpu);
     gate.exchanged(id, number, 4);
     release(table, seat, 1);
@@ -184,14 +194,16 @@ pub fn two<A: Allocator + Copy, G: Gate>(
 }
 
 /// Tries a step on the parts that it uses.
-pub fn any<A: Allocator + Copy, G: Gate>(
+pub fn any<A: Allocator + Copy, T, G: Gate, M: Maker<T>>(
     gate: &G,
+    maker: &M,
     table: &SlotTable<A>,
     seat: &mut PartSeat<A>,
     alloc: A,
     layout: &Layout,
     cpu: &mut CpuState,
     step: Step,
+    told: &mut T,
 ) -> Tried
     requires table { (seat.old.table_id ≡ table.now.shared.table_id) × (table.now.shared.table_id.words ≡ parts) }
     requires on { seat.old.me.0.on ≡ true }
@@ -205,13 +217,14 @@ pub fn any<A: Allocator + Copy, G: Gate>(
     ensures cpu { (seat.new.me.0.layout ≡ layout.now) × (seat.new.me.0.cpu ≡ cpu.old.id) × (seat.new.me.0.own ≡ cpu.new) × (seat.new.me.0.on ≡ true) }
     ensures left { AtRest seat.new.me.0 }
     ensures tells { Tells step (in_order (uses_of (cpu_of cpu.old) step)) result (known_of seat.old.me.0) (known_of seat.new.me.0) }
+    ensures made { MakesOf {A = A} M.tells step (in_order (uses_of (cpu_of cpu.old) step)) result (known_of seat.old.me.0) (known_of seat.new.me.0) told.old told.new }
 {
     match uses(cpu, &step) {
-        UsedParts::Nothing => none(gate, table, seat, layout, cpu, step),
-        UsedParts::Vms => one(gate, table, seat, alloc, layout, 0, cpu, step),
-        UsedParts::Shared => one(gate, table, seat, alloc, layout, 1, cpu, step),
-        UsedParts::Guest(v) => one(gate, table, seat, alloc, layout, v + 2, cpu, step),
-        UsedParts::Both(v) => two(gate, table, seat, alloc, layout, v, cpu, step),
+        UsedParts::Nothing => none(gate, maker, table, seat, layout, cpu, step, told),
+        UsedParts::Vms => one(gate, maker, table, seat, alloc, layout, 0, cpu, step, told),
+        UsedParts::Shared => one(gate, maker, table, seat, alloc, layout, 1, cpu, step, told),
+        UsedParts::Guest(v) => one(gate, maker, table, seat, alloc, layout, v + 2, cpu, step, told),
+        UsedParts::Both(v) => two(gate, maker, table, seat, alloc, layout, v, cpu, step, told),
     }
 }
 

@@ -1,6 +1,7 @@
 use Rattle.std.proofs.Common.{◌<◌, arith, ap, sym, subst, ◌∙◌}
 use Rattle.part_table.specs.Parts.{in_order}
 use Rattle.part_table.specs.Rule.{known_of}
+use Rattle.part_table.specs.Made.{MakesOf}
 use Rattle.part_table.specs.Tried.{Tells}
 use Rattle.part_table.proofs.Slots.{guest_low, both_low}
 use Rattle.part_table.proofs.Telling.{left_idle}
@@ -219,3 +220,18 @@ two-requires-clause-uses g c = ap in_order (sym c.uses.ensures ∙ c.in-Both.is)
 
 pub returns-in-Both-clause-tells : goal.returns-in-Both-clause-tells
 returns-in-Both-clause-tells g c = subst (λ ks. Tells c.args.step ks c.two.result (known_of c.args.seat.now.me.0) (known_of c.two.new.seat.me.0)) (sym (ap in_order (sym c.uses.ensures ∙ c.in-Both.is))) c.two.ensures.tells
+
+pub returns-in-Nothing-clause-made : goal.returns-in-Nothing-clause-made
+returns-in-Nothing-clause-made g c = subst (λ ks. MakesOf {A = g.row.A.Denot} g.M.Maker.tells c.args.step ks c.none.result (known_of c.args.seat.now.me.0) (known_of c.none.new.seat.me.0) c.args.told.now c.none.new.told) (sym (ap in_order (sym c.uses.ensures ∙ c.in-Nothing.is))) c.none.ensures.made
+
+pub returns-in-Vms-clause-made : goal.returns-in-Vms-clause-made
+returns-in-Vms-clause-made g c = subst (λ ks. MakesOf {A = g.row.A.Denot} g.M.Maker.tells c.args.step ks c.one.result (known_of c.args.seat.now.me.0) (known_of c.one.new.seat.me.0) c.args.told.now c.one.new.told) (sym (ap in_order (sym c.uses.ensures ∙ c.in-Vms.is))) c.one.ensures.made
+
+pub returns-in-Shared-clause-made : goal.returns-in-Shared-clause-made
+returns-in-Shared-clause-made g c = subst (λ ks. MakesOf {A = g.row.A.Denot} g.M.Maker.tells c.args.step ks c.one-in-Shared.result (known_of c.args.seat.now.me.0) (known_of c.one-in-Shared.new.seat.me.0) c.args.told.now c.one-in-Shared.new.told) (sym (ap in_order (sym c.uses.ensures ∙ c.in-Shared.is))) c.one-in-Shared.ensures.made
+
+pub returns-in-Guest-clause-made : goal.returns-in-Guest-clause-made
+returns-in-Guest-clause-made g c = subst (λ ks. MakesOf {A = g.row.A.Denot} g.M.Maker.tells c.args.step ks c.one-in-Guest.result (known_of c.args.seat.now.me.0) (known_of c.one-in-Guest.new.seat.me.0) c.args.told.now c.one-in-Guest.new.told) (sym (ap in_order (sym c.uses.ensures ∙ c.in-Guest.is))) c.one-in-Guest.ensures.made
+
+pub returns-in-Both-clause-made : goal.returns-in-Both-clause-made
+returns-in-Both-clause-made g c = subst (λ ks. MakesOf {A = g.row.A.Denot} g.M.Maker.tells c.args.step ks c.two.result (known_of c.args.seat.now.me.0) (known_of c.two.new.seat.me.0) c.args.told.now c.two.new.told) (sym (ap in_order (sym c.uses.ensures ∙ c.in-Both.is))) c.two.ensures.made

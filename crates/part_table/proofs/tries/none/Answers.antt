@@ -1,6 +1,7 @@
 use Rattle.std.proofs.Common.{◌≡◌, ℕ, ◌∷◌, [], Bool, true, false, cond, eqb, sym, refl, ◌∙◌, append-nil}
 use Rattle.std.specs.Prelude.{None}
 use Rattle.part_table.specs.Rule.{held_at}
+use Rattle.part_table.proofs.Making.{made_by}
 use Rattle.part_table.proofs.Telling.{cpu_told, does_for, left_idle, rest_added, rest_told, told_stored}
 use Rattle.part_table.proofs.tries.none.Goals as goal
 
@@ -57,3 +58,9 @@ returns-clause-cpu g c = cpu_told c.enter.ensures.entered (c.requires.cpu.0, c.r
 
 pub returns-clause-left : goal.returns-clause-left
 returns-clause-left g c = rest_added c.idle-call.result c.enter.new.seat.me.0 c.enter.ensures.history
+
+pub returns-clause-made : goal.returns-clause-made
+returns-clause-made g c =
+    let q = c.requires.cpu in
+    made_by g.M.Maker.tells [] c.args.seat.now.me c.enter.ensures.entered refl (sym (append-nil c.args.seat.now.me.0.tries)) q
+    (left_idle c.args.layout.now c.args.cpu.now.id c.args.cpu.now c.args.seat.now.me.0 c.requires.left q.0 q.1 q.2) (λ k x e. absurd cc) c.idle-call.ensures.call c.idle-call.ensures.does c.idle-call.ensures.told

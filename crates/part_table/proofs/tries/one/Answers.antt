@@ -3,6 +3,7 @@ use Rattle.std.specs.Prelude.{Some, None}
 use Rattle.part_table.specs.Does.{only_at}
 use Rattle.part_table.specs.Rule.{Seated, held_at}
 use Rattle.part_table.proofs.Holding.{one_held, one_gone, only_like}
+use Rattle.part_table.proofs.Making.{made_by, tried_one}
 use Rattle.part_table.proofs.Pairs.{at_same, by_front}
 use Rattle.part_table.proofs.Telling.{with_taken, with_home, with_stored, home_of, does_for, left_of, away_first, full_first, stored_first, cpu_told, left_told, rest_told, rest_added}
 use Rattle.part_table.proofs.tries.one.Goals.{In-Some, After-put_back, After-commit}
@@ -134,3 +135,20 @@ put_back-requires-clause-held g c = ap (λ (z : Seated g.row.A.Denot). held_at z
 
 pub commit-requires-clause-by : goal.commit-requires-clause-by
 commit-requires-clause-by g c = c.alone-part.ensures.call.by ∙ sym (ap (λ (z : Seated g.row.A.Denot). z.0.cpu) c.in-Some.ensures.taken.0 ∙ c.requires.cpu.1)
+
+pub returns-clause-made : goal.returns-clause-made
+returns-clause-made g c =
+    let at = goal.at.returns-clause-made g c in
+    let q = cpu_told c.in-Some.ensures.taken.0 c.requires.cpu c.requires.on in
+    made_by g.M.Maker.tells (c.args.k ∷ []) c.args.seat.now.me (stored g at.After-commit) refl (tried_one c.args.seat.now.me.0.tries c.args.k c.in-Some.part) c.requires.cpu
+    (left_of c.take.new.seat.me.0 c.in-Some.ensures.taken.2 q.0 q.1 q.2 (held g at.In-Some))
+    (λ j z h. c.alone-part.ensures.does.only j c.alone-part.result.0 (only_like c.args.k j c.in-Some.part c.alone-part.result.0 z h)) c.alone-part.ensures.call c.alone-part.ensures.does c.alone-part.ensures.told
+
+pub returns-in_default-clause-made : goal.returns-in_default-clause-made
+returns-in_default-clause-made g c = refl
+
+pub returns-then-room-eq0-clause-made : goal.returns-then-room-eq0-clause-made
+returns-then-room-eq0-clause-made g c = refl
+
+pub alone-part-requires-clause-part : goal.alone-part-requires-clause-part
+alone-part-requires-clause-part g c = c.requires.part

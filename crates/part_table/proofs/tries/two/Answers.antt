@@ -4,8 +4,9 @@ use Rattle.part_table.specs.Parts.{log_of, parts}
 use Rattle.part_table.specs.Does.{both_at}
 use Rattle.part_table.specs.Rule.{Extends, Seated, StartsWith, held_at, known_of, seen_at}
 use Rattle.part_table.proofs.Holding.{one_gone, two_gone, two_held, both_like, second_held}
+use Rattle.part_table.proofs.Making.{made_by, tried_two}
 use Rattle.part_table.proofs.Pairs.{at_same, by_front}
-use Rattle.part_table.proofs.Telling.{with_taken, with_both, with_missed, with_home, with_stored, home_of, cpu_told, left_told, rest_told, does_for, left_of, away_first, full_first, away_second, full_second, stored_second, rest_added, rest_home}
+use Rattle.part_table.proofs.Telling.{with_taken, with_both, with_missed, with_home, with_stored, home_of, cpu_told, left_told, rest_told, does_for, left_of, away_first, full_first, away_second, full_second, stored_second, rest_added, rest_home, two_tries}
 use Rattle.part_table.proofs.tries.two.Goals.{In-Some-take, After-put_back, After-put_back-in_default-take, After-put_back-then-room-eq0-2, After-put_back-then-room-eq0-2-2, After-release}
 use Rattle.part_table.proofs.tries.two.Goals as goal
 
@@ -268,3 +269,29 @@ put_back-requires-then-room-eq0-2-2-clause-part g c = low
 
 pub release-requires-clause-part : goal.release-requires-clause-part
 release-requires-clause-part g c = low
+
+pub returns-clause-made : goal.returns-clause-made
+returns-clause-made g c =
+    let at = goal.at.returns-clause-made g c in
+    let m = c.args.seat.now.me in
+    let k = c.args.v + 2 in
+    let q = cpu_told (both g at.In-Some-take) c.requires.cpu c.requires.on in
+    made_by g.M.Maker.tells (1 ∷ k ∷ []) m (stored g at.After-release) refl (two_tries m.0 k c.in-Some.shared c.in-Some-take.guest ∙ tried_two m.0.tries k c.in-Some.shared c.in-Some-take.guest (λ e. omega arith)) c.requires.cpu
+    (left_of c.take-2.new.seat.me.0 c.in-Some-take.ensures.taken.2 q.0 q.1 q.2 (held g at.In-Some-take))
+    (λ j z h. let there = both_like k 1 j c.in-Some-take.guest c.in-Some.shared c.both-shared.result.1 c.both-shared.result.0 z h in c.both-shared.ensures.does.only j there.0 there.1)
+    c.both-shared.ensures.call c.both-shared.ensures.does c.both-shared.ensures.told
+
+pub returns-in_default-clause-made : goal.returns-in_default-clause-made
+returns-in_default-clause-made g c = refl
+
+pub returns-in_default-take-clause-made : goal.returns-in_default-take-clause-made
+returns-in_default-take-clause-made g c = refl
+
+pub returns-then-room-eq0-clause-made : goal.returns-then-room-eq0-clause-made
+returns-then-room-eq0-clause-made g c = refl
+
+pub returns-then-room-eq0-2-clause-made : goal.returns-then-room-eq0-2-clause-made
+returns-then-room-eq0-2-clause-made g c = refl
+
+pub both-shared-requires-clause-part : goal.both-shared-requires-clause-part
+both-shared-requires-clause-part g c = c.requires.part

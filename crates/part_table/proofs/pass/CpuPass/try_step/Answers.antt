@@ -5,6 +5,7 @@ use Rattle.part_table.specs.declared.rule.View.{View}
 use Rattle.part_table.specs.declared.tries.Tried.TheVariants.{LogFull}
 use Rattle.part_table.specs.Passes.{Pass}
 use Rattle.part_table.specs.Rule.{known_of}
+use Rattle.part_table.proofs.Making.{makes_for}
 use Rattle.part_table.proofs.Rests.{none_held}
 use Rattle.part_table.proofs.Telling.{answers_of}
 use Rattle.part_table.proofs.pass.CpuPass.try_step.Goals as goal
@@ -34,3 +35,11 @@ returns-clause-answers g c =
     let room : c.self.inside.own.log.room ≢ 0 = search rules in
     answers_of c.args.step c.any.result c.reply.result c.args.self.now.knows (known_of c.self.inside.seat.me.0) (known_of c.any.new.seat.me.0) c.self.inside.own
     (ap (λ (p : Pass). p.knows) (sym c.self.view_is)) c.self.invariant.4 c.reply.ensures room c.any.ensures.tells
+
+pub returns-then-room-eq0-clause-made : goal.returns-then-room-eq0-clause-made
+returns-then-room-eq0-clause-made g c = (LogFull, refl, refl)
+
+pub returns-clause-made : goal.returns-clause-made
+returns-clause-made g c =
+    makes_for {A = g.row.A.Denot} g.M.Maker.tells c.args.step c.any.result c.reply.result c.args.self.now.knows (known_of c.self.inside.seat.me.0) (known_of c.any.new.seat.me.0) c.self.inside.own c.args.told.now c.any.new.told
+    (ap (λ (p : Pass). p.knows) (sym c.self.view_is)) c.self.invariant.4 c.reply.ensures c.any.ensures.made

@@ -1,0 +1,153 @@
+//! What makes the step of a call while its pass holds the parts that the call uses.
+ghost use Rattle.std.specs.Prelude.{◌≡◌, ◌≢◌, ◌<◌, ◌+◌, ◌∷◌, []};
+ghost use Rattle.guest_steps.specs.View.{cpu_of};
+ghost use Rattle.hypercalls.specs.Uses.{uses_of};
+ghost use Rattle.page_state.specs.LayoutView.{layout_of};
+ghost use Rattle.part_table.specs.Does.{both_at, Does, IsCalled, IsLeft, none_at, only_at};
+ghost use Rattle.part_table.specs.Parts.{in_order, log_of, parts};
+
+use crate::slot::Slot;
+use crate::step;
+use guest_steps::CpuState;
+use page_state::Layout;
+use std::alloc::Allocator;
+use step_reply::{Call, Step};
+
+/// Makes the step of a call while its pass holds the parts that the call uses. Whatever a maker is, the step is the same;
+/// what else it does with the parts before and after the step changes what is told alone.
+pub trait Maker<T> {
+    ghost use Rattle.std.specs.Prelude.{ℕ, Option};
+    ghost use Rattle.guest_steps.specs.declared.parts.CpuState.{CpuState};
+    ghost use Rattle.page_state.specs.declared.layout.Layout.{Layout as TheLayout};
+    ghost use Rattle.part_table.specs.declared.slot.Slot.{Slot};
+    ghost use Rattle.step_reply.specs.declared.reply.Call.{Call};
+
+    /// What is told before and after a call: of the layout, the parts that the call uses, by number, and its CPU's own
+    /// state, as they are taken and as they go home.
+    ghost tells: { {A : Type 0} → TheLayout → (ℕ → Option (Slot A)) → CpuState → Call → (ℕ → Option (Slot A)) → CpuState → T → T → Type 0 };
+
+    /// The step on no part, on the CPU's own state alone.
+    fn idle<A: Allocator + Copy>(
+        &self,
+        layout: &Layout,
+        cpu: &mut CpuState,
+        step: Step,
+        told: &mut T,
+    ) -> Call
+        requires known { cpu.old.id < layout.now.config.cpus }
+        requires left { ∥ IsLeft {A = A} (layout_of layout.now) cpu.old.id cpu.old none_at ∥₁ }
+        requires uses { in_order (uses_of (cpu_of cpu.old) step) ≡ [] }
+        requires own_room { cpu.old.log.room ≢ 0 }
+        ensures call { IsCalled cpu.old.id cpu.old step result }
+        ensures does { Does {A = A} (layout_of layout.now) result none_at cpu.old none_at cpu.new }
+        ensures told { tells {A = A} layout.now none_at cpu.old result none_at cpu.new told.old told.new };
+
+    /// The step on the part k alone.
+    fn alone<A: Allocator + Copy>(
+        &self,
+        alloc: A,
+        layout: &Layout,
+        slot: Slot<A>,
+        k: u64,
+        cpu: &mut CpuState,
+        step: Step,
+        told: &mut T,
+    ) -> (Slot<A>, Call)
+        requires known { cpu.old.id < layout.now.config.cpus }
+        requires part { k < parts }
+        requires left { ∥ IsLeft (layout_of layout.now) cpu.old.id cpu.old (only_at k slot) ∥₁ }
+        requires uses { in_order (uses_of (cpu_of cpu.old) step) ≡ k ∷ [] }
+        requires room { (log_of slot).room ≢ 0 }
+        requires own_room { cpu.old.log.room ≢ 0 }
+        ensures call { IsCalled cpu.old.id cpu.old step result.1 }
+        ensures does { Does (layout_of layout.now) result.1 (only_at k slot) cpu.old (only_at k result.0) cpu.new }
+        ensures told { tells layout.now (only_at k slot) cpu.old result.1 (only_at k result.0) cpu.new told.old told.new };
+
+    /// The step on the Shared part and the guest of slot v.
+    fn both<A: Allocator + Copy>(
+        &self,
+        alloc: A,
+        layout: &Layout,
+        shared: Slot<A>,
+        guest: Slot<A>,
+        v: u64,
+        cpu: &mut CpuState,
+        step: Step,
+        told: &mut T,
+    ) -> (Slot<A>, Slot<A>, Call)
+        requires known { cpu.old.id < layout.now.config.cpus }
+        requires part { v + 2 < parts }
+        requires left { ∥ IsLeft (layout_of layout.now) cpu.old.id cpu.old (both_at (v + 2) guest 1 shared) ∥₁ }
+        requires uses { in_order (uses_of (cpu_of cpu.old) step) ≡ 1 ∷ (v + 2) ∷ [] }
+        requires shared_room { (log_of shared).room ≢ 0 }
+        requires guest_room { (log_of guest).room ≢ 0 }
+        requires own_room { cpu.old.log.room ≢ 0 }
+        ensures call { IsCalled cpu.old.id cpu.old step result.2 }
+        ensures does { Does (layout_of layout.now) result.2 (both_at (v + 2) guest 1 shared) cpu.old (both_at (v + 2) result.1 1 result.0) cpu.new }
+        ensures told { tells layout.now (both_at (v + 2) guest 1 shared) cpu.old result.2 (both_at (v + 2) result.1 1 result.0) cpu.new told.old told.new };
+}
+
+/// Makes the step, and tells nothing.
+pub struct Plain;
+
+impl<T> Maker<T> for Plain {
+    ghost tells = { λ l before own call after owned from to. Unit {0} };
+
+    fn idle<A: Allocator + Copy>(
+        &self,
+        layout: &Layout,
+        cpu: &mut CpuState,
+        step: Step,
+        _told: &mut T,
+    ) -> Call {
+        step::idle::<A>(layout, cpu, step)
+    }
+
+    fn alone<A: Allocator + Copy>(
+        &self,
+        alloc: A,
+        layout: &Layout,
+        slot: Slot<A>,
+        k: u64,
+        cpu: &mut CpuState,
+        step: Step,
+        _told: &mut T,
+    ) -> (Slot<A>, Call)
+        requires known { cpu.old.id < layout.now.config.cpus }
+        requires part { k < parts }
+        requires left { ∥ IsLeft (layout_of layout.now) cpu.old.id cpu.old (only_at k slot) ∥₁ }
+        requires uses { in_order (uses_of (cpu_of cpu.old) step) ≡ k ∷ [] }
+        requires room { (log_of slot).room ≢ 0 }
+        requires own_room { cpu.old.log.room ≢ 0 }
+        ensures call { IsCalled cpu.old.id cpu.old step result.1 }
+        ensures does { Does (layout_of layout.now) result.1 (only_at k slot) cpu.old (only_at k result.0) cpu.new }
+        ensures told { Unit {0} }
+    {
+        step::alone(alloc, layout, slot, k, cpu, step)
+    }
+
+    fn both<A: Allocator + Copy>(
+        &self,
+        alloc: A,
+        layout: &Layout,
+        shared: Slot<A>,
+        guest: Slot<A>,
+        v: u64,
+        cpu: &mut CpuState,
+        step: Step,
+        _told: &mut T,
+    ) -> (Slot<A>, Slot<A>, Call)
+        requires known { cpu.old.id < layout.now.config.cpus }
+        requires part { v + 2 < parts }
+        requires left { ∥ IsLeft (layout_of layout.now) cpu.old.id cpu.old (both_at (v + 2) guest 1 shared) ∥₁ }
+        requires uses { in_order (uses_of (cpu_of cpu.old) step) ≡ 1 ∷ (v + 2) ∷ [] }
+        requires shared_room { (log_of shared).room ≢ 0 }
+        requires guest_room { (log_of guest).room ≢ 0 }
+        requires own_room { cpu.old.log.room ≢ 0 }
+        ensures call { IsCalled cpu.old.id cpu.old step result.2 }
+        ensures does { Does (layout_of layout.now) result.2 (both_at (v + 2) guest 1 shared) cpu.old (both_at (v + 2) result.1 1 result.0) cpu.new }
+        ensures told { Unit {0} }
+    {
+        step::both(alloc, layout, shared, guest, v, cpu, step)
+    }
+}
