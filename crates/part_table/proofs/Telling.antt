@@ -26,7 +26,7 @@ use Rattle.hypercalls.specs.Uses.{parts_of}
 use Rattle.part_table.specs.Parts.{in_order, uses, log_of, IsPart, IsOwn}
 use Rattle.part_table.specs.Does.{Does, IsCalled, IsLeft, none_at, only_at, both_at}
 use Rattle.part_table.specs.Rule.{Hands, IsIdle, Seated, tail, held_at, seen_at, seen_with, StartsWith, taking, missing, releasing, storing, IsSame, Adds, Extends, Known, known_of, Standing, AtRest}
-use Rattle.part_table.specs.Tried.{AllTaken, EndsIn, FoundFull, FoundRoom, Tells, TriesOf, Try, reply_of}
+use Rattle.part_table.specs.Tried.{AllTaken, EndsIn, FoundFull, FoundRoom, Tells, TriesOf, Try, WhereStored, reply_of}
 use Rattle.part_table.specs.Answered.{Answers, FindsAway, FindsLogFull, MeetsAnother, StoresCall, TellsOf, used_by}
 use Rattle.part_table.proofs.Holding.{only_here, at_first, at_second}
 use Rattle.part_table.proofs.Pairs.{at_same, at_other, unused_seen, part_same}
@@ -269,6 +269,12 @@ full_none_away (k ∷ ks) ts (x, rest, is, how) = subst NoneAway (sym is) (⊎_e
     (λ (h : FoundFull x × (rest ≡ [])). taken_as k x h.0.0 rest h.0.1 (subst NoneAway (sym h.1) none_tried))
     (λ (h : FoundRoom x × EndsIn FoundFull ks rest). taken_as k x h.0.0 rest h.0.1 (full_none_away ks rest h.1))
     how)
+
+-- what is so where the call of a try is stored
+pub where_stored : {F : Type 0} (t : Tried) (reply : Reply) → reply ≡ reply_of t → WhereStored t F → IsStored reply → F
+where_stored (Stored c) reply e h s = h
+where_stored Contended reply e h s = absurd (subst IsStored e s)
+where_stored LogFull reply e h s = absurd (subst IsStored e s)
 
 module _ (step : Step) (reply : Reply) (v w : Known) where
   -- what a stored call's reply tells

@@ -55,3 +55,9 @@ abbrev pub reply_of : Tried → Reply
 reply_of (Stored c) = c.reply
 reply_of Contended = Refused contended
 reply_of LogFull = Refused log_full
+
+-- so it is where the call of a try is stored
+abbrev pub WhereStored : Tried → Type 0 → Type 0
+WhereStored (Stored c) F = F
+WhereStored Contended F = Unit {0}
+WhereStored LogFull F = Unit {0}

@@ -79,6 +79,7 @@ impl<A: Allocator + Copy> CpuPass<A> {
         ensures table { self.new.table ≡ self.old.table }
         ensures rest { self.new.holds ≡ [] }
         ensures answers { Answers step result self.old.knows self.new.knows }
+        ensures heard { IsStored result → G.heard_taken gate.now self.old.knows.cpu (length self.old.knows.own.log.calls + 1) }
         ensures made { MakesFor {A = A} M.tells step result self.old.knows self.new.knows told.old told.new }
     {
         if self.own.log.room() == 0 {

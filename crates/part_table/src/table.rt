@@ -170,7 +170,7 @@ impl<A: Allocator> PartTable<A> {
 }
 
 impl<A: Allocator + Copy> PartTable<A> {
-    ghost use Rattle.std.specs.Prelude.{◌≡◌, []};
+    ghost use Rattle.std.specs.Prelude.{◌≡◌, ◌+◌, [], length};
     ghost use Rattle.step_reply.specs.declared.reply.Refusal.TheVariants.{Contended, LogFull};
     ghost use Rattle.step_reply.specs.declared.reply.Reply.TheVariants.{Refused};
     ghost use Rattle.reference_model.specs.History.{IsStored};
@@ -188,6 +188,7 @@ impl<A: Allocator + Copy> PartTable<A> {
         ensures contended { result ≡ Refused Contended → FindsAway step pass.old.knows pass.new.knows }
         ensures met { MeetsAnother pass.old.knows pass.new.knows → result ≡ Refused Contended }
         ensures log_full { result ≡ Refused LogFull → FindsLogFull step pass.old.knows pass.new.knows }
+        ensures heard { IsStored result → G.heard_taken gate.now pass.old.knows.cpu (length pass.old.knows.own.log.calls + 1) }
     {
         self.try_step_by(gate, &Plain, pass, step, &mut ())
     }
@@ -209,11 +210,20 @@ impl<A: Allocator + Copy> PartTable<A> {
         ensures contended { result ≡ Refused Contended → FindsAway step pass.old.knows pass.new.knows }
         ensures met { MeetsAnother pass.old.knows pass.new.knows → result ≡ Refused Contended }
         ensures log_full { result ≡ Refused LogFull → FindsLogFull step pass.old.knows pass.new.knows }
+        ensures heard { IsStored result → G.heard_taken gate.now pass.old.knows.cpu (length pass.old.knows.own.log.calls + 1) }
         ensures made { IsStored result → IsMade {A = A} M.tells step result pass.old.knows pass.new.knows told.old told.new }
         ensures untold { (IsStored result → ⊥) → told.new ≡ told.old }
     {
         let _ = &self.root;
-        pass.try_step(gate, maker, &self.table, self.alloc, &self.layout, step, told)
+        pass.try_step(
+            gate,
+            maker,
+            &self.table,
+            self.alloc,
+            &self.layout,
+            step,
+            told,
+        )
     }
 }
 

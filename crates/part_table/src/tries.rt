@@ -1,11 +1,11 @@
 //! One try of a call.
-ghost use Rattle.std.specs.Prelude.{◌≡◌, ◌≢◌, ◌+◌, ◌<◌, ◌∷◌, [], true};
+ghost use Rattle.std.specs.Prelude.{◌≡◌, ◌≢◌, ◌+◌, ◌<◌, ◌∷◌, [], length, true};
 ghost use Rattle.guest_steps.specs.View.{cpu_of};
 ghost use Rattle.hypercalls.specs.Uses.{uses_of};
 ghost use Rattle.part_table.specs.Made.{MakesOf};
 ghost use Rattle.part_table.specs.Parts.{in_order, parts};
 ghost use Rattle.part_table.specs.Rule.{AtRest, IsIdle, known_of};
-ghost use Rattle.part_table.specs.Tried.{Tells};
+ghost use Rattle.part_table.specs.Tried.{Tells, WhereStored};
 
 use crate::exchanges::{PartSeat, SlotTable, commit, commit_first, enter, put_back, release, take};
 use crate::maker::Maker;
@@ -18,11 +18,21 @@ use step_reply::{Call, Refusal, Reply, Step};
 
 /// What is called in the middle of a call, with the CPU and its number of the call.
 pub trait Gate {
+    ghost use Rattle.std.specs.Prelude.{ℕ};
+
+    /// That `taken` was called with this CPU and number. Only the call gives it.
+    ghost heard_taken: { Self → ℕ → ℕ → Type 0 };
+
+    /// The same of `answered`.
+    ghost heard_answered: { Self → ℕ → ℕ → Type 0 };
+
     /// All parts that the call uses are held, and no log that would store it is full. The step comes next.
-    fn taken(&self, cpu: u64, number: u64);
+    fn taken(&self, cpu: u64, number: u64)
+        ensures { heard_taken self.now cpu number };
 
     /// The parts are home again, and the call is answered.
-    fn answered(&self, cpu: u64, number: u64);
+    fn answered(&self, cpu: u64, number: u64)
+        ensures { heard_answered self.now cpu number };
 
     /// An exchange was made, of this kind: 1 took a part, 2 found it with another pass, 3 put the one part of a call home
     /// with the call, 4 the guest of a call that uses the Shared part too, 5 a part without a call.
@@ -33,6 +43,10 @@ pub trait Gate {
 pub struct Open;
 
 impl Gate for Open {
+    ghost heard_taken = { λ gate cpu number. Unit {0} };
+
+    ghost heard_answered = { λ gate cpu number. Unit {0} };
+
     fn taken(&self, _cpu: u64, _number: u64) {}
 
     fn answered(&self, _cpu: u64, _number: u64) {}
@@ -73,6 +87,7 @@ pub fn none<A: Allocator + Copy, T, G: Gate, M: Maker<T>>(
     ensures left { AtRest seat.new.me.0 }
     ensures tells { Tells step [] result (known_of seat.old.me.0) (known_of seat.new.me.0) }
     ensures made { MakesOf {A = A} M.tells step [] result (known_of seat.old.me.0) (known_of seat.new.me.0) told.old told.new }
+    ensures heard { WhereStored result (G.heard_taken gate.now cpu.old.id (length cpu.old.log.calls + 1)) }
 {
     let number = cpu.log.len() as u64 + 1;
     gate.taken(cpu.id, number);
@@ -109,6 +124,7 @@ pub fn one<A: Allocator + Copy, T, G: Gate, M: Maker<T>>(
     ensures left { AtRest seat.new.me.0 }
     ensures tells { Tells step (k ∷ []) result (known_of seat.old.me.0) (known_of seat.new.me.0) }
     ensures made { MakesOf {A = A} M.tells step (k ∷ []) result (known_of seat.old.me.0) (known_of seat.new.me.0) told.old told.new }
+    ensures heard { WhereStored result (G.heard_taken gate.now cpu.old.id (length cpu.old.log.calls + 1)) }
 {
     let at = k as usize;
     let (id, number) = (cpu.id, cpu.log.len() as u64 + 1);
@@ -157,6 +173,7 @@ pub fn two<A: Allocator + Copy, T, G: Gate, M: Maker<T>>(
     ensures left { AtRest seat.new.me.0 }
     ensures tells { Tells step (1 ∷ (v + 2) ∷ []) result (known_of seat.old.me.0) (known_of seat.new.me.0) }
     ensures made { MakesOf {A = A} M.tells step (1 ∷ (v + 2) ∷ []) result (known_of seat.old.me.0) (known_of seat.new.me.0) told.old told.new }
+    ensures heard { WhereStored result (G.heard_taken gate.now cpu.old.id (length cpu.old.log.calls + 1)) }
 {
     let at = v as usize + 2;
     let (id, number) = (cpu.id, cpu.log.len() as u64 + 1);
@@ -218,12 +235,24 @@ pub fn any<A: Allocator + Copy, T, G: Gate, M: Maker<T>>(
     ensures left { AtRest seat.new.me.0 }
     ensures tells { Tells step (in_order (uses_of (cpu_of cpu.old) step)) result (known_of seat.old.me.0) (known_of seat.new.me.0) }
     ensures made { MakesOf {A = A} M.tells step (in_order (uses_of (cpu_of cpu.old) step)) result (known_of seat.old.me.0) (known_of seat.new.me.0) told.old told.new }
+    ensures heard { WhereStored result (G.heard_taken gate.now cpu.old.id (length cpu.old.log.calls + 1)) }
 {
     match uses(cpu, &step) {
         UsedParts::Nothing => none(gate, maker, table, seat, layout, cpu, step, told),
         UsedParts::Vms => one(gate, maker, table, seat, alloc, layout, 0, cpu, step, told),
         UsedParts::Shared => one(gate, maker, table, seat, alloc, layout, 1, cpu, step, told),
-        UsedParts::Guest(v) => one(gate, maker, table, seat, alloc, layout, v + 2, cpu, step, told),
+        UsedParts::Guest(v) => one(
+            gate,
+            maker,
+            table,
+            seat,
+            alloc,
+            layout,
+            v + 2,
+            cpu,
+            step,
+            told,
+        ),
         UsedParts::Both(v) => two(gate, maker, table, seat, alloc, layout, v, cpu, step, told),
     }
 }

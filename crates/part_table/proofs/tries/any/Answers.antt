@@ -235,3 +235,18 @@ returns-in-Guest-clause-made g c = subst (λ ks. MakesOf {A = g.row.A.Denot} g.M
 
 pub returns-in-Both-clause-made : goal.returns-in-Both-clause-made
 returns-in-Both-clause-made g c = subst (λ ks. MakesOf {A = g.row.A.Denot} g.M.Maker.tells c.args.step ks c.two.result (known_of c.args.seat.now.me.0) (known_of c.two.new.seat.me.0) c.args.told.now c.two.new.told) (sym (ap in_order (sym c.uses.ensures ∙ c.in-Both.is))) c.two.ensures.made
+
+pub returns-in-Nothing-clause-heard : goal.returns-in-Nothing-clause-heard
+returns-in-Nothing-clause-heard g c = c.none.ensures.heard
+
+pub returns-in-Vms-clause-heard : goal.returns-in-Vms-clause-heard
+returns-in-Vms-clause-heard g c = c.one.ensures.heard
+
+pub returns-in-Shared-clause-heard : goal.returns-in-Shared-clause-heard
+returns-in-Shared-clause-heard g c = c.one-in-Shared.ensures.heard
+
+pub returns-in-Guest-clause-heard : goal.returns-in-Guest-clause-heard
+returns-in-Guest-clause-heard g c = c.one-in-Guest.ensures.heard
+
+pub returns-in-Both-clause-heard : goal.returns-in-Both-clause-heard
+returns-in-Both-clause-heard g c = c.two.ensures.heard

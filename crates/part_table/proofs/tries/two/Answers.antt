@@ -295,3 +295,18 @@ returns-then-room-eq0-2-clause-made g c = refl
 
 pub both-shared-requires-clause-part : goal.both-shared-requires-clause-part
 both-shared-requires-clause-part g c = c.requires.part
+
+pub returns-clause-heard : goal.returns-clause-heard
+returns-clause-heard g c = subst (λ n. g.G.Gate.heard_taken c.args.gate.now c.args.cpu.now.id (n + 1)) c.len.ensures.value c.taken.ensures
+
+pub returns-in_default-clause-heard : goal.returns-in_default-clause-heard
+returns-in_default-clause-heard g c = tt
+
+pub returns-in_default-take-clause-heard : goal.returns-in_default-take-clause-heard
+returns-in_default-take-clause-heard g c = tt
+
+pub returns-then-room-eq0-clause-heard : goal.returns-then-room-eq0-clause-heard
+returns-then-room-eq0-clause-heard g c = tt
+
+pub returns-then-room-eq0-2-clause-heard : goal.returns-then-room-eq0-2-clause-heard
+returns-then-room-eq0-2-clause-heard g c = tt

@@ -1,13 +1,13 @@
-use Rattle.std.proofs.Common.{rules, ◌≡◌, ◌≢◌, ℕ, ◌<◌, sym, ap, ◌∙◌, refl, subst, inl}
+use Rattle.std.proofs.Common.{rules, ◌≡◌, ◌≢◌, ℕ, ◌<◌, ◌+◌, length, sym, ap, ◌∙◌, refl, subst, inl}
 use Rattle.page_state.specs.declared.layout.Layout.{Layout as TheLayout}
 use Rattle.guest_steps.specs.declared.parts.CpuState.{CpuState}
 use Rattle.part_table.specs.declared.rule.View.{View}
 use Rattle.part_table.specs.declared.tries.Tried.TheVariants.{LogFull}
 use Rattle.part_table.specs.Passes.{Pass}
-use Rattle.part_table.specs.Rule.{known_of}
+use Rattle.part_table.specs.Rule.{Known, known_of}
 use Rattle.part_table.proofs.Making.{makes_for}
 use Rattle.part_table.proofs.Rests.{none_held}
-use Rattle.part_table.proofs.Telling.{answers_of}
+use Rattle.part_table.proofs.Telling.{answers_of, where_stored}
 use Rattle.part_table.proofs.pass.CpuPass.try_step.Goals as goal
 
 pub returns-then-room-eq0-clause-rest : goal.returns-then-room-eq0-clause-rest
@@ -43,3 +43,9 @@ pub returns-clause-made : goal.returns-clause-made
 returns-clause-made g c =
     makes_for {A = g.row.A.Denot} g.M.Maker.tells c.args.step c.any.result c.reply.result c.args.self.now.knows (known_of c.self.inside.seat.me.0) (known_of c.any.new.seat.me.0) c.self.inside.own c.args.told.now c.any.new.told
     (ap (λ (p : Pass). p.knows) (sym c.self.view_is)) c.self.invariant.4 c.reply.ensures c.any.ensures.made
+
+pub returns-clause-heard : goal.returns-clause-heard
+returns-clause-heard g c s =
+    let v = ap (λ (p : Pass). p.knows) c.self.view_is in
+    subst (λ (z : ℕ × CpuState). g.G.Gate.heard_taken c.args.gate.now z.0 (length z.1.log.calls + 1)) (λ i. ((sym c.self.invariant.3 ∙ ap (λ (k : Known). k.cpu) v) i, (sym c.self.invariant.4 ∙ ap (λ (k : Known). k.own) v) i))
+    (where_stored c.any.result c.reply.result c.reply.ensures c.any.ensures.heard s)

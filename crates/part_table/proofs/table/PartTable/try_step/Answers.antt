@@ -20,3 +20,6 @@ returns-clause-pass g c = c.try_step_by.ensures.pass
 
 pub returns-clause-rest : goal.returns-clause-rest
 returns-clause-rest g c = c.try_step_by.ensures.rest
+
+pub returns-clause-heard : goal.returns-clause-heard
+returns-clause-heard g c = c.try_step_by.ensures.heard

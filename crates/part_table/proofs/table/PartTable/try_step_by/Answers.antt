@@ -29,3 +29,6 @@ returns-clause-made g c s = made_of {A = g.row.A.Denot} g.M.Maker.tells c.args.s
 
 pub returns-clause-untold : goal.returns-clause-untold
 returns-clause-untold g c s = untold_of {A = g.row.A.Denot} g.M.Maker.tells c.args.step c.try_step.result c.args.pass.now.knows c.try_step.new.self.knows c.args.told.now c.try_step.new.told c.try_step.ensures.made s
+
+pub returns-clause-heard : goal.returns-clause-heard
+returns-clause-heard g c = c.try_step.ensures.heard
