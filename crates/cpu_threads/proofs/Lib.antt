@@ -9,3 +9,5 @@ pub mod Crossing
 pub mod Growing
 pub mod Stopping
 pub mod InitCalls
+pub mod Recordable
+pub mod Judging

@@ -1,4 +1,5 @@
 pub mod Machines
+pub mod Judged
 pub mod Inits
 pub mod Ends
 pub mod Laws

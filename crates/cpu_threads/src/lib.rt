@@ -4,12 +4,14 @@
 mod boot;
 mod ending;
 mod init;
+mod judged;
 pub mod laws;
 mod machine;
 mod rooms;
 mod shutdown;
 
 pub use init::InitStage;
+pub use judged::Judge;
 pub use machine::Machine;
 pub use part_table::{CpuPass, Gate, Open};
 pub use shutdown::ShutdownFault;

@@ -1,14 +1,17 @@
 //! The machine: all parts of a world under one table, and the passes of its CPUs.
-ghost use Rattle.std.specs.Prelude.{◌≡◌, ◌≢◌, ◌<◌, ◌↔◌, [], IsTrue, IfSome};
+ghost use Rattle.std.specs.Prelude.{◌≡◌, ◌≢◌, ◌+◌, ◌<◌, ◌↔◌, [], IsTrue, IfSome, length};
 ghost use Rattle.step_reply.specs.declared.reply.Refusal.TheVariants.{Contended, LogFull};
 ghost use Rattle.step_reply.specs.declared.reply.Reply.TheVariants.{Refused};
 ghost use Rattle.reference_model.specs.History.{IsStored};
 ghost use Rattle.part_table.specs.Answered.{FindsAway, FindsLogFull, MeetsAnother, StoresCall};
 ghost use Rattle.part_table.specs.Passes.{IsPassOf};
+ghost use Rattle.cpu_threads.specs.Judged.{IsJudged};
 ghost use Rattle.cpu_threads.specs.Machines.{FullInTheEnd, HandsOut, StoresInTheEnd};
 
+use crate::judged::{Judge, Recorder};
+use ghost_judge::laws;
 use part_table::{CpuPass, Gate, Open, PartTable};
-use std::alloc::Allocator;
+use std::alloc::{Allocator, Global};
 use std::marker::Model;
 use std::sync::Wait;
 use step_reply::{Refusal, Reply, Step};
@@ -66,7 +69,8 @@ impl<A: Allocator + Copy> Machine<A> {
         self.try_call_gated(&Open, pass, step)
     }
 
-    /// One try of a step, with a gate. It waits for nobody but the gate.
+    /// One try of a step, with a gate. It waits for nobody but the gate, which hears of a stored call that all its parts are
+    /// held, and of each call that it is answered.
     pub fn try_call_gated<G: Gate>(&self, gate: &G, pass: &mut CpuPass<A>, step: Step) -> Reply
         requires pass { IsPassOf self.now.table pass.old }
         ensures pass { IsPassOf self.now.table pass.new }
@@ -76,11 +80,38 @@ impl<A: Allocator + Copy> Machine<A> {
         ensures contended { result ≡ Refused Contended → FindsAway step pass.old.knows pass.new.knows }
         ensures met { MeetsAnother pass.old.knows pass.new.knows → result ≡ Refused Contended }
         ensures log_full { result ≡ Refused LogFull → FindsLogFull step pass.old.knows pass.new.knows }
+        ensures gate_taken { IsStored result → G.heard_taken gate.now pass.old.knows.cpu (length pass.old.knows.own.log.calls + 1) }
+        ensures gate_answered { G.heard_answered gate.now pass.old.knows.cpu (length pass.old.knows.own.log.calls + 1) }
     {
         let (cpu, number) = (pass.cpu(), pass.number());
         let reply = self.table.try_step(gate, pass, step);
         gate.answered(cpu, number);
         reply
+    }
+
+    /// One try of a step, with the oracle at the locks: while all parts that the call uses are held, the judge is asked of it
+    /// by records of them before and after. It waits for nobody but the judge.
+    pub fn try_call_judged<J: Judge>(
+        &self,
+        global: Global,
+        pass: &mut CpuPass<A>,
+        step: Step,
+        judge: &mut J,
+    ) -> Reply
+        requires pass { IsPassOf self.now.table pass.old }
+        ensures pass { IsPassOf self.now.table pass.new }
+        ensures cpu { pass.new.knows.cpu ≡ pass.old.knows.cpu }
+        ensures rest { pass.new.holds ≡ [] }
+        ensures stored { IsStored result → StoresCall step result pass.old.knows pass.new.knows }
+        ensures contended { result ≡ Refused Contended → FindsAway step pass.old.knows pass.new.knows }
+        ensures met { MeetsAnother pass.old.knows pass.new.knows → result ≡ Refused Contended }
+        ensures log_full { result ≡ Refused LogFull → FindsLogFull step pass.old.knows pass.new.knows }
+        ensures judged { IsStored result → IsJudged A J.takes step result pass.old.knows pass.new.knows judge.old judge.new }
+        ensures silent { (IsStored result → ⊥) → judge.new ≡ judge.old }
+    {
+        laws::steps_agree();
+        self.table
+            .try_step_by(&Open, &Recorder { global }, pass, step, judge)
     }
 
     /// Makes a step: it is tried again while another pass has a part that it uses. It may wait.
@@ -96,7 +127,7 @@ impl<A: Allocator + Copy> Machine<A> {
         self.call_gated(rt, &Open, pass, step)
     }
 
-    /// Makes a step, with a gate. It may wait.
+    /// Makes a step, with a gate, which hears the same. It may wait.
     pub fn call_gated<R: Wait, G: Gate>(
         &self,
         rt: &R,
@@ -111,6 +142,8 @@ impl<A: Allocator + Copy> Machine<A> {
         ensures answered { result ≢ Refused Contended }
         ensures stored { IsStored result → StoresInTheEnd step result pass.old.knows pass.new.knows }
         ensures log_full { result ≡ Refused LogFull → FullInTheEnd step pass.old.knows pass.new.knows }
+        ensures gate_taken { IsStored result → G.heard_taken gate.now pass.old.knows.cpu (length pass.old.knows.own.log.calls + 1) }
+        ensures gate_answered { G.heard_answered gate.now pass.old.knows.cpu (length pass.old.knows.own.log.calls + 1) }
     {
         let cpu = pass.cpu();
         let number = pass.number();

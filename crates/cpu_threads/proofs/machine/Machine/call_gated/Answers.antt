@@ -1,7 +1,8 @@
-use Rattle.std.proofs.Common.{◌≡◌, sym, ap, ◌∙◌, subst}
+use Rattle.std.proofs.Common.{◌≡◌, ℕ, ◌+◌, length, sym, ap, ◌∙◌, subst}
 use Rattle.std.proofs.lemmas.Bool.{false≢true}
 use Rattle.step_reply.specs.declared.reply.Refusal.TheVariants.{Contended}
 use Rattle.step_reply.specs.declared.reply.Reply.TheVariants.{Refused}
+use Rattle.guest_steps.specs.declared.parts.CpuState.{CpuState}
 use Rattle.part_table.specs.Passes.{IsPassOf, Opened}
 use Rattle.cpu_threads.specs.Machines.{Machine}
 use Rattle.cpu_threads.proofs.Tries.{meets_more, meets_none}
@@ -37,3 +38,8 @@ returns-then-not-is_contended-clause-rest g c = c.try_step-reply.ensures.rest
 
 pub returns-then-not-is_contended-clause-answered : goal.returns-then-not-is_contended-clause-answered
 returns-then-not-is_contended-clause-answered g c e = absurd (false≢true (sym c.if-not-is_contended.true ∙ c.is_contended.ensures.1 e))
+
+pub returns-then-not-is_contended-clause-gate_taken : goal.returns-then-not-is_contended-clause-gate_taken
+returns-then-not-is_contended-clause-gate_taken g c s =
+    let same = c.loop.invariant.1.same in
+    subst (λ (z : ℕ × CpuState). g.G.Gate.heard_taken c.args.gate.now z.0 (length z.1.log.calls + 1)) (λ i. (same.cpu i, same.own i)) (c.try_step-reply.ensures.heard s)

@@ -8,3 +8,6 @@ returns-clause-contended g c = c.try_step-reply.ensures.contended
 
 pub returns-clause-log_full : goal.returns-clause-log_full
 returns-clause-log_full g c = c.try_step-reply.ensures.log_full
+
+pub returns-clause-gate_taken : goal.returns-clause-gate_taken
+returns-clause-gate_taken g c = c.try_step-reply.ensures.heard

@@ -1,0 +1,29 @@
+use Rattle.std.proofs.Common.{◌<◌, ◌∙◌, subst, sym}
+use Rattle.page_state.specs.LayoutView.{layout_of}
+use Rattle.part_table.specs.Does.{none_at}
+use Rattle.cpu_threads.proofs.Judging.{asks_of, can_judge}
+use Rattle.cpu_threads.proofs.Recordable.{can_after, can_before, id_after}
+use Rattle.cpu_threads.proofs.judged.RecorderMaker.idle.Goals as goal
+
+pub record_own-pre-requires-clause-low : goal.record_own-pre-requires-clause-low
+record_own-pre-requires-clause-low g c = can_before (layout_of c.args.layout.now) c.args.cpu.now.id c.args.cpu.now (none_at {A = g.row.A.Denot}) c.requires.left
+
+pub record_own-post-requires-clause-known : goal.record_own-post-requires-clause-known
+record_own-post-requires-clause-known g c =
+    let e = c.idle-call.ensures in
+    subst (λ n. n < c.args.layout.now.config.cpus) (sym (id_after (layout_of c.args.layout.now) c.args.cpu.now.id c.args.cpu.now (none_at {A = g.row.A.Denot}) c.requires.left c.idle-call.result (none_at) c.idle-call.new.cpu e.call.by e.does ∙ e.call.by)) c.requires.known
+
+pub record_own-post-requires-clause-low : goal.record_own-post-requires-clause-low
+record_own-post-requires-clause-low g c =
+    let e = c.idle-call.ensures in
+    can_after (layout_of c.args.layout.now) c.args.cpu.now.id c.args.cpu.now (none_at {A = g.row.A.Denot}) c.requires.left c.idle-call.result (none_at) c.idle-call.new.cpu c.requires.known e.call.by e.does
+
+pub ask-requires : goal.ask-requires
+ask-requires g c =
+    let e = c.idle-call.ensures in
+    can_judge c.record_own-pre.result c.record_own-post.result c.args.layout.now c.idle-call.result.cpu (none_at {A = g.row.A.Denot}) (none_at) c.args.cpu.now c.idle-call.new.cpu (subst (λ n. n < c.args.layout.now.config.cpus) (sym e.call.by) c.requires.known)
+    c.record_own-pre.ensures.record c.record_own-pre.ensures.kept c.record_own-post.ensures.record c.record_own-post.ensures.kept
+
+pub returns-clause-told : goal.returns-clause-told
+returns-clause-told g c =
+    asks_of c.record_own-pre.result c.record_own-post.result g.J.Judge.takes c.args.layout.now (none_at {A = g.row.A.Denot}) (none_at) c.args.cpu.now c.idle-call.new.cpu c.idle-call.result c.args.told.now c.ask.new.judge c.ask.ensures c.record_own-pre.ensures.record c.record_own-post.ensures.record
