@@ -44,6 +44,10 @@ fn is_set_in_time(word: &AtomicU64) -> bool {
 }
 
 impl Gate for Held {
+    ghost heard_taken = { λ gate cpu number. Unit {0} };
+
+    ghost heard_answered = { λ gate cpu number. Unit {0} };
+
     fn taken(&self, cpu: u64, _number: u64) {
         if cpu != 0 {
             return;

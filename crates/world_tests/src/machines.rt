@@ -1,8 +1,12 @@
 //! Machines of two CPUs and of eight.
 ghost use Rattle.part_table.specs.Passes.{IsPassOf};
 
+mod dropped;
 mod gates;
+mod heard;
+mod judged;
 mod rows;
+mod stops;
 mod threads;
 
 use crate::sample::{config, memory};

@@ -8,9 +8,9 @@ use std::cell::Cell;
 
 /// A pass beside its machine.
 #[derive(Drop)]
-struct Beside<'a> {
-    machine: &'a Machine<Global>,
-    pass: CpuPass<Global>,
+pub(super) struct Beside<'a> {
+    pub(super) machine: &'a Machine<Global>,
+    pub(super) pass: CpuPass<Global>,
     ghost of: { IsPassOf machine.now.table pass },
 }
 
@@ -34,6 +34,10 @@ struct Meanwhile<'a> {
 }
 
 impl<'a> Gate for Meanwhile<'a> {
+    ghost heard_taken = { λ gate cpu number. Unit {0} };
+
+    ghost heard_answered = { λ gate cpu number. Unit {0} };
+
     fn taken(&self, _cpu: u64, _number: u64) {
         if let Some(other) = self.other.replace(None) {
             self.reply.set(Some(ask(other, self.vm)));

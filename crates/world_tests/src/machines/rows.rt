@@ -5,7 +5,7 @@ ghost use Rattle.part_table.specs.Passes.{IsPassOf};
 use super::*;
 
 /// Makes a step, and compares its reply.
-fn expect_call<R: Wait + Abort>(
+pub(super) fn expect_call<R: Wait + Abort>(
     rt: &R,
     machine: &Machine<Global>,
     pass: &mut CpuPass<Global>,

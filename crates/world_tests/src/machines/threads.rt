@@ -5,13 +5,15 @@ ghost use Rattle.part_table.specs.Passes.{IsPassOf};
 ghost use Rattle.cpu_threads.specs.Ends.{AreOf};
 
 use super::gates::{FIRST, SECOND, UNMAPPED, question};
+use super::judged::{Counting, call_judged};
 use super::rows::make_both;
 use super::*;
-use crate::held::{Held, TURNS};
+use crate::held::Held;
 use crate::numbers::Numbers;
 use crate::sample::started;
 use ghost_spec::state::Ghost;
 use std::alloc::AllocError;
+use std::sync::atomic::{AtomicU64, Ordering};
 use std::thread;
 use std::thread::{Threads, join};
 use world::World;
@@ -58,7 +60,7 @@ fn gate_two_threads(rt: HostRuntime) {
 const CPUS: u64 = 8;
 
 /// The calls of each.
-const CALLS: u64 = 2_000;
+const CALLS: u64 = 5_000;
 
 /// The calls that a log holds: each CPU's, with those that make its VM.
 const LOG: u64 = CPUS * (CALLS + 4);
@@ -133,21 +135,15 @@ impl Caller {
     }
 }
 
-/// Makes a call: it is tried again while another CPU has a part that it uses.
-fn make(machine: &Machine<Global>, pass: &mut CpuPass<Global>, step: Step)
-    requires { IsPassOf machine.now.table pass.old }
-    ensures { IsPassOf machine.now.table pass.new }
-{
-    for _ in 0..TURNS {
-        let reply = machine.try_call(pass, step);
-        if reply != Reply::Refused(Refusal::Contended) {
-            return;
-        }
-    }
+/// How often the judges of all CPUs were asked, and how often one disagreed or memory was refused.
+#[derive(Drop)]
+struct Tally {
+    asked: AtomicU64,
+    strange: AtomicU64,
 }
 
-/// Makes many calls of a CPU.
-fn make_many(machine: &Machine<Global>, pass: &mut CpuPass<Global>)
+/// Makes many calls of a CPU, with a judge of its own.
+fn make_many(global: Global, machine: &Machine<Global>, pass: &mut CpuPass<Global>, tally: &Tally)
     requires { IsPassOf machine.now.table pass.old }
     ensures { IsPassOf machine.now.table pass.new }
 {
@@ -156,14 +152,25 @@ fn make_many(machine: &Machine<Global>, pass: &mut CpuPass<Global>)
         cpu,
         numbers: Numbers::of(cpu),
     };
+    let mut judge = Counting::new(global, false);
     for _ in 0..CALLS {
         let step = caller.step();
-        make(machine, pass, step);
+        call_judged(global, machine, pass, step, &mut judge);
     }
+    let found = judge.found;
+    tally.asked.fetch_add(found.asked, Ordering::SeqCst);
+    let strange = found.disagreed.wrapping_add(found.refused);
+    tally.strange.fetch_add(strange, Ordering::SeqCst);
 }
 
 /// Makes the calls of all CPUs, each on a thread of its own.
-fn make_all<R: Threads + Sync>(rt: &R, machine: &Machine<Global>, passes: &mut [CpuPass<Global>])
+fn make_all<R: Threads + Sync>(
+    rt: &R,
+    global: Global,
+    machine: &Machine<Global>,
+    passes: &mut [CpuPass<Global>],
+    tally: &Tally,
+)
     requires { AreOf machine.now.table passes.old }
     ensures { AreOf machine.now.table passes.new }
 {
@@ -174,7 +181,7 @@ fn make_all<R: Threads + Sync>(rt: &R, machine: &Machine<Global>, passes: &mut [
         &|_: usize, pass: &mut CpuPass<Global>|
             requires { IsPassOf machine.now.table pass.now }
             ensures { IsPassOf machine.entry.now.table pass.exit.now }
-        { make_many(machine, pass) },
+        { make_many(global, machine, pass, tally) },
     );
 }
 
@@ -230,7 +237,13 @@ fn eight_cpus(rt: HostRuntime) {
     let alloc = rt.alloc();
     let mut machine = new_machine(&rt, alloc, CPUS, LOG);
     let mut passes = ready_passes(&rt, alloc, &mut machine).expect(&rt, "memory");
-    make_all(&rt, &machine, passes.as_mut_slice());
+    let tally = Tally {
+        asked: AtomicU64::new(0),
+        strange: AtomicU64::new(0),
+    };
+    make_all(&rt, alloc, &machine, passes.as_mut_slice(), &tally);
+    assert_eq!(rt; tally.asked.load(Ordering::SeqCst), CPUS * CALLS);
+    assert_eq!(rt; tally.strange.load(Ordering::SeqCst), 0);
     let ended = machine.shutdown(alloc, passes);
     let (world, logs) = ended.ok().expect(&rt, "a machine that is shut down");
     drop(world);

@@ -1,5 +1,5 @@
 use Rattle.part_table.specs.Passes.{IsPassOf}
-use Rattle.world_tests.proofs.machines.threads.make.Given as goal
+use Rattle.world_tests.proofs.machines.heard.try_often.Given as goal
 
 abbrev pub invariant-loop : goal.invariant-loop
 invariant-loop l = IsPassOf l.machine.table l.pass
