@@ -1,5 +1,5 @@
 //! A pass that is dropped: its CPU keeps what it has, and the machine can't be shut down.
-ghost use Rattle.std.specs.Prelude.{◌≡◌};
+ghost use Rattle.std.specs.Prelude.{◌≡◌, ◌∷◌, []};
 ghost use Rattle.part_table.specs.Passes.{IsPassOf};
 
 use super::gates::FIRST;
@@ -17,6 +17,15 @@ const OF_HOST: Reply = Reply::Done(Value::Row(Row {
 
 const DONE: Reply = Reply::Done(Value::Nothing);
 
+/// A list of one pass.
+fn list_of(rt: &impl Abort, alloc: Global, pass: CpuPass<Global>) -> Vec<CpuPass<Global>>
+    ensures { result.items ≡ pass ∷ [] }
+{
+    let mut list = Vec::with_capacity(alloc, 1).expect(rt, "memory");
+    list.push(pass).expect(rt, "memory");
+    list
+}
+
 /// Shuts a machine down with one pass, where another was handed out: both come back, and go on.
 fn expect_missing<R: Wait + Abort>(
     rt: &R,
@@ -26,12 +35,11 @@ fn expect_missing<R: Wait + Abort>(
 )
     requires { IsPassOf machine.table one }
 {
-    let mut given = Vec::with_capacity(alloc, 1).expect(rt, "memory");
-    given.push(one).expect(rt, "memory");
+    let given = list_of(rt, alloc, one);
     let ended = machine.shutdown(alloc, given);
     let (machine, mut given, fault) = ended.err().expect(rt, "a refusal");
     assert!(rt; fault == ShutdownFault::Missing);
-    let mut one = given.pop().expect(rt, "the pass of CPU 1");
+    let mut one = given.remove(0);
     let owner = Step::OwnerOf { pfn: 0x40100 };
     expect_call(rt, &machine, &mut one, owner, OF_HOST);
     drop((machine, given, one));

@@ -99,6 +99,18 @@ fn make_ready<R: Wait + Abort>(
     expect_init(rt, machine, one, asked, Ok(OTHER));
 }
 
+/// What the other CPU was answered.
+fn answers_of<'a>(gate: Stopped<'a>) -> Option<Answers> {
+    let Stopped {
+        other,
+        place: _,
+        count: _,
+        answers,
+    } = gate;
+    drop(other.into_inner());
+    answers.into_inner()
+}
+
 /// CPU 0's donation is stopped after its exchange of this place, and CPU 1 makes its calls.
 fn donate_stopped<'a>(
     machine: &'a Machine<Global>,
@@ -117,7 +129,7 @@ fn donate_stopped<'a>(
         answers: Cell::new(None),
     };
     let reply = machine.try_call_gated(&gate, zero, DONATION);
-    (reply, gate.answers.get())
+    (reply, answers_of(gate))
 }
 
 /// The same on a machine of its own.
@@ -174,6 +186,17 @@ impl<'a> Gate for Crossed<'a> {
     fn answered(&self, _cpu: u64, _number: u64) {}
 }
 
+/// What was heard of the donation, and what was answered in the middle.
+fn found<'a>(gate: Crossed<'a>) -> (u64, Option<(Reply, Reply)>) {
+    let Crossed {
+        other,
+        events,
+        replies,
+    } = gate;
+    drop(other.into_inner());
+    (events.into_inner(), replies.into_inner())
+}
+
 /// CPU 1 asks about the page, and CPU 0 tries the donation while CPU 1 holds the guest.
 fn ask_crossed<'a>(
     machine: &'a Machine<Global>,
@@ -191,7 +214,8 @@ fn ask_crossed<'a>(
     };
     let gfn = 0x80000;
     let reply = machine.try_call_gated(&gate, one, Step::GuestTranslate { vm: FIRST, gfn });
-    (reply, gate.events.get(), gate.replies.get())
+    let (events, replies) = found(gate);
+    (reply, events, replies)
 }
 
 #[test]
