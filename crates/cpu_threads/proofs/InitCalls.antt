@@ -13,7 +13,7 @@ use Rattle.step_reply.specs.declared.step.VmKind.{VmKind}
 use Rattle.reference_model.specs.History.{IsStored}
 use Rattle.guest_steps.specs.declared.parts.CpuState.{CpuState}
 use Rattle.guest_steps.specs.Logs.{StoredCalls}
-use Rattle.part_table.specs.Rule.{Known}
+use Rattle.part_table.specs.Known.{Known}
 use Rattle.cpu_threads.specs.Inits.{InitsVm, IsCallOf, IsMade, IsRefusedAt}
 use Rattle.cpu_threads.specs.Laws.{AddsTo, HasMore, InitAdds, MissingOne}
 use Rattle.cpu_threads.specs.declared.init.InitStage.{InitStage}

@@ -25,7 +25,7 @@ use Rattle.part_table.specs.declared.slot.Slot.TheVariants.{Vm as VmSlot, Shared
 use Rattle.part_table.specs.Does.{Does, IsLeft, both_at, none_at, only_at}
 use Rattle.part_table.specs.Made.{IsMade}
 use Rattle.part_table.specs.Parts.{HoldsGuest, HoldsShared, IsGuest, IsOwn, IsPart, IsShared, IsVms, uses}
-use Rattle.part_table.specs.Rule.{Known}
+use Rattle.part_table.specs.Known.{Known}
 use Rattle.part_table.proofs.Stepping.{some_same}
 use Rattle.ghost_spec.specs.declared.state.Ghost.{Ghost}
 use Rattle.ghost_spec.specs.States.{IsKept, contents_in, ghost_state}

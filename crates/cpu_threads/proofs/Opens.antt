@@ -18,7 +18,7 @@ use Rattle.reference_model.specs.Run.{Runs}
 use Rattle.reference_model.specs.State.{Reference}
 use Rattle.reference_model.specs.Step.{FindsFull, IsMade, IsRefused, IsStoredAnswer, IsWanting, Steps, used_by, rooms_by}
 use Rattle.reference_model.specs.Used.{Used}
-use Rattle.part_table.specs.Rule.{Known}
+use Rattle.part_table.specs.Known.{Known}
 use Rattle.cpu_threads.specs.Machines.{StoresInTheEnd}
 
 runs_last : {R : Type 0} → (Go : R → Call → R → Type 0) (cs : List Call) (s t : R) (c : Call) → Runs Go s (cs ++ c ∷ []) t → (m : R) × Go m c t

@@ -13,7 +13,7 @@ use Rattle.hypercalls.specs.Uses.{uses_of}
 use Rattle.part_table.specs.Answered.{FindsAway, used_by}
 use Rattle.part_table.specs.Parts.{in_order}
 use Rattle.part_table.specs.Passes.{AreFirst, IsPassOf, Opened, Pass, first_pass}
-use Rattle.part_table.specs.Rule.{IsSame, Known}
+use Rattle.part_table.specs.Known.{IsSame, Known}
 use Rattle.part_table.specs.Tried.{EndsIn, FoundAway}
 use Rattle.part_table.proofs.Lists.{get_set_else}
 use Rattle.cpu_threads.specs.Machines.{AreFresh, AreTheirs, HandsOut, MeetsOnly}

@@ -4,7 +4,7 @@ use Rattle.page_state.specs.declared.layout.Layout.{Layout as TheLayout}
 use Rattle.guest_steps.specs.declared.parts.CpuState.{CpuState}
 use Rattle.part_table.specs.Endings.{KeepsOwn}
 use Rattle.part_table.specs.Passes.{IsPassOf, Opened, Pass}
-use Rattle.part_table.specs.Rule.{own_at_boot}
+use Rattle.part_table.specs.Known.{own_at_boot}
 
 -- F holds of each given pass
 abbrev pub OfGiven : List Pass → (Pass → Type 0) → Type 0

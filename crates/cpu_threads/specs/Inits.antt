@@ -11,7 +11,7 @@ use Rattle.step_reply.specs.declared.step.Step.TheVariants.{VmReserve, Fund, Ins
 use Rattle.step_reply.specs.declared.step.VmId.{VmId}
 use Rattle.step_reply.specs.declared.step.VmKind.{VmKind}
 use Rattle.reference_model.specs.History.{IsStored}
-use Rattle.part_table.specs.Rule.{Known}
+use Rattle.part_table.specs.Known.{Known}
 use Rattle.cpu_threads.specs.Machines.{FullInTheEnd, StoresInTheEnd}
 use Rattle.cpu_threads.specs.declared.init.InitStage.{InitStage}
 use Rattle.cpu_threads.specs.declared.init.InitStage.TheVariants.{Reserve, Fund as FundStage, Install as InstallStage, Open}

@@ -15,7 +15,7 @@ use Rattle.part_table.specs.declared.slot.Slot.{Slot}
 use Rattle.part_table.specs.declared.slot.Slot.TheVariants.{Vm as VmSlot, Shared as SharedSlot, Guest as GuestSlot}
 use Rattle.part_table.specs.Made.{IsMade}
 use Rattle.part_table.specs.Parts.{HoldsGuest, HoldsShared, HoldsVms}
-use Rattle.part_table.specs.Rule.{Known}
+use Rattle.part_table.specs.Known.{Known}
 use Rattle.ghost_spec.specs.declared.state.Ghost.{Ghost}
 use Rattle.ghost_spec.specs.States.{IsKept, contents_in, ghost_state}
 use Rattle.ghost_judge.specs.Judgements.{JudgeAgrees, told_of}

@@ -19,7 +19,7 @@ use Rattle.part_table.specs.Answered.{FindsAway, FindsLogFull, MeetsAnother, Sto
 use Rattle.part_table.specs.Endings.{IsEndOf, KeepsSeen}
 use Rattle.part_table.specs.Parts.{parts, part_of, uses}
 use Rattle.part_table.specs.Passes.{Pass}
-use Rattle.part_table.specs.Rule.{Known, StartsWith, seen_at}
+use Rattle.part_table.specs.Known.{Known, StartsWith, seen_at}
 use Rattle.part_table.specs.Tried.{FoundAway, FoundFull, FoundRoom, Try}
 use Rattle.cpu_threads.specs.Ends.{HasAll, IsAtHome, KeepsStates, LacksOne, OfGiven}
 use Rattle.cpu_threads.specs.Inits.{InitsVm}

@@ -10,7 +10,7 @@ use Rattle.page_state.specs.Regions.{Memory}
 use Rattle.reference_model.specs.Boot.{IsCarveEnough}
 use Rattle.part_table.specs.Answered.{FindsLogFull, StoresCall, used_by}
 use Rattle.part_table.specs.Passes.{AreFirst, IsPassOf, Opened, Pass, first_pass}
-use Rattle.part_table.specs.Rule.{IsSame, Known}
+use Rattle.part_table.specs.Known.{IsSame, Known}
 use Rattle.part_table.specs.Tried.{EndsIn, FoundAway, Try}
 use Rattle.hypercalls.specs.declared.parts.Parts.{Parts}
 use Rattle.hypercalls.specs.Booted.{IsBooted, IsConfig, layout_for}

@@ -3,7 +3,7 @@ ghost use Rattle.std.specs.Prelude.{◌≡◌, ◌≤◌, [], IfOk, IfErr};
 ghost use Rattle.std.specs.Vec.{vec_capacity, vec_len};
 ghost use Rattle.part_table.specs.Endings.{ForEach, IsEndOf, KeepsOwn, KeepsSeen};
 ghost use Rattle.part_table.specs.Passes.{AreHomeFrom};
-ghost use Rattle.part_table.specs.Whole.{slots_of};
+ghost use Rattle.part_table.specs.Slots.{slots_of};
 ghost use Rattle.cpu_threads.specs.Ends.{AreOf, HasAll, KeepsStates, LacksOne, OfGiven};
 ghost use Rattle.cpu_threads.specs.Rooms.{AreHistories};
 ghost use Rattle.cpu_threads.specs.declared.shutdown.ShutdownFault.TheVariants.{Missing, NoMemory};

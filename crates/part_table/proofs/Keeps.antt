@@ -25,7 +25,8 @@ use Rattle.part_table.specs.declared.rule.View.{View}
 use Rattle.part_table.specs.declared.slot.Slot.{Slot}
 use Rattle.part_table.specs.Parts.{parts, part_of, uses, log_of, IsPart, IsOwn}
 use Rattle.part_table.specs.Does.{Does}
-use Rattle.part_table.specs.Rule.{at, Hands, held_at, seen_at, seen_with, StartsWith, StandsAfter, Knows, Rooted, IsLawful, taking, missing, releasing, took, Standing, returned, Extends, stored, entered, storing, own_at_boot, tail, known_of}
+use Rattle.part_table.specs.Rule.{Hands, held_at, seen_with, StandsAfter, Knows, Rooted, IsLawful, taking, missing, releasing, took, Standing, returned, stored, entered, storing, tail, known_of}
+use Rattle.part_table.specs.Known.{at, seen_at, StartsWith, Extends, own_at_boot}
 use Rattle.part_table.proofs.Pairs.{at_same, at_other, set_at, at_bound, part_same, still_held, seats, picked_more, picked_same, picked_longer, runs_more, after_seen, unused_seen}
 
 pub either_bool : (b : Bool) → (b ≡ true) ⊎ (b ≡ false)

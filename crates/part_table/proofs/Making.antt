@@ -21,7 +21,8 @@ use Rattle.part_table.specs.Answered.{used_by}
 use Rattle.part_table.specs.Does.{Does, IsCalled, IsLeft, both_at, none_at, only_at}
 use Rattle.part_table.specs.Made.{IsMade, Makes, MakesFor, MakesOf}
 use Rattle.part_table.specs.Parts.{in_order, log_of, uses}
-use Rattle.part_table.specs.Rule.{Known, Seated, known_of}
+use Rattle.part_table.specs.Rule.{Seated, known_of}
+use Rattle.part_table.specs.Known.{Known}
 use Rattle.part_table.specs.Tried.{reply_of}
 use Rattle.part_table.proofs.Holding.{only_here, at_first, at_second}
 use Rattle.part_table.proofs.Telling.{two_tries}

@@ -11,7 +11,8 @@ use Rattle.reference_model.specs.Run.{Runs}
 use Rattle.part_table.specs.declared.rule.View.{View}
 use Rattle.part_table.specs.declared.slot.Slot.{Slot}
 use Rattle.part_table.specs.Parts.{log_of}
-use Rattle.part_table.specs.Rule.{at, Hands, held_at, seen_of, seen_with, StartsWith, tail}
+use Rattle.part_table.specs.Rule.{Hands, held_at, seen_of, seen_with, tail}
+use Rattle.part_table.specs.Known.{at, StartsWith}
 
 module _ {X : Type 0} where
   pub at_same : (es : List (ℕ × X)) (k : ℕ) (x d : X) → at ((k, x) ∷ es) d k ≡ x

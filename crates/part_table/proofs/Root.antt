@@ -20,7 +20,8 @@ use Rattle.part_table.specs.declared.rule.View.{View}
 use Rattle.part_table.specs.declared.slot.Slot.{Slot}
 use Rattle.part_table.specs.Parts.{parts, part_of, log_of, IsPart, IsOwn}
 use Rattle.part_table.specs.Does.{IsLeft, none_at}
-use Rattle.part_table.specs.Rule.{Ended, StartsWith, held_at, seen_at, Knows, Rooted, IsLawful, IsIdle, nobody, rooted, one_more, newcomer, with_end, own_at_boot}
+use Rattle.part_table.specs.Rule.{Ended, held_at, Knows, Rooted, IsLawful, IsIdle, nobody, rooted, one_more, newcomer, with_end}
+use Rattle.part_table.specs.Known.{StartsWith, seen_at, own_at_boot}
 use Rattle.part_table.proofs.Pairs.{set_at, at_bound, at_end, seats, still_held}
 
 idle_is : {A : Type 0} → (x : Slot A) (o : Option (Slot A)) → o ≡ None → o ≡ Some x → ⊥

@@ -23,8 +23,9 @@ use Rattle.part_table.specs.declared.slot.Slot.{Slot}
 use Rattle.part_table.specs.declared.slot.Slot.TheVariants.{Vm as VmSlot, Shared as SharedSlot, Guest as GuestSlot}
 use Rattle.part_table.specs.Endings.{IsRow}
 use Rattle.part_table.specs.Parts.{parts, log_of, IsPart, IsVms, IsShared, IsGuest}
-use Rattle.part_table.specs.Rule.{AreOwnAtBoot, own_at_boot}
-use Rattle.part_table.specs.Whole.{slots_of, AreAtBoot}
+use Rattle.part_table.specs.Known.{AreOwnAtBoot, own_at_boot}
+use Rattle.part_table.specs.Slots.{slots_of}
+use Rattle.part_table.specs.Whole.{AreAtBoot}
 
 -- what stands at a place
 pub got : {P : Type 0} (xs : List P) (v : ℕ) → v < length xs → (x : P) × (slice_get xs v ≡ Some x)

@@ -25,7 +25,8 @@ use Rattle.guest_steps.specs.View.{cpu_of}
 use Rattle.hypercalls.specs.Uses.{parts_of}
 use Rattle.part_table.specs.Parts.{in_order, uses, log_of, IsPart, IsOwn}
 use Rattle.part_table.specs.Does.{Does, IsCalled, IsLeft, none_at, only_at, both_at}
-use Rattle.part_table.specs.Rule.{Hands, IsIdle, Seated, tail, held_at, seen_at, seen_with, StartsWith, taking, missing, releasing, storing, IsSame, Adds, Extends, Known, known_of, Standing, AtRest}
+use Rattle.part_table.specs.Rule.{Hands, IsIdle, Seated, tail, held_at, seen_with, taking, missing, releasing, storing, known_of, Standing, AtRest}
+use Rattle.part_table.specs.Known.{seen_at, StartsWith, IsSame, Adds, Extends, Known}
 use Rattle.part_table.specs.Tried.{AllTaken, EndsIn, FoundFull, FoundRoom, Tells, TriesOf, Try, WhereStored, reply_of}
 use Rattle.part_table.specs.Answered.{Answers, FindsAway, FindsLogFull, MeetsAnother, StoresCall, TellsOf, used_by}
 use Rattle.part_table.proofs.Holding.{only_here, at_first, at_second}
@@ -38,7 +39,7 @@ module _ {A : Type 0} where
     layout = b;
     cpu = d;
     own = m;
-    others = λ j unused. ap (λ l. Rattle.part_table.specs.Rule.at l [] j) s ∙ unused_seen es v.seen j (not_there j unused (held_at es j) refl);
+    others = λ j unused. ap (λ l. Rattle.part_table.specs.Known.at l [] j) s ∙ unused_seen es v.seen j (not_there j unused (held_at es j) refl);
     history = h;
   }
     where

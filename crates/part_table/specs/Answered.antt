@@ -10,7 +10,7 @@ use Rattle.part_table.specs.declared.tries.Tried.{Tried}
 use Rattle.part_table.specs.declared.tries.Tried.TheVariants.{Stored, Contended, LogFull}
 use Rattle.part_table.specs.Parts.{in_order}
 use Rattle.part_table.specs.Does.{IsCalled}
-use Rattle.part_table.specs.Rule.{Adds, IsSame, Known}
+use Rattle.part_table.specs.Known.{Adds, IsSame, Known}
 use Rattle.part_table.specs.Tried.{Try, AllTaken, EndsIn, FoundAway, FoundFull, Tells, reply_of}
 
 -- the parts that a step of the pass uses, in the order in which they are tried

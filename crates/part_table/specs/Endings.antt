@@ -13,7 +13,8 @@ use Rattle.guest_steps.specs.declared.parts.CpuState.{CpuState}
 use Rattle.part_table.specs.declared.slot.Slot.{Slot}
 use Rattle.part_table.specs.Parts.{parts, part_of, log_of, IsPart, IsOwn}
 use Rattle.part_table.specs.Passes.{Pass}
-use Rattle.part_table.specs.Rule.{Ended, StartsWith, seen_at}
+use Rattle.part_table.specs.Rule.{Ended}
+use Rattle.part_table.specs.Known.{StartsWith, seen_at}
 
 -- each of 66 places has its part as at boot, with an empty log
 pub record IsRow {A : Type 0} (l : TheLayout) (xs : List (Option (Slot A))) : Type 0 where

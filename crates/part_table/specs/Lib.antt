@@ -1,5 +1,7 @@
 pub mod Parts
+pub mod Slots
 pub mod Does
+pub mod Known
 pub mod Rule
 pub mod Tried
 pub mod Answered

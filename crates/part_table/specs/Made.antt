@@ -12,7 +12,7 @@ use Rattle.part_table.specs.declared.tries.Tried.TheVariants.{Stored, Contended,
 use Rattle.part_table.specs.Answered.{used_by}
 use Rattle.part_table.specs.Does.{Does, IsCalled, IsLeft}
 use Rattle.part_table.specs.Parts.{log_of, uses}
-use Rattle.part_table.specs.Rule.{Known}
+use Rattle.part_table.specs.Known.{Known}
 use Rattle.part_table.specs.Tried.{reply_of}
 
 module _ {A T : Type 0} (tells : TheLayout → (ℕ → Option (Slot A)) → CpuState → Call → (ℕ → Option (Slot A)) → CpuState → T → T → Type 0) (step : Step) where

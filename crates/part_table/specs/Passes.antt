@@ -3,7 +3,8 @@ use Rattle.std.specs.Prelude.{◌≡◌, ℕ, zero, suc, ◌<◌, ◌≤◌, tru
 use Rattle.atomic_table.specs.Seated.{TableId}
 use Rattle.page_state.specs.declared.layout.Layout.{Layout as TheLayout}
 use Rattle.part_table.specs.Parts.{parts}
-use Rattle.part_table.specs.Rule.{Hands, Known, Seated, held_at, own_at_boot}
+use Rattle.part_table.specs.Rule.{Hands, Seated, held_at}
+use Rattle.part_table.specs.Known.{Known, own_at_boot}
 
 -- the table that it is of, what it knows, and the numbers of the parts that it holds
 pub record Pass : Type 0 where

@@ -22,11 +22,7 @@ use Rattle.part_table.specs.declared.rule.View.{View}
 use Rattle.part_table.specs.declared.slot.Slot.{Slot}
 use Rattle.part_table.specs.Parts.{parts, part_of, uses, log_of, IsPart, IsOwn}
 use Rattle.part_table.specs.Does.{IsLeft, none_at}
-
--- a list of pairs as a function: the first pair of a number counts
-abbrev pub at : {X : Type 0} → List (ℕ × X) → X → ℕ → X
-at [] d k = d
-at (e ∷ es) d k = cond (eqb k e.0) e.1 (at es d k)
+use Rattle.part_table.specs.Known.{at, seen_at, Known, StartsWith, own_at_boot, Extends}
 
 -- parts by number; none: no longer held
 abbrev pub Hands : Type 0 → Type 0
@@ -36,35 +32,12 @@ Hands A = List (ℕ × Option (Slot A))
 abbrev pub held_at : {A : Type 0} → Hands A → ℕ → Option (Slot A)
 held_at h k = at h None k
 
--- what has been seen of the log of a part
-abbrev pub seen_at : List (ℕ × List Call) → ℕ → List Call
-seen_at seen k = at seen [] k
-
 -- the state in which a CPU's pass ends, and what it has seen of each part's log
 abbrev pub Ended : Type 0
 Ended = CpuState × List (ℕ × List Call)
 
--- What a pass knows while it holds no part: the layout, its CPU's number and own state with its log, what it has seen of each part's log, and each part that it tried, with its log as it was taken, or none where another pass had it
-pub record Known : Type 0 where
-  pub layout : TheLayout
-  pub cpu : ℕ
-  pub own : CpuState
-  pub seen : List (ℕ × List Call)
-  pub tries : List (ℕ × Option StoredCalls)
-
 abbrev pub known_of : {A : Type 0} → View A → Known
 known_of v = record { layout = v.layout; cpu = v.cpu; own = v.own; seen = v.seen; tries = v.tries }
-
-abbrev pub StartsWith : List Call → List Call → Type 0
-StartsWith xs ys = (rest : List Call) × (xs ≡ ys ++ rest)
-
--- a CPU's own state before its first call
-abbrev pub own_at_boot : TheLayout → ℕ → CpuState
-own_at_boot l cpu = record { id = cpu; loaded = None; hand = None; ticket = None; log = record { calls = []; room = l.config.log } }
-
--- those of all CPUs, by number
-abbrev pub AreOwnAtBoot : TheLayout → List CpuState → Type 0
-AreOwnAtBoot l ks = (cpu : ℕ) (k : CpuState) → slice_get ks cpu ≡ Some k → k ≡ own_at_boot l cpu
 
 module _ {A : Type 0} (key : TheLayout) (ws : List ℕ) (holder : ℕ → ℕ) (log : List Call) (state : Reference) where
   -- the part is as after the history, and its log is the history's part of it
@@ -193,17 +166,6 @@ seen_with (e ∷ es) seen = (e.0, seen_of e.1 (at seen [] e.0)) ∷ seen_with es
 abbrev pub storing : {A : Type 0} → CpuState → Hands A → View A → ℕ → View A
 storing own after v k = record v { own = own; seen = seen_with after v.seen; held = (k, None) ∷ after }
 
--- there is a legal history that ends with the call. The pass's own calls are those of its CPU in it, its own state is as after it, and what it has seen of the parts that the call used are the history's parts of them
-pub record Extends (c : Call) (w : Known) : Type 0 where
-  pub ready : CanBoot (layout_of w.layout)
-  pub log : List Call
-  pub state : Reference
-  pub run : IsRun (layout_of w.layout) (log ++ c ∷ []) state
-  pub stored : All (λ d. IsStored d.reply) (log ++ c ∷ [])
-  pub mine : w.own.log.calls ≡ calls_by w.cpu (log ++ c ∷ [])
-  pub own : IsOwn (layout_of w.layout) state w.cpu w.own
-  pub seen : (k : ℕ) → uses c k ≡ true → seen_at w.seen k ≡ calls_on (part_of k) (log ++ c ∷ [])
-
 -- a part goes home with the call stored
 abbrev pub stored : {A : Type 0} → Call → CpuState → Step (Option (Slot A)) → Seated A → ℕ → Seated A → Type 0
 stored c own st m r n = (n ≡ (storing own m.1 m.0 st.word, tail m.1)) × Extends c (known_of n.0)
@@ -227,21 +189,6 @@ IsInSlotAsHeld {A = A} m k = (x : Slot A) × (m.1 ≡ (k, Some x) ∷ tail m.1) 
 -- a pass at rest holds no part
 abbrev pub IsIdle : {A : Type 0} → View A → Type 0
 IsIdle v = (k : ℕ) → held_at v.held k ≡ None
-
--- what a call that isn't stored leaves of what a pass knows: all but what was tried
-pub record IsSame (v w : Known) : Type 0 where
-  pub layout : w.layout ≡ v.layout
-  pub cpu : w.cpu ≡ v.cpu
-  pub own : w.own ≡ v.own
-  pub seen : w.seen ≡ v.seen
-
--- what a stored call leaves of it: the call is added to the pass's own list, and there is a legal history that it ends. What the pass has seen of parts that the call didn't use stays
-pub record Adds (c : Call) (v w : Known) : Type 0 where
-  pub layout : w.layout ≡ v.layout
-  pub cpu : w.cpu ≡ v.cpu
-  pub own : w.own.log ≡ with_call c v.own.log
-  pub others : (k : ℕ) → uses c k ≡ false → seen_at w.seen k ≡ seen_at v.seen k
-  pub history : Extends c w
 
 -- a pass's own state stands where a run ends
 abbrev pub AtRest : {A : Type 0} → View A → Type 0

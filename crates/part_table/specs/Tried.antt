@@ -10,7 +10,7 @@ use Rattle.guest_steps.specs.Logs.{StoredCalls}
 use Rattle.part_table.specs.declared.tries.Tried.{Tried}
 use Rattle.part_table.specs.declared.tries.Tried.TheVariants.{Stored, Contended, LogFull}
 use Rattle.part_table.specs.Does.{IsCalled}
-use Rattle.part_table.specs.Rule.{Adds, IsSame, Known, StartsWith, seen_at}
+use Rattle.part_table.specs.Known.{Adds, IsSame, Known, StartsWith, seen_at}
 
 -- a try of a part: its number, and the log with which it was taken, or none where another pass had it
 abbrev pub Try : Type 0

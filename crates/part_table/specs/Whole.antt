@@ -10,14 +10,10 @@ use Rattle.hypercalls.specs.declared.parts.Parts.{Parts}
 use Rattle.part_table.specs.declared.slot.Slot.{Slot}
 use Rattle.part_table.specs.declared.slot.Slot.TheVariants.{Vm as VmSlot, Shared as SharedSlot, Guest as GuestSlot}
 use Rattle.part_table.specs.Endings.{IsRow}
-use Rattle.part_table.specs.Rule.{AreOwnAtBoot}
+use Rattle.part_table.specs.Known.{AreOwnAtBoot}
 use Rattle.hypercalls.specs.Booted.{IsBooted}
 
 module _ {A : Type 0} where
-  -- the parts by number, each in its slot
-  abbrev pub slots_of : Parts A → List (Slot A)
-  slots_of p = VmSlot p.vms ∷ (SharedSlot p.shared ∷ map (λ g. GuestSlot g) p.guests.items)
-
   -- slots of guests alone
   abbrev pub AreGuests : List (Slot A) → Type 0
   AreGuests [] = Unit {0}

@@ -4,7 +4,8 @@ ghost use Rattle.page_state.specs.LayoutView.{layout_of};
 ghost use Rattle.reference_model.specs.History.{IsStored};
 ghost use Rattle.part_table.specs.Does.{Does};
 ghost use Rattle.part_table.specs.Parts.{log_of, parts, uses};
-ghost use Rattle.part_table.specs.Rule.{Extends, IsInHand, IsInSlot, IsInSlotAsHeld, Standing, StartsWith, held_at, known_of, releasing, missing, seen_at, storing, tail, taking};
+ghost use Rattle.part_table.specs.Rule.{IsInHand, IsInSlot, IsInSlotAsHeld, Standing, held_at, known_of, releasing, missing, storing, tail, taking};
+ghost use Rattle.part_table.specs.Known.{Extends, StartsWith, seen_at};
 
 use crate::rule::{Deed, Enter, Law, Return, Store, Take, View};
 use crate::slot::Slot;

@@ -7,7 +7,8 @@ ghost use Rattle.reference_model.specs.Boot.{CanBoot};
 ghost use Rattle.part_table.specs.Endings.{AllHome, ForEach, Gives, HaveEnded, IsEndOf, IsRow, KeepsOwn, KeepsSeen, emptied_to};
 ghost use Rattle.part_table.specs.Parts.{parts};
 ghost use Rattle.part_table.specs.Passes.{AreFirst, AreHomeFrom, IsPassOf, first_pass};
-ghost use Rattle.part_table.specs.Rule.{AreOwnAtBoot, one_more, own_at_boot, rooted};
+ghost use Rattle.part_table.specs.Rule.{one_more, rooted};
+ghost use Rattle.part_table.specs.Known.{AreOwnAtBoot, own_at_boot};
 
 use crate::exchanges::{PartSeat, SlotTable};
 use crate::maker::{Maker, Plain};

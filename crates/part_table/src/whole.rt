@@ -3,7 +3,8 @@ ghost use Rattle.std.specs.Prelude.{◌≡◌, ◌+◌, ◌≤◌, [], ◌∷◌
 ghost use Rattle.std.specs.Vec.{vec_capacity, vec_len};
 ghost use Rattle.hypercalls.specs.Stands.{HasHistory};
 ghost use Rattle.part_table.specs.Endings.{IsEndOf};
-ghost use Rattle.part_table.specs.Whole.{AreGuests, AreParts, BootsAtBoot, slots_of};
+ghost use Rattle.part_table.specs.Slots.{slots_of};
+ghost use Rattle.part_table.specs.Whole.{AreGuests, AreParts, BootsAtBoot};
 
 use crate::room::push_in_room;
 use crate::slot::Slot;

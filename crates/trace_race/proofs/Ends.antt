@@ -12,7 +12,7 @@ use Rattle.guest_steps.specs.declared.parts.CpuState.{CpuState}
 use Rattle.part_table.specs.declared.slot.Slot.{Slot}
 use Rattle.part_table.specs.Endings.{IsEndOf}
 use Rattle.part_table.specs.Passes.{Opened, Pass}
-use Rattle.part_table.specs.Rule.{Known}
+use Rattle.part_table.specs.Known.{Known}
 use Rattle.cpu_threads.specs.Ends.{AreOf, KeepsStates}
 use Rattle.cpu_threads.specs.Machines.{FullInTheEnd, StoresInTheEnd}
 use Rattle.trace_race.proofs.Made.{at_place, map-append}

@@ -7,7 +7,7 @@ use Rattle.page_state.proofs.Common.{eq-same}
 use Rattle.step_reply.specs.declared.reply.Reply.{Reply}
 use Rattle.step_reply.specs.declared.step.Step.{Step}
 use Rattle.part_table.specs.Passes.{IsPassOf, Opened, Pass, first_pass}
-use Rattle.part_table.specs.Rule.{Known}
+use Rattle.part_table.specs.Known.{Known}
 use Rattle.trace_race.specs.declared.course.Asked.{Asked}
 use Rattle.trace_race.specs.declared.workers.Done.{Done}
 use Rattle.trace_race.specs.Made.{AreDone, IsDone, IsDoneOf, Calls, HasCalled, HasMade, HaveMade, IsGathered, Leads, Makes, answers_of, first_known, paired, steps_of}

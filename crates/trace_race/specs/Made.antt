@@ -12,7 +12,7 @@ use Rattle.reference_model.specs.History.{IsStored, calls_by}
 use Rattle.reference_model.specs.Run.{IsRun}
 use Rattle.reference_model.specs.State.{Reference}
 use Rattle.part_table.specs.Passes.{IsPassOf, Opened, Pass}
-use Rattle.part_table.specs.Rule.{Known, own_at_boot}
+use Rattle.part_table.specs.Known.{Known, own_at_boot}
 use Rattle.cpu_threads.specs.Machines.{FullInTheEnd, StoresInTheEnd}
 use Rattle.trace_race.specs.declared.course.Asked.{Asked}
 use Rattle.trace_race.specs.declared.making.Made.{Made}

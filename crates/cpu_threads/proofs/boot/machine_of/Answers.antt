@@ -5,7 +5,7 @@ use Rattle.page_state.specs.LayoutView.{layout_of}
 use Rattle.reference_model.specs.Boot.{CanBoot}
 use Rattle.part_table.specs.Endings.{IsRow}
 use Rattle.part_table.specs.Passes.{AreFirst}
-use Rattle.part_table.specs.Rule.{AreOwnAtBoot}
+use Rattle.part_table.specs.Known.{AreOwnAtBoot}
 use Rattle.cpu_threads.proofs.Tries.{first_fresh}
 use Rattle.cpu_threads.proofs.boot.machine_of.Goals as goal
 

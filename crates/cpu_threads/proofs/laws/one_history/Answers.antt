@@ -5,7 +5,7 @@ use Rattle.guest_steps.specs.declared.parts.CpuState.{CpuState}
 use Rattle.part_table.specs.declared.slot.Slot.{Slot}
 use Rattle.part_table.specs.Endings.{IsEndOf, KeepsOwn, KeepsSeen}
 use Rattle.part_table.specs.Passes.{Pass}
-use Rattle.part_table.specs.Rule.{StartsWith, own_at_boot, seen_at}
+use Rattle.part_table.specs.Known.{StartsWith, own_at_boot, seen_at}
 use Rattle.cpu_threads.specs.Laws.{EndsInOne, IsHistoryOf}
 use Rattle.cpu_threads.proofs.laws.one_history.Goals as goal
 

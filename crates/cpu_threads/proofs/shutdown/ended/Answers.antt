@@ -5,7 +5,7 @@ use Rattle.guest_steps.specs.declared.parts.CpuState.{CpuState}
 use Rattle.hypercalls.specs.declared.parts.Parts.{Parts}
 use Rattle.part_table.specs.declared.slot.Slot.{Slot}
 use Rattle.part_table.specs.Endings.{IsEndOf, KeepsOwn, KeepsSeen}
-use Rattle.part_table.specs.Whole.{slots_of}
+use Rattle.part_table.specs.Slots.{slots_of}
 use Rattle.cpu_threads.proofs.shutdown.ended.Goals as goal
 
 pub together-parts-requires-clause-end : goal.together-parts-requires-clause-end

@@ -4,7 +4,8 @@ use Rattle.atomic_table.specs.Table.{rest}
 use Rattle.part_table.specs.declared.rule.View.{View}
 use Rattle.part_table.specs.declared.slot.Slot.{Slot}
 use Rattle.part_table.specs.Parts.{log_of}
-use Rattle.part_table.specs.Rule.{taking, seen_at, StartsWith, Standing}
+use Rattle.part_table.specs.Rule.{taking, Standing}
+use Rattle.part_table.specs.Known.{seen_at, StartsWith}
 use Rattle.part_table.proofs.Keeps.{take_keeps}
 use Rattle.part_table.proofs.Pairs.{first_of}
 use Rattle.part_table.proofs.exchanges.take.Goals as goal

@@ -10,7 +10,8 @@ use Rattle.part_table.specs.declared.rule.View.{View}
 use Rattle.part_table.specs.declared.slot.Slot.{Slot}
 use Rattle.part_table.specs.Parts.{parts, log_of, IsOwn}
 use Rattle.part_table.specs.Passes.{Pass}
-use Rattle.part_table.specs.Rule.{IsLawful, StartsWith, seen_at}
+use Rattle.part_table.specs.Rule.{IsLawful}
+use Rattle.part_table.specs.Known.{StartsWith, seen_at}
 use Rattle.part_table.proofs.Lists.{elem_of_get, from}
 use Rattle.part_table.proofs.Pairs.{at_bound, part_same}
 use Rattle.part_table.proofs.Root.{Ends, finals}

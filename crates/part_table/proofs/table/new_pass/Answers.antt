@@ -5,7 +5,8 @@ use Rattle.page_state.specs.LayoutView.{layout_of}
 use Rattle.guest_steps.specs.declared.parts.CpuState.{CpuState}
 use Rattle.part_table.specs.declared.rule.View.{View}
 use Rattle.part_table.specs.Does.{IsLeft, none_at}
-use Rattle.part_table.specs.Rule.{AtRest, IsIdle, IsLawful, Seated, held_at, known_of, newcomer, one_more, own_at_boot}
+use Rattle.part_table.specs.Rule.{AtRest, IsIdle, IsLawful, Seated, held_at, known_of, newcomer, one_more}
+use Rattle.part_table.specs.Known.{own_at_boot}
 use Rattle.part_table.proofs.Rests.{none_held}
 use Rattle.part_table.proofs.Root.{fresh_rest, splits}
 use Rattle.part_table.proofs.table.new_pass.Goals as goal

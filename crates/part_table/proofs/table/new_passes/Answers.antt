@@ -5,7 +5,8 @@ use Rattle.atomic_table.specs.Seated.{TableId}
 use Rattle.page_state.specs.declared.layout.Layout.{Layout as TheLayout}
 use Rattle.guest_steps.specs.declared.parts.CpuState.{CpuState}
 use Rattle.part_table.specs.Passes.{AreFirst, Pass, first_pass}
-use Rattle.part_table.specs.Rule.{Seated, one_more, own_at_boot, rooted}
+use Rattle.part_table.specs.Rule.{Seated, one_more, rooted}
+use Rattle.part_table.specs.Known.{own_at_boot}
 use Rattle.part_table.proofs.Lists.{first_more}
 use Rattle.part_table.proofs.PutTogether.{first_out}
 use Rattle.part_table.proofs.table.new_passes.Goals as goal

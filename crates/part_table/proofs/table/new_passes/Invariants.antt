@@ -3,7 +3,8 @@ use Rattle.std.specs.Vec.{vec_capacity, vec_len}
 use Rattle.page_state.specs.declared.layout.Layout.{Layout as TheLayout}
 use Rattle.guest_steps.specs.declared.parts.CpuState.{CpuState}
 use Rattle.part_table.specs.Passes.{AreFirst}
-use Rattle.part_table.specs.Rule.{own_at_boot, rooted}
+use Rattle.part_table.specs.Rule.{rooted}
+use Rattle.part_table.specs.Known.{own_at_boot}
 use Rattle.part_table.proofs.table.new_passes.Given as goal
 
 abbrev pub invariant-loop-made : goal.invariant-loop-made

@@ -2,7 +2,8 @@ use Rattle.std.proofs.Common.{◌≡◌, ℕ, ◌+◌, ◌<◌, ◌∷◌, [], s
 use Rattle.std.specs.Prelude.{Some, None}
 use Rattle.part_table.specs.Parts.{log_of, parts}
 use Rattle.part_table.specs.Does.{both_at}
-use Rattle.part_table.specs.Rule.{Extends, Seated, StartsWith, held_at, known_of, seen_at}
+use Rattle.part_table.specs.Rule.{Seated, held_at, known_of}
+use Rattle.part_table.specs.Known.{Extends, StartsWith, seen_at}
 use Rattle.part_table.proofs.Holding.{one_gone, two_gone, two_held, both_like, second_held}
 use Rattle.part_table.proofs.Making.{made_by, tried_two}
 use Rattle.part_table.proofs.Pairs.{at_same, by_front}

@@ -2,7 +2,7 @@ use Rattle.std.proofs.Common.{subst}
 use Rattle.step_reply.specs.declared.reply.Reply.TheVariants.{Done}
 use Rattle.step_reply.specs.declared.reply.Value.{Value}
 use Rattle.step_reply.specs.declared.step.Step.TheVariants.{VmOpen}
-use Rattle.part_table.specs.Rule.{Known}
+use Rattle.part_table.specs.Known.{Known}
 use Rattle.cpu_threads.specs.Inits.{IsCallOf}
 use Rattle.cpu_threads.proofs.Opens.{open_answers}
 use Rattle.cpu_threads.proofs.machine.Machine.init_vm.Goals as goal

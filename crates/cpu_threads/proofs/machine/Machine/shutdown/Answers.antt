@@ -4,7 +4,7 @@ use Rattle.std.specs.Vec.{vec_len}
 use Rattle.std.proofs.Math.Logic.{∥∥₁_map}
 use Rattle.guest_steps.specs.declared.parts.CpuState.{CpuState}
 use Rattle.part_table.specs.Endings.{IsEndOf, KeepsOwn}
-use Rattle.part_table.specs.Whole.{slots_of}
+use Rattle.part_table.specs.Slots.{slots_of}
 use Rattle.part_table.specs.Passes.{AreHomeFrom, Opened, Pass}
 use Rattle.page_state.specs.declared.layout.Layout.{Layout as TheLayout}
 use Rattle.hypercalls.specs.declared.parts.Parts.{Parts}

@@ -4,7 +4,8 @@ use Rattle.guest_steps.specs.declared.parts.CpuState.{CpuState}
 use Rattle.part_table.specs.declared.rule.View.{View}
 use Rattle.part_table.specs.declared.tries.Tried.TheVariants.{LogFull}
 use Rattle.part_table.specs.Passes.{Pass}
-use Rattle.part_table.specs.Rule.{Known, known_of}
+use Rattle.part_table.specs.Rule.{known_of}
+use Rattle.part_table.specs.Known.{Known}
 use Rattle.part_table.proofs.Making.{makes_for}
 use Rattle.part_table.proofs.Rests.{none_held}
 use Rattle.part_table.proofs.Telling.{answers_of, where_stored}

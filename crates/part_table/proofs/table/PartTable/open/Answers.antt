@@ -2,7 +2,8 @@ use Rattle.std.proofs.Common.{◌≡◌, ◌≤◌, ℕ, [], sym, ap, refl, subs
 use Rattle.atomic_table.specs.Seated.{TableId}
 use Rattle.page_state.specs.declared.layout.Layout.{Layout as TheLayout}
 use Rattle.part_table.specs.Passes.{AreFirst}
-use Rattle.part_table.specs.Rule.{AreOwnAtBoot, Seated, rooted}
+use Rattle.part_table.specs.Rule.{Seated, rooted}
+use Rattle.part_table.specs.Known.{AreOwnAtBoot}
 use Rattle.page_state.specs.LayoutView.{layout_of}
 use Rattle.reference_model.specs.Boot.{CanBoot}
 use Rattle.part_table.proofs.table.PartTable.open.Goals as goal

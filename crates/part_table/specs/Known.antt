@@ -1,0 +1,68 @@
+-- What a pass knows of the table and of its own calls.
+use Rattle.std.specs.Prelude.{◌≡◌, ℕ, ◌<◌, true, false, cond, eqb, List, [], ◌∷◌, ◌++◌, length, slice_get, All, Option, Some, None}
+use Rattle.page_state.specs.declared.layout.Layout.{Layout as TheLayout}
+use Rattle.step_reply.specs.declared.reply.Call.{Call}
+use Rattle.page_state.specs.LayoutView.{layout_of}
+use Rattle.reference_model.specs.Boot.{CanBoot}
+use Rattle.reference_model.specs.History.{IsStored, calls_on, calls_by}
+use Rattle.reference_model.specs.Run.{IsRun}
+use Rattle.reference_model.specs.State.{Reference}
+use Rattle.guest_steps.specs.declared.parts.CpuState.{CpuState}
+use Rattle.guest_steps.specs.Lent.{with_call}
+use Rattle.guest_steps.specs.Logs.{StoredCalls}
+use Rattle.part_table.specs.Parts.{part_of, uses, IsOwn}
+
+-- a list of pairs as a function: the first pair of a number counts
+abbrev pub at : {X : Type 0} → List (ℕ × X) → X → ℕ → X
+at [] d k = d
+at (e ∷ es) d k = cond (eqb k e.0) e.1 (at es d k)
+
+-- what has been seen of the log of a part
+abbrev pub seen_at : List (ℕ × List Call) → ℕ → List Call
+seen_at seen k = at seen [] k
+
+-- What a pass knows while it holds no part: the layout, its CPU's number and own state with its log, what it has seen of each part's log, and each part that it tried, with its log as it was taken, or none where another pass had it
+pub record Known : Type 0 where
+  pub layout : TheLayout
+  pub cpu : ℕ
+  pub own : CpuState
+  pub seen : List (ℕ × List Call)
+  pub tries : List (ℕ × Option StoredCalls)
+
+-- a list begins with another
+abbrev pub StartsWith : List Call → List Call → Type 0
+StartsWith xs ys = (rest : List Call) × (xs ≡ ys ++ rest)
+
+-- a CPU's own state before its first call
+abbrev pub own_at_boot : TheLayout → ℕ → CpuState
+own_at_boot l cpu = record { id = cpu; loaded = None; hand = None; ticket = None; log = record { calls = []; room = l.config.log } }
+
+-- those of all CPUs, by number
+abbrev pub AreOwnAtBoot : TheLayout → List CpuState → Type 0
+AreOwnAtBoot l ks = (cpu : ℕ) (k : CpuState) → slice_get ks cpu ≡ Some k → k ≡ own_at_boot l cpu
+
+-- there is a legal history that ends with the call. The pass's own calls are those of its CPU in it, its own state is as after it, and what it has seen of the parts that the call used are the history's parts of them
+pub record Extends (c : Call) (w : Known) : Type 0 where
+  pub ready : CanBoot (layout_of w.layout)
+  pub log : List Call
+  pub state : Reference
+  pub run : IsRun (layout_of w.layout) (log ++ c ∷ []) state
+  pub stored : All (λ d. IsStored d.reply) (log ++ c ∷ [])
+  pub mine : w.own.log.calls ≡ calls_by w.cpu (log ++ c ∷ [])
+  pub own : IsOwn (layout_of w.layout) state w.cpu w.own
+  pub seen : (k : ℕ) → uses c k ≡ true → seen_at w.seen k ≡ calls_on (part_of k) (log ++ c ∷ [])
+
+-- what a call that isn't stored leaves of what a pass knows: all but what was tried
+pub record IsSame (v w : Known) : Type 0 where
+  pub layout : w.layout ≡ v.layout
+  pub cpu : w.cpu ≡ v.cpu
+  pub own : w.own ≡ v.own
+  pub seen : w.seen ≡ v.seen
+
+-- what a stored call leaves of it: the call is added to the pass's own list, and there is a legal history that it ends. What the pass has seen of parts that the call didn't use stays
+pub record Adds (c : Call) (v w : Known) : Type 0 where
+  pub layout : w.layout ≡ v.layout
+  pub cpu : w.cpu ≡ v.cpu
+  pub own : w.own.log ≡ with_call c v.own.log
+  pub others : (k : ℕ) → uses c k ≡ false → seen_at w.seen k ≡ seen_at v.seen k
+  pub history : Extends c w
