@@ -1,34 +1,73 @@
-//! The plain program of the model along the calls of a machine.
-ghost use Rattle.std.specs.Prelude.{◌≡◌};
+//! The plain program of the model along calls.
+ghost use Rattle.std.specs.Prelude.{IfOk, IfSome};
 ghost use Rattle.ghost_spec.specs.States.{IsKept};
 
 use crate::ending::booted_world;
 use ghost_spec::state::{Ghost, predict};
 use std::alloc::{AllocError, Global};
-use step_reply::{Reply, Step};
+use step_reply::{Refusal, Reply, Step};
 
-/// Whether the model foretells these replies, call after call.
-fn foretells(global: Global, begun: Ghost, calls: &[(u64, Step, Reply)]) -> Result<bool, AllocError>
+/// Where calls lead.
+#[derive(Drop)]
+pub struct Reached {
+    /// The state after them.
+    pub state: Ghost,
+    /// How many calls were refused for want of memory. Each of these leaves the state.
+    pub wanting: usize,
+}
+
+/// Follows a call. None where the model foretells another reply than it has, but for want of memory of one that it makes.
+fn follow_one(
+    global: Global,
+    state: Ghost,
+    call: (u64, Step, Reply),
+) -> Result<Option<Reached>, AllocError>
+    requires { IsKept state }
+    ensures { IfOk result (λ o. IfSome o (λ r. IsKept r.state)) }
+{
+    let (cpu, step, reply) = call;
+    if cpu >= state.layout.config.cpus {
+        return Ok(None);
+    }
+    let (foretold, after) = predict(global, &state, cpu, step)?;
+    if foretold == reply {
+        let wanting = 0;
+        return Ok(Some(Reached {
+            state: after,
+            wanting,
+        }));
+    }
+    drop(after);
+    if reply == Reply::Refused(Refusal::NoMemory) && matches!(foretold, Reply::Done(_)) {
+        return Ok(Some(Reached { state, wanting: 1 }));
+    }
+    Ok(None)
+}
+
+/// Follows calls, one after another. None where one of them can't be followed.
+pub fn follow(
+    global: Global,
+    begun: Ghost,
+    calls: &[(u64, Step, Reply)],
+) -> Result<Option<Reached>, AllocError>
     requires { IsKept begun }
 {
     let mut state = begun;
+    let mut wanting = 0usize;
     for call in calls {
-        let (cpu, step, reply) = *call;
-        if cpu >= state.layout.config.cpus {
-            return Ok(false);
-        }
-        let (foretold, after) = predict(global, &state, cpu, step)?;
-        if foretold != reply {
-            return Ok(false);
-        }
-        state = after;
+        let Some(reached) = follow_one(global, state, *call)? else {
+            return Ok(None);
+        };
+        wanting = wanting.wrapping_add(reached.wanting);
+        state = reached.state;
     }
-    Ok(true)
+    Ok(Some(Reached { state, wanting }))
 }
 
 /// Whether the calls get, from boot on, the replies that the model foretells. None where memory is refused.
 pub fn follows(global: Global, calls: &[(u64, Step, Reply)]) -> Option<bool> {
     let world = booted_world(global)?;
     let begun = world.to_ghost(global).ok()?;
-    foretells(global, begun, calls).ok()
+    let reached = follow(global, begun, calls).ok()?;
+    Some(matches!(&reached, Some(it) if it.wanting == 0))
 }

@@ -1,0 +1,74 @@
+//! Calls on a whole world, each of which is refused for want of memory alone.
+ghost use Rattle.std.specs.Prelude.{◌≡◌, ◌<◌};
+
+use crate::refusing::{Came, by_memory, in_turn};
+use cpu_threads::Machine;
+use ghost_judge::judge::judge;
+use ghost_spec::state::predict;
+use page_state::{Config, LayoutFault, MemoryMap, PageRange, Region};
+use std::alloc::{AllocError, Global};
+use step_reply::Step;
+use world::{BootFault, World};
+
+/// How many tries of a memory were refused a request.
+pub fn of_map(global: Global, regions: &[Region], carve: PageRange) -> Option<usize> {
+    in_turn(global, || match MemoryMap::new(global, regions, carve) {
+        Ok(_) => Came::Done,
+        Err(LayoutFault::NoMemory) => Came::NoMemory,
+        Err(_) => Came::Else,
+    })
+}
+
+/// What a boot came to.
+fn of_boot<T: Drop>(booted: Result<T, BootFault>) -> Came {
+    match booted {
+        Ok(_) => Came::Done,
+        Err(BootFault::NoMemory) => Came::NoMemory,
+        Err(_) => Came::Else,
+    }
+}
+
+/// The same of the boots of a world and a machine.
+pub fn of_boots(global: Global, map: &MemoryMap, config: Config) -> Option<(usize, usize)> {
+    let world = in_turn(global, || of_boot(World::boot(global, global, map, config)));
+    let machine = in_turn(
+        global,
+        || of_boot(Machine::boot(global, global, map, config)),
+    );
+    Some((world?, machine?))
+}
+
+/// The same of what a world keeps, what a walk finds, both, their audit, the logs, and the logs merged.
+pub fn of_looks(global: Global, world: &World<Global>) -> Option<[usize; 6]> {
+    let kept = in_turn(global, || by_memory(world.to_ghost(global)));
+    let walked = in_turn(global, || by_memory(world.recompute(global)));
+    let both = in_turn(global, || by_memory(world.kept_and_walked(global)));
+    let audited = in_turn(global, || by_memory(world.audit(global)));
+    let logs = in_turn(global, || by_memory(world.histories(global)));
+    let histories = world.histories(global).ok()?;
+    let merged = in_turn(
+        global,
+        || by_memory(World::<Global>::merge(global, &histories)),
+    );
+    Some([kept?, walked?, both?, audited?, logs?, merged?])
+}
+
+/// Foretells a step of CPU 0, and judges it by itself.
+fn judged(global: Global, world: &World<Global>, step: Step) -> Result<bool, AllocError> {
+    let state = world.to_ghost(global)?;
+    if state.layout.config.cpus == 0 {
+        return Ok(false);
+    }
+    let (reply, after) = predict(global, &state, 0, step)?;
+    let found = judge(global, &state, 0, step, &reply, &after)?;
+    Ok(found.is_none())
+}
+
+/// The same of a step of CPU 0, foretold and judged.
+pub fn of_judgement(global: Global, world: &World<Global>, step: Step) -> Option<usize> {
+    in_turn(global, || match judged(global, world, step) {
+        Ok(true) => Came::Done,
+        Ok(false) => Came::Else,
+        Err(_) => Came::NoMemory,
+    })
+}
