@@ -5,7 +5,13 @@
 #[cfg(test)]
 mod audit;
 #[cfg(test)]
+mod devices;
+#[cfg(test)]
 mod expect;
+#[cfg(test)]
+mod gate_calls;
+#[cfg(test)]
+mod heaps;
 #[cfg(test)]
 mod held;
 #[cfg(test)]

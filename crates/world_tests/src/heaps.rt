@@ -1,0 +1,118 @@
+//! Worlds whose tables lie in a heap of their own, in which there is room for a number of further tables.
+use crate::sample::{config, memory};
+use linked_list_allocator::LocalHeap;
+use page_state::Entry;
+use std::alloc::Global;
+use std::process::Abort;
+use step_reply::{Refusal, Reply, Step, Value};
+use world::World;
+
+/// The step, which takes a table of each tree.
+const SHARE: Step = Step::ShareHyp { pfn: 0x40100 };
+
+const DONE: Reply = Reply::Done(Value::Nothing);
+
+const NO_MEMORY: Reply = Reply::Refused(Refusal::NoMemory);
+
+/// A world that has just booted, with its tables in a heap.
+fn booted<'a>(rt: &impl Abort, global: Global, heap: &'a LocalHeap) -> World<&'a LocalHeap> {
+    let map = memory(global, 0x40).expect(rt, "a memory");
+    World::boot(global, heap, &map, config(1, 16)).expect(rt, "a boot")
+}
+
+/// Makes a step of CPU 0.
+fn made(rt: &impl Abort, world: &mut World<&LocalHeap>, step: Step) -> Reply {
+    assert!(rt; 0 < world.cpus());
+    world.step(0, step)
+}
+
+/// How many bytes of a heap a table takes.
+fn table_bytes(rt: &impl Abort, global: Global) -> usize {
+    let heap = LocalHeap::new(global, 1 << 17).expect(rt, "memory");
+    let mut world = booted(rt, global, &heap);
+    let before = heap.used();
+    assert!(rt; made(rt, &mut world, SHARE) == DONE);
+    let after = heap.used();
+    drop(world);
+    after.saturating_sub(before) / 2
+}
+
+/// Takes blocks of a heap, as many of a size as are granted, up to a number.
+fn take_blocks<'a>(
+    rt: &impl Abort,
+    heap: &'a LocalHeap,
+    blocks: &mut Vec<Vec<u8, &'a LocalHeap>>,
+    size: usize,
+    most: usize,
+) {
+    for _ in 0..most {
+        if let Ok(block) = Vec::<u8, _>::with_capacity(heap, size) {
+            blocks.push(block).expect(rt, "memory");
+        }
+    }
+}
+
+/// Takes all of a heap but the room of so many tables.
+fn fill<'a>(
+    rt: &impl Abort,
+    global: Global,
+    heap: &'a LocalHeap,
+    tables: usize,
+) -> Vec<Vec<u8, &'a LocalHeap>> {
+    let mut room = Vec::new(global);
+    take_blocks(rt, heap, &mut room, table_bytes(rt, global), tables);
+    let mut filling = Vec::new(global);
+    for size in [4096usize, 64, 1] {
+        take_blocks(rt, heap, &mut filling, size, 64);
+    }
+    drop(room);
+    filling
+}
+
+/// Compares the free frames, a look at the host's page, and what an audit finds.
+fn expect_state(rt: &impl Abort, global: Global, world: &mut World<&LocalHeap>, free: usize, is_shared: bool) {
+    assert!(rt; world.parts().shared.pool.free() == free);
+    let look = made(rt, world, Step::HostTranslate { page: 0x40100 });
+    assert!(rt; is_shared != (look == Reply::Done(Value::Entry(Entry::Unmapped))));
+    let found = world.audit(global).expect(rt, "memory");
+    assert!(rt; found.is_none());
+}
+
+/// Shares a page where there is room for so many tables, fewer than two, and then for all. What was had of the heap stays as
+/// a spare of its tree.
+fn expect_refused(rt: &impl Abort, global: Global, tables: usize) {
+    let heap = LocalHeap::new(global, 1 << 17).expect(rt, "memory");
+    let mut world = booted(rt, global, &heap);
+    let filling = fill(rt, global, &heap, tables);
+    let before = heap.used();
+    assert!(rt; made(rt, &mut world, SHARE) == NO_MEMORY);
+    let had = heap.used().saturating_sub(before);
+    assert!(rt; had == tables.wrapping_mul(table_bytes(rt, global)));
+    expect_state(rt, global, &mut world, 58, false);
+    drop(filling);
+    assert!(rt; made(rt, &mut world, SHARE) == DONE);
+    expect_state(rt, global, &mut world, 56, true);
+    drop(world);
+}
+
+#[test]
+fn first_table_refused(rt: HostRuntime) {
+    expect_refused(&rt, rt.alloc(), 0);
+}
+
+/// The host tree's table is had, and the hypervisor tree's is refused.
+#[test]
+fn second_table_refused(rt: HostRuntime) {
+    expect_refused(&rt, rt.alloc(), 1);
+}
+
+#[test]
+fn both_tables_granted(rt: HostRuntime) {
+    let (global, heap) = (rt.alloc(), LocalHeap::new(rt.alloc(), 1 << 17));
+    let heap = heap.expect(&rt, "memory");
+    let mut world = booted(&rt, global, &heap);
+    let filling = fill(&rt, global, &heap, 2);
+    assert!(rt; made(&rt, &mut world, SHARE) == DONE);
+    expect_state(&rt, global, &mut world, 56, true);
+    drop((filling, world));
+}
