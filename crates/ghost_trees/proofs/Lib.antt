@@ -1,6 +1,7 @@
 pub mod BlockLists
 pub mod Coarse
 pub mod Entries
+pub mod Later
 pub mod OneWords
 pub mod Overlaid
 pub mod Pushed

@@ -1,5 +1,7 @@
+pub mod Apart
 pub mod Joins
 pub mod KeptTrees
 pub mod Parts
+pub mod Pools
 pub mod Small
 pub mod Trees
