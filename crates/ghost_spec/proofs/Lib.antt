@@ -2,6 +2,7 @@ pub mod Answered
 pub mod BootLists
 pub mod Changed
 pub mod Copied
+pub mod FilledIn
 pub mod Foretold
 pub mod FoundPages
 pub mod FoundTables

@@ -11,7 +11,7 @@ use Rattle.reference_model.specs.Boot.{boot, booted, boot_shared, boot_without_r
 use Rattle.reference_model.specs.Owner.{row_of}
 use Rattle.reference_model.specs.State.{Slot, Vms, Shared, Cpu, Contents, no_vms, no_slot, no_guest, no_cpu, plain_row}
 use Rattle.ghost_spec.specs.declared.shared.Shared.{Shared as SharedOfLists}
-use Rattle.ghost_spec.specs.declared.state.Ghost.{Ghost}
+use Rattle.ghost_spec.specs.declared.lists.GhostLists.{GhostLists}
 use Rattle.ghost_spec.specs.RowsFound.{row_found}
 use Rattle.ghost_spec.specs.States.{slot_in, guest_in, ghost_state}
 use Rattle.ghost_spec.specs.Views.{cpu_in, row_in, shared_in_lists}
@@ -79,7 +79,7 @@ module _ (l : Layout) (some : 0 < l.config.cpus) where
       let row : row_in t.rows.runs ≡ found-rows = fun_ext (λ f. rows f ∙ same2 (picked (is_memory l f)) (ap (λ (x : Shared). row_found l x None no_guest f 0 no_cpu) e ∙ boot-row f) (ap (λ (x : Shared). x.row f) e)) in
       rw (host, hyp, free, row) (ap keep-row e) ∙ booted-is
 
-  pub state-booted : (g : Ghost) → g.layout.config.log ≡ l.config.log → All (λ s. slot_in s ≡ no_slot 1) g.vms.items → shared_in_lists g.shared ≡ (booted l).shared → All (λ v. guest_in v ≡ no_guest) g.guests.items → All (λ k. cpu_in k ≡ no_cpu) g.cpus.items
+  pub state-booted : (g : GhostLists) → g.layout.config.log ≡ l.config.log → All (λ s. slot_in s ≡ no_slot 1) g.vms.items → shared_in_lists g.shared ≡ (booted l).shared → All (λ v. guest_in v ≡ no_guest) g.guests.items → All (λ k. cpu_in k ≡ no_cpu) g.cpus.items
       → g.rooms.vms ≡ l.config.log → g.rooms.shared ≡ l.config.log → All (λ n. n ≡ l.config.log) g.rooms.guests.items → All (λ n. n ≡ l.config.log) g.rooms.cpus.items → ghost_state g ≡ boot l
   unfolding booted
   state-booted g log vms shared guests cpus rv rs rg rc =

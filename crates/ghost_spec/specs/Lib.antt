@@ -1,4 +1,5 @@
 pub mod Changed
+pub mod Filled
 pub mod Found
 pub mod Kept
 pub mod RowsFound

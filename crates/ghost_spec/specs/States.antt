@@ -2,8 +2,8 @@
 use Rattle.std.specs.Prelude.{◌≡◌, ℕ, List, All, None, get_or, map, length}
 use Rattle.reference_model.specs.State.{Phase, empty, live, dying, Guest, no_guest, Stand, vacant, reserved, opened, closing, Slot, no_slot, no_cpu, Contents, Rooms, Reference}
 use Rattle.ghost_spec.specs.declared.cpu.GhostCpu.{GhostCpu}
-use Rattle.ghost_spec.specs.declared.state.Ghost.{Ghost}
-use Rattle.ghost_spec.specs.declared.state.GhostRooms.{GhostRooms}
+use Rattle.ghost_spec.specs.declared.lists.GhostLists.{GhostLists}
+use Rattle.ghost_spec.specs.declared.lists.GhostRooms.{GhostRooms}
 use Rattle.ghost_spec.specs.declared.parts.GhostGuest.{GhostGuest}
 use Rattle.ghost_spec.specs.declared.parts.GhostPhase.{GhostPhase}
 use Rattle.ghost_spec.specs.declared.parts.GhostPhase.TheVariants.{Empty, Live, Dying}
@@ -36,7 +36,7 @@ abbrev pub guest_in : GhostGuest → Guest
 guest_in g = record { phase = phase_in g.phase; generation = g.generation; kind = g.kind; tree = tree_in_lists g.tree; free = g.free.items }
 
 -- all contents; past a list's end slots and guests are Empty, and CPUs have nothing
-abbrev pub contents_in : Ghost → Contents
+abbrev pub contents_in : GhostLists → Contents
 contents_in g = record {
   vms = record { slot = λ v. get_or (map slot_in g.vms.items) v (no_slot 1) };
   shared = shared_in_lists g.shared;
@@ -49,7 +49,7 @@ abbrev pub rooms_in : ℕ → GhostRooms → Rooms
 rooms_in log r = record { vms = r.vms; shared = r.shared; guest = λ v. get_or r.guests.items v log; cpu = λ c. get_or r.cpus.items c log }
 
 -- the state
-abbrev pub ghost_state : Ghost → Reference
+abbrev pub ghost_state : GhostLists → Reference
 ghost_state g = record { contents = contents_in g; rooms = rooms_in g.layout.config.log g.rooms }
 
 -- each guest is kept
@@ -61,7 +61,7 @@ abbrev pub AreKeptCpus : List GhostCpu → Type 0
 AreKeptCpus ks = All IsKeptCpu ks
 
 -- what each Ghost keeps: lists of the layout's lengths, the coarsest runs, and numbers whose sums are numbers of 64 bits
-pub record IsKept (g : Ghost) : Type 0 where
+pub record IsKept (g : GhostLists) : Type 0 where
   pub shared : IsKeptShared g.shared
   pub guests : AreKeptGuests g.guests.items
   pub cpus : AreKeptCpus g.cpus.items

@@ -4,17 +4,18 @@ ghost use Rattle.page_state.specs.LayoutView.{layout_of};
 ghost use Rattle.reference_model.specs.Boot.{boot as boot_of, booted, IsCarveEnough};
 ghost use Rattle.reference_model.specs.State.{no_cpu};
 ghost use Rattle.ghost_spec.specs.Kept.{IsKeptShared};
-ghost use Rattle.ghost_spec.specs.States.{ghost_state, AreKeptCpus, IsKept};
+ghost use Rattle.ghost_spec.specs.States.{ghost_state, AreKeptCpus};
 ghost use Rattle.ghost_spec.specs.Views.{cpu_in, shared_in_lists};
 
 use crate::answer::depth;
 use crate::boot;
 use crate::both::both;
 use crate::cpu::GhostCpu;
+use crate::lists::{GhostLists, GhostRooms};
 use crate::parts::{empty_guests, empty_slots};
 use crate::rows::find_all;
 use crate::shared::Shared;
-use crate::state::{Ghost, GhostRooms};
+use crate::state::Ghost;
 use page_state::{Config, Layout};
 use std::alloc::{AllocError, Global};
 
@@ -86,7 +87,6 @@ pub fn start(alloc: Global, layout: Layout) -> Result<Option<Ghost>, AllocError>
     ensures enough { IfOk result (λ o. IsSome o ↔ IsCarveEnough (layout_of layout)) }
     ensures state { IfOk result (λ o. IfSome o (λ g. ghost_state g ≡ boot_of (layout_of layout))) }
     ensures layout { IfOk result (λ o. IfSome o (λ g. g.layout ≡ layout)) }
-    ensures kept { IfOk result (λ o. IfSome o IsKept) }
 {
     let Some(shared) = shared_at_boot(alloc, &layout)? else {
         return Ok(None);
@@ -98,12 +98,12 @@ pub fn start(alloc: Global, layout: Layout) -> Result<Option<Ghost>, AllocError>
     let small = both(both(rooms, cpus), Ok(layout));
     let large = both(both(vms, guests), Ok(shared));
     let (((rooms, cpus), layout), ((vms, guests), shared)) = both(small, large)?;
-    Ok(Some(Ghost {
+    Ok(Some(Ghost::of_kept(GhostLists {
         layout,
         vms,
         shared,
         guests,
         cpus,
         rooms,
-    }))
+    })))
 }

@@ -1,260 +1,87 @@
-//! The reference state on lists, and the reference step of it.
-ghost use Rattle.std.specs.Prelude.{◌≡◌, ℕ, ◌-◌, ◌<◌, ◌&&◌, ◌||◌, ◌==◌, IfOk, OnOk, if◌then◌else◌, is_some, length};
+//! The reference state, and the reference step of it.
+ghost use Rattle.std.specs.Prelude.{◌≡◌, ◌<◌, IfOk};
 ghost use Rattle.page_state.specs.LayoutView.{layout_of};
 ghost use Rattle.reference_model.specs.Step.{foretell};
+ghost use Rattle.ghost_spec.specs.States.{ghost_state, IsKept};
 
-use crate::answer::answer;
-use crate::both::both;
-use crate::cpu::GhostCpu;
-use crate::parts::{GhostGuest, GhostSlot, copied_guests, copied_slots};
-use crate::shared::Shared;
-use crate::used::{
-    GhostUsed, put_guest, put_shared, put_vms, store_in, take_guest, take_shared, used_vms,
-};
-use crate::uses::{guest_slot, uses_shared, uses_vms};
-use page_state::Layout;
+use crate::lists::GhostLists;
 use std::alloc::{AllocError, Global};
-use step_reply::{Refusal, Reply, Step};
+use std::marker::Model;
+use step_reply::{Reply, Step};
 
-/// How many calls the log of each part and of each CPU can still store.
-#[derive(Drop)]
-pub struct GhostRooms {
-    pub vms: u64,
-    pub shared: u64,
-    pub guests: Vec<u64>,
-    pub cpus: Vec<u64>,
-}
-
-/// The reference state.
+/// The reference state: lists of the layout's lengths, with runs sorted, disjoint and joined, and with small numbers.
 #[derive(Drop)]
 pub struct Ghost {
-    pub layout: Layout,
-    /// The 64 slots of the VM part.
-    pub vms: Vec<GhostSlot>,
-    pub shared: Shared,
-    /// The 64 Guest parts.
-    pub guests: Vec<GhostGuest>,
-    /// The CPUs of the layout.
-    pub cpus: Vec<GhostCpu>,
-    pub rooms: GhostRooms,
+    lists: GhostLists,
 }
 
-ghost use Rattle.reference_model.specs.Used.{room_at};
-ghost use Rattle.ghost_spec.specs.Kept.{IsLowSlot};
-ghost use Rattle.ghost_spec.specs.States.{ghost_state, rooms_in, IsKept};
-ghost use Rattle.ghost_spec.specs.Used.{rooms_of};
+impl Model for Ghost {
+    ghost use Rattle.ghost_spec.specs.declared.lists.GhostLists.{GhostLists};
+    ghost use Rattle.ghost_spec.specs.States.{IsKept};
 
-/// What a room is once a call is stored, where it is.
-fn left_of(room: u64, is_stored: bool) -> u64
-    ensures { result ≡ (if is_stored then room - 1 else room) }
-{
-    if is_stored {
-        room.saturating_sub(1)
-    } else {
-        room
-    }
-}
+    ghost Value = { GhostLists };
 
-/// Whether the log of a part, where the part is used, is full.
-fn is_used_full(is_used: bool, room: u64) -> bool
-    ensures { result ≡ (is_used && room == 0) }
-{
-    is_used && room == 0
-}
+    ghost view = { λ g. g.lists };
 
-/// Whether any of these is so.
-fn is_any(a: bool, b: bool, c: bool, d: bool) -> bool
-    ensures { result ≡ (a || b || c || d) }
-{
-    a || b || c || d
-}
-
-/// Whether the log of a guest, where there is one, is full.
-fn is_guest_full(rooms: &[u64], slot: Option<u64>) -> bool
-    requires count { length rooms.now ≡ 64 }
-    requires slot { IsLowSlot slot }
-    ensures { (log : ℕ) → result ≡ (is_some slot && room_at (rooms_of log rooms.now) slot == 0) }
-{
-    match slot {
-        Some(v) => rooms[v as usize] == 0,
-        None => false,
-    }
-}
-
-/// The same layout once more.
-pub fn copied_layout(layout: &Layout) -> Result<Layout, AllocError>
-    ensures { IfOk result (λ l. layout_of l ≡ layout_of layout.now) }
-{
-    Ok(Layout {
-        map: layout.map.clone()?,
-        config: layout.config,
-        geometry: layout.geometry,
-    })
-}
-
-impl GhostRooms {
-    ghost use Rattle.std.specs.Prelude.{ℕ};
-    ghost use Rattle.ghost_spec.specs.States.{rooms_in};
-
-    /// The same rooms once more.
-    fn copied(&self, alloc: Global) -> Result<GhostRooms, AllocError>
-        ensures same { (log : ℕ) → IfOk result (λ r. rooms_in log r ≡ rooms_in log self.now) }
-        ensures guests { IfOk result (λ r. r.guests.items ≡ self.now.guests.items) }
-        ensures cpus { IfOk result (λ r. r.cpus.items ≡ self.now.cpus.items) }
-    {
-        Ok(GhostRooms {
-            vms: self.vms,
-            shared: self.shared,
-            guests: Vec::from_slice(alloc, self.guests.as_slice())?,
-            cpus: Vec::from_slice(alloc, self.cpus.as_slice())?,
-        })
-    }
+    ghost invariant = { λ g. IsKept g.lists };
 }
 
 impl Ghost {
     ghost use Rattle.page_state.specs.LayoutView.{layout_of};
-    ghost use Rattle.reference_model.specs.Parts.{names, uses_vms as uses_vms_of};
-    ghost use Rattle.reference_model.specs.Step.{foretell, is_full as is_full_of, stored};
-    ghost use Rattle.reference_model.specs.Used.{put_back as put_back_of, put_rooms, rooms_of as rooms_of_state, used_of, Used};
-    ghost use Rattle.std.specs.Prelude.{length, true};
-    ghost use Rattle.ghost_spec.specs.Kept.{IsLowSlot};
-    ghost use Rattle.ghost_spec.specs.States.{contents_in, ghost_state, IsKept};
-    ghost use Rattle.ghost_spec.specs.Used.{IsKeptUsed, used_in};
+    ghost use Rattle.ghost_spec.specs.States.{ghost_state, IsKept};
+
+    /// The state of lists of which all this is known. `Ghost::of` tests any lists.
+    pub fn of_kept(lists: GhostLists) -> Ghost
+        requires { IsKept lists }
+        ensures { result ≡ lists }
+    {
+        Ghost { lists }
+    }
+
+    /// What it is made of.
+    pub fn lists(&self) -> &GhostLists
+        ensures value { result.now ≡ self.now }
+        ensures kept { IsKept self.now }
+    {
+        &self.lists
+    }
+
+    /// What it is made of, to be changed.
+    pub fn into_lists(self) -> GhostLists
+        ensures value { result ≡ self }
+        ensures kept { IsKept result }
+    {
+        let Ghost { lists } = self;
+        lists
+    }
 
     /// The same state once more.
     pub fn copied(&self, alloc: Global) -> Result<Ghost, AllocError>
-        requires { IsKept self.now }
         ensures state { IfOk result (λ g. ghost_state g ≡ ghost_state self.now) }
         ensures layout { IfOk result (λ g. layout_of g.layout ≡ layout_of self.now.layout) }
-        ensures kept { IfOk result IsKept }
     {
-        let layout = copied_layout(&self.layout);
-        let vms = copied_slots(alloc, self.vms.as_slice());
-        let cpus = Vec::from_slice(alloc, self.cpus.as_slice());
-        let rooms = self.rooms.copied(alloc);
-        let guests = copied_guests(alloc, self.guests.as_slice());
-        let shared = self.shared.copied(alloc);
-        let small = both(layout, both(cpus, rooms));
-        let large = both(vms, both(guests, shared));
-        let ((layout, (cpus, rooms)), (vms, (guests, shared))) = both(small, large)?;
-        Ok(Ghost {
-            layout,
-            vms,
-            shared,
-            guests,
-            cpus,
-            rooms,
-        })
+        let lists = self.lists.copied(alloc)?;
+        Ok(Ghost { lists })
     }
+}
 
-    /// Whether a log that would store a call is full.
-    fn is_full(&self, cpu: usize, step: Step, slot: Option<u64>) -> bool
-        requires cpu { cpu < length self.now.rooms.cpus.items }
-        requires guests { length self.now.rooms.guests.items ≡ 64 }
-        requires slot { IsLowSlot slot }
-        ensures { result ≡ is_full_of (names step) slot (rooms_of_state (names step) slot cpu (ghost_state self.now).rooms) }
-    {
-        let is_vms_full = is_used_full(uses_vms(step), self.rooms.vms);
-        let is_shared_full = is_used_full(uses_shared(step, slot), self.rooms.shared);
-        let is_guest_full = is_guest_full(self.rooms.guests.as_slice(), slot);
-        is_any(
-            self.rooms.cpus[cpu] == 0,
-            is_vms_full,
-            is_shared_full,
-            is_guest_full,
-        )
-    }
-
-    /// What a call uses is taken out, and blank parts are left.
-    fn take(
-        &mut self,
-        alloc: Global,
-        cpu: usize,
-        step: Step,
-        slot: Option<u64>,
-    ) -> Result<GhostUsed, AllocError>
-        requires cpu { cpu < length self.old.cpus.items }
-        requires kept { IsKept self.old }
-        requires slot { IsLowSlot slot }
-        ensures used { IfOk result (λ u. used_in u ≡ used_of (names step) slot cpu (contents_in self.old)) }
-        ensures kept { IfOk result IsKeptUsed }
-        ensures count { uses_vms_of (names step) ≡ true → IfOk result (λ u. length u.vms.items ≡ 64) }
-        ensures others { OnOk result ((x : Used) → put_back_of (names step) slot cpu (contents_in self.new) x ≡ put_back_of (names step) slot cpu (contents_in self.old) x) }
-        ensures layout { self.new.layout ≡ self.old.layout }
-        ensures rooms { self.new.rooms ≡ self.old.rooms }
-        ensures left { OnOk result (IsKept self.new) }
-    {
-        Ok(GhostUsed {
-            vms: used_vms(alloc, self.vms.as_slice(), step)?,
-            shared: take_shared(alloc, &mut self.shared, step, slot),
-            guest: take_guest(alloc, &mut self.guests, slot),
-            own: self.cpus[cpu],
-        })
-    }
-
-    /// What a call used becomes this.
-    fn put_back(&mut self, cpu: usize, step: Step, slot: Option<u64>, used: GhostUsed)
-        requires cpu { cpu < length self.old.cpus.items }
-        requires kept { IsKept self.old }
-        requires used { IsKeptUsed used }
-        requires slot { IsLowSlot slot }
-        requires count { uses_vms_of (names step) ≡ true → length used.vms.items ≡ 64 }
-        ensures contents { contents_in self.new ≡ put_back_of (names step) slot cpu (contents_in self.old) (used_in used) }
-        ensures layout { self.new.layout ≡ self.old.layout }
-        ensures rooms { self.new.rooms ≡ self.old.rooms }
-        ensures kept { IsKept self.new }
-    {
-        let GhostUsed {
-            vms,
-            shared,
-            guest,
-            own,
-        } = used;
-        put_vms(&mut self.vms, vms, step);
-        put_shared(&mut self.shared, shared, step, slot);
-        put_guest(&mut self.guests, guest, slot);
-        self.cpus[cpu] = own;
-    }
-
-    /// Stores a call.
-    fn store(&mut self, cpu: usize, step: Step, slot: Option<u64>)
-        requires cpu { cpu < length self.old.rooms.cpus.items }
-        requires kept { IsKept self.old }
-        requires slot { IsLowSlot slot }
-        ensures contents { contents_in self.new ≡ contents_in self.old }
-        ensures rooms { (ghost_state self.new).rooms ≡ put_rooms (names step) slot cpu (ghost_state self.old).rooms (stored (rooms_of_state (names step) slot cpu (ghost_state self.old).rooms)) }
-        ensures layout { self.new.layout ≡ self.old.layout }
-        ensures kept { IsKept self.new }
-    {
-        self.rooms.vms = left_of(self.rooms.vms, uses_vms(step));
-        self.rooms.shared = left_of(self.rooms.shared, uses_shared(step, slot));
-        store_in(&mut self.rooms.guests, slot);
-        self.rooms.cpus[cpu] = left_of(self.rooms.cpus[cpu], true);
-    }
-
-    /// The reference step, but for want of memory: the reply, and the state becomes that after it. Where memory is refused,
-    /// or the generation of a released slot would pass 64 bits, anything may have changed.
-    pub fn advance(&mut self, alloc: Global, cpu: u64, step: Step) -> Result<Reply, AllocError>
-        requires cpu { cpu < self.old.layout.config.cpus }
-        requires kept { IsKept self.old }
-        ensures foretold { IfOk result (λ reply. (reply, ghost_state self.new) ≡ foretell (layout_of self.old.layout) (ghost_state self.old) cpu step) }
-        ensures layout { self.new.layout ≡ self.old.layout }
-        ensures kept { OnOk result (IsKept self.new) }
-    {
-        let place = cpu as usize;
-        let slot = guest_slot(&self.cpus[place], step);
-        if self.is_full(place, step, slot) {
-            return Ok(Reply::Refused(Refusal::LogFull));
-        }
-        let mut used = self.take(alloc, place, step, slot)?;
-        let Ok(reply) = answer(alloc, &self.layout, cpu, slot, &mut used, step) else {
-            drop(used);
-            return Err(AllocError);
-        };
-        self.put_back(place, step, slot, used);
-        self.store(place, step, slot);
-        Ok(reply)
-    }
+/// As `predict`, where the state before isn't wanted any more: it becomes the state after, and no copy is made.
+pub fn predict_last(
+    alloc: Global,
+    state: Ghost,
+    cpu: u64,
+    step: Step,
+) -> Result<(Reply, Ghost), AllocError>
+    requires { cpu < state.layout.config.cpus }
+    ensures foretold { IfOk result (λ r. (r.0, ghost_state r.1) ≡ foretell (layout_of state.layout) (ghost_state state) cpu step) }
+    ensures layout { IfOk result (λ r. r.1.layout ≡ state.layout) }
+{
+    let mut lists = state.into_lists();
+    let Ok(reply) = lists.advance(alloc, cpu, step) else {
+        drop(lists);
+        return Err(AllocError);
+    };
+    Ok((reply, Ghost { lists }))
 }
 
 /// The reference step, but for want of memory: the reply, and the state after it. Err where memory is refused, or the
@@ -265,16 +92,10 @@ pub fn predict(
     cpu: u64,
     step: Step,
 ) -> Result<(Reply, Ghost), AllocError>
-    requires cpu { cpu < state.now.layout.config.cpus }
-    requires kept { IsKept state.now }
+    requires { cpu < state.now.layout.config.cpus }
     ensures foretold { IfOk result (λ r. (r.0, ghost_state r.1) ≡ foretell (layout_of state.now.layout) (ghost_state state.now) cpu step) }
     ensures layout { IfOk result (λ r. layout_of r.1.layout ≡ layout_of state.now.layout) }
-    ensures kept { IfOk result (λ r. IsKept r.1) }
 {
-    let mut after = state.copied(alloc)?;
-    let Ok(reply) = after.advance(alloc, cpu, step) else {
-        drop(after);
-        return Err(AllocError);
-    };
-    Ok((reply, after))
+    let after = state.copied(alloc)?;
+    predict_last(alloc, after, cpu, step)
 }

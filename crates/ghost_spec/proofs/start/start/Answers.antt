@@ -16,10 +16,10 @@ returns-clause-state c =
     let cpus = IfOk-at_ok _ ends c.both.ensures.second in
     let vms = IfOk-at_ok _ maps c.both-2.ensures.first in
     let guests = IfOk-at_ok _ maps c.both-2.ensures.second in
-    state-booted (layout_of c.args.layout) c.requires
+    rw c.of_kept.ensures (state-booted (layout_of c.args.layout) c.requires
     (record { layout = c.in_ok-rooms.layout; vms = c.in_ok-rooms.vms; shared = c.in_ok-rooms.shared; guests = c.in_ok-rooms.guests; cpus = c.in_ok-rooms.cpus; rooms = c.in_ok-rooms.rooms })
     (ap (λ l. l.config.log) layout) (IfOk-at_ok _ vms c.empty_slots-vms.ensures.empty) (rw shared (rw c.in-Some.is at c.in_ok-shared.ensures.shared)) (IfOk-at_ok _ guests c.empty_guests-guests.ensures.empty) (IfOk-at_ok _ cpus c.idle_cpus-cpus.ensures.idle)
-    (IfOk-at_ok _ rooms c.unused_rooms-rooms.ensures.vms) (IfOk-at_ok _ rooms c.unused_rooms-rooms.ensures.shared) (IfOk-at_ok _ rooms c.unused_rooms-rooms.ensures.guests) (IfOk-at_ok _ rooms c.unused_rooms-rooms.ensures.cpus)
+    (IfOk-at_ok _ rooms c.unused_rooms-rooms.ensures.vms) (IfOk-at_ok _ rooms c.unused_rooms-rooms.ensures.shared) (IfOk-at_ok _ rooms c.unused_rooms-rooms.ensures.guests) (IfOk-at_ok _ rooms c.unused_rooms-rooms.ensures.cpus))
 
 pub returns-in_default-clause-state : goal.returns-in_default-clause-state
 returns-in_default-clause-state c = tt
@@ -27,11 +27,8 @@ returns-in_default-clause-state c = tt
 pub returns-in_default-clause-layout : goal.returns-in_default-clause-layout
 returns-in_default-clause-layout c = tt
 
-pub returns-in_default-clause-kept : goal.returns-in_default-clause-kept
-returns-in_default-clause-kept c = tt
-
 pub returns-clause-layout : goal.returns-clause-layout
-returns-clause-layout c = IfOk-at_ok (λ l. l ≡ c.args.layout) (IfOk-at_ok _ c.in_ok-rooms.ensures.first c.both-small.ensures.second) refl
+returns-clause-layout c = rw c.of_kept.ensures (IfOk-at_ok (λ l. l ≡ c.args.layout) (IfOk-at_ok _ c.in_ok-rooms.ensures.first c.both-small.ensures.second) refl)
 
 pub returns-in_err-shared-clause-enough : goal.returns-in_err-shared-clause-enough
 returns-in_err-shared-clause-enough c = IfOk-from_err _ _ c.from_residual.ensures.0
@@ -42,9 +39,6 @@ returns-in_err-shared-clause-state c = IfOk-from_err _ _ c.from_residual.ensures
 pub returns-in_err-shared-clause-layout : goal.returns-in_err-shared-clause-layout
 returns-in_err-shared-clause-layout c = IfOk-from_err _ _ c.from_residual.ensures.0
 
-pub returns-in_err-shared-clause-kept : goal.returns-in_err-shared-clause-kept
-returns-in_err-shared-clause-kept c = IfOk-from_err _ _ c.from_residual.ensures.0
-
 pub returns-in_err-rooms-clause-enough : goal.returns-in_err-rooms-clause-enough
 returns-in_err-rooms-clause-enough c = IfOk-from_err _ _ c.from_residual-in_err-rooms.ensures.0
 
@@ -54,11 +48,8 @@ returns-in_err-rooms-clause-state c = IfOk-from_err _ _ c.from_residual-in_err-r
 pub returns-in_err-rooms-clause-layout : goal.returns-in_err-rooms-clause-layout
 returns-in_err-rooms-clause-layout c = IfOk-from_err _ _ c.from_residual-in_err-rooms.ensures.0
 
-pub returns-in_err-rooms-clause-kept : goal.returns-in_err-rooms-clause-kept
-returns-in_err-rooms-clause-kept c = IfOk-from_err _ _ c.from_residual-in_err-rooms.ensures.0
-
-pub returns-clause-kept : goal.returns-clause-kept
-returns-clause-kept c =
+pub of_kept-requires : goal.of_kept-requires
+of_kept-requires c =
     let small = c.in_ok-rooms.ensures.first in
     let large = c.in_ok-rooms.ensures.second in
     let ends = IfOk-at_ok _ small c.both-small.ensures.first in

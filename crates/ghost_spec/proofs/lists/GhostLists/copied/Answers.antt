@@ -3,7 +3,7 @@ use Rattle.std.proofs.lemmas.List.{length-map}
 use Rattle.std.proofs.lemmas.Result.{IfOk-at_ok}
 use Rattle.ghost_spec.specs.States.{slot_in, guest_in, rooms_in}
 use Rattle.ghost_spec.proofs.Copied.{same_state}
-use Rattle.ghost_spec.proofs.state.Ghost.copied.Goals as goal
+use Rattle.ghost_spec.proofs.lists.GhostLists.copied.Goals as goal
 
 pub returns-clause-state : goal.returns-clause-state
 returns-clause-state c =

@@ -4,7 +4,7 @@ use Rattle.page_state.proofs.Common.{same4}
 use Rattle.reference_model.specs.Parts.{names}
 use Rattle.ghost_spec.specs.States.{rooms_in}
 use Rattle.ghost_spec.proofs.Rooms.{full-is}
-use Rattle.ghost_spec.proofs.state.Ghost.is_full.Goals as goal
+use Rattle.ghost_spec.proofs.lists.GhostLists.is_full.Goals as goal
 
 pub returns : goal.returns
 returns c =

@@ -6,7 +6,7 @@ use Rattle.reference_model.specs.Used.{put_back}
 use Rattle.ghost_spec.specs.Kept.{IsKeptCpu}
 use Rattle.ghost_spec.specs.Views.{cpu_in}
 use Rattle.ghost_spec.proofs.Foretold.{contents-same, put-list}
-use Rattle.ghost_spec.proofs.state.Ghost.put_back.Goals as goal
+use Rattle.ghost_spec.proofs.lists.GhostLists.put_back.Goals as goal
 
 pub returns-clause-contents : goal.returns-clause-contents
 unfolding put_back

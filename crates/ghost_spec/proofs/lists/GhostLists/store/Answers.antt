@@ -2,11 +2,11 @@ use Rattle.std.proofs.Common.{◌≡◌, ◌-◌, ℕ, get_or, ap, ◌∙◌}
 use Rattle.std.proofs.lemmas.List.{get_or_default}
 use Rattle.reference_model.specs.Parts.{names}
 use Rattle.reference_model.specs.State.{put_at}
-use Rattle.ghost_spec.specs.declared.state.GhostRooms.{GhostRooms}
+use Rattle.ghost_spec.specs.declared.lists.GhostRooms.{GhostRooms}
 use Rattle.ghost_spec.specs.States.{rooms_in}
 use Rattle.ghost_spec.proofs.Foretold.{put-items}
 use Rattle.ghost_spec.proofs.Rooms.{stored-is}
-use Rattle.ghost_spec.proofs.state.Ghost.store.Goals as goal
+use Rattle.ghost_spec.proofs.lists.GhostLists.store.Goals as goal
 
 pub returns-clause-rooms : goal.returns-clause-rooms
 returns-clause-rooms c =

@@ -8,12 +8,12 @@ use Rattle.reference_model.specs.Parts.{names, guest_slot}
 use Rattle.reference_model.specs.State.{Cpu, Contents, Rooms, Reference, no_cpu}
 use Rattle.reference_model.specs.Step.{answer, stored}
 use Rattle.reference_model.specs.Used.{put_rooms, rooms_of}
-use Rattle.ghost_spec.specs.declared.state.Ghost.{Ghost}
+use Rattle.ghost_spec.specs.declared.lists.GhostLists.{GhostLists}
 use Rattle.ghost_spec.specs.States.{ghost_state, rooms_in}
 use Rattle.ghost_spec.specs.Used.{used_in}
 use Rattle.ghost_spec.specs.Views.{cpu_in}
 use Rattle.ghost_spec.proofs.Foretold.{foretold-full, foretold-answer}
-use Rattle.ghost_spec.proofs.state.Ghost.advance.Goals as goal
+use Rattle.ghost_spec.proofs.lists.GhostLists.advance.Goals as goal
 
 state-with : Contents → Rooms → Reference
 state-with s r = record { contents = s; rooms = r }
@@ -23,7 +23,7 @@ pair a b = (a, b)
 
 pub returns-then-is_full-clause-foretold : goal.returns-then-is_full-clause-foretold
 returns-then-is_full-clause-foretold c =
-    let g : Ghost = c.args.self.now in
+    let g : GhostLists = c.args.self.now in
     let less : c.args.cpu < length g.cpus.items = rw c.requires.kept.cpus_count c.requires.cpu in
     let own : get_or (map cpu_in g.cpus.items) c.args.cpu no_cpu ≡ cpu_in c.index.result.now = get_or-map cpu_in g.cpus.items c.args.cpu c.index.result.now no_cpu less ∙ ap cpu_in (sym c.index.ensures) in
     let named : c.guest_slot-slot.result ≡ guest_slot ((ghost_state g).contents.cpu c.args.cpu) c.args.step = c.guest_slot-slot.ensures.value ∙ ap (λ (k : Cpu). guest_slot k c.args.step) (sym own) in
@@ -32,7 +32,7 @@ returns-then-is_full-clause-foretold c =
 pub returns-clause-foretold : goal.returns-clause-foretold
 unfolding state-with pair
 returns-clause-foretold c =
-    let g : Ghost = c.args.self.now in
+    let g : GhostLists = c.args.self.now in
     let slot : Option ℕ = c.guest_slot-slot.result in
     let less : c.args.cpu < length g.cpus.items = rw c.requires.kept.cpus_count c.requires.cpu in
     let own : get_or (map cpu_in g.cpus.items) c.args.cpu no_cpu ≡ cpu_in c.index.result.now = get_or-map cpu_in g.cpus.items c.args.cpu c.index.result.now no_cpu less ∙ ap cpu_in (sym c.index.ensures) in

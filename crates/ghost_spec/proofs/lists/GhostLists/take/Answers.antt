@@ -8,7 +8,7 @@ use Rattle.reference_model.specs.Used.{Used, used_of, put_back}
 use Rattle.ghost_spec.specs.Kept.{IsKeptCpu}
 use Rattle.ghost_spec.specs.Views.{cpu_in, shared_in_lists}
 use Rattle.ghost_spec.proofs.Foretold.{contents-same, if-stays}
-use Rattle.ghost_spec.proofs.state.Ghost.take.Goals as goal
+use Rattle.ghost_spec.proofs.lists.GhostLists.take.Goals as goal
 
 make : Vms → Shared → Guest → Cpu → Used
 make v s g k = record { vms = v; shared = s; guest = g; cpu = k }
