@@ -1,5 +1,6 @@
 -- Rows but for the plain ones tell what all rows tell.
-use Rattle.std.proofs.Common.{◌≡◌, ℕ, ◌-◌, ◌<◌, true, false, Bool, not, cond, List, [], ◌∷◌, Option, Some, None, map, refl, sym, ap, subst, ◌∙◌, arith}
+use Rattle.std.proofs.Common.{◌≡◌, ℕ, ◌+◌, ◌-◌, ◌<◌, ◌≤◌, true, false, Bool, not, cond, List, [], ◌∷◌, Option, Some, None, drop, get_or, is_some, length, refl, sym, ap, subst, ◌∙◌, arith}
+use Rattle.std.proofs.lemmas.List.{drop_all, drop_more, get_or_default}
 use Rattle.std.specs.Prelude.{MatchOption, unwrap_or}
 use Rattle.page_state.specs.declared.row.Lent.{Lent}
 use Rattle.page_state.specs.declared.row.Row.{Row}
@@ -14,9 +15,10 @@ use Rattle.run_list.proofs.Maps.{none_low, starts_behind}
 use Rattle.ghost_spec.specs.Views.{row_in}
 use Rattle.ghost_trees.proofs.Overlaid.{within_means}
 use Rattle.ghost_judge.specs.Apart.{IsFirstApart}
-use Rattle.ghost_judge.specs.inner.Parted.{IsFoundApart}
-use Rattle.ghost_judge.specs.inner.Same.{is_marked, marked}
-use Rattle.ghost_judge.proofs.Audited.{found_other, rows_self}
+use Rattle.ghost_judge.specs.inner.Parted.{parted_at, IsFoundApart}
+use Rattle.ghost_judge.specs.inner.Same.{is_marked, marked, IsBegin}
+use Rattle.ghost_judge.proofs.Apart.{IsLeft, left_more, left_none, left_one, left_parted, left_two}
+use Rattle.ghost_judge.proofs.Audited.{found_other}
 
 -- an earlier run stands left of what stands behind the next
 over : (r n : Run Row) (rs : List (Run Row)) → Precedes advance_row r n → 0 < n.pages.count → PrecedesFirst advance_row n rs → PrecedesFirst advance_row r rs
@@ -35,8 +37,8 @@ marked_reach : (rs : List (Run Row)) → AreInReach HasPageBelow rs → AreInRea
 marked_reach [] h = tt
 marked_reach (r ∷ rs) h = by_test (is_marked r) (λ t. rw t (h.0, marked_reach rs h.1)) (λ t. rw t (marked_reach rs h.1))
 
-pub marked_kept : (rs : List (Run Row)) → IsCoarsest advance_row rs → AreInReach HasPageBelow rs → IsKept advance_row HasPageBelow (map (λ r. r) (marked rs))
-marked_kept rs c h = subst (λ xs. IsKept advance_row HasPageBelow xs) (sym (rows_self (marked rs))) (record { coarsest = marked_coarsest rs c; in_reach = marked_reach rs h })
+pub marked_kept : (rs : List (Run Row)) → IsKept advance_row HasPageBelow rs → IsKept advance_row HasPageBelow (marked rs)
+marked_kept rs k = record { coarsest = marked_coarsest rs k.coarsest; in_reach = marked_reach rs k.in_reach }
 
 -- a row but the plain one
 abbrev other_row : Option Row → Option Row
@@ -87,9 +89,51 @@ other_of : (o : Option Row) → other_row (Some (unwrap_or o plain_row)) ≡ oth
 other_of None = refl
 other_of (Some r) = refl
 
-pub found_marked : (rs ss : List (Run Row)) (o : Option ℕ) → IsCoarsest advance_row rs → IsCoarsest advance_row ss → IsFoundApart (run_map advance_row (map (λ r. r) (marked rs))) (run_map advance_row (map (λ r. r) (marked ss))) o → MatchOption o (row_in rs ≡ row_in ss) (IsFirstApart (row_in rs) (row_in ss))
+pub found_marked : (rs ss : List (Run Row)) (o : Option ℕ) → IsCoarsest advance_row rs → IsCoarsest advance_row ss → IsFoundApart (run_map advance_row (marked rs)) (run_map advance_row (marked ss)) o → MatchOption o (row_in rs ≡ row_in ss) (IsFirstApart (row_in rs) (row_in ss))
 found_marked rs ss o c d x =
-    let y : IsFoundApart (run_map advance_row (marked rs)) (run_map advance_row (marked ss)) o = subst (λ ys. IsFoundApart (run_map advance_row (marked rs)) (run_map advance_row ys) o) (rows_self (marked ss)) (subst (λ xs. IsFoundApart (run_map advance_row xs) (run_map advance_row (map (λ r. r) (marked ss))) o) (rows_self (marked rs)) x) in
     found_other (run_map advance_row (marked rs)) (run_map advance_row (marked ss)) (row_in rs) (row_in ss)
     (λ n e. sym (plain_of (run_map advance_row rs n)) ∙ ap (λ v. unwrap_or v plain_row) (sym (marked_map rs n c) ∙ e ∙ marked_map ss n d) ∙ plain_of (run_map advance_row ss n))
-    (λ n e. marked_map rs n c ∙ sym (other_of (run_map advance_row rs n)) ∙ ap (λ r. other_row (Some r)) e ∙ other_of (run_map advance_row ss n) ∙ sym (marked_map ss n d)) o y
+    (λ n e. marked_map rs n c ∙ sym (other_of (run_map advance_row rs n)) ∙ ap (λ r. other_row (Some r)) e ∙ other_of (run_map advance_row ss n) ∙ sym (marked_map ss n d)) o x
+
+-- the rest of a list from a run on, whose row is the plain one or isn't
+
+pub marked_here : (rs : List (Run Row)) (k : ℕ) (x : Run Row) → k < length rs → x ≡ get_or rs k x → is_marked x ≡ true → (d : Run Row) → marked (drop k rs) ≡ get_or rs k d ∷ marked (drop (k + 1) rs)
+marked_here rs k x less is m d =
+    let front : drop k rs ≡ x ∷ drop (k + 1) rs = drop_more rs k x less ∙ ap (λ y. y ∷ drop (k + 1) rs) (sym is) in
+    let same : x ≡ get_or rs k d = is ∙ get_or_default rs k x d less in
+    ap marked front ∙ stays x (drop (k + 1) rs) m ∙ ap (λ y. y ∷ marked (drop (k + 1) rs)) same
+
+pub marked_over : (rs : List (Run Row)) (k : ℕ) (x : Run Row) → k < length rs → x ≡ get_or rs k x → is_marked x ≡ false → marked (drop (k + 1) rs) ≡ marked (drop k rs)
+marked_over rs k x less is m =
+    let front : drop k rs ≡ x ∷ drop (k + 1) rs = drop_more rs k x less ∙ ap (λ y. y ∷ drop (k + 1) rs) (sym is) in
+    sym (ap marked front ∙ goes x (drop (k + 1) rs) m)
+
+pub marked_end : (rs : List (Run Row)) (k : ℕ) → length rs ≤ k → marked (drop k rs) ≡ []
+marked_end rs k h = ap marked (drop_all k rs h)
+
+-- what is left of two lists of such runs
+
+module _ (us vs : List (Run Row)) where
+  abbrev Left : List (Run Row) → List (Run Row) → Type 0
+  Left xs ys = IsLeft advance_row HasPageBelow us vs xs ys
+
+  both_left : (xs ys zs ws : List (Run Row)) → xs ≡ zs → ys ≡ ws → Left xs ys → Left zs ws
+  both_left xs ys zs ws e f l = subst (λ z. Left z ws) e (subst (λ w. Left xs w) f l)
+
+  -- two runs that are one, and two that part
+  pub left_next : (xs ys zs ws : List (Run Row)) (r s : Run Row) (o : Option ℕ) → xs ≡ r ∷ zs → ys ≡ s ∷ ws → o ≡ parted_at row_eq r s → is_some o ≡ false → Left xs ys → Left zs ws
+  left_next xs ys zs ws r s None e f p n l = left_more advance_row HasPageBelow row_eq row_laws us vs zs ws r s (sym p) (both_left xs ys (r ∷ zs) (s ∷ ws) e f l)
+  left_next xs ys zs ws r s (Some q) e f p n l = absurd (cc)
+
+  pub left_apart : (xs ys zs ws : List (Run Row)) (r s : Run Row) (o : Option ℕ) → xs ≡ r ∷ zs → ys ≡ s ∷ ws → o ≡ parted_at row_eq r s → is_some o ≡ true → Left xs ys → IsFoundApart (run_map advance_row us) (run_map advance_row vs) o
+  left_apart xs ys zs ws r s None e f p n l = absurd (cc)
+  left_apart xs ys zs ws r s (Some q) e f p n l = left_parted advance_row HasPageBelow row_eq row_laws us vs zs ws r s (Some q) q p refl (both_left xs ys (r ∷ zs) (s ∷ ws) e f l)
+
+  -- one run and none
+  pub left_alone : (xs ys zs : List (Run Row)) (r : Run Row) → xs ≡ r ∷ zs → ys ≡ [] → Left xs ys → IsFirstApart (run_map advance_row us) (run_map advance_row vs) r.pages.first.0
+  left_alone xs ys zs r e f l = left_one advance_row HasPageBelow row_eq row_laws us vs zs r (both_left xs ys (r ∷ zs) [] e f l)
+
+  -- none, and what begins the other list
+  pub left_begin : (xs ys : List (Run Row)) (o : Option ℕ) → xs ≡ [] → IsBegin ys o → Left xs ys → IsFoundApart (run_map advance_row us) (run_map advance_row vs) o
+  left_begin xs [] o e b l = subst (IsFoundApart (run_map advance_row us) (run_map advance_row vs)) (sym b) (left_none advance_row HasPageBelow row_eq row_laws us vs (both_left xs [] [] [] e refl l))
+  left_begin xs (s ∷ ws) o e b l = subst (IsFoundApart (run_map advance_row us) (run_map advance_row vs)) (sym b) (left_two advance_row HasPageBelow row_eq row_laws us vs ws s (both_left xs (s ∷ ws) [] (s ∷ ws) e refl l))

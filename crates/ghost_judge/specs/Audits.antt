@@ -1,11 +1,11 @@
 -- What an audit compares, and the first difference in its order: the host's map, the hypervisor's, those of the guests by
 -- slot, and the owner rows.
-use Rattle.std.specs.Prelude.{◌≡◌, ℕ, ◌<◌, is_some, All, length}
+use Rattle.std.specs.Prelude.{◌≡◌, ℕ, ◌<◌, All, length}
 use Rattle.page_state.specs.declared.entry.Entry.{Entry}
-use Rattle.page_state.specs.Rows.{advance_row, HasPageBelow}
+use Rattle.page_state.specs.Rows.{HasPageBelow}
 use Rattle.reference_model.specs.State.{Contents}
-use Rattle.run_list.specs.Runs.{run_map, AreInReach}
-use Rattle.ghost_spec.specs.declared.state.Ghost.{Ghost}
+use Rattle.run_list.specs.Runs.{AreInReach}
+use Rattle.ghost_spec.specs.declared.lists.GhostLists.{GhostLists}
 use Rattle.ghost_trees.specs.KeptTrees.{IsKeptTree}
 use Rattle.ghost_judge.specs.declared.disagreement.Disagreement.{Disagreement}
 use Rattle.ghost_judge.specs.declared.disagreement.Disagreement.TheVariants.{Map as MapDiffers, Owner as OwnerDiffers}
@@ -48,12 +48,8 @@ IsFirstDifference kept walked (MapDiffers tree page x y) = IsFirstMap kept walke
 IsFirstDifference kept walked (OwnerDiffers frame x y) = MapsAgree kept walked × IsTold kept.shared.row walked.shared.row frame x y
 IsFirstDifference kept walked other = ⊥
 
--- both lists of rows have rows of the same frames
-abbrev pub HaveSameFrames : Ghost → Ghost → Type 0
-HaveSameFrames kept walked = (f : ℕ) → is_some (run_map advance_row kept.shared.rows.runs f) ≡ is_some (run_map advance_row walked.shared.rows.runs f)
-
 -- the maps are coarsest lists of runs of small numbers, of 64 guests, and the rows' numbers are small
-pub record AreMapsKept (g : Ghost) : Type 0 where
+pub record AreMapsKept (g : GhostLists) : Type 0 where
   pub host : IsKeptTree g.shared.host
   pub hyp : IsKeptTree g.shared.hyp
   pub guests : All (λ x. IsKeptTree x.tree) g.guests.items

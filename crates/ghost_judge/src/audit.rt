@@ -1,29 +1,38 @@
 //! Compares what is kept with what was found from scratch. It takes no memory.
-ghost use Rattle.std.specs.Prelude.{◌≡◌, ℕ, ◌↔◌, All, None, IfSome, is_some, length};
-ghost use Rattle.page_state.specs.Rows.{advance_row, HasPageBelow};
+ghost use Rattle.std.specs.Prelude.{◌≡◌, ℕ, ◌↔◌, All, None, IfSome, length};
+ghost use Rattle.page_state.specs.Rows.{HasPageBelow};
 ghost use Rattle.page_state.specs.Runs.{map_of};
-ghost use Rattle.run_list.specs.Runs.{run_map, AreInReach};
+ghost use Rattle.run_list.specs.Runs.{AreInReach};
 ghost use Rattle.ghost_trees.specs.KeptTrees.{IsKeptTree};
 ghost use Rattle.ghost_spec.specs.States.{contents_in};
 ghost use Rattle.ghost_spec.specs.Views.{row_in};
-ghost use Rattle.ghost_judge.specs.Audits.{AreMapsKept, AuditAgrees, IsFirstDifference, HaveSameFrames};
+ghost use Rattle.ghost_judge.specs.Audits.{AreMapsKept, AuditAgrees, IsFirstDifference};
 ghost use Rattle.ghost_judge.specs.inner.Found.{IsFound, IsMapDifference, IsRowDifference, IsGuestDifference, guest_map};
 
 use crate::difference::first_apart;
 use crate::disagreement::{Disagreement, TreeOf};
+use crate::rows::{PLAIN_ROW, first_row_apart};
+use ghost_spec::lists::GhostLists;
 use ghost_spec::parts::GhostGuest;
 use ghost_spec::state::Ghost;
 use ghost_trees::runs::at;
 use ghost_trees::tree::Tree;
-use page_state::{Owner, Page, Row, Run, Target, Usage};
+use page_state::{Page, Row, Run, Target};
 use run_list::RunList;
 
 /// The first difference of two states in the host's map, the hypervisor's, those of the guests by slot, and the owner
 /// rows: the least page or frame of it, and what each state says there.
 pub fn audit(kept: &Ghost, walked: &Ghost) -> Option<Disagreement>
+    ensures none { (result ≡ None) ↔ AuditAgrees (contents_in kept.now) (contents_in walked.now) }
+    ensures first { IfSome result (IsFirstDifference (contents_in kept.now) (contents_in walked.now)) }
+{
+    audit_lists(kept.lists(), walked.lists())
+}
+
+/// As `audit`, of lists that need be no states: of trees that were poked, say.
+pub fn audit_lists(kept: &GhostLists, walked: &GhostLists) -> Option<Disagreement>
     requires kept { AreMapsKept kept.now }
     requires walked { AreMapsKept walked.now }
-    requires frames { HaveSameFrames kept.now walked.now }
     ensures none { (result ≡ None) ↔ AuditAgrees (contents_in kept.now) (contents_in walked.now) }
     ensures first { IfSome result (IsFirstDifference (contents_in kept.now) (contents_in walked.now)) }
 {
@@ -82,13 +91,12 @@ pub(crate) fn in_guests(kept: &[GhostGuest], walked: &[GhostGuest]) -> Option<Di
 }
 
 /// The first difference of the owner rows.
-fn in_rows(kept: &RunList<Row>, walked: &RunList<Row>) -> Option<Disagreement>
+pub(crate) fn in_rows(kept: &RunList<Row>, walked: &RunList<Row>) -> Option<Disagreement>
     requires kept { AreInReach HasPageBelow kept.now.runs }
     requires walked { AreInReach HasPageBelow walked.now.runs }
-    requires frames { (f : ℕ) → is_some (run_map advance_row kept.now.runs f) ≡ is_some (run_map advance_row walked.now.runs f) }
     ensures { IsFound (row_in kept.now.runs ≡ row_in walked.now.runs) (IsRowDifference (row_in kept.now.runs) (row_in walked.now.runs)) result }
 {
-    match first_apart::<Row, run_list::Run<Row>>(kept.runs(), walked.runs()) {
+    match first_row_apart(kept.runs(), walked.runs()) {
         Some(frame) => Some(Disagreement::Owner {
             frame,
             kept: row_of(kept, frame),
@@ -99,15 +107,11 @@ fn in_rows(kept: &RunList<Row>, walked: &RunList<Row>) -> Option<Disagreement>
 }
 
 /// The row of a frame; the plain one where it has none.
-pub(crate) fn row_of(rows: &RunList<Row>, frame: u64) -> Row
+fn row_of(rows: &RunList<Row>, frame: u64) -> Row
     ensures { result ≡ row_in rows.now.runs frame }
 {
     match rows.at(Page(frame)) {
         Some(row) => row,
-        None => Row {
-            owner: Owner(0),
-            lent: None,
-            usage: Usage::Plain,
-        },
+        None => PLAIN_ROW,
     }
 }

@@ -37,7 +37,7 @@ impl Told<Target> for page_state::Run {
 }
 
 /// The first page that only one of two runs has, or to which they give other values.
-fn parted<V: Advance>(a: Run<V>, b: Run<V>) -> Option<u64>
+pub(crate) fn parted<V: Advance>(a: Run<V>, b: Run<V>) -> Option<u64>
     requires a { run_end a ≤ 2 ^ 63 }
     requires b { run_end b ≤ 2 ^ 63 }
     ensures { result ≡ parted_at V.eq a b }

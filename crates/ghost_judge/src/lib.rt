@@ -7,5 +7,6 @@ mod difference;
 pub mod disagreement;
 pub mod judge;
 pub mod laws;
+mod rows;
 mod same;
 pub mod text;

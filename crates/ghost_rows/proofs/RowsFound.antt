@@ -16,7 +16,7 @@ use Rattle.page_state.specs.Search.{first_from}
 use Rattle.page_state.proofs.Common.{eq-other, same3}
 use Rattle.reference_model.specs.Owner.{page_of, lent_at, is_free, is_table_frame, is_in_hand, is_lent_to_host, sharer, owner_by, lent_to, usage_of, row_of}
 use Rattle.reference_model.specs.State.{Contents}
-use Rattle.ghost_spec.specs.declared.state.Ghost.{Ghost}
+use Rattle.ghost_spec.specs.declared.lists.GhostLists.{GhostLists}
 use Rattle.ghost_spec.specs.RowsFound.{owner_or}
 use Rattle.ghost_spec.specs.States.{contents_in}
 use Rattle.ghost_trees.specs.Trees.{tree_in_lists}
@@ -135,7 +135,7 @@ use-is false (Some v) cpu = refl
 use-is false None (Some c) = refl
 use-is false None None = refl
 
-module _ (l : Layout) (g : Ghost) (f : ℕ) (guests : length g.guests.items ≡ 64) (cpus : length g.cpus.items ≡ l.config.cpus) where
+module _ (l : Layout) (g : GhostLists) (f : ℕ) (guests : length g.guests.items ≡ 64) (cpus : length g.cpus.items ≡ l.config.cpus) where
   abbrev page : State → ℕ → Option ℕ
   page s v = page_of l (guests_in g.guests.items v).tree.map s f
 

@@ -17,7 +17,7 @@ ghost use Rattle.ghost_spec.specs.States.{contents_in};
 ghost use Rattle.ghost_rows.specs.RowsLaid.{HaveKeptTrees};
 ghost use Rattle.ghost_rows.specs.RowsTold.{told, AreReached};
 
-use ghost_spec::state::Ghost;
+use ghost_spec::lists::GhostLists;
 use kept::are_told;
 use loans::{all_loans, annotated, guest_loans};
 use overlay::{lay, lay_all, put_last};
@@ -28,7 +28,7 @@ use std::alloc::{AllocError, Global};
 use uses::all_uses;
 
 /// What all parts of the state say of each frame.
-fn lists_of(alloc: Global, state: &Ghost) -> Result<Lists, AllocError>
+fn lists_of(alloc: Global, state: &GhostLists) -> Result<Lists, AllocError>
     requires host { IsKeptTree state.now.shared.host }
     requires hyp { IsKeptTree state.now.shared.hyp }
     requires guests { HaveKeptTrees state.now.guests.items }
@@ -99,7 +99,7 @@ fn add_region(
 
 /// The owner rows of all memory frames, found from the runs, the pools, the tables and the hands of a state. They take
 /// time by the number of these, and not by that of the frames.
-pub fn rows_from_scratch(alloc: Global, state: &Ghost) -> Result<RunList<Row>, AllocError>
+pub fn rows_from_scratch(alloc: Global, state: &GhostLists) -> Result<RunList<Row>, AllocError>
     requires host { IsKeptTree state.now.shared.host }
     requires hyp { IsKeptTree state.now.shared.hyp }
     requires guests { HaveKeptTrees state.now.guests.items }
@@ -126,7 +126,11 @@ fn is_low_memory(layout: &Layout)
 
 /// Whether rows, one for each memory frame, are those from scratch, which `rows_from_scratch` finds. They are compared with
 /// what the lists say, as it is found, and no list of rows is made.
-pub fn are_from_scratch(alloc: Global, state: &Ghost, rows: &[Run<Row>]) -> Result<bool, AllocError>
+pub fn are_from_scratch(
+    alloc: Global,
+    state: &GhostLists,
+    rows: &[Run<Row>],
+) -> Result<bool, AllocError>
     requires host { IsKeptTree state.now.shared.host }
     requires hyp { IsKeptTree state.now.shared.hyp }
     requires guests { HaveKeptTrees state.now.guests.items }

@@ -1,5 +1,5 @@
 -- What tests of single parts compare.
-use Rattle.std.specs.Prelude.{◌≡◌, ℕ, Bool, not, List, Option, None, filter, get_or}
+use Rattle.std.specs.Prelude.{◌≡◌, ℕ, ◌+◌, ◌<◌, ◌≤◌, Bool, not, List, [], ◌∷◌, Option, Some, None, drop, filter, get_or, length}
 use Rattle.page_state.specs.declared.row.Row.{Row}
 use Rattle.page_state.specs.Rows.{plain_row}
 use Rattle.run_list.specs.declared.run.Run.{Run}
@@ -27,3 +27,14 @@ is_marked r = not (row_eq r.value plain_row)
 -- the runs of the other rows
 abbrev pub marked : List (Run Row) → List (Run Row)
 marked rs = filter is_marked rs
+
+-- the first of them from a place on is at another
+pub record IsNextMarked (rs : List (Run Row)) (from at : ℕ) : Type 0 where
+  pub behind : from ≤ at
+  pub within : at < length rs
+  pub rest : (d : Run Row) → marked (drop from rs) ≡ get_or rs at d ∷ marked (drop (at + 1) rs)
+
+-- the first frame of a list's first run, where it has one
+abbrev pub IsBegin : List (Run Row) → Option ℕ → Type 0
+IsBegin [] o = o ≡ None
+IsBegin (r ∷ rs) o = o ≡ Some r.pages.first.0

@@ -4,7 +4,7 @@ use Rattle.ghost_spec.specs.States.{contents_in}
 use Rattle.ghost_judge.specs.declared.disagreement.TreeOf.TheVariants.{Host, Hyp}
 use Rattle.ghost_judge.specs.inner.Found.{IsMapDifference, IsGuestDifference, guest_map}
 use Rattle.ghost_judge.proofs.Audited.{isnt_found, answer_host, answer_hyp, answer_guest, answer_rows}
-use Rattle.ghost_judge.proofs.audit.audit.Goals as goal
+use Rattle.ghost_judge.proofs.audit.audit_lists.Goals as goal
 
 pub returns-then-is_some-clause-none : goal.returns-then-is_some-clause-none
 returns-then-is_some-clause-none c = (answer_host (contents_in c.args.kept.now) (contents_in c.args.walked.now) c.in_trees-host.result (sym c.is_some.ensures ∙ c.if-is_some.true) c.in_trees-host.ensures).0
