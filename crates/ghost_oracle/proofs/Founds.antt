@@ -10,7 +10,7 @@ use Rattle.guest_steps.specs.View.{vm_slots, shared_of, guest_held, cpu_of}
 use Rattle.hypercalls.specs.declared.parts.Parts.{Parts}
 use Rattle.hypercalls.specs.Stands.{at_place, parts_layout, state_of}
 use Rattle.page_state.specs.LayoutView.{layout_of}
-use Rattle.ghost_spec.specs.declared.state.Ghost.{Ghost}
+use Rattle.ghost_spec.specs.declared.lists.GhostLists.{GhostLists}
 use Rattle.ghost_spec.specs.States.{ghost_state, guest_in, slot_in}
 use Rattle.ghost_spec.specs.Views.{cpu_in, shared_in_lists}
 use Rattle.ghost_oracle.specs.Found.{found_state, with_row}
@@ -42,7 +42,7 @@ placed_room log most [] v h = none_left most
 placed_room log most (x ∷ xs) zero h = left most (log x) (h 0 x (omega arith))
 placed_room log most (x ∷ xs) (suc v) h = placed_room log most xs v (λ k d less. h (suc k) d (omega arith))
 
-module _ {A : Type 0} (p : Parts A) (g : Ghost) (row : ℕ → Row) where
+module _ {A : Type 0} (p : Parts A) (g : GhostLists) (row : ℕ → Row) where
   -- the parts of a state on lists are those of the parts, but for the rows
   pub record HasParts : Type 0 where
     pub layout : layout_of g.layout ≡ parts_layout p

@@ -5,7 +5,7 @@ use Rattle.guest_steps.specs.View.{cpu_of}
 use Rattle.page_state.specs.Rows.{HasPageBelow}
 use Rattle.run_list.specs.Runs.{AreInReach}
 use Rattle.ghost_spec.specs.declared.parts.GhostGuest.{GhostGuest}
-use Rattle.ghost_spec.specs.declared.state.Ghost.{Ghost}
+use Rattle.ghost_spec.specs.declared.lists.GhostLists.{GhostLists}
 use Rattle.ghost_trees.specs.KeptTrees.{IsKeptTree}
 use Rattle.ghost_spec.specs.Views.{cpu_in}
 use Rattle.ghost_oracle.specs.declared.raw.RawGuest.{RawGuest}
@@ -20,7 +20,7 @@ trees_kept source [] helds gs a b c h = absurd (omega (arith, a))
 trees_kept source (p ∷ ps) [] gs a b c h = absurd (omega (arith, b))
 trees_kept source (p ∷ ps) (r ∷ rs) gs a b c h = λ k d less. (h k p r d (omega (arith, less, c))).kept
 
-module _ {A : Type 0} (source : Source) (p : RawParts A) (g : Ghost) (found : IsRawFound source p g) where
+module _ {A : Type 0} (source : Source) (p : RawParts A) (g : GhostLists) (found : IsRawFound source p g) where
   pub guests_kept : All (λ x. IsKeptTree x.tree) g.guests.items
   guests_kept = trees_kept source p.guests.items p.poked.items g.guests.items (omega (arith, p.slots, p.guests.ok.0)) (omega (arith, p.places, p.poked.ok.0)) found.count found.guests
 

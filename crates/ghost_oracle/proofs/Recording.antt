@@ -9,7 +9,7 @@ use Rattle.reference_model.specs.Used.{put_back, put_guest, put_room, put_rooms}
 use Rattle.guest_steps.specs.declared.parts.GuestPart.{GuestPart}
 use Rattle.guest_steps.specs.View.{cpu_of, guest_held, shared_of, vm_slots}
 use Rattle.hypercalls.specs.Stands.{at_place}
-use Rattle.ghost_spec.specs.declared.state.Ghost.{Ghost}
+use Rattle.ghost_spec.specs.declared.lists.GhostLists.{GhostLists}
 use Rattle.ghost_spec.specs.States.{ghost_state, slot_in}
 use Rattle.ghost_spec.specs.Used.{guests_in, rooms_of}
 use Rattle.ghost_spec.specs.Views.{cpu_in, shared_in_lists}
@@ -26,7 +26,7 @@ one_put {X} view d ys k y h less = put-list view d ys k y less ∙ ap (λ (f : �
 pub number_put : (d : ℕ) (ns : List ℕ) (k n : ℕ) → All (λ m. m ≡ d) ns → k < length ns → ◌≡◌ {A = ℕ → ℕ} (λ j. get_or (set ns k n) j d) (put_at (λ j. d) k n)
 number_put d ns k n h less = put-items d ns k n less ∙ ap (λ (f : ℕ → ℕ). put_at f k n) (fun_ext (all-equal d ns h))
 
-module _ {A : Type 0} (x : Given A) (l : Layout) (g : Ghost) where
+module _ {A : Type 0} (x : Given A) (l : Layout) (g : GhostLists) where
   -- the parts of a state on lists are those that are given
   pub record HasGiven : Type 0 where
     pub log : g.layout.config.log ≡ l.config.log

@@ -8,7 +8,7 @@ use Rattle.reference_model.specs.State.{Shared, Contents, Reference, plain_row}
 use Rattle.run_list.specs.Runs.{run_map}
 use Rattle.guest_component.specs.View.{runs_of}
 use Rattle.hypercalls.specs.declared.parts.Parts.{Parts}
-use Rattle.ghost_spec.specs.declared.state.Ghost.{Ghost}
+use Rattle.ghost_spec.specs.declared.lists.GhostLists.{GhostLists}
 
 -- the Shared part with other rows
 abbrev pub with_row : (ℕ → Row) → Shared → Shared
@@ -27,15 +27,15 @@ abbrev pub walked_state : Layout → Reference → Reference
 walked_state l s = found_state (scratch_rows l s.contents) s
 
 -- its runs are those that the maplets of the parts keep
-pub record SaysMaplets {A : Type 0} (p : Parts A) (g : Ghost) : Type 0 where
+pub record SaysMaplets {A : Type 0} (p : Parts A) (g : GhostLists) : Type 0 where
   pub host : g.shared.host.runs.items ≡ p.shared.host.maplets.runs
   pub hyp : g.shared.hyp.runs.items ≡ p.shared.hyp.maplets.runs
   pub guests : map (λ x. x.tree.runs.items) g.guests.items ≡ map (λ x. runs_of x.guest.body) p.guests.items
 
 -- its rows are those that the owner table of the parts keeps
-abbrev pub SaysRows : {A : Type 0} → Parts A → Ghost → Type 0
+abbrev pub SaysRows : {A : Type 0} → Parts A → GhostLists → Type 0
 SaysRows p g = run_map advance_row g.shared.rows.runs ≡ run_map advance_row p.shared.owners
 
 -- just the memory frames have a row
-abbrev pub HasRowsOf : Layout → Ghost → Type 0
+abbrev pub HasRowsOf : Layout → GhostLists → Type 0
 HasRowsOf l g = (f : ℕ) → is_some (run_map advance_row g.shared.rows.runs f) ≡ is_memory l f

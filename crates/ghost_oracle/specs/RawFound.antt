@@ -12,8 +12,8 @@ use Rattle.guest_component.specs.View.{guest_of, runs_of}
 use Rattle.guest_steps.specs.declared.parts.GuestPart.{GuestPart}
 use Rattle.guest_steps.specs.View.{vm_slots, cpu_of}
 use Rattle.ghost_spec.specs.declared.parts.GhostGuest.{GhostGuest}
-use Rattle.ghost_spec.specs.declared.state.Ghost.{Ghost}
-use Rattle.ghost_spec.specs.declared.state.GhostRooms.{GhostRooms}
+use Rattle.ghost_spec.specs.declared.lists.GhostLists.{GhostLists}
+use Rattle.ghost_spec.specs.declared.lists.GhostRooms.{GhostRooms}
 use Rattle.ghost_trees.specs.KeptTrees.{IsKeptTree}
 use Rattle.ghost_spec.specs.States.{phase_in, slot_in}
 use Rattle.ghost_trees.specs.Trees.{tree_in_lists}
@@ -69,7 +69,7 @@ pub record AreRoomsFound {A : Type 0} (p : RawParts A) (r : GhostRooms) : Type 0
   pub cpus : r.cpus.items ≡ map (λ k. k.log.room) p.cpus.items
 
 -- a state on lists is that of the parts, its runs from where they are asked for, but for its rows
-pub record IsRawFound {A : Type 0} (source : Source) (p : RawParts A) (g : Ghost) : Type 0 where
+pub record IsRawFound {A : Type 0} (source : Source) (p : RawParts A) (g : GhostLists) : Type 0 where
   pub layout : layout_of g.layout ≡ layout_of p.layout
   pub host_kept : IsKeptTree g.shared.host
   pub hyp_kept : IsKeptTree g.shared.hyp
@@ -85,5 +85,5 @@ pub record IsRawFound {A : Type 0} (source : Source) (p : RawParts A) (g : Ghost
   pub rooms : AreRoomsFound p g.rooms
 
 -- its rows are those that the owner table keeps
-abbrev pub SaysRawRows : {A : Type 0} → RawParts A → Ghost → Type 0
+abbrev pub SaysRawRows : {A : Type 0} → RawParts A → GhostLists → Type 0
 SaysRawRows p g = run_map advance_row g.shared.rows.runs ≡ run_map advance_row p.shared.owners

@@ -10,6 +10,7 @@ ghost use Rattle.ghost_oracle.specs.Found.{found_state};
 use crate::compared::{Compared, is_kept};
 use crate::kept::{with_kept, with_scratch};
 use ghost_rows::are_from_scratch;
+use ghost_spec::lists::GhostLists;
 use ghost_spec::rows::copied_rows;
 use ghost_spec::state::Ghost;
 use hypercalls::Parts;
@@ -19,7 +20,7 @@ use std::alloc::{AllocError, Allocator, Global};
 fn one_for_each<A: Allocator>(
     alloc: Global,
     parts: &Parts<A>,
-    found: Ghost,
+    found: GhostLists,
 ) -> Result<Compared, AllocError>
     requires history { ∥ HasHistory parts.now ∥₁ }
     requires state { ghost_state found ≡ found_state (row_in []) (state_of parts.now) }
@@ -36,8 +37,8 @@ fn one_for_each<A: Allocator>(
         return Err(AllocError);
     };
     Ok(Compared {
-        kept,
-        other: Some(walked),
+        kept: Ghost::of_kept(kept),
+        other: Some(Ghost::of_kept(walked)),
     })
 }
 
@@ -46,7 +47,7 @@ fn one_for_each<A: Allocator>(
 pub(crate) fn compared<A: Allocator>(
     alloc: Global,
     parts: &Parts<A>,
-    found: Ghost,
+    found: GhostLists,
 ) -> Result<Compared, AllocError>
     requires history { ∥ HasHistory parts.now ∥₁ }
     requires state { ghost_state found ≡ found_state (row_in []) (state_of parts.now) }
@@ -71,5 +72,8 @@ pub(crate) fn compared<A: Allocator>(
     };
     let mut kept = found;
     kept.shared.rows = rows;
-    Ok(Compared { kept, other: None })
+    Ok(Compared {
+        kept: Ghost::of_kept(kept),
+        other: None,
+    })
 }

@@ -1,6 +1,6 @@
 //! What is kept, compared with what walking every descriptor finds.
 ghost use Rattle.std.specs.Prelude.{◌≡◌, ◌↔◌, IfSome, IsTrue, None, length, map};
-ghost use Rattle.ghost_judge.specs.Audits.{AreMapsKept, AuditAgrees, IsFirstDifference, HaveSameFrames};
+ghost use Rattle.ghost_judge.specs.Audits.{AuditAgrees, IsFirstDifference};
 ghost use Rattle.ghost_oracle.specs.Compared.{walked_in};
 ghost use Rattle.ghost_oracle.specs.Found.{SaysMaplets};
 ghost use Rattle.ghost_spec.specs.States.{contents_in};
@@ -8,6 +8,7 @@ ghost use Rattle.guest_component.specs.View.{runs_of};
 
 use ghost_judge::audit::audit;
 use ghost_judge::disagreement::Disagreement;
+use ghost_spec::lists::GhostLists;
 use ghost_spec::parts::GhostGuest;
 use ghost_spec::shared::Shared;
 use ghost_spec::state::Ghost;
@@ -30,9 +31,6 @@ pub struct Compared {
 impl Compared {
     /// The first difference, in the order of `ghost_judge::audit`. Where one state is both, none is looked for.
     pub fn audit(&self) -> Option<Disagreement>
-        requires kept { AreMapsKept self.now.kept }
-        requires walked { AreMapsKept (walked_in self.now) }
-        requires frames { HaveSameFrames self.now.kept (walked_in self.now) }
         ensures none { (result ≡ None) ↔ AuditAgrees (contents_in self.now.kept) (contents_in (walked_in self.now)) }
         ensures first { IfSome result (IsFirstDifference (contents_in self.now.kept) (contents_in (walked_in self.now))) }
     {
@@ -89,7 +87,7 @@ fn is_shared_kept<A: Allocator>(found: &Shared, part: &SharedPart<A>) -> bool
 }
 
 /// Whether all parts were.
-pub(crate) fn is_kept<A: Allocator>(found: &Ghost, parts: &Parts<A>) -> bool
+pub(crate) fn is_kept<A: Allocator>(found: &GhostLists, parts: &Parts<A>) -> bool
     requires { length found.now.guests.items ≡ 64 }
     ensures { IsTrue result ↔ SaysMaplets parts.now found.now }
 {

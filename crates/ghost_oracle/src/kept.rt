@@ -24,10 +24,11 @@ use crate::trees::{
     Source, frames_of, guests_from, guests_with_maplets, tree_from, tree_with_maplets,
 };
 use ghost_rows::rows_from_scratch;
+use ghost_spec::lists::{GhostLists, GhostRooms, copied_layout};
 use ghost_spec::parts::GhostGuest;
 use ghost_spec::rows::copied_rows;
 use ghost_spec::shared::Shared;
-use ghost_spec::state::{Ghost, GhostRooms, copied_layout};
+use ghost_spec::state::Ghost;
 use guest_steps::SharedPart;
 use hypercalls::Parts;
 use page_state::Row;
@@ -77,7 +78,7 @@ fn ghost_with<A: Allocator>(
     parts: &Parts<A>,
     shared: Shared,
     guests: Vec<GhostGuest>,
-) -> Result<Ghost, AllocError>
+) -> Result<GhostLists, AllocError>
     requires shared { shared_in_lists shared ≡ with_row (shared_in_lists shared).row (shared_of parts.now.shared) }
     requires guests { map guest_in guests.items ≡ map guest_held parts.now.guests.items }
     requires cpus { All (λ k. IsLowCpu (cpu_of k)) parts.now.cpus.items }
@@ -106,7 +107,7 @@ fn ghost_with<A: Allocator>(
         drop((shared, guests));
         return Err(AllocError);
     };
-    Ok(Ghost {
+    Ok(GhostLists {
         layout,
         vms,
         shared,
@@ -121,7 +122,7 @@ fn found<A: Allocator>(
     alloc: Global,
     parts: &Parts<A>,
     reads: &mut Reads,
-) -> Result<Ghost, AllocError>
+) -> Result<GhostLists, AllocError>
     requires history { ∥ HasHistory parts.now ∥₁ }
     ensures state { IfOk result (λ g. ghost_state g ≡ found_state (row_in []) (state_of parts.now)) }
     ensures layout { IfOk result (λ g. layout_of g.layout ≡ parts_layout parts.now) }
@@ -160,8 +161,8 @@ fn shared_with_maplets<A: Allocator>(
 pub(crate) fn with_kept<A: Allocator>(
     alloc: Global,
     parts: &Parts<A>,
-    found: &Ghost,
-) -> Result<Ghost, AllocError>
+    found: &GhostLists,
+) -> Result<GhostLists, AllocError>
     requires history { ∥ HasHistory parts.now ∥₁ }
     requires state { ghost_state found.now ≡ found_state (row_in []) (state_of parts.now) }
     requires kept { IsKept found.now }
@@ -181,8 +182,8 @@ pub(crate) fn with_kept<A: Allocator>(
 pub(crate) fn with_scratch<A: Allocator>(
     alloc: Global,
     parts: &Parts<A>,
-    found: Ghost,
-) -> Result<Ghost, AllocError>
+    found: GhostLists,
+) -> Result<GhostLists, AllocError>
     requires state { ghost_state found ≡ found_state (row_in []) (state_of parts.now) }
     requires layout { layout_of found.layout ≡ parts_layout parts.now }
     requires kept { IsKept found }
@@ -206,13 +207,13 @@ pub fn kept<A: Allocator>(alloc: Global, parts: &Parts<A>) -> Result<Ghost, Allo
     requires history { ∥ HasHistory parts.now ∥₁ }
     ensures state { IfOk result (λ g. ghost_state g ≡ state_of parts.now) }
     ensures layout { IfOk result (λ g. layout_of g.layout ≡ parts_layout parts.now) }
-    ensures kept { IfOk result IsKept }
     ensures maplets { IfOk result (SaysMaplets parts.now) }
     ensures rows { IfOk result (SaysRows parts.now) }
     ensures frames { IfOk result (HasRowsOf (parts_layout parts.now)) }
 {
     let found = found(alloc, parts, &mut Reads::new())?;
-    with_kept(alloc, parts, &found)
+    let kept = with_kept(alloc, parts, &found)?;
+    Ok(Ghost::of_kept(kept))
 }
 
 /// What walking every descriptor from scratch finds: the map of each tree by its words alone, and
@@ -222,7 +223,6 @@ pub fn recompute<A: Allocator>(alloc: Global, parts: &Parts<A>) -> Result<Ghost,
     requires history { ∥ HasHistory parts.now ∥₁ }
     ensures state { IfOk result (λ g. ghost_state g ≡ walked_state (parts_layout parts.now) (state_of parts.now)) }
     ensures layout { IfOk result (λ g. layout_of g.layout ≡ parts_layout parts.now) }
-    ensures kept { IfOk result IsKept }
     ensures frames { IfOk result (HasRowsOf (parts_layout parts.now)) }
 {
     recompute_counted(alloc, parts, &mut Reads::new())
@@ -237,12 +237,12 @@ pub fn recompute_counted<A: Allocator>(
     requires history { ∥ HasHistory parts.now ∥₁ }
     ensures state { IfOk result (λ g. ghost_state g ≡ walked_state (parts_layout parts.now) (state_of parts.now)) }
     ensures layout { IfOk result (λ g. layout_of g.layout ≡ parts_layout parts.now) }
-    ensures kept { IfOk result IsKept }
     ensures frames { IfOk result (HasRowsOf (parts_layout parts.now)) }
     ensures reads { OnOk result (HasRead (count_of reads.old) (tables_of_parts parts.now) (count_of reads.new)) }
 {
     let found = found(alloc, parts, reads)?;
-    with_scratch(alloc, parts, found)
+    let walked = with_scratch(alloc, parts, found)?;
+    Ok(Ghost::of_kept(walked))
 }
 
 /// What is kept, as `kept` gives it, and what walking every descriptor finds, as `recompute` does, by one walk: each word is read
@@ -255,13 +255,11 @@ pub fn kept_and_walked<A: Allocator>(
     requires history { ∥ HasHistory parts.now ∥₁ }
     ensures state { IfOk result (λ c. ghost_state c.kept ≡ state_of parts.now) }
     ensures layout { IfOk result (λ c. layout_of c.kept.layout ≡ parts_layout parts.now) }
-    ensures kept { IfOk result (λ c. IsKept c.kept) }
     ensures maplets { IfOk result (λ c. SaysMaplets parts.now c.kept) }
     ensures rows { IfOk result (λ c. SaysRows parts.now c.kept) }
     ensures frames { IfOk result (λ c. HasRowsOf (parts_layout parts.now) c.kept) }
     ensures walked { IfOk result (λ c. ghost_state (walked_in c) ≡ walked_state (parts_layout parts.now) (state_of parts.now)) }
     ensures walked_layout { IfOk result (λ c. layout_of (walked_in c).layout ≡ parts_layout parts.now) }
-    ensures walked_kept { IfOk result (λ c. IsKept (walked_in c)) }
     ensures walked_frames { IfOk result (λ c. HasRowsOf (parts_layout parts.now) (walked_in c)) }
 {
     kept_and_walked_counted(alloc, parts, &mut Reads::new())
@@ -276,13 +274,11 @@ pub fn kept_and_walked_counted<A: Allocator>(
     requires history { ∥ HasHistory parts.now ∥₁ }
     ensures state { IfOk result (λ c. ghost_state c.kept ≡ state_of parts.now) }
     ensures layout { IfOk result (λ c. layout_of c.kept.layout ≡ parts_layout parts.now) }
-    ensures kept { IfOk result (λ c. IsKept c.kept) }
     ensures maplets { IfOk result (λ c. SaysMaplets parts.now c.kept) }
     ensures rows { IfOk result (λ c. SaysRows parts.now c.kept) }
     ensures frames { IfOk result (λ c. HasRowsOf (parts_layout parts.now) c.kept) }
     ensures walked { IfOk result (λ c. ghost_state (walked_in c) ≡ walked_state (parts_layout parts.now) (state_of parts.now)) }
     ensures walked_layout { IfOk result (λ c. layout_of (walked_in c).layout ≡ parts_layout parts.now) }
-    ensures walked_kept { IfOk result (λ c. IsKept (walked_in c)) }
     ensures walked_frames { IfOk result (λ c. HasRowsOf (parts_layout parts.now) (walked_in c)) }
     ensures reads { OnOk result (HasRead (count_of reads.old) (tables_of_parts parts.now) (count_of reads.new)) }
 {

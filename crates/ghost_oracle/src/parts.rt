@@ -9,8 +9,8 @@ ghost use Rattle.ghost_spec.specs.Views.{cpu_in};
 ghost use Rattle.ghost_oracle.specs.Low.{IsLowCpu};
 
 use ghost_spec::cpu::GhostCpu;
+use ghost_spec::lists::GhostRooms;
 use ghost_spec::parts::{GhostSlot, GhostStand};
-use ghost_spec::state::GhostRooms;
 use guest_steps::{CpuState, GuestPart};
 use page_state::Layout;
 use std::alloc::{AllocError, Allocator, Global};

@@ -17,10 +17,10 @@ use crate::raw::{RawComponent, RawGuest, RawParts, RawShared};
 use crate::trees::{Source, frames_of, guest_from, phase_from, with_maplets};
 use crate::walk::walk;
 use ghost_rows::rows_from_scratch;
+use ghost_spec::lists::{GhostLists, GhostRooms, copied_layout};
 use ghost_spec::parts::GhostGuest;
 use ghost_spec::rows::copied_rows;
 use ghost_spec::shared::Shared;
-use ghost_spec::state::{Ghost, GhostRooms, copied_layout};
 use ghost_trees::tree::Tree;
 use guest_steps::GuestPart;
 use page_state::Row;
@@ -157,7 +157,7 @@ fn raw_from<A: Allocator>(
     parts: &RawParts<A>,
     source: Source,
     rows: RunList<Row>,
-) -> Result<Ghost, AllocError>
+) -> Result<GhostLists, AllocError>
     ensures found { IfOk result (IsRawFound source parts.now) }
     ensures rows { IfOk result (λ g. g.shared.rows ≡ rows) }
 {
@@ -179,7 +179,7 @@ fn raw_from<A: Allocator>(
         cpus,
         rooms,
     } = beside;
-    Ok(Ghost {
+    Ok(GhostLists {
         layout,
         vms,
         cpus,
@@ -190,7 +190,7 @@ fn raw_from<A: Allocator>(
 }
 
 /// What the parts keep: the runs of their maplets, poked or not, and of the owner table, and all else as it is.
-pub fn kept_raw<A: Allocator>(alloc: Global, parts: &RawParts<A>) -> Result<Ghost, AllocError>
+pub fn kept_raw<A: Allocator>(alloc: Global, parts: &RawParts<A>) -> Result<GhostLists, AllocError>
     ensures found { IfOk result (IsRawFound Source.Maplets parts.now) }
     ensures rows { IfOk result (SaysRawRows parts.now) }
     ensures frames { IfOk result (HasRowsOf (layout_of parts.now.layout)) }
@@ -202,7 +202,10 @@ pub fn kept_raw<A: Allocator>(alloc: Global, parts: &RawParts<A>) -> Result<Ghos
 
 /// What walking every word of them from scratch finds: the map of each tree by its words alone, malformed
 /// ones among them, and the owner row of each memory frame by these maps, the tables, the pools and the hands.
-pub fn recompute_raw<A: Allocator>(alloc: Global, parts: &RawParts<A>) -> Result<Ghost, AllocError>
+pub fn recompute_raw<A: Allocator>(
+    alloc: Global,
+    parts: &RawParts<A>,
+) -> Result<GhostLists, AllocError>
     ensures found { IfOk result (IsRawFound Source.Words parts.now) }
     ensures rows { IfOk result (λ g. (f : ℕ) → (contents_in g).shared.row f ≡ scratch_rows (layout_of parts.now.layout) (contents_in g) f) }
     ensures frames { IfOk result (HasRowsOf (layout_of parts.now.layout)) }

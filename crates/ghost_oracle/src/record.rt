@@ -6,7 +6,7 @@ ghost use Rattle.reference_model.specs.State.{blank, no_cpu, no_slot, put_at};
 ghost use Rattle.guest_steps.specs.View.{cpu_of, guest_held, shared_of, vm_slots};
 ghost use Rattle.hypercalls.specs.Stands.{at_place};
 ghost use Rattle.ghost_spec.specs.Kept.{IsKeptGuest, IsKeptShared};
-ghost use Rattle.ghost_spec.specs.States.{ghost_state, guest_in, slot_in, AreKeptCpus, AreKeptGuests, IsKept};
+ghost use Rattle.ghost_spec.specs.States.{ghost_state, guest_in, slot_in, AreKeptCpus, AreKeptGuests};
 ghost use Rattle.ghost_spec.specs.Used.{guests_in, rooms_of};
 ghost use Rattle.ghost_spec.specs.Views.{cpu_in, shared_in_lists};
 ghost use Rattle.table_tree.specs.Reading.{count_of};
@@ -19,11 +19,12 @@ use crate::kept::shared_from;
 use crate::parts::{SlotsAndCpus, cpu_from, slots_from};
 use crate::trees::{Source, guest_from};
 use ghost_spec::cpu::GhostCpu;
+use ghost_spec::lists::{GhostLists, GhostRooms, copied_layout};
 use ghost_spec::parts::{GhostGuest, GhostSlot, empty_guests, empty_slots};
 use ghost_spec::rows::copied_rows;
 use ghost_spec::shared::Shared;
 use ghost_spec::start::{equal_rooms, idle_cpus};
-use ghost_spec::state::{Ghost, GhostRooms, copied_layout};
+use ghost_spec::state::Ghost;
 use guest_steps::{CpuState, GuestPart, SharedPart, VmPart};
 use page_state::{Config, Layout};
 use std::alloc::{AllocError, Allocator, Global};
@@ -214,7 +215,6 @@ pub fn record<A: Allocator>(
     requires own { IsLowCpu (cpu_of state.now) }
     ensures state { IfOk result (λ g. ghost_state g ≡ recorded (given (option_copied vms.entry) (option_copied shared.entry) (option_map (λ g. (g.0, g.1.now)) guest.entry) state.now) (layout_of layout.now)) }
     ensures layout { IfOk result (λ g. layout_of g.layout ≡ layout_of layout.now) }
-    ensures kept { IfOk result IsKept }
 {
     let reads = &mut Reads::new();
     record_counted(alloc, layout, vms, shared, guest, state, reads)
@@ -236,7 +236,6 @@ pub fn record_counted<A: Allocator>(
     requires own { IsLowCpu (cpu_of state.now) }
     ensures state { IfOk result (λ g. ghost_state g ≡ recorded (given (option_copied vms.entry) (option_copied shared.entry) (option_map (λ g. (g.0, g.1.now)) guest.entry) state.now) (layout_of layout.now)) }
     ensures layout { IfOk result (λ g. layout_of g.layout ≡ layout_of layout.now) }
-    ensures kept { IfOk result IsKept }
     ensures reads { OnOk result (HasRead (count_of reads.old) (tables_given (given (option_copied vms.entry) (option_copied shared.entry) (option_map (λ g. (g.0, g.1.now)) guest.entry) state.now)) (count_of reads.new)) }
 {
     // For its contract alone: a count is at most the greatest u64.
@@ -264,7 +263,7 @@ pub fn record_counted<A: Allocator>(
         cpus,
         rooms,
     } = beside;
-    let recorded = Ghost {
+    let recorded = GhostLists {
         layout,
         vms,
         cpus,
@@ -272,5 +271,5 @@ pub fn record_counted<A: Allocator>(
         shared,
         rooms,
     };
-    Ok(recorded)
+    Ok(Ghost::of_kept(recorded))
 }

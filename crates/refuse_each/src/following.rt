@@ -1,7 +1,4 @@
 //! The plain program of the model along calls.
-ghost use Rattle.std.specs.Prelude.{IfOk, IfSome};
-ghost use Rattle.ghost_spec.specs.States.{IsKept};
-
 use crate::ending::booted_world;
 use ghost_spec::state::{Ghost, predict};
 use std::alloc::{AllocError, Global};
@@ -21,12 +18,9 @@ fn follow_one(
     global: Global,
     state: Ghost,
     call: (u64, Step, Reply),
-) -> Result<Option<Reached>, AllocError>
-    requires { IsKept state }
-    ensures { IfOk result (λ o. IfSome o (λ r. IsKept r.state)) }
-{
+) -> Result<Option<Reached>, AllocError> {
     let (cpu, step, reply) = call;
-    if cpu >= state.layout.config.cpus {
+    if cpu >= state.lists().layout.config.cpus {
         return Ok(None);
     }
     let (foretold, after) = predict(global, &state, cpu, step)?;
@@ -49,9 +43,7 @@ pub fn follow(
     global: Global,
     begun: Ghost,
     calls: &[(u64, Step, Reply)],
-) -> Result<Option<Reached>, AllocError>
-    requires { IsKept begun }
-{
+) -> Result<Option<Reached>, AllocError> {
     let mut state = begun;
     let mut wanting = 0usize;
     for call in calls {

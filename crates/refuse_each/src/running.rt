@@ -1,6 +1,5 @@
 //! A run of all steps of a trace, with each of its requests for memory refused in turn.
 ghost use Rattle.std.specs.Prelude.{◌<◌, All, IfSome};
-ghost use Rattle.ghost_spec.specs.States.{IsKept};
 
 use crate::following::follow;
 use crate::refusing::{MOST, has_met, refuse_nth};
@@ -76,7 +75,6 @@ fn run_once(
     config: Config,
     n: usize,
 ) -> Option<Ran>
-    ensures { IfSome result (λ r. IsKept r.begun) }
 {
     let mut world = World::boot(global, global, map, config).ok()?;
     let steps = asked_of(global, course, world.cpus())?;
@@ -94,7 +92,6 @@ fn run_once(
 /// Whether a run is refused only where a request was, and any other has the model's replies, but for one step that wanted memory
 /// where a request was refused. That a refused run has made no step, and any other just these calls, is proved (`World::run`).
 fn is_right(global: Global, ran: Ran) -> Option<bool>
-    requires { IsKept ran.begun }
 {
     let Ran { begun, calls, met } = ran;
     let Some(calls) = calls else {

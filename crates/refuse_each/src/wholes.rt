@@ -56,7 +56,7 @@ pub fn of_looks(global: Global, world: &World<Global>) -> Option<[usize; 6]> {
 /// Foretells a step of CPU 0, and judges it by itself.
 fn judged(global: Global, world: &World<Global>, step: Step) -> Result<bool, AllocError> {
     let state = world.to_ghost(global)?;
-    if state.layout.config.cpus == 0 {
+    if state.lists().layout.config.cpus == 0 {
         return Ok(false);
     }
     let (reply, after) = predict(global, &state, 0, step)?;

@@ -8,7 +8,7 @@ ghost use Rattle.trace_text.specs.Ready.{IsReady};
 ghost use Rattle.trace_text.specs.View.{answer_of, standing_of};
 
 use crate::path::path_on;
-use ghost_judge::audit::audit;
+use ghost_judge::audit::audit_lists;
 use ghost_judge::disagreement::Disagreement;
 use ghost_oracle::pokes::no_pokes;
 use ghost_oracle::raw::{RawGuest, Which};
@@ -198,12 +198,12 @@ fn compared<A: Allocator>(
     ensures { IfOk result (ComparesWalk world.now.parts) }
 {
     let kept = world.to_ghost(global)?;
-    // States are handed to `drop`: the proof of a scope's end would go through all parts of each.
+    // Lists are handed to `drop`: the proof of a scope's end would go through all parts of each.
     let Ok(walked) = world.recompute(global) else {
         drop(kept);
         return Err(AllocError);
     };
-    let found = audit(&kept, &walked);
+    let found = audit_lists(&kept, &walked);
     drop(walked);
     drop(kept);
     Ok(found)

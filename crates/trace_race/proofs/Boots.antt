@@ -7,7 +7,7 @@ use Rattle.page_state.specs.Layouts.{Layout}
 use Rattle.page_state.specs.Regions.{Memory}
 use Rattle.reference_model.specs.State.{Reference}
 use Rattle.ghost_spec.specs.declared.state.Ghost.{Ghost}
-use Rattle.ghost_spec.specs.States.{IsKept, ghost_state}
+use Rattle.ghost_spec.specs.States.{ghost_state}
 use Rattle.hypercalls.specs.Booted.{IsBooted, IsConfig, layout_for}
 use Rattle.hypercalls.specs.Stands.{parts_layout, state_of}
 use Rattle.world.specs.declared.World.{World}
@@ -35,10 +35,9 @@ same_machine : {A : Type 0} (g : Ghost) (w : World A) → layout_of g.layout ≡
 same_machine g w layout state = ap (λ l. record { layout = l; state = ghost_state g }) layout ∙ ap (λ s. record { layout = parts_layout w.parts; state = s }) state
 
 pub booted_of : {A : Type 0} (m n : Memory) (c d : Config) (w : World A) (b : Booted) → n ≡ m → d ≡ c → IsBooted n d w.parts → IsBootedMachine n d b.machine → b.line ≡ boot_told (machine_of w)
-    → layout_of b.state.layout ≡ parts_layout w.parts → ghost_state b.state ≡ state_of w.parts → IsKept b.state → IsBootedOf m c b
-booted_of m n c d w b memory config world machine line layout state kept =
+    → layout_of b.state.layout ≡ parts_layout w.parts → ghost_state b.state ≡ state_of w.parts → IsBootedOf m c b
+booted_of m n c d w b memory config world machine line layout state =
     subst (λ x. IsBootedOf x c b) memory (subst (λ x. IsBootedOf n x b) config record {
-      kept = kept;
       booted = subst (IsBootOf n d) (sym same) (boots n d w world);
       line = line ∙ ap boot_told (sym same);
       layout = machine.layout ∙ (one_layout n d machine.geometry world.geometry (record { accepted = machine.accepted.accepted; geometry = machine.accepted.geometry }) world.accepted ∙ (sym world.layout ∙ sym layout));

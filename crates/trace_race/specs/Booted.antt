@@ -4,7 +4,7 @@ use Rattle.page_state.specs.declared.layout.Config.{Config}
 use Rattle.page_state.specs.LayoutView.{layout_of}
 use Rattle.page_state.specs.Regions.{Memory}
 use Rattle.ghost_spec.specs.declared.state.Ghost.{Ghost}
-use Rattle.ghost_spec.specs.States.{IsKept, ghost_state}
+use Rattle.ghost_spec.specs.States.{ghost_state}
 use Rattle.part_table.specs.Passes.{AreFirst}
 use Rattle.trace_lines.specs.declared.line.TreeName.TheVariants.{Host, Hyp}
 use Rattle.trace_lines.specs.declared.response.Response.{Response}
@@ -30,7 +30,6 @@ StopsBoot memory config stops.NoMemory = ⊤
 
 -- all of this memory and configuration: the model's machine that boots on them, its boot line, and a machine of its layout with no pass handed out
 pub record IsBootedOf (memory : Memory) (config : Config) (b : Booted) : Type 0 where
-  pub kept : IsKept b.state
   pub booted : IsBootOf memory config (machine_in b.state)
   pub line : b.line ≡ boot_told (machine_in b.state)
   pub layout : layout_of b.machine.table.layout ≡ layout_of b.state.layout

@@ -4,7 +4,7 @@ ghost use Rattle.std.specs.Prelude.{◌≡◌, ◌≤◌, [], IfOk, OnOk, None, 
 ghost use Rattle.page_state.specs.LayoutView.{layout_of};
 ghost use Rattle.reference_model.specs.Boot.{boot};
 ghost use Rattle.ghost_oracle.specs.Counted.{HasRead, tables_of_parts};
-ghost use Rattle.ghost_spec.specs.States.{IsKept, ghost_state};
+ghost use Rattle.ghost_spec.specs.States.{ghost_state};
 ghost use Rattle.hypercalls.specs.Stands.{kept_of, parts_layout};
 ghost use Rattle.world.specs.Merges.{AreLogsOf};
 ghost use Rattle.table_tree.specs.Reading.{count_of};
@@ -55,7 +55,6 @@ fn compare_replies(
     state: Ghost,
     logs: &Histories,
 ) -> Result<Vec<Disagreement>, AllocError>
-    requires kept { IsKept state }
     requires cpus { length logs.now.cpus.items ≤ state.layout.config.cpus }
     ensures { IfOk result (λ found. ComparesAll (layout_of state.layout) (ghost_state state) logs.now found.items) }
 {
@@ -74,7 +73,6 @@ fn compare(
     logs: &Histories,
     reads: &mut Reads,
 ) -> Result<Compared, AllocError>
-    requires kept { IsKept state }
     requires layout { layout_of state.layout ≡ parts_layout world.now.parts }
     requires boot { ghost_state state ≡ boot (layout_of state.layout) }
     requires logs { AreLogsOf logs.now (parts_layout world.now.parts) (kept_of world.now.parts) }
@@ -96,7 +94,6 @@ pub(crate) fn compared_at_end(
     state: Ghost,
 ) -> Result<Compared, AllocError>
     requires done { AreDone machine.table steps.now replies.now passes.items }
-    requires kept { IsKept state }
     requires layout { layout_of machine.table.layout ≡ layout_of state.layout }
     requires boot { ghost_state state ≡ boot (layout_of state.layout) }
     ensures agree { IfOk result (λ c. (c.judged.items ≡ []) × (c.audited ≡ None)) }

@@ -1,14 +1,14 @@
 //! Each reply of the merged list, compared with the model's.
-ghost use Rattle.std.specs.Prelude.{◌≡◌, ◌↔◌, ◌<◌, All, IfOk, IsTrue, OnOk};
+ghost use Rattle.std.specs.Prelude.{◌≡◌, ◌↔◌, ◌<◌, All, IfOk, IsTrue};
 ghost use Rattle.step_reply.specs.declared.reply.Refusal.TheVariants.{NoMemory};
 ghost use Rattle.step_reply.specs.declared.reply.Reply.TheVariants.{Refused};
 ghost use Rattle.page_state.specs.LayoutView.{layout_of};
-ghost use Rattle.ghost_spec.specs.States.{IsKept, ghost_state};
+ghost use Rattle.ghost_spec.specs.States.{ghost_state};
 ghost use Rattle.trace_race.specs.Judged.{IsApart, Judges, JudgesAll};
 
 use ghost_judge::disagreement::Disagreement;
 use ghost_judge::judge::judge;
-use ghost_spec::state::Ghost;
+use ghost_spec::state::{Ghost, predict_last};
 use std::alloc::{AllocError, Global};
 use step_reply::{Refusal, Reply, Step};
 
@@ -23,26 +23,25 @@ fn differs(said: Reply, spec: Reply) -> Option<Disagreement>
     }
 }
 
-/// Makes the next call of a list on the state before it, and tells where its reply isn't the model's. A call that wanted
-/// memory leaves the state, and is judged as one that changed nothing.
+/// Makes the next call of a list on the state before it: the state after it, and where its reply isn't the model's. A call
+/// that wanted memory leaves the state, and is judged as one that changed nothing.
 fn judged_next(
     global: Global,
-    state: &mut Ghost,
+    state: Ghost,
     cpu: u64,
     step: Step,
     said: Reply,
-) -> Result<Option<Disagreement>, AllocError>
-    requires cpu { cpu < state.old.layout.config.cpus }
-    requires kept { IsKept state.old }
-    ensures kept { OnOk result (IsKept state.new) }
-    ensures layout { state.new.layout ≡ state.old.layout }
-    ensures judged { IfOk result (λ found. Judges (layout_of state.old.layout) (ghost_state state.old) cpu step said found (ghost_state state.new)) }
+) -> Result<(Ghost, Option<Disagreement>), AllocError>
+    requires { cpu < state.layout.config.cpus }
+    ensures layout { IfOk result (λ r. r.0.layout ≡ state.layout) }
+    ensures judged { IfOk result (λ r. Judges (layout_of state.layout) (ghost_state state) cpu step said r.1 (ghost_state r.0)) }
 {
     if is_want(said) {
-        return judge(global, state, cpu, step, &said, state);
+        let found = judge(global, &state, cpu, step, &said, &state)?;
+        return Ok((state, found));
     }
-    let spec = state.advance(global, cpu, step)?;
-    Ok(differs(said, spec))
+    let (spec, after) = predict_last(global, state, cpu, step)?;
+    Ok((after, differs(said, spec)))
 }
 
 /// Whether memory was wanted.
@@ -58,7 +57,6 @@ pub(crate) fn judge_all(
     state: Ghost,
     calls: &[(u64, Step, Reply)],
 ) -> Result<Vec<Disagreement>, AllocError>
-    requires kept { IsKept state }
     requires cpus { All (λ c. c.0 < state.layout.config.cpus) calls.now }
     ensures judged { IfOk result (λ found. JudgesAll (layout_of state.layout) (ghost_state state) calls.now found.items) }
 {
@@ -66,10 +64,11 @@ pub(crate) fn judge_all(
     let mut found = Vec::new(global);
     for i in 0..calls.len() {
         let (cpu, step, said) = calls[i];
-        let Some(told) = judged_next(global, &mut state, cpu, step, said)? else {
-            continue;
-        };
-        found.push(told)?;
+        let (after, told) = judged_next(global, state, cpu, step, said)?;
+        state = after;
+        if let Some(told) = told {
+            found.push(told)?;
+        }
     }
     drop(state);
     Ok(found)

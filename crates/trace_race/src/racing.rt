@@ -3,7 +3,7 @@ ghost use Rattle.std.specs.Prelude.{◌≡◌, ◌<◌, ◌^◌, ◌∷◌, [], 
 ghost use Rattle.std.specs.Io.KnownBytes.{Appends};
 ghost use Rattle.page_state.specs.LayoutView.{layout_of};
 ghost use Rattle.reference_model.specs.Boot.{boot};
-ghost use Rattle.ghost_spec.specs.States.{IsKept, ghost_state};
+ghost use Rattle.ghost_spec.specs.States.{ghost_state};
 ghost use Rattle.trace_race.specs.Booted.{machine_in};
 ghost use Rattle.trace_race.specs.Courses.{IsSound, course_in};
 ghost use Rattle.trace_race.specs.Failures.{RaceReads, RaceTells, RaceWrites};
@@ -181,7 +181,6 @@ fn tell_made<K: Sink>(
     text: &mut String,
 ) -> Result<Outcome, EngineFault>
     requires made { IsMadeOf steps.now made }
-    requires kept { IsKept state }
     requires layout { layout_of made.machine.table.layout ≡ layout_of state.layout }
     requires boot { ghost_state state ≡ boot (layout_of state.layout) }
     ensures report { IfOk result (λ outcome. StepsEnd (layout_of state.layout) steps.now made.replies.items (K.contents sink.old) (K.contents sink.new) outcome) }

@@ -1,5 +1,5 @@
 -- What an oracle is shown of a step, and what it may tell of it.
-use Rattle.std.specs.Prelude.{◌≡◌, ℕ, ◌<◌, List, [], ◌∷◌, ◌++◌, Option, Some, None}
+use Rattle.std.specs.Prelude.{◌≡◌, ℕ, List, [], ◌∷◌, ◌++◌, Option, Some, None}
 use Rattle.step_reply.specs.declared.reply.Call.{Call}
 use Rattle.step_reply.specs.declared.reply.Reply.{Reply}
 use Rattle.step_reply.specs.declared.step.Step.{Step}
@@ -7,9 +7,8 @@ use Rattle.page_state.specs.LayoutView.{layout_of}
 use Rattle.reference_model.specs.State.{Reference}
 use Rattle.reference_model.specs.Step.{Steps}
 use Rattle.ghost_spec.specs.declared.state.Ghost.{Ghost}
-use Rattle.ghost_spec.specs.States.{ghost_state, IsKept}
+use Rattle.ghost_spec.specs.States.{ghost_state}
 use Rattle.ghost_judge.specs.declared.disagreement.Disagreement.{Disagreement}
-use Rattle.ghost_judge.specs.Audits.{HaveSameFrames}
 use Rattle.trace_text.specs.declared.oracle.Verdict.{Verdict}
 use Rattle.trace_text.specs.declared.report.ReportLine.{ReportLine}
 use Rattle.trace_text.specs.declared.report.ReportLine.TheVariants as report
@@ -28,16 +27,7 @@ pub record IsAgreed (v : Verdict) : Type 0 where
 abbrev pub agreed : Gives
 agreed m c t v = IsAgreed v
 
--- states that can be compared: what is kept before and after a step of a CPU, and what walks find after it, of one layout and with rows of the same frames
-pub record CanCompare (before : Ghost) (cpu : ℕ) (after walked : Ghost) : Type 0 where
-  pub known : cpu < before.layout.config.cpus
-  pub before_kept : IsKept before
-  pub after_kept : IsKept after
-  pub walked_kept : IsKept walked
-  pub layout : layout_of after.layout ≡ layout_of before.layout
-  pub frames : HaveSameFrames after walked
-
--- they are those of a call that leads from a machine's state to another, in which what is kept is what walks find
+-- states are those of a call that leads from a machine's state to another, in which what is kept is what walks find
 pub record IsShown (m : Machine) (c : Call) (t : Reference) (before : Ghost) (cpu : ℕ) (step : Step) (reply : Reply) (after walked : Ghost) : Type 0 where
   pub layout : layout_of before.layout ≡ m.layout
   pub before_is : ghost_state before ≡ m.state

@@ -2,7 +2,7 @@
 use Rattle.std.specs.Prelude.{◌≡◌, ◌≤◌, ◌*◌, IfSome}
 use Rattle.page_state.specs.LayoutView.{layout_of}
 use Rattle.ghost_spec.specs.declared.state.Ghost.{Ghost}
-use Rattle.ghost_spec.specs.States.{ghost_state, IsKept}
+use Rattle.ghost_spec.specs.States.{ghost_state}
 use Rattle.hypercalls.specs.Stands.{parts_layout, state_of}
 use Rattle.trace_text.specs.declared.session.Session.{Session}
 use Rattle.world.specs.declared.World.{World}
@@ -11,7 +11,6 @@ use Rattle.world.specs.declared.World.{World}
 pub record IsStateAt {A : Type 0} (w : World A) (g : Ghost) : Type 0 where
   pub state : ghost_state g ≡ state_of w.parts
   pub layout : layout_of g.layout ≡ parts_layout w.parts
-  pub kept : IsKept g
 
 -- what is remembered is the world's state, and no step had more than two disagreements
 pub record IsReady {A : Type 0} (s : Session A) : Type 0 where

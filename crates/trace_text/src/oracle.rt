@@ -1,12 +1,12 @@
 //! What judges and audits the steps of a replay.
-ghost use Rattle.std.specs.Prelude.{◌≡◌, ◌≤◌, ◌↔◌, IfOk, IfSome, None, length};
+ghost use Rattle.std.specs.Prelude.{◌≡◌, ◌<◌, ◌≤◌, ◌↔◌, IfOk, IfSome, None, length};
 ghost use Rattle.ghost_judge.specs.Audits.{AuditAgrees, IsFirstDifference};
 ghost use Rattle.ghost_judge.specs.Judgements.{IsFirstJudged, JudgeAgrees, told_of};
 ghost use Rattle.ghost_oracle.specs.Compared.{walked_in};
 ghost use Rattle.ghost_spec.specs.States.{contents_in};
 ghost use Rattle.step_reply.specs.declared.reply.Call.{Call};
 ghost use Rattle.reference_model.specs.State.{Reference};
-ghost use Rattle.trace_text.specs.Oracles.{CanCompare, IsAgreed, IsShown, audited_lines, judged_lines, verdict_lines};
+ghost use Rattle.trace_text.specs.Oracles.{IsAgreed, IsShown, audited_lines, judged_lines, verdict_lines};
 ghost use Rattle.trace_text.specs.Worlds.{Machine};
 
 use ghost_judge::disagreement::Disagreement;
@@ -65,7 +65,7 @@ pub trait Oracle {
         reply: Reply,
         after: &Compared,
     ) -> Result<Verdict, AllocError>
-        requires comparable { CanCompare before cpu after.now.kept (walked_in after.now) }
+        requires { cpu < before.layout.config.cpus }
         ensures told { IfOk result (λ v. (m : Machine) (c : Call) (t : Reference) → IsShown m c t before cpu step reply after.now.kept (walked_in after.now) → gives m c t v) };
 }
 
@@ -86,7 +86,7 @@ impl Oracle for GhostOracle {
         reply: Reply,
         after: &Compared,
     ) -> Result<Verdict, AllocError>
-        requires comparable { CanCompare before cpu after.now.kept (walked_in after.now) }
+        requires { cpu < before.layout.config.cpus }
         ensures told { IfOk result (λ v. (m : Machine) (c : Call) (t : Reference) → IsShown m c t before cpu step reply after.now.kept (walked_in after.now) → IsAgreed v) }
         ensures judged { IfOk result (λ v. (v.judged ≡ None) ↔ JudgeAgrees (contents_in before) step reply (contents_in after.now.kept) (told_of before cpu step)) }
         ensures first_judged { IfOk result (λ v. IfSome v.judged (IsFirstJudged (contents_in before) step reply (contents_in after.now.kept) (told_of before cpu step))) }

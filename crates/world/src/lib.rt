@@ -101,7 +101,7 @@ impl<A: Allocator> World<A> {
     ghost use Rattle.ghost_oracle.specs.Compared.{walked_in};
     ghost use Rattle.ghost_oracle.specs.Counted.{HasRead, tables_of_parts};
     ghost use Rattle.ghost_oracle.specs.Poked.{IsBeside, IsPokedTree, parts_trees, raw_beside_of, raw_trees};
-    ghost use Rattle.ghost_spec.specs.States.{ghost_state, IsKept};
+    ghost use Rattle.ghost_spec.specs.States.{ghost_state};
     ghost use Rattle.ghost_oracle.specs.Found.{walked_state, HasRowsOf, SaysMaplets, SaysRows};
     ghost use Rattle.hypercalls.specs.Stands.{kept_of, parts_layout, state_of};
     ghost use Rattle.step_reply.specs.declared.reply.Call.{Call};
@@ -166,7 +166,6 @@ impl<A: Allocator> World<A> {
         ensures maplets { IfOk result (SaysMaplets self.now.parts) }
         ensures rows { IfOk result (SaysRows self.now.parts) }
         ensures walked { IfOk result (λ g. ghost_state g ≡ walked_state (parts_layout self.now.parts) (state_of self.now.parts)) }
-        ensures kept { IfOk result IsKept }
         ensures frames { IfOk result (HasRowsOf (parts_layout self.now.parts)) }
     {
         kept(global, &self.parts)
@@ -176,7 +175,6 @@ impl<A: Allocator> World<A> {
     pub fn recompute(&self, global: Global) -> Result<Ghost, AllocError>
         ensures state { IfOk result (λ g. ghost_state g ≡ walked_state (parts_layout self.now.parts) (state_of self.now.parts)) }
         ensures layout { IfOk result (λ g. layout_of g.layout ≡ parts_layout self.now.parts) }
-        ensures kept { IfOk result IsKept }
         ensures frames { IfOk result (HasRowsOf (parts_layout self.now.parts)) }
     {
         self.recompute_counted(global, &mut Reads::new())
@@ -186,7 +184,6 @@ impl<A: Allocator> World<A> {
     pub fn recompute_counted(&self, global: Global, reads: &mut Reads) -> Result<Ghost, AllocError>
         ensures state { IfOk result (λ g. ghost_state g ≡ walked_state (parts_layout self.now.parts) (state_of self.now.parts)) }
         ensures layout { IfOk result (λ g. layout_of g.layout ≡ parts_layout self.now.parts) }
-        ensures kept { IfOk result IsKept }
         ensures frames { IfOk result (HasRowsOf (parts_layout self.now.parts)) }
         ensures reads { OnOk result (HasRead (count_of reads.old) (tables_of_parts self.now.parts) (count_of reads.new)) }
     {
@@ -200,12 +197,10 @@ impl<A: Allocator> World<A> {
         ensures layout { IfOk result (λ c. layout_of c.kept.layout ≡ parts_layout self.now.parts) }
         ensures maplets { IfOk result (λ c. SaysMaplets self.now.parts c.kept) }
         ensures rows { IfOk result (λ c. SaysRows self.now.parts c.kept) }
-        ensures kept { IfOk result (λ c. IsKept c.kept) }
         ensures frames { IfOk result (λ c. HasRowsOf (parts_layout self.now.parts) c.kept) }
         ensures walked { IfOk result (λ c. ghost_state (walked_in c) ≡ walked_state (parts_layout self.now.parts) (state_of self.now.parts)) }
         ensures same { IfOk result (λ c. ghost_state (walked_in c) ≡ ghost_state c.kept) }
         ensures walked_layout { IfOk result (λ c. layout_of (walked_in c).layout ≡ parts_layout self.now.parts) }
-        ensures walked_kept { IfOk result (λ c. IsKept (walked_in c)) }
         ensures walked_frames { IfOk result (λ c. HasRowsOf (parts_layout self.now.parts) (walked_in c)) }
     {
         self.kept_and_walked_counted(global, &mut Reads::new())
@@ -221,12 +216,10 @@ impl<A: Allocator> World<A> {
         ensures layout { IfOk result (λ c. layout_of c.kept.layout ≡ parts_layout self.now.parts) }
         ensures maplets { IfOk result (λ c. SaysMaplets self.now.parts c.kept) }
         ensures rows { IfOk result (λ c. SaysRows self.now.parts c.kept) }
-        ensures kept { IfOk result (λ c. IsKept c.kept) }
         ensures frames { IfOk result (λ c. HasRowsOf (parts_layout self.now.parts) c.kept) }
         ensures walked { IfOk result (λ c. ghost_state (walked_in c) ≡ walked_state (parts_layout self.now.parts) (state_of self.now.parts)) }
         ensures same { IfOk result (λ c. ghost_state (walked_in c) ≡ ghost_state c.kept) }
         ensures walked_layout { IfOk result (λ c. layout_of (walked_in c).layout ≡ parts_layout self.now.parts) }
-        ensures walked_kept { IfOk result (λ c. IsKept (walked_in c)) }
         ensures walked_frames { IfOk result (λ c. HasRowsOf (parts_layout self.now.parts) (walked_in c)) }
         ensures reads { OnOk result (HasRead (count_of reads.old) (tables_of_parts self.now.parts) (count_of reads.new)) }
     {

@@ -11,7 +11,7 @@ ghost use Rattle.ghost_oracle.specs.declared.trees.Source.TheVariants.{Maplets, 
 
 use ghost_oracle::raw::{RawParts, Which};
 use ghost_oracle::raw_kept::{kept_raw, recompute_raw};
-use ghost_spec::state::Ghost;
+use ghost_spec::lists::GhostLists;
 use page_state::Geometry;
 use std::alloc::{AllocError, Allocator, Global};
 use table_tree::PathFault;
@@ -50,7 +50,7 @@ impl<A: Allocator> RawWorld<A> {
     }
 
     /// What the world keeps beside its words: maplets and owner rows, which no poke changes.
-    pub fn to_ghost(&self, global: Global) -> Result<Ghost, AllocError>
+    pub fn to_ghost(&self, global: Global) -> Result<GhostLists, AllocError>
         ensures found { IfOk result (IsRawFound Maplets self.now.parts) }
         ensures rows { IfOk result (SaysRawRows self.now.parts) }
         ensures frames { IfOk result (HasRowsOf (layout_of self.now.parts.layout)) }
@@ -60,7 +60,7 @@ impl<A: Allocator> RawWorld<A> {
     }
 
     /// What walking every word from scratch finds, malformed words among them.
-    pub fn recompute(&self, global: Global) -> Result<Ghost, AllocError>
+    pub fn recompute(&self, global: Global) -> Result<GhostLists, AllocError>
         ensures found { IfOk result (IsRawFound Words self.now.parts) }
         ensures rows { IfOk result (λ g. (f : ℕ) → (contents_in g).shared.row f ≡ scratch_rows (layout_of self.now.parts.layout) (contents_in g) f) }
         ensures frames { IfOk result (HasRowsOf (layout_of self.now.parts.layout)) }

@@ -1,15 +1,15 @@
+use Rattle.std.proofs.Common.{Some, subst, sym}
+use Rattle.ghost_oracle.specs.Compared.{IsCompared}
 use Rattle.ghost_oracle.proofs.both.one_for_each.Goals as goal
 
 pub returns : goal.returns
-returns g c = record {
+returns g c = subst (λ w. IsCompared c.args.parts.now (record { kept = c.of_kept.result; other = Some w })) (sym c.of_kept-2.ensures) (subst (λ k. IsCompared c.args.parts.now (record { kept = k; other = Some c.in-Ok-with_scratch.walked })) (sym c.of_kept.ensures) (record {
   state = c.in-Ok.ensures.state;
   layout = c.in-Ok.ensures.layout;
-  kept = c.in-Ok.ensures.kept;
   maplets = c.in-Ok.ensures.maplets;
   rows = c.in-Ok.ensures.rows;
   frames = c.in-Ok.ensures.frames;
   walked = c.in-Ok-with_scratch.ensures.state;
   walked_layout = c.in-Ok-with_scratch.ensures.layout;
-  walked_kept = c.in-Ok-with_scratch.ensures.kept;
   walked_frames = c.in-Ok-with_scratch.ensures.frames;
-}
+}))

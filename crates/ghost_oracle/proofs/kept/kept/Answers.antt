@@ -1,11 +1,16 @@
-use Rattle.std.proofs.Common.{rules}
 use Rattle.ghost_oracle.proofs.kept.kept.Goals as goal
 
 pub returns-clause-state : goal.returns-clause-state
-returns-clause-state g c = search rules
+returns-clause-state g c = rw c.of_kept.ensures c.in_ok-kept.ensures.state
+
+pub returns-clause-layout : goal.returns-clause-layout
+returns-clause-layout g c = rw c.of_kept.ensures c.in_ok-kept.ensures.layout
 
 pub returns-clause-maplets : goal.returns-clause-maplets
-returns-clause-maplets g c = c.with_kept.ensures.maplets
+returns-clause-maplets g c = rw c.of_kept.ensures c.in_ok-kept.ensures.maplets
 
 pub returns-clause-rows : goal.returns-clause-rows
-returns-clause-rows g c = c.with_kept.ensures.rows
+returns-clause-rows g c = rw c.of_kept.ensures c.in_ok-kept.ensures.rows
+
+pub returns-clause-frames : goal.returns-clause-frames
+returns-clause-frames g c = rw c.of_kept.ensures c.in_ok-kept.ensures.frames

@@ -8,9 +8,6 @@ returns-clause-state g c = if_ok _ _ c.compared.result (λ (x : Compared) e. e.s
 pub returns-clause-layout : goal.returns-clause-layout
 returns-clause-layout g c = if_ok _ _ c.compared.result (λ (x : Compared) e. e.layout) c.compared.ensures
 
-pub returns-clause-kept : goal.returns-clause-kept
-returns-clause-kept g c = if_ok _ _ c.compared.result (λ (x : Compared) e. e.kept) c.compared.ensures
-
 pub returns-clause-maplets : goal.returns-clause-maplets
 returns-clause-maplets g c = if_ok _ _ c.compared.result (λ (x : Compared) e. e.maplets) c.compared.ensures
 
@@ -25,9 +22,6 @@ returns-clause-walked g c = if_ok _ _ c.compared.result (λ (x : Compared) e. e.
 
 pub returns-clause-walked_layout : goal.returns-clause-walked_layout
 returns-clause-walked_layout g c = if_ok _ _ c.compared.result (λ (x : Compared) e. e.walked_layout) c.compared.ensures
-
-pub returns-clause-walked_kept : goal.returns-clause-walked_kept
-returns-clause-walked_kept g c = if_ok _ _ c.compared.result (λ (x : Compared) e. e.walked_kept) c.compared.ensures
 
 pub returns-clause-walked_frames : goal.returns-clause-walked_frames
 returns-clause-walked_frames g c = if_ok _ _ c.compared.result (λ (x : Compared) e. e.walked_frames) c.compared.ensures

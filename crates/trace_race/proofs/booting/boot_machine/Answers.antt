@@ -17,4 +17,4 @@ returns-in-Ok-boot-2 c =
     let config = config_of (told_of c.args.settings.now) in
     let booted : Booted = record { machine = c.in-Ok-boot-2.machine; line = c.boot_line-line.result; state = c.in-Ok-to_ghost.state } in
     booted_of (memory_of c.args.settings.now.regions.items c.args.carve) c.in-Ok.map config c.config-config.result c.in-Ok-boot.world booted (c.in-Ok.ensures.0 ∙ ap (λ (rs : List Region). memory_of rs c.args.carve) c.as_slice.ensures.value) c.config-config.ensures c.in-Ok-boot.ensures c.in-Ok-boot-2.ensures
-    c.boot_line-line.ensures c.in-Ok-to_ghost.ensures.layout c.in-Ok-to_ghost.ensures.state c.in-Ok-to_ghost.ensures.kept
+    c.boot_line-line.ensures c.in-Ok-to_ghost.ensures.layout c.in-Ok-to_ghost.ensures.state

@@ -4,6 +4,7 @@ use Rattle.step_reply.specs.declared.step.Step.{Step}
 use Rattle.trace_race.proofs.Judging.{told_below}
 use Rattle.trace_race.proofs.ending.compare_replies.Goals as goal
 
-pub judge_all-requires-clause-cpus : goal.judge_all-requires-clause-cpus
-judge_all-requires-clause-cpus c =
-    subst (All (λ (k : ℕ × Step × Reply). k.0 < c.args.state.layout.config.cpus)) (sym c.as_slice.ensures.value) (told_below c.args.logs.now c.args.state.layout.config.cpus c.in-Ok.calls.items c.requires.cpus c.in-Ok.ensures.merged)
+pub judge_all-requires : goal.judge_all-requires
+judge_all-requires c = record {
+  cpus = subst (All (λ (k : ℕ × Step × Reply). k.0 < c.args.state.layout.config.cpus)) (sym c.as_slice.ensures.value) (told_below c.args.logs.now c.args.state.layout.config.cpus c.in-Ok.calls.items c.requires.cpus c.in-Ok.ensures.merged);
+}

@@ -4,18 +4,10 @@ use Rattle.ghost_spec.specs.States.{ghost_state}
 use Rattle.trace_race.proofs.Judging.{leads_last, leads_on}
 use Rattle.trace_race.proofs.judged.judge_all.Goals as goal
 
-pub loop-i-preserved-in_default : goal.loop-i-preserved-in_default
-loop-i-preserved-in_default c = record {
-  kept = c.in_ok-told.ensures.kept;
-  layout = c.judged_next.ensures.layout ∙ c.loop-i.invariant.layout;
-  judged = leads_on _ _ (ghost_state c.args.state) (ghost_state c.loop-i.state) (ghost_state c.judged_next.new.state) c.args.calls.now c.loop-i.found.items _ c.loop-i.i _ _ (ap layout_of c.loop-i.invariant.layout) c.loop-i-test.true (search rules) c.in_ok-told.ensures.judged c.loop-i.invariant.judged;
-}
-
 pub loop-i-preserved : goal.loop-i-preserved
 loop-i-preserved c = record {
-  kept = c.in_ok-told.ensures.kept;
-  layout = c.judged_next.ensures.layout ∙ c.loop-i.invariant.layout;
-  judged = leads_on _ _ (ghost_state c.args.state) (ghost_state c.loop-i.state) (ghost_state c.judged_next.new.state) c.args.calls.now c.loop-i.found.items _ c.loop-i.i _ _ (ap layout_of c.loop-i.invariant.layout) c.loop-i-test.true (search rules) c.in_ok-told.ensures.judged c.loop-i.invariant.judged;
+  layout = c.in_ok-after.ensures.layout ∙ c.loop-i.invariant.layout;
+  judged = leads_on _ _ (ghost_state c.args.state) (ghost_state c.loop-i.state) (ghost_state c.in_ok-after.after) c.args.calls.now c.loop-i.found.items _ c.loop-i.i _ _ (ap layout_of c.loop-i.invariant.layout) c.loop-i-test.true (search rules) c.in_ok-after.ensures.judged c.loop-i.invariant.judged;
 }
 
 pub returns : goal.returns

@@ -21,7 +21,7 @@ pub returns-clause-step : goal.returns-clause-step
 returns-clause-step g c = c.step-reply.ensures.step
 
 pub returns-clause-after : goal.returns-clause-after
-returns-clause-after g c = record { state = c.in-Ok.ensures.state; layout = c.in-Ok.ensures.layout; kept = c.in-Ok.ensures.kept }
+returns-clause-after g c = record { state = c.in-Ok.ensures.state; layout = c.in-Ok.ensures.layout }
 
 pub returns-in_err-before-clause-step : goal.returns-in_err-before-clause-step
 returns-in_err-before-clause-step g c = failed _ _ c.from_residual.result c.from_residual.ensures.1

@@ -26,9 +26,6 @@ returns-clause-maplets g c = c.kept_and_walked_counted.ensures.maplets
 pub returns-clause-rows : goal.returns-clause-rows
 returns-clause-rows g c = c.kept_and_walked_counted.ensures.rows
 
-pub returns-clause-kept : goal.returns-clause-kept
-returns-clause-kept g c = c.kept_and_walked_counted.ensures.kept
-
 pub returns-clause-frames : goal.returns-clause-frames
 returns-clause-frames g c = c.kept_and_walked_counted.ensures.frames
 
@@ -37,9 +34,6 @@ returns-clause-walked g c = search rules
 
 pub returns-clause-walked_layout : goal.returns-clause-walked_layout
 returns-clause-walked_layout g c = c.kept_and_walked_counted.ensures.walked_layout
-
-pub returns-clause-walked_kept : goal.returns-clause-walked_kept
-returns-clause-walked_kept g c = c.kept_and_walked_counted.ensures.walked_kept
 
 pub returns-clause-walked_frames : goal.returns-clause-walked_frames
 returns-clause-walked_frames g c = c.kept_and_walked_counted.ensures.walked_frames
