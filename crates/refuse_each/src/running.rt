@@ -74,8 +74,7 @@ fn run_once(
     map: &MemoryMap,
     config: Config,
     n: usize,
-) -> Option<Ran>
-{
+) -> Option<Ran> {
     let mut world = World::boot(global, global, map, config).ok()?;
     let steps = asked_of(global, course, world.cpus())?;
     let Ok(begun) = world.to_ghost(global) else {
@@ -91,8 +90,7 @@ fn run_once(
 
 /// Whether a run is refused only where a request was, and any other has the model's replies, but for one step that wanted memory
 /// where a request was refused. That a refused run has made no step, and any other just these calls, is proved (`World::run`).
-fn is_right(global: Global, ran: Ran) -> Option<bool>
-{
+fn is_right(global: Global, ran: Ran) -> Option<bool> {
     let Ran { begun, calls, met } = ran;
     let Some(calls) = calls else {
         return Some(met);

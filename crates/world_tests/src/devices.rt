@@ -1,4 +1,6 @@
 //! Readers and writers that fail at each of their calls in turn, and move few bytes at a time.
+ghost use Rattle.std.specs.Prelude.{◌≤◌, IfOk};
+
 use cpu_threads::Open;
 use std::alloc::Global;
 use std::io::{Cursor, Error, ErrorKind, Read, Write};
@@ -40,7 +42,9 @@ impl Calls {
     }
 
     /// How many of so many bytes the next call moves.
-    fn next(&mut self, asked: usize) -> Result<usize, ErrorKind> {
+    fn next(&mut self, asked: usize) -> Result<usize, ErrorKind>
+        ensures { IfOk result (λ count. count ≤ asked) }
+    {
         if self.is_next {
             self.is_next = false;
             return Err(ErrorKind::Interrupted);

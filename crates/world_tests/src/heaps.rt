@@ -70,7 +70,13 @@ fn fill<'a>(
 }
 
 /// Compares the free frames, a look at the host's page, and what an audit finds.
-fn expect_state(rt: &impl Abort, global: Global, world: &mut World<&LocalHeap>, free: usize, is_shared: bool) {
+fn expect_state(
+    rt: &impl Abort,
+    global: Global,
+    world: &mut World<&LocalHeap>,
+    free: usize,
+    is_shared: bool,
+) {
     assert!(rt; world.parts().shared.pool.free() == free);
     let look = made(rt, world, Step::HostTranslate { page: 0x40100 });
     assert!(rt; is_shared != (look == Reply::Done(Value::Entry(Entry::Unmapped))));

@@ -1,11 +1,11 @@
 //! What the judge says of a step.
 ghost use Rattle.std.specs.Prelude.{◌≡◌, ◌<◌};
-ghost use Rattle.ghost_spec.specs.States.{IsKept};
 
 use crate::expect::expect_told;
 use crate::sample::{memory, started};
 use ghost_judge::disagreement::{Disagreement, TreeOf};
 use ghost_judge::judge::{differs, judge};
+use ghost_spec::lists::GhostLists;
 use ghost_spec::state::Ghost;
 use page_state::{Entry, Frame, Kind, Owner, Page, PageRange, Prot, Row, State, Usage};
 use std::alloc::Global;
@@ -14,8 +14,7 @@ use step_reply::{Refusal, Reply, Step, Value};
 
 /// The boot state of two CPUs.
 fn booted(rt: &impl Abort, alloc: Global) -> Ghost
-    ensures kept { IsKept result }
-    ensures cpus { result.layout.config.cpus ≡ 2 }
+    ensures { result.layout.config.cpus ≡ 2 }
 {
     let map = memory(alloc, 0x40).expect(rt, "a memory");
     let made = started(alloc, map, 2, 64).expect(rt, "memory");
@@ -33,69 +32,33 @@ enum Change {
     Room,
 }
 
-/// The shared pool loses its last frame.
-fn lose_frame(state: &mut Ghost)
-    requires { IsKept state.old }
-    ensures kept { IsKept state.new }
-    ensures layout { state.new.layout ≡ state.old.layout }
-{
-    state.shared.free.pop();
-}
+/// The frame that the second CPU holds.
+const HELD: PageRange = PageRange {
+    first: Page(0x40100),
+    count: 1,
+};
 
-/// The guest of a slot gets another generation.
-fn renew_guest(state: &mut Ghost)
-    requires { IsKept state.old }
-    ensures kept { IsKept state.new }
-    ensures layout { state.new.layout ≡ state.old.layout }
-{
-    state.guests[3].generation = 9;
-}
-
-/// The slot gets another generation.
-fn renew_slot(state: &mut Ghost)
-    requires { IsKept state.old }
-    ensures kept { IsKept state.new }
-    ensures layout { state.new.layout ≡ state.old.layout }
-{
-    state.vms[3].generation = 9;
-}
-
-/// The second CPU holds frames.
-fn hold(state: &mut Ghost)
-    requires kept { IsKept state.old }
-    requires cpus { 1 < state.old.layout.config.cpus }
-    ensures kept { IsKept state.new }
-    ensures layout { state.new.layout ≡ state.old.layout }
-{
-    state.cpus[1].hand = Some(PageRange {
-        first: Page(0x40100),
-        count: 1,
-    });
-}
-
-/// More calls can be stored.
-fn widen(state: &mut Ghost)
-    requires { IsKept state.old }
-    ensures kept { IsKept state.new }
-    ensures layout { state.new.layout ≡ state.old.layout }
-{
-    state.rooms.shared = 99;
-}
-
-fn make(state: &mut Ghost, change: Change)
-    requires kept { IsKept state.old }
-    requires cpus { 1 < state.old.layout.config.cpus }
-    ensures kept { IsKept state.new }
-    ensures layout { state.new.layout ≡ state.old.layout }
-{
+/// Makes a change.
+fn make(rt: &impl Abort, lists: &mut GhostLists, change: Change) {
+    assert!(rt; lists.guests.len() == 64 && lists.vms.len() == 64);
+    assert!(rt; lists.cpus.len() == 2);
     match change {
         Change::Nothing => {}
-        Change::Pool => lose_frame(state),
-        Change::Guest => renew_guest(state),
-        Change::Slot => renew_slot(state),
-        Change::Cpu => hold(state),
-        Change::Room => widen(state),
+        Change::Pool => {
+            lists.shared.free.pop();
+        }
+        Change::Guest => lists.guests[3].generation = 9,
+        Change::Slot => lists.vms[3].generation = 9,
+        Change::Cpu => lists.cpus[1].hand = Some(HELD),
+        Change::Room => lists.rooms.shared = 99,
     }
+}
+
+/// A state with a change.
+fn changed(rt: &impl Abort, alloc: Global, state: &Ghost, change: Change) -> Ghost {
+    let mut lists = state.copied(alloc).expect(rt, "memory").into_lists();
+    make(rt, &mut lists, change);
+    Ghost::of(alloc, &lists).ok().expect(rt, "a state")
 }
 
 /// Compares the first difference from this state of one that is changed.
@@ -105,14 +68,9 @@ fn expect_change_of(
     spec: &Ghost,
     change: Change,
     wanted: Option<Disagreement>,
-)
-    requires kept { IsKept spec.now }
-    requires cpus { 1 < spec.now.layout.config.cpus }
-{
-    let mut post = spec.copied(alloc).expect(rt, "memory");
-    make(&mut post, change);
-    let told = differs(alloc, &post, spec).expect(rt, "memory");
-    expect_told(rt, told, wanted);
+) {
+    let post = changed(rt, alloc, spec, change);
+    expect_told(rt, differs(&post, spec), wanted);
 }
 
 /// Compares the first difference from the boot state of one that is changed.
@@ -142,11 +100,9 @@ fn expect_judged_of(
     change: Change,
     wanted: Option<Disagreement>,
 )
-    requires kept { IsKept pre.now }
-    requires cpus { 1 < pre.now.layout.config.cpus }
+    requires { 0 < pre.now.layout.config.cpus }
 {
-    let mut post = pre.copied(alloc).expect(rt, "memory");
-    make(&mut post, change);
+    let post = changed(rt, alloc, pre, change);
     let told = judge(alloc, pre, 0, step, &reply, &post).expect(rt, "memory");
     expect_told(rt, told, wanted);
 }

@@ -9,7 +9,7 @@ mod devices;
 #[cfg(test)]
 mod expect;
 #[cfg(test)]
-mod gate_calls;
+mod handmade;
 #[cfg(test)]
 mod heaps;
 #[cfg(test)]

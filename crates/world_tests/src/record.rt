@@ -11,8 +11,9 @@ use crate::sample::{config, memory};
 use component::Component;
 use ghost_oracle::record::record;
 use ghost_spec::cpu::GhostCpu;
+use ghost_spec::lists::{GhostLists, GhostRooms};
 use ghost_spec::shared::Shared;
-use ghost_spec::state::{Ghost, GhostRooms};
+use ghost_spec::state::Ghost;
 use ghost_trees::tree::Table;
 use guest_steps::{CpuState, Log, SharedPart};
 use hyp_pool::{Pool, laws};
@@ -226,7 +227,7 @@ fn expect_rooms(rt: &impl Abort, told: &GhostRooms, vms: u64, shared: u64, cpus:
 }
 
 /// Compares what is recorded of CPUs, logs and what isn't given.
-fn expect_rest(rt: &impl Abort, told: &Ghost) {
+fn expect_rest(rt: &impl Abort, told: &GhostLists) {
     expect_cpus(rt, told.cpus.as_slice());
     expect_rooms(rt, &told.rooms, 9, 5, [9, 7].as_slice());
     assert!(rt; told.vms.len() == 64);
@@ -246,6 +247,6 @@ fn shared_recorded(rt: &impl Abort, alloc: Global, layout: &Layout) -> Ghost
 fn records_what_is_given_alone(rt: HostRuntime) {
     let layout = layout(&rt, rt.alloc());
     let told = shared_recorded(&rt, rt.alloc(), &layout);
-    expect_shared(&rt, &told.shared);
-    expect_rest(&rt, &told);
+    expect_shared(&rt, &told.lists().shared);
+    expect_rest(&rt, told.lists());
 }

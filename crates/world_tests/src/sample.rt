@@ -1,7 +1,6 @@
 //! What tests begin with: memory, a configuration, and the boot state on lists.
 ghost use Rattle.std.specs.Prelude.{◌≡◌, ◌<◌, ◌↔◌, [], ◌∷◌, IfOk, IfSome, IsSome};
 ghost use Rattle.reference_model.specs.Boot.{IsCarveEnough};
-ghost use Rattle.ghost_spec.specs.States.{IsKept};
 
 use ghost_spec::start::start;
 use ghost_spec::state::Ghost;
@@ -60,7 +59,6 @@ pub(crate) fn started(
     ensures enough { IfOk result (λ o. IsSome o ↔ IsCarveEnough (record { memory = map; config = record { cpus = cpus; log = log; geometry = 39 }; depth = 2 })) }
     ensures config { IfOk result (λ o. IfSome o (λ g. g.layout.config ≡ record { cpus = cpus; log = log; geometry = 39 })) }
     ensures memory { IfOk result (λ o. IfSome o (λ g. g.layout.map ≡ map)) }
-    ensures kept { IfOk result (λ o. IfSome o IsKept) }
 {
     let layout = Layout {
         map,

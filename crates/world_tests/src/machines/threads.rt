@@ -1,6 +1,5 @@
 //! CPUs on threads of their own.
 ghost use Rattle.std.specs.Prelude.{◌≡◌, ◌<◌, ◌^◌, IfOk, OnOk};
-ghost use Rattle.ghost_spec.specs.States.{IsKept};
 ghost use Rattle.part_table.specs.Passes.{IsPassOf};
 ghost use Rattle.cpu_threads.specs.Ends.{AreOf};
 
@@ -11,7 +10,7 @@ use super::*;
 use crate::held::Held;
 use crate::numbers::Numbers;
 use crate::sample::started;
-use ghost_spec::state::Ghost;
+use ghost_spec::state::{Ghost, predict_last};
 use std::alloc::AllocError;
 use std::sync::atomic::{AtomicU64, Ordering};
 use std::thread;
@@ -204,32 +203,29 @@ fn ready_passes<R: Wait + Abort>(
     Ok(passes)
 }
 
-/// Makes a call on lists, and compares its reply.
+/// Makes a call on a state, and compares its reply.
 fn agrees(
     rt: &impl Abort,
     alloc: Global,
-    lists: &mut Ghost,
+    state: Ghost,
     call: &(u64, Step, Reply),
-) -> Result<(), AllocError>
-    requires kept { IsKept lists.old }
-    ensures kept { OnOk result (IsKept lists.new) }
-{
+) -> Result<Ghost, AllocError> {
     let (cpu, step, reply) = *call;
-    assert!(rt; cpu < lists.layout.config.cpus);
-    let foretold = lists.advance(alloc, cpu, step)?;
+    assert!(rt; cpu < state.lists().layout.config.cpus);
+    let (foretold, after) = predict_last(alloc, state, cpu, step)?;
     assert_eq!(rt; reply, foretold);
-    Ok(())
+    Ok(after)
 }
 
-/// Makes the calls of one list on lists, from boot on.
+/// Makes the calls of a list on a state, from boot on.
 fn all_agree(rt: &impl Abort, alloc: Global, calls: &[(u64, Step, Reply)]) {
     let map = memory(alloc, 0x40).expect(rt, "a layout");
     let begun = started(alloc, map, CPUS, LOG).expect(rt, "memory");
-    let mut lists = begun.expect(rt, "enough frames");
+    let mut state = begun.expect(rt, "enough frames");
     for call in calls {
-        agrees(rt, alloc, &mut lists, call).expect(rt, "memory");
+        state = agrees(rt, alloc, state, call).expect(rt, "memory");
     }
-    drop(lists);
+    drop(state);
 }
 
 #[test]

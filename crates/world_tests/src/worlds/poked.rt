@@ -3,7 +3,7 @@ ghost use Rattle.std.specs.Prelude.{◌≡◌, ◌<◌, None, replicate};
 
 use super::booted;
 use descriptor::{Frame, Kind, Prot, State};
-use ghost_judge::audit::audit;
+use ghost_judge::audit::audit_lists;
 use ghost_judge::disagreement::{Disagreement, TreeOf};
 use ghost_oracle::pokes::no_pokes;
 use ghost_oracle::raw::{RawGuest, Which};
@@ -45,7 +45,7 @@ fn share(rt: &impl Abort, alloc: Global, world: &mut World<Global>)
 /// Compares the entry of the page that the world keeps.
 fn expect_shared(rt: &impl Abort, alloc: Global, world: &World<Global>) {
     let kept = world.to_ghost(alloc).expect(rt, "memory");
-    let entry = runs::at(kept.shared.host.runs.as_slice(), Page(0x40100));
+    let entry = runs::at(kept.lists().shared.host.runs.as_slice(), Page(0x40100));
     drop(kept);
     assert!(rt; entry == SHARED);
 }
@@ -88,7 +88,7 @@ fn poke_again(rt: &impl Abort, world: RawWorld<Global>, word: u64) -> RawWorld<G
 fn difference(rt: &impl Abort, alloc: Global, world: &RawWorld<Global>) -> Option<Disagreement> {
     let kept = world.to_ghost(alloc).expect(rt, "memory");
     let walked = world.recompute(alloc).expect(rt, "memory");
-    let found = audit(&kept, &walked);
+    let found = audit_lists(&kept, &walked);
     drop((kept, walked));
     found
 }
