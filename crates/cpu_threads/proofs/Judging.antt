@@ -27,11 +27,11 @@ use Rattle.part_table.specs.Made.{IsMade}
 use Rattle.part_table.specs.Parts.{HoldsGuest, HoldsShared, IsGuest, IsOwn, IsPart, IsShared, IsVms, uses}
 use Rattle.part_table.specs.Known.{Known}
 use Rattle.part_table.proofs.Stepping.{some_same}
-use Rattle.ghost_spec.specs.declared.state.Ghost.{Ghost}
-use Rattle.ghost_spec.specs.States.{IsKept, contents_in, ghost_state}
+use Rattle.ghost_spec.specs.declared.lists.GhostLists.{GhostLists}
+use Rattle.ghost_spec.specs.States.{contents_in, ghost_state}
 use Rattle.ghost_judge.specs.Judgements.{JudgeAgrees, StepsAgree, told_of}
 use Rattle.ghost_oracle.specs.Recorded.{Given, given, put_given, recorded}
-use Rattle.cpu_threads.specs.Judged.{Asked, AsksOnce, CanJudge, IsJudged, IsOfKind, IsRecordOf, both_in, given_at, lent_guest, lent_shared, lent_vms}
+use Rattle.cpu_threads.specs.Judged.{Asked, AsksOnce, IsJudged, IsOfKind, IsRecordOf, both_in, given_at, lent_guest, lent_shared, lent_vms}
 
 pub if_some : {X : Type 0} {P Q : X → Type 0} (o : Option X) → ((x : X) → P x → Q x) → IfSome o P → IfSome o Q
 if_some None f h = tt
@@ -152,7 +152,7 @@ module _ {A : Type 0} (l : Layout) where
   not_held c before only k (Some z) i u = absurd (true≢false (sym (only k z i) ∙ u))
 
   -- so `judge` agrees
-  pub agrees : StepsAgree → (c : Call) (cpu : ℕ) (before after : ℕ → Option (Slot A)) (own owned : CpuState) (pre post : Ghost) → c.cpu ≡ cpu → IsLeft l cpu own before → ((k : ℕ) (x : Slot A) → before k ≡ Some x → uses c k ≡ true)
+  pub agrees : StepsAgree → (c : Call) (cpu : ℕ) (before after : ℕ → Option (Slot A)) (own owned : CpuState) (pre post : GhostLists) → c.cpu ≡ cpu → IsLeft l cpu own before → ((k : ℕ) (x : Slot A) → before k ≡ Some x → uses c k ≡ true)
       → Does l c before own after owned → IsRecordOf l before own pre → IsRecordOf l after owned post → JudgeAgrees (contents_in pre) c.step c.reply (contents_in post) (told_of pre cpu c.step)
   agrees law c cpu before after own owned pre post by left only does first last =
       let x : Given A = first.parts in
@@ -215,7 +215,7 @@ module _ {A : Type 0} where
 
   -- the record of what was given so
   pub record_of : (l : Layout) (held : ℕ → Option (Slot A)) (own : CpuState) {V : Option VmPart} {S : Option (SharedPart A)} {G : Option (ℕ × GuestPart A)} (vms : Option VmPart) (shared : Option (SharedPart A)) (guest : Option (ℕ × GuestPart A))
-      → V ≡ vms → S ≡ shared → G ≡ guest → ((j : ℕ) → given_at (given vms shared guest own) j ≡ held j) → (g : Ghost) → ghost_state g ≡ recorded (given V S G own) l → layout_of g.layout ≡ l → IsRecordOf l held own g
+      → V ≡ vms → S ≡ shared → G ≡ guest → ((j : ℕ) → given_at (given vms shared guest own) j ≡ held j) → (g : GhostLists) → ghost_state g ≡ recorded (given V S G own) l → layout_of g.layout ≡ l → IsRecordOf l held own g
   record_of l held own vms shared guest a b d all g state layout = record {
     parts = given vms shared guest own;
     all = all;
@@ -234,8 +234,8 @@ judged_of takes law step reply v w from to m = record {
 }
 
 -- what a judge was asked, by two records
-module _ {E : Type 0} (pre post : Result Ghost E) where
-  both_states : (P Q : Ghost → Type 0) (pre post : Result Ghost E) → IfOk pre P → IfOk post Q → IfSome (both_in pre post) (λ s. P s.0 × Q s.1)
+module _ {E : Type 0} (pre post : Result GhostLists E) where
+  both_states : (P Q : GhostLists → Type 0) (pre post : Result GhostLists E) → IfOk pre P → IfOk post Q → IfSome (both_in pre post) (λ s. P s.0 × Q s.1)
   both_states P Q (Ok a) (Ok b) h k = (h, k)
   both_states P Q (Ok a) (Err e) h k = tt
   both_states P Q (Err e) other h k = tt
@@ -244,12 +244,6 @@ module _ {E : Type 0} (pre post : Result Ghost E) where
       → IfOk pre (IsRecordOf (layout_of l) before own) → IfOk post (IsRecordOf (layout_of l) after owned) → AsksOnce takes l before own c after owned from to
   asks_of takes l before after own owned c from to t h k = record { asked = record { cpu = c.cpu; step = c.step; reply = c.reply; states = both_in pre post }; takes_it = t; cpu = refl; step = refl; reply = refl; states = both_states _ _ pre post h k }
 
-  -- `judge` may be asked of two records
-  pub can_judge : {A : Type 0} (l : TheLayout) (cpu : ℕ) (before after : ℕ → Option (Slot A)) (own owned : CpuState) → cpu < l.config.cpus → IfOk pre (IsRecordOf (layout_of l) before own) → IfOk pre IsKept → IfOk post (IsRecordOf (layout_of l) after owned) → IfOk post IsKept
-      → IfOk pre (λ a. IfOk post (λ b. CanJudge a cpu b))
-  can_judge l cpu before after own owned known h i k j = if_ok_both pre (λ a r a_kept. if_ok_both post (λ b q b_kept. record {
-    known = subst (λ (m : Layout). cpu < m.config.cpus) (sym r.layout) known;
-    pre_kept = a_kept;
-    post_kept = b_kept;
-    layout = q.layout ∙ sym r.layout;
-  }) k j) h i
+  -- the CPU is one of the record's layout
+  pub known_in : {A : Type 0} (l : TheLayout) (cpu : ℕ) (before : ℕ → Option (Slot A)) (own : CpuState) → cpu < l.config.cpus → IfOk pre (IsRecordOf (layout_of l) before own) → IfOk pre (λ a. cpu < a.layout.config.cpus)
+  known_in l cpu before own known h = if_ok pre (λ a r. subst (λ (m : Layout). cpu < m.config.cpus) (sym r.layout) known) h

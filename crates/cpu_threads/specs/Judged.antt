@@ -16,8 +16,8 @@ use Rattle.part_table.specs.declared.slot.Slot.TheVariants.{Vm as VmSlot, Shared
 use Rattle.part_table.specs.Made.{IsMade}
 use Rattle.part_table.specs.Parts.{HoldsGuest, HoldsShared, HoldsVms}
 use Rattle.part_table.specs.Known.{Known}
-use Rattle.ghost_spec.specs.declared.state.Ghost.{Ghost}
-use Rattle.ghost_spec.specs.States.{IsKept, contents_in, ghost_state}
+use Rattle.ghost_spec.specs.declared.lists.GhostLists.{GhostLists}
+use Rattle.ghost_spec.specs.States.{contents_in, ghost_state}
 use Rattle.ghost_judge.specs.Judgements.{JudgeAgrees, told_of}
 use Rattle.ghost_oracle.specs.Low.{IsLowCpu, IsLowGuest}
 use Rattle.ghost_oracle.specs.Recorded.{Given, put_given, recorded}
@@ -27,26 +27,19 @@ pub record Asked : Type 0 where
   pub cpu : ℕ
   pub step : Step
   pub reply : Reply
-  pub states : Option (Ghost × Ghost)
+  pub states : Option (GhostLists × GhostLists)
 
-abbrev pub shown : ℕ → Step → Reply → Ghost → Ghost → Asked
+abbrev pub shown : ℕ → Step → Reply → GhostLists → GhostLists → Asked
 shown cpu step reply pre post = record { cpu = cpu; step = step; reply = reply; states = Some (pre, post) }
 
 abbrev pub untold : ℕ → Step → Reply → Asked
 untold cpu step reply = record { cpu = cpu; step = step; reply = reply; states = None }
 
 -- both records, where memory was refused to neither
-abbrev pub both_in : {E : Type 0} → Result Ghost E → Result Ghost E → Option (Ghost × Ghost)
+abbrev pub both_in : {E : Type 0} → Result GhostLists E → Result GhostLists E → Option (GhostLists × GhostLists)
 both_in (Ok pre) (Ok post) = Some (pre, post)
 both_in (Ok pre) (Err why) = None
 both_in (Err why) other = None
-
--- what `judge` requires of two states and a CPU
-pub record CanJudge (pre : Ghost) (cpu : ℕ) (post : Ghost) : Type 0 where
-  pub known : cpu < pre.layout.config.cpus
-  pub pre_kept : IsKept pre
-  pub post_kept : IsKept post
-  pub layout : layout_of post.layout ≡ layout_of pre.layout
 
 module _ {A : Type 0} where
   -- what is given to a record, by number
@@ -69,7 +62,7 @@ module _ {A : Type 0} where
   lent_guest v other = None
 
   -- the state on lists is the record of these parts, by number, and of the CPU's own state
-  pub record IsRecordOf (l : Layout) (held : ℕ → Option (Slot A)) (own : CpuState) (g : Ghost) : Type 0 where
+  pub record IsRecordOf (l : Layout) (held : ℕ → Option (Slot A)) (own : CpuState) (g : GhostLists) : Type 0 where
     pub parts : Given A
     pub all : (k : ℕ) → given_at parts k ≡ held k
     pub own_is : parts.own ≡ own

@@ -3,11 +3,10 @@ ghost use Rattle.std.specs.Prelude.{◌≡◌, ◌≢◌, ◌<◌, ◌+◌, ◌�
 ghost use Rattle.std.specs.Option.{option_copied, option_map};
 ghost use Rattle.guest_steps.specs.View.{cpu_of};
 ghost use Rattle.hypercalls.specs.Uses.{uses_of};
-ghost use Rattle.ghost_spec.specs.States.{IsKept};
 ghost use Rattle.page_state.specs.LayoutView.{layout_of};
 ghost use Rattle.part_table.specs.Does.{both_at, Does, IsCalled, IsLeft, none_at, only_at};
 ghost use Rattle.part_table.specs.Parts.{in_order, log_of, parts};
-ghost use Rattle.cpu_threads.specs.Judged.{AsksOnce, CanJudge, CanRecord, IsRecordOf, both_in, lent_guest, lent_shared, lent_vms, shown, untold};
+ghost use Rattle.cpu_threads.specs.Judged.{AsksOnce, CanRecord, IsRecordOf, both_in, lent_guest, lent_shared, lent_vms, shown, untold};
 
 use ghost_oracle::record::record;
 use ghost_spec::state::Ghost;
@@ -27,7 +26,7 @@ pub trait Judge {
     /// A call of a CPU was made: the records of the parts that it uses and of the CPU before and after it. They are still
     /// held.
     fn judged(&mut self, pre: &Ghost, cpu: u64, step: &Step, reply: &Reply, post: &Ghost)
-        requires { CanJudge pre.now cpu post.now }
+        requires { cpu < pre.now.layout.config.cpus }
         ensures { takes self.old (shown cpu step.now reply.now pre.now post.now) self.new };
 
     /// A call of a CPU was made, and memory was refused to a record.
@@ -81,8 +80,7 @@ fn record_own<A: Allocator>(
 ) -> Result<Ghost, AllocError>
     requires known { cpu.now.id < layout.now.config.cpus }
     requires low { CanRecord {A = A} none_at cpu.now }
-    ensures record { IfOk result (IsRecordOf {A = A} (layout_of layout.now) none_at cpu.now) }
-    ensures kept { IfOk result IsKept }
+    ensures { IfOk result (IsRecordOf {A = A} (layout_of layout.now) none_at cpu.now) }
 {
     record::<Global>(global, layout, None, None, None, cpu)
 }
@@ -98,8 +96,7 @@ fn record_part<A: Allocator>(
     requires known { cpu.now.id < layout.now.config.cpus }
     requires part { k < parts }
     requires low { CanRecord (only_at k slot.now) cpu.now }
-    ensures record { IfOk result (IsRecordOf (layout_of layout.now) (only_at k slot.now) cpu.now) }
-    ensures kept { IfOk result IsKept }
+    ensures { IfOk result (IsRecordOf (layout_of layout.now) (only_at k slot.now) cpu.now) }
 {
     let vms = vms_lent(slot);
     let shared = shared_lent(slot);
@@ -119,8 +116,7 @@ fn record_both<A: Allocator>(
     requires known { cpu.now.id < layout.now.config.cpus }
     requires part { v + 2 < parts }
     requires low { CanRecord (both_at (v + 2) guest.now 1 shared.now) cpu.now }
-    ensures record { IfOk result (IsRecordOf (layout_of layout.now) (both_at (v + 2) guest.now 1 shared.now) cpu.now) }
-    ensures kept { IfOk result IsKept }
+    ensures { IfOk result (IsRecordOf (layout_of layout.now) (both_at (v + 2) guest.now 1 shared.now) cpu.now) }
 {
     record(
         global,
@@ -139,7 +135,7 @@ fn ask<J: Judge>(
     call: &Call,
     post: &Result<Ghost, AllocError>,
 )
-    requires { IfOk pre.now (λ a. IfOk post.now (λ b. CanJudge a call.now.cpu b)) }
+    requires { IfOk pre.now (λ a. call.now.cpu < a.layout.config.cpus) }
     ensures { J.takes judge.old (record { cpu = call.now.cpu; step = call.now.step; reply = call.now.reply; states = both_in pre.now post.now }) judge.new }
 {
     match (pre, post) {

@@ -12,8 +12,8 @@ record-requires-clause-guest g c =
     let k = c.args.v + 2 in
     if_some c.guest_lent.result (λ x e. c.requires.low.guests k x.1.now (at_first k 1 c.args.guest.now c.args.shared.now ∙ ap Some e)) c.guest_lent.ensures.part
 
-pub returns-clause-record : goal.returns-clause-record
-returns-clause-record g c =
+pub returns : goal.returns
+returns g c =
     let k = c.args.v + 2 in
     let x = c.args.shared.now in
     let y = c.args.guest.now in

@@ -9,8 +9,8 @@ use Rattle.cpu_threads.proofs.judged.record_part.Goals as goal
 pub record-requires-clause-guest : goal.record-requires-clause-guest
 record-requires-clause-guest g c = if_some c.guest_lent-guest.result (λ x e. c.requires.low.guests c.args.k x.1.now (only_here c.args.k c.args.slot.now ∙ ap Some e)) c.guest_lent-guest.ensures.part
 
-pub returns-clause-record : goal.returns-clause-record
-returns-clause-record g c =
+pub returns : goal.returns
+returns g c =
     let k = c.args.k in
     let z = c.args.slot.now in
     if_ok_both c.record.result (λ x state layout. record_of (layout_of c.args.layout.now) (only_at k z) c.args.cpu.now (lent_vms z) (lent_shared z) (lent_guest (k - 2) z) c.vms_lent-vms.ensures c.shared_lent-shared.ensures

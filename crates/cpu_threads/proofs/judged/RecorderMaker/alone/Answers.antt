@@ -1,7 +1,7 @@
 use Rattle.std.proofs.Common.{◌<◌, ◌∙◌, subst, sym}
 use Rattle.page_state.specs.LayoutView.{layout_of}
 use Rattle.part_table.specs.Does.{only_at}
-use Rattle.cpu_threads.proofs.Judging.{asks_of, can_judge}
+use Rattle.cpu_threads.proofs.Judging.{asks_of, known_in}
 use Rattle.cpu_threads.proofs.Recordable.{can_after, can_before, id_after}
 use Rattle.cpu_threads.proofs.judged.RecorderMaker.alone.Goals as goal
 
@@ -21,9 +21,9 @@ record_part-post-requires-clause-low g c =
 pub ask-requires : goal.ask-requires
 ask-requires g c =
     let e = c.alone-slot.ensures in
-    can_judge c.record_part-pre.result c.record_part-post.result c.args.layout.now c.alone-slot.result.1.cpu (only_at c.args.k c.args.slot) (only_at c.args.k c.alone-slot.result.0) c.args.cpu.now c.alone-slot.new.cpu (subst (λ n. n < c.args.layout.now.config.cpus) (sym e.call.by) c.requires.known)
-    c.record_part-pre.ensures.record c.record_part-pre.ensures.kept c.record_part-post.ensures.record c.record_part-post.ensures.kept
+    known_in c.record_part-pre.result c.record_part-post.result c.args.layout.now c.alone-slot.result.1.cpu (only_at c.args.k c.args.slot) c.args.cpu.now (subst (λ n. n < c.args.layout.now.config.cpus) (sym e.call.by) c.requires.known)
+    c.record_part-pre.ensures
 
 pub returns-clause-told : goal.returns-clause-told
 returns-clause-told g c =
-    asks_of c.record_part-pre.result c.record_part-post.result g.J.Judge.takes c.args.layout.now (only_at c.args.k c.args.slot) (only_at c.args.k c.alone-slot.result.0) c.args.cpu.now c.alone-slot.new.cpu c.alone-slot.result.1 c.args.told.now c.ask.new.judge c.ask.ensures c.record_part-pre.ensures.record c.record_part-post.ensures.record
+    asks_of c.record_part-pre.result c.record_part-post.result g.J.Judge.takes c.args.layout.now (only_at c.args.k c.args.slot) (only_at c.args.k c.alone-slot.result.0) c.args.cpu.now c.alone-slot.new.cpu c.alone-slot.result.1 c.args.told.now c.ask.new.judge c.ask.ensures c.record_part-pre.ensures c.record_part-post.ensures

@@ -1,7 +1,7 @@
 use Rattle.std.proofs.Common.{◌<◌, ◌+◌, ◌∙◌, subst, sym}
 use Rattle.page_state.specs.LayoutView.{layout_of}
 use Rattle.part_table.specs.Does.{both_at}
-use Rattle.cpu_threads.proofs.Judging.{asks_of, can_judge}
+use Rattle.cpu_threads.proofs.Judging.{asks_of, known_in}
 use Rattle.cpu_threads.proofs.Recordable.{can_after, can_before, id_after}
 use Rattle.cpu_threads.proofs.judged.RecorderMaker.both.Goals as goal
 
@@ -21,9 +21,9 @@ record_both-post-requires-clause-low g c =
 pub ask-requires : goal.ask-requires
 ask-requires g c =
     let e = c.both-shared.ensures in
-    can_judge c.record_both-pre.result c.record_both-post.result c.args.layout.now c.both-shared.result.2.cpu (both_at (c.args.v + 2) c.args.guest 1 c.args.shared) (both_at (c.args.v + 2) c.both-shared.result.1 1 c.both-shared.result.0) c.args.cpu.now c.both-shared.new.cpu (subst (λ n. n < c.args.layout.now.config.cpus) (sym e.call.by) c.requires.known)
-    c.record_both-pre.ensures.record c.record_both-pre.ensures.kept c.record_both-post.ensures.record c.record_both-post.ensures.kept
+    known_in c.record_both-pre.result c.record_both-post.result c.args.layout.now c.both-shared.result.2.cpu (both_at (c.args.v + 2) c.args.guest 1 c.args.shared) c.args.cpu.now (subst (λ n. n < c.args.layout.now.config.cpus) (sym e.call.by) c.requires.known)
+    c.record_both-pre.ensures
 
 pub returns-clause-told : goal.returns-clause-told
 returns-clause-told g c =
-    asks_of c.record_both-pre.result c.record_both-post.result g.J.Judge.takes c.args.layout.now (both_at (c.args.v + 2) c.args.guest 1 c.args.shared) (both_at (c.args.v + 2) c.both-shared.result.1 1 c.both-shared.result.0) c.args.cpu.now c.both-shared.new.cpu c.both-shared.result.2 c.args.told.now c.ask.new.judge c.ask.ensures c.record_both-pre.ensures.record c.record_both-post.ensures.record
+    asks_of c.record_both-pre.result c.record_both-post.result g.J.Judge.takes c.args.layout.now (both_at (c.args.v + 2) c.args.guest 1 c.args.shared) (both_at (c.args.v + 2) c.both-shared.result.1 1 c.both-shared.result.0) c.args.cpu.now c.both-shared.new.cpu c.both-shared.result.2 c.args.told.now c.ask.new.judge c.ask.ensures c.record_both-pre.ensures c.record_both-post.ensures

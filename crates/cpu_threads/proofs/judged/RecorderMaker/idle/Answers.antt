@@ -1,7 +1,7 @@
 use Rattle.std.proofs.Common.{◌<◌, ◌∙◌, subst, sym}
 use Rattle.page_state.specs.LayoutView.{layout_of}
 use Rattle.part_table.specs.Does.{none_at}
-use Rattle.cpu_threads.proofs.Judging.{asks_of, can_judge}
+use Rattle.cpu_threads.proofs.Judging.{asks_of, known_in}
 use Rattle.cpu_threads.proofs.Recordable.{can_after, can_before, id_after}
 use Rattle.cpu_threads.proofs.judged.RecorderMaker.idle.Goals as goal
 
@@ -21,9 +21,9 @@ record_own-post-requires-clause-low g c =
 pub ask-requires : goal.ask-requires
 ask-requires g c =
     let e = c.idle-call.ensures in
-    can_judge c.record_own-pre.result c.record_own-post.result c.args.layout.now c.idle-call.result.cpu (none_at {A = g.row.A.Denot}) (none_at) c.args.cpu.now c.idle-call.new.cpu (subst (λ n. n < c.args.layout.now.config.cpus) (sym e.call.by) c.requires.known)
-    c.record_own-pre.ensures.record c.record_own-pre.ensures.kept c.record_own-post.ensures.record c.record_own-post.ensures.kept
+    known_in c.record_own-pre.result c.record_own-post.result c.args.layout.now c.idle-call.result.cpu (none_at {A = g.row.A.Denot}) c.args.cpu.now (subst (λ n. n < c.args.layout.now.config.cpus) (sym e.call.by) c.requires.known)
+    c.record_own-pre.ensures
 
 pub returns-clause-told : goal.returns-clause-told
 returns-clause-told g c =
-    asks_of c.record_own-pre.result c.record_own-post.result g.J.Judge.takes c.args.layout.now (none_at {A = g.row.A.Denot}) (none_at) c.args.cpu.now c.idle-call.new.cpu c.idle-call.result c.args.told.now c.ask.new.judge c.ask.ensures c.record_own-pre.ensures.record c.record_own-post.ensures.record
+    asks_of c.record_own-pre.result c.record_own-post.result g.J.Judge.takes c.args.layout.now (none_at {A = g.row.A.Denot}) (none_at) c.args.cpu.now c.idle-call.new.cpu c.idle-call.result c.args.told.now c.ask.new.judge c.ask.ensures c.record_own-pre.ensures c.record_own-post.ensures
