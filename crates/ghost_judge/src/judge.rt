@@ -2,6 +2,7 @@
 ghost use Rattle.std.specs.Prelude.{◌≡◌, ◌<◌, ◌↔◌, None, IfOk, IfSome, IsTrue, get_or, length, map};
 ghost use Rattle.reference_model.specs.Rules.{may_grow as may_grow_of};
 ghost use Rattle.reference_model.specs.State.{no_cpu};
+ghost use Rattle.ghost_spec.specs.Kept.{HasNextGeneration};
 ghost use Rattle.ghost_spec.specs.States.{contents_in, IsKept};
 ghost use Rattle.ghost_spec.specs.Used.{guests_in, vms_in};
 ghost use Rattle.ghost_spec.specs.Views.{cpu_in};
@@ -214,7 +215,8 @@ pub fn judge_last(
     reply: &Reply,
     post: &Ghost,
 ) -> Result<Option<Disagreement>, AllocError>
-    requires { cpu < pre.layout.config.cpus }
+    requires cpu { cpu < pre.layout.config.cpus }
+    requires generation { HasNextGeneration ((contents_in pre).cpu cpu).ticket step }
     ensures none { IfOk result (λ o. (o ≡ None) ↔ JudgeAgrees (contents_in pre) step reply.now (contents_in post.now) (told_of pre cpu step)) }
     ensures first { IfOk result (λ o. IfSome o (IsFirstJudged (contents_in pre) step reply.now (contents_in post.now) (told_of pre cpu step))) }
 {
@@ -246,7 +248,8 @@ pub fn judge(
     reply: &Reply,
     post: &Ghost,
 ) -> Result<Option<Disagreement>, AllocError>
-    requires { cpu < pre.now.layout.config.cpus }
+    requires cpu { cpu < pre.now.layout.config.cpus }
+    requires generation { HasNextGeneration ((contents_in pre.now).cpu cpu).ticket step }
     ensures none { IfOk result (λ o. (o ≡ None) ↔ JudgeAgrees (contents_in pre.now) step reply.now (contents_in post.now) (told_of pre.now cpu step)) }
     ensures first { IfOk result (λ o. IfSome o (IsFirstJudged (contents_in pre.now) step reply.now (contents_in post.now) (told_of pre.now cpu step))) }
 {

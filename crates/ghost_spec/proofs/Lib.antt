@@ -7,6 +7,7 @@ pub mod Foretold
 pub mod FoundPages
 pub mod FoundTables
 pub mod Guests
+pub mod Releases
 pub mod Rooms
 pub mod RowsAgain
 pub mod RowsKept

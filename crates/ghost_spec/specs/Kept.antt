@@ -1,5 +1,7 @@
 -- What each state on lists keeps: its runs are the coarsest, and its numbers small, so that sums are numbers of 64 bits.
-use Rattle.std.specs.Prelude.{◌≡◌, ℕ, ◌^◌, ◌<◌, ◌≤◌, [], ◌∷◌, Option, Some, None}
+use Rattle.std.specs.Prelude.{◌≡◌, ℕ, ◌+◌, ◌^◌, ◌<◌, ◌≤◌, [], ◌∷◌, Option, Some, None, IfSome}
+use Rattle.step_reply.specs.declared.step.Step.{Step}
+use Rattle.step_reply.specs.declared.step.Step.TheVariants.{VmRelease}
 use Rattle.page_state.specs.declared.entry.PageRange.{PageRange}
 use Rattle.page_state.specs.Regions.{end_of}
 use Rattle.page_state.specs.Rows.{HasPageBelow}
@@ -68,6 +70,10 @@ pub record IsKeptCpu (k : GhostCpu) : Type 0 where
   pub loaded : HasLowLoad k.loaded
   pub ticket : HasLowTicket k.ticket
 
+-- where the step releases the VM of a CPU's ticket, the generation after that VM's is a number of 64 bits
+abbrev pub HasNextGeneration : Option Ticket → Step → Type 0
+HasNextGeneration ticket step = step ≡ VmRelease → IfSome ticket (λ t. t.vm.generation + 1 < 2 ^ 64)
+
 -- a change of a map to small numbers
 abbrev pub IsSmallChange : Option MapChange → Type 0
 IsSmallChange None = Unit {0}
@@ -79,13 +85,13 @@ IsSmallPart (Install kind generation hand) = end_of hand ≤ 2 ^ 62
 IsSmallPart (Gain range) = end_of range ≤ 2 ^ 62
 IsSmallPart other = Unit {0}
 
--- what changes of the slots is one of the first n
+-- what changes of the slots is one of the first n, and a generation that rises is still a number of 64 bits
 abbrev pub FitsSlots : ℕ → SlotChange → Type 0
 FitsSlots n KeepSlots = Unit {0}
 FitsSlots n (Reserve v kind vcpus) = v < n
 FitsSlots n (Open v) = v < n
 FitsSlots n (Close v) = v < n
-FitsSlots n (Release vm) = vm.slot < n
+FitsSlots n (Release vm) = (vm.slot < n) × (vm.generation + 1 < 2 ^ 64)
 FitsSlots n (Load v i c) = v < n
 FitsSlots n (Unload v i) = v < n
 

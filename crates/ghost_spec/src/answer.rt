@@ -4,7 +4,7 @@ ghost use Rattle.page_state.specs.LayoutView.{layout_of};
 ghost use Rattle.reference_model.specs.Changes.{touched as touched_of};
 ghost use Rattle.reference_model.specs.Parts.{names, uses_vms as uses_vms_of};
 ghost use Rattle.reference_model.specs.Step.{answer as answer_of, changed as changed_of, is_short as is_short_of};
-ghost use Rattle.ghost_spec.specs.Kept.{AreSmallChanges, FitsSlots, IsLowSlot};
+ghost use Rattle.ghost_spec.specs.Kept.{AreSmallChanges, FitsSlots, HasNextGeneration, IsLowSlot};
 ghost use Rattle.ghost_spec.specs.RowsFound.{used_found};
 ghost use Rattle.ghost_spec.specs.Used.{IsKeptUsed, used_in};
 
@@ -117,6 +117,7 @@ pub(crate) fn answer(
     requires kept { IsKeptUsed used.old }
     requires slot { IsLowSlot slot }
     requires vms { uses_vms_of (names step) ≡ true → length used.old.vms.items ≡ 64 }
+    requires generation { HasNextGeneration used.old.own.ticket step }
     ensures answer { IfOk result (λ reply. (reply, used_in used.new) ≡ answer_of (layout_of layout.now) cpu slot step (used_in used.old)) }
     ensures kept { OnOk result (IsKeptUsed used.new) }
     ensures count { OnOk result (length used.new.vms.items ≡ length used.old.vms.items) }

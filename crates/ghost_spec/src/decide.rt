@@ -3,7 +3,7 @@ ghost use Rattle.std.specs.Prelude.{◌≡◌, IfOk, length, true};
 ghost use Rattle.page_state.specs.LayoutView.{layout_of};
 ghost use Rattle.reference_model.specs.Decides.{decides};
 ghost use Rattle.reference_model.specs.Parts.{names, uses_vms as uses_vms_of};
-ghost use Rattle.ghost_spec.specs.Kept.{AreSmallChanges, IsLowSlot};
+ghost use Rattle.ghost_spec.specs.Kept.{AreSmallChanges, HasNextGeneration, IsLowSlot};
 ghost use Rattle.ghost_spec.specs.Used.{IsKeptUsed, used_in};
 
 use crate::guest_rules::{
@@ -31,6 +31,7 @@ pub(crate) fn decide(
     requires kept { IsKeptUsed used.now }
     requires slot { IsLowSlot slot }
     requires vms { uses_vms_of (names step) ≡ true → length used.now.vms.items ≡ 64 }
+    requires generation { HasNextGeneration used.now.own.ticket step }
     ensures decided { result ≡ decides (layout_of layout.now) cpu slot step (used_in used.now) }
     ensures small { IfOk result AreSmallChanges }
 {

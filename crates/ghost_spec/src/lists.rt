@@ -117,7 +117,7 @@ impl GhostLists {
     ghost use Rattle.reference_model.specs.Step.{foretell, is_full as is_full_of, stored};
     ghost use Rattle.reference_model.specs.Used.{put_back as put_back_of, put_rooms, rooms_of as rooms_of_state, used_of, Used};
     ghost use Rattle.std.specs.Prelude.{length, true};
-    ghost use Rattle.ghost_spec.specs.Kept.{IsLowSlot};
+    ghost use Rattle.ghost_spec.specs.Kept.{HasNextGeneration, IsLowSlot};
     ghost use Rattle.ghost_spec.specs.States.{contents_in, ghost_state, IsKept};
     ghost use Rattle.ghost_spec.specs.Used.{IsKeptUsed, used_in};
 
@@ -233,7 +233,7 @@ impl GhostLists {
     }
 
     /// The reference step, but for want of memory: the reply, and the state becomes that after it. Where memory is refused,
-    /// or the generation of a released slot would pass 64 bits, anything may have changed.
+    /// anything may have changed.
     pub(crate) fn advance(
         &mut self,
         alloc: Global,
@@ -242,6 +242,7 @@ impl GhostLists {
     ) -> Result<Reply, AllocError>
         requires cpu { cpu < self.old.layout.config.cpus }
         requires kept { IsKept self.old }
+        requires generation { HasNextGeneration ((contents_in self.old).cpu cpu).ticket step }
         ensures foretold { IfOk result (λ reply. (reply, ghost_state self.new) ≡ foretell (layout_of self.old.layout) (ghost_state self.old) cpu step) }
         ensures layout { self.new.layout ≡ self.old.layout }
         ensures kept { OnOk result (IsKept self.new) }

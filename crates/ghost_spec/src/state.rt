@@ -1,8 +1,9 @@
 //! The reference state, and the reference step of it.
-ghost use Rattle.std.specs.Prelude.{◌≡◌, ◌<◌, IfOk};
+ghost use Rattle.std.specs.Prelude.{◌≡◌, ◌<◌, ◌↔◌, IfOk, IsTrue};
 ghost use Rattle.page_state.specs.LayoutView.{layout_of};
 ghost use Rattle.reference_model.specs.Step.{foretell};
-ghost use Rattle.ghost_spec.specs.States.{ghost_state, IsKept};
+ghost use Rattle.ghost_spec.specs.Kept.{HasNextGeneration};
+ghost use Rattle.ghost_spec.specs.States.{contents_in, ghost_state, IsKept};
 
 use crate::lists::GhostLists;
 use std::alloc::{AllocError, Global};
@@ -65,6 +66,17 @@ impl Ghost {
     }
 }
 
+/// Whether a step of a CPU can be foretold: it doesn't release a VM whose generation is the greatest u64.
+pub fn has_next_generation(state: &Ghost, cpu: u64, step: Step) -> bool
+    requires { cpu < state.now.layout.config.cpus }
+    ensures { IsTrue result ↔ HasNextGeneration ((contents_in state.now).cpu cpu).ticket step }
+{
+    match (step, state.lists().cpus[cpu as usize].ticket) {
+        (Step::VmRelease, Some(ticket)) => ticket.vm.generation < u64::MAX,
+        _ => true,
+    }
+}
+
 /// As `predict`, where the state before isn't wanted any more: it becomes the state after, and no copy is made.
 pub fn predict_last(
     alloc: Global,
@@ -72,7 +84,8 @@ pub fn predict_last(
     cpu: u64,
     step: Step,
 ) -> Result<(Reply, Ghost), AllocError>
-    requires { cpu < state.layout.config.cpus }
+    requires cpu { cpu < state.layout.config.cpus }
+    requires generation { HasNextGeneration ((contents_in state).cpu cpu).ticket step }
     ensures foretold { IfOk result (λ r. (r.0, ghost_state r.1) ≡ foretell (layout_of state.layout) (ghost_state state) cpu step) }
     ensures layout { IfOk result (λ r. r.1.layout ≡ state.layout) }
 {
@@ -84,15 +97,15 @@ pub fn predict_last(
     Ok((reply, Ghost { lists }))
 }
 
-/// The reference step, but for want of memory: the reply, and the state after it. Err where memory is refused, or the
-/// generation of a released slot would pass 64 bits.
+/// The reference step, but for want of memory: the reply, and the state after it. Err where memory is refused.
 pub fn predict(
     alloc: Global,
     state: &Ghost,
     cpu: u64,
     step: Step,
 ) -> Result<(Reply, Ghost), AllocError>
-    requires { cpu < state.now.layout.config.cpus }
+    requires cpu { cpu < state.now.layout.config.cpus }
+    requires generation { HasNextGeneration ((contents_in state.now).cpu cpu).ticket step }
     ensures foretold { IfOk result (λ r. (r.0, ghost_state r.1) ≡ foretell (layout_of state.now.layout) (ghost_state state.now) cpu step) }
     ensures layout { IfOk result (λ r. layout_of r.1.layout ≡ layout_of state.now.layout) }
 {

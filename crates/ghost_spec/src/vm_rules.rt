@@ -8,7 +8,7 @@ ghost use Rattle.reference_model.specs.Changes.{same_cpu};
 ghost use Rattle.reference_model.specs.Parts.{has_stage as has_stage_of};
 ghost use Rattle.reference_model.specs.State.{vacant};
 ghost use Rattle.reference_model.specs.VmRules.{is_any_loaded as is_any_loaded_of, is_open as is_open_of, load_becomes, load_of as load_of_cpu, stand_eq, vacant_slot as vacant_slot_of};
-ghost use Rattle.ghost_spec.specs.Kept.{AreSmallChanges, IsKeptCpu};
+ghost use Rattle.ghost_spec.specs.Kept.{AreSmallChanges, HasNextGeneration, IsKeptCpu};
 ghost use Rattle.ghost_spec.specs.States.{slot_in};
 ghost use Rattle.ghost_spec.specs.Used.{IsKeptUsed, used_in, vms_in};
 ghost use Rattle.ghost_spec.specs.Views.{cpu_in};
@@ -270,7 +270,8 @@ fn is_at_end(own: &GhostCpu) -> bool
 /// The slot of a ticket becomes Empty.
 #[tactic(auto, unfolding(reference_model::specs::Rules::rule))]
 pub(crate) fn vm_release(used: &GhostUsed) -> Result<Changes, Refusal>
-    requires { IsKeptUsed used.now }
+    requires kept { IsKeptUsed used.now }
+    requires generation { HasNextGeneration used.now.own.ticket VmRelease }
     ensures decided { (l : ReferenceLayout) (cpu : ℕ) (slot : Option ℕ) → result ≡ decides l cpu slot VmRelease (used_in used.now) }
     ensures small { IfOk result AreSmallChanges }
 {

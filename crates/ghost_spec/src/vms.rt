@@ -1,5 +1,5 @@
 //! What a change does to the slots of the VM part.
-ghost use Rattle.std.specs.Prelude.{◌≡◌, ℕ, ◌+◌, ◌<◌, None, OnOk, length, get_or};
+ghost use Rattle.std.specs.Prelude.{◌≡◌, ℕ, ◌+◌, ◌^◌, ◌<◌, None, OnOk, length, get_or};
 ghost use Rattle.reference_model.specs.Changes.{vms_by};
 ghost use Rattle.reference_model.specs.State.{closing, no_slot, opened, put_at, reserved};
 ghost use Rattle.ghost_spec.specs.Kept.{FitsSlots};
@@ -34,21 +34,18 @@ fn close(slot: &mut GhostSlot)
     slot.stand = GhostStand::Closing;
 }
 
-/// A slot becomes an Empty one of the generation after this one. Err where that passes 64 bits.
-fn release(alloc: Global, slot: &mut GhostSlot, generation: u64) -> Result<(), AllocError>
-    ensures { OnOk result (slot_in slot.new ≡ no_slot (generation + 1)) }
+/// A slot becomes an Empty one of the generation after this one.
+fn release(alloc: Global, slot: &mut GhostSlot, generation: u64)
+    requires { generation + 1 < 2 ^ 64 }
+    ensures { slot_in slot.new ≡ no_slot (generation + 1) }
 {
-    let Some(next) = generation.checked_add(1) else {
-        return Err(AllocError);
-    };
     *slot = GhostSlot {
         stand: GhostStand::Vacant,
-        generation: next,
+        generation: generation + 1,
         kind: VmKind::Plain,
         vcpus: 0,
         loaded: Vec::new(alloc),
     };
-    Ok(())
 }
 
 /// The list goes as far as the vCPU.
@@ -96,7 +93,10 @@ pub(crate) fn change(
             close(&mut vms[slot as usize]);
             Ok(())
         }
-        SlotChange::Release { vm } => release(alloc, &mut vms[vm.slot as usize], vm.generation),
+        SlotChange::Release { vm } => {
+            release(alloc, &mut vms[vm.slot as usize], vm.generation);
+            Ok(())
+        }
         SlotChange::Load { slot, vcpu, cpu } => {
             set_loaded(&mut vms[slot as usize], vcpu, Some(cpu))
         }

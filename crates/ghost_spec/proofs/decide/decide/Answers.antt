@@ -174,3 +174,6 @@ returns-in-VmRelease-clause-decided c = rw c.in-VmRelease.is (c.vm_release.ensur
 
 pub returns-in-VmRelease-clause-small : goal.returns-in-VmRelease-clause-small
 returns-in-VmRelease-clause-small c = c.vm_release.ensures.small
+
+pub vm_release-requires-clause-generation : goal.vm_release-requires-clause-generation
+vm_release-requires-clause-generation c e = c.requires.generation c.in-VmRelease.is

@@ -1,4 +1,4 @@
-use Rattle.std.proofs.Common.{◌≡◌, sym, ap, ◌∙◌, arith}
+use Rattle.std.proofs.Common.{sym, ap, ◌∙◌, arith}
 use Rattle.std.specs.Prelude.{not}
 use Rattle.page_state.specs.LayoutView.{layout_of}
 use Rattle.ghost_spec.proofs.TableCounts.{standing, counted_one, counted_again, counted_off, all_counted}

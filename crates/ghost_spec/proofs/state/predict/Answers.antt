@@ -1,4 +1,4 @@
-use Rattle.std.proofs.Common.{◌≡◌, ℕ, ap, ◌∙◌}
+use Rattle.std.proofs.Common.{◌≡◌, ℕ, ap, sym, subst, ◌∙◌}
 use Rattle.std.proofs.lemmas.Result.{IfOk-weaker}
 use Rattle.step_reply.specs.declared.reply.Reply.{Reply}
 use Rattle.step_reply.specs.declared.step.Step.{Step}
@@ -6,12 +6,16 @@ use Rattle.page_state.specs.LayoutView.{layout_of}
 use Rattle.page_state.specs.Layouts.{Layout}
 use Rattle.reference_model.specs.State.{Reference}
 use Rattle.reference_model.specs.Step.{foretell}
+use Rattle.ghost_spec.specs.Kept.{HasNextGeneration}
 use Rattle.ghost_spec.specs.States.{ghost_state}
 use Rattle.ghost_spec.proofs.state.predict.Goals as goal
 
 -- what is foretold of a state, by what is foretold of the same one
 same_told : (l m : Layout) (s t : Reference) (cpu : ℕ) (step : Step) (told : Reply × Reference) → l ≡ m → s ≡ t → told ≡ foretell l s cpu step → told ≡ foretell m t cpu step
 same_told l m s t cpu step told layout state h = h ∙ ap (λ (k : Layout). foretell k s cpu step) layout ∙ ap (λ (r : Reference). foretell m r cpu step) state
+
+pub predict_last-requires-clause-generation : goal.predict_last-requires-clause-generation
+predict_last-requires-clause-generation c = subst (λ (s : Reference). HasNextGeneration (s.contents.cpu c.args.cpu).ticket c.args.step) (sym c.in_ok-after.ensures.state) c.requires.generation
 
 pub returns-clause-foretold : goal.returns-clause-foretold
 returns-clause-foretold c =

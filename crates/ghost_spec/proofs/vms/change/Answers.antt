@@ -21,8 +21,8 @@ returns-in-Close-clause-after c =
 
 pub returns-in-Release-clause-after : goal.returns-in-Release-clause-after
 returns-in-Release-clause-after c =
-    let less : c.in-Release.vm.slot < length c.args.vms.now.items = rw c.in-Release.is at c.requires in
-    rw c.in-Release.is (IfOk-weaker _ _ _ (λ _ h. slot-changed c.args.vms.now.items c.in-Release.vm.slot c.release.new.slot (λ (y : Slot). no_slot (c.in-Release.vm.generation + 1)) less h) c.release.ensures)
+    let fits = rw c.in-Release.is at c.requires in
+    rw c.in-Release.is (slot-changed c.args.vms.now.items c.in-Release.vm.slot c.release.new.slot (λ (y : Slot). no_slot (c.in-Release.vm.generation + 1)) fits.0 c.release.ensures)
 
 pub returns-in-Load-clause-after : goal.returns-in-Load-clause-after
 returns-in-Load-clause-after c =

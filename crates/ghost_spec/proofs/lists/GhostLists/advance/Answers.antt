@@ -1,4 +1,4 @@
-use Rattle.std.proofs.Common.{◌≡◌, ℕ, ◌<◌, Option, length, map, get_or, refl, sym, ap, ◌∙◌}
+use Rattle.std.proofs.Common.{◌≡◌, ℕ, ◌<◌, Option, length, map, get_or, refl, sym, ap, subst, ◌∙◌}
 use Rattle.std.proofs.lemmas.List.{get_or-map}
 use Rattle.std.proofs.lemmas.Result.{IfOk-from_err, IfOk-at_ok}
 use Rattle.step_reply.specs.declared.reply.Reply.{Reply}
@@ -7,9 +7,10 @@ use Rattle.page_state.proofs.Common.{same2}
 use Rattle.reference_model.specs.Parts.{names, guest_slot}
 use Rattle.reference_model.specs.State.{Cpu, Contents, Rooms, Reference, no_cpu}
 use Rattle.reference_model.specs.Step.{answer, stored}
-use Rattle.reference_model.specs.Used.{put_rooms, rooms_of}
+use Rattle.reference_model.specs.Used.{Used, put_rooms, rooms_of, used_of}
 use Rattle.ghost_spec.specs.declared.lists.GhostLists.{GhostLists}
 use Rattle.ghost_spec.specs.States.{ghost_state, rooms_in}
+use Rattle.ghost_spec.specs.Kept.{HasNextGeneration}
 use Rattle.ghost_spec.specs.Used.{used_in}
 use Rattle.ghost_spec.specs.Views.{cpu_in}
 use Rattle.ghost_spec.proofs.Foretold.{foretold-full, foretold-answer}
@@ -99,6 +100,10 @@ store-requires-clause-kept c = c.put_back.ensures.kept
 
 pub store-requires-clause-slot : goal.store-requires-clause-slot
 store-requires-clause-slot c = c.guest_slot-slot.ensures.low
+
+pub answer-requires-clause-generation : goal.answer-requires-clause-generation
+unfolding used_of
+answer-requires-clause-generation c = subst (λ (x : Used). HasNextGeneration x.cpu.ticket c.args.step) (sym c.in_ok-used.ensures.used) c.requires.generation
 
 pub answer-requires-clause-vms : goal.answer-requires-clause-vms
 answer-requires-clause-vms c = c.in_ok-used.ensures.count
