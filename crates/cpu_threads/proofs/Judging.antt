@@ -10,7 +10,7 @@ use Rattle.page_state.specs.declared.layout.Layout.{Layout as TheLayout}
 use Rattle.page_state.specs.LayoutView.{layout_of}
 use Rattle.page_state.specs.Layouts.{Layout}
 use Rattle.reference_model.specs.Laws.{AgreeBeside}
-use Rattle.reference_model.specs.State.{Contents, Guest, Reference, no_cpu, no_guest, no_shared, no_vms}
+use Rattle.reference_model.specs.State.{Contents, Cpu, Guest, Reference, no_cpu, no_guest, no_shared, no_vms}
 use Rattle.reference_model.specs.Step.{foretell}
 use Rattle.reference_model.proofs.Steps.{first-same, step_changes}
 use Rattle.guest_steps.specs.declared.parts.VmPart.{VmPart}
@@ -28,6 +28,7 @@ use Rattle.part_table.specs.Parts.{HoldsGuest, HoldsShared, IsGuest, IsOwn, IsPa
 use Rattle.part_table.specs.Known.{Known}
 use Rattle.part_table.proofs.Stepping.{some_same}
 use Rattle.ghost_spec.specs.declared.lists.GhostLists.{GhostLists}
+use Rattle.ghost_spec.specs.Kept.{HasNextGeneration}
 use Rattle.ghost_spec.specs.States.{contents_in, ghost_state}
 use Rattle.ghost_judge.specs.Judgements.{JudgeAgrees, StepsAgree, told_of}
 use Rattle.ghost_oracle.specs.Recorded.{Given, given, put_given, recorded}
@@ -40,10 +41,6 @@ if_some (Some x) f h = f x h
 pub if_ok : {X E : Type 0} {P Q : X → Type 0} (r : Result X E) → ((x : X) → P x → Q x) → IfOk r P → IfOk r Q
 if_ok (Ok x) f h = f x h
 if_ok (Err e) f h = tt
-
-pub if_ok_both : {X E : Type 0} {P Q S : X → Type 0} (r : Result X E) → ((x : X) → P x → Q x → S x) → IfOk r P → IfOk r Q → IfOk r S
-if_ok_both (Ok x) f h k = f x h k
-if_ok_both (Err e) f h k = tt
 
 where_some : {X : Type 0} (b : Bool) (o : Option X) (y : X) → (if b then o else None) ≡ Some y → b ≡ true
 where_some true o y e = refl
@@ -247,3 +244,10 @@ module _ {E : Type 0} (pre post : Result GhostLists E) where
   -- the CPU is one of the record's layout
   pub known_in : {A : Type 0} (l : TheLayout) (cpu : ℕ) (before : ℕ → Option (Slot A)) (own : CpuState) → cpu < l.config.cpus → IfOk pre (IsRecordOf (layout_of l) before own) → IfOk pre (λ a. cpu < a.layout.config.cpus)
   known_in l cpu before own known h = if_ok pre (λ a r. subst (λ (m : Layout). cpu < m.config.cpus) (sym r.layout) known) h
+
+  -- and the generation after that of its CPU's ticket is a number of 64 bits
+  pub next_known : {A : Type 0} (l : TheLayout) (cpu : ℕ) (step : Step) (before : ℕ → Option (Slot A)) (own : CpuState) → own.id ≡ cpu → HasNextGeneration (cpu_of own).ticket step → IfOk pre (IsRecordOf (layout_of l) before own)
+      → IfOk pre (λ a. HasNextGeneration ((contents_in a).cpu cpu).ticket step)
+  next_known l cpu step before own by next h = if_ok pre (λ a r. subst (λ (k : Cpu). HasNextGeneration k.ticket step) (sym (
+      ap (λ (s : Reference). s.contents.cpu cpu) r.state
+      ∙ (ap (λ (k : CpuState). if cpu == k.id then cpu_of k else no_cpu) r.own_is ∙ ap (λ b. if b then cpu_of own else no_cpu) (ap (λ n. cpu == n) by ∙ eq-self cpu)))) next) h

@@ -1,6 +1,8 @@
 //! The oracle at the locks: while a call's parts are held, they are recorded before and after its step, and a judge is asked.
 ghost use Rattle.std.specs.Prelude.{◌≡◌, ◌≢◌, ◌<◌, ◌+◌, ◌∷◌, [], IfOk, IfSome};
 ghost use Rattle.std.specs.Option.{option_copied, option_map};
+ghost use Rattle.ghost_spec.specs.Kept.{HasNextGeneration};
+ghost use Rattle.ghost_spec.specs.States.{contents_in};
 ghost use Rattle.guest_steps.specs.View.{cpu_of};
 ghost use Rattle.hypercalls.specs.Uses.{uses_of};
 ghost use Rattle.page_state.specs.LayoutView.{layout_of};
@@ -26,7 +28,8 @@ pub trait Judge {
     /// A call of a CPU was made: the records of the parts that it uses and of the CPU before and after it. They are still
     /// held.
     fn judged(&mut self, pre: &Ghost, cpu: u64, step: &Step, reply: &Reply, post: &Ghost)
-        requires { cpu < pre.now.layout.config.cpus }
+        requires cpu { cpu < pre.now.layout.config.cpus }
+        requires generation { HasNextGeneration ((contents_in pre.now).cpu cpu).ticket step.now }
         ensures { takes self.old (shown cpu step.now reply.now pre.now post.now) self.new };
 
     /// A call of a CPU was made, and memory was refused to a record.
@@ -82,7 +85,8 @@ fn record_own<A: Allocator>(
     requires low { CanRecord {A = A} none_at cpu.now }
     ensures { IfOk result (IsRecordOf {A = A} (layout_of layout.now) none_at cpu.now) }
 {
-    record::<Global>(global, layout, None, None, None, cpu)
+    let lists = record::<Global>(global, layout, None, None, None, cpu)?;
+    Ok(Ghost::of_kept(lists))
 }
 
 /// A record of the part k and of the CPU's own state.
@@ -101,7 +105,8 @@ fn record_part<A: Allocator>(
     let vms = vms_lent(slot);
     let shared = shared_lent(slot);
     let guest = guest_lent(slot, k.saturating_sub(2));
-    record(global, layout, vms, shared, guest, cpu)
+    let lists = record(global, layout, vms, shared, guest, cpu)?;
+    Ok(Ghost::of_kept(lists))
 }
 
 /// A record of the Shared part, of the guest of slot v and of the CPU's own state.
@@ -118,14 +123,15 @@ fn record_both<A: Allocator>(
     requires low { CanRecord (both_at (v + 2) guest.now 1 shared.now) cpu.now }
     ensures { IfOk result (IsRecordOf (layout_of layout.now) (both_at (v + 2) guest.now 1 shared.now) cpu.now) }
 {
-    record(
+    let lists = record(
         global,
         layout,
         None,
         shared_lent(shared),
         guest_lent(guest, v),
         cpu,
-    )
+    )?;
+    Ok(Ghost::of_kept(lists))
 }
 
 /// Asks a judge of a call, by both records.
@@ -135,7 +141,8 @@ fn ask<J: Judge>(
     call: &Call,
     post: &Result<Ghost, AllocError>,
 )
-    requires { IfOk pre.now (λ a. call.now.cpu < a.layout.config.cpus) }
+    requires cpu { IfOk pre.now (λ a. call.now.cpu < a.layout.config.cpus) }
+    requires generation { IfOk pre.now (λ a. HasNextGeneration ((contents_in a).cpu call.now.cpu).ticket call.now.step) }
     ensures { J.takes judge.old (record { cpu = call.now.cpu; step = call.now.step; reply = call.now.reply; states = both_in pre.now post.now }) judge.new }
 {
     match (pre, post) {

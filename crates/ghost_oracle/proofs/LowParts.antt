@@ -4,15 +4,17 @@ use Rattle.std.specs.Coded.{×_prop, Unit-prop, le_prop}
 use Rattle.std.specs.List.{Contains}
 use Rattle.std.specs.Prelude.{get_or}
 use Rattle.std.proofs.lemmas.Option.{slice_get-get_or}
-use Rattle.std.proofs.Math.Logic.{∥∥₁_elim}
+use Rattle.std.proofs.Math.Logic.{∥∥₁_elim, ∥∥₁_map}
+use Rattle.step_reply.specs.declared.step.Step.{Step}
 use Rattle.page_state.specs.declared.entry.PageRange.{PageRange}
 use Rattle.page_state.specs.Geometries.{pages_below}
 use Rattle.page_state.specs.Layouts.{Layout, is_memory, hyp_page}
 use Rattle.page_state.specs.Map.{is_within}
 use Rattle.page_state.proofs.Updates.{within_test}
+use Rattle.reference_model.specs.Boot.{CanBoot}
 use Rattle.reference_model.specs.declared.changes.Loaded.{Loaded}
 use Rattle.reference_model.specs.declared.changes.Ticket.{Ticket}
-use Rattle.reference_model.specs.Conditions.{Legal, IsUsable, is_inside}
+use Rattle.reference_model.specs.Conditions.{Legal, is_inside}
 use Rattle.reference_model.specs.Sound.{Place, vm_pool, table_of, hand, IsHeld}
 use Rattle.reference_model.specs.State.{Contents, Guest, Cpu, no_guest, no_cpu}
 use Rattle.reference_model.proofs.conditions.OfLegal.{shared-of, guests-of}
@@ -24,7 +26,8 @@ use Rattle.guest_steps.specs.declared.parts.GuestPart.{GuestPart}
 use Rattle.guest_steps.specs.View.{guest_held, cpu_of}
 use Rattle.hypercalls.specs.declared.parts.Parts.{Parts}
 use Rattle.hypercalls.specs.Stands.{at_place, parts_layout, state_of, HasHistory}
-use Rattle.ghost_spec.specs.Kept.{AreLowFrames, HasLowTables, IsSmallRange, HasLowLoad, HasLowTicket}
+use Rattle.ghost_spec.specs.Kept.{AreLowFrames, HasNextGeneration, IsSmallRange, HasLowLoad, HasLowTicket}
+use Rattle.ghost_spec.proofs.Releases.{run_has_next, untold_next}
 use Rattle.ghost_oracle.specs.Low.{IsLowGuest, IsLowCpu}
 use Rattle.ghost_oracle.proofs.Reached.{run_to}
 
@@ -51,7 +54,21 @@ all_low (f ∷ fs) h = (h f (0, omega arith, refl), all_low fs (λ g c. h g (suc
 last_within : (first count : ℕ) → 1 ≤ count → is_within first count (first + (count - 1)) ≡ true
 last_within first count h = within_test first count (first + (count - 1)) (omega arith) (omega (arith, h))
 
-module _ (l : Layout) (s : Contents) (legal : Legal l s) (usable : IsUsable l) (few : pages_below l.depth ≤ 2 ^ 36) where
+-- of a guest and a CPU of which this is known, but not by which run
+pub untold_guest : (g : Guest) → ∥ IsLowGuest g ∥₁ → IsLowGuest g
+untold_guest g h = record {
+  tables = λ b f e. ∥∥₁_elim h le_prop (λ k. k.tables b f e);
+  free = ∥∥₁_elim h (low_frames_prop g.free) (λ k. k.free);
+}
+
+pub untold_cpu : (k : Cpu) → ∥ IsLowCpu k ∥₁ → IsLowCpu k
+untold_cpu k h = record {
+  hand = ∥∥₁_elim h (small_range_prop k.hand) (λ c. c.hand);
+  loaded = ∥∥₁_elim h (low_load_prop k.loaded) (λ c. c.loaded);
+  ticket = ∥∥₁_elim h (low_ticket_prop k.ticket) (λ c. c.ticket);
+}
+
+module _ (l : Layout) (ready : CanBoot l) (s : Contents) (legal : Legal l s) where
   -- what is held is memory
   held_low : (p : Place) (f : ℕ) → IsHeld s f p → f ≤ 2 ^ 36
   held_low p f h =
@@ -59,14 +76,9 @@ module _ (l : Layout) (s : Contents) (legal : Legal l s) (usable : IsUsable l) (
       let g = guests-of s legal.condition legal.maps f l legal.held in
       let is = held-use l s f (legal.condition f) x g (λ cpu. legal.held.hand cpu f) legal.trees.host legal.trees.hyp legal.trees.guest p h in
       let memory : is_memory l f ≡ true = sym (legal.of_layout.inside f) ∙ ap is_inside is in
-      let page : hyp_page f < pages_below l.depth = usable.pages f memory in
+      let page : hyp_page f < pages_below l.depth = (ready-usable l ready).pages f memory in
+      let few : pages_below l.depth ≤ 2 ^ 36 = few-pages l ready.accepted in
       omega (arith, page, few)
-
-  guest_tables : (v : ℕ) → HasLowTables (s.guest v).tree.table
-  guest_tables v b f e = let low = held_low (table_of (suc (suc v)) b) f e in omega (arith, low)
-
-  guest_free : (v : ℕ) → AreLowFrames (s.guest v).free
-  guest_free v = all_low (s.guest v).free (λ f c. let low = held_low (vm_pool v) f c in omega (arith, low))
 
   cpu_hand : (c : ℕ) (o : Option PageRange) → (s.cpu c).hand ≡ o → IsSmallRange o
   cpu_hand c None e = tt
@@ -83,6 +95,17 @@ module _ (l : Layout) (s : Contents) (legal : Legal l s) (usable : IsUsable l) (
   cpu_ticket c None e = tt
   cpu_ticket c (Some t) e = ticket-slot s legal.slots c t e
 
+  -- of a guest of a legal state
+  pub low_guest : (v : ℕ) → IsLowGuest (s.guest v)
+  low_guest v = record {
+    tables = λ b f e. let low = held_low (table_of (suc (suc v)) b) f e in omega (arith, low);
+    free = all_low (s.guest v).free (λ f c. let low = held_low (vm_pool v) f c in omega (arith, low));
+  }
+
+  -- and of a CPU
+  pub low_cpu : (c : ℕ) → IsLowCpu (s.cpu c)
+  low_cpu c = record { hand = cpu_hand c (s.cpu c).hand refl; loaded = cpu_loaded c (s.cpu c).loaded refl; ticket = cpu_ticket c (s.cpu c).ticket refl }
+
 module _ {A : Type 0} (p : Parts A) where
   abbrev contents : Contents
   contents = (state_of p).contents
@@ -98,19 +121,11 @@ module _ {A : Type 0} (p : Parts A) where
 
   module _ (past : ∥ HasHistory p ∥₁) where
     pub low_guests : All (λ g. IsLowGuest (guest_held g)) p.guests.items
-    low_guests k d less =
-        let is = guest_at k d less in
-        record {
-          tables = λ b f e. ∥∥₁_elim past le_prop (λ h. guest_tables (parts_layout p) contents (legal_now h) (ready-usable (parts_layout p) h.ready) (few-pages (parts_layout p) h.ready.accepted) k b f (ap (λ (g : Guest). g.tree.table b) is ∙ e));
-          free = ∥∥₁_elim past (low_frames_prop (guest_held (get_or p.guests.items k d)).free) (λ h. subst (λ (g : Guest). AreLowFrames g.free) is (guest_free (parts_layout p) contents (legal_now h) (ready-usable (parts_layout p) h.ready) (few-pages (parts_layout p) h.ready.accepted) k));
-        }
+    low_guests k d less = untold_guest (guest_held (get_or p.guests.items k d)) (∥∥₁_map past (λ h. subst IsLowGuest (guest_at k d less) (low_guest (parts_layout p) h.ready contents (legal_now h) k)))
 
     pub low_cpus : All (λ c. IsLowCpu (cpu_of c)) p.cpus.items
-    low_cpus k d less =
-        let is = cpu_at k d less in
-        let own : Cpu = cpu_of (get_or p.cpus.items k d) in
-        record {
-          hand = ∥∥₁_elim past (small_range_prop own.hand) (λ h. cpu_hand (parts_layout p) contents (legal_now h) (ready-usable (parts_layout p) h.ready) (few-pages (parts_layout p) h.ready.accepted) k own.hand (ap (λ (c : Cpu). c.hand) is));
-          loaded = ∥∥₁_elim past (low_load_prop own.loaded) (λ h. cpu_loaded (parts_layout p) contents (legal_now h) (ready-usable (parts_layout p) h.ready) (few-pages (parts_layout p) h.ready.accepted) k own.loaded (ap (λ (c : Cpu). c.loaded) is));
-          ticket = ∥∥₁_elim past (low_ticket_prop own.ticket) (λ h. cpu_ticket (parts_layout p) contents (legal_now h) (ready-usable (parts_layout p) h.ready) (few-pages (parts_layout p) h.ready.accepted) k own.ticket (ap (λ (c : Cpu). c.ticket) is));
-        }
+    low_cpus k d less = untold_cpu (cpu_of (get_or p.cpus.items k d)) (∥∥₁_map past (λ h. subst IsLowCpu (cpu_at k d less) (low_cpu (parts_layout p) h.ready contents (legal_now h) k)))
+
+    -- each step of a CPU leads to a generation that is a number of 64 bits
+    pub has_next : (cpu : ℕ) (step : Step) → HasNextGeneration (contents.cpu cpu).ticket step
+    has_next cpu step = untold_next (contents.cpu cpu).ticket step (∥∥₁_map past (λ h. run_has_next (parts_layout p) h.log (state_of p) h.ready (run_to p h) cpu step))

@@ -1,3 +1,4 @@
 pub mod Eights
 pub mod Pending
+pub mod Trees
 pub mod Walking

@@ -7,6 +7,7 @@ ghost use Rattle.run_list.specs.Runs.{AreInReach};
 ghost use Rattle.guest_steps.specs.View.{cpu_of, guest_held, shared_of};
 ghost use Rattle.ghost_spec.specs.Kept.{IsKeptShared};
 ghost use Rattle.ghost_spec.specs.States.{ghost_state, guest_in, AreKeptGuests, IsKept};
+ghost use Rattle.ghost_trees.specs.KeptTrees.{IsKeptTree};
 ghost use Rattle.ghost_trees.specs.Trees.{tree_in_lists};
 ghost use Rattle.table_tree.specs.Reading.{count_of};
 ghost use Rattle.table_tree.specs.View.{tree_of};
@@ -16,6 +17,7 @@ ghost use Rattle.ghost_oracle.specs.Compared.{walked_in};
 ghost use Rattle.ghost_oracle.specs.Counted.{HasRead, shared_tables, tables_of_parts};
 ghost use Rattle.ghost_oracle.specs.Found.{found_state, walked_state, with_row, HasRowsOf, SaysMaplets, SaysRows};
 ghost use Rattle.ghost_oracle.specs.Low.{IsLowCpu};
+ghost use Rattle.ghost_oracle.specs.inner.Trees.{AreTreesKept};
 
 use crate::both::compared;
 use crate::compared::Compared;
@@ -81,12 +83,12 @@ fn ghost_with<A: Allocator>(
 ) -> Result<GhostLists, AllocError>
     requires shared { shared_in_lists shared ≡ with_row (shared_in_lists shared).row (shared_of parts.now.shared) }
     requires guests { map guest_in guests.items ≡ map guest_held parts.now.guests.items }
-    requires cpus { All (λ k. IsLowCpu (cpu_of k)) parts.now.cpus.items }
     requires shared_kept { IsKeptShared shared }
-    requires guests_kept { AreKeptGuests guests.items }
+    requires trees { All (λ g. IsKeptTree g.tree) guests.items }
     ensures state { IfOk result (λ g. ghost_state g ≡ found_state (shared_in_lists shared).row (state_of parts.now)) }
     ensures layout { IfOk result (λ g. layout_of g.layout ≡ parts_layout parts.now) }
-    ensures kept { IfOk result IsKept }
+    ensures trees { IfOk result AreTreesKept }
+    ensures kept { AreKeptGuests guests.items → All (λ k. IsLowCpu (cpu_of k)) parts.now.cpus.items → IfOk result IsKept }
     ensures shared { IfOk result (λ g. g.shared ≡ shared) }
     ensures guests { IfOk result (λ g. g.guests ≡ guests) }
 {
@@ -123,10 +125,10 @@ fn found<A: Allocator>(
     parts: &Parts<A>,
     reads: &mut Reads,
 ) -> Result<GhostLists, AllocError>
-    requires history { ∥ HasHistory parts.now ∥₁ }
     ensures state { IfOk result (λ g. ghost_state g ≡ found_state (row_in []) (state_of parts.now)) }
     ensures layout { IfOk result (λ g. layout_of g.layout ≡ parts_layout parts.now) }
-    ensures kept { IfOk result IsKept }
+    ensures trees { IfOk result AreTreesKept }
+    ensures kept { ∥ HasHistory parts.now ∥₁ → IfOk result IsKept }
     ensures reads { OnOk result (HasRead (count_of reads.old) (tables_of_parts parts.now) (count_of reads.new)) }
 {
     let guests = guests_from(alloc, parts.guests.as_slice(), reads)?;
@@ -186,10 +188,10 @@ pub(crate) fn with_scratch<A: Allocator>(
 ) -> Result<GhostLists, AllocError>
     requires state { ghost_state found ≡ found_state (row_in []) (state_of parts.now) }
     requires layout { layout_of found.layout ≡ parts_layout parts.now }
-    requires kept { IsKept found }
+    requires trees { AreTreesKept found }
     ensures state { IfOk result (λ g. ghost_state g ≡ walked_state (parts_layout parts.now) (state_of parts.now)) }
     ensures layout { IfOk result (λ g. layout_of g.layout ≡ parts_layout parts.now) }
-    ensures kept { IfOk result IsKept }
+    ensures kept { IsKept found → IfOk result IsKept }
     ensures frames { IfOk result (HasRowsOf (parts_layout parts.now)) }
 {
     let mut walked = found;
@@ -218,12 +220,12 @@ pub fn kept<A: Allocator>(alloc: Global, parts: &Parts<A>) -> Result<Ghost, Allo
 
 /// What walking every descriptor from scratch finds: the map of each tree by its words alone, and
 /// the owner row of each memory frame by these maps, the tables, the pools and the hands. Pools, slots, CPUs and rooms, which
-/// are in no table, are as they are.
-pub fn recompute<A: Allocator>(alloc: Global, parts: &Parts<A>) -> Result<Ghost, AllocError>
-    requires history { ∥ HasHistory parts.now ∥₁ }
+/// are in no table, are as they are. Of parts that no calls lead to, `Ghost::of` tests whether these lists make a state.
+pub fn recompute<A: Allocator>(alloc: Global, parts: &Parts<A>) -> Result<GhostLists, AllocError>
     ensures state { IfOk result (λ g. ghost_state g ≡ walked_state (parts_layout parts.now) (state_of parts.now)) }
     ensures layout { IfOk result (λ g. layout_of g.layout ≡ parts_layout parts.now) }
     ensures frames { IfOk result (HasRowsOf (parts_layout parts.now)) }
+    ensures kept { ∥ HasHistory parts.now ∥₁ → IfOk result IsKept }
 {
     recompute_counted(alloc, parts, &mut Reads::new())
 }
@@ -233,16 +235,15 @@ pub fn recompute_counted<A: Allocator>(
     alloc: Global,
     parts: &Parts<A>,
     reads: &mut Reads,
-) -> Result<Ghost, AllocError>
-    requires history { ∥ HasHistory parts.now ∥₁ }
+) -> Result<GhostLists, AllocError>
     ensures state { IfOk result (λ g. ghost_state g ≡ walked_state (parts_layout parts.now) (state_of parts.now)) }
     ensures layout { IfOk result (λ g. layout_of g.layout ≡ parts_layout parts.now) }
     ensures frames { IfOk result (HasRowsOf (parts_layout parts.now)) }
+    ensures kept { ∥ HasHistory parts.now ∥₁ → IfOk result IsKept }
     ensures reads { OnOk result (HasRead (count_of reads.old) (tables_of_parts parts.now) (count_of reads.new)) }
 {
     let found = found(alloc, parts, reads)?;
-    let walked = with_scratch(alloc, parts, found)?;
-    Ok(Ghost::of_kept(walked))
+    with_scratch(alloc, parts, found)
 }
 
 /// What is kept, as `kept` gives it, and what walking every descriptor finds, as `recompute` does, by one walk: each word is read

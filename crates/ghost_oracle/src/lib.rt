@@ -1,5 +1,5 @@
 //! The run-time oracle: what walking every descriptor from scratch finds, and what is kept, as lists of one type. How two
-//! such lists compare is `ghost_judge`'s.
+//! such lists compare is `ghost_judge`'s, whose `audit` and `judge` are passed on.
 #![tactic(auto)]
 
 mod both;
@@ -16,3 +16,7 @@ pub mod raw_kept;
 pub mod record;
 mod trees;
 pub mod walk;
+
+pub use ghost_judge::audit::audit;
+pub use ghost_judge::disagreement::Disagreement;
+pub use ghost_judge::judge::judge;

@@ -6,7 +6,7 @@ ghost use Rattle.reference_model.specs.State.{blank, no_cpu, no_slot, put_at};
 ghost use Rattle.guest_steps.specs.View.{cpu_of, guest_held, shared_of, vm_slots};
 ghost use Rattle.hypercalls.specs.Stands.{at_place};
 ghost use Rattle.ghost_spec.specs.Kept.{IsKeptGuest, IsKeptShared};
-ghost use Rattle.ghost_spec.specs.States.{ghost_state, guest_in, slot_in, AreKeptCpus, AreKeptGuests};
+ghost use Rattle.ghost_spec.specs.States.{ghost_state, guest_in, slot_in, AreKeptCpus, AreKeptGuests, IsKept};
 ghost use Rattle.ghost_spec.specs.Used.{guests_in, rooms_of};
 ghost use Rattle.ghost_spec.specs.Views.{cpu_in, shared_in_lists};
 ghost use Rattle.table_tree.specs.Reading.{count_of};
@@ -24,7 +24,6 @@ use ghost_spec::parts::{GhostGuest, GhostSlot, empty_guests, empty_slots};
 use ghost_spec::rows::copied_rows;
 use ghost_spec::shared::Shared;
 use ghost_spec::start::{equal_rooms, idle_cpus};
-use ghost_spec::state::Ghost;
 use guest_steps::{CpuState, GuestPart, SharedPart, VmPart};
 use page_state::{Config, Layout};
 use std::alloc::{AllocError, Allocator, Global};
@@ -74,10 +73,9 @@ fn shared_given<A: Allocator>(
 /// The guest of a slot, and Empty ones at the others.
 fn guests_with(alloc: Global, slot: u64, guest: GhostGuest) -> Result<Vec<GhostGuest>, AllocError>
     requires slot { slot < 64 }
-    requires kept { IsKeptGuest guest }
     ensures guests { IfOk result (λ v. guests_in v.items ≡ put_at blank.guest slot (guest_in guest)) }
     ensures count { IfOk result (λ v. length v.items ≡ 64) }
-    ensures kept { IfOk result (λ v. AreKeptGuests v.items) }
+    ensures kept { IsKeptGuest guest → IfOk result (λ v. AreKeptGuests v.items) }
 {
     let mut guests = empty_guests(alloc, 64)?;
     guests[slot as usize] = guest;
@@ -91,10 +89,9 @@ fn guests_given<A: Allocator>(
     reads: &mut Reads,
 ) -> Result<Vec<GhostGuest>, AllocError>
     requires slot { IfSome guest (λ g. g.0 < 64) }
-    requires low { IfSome guest (λ g. IsLowGuest (guest_held g.1.now)) }
     ensures guests { IfOk result (λ v. guests_in v.items ≡ put_given blank.guest guest_held (option_map (λ g. (g.0, g.1.now)) guest.entry)) }
     ensures count { IfOk result (λ v. length v.items ≡ 64) }
-    ensures kept { IfOk result (λ v. AreKeptGuests v.items) }
+    ensures kept { IfSome guest.entry (λ g. IsLowGuest (guest_held g.1.now)) → IfOk result (λ v. AreKeptGuests v.items) }
     ensures reads { OnOk result (HasLooked (count_of reads.old) (512 * slot_tables (option_map (λ g. (g.0, g.1.now)) guest.entry)) (count_of reads.new)) }
 {
     match guest {
@@ -108,11 +105,10 @@ fn guests_given<A: Allocator>(
 
 /// A CPU with its own state, and idle ones beside it.
 fn cpus_with(alloc: Global, count: u64, state: &CpuState) -> Result<Vec<GhostCpu>, AllocError>
-    requires cpu { state.now.id < count }
-    requires low { IsLowCpu (cpu_of state.now) }
+    requires { state.now.id < count }
     ensures cpus { IfOk result (λ v. (c : ℕ) → get_or (map cpu_in v.items) c no_cpu ≡ put_at blank.cpu state.now.id (cpu_of state.now) c) }
     ensures count { IfOk result (λ v. length v.items ≡ count) }
-    ensures kept { IfOk result (λ v. AreKeptCpus v.items) }
+    ensures kept { IsLowCpu (cpu_of state.now) → IfOk result (λ v. AreKeptCpus v.items) }
 {
     let mut cpus = idle_cpus(alloc, count)?;
     cpus[state.id as usize] = cpu_from(state);
@@ -180,14 +176,13 @@ fn slots_and_cpus_given(
     state: &CpuState,
     rooms: GhostRooms,
 ) -> Result<SlotsAndCpus, AllocError>
-    requires cpu { state.now.id < layout.now.config.cpus }
-    requires low { IsLowCpu (cpu_of state.now) }
+    requires { state.now.id < layout.now.config.cpus }
     ensures layout { IfOk result (λ b. layout_of b.layout ≡ layout_of layout.now) }
     ensures slots { IfOk result (λ b. (slot : ℕ) → get_or (map slot_in b.vms.items) slot (no_slot 1) ≡ (at_place blank.vms vm_slots (option_copied vms.entry)).slot slot) }
     ensures slots_count { IfOk result (λ b. length b.vms.items ≡ 64) }
     ensures cpus { IfOk result (λ b. (c : ℕ) → get_or (map cpu_in b.cpus.items) c no_cpu ≡ put_at blank.cpu state.now.id (cpu_of state.now) c) }
     ensures cpus_count { IfOk result (λ b. length b.cpus.items ≡ layout.now.config.cpus) }
-    ensures kept { IfOk result (λ b. AreKeptCpus b.cpus.items) }
+    ensures kept { IsLowCpu (cpu_of state.now) → IfOk result (λ b. AreKeptCpus b.cpus.items) }
     ensures rooms { IfOk result (λ b. b.rooms ≡ rooms) }
 {
     Ok(SlotsAndCpus {
@@ -200,7 +195,7 @@ fn slots_and_cpus_given(
 
 /// What the given parts and a CPU hold, and nothing else: the map of each of their trees by its words alone, each of which is
 /// read, and the tables, pools, rows, phases, slots and rooms as they are. Every other part, slot and CPU is empty, and
-/// so is its log.
+/// so is its log. Of parts that no calls lead to, `Ghost::of` tests whether these lists make a state.
 pub fn record<A: Allocator>(
     alloc: Global,
     layout: &Layout,
@@ -208,13 +203,12 @@ pub fn record<A: Allocator>(
     shared: Option<&SharedPart<A>>,
     guest: Option<(u64, &GuestPart<A>)>,
     state: &CpuState,
-) -> Result<Ghost, AllocError>
+) -> Result<GhostLists, AllocError>
     requires cpu { state.now.id < layout.now.config.cpus }
     requires slot { IfSome guest (λ g. g.0 < 64) }
-    requires guest { IfSome guest (λ g. IsLowGuest (guest_held g.1.now)) }
-    requires own { IsLowCpu (cpu_of state.now) }
     ensures state { IfOk result (λ g. ghost_state g ≡ recorded (given (option_copied vms.entry) (option_copied shared.entry) (option_map (λ g. (g.0, g.1.now)) guest.entry) state.now) (layout_of layout.now)) }
     ensures layout { IfOk result (λ g. layout_of g.layout ≡ layout_of layout.now) }
+    ensures kept { IfSome guest.entry (λ g. IsLowGuest (guest_held g.1.now)) → IsLowCpu (cpu_of state.now) → IfOk result IsKept }
 {
     let reads = &mut Reads::new();
     record_counted(alloc, layout, vms, shared, guest, state, reads)
@@ -229,13 +223,12 @@ pub fn record_counted<A: Allocator>(
     guest: Option<(u64, &GuestPart<A>)>,
     state: &CpuState,
     reads: &mut Reads,
-) -> Result<Ghost, AllocError>
+) -> Result<GhostLists, AllocError>
     requires cpu { state.now.id < layout.now.config.cpus }
     requires slot { IfSome guest (λ g. g.0 < 64) }
-    requires guest { IfSome guest (λ g. IsLowGuest (guest_held g.1.now)) }
-    requires own { IsLowCpu (cpu_of state.now) }
     ensures state { IfOk result (λ g. ghost_state g ≡ recorded (given (option_copied vms.entry) (option_copied shared.entry) (option_map (λ g. (g.0, g.1.now)) guest.entry) state.now) (layout_of layout.now)) }
     ensures layout { IfOk result (λ g. layout_of g.layout ≡ layout_of layout.now) }
+    ensures kept { IfSome guest.entry (λ g. IsLowGuest (guest_held g.1.now)) → IsLowCpu (cpu_of state.now) → IfOk result IsKept }
     ensures reads { OnOk result (HasRead (count_of reads.old) (tables_given (given (option_copied vms.entry) (option_copied shared.entry) (option_map (λ g. (g.0, g.1.now)) guest.entry) state.now)) (count_of reads.new)) }
 {
     // For its contract alone: a count is at most the greatest u64.
@@ -263,13 +256,12 @@ pub fn record_counted<A: Allocator>(
         cpus,
         rooms,
     } = beside;
-    let recorded = GhostLists {
+    Ok(GhostLists {
         layout,
         vms,
         cpus,
         guests,
         shared,
         rooms,
-    };
-    Ok(Ghost::of_kept(recorded))
+    })
 }

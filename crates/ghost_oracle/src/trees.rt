@@ -172,9 +172,9 @@ pub(crate) fn guests_from<A: Allocator>(
     parts: &[GuestPart<A>],
     reads: &mut Reads,
 ) -> Result<Vec<GhostGuest>, AllocError>
-    requires low { All (λ g. IsLowGuest (guest_held g)) parts.now }
     ensures guests { IfOk result (λ v. map guest_in v.items ≡ map guest_held parts.now) }
-    ensures kept { IfOk result (λ v. AreKeptGuests v.items) }
+    ensures trees { IfOk result (λ v. All (λ g. IsKeptTree g.tree) v.items) }
+    ensures kept { All (λ g. IsLowGuest (guest_held g)) parts.now → IfOk result (λ v. AreKeptGuests v.items) }
     ensures reads { OnOk result (HasLooked (count_of reads.old) (512 * sum_by guest_tables parts.now) (count_of reads.new)) }
 {
     let mut guests = Vec::with_capacity(alloc, parts.len())?;

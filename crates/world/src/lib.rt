@@ -187,7 +187,8 @@ impl<A: Allocator> World<A> {
         ensures frames { IfOk result (HasRowsOf (parts_layout self.now.parts)) }
         ensures reads { OnOk result (HasRead (count_of reads.old) (tables_of_parts self.now.parts) (count_of reads.new)) }
     {
-        recompute_counted(global, &self.parts, reads)
+        let walked = recompute_counted(global, &self.parts, reads)?;
+        Ok(Ghost::of_kept(walked))
     }
 
     /// Both: what `to_ghost` gives, and what `recompute` gives. By the headline they are the same, and then each word is read

@@ -15,19 +15,20 @@ use Rattle.ghost_oracle.specs.inner.Eights.{HasLooked}
 use Rattle.ghost_oracle.proofs.Counting.{on_ok, read_parts}
 use Rattle.ghost_oracle.proofs.kept.found.Goals as goal
 
-pub guests_from-requires : goal.guests_from-requires
-guests_from-requires g c = record {
-  low = subst (All (λ p. IsLowGuest (guest_held p))) (sym c.as_slice.ensures.value) (low_guests c.args.parts.now c.requires.history);
-}
-
 pub ghost_with-requires : goal.ghost_with-requires
 ghost_with-requires g c = record {
   shared = own_row (shared_in_lists c.in_ok-shared.shared) (shared_of c.args.parts.now.shared) (row_in c.new.result.runs) c.in_ok-shared.ensures.shared;
   guests = c.in_ok-guests.ensures.guests ∙ ap (map guest_held) c.as_slice.ensures.value;
-  cpus = low_cpus c.args.parts.now c.requires.history;
   shared_kept = c.in_ok-shared.ensures.kept;
-  guests_kept = c.in_ok-guests.ensures.kept;
+  trees = c.in_ok-guests.ensures.trees;
 }
+
+pub returns-clause-kept : goal.returns-clause-kept
+returns-clause-kept g c = λ past.
+    c.ghost_with.ensures.kept (c.in_ok-guests.ensures.kept (subst (All (λ p. IsLowGuest (guest_held p))) (sym c.as_slice.ensures.value) (low_guests c.args.parts.now past))) (low_cpus c.args.parts.now past)
+
+pub returns-clause-trees : goal.returns-clause-trees
+returns-clause-trees g c = c.ghost_with.ensures.trees
 
 pub returns-clause-state : goal.returns-clause-state
 returns-clause-state g c = if_ok _ _ c.ghost_with.result (λ x e. e ∙ ap (λ (s : Shared). found_state s.row (state_of c.args.parts.now)) c.in_ok-shared.ensures.shared ∙ ap (λ rs. found_state (row_in rs) (state_of c.args.parts.now)) c.new.ensures) c.ghost_with.ensures.state

@@ -1,5 +1,8 @@
 use Rattle.ghost_oracle.proofs.kept.kept.Goals as goal
 
+pub with_kept-requires-clause-kept : goal.with_kept-requires-clause-kept
+with_kept-requires-clause-kept g c = c.in_ok-found.ensures.kept c.requires.history
+
 pub returns-clause-state : goal.returns-clause-state
 returns-clause-state g c = rw c.of_kept.ensures c.in_ok-kept.ensures.state
 

@@ -35,9 +35,8 @@ pub ghost_with-requires : goal.ghost_with-requires
 ghost_with-requires g c = record {
   shared = own_row (shared_in_lists c.in_ok-shared.shared) (shared_of c.args.parts.now.shared) (shared_of c.args.parts.now.shared).row c.in_ok-shared.ensures.shared;
   guests = c.in_ok-guests.ensures.guests ∙ ap (map guest_held) c.as_slice-2.ensures.value;
-  cpus = low_cpus c.args.parts.now c.requires.history;
   shared_kept = c.in_ok-shared.ensures.kept;
-  guests_kept = c.in_ok-guests.ensures.kept;
+  trees = λ k d less. (c.in_ok-guests.ensures.kept k d less).tree;
 }
 
 pub returns-clause-state : goal.returns-clause-state
@@ -47,7 +46,7 @@ pub returns-clause-layout : goal.returns-clause-layout
 returns-clause-layout g c = c.ghost_with.ensures.layout
 
 pub returns-clause-kept : goal.returns-clause-kept
-returns-clause-kept g c = c.ghost_with.ensures.kept
+returns-clause-kept g c = c.ghost_with.ensures.kept c.in_ok-guests.ensures.kept (low_cpus c.args.parts.now c.requires.history)
 
 pub returns-clause-maplets : goal.returns-clause-maplets
 returns-clause-maplets g c = if_ok2 _ _ _ c.ghost_with.result (λ x e f. record {

@@ -16,7 +16,7 @@ returns-clause-state g c =
     let log = c.args.layout.now.config.log in
     let b = c.in_ok-beside.beside in
     let rooms = c.in_ok-beside.ensures.rooms in
-    rw c.of_kept.ensures (is_recorded (given (option_copied c.args.vms) (option_copied c.args.shared) (option_map (λ (p : ℕ × Bor (GuestPart g.row.A.Denot)). (p.0, p.1.now)) c.args.guest) c.args.state.now) (layout_of c.args.layout.now)
+    is_recorded (given (option_copied c.args.vms) (option_copied c.args.shared) (option_map (λ (p : ℕ × Bor (GuestPart g.row.A.Denot)). (p.0, p.1.now)) c.args.guest) c.args.state.now) (layout_of c.args.layout.now)
     (record { layout = b.layout; vms = b.vms; shared = c.in-Ok-shared_given.shared; guests = c.in-Ok.guests; cpus = b.cpus; rooms = b.rooms })
     (record {
       log = ap (λ l. l.config.log) c.in_ok-beside.ensures.layout;
@@ -28,19 +28,19 @@ returns-clause-state g c =
       shared_room = ap (λ r. r.shared) rooms ∙ c.shared_room.ensures;
       guest_rooms = ap (λ r. rooms_of log r.guests.items) rooms ∙ c.in_ok-guest_rooms_given.ensures.rooms;
       cpu_rooms = ap (λ r. rooms_of log r.cpus.items) rooms ∙ c.in_ok-rooms_with.ensures.rooms ∙ ap (put_at (λ k. log) c.args.state.now.id) c.room.ensures;
-    }))
+    })
 
 pub returns-clause-layout : goal.returns-clause-layout
-returns-clause-layout g c = rw c.of_kept.ensures c.in_ok-beside.ensures.layout
+returns-clause-layout g c = c.in_ok-beside.ensures.layout
 
-pub of_kept-requires : goal.of_kept-requires
-of_kept-requires g c =
+pub returns-clause-kept : goal.returns-clause-kept
+returns-clause-kept g c = λ guest own.
     let cpus = ap (λ l. l.config.cpus) c.in_ok-beside.ensures.layout in
     let rooms = c.in_ok-beside.ensures.rooms in
     record {
       shared = c.in-Ok-shared_given.ensures.kept;
-      guests = c.in-Ok.ensures.kept;
-      cpus = c.in_ok-beside.ensures.kept;
+      guests = c.in-Ok.ensures.kept guest;
+      cpus = c.in_ok-beside.ensures.kept own;
       vms_count = c.in_ok-beside.ensures.slots_count;
       guests_count = c.in-Ok.ensures.count;
       cpus_count = c.in_ok-beside.ensures.cpus_count ∙ sym cpus;
@@ -52,10 +52,10 @@ pub rooms_with-requires : goal.rooms_with-requires
 rooms_with-requires g c = c.requires.cpu
 
 pub slots_and_cpus_given-requires : goal.slots_and_cpus_given-requires
-slots_and_cpus_given-requires g c = record { cpu = c.requires.cpu; low = c.requires.own }
+slots_and_cpus_given-requires g c = c.requires.cpu
 
 pub guests_given-requires : goal.guests_given-requires
-guests_given-requires g c = record { slot = c.requires.slot; low = c.requires.guest }
+guests_given-requires g c = record { slot = c.requires.slot }
 
 pub guest_rooms_given-requires : goal.guest_rooms_given-requires
 guest_rooms_given-requires g c = c.requires.slot

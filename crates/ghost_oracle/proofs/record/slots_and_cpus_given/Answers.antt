@@ -19,4 +19,4 @@ pub returns-clause-kept : goal.returns-clause-kept
 returns-clause-kept c = c.in_ok-cpus_with.ensures.kept
 
 pub cpus_with-requires : goal.cpus_with-requires
-cpus_with-requires c = record { cpu = c.requires.cpu; low = c.requires.low }
+cpus_with-requires c = c.requires

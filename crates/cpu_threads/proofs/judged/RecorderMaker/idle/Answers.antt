@@ -1,8 +1,8 @@
 use Rattle.std.proofs.Common.{◌<◌, ◌∙◌, subst, sym}
 use Rattle.page_state.specs.LayoutView.{layout_of}
 use Rattle.part_table.specs.Does.{none_at}
-use Rattle.cpu_threads.proofs.Judging.{asks_of, known_in}
-use Rattle.cpu_threads.proofs.Recordable.{can_after, can_before, id_after}
+use Rattle.cpu_threads.proofs.Judging.{asks_of, known_in, next_known}
+use Rattle.cpu_threads.proofs.Recordable.{can_after, can_before, id_after, next_before}
 use Rattle.cpu_threads.proofs.judged.RecorderMaker.idle.Goals as goal
 
 pub record_own-pre-requires-clause-low : goal.record_own-pre-requires-clause-low
@@ -18,11 +18,17 @@ record_own-post-requires-clause-low g c =
     let e = c.idle-call.ensures in
     can_after (layout_of c.args.layout.now) c.args.cpu.now.id c.args.cpu.now (none_at {A = g.row.A.Denot}) c.requires.left c.idle-call.result (none_at) c.idle-call.new.cpu c.requires.known e.call.by e.does
 
-pub ask-requires : goal.ask-requires
-ask-requires g c =
+pub ask-requires-clause-cpu : goal.ask-requires-clause-cpu
+ask-requires-clause-cpu g c =
     let e = c.idle-call.ensures in
     known_in c.record_own-pre.result c.record_own-post.result c.args.layout.now c.idle-call.result.cpu (none_at {A = g.row.A.Denot}) c.args.cpu.now (subst (λ n. n < c.args.layout.now.config.cpus) (sym e.call.by) c.requires.known)
     c.record_own-pre.ensures
+
+pub ask-requires-clause-generation : goal.ask-requires-clause-generation
+ask-requires-clause-generation g c =
+    let e = c.idle-call.ensures in
+    next_known c.record_own-pre.result c.record_own-post.result c.args.layout.now c.idle-call.result.cpu c.idle-call.result.step (none_at {A = g.row.A.Denot}) c.args.cpu.now (sym e.call.by)
+    (next_before (layout_of c.args.layout.now) c.args.cpu.now.id c.args.cpu.now (none_at {A = g.row.A.Denot}) c.requires.left c.idle-call.result.step) c.record_own-pre.ensures
 
 pub returns-clause-told : goal.returns-clause-told
 returns-clause-told g c =
