@@ -191,7 +191,7 @@ all_like l s t g c h kept same =
     }
 
 -- a reply tells want of memory or not
-want_cases : (reply : Reply) → (reply ≡ Refused NoMemory) ⊎ (reply ≢ Refused NoMemory)
+pub want_cases : (reply : Reply) → (reply ≡ Refused NoMemory) ⊎ (reply ≢ Refused NoMemory)
 want_cases (Done value) = inr (λ e. cc)
 want_cases (Refused refusals.Perm) = inr (λ e. cc)
 want_cases (Refused refusals.NoVm) = inr (λ e. cc)

@@ -2,6 +2,7 @@ pub mod Boots
 pub mod Crossing
 pub mod Ends
 pub mod Gathering
+pub mod Generations
 pub mod Judging
 pub mod Lines
 pub mod Made

@@ -1,5 +1,5 @@
 -- The replies of a list of calls, each compared with the model's on the state that the calls before it lead to (profile).
-use Rattle.std.specs.Prelude.{◌≡◌, ◌≢◌, ◌↔◌, ℕ, List, [], ◌∷◌, map, All, IfSome, Option, Some, None}
+use Rattle.std.specs.Prelude.{◌≡◌, ◌≢◌, ◌↔◌, ◌≤◌, ℕ, List, [], ◌∷◌, map, All, IfSome, Option, Some, None}
 use Rattle.page_state.specs.Layouts.{Layout}
 use Rattle.step_reply.specs.declared.reply.Call.{Call}
 use Rattle.step_reply.specs.declared.reply.Refusal.TheVariants.{NoMemory}
@@ -8,13 +8,18 @@ use Rattle.step_reply.specs.declared.reply.Reply.TheVariants.{Refused}
 use Rattle.step_reply.specs.declared.step.Step.{Step}
 use Rattle.reference_model.specs.History.{IsStored}
 use Rattle.reference_model.specs.Run.{IsRun}
-use Rattle.reference_model.specs.State.{Reference}
+use Rattle.reference_model.specs.State.{Contents, Reference}
 use Rattle.reference_model.specs.Step.{foretell}
 use Rattle.ghost_judge.specs.declared.disagreement.Disagreement.{Disagreement}
 use Rattle.ghost_judge.specs.declared.disagreement.Disagreement.TheVariants.{Reply as ReplyDiffers}
 use Rattle.ghost_judge.specs.Judgements.{IsFirstJudged, JudgeAgrees}
 use Rattle.world.specs.declared.merge.Histories.{Histories}
 use Rattle.world.specs.Merges.{TellsMerged}
+
+-- no slot has a generation above n, and no ticket one of a VM
+pub record HasGenerationsTo (n : ℕ) (s : Contents) : Type 0 where
+  pub slots : (v : ℕ) → (s.vms.slot v).generation ≤ n
+  pub tickets : (c : ℕ) → IfSome (s.cpu c).ticket (λ t. t.vm.generation ≤ n)
 
 -- a reply that isn't the model's is told with the model's
 pub record IsApart (said spec : Reply) (found : Option Disagreement) : Type 0 where

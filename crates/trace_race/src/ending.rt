@@ -4,11 +4,11 @@ ghost use Rattle.std.specs.Prelude.{◌≡◌, ◌≤◌, [], IfOk, OnOk, None, 
 ghost use Rattle.page_state.specs.LayoutView.{layout_of};
 ghost use Rattle.reference_model.specs.Boot.{boot};
 ghost use Rattle.ghost_oracle.specs.Counted.{HasRead, tables_of_parts};
-ghost use Rattle.ghost_spec.specs.States.{ghost_state};
+ghost use Rattle.ghost_spec.specs.States.{contents_in, ghost_state};
 ghost use Rattle.hypercalls.specs.Stands.{kept_of, parts_layout};
 ghost use Rattle.world.specs.Merges.{AreLogsOf};
 ghost use Rattle.table_tree.specs.Reading.{count_of};
-ghost use Rattle.trace_race.specs.Judged.{ComparesAll};
+ghost use Rattle.trace_race.specs.Judged.{ComparesAll, HasGenerationsTo};
 ghost use Rattle.trace_race.specs.Made.{AreDone, OneHistory};
 
 use crate::course::Asked;
@@ -56,6 +56,7 @@ fn compare_replies(
     logs: &Histories,
 ) -> Result<Vec<Disagreement>, AllocError>
     requires cpus { length logs.now.cpus.items ≤ state.layout.config.cpus }
+    requires generations { HasGenerationsTo 1 (contents_in state) }
     ensures { IfOk result (λ found. ComparesAll (layout_of state.layout) (ghost_state state) logs.now found.items) }
 {
     let Ok(calls) = World::<Global>::merge(global, logs) else {

@@ -1,10 +1,11 @@
 //! Each reply of the merged list, compared with the model's.
-ghost use Rattle.std.specs.Prelude.{◌≡◌, ◌↔◌, ◌<◌, All, IfOk, IsTrue};
+ghost use Rattle.std.specs.Prelude.{◌≡◌, ◌↔◌, ◌^◌, ◌<◌, All, IfOk, IsTrue, length};
 ghost use Rattle.step_reply.specs.declared.reply.Refusal.TheVariants.{NoMemory};
 ghost use Rattle.step_reply.specs.declared.reply.Reply.TheVariants.{Refused};
 ghost use Rattle.page_state.specs.LayoutView.{layout_of};
-ghost use Rattle.ghost_spec.specs.States.{ghost_state};
-ghost use Rattle.trace_race.specs.Judged.{IsApart, Judges, JudgesAll};
+ghost use Rattle.ghost_spec.specs.Kept.{HasNextGeneration};
+ghost use Rattle.ghost_spec.specs.States.{contents_in, ghost_state};
+ghost use Rattle.trace_race.specs.Judged.{HasGenerationsTo, IsApart, Judges, JudgesAll};
 
 use ghost_judge::disagreement::Disagreement;
 use ghost_judge::judge::judge;
@@ -32,7 +33,8 @@ fn judged_next(
     step: Step,
     said: Reply,
 ) -> Result<(Ghost, Option<Disagreement>), AllocError>
-    requires { cpu < state.layout.config.cpus }
+    requires cpu { cpu < state.layout.config.cpus }
+    requires generation { HasNextGeneration ((contents_in state).cpu cpu).ticket step }
     ensures layout { IfOk result (λ r. r.0.layout ≡ state.layout) }
     ensures judged { IfOk result (λ r. Judges (layout_of state.layout) (ghost_state state) cpu step said r.1 (ghost_state r.0)) }
 {
@@ -58,6 +60,8 @@ pub(crate) fn judge_all(
     calls: &[(u64, Step, Reply)],
 ) -> Result<Vec<Disagreement>, AllocError>
     requires cpus { All (λ c. c.0 < state.layout.config.cpus) calls.now }
+    requires generations { HasGenerationsTo 1 (contents_in state) }
+    requires few { length calls.now < 2 ^ 63 }
     ensures judged { IfOk result (λ found. JudgesAll (layout_of state.layout) (ghost_state state) calls.now found.items) }
 {
     let mut state = state;

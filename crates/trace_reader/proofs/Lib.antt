@@ -1,3 +1,4 @@
 pub mod KnownBytes
 mod LineLemmas
 mod Moved
+mod Cut

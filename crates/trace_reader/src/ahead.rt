@@ -3,7 +3,7 @@ ghost use Rattle.std.specs.Prelude.{◌≡◌, ◌+◌, ◌<◌, ◌≤◌, ◌^
 ghost use Rattle.std.specs.Io.KnownBytes.{Keeps, IsAtEnd};
 ghost use Rattle.trace_reader.specs.Devices.{Counts};
 
-use crate::lines::MOST_BYTES;
+use crate::reading::MOST_BYTES;
 use crate::source::{Failed, Source};
 use memchr::memchr;
 use std::alloc::{AllocError, Global};

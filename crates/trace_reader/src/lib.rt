@@ -3,14 +3,16 @@
 
 mod ahead;
 mod counting;
-mod lines;
 mod outcome;
+mod reading;
 mod source;
 mod status;
+mod whole;
 
 pub use ahead::ReadAhead;
 pub use counting::Counting;
-pub use lines::{MOST_BYTES, read_line};
 pub use outcome::{EngineFault, Outcome};
+pub use reading::{MOST_BYTES, read_line};
 pub use source::{Failed, Source};
 pub use status::exit_status;
+pub use whole::lines;

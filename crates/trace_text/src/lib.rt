@@ -1,6 +1,7 @@
 //! Traces as text: what their lines say, and the reports of their runs.
 #![tactic(auto)]
 
+mod at_end;
 mod buffered;
 mod fault;
 pub mod laws;
@@ -11,6 +12,7 @@ mod session;
 mod sink;
 mod trace;
 
+pub use at_end::{replay_at_end, replay_at_end_buffered};
 pub use buffered::{Stopped, finish, play_buffered, replay_buffered};
 pub use fault::Fault;
 pub use oracle::{GhostOracle, Oracle, Verdict};

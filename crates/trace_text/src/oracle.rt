@@ -3,6 +3,7 @@ ghost use Rattle.std.specs.Prelude.{◌≡◌, ◌<◌, ◌≤◌, ◌↔◌, If
 ghost use Rattle.ghost_judge.specs.Audits.{AuditAgrees, IsFirstDifference};
 ghost use Rattle.ghost_judge.specs.Judgements.{IsFirstJudged, JudgeAgrees, told_of};
 ghost use Rattle.ghost_oracle.specs.Compared.{walked_in};
+ghost use Rattle.ghost_spec.specs.Kept.{HasNextGeneration};
 ghost use Rattle.ghost_spec.specs.States.{contents_in};
 ghost use Rattle.step_reply.specs.declared.reply.Call.{Call};
 ghost use Rattle.reference_model.specs.State.{Reference};
@@ -65,7 +66,8 @@ pub trait Oracle {
         reply: Reply,
         after: &Compared,
     ) -> Result<Verdict, AllocError>
-        requires { cpu < before.layout.config.cpus }
+        requires cpu { cpu < before.layout.config.cpus }
+        requires generation { HasNextGeneration ((contents_in before).cpu cpu).ticket step }
         ensures told { IfOk result (λ v. (m : Machine) (c : Call) (t : Reference) → IsShown m c t before cpu step reply after.now.kept (walked_in after.now) → gives m c t v) };
 }
 
@@ -86,7 +88,8 @@ impl Oracle for GhostOracle {
         reply: Reply,
         after: &Compared,
     ) -> Result<Verdict, AllocError>
-        requires { cpu < before.layout.config.cpus }
+        requires cpu { cpu < before.layout.config.cpus }
+        requires generation { HasNextGeneration ((contents_in before).cpu cpu).ticket step }
         ensures told { IfOk result (λ v. (m : Machine) (c : Call) (t : Reference) → IsShown m c t before cpu step reply after.now.kept (walked_in after.now) → IsAgreed v) }
         ensures judged { IfOk result (λ v. (v.judged ≡ None) ↔ JudgeAgrees (contents_in before) step reply (contents_in after.now.kept) (told_of before cpu step)) }
         ensures first_judged { IfOk result (λ v. IfSome v.judged (IsFirstJudged (contents_in before) step reply (contents_in after.now.kept) (told_of before cpu step))) }

@@ -194,6 +194,22 @@ impl<A: Allocator + Copy> Session<A> {
         }
     }
 
+    /// Carries out the line of this number as `run` does, but no oracle looks at its step. Of a line of over 256 bytes any 257
+    /// serve.
+    pub fn run_unasked(&mut self, number: u64, line: &[u8]) -> Result<Reported, Stop>
+        requires few { (standing_of self.old).steps < 2 ^ 62 }
+        requires ready { IsReady self.old }
+        ensures done { RunsLine agreed number line.now (standing_of self.old) (answer_of self.new result) (standing_of self.new) }
+        ensures steps { (standing_of self.new).steps ≤ (standing_of self.old).steps + 1 }
+        ensures ready { IsReady self.new }
+    {
+        match said(self.allows(), &self.settings, line) {
+            Ok(Some(said)) => self.carry_out_unasked(number, said),
+            Ok(None) => Ok(Reported::Nothing),
+            Err(fault) => Err(Stop::Fault(Fault::Line(fault))),
+        }
+    }
+
     /// Carries out a line as a session does whose steps no oracle looks at. A poke has no place here.
     pub fn carry_out_unasked(&mut self, number: u64, said: Line) -> Result<Reported, Stop>
         requires few { (standing_of self.old).steps < 2 ^ 62 }

@@ -1,9 +1,15 @@
-use Rattle.std.proofs.Common.{◌∙◌, ap, subst}
+use Rattle.std.proofs.Common.{◌∙◌, ap, subst, sym}
 use Rattle.ghost_spec.specs.States.{ghost_state}
+use Rattle.page_state.specs.LayoutView.{layout_of}
 use Rattle.reference_model.specs.Boot.{boot}
-use Rattle.trace_race.specs.Judged.{ComparesAll}
+use Rattle.reference_model.specs.State.{Reference}
+use Rattle.trace_race.specs.Judged.{ComparesAll, HasGenerationsTo}
+use Rattle.trace_race.proofs.Generations.{boot_to}
 use Rattle.trace_race.proofs.Judging.{none_after}
 use Rattle.trace_race.proofs.ending.compare.Goals as goal
+
+pub compare_replies-requires-clause-generations : goal.compare_replies-requires-clause-generations
+compare_replies-requires-clause-generations c = subst (λ (s : Reference). HasGenerationsTo 1 s.contents) (sym c.requires.boot) (boot_to (layout_of c.args.state.layout))
 
 pub returns-clause-agree : goal.returns-clause-agree
 returns-clause-agree c =

@@ -1,9 +1,16 @@
-use Rattle.std.proofs.Common.{refl, ◌∙◌}
+use Rattle.std.proofs.Common.{refl, sym, subst, ◌∙◌}
+use Rattle.reference_model.specs.State.{Reference}
+use Rattle.ghost_spec.specs.Kept.{HasNextGeneration}
+use Rattle.ghost_oracle.proofs.LowParts.{has_next}
 use Rattle.hypercalls.specs.Stands.{state_of}
 use Rattle.hypercalls.specs.Whole.{call_of}
 use Rattle.trace_text.specs.View.{machine_of}
 use Rattle.trace_text.proofs.Failing.{failed}
 use Rattle.trace_text.proofs.session.checked.Goals as goal
+
+pub check-verdict-requires-clause-generation : goal.check-verdict-requires-clause-generation
+check-verdict-requires-clause-generation g c =
+    subst (λ (s : Reference). HasNextGeneration (s.contents.cpu c.args.cpu).ticket c.args.step) (sym c.in_ok-before.ensures.state) (has_next c.args.world.now.parts c.args.world.now.history c.args.cpu c.args.step)
 
 pub returns-clause-given : goal.returns-clause-given
 returns-clause-given g c = c.in-Ok-verdict.ensures.told (machine_of c.args.world.now) (call_of c.args.world.now.parts c.args.cpu c.args.step c.step-reply.result) (state_of c.step-reply.new.self.parts) (record {

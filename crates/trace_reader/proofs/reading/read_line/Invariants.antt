@@ -2,7 +2,7 @@ use Rattle.std.proofs.Common.{◌≡◌, ◌≤◌, length}
 use Rattle.std.specs.Io.KnownBytes.{Consumes}
 use Rattle.trace_reader.specs.Ahead.{left}
 use Rattle.trace_reader.specs.Reading.{HasNoEnd}
-use Rattle.trace_reader.proofs.lines.read_line.Given as goal
+use Rattle.trace_reader.proofs.reading.read_line.Given as goal
 
 abbrev pub invariant-loop : goal.invariant-loop
 invariant-loop g l =

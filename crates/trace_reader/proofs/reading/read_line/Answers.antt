@@ -1,7 +1,7 @@
 use Rattle.std.proofs.Common.{rules, arith, ap, not}
 use Rattle.trace_reader.specs.Ahead.{held, left}
 use Rattle.trace_reader.proofs.Moved.{next_plain, next_bytes, ends_line, is_long, longer, is_last}
-use Rattle.trace_reader.proofs.lines.read_line.Goals as goal
+use Rattle.trace_reader.proofs.reading.read_line.Goals as goal
 
 pub returns-then-is_empty-clause-ok : goal.returns-then-is_empty-clause-ok
 returns-then-is_empty-clause-ok g c =
