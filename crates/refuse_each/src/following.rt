@@ -1,6 +1,6 @@
 //! The plain program of the model along calls.
 use crate::ending::booted_world;
-use ghost_spec::state::{Ghost, predict};
+use ghost_spec::state::{Ghost, has_next_generation, predict};
 use std::alloc::{AllocError, Global};
 use step_reply::{Refusal, Reply, Step};
 
@@ -21,6 +21,9 @@ fn follow_one(
 ) -> Result<Option<Reached>, AllocError> {
     let (cpu, step, reply) = call;
     if cpu >= state.lists().layout.config.cpus {
+        return Ok(None);
+    }
+    if !has_next_generation(&state, cpu, step) {
         return Ok(None);
     }
     let (foretold, after) = predict(global, &state, cpu, step)?;

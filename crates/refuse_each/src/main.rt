@@ -85,6 +85,7 @@ fn looks<R: AllocGlobal + Print>(rt: &R, world: &World<Global>) -> bool {
         "recompute",
         "kept_and_walked",
         "audit",
+        "record",
         "histories",
         "merge",
     ];

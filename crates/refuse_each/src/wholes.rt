@@ -4,7 +4,8 @@ ghost use Rattle.std.specs.Prelude.{◌≡◌, ◌<◌};
 use crate::refusing::{Came, by_memory, in_turn};
 use cpu_threads::Machine;
 use ghost_judge::judge::judge;
-use ghost_spec::state::predict;
+use ghost_oracle::record::record;
+use ghost_spec::state::{has_next_generation, predict};
 use page_state::{Config, LayoutFault, MemoryMap, PageRange, Region};
 use std::alloc::{AllocError, Global};
 use step_reply::Step;
@@ -38,25 +39,42 @@ pub fn of_boots(global: Global, map: &MemoryMap, config: Config) -> Option<(usiz
     Some((world?, machine?))
 }
 
-/// The same of what a world keeps, what a walk finds, both, their audit, the logs, and the logs merged.
-pub fn of_looks(global: Global, world: &World<Global>) -> Option<[usize; 6]> {
+/// What a record of the VM part, the Shared part, the guest of slot 0 and CPU 0 comes to.
+fn recorded(global: Global, world: &World<Global>) -> Came {
+    let parts = world.parts();
+    let (Some(guest), Some(own)) = (parts.guests.get(0), parts.cpus.get(0)) else {
+        return Came::Else;
+    };
+    if own.id >= parts.layout.config.cpus {
+        return Came::Else;
+    }
+    let (vms, shared, guest) = (Some(&parts.vms), Some(&parts.shared), Some((0, guest)));
+    by_memory(record(global, &parts.layout, vms, shared, guest, own))
+}
+
+/// The same of what a world keeps, what a walk finds, both, their audit, a record of parts, the logs, and the logs merged.
+pub fn of_looks(global: Global, world: &World<Global>) -> Option<[usize; 7]> {
     let kept = in_turn(global, || by_memory(world.to_ghost(global)));
     let walked = in_turn(global, || by_memory(world.recompute(global)));
     let both = in_turn(global, || by_memory(world.kept_and_walked(global)));
     let audited = in_turn(global, || by_memory(world.audit(global)));
+    let record = in_turn(global, || recorded(global, world));
     let logs = in_turn(global, || by_memory(world.histories(global)));
     let histories = world.histories(global).ok()?;
     let merged = in_turn(
         global,
         || by_memory(World::<Global>::merge(global, &histories)),
     );
-    Some([kept?, walked?, both?, audited?, logs?, merged?])
+    Some([kept?, walked?, both?, audited?, record?, logs?, merged?])
 }
 
 /// Foretells a step of CPU 0, and judges it by itself.
 fn judged(global: Global, world: &World<Global>, step: Step) -> Result<bool, AllocError> {
     let state = world.to_ghost(global)?;
     if state.lists().layout.config.cpus == 0 {
+        return Ok(false);
+    }
+    if !has_next_generation(&state, 0, step) {
         return Ok(false);
     }
     let (reply, after) = predict(global, &state, 0, step)?;

@@ -11,7 +11,7 @@ use ghost_spec::lists::{GhostLists, GhostRooms};
 use ghost_spec::parts::{empty_guests, empty_slots};
 use ghost_spec::shared::Shared;
 use ghost_spec::start::{equal_rooms, idle_cpus};
-use ghost_spec::state::{Ghost, predict};
+use ghost_spec::state::{Ghost, has_next_generation, predict};
 use ghost_trees::tree::{Table, Tree};
 use page_state::{Entry, Geometry, Layout, Page, PageRange, Row, Run, Target, Usage};
 use reference_model::Loaded;
@@ -188,6 +188,7 @@ const DONE: Reply = Reply::Done(Value::Nothing);
 fn judged(rt: &impl Abort, alloc: Global, reply: Reply, post: &Ghost) -> Option<Disagreement> {
     let pre = state(rt, alloc);
     assert!(rt; pre.lists().layout.config.cpus == 1);
+    assert!(rt; has_next_generation(&pre, 0, SHARE));
     judge(alloc, &pre, 0, SHARE, &reply, post).expect(rt, "memory")
 }
 
@@ -195,6 +196,7 @@ fn judged(rt: &impl Abort, alloc: Global, reply: Reply, post: &Ghost) -> Option<
 fn foretold(rt: &impl Abort, alloc: Global) -> (Reply, Ghost) {
     let pre = state(rt, alloc);
     assert!(rt; pre.lists().layout.config.cpus == 1);
+    assert!(rt; has_next_generation(&pre, 0, SHARE));
     predict(alloc, &pre, 0, SHARE).expect(rt, "memory")
 }
 

@@ -1,8 +1,10 @@
-//! Worlds whose tables lie in a heap of their own, in which there is room for a number of further tables.
+//! Worlds whose tables lie in a heap of their own, in which there is room for a number of further tables, or in memory of which
+//! one request is refused by its number.
 use crate::sample::{config, memory};
 use linked_list_allocator::LocalHeap;
 use page_state::Entry;
-use std::alloc::Global;
+use refusing::Refusing;
+use std::alloc::{Allocator, Global};
 use std::process::Abort;
 use step_reply::{Refusal, Reply, Step, Value};
 use world::World;
@@ -15,13 +17,13 @@ const DONE: Reply = Reply::Done(Value::Nothing);
 const NO_MEMORY: Reply = Reply::Refused(Refusal::NoMemory);
 
 /// A world that has just booted, with its tables in a heap.
-fn booted<'a>(rt: &impl Abort, global: Global, heap: &'a LocalHeap) -> World<&'a LocalHeap> {
+fn booted<A: Allocator + Copy>(rt: &impl Abort, global: Global, heap: A) -> World<A> {
     let map = memory(global, 0x40).expect(rt, "a memory");
     World::boot(global, heap, &map, config(1, 16)).expect(rt, "a boot")
 }
 
 /// Makes a step of CPU 0.
-fn made(rt: &impl Abort, world: &mut World<&LocalHeap>, step: Step) -> Reply {
+fn made<A: Allocator + Copy>(rt: &impl Abort, world: &mut World<A>, step: Step) -> Reply {
     assert!(rt; 0 < world.cpus());
     world.step(0, step)
 }
@@ -70,10 +72,10 @@ fn fill<'a>(
 }
 
 /// Compares the free frames, a look at the host's page, and what an audit finds.
-fn expect_state(
+fn expect_state<A: Allocator + Copy>(
     rt: &impl Abort,
     global: Global,
-    world: &mut World<&LocalHeap>,
+    world: &mut World<A>,
     free: usize,
     is_shared: bool,
 ) {
@@ -121,4 +123,36 @@ fn both_tables_granted(rt: HostRuntime) {
     assert!(rt; made(&rt, &mut world, SHARE) == DONE);
     expect_state(&rt, global, &mut world, 56, true);
     drop((filling, world));
+}
+
+/// The most requests of a share that are refused in turn.
+const MOST: u64 = 100;
+
+/// Shares a page with the Nth request for a table's memory refused, for N from 1 until no request is. Each refusal leaves all as
+/// it was. Tells how many there were.
+fn share_in_turn(rt: &impl Abort, global: Global, heap: &Refusing<Global>) -> u64 {
+    let mut world = booted(rt, global, heap);
+    for n in 1..MOST {
+        heap.refuse_nth(n);
+        let reply = made(rt, &mut world, SHARE);
+        if heap.is_waiting() {
+            heap.refuse_nth(0);
+            assert!(rt; reply == DONE);
+            expect_state(rt, global, &mut world, 56, true);
+            drop(world);
+            return n - 1;
+        }
+        assert!(rt; reply == NO_MEMORY);
+        expect_state(rt, global, &mut world, 58, false);
+    }
+    drop(world);
+    MOST
+}
+
+/// At least one request of each of the two tables is refused.
+#[test]
+fn each_request_refused(rt: HostRuntime) {
+    let heap = Refusing::new(rt.alloc());
+    let refused = share_in_turn(&rt, rt.alloc(), &heap);
+    assert!(&rt; refused >= 2 && refused < MOST);
 }

@@ -6,7 +6,7 @@ use crate::sample::{memory, started};
 use ghost_judge::disagreement::{Disagreement, TreeOf};
 use ghost_judge::judge::{differs, judge};
 use ghost_spec::lists::GhostLists;
-use ghost_spec::state::Ghost;
+use ghost_spec::state::{Ghost, has_next_generation};
 use page_state::{Entry, Frame, Kind, Owner, Page, PageRange, Prot, Row, State, Usage};
 use std::alloc::Global;
 use std::process::Abort;
@@ -103,6 +103,7 @@ fn expect_judged_of(
     requires { 0 < pre.now.layout.config.cpus }
 {
     let post = changed(rt, alloc, pre, change);
+    assert!(rt; has_next_generation(pre, 0, step));
     let told = judge(alloc, pre, 0, step, &reply, &post).expect(rt, "memory");
     expect_told(rt, told, wanted);
 }

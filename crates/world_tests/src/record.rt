@@ -4,13 +4,13 @@ ghost use Rattle.hyp_pool.specs.Pools.{IsPool};
 ghost use Rattle.page_state.specs.Geometries.{levels_below};
 ghost use Rattle.reference_model.specs.ChangeLaws.{Fits};
 ghost use Rattle.guest_steps.specs.Apart.{IsApart};
-ghost use Rattle.guest_steps.specs.View.{cpu_of, depth_of};
-ghost use Rattle.ghost_oracle.specs.Low.{IsLowCpu};
+ghost use Rattle.guest_steps.specs.View.{depth_of};
 
 use crate::sample::{config, memory};
 use component::Component;
 use ghost_oracle::record::record;
 use ghost_spec::cpu::GhostCpu;
+use ghost_spec::filled::GhostFault;
 use ghost_spec::lists::{GhostLists, GhostRooms};
 use ghost_spec::shared::Shared;
 use ghost_spec::state::Ghost;
@@ -131,15 +131,14 @@ const HAND: PageRange = PageRange {
     count: 3,
 };
 
-/// CPU 1, with that hand.
-fn own_state(rt: &impl Abort, alloc: Global) -> CpuState
-    ensures low { IsLowCpu (cpu_of result) }
-    ensures id { result.id ≡ 1 }
+/// CPU 1, with a hand.
+fn own_state(rt: &impl Abort, alloc: Global, hand: PageRange) -> CpuState
+    ensures { result.id ≡ 1 }
 {
     CpuState {
         id: 1,
         loaded: None,
-        hand: Some(HAND),
+        hand: Some(hand),
         ticket: None,
         log: Log::new(alloc, 7).expect(rt, "memory"),
     }
@@ -235,10 +234,10 @@ fn expect_rest(rt: &impl Abort, told: &GhostLists) {
 }
 
 /// What is recorded of that Shared part and of the second CPU.
-fn shared_recorded(rt: &impl Abort, alloc: Global, layout: &Layout) -> Ghost
+fn shared_recorded(rt: &impl Abort, alloc: Global, layout: &Layout) -> GhostLists
     requires { layout.now.config.cpus ≡ 2 }
 {
-    let own = own_state(rt, alloc);
+    let own = own_state(rt, alloc, HAND);
     let shared = shared(rt, alloc, &layout.map);
     record(alloc, layout, None, Some(&shared), None, &own).expect(rt, "memory")
 }
@@ -247,6 +246,31 @@ fn shared_recorded(rt: &impl Abort, alloc: Global, layout: &Layout) -> Ghost
 fn records_what_is_given_alone(rt: HostRuntime) {
     let layout = layout(&rt, rt.alloc());
     let told = shared_recorded(&rt, rt.alloc(), &layout);
-    expect_shared(&rt, &told.lists().shared);
-    expect_rest(&rt, told.lists());
+    expect_shared(&rt, &told.shared);
+    expect_rest(&rt, &told);
+}
+
+/// What is recorded of the second CPU alone, with a hand.
+fn own_recorded(rt: &impl Abort, alloc: Global, layout: &Layout, hand: PageRange) -> GhostLists
+    requires { layout.now.config.cpus ≡ 2 }
+{
+    let own = own_state(rt, alloc, hand);
+    record::<Global>(alloc, layout, None, None, None, &own).expect(rt, "memory")
+}
+
+/// A hand that no call leads to: frames from 2^63 on.
+const FAR: PageRange = PageRange {
+    first: Page(1 << 63),
+    count: 3,
+};
+
+#[test]
+fn records_what_no_call_leads_to(rt: HostRuntime) {
+    let alloc = rt.alloc();
+    let layout = layout(&rt, alloc);
+    let near = own_recorded(&rt, alloc, &layout, HAND);
+    assert!(&rt; Ghost::of(alloc, &near).is_ok());
+    let far = own_recorded(&rt, alloc, &layout, FAR);
+    let fault = Ghost::of(alloc, &far).err();
+    assert!(&rt; fault == Some(GhostFault::TooLarge));
 }

@@ -10,7 +10,7 @@ use super::*;
 use crate::held::Held;
 use crate::numbers::Numbers;
 use crate::sample::started;
-use ghost_spec::state::{Ghost, predict_last};
+use ghost_spec::state::{Ghost, has_next_generation, predict_last};
 use std::alloc::AllocError;
 use std::sync::atomic::{AtomicU64, Ordering};
 use std::thread;
@@ -212,6 +212,7 @@ fn agrees(
 ) -> Result<Ghost, AllocError> {
     let (cpu, step, reply) = *call;
     assert!(rt; cpu < state.lists().layout.config.cpus);
+    assert!(rt; has_next_generation(&state, cpu, step));
     let (foretold, after) = predict_last(alloc, state, cpu, step)?;
     assert_eq!(rt; reply, foretold);
     Ok(after)
