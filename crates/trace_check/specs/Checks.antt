@@ -1,0 +1,55 @@
+-- What `check` says of a trace (profile).
+use Rattle.std.specs.Prelude.{◌≡◌, ℕ, List, [], ◌∷◌, ◌++◌, codes, length, Bool, ◌&&◌, not, ◌==◌, if◌then◌else◌}
+use Rattle.std.specs.Fmt.{decimal}
+use Rattle.std.specs.List.{list_any}
+use Rattle.trace_reader.specs.Reading.{lines_of}
+use Rattle.trace_text.specs.declared.report.ReportLine.{ReportLine}
+use Rattle.trace_text.specs.Session.{at_start}
+use Rattle.trace_check.specs.declared.checking.Checked.{Checked}
+use Rattle.trace_check.specs.Expectations.{count_expected}
+use Rattle.trace_check.specs.Misses.{Miss, misses}
+use Rattle.trace_check.specs.Runs.{Runs}
+use Rattle.trace_check.specs.Shown.{is_boot_or_fault}
+
+-- whether the machine booted, or a fault says why it didn't
+abbrev pub has_begun : List (List ReportLine) → Bool
+has_begun told = list_any (list_any is_boot_or_fault) told
+
+-- a line of what is said of a file
+abbrev pub file_line : List ℕ → List ℕ → List ℕ
+file_line name said = name ++ codes ": " ++ said ++ 10 ∷ []
+
+-- a miss, with its file and line
+abbrev pub miss_line : List ℕ → Miss → List ℕ
+miss_line name miss = name ++ codes ":" ++ decimal miss.0 ++ codes ": " ++ miss.1 ++ 10 ∷ []
+
+abbrev pub miss_lines : List ℕ → List Miss → List ℕ
+miss_lines name [] = []
+miss_lines name (miss ∷ more) = miss_line name miss ++ miss_lines name more
+
+-- what is said of a whole file
+abbrev pub boot_said : List ℕ → Bool → List ℕ
+boot_said name begun = if begun then [] else file_line name (codes "no boot")
+
+abbrev pub none_said : List ℕ → ℕ → List ℕ
+none_said name expected = if expected == 0 then file_line name (codes "nothing is expected") else []
+
+abbrev pub sum_said : List ℕ → ℕ → ℕ → List ℕ
+sum_said name expected wrong = file_line name (decimal expected ++ codes " expected, " ++ decimal wrong ++ codes " wrong")
+
+-- all that is said
+abbrev pub said_of : List ℕ → List Miss → Bool → ℕ → List ℕ
+said_of name missed begun expected = miss_lines name missed ++ boot_said name begun ++ none_said name expected ++ sum_said name expected (length missed)
+
+-- the answer to a trace whose lines report this
+pub record Checks (name : List ℕ) (lines : List (List ℕ)) (told : List (List ReportLine)) (checked : Checked) : Type 0 where
+  pub text : checked.text.items ≡ said_of name (misses lines told) (has_begun told) (count_expected lines)
+  pub expected : checked.expected ≡ count_expected lines
+  pub wrong : checked.wrong ≡ length (misses lines told)
+  pub clean : checked.clean ≡ (has_begun told && not (count_expected lines == 0) && length (misses lines told) == 0)
+
+-- the answer to the bytes of a trace: there is a run of its lines
+pub record IsChecked (name trace : List ℕ) (checked : Checked) : Type 0 where
+  pub told : List (List ReportLine)
+  pub runs : Runs 1 at_start (lines_of trace) told
+  pub checks : Checks name (lines_of trace) told checked

@@ -1,0 +1,45 @@
+-- Laws of what traces report and of recorded traces.
+use Rattle.std.specs.Prelude.{◌≡◌, ℕ, ◌≤◌, List, [], ◌∷◌, ◌++◌, length, map}
+use Rattle.trace_text.specs.declared.report.ReportLine.{ReportLine}
+use Rattle.trace_reader.specs.declared.outcome.Outcome.{Outcome}
+use Rattle.trace_text.specs.Oracles.{agreed}
+use Rattle.trace_text.specs.Replay.{IsReport}
+use Rattle.trace_text.specs.Session.{Standing, at_start}
+use Rattle.trace_check.specs.Misses.{misses, rest_missed}
+use Rattle.trace_check.specs.Records.{recorded}
+use Rattle.trace_check.specs.Runs.{Runs}
+use Rattle.trace_check.specs.Shown.{shown}
+
+-- what lines report, one after another, as expectations have it
+abbrev pub shown_told : List (List ReportLine) → List (List ℕ)
+shown_told [] = []
+shown_told (reported ∷ more) = map shown reported ++ shown_told more
+
+-- lines that are carried out and report these texts, of which nothing is missed but lines that aren't reached, and which are recorded as they are
+pub record IsMet (lines : List (List ℕ)) (texts : List (List ℕ)) : Type 0 where
+  pub told : List (List ReportLine)
+  pub runs : Runs 1 at_start lines told
+  pub texts_are : shown_told told ≡ texts
+  pub met : misses lines told ≡ rest_missed lines told
+  pub again : recorded lines told ≡ lines
+
+-- so are the recorded lines of a trace, where both have no more than 1,048,576 lines
+abbrev pub RecordedIsMet : Type 0
+RecordedIsMet = (lines : List (List ℕ)) (told : List (List ReportLine)) → Runs 1 at_start lines told → length lines ≤ 1048576 → length (recorded lines told) ≤ 1048576
+    → IsMet (recorded lines told) (shown_told told)
+
+-- the lines of a report that lines of a trace make, one after another
+abbrev pub reported_by : List (List ReportLine) → List ReportLine
+reported_by [] = []
+reported_by (reported ∷ more) = reported ++ reported_by more
+
+-- what is told is the report of a replay of these lines from a number on, but for one last line at most
+pub record IsReplayTold (number : ℕ) (old : Standing) (lines : List (List ℕ)) (told : List (List ReportLine)) : Type 0 where
+  pub last : List ReportLine
+  pub few : length last ≤ 1
+  pub outcome : Outcome
+  pub report : IsReport agreed number old lines (reported_by told ++ last) outcome
+
+-- so is all that is told of a trace
+abbrev pub ToldIsReplayed : Type 0
+ToldIsReplayed = (lines : List (List ℕ)) (told : List (List ReportLine)) → Runs 1 at_start lines told → IsReplayTold 1 at_start lines told

@@ -1,0 +1,101 @@
+//! Checking what a trace expects.
+ghost use Rattle.std.specs.Prelude.{◌≡◌, ◌≤◌, ◌∷◌, ◌++◌, IfOk, codes, length, map};
+ghost use Rattle.trace_check.specs.Checks.{Checks, IsChecked, said_of};
+ghost use Rattle.trace_check.specs.View.{misses_in, told_in};
+
+use crate::carrying::{Carried, Watch, carry_out};
+use crate::expecting::count_expected;
+use crate::missing::{Miss, misses};
+use crate::shown::has_begun;
+use crate::writing::{add_boot, add_file_line, add_misses, add_none, add_sum};
+use ghost_judge::disagreement::Disagreement;
+use std::alloc::{AllocError, Allocator, Global};
+use trace_reader::lines;
+use trace_text::ReportLine;
+
+/// What a check of a trace comes to.
+#[derive(Drop)]
+pub struct Checked {
+    /// A line for each miss, `NAME:LINE: ..`, and the numbers of expectations and misses at the end.
+    pub text: Vec<u8>,
+    pub expected: u64,
+    pub wrong: u64,
+    /// Whether the machine booted or a fault says why it didn't, something is expected, and all is as expected.
+    pub clean: bool,
+}
+
+/// Carries a trace out, and says where its lines don't report what the expectations after them have. `name` is its file's,
+/// for the text. `alloc` is where the tables of the trees lie. Err where memory was refused.
+pub fn check<A: Allocator + Copy>(
+    global: Global,
+    alloc: A,
+    name: &str,
+    trace: &[u8],
+    watch: Watch,
+) -> Result<Checked, AllocError>
+    ensures { IfOk result (IsChecked name.now trace.now) }
+{
+    let lines = lines(global, trace)?;
+    let carried = carry_out(global, alloc, lines.as_slice(), watch)?;
+    let Carried { told, found } = carried;
+    let checked = check_told(global, name, lines.as_slice(), told.as_slice())?;
+    with_found(global, name, checked, found)
+}
+
+/// What a disagreement at the end adds to a check.
+fn with_found(
+    global: Global,
+    name: &str,
+    checked: Checked,
+    found: Option<Disagreement>,
+) -> Result<Checked, AllocError>
+    ensures { found ≡ None → IfOk result (λ with. with ≡ checked) }
+{
+    let Some(found) = found else {
+        return Ok(checked);
+    };
+    let mut checked = checked;
+    let said = format!(in global; "{found}")?;
+    add_file_line(&mut checked.text, name, said.as_bytes())?;
+    checked.clean = false;
+    Ok(checked)
+}
+
+/// The check of lines, by what those that were carried out report.
+fn check_told(
+    global: Global,
+    name: &str,
+    lines: &[&[u8]],
+    told: &[Vec<ReportLine>],
+) -> Result<Checked, AllocError>
+    requires { length told.now ≤ length lines.now }
+    ensures { IfOk result (Checks name.now (map (λ line. line.now) lines.now) (told_in told.now)) }
+{
+    let missed = misses(global, lines, told)?;
+    let begun = has_begun(told);
+    let expected = count_expected(lines);
+    let text = written(global, name, missed.as_slice(), begun, expected)?;
+    Ok(Checked {
+        text,
+        expected: expected as u64,
+        wrong: missed.len() as u64,
+        clean: begun && expected != 0 && missed.is_empty(),
+    })
+}
+
+fn written(
+    global: Global,
+    name: &str,
+    missed: &[Miss],
+    begun: bool,
+    expected: usize,
+) -> Result<Vec<u8>, AllocError>
+    ensures { IfOk result (λ text. text.items ≡ said_of name.now (misses_in missed.now) begun expected) }
+{
+    let mut text = Vec::new(global);
+    add_misses(&mut text, global, name, missed)?;
+    add_boot(&mut text, name, begun)?;
+    add_none(&mut text, name, expected)?;
+    add_sum(&mut text, global, name, expected, missed.len())?;
+    Ok(text)
+}
