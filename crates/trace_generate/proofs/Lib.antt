@@ -1,0 +1,5 @@
+mod Lines
+mod Spaces
+mod Spelled
+mod Walked
+mod Words

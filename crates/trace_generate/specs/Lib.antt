@@ -1,0 +1,5 @@
+pub mod Lines
+pub mod Machine
+pub mod Made
+pub mod Reading
+pub mod Walks

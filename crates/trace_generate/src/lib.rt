@@ -1,0 +1,18 @@
+//! Traces of random calls, made by walking the plain program of the rules.
+#![tactic(auto)]
+
+mod chance;
+mod choice;
+pub mod laws;
+mod line;
+mod made;
+mod options;
+mod refusal;
+mod seen;
+#[cfg(test)]
+mod tests;
+mod walk;
+
+pub use line::StepLine;
+pub use made::generate;
+pub use options::{GenerateFault, Options};

@@ -1,0 +1,89 @@
+//! A trace that is made.
+ghost use Rattle.std.specs.Prelude.{◌≡◌, ◌++◌, ◌≤◌, codes, IfOk, IfErr, OnOk, string_bytes};
+ghost use Rattle.page_state.specs.LayoutView.{layout_of};
+ghost use Rattle.ghost_spec.specs.States.{ghost_state};
+ghost use Rattle.trace_generate.specs.Lines.{text_of_line, text_of_settings};
+ghost use Rattle.trace_generate.specs.Machine.{IsFault, IsInRange, IsLayoutOf, settings_of};
+ghost use Rattle.trace_generate.specs.Made.{IsSoFar, IsTrace};
+
+use crate::line::{SettingLines, StepLine};
+use crate::options::{GenerateFault, Options, carve, config, memory, tested};
+use crate::walk::{booted, is_hostile, next_call};
+use ghost_spec::state::Ghost;
+use rand_pcg::Pcg32;
+use std::alloc::{AllocError, Global};
+use std::fmt::Write;
+
+/// The stream of the generator.
+const STREAM: u64 = 0x6f77_6e65_7273;
+
+/// A trace of `steps` calls on the machine of these options: its settings, its boot and the steps. The same seed gives the
+/// same bytes.
+pub fn generate(
+    global: Global,
+    seed: u64,
+    steps: u64,
+    options: &Options,
+) -> Result<String, GenerateFault>
+    ensures trace { IfOk result (λ text. IsTrace steps options.now (string_bytes text)) }
+    ensures in_range { OnOk result (IsInRange steps options.now) }
+    ensures fault { IfErr result (λ f. IsFault f steps options.now) }
+{
+    let options = *options;
+    tested(steps, options)?;
+    let mut text = settings(global, steps, options)?;
+    let mut state = booted(global, steps, options)?;
+    let made = walked(global, &mut state, seed, steps, options, &mut text);
+    drop(state);
+    match made {
+        Ok(()) => Ok(text),
+        Err(_) => Err(GenerateFault::NoMemory),
+    }
+}
+
+/// The lines of the settings.
+fn settings(global: Global, steps: u64, options: Options) -> Result<String, GenerateFault>
+    requires { IsInRange steps options }
+    ensures text { IfOk result (λ text. string_bytes text ≡ text_of_settings (settings_of steps options) ++ codes "\n") }
+    ensures fault { IfErr result (λ f. IsFault f steps options) }
+{
+    let lines = SettingLines {
+        geometry: options.geometry,
+        cpus: options.cpus,
+        log: config(steps, options).log,
+        memory: memory(options),
+        carve: carve(options),
+    };
+    match format!(in global; "{lines}\n") {
+        Ok(text) => Ok(text),
+        Err(_) => Err(GenerateFault::NoMemory),
+    }
+}
+
+/// Writes the lines of the calls.
+fn walked(
+    global: Global,
+    state: &mut Ghost,
+    seed: u64,
+    steps: u64,
+    options: Options,
+    text: &mut String,
+) -> Result<(), AllocError>
+    requires range { IsInRange steps options }
+    requires layout { IsLayoutOf steps options (layout_of state.old.layout) }
+    ensures { OnOk result (IsSoFar (layout_of state.old.layout) options.hostile (ghost_state state.old) (string_bytes text.old) steps (ghost_state state.new) (string_bytes text.new)) }
+{
+    let mut chance = Pcg32::new(seed, STREAM);
+    for number in 0..steps {
+        let hostile = is_hostile(options.hostile, number);
+        let call = next_call(global, state, memory(options), hostile, &mut chance)?;
+        write_call(text, call)?;
+    }
+    Ok(())
+}
+
+fn write_call(text: &mut String, call: StepLine) -> Result<(), AllocError>
+    ensures { OnOk result (string_bytes text.new ≡ string_bytes text.old ++ (text_of_line call ++ codes "\n")) }
+{
+    writeln!(text, "{call}")
+}

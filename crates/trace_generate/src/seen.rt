@@ -1,0 +1,123 @@
+//! What a state holds that calls can use, as chance picks it.
+use crate::chance::below;
+use ghost_spec::cpu::GhostCpu;
+use ghost_spec::lists::GhostLists;
+use ghost_spec::parts::{GhostGuest, GhostPhase, GhostSlot, GhostStand};
+use page_state::{Owner, Page, PageRange, Prot, Row, Run, Usage};
+use rand_pcg::Pcg32;
+use step_reply::VmId;
+
+/// How many slots are used at most.
+pub(crate) const SLOTS: u64 = 6;
+
+/// How often a run is drawn before none is found.
+const DRAWS: usize = 6;
+
+/// What a CPU has.
+pub(crate) fn own_state(lists: &GhostLists, cpu: u64) -> GhostCpu {
+    match lists.cpus.get(cpu as usize) {
+        Some(own) => *own,
+        None => GhostCpu::NONE,
+    }
+}
+
+/// A run of owner rows. None where there is no memory.
+pub(crate) fn picked_rows(lists: &GhostLists, chance: &mut Pcg32) -> Option<run_list::Run<Row>> {
+    let runs = lists.shared.rows.runs();
+    let at = picked_place(chance, runs.len())?;
+    runs.get(at).copied()
+}
+
+/// A run of a guest's map. None where nothing is mapped.
+pub(crate) fn picked_run(guest: &GhostGuest, chance: &mut Pcg32) -> Option<Run> {
+    let at = picked_place(chance, guest.tree.runs.len())?;
+    guest.tree.runs.get(at).copied()
+}
+
+/// A place of a list of this length. None of an empty one.
+fn picked_place(chance: &mut Pcg32, length: usize) -> Option<usize> {
+    if length == 0 {
+        return None;
+    }
+    Some(below(chance, length as u64) as usize)
+}
+
+/// Whether frames of a row are the host's, lent to nobody and in no use.
+pub(crate) fn is_hosts(row: Row) -> bool {
+    row.owner == Owner(0) && row.lent.is_none() && row.usage == Usage::Plain
+}
+
+/// A run of frames that are the host's, lent to nobody and in no use.
+pub(crate) fn picked_hosts(lists: &GhostLists, chance: &mut Pcg32) -> Option<PageRange> {
+    for _ in 0..DRAWS {
+        let run = picked_rows(lists, chance)?;
+        if is_hosts(run.value) {
+            return Some(run.pages);
+        }
+    }
+    None
+}
+
+/// A page of a range; its first, where it has none.
+pub(crate) fn picked_page(range: PageRange, chance: &mut Pcg32) -> u64 {
+    if range.count == 0 {
+        return range.first.0;
+    }
+    range.first.0.saturating_add(below(chance, range.count))
+}
+
+/// At most `most` pages of a range, and at least one: mostly from its first page on, so that runs stay long.
+pub(crate) fn picked_part(range: PageRange, most: u64, chance: &mut Pcg32) -> PageRange {
+    let count = below(chance, most.max(1))
+        .saturating_add(1)
+        .min(range.count);
+    let first = if below(chance, 3) == 0 {
+        let rest = PageRange {
+            first: range.first,
+            count: range.count.saturating_sub(count),
+        };
+        Page(picked_page(rest, chance))
+    } else {
+        range.first
+    };
+    PageRange { first, count }
+}
+
+/// The VM of a slot, in whatever state it is.
+pub(crate) fn vm_of(slot: u64, entry: &GhostSlot) -> VmId {
+    VmId {
+        slot,
+        generation: entry.generation,
+    }
+}
+
+/// A VM that is open, among those of the slots that are used.
+pub(crate) fn picked_open(lists: &GhostLists, chance: &mut Pcg32) -> Option<VmId> {
+    for _ in 0..DRAWS {
+        let slot = below(chance, SLOTS);
+        let entry = lists.vms.get(slot as usize)?;
+        if entry.stand == GhostStand::Opened {
+            return Some(vm_of(slot, entry));
+        }
+    }
+    None
+}
+
+/// The guest of a VM, unless it is Empty.
+pub(crate) fn guest_of(lists: &GhostLists, vm: VmId) -> Option<&GhostGuest> {
+    let guest = lists.guests.get(vm.slot as usize)?;
+    if guest.phase == GhostPhase::Empty {
+        return None;
+    }
+    Some(guest)
+}
+
+/// Rights.
+pub(crate) fn picked_rights(chance: &mut Pcg32) -> Prot {
+    match below(chance, 4) {
+        0 => Prot::R,
+        1 => Prot::RW,
+        2 => Prot::RX,
+        _ => Prot::RWX,
+    }
+}
