@@ -1,0 +1,4 @@
+mod Cuts
+mod Leading
+mod Pictures
+mod Told

@@ -1,0 +1,5 @@
+pub mod Columns
+pub mod Courses
+pub mod Items
+pub mod Snapshots
+pub mod Texts

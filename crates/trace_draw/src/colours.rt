@@ -1,0 +1,71 @@
+//! The colours of owners.
+ghost use Rattle.std.specs.Prelude.{◌≡◌};
+ghost use Rattle.trace_draw.specs.Items.{code_of};
+
+/// A colour of a picture.
+#[derive(Clone, Copy, PartialEq)]
+pub enum Colour {
+    /// The host's: pale, since most frames are the host's.
+    Ice,
+    /// The hypervisor's.
+    Orange,
+    /// Those of guests, by slot; the ninth begins again.
+    Green,
+    Pink,
+    Violet,
+    Teal,
+    Crimson,
+    Lime,
+    Purple,
+    Brown,
+    /// Those of rules and marks.
+    Black,
+    Pale,
+    White,
+}
+
+impl Colour {
+    /// Red, green and blue, two hexadecimal digits each.
+    pub(crate) fn code(self) -> &'static str
+        ensures { result.now ≡ code_of self }
+    {
+        match self {
+            Colour::Ice => "d0e1f5",
+            Colour::Orange => "f08c00",
+            Colour::Green => "2f9e44",
+            Colour::Pink => "c2255c",
+            Colour::Violet => "6741d9",
+            Colour::Teal => "0c8599",
+            Colour::Crimson => "e03131",
+            Colour::Lime => "66a80f",
+            Colour::Purple => "9936b5",
+            Colour::Brown => "8d5524",
+            Colour::Black => "212529",
+            Colour::Pale => "e9ecef",
+            Colour::White => "ffffff",
+        }
+    }
+}
+
+/// The colour of a guest's slot.
+pub(crate) fn of_slot(slot: u64) -> Colour {
+    match slot % 8 {
+        0 => Colour::Green,
+        1 => Colour::Pink,
+        2 => Colour::Violet,
+        3 => Colour::Teal,
+        4 => Colour::Crimson,
+        5 => Colour::Lime,
+        6 => Colour::Purple,
+        _ => Colour::Brown,
+    }
+}
+
+/// The colour of an owner, by its number: 0 the host, 1 the hypervisor, and from 2 on the guest of a slot.
+pub(crate) fn of_owner(owner: u64) -> Colour {
+    match owner {
+        0 => Colour::Ice,
+        1 => Colour::Orange,
+        guest => of_slot(guest.saturating_sub(2)),
+    }
+}

@@ -1,0 +1,19 @@
+//! Pictures of who owns what along a trace: as SVG, and as text of the end.
+#![tactic(auto)]
+
+mod bands;
+mod cells;
+mod colours;
+mod columns;
+mod course;
+mod item;
+mod picture;
+mod places;
+mod snapshot;
+mod svg;
+#[cfg(test)]
+mod tests;
+
+pub use course::Ended;
+pub use picture::{Drawing, draw};
+pub use snapshot::{TextDrawing, draw_text};
