@@ -1,23 +1,35 @@
--- `replay FILE` and `replay FILE --heap BYTES` are taken, where FILE and BYTES begin with no hyphen.
+-- The words that are taken, where a word that is no option begins with no hyphen.
 use Rattle.std.proofs.Common.{◌≡◌, ◌≢◌, ℕ, ◌==◌, ◌∙◌, arith, Result, Ok, Err, slice_get, ap, subst, refl, sym, true≢false, cond, Bool, true, false, codes, List, [], ◌∷◌, Option, Some, None, is_some, option_map, option_and_then, inl, inr}
+use Rattle.std.specs.Prelude.{◌⊎◌}
 use Rattle.std.specs.Option.{option_map_or}
 use Rattle.std.specs.Str.{bytes_eq}
 use Rattle.std.proofs.lemmas.Bool.Decides.{nat_tests}
 use Rattle.std.proofs.lemmas.Slice.Eq.{bytes_eq-Decides}
 use Rattle.clap.proofs.OnLiterals.{clap_on_literals}
-use Rattle.clap.specs.Faults.{check_fault, bundle_fault, defaults_fault, fault_of, flag_word_fault, level_fault, other_fault, settle_fault, step_fault, turn_fault, walk_fault}
+use Rattle.clap.specs.Faults.{bundle_fault, check_fault, defaults_fault, fault_of, flag_word_fault, level_fault, other_fault, settle_fault, step_fault, turn_fault, walk_fault}
 use Rattle.clap.specs.Kinds.{IsAmong, Kinds, or_else}
 use Rattle.clap.specs.Lexer.{long_of, long_of_rest, short_of, short_of_rest, strip_byte}
-use Rattle.clap.specs.Simple.{Shape, subcommand_of}
-use Rattle.clap.specs.Walk.{Held, Rule, Step, Text, Waiting, Walk, after_step, finished, first_of, idle, long_or_other, nothing_held, plain_word, settled, short_or_plain, subcommand_or_other, to_positional, arg_by_index, trailing, walk, walk_from, walked}
-use Rattle.clap.specs.Words.{kind_of}
-use Rattle.trace_command.specs.Words.{Gives, GivesAudit, GivesRace, IsRead, IsRefused, NamesFile, TakesAudit, TakesFile, TakesHeap, TakesNoHeap, TakesRace, file_in, heap_told, heap_word, program}
-use Rattle.trace_command.proofs.Taken.{plain_leaf, replays}
-use Rattle.trace_command.proofs.Values.{some_is}
+use Rattle.clap.specs.Simple.{Shape, built_leaf, inherited, marked_built, subcommand_of, with_leaf_noted}
+use Rattle.clap.specs.Walk.{Held, Row, Rule, Step, Text, Waiting, Walk, after_step, arg_by_index, finished, idle, long_or_other, nothing_held, plain_word, settled, short_or_plain, subcommand_or_other, to_positional, trailing, value, walk, walk_from, walked}
+use Rattle.clap.specs.Words.{App, is_simple_and_free, kind_of}
+use Rattle.trace_words.specs.Numbers.{number_of}
+use Rattle.trace_command.specs.Words.{audit, check, draw, generate, program, race, replay}
+use Rattle.trace_command.specs.Asked.{Asking, Auditing, Checking, Drawing, Generating, Gives, IsPlain, IsRead, IsRefused, Racing, Replaying, Takes, asked_by, asked_in, asking_of, heap_size, heap_told, number_told}
 use Rattle.trace_command.specs.declared.words.Invocation.{Invocation}
-use Rattle.trace_command.specs.declared.words.Invocation.TheVariants.{Audit, Race, Replay}
+use Rattle.trace_command.specs.declared.words.Looks.TheVariants.{Each}
 use Rattle.trace_command.specs.declared.words.UsageFault.{UsageFault}
 use Rattle.trace_command.specs.declared.words.UsageFault.TheVariants.{NoMemory, Usage}
+
+pub some_is : {X : Type 0} {x y : X} → Some x ≡ Some y → x ≡ y
+some_is h = cc
+
+plain_of : (word : Text) → IsPlain word → strip_byte 45 word ≡ None
+plain_of [] other = refl
+plain_of (x ∷ xs) other = go (x == 45) refl
+  where
+    go : (b : Bool) → (x == 45) ≡ b → strip_byte 45 (x ∷ xs) ≡ None
+    go true e = absurd (other (ap Some (grind (arith, nat_tests))))
+    go false e = rw e refl
 
 -- a word that begins with no hyphen is no flag
 module _ (word : Text) (plain : strip_byte 45 word ≡ None) where
@@ -49,52 +61,164 @@ module _ (word : Text) (plain : strip_byte 45 word ≡ None) where
       ∙ ap (λ o. option_map_or (λ flags. bundle_fault s.rules s.args_override_self flags h) o []) not_short
 
 -- what is tested where the words end
-abbrev ended : Walk → Kinds
-ended w = or_else (settle_fault replays.rules false w.held)
-    (or_else (defaults_fault (settled replays.rules w.held).rows replays.rules) (check_fault replays (finished replays.rules w.held) false))
+abbrev ended : Shape → Walk → Kinds
+ended s w = or_else (settle_fault s.rules s.args_override_self w.held)
+    (or_else (defaults_fault (settled s.rules w.held).rows s.rules) (check_fault s (finished s.rules w.held) false))
 
--- the walk after FILE
-abbrev after : Text → Walk
-after path = to_positional replays.rules (arg_by_index replays.rules 1) path (walk_from nothing_held) nothing_held
+-- the walk after a first word that is no option
+abbrev after : Shape → Text → Walk
+after s word = to_positional s.rules (arg_by_index s.rules 1) word (walk_from nothing_held) nothing_held
 
-module _ (path : Text) (plain : strip_byte 45 path ≡ None) where
-  file_walked : walked replays.rules [] (walk_from nothing_held) path ≡ after path
+-- a subcommand that takes the first word by its place
+module _ (s : Shape) (takes : step_fault s 1 nothing_held value ≡ []) (word : Text) (plain : strip_byte 45 word ≡ None) where
+  first_walked : walked s.rules [] (walk_from nothing_held) word ≡ after s word
   unfolding clap_on_literals
-  file_walked = ap (λ (m : Held × Step). after_step replays.rules path (walk_from nothing_held) m.0 m.1) (met_is path plain replays.rules idle 1 nothing_held)
+  first_walked = ap (λ (m : Held × Step). after_step s.rules word (walk_from nothing_held) m.0 m.1) (met_is word plain s.rules idle 1 nothing_held)
 
-  no_file_fault : turn_fault replays [] (walk_from nothing_held) path ≡ []
+  no_first_fault : turn_fault s [] (walk_from nothing_held) word ≡ []
   unfolding clap_on_literals
-  no_file_fault =
-      let met = subcommand_or_other replays.rules None idle 1 path nothing_held in
-      ap (λ k. or_else k (step_fault replays 1 met.0 met.1)) (no_flag_fault path plain replays nothing_held)
-      ∙ ap (λ (m : Held × Step). step_fault replays 1 m.0 m.1) (met_is path plain replays.rules idle 1 nothing_held)
+  no_first_fault =
+      let met = subcommand_or_other s.rules None idle 1 word nothing_held in
+      ap (λ k. or_else k (step_fault s 1 met.0 met.1)) (no_flag_fault word plain s nothing_held)
+      ∙ ap (λ (m : Held × Step). step_fault s 1 m.0 m.1) (met_is word plain s.rules idle 1 nothing_held)
+      ∙ takes
 
-  walk_is : walk replays.rules [] nothing_held (path ∷ []) ≡ after path
+  one_walk : walk s.rules [] nothing_held (word ∷ []) ≡ after s word
   unfolding clap_on_literals
-  walk_is = file_walked
+  one_walk = first_walked
 
-  no_fault : walk_fault replays [] (walk_from nothing_held) (path ∷ []) ≡ []
+  one_fault : walk_fault s [] (walk_from nothing_held) (word ∷ []) ≡ []
   unfolding clap_on_literals
-  no_fault = ap (λ k. or_else k []) no_file_fault
+  one_fault = ap (λ k. or_else k []) no_first_fault
 
-  no_fault_after : ended (after path) ≡ []
+  -- words of which it is the only one
+  one_none : ended s (after s word) ≡ [] → level_fault s [] nothing_held (word ∷ []) false [] ≡ []
+  one_none none = ap (λ k. or_else k (ended s (walk s.rules [] nothing_held (word ∷ [])))) one_fault ∙ ap (ended s) one_walk ∙ none
+
+-- the subcommands as the program has them once it is built
+abbrev leaf : App → Shape
+leaf app = built_leaf (inherited (with_leaf_noted (marked_built program.top)) app.top)
+
+pub is_free : is_simple_and_free program ≡ true
+is_free = refl
+
+module _ (name file : Text) (plain : strip_byte 45 file ≡ None) where
+  replay_none : fault_of program (name ∷ codes "replay" ∷ file ∷ []) ≡ []
   unfolding clap_on_literals
-  no_fault_after = refl
+  replay_none = ap (λ k. or_else k []) (one_none (leaf replay) refl file plain refl)
 
-  leaf_none : level_fault replays [] nothing_held (path ∷ []) false [] ≡ []
-  leaf_none = ap (λ k. or_else k (ended (walk replays.rules [] nothing_held (path ∷ [])))) no_fault ∙ ap ended walk_is ∙ no_fault_after
-
-  taken : (name : Text) → fault_of program (name ∷ codes "replay" ∷ path ∷ []) ≡ []
+  replay_asked : asked_by (name ∷ codes "replay" ∷ file ∷ []) ≡ Some (Replaying file None Each false)
   unfolding clap_on_literals
-  taken name = ap (λ k. or_else k []) leaf_none
+  replay_asked = ap (λ (w : Walk). asked_in (codes "replay", finished (leaf replay).rules w.held)) (one_walk (leaf replay) refl file plain)
 
-  file_is : (name : Text) → option_map file_in (subcommand_of program (name ∷ codes "replay" ∷ path ∷ [])) ≡ Some (codes "replay", Some path)
+  race_none : fault_of program (name ∷ codes "race" ∷ file ∷ []) ≡ []
   unfolding clap_on_literals
-  file_is name = ap (λ (w : Walk). Some (codes "replay", first_of (codes "FILE") (finished replays.rules w.held))) walk_is
+  race_none = ap (λ k. or_else k []) (one_none (leaf race) refl file plain refl)
 
-  no_heap : (name : Text) → heap_word (name ∷ codes "replay" ∷ path ∷ []) ≡ None
+  race_asked : asked_by (name ∷ codes "race" ∷ file ∷ []) ≡ Some (Racing file false)
   unfolding clap_on_literals
-  no_heap name = ap (λ (w : Walk). first_of (codes "heap") (finished replays.rules w.held)) walk_is
+  race_asked = ap (λ (w : Walk). asked_in (codes "race", finished (leaf race).rules w.held)) (one_walk (leaf race) refl file plain)
+
+  audit_none : fault_of program (name ∷ codes "audit" ∷ file ∷ []) ≡ []
+  unfolding clap_on_literals
+  audit_none = ap (λ k. or_else k []) (one_none (leaf audit) refl file plain refl)
+
+  audit_asked : asked_by (name ∷ codes "audit" ∷ file ∷ []) ≡ Some (Auditing file false)
+  unfolding clap_on_literals
+  audit_asked = ap (λ (w : Walk). asked_in (codes "audit", finished (leaf audit).rules w.held)) (one_walk (leaf audit) refl file plain)
+
+  check_none : fault_of program (name ∷ codes "check" ∷ file ∷ []) ≡ []
+  unfolding clap_on_literals
+  check_none = ap (λ k. or_else k []) (one_none (leaf check) refl file plain refl)
+
+  check_asked : asked_by (name ∷ codes "check" ∷ file ∷ []) ≡ Some (Checking (file ∷ []) Each false)
+  unfolding clap_on_literals
+  check_asked = ap (λ (w : Walk). asked_in (codes "check", finished (leaf check).rules w.held)) (one_walk (leaf check) refl file plain)
+
+  draw_none : fault_of program (name ∷ codes "draw" ∷ file ∷ []) ≡ []
+  unfolding clap_on_literals
+  draw_none = ap (λ k. or_else k []) (one_none (leaf draw) refl file plain refl)
+
+  draw_asked : asked_by (name ∷ codes "draw" ∷ file ∷ []) ≡ Some (Drawing file false)
+  unfolding clap_on_literals
+  draw_asked = ap (λ (w : Walk). asked_in (codes "draw", finished (leaf draw).rules w.held)) (one_walk (leaf draw) refl file plain)
+
+-- ---- `replay -`
+
+module _ (name : Text) where
+  input_none : fault_of program (name ∷ codes "replay" ∷ codes "-" ∷ []) ≡ []
+  unfolding clap_on_literals
+  input_none = refl
+
+  input_asked : asked_by (name ∷ codes "replay" ∷ codes "-" ∷ []) ≡ Some (Replaying (codes "-") None Each false)
+  unfolding clap_on_literals
+  input_asked = refl
+
+-- ---- `replay FILE --heap BYTES`
+
+-- the walk after `FILE --heap`, and after BYTES
+abbrev awaiting : Text → Walk
+awaiting file = walked (leaf replay).rules [] (after (leaf replay) file) (codes "--heap")
+
+abbrev sized : Text → Text → Walk
+sized file bytes =
+    let met = plain_word (leaf replay).rules (awaiting file).waiting bytes (awaiting file).held in
+    after_step (leaf replay).rules bytes (awaiting file) met.0 met.1
+
+module _ (name file bytes : Text) (plain : strip_byte 45 file ≡ None) (plain_bytes : strip_byte 45 bytes ≡ None) where
+  abbrev given : List Text
+  given = file ∷ codes "--heap" ∷ bytes ∷ []
+
+  bytes_walked : walked (leaf replay).rules [] (awaiting file) bytes ≡ sized file bytes
+  unfolding clap_on_literals
+  bytes_walked =
+      let w = awaiting file in
+      ap (λ (m : Held × Step). after_step (leaf replay).rules bytes w m.0 m.1) (met_is bytes plain_bytes (leaf replay).rules w.waiting w.position w.held)
+
+  no_bytes_fault : turn_fault (leaf replay) [] (awaiting file) bytes ≡ []
+  unfolding clap_on_literals
+  no_bytes_fault =
+      let w = awaiting file in
+      let met = subcommand_or_other (leaf replay).rules None w.waiting w.position bytes w.held in
+      ap (λ k. or_else k (step_fault (leaf replay) w.position met.0 met.1)) (no_flag_fault bytes plain_bytes (leaf replay) w.held)
+      ∙ ap (λ (m : Held × Step). step_fault (leaf replay) w.position m.0 m.1) (met_is bytes plain_bytes (leaf replay).rules w.waiting w.position w.held)
+
+  heap_walk : walk (leaf replay).rules [] nothing_held given ≡ sized file bytes
+  unfolding clap_on_literals
+  heap_walk = ap (λ w. walked (leaf replay).rules [] (walked (leaf replay).rules [] w (codes "--heap")) bytes) (first_walked (leaf replay) refl file plain) ∙ bytes_walked
+
+  no_heap_fault : turn_fault (leaf replay) [] (after (leaf replay) file) (codes "--heap") ≡ []
+  unfolding clap_on_literals
+  no_heap_fault = refl
+
+  no_given_fault : walk_fault (leaf replay) [] (walk_from nothing_held) given ≡ []
+  unfolding clap_on_literals
+  no_given_fault =
+      ap (λ k. or_else k (walk_fault (leaf replay) [] (walked (leaf replay).rules [] (walk_from nothing_held) file) (codes "--heap" ∷ bytes ∷ []))) (no_first_fault (leaf replay) refl file plain)
+      ∙ ap (λ w. walk_fault (leaf replay) [] w (codes "--heap" ∷ bytes ∷ [])) (first_walked (leaf replay) refl file plain)
+      ∙ ap (λ k. or_else k (walk_fault (leaf replay) [] (awaiting file) (bytes ∷ []))) no_heap_fault
+      ∙ ap (λ k. or_else k []) no_bytes_fault
+
+  no_sized_fault : ended (leaf replay) (sized file bytes) ≡ []
+  unfolding clap_on_literals
+  no_sized_fault = refl
+
+  heap_level : level_fault (leaf replay) [] nothing_held given false [] ≡ []
+  heap_level = ap (λ k. or_else k (ended (leaf replay) (walk (leaf replay).rules [] nothing_held given))) no_given_fault ∙ ap (ended (leaf replay)) heap_walk ∙ no_sized_fault
+
+  heap_none : fault_of program (name ∷ codes "replay" ∷ given) ≡ []
+  unfolding clap_on_literals
+  heap_none = ap (λ k. or_else k []) heap_level
+
+  heap_asked : asked_by (name ∷ codes "replay" ∷ given) ≡ option_map (λ heap. Replaying file heap Each false) (heap_told (Some bytes))
+  unfolding clap_on_literals
+  heap_asked = ap (λ (w : Walk). asked_in (codes "replay", finished (leaf replay).rules w.held)) heap_walk ∙ always (heap_told (Some bytes))
+    where
+      always : (o : Option (Option ℕ)) → option_and_then (λ heap. option_map (λ looks. Replaying file heap looks false) (Some Each)) o ≡ option_map (λ heap. Replaying file heap Each false) o
+      always None = refl
+      always (Some heap) = refl
+
+-- ---- a race and an audit take no heap
 
 -- there is a fault
 abbrev HasFault : Kinds → Type 0
@@ -105,254 +229,128 @@ or_fault : (a b : Kinds) → HasFault a → HasFault (or_else a b)
 or_fault [] b h = absurd h
 or_fault (kind ∷ kinds) b h = tt
 
--- the same of `race` and `audit`, which take FILE alone
-module _ (leaf : Text) where
-  abbrev ended_plain : Walk → Kinds
-  ended_plain w = or_else (settle_fault (plain_leaf leaf).rules false w.held)
-      (or_else (defaults_fault (settled (plain_leaf leaf).rules w.held).rows (plain_leaf leaf).rules) (check_fault (plain_leaf leaf) (finished (plain_leaf leaf).rules w.held) false))
-
-  abbrev after_plain : Text → Walk
-  after_plain path = to_positional (plain_leaf leaf).rules (arg_by_index (plain_leaf leaf).rules 1) path (walk_from nothing_held) nothing_held
-
-  module _ (path : Text) (plain : strip_byte 45 path ≡ None) where
-    plain_walked : walked (plain_leaf leaf).rules [] (walk_from nothing_held) path ≡ after_plain path
-    unfolding clap_on_literals
-    plain_walked = ap (λ (m : Held × Step). after_step (plain_leaf leaf).rules path (walk_from nothing_held) m.0 m.1) (met_is path plain (plain_leaf leaf).rules idle 1 nothing_held)
-
-    plain_no_file_fault : turn_fault (plain_leaf leaf) [] (walk_from nothing_held) path ≡ []
-    unfolding clap_on_literals
-    plain_no_file_fault =
-        let met = subcommand_or_other (plain_leaf leaf).rules None idle 1 path nothing_held in
-        ap (λ k. or_else k (step_fault (plain_leaf leaf) 1 met.0 met.1)) (no_flag_fault path plain (plain_leaf leaf) nothing_held)
-        ∙ ap (λ (m : Held × Step). step_fault (plain_leaf leaf) 1 m.0 m.1) (met_is path plain (plain_leaf leaf).rules idle 1 nothing_held)
-
-    plain_walk_is : walk (plain_leaf leaf).rules [] nothing_held (path ∷ []) ≡ after_plain path
-    unfolding clap_on_literals
-    plain_walk_is = plain_walked
-
-    plain_no_fault : walk_fault (plain_leaf leaf) [] (walk_from nothing_held) (path ∷ []) ≡ []
-    unfolding clap_on_literals
-    plain_no_fault = ap (λ k. or_else k []) plain_no_file_fault
-
-    plain_no_fault_after : ended_plain (after_plain path) ≡ []
-    unfolding clap_on_literals
-    plain_no_fault_after = refl
-
-    plain_none : level_fault (plain_leaf leaf) [] nothing_held (path ∷ []) false [] ≡ []
-    plain_none = ap (λ k. or_else k (ended_plain (walk (plain_leaf leaf).rules [] nothing_held (path ∷ [])))) plain_no_fault ∙ ap ended_plain plain_walk_is ∙ plain_no_fault_after
-
-    -- after FILE a heap is a fault
-    heap_turn : (bytes : Text) → HasFault (walk_fault (plain_leaf leaf) [] (after_plain path) (codes "--heap" ∷ bytes ∷ []))
-    unfolding clap_on_literals
-    heap_turn bytes = tt
-
-    heap_walk : (bytes : Text) → HasFault (walk_fault (plain_leaf leaf) [] (walk_from nothing_held) (path ∷ codes "--heap" ∷ bytes ∷ []))
-    unfolding clap_on_literals
-    heap_walk bytes =
-        let more = codes "--heap" ∷ bytes ∷ [] in
-        subst (λ k. HasFault (or_else k (walk_fault (plain_leaf leaf) [] (walked (plain_leaf leaf).rules [] (walk_from nothing_held) path) more))) (sym plain_no_file_fault)
-        (subst (λ w. HasFault (walk_fault (plain_leaf leaf) [] w more)) (sym plain_walked) (heap_turn bytes))
-
-    heap_level : (bytes : Text) → HasFault (level_fault (plain_leaf leaf) [] nothing_held (path ∷ codes "--heap" ∷ bytes ∷ []) false [])
-    heap_level bytes = or_fault _ _ (heap_walk bytes)
-
-module _ (path : Text) (plain : strip_byte 45 path ≡ None) (name : Text) where
-  race_heap : (bytes : Text) → HasFault (fault_of program (name ∷ codes "race" ∷ path ∷ codes "--heap" ∷ bytes ∷ []))
+module _ (s : Shape) (takes : step_fault s 1 nothing_held value ≡ []) (file bytes : Text) (plain : strip_byte 45 file ≡ None)
+    (unknown : HasFault (walk_fault s [] (after s file) (codes "--heap" ∷ bytes ∷ []))) where
+  unknown_walk : HasFault (walk_fault s [] (walk_from nothing_held) (file ∷ codes "--heap" ∷ bytes ∷ []))
   unfolding clap_on_literals
-  race_heap bytes = or_fault _ [] (heap_level (codes "race") path plain bytes)
+  unknown_walk =
+      let more = codes "--heap" ∷ bytes ∷ [] in
+      subst (λ k. HasFault (or_else k (walk_fault s [] (walked s.rules [] (walk_from nothing_held) file) more))) (sym (no_first_fault s takes file plain))
+      (subst (λ w. HasFault (walk_fault s [] w more)) (sym (first_walked s takes file plain)) unknown)
 
-  audit_heap : (bytes : Text) → HasFault (fault_of program (name ∷ codes "audit" ∷ path ∷ codes "--heap" ∷ bytes ∷ []))
+  unknown_level : HasFault (level_fault s [] nothing_held (file ∷ codes "--heap" ∷ bytes ∷ []) false [])
+  unknown_level = or_fault _ _ unknown_walk
+
+module _ (name file bytes : Text) (plain : strip_byte 45 file ≡ None) where
+  race_heap : HasFault (fault_of program (name ∷ codes "race" ∷ file ∷ codes "--heap" ∷ bytes ∷ []))
   unfolding clap_on_literals
-  audit_heap bytes = or_fault _ [] (heap_level (codes "audit") path plain bytes)
+  race_heap = or_fault _ [] (unknown_level (leaf race) refl file bytes plain tt)
 
-  race_taken : fault_of program (name ∷ codes "race" ∷ path ∷ []) ≡ []
+  audit_heap : HasFault (fault_of program (name ∷ codes "audit" ∷ file ∷ codes "--heap" ∷ bytes ∷ []))
   unfolding clap_on_literals
-  race_taken = ap (λ k. or_else k []) (plain_none (codes "race") path plain)
+  audit_heap = or_fault _ [] (unknown_level (leaf audit) refl file bytes plain tt)
 
-  race_file : option_map file_in (subcommand_of program (name ∷ codes "race" ∷ path ∷ [])) ≡ Some (codes "race", Some path)
+-- ---- `generate SEED STEPS`
+
+-- the walk after both words
+abbrev counted : Text → Text → Walk
+counted seed steps =
+    let w = after (leaf generate) seed in
+    let met = plain_word (leaf generate).rules w.waiting steps w.held in
+    after_step (leaf generate).rules steps w met.0 met.1
+
+module _ (name seed steps : Text) (plain : strip_byte 45 seed ≡ None) (plain_steps : strip_byte 45 steps ≡ None) where
+  steps_walked : walked (leaf generate).rules [] (after (leaf generate) seed) steps ≡ counted seed steps
   unfolding clap_on_literals
-  race_file = ap (λ (w : Walk). Some (codes "race", first_of (codes "FILE") (finished (plain_leaf (codes "race")).rules w.held))) (plain_walk_is (codes "race") path plain)
+  steps_walked =
+      let w = after (leaf generate) seed in
+      ap (λ (m : Held × Step). after_step (leaf generate).rules steps w m.0 m.1) (met_is steps plain_steps (leaf generate).rules w.waiting w.position w.held)
 
-  audit_taken : fault_of program (name ∷ codes "audit" ∷ path ∷ []) ≡ []
+  no_steps_fault : turn_fault (leaf generate) [] (after (leaf generate) seed) steps ≡ []
   unfolding clap_on_literals
-  audit_taken = ap (λ k. or_else k []) (plain_none (codes "audit") path plain)
+  no_steps_fault =
+      let w = after (leaf generate) seed in
+      let met = subcommand_or_other (leaf generate).rules None w.waiting w.position steps w.held in
+      ap (λ k. or_else k (step_fault (leaf generate) w.position met.0 met.1)) (no_flag_fault steps plain_steps (leaf generate) w.held)
+      ∙ ap (λ (m : Held × Step). step_fault (leaf generate) w.position m.0 m.1) (met_is steps plain_steps (leaf generate).rules w.waiting w.position w.held)
 
-  audit_file : option_map file_in (subcommand_of program (name ∷ codes "audit" ∷ path ∷ [])) ≡ Some (codes "audit", Some path)
+  generate_walk : walk (leaf generate).rules [] nothing_held (seed ∷ steps ∷ []) ≡ counted seed steps
   unfolding clap_on_literals
-  audit_file = ap (λ (w : Walk). Some (codes "audit", first_of (codes "FILE") (finished (plain_leaf (codes "audit")).rules w.held))) (plain_walk_is (codes "audit") path plain)
+  generate_walk = ap (λ w. walked (leaf generate).rules [] w steps) (first_walked (leaf generate) refl seed plain) ∙ steps_walked
 
--- the walk after `FILE --heap`, and after BYTES
-abbrev awaiting : Text → Walk
-awaiting path = walked replays.rules [] (after path) (codes "--heap")
-
-abbrev sized : Text → Text → Walk
-sized path bytes =
-    let met = plain_word replays.rules (awaiting path).waiting bytes (awaiting path).held in
-    after_step replays.rules bytes (awaiting path) met.0 met.1
-
-module _ (path bytes : Text) (plain : strip_byte 45 path ≡ None) (plain_bytes : strip_byte 45 bytes ≡ None) where
-  abbrev given : List Text
-  given = path ∷ codes "--heap" ∷ bytes ∷ []
-
-  bytes_walked : walked replays.rules [] (awaiting path) bytes ≡ sized path bytes
+  no_words_fault : walk_fault (leaf generate) [] (walk_from nothing_held) (seed ∷ steps ∷ []) ≡ []
   unfolding clap_on_literals
-  bytes_walked =
-      let w = awaiting path in
-      ap (λ (m : Held × Step). after_step replays.rules bytes w m.0 m.1) (met_is bytes plain_bytes replays.rules w.waiting w.position w.held)
+  no_words_fault =
+      ap (λ k. or_else k (walk_fault (leaf generate) [] (walked (leaf generate).rules [] (walk_from nothing_held) seed) (steps ∷ []))) (no_first_fault (leaf generate) refl seed plain)
+      ∙ ap (λ w. walk_fault (leaf generate) [] w (steps ∷ [])) (first_walked (leaf generate) refl seed plain)
+      ∙ ap (λ k. or_else k []) no_steps_fault
 
-  no_bytes_fault : turn_fault replays [] (awaiting path) bytes ≡ []
+  no_counted_fault : ended (leaf generate) (counted seed steps) ≡ []
   unfolding clap_on_literals
-  no_bytes_fault =
-      let w = awaiting path in
-      let met = subcommand_or_other replays.rules None w.waiting w.position bytes w.held in
-      ap (λ k. or_else k (step_fault replays w.position met.0 met.1)) (no_flag_fault bytes plain_bytes replays w.held)
-      ∙ ap (λ (m : Held × Step). step_fault replays w.position m.0 m.1) (met_is bytes plain_bytes replays.rules w.waiting w.position w.held)
+  no_counted_fault = refl
 
-  heap_walk_is : walk replays.rules [] nothing_held given ≡ sized path bytes
+  generate_level : level_fault (leaf generate) [] nothing_held (seed ∷ steps ∷ []) false [] ≡ []
+  generate_level = ap (λ k. or_else k (ended (leaf generate) (walk (leaf generate).rules [] nothing_held (seed ∷ steps ∷ [])))) no_words_fault ∙ ap (ended (leaf generate)) generate_walk ∙ no_counted_fault
+
+  generate_none : fault_of program (name ∷ codes "generate" ∷ seed ∷ steps ∷ []) ≡ []
   unfolding clap_on_literals
-  heap_walk_is = ap (λ w. walked replays.rules [] (walked replays.rules [] w (codes "--heap")) bytes) (file_walked path plain) ∙ bytes_walked
+  generate_none = ap (λ k. or_else k []) generate_level
 
-  no_heap_fault : turn_fault replays [] (after path) (codes "--heap") ≡ []
+  generate_asked : (n count : ℕ) → number_of seed ≡ Some n → number_of steps ≡ Some count → asked_by (name ∷ codes "generate" ∷ seed ∷ steps ∷ []) ≡ Some (Generating n count 4 2048 39 0)
   unfolding clap_on_literals
-  no_heap_fault = refl
+  generate_asked n count is_seed is_steps =
+      ap (λ (w : Walk). asked_in (codes "generate", finished (leaf generate).rules w.held)) generate_walk
+      ∙ ap (option_and_then (λ n. option_and_then (λ count. Some (Generating n count 4 2048 39 0)) (number_of steps))) is_seed
+      ∙ ap (option_and_then (λ count. Some (Generating n count 4 2048 39 0))) is_steps
 
-  no_given_fault : walk_fault replays [] (walk_from nothing_held) given ≡ []
-  unfolding clap_on_literals
-  no_given_fault =
-      ap (λ k. or_else k (walk_fault replays [] (walked replays.rules [] (walk_from nothing_held) path) (codes "--heap" ∷ bytes ∷ []))) (no_file_fault path plain)
-      ∙ ap (λ w. walk_fault replays [] w (codes "--heap" ∷ bytes ∷ [])) (file_walked path plain)
-      ∙ ap (λ k. or_else k (walk_fault replays [] (awaiting path) (bytes ∷ []))) no_heap_fault
-      ∙ ap (λ k. or_else k []) no_bytes_fault
+-- ---- all of them
 
-  no_sized_fault : ended (sized path bytes) ≡ []
-  unfolding clap_on_literals
-  no_sized_fault = refl
+gives : (words : List Text) (r : Result Invocation UsageFault) (asking : Asking) → fault_of program words ≡ [] → asked_by words ≡ Some asking → IsRead words r → Gives asking r
+gives words (Ok invocation) asking none asked read = some_is (sym read.1 ∙ asked)
+gives words (Err (Usage error)) asking none asked (inl among) = absurd (subst (IsAmong (kind_of error)) none among)
+gives words (Err (Usage error)) asking none asked (inr (_, nothing)) = absurd (let e = sym asked ∙ nothing in cc)
+gives words (Err NoMemory) asking none asked read = tt
 
-  given_none : level_fault replays [] nothing_held given false [] ≡ []
-  given_none = ap (λ k. or_else k (ended (walk replays.rules [] nothing_held given))) no_given_fault ∙ ap ended heap_walk_is ∙ no_sized_fault
+-- words that are these are taken
+taken : (words these : List Text) (r : Result Invocation UsageFault) (asking : Asking) → words ≡ these → fault_of program these ≡ [] → asked_by these ≡ Some asking → IsRead words r → Gives asking r
+taken words these r asking is none asked read = gives words r asking (ap (fault_of program) is ∙ none) (ap asked_by is ∙ asked) read
 
-  given_taken : (name : Text) → fault_of program (name ∷ codes "replay" ∷ given) ≡ []
-  unfolding clap_on_literals
-  given_taken name = ap (λ k. or_else k []) given_none
+-- words in which clap finds a fault, or that ask for nothing, are refused
+faulted : (words : List Text) (r : Result Invocation UsageFault) → HasFault (fault_of program words) → IsRead words r → IsRefused r
+faulted words (Ok invocation) fault read = absurd (subst HasFault read.0 fault)
+faulted words (Err fault) found read = tt
 
-  given_file : (name : Text) → option_map file_in (subcommand_of program (name ∷ codes "replay" ∷ given)) ≡ Some (codes "replay", Some path)
-  unfolding clap_on_literals
-  given_file name = ap (λ (w : Walk). Some (codes "replay", first_of (codes "FILE") (finished replays.rules w.held))) heap_walk_is
+unasked : (words : List Text) (r : Result Invocation UsageFault) → asked_by words ≡ None → IsRead words r → IsRefused r
+unasked words (Ok invocation) nothing read = absurd (let e = sym read.1 ∙ nothing in cc)
+unasked words (Err fault) nothing read = tt
 
-  given_heap : (name : Text) → heap_word (name ∷ codes "replay" ∷ given) ≡ Some bytes
-  unfolding clap_on_literals
-  given_heap name = ap (λ (w : Walk). first_of (codes "heap") (finished replays.rules w.held)) heap_walk_is
+heapless : (words : List Text) (r : Result Invocation UsageFault) (name subcommand file bytes : Text) → (subcommand ≡ codes "race") ⊎ (subcommand ≡ codes "audit")
+    → words ≡ name ∷ subcommand ∷ file ∷ codes "--heap" ∷ bytes ∷ [] → strip_byte 45 file ≡ None → IsRead words r → IsRefused r
+heapless words r name subcommand file bytes (inl is_race) is plain read =
+    faulted words r (subst (λ ws. HasFault (fault_of program ws)) (sym (is ∙ ap (λ s. name ∷ s ∷ file ∷ codes "--heap" ∷ bytes ∷ []) is_race)) (race_heap name file bytes plain)) read
+heapless words r name subcommand file bytes (inr is_audit) is plain read =
+    faulted words r (subst (λ ws. HasFault (fault_of program ws)) (sym (is ∙ ap (λ s. name ∷ s ∷ file ∷ codes "--heap" ∷ bytes ∷ []) is_audit)) (audit_heap name file bytes plain)) read
 
-plain_of : (path : Text) → slice_get path 0 ≢ Some 45 → strip_byte 45 path ≡ None
-plain_of [] other = refl
-plain_of (x ∷ xs) other = go (x == 45) refl
-  where
-    go : (b : Bool) → (x == 45) ≡ b → strip_byte 45 (x ∷ xs) ≡ None
-    go true e = absurd (other (ap Some (grind (arith, nat_tests))))
-    go false e = rw e refl
-
--- the names of the subcommands differ
-replay_is_no_race : codes "replay" ≡ codes "race" → ⊥
-replay_is_no_race e = true≢false (sym ((bytes_eq-Decides (codes "replay") (codes "race")).1 e))
-
-replay_is_no_audit : codes "replay" ≡ codes "audit" → ⊥
-replay_is_no_audit e = true≢false (sym ((bytes_eq-Decides (codes "replay") (codes "audit")).1 e))
-
-race_is_no_audit : codes "race" ≡ codes "audit" → ⊥
-race_is_no_audit e = true≢false (sym ((bytes_eq-Decides (codes "race") (codes "audit")).1 e))
-
--- what words name of one subcommand and file they name of no other
-module _ (words : List Text) (name path : Text) (is : option_map file_in (subcommand_of program words) ≡ Some (name, Some path)) where
-  same_name : (other file : Text) → NamesFile words other file → name ≡ other
-  same_name other file names = ap (λ q. q.0) (some_is (sym is ∙ names.file))
-
-  same_path : (other file : Text) → NamesFile words other file → file ≡ path
-  same_path other file names = sym (some_is (ap (λ q. q.1) (some_is (sym is ∙ names.file))))
-
-gives : (path : Text) (told : Option (Option ℕ)) (words : List Text) (r : Result Invocation UsageFault) → fault_of program words ≡ []
-    → option_map file_in (subcommand_of program words) ≡ Some (codes "replay", Some path) → heap_told (heap_word words) ≡ told → IsRead words r → Gives path told r
-gives path told words (Ok (Replay file size)) none is heap read = (same_path words _ path is _ _ read.0, sym heap ∙ read.1)
-gives path told words (Ok (Race file)) none is heap read = absurd (replay_is_no_race (same_name words _ path is _ _ read))
-gives path told words (Ok (Audit file)) none is heap read = absurd (replay_is_no_audit (same_name words _ path is _ _ read))
-gives path told words (Err (Usage error)) none is heap (inl among) = absurd (subst (IsAmong (kind_of error)) none among)
-gives path told words (Err (Usage error)) none is heap (inr no_size) = sym heap ∙ no_size.2
-gives path told words (Err NoMemory) none is heap read = tt
-
-gives_race : (path : Text) (words : List Text) (r : Result Invocation UsageFault) → fault_of program words ≡ []
-    → option_map file_in (subcommand_of program words) ≡ Some (codes "race", Some path) → IsRead words r → GivesRace path r
-gives_race path words (Ok (Replay file size)) none is read = absurd (replay_is_no_race (sym (same_name words _ path is _ _ read.0)))
-gives_race path words (Ok (Race file)) none is read = same_path words _ path is _ _ read
-gives_race path words (Ok (Audit file)) none is read = absurd (race_is_no_audit (same_name words _ path is _ _ read))
-gives_race path words (Err (Usage error)) none is (inl among) = absurd (subst (IsAmong (kind_of error)) none among)
-gives_race path words (Err (Usage error)) none is (inr no_size) = absurd (replay_is_no_race (sym (same_name words _ path is _ _ no_size.1)))
-gives_race path words (Err NoMemory) none is read = tt
-
-gives_audit : (path : Text) (words : List Text) (r : Result Invocation UsageFault) → fault_of program words ≡ []
-    → option_map file_in (subcommand_of program words) ≡ Some (codes "audit", Some path) → IsRead words r → GivesAudit path r
-gives_audit path words (Ok (Replay file size)) none is read = absurd (replay_is_no_audit (sym (same_name words _ path is _ _ read.0)))
-gives_audit path words (Ok (Race file)) none is read = absurd (race_is_no_audit (sym (same_name words _ path is _ _ read)))
-gives_audit path words (Ok (Audit file)) none is read = same_path words _ path is _ _ read
-gives_audit path words (Err (Usage error)) none is (inl among) = absurd (subst (IsAmong (kind_of error)) none among)
-gives_audit path words (Err (Usage error)) none is (inr no_size) = absurd (replay_is_no_audit (sym (same_name words _ path is _ _ no_size.1)))
-gives_audit path words (Err NoMemory) none is read = tt
-
--- what is given of the file and the word that stand in the words is what was read
-pub is_read : (words : List Text) (path : Text) (told : Option (Option ℕ)) (r : Result Invocation UsageFault) → NamesFile words (codes "replay") path → told ≡ heap_told (heap_word words) → Gives path told r
-    → IsRead words r
-is_read words path told (Ok (Replay file size)) names heap gives_it = (subst (NamesFile words (codes "replay")) (sym gives_it.0) names, sym heap ∙ gives_it.1)
-is_read words path told (Ok (Race file)) names heap gives_it = absurd gives_it
-is_read words path told (Ok (Audit file)) names heap gives_it = absurd gives_it
-is_read words path told (Err (Usage error)) names heap gives_it = inr (path, names, sym heap ∙ gives_it)
-is_read words path told (Err NoMemory) names heap gives_it = tt
-
-pub race_read : (words : List Text) (path : Text) (r : Result Invocation UsageFault) → NamesFile words (codes "race") path → GivesRace path r → IsRead words r
-race_read words path (Ok (Replay file size)) names gives_it = absurd gives_it
-race_read words path (Ok (Race file)) names gives_it = subst (NamesFile words (codes "race")) (sym gives_it) names
-race_read words path (Ok (Audit file)) names gives_it = absurd gives_it
-race_read words path (Err (Usage error)) names gives_it = absurd gives_it
-race_read words path (Err NoMemory) names gives_it = tt
-
-pub audit_read : (words : List Text) (path : Text) (r : Result Invocation UsageFault) → NamesFile words (codes "audit") path → GivesAudit path r → IsRead words r
-audit_read words path (Ok (Replay file size)) names gives_it = absurd gives_it
-audit_read words path (Ok (Race file)) names gives_it = absurd gives_it
-audit_read words path (Ok (Audit file)) names gives_it = subst (NamesFile words (codes "audit")) (sym gives_it) names
-audit_read words path (Err (Usage error)) names gives_it = absurd gives_it
-audit_read words path (Err NoMemory) names gives_it = tt
-
-pub takes_race : (words : List Text) (r : Result Invocation UsageFault) → IsRead words r → TakesRace words r
-takes_race words r read name path is other =
-    let plain = plain_of path other in
-    gives_race path words r (ap (fault_of program) is ∙ race_taken path plain name) (ap (λ ws. option_map file_in (subcommand_of program ws)) is ∙ race_file path plain name) read
-
-pub takes_audit : (words : List Text) (r : Result Invocation UsageFault) → IsRead words r → TakesAudit words r
-takes_audit words r read name path is other =
-    let plain = plain_of path other in
-    gives_audit path words r (ap (fault_of program) is ∙ audit_taken path plain name) (ap (λ ws. option_map file_in (subcommand_of program ws)) is ∙ audit_file path plain name) read
-
--- words in which clap finds a fault are refused
-refused : (words : List Text) (r : Result Invocation UsageFault) → HasFault (fault_of program words) → IsRead words r → IsRefused r
-refused words (Ok (Replay file size)) fault read = absurd (subst HasFault read.0.faultless fault)
-refused words (Ok (Race file)) fault read = absurd (subst HasFault read.faultless fault)
-refused words (Ok (Audit file)) fault read = absurd (subst HasFault read.faultless fault)
-refused words (Err (Usage error)) fault read = tt
-refused words (Err NoMemory) fault read = tt
-
-pub takes_no_heap : (words : List Text) (r : Result Invocation UsageFault) → IsRead words r → TakesNoHeap words r
-takes_no_heap words r read name subcommand path bytes (inl race) is other =
-    refused words r (subst (λ ws. HasFault (fault_of program ws)) (sym (is ∙ ap (λ s. name ∷ s ∷ path ∷ codes "--heap" ∷ bytes ∷ []) race)) (race_heap path (plain_of path other) name bytes)) read
-takes_no_heap words r read name subcommand path bytes (inr audit) is other =
-    refused words r (subst (λ ws. HasFault (fault_of program ws)) (sym (is ∙ ap (λ s. name ∷ s ∷ path ∷ codes "--heap" ∷ bytes ∷ []) audit)) (audit_heap path (plain_of path other) name bytes)) read
-
-pub takes_file : (words : List Text) (r : Result Invocation UsageFault) → IsRead words r → TakesFile words r
-takes_file words r read name path is other =
-    let plain = plain_of path other in
-    gives path (Some None) words r (ap (fault_of program) is ∙ taken path plain name) (ap (λ ws. option_map file_in (subcommand_of program ws)) is ∙ file_is path plain name)
-    (ap (λ ws. heap_told (heap_word ws)) is ∙ ap heap_told (no_heap path plain name)) read
-
-pub takes_heap : (words : List Text) (r : Result Invocation UsageFault) → IsRead words r → TakesHeap words r
-takes_heap words r read name path bytes is other other_bytes =
-    let plain = plain_of path other in
-    let plain_bytes = plain_of bytes other_bytes in
-    gives path (heap_told (Some bytes)) words r (ap (fault_of program) is ∙ given_taken path bytes plain plain_bytes name)
-    (ap (λ ws. option_map file_in (subcommand_of program ws)) is ∙ given_file path bytes plain plain_bytes name)
-    (ap (λ ws. heap_told (heap_word ws)) is ∙ ap heap_told (given_heap path bytes plain plain_bytes name)) read
+pub takes_of : (words : List Text) (r : Result Invocation UsageFault) → IsRead words r → Takes words r
+takes_of words r read = record {
+  replay = λ name file is other. let plain = plain_of file other in taken words _ r _ is (replay_none name file plain) (replay_asked name file plain) read;
+  input = λ name is. taken words _ r _ is (input_none name) (input_asked name) read;
+  heap = λ name file bytes size is other other_bytes says.
+      let plain = plain_of file other in
+      let plain_bytes = plain_of bytes other_bytes in
+      taken words _ r _ is (heap_none name file bytes plain plain_bytes)
+      (heap_asked name file bytes plain plain_bytes ∙ ap (λ o. option_map (λ heap. Replaying file heap Each false) (option_map (λ size. Some size) o)) says) read;
+  no_size = λ name file bytes is other other_bytes says.
+      let plain = plain_of file other in
+      let plain_bytes = plain_of bytes other_bytes in
+      unasked words r (ap asked_by is ∙ heap_asked name file bytes plain plain_bytes ∙ ap (λ o. option_map (λ heap. Replaying file heap Each false) (option_map (λ size. Some size) o)) says) read;
+  race = λ name file is other. let plain = plain_of file other in taken words _ r _ is (race_none name file plain) (race_asked name file plain) read;
+  audit = λ name file is other. let plain = plain_of file other in taken words _ r _ is (audit_none name file plain) (audit_asked name file plain) read;
+  no_heap = λ name subcommand file bytes which is other. heapless words r name subcommand file bytes which is (plain_of file other) read;
+  check = λ name file is other. let plain = plain_of file other in taken words _ r _ is (check_none name file plain) (check_asked name file plain) read;
+  generate = λ name seed steps n count is other other_steps is_seed is_steps.
+      let plain = plain_of seed other in
+      let plain_steps = plain_of steps other_steps in
+      taken words _ r _ is (generate_none name seed steps plain plain_steps) (generate_asked name seed steps plain plain_steps n count is_seed is_steps) read;
+  draw = λ name file is other. let plain = plain_of file other in taken words _ r _ is (draw_none name file plain) (draw_asked name file plain) read;
+}

@@ -1,6 +1,6 @@
 //! The size of a heap, as a word says it.
 ghost use Rattle.std.specs.Prelude.{◌≡◌};
-ghost use Rattle.trace_command.specs.Words.{heap_size as size_in};
+ghost use Rattle.trace_command.specs.Asked.{heap_size as size_in};
 
 /// The fewest bytes of a heap.
 const LEAST: usize = 4096;

@@ -1,7 +1,9 @@
 //! What the words of the program ask for.
 #![tactic(auto)]
 
+mod asked;
+mod forms;
 mod heap_size;
 mod words;
 
-pub use words::{Invocation, UsageFault, command};
+pub use words::{Invocation, Looks, UsageFault, command};

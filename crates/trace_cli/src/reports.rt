@@ -1,0 +1,141 @@
+//! The reports of `replay`, `race` and `audit`, written as the trace is read.
+ghost use Rattle.std.specs.Prelude.{◌≡◌, IfOk};
+ghost use Rattle.trace_cli.specs.Status.{HasAuditReport, HasRaceReport, HasReplayReport};
+
+use cpu_threads::Open;
+use linked_list_allocator::LocalHeap;
+use std::alloc::Allocator;
+use std::io;
+use std::sync::Wait;
+use std::thread::Threads;
+use trace_audit::audit_buffered;
+use trace_command::Looks;
+use trace_race::{Halted, RaceFault, race_buffered};
+use trace_reader::{EngineFault, Outcome};
+use trace_text::{Stopped, replay_at_end_buffered, replay_buffered};
+
+/// Replays a trace with the trees' tables in a heap of this size, or in the machine's memory.
+pub fn replayed<R: AllocGlobal + Print, F: io::Read + Drop>(
+    rt: &R,
+    heap: Option<usize>,
+    looks: Looks,
+    quiet: bool,
+    file: F,
+) -> Result<Outcome, Halted>
+    ensures { IfOk result (HasReplayReport (F.remaining file)) }
+{
+    let Some(bytes) = heap else {
+        return replayed_in(rt, rt.alloc(), looks, quiet, file);
+    };
+    match LocalHeap::new(rt.alloc(), bytes) {
+        Ok(heap) => replayed_in(rt, &heap, looks, quiet, file),
+        Err(_) => Err(Halted {
+            fault: RaceFault::Engine(EngineFault::NoMemory),
+            cause: None,
+        }),
+    }
+}
+
+/// Replays a trace with the trees' tables in this memory.
+fn replayed_in<R: AllocGlobal + Print, A: Allocator + Copy, F: io::Read + Drop>(
+    rt: &R,
+    alloc: A,
+    looks: Looks,
+    quiet: bool,
+    file: F,
+) -> Result<Outcome, Halted>
+    ensures { IfOk result (HasReplayReport (F.remaining file)) }
+{
+    if quiet {
+        return replayed_to(rt, alloc, looks, file, io::sink());
+    }
+    replayed_to(rt, alloc, looks, file, io::writer(rt))
+}
+
+fn replayed_to<R: AllocGlobal, A: Allocator + Copy, F: io::Read + Drop, W: io::Write + Drop>(
+    rt: &R,
+    alloc: A,
+    looks: Looks,
+    file: F,
+    writer: W,
+) -> Result<Outcome, Halted>
+    ensures { IfOk result (HasReplayReport (F.remaining file)) }
+{
+    let answer = match looks {
+        Looks::Each => replay_buffered(rt.alloc(), alloc, file, writer),
+        Looks::End => replay_at_end_buffered(rt.alloc(), alloc, file, writer),
+    };
+    match answer {
+        Ok((outcome, _writer)) => Ok(outcome),
+        Err(stopped) => Err(halted(stopped)),
+    }
+}
+
+/// Races a trace.
+pub fn raced<R: AllocGlobal + Print + Threads + Wait + Sync, F: io::Read + Drop>(
+    rt: &R,
+    quiet: bool,
+    file: F,
+) -> Result<Outcome, Halted>
+    ensures { IfOk result (HasRaceReport (F.remaining file)) }
+{
+    if quiet {
+        return raced_to(rt, file, io::sink());
+    }
+    raced_to(rt, file, io::writer(rt))
+}
+
+fn raced_to<R: AllocGlobal + Threads + Wait + Sync, F: io::Read + Drop, W: io::Write + Drop>(
+    rt: &R,
+    file: F,
+    writer: W,
+) -> Result<Outcome, Halted>
+    ensures { IfOk result (HasRaceReport (F.remaining file)) }
+{
+    match race_buffered(rt, rt.alloc(), file, writer, &Open) {
+        Ok((outcome, _writer)) => Ok(outcome),
+        Err((halted, _writer)) => Err(halted),
+    }
+}
+
+/// Audits a trace.
+pub fn audited<R: AllocGlobal + Print, F: io::Read + Drop>(
+    rt: &R,
+    quiet: bool,
+    file: F,
+) -> Result<Outcome, Halted>
+    ensures { IfOk result (HasAuditReport (F.remaining file)) }
+{
+    if quiet {
+        return audited_to(rt, file, io::sink());
+    }
+    audited_to(rt, file, io::writer(rt))
+}
+
+fn audited_to<R: AllocGlobal, F: io::Read + Drop, W: io::Write + Drop>(
+    rt: &R,
+    file: F,
+    writer: W,
+) -> Result<Outcome, Halted>
+    ensures { IfOk result (HasAuditReport (F.remaining file)) }
+{
+    match audit_buffered(rt.alloc(), rt.alloc(), file, writer) {
+        Ok((outcome, _writer)) => Ok(outcome),
+        Err(stopped) => Err(halted(stopped)),
+    }
+}
+
+/// Why a replay or an audit stopped, as a race tells it.
+fn halted<W: Drop>(stopped: Stopped<W>) -> Halted
+    ensures { result.fault ≡ RaceFault.Engine stopped.fault }
+{
+    let Stopped {
+        fault,
+        cause,
+        writer: _,
+    } = stopped;
+    Halted {
+        fault: RaceFault::Engine(fault),
+        cause,
+    }
+}

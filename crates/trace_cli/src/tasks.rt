@@ -1,0 +1,99 @@
+//! What is done with a file of a trace, once it is opened; the exit status.
+ghost use Rattle.std.specs.Prelude.{◌≡◌, IfOk};
+ghost use Rattle.trace_cli.specs.Status.{HasReport, HasStatus, status_told};
+
+use crate::reports::{audited, raced, replayed};
+use crate::telling::{FAILED, REFUSED, tell};
+use crate::texts::{checked, drawn, recorded};
+use std::io;
+use std::sync::Wait;
+use std::thread::Threads;
+use trace_command::Looks;
+use trace_race::Halted;
+use trace_reader::{Outcome, exit_status};
+
+/// What is done with the file of a trace.
+#[derive(Clone, Copy, PartialEq)]
+pub enum Task {
+    Replay {
+        heap: Option<usize>,
+        looks: Looks,
+        quiet: bool,
+    },
+    Race {
+        quiet: bool,
+    },
+    Audit {
+        quiet: bool,
+    },
+    Check {
+        looks: Looks,
+        quiet: bool,
+    },
+    /// Write the trace with its expectations filled in.
+    Record,
+    Draw {
+        text: bool,
+    },
+}
+
+/// A task, the path of its file, and what came of opening that.
+#[derive(Drop)]
+pub struct Opened<'a, F> {
+    pub task: Task,
+    pub path: &'a str,
+    pub file: Result<F, io::Error>,
+}
+
+/// Does the task, writes to standard error what is in no report, and gives the exit status.
+pub fn status_of<R: AllocGlobal + Print + Eprint + Threads + Wait + Sync, F: io::Read + Drop>(
+    rt: &R,
+    opened: Opened<'_, F>,
+) -> u8
+    ensures { HasStatus F.remaining opened.entry result }
+{
+    let Opened { task, path, file } = opened;
+    match file {
+        Ok(file) => {
+            let answer = answered(rt, task, path, file);
+            told(rt, path, answer)
+        }
+        Err(error) => {
+            let _ = eprintln!(rt; "trace_cli: {path}: {error}");
+            REFUSED
+        }
+    }
+}
+
+/// Tells on standard error why there is no whole report, if there is none, and gives the exit status.
+fn told<R: Eprint>(rt: &R, path: &str, answer: Result<Outcome, Halted>) -> u8
+    ensures { result ≡ status_told answer }
+{
+    let outcome = match answer {
+        Ok(outcome) => outcome,
+        Err(halted) => {
+            tell(rt, path, &halted);
+            return FAILED;
+        }
+    };
+    exit_status(Ok(outcome))
+}
+
+/// Does the task with an opened file, and writes the report to standard output, whose bytes no contract knows.
+fn answered<R: AllocGlobal + Print + Threads + Wait + Sync, F: io::Read + Drop>(
+    rt: &R,
+    task: Task,
+    path: &str,
+    file: F,
+) -> Result<Outcome, Halted>
+    ensures { IfOk result (HasReport task path.now (F.remaining file)) }
+{
+    match task {
+        Task::Replay { heap, looks, quiet } => replayed(rt, heap, looks, quiet, file),
+        Task::Race { quiet } => raced(rt, quiet, file),
+        Task::Audit { quiet } => audited(rt, quiet, file),
+        Task::Check { looks, quiet } => checked(rt, path, looks, quiet, file),
+        Task::Record => recorded(rt, file),
+        Task::Draw { text } => drawn(rt, text, file),
+    }
+}

@@ -1,0 +1,60 @@
+//! What is in no report, and is written to standard error.
+ghost use Rattle.std.specs.Prelude.{◌≡◌};
+ghost use Rattle.trace_cli.specs.Status.{IsRefused, place_in};
+
+use clap::error::ErrorKind;
+use trace_command::UsageFault;
+use trace_race::{Halted, RaceFault};
+use trace_reader::EngineFault;
+
+/// The status where the words are refused or a file can't be opened.
+pub const REFUSED: u8 = 2;
+
+/// The status of a fault that is in no report.
+pub const FAILED: u8 = 1;
+
+/// Tells why the words were refused, and gives the exit status. The version goes to standard output.
+pub fn refused<R: Print + Eprint>(rt: &R, fault: UsageFault) -> u8
+    ensures { IsRefused fault result }
+{
+    match fault {
+        UsageFault::Usage(error) => {
+            if error.kind() == ErrorKind::DisplayVersion {
+                return match rt.print(error) {
+                    Ok(()) => 0,
+                    Err(_) => FAILED,
+                };
+            }
+            let _ = rt.eprint(error);
+            REFUSED
+        }
+        UsageFault::NoMemory => {
+            let _ = eprintln!(rt; "trace_cli: out of memory");
+            FAILED
+        }
+    }
+}
+
+/// Tells why no whole report was written.
+pub fn tell<R: Eprint>(rt: &R, path: &str, halted: &Halted) {
+    let _ = match halted.fault {
+        RaceFault::Start => eprintln!(rt; "trace_cli: {path}: a thread could not be started"),
+        RaceFault::Engine(fault) => {
+            let place = place_of(fault, path);
+            match &halted.cause {
+                Some(cause) => eprintln!(rt; "trace_cli: {place}: {cause}"),
+                None => eprintln!(rt; "trace_cli: {place}: {fault}"),
+            }
+        }
+    };
+}
+
+/// What a fault is blamed on.
+fn place_of<'a>(fault: EngineFault, path: &'a str) -> &'a str
+    ensures { result.now ≡ place_in fault path.entry.now }
+{
+    match fault {
+        EngineFault::Write => "standard output",
+        EngineFault::Read | EngineFault::NoMemory => path,
+    }
+}

@@ -1,0 +1,131 @@
+//! The texts of `check` and `draw`, which are made of a whole trace in memory.
+ghost use Rattle.std.specs.Prelude.{◌≡◌, IfOk, IfSome, true};
+ghost use Rattle.trace_cli.specs.Status.{HasChecked, HasSnapshot, outcome_of_check as outcome_of_clean, outcome_of_end};
+
+use std::io::{self, ErrorKind, Write};
+use trace_check::{Watch, check, record};
+use trace_command::Looks;
+use trace_draw::{Ended, draw, draw_text};
+use trace_race::{Halted, RaceFault};
+use trace_reader::{EngineFault, Outcome};
+
+/// Checks a trace, and writes its misses.
+pub fn checked<R: AllocGlobal + Print, F: io::Read + Drop>(
+    rt: &R,
+    path: &str,
+    looks: Looks,
+    quiet: bool,
+    file: F,
+) -> Result<Outcome, Halted>
+    ensures { IfOk result (HasChecked path.now (F.remaining file)) }
+{
+    let trace = whole(rt, file)?;
+    let watch = match looks {
+        Looks::Each => Watch::EachStep,
+        Looks::End => Watch::AtEnd,
+    };
+    let Ok(checked) = check(rt.alloc(), rt.alloc(), path, trace.as_slice(), watch) else {
+        return Err(no_memory());
+    };
+    if !quiet {
+        write(rt, checked.text.as_slice())?;
+    }
+    Ok(outcome_of_check(checked.clean))
+}
+
+/// The outcome of a check.
+fn outcome_of_check(clean: bool) -> Outcome
+    ensures { result ≡ outcome_of_clean clean }
+{
+    if clean {
+        Outcome::Clean
+    } else {
+        Outcome::Disagreed
+    }
+}
+
+/// Writes a trace with its expectations filled in.
+pub fn recorded<R: AllocGlobal + Print, F: io::Read + Drop>(
+    rt: &R,
+    file: F,
+) -> Result<Outcome, Halted>
+    ensures { IfOk result (λ outcome. outcome ≡ Outcome.Clean) }
+{
+    let trace = whole(rt, file)?;
+    let Ok(text) = record(rt.alloc(), rt.alloc(), trace.as_slice()) else {
+        return Err(no_memory());
+    };
+    write(rt, text.as_slice())?;
+    Ok(Outcome::Clean)
+}
+
+/// Draws a trace, or writes the state at its end.
+pub fn drawn<R: AllocGlobal + Print, F: io::Read + Drop>(
+    rt: &R,
+    text: bool,
+    file: F,
+) -> Result<Outcome, Halted>
+    ensures { text ≡ true → IfOk result (HasSnapshot (F.remaining file)) }
+{
+    let trace = whole(rt, file)?;
+    if text {
+        let Ok(drawing) = draw_text(rt.alloc(), rt.alloc(), trace.as_slice()) else {
+            return Err(no_memory());
+        };
+        write(rt, drawing.text.as_bytes())?;
+        return Ok(outcome_of(drawing.ended));
+    }
+    let Ok(drawing) = draw(rt.alloc(), rt.alloc(), trace.as_slice()) else {
+        return Err(no_memory());
+    };
+    write(rt, drawing.svg.as_bytes())?;
+    Ok(outcome_of(drawing.ended))
+}
+
+/// All bytes of a file.
+fn whole<R: AllocGlobal, F: io::Read + Drop>(rt: &R, file: F) -> Result<Vec<u8>, Halted>
+    ensures { IfOk result (λ trace. IfSome (F.remaining file) (λ all. trace.items ≡ all)) }
+{
+    let mut file = file;
+    let mut trace = Vec::new(rt.alloc());
+    match file.read_to_end(&mut trace) {
+        Ok(_) => Ok(trace),
+        Err(error) => {
+            if error.kind() == ErrorKind::OutOfMemory {
+                return Err(no_memory());
+            }
+            Err(Halted {
+                fault: RaceFault::Engine(EngineFault::Read),
+                cause: Some(error),
+            })
+        }
+    }
+}
+
+/// Writes to standard output.
+fn write<R: Print>(rt: &R, text: &[u8]) -> Result<(), Halted> {
+    match io::writer(rt).write_all(text) {
+        Ok(()) => Ok(()),
+        Err(error) => Err(Halted {
+            fault: RaceFault::Engine(EngineFault::Write),
+            cause: Some(error),
+        }),
+    }
+}
+
+fn no_memory() -> Halted {
+    Halted {
+        fault: RaceFault::Engine(EngineFault::NoMemory),
+        cause: None,
+    }
+}
+
+/// How a run ended, as a report has it.
+fn outcome_of(ended: Ended) -> Outcome
+    ensures { result ≡ outcome_of_end ended }
+{
+    match ended {
+        Ended::Clean => Outcome::Clean,
+        Ended::Fault { line: _, fault: _ } => Outcome::Fault,
+    }
+}

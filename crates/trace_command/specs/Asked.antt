@@ -1,0 +1,174 @@
+-- What the words of the program ask for.
+use Rattle.std.specs.Prelude.{◌≡◌, ◌≢◌, ◌&&◌, ◌⊎◌, ⊤, ℕ, Bool, true, false, List, [], ◌∷◌, map, Option, Result, Some, None, Ok, Err, MatchResult, codes, if◌then◌else◌, nat_le, nat_lt, option_and_then, option_map, slice_get, slice_index}
+use Rattle.std.specs.Option.{option_map_or}
+use Rattle.std.specs.Str.{all_ascii_digits, bytes_eq}
+use Rattle.std.specs.Str.Parse.{digits_value}
+use Rattle.clap.specs.declared.error.Error.{Error}
+use Rattle.clap.specs.declared.error.kind.ErrorKind.TheVariants.{OutOfMemory}
+use Rattle.clap.specs.Words.{IsAmong, Row, Text, all_of, fault_of, first_of, kind_of, subcommand_of}
+use Rattle.trace_words.specs.Numbers.{number_of}
+use Rattle.trace_command.specs.declared.asked.Unread.{Unread}
+use Rattle.trace_command.specs.declared.asked.Unread.TheVariants as unread
+use Rattle.trace_command.specs.declared.words.Invocation.{Invocation}
+use Rattle.trace_command.specs.declared.words.Invocation.TheVariants as invocation
+use Rattle.trace_command.specs.declared.words.Looks.{Looks}
+use Rattle.trace_command.specs.declared.words.Looks.TheVariants.{Each, End}
+use Rattle.trace_command.specs.declared.words.UsageFault.{UsageFault}
+use Rattle.trace_command.specs.declared.words.UsageFault.TheVariants.{NoMemory, Usage}
+use Rattle.trace_command.specs.Words.{program}
+
+-- what may be asked for
+pub data Asking : Type 0 where
+  -- the file, the heap's bytes, when the oracle looks, and whether the report is left out
+  Replaying : Text → Option ℕ → Looks → Bool → Asking
+  Racing : Text → Bool → Asking
+  Auditing : Text → Bool → Asking
+  Checking : List Text → Looks → Bool → Asking
+  Recording : Text → Asking
+  -- the seed, the steps, the CPUs, the pages, the geometry, and the calls in a hundred that are to be refused
+  Generating : ℕ → ℕ → ℕ → ℕ → ℕ → ℕ → Asking
+  -- whether as text
+  Drawing : Text → Bool → Asking
+
+abbrev pub asking_of : Invocation → Asking
+asking_of (invocation.Replay file heap looks quiet) = Replaying file.now heap looks quiet
+asking_of (invocation.Race file quiet) = Racing file.now quiet
+asking_of (invocation.Audit file quiet) = Auditing file.now quiet
+asking_of (invocation.Check files looks quiet) = Checking (map (λ file. file.now) files.items) looks quiet
+asking_of (invocation.Record file) = Recording file.now
+asking_of (invocation.Generate seed steps cpus pages geometry hostile) = Generating seed steps cpus pages geometry hostile
+asking_of (invocation.Draw file text) = Drawing file.now text
+
+-- ---- values
+
+-- the size that a word says: decimal digits of which the first isn't 0 (48), from 4,096 to 1,073,741,824
+abbrev pub heap_size : Text → Option ℕ
+heap_size word =
+    if nat_lt 48 (slice_index word 0) && (all_ascii_digits word && (nat_le 4096 (digits_value 10 word) && nat_le (digits_value 10 word) 1073741824)) then Some (digits_value 10 word)
+    else None
+
+-- the heap that is asked for: none without a word, else one of the size that it says. No answer where it says none
+abbrev pub heap_told : Option Text → Option (Option ℕ)
+heap_told None = Some None
+heap_told (Some word) = option_map (λ size. Some size) (heap_size word)
+
+-- when the oracle looks: after each step, where no word says it
+abbrev pub looks_told : Option Text → Option Looks
+looks_told None = Some Each
+looks_told (Some word) = if bytes_eq word (codes "each") then Some Each else (if bytes_eq word (codes "end") then Some End else None)
+
+-- a number as a trace writes it; where no word says it, it is that one
+abbrev pub number_told : ℕ → Option Text → Option ℕ
+number_told otherwise None = Some otherwise
+number_told otherwise (Some word) = number_of word
+
+-- a flag is given
+abbrev pub is_set : Text → List Row → Bool
+is_set id rows = option_map_or (λ word. bytes_eq word (codes "true")) (first_of id rows) false
+
+-- ---- what a subcommand is asked for, by the values that clap has found
+
+abbrev pub replaying : List Row → Option Asking
+replaying rows =
+    option_and_then (λ file. option_and_then (λ heap. option_map (λ looks. Replaying file heap looks (is_set (codes "quiet") rows)) (looks_told (first_of (codes "oracle") rows)))
+    (heap_told (first_of (codes "heap") rows))) (first_of (codes "FILE") rows)
+
+abbrev pub racing : List Row → Option Asking
+racing rows = option_map (λ file. Racing file (is_set (codes "quiet") rows)) (first_of (codes "FILE") rows)
+
+abbrev pub auditing : List Row → Option Asking
+auditing rows = option_map (λ file. Auditing file (is_set (codes "quiet") rows)) (first_of (codes "FILE") rows)
+
+-- `check --record` takes one file
+abbrev pub recording : List Text → Option Asking
+recording [] = None
+recording (file ∷ []) = Some (Recording file)
+recording (file ∷ more ∷ files) = None
+
+abbrev pub checking : List Row → Option Asking
+checking rows =
+    option_and_then (λ files. option_and_then (λ looks. if is_set (codes "record") rows then recording files else Some (Checking files looks (is_set (codes "quiet") rows)))
+    (looks_told (first_of (codes "oracle") rows))) (all_of (codes "FILE") rows)
+
+abbrev pub generating : List Row → Option Asking
+generating rows =
+    option_and_then (λ seed. option_and_then (λ steps. option_and_then (λ cpus. option_and_then (λ pages. option_and_then (λ geometry. option_map (Generating seed steps cpus pages geometry)
+    (number_told 0 (first_of (codes "hostile") rows))) (number_told 39 (first_of (codes "geometry") rows))) (number_told 2048 (first_of (codes "pages") rows))) (number_told 4 (first_of (codes "cpus") rows)))
+    (option_and_then number_of (first_of (codes "STEPS") rows))) (option_and_then number_of (first_of (codes "SEED") rows))
+
+abbrev pub drawing : List Row → Option Asking
+drawing rows = option_map (λ file. Drawing file (is_set (codes "text") rows)) (first_of (codes "FILE") rows)
+
+-- what is asked for by a subcommand's name and its values
+abbrev pub asked_in : Text × List Row → Option Asking
+asked_in (name, rows) =
+    if bytes_eq name (codes "replay") then replaying rows
+    else (if bytes_eq name (codes "race") then racing rows
+    else (if bytes_eq name (codes "audit") then auditing rows
+    else (if bytes_eq name (codes "check") then checking rows
+    else (if bytes_eq name (codes "generate") then generating rows
+    else (if bytes_eq name (codes "draw") then drawing rows
+    else None)))))
+
+-- what words ask for, where clap finds no fault in them
+abbrev pub asked_by : List Text → Option Asking
+asked_by words = option_and_then asked_in (subcommand_of program words)
+
+-- what was read: what the words ask for; a fault that clap finds in them, or that it finds none and they ask for nothing, since a value isn't
+-- of its form; or that memory was refused
+abbrev pub IsRead : List Text → Result Invocation UsageFault → Type 0
+IsRead words (Ok invocation) = (fault_of program words ≡ []) × (asked_by words ≡ Some (asking_of invocation))
+IsRead words (Err (Usage error)) = IsAmong (kind_of error) (fault_of program words) ⊎ ((fault_of program words ≡ []) × (asked_by words ≡ None))
+IsRead words (Err NoMemory) = ⊤
+
+-- this is what is asked for, unless memory was refused
+abbrev pub Gives : Asking → Result Invocation UsageFault → Type 0
+Gives asking (Ok invocation) = asking_of invocation ≡ asking
+Gives asking (Err (Usage error)) = ⊥
+Gives asking (Err NoMemory) = ⊤
+
+-- the words were refused, or memory was
+abbrev pub IsRefused : Result Invocation UsageFault → Type 0
+IsRefused (Ok invocation) = ⊥
+IsRefused (Err fault) = ⊤
+
+-- a word that is no option: it doesn't begin with a hyphen (45)
+abbrev pub IsPlain : Text → Type 0
+IsPlain word = slice_get word 0 ≢ Some 45
+
+-- the words that are taken, the program's name first, and what they ask for
+pub record Takes (words : List Text) (r : Result Invocation UsageFault) : Type 0 where
+  pub replay : (name file : Text) → words ≡ name ∷ codes "replay" ∷ file ∷ [] → IsPlain file → Gives (Replaying file None Each false) r
+  pub input : (name : Text) → words ≡ name ∷ codes "replay" ∷ codes "-" ∷ [] → Gives (Replaying (codes "-") None Each false) r
+  pub heap : (name file bytes : Text) (size : ℕ) → words ≡ name ∷ codes "replay" ∷ file ∷ codes "--heap" ∷ bytes ∷ [] → IsPlain file → IsPlain bytes → heap_size bytes ≡ Some size
+      → Gives (Replaying file (Some size) Each false) r
+  pub no_size : (name file bytes : Text) → words ≡ name ∷ codes "replay" ∷ file ∷ codes "--heap" ∷ bytes ∷ [] → IsPlain file → IsPlain bytes → heap_size bytes ≡ None → IsRefused r
+  pub race : (name file : Text) → words ≡ name ∷ codes "race" ∷ file ∷ [] → IsPlain file → Gives (Racing file false) r
+  pub audit : (name file : Text) → words ≡ name ∷ codes "audit" ∷ file ∷ [] → IsPlain file → Gives (Auditing file false) r
+  pub no_heap : (name subcommand file bytes : Text) → (subcommand ≡ codes "race") ⊎ (subcommand ≡ codes "audit") → words ≡ name ∷ subcommand ∷ file ∷ codes "--heap" ∷ bytes ∷ [] → IsPlain file → IsRefused r
+  pub check : (name file : Text) → words ≡ name ∷ codes "check" ∷ file ∷ [] → IsPlain file → Gives (Checking (file ∷ []) Each false) r
+  pub generate : (name seed steps : Text) (n count : ℕ) → words ≡ name ∷ codes "generate" ∷ seed ∷ steps ∷ [] → IsPlain seed → IsPlain steps → number_of seed ≡ Some n → number_of steps ≡ Some count
+      → Gives (Generating n count 4 2048 39 0) r
+  pub draw : (name file : Text) → words ≡ name ∷ codes "draw" ∷ file ∷ [] → IsPlain file → Gives (Drawing file false) r
+
+-- ---- parts of it
+
+-- the fault that stands for an error of clap's
+abbrev pub StandsFor : Error → UsageFault → Type 0
+StandsFor error (Usage shown) = (shown ≡ error) × (kind_of error ≢ OutOfMemory)
+StandsFor error NoMemory = kind_of error ≡ OutOfMemory
+
+-- a value that was read is the one that was found, and a refusal comes where none was
+abbrev pub IsReadAs : {X Y : Type 0} → Option Y → (X → Y) → Result X Unread → Type 0
+IsReadAs found of (Ok value) = found ≡ Some (of value)
+IsReadAs found of (Err (unread.Word wanted)) = found ≡ None
+IsReadAs found of (Err unread.NoMemory) = ⊥
+
+-- and where memory may be refused
+abbrev pub IsReadUnlessMemory : {X Y : Type 0} → Option Y → (X → Y) → Result X Unread → Type 0
+IsReadUnlessMemory found of (Ok value) = found ≡ Some (of value)
+IsReadUnlessMemory found of (Err (unread.Word wanted)) = found ≡ None
+IsReadUnlessMemory found of (Err unread.NoMemory) = ⊤
+
+abbrev pub HasAsked : Option Asking → Result Invocation Unread → Type 0
+HasAsked found = IsReadUnlessMemory found asking_of

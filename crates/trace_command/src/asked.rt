@@ -1,0 +1,285 @@
+//! What the words ask for, once clap has read them.
+ghost use Rattle.std.specs.Prelude.{◌≡◌, codes, map, option_and_then, option_map};
+ghost use Rattle.clap.specs.Words.{all_of, first_of, found_of, rows_of, subcommand_rows_of};
+ghost use Rattle.trace_words.specs.Numbers.{number_of as number_said};
+ghost use Rattle.trace_command.specs.Asked.{
+  HasAsked,
+  IsReadAs,
+  IsReadUnlessMemory,
+  asked_in,
+  auditing,
+  checking,
+  drawing,
+  generating,
+  heap_told,
+  is_set as is_set_in,
+  looks_told,
+  number_told,
+  racing,
+  recording,
+  replaying,
+};
+
+use crate::heap_size::heap_size;
+use crate::words::{Invocation, Looks};
+use clap::ArgMatches;
+use std::alloc::{AllocError, Global};
+use trace_words::number;
+
+/// The CPUs of a trace that is made, where no word says it.
+const CPUS: u64 = 4;
+
+/// Its pages of memory.
+const PAGES: u64 = 2048;
+
+/// The width of its input addresses.
+const GEOMETRY: u64 = 39;
+
+/// Of a hundred of its calls, those that are to be refused.
+const HOSTILE: u64 = 0;
+
+/// A value that isn't of its form.
+#[derive(Clone, Copy, PartialEq)]
+pub(crate) enum Wanted {
+    Subcommand,
+    File,
+    OneFile,
+    Bytes,
+    When,
+    Number,
+}
+
+/// Why what clap has read asks for nothing.
+#[derive(Clone, Copy)]
+pub(crate) enum Unread {
+    Word(Wanted),
+    NoMemory,
+}
+
+impl From<AllocError> for Unread {
+    ghost use Rattle.trace_command.specs.declared.asked.Unread.TheVariants.{NoMemory};
+
+    ghost from_gives = { λ _ unread. unread ≡ NoMemory };
+
+    fn from(_error: AllocError) -> Unread {
+        Unread::NoMemory
+    }
+}
+
+/// What is asked for.
+pub(crate) fn asked<'a>(global: Global, matches: &ArgMatches<'a>) -> Result<Invocation<'a>, Unread>
+    ensures { HasAsked (option_and_then asked_in (subcommand_rows_of matches.now)) result }
+{
+    match matches.subcommand() {
+        Some((name, inner)) => asked_of(global, name, inner),
+        None => Err(Unread::Word(Wanted::Subcommand)),
+    }
+}
+
+/// What a subcommand is asked for.
+fn asked_of<'a>(
+    global: Global,
+    name: &str,
+    inner: &ArgMatches<'a>,
+) -> Result<Invocation<'a>, Unread>
+    ensures { HasAsked (asked_in (name.now, rows_of (found_of inner.now))) result }
+{
+    if name == "replay" {
+        return replay_asked(inner);
+    }
+    if name == "race" {
+        return race_asked(inner);
+    }
+    if name == "audit" {
+        return audit_asked(inner);
+    }
+    if name == "check" {
+        return check_asked(global, inner);
+    }
+    if name == "generate" {
+        return generate_asked(inner);
+    }
+    if name == "draw" {
+        return draw_asked(inner);
+    }
+    Err(Unread::Word(Wanted::Subcommand))
+}
+
+/// The first value of an argument.
+fn value<'a>(inner: &ArgMatches<'a>, id: &str) -> Option<&'a str>
+    ensures { option_map (λ word. word.now) result ≡ first_of id.now (rows_of (found_of inner.now)) }
+{
+    inner.get_str(id)
+}
+
+/// The path that is given as FILE.
+fn file<'a>(inner: &ArgMatches<'a>) -> Result<&'a str, Unread>
+    ensures { IsReadAs (first_of (codes "FILE") (rows_of (found_of inner.now))) (λ path. path.now) result }
+{
+    match value(inner, "FILE") {
+        Some(path) => Ok(path),
+        None => Err(Unread::Word(Wanted::File)),
+    }
+}
+
+/// The heap that is given as `--heap`.
+fn heap(inner: &ArgMatches<'_>) -> Result<Option<usize>, Unread>
+    ensures { IsReadAs (heap_told (first_of (codes "heap") (rows_of (found_of inner.now)))) (λ size. size) result }
+{
+    let Some(word) = value(inner, "heap") else {
+        return Ok(None);
+    };
+    match heap_size(word) {
+        Some(size) => Ok(Some(size)),
+        None => Err(Unread::Word(Wanted::Bytes)),
+    }
+}
+
+/// What is given as `--oracle`.
+fn looks(inner: &ArgMatches<'_>) -> Result<Looks, Unread>
+    ensures { IsReadAs (looks_told (first_of (codes "oracle") (rows_of (found_of inner.now)))) (λ looks. looks) result }
+{
+    let Some(word) = value(inner, "oracle") else {
+        return Ok(Looks::Each);
+    };
+    if word == "each" {
+        return Ok(Looks::Each);
+    }
+    if word == "end" {
+        return Ok(Looks::End);
+    }
+    Err(Unread::Word(Wanted::When))
+}
+
+/// Whether a flag is given.
+fn is_set(inner: &ArgMatches<'_>, id: &str) -> bool
+    ensures { result ≡ is_set_in id.now (rows_of (found_of inner.now)) }
+{
+    match value(inner, id) {
+        Some(word) => word == "true",
+        None => false,
+    }
+}
+
+/// A number that must be given.
+fn number_of(inner: &ArgMatches<'_>, id: &str) -> Result<u64, Unread>
+    ensures { IsReadAs (option_and_then number_said (first_of id.now (rows_of (found_of inner.now)))) (λ value. value) result }
+{
+    let Some(word) = value(inner, id) else {
+        return Err(Unread::Word(Wanted::Number));
+    };
+    match number(word.as_bytes()) {
+        Some(value) => Ok(value),
+        None => Err(Unread::Word(Wanted::Number)),
+    }
+}
+
+/// A number that may be given.
+fn number_or(inner: &ArgMatches<'_>, id: &str, otherwise: u64) -> Result<u64, Unread>
+    ensures { IsReadAs (number_told otherwise (first_of id.now (rows_of (found_of inner.now)))) (λ value. value) result }
+{
+    let Some(word) = value(inner, id) else {
+        return Ok(otherwise);
+    };
+    match number(word.as_bytes()) {
+        Some(value) => Ok(value),
+        None => Err(Unread::Word(Wanted::Number)),
+    }
+}
+
+/// All that is given as FILE.
+fn files<'a>(global: Global, inner: &ArgMatches<'a>) -> Result<Vec<&'a str>, Unread>
+    ensures { IsReadUnlessMemory (all_of (codes "FILE") (rows_of (found_of inner.now))) (λ files. map (λ path. path.now) files.items) result }
+{
+    let Some(given) = inner.get_strs("FILE") else {
+        return Err(Unread::Word(Wanted::File));
+    };
+    let mut files = Vec::with_capacity(global, given.len())?;
+    files.extend_from_slice(given)?;
+    Ok(files)
+}
+
+fn replay_asked<'a>(inner: &ArgMatches<'a>) -> Result<Invocation<'a>, Unread>
+    ensures { HasAsked (replaying (rows_of (found_of inner.now))) result }
+{
+    let file = file(inner)?;
+    let heap = heap(inner)?;
+    let looks = looks(inner)?;
+    Ok(Invocation::Replay {
+        file,
+        heap,
+        looks,
+        quiet: is_set(inner, "quiet"),
+    })
+}
+
+fn race_asked<'a>(inner: &ArgMatches<'a>) -> Result<Invocation<'a>, Unread>
+    ensures { HasAsked (racing (rows_of (found_of inner.now))) result }
+{
+    Ok(Invocation::Race {
+        file: file(inner)?,
+        quiet: is_set(inner, "quiet"),
+    })
+}
+
+fn audit_asked<'a>(inner: &ArgMatches<'a>) -> Result<Invocation<'a>, Unread>
+    ensures { HasAsked (auditing (rows_of (found_of inner.now))) result }
+{
+    Ok(Invocation::Audit {
+        file: file(inner)?,
+        quiet: is_set(inner, "quiet"),
+    })
+}
+
+fn check_asked<'a>(global: Global, inner: &ArgMatches<'a>) -> Result<Invocation<'a>, Unread>
+    ensures { HasAsked (checking (rows_of (found_of inner.now))) result }
+{
+    let files = files(global, inner)?;
+    let looks = looks(inner)?;
+    if is_set(inner, "record") {
+        return record_asked(files.as_slice());
+    }
+    Ok(Invocation::Check {
+        files,
+        looks,
+        quiet: is_set(inner, "quiet"),
+    })
+}
+
+/// `check --record` of these files, which are to be one.
+fn record_asked<'a>(files: &[&'a str]) -> Result<Invocation<'a>, Unread>
+    ensures { HasAsked (recording (map (λ path. path.now) files.now)) result }
+{
+    match files {
+        [file] => Ok(Invocation::Record { file: *file }),
+        _ => Err(Unread::Word(Wanted::OneFile)),
+    }
+}
+
+fn generate_asked<'a>(inner: &ArgMatches<'a>) -> Result<Invocation<'a>, Unread>
+    ensures { HasAsked (generating (rows_of (found_of inner.now))) result }
+{
+    let seed = number_of(inner, "SEED")?;
+    let steps = number_of(inner, "STEPS")?;
+    let cpus = number_or(inner, "cpus", CPUS)?;
+    let pages = number_or(inner, "pages", PAGES)?;
+    let geometry = number_or(inner, "geometry", GEOMETRY)?;
+    let hostile = number_or(inner, "hostile", HOSTILE)?;
+    Ok(Invocation::Generate {
+        seed,
+        steps,
+        cpus,
+        pages,
+        geometry,
+        hostile,
+    })
+}
+
+fn draw_asked<'a>(inner: &ArgMatches<'a>) -> Result<Invocation<'a>, Unread>
+    ensures { HasAsked (drawing (rows_of (found_of inner.now))) result }
+{
+    Ok(Invocation::Draw {
+        file: file(inner)?,
+        text: is_set(inner, "text"),
+    })
+}

@@ -1,0 +1,285 @@
+//! The forms of the words, as clap takes them.
+ghost use Rattle.std.specs.Prelude.{◌≡◌, IfOk, codes, false};
+ghost use Rattle.clap.specs.Words.{app_of, rule_of};
+ghost use Rattle.clap.specs.declared.builder.command.Command.TheViews.{out-Command as fields_of};
+ghost use Rattle.trace_command.specs.Words.{
+  audit as audit_app,
+  check as check_app,
+  draw as draw_app,
+  files as files_rule,
+  flag as flag_rule,
+  generate as generate_app,
+  needed as needed_rule,
+  option as option_rule,
+  program,
+  race as race_app,
+  replay as replay_app,
+};
+ghost use Rattle.clap.specs.Words.{new_app, with_rule, with_subcommand};
+
+use crate::asked::Wanted;
+use clap::error::ErrorKind;
+use clap::{Arg, ArgAction, Command, Error};
+use std::alloc::{AllocError, Global};
+
+/// What `--version` shows.
+const VERSION: &str = "1.0.0 (rattle-kit-13f)";
+
+/// What help shows after the words.
+const HELP: &str =
+    "Examples:\n  ./run replay examples/first_share.trace\n  ./run replay examples/first_share.trace --heap 262144\n  ./run race examples/raced/one_vcpu.trace\n  ./run audit examples/audited/broken_word.trace\n  ./run check examples/expected_replies.trace\n  ./run generate 1 1000 --cpus 4 --hostile 10\n  ./run draw examples/protected_vm.trace\n\nFILE is a path, or - for standard input.\n\nExit status:\n  0  the report ends without a fault or a disagreement; what a trace expects is met\n  1  the report has a fault or a disagreement, an expectation is missed, or reading, writing, memory or the start of a thread failed\n  2  FILE can't be opened, the words are refused, or help was asked for\n\nThe lines of a trace, its report and each fault are explained in docs/TRACES.md.";
+
+/// A value that must be given, by its place.
+fn needed<'a>(global: Global, id: &'a str, help: &'a str) -> Arg<'a>
+    ensures rule { rule_of result ≡ needed_rule id.now }
+    ensures local { result.global ≡ false }
+{
+    Arg::new(global, id)
+        .required(true)
+        .action(ArgAction::Set)
+        .help(help)
+}
+
+/// Values that must be given, one or more.
+fn files_arg<'a>(global: Global) -> Arg<'a>
+    ensures rule { rule_of result ≡ files_rule }
+    ensures local { result.global ≡ false }
+{
+    Arg::new(global, "FILE")
+        .required(true)
+        .num_args(1..)
+        .action(ArgAction::Append)
+        .help("the traces")
+}
+
+/// `--ID NAME`.
+fn option<'a>(global: Global, id: &'a str, name: &'a str, help: &'a str) -> Arg<'a>
+    ensures rule { rule_of result ≡ option_rule id.now }
+    ensures local { result.global ≡ false }
+{
+    Arg::new(global, id)
+        .long(id)
+        .value_name(name)
+        .action(ArgAction::Set)
+        .help(help)
+}
+
+/// `--ID`.
+fn flag<'a>(global: Global, id: &'a str, help: &'a str) -> Arg<'a>
+    ensures rule { rule_of result ≡ flag_rule id.now }
+    ensures local { result.global ≡ false }
+{
+    Arg::new(global, id)
+        .long(id)
+        .action(ArgAction::SetTrue)
+        .help(help)
+}
+
+/// A subcommand that takes nothing yet.
+fn subcommand<'a>(global: Global, name: &'a str, about: &'a str) -> Command<'a>
+    ensures app { app_of result ≡ new_app name.now }
+    ensures local { (fields_of result).has_globals ≡ false }
+{
+    Command::new(global, name).about(about).after_help(HELP)
+}
+
+/// A subcommand that takes this too.
+fn with<'a>(form: Command<'a>, arg: Arg<'a>) -> Result<Command<'a>, AllocError>
+    requires form { (fields_of form).has_globals ≡ false }
+    requires arg { arg.global ≡ false }
+    ensures app { IfOk result (λ more. app_of more ≡ with_rule (app_of form.entry) (rule_of arg.entry)) }
+    ensures local { IfOk result (λ more. (fields_of more).has_globals ≡ false) }
+{
+    form.arg(arg)
+}
+
+/// The program's form with this subcommand too.
+fn with_form<'a>(form: Command<'a>, more: Command<'a>) -> Result<Command<'a>, AllocError>
+    requires more { (fields_of more).has_globals ≡ false }
+    ensures app { IfOk result (λ whole. app_of whole ≡ with_subcommand (app_of form.entry) (app_of more.entry).top) }
+{
+    form.subcommand(more)
+}
+
+fn file<'a>(global: Global) -> Arg<'a>
+    ensures rule { rule_of result ≡ needed_rule (codes "FILE") }
+    ensures local { result.global ≡ false }
+{
+    needed(global, "FILE", "the trace; - is standard input")
+}
+
+fn oracle<'a>(global: Global) -> Arg<'a>
+    ensures rule { rule_of result ≡ option_rule (codes "oracle") }
+    ensures local { result.global ≡ false }
+{
+    option(
+        global,
+        "oracle",
+        "WHEN",
+        "each: the oracle looks after each step, as without this option; end: once, after the last line",
+    )
+}
+
+fn quiet<'a>(global: Global) -> Arg<'a>
+    ensures rule { rule_of result ≡ flag_rule (codes "quiet") }
+    ensures local { result.global ≡ false }
+{
+    flag(global, "quiet", "writes no report: the exit status tells")
+}
+
+fn replay<'a>(global: Global) -> Result<Command<'a>, AllocError>
+    ensures app { IfOk result (λ form. app_of form ≡ replay_app) }
+    ensures local { IfOk result (λ form. (fields_of form).has_globals ≡ false) }
+{
+    let form = subcommand(
+        global,
+        "replay",
+        "Runs the steps of a trace in order and reports each reply",
+    );
+    let form = with(form, file(global))?;
+    let heap = option(
+        global,
+        "heap",
+        "BYTES",
+        "keeps the trees' tables in a heap of this size, 4096 to 1073741824; without it they lie in the machine's memory",
+    );
+    let form = with(form, heap)?;
+    let form = with(form, oracle(global))?;
+    with(form, quiet(global))
+}
+
+fn race<'a>(global: Global) -> Result<Command<'a>, AllocError>
+    ensures app { IfOk result (λ form. app_of form ≡ race_app) }
+    ensures local { IfOk result (λ form. (fields_of form).has_globals ≡ false) }
+{
+    let form = subcommand(
+        global,
+        "race",
+        "Runs the steps of a trace, those after 'start' on one thread for each CPU, and reports each reply",
+    );
+    let form = with(form, file(global))?;
+    with(form, quiet(global))
+}
+
+fn audit<'a>(global: Global) -> Result<Command<'a>, AllocError>
+    ensures app { IfOk result (λ form. app_of form ≡ audit_app) }
+    ensures local { IfOk result (λ form. (fields_of form).has_globals ≡ false) }
+{
+    let form = subcommand(
+        global,
+        "audit",
+        "Runs the steps of a trace, sets the words that it pokes, and compares what is kept with a walk of all words",
+    );
+    let form = with(form, file(global))?;
+    with(form, quiet(global))
+}
+
+fn check<'a>(global: Global) -> Result<Command<'a>, AllocError>
+    ensures app { IfOk result (λ form. app_of form ≡ check_app) }
+    ensures local { IfOk result (λ form. (fields_of form).has_globals ≡ false) }
+{
+    let form = subcommand(
+        global,
+        "check",
+        "Runs traces and tells where a line reports something else than the comment '#= ..' after it expects",
+    );
+    let form = with(form, files_arg(global))?;
+    let record = flag(
+        global,
+        "record",
+        "writes the trace with what its lines report as expectations; takes one FILE",
+    );
+    let form = with(form, record)?;
+    let form = with(form, oracle(global))?;
+    with(form, quiet(global))
+}
+
+fn generate<'a>(global: Global) -> Result<Command<'a>, AllocError>
+    ensures app { IfOk result (λ form. app_of form ≡ generate_app) }
+    ensures local { IfOk result (λ form. (fields_of form).has_globals ≡ false) }
+{
+    let form = subcommand(
+        global,
+        "generate",
+        "Makes a trace of all calls: the same words make the same trace",
+    );
+    let form = with(form, needed(global, "SEED", "which trace of its kind"))?;
+    let form = with(form, needed(global, "STEPS", "how many step lines"))?;
+    let form = with(form, option(global, "cpus", "N", "1 to 64; without it 4"))?;
+    let form = with(
+        form,
+        option(global, "pages", "N", "pages of memory; without it 2048"),
+    )?;
+    let form = with(
+        form,
+        option(
+            global,
+            "geometry",
+            "N",
+            "the width of input addresses, 39 or 48; without it 39",
+        ),
+    )?;
+    with(
+        form,
+        option(
+            global,
+            "hostile",
+            "N",
+            "of a hundred calls, how many the model is to refuse; without it 0",
+        ),
+    )
+}
+
+fn draw<'a>(global: Global) -> Result<Command<'a>, AllocError>
+    ensures app { IfOk result (λ form. app_of form ≡ draw_app) }
+    ensures local { IfOk result (λ form. (fields_of form).has_globals ≡ false) }
+{
+    let form = subcommand(
+        global,
+        "draw",
+        "Draws as an SVG who owns what, step by step",
+    );
+    let form = with(form, file(global))?;
+    let text = flag(
+        global,
+        "text",
+        "writes the state at the end as text in place of a picture",
+    );
+    with(form, text)
+}
+
+/// The form of the words: the program's name and one subcommand.
+pub(crate) fn form<'a>(global: Global) -> Result<Command<'a>, AllocError>
+    ensures { IfOk result (λ form. app_of form ≡ program) }
+{
+    let form = Command::new(global, "trace_cli")
+        .about("Runs traces of hypercalls on a model of protected KVM's page ownership")
+        .version(VERSION)
+        .after_help(HELP)
+        .subcommand_required(true)
+        .arg_required_else_help(true);
+    let form = with_form(form, replay(global)?)?;
+    let form = with_form(form, race(global)?)?;
+    let form = with_form(form, audit(global)?)?;
+    let form = with_form(form, check(global)?)?;
+    let form = with_form(form, generate(global)?)?;
+    with_form(form, draw(global)?)
+}
+
+/// The error for a value that isn't of its form.
+pub(crate) fn refusal(global: Global, wanted: Wanted) -> Result<Error, AllocError> {
+    let mut form = form(global)?;
+    form.error(ErrorKind::ValueValidation, text_of(wanted))
+}
+
+fn text_of(wanted: Wanted) -> &'static str {
+    match wanted {
+        Wanted::Subcommand => "a subcommand is needed",
+        Wanted::File => "FILE is needed",
+        Wanted::OneFile => "--record takes one FILE",
+        Wanted::Bytes => "BYTES must be a decimal number from 4096 to 1073741824",
+        Wanted::When => "WHEN must be each or end",
+        Wanted::Number =>
+            "SEED, STEPS and each N must be numbers below 2^64, decimal or 0x and hexadecimal",
+    }
+}
