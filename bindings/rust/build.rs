@@ -1,0 +1,21 @@
+//! Links the proved static library, and the toolchain's allocator for C. PKVM_ORACLE_LIB and RATTLE_KIT name other places.
+use std::env;
+use std::path::PathBuf;
+
+fn main() {
+    let here = PathBuf::from(env::var("CARGO_MANIFEST_DIR").expect("cargo sets it"));
+    let library = env::var("PKVM_ORACLE_LIB")
+        .map(PathBuf::from)
+        .unwrap_or_else(|_| here.join("../../crates/pkvm_oracle/out"));
+    let kit = env::var("RATTLE_KIT").unwrap_or_else(|_| "/opt/rattle".into());
+    println!("cargo:rustc-link-search=native={}", library.display());
+    println!("cargo:rustc-link-search=native={kit}/c");
+    println!("cargo:rustc-link-lib=static=pkvm_oracle");
+    println!("cargo:rustc-link-lib=static=libc_c");
+    println!("cargo:rerun-if-env-changed=PKVM_ORACLE_LIB");
+    println!("cargo:rerun-if-env-changed=RATTLE_KIT");
+    println!(
+        "cargo:rerun-if-changed={}",
+        library.join("libpkvm_oracle.a").display()
+    );
+}

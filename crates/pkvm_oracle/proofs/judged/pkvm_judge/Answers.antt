@@ -1,0 +1,6 @@
+use Rattle.std.proofs.Common.{rules, refl, inr}
+use Rattle.plain_ghost.specs.declared.judge.Unjudged.TheVariants as unjudged
+use Rattle.pkvm_oracle.proofs.judged.pkvm_judge.Goals as goal
+
+pub returns-in-Err-write_judgement : goal.returns-in-Err-write_judgement
+returns-in-Err-write_judgement c = inr (inr (inr (record { why = unjudged.NoMemory; unjudged = tt; status_is = refl; count_is = refl; refused_is = refl; text = search rules })))

@@ -1,0 +1,4 @@
+pub mod Judged
+pub mod Refusals
+pub mod Replayed
+pub mod Words

@@ -1,0 +1,29 @@
+-- What decoding and encoding words answers C.
+use Rattle.std.specs.Prelude.{◌≡◌, ◌⊎◌, ℕ, ℤ, pos, negsuc, Some, MatchOption}
+use Rattle.descriptor.specs.declared.Desc.{Desc}
+use Rattle.descriptor.specs.declared.Level.{Level}
+use Rattle.descriptor.specs.Word.{desc_of, CanBeSaid, IsSaid}
+use Rattle.plain_words.specs.declared.word.PlainWord.{PlainWord}
+use Rattle.plain_words.specs.Numbers.{level_said}
+use Rattle.plain_words.specs.Said.{desc_said}
+
+-- the word of a level is decoded: what is written is the one descriptor that it says
+pub record Decodes (level : Level) (word : ℕ) (new : PlainWord) (status : ℤ) : Type 0 where
+  pub desc : Desc
+  pub said : IsSaid level word desc
+  pub written : desc_said new ≡ Some desc
+  pub done : status ≡ pos 0
+
+-- or there is no such level, and nothing is written
+abbrev pub IsDecoded : ℕ → ℕ → PlainWord → PlainWord → ℤ → Type 0
+IsDecoded level word old new status = MatchOption (level_said level) ((status ≡ negsuc 0) × (new ≡ old)) (λ l. Decodes l word new status)
+
+-- a descriptor is encoded as a word that says it, or none does, and nothing is written
+abbrev pub Encodes : Level → Desc → ℕ → ℕ → ℤ → Type 0
+Encodes level desc old new status = ((status ≡ pos 0) × (desc_of level new ≡ desc)) ⊎ ((status ≡ negsuc 3) × (new ≡ old) × (CanBeSaid level desc → ⊥))
+
+-- or there is no such level, or a number stands for nothing
+abbrev pub IsEncoded : ℕ → PlainWord → ℕ → ℕ → ℤ → Type 0
+IsEncoded level says old new status =
+    MatchOption (level_said level) ((status ≡ negsuc 0) × (new ≡ old)) (λ l.
+    MatchOption (desc_said says) ((status ≡ negsuc 2) × (new ≡ old)) (λ desc. Encodes l desc old new status))

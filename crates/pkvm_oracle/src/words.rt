@@ -1,0 +1,39 @@
+//! Words of tables.
+ghost use Rattle.pkvm_oracle.specs.Words.{IsDecoded, IsEncoded};
+
+use crate::statuses::{BAD_NUMBER, NO_LEVEL, NO_WORD};
+use descriptor::{decode, encode};
+use plain_words::{PlainWord, desc_of, desc_told, level_of};
+
+/// What a word of a table of a level says. 0, or -1 where there is no such level, and then `out` stays.
+#[unsafe(no_mangle)]
+pub extern "C" fn pkvm_decode(level: u64, word: u64, out: &mut PlainWord) -> i32
+    ensures { IsDecoded level word out.old out.new result }
+{
+    let Some(level) = level_of(level) else {
+        return NO_LEVEL;
+    };
+    *out = desc_told(decode(level, word));
+    0
+}
+
+/// The one word that says this in a table of a level. 0; or -1 where there is no such level, -3 where a number of it stands for nothing,
+/// -4 where no word says it there; and then `out` stays.
+#[unsafe(no_mangle)]
+pub extern "C" fn pkvm_encode(level: u64, says: &PlainWord, out: &mut u64) -> i32
+    ensures { IsEncoded level says.now out.old out.new result }
+{
+    let Some(level) = level_of(level) else {
+        return NO_LEVEL;
+    };
+    let Some(desc) = desc_of(*says) else {
+        return BAD_NUMBER;
+    };
+    match encode(level, &desc) {
+        Some(word) => {
+            *out = word;
+            0
+        }
+        None => NO_WORD,
+    }
+}

@@ -1,0 +1,114 @@
+-- The state of lists that are filled in as plain lists say, and their faults.
+use Rattle.std.proofs.Common.{◌≡◌, ℕ, zero, suc, ◌+◌, ◌<◌, ◌≤◌, List, [], ◌∷◌, All, Option, None, get_or, length, map, refl, sym, ap, subst, inl, inr, ◌∙◌}
+use Rattle.std.specs.Prelude.{◌⊎◌, ◌↔◌, unwrap_or, IfErr, Result, Ok, Err}
+use Rattle.std.specs.List.{enumerate_from}
+use Rattle.std.proofs.lemmas.List.{get_or_past}
+use mathlib.Core.Path.{fun_ext}
+use Rattle.page_state.proofs.Cases.{by_lt}
+use Rattle.page_state.proofs.Common.{same2}
+use Rattle.page_state.specs.declared.entry.Run.{Run}
+use Rattle.page_state.specs.declared.row.Row.{Row}
+use Rattle.page_state.specs.Rows.{advance_row, plain_row}
+use Rattle.page_state.specs.Runs.{map_of}
+use Rattle.page_state.specs.Trees.{Tree, Pool}
+use Rattle.reference_model.specs.State.{Contents, Cpu, Guest, Reference, Rooms, Slot, no_cpu, no_guest, no_slot}
+use Rattle.run_list.specs.Runs.{run_map}
+use Rattle.ghost_trees.specs.declared.tree.Table.{Table}
+use Rattle.ghost_trees.specs.declared.tree.Tree.{Tree as TreeOfLists}
+use Rattle.ghost_trees.specs.Pools.{in_order}
+use Rattle.ghost_trees.specs.Trees.{table_of, tree_in_lists}
+use Rattle.ghost_spec.specs.declared.filled.GhostFault.{GhostFault}
+use Rattle.ghost_spec.specs.declared.filled.GhostFault.TheVariants.{WrongCount, TooLarge, Overlap, TableTwice, FrameTwice, NoMemory as NoGhostMemory}
+use Rattle.ghost_spec.specs.declared.lists.GhostLists.{GhostLists}
+use Rattle.ghost_spec.specs.declared.parts.GhostGuest.{GhostGuest}
+use Rattle.ghost_spec.specs.Filled.{ordered, state_filled, IsFirstFault}
+use Rattle.ghost_spec.specs.States.{guest_in, rooms_in, slot_in}
+use Rattle.ghost_spec.specs.Views.{cpu_in, row_in}
+use Rattle.plain_ghost.specs.declared.members.PlainGuest.{PlainGuest}
+use Rattle.plain_ghost.specs.declared.state.PlainFault.{PlainFault}
+use Rattle.plain_ghost.specs.declared.state.PlainFault.TheVariants.{Unknown, Rows as RowsFault, Lists as ListsFault, NoMemory}
+use Rattle.plain_ghost.specs.Faults.{first_unknown_of, HasFault, IsListsFault, IsPlainFault}
+use Rattle.plain_ghost.specs.Filled.{GuestLists, guest_lists_said, lists_in, IsFilled, IsFilledTree, IsRoomy}
+use Rattle.plain_ghost.specs.Lists.{cpu_said, frames_said, rows_said, runs_said, slot_said, tables_said}
+use Rattle.plain_ghost.specs.States.{Lists, guest_said, indexed, rooms_said, state_said, tree_said}
+
+-- a state of its parts
+abbrev whole : (ℕ → Slot) → Tree → Tree → Pool → (ℕ → Row) → (ℕ → Guest) → (ℕ → Cpu) → Rooms → Reference
+whole slot host hyp free row guest cpu rooms = record { contents = record { vms = record { slot = slot }; shared = record { host = host; hyp = hyp; free = free; row = row }; guest = guest; cpu = cpu }; rooms = rooms }
+
+abbrev tree_from : List Run → List Table → Tree
+tree_from runs tables = record { map = map_of runs; table = table_of tables }
+
+tree_at : (p : Lists) (n : ℕ) (t : TreeOfLists) → IsFilledTree p n t → tree_in_lists t ≡ tree_said p n
+tree_at p n t f = same2 tree_from f.runs f.tables
+
+-- the guest of its lists
+abbrev guest_from : GuestLists → Guest
+guest_from g = record { phase = g.phase; generation = g.generation; kind = g.kind; tree = tree_from g.runs g.tables; free = in_order g.free }
+
+guests_seen : (gs : List GhostGuest) (v : ℕ) → ordered (get_or (map guest_in gs) v no_guest) ≡ get_or (map guest_from (map lists_in gs)) v no_guest
+guests_seen [] v = refl
+guests_seen (g ∷ gs) zero = refl
+guests_seen (g ∷ gs) (suc v) = guests_seen gs v
+
+guests_told : (p : Lists) (n : ℕ) (gs : List PlainGuest) → map guest_from (map (λ e. guest_lists_said p e.0 e.1) (enumerate_from n gs)) ≡ map (λ e. guest_said p e.0 e.1) (enumerate_from n gs)
+guests_told p n [] = refl
+guests_told p n (g ∷ gs) = ap (λ (xs : List Guest). guest_said p n g ∷ xs) (guests_told p (n + 1) gs)
+
+ones_at : (xs : List ℕ) → All (λ n. n ≡ 1) xs → (v : ℕ) → get_or xs v 1 ≡ 1
+ones_at xs all v = by_lt v (length xs) (λ l. all v 1 l) (λ l. get_or_past xs v 1 l)
+
+abbrev rooms_from : ℕ → ℕ → (ℕ → ℕ) → (ℕ → ℕ) → Rooms
+rooms_from vms shared guest cpu = record { vms = vms; shared = shared; guest = guest; cpu = cpu }
+
+rooms_at : (l : GhostLists) → IsRoomy l.rooms → l.layout.config.log ≡ 1 → rooms_in l.layout.config.log l.rooms ≡ rooms_said
+rooms_at l r log =
+    ap (λ (n : ℕ). rooms_in n l.rooms) log
+    ∙ (same2 (λ (v s : ℕ). rooms_from v s (λ i. get_or l.rooms.guests.items i 1) (λ i. get_or l.rooms.cpus.items i 1)) r.vms r.shared
+    ∙ same2 (λ (g c : ℕ → ℕ). rooms_from 1 1 g c) (fun_ext (ones_at l.rooms.guests.items r.guests)) (fun_ext (ones_at l.rooms.cpus.items r.cpus)))
+
+-- lists that are filled in as plain lists say have the state that these say
+pub filled_state : (p : Lists) (l : GhostLists) → IsFilled p l → state_filled l ≡ state_said p
+filled_state p l f =
+    let slots : (λ v. get_or (map slot_in l.vms.items) v (no_slot 1)) ≡ (λ v. get_or (indexed (slot_said p.loads) p.slots) v (no_slot 1)) = ap {B = ℕ → Slot} (λ (xs : List Slot) v. get_or xs v (no_slot 1)) f.slots in
+    let host = tree_at p 0 l.shared.host f.shared.host in
+    let hyp = tree_at p 1 l.shared.hyp f.shared.hyp in
+    let free = ap in_order f.shared.free in
+    let rows : row_in l.shared.rows.runs ≡ row_in (rows_said p.rows) = ap {B = ℕ → Row} (λ (m : ℕ → Option Row) n. unwrap_or (m n) plain_row) f.shared.rows in
+    let told : map guest_from (map lists_in l.guests.items) ≡ indexed (guest_said p) p.guests = ap (map guest_from) f.guests ∙ guests_told p 0 p.guests in
+    let guests : (λ v. ordered (get_or (map guest_in l.guests.items) v no_guest)) ≡ (λ v. get_or (indexed (guest_said p) p.guests) v no_guest) = fun_ext (guests_seen l.guests.items) ∙ ap {B = ℕ → Guest} (λ (xs : List Guest) v. get_or xs v no_guest) told in
+    let cpus : (λ c. get_or (map cpu_in l.cpus.items) c no_cpu) ≡ (λ c. get_or (map cpu_said p.cpus) c no_cpu) = ap {B = ℕ → Cpu} (λ (xs : List Cpu) c. get_or xs c no_cpu) f.cpus in
+    let rooms = rooms_at l f.rooms f.log in
+    same2 (λ (x : ℕ → Slot) (y : Tree). whole x y (tree_in_lists l.shared.hyp) (in_order l.shared.free.items) (row_in l.shared.rows.runs) (λ v. ordered (get_or (map guest_in l.guests.items) v no_guest)) (λ c. get_or (map cpu_in l.cpus.items) c no_cpu) (rooms_in l.layout.config.log l.rooms)) slots host
+    ∙ (same2 (λ (x : Tree) (y : Pool). whole (λ v. get_or (indexed (slot_said p.loads) p.slots) v (no_slot 1)) (tree_said p 0) x y (row_in l.shared.rows.runs) (λ v. ordered (get_or (map guest_in l.guests.items) v no_guest)) (λ c. get_or (map cpu_in l.cpus.items) c no_cpu) (rooms_in l.layout.config.log l.rooms)) hyp free
+    ∙ (same2 (λ (x : ℕ → Row) (y : ℕ → Guest). whole (λ v. get_or (indexed (slot_said p.loads) p.slots) v (no_slot 1)) (tree_said p 0) (tree_said p 1) (in_order (frames_said p.frames 1)) x y (λ c. get_or (map cpu_in l.cpus.items) c no_cpu) (rooms_in l.layout.config.log l.rooms)) rows guests
+    ∙ same2 (λ (x : ℕ → Cpu) (y : Rooms). whole (λ v. get_or (indexed (slot_said p.loads) p.slots) v (no_slot 1)) (tree_said p 0) (tree_said p 1) (in_order (frames_said p.frames 1)) (row_in (rows_said p.rows)) (λ v. get_or (indexed (guest_said p) p.guests) v no_guest) x y) cpus rooms))
+
+-- a fault of lists that are filled in is one of the plain lists
+pub lists_fault : (cpus : ℕ) (p : Lists) (l : GhostLists) → first_unknown_of p ≡ None → IsFilled p l → length l.rooms.guests.items ≡ 64 → length l.rooms.cpus.items ≡ cpus → l.layout.config.cpus ≡ cpus
+    → (why : PlainFault) → IsListsFault p l why → IsPlainFault cpus p why
+lists_fault cpus p l known f guests rooms are (Unknown list at) h = absurd h
+lists_fault cpus p l known f guests rooms are (RowsFault fault) h = absurd h
+lists_fault cpus p l known f guests rooms are (ListsFault fault culprit) h = (known, record { lists = l; filled = f; guest_rooms = guests; cpu_rooms = rooms; cpus_are = are; first = h.0 }, h.1)
+lists_fault cpus p l known f guests rooms are NoMemory h = tt
+
+no_memory_fault : (cpus : ℕ) (p : Lists) (why : PlainFault) → why ≡ NoMemory → IsPlainFault cpus p why
+no_memory_fault cpus p why e = subst (IsPlainFault cpus p) (sym e) tt
+
+-- what is told of a fault of theirs is true of the plain lists
+pub told_fault : (cpus : ℕ) (p : Lists) (l : GhostLists) → first_unknown_of p ≡ None → IsFilled p l → length l.rooms.guests.items ≡ 64 → length l.rooms.cpus.items ≡ cpus → l.layout.config.cpus ≡ cpus
+    → (f : GhostFault) (why : PlainFault) → (f ≡ NoGhostMemory ⊎ IsFirstFault f l) → (f ≡ NoGhostMemory → why ≡ NoMemory) → ((m : GhostLists) → IsFirstFault f m → IsListsFault p m why) → IsPlainFault cpus p why
+told_fault cpus p l known filled guests rooms are f why (inl e) memory fault = no_memory_fault cpus p why (memory e)
+told_fault cpus p l known filled guests rooms are f why (inr h) memory fault = lists_fault cpus p l known filled guests rooms are why (fault l h)
+
+-- a fault that is answered is the first
+pub first_fault : {G : Type 0} (l : GhostLists) (r : Result G GhostFault) → ((r ≡ Err WrongCount) ↔ IsFirstFault WrongCount l) → ((r ≡ Err TooLarge) ↔ IsFirstFault TooLarge l)
+    → ((r ≡ Err Overlap) ↔ IsFirstFault Overlap l) → ((r ≡ Err TableTwice) ↔ IsFirstFault TableTwice l) → ((r ≡ Err FrameTwice) ↔ IsFirstFault FrameTwice l)
+    → IfErr r (λ f. f ≡ NoGhostMemory ⊎ IsFirstFault f l)
+first_fault l (Ok made) a b c d e = tt
+first_fault l (Err WrongCount) a b c d e = inr (a.0 refl)
+first_fault l (Err TooLarge) a b c d e = inr (b.0 refl)
+first_fault l (Err Overlap) a b c d e = inr (c.0 refl)
+first_fault l (Err TableTwice) a b c d e = inr (d.0 refl)
+first_fault l (Err FrameTwice) a b c d e = inr (e.0 refl)
+first_fault l (Err NoGhostMemory) a b c d e = inl refl

@@ -1,0 +1,3 @@
+pub mod FilledStates
+mod Generations
+pub mod OneMore

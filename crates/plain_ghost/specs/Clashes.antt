@@ -1,0 +1,28 @@
+-- Members of a list that can't be there with an earlier one.
+use Rattle.std.specs.Prelude.{◌≡◌, ℕ, Bool, true, ◌==◌, ◌&&◌, ◌||◌, nat_lt, List, take, Some, slice_get}
+use Rattle.std.specs.List.{list_any}
+use Rattle.page_state.specs.Regions.{is_in_range}
+use Rattle.plain_ghost.specs.declared.members.PlainRun.{PlainRun}
+use Rattle.plain_ghost.specs.declared.members.PlainTable.{PlainTable}
+use Rattle.plain_ghost.specs.declared.members.PlainFrame.{PlainFrame}
+use Rattle.plain_ghost.specs.Lists.{range_said}
+
+-- two runs of one tree that have pages share one: either has the other's first
+abbrev pub do_runs_clash : PlainRun → PlainRun → Bool
+do_runs_clash a b =
+    a.tree == b.tree && (nat_lt 0 a.count && nat_lt 0 b.count)
+    && (is_in_range (range_said a.page a.count) b.page || is_in_range (range_said b.page b.count) a.page)
+
+-- two tables of one tree have one block or one frame
+abbrev pub do_tables_clash : PlainTable → PlainTable → Bool
+do_tables_clash a b = a.tree == b.tree && (a.height == b.height && a.index == b.index || a.frame == b.frame)
+
+-- two free frames of one pool are the same
+abbrev pub do_frames_clash : PlainFrame → PlainFrame → Bool
+do_frames_clash a b = a.pool == b.pool && a.frame == b.frame
+
+-- the member at an index clashes with an earlier one
+pub record IsClash {X : Type 0} (clash : X → X → Bool) (xs : List X) (i : ℕ) : Type 0 where
+  pub member : X
+  pub is : slice_get xs i ≡ Some member
+  pub earlier : list_any (clash member) (take i xs) ≡ true

@@ -1,0 +1,69 @@
+-- Lists of the reference state that are filled in as plain lists say, before any test of them.
+use Rattle.std.specs.Prelude.{◌≡◌, ℕ, ◌+◌, List, All, length, map}
+use Rattle.page_state.specs.declared.entry.Run.{Run}
+use Rattle.page_state.specs.Rows.{advance_row}
+use Rattle.run_list.specs.Runs.{run_map}
+use Rattle.step_reply.specs.declared.step.VmKind.{VmKind}
+use Rattle.reference_model.specs.State.{Phase}
+use Rattle.ghost_trees.specs.declared.tree.Table.{Table}
+use Rattle.ghost_trees.specs.declared.tree.Tree.{Tree}
+use Rattle.ghost_spec.specs.declared.lists.GhostLists.{GhostLists}
+use Rattle.ghost_spec.specs.declared.lists.GhostRooms.{GhostRooms}
+use Rattle.ghost_spec.specs.declared.parts.GhostGuest.{GhostGuest}
+use Rattle.ghost_spec.specs.declared.shared.Shared.{Shared}
+use Rattle.ghost_spec.specs.States.{phase_in, slot_in}
+use Rattle.ghost_spec.specs.Views.{cpu_in}
+use Rattle.plain_ghost.specs.declared.members.PlainGuest.{PlainGuest}
+use Rattle.plain_ghost.specs.Lists.{runs_said, tables_said, frames_said, rows_said, slot_said, phase_said, kind_said, cpu_said}
+use Rattle.plain_ghost.specs.States.{Lists, indexed}
+
+-- a tree has the runs and the tables of a number
+pub record IsFilledTree (p : Lists) (tree : ℕ) (t : Tree) : Type 0 where
+  pub runs : t.runs.items ≡ runs_said p.runs tree
+  pub tables : t.tables.items ≡ tables_said p.tables tree
+
+-- the Shared part: pool 1 is the shared one
+pub record IsFilledShared (p : Lists) (s : Shared) : Type 0 where
+  pub host : IsFilledTree p 0 s.host
+  pub hyp : IsFilledTree p 1 s.hyp
+  pub free : s.free.items ≡ frames_said p.frames 1
+  pub rows : run_map advance_row s.rows.runs ≡ run_map advance_row (rows_said p.rows)
+
+-- what a guest's lists hold
+pub record GuestLists : Type 0 where
+  pub phase : Phase
+  pub generation : ℕ
+  pub kind : VmKind
+  pub runs : List Run
+  pub tables : List Table
+  pub free : List ℕ
+
+abbrev pub lists_in : GhostGuest → GuestLists
+lists_in g = record { phase = phase_in g.phase; generation = g.generation; kind = g.kind; runs = g.tree.runs.items; tables = g.tree.tables.items; free = g.free.items }
+
+-- and what those of a slot say
+abbrev pub guest_lists_said : Lists → ℕ → PlainGuest → GuestLists
+guest_lists_said p slot g = record {
+  phase = phase_said g.phase;
+  generation = g.generation;
+  kind = kind_said g.kind;
+  runs = runs_said p.runs (2 + slot);
+  tables = tables_said p.tables (2 + slot);
+  free = frames_said p.frames (2 + slot);
+}
+
+-- each log has room for one call
+pub record IsRoomy (r : GhostRooms) : Type 0 where
+  pub vms : r.vms ≡ 1
+  pub shared : r.shared ≡ 1
+  pub guests : All (λ n. n ≡ 1) r.guests.items
+  pub cpus : All (λ n. n ≡ 1) r.cpus.items
+
+-- all lists
+pub record IsFilled (p : Lists) (l : GhostLists) : Type 0 where
+  pub shared : IsFilledShared p l.shared
+  pub slots : map slot_in l.vms.items ≡ indexed (slot_said p.loads) p.slots
+  pub guests : map lists_in l.guests.items ≡ indexed (guest_lists_said p) p.guests
+  pub cpus : map cpu_in l.cpus.items ≡ map cpu_said p.cpus
+  pub rooms : IsRoomy l.rooms
+  pub log : l.layout.config.log ≡ 1

@@ -1,0 +1,40 @@
+-- Which members of plain lists have known numbers, and the first that hasn't.
+use Rattle.std.specs.Prelude.{◌≡◌, ℕ, Bool, true, ◌==◌, ◌&&◌, ◌||◌, not, nat_lt, nat_le, is_some, List, Option, option_map, position}
+use Rattle.plain_words.specs.Said.{target_said, row_said}
+use Rattle.plain_ghost.specs.declared.members.PlainRun.{PlainRun}
+use Rattle.plain_ghost.specs.declared.members.PlainTable.{PlainTable}
+use Rattle.plain_ghost.specs.declared.members.PlainFrame.{PlainFrame}
+use Rattle.plain_ghost.specs.declared.members.PlainSlot.{PlainSlot}
+use Rattle.plain_ghost.specs.declared.members.PlainLoad.{PlainLoad}
+use Rattle.plain_ghost.specs.declared.members.PlainGuest.{PlainGuest}
+use Rattle.plain_ghost.specs.declared.members.PlainCpu.{PlainCpu}
+use Rattle.plain_ghost.specs.declared.members.PlainRow.{PlainRow}
+
+-- a tree: the host's, the hypervisor's, or one of the 64 guests'
+abbrev pub is_tree : ℕ → Bool
+is_tree n = nat_lt n 66
+
+abbrev pub is_run : PlainRun → Bool
+is_run r = is_tree r.tree && is_some (target_said r.word)
+
+abbrev pub is_table : PlainTable → Bool
+is_table t = is_tree t.tree
+
+-- a pool: the shared one, or one of the 64 guests'
+abbrev pub is_frame : PlainFrame → Bool
+is_frame f = nat_le 1 f.pool && nat_lt f.pool 66
+
+abbrev pub is_slot : PlainSlot → Bool
+is_slot s = nat_lt s.stand 4 && nat_lt s.kind 2
+
+abbrev pub is_load : PlainLoad → Bool
+is_load l = nat_lt l.slot 64 && nat_lt l.vcpu 8
+
+abbrev pub is_guest : PlainGuest → Bool
+is_guest g = nat_lt g.phase 3 && nat_lt g.kind 2
+
+abbrev pub is_cpu : PlainCpu → Bool
+is_cpu k = k.has_ticket == 0 || nat_lt k.ticket_kind 2 && nat_lt k.ticket_stage 5
+
+abbrev pub is_row : PlainRow → Bool
+is_row r = is_some (row_said r.owner)

@@ -1,0 +1,25 @@
+-- The reference layout that a plain layout says. Each log has room for one call.
+use Rattle.std.specs.Prelude.{ℕ, ◌==◌, List, map, if◌then◌else◌}
+use Rattle.page_state.specs.declared.layout.Region.{Region}
+use Rattle.page_state.specs.declared.layout.RegionKind.TheVariants.{Memory, Device}
+use Rattle.page_state.specs.Layouts.{Layout}
+use Rattle.page_state.specs.Regions.{Memory as MemoryOfRegions, memory_of}
+use Rattle.plain_ghost.specs.declared.layout.PlainLayout.{PlainLayout}
+use Rattle.plain_ghost.specs.declared.layout.PlainRegion.{PlainRegion}
+use Rattle.plain_ghost.specs.Lists.{range_said}
+
+-- a region: 0 is memory, and each other number a device
+abbrev pub region_said : PlainRegion → Region
+region_said r = record { kind = if r.kind == 0 then Memory else Device; pages = range_said r.first r.count }
+
+-- the memory
+abbrev pub memory_said : PlainLayout → List PlainRegion → MemoryOfRegions
+memory_said l regions = memory_of (map region_said regions) (range_said l.carve_first l.carve_count)
+
+-- the layout
+abbrev pub layout_said : PlainLayout → List PlainRegion → Layout
+layout_said l regions = record {
+  memory = memory_said l regions;
+  config = record { cpus = l.cpus; log = 1; geometry = l.address_bits };
+  depth = if l.address_bits == 48 then 3 else 2;
+}

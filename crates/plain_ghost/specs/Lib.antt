@@ -1,0 +1,9 @@
+pub mod Clashes
+pub mod Faults
+pub mod Filled
+pub mod Judged
+pub mod Known
+pub mod Layouts
+pub mod Lists
+pub mod States
+pub mod Views

@@ -1,0 +1,64 @@
+-- The reference state that plain lists say.
+use Rattle.std.specs.Prelude.{ℕ, ◌+◌, List, get_or, map}
+use Rattle.std.specs.List.{enumerate_from}
+use Rattle.page_state.specs.Runs.{map_of}
+use Rattle.page_state.specs.Trees.{Tree}
+use Rattle.reference_model.specs.State.{Contents, Guest, Reference, Rooms, no_cpu, no_guest, no_slot}
+use Rattle.ghost_spec.specs.Views.{row_in}
+use Rattle.ghost_trees.specs.Pools.{in_order}
+use Rattle.ghost_trees.specs.Trees.{table_of}
+use Rattle.plain_ghost.specs.declared.members.PlainRun.{PlainRun}
+use Rattle.plain_ghost.specs.declared.members.PlainTable.{PlainTable}
+use Rattle.plain_ghost.specs.declared.members.PlainFrame.{PlainFrame}
+use Rattle.plain_ghost.specs.declared.members.PlainSlot.{PlainSlot}
+use Rattle.plain_ghost.specs.declared.members.PlainLoad.{PlainLoad}
+use Rattle.plain_ghost.specs.declared.members.PlainGuest.{PlainGuest}
+use Rattle.plain_ghost.specs.declared.members.PlainCpu.{PlainCpu}
+use Rattle.plain_ghost.specs.declared.members.PlainRow.{PlainRow}
+use Rattle.plain_ghost.specs.Lists.{runs_said, tables_said, frames_said, rows_said, slot_said, phase_said, kind_said, cpu_said}
+
+-- the lists of a state
+pub record Lists : Type 0 where
+  pub runs : List PlainRun
+  pub tables : List PlainTable
+  pub frames : List PlainFrame
+  pub slots : List PlainSlot
+  pub loads : List PlainLoad
+  pub guests : List PlainGuest
+  pub cpus : List PlainCpu
+  pub rows : List PlainRow
+
+-- the tree of a number: 0 the host's, 1 the hypervisor's, 2 + v the guest's in slot v
+abbrev pub tree_said : Lists → ℕ → Tree
+tree_said p tree = record { map = map_of (runs_said p.runs tree); table = table_of (tables_said p.tables tree) }
+
+-- a guest, by its slot
+abbrev pub guest_said : Lists → ℕ → PlainGuest → Guest
+guest_said p slot g = record {
+  phase = phase_said g.phase;
+  generation = g.generation;
+  kind = kind_said g.kind;
+  tree = tree_said p (2 + slot);
+  free = in_order (frames_said p.frames (2 + slot));
+}
+
+-- what the members of a list say, by their indices
+abbrev pub indexed : {A B : Type 0} → (ℕ → A → B) → List A → List B
+indexed says xs = map (λ e. says e.0 e.1) (enumerate_from 0 xs)
+
+-- all contents. Pool 1 is the shared one
+abbrev pub contents_said : Lists → Contents
+contents_said p = record {
+  vms = record { slot = λ v. get_or (indexed (slot_said p.loads) p.slots) v (no_slot 1) };
+  shared = record { host = tree_said p 0; hyp = tree_said p 1; free = in_order (frames_said p.frames 1); row = row_in (rows_said p.rows) };
+  guest = λ v. get_or (indexed (guest_said p) p.guests) v no_guest;
+  cpu = λ c. get_or (map cpu_said p.cpus) c no_cpu;
+}
+
+-- each log has room for a call
+abbrev pub rooms_said : Rooms
+rooms_said = record { vms = 1; shared = 1; guest = λ v. 1; cpu = λ c. 1 }
+
+-- the state
+abbrev pub state_said : Lists → Reference
+state_said p = record { contents = contents_said p; rooms = rooms_said }

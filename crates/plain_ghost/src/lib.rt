@@ -1,0 +1,20 @@
+//! States and layouts as lists of plain structs, which C and Rust lay out alike: what they say, the judgement of a call by them,
+//! and the prediction of one.
+#![tactic(auto)]
+
+mod clash;
+mod judge;
+mod known;
+mod layout;
+mod lists;
+mod members;
+mod state;
+mod text;
+
+pub use judge::{PlainCall, Unjudged, Unmade, foretold, judged, made};
+pub use layout::{PlainLayout, PlainLayoutFault, PlainRegion, layout_of};
+pub use members::{
+    PlainCpu, PlainFrame, PlainGuest, PlainLoad, PlainRow, PlainRun, PlainSlot, PlainTable,
+};
+pub use state::{PlainFault, PlainList, PlainState, state_of};
+pub use text::write_judgement;

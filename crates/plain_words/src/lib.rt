@@ -1,0 +1,17 @@
+//! Words of tables, owner rows, steps and replies as structs of numbers, which C and Rust lay out alike.
+#![tactic(auto)]
+
+mod numbers;
+mod owner;
+mod reply;
+mod step;
+mod word;
+
+pub use numbers::{
+    kind_number, kind_of, level_of, refusal_number, refusal_of, rights_number, rights_of,
+    state_number, state_of, vm_kind_number, vm_kind_of,
+};
+pub use owner::{PlainOwner, owner_told, row_of};
+pub use reply::{PlainReply, reply_of, reply_told};
+pub use step::{PlainStep, step_of};
+pub use word::{PlainWord, desc_of, desc_told, entry_of, entry_told, target_of};
