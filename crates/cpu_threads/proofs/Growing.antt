@@ -7,7 +7,8 @@ use Rattle.step_reply.specs.declared.reply.Call.{Call}
 use Rattle.step_reply.specs.declared.step.Step.{Step}
 use Rattle.step_reply.specs.declared.step.Step.TheVariants.{ShareHyp, UnshareHyp, DonateHyp, HypDonateHost, HostAbort, HostTranslate, HypTranslate, OwnerOf, Fund, Unfund, ShareGuest, UnshareGuest, DonateGuest, GuestShareHost, GuestUnshareHost, Install, Topup, ReclaimPage, ReclaimPool, FinishGuest, GuestRelax, GuestTranslate, MarkDying, VmReserve, VmOpen, VcpuLoad, VcpuPut, Teardown, VmRelease}
 use Rattle.step_reply.specs.declared.step.VmId.{VmId}
-use Rattle.reference_model.specs.Parts.{guest, guest_slot, is_used, names, shared, shared_and_guest, vms, vms_of}
+use Rattle.reference_model.specs.Parts.{guest, is_used, shared, shared_and_guest, vms, vms_of}
+use Rattle.reference_model.specs.Rules.{guest_slot, names}
 use Rattle.reference_model.specs.State.{Cpu}
 use Rattle.guest_steps.specs.View.{cpu_of}
 use Rattle.hypercalls.specs.Uses.{or_vms, parts_of}

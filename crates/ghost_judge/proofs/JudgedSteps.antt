@@ -9,7 +9,7 @@ use Rattle.step_reply.specs.declared.reply.Reply.{Reply}
 use Rattle.step_reply.specs.declared.reply.Reply.TheVariants.{Done, Refused}
 use Rattle.step_reply.specs.declared.step.Step.{Step}
 use Rattle.page_state.specs.Layouts.{Layout}
-use Rattle.reference_model.specs.Parts.{names, guest_slot}
+use Rattle.reference_model.specs.Rules.{names, guest_slot}
 use Rattle.reference_model.specs.State.{Reference}
 use Rattle.reference_model.specs.Step.{is_full, fails, rule_of, made, answer, stored, foretell, used_by, rooms_by, with_used, FindsFull, IsWanting, IsStoredAnswer, Steps}
 use Rattle.reference_model.specs.Used.{Used, used_of}

@@ -25,7 +25,7 @@ use Rattle.table_tree.proofs.Slots.{by_slot, case_word, case_child}
 use Rattle.table_tree.proofs.Standing.{table_top, table_below, stand_word, stand_child}
 use Rattle.ghost_trees.specs.declared.tree.Table.{Table as FoundTable}
 use Rattle.ghost_trees.specs.Trees.{table_of}
-use Rattle.ghost_oracle.specs.Walked.{table_under}
+use Rattle.table_tree.specs.Roots.{table_under}
 use Rattle.ghost_oracle.specs.inner.Walking.{found_at, found_under}
 
 -- the table at a block in lists put together

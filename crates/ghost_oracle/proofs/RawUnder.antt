@@ -15,7 +15,7 @@ use Rattle.ghost_spec.specs.declared.parts.GhostGuest.{GhostGuest}
 use Rattle.ghost_oracle.specs.declared.raw.RawGuest.{RawGuest}
 use Rattle.ghost_oracle.specs.declared.trees.Source.{Source}
 use Rattle.ghost_oracle.specs.RawFound.{IsSlotFound}
-use Rattle.ghost_oracle.specs.Walked.{map_under, table_under, tree_under}
+use Rattle.table_tree.specs.Roots.{map_under, table_under, tree_under}
 
 map_same : {A : Type 0} (t : RawTree A) (page : ℕ) → map_under t.geometry t.table page ≡ raw_meaning t page
 unfolding map_under raw_meaning

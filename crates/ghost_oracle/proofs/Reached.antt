@@ -10,7 +10,8 @@ use Rattle.page_state.proofs.Common.{same2, same4, eq-same}
 use Rattle.reference_model.specs.Boot.{boot, booted}
 use Rattle.reference_model.specs.Conditions.{Legal, IsUsable}
 use Rattle.reference_model.specs.Stored.{held_state}
-use Rattle.reference_model.specs.Parts.{guest_part, call_uses, is_slot}
+use Rattle.reference_model.specs.Parts.{guest_part, is_slot}
+use Rattle.reference_model.specs.Rules.{call_uses}
 use Rattle.reference_model.specs.Run.{Runs, IsRun}
 use Rattle.reference_model.specs.State.{Reference, no_guest, no_cpu}
 use Rattle.reference_model.specs.Laws.{guest_in, cpu_in}

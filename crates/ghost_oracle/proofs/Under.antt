@@ -10,7 +10,7 @@ use Rattle.table_tree.specs.View.{meaning, table_at, tree_of}
 use Rattle.component.specs.declared.Component.{Component}
 use Rattle.ghost_trees.specs.declared.tree.Tree.{Tree as TreeOfLists}
 use Rattle.ghost_trees.specs.Trees.{table_of, tree_in_lists}
-use Rattle.ghost_oracle.specs.Walked.{map_under, table_under, tree_under}
+use Rattle.table_tree.specs.Roots.{map_under, table_under, tree_under}
 
 map_same : {A : Type 0} (t : Tree A) (page : ℕ) → map_under t.geometry t.table page ≡ meaning t page
 unfolding map_under meaning

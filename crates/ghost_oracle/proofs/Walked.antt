@@ -17,7 +17,7 @@ use Rattle.table_tree.specs.View.{meaning, table_at, tree_of}
 use Rattle.ghost_trees.specs.declared.tree.Table.{Table as FoundTable}
 use Rattle.ghost_trees.specs.declared.tree.Tree.{Tree}
 use Rattle.ghost_trees.specs.Trees.{table_of, tree_in_lists}
-use Rattle.ghost_oracle.specs.Walked.{map_under, table_under, tree_under}
+use Rattle.table_tree.specs.Roots.{map_under, table_under, tree_under}
 use Rattle.ghost_oracle.specs.inner.Walking.{EndBy, AreRunsTo, GoesOn, found_under}
 use Rattle.ghost_oracle.proofs.Ended.{map_ended}
 use Rattle.ghost_oracle.proofs.FoundTables.{found_tables}

@@ -9,5 +9,4 @@ pub mod PokedLaws
 pub mod RawFound
 pub mod Recorded
 pub mod Seen
-pub mod Walked
 pub mod inner

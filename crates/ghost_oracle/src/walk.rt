@@ -8,7 +8,7 @@ ghost use Rattle.table_tree.specs.Tables.{tables_in};
 ghost use Rattle.ghost_trees.specs.KeptTrees.{IsKeptTree};
 ghost use Rattle.ghost_trees.specs.Trees.{tree_in_lists};
 ghost use Rattle.table_tree.specs.Raw.{IsRaw};
-ghost use Rattle.ghost_oracle.specs.Walked.{tree_under};
+ghost use Rattle.table_tree.specs.Roots.{tree_under};
 ghost use Rattle.ghost_oracle.specs.inner.Walking.{AreRunsTo, GoesOn, found_under};
 
 use crate::eight::{go_on, one_of};

@@ -12,7 +12,8 @@ use Rattle.reference_model.specs.declared.changes.Changes.{Changes}
 use Rattle.reference_model.specs.Decides.{decides}
 use Rattle.reference_model.specs.ChangeLaws.{OnlyUses}
 use Rattle.reference_model.specs.Changes.{touched}
-use Rattle.reference_model.specs.Parts.{names, uses_vms, lacks_slot}
+use Rattle.reference_model.specs.Parts.{uses_vms, lacks_slot}
+use Rattle.reference_model.specs.Rules.{names}
 use Rattle.reference_model.specs.Step.{or_else, first_test, is_short, changed, rule_of, refusal, fails, with_rows, made, answer}
 use Rattle.reference_model.specs.Used.{Used}
 use Rattle.reference_model.proofs.Answers.{told-err, told-ok}

@@ -113,7 +113,8 @@ impl GhostRooms {
 
 impl GhostLists {
     ghost use Rattle.page_state.specs.LayoutView.{layout_of};
-    ghost use Rattle.reference_model.specs.Parts.{names, uses_vms as uses_vms_of};
+    ghost use Rattle.reference_model.specs.Parts.{uses_vms as uses_vms_of};
+    ghost use Rattle.reference_model.specs.Rules.{names};
     ghost use Rattle.reference_model.specs.Step.{foretell, is_full as is_full_of, stored};
     ghost use Rattle.reference_model.specs.Used.{put_back as put_back_of, put_rooms, rooms_of as rooms_of_state, used_of, Used};
     ghost use Rattle.std.specs.Prelude.{length, true};

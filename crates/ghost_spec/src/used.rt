@@ -1,6 +1,7 @@
 //! What a call uses, on lists.
 ghost use Rattle.std.specs.Prelude.{◌≡◌, ℕ, ◌-◌, IfOk, if◌then◌else◌, length, false, true};
-ghost use Rattle.reference_model.specs.Parts.{names, uses_shared as uses_shared_of, uses_vms as uses_vms_of};
+ghost use Rattle.reference_model.specs.Parts.{uses_shared as uses_shared_of, uses_vms as uses_vms_of};
+ghost use Rattle.reference_model.specs.Rules.{names};
 ghost use Rattle.reference_model.specs.State.{no_shared, no_vms, Guest};
 ghost use Rattle.reference_model.specs.Used.{guest_at, put_guest as put_guest_of, put_room, room_at};
 ghost use Rattle.ghost_spec.specs.Kept.{IsKeptGuest, IsKeptShared, IsLowSlot};

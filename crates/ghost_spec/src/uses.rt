@@ -1,7 +1,8 @@
 //! What a step uses: the slot of its guest, and whether it uses the VM part and the Shared part.
 ghost use Rattle.std.specs.Prelude.{◌≡◌, ◌<◌};
 ghost use Rattle.reference_model.specs.GuestRules.{ticket_kind as ticket_kind_of, ticket_vm as ticket_vm_of};
-ghost use Rattle.reference_model.specs.Parts.{guest_slot as guest_slot_of, has_stage as has_stage_of, loaded_slot as loaded_slot_of, names, slot_of as slot_of_vm, ticket_slot as ticket_slot_of, uses_shared as uses_shared_of, uses_vms as uses_vms_of};
+ghost use Rattle.reference_model.specs.Parts.{has_stage as has_stage_of, loaded_slot as loaded_slot_of, slot_of as slot_of_vm, ticket_slot as ticket_slot_of, uses_shared as uses_shared_of, uses_vms as uses_vms_of};
+ghost use Rattle.reference_model.specs.Rules.{guest_slot as guest_slot_of, names};
 ghost use Rattle.ghost_spec.specs.Kept.{IsKeptCpu, IsLowSlot};
 ghost use Rattle.ghost_spec.specs.Views.{cpu_in};
 

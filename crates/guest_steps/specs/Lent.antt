@@ -4,7 +4,7 @@ use Rattle.step_reply.specs.declared.reply.Call.{Call}
 use Rattle.step_reply.specs.declared.reply.Reply.{Reply}
 use Rattle.step_reply.specs.declared.step.Step.{Step}
 use Rattle.page_state.specs.Layouts.{Layout}
-use Rattle.reference_model.specs.Parts.{guest_slot}
+use Rattle.reference_model.specs.Rules.{guest_slot}
 use Rattle.reference_model.specs.State.{no_vms, no_shared, no_guest}
 use Rattle.reference_model.specs.Used.{Used, UsedRooms}
 use Rattle.guest_component.specs.View.{guest_depth}

@@ -17,7 +17,8 @@ use Rattle.reference_model.specs.declared.changes.Changes.{Changes}
 use Rattle.reference_model.specs.Answers.{AnswerSteps, BarredAnswers, FullSteps}
 use Rattle.reference_model.specs.Decides.{decides}
 use Rattle.reference_model.proofs.Answers.{answer-stored}
-use Rattle.reference_model.specs.Parts.{Names, names, uses_vms, uses_shared}
+use Rattle.reference_model.specs.Parts.{Names, uses_vms, uses_shared}
+use Rattle.reference_model.specs.Rules.{names}
 use Rattle.reference_model.specs.Rely.{CanRely, RelyingAnswers}
 use Rattle.reference_model.specs.Step.{is_full, stored as stored_rooms, Answered, StepsOn}
 use Rattle.reference_model.specs.Used.{Used}

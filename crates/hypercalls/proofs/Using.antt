@@ -1,6 +1,7 @@
 -- What a step names and which slot it finds, by its kind of use.
 use Rattle.std.proofs.Common.{◌≡◌, ◌∙◌, ℕ, Bool, true, false, Option, Some, None, refl, sym, ap}
-use Rattle.reference_model.specs.Parts.{names, guest_slot, uses_vms, uses_shared}
+use Rattle.reference_model.specs.Parts.{uses_vms, uses_shared}
+use Rattle.reference_model.specs.Rules.{names, guest_slot}
 use Rattle.reference_model.specs.State.{Cpu}
 use Rattle.step_reply.specs.declared.step.Step.{Step}
 use Rattle.decisions.proofs.Decided.{vms_parts}

@@ -19,9 +19,9 @@ use Rattle.reference_model.specs.declared.changes.Changes.{Changes}
 use Rattle.reference_model.specs.declared.changes.MapChange.{MapChange}
 use Rattle.reference_model.specs.Decides.{decided, decides}
 use Rattle.reference_model.specs.Changes.{edit_of}
-use Rattle.reference_model.specs.Parts.{lacks_slot, names}
+use Rattle.reference_model.specs.Parts.{lacks_slot}
 use Rattle.reference_model.specs.Rule.{Rule}
-use Rattle.reference_model.specs.Rules.{rule}
+use Rattle.reference_model.specs.Rules.{rule, names}
 use Rattle.reference_model.specs.Step.{fails, first_test, or_else, refusal, rule_of}
 use Rattle.reference_model.specs.Used.{Used, used_of}
 use Rattle.component.specs.declared.Component.{Component}

@@ -14,7 +14,8 @@ use Rattle.reference_model.specs.Boot.{CanBoot}
 use Rattle.reference_model.specs.Stored.{held_state}
 use Rattle.reference_model.specs.History.{Kept, IsHistory}
 use Rattle.reference_model.specs.Stored.{Stores, StoresCall}
-use Rattle.reference_model.specs.Parts.{Names, names, guest_slot, is_slot, uses_vms, uses_shared}
+use Rattle.reference_model.specs.Parts.{Names, is_slot, uses_vms, uses_shared}
+use Rattle.reference_model.specs.Rules.{names, guest_slot}
 use Rattle.reference_model.specs.Reached.{IsReached}
 use Rattle.reference_model.specs.State.{Vms, Shared, Guest, Cpu, Reference, no_vms, no_shared, no_guest, no_cpu, put_at}
 use Rattle.reference_model.specs.Step.{Steps, StepsOn, FindsFull, IsStoredAnswer, is_full as has_full_log, stored, used_by, rooms_by, with_used}

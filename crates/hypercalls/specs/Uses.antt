@@ -1,7 +1,8 @@
 -- The parts that a step uses, as they are taken.
 use Rattle.std.specs.Prelude.{ℕ, Bool, true, false, Option, Some, None}
 use Rattle.step_reply.specs.declared.step.Step.{Step}
-use Rattle.reference_model.specs.Parts.{Names, names, guest_slot, uses_vms, uses_shared}
+use Rattle.reference_model.specs.Parts.{Names, uses_vms, uses_shared}
+use Rattle.reference_model.specs.Rules.{names, guest_slot}
 use Rattle.reference_model.specs.State.{Cpu}
 use Rattle.hypercalls.specs.declared.used_parts.UsedParts.{UsedParts}
 use Rattle.hypercalls.specs.declared.used_parts.UsedParts.TheVariants.{Nothing, Vms, Shared, Guest, Both}

@@ -9,7 +9,7 @@ use Rattle.reference_model.specs.declared.changes.Changes.{Changes}
 use Rattle.reference_model.specs.Decides.{decides}
 use Rattle.reference_model.specs.History.{IsStored}
 use Rattle.reference_model.specs.Stored.{StoresCall}
-use Rattle.reference_model.specs.Parts.{names, guest_slot}
+use Rattle.reference_model.specs.Rules.{names, guest_slot}
 use Rattle.reference_model.specs.Step.{Steps, is_full as has_full_log}
 use Rattle.reference_model.specs.Used.{used_of, rooms_of}
 use Rattle.guest_component.specs.Wants.{WantsNoMemory}

@@ -6,7 +6,7 @@ ghost use Rattle.guest_steps.specs.View.{cpu_of, guest_held, shared_of, vm_slots
 ghost use Rattle.hypercalls.specs.Steps.{IsStepOn, reply_in};
 ghost use Rattle.hypercalls.specs.Uses.{uses_of};
 ghost use Rattle.page_state.specs.LayoutView.{layout_of};
-ghost use Rattle.reference_model.specs.Parts.{names};
+ghost use Rattle.reference_model.specs.Rules.{names};
 ghost use Rattle.reference_model.specs.Reached.{IsReached};
 ghost use Rattle.reference_model.specs.Used.{guest_alone, used_alone, vms_alone, with_guest};
 

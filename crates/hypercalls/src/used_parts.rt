@@ -2,7 +2,8 @@
 ghost use Rattle.std.specs.Prelude.{◌≡◌};
 ghost use Rattle.guest_steps.specs.View.{cpu_of};
 ghost use Rattle.hypercalls.specs.Uses.{uses_of};
-ghost use Rattle.reference_model.specs.Parts.{guest_slot as guest_slot_of, names, slot_of as slot_of_vm, ticket_slot as ticket_slot_of, uses_shared as uses_shared_part, uses_vms as uses_vm_part};
+ghost use Rattle.reference_model.specs.Parts.{slot_of as slot_of_vm, ticket_slot as ticket_slot_of, uses_shared as uses_shared_part, uses_vms as uses_vm_part};
+ghost use Rattle.reference_model.specs.Rules.{guest_slot as guest_slot_of, names};
 
 use guest_steps::CpuState;
 use reference_model::Stage;

@@ -15,7 +15,7 @@ use Rattle.page_state.specs.LayoutView.{layout_of}
 use Rattle.page_state.specs.Layouts.{Layout}
 use Rattle.reference_model.specs.Boot.{CanBoot, boot}
 use Rattle.reference_model.specs.History.{IsStored, calls_on, calls_by}
-use Rattle.reference_model.specs.Parts.{call_uses}
+use Rattle.reference_model.specs.Rules.{call_uses}
 use Rattle.reference_model.specs.Run.{IsRun}
 use Rattle.reference_model.specs.State.{Reference}
 use Rattle.reference_model.specs.Step.{Steps}

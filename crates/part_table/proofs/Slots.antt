@@ -4,7 +4,8 @@ use Rattle.std.specs.Prelude.{Option, Some, None}
 use Rattle.page_state.specs.declared.layout.Layout.{Layout as TheLayout}
 use Rattle.step_reply.specs.declared.step.Step.{Step}
 use Rattle.page_state.specs.LayoutView.{layout_of}
-use Rattle.reference_model.specs.Parts.{Names, names, guest_slot, uses_vms, uses_shared}
+use Rattle.reference_model.specs.Parts.{Names, uses_vms, uses_shared}
+use Rattle.reference_model.specs.Rules.{names, guest_slot}
 use Rattle.reference_model.specs.State.{Contents, Cpu}
 use Rattle.reference_model.specs.Used.{used_of}
 use Rattle.reference_model.proofs.Rely.{reached_relies}

@@ -7,7 +7,8 @@ use Rattle.page_state.proofs.Common.{eq-self}
 use Rattle.step_reply.specs.declared.reply.Call.{Call}
 use Rattle.step_reply.specs.declared.step.Step.{Step}
 use Rattle.page_state.specs.Layouts.{Layout}
-use Rattle.reference_model.specs.Parts.{Names, names, is_slot, uses_vms, uses_shared}
+use Rattle.reference_model.specs.Parts.{Names, is_slot, uses_vms, uses_shared}
+use Rattle.reference_model.specs.Rules.{names}
 use Rattle.reference_model.specs.Reached.{IsReached}
 use Rattle.reference_model.specs.State.{Vms, Shared, Guest, Cpu, Reference, no_vms, no_shared, no_guest}
 use Rattle.reference_model.specs.Step.{Steps, StepsOn, rooms_by, with_used}

@@ -7,7 +7,7 @@ use Rattle.std.specs.Coded.{le_prop}
 use Rattle.step_reply.specs.declared.reply.Call.{Call}
 use Rattle.step_reply.specs.declared.step.Step.{Step}
 use Rattle.page_state.specs.Layouts.{Layout}
-use Rattle.reference_model.specs.Parts.{guest_slot, names}
+use Rattle.reference_model.specs.Rules.{guest_slot, names}
 use Rattle.reference_model.specs.Reached.{IsReached}
 use Rattle.reference_model.specs.State.{Reference}
 use Rattle.guest_steps.specs.declared.parts.VmPart.{VmPart}

@@ -20,7 +20,7 @@ use Rattle.step_reply.specs.declared.reply.Refusal.TheVariants.{Contended as con
 use Rattle.step_reply.specs.declared.reply.Reply.{Reply}
 use Rattle.step_reply.specs.declared.reply.Reply.TheVariants.{Refused}
 use Rattle.step_reply.specs.declared.step.Step.{Step}
-use Rattle.reference_model.specs.Parts.{guest_slot, names}
+use Rattle.reference_model.specs.Rules.{guest_slot, names}
 use Rattle.guest_steps.specs.View.{cpu_of}
 use Rattle.hypercalls.specs.Uses.{parts_of}
 use Rattle.part_table.specs.Parts.{in_order, uses, log_of, IsPart, IsOwn}

@@ -5,7 +5,7 @@ use Rattle.step_reply.specs.declared.step.Step.{Step}
 use Rattle.page_state.specs.Layouts.{Layout}
 use Rattle.reference_model.specs.Boot.{CanBoot}
 use Rattle.reference_model.specs.History.{IsStored, calls_on, calls_by}
-use Rattle.reference_model.specs.Parts.{guest_slot}
+use Rattle.reference_model.specs.Rules.{guest_slot}
 use Rattle.reference_model.specs.Run.{IsRun}
 use Rattle.reference_model.specs.State.{Reference}
 use Rattle.reference_model.specs.Step.{Steps}

@@ -2,7 +2,8 @@
 use Rattle.std.specs.Prelude.{◌≡◌, ℕ, zero, suc, ◌+◌, Bool, List, [], ◌∷◌}
 use Rattle.step_reply.specs.declared.reply.Call.{Call}
 use Rattle.page_state.specs.Layouts.{Layout}
-use Rattle.reference_model.specs.Parts.{Part, vm_part, shared_part, guest_part, call_uses}
+use Rattle.reference_model.specs.Parts.{Part, vm_part, shared_part, guest_part}
+use Rattle.reference_model.specs.Rules.{call_uses}
 use Rattle.reference_model.specs.State.{Reference}
 use Rattle.guest_steps.specs.declared.parts.VmPart.{VmPart}
 use Rattle.guest_steps.specs.declared.parts.SharedPart.{SharedPart}

@@ -9,7 +9,8 @@ use Rattle.step_reply.specs.declared.reply.Reply.TheVariants.{Refused}
 use Rattle.reference_model.specs.History.{IsStored}
 use Rattle.step_reply.specs.declared.step.Step.{Step}
 use Rattle.page_state.specs.Layouts.{Layout}
-use Rattle.reference_model.specs.Parts.{names, lacks_slot}
+use Rattle.reference_model.specs.Parts.{lacks_slot}
+use Rattle.reference_model.specs.Rules.{names}
 use Rattle.reference_model.specs.RowChanges.{with_told}
 use Rattle.reference_model.specs.Rule.{Rule}
 use Rattle.reference_model.specs.Used.{Used, used_of}

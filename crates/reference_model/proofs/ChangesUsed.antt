@@ -10,9 +10,9 @@ use Rattle.reference_model.specs.declared.changes.GuestChange.TheVariants.{Keep 
 use Rattle.reference_model.specs.declared.changes.SlotChange.TheVariants.{Keep as KeepSlots}
 use Rattle.reference_model.specs.ChangeLaws.{OnlyUses, ChangesUsed}
 use Rattle.reference_model.specs.Changes.{touched}
-use Rattle.reference_model.specs.Parts.{Names, names, shared, shared_and_guest, guest, lacks_slot, uses_vms}
+use Rattle.reference_model.specs.Parts.{Names, shared, shared_and_guest, guest, lacks_slot, uses_vms}
 use Rattle.reference_model.specs.Rule.{Rule}
-use Rattle.reference_model.specs.Rules.{rule}
+use Rattle.reference_model.specs.Rules.{rule, names}
 use Rattle.reference_model.specs.Step.{first_test}
 use Rattle.reference_model.specs.Used.{Used}
 use Rattle.reference_model.specs.VmRules.{vcpu_load, teardown}

@@ -6,7 +6,8 @@ use mathlib.Core.Path.{fun_ext}
 use Rattle.step_reply.specs.declared.reply.Call.{Call}
 use Rattle.reference_model.specs.State.{Reference}
 use Rattle.page_state.specs.Layouts.{Layout}
-use Rattle.reference_model.specs.Parts.{Part, vm_part, shared_part, guest_part, call_uses}
+use Rattle.reference_model.specs.Parts.{Part, vm_part, shared_part, guest_part}
+use Rattle.reference_model.specs.Rules.{call_uses}
 use Rattle.reference_model.specs.Step.{Steps}
 use Rattle.reference_model.specs.Boot.{boot}
 use Rattle.reference_model.specs.Run.{Runs}

@@ -16,7 +16,8 @@ use Rattle.reference_model.specs.History.{calls_by, Kept, IsHistory, IsStored}
 use Rattle.reference_model.specs.Laws.{Agree}
 use Rattle.reference_model.specs.Stored.{Stores, StoresCall}
 use Rattle.page_state.specs.Layouts.{Layout}
-use Rattle.reference_model.specs.Parts.{names, lacks_slot, vm_part, shared_part, guest_part, call_uses, guest_slot, loaded_slot, ticket_slot, is_slot}
+use Rattle.reference_model.specs.Parts.{lacks_slot, vm_part, shared_part, guest_part, loaded_slot, ticket_slot, is_slot}
+use Rattle.reference_model.specs.Rules.{names, call_uses, guest_slot}
 use Rattle.reference_model.specs.State.{Contents, Reference}
 use Rattle.reference_model.specs.Step.{rule_of, stored, Answered, StepsOn, used_by, rooms_by, with_used}
 use Rattle.reference_model.specs.Used.{Used, used_of, rooms_of}

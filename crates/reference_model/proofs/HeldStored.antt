@@ -9,7 +9,8 @@ use Rattle.page_state.proofs.Common.{eq-same}
 use Rattle.reference_model.specs.Held.{HeldStored}
 use Rattle.reference_model.specs.Stored.{left_of}
 use Rattle.reference_model.specs.Stored.{Stores}
-use Rattle.reference_model.specs.Parts.{names, uses_vms, uses_shared, is_slot}
+use Rattle.reference_model.specs.Parts.{uses_vms, uses_shared, is_slot}
+use Rattle.reference_model.specs.Rules.{names}
 use Rattle.reference_model.specs.State.{Vms, Shared, Guest, Cpu, Contents, Rooms, Reference, put_at}
 use Rattle.reference_model.specs.Step.{stored}
 use Rattle.reference_model.specs.Used.{put_guest, room_at, put_room, put_back, rooms_of, put_rooms}

@@ -14,8 +14,8 @@ use Rattle.page_state.specs.Geometries.{pages_below}
 use Rattle.page_state.specs.Map.{empty_map}
 use Rattle.page_state.specs.Search.{all_below}
 use Rattle.reference_model.specs.GuestRules.{finish_guest}
-use Rattle.reference_model.specs.Parts.{names, guest_slot, lacks_slot}
-use Rattle.reference_model.specs.Rules.{rule}
+use Rattle.reference_model.specs.Parts.{lacks_slot}
+use Rattle.reference_model.specs.Rules.{rule, names, guest_slot}
 use Rattle.reference_model.specs.Scene.{small, at}
 use Rattle.reference_model.specs.SceneState.{scene, with_free}
 use Rattle.reference_model.specs.SharedRules.{abort_edit}

@@ -18,7 +18,8 @@ use Rattle.reference_model.specs.declared.changes.SlotChange.{SlotChange}
 use Rattle.reference_model.specs.declared.changes.SlotChange.TheVariants.{Keep as KeepSlots, Reserve, Open, Close, Release, Load, Unload}
 use Rattle.reference_model.specs.Answers.{CarriesOut}
 use Rattle.reference_model.specs.ChangeLaws.{FitsPart, FitsTable, FitsWhere, AllFit, PartsFit, TouchedFits}
-use Rattle.reference_model.specs.Parts.{names, guest_slot, lacks_slot}
+use Rattle.reference_model.specs.Parts.{lacks_slot}
+use Rattle.reference_model.specs.Rules.{names, guest_slot}
 use Rattle.reference_model.specs.Rely.{CanRely, ReachedRelies, RelyingAnswers}
 use Rattle.reference_model.specs.Reached.{IsReached}
 use Rattle.reference_model.specs.RowChanges.{first_row}

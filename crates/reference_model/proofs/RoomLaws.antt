@@ -10,7 +10,8 @@ use Rattle.reference_model.specs.Boot.{boot}
 use Rattle.reference_model.specs.Conditions.{one}
 use Rattle.reference_model.specs.History.{IsStored}
 use Rattle.page_state.specs.Layouts.{Layout}
-use Rattle.reference_model.specs.Parts.{names, vm_part, shared_part, guest_part, call_uses, uses_vms, uses_shared, is_slot}
+use Rattle.reference_model.specs.Parts.{vm_part, shared_part, guest_part, uses_vms, uses_shared, is_slot}
+use Rattle.reference_model.specs.Rules.{names, call_uses}
 use Rattle.reference_model.specs.Used.{rooms_of, put_rooms, room_at, put_room}
 use Rattle.reference_model.specs.RoomLaws.{RoomsFall, StoredFalls, RunRooms}
 use Rattle.reference_model.specs.Run.{Runs}

@@ -10,7 +10,8 @@ use Rattle.step_reply.specs.declared.reply.Reply.{Reply}
 use Rattle.step_reply.specs.declared.reply.Reply.TheVariants.{Refused}
 use Rattle.reference_model.specs.State.{Vms, Shared, Guest, Cpu, Contents, Rooms, Reference, no_vms, no_shared}
 use Rattle.page_state.specs.Layouts.{Layout}
-use Rattle.reference_model.specs.Parts.{names, guest_slot, uses_vms, uses_shared, is_slot}
+use Rattle.reference_model.specs.Parts.{uses_vms, uses_shared, is_slot}
+use Rattle.reference_model.specs.Rules.{names, guest_slot}
 use Rattle.reference_model.specs.Used.{Used, UsedRooms, used_of, put_back, guest_at, put_guest, room_at, put_room, rooms_of, put_rooms}
 use Rattle.reference_model.specs.Rule.{Rule}
 use Rattle.reference_model.specs.Step.{stored, is_full, is_short, first_test, or_else, refusal, fails, answer, Answered, FindsFull, IsStoredAnswer, StepsOn, used_by, rooms_by, with_used, Steps, predict, foretell}

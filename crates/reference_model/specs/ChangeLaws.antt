@@ -19,7 +19,8 @@ use Rattle.reference_model.specs.Bounds.{Bounded}
 use Rattle.reference_model.specs.Changes.{touched}
 use Rattle.reference_model.specs.Conditions.{Legal, guest_uses}
 use Rattle.reference_model.specs.GuestRules.{guest_table_count}
-use Rattle.reference_model.specs.Parts.{Names, names, guest_slot, uses_vms, uses_shared}
+use Rattle.reference_model.specs.Parts.{Names, uses_vms, uses_shared}
+use Rattle.reference_model.specs.Rules.{names, guest_slot}
 use Rattle.reference_model.specs.RowChanges.{first_of, first_row}
 use Rattle.reference_model.specs.State.{Contents, Guest, Reference, empty}
 use Rattle.reference_model.specs.Step.{is_touched}

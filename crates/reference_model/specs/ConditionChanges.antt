@@ -8,7 +8,7 @@ use Rattle.page_state.specs.declared.row.Usage.TheVariants.{VmPool}
 use Rattle.step_reply.specs.declared.step.Step.{Step}
 use Rattle.reference_model.specs.Conditions.{Condition, hosts, with_hyp, hyps, with_guest, guests, lent_back, Legal, IsUsable}
 use Rattle.page_state.specs.Layouts.{Layout, is_memory}
-use Rattle.reference_model.specs.Parts.{names, guest_slot}
+use Rattle.reference_model.specs.Rules.{names, guest_slot}
 use Rattle.reference_model.specs.RowChanges.{use_by}
 use Rattle.reference_model.specs.State.{Contents}
 use Rattle.reference_model.specs.Step.{is_touched, rule_of, fails, made}

@@ -4,7 +4,8 @@ use Rattle.reference_model.specs.declared.changes.Changes.{Changes}
 use Rattle.step_reply.specs.declared.reply.Refusal.{Refusal}
 use Rattle.step_reply.specs.declared.step.Step.{Step}
 use Rattle.page_state.specs.Layouts.{Layout}
-use Rattle.reference_model.specs.Parts.{names, lacks_slot}
+use Rattle.reference_model.specs.Parts.{lacks_slot}
+use Rattle.reference_model.specs.Rules.{names}
 use Rattle.reference_model.specs.Rule.{Rule}
 use Rattle.reference_model.specs.Step.{first_test, rule_of}
 use Rattle.reference_model.specs.Used.{Used}

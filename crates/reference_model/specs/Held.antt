@@ -8,7 +8,7 @@ use Rattle.page_state.specs.Layouts.{Layout}
 use Rattle.reference_model.specs.State.{Reference}
 use Rattle.reference_model.specs.Step.{is_full, stored, StepsOn, used_by, rooms_by, with_used}
 use Rattle.reference_model.specs.Answers.{Does}
-use Rattle.reference_model.specs.Parts.{names, guest_slot}
+use Rattle.reference_model.specs.Rules.{names, guest_slot}
 use Rattle.reference_model.specs.Used.{Used, UsedRooms}
 use Rattle.reference_model.specs.Stored.{held_state}
 

@@ -6,7 +6,8 @@ use Rattle.step_reply.specs.declared.reply.Refusal.TheVariants.{LogFull, Contend
 use Rattle.step_reply.specs.declared.reply.Call.{Call}
 use Rattle.reference_model.specs.State.{Shared, Guest, Vms, Cpu, Reference}
 use Rattle.page_state.specs.Layouts.{Layout}
-use Rattle.reference_model.specs.Parts.{Part, vm_part, shared_part, guest_part, call_uses}
+use Rattle.reference_model.specs.Parts.{Part, vm_part, shared_part, guest_part}
+use Rattle.reference_model.specs.Rules.{call_uses}
 use Rattle.reference_model.specs.Run.{IsRun}
 
 -- part of a run: the calls that use the part, in order

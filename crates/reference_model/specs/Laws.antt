@@ -8,7 +8,8 @@ use Rattle.step_reply.specs.declared.step.Step.{Step}
 use Rattle.reference_model.specs.State.{Vms, Shared, Guest, Cpu, Contents, Reference}
 use Rattle.page_state.specs.Layouts.{Layout}
 use Rattle.reference_model.specs.Sound.{Sound}
-use Rattle.reference_model.specs.Parts.{Part, vm_part, shared_part, guest_part, call_uses}
+use Rattle.reference_model.specs.Parts.{Part, vm_part, shared_part, guest_part}
+use Rattle.reference_model.specs.Rules.{call_uses}
 use Rattle.reference_model.specs.Step.{Steps, foretell}
 use Rattle.reference_model.specs.Boot.{boot, IsCarveEnough}
 use Rattle.reference_model.specs.Run.{IsRun}

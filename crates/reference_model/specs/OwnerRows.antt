@@ -8,10 +8,9 @@ use Rattle.step_reply.specs.declared.step.Step.TheVariants.{ShareHyp, UnshareHyp
 use Rattle.reference_model.specs.EndRows.{flat_guest}
 use Rattle.page_state.specs.Layouts.{Layout}
 use Rattle.reference_model.specs.Owner.{lent_at}
-use Rattle.reference_model.specs.Parts.{names, guest_slot}
 use Rattle.page_state.specs.Rows.{advance_row}
 use Rattle.reference_model.specs.RowChanges.{with_told}
-use Rattle.reference_model.specs.Rules.{rule}
+use Rattle.reference_model.specs.Rules.{rule, names, guest_slot}
 use Rattle.reference_model.specs.State.{Reference, plain_row}
 use Rattle.reference_model.specs.Used.{used_of}
 use Rattle.reference_model.specs.Scene.{small, vm, pages, at, row, old_row}

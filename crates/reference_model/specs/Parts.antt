@@ -1,11 +1,8 @@
--- The parts that a call uses.
+-- The parts that a call uses, and where the slot of its guest is found.
 use Rattle.std.specs.Prelude.{ℕ, Bool, true, false, ◌==◌, nat_lt, is_some, is_none, option_map, Option, Some, None, if◌then◌else◌}
 use Rattle.reference_model.specs.declared.changes.Stage.{Stage}
 use Rattle.reference_model.specs.declared.changes.Stage.TheVariants.{Booked as booked, Installed as installed, ClosingVm as closing_vm, DyingVm as dying_vm, Finished as finished}
 use Rattle.step_reply.specs.declared.step.VmId.{VmId}
-use Rattle.step_reply.specs.declared.step.Step.{Step}
-use Rattle.step_reply.specs.declared.step.Step.TheVariants.{ShareHyp, UnshareHyp, DonateHyp, HypDonateHost, HostAbort, HostTranslate, HypTranslate, OwnerOf, Fund, Unfund, ShareGuest, UnshareGuest, DonateGuest, GuestShareHost, GuestUnshareHost, Install, Topup, ReclaimPage, ReclaimPool, FinishGuest, GuestRelax, GuestTranslate, MarkDying, VmReserve, VmOpen, VcpuLoad, VcpuPut, Teardown, VmRelease}
-use Rattle.step_reply.specs.declared.reply.Call.{Call}
 use Rattle.reference_model.specs.State.{Cpu}
 
 -- the parts, which are taken one by one
@@ -21,38 +18,6 @@ pub data Names : Type 0 where
   guest : Names
   vms : Names
   vms_of : VmId → Names
-
--- what each step names
-abbrev pub names : Step → Names
-names (ShareHyp f) = shared
-names (UnshareHyp f) = shared
-names (DonateHyp f n) = shared
-names (HypDonateHost f n) = shared
-names (HostAbort p) = shared
-names (HostTranslate p) = shared
-names (HypTranslate p) = shared
-names (OwnerOf f) = shared
-names (Fund f n) = shared
-names Unfund = shared
-names (ShareGuest f g p n) = shared_and_guest
-names (UnshareGuest vm g) = shared_and_guest
-names (DonateGuest f g n) = shared_and_guest
-names (GuestShareHost g) = shared_and_guest
-names (GuestUnshareHost g) = shared_and_guest
-names Install = shared_and_guest
-names (Topup vm) = shared_and_guest
-names (ReclaimPage vm g) = shared_and_guest
-names (ReclaimPool vm) = shared_and_guest
-names FinishGuest = shared_and_guest
-names (GuestRelax g p) = guest
-names (GuestTranslate vm g) = guest
-names MarkDying = guest
-names (VmReserve kind vcpus) = vms
-names VmOpen = vms
-names (VcpuLoad vm i) = vms_of vm
-names VcpuPut = vms
-names (Teardown vm) = vms_of vm
-names VmRelease = vms
 
 -- the slot of a VmId, where there is such a slot
 abbrev pub slot_of : VmId → Option ℕ
@@ -78,23 +43,6 @@ has_stage stage k = elim (k.ticket) [ Some t ↦ stage_eq t.stage stage | None �
 -- the slot of the CPU's ticket of a stage
 abbrev pub ticket_slot : Stage → Cpu → Option ℕ
 ticket_slot stage k = if has_stage stage k then option_map (λ t. t.vm.slot) k.ticket else None
-
--- the slot of the Guest part that a step names, by its VmId or by what the CPU has loaded or holds a ticket of; none where there is none
-abbrev pub guest_slot : Cpu → Step → Option ℕ
-guest_slot k (ShareGuest f g p n) = loaded_slot k
-guest_slot k (DonateGuest f g n) = loaded_slot k
-guest_slot k (GuestShareHost g) = loaded_slot k
-guest_slot k (GuestUnshareHost g) = loaded_slot k
-guest_slot k (GuestRelax g p) = loaded_slot k
-guest_slot k (UnshareGuest vm g) = slot_of vm
-guest_slot k (Topup vm) = slot_of vm
-guest_slot k (ReclaimPage vm g) = slot_of vm
-guest_slot k (ReclaimPool vm) = slot_of vm
-guest_slot k (GuestTranslate vm g) = slot_of vm
-guest_slot k Install = ticket_slot booked k
-guest_slot k MarkDying = ticket_slot closing_vm k
-guest_slot k FinishGuest = ticket_slot dying_vm k
-guest_slot k other = None
 
 -- the step names a Guest part, and no slot was found
 abbrev pub lacks_slot : Names → Option ℕ → Bool
@@ -124,7 +72,3 @@ abbrev pub is_used : Names → Option ℕ → Part → Bool
 is_used n slot vm_part = uses_vms n
 is_used n slot shared_part = uses_shared n slot
 is_used n slot (guest_part v) = is_slot slot v
-
--- whether a call used the part
-abbrev pub call_uses : Part → Call → Bool
-call_uses p c = is_used (names c.step) c.slot p

@@ -9,7 +9,8 @@ use Rattle.reference_model.specs.Answers.{CarriesOut}
 use Rattle.reference_model.specs.Decides.{decides}
 use Rattle.reference_model.specs.Boot.{CanBoot}
 use Rattle.reference_model.specs.ChangeLaws.{AllFit, PartsFit, TouchedFits}
-use Rattle.reference_model.specs.Parts.{Names, names, guest_slot}
+use Rattle.reference_model.specs.Parts.{Names}
+use Rattle.reference_model.specs.Rules.{names, guest_slot}
 use Rattle.reference_model.specs.RowChanges.{with_told}
 use Rattle.reference_model.specs.Run.{IsRun}
 use Rattle.reference_model.specs.State.{Reference}

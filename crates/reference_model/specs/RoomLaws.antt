@@ -6,7 +6,8 @@ use Rattle.step_reply.specs.declared.reply.Reply.TheVariants.{Refused}
 use Rattle.reference_model.specs.Conditions.{one}
 use Rattle.reference_model.specs.History.{calls_on, calls_by, IsStored}
 use Rattle.page_state.specs.Layouts.{Layout}
-use Rattle.reference_model.specs.Parts.{vm_part, shared_part, guest_part, call_uses}
+use Rattle.reference_model.specs.Parts.{vm_part, shared_part, guest_part}
+use Rattle.reference_model.specs.Rules.{call_uses}
 use Rattle.reference_model.specs.Run.{IsRun}
 use Rattle.reference_model.specs.State.{Reference, Rooms}
 use Rattle.reference_model.specs.Step.{Steps}

@@ -7,7 +7,7 @@ use Rattle.reference_model.specs.Sound.{Sound}
 use Rattle.step_reply.specs.declared.reply.Call.{Call}
 use Rattle.reference_model.specs.Step.{rule_of, fails, made, changed, Steps}
 use Rattle.step_reply.specs.declared.step.Step.{Step}
-use Rattle.reference_model.specs.Parts.{names, guest_slot}
+use Rattle.reference_model.specs.Rules.{names, guest_slot}
 use Rattle.reference_model.specs.Used.{used_of}
 use Rattle.reference_model.specs.RowChanges.{with_told}
 use Rattle.reference_model.specs.Run.{IsRun}

@@ -11,12 +11,12 @@ use Rattle.reference_model.specs.State.{Shared, Guest, Reference, blank}
 use Rattle.page_state.specs.Layouts.{Layout, is_memory}
 use Rattle.reference_model.specs.Owner.{row_of, is_in_hand}
 use Rattle.page_state.specs.Tables.{need, returned, edited, all_given}
-use Rattle.reference_model.specs.Parts.{Names, names, guest_slot, lacks_slot, uses_vms, uses_shared}
+use Rattle.reference_model.specs.Parts.{Names, lacks_slot, uses_vms, uses_shared}
 use Rattle.reference_model.specs.Used.{Used, UsedRooms, used_of, put_back, rooms_of, put_rooms}
 use Rattle.reference_model.specs.declared.changes.Changes.{Changes}
 use Rattle.reference_model.specs.Changes.{edit_of, cpu_by, guest_by, vms_by, touched}
 use Rattle.reference_model.specs.Rule.{Rule}
-use Rattle.reference_model.specs.Rules.{rule, may_grow}
+use Rattle.reference_model.specs.Rules.{rule, may_grow, names, guest_slot}
 
 -- the frames whose rows are found again
 abbrev pub is_touched : Changes → ℕ → Bool

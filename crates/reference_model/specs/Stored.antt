@@ -3,7 +3,8 @@ use Rattle.std.specs.Prelude.{◌≡◌, ℕ, ◌-◌, Bool, true, false, ◌==�
 use Rattle.step_reply.specs.declared.reply.Call.{Call}
 use Rattle.page_state.specs.Layouts.{Layout}
 use Rattle.reference_model.specs.History.{Kept}
-use Rattle.reference_model.specs.Parts.{vm_part, shared_part, guest_part, call_uses}
+use Rattle.reference_model.specs.Parts.{vm_part, shared_part, guest_part}
+use Rattle.reference_model.specs.Rules.{call_uses}
 use Rattle.reference_model.specs.State.{Contents, Reference}
 
 -- what a part or a CPU has, before and after a call: where the call uses it, the content of the next state and the log with the call, and else the same

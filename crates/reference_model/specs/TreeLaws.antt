@@ -9,7 +9,8 @@ use Rattle.step_reply.specs.declared.step.Step.{Step}
 use Rattle.reference_model.specs.declared.changes.Changes.{Changes}
 use Rattle.reference_model.specs.Boot.{CanBoot}
 use Rattle.reference_model.specs.Changes.{edit_of}
-use Rattle.reference_model.specs.Parts.{names, guest_slot, lacks_slot}
+use Rattle.reference_model.specs.Parts.{lacks_slot}
+use Rattle.reference_model.specs.Rules.{names, guest_slot}
 use Rattle.reference_model.specs.Run.{IsRun}
 use Rattle.reference_model.specs.State.{Contents, Reference}
 use Rattle.reference_model.specs.Step.{rule_of, first_test, or_else, fails}

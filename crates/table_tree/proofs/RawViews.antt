@@ -22,6 +22,7 @@ use Rattle.table_tree.proofs.Steps.{path_end, path_over, path_stop}
 use Rattle.table_tree.proofs.RawTables.{raw_slot, raw_child_is}
 use Rattle.table_tree.proofs.Pokes.{path_in}
 use Rattle.table_tree.proofs.Views.{map_of, map_inside, map_outside}
+use Rattle.table_tree.specs.Roots.{map_under, table_under}
 
 -- the pages under a path are those of its block
 led_one : (n q a : ℕ) (i : ℕ) → index_at n q ≡ i → q / block_pages (n + 1) ≡ a → q / block_pages n ≡ a * 512 + i
@@ -49,7 +50,7 @@ page_below n m q p e s h =
 
 module _ {A : Type 0} where
   pub raw_meaning_is : (t : RawTree A) → raw_meaning t ≡ map_of t.geometry t.table
-  unfolding raw_meaning map_of
+  unfolding raw_meaning map_of map_under
   raw_meaning_is t = refl
 
   by_input : (g : Geometry) (t u : Table A) (q : ℕ) → (q < input_pages g → entry_at (levels_below g) u q ≡ entry_at (levels_below g) t q) → map_of g u q ≡ map_of g t q
@@ -70,6 +71,6 @@ module _ {A : Type 0} where
 
   -- a tree that was made a raw one
   pub same_standing : (t : Tree A) (r : RawTree A) → r.geometry ≡ t.geometry → r.table ≡ t.table → (depth number : ℕ) → raw_table_at r depth number ≡ table_at t depth number
-  unfolding raw_table_at table_at
+  unfolding raw_table_at table_at table_under
   same_standing t r g h zero number = refl
   same_standing t r g h (suc low) number = rw (g, h) refl

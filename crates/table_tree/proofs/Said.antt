@@ -19,6 +19,7 @@ use Rattle.table_tree.proofs.Standing.{by_lt}
 use Rattle.table_tree.proofs.RawTables.{shaped_raw}
 use Rattle.table_tree.proofs.PathNumbers.{Small, all_small, small_all, leads, number_small}
 use Rattle.table_tree.proofs.Paths.{IsGood, IsRead, IsWordIn, IsPagesWord, good_path, one_index, table_same, read}
+use Rattle.table_tree.specs.Roots.{map_under, table_under}
 
 if_none : (o : Option ℕ) (P : Type 0) (Q : ℕ → Type 0) → o ≡ None → P → MatchOption o P Q
 if_none o P Q e h = rw e h
@@ -72,17 +73,17 @@ module _ (n m : ℕ) (p : List ℕ) (e : m + length p ≡ n + 1) (s : Small p) w
 
 module _ {A : Type 0} where
   pub table_at_in : (t : Tree A) (d low number : ℕ) → d ≡ suc low → number * block_pages d < input_pages t.geometry → table_at t d number ≡ table_in (levels_below t.geometry) t.table low (number * block_pages d)
-  unfolding table_at
+  unfolding table_at table_under
   table_at_in t d low number z h =
       let h' : number * block_pages (suc low) < input_pages t.geometry = rw z at h in
       rw (z, less_test (number * block_pages (suc low)) (input_pages t.geometry) h') refl
 
   no_table : (t : Tree A) (number : ℕ) → table_at t 0 number ≡ None
-  unfolding table_at
+  unfolding table_at table_under
   no_table t number = refl
 
   meaning_at : (t : Tree A) (q : ℕ) → q < input_pages t.geometry → meaning t q ≡ entry_at (levels_below t.geometry) t.table q
-  unfolding meaning
+  unfolding meaning map_under
   meaning_at t q h = rw (less_test q (input_pages t.geometry) h) refl
 
   word_is : (t : Tree A) (p : List ℕ) → word_of t p ≡ word_at t.table p

@@ -13,6 +13,7 @@ use Rattle.table_tree.specs.Meaning.{entry_at, frame_of}
 use Rattle.table_tree.specs.Stocks.{kept_in}
 use Rattle.table_tree.specs.Tables.{tables_in, uses_in, table_in}
 use Rattle.table_tree.specs.View.{tree_of, meaning, table_at, uses, tables_of, root_of, spares_of}
+use Rattle.table_tree.specs.Roots.{map_under, table_under}
 
 module _ {A : Type 0} where
   pub root_is : (t u : Tree A) → frame_of u.table ≡ frame_of t.table → root_of u ≡ root_of t
@@ -31,12 +32,12 @@ module _ {A : Type 0} where
   by_table t u g h of = ap (λ x. of x t.table) g ∙ ap (λ x. of u.geometry x) h
 
   same_at : (depth number : ℕ) (t u : Tree A) → t.geometry ≡ u.geometry → t.table ≡ u.table → table_at t depth number ≡ table_at u depth number
-  unfolding table_at
+  unfolding table_at table_under
   same_at zero number t u g h = refl
   same_at (suc low) number t u g h = by_table t u g h (λ x y. cond (nat_lt (number * block_pages (suc low)) (input_pages x)) (table_in (levels_below x) y low (number * block_pages (suc low))) None)
 
   pub same_meaning : (t u : Tree A) → t.geometry ≡ u.geometry → t.table ≡ u.table → meaning t ≡ meaning u
-  unfolding meaning
+  unfolding meaning map_under
   same_meaning t u g h = fun_ext (λ page. by_table t u g h (λ x y. cond (nat_lt page (input_pages x)) (entry_at (levels_below x) y page) Unmapped))
 
   pub same_tree : (t u : Tree A) → t.geometry ≡ u.geometry → t.table ≡ u.table → tree_of t ≡ tree_of u

@@ -19,6 +19,7 @@ use Rattle.table_tree.specs.Tables.{table_in}
 use Rattle.table_tree.specs.View.{meaning, table_at}
 use Rattle.table_tree.proofs.Steps.{blank_entries, blank_words}
 use Rattle.table_tree.proofs.Standing.{words_standing, by_lt}
+use Rattle.table_tree.specs.Roots.{map_under, table_under}
 
 pub advance_zero : (x : Entry) (n : ℕ) → n ≡ 0 → advance x n ≡ x
 advance_zero Malformed n e = refl
@@ -61,7 +62,7 @@ map_of g t page = cond (ltb page (input_pages g)) (entry_at (levels_below g) t p
 
 module _ {A : Type 0} where
   pub meaning_is : (t : Tree A) → meaning t ≡ map_of t.geometry t.table
-  unfolding meaning map_of
+  unfolding meaning map_of map_under
   meaning_is t = refl
 
   pub map_inside : (g : Geometry) (t : Table A) (page : ℕ) → page < input_pages g → map_of g t page ≡ entry_at (levels_below g) t page
@@ -92,7 +93,7 @@ module _ {A : Type 0} where
   map_blank g t h = fun_ext (λ q. by_lt q (input_pages g) (λ l. map_inside g t q l ∙ blank_entries (levels_below g) t h q) (λ l. map_outside g t q l))
 
   pub standing_blank : (t : Tree A) (root depth number : ℕ) → IsBlank t.table → frame_of t.table ≡ root → table_at t depth number ≡ cond (depth == levels_below t.geometry + 1 && number == 0) (Some root) None
-  unfolding table_at
+  unfolding table_at table_under
   standing_blank t root zero number h e = let z : (0 == levels_below t.geometry + 1) ≡ false = eq-other 0 (levels_below t.geometry + 1) (λ y. omega arith) in rw z refl
   standing_blank t root (suc low) number h e =
       let n = levels_below t.geometry in

@@ -5,6 +5,7 @@ pub mod Shape
 pub mod Tables
 pub mod Chain
 pub mod Links
+pub mod Roots
 pub mod View
 pub mod Stocks
 pub mod Slots

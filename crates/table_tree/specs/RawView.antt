@@ -1,16 +1,14 @@
 -- A raw tree, seen from outside: as a tree is (specs/View.antt).
-use Rattle.std.specs.Prelude.{ℕ, zero, suc, ◌*◌, nat_lt, List, Option, None, if◌then◌else◌}
-use Rattle.page_state.specs.declared.entry.Entry.TheVariants.{Unmapped}
+use Rattle.std.specs.Prelude.{ℕ, List, Option}
 use Rattle.page_state.specs.Map.{Map}
 use Rattle.page_state.specs.Trees.{Tree as ReferenceTree}
-use Rattle.page_state.specs.Geometries.{levels_below, input_pages, block_pages}
 use Rattle.table_tree.specs.declared.raw.RawTree.{RawTree}
-use Rattle.table_tree.specs.Meaning.{entry_at, word_at}
-use Rattle.table_tree.specs.Tables.{table_in}
+use Rattle.table_tree.specs.Meaning.{word_at}
+use Rattle.table_tree.specs.Roots.{map_under, table_under}
 
 -- the map of a raw tree
 unfoldable pub raw_meaning : {A : Type 0} → RawTree A → Map
-raw_meaning t page = if nat_lt page (input_pages t.geometry) then entry_at (levels_below t.geometry) t.table page else Unmapped
+raw_meaning t = map_under t.geometry t.table
 
 -- the word at a path of indices, the root's first
 unfoldable pub raw_word_of : {A : Type 0} → RawTree A → List ℕ → Option ℕ
@@ -18,9 +16,7 @@ raw_word_of t path = word_at t.table path
 
 -- the frame of the table that stands at a block
 unfoldable pub raw_table_at : {A : Type 0} → RawTree A → ℕ → ℕ → Option ℕ
-raw_table_at t zero number = None
-raw_table_at t (suc low) number =
-    if nat_lt (number * block_pages (suc low)) (input_pages t.geometry) then table_in (levels_below t.geometry) t.table low (number * block_pages (suc low)) else None
+raw_table_at t = table_under t.geometry t.table
 
 -- its map, and the frame of the table at each block
 abbrev pub raw_tree_of : {A : Type 0} → RawTree A → ReferenceTree

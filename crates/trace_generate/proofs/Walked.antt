@@ -6,8 +6,7 @@ use Rattle.page_state.proofs.Accepted.{memory_below}
 use Rattle.page_state.proofs.Cases.{by_test}
 use Rattle.page_state.specs.LayoutFaults.{IsAccepted}
 use Rattle.page_state.specs.Layouts.{Layout, is_memory}
-use Rattle.reference_model.specs.Parts.{guest_slot, names}
-use Rattle.reference_model.specs.Rules.{rule}
+use Rattle.reference_model.specs.Rules.{rule, guest_slot, names}
 use Rattle.reference_model.specs.Step.{answer, fails, foretell, is_full, predict, refusal}
 use Rattle.reference_model.specs.declared.changes.Ticket.{Ticket}
 use Rattle.reference_model.specs.State.{Reference}

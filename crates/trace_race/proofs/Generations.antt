@@ -20,8 +20,8 @@ use Rattle.reference_model.specs.declared.changes.Update.TheVariants.{Keep, Beco
 use Rattle.reference_model.specs.Boot.{boot, booted}
 use Rattle.reference_model.specs.Changes.{updated, vms_by, cpu_by}
 use Rattle.reference_model.specs.GuestRules.{ticket_vm}
-use Rattle.reference_model.specs.Parts.{Names, names, guest_slot, lacks_slot, uses_vms}
-use Rattle.reference_model.specs.Rules.{rule}
+use Rattle.reference_model.specs.Parts.{Names, lacks_slot, uses_vms}
+use Rattle.reference_model.specs.Rules.{rule, names, guest_slot}
 use Rattle.reference_model.specs.State.{Contents, Cpu, Guest, Reference, Shared, Slot, Vms, closing, no_slot, no_vms, opened, put_at, reserved}
 use Rattle.reference_model.specs.Step.{answer, changed, fails, foretell, is_full, made, predict, stored, with_rows}
 use Rattle.reference_model.specs.Used.{Used, UsedRooms, put_back, rooms_of, used_of}

@@ -15,13 +15,13 @@ use Rattle.step_reply.specs.declared.step.Step.{Step}
 use Rattle.reference_model.specs.History.{IsStored}
 use Rattle.reference_model.specs.Boot.{boot}
 use Rattle.reference_model.specs.Run.{Runs}
-use Rattle.reference_model.specs.Parts.{Names, names, guest_slot, uses_shared, uses_vms}
+use Rattle.reference_model.specs.Parts.{Names, uses_shared, uses_vms}
 use Rattle.reference_model.specs.Used.{Used, put_back, put_room, put_rooms, room_at, rooms_of, used_of}
 use Rattle.reference_model.specs.State.{Contents, Reference, Rooms, put_at}
 use Rattle.reference_model.specs.Step.{Steps, answer, foretell, is_full, predict, stored, rooms_by}
 use Rattle.reference_model.proofs.Steps.{refusal_keeps}
 use Rattle.ghost_judge.specs.Judgements.{JudgeAgrees, is_done}
-use Rattle.reference_model.specs.Rules.{may_grow}
+use Rattle.reference_model.specs.Rules.{may_grow, names, guest_slot}
 use Rattle.step_reply.specs.declared.reply.Refusal.TheVariants as refusals
 use Rattle.ghost_judge.proofs.JudgedSteps.{step_agrees}
 use Rattle.ghost_judge.specs.declared.disagreement.Disagreement.{Disagreement}

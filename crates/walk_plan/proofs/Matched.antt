@@ -23,6 +23,7 @@ use Rattle.table_tree.proofs.Slots.{by_slot}
 use Rattle.table_tree.proofs.Steps.{entry_step, word_gives, child_gives}
 use Rattle.table_tree.proofs.Standing.{table_top, table_below, stand_word, stand_child}
 use Rattle.walk_plan.proofs.Numbers.{index_in, place_in, from_part}
+use Rattle.table_tree.specs.Roots.{map_under, table_under}
 
 -- on a block, the map is `entry`, and the tables with fewer than `k` levels below them stand as `table` says
 pub record Matches (m : Map) (ts : Block → Option ℕ) (k d b : ℕ) (entry : ℕ → Entry) (table : ℕ → ℕ → Option ℕ) : Type 0 where
@@ -90,11 +91,11 @@ module _ (m : Map) (ts : Block → Option ℕ) where
 -- a tree, in the block of all input pages
 module _ {A : Type 0} (t : Tree A) where
   pub meaning_in : (q : ℕ) → q < input_pages t.geometry → meaning t q ≡ entry_at (levels_below t.geometry) t.table q
-  unfolding meaning
+  unfolding meaning map_under
   meaning_in q h = let e : nat_lt q (input_pages t.geometry) ≡ true = grind (arith, nat_tests) in rw e refl
 
   pub table_at_in : (low j : ℕ) → j * block_pages (suc low) < input_pages t.geometry → table_at t (suc low) j ≡ table_in (levels_below t.geometry) t.table low (j * block_pages (suc low))
-  unfolding table_at
+  unfolding table_at table_under
   table_at_in low j h = let e : nat_lt (j * block_pages (suc low)) (input_pages t.geometry) ≡ true = grind (arith, nat_tests) in rw e refl
 
   pub all_pages : input_pages t.geometry ≡ block_pages (suc (levels_below t.geometry))
@@ -121,13 +122,13 @@ table_deep (suc n) low q t h =
 -- past the input pages
 module _ {A : Type 0} (t : Tree A) where
   pub meaning_past : (q : ℕ) → input_pages t.geometry ≤ q → meaning t q ≡ Unmapped
-  unfolding meaning
+  unfolding meaning map_under
   meaning_past q h = let e : nat_lt q (input_pages t.geometry) ≡ false = grind (arith, nat_tests) in rw e refl
 
   pub table_past : (low j : ℕ) → input_pages t.geometry ≤ j * block_pages (suc low) → table_at t (suc low) j ≡ None
-  unfolding table_at
+  unfolding table_at table_under
   table_past low j h = let e : nat_lt (j * block_pages (suc low)) (input_pages t.geometry) ≡ false = grind (arith, nat_tests) in rw e refl
 
   pub table_page : (j : ℕ) → table_at t 0 j ≡ None
-  unfolding table_at
+  unfolding table_at table_under
   table_page j = refl

@@ -12,7 +12,7 @@ use Rattle.reference_model.specs.Boot.{boot, CanBoot}
 use Rattle.reference_model.specs.Conditions.{IsUsable, Legal}
 use Rattle.reference_model.specs.Run.{Runs, IsRun}
 use Rattle.reference_model.specs.State.{Reference}
-use Rattle.reference_model.specs.Parts.{guest_slot}
+use Rattle.reference_model.specs.Rules.{guest_slot}
 use Rattle.reference_model.specs.Step.{Steps}
 use Rattle.reference_model.specs.Used.{used_of}
 use Rattle.reference_model.proofs.Steps.{refusal_keeps}

@@ -10,7 +10,8 @@ use Rattle.reference_model.proofs.Ends.{filter-false, parts_history, parts_run}
 use Rattle.reference_model.proofs.Rely.{reached_relies}
 use Rattle.reference_model.specs.Boot.{boot, CanBoot}
 use Rattle.reference_model.specs.History.{calls_on, calls_by}
-use Rattle.reference_model.specs.Parts.{Part, vm_part, shared_part, guest_part, call_uses, is_slot, names}
+use Rattle.reference_model.specs.Parts.{Part, vm_part, shared_part, guest_part, is_slot}
+use Rattle.reference_model.specs.Rules.{call_uses, names}
 use Rattle.reference_model.specs.Reached.{IsReached}
 use Rattle.reference_model.specs.Run.{Runs, IsRun}
 use Rattle.reference_model.specs.State.{Reference}

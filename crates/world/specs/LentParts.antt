@@ -6,7 +6,7 @@ use Rattle.step_reply.specs.declared.reply.Call.{Call}
 use Rattle.step_reply.specs.declared.reply.Reply.{Reply}
 use Rattle.step_reply.specs.declared.step.Step.{Step}
 use Rattle.page_state.specs.Layouts.{Layout}
-use Rattle.reference_model.specs.Parts.{names}
+use Rattle.reference_model.specs.Rules.{names}
 use Rattle.reference_model.specs.Reached.{IsReached}
 use Rattle.guest_steps.specs.declared.parts.VmPart.{VmPart}
 use Rattle.guest_steps.specs.declared.parts.SharedPart.{SharedPart}

@@ -21,7 +21,8 @@ use Rattle.page_state.specs.Trees.{Block}
 use Rattle.reference_model.specs.State.{Contents}
 use Rattle.page_state.proofs.Sizes.{size_some}
 use Rattle.page_state.specs.Layouts.{Layout, is_memory}
-use Rattle.reference_model.specs.Parts.{names, shared}
+use Rattle.reference_model.specs.Parts.{shared}
+use Rattle.reference_model.specs.Rules.{names}
 use Rattle.reference_model.specs.Used.{used_of}
 use Rattle.reference_model.specs.Rule.{Rule, fine}
 use Rattle.reference_model.specs.SharedRules.{host_abort, host_translate, hyp_translate, owner_of, abort_edit, abort_leaf, abort_depth, may_map}

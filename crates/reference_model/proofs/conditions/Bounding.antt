@@ -32,8 +32,8 @@ use Rattle.reference_model.proofs.conditions.Tables.{some_of, some-put, edited-s
 use Rattle.reference_model.specs.Conditions.{Legal, IsUsable, one}
 use Rattle.reference_model.specs.GuestRules.{ticket_vm, guest_table_count, are_good_pages}
 use Rattle.page_state.specs.Layouts.{Layout, is_memory, is_good_range, is_good_page}
-use Rattle.reference_model.specs.Parts.{names, lacks_slot, uses_vms, has_stage}
-use Rattle.reference_model.specs.Rules.{rule}
+use Rattle.reference_model.specs.Parts.{lacks_slot, uses_vms, has_stage}
+use Rattle.reference_model.specs.Rules.{rule, names}
 use Rattle.reference_model.specs.Rule.{Rule}
 use Rattle.reference_model.specs.Run.{Runs}
 use Rattle.page_state.specs.Search.{all_below}

@@ -21,7 +21,8 @@ use Rattle.reference_model.specs.Decides.{decided}
 use Rattle.reference_model.specs.ChangeLaws.{FitsWhere, AllFit}
 use Rattle.reference_model.specs.Changes.{edit_of}
 use Rattle.reference_model.specs.Conditions.{Legal}
-use Rattle.reference_model.specs.Parts.{names, guest_slot, lacks_slot, uses_shared}
+use Rattle.reference_model.specs.Parts.{lacks_slot, uses_shared}
+use Rattle.reference_model.specs.Rules.{names, guest_slot}
 use Rattle.reference_model.specs.Rule.{Rule}
 use Rattle.reference_model.specs.State.{Contents, Shared, no_shared}
 use Rattle.reference_model.specs.Step.{rule_of, first_test, or_else, is_short, refusal, fails}

@@ -32,9 +32,9 @@ use Rattle.reference_model.specs.ChangeLaws.{FitsWhere, AllFit, ChangesFit, Touc
 use Rattle.reference_model.specs.Changes.{change, no_changes}
 use Rattle.reference_model.specs.Conditions.{hyps, Legal, IsUsable}
 use Rattle.reference_model.specs.GuestRules.{are_good_pages}
-use Rattle.reference_model.specs.Parts.{names, guest_slot, lacks_slot}
+use Rattle.reference_model.specs.Parts.{lacks_slot}
 use Rattle.reference_model.specs.Rule.{Rule}
-use Rattle.reference_model.specs.Rules.{rule}
+use Rattle.reference_model.specs.Rules.{rule, names, guest_slot}
 use Rattle.reference_model.specs.RowChanges.{borrower, row_by}
 use Rattle.reference_model.specs.SharedRules.{hand_of, no_range, abort_edit}
 use Rattle.reference_model.specs.State.{Contents}

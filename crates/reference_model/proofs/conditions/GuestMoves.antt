@@ -12,7 +12,8 @@ use Rattle.page_state.specs.Map.{is_within}
 use Rattle.reference_model.specs.State.{Guest, Cpu, Contents, empty, put_at, no_guest, blank}
 use Rattle.page_state.specs.Layouts.{Layout, is_memory}
 use Rattle.reference_model.specs.Owner.{row_of}
-use Rattle.reference_model.specs.Parts.{names, shared_and_guest}
+use Rattle.reference_model.specs.Parts.{shared_and_guest}
+use Rattle.reference_model.specs.Rules.{names}
 use Rattle.reference_model.specs.Used.{Used, used_of, put_back}
 use Rattle.reference_model.specs.declared.changes.Changes.{Changes}
 use Rattle.reference_model.specs.Changes.{cpu_by}

@@ -13,7 +13,8 @@ use Rattle.reference_model.specs.Changes.{edit_of, guest_by, rest, frames_in}
 use Rattle.reference_model.specs.Conditions.{one, in_shared, in_vm}
 use Rattle.page_state.specs.Counts.{is_one, frame_count}
 use Rattle.page_state.specs.Layouts.{Layout}
-use Rattle.reference_model.specs.Parts.{names, uses_shared}
+use Rattle.reference_model.specs.Parts.{uses_shared}
+use Rattle.reference_model.specs.Rules.{names}
 use Rattle.reference_model.specs.PoolOrder.{IsInOrder, RunInOrder}
 use Rattle.reference_model.specs.Run.{Runs}
 use Rattle.reference_model.specs.State.{Shared, Guest, Contents, Reference, no_shared}

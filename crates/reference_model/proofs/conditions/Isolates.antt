@@ -22,8 +22,8 @@ use Rattle.reference_model.specs.Isolation.{PageStays, Isolated, RunIsolated, Ot
 use Rattle.page_state.specs.Layouts.{Layout, hyp_page}
 use Rattle.page_state.specs.Map.{Map, update, is_within}
 use Rattle.page_state.specs.Search.{all_below}
-use Rattle.reference_model.specs.Parts.{names, guest_slot, loaded_slot, lacks_slot}
-use Rattle.reference_model.specs.Rules.{rule}
+use Rattle.reference_model.specs.Parts.{loaded_slot, lacks_slot}
+use Rattle.reference_model.specs.Rules.{rule, names, guest_slot}
 use Rattle.reference_model.specs.Rule.{Rule}
 use Rattle.reference_model.specs.Sound.{owner, IsLeafOf, Maps, Holds, HasLoaded}
 use Rattle.reference_model.specs.State.{Guest, empty, live, dying, Contents, Reference}

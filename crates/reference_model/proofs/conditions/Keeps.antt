@@ -12,10 +12,10 @@ use Rattle.step_reply.specs.declared.step.Step.TheVariants.{ShareHyp, UnshareHyp
 use Rattle.step_reply.specs.declared.step.VmId.{VmId}
 use Rattle.reference_model.specs.State.{Cpu, Contents, Reference, empty, put_at, no_vms, no_shared, no_guest}
 use Rattle.page_state.specs.Layouts.{Layout, is_memory}
-use Rattle.reference_model.specs.Parts.{Names, names, guest_slot, slot_of, loaded_slot, ticket_slot, has_stage}
+use Rattle.reference_model.specs.Parts.{Names, slot_of, loaded_slot, ticket_slot, has_stage}
 use Rattle.reference_model.specs.Used.{Used, used_of, put_back}
 use Rattle.reference_model.specs.Rule.{Rule}
-use Rattle.reference_model.specs.Rules.{rule}
+use Rattle.reference_model.specs.Rules.{rule, names, guest_slot}
 use Rattle.reference_model.specs.VmRules.{teardown, vcpu_load}
 use Rattle.reference_model.specs.Step.{refusal, changed, with_rows, is_touched, own_row, fails, made, Answered, used_by}
 use Rattle.reference_model.specs.ConditionChanges.{told_condition}

@@ -19,7 +19,8 @@ use Rattle.reference_model.specs.GuestRules.{share_guest, unshare_guest, donate_
 use Rattle.page_state.specs.Map.{is_within}
 use Rattle.reference_model.specs.State.{Guest, Contents, empty, live, dying}
 use Rattle.page_state.specs.Layouts.{Layout, is_memory, is_good_range, is_good_page}
-use Rattle.reference_model.specs.Parts.{names, shared_and_guest}
+use Rattle.reference_model.specs.Parts.{shared_and_guest}
+use Rattle.reference_model.specs.Rules.{names}
 use Rattle.reference_model.specs.Used.{Used, used_of}
 use Rattle.reference_model.specs.Step.{refusal, shared_need, guest_need}
 use Rattle.reference_model.specs.ConditionChanges.{told_condition}

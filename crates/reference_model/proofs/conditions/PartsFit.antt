@@ -18,9 +18,9 @@ use Rattle.reference_model.specs.Bounds.{Bounded}
 use Rattle.reference_model.specs.ChangeLaws.{PartsFit, PartChangesFit}
 use Rattle.reference_model.specs.Conditions.{hyps, Legal, IsUsable, one, in_vm, guest_uses}
 use Rattle.reference_model.specs.GuestRules.{ticket_vm, guest_table_count, is_guest}
-use Rattle.reference_model.specs.Parts.{names, guest_slot, lacks_slot, has_stage}
+use Rattle.reference_model.specs.Parts.{lacks_slot, has_stage}
 use Rattle.reference_model.specs.Rule.{Rule}
-use Rattle.reference_model.specs.Rules.{rule}
+use Rattle.reference_model.specs.Rules.{rule, names, guest_slot}
 use Rattle.reference_model.specs.SharedRules.{hand_of}
 use Rattle.reference_model.specs.State.{Reference, empty, live, dying, vacant}
 use Rattle.reference_model.specs.Step.{first_test}

@@ -11,7 +11,8 @@ use Rattle.reference_model.specs.declared.changes.Changes.{Changes}
 use Rattle.reference_model.specs.Changes.{cpu_by}
 use Rattle.reference_model.specs.Conditions.{Condition, MapsFit, HeldFit, Legal, IsUsable, row_in, in_vm, one, AreCoarsest, GuestsFit, SlotsFit, RowsFit, IsGood}
 use Rattle.reference_model.specs.Owner.{row_of}
-use Rattle.reference_model.specs.Parts.{names, shared}
+use Rattle.reference_model.specs.Parts.{shared}
+use Rattle.reference_model.specs.Rules.{names}
 use Rattle.reference_model.specs.State.{Cpu, Contents, put_at, no_guest, no_cpu, blank}
 use Rattle.reference_model.specs.Step.{changed, with_rows, own_row, shared_after, shared_need}
 use Rattle.reference_model.specs.Used.{Used, used_of, put_back}

@@ -19,7 +19,8 @@ use Rattle.reference_model.specs.declared.changes.GuestChange.TheVariants.{Keep 
 use Rattle.reference_model.specs.Changes.{cpu_by, same_cpu}
 use Rattle.reference_model.specs.Conditions.{Condition, outside, hosts, with_hyp, hyps, with_guest, guests, lent_back, hyp_says, Legal, IsUsable, row_in, in_hand}
 use Rattle.reference_model.specs.Owner.{is_in_hand, lent_at}
-use Rattle.reference_model.specs.Parts.{names, shared}
+use Rattle.reference_model.specs.Parts.{shared}
+use Rattle.reference_model.specs.Rules.{names}
 use Rattle.reference_model.specs.SharedRules.{share_hyp, unshare_hyp, donate_hyp, hyp_donate_host, fund, unfund, may_donate, may_return, is_plain, hand_of, hand_becomes}
 use Rattle.reference_model.specs.State.{Cpu, Contents, put_at, plain_row}
 use Rattle.reference_model.specs.Step.{refusal, shared_need}

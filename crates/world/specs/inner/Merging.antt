@@ -1,7 +1,8 @@
 -- How logs are merged: from each the calls that were given are its first, and what is left of it goes on from there.
 use Rattle.std.specs.Prelude.{◌≡◌, ℕ, zero, suc, ◌+◌, Bool, true, ◌==◌, if◌then◌else◌, List, [], ◌∷◌, Option, Some, None, drop, length, slice_index}
 use Rattle.step_reply.specs.declared.reply.Call.{Call}
-use Rattle.reference_model.specs.Parts.{Part, vm_part, shared_part, guest_part, call_uses}
+use Rattle.reference_model.specs.Parts.{Part, vm_part, shared_part, guest_part}
+use Rattle.reference_model.specs.Rules.{call_uses}
 use Rattle.world.specs.declared.merge.Histories.{Histories}
 use Rattle.world.specs.declared.merge.Places.{Places}
 use Rattle.world.specs.Merges.{log_on, log_by}

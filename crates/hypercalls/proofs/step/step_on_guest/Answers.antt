@@ -3,7 +3,7 @@ use Rattle.page_state.specs.LayoutView.{layout_of}
 use Rattle.guest_steps.specs.declared.parts.CpuState.{CpuState}
 use Rattle.guest_steps.specs.Lent.{lent_guest, logs_in, used_in}
 use Rattle.guest_steps.specs.View.{cpu_of, guest_held}
-use Rattle.reference_model.specs.Parts.{names}
+use Rattle.reference_model.specs.Rules.{names}
 use Rattle.decisions.proofs.Decided.{named_alone}
 use Rattle.hypercalls.proofs.Carried.{comes_guest, ends_at, err_at, leaves_shared, ok_at}
 use Rattle.hypercalls.proofs.Stepping.{barred_step, done_step, eq_with, full_step, guest_full, has_room, no_room, none_full, own_full, same_logs}

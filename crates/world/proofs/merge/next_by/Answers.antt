@@ -2,7 +2,8 @@ use Rattle.std.proofs.Common.{rules, ◌≡◌, ◌≢◌, ◌<◌, ◌≤◌, t
 use Rattle.std.specs.Prelude.{Some, None, List}
 use Rattle.std.proofs.lemmas.Option.{slice_get_past}
 use Rattle.step_reply.specs.declared.reply.Call.{Call}
-use Rattle.reference_model.specs.Parts.{Part, call_uses}
+use Rattle.reference_model.specs.Parts.{Part}
+use Rattle.reference_model.specs.Rules.{call_uses}
 use Rattle.world.specs.inner.Merging.{by, first_of, left, on}
 use Rattle.world.proofs.Merging.{first_read, get_of, next_first, next_made, next_same}
 use Rattle.world.proofs.merge.next_by.Goals as goal

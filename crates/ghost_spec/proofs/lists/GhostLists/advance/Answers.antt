@@ -4,7 +4,7 @@ use Rattle.std.proofs.lemmas.Result.{IfOk-from_err, IfOk-at_ok}
 use Rattle.step_reply.specs.declared.reply.Reply.{Reply}
 use Rattle.page_state.specs.LayoutView.{layout_of}
 use Rattle.page_state.proofs.Common.{same2}
-use Rattle.reference_model.specs.Parts.{names, guest_slot}
+use Rattle.reference_model.specs.Rules.{names, guest_slot}
 use Rattle.reference_model.specs.State.{Cpu, Contents, Rooms, Reference, no_cpu}
 use Rattle.reference_model.specs.Step.{answer, stored}
 use Rattle.reference_model.specs.Used.{Used, put_rooms, rooms_of, used_of}

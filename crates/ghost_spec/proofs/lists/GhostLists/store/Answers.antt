@@ -1,6 +1,6 @@
 use Rattle.std.proofs.Common.{◌≡◌, ◌-◌, ℕ, get_or, ap, ◌∙◌}
 use Rattle.std.proofs.lemmas.List.{get_or_default}
-use Rattle.reference_model.specs.Parts.{names}
+use Rattle.reference_model.specs.Rules.{names}
 use Rattle.reference_model.specs.State.{put_at}
 use Rattle.ghost_spec.specs.declared.lists.GhostRooms.{GhostRooms}
 use Rattle.ghost_spec.specs.States.{rooms_in}

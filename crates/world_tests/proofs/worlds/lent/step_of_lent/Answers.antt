@@ -1,6 +1,6 @@
 use Rattle.std.proofs.Common.{arith, ◌≡◌, ◌∙◌, ◌<◌, ℕ, Bool, true, false, Option, Some, None, get_or, length, refl, slice_get, sym, ap, subst, Global}
 use Rattle.step_reply.specs.declared.step.Step.{Step}
-use Rattle.reference_model.specs.Parts.{guest_slot, names}
+use Rattle.reference_model.specs.Rules.{guest_slot, names}
 use Rattle.reference_model.specs.Reached.{IsReached}
 use Rattle.guest_steps.specs.declared.parts.GuestPart.{GuestPart}
 use Rattle.guest_steps.specs.declared.parts.CpuState.{CpuState}

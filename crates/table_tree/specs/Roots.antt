@@ -1,4 +1,4 @@
--- What a root table says, with the tables below it. They may be any, not only those of a tree that stands.
+-- What a root table says, with the tables below it. They may be any, also those of no tree that stands.
 use Rattle.std.specs.Prelude.{ℕ, zero, suc, ◌*◌, nat_lt, Option, None, if◌then◌else◌}
 use Rattle.page_state.specs.declared.entry.Entry.TheVariants.{Unmapped}
 use Rattle.page_state.specs.declared.layout.Geometry.{Geometry}
