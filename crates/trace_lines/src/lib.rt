@@ -1,7 +1,7 @@
 //! Lines of a trace: what they say, their faults, and what they report.
 #![tactic(auto)]
 
-mod argument;
+pub mod argument;
 mod asked;
 mod call;
 mod fault;
@@ -11,9 +11,10 @@ mod place;
 mod response;
 mod settings;
 
+pub use asked::Asked;
 pub use fault::LineFault;
 pub use grammar::said;
 pub use line::{Line, Poke, Query, Setting, TreeName};
-pub use place::Allows;
+pub use place::{Allows, SettingName, Verb};
 pub use response::Response;
 pub use settings::Settings;
