@@ -1,4 +1,5 @@
 pub mod KnownBytes
-mod LineLemmas
+pub mod LineLemmas
 mod Moved
 mod Cut
+pub mod LinesBack

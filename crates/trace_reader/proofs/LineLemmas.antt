@@ -10,7 +10,8 @@ pub plain-more : (xs ys : List ℕ) → HasNoEnd xs → HasNoEnd ys → HasNoEnd
 plain-more [] ys p q = q
 plain-more (x ∷ xs) ys p q = (p.0, plain-more xs ys p.1 q)
 
-abbrev parts : List ℕ → List (List ℕ)
+-- what stands before, between and behind the ends of lines
+abbrev pub parts : List ℕ → List (List ℕ)
 parts bytes = slice_split (λ byte. byte == 10) bytes
 
 -- there is a first part
@@ -21,11 +22,11 @@ nonempty (x ∷ xs) =
     elim (x == 10) as (λ b. (first : List ℕ) × (more : List (List ℕ)) × (cond b ([] ∷ parts xs) (onto_first x (parts xs)) ≡ first ∷ more))
     [ true ↦ ([], parts xs, refl) | false ↦ (x ∷ inner.0, inner.1, ap (onto_first x) inner.2) ]
 
-ended : (line rest : List ℕ) → HasNoEnd line → parts (line ++ 10 ∷ rest) ≡ line ∷ parts rest
+pub ended : (line rest : List ℕ) → HasNoEnd line → parts (line ++ 10 ∷ rest) ≡ line ∷ parts rest
 ended [] rest p = refl
 ended (x ∷ xs) rest p = rw p.0 (ap (onto_first x) (ended xs rest p.1))
 
-alone : (line : List ℕ) → HasNoEnd line → parts line ≡ line ∷ []
+pub alone : (line : List ℕ) → HasNoEnd line → parts line ≡ line ∷ []
 alone [] p = refl
 alone (x ∷ xs) p = rw p.0 (ap (onto_first x) (alone xs p.1))
 
@@ -34,7 +35,7 @@ begun [] rest p = nonempty rest
 begun (x ∷ xs) rest p = let inner = begun xs rest p.1 in (inner.0, inner.1, rw p.0 (ap (onto_first x) inner.2))
 
 -- a part that isn't the last stays
-stays : (part : List ℕ) (bytes : List ℕ) → without_empty_last (part ∷ parts bytes) ≡ part ∷ without_empty_last (parts bytes)
+pub stays : (part : List ℕ) (bytes : List ℕ) → without_empty_last (part ∷ parts bytes) ≡ part ∷ without_empty_last (parts bytes)
 stays part bytes = let some = nonempty bytes in rw some.2 refl
 
 -- a part with a byte stays
@@ -54,6 +55,10 @@ at_end line left p short = record {
   next = λ _. refl;
 }
 
+-- a part with a byte that is the only one stays
+pub only : (line : List ℕ) → 0 < length line → without_empty_last (line ∷ []) ≡ line ∷ []
+only line some = grind (arith, nat_tests)
+
 -- a last line without an end
 pub at_last : (line : List ℕ) → HasNoEnd line → 0 < length line → length line ≤ 256 → IsFirstLine line line (Some [])
 unfolding lines_of
@@ -64,9 +69,6 @@ at_last line p some short = record {
   read = sym (take_all 257 line (omega arith));
   next = λ _. refl;
 }
-  where
-    only : (line : List ℕ) → 0 < length line → without_empty_last (line ∷ []) ≡ line ∷ []
-    only line some = grind (arith, nat_tests)
 
 -- a front of a line that is too long
 pub at_long : (line rest : List ℕ) (left : Option (List ℕ)) → HasNoEnd line → length line ≡ 257 → IsFirstLine (line ++ rest) line left
