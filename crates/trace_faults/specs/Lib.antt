@@ -1,0 +1,6 @@
+pub mod Blame
+pub mod Columns
+pub mod Forms
+pub mod Laws
+pub mod Spots
+pub mod Wanted

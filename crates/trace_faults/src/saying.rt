@@ -1,0 +1,78 @@
+//! A spot, with its words.
+ghost use Rattle.std.specs.Prelude.{◌≡◌, IfOk};
+ghost use Rattle.trace_faults.specs.Spots.{at as at_by, at_word as at_word_by, of_line as of_line_by, said_of, spot_in, word_said};
+
+use crate::column::word_column;
+use std::alloc::{AllocError, Global};
+use trace_words::Words;
+
+/// Where a fault is, and what is wrong there.
+#[derive(Drop)]
+pub struct Spot {
+    /// The number of its line, from 1. Of a refused boot it is that of the setting at fault, where there is one.
+    pub line: u64,
+    /// Its column in bytes, from 1.
+    pub column: u64,
+    /// `found .., wanted ..`. A word of the line is between two backquotes.
+    pub said: Vec<u8>,
+}
+
+/// A spot where something was found that is no word.
+pub(crate) fn at(
+    global: Global,
+    line: u64,
+    column: u64,
+    found: &[u8],
+    wanted: &[u8],
+) -> Result<Spot, AllocError>
+    ensures { IfOk result (λ spot. spot_in spot ≡ at_by line column found.now wanted.now) }
+{
+    let mut said = Vec::from_slice(global, b"found ")?;
+    said.extend_from_slice(found)?;
+    said.extend_from_slice(b", wanted ")?;
+    said.extend_from_slice(wanted)?;
+    Ok(Spot { line, column, said })
+}
+
+/// A text between two backquotes.
+fn quoted(global: Global, text: &[u8]) -> Result<Vec<u8>, AllocError>
+    ensures { IfOk result (λ said. said.items ≡ word_said text.now) }
+{
+    let mut said = Vec::from_slice(global, b"`")?;
+    said.extend_from_slice(text)?;
+    said.extend_from_slice(b"`")?;
+    Ok(said)
+}
+
+/// A whole line where something else was wanted.
+pub(crate) fn of_line(
+    global: Global,
+    number: u64,
+    line: &[u8],
+    wanted: &[u8],
+) -> Result<Spot, AllocError>
+    ensures { IfOk result (λ spot. spot_in spot ≡ of_line_by number line.now wanted.now) }
+{
+    let found = quoted(global, line)?;
+    at(global, number, 1, found.as_slice(), wanted)
+}
+
+/// The word at a place of a line, or the line's end where there is no such word.
+pub(crate) fn at_word(
+    global: Global,
+    number: u64,
+    line: &[u8],
+    place: usize,
+    wanted: &[u8],
+) -> Result<Spot, AllocError>
+    ensures { IfOk result (λ spot. spot_in spot ≡ at_word_by number line.now place wanted.now) }
+{
+    let column = word_column(line, place);
+    match Words::of(line).get(place) {
+        Some(word) => {
+            let found = quoted(global, word)?;
+            at(global, number, column, found.as_slice(), wanted)
+        }
+        None => at(global, number, column, b"the line's end", wanted),
+    }
+}
