@@ -5,3 +5,5 @@ pub mod Renumbered
 pub mod Replayed
 pub mod Steps
 pub mod Unmet
+pub mod Joined
+pub mod Whole

@@ -1,9 +1,12 @@
 -- What `check` says of a trace (profile).
-use Rattle.std.specs.Prelude.{◌≡◌, ℕ, List, [], ◌∷◌, ◌++◌, codes, length, Bool, ◌&&◌, not, ◌==◌, if◌then◌else◌}
+use Rattle.std.specs.Prelude.{◌≡◌, ℕ, ◌-◌, List, [], ◌∷◌, ◌++◌, codes, length, Bool, ◌&&◌, not, ◌==◌, Option, Some, None, slice_get, if◌then◌else◌}
 use Rattle.std.specs.Fmt.{decimal}
 use Rattle.std.specs.List.{list_any}
 use Rattle.trace_reader.specs.Reading.{lines_of}
+use Rattle.trace_faults.specs.Spots.{Told, spot_of}
+use Rattle.trace_text.specs.declared.fault.Fault.{Fault}
 use Rattle.trace_text.specs.declared.report.ReportLine.{ReportLine}
+use Rattle.trace_text.specs.declared.report.ReportLine.TheVariants as report
 use Rattle.trace_text.specs.Session.{at_start}
 use Rattle.trace_check.specs.declared.checking.Checked.{Checked}
 use Rattle.trace_check.specs.Expectations.{count_expected}
@@ -27,6 +30,23 @@ abbrev pub miss_lines : List ℕ → List Miss → List ℕ
 miss_lines name [] = []
 miss_lines name (miss ∷ more) = miss_line name miss ++ miss_lines name more
 
+-- the fault that ended the run, where one did: its line reports it alone
+abbrev pub fault_in : List ReportLine → Option Fault
+fault_in (report.Fault line fault ∷ []) = Some fault
+fault_in other = None
+
+abbrev pub last_fault : List (List ReportLine) → Option Fault
+last_fault told = elim (slice_get told (length told - 1)) [ Some reported ↦ fault_in reported | None ↦ None ]
+
+-- where a fault is, and what was found and wanted there
+abbrev pub spot_line : List ℕ → Told → List ℕ
+spot_line name spot = name ++ codes ":" ++ decimal spot.line ++ codes ":" ++ decimal spot.column ++ codes ": " ++ spot.said ++ 10 ∷ []
+
+-- so of the fault that ended the run, where something is missed
+abbrev pub spot_said : List ℕ → List (List ℕ) → List (List ReportLine) → ℕ → List ℕ
+spot_said name lines told missed =
+    if missed == 0 then [] else elim (last_fault told) [ Some fault ↦ spot_line name (spot_of lines (length told - 1) fault) | None ↦ [] ]
+
 -- what is said of a whole file
 abbrev pub boot_said : List ℕ → Bool → List ℕ
 boot_said name begun = if begun then [] else file_line name (codes "no boot")
@@ -38,12 +58,12 @@ abbrev pub sum_said : List ℕ → ℕ → ℕ → List ℕ
 sum_said name expected wrong = file_line name (decimal expected ++ codes " expected, " ++ decimal wrong ++ codes " wrong")
 
 -- all that is said
-abbrev pub said_of : List ℕ → List Miss → Bool → ℕ → List ℕ
-said_of name missed begun expected = miss_lines name missed ++ boot_said name begun ++ none_said name expected ++ sum_said name expected (length missed)
+abbrev pub said_of : List ℕ → List Miss → List ℕ → Bool → ℕ → List ℕ
+said_of name missed spot begun expected = miss_lines name missed ++ spot ++ boot_said name begun ++ none_said name expected ++ sum_said name expected (length missed)
 
 -- the answer to a trace whose lines report this
 pub record Checks (name : List ℕ) (lines : List (List ℕ)) (told : List (List ReportLine)) (checked : Checked) : Type 0 where
-  pub text : checked.text.items ≡ said_of name (misses lines told) (has_begun told) (count_expected lines)
+  pub text : checked.text.items ≡ said_of name (misses lines told) (spot_said name lines told (length (misses lines told))) (has_begun told) (count_expected lines)
   pub expected : checked.expected ≡ count_expected lines
   pub wrong : checked.wrong ≡ length (misses lines told)
   pub clean : checked.clean ≡ (has_begun told && not (count_expected lines == 0) && length (misses lines told) == 0)

@@ -1,12 +1,13 @@
 -- Laws of what traces report and of recorded traces.
 use Rattle.std.specs.Prelude.{◌≡◌, ℕ, ◌≤◌, List, [], ◌∷◌, ◌++◌, length, map}
 use Rattle.trace_text.specs.declared.report.ReportLine.{ReportLine}
+use Rattle.trace_reader.specs.Reading.{lines_of}
 use Rattle.trace_reader.specs.declared.outcome.Outcome.{Outcome}
 use Rattle.trace_text.specs.Oracles.{agreed}
 use Rattle.trace_text.specs.Replay.{IsReport}
 use Rattle.trace_text.specs.Session.{Standing, at_start}
 use Rattle.trace_check.specs.Misses.{misses, rest_missed}
-use Rattle.trace_check.specs.Records.{recorded}
+use Rattle.trace_check.specs.Records.{IsRecord, recorded, recorded_text}
 use Rattle.trace_check.specs.Runs.{Runs}
 use Rattle.trace_check.specs.Shown.{shown}
 
@@ -27,6 +28,17 @@ pub record IsMet (lines : List (List ℕ)) (texts : List (List ℕ)) : Type 0 wh
 abbrev pub RecordedIsMet : Type 0
 RecordedIsMet = (lines : List (List ℕ)) (told : List (List ReportLine)) → Runs 1 at_start lines told → length lines ≤ 1048576 → length (recorded lines told) ≤ 1048576
     → IsMet (recorded lines told) (shown_told told)
+
+-- a trace is met: its lines are carried out, of its expectations none is missed but those of lines that aren't reached, and it is recorded as it is
+pub record IsTraceMet (trace : List ℕ) : Type 0 where
+  pub told : List (List ReportLine)
+  pub runs : Runs 1 at_start (lines_of trace) told
+  pub met : misses (lines_of trace) told ≡ rest_missed (lines_of trace) told
+  pub again : trace ≡ recorded_text trace told
+
+-- so is each record of a trace, where both have no more than 1,048,576 lines
+abbrev pub RecordIsMet : Type 0
+RecordIsMet = (trace text : List ℕ) → IsRecord trace text → length (lines_of trace) ≤ 1048576 → length (lines_of text) ≤ 1048576 → IsTraceMet text
 
 -- the lines of a report that lines of a trace make, one after another
 abbrev pub reported_by : List (List ReportLine) → List ReportLine

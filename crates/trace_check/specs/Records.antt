@@ -1,5 +1,5 @@
 -- A trace with its expectations filled in (profile).
-use Rattle.std.specs.Prelude.{◌≡◌, ℕ, ◌-◌, ◌==◌, not, ◌&&◌, Bool, false, List, [], ◌∷◌, ◌++◌, length, map, take, is_some, Some, None, slice_get, if◌then◌else◌}
+use Rattle.std.specs.Prelude.{◌≡◌, ℕ, ◌-◌, ◌==◌, not, ◌&&◌, Bool, true, false, List, [], ◌∷◌, ◌++◌, length, map, take, is_some, Some, None, slice_get, if◌then◌else◌}
 use Rattle.std.specs.List.{list_all}
 use Rattle.trace_reader.specs.Reading.{lines_of}
 use Rattle.trace_text.specs.declared.report.ReportLine.{ReportLine}
@@ -52,10 +52,17 @@ lacks_end bytes = elim (slice_get bytes (length bytes - 1)) [ None ↦ false | S
 abbrev pub ends_expected : List (List ℕ) → Bool
 ends_expected lines = elim (slice_get lines (length lines - 1)) [ None ↦ false | Some line ↦ is_some (expectation line) ]
 
--- the trace of these bytes, of whose lines these report this. A last line that lacks its end gets one where an expectation follows
+-- lines of which the last has no byte, or none at all
+abbrev pub ends_empty : List (List ℕ) → Bool
+ends_empty lines = elim (slice_get lines (length lines - 1)) [ None ↦ true | Some line ↦ length line == 0 ]
+
+-- whether the last of the lines that a trace is recorded as lacks its end: where the trace's does, and neither an expectation nor an empty line is last
+abbrev pub is_lacking : List ℕ → List (List ℕ) → Bool
+is_lacking trace lines = lacks_end trace && (not (ends_expected lines) && not (ends_empty lines))
+
+-- the trace of these bytes, of whose lines these report this
 abbrev pub recorded_text : List ℕ → List (List ReportLine) → List ℕ
-recorded_text trace told =
-    let lines = recorded (lines_of trace) told in joined (lacks_end trace && not (ends_expected lines)) lines
+recorded_text trace told = let lines = recorded (lines_of trace) told in joined (is_lacking trace lines) lines
 
 -- a text is the record of the bytes of a trace: there is a run of its lines
 pub record IsRecord (trace text : List ℕ) : Type 0 where

@@ -1,13 +1,13 @@
 //! Checking what a trace expects.
 ghost use Rattle.std.specs.Prelude.{◌≡◌, ◌≤◌, ◌∷◌, ◌++◌, IfOk, codes, length, map};
-ghost use Rattle.trace_check.specs.Checks.{Checks, IsChecked, said_of};
+ghost use Rattle.trace_check.specs.Checks.{Checks, IsChecked, has_begun as has_begun_of, said_of, spot_said};
 ghost use Rattle.trace_check.specs.View.{misses_in, told_in};
 
 use crate::carrying::{Carried, Watch, carry_out};
 use crate::expecting::count_expected;
 use crate::missing::{Miss, misses};
 use crate::shown::has_begun;
-use crate::writing::{add_boot, add_file_line, add_misses, add_none, add_sum};
+use crate::writing::{add_boot, add_file_line, add_misses, add_none, add_spot, add_sum};
 use ghost_judge::disagreement::Disagreement;
 use std::alloc::{AllocError, Allocator, Global};
 use trace_reader::lines;
@@ -72,9 +72,9 @@ fn check_told(
     ensures { IfOk result (Checks name.now (map (λ line. line.now) lines.now) (told_in told.now)) }
 {
     let missed = misses(global, lines, told)?;
-    let begun = has_begun(told);
     let expected = count_expected(lines);
-    let text = written(global, name, missed.as_slice(), begun, expected)?;
+    let begun = has_begun(told);
+    let text = written(global, name, missed.as_slice(), lines, told, expected)?;
     Ok(Checked {
         text,
         expected: expected as u64,
@@ -87,14 +87,17 @@ fn written(
     global: Global,
     name: &str,
     missed: &[Miss],
-    begun: bool,
+    lines: &[&[u8]],
+    told: &[Vec<ReportLine>],
     expected: usize,
 ) -> Result<Vec<u8>, AllocError>
-    ensures { IfOk result (λ text. text.items ≡ said_of name.now (misses_in missed.now) begun expected) }
+    requires { length told.now ≤ length lines.now }
+    ensures { IfOk result (λ text. text.items ≡ said_of name.now (misses_in missed.now) (spot_said name.now (map (λ line. line.now) lines.now) (told_in told.now) (length missed.now)) (has_begun_of (told_in told.now)) expected) }
 {
     let mut text = Vec::new(global);
     add_misses(&mut text, global, name, missed)?;
-    add_boot(&mut text, name, begun)?;
+    add_spot(&mut text, global, name, lines, told, missed.len())?;
+    add_boot(&mut text, name, has_begun(told))?;
     add_none(&mut text, name, expected)?;
     add_sum(&mut text, global, name, expected, missed.len())?;
     Ok(text)

@@ -1,10 +1,11 @@
 //! Laws of what traces report and of recorded traces. Each function does nothing, and its contract is the law.
-ghost use Rattle.trace_check.specs.Laws.{RecordedIsMet, ToldIsReplayed};
+ghost use Rattle.trace_check.specs.Laws.{RecordIsMet, RecordedIsMet, ToldIsReplayed};
 
 /// A recorded trace can be carried out with the same reports, and then nothing of it is missed but lines that aren't reached.
-/// Recorded again it is itself.
+/// Recorded again it is itself, byte by byte.
 pub fn recorded_is_met()
-    ensures { RecordedIsMet }
+    ensures lines { RecordedIsMet }
+    ensures bytes { RecordIsMet }
 {}
 
 /// What is told of the lines of a trace is the report of a replay whose oracle finds no disagreement, but for its last line where

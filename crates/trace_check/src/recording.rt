@@ -6,7 +6,9 @@ ghost use Rattle.trace_check.specs.Records.{
   bytes_of as bytes_of_by,
   can_expect as can_expect_by,
   notes as notes_by,
+  ends_empty as ends_empty_by,
   ends_expected as ends_expected_by,
+  is_lacking as is_lacking_by,
   joined as joined_by,
   lacks_end as lacks_end_by,
   noted as noted_by,
@@ -37,7 +39,7 @@ pub fn record<A: Allocator + Copy>(
     let carried = carry_out(global, alloc, lines.as_slice(), Watch::AtEnd)?;
     let Carried { told, found: _ } = carried;
     let recorded = recorded(global, lines.as_slice(), told.as_slice())?;
-    let lacking = lacks_end(trace) && !ends_expected(recorded.as_slice());
+    let lacking = is_lacking(trace, recorded.as_slice());
     joined(global, recorded.as_slice(), lacking)
 }
 
@@ -179,6 +181,23 @@ fn lacks_end(trace: &[u8]) -> bool
     match trace.last() {
         Some(byte) => *byte != b'\n',
         None => false,
+    }
+}
+
+/// Whether the last of the lines that a trace is recorded as lacks its end.
+fn is_lacking(trace: &[u8], lines: &[Vec<u8>]) -> bool
+    ensures { result ≡ is_lacking_by trace.now (lines_in lines.now) }
+{
+    lacks_end(trace) && (!ends_expected(lines) && !ends_empty(lines))
+}
+
+/// Whether the last line has no byte, or there is none.
+fn ends_empty(lines: &[Vec<u8>]) -> bool
+    ensures { result ≡ ends_empty_by (lines_in lines.now) }
+{
+    match lines.last() {
+        Some(line) => line.is_empty(),
+        None => true,
     }
 }
 

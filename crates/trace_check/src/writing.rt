@@ -1,10 +1,24 @@
 //! The text of a check.
-ghost use Rattle.std.specs.Prelude.{◌≡◌, ◌∷◌, ◌++◌, OnOk, codes};
-ghost use Rattle.trace_check.specs.Checks.{boot_said, file_line, miss_line, miss_lines, none_said, sum_said};
-ghost use Rattle.trace_check.specs.View.{misses_in};
+ghost use Rattle.std.specs.Prelude.{◌≡◌, ◌<◌, ◌≤◌, ◌∷◌, ◌++◌, IfSome, OnOk, codes, length, map};
+ghost use Rattle.trace_check.specs.Checks.{
+  boot_said,
+  fault_in as fault_in_line,
+  file_line,
+  last_fault as last_fault_of,
+  miss_line,
+  miss_lines,
+  none_said,
+  spot_line,
+  spot_said,
+  sum_said,
+};
+ghost use Rattle.trace_check.specs.View.{misses_in, told_in};
+ghost use Rattle.trace_faults.specs.Spots.{spot_in};
 
 use crate::missing::Miss;
 use std::alloc::{AllocError, Global};
+use trace_faults::{Spot, spot};
+use trace_text::{Fault, ReportLine};
 
 /// A line for each miss.
 pub(crate) fn add_misses(
@@ -36,6 +50,67 @@ fn add_miss(
     text.extend_from_slice(said)?;
     text.extend_from_slice(b"\n")?;
     Ok(())
+}
+
+/// A line for the place of the fault that ended the run, where one did and something is missed.
+pub(crate) fn add_spot(
+    text: &mut Vec<u8>,
+    global: Global,
+    name: &str,
+    lines: &[&[u8]],
+    told: &[Vec<ReportLine>],
+    missed: usize,
+) -> Result<(), AllocError>
+    requires { length told.now ≤ length lines.now }
+    ensures { OnOk result (text.new.items ≡ text.old.items ++ spot_said name.now (map (λ line. line.now) lines.now) (told_in told.now) missed) }
+{
+    if missed == 0 {
+        return Ok(());
+    }
+    let Some(fault) = last_fault(told) else {
+        return Ok(());
+    };
+    let spot = spot(global, lines, told.len() - 1, fault)?;
+    add_spot_line(text, global, name, &spot)
+}
+
+fn add_spot_line(
+    text: &mut Vec<u8>,
+    global: Global,
+    name: &str,
+    spot: &Spot,
+) -> Result<(), AllocError>
+    ensures { OnOk result (text.new.items ≡ text.old.items ++ spot_line name.now (spot_in spot.now)) }
+{
+    let line = spot.line;
+    let column = spot.column;
+    let place = format!(in global; ":{line}:{column}: ")?;
+    text.extend_from_slice(name.as_bytes())?;
+    text.extend_from_slice(place.as_bytes())?;
+    text.extend_from_slice(spot.said.as_slice())?;
+    text.extend_from_slice(b"\n")?;
+    Ok(())
+}
+
+/// The fault that ended the run, where one did.
+fn last_fault(told: &[Vec<ReportLine>]) -> Option<Fault>
+    ensures some { IfSome result (λ _. 0 < length told.now) }
+    ensures value { result ≡ last_fault_of (told_in told.now) }
+{
+    match told.last() {
+        Some(reported) => fault_in(reported.as_slice()),
+        None => None,
+    }
+}
+
+/// The fault of a line that reports it alone.
+fn fault_in(reported: &[ReportLine]) -> Option<Fault>
+    ensures { result ≡ fault_in_line reported.now }
+{
+    match reported {
+        [ReportLine::Fault { line: _, fault }] => Some(*fault),
+        _ => None,
+    }
 }
 
 /// A line of what is said of the whole file.
