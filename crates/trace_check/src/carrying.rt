@@ -139,7 +139,7 @@ fn told_fault(global: Global, number: u64, fault: Fault) -> Result<Vec<ReportLin
 }
 
 /// The lines of the report that a line makes.
-fn told_lines<A: Allocator + Copy>(
+pub fn told_lines<A: Allocator + Copy>(
     global: Global,
     session: &Session<A>,
     reported: Reported,

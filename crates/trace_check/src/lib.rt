@@ -8,10 +8,10 @@ mod expecting;
 pub mod laws;
 mod missing;
 mod recording;
-mod shown;
+pub mod shown;
 mod writing;
 
-pub use carrying::Watch;
+pub use carrying::{Watch, told_lines};
 pub use checking::{Checked, check};
 pub use comment::expectation;
 pub use recording::record;

@@ -58,7 +58,7 @@ impl fmt::Display for Expected {
 }
 
 /// What a line of a report says, as an expectation has it.
-pub(crate) fn shown(global: Global, told: ReportLine) -> Result<String, AllocError>
+pub fn shown(global: Global, told: ReportLine) -> Result<String, AllocError>
     ensures { IfOk result (λ text. string_bytes text ≡ shown_by told) }
 {
     format!(in global; "{}", Expected(told))
