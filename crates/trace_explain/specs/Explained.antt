@@ -1,0 +1,78 @@
+-- What `explain` says of a trace (profile).
+use Rattle.std.specs.Prelude.{◌≡◌, ℕ, ◌+◌, List, [], ◌∷◌, ◌++◌, codes, Option, Some, None, Result, Ok, Err, is_some}
+use Rattle.step_reply.specs.declared.reply.Reply.TheVariants.{Refused}
+use Rattle.step_reply.specs.declared.step.Step.{Step}
+use Rattle.trace_check.specs.Shown.{shown}
+use Rattle.trace_explain.specs.Causes.{cause_of}
+use Rattle.trace_explain.specs.Looks.{Look, looked, seen}
+use Rattle.trace_lines.specs.declared.fault.LineFault.{LineFault}
+use Rattle.trace_lines.specs.declared.line.Line.{Line}
+use Rattle.trace_lines.specs.declared.line.Line.TheVariants as lines
+use Rattle.trace_lines.specs.declared.response.Response.TheVariants as responses
+use Rattle.trace_lines.specs.Said.{said}
+use Rattle.trace_reader.specs.declared.outcome.Outcome.{Outcome}
+use Rattle.trace_reader.specs.declared.outcome.Outcome.TheVariants as outcomes
+use Rattle.trace_text.specs.declared.fault.Fault.{Fault}
+use Rattle.trace_text.specs.declared.report.ReportLine.{ReportLine}
+use Rattle.trace_text.specs.declared.report.ReportLine.TheVariants as report
+use Rattle.trace_text.specs.declared.session.Stop.TheVariants as stops
+use Rattle.trace_text.specs.Oracles.{agreed}
+use Rattle.trace_text.specs.Replay.{IsPlayed}
+use Rattle.trace_text.specs.Session.{Answer, Standing, allowed}
+use Rattle.trace_text.specs.Texts.{text_of_fault}
+use Rattle.trace_text.specs.Worlds.{Machine}
+
+-- the step that a line says, with its CPU
+abbrev pub step_of : Result (Option Line) LineFault → Option (ℕ × Step)
+step_of (Ok (Some (lines.Step cpu step))) = Some (cpu, step)
+step_of other = None
+
+-- that of a line which comes where a trace stands so
+abbrev pub step_at : Standing → List ℕ → Option (ℕ × Step)
+step_at old line = step_of (said (allowed (is_some old.machine) old.started) old.told line)
+
+-- a line of the report without its cause, and with it
+abbrev pub plain_line : List ℕ → List ℕ
+plain_line text = codes "    " ++ text ++ 10 ∷ []
+
+abbrev pub caused_line : List ℕ → List ℕ → List ℕ
+caused_line text cause = codes "    " ++ text ++ codes ": " ++ cause ++ 10 ∷ []
+
+-- a line of the report; after a refusal of the step why it was refused
+abbrev pub report_line : Option (ℕ × Step) → ReportLine → List ℕ
+report_line (Some (cpu, step)) (report.Response (responses.Step number by (Refused refusal))) =
+    caused_line (shown (report.Response (responses.Step number by (Refused refusal)))) (cause_of step refusal)
+report_line asked told = plain_line (shown told)
+
+-- lines of the report
+abbrev pub report_lines : Option (ℕ × Step) → List ReportLine → List ℕ
+report_lines asked [] = []
+report_lines asked (told ∷ more) = report_line asked told ++ report_lines asked more
+
+-- a line with its end
+abbrev pub ended : List ℕ → List ℕ
+ended line = line ++ 10 ∷ []
+
+-- a line that was carried out: itself, its report, and what its step saw, before it and in the machine after it
+abbrev pub line_with : List ℕ → Option (ℕ × Step) → List Look → List ReportLine → Option Machine → List ℕ
+line_with line asked looks reported machine = ended line ++ report_lines asked reported ++ looked machine asked looks
+
+-- the same by how the trace stands before the line and after it
+abbrev pub explained : List ℕ → Standing → List ReportLine → Standing → List ℕ
+explained line old reported new = line_with line (step_at old line) (seen old.machine (step_at old line)) reported new.machine
+
+-- a line with a fault
+abbrev pub faulty : List ℕ → Fault → List ℕ
+faulty line fault = ended line ++ codes "    fault " ++ text_of_fault fault ++ 10 ∷ []
+
+-- what is said from a line on that answers so: the line, and then what is said of the lines after it. A fault is the end
+abbrev pub Says : List ℕ → Standing → Answer → Standing → (List ℕ → Outcome → Type 0) → List ℕ → Outcome → Type 0
+Says line old (Err (stops.Fault fault)) new follows text outcome = (text ≡ faulty line fault) × (outcome ≡ outcomes.Fault)
+Says line old (Err stops.NoMemory) new follows text outcome = ⊥
+Says line old (Ok reported) new follows text outcome = (more : List ℕ) × (text ≡ explained line old reported new ++ more) × follows more outcome
+
+-- the text explains the lines of a trace, from a number on, which are carried out as a replay does, up to the first that has a fault
+abbrev pub Explains : ℕ → Standing → List (List ℕ) → List ℕ → Outcome → Type 0
+Explains number old [] text outcome = (text ≡ []) × (outcome ≡ outcomes.Clean)
+Explains number old (line ∷ rest) text outcome =
+    (answer : Answer) × (new : Standing) × IsPlayed agreed number line old answer new × Says line old answer new (Explains (number + 1) new rest) text outcome

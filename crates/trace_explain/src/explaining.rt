@@ -1,0 +1,347 @@
+//! Explaining a trace.
+ghost use Rattle.std.specs.Prelude.{◌≡◌, ◌+◌, ◌^◌, ◌<◌, ◌≤◌, ◌∷◌, [], ◌++◌, IfOk, OnOk, is_some, length, map, slice_index_or, string_bytes};
+ghost use Rattle.trace_explain.specs.Explained.{Explains, caused_line, ended, faulty, line_with, plain_line, report_line, report_lines, step_at};
+ghost use Rattle.trace_explain.specs.Looks.{look_lines, looked, places_of, seen, told_at as told_by};
+ghost use Rattle.trace_explain.specs.Texts.{look_line, name_of};
+ghost use Rattle.trace_explain.specs.View.{looks_in};
+ghost use Rattle.trace_reader.specs.Reading.{lines_of};
+ghost use Rattle.trace_text.specs.Oracles.{agreed};
+ghost use Rattle.trace_text.specs.Ready.{IsReady};
+ghost use Rattle.trace_text.specs.Reports.{IsPlayed};
+ghost use Rattle.trace_text.specs.Session.{RunsLine, allowed as allowed_by, at_start};
+ghost use Rattle.trace_text.specs.View.{answer_of, lines_reported, machine_of, standing_of};
+
+use crate::causes::cause_of;
+use crate::looking::told_at;
+use crate::place::Place;
+use crate::places::add_places;
+use std::alloc::{AllocError, Allocator, Global};
+use step_reply::{Reply, Step};
+use trace_check::shown::shown;
+use trace_check::told_lines;
+use trace_lines::{Allows, Line, Response, said};
+use trace_reader::{Outcome, lines};
+use trace_text::{Fault, MOST_LINES, ReportLine, Reported, Session, Stop};
+use world::World;
+
+/// A trace that was explained.
+#[derive(Drop)]
+pub struct Explained {
+    /// Each line that was carried out; after it, indented, its report, and what its step looked at: `NAME: BEFORE` where it
+    /// stayed, `NAME: BEFORE -> AFTER` where it changed.
+    pub text: Vec<u8>,
+    pub outcome: Outcome,
+}
+
+/// A place that a step looks at, and what was there before it.
+#[derive(Drop)]
+pub(crate) struct Look {
+    pub(crate) place: Place,
+    pub(crate) before: String,
+}
+
+/// Carries a trace out up to its first fault, and explains each line. `alloc` is where the tables of the trees lie. Err where
+/// memory was refused.
+pub fn explain<A: Allocator + Copy>(
+    global: Global,
+    alloc: A,
+    trace: &[u8],
+) -> Result<Explained, AllocError>
+    ensures { IfOk result (λ explained. Explains 1 at_start (lines_of trace.now) explained.text.items explained.outcome) }
+{
+    let lines = lines(global, trace)?;
+    let mut text = Vec::new(global);
+    let mut session = Session::new(global, alloc);
+    let ran = explain_lines(global, &mut session, lines.as_slice(), &mut text);
+    // The proof of a scope's end would go through all parts.
+    drop(session);
+    let outcome = ran?;
+    Ok(Explained { text, outcome })
+}
+
+fn explain_lines<A: Allocator + Copy>(
+    global: Global,
+    session: &mut Session<A>,
+    lines: &[&[u8]],
+    text: &mut Vec<u8>,
+) -> Result<Outcome, AllocError>
+    requires start { standing_of session.old ≡ at_start }
+    requires ready { IsReady session.old }
+    requires empty { text.old.items ≡ [] }
+    ensures { IfOk result (Explains 1 at_start (map (λ line. line.now) lines.now) text.new.items) }
+{
+    for place in 0..lines.len() {
+        let asked = step_said(session, lines[place]);
+        let looks = looks_before(global, session, asked)?;
+        match line_run(session, lines, place) {
+            Ok(reported) => {
+                add_line(
+                    text,
+                    global,
+                    session,
+                    lines[place],
+                    asked,
+                    looks.as_slice(),
+                    reported,
+                )?;
+            }
+            Err(Stop::Fault(fault)) => {
+                add_fault(text, global, lines[place], fault)?;
+                return Ok(Outcome::Fault);
+            }
+            Err(Stop::NoMemory) => return Err(AllocError),
+        }
+    }
+    Ok(Outcome::Clean)
+}
+
+/// Carries out a line of a trace, by its place from 0 on.
+fn line_run<A: Allocator + Copy>(
+    session: &mut Session<A>,
+    lines: &[&[u8]],
+    place: usize,
+) -> Result<Reported, Stop>
+    requires place { place < length lines.now }
+    requires few { (standing_of session.old).steps ≤ place }
+    requires ready { IsReady session.old }
+    ensures done { IsPlayed (RunsLine agreed) (place + 1) (slice_index_or (map (λ line. line.now) lines.now) place []) (standing_of session.old) (answer_of session.new result) (standing_of session.new) }
+    ensures steps { (standing_of session.new).steps ≤ place + 1 }
+    ensures ready { IsReady session.new }
+{
+    let number = place as u64 + 1;
+    if number > MOST_LINES {
+        return Err(Stop::Fault(Fault::Lines));
+    }
+    session.run_unasked(number, lines[place])
+}
+
+/// The step that a line says, with its CPU.
+fn step_said<A: Allocator + Copy>(session: &Session<A>, line: &[u8]) -> Option<(u64, Step)>
+    ensures { result ≡ step_at (standing_of session.now) line.now }
+{
+    match said(allowed(session), session.settings(), line) {
+        Ok(Some(Line::Step { cpu, step })) => Some((cpu, step)),
+        _ => None,
+    }
+}
+
+/// What `replay` allows at this point of a session.
+fn allowed<A: Allocator + Copy>(session: &Session<A>) -> Allows
+    ensures { result ≡ allowed_by (is_some (standing_of session.now).machine) (standing_of session.now).started }
+{
+    if session.has_booted() {
+        Allows::of_replay(session.has_started())
+    } else {
+        Allows::before_boot()
+    }
+}
+
+/// What a step looks at, with what is there before it.
+fn looks_before<A: Allocator + Copy>(
+    global: Global,
+    session: &Session<A>,
+    asked: Option<(u64, Step)>,
+) -> Result<Vec<Look>, AllocError>
+    ensures { IfOk result (λ looks. looks_in looks.items ≡ seen (standing_of session.now).machine asked) }
+{
+    let Some(world) = session.world() else {
+        return Ok(Vec::new(global));
+    };
+    let Some((cpu, step)) = asked else {
+        return Ok(Vec::new(global));
+    };
+    looks_in_world(global, world, cpu, step)
+}
+
+fn looks_in_world<A: Allocator>(
+    global: Global,
+    world: &World<A>,
+    cpu: u64,
+    step: Step,
+) -> Result<Vec<Look>, AllocError>
+    ensures { IfOk result (λ looks. looks_in looks.items ≡ map (λ place. (place, told_by (machine_of world.now) cpu place)) (places_of (machine_of world.now) cpu step)) }
+{
+    let mut places = Vec::new(global);
+    add_places(&mut places, world, cpu, step)?;
+    looks_at(global, world, cpu, places.as_slice())
+}
+
+fn looks_at<A: Allocator>(
+    global: Global,
+    world: &World<A>,
+    cpu: u64,
+    places: &[Place],
+) -> Result<Vec<Look>, AllocError>
+    ensures { IfOk result (λ looks. looks_in looks.items ≡ map (λ place. (place, told_by (machine_of world.now) cpu place)) places.now) }
+{
+    let mut looks = Vec::new(global);
+    for place in places {
+        let before = told_at(global, world, cpu, *place)?;
+        looks.push(Look {
+            place: *place,
+            before,
+        })?;
+    }
+    Ok(looks)
+}
+
+/// A line that was carried out.
+fn add_line<A: Allocator + Copy>(
+    text: &mut Vec<u8>,
+    global: Global,
+    session: &Session<A>,
+    line: &[u8],
+    asked: Option<(u64, Step)>,
+    looks: &[Look],
+    reported: Reported,
+) -> Result<(), AllocError>
+    ensures { OnOk result (text.new.items ≡ text.old.items ++ line_with line.now asked (looks_in looks.now) (lines_reported session.now reported) (standing_of session.now).machine) }
+{
+    add_ended(text, line)?;
+    let told = told_lines(global, session, reported)?;
+    add_report(text, global, asked, told.as_slice())?;
+    add_looked(text, global, session, asked, looks)
+}
+
+fn add_ended(text: &mut Vec<u8>, line: &[u8]) -> Result<(), AllocError>
+    ensures { OnOk result (text.new.items ≡ text.old.items ++ ended line.now) }
+{
+    text.extend_from_slice(line)?;
+    text.extend_from_slice(b"\n")?;
+    Ok(())
+}
+
+/// A line that has a fault.
+fn add_fault(
+    text: &mut Vec<u8>,
+    global: Global,
+    line: &[u8],
+    fault: Fault,
+) -> Result<(), AllocError>
+    ensures { OnOk result (text.new.items ≡ text.old.items ++ faulty line.now fault) }
+{
+    add_ended(text, line)?;
+    let said = format!(in global; "    fault {fault}\n")?;
+    text.extend_from_slice(said.as_bytes())?;
+    Ok(())
+}
+
+fn add_report(
+    text: &mut Vec<u8>,
+    global: Global,
+    asked: Option<(u64, Step)>,
+    reported: &[ReportLine],
+) -> Result<(), AllocError>
+    ensures { OnOk result (text.new.items ≡ text.old.items ++ report_lines asked reported.now) }
+{
+    for told in reported {
+        add_told(text, global, asked, *told)?;
+    }
+    Ok(())
+}
+
+/// A line of the report, and why a step was refused.
+fn add_told(
+    text: &mut Vec<u8>,
+    global: Global,
+    asked: Option<(u64, Step)>,
+    told: ReportLine,
+) -> Result<(), AllocError>
+    ensures { OnOk result (text.new.items ≡ text.old.items ++ report_line asked told) }
+{
+    let said = shown(global, told)?;
+    match (asked, told) {
+        (
+            Some((_, step)),
+            ReportLine::Response(
+                Response::Step {
+                    reply: Reply::Refused(refusal),
+                    ..
+                },
+            ),
+        ) => add_caused(text, said.as_bytes(), cause_of(step, refusal)),
+        _ => add_plain(text, said.as_bytes()),
+    }
+}
+
+fn add_plain(text: &mut Vec<u8>, said: &[u8]) -> Result<(), AllocError>
+    ensures { OnOk result (text.new.items ≡ text.old.items ++ plain_line said.now) }
+{
+    text.extend_from_slice(b"    ")?;
+    text.extend_from_slice(said)?;
+    text.extend_from_slice(b"\n")?;
+    Ok(())
+}
+
+fn add_caused(text: &mut Vec<u8>, said: &[u8], cause: &str) -> Result<(), AllocError>
+    ensures { OnOk result (text.new.items ≡ text.old.items ++ caused_line said.now cause.now) }
+{
+    text.extend_from_slice(b"    ")?;
+    text.extend_from_slice(said)?;
+    text.extend_from_slice(b": ")?;
+    text.extend_from_slice(cause.as_bytes())?;
+    text.extend_from_slice(b"\n")?;
+    Ok(())
+}
+
+/// What a step looked at, with what is there now.
+fn add_looked<A: Allocator + Copy>(
+    text: &mut Vec<u8>,
+    global: Global,
+    session: &Session<A>,
+    asked: Option<(u64, Step)>,
+    looks: &[Look],
+) -> Result<(), AllocError>
+    ensures { OnOk result (text.new.items ≡ text.old.items ++ looked (standing_of session.now).machine asked (looks_in looks.now)) }
+{
+    let Some(world) = session.world() else {
+        return Ok(());
+    };
+    let Some((cpu, _)) = asked else {
+        return Ok(());
+    };
+    add_looks(text, global, world, cpu, looks)
+}
+
+fn add_looks<A: Allocator>(
+    text: &mut Vec<u8>,
+    global: Global,
+    world: &World<A>,
+    cpu: u64,
+    looks: &[Look],
+) -> Result<(), AllocError>
+    ensures { OnOk result (text.new.items ≡ text.old.items ++ look_lines (machine_of world.now) cpu (looks_in looks.now)) }
+{
+    for look in looks {
+        let after = told_at(global, world, cpu, look.place)?;
+        add_look(
+            text,
+            global,
+            look.place,
+            look.before.as_bytes(),
+            after.as_bytes(),
+        )?;
+    }
+    Ok(())
+}
+
+/// A place, with what was there and what is there now.
+fn add_look(
+    text: &mut Vec<u8>,
+    global: Global,
+    place: Place,
+    before: &[u8],
+    after: &[u8],
+) -> Result<(), AllocError>
+    ensures { OnOk result (text.new.items ≡ text.old.items ++ look_line (name_of place) before.now after.now) }
+{
+    let name = format!(in global; "    {place}: ")?;
+    text.extend_from_slice(name.as_bytes())?;
+    text.extend_from_slice(before)?;
+    if before != after {
+        text.extend_from_slice(b" -> ")?;
+        text.extend_from_slice(after)?;
+    }
+    text.extend_from_slice(b"\n")?;
+    Ok(())
+}

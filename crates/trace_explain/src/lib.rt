@@ -1,0 +1,16 @@
+//! A trace, line by line, with what each step looked at and changed, and why it was refused.
+#![tactic(auto)]
+
+mod causes;
+mod explaining;
+mod looking;
+mod place;
+mod places;
+mod words;
+
+pub use causes::cause_of;
+pub use explaining::{Explained, explain};
+pub use place::Place;
+
+#[cfg(test)]
+mod tests;
