@@ -13,8 +13,8 @@ use Rattle.clap.specs.Simple.{Shape, built_leaf, inherited, marked_built, subcom
 use Rattle.clap.specs.Walk.{Held, Row, Rule, Step, Text, Waiting, Walk, after_step, arg_by_index, finished, idle, long_or_other, nothing_held, plain_word, settled, short_or_plain, subcommand_or_other, to_positional, trailing, value, walk, walk_from, walked}
 use Rattle.clap.specs.Words.{App, is_simple_and_free, kind_of}
 use Rattle.trace_words.specs.Numbers.{number_of}
-use Rattle.trace_command.specs.Words.{audit, check, draw, generate, program, race, replay}
-use Rattle.trace_command.specs.Asked.{Asking, Auditing, Checking, Drawing, Generating, Gives, IsPlain, IsRead, IsRefused, Racing, Replaying, Takes, asked_by, asked_in, asking_of, heap_size, heap_told, number_told}
+use Rattle.trace_command.specs.Words.{audit, check, draw, explain, generate, program, race, replay}
+use Rattle.trace_command.specs.Asked.{Asking, Auditing, Checking, Drawing, Explaining, Generating, Gives, IsPlain, IsRead, IsRefused, Racing, Replaying, Takes, asked_by, asked_in, asking_of, heap_size, heap_told, number_told}
 use Rattle.trace_command.specs.declared.words.Invocation.{Invocation}
 use Rattle.trace_command.specs.declared.words.Looks.TheVariants.{Each}
 use Rattle.trace_command.specs.declared.words.UsageFault.{UsageFault}
@@ -134,6 +134,14 @@ module _ (name file : Text) (plain : strip_byte 45 file ≡ None) where
   check_asked : asked_by (name ∷ codes "check" ∷ file ∷ []) ≡ Some (Checking (file ∷ []) Each false)
   unfolding clap_on_literals
   check_asked = ap (λ (w : Walk). asked_in (codes "check", finished (leaf check).rules w.held)) (one_walk (leaf check) refl file plain)
+
+  explain_none : fault_of program (name ∷ codes "explain" ∷ file ∷ []) ≡ []
+  unfolding clap_on_literals
+  explain_none = ap (λ k. or_else k []) (one_none (leaf explain) refl file plain refl)
+
+  explain_asked : asked_by (name ∷ codes "explain" ∷ file ∷ []) ≡ Some (Explaining file)
+  unfolding clap_on_literals
+  explain_asked = ap (λ (w : Walk). asked_in (codes "explain", finished (leaf explain).rules w.held)) (one_walk (leaf explain) refl file plain)
 
   draw_none : fault_of program (name ∷ codes "draw" ∷ file ∷ []) ≡ []
   unfolding clap_on_literals
@@ -348,6 +356,7 @@ takes_of words r read = record {
   audit = λ name file is other. let plain = plain_of file other in taken words _ r _ is (audit_none name file plain) (audit_asked name file plain) read;
   no_heap = λ name subcommand file bytes which is other. heapless words r name subcommand file bytes which is (plain_of file other) read;
   check = λ name file is other. let plain = plain_of file other in taken words _ r _ is (check_none name file plain) (check_asked name file plain) read;
+  explain = λ name file is other. let plain = plain_of file other in taken words _ r _ is (explain_none name file plain) (explain_asked name file plain) read;
   generate = λ name seed steps n count is other other_steps is_seed is_steps.
       let plain = plain_of seed other in
       let plain_steps = plain_of steps other_steps in

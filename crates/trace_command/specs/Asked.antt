@@ -25,6 +25,7 @@ pub data Asking : Type 0 where
   Auditing : Text → Bool → Asking
   Checking : List Text → Looks → Bool → Asking
   Recording : Text → Asking
+  Explaining : Text → Asking
   -- the seed, the steps, the CPUs, the pages, the geometry, and the calls in a hundred that are to be refused
   Generating : ℕ → ℕ → ℕ → ℕ → ℕ → ℕ → Asking
   -- whether as text
@@ -36,6 +37,7 @@ asking_of (invocation.Race file quiet) = Racing file.now quiet
 asking_of (invocation.Audit file quiet) = Auditing file.now quiet
 asking_of (invocation.Check files looks quiet) = Checking (map (λ file. file.now) files.items) looks quiet
 asking_of (invocation.Record file) = Recording file.now
+asking_of (invocation.Explain file) = Explaining file.now
 asking_of (invocation.Generate seed steps cpus pages geometry hostile) = Generating seed steps cpus pages geometry hostile
 asking_of (invocation.Draw file text) = Drawing file.now text
 
@@ -90,6 +92,9 @@ checking rows =
     option_and_then (λ files. option_and_then (λ looks. if is_set (codes "record") rows then recording files else Some (Checking files looks (is_set (codes "quiet") rows)))
     (looks_told (first_of (codes "oracle") rows))) (all_of (codes "FILE") rows)
 
+abbrev pub explaining : List Row → Option Asking
+explaining rows = option_map Explaining (first_of (codes "FILE") rows)
+
 abbrev pub generating : List Row → Option Asking
 generating rows =
     option_and_then (λ seed. option_and_then (λ steps. option_and_then (λ cpus. option_and_then (λ pages. option_and_then (λ geometry. option_map (Generating seed steps cpus pages geometry)
@@ -106,9 +111,10 @@ asked_in (name, rows) =
     else (if bytes_eq name (codes "race") then racing rows
     else (if bytes_eq name (codes "audit") then auditing rows
     else (if bytes_eq name (codes "check") then checking rows
+    else (if bytes_eq name (codes "explain") then explaining rows
     else (if bytes_eq name (codes "generate") then generating rows
     else (if bytes_eq name (codes "draw") then drawing rows
-    else None)))))
+    else None))))))
 
 -- what words ask for, where clap finds no fault in them
 abbrev pub asked_by : List Text → Option Asking
@@ -147,6 +153,7 @@ pub record Takes (words : List Text) (r : Result Invocation UsageFault) : Type 0
   pub audit : (name file : Text) → words ≡ name ∷ codes "audit" ∷ file ∷ [] → IsPlain file → Gives (Auditing file false) r
   pub no_heap : (name subcommand file bytes : Text) → (subcommand ≡ codes "race") ⊎ (subcommand ≡ codes "audit") → words ≡ name ∷ subcommand ∷ file ∷ codes "--heap" ∷ bytes ∷ [] → IsPlain file → IsRefused r
   pub check : (name file : Text) → words ≡ name ∷ codes "check" ∷ file ∷ [] → IsPlain file → Gives (Checking (file ∷ []) Each false) r
+  pub explain : (name file : Text) → words ≡ name ∷ codes "explain" ∷ file ∷ [] → IsPlain file → Gives (Explaining file) r
   pub generate : (name seed steps : Text) (n count : ℕ) → words ≡ name ∷ codes "generate" ∷ seed ∷ steps ∷ [] → IsPlain seed → IsPlain steps → number_of seed ≡ Some n → number_of steps ≡ Some count
       → Gives (Generating n count 4 2048 39 0) r
   pub draw : (name file : Text) → words ≡ name ∷ codes "draw" ∷ file ∷ [] → IsPlain file → Gives (Drawing file false) r

@@ -43,6 +43,9 @@ audit = with_rule (with_rule (new_app (codes "audit")) file) quiet
 abbrev pub check : App
 check = with_rule (with_rule (with_rule (with_rule (new_app (codes "check")) files) (flag (codes "record"))) oracle) quiet
 
+abbrev pub explain : App
+explain = with_rule (new_app (codes "explain")) file
+
 abbrev pub generate : App
 generate =
     with_rule (with_rule (with_rule (with_rule (with_rule (with_rule (new_app (codes "generate")) (needed (codes "SEED"))) (needed (codes "STEPS"))) (option (codes "cpus"))) (option (codes "pages")))
@@ -57,4 +60,4 @@ named = record (new_app (codes "trace_cli")) { top = record (new_app (codes "tra
 
 abbrev pub program : App
 program =
-    with_subcommand (with_subcommand (with_subcommand (with_subcommand (with_subcommand (with_subcommand named replay.top) race.top) audit.top) check.top) generate.top) draw.top
+    with_subcommand (with_subcommand (with_subcommand (with_subcommand (with_subcommand (with_subcommand (with_subcommand named replay.top) race.top) audit.top) check.top) explain.top) generate.top) draw.top

@@ -10,6 +10,7 @@ ghost use Rattle.trace_command.specs.Asked.{
   auditing,
   checking,
   drawing,
+  explaining,
   generating,
   heap_told,
   is_set as is_set_in,
@@ -95,6 +96,9 @@ fn asked_of<'a>(
     }
     if name == "check" {
         return check_asked(global, inner);
+    }
+    if name == "explain" {
+        return explain_asked(inner);
     }
     if name == "generate" {
         return generate_asked(inner);
@@ -254,6 +258,12 @@ fn record_asked<'a>(files: &[&'a str]) -> Result<Invocation<'a>, Unread>
         [file] => Ok(Invocation::Record { file: *file }),
         _ => Err(Unread::Word(Wanted::OneFile)),
     }
+}
+
+fn explain_asked<'a>(inner: &ArgMatches<'a>) -> Result<Invocation<'a>, Unread>
+    ensures { HasAsked (explaining (rows_of (found_of inner.now))) result }
+{
+    Ok(Invocation::Explain { file: file(inner)? })
 }
 
 fn generate_asked<'a>(inner: &ArgMatches<'a>) -> Result<Invocation<'a>, Unread>

@@ -6,6 +6,7 @@ ghost use Rattle.trace_command.specs.Words.{
   audit as audit_app,
   check as check_app,
   draw as draw_app,
+  explain as explain_app,
   files as files_rule,
   flag as flag_rule,
   generate as generate_app,
@@ -27,7 +28,7 @@ const VERSION: &str = "1.0.0 (rattle-kit-13f)";
 
 /// What help shows after the words.
 const HELP: &str =
-    "Examples:\n  ./run replay examples/first_share.trace\n  ./run replay examples/first_share.trace --heap 262144\n  ./run race examples/raced/one_vcpu.trace\n  ./run audit examples/audited/broken_word.trace\n  ./run check examples/expected_replies.trace\n  ./run generate 1 1000 --cpus 4 --hostile 10\n  ./run draw examples/protected_vm.trace\n\nFILE is a path, or - for standard input.\n\nExit status:\n  0  the report ends without a fault or a disagreement; what a trace expects is met\n  1  the report has a fault or a disagreement, an expectation is missed, or reading, writing, memory or the start of a thread failed\n  2  FILE can't be opened, the words are refused, or help was asked for\n\nThe lines of a trace, its report and each fault are explained in docs/TRACES.md.";
+    "Examples:\n  ./run replay examples/first_share.trace\n  ./run replay examples/first_share.trace --heap 262144\n  ./run race examples/raced/one_vcpu.trace\n  ./run audit examples/audited/broken_word.trace\n  ./run check examples/expected_replies.trace\n  ./run explain examples/first_share.trace\n  ./run generate 1 1000 --cpus 4 --hostile 10\n  ./run draw examples/protected_vm.trace\n\nFILE is a path, or - for standard input.\n\nExit status:\n  0  the report ends without a fault or a disagreement; what a trace expects is met\n  1  the report has a fault or a disagreement, an expectation is missed, or reading, writing, memory or the start of a thread failed\n  2  FILE can't be opened, the words are refused, or help was asked for\n\nThe lines of a trace, its report and each fault are explained in docs/TRACES.md.";
 
 /// A value that must be given, by its place.
 fn needed<'a>(global: Global, id: &'a str, help: &'a str) -> Arg<'a>
@@ -194,6 +195,18 @@ fn check<'a>(global: Global) -> Result<Command<'a>, AllocError>
     with(form, quiet(global))
 }
 
+fn explain<'a>(global: Global) -> Result<Command<'a>, AllocError>
+    ensures app { IfOk result (λ form. app_of form ≡ explain_app) }
+    ensures local { IfOk result (λ form. (fields_of form).has_globals ≡ false) }
+{
+    let form = subcommand(
+        global,
+        "explain",
+        "Shows a trace line by line, with its report, and what each step looked at and changed",
+    );
+    with(form, file(global))
+}
+
 fn generate<'a>(global: Global) -> Result<Command<'a>, AllocError>
     ensures app { IfOk result (λ form. app_of form ≡ generate_app) }
     ensures local { IfOk result (λ form. (fields_of form).has_globals ≡ false) }
@@ -262,6 +275,7 @@ pub(crate) fn form<'a>(global: Global) -> Result<Command<'a>, AllocError>
     let form = with_form(form, race(global)?)?;
     let form = with_form(form, audit(global)?)?;
     let form = with_form(form, check(global)?)?;
+    let form = with_form(form, explain(global)?)?;
     let form = with_form(form, generate(global)?)?;
     with_form(form, draw(global)?)
 }

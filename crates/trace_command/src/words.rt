@@ -50,6 +50,10 @@ pub enum Invocation<'a> {
     Record {
         file: &'a str,
     },
+    /// Show a trace line by line, with what each step looked at and changed.
+    Explain {
+        file: &'a str,
+    },
     /// Make a trace.
     Generate {
         seed: u64,
