@@ -3,9 +3,9 @@
 //! `trace_cli replay FILE [--heap BYTES]` carries the lines of FILE out in order and writes the report to standard output.
 //! The tables of the trees lie in a heap of BYTES (4,096 to 1,073,741,824), or in the machine's memory. `trace_cli race FILE`
 //! makes the steps after `start` on one thread for each CPU; `trace_cli audit FILE` sets words and audits once.
-//! `trace_cli check FILE..` compares what lines report with what comments after them expect, `generate SEED STEPS` makes a
-//! trace, and `draw FILE` a picture of who owns what. The lines of a trace, its reports and each fault are explained in
-//! docs/TRACES.md.
+//! `trace_cli check FILE..` compares what lines report with what comments after them expect, `explain FILE` shows what each
+//! step looked at, `generate SEED STEPS` makes a trace, and `draw FILE` a picture of who owns what. The lines of a trace, its
+//! reports and each fault are explained in docs/TRACES.md.
 //!
 //! The exit status:
 //!
@@ -78,6 +78,7 @@ fn done<R: AllocGlobal + Files + Input + Print + Eprint + Clock + Threads + Wait
             quiet,
         } => done_with_each(rt, files, Task::Check { looks, quiet }),
         Invocation::Record { file } => done_with(rt, false, file, Task::Record),
+        Invocation::Explain { file } => done_with(rt, false, file, Task::Explain),
         Invocation::Generate {
             seed,
             steps,

@@ -4,7 +4,7 @@ ghost use Rattle.trace_cli.specs.Status.{HasReport, HasStatus, status_told};
 
 use crate::reports::{audited, raced, replayed};
 use crate::telling::{FAILED, REFUSED, tell};
-use crate::texts::{checked, drawn, recorded};
+use crate::texts::{checked, drawn, explained, recorded};
 use std::io;
 use std::sync::Wait;
 use std::thread::Threads;
@@ -32,6 +32,8 @@ pub enum Task {
     },
     /// Write the trace with its expectations filled in.
     Record,
+    /// Show what each step looked at and changed.
+    Explain,
     Draw {
         text: bool,
     },
@@ -94,6 +96,7 @@ fn answered<R: AllocGlobal + Print + Threads + Wait + Sync, F: io::Read + Drop>(
         Task::Audit { quiet } => audited(rt, quiet, file),
         Task::Check { looks, quiet } => checked(rt, path, looks, quiet, file),
         Task::Record => recorded(rt, file),
+        Task::Explain => explained(rt, file),
         Task::Draw { text } => drawn(rt, text, file),
     }
 }

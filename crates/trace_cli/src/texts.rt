@@ -1,11 +1,12 @@
-//! The texts of `check` and `draw`, which are made of a whole trace in memory.
+//! The texts of `check`, `explain` and `draw`, which are made of a whole trace in memory.
 ghost use Rattle.std.specs.Prelude.{◌≡◌, IfOk, IfSome, true};
-ghost use Rattle.trace_cli.specs.Status.{HasChecked, HasSnapshot, outcome_of_check as outcome_of_clean, outcome_of_end};
+ghost use Rattle.trace_cli.specs.Status.{HasChecked, HasExplained, HasSnapshot, outcome_of_check as outcome_of_clean, outcome_of_end};
 
 use std::io::{self, ErrorKind, Write};
 use trace_check::{Watch, check, record};
 use trace_command::Looks;
 use trace_draw::{Ended, draw, draw_text};
+use trace_explain::explain;
 use trace_race::{Halted, RaceFault};
 use trace_reader::{EngineFault, Outcome};
 
@@ -57,6 +58,21 @@ pub fn recorded<R: AllocGlobal + Print, F: io::Read + Drop>(
     };
     write(rt, text.as_slice())?;
     Ok(Outcome::Clean)
+}
+
+/// Explains a trace.
+pub fn explained<R: AllocGlobal + Print, F: io::Read + Drop>(
+    rt: &R,
+    file: F,
+) -> Result<Outcome, Halted>
+    ensures { IfOk result (HasExplained (F.remaining file)) }
+{
+    let trace = whole(rt, file)?;
+    let Ok(explained) = explain(rt.alloc(), rt.alloc(), trace.as_slice()) else {
+        return Err(no_memory());
+    };
+    write(rt, explained.text.as_slice())?;
+    Ok(explained.outcome)
 }
 
 /// Draws a trace, or writes the state at its end.
