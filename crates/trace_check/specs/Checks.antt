@@ -3,7 +3,7 @@ use Rattle.std.specs.Prelude.{◌≡◌, ℕ, ◌-◌, List, [], ◌∷◌, ◌+
 use Rattle.std.specs.Fmt.{decimal}
 use Rattle.std.specs.List.{list_any}
 use Rattle.trace_reader.specs.Reading.{lines_of}
-use Rattle.trace_faults.specs.Spots.{Told, spot_of}
+use Rattle.trace_faults.specs.Spots.{spot_line, spot_of}
 use Rattle.trace_text.specs.declared.fault.Fault.{Fault}
 use Rattle.trace_text.specs.declared.report.ReportLine.{ReportLine}
 use Rattle.trace_text.specs.declared.report.ReportLine.TheVariants as report
@@ -38,11 +38,7 @@ fault_in other = None
 abbrev pub last_fault : List (List ReportLine) → Option Fault
 last_fault told = elim (slice_get told (length told - 1)) [ Some reported ↦ fault_in reported | None ↦ None ]
 
--- where a fault is, and what was found and wanted there
-abbrev pub spot_line : List ℕ → Told → List ℕ
-spot_line name spot = name ++ codes ":" ++ decimal spot.line ++ codes ":" ++ decimal spot.column ++ codes ": " ++ spot.said ++ 10 ∷ []
-
--- so of the fault that ended the run, where something is missed
+-- where the fault is that ended the run, where something is missed
 abbrev pub spot_said : List ℕ → List (List ℕ) → List (List ReportLine) → ℕ → List ℕ
 spot_said name lines told missed =
     if missed == 0 then [] else elim (last_fault told) [ Some fault ↦ spot_line name (spot_of lines (length told - 1) fault) | None ↦ [] ]

@@ -7,7 +7,7 @@ use crate::carrying::{Carried, Watch, carry_out};
 use crate::expecting::count_expected;
 use crate::missing::{Miss, misses};
 use crate::shown::has_begun;
-use crate::writing::{add_boot, add_file_line, add_misses, add_none, add_spot, add_sum};
+use crate::writing::{add_boot, add_file_line, add_misses, add_none, add_place, add_sum};
 use ghost_judge::disagreement::Disagreement;
 use std::alloc::{AllocError, Allocator, Global};
 use trace_reader::lines;
@@ -96,7 +96,7 @@ fn written(
 {
     let mut text = Vec::new(global);
     add_misses(&mut text, global, name, missed)?;
-    add_spot(&mut text, global, name, lines, told, missed.len())?;
+    add_place(&mut text, global, name, lines, told, missed.len())?;
     add_boot(&mut text, name, has_begun(told))?;
     add_none(&mut text, name, expected)?;
     add_sum(&mut text, global, name, expected, missed.len())?;

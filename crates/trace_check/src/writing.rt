@@ -8,16 +8,14 @@ ghost use Rattle.trace_check.specs.Checks.{
   miss_line,
   miss_lines,
   none_said,
-  spot_line,
   spot_said,
   sum_said,
 };
 ghost use Rattle.trace_check.specs.View.{misses_in, told_in};
-ghost use Rattle.trace_faults.specs.Spots.{spot_in};
 
 use crate::missing::Miss;
 use std::alloc::{AllocError, Global};
-use trace_faults::{Spot, spot};
+use trace_faults::spot;
 use trace_text::{Fault, ReportLine};
 
 /// A line for each miss.
@@ -53,7 +51,7 @@ fn add_miss(
 }
 
 /// A line for the place of the fault that ended the run, where one did and something is missed.
-pub(crate) fn add_spot(
+pub(crate) fn add_place(
     text: &mut Vec<u8>,
     global: Global,
     name: &str,
@@ -71,25 +69,7 @@ pub(crate) fn add_spot(
         return Ok(());
     };
     let spot = spot(global, lines, told.len() - 1, fault)?;
-    add_spot_line(text, global, name, &spot)
-}
-
-fn add_spot_line(
-    text: &mut Vec<u8>,
-    global: Global,
-    name: &str,
-    spot: &Spot,
-) -> Result<(), AllocError>
-    ensures { OnOk result (text.new.items ≡ text.old.items ++ spot_line name.now (spot_in spot.now)) }
-{
-    let line = spot.line;
-    let column = spot.column;
-    let place = format!(in global; ":{line}:{column}: ")?;
-    text.extend_from_slice(name.as_bytes())?;
-    text.extend_from_slice(place.as_bytes())?;
-    text.extend_from_slice(spot.said.as_slice())?;
-    text.extend_from_slice(b"\n")?;
-    Ok(())
+    trace_faults::add_spot(text, global, name, &spot)
 }
 
 /// The fault that ended the run, where one did.

@@ -21,7 +21,7 @@ use Rattle.trace_check.specs.declared.checking.Checked.{Checked}
 use Rattle.trace_draw.specs.declared.course.Ended.{Ended}
 use Rattle.trace_draw.specs.declared.course.Ended.TheVariants as ends
 use Rattle.trace_draw.specs.Snapshots.{IsSnapshot}
-use Rattle.trace_explain.specs.Explained.{Explains}
+use Rattle.trace_explain.specs.Explained.{ExplainsAll}
 use Rattle.trace_generate.specs.declared.options.GenerateFault.{GenerateFault}
 use Rattle.trace_generate.specs.declared.options.GenerateFault.TheVariants as generating
 use Rattle.trace_generate.specs.declared.options.Options.{Options}
@@ -52,8 +52,8 @@ abbrev pub HasChecked : List ℕ → Option (List ℕ) → Outcome → Type 0
 HasChecked path bytes outcome = IfSome bytes (λ all. (checked : Checked) × IsChecked path all checked × (outcome ≡ outcome_of_check checked.clean))
 
 -- a trace of these bytes is explained
-abbrev pub HasExplained : Option (List ℕ) → Outcome → Type 0
-HasExplained bytes outcome = IfSome bytes (λ all. (text : List ℕ) × Explains 1 at_start (lines_of all) text outcome)
+abbrev pub HasExplained : List ℕ → Option (List ℕ) → Outcome → Type 0
+HasExplained path bytes outcome = IfSome bytes (λ all. (text : List ℕ) × ExplainsAll path (lines_of all) text outcome)
 
 -- how a run of these bytes ends
 abbrev pub outcome_of_end : Ended → Outcome
@@ -71,7 +71,7 @@ HasReport (tasks.Race quiet) path bytes outcome = HasRaceReport bytes outcome
 HasReport (tasks.Audit quiet) path bytes outcome = HasAuditReport bytes outcome
 HasReport (tasks.Check looks quiet) path bytes outcome = HasChecked path bytes outcome
 HasReport tasks.Record path bytes outcome = outcome ≡ Clean
-HasReport tasks.Explain path bytes outcome = HasExplained bytes outcome
+HasReport tasks.Explain path bytes outcome = HasExplained path bytes outcome
 HasReport (tasks.Draw true) path bytes outcome = HasSnapshot bytes outcome
 HasReport (tasks.Draw false) path bytes outcome = ⊤
 

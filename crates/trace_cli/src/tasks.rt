@@ -96,7 +96,7 @@ fn answered<R: AllocGlobal + Print + Threads + Wait + Sync, F: io::Read + Drop>(
         Task::Audit { quiet } => audited(rt, quiet, file),
         Task::Check { looks, quiet } => checked(rt, path, looks, quiet, file),
         Task::Record => recorded(rt, file),
-        Task::Explain => explained(rt, file),
+        Task::Explain => explained(rt, path, file),
         Task::Draw { text } => drawn(rt, text, file),
     }
 }

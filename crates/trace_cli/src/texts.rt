@@ -63,12 +63,13 @@ pub fn recorded<R: AllocGlobal + Print, F: io::Read + Drop>(
 /// Explains a trace.
 pub fn explained<R: AllocGlobal + Print, F: io::Read + Drop>(
     rt: &R,
+    path: &str,
     file: F,
 ) -> Result<Outcome, Halted>
-    ensures { IfOk result (HasExplained (F.remaining file)) }
+    ensures { IfOk result (HasExplained path.now (F.remaining file)) }
 {
     let trace = whole(rt, file)?;
-    let Ok(explained) = explain(rt.alloc(), rt.alloc(), trace.as_slice()) else {
+    let Ok(explained) = explain(rt.alloc(), rt.alloc(), path, trace.as_slice()) else {
         return Err(no_memory());
     };
     write(rt, explained.text.as_slice())?;

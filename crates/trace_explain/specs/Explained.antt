@@ -5,6 +5,7 @@ use Rattle.step_reply.specs.declared.step.Step.{Step}
 use Rattle.trace_check.specs.Shown.{shown}
 use Rattle.trace_explain.specs.Causes.{cause_of}
 use Rattle.trace_explain.specs.Looks.{Look, looked, seen}
+use Rattle.trace_faults.specs.Spots.{spot_line, spot_of}
 use Rattle.trace_lines.specs.declared.fault.LineFault.{LineFault}
 use Rattle.trace_lines.specs.declared.line.Line.{Line}
 use Rattle.trace_lines.specs.declared.line.Line.TheVariants as lines
@@ -18,7 +19,7 @@ use Rattle.trace_text.specs.declared.report.ReportLine.TheVariants as report
 use Rattle.trace_text.specs.declared.session.Stop.TheVariants as stops
 use Rattle.trace_text.specs.Oracles.{agreed}
 use Rattle.trace_text.specs.Replay.{IsPlayed}
-use Rattle.trace_text.specs.Session.{Answer, Standing, allowed}
+use Rattle.trace_text.specs.Session.{Answer, Standing, allowed, at_start}
 use Rattle.trace_text.specs.Texts.{text_of_fault}
 use Rattle.trace_text.specs.Worlds.{Machine}
 
@@ -61,18 +62,22 @@ line_with line asked looks reported machine = ended line ++ report_lines asked r
 abbrev pub explained : List ℕ → Standing → List ReportLine → Standing → List ℕ
 explained line old reported new = line_with line (step_at old line) (seen old.machine (step_at old line)) reported new.machine
 
--- a line with a fault
-abbrev pub faulty : List ℕ → Fault → List ℕ
-faulty line fault = ended line ++ codes "    fault " ++ text_of_fault fault ++ 10 ∷ []
+-- the line of a trace, by its place, with a fault, and where that is
+abbrev pub faulty : List ℕ → List (List ℕ) → ℕ → List ℕ → Fault → List ℕ
+faulty name all place line fault = ended line ++ codes "    fault " ++ text_of_fault fault ++ 10 ∷ codes "    " ++ spot_line name (spot_of all place fault)
 
 -- what is said from a line on that answers so: the line, and then what is said of the lines after it. A fault is the end
-abbrev pub Says : List ℕ → Standing → Answer → Standing → (List ℕ → Outcome → Type 0) → List ℕ → Outcome → Type 0
-Says line old (Err (stops.Fault fault)) new follows text outcome = (text ≡ faulty line fault) × (outcome ≡ outcomes.Fault)
-Says line old (Err stops.NoMemory) new follows text outcome = ⊥
-Says line old (Ok reported) new follows text outcome = (more : List ℕ) × (text ≡ explained line old reported new ++ more) × follows more outcome
+abbrev pub Says : List ℕ → List (List ℕ) → ℕ → List ℕ → Standing → Answer → Standing → (List ℕ → Outcome → Type 0) → List ℕ → Outcome → Type 0
+Says name all place line old (Err (stops.Fault fault)) new follows text outcome = (text ≡ faulty name all place line fault) × (outcome ≡ outcomes.Fault)
+Says name all place line old (Err stops.NoMemory) new follows text outcome = ⊥
+Says name all place line old (Ok reported) new follows text outcome = (more : List ℕ) × (text ≡ explained line old reported new ++ more) × follows more outcome
 
--- the text explains the lines of a trace, from a number on, which are carried out as a replay does, up to the first that has a fault
-abbrev pub Explains : ℕ → Standing → List (List ℕ) → List ℕ → Outcome → Type 0
-Explains number old [] text outcome = (text ≡ []) × (outcome ≡ outcomes.Clean)
-Explains number old (line ∷ rest) text outcome =
-    (answer : Answer) × (new : Standing) × IsPlayed agreed number line old answer new × Says line old answer new (Explains (number + 1) new rest) text outcome
+-- the text explains the lines of a trace, from a place on, which are carried out as a replay does, up to the first that has a fault; `name` is the trace's file
+abbrev pub Explains : List ℕ → List (List ℕ) → ℕ → Standing → List (List ℕ) → List ℕ → Outcome → Type 0
+Explains name all place old [] text outcome = (text ≡ []) × (outcome ≡ outcomes.Clean)
+Explains name all place old (line ∷ rest) text outcome =
+    (answer : Answer) × (new : Standing) × IsPlayed agreed (place + 1) line old answer new × Says name all place line old answer new (Explains name all (place + 1) new rest) text outcome
+
+-- so of all lines of a trace
+abbrev pub ExplainsAll : List ℕ → List (List ℕ) → List ℕ → Outcome → Type 0
+ExplainsAll name all = Explains name all 0 at_start all

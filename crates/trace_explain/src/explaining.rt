@@ -1,6 +1,6 @@
 //! Explaining a trace.
 ghost use Rattle.std.specs.Prelude.{◌≡◌, ◌+◌, ◌^◌, ◌<◌, ◌≤◌, ◌∷◌, [], ◌++◌, IfOk, OnOk, is_some, length, map, slice_index_or, string_bytes};
-ghost use Rattle.trace_explain.specs.Explained.{Explains, caused_line, ended, faulty, line_with, plain_line, report_line, report_lines, step_at};
+ghost use Rattle.trace_explain.specs.Explained.{ExplainsAll, caused_line, ended, faulty, line_with, plain_line, report_line, report_lines, step_at};
 ghost use Rattle.trace_explain.specs.Looks.{look_lines, looked, places_of, seen, told_at as told_by};
 ghost use Rattle.trace_explain.specs.Texts.{look_line, name_of};
 ghost use Rattle.trace_explain.specs.View.{looks_in};
@@ -19,6 +19,7 @@ use std::alloc::{AllocError, Allocator, Global};
 use step_reply::{Reply, Step};
 use trace_check::shown::shown;
 use trace_check::told_lines;
+use trace_faults::{add_spot, spot};
 use trace_lines::{Allows, Line, Response, said};
 use trace_reader::{Outcome, lines};
 use trace_text::{Fault, MOST_LINES, ReportLine, Reported, Session, Stop};
@@ -40,19 +41,20 @@ pub(crate) struct Look {
     pub(crate) before: String,
 }
 
-/// Carries a trace out up to its first fault, and explains each line. `alloc` is where the tables of the trees lie. Err where
+/// Carries a trace out up to its first fault, and explains each line. `name` is its file's, for the place of a fault. `alloc` is where the tables of the trees lie. Err where
 /// memory was refused.
 pub fn explain<A: Allocator + Copy>(
     global: Global,
     alloc: A,
+    name: &str,
     trace: &[u8],
 ) -> Result<Explained, AllocError>
-    ensures { IfOk result (λ explained. Explains 1 at_start (lines_of trace.now) explained.text.items explained.outcome) }
+    ensures { IfOk result (λ explained. ExplainsAll name.now (lines_of trace.now) explained.text.items explained.outcome) }
 {
     let lines = lines(global, trace)?;
     let mut text = Vec::new(global);
     let mut session = Session::new(global, alloc);
-    let ran = explain_lines(global, &mut session, lines.as_slice(), &mut text);
+    let ran = explain_lines(global, &mut session, name, lines.as_slice(), &mut text);
     // The proof of a scope's end would go through all parts.
     drop(session);
     let outcome = ran?;
@@ -62,13 +64,14 @@ pub fn explain<A: Allocator + Copy>(
 fn explain_lines<A: Allocator + Copy>(
     global: Global,
     session: &mut Session<A>,
+    name: &str,
     lines: &[&[u8]],
     text: &mut Vec<u8>,
 ) -> Result<Outcome, AllocError>
     requires start { standing_of session.old ≡ at_start }
     requires ready { IsReady session.old }
     requires empty { text.old.items ≡ [] }
-    ensures { IfOk result (Explains 1 at_start (map (λ line. line.now) lines.now) text.new.items) }
+    ensures { IfOk result (ExplainsAll name.now (map (λ line. line.now) lines.now) text.new.items) }
 {
     for place in 0..lines.len() {
         let asked = step_said(session, lines[place]);
@@ -86,7 +89,7 @@ fn explain_lines<A: Allocator + Copy>(
                 )?;
             }
             Err(Stop::Fault(fault)) => {
-                add_fault(text, global, lines[place], fault)?;
+                add_fault(text, global, name, lines, place, fault)?;
                 return Ok(Outcome::Fault);
             }
             Err(Stop::NoMemory) => return Err(AllocError),
@@ -211,19 +214,23 @@ fn add_ended(text: &mut Vec<u8>, line: &[u8]) -> Result<(), AllocError>
     Ok(())
 }
 
-/// A line that has a fault.
+/// A line that has a fault, by its place, and where in it the fault is.
 fn add_fault(
     text: &mut Vec<u8>,
     global: Global,
-    line: &[u8],
+    name: &str,
+    lines: &[&[u8]],
+    place: usize,
     fault: Fault,
 ) -> Result<(), AllocError>
-    ensures { OnOk result (text.new.items ≡ text.old.items ++ faulty line.now fault) }
+    requires { place < length lines.now }
+    ensures { OnOk result (text.new.items ≡ text.old.items ++ faulty name.now (map (λ line. line.now) lines.now) place (slice_index_or (map (λ line. line.now) lines.now) place []) fault) }
 {
-    add_ended(text, line)?;
-    let said = format!(in global; "    fault {fault}\n")?;
+    add_ended(text, lines[place])?;
+    let said = format!(in global; "    fault {fault}\n    ")?;
     text.extend_from_slice(said.as_bytes())?;
-    Ok(())
+    let spot = spot(global, lines, place, fault)?;
+    add_spot(text, global, name, &spot)
 }
 
 fn add_report(

@@ -1,5 +1,6 @@
 -- Where the fault of a line is, and what was found and wanted there (profile).
 use Rattle.std.specs.Prelude.{ℕ, ◌+◌, Bool, ◌==◌, List, [], ◌∷◌, ◌++◌, codes, length, take, Some, None, slice_get, slice_index_or, unwrap_or, if◌then◌else◌}
+use Rattle.std.specs.Fmt.{decimal}
 use Rattle.std.specs.List.{list_any}
 use Rattle.std.specs.Str.{bytes_eq}
 use Rattle.trace_faults.specs.declared.form.Form.{Form}
@@ -43,6 +44,10 @@ of_line number line wanted = at number 1 (word_said line) wanted
 abbrev pub at_word : ℕ → List ℕ → ℕ → List ℕ → Told
 at_word number line place wanted =
     at number (word_column line place) (elim (slice_get (words_of line) place) [ Some word ↦ word_said word | None ↦ codes "the line's end" ]) wanted
+
+-- a line for it, with the name of the trace's file
+abbrev pub spot_line : List ℕ → Told → List ℕ
+spot_line name spot = name ++ codes ":" ++ decimal spot.line ++ codes ":" ++ decimal spot.column ++ codes ": " ++ spot.said ++ 10 ∷ []
 
 -- the first word of a line
 abbrev pub first_word : List ℕ → List ℕ

@@ -10,7 +10,8 @@ mod placing;
 mod saying;
 mod wanted;
 
-pub use placing::{Spot, spot};
+pub use placing::spot;
+pub use saying::{Spot, add_spot};
 
 #[cfg(test)]
 mod tests;

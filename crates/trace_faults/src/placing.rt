@@ -4,8 +4,7 @@ ghost use Rattle.trace_faults.specs.Spots.{boot_spot as boot_spot_by, cpus_word 
 
 use crate::blame::{blamed, blamed_wanted, unblamed_found, unblamed_wanted};
 use crate::line::line_spot;
-pub use crate::saying::Spot;
-use crate::saying::{at, at_word, of_line};
+use crate::saying::{Spot, at, at_word, of_line};
 use std::alloc::{AllocError, Global};
 use trace_text::Fault;
 use trace_words::{Words, is_name};

@@ -1,6 +1,6 @@
 //! A spot, with its words.
-ghost use Rattle.std.specs.Prelude.{◌≡◌, IfOk};
-ghost use Rattle.trace_faults.specs.Spots.{at as at_by, at_word as at_word_by, of_line as of_line_by, said_of, spot_in, word_said};
+ghost use Rattle.std.specs.Prelude.{◌≡◌, ◌++◌, IfOk, OnOk};
+ghost use Rattle.trace_faults.specs.Spots.{at as at_by, at_word as at_word_by, of_line as of_line_by, said_of, spot_in, spot_line, word_said};
 
 use crate::column::word_column;
 use std::alloc::{AllocError, Global};
@@ -15,6 +15,25 @@ pub struct Spot {
     pub column: u64,
     /// `found .., wanted ..`. A word of the line is between two backquotes.
     pub said: Vec<u8>,
+}
+
+/// Adds a line for a spot to a text: `NAME:LINE:COLUMN: found .., wanted ..`.
+pub fn add_spot(
+    text: &mut Vec<u8>,
+    global: Global,
+    name: &str,
+    spot: &Spot,
+) -> Result<(), AllocError>
+    ensures { OnOk result (text.new.items ≡ text.old.items ++ spot_line name.now (spot_in spot.now)) }
+{
+    let line = spot.line;
+    let column = spot.column;
+    let place = format!(in global; ":{line}:{column}: ")?;
+    text.extend_from_slice(name.as_bytes())?;
+    text.extend_from_slice(place.as_bytes())?;
+    text.extend_from_slice(spot.said.as_slice())?;
+    text.extend_from_slice(b"\n")?;
+    Ok(())
 }
 
 /// A spot where something was found that is no word.
