@@ -14,4 +14,4 @@ pub use numbers::{
 pub use owner::{PlainOwner, owner_told, row_of};
 pub use reply::{PlainReply, reply_of, reply_told};
 pub use step::{PlainStep, step_of};
-pub use word::{PlainWord, desc_of, desc_told, entry_of, entry_told, target_of};
+pub use word::{PlainWord, desc_of, desc_told, entry_of, entry_told, target_of, target_told};

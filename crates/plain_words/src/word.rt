@@ -105,6 +105,26 @@ pub fn entry_told(entry: Entry) -> PlainWord
     }
 }
 
+/// The word of a target.
+pub fn target_told(target: Target) -> PlainWord
+    ensures { target_said result ≡ Some target }
+{
+    match target {
+        Target::Malformed => BLANK,
+        Target::Annotated(owner) => PlainWord {
+            says: 2,
+            owner: owner.0,
+            ..BLANK
+        },
+        Target::Leaf {
+            frame,
+            prot,
+            kind,
+            state,
+        } => leaf_told(frame, prot, kind, state),
+    }
+}
+
 /// An entry as a descriptor.
 fn desc_of_entry(entry: Entry) -> Desc
     ensures { result ≡ desc_of_entry_in entry }
