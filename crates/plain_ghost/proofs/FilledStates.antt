@@ -1,8 +1,9 @@
 -- The state of lists that are filled in as plain lists say, and their faults.
-use Rattle.std.proofs.Common.{◌≡◌, ℕ, zero, suc, ◌+◌, ◌<◌, ◌≤◌, List, [], ◌∷◌, All, Option, None, get_or, length, map, refl, sym, ap, subst, inl, inr, ◌∙◌}
-use Rattle.std.specs.Prelude.{◌⊎◌, ◌↔◌, unwrap_or, IfErr, Result, Ok, Err}
-use Rattle.std.specs.List.{enumerate_from}
-use Rattle.std.proofs.lemmas.List.{get_or_past}
+use Rattle.std.proofs.Common.{◌≡◌, ℕ, zero, suc, ◌<◌, ◌≤◌, List, [], ◌∷◌, All, Option, None, get_or, length, map, refl, sym, ap, subst, inl, inr, ◌∙◌}
+use Rattle.std.specs.Prelude.{◌⊎◌, ◌↔◌, nat_lt, if◌then◌else◌, unwrap_or, IfErr, Result, Ok, Err}
+use Rattle.std.specs.List.{range_with_len}
+use Rattle.std.proofs.lemmas.List.{get_or_past, length-map}
+use Rattle.std.proofs.lemmas.List.FromFn.{length-map-range_with_len}
 use mathlib.Core.Path.{fun_ext}
 use Rattle.page_state.proofs.Cases.{by_lt}
 use Rattle.page_state.proofs.Common.{same2}
@@ -21,16 +22,17 @@ use Rattle.ghost_spec.specs.declared.filled.GhostFault.{GhostFault}
 use Rattle.ghost_spec.specs.declared.filled.GhostFault.TheVariants.{WrongCount, TooLarge, Overlap, TableTwice, FrameTwice, NoMemory as NoGhostMemory}
 use Rattle.ghost_spec.specs.declared.lists.GhostLists.{GhostLists}
 use Rattle.ghost_spec.specs.declared.parts.GhostGuest.{GhostGuest}
-use Rattle.ghost_spec.specs.Filled.{ordered, state_filled, IsFirstFault}
+use Rattle.ghost_spec.specs.Filled.{ordered, state_filled, HasCounts, IsFirstFault}
 use Rattle.ghost_spec.specs.States.{guest_in, rooms_in, slot_in}
 use Rattle.ghost_spec.specs.Views.{cpu_in, row_in}
-use Rattle.plain_ghost.specs.declared.members.PlainGuest.{PlainGuest}
 use Rattle.plain_ghost.specs.declared.state.PlainFault.{PlainFault}
-use Rattle.plain_ghost.specs.declared.state.PlainFault.TheVariants.{Unknown, Rows as RowsFault, Lists as ListsFault, NoMemory}
-use Rattle.plain_ghost.specs.Faults.{first_unknown_of, HasFault, IsListsFault, IsPlainFault}
-use Rattle.plain_ghost.specs.Filled.{GuestLists, guest_lists_said, lists_in, IsFilled, IsFilledTree, IsRoomy}
-use Rattle.plain_ghost.specs.Lists.{cpu_said, frames_said, rows_said, runs_said, slot_said, tables_said}
-use Rattle.plain_ghost.specs.States.{Lists, guest_said, indexed, rooms_said, state_said, tree_said}
+use Rattle.plain_ghost.specs.declared.state.PlainFault.TheVariants.{Unknown, Rows as RowsFault, Twice, Lists as ListsFault, NoMemory}
+use Rattle.plain_ghost.specs.Faults.{first_unknown_of, AreTaken, HasFault, IsListsFault, IsPlainFault}
+use Rattle.plain_ghost.specs.Filled.{GuestLists, guest_lists_said, lists_in, slot_filled, IsFilled, IsFilledTree, IsRoomy}
+use Rattle.plain_ghost.specs.Lists.{cpu_listed, cpu_said, frames_said, guest_listed, rows_said, runs_said, slot_listed, slot_said, tables_said}
+use Rattle.plain_ghost.specs.States.{Lists, guest_said, rooms_said, state_said, tree_said}
+use Rattle.plain_ghost.proofs.KnownLists.{cpu_whole, known_cpus, known_loads, slot_whole}
+use Rattle.plain_ghost.proofs.OneMore.{by_numbers}
 
 -- a state of its parts
 abbrev whole : (ℕ → Slot) → Tree → Tree → Pool → (ℕ → Row) → (ℕ → Guest) → (ℕ → Cpu) → Rooms → Reference
@@ -51,9 +53,28 @@ guests_seen [] v = refl
 guests_seen (g ∷ gs) zero = refl
 guests_seen (g ∷ gs) (suc v) = guests_seen gs v
 
-guests_told : (p : Lists) (n : ℕ) (gs : List PlainGuest) → map guest_from (map (λ e. guest_lists_said p e.0 e.1) (enumerate_from n gs)) ≡ map (λ e. guest_said p e.0 e.1) (enumerate_from n gs)
-guests_told p n [] = refl
-guests_told p n (g ∷ gs) = ap (λ (xs : List Guest). guest_said p n g ∷ xs) (guests_told p (n + 1) gs)
+guests_from : (p : Lists) (vs : List ℕ) → map guest_from (map (λ n. guest_lists_said p n (guest_listed p.guests n)) vs) ≡ map (λ n. guest_said p n (guest_listed p.guests n)) vs
+guests_from p [] = refl
+guests_from p (v ∷ vs) = ap (λ (xs : List Guest). guest_said p v (guest_listed p.guests v) ∷ xs) (guests_from p vs)
+
+-- what lists that are filled in number by number have at a number
+slots_at : (cpus : ℕ) (p : Lists) (l : GhostLists) → first_unknown_of cpus p ≡ None → IsFilled cpus p l → (v : ℕ)
+    → get_or (map slot_in l.vms.items) v (no_slot 1) ≡ (if nat_lt v 64 then slot_said p.loads v (slot_listed p.slots v) else no_slot 1)
+slots_at cpus p l known f v =
+    ap (λ (xs : List Slot). get_or xs v (no_slot 1)) f.slots ∙ (by_numbers (λ n. slot_filled p.loads n (slot_listed p.slots n)) (no_slot 1) 64 v
+    ∙ ap (λ (s : Slot). if nat_lt v 64 then s else no_slot 1) (slot_whole p.loads v (slot_listed p.slots v) (known_loads cpus p known)))
+
+guests_at : (cpus : ℕ) (p : Lists) (l : GhostLists) → IsFilled cpus p l → (v : ℕ)
+    → ordered (get_or (map guest_in l.guests.items) v no_guest) ≡ (if nat_lt v 64 then guest_said p v (guest_listed p.guests v) else no_guest)
+guests_at cpus p l f v =
+    guests_seen l.guests.items v ∙ (ap (λ (xs : List GuestLists). get_or (map guest_from xs) v no_guest) f.guests
+    ∙ (ap (λ (xs : List Guest). get_or xs v no_guest) (guests_from p (range_with_len 0 64))
+    ∙ by_numbers (λ n. guest_said p n (guest_listed p.guests n)) no_guest 64 v))
+
+cpus_at : (cpus : ℕ) (p : Lists) (l : GhostLists) → first_unknown_of cpus p ≡ None → IsFilled cpus p l → (c : ℕ)
+    → get_or (map cpu_in l.cpus.items) c no_cpu ≡ cpu_said (cpu_listed p.cpus c)
+cpus_at cpus p l known f c =
+    ap (λ (xs : List Cpu). get_or xs c no_cpu) f.cpus ∙ (by_numbers (λ n. cpu_said (cpu_listed p.cpus n)) no_cpu cpus c ∙ cpu_whole cpus p.cpus (known_cpus cpus p known) c)
 
 ones_at : (xs : List ℕ) → All (λ n. n ≡ 1) xs → (v : ℕ) → get_or xs v 1 ≡ 1
 ones_at xs all v = by_lt v (length xs) (λ l. all v 1 l) (λ l. get_or_past xs v 1 l)
@@ -68,38 +89,53 @@ rooms_at l r log =
     ∙ same2 (λ (g c : ℕ → ℕ). rooms_from 1 1 g c) (fun_ext (ones_at l.rooms.guests.items r.guests)) (fun_ext (ones_at l.rooms.cpus.items r.cpus)))
 
 -- lists that are filled in as plain lists say have the state that these say
-pub filled_state : (p : Lists) (l : GhostLists) → IsFilled p l → state_filled l ≡ state_said p
-filled_state p l f =
-    let slots : (λ v. get_or (map slot_in l.vms.items) v (no_slot 1)) ≡ (λ v. get_or (indexed (slot_said p.loads) p.slots) v (no_slot 1)) = ap {B = ℕ → Slot} (λ (xs : List Slot) v. get_or xs v (no_slot 1)) f.slots in
+pub filled_state : (cpus : ℕ) (p : Lists) (l : GhostLists) → first_unknown_of cpus p ≡ None → IsFilled cpus p l → state_filled l ≡ state_said p
+filled_state cpus p l known f =
+    let slots : (λ v. get_or (map slot_in l.vms.items) v (no_slot 1)) ≡ (λ v. if nat_lt v 64 then slot_said p.loads v (slot_listed p.slots v) else no_slot 1) = fun_ext (slots_at cpus p l known f) in
     let host = tree_at p 0 l.shared.host f.shared.host in
     let hyp = tree_at p 1 l.shared.hyp f.shared.hyp in
     let free = ap in_order f.shared.free in
     let rows : row_in l.shared.rows.runs ≡ row_in (rows_said p.rows) = ap {B = ℕ → Row} (λ (m : ℕ → Option Row) n. unwrap_or (m n) plain_row) f.shared.rows in
-    let told : map guest_from (map lists_in l.guests.items) ≡ indexed (guest_said p) p.guests = ap (map guest_from) f.guests ∙ guests_told p 0 p.guests in
-    let guests : (λ v. ordered (get_or (map guest_in l.guests.items) v no_guest)) ≡ (λ v. get_or (indexed (guest_said p) p.guests) v no_guest) = fun_ext (guests_seen l.guests.items) ∙ ap {B = ℕ → Guest} (λ (xs : List Guest) v. get_or xs v no_guest) told in
-    let cpus : (λ c. get_or (map cpu_in l.cpus.items) c no_cpu) ≡ (λ c. get_or (map cpu_said p.cpus) c no_cpu) = ap {B = ℕ → Cpu} (λ (xs : List Cpu) c. get_or xs c no_cpu) f.cpus in
+    let guests : (λ v. ordered (get_or (map guest_in l.guests.items) v no_guest)) ≡ (λ v. if nat_lt v 64 then guest_said p v (guest_listed p.guests v) else no_guest) = fun_ext (guests_at cpus p l f) in
+    let own : (λ c. get_or (map cpu_in l.cpus.items) c no_cpu) ≡ (λ c. cpu_said (cpu_listed p.cpus c)) = fun_ext (cpus_at cpus p l known f) in
     let rooms = rooms_at l f.rooms f.log in
     same2 (λ (x : ℕ → Slot) (y : Tree). whole x y (tree_in_lists l.shared.hyp) (in_order l.shared.free.items) (row_in l.shared.rows.runs) (λ v. ordered (get_or (map guest_in l.guests.items) v no_guest)) (λ c. get_or (map cpu_in l.cpus.items) c no_cpu) (rooms_in l.layout.config.log l.rooms)) slots host
-    ∙ (same2 (λ (x : Tree) (y : Pool). whole (λ v. get_or (indexed (slot_said p.loads) p.slots) v (no_slot 1)) (tree_said p 0) x y (row_in l.shared.rows.runs) (λ v. ordered (get_or (map guest_in l.guests.items) v no_guest)) (λ c. get_or (map cpu_in l.cpus.items) c no_cpu) (rooms_in l.layout.config.log l.rooms)) hyp free
-    ∙ (same2 (λ (x : ℕ → Row) (y : ℕ → Guest). whole (λ v. get_or (indexed (slot_said p.loads) p.slots) v (no_slot 1)) (tree_said p 0) (tree_said p 1) (in_order (frames_said p.frames 1)) x y (λ c. get_or (map cpu_in l.cpus.items) c no_cpu) (rooms_in l.layout.config.log l.rooms)) rows guests
-    ∙ same2 (λ (x : ℕ → Cpu) (y : Rooms). whole (λ v. get_or (indexed (slot_said p.loads) p.slots) v (no_slot 1)) (tree_said p 0) (tree_said p 1) (in_order (frames_said p.frames 1)) (row_in (rows_said p.rows)) (λ v. get_or (indexed (guest_said p) p.guests) v no_guest) x y) cpus rooms))
+    ∙ (same2 (λ (x : Tree) (y : Pool). whole (λ v. if nat_lt v 64 then slot_said p.loads v (slot_listed p.slots v) else no_slot 1) (tree_said p 0) x y (row_in l.shared.rows.runs) (λ v. ordered (get_or (map guest_in l.guests.items) v no_guest)) (λ c. get_or (map cpu_in l.cpus.items) c no_cpu) (rooms_in l.layout.config.log l.rooms)) hyp free
+    ∙ (same2 (λ (x : ℕ → Row) (y : ℕ → Guest). whole (λ v. if nat_lt v 64 then slot_said p.loads v (slot_listed p.slots v) else no_slot 1) (tree_said p 0) (tree_said p 1) (in_order (frames_said p.frames 1)) x y (λ c. get_or (map cpu_in l.cpus.items) c no_cpu) (rooms_in l.layout.config.log l.rooms)) rows guests
+    ∙ same2 (λ (x : ℕ → Cpu) (y : Rooms). whole (λ v. if nat_lt v 64 then slot_said p.loads v (slot_listed p.slots v) else no_slot 1) (tree_said p 0) (tree_said p 1) (in_order (frames_said p.frames 1)) (row_in (rows_said p.rows)) (λ v. if nat_lt v 64 then guest_said p v (guest_listed p.guests v) else no_guest) x y) own rooms))
+
+-- lists that are filled in have the counts of a state
+filled_counts : (cpus : ℕ) (p : Lists) (l : GhostLists) → IsFilled cpus p l → length l.rooms.guests.items ≡ 64 → length l.rooms.cpus.items ≡ cpus → l.layout.config.cpus ≡ cpus → HasCounts l
+filled_counts cpus p l f guests rooms are = record {
+  slots = sym (length-map l.vms.items slot_in) ∙ (ap length f.slots ∙ length-map-range_with_len (λ n. slot_filled p.loads n (slot_listed p.slots n)) 0 64);
+  guests = sym (length-map l.guests.items lists_in) ∙ (ap length f.guests ∙ length-map-range_with_len (λ n. guest_lists_said p n (guest_listed p.guests n)) 0 64);
+  cpus = sym (length-map l.cpus.items cpu_in) ∙ (ap length f.cpus ∙ (length-map-range_with_len (λ n. cpu_said (cpu_listed p.cpus n)) 0 cpus ∙ sym are));
+  guest_rooms = guests;
+  cpu_rooms = rooms ∙ sym are;
+}
 
 -- a fault of lists that are filled in is one of the plain lists
-pub lists_fault : (cpus : ℕ) (p : Lists) (l : GhostLists) → first_unknown_of p ≡ None → IsFilled p l → length l.rooms.guests.items ≡ 64 → length l.rooms.cpus.items ≡ cpus → l.layout.config.cpus ≡ cpus
+pub lists_fault : (cpus : ℕ) (p : Lists) (l : GhostLists) → AreTaken cpus p → IsFilled cpus p l → length l.rooms.guests.items ≡ 64 → length l.rooms.cpus.items ≡ cpus → l.layout.config.cpus ≡ cpus
     → (why : PlainFault) → IsListsFault p l why → IsPlainFault cpus p why
-lists_fault cpus p l known f guests rooms are (Unknown list at) h = absurd h
-lists_fault cpus p l known f guests rooms are (RowsFault fault) h = absurd h
-lists_fault cpus p l known f guests rooms are (ListsFault fault culprit) h = (known, record { lists = l; filled = f; guest_rooms = guests; cpu_rooms = rooms; cpus_are = are; first = h.0 }, h.1)
-lists_fault cpus p l known f guests rooms are NoMemory h = tt
+lists_fault cpus p l taken f guests rooms are (Unknown list at) h = absurd h
+lists_fault cpus p l taken f guests rooms are (RowsFault fault) h = absurd h
+lists_fault cpus p l taken f guests rooms are (Twice list at) h = absurd h
+lists_fault cpus p l taken f guests rooms are (ListsFault WrongCount culprit) h = h.0 (filled_counts cpus p l f guests rooms are)
+lists_fault cpus p l taken f guests rooms are (ListsFault TooLarge culprit) h = (taken, record { lists = l; filled = f; guest_rooms = guests; cpu_rooms = rooms; cpus_are = are; first = h.0 }, h.1)
+lists_fault cpus p l taken f guests rooms are (ListsFault Overlap culprit) h = (taken, record { lists = l; filled = f; guest_rooms = guests; cpu_rooms = rooms; cpus_are = are; first = h.0 }, h.1)
+lists_fault cpus p l taken f guests rooms are (ListsFault TableTwice culprit) h = (taken, record { lists = l; filled = f; guest_rooms = guests; cpu_rooms = rooms; cpus_are = are; first = h.0 }, h.1)
+lists_fault cpus p l taken f guests rooms are (ListsFault FrameTwice culprit) h = (taken, record { lists = l; filled = f; guest_rooms = guests; cpu_rooms = rooms; cpus_are = are; first = h.0 }, h.1)
+lists_fault cpus p l taken f guests rooms are (ListsFault NoGhostMemory culprit) h = absurd h.0
+lists_fault cpus p l taken f guests rooms are NoMemory h = tt
 
 no_memory_fault : (cpus : ℕ) (p : Lists) (why : PlainFault) → why ≡ NoMemory → IsPlainFault cpus p why
 no_memory_fault cpus p why e = subst (IsPlainFault cpus p) (sym e) tt
 
 -- what is told of a fault of theirs is true of the plain lists
-pub told_fault : (cpus : ℕ) (p : Lists) (l : GhostLists) → first_unknown_of p ≡ None → IsFilled p l → length l.rooms.guests.items ≡ 64 → length l.rooms.cpus.items ≡ cpus → l.layout.config.cpus ≡ cpus
+pub told_fault : (cpus : ℕ) (p : Lists) (l : GhostLists) → AreTaken cpus p → IsFilled cpus p l → length l.rooms.guests.items ≡ 64 → length l.rooms.cpus.items ≡ cpus → l.layout.config.cpus ≡ cpus
     → (f : GhostFault) (why : PlainFault) → (f ≡ NoGhostMemory ⊎ IsFirstFault f l) → (f ≡ NoGhostMemory → why ≡ NoMemory) → ((m : GhostLists) → IsFirstFault f m → IsListsFault p m why) → IsPlainFault cpus p why
-told_fault cpus p l known filled guests rooms are f why (inl e) memory fault = no_memory_fault cpus p why (memory e)
-told_fault cpus p l known filled guests rooms are f why (inr h) memory fault = lists_fault cpus p l known filled guests rooms are why (fault l h)
+told_fault cpus p l taken filled guests rooms are f why (inl e) memory fault = no_memory_fault cpus p why (memory e)
+told_fault cpus p l taken filled guests rooms are f why (inr h) memory fault = lists_fault cpus p l taken filled guests rooms are why (fault l h)
 
 -- a fault that is answered is the first
 pub first_fault : {G : Type 0} (l : GhostLists) (r : Result G GhostFault) → ((r ≡ Err WrongCount) ↔ IsFirstFault WrongCount l) → ((r ≡ Err TooLarge) ↔ IsFirstFault TooLarge l)

@@ -1,3 +1,7 @@
 pub mod FilledStates
 mod Generations
+mod KnownLists
+mod NoClash
 pub mod OneMore
+mod Telling
+mod ToldStates

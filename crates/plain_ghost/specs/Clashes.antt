@@ -5,6 +5,9 @@ use Rattle.page_state.specs.Regions.{is_in_range}
 use Rattle.plain_ghost.specs.declared.members.PlainRun.{PlainRun}
 use Rattle.plain_ghost.specs.declared.members.PlainTable.{PlainTable}
 use Rattle.plain_ghost.specs.declared.members.PlainFrame.{PlainFrame}
+use Rattle.plain_ghost.specs.declared.members.PlainSlot.{PlainSlot}
+use Rattle.plain_ghost.specs.declared.members.PlainGuest.{PlainGuest}
+use Rattle.plain_ghost.specs.declared.members.PlainCpu.{PlainCpu}
 use Rattle.plain_ghost.specs.Lists.{range_said}
 
 -- two runs of one tree that have pages share one: either has the other's first
@@ -20,6 +23,16 @@ do_tables_clash a b = a.tree == b.tree && (a.height == b.height && a.index == b.
 -- two free frames of one pool are the same
 abbrev pub do_frames_clash : PlainFrame → PlainFrame → Bool
 do_frames_clash a b = a.pool == b.pool && a.frame == b.frame
+
+-- two slots, guests or CPUs have one number
+abbrev pub have_one_slot : PlainSlot → PlainSlot → Bool
+have_one_slot a b = a.slot == b.slot
+
+abbrev pub have_one_guest : PlainGuest → PlainGuest → Bool
+have_one_guest a b = a.slot == b.slot
+
+abbrev pub have_one_cpu : PlainCpu → PlainCpu → Bool
+have_one_cpu a b = a.cpu == b.cpu
 
 -- the member at an index clashes with an earlier one
 pub record IsClash {X : Type 0} (clash : X → X → Bool) (xs : List X) (i : ℕ) : Type 0 where

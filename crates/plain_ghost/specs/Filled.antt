@@ -1,10 +1,11 @@
 -- Lists of the reference state that are filled in as plain lists say, before any test of them.
-use Rattle.std.specs.Prelude.{◌≡◌, ℕ, ◌+◌, List, All, length, map}
+use Rattle.std.specs.Prelude.{◌≡◌, ℕ, ◌+◌, List, None, All, map, nat_lt, if◌then◌else◌}
+use Rattle.std.specs.List.{range_with_len}
 use Rattle.page_state.specs.declared.entry.Run.{Run}
 use Rattle.page_state.specs.Rows.{advance_row}
 use Rattle.run_list.specs.Runs.{run_map}
 use Rattle.step_reply.specs.declared.step.VmKind.{VmKind}
-use Rattle.reference_model.specs.State.{Phase}
+use Rattle.reference_model.specs.State.{Phase, Slot}
 use Rattle.ghost_trees.specs.declared.tree.Table.{Table}
 use Rattle.ghost_trees.specs.declared.tree.Tree.{Tree}
 use Rattle.ghost_spec.specs.declared.lists.GhostLists.{GhostLists}
@@ -14,8 +15,10 @@ use Rattle.ghost_spec.specs.declared.shared.Shared.{Shared}
 use Rattle.ghost_spec.specs.States.{phase_in, slot_in}
 use Rattle.ghost_spec.specs.Views.{cpu_in}
 use Rattle.plain_ghost.specs.declared.members.PlainGuest.{PlainGuest}
-use Rattle.plain_ghost.specs.Lists.{runs_said, tables_said, frames_said, rows_said, slot_said, phase_said, kind_said, cpu_said}
-use Rattle.plain_ghost.specs.States.{Lists, indexed}
+use Rattle.plain_ghost.specs.declared.members.PlainLoad.{PlainLoad}
+use Rattle.plain_ghost.specs.declared.members.PlainSlot.{PlainSlot}
+use Rattle.plain_ghost.specs.Lists.{runs_said, tables_said, frames_said, rows_said, slot_listed, slot_said, guest_listed, phase_said, kind_said, cpu_listed, cpu_said}
+use Rattle.plain_ghost.specs.States.{Lists}
 
 -- a tree has the runs and the tables of a number
 pub record IsFilledTree (p : Lists) (tree : ℕ) (t : Tree) : Type 0 where
@@ -59,11 +62,15 @@ pub record IsRoomy (r : GhostRooms) : Type 0 where
   pub guests : All (λ n. n ≡ 1) r.guests.items
   pub cpus : All (λ n. n ≡ 1) r.cpus.items
 
--- all lists
-pub record IsFilled (p : Lists) (l : GhostLists) : Type 0 where
+-- a slot of 8 vCPUs
+abbrev pub slot_filled : List PlainLoad → ℕ → PlainSlot → Slot
+slot_filled loads v s = let said = slot_said loads v s in record said { loaded = λ vcpu. if nat_lt vcpu 8 then said.loaded vcpu else None }
+
+-- all lists, for so many CPUs
+pub record IsFilled (count : ℕ) (p : Lists) (l : GhostLists) : Type 0 where
   pub shared : IsFilledShared p l.shared
-  pub slots : map slot_in l.vms.items ≡ indexed (slot_said p.loads) p.slots
-  pub guests : map lists_in l.guests.items ≡ indexed (guest_lists_said p) p.guests
-  pub cpus : map cpu_in l.cpus.items ≡ map cpu_said p.cpus
+  pub slots : map slot_in l.vms.items ≡ map (λ v. slot_filled p.loads v (slot_listed p.slots v)) (range_with_len 0 64)
+  pub guests : map lists_in l.guests.items ≡ map (λ v. guest_lists_said p v (guest_listed p.guests v)) (range_with_len 0 64)
+  pub cpus : map cpu_in l.cpus.items ≡ map (λ c. cpu_said (cpu_listed p.cpus c)) (range_with_len 0 count)
   pub rooms : IsRoomy l.rooms
   pub log : l.layout.config.log ≡ 1

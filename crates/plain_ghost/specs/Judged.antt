@@ -22,9 +22,10 @@ use Rattle.plain_ghost.specs.declared.layout.PlainLayout.{PlainLayout}
 use Rattle.plain_ghost.specs.declared.layout.PlainLayoutFault.{PlainLayoutFault}
 use Rattle.plain_ghost.specs.declared.layout.PlainLayoutFault.TheVariants.{Geometry, Memory, NoMemory}
 use Rattle.plain_ghost.specs.declared.layout.PlainRegion.{PlainRegion}
-use Rattle.plain_ghost.specs.Faults.{IsPlainFault}
+use Rattle.plain_ghost.specs.Faults.{AreTaken, IsPlainFault}
 use Rattle.plain_ghost.specs.Layouts.{layout_said, memory_said}
 use Rattle.plain_ghost.specs.States.{Lists, contents_said, state_said}
+use Rattle.plain_ghost.specs.Told.{in_pool_order}
 
 -- why numbers are no layout
 abbrev pub IsLayoutFault : PlainLayout → List PlainRegion → PlainLayoutFault → Type 0
@@ -48,6 +49,8 @@ pub record IsJudged (l : PlainLayout) (regions : List PlainRegion) (before : Lis
   pub reply : Reply
   pub step_is : step_said call.step ≡ Some step
   pub reply_is : reply_said call.reply ≡ Some reply
+  pub before_taken : AreTaken l.cpus before
+  pub after_taken : AreTaken l.cpus after
   pub none : (found ≡ None) ↔ JudgeAgrees (contents_said before) step reply (contents_said after) (told_said l regions before call.cpu step)
   pub first : IfSome found (IsFirstJudged (contents_said before) step reply (contents_said after) (told_said l regions before call.cpu step))
 
@@ -77,7 +80,16 @@ IsUnjudged l regions before call after unjudged.NoMemory = Unit {0}
 pub record IsForetold (l : PlainLayout) (regions : List PlainRegion) (before : Lists) (cpu : ℕ) (plain : PlainStep) (reply : PlainReply) : Type 0 where
   pub step : Step
   pub step_is : step_said plain ≡ Some step
+  pub taken : AreTaken l.cpus before
   pub reply_is : reply_said reply ≡ Some (told_said l regions before cpu step).0
+
+-- the reply is, and the lists say the state after it, with each pool in order
+pub record IsForetoldState (l : PlainLayout) (regions : List PlainRegion) (before : Lists) (cpu : ℕ) (plain : PlainStep) (reply : PlainReply) (after : Lists) : Type 0 where
+  pub step : Step
+  pub step_is : step_said plain ≡ Some step
+  pub taken : AreTaken l.cpus before
+  pub reply_is : reply_said reply ≡ Some (told_said l regions before cpu step).0
+  pub after_is : contents_said after ≡ in_pool_order (told_said l regions before cpu step).1.contents
 
 -- and why there is none
 abbrev pub IsUntold : PlainLayout → List PlainRegion → Lists → ℕ → PlainStep → Unjudged → Type 0

@@ -25,16 +25,17 @@ abbrev pub is_frame : PlainFrame → Bool
 is_frame f = nat_le 1 f.pool && nat_lt f.pool 66
 
 abbrev pub is_slot : PlainSlot → Bool
-is_slot s = nat_lt s.stand 4 && nat_lt s.kind 2
+is_slot s = nat_lt s.slot 64 && (nat_lt s.stand 4 && nat_lt s.kind 2)
 
 abbrev pub is_load : PlainLoad → Bool
 is_load l = nat_lt l.slot 64 && nat_lt l.vcpu 8
 
 abbrev pub is_guest : PlainGuest → Bool
-is_guest g = nat_lt g.phase 3 && nat_lt g.kind 2
+is_guest g = nat_lt g.slot 64 && (nat_lt g.phase 3 && nat_lt g.kind 2)
 
-abbrev pub is_cpu : PlainCpu → Bool
-is_cpu k = k.has_ticket == 0 || nat_lt k.ticket_kind 2 && nat_lt k.ticket_stage 5
+-- one of so many CPUs
+abbrev pub is_cpu : ℕ → PlainCpu → Bool
+is_cpu count k = nat_lt k.cpu count && ((k.has_vcpu == 0 || nat_lt k.vcpu 8) && (k.has_ticket == 0 || nat_lt k.ticket_kind 2 && nat_lt k.ticket_stage 5))
 
 abbrev pub is_row : PlainRow → Bool
 is_row r = is_some (row_said r.owner)

@@ -6,4 +6,5 @@ pub mod Known
 pub mod Layouts
 pub mod Lists
 pub mod States
+pub mod Told
 pub mod Views

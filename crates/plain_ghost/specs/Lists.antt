@@ -1,5 +1,5 @@
 -- What the members of plain lists say.
-use Rattle.std.specs.Prelude.{ℕ, Bool, ◌==◌, ◌&&◌, nat_lt, List, Option, Some, None, option_map, filter_map, find, if◌then◌else◌}
+use Rattle.std.specs.Prelude.{ℕ, Bool, ◌==◌, ◌&&◌, List, Option, Some, None, option_map, unwrap_or, filter_map, find, if◌then◌else◌}
 use Rattle.page_state.specs.declared.entry.PageRange.{PageRange}
 use Rattle.page_state.specs.declared.entry.Run.{Run}
 use Rattle.page_state.specs.declared.row.Row.{Row}
@@ -21,6 +21,30 @@ use Rattle.plain_ghost.specs.declared.members.PlainLoad.{PlainLoad}
 use Rattle.plain_ghost.specs.declared.members.PlainGuest.{PlainGuest}
 use Rattle.plain_ghost.specs.declared.members.PlainCpu.{PlainCpu}
 use Rattle.plain_ghost.specs.declared.members.PlainRow.{PlainRow}
+
+-- the member of a number, where one is listed, and else this
+abbrev pub listed : {X : Type 0} → (X → ℕ) → X → List X → ℕ → X
+listed number none xs n = unwrap_or (find (λ x. number x == n) xs) none
+
+-- slots, guests and CPUs that aren't listed: a slot as at boot, an empty guest, and a CPU with nothing
+abbrev pub no_plain_slot : PlainSlot
+no_plain_slot = record { slot = 0; stand = 0; generation = 1; kind = 0; vcpus = 0 }
+
+abbrev pub no_plain_guest : PlainGuest
+no_plain_guest = record { slot = 0; phase = 0; generation = 0; kind = 0 }
+
+abbrev pub no_plain_cpu : PlainCpu
+no_plain_cpu = record { cpu = 0; has_vcpu = 0; vcpu_slot = 0; vcpu_generation = 0; vcpu = 0; has_hand = 0; hand_first = 0; hand_count = 0; has_ticket = 0; ticket_slot = 0; ticket_generation = 0; ticket_kind = 0; ticket_stage = 0 }
+
+-- and those of a number
+abbrev pub slot_listed : List PlainSlot → ℕ → PlainSlot
+slot_listed = listed (λ s. s.slot) no_plain_slot
+
+abbrev pub guest_listed : List PlainGuest → ℕ → PlainGuest
+guest_listed = listed (λ g. g.slot) no_plain_guest
+
+abbrev pub cpu_listed : List PlainCpu → ℕ → PlainCpu
+cpu_listed = listed (λ k. k.cpu) no_plain_cpu
 
 -- a range of pages or of frames
 abbrev pub range_said : ℕ → ℕ → PageRange
@@ -75,14 +99,14 @@ kind_said n = if n == 1 then Protected else Plain
 abbrev pub stage_said : ℕ → Stage
 stage_said n = if n == 0 then Booked else if n == 1 then Installed else if n == 2 then ClosingVm else if n == 3 then DyingVm else Finished
 
--- a slot, by its number; each VM has 8 vCPUs at most
+-- a slot, by its number
 abbrev pub slot_said : List PlainLoad → ℕ → PlainSlot → Slot
 slot_said loads slot s = record {
   stand = stand_said s.stand;
   generation = s.generation;
   kind = kind_said s.kind;
   vcpus = s.vcpus;
-  loaded = λ vcpu. if nat_lt vcpu 8 then loader_said loads slot vcpu else None;
+  loaded = loader_said loads slot;
 }
 
 -- what a CPU has loaded, its hand and its ticket

@@ -1,9 +1,8 @@
 -- The reference state that plain lists say.
-use Rattle.std.specs.Prelude.{ℕ, ◌+◌, List, get_or, map}
-use Rattle.std.specs.List.{enumerate_from}
+use Rattle.std.specs.Prelude.{ℕ, ◌+◌, List, nat_lt, if◌then◌else◌}
 use Rattle.page_state.specs.Runs.{map_of}
 use Rattle.page_state.specs.Trees.{Tree}
-use Rattle.reference_model.specs.State.{Contents, Guest, Reference, Rooms, no_cpu, no_guest, no_slot}
+use Rattle.reference_model.specs.State.{Contents, Guest, Reference, Rooms, no_guest, no_slot}
 use Rattle.ghost_spec.specs.Views.{row_in}
 use Rattle.ghost_trees.specs.Pools.{in_order}
 use Rattle.ghost_trees.specs.Trees.{table_of}
@@ -15,7 +14,7 @@ use Rattle.plain_ghost.specs.declared.members.PlainLoad.{PlainLoad}
 use Rattle.plain_ghost.specs.declared.members.PlainGuest.{PlainGuest}
 use Rattle.plain_ghost.specs.declared.members.PlainCpu.{PlainCpu}
 use Rattle.plain_ghost.specs.declared.members.PlainRow.{PlainRow}
-use Rattle.plain_ghost.specs.Lists.{runs_said, tables_said, frames_said, rows_said, slot_said, phase_said, kind_said, cpu_said}
+use Rattle.plain_ghost.specs.Lists.{runs_said, tables_said, frames_said, rows_said, slot_listed, slot_said, guest_listed, phase_said, kind_said, cpu_listed, cpu_said}
 
 -- the lists of a state
 pub record Lists : Type 0 where
@@ -42,17 +41,13 @@ guest_said p slot g = record {
   free = in_order (frames_said p.frames (2 + slot));
 }
 
--- what the members of a list say, by their indices
-abbrev pub indexed : {A B : Type 0} → (ℕ → A → B) → List A → List B
-indexed says xs = map (λ e. says e.0 e.1) (enumerate_from 0 xs)
-
--- all contents. Pool 1 is the shared one
+-- all contents: 64 slots and guests, and pool 1, which is the shared one
 abbrev pub contents_said : Lists → Contents
 contents_said p = record {
-  vms = record { slot = λ v. get_or (indexed (slot_said p.loads) p.slots) v (no_slot 1) };
+  vms = record { slot = λ v. if nat_lt v 64 then slot_said p.loads v (slot_listed p.slots v) else no_slot 1 };
   shared = record { host = tree_said p 0; hyp = tree_said p 1; free = in_order (frames_said p.frames 1); row = row_in (rows_said p.rows) };
-  guest = λ v. get_or (indexed (guest_said p) p.guests) v no_guest;
-  cpu = λ c. get_or (map cpu_said p.cpus) c no_cpu;
+  guest = λ v. if nat_lt v 64 then guest_said p v (guest_listed p.guests v) else no_guest;
+  cpu = λ c. cpu_said (cpu_listed p.cpus c);
 }
 
 -- each log has room for a call

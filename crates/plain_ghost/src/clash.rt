@@ -1,10 +1,10 @@
 //! Members that can't be there with an earlier one.
-ghost use Rattle.std.specs.Prelude.{◌≡◌, Bool, IfSome};
+ghost use Rattle.std.specs.Prelude.{◌≡◌, ℕ, Bool, MatchOption};
 ghost use Rattle.std.specs.List.{list_any};
-ghost use Rattle.plain_ghost.specs.Clashes.{do_frames_clash, do_runs_clash, do_tables_clash, IsClash};
+ghost use Rattle.plain_ghost.specs.Clashes.{do_frames_clash, do_runs_clash, do_tables_clash, have_one_cpu, have_one_guest, have_one_slot, IsClash};
 
 use crate::layout::range_of;
-use crate::members::{PlainFrame, PlainRun, PlainTable};
+use crate::members::{PlainCpu, PlainFrame, PlainGuest, PlainRun, PlainSlot, PlainTable};
 use page_state::Page;
 
 /// What can clash with others of its list.
@@ -46,6 +46,30 @@ impl Clash for PlainFrame {
     }
 }
 
+impl Clash for PlainSlot {
+    ghost clash = { have_one_slot };
+
+    fn clashes(self, other: PlainSlot) -> bool {
+        self.slot == other.slot
+    }
+}
+
+impl Clash for PlainGuest {
+    ghost clash = { have_one_guest };
+
+    fn clashes(self, other: PlainGuest) -> bool {
+        self.slot == other.slot
+    }
+}
+
+impl Clash for PlainCpu {
+    ghost clash = { have_one_cpu };
+
+    fn clashes(self, other: PlainCpu) -> bool {
+        self.cpu == other.cpu
+    }
+}
+
 /// Whether a member clashes with one of these.
 fn clashes_with<T: Clash>(member: T, earlier: &[T]) -> bool
     ensures { result ≡ list_any (T.clash member) earlier.now }
@@ -55,7 +79,7 @@ fn clashes_with<T: Clash>(member: T, earlier: &[T]) -> bool
 
 /// The index of the first member that clashes with an earlier one.
 pub(crate) fn first_clash<T: Clash>(members: &[T]) -> Option<usize>
-    ensures { IfSome result (IsClash T.clash members.now) }
+    ensures { MatchOption result ((i : ℕ) → IsClash T.clash members.now i → ⊥) (IsClash T.clash members.now) }
 {
     for i in 0..members.len() {
         if clashes_with(members[i], &members[..i]) {

@@ -1,17 +1,20 @@
 //! A call judged by the states before and after it, and predicted.
-ghost use Rattle.std.specs.Prelude.{◌≡◌, ◌<◌, ◌↔◌, IfErr, IfOk, IfSome, None, Some};
+ghost use Rattle.std.specs.Prelude.{◌≡◌, ◌<◌, ◌↔◌, IfErr, IfOk, IfSome, None, OnOk, Some};
 ghost use Rattle.page_state.specs.LayoutView.{layout_of as layout_of_code};
 ghost use Rattle.ghost_judge.specs.Judgements.{told_of, IsFirstJudged, JudgeAgrees};
 ghost use Rattle.ghost_spec.specs.Kept.{HasNextGeneration};
 ghost use Rattle.ghost_spec.specs.States.{contents_in, ghost_state};
-ghost use Rattle.plain_ghost.specs.Judged.{IsForetold, IsJudged, IsUnjudged, IsUnjudgedAfter, IsUnmade, IsUntold};
+ghost use Rattle.plain_ghost.specs.Faults.{AreTaken};
+ghost use Rattle.plain_ghost.specs.Judged.{IsForetold, IsForetoldState, IsJudged, IsUnjudged, IsUnjudgedAfter, IsUnmade, IsUntold};
 ghost use Rattle.plain_ghost.specs.Layouts.{layout_said};
 ghost use Rattle.plain_ghost.specs.States.{contents_said, state_said};
+ghost use Rattle.plain_ghost.specs.Told.{in_pool_order, lists_owned};
 ghost use Rattle.plain_ghost.specs.Views.{lists_told};
 ghost use Rattle.plain_words.specs.Said.{reply_said};
 
 use crate::layout::{PlainLayout, PlainLayoutFault, layout_of};
 use crate::state::{PlainFault, PlainState, state_of};
+use crate::told::{PlainLists, lists_of};
 use ghost_judge::disagreement::Disagreement;
 use ghost_judge::judge::judge_last;
 use ghost_spec::state::{Ghost, has_next_generation, predict_last};
@@ -64,6 +67,7 @@ pub fn made(
     ensures state { IfOk result (λ g. ghost_state g ≡ state_said (lists_told state.now)) }
     ensures layout { IfOk result (λ g. layout_of_code g.layout ≡ layout_said layout.now layout.now.regions.now) }
     ensures cpus { IfOk result (λ g. g.layout.config.cpus ≡ layout.now.cpus) }
+    ensures taken { OnOk result (AreTaken layout.now.cpus (lists_told state.now)) }
     ensures fault { IfErr result (IsUnmade layout.now layout.now.regions.now (lists_told state.now)) }
 {
     let layout = match layout_of(alloc, layout) {
@@ -123,6 +127,7 @@ fn judged_from(
     requires generation { HasNextGeneration ((contents_in pre).cpu cpu).ticket step }
     ensures none { IfOk result (λ o. (o ≡ None) ↔ JudgeAgrees (contents_in pre) step reply (contents_said (lists_told after.now)) (told_of pre cpu step)) }
     ensures first { IfOk result (λ o. IfSome o (IsFirstJudged (contents_in pre) step reply (contents_said (lists_told after.now)) (told_of pre cpu step))) }
+    ensures taken { OnOk result (AreTaken layout.now.cpus (lists_told after.now)) }
     ensures unjudged { IfErr result (IsUnjudgedAfter layout.now layout.now.regions.now (lists_told after.now)) }
 {
     match made(alloc, layout, after) {
@@ -163,6 +168,64 @@ pub fn foretold(
             reply_to(alloc, pre, cpu, step)
         }
         Err(why) => Err(Unjudged::Before(why)),
+    }
+}
+
+/// A reply, and the state after it.
+#[derive(Drop)]
+pub struct Predicted {
+    pub reply: PlainReply,
+    pub after: PlainLists,
+}
+
+/// The reply that the model gives to a step of a CPU on a state, and the state after it.
+pub fn foretold_state(
+    alloc: Global,
+    layout: &PlainLayout<'_>,
+    before: &PlainState<'_>,
+    cpu: u64,
+    step: PlainStep,
+) -> Result<Predicted, Unjudged>
+    ensures told { IfOk result (λ f. IsForetoldState layout.now layout.now.regions.now (lists_told before.now) cpu step f.reply (lists_owned f.after)) }
+    ensures untold { IfErr result (IsUntold layout.now layout.now.regions.now (lists_told before.now) cpu step) }
+{
+    let Some(step) = step_of(step) else {
+        return Err(Unjudged::Step);
+    };
+    if cpu >= layout.cpus {
+        return Err(Unjudged::Cpu);
+    }
+    match made(alloc, layout, before) {
+        Ok(pre) => {
+            if !has_next_generation(&pre, cpu, step) {
+                drop(pre);
+                return Err(Unjudged::Generation);
+            }
+            state_after(alloc, pre, cpu, step)
+        }
+        Err(why) => Err(Unjudged::Before(why)),
+    }
+}
+
+/// The reply to a step on a state, and the state after it, in numbers.
+fn state_after(alloc: Global, pre: Ghost, cpu: u64, step: Step) -> Result<Predicted, Unjudged>
+    requires cpu { cpu < pre.layout.config.cpus }
+    requires generation { HasNextGeneration ((contents_in pre).cpu cpu).ticket step }
+    ensures reply { IfOk result (λ f. reply_said f.reply ≡ Some (told_of pre cpu step).0) }
+    ensures after { IfOk result (λ f. contents_said (lists_owned f.after) ≡ in_pool_order (told_of pre cpu step).1.contents) }
+    ensures untold { IfErr result (λ why. why ≡ Unjudged.NoMemory) }
+{
+    let Ok((reply, after)) = predict_last(alloc, pre, cpu, step) else {
+        return Err(Unjudged::NoMemory);
+    };
+    let lists = lists_of(alloc, &after);
+    drop(after);
+    match lists {
+        Ok(after) => Ok(Predicted {
+            reply: reply_told(reply),
+            after,
+        }),
+        Err(_) => Err(Unjudged::NoMemory),
     }
 }
 

@@ -10,6 +10,12 @@ use plain_words::{row_of, target_of};
 /// The trees: the host's, the hypervisor's and those of 64 guests.
 const TREES: u64 = 66;
 
+/// The slots of the table of VMs.
+const SLOTS: u64 = 64;
+
+/// The most vCPUs of a VM.
+const VCPUS: u64 = 8;
+
 /// What can have numbers that aren't known.
 pub(crate) trait Known: Copy {
     ghost known: { Self → Bool };
@@ -47,7 +53,7 @@ impl Known for PlainSlot {
     ghost known = { is_slot };
 
     fn is_known(self) -> bool {
-        self.stand < 4 && self.kind < 2
+        self.slot < SLOTS && self.stand < 4 && self.kind < 2
     }
 }
 
@@ -55,7 +61,7 @@ impl Known for PlainLoad {
     ghost known = { is_load };
 
     fn is_known(self) -> bool {
-        self.slot < 64 && self.vcpu < 8
+        self.slot < SLOTS && self.vcpu < VCPUS
     }
 }
 
@@ -63,15 +69,7 @@ impl Known for PlainGuest {
     ghost known = { is_guest };
 
     fn is_known(self) -> bool {
-        self.phase < 3 && self.kind < 2
-    }
-}
-
-impl Known for PlainCpu {
-    ghost known = { is_cpu };
-
-    fn is_known(self) -> bool {
-        self.has_ticket == 0 || self.ticket_kind < 2 && self.ticket_stage < 5
+        self.slot < SLOTS && self.phase < 3 && self.kind < 2
     }
 }
 
@@ -88,4 +86,20 @@ pub(crate) fn first_unknown<T: Known>(members: &[T]) -> Option<usize>
     ensures { result ≡ position (λ x. not (T.known x)) members.now }
 {
     members.iter().position(|member| !member.is_known())
+}
+
+/// Whether a CPU is one of so many, and all its numbers are known.
+fn is_known_cpu(count: u64, cpu: PlainCpu) -> bool
+    ensures { result ≡ is_cpu count cpu }
+{
+    cpu.cpu < count
+        && (cpu.has_vcpu == 0 || cpu.vcpu < VCPUS)
+        && (cpu.has_ticket == 0 || cpu.ticket_kind < 2 && cpu.ticket_stage < 5)
+}
+
+/// The index of the first CPU that isn't one of so many, or has a number that isn't known.
+pub(crate) fn first_unknown_cpu(cpus: &[PlainCpu], count: u64) -> Option<usize>
+    ensures { result ≡ position (λ k. not (is_cpu count k)) cpus.now }
+{
+    cpus.iter().position(|cpu| !is_known_cpu(count, *cpu))
 }

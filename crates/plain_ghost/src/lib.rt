@@ -10,11 +10,13 @@ mod lists;
 mod members;
 mod state;
 mod text;
+mod told;
 
-pub use judge::{PlainCall, Unjudged, Unmade, foretold, judged, made};
+pub use judge::{PlainCall, Predicted, Unjudged, Unmade, foretold, foretold_state, judged, made};
 pub use layout::{PlainLayout, PlainLayoutFault, PlainRegion, layout_of};
 pub use members::{
     PlainCpu, PlainFrame, PlainGuest, PlainLoad, PlainRow, PlainRun, PlainSlot, PlainTable,
 };
 pub use state::{PlainFault, PlainList, PlainState, state_of};
 pub use text::write_judgement;
+pub use told::{PlainLists, lists_of};

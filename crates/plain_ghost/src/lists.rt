@@ -1,11 +1,15 @@
 //! The lists of a state: what the members of a tree, a pool, a slot or a CPU say.
-ghost use Rattle.std.specs.Prelude.{◌≡◌, ℕ, IfOk, map, get_or, nat_lt, None, if◌then◌else◌};
+ghost use Rattle.std.specs.Prelude.{◌≡◌, ◌==◌, ℕ, IfOk, find, map, get_or, nat_lt, None, if◌then◌else◌};
+ghost use Rattle.std.specs.List.{range_with_len};
 ghost use Rattle.ghost_spec.specs.States.{phase_in, slot_in, stand_in};
 ghost use Rattle.ghost_spec.specs.Views.{cpu_in};
+ghost use Rattle.plain_ghost.specs.Filled.{slot_filled};
 ghost use Rattle.plain_ghost.specs.Lists.{
+  cpu_listed,
   cpu_said,
   frame_said,
   frames_said,
+  guest_listed,
   hand_said,
   is_load,
   kind_said,
@@ -16,7 +20,7 @@ ghost use Rattle.plain_ghost.specs.Lists.{
   rows_said,
   run_said,
   runs_said,
-  slot_said,
+  slot_listed,
   stage_said,
   stand_said,
   table_said,
@@ -25,7 +29,9 @@ ghost use Rattle.plain_ghost.specs.Lists.{
 };
 
 use crate::layout::range_of;
-use crate::members::{PlainCpu, PlainFrame, PlainLoad, PlainRow, PlainRun, PlainSlot, PlainTable};
+use crate::members::{
+    PlainCpu, PlainFrame, PlainGuest, PlainLoad, PlainRow, PlainRun, PlainSlot, PlainTable,
+};
 use ghost_spec::cpu::GhostCpu;
 use ghost_spec::parts::{GhostPhase, GhostSlot, GhostStand};
 use ghost_trees::tree::Table;
@@ -207,6 +213,45 @@ fn loaders_of(alloc: Global, loads: &[PlainLoad], slot: u64) -> Result<Vec<Optio
     Ok(loaders)
 }
 
+/// The first slot of a number.
+fn found_slot(slots: &[PlainSlot], number: u64) -> Option<PlainSlot>
+    ensures { result ≡ find (λ x. x.slot == number) slots.now }
+{
+    slots.iter().copied().find(|slot| slot.slot == number)
+}
+
+/// The slot of a number, or one as at boot.
+pub(crate) fn listed_slot(slots: &[PlainSlot], number: u64) -> PlainSlot
+    ensures { result ≡ slot_listed slots.now number }
+{
+    found_slot(slots, number).unwrap_or(PlainSlot {
+        slot: 0,
+        stand: 0,
+        generation: 1,
+        kind: 0,
+        vcpus: 0,
+    })
+}
+
+/// The first guest of a slot.
+fn found_guest(guests: &[PlainGuest], slot: u64) -> Option<PlainGuest>
+    ensures { result ≡ find (λ x. x.slot == slot) guests.now }
+{
+    guests.iter().copied().find(|guest| guest.slot == slot)
+}
+
+/// The guest of a slot, or an empty one.
+pub(crate) fn listed_guest(guests: &[PlainGuest], slot: u64) -> PlainGuest
+    ensures { result ≡ guest_listed guests.now slot }
+{
+    found_guest(guests, slot).unwrap_or(PlainGuest {
+        slot: 0,
+        phase: 0,
+        generation: 0,
+        kind: 0,
+    })
+}
+
 /// A slot of the table of VMs.
 pub(crate) fn slot_of(
     alloc: Global,
@@ -214,7 +259,7 @@ pub(crate) fn slot_of(
     number: u64,
     slot: PlainSlot,
 ) -> Result<GhostSlot, AllocError>
-    ensures { IfOk result (λ s. slot_in s ≡ slot_said loads.now number slot) }
+    ensures { IfOk result (λ s. slot_in s ≡ slot_filled loads.now number slot) }
 {
     Ok(GhostSlot {
         stand: stand_of(slot.stand),
@@ -280,13 +325,45 @@ fn cpu_of(cpu: PlainCpu) -> GhostCpu
     }
 }
 
-/// The CPUs' own states.
-pub(crate) fn cpus_of(alloc: Global, cpus: &[PlainCpu]) -> Result<Vec<GhostCpu>, AllocError>
-    ensures { IfOk result (λ v. map cpu_in v.items ≡ map cpu_said cpus.now) }
+/// The first CPU of a number.
+fn found_cpu(cpus: &[PlainCpu], number: u64) -> Option<PlainCpu>
+    ensures { result ≡ find (λ x. x.cpu == number) cpus.now }
 {
-    let mut made = Vec::with_capacity(alloc, cpus.len())?;
-    for i in 0..cpus.len() {
-        made.push(cpu_of(cpus[i]))?;
+    cpus.iter().copied().find(|cpu| cpu.cpu == number)
+}
+
+/// The CPU of a number, or one with nothing.
+fn listed_cpu(cpus: &[PlainCpu], number: u64) -> PlainCpu
+    ensures { result ≡ cpu_listed cpus.now number }
+{
+    found_cpu(cpus, number).unwrap_or(PlainCpu {
+        cpu: 0,
+        has_vcpu: 0,
+        vcpu_slot: 0,
+        vcpu_generation: 0,
+        vcpu: 0,
+        has_hand: 0,
+        hand_first: 0,
+        hand_count: 0,
+        has_ticket: 0,
+        ticket_slot: 0,
+        ticket_generation: 0,
+        ticket_kind: 0,
+        ticket_stage: 0,
+    })
+}
+
+/// The own states of so many CPUs.
+pub(crate) fn cpus_of(
+    alloc: Global,
+    cpus: &[PlainCpu],
+    count: u64,
+) -> Result<Vec<GhostCpu>, AllocError>
+    ensures { IfOk result (λ v. map cpu_in v.items ≡ map (λ c. cpu_said (cpu_listed cpus.now c)) (range_with_len 0 count)) }
+{
+    let mut made = Vec::new(alloc);
+    for number in 0..count {
+        made.push(cpu_of(listed_cpu(cpus, number)))?;
     }
     Ok(made)
 }

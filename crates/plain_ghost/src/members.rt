@@ -42,6 +42,8 @@ pub struct PlainFrame {
 #[repr(C)]
 #[derive(Clone, Copy, PartialEq)]
 pub struct PlainSlot {
+    /// Its number, 0 to 63.
+    pub slot: u64,
     /// 0 vacant, 1 reserved, 2 open, 3 closing.
     pub stand: u64,
     /// 1 at boot, one more each time the slot is released.
@@ -66,6 +68,8 @@ pub struct PlainLoad {
 #[repr(C)]
 #[derive(Clone, Copy, PartialEq)]
 pub struct PlainGuest {
+    /// Its slot, 0 to 63.
+    pub slot: u64,
     /// 0 empty, 1 live, 2 dying.
     pub phase: u64,
     /// That of its VM; 0 for an empty guest.
@@ -78,9 +82,11 @@ pub struct PlainGuest {
 #[repr(C)]
 #[derive(Clone, Copy, PartialEq)]
 pub struct PlainCpu {
+    /// Its number, below the layout's number of CPUs.
+    pub cpu: u64,
     /// Not 0 where the CPU has a vCPU loaded.
     pub has_vcpu: u64,
-    /// Where it has: the vCPU's VM, and its number there.
+    /// Where it has: the vCPU's VM, and its number there, 0 to 7.
     pub vcpu_slot: u64,
     pub vcpu_generation: u64,
     pub vcpu: u64,

@@ -1,21 +1,23 @@
 //! States.
-ghost use Rattle.std.specs.Prelude.{◌≡◌, ◌⊎◌, ◌<◌, ◌^◌, IfErr, IfOk, None, Ok, OnOk, length, map};
+ghost use Rattle.std.specs.Prelude.{◌≡◌, ◌⊎◌, ◌<◌, ◌^◌, IfErr, IfOk, MatchOption, None, Ok, OnOk, length, map};
+ghost use Rattle.std.specs.List.{range_with_len};
 ghost use Rattle.page_state.specs.LayoutView.{layout_of};
 ghost use Rattle.page_state.specs.Rows.{advance_row};
 ghost use Rattle.run_list.specs.Runs.{run_map};
 ghost use Rattle.ghost_spec.specs.declared.lists.GhostLists.{GhostLists};
 ghost use Rattle.ghost_spec.specs.Filled.{state_filled, AreLowRows, AreRowsApart, IsFirstFault, IsFirstRowFault};
 ghost use Rattle.ghost_spec.specs.States.{ghost_state, slot_in};
-ghost use Rattle.plain_ghost.specs.Filled.{IsFilled, IsFilledShared, IsFilledTree, IsRoomy, guest_lists_said, lists_in};
-ghost use Rattle.plain_ghost.specs.Faults.{first_unknown_later, first_unknown_of, IsCulprit, IsListsFault, IsPlainFault};
-ghost use Rattle.plain_ghost.specs.Lists.{rows_said, slot_said};
-ghost use Rattle.plain_ghost.specs.States.{indexed, state_said};
+ghost use Rattle.plain_ghost.specs.Filled.{IsFilled, IsFilledShared, IsFilledTree, IsRoomy, guest_lists_said, lists_in, slot_filled};
+ghost use Rattle.plain_ghost.specs.Faults.{first_unknown_later, first_unknown_of, AreOnce, AreTaken, IsCulprit, IsListsFault, IsPlainFault, IsTwice};
+ghost use Rattle.plain_ghost.specs.Lists.{guest_listed, rows_said, slot_listed};
+ghost use Rattle.plain_ghost.specs.States.{state_said};
 ghost use Rattle.plain_ghost.specs.Views.{lists_told};
 
 use crate::clash::first_clash;
-use crate::known::first_unknown;
+use crate::known::{first_unknown, first_unknown_cpu};
 use crate::lists::{
-    cpus_of, frames_of, kind_of, phase_of, row_runs_of, runs_of, slot_of, tables_of,
+    cpus_of, frames_of, kind_of, listed_guest, listed_slot, phase_of, row_runs_of, runs_of,
+    slot_of, tables_of,
 };
 use crate::members::{
     PlainCpu, PlainFrame, PlainGuest, PlainLoad, PlainRow, PlainRun, PlainSlot, PlainTable,
@@ -31,8 +33,7 @@ use page_state::{Layout, Row};
 use run_list::RunList;
 use std::alloc::{AllocError, Global};
 
-/// A state, as lists whose members have any order, but for slots and guests, which have that of their slots, and CPUs, which
-/// have that of their numbers.
+/// A state, as lists whose members have any order.
 #[repr(C)]
 #[derive(Clone, Copy)]
 pub struct PlainState<'a> {
@@ -42,24 +43,24 @@ pub struct PlainState<'a> {
     pub tables: &'a [PlainTable],
     /// The free frames of all pools.
     pub frames: &'a [PlainFrame],
-    /// The 64 slots of the table of VMs.
+    /// Slots of the table of VMs, each once. The others are as at boot: vacant, of generation 1, plain, and without vCPUs.
     pub slots: &'a [PlainSlot],
     /// The vCPUs that are loaded.
     pub loads: &'a [PlainLoad],
-    /// The 64 guests.
+    /// Guests, each once. The others are empty.
     pub guests: &'a [PlainGuest],
-    /// The CPUs of the layout.
+    /// CPUs, each once. The others have nothing loaded, no hand and no ticket.
     pub cpus: &'a [PlainCpu],
     /// The owner rows. A frame that is in no run is the host's, lent to nobody, and in no use.
     pub rows: &'a [PlainRow],
 }
 
 /// The trees of the host and of the hypervisor, whose numbers the guests' come after.
-const HOST: u64 = 0;
+pub(crate) const HOST: u64 = 0;
 
-const HYP: u64 = 1;
+pub(crate) const HYP: u64 = 1;
 
-const GUESTS: u64 = 2;
+pub(crate) const GUESTS: u64 = 2;
 
 /// The tree of a number.
 fn tree_of(alloc: Global, state: &PlainState<'_>, number: u64) -> Result<Tree, AllocError>
@@ -90,17 +91,20 @@ fn guest_of(
     })
 }
 
+/// The slots of the table of VMs, and as many guests.
+const SLOTS: u64 = 64;
+
 /// The slots of the table of VMs.
 fn slots_of(
     alloc: Global,
     loads: &[PlainLoad],
     slots: &[PlainSlot],
 ) -> Result<Vec<GhostSlot>, AllocError>
-    ensures { IfOk result (λ v. map slot_in v.items ≡ indexed (slot_said loads.now) slots.now) }
+    ensures { IfOk result (λ v. map slot_in v.items ≡ map (λ n. slot_filled loads.now n (slot_listed slots.now n)) (range_with_len 0 64)) }
 {
     let mut made = Vec::new(alloc);
-    for i in 0..slots.len() {
-        let slot = slot_of(alloc, loads, i as u64, slots[i])?;
+    for number in 0..SLOTS {
+        let slot = slot_of(alloc, loads, number, listed_slot(slots, number))?;
         made.push(slot)?;
     }
     Ok(made)
@@ -108,11 +112,11 @@ fn slots_of(
 
 /// The guests.
 fn guests_of(alloc: Global, state: &PlainState<'_>) -> Result<Vec<GhostGuest>, AllocError>
-    ensures { IfOk result (λ v. map lists_in v.items ≡ indexed (guest_lists_said (lists_told state.now)) state.now.guests.now) }
+    ensures { IfOk result (λ v. map lists_in v.items ≡ map (λ n. guest_lists_said (lists_told state.now) n (guest_listed state.now.guests.now n)) (range_with_len 0 64)) }
 {
     let mut made = Vec::new(alloc);
-    for i in 0..state.guests.len() {
-        let guest = guest_of(alloc, state, i as u64, state.guests[i])?;
+    for slot in 0..SLOTS {
+        let guest = guest_of(alloc, state, slot, listed_guest(state.guests, slot))?;
         made.push(guest)?;
     }
     Ok(made)
@@ -139,7 +143,7 @@ fn shared_of(
 }
 
 /// The number of the shared pool.
-const SHARED_POOL: u64 = 1;
+pub(crate) const SHARED_POOL: u64 = 1;
 
 /// Logs with room for one call each.
 fn rooms_of(alloc: Global, cpus: u64) -> Result<GhostRooms, AllocError>
@@ -164,13 +168,13 @@ fn filled(
 ) -> Result<GhostLists, AllocError>
     requires rows { run_map advance_row rows.runs ≡ run_map advance_row (rows_said state.now.rows.now) }
     requires log { layout.config.log ≡ 1 }
-    ensures filled { IfOk result (IsFilled (lists_told state.now)) }
+    ensures filled { IfOk result (IsFilled layout.config.cpus (lists_told state.now)) }
     ensures layout { IfOk result (λ l. l.layout ≡ layout) }
     ensures guest_rooms { IfOk result (λ l. length l.rooms.guests.items ≡ 64) }
     ensures cpu_rooms { IfOk result (λ l. length l.rooms.cpus.items ≡ layout.config.cpus) }
 {
+    let cpus = cpus_of(alloc, state.cpus, layout.config.cpus);
     let rooms = rooms_of(alloc, layout.config.cpus);
-    let cpus = cpus_of(alloc, state.cpus);
     let vms = slots_of(alloc, state.loads, state.slots);
     let guests = guests_of(alloc, state);
     let shared = shared_of(alloc, state, rows);
@@ -189,7 +193,7 @@ fn filled(
 }
 
 /// Both values, where neither was refused.
-fn both<A: Drop, B: Drop>(
+pub(crate) fn both<A: Drop, B: Drop>(
     first: Result<A, AllocError>,
     second: Result<B, AllocError>,
 ) -> Result<(A, B), AllocError>
@@ -215,12 +219,14 @@ pub enum PlainList {
 /// Why lists make no state. The first that is true is answered, in the order of the variants.
 #[derive(Clone, Copy, PartialEq)]
 pub enum PlainFault {
-    /// The member of that list at this index has a number that stands for nothing: a tree, a pool, a slot or a vCPU that
+    /// The member of that list at this index has a number that stands for nothing: a tree, a pool, a slot, a CPU or a vCPU that
     /// can't be, or an unknown variant.
     Unknown(PlainList, usize),
     /// Two runs of owner rows share a frame (Overlap), or a frame or a lent page is too large (TooLarge).
     Rows(GhostFault),
-    /// What the lists of a state may be; not NoMemory. Of two runs, tables or frames that can't be there both, the list and the
+    /// Two slots, guests or CPUs have one number: the list, and the index of the later one.
+    Twice(PlainList, usize),
+    /// What the lists of a state may be; not WrongCount nor NoMemory. Of two runs, tables or frames that can't be there both, the list and the
     /// index of the later one.
     Lists(GhostFault, Option<(PlainList, usize)>),
     /// Memory was refused.
@@ -228,8 +234,8 @@ pub enum PlainFault {
 }
 
 /// The first member with a number that stands for nothing, in the order of the lists.
-fn unknown(state: &PlainState<'_>) -> Option<(PlainList, usize)>
-    ensures { result ≡ first_unknown_of (lists_told state.now) }
+fn unknown(state: &PlainState<'_>, cpus: u64) -> Option<(PlainList, usize)>
+    ensures { result ≡ first_unknown_of cpus (lists_told state.now) }
 {
     if let Some(at) = first_unknown(state.runs) {
         return Some((PlainList::Runs, at));
@@ -243,12 +249,12 @@ fn unknown(state: &PlainState<'_>) -> Option<(PlainList, usize)>
     if let Some(at) = first_unknown(state.slots) {
         return Some((PlainList::Slots, at));
     }
-    unknown_later(state)
+    unknown_later(state, cpus)
 }
 
 /// From the loads on.
-fn unknown_later(state: &PlainState<'_>) -> Option<(PlainList, usize)>
-    ensures { result ≡ first_unknown_later (lists_told state.now) }
+fn unknown_later(state: &PlainState<'_>, cpus: u64) -> Option<(PlainList, usize)>
+    ensures { result ≡ first_unknown_later cpus (lists_told state.now) }
 {
     if let Some(at) = first_unknown(state.loads) {
         return Some((PlainList::Loads, at));
@@ -256,11 +262,27 @@ fn unknown_later(state: &PlainState<'_>) -> Option<(PlainList, usize)>
     if let Some(at) = first_unknown(state.guests) {
         return Some((PlainList::Guests, at));
     }
-    if let Some(at) = first_unknown(state.cpus) {
+    if let Some(at) = first_unknown_cpu(state.cpus, cpus) {
         return Some((PlainList::Cpus, at));
     }
     if let Some(at) = first_unknown(state.rows) {
         return Some((PlainList::Rows, at));
+    }
+    None
+}
+
+/// The first of two slots, guests or CPUs that have one number, in the order of the lists: the later one.
+fn twice(state: &PlainState<'_>) -> Option<(PlainList, usize)>
+    ensures { MatchOption result (AreOnce (lists_told state.now)) (λ t. IsTwice (lists_told state.now) t.0 t.1) }
+{
+    if let Some(at) = first_clash(state.slots) {
+        return Some((PlainList::Slots, at));
+    }
+    if let Some(at) = first_clash(state.guests) {
+        return Some((PlainList::Guests, at));
+    }
+    if let Some(at) = first_clash(state.cpus) {
+        return Some((PlainList::Cpus, at));
     }
     None
 }
@@ -327,7 +349,8 @@ fn with_rows(
 ) -> Result<Ghost, PlainFault>
     requires rows { run_map advance_row rows.runs ≡ run_map advance_row (rows_said state.now.rows.now) }
     requires log { layout.config.log ≡ 1 }
-    requires known { first_unknown_of (lists_told state.now) ≡ None }
+    requires known { first_unknown_of layout.config.cpus (lists_told state.now) ≡ None }
+    requires once { AreOnce (lists_told state.now) }
     ensures state { IfOk result (λ g. ghost_state g ≡ state_said (lists_told state.now)) }
     ensures layout { IfOk result (λ g. layout_of g.layout ≡ layout_of layout) }
     ensures fault { IfErr result (IsPlainFault layout.config.cpus (lists_told state.now)) }
@@ -348,14 +371,20 @@ pub fn state_of(alloc: Global, layout: Layout, state: &PlainState<'_>) -> Result
     requires { layout.config.log ≡ 1 }
     ensures state { IfOk result (λ g. ghost_state g ≡ state_said (lists_told state.now)) }
     ensures layout { IfOk result (λ g. layout_of g.layout ≡ layout_of layout) }
-    ensures known { OnOk result (first_unknown_of (lists_told state.now) ≡ None) }
+    ensures taken { OnOk result (AreTaken layout.config.cpus (lists_told state.now)) }
     ensures fault { IfErr result (IsPlainFault layout.config.cpus (lists_told state.now)) }
 {
-    if let Some((list, at)) = unknown(state) {
+    if let Some((list, at)) = unknown(state, layout.config.cpus) {
         return Err(PlainFault::Unknown(list, at));
     }
     match rows_from(alloc, state.rows) {
-        Ok(rows) => with_rows(alloc, layout, state, rows),
+        Ok(rows) => {
+            if let Some((list, at)) = twice(state) {
+                drop(rows);
+                return Err(PlainFault::Twice(list, at));
+            }
+            with_rows(alloc, layout, state, rows)
+        }
         Err(GhostFault::NoMemory) => Err(PlainFault::NoMemory),
         Err(fault) => Err(PlainFault::Rows(fault)),
     }

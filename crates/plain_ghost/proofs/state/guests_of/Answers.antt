@@ -1,8 +1,10 @@
 use Rattle.std.proofs.Common.{ap, map, ◌∙◌}
 use Rattle.plain_ghost.specs.Filled.{guest_lists_said, lists_in}
+use Rattle.plain_ghost.specs.Lists.{guest_listed}
 use Rattle.plain_ghost.specs.Views.{lists_told}
-use Rattle.plain_ghost.proofs.OneMore.{indexed_more}
+use Rattle.plain_ghost.proofs.OneMore.{numbered_more}
 use Rattle.plain_ghost.proofs.state.guests_of.Goals as goal
 
-pub loop-i-preserved : goal.loop-i-preserved
-loop-i-preserved c = ap (map lists_in) c.in_ok-push.ensures.items ∙ indexed_more lists_in (guest_lists_said (lists_told c.args.state.now)) c.args.state.now.guests.now c.loop-i.made.items c.loop-i.i _ c.in_ok-guest.guest c.loop-i-test.true c.loop-i.invariant c.in_ok-guest.ensures
+pub loop-slot-preserved : goal.loop-slot-preserved
+loop-slot-preserved c = ap (map lists_in) c.in_ok-push.ensures.items ∙ numbered_more lists_in (λ n. guest_lists_said (lists_told c.args.state.now) n (guest_listed c.args.state.now.guests.now n)) c.loop-slot.made.items c.loop-slot.slot c.in_ok-guest.guest c.loop-slot.invariant
+    (c.in_ok-guest.ensures ∙ ap (guest_lists_said (lists_told c.args.state.now) c.loop-slot.slot) c.listed_guest.ensures)

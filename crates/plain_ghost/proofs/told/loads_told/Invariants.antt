@@ -1,0 +1,7 @@
+use Rattle.std.proofs.Common.{◌≡◌, ℕ, [], None, get_or, map, take}
+use Rattle.ghost_spec.specs.declared.parts.GhostSlot.{GhostSlot}
+use Rattle.plain_ghost.specs.Lists.{loader_said}
+use Rattle.plain_ghost.proofs.told.loads_told.Given as goal
+
+abbrev pub invariant-loop-i : goal.invariant-loop-i
+invariant-loop-i l = (s k : ℕ) → loader_said l.told.items s k ≡ get_or (get_or (map (λ (x : GhostSlot). x.loaded.items) (take l.i l.slots)) s []) k None

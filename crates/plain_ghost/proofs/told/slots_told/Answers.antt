@@ -1,0 +1,13 @@
+use Rattle.std.proofs.Common.{◌≡◌, ap, get_or, map, rules, sym, ◌∙◌}
+use Rattle.plain_ghost.specs.declared.members.PlainSlot.{PlainSlot}
+use Rattle.plain_ghost.specs.Told.{slot_head_in, slot_head_said}
+use Rattle.plain_ghost.proofs.OneMore.{numbered_more, seen_more}
+use Rattle.plain_ghost.proofs.told.slots_told.Goals as goal
+
+pub loop-i-preserved : goal.loop-i-preserved
+loop-i-preserved c =
+    let here : get_or c.args.slots.now c.loop-i.i c.index-slots-i.result ≡ c.index-slots-i.result = search rules in (
+      ap (map (λ (x : PlainSlot). x.slot)) c.in_ok-push.ensures.items ∙ numbered_more (λ (x : PlainSlot). x.slot) (λ n. n) c.loop-i.told.items c.loop-i.i c.slot_told.result c.loop-i.invariant.0 c.slot_told.ensures.number,
+      ap (map slot_head_said) c.in_ok-push.ensures.items
+          ∙ seen_more slot_head_said slot_head_in c.args.slots.now c.loop-i.told.items c.loop-i.i c.index-slots-i.result c.slot_told.result c.loop-i-test.true c.loop-i.invariant.1 (c.slot_told.ensures.head ∙ ap slot_head_in (sym here)),
+    )

@@ -1,0 +1,11 @@
+use Rattle.std.proofs.Common.{None, ap, sym, ◌∙◌}
+use Rattle.std.specs.Prelude.{◌==◌, ◌&&◌, if◌then◌else◌}
+use Rattle.std.specs.Option.{option_or}
+use Rattle.plain_ghost.specs.Lists.{loader_said}
+use Rattle.plain_ghost.proofs.Telling.{load_more}
+use Rattle.plain_ghost.proofs.told.tell_load.Goals as goal
+
+pub returns-in_ok-push : goal.returns-in_ok-push
+returns-in_ok-push c = λ s k.
+    ap (λ xs. loader_said xs s k) c.in_ok-push.ensures.items ∙ (load_more c.args.told.now.items (record { slot = c.args.slot; vcpu = c.args.vcpu; cpu = c.in-Some.cpu }) s k
+    ∙ ap (λ o. option_or (loader_said c.args.told.now.items s k) (if c.args.slot == s && c.args.vcpu == k then o else None)) (sym c.in-Some.is))

@@ -1,0 +1,7 @@
+use Rattle.std.proofs.Common.{◌≡◌, ℕ, [], ◌++◌, take}
+use Rattle.std.specs.Prelude.{◌==◌, if◌then◌else◌}
+use Rattle.plain_ghost.specs.Lists.{runs_said}
+use Rattle.plain_ghost.proofs.told.tell_runs.Given as goal
+
+abbrev pub invariant-loop-i : goal.invariant-loop-i
+invariant-loop-i l = (t : ℕ) → runs_said l.told.items t ≡ runs_said l.fn.told.items t ++ (if l.tree == t then take l.i l.runs else [])
