@@ -1,0 +1,4 @@
+pub mod ByFrames
+pub mod Given
+pub mod Laid
+pub mod Reached

@@ -1,0 +1,4 @@
+pub mod Audited
+pub mod Found
+pub mod Tables
+pub mod Texts

@@ -1,0 +1,23 @@
+//! A finding as text.
+ghost use Rattle.std.specs.Prelude.{◌≡◌, ◌<◌, ◌≤◌, IfOk, OnErr, drop, length, take};
+ghost use Rattle.table_audit.specs.Texts.{text_of_finding};
+
+use crate::finding::Finding;
+use std::alloc::{AllocError, Global};
+
+/// Writes a finding into the front of `text`, where that has room for all of it, and tells how many bytes it has.
+pub fn write_finding(alloc: Global, finding: Finding, text: &mut [u8]) -> Result<usize, AllocError>
+    ensures count { IfOk result (λ n. n ≡ length (text_of_finding finding)) }
+    ensures written { IfOk result (λ n. n ≤ length text.old → take n text.new ≡ text_of_finding finding) }
+    ensures behind { IfOk result (λ n. n ≤ length text.old → drop n text.new ≡ drop n text.old) }
+    ensures no_room { IfOk result (λ n. length text.old < n → text.new ≡ text.old) }
+    ensures err { OnErr result (text.new ≡ text.old) }
+{
+    let told = format!(in alloc; "{finding}")?;
+    let bytes = told.as_bytes();
+    let count = bytes.len();
+    if count <= text.len() {
+        text[..count].copy_from_slice(bytes);
+    }
+    Ok(count)
+}
