@@ -19,7 +19,7 @@ extern "C" {
 #endif
 
 /* The version of this header; pkvm_version() tells that of the library. The upper 32 bits change where a program has to. */
-#define PKVM_VERSION 0x100000000ull
+#define PKVM_VERSION 0x200000000ull
 uint64_t pkvm_version(void);
 
 /* --- Words of tables (4 KiB granule, Arm DDI 0487 D8.3, narrowed to the profile) --- */
@@ -48,10 +48,11 @@ enum {
     PKVM_BAD_REPLY = -6,  /* a number of the reply stands for nothing */
     PKVM_BAD_CPU = -7,    /* the layout hasn't the CPU */
     PKVM_BAD_LAYOUT = -8, /* the layout is refused: why, in `refused` */
-    PKVM_BAD_BEFORE = -9, /* the state before the call is refused: why, in `refused` */
+    PKVM_BAD_BEFORE = -9, /* the state before the call, or the kept one, is refused: why, in `refused` */
     PKVM_BAD_AFTER = -10, /* the state after it is */
     PKVM_LAST_GENERATION = -11, /* the call releases a slot whose generation is the greatest number */
-    PKVM_NO_MEMORY = -12  /* memory was refused */
+    PKVM_NO_MEMORY = -12, /* memory was refused */
+    PKVM_BAD_TABLES = -13 /* pages of tables and their roots make no trees: why, in `refused` */
 };
 
 /* What a word of a table of a level says. 0; or PKVM_NO_LEVEL, and `out` stays. */
@@ -108,9 +109,9 @@ enum { PKVM_VACANT = 0, PKVM_RESERVED = 1, PKVM_OPEN = 2, PKVM_CLOSING = 3 }; /*
 enum { PKVM_PLAIN = 0, PKVM_PROTECTED = 1 };                                /* kind */
 enum { PKVM_EMPTY = 0, PKVM_LIVE = 1, PKVM_DYING = 2 };                     /* phase */
 
-/* A slot of the table of VMs. At boot it is { PKVM_VACANT, 1, PKVM_PLAIN, 0 }. */
+/* A slot of the table of VMs, 0 to 63. At boot it is { slot, PKVM_VACANT, 1, PKVM_PLAIN, 0 }, and so is one that isn't listed. */
 struct pkvm_slot {
-    uint64_t stand, generation, kind, vcpus;
+    uint64_t slot, stand, generation, kind, vcpus;
 };
 
 /* A vCPU, 0 to 7, that a CPU has loaded, as the table of VMs has it. */
@@ -118,16 +119,18 @@ struct pkvm_load {
     uint64_t slot, vcpu, cpu;
 };
 
-/* What a guest has beside its tree and its pool. An empty one is all 0. */
+/* What the guest of a slot has beside its tree and its pool. An empty one is all 0 but for its slot, and so is one that isn't
+ * listed. */
 struct pkvm_guest {
-    uint64_t phase, generation, kind;
+    uint64_t slot, phase, generation, kind;
 };
 
 enum { PKVM_BOOKED = 0, PKVM_INSTALLED = 1, PKVM_CLOSING_VM = 2, PKVM_DYING_VM = 3, PKVM_FINISHED = 4 }; /* ticket_stage */
 
-/* A CPU's own state: a loaded vCPU, frames in its hand that it funded for a guest, and the VM that it is making or ending. Each
- * is there where its `has` isn't 0. */
+/* A CPU's own state: a loaded vCPU, 0 to 7, frames in its hand that it funded for a guest, and the VM that it is making or ending.
+ * Each is there where its `has` isn't 0. A CPU that isn't listed has none of them. */
 struct pkvm_cpu {
+    uint64_t cpu; /* below the layout's number */
     uint64_t has_vcpu, vcpu_slot, vcpu_generation, vcpu;
     uint64_t has_hand, hand_first, hand_count;
     uint64_t has_ticket, ticket_slot, ticket_generation, ticket_kind, ticket_stage;
@@ -149,8 +152,7 @@ struct pkvm_row {
     struct pkvm_owner owner;
 };
 
-/* A state. Slots and guests are 64, in the order of their slots, and CPUs are those of the layout, in order; the members of all
- * other lists may have any order. */
+/* A state. The members of its lists may have any order; no slot, guest or CPU is there twice. */
 struct pkvm_state {
     const struct pkvm_run *runs;
     size_t runs_len;
@@ -182,14 +184,22 @@ enum {
     PKVM_FAULT_UNKNOWN = 7,        /* the member `index` of `list` has a number that stands for nothing, or can't be */
     PKVM_FAULT_ROWS_LARGE = 8,     /* a frame of the rows or a lent page is over 2^63 */
     PKVM_FAULT_ROWS_SHARE = 9,     /* two runs of rows share a frame */
-    PKVM_FAULT_COUNT = 10,         /* not 64 slots, 64 guests, and the layout's CPUs */
+    PKVM_FAULT_TWICE = 10,         /* two slots, guests or CPUs have one number */
     PKVM_FAULT_LARGE = 11,         /* a page, a frame or a slot is so large that a sum could pass 64 bits */
     PKVM_FAULT_RUNS_SHARE = 12,    /* two runs of one tree share a page */
     PKVM_FAULT_TABLE_TWICE = 13,   /* two tables of one tree are at one block, or have one frame */
-    PKVM_FAULT_FRAME_TWICE = 14    /* a pool has a frame twice */
+    PKVM_FAULT_FRAME_TWICE = 14,   /* a pool has a frame twice */
+    PKVM_FAULT_PAGE_LENGTH = 15,   /* a page of tables hasn't 512 words */
+    PKVM_FAULT_PAGE_TWICE = 16,    /* two pages have one frame */
+    PKVM_FAULT_ROOT_TREE = 17,     /* a root is of a tree that can't be */
+    PKVM_FAULT_ROOT_TWICE = 18,    /* a tree has two roots */
+    PKVM_FAULT_ROOT_PAGE = 19,     /* no page has the root's frame */
+    PKVM_FAULT_LOOP = 20,          /* a table is below itself; of this and the next two, `list` is the tree and `index` the frame */
+    PKVM_FAULT_TWO_LEVELS = 21,    /* a table is reached at two levels, in one tree or in two */
+    PKVM_FAULT_REACHED_TWICE = 22  /* a table is reached twice */
 };
 
-/* The lists of a state, by number. */
+/* The lists of a state, and those of an audit, by number. */
 enum {
     PKVM_LIST_NONE = 0,
     PKVM_LIST_RUNS = 1,
@@ -199,7 +209,9 @@ enum {
     PKVM_LIST_LOADS = 5,
     PKVM_LIST_GUESTS = 6,
     PKVM_LIST_CPUS = 7,
-    PKVM_LIST_ROWS = 8
+    PKVM_LIST_ROWS = 8,
+    PKVM_LIST_PAGES = 9,
+    PKVM_LIST_ROOTS = 10
 };
 
 /* Why something is refused, and the member of a list that is at fault: the first with an unknown number, or that can't be there with
@@ -292,6 +304,64 @@ int32_t pkvm_judge(const struct pkvm_layout *layout, const struct pkvm_state *be
  * PKVM_BAD_STEP, PKVM_BAD_CPU, PKVM_BAD_LAYOUT, PKVM_BAD_BEFORE, PKVM_LAST_GENERATION, PKVM_NO_MEMORY. */
 int32_t pkvm_predict_reply(const struct pkvm_layout *layout, const struct pkvm_state *before, uint64_t cpu,
                            const struct pkvm_step *step, struct pkvm_reply *reply, struct pkvm_refused *refused);
+
+/* Room for the lists of a state, each for so many members. */
+struct pkvm_room {
+    struct pkvm_run *runs;
+    size_t runs_len;
+    struct pkvm_table *tables;
+    size_t tables_len;
+    struct pkvm_frame *frames;
+    size_t frames_len;
+    struct pkvm_slot *slots;
+    size_t slots_len;
+    struct pkvm_load *loads;
+    size_t loads_len;
+    struct pkvm_guest *guests;
+    size_t guests_len;
+    struct pkvm_cpu *cpus;
+    size_t cpus_len;
+    struct pkvm_row *rows;
+    size_t rows_len;
+};
+
+/* How many members the lists of a state have. */
+struct pkvm_sizes {
+    uint64_t runs, tables, frames, slots, loads, guests, cpus, rows;
+};
+
+/* The reply that the model gives to a call of a CPU on a state, and the state after it. 0: `reply` has the first, and the first
+ * `sizes->x` members of each list `x` of `room` are the second, which can be handed in as a state; all behind them stays. It has all 64
+ * slots and guests and all CPUs, the fewest runs of each map, and the rows that were handed in, with those of all frames that the
+ * call touched. PKVM_NO_ROOM: a list has room for fewer members than `sizes` tells. Else an error, as of pkvm_predict_reply, and
+ * `sizes` is all 0. Below 0 `reply` and all lists stay. The pointers and lengths in `room` stay in any case. No list may share
+ * memory with another one, or with what else is handed in. */
+int32_t pkvm_predict(const struct pkvm_layout *layout, const struct pkvm_state *before, uint64_t cpu, const struct pkvm_step *step,
+                     struct pkvm_reply *reply, struct pkvm_room *room, struct pkvm_sizes *sizes, struct pkvm_refused *refused);
+
+/* --- Tables in memory --- */
+
+/* A page with a table, as it lies in memory. */
+struct pkvm_page {
+    uint64_t frame;
+    const uint64_t *words;
+    size_t words_len; /* 512 */
+};
+
+/* The frame of a tree's root table. A tree without a root has no table, and maps nothing. */
+struct pkvm_root {
+    uint64_t tree, frame;
+};
+
+/* Compares a kept state with what the tables say. The library walks `pages`, in any order, from `roots` by frame numbers, as
+ * hardware does: a table word leads on to the page of its frame, and where no page has that frame the word is malformed. It
+ * finds the runs and the tables of each tree, and the owner rows that follow from them and from the kept pools and hands.
+ * PKVM_AGREES: maps, rows and tables are the kept ones. PKVM_DISAGREES: the first `*text_len` bytes of `text` tell the first
+ * difference: in a map, in the rows, or in the tables. Else an error: PKVM_NO_ROOM (`*text_len` is what the text needs, and `text`
+ * stays), PKVM_BAD_LAYOUT, PKVM_BAD_BEFORE (the kept state), PKVM_BAD_TABLES, PKVM_NO_MEMORY. */
+int32_t pkvm_audit(const struct pkvm_layout *layout, const struct pkvm_state *kept, const struct pkvm_page *pages, size_t pages_len,
+                   const struct pkvm_root *roots, size_t roots_len, uint8_t *text, size_t text_room, size_t *text_len,
+                   struct pkvm_refused *refused);
 
 #ifdef __cplusplus
 }

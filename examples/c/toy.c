@@ -85,9 +85,9 @@ struct recorded {
     struct pkvm_run runs[2 * PAGES + 2];
     struct pkvm_table tables[16];
     struct pkvm_frame frames[CARVED + 1];
-    struct pkvm_slot slots[64];
+    struct pkvm_slot slots[1]; // no slot was ever used, no guest made, and the CPU has nothing: none is listed
     struct pkvm_load loads[1];
-    struct pkvm_guest guests[64];
+    struct pkvm_guest guests[1];
     struct pkvm_cpu cpus[1];
     struct pkvm_row rows[PAGES];
     struct pkvm_state state;
@@ -126,16 +126,14 @@ static void record(const struct toy *toy, struct recorded *out) {
     }
     for (size_t i = 0; i < toy->free_len; i++)
         out->frames[i] = (struct pkvm_frame){1, toy->free[i]};
-    for (size_t i = 0; i < 64; i++)
-        out->slots[i].generation = 1;
     out->state = (struct pkvm_state){
         out->runs,   (size_t)(run - out->runs),
         out->tables, (size_t)(table - out->tables),
         out->frames, toy->free_len,
-        out->slots,  64,
+        out->slots,  0,
         out->loads,  0,
-        out->guests, 64,
-        out->cpus,   1,
+        out->guests, 0,
+        out->cpus,   0,
         out->rows,   (size_t)(row - out->rows),
     };
 }

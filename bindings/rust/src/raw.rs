@@ -57,8 +57,8 @@ numbers! {
     Frame { pool, frame }
 }
 numbers! {
-    /// A slot of the table of VMs.
-    Slot { stand, generation, kind, vcpus }
+    /// A slot of the table of VMs, 0 to 63.
+    Slot { slot, stand, generation, kind, vcpus }
 }
 numbers! {
     /// A vCPU that a CPU has loaded.
@@ -66,13 +66,13 @@ numbers! {
 }
 numbers! {
     /// What a guest has beside its tree and its pool.
-    Guest { phase, generation, kind }
+    Guest { slot, phase, generation, kind }
 }
 numbers! {
     /// A CPU's own state.
     Cpu {
-        has_vcpu, vcpu_slot, vcpu_generation, vcpu, has_hand, hand_first, hand_count, has_ticket, ticket_slot, ticket_generation,
-        ticket_kind, ticket_stage
+        cpu, has_vcpu, vcpu_slot, vcpu_generation, vcpu, has_hand, hand_first, hand_count, has_ticket, ticket_slot,
+        ticket_generation, ticket_kind, ticket_stage
     }
 }
 numbers! {
@@ -80,8 +80,16 @@ numbers! {
     Owner { owner, is_lent, borrower, borrower_page, usage, user }
 }
 numbers! {
+    /// The frame of a tree's root table.
+    Root { tree, frame }
+}
+numbers! {
     /// What of a layout or a state is refused.
     Refused { fault, list, index }
+}
+numbers! {
+    /// How many members the lists of a state have.
+    Sizes { runs, tables, frames, slots, loads, guests, cpus, rows }
 }
 
 /// A run of pages of one tree.
@@ -170,6 +178,24 @@ impl<'a, T> Slice<'a, T> {
     }
 }
 
+/// A slice as C writes to it.
+#[repr(C)]
+pub struct SliceMut<'a, T> {
+    first: *mut T,
+    len: usize,
+    of: PhantomData<&'a mut [T]>,
+}
+
+impl<'a, T> SliceMut<'a, T> {
+    pub fn of(slice: &'a mut [T]) -> SliceMut<'a, T> {
+        SliceMut {
+            first: slice.as_mut_ptr(),
+            len: slice.len(),
+            of: PhantomData,
+        }
+    }
+}
+
 #[repr(C)]
 pub struct Layout<'a> {
     pub address_bits: u64,
@@ -177,6 +203,12 @@ pub struct Layout<'a> {
     pub carve_first: u64,
     pub carve_count: u64,
     pub regions: Slice<'a, Region>,
+}
+
+#[repr(C)]
+pub struct Page<'a> {
+    pub frame: u64,
+    pub words: Slice<'a, u64>,
 }
 
 #[repr(C)]
@@ -189,6 +221,18 @@ pub struct State<'a> {
     pub guests: Slice<'a, Guest>,
     pub cpus: Slice<'a, Cpu>,
     pub rows: Slice<'a, Row>,
+}
+
+#[repr(C)]
+pub struct Room<'a> {
+    pub runs: SliceMut<'a, Run>,
+    pub tables: SliceMut<'a, Table>,
+    pub frames: SliceMut<'a, Frame>,
+    pub slots: SliceMut<'a, Slot>,
+    pub loads: SliceMut<'a, Load>,
+    pub guests: SliceMut<'a, Guest>,
+    pub cpus: SliceMut<'a, Cpu>,
+    pub rows: SliceMut<'a, Row>,
 }
 
 unsafe extern "C" {
@@ -212,12 +256,34 @@ unsafe extern "C" {
         text_len: *mut usize,
         refused: *mut Refused,
     ) -> i32;
+    pub fn pkvm_audit(
+        layout: *const Layout<'_>,
+        kept: *const State<'_>,
+        pages: *const Page<'_>,
+        pages_len: usize,
+        roots: *const Root,
+        roots_len: usize,
+        text: *mut u8,
+        text_room: usize,
+        text_len: *mut usize,
+        refused: *mut Refused,
+    ) -> i32;
     pub fn pkvm_predict_reply(
         layout: *const Layout<'_>,
         before: *const State<'_>,
         cpu: u64,
         step: *const Step,
         reply: *mut Reply,
+        refused: *mut Refused,
+    ) -> i32;
+    pub fn pkvm_predict(
+        layout: *const Layout<'_>,
+        before: *const State<'_>,
+        cpu: u64,
+        step: *const Step,
+        reply: *mut Reply,
+        room: *mut Room<'_>,
+        sizes: *mut Sizes,
         refused: *mut Refused,
     ) -> i32;
 }

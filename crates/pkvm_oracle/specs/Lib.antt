@@ -1,4 +1,6 @@
+pub mod Audited
 pub mod Judged
+pub mod Predicted
 pub mod Refusals
 pub mod Replayed
 pub mod Words

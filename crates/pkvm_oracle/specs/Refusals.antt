@@ -43,9 +43,9 @@ fault_of_rows ghosts.TooLarge = 8
 fault_of_rows ghosts.Overlap = 9
 fault_of_rows other = 0
 
--- of the lists of a state
+-- of the lists of a state, which never have a wrong count
 abbrev pub fault_of_lists : GhostFault → ℕ
-fault_of_lists ghosts.WrongCount = 10
+fault_of_lists ghosts.WrongCount = 0
 fault_of_lists ghosts.TooLarge = 11
 fault_of_lists ghosts.Overlap = 12
 fault_of_lists ghosts.TableTwice = 13
@@ -58,6 +58,7 @@ of_fault fault = record { fault = fault; list = 0; index = 0 }
 
 abbrev pub refused_by_state : PlainFault → PlainRefused
 refused_by_state (faults.Unknown list at) = record { fault = 7; list = number_of_list list; index = at }
+refused_by_state (faults.Twice list at) = record { fault = 10; list = number_of_list list; index = at }
 refused_by_state (faults.Rows fault) = of_fault (fault_of_rows fault)
 refused_by_state (faults.Lists fault None) = of_fault (fault_of_lists fault)
 refused_by_state (faults.Lists fault (Some told)) = record { fault = fault_of_lists fault; list = number_of_list told.0; index = told.1 }

@@ -1,8 +1,8 @@
 -- What decoding and encoding words answers C.
-use Rattle.std.specs.Prelude.{◌≡◌, ◌⊎◌, ℕ, ℤ, pos, negsuc, Some, MatchOption}
+use Rattle.std.specs.Prelude.{◌≡◌, ◌⊎◌, ◌^◌, ◌<◌, ℕ, ℤ, pos, negsuc, Some, MatchOption}
 use Rattle.descriptor.specs.declared.Desc.{Desc}
 use Rattle.descriptor.specs.declared.Level.{Level}
-use Rattle.descriptor.specs.Word.{desc_of, CanBeSaid, IsSaid}
+use Rattle.descriptor.specs.Word.{IsSaid, Says}
 use Rattle.plain_words.specs.declared.word.PlainWord.{PlainWord}
 use Rattle.plain_words.specs.Numbers.{level_said}
 use Rattle.plain_words.specs.Said.{desc_said}
@@ -18,9 +18,15 @@ pub record Decodes (level : Level) (word : ℕ) (new : PlainWord) (status : ℤ)
 abbrev pub IsDecoded : ℕ → ℕ → PlainWord → PlainWord → ℤ → Type 0
 IsDecoded level word old new status = MatchOption (level_said level) ((status ≡ negsuc 0) × (new ≡ old)) (λ l. Decodes l word new status)
 
--- a descriptor is encoded as a word that says it, or none does, and nothing is written
+-- a word of 64 bits is the one that says a descriptor
+pub record IsTheWord (level : Level) (desc : Desc) (word : ℕ) : Type 0 where
+  pub says : Says level word desc
+  pub alone : (w : ℕ) → w < 2 ^ 64 → Says level w desc → w ≡ word
+
+-- a descriptor is encoded as the one word that says it, or none does, and nothing is written
 abbrev pub Encodes : Level → Desc → ℕ → ℕ → ℤ → Type 0
-Encodes level desc old new status = ((status ≡ pos 0) × (desc_of level new ≡ desc)) ⊎ ((status ≡ negsuc 3) × (new ≡ old) × (CanBeSaid level desc → ⊥))
+Encodes level desc old new status =
+    ((status ≡ pos 0) × IsTheWord level desc new) ⊎ ((status ≡ negsuc 3) × (new ≡ old) × ((w : ℕ) → w < 2 ^ 64 → Says level w desc → ⊥))
 
 -- or there is no such level, or a number stands for nothing
 abbrev pub IsEncoded : ℕ → PlainWord → ℕ → ℕ → ℤ → Type 0

@@ -29,7 +29,7 @@ pub struct PlainRefused {
 }
 
 /// Nothing is refused.
-const NOTHING: PlainRefused = PlainRefused {
+pub(crate) const NOTHING: PlainRefused = PlainRefused {
     fault: 0,
     list: 0,
     index: 0,
@@ -82,12 +82,11 @@ fn lists_number(fault: GhostFault) -> u64
     ensures { result ≡ fault_of_lists fault }
 {
     match fault {
-        GhostFault::WrongCount => 10,
         GhostFault::TooLarge => 11,
         GhostFault::Overlap => 12,
         GhostFault::TableTwice => 13,
         GhostFault::FrameTwice => 14,
-        GhostFault::NoMemory => 0,
+        GhostFault::WrongCount | GhostFault::NoMemory => 0,
     }
 }
 
@@ -109,6 +108,11 @@ fn state_refused(fault: PlainFault) -> PlainRefused
             index: at as u64,
         },
         PlainFault::Rows(fault) => of_fault(rows_number(fault)),
+        PlainFault::Twice(list, at) => PlainRefused {
+            fault: 10,
+            list: list_number(list),
+            index: at as u64,
+        },
         PlainFault::Lists(fault, None) => of_fault(lists_number(fault)),
         PlainFault::Lists(fault, Some((list, at))) => PlainRefused {
             fault: lists_number(fault),
@@ -120,7 +124,7 @@ fn state_refused(fault: PlainFault) -> PlainRefused
 }
 
 /// Why a layout and lists make no state, in numbers.
-fn unmade_refused(why: Unmade) -> PlainRefused
+pub(crate) fn unmade_refused(why: Unmade) -> PlainRefused
     ensures { result ≡ refused_by_made why }
 {
     match why {
@@ -130,7 +134,7 @@ fn unmade_refused(why: Unmade) -> PlainRefused
 }
 
 /// The status of a layout or a state that is refused: this, where it is the state.
-fn unmade_status(why: Unmade, state: i32) -> i32
+pub(crate) fn unmade_status(why: Unmade, state: i32) -> i32
     ensures { result ≡ status_by_made state why }
 {
     match why {
@@ -142,7 +146,7 @@ fn unmade_status(why: Unmade, state: i32) -> i32
 }
 
 /// The status of a call that isn't judged.
-fn unjudged_status(why: Unjudged) -> i32
+pub(crate) fn unjudged_status(why: Unjudged) -> i32
     ensures { result ≡ status_by why }
 {
     match why {
@@ -157,7 +161,7 @@ fn unjudged_status(why: Unjudged) -> i32
 }
 
 /// What is refused of a call that isn't judged.
-fn unjudged_refused(why: Unjudged) -> PlainRefused
+pub(crate) fn unjudged_refused(why: Unjudged) -> PlainRefused
     ensures { result ≡ refused_by why }
 {
     match why {

@@ -24,7 +24,7 @@ pub(crate) const BAD_CPU: i32 = -7;
 /// The layout is refused.
 pub(crate) const BAD_LAYOUT: i32 = -8;
 
-/// The state before the call is refused.
+/// The state before the call, or a kept one, is refused.
 pub(crate) const BAD_BEFORE: i32 = -9;
 
 /// The state after the call is refused.
@@ -35,3 +35,6 @@ pub(crate) const LAST_GENERATION: i32 = -11;
 
 /// Memory was refused.
 pub(crate) const NO_MEMORY: i32 = -12;
+
+/// The pages of tables or their roots are refused, or no trees.
+pub(crate) const BAD_TABLES: i32 = -13;

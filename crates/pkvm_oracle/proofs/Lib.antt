@@ -1,0 +1,2 @@
+pub mod CheckedStates
+mod TheWord

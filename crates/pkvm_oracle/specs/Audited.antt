@@ -1,0 +1,151 @@
+-- What the audit of tables answers C.
+use Rattle.std.specs.Prelude.{◌≡◌, ◌⊎◌, ◌↔◌, ◌<◌, ◌-◌, ◌/◌, ◌==◌, ◌&&◌, ℕ, zero, suc, ℤ, pos, negsuc, Bool, List, length, take, drop, AllPairs, IfSome, Option, Some, None, not, nat_lt, if◌then◌else◌}
+use Rattle.page_state.specs.declared.layout.Geometry.{Geometry}
+use Rattle.page_state.specs.declared.layout.Geometry.TheVariants.{Bits39, Bits48}
+use Rattle.page_state.specs.LayoutView.{layout_of}
+use Rattle.page_state.specs.Layouts.{Layout}
+use Rattle.page_state.specs.Trees.{Block, Tree, no_tree}
+use Rattle.reference_model.specs.State.{Contents}
+use Rattle.ghost_spec.specs.declared.lists.GhostLists.{GhostLists}
+use Rattle.ghost_spec.specs.States.{contents_in}
+use Rattle.plain_ghost.specs.declared.layout.PlainLayout.{PlainLayout}
+use Rattle.plain_ghost.specs.declared.layout.PlainRegion.{PlainRegion}
+use Rattle.plain_ghost.specs.Judged.{IsUnmade}
+use Rattle.plain_ghost.specs.Layouts.{layout_said}
+use Rattle.plain_ghost.specs.States.{Lists, contents_said}
+use Rattle.plain_tables.specs.declared.follow.PlainPage.{PlainPage}
+use Rattle.plain_tables.specs.declared.follow.PlainRoot.{PlainRoot}
+use Rattle.plain_tables.specs.declared.reached.Reached.{Reached}
+use Rattle.plain_tables.specs.declared.trees.TreeFault.{TreeFault}
+use Rattle.plain_tables.specs.declared.trees.TreeFault.TheVariants as trees
+use Rattle.plain_tables.specs.Given.{all_tables, tree_of, AreGiven, IsTreeFault}
+use Rattle.plain_tables.specs.Reached.{AreOtherFrames}
+use Rattle.table_audit.specs.declared.finding.Finding.{Finding}
+use Rattle.table_audit.specs.Audited.{AgreesWith, IsFirstFinding}
+use Rattle.table_audit.specs.Found.{found}
+use Rattle.table_audit.specs.Texts.{text_of_finding}
+use Rattle.pkvm_oracle.specs.declared.audited.Unchecked.{Unchecked}
+use Rattle.pkvm_oracle.specs.declared.audited.Unchecked.TheVariants.{Kept, Trees, NoMemory}
+use Rattle.pkvm_oracle.specs.declared.judged.PlainRefused.{PlainRefused}
+use Rattle.pkvm_oracle.specs.Refusals.{of_fault, refused_by_made, status_by_made}
+
+-- the geometry of a layout
+abbrev pub geometry_said : PlainLayout → Geometry
+geometry_said l = if l.address_bits == 48 then Bits48 else Bits39
+
+-- the trees by their numbers, of which there are 66
+abbrev pub trees_said : Geometry → List PlainPage → List PlainRoot → ℕ → Tree
+trees_said g pages roots n = if nat_lt n 66 then tree_of g pages roots n else no_tree
+
+-- what is found: the kept contents with these trees, and the owner rows that follow
+abbrev pub found_said : Layout → Contents → Geometry → List PlainPage → List PlainRoot → Contents
+found_said l kept g pages roots = found l kept (trees_said g pages roots)
+
+-- a state is checked: no table is reached twice, and nothing is told just where all agrees; else the first difference
+pub record IsCheckedIn (l : Layout) (kept : Contents) (g : Geometry) (pages : List PlainPage) (roots : List PlainRoot) (told : Option Finding) : Type 0 where
+  pub given : AreGiven pages roots
+  pub once : AllPairs AreOtherFrames (all_tables g pages roots)
+  pub none : (told ≡ None) ↔ AgreesWith kept (found_said l kept g pages roots)
+  pub first : IfSome told (IsFirstFinding kept (found_said l kept g pages roots))
+
+-- a state on lists
+abbrev pub IsCheckedFrom : GhostLists → List PlainPage → List PlainRoot → Option Finding → Type 0
+IsCheckedFrom kept pages roots told = IsCheckedIn (layout_of kept.layout) (contents_in kept) kept.layout.geometry pages roots told
+
+-- and one on plain lists
+abbrev pub IsChecked : PlainLayout → List PlainRegion → Lists → List PlainPage → List PlainRoot → Option Finding → Type 0
+IsChecked l regions kept pages roots told = IsCheckedIn (layout_said l regions) (contents_said kept) (geometry_said l) pages roots told
+
+-- why it isn't, where the state is well
+abbrev pub IsUncheckedFrom : Geometry → List PlainPage → List PlainRoot → Unchecked → Type 0
+IsUncheckedFrom g pages roots (Kept why) = ⊥
+IsUncheckedFrom g pages roots (Trees fault) = IsTreeFault g pages roots fault
+IsUncheckedFrom g pages roots NoMemory = Unit {0}
+
+-- and why it isn't
+abbrev pub IsUnchecked : PlainLayout → List PlainRegion → Lists → List PlainPage → List PlainRoot → Unchecked → Type 0
+IsUnchecked l regions kept pages roots (Kept why) = IsUnmade l regions kept why
+IsUnchecked l regions kept pages roots (Trees fault) = IsTreeFault (geometry_said l) pages roots fault
+IsUnchecked l regions kept pages roots NoMemory = Unit {0}
+
+-- the index of the block, so many heights up, that a block lies in
+abbrev pub parent : ℕ → ℕ → ℕ
+parent zero index = index
+parent (suc n) index = parent n index / 512
+
+-- a block lies in another, which is larger
+abbrev pub is_in_block : Block → Block → Bool
+is_in_block upper lower = nat_lt lower.0 upper.0 && parent (upper.0 - lower.0) lower.1 == upper.1
+
+-- a table that is reached again: below itself, at another height, or at this height once more
+abbrev pub fault_again : Reached → Reached → ℕ
+fault_again first second =
+    if first.tree == second.tree && is_in_block first.table.block second.table.block then 20
+    else if not (first.table.block.0 == second.table.block.0) then 21 else 22
+
+abbrev pub refused_by_trees : TreeFault → PlainRefused
+refused_by_trees (trees.Short i) = record { fault = 15; list = 9; index = i }
+refused_by_trees (trees.PageTwice i) = record { fault = 16; list = 9; index = i }
+refused_by_trees (trees.NoTree i) = record { fault = 17; list = 10; index = i }
+refused_by_trees (trees.RootTwice i) = record { fault = 18; list = 10; index = i }
+refused_by_trees (trees.NoPage i) = record { fault = 19; list = 10; index = i }
+refused_by_trees (trees.Again first second) = record { fault = fault_again first second; list = second.tree; index = second.table.frame }
+refused_by_trees trees.NoMemory = of_fault 0
+
+abbrev pub status_by_trees : TreeFault → ℤ
+status_by_trees trees.NoMemory = negsuc 11
+status_by_trees other = negsuc 12
+
+abbrev pub refused_by_audit : Unchecked → PlainRefused
+refused_by_audit (Kept why) = refused_by_made why
+refused_by_audit (Trees fault) = refused_by_trees fault
+refused_by_audit NoMemory = of_fault 0
+
+-- of the layout -8, of the kept state -9, of pages and roots -13, and of want of memory -12
+abbrev pub status_by_audit : Unchecked → ℤ
+status_by_audit (Kept why) = status_by_made (negsuc 8) why
+status_by_audit (Trees fault) = status_by_trees fault
+status_by_audit NoMemory = negsuc 11
+
+module _ (layout : PlainLayout) (regions : List PlainRegion) (kept : Lists) (pages : List PlainPage) (roots : List PlainRoot) where
+  -- nothing is found, and nothing written
+  pub record Agrees (old new : List ℕ) (count : ℕ) (refused : PlainRefused) (status : ℤ) : Type 0 where
+    pub checked : IsChecked layout regions kept pages roots None
+    pub status_is : status ≡ pos 0
+    pub count_is : count ≡ 0
+    pub refused_is : refused ≡ of_fault 0
+    pub text : new ≡ old
+
+  -- a difference is found, and written as text
+  pub record Differs (old new : List ℕ) (count : ℕ) (refused : PlainRefused) (status : ℤ) : Type 0 where
+    pub found_is : Finding
+    pub checked : IsChecked layout regions kept pages roots (Some found_is)
+    pub status_is : status ≡ pos 1
+    pub count_is : count ≡ length (text_of_finding found_is)
+    pub refused_is : refused ≡ of_fault 0
+    pub text : take count new ≡ text_of_finding found_is
+    pub behind : drop count new ≡ drop count old
+
+  -- a difference is found, and its text has no room
+  pub record HasNoRoom (old new : List ℕ) (count : ℕ) (refused : PlainRefused) (status : ℤ) : Type 0 where
+    pub found_is : Finding
+    pub checked : IsChecked layout regions kept pages roots (Some found_is)
+    pub status_is : status ≡ negsuc 1
+    pub count_is : count ≡ length (text_of_finding found_is)
+    pub refused_is : refused ≡ of_fault 0
+    pub less : length old < count
+    pub text : new ≡ old
+
+  -- there is no audit, and nothing is written
+  pub record IsRefused (old new : List ℕ) (count : ℕ) (refused : PlainRefused) (status : ℤ) : Type 0 where
+    pub why : Unchecked
+    pub unchecked : IsUnchecked layout regions kept pages roots why
+    pub status_is : status ≡ status_by_audit why
+    pub count_is : count ≡ 0
+    pub refused_is : refused ≡ refused_by_audit why
+    pub text : new ≡ old
+
+  -- one of these
+  abbrev pub IsAudited : List ℕ → List ℕ → ℕ → PlainRefused → ℤ → Type 0
+  IsAudited old new count refused status =
+      Agrees old new count refused status ⊎ (Differs old new count refused status ⊎ (HasNoRoom old new count refused status ⊎ IsRefused old new count refused status))
