@@ -12,6 +12,3 @@ mod wanted;
 
 pub use placing::spot;
 pub use saying::{Spot, add_spot};
-
-#[cfg(test)]
-mod tests;
