@@ -1,0 +1,6 @@
+pub mod HeldOnce
+pub mod Loops
+pub mod SharedFrames
+pub mod States
+pub mod Telling
+pub mod TreeRuns

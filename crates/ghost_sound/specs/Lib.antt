@@ -1,0 +1,3 @@
+pub mod inner
+pub mod Sound
+pub mod Texts
