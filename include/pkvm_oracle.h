@@ -356,9 +356,12 @@ struct pkvm_root {
 /* Compares a kept state with what the tables say. The library walks `pages`, in any order, from `roots` by frame numbers, as
  * hardware does: a table word leads on to the page of its frame, and where no page has that frame the word is malformed. It
  * finds the runs and the tables of each tree, and the owner rows that follow from them and from the kept pools and hands.
- * PKVM_AGREES: maps, rows and tables are the kept ones. PKVM_DISAGREES: the first `*text_len` bytes of `text` tell the first
- * difference: in a map, in the rows, or in the tables. Else an error: PKVM_NO_ROOM (`*text_len` is what the text needs, and `text`
- * stays), PKVM_BAD_LAYOUT, PKVM_BAD_BEFORE (the kept state), PKVM_BAD_TABLES, PKVM_NO_MEMORY. */
+ * PKVM_AGREES: maps, rows and tables are the kept ones, and the maps are sound. PKVM_DISAGREES: the first `*text_len` bytes of
+ * `text` tell the first difference: in a map, in the rows, or in the tables; without one, why the maps aren't sound: two entries are
+ * leaves of a frame in states PKVM_OWNED or PKVM_SHARED_OWNED (`two owners 0x40100: host 0x40100, hyp 0x4040100`), two are in state
+ * PKVM_SHARED_BORROWED (`two borrowers ..`), or one is and none is in PKVM_SHARED_OWNED (`no share 0x40100: hyp 0x4040100`). Else an
+ * error: PKVM_NO_ROOM (`*text_len` is what the text needs, and `text` stays), PKVM_BAD_LAYOUT, PKVM_BAD_BEFORE (the kept state),
+ * PKVM_BAD_TABLES, PKVM_NO_MEMORY. */
 int32_t pkvm_audit(const struct pkvm_layout *layout, const struct pkvm_state *kept, const struct pkvm_page *pages, size_t pages_len,
                    const struct pkvm_root *roots, size_t roots_len, uint8_t *text, size_t text_room, size_t *text_len,
                    struct pkvm_refused *refused);

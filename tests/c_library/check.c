@@ -435,7 +435,7 @@ static int shared_tables(void) {
         frames[i] = (struct pkvm_frame){1, 0x40608 + i};
     struct pkvm_word annotated = {PKVM_ANNOTATED, 0, 1, 0, 0, 0}, own = {PKVM_LEAF, 0x40600, 0, PKVM_RW, PKVM_NORMAL, PKVM_OWNED};
     struct pkvm_word lent = {PKVM_LEAF, 0x40100, 0, PKVM_RWX, PKVM_NORMAL, PKVM_SHARED_OWNED}, got = {PKVM_LEAF, 0x40100, 0, PKVM_RW, PKVM_NORMAL, PKVM_SHARED_BORROWED};
-    struct pkvm_run runs[] = {{0, 0x40600, 0x40, annotated}, {1, 0x4040600, 0x40, own}, {0, 0x40100, 1, lent}, {1, 0x4040100, 1, got}};
+    struct pkvm_run runs[] = {{0, 0x40600, 0x40, annotated}, {1, 0x4040600, 0x40, own}, {0, 0x40100, 1, lent}, {1, 0x4040100, 1, got}, {1, 0x4040101, 1, got}};
     struct pkvm_table tables[] = {{0, 3, 0, 0x40600}, {0, 2, 1, 0x40601}, {0, 1, 0x203, 0x40602}, {1, 3, 0, 0x40603}, {1, 2, 0x101, 0x40604}, {1, 1, 0x20203, 0x40605}, {0, 1, 0x200, 0x40606}, {1, 1, 0x20200, 0x40607}};
     struct pkvm_row rows[] = {{0x40600, 0x40, {1, 0, 0, 0, PKVM_USE_SHARED_POOL, 0}}, {0x40100, 1, {0, 1, 1, 0x4040100, 0, 0}}};
     struct pkvm_region regions[] = {{0, 0x40000, 0x800}, {1, 0x9000, 0x10}};
@@ -508,7 +508,28 @@ static int shared_tables(void) {
     if (AUDIT(8, 2) != PKVM_BAD_TABLES || refused.fault != PKVM_FAULT_ROOT_PAGE || refused.index != 0)
         return 13;
     roots[0].frame = 0x40603;
-    return AUDIT(8, 2) == PKVM_AGREES ? 0 : 14;
+    // Kept maps and tables say the same from here on, and aren't sound.
+    kept.runs_len = 5; // the hypervisor borrows the frame twice
+    words[7][0x101] = word_of(3, got);
+    if (AUDIT(8, 2) != PKVM_DISAGREES || !TELLS("two borrowers 0x40100: hyp 0x4040100, hyp 0x4040101"))
+        return 14;
+    kept.runs_len = 4;
+    words[7][0x101] = 0;
+    runs[2].word.state = PKVM_OWNED; // the host doesn't share it
+    words[6][0x100] = word_of(3, runs[2].word);
+    if (AUDIT(8, 2) != PKVM_DISAGREES || !TELLS("no share 0x40100: hyp 0x4040100"))
+        return 15;
+    runs[3].word.state = PKVM_OWNED; // both own it
+    words[7][0x100] = word_of(3, runs[3].word);
+    kept.rows_len = 1;
+    if (AUDIT(8, 2) != PKVM_DISAGREES || !TELLS("two owners 0x40100: host 0x40100, hyp 0x4040100"))
+        return 16;
+    runs[2] = (struct pkvm_run){0, 0x40100, 1, lent};
+    runs[3] = (struct pkvm_run){1, 0x4040100, 1, got};
+    words[6][0x100] = word_of(3, lent);
+    words[7][0x100] = word_of(3, got);
+    kept.rows_len = 2;
+    return AUDIT(8, 2) == PKVM_AGREES ? 0 : 17;
 }
 
 // Pages of words of any kind, whose table words lead to one another or to no page, and roots of any kind.

@@ -472,7 +472,8 @@ pub struct Page<'a> {
 }
 
 /// Compares a kept state with the trees that are found by walking pages of tables from their roots, by frame numbers: `None` where
-/// maps, owner rows and tables agree. Else the first difference.
+/// maps, owner rows and tables agree, and the maps are sound. Else the first difference, or without one, two owners or two borrowers
+/// of a frame, or a borrower of one that nobody shares.
 ///
 /// ```
 /// use pkvm_oracle::{Error, Layout, Page, Region, Root, State, Table, audit};

@@ -21,7 +21,7 @@ use Rattle.plain_tables.specs.declared.trees.TreeFault.TheVariants as trees
 use Rattle.plain_tables.specs.Given.{all_tables, tree_of, AreGiven, IsTreeFault}
 use Rattle.plain_tables.specs.Reached.{AreOtherFrames}
 use Rattle.table_audit.specs.declared.finding.Finding.{Finding}
-use Rattle.table_audit.specs.Audited.{AgreesWith, IsFirstFinding}
+use Rattle.table_audit.specs.Audited.{IsFirstFinding, IsWell}
 use Rattle.table_audit.specs.Found.{found}
 use Rattle.table_audit.specs.Texts.{text_of_finding}
 use Rattle.pkvm_oracle.specs.declared.audited.Unchecked.{Unchecked}
@@ -41,11 +41,11 @@ trees_said g pages roots n = if nat_lt n 66 then tree_of g pages roots n else no
 abbrev pub found_said : Layout → Contents → Geometry → List PlainPage → List PlainRoot → Contents
 found_said l kept g pages roots = found l kept (trees_said g pages roots)
 
--- a state is checked: no table is reached twice, and nothing is told just where all agrees; else the first difference
+-- a state is checked: no table is reached twice, and nothing is told just where all agrees and what was found is sound; else the first difference, or why it isn't
 pub record IsCheckedIn (l : Layout) (kept : Contents) (g : Geometry) (pages : List PlainPage) (roots : List PlainRoot) (told : Option Finding) : Type 0 where
   pub given : AreGiven pages roots
   pub once : AllPairs AreOtherFrames (all_tables g pages roots)
-  pub none : (told ≡ None) ↔ AgreesWith kept (found_said l kept g pages roots)
+  pub none : (told ≡ None) ↔ IsWell kept (found_said l kept g pages roots)
   pub first : IfSome told (IsFirstFinding kept (found_said l kept g pages roots))
 
 -- a state on lists
@@ -116,7 +116,7 @@ module _ (layout : PlainLayout) (regions : List PlainRegion) (kept : Lists) (pag
     pub refused_is : refused ≡ of_fault 0
     pub text : new ≡ old
 
-  -- a difference is found, and written as text
+  -- a difference or a fault is found, and written as text
   pub record Differs (old new : List ℕ) (count : ℕ) (refused : PlainRefused) (status : ℤ) : Type 0 where
     pub found_is : Finding
     pub checked : IsChecked layout regions kept pages roots (Some found_is)
@@ -126,7 +126,7 @@ module _ (layout : PlainLayout) (regions : List PlainRegion) (kept : Lists) (pag
     pub text : take count new ≡ text_of_finding found_is
     pub behind : drop count new ≡ drop count old
 
-  -- a difference is found, and its text has no room
+  -- a difference or a fault is found, and its text has no room
   pub record HasNoRoom (old new : List ℕ) (count : ℕ) (refused : PlainRefused) (status : ℤ) : Type 0 where
     pub found_is : Finding
     pub checked : IsChecked layout regions kept pages roots (Some found_is)

@@ -23,8 +23,8 @@ enum Unchecked {
     NoMemory,
 }
 
-/// Compares a kept state with the trees that are found by walking pages from roots: none where all agrees, and else the first
-/// difference.
+/// Compares a kept state with the trees that are found by walking pages from roots: none where all agrees and is sound, and else the
+/// first difference, or why it isn't sound.
 fn checked(
     alloc: Global,
     layout: &PlainLayout<'_>,
@@ -172,7 +172,8 @@ fn unchecked_status(why: Unchecked) -> i32
 }
 
 /// Compares a kept state with the trees that are found by walking pages of tables from their roots: 0 where the maps, the tables
-/// and the owner rows agree; 1 where they don't, and the first `text_len` bytes of `text` tell the first difference. Below 0
+/// and the owner rows agree, and the maps are sound; else 1, and the first `text_len` bytes of `text` tell the first difference, or,
+/// where there is none, why the maps aren't sound. Below 0
 /// nothing is written to `text`: -2 it has fewer than `text_len` bytes, which the difference needs; -8, -9 and -13 something is
 /// refused, and `refused` says what; -12 memory was.
 #[unsafe(no_mangle)]

@@ -12,21 +12,24 @@ use Rattle.ghost_judge.specs.Audits.{AuditAgrees}
 use Rattle.ghost_judge.specs.declared.disagreement.TreeOf.TheVariants.{Host, Hyp, Guest}
 use Rattle.ghost_judge.proofs.Judged.{below_next, everywhere, past_end}
 use Rattle.table_audit.specs.declared.finding.Finding.{Finding}
-use Rattle.table_audit.specs.declared.finding.Finding.TheVariants.{Differs, Table as TableDiffers}
+use Rattle.table_audit.specs.declared.finding.Finding.TheVariants.{Differs, Table as TableDiffers, Unsound}
 use Rattle.table_audit.specs.Audited.{guest_table, AgreesWith, IsFirstFinding, IsFirstTable, IsFirstTableOf, IsGuestTable, TablesAgree}
 use Rattle.table_audit.specs.Tables.{IsTableFinding, IsTableTold}
 
 module _ (s t : Contents) where
   pub host_first : (f : Finding) → IsTableFinding Host s.shared.host.table t.shared.host.table f → IsFirstTable s t f
   host_first (Differs d) h = absurd h
+  host_first (Unsound why) h = absurd h
   host_first (TableDiffers tree height index x y) h = subst (λ o. IsFirstTableOf s t o (height, index) x y) (sym h.0) h.1
 
   pub hyp_first : (f : Finding) → s.shared.host.table ≡ t.shared.host.table → IsTableFinding Hyp s.shared.hyp.table t.shared.hyp.table f → IsFirstTable s t f
   hyp_first (Differs d) e h = absurd h
+  hyp_first (Unsound why) e h = absurd h
   hyp_first (TableDiffers tree height index x y) e h = subst (λ o. IsFirstTableOf s t o (height, index) x y) (sym h.0) (e, h.1)
 
   not_first : (f : Finding) → IsFirstTable s t f → TablesAgree s t → ⊥
   not_first (Differs d) h a = h
+  not_first (Unsound why) h a = h
   not_first (TableDiffers Host height index x y) h a = h.apart (ap (λ g. g (height, index)) a.host)
   not_first (TableDiffers Hyp height index x y) h a = h.1.apart (ap (λ g. g (height, index)) a.hyp)
   not_first (TableDiffers (Guest v) height index x y) h a = h.3.apart (ap (λ g. g (height, index)) (a.guests v))
@@ -37,6 +40,7 @@ module _ (s t : Contents) where
 
   as_first : (f : Finding) → AuditAgrees s t → IsFirstTable s t f → IsFirstFinding s t f
   as_first (Differs d) a h = absurd h
+  as_first (Unsound why) a h = absurd h
   as_first (TableDiffers tree height index x y) a h = (a, h)
 
   pub tables_first : (o : Option Finding) → AuditAgrees s t → MatchOption o (TablesAgree s t) (IsFirstTable s t) → IfSome o (IsFirstFinding s t)
@@ -57,6 +61,7 @@ module _ (kept walked : List GhostGuest) where
   pub guest_told : (v : ℕ) (d e : GhostGuest) (f : Finding) → v < length kept → v < length walked → ((w : ℕ) → w < v → guest_table kept w ≡ guest_table walked w)
       → IsTableFinding (Guest v) (table_of (get_or kept v d).tree.tables.items) (table_of (get_or walked v e).tree.tables.items) f → IsGuestTable kept walked f
   guest_told v d e (Differs x) k l before h = absurd h
+  guest_told v d e (Unsound why) k l before h = absurd h
   guest_told v d e (TableDiffers tree height index x y) k l before h =
       subst (λ o. IsGuestTable kept walked (TableDiffers o height index x y)) (sym h.0) (record {
         before = before;
@@ -77,6 +82,7 @@ module _ (kept walked : List GhostGuest) where
 module _ (kept walked : GhostLists) (host : (contents_in kept).shared.host.table ≡ (contents_in walked).shared.host.table) (hyp : (contents_in kept).shared.hyp.table ≡ (contents_in walked).shared.hyp.table) where
   by_guest : (f : Finding) → IsGuestTable kept.guests.items walked.guests.items f → IsFirstTable (contents_in kept) (contents_in walked) f
   by_guest (Differs d) h = absurd h
+  by_guest (Unsound why) h = absurd h
   by_guest (TableDiffers Host height index x y) h = absurd h
   by_guest (TableDiffers Hyp height index x y) h = absurd h
   by_guest (TableDiffers (Guest v) height index x y) h = (host, hyp, h.before, h.told)

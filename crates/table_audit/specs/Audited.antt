@@ -1,5 +1,5 @@
 -- What an audit compares, and the first difference in its order: the maps, the owner rows, and then the tables of the host, of the
--- hypervisor and of the guests by slot.
+-- hypervisor and of the guests by slot. Where all agrees, what was found is sound, or why it isn't.
 use Rattle.std.specs.Prelude.{◌≡◌, ℕ, ◌<◌, List, Option, get_or, map}
 use Rattle.page_state.specs.Trees.{Block}
 use Rattle.reference_model.specs.State.{Contents, no_guest}
@@ -8,8 +8,9 @@ use Rattle.ghost_judge.specs.declared.disagreement.TreeOf.{TreeOf}
 use Rattle.ghost_judge.specs.declared.disagreement.TreeOf.TheVariants.{Host, Hyp, Guest}
 use Rattle.ghost_spec.specs.declared.parts.GhostGuest.{GhostGuest}
 use Rattle.ghost_spec.specs.States.{guest_in}
+use Rattle.ghost_sound.specs.Sound.{IsSound, IsUnsound}
 use Rattle.table_audit.specs.declared.finding.Finding.{Finding}
-use Rattle.table_audit.specs.declared.finding.Finding.TheVariants.{Differs, Table as TableDiffers}
+use Rattle.table_audit.specs.declared.finding.Finding.TheVariants.{Differs, Table as TableDiffers, Unsound}
 use Rattle.table_audit.specs.Tables.{IsTableTold}
 
 -- all tables are the same
@@ -23,6 +24,11 @@ pub record AgreesWith (kept walked : Contents) : Type 0 where
   pub audit : AuditAgrees kept walked
   pub tables : TablesAgree kept walked
 
+-- all agrees, and the maps that were found are sound
+pub record IsWell (kept walked : Contents) : Type 0 where
+  pub agrees : AgreesWith kept walked
+  pub sound : IsSound walked
+
 -- a table of this tree differs, and those of the trees before it don't
 abbrev pub IsFirstTableOf : Contents → Contents → TreeOf → ℕ × ℕ → Option ℕ → Option ℕ → Type 0
 IsFirstTableOf kept walked Host block x y = IsTableTold kept.shared.host.table walked.shared.host.table block x y
@@ -33,6 +39,7 @@ IsFirstTableOf kept walked (Guest v) block x y =
 
 abbrev pub IsFirstTable : Contents → Contents → Finding → Type 0
 IsFirstTable kept walked (Differs d) = ⊥
+IsFirstTable kept walked (Unsound why) = ⊥
 IsFirstTable kept walked (TableDiffers tree height index x y) = IsFirstTableOf kept walked tree (height, index) x y
 
 -- the tables of the guest at a place of a list
@@ -48,7 +55,8 @@ abbrev pub IsGuestTable : List GhostGuest → List GhostGuest → Finding → Ty
 IsGuestTable kept walked (TableDiffers (Guest v) height index x y) = IsGuestTableOf kept walked v (height, index) x y
 IsGuestTable kept walked other = ⊥
 
--- the first difference: all that comes before it agrees
+-- the first difference: all that comes before it agrees; and why what was found isn't sound, where there is no difference
 abbrev pub IsFirstFinding : Contents → Contents → Finding → Type 0
 IsFirstFinding kept walked (Differs d) = IsFirstDifference kept walked d
 IsFirstFinding kept walked (TableDiffers tree height index x y) = AuditAgrees kept walked × IsFirstTableOf kept walked tree (height, index) x y
+IsFirstFinding kept walked (Unsound why) = AgreesWith kept walked × IsUnsound walked why

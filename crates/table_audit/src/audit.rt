@@ -5,13 +5,14 @@ ghost use Rattle.ghost_trees.specs.KeptTrees.{IsKeptTree};
 ghost use Rattle.ghost_judge.specs.Audits.{AreMapsKept};
 ghost use Rattle.ghost_spec.specs.States.{contents_in};
 ghost use Rattle.table_audit.specs.Found.{found, trees_in};
-ghost use Rattle.table_audit.specs.Audited.{guest_table, AgreesWith, IsFirstFinding, IsFirstTable, IsGuestTable, TablesAgree};
+ghost use Rattle.table_audit.specs.Audited.{guest_table, AgreesWith, IsFirstFinding, IsFirstTable, IsGuestTable, IsWell, TablesAgree};
 
 use crate::finding::Finding;
 use crate::tables::in_tables;
 use crate::walked::walked_lists;
 use ghost_judge::audit::audit_lists;
 use ghost_judge::disagreement::TreeOf;
+use ghost_sound::unsound;
 use ghost_spec::lists::GhostLists;
 use ghost_spec::parts::GhostGuest;
 use ghost_spec::state::Ghost;
@@ -19,12 +20,12 @@ use ghost_trees::tree::Tree;
 use std::alloc::{AllocError, Global};
 
 /// Compares a kept state with trees that were found, those of the host, of the hypervisor and of the guests, by slot: the maps
-/// in this order, the owner rows, which follow from the trees, and then the tables. None where all agree, and else the first
-/// difference.
+/// in this order, the owner rows, which follow from the trees, and then the tables. None where all agree and the maps are sound,
+/// and else the first difference, or where there is none why they aren't sound.
 pub fn audited(alloc: Global, kept: &Ghost, trees: &[Tree]) -> Result<Option<Finding>, AllocError>
     requires count { length trees.now ≡ 66 }
     requires trees { All IsKeptTree trees.now }
-    ensures none { IfOk result (λ o. (o ≡ None) ↔ AgreesWith (contents_in kept.now) (found (layout_of kept.now.layout) (contents_in kept.now) (trees_in trees.now))) }
+    ensures none { IfOk result (λ o. (o ≡ None) ↔ IsWell (contents_in kept.now) (found (layout_of kept.now.layout) (contents_in kept.now) (trees_in trees.now))) }
     ensures first { IfOk result (λ o. IfSome o (IsFirstFinding (contents_in kept.now) (found (layout_of kept.now.layout) (contents_in kept.now) (trees_in trees.now)))) }
 {
     let walked = walked_lists(alloc, kept, trees)?;
@@ -33,8 +34,24 @@ pub fn audited(alloc: Global, kept: &Ghost, trees: &[Tree]) -> Result<Option<Fin
     Ok(found)
 }
 
-/// The first difference of two states.
+/// The first difference of two states; without one, why the second isn't sound.
 fn compared(kept: &GhostLists, walked: &GhostLists) -> Option<Finding>
+    requires kept { AreMapsKept kept.now }
+    requires walked { AreMapsKept walked.now }
+    ensures none { (result ≡ None) ↔ IsWell (contents_in kept.now) (contents_in walked.now) }
+    ensures first { IfSome result (IsFirstFinding (contents_in kept.now) (contents_in walked.now)) }
+{
+    match difference(kept, walked) {
+        Some(found) => Some(found),
+        None => match unsound(walked) {
+            Some(why) => Some(Finding::Unsound(why)),
+            None => None,
+        },
+    }
+}
+
+/// The first difference of two states.
+fn difference(kept: &GhostLists, walked: &GhostLists) -> Option<Finding>
     requires kept { AreMapsKept kept.now }
     requires walked { AreMapsKept walked.now }
     ensures none { (result ≡ None) ↔ AgreesWith (contents_in kept.now) (contents_in walked.now) }

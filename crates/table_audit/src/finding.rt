@@ -3,9 +3,10 @@ ghost use Rattle.std.specs.Prelude.{Some};
 ghost use Rattle.table_audit.specs.Texts.{text_of_finding, text_of_frame_or_none};
 
 use ghost_judge::disagreement::{Disagreement, TreeOf};
+use ghost_sound::Unsound;
 use std::fmt;
 
-/// Where what is kept and the trees that were found disagree.
+/// Where what is kept and the trees that were found disagree, or why both aren't sound.
 #[derive(Clone, Copy, PartialEq)]
 pub enum Finding {
     /// On a page of a map, or on the owner row of a frame.
@@ -18,6 +19,8 @@ pub enum Finding {
         kept: Option<u64>,
         walked: Option<u64>,
     },
+    /// Nowhere: what is kept and was found isn't sound.
+    Unsound(Unsound),
 }
 
 /// A frame, where there is one.
@@ -77,6 +80,7 @@ impl fmt::Display for Finding {
                 };
                 write!(f, "disagree table {tree} {sides}")
             }
+            Finding::Unsound(why) => fmt::Display::fmt(&why, f),
         }
     }
 }

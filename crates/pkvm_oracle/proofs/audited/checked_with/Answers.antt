@@ -6,7 +6,7 @@ use Rattle.ghost_trees.specs.Trees.{tree_in_lists}
 use Rattle.ghost_spec.specs.declared.lists.GhostLists.{GhostLists}
 use Rattle.ghost_spec.specs.States.{contents_in}
 use Rattle.plain_tables.specs.Given.{AreTrees}
-use Rattle.table_audit.specs.Audited.{AgreesWith, IsFirstFinding}
+use Rattle.table_audit.specs.Audited.{IsFirstFinding, IsWell}
 use Rattle.table_audit.specs.Found.{found, trees_in}
 use Rattle.pkvm_oracle.specs.Audited.{trees_said}
 use Rattle.pkvm_oracle.proofs.CheckedStates.{same_trees}
@@ -19,6 +19,6 @@ returns-in-Ok-found-clause-checked c =
     record {
       given = are.given;
       once = are.once;
-      none = subst (λ (t : ℕ → Tree). (c.in-Ok-found.found ≡ None) ↔ AgreesWith (contents_in c.args.kept.now) (found (layout_of c.args.kept.now.layout) (contents_in c.args.kept.now) t)) same c.in-Ok-found.ensures.none;
+      none = subst (λ (t : ℕ → Tree). (c.in-Ok-found.found ≡ None) ↔ IsWell (contents_in c.args.kept.now) (found (layout_of c.args.kept.now.layout) (contents_in c.args.kept.now) t)) same c.in-Ok-found.ensures.none;
       first = subst (λ (t : ℕ → Tree). IfSome c.in-Ok-found.found (IsFirstFinding (contents_in c.args.kept.now) (found (layout_of c.args.kept.now.layout) (contents_in c.args.kept.now) t))) same c.in-Ok-found.ensures.first;
     }
