@@ -1,4 +1,5 @@
 pub mod HeldOnce
+pub mod LegalMaps
 pub mod Loops
 pub mod SharedFrames
 pub mod States

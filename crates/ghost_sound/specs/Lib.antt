@@ -1,3 +1,4 @@
 pub mod inner
+pub mod Laws
 pub mod Sound
 pub mod Texts

@@ -2,6 +2,7 @@
 #![tactic(auto)]
 
 mod finding;
+pub mod laws;
 mod leaves;
 mod pairs;
 mod share;
