@@ -75,6 +75,9 @@ fn meeting_any(side: Side, tree: u64, run: Run, state: &GhostLists) -> Option<Pa
     requires kept { HasKeptTrees state.now }
     ensures { MatchOption result (MeetsNone side state.now tree run) (IsMetBy side state.now tree run) }
 {
+    if first_frame(side, run).is_none() {
+        return None;
+    }
     for other in 0..TREES {
         if let Some(found) = meeting_in(side, tree, run, other, runs_of(state, other)) {
             return Some(found);
