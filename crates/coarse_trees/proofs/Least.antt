@@ -9,7 +9,7 @@ use Rattle.page_state.proofs.Cases.{by_test, by_lt}
 use Rattle.page_state.proofs.Common.{not-false}
 use Rattle.page_state.proofs.Sizes.{size_step}
 use Rattle.coarse_trees.specs.Coarsest.{IsInTree, wants_table, IsCoarsest, block_above, IsTreeOf, table_number}
-use Rattle.coarse_trees.specs.Laws.{CoarsestIsCanonical, CoarsestIsTree}
+use Rattle.coarse_trees.specs.Laws.{CoarsestIsCanonical, CoarsestIsTree, FullIsTree}
 use Rattle.coarse_trees.proofs.Lists.{some-of, some-made, filter-fewer}
 use Rattle.coarse_trees.proofs.OneWord.{parts_are_one_word}
 
@@ -92,3 +92,6 @@ coarsest_is_tree depth t p root = record {
     not-wanted : (w : Bool) → not w ≡ false → w ≡ true
     not-wanted true h = refl
     not-wanted false h = cc
+
+pub full_is_tree : FullIsTree
+full_is_tree depth m frame = record { root = refl; words = λ b i l up none. cc }

@@ -48,3 +48,7 @@ FreedAreNeedless = (depth : ℕ) (t : Tree) (e : Edit) → IsCoarsest depth t �
 -- the need is a function of the maps
 abbrev pub NeedOfMaps : Type 0
 NeedOfMaps = (depth : ℕ) (t : Tree) (e : Edit) → IsInRange depth e → IsCoarsest depth t → need depth t e ≡ map_need depth t.map e
+
+-- the tree that has a table at each block is one of its map, whatever the map: so a tree of a map may have more tables than it needs
+abbrev pub FullIsTree : Type 0
+FullIsTree = (depth : ℕ) (m : Map) (frame : ℕ) → IsTreeOf depth (record { map = m; table = λ b. Some frame })

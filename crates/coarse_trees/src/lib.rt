@@ -1,7 +1,7 @@
 //! Laws of coarsest trees. Each function does nothing, and its contract is the law.
 #![tactic(auto)]
 
-ghost use Rattle.coarse_trees.specs.Laws.{PartsAreOneWord, OneWordOfParts, CoarsestIsCanonical, CoarsestIsTree, EditKeepsCoarsest, NeededAreNew, FreedAreNeedless, NeedOfMaps, RootIsCoarsest, NoneIsCoarsest};
+ghost use Rattle.coarse_trees.specs.Laws.{PartsAreOneWord, OneWordOfParts, CoarsestIsCanonical, CoarsestIsTree, FullIsTree, EditKeepsCoarsest, NeededAreNew, FreedAreNeedless, NeedOfMaps, RootIsCoarsest, NoneIsCoarsest};
 
 /// A block can be one word just where its parts can, each goes on with what the first has, and a word of the block's depth can
 /// say that.
@@ -14,6 +14,7 @@ pub fn one_word_in_parts()
 pub fn coarsest_is_canonical()
     ensures canonical { CoarsestIsCanonical }
     ensures tree { CoarsestIsTree }
+    ensures full { FullIsTree }
 {}
 
 /// A tree without a mapped page is coarsest, and each change leaves a coarsest tree.
