@@ -17,6 +17,7 @@ use page_state::Layout;
 use part_table::{Maker, Slot};
 use std::alloc::{AllocError, Allocator, Global};
 use step_reply::{Call, Reply, Step};
+use table_tree::Reads;
 
 /// What is asked of each call that is stored.
 pub trait Judge {
@@ -85,7 +86,8 @@ fn record_own<A: Allocator>(
     requires low { CanRecord {A = A} none_at cpu.now }
     ensures { IfOk result (IsRecordOf {A = A} (layout_of layout.now) none_at cpu.now) }
 {
-    let lists = record::<Global>(global, layout, None, None, None, cpu)?;
+    let reads = &mut Reads::new();
+    let lists = record::<Global>(global, layout, None, None, None, cpu, reads)?;
     Ok(Ghost::of_kept(lists))
 }
 
@@ -105,7 +107,8 @@ fn record_part<A: Allocator>(
     let vms = vms_lent(slot);
     let shared = shared_lent(slot);
     let guest = guest_lent(slot, k.saturating_sub(2));
-    let lists = record(global, layout, vms, shared, guest, cpu)?;
+    let reads = &mut Reads::new();
+    let lists = record(global, layout, vms, shared, guest, cpu, reads)?;
     Ok(Ghost::of_kept(lists))
 }
 
@@ -130,6 +133,7 @@ fn record_both<A: Allocator>(
         shared_lent(shared),
         guest_lent(guest, v),
         cpu,
+        &mut Reads::new(),
     )?;
     Ok(Ghost::of_kept(lists))
 }

@@ -1,5 +1,5 @@
-//! The reference state of all parts on lists: what is kept, and what walking every word finds. The calls whose names end in
-//! `counted` count each word that they read.
+//! The reference state of all parts on lists: what is kept, and what walking every word finds. What walks for a caller adds to a
+//! count each word that it reads, and so shows that it looks.
 ghost use Rattle.std.specs.Prelude.{◌≡◌, ℕ, ◌∷◌, [], All, IfOk, OnOk, map};
 ghost use Rattle.page_state.specs.LayoutView.{layout_of};
 ghost use Rattle.page_state.specs.Rows.{HasPageBelow};
@@ -220,18 +220,9 @@ pub fn kept<A: Allocator>(alloc: Global, parts: &Parts<A>) -> Result<Ghost, Allo
 
 /// What walking every descriptor from scratch finds: the map of each tree by its words alone, and
 /// the owner row of each memory frame by these maps, the tables, the pools and the hands. Pools, slots, CPUs and rooms, which
-/// are in no table, are as they are. Of parts that no calls lead to, `Ghost::of` tests whether these lists make a state.
-pub fn recompute<A: Allocator>(alloc: Global, parts: &Parts<A>) -> Result<GhostLists, AllocError>
-    ensures state { IfOk result (λ g. ghost_state g ≡ walked_state (parts_layout parts.now) (state_of parts.now)) }
-    ensures layout { IfOk result (λ g. layout_of g.layout ≡ parts_layout parts.now) }
-    ensures frames { IfOk result (HasRowsOf (parts_layout parts.now)) }
-    ensures kept { ∥ HasHistory parts.now ∥₁ → IfOk result IsKept }
-{
-    recompute_counted(alloc, parts, &mut Reads::new())
-}
-
-/// As `recompute`, and adds to a count each word that it reads.
-pub fn recompute_counted<A: Allocator>(
+/// are in no table, are as they are. Of parts that no calls lead to, `Ghost::of` tests whether these lists make a state. It adds
+/// to `reads` each word that it reads.
+pub fn recompute<A: Allocator>(
     alloc: Global,
     parts: &Parts<A>,
     reads: &mut Reads,
@@ -248,26 +239,8 @@ pub fn recompute_counted<A: Allocator>(
 
 /// What is kept, as `kept` gives it, and what walking every descriptor finds, as `recompute` does, by one walk: each word is read
 /// once. Where the walk finds just the runs that are kept, and the rows from scratch are the kept ones, as in every state that
-/// calls lead to, one state is both.
+/// calls lead to, one state is both. It adds to `reads` each word that it reads.
 pub fn kept_and_walked<A: Allocator>(
-    alloc: Global,
-    parts: &Parts<A>,
-) -> Result<Compared, AllocError>
-    requires history { ∥ HasHistory parts.now ∥₁ }
-    ensures state { IfOk result (λ c. ghost_state c.kept ≡ state_of parts.now) }
-    ensures layout { IfOk result (λ c. layout_of c.kept.layout ≡ parts_layout parts.now) }
-    ensures maplets { IfOk result (λ c. SaysMaplets parts.now c.kept) }
-    ensures rows { IfOk result (λ c. SaysRows parts.now c.kept) }
-    ensures frames { IfOk result (λ c. HasRowsOf (parts_layout parts.now) c.kept) }
-    ensures walked { IfOk result (λ c. ghost_state (walked_in c) ≡ walked_state (parts_layout parts.now) (state_of parts.now)) }
-    ensures walked_layout { IfOk result (λ c. layout_of (walked_in c).layout ≡ parts_layout parts.now) }
-    ensures walked_frames { IfOk result (λ c. HasRowsOf (parts_layout parts.now) (walked_in c)) }
-{
-    kept_and_walked_counted(alloc, parts, &mut Reads::new())
-}
-
-/// As `kept_and_walked`, and adds to a count each word that it reads.
-pub fn kept_and_walked_counted<A: Allocator>(
     alloc: Global,
     parts: &Parts<A>,
     reads: &mut Reads,

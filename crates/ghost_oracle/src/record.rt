@@ -195,27 +195,9 @@ fn slots_and_cpus_given(
 
 /// What the given parts and a CPU hold, and nothing else: the map of each of their trees by its words alone, each of which is
 /// read, and the tables, pools, rows, phases, slots and rooms as they are. Every other part, slot and CPU is empty, and
-/// so is its log. Of parts that no calls lead to, `Ghost::of` tests whether these lists make a state.
+/// so is its log. Of parts that no calls lead to, `Ghost::of` tests whether these lists make a state. It adds to `reads` each word
+/// that it reads.
 pub fn record<A: Allocator>(
-    alloc: Global,
-    layout: &Layout,
-    vms: Option<&VmPart>,
-    shared: Option<&SharedPart<A>>,
-    guest: Option<(u64, &GuestPart<A>)>,
-    state: &CpuState,
-) -> Result<GhostLists, AllocError>
-    requires cpu { state.now.id < layout.now.config.cpus }
-    requires slot { IfSome guest (λ g. g.0 < 64) }
-    ensures state { IfOk result (λ g. ghost_state g ≡ recorded (given (option_copied vms.entry) (option_copied shared.entry) (option_map (λ g. (g.0, g.1.now)) guest.entry) state.now) (layout_of layout.now)) }
-    ensures layout { IfOk result (λ g. layout_of g.layout ≡ layout_of layout.now) }
-    ensures kept { IfSome guest.entry (λ g. IsLowGuest (guest_held g.1.now)) → IsLowCpu (cpu_of state.now) → IfOk result IsKept }
-{
-    let reads = &mut Reads::new();
-    record_counted(alloc, layout, vms, shared, guest, state, reads)
-}
-
-/// As `record`, and adds to a count each word that it reads.
-pub fn record_counted<A: Allocator>(
     alloc: Global,
     layout: &Layout,
     vms: Option<&VmPart>,

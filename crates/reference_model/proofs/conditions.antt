@@ -9,6 +9,7 @@ pub mod Conserved
 pub mod FrameMoves
 pub mod GuestMoves
 pub mod HandSteps
+pub mod HeldFrames
 pub mod InOrder
 pub mod Isolates
 pub mod Keeps

@@ -1,5 +1,5 @@
 -- How code comes to the reference step: it decides, carries the changes out, and stores the call.
-use Rattle.std.specs.Prelude.{◌≡◌, ℕ, ◌+◌, ◌-◌, ◌<◌, Bool, true, false, ◌⊎◌, Option, Some, None, Result, Ok, Err}
+use Rattle.std.specs.Prelude.{◌≡◌, ℕ, ◌+◌, ◌-◌, ◌<◌, Bool, true, false, ◌⊎◌, Option, Ok, Err}
 use Rattle.reference_model.specs.declared.changes.Changes.{Changes}
 use Rattle.step_reply.specs.declared.reply.Call.{Call}
 use Rattle.step_reply.specs.declared.reply.Refusal.{Refusal}
@@ -8,14 +8,12 @@ use Rattle.step_reply.specs.declared.reply.Reply.{Reply}
 use Rattle.step_reply.specs.declared.reply.Reply.TheVariants.{Done, Refused}
 use Rattle.step_reply.specs.declared.step.Step.{Step}
 use Rattle.page_state.specs.Layouts.{Layout}
-use Rattle.reference_model.specs.Parts.{lacks_slot}
 use Rattle.reference_model.specs.Used.{Used, UsedRooms, used_of}
 use Rattle.reference_model.specs.Conditions.{Legal, IsUsable}
 use Rattle.reference_model.specs.RowChanges.{with_told}
-use Rattle.reference_model.specs.Rule.{Rule}
 use Rattle.reference_model.specs.Rules.{may_grow, names, guest_slot}
 use Rattle.reference_model.specs.State.{Contents, Reference}
-use Rattle.reference_model.specs.Step.{is_short, changed, first_test, rule_of, Answered, is_full, stored, StepsOn, used_by, rooms_by, with_used, Steps}
+use Rattle.reference_model.specs.Step.{is_short, changed, Answered, is_full, stored, StepsOn, used_by, rooms_by, with_used, Steps}
 use Rattle.reference_model.specs.Decides.{decides}
 
 module _ (l : Layout) (cpu : ℕ) (slot : Option ℕ) (step : Step) where

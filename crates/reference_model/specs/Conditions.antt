@@ -1,5 +1,5 @@
 -- The invariant of runs: each memory frame is in one condition, and all that a state says of the frame follows from its condition.
-use Rattle.std.specs.Prelude.{◌≡◌, ◌≢◌, ℕ, ◌+◌, ◌-◌, ◌≤◌, ◌<◌, ◌⊎◌, Bool, true, false, ◌==◌, Some, None, if◌then◌else◌}
+use Rattle.std.specs.Prelude.{◌≡◌, ◌≢◌, ℕ, ◌+◌, ◌≤◌, ◌<◌, ◌⊎◌, Bool, true, false, ◌==◌, Some, None, if◌then◌else◌}
 use Rattle.descriptor.specs.declared.Prot.{Prot}
 use Rattle.descriptor.specs.declared.Prot.TheVariants.{RW, RWX}
 use Rattle.descriptor.specs.declared.State.{State}
@@ -13,7 +13,7 @@ use Rattle.page_state.specs.declared.row.Usage.{Usage}
 use Rattle.page_state.specs.declared.row.Usage.TheVariants.{Plain, SharedPool, VmPool, InHand}
 use Rattle.page_state.specs.Counts.{frame_count}
 use Rattle.page_state.specs.EntryTests.{leaf, device_leaf, annotation}
-use Rattle.page_state.specs.Geometries.{block_pages, pages_below}
+use Rattle.page_state.specs.Geometries.{pages_below}
 use Rattle.page_state.specs.Layouts.{Layout, is_memory, hyp_page}
 use Rattle.reference_model.specs.Owner.{count_blocks, is_frame, is_in_hand, lent_at}
 use Rattle.page_state.specs.Regions.{region_of, is_in_range}

@@ -1,11 +1,10 @@
 -- From what there is, parts and their logs, to a longer history: the law that code's step ends in.
-use Rattle.std.specs.Prelude.{◌≡◌, ℕ, ◌+◌, ◌-◌, ◌<◌, Bool, false, List, [], ◌∷◌, ◌++◌, length}
+use Rattle.std.specs.Prelude.{◌≡◌, ◌+◌, ◌<◌, Bool, false, List, [], ◌∷◌, ◌++◌, length}
 use Rattle.step_reply.specs.declared.reply.Call.{Call}
 use Rattle.reference_model.specs.Boot.{CanBoot}
 use Rattle.reference_model.specs.History.{IsStored, Kept, IsHistory}
 use Rattle.reference_model.specs.Stored.{StoresCall}
 use Rattle.page_state.specs.Layouts.{Layout}
-use Rattle.reference_model.specs.State.{Reference}
 use Rattle.reference_model.specs.Step.{is_full, stored, StepsOn, used_by, rooms_by, with_used}
 use Rattle.reference_model.specs.Answers.{Does}
 use Rattle.reference_model.specs.Rules.{names, guest_slot}

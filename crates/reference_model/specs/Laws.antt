@@ -1,11 +1,11 @@
 -- Laws of the definitions, each proved on the contract of the function of its name.
-use Rattle.std.specs.Prelude.{◌≡◌, ◌≢◌, ℕ, ◌<◌, Bool, true, false, ◌==◌, IsTrue, List, [], ◌∷◌, ◌++◌}
+use Rattle.std.specs.Prelude.{◌≡◌, ◌≢◌, ℕ, ◌<◌, false, IsTrue, List, [], ◌∷◌, ◌++◌}
 use Rattle.step_reply.specs.declared.reply.Call.{Call}
 use Rattle.step_reply.specs.declared.reply.Refusal.{Refusal}
 use Rattle.step_reply.specs.declared.reply.Refusal.TheVariants.{LogFull, NoMemory}
 use Rattle.step_reply.specs.declared.reply.Reply.TheVariants.{Refused}
 use Rattle.step_reply.specs.declared.step.Step.{Step}
-use Rattle.reference_model.specs.State.{Vms, Shared, Guest, Cpu, Contents, Reference}
+use Rattle.reference_model.specs.State.{Vms, Shared, Guest, Cpu, Reference}
 use Rattle.page_state.specs.Layouts.{Layout}
 use Rattle.reference_model.specs.Sound.{Sound}
 use Rattle.reference_model.specs.Parts.{Part, vm_part, shared_part, guest_part}

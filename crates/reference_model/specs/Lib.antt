@@ -18,6 +18,7 @@ pub mod GuestRules
 pub mod HandRows
 pub mod Held
 pub mod History
+pub mod HeldFrames
 pub mod Isolation
 pub mod LargeRows
 pub mod Laws

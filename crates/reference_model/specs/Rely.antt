@@ -1,21 +1,16 @@
 -- What a step may rely on where what it uses stands in a state that a run leaves.
-use Rattle.std.specs.Prelude.{◌≡◌, ℕ, ◌<◌, Bool, List, Option, Some, None, Ok}
-use Rattle.step_reply.specs.declared.reply.Call.{Call}
+use Rattle.std.specs.Prelude.{◌≡◌, ℕ, ◌<◌, Bool, Option, Some, None, Ok}
 use Rattle.step_reply.specs.declared.reply.Reply.{Reply}
 use Rattle.step_reply.specs.declared.step.Step.{Step}
 use Rattle.page_state.specs.Layouts.{Layout}
 use Rattle.reference_model.specs.declared.changes.Changes.{Changes}
 use Rattle.reference_model.specs.Answers.{CarriesOut}
 use Rattle.reference_model.specs.Decides.{decides}
-use Rattle.reference_model.specs.Boot.{CanBoot}
 use Rattle.reference_model.specs.ChangeLaws.{AllFit, PartsFit, TouchedFits}
-use Rattle.reference_model.specs.Parts.{Names}
 use Rattle.reference_model.specs.Rules.{names, guest_slot}
 use Rattle.reference_model.specs.RowChanges.{with_told}
-use Rattle.reference_model.specs.Run.{IsRun}
-use Rattle.reference_model.specs.State.{Reference}
 use Rattle.reference_model.specs.Step.{rule_of, fails, made, changed, Answered}
-use Rattle.reference_model.specs.Used.{Used, used_of}
+use Rattle.reference_model.specs.Used.{Used}
 use Rattle.reference_model.specs.Reached.{IsReached}
 
 -- what a step may rely on: its slot is one of the 64, what it decides to change can be written in the maps and made of the slots and the guest, and the rows that it finds again are those that its changes tell

@@ -13,6 +13,7 @@ ghost use Rattle.reference_model.specs.OrderLaws.{PartsRun, PartsHistory};
 ghost use Rattle.reference_model.specs.PoolOrder.{RunInOrder};
 ghost use Rattle.reference_model.specs.Bounds.{BoundedKeeps, RunBounded};
 ghost use Rattle.reference_model.specs.Isolation.{Isolated, RunIsolated, OthersKeptOut, RunKeptOut};
+ghost use Rattle.reference_model.specs.HeldFrames.{HandStays, HeldStays, RunHeldStays};
 ghost use Rattle.reference_model.specs.TreeLaws.{RunCanonical, RunFailsByMaps};
 
 /// A step that refuses leaves the state but for the rooms of logs, and with LogFull these too.
@@ -167,6 +168,14 @@ pub fn isolation()
     ensures run { RunIsolated }
     ensures kept_out { OthersKeptOut }
     ensures run_kept_out { RunKeptOut }
+{}
+
+/// A frame that the host gave for a VM's tables stays with the hypervisor: no step takes it back before the guest is Dying, and a
+/// CPU's hand is emptied by that CPU alone.
+pub fn held_frames()
+    ensures stays { HeldStays }
+    ensures run { RunHeldStays }
+    ensures hand { HandStays }
 {}
 
 /// The numbers in a state of a run are bounded.

@@ -4,6 +4,7 @@ ghost use Rattle.std.specs.Prelude.{◌≡◌, ◌<◌, OnOk};
 use crate::refusing::{MOST, has_met, refuse_all, refuse_nth};
 use std::alloc::{AllocError, Global};
 use step_reply::{Refusal, Reply, Step};
+use table_tree::Reads;
 use trace_text::{GhostOracle, Oracle};
 use world::World;
 
@@ -64,7 +65,7 @@ fn try_step(
     refuse(global, n);
     let reply = world.step(cpu, step);
     let met = has_met(global);
-    let Ok(after) = world.kept_and_walked(global) else {
+    let Ok(after) = world.kept_and_walked(global, &mut Reads::new()) else {
         drop(before);
         return Err(AllocError);
     };

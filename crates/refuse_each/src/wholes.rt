@@ -9,6 +9,7 @@ use ghost_spec::state::{has_next_generation, predict};
 use page_state::{Config, LayoutFault, MemoryMap, PageRange, Region};
 use std::alloc::{AllocError, Global};
 use step_reply::Step;
+use table_tree::Reads;
 use world::{BootFault, World};
 
 /// How many tries of a memory were refused a request.
@@ -49,15 +50,16 @@ fn recorded(global: Global, world: &World<Global>) -> Came {
         return Came::Else;
     }
     let (vms, shared, guest) = (Some(&parts.vms), Some(&parts.shared), Some((0, guest)));
-    by_memory(record(global, &parts.layout, vms, shared, guest, own))
+    let reads = &mut Reads::new();
+    by_memory(record(global, &parts.layout, vms, shared, guest, own, reads))
 }
 
 /// The same of what a world keeps, what a walk finds, both, their audit, a record of parts, the logs, and the logs merged.
 pub fn of_looks(global: Global, world: &World<Global>) -> Option<[usize; 7]> {
     let kept = in_turn(global, || by_memory(world.to_ghost(global)));
-    let walked = in_turn(global, || by_memory(world.recompute(global)));
-    let both = in_turn(global, || by_memory(world.kept_and_walked(global)));
-    let audited = in_turn(global, || by_memory(world.audit(global)));
+    let walked = in_turn(global, || by_memory(world.recompute(global, &mut Reads::new())));
+    let both = in_turn(global, || by_memory(world.kept_and_walked(global, &mut Reads::new())));
+    let audited = in_turn(global, || by_memory(world.audit(global, &mut Reads::new())));
     let record = in_turn(global, || recorded(global, world));
     let logs = in_turn(global, || by_memory(world.histories(global)));
     let histories = world.histories(global).ok()?;

@@ -14,6 +14,7 @@ ghost use Rattle.trace_text.specs.View.{standing_of};
 use crate::poked::Audit;
 use ghost_judge::disagreement::Disagreement;
 use std::alloc::{Allocator, Global};
+use table_tree::Reads;
 use trace_reader::{EngineFault, Outcome, Source};
 use trace_text::{Player, ReportLine, Sink, play_trace, tell_answer, tell_audited, tell_end};
 
@@ -58,7 +59,7 @@ impl<A: Allocator + Copy> Player for Audit<A> {
     }
 
     fn end<K: Sink>(&self, sink: &mut K, text: &mut String) -> Result<Outcome, EngineFault> {
-        let Ok(found) = self.audited() else {
+        let Ok(found) = self.audited(&mut Reads::new()) else {
             return Err(EngineFault::NoMemory);
         };
         tell_found(sink, text, self.session.steps(), found)

@@ -1,9 +1,12 @@
 //! A trace that is being audited.
-ghost use Rattle.std.specs.Prelude.{◌≡◌, ◌+◌, ◌<◌, ◌≤◌, ◌^◌, IfOk, None, replicate};
+ghost use Rattle.std.specs.Prelude.{◌≡◌, ◌+◌, ◌<◌, ◌≤◌, ◌^◌, IfOk, None, OnOk, replicate};
+ghost use Rattle.ghost_oracle.specs.Counted.{HasRead};
 ghost use Rattle.ghost_oracle.specs.Poked.{IsBeside, parts_trees, raw_beside_of, raw_trees};
 ghost use Rattle.trace_audit.specs.Audited.{ComparesWalk, Does, IsAudited, Pokes, RunsLine, Sets, allowed, nothing_audited};
 ghost use Rattle.trace_audit.specs.Paths.{poke_in, which_of as which_named};
 ghost use Rattle.trace_audit.specs.View.{audited_of};
+ghost use Rattle.table_tree.specs.Reading.{count_of};
+ghost use Rattle.trace_text.specs.Looks.{session_tables};
 ghost use Rattle.trace_text.specs.Ready.{IsReady};
 ghost use Rattle.trace_text.specs.View.{answer_of, standing_of};
 
@@ -13,6 +16,7 @@ use ghost_judge::disagreement::Disagreement;
 use ghost_oracle::pokes::no_pokes;
 use ghost_oracle::raw::{RawGuest, Which};
 use std::alloc::{AllocError, Allocator, Global};
+use table_tree::Reads;
 use trace_lines::{Allows, Line, LineFault, Poke, TreeName, said};
 use trace_text::{Fault, Reported, Session, Stop};
 use world::{RawWorld, World};
@@ -124,16 +128,14 @@ impl<A: Allocator + Copy> Audit<A> {
         }
     }
 
-    /// What the audit finds. None where all is the same, as it is without a poke.
-    pub fn audited(&self) -> Result<Option<Disagreement>, AllocError>
-        ensures { IfOk result (IsAudited (audited_of self.now)) }
+    /// What the audit finds. None where all is the same, as it is without a poke; then it adds to `reads` each word that it reads.
+    pub fn audited(&self, reads: &mut Reads) -> Result<Option<Disagreement>, AllocError>
+        ensures found { IfOk result (IsAudited (audited_of self.now)) }
+        ensures looks { self.now.poked ≡ None → OnOk result (HasRead (count_of reads.old) (session_tables self.now.session) (count_of reads.new)) }
     {
         match &self.poked {
             Some(world) => compared(self.global, world),
-            None => match self.session.world() {
-                Some(world) => world.audit(self.global),
-                None => Ok(None),
-            },
+            None => self.session.audited(reads),
         }
     }
 }

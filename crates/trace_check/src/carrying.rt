@@ -2,6 +2,8 @@
 ghost use Rattle.std.specs.Prelude.{◌≡◌, ◌<◌, ◌≤◌, ◌+◌, ◌^◌, ◌∷◌, [], ◌++◌, IfOk, None, OnOk, map};
 ghost use Rattle.trace_check.specs.Runs.{Runs as RunsBy};
 ghost use Rattle.trace_check.specs.View.{told_in};
+ghost use Rattle.trace_check.specs.declared.carrying.Watch.TheVariants.{EachStep};
+ghost use Rattle.trace_text.specs.Looks.{Looks};
 ghost use Rattle.trace_text.specs.Oracles.{agreed, audited_lines, judged_lines, verdict_lines};
 ghost use Rattle.trace_text.specs.Ready.{IsReady};
 ghost use Rattle.trace_text.specs.Session.{RunsLine, at_start};
@@ -10,6 +12,7 @@ ghost use Rattle.trace_text.specs.View.{answer_of, lines_reported, standing_of};
 use ghost_judge::disagreement::Disagreement;
 use maplets::Runs;
 use std::alloc::{AllocError, Allocator, Global};
+use table_tree::Reads;
 use trace_lines::Response;
 use trace_text::{Fault, GhostOracle, MOST_LINES, ReportLine, Reported, Session, Stop, Verdict};
 
@@ -60,13 +63,12 @@ fn carry_to_end<A: Allocator + Copy>(
     ensures found { IfOk result (λ carried. carried.found ≡ None) }
 {
     let told = told_of_lines(global, session, lines, watch)?;
-    let found = found_at_end(global, session, watch)?;
+    let found = found_at_end(session, watch)?;
     Ok(Carried { told, found })
 }
 
 /// What the oracle finds that looks once.
 fn found_at_end<A: Allocator + Copy>(
-    global: Global,
     session: &Session<A>,
     watch: Watch,
 ) -> Result<Option<Disagreement>, AllocError>
@@ -74,10 +76,7 @@ fn found_at_end<A: Allocator + Copy>(
 {
     match watch {
         Watch::EachStep => Ok(None),
-        Watch::AtEnd => match session.world() {
-            Some(world) => world.audit(global),
-            None => Ok(None),
-        },
+        Watch::AtEnd => session.audited(&mut Reads::new()),
     }
 }
 
@@ -111,7 +110,7 @@ fn told_of_lines<A: Allocator + Copy>(
     Ok(told)
 }
 
-/// Carries one line out.
+/// Carries one line out. Where each step is looked at, its count says so.
 fn run_line<A: Allocator + Copy>(
     session: &mut Session<A>,
     number: u64,
@@ -122,6 +121,7 @@ fn run_line<A: Allocator + Copy>(
     requires ready { IsReady session.old }
     ensures done { RunsLine agreed number line.now (standing_of session.old) (answer_of session.new result) (standing_of session.new) }
     ensures steps { (standing_of session.new).steps ≤ (standing_of session.old).steps + 1 }
+    ensures looks { watch ≡ EachStep → Looks session.old session.new }
     ensures ready { IsReady session.new }
 {
     match watch {

@@ -81,7 +81,7 @@ fn compare(
     ensures reads { OnOk result (HasRead (count_of reads.old) (tables_of_parts world.now.parts) (count_of reads.new)) }
 {
     let judged = compare_replies(global, state, logs)?;
-    let audited = world.audit_counted(global, reads)?;
+    let audited = world.audit(global, reads)?;
     Ok(Compared { judged, audited })
 }
 

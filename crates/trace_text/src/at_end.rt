@@ -12,9 +12,9 @@ use crate::player::{Player, play_trace};
 use crate::session::Session;
 use crate::sink::Sink;
 use crate::trace::{tell_answer, tell_audited, tell_end};
-use ghost_judge::disagreement::Disagreement;
-use std::alloc::{AllocError, Allocator, Global};
+use std::alloc::{Allocator, Global};
 use std::io::{Read, Write};
+use table_tree::Reads;
 use trace_reader::{EngineFault, Outcome, Source};
 
 /// Replays a trace as `replay` does, but for the oracle: no step is judged, and after the last line what is kept is compared
@@ -72,16 +72,6 @@ impl<A: Allocator + Copy> Unasked<A> {
             session: Session::new(global, alloc),
         }
     }
-
-    /// What the oracle finds.
-    fn found(&self) -> Result<Option<Disagreement>, AllocError>
-        ensures { IfOk result (λ found. found ≡ None) }
-    {
-        match self.session.world() {
-            Some(world) => world.audit(self.global),
-            None => Ok(None),
-        }
-    }
 }
 
 impl<A: Allocator + Copy> Player for Unasked<A> {
@@ -105,7 +95,7 @@ impl<A: Allocator + Copy> Player for Unasked<A> {
     fn end<K: Sink>(&self, sink: &mut K, text: &mut String) -> Result<Outcome, EngineFault> {
         let steps = self.session.steps();
         let disagreements = self.session.disagreements();
-        match self.found() {
+        match self.session.audited(&mut Reads::new()) {
             Ok(None) => tell_end(sink, text, steps, disagreements),
             Ok(Some(found)) => {
                 tell_audited(sink, text, Some(found))?;

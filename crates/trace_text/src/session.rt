@@ -6,7 +6,7 @@ ghost use Rattle.page_state.specs.Regions.{memory_of};
 ghost use Rattle.trace_text.specs.Session.{Answers, Boots, DoesLine, IsNoWorld, MakesStep, OnMachine, RunsLine, Starts, Tells, allowed, at_start};
 ghost use Rattle.hypercalls.specs.Stands.{state_of};
 ghost use Rattle.hypercalls.specs.Whole.{call_of, IsStep};
-ghost use Rattle.trace_text.specs.Looks.{Looks, world_tables};
+ghost use Rattle.trace_text.specs.Looks.{Looks, session_tables, world_tables};
 ghost use Rattle.trace_text.specs.Oracles.{agreed};
 ghost use Rattle.trace_text.specs.Ready.{IsReady, IsStateAt};
 ghost use Rattle.table_tree.specs.Reading.{count_of};
@@ -18,6 +18,7 @@ ghost use Rattle.trace_text.specs.Worlds.{IsWordOn, free_told, guest_free_told, 
 
 use crate::fault::Fault;
 use crate::oracle::{Oracle, Verdict};
+use ghost_judge::disagreement::Disagreement;
 use ghost_oracle::compared::Compared;
 use ghost_spec::state::Ghost;
 use guest_component::Body;
@@ -111,6 +112,19 @@ impl<A: Allocator + Copy> Session<A> {
         ensures { option_map machine_of (option_copied result) ≡ (standing_of self.now).machine }
     {
         self.world.as_ref()
+    }
+
+    /// What an audit of the world finds. There is nothing to find before the boot. It adds to `reads` each word that it reads.
+    pub fn audited(&self, reads: &mut Reads) -> Result<Option<Disagreement>, AllocError>
+        ensures none { IfOk result (λ found. found ≡ None) }
+        ensures looks { OnOk result (HasRead (count_of reads.old) (session_tables self.now) (count_of reads.new)) }
+    {
+        // For its contract alone: a count is at most the greatest u64.
+        let _count = reads.count();
+        match self.world.as_ref() {
+            Some(world) => world.audit(self.global, reads),
+            None => Ok(None),
+        }
     }
 
     /// Takes the world out, if there is one. All else stays as it was, and no machine is there any more.
@@ -437,7 +451,7 @@ fn checked<A: Allocator + Copy, O: Oracle>(
     let before = state_before(global, world, remembered)?;
     let reply = world.step(cpu, step);
     // States are handed to `drop`: the proof of a scope's end would go through all parts of each.
-    let Ok(after) = world.kept_and_walked_counted(global, reads) else {
+    let Ok(after) = world.kept_and_walked(global, reads) else {
         drop(before);
         return Err(AllocError);
     };

@@ -17,6 +17,7 @@ use Rattle.reference_model.specs.Step.{Steps}
 use Rattle.reference_model.specs.Used.{used_of}
 use Rattle.reference_model.proofs.Steps.{refusal_keeps}
 use Rattle.reference_model.proofs.conditions.Canonical.{canonical_once, run_canonical, run_fails_by_maps}
+use Rattle.reference_model.proofs.conditions.HeldFrames.{hand_stays, run_held_stays}
 use Rattle.reference_model.proofs.conditions.Isolates.{run_isolated}
 use Rattle.reference_model.proofs.conditions.RunsLegal.{ready-usable, run_legal, run_rows, run_sound}
 use Rattle.reference_model.proofs.conditions.SoundOnce.{kept_out_once, sound_once}
@@ -99,6 +100,8 @@ module _ {A : Type 0} (p : Parts A) where
           by_maps = run_fails_by_maps l (h.log ++ done) s c.cpu c.slot c.step h.ready to_here (first done c left inside) (slot_named l s t c step);
           refused = λ why r. refusal_keeps l s t c why step r;
           isolated = λ v f alive owned. run_isolated l (h.log ++ done) s t c v f h.ready (first done c left inside) to_here step alive owned;
+          held = λ v f had. run_held_stays l (h.log ++ done) s t c v f h.ready (first done c left inside) to_here step had;
+          in_hand = λ k f had. hand_stays l s t c k f step had;
         }
       where
         front : (cs ds : List Call) → All (λ d. d.cpu < l.config.cpus) (cs ++ ds) → All (λ d. d.cpu < l.config.cpus) cs

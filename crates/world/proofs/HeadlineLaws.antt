@@ -1,5 +1,5 @@
 -- What follows from the headline, and that a boot has one fault.
-use Rattle.std.proofs.Common.{◌≡◌, ℕ, ◌+◌, zero, suc, refl, ap, sym, ◌∙◌, subst, arith, inl, inr, List, [], ◌∷◌, ◌++◌, map, append_assoc, All, Some}
+use Rattle.std.proofs.Common.{◌≡◌, ◌≢◌, Bool, true, ℕ, ◌+◌, zero, suc, refl, ap, sym, ◌∙◌, subst, arith, inl, inr, List, [], ◌∷◌, ◌++◌, map, append_assoc, All, Some}
 use Rattle.std.proofs.Math.Logic.{∥∥₁_elim, ∥∥₁_map}
 use Rattle.std.proofs.Props.{props}
 use Rattle.page_state.specs.declared.entry.Entry.{Entry}
@@ -12,10 +12,11 @@ use Rattle.step_reply.specs.declared.reply.Reply.{Reply}
 use Rattle.step_reply.specs.declared.step.Step.{Step}
 use Rattle.step_reply.specs.declared.step.Step.TheVariants.{GuestShareHost, GuestUnshareHost}
 use Rattle.reference_model.specs.Boot.{IsCarveEnough, boot}
+use Rattle.reference_model.specs.HeldFrames.{GivesHandOn, IsHeldFor}
 use Rattle.reference_model.specs.Isolation.{FrameStays, PageStays, guest_entry_at}
 use Rattle.reference_model.specs.Run.{Runs}
-use Rattle.reference_model.specs.Sound.{owner}
-use Rattle.reference_model.specs.State.{Contents, Reference, live}
+use Rattle.reference_model.specs.Sound.{IsHeld, hand, owner}
+use Rattle.reference_model.specs.State.{Contents, Reference, dying, live}
 use Rattle.reference_model.specs.Step.{Steps}
 use Rattle.reference_model.proofs.Steps.{end_once}
 use Rattle.hypercalls.specs.Booted.{IsConfig, layout_for}
@@ -23,7 +24,7 @@ use Rattle.hypercalls.specs.declared.parts.Parts.{Parts}
 use Rattle.hypercalls.specs.Stands.{parts_layout, state_of}
 use Rattle.world.specs.declared.boot.BootFault.TheVariants.{Config as config_fault, CarveSmall, NoMemory}
 use Rattle.world.specs.Headline.{CallKeeps, RunsOn}
-use Rattle.world.specs.HeadlineLaws.{BeginsRight, BootedElse, FaultOnce, IsRefusal, KeepsFrame, RefusalsLeave, StepKeepsFrames}
+use Rattle.world.specs.HeadlineLaws.{BeginsRight, BootedElse, FaultOnce, IsRefusal, KeepsFrame, RefusalsLeave, StepKeepsFrames, StepKeepsHand, StepKeepsHeld}
 use Rattle.world.proofs.Headline.{runs_after}
 use Rattle.world.proofs.WalkedState.{row_prop}
 
@@ -87,15 +88,31 @@ page_same : (s t : Contents) (cpu v g : ℕ) (asked step : Step) → asked ≡ s
 page_same s t cpu v g asked step e (inl same) share unshare = same
 page_same s t cpu v g asked step e (inr back) share unshare = elim back.made [ inl a ↦ absurd (share (sym e ∙ a.0)) | inr a ↦ absurd (unshare (sym e ∙ a.0)) ]
 
+bool_prop : (a b : Bool) → IsProp (a ≡ b)
+bool_prop a b = hlevel props
+
+module _ {A : Type 0} (p q : Parts A) (cpu : ℕ) (step : Step) (reply : Reply) (r : RunsOn p ((cpu, step) ∷ []) (reply ∷ []) q) where
+  -- the one call of the run, and what it keeps
+  only_call : (c : Call) × (c.cpu ≡ cpu) × (c.step ≡ step) × CallKeeps (parts_layout p) (state_of p) c (state_of q)
+  only_call =
+      let one = one_call (λ c. (c.cpu, c.step)) r.calls (cpu, step) r.asked in
+      let first = first_keeps p q ((cpu, step) ∷ []) (reply ∷ []) r one.0 [] one.1 in
+      (one.0, ap (λ (x : ℕ × Step). x.0) one.2, ap (λ (x : ℕ × Step). x.1) one.2, subst (λ (t : Reference). CallKeeps (parts_layout p) (state_of p) one.0 t) first.2 first.1)
+
+  held_kept : (v f : ℕ) → ((state_of p).contents.guest v).phase ≢ dying → IsHeldFor (state_of p).contents v f → IsHeldFor (state_of q).contents v f
+  held_kept v f n had = elim (only_call.3.held v f had) [ inl stays ↦ stays | inr back ↦ absurd (n back.is_dying) ]
+
+  hand_kept : (k f : ℕ) → IsHeld (state_of p).contents f (hand k) → (cpu ≡ k → GivesHandOn step → ⊥) → IsHeld (state_of q).contents f (hand k)
+  hand_kept k f had n = elim (only_call.3.in_hand k f had) [ inl stays ↦ stays | inr given ↦ absurd (n (sym only_call.1 ∙ given.0) (subst GivesHandOn only_call.2 given.1)) ]
+
 module _ {A : Type 0} (p q : Parts A) (cpu : ℕ) (step : Step) (reply : Reply) (v f : ℕ) (alive : ((state_of p).contents.guest v).phase ≡ live) (owned : owner (parts_layout p) (state_of p).contents f ≡ 2 + v) where
   frame_kept : RunsOn p ((cpu, step) ∷ []) (reply ∷ []) q → KeepsFrame (parts_layout p) (state_of p).contents (state_of q).contents step v f
   frame_kept r =
-      let one = one_call (λ c. (c.cpu, c.step)) r.calls (cpu, step) r.asked in
-      let first = first_keeps p q ((cpu, step) ∷ []) (reply ∷ []) r one.0 [] one.1 in
-      let stays : FrameStays (parts_layout p) (state_of p).contents (state_of q).contents one.0 v f = subst (λ (t : Reference). FrameStays (parts_layout p) (state_of p).contents t.contents one.0 v f) first.2 (first.1.isolated v f alive owned) in
+      let one = only_call p q cpu step reply r in
+      let stays = one.3.isolated v f alive owned in
       record {
         owner_stays = stays.owner_stays;
-        page_stays = λ g held share unshare. page_same (state_of p).contents (state_of q).contents one.0.cpu v g one.0.step step (ap (λ (x : ℕ × Step). x.1) one.2) (stays.page_stays g held) share unshare;
+        page_stays = λ g held share unshare. page_same (state_of p).contents (state_of q).contents one.0.cpu v g one.0.step step one.2 (stays.page_stays g held) share unshare;
       }
 
 pub step_keeps_frames : {A : Type 0} → StepKeepsFrames A
@@ -103,6 +120,12 @@ step_keeps_frames p q cpu step reply v f h alive owned = record {
   owner_stays = ∥∥₁_elim h.run (nat_prop _ _) (λ r. (frame_kept p q cpu step reply v f alive owned r).owner_stays);
   page_stays = λ g held share unshare. ∥∥₁_elim h.run (entry_prop _ _) (λ r. (frame_kept p q cpu step reply v f alive owned r).page_stays g held share unshare);
 }
+
+pub step_keeps_held : {A : Type 0} → StepKeepsHeld A
+step_keeps_held p q cpu step reply v f h n had = ∥∥₁_map h.run (λ r. held_kept p q cpu step reply r v f n had)
+
+pub step_keeps_hand : {A : Type 0} → StepKeepsHand A
+step_keeps_hand p q cpu step reply k f h had n = ∥∥₁_elim h.run (bool_prop _ _) (λ r. hand_kept p q cpu step reply r k f had n)
 
 module _ {A : Type 0} (p q : Parts A) (asked : ℕ × Step) (steps : List (ℕ × Step)) (replies : List Reply) where
   keeps_first : RunsOn p (asked ∷ steps) replies q → (c : Call) × (t : Reference) × CallKeeps (parts_layout p) (state_of p) c t

@@ -7,10 +7,11 @@ use Rattle.step_reply.specs.declared.reply.Reply.{Reply}
 use Rattle.step_reply.specs.declared.reply.Reply.TheVariants.{Refused}
 use Rattle.step_reply.specs.declared.step.Step.{Step}
 use Rattle.page_state.specs.Layouts.{Layout, is_memory}
+use Rattle.reference_model.specs.HeldFrames.{GivesHandOn, IsHeldFor, TakesBack}
 use Rattle.reference_model.specs.Isolation.{FrameStays, SharesWithHost}
 use Rattle.reference_model.specs.Owner.{row_of}
 use Rattle.reference_model.specs.Run.{Runs, IsRun}
-use Rattle.reference_model.specs.Sound.{Sound, Maps, owner}
+use Rattle.reference_model.specs.Sound.{Sound, Maps, owner, IsHeld, hand}
 use Rattle.reference_model.specs.State.{Contents, Reference, live}
 use Rattle.reference_model.specs.Step.{Steps, used_by, fails}
 use Rattle.reference_model.specs.TreeLaws.{AreCanonical, fails_by_maps}
@@ -34,7 +35,7 @@ pub record IsRight {A : Type 0} (p : Parts A) : Type 0 where
   pub kept_out : KeepsOut (parts_layout p) (state_of p).contents
   pub trees : AreCanonical (parts_layout p) (state_of p).contents
 
--- a call of a run: it begins in a sound state whose rows are those from scratch and whose trees are the coarsest of their maps; maps and numbers of free frames tell whether a pool is short for it; where it is refused, want of memory included, all that the state has stays; and it takes no frame from a Live guest, nor changes its page but where the guest shares it or takes it back
+-- a call of a run: it begins in a sound state whose rows are those from scratch and whose trees are the coarsest of their maps; maps and numbers of free frames tell whether a pool is short for it; where it is refused, want of memory included, all that the state has stays; it takes no frame from a Live guest, nor changes its page but where the guest shares it or takes it back; and what is held for a guest, or in a CPU's hand, stays so until a Dying guest's is taken back, or that CPU gives its hand on
 pub record CallKeeps (l : Layout) (s : Reference) (c : Call) (t : Reference) : Type 0 where
   pub sound : Sound l s.contents
   pub rows : RowsAgree l s.contents
@@ -42,6 +43,8 @@ pub record CallKeeps (l : Layout) (s : Reference) (c : Call) (t : Reference) : T
   pub by_maps : fails l c.cpu c.slot c.step (used_by c s) ≡ fails_by_maps l c.cpu c.slot c.step (used_by c s)
   pub refused : (why : Refusal) → c.reply ≡ Refused why → t.contents ≡ s.contents
   pub isolated : (v f : ℕ) → (s.contents.guest v).phase ≡ live → owner l s.contents f ≡ 2 + v → FrameStays l s.contents t.contents c v f
+  pub held : (v f : ℕ) → IsHeldFor s.contents v f → IsHeldFor t.contents v f ⊎ TakesBack s.contents c.cpu c.step v
+  pub in_hand : (k f : ℕ) → IsHeld s.contents f (hand k) → IsHeld t.contents f (hand k) ⊎ ((c.cpu ≡ k) × GivesHandOn c.step)
 
 -- the calls of a list of steps with these replies: they go on from a run of the reference step, which comes from the boot state to where the steps begin, and the run then ends where they end. Each call keeps what it must
 pub record RunsOn {A : Type 0} (p : Parts A) (steps : List (ℕ × Step)) (replies : List Reply) (q : Parts A) : Type 0 where

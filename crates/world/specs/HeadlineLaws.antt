@@ -1,5 +1,5 @@
 -- What the headline gives who made the steps, in words of the states before and after, and that a boot has one fault.
-use Rattle.std.specs.Prelude.{◌≡◌, ℕ, ◌+◌, List, [], ◌∷◌, All}
+use Rattle.std.specs.Prelude.{◌≡◌, ◌≢◌, ℕ, ◌+◌, List, [], ◌∷◌, All}
 use Rattle.page_state.specs.declared.layout.Config.{Config}
 use Rattle.page_state.specs.Layouts.{Layout}
 use Rattle.page_state.specs.Regions.{Memory}
@@ -8,9 +8,10 @@ use Rattle.step_reply.specs.declared.reply.Reply.{Reply}
 use Rattle.step_reply.specs.declared.reply.Reply.TheVariants.{Refused}
 use Rattle.step_reply.specs.declared.step.Step.{Step}
 use Rattle.step_reply.specs.declared.step.Step.TheVariants.{GuestShareHost, GuestUnshareHost}
+use Rattle.reference_model.specs.HeldFrames.{GivesHandOn, IsHeldFor}
 use Rattle.reference_model.specs.Isolation.{guest_entry_at}
-use Rattle.reference_model.specs.Sound.{Sound, Holds, owner}
-use Rattle.reference_model.specs.State.{Contents, live}
+use Rattle.reference_model.specs.Sound.{Sound, Holds, IsHeld, hand, owner}
+use Rattle.reference_model.specs.State.{Contents, dying, live}
 use Rattle.hypercalls.specs.Booted.{IsBooted}
 use Rattle.hypercalls.specs.declared.parts.Parts.{Parts}
 use Rattle.hypercalls.specs.Stands.{parts_layout, state_of}
@@ -36,6 +37,16 @@ pub record KeepsFrame (l : Layout) (s t : Contents) (step : Step) (v f : ℕ) : 
 abbrev pub StepKeepsFrames : Type 0 → Type 0
 StepKeepsFrames A = (p q : Parts A) (cpu : ℕ) (step : Step) (reply : Reply) (v f : ℕ) → Headline p ((cpu, step) ∷ []) (reply ∷ []) q → ((state_of p).contents.guest v).phase ≡ live
     → owner (parts_layout p) (state_of p).contents f ≡ 2 + v → KeepsFrame (parts_layout p) (state_of p).contents (state_of q).contents step v f
+
+-- and one that isn't Dying what is held for it
+abbrev pub StepKeepsHeld : Type 0 → Type 0
+StepKeepsHeld A = (p q : Parts A) (cpu : ℕ) (step : Step) (reply : Reply) (v f : ℕ) → Headline p ((cpu, step) ∷ []) (reply ∷ []) q → ((state_of p).contents.guest v).phase ≢ dying
+    → IsHeldFor (state_of p).contents v f → ∥ IsHeldFor (state_of q).contents v f ∥₁
+
+-- and a CPU its hand, unless that CPU gives it on
+abbrev pub StepKeepsHand : Type 0 → Type 0
+StepKeepsHand A = (p q : Parts A) (cpu : ℕ) (step : Step) (reply : Reply) (k f : ℕ) → Headline p ((cpu, step) ∷ []) (reply ∷ []) q → IsHeld (state_of p).contents f (hand k)
+    → (cpu ≡ k → GivesHandOn step → ⊥) → IsHeld (state_of q).contents f (hand k)
 
 -- where a step is made, all was right before it
 pub record WasRight {A : Type 0} (p : Parts A) : Type 0 where

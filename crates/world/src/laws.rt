@@ -1,5 +1,5 @@
 //! Laws over lists of steps. Each function does nothing, and its contract is the law.
-ghost use Rattle.world.specs.HeadlineLaws.{BeginsRight, BootedElse, FaultOnce, RefusalsLeave, StepKeepsFrames};
+ghost use Rattle.world.specs.HeadlineLaws.{BeginsRight, BootedElse, FaultOnce, RefusalsLeave, StepKeepsFrames, StepKeepsHand, StepKeepsHeld};
 ghost use Rattle.world.specs.Merges.{HistoryMerges, MergedHistory, MergedRun};
 ghost use Rattle.world.specs.Laws.{StepsAgree, StepsIsolate, StepsKeepOut, StepsRun, StepsRows, StepsSound};
 
@@ -41,11 +41,14 @@ pub fn merged_lists()
 {}
 
 /// What the headline gives who made the steps: where all are refused, the state has all that it had. One step leaves a Live
-/// guest its frames, and its pages of them but for its share with the host or the end of that. Where a step is made, the state
-/// before it was right.
+/// guest its frames, and its pages of them but for its share with the host or the end of that; it leaves a guest that isn't Dying
+/// the frames of its pool and its tables, and a CPU its hand, unless that CPU gives it on. Where a step is made, the state before
+/// it was right.
 pub fn after_run<A: Allocator>()
     ensures refused { RefusalsLeave A }
     ensures frames { StepKeepsFrames A }
+    ensures held { StepKeepsHeld A }
+    ensures hand { StepKeepsHand A }
     ensures begins { BeginsRight A }
 {}
 

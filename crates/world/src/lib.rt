@@ -18,7 +18,7 @@ mod raw;
 pub use boot::BootFault;
 use ghost_judge::disagreement::Disagreement;
 use ghost_oracle::compared::Compared;
-use ghost_oracle::kept::{kept, kept_and_walked_counted, recompute_counted};
+use ghost_oracle::kept::{kept, kept_and_walked, recompute};
 use ghost_oracle::pokes::poke;
 use ghost_oracle::raw::RawGuest;
 pub use ghost_oracle::raw::Which;
@@ -171,48 +171,21 @@ impl<A: Allocator> World<A> {
         kept(global, &self.parts)
     }
 
-    /// What walking every word of the world's tables from scratch finds, with what is in no table as it is.
-    pub fn recompute(&self, global: Global) -> Result<Ghost, AllocError>
-        ensures state { IfOk result (λ g. ghost_state g ≡ walked_state (parts_layout self.now.parts) (state_of self.now.parts)) }
-        ensures layout { IfOk result (λ g. layout_of g.layout ≡ parts_layout self.now.parts) }
-        ensures frames { IfOk result (HasRowsOf (parts_layout self.now.parts)) }
-    {
-        self.recompute_counted(global, &mut Reads::new())
-    }
-
-    /// As `recompute`, and adds to a count each word that it reads.
-    pub fn recompute_counted(&self, global: Global, reads: &mut Reads) -> Result<Ghost, AllocError>
+    /// What walking every word of the world's tables from scratch finds, with what is in no table as it is. It adds to `reads` each
+    /// word that it reads.
+    pub fn recompute(&self, global: Global, reads: &mut Reads) -> Result<Ghost, AllocError>
         ensures state { IfOk result (λ g. ghost_state g ≡ walked_state (parts_layout self.now.parts) (state_of self.now.parts)) }
         ensures layout { IfOk result (λ g. layout_of g.layout ≡ parts_layout self.now.parts) }
         ensures frames { IfOk result (HasRowsOf (parts_layout self.now.parts)) }
         ensures reads { OnOk result (HasRead (count_of reads.old) (tables_of_parts self.now.parts) (count_of reads.new)) }
     {
-        let walked = recompute_counted(global, &self.parts, reads)?;
+        let walked = recompute(global, &self.parts, reads)?;
         Ok(Ghost::of_kept(walked))
     }
 
-    /// Both: what `to_ghost` gives, and what `recompute` gives. By the headline they are the same, and then each word is read
-    /// once, and one state is both.
-    pub fn kept_and_walked(&self, global: Global) -> Result<Compared, AllocError>
-        ensures state { IfOk result (λ c. ghost_state c.kept ≡ state_of self.now.parts) }
-        ensures layout { IfOk result (λ c. layout_of c.kept.layout ≡ parts_layout self.now.parts) }
-        ensures maplets { IfOk result (λ c. SaysMaplets self.now.parts c.kept) }
-        ensures rows { IfOk result (λ c. SaysRows self.now.parts c.kept) }
-        ensures frames { IfOk result (λ c. HasRowsOf (parts_layout self.now.parts) c.kept) }
-        ensures walked { IfOk result (λ c. ghost_state (walked_in c) ≡ walked_state (parts_layout self.now.parts) (state_of self.now.parts)) }
-        ensures same { IfOk result (λ c. ghost_state (walked_in c) ≡ ghost_state c.kept) }
-        ensures walked_layout { IfOk result (λ c. layout_of (walked_in c).layout ≡ parts_layout self.now.parts) }
-        ensures walked_frames { IfOk result (λ c. HasRowsOf (parts_layout self.now.parts) (walked_in c)) }
-    {
-        self.kept_and_walked_counted(global, &mut Reads::new())
-    }
-
-    /// As `kept_and_walked`, and adds to a count each word that it reads.
-    pub fn kept_and_walked_counted(
-        &self,
-        global: Global,
-        reads: &mut Reads,
-    ) -> Result<Compared, AllocError>
+    /// Both: what `to_ghost` gives, and what `recompute` gives. By the headline they are the same, and then one walk
+    /// serves both, and one state is both. It adds to `reads` each word that it reads.
+    pub fn kept_and_walked(&self, global: Global, reads: &mut Reads) -> Result<Compared, AllocError>
         ensures state { IfOk result (λ c. ghost_state c.kept ≡ state_of self.now.parts) }
         ensures layout { IfOk result (λ c. layout_of c.kept.layout ≡ parts_layout self.now.parts) }
         ensures maplets { IfOk result (λ c. SaysMaplets self.now.parts c.kept) }
@@ -224,18 +197,12 @@ impl<A: Allocator> World<A> {
         ensures walked_frames { IfOk result (λ c. HasRowsOf (parts_layout self.now.parts) (walked_in c)) }
         ensures reads { OnOk result (HasRead (count_of reads.old) (tables_of_parts self.now.parts) (count_of reads.new)) }
     {
-        kept_and_walked_counted(global, &self.parts, reads)
+        kept_and_walked(global, &self.parts, reads)
     }
 
-    /// Compares what the world keeps with what a walk of every word finds. By the headline they agree.
-    pub fn audit(&self, global: Global) -> Result<Option<Disagreement>, AllocError>
-        ensures { IfOk result (λ o. o ≡ None) }
-    {
-        self.audit_counted(global, &mut Reads::new())
-    }
-
-    /// As `audit`, and adds to a count each word that it reads.
-    pub fn audit_counted(
+    /// Compares what the world keeps with what a walk of every word finds. By the headline they agree. It adds to `reads` each word
+    /// that it reads.
+    pub fn audit(
         &self,
         global: Global,
         reads: &mut Reads,
@@ -243,7 +210,7 @@ impl<A: Allocator> World<A> {
         ensures none { IfOk result (λ o. o ≡ None) }
         ensures reads { OnOk result (HasRead (count_of reads.old) (tables_of_parts self.now.parts) (count_of reads.new)) }
     {
-        let compared = self.kept_and_walked_counted(global, reads)?;
+        let compared = self.kept_and_walked(global, reads)?;
         let found = compared.audit();
         drop(compared);
         Ok(found)

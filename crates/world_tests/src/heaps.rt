@@ -7,6 +7,7 @@ use refusing::Refusing;
 use std::alloc::{Allocator, Global};
 use std::process::Abort;
 use step_reply::{Refusal, Reply, Step, Value};
+use table_tree::Reads;
 use world::World;
 
 /// The step, which takes a table of each tree.
@@ -82,7 +83,7 @@ fn expect_state<A: Allocator + Copy>(
     assert!(rt; world.parts().shared.pool.free() == free);
     let look = made(rt, world, Step::HostTranslate { page: 0x40100 });
     assert!(rt; is_shared != (look == Reply::Done(Value::Entry(Entry::Unmapped))));
-    let found = world.audit(global).expect(rt, "memory");
+    let found = world.audit(global, &mut Reads::new()).expect(rt, "memory");
     assert!(rt; found.is_none());
 }
 

@@ -26,7 +26,7 @@ use reference_model::{Changes, MapChange};
 use run_list::RunList;
 use std::alloc::Global;
 use std::process::Abort;
-use table_tree::Tree;
+use table_tree::{Reads, Tree};
 
 /// Takes the lowest frame.
 fn taken(pool: &mut Pool) -> Frame
@@ -239,7 +239,8 @@ fn shared_recorded(rt: &impl Abort, alloc: Global, layout: &Layout) -> GhostList
 {
     let own = own_state(rt, alloc, HAND);
     let shared = shared(rt, alloc, &layout.map);
-    record(alloc, layout, None, Some(&shared), None, &own).expect(rt, "memory")
+    let reads = &mut Reads::new();
+    record(alloc, layout, None, Some(&shared), None, &own, reads).expect(rt, "memory")
 }
 
 #[test]

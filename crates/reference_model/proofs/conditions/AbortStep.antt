@@ -38,7 +38,7 @@ use Rattle.page_state.proofs.Common.{both, if-true, if-false}
 use Rattle.coarse_trees.specs.Coarsest.{IsInRange}
 use Rattle.reference_model.proofs.conditions.Moves.{moved_to, always, outside-is, is_calm, host-moved, moved-out, moved-fact}
 use Rattle.reference_model.proofs.conditions.FrameMoves.{StepKept}
-use Rattle.reference_model.proofs.conditions.RangeMoves.{within-is, within-made, one-within, one-frame, advance-leaf, range-in, free-is, hands-stay}
+use Rattle.reference_model.proofs.conditions.RangeMoves.{within-is, within-made, one-within, advance-leaf, range-in, free-is, hands-stay}
 use Rattle.reference_model.proofs.conditions.SharedMoves.{x_of, shared-keeps}
 use Rattle.reference_model.proofs.conditions.Tests.{Passed, passed}
 

@@ -183,7 +183,6 @@ part-bound l Empty g m b = let a = none-frames l in omega arith
 record Modest (l : Layout) (x : Used) (h : Changes) : Type 0 where
   slot : ModestSlot x.vms h.slot
   hand : ModestHand h.cpu.hand
-  range : IsInRange l.depth (edit_of h.guest)
   part : ModestPart h.part (frames l x.guest)
 
 page-range : (l : Layout) (g : ℕ) → not (is_good_page l g) ≡ false → g + 1 ≤ pages_below l.depth
@@ -204,17 +203,30 @@ good-count l f n h = go (nat_le 1 n) (nat_le n 512) (all_below n (λ i. is_memor
     go true false c e k = cc
     go false b c e k = cc
 
-module _ (l : Layout) (s : Contents) (legal : Legal l s) (cpu : ℕ) (hands : (r : PageRange) → (s.cpu cpu).hand ≡ Some r → r.count ≤ 512) where
+module _ (l : Layout) (s : Contents) (cpu : ℕ) where
   abbrev x_at : Option ℕ → Step → Used
   x_at slot step = used_of (names step) slot cpu s
 
   abbrev h_at : Option ℕ → Step → Rule
   h_at slot step = rule l cpu slot step (x_at slot step)
 
-  pass : (slot : Option ℕ) (step : Step) → fails l cpu slot step (x_at slot step) ≡ None → Passed l.depth (h_at slot step) (lacks_slot (names step) slot) (x_at slot step)
+  pub pass : (slot : Option ℕ) (step : Step) → fails l cpu slot step (x_at slot step) ≡ None → Passed l.depth (h_at slot step) (lacks_slot (names step) slot) (x_at slot step)
   unfolding fails
   pass slot step h = passed l.depth (h_at slot step) (lacks_slot (names step) slot) (x_at slot step) h
 
+  -- the pages of a guest's tree that a step changes are pages of a tree
+  pub guest-range : (step : Step) (slot : Option ℕ) → fails l cpu slot step (x_at slot step) ≡ None → IsInRange l.depth (edit_of (h_at slot step).changes.guest)
+  unfolding rule used_of
+  guest-range (ShareGuest f g p n) o h = pages-range l f g n (pass o (ShareGuest f g p n) h).invalid
+  guest-range (UnshareGuest vm g) o h = page-range l g (or-neither (nat_le 64 vm.slot) (not (is_good_page l g)) (pass o (UnshareGuest vm g) h).invalid).1
+  guest-range (DonateGuest f g n) o h = pages-range l f g n (pass o (DonateGuest f g n) h).invalid
+  guest-range (GuestShareHost g) o h = page-range l g (pass o (GuestShareHost g) h).invalid
+  guest-range (GuestUnshareHost g) o h = page-range l g (pass o (GuestUnshareHost g) h).invalid
+  guest-range (ReclaimPage vm g) o h = page-range l g (or-neither (nat_le 64 vm.slot) (not (is_good_page l g)) (pass o (ReclaimPage vm g) h).invalid).1
+  guest-range (GuestRelax g p) o h = page-range l g (pass o (GuestRelax g p) h).invalid
+  guest-range step o h = tt
+
+module _ (l : Layout) (s : Contents) (legal : Legal l s) (cpu : ℕ) (hands : (r : PageRange) → (s.cpu cpu).hand ≡ Some r → r.count ≤ 512) where
   held : (t : Ticket) → (s.cpu cpu).ticket ≡ Some t → (s.vms.slot (ticket_vm (s.cpu cpu)).slot).generation ≡ (ticket_vm (s.cpu cpu)).generation
   held t has = subst (λ (vm : VmId). (s.vms.slot vm.slot).generation ≡ vm.generation) (sym (ticket-told (s.cpu cpu) t has).0) (sym (legal.slots.agree.tickets.ticket cpu t has).generation)
 
@@ -239,22 +251,15 @@ module _ (l : Layout) (s : Contents) (legal : Legal l s) (cpu : ℕ) (hands : (r
   few : (n : ℕ) → not (nat_le 1 n && nat_le n 8) ≡ false → n ≤ 8
   few n h = let t = (and-both (nat_le 1 n) (nat_le n 8) (not-false (nat_le 1 n && nat_le n 8) h)).1 in grind (arith, nat_tests)
 
-  modest : (step : Step) (slot : Option ℕ) → fails l cpu slot step (x_at slot step) ≡ None → Modest l (x_at slot step) (h_at slot step).changes
+  modest : (step : Step) (slot : Option ℕ) → fails l cpu slot step (x_at l s cpu slot step) ≡ None → Modest l (x_at l s cpu slot step) (h_at l s cpu slot step).changes
   unfolding rule ModestSlot ModestHand ModestPart used_of
-  modest (Fund f n) o h = record { slot = tt; hand = good-count l f n (not-false (is_good_range l f n) (pass o (Fund f n) h).invalid); range = tt; part = tt }
-  modest (ShareGuest f g p n) o h = record { slot = tt; hand = tt; range = pages-range l f g n (pass o (ShareGuest f g p n) h).invalid; part = tt }
-  modest (UnshareGuest vm g) o h = record { slot = tt; hand = tt; range = page-range l g (or-neither (nat_le 64 vm.slot) (not (is_good_page l g)) (pass o (UnshareGuest vm g) h).invalid).1; part = tt }
-  modest (DonateGuest f g n) o h = record { slot = tt; hand = tt; range = pages-range l f g n (pass o (DonateGuest f g n) h).invalid; part = tt }
-  modest (GuestShareHost g) o h = record { slot = tt; hand = tt; range = page-range l g (pass o (GuestShareHost g) h).invalid; part = tt }
-  modest (GuestUnshareHost g) o h = record { slot = tt; hand = tt; range = page-range l g (pass o (GuestUnshareHost g) h).invalid; part = tt }
-  modest Install o h = record { slot = tt; hand = tt; range = tt; part = (hand-some (s.cpu cpu).hand (pass o Install h).perm (legal.slots.some_hand cpu), hand-few (s.cpu cpu).hand (pass o Install h).perm hands) }
-  modest (Topup vm) o h = record { slot = tt; hand = tt; range = tt; part = at-most 512 (frames l (x_at o (Topup vm)).guest + (hand_of (s.cpu cpu)).count) (or-neither (is_none (s.cpu cpu).hand) (nat_lt 512 (frames l (x_at o (Topup vm)).guest + (hand_of (s.cpu cpu)).count)) (pass o (Topup vm) h).perm).1 }
-  modest (ReclaimPage vm g) o h = record { slot = tt; hand = tt; range = page-range l g (or-neither (nat_le 64 vm.slot) (not (is_good_page l g)) (pass o (ReclaimPage vm g) h).invalid).1; part = tt }
-  modest (GuestRelax g p) o h = record { slot = tt; hand = tt; range = page-range l g (pass o (GuestRelax g p) h).invalid; part = tt }
-  modest (VmReserve kind n) o h = let p = pass o (VmReserve kind n) h in record { slot = (few n p.invalid, none-loaded (or-neither (is_some (s.cpu cpu).ticket) (is_none (vacant_slot s.vms)) p.busy).1); hand = tt; range = tt; part = tt }
-  modest (VcpuLoad vm i) o h = record { slot = at-least ((x_at o (VcpuLoad vm i)).vms.slot vm.slot).vcpus i (pass o (VcpuLoad vm i) h).perm; hand = tt; range = tt; part = tt }
-  modest VmRelease o h = record { slot = released (has_stage Booked (s.cpu cpu)) (has_stage Finished (s.cpu cpu)) refl refl (not-false (has_stage Booked (s.cpu cpu) || has_stage Finished (s.cpu cpu)) (pass o VmRelease h).no_vm); hand = tt; range = tt; part = tt }
-  modest step o h = record { slot = tt; hand = tt; range = tt; part = tt }
+  modest (Fund f n) o h = record { slot = tt; hand = good-count l f n (not-false (is_good_range l f n) (pass l s cpu o (Fund f n) h).invalid); part = tt }
+  modest Install o h = record { slot = tt; hand = tt; part = (hand-some (s.cpu cpu).hand (pass l s cpu o Install h).perm (legal.slots.some_hand cpu), hand-few (s.cpu cpu).hand (pass l s cpu o Install h).perm hands) }
+  modest (Topup vm) o h = record { slot = tt; hand = tt; part = at-most 512 (frames l (x_at l s cpu o (Topup vm)).guest + (hand_of (s.cpu cpu)).count) (or-neither (is_none (s.cpu cpu).hand) (nat_lt 512 (frames l (x_at l s cpu o (Topup vm)).guest + (hand_of (s.cpu cpu)).count)) (pass l s cpu o (Topup vm) h).perm).1 }
+  modest (VmReserve kind n) o h = let p = pass l s cpu o (VmReserve kind n) h in record { slot = (few n p.invalid, none-loaded (or-neither (is_some (s.cpu cpu).ticket) (is_none (vacant_slot s.vms)) p.busy).1); hand = tt; part = tt }
+  modest (VcpuLoad vm i) o h = record { slot = at-least ((x_at l s cpu o (VcpuLoad vm i)).vms.slot vm.slot).vcpus i (pass l s cpu o (VcpuLoad vm i) h).perm; hand = tt; part = tt }
+  modest VmRelease o h = record { slot = released (has_stage Booked (s.cpu cpu)) (has_stage Finished (s.cpu cpu)) refl refl (not-false (has_stage Booked (s.cpu cpu) || has_stage Finished (s.cpu cpu)) (pass l s cpu o VmRelease h).no_vm); hand = tt; part = tt }
+  modest step o h = record { slot = tt; hand = tt; part = tt }
 
 -- the VM part where a call may use it
 grown-if : (b : Bool) (z : Vms) (h : SlotChange) → ModestSlot (if b then z else no_vms) h → (v : ℕ) → ((if b then vms_by h (if b then z else no_vms) else z).slot v).generation ≤ (z.slot v).generation + one b
@@ -287,7 +292,7 @@ made-bounded l s cpu slot step r legal b h room =
       generations = λ v. let g = grown-if (uses_vms (names step)) s.contents.vms c.slot m.slot v in let old = b.generations v in omega arith;
       vcpus = λ v. (slots v).vcpus;
       loads = λ v. (slots v).loads;
-      guests = guest-if l c s.contents.guest slot m.range (pass l s.contents legal cpu (b.hands cpu) slot step h).guest_enough m.part b.guests;
+      guests = guest-if l c s.contents.guest slot (guest-range l s.contents cpu step slot h) (pass l s.contents cpu slot step h).guest_enough m.part b.guests;
     }
 
 -- the contents stay, and no room grows

@@ -1,5 +1,5 @@
 -- The trees of a run, and what of their pools maps and numbers of free frames tell.
-use Rattle.std.proofs.Common.{◌≡◌, ℕ, ◌+◌, ◌<◌, refl, ap, sym, ◌∙◌, Bool, true, false, nat_lt, length, cond, List, Option, Some, None, Result, Ok, Err, if◌then◌else◌, ◌||◌}
+use Rattle.std.proofs.Common.{◌≡◌, ℕ, ◌+◌, ◌<◌, refl, ap, Bool, true, false, nat_lt, length, Option, Some, None, Result, Ok, Err, if◌then◌else◌, ◌||◌}
 use Rattle.std.specs.Coded.{le_prop}
 use Rattle.std.proofs.Math.Logic.{∥∥₁_elim, ∥∥₁_map}
 use Rattle.std.proofs.Props.{props}
@@ -11,7 +11,6 @@ use Rattle.page_state.specs.Layouts.{Layout}
 use Rattle.page_state.specs.Tables.{keep, put, need}
 use Rattle.page_state.specs.Trees.{Tree}
 use Rattle.page_state.proofs.Common.{same2}
-use Rattle.step_reply.specs.declared.reply.Call.{Call}
 use Rattle.step_reply.specs.declared.reply.Refusal.{Refusal}
 use Rattle.step_reply.specs.declared.reply.Refusal.TheVariants.{NoPool}
 use Rattle.step_reply.specs.declared.step.Step.{Step}
@@ -24,7 +23,7 @@ use Rattle.reference_model.specs.Conditions.{Legal}
 use Rattle.reference_model.specs.Parts.{lacks_slot, uses_shared}
 use Rattle.reference_model.specs.Rules.{names, guest_slot}
 use Rattle.reference_model.specs.Rule.{Rule}
-use Rattle.reference_model.specs.State.{Contents, Shared, no_shared}
+use Rattle.reference_model.specs.State.{Contents, no_shared}
 use Rattle.reference_model.specs.Step.{rule_of, first_test, or_else, is_short, refusal, fails}
 use Rattle.reference_model.specs.TreeLaws.{AreCanonical, RunCanonical, is_short_by_maps, fails_by_maps, RunFailsByMaps}
 use Rattle.reference_model.specs.Used.{Used, used_of, guest_at}

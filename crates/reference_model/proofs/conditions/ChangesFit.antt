@@ -49,7 +49,7 @@ use Rattle.reference_model.proofs.conditions.PageSteps.{mapped-named, named-memo
 use Rattle.reference_model.proofs.conditions.PoolSteps.{least-was, root-left}
 use Rattle.reference_model.proofs.conditions.RunsLegal.{accepted_usable, few-pages}
 use Rattle.reference_model.proofs.conditions.Slots.{ticket-fits}
-use Rattle.reference_model.proofs.conditions.RangeMoves.{within-made, one-within, one-frame, range-in, good-range, good-pages, hand-some, hand-was, memory-of}
+use Rattle.reference_model.proofs.conditions.RangeMoves.{within-made, one-frame, range-in, good-range, good-pages, hand-some, hand-was, memory-of}
 use Rattle.reference_model.proofs.conditions.Tests.{Tested, tested}
 
 -- the row of the first frame of a host's change, by the loan that the changes tell

@@ -1,14 +1,14 @@
 -- A change keeps each frame's count over the trees and the pool of a part.
-use Rattle.std.proofs.Common.{◌≡◌, ℕ, zero, suc, ◌+◌, ◌-◌, ◌≤◌, ◌<◌, refl, ap, sym, ◌∙◌, subst, arith, inl, inr, List, [], ◌∷◌, ◌++◌, length, take, drop}
-use Rattle.std.specs.Prelude.{true, false, nat_lt, ◌⊎◌, Option, Some, None, Contains}
+use Rattle.std.proofs.Common.{◌≡◌, ℕ, zero, suc, ◌+◌, ◌-◌, ◌≤◌, ◌<◌, ap, sym, ◌∙◌, arith, inl, inr, List, [], ◌∷◌, ◌++◌, length, take, drop}
+use Rattle.std.specs.Prelude.{true, nat_lt}
 use Rattle.std.proofs.lemmas.List.Sums.{sum_by-append}
 use Rattle.page_state.specs.declared.entry.Entry.TheVariants.{Unmapped}
 use Rattle.page_state.specs.Counts.{is_one, frame_count}
 use Rattle.page_state.specs.Map.{Map}
 use Rattle.page_state.specs.Trees.{Block, Tree, Pool}
 use Rattle.reference_model.specs.State.{Shared}
-use Rattle.page_state.specs.Blocks.{first_page, span, is_empty, is_one_word, block_eq, fits_word}
-use Rattle.page_state.specs.Tables.{Edit, keep, put, edited_map, edit_blocks, needs, need, freed, returned, edited, given, all_given, placed, cleared}
+use Rattle.page_state.specs.Blocks.{first_page, span, is_empty, is_one_word, fits_word}
+use Rattle.page_state.specs.Tables.{Edit, needs, need, freed, returned, edited, given, all_given, placed}
 use Rattle.reference_model.specs.declared.changes.Changes.{Changes}
 use Rattle.reference_model.specs.Changes.{edit_of}
 use Rattle.reference_model.specs.Step.{shared_after, shared_need}
@@ -16,16 +16,10 @@ use Rattle.reference_model.specs.Conditions.{table_uses, shared_uses}
 use Rattle.page_state.proofs.Blocks.{empty_means, one_word_means}
 use Rattle.page_state.proofs.Common.{both, if-true, if-false}
 use Rattle.page_state.proofs.Counts.{count_next, count_parts, count_split}
-use Rattle.page_state.proofs.BlockTests.{block_eq-same}
-use Rattle.reference_model.proofs.Frames.{cleared-old}
-use Rattle.std.specs.Prelude.{All}
-use Rattle.std.proofs.lemmas.Map.Made.{Contains-tail}
 use Rattle.page_state.specs.Entries.{advance}
-use Rattle.page_state.proofs.Cases.{by_lt}
 use Rattle.page_state.proofs.Sizes.{size_some}
-use Rattle.page_state.proofs.Updates.{update_outside}
-use Rattle.coarse_trees.specs.Coarsest.{IsCoarsest, IsInRange, IsInTree}
-use Rattle.reference_model.proofs.conditions.Tables.{AreOnce, edited-uses, block-self, needs-once, need-all, freed-has, freed-below, needs-below, root-absent, cleared-absent, placed-absent}
+use Rattle.coarse_trees.specs.Coarsest.{IsInRange}
+use Rattle.reference_model.proofs.conditions.Tables.{edited-uses, freed-below, needs-below, root-absent, cleared-absent, placed-absent}
 
 pub given-count : (f g : ℕ) (p : Pool) → frame_count f (given g p) ≡ is_one g f + frame_count f p
 given-count f g [] = count_next f g []

@@ -12,7 +12,7 @@ use Rattle.step_reply.specs.declared.step.VmId.{VmId}
 use Rattle.page_state.specs.Trees.{frames_from, root_tree}
 use Rattle.page_state.specs.Counts.{is_one, frame_count}
 use Rattle.page_state.specs.EntryTests.{leaf}
-use Rattle.reference_model.specs.GuestRules.{moved_on, install, topup, is_guest, guest_table_count, ticket_vm, ticket_kind}
+use Rattle.reference_model.specs.GuestRules.{moved_on, install, topup, guest_table_count, ticket_vm, ticket_kind}
 use Rattle.reference_model.specs.declared.changes.CpuChange.{CpuChange}
 use Rattle.reference_model.specs.declared.changes.GuestChange.{GuestChange}
 use Rattle.reference_model.specs.declared.changes.GuestChange.TheVariants.{Install as Begin, Gain}
@@ -20,14 +20,14 @@ use Rattle.reference_model.specs.declared.changes.Update.TheVariants.{Becomes}
 use Rattle.reference_model.specs.Changes.{cpu_by, no_changes, rest, frames_in}
 use Rattle.page_state.specs.Map.{is_within}
 use Rattle.reference_model.specs.SharedRules.{hand_of, hand_becomes}
-use Rattle.reference_model.specs.State.{Guest, Contents, live, no_guest}
+use Rattle.reference_model.specs.State.{Guest, Contents, no_guest}
 use Rattle.page_state.specs.Layouts.{Layout}
 use Rattle.reference_model.specs.Parts.{shared_and_guest}
 use Rattle.reference_model.specs.Used.{Used, used_of}
 use Rattle.reference_model.specs.Step.{refusal, guest_after}
 use Rattle.page_state.specs.Tables.{all_given, needs, freed, returned, edited}
 use Rattle.reference_model.specs.Conditions.{Condition, hyps, HostFits, hyp_says, guest_condition, Legal, IsUsable, in_shared, in_vm, one, table_uses, guest_uses}
-use Rattle.page_state.proofs.Common.{both, eq-self, or-neither, not-false}
+use Rattle.page_state.proofs.Common.{both, eq-self, or-neither}
 use Rattle.page_state.proofs.Counts.{count_next}
 use Rattle.coarse_trees.proofs.Stays.{root_is_coarsest}
 use Rattle.reference_model.proofs.conditions.Conserved.{all_given-count}

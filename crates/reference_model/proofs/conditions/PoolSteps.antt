@@ -35,7 +35,7 @@ use Rattle.reference_model.specs.Used.{Used, used_of}
 use Rattle.reference_model.specs.Step.{refusal, guest_after}
 use Rattle.page_state.specs.Tables.{needs, freed, returned, edited}
 use Rattle.page_state.specs.Blocks.{is_one_word}
-use Rattle.coarse_trees.proofs.Stays.{root_is_coarsest, none_is_coarsest}
+use Rattle.coarse_trees.proofs.Stays.{none_is_coarsest}
 use Rattle.reference_model.proofs.conditions.Conserved.{empty-one_word}
 use Rattle.reference_model.specs.Conditions.{Condition, hosts, hyps, guest_condition, GuestFits, Legal, IsUsable, in_vm, in_hand, one, table_uses, guest_uses, IsGood}
 use Rattle.page_state.proofs.Blocks.{all_from-each, empty_means, is_unmapped-same}
@@ -150,14 +150,14 @@ pool-some : (free : Pool) → (length free == 0) ≡ false → free ≡ least fr
 pool-some [] h = cc
 pool-some (f ∷ fs) h = refl
 
-in_vm-hyps : (v : ℕ) (c : Condition) → in_vm v c ≡ true → c ≡ hyps (VmPool v)
+pub in_vm-hyps : (v : ℕ) (c : Condition) → in_vm v c ≡ true → c ≡ hyps (VmPool v)
 in_vm-hyps v (hyps (VmPool u)) h = ap (λ n. hyps (VmPool n)) (eq-same u v h)
 in_vm-hyps v c h = cc
 
 one-off : (f q : ℕ) → is_within f 1 q ≡ false → (f == q) ≡ false
 one-off f q w = elim (both (f == q)) [ inr e ↦ e | inl e ↦ (let same : f ≡ q = eq-same f q e in let z : true ≡ false = sym (within-made f 1 q (omega arith) (omega arith)) ∙ w in cc) ]
 
-one-some : (b : Bool) (n : ℕ) → n ≡ one b → 1 ≤ n → b ≡ true
+pub one-some : (b : Bool) (n : ℕ) → n ≡ one b → 1 ≤ n → b ≡ true
 one-some true n h k = refl
 one-some false n h k = absurd (omega arith)
 

@@ -64,10 +64,10 @@ module _ (l : Layout) (s : Contents) (legal : Legal l s) (f : ℕ) where
     alone = λ component page h. holds-state s component page f h (λ state i n. owner-of l s f (legal.condition f) x g component page state i n);
   }
 
-  place-use : (p : Place) → IsHeld s f p → use_of p ≡ (row_in f (legal.condition f)).usage
+  pub place-use : (p : Place) → IsHeld s f p → use_of p ≡ (row_in f (legal.condition f)).usage
   place-use p h = sym (ap (λ d. (row_in f d).usage) (held-use l s f (legal.condition f) x g k legal.trees.host legal.trees.hyp legal.trees.guest p h))
 
-  place-of : (row_in f (legal.condition f)).usage ≢ Plain → (p : Place) × IsHeld s f p × (use_of p ≡ (row_in f (legal.condition f)).usage)
+  pub place-of : (row_in f (legal.condition f)).usage ≢ Plain → (p : Place) × IsHeld s f p × (use_of p ≡ (row_in f (legal.condition f)).usage)
   place-of n =
       let at = held-found l s f (legal.condition f) x g k legal.trees.host legal.trees.hyp legal.trees.guest (row_in f (legal.condition f)).usage n (used-hyps f (legal.condition f) n) in
       (at.0, at.1, place-use at.0 at.1)

@@ -1,6 +1,6 @@
 -- Each state of a run is legal, and what is asked of a layout holds of each that is accepted.
-use Rattle.std.proofs.Common.{◌≡◌, ℕ, suc, ◌+◌, ◌-◌, ◌*◌, ◌^◌, ◌≤◌, ◌<◌, refl, ap, sym, ◌∙◌, subst, arith, inl, inr, List, [], ◌∷◌, All, AllPairs}
-use Rattle.std.specs.Prelude.{true, false, ◌&&◌, ◌==◌, ◌⊎◌, nat_le, Option, Some, None, IsSome}
+use Rattle.std.proofs.Common.{◌≡◌, ℕ, suc, ◌+◌, ◌-◌, ◌*◌, ◌^◌, ◌≤◌, ◌<◌, refl, sym, ◌∙◌, subst, arith, inl, inr, List, [], ◌∷◌, All, AllPairs}
+use Rattle.std.specs.Prelude.{true, ◌&&◌, nat_le, Option, Some, None, IsSome}
 use Rattle.std.specs.List.{list_any}
 use Rattle.std.proofs.lemmas.Bool.Decides.{nat_tests}
 use Rattle.page_state.specs.declared.entry.PageRange.{PageRange}
@@ -9,7 +9,7 @@ use Rattle.step_reply.specs.declared.reply.Call.{Call}
 use Rattle.page_state.specs.declared.layout.Geometry.{Geometry}
 use Rattle.reference_model.specs.Boot.{boot, CanBoot}
 use Rattle.page_state.specs.Accepted.{IsAcceptedLayout}
-use Rattle.page_state.specs.Geometries.{geometry_of, levels_below, block_pages, pages_below}
+use Rattle.page_state.specs.Geometries.{geometry_of, block_pages, pages_below}
 use Rattle.page_state.specs.LayoutFaults.{IsAccepted, AreDisjoint, is_memory_around}
 use Rattle.page_state.specs.Regions.{is_in_range, end_of, is_memory_kind, is_memory_region, find_region, region_of}
 use Rattle.reference_model.specs.State.{Reference}
@@ -23,7 +23,7 @@ use Rattle.page_state.proofs.Geometries.{levels_least, pages_most, width_is}
 use Rattle.page_state.proofs.Regions.{found-in, same-region, find-holds}
 use Rattle.std.proofs.Common.{mul-le-mul_right}
 use Rattle.page_state.proofs.Sizes.{size_some, size_split}
-use Rattle.page_state.proofs.Common.{both, and-both, eq-same}
+use Rattle.page_state.proofs.Common.{both, and-both}
 use Rattle.reference_model.proofs.conditions.BootLegal.{boot_legal}
 use Rattle.reference_model.proofs.conditions.Keeps.{legal_keeps}
 use Rattle.reference_model.proofs.conditions.OfLegal.{legal_rows}

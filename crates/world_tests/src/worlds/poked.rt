@@ -12,6 +12,7 @@ use page_state::{Entry, Page};
 use std::alloc::Global;
 use std::process::Abort;
 use step_reply::{Reply, Step, Value};
+use table_tree::Reads;
 use world::{RawWorld, World};
 
 /// The indices that lead to the word of page 0x40100.
@@ -56,7 +57,7 @@ fn expect_share(rt: &impl Abort, alloc: Global, world: &mut World<Global>)
 {
     share(rt, alloc, world);
     expect_shared(rt, alloc, world);
-    assert!(rt; world.audit(alloc).expect(rt, "memory").is_none());
+    assert!(rt; world.audit(alloc, &mut Reads::new()).expect(rt, "memory").is_none());
 }
 
 /// Sets the page's word in the host's tree.

@@ -1,6 +1,6 @@
 use Rattle.ghost_oracle.specs.declared.compared.Compared.{Compared}
 use Rattle.ghost_oracle.proofs.Scratch.{if_ok}
-use Rattle.ghost_oracle.proofs.kept.kept_and_walked_counted.Goals as goal
+use Rattle.ghost_oracle.proofs.kept.kept_and_walked.Goals as goal
 
 pub compared-requires-clause-kept : goal.compared-requires-clause-kept
 compared-requires-clause-kept g c = c.in_ok-found.ensures.kept c.requires.history

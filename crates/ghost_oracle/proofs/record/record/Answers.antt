@@ -9,7 +9,7 @@ use Rattle.table_tree.specs.Reading.{count_of}
 use Rattle.ghost_oracle.specs.Recorded.{given}
 use Rattle.ghost_oracle.proofs.Counting.{read_given}
 use Rattle.ghost_oracle.proofs.Recording.{is_recorded}
-use Rattle.ghost_oracle.proofs.record.record_counted.Goals as goal
+use Rattle.ghost_oracle.proofs.record.record.Goals as goal
 
 pub returns-clause-state : goal.returns-clause-state
 returns-clause-state g c =

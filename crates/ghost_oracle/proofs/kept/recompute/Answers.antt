@@ -1,5 +1,5 @@
 use Rattle.ghost_oracle.proofs.Counting.{on_ok}
-use Rattle.ghost_oracle.proofs.kept.recompute_counted.Goals as goal
+use Rattle.ghost_oracle.proofs.kept.recompute.Goals as goal
 
 pub returns-clause-kept : goal.returns-clause-kept
 returns-clause-kept g c = λ past. c.with_scratch.ensures.kept (c.in_ok-found.ensures.kept past)

@@ -1,4 +1,4 @@
-use Rattle.world.proofs.World.recompute_counted.Goals as goal
+use Rattle.world.proofs.World.recompute.Goals as goal
 
 pub of_kept-requires : goal.of_kept-requires
 of_kept-requires g c = c.in_ok-walked.ensures.kept c.args.self.now.history
