@@ -1,21 +1,21 @@
 //! A tree and the maplets that say the same.
 #![tactic(auto)]
 
-ghost use Rattle.std.specs.Prelude.{◌≡◌, ℕ, ◌+◌, ◌-◌, ◌<◌, ◌≤◌, ◌^◌, ◌↔◌, length, take, drop, IsOk, IfOk, OnOk, OnErr, Some, Err};
+ghost use Rattle.std.specs.Prelude.{◌≡◌, ℕ, ◌+◌, ◌≤◌, ◌^◌, length, IsOk, IfOk, OnOk, OnErr, Some};
 ghost use Rattle.component.specs.Maps.{coarsest_prop, maps_prop};
-ghost use Rattle.component.specs.View.{HasRoomFor, need_for, tree_after, back_from};
-ghost use Rattle.hyp_pool.specs.Pools.{IsPool};
+ghost use Rattle.component.specs.View.{HasRoomFor, IsPlanFor, need_for};
 ghost use Rattle.page_state.specs.Blocks.{block_at, is_empty as is_empty_block};
 ghost use Rattle.page_state.specs.Map.{empty_map};
 ghost use Rattle.page_state.specs.Runs.{map_of, IsCoarsest};
-ghost use Rattle.page_state.specs.Tables.{all_given};
 ghost use Rattle.page_state.specs.Counts.{frame_count};
 ghost use Rattle.page_state.specs.Geometries.{levels_below};
 ghost use Rattle.reference_model.specs.ChangeLaws.{Fits, FitsWhere};
+ghost use Rattle.reference_model.specs.Changes.{edit_of};
 ghost use Rattle.table_tree.specs.Stocks.{frames_of};
-ghost use Rattle.table_tree.specs.View.{meaning, tree_of, uses, tables_of, root_of, spares_of};
+ghost use Rattle.table_tree.specs.View.{meaning, spares_of};
+ghost use Rattle.walk_plan.specs.Hands.{AreApart, IsEdited, IsGivenBack, IsLeft, IsTaken, Stays};
 
-use hyp_pool::{Pool, PoolFault};
+use hyp_pool::Pool;
 use maplets::Maplets;
 use page_state::{Entry, Page};
 use reference_model::MapChange;
@@ -93,17 +93,9 @@ impl<A: Allocator> Component<A> {
     pub fn commit(&mut self, pool: &mut Pool, plan: Plan<A>)
         requires change { FitsWhere (levels_below self.old.tree.geometry) plan.change }
         requires just { length (frames_of plan.spare.stock) ≡ need_for self.old.tree plan.change }
-        requires distinct { (f : ℕ) → uses self.old.tree f + frame_count f (frames_of plan.spare.stock) + frame_count f pool.old.frames ≤ 1 }
-        requires covered { tables_of self.old.tree + length (frames_of plan.spare.stock) + length pool.old.frames ≤ pool.old.room + 1 }
+        requires apart { AreApart self.old.tree (frames_of plan.spare.stock) pool.old }
         requires ready { HasRoomFor plan.change self.old.maplets }
-        ensures tree { tree_of self.new.tree ≡ tree_after self.old.tree plan.change (frames_of plan.spare.stock) }
-        ensures geometry { self.new.tree.geometry ≡ self.old.tree.geometry }
-        ensures root { root_of self.new.tree ≡ root_of self.old.tree }
-        ensures pool { pool.new.frames ≡ all_given (back_from self.old.tree plan.change) pool.old.frames }
-        ensures pool_room { pool.new.room ≡ pool.old.room }
-        ensures frames { (f : ℕ) → uses self.new.tree f + frame_count f pool.new.frames ≡ uses self.old.tree f + frame_count f (frames_of plan.spare.stock) + frame_count f pool.old.frames }
-        ensures tables { tables_of self.new.tree + length pool.new.frames ≡ tables_of self.old.tree + length (frames_of plan.spare.stock) + length pool.old.frames }
-        ensures spares { spares_of self.new.tree ≡ spares_of self.old.tree + length (back_from self.old.tree plan.change) }
+        ensures { IsEdited (edit_of plan.change) (frames_of plan.spare.stock) self.old.tree pool.old self.new.tree pool.new }
     {
         let Plan { change, spare } = plan;
         match change {
@@ -116,17 +108,9 @@ impl<A: Allocator> Component<A> {
     fn set(&mut self, pool: &mut Pool, change: MapChange, spare: Spare<A>)
         requires change { Fits (levels_below self.old.tree.geometry) change }
         requires just { length (frames_of spare.stock) ≡ need_for self.old.tree (Some change) }
-        requires distinct { (f : ℕ) → uses self.old.tree f + frame_count f (frames_of spare.stock) + frame_count f pool.old.frames ≤ 1 }
-        requires covered { tables_of self.old.tree + length (frames_of spare.stock) + length pool.old.frames ≤ pool.old.room + 1 }
+        requires apart { AreApart self.old.tree (frames_of spare.stock) pool.old }
         requires ready { HasRoomFor (Some change) self.old.maplets }
-        ensures tree { tree_of self.new.tree ≡ tree_after self.old.tree (Some change) (frames_of spare.stock) }
-        ensures geometry { self.new.tree.geometry ≡ self.old.tree.geometry }
-        ensures root { root_of self.new.tree ≡ root_of self.old.tree }
-        ensures pool { pool.new.frames ≡ all_given (back_from self.old.tree (Some change)) pool.old.frames }
-        ensures pool_room { pool.new.room ≡ pool.old.room }
-        ensures frames { (f : ℕ) → uses self.new.tree f + frame_count f pool.new.frames ≡ uses self.old.tree f + frame_count f (frames_of spare.stock) + frame_count f pool.old.frames }
-        ensures tables { tables_of self.new.tree + length pool.new.frames ≡ tables_of self.old.tree + length (frames_of spare.stock) + length pool.old.frames }
-        ensures spares { spares_of self.new.tree ≡ spares_of self.old.tree + length (back_from self.old.tree (Some change)) }
+        ensures { IsEdited (edit_of (Some change)) (frames_of spare.stock) self.old.tree pool.old self.new.tree pool.new }
     {
         let mut reads = Reads::new();
         let MapChange { range, entry } = change;
@@ -139,11 +123,7 @@ impl<A: Allocator> Component<A> {
     pub fn release(&mut self, pool: &mut Pool, plan: Plan<A>)
         requires distinct { (f : ℕ) → frame_count f (frames_of plan.spare.stock) + frame_count f pool.old.frames ≤ 1 }
         requires covered { length (frames_of plan.spare.stock) + length pool.old.frames ≤ pool.old.room }
-        ensures frames { pool.new.frames ≡ all_given (frames_of plan.spare.stock) pool.old.frames }
-        ensures room { pool.new.room ≡ pool.old.room }
-        ensures spares { spares_of self.new.tree ≡ spares_of self.old.tree + length (frames_of plan.spare.stock) }
-        ensures geometry { self.new.tree.geometry ≡ self.old.tree.geometry }
-        ensures table { self.new.tree.table ≡ self.old.tree.table }
+        ensures given { IsGivenBack (frames_of plan.spare.stock) self.old.tree pool.old self.new.tree pool.new }
         ensures maplets { self.new.maplets ≡ self.old.maplets }
     {
         let Plan { change: _, spare } = plan;
@@ -176,35 +156,24 @@ impl<A: Allocator> Component<A> {
 
 impl<A: Allocator + Copy> Component<A> {
     /// Takes what a change needs in hand: the lowest frames of the pool, a table for each, the tree's spares first, and room
-    /// in the maplets. NoPool is answered exactly where fewer frames are free, before memory is asked for, NoMemory only where
-    /// the spares are too few or that room isn't there, and memory was refused. Then runs, pool and tree are as they were, but
-    /// that the tree may have more spares.
+    /// in the maplets. Requires that so many frames are free. It is refused only where the spares are too few or that room
+    /// isn't there, and memory was refused; then runs, pool and tree are as they were, but that the tree may have more spares.
     pub fn reserve(
         &mut self,
         alloc: A,
         pool: &mut Pool,
         change: Option<MapChange>,
         need: usize,
-    ) -> Result<Plan<A>, PoolFault>
-        ensures change { IfOk result (λ p. p.change ≡ change) }
-        ensures spare { IfOk result (λ p. frames_of p.spare.stock ≡ take need pool.old.frames) }
-        ensures pool { OnOk result (pool.new.frames ≡ drop need pool.old.frames) }
-        ensures ready { OnOk result (HasRoomFor change self.new.maplets) }
-        ensures no_pool { (result ≡ Err PoolFault.NoPool) ↔ (length pool.old.frames < need) }
-        ensures enough { OnOk result (need ≤ length pool.old.frames) }
-        ensures is_pool { IsPool pool.old }
-        ensures no_memory { result ≡ Err PoolFault.NoMemory → HasRoomFor change self.old.maplets → spares_of self.old.tree < need }
-        ensures spares { OnOk result (spares_of self.new.tree ≡ spares_of self.old.tree - need) }
-        ensures geometry { self.new.tree.geometry ≡ self.old.tree.geometry }
-        ensures table { self.new.tree.table ≡ self.old.tree.table }
+    ) -> Result<Plan<A>, AllocError>
+        requires { need ≤ length pool.old.frames }
+        ensures planned { IfOk result (IsPlanFor change self.new.maplets) }
+        ensures taken { IfOk result (λ p. IsTaken need self.old.tree pool.old self.new.tree pool.new (frames_of p.spare.stock)) }
+        ensures left { OnErr result (IsLeft self.old.tree pool.old self.new.tree pool.new) }
+        ensures succeeds { HasRoomFor change self.old.maplets → need ≤ spares_of self.old.tree → IsOk result }
+        ensures stays { Stays self.old.tree self.new.tree }
         ensures runs { self.new.maplets.runs ≡ self.old.maplets.runs }
-        ensures err { OnErr result (pool.new ≡ pool.old) }
-        ensures err_spares { OnErr result (spares_of self.old.tree ≤ spares_of self.new.tree) }
         ensures room { pool.new.room ≡ pool.old.room }
     {
-        if pool.free() < need {
-            return Err(PoolFault::NoPool);
-        }
         self.make_room(&change)?;
         let spare = walker::reserve_tables(alloc, &mut self.tree, pool, need)?;
         Ok(Plan { change, spare })

@@ -1,7 +1,6 @@
 -- What a change of a guest needs, and what is ready for it.
-use Rattle.std.specs.Prelude.{◌≡◌, ℕ, ◌≤◌, Option, Some, None}
+use Rattle.std.specs.Prelude.{◌≡◌, Option, Some, None}
 use Rattle.component.specs.declared.Plan.{Plan}
-use Rattle.component.specs.View.{HasRoomFor}
 use Rattle.page_state.specs.declared.layout.Geometry.{Geometry}
 use Rattle.page_state.specs.Geometries.{levels_below}
 use Rattle.reference_model.specs.declared.changes.Changes.{Changes}
@@ -10,8 +9,6 @@ use Rattle.reference_model.specs.declared.changes.GuestChange.TheVariants.{Insta
 use Rattle.reference_model.specs.declared.changes.MapChange.{MapChange}
 use Rattle.reference_model.specs.Changes.{guest_by}
 use Rattle.reference_model.specs.State.{Guest, no_guest}
-use Rattle.reference_model.specs.Step.{guest_need}
-use Rattle.table_tree.specs.View.{spares_of}
 use Rattle.guest_component.specs.declared.body.Body.{Body}
 use Rattle.guest_component.specs.declared.guest.Guest.{Guest as GuestComponent}
 use Rattle.guest_component.specs.declared.guest.GuestPlan.{GuestPlan}
@@ -44,6 +41,12 @@ map_with p o = guest_in o
 
 abbrev pub guest_with : {A : Type 0} → GuestPlan A → GuestComponent A → Guest
 guest_with p g = map_with p.map g.body
+
+-- a plan of the map's change was made of guest `g`, which is now `h`: with the frames in hand given back it is as it was
+pub record IsMapPlanned {A : Type 0} (c : Option MapChange) (g h : GuestComponent A) (p : Option (Plan A)) : Type 0 where
+  pub in_hand : IsMapInHand h.body p
+  pub planned : PlansFor c p
+  pub whole : map_with p h.body ≡ guest_of g
 
 -- the changes can be made of the guest, and all that they need is in hand
 pub record IsReadyFor {A : Type 0} (h : Changes) (g : GuestComponent A) (p : GuestPlan A) : Type 0 where

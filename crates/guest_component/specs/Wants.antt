@@ -11,6 +11,10 @@ use Rattle.guest_component.specs.declared.body.Body.{Body}
 use Rattle.guest_component.specs.declared.guest.Guest.{Guest as GuestComponent}
 use Rattle.guest_component.specs.View.{guest_of, guest_depth}
 
+-- the tables that the change of a guest's map needs
+abbrev pub need_of : {A : Type 0} → GuestComponent A → Changes → ℕ
+need_of g h = guest_need (guest_depth g) h (guest_of g)
+
 -- a guest's tree has n spares or more, and its maplets the room that a change of its map needs
 abbrev pub HasReadyMap : {A : Type 0} → ℕ → Option MapChange → Option (Body A) → Type 0
 HasReadyMap n c None = Unit {0}
@@ -24,4 +28,4 @@ MakesNone other = Unit {0}
 -- memory for the changes is there already: they make no guest, and the tree has spares for them and the maplets room
 pub record WantsNoMemory {A : Type 0} (h : Changes) (g : GuestComponent A) : Type 0 where
   pub made : MakesNone h.part
-  pub map : HasReadyMap (guest_need (guest_depth g) h (guest_of g)) h.guest g.body
+  pub map : HasReadyMap (need_of g h) h.guest g.body

@@ -146,7 +146,8 @@ impl<A: Allocator> Body<A> {
     ghost use Rattle.reference_model.specs.ChangeLaws.{FitsWhere};
     ghost use Rattle.reference_model.specs.Step.{guest_after};
     ghost use Rattle.table_tree.specs.Stocks.{frames_of};
-    ghost use Rattle.table_tree.specs.View.{spares_of, tables_of, uses};
+    ghost use Rattle.table_tree.specs.View.{spares_of};
+    ghost use Rattle.walk_plan.specs.Hands.{KeepsFrames};
 
     /// Gives all that is in hand for a change back.
     pub(crate) fn release(&mut self, plan: Plan<A>)
@@ -166,9 +167,7 @@ impl<A: Allocator> Body<A> {
         requires change { FitsWhere (levels_below self.old.map.tree.geometry) plan.change }
         requires in_hand { IsInHand plan.change self.old plan }
         ensures made { body_of self.new ≡ map_changed (levels_below self.old.map.tree.geometry) plan.change (body_with plan self.old) }
-        ensures geometry { self.new.map.tree.geometry ≡ self.old.map.tree.geometry }
-        ensures frames { (f : ℕ) → uses self.new.map.tree f + frame_count f self.new.pool.frames ≡ uses self.old.map.tree f + frame_count f (pool_with plan self.old).frames }
-        ensures tables { tables_of self.new.map.tree + length self.new.pool.frames ≡ tables_of self.old.map.tree + length (pool_with plan self.old).frames }
+        ensures keeps { KeepsFrames self.old.map.tree (frames_of plan.spare.stock) self.old.pool self.new.map.tree self.new.pool }
     {
         let map = &mut self.map;
         let pool = &mut self.pool;
@@ -196,9 +195,10 @@ impl<A: Allocator> Body<A> {
 
 impl<A: Allocator + Copy> Body<A> {
     ghost use Rattle.std.specs.Prelude.{◌≡◌, ◌<◌, ◌≤◌, ◌↔◌, length, Err, IfOk, OnErr};
-    ghost use Rattle.component.specs.View.{HasRoomFor, need_for};
+    ghost use Rattle.component.specs.View.{need_for};
     ghost use Rattle.guest_component.specs.Bodies.{body_of};
     ghost use Rattle.guest_component.specs.InHand.{IsInHand, body_with};
+    ghost use Rattle.guest_component.specs.Wants.{HasReadyMap};
     ghost use Rattle.page_state.specs.Geometries.{levels_below};
     ghost use Rattle.reference_model.specs.ChangeLaws.{FitsWhere};
     ghost use Rattle.table_tree.specs.View.{spares_of};
@@ -214,7 +214,7 @@ impl<A: Allocator + Copy> Body<A> {
         ensures in_hand { IfOk result (λ p. IsInHand change self.new p) }
         ensures whole { IfOk result (λ p. body_with p self.new ≡ body_of self.old) }
         ensures no_pool { (result ≡ Err PoolFault.NoPool) ↔ (length self.old.pool.frames < need_for self.old.map.tree change) }
-        ensures no_memory { result ≡ Err PoolFault.NoMemory → HasRoomFor change self.old.map.maplets → spares_of self.old.map.tree < need_for self.old.map.tree change }
+        ensures no_memory { result ≡ Err PoolFault.NoMemory → HasReadyMap (need_for self.old.map.tree change) change (Some self.old) → ⊥ }
         ensures err { OnErr result (body_of self.new ≡ body_of self.old) }
         ensures err_spares { OnErr result (spares_of self.old.map.tree ≤ spares_of self.new.map.tree) }
         ensures geometry { self.new.map.tree.geometry ≡ self.old.map.tree.geometry }
@@ -223,6 +223,9 @@ impl<A: Allocator + Copy> Body<A> {
         let map = &mut self.map;
         let pool = &mut self.pool;
         let need = map.need(&change);
-        map.reserve(alloc, pool, change, need)
+        if pool.free() < need {
+            return Err(PoolFault::NoPool);
+        }
+        Ok(map.reserve(alloc, pool, change, need)?)
     }
 }

@@ -2,11 +2,10 @@
 ghost use Rattle.std.specs.Prelude.{◌≡◌, ◌<◌, ◌≤◌, ◌↔◌, length, Err, IfOk, OnOk, OnErr};
 ghost use Rattle.guest_component.specs.Bodies.{IsOfGeometry};
 ghost use Rattle.guest_component.specs.Changing.{CanInstallFrom, GuestCanChange, StaysMade};
-ghost use Rattle.guest_component.specs.Wants.{MakesNone};
-ghost use Rattle.guest_component.specs.Plans.{IsMadeFor, IsMapInHand, IsReadyFor, PlansFor, guest_with, map_with};
-ghost use Rattle.guest_component.specs.Wants.{HasReadyMap, WantsNoMemory};
+ghost use Rattle.guest_component.specs.Plans.{IsMadeFor, IsMapInHand, IsMapPlanned, IsReadyFor, PlansFor, guest_with, map_with};
+ghost use Rattle.guest_component.specs.Wants.{HasReadyMap, MakesNone, WantsNoMemory, need_of};
 ghost use Rattle.guest_component.specs.View.{guest_of, guest_depth, guest_in, guest_spares, runs_of};
-ghost use Rattle.reference_model.specs.Step.{guest_after, guest_need};
+ghost use Rattle.reference_model.specs.Step.{guest_after};
 
 use crate::body::Body;
 use crate::guest::{Guest, GuestPlan};
@@ -115,11 +114,9 @@ impl<A: Allocator + Copy> Guest<A> {
     /// Takes what the change of its map needs in hand.
     fn reserve_map(&mut self, alloc: A, changes: &Changes) -> Result<Option<Plan<A>>, PoolFault>
         requires { GuestCanChange (guest_depth self.old) changes.now (guest_of self.old) }
-        ensures in_hand { IfOk result (λ p. IsMapInHand self.new.body p) }
-        ensures planned { IfOk result (λ p. PlansFor changes.now.guest p) }
-        ensures whole { IfOk result (λ p. map_with p self.new.body ≡ guest_of self.old) }
-        ensures no_pool { (result ≡ Err PoolFault.NoPool) ↔ (length (guest_of self.old).free < guest_need (guest_depth self.old) changes.now (guest_of self.old)) }
-        ensures no_memory { result ≡ Err PoolFault.NoMemory → HasReadyMap (guest_need (guest_depth self.old) changes.now (guest_of self.old)) changes.now.guest self.old.body → ⊥ }
+        ensures planned { IfOk result (IsMapPlanned changes.now.guest self.old self.new) }
+        ensures no_pool { (result ≡ Err PoolFault.NoPool) ↔ (length (guest_of self.old).free < need_of self.old changes.now) }
+        ensures no_memory { result ≡ Err PoolFault.NoMemory → HasReadyMap (need_of self.old changes.now) changes.now.guest self.old.body → ⊥ }
         ensures err { OnErr result (guest_of self.new ≡ guest_of self.old) }
         ensures err_spares { OnErr result (guest_spares self.old.body ≤ guest_spares self.new.body) }
         ensures geometry { self.new.geometry ≡ self.old.geometry }
@@ -139,7 +136,7 @@ impl<A: Allocator + Copy> Guest<A> {
         requires { GuestCanChange (guest_depth self.old) changes.now (guest_of self.old) }
         ensures ready { IfOk result (λ p. IsReadyFor changes.now self.new p) }
         ensures whole { IfOk result (λ p. guest_with p self.new ≡ guest_of self.old) }
-        ensures no_pool { (result ≡ Err PoolFault.NoPool) ↔ (length (guest_of self.old).free < guest_need (guest_depth self.old) changes.now (guest_of self.old)) }
+        ensures no_pool { (result ≡ Err PoolFault.NoPool) ↔ (length (guest_of self.old).free < need_of self.old changes.now) }
         ensures no_memory { result ≡ Err PoolFault.NoMemory → WantsNoMemory changes.now self.old → ⊥ }
         ensures err { OnErr result (guest_of self.new ≡ guest_of self.old) }
         ensures err_spares { OnErr result (guest_spares self.old.body ≤ guest_spares self.new.body) }
@@ -160,7 +157,7 @@ impl<A: Allocator + Copy> Guest<A> {
     pub fn change(&mut self, alloc: A, changes: &Changes) -> Result<(), PoolFault>
         requires { GuestCanChange (guest_depth self.old) changes.now (guest_of self.old) }
         ensures made { OnOk result (guest_of self.new ≡ guest_after (guest_depth self.old) changes.now (guest_of self.old)) }
-        ensures no_pool { (result ≡ Err PoolFault.NoPool) ↔ (length (guest_of self.old).free < guest_need (guest_depth self.old) changes.now (guest_of self.old)) }
+        ensures no_pool { (result ≡ Err PoolFault.NoPool) ↔ (length (guest_of self.old).free < need_of self.old changes.now) }
         ensures no_memory { result ≡ Err PoolFault.NoMemory → WantsNoMemory changes.now self.old → ⊥ }
         ensures err { OnErr result (guest_of self.new ≡ guest_of self.old) }
         ensures err_runs { OnErr result (runs_of self.new.body ≡ runs_of self.old.body) }

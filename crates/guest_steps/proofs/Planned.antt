@@ -1,34 +1,36 @@
 -- What is in hand for changes of the Shared part's maps.
-use Rattle.std.proofs.Common.{◌≡◌, ℕ, ◌+◌, ◌≤◌, ◌++◌, sym, ap, subst, ◌∙◌, arith, length, length-append, take, drop, take-append-drop, append_assoc, List, Option, Result, Ok, Err, IfOk, OnOk, OnErr}
+use Rattle.std.proofs.Common.{◌≡◌, ℕ, ◌+◌, ◌++◌, sym, ap, subst, ◌∙◌, arith, length, length-append, take, drop, take-append-drop, append_assoc, List, Option}
 use Rattle.std.proofs.Math.Seq.{take-append_seam, drop-append_seam}
 use Rattle.std.proofs.lemmas.List.Sums.{sum_by-append}
-use Rattle.component.specs.View.{HasRoomFor, need_for, tree_after}
-use Rattle.hyp_pool.specs.declared.PoolFault.{PoolFault}
+use Rattle.component.specs.View.{HasRoomFor, IsPlanFor, need_for, tree_after, back_from}
 use Rattle.hyp_pool.specs.Pools.{StoredFrames, IsPool}
 use Rattle.hyp_pool.proofs.Counts.{given_append}
 use Rattle.hyp_pool.proofs.Order.{given_back}
 use Rattle.hyp_pool.proofs.Pools.{same_pool}
 use Rattle.page_state.specs.Counts.{frame_count, is_one}
-use Rattle.page_state.specs.Tables.{all_given}
+use Rattle.page_state.specs.Geometries.{levels_below}
+use Rattle.page_state.specs.Tables.{all_given, returned}
 use Rattle.page_state.specs.Trees.{Pool}
 use Rattle.page_state.proofs.Counts.{count_parts}
 use Rattle.reference_model.specs.declared.changes.Changes.{Changes}
 use Rattle.reference_model.specs.declared.changes.MapChange.{MapChange}
+use Rattle.reference_model.specs.Changes.{edit_of}
 use Rattle.reference_model.specs.State.{Shared}
 use Rattle.reference_model.specs.Step.{shared_after}
 use Rattle.table_tree.specs.declared.tree.Tree.{Tree as TableTree}
 use Rattle.table_tree.specs.Stocks.{frames_of}
 use Rattle.table_tree.specs.View.{tree_of}
-use Rattle.table_tree.proofs.Same.{same_tree, same_uses, same_count}
+use Rattle.table_tree.proofs.Same.{same_uses, same_count}
+use Rattle.walk_plan.specs.Hands.{IsTaken, Stays}
 use Rattle.walk_plan.proofs.Given.{take_drop_length, take_length}
 use Rattle.guest_component.proofs.Same.{after_take, need_same}
 use Rattle.guest_steps.specs.declared.parts.SharedPart.{SharedPart}
 use Rattle.guest_steps.specs.declared.shared.SharedNeed.{SharedNeed}
 use Rattle.guest_steps.specs.declared.shared.SharedPlan.{SharedPlan}
 use Rattle.guest_steps.specs.Apart.{IsApart}
-use Rattle.guest_steps.specs.Planned.{IsPlanOf, PlansBoth, in_hand, planned, pool_with}
-use Rattle.guest_steps.specs.View.{shared_of}
-use Rattle.guest_steps.proofs.Shares.{row_of, shared}
+use Rattle.guest_steps.specs.Planned.{IsNeedOf, IsPlanOf, PlansBoth, in_hand, planned, pool_with, shared_with}
+use Rattle.guest_steps.specs.View.{shared_of, depth_of}
+use Rattle.guest_steps.proofs.Shares.{row_of, same_shared, shared}
 
 pub counted : (f : ℕ) (xs ys : List ℕ) → frame_count f (xs ++ ys) ≡ frame_count f xs + frame_count f ys
 counted f xs ys = sum_by-append (λ g. is_one g f) xs ys
@@ -49,56 +51,43 @@ apart_same host hyp host' hyp' p q a b c d e h =
 parted : (n m : ℕ) (fs : Pool) → (take n fs ++ take m (drop n fs)) ++ drop m (drop n fs) ≡ fs
 parted n m fs = append_assoc (take n fs) (take m (drop n fs)) (drop m (drop n fs)) ∙ ap (λ xs. take n fs ++ xs) (take-append-drop m (drop n fs)) ∙ take-append-drop n fs
 
--- a part from which the lowest frames were taken
-module _ {A : Type 0} (s : SharedPart A) (k : SharedNeed) (host hyp : TableTree A) (pool : StoredFrames) (gh : host.geometry ≡ s.host.tree.geometry) (th : host.table ≡ s.host.tree.table) (gy : hyp.geometry ≡ s.hyp.tree.geometry) (ty : hyp.table ≡ s.hyp.tree.table) (room : pool.room ≡ s.pool.room) (r : Result (SharedPlan A) PoolFault) where
-  whole : (p : SharedPlan A) → frames_of p.host.spare.stock ≡ take k.host s.pool.frames → frames_of p.hyp.spare.stock ≡ take k.hyp (drop k.host s.pool.frames) → pool.frames ≡ drop k.hyp (drop k.host s.pool.frames) → in_hand p ++ pool.frames ≡ s.pool.frames
-  whole p a b left =
-      ap (λ xs. (xs ++ frames_of p.hyp.spare.stock) ++ pool.frames) a ∙ ap (λ xs. (take k.host s.pool.frames ++ xs) ++ pool.frames) b
-      ∙ ap (λ xs. (take k.host s.pool.frames ++ take k.hyp (drop k.host s.pool.frames)) ++ xs) left ∙ parted k.host k.hyp s.pool.frames
+-- a part from which the lowest frames were taken: first for the host, from its pool, and then for the hypervisor, from what was left
+module _ {A : Type 0} (s : SharedPart A) (k : SharedNeed) (host hyp : TableTree A) (left pool : StoredFrames) (p : SharedPlan A) (a : IsTaken k.host s.host.tree s.pool host left (frames_of p.host.spare.stock)) (b : IsTaken k.hyp s.hyp.tree left hyp pool (frames_of p.hyp.spare.stock))
+    (stays : Stays s.host.tree host) (hyp_stays : Stays s.hyp.tree hyp) (room : pool.room ≡ s.pool.room) where
+  hyp_frames : frames_of p.hyp.spare.stock ≡ take k.hyp (drop k.host s.pool.frames)
+  hyp_frames = b.frames ∙ ap (take k.hyp) a.pool
 
-  pub apart_after : OnOk r (pool.frames ≡ drop k.hyp (drop k.host s.pool.frames)) → OnErr r (pool ≡ s.pool) → IsApart host hyp pool
-  apart_after = go r
-    where
-      go : (q : Result (SharedPlan A) PoolFault) → OnOk q (pool.frames ≡ drop k.hyp (drop k.host s.pool.frames)) → OnErr q (pool ≡ s.pool) → IsApart host hyp pool
-      go (Err e) left same = apart_same s.host.tree s.hyp.tree host hyp s.pool pool gh th gy ty same s.apart
-      go (Ok p) left same = (
-        λ f.
-            let e = ap (frame_count f) left in
-            omega (arith, e, count_parts f k.host s.pool.frames, count_parts f k.hyp (drop k.host s.pool.frames), same_uses host s.host.tree gh th f, same_uses hyp s.hyp.tree gy ty f, s.apart.0 f),
-        let e = ap length left in
-            omega (arith, e, room, take_drop_length k.host s.pool.frames, take_drop_length k.hyp (drop k.host s.pool.frames), same_count host s.host.tree gh th, same_count hyp s.hyp.tree gy ty, s.apart.1),
-      )
+  rest : pool.frames ≡ drop k.hyp (drop k.host s.pool.frames)
+  rest = b.pool ∙ ap (drop k.hyp) a.pool
 
-  pub told : IfOk r (λ p. frames_of p.host.spare.stock ≡ take k.host s.pool.frames) → IfOk r (λ p. frames_of p.hyp.spare.stock ≡ take k.hyp (drop k.host s.pool.frames)) → OnOk r (pool.frames ≡ drop k.hyp (drop k.host s.pool.frames))
-      → IfOk r (λ p. shared (row_of s) (tree_of host) (tree_of hyp) (in_hand p ++ pool.frames) ≡ shared_of s)
-  told = go r
-    where
-      go : (q : Result (SharedPlan A) PoolFault) → IfOk q (λ p. frames_of p.host.spare.stock ≡ take k.host s.pool.frames) → IfOk q (λ p. frames_of p.hyp.spare.stock ≡ take k.hyp (drop k.host s.pool.frames)) → OnOk q (pool.frames ≡ drop k.hyp (drop k.host s.pool.frames))
-          → IfOk q (λ p. shared (row_of s) (tree_of host) (tree_of hyp) (in_hand p ++ pool.frames) ≡ shared_of s)
-      go (Err e) a b left = tt
-      go (Ok p) a b left =
-          ap (λ x. shared (row_of s) x (tree_of hyp) (in_hand p ++ pool.frames)) (same_tree host s.host.tree gh th)
-          ∙ ap (λ x. shared (row_of s) (tree_of s.host.tree) x (in_hand p ++ pool.frames)) (same_tree hyp s.hyp.tree gy ty)
-          ∙ ap (shared (row_of s) (tree_of s.host.tree) (tree_of s.hyp.tree)) (whole p a b left)
+  whole : in_hand p ++ pool.frames ≡ s.pool.frames
+  whole =
+      ap (λ xs. (xs ++ frames_of p.hyp.spare.stock) ++ pool.frames) a.frames ∙ ap (λ xs. (take k.host s.pool.frames ++ xs) ++ pool.frames) hyp_frames
+      ∙ ap (λ xs. (take k.host s.pool.frames ++ take k.hyp (drop k.host s.pool.frames)) ++ xs) rest ∙ parted k.host k.hyp s.pool.frames
 
-  pub taken : (h : Changes) (y : SharedPart A) → y.host.tree ≡ host → y.hyp.tree ≡ hyp → y.pool ≡ pool → IsPool s.pool → k.host ≡ need_for s.host.tree h.host → k.hyp ≡ need_for s.hyp.tree h.hyp → k.host + k.hyp ≤ length s.pool.frames
-      → IfOk r (λ p. PlansBoth h p) → IfOk r (λ p. frames_of p.host.spare.stock ≡ take k.host s.pool.frames) → IfOk r (λ p. frames_of p.hyp.spare.stock ≡ take k.hyp (drop k.host s.pool.frames)) → OnOk r (pool.frames ≡ drop k.hyp (drop k.host s.pool.frames))
-      → OnOk r (HasRoomFor h.host y.host.maplets) → OnOk r (HasRoomFor h.hyp y.hyp.maplets) → IfOk r (λ p. IsPlanOf y p)
-  taken h y yh yy yp is need_host need_hyp enough = go r
-    where
-      go : (q : Result (SharedPlan A) PoolFault) → IfOk q (λ p. PlansBoth h p) → IfOk q (λ p. frames_of p.host.spare.stock ≡ take k.host s.pool.frames) → IfOk q (λ p. frames_of p.hyp.spare.stock ≡ take k.hyp (drop k.host s.pool.frames)) → OnOk q (pool.frames ≡ drop k.hyp (drop k.host s.pool.frames))
-          → OnOk q (HasRoomFor h.host y.host.maplets) → OnOk q (HasRoomFor h.hyp y.hyp.maplets) → IfOk q (λ p. IsPlanOf y p)
-      go (Err e) plans a b left rh ry = tt
-      go (Ok p) plans a b left rh ry =
-          let all : pool_with p y ≡ s.pool = same_pool (pool_with p y) s.pool (ap (λ (q : StoredFrames). in_hand p ++ q.frames) yp ∙ whole p a b left) (ap (λ (q : StoredFrames). q.room) yp ∙ room) in
-          let few : k.hyp ≤ length (drop k.host s.pool.frames) = omega (arith, enough, take_drop_length k.host s.pool.frames, take_length k.host s.pool.frames (omega (arith, enough))) in record {
-            host = ap length a ∙ take_length k.host s.pool.frames (omega (arith, enough)) ∙ need_host ∙ sym (ap (λ t. need_for t p.host.change) yh ∙ ap (need_for host) plans.host ∙ need_same host s.host.tree gh th h.host);
-            hyp = ap length b ∙ take_length k.hyp (drop k.host s.pool.frames) few ∙ need_hyp ∙ sym (ap (λ t. need_for t p.hyp.change) yy ∙ ap (need_for hyp) plans.hyp ∙ need_same hyp s.hyp.tree gy ty h.hyp);
-            host_ready = subst (λ c. HasRoomFor c y.host.maplets) (sym plans.host) rh;
-            hyp_ready = subst (λ c. HasRoomFor c y.hyp.maplets) (sym plans.hyp) ry;
-            apart = subst (λ t. IsApart t y.hyp.tree (pool_with p y)) (sym yh) (subst (λ t. IsApart host t (pool_with p y)) (sym yy) (apart_same s.host.tree s.hyp.tree host hyp s.pool (pool_with p y) gh th gy ty all s.apart));
-            pool = subst IsPool (sym all) is;
-          }
+  pub apart_after : IsApart host hyp pool
+  apart_after = (
+    λ f. omega (arith, ap (frame_count f) rest, count_parts f k.host s.pool.frames, count_parts f k.hyp (drop k.host s.pool.frames), same_uses host s.host.tree stays.geometry stays.table f, same_uses hyp s.hyp.tree hyp_stays.geometry hyp_stays.table f, s.apart.0 f),
+    omega (arith, ap length rest, room, take_drop_length k.host s.pool.frames, take_drop_length k.hyp (drop k.host s.pool.frames), same_count host s.host.tree stays.geometry stays.table, same_count hyp s.hyp.tree hyp_stays.geometry hyp_stays.table, s.apart.1),
+  )
+
+  pub told : shared (row_of s) (tree_of host) (tree_of hyp) (in_hand p ++ pool.frames) ≡ shared_of s
+  told = same_shared s host hyp (in_hand p ++ pool.frames) stays hyp_stays whole
+
+  pub taken : (h : Changes) (y : SharedPart A) → y.host.tree ≡ host → y.hyp.tree ≡ hyp → y.pool ≡ pool → IsPool s.pool → IsNeedOf s h k → IsPlanFor h.host y.host.maplets p.host → IsPlanFor h.hyp y.hyp.maplets p.hyp → IsPlanOf y p
+  taken h y yh yy yp is need plan hyp_plan =
+      let all : pool_with p y ≡ s.pool = same_pool (pool_with p y) s.pool (ap (λ (q : StoredFrames). in_hand p ++ q.frames) yp ∙ whole) (ap (λ (q : StoredFrames). q.room) yp ∙ room) in record {
+        host = ap length a.frames ∙ take_length k.host s.pool.frames a.enough ∙ need.host ∙ sym (ap (λ t. need_for t p.host.change) yh ∙ ap (need_for host) plan.change ∙ need_same host s.host.tree stays.geometry stays.table h.host);
+        hyp = ap length b.frames ∙ take_length k.hyp left.frames b.enough ∙ need.hyp ∙ sym (ap (λ t. need_for t p.hyp.change) yy ∙ ap (need_for hyp) hyp_plan.change ∙ need_same hyp s.hyp.tree hyp_stays.geometry hyp_stays.table h.hyp);
+        host_ready = subst (λ c. HasRoomFor c y.host.maplets) (sym plan.change) plan.ready;
+        hyp_ready = subst (λ c. HasRoomFor c y.hyp.maplets) (sym hyp_plan.change) hyp_plan.ready;
+        apart = subst (λ t. IsApart t y.hyp.tree (pool_with p y)) (sym yh) (subst (λ t. IsApart host t (pool_with p y)) (sym yy) (apart_same s.host.tree s.hyp.tree host hyp s.pool (pool_with p y) stays.geometry stays.table hyp_stays.geometry hyp_stays.table all s.apart));
+        pool = subst IsPool (sym all) is;
+      }
+
+-- frames that were taken for the host come back
+pub came_back : {A : Type 0} (n : ℕ) (t u v : TableTree A) (p left q : StoredFrames) (fs : List ℕ) → IsPool p → IsTaken n t p u left fs → left.room ≡ p.room → q.frames ≡ all_given fs left.frames → q.room ≡ left.room → q ≡ p
+came_back n t u v p left q fs is taken room frames kept = same_pool q p (frames ∙ ap (λ gs. all_given gs left.frames) taken.frames ∙ ap (all_given (take n p.frames)) taken.pool ∙ given_back n p.frames is.rising) (kept ∙ room)
 
 module _ {A : Type 0} (s : SharedPart A) (p : SharedPlan A) (is : IsPlanOf s p) where
   -- the frames in hand are those that the new tables get
@@ -131,3 +120,11 @@ module _ {A : Type 0} (s : SharedPart A) (p : SharedPlan A) (is : IsPlanOf s p) 
 pub after_planned : {A : Type 0} (d : ℕ) (h : Changes) (p : SharedPlan A) (x : Shared) → PlansBoth h p → shared_after d (planned p) x ≡ shared_after d h x
 unfolding shared_after
 after_planned d h p x is = ap (λ (a : Option MapChange). shared_after d (record (planned p) { host = a }) x) is.host ∙ ap (λ (b : Option MapChange). shared_after d (record (planned p) { host = h.host; hyp = b }) x) is.hyp
+
+-- the frames that come back are those that came back before plans were made
+module _ {A : Type 0} (s r : SharedPart A) (p : SharedPlan A) (h : Changes) (depth : depth_of r ≡ depth_of s) (both : PlansBoth h p) (whole : shared_with p r ≡ shared_of s) where
+  pub host_back : back_from r.host.tree p.host.change ≡ back_from s.host.tree h.host
+  host_back = ap (back_from r.host.tree) both.host ∙ ap (λ d. returned d (tree_of r.host.tree) (edit_of h.host)) depth ∙ ap (λ (x : Shared). returned (depth_of s) x.host (edit_of h.host)) whole
+
+  pub hyp_back : back_from r.hyp.tree p.hyp.change ≡ back_from s.hyp.tree h.hyp
+  hyp_back = ap (back_from r.hyp.tree) both.hyp ∙ ap (λ d. returned d (tree_of r.hyp.tree) (edit_of h.hyp)) (r.alike ∙ depth ∙ sym s.alike) ∙ ap (λ (x : Shared). returned (levels_below s.hyp.tree.geometry) x.hyp (edit_of h.hyp)) whole

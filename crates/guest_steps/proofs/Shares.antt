@@ -1,8 +1,6 @@
 -- The Shared part after its changes, in words of the reference state.
-use Rattle.std.proofs.Common.{◌≡◌, ℕ, ◌+◌, ◌-◌, ◌++◌, Bool, true, false, List, drop, unwrap_or, Option, Some, Result, Ok, Err, OnOk, OnErr, refl, ap, ◌∙◌, if◌then◌else◌}
+use Rattle.std.proofs.Common.{◌≡◌, ℕ, ◌+◌, ◌-◌, ◌++◌, Bool, true, false, List, drop, unwrap_or, Option, Some, Result, Ok, Err, OnErr, refl, ap, ◌∙◌, if◌then◌else◌}
 use mathlib.Core.Path.{fun_ext}
-use Rattle.hyp_pool.specs.declared.PoolFault.{PoolFault}
-use Rattle.hyp_pool.specs.Pools.{StoredFrames}
 use Rattle.owner_table.specs.Rows.{row_at, rows_set}
 use Rattle.page_state.specs.declared.entry.PageRange.{PageRange}
 use Rattle.page_state.specs.declared.row.Row.{Row}
@@ -18,8 +16,10 @@ use Rattle.run_list.specs.declared.run.Run.{Run}
 use Rattle.table_tree.specs.declared.tree.Tree.{Tree as TableTree}
 use Rattle.table_tree.specs.View.{tree_of}
 use Rattle.table_tree.proofs.Same.{same_tree}
+use Rattle.walk_plan.specs.Hands.{Stays}
 use Rattle.component.specs.View.{need_for, tree_after, back_from}
 use Rattle.guest_steps.specs.declared.parts.SharedPart.{SharedPart}
+use Rattle.guest_steps.specs.Leaves.{IsUnchanged, KeepsSpares}
 use Rattle.guest_steps.specs.View.{shared_of, depth_of, rows_given}
 
 -- a Shared part by what it has
@@ -43,16 +43,18 @@ module _ {A : Type 0} (s : SharedPart A) where
       (fun_ext (λ f. ap (λ m. unwrap_or (m f) plain_row) e ∙ same_row (is_in_range frames f) (row_at s.owners f) (advance_row row (f - frames.first.0))))
 
   -- maps that stayed, whatever spares their trees have now
-  pub unchanged : {X : Type 0} (r : Result X PoolFault) (host hyp : TableTree A) (pool : StoredFrames)
-      → host.geometry ≡ s.host.tree.geometry → hyp.geometry ≡ s.hyp.tree.geometry
-      → host.table ≡ s.host.tree.table → hyp.table ≡ s.hyp.tree.table → OnErr r (pool ≡ s.pool)
-      → OnErr r (shared (λ f. unwrap_or (row_at s.owners f) plain_row) (tree_of host) (tree_of hyp) pool.frames ≡ shared_of s)
-  unchanged (Ok x) host hyp pool g h a b e = _
-  unchanged (Err why) host hyp pool g h a b e =
-      let r : ℕ → Row = λ f. unwrap_or (row_at s.owners f) plain_row in
-      ap (λ x. shared r x (tree_of hyp) pool.frames) (same_tree host s.host.tree g a)
-      ∙ ap (λ x. shared r (tree_of s.host.tree) x pool.frames) (same_tree hyp s.hyp.tree h b)
-      ∙ ap (λ (p : StoredFrames). shared r (tree_of s.host.tree) (tree_of s.hyp.tree) p.frames) e
+  pub same_shared : (host hyp : TableTree A) (free : List ℕ) → Stays s.host.tree host → Stays s.hyp.tree hyp → free ≡ s.pool.frames → shared (row_of s) (tree_of host) (tree_of hyp) free ≡ shared_of s
+  same_shared host hyp free stays hyp_stays e =
+      ap (λ x. shared (row_of s) x (tree_of hyp) free) (same_tree host s.host.tree stays.geometry stays.table)
+      ∙ ap (λ x. shared (row_of s) (tree_of s.host.tree) x free) (same_tree hyp s.hyp.tree hyp_stays.geometry hyp_stays.table)
+      ∙ ap (shared (row_of s) (tree_of s.host.tree) (tree_of s.hyp.tree)) e
+
+  pub unchanged : {X E : Type 0} (r : Result X E) (t : SharedPart A) → Stays s.host.tree t.host.tree → Stays s.hyp.tree t.hyp.tree → t.pool ≡ s.pool → t.owners ≡ s.owners → KeepsSpares s t → OnErr r (IsUnchanged s t)
+  unchanged (Ok x) t stays hyp_stays pool rows spares = tt
+  unchanged (Err e) t stays hyp_stays pool rows spares = record {
+    same = ap (λ o. shared (λ f. unwrap_or (row_at o f) plain_row) (tree_of t.host.tree) (tree_of t.hyp.tree) t.pool.frames) rows ∙ same_shared t.host.tree t.hyp.tree t.pool.frames stays hyp_stays (ap (λ q. q.frames) pool);
+    spares = spares;
+  }
 
   -- both maps that were changed, with frames of a list that begins with those of the new tables
   pub changed : (all : List ℕ) (h : Changes) (host hyp : TableTree A) (free : List ℕ) → tree_of host ≡ tree_after s.host.tree h.host all → tree_of hyp ≡ tree_after s.hyp.tree h.hyp (drop (need_for s.host.tree h.host) all)

@@ -1,7 +1,9 @@
 pub mod Apart
+pub mod Leaves
 pub mod Lent
 pub mod Logs
 pub mod MemoryRows
 pub mod Numbers
 pub mod Planned
+pub mod Roomy
 pub mod View

@@ -1,7 +1,6 @@
 //! The parts that calls use, their logs, and the changes that they offer in words of the reference state.
 #![tactic(auto)]
 
-mod both;
 mod cpu;
 mod log;
 mod parts;

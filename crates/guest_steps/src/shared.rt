@@ -1,7 +1,9 @@
 //! Changes of the Shared part, in words of the reference state.
-ghost use Rattle.std.specs.Prelude.{◌≡◌, ◌+◌, ◌-◌, ◌<◌, ◌≤◌, ◌^◌, ◌↔◌, Err, length, nat_lt, IfOk, OnOk, OnErr};
-ghost use Rattle.component.specs.View.{HasRoomFor, need_for, back_from};
-ghost use Rattle.guest_steps.specs.Planned.{IsPlanOf, PlansBoth, planned, shared_with};
+ghost use Rattle.std.specs.Prelude.{◌≡◌, ◌+◌, ◌<◌, ◌≤◌, ◌^◌, ◌↔◌, Err, length, nat_lt, IfOk, OnOk, OnErr};
+ghost use Rattle.component.specs.View.{need_for, back_from};
+ghost use Rattle.guest_steps.specs.Leaves.{IsUnchanged, KeepsRest, KeepsRuns, KeepsSpares};
+ghost use Rattle.guest_steps.specs.Planned.{IsMade, IsNeedOf, IsPlanned, IsPlanOf, planned, shared_with};
+ghost use Rattle.guest_steps.specs.Roomy.{IsRoomy};
 ghost use Rattle.guest_steps.specs.View.{shared_of, depth_of, rows_given};
 ghost use Rattle.owner_table.specs.Rows.{HasRows, HasSameFrames};
 ghost use Rattle.page_state.specs.Regions.{end_of};
@@ -10,7 +12,6 @@ ghost use Rattle.reference_model.specs.Step.{shared_need, shared_after};
 ghost use Rattle.page_state.specs.Rows.{HasPageBelow};
 ghost use Rattle.table_tree.specs.View.{spares_of};
 
-use crate::both::reserve_both;
 use crate::parts::SharedPart;
 use component::Plan;
 use hyp_pool::PoolFault;
@@ -64,9 +65,7 @@ impl<A: Allocator> SharedPart<A> {
         ensures made { shared_of self.new ≡ shared_after (depth_of self.old) (planned plan) (shared_with plan self.old) }
         ensures host_spares { spares_of self.new.host.tree ≡ spares_of self.old.host.tree + length (back_from self.old.host.tree plan.host.change) }
         ensures hyp_spares { spares_of self.new.hyp.tree ≡ spares_of self.old.hyp.tree + length (back_from self.old.hyp.tree plan.hyp.change) }
-        ensures rows { self.new.owners ≡ self.old.owners }
-        ensures log { self.new.log ≡ self.old.log }
-        ensures depth { depth_of self.new ≡ depth_of self.old }
+        ensures rest { KeepsRest self.old self.new }
     {
         let SharedPlan {
             host: host_plan,
@@ -83,13 +82,9 @@ impl<A: Allocator> SharedPart<A> {
     pub fn release(&mut self, plan: SharedPlan<A>)
         requires { IsPlanOf self.old plan }
         ensures same { shared_of self.new ≡ shared_with plan self.old }
-        ensures host_spares { spares_of self.old.host.tree ≤ spares_of self.new.host.tree }
-        ensures hyp_spares { spares_of self.old.hyp.tree ≤ spares_of self.new.hyp.tree }
-        ensures host_runs { self.new.host.maplets.runs ≡ self.old.host.maplets.runs }
-        ensures hyp_runs { self.new.hyp.maplets.runs ≡ self.old.hyp.maplets.runs }
-        ensures rows { self.new.owners ≡ self.old.owners }
-        ensures log { self.new.log ≡ self.old.log }
-        ensures depth { depth_of self.new ≡ depth_of self.old }
+        ensures spares { KeepsSpares self.old self.new }
+        ensures runs { KeepsRuns self.old self.new }
+        ensures rest { KeepsRest self.old self.new }
     {
         let SharedPlan {
             host: host_plan,
@@ -113,24 +108,13 @@ impl<A: Allocator + Copy> SharedPart<A> {
         changes: &Changes,
         need: SharedNeed,
     ) -> Result<SharedPlan<A>, PoolFault>
-        requires host { need.host ≡ need_for self.old.host.tree changes.now.host }
-        requires hyp { need.hyp ≡ need_for self.old.hyp.tree changes.now.hyp }
-        requires small { need.host + need.hyp ≤ 2 ^ 41 }
-        ensures ready { IfOk result (λ p. IsPlanOf self.new p) }
-        ensures planned { IfOk result (λ p. PlansBoth changes.now p) }
-        ensures whole { IfOk result (λ p. shared_with p self.new ≡ shared_of self.old) }
+        requires { IsNeedOf self.old changes.now need }
+        ensures planned { IfOk result (IsPlanned changes.now need self.old self.new) }
         ensures no_pool { (result ≡ Err PoolFault.NoPool) ↔ (length self.old.pool.frames < need.host + need.hyp) }
-        ensures no_memory { result ≡ Err PoolFault.NoMemory → HasRoomFor changes.now.host self.old.host.maplets → HasRoomFor changes.now.hyp self.old.hyp.maplets → need.host ≤ spares_of self.old.host.tree → need.hyp ≤ spares_of self.old.hyp.tree → ⊥ }
-        ensures host_spares { OnOk result (spares_of self.new.host.tree ≡ spares_of self.old.host.tree - need.host) }
-        ensures hyp_spares { OnOk result (spares_of self.new.hyp.tree ≡ spares_of self.old.hyp.tree - need.hyp) }
-        ensures err { OnErr result (shared_of self.new ≡ shared_of self.old) }
-        ensures err_host_spares { OnErr result (spares_of self.old.host.tree ≤ spares_of self.new.host.tree) }
-        ensures err_hyp_spares { OnErr result (spares_of self.old.hyp.tree ≤ spares_of self.new.hyp.tree) }
-        ensures host_runs { self.new.host.maplets.runs ≡ self.old.host.maplets.runs }
-        ensures hyp_runs { self.new.hyp.maplets.runs ≡ self.old.hyp.maplets.runs }
-        ensures rows { self.new.owners ≡ self.old.owners }
-        ensures log { self.new.log ≡ self.old.log }
-        ensures depth { depth_of self.new ≡ depth_of self.old }
+        ensures no_memory { result ≡ Err PoolFault.NoMemory → IsRoomy changes.now self.old → ⊥ }
+        ensures err { OnErr result (IsUnchanged self.old self.new) }
+        ensures runs { KeepsRuns self.old self.new }
+        ensures rest { KeepsRest self.old self.new }
     {
         let host = &mut self.host;
         let hyp = &mut self.hyp;
@@ -138,7 +122,17 @@ impl<A: Allocator + Copy> SharedPart<A> {
         if pool.free() < need.host + need.hyp {
             return Err(PoolFault::NoPool);
         }
-        reserve_both(alloc, host, hyp, pool, changes, need)
+        let host_plan = host.reserve(alloc, pool, changes.host, need.host)?;
+        match hyp.reserve(alloc, pool, changes.hyp, need.hyp) {
+            Ok(hyp_plan) => Ok(SharedPlan {
+                host: host_plan,
+                hyp: hyp_plan,
+            }),
+            Err(_) => {
+                host.release(pool, host_plan);
+                Err(PoolFault::NoMemory)
+            }
+        }
     }
 
     /// Makes the changes of the host's and the hypervisor's map, or none: NoPool is answered exactly where the pool has fewer
@@ -147,19 +141,12 @@ impl<A: Allocator + Copy> SharedPart<A> {
     pub fn change(&mut self, alloc: A, changes: &Changes) -> Result<(), PoolFault>
         requires host_change { FitsWhere (depth_of self.old) changes.now.host }
         requires hyp_change { FitsWhere (depth_of self.old) changes.now.hyp }
-        ensures made { OnOk result (shared_of self.new ≡ shared_after (depth_of self.old) changes.now (shared_of self.old)) }
+        ensures made { OnOk result (IsMade changes.now self.old self.new) }
         ensures no_pool { (result ≡ Err PoolFault.NoPool) ↔ (length self.old.pool.frames < shared_need (depth_of self.old) changes.now (shared_of self.old)) }
-        ensures no_memory { result ≡ Err PoolFault.NoMemory → HasRoomFor changes.now.host self.old.host.maplets → HasRoomFor changes.now.hyp self.old.hyp.maplets → need_for self.old.host.tree changes.now.host ≤ spares_of self.old.host.tree → need_for self.old.hyp.tree changes.now.hyp ≤ spares_of self.old.hyp.tree → ⊥ }
-        ensures host_spares { OnOk result (spares_of self.new.host.tree ≡ spares_of self.old.host.tree - need_for self.old.host.tree changes.now.host + length (back_from self.old.host.tree changes.now.host)) }
-        ensures hyp_spares { OnOk result (spares_of self.new.hyp.tree ≡ spares_of self.old.hyp.tree - need_for self.old.hyp.tree changes.now.hyp + length (back_from self.old.hyp.tree changes.now.hyp)) }
-        ensures err_host_spares { OnErr result (spares_of self.old.host.tree ≤ spares_of self.new.host.tree) }
-        ensures err_hyp_spares { OnErr result (spares_of self.old.hyp.tree ≤ spares_of self.new.hyp.tree) }
-        ensures err { OnErr result (shared_of self.new ≡ shared_of self.old) }
-        ensures err_host { OnErr result (self.new.host.maplets.runs ≡ self.old.host.maplets.runs) }
-        ensures err_hyp { OnErr result (self.new.hyp.maplets.runs ≡ self.old.hyp.maplets.runs) }
-        ensures rows { self.new.owners ≡ self.old.owners }
-        ensures log { self.new.log ≡ self.old.log }
-        ensures depth { depth_of self.new ≡ depth_of self.old }
+        ensures no_memory { result ≡ Err PoolFault.NoMemory → IsRoomy changes.now self.old → ⊥ }
+        ensures err { OnErr result (IsUnchanged self.old self.new) }
+        ensures err_runs { OnErr result (KeepsRuns self.old self.new) }
+        ensures rest { KeepsRest self.old self.new }
     {
         let need = self.need(changes);
         let plan = self.reserve(alloc, changes, need)?;

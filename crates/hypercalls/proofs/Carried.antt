@@ -47,7 +47,7 @@ use Rattle.reference_model.specs.declared.changes.SlotChange.TheVariants.{Keep a
 use Rattle.reference_model.specs.Parts.{Names, uses_shared}
 use Rattle.decisions.specs.Grows.{GrowsOnly}
 use Rattle.hypercalls.specs.Carried.{Ends, LeavesGuest, LeavesShared, is_either_short, rows_told}
-use Rattle.hypercalls.specs.Roomy.{IsRoomy}
+use Rattle.guest_steps.specs.Roomy.{IsRoomy}
 
 less_none : (n : ℕ) → nat_lt n 0 ≡ false
 less_none n = grind (arith, nat_tests)

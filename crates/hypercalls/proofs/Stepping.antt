@@ -24,7 +24,7 @@ use Rattle.reference_model.specs.Step.{is_full, stored as stored_rooms, Answered
 use Rattle.reference_model.specs.Used.{Used}
 use Rattle.guest_component.specs.Wants.{WantsNoMemory}
 use Rattle.hypercalls.specs.Carried.{Ends}
-use Rattle.hypercalls.specs.Roomy.{IsRoomy}
+use Rattle.guest_steps.specs.Roomy.{IsRoomy}
 use Rattle.hypercalls.specs.Steps.{any_full, is_full_in, CanWantOn, IsStepOn}
 use Rattle.hypercalls.proofs.Carried.{Comes, carries, told_memory}
 use Rattle.hypercalls.proofs.Using.{IsKind}

@@ -31,7 +31,7 @@ use Rattle.guest_component.specs.Wants.{MakesNone}
 use Rattle.guest_component.specs.Wants.{HasReadyMap}
 use Rattle.guest_component.specs.View.{guest_depth}
 use Rattle.guest_steps.specs.declared.parts.SharedPart.{SharedPart}
-use Rattle.hypercalls.specs.Roomy.{IsRoomy}
+use Rattle.guest_steps.specs.Roomy.{IsRoomy}
 use Rattle.hypercalls.specs.declared.parts.Parts.{Parts}
 use Rattle.hypercalls.specs.Stands.{parts_layout, state_of}
 use Rattle.hypercalls.specs.Wants.{AreStocked, IsGuestStocked, IsStocked, StockedWants, blocks_met, changes_a_range}

@@ -1,6 +1,5 @@
 pub mod Booted
 pub mod Carried
-pub mod Roomy
 pub mod Stands
 pub mod Steps
 pub mod Uses

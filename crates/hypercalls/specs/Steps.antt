@@ -13,7 +13,7 @@ use Rattle.reference_model.specs.Step.{StepsOn}
 use Rattle.guest_component.specs.Wants.{WantsNoMemory}
 use Rattle.guest_steps.specs.Lent.{Lent, LentLogs, used_in, slot_in, logs_in, rooms_in, call_in, all_with}
 use Rattle.guest_steps.specs.Logs.{StoredCalls}
-use Rattle.hypercalls.specs.Roomy.{IsRoomy}
+use Rattle.guest_steps.specs.Roomy.{IsRoomy}
 
 -- a log is lent, and full
 abbrev pub is_full_in : Option StoredCalls → Bool

@@ -14,7 +14,7 @@ use Rattle.reference_model.specs.Step.{Steps, is_full as has_full_log}
 use Rattle.reference_model.specs.Used.{used_of, rooms_of}
 use Rattle.guest_component.specs.Wants.{WantsNoMemory}
 use Rattle.guest_steps.specs.declared.parts.GuestPart.{GuestPart}
-use Rattle.hypercalls.specs.Roomy.{IsRoomy}
+use Rattle.guest_steps.specs.Roomy.{IsRoomy}
 use Rattle.hypercalls.specs.declared.parts.Parts.{Parts}
 use Rattle.hypercalls.specs.Stands.{parts_layout, kept_of, state_of}
 

@@ -4,7 +4,7 @@ ghost use Rattle.guest_component.specs.Wants.{WantsNoMemory};
 ghost use Rattle.guest_steps.specs.Lent.{GuestSuits, SharedSuits};
 ghost use Rattle.guest_steps.specs.View.{cpu_of, guest_held, shared_of};
 ghost use Rattle.hypercalls.specs.Carried.{Ends, is_either_short, rows_told};
-ghost use Rattle.hypercalls.specs.Roomy.{IsRoomy};
+ghost use Rattle.guest_steps.specs.Roomy.{IsRoomy};
 ghost use Rattle.page_state.specs.LayoutView.{layout_of};
 ghost use Rattle.reference_model.specs.ChangeLaws.{AllFit, PartsFit, TouchedFits};
 ghost use Rattle.reference_model.specs.Step.{guest_after, guest_need, shared_after, shared_need};

@@ -1,15 +1,12 @@
 -- Changes of some pages of a block, their parts, and what they need. Depths count the levels below, pages the block's.
 use Rattle.std.specs.Prelude.{ℕ, ◌-◌, ◌*◌, ◌%◌, ◌<◌, ◌≤◌, ◌==◌, ◌&&◌, ◌||◌, nat_lt, nat_le, min, Bool, if◌then◌else◌}
-use Rattle.descriptor.specs.Word.{desc_of, CanBeSaid}
+use Rattle.descriptor.specs.Word.{CanBeSaid}
 use Rattle.descriptor.specs.declared.Level.TheVariants.{Three}
 use Rattle.page_state.specs.declared.entry.Entry.{Entry}
 use Rattle.page_state.specs.Entries.{advance, IsRangeEntry, word_of_entry}
 use Rattle.page_state.specs.EntryTests.{entry_eq}
 use Rattle.page_state.specs.Blocks.{fits_word}
 use Rattle.page_state.specs.Geometries.{block_pages}
-use Rattle.table_tree.specs.declared.table.Table.{Table}
-use Rattle.table_tree.specs.declared.table.Slot.{Slot}
-use Rattle.table_tree.specs.Meaning.{level_at, slot_at, slot_case}
 use Rattle.walk_plan.specs.declared.change.Change.{Change}
 
 -- words of the last level can say an entry and what it advances to on `n` pages
@@ -21,6 +18,10 @@ pub record IsChange (depth : ℕ) (c : Change) : Type 0 where
   pub some : c.first < c.end
   pub within : c.end ≤ block_pages depth
   pub entry : IsRangeEntry (c.end - c.first) c.entry
+
+-- how many pages it changes
+abbrev pub pages_of : Change → ℕ
+pages_of c = c.end - c.first
 
 -- the entries `m` of a block with a change made
 abbrev pub changed_entry : ℕ → (ℕ → Entry) → Change → ℕ → Entry

@@ -11,7 +11,8 @@ ghost use Rattle.table_tree.specs.Meaning.{IsDepth};
 ghost use Rattle.table_tree.specs.Reading.{count_of};
 ghost use Rattle.table_tree.specs.Shape.{IsShaped};
 ghost use Rattle.table_tree.specs.View.{meaning, tree_of};
-ghost use Rattle.walk_plan.specs.Changes.{CanBeSaidOn, IsChange};
+ghost use Rattle.walk_plan.specs.Changes.{CanBeSaidOn, IsChange, pages_of};
+ghost use Rattle.walk_plan.specs.Hands.{FitsTree, edit_on, need_in};
 ghost use Rattle.walk_plan.specs.inner.Needs.{block_need, block_parts, met, sum_to, table_need};
 ghost use Rattle.walk_plan.specs.inner.Looks.{edges};
 
@@ -53,8 +54,8 @@ fn need_of_table<A: Allocator>(
     requires change_in { IsChange (depth + 1) change }
     ensures value { result ≡ table_need depth table.now change }
     ensures small { result + 1 ≤ 1024 ^ (depth + 1) }
-    ensures reads { 2 * count_of reads.new + 1 ≤ 2 * count_of reads.old + 3 * (change.end - change.first) + edges (2 * depth) (depth + 1) change }
-    ensures whole { change.first ≡ 0 → change.end ≡ block_pages (depth + 1) → 2 * count_of reads.new + 512 ≤ 2 * count_of reads.old + 3 * (change.end - change.first) }
+    ensures reads { 2 * count_of reads.new + 1 ≤ 2 * count_of reads.old + 3 * pages_of change + edges (2 * depth) (depth + 1) change }
+    ensures whole { change.first ≡ 0 → change.end ≡ block_pages (depth + 1) → 2 * count_of reads.new + 512 ≤ 2 * count_of reads.old + 3 * pages_of change }
 {
     let mut count = 0;
     for i in change.first >> (9 * depth)..((change.end - 1) >> (9 * depth)) + 1 {
@@ -83,11 +84,9 @@ pub fn need<A: Allocator>(
     entry: &Entry,
     reads: &mut Reads,
 ) -> usize
-    requires some { 1 ≤ range.count }
-    requires within { end_of range ≤ input_pages tree.now.geometry }
-    requires entry_in { CanBeSaidOn range.count entry.now }
-    ensures value { result ≡ need_of (levels_below tree.now.geometry) (tree_of tree.now) (put range.first.0 range.count entry.now) }
-    ensures by_map { result ≡ map_need (levels_below tree.now.geometry) (meaning tree.now) (put range.first.0 range.count entry.now) }
+    requires { FitsTree tree.now.geometry range entry.now }
+    ensures value { result ≡ need_in tree.now (edit_on range entry.now) }
+    ensures by_map { result ≡ map_need (levels_below tree.now.geometry) (meaning tree.now) (edit_on range entry.now) }
     ensures small { result ≤ 2 ^ 40 }
     ensures reads { 2 * count_of reads.new ≤ 2 * count_of reads.old + 3 * range.count + 12 }
 {
@@ -114,10 +113,8 @@ fn need_of_empty(depth: u32, change: Change) -> usize
 
 /// The tables that a change of a range needs in a tree of its root alone, in which nothing is mapped. It takes no memory.
 pub fn need_of_new(geometry: Geometry, range: PageRange, entry: &Entry) -> usize
-    requires some { 1 ≤ range.count }
-    requires within { end_of range ≤ input_pages geometry }
-    requires entry_in { CanBeSaidOn range.count entry.now }
-    ensures { (root : ℕ) → result ≡ need_of (levels_below geometry) (root_tree (levels_below geometry) root) (put range.first.0 range.count entry.now) }
+    requires { FitsTree geometry range entry.now }
+    ensures { (root : ℕ) → result ≡ need_of (levels_below geometry) (root_tree (levels_below geometry) root) (edit_on range entry.now) }
 {
     let change = Change {
         first: range.first.0,

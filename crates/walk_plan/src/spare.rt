@@ -1,18 +1,15 @@
 //! Tables in hand for a change.
-ghost use Rattle.std.specs.Prelude.{◌≡◌, ℕ, ◌+◌, ◌*◌, ◌^◌, ◌<◌, ◌≤◌, ◌↔◌, ◌-◌, Err, length, take, drop, IsOk, IfOk, OnOk, OnErr};
-ghost use Rattle.page_state.specs.Regions.{end_of};
-ghost use Rattle.page_state.specs.Tables.{put, need as need_of, all_given};
-ghost use Rattle.page_state.specs.Geometries.{levels_below, input_pages};
+ghost use Rattle.std.specs.Prelude.{◌≡◌, ℕ, ◌+◌, ◌*◌, ◌<◌, ◌≤◌, length, take, drop, IsOk, IfOk, IfErr, OnErr};
 ghost use Rattle.page_state.specs.Counts.{frame_count};
 ghost use Rattle.table_tree.specs.Reading.{count_of};
 ghost use Rattle.table_tree.specs.Stocks.{frames_of};
-ghost use Rattle.table_tree.specs.View.{spares_of, tree_of};
-ghost use Rattle.walk_plan.specs.Changes.{CanBeSaidOn};
+ghost use Rattle.table_tree.specs.View.{spares_of};
+ghost use Rattle.walk_plan.specs.Hands.{FitsTree, IsGivenBack, IsLeft, IsRefused, IsTaken, Stays, edit_on, need_in};
 
 use crate::needs::need;
 use hyp_pool::{Pool, PoolFault, laws};
 use page_state::{Entry, PageRange};
-use std::alloc::Allocator;
+use std::alloc::{AllocError, Allocator};
 use table_tree::{Reads, Stock, Tree};
 
 /// The tables for one change, with frames of a pool. It must be spent: by that change, or by `release`.
@@ -31,55 +28,36 @@ pub fn reserve<A: Allocator + Copy>(
     entry: &Entry,
     reads: &mut Reads,
 ) -> Result<Spare<A>, PoolFault>
-    requires some { 1 ≤ range.count }
-    requires within { end_of range ≤ input_pages tree.old.geometry }
-    requires entry_in { CanBeSaidOn range.count entry.now }
-    ensures spare { IfOk result (λ s. frames_of s.stock ≡ take (need_of (levels_below tree.old.geometry) (tree_of tree.old) (put range.first.0 range.count entry.now)) pool.old.frames) }
-    ensures pool { OnOk result (pool.new.frames ≡ drop (need_of (levels_below tree.old.geometry) (tree_of tree.old) (put range.first.0 range.count entry.now)) pool.old.frames) }
-    ensures enough { OnOk result (need_of (levels_below tree.old.geometry) (tree_of tree.old) (put range.first.0 range.count entry.now) ≤ length pool.old.frames) }
-    ensures spares { OnOk result (spares_of tree.new ≡ spares_of tree.old - need_of (levels_below tree.old.geometry) (tree_of tree.old) (put range.first.0 range.count entry.now)) }
-    ensures no_pool { (result ≡ Err PoolFault.NoPool) ↔ (length pool.old.frames < need_of (levels_below tree.old.geometry) (tree_of tree.old) (put range.first.0 range.count entry.now)) }
-    ensures no_memory { result ≡ Err PoolFault.NoMemory → spares_of tree.old < need_of (levels_below tree.old.geometry) (tree_of tree.old) (put range.first.0 range.count entry.now) }
-    ensures nothing { need_of (levels_below tree.old.geometry) (tree_of tree.old) (put range.first.0 range.count entry.now) ≡ 0 → IsOk result }
-    ensures geometry { tree.new.geometry ≡ tree.old.geometry }
-    ensures table { tree.new.table ≡ tree.old.table }
-    ensures err_spares { OnErr result (spares_of tree.old ≤ spares_of tree.new) }
-    ensures err { OnErr result (pool.new ≡ pool.old) }
+    requires { FitsTree tree.old.geometry range entry.now }
+    ensures taken { IfOk result (λ s. IsTaken (need_in tree.old (edit_on range entry.now)) tree.old pool.old tree.new pool.new (frames_of s.stock)) }
+    ensures refused { IfErr result (IsRefused (need_in tree.old (edit_on range entry.now)) tree.old pool.old tree.new pool.new) }
+    ensures stays { Stays tree.old tree.new }
     ensures room { pool.new.room ≡ pool.old.room }
     ensures reads { 2 * count_of reads.new ≤ 2 * count_of reads.old + 3 * range.count + 12 }
 {
     let need = need(tree, range, entry, reads);
-    reserve_tables(alloc, tree, pool, need)
+    if pool.free() < need {
+        return Err(PoolFault::NoPool);
+    }
+    Ok(reserve_tables(alloc, tree, pool, need)?)
 }
 
-/// Takes the lowest `count` frames out of the pool and a table for each: `reserve` for who has counted the need already.
+/// Takes the lowest `count` frames out of the pool and a table for each, where so many are free: `reserve` for who has counted
+/// need and pool already. It is refused only where the spares are too few and memory was refused; then nothing has changed but
+/// that the tree may have more spares.
 pub fn reserve_tables<A: Allocator + Copy>(
     alloc: A,
     tree: &mut Tree<A>,
     pool: &mut Pool,
     count: usize,
-) -> Result<Spare<A>, PoolFault>
-    ensures spare { IfOk result (λ s. frames_of s.stock ≡ take count pool.old.frames) }
-    ensures pool { OnOk result (pool.new.frames ≡ drop count pool.old.frames) }
-    ensures enough { OnOk result (count ≤ length pool.old.frames) }
-    ensures spares { OnOk result (spares_of tree.new ≡ spares_of tree.old - count) }
-    ensures no_pool { (result ≡ Err PoolFault.NoPool) ↔ (length pool.old.frames < count) }
-    ensures no_memory { result ≡ Err PoolFault.NoMemory → spares_of tree.old < count }
-    ensures nothing { count ≡ 0 → IsOk result }
-    ensures geometry { tree.new.geometry ≡ tree.old.geometry }
-    ensures table { tree.new.table ≡ tree.old.table }
-    ensures err_spares { OnErr result (spares_of tree.old ≤ spares_of tree.new) }
-    ensures err { OnErr result (pool.new ≡ pool.old) }
+) -> Result<Spare<A>, AllocError>
+    requires { count ≤ length pool.old.frames }
+    ensures taken { IfOk result (λ s. IsTaken count tree.old pool.old tree.new pool.new (frames_of s.stock)) }
+    ensures left { OnErr result (IsLeft tree.old pool.old tree.new pool.new) }
+    ensures succeeds { count ≤ spares_of tree.old → IsOk result }
+    ensures stays { Stays tree.old tree.new }
     ensures room { pool.new.room ≡ pool.old.room }
 {
-    if count == 0 {
-        return Ok(Spare {
-            stock: Stock::new(),
-        });
-    }
-    if pool.free() < count {
-        return Err(PoolFault::NoPool);
-    }
     tree.grow_spares(alloc, count)?;
     let stock = in_frames(tree, pool, count);
     Ok(Spare { stock })
@@ -92,8 +70,7 @@ fn in_frames<A: Allocator>(tree: &mut Tree<A>, pool: &mut Pool, count: usize) ->
     ensures stock { frames_of result ≡ take count pool.old.frames }
     ensures pool { pool.new.frames ≡ drop count pool.old.frames }
     ensures spares { spares_of tree.new + count ≡ spares_of tree.old }
-    ensures geometry { tree.new.geometry ≡ tree.old.geometry }
-    ensures table { tree.new.table ≡ tree.old.table }
+    ensures stays { Stays tree.old tree.new }
     ensures room { pool.new.room ≡ pool.old.room }
 {
     let mut stock = Stock::new();
@@ -110,11 +87,7 @@ fn in_frames<A: Allocator>(tree: &mut Tree<A>, pool: &mut Pool, count: usize) ->
 pub fn drain<A: Allocator>(stock: Stock<A>, tree: &mut Tree<A>, pool: &mut Pool)
     requires distinct { (f : ℕ) → frame_count f (frames_of stock) + frame_count f pool.old.frames ≤ 1 }
     requires covered { length (frames_of stock) + length pool.old.frames ≤ pool.old.room }
-    ensures frames { pool.new.frames ≡ all_given (frames_of stock) pool.old.frames }
-    ensures room { pool.new.room ≡ pool.old.room }
-    ensures spares { spares_of tree.new ≡ spares_of tree.old + length (frames_of stock) }
-    ensures geometry { tree.new.geometry ≡ tree.old.geometry }
-    ensures table { tree.new.table ≡ tree.old.table }
+    ensures { IsGivenBack (frames_of stock) tree.old pool.old tree.new pool.new }
 {
     laws::given_in_any_order();
     laws::given_one();
@@ -132,11 +105,7 @@ pub fn drain<A: Allocator>(stock: Stock<A>, tree: &mut Tree<A>, pool: &mut Pool)
 pub fn release<A: Allocator>(spare: Spare<A>, tree: &mut Tree<A>, pool: &mut Pool)
     requires distinct { (f : ℕ) → frame_count f (frames_of spare.stock) + frame_count f pool.old.frames ≤ 1 }
     requires covered { length (frames_of spare.stock) + length pool.old.frames ≤ pool.old.room }
-    ensures frames { pool.new.frames ≡ all_given (frames_of spare.stock) pool.old.frames }
-    ensures room { pool.new.room ≡ pool.old.room }
-    ensures spares { spares_of tree.new ≡ spares_of tree.old + length (frames_of spare.stock) }
-    ensures geometry { tree.new.geometry ≡ tree.old.geometry }
-    ensures table { tree.new.table ≡ tree.old.table }
+    ensures { IsGivenBack (frames_of spare.stock) tree.old pool.old tree.new pool.new }
 {
     let Spare { stock } = spare;
     drain(stock, tree, pool);

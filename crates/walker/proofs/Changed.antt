@@ -20,20 +20,20 @@ use Rattle.walk_plan.proofs.Needed.{need_walked}
 use Rattle.walk_plan.proofs.Edited.{IsWalked, tree_edited}
 use Rattle.walk_plan.proofs.Gone.{gone_returned}
 use Rattle.table_tree.proofs.OneWord.{one_word_gone}
-use Rattle.walker.proofs.Slotted.{IsGrown}
+use Rattle.walker.specs.inner.Walks.{IsTableChanged}
 
 module _ {A : Type 0} where
   -- tables that a change makes have frames of their own
-  pub still_distinct : (t : Tree A) (b : Table A) (c : Change) (fs rest : List ℕ) (free : Pool) → IsGrown (levels_below t.geometry) t.table b c fs rest → ((f : ℕ) → uses t f + frame_count f fs + frame_count f free ≤ 1) → AreDistinct (levels_below t.geometry) b
+  pub still_distinct : (t : Tree A) (b : Table A) (c : Change) (fs rest : List ℕ) (free : Pool) → IsTableChanged (levels_below t.geometry) t.table b c fs rest → ((f : ℕ) → uses t f + frame_count f fs + frame_count f free ≤ 1) → AreDistinct (levels_below t.geometry) b
   still_distinct t b c fs rest free grown apart f =
       omega (arith, grown.uses f, uses_are t f, apart f, sum_by-take-le (λ g. is_one g f) fs (table_need (levels_below t.geometry) t.table c))
 
   -- the tree with the root table that a change makes
-  abbrev pub after : (t : Tree A) (b : Table A) (c : Change) (fs rest : List ℕ) (free : Pool) → IsGrown (levels_below t.geometry) t.table b c fs rest → ((f : ℕ) → uses t f + frame_count f fs + frame_count f free ≤ 1) → Tree A
+  abbrev pub after : (t : Tree A) (b : Table A) (c : Change) (fs rest : List ℕ) (free : Pool) → IsTableChanged (levels_below t.geometry) t.table b c fs rest → ((f : ℕ) → uses t f + frame_count f fs + frame_count f free ≤ 1) → Tree A
   after t b c fs rest free grown apart = record { geometry = t.geometry; table = b; spares = t.spares; shaped = grown.shape; tight = grown.tight; distinct = still_distinct t b c fs rest free grown apart }
 
 module _ {A : Type 0} (t u : Tree A) (first count : ℕ) (e : Entry) (c : Change) (fs rest : List ℕ) (some : 0 < count) (within : first + count ≤ input_pages t.geometry) (from : c.first ≡ first) (to : c.end ≡ first + count) (gives : c.entry ≡ e)
-    (geometry : u.geometry ≡ t.geometry) (just : length fs ≡ need (levels_below t.geometry) (tree_of t) (put first count e)) (grown : IsGrown (levels_below t.geometry) t.table u.table c fs rest) where
+    (geometry : u.geometry ≡ t.geometry) (just : length fs ≡ need (levels_below t.geometry) (tree_of t) (put first count e)) (grown : IsTableChanged (levels_below t.geometry) t.table u.table c fs rest) where
   need_is : table_need (levels_below t.geometry) t.table c ≡ length fs
   need_is = need_walked t first count e c some within from to gives ∙ sym just
 

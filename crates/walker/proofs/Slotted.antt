@@ -1,18 +1,17 @@
 -- A slot whose child was changed, and put back: the child, or the word that says what it says.
-use Rattle.std.proofs.Common.{◌≡◌, ℕ, suc, ◌+◌, ◌-◌, ◌*◌, ◌/◌, ◌%◌, ◌^◌, ◌<◌, sym, ap, subst, arith, ◌∙◌, cond, true, inl, inr, Some, List, ◌∷◌, drop, take, length}
+use Rattle.std.proofs.Common.{◌≡◌, ℕ, suc, ◌+◌, ◌-◌, ◌*◌, ◌%◌, ◌^◌, ◌<◌, sym, ap, subst, arith, ◌∙◌, cond, true, inl, inr, Some, List, drop, take, length}
 use Rattle.std.proofs.Math.Nat.{mod-eq_of_lt}
 use Rattle.std.proofs.lemmas.List.{drop-drop}
 use Rattle.descriptor.specs.Word.{desc_of}
 use Rattle.page_state.specs.declared.entry.Entry.{Entry}
 use Rattle.page_state.specs.Blocks.{fits_word}
 use Rattle.page_state.specs.Entries.{advance, entry_of_word}
-use Rattle.page_state.specs.Geometries.{block_pages}
 use Rattle.page_state.specs.Counts.{is_one, frame_count}
 use Rattle.page_state.proofs.Counts.{count_split, count_next}
 use Rattle.page_state.proofs.Entries.{advance-more}
 use Rattle.page_state.proofs.Sizes.{size_some}
 use Rattle.page_state.proofs.Cases.{by_eq}
-use Rattle.page_state.proofs.Common.{not-holds, eq-made, eq-other}
+use Rattle.page_state.proofs.Common.{not-holds, eq-made}
 use Rattle.table_tree.specs.declared.table.Table.{Table}
 use Rattle.table_tree.specs.declared.table.Slot.TheVariants.{Word}
 use Rattle.table_tree.specs.Meaning.{level_at, index_at, slot_at, frame_of, word_entry, entry_at}
@@ -20,7 +19,6 @@ use Rattle.table_tree.specs.Shape.{HoldsWord, IsShaped}
 use Rattle.table_tree.specs.Slots.{fresh}
 use Rattle.table_tree.specs.Tables.{tables_in, uses_in, table_in}
 use Rattle.table_tree.specs.Tight.{IsOneWord, IsOneWordAt, IsTight}
-use Rattle.table_tree.specs.Changes.{IsAttached}
 use Rattle.table_tree.proofs.OneWord.{entry_word, entry_in_block, said_words, word_covers}
 use Rattle.table_tree.proofs.Digits.{digits, index_small}
 use Rattle.table_tree.proofs.PathNumbers.{index_same}
@@ -30,24 +28,15 @@ use Rattle.table_tree.proofs.Sums.{words_tables, words_uses}
 use Rattle.walk_plan.specs.declared.change.Change.{Change}
 use Rattle.walk_plan.specs.Changes.{changed_entry}
 use Rattle.walk_plan.specs.inner.Needs.{slot_need, table_need}
-use Rattle.walk_plan.specs.inner.Ranks.{is_folded, given_rank, slot_rank, table_rank, slot_gone, table_gone}
+use Rattle.walk_plan.specs.inner.Ranks.{is_folded, given_rank, slot_rank, slot_gone, table_gone}
+use Rattle.walker.specs.inner.Walks.{IsTableChanged}
 use Rattle.walker.specs.inner.Steps.{IsOpened, IsReady, IsFoldedIn, IsPutIn, IsPutBack}
 use Rattle.walker.proofs.Folded.{folded_fits, folded_each, folded_by}
 use Rattle.walker.proofs.Maps.{changed_at}
 use Rattle.walker.proofs.Writes.{put_here, put_other, put_stand, written_other}
 
 module _ {A : Type 0} where
-  -- the child as it was changed
-  pub record IsGrown (d : ℕ) (b b' : Table A) (c : Change) (before after : List ℕ) : Type 0 where
-    pub frame : frame_of b' ≡ frame_of b
-    pub shape : IsShaped d b'
-    pub tight : IsTight d b'
-    pub map : (q : ℕ) → entry_at d b' q ≡ changed_entry (d + 1) (entry_at d b) c q
-    pub kept : (low q : ℕ) → low < d → (IsOneWordAt (low + 1) (entry_at d b') q → ⊥) → table_in d b' low q ≡ given_rank before (table_in d b low q) (table_rank d b c low q)
-    pub spare : after ≡ drop (table_need d b c) before
-    pub uses : (f : ℕ) → uses_in d b' f + table_gone d b c f ≡ uses_in d b f + frame_count f (take (table_need d b c) before)
-
-  module _ (d i : ℕ) (t u b b' : Table A) (c : Change) (fs gs hs : List ℕ) (o : IsOpened (d + 1) d i t u b fs gs) (r : IsReady (d + 1) d i t b fs gs c) (g : IsGrown d b b' c gs hs) where
+  module _ (d i : ℕ) (t u b b' : Table A) (c : Change) (fs gs hs : List ℕ) (o : IsOpened (d + 1) d i t u b fs gs) (r : IsReady (d + 1) d i t b fs gs c) (g : IsTableChanged d b b' c gs hs) where
     -- what is done to the pages of the slot
     grown_map : (q : ℕ) → index_at (d + 1) q ≡ i → entry_at d b' q ≡ changed_entry (d + 1) (entry_at (d + 1) t) c q
     grown_map q x = g.map q ∙ changed_at (d + 1) (entry_at d b) (entry_at (d + 1) t) c q (o.map q x)

@@ -1,17 +1,15 @@
 //! A change of a table, slot by slot.
-ghost use Rattle.std.specs.Prelude.{◌≡◌, ◌≢◌, ℕ, ◌+◌, ◌-◌, ◌*◌, ◌<◌, ◌≤◌, length, take, drop};
+ghost use Rattle.std.specs.Prelude.{◌≡◌, ◌+◌, ◌*◌, ◌<◌, ◌≤◌, length};
 ghost use Rattle.page_state.specs.Geometries.{block_pages};
-ghost use Rattle.page_state.specs.Counts.{frame_count};
-ghost use Rattle.table_tree.specs.Meaning.{IsDepth, index_at, slot_at, frame_of, entry_at};
+ghost use Rattle.table_tree.specs.Meaning.{IsDepth, slot_at};
 ghost use Rattle.table_tree.specs.Reading.{count_of};
 ghost use Rattle.table_tree.specs.Shape.{IsShaped};
 ghost use Rattle.table_tree.specs.Stocks.{frames_of};
-ghost use Rattle.table_tree.specs.Tables.{tables_in, uses_in, table_in};
-ghost use Rattle.table_tree.specs.Tight.{IsOneWordAt, IsTight};
-ghost use Rattle.walk_plan.specs.Changes.{IsChange, changed_entry};
+ghost use Rattle.table_tree.specs.Tight.{IsTight};
+ghost use Rattle.walk_plan.specs.Changes.{IsChange, pages_of};
 ghost use Rattle.walk_plan.specs.inner.Needs.{slot_need, table_need};
 ghost use Rattle.walk_plan.specs.inner.Looks.{edges};
-ghost use Rattle.walk_plan.specs.inner.Ranks.{given_rank, slot_rank, table_rank, slot_gone, table_gone};
+ghost use Rattle.walker.specs.inner.Walks.{IsSlotChanged, IsSlotFreed, IsTableChanged, IsTableFreed};
 
 use crate::open::{Found, look_for, opened, put_back};
 use std::alloc::Allocator;
@@ -35,19 +33,9 @@ fn set_slot<A: Allocator>(
     requires tight { IsTight depth table.old }
     requires change_in { IsChange depth change }
     requires enough { slot_need depth (slot_at table.old i) change ≤ length (frames_of spare.old) }
-    ensures frame { frame_of table.new ≡ frame_of table.old }
-    ensures shape { IsShaped depth table.new }
-    ensures tight { IsTight depth table.new }
-    ensures others { (j : ℕ) → j ≢ i → slot_at table.new j ≡ slot_at table.old j }
-    ensures map { (q : ℕ) → index_at depth q ≡ i → entry_at depth table.new q ≡ changed_entry depth (entry_at depth table.old) change q }
-    ensures other { (q : ℕ) → index_at depth q ≢ i → entry_at depth table.new q ≡ entry_at depth table.old q }
-    ensures kept { (low q : ℕ) → low < depth → index_at depth q ≡ i → (IsOneWordAt (low + 1) (entry_at depth table.new) q → ⊥) → table_in depth table.new low q ≡ given_rank (frames_of spare.old) (table_in depth table.old low q) (slot_rank depth (slot_at table.old i) change low q) }
-    ensures stand { (low q : ℕ) → low < depth → index_at depth q ≢ i → table_in depth table.new low q ≡ table_in depth table.old low q }
-    ensures spare { frames_of spare.new ≡ drop (slot_need depth (slot_at table.old i) change) (frames_of spare.old) }
-    ensures uses { (f : ℕ) → uses_in depth table.new f + slot_gone depth (slot_at table.old i) change f ≡ uses_in depth table.old f + frame_count f (take (slot_need depth (slot_at table.old i) change) (frames_of spare.old)) }
-    ensures freed { (f : ℕ) → frame_count f (frames_of freed.new) ≡ slot_gone depth (slot_at table.old i) change f + frame_count f (frames_of freed.old) }
-    ensures tables { tables_in depth table.new + length (frames_of freed.new) ≡ tables_in depth table.old + slot_need depth (slot_at table.old i) change + length (frames_of freed.old) }
-    ensures reads { 2 * count_of reads.new + 3 ≤ 2 * count_of reads.old + 5 * (change.end - change.first) + edges (1028 * depth) depth change }
+    ensures changed { IsSlotChanged depth i table.old table.new change (frames_of spare.old) (frames_of spare.new) }
+    ensures freed { IsSlotFreed depth i table.old table.new change (frames_of freed.old) (frames_of freed.new) }
+    ensures reads { 2 * count_of reads.new + 3 ≤ 2 * count_of reads.old + 5 * pages_of change + edges (1028 * depth) depth change }
 {
     let first = match look_for(table, depth, i, change, reads) {
         Found::Word(word) => {
@@ -76,17 +64,10 @@ pub(crate) fn set_all<A: Allocator>(
     requires tight { IsTight depth table.old }
     requires change_in { IsChange (depth + 1) change }
     requires enough { table_need depth table.old change ≤ length (frames_of spare.old) }
-    ensures frame { frame_of table.new ≡ frame_of table.old }
-    ensures shape { IsShaped depth table.new }
-    ensures tight { IsTight depth table.new }
-    ensures map { (q : ℕ) → entry_at depth table.new q ≡ changed_entry (depth + 1) (entry_at depth table.old) change q }
-    ensures kept { (low q : ℕ) → low < depth → (IsOneWordAt (low + 1) (entry_at depth table.new) q → ⊥) → table_in depth table.new low q ≡ given_rank (frames_of spare.old) (table_in depth table.old low q) (table_rank depth table.old change low q) }
-    ensures spare { frames_of spare.new ≡ drop (table_need depth table.old change) (frames_of spare.old) }
-    ensures uses { (f : ℕ) → uses_in depth table.new f + table_gone depth table.old change f ≡ uses_in depth table.old f + frame_count f (take (table_need depth table.old change) (frames_of spare.old)) }
-    ensures freed { (f : ℕ) → frame_count f (frames_of freed.new) ≡ table_gone depth table.old change f + frame_count f (frames_of freed.old) }
-    ensures tables { tables_in depth table.new + length (frames_of freed.new) ≡ tables_in depth table.old + table_need depth table.old change + length (frames_of freed.old) }
-    ensures reads { 2 * count_of reads.new + 3 ≤ 2 * count_of reads.old + 5 * (change.end - change.first) + edges (1028 * depth) (depth + 1) change }
-    ensures whole { change.first ≡ 0 → change.end ≡ block_pages (depth + 1) → 2 * count_of reads.new + 1536 ≤ 2 * count_of reads.old + 5 * (change.end - change.first) }
+    ensures changed { IsTableChanged depth table.old table.new change (frames_of spare.old) (frames_of spare.new) }
+    ensures freed { IsTableFreed depth table.old table.new change (frames_of freed.old) (frames_of freed.new) }
+    ensures reads { 2 * count_of reads.new + 3 ≤ 2 * count_of reads.old + 5 * pages_of change + edges (1028 * depth) (depth + 1) change }
+    ensures whole { change.first ≡ 0 → change.end ≡ block_pages (depth + 1) → 2 * count_of reads.new + 1536 ≤ 2 * count_of reads.old + 5 * pages_of change }
 {
     for i in change.first >> (9 * depth)..((change.end - 1) >> (9 * depth)) + 1 {
         let part = change.part(depth, i);

@@ -1,7 +1,52 @@
--- A change as far as it has come.
-use Rattle.std.specs.Prelude.{ℕ, min}
+-- A change as far as it has come, and what it leaves. Depths count the levels below.
+use Rattle.std.specs.Prelude.{◌≡◌, ◌≢◌, ℕ, ◌+◌, ◌<◌, min, List, Option, take, drop, length}
+use Rattle.page_state.specs.Counts.{frame_count}
+use Rattle.table_tree.specs.declared.table.Table.{Table}
+use Rattle.table_tree.specs.Meaning.{index_at, slot_at, frame_of, entry_at}
+use Rattle.table_tree.specs.Shape.{IsShaped}
+use Rattle.table_tree.specs.Tables.{tables_in, uses_in, table_in}
+use Rattle.table_tree.specs.Tight.{IsOneWordAt, IsTight}
 use Rattle.walk_plan.specs.declared.change.Change.{Change}
+use Rattle.walk_plan.specs.Changes.{changed_entry}
+use Rattle.walk_plan.specs.inner.Needs.{slot_need, table_need}
+use Rattle.walk_plan.specs.inner.Ranks.{given_rank, slot_rank, table_rank, slot_gone, table_gone}
 
 -- the part of a change before a page
 abbrev pub upto : Change → ℕ → Change
 upto c n = record { first = c.first; end = min c.end n; entry = c.entry }
+
+-- at a page, the table with `low` levels below it is the one that was there or that the change made, unless one word says its block
+abbrev pub IsTableAt : {A : Type 0} → ℕ → Table A → Table A → List ℕ → ℕ → ℕ → Option ℕ → Type 0
+IsTableAt d t u fs low q rank = (IsOneWordAt (low + 1) (entry_at d u) q → ⊥) → table_in d u low q ≡ given_rank fs (table_in d t low q) rank
+
+-- table `u` is `t` after a change, which took what it needs from the front of the stock `before` and left `after`
+pub record IsTableChanged {A : Type 0} (d : ℕ) (t u : Table A) (c : Change) (before after : List ℕ) : Type 0 where
+  pub frame : frame_of u ≡ frame_of t
+  pub shape : IsShaped d u
+  pub tight : IsTight d u
+  pub map : (q : ℕ) → entry_at d u q ≡ changed_entry (d + 1) (entry_at d t) c q
+  pub kept : (low q : ℕ) → low < d → IsTableAt d t u before low q (table_rank d t c low q)
+  pub spare : after ≡ drop (table_need d t c) before
+  pub uses : (f : ℕ) → uses_in d u f + table_gone d t c f ≡ uses_in d t f + frame_count f (take (table_need d t c) before)
+
+-- the tables that went joined the stock `before`, which is now `after`
+pub record IsTableFreed {A : Type 0} (d : ℕ) (t u : Table A) (c : Change) (before after : List ℕ) : Type 0 where
+  pub frames : (f : ℕ) → frame_count f after ≡ table_gone d t c f + frame_count f before
+  pub tables : tables_in d u + length after ≡ tables_in d t + table_need d t c + length before
+
+-- the same of a change in slot `i`; the other slots stay
+pub record IsSlotChanged {A : Type 0} (d i : ℕ) (t u : Table A) (c : Change) (before after : List ℕ) : Type 0 where
+  pub frame : frame_of u ≡ frame_of t
+  pub shape : IsShaped d u
+  pub tight : IsTight d u
+  pub others : (j : ℕ) → j ≢ i → slot_at u j ≡ slot_at t j
+  pub map : (q : ℕ) → index_at d q ≡ i → entry_at d u q ≡ changed_entry d (entry_at d t) c q
+  pub other : (q : ℕ) → index_at d q ≢ i → entry_at d u q ≡ entry_at d t q
+  pub kept : (low q : ℕ) → low < d → index_at d q ≡ i → IsTableAt d t u before low q (slot_rank d (slot_at t i) c low q)
+  pub stand : (low q : ℕ) → low < d → index_at d q ≢ i → table_in d u low q ≡ table_in d t low q
+  pub spare : after ≡ drop (slot_need d (slot_at t i) c) before
+  pub uses : (f : ℕ) → uses_in d u f + slot_gone d (slot_at t i) c f ≡ uses_in d t f + frame_count f (take (slot_need d (slot_at t i) c) before)
+
+pub record IsSlotFreed {A : Type 0} (d i : ℕ) (t u : Table A) (c : Change) (before after : List ℕ) : Type 0 where
+  pub frames : (f : ℕ) → frame_count f after ≡ slot_gone d (slot_at t i) c f + frame_count f before
+  pub tables : tables_in d u + length after ≡ tables_in d t + slot_need d (slot_at t i) c + length before

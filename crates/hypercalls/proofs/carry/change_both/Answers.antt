@@ -28,8 +28,8 @@ reserve-requires g c = can_change (layout_of c.args.layout.now) c.args.changes.n
 
 pub write_rows-requires-clause-suits : goal.write_rows-requires-clause-suits
 write_rows-requires-clause-suits g c =
-    let a = c.commit.ensures in
-    let b = c.reserve-2.ensures in
+    let a = c.commit.ensures.rest in
+    let b = c.reserve-2.ensures.rest in
     suits_after (layout_of c.args.layout.now) c.args.shared.now c.commit.new.self (a.depth ∙ b.depth) (a.rows ∙ b.rows) (a.log ∙ b.log) c.requires.suits
 
 pub returns-in-Ok-clause-made : goal.returns-in-Ok-clause-made
@@ -39,7 +39,7 @@ returns-in-Ok-clause-made g c =
     let p = c.in-Ok.plan in
     let x = shared_with p c.reserve-2.new.self in
     c.write_rows.ensures.told
-    ∙ ap (rows_told l c.args.id (Some c.args.slot) h) (c.commit.ensures.made ∙ ap (λ d. shared_after d (planned p) x) (c.reserve-2.ensures.depth ∙ c.requires.suits.depth) ∙ after_planned l.depth h p x c.in-Ok.ensures.planned ∙ ap (shared_after l.depth h) c.in-Ok.ensures.whole)
+    ∙ ap (rows_told l c.args.id (Some c.args.slot) h) (c.commit.ensures.made ∙ ap (λ d. shared_after d (planned p) x) (c.reserve-2.ensures.rest.depth ∙ c.requires.suits.depth) ∙ after_planned l.depth h p x c.in-Ok.ensures.planned.both ∙ ap (shared_after l.depth h) c.in-Ok.ensures.planned.whole)
 
 pub returns-in-Err-clause-no_pool : goal.returns-in-Err-clause-no_pool
 returns-in-Err-clause-no_pool g c =
@@ -53,5 +53,5 @@ returns-in-Err-clause-no_pool g c =
 
 pub returns-in-Err-clause-suits : goal.returns-in-Err-clause-suits
 returns-in-Err-clause-suits g c =
-    let b = c.reserve-2.ensures in
+    let b = c.reserve-2.ensures.rest in
     suits_after (layout_of c.args.layout.now) c.args.shared.now c.reserve-2.new.self b.depth b.rows b.log c.requires.suits

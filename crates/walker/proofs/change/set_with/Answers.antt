@@ -16,7 +16,7 @@ use Rattle.walk_plan.proofs.Given.{none_left}
 use Rattle.walk_plan.proofs.Looks.{edges_most}
 use Rattle.walk_plan.proofs.Needed.{need_walked}
 use Rattle.walk_plan.proofs.OfTree.{low_depth}
-use Rattle.walker.proofs.Slotted.{IsGrown}
+use Rattle.walker.specs.inner.Walks.{IsTableChanged}
 use Rattle.walker.proofs.Changed.{after, still_distinct, edited_tree, moved, counted, came_back}
 use Rattle.walker.proofs.change.set_with.Goals.{After-set_all}
 use Rattle.walker.proofs.change.set_with.Goals as goal
@@ -26,41 +26,41 @@ abbrev change : PageRange → Entry → Change
 change r e = record { first = r.first.0; end = r.first.0 + r.count; entry = e }
 
 -- what the change made of the root table
-grown : (g : _) (c : After-set_all g) → IsGrown (levels_below c.args.tree.now.geometry) c.args.tree.now.table c.set_all.new.table (change c.args.range c.args.entry) (frames_of c.args.spare.stock) (frames_of c.set_all.new.spare)
+grown : (g : _) (c : After-set_all g) → IsTableChanged (levels_below c.args.tree.now.geometry) c.args.tree.now.table c.set_all.new.table (change c.args.range c.args.entry) (frames_of c.args.spare.stock) (frames_of c.set_all.new.spare)
 grown g c =
     let e : c.depth-depth.result ≡ levels_below c.args.tree.now.geometry = c.depth-depth.ensures.value ∙ ap levels_below c.geometry.ensures in
     record {
-      frame = c.set_all.ensures.frame;
-      shape = rw e at c.set_all.ensures.shape;
-      tight = rw e at c.set_all.ensures.tight;
-      map = rw e at c.set_all.ensures.map;
-      kept = rw e at c.set_all.ensures.kept;
-      spare = rw e at c.set_all.ensures.spare;
-      uses = rw e at c.set_all.ensures.uses;
+      frame = c.set_all.ensures.changed.frame;
+      shape = rw e at c.set_all.ensures.changed.shape;
+      tight = rw e at c.set_all.ensures.changed.tight;
+      map = rw e at c.set_all.ensures.changed.map;
+      kept = rw e at c.set_all.ensures.changed.kept;
+      spare = rw e at c.set_all.ensures.changed.spare;
+      uses = rw e at c.set_all.ensures.changed.uses;
     }
 
 -- the tree with that table
 abbrev tree : (g : _) (c : After-set_all g) → Tree g.row.A.Denot
-tree g c = after c.args.tree.now c.set_all.new.table (change c.args.range c.args.entry) (frames_of c.args.spare.stock) (frames_of c.set_all.new.spare) c.args.pool.now.frames (grown g c) c.requires.distinct
+tree g c = after c.args.tree.now c.set_all.new.table (change c.args.range c.args.entry) (frames_of c.args.spare.stock) (frames_of c.set_all.new.spare) c.args.pool.now.frames (grown g c) c.requires.apart.distinct
 
 tree_edited : (g : _) (c : After-set_all g) → tree_of (tree g c) ≡ edited (levels_below c.args.tree.now.geometry) (tree_of c.args.tree.now) (put c.args.range.first.0 c.args.range.count c.args.entry) (frames_of c.args.spare.stock)
 tree_edited g c =
-    edited_tree c.args.tree.now (tree g c) c.args.range.first.0 c.args.range.count c.args.entry (change c.args.range c.args.entry) (frames_of c.args.spare.stock) (frames_of c.set_all.new.spare) (omega (arith, c.requires.some)) c.requires.within refl refl refl refl c.requires.just (grown g c)
+    edited_tree c.args.tree.now (tree g c) c.args.range.first.0 c.args.range.count c.args.entry (change c.args.range c.args.entry) (frames_of c.args.spare.stock) (frames_of c.set_all.new.spare) (omega (arith, c.requires.fits.some)) c.requires.fits.within refl refl refl refl c.requires.just (grown g c)
 
 -- each frame is where it was, was moved, or went
 tree_uses : (g : _) (c : After-set_all g) (f : ℕ) → uses (tree g c) f + frame_count f (frames_of c.set_all.new.freed) ≡ uses c.args.tree.now f + frame_count f (frames_of c.args.spare.stock)
 tree_uses g c f =
     let e : c.depth-depth.result ≡ levels_below c.args.tree.now.geometry = c.depth-depth.ensures.value ∙ ap levels_below c.geometry.ensures in
-    let m = moved c.args.tree.now (tree g c) c.args.range.first.0 c.args.range.count c.args.entry (change c.args.range c.args.entry) (frames_of c.args.spare.stock) (frames_of c.set_all.new.spare) (omega (arith, c.requires.some)) c.requires.within refl refl refl refl c.requires.just (grown g c) f in
+    let m = moved c.args.tree.now (tree g c) c.args.range.first.0 c.args.range.count c.args.entry (change c.args.range c.args.entry) (frames_of c.args.spare.stock) (frames_of c.set_all.new.spare) (omega (arith, c.requires.fits.some)) c.requires.fits.within refl refl refl refl c.requires.just (grown g c) f in
     let none = ap (frame_count f) c.new-freed.ensures in
-    let gone = rw e at (c.set_all.ensures.freed f) in
+    let gone = rw e at (c.set_all.ensures.freed.frames f) in
     omega (arith, m, none, gone)
 
 tree_tables : (g : _) (c : After-set_all g) → tables_of (tree g c) + length (frames_of c.set_all.new.freed) ≡ tables_of c.args.tree.now + length (frames_of c.args.spare.stock)
 tree_tables g c =
     let e : c.depth-depth.result ≡ levels_below c.args.tree.now.geometry = c.depth-depth.ensures.value ∙ ap levels_below c.geometry.ensures in
-    let tables = rw e at c.set_all.ensures.tables in
-    let n = counted c.args.tree.now (tree g c) c.args.range.first.0 c.args.range.count c.args.entry (change c.args.range c.args.entry) (frames_of c.args.spare.stock) (frames_of c.set_all.new.spare) (omega (arith, c.requires.some)) c.requires.within refl refl refl refl c.requires.just (grown g c) (length (frames_of c.new-freed.result)) (length (frames_of c.set_all.new.freed)) tables in
+    let tables = rw e at c.set_all.ensures.freed.tables in
+    let n = counted c.args.tree.now (tree g c) c.args.range.first.0 c.args.range.count c.args.entry (change c.args.range c.args.entry) (frames_of c.args.spare.stock) (frames_of c.set_all.new.spare) (omega (arith, c.requires.fits.some)) c.requires.fits.within refl refl refl refl c.requires.just (grown g c) (length (frames_of c.new-freed.result)) (length (frames_of c.set_all.new.freed)) tables in
     let zero = ap length c.new-freed.ensures in
     omega (arith, n, zero)
 
@@ -69,66 +69,60 @@ pool_back : (g : _) (c : After-set_all g) → all_given (frames_of c.set_all.new
 pool_back g c =
     let e : c.depth-depth.result ≡ levels_below c.args.tree.now.geometry = c.depth-depth.ensures.value ∙ ap levels_below c.geometry.ensures in
     let none = λ (f : ℕ). ap (frame_count f) c.new-freed.ensures in
-    let gone = λ (f : ℕ). (rw e at (c.set_all.ensures.freed f)) in
-    came_back c.args.tree.now (tree g c) c.args.range.first.0 c.args.range.count c.args.entry (change c.args.range c.args.entry) (frames_of c.args.spare.stock) (frames_of c.set_all.new.spare) (omega (arith, c.requires.some)) c.requires.within refl refl refl refl c.requires.just (grown g c) c.given_in_any_order.ensures.counted (frames_of c.set_all.new.freed) c.args.pool.now.frames (λ f. omega (arith, none f, gone f))
+    let gone = λ (f : ℕ). (rw e at (c.set_all.ensures.freed.frames f)) in
+    came_back c.args.tree.now (tree g c) c.args.range.first.0 c.args.range.count c.args.entry (change c.args.range c.args.entry) (frames_of c.args.spare.stock) (frames_of c.set_all.new.spare) (omega (arith, c.requires.fits.some)) c.requires.fits.within refl refl refl refl c.requires.just (grown g c) c.given_in_any_order.ensures.counted (frames_of c.set_all.new.freed) c.args.pool.now.frames (λ f. omega (arith, none f, gone f))
 
 pub set_all-requires-clause-enough : goal.set_all-requires-clause-enough
 set_all-requires-clause-enough g c =
     let e : c.depth-depth.result ≡ levels_below c.args.tree.now.geometry = c.depth-depth.ensures.value ∙ ap levels_below c.geometry.ensures in
-    let n = need_walked c.args.tree.now c.args.range.first.0 c.args.range.count c.args.entry (change c.args.range c.args.entry) (omega (arith, c.requires.some)) c.requires.within refl refl refl in
+    let n = need_walked c.args.tree.now c.args.range.first.0 c.args.range.count c.args.entry (change c.args.range c.args.entry) (omega (arith, c.requires.fits.some)) c.requires.fits.within refl refl refl in
     rw e (omega (arith, n, c.requires.just))
 
 pub drain-requires-clause-distinct : goal.drain-requires-clause-distinct
 drain-requires-clause-distinct g c f =
     let m = tree_uses g (goal.at.drain-requires-clause-distinct g c).After-set_all f in
-    omega (arith, m, c.requires.distinct f)
+    omega (arith, m, c.requires.apart.distinct f)
 
 pub drain-requires-clause-covered : goal.drain-requires-clause-covered
 drain-requires-clause-covered g c =
     let d = (goal.at.drain-requires-clause-covered g c).After-set_all in
-    omega (arith, tree_tables g d, tree_some (tree g d), c.requires.covered)
+    omega (arith, tree_tables g d, tree_some (tree g d), c.requires.apart.covered)
 
 pub close-requires : goal.close-requires
 close-requires g c =
     let t = c.args.tree.now in
     let fs = frames_of c.args.spare.stock in
     let e : c.depth-depth.result ≡ levels_below t.geometry = c.depth-depth.ensures.value ∙ ap levels_below c.geometry.ensures in
-    let n = need_walked t c.args.range.first.0 c.args.range.count c.args.entry (change c.args.range c.args.entry) (omega (arith, c.requires.some)) c.requires.within refl refl refl in
-    let left = ap length (rw e at c.set_all.ensures.spare) in
+    let n = need_walked t c.args.range.first.0 c.args.range.count c.args.entry (change c.args.range c.args.entry) (omega (arith, c.requires.fits.some)) c.requires.fits.within refl refl refl in
+    let left = ap length (rw e at c.set_all.ensures.changed.spare) in
     none_left (frames_of c.set_all.new.spare) (omega (arith, left, length-drop (table_need (levels_below t.geometry) t.table (change c.args.range c.args.entry)) fs, n, c.requires.just))
 
-pub returns-clause-tree : goal.returns-clause-tree
-returns-clause-tree g c =
-    let d = (goal.at.returns-clause-tree g c).After-set_all in
-    same_tree _ (tree g d) c.drain.ensures.geometry c.drain.ensures.table ∙ tree_edited g d
-
-pub returns-clause-root : goal.returns-clause-root
-returns-clause-root g c =
-    root_is c.args.tree.now _ (ap (λ x. frame_of x) c.drain.ensures.table ∙ c.set_all.ensures.frame)
-
-pub returns-clause-pool : goal.returns-clause-pool
-returns-clause-pool g c = c.drain.ensures.frames ∙ pool_back g (goal.at.returns-clause-pool g c).After-set_all
-
-pub returns-clause-spares : goal.returns-clause-spares
-returns-clause-spares g c =
+pub returns-clause-edited : goal.returns-clause-edited
+returns-clause-edited g c =
+    let d = (goal.at.returns-clause-edited g c).After-set_all in
     let t = c.args.tree.now in
     let p = c.args.pool.now.frames in
-    let back = pool_back g (goal.at.returns-clause-spares g c).After-set_all in
-    c.drain.ensures.spares ∙ ap (λ n. n + length (frames_of c.set_all.new.freed)) (same_spares _ t refl) ∙ omega (arith, ap length back, c.given_many.ensures.length (frames_of c.set_all.new.freed) p, c.given_many.ensures.length (returned (levels_below t.geometry) (tree_of t) (put c.args.range.first.0 c.args.range.count c.args.entry)) p)
-
-pub returns-clause-frames : goal.returns-clause-frames
-returns-clause-frames g c f =
-    let d = (goal.at.returns-clause-frames g c).After-set_all in
-    let m = tree_uses g d f in
-    let p = ap (frame_count f) c.drain.ensures.frames ∙ c.given_many.ensures.count f (frames_of c.set_all.new.freed) c.args.pool.now.frames in
-    ap (λ n. n + frame_count f c.drain.new.pool.frames) (same_uses _ (tree g d) c.drain.ensures.geometry c.drain.ensures.table f) ∙ omega (arith, m, p)
-
-pub returns-clause-tables : goal.returns-clause-tables
-returns-clause-tables g c =
-    let d = (goal.at.returns-clause-tables g c).After-set_all in
-    let n = tree_tables g d in
-    let p = ap length c.drain.ensures.frames ∙ c.given_many.ensures.length (frames_of c.set_all.new.freed) c.args.pool.now.frames in
-    ap (λ n. n + length c.drain.new.pool.frames) (same_count _ (tree g d) c.drain.ensures.geometry c.drain.ensures.table) ∙ omega (arith, n, p)
+    let fs = frames_of c.set_all.new.freed in
+    let stays = c.drain.ensures.stays in
+    let back = pool_back g d in
+    record {
+      tree = same_tree _ (tree g d) stays.geometry stays.table ∙ tree_edited g d;
+      pool = c.drain.ensures.frames ∙ back;
+      spares = c.drain.ensures.spares ∙ ap (λ n. n + length fs) (same_spares _ t refl) ∙ omega (arith, ap length back, c.given_many.ensures.length fs p, c.given_many.ensures.length (returned (levels_below t.geometry) (tree_of t) (put c.args.range.first.0 c.args.range.count c.args.entry)) p);
+      keeps = record {
+        geometry = stays.geometry;
+        root = root_is t _ (ap (λ x. frame_of x) stays.table ∙ c.set_all.ensures.changed.frame);
+        room = c.drain.ensures.room;
+        frames = λ f.
+            let m = tree_uses g d f in
+            let q = ap (frame_count f) c.drain.ensures.frames ∙ c.given_many.ensures.count f fs p in
+            ap (λ n. n + frame_count f c.drain.new.pool.frames) (same_uses _ (tree g d) stays.geometry stays.table f) ∙ omega (arith, m, q);
+        tables =
+            let n = tree_tables g d in
+            let q = ap length c.drain.ensures.frames ∙ c.given_many.ensures.length fs p in
+            ap (λ n. n + length c.drain.new.pool.frames) (same_count _ (tree g d) stays.geometry stays.table) ∙ omega (arith, n, q);
+      };
+    }
 
 pub returns-clause-reads : goal.returns-clause-reads
 returns-clause-reads g c =
@@ -140,4 +134,4 @@ returns-clause-reads g c =
 
 pub invariant_of-tree-clause-distinct : goal.invariant_of-tree-clause-distinct
 invariant_of-tree-clause-distinct g c =
-    still_distinct c.args.tree.now c.set_all.new.table (change c.args.range c.args.entry) (frames_of c.args.spare.stock) (frames_of c.set_all.new.spare) c.args.pool.now.frames (grown g (goal.at.invariant_of-tree-clause-distinct g c).After-set_all) c.requires.distinct
+    still_distinct c.args.tree.now c.set_all.new.table (change c.args.range c.args.entry) (frames_of c.args.spare.stock) (frames_of c.set_all.new.spare) c.args.pool.now.frames (grown g (goal.at.invariant_of-tree-clause-distinct g c).After-set_all) c.requires.apart.distinct

@@ -1,13 +1,20 @@
-use Rattle.std.proofs.Common.{ap, ◌∙◌}
+use Rattle.std.proofs.Common.{ap, arith, ◌∙◌, length}
 use Rattle.reference_model.specs.Step.{shared_after}
 use Rattle.guest_steps.specs.Planned.{planned, shared_with}
 use Rattle.guest_steps.specs.View.{depth_of}
-use Rattle.guest_steps.proofs.Planned.{after_planned}
+use Rattle.guest_steps.proofs.Planned.{after_planned, host_back, hyp_back}
 use Rattle.guest_steps.proofs.parts.SharedPart.change.Goals as goal
 
 pub returns-clause-made : goal.returns-clause-made
 returns-clause-made g c =
     let s = c.args.self.now in
+    let r = c.reserve.new.self in
     let p = c.in_ok-plan.plan in
-    c.commit.ensures.made ∙ ap (λ d. shared_after d (planned p) (shared_with p c.reserve.new.self)) c.reserve.ensures.depth ∙ after_planned (depth_of s) c.args.changes.now p (shared_with p c.reserve.new.self) c.in_ok-plan.ensures.planned
-    ∙ ap (shared_after (depth_of s) c.args.changes.now) c.in_ok-plan.ensures.whole
+    let h = c.args.changes.now in
+    let is = c.in_ok-plan.ensures.planned in
+    let depth = c.reserve.ensures.rest.depth in
+    record {
+      made = c.commit.ensures.made ∙ ap (λ d. shared_after d (planned p) (shared_with p r)) depth ∙ after_planned (depth_of s) h p (shared_with p r) is.both ∙ ap (shared_after (depth_of s) h) is.whole;
+      host_spares = omega (arith, c.commit.ensures.host_spares, is.host_spares, ap length (host_back s r p h depth is.both is.whole), c.need-need.ensures.host);
+      hyp_spares = omega (arith, c.commit.ensures.hyp_spares, is.hyp_spares, ap length (hyp_back s r p h depth is.both is.whole), c.need-need.ensures.hyp);
+    }

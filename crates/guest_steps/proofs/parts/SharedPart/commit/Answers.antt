@@ -1,30 +1,35 @@
-use Rattle.std.proofs.Common.{◌++◌, arith, ap, ◌∙◌, length, length-append}
+use Rattle.std.proofs.Common.{◌++◌, arith, ap, ◌∙◌, length-append}
 use Rattle.component.specs.View.{back_from}
 use Rattle.hyp_pool.proofs.Counts.{given_counted, given_append}
 use Rattle.page_state.specs.Tables.{all_given}
 use Rattle.table_tree.specs.Stocks.{frames_of}
 use Rattle.table_tree.proofs.Sums.{tree_some}
 use Rattle.guest_steps.specs.Planned.{in_hand, planned}
-use Rattle.guest_steps.proofs.Planned.{host_after, hyp_after, left_after}
+use Rattle.guest_steps.proofs.Planned.{counted, host_after, hyp_after, left_after}
 use Rattle.guest_steps.proofs.Pools.{given_both}
 use Rattle.guest_steps.proofs.Shares.{changed}
 use Rattle.guest_steps.proofs.parts.SharedPart.commit.Goals as goal
 
-pub commit-requires-clause-covered : goal.commit-requires-clause-covered
-commit-requires-clause-covered g c =
+pub commit-requires-clause-apart : goal.commit-requires-clause-apart
+commit-requires-clause-apart g c =
     let s = c.args.self.now in
-    let p = c.args.plan in
-    let a = frames_of p.host.spare.stock in
-    let b = frames_of p.hyp.spare.stock in
-    omega (arith, c.requires.planned.apart.1, length-append a b, length-append (a ++ b) s.pool.frames, tree_some s.hyp.tree)
+    let a = frames_of c.args.plan.host.spare.stock in
+    let b = frames_of c.args.plan.hyp.spare.stock in
+    record {
+      distinct = λ f. omega (arith, c.requires.planned.apart.0 f, counted f a b, counted f (a ++ b) s.pool.frames);
+      covered = omega (arith, c.requires.planned.apart.1, length-append a b, length-append (a ++ b) s.pool.frames, tree_some s.hyp.tree);
+    }
 
-pub commit-requires-2-clause-covered : goal.commit-requires-2-clause-covered
-commit-requires-2-clause-covered g c =
+pub commit-requires-2-clause-apart : goal.commit-requires-2-clause-apart
+commit-requires-2-clause-apart g c =
     let s = c.args.self.now in
-    let p = c.args.plan in
-    let a = frames_of p.host.spare.stock in
-    let b = frames_of p.hyp.spare.stock in
-    omega (arith, c.requires.planned.apart.1, length-append a b, length-append (a ++ b) s.pool.frames, tree_some c.commit.new.self.tree, c.commit.ensures.tables, c.commit.ensures.pool_room)
+    let a = frames_of c.args.plan.host.spare.stock in
+    let b = frames_of c.args.plan.hyp.spare.stock in
+    let kept = c.commit.ensures.keeps in
+    record {
+      distinct = λ f. omega (arith, c.requires.planned.apart.0 f, counted f a b, counted f (a ++ b) s.pool.frames, kept.frames f);
+      covered = omega (arith, c.requires.planned.apart.1, length-append a b, length-append (a ++ b) s.pool.frames, tree_some c.commit.new.self.tree, kept.tables, kept.room);
+    }
 
 pub returns-clause-made : goal.returns-clause-made
 returns-clause-made g c =
