@@ -32,7 +32,7 @@ returns-in_err-change-clause-err g c =
     told c.from_residual-in_err-change.result c.in_err-change.field-0.0 (λ e. let less = c.change.ensures.no_pool.0 (c.in_err-change.was ∙ ap Err e) in absurd (omega (arith, less, room))) c.from_residual-in_err-change.ensures.1
 
 pub give_rows-requires-clause-known : goal.give_rows-requires-clause-known
-give_rows-requires-clause-known g c = known_rows c.args.map.now c.args.config c.args.geometry c.carve-carve.result c.change.new.self.owners c.carve-carve.ensures.value c.requires.usable (λ f. rw c.change.ensures.rows (c.in_ok-shared.ensures.rows f))
+give_rows-requires-clause-known g c = known_rows c.args.map.now c.args.config c.args.geometry c.carve-carve.result c.change.new.self.owners c.carve-carve.ensures.value c.requires.usable (λ f. rw c.change.ensures.rest.rows (c.in_ok-shared.ensures.rows f))
 
 pub returns-clause-shared : goal.returns-clause-shared
 returns-clause-shared g c =
@@ -45,7 +45,7 @@ returns-clause-shared g c =
     let l = layout_for m c.args.config g0 in
     let some = ap (λ (r : PageRange). r.count) c.carve-carve.ensures.value in
     let after : shared_of c.change.new.self ≡ boot_shared l =
-    c.in_ok-change.ensures.made ∙ ap (λ d. shared_after d h (shared_of s)) c.in_ok-shared.ensures.depth ∙ ap (shared_after (levels_below g0) h) c.in_ok-shared.ensures.shared ∙ after_is c.blocks_on_range.ensures.meet m c.args.config g0 h host_is hyp_is (omega (arith, some, c.carve-carve.ensures.some)) in
+    c.in_ok-change.ensures.made.made ∙ ap (λ d. shared_after d h (shared_of s)) c.in_ok-shared.ensures.depth ∙ ap (shared_after (levels_below g0) h) c.in_ok-shared.ensures.shared ∙ after_is c.blocks_on_range.ensures.meet m c.args.config g0 h host_is hyp_is (omega (arith, some, c.carve-carve.ensures.some)) in
     c.give_rows.ensures.made ∙ ap (λ (r : PageRange). rows_given r c.pool_row.result (shared_of c.change.new.self)) c.carve-carve.ensures.value ∙ ap (λ r. rows_given m.carve r (shared_of c.change.new.self)) c.pool_row.ensures ∙ ap (rows_given m.carve pool_row) after ∙ rows_are c.boot_legal.ensures.rows l c.requires.enough c.requires.usable
 
 -- a refused growth
@@ -113,13 +113,13 @@ pub give_rows-requires-clause-row : goal.give_rows-requires-clause-row
 give_rows-requires-clause-row g c = subst (λ (r : Row). HasPageBelow r c.carve-carve.result.count) (sym c.pool_row.ensures) tt
 
 pub returns-clause-depth : goal.returns-clause-depth
-returns-clause-depth g c = c.give_rows.ensures.depth ∙ c.change.ensures.depth ∙ c.in_ok-shared.ensures.depth
+returns-clause-depth g c = c.give_rows.ensures.depth ∙ c.change.ensures.rest.depth ∙ c.in_ok-shared.ensures.depth
 
 pub returns-clause-rows : goal.returns-clause-rows
-returns-clause-rows g c f = both_same (is_some (row_at c.give_rows.new.self.owners f)) (is_some (row_at c.change.new.self.owners f)) (c.give_rows.ensures.known f) ∙ ap (λ rows. is_some (row_at rows f)) c.change.ensures.rows ∙ c.in_ok-shared.ensures.rows f
+returns-clause-rows g c f = both_same (is_some (row_at c.give_rows.new.self.owners f)) (is_some (row_at c.change.new.self.owners f)) (c.give_rows.ensures.known f) ∙ ap (λ rows. is_some (row_at rows f)) c.change.ensures.rest.rows ∙ c.in_ok-shared.ensures.rows f
 
 pub returns-clause-log : goal.returns-clause-log
-returns-clause-log g c = subst (IsNewLog c.args.config.log) (sym (c.give_rows.ensures.log ∙ c.change.ensures.log)) c.in_ok-shared.ensures.log
+returns-clause-log g c = subst (IsNewLog c.args.config.log) (sym (c.give_rows.ensures.log ∙ c.change.ensures.rest.log)) c.in_ok-shared.ensures.log
 
 pub returns-clause-err : goal.returns-clause-err
 returns-clause-err g c = tt
