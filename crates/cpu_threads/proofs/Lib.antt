@@ -9,5 +9,6 @@ pub mod Crossing
 pub mod Growing
 pub mod Stopping
 pub mod InitCalls
+pub mod Full
 pub mod Recordable
 pub mod Judging

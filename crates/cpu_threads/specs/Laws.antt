@@ -1,5 +1,5 @@
 -- What follows from a machine's calls and its end: the laws of this crate.
-use Rattle.std.specs.Prelude.{◌≡◌, ◌⊎◌, ℕ, ◌<◌, true, map, All, List, [], ◌∷◌, ◌++◌, Option, Ok, Err}
+use Rattle.std.specs.Prelude.{◌≡◌, ◌⊎◌, ℕ, ◌<◌, true, length, map, All, List, [], ◌∷◌, ◌++◌, Option, Some, Ok, Err}
 use Rattle.page_state.specs.declared.layout.Layout.{Layout as TheLayout}
 use Rattle.step_reply.specs.declared.reply.Call.{Call}
 use Rattle.step_reply.specs.declared.reply.Refusal.{Refusal}
@@ -16,31 +16,37 @@ use Rattle.guest_steps.specs.declared.parts.CpuState.{CpuState}
 use Rattle.guest_steps.specs.Logs.{StoredCalls}
 use Rattle.part_table.specs.declared.slot.Slot.{Slot}
 use Rattle.part_table.specs.Answered.{FindsAway, FindsLogFull, MeetsAnother, StoresCall, used_by}
-use Rattle.part_table.specs.Endings.{IsEndOf, KeepsSeen}
+use Rattle.part_table.specs.Endings.{IsEndOf, KeepsSeen, KeepsTried}
 use Rattle.part_table.specs.Parts.{parts, part_of, uses}
 use Rattle.part_table.specs.Passes.{Pass}
-use Rattle.part_table.specs.Known.{Known, StartsWith, seen_at}
+use Rattle.part_table.specs.Known.{AreFronts, Known, StartsWith, seen_at}
 use Rattle.part_table.specs.Tried.{FoundAway, FoundFull, FoundRoom, Try}
 use Rattle.cpu_threads.specs.Ends.{HasAll, IsAtHome, KeepsStates, LacksOne, OfGiven}
 use Rattle.cpu_threads.specs.Inits.{InitsVm}
 use Rattle.cpu_threads.specs.declared.init.InitStage.{InitStage}
 use Rattle.cpu_threads.specs.declared.init.InitStage.TheVariants.{Reserve, Fund as FundStage, Install as InstallStage, Open}
 
--- The history is a pass's: its CPU's calls in it are the pass's own list, in order and with their replies, and its calls on each part begin with what the pass has seen there
-pub record IsHistoryOf (log : List Call) (p : Pass) : Type 0 where
+-- The history is a pass's: its CPU's calls in it are the pass's own list, in order and with their replies, and its calls on each part begin with what the pass has seen there, and with each log of the part that it took
+pub record IsHistoryOf (l : TheLayout) (log : List Call) (p : Pass) : Type 0 where
   pub calls : calls_by p.knows.cpu log ≡ p.knows.own.log.calls
   pub seen : (k : ℕ) → k < parts → StartsWith (calls_on (part_of k) log) (seen_at p.knows.seen k)
+  pub tried : AreFronts l.config.log (λ k. calls_on (part_of k) log) p.knows.tries
 
 -- There is one legal history at whose end the parts and the CPUs are. It is each given pass's, and has no call of a CPU whose pass was never handed out
 pub record OneHistory {A : Type 0} (l : TheLayout) (found : List (Slot A)) (cpus : List CpuState) (passes : List (Option Pass)) (given : List Pass) : Type 0 where
   pub end : IsEndOf l found cpus
-  pub each : OfGiven given (IsHistoryOf end.log)
+  pub each : OfGiven given (IsHistoryOf l end.log)
   pub idle : (c : ℕ) → IsAtHome passes c → calls_by c end.log ≡ []
 
--- so it is where the parts and the CPUs are what a shutdown gives: the end of a legal history, which keeps each CPU's state, and what each given pass has seen
+-- so it is where the parts and the CPUs are what a shutdown gives: the end of a legal history, which keeps each CPU's state, and what each given pass has seen and tried
 abbrev pub EndsInOne : Type 0 → Type 0
-EndsInOne A = (l : TheLayout) (found : List (Slot A)) (cpus : List CpuState) (passes : List (Option Pass)) (given : List Pass) → IsEndOf l found cpus → KeepsStates l passes given cpus → OfGiven given (KeepsSeen found)
+EndsInOne A = (l : TheLayout) (found : List (Slot A)) (cpus : List CpuState) (passes : List (Option Pass)) (given : List Pass) → IsEndOf l found cpus → KeepsStates l passes given cpus → OfGiven given (KeepsSeen found) → OfGiven given (KeepsTried l found)
     → OneHistory l found cpus passes given
+
+-- where a try of a given pass found a part's log full, it is full at the end
+abbrev pub FullLogsStay : Type 0 → Type 0
+FullLogsStay A = (l : TheLayout) (found : List (Slot A)) (cpus : List CpuState) (passes : List (Option Pass)) (given : List Pass) (h : OneHistory l found cpus passes given)
+    → OfGiven given (λ p. All (λ t. FoundFull t.1 → length (calls_on (part_of t.0) h.end.log) ≡ l.config.log) p.knows.tries)
 
 -- what a pass has seen of a part only grows, and of a part that its call used it ends with the call
 abbrev pub SeenGrows : Type 0

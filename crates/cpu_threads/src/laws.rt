@@ -1,14 +1,19 @@
 //! The laws of a machine's calls and of its end. The functions do nothing, and their contracts are the laws.
-ghost use Rattle.cpu_threads.specs.Laws.{EndsInOne, InitAdds, MissingOne, SeenGrows, StopsAtAnother, StopsAtFullLog, TakesEach};
+ghost use Rattle.cpu_threads.specs.Laws.{EndsInOne, FullLogsStay, InitAdds, MissingOne, SeenGrows, StopsAtAnother, StopsAtFullLog, TakesEach};
 
 use std::alloc::Allocator;
 
-/// Once a machine is shut down (`Machine::shutdown`: `end`, `own`, `seen`), there is one legal history at whose end the
+/// Once a machine is shut down (`Machine::shutdown`: `end`, `own`, `seen`, `tried`), there is one legal history at whose end the
 /// world is. The calls of each CPU in it are those of its given pass's list, each once, in that order and with the replies
 /// that were answered; a CPU whose pass was never handed out has none. At each part the history begins with what each
-/// given pass had seen there.
+/// given pass had seen there, and with each log that it took.
 pub fn one_history<A: Allocator>()
     ensures { EndsInOne A }
+{}
+
+/// So a part's log that a try found full is full at the end.
+pub fn full_logs<A: Allocator>()
+    ensures { FullLogsStay A }
 {}
 
 /// What the tries of a call tell (`Machine::try_call`): a stored call took each part that its step uses once, in their

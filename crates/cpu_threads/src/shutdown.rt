@@ -1,7 +1,7 @@
 //! Shutting a machine down.
 ghost use Rattle.std.specs.Prelude.{◌≡◌, ◌≤◌, [], IfOk, IfErr};
 ghost use Rattle.std.specs.Vec.{vec_capacity, vec_len};
-ghost use Rattle.part_table.specs.Endings.{ForEach, IsEndOf, KeepsOwn, KeepsSeen};
+ghost use Rattle.part_table.specs.Endings.{ForEach, IsEndOf, KeepsOwn, KeepsSeen, KeepsTried};
 ghost use Rattle.part_table.specs.Passes.{AreHomeFrom};
 ghost use Rattle.part_table.specs.Slots.{slots_of};
 ghost use Rattle.cpu_threads.specs.Ends.{AreOf, HasAll, KeepsStates, LacksOne, OfGiven};
@@ -68,6 +68,7 @@ fn ended<A: Allocator>(
     ensures end { IsEndOf table.layout (slots_of result.parts) result.parts.cpus.items }
     ensures own { ForEach passes.items (KeepsOwn result.parts.cpus.items) }
     ensures seen { ForEach passes.items (KeepsSeen (slots_of result.parts)) }
+    ensures tried { ForEach passes.items (KeepsTried table.layout (slots_of result.parts)) }
 {
     let Rooms {
         found,
@@ -82,7 +83,7 @@ fn ended<A: Allocator>(
 impl<A: Allocator> Machine<A> {
     /// The world after the one legal history of all calls, once each pass that was handed out is given. Each CPU has the
     /// state in which its pass ends, with the pass's calls, and each part's log begins with what each pass has seen there
-    /// (`laws::one_history`). With it come copies of all logs, for which room is taken before the machine ends. On a
+    /// (`laws::one_history`). A log that a try found full is then full (`laws::full_logs`). With it come copies of all logs, for which room is taken before the machine ends. On a
     /// refusal the machine and the passes are returned.
     pub fn shutdown(
         self,
@@ -94,6 +95,7 @@ impl<A: Allocator> Machine<A> {
         ensures end { IfOk result (λ r. IsEndOf self.table.layout (slots_of r.0.parts) r.0.parts.cpus.items) }
         ensures own { IfOk result (λ r. KeepsStates self.table.layout self.passes given.items r.0.parts.cpus.items) }
         ensures seen { IfOk result (λ r. OfGiven given.items (KeepsSeen (slots_of r.0.parts))) }
+        ensures tried { IfOk result (λ r. OfGiven given.items (KeepsTried self.table.layout (slots_of r.0.parts))) }
         ensures logs { IfOk result (λ r. AreHistories r.0.parts r.1) }
         ensures all { IfOk result (λ _. HasAll self.passes given.items) }
         ensures missing { IfErr result (λ e. e.2 ≡ Missing → LacksOne self.passes given.items) }

@@ -25,7 +25,8 @@ use Rattle.part_table.specs.declared.rule.View.{View}
 use Rattle.part_table.specs.declared.slot.Slot.{Slot}
 use Rattle.part_table.specs.Parts.{parts, part_of, uses, log_of, IsPart, IsOwn}
 use Rattle.part_table.specs.Does.{Does}
-use Rattle.part_table.specs.Rule.{Hands, held_at, seen_with, StandsAfter, Knows, Rooted, IsLawful, taking, missing, releasing, took, Standing, returned, stored, entered, storing, tail, known_of}
+use Rattle.part_table.proofs.Fronts.{fronts_longer, fronts_missed, fronts_took}
+use Rattle.part_table.specs.Rule.{AreFrontsIn, Hands, held_at, seen_with, StandsAfter, Knows, Rooted, IsLawful, taking, missing, releasing, took, Standing, returned, stored, entered, storing, tail, known_of}
 use Rattle.part_table.specs.Known.{at, seen_at, StartsWith, Extends, own_at_boot}
 use Rattle.part_table.proofs.Pairs.{at_same, at_other, set_at, at_bound, part_same, still_held, seats, picked_more, picked_same, picked_longer, runs_more, after_seen, unused_seen}
 
@@ -94,20 +95,22 @@ module _ (A : Type 0) (key : TheLayout) where
           few = o.few;
           ended = λ c e at. let k = o.ended c e at in (k.0, k.1, ended_else w c k.2);
           seen = o.seen;
+          tried = o.tried;
         })
         (at_set s.views id 0 w v e)
 
     -- a view that goes on but for the parts that it holds and those that it tried knows what it knew, where what it holds is told
-    still_knows : (ws : List ℕ) (holder : ℕ → ℕ) (i : ℕ) (v : View A) (hands : Hands A) (tries : List (ℕ × Option StoredCalls)) → F s.words r.holder i v
+    still_knows : (ws : List ℕ) (holder : ℕ → ℕ) (i : ℕ) (v : View A) (hands : Hands A) (tries : List (ℕ × Option StoredCalls)) → F s.words r.holder i v → (v.on ≡ true → AreFrontsIn key r.log tries)
         → ((j : ℕ) (y : Slot A) → held_at hands j ≡ Some y → (v.on ≡ true) × (j < parts) × (slice_index ws j ≢ 0) × (holder j ≡ i) × StandsAfter key ws holder r.log r.state j y)
         → F ws holder i (record v { held = hands; tries = tries })
-    still_knows ws holder i v hands tries f held = record {
+    still_knows ws holder i v hands tries f tried held = record {
       layout = f.layout;
       known = f.known;
       seat = f.seat;
       mine = f.mine;
       own = f.own;
       seen = f.seen;
+      tried = tried;
       held = held;
     }
 
@@ -135,7 +138,7 @@ module _ (A : Type 0) (key : TheLayout) where
               (h.0, h.1, ap (get_elem? (set s.views id w)) (taken_else r.holder k id j ne) ∙ h.2, h.3));
           root = root_still w;
           each_seat = seats (F ws holder) s.views id w
-              (still_knows ws holder id m.0 w.held w.tries mine
+              (still_knows ws holder id m.0 w.held w.tries mine (λ o. fronts_took key r.log m.0.tries r.state k x (mine.tried o) inside stands.0 stands.1)
               (λ j y e. dite (ℕ_discrete j k)
               (λ is. let same : x ≡ y = part_same x y (sym (at_same m.0.held k (Some x) None) ∙ (ap (held_at w.held) (sym is) ∙ e)) in (
                 on,
@@ -145,7 +148,7 @@ module _ (A : Type 0) (key : TheLayout) where
                 subst (λ (p : ℕ × Slot A). StandsAfter key ws holder r.log r.state p.0 p.1) (λ i. (sym is i, same i)) stands,
               ))
               (λ ne. let h = mine.held j y (sym (at_other m.0.held k j (Some x) None ne) ∙ e) in (h.0, h.1, (λ z. h.2 (sym (word_else s k j 1 ne) ∙ z)), taken_else r.holder k id j ne ∙ h.3, h.4))))
-              (λ i u apart there. let f = r.each_seat i u there in still_knows ws holder i u u.held u.tries f
+              (λ i u apart there. let f = r.each_seat i u there in still_knows ws holder i u u.held u.tries f f.tried
               (λ j y e. let h = f.held j y e in let ne : j ≢ k = λ is. h.2 (ap (λ z. get_or s.words z 0) is ∙ home) in
               (h.0, h.1, (λ z. h.2 (sym (word_else s k j 1 ne) ∙ z)), taken_else r.holder k id j ne ∙ h.3, h.4)));
         }
@@ -174,9 +177,9 @@ module _ (A : Type 0) (key : TheLayout) where
           taken = λ j lt nz. still_held s.views id m.0 w j here (λ y e. (y, e)) (r.holder j) (r.taken j lt (λ z. nz (as_zero j z)));
           root = root_still w;
           each_seat = seats (F ws r.holder) s.views id w
-              (still_knows ws r.holder id m.0 w.held w.tries mine
+              (still_knows ws r.holder id m.0 w.held w.tries mine (λ o. fronts_missed key r.log m.0.tries k (mine.tried o))
               (λ j y e. let h = mine.held j y e in (h.0, h.1, (λ z. h.2 (zero_as j z)), h.3, h.4)))
-              (λ i u apart there. let f = r.each_seat i u there in still_knows ws r.holder i u u.held u.tries f
+              (λ i u apart there. let f = r.each_seat i u there in still_knows ws r.holder i u u.held u.tries f f.tried
               (λ j y e. let h = f.held j y e in (h.0, h.1, (λ z. h.2 (zero_as j z)), h.3, h.4)));
         }
 
@@ -204,11 +207,11 @@ module _ (A : Type 0) (key : TheLayout) where
               (λ ne. still_held s.views id m.0 w j here (λ y e. (y, at_other m.0.held k j None None ne ∙ e)) (r.holder j) (r.taken j lt (λ z. nz (word_else s k j 0 ne ∙ z))));
           root = root_still w;
           each_seat = seats (F ws r.holder) s.views id w
-              (still_knows ws r.holder id m.0 w.held w.tries mine
+              (still_knows ws r.holder id m.0 w.held w.tries mine mine.tried
               (λ j y e. dite (ℕ_discrete j k)
               (λ is. let never : None ≡ Some y = sym (at_same m.0.held k None None) ∙ (ap (held_at w.held) (sym is) ∙ e) in absurd cc)
               (λ ne. let h = mine.held j y (sym (at_other m.0.held k j None None ne) ∙ e) in (h.0, h.1, (λ z. h.2 (sym (word_else s k j 0 ne) ∙ z)), h.3, h.4))))
-              (λ i u apart there. let f = r.each_seat i u there in still_knows ws r.holder i u u.held u.tries f
+              (λ i u apart there. let f = r.each_seat i u there in still_knows ws r.holder i u u.held u.tries f f.tried
               (λ j y e. let h = f.held j y e in let ne : j ≢ k = λ is. apart (sym h.3 ∙ (ap r.holder is ∙ old.3)) in
               (h.0, h.1, (λ z. h.2 (sym (word_else s k j 0 ne) ∙ z)), h.3, h.4)));
         }
@@ -263,6 +266,7 @@ module _ (A : Type 0) (key : TheLayout) where
             ((picked_same (λ (d : Call). eqb d.cpu j) r.log c (ne_eqb c.cpu j (λ is. other (sym is))) ∙ (o.fresh j le).0), gone.5 j (own_at_boot key j) other (o.fresh j le).1);
         few = o.few;
         seen = λ j z at_j i. picked_longer (call_uses (part_of i)) r.log c (seen_at z.1 i) (o.seen j z at_j i);
+        tried = λ j z at_j. fronts_longer key r.log c z.2 (o.tried j z at_j);
         ended = λ j z at_j. let k = o.ended j z at_j in
             let other : j ≢ c.cpu = λ is. let same : j + 1 ≡ id = ap (λ n. n + 1) (is ∙ by) ∙ at in absurd (true≢false (sym on ∙ k.2 w (ap (get_elem? (set s.views id w)) same ∙ set_at s.views id m.0 w here))) in
             (k.0 ∙ sym (picked_same (λ (d : Call). eqb d.cpu j) r.log c (ne_eqb c.cpu j (λ is. other (sym is)))), gone.5 j z.0 other k.1, k.2);
@@ -317,6 +321,7 @@ module _ (A : Type 0) (key : TheLayout) where
                       (λ none_after. subst (λ l. StartsWith (calls_on (part_of j) log') l) (sym (unused_seen after m.0.seen j none_after)) (picked_longer (call_uses (part_of j)) r.log c (seen_at m.0.seen j) (mine.seen o j)))
                       (λ (t : (y : Slot A) × (held_at after j ≡ Some y)). subst (λ l. StartsWith (calls_on (part_of j) log') l) (sym (after_seen after m.0.seen j t.0 t.1)) ([], sym ((steps j t.0 t.1).1) ∙ sym (append-nil (log_of t.0).calls)))
                       (either_option (held_at after j));
+                  tried = λ o. fronts_longer key r.log c m.0.tries (mine.tried o);
                   held = λ j y e. dite (ℕ_discrete j k)
                       (λ is. let never : None ≡ Some y = sym (at_same after k None None) ∙ (ap (held_at w.held) (sym is) ∙ e) in absurd cc)
                       (λ ne. let e' = sym (at_other after k j None None ne) ∙ e in let u = does.used j (does.only j y e') in let h = mine.held j u.0 u.2 in
@@ -329,6 +334,7 @@ module _ (A : Type 0) (key : TheLayout) where
                   mine = λ o. f.mine o ∙ sym (picked_same (λ (d : Call). eqb d.cpu v.cpu) r.log c (ne_eqb c.cpu v.cpu (λ e. other o (sym e))));
                   own = λ o. gone.5 v.cpu v.own (other o) (f.own o);
                   seen = λ o j. picked_longer (call_uses (part_of j)) r.log c (seen_at v.seen j) (f.seen o j);
+                  tried = λ o. fronts_longer key r.log c v.tries (f.tried o);
                   held = λ j y e. let h = f.held j y e in let ne : j ≢ k = λ is. apart (sym h.3 ∙ (ap r.holder is ∙ k_mine.3)) in
                       (h.0, h.1, (λ z. h.2 (sym (word_else s k j 0 ne) ∙ z)), h.3, stays j y (spared j (λ x e2. apart (sym h.3 ∙ (mine.held j x e2).3))) h.4);
                 });
@@ -359,6 +365,7 @@ module _ (A : Type 0) (key : TheLayout) where
                   mine = λ o. own_list;
                   own = λ o. subst (λ j. IsOwn L gone.0 j owned) by gone.3;
                   seen = λ o j. subst (λ (a : Hands A). StartsWith (calls_on (part_of j) log') (at (seen_with a m.0.seen) [] j)) (sym empty) (picked_longer (call_uses (part_of j)) r.log c (seen_at m.0.seen j) (mine.seen o j));
+                  tried = λ o. fronts_longer key r.log c m.0.tries (mine.tried o);
                   held = λ j y e. dite (ℕ_discrete j k)
                       (λ is. let never : None ≡ Some y = sym (at_same after k None None) ∙ (ap (held_at w.held) (sym is) ∙ e) in absurd cc)
                       (λ ne. let e' = sym (at_other after k j None None ne) ∙ e in absurd (true≢false (sym (does.only j y e') ∙ unused j)));
@@ -370,6 +377,7 @@ module _ (A : Type 0) (key : TheLayout) where
                   mine = λ o. f.mine o ∙ sym (picked_same (λ (d : Call). eqb d.cpu v.cpu) r.log c (ne_eqb c.cpu v.cpu (λ e. other o (sym e))));
                   own = λ o. gone.5 v.cpu v.own (other o) (f.own o);
                   seen = λ o j. picked_longer (call_uses (part_of j)) r.log c (seen_at v.seen j) (f.seen o j);
+                  tried = λ o. fronts_longer key r.log c v.tries (f.tried o);
                   held = λ j y e. let h = f.held j y e in (h.0, h.1, h.2, h.3, stays j y (unused j) h.4);
                 });
           }

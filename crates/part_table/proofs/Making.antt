@@ -1,12 +1,10 @@
 -- What a maker told, from the views that a call's exchanges leave.
-use Rattle.std.proofs.Common.{◌≡◌, ◌≢◌, ℕ, ◌<◌, ◌++◌, ◌∷◌, [], true, refl, sym, ap, ◌∙◌, subst}
+use Rattle.std.proofs.Common.{◌≡◌, ◌≢◌, ℕ, ◌++◌, ◌∷◌, [], true, sym, ap, ◌∙◌, subst}
 use Rattle.std.specs.Prelude.{List, map, Option, Some, option_map}
 use Rattle.page_state.specs.declared.layout.Layout.{Layout as TheLayout}
 use Rattle.page_state.specs.LayoutView.{layout_of}
 use Rattle.step_reply.specs.declared.reply.Call.{Call}
-use Rattle.step_reply.specs.declared.reply.Refusal.TheVariants.{Contended as contended, LogFull as log_full}
 use Rattle.step_reply.specs.declared.reply.Reply.{Reply}
-use Rattle.step_reply.specs.declared.reply.Reply.TheVariants.{Refused}
 use Rattle.step_reply.specs.declared.step.Step.{Step}
 use Rattle.reference_model.specs.History.{IsStored}
 use Rattle.guest_steps.specs.declared.parts.CpuState.{CpuState}
@@ -18,14 +16,13 @@ use Rattle.part_table.specs.declared.slot.Slot.{Slot}
 use Rattle.part_table.specs.declared.tries.Tried.{Tried}
 use Rattle.part_table.specs.declared.tries.Tried.TheVariants.{Stored, Contended, LogFull}
 use Rattle.part_table.specs.Answered.{used_by}
-use Rattle.part_table.specs.Does.{Does, IsCalled, IsLeft, both_at, none_at, only_at}
+use Rattle.part_table.specs.Does.{Does, IsCalled, IsLeft, both_at, only_at}
 use Rattle.part_table.specs.Made.{IsMade, Makes, MakesFor, MakesOf}
 use Rattle.part_table.specs.Parts.{in_order, log_of, uses}
 use Rattle.part_table.specs.Rule.{Seated, known_of}
 use Rattle.part_table.specs.Known.{Known}
 use Rattle.part_table.specs.Tried.{reply_of}
 use Rattle.part_table.proofs.Holding.{only_here, at_first, at_second}
-use Rattle.part_table.proofs.Telling.{two_tries}
 
 module _ {A T : Type 0} (tells : TheLayout → (ℕ → Option (Slot A)) → CpuState → Call → (ℕ → Option (Slot A)) → CpuState → T → T → Type 0) where
   -- by the seat z that the call left, of which what was tried is told by itself

@@ -20,7 +20,8 @@ use Rattle.part_table.specs.declared.rule.View.{View}
 use Rattle.part_table.specs.declared.slot.Slot.{Slot}
 use Rattle.part_table.specs.Parts.{parts, part_of, log_of, IsPart, IsOwn}
 use Rattle.part_table.specs.Does.{IsLeft, none_at}
-use Rattle.part_table.specs.Rule.{Ended, held_at, Knows, Rooted, IsLawful, IsIdle, nobody, rooted, one_more, newcomer, with_end}
+use Rattle.part_table.proofs.Fronts.{fronts_none}
+use Rattle.part_table.specs.Rule.{AreFrontsIn, Ended, held_at, Knows, Rooted, IsLawful, IsIdle, nobody, rooted, one_more, newcomer, with_end}
 use Rattle.part_table.specs.Known.{StartsWith, seen_at, own_at_boot}
 use Rattle.part_table.proofs.Pairs.{set_at, at_bound, at_end, seats, still_held}
 
@@ -60,6 +61,7 @@ module _ (A : Type 0) (key : TheLayout) where
     mine = λ a. absurd (true≢false (sym a ∙ off));
     own = λ a. absurd (true≢false (sym a ∙ off));
     seen = λ a. absurd (true≢false (sym a ∙ off));
+    tried = λ a. absurd (true≢false (sym a ∙ off));
     held = held;
   }
 
@@ -92,6 +94,7 @@ module _ (A : Type 0) (key : TheLayout) where
               mine = λ _. sym fresh.0;
               own = λ _. subst (λ (l : TheLayout). IsOwn (layout_of key) r.state v.made (own_at_boot l v.made)) (sym of) fresh.1;
               seen = λ _ k. (calls_on (part_of k) r.log, refl);
+              tried = λ _. fronts_none key r.log;
               held = λ k x e. absurd (idle_is x None refl e);
             })
             (at_end vs right u j e);
@@ -104,6 +107,7 @@ module _ (A : Type 0) (key : TheLayout) where
               fresh = λ c le. o.fresh c (omega arith);
               few = let f = o.few in omega arith;
               seen = o.seen;
+              tried = o.tried;
               ended = λ c e at'. let k = o.ended c e at' in let lt = at_bound v.ended c e at' in let few = o.few in (
                 k.0,
                 k.1,
@@ -151,11 +155,15 @@ module _ (A : Type 0) (key : TheLayout) where
               layout = o.layout;
               count = length-set vs other nobody ∙ (length-set s.views 0 both ∙ o.count);
               fresh = o.fresh;
-              few = let l = length-append v.ended ((w.own, w.seen) ∷ []) in omega arith;
+              few = let l = length-append v.ended ((w.own, w.seen, w.tries) ∷ []) in omega arith;
               seen = λ c e at k. ⊎_elim
                   (λ old. o.seen c e old k)
-                  (λ (q : (c ≡ length v.ended) × ((w.own, w.seen) ≡ e)). subst (λ (z : Ended). StartsWith (calls_on (part_of k) r.log) (seen_at z.1 k)) q.1 (theirs.seen on k))
-                  (at_end v.ended (w.own, w.seen) e c at);
+                  (λ (q : (c ≡ length v.ended) × ((w.own, w.seen, w.tries) ≡ e)). subst (λ (z : Ended). StartsWith (calls_on (part_of k) r.log) (seen_at z.1 k)) q.1 (theirs.seen on k))
+                  (at_end v.ended (w.own, w.seen, w.tries) e c at);
+              tried = λ c e at. ⊎_elim
+                  (λ old. o.tried c e old)
+                  (λ (q : (c ≡ length v.ended) × ((w.own, w.seen, w.tries) ≡ e)). subst (λ (z : Ended). AreFrontsIn key r.log z.2) q.1 (theirs.tried on))
+                  (at_end v.ended (w.own, w.seen, w.tries) e c at);
               ended = λ c e at. ⊎_elim
                   (λ old. let k = o.ended c e old in (
                     k.0,
@@ -165,18 +173,18 @@ module _ (A : Type 0) (key : TheLayout) where
                         (λ (q : (c + 1 ≢ other) × (get_elem? vs (c + 1) ≡ some x)). k.2 x (sym (set_else s.views 0 (c + 1) both (λ z. omega arith)) ∙ q.1))
                         (at_set vs other (c + 1) nobody x p),
                   ))
-                  (λ (q : (c ≡ length v.ended) × ((w.own, w.seen) ≡ e)). let same : c ≡ w.cpu = q.0 ∙ sym next in (
+                  (λ (q : (c ≡ length v.ended) × ((w.own, w.seen, w.tries) ≡ e)). let same : c ≡ w.cpu = q.0 ∙ sym next in (
                     ap (λ (z : Ended). z.0.log.calls) (sym q.1) ∙ (theirs.mine on ∙ ap (λ n. calls_by n r.log) (sym same)),
                     subst (λ (z : ℕ × Ended). IsOwn (layout_of key) r.state z.0 z.1.0) (λ i. (sym same i, q.1 i)) (theirs.own on),
                     λ x p. let here' : get_elem? (set vs other nobody) other ≡ some x = ap (get_elem? (set vs other nobody)) (sym seat ∙ ap (λ n. n + 1) (sym q.0)) ∙ p in
                         ap (λ (z : View A). z.on) (sym (some-injective nobody x (sym (set_at vs other w nobody there) ∙ here'))),
                   ))
-                  (at_end v.ended (w.own, w.seen) e c at);
+                  (at_end v.ended (w.own, w.seen, w.tries) e c at);
             })
             (at_set vs other 0 nobody u e);
       }
 
-  -- the history that stands once all CPUs have ended: every part is at home, as after it, and what each had seen begins its parts
+  -- the history that stands once all CPUs have ended: every part is at home, as after it, and what each had seen, and each log that it took, begins its parts
   pub record Ends (ended : List Ended) (xs : List (Option (Slot A))) : Type 0 where
     pub ready : CanBoot (layout_of key)
     pub log : List Call
@@ -186,6 +194,7 @@ module _ (A : Type 0) (key : TheLayout) where
     pub each_part : (k : ℕ) → k < parts → (x : Slot A) × (get_elem? xs k ≡ some (Some x)) × IsPart (layout_of key) state k x × ((log_of x).calls ≡ calls_on (part_of k) log)
     pub each_cpu : (c : ℕ) (e : Ended) → get_elem? ended c ≡ some e → (e.0.log.calls ≡ calls_by c log) × IsOwn (layout_of key) state c e.0
     pub seen : (c : ℕ) (e : Ended) → get_elem? ended c ≡ some e → (k : ℕ) → StartsWith (calls_on (part_of k) log) (seen_at e.1 k)
+    pub tried : (c : ℕ) (e : Ended) → get_elem? ended c ≡ some e → AreFrontsIn key log e.2
 
   in_list : (l : List Ended) (c : ℕ) → c < length l → (e : Ended) × (get_elem? l c ≡ some e)
   in_list [] c lt = absurd (omega arith)
@@ -209,6 +218,7 @@ module _ (A : Type 0) (key : TheLayout) where
             (λ nz. let h = r.taken k lt nz in absurd (true≢false (sym ((r.each_seat (r.holder k) h.0 h.2).held k h.1 h.3).0 ∙ on_false v all s r f.1.1 o (r.holder k) h.0 h.2)));
         each_cpu = λ c e at. let k = o.ended c e at in (k.0, k.1);
         seen = o.seen;
+        tried = o.tried;
       }
 
   pub opens : (l : TheLayout) → l ≡ key → CanBoot (layout_of key) → (ws : List ℕ) (xs : List (Option (Slot A))) → length ws ≡ parts → length xs ≡ parts
@@ -233,6 +243,7 @@ module _ (A : Type 0) (key : TheLayout) where
       few = omega arith;
       ended = λ c e at. absurd (some-ne-none e (sym at));
       seen = λ c e at. absurd (some-ne-none e (sym at));
+      tried = λ c e at. absurd (some-ne-none e (sym at));
     };
   }
     where

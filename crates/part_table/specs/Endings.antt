@@ -1,5 +1,5 @@
 -- What a table begins with, and what is left at the end.
-use Rattle.std.specs.Prelude.{◌≡◌, ℕ, ◌<◌, Bool, false, List, [], length, All, Option, Some, slice_get, slice_index_or}
+use Rattle.std.specs.Prelude.{◌≡◌, ℕ, ◌<◌, Bool, false, List, [], length, All, Option, Some, option_map, slice_get, slice_index_or, unwrap_or}
 use mathlib.Core.Option.{some}
 use lib.ListN.{get_elem?}
 use Rattle.page_state.specs.declared.layout.Layout.{Layout as TheLayout}
@@ -14,7 +14,7 @@ use Rattle.part_table.specs.declared.slot.Slot.{Slot}
 use Rattle.part_table.specs.Parts.{parts, part_of, log_of, IsPart, IsOwn}
 use Rattle.part_table.specs.Passes.{Pass}
 use Rattle.part_table.specs.Rule.{Ended}
-use Rattle.part_table.specs.Known.{StartsWith, seen_at}
+use Rattle.part_table.specs.Known.{AreFronts, StartsWith, seen_at}
 
 -- each of 66 places has its part as at boot, with an empty log
 pub record IsRow {A : Type 0} (l : TheLayout) (xs : List (Option (Slot A))) : Type 0 where
@@ -41,14 +41,22 @@ KeepsOwn cpus p = slice_get cpus p.knows.cpu ≡ Some p.knows.own
 abbrev pub KeepsSeen : {A : Type 0} → List (Slot A) → Pass → Type 0
 KeepsSeen {A = A} found p = (k : ℕ) (x : Slot A) → slice_get found k ≡ Some x → StartsWith (log_of x).calls (seen_at p.knows.seen k)
 
+-- the calls of the part of a number
+abbrev pub calls_at : {A : Type 0} → List (Slot A) → ℕ → List Call
+calls_at found k = unwrap_or (option_map (λ x. (log_of x).calls) (slice_get found k)) []
+
+-- each part's log begins with each log of it that the pass took, and is of the same size: one that was full is as it was
+abbrev pub KeepsTried : {A : Type 0} → TheLayout → List (Slot A) → Pass → Type 0
+KeepsTried l found p = AreFronts l.config.log (calls_at found) p.knows.tries
+
 -- so for each pass of the list
 abbrev pub ForEach : List (Option Pass) → (Pass → Type 0) → Type 0
 ForEach passes F = (c : ℕ) (p : Pass) → slice_get passes c ≡ Some (Some p) → F p
 
--- the first n passes have ended: the root has the state in which each ends and what it has seen, and the list has the states
+-- the first n passes have ended: the root has the state in which each ends, what it has seen and what it tried, and the list has the states
 abbrev pub HaveEnded : ℕ → List (Option Pass) → List Ended → List CpuState → Type 0
 HaveEnded n passes ended cpus = (length ended ≡ n) × (length cpus ≡ n)
-    × ((c : ℕ) (p : Pass) → c < n → slice_get passes c ≡ Some (Some p) → (get_elem? ended c ≡ some (p.knows.own, p.knows.seen)) × (slice_get cpus c ≡ Some p.knows.own))
+    × ((c : ℕ) (p : Pass) → c < n → slice_get passes c ≡ Some (Some p) → (get_elem? ended c ≡ some (p.knows.own, p.knows.seen, p.knows.tries)) × (slice_get cpus c ≡ Some p.knows.own))
 
 -- each slot has its part
 abbrev pub AllHome : {A : Type 0} → List (Option (Slot A)) → Type 0

@@ -1,5 +1,5 @@
 -- What a pass knows of the table and of its own calls.
-use Rattle.std.specs.Prelude.{◌≡◌, ℕ, ◌<◌, true, false, cond, eqb, List, [], ◌∷◌, ◌++◌, length, slice_get, All, Option, Some, None}
+use Rattle.std.specs.Prelude.{◌≡◌, ℕ, ◌<◌, true, false, cond, eqb, List, [], ◌∷◌, ◌++◌, slice_get, All, Option, Some, None}
 use Rattle.page_state.specs.declared.layout.Layout.{Layout as TheLayout}
 use Rattle.step_reply.specs.declared.reply.Call.{Call}
 use Rattle.page_state.specs.LayoutView.{layout_of}
@@ -9,8 +9,8 @@ use Rattle.reference_model.specs.Run.{IsRun}
 use Rattle.reference_model.specs.State.{Reference}
 use Rattle.guest_steps.specs.declared.parts.CpuState.{CpuState}
 use Rattle.guest_steps.specs.Lent.{with_call}
-use Rattle.guest_steps.specs.Logs.{StoredCalls}
-use Rattle.part_table.specs.Parts.{part_of, uses, IsOwn}
+use Rattle.guest_steps.specs.Logs.{StoredCalls, IsOfSize}
+use Rattle.part_table.specs.Parts.{parts, part_of, uses, IsOwn}
 
 -- a list of pairs as a function: the first pair of a number counts
 abbrev pub at : {X : Type 0} → List (ℕ × X) → X → ℕ → X
@@ -32,6 +32,10 @@ pub record Known : Type 0 where
 -- a list begins with another
 abbrev pub StartsWith : List Call → List Call → Type 0
 StartsWith xs ys = (rest : List Call) × (xs ≡ ys ++ rest)
+
+-- each log that a try took is a part's, can store `most` calls in all, and begins the calls that the part has
+abbrev pub AreFronts : ℕ → (ℕ → List Call) → List (ℕ × Option StoredCalls) → Type 0
+AreFronts most calls tries = All (λ t. (log : StoredCalls) → t.1 ≡ Some log → (t.0 < parts) × IsOfSize most log × StartsWith (calls t.0) log.calls) tries
 
 -- a CPU's own state before its first call
 abbrev pub own_at_boot : TheLayout → ℕ → CpuState

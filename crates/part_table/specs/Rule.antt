@@ -1,5 +1,5 @@
 -- What holds of the table between any two steps: there is one legal history.
-use Rattle.std.specs.Prelude.{◌≡◌, ◌≢◌, ℕ, ◌+◌, ◌<◌, ◌≤◌, true, false, cond, eqb, List, [], ◌∷◌, ◌++◌, length, slice_get, slice_index, All, Option, Some, None}
+use Rattle.std.specs.Prelude.{◌≡◌, ◌≢◌, ℕ, ◌+◌, ◌<◌, ◌≤◌, true, false, List, [], ◌∷◌, ◌++◌, length, slice_index, All, Option, Some, None}
 use Rattle.std.proofs.Common.{refl}
 use mathlib.Core.Option.{some}
 use lib.ListN.{get_elem?}
@@ -16,13 +16,12 @@ use Rattle.reference_model.specs.History.{IsStored, calls_on, calls_by}
 use Rattle.reference_model.specs.Run.{IsRun}
 use Rattle.reference_model.specs.State.{Reference}
 use Rattle.guest_steps.specs.declared.parts.CpuState.{CpuState}
-use Rattle.guest_steps.specs.Lent.{with_call}
 use Rattle.guest_steps.specs.Logs.{StoredCalls}
 use Rattle.part_table.specs.declared.rule.View.{View}
 use Rattle.part_table.specs.declared.slot.Slot.{Slot}
-use Rattle.part_table.specs.Parts.{parts, part_of, uses, log_of, IsPart, IsOwn}
+use Rattle.part_table.specs.Parts.{parts, part_of, log_of, IsPart, IsOwn}
 use Rattle.part_table.specs.Does.{IsLeft, none_at}
-use Rattle.part_table.specs.Known.{at, seen_at, Known, StartsWith, own_at_boot, Extends}
+use Rattle.part_table.specs.Known.{at, seen_at, AreFronts, Known, StartsWith, own_at_boot, Extends}
 
 -- parts by number; none: no longer held
 abbrev pub Hands : Type 0 → Type 0
@@ -32,12 +31,16 @@ Hands A = List (ℕ × Option (Slot A))
 abbrev pub held_at : {A : Type 0} → Hands A → ℕ → Option (Slot A)
 held_at h k = at h None k
 
--- the state in which a CPU's pass ends, and what it has seen of each part's log
+-- the state in which a CPU's pass ends, what it has seen of each part's log, and what it tried
 abbrev pub Ended : Type 0
-Ended = CpuState × List (ℕ × List Call)
+Ended = CpuState × List (ℕ × List Call) × List (ℕ × Option StoredCalls)
 
 abbrev pub known_of : {A : Type 0} → View A → Known
 known_of v = record { layout = v.layout; cpu = v.cpu; own = v.own; seen = v.seen; tries = v.tries }
+
+-- each log that was taken begins its part's calls in a history, and is of the layout's size
+abbrev pub AreFrontsIn : TheLayout → List Call → List (ℕ × Option StoredCalls) → Type 0
+AreFrontsIn key log tries = AreFronts key.config.log (λ k. calls_on (part_of k) log) tries
 
 module _ {A : Type 0} (key : TheLayout) (ws : List ℕ) (holder : ℕ → ℕ) (log : List Call) (state : Reference) where
   -- the part is as after the history, and its log is the history's part of it
@@ -52,9 +55,10 @@ module _ {A : Type 0} (key : TheLayout) (ws : List ℕ) (holder : ℕ → ℕ) (
     pub mine : v.on ≡ true → v.own.log.calls ≡ calls_by v.cpu log
     pub own : v.on ≡ true → IsOwn (layout_of key) state v.cpu v.own
     pub seen : v.on ≡ true → (k : ℕ) → StartsWith (calls_on (part_of k) log) (seen_at v.seen k)
+    pub tried : v.on ≡ true → AreFrontsIn key log v.tries
     pub held : (k : ℕ) (x : Slot A) → held_at v.held k ≡ Some x → (v.on ≡ true) × (k < parts) × (slice_index ws k ≢ 0) × (holder k ≡ j) × StandsAfter k x
 
--- what the root knows: how many CPUs have a seat, of the first ones, which have ended, their states, what they have seen, and that the others are as at boot
+-- what the root knows: how many CPUs have a seat, of the first ones, which have ended, their states, what they have seen and tried, and that the others are as at boot
 pub record Rooted {A : Type 0} (key : TheLayout) (views : List (View A)) (log : List Call) (state : Reference) (v : View A) : Type 0 where
   pub off : v.on ≡ false
   pub layout : v.layout ≡ key
@@ -63,8 +67,9 @@ pub record Rooted {A : Type 0} (key : TheLayout) (views : List (View A)) (log : 
   pub few : length v.ended ≤ v.made
   pub ended : (c : ℕ) (e : Ended) → get_elem? v.ended c ≡ some e → (e.0.log.calls ≡ calls_by c log) × IsOwn (layout_of key) state c e.0 × ((u : View A) → get_elem? views (c + 1) ≡ some u → u.on ≡ false)
   pub seen : (c : ℕ) (e : Ended) → get_elem? v.ended c ≡ some e → (k : ℕ) → StartsWith (calls_on (part_of k) log) (seen_at e.1 k)
+  pub tried : (c : ℕ) (e : Ended) → get_elem? v.ended c ≡ some e → AreFrontsIn key log e.2
 
--- The rule: a word says whether its part is taken, a taken part is held by just one seat, and there is a legal history at whose end all parts and all CPUs' own states stand. What a pass has seen of a part begins its log, also once the pass has ended
+-- The rule: a word says whether its part is taken, a taken part is held by just one seat, and there is a legal history at whose end all parts and all CPUs' own states stand. What a pass has seen of a part begins its log, and so does each log that it took, also once the pass has ended
 pub record IsLawful {A : Type 0} (key : TheLayout) (s : State (Option (Slot A)) (View A)) : Type 0 where
   pub ready : CanBoot (layout_of key)
   pub log : List Call
@@ -103,9 +108,9 @@ one_more v = record v { made = v.made + 1 }
 abbrev pub newcomer : {A : Type 0} → View A → View A
 newcomer v = record nobody { on = true; layout = v.layout; cpu = v.made; own = own_at_boot v.layout v.made }
 
--- the root has taken in the view of a CPU that ends, with what it has seen
+-- the root has taken in the view of a CPU that ends, with what it has seen and tried
 abbrev pub with_end : {A : Type 0} → View A → View A → View A
-with_end v w = record v { ended = v.ended ++ (w.own, w.seen) ∷ [] }
+with_end v w = record v { ended = v.ended ++ (w.own, w.seen, w.tries) ∷ [] }
 
 -- a seat's view, and the slots that it has out
 abbrev pub Seated : Type 0 → Type 0

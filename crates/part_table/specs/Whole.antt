@@ -1,5 +1,5 @@
 -- All parts, as the slots of a table by number.
-use Rattle.std.specs.Prelude.{List, [], ◌∷◌, map, Option}
+use Rattle.std.specs.Prelude.{List, [], ◌∷◌, Option}
 use Rattle.page_state.specs.declared.layout.Config.{Config}
 use Rattle.page_state.specs.declared.layout.Layout.{Layout as TheLayout}
 use Rattle.page_state.specs.LayoutView.{layout_of}

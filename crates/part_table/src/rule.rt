@@ -26,8 +26,14 @@ pub struct View<A: Allocator> {
     pub root: bool,
     /// Of the root: how many CPUs have a pass.
     pub made: u64,
-    /// Of the root: each CPU's own state at the end, and what its pass has seen of each part's log.
-    pub ended: LinkedList<(CpuState, LinkedList<(u64, LinkedList<Call>)>)>,
+    /// Of the root: each CPU's own state at the end, what its pass has seen of each part's log, and what it tried.
+    pub ended: LinkedList<
+        (
+            CpuState,
+            LinkedList<(u64, LinkedList<Call>)>,
+            LinkedList<(u64, Option<Log>)>,
+        ),
+    >,
 }
 
 /// The rule of the table: there is one legal history.

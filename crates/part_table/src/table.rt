@@ -4,7 +4,7 @@ ghost use Rattle.std.specs.Vec.{vec_capacity, vec_len};
 ghost use Rattle.std.specs.Slots.{slots_items, slots_filled, slots_len, IsFull};
 ghost use Rattle.page_state.specs.LayoutView.{layout_of};
 ghost use Rattle.reference_model.specs.Boot.{CanBoot};
-ghost use Rattle.part_table.specs.Endings.{AllHome, ForEach, Gives, HaveEnded, IsEndOf, IsRow, KeepsOwn, KeepsSeen, emptied_to};
+ghost use Rattle.part_table.specs.Endings.{AllHome, ForEach, Gives, HaveEnded, IsEndOf, IsRow, KeepsOwn, KeepsSeen, KeepsTried, emptied_to};
 ghost use Rattle.part_table.specs.Parts.{parts};
 ghost use Rattle.part_table.specs.Passes.{AreFirst, AreHomeFrom, IsPassOf, first_pass};
 ghost use Rattle.part_table.specs.Rule.{one_more, rooted};
@@ -158,6 +158,7 @@ impl<A: Allocator> PartTable<A> {
         ensures end { IsEndOf self.layout result.2.items result.3.items }
         ensures own { ForEach passes.items (KeepsOwn result.3.items) }
         ensures seen { ForEach passes.items (KeepsSeen result.2.items) }
+        ensures tried { ForEach passes.items (KeepsTried self.layout result.2.items) }
     {
         let PartTable {
             table,
@@ -300,6 +301,7 @@ fn end<A: Allocator>(
     ensures end { IsEndOf table.shared.key result.0.items result.1.items }
     ensures own { ForEach passes.items (KeepsOwn result.1.items) }
     ensures seen { ForEach passes.items (KeepsSeen result.0.items) }
+    ensures tried { ForEach passes.items (KeepsTried table.shared.key result.0.items) }
 {
     let cpus = join_all(&table, &mut root, passes, cpus);
     let mut closed = table.close_with(root);

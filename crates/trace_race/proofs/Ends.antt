@@ -15,6 +15,11 @@ use Rattle.part_table.specs.Passes.{Opened, Pass}
 use Rattle.part_table.specs.Known.{Known}
 use Rattle.cpu_threads.specs.Ends.{AreOf, KeepsStates}
 use Rattle.cpu_threads.specs.Machines.{FullInTheEnd, StoresInTheEnd}
+use Rattle.part_table.specs.Endings.{KeepsTried}
+use Rattle.cpu_threads.specs.Ends.{OfGiven}
+use Rattle.trace_race.proofs.FullLogs.{made_in}
+use Rattle.trace_race.proofs.Kept.{kept_cases}
+use Rattle.cpu_threads.proofs.Full.{end_fronts}
 use Rattle.trace_race.proofs.Made.{at_place, map-append}
 use Rattle.trace_race.specs.declared.course.Asked.{Asked}
 use Rattle.trace_race.specs.Made.{AreDone, IsCpus, Makes, OneHistory, answers_of, first_known, is_stored}
@@ -22,18 +27,6 @@ use Rattle.trace_race.specs.Made.{AreDone, IsCpus, Makes, OneHistory, answers_of
 -- what is told of a call
 abbrev told : Call → Step × Reply
 told c = (c.step, c.reply)
-
--- a reply is stored, or a log was full
-kept_cases : (reply : Reply) → reply ≢ Refused refusals.Contended → (IsStored reply × (is_stored reply ≡ true)) ⊎ ((reply ≡ Refused refusals.LogFull) × (is_stored reply ≡ false))
-kept_cases (Done value) other = inl (tt, refl)
-kept_cases (Refused refusals.Perm) other = inl (tt, refl)
-kept_cases (Refused refusals.NoVm) other = inl (tt, refl)
-kept_cases (Refused refusals.NoMemory) other = inl (tt, refl)
-kept_cases (Refused refusals.Busy) other = inl (tt, refl)
-kept_cases (Refused refusals.Invalid) other = inl (tt, refl)
-kept_cases (Refused refusals.NoPool) other = inl (tt, refl)
-kept_cases (Refused refusals.LogFull) other = inr (refl, refl)
-kept_cases (Refused refusals.Contended) other = absurd (other refl)
 
 -- a stored call is one more
 one_stored : (step : Step) (reply : Reply) (v w : Known) → StoresInTheEnd step reply v w → map told w.own.log.calls ≡ map told v.own.log.calls ++ (step, reply) ∷ []
@@ -71,8 +64,8 @@ are_of t steps replies passes done j p there = (done.each j p there).of
 
 -- the one history
 pub one_history : {A : Type 0} (t : Opened) (steps : List Asked) (replies : List Reply) (out : List (Option Pass)) (passes : List Pass) (found : List (Slot A)) (cpus : List CpuState)
-    → AreDone t steps replies passes → IsEndOf t.layout found cpus → KeepsStates t.layout out passes cpus → OneHistory (layout_of t.layout) steps replies
-one_history t steps replies out passes found cpus done end own = record {
+    → AreDone t steps replies passes → IsEndOf t.layout found cpus → KeepsStates t.layout out passes cpus → OfGiven passes (KeepsTried t.layout found) → OneHistory (layout_of t.layout) steps replies
+one_history t steps replies out passes parts cpus done end own tried = record {
   key = t.layout;
   key_is = refl;
   log = end.log;
@@ -91,6 +84,6 @@ one_history t steps replies out passes found cpus done end own = record {
         record {
           calls = ap (map told) (sym calls) ∙ made_calls (first_known t.layout cpu) p.knows (answers_of cpu steps replies) one.makes;
           last = p.knows;
-          makes = one.makes;
+          makes = made_in t.layout parts cpus end cpu p.knows (answers_of cpu steps replies) one.makes state (end_fronts t.layout parts cpus end p.knows.tries (tried cpu p found.1));
           own = sym calls;
         }

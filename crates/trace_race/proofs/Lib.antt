@@ -1,9 +1,11 @@
 pub mod Boots
 pub mod Crossing
 pub mod Ends
+pub mod FullLogs
 pub mod Gathering
 pub mod Generations
 pub mod Judging
+pub mod Kept
 pub mod Lines
 pub mod Made
 pub mod Readings

@@ -1,5 +1,5 @@
 -- The steps that a trace asks of CPUs, and what their passes know once these are answered (profile).
-use Rattle.std.specs.Prelude.{◌≡◌, ◌≢◌, ℕ, ◌<◌, ◌==◌, Bool, true, false, List, [], ◌∷◌, ◌++◌, All, filter, length, map, Some, slice_get, if◌then◌else◌}
+use Rattle.std.specs.Prelude.{◌≡◌, ◌≢◌, ◌⊎◌, ℕ, ◌<◌, ◌==◌, Bool, true, false, List, [], ◌∷◌, ◌++◌, All, Contains, filter, length, map, Some, slice_get, if◌then◌else◌}
 use Rattle.page_state.specs.declared.layout.Layout.{Layout as TheLayout}
 use Rattle.page_state.specs.Layouts.{Layout}
 use Rattle.page_state.specs.LayoutView.{layout_of}
@@ -8,11 +8,13 @@ use Rattle.step_reply.specs.declared.reply.Refusal.TheVariants.{Contended, LogFu
 use Rattle.step_reply.specs.declared.reply.Reply.{Reply}
 use Rattle.step_reply.specs.declared.reply.Reply.TheVariants.{Refused}
 use Rattle.step_reply.specs.declared.step.Step.{Step}
-use Rattle.reference_model.specs.History.{IsStored, calls_by}
+use Rattle.reference_model.specs.History.{IsStored, calls_by, calls_on}
 use Rattle.reference_model.specs.Run.{IsRun}
 use Rattle.reference_model.specs.State.{Reference}
 use Rattle.part_table.specs.Passes.{IsPassOf, Opened, Pass}
-use Rattle.part_table.specs.Known.{Known, own_at_boot}
+use Rattle.part_table.specs.Answered.{used_by}
+use Rattle.part_table.specs.Known.{IsSame, Known, own_at_boot}
+use Rattle.part_table.specs.Parts.{part_of}
 use Rattle.cpu_threads.specs.Machines.{FullInTheEnd, StoresInTheEnd}
 use Rattle.trace_race.specs.declared.course.Asked.{Asked}
 use Rattle.trace_race.specs.declared.making.Made.{Made}
@@ -41,10 +43,23 @@ pub record Calls (step : Step) (reply : Reply) (v w : Known) : Type 0 where
   pub stored : IsStored reply → StoresInTheEnd step reply v w
   pub full : reply ≡ Refused LogFull → FullInTheEnd step v w
 
--- calls, one after another
+-- calls, one after another, each of which comes to this
+abbrev pub MakeAll : (Step → Reply → Known → Known → Type 0) → Known → List (Step × Reply) → Known → Type 0
+MakeAll C v [] w = w ≡ v
+MakeAll C v (a ∷ more) w = (u : Known) × C a.0 a.1 v u × MakeAll C u more w
+
 abbrev pub Makes : Known → List (Step × Reply) → Known → Type 0
-Makes v [] w = w ≡ v
-Makes v (a ∷ more) w = (u : Known) × Calls a.0 a.1 v u × Makes u more w
+Makes v answers w = MakeAll Calls v answers w
+
+-- a log that would store the pass's step is full in the history: its CPU has made as many calls as a log can store, or so many calls used a part that the step uses
+abbrev pub FindsFull : Layout → List Call → Step → Known → Type 0
+FindsFull l log step v = (length (calls_by v.cpu log) ≡ l.config.log) ⊎ ((k : ℕ) × Contains (used_by step v) k × (length (calls_on (part_of k) log) ≡ l.config.log))
+
+-- what a call comes to in a history: it is stored with its reply, or a log that would store it is full there
+pub record CallsIn (l : Layout) (log : List Call) (step : Step) (reply : Reply) (v w : Known) : Type 0 where
+  pub answered : reply ≢ Refused Contended
+  pub stored : IsStored reply → StoresInTheEnd step reply v w
+  pub full : reply ≡ Refused LogFull → IsSame v w × FindsFull l log step v
 
 -- what a CPU's pass knows before its first call
 abbrev pub first_known : TheLayout → ℕ → Known
@@ -56,11 +71,11 @@ is_stored (Refused LogFull) = false
 is_stored (Refused Contended) = false
 is_stored other = true
 
--- A CPU's calls in a history are its steps in the trace's order, with the replies that it was given, but for those that a full log refused. Each of these found a log full: `makes`
+-- A CPU's calls in a history are its steps in the trace's order, with the replies that it was given, but for those that a full log refused. For each of these a log that would store it is full in the history: `makes`
 pub record IsCpus (key : TheLayout) (cpu : ℕ) (answers : List (Step × Reply)) (log : List Call) : Type 0 where
   pub calls : map (λ c. (c.step, c.reply)) (calls_by cpu log) ≡ filter (λ a. is_stored a.1) answers
   pub last : Known
-  pub makes : Makes (first_known key cpu) answers last
+  pub makes : MakeAll (CallsIn (layout_of key) log) (first_known key cpu) answers last
   pub own : calls_by cpu log ≡ last.own.log.calls
 
 -- There is one legal history of the steps with their replies: a run of the model from the boot state on, in which each CPU's calls are the CPU's own steps

@@ -3,23 +3,25 @@ use Rattle.page_state.specs.declared.layout.Layout.{Layout as TheLayout}
 use Rattle.step_reply.specs.declared.reply.Call.{Call}
 use Rattle.guest_steps.specs.declared.parts.CpuState.{CpuState}
 use Rattle.part_table.specs.declared.slot.Slot.{Slot}
-use Rattle.part_table.specs.Endings.{IsEndOf, KeepsOwn, KeepsSeen}
+use Rattle.part_table.specs.Endings.{IsEndOf, KeepsOwn, KeepsSeen, KeepsTried}
 use Rattle.part_table.specs.Passes.{Pass}
 use Rattle.part_table.specs.Known.{StartsWith, own_at_boot, seen_at}
+use Rattle.cpu_threads.proofs.Full.{end_fronts}
 use Rattle.cpu_threads.specs.Laws.{EndsInOne, IsHistoryOf}
 use Rattle.cpu_threads.proofs.laws.one_history.Goals as goal
 
 -- the end's history is that of a pass whose state and whose logs stand there
-of_kept : {A : Type 0} (l : TheLayout) (found : List (Slot A)) (cpus : List CpuState) (e : IsEndOf l found cpus) (p : Pass) → KeepsOwn cpus p → KeepsSeen found p → IsHistoryOf e.log p
-of_kept l found cpus e p own seen = record {
+of_kept : {A : Type 0} (l : TheLayout) (found : List (Slot A)) (cpus : List CpuState) (e : IsEndOf l found cpus) (p : Pass) → KeepsOwn cpus p → KeepsSeen found p → KeepsTried l found p → IsHistoryOf l e.log p
+of_kept l found cpus e p own seen tried = record {
   calls = sym (e.each_cpu p.knows.cpu p.knows.own own).0;
   seen = λ j less. let h = e.each_part j less in subst (λ (cs : List Call). StartsWith cs (seen_at p.knows.seen j)) h.3 (seen j h.0 h.1);
+  tried = end_fronts l found cpus e p.knows.tries tried;
 }
 
 ends_in_one : (A : Type 0) → EndsInOne A
-ends_in_one A l found cpus passes given e own seen = record {
+ends_in_one A l found cpus passes given e own seen tried = record {
   end = e;
-  each = λ j p there. of_kept l found cpus e p (own.ended j p there) (seen j p there);
+  each = λ j p there. of_kept l found cpus e p (own.ended j p there) (seen j p there) (tried j p there);
   idle = λ c home. sym (e.each_cpu c (own_at_boot l c) (own.fresh c home)).0;
 }
 

@@ -4,7 +4,7 @@ use Rattle.page_state.specs.declared.layout.Layout.{Layout as TheLayout}
 use Rattle.guest_steps.specs.declared.parts.CpuState.{CpuState}
 use Rattle.hypercalls.specs.declared.parts.Parts.{Parts}
 use Rattle.part_table.specs.declared.slot.Slot.{Slot}
-use Rattle.part_table.specs.Endings.{IsEndOf, KeepsOwn, KeepsSeen}
+use Rattle.part_table.specs.Endings.{IsEndOf, KeepsOwn, KeepsSeen, KeepsTried}
 use Rattle.part_table.specs.Slots.{slots_of}
 use Rattle.cpu_threads.proofs.shutdown.ended.Goals as goal
 
@@ -31,3 +31,9 @@ pub returns-clause-seen : goal.returns-clause-seen
 returns-clause-seen g c n p there =
     subst (λ (w : Parts g.row.A.Denot). KeepsSeen (slots_of w) p) (sym c.join.ensures)
     (subst (λ (found : List (Slot g.row.A.Denot)). KeepsSeen {A = g.row.A.Denot} found p) (sym c.together-parts.ensures.parts) (c.close-alloc.ensures.seen n p there))
+
+pub returns-clause-tried : goal.returns-clause-tried
+returns-clause-tried g c n p there =
+    let l : TheLayout = c.args.table.layout in
+    subst (λ (w : Parts g.row.A.Denot). KeepsTried l (slots_of w) p) (sym c.join.ensures)
+    (subst (λ (found : List (Slot g.row.A.Denot)). KeepsTried {A = g.row.A.Denot} l found p) (sym c.together-parts.ensures.parts) (c.close-alloc.ensures.tried n p there))

@@ -12,6 +12,7 @@ use Rattle.part_table.specs.Parts.{parts, log_of, IsOwn}
 use Rattle.part_table.specs.Passes.{Pass}
 use Rattle.part_table.specs.Rule.{IsLawful}
 use Rattle.part_table.specs.Known.{StartsWith, seen_at}
+use Rattle.part_table.proofs.Fronts.{found_fronts}
 use Rattle.part_table.proofs.Lists.{elem_of_get, from}
 use Rattle.part_table.proofs.Pairs.{at_bound, part_same}
 use Rattle.part_table.proofs.Root.{Ends, finals}
@@ -49,7 +50,7 @@ returns-clause-end g c =
           let h = c.requires.home k (omega arith) (subst (λ (m : ℕ). k < m) c.requires.root.3 less) in
           let b = j.ended.2 k h.0 less h.1 in
           let same : h.0.knows.own ≡ e = ap (from h.0.knows.own) (sym b.1 ∙ at) in
-          subst (λ (z : CpuState). (z.log.calls ≡ calls_by k f.log) × IsOwn (layout_of key) f.state k z) same (f.each_cpu k (h.0.knows.own, h.0.knows.seen) b.0);
+          subst (λ (z : CpuState). (z.log.calls ≡ calls_by k f.log) × IsOwn (layout_of key) f.state k z) same (f.each_cpu k (h.0.knows.own, h.0.knows.seen, h.0.knows.tries) b.0);
     }
 
 pub returns-clause-own : goal.returns-clause-own
@@ -72,7 +73,18 @@ returns-clause-seen g c n p there k x at =
     let h = f.each_part k less in
     let same : h.0 ≡ x = part_same h.0 x (sym (gives.1 k h.0 less h.1) ∙ at) in
     let log : (log_of x).calls ≡ _ = ap (λ (z : Slot g.row.A.Denot). (log_of z).calls) (sym same) ∙ h.3 in
-    subst (λ (l : List Call). StartsWith l (seen_at p.knows.seen k)) (sym log) (f.seen n (p.knows.own, p.knows.seen) ends k)
+    subst (λ (l : List Call). StartsWith l (seen_at p.knows.seen k)) (sym log) (f.seen n (p.knows.own, p.knows.seen, p.knows.tries) ends k)
+
+pub returns-clause-tried : goal.returns-clause-tried
+returns-clause-tried g c n p there =
+    let j = c.join_all-cpus.ensures in
+    let key : TheLayout = c.args.table.shared.key in
+    let f = ended_with g.row.A.Denot key _ c.args.root.me.0.made _ _ _ j.root.1 j.root.2 j.ended.0 j.root.3 c.close_with-closed.ensures.values.2 in
+    let gives = c.collect-found.ensures.gives in
+    let found : List (Slot g.row.A.Denot) = c.collect-found.result.items in
+    let inside : n < _ = bound c.args.passes.items n (Some p) _ (sym c.args.passes.ok.0) there in
+    let ends = (j.ended.2 n p (subst (λ (m : ℕ). n < m) (sym c.requires.root.3) inside) there).0 in
+    found_fronts key found f.log p.knows.tries (λ k less. let h = f.each_part k less in (h.0, gives.1 k h.0 less h.1, h.3)) (f.tried n (p.knows.own, p.knows.seen, p.knows.tries) ends)
 
 pub join_all-cpus-requires-clause-table : goal.join_all-cpus-requires-clause-table
 join_all-cpus-requires-clause-table g c = (c.requires.table.0, c.requires.table.1)

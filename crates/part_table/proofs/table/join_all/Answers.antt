@@ -76,8 +76,8 @@ loop-cpu-preserved g c =
       ap (λ m. m.0.made) e.2 ∙ i.3,
       ap (λ m. m.1) e.2 ∙ i.4,
       subst (λ (z : List Ended × List CpuState). HaveEnded (n + 1) ps z.0 z.1) (λ k. (sym (ap (λ m. m.0.ended) e.2) k, sym items k))
-          (one_more_ended n ps c.loop-cpu.root.me.0.ended c.loop-cpu.cpus.items h.0 (w.own, w.seen) c.pass.inside.own i.5 h.1
-          (ap (λ (z : Pass). (z.knows.own, z.knows.seen)) see)
+          (one_more_ended n ps c.loop-cpu.root.me.0.ended c.loop-cpu.cpus.items h.0 (w.own, w.seen, w.tries) c.pass.inside.own i.5 h.1
+          (ap (λ (z : Pass). (z.knows.own, z.knows.seen, z.knows.tries)) see)
           (sym q.4 ∙ ap (λ (z : Pass). z.knows.own) see)),
       c.push_in_room.ensures.len ∙ ap (λ m. m + 1) i.6,
       le_le _ _ _ i.7 c.push_in_room.ensures.room,

@@ -3,7 +3,7 @@ use Rattle.std.specs.Prelude.{List, Option, Some, slice_get}
 use Rattle.std.specs.Vec.{vec_len}
 use Rattle.std.proofs.Math.Logic.{∥∥₁_map}
 use Rattle.guest_steps.specs.declared.parts.CpuState.{CpuState}
-use Rattle.part_table.specs.Endings.{IsEndOf, KeepsOwn}
+use Rattle.part_table.specs.Endings.{IsEndOf, KeepsOwn, KeepsTried}
 use Rattle.part_table.specs.Slots.{slots_of}
 use Rattle.part_table.specs.Passes.{AreHomeFrom, Opened, Pass}
 use Rattle.page_state.specs.declared.layout.Layout.{Layout as TheLayout}
@@ -13,7 +13,7 @@ use Rattle.world.specs.declared.merge.Histories.{Histories}
 use Rattle.world.specs.Merges.{AreLogsOf, IsOfHistory}
 use Rattle.cpu_threads.specs.Rooms.{CanHold, HaveRoom}
 use Rattle.cpu_threads.proofs.Bounds.{can_hold, room_back}
-use Rattle.cpu_threads.specs.Ends.{AreOf, HasAll, KeepsStates, LacksOne}
+use Rattle.cpu_threads.specs.Ends.{AreOf, HasAll, KeepsStates, LacksOne, OfGiven}
 use Rattle.cpu_threads.specs.declared.shutdown.ShutdownFault.TheVariants.{Missing, NoMemory}
 use Rattle.cpu_threads.specs.Machines.{Machine}
 use Rattle.cpu_threads.proofs.Ends.{of_given_back}
@@ -116,6 +116,17 @@ returns-clause-own g c =
 
 pub returns-clause-seen : goal.returns-clause-seen
 returns-clause-seen g c = of_given_back c.all_back-passes.result.items c.args.given.items _ c.all_back-passes.ensures.back c.ended-world.ensures.seen
+
+pub returns-clause-tried : goal.returns-clause-tried
+returns-clause-tried g c =
+    subst (λ (t : Opened). OfGiven c.args.given.items (KeepsTried {A = g.row.A.Denot} t.layout (slots_of c.ended-world.result.parts))) (ap (λ (m : Machine). m.table) c.self.view_is)
+    (of_given_back c.all_back-passes.result.items c.args.given.items _ c.all_back-passes.ensures.back c.ended-world.ensures.tried)
+
+pub returns-then-lacks-clause-tried : goal.returns-then-lacks-clause-tried
+returns-then-lacks-clause-tried g c = tt
+
+pub returns-in_default-clause-tried : goal.returns-in_default-clause-tried
+returns-in_default-clause-tried g c = tt
 
 pub returns-then-lacks-clause-layout : goal.returns-then-lacks-clause-layout
 returns-then-lacks-clause-layout g c = tt
