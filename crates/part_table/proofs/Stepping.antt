@@ -24,7 +24,11 @@ use Rattle.hypercalls.specs.Steps.{IsStepOn, any_full, reply_in}
 use Rattle.hypercalls.proofs.Stepping.{Fits}
 use Rattle.part_table.specs.declared.slot.Slot.{Slot}
 use Rattle.part_table.specs.declared.slot.Slot.TheVariants.{Vm as VmSlot, Shared as SharedSlot, Guest as GuestSlot}
-use Rattle.part_table.specs.Does.{Does, IsLeft}
+use Rattle.part_table.specs.Does.{Does, HasMemoryFor, IsLeft}
+use Rattle.guest_component.specs.Wants.{WantsNoMemory}
+use Rattle.guest_steps.specs.Roomy.{IsRoomy}
+use Rattle.reference_model.specs.declared.changes.Changes.{Changes}
+use Rattle.reference_model.specs.Decides.{decides}
 use Rattle.part_table.specs.Parts.{uses, log_of, IsPart, IsOwn, IsVms, IsShared, IsGuest}
 
 module _ {A : Type 0} where
@@ -117,6 +121,12 @@ guest_room_else f (Some w) r v e = ap (λ b. if b then r else f v) e
 
 pub not_same : (i j : ℕ) → i ≢ j → (i == j) ≡ false
 not_same i j h = grind (arith, nat_tests)
+
+-- what is so of the guest that is lent
+some_guest_is : {A : Type 0} (Is : GuestPart A → Type 0) (o : Option ℕ) (q : Option (GuestPart A)) → is_some q ≡ is_some o → ((v : ℕ) (p : GuestPart A) → o ≡ Some v → option_map GuestSlot q ≡ Some (GuestSlot p) → Is p) → IfSome q Is
+some_guest_is Is o None h f = tt
+some_guest_is Is None (Some p) h f = absurd (true≢false h)
+some_guest_is Is (Some v) (Some p) h f = f v p refl refl
 
 -- parts as they stand after a call
 module _ {A : Type 0} (l : Layout) (u : Reference) where
@@ -305,6 +315,14 @@ module _ {A : Type 0} (l : Layout) (step : Step) (x : Lent A) (fits : Fits (name
         size = h.size;
       }
 
+    -- the parts that are lent have memory for the changes
+    shared_has : (h : Changes) → ((k : ℕ) (X : Slot A) → here k ≡ Some X → HasMemoryFor h X) → IfSome x.shared (λ p. IsRoomy h p)
+    shared_has h has = some_one SharedSlot (λ p. p.log) (λ p. refl) (λ p. IsRoomy h p) x.shared (λ p e. has (suc zero) (SharedSlot p) e)
+
+    guest_has : (h : Changes) → ((k : ℕ) (X : Slot A) → here k ≡ Some X → HasMemoryFor h X) → IfSome x.guest (λ p. WantsNoMemory h p.guest)
+    guest_has h has = some_guest_is (λ p. WantsNoMemory h p.guest) slot x.guest fits.guest
+        (λ v p is e. has (suc (suc v)) (GuestSlot p) (ap (λ o. cond (is_slot o v) (option_map GuestSlot x.guest) None) is ∙ ap (λ b. cond b (option_map GuestSlot x.guest) None) (eq-self v) ∙ e))
+
     pub does : Does l c here x.cpu back y.cpu
     does = record {
       stored = made.stored room;
@@ -312,4 +330,5 @@ module _ {A : Type 0} (l : Layout) (step : Step) (x : Lent A) (fits : Fits (name
       used = used;
       only = only;
       goes = λ s parts own. (t s parts own, steps s parts own, stands s parts own, owned s parts own, stays s parts own, others s parts own);
+      wants = λ why s parts own h decided has. made.wants why h (ap (λ u. decides l id slot step u) (used_is s parts own) ∙ decided) (shared_has h has) (guest_has h has);
     }

@@ -145,4 +145,5 @@ module _ {A : Type 0} where
     used = λ k u. let t = d.used k u in (t.0, t.1, sym (B k) ∙ t.2, sym (A' k) ∙ t.3, t.4);
     only = λ k y e. d.only k y (A' k ∙ e);
     goes = λ s parts o. let t = d.goes s (λ k x e. parts k x (sym (B k) ∙ e)) o in (t.0, t.1, (λ k y e. t.2 k y (A' k ∙ e)), t.3, t.4, t.5);
+    wants = λ why s parts o change made has. d.wants why s (λ k x e. parts k x (sym (B k) ∙ e)) o change made (λ k x e. has k x (sym (B k) ∙ e));
   }

@@ -223,6 +223,7 @@ module _ {A : Type 0} where
     used = λ k u. let t = d.used k u in (t.0, t.1, sym (h k) ∙ t.2, t.3, t.4);
     only = d.only;
     goes = λ s ps o. d.goes s (λ k x e. ps k x (sym (h k) ∙ e)) o;
+    wants = λ why s ps o change made has. d.wants why s (λ k x e. ps k x (sym (h k) ∙ e)) o change made (λ k x e. has k x (sym (h k) ∙ e));
   }
 
 -- the answer to a try, where the CPU's own log had room

@@ -1,19 +1,27 @@
 -- What one call does to the parts that it uses and to its CPU's own state, whatever else stands beside them.
-use Rattle.std.specs.Prelude.{◌≡◌, ◌≢◌, ℕ, ◌+◌, false, true, cond, eqb, length, List, Option, Some, None}
+use Rattle.std.specs.Prelude.{◌≡◌, ◌≢◌, ℕ, ◌+◌, false, true, cond, eqb, length, List, Option, Some, None, Ok}
 use Rattle.step_reply.specs.declared.reply.Call.{Call}
+use Rattle.step_reply.specs.declared.reply.Refusal.TheVariants.{NoMemory}
+use Rattle.step_reply.specs.declared.reply.Reply.TheVariants.{Refused}
 use Rattle.step_reply.specs.declared.step.Step.{Step}
 use Rattle.page_state.specs.Layouts.{Layout}
 use Rattle.reference_model.specs.Boot.{CanBoot}
 use Rattle.reference_model.specs.History.{IsStored, calls_on, calls_by}
-use Rattle.reference_model.specs.Rules.{guest_slot}
+use Rattle.reference_model.specs.declared.changes.Changes.{Changes}
+use Rattle.reference_model.specs.Decides.{decides}
+use Rattle.reference_model.specs.Rules.{guest_slot, names}
 use Rattle.reference_model.specs.Run.{IsRun}
 use Rattle.reference_model.specs.State.{Reference}
 use Rattle.reference_model.specs.Step.{Steps}
+use Rattle.reference_model.specs.Used.{used_of}
+use Rattle.guest_component.specs.Wants.{WantsNoMemory}
 use Rattle.guest_steps.specs.declared.parts.CpuState.{CpuState}
 use Rattle.guest_steps.specs.Lent.{with_call}
 use Rattle.guest_steps.specs.View.{cpu_of}
 use Rattle.part_table.specs.Parts.{part_of, uses, log_of, IsPart, IsOwn}
 use Rattle.part_table.specs.declared.slot.Slot.{Slot}
+use Rattle.part_table.specs.declared.slot.Slot.TheVariants.{Vm as VmSlot, Shared as SharedSlot, Guest as GuestSlot}
+use Rattle.guest_steps.specs.Roomy.{IsRoomy}
 
 module _ {A : Type 0} where
   -- no part
@@ -39,7 +47,17 @@ module _ {A : Type 0} where
     pub parts : (k : ℕ) (x : Slot A) → lent k ≡ Some x → IsPart l state k x
     pub logs : (k : ℕ) (x : Slot A) → lent k ≡ Some x → (log_of x).calls ≡ calls_on (part_of k) log
 
-  -- The call is the reference step on the parts that it uses and on its CPU's own state, in each state in which these stand: nothing else of the state changes. It is stored in the log of each part that it uses, and in its CPU's
+  -- memory for the changes is there already with a part
+  abbrev pub HasMemoryFor : Changes → Slot A → Type 0
+  HasMemoryFor h (VmSlot p) = Unit {0}
+  HasMemoryFor h (SharedSlot p) = IsRoomy h p
+  HasMemoryFor h (GuestSlot p) = WantsNoMemory h p.guest
+
+  -- memory can be wanted for a call on these parts, in a state: what is decided can need a growth
+  abbrev pub CanWantFor : Layout → Call → (ℕ → Option (Slot A)) → Reference → Type 0
+  CanWantFor l c parts s = (h : Changes) → decides l c.cpu c.slot c.step (used_of (names c.step) c.slot c.cpu s.contents) ≡ Ok h → ((k : ℕ) (x : Slot A) → parts k ≡ Some x → HasMemoryFor h x) → ⊥
+
+  -- The call is the reference step on the parts that it uses and on its CPU's own state, in each state in which these stand: nothing else of the state changes. It is stored in the log of each part that it uses, and in its CPU's. Memory is wanted only where it can be
   pub record Does (l : Layout) (c : Call) (before : ℕ → Option (Slot A)) (own : CpuState) (after : ℕ → Option (Slot A)) (owned : CpuState) : Type 0 where
     pub stored : IsStored c.reply
     pub mine : owned.log ≡ with_call c own.log
@@ -49,6 +67,7 @@ module _ {A : Type 0} where
         → (t : Reference) × Steps l s c t × ((k : ℕ) (y : Slot A) → after k ≡ Some y → IsPart l t k y) × IsOwn l t c.cpu owned
         × ((k : ℕ) (x : Slot A) → uses c k ≡ false → IsPart l s k x → IsPart l t k x)
         × ((j : ℕ) (k : CpuState) → j ≢ c.cpu → IsOwn l s j k → IsOwn l t j k)
+    pub wants : c.reply ≡ Refused NoMemory → (s : Reference) → ((k : ℕ) (x : Slot A) → before k ≡ Some x → IsPart l s k x) → IsOwn l s c.cpu own → CanWantFor l c before s
 
 -- the call of a step that a CPU makes: its number is one more than its log held
 pub record IsCalled (cpu : ℕ) (own : CpuState) (step : Step) (c : Call) : Type 0 where
