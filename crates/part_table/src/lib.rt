@@ -2,6 +2,7 @@
 #![tactic(auto)]
 
 pub mod exchanges;
+pub mod gate;
 pub mod maker;
 pub mod pass;
 mod room;
@@ -12,9 +13,9 @@ pub mod table;
 pub mod tries;
 pub mod whole;
 
+pub use gate::{Gate, Open, TryGate};
 pub use maker::{Maker, Plain};
 pub use pass::CpuPass;
 pub use slot::Slot;
 pub use step::{alone, both, idle};
 pub use table::PartTable;
-pub use tries::{Gate, Open};

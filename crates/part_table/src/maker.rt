@@ -1,11 +1,12 @@
 //! What makes the step of a call while its pass holds the parts that the call uses.
-ghost use Rattle.std.specs.Prelude.{◌≡◌, ◌≢◌, ◌<◌, ◌+◌, ◌∷◌, []};
+ghost use Rattle.std.specs.Prelude.{◌≡◌, ◌≢◌, ◌<◌, ◌+◌, ◌∷◌, [], length};
 ghost use Rattle.guest_steps.specs.View.{cpu_of};
 ghost use Rattle.hypercalls.specs.Uses.{uses_of};
 ghost use Rattle.page_state.specs.LayoutView.{layout_of};
 ghost use Rattle.part_table.specs.Does.{both_at, Does, IsCalled, IsLeft, none_at, only_at};
 ghost use Rattle.part_table.specs.Parts.{in_order, log_of, parts};
 
+use crate::gate::{Gate, TryGate};
 use crate::slot::Slot;
 use crate::step;
 use guest_steps::CpuState;
@@ -13,9 +14,9 @@ use page_state::Layout;
 use std::alloc::Allocator;
 use step_reply::{Call, Step};
 
-/// Makes the step of a call while its pass holds the parts that the call uses. Whatever a maker is, the step is the same;
-/// what else it does with the parts before and after the step changes what is told alone.
-pub trait Maker<T> {
+/// Makes the step of a call while its pass holds the parts that the call uses, once the gate has heard that it does. Whatever
+/// a maker is, the step is the same; what else it does with the parts before and after the step changes what is told alone.
+pub trait Maker<T, G: Gate> {
     ghost use Rattle.std.specs.Prelude.{ℕ, Option};
     ghost use Rattle.guest_steps.specs.declared.parts.CpuState.{CpuState};
     ghost use Rattle.page_state.specs.declared.layout.Layout.{Layout as TheLayout};
@@ -29,6 +30,7 @@ pub trait Maker<T> {
     /// The step on no part, on the CPU's own state alone.
     fn idle<A: Allocator + Copy>(
         &self,
+        gate: &TryGate<G>,
         layout: &Layout,
         cpu: &mut CpuState,
         step: Step,
@@ -38,6 +40,7 @@ pub trait Maker<T> {
         requires left { ∥ IsLeft {A = A} (layout_of layout.now) cpu.old.id cpu.old none_at ∥₁ }
         requires uses { in_order (uses_of (cpu_of cpu.old) step) ≡ [] }
         requires own_room { cpu.old.log.room ≢ 0 }
+        requires heard { G.heard_taken gate.now.gate.now cpu.old.id (length cpu.old.log.calls + 1) }
         ensures call { IsCalled cpu.old.id cpu.old step result }
         ensures does { Does {A = A} (layout_of layout.now) result none_at cpu.old none_at cpu.new }
         ensures told { tells {A = A} layout.now none_at cpu.old result none_at cpu.new told.old told.new };
@@ -45,6 +48,7 @@ pub trait Maker<T> {
     /// The step on the part k alone.
     fn alone<A: Allocator + Copy>(
         &self,
+        gate: &TryGate<G>,
         alloc: A,
         layout: &Layout,
         slot: Slot<A>,
@@ -59,6 +63,7 @@ pub trait Maker<T> {
         requires uses { in_order (uses_of (cpu_of cpu.old) step) ≡ k ∷ [] }
         requires room { (log_of slot).room ≢ 0 }
         requires own_room { cpu.old.log.room ≢ 0 }
+        requires heard { G.heard_taken gate.now.gate.now cpu.old.id (length cpu.old.log.calls + 1) }
         ensures call { IsCalled cpu.old.id cpu.old step result.1 }
         ensures does { Does (layout_of layout.now) result.1 (only_at k slot) cpu.old (only_at k result.0) cpu.new }
         ensures told { tells layout.now (only_at k slot) cpu.old result.1 (only_at k result.0) cpu.new told.old told.new };
@@ -66,6 +71,7 @@ pub trait Maker<T> {
     /// The step on the Shared part and the guest of slot v.
     fn both<A: Allocator + Copy>(
         &self,
+        gate: &TryGate<G>,
         alloc: A,
         layout: &Layout,
         shared: Slot<A>,
@@ -82,6 +88,7 @@ pub trait Maker<T> {
         requires shared_room { (log_of shared).room ≢ 0 }
         requires guest_room { (log_of guest).room ≢ 0 }
         requires own_room { cpu.old.log.room ≢ 0 }
+        requires heard { G.heard_taken gate.now.gate.now cpu.old.id (length cpu.old.log.calls + 1) }
         ensures call { IsCalled cpu.old.id cpu.old step result.2 }
         ensures does { Does (layout_of layout.now) result.2 (both_at (v + 2) guest 1 shared) cpu.old (both_at (v + 2) result.1 1 result.0) cpu.new }
         ensures told { tells layout.now (both_at (v + 2) guest 1 shared) cpu.old result.2 (both_at (v + 2) result.1 1 result.0) cpu.new told.old told.new };
@@ -90,11 +97,12 @@ pub trait Maker<T> {
 /// Makes the step, and tells nothing.
 pub struct Plain;
 
-impl<T> Maker<T> for Plain {
+impl<T, G: Gate> Maker<T, G> for Plain {
     ghost tells = { λ l before own call after owned from to. Unit {0} };
 
     fn idle<A: Allocator + Copy>(
         &self,
+        _gate: &TryGate<G>,
         layout: &Layout,
         cpu: &mut CpuState,
         step: Step,
@@ -105,6 +113,7 @@ impl<T> Maker<T> for Plain {
 
     fn alone<A: Allocator + Copy>(
         &self,
+        _gate: &TryGate<G>,
         alloc: A,
         layout: &Layout,
         slot: Slot<A>,
@@ -119,6 +128,7 @@ impl<T> Maker<T> for Plain {
         requires uses { in_order (uses_of (cpu_of cpu.old) step) ≡ k ∷ [] }
         requires room { (log_of slot).room ≢ 0 }
         requires own_room { cpu.old.log.room ≢ 0 }
+        requires heard { G.heard_taken _gate.now.gate.now cpu.old.id (length cpu.old.log.calls + 1) }
         ensures call { IsCalled cpu.old.id cpu.old step result.1 }
         ensures does { Does (layout_of layout.now) result.1 (only_at k slot) cpu.old (only_at k result.0) cpu.new }
         ensures told { Unit {0} }
@@ -128,6 +138,7 @@ impl<T> Maker<T> for Plain {
 
     fn both<A: Allocator + Copy>(
         &self,
+        _gate: &TryGate<G>,
         alloc: A,
         layout: &Layout,
         shared: Slot<A>,
@@ -144,6 +155,7 @@ impl<T> Maker<T> for Plain {
         requires shared_room { (log_of shared).room ≢ 0 }
         requires guest_room { (log_of guest).room ≢ 0 }
         requires own_room { cpu.old.log.room ≢ 0 }
+        requires heard { G.heard_taken _gate.now.gate.now cpu.old.id (length cpu.old.log.calls + 1) }
         ensures call { IsCalled cpu.old.id cpu.old step result.2 }
         ensures does { Does (layout_of layout.now) result.2 (both_at (v + 2) guest 1 shared) cpu.old (both_at (v + 2) result.1 1 result.0) cpu.new }
         ensures told { Unit {0} }

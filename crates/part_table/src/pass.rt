@@ -8,8 +8,9 @@ ghost use Rattle.part_table.specs.Made.{MakesFor};
 ghost use Rattle.part_table.specs.Parts.{parts};
 
 use crate::exchanges::{PartSeat, SlotTable};
+use crate::gate::{Gate, TryGate};
 use crate::maker::Maker;
-use crate::tries::{Gate, any};
+use crate::tries::any;
 use guest_steps::CpuState;
 use page_state::Layout;
 use std::alloc::Allocator;
@@ -64,7 +65,7 @@ impl<A: Allocator> CpuPass<A> {
 
 impl<A: Allocator + Copy> CpuPass<A> {
     /// One try of a step.
-    pub(crate) fn try_step<T, G: Gate, M: Maker<T>>(
+    pub(crate) fn try_step<T, G: Gate, M: Maker<T, G>>(
         &mut self,
         gate: &G,
         maker: &M,
@@ -87,6 +88,7 @@ impl<A: Allocator + Copy> CpuPass<A> {
         }
         let seat = &mut self.seat;
         let own = &mut self.own;
-        any(gate, maker, table, seat, alloc, layout, own, step, told).reply()
+        let gate = TryGate::of(gate);
+        any(&gate, maker, table, seat, alloc, layout, own, step, told).reply()
     }
 }

@@ -11,12 +11,12 @@ ghost use Rattle.part_table.specs.Rule.{one_more, rooted};
 ghost use Rattle.part_table.specs.Known.{AreOwnAtBoot, own_at_boot};
 
 use crate::exchanges::{PartSeat, SlotTable};
+use crate::gate::Gate;
 use crate::maker::{Maker, Plain};
 use crate::pass::CpuPass;
 use crate::room::push_in_room;
 use crate::rule::{Clash, Root};
 use crate::slot::Slot;
-use crate::tries::Gate;
 use atomic_table::{Closed, Table};
 use guest_steps::CpuState;
 use page_state::Layout;
@@ -196,7 +196,7 @@ impl<A: Allocator + Copy> PartTable<A> {
     }
 
     /// The same where a maker makes the step. It does so once, where the call is stored, and else tells nothing.
-    pub fn try_step_by<T, G: Gate, M: Maker<T>>(
+    pub fn try_step_by<T, G: Gate, M: Maker<T, G>>(
         &self,
         gate: &G,
         maker: &M,

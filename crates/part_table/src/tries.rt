@@ -8,6 +8,7 @@ ghost use Rattle.part_table.specs.Rule.{AtRest, IsIdle, known_of};
 ghost use Rattle.part_table.specs.Tried.{Tells, WhereStored};
 
 use crate::exchanges::{PartSeat, SlotTable, commit, commit_first, enter, put_back, release, take};
+use crate::gate::{Gate, TryGate};
 use crate::maker::Maker;
 use crate::slot::Slot;
 use guest_steps::CpuState;
@@ -15,42 +16,6 @@ use hypercalls::{UsedParts, uses};
 use page_state::Layout;
 use std::alloc::Allocator;
 use step_reply::{Call, Refusal, Reply, Step};
-
-/// What is called in the middle of a call, with the CPU and its number of the call.
-pub trait Gate {
-    ghost use Rattle.std.specs.Prelude.{ℕ};
-
-    /// That `taken` was called with this CPU and number. Only the call gives it.
-    ghost heard_taken: { Self → ℕ → ℕ → Type 0 };
-
-    /// The same of `answered`.
-    ghost heard_answered: { Self → ℕ → ℕ → Type 0 };
-
-    /// All parts that the call uses are held, and no log that would store it is full. The step comes next.
-    fn taken(&self, cpu: u64, number: u64)
-        ensures { heard_taken self.now cpu number };
-
-    /// The parts are home again, and the call is answered.
-    fn answered(&self, cpu: u64, number: u64)
-        ensures { heard_answered self.now cpu number };
-
-    /// An exchange was made, of this kind: 1 took a part, 2 found it with another pass, 3 put the one part of a call home
-    /// with the call, 4 the guest of a call that uses the Shared part too, 5 a part without a call.
-    fn exchanged(&self, _cpu: u64, _number: u64, _kind: u64) {}
-}
-
-/// A gate that does nothing.
-pub struct Open;
-
-impl Gate for Open {
-    ghost heard_taken = { λ gate cpu number. Unit {0} };
-
-    ghost heard_answered = { λ gate cpu number. Unit {0} };
-
-    fn taken(&self, _cpu: u64, _number: u64) {}
-
-    fn answered(&self, _cpu: u64, _number: u64) {}
-}
 
 /// What a try of a call comes to.
 pub enum Tried {
@@ -63,8 +28,8 @@ pub enum Tried {
 }
 
 /// Tries a step that uses no part.
-pub fn none<A: Allocator + Copy, T, G: Gate, M: Maker<T>>(
-    gate: &G,
+pub fn none<A: Allocator + Copy, T, G: Gate, M: Maker<T, G>>(
+    gate: &TryGate<G>,
     maker: &M,
     table: &SlotTable<A>,
     seat: &mut PartSeat<A>,
@@ -87,18 +52,17 @@ pub fn none<A: Allocator + Copy, T, G: Gate, M: Maker<T>>(
     ensures left { AtRest seat.new.me.0 }
     ensures tells { Tells step [] result (known_of seat.old.me.0) (known_of seat.new.me.0) }
     ensures made { MakesOf {A = A} M.tells step [] result (known_of seat.old.me.0) (known_of seat.new.me.0) told.old told.new }
-    ensures heard { WhereStored result (G.heard_taken gate.now cpu.old.id (length cpu.old.log.calls + 1)) }
+    ensures heard { WhereStored result (G.heard_taken gate.now.gate.now cpu.old.id (length cpu.old.log.calls + 1)) }
 {
-    let number = cpu.log.len() as u64 + 1;
-    gate.taken(cpu.id, number);
-    let call = maker.idle::<A>(layout, cpu, step, told);
+    gate.taken_none(cpu, &step);
+    let call = maker.idle::<A>(gate, layout, cpu, step, told);
     enter(table, seat, &call, cpu);
     Tried::Stored(call)
 }
 
 /// Tries a step that uses the part k alone.
-pub fn one<A: Allocator + Copy, T, G: Gate, M: Maker<T>>(
-    gate: &G,
+pub fn one<A: Allocator + Copy, T, G: Gate, M: Maker<T, G>>(
+    gate: &TryGate<G>,
     maker: &M,
     table: &SlotTable<A>,
     seat: &mut PartSeat<A>,
@@ -124,7 +88,7 @@ pub fn one<A: Allocator + Copy, T, G: Gate, M: Maker<T>>(
     ensures left { AtRest seat.new.me.0 }
     ensures tells { Tells step (k ∷ []) result (known_of seat.old.me.0) (known_of seat.new.me.0) }
     ensures made { MakesOf {A = A} M.tells step (k ∷ []) result (known_of seat.old.me.0) (known_of seat.new.me.0) told.old told.new }
-    ensures heard { WhereStored result (G.heard_taken gate.now cpu.old.id (length cpu.old.log.calls + 1)) }
+    ensures heard { WhereStored result (G.heard_taken gate.now.gate.now cpu.old.id (length cpu.old.log.calls + 1)) }
 {
     let at = k as usize;
     let (id, number) = (cpu.id, cpu.log.len() as u64 + 1);
@@ -138,16 +102,16 @@ pub fn one<A: Allocator + Copy, T, G: Gate, M: Maker<T>>(
         gate.exchanged(id, number, 5);
         return Tried::LogFull;
     }
-    gate.taken(id, number);
-    let (part, call) = maker.alone(alloc, layout, part, k, cpu, step, told);
+    gate.taken_one(cpu, &step, k, &part);
+    let (part, call) = maker.alone(gate, alloc, layout, part, k, cpu, step, told);
     commit(table, seat, at, part, &call, cpu);
     gate.exchanged(id, number, 3);
     Tried::Stored(call)
 }
 
 /// Tries a step that uses the Shared part and the Guest part of slot v. The Shared part is taken first, and goes home last.
-pub fn two<A: Allocator + Copy, T, G: Gate, M: Maker<T>>(
-    gate: &G,
+pub fn two<A: Allocator + Copy, T, G: Gate, M: Maker<T, G>>(
+    gate: &TryGate<G>,
     maker: &M,
     table: &SlotTable<A>,
     seat: &mut PartSeat<A>,
@@ -173,7 +137,7 @@ pub fn two<A: Allocator + Copy, T, G: Gate, M: Maker<T>>(
     ensures left { AtRest seat.new.me.0 }
     ensures tells { Tells step (1 ∷ (v + 2) ∷ []) result (known_of seat.old.me.0) (known_of seat.new.me.0) }
     ensures made { MakesOf {A = A} M.tells step (1 ∷ (v + 2) ∷ []) result (known_of seat.old.me.0) (known_of seat.new.me.0) told.old told.new }
-    ensures heard { WhereStored result (G.heard_taken gate.now cpu.old.id (length cpu.old.log.calls + 1)) }
+    ensures heard { WhereStored result (G.heard_taken gate.now.gate.now cpu.old.id (length cpu.old.log.calls + 1)) }
 {
     let at = v as usize + 2;
     let (id, number) = (cpu.id, cpu.log.len() as u64 + 1);
@@ -201,8 +165,8 @@ pub fn two<A: Allocator + Copy, T, G: Gate, M: Maker<T>>(
         gate.exchanged(id, number, 5);
         return Tried::LogFull;
     }
-    gate.taken(id, number);
-    let (shared, guest, call) = maker.both(alloc, layout, shared, guest, v, cpu, step, told);
+    gate.taken_two(cpu, &step, v, &shared, &guest);
+    let (shared, guest, call) = maker.both(gate, alloc, layout, shared, guest, v, cpu, step, told);
     commit_first(table, seat, at, guest, shared, &call, cpu);
     gate.exchanged(id, number, 4);
     release(table, seat, 1);
@@ -211,8 +175,8 @@ pub fn two<A: Allocator + Copy, T, G: Gate, M: Maker<T>>(
 }
 
 /// Tries a step on the parts that it uses.
-pub fn any<A: Allocator + Copy, T, G: Gate, M: Maker<T>>(
-    gate: &G,
+pub fn any<A: Allocator + Copy, T, G: Gate, M: Maker<T, G>>(
+    gate: &TryGate<G>,
     maker: &M,
     table: &SlotTable<A>,
     seat: &mut PartSeat<A>,
@@ -235,7 +199,7 @@ pub fn any<A: Allocator + Copy, T, G: Gate, M: Maker<T>>(
     ensures left { AtRest seat.new.me.0 }
     ensures tells { Tells step (in_order (uses_of (cpu_of cpu.old) step)) result (known_of seat.old.me.0) (known_of seat.new.me.0) }
     ensures made { MakesOf {A = A} M.tells step (in_order (uses_of (cpu_of cpu.old) step)) result (known_of seat.old.me.0) (known_of seat.new.me.0) told.old told.new }
-    ensures heard { WhereStored result (G.heard_taken gate.now cpu.old.id (length cpu.old.log.calls + 1)) }
+    ensures heard { WhereStored result (G.heard_taken gate.now.gate.now cpu.old.id (length cpu.old.log.calls + 1)) }
 {
     match uses(cpu, &step) {
         UsedParts::Nothing => none(gate, maker, table, seat, layout, cpu, step, told),

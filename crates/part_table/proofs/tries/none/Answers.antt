@@ -1,4 +1,4 @@
-use Rattle.std.proofs.Common.{◌≡◌, ℕ, ◌∷◌, [], Bool, true, false, cond, eqb, sym, refl, ◌∙◌, append-nil, subst, ◌+◌}
+use Rattle.std.proofs.Common.{◌≡◌, ℕ, ◌∷◌, [], Bool, true, false, cond, eqb, sym, refl, ◌∙◌, append-nil}
 use Rattle.std.specs.Prelude.{None}
 use Rattle.part_table.specs.Rule.{held_at}
 use Rattle.part_table.proofs.Making.{made_by}
@@ -66,4 +66,4 @@ returns-clause-made g c =
     (left_idle c.args.layout.now c.args.cpu.now.id c.args.cpu.now c.args.seat.now.me.0 c.requires.left q.0 q.1 q.2) (λ k x e. absurd cc) c.idle-call.ensures.call c.idle-call.ensures.does c.idle-call.ensures.told
 
 pub returns-clause-heard : goal.returns-clause-heard
-returns-clause-heard g c = subst (λ n. g.G.Gate.heard_taken c.args.gate.now c.args.cpu.now.id (n + 1)) c.len.ensures.value c.taken.ensures
+returns-clause-heard g c = c.taken_none.ensures

@@ -1,4 +1,4 @@
-use Rattle.std.proofs.Common.{◌≡◌, ℕ, ◌∷◌, [], sym, ap, ◌∙◌, refl, subst, ◌+◌}
+use Rattle.std.proofs.Common.{◌≡◌, ℕ, ◌∷◌, [], sym, ap, ◌∙◌, refl}
 use Rattle.std.specs.Prelude.{Some, None}
 use Rattle.part_table.specs.Does.{only_at}
 use Rattle.part_table.specs.Rule.{Seated, held_at}
@@ -154,7 +154,7 @@ pub alone-part-requires-clause-part : goal.alone-part-requires-clause-part
 alone-part-requires-clause-part g c = c.requires.part
 
 pub returns-clause-heard : goal.returns-clause-heard
-returns-clause-heard g c = subst (λ n. g.G.Gate.heard_taken c.args.gate.now c.args.cpu.now.id (n + 1)) c.len.ensures.value c.taken.ensures
+returns-clause-heard g c = c.taken_one.ensures
 
 pub returns-in_default-clause-heard : goal.returns-in_default-clause-heard
 returns-in_default-clause-heard g c = tt

@@ -298,7 +298,7 @@ pub both-shared-requires-clause-part : goal.both-shared-requires-clause-part
 both-shared-requires-clause-part g c = c.requires.part
 
 pub returns-clause-heard : goal.returns-clause-heard
-returns-clause-heard g c = subst (λ n. g.G.Gate.heard_taken c.args.gate.now c.args.cpu.now.id (n + 1)) c.len.ensures.value c.taken.ensures
+returns-clause-heard g c = c.taken_two.ensures
 
 pub returns-in_default-clause-heard : goal.returns-in_default-clause-heard
 returns-in_default-clause-heard g c = tt

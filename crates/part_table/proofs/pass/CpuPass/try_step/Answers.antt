@@ -49,4 +49,4 @@ pub returns-clause-heard : goal.returns-clause-heard
 returns-clause-heard g c s =
     let v = ap (λ (p : Pass). p.knows) c.self.view_is in
     subst (λ (z : ℕ × CpuState). g.G.Gate.heard_taken c.args.gate.now z.0 (length z.1.log.calls + 1)) (λ i. ((sym c.self.invariant.3 ∙ ap (λ (k : Known). k.cpu) v) i, (sym c.self.invariant.4 ∙ ap (λ (k : Known). k.own) v) i))
-    (where_stored c.any.result c.reply.result c.reply.ensures c.any.ensures.heard s)
+    (subst (λ x. g.G.Gate.heard_taken x c.self.inside.own.id (length c.self.inside.own.log.calls + 1)) c.of-gate.ensures (where_stored c.any.result c.reply.result c.reply.ensures c.any.ensures.heard s))
