@@ -14,3 +14,4 @@ pub mod Root
 pub mod TakenApart
 pub mod PutTogether
 pub mod Apart
+pub mod Taken

@@ -81,7 +81,13 @@ impl<'a, G: Gate> TryGate<'a, G> {
     }
 
     /// The part k is held, and the step that uses it alone comes next.
-    pub(crate) fn taken_one<A: Allocator>(&self, cpu: &CpuState, step: &Step, k: u64, part: &Slot<A>)
+    pub(crate) fn taken_one<A: Allocator>(
+        &self,
+        cpu: &CpuState,
+        step: &Step,
+        k: u64,
+        part: &Slot<A>,
+    )
         requires uses { in_order (uses_of (cpu_of cpu.now) step.now) ≡ k ∷ [] }
         requires room { (log_of part.now).room ≢ 0 }
         requires own_room { cpu.now.log.room ≢ 0 }

@@ -3,6 +3,7 @@
 
 pub mod exchanges;
 pub mod gate;
+pub mod laws;
 pub mod maker;
 pub mod pass;
 mod room;
