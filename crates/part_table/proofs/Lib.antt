@@ -15,3 +15,4 @@ pub mod TakenApart
 pub mod PutTogether
 pub mod Apart
 pub mod Taken
+pub mod Closing

@@ -1,5 +1,5 @@
 -- What a table begins with, and what is left at the end.
-use Rattle.std.specs.Prelude.{◌≡◌, ℕ, ◌<◌, Bool, false, List, [], length, All, Option, Some, option_map, slice_get, slice_index_or, unwrap_or}
+use Rattle.std.specs.Prelude.{◌≡◌, ℕ, ◌<◌, Bool, false, List, [], length, map, All, Option, Some, option_map, slice_get, slice_index_or, unwrap_or}
 use mathlib.Core.Option.{some}
 use lib.ListN.{get_elem?}
 use Rattle.page_state.specs.declared.layout.Layout.{Layout as TheLayout}
@@ -52,6 +52,14 @@ KeepsTried l found p = AreFronts l.config.log (calls_at found) p.knows.tries
 -- so for each pass of the list
 abbrev pub ForEach : List (Option Pass) → (Pass → Type 0) → Type 0
 ForEach passes F = (c : ℕ) (p : Pass) → slice_get passes c ≡ Some (Some p) → F p
+
+-- There is one legal history, at whose end parts and CPUs stand as the passes know them
+abbrev pub HasEnd : Type 0 → TheLayout → List (Option Pass) → Type 0
+HasEnd A l passes = (found : List (Slot A)) × (cpus : List CpuState) × IsEndOf l found cpus × ForEach passes (KeepsOwn cpus) × ForEach passes (KeepsSeen found) × ForEach passes (KeepsTried l found)
+
+-- the states in which passes end
+abbrev pub owns_of : List Ended → List CpuState
+owns_of ended = map (λ e. e.0) ended
 
 -- the first n passes have ended: the root has the state in which each ends, what it has seen and what it tried, and the list has the states
 abbrev pub HaveEnded : ℕ → List (Option Pass) → List Ended → List CpuState → Type 0

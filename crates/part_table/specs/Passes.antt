@@ -38,9 +38,13 @@ pub record IsPassOf (t : Opened) (p : Pass) : Type 0 where
   pub table : p.table ≡ t.table
   pub layout : p.knows.layout ≡ t.layout
 
--- a pass of the table for each CPU from c on, below n, is at its place
+-- a pass of the table is at its CPU's place
+abbrev pub IsThere : TableId → List (Option Pass) → ℕ → Type 0
+IsThere table passes c = (p : Pass) × (slice_get passes c ≡ Some (Some p)) × (p.table ≡ table) × (p.knows.cpu ≡ c)
+
+-- so it is for each CPU from c on, below n
 abbrev pub AreHomeFrom : TableId → ℕ → ℕ → List (Option Pass) → Type 0
-AreHomeFrom table n c passes = (j : ℕ) → c ≤ j → j < n → (p : Pass) × (slice_get passes j ≡ Some (Some p)) × (p.table ≡ table) × (p.knows.cpu ≡ j)
+AreHomeFrom table n c passes = (j : ℕ) → c ≤ j → j < n → IsThere table passes j
 
 -- the root's seat of an open table
 pub record IsReady {A : Type 0} (table : TableId) (key : TheLayout) (root_table : TableId) (root : ℕ) (me : Seated A) (layout : TheLayout) : Type 0 where

@@ -128,7 +128,6 @@ impl<T, G: Gate> Maker<T, G> for Plain {
         requires uses { in_order (uses_of (cpu_of cpu.old) step) ≡ k ∷ [] }
         requires room { (log_of slot).room ≢ 0 }
         requires own_room { cpu.old.log.room ≢ 0 }
-        requires heard { G.heard_taken _gate.now.gate.now cpu.old.id (length cpu.old.log.calls + 1) }
         ensures call { IsCalled cpu.old.id cpu.old step result.1 }
         ensures does { Does (layout_of layout.now) result.1 (only_at k slot) cpu.old (only_at k result.0) cpu.new }
         ensures told { Unit {0} }
@@ -155,7 +154,6 @@ impl<T, G: Gate> Maker<T, G> for Plain {
         requires shared_room { (log_of shared).room ≢ 0 }
         requires guest_room { (log_of guest).room ≢ 0 }
         requires own_room { cpu.old.log.room ≢ 0 }
-        requires heard { G.heard_taken _gate.now.gate.now cpu.old.id (length cpu.old.log.calls + 1) }
         ensures call { IsCalled cpu.old.id cpu.old step result.2 }
         ensures does { Does (layout_of layout.now) result.2 (both_at (v + 2) guest 1 shared) cpu.old (both_at (v + 2) result.1 1 result.0) cpu.new }
         ensures told { Unit {0} }

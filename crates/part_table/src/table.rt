@@ -1,12 +1,12 @@
 //! The table of the 66 parts: it is opened as at boot, gives each CPU its pass, and is closed once all passes are back.
-ghost use Rattle.std.specs.Prelude.{◌≡◌, ◌≢◌, ◌<◌, ◌≤◌, [], true, length, IfOk};
+ghost use Rattle.std.specs.Prelude.{◌≡◌, ◌≢◌, ℕ, ◌<◌, ◌≤◌, [], ◌∷◌, ◌++◌, true, length, slice_get, IfOk};
 ghost use Rattle.std.specs.Vec.{vec_capacity, vec_len};
 ghost use Rattle.std.specs.Slots.{slots_items, slots_filled, slots_len, IsFull};
 ghost use Rattle.page_state.specs.LayoutView.{layout_of};
 ghost use Rattle.reference_model.specs.Boot.{CanBoot};
-ghost use Rattle.part_table.specs.Endings.{AllHome, ForEach, Gives, HaveEnded, IsEndOf, IsRow, KeepsOwn, KeepsSeen, KeepsTried, emptied_to};
+ghost use Rattle.part_table.specs.Endings.{AllHome, ForEach, Gives, HasEnd, HaveEnded, IsEndOf, IsRow, KeepsOwn, KeepsSeen, KeepsTried, emptied_to, owns_of};
 ghost use Rattle.part_table.specs.Parts.{parts};
-ghost use Rattle.part_table.specs.Passes.{AreFirst, AreHomeFrom, IsPassOf, first_pass};
+ghost use Rattle.part_table.specs.Passes.{AreFirst, AreHomeFrom, IsPassOf, IsThere, Pass, first_pass};
 ghost use Rattle.part_table.specs.Rule.{one_more, rooted};
 ghost use Rattle.part_table.specs.Known.{AreOwnAtBoot, own_at_boot};
 
@@ -169,6 +169,24 @@ impl<A: Allocator> PartTable<A> {
         let (found, cpus) = end(table, root, passes, found, cpus);
         (alloc, layout, found, cpus)
     }
+
+    /// Closes the table, and drops the parts and the CPUs' own states, which stand at the end of the one legal history. It
+    /// takes no memory.
+    pub fn drop_with(self, passes: Vec<Option<CpuPass<A>>>)
+        requires count { vec_len passes ≡ self.layout.config.cpus }
+        requires home { AreHomeFrom self.table (vec_len passes) 0 passes.items }
+        ensures { HasEnd A self.layout passes.items }
+    {
+        let PartTable {
+            table,
+            root,
+            alloc,
+            layout,
+        } = self;
+        drop(alloc);
+        drop(layout);
+        drop_all(table, root, passes);
+    }
 }
 
 impl<A: Allocator + Copy> PartTable<A> {
@@ -243,6 +261,28 @@ fn clash<A: Allocator>(table: &SlotTable<A>, one: CpuPass<A>, other: CpuPass<A>)
     table.shared.load::<Clash>(&mut seat, 0);
 }
 
+/// The pass of the next CPU is joined: its own state.
+fn join_one<A: Allocator>(
+    table: &SlotTable<A>,
+    root: &mut PartSeat<A>,
+    passes: &mut Vec<Option<CpuPass<A>>>,
+    cpu: usize,
+) -> CpuState
+    requires table { (root.old.table_id ≡ table.now.shared.table_id) × (table.now.shared.table_id.words ≡ parts) }
+    requires root { (root.old.id ≡ 0) × (root.old.me.0.root ≡ true) × (length root.old.me.0.ended ≡ cpu) × (cpu < root.old.me.0.made) }
+    requires inside { cpu < vec_len passes.old }
+    requires there { IsThere root.old.table_id passes.old.items cpu }
+    ensures root { (root.new.table_id ≡ root.old.table_id) × (root.new.id ≡ 0) × (root.new.me.0.root ≡ true) × (root.new.me.0.made ≡ root.old.me.0.made) × (root.new.me.1 ≡ root.old.me.1) }
+    ensures ended { (p : Pass) → slice_get passes.old.items cpu ≡ Some (Some p) → (root.new.me.0.ended ≡ root.old.me.0.ended ++ (p.knows.own, p.knows.seen, p.knows.tries) ∷ []) × (result ≡ p.knows.own) }
+    ensures others { (j : ℕ) → j ≢ cpu → slice_get passes.new.items j ≡ slice_get passes.old.items j }
+    ensures count { vec_len passes.new ≡ vec_len passes.old }
+{
+    let pass = passes[cpu].take().unwrap();
+    let CpuPass { seat, own } = pass;
+    table.shared.join_seat::<Root>(root, seat);
+    own
+}
+
 /// All passes are joined, in the order of their CPUs.
 fn join_all<A: Allocator>(
     table: &SlotTable<A>,
@@ -259,12 +299,28 @@ fn join_all<A: Allocator>(
 {
     let count = passes.len();
     for cpu in 0..count {
-        let pass = passes[cpu].take().unwrap();
-        let CpuPass { seat, own } = pass;
-        table.shared.join_seat::<Root>(root, seat);
+        let own = join_one(table, root, &mut passes, cpu);
         push_in_room(&mut cpus, own);
     }
     cpus
+}
+
+/// The same where the CPUs' own states are dropped.
+fn join_each<A: Allocator>(
+    table: &SlotTable<A>,
+    root: &mut PartSeat<A>,
+    mut passes: Vec<Option<CpuPass<A>>>,
+)
+    requires table { (root.old.table_id ≡ table.now.shared.table_id) × (table.now.shared.table_id.words ≡ parts) }
+    requires root { (root.old.id ≡ 0) × (root.old.me.0.root ≡ true) × (root.old.me.0.ended ≡ []) × (root.old.me.0.made ≡ vec_len passes) × (root.old.me.1 ≡ []) }
+    requires home { AreHomeFrom root.old.table_id (vec_len passes) 0 passes.items }
+    ensures root { (root.new.table_id ≡ root.old.table_id) × (root.new.id ≡ 0) × (root.new.me.0.root ≡ true) × (root.new.me.0.made ≡ root.old.me.0.made) }
+    ensures ended { HaveEnded root.old.me.0.made passes.items root.new.me.0.ended (owns_of root.new.me.0.ended) }
+{
+    let count = passes.len();
+    for cpu in 0..count {
+        drop(join_one(table, root, &mut passes, cpu));
+    }
 }
 
 /// The part of each slot, in order.
@@ -283,6 +339,34 @@ fn collect<A: Allocator>(
         push_in_room(&mut found, part);
     }
     found
+}
+
+/// Drops the part of each slot.
+fn empty<A: Allocator>(closed: &mut Closed<Option<Slot<A>>, Global>)
+    requires { IsFull closed.old.slots × (slots_len closed.old.slots ≡ parts) }
+    ensures { (slots_len closed.new.slots ≡ parts) × emptied_to parts (slots_filled closed.new.slots) }
+{
+    for k in 0..66usize {
+        drop(closed.take(k));
+    }
+}
+
+/// Joins all passes, and drops all parts.
+fn drop_all<A: Allocator>(
+    table: SlotTable<A>,
+    mut root: PartSeat<A>,
+    passes: Vec<Option<CpuPass<A>>>,
+)
+    requires table { (root.table_id ≡ table.shared.table_id) × (table.shared.table_id.words ≡ parts) × (table.shared.table_id.slots ≡ parts) }
+    requires root { (root.id ≡ 0) × (root.me.0.root ≡ true) × (root.me.0.ended ≡ []) × (root.me.0.made ≡ vec_len passes) × (root.me.1 ≡ []) }
+    requires all { vec_len passes ≡ table.shared.key.config.cpus }
+    requires home { AreHomeFrom root.table_id (vec_len passes) 0 passes.items }
+    ensures { HasEnd A table.shared.key passes.items }
+{
+    join_each(&table, &mut root, passes);
+    let mut closed = table.close_with(root);
+    empty(&mut closed);
+    closed.free();
 }
 
 /// Joins all passes, and closes the table.

@@ -1,0 +1,26 @@
+use Rattle.std.proofs.Common.{sym, ap, subst, ◌∙◌}
+use Rattle.page_state.specs.declared.layout.Layout.{Layout as TheLayout}
+use Rattle.part_table.specs.Endings.{HasEnd}
+use Rattle.part_table.specs.Passes.{Opened}
+use Rattle.part_table.proofs.table.PartTable.drop_with.Goals as goal
+
+pub drop_all-requires-clause-home : goal.drop_all-requires-clause-home
+drop_all-requires-clause-home g c j from below =
+    let h = c.requires.home j from below in
+    (h.0, h.1, h.2 ∙ (ap (λ (o : Opened). o.table) (sym c.self.view_is) ∙ sym c.self.invariant.same), h.3)
+
+pub drop_all-requires-clause-table : goal.drop_all-requires-clause-table
+drop_all-requires-clause-table g c = let i = c.self.invariant in (i.same, i.words, i.slots)
+
+pub drop_all-requires-clause-root : goal.drop_all-requires-clause-root
+drop_all-requires-clause-root g c =
+    let i = c.self.invariant in
+    (i.first, i.rooted, i.none, i.made ∙ (ap (λ (o : Opened). o.layout.config.cpus) c.self.view_is ∙ sym c.requires.count), i.empty)
+
+pub drop_all-requires-clause-all : goal.drop_all-requires-clause-all
+drop_all-requires-clause-all g c =
+    let i = c.self.invariant in
+    c.requires.count ∙ (ap (λ (o : Opened). o.layout.config.cpus) (sym c.self.view_is) ∙ ap (λ (l : TheLayout). l.config.cpus) (sym i.key_is))
+
+pub returns : goal.returns
+returns g c = subst (λ (l : TheLayout). HasEnd g.row.A.Denot l c.args.passes.items) (c.self.invariant.key_is ∙ ap (λ (o : Opened). o.layout) c.self.view_is) c.drop_all.ensures
