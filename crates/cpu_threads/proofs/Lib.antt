@@ -12,3 +12,4 @@ pub mod InitCalls
 pub mod Full
 pub mod Recordable
 pub mod Judging
+pub mod Asked

@@ -2,7 +2,8 @@
 use Rattle.std.specs.Prelude.{◌≡◌, ◌≢◌, ℕ, ◌<◌, List, length, Option, Some, None, slice_get}
 use Rattle.page_state.specs.declared.layout.Layout.{Layout as TheLayout}
 use Rattle.guest_steps.specs.declared.parts.CpuState.{CpuState}
-use Rattle.part_table.specs.Endings.{KeepsOwn}
+use Rattle.part_table.specs.declared.slot.Slot.{Slot}
+use Rattle.part_table.specs.Endings.{IsEndOf, KeepsOwn, KeepsSeen, KeepsTried}
 use Rattle.part_table.specs.Passes.{IsPassOf, Opened, Pass}
 use Rattle.part_table.specs.Known.{own_at_boot}
 
@@ -48,6 +49,14 @@ IsAtHome passes c = (p : Pass) × (slice_get passes c ≡ Some (Some p))
 pub record KeepsStates (l : TheLayout) (passes : List (Option Pass)) (given : List Pass) (cpus : List CpuState) : Type 0 where
   pub ended : OfGiven given (KeepsOwn cpus)
   pub fresh : (c : ℕ) → IsAtHome passes c → slice_get cpus c ≡ Some (own_at_boot l c)
+
+-- a pass of each CPU is given
+abbrev pub AllGiven : TheLayout → List Pass → Type 0
+AllGiven l given = (c : ℕ) → c < l.config.cpus → IsGiven given c
+
+-- there is one legal history, at whose end parts and CPUs stand: it keeps each CPU's state, and what each given pass has seen and tried
+abbrev pub HasEndOf : Type 0 → TheLayout → List (Option Pass) → List Pass → Type 0
+HasEndOf A l passes given = (found : List (Slot A)) × (cpus : List CpuState) × IsEndOf l found cpus × KeepsStates l passes given cpus × OfGiven given (KeepsSeen found) × OfGiven given (KeepsTried l found)
 
 -- the pass is at its CPU's place
 abbrev pub IsBack : List (Option Pass) → Pass → Type 0

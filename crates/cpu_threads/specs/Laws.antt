@@ -1,8 +1,9 @@
 -- What follows from a machine's calls and its end: the laws of this crate.
-use Rattle.std.specs.Prelude.{◌≡◌, ◌⊎◌, ℕ, ◌<◌, true, length, map, All, List, [], ◌∷◌, ◌++◌, Option, Some, Ok, Err}
+use Rattle.std.specs.Prelude.{◌≡◌, ◌≢◌, ◌⊎◌, ℕ, ◌<◌, true, length, map, All, IfSome, List, [], ◌∷◌, ◌++◌, Option, Some, Ok, Err}
 use Rattle.page_state.specs.declared.layout.Layout.{Layout as TheLayout}
 use Rattle.step_reply.specs.declared.reply.Call.{Call}
 use Rattle.step_reply.specs.declared.reply.Refusal.{Refusal}
+use Rattle.step_reply.specs.declared.reply.Refusal.TheVariants.{NoMemory}
 use Rattle.step_reply.specs.declared.reply.Reply.{Reply}
 use Rattle.step_reply.specs.declared.reply.Reply.TheVariants.{Done, Refused}
 use Rattle.step_reply.specs.declared.reply.Value.{Value}
@@ -14,6 +15,8 @@ use Rattle.step_reply.specs.declared.step.VmKind.{VmKind}
 use Rattle.reference_model.specs.History.{IsStored, calls_by, calls_on}
 use Rattle.guest_steps.specs.declared.parts.CpuState.{CpuState}
 use Rattle.guest_steps.specs.Logs.{StoredCalls}
+use Rattle.ghost_spec.specs.States.{contents_in}
+use Rattle.ghost_judge.specs.Judgements.{IsAsTold, told_of}
 use Rattle.part_table.specs.declared.slot.Slot.{Slot}
 use Rattle.part_table.specs.Answered.{FindsAway, FindsLogFull, MeetsAnother, StoresCall, used_by}
 use Rattle.part_table.specs.Endings.{IsEndOf, KeepsSeen, KeepsTried}
@@ -23,6 +26,7 @@ use Rattle.part_table.specs.Known.{AreFronts, Known, StartsWith, seen_at}
 use Rattle.part_table.specs.Tried.{FoundAway, FoundFull, FoundRoom, Try}
 use Rattle.cpu_threads.specs.Ends.{HasAll, IsAtHome, KeepsStates, LacksOne, OfGiven}
 use Rattle.cpu_threads.specs.Inits.{InitsVm}
+use Rattle.cpu_threads.specs.Judged.{Asked, IsJudged}
 use Rattle.cpu_threads.specs.declared.init.InitStage.{InitStage}
 use Rattle.cpu_threads.specs.declared.init.InitStage.TheVariants.{Reserve, Fund as FundStage, Install as InstallStage, Open}
 
@@ -74,6 +78,19 @@ StopsAtAnother = (step : Step) (v w : Known) (f : FindsAway step v w) → StopAt
 -- a try of a step that finds a log full: the CPU's own, and no part is tried, or that of the part at which it stops
 abbrev pub StopsAtFullLog : Type 0
 StopsAtFullLog = (step : Step) (v w : Known) (f : FindsLogFull step v w) → ((v.own.log.room ≡ 0) × (f.tries ≡ [])) ⊎ StopAt FoundFull (used_by step v) f.tries
+
+-- a judge that keeps all that it is asked is asked of a stored call once, by its CPU, its step and its reply
+abbrev pub keeps : List Asked → Asked → List Asked → Type 0
+keeps from asked to = to ≡ from ++ asked ∷ []
+
+abbrev pub AskedOnce : Type 0 → Type 0
+AskedOnce A = (step : Step) (reply : Reply) (v w : Known) (from to : List Asked) → IsJudged A keeps step reply v w from to
+    → (asked : Asked) × (to ≡ from ++ asked ∷ []) × (asked.cpu ≡ v.cpu) × (asked.step ≡ step) × (asked.reply ≡ reply)
+
+-- what a judge is shown of a call that didn't want memory is the model's step: the reply and the state after it are those that the model says on the state before it
+abbrev pub ShowsModel : (A : Type 0) {J : Type 0} → (J → Asked → J → Type 0) → Type 0
+ShowsModel A {J = J} takes = (step : Step) (reply : Reply) (v w : Known) (from to : J) (h : IsJudged A takes step reply v w from to) → reply ≢ Refused NoMemory
+    → IfSome h.made.makes.told.asked.states (λ s. IsAsTold reply (contents_in s.1) (told_of s.0 v.cpu step))
 
 -- a CPU's list has these steps and replies more, in this order
 abbrev pub HasMore : List (Step × Reply) → Known → Known → Type 0

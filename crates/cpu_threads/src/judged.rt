@@ -14,7 +14,7 @@ use ghost_oracle::record::record;
 use ghost_spec::state::Ghost;
 use guest_steps::{CpuState, GuestPart, SharedPart, VmPart};
 use page_state::Layout;
-use part_table::{Maker, Slot};
+use part_table::{Gate, Maker, Slot, TryGate};
 use std::alloc::{AllocError, Allocator, Global};
 use step_reply::{Call, Reply, Step};
 use table_tree::Reads;
@@ -155,11 +155,12 @@ fn ask<J: Judge>(
     }
 }
 
-impl<J: Judge> Maker<J> for Recorder {
+impl<J: Judge, G: Gate> Maker<J, G> for Recorder {
     ghost tells = { λ l before own call after owned from to. AsksOnce J.takes l before own call after owned from to };
 
     fn idle<A: Allocator + Copy>(
         &self,
+        _gate: &TryGate<G>,
         layout: &Layout,
         cpu: &mut CpuState,
         step: Step,
@@ -174,6 +175,7 @@ impl<J: Judge> Maker<J> for Recorder {
 
     fn alone<A: Allocator + Copy>(
         &self,
+        _gate: &TryGate<G>,
         alloc: A,
         layout: &Layout,
         slot: Slot<A>,
@@ -201,6 +203,7 @@ impl<J: Judge> Maker<J> for Recorder {
 
     fn both<A: Allocator + Copy>(
         &self,
+        _gate: &TryGate<G>,
         alloc: A,
         layout: &Layout,
         shared: Slot<A>,

@@ -1,6 +1,7 @@
 //! The laws of a machine's calls and of its end. The functions do nothing, and their contracts are the laws.
-ghost use Rattle.cpu_threads.specs.Laws.{EndsInOne, FullLogsStay, InitAdds, MissingOne, SeenGrows, StopsAtAnother, StopsAtFullLog, TakesEach};
+ghost use Rattle.cpu_threads.specs.Laws.{AskedOnce, EndsInOne, FullLogsStay, InitAdds, MissingOne, SeenGrows, ShowsModel, StopsAtAnother, StopsAtFullLog, TakesEach};
 
+use crate::judged::Judge;
 use std::alloc::Allocator;
 
 /// Once a machine is shut down (`Machine::shutdown`: `end`, `own`, `seen`, `tried`), there is one legal history at whose end the
@@ -24,6 +25,13 @@ pub fn tries()
     ensures takes { TakesEach }
     ensures met { StopsAtAnother }
     ensures full { StopsAtFullLog }
+{}
+
+/// What a judge is asked (`Machine::try_call_judged`: `judged`): of a stored call once, and what it is shown is the model's
+/// step, unless the call wanted memory.
+pub fn judged<A: Allocator, J: Judge>()
+    ensures once { AskedOnce A }
+    ensures shows { ShowsModel A J.takes }
 {}
 
 /// What making a VM (`Machine::init_vm`) adds to the CPU's list: its four calls, or those up to the refused one.

@@ -4,7 +4,7 @@ ghost use Rattle.std.specs.Vec.{vec_capacity, vec_len};
 ghost use Rattle.part_table.specs.Endings.{ForEach, IsEndOf, KeepsOwn, KeepsSeen, KeepsTried};
 ghost use Rattle.part_table.specs.Passes.{AreHomeFrom};
 ghost use Rattle.part_table.specs.Slots.{slots_of};
-ghost use Rattle.cpu_threads.specs.Ends.{AreOf, HasAll, KeepsStates, LacksOne, OfGiven};
+ghost use Rattle.cpu_threads.specs.Ends.{AllGiven, AreOf, HasAll, HasEndOf, KeepsStates, LacksOne, OfGiven};
 ghost use Rattle.cpu_threads.specs.Rooms.{AreHistories};
 ghost use Rattle.cpu_threads.specs.declared.shutdown.ShutdownFault.TheVariants.{Missing, NoMemory};
 
@@ -83,8 +83,8 @@ fn ended<A: Allocator>(
 impl<A: Allocator> Machine<A> {
     /// The world after the one legal history of all calls, once each pass that was handed out is given. Each CPU has the
     /// state in which its pass ends, with the pass's calls, and each part's log begins with what each pass has seen there
-    /// (`laws::one_history`). A log that a try found full is then full (`laws::full_logs`). With it come copies of all logs, for which room is taken before the machine ends. On a
-    /// refusal the machine and the passes are returned.
+    /// (`laws::one_history`). A log that a try found full is then full (`laws::full_logs`). With it come copies of all logs,
+    /// for which room is taken before the machine ends. On a refusal the machine and the passes are returned.
     pub fn shutdown(
         self,
         global: Global,
@@ -116,5 +116,17 @@ impl<A: Allocator> Machine<A> {
         let world = ended(table, passes, rooms);
         let histories = copied(logs, world.parts());
         Ok((world, histories))
+    }
+
+    /// Ends a machine without its world, where a pass of each CPU is given: there is one legal history of all calls, as
+    /// at a shutdown. It takes no memory.
+    pub fn drop_with(self, given: Vec<CpuPass<A>>)
+        requires pass { AreOf self.table given.items }
+        requires all { AllGiven self.table.layout given.items }
+        ensures { HasEndOf A self.table.layout self.passes given.items }
+    {
+        let Machine { table, passes } = self;
+        let passes = all_back(&table, passes, given);
+        table.drop_with(passes);
     }
 }
