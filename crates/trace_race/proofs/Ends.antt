@@ -10,13 +10,11 @@ use Rattle.step_reply.specs.declared.step.Step.{Step}
 use Rattle.reference_model.specs.History.{IsStored}
 use Rattle.guest_steps.specs.declared.parts.CpuState.{CpuState}
 use Rattle.part_table.specs.declared.slot.Slot.{Slot}
-use Rattle.part_table.specs.Endings.{IsEndOf}
+use Rattle.part_table.specs.Endings.{IsEndOf, KeepsTried}
 use Rattle.part_table.specs.Passes.{Opened, Pass}
 use Rattle.part_table.specs.Known.{Known}
-use Rattle.cpu_threads.specs.Ends.{AreOf, KeepsStates}
+use Rattle.cpu_threads.specs.Ends.{AllGiven, AreOf, KeepsStates, OfGiven}
 use Rattle.cpu_threads.specs.Machines.{FullInTheEnd, StoresInTheEnd}
-use Rattle.part_table.specs.Endings.{KeepsTried}
-use Rattle.cpu_threads.specs.Ends.{OfGiven}
 use Rattle.trace_race.proofs.FullLogs.{made_in}
 use Rattle.trace_race.proofs.Kept.{kept_cases}
 use Rattle.cpu_threads.proofs.Full.{end_fronts}
@@ -25,11 +23,11 @@ use Rattle.trace_race.specs.declared.course.Asked.{Asked}
 use Rattle.trace_race.specs.Made.{AreDone, IsCpus, Makes, OneHistory, answers_of, first_known, is_stored}
 
 -- what is told of a call
-abbrev told : Call → Step × Reply
+abbrev pub told : Call → Step × Reply
 told c = (c.step, c.reply)
 
 -- a stored call is one more
-one_stored : (step : Step) (reply : Reply) (v w : Known) → StoresInTheEnd step reply v w → map told w.own.log.calls ≡ map told v.own.log.calls ++ (step, reply) ∷ []
+pub one_stored : (step : Step) (reply : Reply) (v w : Known) → StoresInTheEnd step reply v w → map told w.own.log.calls ≡ map told v.own.log.calls ++ (step, reply) ∷ []
 one_stored step reply v w s =
     let calls : w.own.log.calls ≡ v.own.log.calls ++ s.stores.call ∷ [] = ap (λ l. l.calls) s.stores.added.own ∙ ap (λ (k : CpuState). k.log.calls ++ s.stores.call ∷ []) s.met.same.own in
     let one : told s.stores.call ≡ (step, reply) = ap (λ x. (x, s.stores.call.reply)) s.stores.called.asked ∙ ap (λ x. (step, x)) s.stores.reply_is in
@@ -62,6 +60,12 @@ made_calls v w (a ∷ more) made =
 pub are_of : (t : Opened) (steps : List Asked) (replies : List Reply) (passes : List Pass) → AreDone t steps replies passes → AreOf t passes
 are_of t steps replies passes done j p there = (done.each j p there).of
 
+-- each CPU's pass is given
+pub all_of : (t : Opened) (steps : List Asked) (replies : List Reply) (passes : List Pass) → AreDone t steps replies passes → AllGiven t.layout passes
+all_of t steps replies passes done cpu less =
+    let there = at_place passes cpu (let n = done.count in omega (arith, n, less)) in
+    record { place = cpu; pass = there.0; there = there.1; cpu = (done.each cpu there.0 there.1).cpu_is }
+
 -- the one history
 pub one_history : {A : Type 0} (t : Opened) (steps : List Asked) (replies : List Reply) (out : List (Option Pass)) (passes : List Pass) (found : List (Slot A)) (cpus : List CpuState)
     → AreDone t steps replies passes → IsEndOf t.layout found cpus → KeepsStates t.layout out passes cpus → OfGiven passes (KeepsTried t.layout found) → OneHistory (layout_of t.layout) steps replies
@@ -71,7 +75,6 @@ one_history t steps replies out passes parts cpus done end own tried = record {
   log = end.log;
   end = end.state;
   run = end.run;
-  stored = end.stored;
   each = λ cpu less. each cpu (at_place passes cpu (let n = done.count in omega (arith, n, less)));
 }
   where

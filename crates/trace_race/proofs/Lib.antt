@@ -4,6 +4,7 @@ pub mod Ends
 pub mod FullLogs
 pub mod Gathering
 pub mod Generations
+pub mod Hearing
 pub mod Judging
 pub mod Kept
 pub mod Lines
@@ -11,3 +12,6 @@ pub mod Made
 pub mod Readings
 pub mod Reports
 pub mod Threads
+pub mod NotFull
+pub mod FullAfter
+pub mod OneCpu

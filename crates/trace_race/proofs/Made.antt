@@ -21,7 +21,7 @@ cases false = inr refl
 pub behind : {X : Type 0} (xs : List X) (x : X) (more : List X) → (xs ++ x ∷ []) ++ more ≡ xs ++ x ∷ more
 behind xs x more = rw append_assoc refl
 
-same-number : (n : ℕ) → (n == n) ≡ true
+pub same-number : (n : ℕ) → (n == n) ≡ true
 same-number n = grind (arith)
 
 pub length-more : {X : Type 0} (xs : List X) (x : X) → length (xs ++ x ∷ []) ≡ length xs + 1
@@ -86,10 +86,10 @@ own_all cpu steps i v u replies past so = whole (subst (λ left. MakesOwn cpu st
 -- ---- the steps of all CPUs, in order
 
 -- an answer to the next step
-own_answer : (cpu : ℕ) (a : Asked) (left : List Asked) (reply : Reply) (more : List Reply) → (a.cpu == cpu) ≡ true → answers_of cpu (a ∷ left) (reply ∷ more) ≡ (a.step, reply) ∷ answers_of cpu left more
+pub own_answer : (cpu : ℕ) (a : Asked) (left : List Asked) (reply : Reply) (more : List Reply) → (a.cpu == cpu) ≡ true → answers_of cpu (a ∷ left) (reply ∷ more) ≡ (a.step, reply) ∷ answers_of cpu left more
 own_answer cpu a left reply more own = rw own refl
 
-others_answer : (cpu : ℕ) (a : Asked) (left : List Asked) (reply : Reply) (more : List Reply) → (a.cpu == cpu) ≡ false → answers_of cpu (a ∷ left) (reply ∷ more) ≡ answers_of cpu left more
+pub others_answer : (cpu : ℕ) (a : Asked) (left : List Asked) (reply : Reply) (more : List Reply) → (a.cpu == cpu) ≡ false → answers_of cpu (a ∷ left) (reply ∷ more) ≡ answers_of cpu left more
 others_answer cpu a left reply more other = rw other refl
 
 pub apart-numbers : (m n : ℕ) → (m == n) ≡ false → n ≢ m

@@ -37,13 +37,8 @@ use Rattle.trace_race.specs.declared.reading.Read.{Read}
 use Rattle.trace_race.specs.declared.reading.Read.TheVariants as reads
 use Rattle.trace_race.specs.Readings.{asked_in}
 use Rattle.trace_race.specs.Made.{OneHistory}
-use Rattle.trace_race.specs.Raced.{HasForm, HasOneHistory, IsIdle, IsNoRun, IsRaceBegun, IsRaceOf, IsRaced, IsRead, IsRun, found_lines, lines_behind, lines_of_run, step_lines}
+use Rattle.trace_race.specs.Raced.{HasOneHistory, IsBegunOf, IsIdle, IsNoRun, IsRaceBegun, IsRaceOf, IsRaced, IsRead, IsRun, found_lines, lines_behind, lines_of_run, step_lines}
 use Rattle.trace_race.specs.Told.{BeginsStop, RunBegins, RunEnds, StepsEnd, TellsBegun, TellsRace, TellsStop}
-
--- any replies, so many
-some_replies : (n : ℕ) → (replies : List Reply) × (length replies ≡ n)
-some_replies zero = ([], refl)
-some_replies (suc n) = let more = some_replies n in (Refused LogFull ∷ more.0, ap suc more.1)
 
 -- ---- an answer of a replay's kind
 
@@ -89,22 +84,18 @@ pub run_ends : (m : Machine) (steps : List Asked) (replies : List Reply) (line :
 run_ends m steps replies line old mid new outcome is count first rest =
     (rest.0, replies, count, rest.1, appends_lines old mid new (report.Response (boot_told m) ∷ []) (lines_behind steps replies) (subst (λ l. Appends old mid (text_of_report (report.Response l ∷ []))) is first) rest.2)
 
-pub run_begins : (m : Machine) (steps : List Asked) (replies : List Reply) (line : Response) (old mid new : Option (List ℕ)) → line ≡ boot_told m → length replies ≡ length steps
+pub run_begins : (m : Machine) (steps : List Asked) (replies : List Reply) (line : Response) (old mid new : Option (List ℕ)) → line ≡ boot_told m → length replies ≡ length steps → OneHistory m.layout steps replies
     → Appends old mid (text_of_report (report.Response line ∷ [])) → WritesFront (lines_behind steps replies) mid new → RunBegins m steps old new
-run_begins m steps replies line old mid new is count first rest =
-    (replies, count, front_behind old mid new (report.Response (boot_told m) ∷ []) (lines_behind steps replies) (subst (λ l. Appends old mid (text_of_report (report.Response l ∷ []))) is first) rest)
+run_begins m steps replies line old mid new is count one first rest =
+    inr (replies, count, one, front_behind old mid new (report.Response (boot_told m) ∷ []) (lines_behind steps replies) (subst (λ l. Appends old mid (text_of_report (report.Response l ∷ []))) is first) rest)
 
 -- the boot line alone
 pub run_halts : (m : Machine) (steps : List Asked) (line : Response) (old mid : Option (List ℕ)) → line ≡ boot_told m → Appends old mid (text_of_report (report.Response line ∷ [])) → RunBegins m steps old mid
-run_halts m steps line old mid is first =
-    let some = some_replies (length steps) in
-    run_begins m steps some.0 line old mid mid is some.1 first (0, appends_none mid)
+run_halts m steps line old mid is first = inl (front_behind old mid mid (report.Response (boot_told m) ∷ []) [] (subst (λ l. Appends old mid (text_of_report (report.Response l ∷ []))) is first) (0, appends_none mid))
 
 -- a front of it
 pub run_fails : (m : Machine) (steps : List Asked) (line : Response) (old new : Option (List ℕ)) → line ≡ boot_told m → WritesFront (report.Response line ∷ []) old new → RunBegins m steps old new
-run_fails m steps line old new is front =
-    let some = some_replies (length steps) in
-    (some.0, some.1, front_first old new (report.Response (boot_told m) ∷ []) (lines_behind steps some.0) (subst (λ l. WritesFront (report.Response l ∷ []) old new) is front))
+run_fails m steps line old new is front = inl (subst (λ l. WritesFront (report.Response l ∷ []) old new) is front)
 
 -- ---- what a whole trace asks for
 
@@ -124,11 +115,15 @@ race_ends a number carve m old new outcome boot there booted ends = (
 
 pub race_begins : (a : Asking) (number : ℕ) (carve : PageRange) (m : Machine) (old new : Option (List ℕ)) → a.boot ≡ Some number → a.told.carve ≡ Some carve → IsBootOf (memory_of a.told.regions carve) (config_of a.told) m
     → RunBegins m a.steps old new → TellsBegun (Ok a) old new
-race_begins a number carve m old new boot there booted begins = inr (
+race_begins a number carve m old new boot there booted (inl front) = inr (
+  report.Response (boot_told m) ∷ [],
+  inr record { number = number; carve = carve; boot = boot; carve_is = there; machine = m; booted = booted; lines_are = refl },
+  front,
+)
+race_begins a number carve m old new boot there booted (inr begins) = inr (
   lines_of_run m a.steps begins.0,
-  outcomes.Clean,
-  race_of HasForm a number carve _ outcomes.Clean boot there (inr record { machine = m; booted = booted; replies = begins.0; count = begins.1; ran = tt; lines_are = refl; outcome_is = refl }),
-  begins.2,
+  inl (outcomes.Clean, race_of HasOneHistory a number carve _ outcomes.Clean boot there (inr record { machine = m; booted = booted; replies = begins.0; count = begins.1; ran = begins.2; lines_are = refl; outcome_is = refl })),
+  begins.3,
 )
 
 -- no machine
@@ -145,8 +140,7 @@ pub boot_fault_begins : (a : Asking) (number : ℕ) (carve : PageRange) (stop : 
     → BeginsStop number stop old new → TellsBegun (Ok a) old new
 boot_fault_begins a number carve (stops.Fault fault) old new boot there refused front = inr (
   report.Fault number fault ∷ [],
-  outcomes.Fault,
-  race_of HasForm a number carve _ outcomes.Fault boot there (inl record { fault = fault; refused = refused; lines_are = refl; outcome_is = refl }),
+  inl (outcomes.Fault, race_of HasOneHistory a number carve _ outcomes.Fault boot there (inl record { fault = fault; refused = refused; lines_are = refl; outcome_is = refl })),
   front,
 )
 boot_fault_begins a number carve stops.NoMemory old new boot there refused none = inl none
@@ -156,7 +150,7 @@ pub fault_ends : (r : Read) (line : ℕ) (fault : Fault) (old new : Option (List
 fault_ends r line fault old new outcome is told = subst (λ (x : Read). TellsRace (asked_in x) old new outcome) (sym is) (report.Fault line fault ∷ [], (refl, told.0), told.1)
 
 pub fault_begins : (r : Read) (line : ℕ) (fault : Fault) (old new : Option (List ℕ)) → r ≡ reads.Fault line fault → WritesFront (report.Fault line fault ∷ []) old new → TellsBegun (asked_in r) old new
-fault_begins r line fault old new is front = subst (λ (x : Read). TellsBegun (asked_in x) old new) (sym is) (inr (report.Fault line fault ∷ [], outcomes.Fault, (refl, refl), front))
+fault_begins r line fault old new is front = subst (λ (x : Read). TellsBegun (asked_in x) old new) (sym is) (inr (report.Fault line fault ∷ [], refl, front))
 
 -- no boot
 idle_of : (Ran : Machine → List Asked → List Reply → Type 0) (a : Asking) (lines : List ReportLine) (outcome : Outcome) → (a.boot ≡ None) ⊎ (a.told.carve ≡ None) → IsIdle lines outcome → IsRaceOf Ran a lines outcome
@@ -171,7 +165,7 @@ pub idle_ends : (a : Asking) (old new : Option (List ℕ)) (outcome : Outcome) �
 idle_ends a old new outcome none told = (report.End 0 0 ∷ [], idle_of HasOneHistory a _ outcome none (refl, told.0), told.1)
 
 pub idle_begins : (a : Asking) (old new : Option (List ℕ)) → (a.boot ≡ None) ⊎ (a.told.carve ≡ None) → WritesFront (report.End 0 0 ∷ []) old new → TellsBegun (Ok a) old new
-idle_begins a old new none front = inr (report.End 0 0 ∷ [], outcomes.Clean, idle_of HasForm a _ outcomes.Clean none (refl, refl), front)
+idle_begins a old new none front = inr (report.End 0 0 ∷ [], inl (outcomes.Clean, idle_of HasOneHistory a _ outcomes.Clean none (refl, refl)), front)
 
 -- ---- what reading comes to
 
@@ -184,11 +178,11 @@ raced bytes old new asked outcome read told = record { lines = told.0; written =
 
 pub begun : (bytes old new : Option (List ℕ)) (asked : Result Asking (ℕ × Fault)) → IfSome bytes (λ all. course_of 1 nothing_asked (lines_of all) ≡ asked) → TellsBegun asked old new → IsRaceBegun bytes old new
 begun bytes old new asked read (inl none) = inl (subst (λ o. Appends old o []) (sym none) (appends_none old))
-begun bytes old new asked read (inr told) = inr record { lines = told.0; outcome = told.1; written = told.3; report = by_bytes bytes read }
+begun bytes old new asked read (inr told) = inr record { lines = told.0; written = told.2; report = by_bytes bytes read }
   where
-    by_bytes : (bytes : Option (List ℕ)) → IfSome bytes (λ all. course_of 1 nothing_asked (lines_of all) ≡ asked) → IfSome bytes (λ all. IsRead HasForm (course_of 1 nothing_asked (lines_of all)) told.0 told.1)
+    by_bytes : (bytes : Option (List ℕ)) → IfSome bytes (λ all. course_of 1 nothing_asked (lines_of all) ≡ asked) → IfSome bytes (λ all. IsBegunOf (course_of 1 nothing_asked (lines_of all)) told.0)
     by_bytes None read = tt
-    by_bytes (Some all) read = subst (λ r. IsRead HasForm r told.0 told.1) (sym read) told.2
+    by_bytes (Some all) read = subst (λ r. IsBegunOf r told.0) (sym read) told.1
 
 pub nothing_begun : (bytes old : Option (List ℕ)) → IsRaceBegun bytes old old
 nothing_begun bytes old = inl (appends_none old)
@@ -200,4 +194,4 @@ raced_on bytes old mid new outcome raced keeps = record { lines = raced.lines; w
 
 pub begun_on : (bytes old mid new : Option (List ℕ)) → IsRaceBegun bytes old mid → Keeps mid new → IsRaceBegun bytes old new
 begun_on bytes old mid new (inl none) keeps = inl (appends_keeps old mid new [] none keeps)
-begun_on bytes old mid new (inr front) keeps = inr record { lines = front.lines; outcome = front.outcome; written = (front.written.0, appends_keeps old mid new _ front.written.1 keeps); report = front.report }
+begun_on bytes old mid new (inr front) keeps = inr record { lines = front.lines; written = (front.written.0, appends_keeps old mid new _ front.written.1 keeps); report = front.report }

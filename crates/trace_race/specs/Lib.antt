@@ -2,6 +2,7 @@ pub mod Booted
 pub mod Courses
 pub mod Failures
 pub mod Judged
+pub mod Laws
 pub mod Made
 pub mod Raced
 pub mod Readings

@@ -1,5 +1,5 @@
 -- The report of a race (profile).
-use Rattle.std.specs.Prelude.{◌≡◌, ◌⊎◌, ℕ, List, [], ◌∷◌, ◌+◌, ◌++◌, length, map, Option, Result, Ok, Err, IfSome, MatchOption, ⊤}
+use Rattle.std.specs.Prelude.{◌≡◌, ◌⊎◌, ℕ, List, [], ◌∷◌, ◌+◌, ◌++◌, length, map, Option, Some, Result, Ok, Err, IfSome, MatchOption}
 use Rattle.std.specs.Io.KnownBytes.{Appends}
 use Rattle.page_state.specs.declared.entry.PageRange.{PageRange}
 use Rattle.page_state.specs.Regions.{memory_of}
@@ -83,9 +83,20 @@ module _ (Ran : Machine → List Asked → List Reply → Type 0) where
 abbrev pub HasOneHistory : Machine → List Asked → List Reply → Type 0
 HasOneHistory m steps replies = OneHistory m.layout steps replies
 
--- the lines alone are those of a race
-abbrev pub HasForm : Machine → List Asked → List Reply → Type 0
-HasForm m steps replies = ⊤
+-- the boot line alone, of the machine that the trace boots
+pub record IsBootLine (a : Asking) (lines : List ReportLine) : Type 0 where
+  pub number : ℕ
+  pub carve : PageRange
+  pub boot : a.boot ≡ Some number
+  pub carve_is : a.told.carve ≡ Some carve
+  pub machine : Machine
+  pub booted : IsBootOf (memory_of a.told.regions carve) (config_of a.told) machine
+  pub lines_are : lines ≡ report.Response (boot_told machine) ∷ []
+
+-- what a race that stops early has begun: its whole report, or the boot line alone, where not all steps were made
+abbrev pub IsBegunOf : Result Asking (ℕ × Fault) → List ReportLine → Type 0
+IsBegunOf (Err told) lines = lines ≡ report.Fault told.0 told.1 ∷ []
+IsBegunOf (Ok a) lines = ((outcome : Outcome) × IsRaceOf HasOneHistory a lines outcome) ⊎ IsBootLine a lines
 
 -- what was written is the report of a race of the trace of these bytes, where they are known
 pub record IsRaced (bytes old new : Option (List ℕ)) (outcome : Outcome) : Type 0 where
@@ -93,12 +104,11 @@ pub record IsRaced (bytes old new : Option (List ℕ)) (outcome : Outcome) : Typ
   pub written : Appends old new (text_of_report lines)
   pub report : IfSome bytes (λ all. IsRaceReport HasOneHistory (lines_of all) lines outcome)
 
--- a front of what has the form of its report
+-- a front of it was written
 pub record IsFront (bytes old new : Option (List ℕ)) : Type 0 where
   pub lines : List ReportLine
-  pub outcome : Outcome
   pub written : WritesFront lines old new
-  pub report : IfSome bytes (λ all. IsRaceReport HasForm (lines_of all) lines outcome)
+  pub report : IfSome bytes (λ all. IsBegunOf (course_of 1 nothing_asked (lines_of all)) lines)
 
 -- nothing was written, or a front
 abbrev pub IsRaceBegun : Option (List ℕ) → Option (List ℕ) → Option (List ℕ) → Type 0

@@ -15,12 +15,12 @@ use Rattle.trace_text.specs.declared.session.Stop.TheVariants as stops
 use Rattle.trace_text.specs.Played.{WritesFront}
 use Rattle.trace_text.specs.Texts.{text_of_report}
 use Rattle.trace_text.specs.Worlds.{Machine}
-use Rattle.trace_race.specs.Booted.{IsBootedOf}
+use Rattle.trace_race.specs.Booted.{IsBootedOf, boot_told}
 use Rattle.trace_race.specs.declared.booting.Booted.{Booted}
 use Rattle.trace_race.specs.declared.course.Asked.{Asked}
 use Rattle.trace_race.specs.Courses.{Asking}
 use Rattle.trace_race.specs.Made.{OneHistory}
-use Rattle.trace_race.specs.Raced.{HasForm, HasOneHistory, IsRead, lines_behind, lines_of_run}
+use Rattle.trace_race.specs.Raced.{HasOneHistory, IsBegunOf, IsRead, lines_behind, lines_of_run}
 
 -- a machine was booted with the configuration that was asked for
 abbrev pub IsBootedRun : Asking → Booted → Type 0
@@ -35,17 +35,19 @@ abbrev pub RunEnds : Machine → List Asked → Option (List ℕ) → Option (Li
 RunEnds m steps old new outcome =
     (outcome ≡ outcomes.Clean) × (replies : List Reply) × (length replies ≡ length steps) × OneHistory m.layout steps replies × Appends old new (text_of_report (lines_of_run m steps replies))
 
--- and a front of what has its form
+-- and a front of it, or of the boot line alone
 abbrev pub RunBegins : Machine → List Asked → Option (List ℕ) → Option (List ℕ) → Type 0
-RunBegins m steps old new = (replies : List Reply) × (length replies ≡ length steps) × WritesFront (lines_of_run m steps replies) old new
+RunBegins m steps old new =
+    WritesFront (report.Response (boot_told m) ∷ []) old new
+    ⊎ ((replies : List Reply) × (length replies ≡ length steps) × OneHistory m.layout steps replies × WritesFront (lines_of_run m steps replies) old new)
 
 -- the whole report of what reading a trace came to
 abbrev pub TellsRace : Result Asking (ℕ × Fault) → Option (List ℕ) → Option (List ℕ) → Outcome → Type 0
 TellsRace asked old new outcome = (lines : List ReportLine) × IsRead HasOneHistory asked lines outcome × Appends old new (text_of_report lines)
 
--- and a front of what has its form, or nothing
+-- and a front of what was begun, or nothing
 abbrev pub TellsBegun : Result Asking (ℕ × Fault) → Option (List ℕ) → Option (List ℕ) → Type 0
-TellsBegun asked old new = (new ≡ old) ⊎ ((lines : List ReportLine) × (outcome : Outcome) × IsRead HasForm asked lines outcome × WritesFront lines old new)
+TellsBegun asked old new = (new ≡ old) ⊎ ((lines : List ReportLine) × IsBegunOf asked lines × WritesFront lines old new)
 
 -- the line of a boot's fault
 abbrev pub TellsStop : ℕ → Stop → Option (List ℕ) → Option (List ℕ) → Outcome → Type 0

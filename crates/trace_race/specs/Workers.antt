@@ -1,6 +1,7 @@
 -- Workers, each with the pass of a CPU.
-use Rattle.std.specs.Prelude.{◌≡◌, ◌≤◌, List, [], ◌∷◌, length, map, All}
+use Rattle.std.specs.Prelude.{◌≡◌, ℕ, ◌<◌, ◌≤◌, List, [], ◌∷◌, length, map, All}
 use Rattle.std.specs.Vec.{vec_capacity}
+use Rattle.part_table.specs.Known.{Known}
 use Rattle.part_table.specs.Passes.{IsPassOf, Opened, Pass}
 use Rattle.trace_race.specs.Made.{IsDoneOf, steps_of}
 use Rattle.trace_race.specs.declared.course.Asked.{Asked}
@@ -10,6 +11,10 @@ use Rattle.trace_race.specs.declared.workers.Worker.{Worker}
 -- passes of this table
 abbrev pub AreOfTable : Opened → List Pass → Type 0
 AreOfTable t passes = All (IsPassOf t) passes
+
+-- a gate has heard of each call, by its number, that a pass's list has more than it had
+abbrev pub HearsEach : (ℕ → Type 0) → Known → Known → Type 0
+HearsEach Heard v w = (number : ℕ) → length v.own.log.calls < number → number ≤ length w.own.log.calls → Heard number
 
 module _ (t : Opened) (steps : List Asked) where
   -- a worker that has made none of its steps, with a pass of the table, and room for its replies

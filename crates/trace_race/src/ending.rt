@@ -28,6 +28,21 @@ pub(crate) struct Compared {
     pub audited: Option<Disagreement>,
 }
 
+/// Ends a machine whose CPUs are done, without its world. There is one legal history of all steps.
+pub(crate) fn dropped(
+    machine: Machine<Global>,
+    passes: Vec<CpuPass<Global>>,
+    steps: &[Asked],
+    replies: &[Reply],
+)
+    requires { AreDone machine.table steps.now replies.now passes.items }
+    ensures { OneHistory (layout_of machine.table.layout) steps.now replies.now }
+{
+    let _ = steps;
+    let _ = replies;
+    machine.drop_with(passes);
+}
+
 /// The world of a machine whose CPUs are done, and its logs. There is one legal history of all steps.
 fn ended(
     global: Global,
@@ -39,14 +54,15 @@ fn ended(
     requires { AreDone machine.table steps.now replies.now passes.items }
     ensures layout { IfOk result (λ r. r.0.parts.layout ≡ machine.table.layout) }
     ensures logs { IfOk result (λ r. AreLogsOf r.1 (parts_layout r.0.parts) (kept_of r.0.parts)) }
-    ensures history { IfOk result (λ r. OneHistory (layout_of machine.table.layout) steps.now replies.now) }
+    ensures history { OneHistory (layout_of machine.table.layout) steps.now replies.now }
 {
-    let _ = steps;
-    let _ = replies;
-    let Ok((world, logs)) = machine.shutdown(global, passes) else {
-        return Err(AllocError);
-    };
-    Ok((world, logs))
+    match machine.shutdown(global, passes) {
+        Ok((world, logs)) => Ok((world, logs)),
+        Err((machine, passes, _)) => {
+            dropped(machine, passes, steps, replies);
+            Err(AllocError)
+        }
+    }
 }
 
 /// Where the replies of logs aren't the model's, from a state on along their merged list.
@@ -98,7 +114,7 @@ pub(crate) fn compared_at_end(
     requires layout { layout_of machine.table.layout ≡ layout_of state.layout }
     requires boot { ghost_state state ≡ boot (layout_of state.layout) }
     ensures agree { IfOk result (λ c. (c.judged.items ≡ []) × (c.audited ≡ None)) }
-    ensures history { IfOk result (λ c. OneHistory (layout_of state.layout) steps.now replies.now) }
+    ensures history { OneHistory (layout_of state.layout) steps.now replies.now }
 {
     let Ok((world, logs)) = ended(global, machine, passes, steps, replies) else {
         drop(state);

@@ -7,6 +7,7 @@ mod course;
 mod ending;
 mod fault;
 mod judged;
+pub mod laws;
 mod making;
 mod racing;
 mod reading;

@@ -7,7 +7,7 @@ ghost use Rattle.ghost_spec.specs.States.{ghost_state};
 ghost use Rattle.trace_race.specs.Booted.{machine_in};
 ghost use Rattle.trace_race.specs.Courses.{IsSound, course_in};
 ghost use Rattle.trace_race.specs.Failures.{RaceReads, RaceTells, RaceWrites};
-ghost use Rattle.trace_race.specs.Made.{IsMadeOf};
+ghost use Rattle.trace_race.specs.Made.{IsMadeOf, OneHistory};
 ghost use Rattle.trace_race.specs.Raced.{IsRaceBegun, IsRaced, lines_behind};
 ghost use Rattle.trace_race.specs.Readings.{IsSoundRead, asked_in};
 ghost use Rattle.trace_race.specs.Told.{BeginsStop, IsBootedRun, RunBegins, RunEnds, StepsEnd, TellsBegun, TellsRace, TellsStop};
@@ -17,7 +17,7 @@ ghost use Rattle.trace_text.specs.Texts.{text_of_report};
 
 use crate::booting::{Booted, boot_machine};
 use crate::course::{Asked, Course};
-use crate::ending::{Compared, compared_at_end};
+use crate::ending::{Compared, compared_at_end, dropped};
 use crate::fault::RaceFault;
 use crate::making::{Made, make};
 use crate::reading::{Read, read_all};
@@ -185,6 +185,7 @@ fn tell_made<K: Sink>(
     requires boot { ghost_state state ≡ boot (layout_of state.layout) }
     ensures report { IfOk result (λ outcome. StepsEnd (layout_of state.layout) steps.now made.replies.items (K.contents sink.old) (K.contents sink.new) outcome) }
     ensures begun { OnErr result (WritesFront (lines_behind steps.now made.replies.items) (K.contents sink.old) (K.contents sink.new)) }
+    ensures history { OneHistory (layout_of state.layout) steps.now made.replies.items }
     ensures counted { TellsWrite (K.failures sink.old) (K.failures sink.new) result }
 {
     let Made {
@@ -194,7 +195,7 @@ fn tell_made<K: Sink>(
     } = made;
     if let Err(fault) = tell_steps(sink, text, steps, replies.as_slice()) {
         drop(state);
-        drop(machine);
+        dropped(machine, passes, steps, replies.as_slice());
         return Err(fault);
     }
     let Ok(found) = compared_at_end(global, machine, passes, steps, replies.as_slice(), state)

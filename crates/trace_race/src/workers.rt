@@ -4,7 +4,7 @@ ghost use Rattle.std.specs.Thread.{IsSync};
 ghost use Rattle.std.specs.Vec.{vec_capacity};
 ghost use Rattle.part_table.specs.Passes.{IsPassOf};
 ghost use Rattle.trace_race.specs.Made.{Calls, IsDoneOf, Makes, paired, steps_of};
-ghost use Rattle.trace_race.specs.Workers.{AllFinish, IsReady};
+ghost use Rattle.trace_race.specs.Workers.{AllFinish, HearsEach, IsReady};
 
 use crate::course::Asked;
 use cpu_threads::{CpuPass, Gate, Machine};
@@ -87,6 +87,7 @@ pub(crate) fn call<R: Wait, G: Gate>(
     ensures of { IsPassOf machine.now.table pass.new }
     ensures cpu { pass.new.knows.cpu ≡ pass.old.knows.cpu }
     ensures calls { Calls step result pass.old.knows pass.new.knows }
+    ensures heard { HearsEach (G.heard_taken gate.now pass.old.knows.cpu) pass.old.knows pass.new.knows }
 {
     machine.call_gated(rt, gate, pass, step)
 }
@@ -107,6 +108,7 @@ fn make_all<R: Wait, G: Gate>(
     ensures cpu { pass.new.knows.cpu ≡ pass.old.knows.cpu }
     ensures count { length replies.new.items ≡ length (steps_of pass.old.knows.cpu steps.now) }
     ensures makes { Makes pass.old.knows (paired (steps_of pass.old.knows.cpu steps.now) replies.new.items) pass.new.knows }
+    ensures heard { HearsEach (G.heard_taken gate.now pass.old.knows.cpu) pass.old.knows pass.new.knows }
 {
     let cpu = pass.cpu();
     for i in 0..steps.len() {
@@ -128,7 +130,8 @@ fn work<R: Wait, G: Gate>(
     worker: Worker,
 ) -> Done
     requires { IsReady machine.now.table steps.now worker }
-    ensures { IsDoneOf machine.now.table steps.now worker.pass result }
+    ensures done { IsDoneOf machine.now.table steps.now worker.pass result }
+    ensures heard { HearsEach (G.heard_taken gate.now worker.pass.knows.cpu) worker.pass.knows result.pass.knows }
 {
     let Worker {
         mut pass,

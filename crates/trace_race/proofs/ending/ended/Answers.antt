@@ -1,9 +1,13 @@
+use Rattle.std.proofs.Common.{subst, sym, ap}
+use Rattle.cpu_threads.specs.Machines.{Machine}
+use Rattle.trace_race.specs.Made.{AreDone}
+use Rattle.page_state.specs.LayoutView.{layout_of}
 use Rattle.trace_race.proofs.Ends.{are_of, one_history}
 use Rattle.trace_race.proofs.ending.ended.Goals as goal
 
 pub shutdown-requires : goal.shutdown-requires
 shutdown-requires c = record { pass = are_of c.args.machine.table c.args.steps.now c.args.replies.now c.args.passes.items c.requires }
 
-pub returns-clause-history : goal.returns-clause-history
-returns-clause-history c =
+pub returns-in-Ok-clause-history : goal.returns-in-Ok-clause-history
+returns-in-Ok-clause-history c =
     one_history c.args.machine.table c.args.steps.now c.args.replies.now c.args.machine.passes c.args.passes.items _ _ c.requires c.in-Ok.ensures.end c.in-Ok.ensures.own c.in-Ok.ensures.tried

@@ -2,6 +2,8 @@ use Rattle.std.proofs.Common.{arith, rules, ◌≡◌, ◌∙◌, ◌++◌, ◌�
 use Rattle.std.specs.Prelude.{is_ok, if◌then◌else◌}
 use Rattle.std.specs.Vec.{vec_capacity}
 use Rattle.trace_race.specs.Made.{Makes, paired, steps_of}
+use Rattle.trace_race.specs.Workers.{HearsEach}
+use Rattle.trace_race.proofs.Hearing.{hears_none, hears_on}
 use Rattle.trace_race.proofs.Made.{own_all, own_first, own_made}
 use Rattle.trace_race.proofs.workers.make_all.Goals as goal
 
@@ -11,6 +13,7 @@ loop-i-init g c = record {
   own = c.cpu-cpu.ensures.number;
   same = refl;
   room = subst (λ k. length (steps_of k c.args.steps.now) ≤ vec_capacity c.args.replies.now) (sym c.cpu-cpu.ensures.number) c.requires.room;
+  heard = hears_none (g.G.Gate.heard_taken c.args.gate.now c.args.pass.now.knows.cpu) c.args.pass.now.knows c.args.pass.now.knows refl;
   makes = own_first c.cpu-cpu.result c.args.steps.now c.args.pass.now.knows c.args.replies.now.items c.requires.none;
 }
 
@@ -23,6 +26,8 @@ loop-i-preserved g c =
       own = i.own;
       same = c.call-reply.ensures.cpu ∙ i.same;
       room = search rules;
+      heard = hears_on (g.G.Gate.heard_taken c.args.gate.now c.args.pass.now.knows.cpu) c.args.pass.now.knows c.loop-i.pass.knows c.call-reply.new.pass.knows i.heard
+          (subst (λ n. HearsEach (g.G.Gate.heard_taken c.args.gate.now n) c.loop-i.pass.knows c.call-reply.new.pass.knows) i.same c.call-reply.ensures.heard);
       makes = own_made c.cpu-cpu.result c.args.steps.now c.loop-i.i _ c.args.pass.now.knows c.loop-i.pass.knows c.call-reply.new.pass.knows c.loop-i.replies.items c.push.new.self.items c.call-reply.result c.loop-i-test.true c.if-asked-cpu.false items c.call-reply.ensures.calls i.makes;
     }
 
@@ -37,3 +42,6 @@ returns-clause-count g c =
     let i = c.loop-i.invariant in
     let all = own_all c.cpu-cpu.result c.args.steps.now c.loop-i.i c.args.pass.now.knows c.loop-i.pass.knows c.loop-i.replies.items (omega (arith, c.loop-i-test.false)) i.makes in
     subst (λ k. length c.loop-i.replies.items ≡ length (steps_of k c.args.steps.now)) i.own all.0
+
+pub returns-clause-heard : goal.returns-clause-heard
+returns-clause-heard g c = c.loop-i.invariant.heard
