@@ -1,7 +1,5 @@
 -- What a judge was asked and shown of a stored call.
-use Rattle.std.proofs.Common.{◌≡◌, ◌≢◌, ◌⊎◌, ⊎_elim, ◌∙◌}
-use Rattle.step_reply.specs.declared.reply.Refusal.TheVariants.{NoMemory}
-use Rattle.step_reply.specs.declared.reply.Reply.TheVariants.{Refused}
+use Rattle.std.proofs.Common.{⊎_elim, ◌∙◌}
 use Rattle.ghost_spec.specs.States.{contents_in}
 use Rattle.ghost_judge.specs.Judgements.{IsAsTold, IsUnchanged, told_of}
 use Rattle.cpu_threads.specs.Judged.{Asked}

@@ -1,6 +1,6 @@
 -- A part's log that was full stays full.
-use Rattle.std.proofs.Common.{◌≡◌, ℕ, ◌+◌, ◌<◌, ◌≤◌, List, [], ◌++◌, length, length-append, refl, sym, ap, ◌∙◌, subst, arith}
-use Rattle.std.specs.Prelude.{All, Option, Some, option_map, slice_get, unwrap_or}
+use Rattle.std.proofs.Common.{◌≡◌, ℕ, ◌+◌, ◌<◌, ◌≤◌, List, [], length, length-append, ap, ◌∙◌, subst, arith}
+use Rattle.std.specs.Prelude.{Option, option_map, unwrap_or}
 use Rattle.page_state.specs.declared.layout.Layout.{Layout as TheLayout}
 use Rattle.page_state.specs.LayoutView.{layout_of}
 use Rattle.step_reply.specs.declared.reply.Call.{Call}
@@ -11,7 +11,7 @@ use Rattle.part_table.specs.declared.slot.Slot.{Slot}
 use Rattle.part_table.specs.Endings.{IsEndOf, calls_at}
 use Rattle.part_table.specs.Known.{AreFronts, StartsWith}
 use Rattle.part_table.specs.Parts.{parts, part_of, log_of}
-use Rattle.part_table.specs.Tried.{FoundFull, Try}
+use Rattle.part_table.specs.Tried.{Try}
 use Rattle.part_table.proofs.Fronts.{part_size}
 use Rattle.cpu_threads.specs.Laws.{FullLogsStay}
 

@@ -1,10 +1,10 @@
-use Rattle.std.proofs.Common.{◌≡◌, ℕ, ◌<◌, length, sym, ap, ◌∙◌, subst, arith}
-use Rattle.std.specs.Prelude.{List, Option, Some, slice_get}
+use Rattle.std.proofs.Common.{ℕ, ◌<◌, sym, ap, ◌∙◌, subst, arith}
+use Rattle.std.specs.Prelude.{List, Some, slice_get}
 use Rattle.guest_steps.specs.declared.parts.CpuState.{CpuState}
 use Rattle.page_state.specs.declared.layout.Layout.{Layout as TheLayout}
 use Rattle.part_table.specs.Endings.{KeepsOwn, KeepsSeen, KeepsTried}
 use Rattle.part_table.specs.Passes.{AreHomeFrom, Opened, Pass}
-use Rattle.cpu_threads.specs.Ends.{AreOf, AllGiven, HasAll, HasEndOf}
+use Rattle.cpu_threads.specs.Ends.{AreOf, AllGiven, HasEndOf}
 use Rattle.cpu_threads.specs.Machines.{Machine}
 use Rattle.cpu_threads.proofs.Ends.{of_given_back}
 use Rattle.cpu_threads.proofs.Tries.{fresh_theirs}
