@@ -1,14 +1,12 @@
 -- Where a call found a log full, the log is full in the history at whose end the machine is.
-use Rattle.std.proofs.Common.{◌≡◌, ◌≢◌, ℕ, suc, ◌+◌, ◌<◌, ◌≤◌, refl, sym, ap, subst, ◌∙◌, inl, inr, ◌⊎◌, ⊎_elim, true, false, List, [], ◌∷◌, ◌++◌, length, length-append, append-nil, Option, Some, slice_get, arith}
+use Rattle.std.proofs.Common.{◌≡◌, ◌≢◌, ℕ, suc, ◌+◌, ◌<◌, refl, sym, ap, subst, ◌∙◌, inl, inr, ⊎_elim, List, [], ◌∷◌, ◌++◌, length, length-append, append-nil, Option, Some, slice_get, arith}
 use Rattle.std.specs.Prelude.{Contains, flat_map}
 use Rattle.std.proofs.lemmas.List.{append_assoc}
 use Rattle.std.proofs.lemmas.List.Elements.{All-contains, Contains-append_left, Contains-append_right}
 use Rattle.page_state.specs.declared.layout.Layout.{Layout as TheLayout}
 use Rattle.page_state.specs.LayoutView.{layout_of}
 use Rattle.step_reply.specs.declared.reply.Call.{Call}
-use Rattle.step_reply.specs.declared.reply.Refusal.TheVariants as refusals
 use Rattle.step_reply.specs.declared.reply.Reply.{Reply}
-use Rattle.step_reply.specs.declared.reply.Reply.TheVariants.{Refused}
 use Rattle.step_reply.specs.declared.step.Step.{Step}
 use Rattle.reference_model.specs.History.{calls_by, calls_on}
 use Rattle.reference_model.specs.Rules.{guest_slot, names}
@@ -19,12 +17,11 @@ use Rattle.guest_steps.specs.View.{cpu_of}
 use Rattle.hypercalls.specs.Uses.{parts_of}
 use Rattle.part_table.specs.declared.slot.Slot.{Slot}
 use Rattle.part_table.specs.Answered.{used_by}
-use Rattle.part_table.specs.Endings.{IsEndOf, KeepsTried}
+use Rattle.part_table.specs.Endings.{IsEndOf}
 use Rattle.part_table.specs.Parts.{in_order, parts, part_of}
-use Rattle.part_table.specs.Passes.{Pass}
-use Rattle.part_table.specs.Known.{AreFronts, IsSame, Known, StartsWith, own_at_boot}
+use Rattle.part_table.specs.Known.{AreFronts, IsSame, Known, StartsWith}
 use Rattle.part_table.specs.Tried.{EndsIn, FoundFull, FoundRoom, Try}
-use Rattle.cpu_threads.proofs.Full.{end_fronts, full_stays}
+use Rattle.cpu_threads.proofs.Full.{full_stays}
 use Rattle.cpu_threads.proofs.Tries.{same_on}
 use Rattle.cpu_threads.specs.Machines.{FullInTheEnd, StoresInTheEnd}
 use Rattle.trace_race.proofs.Kept.{kept_cases}

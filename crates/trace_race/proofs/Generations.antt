@@ -1,6 +1,6 @@
 -- A call raises no generation by more than one.
-use Rattle.std.proofs.Common.{◌≡◌, ◌≢◌, ℕ, ◌+◌, ◌≤◌, ◌<◌, ◌^◌, refl, ap, sym, ◌∙◌, subst, arith, inl, inr}
-use Rattle.std.specs.Prelude.{Bool, true, false, not, ◌&&◌, ◌==◌, IfSome, Option, Some, None, if◌then◌else◌}
+use Rattle.std.proofs.Common.{◌≡◌, ℕ, ◌+◌, ◌≤◌, ◌<◌, ◌^◌, refl, sym, subst, arith, inl, inr}
+use Rattle.std.specs.Prelude.{Bool, true, false, not, ◌==◌, IfSome, Option, Some, None, if◌then◌else◌}
 use Rattle.std.proofs.lemmas.Bool.Decides.{nat_tests}
 use Rattle.step_reply.specs.declared.reply.Refusal.TheVariants.{LogFull}
 use Rattle.step_reply.specs.declared.reply.Refusal.{Refusal}
@@ -18,11 +18,10 @@ use Rattle.reference_model.specs.declared.changes.Ticket.{Ticket}
 use Rattle.reference_model.specs.declared.changes.Update.{Update}
 use Rattle.reference_model.specs.declared.changes.Update.TheVariants.{Keep, Becomes}
 use Rattle.reference_model.specs.Boot.{boot, booted}
-use Rattle.reference_model.specs.Changes.{updated, vms_by, cpu_by}
-use Rattle.reference_model.specs.GuestRules.{ticket_vm}
-use Rattle.reference_model.specs.Parts.{Names, lacks_slot, uses_vms}
+use Rattle.reference_model.specs.Changes.{updated, vms_by}
+use Rattle.reference_model.specs.Parts.{lacks_slot, uses_vms}
 use Rattle.reference_model.specs.Rules.{rule, names, guest_slot}
-use Rattle.reference_model.specs.State.{Contents, Cpu, Guest, Reference, Shared, Slot, Vms, closing, no_slot, no_vms, opened, put_at, reserved}
+use Rattle.reference_model.specs.State.{Contents, Cpu, Reference, Slot, Vms, closing, no_slot, no_vms, opened, put_at, reserved}
 use Rattle.reference_model.specs.Step.{answer, changed, fails, foretell, is_full, made, predict, stored, with_rows}
 use Rattle.reference_model.specs.Used.{Used, UsedRooms, put_back, rooms_of, used_of}
 use Rattle.reference_model.specs.VmRules.{is_open, next_slot, stand_eq}

@@ -1,5 +1,5 @@
 -- The gate hears of each call that a pass makes.
-use Rattle.std.proofs.Common.{◌≡◌, ℕ, ◌+◌, ◌<◌, ◌≤◌, ◌⊎◌, ⊎_elim, ◌∙◌, ◌++◌, ◌∷◌, [], ap, sym, subst, length, length-append, arith}
+use Rattle.std.proofs.Common.{◌≡◌, ℕ, ◌+◌, ⊎_elim, ◌∙◌, ◌++◌, ◌∷◌, [], ap, subst, length, length-append, arith}
 use Rattle.page_state.proofs.Cases.{by_lt}
 use Rattle.step_reply.specs.declared.reply.Reply.{Reply}
 use Rattle.step_reply.specs.declared.step.Step.{Step}

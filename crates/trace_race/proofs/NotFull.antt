@@ -1,8 +1,7 @@
 -- A log that has no call isn't full.
-use Rattle.std.proofs.Common.{◌≡◌, ◌≢◌, ℕ, ◌<◌, refl, sym, ap, subst, ◌∙◌, ◌⊎◌, ⊎_elim, true, false, ◌==◌, List, [], ◌∷◌, All, filter, length, map}
+use Rattle.std.proofs.Common.{◌≡◌, ℕ, ◌<◌, refl, sym, ap, subst, ◌∙◌, ⊎_elim, true, false, ◌==◌, List, [], ◌∷◌, All, filter, length, map}
 use Rattle.std.specs.Prelude.{Contains}
 use Rattle.std.proofs.lemmas.List.Elements.{All-head}
-use Rattle.page_state.specs.declared.layout.Layout.{Layout as TheLayout}
 use Rattle.page_state.specs.LayoutView.{layout_of}
 use Rattle.page_state.specs.Layouts.{Layout}
 use Rattle.step_reply.specs.declared.reply.Call.{Call}

@@ -1,12 +1,10 @@
 -- The parts of a race's report, put together.
-use Rattle.std.proofs.Common.{◌≡◌, ℕ, zero, suc, refl, sym, ap, subst, ◌∙◌, inl, inr, List, [], ◌∷◌, ◌+◌, length, Option, Some, None, Result, Ok, Err, IfOk, IfSome, OnErr}
+use Rattle.std.proofs.Common.{◌≡◌, ℕ, refl, sym, ap, subst, ◌∙◌, inl, inr, List, [], ◌∷◌, ◌+◌, length, Option, Some, None, Result, Ok, Err, IfOk, IfSome, OnErr}
 use Rattle.std.specs.Prelude.{◌⊎◌, MatchOption, MatchResult}
 use Rattle.std.specs.Io.KnownBytes.{Appends, Keeps}
 use Rattle.page_state.specs.declared.entry.PageRange.{PageRange}
 use Rattle.page_state.specs.Regions.{memory_of}
-use Rattle.step_reply.specs.declared.reply.Refusal.TheVariants.{LogFull}
 use Rattle.step_reply.specs.declared.reply.Reply.{Reply}
-use Rattle.step_reply.specs.declared.reply.Reply.TheVariants.{Refused}
 use Rattle.trace_lines.specs.declared.response.Response.{Response}
 use Rattle.trace_lines.specs.Settings.{config_of}
 use Rattle.trace_reader.specs.Reading.{lines_of}

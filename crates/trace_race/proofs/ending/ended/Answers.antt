@@ -1,7 +1,3 @@
-use Rattle.std.proofs.Common.{subst, sym, ap}
-use Rattle.cpu_threads.specs.Machines.{Machine}
-use Rattle.trace_race.specs.Made.{AreDone}
-use Rattle.page_state.specs.LayoutView.{layout_of}
 use Rattle.trace_race.proofs.Ends.{are_of, one_history}
 use Rattle.trace_race.proofs.ending.ended.Goals as goal
 

@@ -3,6 +3,7 @@ use Rattle.trace_text.specs.Played.{WritesFront}
 use Rattle.trace_text.proofs.ReplayLemmas.{mapped, when_err}
 use Rattle.trace_race.specs.Booted.{machine_in}
 use Rattle.trace_race.specs.declared.course.Asked.{Asked}
+use Rattle.trace_race.specs.Made.{OneHistory}
 use Rattle.trace_race.specs.Raced.{lines_behind}
 use Rattle.trace_race.specs.Told.{StepsEnd}
 use Rattle.trace_race.proofs.Reports.{engine_err, engine_ok, run_begins, run_ends, run_fails, run_halts}
@@ -33,6 +34,7 @@ returns-clause-begun g c =
     let made = rw c.in-Ok-Some.field-0-is at c.in-Ok-Some.ensures in
     let steps : c.as_slice-steps.result.now ≡ c.args.course.now.steps.items = c.as_slice-steps.ensures.value in
     let count : length c.in-Ok-Some.made.replies.items ≡ length c.args.course.now.steps.items = made.1.count ∙ ap length steps in
+    let one = subst (λ (ss : List Asked). OneHistory m.layout ss c.in-Ok-Some.made.replies.items) steps c.tell_made.ensures.history in
     let front = subst (λ (ss : List Asked). OnErr c.tell_made.result (WritesFront (lines_behind ss c.in-Ok-Some.made.replies.items) (g.K.Sink.contents c.tell.new.sink) (g.K.Sink.contents c.tell_made.new.sink))) steps c.tell_made.ensures.begun in
     engine_err _ _ _ c.engine.ensures
-    (when_err c.tell_made.result _ _ (λ begins. run_begins m c.args.course.now.steps.items c.in-Ok-Some.made.replies.items c.args.booted.line _ (g.K.Sink.contents c.tell.new.sink) _ c.requires.booted.1.line count c.in_default.ensures.ok begins) front)
+    (when_err c.tell_made.result _ _ (λ begins. run_begins m c.args.course.now.steps.items c.in-Ok-Some.made.replies.items c.args.booted.line _ (g.K.Sink.contents c.tell.new.sink) _ c.requires.booted.1.line count one c.in_default.ensures.ok begins) front)
