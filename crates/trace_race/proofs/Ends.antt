@@ -72,6 +72,7 @@ one_history t steps replies out passes parts cpus done end own tried = record {
   log = end.log;
   end = end.state;
   run = end.run;
+  stored = end.stored;
   each = λ cpu less. each cpu (at_place passes cpu (let n = done.count in omega (arith, n, less)));
 }
   where

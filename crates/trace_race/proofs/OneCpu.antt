@@ -60,4 +60,4 @@ all_by n cpu (c ∷ cs) all none = ⊎_elim
 pub one_cpu_runs : OneCpuRuns
 one_cpu_runs key cpu steps replies inside all h =
     let by = all_by key.config.cpus cpu h.log h.run.cpus (λ j less other. no_calls (calls_by j h.log) ((h.each j less).calls ∙ ap (filter (λ (a : Step × Reply). is_stored a.1)) (none_of j cpu other steps replies all))) in
-    (h.log, h.end, h.run, by.1, ap (map told) (sym by.0) ∙ (h.each cpu inside).calls)
+    (h.log, h.end, h.run, h.stored, by.1, ap (map told) (sym by.0) ∙ (h.each cpu inside).calls)

@@ -7,7 +7,7 @@ use Rattle.step_reply.specs.declared.reply.Refusal.TheVariants.{LogFull}
 use Rattle.step_reply.specs.declared.reply.Reply.{Reply}
 use Rattle.step_reply.specs.declared.reply.Reply.TheVariants.{Refused}
 use Rattle.step_reply.specs.declared.step.Step.{Step}
-use Rattle.reference_model.specs.History.{calls_by}
+use Rattle.reference_model.specs.History.{IsStored, calls_by}
 use Rattle.reference_model.specs.Run.{IsRun}
 use Rattle.reference_model.specs.State.{Reference}
 use Rattle.part_table.specs.Known.{Known, StartsWith}
@@ -26,4 +26,4 @@ FullAfter = (key : TheLayout) (cpu : ℕ) (before after : List (Step × Reply)) 
 -- the steps of one CPU are answered as the model answers them one after another: those that are stored are a run
 abbrev pub OneCpuRuns : Type 0
 OneCpuRuns = (key : TheLayout) (cpu : ℕ) (steps : List Asked) (replies : List Reply) → cpu < key.config.cpus → All (λ a. a.cpu ≡ cpu) steps → OneHistory (layout_of key) steps replies
-    → (log : List Call) × (end : Reference) × IsRun (layout_of key) log end × All (λ c. c.cpu ≡ cpu) log × (map (λ c. (c.step, c.reply)) log ≡ filter (λ a. is_stored a.1) (answers_of cpu steps replies))
+    → (log : List Call) × (end : Reference) × IsRun (layout_of key) log end × All (λ c. IsStored c.reply) log × All (λ c. c.cpu ≡ cpu) log × (map (λ c. (c.step, c.reply)) log ≡ filter (λ a. is_stored a.1) (answers_of cpu steps replies))

@@ -85,6 +85,7 @@ pub record OneHistory (layout : Layout) (steps : List Asked) (replies : List Rep
   pub log : List Call
   pub end : Reference
   pub run : IsRun layout log end
+  pub stored : All (λ c. IsStored c.reply) log
   pub each : (cpu : ℕ) → cpu < layout.config.cpus → IsCpus key cpu (answers_of cpu steps replies) log
 
 -- whatever answers the steps that are left, the calls so far and those are the CPU's from the first on
