@@ -52,6 +52,7 @@ pub struct TryGate<'a, G> {
 }
 
 impl<'a, G: Gate> TryGate<'a, G> {
+    /// Round a gate.
     pub fn of(gate: &'a G) -> TryGate<'a, G>
         ensures { result.gate.now ≡ gate.entry.now }
     {
