@@ -1,5 +1,5 @@
 -- Which steps plain steps say: a call's number and its arguments, in order. A VM is two of them, its slot and its generation.
-use Rattle.std.specs.Prelude.{ℕ, ◌==◌, Option, Some, None, option_map, if◌then◌else◌}
+use Rattle.std.specs.Prelude.{◌==◌, Option, Some, None, option_map, if◌then◌else◌}
 use Rattle.step_reply.specs.declared.step.Step.{Step}
 use Rattle.step_reply.specs.declared.step.Step.TheVariants as steps
 use Rattle.step_reply.specs.declared.step.VmId.{VmId}

@@ -1,6 +1,7 @@
 //! Words of tables, owner rows, steps and replies as structs of numbers, which C and Rust lay out alike.
 #![tactic(auto)]
 
+pub mod laws;
 mod numbers;
 mod owner;
 mod reply;

@@ -1,6 +1,17 @@
 //! Which numbers stand for which variants.
 ghost use Rattle.std.specs.Prelude.{◌≡◌, Some};
-ghost use Rattle.plain_words.specs.Numbers.{kind_said, level_said, refusal_said, rights_said, state_said, vm_kind_said};
+ghost use Rattle.plain_words.specs.Numbers.{
+  kind_said,
+  kind_written,
+  level_said,
+  refusal_said,
+  refusal_written,
+  rights_said,
+  rights_written,
+  state_said,
+  state_written,
+  vm_kind_said,
+};
 
 use descriptor::{Kind, Level, Prot, State};
 use step_reply::{Refusal, VmKind};
@@ -33,7 +44,8 @@ pub fn rights_of(number: u64) -> Option<Prot>
 
 /// The number of rights.
 pub fn rights_number(prot: Prot) -> u64
-    ensures { rights_said result ≡ Some prot }
+    ensures said { rights_said result ≡ Some prot }
+    ensures written { result ≡ rights_written prot }
 {
     match prot {
         Prot::R => 4,
@@ -56,7 +68,8 @@ pub fn kind_of(number: u64) -> Option<Kind>
 
 /// The number of a kind of memory.
 pub fn kind_number(kind: Kind) -> u64
-    ensures { kind_said result ≡ Some kind }
+    ensures said { kind_said result ≡ Some kind }
+    ensures written { result ≡ kind_written kind }
 {
     match kind {
         Kind::Normal => 0,
@@ -78,7 +91,8 @@ pub fn state_of(number: u64) -> Option<State>
 
 /// The number of a state.
 pub fn state_number(state: State) -> u64
-    ensures { state_said result ≡ Some state }
+    ensures said { state_said result ≡ Some state }
+    ensures written { result ≡ state_written state }
 {
     match state {
         State::Owned => 0,
@@ -127,7 +141,8 @@ pub fn refusal_of(number: u64) -> Option<Refusal>
 
 /// The number of a refusal. It isn't 0.
 pub fn refusal_number(refusal: Refusal) -> u64
-    ensures { refusal_said result ≡ Some refusal }
+    ensures said { refusal_said result ≡ Some refusal }
+    ensures written { result ≡ refusal_written refusal }
 {
     match refusal {
         Refusal::Perm => 1,

@@ -1,6 +1,7 @@
 //! Owner rows.
 ghost use Rattle.std.specs.Prelude.{◌≡◌, Some};
 ghost use Rattle.plain_words.specs.Said.{lent_said, row_said, usage_said};
+ghost use Rattle.plain_words.specs.Written.{row_written, usage_written};
 
 use descriptor::Owner;
 use page_state::{Lent, Row, Usage};
@@ -63,7 +64,8 @@ pub fn row_of(owner: PlainOwner) -> Option<Row>
 
 /// A row of nobody else's, in no use but this.
 fn usage_told(usage: Usage) -> PlainOwner
-    ensures { usage_said result ≡ Some usage }
+    ensures said { usage_said result ≡ Some usage }
+    ensures written { result ≡ usage_written usage }
 {
     let (usage, user) = match usage {
         Usage::Plain => (0, 0),
@@ -83,7 +85,8 @@ fn usage_told(usage: Usage) -> PlainOwner
 
 /// A row in numbers.
 pub fn owner_told(row: Row) -> PlainOwner
-    ensures { row_said result ≡ Some row }
+    ensures said { row_said result ≡ Some row }
+    ensures written { result ≡ row_written row }
 {
     let told = usage_told(row.usage);
     match row.lent {

@@ -1,6 +1,7 @@
 //! Replies.
 ghost use Rattle.std.specs.Prelude.{◌≡◌, Some};
 ghost use Rattle.plain_words.specs.Said.{reply_said, value_said};
+ghost use Rattle.plain_words.specs.Written.{reply_written, value_written};
 
 use crate::numbers::{refusal_number, refusal_of};
 use crate::owner::{PlainOwner, owner_told, row_of};
@@ -76,7 +77,8 @@ pub fn reply_of(reply: PlainReply) -> Option<Reply>
 
 /// A value in numbers.
 fn value_told(value: Value) -> PlainReply
-    ensures { reply_said result ≡ Some (Reply.Done value) }
+    ensures said { reply_said result ≡ Some (Reply.Done value) }
+    ensures written { result ≡ value_written value }
 {
     match value {
         Value::Nothing => DONE,
@@ -106,7 +108,8 @@ fn value_told(value: Value) -> PlainReply
 
 /// A reply in numbers.
 pub fn reply_told(reply: Reply) -> PlainReply
-    ensures { reply_said result ≡ Some reply }
+    ensures said { reply_said result ≡ Some reply }
+    ensures written { result ≡ reply_written reply }
 {
     match reply {
         Reply::Done(value) => value_told(value),

@@ -1,6 +1,7 @@
 //! Words of tables, and entries of maps.
 ghost use Rattle.std.specs.Prelude.{◌≡◌, Some};
 ghost use Rattle.plain_words.specs.Said.{desc_of_entry as desc_of_entry_in, desc_said, entry_said, leaf_said, target_said};
+ghost use Rattle.plain_words.specs.Written.{desc_written, entry_written, leaf_written, target_written};
 
 use crate::numbers::{kind_number, kind_of, rights_number, rights_of, state_number, state_of};
 use descriptor::{Desc, Frame, Kind, Owner, Prot, State};
@@ -72,7 +73,8 @@ pub fn target_of(word: PlainWord) -> Option<Target>
 
 /// A leaf in numbers.
 fn leaf_told(frame: Frame, prot: Prot, kind: Kind, state: State) -> PlainWord
-    ensures { entry_said result ≡ Some (Entry.Leaf frame prot kind state) }
+    ensures said { entry_said result ≡ Some (Entry.Leaf frame prot kind state) }
+    ensures written { result ≡ leaf_written frame prot kind state }
 {
     PlainWord {
         says: 3,
@@ -86,7 +88,8 @@ fn leaf_told(frame: Frame, prot: Prot, kind: Kind, state: State) -> PlainWord
 
 /// The word of an entry.
 pub fn entry_told(entry: Entry) -> PlainWord
-    ensures { entry_said result ≡ Some entry }
+    ensures said { entry_said result ≡ Some entry }
+    ensures written { result ≡ entry_written entry }
 {
     match entry {
         Entry::Malformed => BLANK,
@@ -107,7 +110,8 @@ pub fn entry_told(entry: Entry) -> PlainWord
 
 /// The word of a target.
 pub fn target_told(target: Target) -> PlainWord
-    ensures { target_said result ≡ Some target }
+    ensures said { target_said result ≡ Some target }
+    ensures written { result ≡ target_written target }
 {
     match target {
         Target::Malformed => BLANK,
@@ -160,7 +164,8 @@ pub fn desc_of(word: PlainWord) -> Option<Desc>
 
 /// The word of a descriptor.
 pub fn desc_told(desc: Desc) -> PlainWord
-    ensures { desc_said result ≡ Some desc }
+    ensures said { desc_said result ≡ Some desc }
+    ensures written { result ≡ desc_written desc }
 {
     match desc {
         Desc::Malformed => BLANK,
