@@ -67,11 +67,11 @@ module _ (g : Geometry) (pages : List PlainPage) (roots : List PlainRoot) where
       trees_are = rw f (more_trees tree_in_lists (tree_of g pages roots) trees found no_tree t x.count x.trees_are is);
     }
 
-    pub stopped_found : (s : Stopped) → t < 66 → IsStopped (met ++ tables_of g pages roots t) s → IsTreeFault g pages roots (fault_of s)
-    stopped_found s l h = as_fault s (stopped_on (met ++ tables_of g pages roots t) _ (all_tables g pages roots) s (more_met l) h)
+    pub stopped_found : (s : Stopped) → t < 66 → AreGiven pages roots → IsStopped (met ++ tables_of g pages roots t) s → IsTreeFault g pages roots (fault_of s)
+    stopped_found s l given h = as_fault s (stopped_on (met ++ tables_of g pages roots t) _ (all_tables g pages roots) s (more_met l) h)
       where
         as_fault : (s : Stopped) → IsStopped (all_tables g pages roots) s → IsTreeFault g pages roots (fault_of s)
-        as_fault (Again first second) h = h
+        as_fault (Again first second) h = (given, h)
         as_fault NoMemory h = tt
 
     pub all_found : 66 ≤ t → AreGiven pages roots → AreTrees g pages roots (λ k. get_or (map tree_in_lists trees) k no_tree)

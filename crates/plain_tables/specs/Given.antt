@@ -21,11 +21,17 @@ again_with number earlier (Some x) = list_any (λ e. number e == number x) earli
 abbrev pub is_again : {X : Type 0} → (X → ℕ) → List X → ℕ → Bool
 is_again number members i = again_with number (take i members) (slice_get members i)
 
--- the member at an index isn't as it has to be
+-- it is the first that has
+pub record IsRepeated {X : Type 0} (number : X → ℕ) (members : List X) (i : ℕ) : Type 0 where
+  pub again : is_again number members i ≡ true
+  pub before : (j : ℕ) → j < i → is_again number members j ≡ false
+
+-- the member at an index is the first that isn't as it has to be
 pub record IsOther {X : Type 0} (P : X → Type 0) (members : List X) (i : ℕ) : Type 0 where
   pub member : X
   pub is : slice_get members i ≡ Some member
   pub not : P member → ⊥
+  pub before : All P (take i members)
 
 -- a page hasn't 512 words
 abbrev pub IsShort : List PlainPage → ℕ → Type 0
@@ -85,14 +91,15 @@ module _ (geometry : Geometry) (pages : List PlainPage) (roots : List PlainRoot)
   abbrev pub all_tables : List Reached
   all_tables = tables_from 66 0
 
-  -- pages and roots make no trees
+  -- pages and roots make no trees: the fault is true of them, and all that is tested before it is well
   abbrev pub IsTreeFault : TreeFault → Type 0
   IsTreeFault (Short i) = IsShort pages i
-  IsTreeFault (PageTwice i) = is_again (λ p. p.frame) pages i ≡ true
-  IsTreeFault (NoTree i) = IsStrange roots i
-  IsTreeFault (RootTwice i) = is_again (λ r. r.tree) roots i ≡ true
-  IsTreeFault (NoPage i) = IsRootless pages roots i
-  IsTreeFault (Again first second) = IsAgain all_tables first second
+  IsTreeFault (PageTwice i) = All IsWhole pages × IsRepeated (λ p. p.frame) pages i
+  IsTreeFault (NoTree i) = All IsWhole pages × AreNumberedApart (λ p. p.frame) pages × IsStrange roots i
+  IsTreeFault (RootTwice i) = All IsWhole pages × AreNumberedApart (λ p. p.frame) pages × All IsKnown roots × IsRepeated (λ r. r.tree) roots i
+  IsTreeFault (NoPage i) =
+      All IsWhole pages × AreNumberedApart (λ p. p.frame) pages × All IsKnown roots × AreNumberedApart (λ r. r.tree) roots × IsRootless pages roots i
+  IsTreeFault (Again first second) = AreGiven pages roots × IsAgain all_tables first second
   IsTreeFault NoMemory = Unit {0}
 
   -- they make these, and no table is reached twice

@@ -2,3 +2,4 @@ pub mod ByFrames
 pub mod Given
 pub mod Laid
 pub mod Reached
+pub mod Laws

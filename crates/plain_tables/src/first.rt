@@ -1,8 +1,8 @@
 //! The first member of a list that is refused.
-ghost use Rattle.std.specs.Prelude.{◌≡◌, ℕ, false, true, ◌<◌, ◌==◌, ◌↔◌, All, None, IfSome, IsTrue, length};
+ghost use Rattle.std.specs.Prelude.{◌≡◌, ℕ, false, ◌<◌, ◌==◌, ◌↔◌, All, None, IfSome, IsTrue, length};
 ghost use Rattle.std.specs.List.{list_any};
 ghost use Rattle.plain_tables.specs.ByFrames.{IsWhole};
-ghost use Rattle.plain_tables.specs.Given.{HasPage, is_again, IsKnown, IsRootless, IsShort, IsStrange};
+ghost use Rattle.plain_tables.specs.Given.{HasPage, is_again, IsKnown, IsRepeated, IsRootless, IsShort, IsStrange};
 
 use crate::follow::{PlainPage, PlainRoot, page_of};
 
@@ -35,7 +35,7 @@ impl Numbered for PlainRoot {
 
 /// The index of the first member that has the number of an earlier one.
 pub(crate) fn first_again<T: Numbered>(members: &[T]) -> Option<usize>
-    ensures some { IfSome result (λ i. is_again T.number_of members.now i ≡ true) }
+    ensures some { IfSome result (IsRepeated T.number_of members.now) }
     ensures none { result ≡ None → (i : ℕ) → i < length members.now → is_again T.number_of members.now i ≡ false }
 {
     for i in 0..members.len() {

@@ -3,6 +3,7 @@
 
 mod first;
 mod follow;
+pub mod laws;
 mod reached;
 mod runs;
 mod trees;

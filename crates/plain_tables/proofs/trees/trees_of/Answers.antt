@@ -9,7 +9,7 @@ returns-in_err-tested-clause-fault c = passed_on _ _ c.from_residual.result c.te
 
 pub returns-in_err-found-clause-fault : goal.returns-in_err-found-clause-fault
 returns-in_err-found-clause-fault c = passed_as fault_of _ _ c.from_residual-in_err-found.result c.tree_from.result c.in_err-found.field-0.0 c.in_err-found.was c.from_residual-in_err-found.ensures.1
-    (λ s h. stopped_found c.args.geometry c.args.pages.now c.args.roots.now c.loop-tree.tree c.loop-tree.met.items c.loop-tree.trees.items c.loop-tree.invariant s c.loop-tree-test.true h) c.tree_from.ensures.stopped
+    (λ s h. stopped_found c.args.geometry c.args.pages.now c.args.roots.now c.loop-tree.tree c.loop-tree.met.items c.loop-tree.trees.items c.loop-tree.invariant s c.loop-tree-test.true c.in_ok-tested.ensures.given h) c.tree_from.ensures.stopped
 
 pub loop-tree-preserved : goal.loop-tree-preserved
 loop-tree-preserved c = more_found c.args.geometry c.args.pages.now c.args.roots.now c.loop-tree.tree c.loop-tree.met.items c.loop-tree.trees.items c.loop-tree.invariant c.tree_from.new.met.items c.push_tree.new.trees.items c.in_ok-found.found c.loop-tree-test.true
