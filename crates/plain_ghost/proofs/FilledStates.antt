@@ -22,15 +22,16 @@ use Rattle.ghost_spec.specs.declared.filled.GhostFault.{GhostFault}
 use Rattle.ghost_spec.specs.declared.filled.GhostFault.TheVariants.{WrongCount, TooLarge, Overlap, TableTwice, FrameTwice, NoMemory as NoGhostMemory}
 use Rattle.ghost_spec.specs.declared.lists.GhostLists.{GhostLists}
 use Rattle.ghost_spec.specs.declared.parts.GhostGuest.{GhostGuest}
-use Rattle.ghost_spec.specs.Filled.{ordered, state_filled, HasCounts, IsFirstFault}
+use Rattle.ghost_spec.specs.Filled.{ordered, state_filled, HasCounts, IsFirstFault, MakesState}
 use Rattle.ghost_spec.specs.States.{guest_in, rooms_in, slot_in}
 use Rattle.ghost_spec.specs.Views.{cpu_in, row_in}
 use Rattle.plain_ghost.specs.declared.state.PlainFault.{PlainFault}
 use Rattle.plain_ghost.specs.declared.state.PlainFault.TheVariants.{Unknown, Rows as RowsFault, Twice, Lists as ListsFault, NoMemory}
-use Rattle.plain_ghost.specs.Faults.{first_unknown_of, AreTaken, HasFault, IsListsFault, IsPlainFault}
+use Rattle.plain_ghost.specs.Faults.{first_unknown_of, AreRead, AreTaken, IsFirstOfLists, IsListsFault, IsPlainFault}
 use Rattle.plain_ghost.specs.Filled.{GuestLists, guest_lists_said, lists_in, slot_filled, IsFilled, IsFilledTree, IsRoomy}
 use Rattle.plain_ghost.specs.Lists.{cpu_listed, cpu_said, frames_said, guest_listed, rows_said, runs_said, slot_listed, slot_said, tables_said}
 use Rattle.plain_ghost.specs.States.{Lists, guest_said, rooms_said, state_said, tree_said}
+use Rattle.plain_ghost.proofs.FilledLists.{frames_in, frames_out, low_in, low_out, runs_in, runs_out, tables_in, tables_out}
 use Rattle.plain_ghost.proofs.KnownLists.{cpu_whole, known_cpus, known_loads, slot_whole}
 use Rattle.plain_ghost.proofs.OneMore.{by_numbers}
 
@@ -114,28 +115,40 @@ filled_counts cpus p l f guests rooms are = record {
   cpu_rooms = rooms ∙ sym are;
 }
 
--- a fault of lists that are filled in is one of the plain lists
-pub lists_fault : (cpus : ℕ) (p : Lists) (l : GhostLists) → AreTaken cpus p → IsFilled cpus p l → length l.rooms.guests.items ≡ 64 → length l.rooms.cpus.items ≡ cpus → l.layout.config.cpus ≡ cpus
-    → (why : PlainFault) → IsListsFault p l why → IsPlainFault cpus p why
-lists_fault cpus p l taken f guests rooms are (Unknown list at) h = absurd h
-lists_fault cpus p l taken f guests rooms are (RowsFault fault) h = absurd h
-lists_fault cpus p l taken f guests rooms are (Twice list at) h = absurd h
-lists_fault cpus p l taken f guests rooms are (ListsFault WrongCount culprit) h = h.0 (filled_counts cpus p l f guests rooms are)
-lists_fault cpus p l taken f guests rooms are (ListsFault TooLarge culprit) h = (taken, record { lists = l; filled = f; guest_rooms = guests; cpu_rooms = rooms; cpus_are = are; first = h.0 }, h.1)
-lists_fault cpus p l taken f guests rooms are (ListsFault Overlap culprit) h = (taken, record { lists = l; filled = f; guest_rooms = guests; cpu_rooms = rooms; cpus_are = are; first = h.0 }, h.1)
-lists_fault cpus p l taken f guests rooms are (ListsFault TableTwice culprit) h = (taken, record { lists = l; filled = f; guest_rooms = guests; cpu_rooms = rooms; cpus_are = are; first = h.0 }, h.1)
-lists_fault cpus p l taken f guests rooms are (ListsFault FrameTwice culprit) h = (taken, record { lists = l; filled = f; guest_rooms = guests; cpu_rooms = rooms; cpus_are = are; first = h.0 }, h.1)
-lists_fault cpus p l taken f guests rooms are (ListsFault NoGhostMemory culprit) h = absurd h.0
-lists_fault cpus p l taken f guests rooms are NoMemory h = tt
+-- lists that are filled in make a state where the plain ones do
+pub taken_lists : (cpus : ℕ) (p : Lists) (l : GhostLists) → AreRead cpus p → IsFilled cpus p l → MakesState l → AreTaken cpus p
+taken_lists cpus p l read f m = record {
+  read = read;
+  numbers = low_out cpus p l f m.numbers;
+  runs = runs_out cpus p l f m.runs;
+  tables = tables_out cpus p l f m.tables;
+  frames = frames_out cpus p l f m.frames;
+}
+
+-- the first fault of lists that are filled in is that of the plain lists
+first_of : (cpus : ℕ) (p : Lists) (l : GhostLists) → IsFilled cpus p l → HasCounts l → (f : GhostFault) → IsFirstFault f l → IsFirstOfLists cpus p f
+first_of cpus p l f counts WrongCount h = h counts
+first_of cpus p l f counts TooLarge h = λ low. h.1 (low_in cpus p l f low)
+first_of cpus p l f counts Overlap h = (low_out cpus p l f h.1, λ apart. h.2 (runs_in cpus p l f apart))
+first_of cpus p l f counts TableTwice h = (low_out cpus p l f h.1, runs_out cpus p l f h.2, λ apart. h.3 (tables_in cpus p l f apart))
+first_of cpus p l f counts FrameTwice h = (low_out cpus p l f h.1, runs_out cpus p l f h.2, tables_out cpus p l f h.3, λ apart. h.4 (frames_in cpus p l f apart))
+first_of cpus p l f counts NoGhostMemory h = absurd h
+
+lists_fault : (cpus : ℕ) (p : Lists) (why : PlainFault) → AreRead cpus p → IsListsFault cpus p why → IsPlainFault cpus p why
+lists_fault cpus p (Unknown list at) read h = absurd h
+lists_fault cpus p (RowsFault fault) read h = absurd h
+lists_fault cpus p (Twice list at) read h = absurd h
+lists_fault cpus p (ListsFault fault culprit) read h = (read, h.0, h.1)
+lists_fault cpus p NoMemory read h = tt
 
 no_memory_fault : (cpus : ℕ) (p : Lists) (why : PlainFault) → why ≡ NoMemory → IsPlainFault cpus p why
 no_memory_fault cpus p why e = subst (IsPlainFault cpus p) (sym e) tt
 
 -- what is told of a fault of theirs is true of the plain lists
-pub told_fault : (cpus : ℕ) (p : Lists) (l : GhostLists) → AreTaken cpus p → IsFilled cpus p l → length l.rooms.guests.items ≡ 64 → length l.rooms.cpus.items ≡ cpus → l.layout.config.cpus ≡ cpus
-    → (f : GhostFault) (why : PlainFault) → (f ≡ NoGhostMemory ⊎ IsFirstFault f l) → (f ≡ NoGhostMemory → why ≡ NoMemory) → ((m : GhostLists) → IsFirstFault f m → IsListsFault p m why) → IsPlainFault cpus p why
-told_fault cpus p l taken filled guests rooms are f why (inl e) memory fault = no_memory_fault cpus p why (memory e)
-told_fault cpus p l taken filled guests rooms are f why (inr h) memory fault = lists_fault cpus p l taken filled guests rooms are why (fault l h)
+pub told_fault : (cpus : ℕ) (p : Lists) (l : GhostLists) → AreRead cpus p → IsFilled cpus p l → length l.rooms.guests.items ≡ 64 → length l.rooms.cpus.items ≡ cpus → l.layout.config.cpus ≡ cpus
+    → (f : GhostFault) (why : PlainFault) → (f ≡ NoGhostMemory ⊎ IsFirstFault f l) → (f ≡ NoGhostMemory → why ≡ NoMemory) → ((n : ℕ) → IsFirstOfLists n p f → IsListsFault n p why) → IsPlainFault cpus p why
+told_fault cpus p l read filled guests rooms are f why (inl e) memory fault = no_memory_fault cpus p why (memory e)
+told_fault cpus p l read filled guests rooms are f why (inr h) memory fault = lists_fault cpus p why read (fault cpus (first_of cpus p l filled (filled_counts cpus p l filled guests rooms are) f h))
 
 -- a fault that is answered is the first
 pub first_fault : {G : Type 0} (l : GhostLists) (r : Result G GhostFault) → ((r ≡ Err WrongCount) ↔ IsFirstFault WrongCount l) → ((r ≡ Err TooLarge) ↔ IsFirstFault TooLarge l)

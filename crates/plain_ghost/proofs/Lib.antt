@@ -1,3 +1,5 @@
+mod ApartLists
+mod FilledLists
 pub mod FilledStates
 mod Generations
 mod KnownLists

@@ -56,7 +56,7 @@ map_take f zero gs = refl
 map_take f (suc n) [] = refl
 map_take {G} {B} f (suc n) (g ∷ gs) = ap (λ (ys : List B). f g ∷ ys) (map_take f n gs)
 
-map_at : {G B : Type 0} (f : G → B) (gs : List G) (i : ℕ) (d : G) (z : B) → i < length gs → get_or (map f gs) i z ≡ f (get_or gs i d)
+pub map_at : {G B : Type 0} (f : G → B) (gs : List G) (i : ℕ) (d : G) (z : B) → i < length gs → get_or (map f gs) i z ≡ f (get_or gs i d)
 map_at f [] i d z less = absurd (omega (arith, less))
 map_at f (g ∷ gs) zero d z less = refl
 map_at f (g ∷ gs) (suc i) d z less = map_at f gs i d z (omega (arith, less))

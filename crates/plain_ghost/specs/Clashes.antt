@@ -1,5 +1,5 @@
 -- Members of a list that can't be there with an earlier one.
-use Rattle.std.specs.Prelude.{◌≡◌, ℕ, Bool, true, ◌==◌, ◌&&◌, ◌||◌, nat_lt, List, take, Some, slice_get}
+use Rattle.std.specs.Prelude.{◌≡◌, ℕ, Bool, true, ◌==◌, ◌&&◌, ◌||◌, ◌<◌, nat_lt, List, take, Some, slice_get}
 use Rattle.std.specs.List.{list_any}
 use Rattle.page_state.specs.Regions.{is_in_range}
 use Rattle.plain_ghost.specs.declared.members.PlainRun.{PlainRun}
@@ -39,3 +39,12 @@ pub record IsClash {X : Type 0} (clash : X → X → Bool) (xs : List X) (i : �
   pub member : X
   pub is : slice_get xs i ≡ Some member
   pub earlier : list_any (clash member) (take i xs) ≡ true
+
+-- none does
+abbrev pub HasNoClash : {X : Type 0} → (X → X → Bool) → List X → Type 0
+HasNoClash clash xs = (i : ℕ) → IsClash clash xs i → ⊥
+
+-- it is the first that does
+pub record IsFirstClash {X : Type 0} (clash : X → X → Bool) (xs : List X) (i : ℕ) : Type 0 where
+  pub clashes : IsClash clash xs i
+  pub before : (j : ℕ) → j < i → IsClash clash xs j → ⊥

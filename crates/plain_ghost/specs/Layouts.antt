@@ -1,10 +1,14 @@
--- The reference layout that a plain layout says. Each log has room for one call.
-use Rattle.std.specs.Prelude.{ℕ, ◌==◌, List, map, if◌then◌else◌}
+-- The reference layout that a plain layout says, and why there is none. Each log has room for one call.
+use Rattle.std.specs.Prelude.{◌≡◌, ◌==◌, IsSome, List, None, map, if◌then◌else◌}
+use Rattle.page_state.specs.Geometries.{geometry_of}
+use Rattle.page_state.specs.LayoutFaults.{IsAccepted, IsFirstFault}
 use Rattle.page_state.specs.declared.layout.Region.{Region}
 use Rattle.page_state.specs.declared.layout.RegionKind.TheVariants.{Memory, Device}
 use Rattle.page_state.specs.Layouts.{Layout}
 use Rattle.page_state.specs.Regions.{Memory as MemoryOfRegions, memory_of}
 use Rattle.plain_ghost.specs.declared.layout.PlainLayout.{PlainLayout}
+use Rattle.plain_ghost.specs.declared.layout.PlainLayoutFault.{PlainLayoutFault}
+use Rattle.plain_ghost.specs.declared.layout.PlainLayoutFault.TheVariants.{Geometry, Memory as MemoryFault, NoMemory}
 use Rattle.plain_ghost.specs.declared.layout.PlainRegion.{PlainRegion}
 use Rattle.plain_ghost.specs.Lists.{range_said}
 
@@ -23,3 +27,14 @@ layout_said l regions = record {
   config = record { cpus = l.cpus; log = 1; geometry = l.address_bits };
   depth = if l.address_bits == 48 then 3 else 2;
 }
+
+-- the numbers are a layout
+pub record IsTakenLayout (l : PlainLayout) (regions : List PlainRegion) : Type 0 where
+  pub geometry : IsSome (geometry_of l.address_bits)
+  pub memory : IsAccepted (memory_said l regions)
+
+-- why they are none: the first that is true
+abbrev pub IsLayoutFault : PlainLayout → List PlainRegion → PlainLayoutFault → Type 0
+IsLayoutFault l regions Geometry = geometry_of l.address_bits ≡ None
+IsLayoutFault l regions (MemoryFault fault) = IsSome (geometry_of l.address_bits) × IsFirstFault fault (memory_said l regions)
+IsLayoutFault l regions NoMemory = Unit {0}

@@ -1,7 +1,7 @@
 //! Members that can't be there with an earlier one.
-ghost use Rattle.std.specs.Prelude.{◌≡◌, ℕ, Bool, MatchOption};
+ghost use Rattle.std.specs.Prelude.{◌≡◌, Bool, MatchOption};
 ghost use Rattle.std.specs.List.{list_any};
-ghost use Rattle.plain_ghost.specs.Clashes.{do_frames_clash, do_runs_clash, do_tables_clash, have_one_cpu, have_one_guest, have_one_slot, IsClash};
+ghost use Rattle.plain_ghost.specs.Clashes.{do_frames_clash, do_runs_clash, do_tables_clash, have_one_cpu, have_one_guest, have_one_slot, HasNoClash, IsFirstClash};
 
 use crate::layout::range_of;
 use crate::members::{PlainCpu, PlainFrame, PlainGuest, PlainRun, PlainSlot, PlainTable};
@@ -79,7 +79,7 @@ fn clashes_with<T: Clash>(member: T, earlier: &[T]) -> bool
 
 /// The index of the first member that clashes with an earlier one.
 pub(crate) fn first_clash<T: Clash>(members: &[T]) -> Option<usize>
-    ensures { MatchOption result ((i : ℕ) → IsClash T.clash members.now i → ⊥) (IsClash T.clash members.now) }
+    ensures { MatchOption result (HasNoClash T.clash members.now) (IsFirstClash T.clash members.now) }
 {
     for i in 0..members.len() {
         if clashes_with(members[i], &members[..i]) {

@@ -6,11 +6,11 @@ ghost use Rattle.ghost_spec.specs.Kept.{HasNextGeneration};
 ghost use Rattle.ghost_spec.specs.States.{contents_in, ghost_state};
 ghost use Rattle.plain_ghost.specs.Faults.{AreTaken};
 ghost use Rattle.plain_ghost.specs.Judged.{IsForetold, IsForetoldState, IsJudged, IsUnjudged, IsUnjudgedAfter, IsUnmade, IsUntold};
-ghost use Rattle.plain_ghost.specs.Layouts.{layout_said};
+ghost use Rattle.plain_ghost.specs.Layouts.{layout_said, IsTakenLayout};
 ghost use Rattle.plain_ghost.specs.States.{contents_said, state_said};
 ghost use Rattle.plain_ghost.specs.Told.{in_pool_order, lists_owned};
 ghost use Rattle.plain_ghost.specs.Views.{lists_told};
-ghost use Rattle.plain_words.specs.Said.{reply_said};
+ghost use Rattle.plain_words.specs.Written.{reply_written};
 
 use crate::layout::{PlainLayout, PlainLayoutFault, layout_of};
 use crate::state::{PlainFault, PlainState, state_of};
@@ -32,7 +32,7 @@ pub struct PlainCall {
     pub reply: PlainReply,
 }
 
-/// Why a layout and lists make no state.
+/// Why a layout and lists make no state. The layout is tested first.
 #[derive(Clone, Copy, PartialEq)]
 pub enum Unmade {
     Layout(PlainLayoutFault),
@@ -67,6 +67,7 @@ pub fn made(
     ensures state { IfOk result (λ g. ghost_state g ≡ state_said (lists_told state.now)) }
     ensures layout { IfOk result (λ g. layout_of_code g.layout ≡ layout_said layout.now layout.now.regions.now) }
     ensures cpus { IfOk result (λ g. g.layout.config.cpus ≡ layout.now.cpus) }
+    ensures ready { OnOk result (IsTakenLayout layout.now layout.now.regions.now) }
     ensures taken { OnOk result (AreTaken layout.now.cpus (lists_told state.now)) }
     ensures fault { IfErr result (IsUnmade layout.now layout.now.regions.now (lists_told state.now)) }
 {
@@ -211,7 +212,7 @@ pub fn foretold_state(
 fn state_after(alloc: Global, pre: Ghost, cpu: u64, step: Step) -> Result<Predicted, Unjudged>
     requires cpu { cpu < pre.layout.config.cpus }
     requires generation { HasNextGeneration ((contents_in pre).cpu cpu).ticket step }
-    ensures reply { IfOk result (λ f. reply_said f.reply ≡ Some (told_of pre cpu step).0) }
+    ensures reply { IfOk result (λ f. f.reply ≡ reply_written (told_of pre cpu step).0) }
     ensures after { IfOk result (λ f. contents_said (lists_owned f.after) ≡ in_pool_order (told_of pre cpu step).1.contents) }
     ensures untold { IfErr result (λ why. why ≡ Unjudged.NoMemory) }
 {
@@ -233,7 +234,7 @@ fn state_after(alloc: Global, pre: Ghost, cpu: u64, step: Step) -> Result<Predic
 fn reply_to(alloc: Global, pre: Ghost, cpu: u64, step: Step) -> Result<PlainReply, Unjudged>
     requires cpu { cpu < pre.layout.config.cpus }
     requires generation { HasNextGeneration ((contents_in pre).cpu cpu).ticket step }
-    ensures told { IfOk result (λ r. reply_said r ≡ Some (told_of pre cpu step).0) }
+    ensures told { IfOk result (λ r. r ≡ reply_written (told_of pre cpu step).0) }
     ensures untold { IfErr result (λ why. why ≡ Unjudged.NoMemory) }
 {
     match predict_last(alloc, pre, cpu, step) {

@@ -1,9 +1,9 @@
 //! Layouts.
-ghost use Rattle.std.specs.Prelude.{◌≡◌, ◌≢◌, ◌↔◌, Err, IfOk, None, OnOk, map};
+ghost use Rattle.std.specs.Prelude.{◌≡◌, ◌≢◌, ◌↔◌, Err, IfErr, IfOk, None, OnOk, map};
 ghost use Rattle.page_state.specs.Geometries.{geometry_of};
 ghost use Rattle.page_state.specs.LayoutFaults.{IsAccepted, IsFirstFault};
 ghost use Rattle.page_state.specs.LayoutView.{layout_of as layout_of_code};
-ghost use Rattle.plain_ghost.specs.Layouts.{layout_said, memory_said, region_said};
+ghost use Rattle.plain_ghost.specs.Layouts.{layout_said, memory_said, region_said, IsLayoutFault, IsTakenLayout};
 ghost use Rattle.plain_ghost.specs.Lists.{range_said};
 
 use page_state::{
@@ -102,8 +102,8 @@ pub fn layout_of(alloc: Global, layout: &PlainLayout<'_>) -> Result<Layout, Plai
     ensures layout { IfOk result (λ l. layout_of_code l ≡ layout_said layout.now layout.now.regions.now) }
     ensures config { IfOk result (λ l. l.config ≡ record { cpus = layout.now.cpus; log = 1; geometry = layout.now.address_bits }) }
     ensures geometry { (result ≡ Err PlainLayoutFault.Geometry) ↔ (geometry_of layout.now.address_bits ≡ None) }
-    ensures memory { (f : LayoutFault) → result ≡ Err (PlainLayoutFault.Memory f) → IsFirstFault f (memory_said layout.now layout.now.regions.now) }
-    ensures accepted { OnOk result (IsAccepted (memory_said layout.now layout.now.regions.now)) }
+    ensures taken { OnOk result (IsTakenLayout layout.now layout.now.regions.now) }
+    ensures fault { IfErr result (IsLayoutFault layout.now layout.now.regions.now) }
 {
     let bits = layout.address_bits;
     let Some(geometry) = Geometry::of_bits(bits) else {

@@ -1,14 +1,26 @@
 //! States.
-ghost use Rattle.std.specs.Prelude.{◌≡◌, ◌⊎◌, ◌<◌, ◌^◌, IfErr, IfOk, MatchOption, None, Ok, OnOk, length, map};
+ghost use Rattle.std.specs.Prelude.{◌≡◌, ◌⊎◌, ℕ, ◌<◌, ◌^◌, IfErr, IfOk, MatchOption, None, Ok, OnOk, length, map};
 ghost use Rattle.std.specs.List.{range_with_len};
 ghost use Rattle.page_state.specs.LayoutView.{layout_of};
 ghost use Rattle.page_state.specs.Rows.{advance_row};
 ghost use Rattle.run_list.specs.Runs.{run_map};
 ghost use Rattle.ghost_spec.specs.declared.lists.GhostLists.{GhostLists};
-ghost use Rattle.ghost_spec.specs.Filled.{state_filled, AreLowRows, AreRowsApart, IsFirstFault, IsFirstRowFault};
+ghost use Rattle.ghost_spec.specs.Filled.{state_filled, AreLowRows, AreRowsApart, IsFirstFault, IsFirstRowFault, MakesState};
 ghost use Rattle.ghost_spec.specs.States.{ghost_state, slot_in};
 ghost use Rattle.plain_ghost.specs.Filled.{IsFilled, IsFilledShared, IsFilledTree, IsRoomy, guest_lists_said, lists_in, slot_filled};
-ghost use Rattle.plain_ghost.specs.Faults.{first_unknown_later, first_unknown_of, AreOnce, AreTaken, IsCulprit, IsListsFault, IsPlainFault, IsTwice};
+ghost use Rattle.plain_ghost.specs.Faults.{
+  first_unknown_later,
+  first_unknown_of,
+  AreOnce,
+  AreRead,
+  AreTaken,
+  AreTakenRows,
+  IsCulprit,
+  IsFirstOfLists,
+  IsListsFault,
+  IsPlainFault,
+  IsTwice,
+};
 ghost use Rattle.plain_ghost.specs.Lists.{guest_listed, rows_said, slot_listed};
 ghost use Rattle.plain_ghost.specs.States.{state_said};
 ghost use Rattle.plain_ghost.specs.Views.{lists_told};
@@ -303,6 +315,7 @@ fn rows_from(alloc: Global, rows: &[PlainRow]) -> Result<RunList<Row>, GhostFaul
 fn tested(alloc: Global, lists: &GhostLists) -> Result<Ghost, GhostFault>
     ensures state { IfOk result (λ g. ghost_state g ≡ state_filled lists.now) }
     ensures layout { IfOk result (λ g. layout_of g.layout ≡ layout_of lists.now.layout) }
+    ensures made { OnOk result (MakesState lists.now) }
     ensures fault { IfErr result (λ f. f ≡ GhostFault.NoMemory ⊎ IsFirstFault f lists.now) }
 {
     Ghost::of(alloc, lists)
@@ -310,7 +323,7 @@ fn tested(alloc: Global, lists: &GhostLists) -> Result<Ghost, GhostFault>
 
 /// The member that makes lists have a fault, where it is one of two that can't be there both.
 fn culprit(state: &PlainState<'_>, fault: GhostFault) -> Option<(PlainList, usize)>
-    ensures { IsCulprit (lists_told state.now) fault result }
+    ensures { (cpus : ℕ) → IsFirstOfLists cpus (lists_told state.now) fault → IsCulprit (lists_told state.now) fault result }
 {
     match fault {
         GhostFault::Overlap => {
@@ -332,7 +345,7 @@ fn culprit(state: &PlainState<'_>, fault: GhostFault) -> Option<(PlainList, usiz
 /// A fault of lists, with the member that makes them have it.
 fn with_culprit(state: &PlainState<'_>, fault: GhostFault) -> PlainFault
     ensures memory { fault ≡ GhostFault.NoMemory → result ≡ PlainFault.NoMemory }
-    ensures fault { (l : GhostLists) → IsFirstFault fault l → IsListsFault (lists_told state.now) l result }
+    ensures fault { (cpus : ℕ) → IsFirstOfLists cpus (lists_told state.now) fault → IsListsFault cpus (lists_told state.now) result }
 {
     match fault {
         GhostFault::NoMemory => PlainFault::NoMemory,
@@ -349,10 +362,10 @@ fn with_rows(
 ) -> Result<Ghost, PlainFault>
     requires rows { run_map advance_row rows.runs ≡ run_map advance_row (rows_said state.now.rows.now) }
     requires log { layout.config.log ≡ 1 }
-    requires known { first_unknown_of layout.config.cpus (lists_told state.now) ≡ None }
-    requires once { AreOnce (lists_told state.now) }
+    requires read { AreRead layout.config.cpus (lists_told state.now) }
     ensures state { IfOk result (λ g. ghost_state g ≡ state_said (lists_told state.now)) }
     ensures layout { IfOk result (λ g. layout_of g.layout ≡ layout_of layout) }
+    ensures taken { OnOk result (AreTaken layout.config.cpus (lists_told state.now)) }
     ensures fault { IfErr result (IsPlainFault layout.config.cpus (lists_told state.now)) }
 {
     let Ok(lists) = filled(alloc, layout, state, rows) else {

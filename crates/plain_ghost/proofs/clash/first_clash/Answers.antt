@@ -1,4 +1,4 @@
-use Rattle.std.proofs.Common.{rules, ◌≡◌, ◌≤◌, length, arith, take, get_or, false}
+use Rattle.std.proofs.Common.{rules, ◌≡◌, ◌≤◌, length, take, get_or, false}
 use Rattle.std.specs.List.{list_any}
 use Rattle.plain_ghost.proofs.NoClash.{no_clash_all, no_clash_more}
 use Rattle.plain_ghost.proofs.clash.first_clash.Goals as goal

@@ -1,4 +1,4 @@
-use Rattle.std.proofs.Common.{◌≡◌, ℕ, ◌<◌}
+use Rattle.std.proofs.Common.{ℕ, ◌<◌}
 use Rattle.plain_ghost.specs.Clashes.{IsClash}
 use Rattle.plain_ghost.proofs.clash.first_clash.Given as goal
 

@@ -1,4 +1,4 @@
-use Rattle.std.proofs.Common.{ap, map, rules, ◌∙◌}
+use Rattle.std.proofs.Common.{ap, map, ◌∙◌}
 use Rattle.ghost_spec.specs.Views.{cpu_in}
 use Rattle.plain_ghost.specs.Lists.{cpu_listed, cpu_said}
 use Rattle.plain_ghost.proofs.OneMore.{numbered_more}
