@@ -1,5 +1,5 @@
 -- What holds of plain lists, and of lists that are filled in as they say.
-use Rattle.std.proofs.Common.{◌≡◌, ℕ, zero, suc, ◌+◌, ◌<◌, ◌≤◌, ◌^◌, List, length, map, get_or, ⊎_elim, refl, subst, sym, ap, ◌∙◌, arith}
+use Rattle.std.proofs.Common.{◌≡◌, ℕ, zero, suc, ◌+◌, ◌<◌, ◌≤◌, ◌^◌, List, length, map, get_or, ⊎_elim, subst, sym, ap, ◌∙◌, arith}
 use Rattle.std.specs.Prelude.{All}
 use Rattle.std.specs.List.{range_with_len}
 use Rattle.std.proofs.lemmas.List.{length-map}
@@ -10,7 +10,6 @@ use Rattle.ghost_trees.specs.declared.tree.Table.{Table}
 use Rattle.ghost_trees.specs.Apart.{AreFramesApart, AreRunsApart, AreTablesApart}
 use Rattle.ghost_trees.specs.Small.{AreSmall}
 use Rattle.ghost_spec.specs.declared.lists.GhostLists.{GhostLists}
-use Rattle.ghost_spec.specs.declared.parts.GhostGuest.{GhostGuest}
 use Rattle.ghost_spec.specs.Filled.{HasFramesApart, HasLowNumbers, HasRunsApart, HasTablesApart}
 use Rattle.ghost_spec.specs.Views.{cpu_in}
 use Rattle.plain_ghost.specs.Faults.{HaveFramesApart, HaveLowNumbers, HaveRunsApart, HaveTablesApart, IsLowCpu}
@@ -24,7 +23,7 @@ module _ {A B : Type 0} (see : A → B) (said : ℕ → B) (n : ℕ) (xs : List 
   count : length xs ≡ n
   count = sym (length-map xs see) ∙ (ap length is ∙ length-map-range_with_len said 0 n)
 
-  at : (k : ℕ) (d : A) → k < length xs → said k ≡ see (get_or xs k d)
+  pub at : (k : ℕ) (d : A) → k < length xs → said k ≡ see (get_or xs k d)
   at k d less =
       let here : 0 + k ≡ k = omega arith in
       let within : k < n = omega (arith, less, count) in

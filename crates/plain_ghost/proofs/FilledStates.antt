@@ -1,5 +1,5 @@
 -- The state of lists that are filled in as plain lists say, and their faults.
-use Rattle.std.proofs.Common.{◌≡◌, ℕ, zero, suc, ◌<◌, ◌≤◌, List, [], ◌∷◌, All, Option, None, get_or, length, map, refl, sym, ap, subst, inl, inr, ◌∙◌}
+use Rattle.std.proofs.Common.{◌≡◌, ℕ, zero, suc, List, [], ◌∷◌, All, Option, None, get_or, length, map, refl, sym, ap, subst, inl, inr, ◌∙◌}
 use Rattle.std.specs.Prelude.{◌⊎◌, ◌↔◌, nat_lt, if◌then◌else◌, unwrap_or, IfErr, Result, Ok, Err}
 use Rattle.std.specs.List.{range_with_len}
 use Rattle.std.proofs.lemmas.List.{get_or_past, length-map}
@@ -9,11 +9,10 @@ use Rattle.page_state.proofs.Cases.{by_lt}
 use Rattle.page_state.proofs.Common.{same2}
 use Rattle.page_state.specs.declared.entry.Run.{Run}
 use Rattle.page_state.specs.declared.row.Row.{Row}
-use Rattle.page_state.specs.Rows.{advance_row, plain_row}
+use Rattle.page_state.specs.Rows.{plain_row}
 use Rattle.page_state.specs.Runs.{map_of}
 use Rattle.page_state.specs.Trees.{Tree, Pool}
-use Rattle.reference_model.specs.State.{Contents, Cpu, Guest, Reference, Rooms, Slot, no_cpu, no_guest, no_slot}
-use Rattle.run_list.specs.Runs.{run_map}
+use Rattle.reference_model.specs.State.{Cpu, Guest, Reference, Rooms, Slot, no_cpu, no_guest, no_slot}
 use Rattle.ghost_trees.specs.declared.tree.Table.{Table}
 use Rattle.ghost_trees.specs.declared.tree.Tree.{Tree as TreeOfLists}
 use Rattle.ghost_trees.specs.Pools.{in_order}
@@ -29,7 +28,7 @@ use Rattle.plain_ghost.specs.declared.state.PlainFault.{PlainFault}
 use Rattle.plain_ghost.specs.declared.state.PlainFault.TheVariants.{Unknown, Rows as RowsFault, Twice, Lists as ListsFault, NoMemory}
 use Rattle.plain_ghost.specs.Faults.{first_unknown_of, AreRead, AreTaken, IsFirstOfLists, IsListsFault, IsPlainFault}
 use Rattle.plain_ghost.specs.Filled.{GuestLists, guest_lists_said, lists_in, slot_filled, IsFilled, IsFilledTree, IsRoomy}
-use Rattle.plain_ghost.specs.Lists.{cpu_listed, cpu_said, frames_said, guest_listed, rows_said, runs_said, slot_listed, slot_said, tables_said}
+use Rattle.plain_ghost.specs.Lists.{cpu_listed, cpu_said, frames_said, guest_listed, rows_said, slot_listed, slot_said}
 use Rattle.plain_ghost.specs.States.{Lists, guest_said, rooms_said, state_said, tree_said}
 use Rattle.plain_ghost.proofs.FilledLists.{frames_in, frames_out, low_in, low_out, runs_in, runs_out, tables_in, tables_out}
 use Rattle.plain_ghost.proofs.KnownLists.{cpu_whole, known_cpus, known_loads, slot_whole}

@@ -25,7 +25,7 @@ use Rattle.plain_ghost.specs.Faults.{AreTaken}
 use Rattle.plain_ghost.specs.Judged.{told_said, CanCall, HasLastGeneration, IsForetold, IsForetoldState, IsJudged, IsUnjudged, IsUnjudgedAfter}
 use Rattle.plain_ghost.specs.Layouts.{layout_said, IsTakenLayout}
 use Rattle.plain_ghost.specs.States.{Lists, contents_said, state_said}
-use Rattle.plain_ghost.specs.Told.{in_pool_order, lists_owned}
+use Rattle.plain_ghost.specs.Told.{in_pool_order, lists_owned, AreTold}
 
 not_true : (b : Bool) → not b ≡ true → IsTrue b → ⊥
 not_true true e is = absurd (let bad = e in cc)
@@ -60,11 +60,12 @@ foretold_it l regions t s before cpu plain step (Err why) can layout state h = t
 
 pub state_it : (l : PlainLayout) (regions : List PlainRegion) (t : Layout) (s : Reference) (before : Lists) (cpu : ℕ) (plain : PlainStep) (step : Step) (r : Result Predicted Unjudged)
     → CanCall l regions before cpu plain step → t ≡ layout_said l regions → s ≡ state_said before → IfOk r (λ f. f.reply ≡ reply_written (foretell t s cpu step).0)
-    → IfOk r (λ f. contents_said (lists_owned f.after) ≡ in_pool_order (foretell t s cpu step).1.contents) → IfOk r (λ f. IsForetoldState l regions before cpu plain f.reply (lists_owned f.after))
-state_it l regions t s before cpu plain step (Ok f) can layout state h k =
+    → IfOk r (λ f. contents_said (lists_owned f.after) ≡ in_pool_order (foretell t s cpu step).1.contents) → (n : ℕ) → n ≡ l.cpus → IfOk r (λ f. AreTold n (lists_owned f.after))
+    → IfOk r (λ f. IsForetoldState l regions before cpu plain f.reply (lists_owned f.after))
+state_it l regions t s before cpu plain step (Ok f) can layout state h k n cpus told =
     let e = told_is l regions t s before cpu step layout state in
-    record { step = step; can = can; reply_is = h ∙ ap (λ (u : Reply × Reference). reply_written u.0) e; after_is = k ∙ ap (λ (u : Reply × Reference). in_pool_order u.1.contents) e }
-state_it l regions t s before cpu plain step (Err why) can layout state h k = tt
+    record { step = step; can = can; reply_is = h ∙ ap (λ (u : Reply × Reference). reply_written u.0) e; after_is = k ∙ ap (λ (u : Reply × Reference). in_pool_order u.1.contents) e; after_told = subst (λ m. AreTold m (lists_owned f.after)) cpus told }
+state_it l regions t s before cpu plain step (Err why) can layout state h k n cpus told = tt
 
 pub judged_it : (l : PlainLayout) (regions : List PlainRegion) (t : Layout) (s : Reference) (before : Lists) (call : PlainCall) (after : Lists) (step : Step) (reply : Reply) (r : Result (Option Disagreement) Unjudged)
     → CanCall l regions before call.cpu call.step step → reply_said call.reply ≡ Some reply → t ≡ layout_said l regions → s ≡ state_said before → OnOk r (AreTaken l.cpus after)

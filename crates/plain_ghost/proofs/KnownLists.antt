@@ -6,7 +6,7 @@ use Rattle.std.proofs.lemmas.Iterator.Adapters.{position_from-zero}
 use Rattle.std.proofs.lemmas.Bool.Decides.{nat_tests}
 use mathlib.Core.Path.{fun_ext}
 use Rattle.page_state.proofs.Cases.{by_test}
-use Rattle.reference_model.specs.State.{Cpu, Slot, no_cpu}
+use Rattle.reference_model.specs.State.{no_cpu}
 use Rattle.plain_ghost.specs.declared.members.PlainCpu.{PlainCpu}
 use Rattle.plain_ghost.specs.declared.members.PlainLoad.{PlainLoad}
 use Rattle.plain_ghost.specs.declared.members.PlainSlot.{PlainSlot}

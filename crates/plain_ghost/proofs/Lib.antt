@@ -6,4 +6,7 @@ mod KnownLists
 mod NoClash
 pub mod OneMore
 mod Telling
+mod ToldKnown
 mod ToldStates
+mod NoRefusal
+mod OneAnswer

@@ -22,7 +22,7 @@ use Rattle.plain_ghost.specs.declared.layout.PlainRegion.{PlainRegion}
 use Rattle.plain_ghost.specs.Faults.{AreTaken, IsPlainFault}
 use Rattle.plain_ghost.specs.Layouts.{layout_said, IsLayoutFault, IsTakenLayout}
 use Rattle.plain_ghost.specs.States.{Lists, contents_said, state_said}
-use Rattle.plain_ghost.specs.Told.{in_pool_order}
+use Rattle.plain_ghost.specs.Told.{in_pool_order, AreTold}
 
 -- why a layout and lists make no state: the first that is true
 abbrev pub IsUnmade : PlainLayout → List PlainRegion → Lists → Unmade → Type 0
@@ -59,12 +59,13 @@ pub record IsForetold (l : PlainLayout) (regions : List PlainRegion) (before : L
   pub can : CanCall l regions before cpu plain step
   pub reply_is : reply ≡ reply_written (told_said l regions before cpu step).0
 
--- and the lists say the state after it, with each pool in order
+-- and the lists say the state after it, with each pool in order, by members of known numbers
 pub record IsForetoldState (l : PlainLayout) (regions : List PlainRegion) (before : Lists) (cpu : ℕ) (plain : PlainStep) (reply : PlainReply) (after : Lists) : Type 0 where
   pub step : Step
   pub can : CanCall l regions before cpu plain step
   pub reply_is : reply ≡ reply_written (told_said l regions before cpu step).0
   pub after_is : contents_said after ≡ in_pool_order (told_said l regions before cpu step).1.contents
+  pub after_told : AreTold l.cpus after
 
 -- the step of a call releases a slot whose generation can't rise
 pub record HasLastGeneration (before : Lists) (cpu : ℕ) (plain : PlainStep) : Type 0 where

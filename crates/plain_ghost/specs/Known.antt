@@ -1,5 +1,5 @@
 -- Which members of plain lists have known numbers, and the first that hasn't.
-use Rattle.std.specs.Prelude.{◌≡◌, ℕ, Bool, true, ◌==◌, ◌&&◌, ◌||◌, not, nat_lt, nat_le, is_some, List, Option, option_map, position}
+use Rattle.std.specs.Prelude.{ℕ, Bool, ◌==◌, ◌&&◌, ◌||◌, nat_lt, nat_le, is_some}
 use Rattle.plain_words.specs.Said.{target_said, row_said}
 use Rattle.plain_ghost.specs.declared.members.PlainRun.{PlainRun}
 use Rattle.plain_ghost.specs.declared.members.PlainTable.{PlainTable}
@@ -33,9 +33,13 @@ is_load l = nat_lt l.slot 64 && nat_lt l.vcpu 8
 abbrev pub is_guest : PlainGuest → Bool
 is_guest g = nat_lt g.slot 64 && (nat_lt g.phase 3 && nat_lt g.kind 2)
 
+-- a ticket, where there is one
+abbrev pub has_known_ticket : PlainCpu → Bool
+has_known_ticket k = k.has_ticket == 0 || nat_lt k.ticket_kind 2 && nat_lt k.ticket_stage 5
+
 -- one of so many CPUs
 abbrev pub is_cpu : ℕ → PlainCpu → Bool
-is_cpu count k = nat_lt k.cpu count && ((k.has_vcpu == 0 || nat_lt k.vcpu 8) && (k.has_ticket == 0 || nat_lt k.ticket_kind 2 && nat_lt k.ticket_stage 5))
+is_cpu count k = nat_lt k.cpu count && ((k.has_vcpu == 0 || nat_lt k.vcpu 8) && has_known_ticket k)
 
 abbrev pub is_row : PlainRow → Bool
 is_row r = is_some (row_said r.owner)

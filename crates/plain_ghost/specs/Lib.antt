@@ -8,3 +8,4 @@ pub mod Lists
 pub mod States
 pub mod Told
 pub mod Views
+pub mod Laws

@@ -1,5 +1,5 @@
 -- The lists that are told of a state.
-use Rattle.std.specs.Prelude.{ℕ}
+use Rattle.std.specs.Prelude.{ℕ, ◌&&◌, ◌<◌, nat_lt, Bool, IsTrue, List, All}
 use Rattle.step_reply.specs.declared.step.VmKind.{VmKind}
 use Rattle.reference_model.specs.State.{Contents, Phase, Stand}
 use Rattle.ghost_spec.specs.declared.parts.GhostGuest.{GhostGuest}
@@ -7,15 +7,44 @@ use Rattle.ghost_spec.specs.declared.parts.GhostSlot.{GhostSlot}
 use Rattle.ghost_spec.specs.Filled.{ordered}
 use Rattle.ghost_spec.specs.States.{phase_in, stand_in}
 use Rattle.ghost_trees.specs.Pools.{in_order}
+use Rattle.plain_ghost.specs.declared.members.PlainCpu.{PlainCpu}
 use Rattle.plain_ghost.specs.declared.members.PlainGuest.{PlainGuest}
+use Rattle.plain_ghost.specs.declared.members.PlainLoad.{PlainLoad}
 use Rattle.plain_ghost.specs.declared.members.PlainSlot.{PlainSlot}
 use Rattle.plain_ghost.specs.declared.told.PlainLists.{PlainLists}
+use Rattle.plain_ghost.specs.Faults.{AreOnce}
+use Rattle.plain_ghost.specs.Known.{has_known_ticket, is_frame, is_guest, is_row, is_run, is_slot, is_table}
 use Rattle.plain_ghost.specs.Lists.{kind_said, phase_said, stand_said}
 use Rattle.plain_ghost.specs.States.{Lists}
 
 -- the lists
 abbrev pub lists_owned : PlainLists → Lists
 lists_owned p = record { runs = p.runs.items; tables = p.tables.items; frames = p.frames.items; slots = p.slots.items; loads = p.loads.items; guests = p.guests.items; cpus = p.cpus.items; rows = p.rows.items }
+
+-- members whose numbers all stand for something
+abbrev pub AreKnown : {X : Type 0} → (X → Bool) → List X → Type 0
+AreKnown known xs = All (λ x. IsTrue (known x)) xs
+
+-- loads, whatever the numbers of their vCPUs
+abbrev pub AreLoads : List PlainLoad → Type 0
+AreLoads xs = All (λ l. l.slot < 64) xs
+
+-- and so of CPUs
+abbrev pub is_cpu_told : ℕ → PlainCpu → Bool
+is_cpu_told cpus k = nat_lt k.cpu cpus && has_known_ticket k
+
+-- lists that are told have known numbers, but for those of vCPUs, and no slot, guest or CPU is there twice. A vCPU may be past the
+-- eighth where its slot has more than 8
+pub record AreTold (cpus : ℕ) (p : Lists) : Type 0 where
+  pub runs : AreKnown is_run p.runs
+  pub tables : AreKnown is_table p.tables
+  pub frames : AreKnown is_frame p.frames
+  pub slots : AreKnown is_slot p.slots
+  pub loads : AreLoads p.loads
+  pub guests : AreKnown is_guest p.guests
+  pub cpus_are : AreKnown (is_cpu_told cpus) p.cpus
+  pub rows : AreKnown is_row p.rows
+  pub once : AreOnce p
 
 -- contents whose pools are in order, as those are that lists say
 abbrev pub in_pool_order : Contents → Contents

@@ -8,7 +8,7 @@ ghost use Rattle.plain_ghost.specs.Faults.{AreTaken};
 ghost use Rattle.plain_ghost.specs.Judged.{IsForetold, IsForetoldState, IsJudged, IsUnjudged, IsUnjudgedAfter, IsUnmade, IsUntold};
 ghost use Rattle.plain_ghost.specs.Layouts.{layout_said, IsTakenLayout};
 ghost use Rattle.plain_ghost.specs.States.{contents_said, state_said};
-ghost use Rattle.plain_ghost.specs.Told.{in_pool_order, lists_owned};
+ghost use Rattle.plain_ghost.specs.Told.{in_pool_order, lists_owned, AreTold};
 ghost use Rattle.plain_ghost.specs.Views.{lists_told};
 ghost use Rattle.plain_words.specs.Written.{reply_written};
 
@@ -214,6 +214,7 @@ fn state_after(alloc: Global, pre: Ghost, cpu: u64, step: Step) -> Result<Predic
     requires generation { HasNextGeneration ((contents_in pre).cpu cpu).ticket step }
     ensures reply { IfOk result (λ f. f.reply ≡ reply_written (told_of pre cpu step).0) }
     ensures after { IfOk result (λ f. contents_said (lists_owned f.after) ≡ in_pool_order (told_of pre cpu step).1.contents) }
+    ensures lists { IfOk result (λ f. AreTold pre.layout.config.cpus (lists_owned f.after)) }
     ensures untold { IfErr result (λ why. why ≡ Unjudged.NoMemory) }
 {
     let Ok((reply, after)) = predict_last(alloc, pre, cpu, step) else {

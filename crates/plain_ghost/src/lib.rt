@@ -5,6 +5,7 @@
 mod clash;
 mod judge;
 mod known;
+pub mod laws;
 mod layout;
 mod lists;
 mod members;

@@ -1,5 +1,5 @@
 //! A state as lists: what `made` reads, written.
-ghost use Rattle.std.specs.Prelude.{◌≡◌, ℕ, ◌+◌, ◌++◌, ◌==◌, ◌&&◌, [], IfOk, None, OnOk, Some, if◌then◌else◌, get_or, length, map};
+ghost use Rattle.std.specs.Prelude.{◌≡◌, ℕ, ◌+◌, ◌<◌, ◌≤◌, ◌++◌, ◌==◌, ◌&&◌, [], IfOk, IsTrue, None, OnOk, Some, if◌then◌else◌, get_or, length, map};
 ghost use Rattle.std.specs.List.{range_with_len};
 ghost use Rattle.std.specs.Option.{option_or};
 ghost use Rattle.ghost_spec.specs.States.{contents_in, phase_in, stand_in};
@@ -24,7 +24,8 @@ ghost use Rattle.plain_ghost.specs.Lists.{
   ticket_said,
 };
 ghost use Rattle.plain_ghost.specs.States.{contents_said};
-ghost use Rattle.plain_ghost.specs.Told.{guest_head_in, guest_head_said, in_pool_order, lists_owned, slot_head_in, slot_head_said};
+ghost use Rattle.plain_ghost.specs.Known.{has_known_ticket, is_frame, is_guest, is_row, is_run, is_slot, is_table};
+ghost use Rattle.plain_ghost.specs.Told.{guest_head_in, guest_head_said, in_pool_order, is_cpu_told, lists_owned, slot_head_in, slot_head_said, AreKnown, AreLoads, AreTold};
 ghost use Rattle.plain_ghost.specs.Views.{lists_told};
 
 use crate::members::{
@@ -69,7 +70,8 @@ fn run_told(tree: u64, run: Run) -> PlainRun
 
 /// Adds the runs of a tree.
 fn tell_runs(told: &mut Vec<PlainRun>, tree: u64, runs: &[Run]) -> Result<(), AllocError>
-    ensures { OnOk result ((t : ℕ) → runs_said told.new.items t ≡ runs_said told.old.items t ++ (if tree == t then runs.now else [])) }
+    ensures said { OnOk result ((t : ℕ) → runs_said told.new.items t ≡ runs_said told.old.items t ++ (if tree == t then runs.now else [])) }
+    ensures known { OnOk result (tree < 66 → AreKnown is_run told.old.items → AreKnown is_run told.new.items) }
 {
     for i in 0..runs.len() {
         told.push(run_told(tree, runs[i]))?;
@@ -91,7 +93,8 @@ fn table_told(tree: u64, table: Table) -> PlainTable
 
 /// Adds the tables of a tree.
 fn tell_tables(told: &mut Vec<PlainTable>, tree: u64, tables: &[Table]) -> Result<(), AllocError>
-    ensures { OnOk result ((t : ℕ) → tables_said told.new.items t ≡ tables_said told.old.items t ++ (if tree == t then tables.now else [])) }
+    ensures said { OnOk result ((t : ℕ) → tables_said told.new.items t ≡ tables_said told.old.items t ++ (if tree == t then tables.now else [])) }
+    ensures known { OnOk result (tree < 66 → AreKnown is_table told.old.items → AreKnown is_table told.new.items) }
 {
     for i in 0..tables.len() {
         told.push(table_told(tree, tables[i]))?;
@@ -108,7 +111,8 @@ fn frame_told(pool: u64, frame: u64) -> PlainFrame
 
 /// Adds the free frames of a pool.
 fn tell_frames(told: &mut Vec<PlainFrame>, pool: u64, frames: &[u64]) -> Result<(), AllocError>
-    ensures { OnOk result ((t : ℕ) → frames_said told.new.items t ≡ frames_said told.old.items t ++ (if pool == t then frames.now else [])) }
+    ensures said { OnOk result ((t : ℕ) → frames_said told.new.items t ≡ frames_said told.old.items t ++ (if pool == t then frames.now else [])) }
+    ensures known { OnOk result (1 ≤ pool → pool < 66 → AreKnown is_frame told.old.items → AreKnown is_frame told.new.items) }
 {
     for i in 0..frames.len() {
         told.push(frame_told(pool, frames[i]))?;
@@ -122,6 +126,7 @@ fn runs_told(alloc: Global, lists: &GhostLists) -> Result<Vec<PlainRun>, AllocEr
     ensures host { IfOk result (λ v. runs_said v.items 0 ≡ lists.now.shared.host.runs.items) }
     ensures hyp { IfOk result (λ v. runs_said v.items 1 ≡ lists.now.shared.hyp.runs.items) }
     ensures guests { IfOk result (λ v. (n : ℕ) → runs_said v.items (2 + n) ≡ get_or (map (λ (g : GhostGuest). g.tree.runs.items) lists.now.guests.items) n []) }
+    ensures known { IfOk result (λ v. AreKnown is_run v.items) }
 {
     let mut told = Vec::new(alloc);
     tell_runs(&mut told, HOST, lists.shared.host.runs.as_slice())?;
@@ -142,6 +147,7 @@ fn tables_told(alloc: Global, lists: &GhostLists) -> Result<Vec<PlainTable>, All
     ensures host { IfOk result (λ v. tables_said v.items 0 ≡ lists.now.shared.host.tables.items) }
     ensures hyp { IfOk result (λ v. tables_said v.items 1 ≡ lists.now.shared.hyp.tables.items) }
     ensures guests { IfOk result (λ v. (n : ℕ) → tables_said v.items (2 + n) ≡ get_or (map (λ (g : GhostGuest). g.tree.tables.items) lists.now.guests.items) n []) }
+    ensures known { IfOk result (λ v. AreKnown is_table v.items) }
 {
     let mut told = Vec::new(alloc);
     tell_tables(&mut told, HOST, lists.shared.host.tables.as_slice())?;
@@ -161,6 +167,7 @@ fn frames_told(alloc: Global, lists: &GhostLists) -> Result<Vec<PlainFrame>, All
     requires { length lists.now.guests.items ≡ 64 }
     ensures shared { IfOk result (λ v. frames_said v.items 1 ≡ lists.now.shared.free.items) }
     ensures guests { IfOk result (λ v. (n : ℕ) → frames_said v.items (2 + n) ≡ get_or (map (λ (g : GhostGuest). g.free.items) lists.now.guests.items) n []) }
+    ensures known { IfOk result (λ v. AreKnown is_frame v.items) }
 {
     let mut told = Vec::new(alloc);
     tell_frames(&mut told, SHARED_POOL, lists.shared.free.as_slice())?;
@@ -176,7 +183,8 @@ fn frames_told(alloc: Global, lists: &GhostLists) -> Result<Vec<PlainFrame>, All
 
 /// The number of how a slot stands.
 fn stand_number(stand: GhostStand) -> u64
-    ensures { stand_said result ≡ stand_in stand }
+    ensures said { stand_said result ≡ stand_in stand }
+    ensures known { result < 4 }
 {
     match stand {
         GhostStand::Vacant => 0,
@@ -188,7 +196,8 @@ fn stand_number(stand: GhostStand) -> u64
 
 /// The number of a phase.
 fn phase_number(phase: GhostPhase) -> u64
-    ensures { phase_said result ≡ phase_in phase }
+    ensures said { phase_said result ≡ phase_in phase }
+    ensures known { result < 3 }
 {
     match phase {
         GhostPhase::Empty => 0,
@@ -199,7 +208,8 @@ fn phase_number(phase: GhostPhase) -> u64
 
 /// The number of a kind of VMs.
 fn kind_number(kind: VmKind) -> u64
-    ensures { kind_said result ≡ kind }
+    ensures said { kind_said result ≡ kind }
+    ensures known { result < 2 }
 {
     match kind {
         VmKind::Plain => 0,
@@ -209,7 +219,8 @@ fn kind_number(kind: VmKind) -> u64
 
 /// The number of a stage.
 fn stage_number(stage: Stage) -> u64
-    ensures { stage_said result ≡ stage }
+    ensures said { stage_said result ≡ stage }
+    ensures known { result < 5 }
 {
     match stage {
         Stage::Booked => 0,
@@ -223,6 +234,7 @@ fn stage_number(stage: Stage) -> u64
 /// The slot of a number, but for what is loaded.
 fn slot_told(number: u64, slot: &GhostSlot) -> PlainSlot
     ensures number { result.slot ≡ number }
+    ensures known { number < 64 → IsTrue (is_slot result) }
     ensures head { slot_head_said result ≡ slot_head_in slot.now }
 {
     PlainSlot {
@@ -238,6 +250,7 @@ fn slot_told(number: u64, slot: &GhostSlot) -> PlainSlot
 fn slots_told(alloc: Global, slots: &[GhostSlot]) -> Result<Vec<PlainSlot>, AllocError>
     ensures numbers { IfOk result (λ v. map (λ (s : PlainSlot). s.slot) v.items ≡ map (λ n. n) (range_with_len 0 (length slots.now))) }
     ensures heads { IfOk result (λ v. map slot_head_said v.items ≡ map slot_head_in slots.now) }
+    ensures known { IfOk result (λ v. length slots.now ≤ 64 → AreKnown is_slot v.items) }
 {
     let mut told = Vec::new(alloc);
     for i in 0..slots.len() {
@@ -253,7 +266,8 @@ fn tell_load(
     vcpu: u64,
     cpu: Option<u64>,
 ) -> Result<(), AllocError>
-    ensures { OnOk result ((s k : ℕ) → loader_said told.new.items s k ≡ option_or (loader_said told.old.items s k) (if slot == s && vcpu == k then cpu else None)) }
+    ensures said { OnOk result ((s k : ℕ) → loader_said told.new.items s k ≡ option_or (loader_said told.old.items s k) (if slot == s && vcpu == k then cpu else None)) }
+    ensures known { OnOk result (slot < 64 → AreLoads told.old.items → AreLoads told.new.items) }
 {
     if let Some(cpu) = cpu {
         told.push(PlainLoad { slot, vcpu, cpu })?;
@@ -267,7 +281,8 @@ fn tell_loads(
     slot: u64,
     loaded: &[Option<u64>],
 ) -> Result<(), AllocError>
-    ensures { OnOk result ((s k : ℕ) → loader_said told.new.items s k ≡ option_or (loader_said told.old.items s k) (if slot == s then get_or loaded.now k None else None)) }
+    ensures said { OnOk result ((s k : ℕ) → loader_said told.new.items s k ≡ option_or (loader_said told.old.items s k) (if slot == s then get_or loaded.now k None else None)) }
+    ensures known { OnOk result (slot < 64 → AreLoads told.old.items → AreLoads told.new.items) }
 {
     for i in 0..loaded.len() {
         tell_load(told, slot, i as u64, loaded[i])?;
@@ -277,7 +292,8 @@ fn tell_loads(
 
 /// The loads of all slots.
 fn loads_told(alloc: Global, slots: &[GhostSlot]) -> Result<Vec<PlainLoad>, AllocError>
-    ensures { IfOk result (λ v. (s k : ℕ) → loader_said v.items s k ≡ get_or (get_or (map (λ (x : GhostSlot). x.loaded.items) slots.now) s []) k None) }
+    ensures said { IfOk result (λ v. (s k : ℕ) → loader_said v.items s k ≡ get_or (get_or (map (λ (x : GhostSlot). x.loaded.items) slots.now) s []) k None) }
+    ensures known { IfOk result (λ v. length slots.now ≤ 64 → AreLoads v.items) }
 {
     let mut told = Vec::new(alloc);
     for i in 0..slots.len() {
@@ -289,6 +305,7 @@ fn loads_told(alloc: Global, slots: &[GhostSlot]) -> Result<Vec<PlainLoad>, Allo
 /// The guest of a slot, but for its tree and its pool.
 fn guest_told(slot: u64, guest: &GhostGuest) -> PlainGuest
     ensures number { result.slot ≡ slot }
+    ensures known { slot < 64 → IsTrue (is_guest result) }
     ensures head { guest_head_said result ≡ guest_head_in guest.now }
 {
     PlainGuest {
@@ -303,6 +320,7 @@ fn guest_told(slot: u64, guest: &GhostGuest) -> PlainGuest
 fn guests_told(alloc: Global, guests: &[GhostGuest]) -> Result<Vec<PlainGuest>, AllocError>
     ensures numbers { IfOk result (λ v. map (λ (g : PlainGuest). g.slot) v.items ≡ map (λ n. n) (range_with_len 0 (length guests.now))) }
     ensures heads { IfOk result (λ v. map guest_head_said v.items ≡ map guest_head_in guests.now) }
+    ensures known { IfOk result (λ v. length guests.now ≤ 64 → AreKnown is_guest v.items) }
 {
     let mut told = Vec::new(alloc);
     for i in 0..guests.len() {
@@ -314,6 +332,7 @@ fn guests_told(alloc: Global, guests: &[GhostGuest]) -> Result<Vec<PlainGuest>, 
 /// A CPU's number, and nothing else of it.
 fn idle_told(number: u64) -> PlainCpu
     ensures number { result.cpu ≡ number }
+    ensures known { IsTrue (has_known_ticket result) }
     ensures loaded { loaded_said result ≡ None }
     ensures hand { hand_said result ≡ None }
     ensures ticket { ticket_said result ≡ None }
@@ -339,6 +358,7 @@ fn idle_told(number: u64) -> PlainCpu
 fn with_loaded(told: PlainCpu, loaded: Option<Loaded>) -> PlainCpu
     requires { loaded_said told ≡ None }
     ensures number { result.cpu ≡ told.cpu }
+    ensures known { IsTrue (has_known_ticket told) → IsTrue (has_known_ticket result) }
     ensures loaded { loaded_said result ≡ loaded }
     ensures hand { hand_said result ≡ hand_said told }
     ensures ticket { ticket_said result ≡ ticket_said told }
@@ -359,6 +379,7 @@ fn with_loaded(told: PlainCpu, loaded: Option<Loaded>) -> PlainCpu
 fn with_hand(told: PlainCpu, hand: Option<PageRange>) -> PlainCpu
     requires { hand_said told ≡ None }
     ensures number { result.cpu ≡ told.cpu }
+    ensures known { IsTrue (has_known_ticket told) → IsTrue (has_known_ticket result) }
     ensures loaded { loaded_said result ≡ loaded_said told }
     ensures hand { hand_said result ≡ hand }
     ensures ticket { ticket_said result ≡ ticket_said told }
@@ -378,6 +399,7 @@ fn with_hand(told: PlainCpu, hand: Option<PageRange>) -> PlainCpu
 fn with_ticket(told: PlainCpu, ticket: Option<Ticket>) -> PlainCpu
     requires { ticket_said told ≡ None }
     ensures number { result.cpu ≡ told.cpu }
+    ensures known { IsTrue (has_known_ticket told) → IsTrue (has_known_ticket result) }
     ensures loaded { loaded_said result ≡ loaded_said told }
     ensures hand { hand_said result ≡ hand_said told }
     ensures ticket { ticket_said result ≡ ticket }
@@ -398,6 +420,7 @@ fn with_ticket(told: PlainCpu, ticket: Option<Ticket>) -> PlainCpu
 /// A CPU's own state.
 fn cpu_told(number: u64, cpu: GhostCpu) -> PlainCpu
     ensures number { result.cpu ≡ number }
+    ensures known { IsTrue (has_known_ticket result) }
     ensures said { cpu_said result ≡ cpu_in cpu }
 {
     let loaded = with_loaded(idle_told(number), cpu.loaded);
@@ -408,6 +431,7 @@ fn cpu_told(number: u64, cpu: GhostCpu) -> PlainCpu
 fn cpus_told(alloc: Global, cpus: &[GhostCpu]) -> Result<Vec<PlainCpu>, AllocError>
     ensures numbers { IfOk result (λ v. map (λ (k : PlainCpu). k.cpu) v.items ≡ map (λ n. n) (range_with_len 0 (length cpus.now))) }
     ensures said { IfOk result (λ v. map cpu_said v.items ≡ map cpu_in cpus.now) }
+    ensures known { IfOk result (λ v. AreKnown (is_cpu_told (length cpus.now)) v.items) }
 {
     let mut told = Vec::new(alloc);
     for i in 0..cpus.len() {
@@ -429,7 +453,8 @@ fn row_told(run: run_list::Run<Row>) -> PlainRow
 
 /// All runs of owner rows.
 fn rows_told(alloc: Global, runs: &[run_list::Run<Row>]) -> Result<Vec<PlainRow>, AllocError>
-    ensures { IfOk result (λ v. rows_said v.items ≡ runs.now) }
+    ensures said { IfOk result (λ v. rows_said v.items ≡ runs.now) }
+    ensures known { IfOk result (λ v. AreKnown is_row v.items) }
 {
     let mut told = Vec::new(alloc);
     for i in 0..runs.len() {
@@ -441,7 +466,8 @@ fn rows_told(alloc: Global, runs: &[run_list::Run<Row>]) -> Result<Vec<PlainRow>
 /// The lists that say a state: all 64 slots and guests and all CPUs, by number, and of each map the coarsest runs. The free frames
 /// of each pool are told as they are kept; read again, they are in order.
 pub fn lists_of(alloc: Global, state: &Ghost) -> Result<PlainLists, AllocError>
-    ensures { IfOk result (λ p. contents_said (lists_owned p) ≡ in_pool_order (contents_in state.now)) }
+    ensures said { IfOk result (λ p. contents_said (lists_owned p) ≡ in_pool_order (contents_in state.now)) }
+    ensures told { IfOk result (λ p. AreTold state.now.layout.config.cpus (lists_owned p)) }
 {
     let lists = state.lists();
     let runs = runs_told(alloc, lists);

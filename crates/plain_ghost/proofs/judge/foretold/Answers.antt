@@ -6,9 +6,13 @@ use Rattle.plain_ghost.proofs.Generations.{can_call, foretold_it, last_generatio
 use Rattle.plain_ghost.proofs.judge.foretold.Goals as goal
 
 pub returns-then-not-has_next_generation-clause-untold : goal.returns-then-not-has_next_generation-clause-untold
-returns-then-not-has_next_generation-clause-untold c = (search rules, c.in-Ok.ensures.ready, c.in-Ok.ensures.taken,
-    last_generation (ghost_state c.in-Ok.pre) (lists_told c.args.before.now) c.args.cpu c.args.step c.in-Some.step c.has_next_generation.result (search rules) c.in-Ok.ensures.state c.has_next_generation.ensures
-    (search rules))
+returns-then-not-has_next_generation-clause-untold c = (
+  search rules,
+  c.in-Ok.ensures.ready,
+  c.in-Ok.ensures.taken,
+  last_generation (ghost_state c.in-Ok.pre) (lists_told c.args.before.now) c.args.cpu c.args.step c.in-Some.step c.has_next_generation.result (search rules) c.in-Ok.ensures.state c.has_next_generation.ensures
+      (search rules),
+)
 
 pub returns-else-not-has_next_generation-clause-told : goal.returns-else-not-has_next_generation-clause-told
 returns-else-not-has_next_generation-clause-told c =

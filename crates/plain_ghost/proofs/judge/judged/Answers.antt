@@ -1,8 +1,6 @@
-use Rattle.std.proofs.Common.{◌≡◌, ◌<◌, Some, rules}
-use Rattle.std.specs.Prelude.{IsSome}
+use Rattle.std.proofs.Common.{rules}
 use Rattle.page_state.specs.LayoutView.{layout_of}
 use Rattle.ghost_spec.specs.States.{ghost_state}
-use Rattle.plain_words.specs.Said.{reply_said}
 use Rattle.plain_ghost.specs.Judged.{CanCall}
 use Rattle.plain_ghost.specs.Views.{lists_told}
 use Rattle.plain_ghost.proofs.Generations.{after_it, can_call, judged_it, last_generation}
@@ -10,9 +8,16 @@ use Rattle.plain_ghost.proofs.judge.judged.Goals as goal
 use Rattle.plain_ghost.proofs.judge.judged.Goals.{After-judged_from}
 
 pub returns-then-not-has_next_generation-clause-unjudged : goal.returns-then-not-has_next_generation-clause-unjudged
-returns-then-not-has_next_generation-clause-unjudged c = (search rules, (search rules, c.in-Ok.ensures.ready, c.in-Ok.ensures.taken,
+returns-then-not-has_next_generation-clause-unjudged c = (
+  search rules,
+  (
+    search rules,
+    c.in-Ok.ensures.ready,
+    c.in-Ok.ensures.taken,
     last_generation (ghost_state c.in-Ok.pre) (lists_told c.args.before.now) c.args.call.now.cpu c.args.call.now.step c.in-Some.step c.has_next_generation.result (search rules) c.in-Ok.ensures.state c.has_next_generation.ensures
-    (search rules)))
+        (search rules),
+  ),
+)
 
 can : (c : After-judged_from) → CanCall c.args.layout.now c.args.layout.now.regions.now (lists_told c.args.before.now) c.args.call.now.cpu c.args.call.now.step c.in-Some.step
 can c = can_call c.args.layout.now c.args.layout.now.regions.now (ghost_state c.in-Ok.pre) (lists_told c.args.before.now) c.args.call.now.cpu c.args.call.now.step c.in-Some.step c.has_next_generation.result (search rules) (search rules)

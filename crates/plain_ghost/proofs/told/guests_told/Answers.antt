@@ -2,6 +2,9 @@ use Rattle.std.proofs.Common.{◌≡◌, ap, get_or, map, rules, sym, ◌∙◌}
 use Rattle.plain_ghost.specs.declared.members.PlainGuest.{PlainGuest}
 use Rattle.plain_ghost.specs.Told.{guest_head_in, guest_head_said}
 use Rattle.plain_ghost.proofs.OneMore.{numbered_more, seen_more}
+use Rattle.std.proofs.Common.{arith}
+use Rattle.plain_ghost.specs.Known.{is_guest}
+use Rattle.plain_ghost.proofs.ToldKnown.{known_more}
 use Rattle.plain_ghost.proofs.told.guests_told.Goals as goal
 
 pub loop-i-preserved : goal.loop-i-preserved
@@ -10,4 +13,5 @@ loop-i-preserved c =
       ap (map (λ (x : PlainGuest). x.slot)) c.in_ok-push.ensures.items ∙ numbered_more (λ (x : PlainGuest). x.slot) (λ n. n) c.loop-i.told.items c.loop-i.i c.guest_told.result c.loop-i.invariant.0 c.guest_told.ensures.number,
       ap (map guest_head_said) c.in_ok-push.ensures.items
           ∙ seen_more guest_head_said guest_head_in c.args.guests.now c.loop-i.told.items c.loop-i.i c.index-guests-i.result c.guest_told.result c.loop-i-test.true c.loop-i.invariant.1 (c.guest_told.ensures.head ∙ ap guest_head_in (sym here)),
+      λ most. known_more is_guest c.loop-i.told.items c.push.new.self.items c.guest_told.result c.in_ok-push.ensures.items (c.loop-i.invariant.2 most) (c.guest_told.ensures.known (omega (arith, most, c.loop-i-test.true))),
     )

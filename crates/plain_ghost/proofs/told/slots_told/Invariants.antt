@@ -2,8 +2,12 @@ use Rattle.std.proofs.Common.{◌≡◌, map, take}
 use Rattle.std.specs.List.{range_with_len}
 use Rattle.plain_ghost.specs.declared.members.PlainSlot.{PlainSlot}
 use Rattle.plain_ghost.specs.Told.{slot_head_in, slot_head_said}
+use Rattle.std.proofs.Common.{◌≤◌, length}
+use Rattle.plain_ghost.specs.Known.{is_slot}
+use Rattle.plain_ghost.specs.Told.{AreKnown}
 use Rattle.plain_ghost.proofs.told.slots_told.Given as goal
 
 abbrev pub invariant-loop-i : goal.invariant-loop-i
 invariant-loop-i l =
     (map (λ (s : PlainSlot). s.slot) l.told.items ≡ map (λ n. n) (range_with_len 0 l.i)) × (map slot_head_said l.told.items ≡ map slot_head_in (take l.i l.slots))
+    × (length l.slots ≤ 64 → AreKnown is_slot l.told.items)
