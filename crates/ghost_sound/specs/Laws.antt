@@ -1,9 +1,14 @@
--- What holds of legal states.
+-- What holds of legal states, and of sound ones.
 use Rattle.page_state.specs.Layouts.{Layout}
 use Rattle.reference_model.specs.Conditions.{IsUsable, Legal}
 use Rattle.reference_model.specs.State.{Contents}
-use Rattle.ghost_sound.specs.Sound.{IsSound}
+use Rattle.ghost_sound.specs.declared.finding.Unsound.{Unsound}
+use Rattle.ghost_sound.specs.Sound.{IsSound, IsUnsound}
 
 -- the maps of a legal state are sound
 abbrev pub LegalIsSound : Type 0
 LegalIsSound = (l : Layout) (s : Contents) → Legal l s → IsUsable l → IsSound s
+
+-- nothing is told of a sound state
+abbrev pub SoundElse : Type 0
+SoundElse = (s : Contents) (why : Unsound) → IsSound s → IsUnsound s why → ⊥

@@ -47,8 +47,8 @@ module _ (s : Contents) where
     pub borrowed : Maps s at.tree at.page.0 f SharedBorrowed
     pub unshared : IsShared f → ⊥
 
-  -- what is told is so
+  -- what is told is so, and what is told before it isn't
   abbrev pub IsUnsound : Unsound → Type 0
   IsUnsound (TwoOwners f one other) = AreTwoOwners f one other
-  IsUnsound (TwoBorrowers f one other) = AreTwoBorrowers f one other
-  IsUnsound (NoShare f at) = IsUnsharedAt f at
+  IsUnsound (TwoBorrowers f one other) = HasOneOwner × AreTwoBorrowers f one other
+  IsUnsound (NoShare f at) = HasOneOwner × HasOneBorrower × IsUnsharedAt f at

@@ -8,5 +8,5 @@ pub mod OneMore
 mod Telling
 mod ToldKnown
 mod ToldStates
-mod NoRefusal
+pub mod NoRefusal
 mod OneAnswer

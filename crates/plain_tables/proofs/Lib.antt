@@ -6,4 +6,4 @@ pub mod Laid
 pub mod MetTables
 pub mod Slots
 pub mod WalkedSlots
-mod OneAnswer
+pub mod OneAnswer

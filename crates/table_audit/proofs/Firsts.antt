@@ -27,7 +27,7 @@ module _ (s t : Contents) where
   hyp_first (Unsound why) e h = absurd h
   hyp_first (TableDiffers tree height index x y) e h = subst (λ o. IsFirstTableOf s t o (height, index) x y) (sym h.0) (e, h.1)
 
-  not_first : (f : Finding) → IsFirstTable s t f → TablesAgree s t → ⊥
+  pub not_first : (f : Finding) → IsFirstTable s t f → TablesAgree s t → ⊥
   not_first (Differs d) h a = h
   not_first (Unsound why) h a = h
   not_first (TableDiffers Host height index x y) h a = h.apart (ap (λ g. g (height, index)) a.host)

@@ -1,2 +1,3 @@
 pub mod Firsts
 pub mod Guests
+pub mod OneAnswer

@@ -1,4 +1,5 @@
 pub mod Audited
 pub mod Found
+pub mod Laws
 pub mod Tables
 pub mod Texts

@@ -3,6 +3,7 @@
 
 mod audit;
 mod finding;
+pub mod laws;
 mod tables;
 mod text;
 mod walked;
