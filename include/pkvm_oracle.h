@@ -55,7 +55,7 @@ enum {
     PKVM_BAD_TABLES = -13 /* pages of tables and their roots make no trees: why, in `refused` */
 };
 
-/* What a word of a table of a level says. 0; or PKVM_NO_LEVEL, and `out` stays. */
+/* What a word of a table of a level says, with 0 in each field that isn't named for it. 0; or PKVM_NO_LEVEL, and `out` stays. */
 int32_t pkvm_decode(uint64_t level, uint64_t word, struct pkvm_word *out);
 
 /* The one word that says this in a table of a level. 0; or PKVM_NO_LEVEL, PKVM_BAD_NUMBER, PKVM_NO_WORD, and `out` stays. */
@@ -215,7 +215,7 @@ enum {
 };
 
 /* Why something is refused, and the member of a list that is at fault: the first with an unknown number, or that can't be there with
- * an earlier one. PKVM_LIST_NONE where no member is told. */
+ * an earlier one. PKVM_LIST_NONE where no member is told: of the faults of a layout (1 to 6), of those of rows (8, 9), and of 11. */
 struct pkvm_refused {
     uint64_t fault; /* PKVM_FAULT_NONE where nothing of layout and states is refused */
     uint64_t list, index;
@@ -277,7 +277,7 @@ enum { PKVM_GIVES_NOTHING = 0, PKVM_GIVES_VM = 1, PKVM_GIVES_FRAME = 2, PKVM_GIV
 
 struct pkvm_reply {
     uint64_t refusal;          /* 0 where the call was made */
-    uint64_t gives;            /* what a call that was made gives; the fields below are read for it alone */
+    uint64_t gives;            /* what a call that was made gives; the fields below are read for it alone, and written 0 else */
     uint64_t slot, generation; /* the VM */
     uint64_t frame;
     struct pkvm_word entry;
@@ -331,11 +331,12 @@ struct pkvm_sizes {
 };
 
 /* The reply that the model gives to a call of a CPU on a state, and the state after it. 0: `reply` has the first, and the first
- * `sizes->x` members of each list `x` of `room` are the second, which can be handed in as a state; all behind them stays. It has all 64
- * slots and guests and all CPUs, the fewest runs of each map, and the rows that were handed in, with those of all frames that the
- * call touched. PKVM_NO_ROOM: a list has room for fewer members than `sizes` tells. Else an error, as of pkvm_predict_reply, and
- * `sizes` is all 0. Below 0 `reply` and all lists stay. The pointers and lengths in `room` stay in any case. No list may share
- * memory with another one, or with what else is handed in. */
+ * `sizes->x` members of each list `x` of `room` are the second; all behind them stays. It can be handed in as a state, but may be
+ * refused where the one before had a frame in two places or a slot of more than 8 vCPUs. It has all 64 slots and guests and all CPUs,
+ * the fewest runs of each map, and the rows that were handed in, with those of all frames that the call touched. PKVM_NO_ROOM: a list
+ * has room for fewer members than `sizes` tells. Else an error, as of pkvm_predict_reply, and `sizes` is all 0. Below 0 `reply` and all
+ * lists stay. The pointers and lengths in `room` stay in any case. No list may share memory with another one, or with what else is
+ * handed in. */
 int32_t pkvm_predict(const struct pkvm_layout *layout, const struct pkvm_state *before, uint64_t cpu, const struct pkvm_step *step,
                      struct pkvm_reply *reply, struct pkvm_room *room, struct pkvm_sizes *sizes, struct pkvm_refused *refused);
 
@@ -357,11 +358,11 @@ struct pkvm_root {
  * hardware does: a table word leads on to the page of its frame, and where no page has that frame the word is malformed. It
  * finds the runs and the tables of each tree, and the owner rows that follow from them and from the kept pools and hands.
  * PKVM_AGREES: maps, rows and tables are the kept ones, and the maps are sound. PKVM_DISAGREES: the first `*text_len` bytes of
- * `text` tell the first difference: in a map, in the rows, or in the tables; without one, why the maps aren't sound: two entries are
- * leaves of a frame in states PKVM_OWNED or PKVM_SHARED_OWNED (`two owners 0x40100: host 0x40100, hyp 0x4040100`), two are in state
- * PKVM_SHARED_BORROWED (`two borrowers ..`), or one is and none is in PKVM_SHARED_OWNED (`no share 0x40100: hyp 0x4040100`). Else an
- * error: PKVM_NO_ROOM (`*text_len` is what the text needs, and `text` stays), PKVM_BAD_LAYOUT, PKVM_BAD_BEFORE (the kept state),
- * PKVM_BAD_TABLES, PKVM_NO_MEMORY. */
+ * `text` tell the first difference: in a map, in the rows, or in the tables; without one, why the maps aren't sound, the first that is
+ * so: two entries are leaves of a frame in states PKVM_OWNED or PKVM_SHARED_OWNED (`two owners 0x40100: host 0x40100, hyp 0x4040100`),
+ * two are in state PKVM_SHARED_BORROWED (`two borrowers ..`), or one is and none is in PKVM_SHARED_OWNED (`no share 0x40100: hyp
+ * 0x4040100`). Else an error: PKVM_NO_ROOM (`*text_len` is what the text needs, and `text` stays), PKVM_BAD_LAYOUT, PKVM_BAD_BEFORE
+ * (the kept state), PKVM_BAD_TABLES, PKVM_NO_MEMORY. */
 int32_t pkvm_audit(const struct pkvm_layout *layout, const struct pkvm_state *kept, const struct pkvm_page *pages, size_t pages_len,
                    const struct pkvm_root *roots, size_t roots_len, uint8_t *text, size_t text_room, size_t *text_len,
                    struct pkvm_refused *refused);

@@ -1,2 +1,3 @@
 pub mod CheckedStates
 mod TheWord
+mod OneAnswer

@@ -10,8 +10,9 @@ use Rattle.ghost_spec.specs.declared.lists.GhostLists.{GhostLists}
 use Rattle.ghost_spec.specs.States.{contents_in}
 use Rattle.plain_ghost.specs.declared.layout.PlainLayout.{PlainLayout}
 use Rattle.plain_ghost.specs.declared.layout.PlainRegion.{PlainRegion}
+use Rattle.plain_ghost.specs.Faults.{AreTaken}
 use Rattle.plain_ghost.specs.Judged.{IsUnmade}
-use Rattle.plain_ghost.specs.Layouts.{layout_said}
+use Rattle.plain_ghost.specs.Layouts.{layout_said, IsTakenLayout}
 use Rattle.plain_ghost.specs.States.{Lists, contents_said}
 use Rattle.plain_tables.specs.declared.follow.PlainPage.{PlainPage}
 use Rattle.plain_tables.specs.declared.follow.PlainRoot.{PlainRoot}
@@ -52,9 +53,11 @@ pub record IsCheckedIn (l : Layout) (kept : Contents) (g : Geometry) (pages : Li
 abbrev pub IsCheckedFrom : GhostLists → List PlainPage → List PlainRoot → Option Finding → Type 0
 IsCheckedFrom kept pages roots told = IsCheckedIn (layout_of kept.layout) (contents_in kept) kept.layout.geometry pages roots told
 
--- and one on plain lists
-abbrev pub IsChecked : PlainLayout → List PlainRegion → Lists → List PlainPage → List PlainRoot → Option Finding → Type 0
-IsChecked l regions kept pages roots told = IsCheckedIn (layout_said l regions) (contents_said kept) (geometry_said l) pages roots told
+-- and one on plain lists, which make it
+pub record IsChecked (l : PlainLayout) (regions : List PlainRegion) (kept : Lists) (pages : List PlainPage) (roots : List PlainRoot) (told : Option Finding) : Type 0 where
+  pub layout : IsTakenLayout l regions
+  pub taken : AreTaken l.cpus kept
+  pub checked : IsCheckedIn (layout_said l regions) (contents_said kept) (geometry_said l) pages roots told
 
 -- why it isn't, where the state is well
 abbrev pub IsUncheckedFrom : Geometry → List PlainPage → List PlainRoot → Unchecked → Type 0
@@ -62,10 +65,10 @@ IsUncheckedFrom g pages roots (Kept why) = ⊥
 IsUncheckedFrom g pages roots (Trees fault) = IsTreeFault g pages roots fault
 IsUncheckedFrom g pages roots NoMemory = Unit {0}
 
--- and why it isn't
+-- and why it isn't: the first that is true
 abbrev pub IsUnchecked : PlainLayout → List PlainRegion → Lists → List PlainPage → List PlainRoot → Unchecked → Type 0
 IsUnchecked l regions kept pages roots (Kept why) = IsUnmade l regions kept why
-IsUnchecked l regions kept pages roots (Trees fault) = IsTreeFault (geometry_said l) pages roots fault
+IsUnchecked l regions kept pages roots (Trees fault) = IsTakenLayout l regions × AreTaken l.cpus kept × IsTreeFault (geometry_said l) pages roots fault
 IsUnchecked l regions kept pages roots NoMemory = Unit {0}
 
 -- the index of the block, so many heights up, that a block lies in

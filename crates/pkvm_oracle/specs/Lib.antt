@@ -4,3 +4,4 @@ pub mod Predicted
 pub mod Refusals
 pub mod Replayed
 pub mod Words
+pub mod Laws

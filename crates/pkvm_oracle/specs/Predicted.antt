@@ -1,5 +1,5 @@
 -- What the prediction of a call answers C.
-use Rattle.std.specs.Prelude.{◌≡◌, ◌⊎◌, ◌&&◌, ℕ, ℤ, Bool, true, false, pos, negsuc, nat_le, List, length, take, drop}
+use Rattle.std.specs.Prelude.{◌≡◌, ◌⊎◌, ◌&&◌, ℕ, ℤ, Bool, false, pos, negsuc, nat_le, List, length, take, drop}
 use Rattle.plain_words.specs.declared.reply.PlainReply.{PlainReply}
 use Rattle.plain_words.specs.declared.step.PlainStep.{PlainStep}
 use Rattle.plain_ghost.specs.declared.judge.Unjudged.{Unjudged}

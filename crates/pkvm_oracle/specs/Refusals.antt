@@ -1,6 +1,5 @@
 -- The numbers of what is refused.
 use Rattle.std.specs.Prelude.{ℕ, ℤ, Some, None, negsuc}
-use Rattle.page_state.specs.declared.layout.LayoutFault.{LayoutFault}
 use Rattle.page_state.specs.declared.layout.LayoutFault.TheVariants as layouts
 use Rattle.ghost_spec.specs.declared.filled.GhostFault.{GhostFault}
 use Rattle.ghost_spec.specs.declared.filled.GhostFault.TheVariants as ghosts

@@ -1,17 +1,18 @@
 -- What decoding and encoding words answers C.
-use Rattle.std.specs.Prelude.{◌≡◌, ◌⊎◌, ◌^◌, ◌<◌, ℕ, ℤ, pos, negsuc, Some, MatchOption}
+use Rattle.std.specs.Prelude.{◌≡◌, ◌⊎◌, ◌^◌, ◌<◌, ℕ, ℤ, pos, negsuc, MatchOption}
 use Rattle.descriptor.specs.declared.Desc.{Desc}
 use Rattle.descriptor.specs.declared.Level.{Level}
 use Rattle.descriptor.specs.Word.{IsSaid, Says}
 use Rattle.plain_words.specs.declared.word.PlainWord.{PlainWord}
 use Rattle.plain_words.specs.Numbers.{level_said}
 use Rattle.plain_words.specs.Said.{desc_said}
+use Rattle.plain_words.specs.Written.{desc_written}
 
--- the word of a level is decoded: what is written is the one descriptor that it says
+-- the word of a level is decoded: the one descriptor that it says is written, with 0 in each field that isn't named for it
 pub record Decodes (level : Level) (word : ℕ) (new : PlainWord) (status : ℤ) : Type 0 where
   pub desc : Desc
   pub said : IsSaid level word desc
-  pub written : desc_said new ≡ Some desc
+  pub written : new ≡ desc_written desc
   pub done : status ≡ pos 0
 
 -- or there is no such level, and nothing is written

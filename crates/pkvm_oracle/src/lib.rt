@@ -6,6 +6,7 @@ ghost use Rattle.std.specs.Prelude.{◌≡◌};
 
 mod audited;
 mod judged;
+pub mod laws;
 mod predicted;
 mod replayed;
 mod statuses;

@@ -1,0 +1,36 @@
+-- What is audited isn't refused, and has one answer.
+use Rattle.std.specs.Prelude.{◌≡◌, List, Option, Some, None}
+use Rattle.plain_ghost.specs.declared.layout.PlainLayout.{PlainLayout}
+use Rattle.plain_ghost.specs.declared.layout.PlainRegion.{PlainRegion}
+use Rattle.plain_ghost.specs.Laws.{MadeLacksMemory}
+use Rattle.plain_ghost.specs.States.{Lists}
+use Rattle.plain_tables.specs.declared.follow.PlainPage.{PlainPage}
+use Rattle.plain_tables.specs.declared.follow.PlainRoot.{PlainRoot}
+use Rattle.plain_tables.specs.declared.trees.TreeFault.TheVariants as trees
+use Rattle.table_audit.specs.declared.finding.Finding.{Finding}
+use Rattle.table_audit.specs.Laws.{AreAlike}
+use Rattle.pkvm_oracle.specs.declared.audited.Unchecked.{Unchecked}
+use Rattle.pkvm_oracle.specs.declared.audited.Unchecked.TheVariants.{Kept, Trees, NoMemory}
+use Rattle.pkvm_oracle.specs.Audited.{IsChecked, IsUnchecked}
+
+-- memory was wanting
+abbrev pub LacksMemory : Unchecked → Type 0
+LacksMemory (Kept why) = MadeLacksMemory why
+LacksMemory (Trees fault) = fault ≡ trees.NoMemory
+LacksMemory NoMemory = Unit {0}
+
+-- an audit that is made is refused for want of memory alone
+abbrev pub CheckedElse : Type 0
+CheckedElse = (l : PlainLayout) (regions : List PlainRegion) (kept : Lists) (pages : List PlainPage) (roots : List PlainRoot) (told : Option Finding) (why : Unchecked)
+    → IsChecked l regions kept pages roots told → IsUnchecked l regions kept pages roots why → LacksMemory why
+
+-- two answers are alike
+abbrev pub AreAlikeIn : Option Finding → Option Finding → Type 0
+AreAlikeIn None None = Unit {0}
+AreAlikeIn (Some f) (Some g) = AreAlike f g
+AreAlikeIn found other = ⊥
+
+-- an audit has one answer, but for which block of a tree or which places it tells
+abbrev pub CheckedOnce : Type 0
+CheckedOnce = (l : PlainLayout) (regions : List PlainRegion) (kept : Lists) (pages : List PlainPage) (roots : List PlainRoot) (f g : Option Finding)
+    → IsChecked l regions kept pages roots f → IsChecked l regions kept pages roots g → AreAlikeIn f g
