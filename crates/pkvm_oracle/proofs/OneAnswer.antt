@@ -1,14 +1,15 @@
--- What is audited isn't refused, and has one answer.
-use Rattle.std.proofs.Common.{Some, None, refl}
+-- What is audited isn't refused, and has one answer; and what is refused has one reason.
+use Rattle.std.proofs.Common.{Some, None, ap, inl, inr, refl}
 use Rattle.plain_ghost.specs.Layouts.{layout_said}
 use Rattle.plain_ghost.specs.States.{contents_said}
 use Rattle.plain_ghost.proofs.NoRefusal.{made_else}
+use Rattle.plain_ghost.proofs.OneReason.{either, next, unmade_once}
 use Rattle.plain_tables.specs.Given.{tree_of}
-use Rattle.plain_tables.proofs.OneAnswer.{trees_else}
+use Rattle.plain_tables.proofs.OneAnswer.{fault_once, trees_else}
 use Rattle.table_audit.proofs.OneAnswer.{finding_once, well_else}
 use Rattle.pkvm_oracle.specs.declared.audited.Unchecked.TheVariants.{Kept, Trees, NoMemory}
 use Rattle.pkvm_oracle.specs.Audited.{found_said, geometry_said}
-use Rattle.pkvm_oracle.specs.Laws.{CheckedElse, CheckedOnce}
+use Rattle.pkvm_oracle.specs.Laws.{CheckedElse, CheckedOnce, UncheckedOnce}
 
 pub checked_else : CheckedElse
 checked_else l regions kept pages roots told (Kept why) c h = made_else l regions kept why c.layout c.taken h
@@ -24,3 +25,12 @@ checked_once l regions kept pages roots (Some f) None a b =
     absurd (well_else (contents_said kept) (found_said (layout_said l regions) (contents_said kept) (geometry_said l) pages roots) f (b.checked.none.0 refl) a.checked.first)
 checked_once l regions kept pages roots (Some f) (Some g) a b =
     finding_once (contents_said kept) (found_said (layout_said l regions) (contents_said kept) (geometry_said l) pages roots) f g a.checked.first b.checked.first
+
+pub unchecked_once : UncheckedOnce
+unchecked_once l regions kept pages roots NoMemory g h k = inl tt
+unchecked_once l regions kept pages roots (Kept f) NoMemory h k = inr (inl tt)
+unchecked_once l regions kept pages roots (Kept f) (Kept g) h k = either (λ x. x) (next (λ x. x) (ap Kept)) (unmade_once l regions kept f g h k)
+unchecked_once l regions kept pages roots (Kept f) (Trees g) h k = inl (made_else l regions kept f k.0 k.1 h)
+unchecked_once l regions kept pages roots (Trees f) NoMemory h k = inr (inl tt)
+unchecked_once l regions kept pages roots (Trees f) (Kept g) h k = inr (inl (made_else l regions kept g h.0 h.1 k))
+unchecked_once l regions kept pages roots (Trees f) (Trees g) h k = either (λ x. x) (next (λ x. x) (ap Trees)) (fault_once (geometry_said l) pages roots f g h.2 k.2)

@@ -1,5 +1,5 @@
--- What is audited isn't refused, and has one answer.
-use Rattle.std.specs.Prelude.{◌≡◌, List, Option, Some, None}
+-- What is audited isn't refused, and has one answer; and what is refused has one reason.
+use Rattle.std.specs.Prelude.{◌≡◌, ◌⊎◌, List, Option, Some, None}
 use Rattle.plain_ghost.specs.declared.layout.PlainLayout.{PlainLayout}
 use Rattle.plain_ghost.specs.declared.layout.PlainRegion.{PlainRegion}
 use Rattle.plain_ghost.specs.Laws.{MadeLacksMemory}
@@ -34,3 +34,8 @@ AreAlikeIn found other = ⊥
 abbrev pub CheckedOnce : Type 0
 CheckedOnce = (l : PlainLayout) (regions : List PlainRegion) (kept : Lists) (pages : List PlainPage) (roots : List PlainRoot) (f g : Option Finding)
     → IsChecked l regions kept pages roots f → IsChecked l regions kept pages roots g → AreAlikeIn f g
+
+-- and one that isn't made has one reason
+abbrev pub UncheckedOnce : Type 0
+UncheckedOnce = (l : PlainLayout) (regions : List PlainRegion) (kept : Lists) (pages : List PlainPage) (roots : List PlainRoot) (f g : Unchecked)
+    → IsUnchecked l regions kept pages roots f → IsUnchecked l regions kept pages roots g → LacksMemory f ⊎ (LacksMemory g ⊎ (f ≡ g))

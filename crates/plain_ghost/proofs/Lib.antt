@@ -10,3 +10,4 @@ mod ToldKnown
 mod ToldStates
 pub mod NoRefusal
 mod OneAnswer
+pub mod OneReason

@@ -15,6 +15,7 @@ use Rattle.plain_ghost.specs.declared.judge.Unjudged.{Unjudged}
 use Rattle.plain_ghost.specs.declared.judge.Unjudged.TheVariants as unjudged
 use Rattle.plain_ghost.specs.declared.judge.Unmade.TheVariants as unmade
 use Rattle.plain_ghost.specs.declared.layout.PlainLayout.{PlainLayout}
+use Rattle.plain_ghost.specs.declared.layout.PlainLayoutFault.{PlainLayoutFault}
 use Rattle.plain_ghost.specs.declared.layout.PlainLayoutFault.TheVariants as layouts
 use Rattle.plain_ghost.specs.declared.layout.PlainRegion.{PlainRegion}
 use Rattle.plain_ghost.specs.declared.state.PlainFault.{PlainFault}
@@ -25,6 +26,7 @@ use Rattle.plain_ghost.specs.Faults.{first_unknown_of, unknown_in, AreTaken, Are
 use Rattle.plain_ghost.specs.Judged.{CanCall, IsUntold}
 use Rattle.plain_ghost.specs.Known.{has_known_ticket, is_cpu, is_frame, is_guest, is_load, is_row, is_run, is_slot, is_table}
 use Rattle.plain_ghost.specs.Laws.{ForetoldElse, ForetoldKnown, ForetoldStateElse, JudgedElse, LacksMemory, MadeElse}
+use Rattle.plain_ghost.specs.Layouts.{IsLayoutFault, IsTakenLayout}
 use Rattle.plain_ghost.specs.States.{Lists}
 use Rattle.plain_ghost.specs.Told.{AreKnown}
 
@@ -35,7 +37,7 @@ twice_else p lists.Guests at once h = once.guests at h.1.clashes
 twice_else p lists.Cpus at once h = once.cpus at h.2.clashes
 twice_else p other at once h = h
 
-none_some : {X : Type 0} (o : Option X) → o ≡ None → is_some o ≡ true → ⊥
+pub none_some : {X : Type 0} (o : Option X) → o ≡ None → is_some o ≡ true → ⊥
 none_some None e h = let bad = h in cc
 none_some (Some x) e h = let bad = e in cc
 
@@ -55,14 +57,19 @@ plain_else cpus p (faults.Lists FrameTwice culprit) t h = absurd (h.1.3 t.frames
 plain_else cpus p (faults.Lists other culprit) t h = absurd h.1
 plain_else cpus p faults.NoMemory t h = refl
 
+pub layout_else : (l : PlainLayout) (regions : List PlainRegion) (f : PlainLayoutFault) → IsTakenLayout l regions → IsLayoutFault l regions f → f ≡ layouts.NoMemory
+layout_else l regions layouts.Geometry t h = absurd (none_some (geometry_of l.address_bits) h t.geometry)
+layout_else l regions (layouts.Memory TooMany) t h = absurd (h.1 t.memory.few)
+layout_else l regions (layouts.Memory Empty) t h = absurd (h.1.1 t.memory.pages)
+layout_else l regions (layouts.Memory PastLimit) t h = absurd (h.1.2 t.memory.limits)
+layout_else l regions (layouts.Memory RegionsOverlap) t h = absurd (h.1.3 t.memory.disjoint)
+layout_else l regions (layouts.Memory CarveOutside) t h = absurd (h.1.4 t.memory.carve)
+layout_else l regions (layouts.Memory NoLayoutMemory) t h = absurd h.1
+layout_else l regions layouts.NoMemory t h = refl
+
 pub made_else : MadeElse
-made_else l regions p (unmade.Layout layouts.Geometry) ready taken h = absurd (none_some (geometry_of l.address_bits) h ready.geometry)
-made_else l regions p (unmade.Layout (layouts.Memory TooMany)) ready taken h = absurd (h.1 ready.memory.few)
-made_else l regions p (unmade.Layout (layouts.Memory Empty)) ready taken h = absurd (h.1.1 ready.memory.pages)
-made_else l regions p (unmade.Layout (layouts.Memory PastLimit)) ready taken h = absurd (h.1.2 ready.memory.limits)
-made_else l regions p (unmade.Layout (layouts.Memory RegionsOverlap)) ready taken h = absurd (h.1.3 ready.memory.disjoint)
-made_else l regions p (unmade.Layout (layouts.Memory CarveOutside)) ready taken h = absurd (h.1.4 ready.memory.carve)
-made_else l regions p (unmade.Layout (layouts.Memory NoLayoutMemory)) ready taken h = absurd h.1
+made_else l regions p (unmade.Layout layouts.Geometry) ready taken h = absurd (let bad = layout_else l regions layouts.Geometry ready h in cc)
+made_else l regions p (unmade.Layout (layouts.Memory fault)) ready taken h = absurd (let bad = layout_else l regions (layouts.Memory fault) ready h in cc)
 made_else l regions p (unmade.Layout layouts.NoMemory) ready taken h = tt
 made_else l regions p (unmade.State (faults.Unknown list at)) ready taken h = absurd (let bad = plain_else l.cpus p (faults.Unknown list at) taken h.1 in cc)
 made_else l regions p (unmade.State (faults.Rows fault)) ready taken h = absurd (let bad = plain_else l.cpus p (faults.Rows fault) taken h.1 in cc)
@@ -73,7 +80,7 @@ made_else l regions p (unmade.State faults.NoMemory) ready taken h = tt
 pub one_step : (plain : PlainStep) (a b : Step) → step_said plain ≡ Some a → step_said plain ≡ Some b → a ≡ b
 one_step plain a b h k = let same = sym h ∙ k in cc
 
-can_else : (l : PlainLayout) (regions : List PlainRegion) (before : Lists) (cpu : ℕ) (plain : PlainStep) (step : Step) (why : Unjudged) → CanCall l regions before cpu plain step → IsUntold l regions before cpu plain why → LacksMemory why
+pub can_else : (l : PlainLayout) (regions : List PlainRegion) (before : Lists) (cpu : ℕ) (plain : PlainStep) (step : Step) (why : Unjudged) → CanCall l regions before cpu plain step → IsUntold l regions before cpu plain why → LacksMemory why
 can_else l regions before cpu plain step unjudged.Step can h = absurd (unknown_else (step_said plain) step h can.step_is)
 can_else l regions before cpu plain step unjudged.Reply can h = absurd h
 can_else l regions before cpu plain step unjudged.Cpu can h = absurd (let least = h.1 in let most = can.cpu_is in omega (arith, least, most))

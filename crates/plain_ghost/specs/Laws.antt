@@ -1,4 +1,4 @@
--- What is judged and foretold isn't refused, and has one answer.
+-- What is judged and foretold isn't refused, and has one answer; and what is refused has one reason.
 use Rattle.std.specs.Prelude.{◌≡◌, ◌⊎◌, ℕ, ◌<◌, ◌==◌, ◌||◌, nat_lt, All, IsTrue, List, None, Option}
 use Rattle.ghost_judge.specs.declared.disagreement.Disagreement.{Disagreement}
 use Rattle.plain_words.specs.declared.reply.PlainReply.{PlainReply}
@@ -9,13 +9,14 @@ use Rattle.plain_ghost.specs.declared.judge.Unjudged.TheVariants as unjudged
 use Rattle.plain_ghost.specs.declared.judge.Unmade.{Unmade}
 use Rattle.plain_ghost.specs.declared.judge.Unmade.TheVariants as unmade
 use Rattle.plain_ghost.specs.declared.layout.PlainLayout.{PlainLayout}
+use Rattle.plain_ghost.specs.declared.layout.PlainLayoutFault.{PlainLayoutFault}
 use Rattle.plain_ghost.specs.declared.layout.PlainLayoutFault.TheVariants as layouts
 use Rattle.plain_ghost.specs.declared.layout.PlainRegion.{PlainRegion}
 use Rattle.plain_ghost.specs.declared.state.PlainFault.{PlainFault}
 use Rattle.plain_ghost.specs.declared.state.PlainFault.TheVariants as faults
 use Rattle.plain_ghost.specs.Faults.{first_unknown_of, AreOnce, AreTaken, IsPlainFault}
 use Rattle.plain_ghost.specs.Judged.{IsForetold, IsForetoldState, IsJudged, IsUnjudged, IsUnmade, IsUntold}
-use Rattle.plain_ghost.specs.Layouts.{IsTakenLayout}
+use Rattle.plain_ghost.specs.Layouts.{IsLayoutFault, IsTakenLayout}
 use Rattle.plain_ghost.specs.States.{Lists, contents_said}
 
 -- memory was wanting, for a layout or a state
@@ -65,9 +66,29 @@ abbrev pub ForetoldStateOnce : Type 0
 ForetoldStateOnce = (l : PlainLayout) (regions : List PlainRegion) (before : Lists) (cpu : ℕ) (step : PlainStep) (r s : PlainReply) (a b : Lists)
     → IsForetoldState l regions before cpu step r a → IsForetoldState l regions before cpu step s b → (r ≡ s) × (contents_said a ≡ contents_said b)
 
--- lists have one fault but want of memory, with one member that is told
+-- a layout has one fault but want of memory
+abbrev pub LayoutFaultOnce : Type 0
+LayoutFaultOnce = (l : PlainLayout) (regions : List PlainRegion) (f g : PlainLayoutFault) → IsLayoutFault l regions f → IsLayoutFault l regions g
+    → (f ≡ layouts.NoMemory) ⊎ ((g ≡ layouts.NoMemory) ⊎ (f ≡ g))
+
+-- so have lists, with one member that is told
 abbrev pub PlainFaultOnce : Type 0
 PlainFaultOnce = (cpus : ℕ) (p : Lists) (f g : PlainFault) → IsPlainFault cpus p f → IsPlainFault cpus p g → (f ≡ faults.NoMemory) ⊎ ((g ≡ faults.NoMemory) ⊎ (f ≡ g))
+
+-- a layout and lists that make no state have one reason
+abbrev pub UnmadeOnce : Type 0
+UnmadeOnce = (l : PlainLayout) (regions : List PlainRegion) (p : Lists) (f g : Unmade) → IsUnmade l regions p f → IsUnmade l regions p g
+    → MadeLacksMemory f ⊎ (MadeLacksMemory g ⊎ (f ≡ g))
+
+-- so has a call that isn't foretold
+abbrev pub UntoldOnce : Type 0
+UntoldOnce = (l : PlainLayout) (regions : List PlainRegion) (before : Lists) (cpu : ℕ) (step : PlainStep) (f g : Unjudged)
+    → IsUntold l regions before cpu step f → IsUntold l regions before cpu step g → LacksMemory f ⊎ (LacksMemory g ⊎ (f ≡ g))
+
+-- and one that isn't judged
+abbrev pub UnjudgedOnce : Type 0
+UnjudgedOnce = (l : PlainLayout) (regions : List PlainRegion) (before : Lists) (call : PlainCall) (after : Lists) (f g : Unjudged)
+    → IsUnjudged l regions before call after f → IsUnjudged l regions before call after g → LacksMemory f ⊎ (LacksMemory g ⊎ (f ≡ g))
 
 -- no member of a state that is foretold has an unknown number, or is there twice, where no vCPU past the eighth is loaded
 abbrev pub ForetoldKnown : Type 0

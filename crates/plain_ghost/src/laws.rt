@@ -7,8 +7,12 @@ ghost use Rattle.plain_ghost.specs.Laws.{
   ForetoldStateOnce,
   JudgedElse,
   JudgedOnce,
+  LayoutFaultOnce,
   MadeElse,
   PlainFaultOnce,
+  UnjudgedOnce,
+  UnmadeOnce,
+  UntoldOnce,
 };
 
 /// What is taken, judged or foretold is refused for want of memory alone.
@@ -19,12 +23,20 @@ pub fn no_refusal()
     ensures state { ForetoldStateElse }
 {}
 
-/// A judgement, a prediction and the fault of a state's lists have one answer.
+/// A judgement and a prediction have one answer.
 pub fn one_answer()
     ensures judged { JudgedOnce }
     ensures foretold { ForetoldOnce }
     ensures state { ForetoldStateOnce }
-    ensures fault { PlainFaultOnce }
+{}
+
+/// What is refused, and not for want of memory, has one reason: the first.
+pub fn one_reason()
+    ensures layout { LayoutFaultOnce }
+    ensures lists { PlainFaultOnce }
+    ensures made { UnmadeOnce }
+    ensures foretold { UntoldOnce }
+    ensures judged { UnjudgedOnce }
 {}
 
 /// A state that is foretold is read again where no vCPU past the eighth is loaded.
