@@ -1,16 +1,14 @@
 -- The line of each step says that step.
-use Rattle.std.proofs.Common.{◌≡◌, ℕ, ◌+◌, ◌<◌, ◌≤◌, Bool, true, false, List, [], ◌∷◌, ◌++◌, length, refl, arith, sym, ap, ◌∙◌, subst, Some, None, Ok}
+use Rattle.std.proofs.Common.{◌≡◌, ℕ, ◌≤◌, true, List, [], ◌∷◌, ◌++◌, length, refl, arith, sym, ap, ◌∙◌, subst, Some}
 use Rattle.std.specs.Prelude.{codes}
-use Rattle.std.specs.Fmt.{digits, decimal}
+use Rattle.std.specs.Fmt.{decimal}
 use Rattle.std.proofs.lemmas.List.{append_assoc}
 use Rattle.descriptor.specs.declared.Prot.{Prot}
-use Rattle.descriptor.specs.declared.Prot.TheVariants.{R, RW, RX, RWX}
 use Rattle.page_state.specs.Texts.{text_of_page, text_of_prot}
 use Rattle.step_reply.specs.declared.step.Step.{Step}
 use Rattle.step_reply.specs.declared.step.Step.TheVariants.{ShareHyp, UnshareHyp, DonateHyp, HypDonateHost, HostAbort, HostTranslate, HypTranslate, OwnerOf, Fund, Unfund, ShareGuest, UnshareGuest, DonateGuest, GuestShareHost, GuestUnshareHost, Install, Topup, ReclaimPage, ReclaimPool, FinishGuest, GuestRelax, GuestTranslate, MarkDying, VmReserve, VmOpen, VcpuLoad, VcpuPut, Teardown, VmRelease}
 use Rattle.step_reply.specs.declared.step.VmId.{VmId}
 use Rattle.step_reply.specs.declared.step.VmKind.{VmKind}
-use Rattle.step_reply.specs.declared.step.VmKind.TheVariants.{Protected, Plain}
 use Rattle.step_reply.specs.Texts.{text_of_vm}
 use Rattle.trace_lines.specs.Arguments.{kinds, rights_names, vm_of}
 use Rattle.trace_lines.specs.Asked.{asked, begins_with_digit}
@@ -19,13 +17,12 @@ use Rattle.trace_lines.specs.declared.line.Line.TheVariants as lines
 use Rattle.trace_lines.specs.declared.place.Verb.TheVariants as verbs
 use Rattle.trace_lines.specs.Places.{of_replay}
 use Rattle.trace_lines.specs.Said.{said}
-use Rattle.trace_lines.specs.Settings.{Told}
 use Rattle.trace_words.specs.Numbers.{number_of}
 use Rattle.trace_words.specs.Words.{named}
 use Rattle.trace_generate.specs.declared.line.StepLine.{StepLine}
 use Rattle.trace_generate.specs.Lines.{text_of_call, text_of_line, text_of_vm_kind}
 use Rattle.trace_generate.specs.Reading.{Fits, FitsVm, IsIn64Bits, LinesAreRead, LinesAreShort}
-use Rattle.trace_generate.proofs.Words.{IsWord, begins-decimal, number_of-decimal, number_of-page, named-kind, named-rights, vm_of-vm, word_of-decimal, word_of-kind, word_of-page, word_of-rights, word_of-vm}
+use Rattle.trace_generate.proofs.Words.{begins-decimal, number_of-decimal, number_of-page, named-kind, named-rights, vm_of-vm, word_of-decimal, word_of-kind, word_of-page, word_of-rights, word_of-vm}
 use Rattle.trace_generate.proofs.Spaces.{AreWords, spaced, said-spaced, said-step, length-spaced}
 
 -- the words of a step behind its CPU, as they are read

@@ -1,14 +1,12 @@
 -- Words with one space between them, as a line that is read.
-use Rattle.std.proofs.Common.{◌≡◌, ℕ, zero, suc, ◌+◌, ◌*◌, ◌<◌, ◌≤◌, ◌==◌, nat_lt, Bool, true, false, ◌&&◌, ◌||◌, List, [], ◌∷◌, ◌++◌, length, get_or, refl, arith, sym, ap, ◌∙◌, All, Some, None, Ok}
-use Rattle.std.specs.Prelude.{not, if◌then◌else◌}
-use Rattle.std.specs.List.{list_all, list_any, slice_split}
+use Rattle.std.proofs.Common.{◌≡◌, ℕ, ◌+◌, ◌*◌, ◌<◌, ◌≤◌, ◌==◌, nat_lt, Bool, true, false, List, [], ◌∷◌, ◌++◌, length, refl, arith, ap, ◌∙◌, All, Some, Ok}
+use Rattle.std.specs.List.{list_all, list_any}
 use Rattle.std.proofs.lemmas.Bool.Decides.{nat_tests}
 use Rattle.std.proofs.lemmas.List.{length-append}
 use Rattle.std.proofs.lemmas.List.Elements.{All-cons}
 use Rattle.std.proofs.lemmas.List.Folds.{list_any-append}
 use Rattle.std.proofs.lemmas.List.Splits.{slice_split_none, slice_split_at}
 use Rattle.trace_lines.specs.Asked.{asked, begins_with_digit}
-use Rattle.trace_lines.specs.declared.asked.Asked.{Asked}
 use Rattle.trace_lines.specs.declared.line.Line.TheVariants as lines
 use Rattle.trace_lines.specs.declared.place.Allows.{Allows}
 use Rattle.trace_lines.specs.declared.place.Verb.TheVariants as verbs
@@ -16,7 +14,7 @@ use Rattle.trace_lines.specs.Places.{of_replay}
 use Rattle.trace_lines.specs.Said.{said, said_by_asked, said_by_words}
 use Rattle.trace_lines.specs.Settings.{Told}
 use Rattle.trace_words.specs.Numbers.{is_decimal_digit}
-use Rattle.trace_words.specs.Words.{has_empty_word, has_stray_byte, has_stray_space, is_silent, is_stray, words_of}
+use Rattle.trace_words.specs.Words.{has_empty_word, has_stray_byte, is_silent, is_stray, words_of}
 use Rattle.step_reply.specs.declared.step.Step.{Step}
 use Rattle.trace_generate.proofs.Words.{IsWord, and_left, and_right, is_plain}
 

@@ -1,8 +1,8 @@
 -- The words of a line that is written, and what numbers are as words.
-use Rattle.std.proofs.Common.{◌≡◌, ℕ, zero, suc, ◌+◌, ◌*◌, ◌^◌, ◌<◌, ◌≤◌, ◌==◌, nat_lt, nat_le, Bool, true, false, ◌&&◌, ◌||◌, List, [], ◌∷◌, ◌++◌, length, get_or, refl, arith, rules, sym, ap, ◌∙◌, subst, Some, None, All}
+use Rattle.std.proofs.Common.{◌≡◌, ℕ, suc, ◌^◌, ◌<◌, ◌≤◌, ◌==◌, nat_lt, nat_le, Bool, true, false, ◌&&◌, ◌||◌, List, [], ◌∷◌, ◌++◌, length, refl, arith, sym, ap, ◌∙◌, subst, Some, All}
 use Rattle.std.specs.Prelude.{codes}
-use Rattle.std.specs.Fmt.{digits, decimal, digits_onto, digit_glyph}
-use Rattle.std.specs.List.{list_all, list_any, slice_split}
+use Rattle.std.specs.Fmt.{digits, decimal, digit_glyph}
+use Rattle.std.specs.List.{list_all}
 use Rattle.std.proofs.lemmas.Bool.Decides.{nat_tests}
 use Rattle.std.proofs.lemmas.List.{append-nil, append_assoc, length-append}
 use Rattle.std.proofs.lemmas.List.Elements.{All-cons}
@@ -16,11 +16,11 @@ use Rattle.step_reply.specs.declared.step.VmKind.{VmKind}
 use Rattle.step_reply.specs.declared.step.VmKind.TheVariants.{Protected, Plain}
 use Rattle.descriptor.specs.declared.Prot.{Prot}
 use Rattle.descriptor.specs.declared.Prot.TheVariants.{R, RW, RX, RWX}
-use Rattle.trace_lines.specs.Arguments.{dotted, vm_of, decimal_part, kinds, rights_names}
+use Rattle.trace_lines.specs.Arguments.{dotted, vm_of, kinds, rights_names}
 use Rattle.trace_lines.specs.Asked.{begins_with_digit}
-use Rattle.trace_words.specs.Numbers.{digit_of, value_of, is_decimal, is_decimal_digit, is_hexadecimal, is_hexadecimal_digit, in_64_bits, decimal_of, number_of}
+use Rattle.trace_words.specs.Numbers.{is_decimal, is_decimal_digit, is_hexadecimal, is_hexadecimal_digit, in_64_bits, decimal_of, number_of}
 use Rattle.trace_words.specs.Words.{named}
-use Rattle.trace_generate.proofs.Spelled.{IsSpelled, HasDigits, digits_of_all}
+use Rattle.trace_generate.proofs.Spelled.{IsSpelled, digits_of_all}
 use Rattle.trace_generate.specs.Lines.{text_of_vm_kind}
 use Rattle.trace_generate.specs.Reading.{Fits, FitsVm}
 

@@ -1,3 +1,4 @@
+pub mod Chance
 pub mod Lines
 pub mod Machine
 pub mod Made

@@ -1,6 +1,6 @@
 -- How the lines of a generated trace are written (profile): pages and frames in hexadecimal, all else in decimal, one space between words.
-use Rattle.std.specs.Prelude.{ℕ, List, ◌++◌, codes, false}
-use Rattle.std.specs.Fmt.{digits, decimal}
+use Rattle.std.specs.Prelude.{ℕ, List, ◌++◌, codes}
+use Rattle.std.specs.Fmt.{decimal}
 use Rattle.page_state.specs.declared.entry.PageRange.{PageRange}
 use Rattle.page_state.specs.Texts.{text_of_page, text_of_prot}
 use Rattle.step_reply.specs.declared.step.Step.{Step}

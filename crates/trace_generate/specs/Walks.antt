@@ -1,5 +1,5 @@
 -- Walks along the reference step, but for want of memory: which calls they have, and which of these the model refuses (profile).
-use Rattle.std.specs.Prelude.{◌≡◌, ◌⊎◌, ℕ, ◌+◌, ◌*◌, ◌/◌, ◌<◌, Bool, true, false, not, ◌==◌, List, [], ◌∷◌, cond}
+use Rattle.std.specs.Prelude.{◌≡◌, ◌⊎◌, ℕ, ◌+◌, ◌*◌, ◌/◌, ◌<◌, Bool, true, false, not, ◌==◌, List, [], ◌∷◌}
 use Rattle.page_state.specs.Layouts.{Layout}
 use Rattle.reference_model.specs.State.{Reference}
 use Rattle.reference_model.specs.Step.{foretell}

@@ -6,16 +6,13 @@ ghost use Rattle.trace_generate.specs.Lines.{text_of_line, text_of_settings};
 ghost use Rattle.trace_generate.specs.Machine.{IsFault, IsInRange, IsLayoutOf, settings_of};
 ghost use Rattle.trace_generate.specs.Made.{IsSoFar, IsTrace};
 
+use crate::chance::seeded;
 use crate::line::{SettingLines, StepLine};
 use crate::options::{GenerateFault, Options, carve, config, memory, tested};
 use crate::walk::{booted, is_hostile, next_call};
 use ghost_spec::state::Ghost;
-use rand_pcg::Pcg32;
 use std::alloc::{AllocError, Global};
 use std::fmt::Write;
-
-/// The stream of the generator.
-const STREAM: u64 = 0x6f77_6e65_7273;
 
 /// A trace of `steps` calls on the machine of these options: its settings, its boot and the steps. The same seed gives the
 /// same bytes.
@@ -73,7 +70,7 @@ fn walked(
     requires layout { IsLayoutOf steps options (layout_of state.old.layout) }
     ensures { OnOk result (IsSoFar (layout_of state.old.layout) options.hostile (ghost_state state.old) (string_bytes text.old) steps (ghost_state state.new) (string_bytes text.new)) }
 {
-    let mut chance = Pcg32::new(seed, STREAM);
+    let mut chance = seeded(seed);
     for number in 0..steps {
         let hostile = is_hostile(options.hostile, number);
         let call = next_call(global, state, memory(options), hostile, &mut chance)?;

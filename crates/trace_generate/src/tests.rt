@@ -1,4 +1,4 @@
-//! A generated trace has every call.
+//! A generated trace has every call, and each seed has its own.
 use crate::{Options, generate};
 use std::test::Fail;
 
@@ -51,5 +51,21 @@ fn every_call_is_made(rt: HostRuntime) -> Result<(), Fail> {
     for name in names {
         assert!(rt; has_call(text.as_str(), name), "{name}");
     }
+    Ok(())
+}
+
+#[test]
+fn seeds_differ(rt: HostRuntime) -> Result<(), Fail> {
+    let options = Options {
+        cpus: 4,
+        pages: 2048,
+        geometry: 39,
+        hostile: 0,
+    };
+    let one = generate(rt.alloc(), 1, 20, &options)?;
+    let again = generate(rt.alloc(), 1, 20, &options)?;
+    let other = generate(rt.alloc(), 2, 20, &options)?;
+    assert!(rt; one.as_str() == again.as_str());
+    assert!(rt; one.as_str() != other.as_str());
     Ok(())
 }

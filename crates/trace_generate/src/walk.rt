@@ -4,6 +4,7 @@ ghost use Rattle.page_state.specs.LayoutView.{layout_of};
 ghost use Rattle.reference_model.specs.Boot.{boot};
 ghost use Rattle.reference_model.specs.Step.{foretell};
 ghost use Rattle.ghost_spec.specs.States.{ghost_state};
+ghost use Rattle.trace_generate.specs.Chance.{drawn};
 ghost use Rattle.trace_generate.specs.Machine.{IsFault, IsInRange, IsLayoutOf};
 ghost use Rattle.trace_generate.specs.Reading.{IsIn64Bits};
 ghost use Rattle.trace_generate.specs.Walks.{IsCallOf, after as after_call, is_hostile as is_hostile_number, is_refusal as is_refusal_of, is_refused};
@@ -110,7 +111,7 @@ fn candidate(
     }
 }
 
-/// A call of the walk, unless it isn't as wanted; then the state is as it was.
+/// A call of the walk, unless it isn't as wanted; then the state is as it was. Its CPU is drawn.
 fn tried(
     global: Global,
     state: &mut Ghost,
@@ -120,6 +121,7 @@ fn tried(
 ) -> Result<Option<StepLine>, AllocError>
     requires { 0 < state.old.layout.config.cpus }
     ensures none { result ≡ Ok None → state.new ≡ state.old }
+    ensures drawn { IfOk result (λ o. IfSome o (λ c. c.cpu ≡ drawn chance.old state.old.layout.config.cpus)) }
     ensures call { IfOk result (λ o. IfSome o (IsCallOf (layout_of state.old.layout) hostile (ghost_state state.old))) }
     ensures state { IfOk result (λ o. IfSome o (λ c. ghost_state state.new ≡ after_call (layout_of state.old.layout) (ghost_state state.old) c)) }
     ensures layout { OnOk result (layout_of state.new.layout ≡ layout_of state.old.layout) }
@@ -133,7 +135,7 @@ fn tried(
     Ok(None)
 }
 
-/// A call that is surely as wanted.
+/// A call that is surely as wanted, of a CPU that is drawn.
 fn surely(
     global: Global,
     state: &mut Ghost,
@@ -141,6 +143,7 @@ fn surely(
     chance: &mut Pcg32,
 ) -> Result<StepLine, AllocError>
     requires { 0 < state.old.layout.config.cpus }
+    ensures drawn { IfOk result (λ c. c.cpu ≡ drawn chance.old state.old.layout.config.cpus) }
     ensures call { IfOk result (IsCallOf (layout_of state.old.layout) hostile (ghost_state state.old)) }
     ensures state { IfOk result (λ c. ghost_state state.new ≡ after_call (layout_of state.old.layout) (ghost_state state.old) c) }
     ensures layout { OnOk result (layout_of state.new.layout ≡ layout_of state.old.layout) }
