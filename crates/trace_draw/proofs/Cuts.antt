@@ -3,6 +3,7 @@ use Rattle.std.proofs.Common.{◌≡◌, ℕ, zero, suc, ◌+◌, ◌-◌, ◌<�
 use Rattle.std.specs.List.{flat_map, range_with_len}
 use Rattle.std.proofs.lemmas.Grind.{flat_map-append}
 use Rattle.std.proofs.lemmas.List.{append-nil, append_assoc}
+use Rattle.trace_draw.specs.declared.bands.Look.{Look}
 use Rattle.trace_draw.specs.declared.columns.Column.{Column}
 use Rattle.trace_draw.specs.Columns.{frames_of, frames_of_column}
 
@@ -24,14 +25,14 @@ pub last_piece : (cs new : List Column) (left : Column) (all : List ℕ) → fra
 last_piece cs new left all e more = ap frames_of more ∙ frames_push cs left ∙ e
 
 -- a piece that is cut off
-pub cut_off : (cs new : List Column) (first count end : ℕ) (all : List ℕ) → first < end → end ≤ first + count → frames_of cs ++ range_with_len first count ≡ all
-    → new ≡ cs ++ (record { first = first; count = end - first } ∷ []) → frames_of new ++ range_with_len end (count - (end - first)) ≡ all
-cut_off cs new first count end all h k e more =
+pub cut_off : (cs new : List Column) (first count end : ℕ) (look : Look) (all : List ℕ) → first < end → end ≤ first + count → frames_of cs ++ range_with_len first count ≡ all
+    → new ≡ cs ++ (record { first = first; count = end - first; look = look } ∷ []) → frames_of new ++ range_with_len end (count - (end - first)) ≡ all
+cut_off cs new first count end look all h k e more =
     let n = end - first in
     let m = count - n in
     let whole : n + m ≡ count = omega (arith, h, k) in
     let at : first + n ≡ end = omega (arith, h) in
     let split : range_with_len first count ≡ range_with_len first n ++ range_with_len end m =
     ap (range_with_len first) (sym whole) ∙ range_split first n m ∙ ap (λ a. range_with_len first n ++ range_with_len a m) at in
-    ap (λ t. t ++ range_with_len end m) (ap frames_of more ∙ frames_push cs (record { first = first; count = n }))
+    ap (λ t. t ++ range_with_len end m) (ap frames_of more ∙ frames_push cs (record { first = first; count = n; look = look }))
     ∙ append_assoc (frames_of cs) (range_with_len first n) (range_with_len end m) ∙ ap (λ t. frames_of cs ++ t) (sym split) ∙ e

@@ -1,4 +1,7 @@
+mod Alike
 mod Cuts
 mod Leading
 mod Pictures
+mod Placed
+mod Replayed
 mod Told

@@ -1,5 +1,5 @@
 -- How the elements of a picture are written (profile): SVG, a line for each element.
-use Rattle.std.specs.Prelude.{◌≡◌, ℕ, List, [], ◌∷◌, ◌++◌, codes, ◌==◌, ◌||◌, nat_lt, if◌then◌else◌}
+use Rattle.std.specs.Prelude.{ℕ, List, [], ◌∷◌, ◌++◌, codes, ◌==◌, ◌||◌, nat_lt, if◌then◌else◌}
 use Rattle.std.specs.Fmt.{decimal}
 use Rattle.std.specs.List.{flat_map}
 use Rattle.trace_draw.specs.declared.colours.Colour.{Colour}
@@ -112,9 +112,3 @@ text_of_opening size = codes "<svg xmlns='" ++ namespace ++ codes "' " ++ text_o
 -- a picture of these elements, in their order
 abbrev pub text_of_picture : Size → List Item → List ℕ
 text_of_picture size all = text_of_opening size ++ flat_map text_of_item all ++ codes "</svg>\n"
-
--- a picture: whole elements between its opening and its end
-pub record IsPicture (svg : List ℕ) : Type 0 where
-  pub size : Size
-  pub elements : List Item
-  pub text : svg ≡ text_of_picture size elements

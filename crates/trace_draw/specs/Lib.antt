@@ -1,5 +1,7 @@
 pub mod Columns
 pub mod Courses
 pub mod Items
+pub mod Laws
+pub mod Pictures
 pub mod Snapshots
 pub mod Texts

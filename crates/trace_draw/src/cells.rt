@@ -1,4 +1,6 @@
 //! The cells of a picture: a column through neighbouring rows in which it looks the same.
+ghost use Rattle.std.specs.Prelude.{◌≡◌, IfOk, length};
+
 use crate::bands::{Band, Look};
 use crate::columns::Column;
 use crate::course::{Moment, Scene, SlotLook};
@@ -15,9 +17,18 @@ pub(crate) struct Cell {
 
 /// What a column looks like since a row.
 #[derive(Clone, Copy)]
-struct Since {
-    from: usize,
-    look: Option<Look>,
+pub(crate) struct Since {
+    pub(crate) from: usize,
+    pub(crate) look: Look,
+}
+
+/// The cells of a picture.
+#[derive(Drop)]
+pub(crate) struct Cells {
+    /// Those that end before a row.
+    pub(crate) ended: Vec<Cell>,
+    /// What each column looks like at the end of the picture.
+    pub(crate) last: Vec<Since>,
 }
 
 /// The cells of a picture with these rows and columns.
@@ -26,36 +37,38 @@ pub(crate) fn cells_of(
     moments: &[Moment],
     scenes: &[Scene],
     columns: &[Column],
-) -> Result<Vec<Cell>, AllocError> {
-    let mut cells = Vec::new(global);
-    let mut open = Vec::new(global);
-    for _ in columns {
-        open.push(Since {
-            from: 0,
-            look: None,
-        })?;
-    }
+) -> Result<Cells, AllocError>
+    ensures { IfOk result (λ cells. length cells.last.items ≡ length columns.now) }
+{
+    let mut ended = Vec::new(global);
+    let mut last = first_looks(global, columns)?;
     for (row, moment) in moments.iter().enumerate() {
         if let Some(scene) = scenes.get(moment.scene) {
-            go_on(
-                &mut cells,
-                open.as_mut_slice(),
-                columns,
-                scene.bands.as_slice(),
-                row,
-            )?;
+            let bands = scene.bands.as_slice();
+            go_on(&mut ended, last.as_mut_slice(), columns, bands, row)?;
         }
     }
-    for (column, since) in open.iter().enumerate() {
-        close(&mut cells, column, *since, moments.len())?;
-    }
-    Ok(cells)
+    Ok(Cells { ended, last })
 }
 
-/// Closes the cells that end before a row, and opens those that begin with it.
+/// What each column looks like in the first row.
+fn first_looks(global: Global, columns: &[Column]) -> Result<Vec<Since>, AllocError>
+    ensures { IfOk result (λ looks. length looks.items ≡ length columns.now) }
+{
+    let mut looks = Vec::with_capacity(global, columns.len())?;
+    for column in columns {
+        looks.push(Since {
+            from: 0,
+            look: column.look,
+        })?;
+    }
+    Ok(looks)
+}
+
+/// Ends the cells that end before a row, and begins those that begin with it.
 fn go_on(
-    cells: &mut Vec<Cell>,
-    open: &mut [Since],
+    ended: &mut Vec<Cell>,
+    last: &mut [Since],
     columns: &[Column],
     bands: &[Band],
     row: usize,
@@ -63,11 +76,18 @@ fn go_on(
     let mut at = 0_usize;
     for (number, column) in columns.iter().enumerate() {
         at = behind(bands, at, column.first);
-        let look = bands.get(at).map(|band| band.look);
-        if let Some(since) = open.get_mut(number) {
-            if since.look != look {
-                close(cells, number, *since, row)?;
-                *since = Since { from: row, look };
+        if let (Some(band), Some(since)) = (bands.get(at), last.get_mut(number)) {
+            if since.look != band.look {
+                ended.push(Cell {
+                    column: number,
+                    from: since.from,
+                    to: row,
+                    look: since.look,
+                })?;
+                *since = Since {
+                    from: row,
+                    look: band.look,
+                };
             }
         }
     }
@@ -82,18 +102,6 @@ fn behind(bands: &[Band], start: usize, frame: u64) -> usize {
         }
     }
     bands.len()
-}
-
-fn close(cells: &mut Vec<Cell>, column: usize, since: Since, to: usize) -> Result<(), AllocError> {
-    if let Some(look) = since.look {
-        cells.push(Cell {
-            column,
-            from: since.from,
-            to,
-            look,
-        })?;
-    }
-    Ok(())
 }
 
 /// A VM slot through neighbouring rows in which it is the same.

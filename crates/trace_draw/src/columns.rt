@@ -2,7 +2,7 @@
 ghost use Rattle.std.specs.Prelude.{◌≡◌, ◌+◌, ◌≤◌, ◌++◌, IfOk, OnOk};
 ghost use Rattle.trace_draw.specs.Columns.{frames_drawn, frames_in, frames_of, frames_of_column};
 
-use crate::bands::Band;
+use crate::bands::{Band, Look};
 use crate::course::Scene;
 use std::alloc::{AllocError, Global};
 
@@ -11,6 +11,8 @@ use std::alloc::{AllocError, Global};
 pub(crate) struct Column {
     pub(crate) first: u64,
     pub(crate) count: u64,
+    /// What they look like in the first row.
+    pub(crate) look: Look,
 }
 
 impl Column {
@@ -45,6 +47,7 @@ fn whole(global: Global, bands: &[Band]) -> Result<Vec<Column>, AllocError>
         columns.push(Column {
             first: band.first,
             count: band.count,
+            look: band.look,
         })?;
     }
     Ok(columns)
@@ -97,9 +100,11 @@ fn shortened(cut: &mut Vec<Column>, left: Column, end: u64) -> Result<Column, Al
     cut.push(Column {
         first: left.first,
         count,
+        look: left.look,
     })?;
     Ok(Column {
         first: end,
         count: left.count.saturating_sub(count),
+        look: left.look,
     })
 }

@@ -7,6 +7,7 @@ mod colours;
 mod columns;
 mod course;
 mod item;
+pub mod laws;
 mod picture;
 mod places;
 mod snapshot;

@@ -1,11 +1,9 @@
 //! The picture.
-ghost use Rattle.std.specs.Prelude.{◌≡◌, IfOk, map, string_bytes};
-ghost use Rattle.trace_draw.specs.Courses.{IsRunOf};
-ghost use Rattle.trace_draw.specs.Items.{IsPicture};
-ghost use Rattle.trace_text.specs.Session.{Standing};
+ghost use Rattle.std.specs.Prelude.{◌≡◌, ◌∷◌, [], ◌++◌, IfOk, OnOk, length, string_bytes};
+ghost use Rattle.trace_draw.specs.Pictures.{AreDrawn, AreEdges, IsDrawing, IsPicture, IsPiece, ShowsScenes, SpansColumn};
 
 use crate::bands::Look;
-use crate::cells::{Cell, SlotCell, cells_of, slot_cells, used_slots};
+use crate::cells::{Since, SlotCell, cells_of, slot_cells, used_slots};
 use crate::colours::{Colour, of_owner, of_slot};
 use crate::columns::{Column, columns_of};
 use crate::course::{Course, Ended, Moment, made};
@@ -39,8 +37,7 @@ pub fn draw<A: Allocator + Copy>(
     alloc: A,
     trace: &[u8],
 ) -> Result<Drawing, AllocError>
-    ensures picture { IfOk result (λ d. IsPicture (string_bytes d.svg)) }
-    ensures ended { IfOk result (λ d. (standing : Standing) × IsRunOf trace.now standing d.ended) }
+    ensures { IfOk result (λ d. IsDrawing trace.now d.ended (string_bytes d.svg)) }
 {
     let lines = lines(global, trace)?;
     let mut session = Session::new(global, alloc);
@@ -56,35 +53,68 @@ pub fn draw<A: Allocator + Copy>(
 
 /// The picture of a course.
 fn picture_of(global: Global, course: &Course, lines: &[&[u8]]) -> Result<String, AllocError>
-    ensures { IfOk result (λ svg. IsPicture (string_bytes svg)) }
+    ensures { IfOk result (λ svg. ShowsScenes course.now.scenes.items (string_bytes svg)) }
 {
-    let mut items = Vec::new(global);
-    let size = add_course(global, course, lines, &mut items)?;
-    written(global, size, items.as_slice())
+    let columns = columns_of(global, course.scenes.as_slice())?;
+    picture_by(global, course, lines, columns.as_slice())
 }
 
-/// Adds all elements, and answers the size.
-fn add_course(
+/// The picture of a course by these columns.
+fn picture_by(
     global: Global,
     course: &Course,
     lines: &[&[u8]],
-    items: &mut Vec<Item>,
-) -> Result<Size, AllocError> {
-    let scenes = course.scenes.as_slice();
-    let columns = columns_of(global, scenes)?;
-    let slots = used_slots(global, scenes)?;
+    columns: &[Column],
+) -> Result<String, AllocError>
+    ensures { IfOk result (λ svg. IsPicture columns.now (string_bytes svg)) }
+{
+    let slots = used_slots(global, course.scenes.as_slice())?;
     let rows = course.moments.len() as u64;
-    let places = Places::of(global, rows, columns.as_slice(), slots.len())?;
-    let size = open(items, &places, slots.len() as u64)?;
-    add_legend(global, items, slots.as_slice())?;
-    add_edges(global, items, columns.as_slice(), &places)?;
-    add_cells(global, items, course, columns.as_slice(), &places)?;
-    add_slots(global, items, course, slots.as_slice(), &places)?;
-    if places.has_texts {
-        add_texts(global, items, course.moments.as_slice(), lines, &places)?;
-    }
-    add_end(global, items, course.ended, &places)?;
+    let places = Places::of(global, rows, columns, slots.len())?;
+    let mut ground = Vec::new(global);
+    let size = add_ground(global, &mut ground, columns, slots.as_slice(), &places)?;
+    let mut cells = Vec::new(global);
+    add_cells(global, &mut cells, course, columns, &places)?;
+    let mut over = Vec::new(global);
+    add_over(global, &mut over, course, lines, slots.as_slice(), &places)?;
+    written(
+        global,
+        size,
+        ground.as_slice(),
+        cells.as_slice(),
+        over.as_slice(),
+    )
+}
+
+/// Adds the elements below the cells, and answers the size.
+fn add_ground(
+    global: Global,
+    items: &mut Vec<Item>,
+    columns: &[Column],
+    slots: &[u64],
+    places: &Places,
+) -> Result<Size, AllocError> {
+    let size = open(items, places, slots.len() as u64)?;
+    add_legend(global, items, slots)?;
+    add_edges(global, items, columns, places)?;
     Ok(size)
+}
+
+/// Adds the elements over the cells.
+fn add_over(
+    global: Global,
+    items: &mut Vec<Item>,
+    course: &Course,
+    lines: &[&[u8]],
+    slots: &[u64],
+    places: &Places,
+) -> Result<(), AllocError> {
+    add_rules(items, places)?;
+    add_slots(global, items, course, slots, places)?;
+    if places.has_texts {
+        add_texts(global, items, course.moments.as_slice(), lines, places)?;
+    }
+    add_end(global, items, course.ended, places)
 }
 
 /// Adds the patterns and the ground, and answers the size.
@@ -117,7 +147,9 @@ fn add_patterns(items: &mut Vec<Item>, colour: Colour) -> Result<(), AllocError>
     Ok(())
 }
 
-fn rectangle(items: &mut Vec<Item>, area: Area, paint: Paint) -> Result<(), AllocError> {
+fn rectangle(items: &mut Vec<Item>, area: Area, paint: Paint) -> Result<(), AllocError>
+    ensures { OnOk result (items.new.items ≡ items.old.items ++ Item.Rectangle (record { area = area; paint = paint }) ∷ []) }
+{
     items.push(Item::Rectangle(Rectangle { area, paint }))?;
     Ok(())
 }
@@ -148,8 +180,10 @@ fn mark_of(look: Look) -> Option<Paint> {
     }
 }
 
-/// A piece of memory that looks so.
-fn piece(items: &mut Vec<Item>, area: Area, look: Look) -> Result<(), AllocError> {
+/// A piece of memory that looks so: a rectangle in its owner's colour, and maybe one over it.
+fn piece(items: &mut Vec<Item>, area: Area, look: Look) -> Result<(), AllocError>
+    ensures { OnOk result (IsPiece area items.old.items items.new.items) }
+{
     rectangle(items, area, Paint::Plain(of_owner(look.owner)))?;
     match mark_of(look) {
         Some(mark) => rectangle(items, area, mark),
@@ -264,21 +298,47 @@ fn add_edges(
     )
 }
 
+/// Adds the pieces of memory: a column through rows in which it looks the same is one.
 fn add_cells(
     global: Global,
     items: &mut Vec<Item>,
     course: &Course,
     columns: &[Column],
     places: &Places,
-) -> Result<(), AllocError> {
+) -> Result<(), AllocError>
+    requires { AreEdges (length columns.now) places.now.edges.items }
+    ensures { OnOk result (AreDrawn items.new.items places.now.edges.items (length columns.now)) }
+{
     let moments = course.moments.as_slice();
     let cells = cells_of(global, moments, course.scenes.as_slice(), columns)?;
-    for cell in cells.as_slice() {
-        let area = area_of(places, *cell);
+    for cell in cells.ended.as_slice() {
+        let area = area_of(places, cell.column, cell.from, cell.to);
         if area.height > 0 {
             piece(items, area, cell.look)?;
         }
     }
+    add_last(items, cells.last.as_slice(), moments.len(), places)
+}
+
+/// Adds the last piece of each column, down to before a row.
+fn add_last(
+    items: &mut Vec<Item>,
+    last: &[Since],
+    to: usize,
+    places: &Places,
+) -> Result<(), AllocError>
+    requires { AreEdges (length last.now) places.now.edges.items }
+    ensures { OnOk result (AreDrawn items.new.items places.now.edges.items (length last.now)) }
+{
+    for (column, since) in last.iter().enumerate() {
+        let area = area_of(places, column, since.from, to);
+        piece(items, area, since.look)?;
+    }
+    Ok(())
+}
+
+/// Adds a thin line over each fifth row.
+fn add_rules(items: &mut Vec<Item>, places: &Places) -> Result<(), AllocError> {
     for row in 0..places.rows {
         if places.has_texts && row % 5 == 0 {
             rule(items, places, row)?;
@@ -298,17 +358,20 @@ fn rule(items: &mut Vec<Item>, places: &Places, row: u64) -> Result<(), AllocErr
     rectangle(items, area, Paint::Plain(Colour::Pale))
 }
 
-fn area_of(places: &Places, cell: Cell) -> Area {
-    let x = places.column(cell.column);
-    let y = places.row(cell.from as u64);
+/// The place of a column from a row on up to before another.
+fn area_of(places: &Places, column: usize, from: usize, to: usize) -> Area
+    ensures { SpansColumn places.now.edges.items column result }
+{
+    let x = places.column(column);
+    let y = places.row(from as u64);
     Area {
         x,
         y,
         width: places
-            .column(cell.column.saturating_add(1))
+            .column(column.saturating_add(1))
             .saturating_sub(x)
             .saturating_sub(1),
-        height: places.row(cell.to as u64).saturating_sub(y),
+        height: places.row(to as u64).saturating_sub(y),
     }
 }
 

@@ -1,4 +1,7 @@
 //! Where things are in a picture, in pixels.
+ghost use Rattle.std.specs.Prelude.{◌≡◌, ◌+◌, ◌<◌, IfOk, IfSome, length, slice_get};
+ghost use Rattle.trace_draw.specs.Pictures.{AreEdges};
+
 use crate::columns::Column;
 use std::alloc::{AllocError, Global};
 
@@ -47,7 +50,9 @@ impl Places {
         rows: u64,
         columns: &[Column],
         slots: usize,
-    ) -> Result<Places, AllocError> {
+    ) -> Result<Places, AllocError>
+        ensures { IfOk result (λ places. AreEdges (length columns.now) places.edges.items) }
+    {
         let has_texts = rows <= MOST_HEIGHT / ROW;
         let has_slot_texts = slots <= MOST_WIDE;
         let left = if has_texts { MARGIN + TEXTS } else { MARGIN };
@@ -83,7 +88,9 @@ impl Places {
     }
 
     /// The left edge of a column.
-    pub(crate) fn column(&self, column: usize) -> u64 {
+    pub(crate) fn column(&self, column: usize) -> u64
+        ensures { IfSome (slice_get self.now.edges.items column) (λ edge. result ≡ edge) }
+    {
         match self.edges.get(column) {
             Some(edge) => *edge,
             None => self.slots,
@@ -106,7 +113,9 @@ fn scaled(row: u64, rows: u64) -> u64 {
 }
 
 /// The left edges of columns from a place on, and the right one of the last.
-fn edges_of(global: Global, left: u64, columns: &[Column]) -> Result<Vec<u64>, AllocError> {
+fn edges_of(global: Global, left: u64, columns: &[Column]) -> Result<Vec<u64>, AllocError>
+    ensures { IfOk result (λ edges. AreEdges (length columns.now) edges.items) }
+{
     let mut edges = Vec::with_capacity(global, columns.len())?;
     let narrow = columns.len() > 80;
     let mut at = left;
@@ -119,7 +128,9 @@ fn edges_of(global: Global, left: u64, columns: &[Column]) -> Result<Vec<u64>, A
 }
 
 /// The width of a column: more pages are wider, by the number of their digits.
-fn width_of(column: Column, narrow: bool) -> u64 {
+fn width_of(column: Column, narrow: bool) -> u64
+    ensures { 0 < result }
+{
     let digits = u64::from(64 - column.count.leading_zeros());
     if narrow {
         digits.saturating_add(4)

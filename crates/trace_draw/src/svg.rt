@@ -33,12 +33,20 @@ fn opening(global: Global, size: Size) -> Result<String, AllocError>
     Ok(svg)
 }
 
-/// A picture of this size, of these elements.
-pub(crate) fn written(global: Global, size: Size, items: &[Item]) -> Result<String, AllocError>
-    ensures { IfOk result (λ svg. string_bytes svg ≡ text_of_picture size items.now) }
+/// A picture of this size: the elements of its ground, those of its cells, and those over them.
+pub(crate) fn written(
+    global: Global,
+    size: Size,
+    ground: &[Item],
+    cells: &[Item],
+    over: &[Item],
+) -> Result<String, AllocError>
+    ensures { IfOk result (λ svg. string_bytes svg ≡ text_of_picture size (ground.now ++ cells.now ++ over.now)) }
 {
     let mut svg = opening(global, size)?;
-    write_items(&mut svg, items)?;
+    write_items(&mut svg, ground)?;
+    write_items(&mut svg, cells)?;
+    write_items(&mut svg, over)?;
     svg.push_str("</svg>\n")?;
     Ok(svg)
 }
