@@ -1,3 +1,4 @@
 mod Enough
+mod Poking
 mod Replays
 mod Setting

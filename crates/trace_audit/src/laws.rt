@@ -1,9 +1,20 @@
-//! The law of audits. The function does nothing, and its contract is the law.
-ghost use Rattle.trace_audit.specs.Laws.{AuditReplays};
+//! Laws of audits. Each function does nothing, and its contract is the law.
+ghost use Rattle.trace_audit.specs.Laws.{AuditReplays, AuditTells, FirstKeeps, NextKeeps};
 
 use std::alloc::Allocator;
 
 /// An audit of a trace without a poke has the report of a replay, and tells no disagreement.
 pub fn audit_replays<A: Allocator>()
     ensures { AuditReplays A }
+{}
+
+/// The report of a poked world tells a difference just where there is one, and then the first.
+pub fn audit_tells<A: Allocator>()
+    ensures { AuditTells A }
+{}
+
+/// A poke leaves each tree but one, and all that stands beside the trees.
+pub fn poke_keeps<A: Allocator>()
+    ensures first { FirstKeeps A }
+    ensures next { NextKeeps A }
 {}
