@@ -1,4 +1,5 @@
 pub mod Comments
+pub mod Counted
 pub mod Going
 pub mod Recorded
 pub mod Renumbered

@@ -1,5 +1,5 @@
 //! Laws of what traces report and of recorded traces. Each function does nothing, and its contract is the law.
-ghost use Rattle.trace_check.specs.Laws.{RecordIsMet, RecordedIsMet, ToldIsReplayed};
+ghost use Rattle.trace_check.specs.Laws.{CheckCounts, RecordIsMet, RecordedIsMet, ToldIsReplayed};
 
 /// A recorded trace can be carried out with the same reports, and then nothing of it is missed but lines that aren't reached.
 /// Recorded again it is itself, byte by byte.
@@ -12,4 +12,9 @@ pub fn recorded_is_met()
 /// that is no fault.
 pub fn told_is_replayed()
     ensures { ToldIsReplayed }
+{}
+
+/// The numbers of a check are those of its expectations and misses: they are told in its last line, and say whether a trace is clean.
+pub fn check_counts()
+    ensures { CheckCounts }
 {}
