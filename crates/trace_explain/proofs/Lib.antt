@@ -1,2 +1,3 @@
+pub mod Alike
 pub mod Held
 pub mod Leading

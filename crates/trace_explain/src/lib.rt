@@ -3,6 +3,7 @@
 
 mod causes;
 mod explaining;
+pub mod laws;
 mod looking;
 mod place;
 mod places;
