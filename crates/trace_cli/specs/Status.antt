@@ -1,6 +1,7 @@
 -- The exit status of the program (profile).
-use Rattle.std.specs.Prelude.{◌≡◌, ◌≢◌, ⊤, ◌≤◌, ◌⊎◌, ℕ, List, Bool, true, false, Option, Result, Ok, Err, IfOk, IfSome, MatchResult, codes, if◌then◌else◌}
+use Rattle.std.specs.Prelude.{◌≡◌, ◌≢◌, ◌≤◌, ◌⊎◌, ℕ, max, List, [], ◌∷◌, Bool, true, false, Option, Result, Ok, Err, IfOk, IfSome, MatchResult, codes, if◌then◌else◌}
 use Rattle.std.specs.Global.{Global}
+use Rattle.std.specs.Io.KnownBytes.{Appends}
 use Rattle.clap.specs.Words.{kind_of}
 use Rattle.clap.specs.declared.error.kind.ErrorKind.TheVariants.{DisplayVersion}
 use Rattle.trace_reader.specs.Reading.{lines_of}
@@ -20,6 +21,7 @@ use Rattle.trace_check.specs.Checks.{IsChecked}
 use Rattle.trace_check.specs.declared.checking.Checked.{Checked}
 use Rattle.trace_draw.specs.declared.course.Ended.{Ended}
 use Rattle.trace_draw.specs.declared.course.Ended.TheVariants as ends
+use Rattle.trace_draw.specs.Pictures.{IsDrawing}
 use Rattle.trace_draw.specs.Snapshots.{IsSnapshot}
 use Rattle.trace_explain.specs.Explained.{ExplainsAll}
 use Rattle.trace_generate.specs.declared.options.GenerateFault.{GenerateFault}
@@ -27,6 +29,8 @@ use Rattle.trace_generate.specs.declared.options.GenerateFault.TheVariants as ge
 use Rattle.trace_generate.specs.declared.options.Options.{Options}
 use Rattle.trace_generate.specs.Machine.{IsFault}
 use Rattle.trace_generate.specs.Made.{IsTrace}
+use Rattle.trace_command.specs.Asked.{Asking, Replaying, Racing, Auditing, Checking, Recording, Explaining, Generating, Drawing, IsRead, asking_of}
+use Rattle.trace_command.specs.declared.words.Invocation.{Invocation}
 use Rattle.trace_command.specs.declared.words.UsageFault.{UsageFault}
 use Rattle.trace_command.specs.declared.words.UsageFault.TheVariants.{NoMemory, Usage}
 use Rattle.trace_cli.specs.declared.tasks.Opened.{Opened}
@@ -60,11 +64,20 @@ abbrev pub outcome_of_end : Ended → Outcome
 outcome_of_end ends.Clean = Clean
 outcome_of_end (ends.Fault line fault) = Fault
 
--- the state at the end of a trace of these bytes is written
-abbrev pub HasSnapshot : Option (List ℕ) → Outcome → Type 0
-HasSnapshot bytes outcome = IfSome bytes (λ all. (ended : Ended) × (text : List ℕ) × IsSnapshot all ended text × (outcome ≡ outcome_of_end ended))
+-- the run of these bytes, whose end is written as text, ends so
+abbrev pub EndsAsTold : List ℕ → Outcome → Type 0
+EndsAsTold all outcome = (ended : Ended) × (text : List ℕ) × IsSnapshot all ended text × (outcome ≡ outcome_of_end ended)
 
--- what a task has made of these bytes has this outcome. What is recorded, or drawn as a picture, is in no clause here
+-- and that which is drawn as a picture
+abbrev pub EndsAsDrawn : List ℕ → Outcome → Type 0
+EndsAsDrawn all outcome = (ended : Ended) × (svg : List ℕ) × IsDrawing all ended svg × (outcome ≡ outcome_of_end ended)
+
+-- a trace of these bytes is drawn, or the state at its end is written as text
+abbrev pub HasDrawn : Bool → Option (List ℕ) → Outcome → Type 0
+HasDrawn true bytes outcome = IfSome bytes (λ all. EndsAsTold all outcome)
+HasDrawn false bytes outcome = IfSome bytes (λ all. EndsAsDrawn all outcome)
+
+-- what a task has made of these bytes has this outcome. What is recorded is in no clause here
 abbrev pub HasReport : Task → List ℕ → Option (List ℕ) → Outcome → Type 0
 HasReport (tasks.Replay heap looks quiet) path bytes outcome = HasReplayReport bytes outcome
 HasReport (tasks.Race quiet) path bytes outcome = HasRaceReport bytes outcome
@@ -72,8 +85,7 @@ HasReport (tasks.Audit quiet) path bytes outcome = HasAuditReport bytes outcome
 HasReport (tasks.Check looks quiet) path bytes outcome = HasChecked path bytes outcome
 HasReport tasks.Record path bytes outcome = outcome ≡ Clean
 HasReport tasks.Explain path bytes outcome = HasExplained path bytes outcome
-HasReport (tasks.Draw true) path bytes outcome = HasSnapshot bytes outcome
-HasReport (tasks.Draw false) path bytes outcome = ⊤
+HasReport (tasks.Draw text) path bytes outcome = HasDrawn text bytes outcome
 
 -- what a fault is blamed on
 abbrev pub place_in : EngineFault → List ℕ → List ℕ
@@ -94,9 +106,12 @@ pub record HasAnswer (task : Task) (path : List ℕ) (bytes : Option (List ℕ))
   pub report : IfOk answer (HasReport task path bytes)
   pub told : status ≡ status_told answer
 
--- the status of a task: 2 where its file can't be opened
+-- the status of a task, by what came of opening its file: 2 where that was refused
+abbrev pub IsStatusOf : {F E : Type 0} → (F → Option (List ℕ)) → Task → List ℕ → Result F E → ℕ → Type 0
+IsStatusOf bytes task path opened status = MatchResult opened (λ file. HasAnswer task path (bytes file) status) (λ _. status ≡ 2)
+
 abbrev pub HasStatus : {F : Type 0} → (F → Option (List ℕ)) → Opened F → ℕ → Type 0
-HasStatus bytes opened status = MatchResult opened.file (λ file. HasAnswer opened.task opened.path.now (bytes file) status) (λ _. status ≡ 2)
+HasStatus bytes opened status = IsStatusOf bytes opened.task opened.path.now opened.file status
 
 -- the status where nothing is asked for: 2 for refused words and help, 1 for want of memory. The version is written, or not
 abbrev pub IsRefused : UsageFault → ℕ → Type 0
@@ -113,7 +128,49 @@ status_of_fault generating.Pages = 2
 status_of_fault generating.NoBoot = 2
 status_of_fault generating.NoMemory = 1
 
--- a trace of these options was made, and written or not; or why none was
-abbrev pub IsMade : ℕ → Options → ℕ → Type 0
-IsMade steps options status =
-    ((text : List ℕ) × IsTrace steps options text × (status ≤ 1)) ⊎ ((fault : GenerateFault) × IsFault fault steps options × (status ≡ status_of_fault fault))
+-- the status of a write: 0 where nothing failed
+abbrev pub status_written : {X E : Type 0} → Result X E → ℕ
+status_written (Ok x) = 0
+status_written (Err error) = 1
+
+-- the status is 0 where the whole text was written behind what was there, and else 1
+abbrev pub IsPut : List ℕ → Option (List ℕ) → Option (List ℕ) → ℕ → Type 0
+IsPut text old new status = ((status ≡ 0) × Appends old new text) ⊎ (status ≡ 1)
+
+-- a trace of these options was made, and put so; or why none was
+abbrev pub IsMade : ℕ → Options → Option (List ℕ) → Option (List ℕ) → ℕ → Type 0
+IsMade steps options old new status =
+    ((text : List ℕ) × IsTrace steps options text × IsPut text old new status) ⊎ ((fault : GenerateFault) × IsFault fault steps options × (status ≡ status_of_fault fault))
+
+-- the status of the program, by what opening a path may come to
+module _ {F E : Type 0} (bytes : F → Option (List ℕ)) (opens : List ℕ → Result F E → Type 0) where
+  -- of a task with the file at a path
+  abbrev pub HasFileStatus : Task → List ℕ → ℕ → Type 0
+  HasFileStatus task path status = (opened : Result F E) × opens path opened × IsStatusOf bytes task path opened status
+
+  -- of a task with several files the greatest of theirs, and of none 0
+  abbrev pub HasGreatestStatus : Task → List (List ℕ) → ℕ → Type 0
+  HasGreatestStatus task [] status = status ≡ 0
+  HasGreatestStatus task (path ∷ more) status =
+      (own : ℕ) × (others : ℕ) × HasFileStatus task path own × HasGreatestStatus task more others × (status ≡ max own others)
+
+  -- of what is asked
+  abbrev pub HasAskedStatus : Asking → ℕ → Type 0
+  HasAskedStatus (Replaying file heap looks quiet) status = HasFileStatus (tasks.Replay heap looks quiet) file status
+  HasAskedStatus (Racing file quiet) status = HasFileStatus (tasks.Race quiet) file status
+  HasAskedStatus (Auditing file quiet) status = HasFileStatus (tasks.Audit quiet) file status
+  HasAskedStatus (Checking files looks quiet) status = HasGreatestStatus (tasks.Check looks quiet) files status
+  HasAskedStatus (Recording file) status = HasFileStatus tasks.Record file status
+  HasAskedStatus (Explaining file) status = HasFileStatus tasks.Explain file status
+  HasAskedStatus (Generating seed steps cpus pages geometry hostile) status =
+      (old : Option (List ℕ)) × (new : Option (List ℕ)) × IsMade steps (record { cpus = cpus; pages = pages; geometry = geometry; hostile = hostile }) old new status
+  HasAskedStatus (Drawing file text) status = HasFileStatus (tasks.Draw text) file status
+
+  -- of what words were read as
+  abbrev pub HasReadStatus : Result Invocation UsageFault → ℕ → Type 0
+  HasReadStatus (Ok asked) status = HasAskedStatus (asking_of asked) status
+  HasReadStatus (Err fault) status = IsRefused fault status
+
+  -- of the program's words, its name first
+  abbrev pub HasWordsStatus : List (List ℕ) → ℕ → Type 0
+  HasWordsStatus words status = (read : Result Invocation UsageFault) × IsRead words read × HasReadStatus read status

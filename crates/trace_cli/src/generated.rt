@@ -1,31 +1,31 @@
 //! Making a trace.
-ghost use Rattle.std.specs.Prelude.{◌≡◌, ◌≤◌, MatchResult};
-ghost use Rattle.trace_cli.specs.Status.{IsMade, status_of_fault};
+ghost use Rattle.std.specs.Prelude.{◌≡◌, MatchResult, string_bytes};
+ghost use Rattle.trace_cli.specs.Status.{IsMade, IsPut, status_of_fault, status_written};
 
 use crate::telling::{FAILED, REFUSED};
 use std::io::{self, Write};
 use trace_generate::{GenerateFault, Options, generate};
 
-/// Writes the trace of these options to standard output, and gives the exit status.
-pub fn made<R: AllocGlobal + Print + Eprint>(rt: &R, seed: u64, steps: u64, options: &Options) -> u8
-    ensures { IsMade steps options.now result }
+/// Writes the trace of these options, and gives the exit status.
+pub fn made<R: AllocGlobal + Eprint, W: Write>(
+    rt: &R,
+    writer: &mut W,
+    seed: u64,
+    steps: u64,
+    options: &Options,
+) -> u8
+    ensures { IsMade steps options.now (W.contents writer.old) (W.contents writer.new) result }
 {
     let answer = generate(rt.alloc(), seed, steps, options);
-    written(rt, answer)
+    written(rt, writer, answer)
 }
 
 /// Writes a trace that was made, or tells why none was, and gives the exit status.
-fn written<R: Print + Eprint>(rt: &R, answer: Result<String, GenerateFault>) -> u8
-    ensures { MatchResult answer (λ _. result ≤ 1) (λ fault. result ≡ status_of_fault fault) }
+fn written<R: Eprint, W: Write>(rt: &R, writer: &mut W, answer: Result<String, GenerateFault>) -> u8
+    ensures { MatchResult answer (λ text. IsPut (string_bytes text) (W.contents writer.old) (W.contents writer.new) result) (λ fault. result ≡ status_of_fault fault) }
 {
     match answer {
-        Ok(text) => match io::writer(rt).write_all(text.as_bytes()) {
-            Ok(()) => 0,
-            Err(error) => {
-                let _ = eprintln!(rt; "trace_cli: standard output: {error}");
-                FAILED
-            }
-        },
+        Ok(text) => put(rt, writer, text.as_bytes()),
         Err(GenerateFault::NoMemory) => {
             let _ = eprintln!(rt; "trace_cli: out of memory");
             FAILED
@@ -33,6 +33,27 @@ fn written<R: Print + Eprint>(rt: &R, answer: Result<String, GenerateFault>) -> 
         Err(fault) => {
             let _ = eprintln!(rt; "trace_cli: {fault}");
             REFUSED
+        }
+    }
+}
+
+/// Writes a trace, and gives the exit status.
+fn put<R: Eprint, W: Write>(rt: &R, writer: &mut W, text: &[u8]) -> u8
+    ensures { IsPut text.now (W.contents writer.old) (W.contents writer.new) result }
+{
+    let outcome = writer.write_all(text);
+    told(rt, outcome)
+}
+
+/// Tells a write that failed, and gives the exit status.
+fn told<R: Eprint>(rt: &R, outcome: io::Result<()>) -> u8
+    ensures { result ≡ status_written outcome }
+{
+    match outcome {
+        Ok(()) => 0,
+        Err(error) => {
+            let _ = eprintln!(rt; "trace_cli: standard output: {error}");
+            FAILED
         }
     }
 }

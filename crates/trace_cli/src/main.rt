@@ -18,8 +18,11 @@
 //! what is in no report is written to standard error.
 #![tactic(auto)]
 
-ghost use Rattle.std.specs.Prelude.{◌≤◌, IfOk};
+ghost use Rattle.std.specs.Prelude.{◌≡◌, ℕ, IfOk, List, map, max};
+ghost use Rattle.trace_cli.specs.Status.{HasAskedStatus, HasFileStatus, HasGreatestStatus, HasWordsStatus};
+ghost use Rattle.trace_command.specs.Asked.{asking_of};
 
+mod files;
 mod generated;
 mod progress;
 mod reports;
@@ -27,41 +30,52 @@ mod tasks;
 mod telling;
 mod texts;
 
+use files::{HostFiles, Opens};
 use generated::made;
-use progress::Watched;
-use std::io::{Input, IsTerminal};
+use std::io::IsTerminal;
 use std::process::ExitCode;
-use std::rt::{Env, Files};
+use std::rt::Env;
 use std::sync::Wait;
 use std::thread::Threads;
-use std::time::Clock;
-use std::{env, fs, io};
+use std::{env, io};
 use tasks::{Opened, Task, status_of};
 use telling::{FAILED, refused};
 use trace_command::{Invocation, command};
 use trace_generate::Options;
 
-/// Runs the program, and gives the exit status. `shows` says whether a long run shows its progress.
-fn run<R: AllocGlobal + Env + Files + Input + Print + Eprint + Clock + Threads + Wait + Sync>(
-    rt: &R,
-    shows: bool,
-) -> Result<u8, io::Error>
-    ensures { IfOk result (λ status. status ≤ 2) }
+/// Runs the program, and gives the exit status.
+fn run<
+    R: AllocGlobal + Env + Print + Eprint + Threads + Wait + Sync,
+    F: io::Read + Drop,
+    O: Opens<F>,
+>(rt: &R, files: &O) -> Result<u8, io::Error>
+    ensures { IfOk result (λ status. (words : List (List ℕ)) × HasWordsStatus F.remaining (O.opens files.now) words status) }
 {
     let words: Vec<String> = env::args(rt)?.collect(rt.alloc())?;
-    match command(rt.alloc(), words.as_slice()) {
-        Ok(asked) => Ok(done(rt, shows, asked)),
-        Err(fault) => Ok(refused(rt, fault)),
+    Ok(done_by_words(rt, files, words.as_slice()))
+}
+
+/// Does what the words ask for, the program's name first, and gives the exit status.
+fn done_by_words<
+    R: AllocGlobal + Print + Eprint + Threads + Wait + Sync,
+    F: io::Read + Drop,
+    O: Opens<F>,
+>(rt: &R, files: &O, words: &[String]) -> u8
+    ensures { HasWordsStatus F.remaining (O.opens files.now) (map (λ w. w.bytes.items) words.now) result }
+{
+    match command(rt.alloc(), words) {
+        Ok(asked) => done(rt, files, asked),
+        Err(fault) => refused(rt, fault),
     }
 }
 
 /// Does what was asked, and gives the exit status.
-fn done<R: AllocGlobal + Files + Input + Print + Eprint + Clock + Threads + Wait + Sync>(
+fn done<R: AllocGlobal + Print + Eprint + Threads + Wait + Sync, F: io::Read + Drop, O: Opens<F>>(
     rt: &R,
-    shows: bool,
+    files: &O,
     asked: Invocation<'_>,
 ) -> u8
-    ensures { result ≤ 2 }
+    ensures { HasAskedStatus F.remaining (O.opens files.now) (asking_of asked.entry) result }
 {
     match asked {
         Invocation::Replay {
@@ -69,16 +83,16 @@ fn done<R: AllocGlobal + Files + Input + Print + Eprint + Clock + Threads + Wait
             heap,
             looks,
             quiet,
-        } => done_with(rt, shows, file, Task::Replay { heap, looks, quiet }),
-        Invocation::Race { file, quiet } => done_with(rt, shows, file, Task::Race { quiet }),
-        Invocation::Audit { file, quiet } => done_with(rt, shows, file, Task::Audit { quiet }),
+        } => done_with(rt, files, file, Task::Replay { heap, looks, quiet }),
+        Invocation::Race { file, quiet } => done_with(rt, files, file, Task::Race { quiet }),
+        Invocation::Audit { file, quiet } => done_with(rt, files, file, Task::Audit { quiet }),
         Invocation::Check {
-            files,
+            files: paths,
             looks,
             quiet,
-        } => done_with_each(rt, files, Task::Check { looks, quiet }),
-        Invocation::Record { file } => done_with(rt, false, file, Task::Record),
-        Invocation::Explain { file } => done_with(rt, false, file, Task::Explain),
+        } => done_with_each(rt, files, paths.as_slice(), Task::Check { looks, quiet }),
+        Invocation::Record { file } => done_with(rt, files, file, Task::Record),
+        Invocation::Explain { file } => done_with(rt, files, file, Task::Explain),
         Invocation::Generate {
             seed,
             steps,
@@ -88,6 +102,7 @@ fn done<R: AllocGlobal + Files + Input + Print + Eprint + Clock + Threads + Wait
             hostile,
         } => made(
             rt,
+            &mut io::writer(rt),
             seed,
             steps,
             &Options {
@@ -97,48 +112,40 @@ fn done<R: AllocGlobal + Files + Input + Print + Eprint + Clock + Threads + Wait
                 hostile,
             },
         ),
-        Invocation::Draw { file, text } => done_with(rt, false, file, Task::Draw { text }),
+        Invocation::Draw { file, text } => done_with(rt, files, file, Task::Draw { text }),
     }
 }
 
 /// Does a task with each of these files, and gives the greatest status.
-fn done_with_each<R: AllocGlobal + Files + Input + Print + Eprint + Clock + Threads + Wait + Sync>(
-    rt: &R,
-    files: Vec<&str>,
-    task: Task,
-) -> u8
-    ensures { result ≤ 2 }
+fn done_with_each<
+    R: AllocGlobal + Print + Eprint + Threads + Wait + Sync,
+    F: io::Read + Drop,
+    O: Opens<F>,
+>(rt: &R, files: &O, paths: &[&str], task: Task) -> u8
+    ensures { HasGreatestStatus F.remaining (O.opens files.now) task (map (λ path. path.now) paths.now) result }
 {
     let mut status = 0;
-    for file in files {
-        status = done_with(rt, false, file, task).max(status);
+    for path in paths {
+        status = done_with(rt, files, path, task).max(status);
     }
     status
 }
 
-/// Does a task with the file at a path, or with standard input where the path is `-`.
-fn done_with<R: AllocGlobal + Files + Input + Print + Eprint + Clock + Threads + Wait + Sync>(
-    rt: &R,
-    shows: bool,
-    path: &str,
-    task: Task,
-) -> u8
-    ensures { result ≤ 2 }
+/// Does a task with the file at a path, and gives the exit status.
+fn done_with<
+    R: AllocGlobal + Print + Eprint + Threads + Wait + Sync,
+    F: io::Read + Drop,
+    O: Opens<F>,
+>(rt: &R, files: &O, path: &str, task: Task) -> u8
+    ensures { HasFileStatus F.remaining (O.opens files.now) task path.now result }
 {
-    if path == "-" {
-        let file = Ok(Watched::new(rt, rt.reader(), shows));
-        return status_of(rt, Opened { task, path, file });
-    }
-    let file = match fs::open(rt, path) {
-        Ok(file) => Ok(Watched::new(rt, file, shows)),
-        Err(error) => Err(error),
-    };
+    let file = files.open(path, task.is_run());
     status_of(rt, Opened { task, path, file })
 }
 
 fn main(rt: HostRuntime) -> ExitCode {
     let shows = rt.stderr().is_terminal();
-    match run(&rt, shows) {
+    match run(&rt, &HostFiles { rt: &rt, shows }) {
         Ok(status) => ExitCode::from(status),
         Err(error) => {
             let _ = eprintln!(rt; "trace_cli: {error}");

@@ -39,6 +39,16 @@ pub enum Task {
     },
 }
 
+impl Task {
+    /// Whether the lines of the trace are carried out as they are read, which may take a while.
+    pub fn is_run(self) -> bool {
+        matches!(
+            self,
+            Task::Replay { .. } | Task::Race { .. } | Task::Audit { .. }
+        )
+    }
+}
+
 /// A task, the path of its file, and what came of opening that.
 #[derive(Drop)]
 pub struct Opened<'a, F> {

@@ -1,6 +1,6 @@
 //! The texts of `check`, `explain` and `draw`, which are made of a whole trace in memory.
-ghost use Rattle.std.specs.Prelude.{◌≡◌, IfOk, IfSome, true};
-ghost use Rattle.trace_cli.specs.Status.{HasChecked, HasExplained, HasSnapshot, outcome_of_check as outcome_of_clean, outcome_of_end};
+ghost use Rattle.std.specs.Prelude.{◌≡◌, IfOk, IfSome};
+ghost use Rattle.trace_cli.specs.Status.{EndsAsDrawn, EndsAsTold, HasChecked, HasDrawn, HasExplained, outcome_of_check as outcome_of_clean, outcome_of_end};
 
 use std::io::{self, ErrorKind, Write};
 use trace_check::{Watch, check, record};
@@ -82,17 +82,31 @@ pub fn drawn<R: AllocGlobal + Print, F: io::Read + Drop>(
     text: bool,
     file: F,
 ) -> Result<Outcome, Halted>
-    ensures { text ≡ true → IfOk result (HasSnapshot (F.remaining file)) }
+    ensures { IfOk result (HasDrawn text (F.remaining file)) }
 {
     let trace = whole(rt, file)?;
     if text {
-        let Ok(drawing) = draw_text(rt.alloc(), rt.alloc(), trace.as_slice()) else {
-            return Err(no_memory());
-        };
-        write(rt, drawing.text.as_bytes())?;
-        return Ok(outcome_of(drawing.ended));
+        return written_out(rt, trace.as_slice());
     }
-    let Ok(drawing) = draw(rt.alloc(), rt.alloc(), trace.as_slice()) else {
+    pictured(rt, trace.as_slice())
+}
+
+/// Writes the state at the end of a trace.
+fn written_out<R: AllocGlobal + Print>(rt: &R, trace: &[u8]) -> Result<Outcome, Halted>
+    ensures { IfOk result (EndsAsTold trace.now) }
+{
+    let Ok(drawing) = draw_text(rt.alloc(), rt.alloc(), trace) else {
+        return Err(no_memory());
+    };
+    write(rt, drawing.text.as_bytes())?;
+    Ok(outcome_of(drawing.ended))
+}
+
+/// Writes the picture of a trace.
+fn pictured<R: AllocGlobal + Print>(rt: &R, trace: &[u8]) -> Result<Outcome, Halted>
+    ensures { IfOk result (EndsAsDrawn trace.now) }
+{
+    let Ok(drawing) = draw(rt.alloc(), rt.alloc(), trace) else {
         return Err(no_memory());
     };
     write(rt, drawing.svg.as_bytes())?;

@@ -1,0 +1,51 @@
+//! Where the files of traces come from.
+ghost use Rattle.std.specs.Prelude.{⊤};
+
+use crate::progress::Watched;
+use either::Either;
+use std::fs;
+use std::io::{self, Input};
+use std::rt::Files;
+use std::time::Clock;
+
+/// What opens the files of traces by their paths.
+pub trait Opens<F> {
+    ghost use Rattle.std.specs.Prelude.{ℕ, List, Result};
+    ghost use Rattle.std.specs.declared.io.Error.{Error};
+
+    /// What opening a path may come to.
+    ghost opens: { Self → List ℕ → Result F Error → Type 0 };
+
+    /// Opens the file at a path. `is_long` says that the run of its trace may take a while.
+    fn open(&self, path: &str, is_long: bool) -> Result<F, io::Error>
+        ensures { opens self.now path.now result };
+}
+
+/// The machine's own files, and standard input under the path `-`.
+#[derive(Drop)]
+pub struct HostFiles<'a, R> {
+    pub rt: &'a R,
+    /// Whether a long run shows its progress.
+    pub shows: bool,
+}
+
+impl<'a, R: Files + Input + Clock + Eprint> Opens<Watched<'a, R, Either<R::Reader, R::File>>>
+    for HostFiles<'a, R> {
+    ghost opens = { λ files path file. ⊤ };
+
+    fn open(
+        &self,
+        path: &str,
+        is_long: bool,
+    ) -> Result<Watched<'a, R, Either<R::Reader, R::File>>, io::Error> {
+        let shows = self.shows && is_long;
+        if path == "-" {
+            let input = Either::Left(self.rt.reader());
+            return Ok(Watched::new(self.rt, input, shows));
+        }
+        match fs::open(self.rt, path) {
+            Ok(file) => Ok(Watched::new(self.rt, Either::Right(file), shows)),
+            Err(error) => Err(error),
+        }
+    }
+}
