@@ -56,7 +56,7 @@ pub record IsPicture (columns : List Column) (svg : List ℕ) : Type 0 where
 abbrev pub ShowsScenes : List Scene → List ℕ → Type 0
 ShowsScenes scenes svg = (columns : List Column) × (frames_of columns ≡ frames_drawn scenes) × IsPicture columns svg
 
--- a picture of the run of a trace, and how that ends
+-- a picture of the run of a trace, and how that ends. No field says that the scenes are those of the run
 pub record IsDrawing (trace : List ℕ) (ended : Ended) (svg : List ℕ) : Type 0 where
   pub standing : Standing
   pub run : IsRunOf trace standing ended
