@@ -1,0 +1,407 @@
+/* Known differences. Each is matched by the call, the state before it and both replies; and by the entries that
+ * differ, since the library must agree once that one thing is told to it in the model's terms. So nothing else may
+ * differ, and a bug isn't taken for one of these.
+ */
+#include "known.h"
+#include <errno.h>
+#include <stdlib.h>
+#include <string.h>
+
+/* --- Ways to tell the library --- */
+
+static bool agrees(const struct difference *it, const struct pkvm_state *before,
+		   const struct pkvm_step *step, const struct pkvm_reply *reply,
+		   const struct pkvm_state *after)
+{
+	char text[512];
+
+	return judged(before, it->cpu, step, reply, after, text, sizeof(text)) == PKVM_AGREES;
+}
+
+/* The state is what the model leaves: the reply alone differs. */
+static bool is_reply_alone(const struct difference *it)
+{
+	return agrees(it, &it->before->state, it->step, &it->spec, &it->after->state);
+}
+
+/* The call changed nothing, as a call that only looks. */
+static bool is_unchanged(const struct difference *it)
+{
+	const struct pkvm_step look = {PKVM_OWNER_OF, {machine.image}};
+	struct pkvm_reply row = predicted_reply(it->before, it->cpu, &look);
+
+	return agrees(it, &it->before->state, &look, &row, &it->after->state);
+}
+
+/* A copy of a state that may be changed. */
+struct copy {
+	struct recorded to;
+	struct pkvm_state state;
+};
+
+static void add_all_but(struct copy *copy, const struct pkvm_state *from, uint64_t tree,
+			uint64_t page, uint64_t count, const struct pkvm_word *instead)
+{
+	bool is_done = false;
+
+	copy->to.runs_len = 0;
+	for (size_t i = 0; i < from->runs_len; i++) {
+		const struct pkvm_run *it = &from->runs[i];
+		uint64_t end = it->page + it->count;
+
+		if (it->tree != tree || end <= page || it->page >= page + count) {
+			add_run(&copy->to, it->tree, it->page, it->count, it->word);
+			continue;
+		}
+		if (it->page < page)
+			add_run(&copy->to, tree, it->page, page - it->page, it->word);
+		if (instead->says != PKVM_UNMAPPED && !is_done)
+			add_run(&copy->to, tree, page, count, *instead);
+		is_done = true;
+		if (end > page + count)
+			add_run(&copy->to, tree, page + count, end - page - count,
+				word_after(it->word, page + count - it->page));
+	}
+	if (instead->says != PKVM_UNMAPPED && !is_done)
+		add_run(&copy->to, tree, page, count, *instead);
+	copy->state = *from;
+	copy->state.runs = copy->to.runs;
+	copy->state.runs_len = copy->to.runs_len;
+}
+
+/* The state with another word at a page; two copies turn about, so that one can be made of the other. */
+static void with_word(struct copy *to, const struct pkvm_state *from, uint64_t tree, uint64_t page,
+		      struct pkvm_word word)
+{
+	static struct copy other;
+
+	add_all_but(&other, from, tree, page, 1, &word);
+	to->to.runs_len = 0;
+	for (size_t i = 0; i < other.state.runs_len; i++)
+		add_run(&to->to, other.state.runs[i].tree, other.state.runs[i].page,
+			other.state.runs[i].count, other.state.runs[i].word);
+	to->state = other.state;
+	to->state.runs = to->to.runs;
+	to->state.runs_len = to->to.runs_len;
+}
+
+/* The state with another owner row of one frame. */
+static void with_row(struct copy *to, uint64_t frame, struct pkvm_owner row)
+{
+	const struct pkvm_state *from = &to->state;
+	struct pkvm_row *rows = calloc(from->rows_len + 2, sizeof(*rows));
+	size_t len = 0;
+
+	if (!rows)
+		refuse("out of memory");
+	for (size_t i = 0; i < from->rows_len; i++) {
+		struct pkvm_row it = from->rows[i], rest = it;
+
+		if (frame - it.frame >= it.count) {
+			rows[len++] = it;
+			continue;
+		}
+		it.count = frame - it.frame;
+		rest.frame = frame + 1;
+		rest.count -= it.count + 1;
+		rest.owner.borrower_page += it.count + 1;
+		if (it.count)
+			rows[len++] = it;
+		if (rest.count)
+			rows[len++] = rest;
+	}
+	rows[len++] = (struct pkvm_row){frame, 1, row};
+	free(to->to.rows);
+	to->to.rows = rows;
+	to->state.rows = rows;
+	to->state.rows_len = len;
+}
+
+static uint64_t host_state(const struct difference *it, uint64_t frame)
+{
+	struct pkvm_word word = entry_at(&it->before->state, HOST, frame);
+
+	return word.says == PKVM_LEAF ? word.state : (uint64_t)NO_PAGE;
+}
+
+static unsigned int borrowers(const struct difference *it, uint64_t frame)
+{
+	long i = memory_index(frame);
+
+	return i < 0 ? 0 : it->before->borrowers[i];
+}
+
+static bool says(const struct difference *it, uint64_t linux_says, uint64_t model_says)
+{
+	return !it->made->ended.is_stopped && it->made->reply.refusal == linux_says &&
+	       it->spec.refusal == model_says;
+}
+
+/* --- Each of them --- */
+
+/* A frame of the range is no memory: Linux says that the host doesn't have it. */
+static bool not_memory(const struct difference *it)
+{
+	const uint64_t *a = it->step->arguments;
+	uint64_t count = 1;
+	bool is_memory = true;
+
+	if (it->step->call == PKVM_DONATE_HYP || it->step->call == PKVM_HYP_DONATE_HOST ||
+	    it->step->call == PKVM_FUND)
+		count = a[1];
+	else if (it->step->call != PKVM_SHARE_HYP && it->step->call != PKVM_UNSHARE_HYP &&
+		 it->step->call != PKVM_SHARE_GUEST && it->step->call != PKVM_DONATE_GUEST)
+		return false;
+	for (uint64_t k = 0; k < count && k < 1024; k++)
+		is_memory = is_memory && memory_index(a[0] + k) >= 0;
+	return says(it, PKVM_EPERM, PKVM_EINVALID) && !is_memory && is_reply_alone(it);
+}
+
+/* All that is no memory is registers of devices to Linux. */
+static bool devices_everywhere(const struct difference *it)
+{
+	return it->step->call == PKVM_HOST_ABORT && says(it, 0, PKVM_EINVALID) &&
+	       !is_in_region(it->step->arguments[0]) && is_reply_alone(it);
+}
+
+/* A number of pages that isn't 1 to 512. Of none nothing is changed. */
+static bool no_page(const struct difference *it)
+{
+	return (it->step->call == PKVM_DONATE_HYP || it->step->call == PKVM_HYP_DONATE_HOST ||
+		it->step->call == PKVM_FUND) &&
+	       !it->step->arguments[1] && says(it, 0, PKVM_EINVALID) && is_unchanged(it);
+}
+
+/* The upper bits of a page's number are lost where it is made an address: the call is that of the rest. */
+static bool number_wraps(const struct difference *it)
+{
+	const uint64_t kept = (1ull << 52) - 1;
+	struct pkvm_step step = *it->step;
+	bool has_page = step.call == PKVM_SHARE_GUEST || step.call == PKVM_DONATE_GUEST;
+
+	if (step.call != PKVM_SHARE_HYP && step.call != PKVM_UNSHARE_HYP &&
+	    step.call != PKVM_DONATE_GUEST && step.call != PKVM_SHARE_GUEST &&
+	    step.call != PKVM_GUEST_SHARE_HOST && step.call != PKVM_GUEST_UNSHARE_HOST &&
+	    step.call != PKVM_GUEST_RELAX)
+		return false;
+	if (step.arguments[0] <= kept && (!has_page || step.arguments[1] <= kept))
+		return false;
+	step.arguments[0] &= kept;
+	if (has_page)
+		step.arguments[1] &= kept;
+	return it->spec.refusal == PKVM_EINVALID && !it->made->ended.is_stopped &&
+	       agrees(it, &it->before->state, &step, &it->made->reply, &it->after->state);
+}
+
+/* 6.12 stops where the host touches a page that isn't its own; 7.3 injects an abort, as `perm`. */
+static bool abort_stops(const struct difference *it)
+{
+	return it->step->call == PKVM_HOST_ABORT && it->made->ended.is_stopped &&
+	       it->spec.refusal == PKVM_EPERM &&
+	       entry_at(&it->before->state, HOST, it->step->arguments[0]).says == PKVM_ANNOTATED &&
+	       is_unchanged(it);
+}
+
+/* The host may read the hypervisor's text, so it doesn't fault there. */
+static bool text_is_readable(const struct difference *it)
+{
+	return it->step->call == PKVM_HOST_ABORT && says(it, 0, PKVM_EPERM) && linux_has_guests &&
+	       linux_is_text(it->step->arguments[0]) && is_unchanged(it);
+}
+
+/* 6.12 doesn't look whether the hypervisor has the page that the host takes back, and stops where it hasn't: the
+ * firmware does. By then the page is the host's own again.
+ */
+static bool firmware_page_taken(const struct difference *it)
+{
+	static struct copy after;
+	uint64_t frame = it->step->arguments[0];
+	struct pkvm_word shared = leaf(frame, PKVM_RWX, PKVM_NORMAL, PKVM_SHARED_OWNED);
+	struct pkvm_word now = entry_at(&it->after->state, HOST, frame);
+
+	if (it->step->call != PKVM_UNSHARE_HYP || !it->made->ended.is_stopped ||
+	    it->spec.refusal != PKVM_EPERM || host_state(it, frame) != PKVM_SHARED_OWNED ||
+	    row_at(&it->before->state, frame).is_lent || now.says != PKVM_LEAF ||
+	    now.state != PKVM_OWNED)
+		return false;
+	with_word(&after, &it->after->state, HOST, frame, shared);
+	return agrees(it, &it->before->state, it->step, &it->spec, &after.state);
+}
+
+/* A page that is pinned stays shared. */
+static bool pinned(const struct difference *it)
+{
+	return it->step->call == PKVM_UNSHARE_HYP && says(it, PKVM_EBUSY, 0) &&
+	       linux_page(it->step->arguments[0]).pins && is_unchanged(it);
+}
+
+/* The hypervisor's caller knows that the pages are free: Linux looks no further than at their count. */
+static bool caller_is_trusted(const struct difference *it)
+{
+	uint64_t first = it->step->arguments[0], count = it->step->arguments[1];
+	bool is_used = false;
+
+	if (it->step->call != PKVM_HYP_DONATE_HOST || it->spec.refusal != PKVM_EPERM)
+		return false;
+	for (uint64_t k = 0; k < count && k < 1024; k++)
+		is_used = is_used ||
+			  row_at(&it->before->state, first + k).usage != PKVM_USE_PLAIN;
+	return is_used && !it->made->ended.is_stopped &&
+	       (!it->made->reply.refusal || it->made->reply.refusal == PKVM_EBUSY);
+}
+
+/* The state without a frame's other pages in plain guests: the model has one borrower at most. */
+static void without_others(struct copy *to, const struct pkvm_state *from, uint64_t frame,
+			   uint64_t tree, uint64_t page)
+{
+	const struct pkvm_word nothing = {.says = PKVM_UNMAPPED};
+	size_t i = 0;
+
+	with_word(to, from, HOST, frame, entry_at(from, HOST, frame));
+	while (i < to->state.runs_len) {
+		const struct pkvm_run *it = &to->state.runs[i];
+		uint64_t k = frame - it->word.frame;
+
+		i++;
+		if (it->tree < GUEST || it->word.says != PKVM_LEAF || k >= it->count ||
+		    (it->tree == tree && it->page + k == page))
+			continue;
+		with_word(to, &to->state, it->tree, it->page + k, nothing);
+		i = 0;
+	}
+}
+
+/* 7.3 lends a frame to plain guests more than once, and counts. Apart from the other borrowers the call is the model's. */
+static bool lent_again(const struct difference *it)
+{
+	static struct copy before, after;
+	uint64_t frame = it->step->arguments[0], page = it->step->arguments[1], slot;
+
+	if (it->step->call != PKVM_SHARE_GUEST || !says(it, 0, PKVM_EPERM) ||
+	    it->step->arguments[3] != 1 || !borrowers(it, frame) || !vms_loaded(it->cpu, &slot))
+		return false;
+	without_others(&before, &it->before->state, frame, GUEST + slot, page);
+	with_word(&before, &before.state, HOST, frame,
+		  leaf(frame, PKVM_RWX, PKVM_NORMAL, PKVM_OWNED));
+	with_row(&before, frame, (struct pkvm_owner){.owner = HOST});
+	without_others(&after, &it->after->state, frame, GUEST + slot, page);
+	after.state.rows = it->after->state.rows;
+	after.state.rows_len = it->after->state.rows_len;
+	with_row(&after, frame,
+		 (struct pkvm_owner){.is_lent = 1, .borrower = GUEST + slot, .borrower_page = page});
+	return agrees(it, &before.state, it->step, &it->made->reply, &after.state);
+}
+
+/* And takes back one loan of several: the host's page stays shared. */
+static bool lent_still(const struct difference *it)
+{
+	static struct copy before, after;
+	uint64_t tree = GUEST + it->step->arguments[0], page = it->step->arguments[2];
+	struct pkvm_word word;
+
+	if (it->step->call != PKVM_UNSHARE_GUEST || !says(it, 0, 0))
+		return false;
+	word = entry_at(&it->before->state, tree, page);
+	if (word.says != PKVM_LEAF || borrowers(it, word.frame) < 2)
+		return false;
+	without_others(&before, &it->before->state, word.frame, tree, page);
+	with_row(&before, word.frame,
+		 (struct pkvm_owner){.is_lent = 1, .borrower = tree, .borrower_page = page});
+	without_others(&after, &it->after->state, word.frame, tree, page);
+	with_word(&after, &after.state, HOST, word.frame,
+		  leaf(word.frame, PKVM_RWX, PKVM_NORMAL, PKVM_OWNED));
+	with_row(&after, word.frame, (struct pkvm_owner){.owner = HOST});
+	return agrees(it, &before.state, it->step, &it->made->reply, &after.state);
+}
+
+/* A page that was lent to a plain guest isn't reclaimed: unshare_guest is the way back, also of a dying one. */
+static bool lent_not_reclaimed(const struct difference *it)
+{
+	uint64_t slot = it->step->arguments[0];
+	struct pkvm_word word;
+
+	if (it->step->call != PKVM_RECLAIM_PAGE || !says(it, PKVM_EPERM, 0))
+		return false;
+	word = entry_at(&it->before->state, GUEST + slot, it->step->arguments[2]);
+	return word.says == PKVM_LEAF && word.state == PKVM_SHARED_BORROWED && is_unchanged(it);
+}
+
+static bool unshared_while_dying(const struct difference *it)
+{
+	static struct copy before, after;
+	static struct vms alive_before, alive_after;
+	uint64_t slot = it->step->arguments[0];
+	struct difference alive = *it;
+	static struct recorded as_before, as_after;
+	struct made made = *it->made;
+
+	if (it->step->call != PKVM_UNSHARE_GUEST || it->spec.refusal != PKVM_ENOVM ||
+	    slot >= SLOTS || it->before->vms.guests[slot].phase != PKVM_DYING ||
+	    it->before->vms.guests[slot].kind != PKVM_PLAIN)
+		return false;
+	(void)before, (void)after;
+	alive_before = it->before->vms;
+	alive_after = it->after->vms;
+	alive_before.guests[slot].phase = alive_after.guests[slot].phase = PKVM_LIVE;
+	as_before = *it->before;
+	as_after = *it->after;
+	as_before.state.guests = alive_before.guests;
+	as_after.state.guests = alive_after.guests;
+	alive.before = &as_before;
+	alive.after = &as_after;
+	alive.made = &made;
+	alive.spec = predicted_reply(&as_before, it->cpu, it->step);
+	return agrees(&alive, &as_before.state, it->step, &made.reply, &as_after.state) ||
+	       lent_still(&alive);
+}
+
+/* Where the host's input has 36 bits so has the guests', and the model's 39. */
+static bool past_36_bits(const struct difference *it)
+{
+	uint64_t page = it->step->arguments[0];
+
+	if (machine.layout.address_bits != 39 || it->made->reply.refusal != PKVM_EINVALID)
+		return false;
+	if (it->step->call == PKVM_SHARE_GUEST || it->step->call == PKVM_DONATE_GUEST)
+		page = it->step->arguments[1];
+	else if (it->step->call == PKVM_UNSHARE_GUEST || it->step->call == PKVM_RECLAIM_PAGE)
+		page = it->step->arguments[2];
+	return page >= 1 << 24 && page < 1 << 27 && is_unchanged(it);
+}
+
+/* A block is taken back as a whole or not at all. */
+static bool whole_block(const struct difference *it)
+{
+	return it->step->call == PKVM_UNSHARE_GUEST && says(it, E2BIG, 0) &&
+	       linux_guest_leaf(it->step->arguments[0], it->step->arguments[2]) > 1 &&
+	       is_unchanged(it);
+}
+
+static const struct {
+	const char *name;
+	bool (*is_it)(const struct difference *);
+} known[] = {
+	{"not_memory", not_memory},
+	{"devices_everywhere", devices_everywhere},
+	{"no_page", no_page},
+	{"number_wraps", number_wraps},
+	{"abort_stops", abort_stops},
+	{"text_is_readable", text_is_readable},
+	{"firmware_page_taken", firmware_page_taken},
+	{"pinned", pinned},
+	{"caller_is_trusted", caller_is_trusted},
+	{"lent_again", lent_again},
+	{"lent_still", lent_still},
+	{"lent_not_reclaimed", lent_not_reclaimed},
+	{"unshared_while_dying", unshared_while_dying},
+	{"past_36_bits", past_36_bits},
+	{"whole_block", whole_block},
+};
+
+const char *known_name(const struct difference *it)
+{
+	for (size_t i = 0; i < sizeof(known) / sizeof(*known); i++)
+		if (known[i].is_it(it))
+			return known[i].name;
+	return NULL;
+}

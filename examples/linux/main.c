@@ -1,0 +1,47 @@
+/* run VERSION hands the words over: TRACE, or --seed N --calls N [--hostile PERCENT] [--print]. */
+#include "harness.h"
+#include <errno.h>
+#include <stdio.h>
+#include <stdlib.h>
+#include <string.h>
+
+static uint64_t number_of(const char *name, const char *word)
+{
+	char *end;
+	uint64_t value;
+
+	errno = 0;
+	value = word ? strtoull(word, &end, 0) : 0;
+	if (!word || !*word || *end || errno || *word == '-')
+		refuse("%s wants a number", name);
+	return value;
+}
+
+int main(int argc, char **argv)
+{
+	uint64_t seed = 1, steps = 0, hostile = 10;
+	const char *trace = NULL;
+	bool is_printed = false;
+
+	if (pkvm_version() >> 32 != PKVM_VERSION >> 32)
+		refuse("the library is of another version than the header");
+	for (int i = 1; i < argc; i++) {
+		if (!strcmp(argv[i], "--seed"))
+			seed = number_of("--seed", argv[++i]);
+		else if (!strcmp(argv[i], "--calls"))
+			steps = number_of("--calls", argv[++i]);
+		else if (!strcmp(argv[i], "--hostile"))
+			hostile = number_of("--hostile", argv[++i]);
+		else if (!strcmp(argv[i], "--print"))
+			is_printed = true;
+		else if (!trace && (argv[i][0] != '-' || !argv[i][1]))
+			trace = argv[i];
+		else
+			refuse("%s is no word here", argv[i]);
+	}
+	if (hostile > 100)
+		refuse("--hostile wants 0 to 100");
+	if (trace ? steps : !steps)
+		refuse("a TRACE, or --seed N --calls N");
+	return trace ? run_trace(trace) : run_random(seed, steps, hostile, is_printed);
+}

@@ -1,0 +1,317 @@
+/* Random calls, chosen on the state: most succeed, and a given share of them is refused. The same seed gives the same
+ * calls, as long as Linux answers the same.
+ */
+#include "harness.h"
+#include <inttypes.h>
+#include <stdio.h>
+#include <string.h>
+
+static uint64_t random_state;
+
+static uint64_t any(uint64_t below)
+{
+	random_state += 0x9e3779b97f4a7c15ull;
+	uint64_t z = random_state;
+
+	z = (z ^ z >> 30) * 0xbf58476d1ce4e5b9ull;
+	z = (z ^ z >> 27) * 0x94d049bb133111ebull;
+	return (z ^ z >> 31) % below;
+}
+
+/* --- The machine: two regions of memory, of which the second isn't whole blocks, and devices --- */
+
+enum {
+	MEMORY = 0x40000,
+	MEMORY_COUNT = 0x4000,
+	CARVE = 0x43e00,
+	CARVE_COUNT = 0x40,
+	HANDS = 0x43800, /* what guests' tables are made of */
+	HAND_COUNT = 0x30,
+	MORE_MEMORY = 0x48000,
+	MORE_COUNT = 0x3e0,
+	GUEST_PAGES = 0x80000
+};
+
+static const struct pkvm_region regions[] = {
+	{1, 0, MEMORY},
+	{0, MEMORY, MEMORY_COUNT},
+	{1, MEMORY + MEMORY_COUNT, MORE_MEMORY - MEMORY - MEMORY_COUNT},
+	{0, MORE_MEMORY, MORE_COUNT},
+};
+
+static struct recorded before, after;
+
+/* --- Pages --- */
+
+/* A few pages of several blocks, so that calls meet: tables come and go, and blocks break. */
+static uint64_t some_frame(void)
+{
+	static const uint64_t blocks[] = {0x41000, 0x41200, 0x42400, 0x43000, 0x48000, 0x48200};
+
+	if (any(8))
+		return blocks[any(6)] + any(4);
+	return any(5) ? MEMORY + any(HANDS - MEMORY) : MORE_MEMORY + any(MORE_COUNT);
+}
+
+/* A page that a call mostly may not have. */
+static uint64_t odd_frame(bool is_of_hyp)
+{
+	switch (any(8)) {
+	case 0:
+		return MEMORY + MEMORY_COUNT + any(16); /* a device */
+	case 1:
+		return MORE_MEMORY + MORE_COUNT + any(4); /* nothing that was asked for */
+	case 2:
+		return (1ull << 52) + some_frame(); /* its upper bits are lost in an address */
+	case 3:
+		return is_of_hyp ? some_frame() : CARVE + any(CARVE_COUNT);
+	case 4:
+		return is_of_hyp ? some_frame() : machine.image + any(32);
+	case 5:
+		return is_of_hyp ? some_frame() : machine.pool + any(machine.pool_count);
+	default:
+		return some_frame();
+	}
+}
+
+static uint64_t some_guest_page(void)
+{
+	static const uint64_t blocks[] = {0, 0x200, 0x40000};
+
+	return GUEST_PAGES + blocks[any(3)] + any(10);
+}
+
+static uint64_t some_rights(void)
+{
+	static const uint64_t rights[] = {PKVM_R, PKVM_RX, PKVM_RW, PKVM_RWX};
+
+	return rights[any(4)];
+}
+
+/* --- Lives of two VMs, the first protected and on CPU 0, the second plain and on CPU 1 --- */
+
+enum stage { RESERVE, FUND, INSTALL, OPEN, LOAD, LIVE, PUT, TEARDOWN, DIE, RECLAIM, POOL, FINISH, RELEASE };
+
+struct life {
+	enum stage stage;
+	uint64_t kind, slot, generation;
+};
+static struct life lives[2] = {{.kind = PKVM_PROTECTED}, {.kind = PKVM_PLAIN}};
+
+/* A page that the guest has mapped. */
+static bool mapped_page(uint64_t slot, uint64_t *page)
+{
+	size_t runs = 0, chosen;
+
+	for (size_t i = 0; i < before.runs_len; i++)
+		runs += before.runs[i].tree == GUEST + slot;
+	if (!runs)
+		return false;
+	chosen = any(runs);
+	for (size_t i = 0; i < before.runs_len; i++) {
+		const struct pkvm_run *it = &before.runs[i];
+
+		if (it->tree == GUEST + slot && !chosen--)
+			*page = it->page + any(it->count);
+	}
+	return true;
+}
+
+/* The step that a VM's life asks for. */
+static struct pkvm_step next_of(uint64_t cpu)
+{
+	struct life *life = &lives[cpu];
+	const uint64_t hand = HANDS + cpu * 0x40;
+	uint64_t page = 0;
+	struct pkvm_step step;
+
+	switch (life->stage) {
+	case RESERVE:
+		return (struct pkvm_step){PKVM_VM_RESERVE, {life->kind, 2}};
+	case FUND:
+		return (struct pkvm_step){PKVM_FUND, {hand, HAND_COUNT}};
+	case INSTALL:
+		return (struct pkvm_step){PKVM_INSTALL, {0}};
+	case OPEN:
+		return (struct pkvm_step){PKVM_VM_OPEN, {0}};
+	case LOAD:
+		return (struct pkvm_step){PKVM_VCPU_LOAD, {life->slot, life->generation, 0}};
+	case PUT:
+		return (struct pkvm_step){PKVM_VCPU_PUT, {0}};
+	case TEARDOWN:
+		return (struct pkvm_step){PKVM_TEARDOWN, {life->slot, life->generation}};
+	case DIE:
+		return (struct pkvm_step){PKVM_MARK_DYING, {0}};
+	case RECLAIM:
+		if (mapped_page(life->slot, &page)) {
+			step = (struct pkvm_step){PKVM_RECLAIM_PAGE,
+						  {life->slot, life->generation, page}};
+			/* A plain guest's pages come back by the other call; sometimes this one is tried. */
+			if (life->kind == PKVM_PLAIN && any(6))
+				step.call = PKVM_UNSHARE_GUEST;
+			return step;
+		}
+		life->stage = POOL;
+		/* fallthrough */
+	case POOL:
+		step = (struct pkvm_step){PKVM_RECLAIM_POOL, {life->slot, life->generation}};
+		if (!predicted_reply(&before, cpu, &step).refusal)
+			return step;
+		life->stage = FINISH;
+		/* fallthrough */
+	case FINISH:
+		return (struct pkvm_step){PKVM_FINISH_GUEST, {0}};
+	default:
+		return (struct pkvm_step){PKVM_VM_RELEASE, {0}};
+	}
+}
+
+static void went_on(uint64_t cpu, const struct made *made)
+{
+	struct life *life = &lives[cpu];
+
+	if (made->reply.refusal && life->stage != RECLAIM)
+		refuse("a VM's life stands still: stage %d, %s", (int)life->stage,
+		       refusal_name(made->reply.refusal));
+	if (life->stage == RESERVE) {
+		life->slot = made->reply.slot;
+		life->generation = made->reply.generation;
+	}
+	if (life->stage == RELEASE)
+		life->stage = RESERVE;
+	else if (life->stage != RECLAIM && life->stage != POOL)
+		life->stage++;
+}
+
+/* --- Steps --- */
+
+static struct pkvm_step host_step(bool is_odd)
+{
+	static const uint64_t some[] = {
+		PKVM_SHARE_HYP,	  PKVM_SHARE_HYP,	PKVM_SHARE_HYP,	      PKVM_UNSHARE_HYP,
+		PKVM_UNSHARE_HYP, PKVM_DONATE_HYP,	PKVM_HYP_DONATE_HOST, PKVM_HOST_ABORT,
+		PKVM_HOST_ABORT,  PKVM_HYP_DONATE_HOST,
+	};
+	struct pkvm_step step = {some[any(10)], {some_frame()}};
+
+	if (is_odd)
+		step.arguments[0] = odd_frame(step.call == PKVM_HYP_DONATE_HOST);
+	if (step.call == PKVM_DONATE_HYP || step.call == PKVM_HYP_DONATE_HOST)
+		step.arguments[1] = is_odd && !any(8) ? 0 : 1 + any(3);
+	if (step.call == PKVM_HOST_ABORT && !any(3))
+		step.arguments[0] = any(4) ? any(MEMORY) : MEMORY + any(HANDS - MEMORY);
+	return step;
+}
+
+static struct pkvm_step guest_step(uint64_t cpu, bool is_odd)
+{
+	static const uint64_t protected_calls[] = {PKVM_DONATE_GUEST, PKVM_DONATE_GUEST,
+						   PKVM_GUEST_SHARE_HOST, PKVM_GUEST_UNSHARE_HOST};
+	static const uint64_t plain_calls[] = {PKVM_SHARE_GUEST, PKVM_SHARE_GUEST,
+					       PKVM_UNSHARE_GUEST, PKVM_GUEST_RELAX};
+	const struct life *life = &lives[cpu];
+	uint64_t frame = is_odd ? odd_frame(false) : some_frame(), page = some_guest_page();
+	struct pkvm_step step = {cpu ? plain_calls[any(4)] : protected_calls[any(4)], {page}};
+
+	if (is_odd && !any(6))
+		page += 1ull << (any(2) ? 52 : 25);
+	switch (step.call) {
+	case PKVM_SHARE_GUEST:
+		return (struct pkvm_step){step.call, {frame, page, some_rights(), 1}};
+	case PKVM_DONATE_GUEST:
+		return (struct pkvm_step){step.call, {frame, page, 1}};
+	case PKVM_UNSHARE_GUEST:
+		return (struct pkvm_step){step.call, {life->slot, life->generation, page}};
+	case PKVM_GUEST_RELAX:
+		return (struct pkvm_step){step.call, {page, some_rights()}};
+	default:
+		return step;
+	}
+}
+
+/* Draws until the model answers as wanted, some times at most. */
+static struct pkvm_step drawn(uint64_t *cpu, bool is_hostile)
+{
+	struct pkvm_step step;
+
+	for (int tries = 0; tries < 16; tries++) {
+		*cpu = any(2);
+		step = linux_has_guests && any(2) ? guest_step(*cpu, is_hostile)
+						  : host_step(is_hostile);
+		if (!predicted_reply(&before, *cpu, &step).refusal == !is_hostile)
+			break;
+	}
+	return step;
+}
+
+static void tell(uint64_t number, uint64_t cpu, const struct pkvm_step *step,
+		 const struct made *made, const struct judgement *judgement)
+{
+	char call[160], reply[256];
+
+	text_of_step(step, call, sizeof(call));
+	text_of_reply(made, reply, sizeof(reply));
+	printf("%" PRIu64 ": %" PRIu64 " %s -> %s: %s\n", number, cpu, call, reply,
+	       judgement->text);
+}
+
+static void print_settings(void)
+{
+	for (size_t i = 0; i < sizeof(regions) / sizeof(*regions); i++)
+		printf("%s 0x%" PRIx64 " 0x%" PRIx64 "\n", regions[i].kind ? "device" : "memory",
+		       regions[i].first, regions[i].count);
+	printf("carve 0x%x 0x%x\ncpus 2\nlog 1048576\nboot\n", CARVE, CARVE_COUNT);
+}
+
+static void start(uint64_t seed, bool is_printed)
+{
+	const struct pkvm_step donate = {PKVM_DONATE_HYP, {CARVE, CARVE_COUNT}};
+	const char *why = machine_make(39, 2, CARVE, CARVE_COUNT, regions,
+				       sizeof(regions) / sizeof(*regions));
+
+	if (why)
+		refuse("the machine has %s", why);
+	random_state = seed;
+	linux_boot();
+	vms_make();
+	if (linux_call(&donate, 0).error)
+		refuse("Linux doesn't take the carve-out");
+	if (is_printed)
+		print_settings();
+}
+
+int run_random(uint64_t seed, uint64_t steps, uint64_t hostile, bool is_printed)
+{
+	char text[160];
+
+	start(seed, is_printed);
+	for (uint64_t i = 0; i < steps; i++) {
+		struct judgement judgement;
+		struct pkvm_step step;
+		struct made made;
+		uint64_t cpu = any(2);
+		bool is_life = linux_has_guests && lives[cpu].stage != LIVE && !any(3);
+
+		make_ready();
+		record(&before);
+		if (linux_has_guests && lives[cpu].stage == LIVE && !any(120))
+			lives[cpu].stage = PUT, is_life = true;
+		if (is_life)
+			step = next_of(cpu);
+		else
+			step = drawn(&cpu, any(100) < hostile);
+		made = make_step(cpu, &step, &before);
+		record(&after);
+		judge(&before, cpu, &step, &made, &after, &judgement);
+		if (is_life)
+			went_on(cpu, &made);
+		if (is_printed) {
+			text_of_step(&step, text, sizeof(text));
+			printf("%" PRIu64 " %s\n", cpu, text);
+		} else if (judgement.verdict == DIFFERS) {
+			tell(i, cpu, &step, &made, &judgement);
+		}
+		count_step(&step, &made, &judgement);
+	}
+	return print_summary(is_printed ? stderr : stdout) ? 0 : 1;
+}
