@@ -137,6 +137,7 @@ struct recorded {
 	size_t frames_len, frames_room;
 	struct pkvm_row *rows;
 	size_t rows_len, rows_room;
+	size_t free_shared;	 /* free frames of the shared pool, of which `frames` has the first */
 	unsigned int *borrowers; /* by memory index */
 	struct vms vms;
 	char misfit[160]; /* where tables and hyp_vmemmap don't fit each other, or nothing */

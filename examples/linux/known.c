@@ -137,6 +137,85 @@ static bool says(const struct difference *it, uint64_t linux_says, uint64_t mode
 	       it->spec.refusal == model_says;
 }
 
+/* The frame and the guest page of a call: where its arguments have them, or -1. */
+struct numbers {
+	int frame, page;
+};
+
+static struct numbers numbers_of(uint64_t call)
+{
+	switch (call) {
+	case PKVM_SHARE_HYP:
+	case PKVM_UNSHARE_HYP:
+	case PKVM_DONATE_HYP:
+	case PKVM_HYP_DONATE_HOST:
+		return (struct numbers){0, -1};
+	case PKVM_SHARE_GUEST:
+	case PKVM_DONATE_GUEST:
+		return (struct numbers){0, 1};
+	case PKVM_UNSHARE_GUEST:
+	case PKVM_RECLAIM_PAGE:
+		return (struct numbers){-1, 2};
+	case PKVM_GUEST_SHARE_HOST:
+	case PKVM_GUEST_UNSHARE_HOST:
+	case PKVM_GUEST_RELAX:
+		return (struct numbers){-1, 0};
+	default:
+		return (struct numbers){-1, -1};
+	}
+}
+
+/* A copy of all lists of a state: the library writes the next one over what it gave before. */
+static void keep(struct pkvm_state *to, const struct pkvm_state *from)
+{
+#define KEEP(list)                                                                                 \
+	do {                                                                                       \
+		size_t size = (from->list##_len + 1) * sizeof(*from->list);                        \
+		void *list = realloc((void *)to->list, size);                                      \
+                                                                                                   \
+		if (!list)                                                                         \
+			refuse("out of memory");                                                   \
+		memcpy(list, from->list, from->list##_len * sizeof(*from->list));                  \
+		to->list = list;                                                                   \
+		to->list##_len = from->list##_len;                                                 \
+	} while (0)
+	KEEP(runs);
+	KEEP(tables);
+	KEEP(frames);
+	KEEP(slots);
+	KEEP(loads);
+	KEEP(guests);
+	KEEP(cpus);
+	KEEP(rows);
+}
+
+/* The call is one of several of the model: of `size` pages each, up to the first that is refused. */
+static bool is_in_parts(const struct difference *it, int count_at, uint64_t size)
+{
+	static struct pkvm_state state;
+	struct pkvm_state next;
+	struct pkvm_step step = *it->step;
+	uint64_t left = step.arguments[count_at];
+	struct numbers at = numbers_of(step.call);
+
+	keep(&state, &it->before->state);
+	for (;;) {
+		struct pkvm_reply reply;
+
+		step.arguments[count_at] = left < size ? left : size;
+		left -= step.arguments[count_at];
+		if (foretold(&state, it->cpu, &step, &reply, &next))
+			return false;
+		if (reply.refusal || !left)
+			break;
+		keep(&state, &next);
+		step.arguments[at.frame] += size;
+		if (at.page >= 0)
+			step.arguments[at.page] += size;
+	}
+	return agrees(it, &state, &step, &it->made->reply, &it->after->state);
+}
+
 /* --- Each of them --- */
 
 /* A frame of the range is no memory: Linux says that the host doesn't have it. */
@@ -148,7 +227,7 @@ static bool not_memory(const struct difference *it)
 
 	if (it->step->call == PKVM_DONATE_HYP || it->step->call == PKVM_HYP_DONATE_HOST ||
 	    it->step->call == PKVM_FUND)
-		count = a[1];
+		count = a[1] ? a[1] : 1;
 	else if (it->step->call != PKVM_SHARE_HYP && it->step->call != PKVM_UNSHARE_HYP &&
 		 it->step->call != PKVM_SHARE_GUEST && it->step->call != PKVM_DONATE_GUEST)
 		return false;
@@ -172,25 +251,57 @@ static bool no_page(const struct difference *it)
 	       !it->step->arguments[1] && says(it, 0, PKVM_EINVALID) && is_unchanged(it);
 }
 
+/* More than 512 pages are given at once: as several calls of the model. */
+static bool over_512(const struct difference *it)
+{
+	return (it->step->call == PKVM_DONATE_HYP || it->step->call == PKVM_HYP_DONATE_HOST) &&
+	       it->step->arguments[1] > 512 && it->step->arguments[1] < 1 << 16 &&
+	       !it->made->ended.is_stopped && it->spec.refusal == PKVM_EINVALID &&
+	       is_in_parts(it, 1, 512);
+}
+
+/* Linux has no range but a block: the harness makes it page by page, up to the first that is refused. */
+static bool range_in_parts(const struct difference *it)
+{
+	int count_at = it->step->call == PKVM_SHARE_GUEST ? 3 : 2;
+	uint64_t count = it->step->arguments[count_at];
+
+	return (it->step->call == PKVM_SHARE_GUEST || it->step->call == PKVM_DONATE_GUEST) &&
+	       count > 1 && count <= 512 && !it->made->ended.is_stopped &&
+	       is_in_parts(it, count_at, 1);
+}
+
 /* The upper bits of a page's number are lost where it is made an address: the call is that of the rest. */
 static bool number_wraps(const struct difference *it)
 {
 	const uint64_t kept = (1ull << 52) - 1;
+	struct numbers at = numbers_of(it->step->call);
 	struct pkvm_step step = *it->step;
-	bool has_page = step.call == PKVM_SHARE_GUEST || step.call == PKVM_DONATE_GUEST;
+	struct difference cut = *it;
+	bool is_cut = false;
 
-	if (step.call != PKVM_SHARE_HYP && step.call != PKVM_UNSHARE_HYP &&
-	    step.call != PKVM_DONATE_GUEST && step.call != PKVM_SHARE_GUEST &&
-	    step.call != PKVM_GUEST_SHARE_HOST && step.call != PKVM_GUEST_UNSHARE_HOST &&
-	    step.call != PKVM_GUEST_RELAX)
+	for (int i = 0; i < 4; i++) {
+		if (i != at.frame && i != at.page)
+			continue;
+		is_cut = is_cut || step.arguments[i] > kept;
+		step.arguments[i] &= kept;
+	}
+	if (!is_cut || it->spec.refusal != PKVM_EINVALID || it->made->ended.is_stopped)
 		return false;
-	if (step.arguments[0] <= kept && (!has_page || step.arguments[1] <= kept))
-		return false;
-	step.arguments[0] &= kept;
-	if (has_page)
-		step.arguments[1] &= kept;
-	return it->spec.refusal == PKVM_EINVALID && !it->made->ended.is_stopped &&
-	       agrees(it, &it->before->state, &step, &it->made->reply, &it->after->state);
+	cut.step = &step;
+	cut.spec = predicted_reply(it->before, it->cpu, &step);
+	return agrees(&cut, &it->before->state, &step, &it->made->reply, &it->after->state) ||
+	       known_name(&cut);
+}
+
+/* 7.3 looks into hyp_vmemmap before it looks whether the frame is memory, and faults where nothing is mapped. Its own
+ * code asks for memory alone.
+ */
+static bool no_vmemmap(const struct difference *it)
+{
+	return it->step->call == PKVM_HYP_DONATE_HOST && it->made->ended.is_stopped &&
+	       linux_has_guests && !strcmp(it->made->ended.where, "EL2:0 fault") &&
+	       it->spec.refusal == PKVM_EINVALID && is_unchanged(it);
 }
 
 /* 6.12 stops where the host touches a page that isn't its own; 7.3 injects an abort, as `perm`. */
@@ -328,7 +439,6 @@ static bool lent_not_reclaimed(const struct difference *it)
 
 static bool unshared_while_dying(const struct difference *it)
 {
-	static struct copy before, after;
 	static struct vms alive_before, alive_after;
 	uint64_t slot = it->step->arguments[0];
 	struct difference alive = *it;
@@ -339,7 +449,6 @@ static bool unshared_while_dying(const struct difference *it)
 	    slot >= SLOTS || it->before->vms.guests[slot].phase != PKVM_DYING ||
 	    it->before->vms.guests[slot].kind != PKVM_PLAIN)
 		return false;
-	(void)before, (void)after;
 	alive_before = it->before->vms;
 	alive_after = it->after->vms;
 	alive_before.guests[slot].phase = alive_after.guests[slot].phase = PKVM_LIVE;
@@ -358,15 +467,11 @@ static bool unshared_while_dying(const struct difference *it)
 /* Where the host's input has 36 bits so has the guests', and the model's 39. */
 static bool past_36_bits(const struct difference *it)
 {
-	uint64_t page = it->step->arguments[0];
+	struct numbers at = numbers_of(it->step->call);
+	uint64_t page = at.page < 0 ? 0 : it->step->arguments[at.page];
 
-	if (machine.layout.address_bits != 39 || it->made->reply.refusal != PKVM_EINVALID)
-		return false;
-	if (it->step->call == PKVM_SHARE_GUEST || it->step->call == PKVM_DONATE_GUEST)
-		page = it->step->arguments[1];
-	else if (it->step->call == PKVM_UNSHARE_GUEST || it->step->call == PKVM_RECLAIM_PAGE)
-		page = it->step->arguments[2];
-	return page >= 1 << 24 && page < 1 << 27 && is_unchanged(it);
+	return machine.layout.address_bits == 39 && it->made->reply.refusal == PKVM_EINVALID &&
+	       page >= 1 << 24 && page < 1 << 27 && is_unchanged(it);
 }
 
 /* A block is taken back as a whole or not at all. */
@@ -384,7 +489,10 @@ static const struct {
 	{"not_memory", not_memory},
 	{"devices_everywhere", devices_everywhere},
 	{"no_page", no_page},
+	{"over_512", over_512},
+	{"range_in_parts", range_in_parts},
 	{"number_wraps", number_wraps},
+	{"no_vmemmap", no_vmemmap},
 	{"abort_stops", abort_stops},
 	{"text_is_readable", text_is_readable},
 	{"firmware_page_taken", firmware_page_taken},

@@ -54,13 +54,10 @@ static struct made page_by_page(const struct pkvm_step *step, uint64_t slot)
 	struct pkvm_step one = *step;
 	struct made made;
 
-	if (count < 2 || count > 512 || is_block) {
-		vms_fill(slot);
+	if (count < 2 || count > 512 || is_block)
 		return on_linux(step, slot);
-	}
 	one.arguments[is_share ? 3 : 2] = 1;
 	do {
-		vms_fill(slot);
 		made = on_linux(&one, slot);
 		one.arguments[0]++;
 		one.arguments[1]++;
@@ -220,7 +217,11 @@ struct made make_step(uint64_t cpu, const struct pkvm_step *step, struct recorde
 	case PKVM_UNSHARE_HYP:
 	case PKVM_DONATE_HYP:
 	case PKVM_HYP_DONATE_HOST:
+		return on_linux(step, 0);
 	case PKVM_HOST_ABORT:
+		/* A fault tells 40 bits of the page's number. */
+		if (step->arguments[0] >> 40)
+			return by_harness(predicted_reply(before, cpu, step));
 		return on_linux(step, 0);
 	case PKVM_HOST_TRANSLATE:
 	case PKVM_HYP_TRANSLATE:

@@ -26,7 +26,7 @@ enum {
 	CARVE = 0x43e00,
 	CARVE_COUNT = 0x40,
 	HANDS = 0x43800, /* what guests' tables are made of */
-	HAND_COUNT = 0x30,
+	HAND_COUNT = 0x10,
 	MORE_MEMORY = 0x48000,
 	MORE_COUNT = 0x3e0,
 	GUEST_PAGES = 0x80000
@@ -196,6 +196,8 @@ static struct pkvm_step host_step(bool is_odd)
 
 	if (is_odd)
 		step.arguments[0] = odd_frame(step.call == PKVM_HYP_DONATE_HOST);
+	if (step.call == PKVM_HOST_ABORT)
+		step.arguments[0] &= (1ull << 40) - 1; /* as a fault tells it */
 	if (step.call == PKVM_DONATE_HYP || step.call == PKVM_HYP_DONATE_HOST)
 		step.arguments[1] = is_odd && !any(8) ? 0 : 1 + any(3);
 	if (step.call == PKVM_HOST_ABORT && !any(3))
@@ -211,10 +213,14 @@ static struct pkvm_step guest_step(uint64_t cpu, bool is_odd)
 					       PKVM_UNSHARE_GUEST, PKVM_GUEST_RELAX};
 	const struct life *life = &lives[cpu];
 	uint64_t frame = is_odd ? odd_frame(false) : some_frame(), page = some_guest_page();
-	struct pkvm_step step = {cpu ? plain_calls[any(4)] : protected_calls[any(4)], {page}};
+	uint64_t other = page;
+	struct pkvm_step step = {cpu ? plain_calls[any(4)] : protected_calls[any(4)], {0}};
 
 	if (is_odd && !any(6))
 		page += 1ull << (any(2) ? 52 : 25);
+	if (is_odd && any(2) && mapped_page(life->slot, &other))
+		frame = entry_at(&before.state, GUEST + life->slot, other).frame; /* lent already */
+	step.arguments[0] = page;
 	switch (step.call) {
 	case PKVM_SHARE_GUEST:
 		return (struct pkvm_step){step.call, {frame, page, some_rights(), 1}};
@@ -235,9 +241,11 @@ static struct pkvm_step drawn(uint64_t *cpu, bool is_hostile)
 	struct pkvm_step step;
 
 	for (int tries = 0; tries < 16; tries++) {
+		bool is_guests;
+
 		*cpu = any(2);
-		step = linux_has_guests && any(2) ? guest_step(*cpu, is_hostile)
-						  : host_step(is_hostile);
+		is_guests = linux_has_guests && any(2) && (lives[*cpu].stage == LIVE || !any(16));
+		step = is_guests ? guest_step(*cpu, is_hostile) : host_step(is_hostile);
 		if (!predicted_reply(&before, *cpu, &step).refusal == !is_hostile)
 			break;
 	}
@@ -285,12 +293,12 @@ int run_random(uint64_t seed, uint64_t steps, uint64_t hostile, bool is_printed)
 	char text[160];
 
 	start(seed, is_printed);
-	for (uint64_t i = 0; i < steps; i++) {
+	for (uint64_t i = 0, by_linux = 0; by_linux < steps; i++) {
 		struct judgement judgement;
 		struct pkvm_step step;
 		struct made made;
 		uint64_t cpu = any(2);
-		bool is_life = linux_has_guests && lives[cpu].stage != LIVE && !any(3);
+		bool is_life = linux_has_guests && lives[cpu].stage != LIVE && any(3);
 
 		make_ready();
 		record(&before);
@@ -312,6 +320,7 @@ int run_random(uint64_t seed, uint64_t steps, uint64_t hostile, bool is_printed)
 			tell(i, cpu, &step, &made, &judgement);
 		}
 		count_step(&step, &made, &judgement);
+		by_linux += made.maker == BY_LINUX;
 	}
 	return print_summary(is_printed ? stderr : stdout) ? 0 : 1;
 }

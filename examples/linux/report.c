@@ -137,9 +137,9 @@ void text_of_row(const struct pkvm_owner *row, char *text, size_t room)
 	if (row->usage == PKVM_USE_SHARED_POOL)
 		strcpy(use, "shared_pool");
 	else if (row->usage == PKVM_USE_GUEST_POOL)
-		snprintf(use, sizeof(use), "guest_pool %" PRIu64, row->user);
+		snprintf(use, sizeof(use), "vm_pool %" PRIu64, row->user);
 	else if (row->usage == PKVM_USE_HAND)
-		snprintf(use, sizeof(use), "hand %" PRIu64, row->user);
+		snprintf(use, sizeof(use), "in_hand %" PRIu64, row->user);
 	snprintf(text, room, "owner %" PRIu64 " lent %s use %s", row->owner, lent, use);
 }
 

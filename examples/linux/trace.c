@@ -144,8 +144,10 @@ static int by_place(const void *a, const void *b)
 	return x->page < y->page ? -1 : x->page > y->page;
 }
 
+/* What Linux has for itself is no page of the trace. */
 static void show(const struct recorded *now, uint64_t tree)
 {
+	const struct pkvm_region *own = &machine.regions[machine.regions_len - 1];
 	struct pkvm_run *runs = malloc((now->runs_len + 1) * sizeof(*runs));
 	size_t len = 0;
 	char text[96];
@@ -153,7 +155,8 @@ static void show(const struct recorded *now, uint64_t tree)
 	if (!runs)
 		refuse("out of memory");
 	for (size_t i = 0; i < now->runs_len; i++)
-		if (now->runs[i].tree == tree)
+		if (now->runs[i].tree == tree &&
+		    (tree >= GUEST || now->runs[i].page - (tree == HYP ? LINEAR : 0) - own->first >= own->count))
 			runs[len++] = now->runs[i];
 	qsort(runs, len, sizeof(*runs), by_place);
 	for (size_t i = 0; i < len; i++) {
@@ -168,8 +171,8 @@ static void query(const struct recorded *now, char **words)
 	size_t at = 1, free_frames = 0;
 	uint64_t tree = tree_of(words, &at), word = 0;
 
-	if (!has_tree(tree) && strcmp(words[0], "show")) {
-		printf("%s none\n", words[0]);
+	if (!has_tree(tree) && !strcmp(words[0], "word")) {
+		printf("word none\n");
 	} else if (!strcmp(words[0], "word")) {
 		/* Linux' path may be shorter than the model's. */
 		if (word_at(tree, number(words[at]), number(words[at + 1]), &word))
@@ -177,8 +180,11 @@ static void query(const struct recorded *now, char **words)
 		else
 			printf("word none\n");
 	} else if (!strcmp(words[0], "free")) {
-		for (size_t i = 0; i < now->frames_len; i++)
-			free_frames += now->frames[i].pool == tree;
+		if (tree == HYP)
+			free_frames = now->free_shared;
+		else
+			for (size_t i = 0; i < now->frames_len; i++)
+				free_frames += now->frames[i].pool == tree;
 		printf("free %zu\n", free_frames);
 	} else {
 		show(now, tree);
@@ -210,7 +216,7 @@ static void boot(struct settings *settings)
 		host += before.tables[i].tree == HOST;
 		hyp += before.tables[i].tree == HYP;
 	}
-	printf("boot host %zu hyp %zu free %zu\n", host, hyp, before.frames_len);
+	printf("boot host %zu hyp %zu free %zu\n", host, hyp, before.free_shared);
 }
 
 static void make_one(size_t line, uint64_t cpu, const struct pkvm_step *step)

@@ -48,9 +48,10 @@ bool vms_loaded(uint64_t cpu, uint64_t *slot)
  */
 void vms_fill(uint64_t slot)
 {
+	enum { FOR_A_RANGE = 8 }; /* a range of 512 pages meets two tables of each level */
 	uint64_t frames[64];
 
-	while (linux_free_frames(GUEST + slot, frames, 64) < linux_guest_needs()) {
+	while (linux_free_frames(GUEST + slot, frames, 64) < linux_guest_needs() + FOR_A_RANGE) {
 		if (!spare_len)
 			refuse("no page is left for guests' tables");
 		linux_guest_give(slot, spare[--spare_len]);
