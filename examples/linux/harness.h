@@ -203,7 +203,8 @@ bool print_summary(FILE *to);
 /* --- trace.c, random.c: where steps come from --- */
 
 int run_trace(const char *path);
-int run_random(uint64_t seed, uint64_t steps, uint64_t hostile, bool is_printed);
+/* Until so many calls are made by Linux; or, where `is_first`, until one differs that isn't known. */
+int run_random(uint64_t seed, uint64_t steps, uint64_t hostile, bool is_printed, bool is_first);
 
 /* Ends the program with status 2 and a line on standard error. */
 void refuse(const char *format, ...) __attribute__((noreturn, format(printf, 1, 2)));

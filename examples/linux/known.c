@@ -42,14 +42,14 @@ struct copy {
 static void add_all_but(struct copy *copy, const struct pkvm_state *from, uint64_t tree,
 			uint64_t page, uint64_t count, const struct pkvm_word *instead)
 {
-	bool is_done = false;
+	bool is_done = !count;
 
 	copy->to.runs_len = 0;
 	for (size_t i = 0; i < from->runs_len; i++) {
 		const struct pkvm_run *it = &from->runs[i];
 		uint64_t end = it->page + it->count;
 
-		if (it->tree != tree || end <= page || it->page >= page + count) {
+		if (it->tree != tree || !count || end <= page || it->page >= page + count) {
 			add_run(&copy->to, it->tree, it->page, it->count, it->word);
 			continue;
 		}
@@ -69,13 +69,13 @@ static void add_all_but(struct copy *copy, const struct pkvm_state *from, uint64
 	copy->state.runs_len = copy->to.runs_len;
 }
 
-/* The state with another word at a page; two copies turn about, so that one can be made of the other. */
-static void with_word(struct copy *to, const struct pkvm_state *from, uint64_t tree, uint64_t page,
-		      struct pkvm_word word)
+/* The state with another word at some pages; two copies turn about, so that one can be made of the other. */
+static void with_words(struct copy *to, const struct pkvm_state *from, uint64_t tree, uint64_t page,
+		       uint64_t count, struct pkvm_word word)
 {
 	static struct copy other;
 
-	add_all_but(&other, from, tree, page, 1, &word);
+	add_all_but(&other, from, tree, page, count, &word);
 	to->to.runs_len = 0;
 	for (size_t i = 0; i < other.state.runs_len; i++)
 		add_run(&to->to, other.state.runs[i].tree, other.state.runs[i].page,
@@ -83,6 +83,12 @@ static void with_word(struct copy *to, const struct pkvm_state *from, uint64_t t
 	to->state = other.state;
 	to->state.runs = to->to.runs;
 	to->state.runs_len = to->to.runs_len;
+}
+
+static void with_word(struct copy *to, const struct pkvm_state *from, uint64_t tree, uint64_t page,
+		      struct pkvm_word word)
+{
+	with_words(to, from, tree, page, 1, word);
 }
 
 /* The state with another owner row of one frame. */
@@ -165,6 +171,21 @@ static struct numbers numbers_of(uint64_t call)
 	}
 }
 
+/* How many frames a call names, at least one. */
+static uint64_t range_of(const struct pkvm_step *step)
+{
+	uint64_t count = 1;
+
+	if (step->call == PKVM_DONATE_HYP || step->call == PKVM_HYP_DONATE_HOST ||
+	    step->call == PKVM_FUND)
+		count = step->arguments[1];
+	else if (step->call == PKVM_SHARE_GUEST)
+		count = step->arguments[3];
+	else if (step->call == PKVM_DONATE_GUEST)
+		count = step->arguments[2];
+	return count ? count : 1;
+}
+
 /* A copy of all lists of a state: the library writes the next one over what it gave before. */
 static void keep(struct pkvm_state *to, const struct pkvm_state *from)
 {
@@ -189,18 +210,20 @@ static void keep(struct pkvm_state *to, const struct pkvm_state *from)
 	KEEP(rows);
 }
 
-/* The call is one of several of the model: of `size` pages each, up to the first that is refused. */
-static bool is_in_parts(const struct difference *it, int count_at, uint64_t size)
+/* The call is several of the model, of `size` pages each, up to the first that is refused; where `is_any`, by whatever
+ * name.
+ */
+static bool is_in_parts(const struct difference *it, int count_at, uint64_t size, bool is_any)
 {
 	static struct pkvm_state state;
 	struct pkvm_state next;
 	struct pkvm_step step = *it->step;
 	uint64_t left = step.arguments[count_at];
 	struct numbers at = numbers_of(step.call);
+	struct pkvm_reply reply;
 
 	keep(&state, &it->before->state);
 	for (;;) {
-		struct pkvm_reply reply;
 
 		step.arguments[count_at] = left < size ? left : size;
 		left -= step.arguments[count_at];
@@ -213,27 +236,44 @@ static bool is_in_parts(const struct difference *it, int count_at, uint64_t size
 		if (at.page >= 0)
 			step.arguments[at.page] += size;
 	}
-	return agrees(it, &state, &step, &it->made->reply, &it->after->state);
+	if (!is_any || !reply.refusal || !it->made->reply.refusal)
+		reply = it->made->reply;
+	return agrees(it, &state, &step, &reply, &it->after->state);
 }
 
 /* --- Each of them --- */
 
+/* Linux has no range but a block: the harness makes it page by page, up to the first that is refused. */
+static bool is_range_in_parts(const struct difference *it, bool is_any)
+{
+	int count_at = it->step->call == PKVM_SHARE_GUEST ? 3 : 2;
+	uint64_t count = it->step->arguments[count_at];
+
+	return (it->step->call == PKVM_SHARE_GUEST || it->step->call == PKVM_DONATE_GUEST) &&
+	       count > 1 && count <= 512 && !it->made->ended.is_stopped &&
+	       is_in_parts(it, count_at, 1, is_any);
+}
+
+static bool range_in_parts(const struct difference *it)
+{
+	return is_range_in_parts(it, false);
+}
+
 /* A frame of the range is no memory: Linux says that the host doesn't have it. */
 static bool not_memory(const struct difference *it)
 {
-	const uint64_t *a = it->step->arguments;
-	uint64_t count = 1;
+	struct numbers at = numbers_of(it->step->call);
+	uint64_t count = range_of(it->step);
 	bool is_memory = true;
 
-	if (it->step->call == PKVM_DONATE_HYP || it->step->call == PKVM_HYP_DONATE_HOST ||
-	    it->step->call == PKVM_FUND)
-		count = a[1] ? a[1] : 1;
-	else if (it->step->call != PKVM_SHARE_HYP && it->step->call != PKVM_UNSHARE_HYP &&
-		 it->step->call != PKVM_SHARE_GUEST && it->step->call != PKVM_DONATE_GUEST)
+	if (it->step->call == PKVM_FUND)
+		at.frame = 0;
+	if (at.frame < 0)
 		return false;
 	for (uint64_t k = 0; k < count && k < 1024; k++)
-		is_memory = is_memory && memory_index(a[0] + k) >= 0;
-	return says(it, PKVM_EPERM, PKVM_EINVALID) && !is_memory && is_reply_alone(it);
+		is_memory = is_memory && memory_index(it->step->arguments[at.frame] + k) >= 0;
+	return says(it, PKVM_EPERM, PKVM_EINVALID) && !is_memory &&
+	       (is_reply_alone(it) || is_range_in_parts(it, true));
 }
 
 /* All that is no memory is registers of devices to Linux. */
@@ -257,18 +297,7 @@ static bool over_512(const struct difference *it)
 	return (it->step->call == PKVM_DONATE_HYP || it->step->call == PKVM_HYP_DONATE_HOST) &&
 	       it->step->arguments[1] > 512 && it->step->arguments[1] < 1 << 16 &&
 	       !it->made->ended.is_stopped && it->spec.refusal == PKVM_EINVALID &&
-	       is_in_parts(it, 1, 512);
-}
-
-/* Linux has no range but a block: the harness makes it page by page, up to the first that is refused. */
-static bool range_in_parts(const struct difference *it)
-{
-	int count_at = it->step->call == PKVM_SHARE_GUEST ? 3 : 2;
-	uint64_t count = it->step->arguments[count_at];
-
-	return (it->step->call == PKVM_SHARE_GUEST || it->step->call == PKVM_DONATE_GUEST) &&
-	       count > 1 && count <= 512 && !it->made->ended.is_stopped &&
-	       is_in_parts(it, count_at, 1);
+	       is_in_parts(it, 1, 512, false);
 }
 
 /* The upper bits of a page's number are lost where it is made an address: the call is that of the rest. */
@@ -302,6 +331,36 @@ static bool no_vmemmap(const struct difference *it)
 	return it->step->call == PKVM_HYP_DONATE_HOST && it->made->ended.is_stopped &&
 	       linux_has_guests && !strcmp(it->made->ended.where, "EL2:0 fault") &&
 	       it->spec.refusal == PKVM_EINVALID && is_unchanged(it);
+}
+
+/* 7.3 wants a range in one region, and the model in memory. */
+static bool one_region(const struct difference *it)
+{
+	uint64_t first = it->step->arguments[0], last = first + range_of(it->step) - 1;
+	bool is_in_one = false;
+
+	if (it->step->call != PKVM_DONATE_HYP && it->step->call != PKVM_FUND)
+		return false;
+	for (size_t i = 0; i < machine.regions_len; i++)
+		is_in_one = is_in_one ||
+			    (first - machine.regions[i].first < machine.regions[i].count &&
+			     last - machine.regions[i].first < machine.regions[i].count);
+	return says(it, PKVM_EINVALID, 0) && !is_in_one && is_unchanged(it);
+}
+
+/* Linux looks at the host's page first, the model at the guest's number: both refuse. */
+static bool other_test_first(const struct difference *it)
+{
+	struct numbers at = numbers_of(it->step->call);
+	uint64_t pages = machine.layout.address_bits == 39 ? 1ull << 27 : 1ull << 36;
+	struct pkvm_step step = *it->step;
+
+	if (at.frame < 0 || at.page < 0 || step.arguments[at.page] < pages ||
+	    !says(it, PKVM_EPERM, PKVM_EINVALID))
+		return false;
+	step.arguments[at.page] = 0;
+	return predicted_reply(it->before, it->cpu, &step).refusal == PKVM_EPERM &&
+	       is_reply_alone(it);
 }
 
 /* 6.12 stops where the host touches a page that isn't its own; 7.3 injects an abort, as `perm`. */
@@ -344,21 +403,6 @@ static bool pinned(const struct difference *it)
 {
 	return it->step->call == PKVM_UNSHARE_HYP && says(it, PKVM_EBUSY, 0) &&
 	       linux_page(it->step->arguments[0]).pins && is_unchanged(it);
-}
-
-/* The hypervisor's caller knows that the pages are free: Linux looks no further than at their count. */
-static bool caller_is_trusted(const struct difference *it)
-{
-	uint64_t first = it->step->arguments[0], count = it->step->arguments[1];
-	bool is_used = false;
-
-	if (it->step->call != PKVM_HYP_DONATE_HOST || it->spec.refusal != PKVM_EPERM)
-		return false;
-	for (uint64_t k = 0; k < count && k < 1024; k++)
-		is_used = is_used ||
-			  row_at(&it->before->state, first + k).usage != PKVM_USE_PLAIN;
-	return is_used && !it->made->ended.is_stopped &&
-	       (!it->made->reply.refusal || it->made->reply.refusal == PKVM_EBUSY);
 }
 
 /* The state without a frame's other pages in plain guests: the model has one borrower at most. */
@@ -482,6 +526,25 @@ static bool whole_block(const struct difference *it)
 	       is_unchanged(it);
 }
 
+/* And gets more rights as a whole: apart from the block's other pages the call is the model's. */
+static bool whole_block_relaxed(const struct difference *it)
+{
+	static struct copy after;
+	uint64_t page = it->step->arguments[0], slot, size, first;
+
+	if (it->step->call != PKVM_GUEST_RELAX || !says(it, 0, 0) || !vms_loaded(it->cpu, &slot))
+		return false;
+	size = linux_guest_leaf(slot, page);
+	first = size ? page & ~(size - 1) : page;
+	if (size < 2)
+		return false;
+	with_words(&after, &it->after->state, GUEST + slot, first, page - first,
+		   entry_at(&it->before->state, GUEST + slot, first));
+	with_words(&after, &after.state, GUEST + slot, page + 1, first + size - page - 1,
+		   entry_at(&it->before->state, GUEST + slot, page + 1));
+	return agrees(it, &it->before->state, it->step, &it->made->reply, &after.state);
+}
+
 static const struct {
 	const char *name;
 	bool (*is_it)(const struct difference *);
@@ -493,17 +556,19 @@ static const struct {
 	{"range_in_parts", range_in_parts},
 	{"number_wraps", number_wraps},
 	{"no_vmemmap", no_vmemmap},
+	{"one_region", one_region},
+	{"other_test_first", other_test_first},
 	{"abort_stops", abort_stops},
 	{"text_is_readable", text_is_readable},
 	{"firmware_page_taken", firmware_page_taken},
 	{"pinned", pinned},
-	{"caller_is_trusted", caller_is_trusted},
 	{"lent_again", lent_again},
 	{"lent_still", lent_still},
 	{"lent_not_reclaimed", lent_not_reclaimed},
 	{"unshared_while_dying", unshared_while_dying},
 	{"past_36_bits", past_36_bits},
 	{"whole_block", whole_block},
+	{"whole_block_relaxed", whole_block_relaxed},
 };
 
 const char *known_name(const struct difference *it)

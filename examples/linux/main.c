@@ -1,4 +1,4 @@
-/* run VERSION hands the words over: TRACE, or --seed N --calls N [--hostile PERCENT] [--print]. */
+/* run VERSION hands the words over: TRACE, or --seed N --calls N [--hostile PERCENT] [--print] [--first]. */
 #include "harness.h"
 #include <errno.h>
 #include <stdio.h>
@@ -19,9 +19,9 @@ static uint64_t number_of(const char *name, const char *word)
 
 int main(int argc, char **argv)
 {
-	uint64_t seed = 1, steps = 0, hostile = 10;
+	uint64_t seed = 1, steps = UINT64_MAX, hostile = 10;
 	const char *trace = NULL;
-	bool is_printed = false;
+	bool is_printed = false, is_first = false;
 
 	if (pkvm_version() >> 32 != PKVM_VERSION >> 32)
 		refuse("the library is of another version than the header");
@@ -34,6 +34,8 @@ int main(int argc, char **argv)
 			hostile = number_of("--hostile", argv[++i]);
 		else if (!strcmp(argv[i], "--print"))
 			is_printed = true;
+		else if (!strcmp(argv[i], "--first"))
+			is_first = true;
 		else if (!trace && (argv[i][0] != '-' || !argv[i][1]))
 			trace = argv[i];
 		else
@@ -41,7 +43,7 @@ int main(int argc, char **argv)
 	}
 	if (hostile > 100)
 		refuse("--hostile wants 0 to 100");
-	if (trace ? steps : !steps)
+	if (!trace == (steps == UINT64_MAX))
 		refuse("a TRACE, or --seed N --calls N");
-	return trace ? run_trace(trace) : run_random(seed, steps, hostile, is_printed);
+	return trace ? run_trace(trace) : run_random(seed, steps, hostile, is_printed, is_first);
 }

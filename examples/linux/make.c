@@ -54,6 +54,9 @@ static struct made page_by_page(const struct pkvm_step *step, uint64_t slot)
 	struct pkvm_step one = *step;
 	struct made made;
 
+	/* __pkvm_host_donate_guest has no count at all. */
+	if (!is_share && (!count || count > 512))
+		return by_harness((struct pkvm_reply){.refusal = PKVM_EINVALID});
 	if (count < 2 || count > 512 || is_block)
 		return on_linux(step, slot);
 	one.arguments[is_share ? 3 : 2] = 1;
@@ -208,15 +211,27 @@ static struct made looked(uint64_t cpu, const struct pkvm_step *step, const stru
 	return by_harness(reply);
 }
 
+static bool is_in_use(const struct pkvm_step *step, const struct recorded *before)
+{
+	bool is_used = false;
+
+	for (uint64_t k = 0; k < step->arguments[1] && k < 512; k++)
+		is_used = is_used ||
+			  row_at(&before->state, step->arguments[0] + k).usage != PKVM_USE_PLAIN;
+	return is_used;
+}
+
 struct made make_step(uint64_t cpu, const struct pkvm_step *step, struct recorded *before)
 {
-	struct made made;
-
 	switch (step->call) {
+	case PKVM_HYP_DONATE_HOST:
+		/* EL2's own call: its callers, here the harness, ask for pages alone that are in no use. */
+		if (is_in_use(step, before))
+			return by_harness(predicted_reply(before, cpu, step));
+		return on_linux(step, 0);
 	case PKVM_SHARE_HYP:
 	case PKVM_UNSHARE_HYP:
 	case PKVM_DONATE_HYP:
-	case PKVM_HYP_DONATE_HOST:
 		return on_linux(step, 0);
 	case PKVM_HOST_ABORT:
 		/* A fault tells 40 bits of the page's number. */
@@ -238,13 +253,10 @@ struct made make_step(uint64_t cpu, const struct pkvm_step *step, struct recorde
 	case PKVM_GUEST_UNSHARE_HOST:
 	case PKVM_GUEST_RELAX:
 	case PKVM_RECLAIM_PAGE:
-		made = on_guest(cpu, step, before);
-		break;
+		return on_guest(cpu, step, before);
 	default:
-		made = on_table(cpu, step, before);
-		break;
+		return on_table(cpu, step, before);
 	}
-	return made;
 }
 
 /* Between two steps each guest's free frames are in one list, and the harness has its pages back. */

@@ -288,7 +288,7 @@ static void start(uint64_t seed, bool is_printed)
 		print_settings();
 }
 
-int run_random(uint64_t seed, uint64_t steps, uint64_t hostile, bool is_printed)
+int run_random(uint64_t seed, uint64_t steps, uint64_t hostile, bool is_printed, bool is_first)
 {
 	char text[160];
 
@@ -321,6 +321,8 @@ int run_random(uint64_t seed, uint64_t steps, uint64_t hostile, bool is_printed)
 		}
 		count_step(&step, &made, &judgement);
 		by_linux += made.maker == BY_LINUX;
+		if (is_first && judgement.verdict == DIFFERS)
+			return 1;
 	}
 	return print_summary(is_printed ? stderr : stdout) ? 0 : 1;
 }
