@@ -1,4 +1,5 @@
-/* Memory, and the boot of EL2: __pkvm_init and what it calls, but for the jump to the new tables. */
+/* Memory, and the boot of EL2: __pkvm_init and what it calls, but for the jump to the new tables.
+ */
 #include "kernel.h"
 #include <setup.c> /* as it is: most of its functions are static */
 
@@ -72,12 +73,14 @@ static int map_memory(void)
 		if (it->kind)
 			continue;
 		map_at(base + (LINEAR << PAGE_SHIFT), size, MAP_SHARED, file, base);
-		hyp_memory[hyp_memblock_nr++] = (struct memblock_region){.base = base, .size = size};
+		hyp_memory[hyp_memblock_nr++] =
+			(struct memblock_region){.base = base, .size = size};
 	}
 	return file;
 }
 
-/* hyp_vmemmap is in pages of the pool: they must be seen at its address too, as hyp_back_vmemmap maps them. */
+/* hyp_vmemmap is in pages of the pool: they must be seen at its address too, as hyp_back_vmemmap
+ * maps them. */
 static void map_vmemmap(int file)
 {
 	u64 back = hyp_virt_to_phys(vmemmap_base), end = 0;
@@ -142,7 +145,8 @@ void linux_boot(void)
 	if (ret)
 		refuse("Linux doesn't boot: error %d", -ret);
 	map_vmemmap(file);
-	/* What EL2 maps for a while to clear or clean it is seen here: the model has no contents. */
+	/* What EL2 maps for a while to clear or clean it is seen here: the model has no contents.
+	 */
 	map_at(BIT(va_bits - 2), 64ul << 20, MAP_PRIVATE | MAP_ANONYMOUS | MAP_NORESERVE, -1, 0);
 	update_nvhe_init_params();
 	side_is_in_call = true;

@@ -305,8 +305,8 @@ struct ended linux_call(const struct pkvm_step *step, uint64_t slot)
 	case PKVM_HYP_DONATE_HOST:
 		return CALL(result = __pkvm_hyp_donate_host(a[0], a[1]));
 	case PKVM_SHARE_GUEST:
-		return CALL(result = __pkvm_host_share_guest(a[0], a[1], a[3], vcpu,
-							     prot_of(a[2])));
+		return CALL(result =
+				    __pkvm_host_share_guest(a[0], a[1], a[3], vcpu, prot_of(a[2])));
 	case PKVM_UNSHARE_GUEST:
 		return CALL(result = __pkvm_host_unshare_guest(a[2], 1, vm_of[slot]));
 	case PKVM_DONATE_GUEST:

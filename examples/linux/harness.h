@@ -1,7 +1,7 @@
 /* The parts of the harness, and what they ask of each other.
  *
- * boot.c and calls.c are compiled with the hypervisor's sources, whose names they use. All other files know
- * frames, pages and the library's structs alone: they are the same for each release.
+ * boot.c and calls.c are compiled with the hypervisor's sources, whose names they use. All other
+ * files know frames, pages and the library's structs alone: they are the same for each release.
  */
 #ifndef HARNESS_H
 #define HARNESS_H
@@ -21,7 +21,8 @@ enum {
 	REGIONS = 16
 };
 
-/* The hypervisor's page of frame f is f + LINEAR, in Linux as in the model: the harness chose it so. */
+/* The hypervisor's page of frame f is f + LINEAR, in Linux as in the model: the harness chose it
+ * so. */
 #define LINEAR 0x4000000ull
 
 /* --- machine.c: what it runs on --- */
@@ -30,8 +31,9 @@ struct machine {
 	struct pkvm_region regions[REGIONS]; /* the last is memory for Linux itself */
 	size_t regions_len;
 	struct pkvm_layout layout;
-	uint64_t image, percpu, stack; /* frames of Linux itself: its image, its CPU's data and stack, */
-	uint64_t pool, pool_count;     /* EL2's pool, */
+	uint64_t image, percpu,
+		stack; /* frames of Linux itself: its image, its CPU's data and stack, */
+	uint64_t pool, pool_count;	 /* EL2's pool, */
 	uint64_t reserve, reserve_count; /* and pages that a guest's list is filled up with */
 };
 extern struct machine machine;
@@ -54,8 +56,8 @@ struct linux_tree {
 	uint64_t level; /* of the root's words */
 };
 
-/* A page as hyp_vmemmap has it, where the release keeps states there: PKVM_OWNED to PKVM_SHARED_BORROWED or
- * NO_PAGE.
+/* A page as hyp_vmemmap has it, where the release keeps states there: PKVM_OWNED to
+ * PKVM_SHARED_BORROWED or NO_PAGE.
  */
 enum { NO_PAGE = 3 };
 struct linux_page {
@@ -82,7 +84,8 @@ struct linux_page linux_page(uint64_t frame);
 
 /* Makes a call. `slot` has the guest where the call is on one. */
 struct ended linux_call(const struct pkvm_step *step, uint64_t slot);
-/* Calls that the model hasn't: share_ffa, unshare_ffa, pin, unpin, force_reclaim. False: the release hasn't it. */
+/* Calls that the model hasn't: share_ffa, unshare_ffa, pin, unpin, force_reclaim. False: the
+ * release hasn't it. */
 bool linux_has_other(const char *name);
 struct ended linux_other(const char *name, uint64_t frame, uint64_t count);
 
@@ -137,7 +140,7 @@ struct recorded {
 	size_t frames_len, frames_room;
 	struct pkvm_row *rows;
 	size_t rows_len, rows_room;
-	size_t free_shared;	 /* free frames of the shared pool, of which `frames` has the first */
+	size_t free_shared; /* free frames of the shared pool, of which `frames` has the first */
 	unsigned int *borrowers; /* by memory index */
 	struct vms vms;
 	char misfit[160]; /* where tables and hyp_vmemmap don't fit each other, or nothing */
@@ -160,7 +163,8 @@ struct made {
 	struct pkvm_reply reply;
 	struct ended ended;
 };
-/* `before` is the state now. Frees of a guest's list may be added to it first, so it is recorded anew. */
+/* `before` is the state now. Frees of a guest's list may be added to it first, so it is recorded
+ * anew. */
 struct made make_step(uint64_t cpu, const struct pkvm_step *step, struct recorded *before);
 /* To be called between two steps, before a state is recorded. */
 void make_ready(void);
@@ -185,7 +189,8 @@ const struct pkvm_state *predicted_state(const struct recorded *state, uint64_t 
 
 struct call {
 	const char *name;
-	/* n number, c count that may be missing, r rights, k kind of VM, v a VM, which is two arguments */
+	/* n number, c count that may be missing, r rights, k kind of VM, v a VM, which is two
+	 * arguments */
 	const char *arguments;
 };
 extern const struct call calls[30];
@@ -203,7 +208,8 @@ bool print_summary(FILE *to);
 /* --- trace.c, random.c: where steps come from --- */
 
 int run_trace(const char *path);
-/* Until so many calls are made by Linux; or, where `is_first`, until one differs that isn't known. */
+/* Until so many calls are made by Linux; or, where `is_first`, until one differs that isn't known.
+ */
 int run_random(uint64_t seed, uint64_t steps, uint64_t hostile, bool is_printed, bool is_first);
 
 /* Ends the program with status 2 and a line on standard error. */

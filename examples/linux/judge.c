@@ -1,5 +1,6 @@
-/* The library asked of each step, and what a hypervisor may choose freely taken out first: the model has one choice
- * of tables, of free frames, and of which of its own pages the host has touched, and Linux has another.
+/* The library asked of each step, and what a hypervisor may choose freely taken out first: the
+ * model has one choice of tables, of free frames, and of which of its own pages the host has
+ * touched, and Linux has another.
  */
 #include "harness.h"
 #include "known.h"
@@ -88,7 +89,8 @@ struct pkvm_reply predicted_reply(const struct recorded *state, uint64_t cpu,
 
 /* --- What Linux may choose --- */
 
-/* A page of the host's own, or one that it hasn't touched: for both of them an access does the same. */
+/* A page of the host's own, or one that it hasn't touched: for both of them an access does the
+ * same. */
 static bool is_own(const struct pkvm_word *word, uint64_t page)
 {
 	bool is_memory = memory_index(page) >= 0;
@@ -123,7 +125,8 @@ static void host_runs(struct runs *to, const struct pkvm_state *state)
 	qsort(to->at, to->len, sizeof(*to->at), by_page);
 }
 
-/* The word at a page, and the page where the next begins. `*i` is the first run that doesn't end before it. */
+/* The word at a page, and the page where the next begins. `*i` is the first run that doesn't end
+ * before it. */
 static struct pkvm_word word_of(const struct runs *runs, size_t *i, uint64_t page, uint64_t *end)
 {
 	while (*i < runs->len && runs->at[*i].page + runs->at[*i].count <= page)
@@ -225,8 +228,9 @@ int32_t judged(const struct pkvm_state *before, uint64_t cpu, const struct pkvm_
 		snprintf(text, text_room, "disagree reply said %lu spec %s", reply->refusal,
 			 refusal_name(spec.refusal));
 	else if (status < 0)
-		snprintf(text, text_room, "disagree state refused: status %d fault %lu list %lu index %lu",
-			 status, why.fault, why.list, why.index);
+		snprintf(text, text_room,
+			 "disagree state refused: status %d fault %lu list %lu index %lu", status,
+			 why.fault, why.list, why.index);
 	/* The library's texts end their line. */
 	len = strlen(text);
 	while (len && text[len - 1] == '\n')
@@ -249,7 +253,8 @@ void judge(const struct recorded *before, uint64_t cpu, const struct pkvm_step *
 
 		it.spec = predicted_reply(before, cpu, step);
 		if (status == PKVM_AGREES)
-			snprintf(out->text, sizeof(out->text), "disagree reply said stopped spec %s",
+			snprintf(out->text, sizeof(out->text),
+				 "disagree reply said stopped spec %s",
 				 refusal_name(it.spec.refusal));
 		out->name = known_name(&it);
 		out->verdict = out->name ? KNOWN : DIFFERS;

@@ -1,6 +1,6 @@
-/* Known differences. Each is matched by the call, the state before it and both replies; and by the entries that
- * differ, since the library must agree once that one thing is told to it in the model's terms. So nothing else may
- * differ, and a bug isn't taken for one of these.
+/* Known differences. Each is matched by the call, the state before it and both replies; and by the
+ * entries that differ, since the library must agree once that one thing is told to it in the
+ * model's terms. So nothing else may differ, and a bug isn't taken for one of these.
  */
 #include "known.h"
 #include <errno.h>
@@ -69,7 +69,8 @@ static void add_all_but(struct copy *copy, const struct pkvm_state *from, uint64
 	copy->state.runs_len = copy->to.runs_len;
 }
 
-/* The state with another word at some pages; two copies turn about, so that one can be made of the other. */
+/* The state with another word at some pages; two copies turn about, so that one can be made of the
+ * other. */
 static void with_words(struct copy *to, const struct pkvm_state *from, uint64_t tree, uint64_t page,
 		       uint64_t count, struct pkvm_word word)
 {
@@ -210,8 +211,8 @@ static void keep(struct pkvm_state *to, const struct pkvm_state *from)
 	KEEP(rows);
 }
 
-/* The call is several of the model, of `size` pages each, up to the first that is refused; where `is_any`, by whatever
- * name.
+/* The call is several of the model, of `size` pages each, up to the first that is refused; where
+ * `is_any`, by whatever name.
  */
 static bool is_in_parts(const struct difference *it, int count_at, uint64_t size, bool is_any)
 {
@@ -243,7 +244,8 @@ static bool is_in_parts(const struct difference *it, int count_at, uint64_t size
 
 /* --- Each of them --- */
 
-/* Linux has no range but a block: the harness makes it page by page, up to the first that is refused. */
+/* Linux has no range but a block: the harness makes it page by page, up to the first that is
+ * refused. */
 static bool is_range_in_parts(const struct difference *it, bool is_any)
 {
 	int count_at = it->step->call == PKVM_SHARE_GUEST ? 3 : 2;
@@ -283,12 +285,12 @@ static bool devices_everywhere(const struct difference *it)
 	       !is_in_region(it->step->arguments[0]) && is_reply_alone(it);
 }
 
-/* A number of pages that isn't 1 to 512. Of none nothing is changed. */
+/* No page, or so many that their size is none: nothing is changed. */
 static bool no_page(const struct difference *it)
 {
 	return (it->step->call == PKVM_DONATE_HYP || it->step->call == PKVM_HYP_DONATE_HOST ||
 		it->step->call == PKVM_FUND) &&
-	       !it->step->arguments[1] && says(it, 0, PKVM_EINVALID) && is_unchanged(it);
+	       !(it->step->arguments[1] << 12) && says(it, 0, PKVM_EINVALID) && is_unchanged(it);
 }
 
 /* More than 512 pages are given at once: as several calls of the model. */
@@ -300,7 +302,8 @@ static bool over_512(const struct difference *it)
 	       is_in_parts(it, 1, 512, false);
 }
 
-/* The upper bits of a page's number are lost where it is made an address: the call is that of the rest. */
+/* The upper bits of a page's number are lost where it is made an address: the call is that of the
+ * rest. */
 static bool number_wraps(const struct difference *it)
 {
 	const uint64_t kept = (1ull << 52) - 1;
@@ -323,8 +326,8 @@ static bool number_wraps(const struct difference *it)
 	       known_name(&cut);
 }
 
-/* 7.3 looks into hyp_vmemmap before it looks whether the frame is memory, and faults where nothing is mapped. Its own
- * code asks for memory alone.
+/* 7.3 looks into hyp_vmemmap before it looks whether the frame is memory, and faults where nothing
+ * is mapped. Its own code asks for memory alone.
  */
 static bool no_vmemmap(const struct difference *it)
 {
@@ -342,9 +345,9 @@ static bool one_region(const struct difference *it)
 	if (it->step->call != PKVM_DONATE_HYP && it->step->call != PKVM_FUND)
 		return false;
 	for (size_t i = 0; i < machine.regions_len; i++)
-		is_in_one = is_in_one ||
-			    (first - machine.regions[i].first < machine.regions[i].count &&
-			     last - machine.regions[i].first < machine.regions[i].count);
+		is_in_one =
+			is_in_one || (first - machine.regions[i].first < machine.regions[i].count &&
+				      last - machine.regions[i].first < machine.regions[i].count);
 	return says(it, PKVM_EINVALID, 0) && !is_in_one && is_unchanged(it);
 }
 
@@ -379,8 +382,8 @@ static bool text_is_readable(const struct difference *it)
 	       linux_is_text(it->step->arguments[0]) && is_unchanged(it);
 }
 
-/* 6.12 doesn't look whether the hypervisor has the page that the host takes back, and stops where it hasn't: the
- * firmware does. By then the page is the host's own again.
+/* 6.12 doesn't look whether the hypervisor has the page that the host takes back, and stops where
+ * it hasn't: the firmware does. By then the page is the host's own again.
  */
 static bool firmware_page_taken(const struct difference *it)
 {
@@ -426,7 +429,8 @@ static void without_others(struct copy *to, const struct pkvm_state *from, uint6
 	}
 }
 
-/* 7.3 lends a frame to plain guests more than once, and counts. Apart from the other borrowers the call is the model's. */
+/* 7.3 lends a frame to plain guests more than once, and counts. Apart from the other borrowers the
+ * call is the model's. */
 static bool lent_again(const struct difference *it)
 {
 	static struct copy before, after;
@@ -442,8 +446,9 @@ static bool lent_again(const struct difference *it)
 	without_others(&after, &it->after->state, frame, GUEST + slot, page);
 	after.state.rows = it->after->state.rows;
 	after.state.rows_len = it->after->state.rows_len;
-	with_row(&after, frame,
-		 (struct pkvm_owner){.is_lent = 1, .borrower = GUEST + slot, .borrower_page = page});
+	with_row(
+		&after, frame,
+		(struct pkvm_owner){.is_lent = 1, .borrower = GUEST + slot, .borrower_page = page});
 	return agrees(it, &before.state, it->step, &it->made->reply, &after.state);
 }
 
@@ -469,7 +474,8 @@ static bool lent_still(const struct difference *it)
 	return agrees(it, &before.state, it->step, &it->made->reply, &after.state);
 }
 
-/* A page that was lent to a plain guest isn't reclaimed: unshare_guest is the way back, also of a dying one. */
+/* A page that was lent to a plain guest isn't reclaimed: unshare_guest is the way back, also of a
+ * dying one. */
 static bool lent_not_reclaimed(const struct difference *it)
 {
 	uint64_t slot = it->step->arguments[0];

@@ -5,7 +5,8 @@
 
 struct machine machine;
 
-/* The host's input addresses have 36 bits where the root is at level 1, as with 39 bits in the model. */
+/* The host's input addresses have 36 bits where the root is at level 1, as with 39 bits in the
+ * model. */
 enum { BLOCK = 512, HOST_PAGES_39 = 1 << 24, LAST_PAGE = 1 << 26 };
 enum { IMAGE = 32, PERCPU_AT = 24, STACK_AT = 28, RESERVE = 512 };
 
@@ -28,11 +29,13 @@ const char *machine_make(uint64_t address_bits, uint64_t cpus, uint64_t carve_fi
 	memcpy(machine.regions, regions, regions_len * sizeof(*regions));
 	qsort(machine.regions, regions_len, sizeof(*regions), by_first);
 	for (size_t i = 0; i < regions_len; i++) {
-		end = regions[i].first + regions[i].count > end ? regions[i].first + regions[i].count
-								: end;
+		end = regions[i].first + regions[i].count > end
+			      ? regions[i].first + regions[i].count
+			      : end;
 		pages += regions[i].kind ? 0 : regions[i].count;
 	}
-	/* Past all others, and a block apart, so that no block of the host reaches from one to the other. */
+	/* Past all others, and a block apart, so that no block of the host reaches from one to the
+	 * other. */
 	*own = (struct pkvm_region){0, (end / BLOCK + 2) * BLOCK, 0};
 	own->count = (0x1000 + pages / 64 + RESERVE) / BLOCK * BLOCK + BLOCK;
 	machine.regions_len = regions_len + 1;

@@ -1,4 +1,5 @@
-/* run VERSION hands the words over: TRACE, or --seed N --calls N [--hostile PERCENT] [--print] [--first]. */
+/* run VERSION hands the words over: TRACE, or --seed N --calls N [--hostile PERCENT] [--print]
+ * [--first]. */
 #include "harness.h"
 #include <errno.h>
 #include <stdio.h>

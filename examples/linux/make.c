@@ -1,5 +1,5 @@
-/* A step of a trace, made on Linux where it has the call. The calls on the table of VMs are the harness' own: it
- * answers them as the model does, and does on Linux what they mean there.
+/* A step of a trace, made on Linux where it has the call. The calls on the table of VMs are the
+ * harness' own: it answers them as the model does, and does on Linux what they mean there.
  */
 #include "harness.h"
 #include <errno.h>
@@ -9,7 +9,8 @@ static struct made by_harness(struct pkvm_reply reply)
 	return (struct made){.maker = BY_HARNESS, .reply = reply};
 }
 
-/* The model's name of an error: docs/LINUX.md has this table. A number that isn't paired stays a number. */
+/* The model's name of an error: docs/LINUX.md has this table. A number that isn't paired stays a
+ * number. */
 static uint64_t refusal_of(const struct pkvm_step *step, int error)
 {
 	bool is_of_page = step->call == PKVM_UNSHARE_GUEST || step->call == PKVM_RECLAIM_PAGE ||
@@ -49,8 +50,8 @@ static struct made page_by_page(const struct pkvm_step *step, uint64_t slot)
 {
 	bool is_share = step->call == PKVM_SHARE_GUEST;
 	uint64_t count = step->arguments[is_share ? 3 : 2];
-	bool is_block = is_share && count == 512 &&
-			!((step->arguments[0] | step->arguments[1]) & 511);
+	bool is_block =
+		is_share && count == 512 && !((step->arguments[0] | step->arguments[1]) & 511);
 	struct pkvm_step one = *step;
 	struct made made;
 
@@ -82,7 +83,8 @@ static struct made on_guest(uint64_t cpu, const struct pkvm_step *step, struct r
 	if (slot >= SLOTS || vms.guests[slot].phase == PKVM_EMPTY ||
 	    (is_named && vms.guests[slot].generation != step->arguments[1]))
 		return by_harness(spec);
-	/* The handlers of these calls look at the kind of VM, and whether it dies, before they call. */
+	/* The handlers of these calls look at the kind of VM, and whether it dies, before they
+	 * call. */
 	kind = vms.guests[slot].kind;
 	if ((step->call == PKVM_SHARE_GUEST || step->call == PKVM_GUEST_RELAX ||
 	     step->call == PKVM_UNSHARE_GUEST) &&
@@ -105,7 +107,8 @@ static struct made on_guest(uint64_t cpu, const struct pkvm_step *step, struct r
 	return made;
 }
 
-/* The harness does what a call on the table of VMs means on Linux, and keeps the table as the model leaves it. */
+/* The harness does what a call on the table of VMs means on Linux, and keeps the table as the model
+ * leaves it. */
 static struct made on_table(uint64_t cpu, const struct pkvm_step *step,
 			    const struct recorded *before)
 {
@@ -201,8 +204,8 @@ static struct made looked(uint64_t cpu, const struct pkvm_step *step, const stru
 		reply.entry = entry_at(&before->state, HYP, step->arguments[0]);
 		break;
 	case PKVM_GUEST_TRANSLATE:
-		reply.entry = entry_at(&before->state, GUEST + step->arguments[0],
-				       step->arguments[2]);
+		reply.entry =
+			entry_at(&before->state, GUEST + step->arguments[0], step->arguments[2]);
 		break;
 	default:
 		reply.row = row_at(&before->state, step->arguments[0]);
@@ -225,7 +228,8 @@ struct made make_step(uint64_t cpu, const struct pkvm_step *step, struct recorde
 {
 	switch (step->call) {
 	case PKVM_HYP_DONATE_HOST:
-		/* EL2's own call: its callers, here the harness, ask for pages alone that are in no use. */
+		/* EL2's own call: its callers, here the harness, ask for pages alone that are in no
+		 * use. */
 		if (is_in_use(step, before))
 			return by_harness(predicted_reply(before, cpu, step));
 		return on_linux(step, 0);
@@ -259,7 +263,8 @@ struct made make_step(uint64_t cpu, const struct pkvm_step *step, struct recorde
 	}
 }
 
-/* Between two steps each guest's free frames are in one list, and the harness has its pages back. */
+/* Between two steps each guest's free frames are in one list, and the harness has its pages back.
+ */
 void make_ready(void)
 {
 	for (uint64_t slot = 0; slot < SLOTS; slot++)

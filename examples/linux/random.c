@@ -1,5 +1,5 @@
-/* Random calls, chosen on the state: most succeed, and a given share of them is refused. The same seed gives the same
- * calls, as long as Linux answers the same.
+/* Random calls, chosen on the state: most succeed, and a given share of them is refused. The same
+ * seed gives the same calls, as long as Linux answers the same.
  */
 #include "harness.h"
 #include <inttypes.h>
@@ -18,7 +18,8 @@ static uint64_t any(uint64_t below)
 	return (z ^ z >> 31) % below;
 }
 
-/* --- The machine: two regions of memory, of which the second isn't whole blocks, and devices --- */
+/* --- The machine: two regions of memory, of which the second isn't whole blocks, and devices ---
+ */
 
 enum {
 	MEMORY = 0x40000,
@@ -28,7 +29,7 @@ enum {
 	HANDS = 0x43800, /* what guests' tables are made of */
 	HAND_COUNT = 0x10,
 	MORE_MEMORY = 0x48000,
-	MORE_COUNT = 0x3e0,
+	MORE_COUNT = 0x5e0,
 	GUEST_PAGES = 0x80000
 };
 
@@ -90,7 +91,21 @@ static uint64_t some_rights(void)
 
 /* --- Lives of two VMs, the first protected and on CPU 0, the second plain and on CPU 1 --- */
 
-enum stage { RESERVE, FUND, INSTALL, OPEN, LOAD, LIVE, PUT, TEARDOWN, DIE, RECLAIM, POOL, FINISH, RELEASE };
+enum stage {
+	RESERVE,
+	FUND,
+	INSTALL,
+	OPEN,
+	LOAD,
+	LIVE,
+	PUT,
+	TEARDOWN,
+	DIE,
+	RECLAIM,
+	POOL,
+	FINISH,
+	RELEASE
+};
 
 struct life {
 	enum stage stage;
@@ -146,7 +161,8 @@ static struct pkvm_step next_of(uint64_t cpu)
 		if (mapped_page(life->slot, &page)) {
 			step = (struct pkvm_step){PKVM_RECLAIM_PAGE,
 						  {life->slot, life->generation, page}};
-			/* A plain guest's pages come back by the other call; sometimes this one is tried. */
+			/* A plain guest's pages come back by the other call; sometimes this one is
+			 * tried. */
 			if (life->kind == PKVM_PLAIN && any(6))
 				step.call = PKVM_UNSHARE_GUEST;
 			return step;
@@ -200,8 +216,11 @@ static struct pkvm_step host_step(bool is_odd)
 		step.arguments[0] &= (1ull << 40) - 1; /* as a fault tells it */
 	if (step.call == PKVM_DONATE_HYP || step.call == PKVM_HYP_DONATE_HOST)
 		step.arguments[1] = is_odd && !any(8) ? 0 : 1 + any(3);
-	if (step.call == PKVM_HOST_ABORT && !any(3))
-		step.arguments[0] = any(4) ? any(MEMORY) : MEMORY + any(HANDS - MEMORY);
+	/* Blocks of the host: of devices and of memory, whole ones and the last of a region. */
+	if (step.call == PKVM_HOST_ABORT && !is_odd && any(2))
+		step.arguments[0] = any(2)   ? any(MEMORY)
+				    : any(2) ? MORE_MEMORY + any(MORE_COUNT)
+					     : MEMORY + any(MEMORY_COUNT + 0x400);
 	return step;
 }
 

@@ -38,7 +38,8 @@ const struct call calls[30] = {
 	[PKVM_VM_RELEASE] = {"vm_release", ""},
 };
 
-static const char *const rights_names[] = {[PKVM_R] = "r", [PKVM_RX] = "rx", [PKVM_RW] = "rw", [PKVM_RWX] = "rwx"};
+static const char *const rights_names[] = {
+	[PKVM_R] = "r", [PKVM_RX] = "rx", [PKVM_RW] = "rw", [PKVM_RWX] = "rwx"};
 
 void refuse(const char *format, ...)
 {
@@ -75,7 +76,8 @@ void text_of_step(const struct pkvm_step *step, char *text, size_t room)
 			break;
 		default: /* a count is left out where it is 1 */
 			if (*it == 'n' || *a != 1)
-				len += snprintf(to, left, *a < 10 ? " %" PRIu64 : " 0x%" PRIx64, *a);
+				len += snprintf(to, left, *a < 10 ? " %" PRIu64 : " 0x%" PRIx64,
+						*a);
 			break;
 		}
 		a++;

@@ -1,5 +1,5 @@
-/* A trace made on Linux, with a report as `replay` writes it. The library replays the trace first: what it finds at
- * fault is refused with its place, so that each line here is known to be right.
+/* A trace made on Linux, with a report as `replay` writes it. The library replays the trace first:
+ * what it finds at fault is refused with its place, so that each line here is known to be right.
  *
  * A comment `#linux CALL FRAME [COUNT]` is a call that the model hasn't, which is made here.
  */
@@ -104,7 +104,8 @@ static void step_of(struct pkvm_step *step, char **words, size_t len)
 			*a++ = strtoull(strchr(word, '.') + 1, NULL, 10);
 			break;
 		case 'r':
-			*a++ = PKVM_R | (strchr(word, 'w') ? 2u : 0u) | (strchr(word, 'x') ? 1u : 0u);
+			*a++ = PKVM_R | (strchr(word, 'w') ? 2u : 0u) |
+			       (strchr(word, 'x') ? 1u : 0u);
 			break;
 		case 'k':
 			*a++ = !strcmp(word, "protected") ? PKVM_PROTECTED : PKVM_PLAIN;
@@ -156,7 +157,8 @@ static void show(const struct recorded *now, uint64_t tree)
 		refuse("out of memory");
 	for (size_t i = 0; i < now->runs_len; i++)
 		if (now->runs[i].tree == tree &&
-		    (tree >= GUEST || now->runs[i].page - (tree == HYP ? LINEAR : 0) - own->first >= own->count))
+		    (tree >= GUEST ||
+		     now->runs[i].page - (tree == HYP ? LINEAR : 0) - own->first >= own->count))
 			runs[len++] = now->runs[i];
 	qsort(runs, len, sizeof(*runs), by_place);
 	for (size_t i = 0; i < len; i++) {
@@ -241,17 +243,32 @@ static void make_one(size_t line, uint64_t cpu, const struct pkvm_step *step)
 	count_step(step, &made, &judgement);
 }
 
+static uint64_t number_in(size_t line, const char *word)
+{
+	char *end;
+	uint64_t value = strtoull(word, &end, 0);
+
+	if (*end || *word < '0' || *word > '9')
+		refuse("line %zu: %s is no number", line, word);
+	return value;
+}
+
 /* A call that the model hasn't is told on standard error: it is no line of the report. */
 static void make_other(size_t line, char **words, size_t len, bool is_booted)
 {
 	struct ended ended;
+	uint64_t frame, count;
 
 	if (len < 3 || len > 4 || !is_booted)
-		refuse("line %zu: #linux stands after `boot`, and has a call, a frame, and a count or none", line);
+		refuse("line %zu: #linux stands after `boot`, and has a call, a frame, and a count or none",
+		       line);
 	if (!linux_has_other(words[1]))
-		refuse("line %zu: %s is no call of this release that the model hasn't", line, words[1]);
+		refuse("line %zu: %s is no call of this release that the model hasn't", line,
+		       words[1]);
+	frame = number_in(line, words[2]);
+	count = len > 3 ? number_in(line, words[3]) : 1;
 	make_ready();
-	ended = linux_other(words[1], number(words[2]), len > 3 ? number(words[3]) : 1);
+	ended = linux_other(words[1], frame, count);
 	count_other();
 	fprintf(stderr, "line %zu: %s %s -> %s\n", line, words[1], words[2],
 		ended.is_stopped ? ended.where : refusal_name((uint64_t)ended.error));

@@ -1,5 +1,5 @@
-/* The table of VMs, what each CPU has, and the guests' frames. Linux has these in pkvm.c, which isn't compiled:
- * so the harness keeps them, as the model's steps leave them.
+/* The table of VMs, what each CPU has, and the guests' frames. Linux has these in pkvm.c, which
+ * isn't compiled: so the harness keeps them, as the model's steps leave them.
  */
 #include "harness.h"
 #include <string.h>
@@ -43,8 +43,8 @@ bool vms_loaded(uint64_t cpu, uint64_t *slot)
 	return it->has_vcpu;
 }
 
-/* Before a page is mapped the list of the vCPU must have some pages; the kernel sees to it, and here the harness
- * does, with pages of its own.
+/* Before a page is mapped the list of the vCPU must have some pages; the kernel sees to it, and
+ * here the harness does, with pages of its own.
  */
 void vms_fill(uint64_t slot)
 {

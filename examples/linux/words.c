@@ -1,7 +1,8 @@
 /* What words of Linux' tables say, in the library's terms.
  *
- * Leaves of stage 2 and table words have the model's bits, so the library decodes them. Others differ: EL2's own
- * table is of stage 1, 7.3 annotates in other bits, and device pages of the host are Normal at stage 2.
+ * Leaves of stage 2 and table words have the model's bits, so the library decodes them. Others
+ * differ: EL2's own table is of stage 1, 7.3 annotates in other bits, and device pages of the host
+ * are Normal at stage 2.
  */
 #include "harness.h"
 

@@ -38,11 +38,11 @@ typedef struct {
 #define FIELD_FIT(mask, value) (!(((u64)(value) << __builtin_ctzll(mask)) & ~(u64)(mask)))
 #define U32_MAX UINT32_MAX
 
-#define ALIGN(x, size) (((x) + ((__typeof__(x))(size) - 1)) & ~((__typeof__(x))(size) - 1))
-#define ALIGN_DOWN(x, size) ((x) & ~((__typeof__(x))(size) - 1))
-#define IS_ALIGNED(x, size) (((x) & ((__typeof__(x))(size) - 1)) == 0)
+#define ALIGN(x, size) (((x) + ((__typeof__(x))(size)-1)) & ~((__typeof__(x))(size)-1))
+#define ALIGN_DOWN(x, size) ((x) & ~((__typeof__(x))(size)-1))
+#define IS_ALIGNED(x, size) (((x) & ((__typeof__(x))(size)-1)) == 0)
 #define PTR_ALIGN_DOWN(p, size) ((__typeof__(p))ALIGN_DOWN((unsigned long)(p), (size)))
-#define DIV_ROUND_UP(n, by) (((n) + (by) - 1) / (by))
+#define DIV_ROUND_UP(n, by) (((n) + (by)-1) / (by))
 #define min(a, b)                                                                                  \
 	({                                                                                         \
 		__typeof__(a) min_a = (a);                                                         \
@@ -55,7 +55,7 @@ typedef struct {
 		__typeof__(b) max_b = (b);                                                         \
 		max_a > max_b ? max_a : max_b;                                                     \
 	})
-#define container_of(p, type, member) ((type *)((char *)(p) - offsetof(type, member)))
+#define container_of(p, type, member) ((type *)((char *)(p)-offsetof(type, member)))
 #define size_add(a, b) ((a) + (b))
 #define likely(x) (x)
 #define unlikely(x) (x)

@@ -1,5 +1,5 @@
-/* Calls are made one after another, so a lock is a mark. It is still tested: one taken twice, or not taken
- * where the sources say that it is held, stops the machine.
+/* Calls are made one after another, so a lock is a mark. It is still tested: one taken twice, or
+ * not taken where the sources say that it is held, stops the machine.
  */
 #ifndef SHIM_LOCKS_H
 #define SHIM_LOCKS_H

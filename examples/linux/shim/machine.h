@@ -1,5 +1,5 @@
-/* What the processor has, and what the sources do to it: registers, barriers, TLBs, caches. None of these is
- * part of the model, so all are empty but for those that the sources read back.
+/* What the processor has, and what the sources do to it: registers, barriers, TLBs, caches. None of
+ * these is part of the model, so all are empty but for those that the sources read back.
  */
 #ifndef SHIM_MACHINE_H
 #define SHIM_MACHINE_H
@@ -78,7 +78,7 @@ static inline u32 id_aa64mmfr0_parange_to_phys_shift(int parange)
 #define VTCR_EL2_TGRAN_SL0_BASE 2UL
 #define VTCR_EL2_LVLS_TO_SL0(levels) FIELD_PREP(VTCR_EL2_SL0_MASK, (levels)-2)
 #define VTCR_EL2_LVLS(vtcr) (FIELD_GET(VTCR_EL2_SL0_MASK, (vtcr)) + 2)
-#define VTCR_EL2_IPA(vtcr) (64 - ((vtcr) & 63))
+#define VTCR_EL2_IPA(vtcr) (64 - ((vtcr)&63))
 #define kvm_phys_shift(mmu) VTCR_EL2_IPA((mmu)->vtcr)
 #if LINUX_VERSION_CODE >= KERNEL_VERSION(7, 0, 0)
 #define VTCR_EL2_PS GENMASK(18, 16)
