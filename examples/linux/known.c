@@ -33,63 +33,54 @@ static bool is_unchanged(const struct difference *it)
 	return agrees(it, &it->before->state, &look, &row, &it->after->state);
 }
 
-/* A copy of a state that may be changed. */
+/* A copy of a state, with a list of runs of its own, and of rows where they are changed. */
 struct copy {
 	struct recorded to;
 	struct pkvm_state state;
 };
 
-static void add_all_but(struct copy *copy, const struct pkvm_state *from, uint64_t tree,
-			uint64_t page, uint64_t count, const struct pkvm_word *instead)
+/* The state with another word at some pages. `from` may be the copy's own. */
+static void with_words(struct copy *copy, const struct pkvm_state *from, uint64_t tree,
+		       uint64_t page, uint64_t count, struct pkvm_word word)
 {
-	bool is_done = !count;
+	static struct recorded next;
+	struct recorded last = copy->to;
+	bool is_done = !count || word.says == PKVM_UNMAPPED;
 
-	copy->to.runs_len = 0;
+	next.runs_len = 0;
 	for (size_t i = 0; i < from->runs_len; i++) {
 		const struct pkvm_run *it = &from->runs[i];
 		uint64_t end = it->page + it->count;
 
 		if (it->tree != tree || !count || end <= page || it->page >= page + count) {
-			add_run(&copy->to, it->tree, it->page, it->count, it->word);
+			add_run(&next, it->tree, it->page, it->count, it->word);
 			continue;
 		}
 		if (it->page < page)
-			add_run(&copy->to, tree, it->page, page - it->page, it->word);
-		if (instead->says != PKVM_UNMAPPED && !is_done)
-			add_run(&copy->to, tree, page, count, *instead);
+			add_run(&next, tree, it->page, page - it->page, it->word);
+		if (!is_done)
+			add_run(&next, tree, page, count, word);
 		is_done = true;
 		if (end > page + count)
-			add_run(&copy->to, tree, page + count, end - page - count,
+			add_run(&next, tree, page + count, end - page - count,
 				word_after(it->word, page + count - it->page));
 	}
-	if (instead->says != PKVM_UNMAPPED && !is_done)
-		add_run(&copy->to, tree, page, count, *instead);
+	if (!is_done)
+		add_run(&next, tree, page, count, word);
 	copy->state = *from;
-	copy->state.runs = copy->to.runs;
-	copy->state.runs_len = copy->to.runs_len;
+	copy->to.runs = next.runs;
+	copy->to.runs_len = next.runs_len;
+	copy->to.runs_room = next.runs_room;
+	copy->state.runs = next.runs;
+	copy->state.runs_len = next.runs_len;
+	next.runs = last.runs;
+	next.runs_room = last.runs_room;
 }
 
-/* The state with another word at some pages; two copies turn about, so that one can be made of the
- * other. */
-static void with_words(struct copy *to, const struct pkvm_state *from, uint64_t tree, uint64_t page,
-		       uint64_t count, struct pkvm_word word)
+static void with_word(struct copy *copy, const struct pkvm_state *from, uint64_t tree,
+		      uint64_t page, struct pkvm_word word)
 {
-	static struct copy other;
-
-	add_all_but(&other, from, tree, page, count, &word);
-	to->to.runs_len = 0;
-	for (size_t i = 0; i < other.state.runs_len; i++)
-		add_run(&to->to, other.state.runs[i].tree, other.state.runs[i].page,
-			other.state.runs[i].count, other.state.runs[i].word);
-	to->state = other.state;
-	to->state.runs = to->to.runs;
-	to->state.runs_len = to->to.runs_len;
-}
-
-static void with_word(struct copy *to, const struct pkvm_state *from, uint64_t tree, uint64_t page,
-		      struct pkvm_word word)
-{
-	with_words(to, from, tree, page, 1, word);
+	with_words(copy, from, tree, page, 1, word);
 }
 
 /* The state with another owner row of one frame. */
