@@ -114,7 +114,8 @@ static size_t free_of(struct hyp_pool *pool, uint64_t *frames, size_t room)
 	for (int order = 0; order <= pool->max_order; order++) {
 		struct list_head *list = &pool->free_area[order], *it;
 
-		for (it = list->next; it != list; it = it->next)
+		/* A list that a bug broke may have no end. */
+		for (it = list->next; it != list && len < room; it = it->next)
 			for (u64 k = 0; k < 1ul << order && len < room; k++)
 				frames[len++] = hyp_virt_to_pfn(it) + k;
 	}

@@ -330,8 +330,6 @@ int run_random(uint64_t seed, uint64_t steps, uint64_t hostile, bool is_printed,
 		made = make_step(cpu, &step, &before);
 		record(&after);
 		judge(&before, cpu, &step, &made, &after, &judgement);
-		if (is_life)
-			went_on(cpu, &made);
 		if (is_printed) {
 			text_of_step(&step, text, sizeof(text));
 			printf("%" PRIu64 " %s\n", cpu, text);
@@ -342,6 +340,8 @@ int run_random(uint64_t seed, uint64_t steps, uint64_t hostile, bool is_printed,
 		by_linux += made.maker == BY_LINUX;
 		if (is_first && judgement.verdict == DIFFERS)
 			return 1;
+		if (is_life)
+			went_on(cpu, &made);
 	}
 	return print_summary(is_printed ? stderr : stdout) ? 0 : 1;
 }

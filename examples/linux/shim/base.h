@@ -38,9 +38,9 @@ typedef struct {
 #define FIELD_FIT(mask, value) (!(((u64)(value) << __builtin_ctzll(mask)) & ~(u64)(mask)))
 #define U32_MAX UINT32_MAX
 
-#define ALIGN(x, size) (((x) + ((__typeof__(x))(size)-1)) & ~((__typeof__(x))(size)-1))
-#define ALIGN_DOWN(x, size) ((x) & ~((__typeof__(x))(size)-1))
-#define IS_ALIGNED(x, size) (((x) & ((__typeof__(x))(size)-1)) == 0)
+#define ALIGN(x, size) ((__typeof__(x))(((u64)(x) + (size)-1) / (size) * (size)))
+#define ALIGN_DOWN(x, size) ((__typeof__(x))((u64)(x) / (size) * (size)))
+#define IS_ALIGNED(x, size) ((u64)(x) % (size) == 0)
 #define PTR_ALIGN_DOWN(p, size) ((__typeof__(p))ALIGN_DOWN((unsigned long)(p), (size)))
 #define DIV_ROUND_UP(n, by) (((n) + (by)-1) / (by))
 #define min(a, b)                                                                                  \

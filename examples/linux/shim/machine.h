@@ -60,8 +60,9 @@ static inline u32 id_aa64mmfr0_parange_to_phys_shift(int parange)
 #define sve_vq_from_vl(vl) 0
 #define kvm_host_sve_max_vl 0
 
-#define ARM64_HW_PGTABLE_LEVELS(va_bits) (((va_bits)-4) / (PAGE_SHIFT - 3))
-#define ARM64_HW_PGTABLE_LEVEL_SHIFT(level) ((PAGE_SHIFT - 3) * (4 - (level)) + 3)
+/* A table has nine bits of an address, and a page twelve. */
+#define ARM64_HW_PGTABLE_LEVELS(bits) DIV_ROUND_UP((bits)-12, 9)
+#define ARM64_HW_PGTABLE_LEVEL_SHIFT(level) (12 + 9 * (3 - (level)))
 #define MT_NORMAL 0
 #define MT_DEVICE_nGnRE 4
 #define MT_S2_NORMAL 0xf
@@ -79,7 +80,7 @@ static inline u32 id_aa64mmfr0_parange_to_phys_shift(int parange)
 #define VTCR_EL2_LVLS_TO_SL0(levels) FIELD_PREP(VTCR_EL2_SL0_MASK, (levels)-2)
 #define VTCR_EL2_LVLS(vtcr) (FIELD_GET(VTCR_EL2_SL0_MASK, (vtcr)) + 2)
 #define VTCR_EL2_IPA(vtcr) (64 - ((vtcr)&63))
-#define kvm_phys_shift(mmu) VTCR_EL2_IPA((mmu)->vtcr)
+#define kvm_phys_shift(mmu) (64 - ((mmu)->vtcr & 63))
 #if LINUX_VERSION_CODE >= KERNEL_VERSION(7, 0, 0)
 #define VTCR_EL2_PS GENMASK(18, 16)
 #define VTCR_EL2_T0SZ GENMASK(5, 0)

@@ -5,14 +5,14 @@
 #define CONFIG_ARM64_4K_PAGES 1
 #define PAGE_SHIFT 12
 #define PAGE_SIZE (1UL << PAGE_SHIFT)
-#define PAGE_MASK (~(PAGE_SIZE - 1))
+#define PAGE_MASK (-PAGE_SIZE)
 #define PMD_SIZE (1UL << 21)
 #define PTRS_PER_PTE 512
 #define SZ_1G 0x40000000
 #define SZ_2M 0x200000
 #define PAGE_ALIGN(x) ALIGN((unsigned long)(x), PAGE_SIZE)
 #define PAGE_ALIGNED(x) IS_ALIGNED((unsigned long)(x), PAGE_SIZE)
-#define offset_in_page(p) ((unsigned long)(p) & ~PAGE_MASK)
+#define offset_in_page(p) ((unsigned long)(p) % PAGE_SIZE)
 #define __phys_to_pfn(p) ((p) >> PAGE_SHIFT)
 #define MAX_PAGE_ORDER 10
 #define NR_PAGE_ORDERS 11

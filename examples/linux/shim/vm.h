@@ -92,7 +92,7 @@ struct kvm_vcpu {
 };
 
 #define kvm_vm_is_protected(kvm) ((kvm)->arch.pkvm.is_protected)
-#define vcpu_is_protected(vcpu) kvm_vm_is_protected((vcpu)->kvm)
+#define vcpu_is_protected(vcpu) ((vcpu)->kvm->arch.pkvm.is_protected)
 /* Asked of a guest's own fault alone, which the harness doesn't make. */
 #define kvm_vcpu_trap_get_class(vcpu) ((void)(vcpu), 0)
 #define kvm_vcpu_trap_is_translation_fault(vcpu) ((void)(vcpu), false)

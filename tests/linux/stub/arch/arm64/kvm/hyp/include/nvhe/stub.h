@@ -68,7 +68,7 @@ extern u64 __hyp_vmemmap;
 extern struct memblock_region hyp_memory[];
 extern unsigned int hyp_memblock_nr;
 
-#define __hyp_va(phys) ((void *)((phys_addr_t)(phys)-hyp_physvirt_offset))
+#define __hyp_va(phys) ((void *)((u64)(phys) - (u64)hyp_physvirt_offset))
 #define hyp_virt_to_pfn(v) (__hyp_pa(v) >> PAGE_SHIFT)
 #define hyp_phys_to_page(phys) (&((struct hyp_page *)__hyp_vmemmap)[(phys) >> PAGE_SHIFT])
 
