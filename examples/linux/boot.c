@@ -80,7 +80,8 @@ static int map_memory(void)
 }
 
 /* hyp_vmemmap is in pages of the pool: they must be seen at its address too, as hyp_back_vmemmap
- * maps them. */
+ * maps them.
+ */
 static void map_vmemmap(int file)
 {
 	u64 back = hyp_virt_to_phys(vmemmap_base), end = 0;

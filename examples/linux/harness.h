@@ -22,7 +22,8 @@ enum {
 };
 
 /* The hypervisor's page of frame f is f + LINEAR, in Linux as in the model: the harness chose it
- * so. */
+ * so.
+ */
 #define LINEAR 0x4000000ull
 
 /* --- machine.c: what it runs on --- */
@@ -31,10 +32,12 @@ struct machine {
 	struct pkvm_region regions[REGIONS]; /* the last is memory for Linux itself */
 	size_t regions_len;
 	struct pkvm_layout layout;
-	uint64_t image, percpu,
-		stack; /* frames of Linux itself: its image, its CPU's data and stack, */
-	uint64_t pool, pool_count;	 /* EL2's pool, */
-	uint64_t reserve, reserve_count; /* and pages that a guest's list is filled up with */
+	/* Frames of Linux itself: its image, its CPU's data and stack, EL2's pool, and pages that a
+	 * guest's list is filled up with.
+	 */
+	uint64_t image, percpu, stack;
+	uint64_t pool, pool_count;
+	uint64_t reserve, reserve_count;
 };
 extern struct machine machine;
 
@@ -85,7 +88,8 @@ struct linux_page linux_page(uint64_t frame);
 /* Makes a call. `slot` has the guest where the call is on one. */
 struct ended linux_call(const struct pkvm_step *step, uint64_t slot);
 /* Calls that the model hasn't: share_ffa, unshare_ffa, pin, unpin, force_reclaim. False: the
- * release hasn't it. */
+ * release hasn't it.
+ */
 bool linux_has_other(const char *name);
 struct ended linux_other(const char *name, uint64_t frame, uint64_t count);
 
@@ -164,7 +168,8 @@ struct made {
 	struct ended ended;
 };
 /* `before` is the state now. Frees of a guest's list may be added to it first, so it is recorded
- * anew. */
+ * anew.
+ */
 struct made make_step(uint64_t cpu, const struct pkvm_step *step, struct recorded *before);
 /* To be called between two steps, before a state is recorded. */
 void make_ready(void);
@@ -190,7 +195,8 @@ const struct pkvm_state *predicted_state(const struct recorded *state, uint64_t 
 struct call {
 	const char *name;
 	/* n number, c count that may be missing, r rights, k kind of VM, v a VM, which is two
-	 * arguments */
+	 * arguments
+	 */
 	const char *arguments;
 };
 extern const struct call calls[30];

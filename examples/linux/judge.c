@@ -90,7 +90,8 @@ struct pkvm_reply predicted_reply(const struct recorded *state, uint64_t cpu,
 /* --- What Linux may choose --- */
 
 /* A page of the host's own, or one that it hasn't touched: for both of them an access does the
- * same. */
+ * same.
+ */
 static bool is_own(const struct pkvm_word *word, uint64_t page)
 {
 	bool is_memory = memory_index(page) >= 0;
@@ -126,7 +127,8 @@ static void host_runs(struct runs *to, const struct pkvm_state *state)
 }
 
 /* The word at a page, and the page where the next begins. `*i` is the first run that doesn't end
- * before it. */
+ * before it.
+ */
 static struct pkvm_word word_of(const struct runs *runs, size_t *i, uint64_t page, uint64_t *end)
 {
 	while (*i < runs->len && runs->at[*i].page + runs->at[*i].count <= page)
@@ -252,7 +254,8 @@ void judge(const struct recorded *before, uint64_t cpu, const struct pkvm_step *
 		struct difference it = {before, cpu, step, made, after, {0}};
 
 		it.spec = predicted_reply(before, cpu, step);
-		if (status == PKVM_AGREES)
+		if (made->ended.is_stopped &&
+		    (status == PKVM_AGREES || !strncmp(out->text, "disagree reply", 14)))
 			snprintf(out->text, sizeof(out->text),
 				 "disagree reply said stopped spec %s",
 				 refusal_name(it.spec.refusal));

@@ -236,7 +236,8 @@ static bool is_in_parts(const struct difference *it, int count_at, uint64_t size
 /* --- Each of them --- */
 
 /* Linux has no range but a block: the harness makes it page by page, up to the first that is
- * refused. */
+ * refused.
+ */
 static bool is_range_in_parts(const struct difference *it, bool is_any)
 {
 	int count_at = it->step->call == PKVM_SHARE_GUEST ? 3 : 2;
@@ -294,7 +295,8 @@ static bool over_512(const struct difference *it)
 }
 
 /* The upper bits of a page's number are lost where it is made an address: the call is that of the
- * rest. */
+ * rest.
+ */
 static bool number_wraps(const struct difference *it)
 {
 	const uint64_t kept = (1ull << 52) - 1;
@@ -421,7 +423,8 @@ static void without_others(struct copy *to, const struct pkvm_state *from, uint6
 }
 
 /* 7.3 lends a frame to plain guests more than once, and counts. Apart from the other borrowers the
- * call is the model's. */
+ * call is the model's.
+ */
 static bool lent_again(const struct difference *it)
 {
 	static struct copy before, after;
@@ -466,7 +469,8 @@ static bool lent_still(const struct difference *it)
 }
 
 /* A page that was lent to a plain guest isn't reclaimed: unshare_guest is the way back, also of a
- * dying one. */
+ * dying one.
+ */
 static bool lent_not_reclaimed(const struct difference *it)
 {
 	uint64_t slot = it->step->arguments[0];

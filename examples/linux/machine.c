@@ -6,7 +6,8 @@
 struct machine machine;
 
 /* The host's input addresses have 36 bits where the root is at level 1, as with 39 bits in the
- * model. */
+ * model.
+ */
 enum { BLOCK = 512, HOST_PAGES_39 = 1 << 24, LAST_PAGE = 1 << 26 };
 enum { IMAGE = 32, PERCPU_AT = 24, STACK_AT = 28, RESERVE = 512 };
 
@@ -35,7 +36,8 @@ const char *machine_make(uint64_t address_bits, uint64_t cpus, uint64_t carve_fi
 		pages += regions[i].kind ? 0 : regions[i].count;
 	}
 	/* Past all others, and a block apart, so that no block of the host reaches from one to the
-	 * other. */
+	 * other.
+	 */
 	*own = (struct pkvm_region){0, (end / BLOCK + 2) * BLOCK, 0};
 	own->count = (0x1000 + pages / 64 + RESERVE) / BLOCK * BLOCK + BLOCK;
 	machine.regions_len = regions_len + 1;

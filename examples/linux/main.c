@@ -1,5 +1,6 @@
 /* run VERSION hands the words over: TRACE, or --seed N --calls N [--hostile PERCENT] [--print]
- * [--first]. */
+ * [--first].
+ */
 #include "harness.h"
 #include <errno.h>
 #include <stdio.h>

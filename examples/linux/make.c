@@ -10,7 +10,8 @@ static struct made by_harness(struct pkvm_reply reply)
 }
 
 /* The model's name of an error: docs/LINUX.md has this table. A number that isn't paired stays a
- * number. */
+ * number.
+ */
 static uint64_t refusal_of(const struct pkvm_step *step, int error)
 {
 	bool is_of_page = step->call == PKVM_UNSHARE_GUEST || step->call == PKVM_RECLAIM_PAGE ||
@@ -84,7 +85,8 @@ static struct made on_guest(uint64_t cpu, const struct pkvm_step *step, struct r
 	    (is_named && vms.guests[slot].generation != step->arguments[1]))
 		return by_harness(spec);
 	/* The handlers of these calls look at the kind of VM, and whether it dies, before they
-	 * call. */
+	 * call.
+	 */
 	kind = vms.guests[slot].kind;
 	if ((step->call == PKVM_SHARE_GUEST || step->call == PKVM_GUEST_RELAX ||
 	     step->call == PKVM_UNSHARE_GUEST) &&
@@ -108,7 +110,8 @@ static struct made on_guest(uint64_t cpu, const struct pkvm_step *step, struct r
 }
 
 /* The harness does what a call on the table of VMs means on Linux, and keeps the table as the model
- * leaves it. */
+ * leaves it.
+ */
 static struct made on_table(uint64_t cpu, const struct pkvm_step *step,
 			    const struct recorded *before)
 {
@@ -229,7 +232,8 @@ struct made make_step(uint64_t cpu, const struct pkvm_step *step, struct recorde
 	switch (step->call) {
 	case PKVM_HYP_DONATE_HOST:
 		/* EL2's own call: its callers, here the harness, ask for pages alone that are in no
-		 * use. */
+		 * use.
+		 */
 		if (is_in_use(step, before))
 			return by_harness(predicted_reply(before, cpu, step));
 		return on_linux(step, 0);

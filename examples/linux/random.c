@@ -162,7 +162,8 @@ static struct pkvm_step next_of(uint64_t cpu)
 			step = (struct pkvm_step){PKVM_RECLAIM_PAGE,
 						  {life->slot, life->generation, page}};
 			/* A plain guest's pages come back by the other call; sometimes this one is
-			 * tried. */
+			 * tried.
+			 */
 			if (life->kind == PKVM_PLAIN && any(6))
 				step.call = PKVM_UNSHARE_GUEST;
 			return step;

@@ -12,7 +12,8 @@
 #include "vm.h"
 
 /* Calls on guests, and the states of pages in hyp_vmemmap. Releases between these two have one or
- * the other. */
+ * the other.
+ */
 #define LINUX_HAS_GUESTS (LINUX_VERSION_CODE >= KERNEL_VERSION(7, 0, 0))
 
 #endif

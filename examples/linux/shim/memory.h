@@ -47,7 +47,8 @@ extern char *shim_image;
 #define kvm_nvhe_sym(name) name
 
 /* One CPU: what is per CPU is there once. Only its pages are needed, for the hypervisor to own
- * them. */
+ * them.
+ */
 extern char *shim_percpu;
 #define __per_cpu_start shim_percpu
 #define __per_cpu_end (shim_percpu + 2 * PAGE_SIZE)

@@ -47,7 +47,8 @@ struct pkvm_hyp_vcpu {
 enum kvm_pgtable_prot { KVM_PGTABLE_PROT_X = 1, KVM_PGTABLE_PROT_W = 2, KVM_PGTABLE_PROT_R = 4 };
 
 /* Words of level 3: the host's own page, the hypervisor's, and what says that the hypervisor has
- * the host's. */
+ * the host's.
+ */
 #define HOST_PAGE 0x7fful
 #define HYP_PAGE (BIT(54) | 0x743)
 #define GUEST_PAGE 0x73ful /* without rights */
