@@ -1,6 +1,5 @@
 -- What the end of an audit's report tells, and what a poke leaves.
-use Rattle.std.proofs.Common.{◌≡◌, ◌∙◌, ℕ, refl, sym, ap, subst, List, [], ◌∷◌, ◌++◌, length, Option, Some, None, Result, Ok, Err, IfSome, MatchOption, MatchResult, inl, inr, ◌⊎◌}
-use Rattle.std.specs.Prelude.{◌↔◌}
+use Rattle.std.proofs.Common.{◌≡◌, ◌∙◌, ℕ, refl, sym, ap, subst, List, Option, Some, None, Result, Ok, Err, MatchOption, MatchResult, inl, inr, ◌⊎◌}
 use Rattle.page_state.specs.declared.layout.Geometry.{Geometry}
 use Rattle.ghost_judge.specs.declared.disagreement.Disagreement.{Disagreement}
 use Rattle.ghost_oracle.specs.declared.raw.Which.{Which}
@@ -14,15 +13,13 @@ use Rattle.trace_lines.specs.declared.line.Poke.{Poke}
 use Rattle.trace_lines.specs.Said.{said}
 use Rattle.trace_text.specs.declared.fault.Fault.TheVariants as faults
 use Rattle.trace_text.specs.declared.report.ReportLine.{ReportLine}
-use Rattle.trace_text.specs.declared.report.ReportLine.TheVariants as report
 use Rattle.trace_text.specs.declared.session.Stop.{Stop}
 use Rattle.trace_text.specs.declared.session.Stop.TheVariants as stops
 use Rattle.trace_text.specs.View.{machine_of}
 use Rattle.trace_text.specs.Worlds.{Machine}
-use Rattle.trace_reader.specs.declared.outcome.Outcome.{Outcome}
 use Rattle.world.specs.declared.World.{World}
 use Rattle.world.specs.declared.raw.RawWorld.{RawWorld}
-use Rattle.trace_audit.specs.Audited.{Audited, Carries, ComparesWalk, Ends, Follows, IsPoked, Pokes, PokesAgain, PokesFirst, RunsLine, Sets, allowed, end_lines}
+use Rattle.trace_audit.specs.Audited.{Audited, Carries, ComparesWalk, Follows, IsPoked, Pokes, PokesAgain, PokesFirst, Sets, allowed, end_lines}
 use Rattle.trace_audit.specs.Laws.{AuditTells, FirstKeeps, KeepsAllBut, NextKeeps, TellsFirst, TellsNone}
 use Rattle.trace_audit.specs.Paths.{path_on, poke_in, which_of}
 

@@ -1,5 +1,5 @@
 -- Laws of audits.
-use Rattle.std.specs.Prelude.{◌≡◌, ◌⊎◌, ℕ, List, [], ◌∷◌, All, Option, Some, None, Ok, IfSome}
+use Rattle.std.specs.Prelude.{◌≡◌, ◌⊎◌, ℕ, List, [], ◌∷◌, All, Some, None, Ok, IfSome}
 use Rattle.page_state.specs.LayoutView.{layout_of}
 use Rattle.ghost_judge.specs.declared.disagreement.Disagreement.{Disagreement}
 use Rattle.ghost_judge.specs.Audits.{AuditAgrees, IsFirstDifference}

@@ -4,8 +4,7 @@ use Rattle.std.specs.Prelude.{◌↔◌}
 use Rattle.std.proofs.lemmas.Bool.Decides.{nat_tests}
 use Rattle.trace_reader.specs.Reading.{lines_of}
 use Rattle.trace_text.specs.declared.report.ReportLine.{ReportLine}
-use Rattle.trace_check.specs.declared.checking.Checked.{Checked}
-use Rattle.trace_check.specs.Checks.{IsChecked, boot_said, has_begun, miss_lines, none_said, spot_said, sum_said}
+use Rattle.trace_check.specs.Checks.{boot_said, has_begun, miss_lines, none_said, spot_said, sum_said}
 use Rattle.trace_check.specs.Expectations.{count_expected}
 use Rattle.trace_check.specs.Laws.{CheckCounts, IsClean}
 use Rattle.trace_check.specs.Misses.{misses}

@@ -18,7 +18,7 @@
 //! what is in no report is written to standard error.
 #![tactic(auto)]
 
-ghost use Rattle.std.specs.Prelude.{◌≡◌, ℕ, IfOk, List, map, max};
+ghost use Rattle.std.specs.Prelude.{ℕ, IfOk, List, map};
 ghost use Rattle.trace_cli.specs.Status.{HasAskedStatus, HasFileStatus, HasGreatestStatus, HasWordsStatus};
 ghost use Rattle.trace_command.specs.Asked.{asking_of};
 

@@ -1,5 +1,5 @@
 -- One machine has one text.
-use Rattle.std.proofs.Common.{◌≡◌, ◌∙◌, ℕ, ◌++◌, sym, ap, Option, Some, None}
+use Rattle.std.proofs.Common.{◌∙◌, ◌++◌, sym, ap, Some, None}
 use Rattle.page_state.specs.Rows.{HasPageBelow, advance_row}
 use Rattle.run_list.proofs.Once.{once}
 use Rattle.run_list.specs.OwnerRows.{row_laws}

@@ -1,4 +1,4 @@
-use Rattle.std.proofs.Common.{arith, length, map}
+use Rattle.std.proofs.Common.{arith, map}
 use Rattle.std.proofs.lemmas.List.{length-map}
 use Rattle.trace_cli.proofs.Greatest.{all_done, at_first, at_map, one_further}
 use Rattle.trace_cli.proofs.done_with_each.Goals as goal
