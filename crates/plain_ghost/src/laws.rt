@@ -39,7 +39,7 @@ pub fn one_reason()
     ensures judged { UnjudgedOnce }
 {}
 
-/// A state that is foretold is read again where no vCPU past the eighth is loaded.
+/// A state that is foretold has known numbers, and nothing twice, where no vCPU past the eighth is loaded.
 pub fn foretold_known()
     ensures { ForetoldKnown }
 {}
