@@ -256,7 +256,7 @@ fn own_recorded(rt: &impl Abort, alloc: Global, layout: &Layout, hand: PageRange
     requires { layout.now.config.cpus ≡ 2 }
 {
     let own = own_state(rt, alloc, hand);
-    record::<Global>(alloc, layout, None, None, None, &own).expect(rt, "memory")
+    record::<Global>(alloc, layout, None, None, None, &own, &mut Reads::new()).expect(rt, "memory")
 }
 
 /// A hand that no call leads to: frames from 2^63 on.

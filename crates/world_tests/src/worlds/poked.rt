@@ -57,7 +57,12 @@ fn expect_share(rt: &impl Abort, alloc: Global, world: &mut World<Global>)
 {
     share(rt, alloc, world);
     expect_shared(rt, alloc, world);
-    assert!(rt; world.audit(alloc, &mut Reads::new()).expect(rt, "memory").is_none());
+    assert!(rt;
+        world
+            .audit(alloc, &mut Reads::new())
+            .expect(rt, "memory")
+            .is_none()
+    );
 }
 
 /// Sets the page's word in the host's tree.
