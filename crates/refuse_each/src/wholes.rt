@@ -57,8 +57,14 @@ fn recorded(global: Global, world: &World<Global>) -> Came {
 /// The same of what a world keeps, what a walk finds, both, their audit, a record of parts, the logs, and the logs merged.
 pub fn of_looks(global: Global, world: &World<Global>) -> Option<[usize; 7]> {
     let kept = in_turn(global, || by_memory(world.to_ghost(global)));
-    let walked = in_turn(global, || by_memory(world.recompute(global, &mut Reads::new())));
-    let both = in_turn(global, || by_memory(world.kept_and_walked(global, &mut Reads::new())));
+    let walked = in_turn(
+        global,
+        || by_memory(world.recompute(global, &mut Reads::new())),
+    );
+    let both = in_turn(
+        global,
+        || by_memory(world.kept_and_walked(global, &mut Reads::new())),
+    );
     let audited = in_turn(global, || by_memory(world.audit(global, &mut Reads::new())));
     let record = in_turn(global, || recorded(global, world));
     let logs = in_turn(global, || by_memory(world.histories(global)));
