@@ -1,12 +1,15 @@
-/* The oracle of protected KVM's page ownership, for C. Link with crates/pkvm_oracle/out/libpkvm_oracle.a and the toolchain's
- * c/liblibc_c.a; docs/C_LIBRARY.md says how, and where in a hypervisor to call it.
+/* The oracle of protected KVM's page ownership, for C. Link with
+ * crates/pkvm_oracle/out/libpkvm_oracle.a and the toolchain's c/liblibc_c.a; docs/C_LIBRARY.md says
+ * how, and where in a hypervisor to call it.
  *
- * The functions keep nothing between two calls, write to what is handed to them alone, and may be called from several threads
- * at once, but not from a signal handler. No pointer may be NULL, also where its length is 0. All other values are answered: a
- * number that stands for nothing is refused by name.
+ * The functions keep nothing between two calls, write to what is handed to them alone, and may be
+ * called from several threads at once, but not from a signal handler. No pointer may be NULL, also
+ * where its length is 0. All other values are answered: a number that stands for nothing is refused
+ * by name.
  *
- * A page is an input address divided by 4,096, a frame a physical address divided by it. An owner, a tree and a pool have the
- * numbers 0 for the host, 1 for the hypervisor (the shared pool is its), and 2 + v for the guest in slot v.
+ * A page is an input address divided by 4,096, a frame a physical address divided by it. An owner,
+ * a tree and a pool have the numbers 0 for the host, 1 for the hypervisor (the shared pool is its),
+ * and 2 + v for the guest in slot v.
  */
 #ifndef PKVM_ORACLE_H
 #define PKVM_ORACLE_H
@@ -18,354 +21,400 @@
 extern "C" {
 #endif
 
-/* The version of this header; pkvm_version() tells that of the library. The upper 32 bits change where a program has to. */
+/* The version of this header; pkvm_version() tells that of the library. The upper 32 bits change
+ * where a program has to. */
 #define PKVM_VERSION 0x200000000ull
 uint64_t pkvm_version(void);
 
 /* --- Words of tables (4 KiB granule, Arm DDI 0487 D8.3, narrowed to the profile) --- */
 
-enum { PKVM_MALFORMED = 0, PKVM_UNMAPPED = 1, PKVM_ANNOTATED = 2, PKVM_LEAF = 3, PKVM_TABLE = 4 }; /* says */
-enum { PKVM_R = 4, PKVM_RX = 5, PKVM_RW = 6, PKVM_RWX = 7 };                                       /* rights */
-enum { PKVM_NORMAL = 0, PKVM_DEVICE = 1 };                                                        /* kind */
-enum { PKVM_OWNED = 0, PKVM_SHARED_OWNED = 1, PKVM_SHARED_BORROWED = 2 };                          /* state */
+/* What a word says. */
+enum { PKVM_MALFORMED = 0, PKVM_UNMAPPED = 1, PKVM_ANNOTATED = 2, PKVM_LEAF = 3, PKVM_TABLE = 4 };
+/* Rights, kind and state of a leaf. */
+enum { PKVM_R = 4, PKVM_RX = 5, PKVM_RW = 6, PKVM_RWX = 7 };
+enum { PKVM_NORMAL = 0, PKVM_DEVICE = 1 };
+enum { PKVM_OWNED = 0, PKVM_SHARED_OWNED = 1, PKVM_SHARED_BORROWED = 2 };
 
 struct pkvm_word {
-    uint64_t says;
-    uint64_t frame;  /* of a leaf and of a table */
-    uint64_t owner;  /* of an annotation */
-    uint64_t rights; /* of a leaf, and so are the two below */
-    uint64_t kind;
-    uint64_t state;
+	uint64_t says;
+	uint64_t frame;	 /* of a leaf and of a table */
+	uint64_t owner;	 /* of an annotation */
+	uint64_t rights; /* of a leaf, and so are the two below */
+	uint64_t kind;
+	uint64_t state;
 };
 
-/* Errors are below 0, and each is a status of more than one function. */
+/* Errors are below 0, and each is a status of more than one function. Where something is refused,
+ * `refused` says why. */
 enum {
-    PKVM_NO_LEVEL = -1,   /* the level isn't 0 to 3 */
-    PKVM_NO_ROOM = -2,    /* what is written needs more room than there is */
-    PKVM_BAD_NUMBER = -3, /* a number stands for nothing */
-    PKVM_NO_WORD = -4,    /* no word of this level says it */
-    PKVM_BAD_STEP = -5,   /* the call, its rights or its kind of VMs is unknown */
-    PKVM_BAD_REPLY = -6,  /* a number of the reply stands for nothing */
-    PKVM_BAD_CPU = -7,    /* the layout hasn't the CPU */
-    PKVM_BAD_LAYOUT = -8, /* the layout is refused: why, in `refused` */
-    PKVM_BAD_BEFORE = -9, /* the state before the call, or the kept one, is refused: why, in `refused` */
-    PKVM_BAD_AFTER = -10, /* the state after it is */
-    PKVM_LAST_GENERATION = -11, /* the call releases a slot whose generation is the greatest number */
-    PKVM_NO_MEMORY = -12, /* memory was refused */
-    PKVM_BAD_TABLES = -13 /* pages of tables and their roots make no trees: why, in `refused` */
+	PKVM_NO_LEVEL = -1,	    /* the level isn't 0 to 3 */
+	PKVM_NO_ROOM = -2,	    /* what is written needs more room than there is */
+	PKVM_BAD_NUMBER = -3,	    /* a number stands for nothing */
+	PKVM_NO_WORD = -4,	    /* no word of this level says it */
+	PKVM_BAD_STEP = -5,	    /* the call, its rights or its kind of VMs is unknown */
+	PKVM_BAD_REPLY = -6,	    /* a number of the reply stands for nothing */
+	PKVM_BAD_CPU = -7,	    /* the layout hasn't the CPU */
+	PKVM_BAD_LAYOUT = -8,	    /* the layout is refused */
+	PKVM_BAD_BEFORE = -9,	    /* the state before the call, or the kept one, is refused */
+	PKVM_BAD_AFTER = -10,	    /* the state after the call is refused */
+	PKVM_LAST_GENERATION = -11, /* a slot of the greatest generation is released */
+	PKVM_NO_MEMORY = -12,	    /* memory was refused */
+	PKVM_BAD_TABLES = -13	    /* the pages of tables and their roots make no trees */
 };
 
-/* What a word of a table of a level says, with 0 in each field that isn't named for it. 0; or PKVM_NO_LEVEL, and `out` stays. */
+/* What a word of a table of a level says, with 0 in each field that isn't named for it. 0; or
+ * PKVM_NO_LEVEL, and `out` stays. */
 int32_t pkvm_decode(uint64_t level, uint64_t word, struct pkvm_word *out);
 
-/* The one word that says this in a table of a level. 0; or PKVM_NO_LEVEL, PKVM_BAD_NUMBER, PKVM_NO_WORD, and `out` stays. */
+/* The one word that says this in a table of a level. 0; or PKVM_NO_LEVEL, PKVM_BAD_NUMBER,
+ * PKVM_NO_WORD, and `out` stays. */
 int32_t pkvm_encode(uint64_t level, const struct pkvm_word *says, uint64_t *out);
 
 /* --- Traces --- */
 
 enum { PKVM_CLEAN = 0, PKVM_DISAGREED = 1, PKVM_FAULT = 2 };
 
-/* Replays a whole trace (docs/TRACES.md), each step judged and audited, and writes its report. PKVM_CLEAN, PKVM_DISAGREED or
- * PKVM_FAULT: the first `*written` bytes of `report` are the report, and all behind them stays. PKVM_NO_ROOM: the report has
- * `*written` bytes, more than there is room for, and the room has its front. PKVM_NO_MEMORY: the first `*written` bytes are a
- * beginning of it. */
-int32_t pkvm_replay(const uint8_t *trace, size_t trace_len, uint8_t *report, size_t report_len, size_t *written);
+/* Replays a whole trace (docs/TRACES.md), each step judged and audited, and writes its report.
+ * PKVM_CLEAN, PKVM_DISAGREED or PKVM_FAULT: the first `*written` bytes of `report` are the report,
+ * and all behind them stays. PKVM_NO_ROOM: the report has `*written` bytes, more than there is room
+ * for, and the room has its front. PKVM_NO_MEMORY: the first `*written` bytes are a beginning. */
+int32_t pkvm_replay(const uint8_t *trace, size_t trace_len, uint8_t *report, size_t report_len,
+		    size_t *written);
 
 /* --- States --- */
 
 struct pkvm_region {
-    uint64_t kind; /* 0 memory, any other number device registers */
-    uint64_t first, count;
+	uint64_t kind; /* 0 memory, any other number device registers */
+	uint64_t first, count;
 };
 
 /* What a hypervisor runs on. */
 struct pkvm_layout {
-    uint64_t address_bits; /* 39 or 48 */
-    uint64_t cpus;
-    uint64_t carve_first, carve_count; /* the frames that the hypervisor's tables come from */
-    const struct pkvm_region *regions;
-    size_t regions_len; /* at most 16 */
+	uint64_t address_bits; /* 39 or 48 */
+	uint64_t cpus;
+	uint64_t carve_first, carve_count; /* the frames that the hypervisor's tables come from */
+	const struct pkvm_region *regions;
+	size_t regions_len; /* at most 16 */
 };
 
-/* A run of pages of one tree: the first has what the word says, and a leaf's frame grows with the page. Pages that are in no run
- * are unmapped. */
+/* A run of pages of one tree: the first has what the word says, and a leaf's frame grows with the
+ * page. Pages that are in no run are unmapped. */
 struct pkvm_run {
-    uint64_t tree, page, count;
-    struct pkvm_word word; /* an annotation, a leaf, or malformed */
+	uint64_t tree, page, count;
+	struct pkvm_word word; /* an annotation, a leaf, or malformed */
 };
 
-/* A table of one tree, the root among them. Height 1 is a table of level 3, and so on: it covers 512 ^ height pages, from
- * index * 512 ^ height on. */
+/* A table of one tree, the root among them. Height 1 is a table of level 3, and so on: it covers
+ * 512 ^ height pages, from index * 512 ^ height on. */
 struct pkvm_table {
-    uint64_t tree, height, index, frame;
+	uint64_t tree, height, index, frame;
 };
 
 /* A free frame of a pool. */
 struct pkvm_frame {
-    uint64_t pool, frame;
+	uint64_t pool, frame;
 };
 
 enum { PKVM_VACANT = 0, PKVM_RESERVED = 1, PKVM_OPEN = 2, PKVM_CLOSING = 3 }; /* stand */
-enum { PKVM_PLAIN = 0, PKVM_PROTECTED = 1 };                                /* kind */
-enum { PKVM_EMPTY = 0, PKVM_LIVE = 1, PKVM_DYING = 2 };                     /* phase */
+enum { PKVM_PLAIN = 0, PKVM_PROTECTED = 1 };				      /* kind */
+enum { PKVM_EMPTY = 0, PKVM_LIVE = 1, PKVM_DYING = 2 };			      /* phase */
 
-/* A slot of the table of VMs, 0 to 63. At boot it is { slot, PKVM_VACANT, 1, PKVM_PLAIN, 0 }, and so is one that isn't listed. */
+/* A slot of the table of VMs, 0 to 63. At boot it is { slot, PKVM_VACANT, 1, PKVM_PLAIN, 0 }, and
+ * so is one that isn't listed. */
 struct pkvm_slot {
-    uint64_t slot, stand, generation, kind, vcpus;
+	uint64_t slot, stand, generation, kind, vcpus;
 };
 
 /* A vCPU, 0 to 7, that a CPU has loaded, as the table of VMs has it. */
 struct pkvm_load {
-    uint64_t slot, vcpu, cpu;
+	uint64_t slot, vcpu, cpu;
 };
 
-/* What the guest of a slot has beside its tree and its pool. An empty one is all 0 but for its slot, and so is one that isn't
- * listed. */
+/* What the guest of a slot has beside its tree and its pool. An empty one is all 0 but for its
+ * slot, and so is one that isn't listed. */
 struct pkvm_guest {
-    uint64_t slot, phase, generation, kind;
+	uint64_t slot, phase, generation, kind;
 };
 
-enum { PKVM_BOOKED = 0, PKVM_INSTALLED = 1, PKVM_CLOSING_VM = 2, PKVM_DYING_VM = 3, PKVM_FINISHED = 4 }; /* ticket_stage */
+enum {
+	PKVM_BOOKED = 0,
+	PKVM_INSTALLED = 1,
+	PKVM_CLOSING_VM = 2,
+	PKVM_DYING_VM = 3,
+	PKVM_FINISHED = 4
+}; /* ticket_stage */
 
-/* A CPU's own state: a loaded vCPU, 0 to 7, frames in its hand that it funded for a guest, and the VM that it is making or ending.
- * Each is there where its `has` isn't 0. A CPU that isn't listed has none of them. */
+/* A CPU's own state: a loaded vCPU, 0 to 7, frames in its hand that it funded for a guest, and the
+ * VM that it is making or ending. Each is there where its `has` isn't 0. A CPU that isn't listed
+ * has none of them. */
 struct pkvm_cpu {
-    uint64_t cpu; /* below the layout's number */
-    uint64_t has_vcpu, vcpu_slot, vcpu_generation, vcpu;
-    uint64_t has_hand, hand_first, hand_count;
-    uint64_t has_ticket, ticket_slot, ticket_generation, ticket_kind, ticket_stage;
+	uint64_t cpu; /* below the layout's number */
+	uint64_t has_vcpu, vcpu_slot, vcpu_generation, vcpu;
+	uint64_t has_hand, hand_first, hand_count;
+	uint64_t has_ticket, ticket_slot, ticket_generation, ticket_kind, ticket_stage;
 };
 
-enum { PKVM_USE_PLAIN = 0, PKVM_USE_SHARED_POOL = 1, PKVM_USE_GUEST_POOL = 2, PKVM_USE_HAND = 3 }; /* usage */
+enum {
+	PKVM_USE_PLAIN = 0,
+	PKVM_USE_SHARED_POOL = 1,
+	PKVM_USE_GUEST_POOL = 2,
+	PKVM_USE_HAND = 3
+}; /* usage */
 
 /* Who has a frame. */
 struct pkvm_owner {
-    uint64_t owner;
-    uint64_t is_lent, borrower, borrower_page; /* lent where is_lent isn't 0 */
-    uint64_t usage, user;                      /* user: the guest's slot, or the CPU of the hand */
+	uint64_t owner;
+	uint64_t is_lent, borrower, borrower_page; /* lent where is_lent isn't 0 */
+	uint64_t usage, user; /* user: the guest's slot, or the CPU of the hand */
 };
 
-/* A run of frames with one owner row; a lent page grows with the frame. Frames that are in no run are the host's, lent to nobody
- * and in no use. */
+/* A run of frames with one owner row; a lent page grows with the frame. Frames that are in no run
+ * are the host's, lent to nobody and in no use. */
 struct pkvm_row {
-    uint64_t frame, count;
-    struct pkvm_owner owner;
+	uint64_t frame, count;
+	struct pkvm_owner owner;
 };
 
 /* A state. The members of its lists may have any order; no slot, guest or CPU is there twice. */
 struct pkvm_state {
-    const struct pkvm_run *runs;
-    size_t runs_len;
-    const struct pkvm_table *tables;
-    size_t tables_len;
-    const struct pkvm_frame *frames;
-    size_t frames_len;
-    const struct pkvm_slot *slots;
-    size_t slots_len;
-    const struct pkvm_load *loads;
-    size_t loads_len;
-    const struct pkvm_guest *guests;
-    size_t guests_len;
-    const struct pkvm_cpu *cpus;
-    size_t cpus_len;
-    const struct pkvm_row *rows;
-    size_t rows_len;
+	const struct pkvm_run *runs;
+	size_t runs_len;
+	const struct pkvm_table *tables;
+	size_t tables_len;
+	const struct pkvm_frame *frames;
+	size_t frames_len;
+	const struct pkvm_slot *slots;
+	size_t slots_len;
+	const struct pkvm_load *loads;
+	size_t loads_len;
+	const struct pkvm_guest *guests;
+	size_t guests_len;
+	const struct pkvm_cpu *cpus;
+	size_t cpus_len;
+	const struct pkvm_row *rows;
+	size_t rows_len;
 };
 
 /* Why a layout or a state is refused: the first that is true, in this order. */
 enum {
-    PKVM_FAULT_NONE = 0,
-    PKVM_FAULT_GEOMETRY = 1,       /* address_bits is neither 39 nor 48 */
-    PKVM_FAULT_REGIONS = 2,        /* over 16 regions */
-    PKVM_FAULT_NO_PAGE = 3,        /* a region or the carve-out has no page */
-    PKVM_FAULT_PAST_LIMIT = 4,     /* a region ends over page 2^26, or over 524,288 pages of memory */
-    PKVM_FAULT_REGIONS_SHARE = 5,  /* two regions share a page */
-    PKVM_FAULT_CARVE_OUTSIDE = 6,  /* the carve-out isn't in one memory region */
-    PKVM_FAULT_UNKNOWN = 7,        /* the member `index` of `list` has a number that stands for nothing, or can't be */
-    PKVM_FAULT_ROWS_LARGE = 8,     /* a frame of the rows or a lent page is over 2^63 */
-    PKVM_FAULT_ROWS_SHARE = 9,     /* two runs of rows share a frame */
-    PKVM_FAULT_TWICE = 10,         /* two slots, guests or CPUs have one number */
-    PKVM_FAULT_LARGE = 11,         /* a page, a frame or a slot is so large that a sum could pass 64 bits */
-    PKVM_FAULT_RUNS_SHARE = 12,    /* two runs of one tree share a page */
-    PKVM_FAULT_TABLE_TWICE = 13,   /* two tables of one tree are at one block, or have one frame */
-    PKVM_FAULT_FRAME_TWICE = 14,   /* a pool has a frame twice */
-    PKVM_FAULT_PAGE_LENGTH = 15,   /* a page of tables hasn't 512 words */
-    PKVM_FAULT_PAGE_TWICE = 16,    /* two pages have one frame */
-    PKVM_FAULT_ROOT_TREE = 17,     /* a root is of a tree that can't be */
-    PKVM_FAULT_ROOT_TWICE = 18,    /* a tree has two roots */
-    PKVM_FAULT_ROOT_PAGE = 19,     /* no page has the root's frame */
-    PKVM_FAULT_LOOP = 20,          /* a table is below itself; of this and the next two, `list` is the tree and `index` the frame */
-    PKVM_FAULT_TWO_LEVELS = 21,    /* a table is reached at two levels, in one tree or in two */
-    PKVM_FAULT_REACHED_TWICE = 22  /* a table is reached twice */
+	PKVM_FAULT_NONE = 0,
+	PKVM_FAULT_GEOMETRY = 1, /* address_bits is neither 39 nor 48 */
+	PKVM_FAULT_REGIONS = 2,	 /* over 16 regions */
+	PKVM_FAULT_NO_PAGE = 3,	 /* a region or the carve-out has no page */
+	PKVM_FAULT_PAST_LIMIT =
+		4, /* a region ends over page 2^26, or over 524,288 pages of memory */
+	PKVM_FAULT_REGIONS_SHARE = 5, /* two regions share a page */
+	PKVM_FAULT_CARVE_OUTSIDE = 6, /* the carve-out isn't in one memory region */
+	PKVM_FAULT_UNKNOWN = 7,	      /* the member `index` of `list` has a number that stands for
+					 nothing, or can't be */
+	PKVM_FAULT_ROWS_LARGE = 8,    /* a frame of the rows or a lent page is over 2^63 */
+	PKVM_FAULT_ROWS_SHARE = 9,    /* two runs of rows share a frame */
+	PKVM_FAULT_TWICE = 10,	      /* two slots, guests or CPUs have one number */
+	PKVM_FAULT_LARGE =
+		11, /* a page, a frame or a slot is so large that a sum could pass 64 bits */
+	PKVM_FAULT_RUNS_SHARE = 12, /* two runs of one tree share a page */
+	PKVM_FAULT_TABLE_TWICE =
+		13, /* two tables of one tree are at one block, or have one frame */
+	PKVM_FAULT_FRAME_TWICE = 14, /* a pool has a frame twice */
+	PKVM_FAULT_PAGE_LENGTH = 15, /* a page of tables hasn't 512 words */
+	PKVM_FAULT_PAGE_TWICE = 16,  /* two pages have one frame */
+	PKVM_FAULT_ROOT_TREE = 17,   /* a root is of a tree that can't be */
+	PKVM_FAULT_ROOT_TWICE = 18,  /* a tree has two roots */
+	PKVM_FAULT_ROOT_PAGE = 19,   /* no page has the root's frame */
+	PKVM_FAULT_LOOP = 20, /* a table is below itself; of this and the next two, `list` is the
+				 tree and `index` the frame */
+	PKVM_FAULT_TWO_LEVELS = 21,   /* a table is reached at two levels, in one tree or in two */
+	PKVM_FAULT_REACHED_TWICE = 22 /* a table is reached twice */
 };
 
 /* The lists of a state, and those of an audit, by number. */
 enum {
-    PKVM_LIST_NONE = 0,
-    PKVM_LIST_RUNS = 1,
-    PKVM_LIST_TABLES = 2,
-    PKVM_LIST_FRAMES = 3,
-    PKVM_LIST_SLOTS = 4,
-    PKVM_LIST_LOADS = 5,
-    PKVM_LIST_GUESTS = 6,
-    PKVM_LIST_CPUS = 7,
-    PKVM_LIST_ROWS = 8,
-    PKVM_LIST_PAGES = 9,
-    PKVM_LIST_ROOTS = 10
+	PKVM_LIST_NONE = 0,
+	PKVM_LIST_RUNS = 1,
+	PKVM_LIST_TABLES = 2,
+	PKVM_LIST_FRAMES = 3,
+	PKVM_LIST_SLOTS = 4,
+	PKVM_LIST_LOADS = 5,
+	PKVM_LIST_GUESTS = 6,
+	PKVM_LIST_CPUS = 7,
+	PKVM_LIST_ROWS = 8,
+	PKVM_LIST_PAGES = 9,
+	PKVM_LIST_ROOTS = 10
 };
 
-/* Why something is refused, and the member of a list that is at fault: the first with an unknown number, or that can't be there with
- * an earlier one. PKVM_LIST_NONE where no member is told: of the faults of a layout (1 to 6), of those of rows (8, 9), and of 11. */
+/* Why something is refused, and the member of a list that is at fault: the first with an unknown
+ * number, or that can't be there with an earlier one. PKVM_LIST_NONE where no member is told: of
+ * the faults of a layout (1 to 6), of those of rows (8, 9), and of 11. */
 struct pkvm_refused {
-    uint64_t fault; /* PKVM_FAULT_NONE where nothing of layout and states is refused */
-    uint64_t list, index;
+	uint64_t fault; /* PKVM_FAULT_NONE where nothing of layout and states is refused */
+	uint64_t list, index;
 };
 
 /* --- Calls --- */
 
 /* A call and its arguments, in this order. A VM is two: its slot and its generation. */
 enum {
-    PKVM_SHARE_HYP = 1,          /* frame */
-    PKVM_UNSHARE_HYP = 2,        /* frame */
-    PKVM_DONATE_HYP = 3,         /* frame, count */
-    PKVM_HYP_DONATE_HOST = 4,    /* frame, count */
-    PKVM_HOST_ABORT = 5,         /* page */
-    PKVM_HOST_TRANSLATE = 6,     /* page */
-    PKVM_HYP_TRANSLATE = 7,      /* page */
-    PKVM_OWNER_OF = 8,           /* frame */
-    PKVM_FUND = 9,               /* frame, count */
-    PKVM_UNFUND = 10,            /* */
-    PKVM_SHARE_GUEST = 11,       /* frame, guest page, rights, count */
-    PKVM_UNSHARE_GUEST = 12,     /* VM, guest page */
-    PKVM_DONATE_GUEST = 13,      /* frame, guest page, count */
-    PKVM_GUEST_SHARE_HOST = 14,  /* guest page */
-    PKVM_GUEST_UNSHARE_HOST = 15, /* guest page */
-    PKVM_INSTALL = 16,           /* */
-    PKVM_TOPUP = 17,             /* VM */
-    PKVM_RECLAIM_PAGE = 18,      /* VM, guest page */
-    PKVM_RECLAIM_POOL = 19,      /* VM */
-    PKVM_FINISH_GUEST = 20,      /* */
-    PKVM_GUEST_RELAX = 21,       /* guest page, rights */
-    PKVM_GUEST_TRANSLATE = 22,   /* VM, guest page */
-    PKVM_MARK_DYING = 23,        /* */
-    PKVM_VM_RESERVE = 24,        /* kind of VM, vCPUs */
-    PKVM_VM_OPEN = 25,           /* */
-    PKVM_VCPU_LOAD = 26,         /* VM, vCPU */
-    PKVM_VCPU_PUT = 27,          /* */
-    PKVM_TEARDOWN = 28,          /* VM */
-    PKVM_VM_RELEASE = 29         /* */
+	PKVM_SHARE_HYP = 1,	      /* frame */
+	PKVM_UNSHARE_HYP = 2,	      /* frame */
+	PKVM_DONATE_HYP = 3,	      /* frame, count */
+	PKVM_HYP_DONATE_HOST = 4,     /* frame, count */
+	PKVM_HOST_ABORT = 5,	      /* page */
+	PKVM_HOST_TRANSLATE = 6,      /* page */
+	PKVM_HYP_TRANSLATE = 7,	      /* page */
+	PKVM_OWNER_OF = 8,	      /* frame */
+	PKVM_FUND = 9,		      /* frame, count */
+	PKVM_UNFUND = 10,	      /* */
+	PKVM_SHARE_GUEST = 11,	      /* frame, guest page, rights, count */
+	PKVM_UNSHARE_GUEST = 12,      /* VM, guest page */
+	PKVM_DONATE_GUEST = 13,	      /* frame, guest page, count */
+	PKVM_GUEST_SHARE_HOST = 14,   /* guest page */
+	PKVM_GUEST_UNSHARE_HOST = 15, /* guest page */
+	PKVM_INSTALL = 16,	      /* */
+	PKVM_TOPUP = 17,	      /* VM */
+	PKVM_RECLAIM_PAGE = 18,	      /* VM, guest page */
+	PKVM_RECLAIM_POOL = 19,	      /* VM */
+	PKVM_FINISH_GUEST = 20,	      /* */
+	PKVM_GUEST_RELAX = 21,	      /* guest page, rights */
+	PKVM_GUEST_TRANSLATE = 22,    /* VM, guest page */
+	PKVM_MARK_DYING = 23,	      /* */
+	PKVM_VM_RESERVE = 24,	      /* kind of VM, vCPUs */
+	PKVM_VM_OPEN = 25,	      /* */
+	PKVM_VCPU_LOAD = 26,	      /* VM, vCPU */
+	PKVM_VCPU_PUT = 27,	      /* */
+	PKVM_TEARDOWN = 28,	      /* VM */
+	PKVM_VM_RELEASE = 29	      /* */
 };
 
 struct pkvm_step {
-    uint64_t call;
-    uint64_t arguments[4];
+	uint64_t call;
+	uint64_t arguments[4];
 };
 
 /* Refusals are the replies' numbers without their sign. */
 enum {
-    PKVM_EPERM = 1,
-    PKVM_ENOVM = 2,
-    PKVM_ECONTENDED = 11,
-    PKVM_ENOMEMORY = 12,
-    PKVM_EBUSY = 16,
-    PKVM_EINVALID = 22,
-    PKVM_ENOPOOL = 28,
-    PKVM_ELOGFULL = 75
+	PKVM_EPERM = 1,
+	PKVM_ENOVM = 2,
+	PKVM_ECONTENDED = 11,
+	PKVM_ENOMEMORY = 12,
+	PKVM_EBUSY = 16,
+	PKVM_EINVALID = 22,
+	PKVM_ENOPOOL = 28,
+	PKVM_ELOGFULL = 75
 };
 
-enum { PKVM_GIVES_NOTHING = 0, PKVM_GIVES_VM = 1, PKVM_GIVES_FRAME = 2, PKVM_GIVES_ENTRY = 3, PKVM_GIVES_ROW = 4 };
+enum {
+	PKVM_GIVES_NOTHING = 0,
+	PKVM_GIVES_VM = 1,
+	PKVM_GIVES_FRAME = 2,
+	PKVM_GIVES_ENTRY = 3,
+	PKVM_GIVES_ROW = 4
+};
 
 struct pkvm_reply {
-    uint64_t refusal;          /* 0 where the call was made */
-    uint64_t gives;            /* what a call that was made gives; the fields below are read for it alone, and written 0 else */
-    uint64_t slot, generation; /* the VM */
-    uint64_t frame;
-    struct pkvm_word entry;
-    struct pkvm_owner row;
+	uint64_t refusal; /* 0 where the call was made */
+	/* What a call that was made gives. The fields below are read for it alone, and written 0
+	 * else. */
+	uint64_t gives;
+	uint64_t slot, generation; /* the VM */
+	uint64_t frame;
+	struct pkvm_word entry;
+	struct pkvm_owner row;
 };
 
 struct pkvm_call {
-    uint64_t cpu;
-    struct pkvm_step step;
-    struct pkvm_reply reply;
+	uint64_t cpu;
+	struct pkvm_step step;
+	struct pkvm_reply reply;
 };
 
 enum { PKVM_AGREES = 0, PKVM_DISAGREES = 1 };
 
-/* Judges a call by the state before it, its reply and the state after it. PKVM_AGREES: both are those that the model says, or the
- * call was refused for want of memory and changed nothing. PKVM_DISAGREES: the first `*text_len` bytes of `text` tell the first
- * difference. Else an error: PKVM_NO_ROOM (`*text_len` is what the text needs, and `text` stays), PKVM_BAD_STEP, PKVM_BAD_REPLY,
- * PKVM_BAD_CPU, PKVM_BAD_LAYOUT, PKVM_BAD_BEFORE, PKVM_LAST_GENERATION, PKVM_BAD_AFTER, PKVM_NO_MEMORY. */
-int32_t pkvm_judge(const struct pkvm_layout *layout, const struct pkvm_state *before, const struct pkvm_call *call,
-                   const struct pkvm_state *after, uint8_t *text, size_t text_room, size_t *text_len,
-                   struct pkvm_refused *refused);
+/* Judges a call by the state before it, its reply and the state after it. PKVM_AGREES: both are
+ * those that the model says, or the call was refused for want of memory and changed nothing.
+ * PKVM_DISAGREES: the first `*text_len` bytes of `text` tell the first difference. Else an error:
+ * PKVM_NO_ROOM (`*text_len` is what the text needs, and `text` stays), PKVM_BAD_STEP,
+ * PKVM_BAD_REPLY, PKVM_BAD_CPU, PKVM_BAD_LAYOUT, PKVM_BAD_BEFORE, PKVM_LAST_GENERATION,
+ * PKVM_BAD_AFTER, PKVM_NO_MEMORY. */
+int32_t pkvm_judge(const struct pkvm_layout *layout, const struct pkvm_state *before,
+		   const struct pkvm_call *call, const struct pkvm_state *after, uint8_t *text,
+		   size_t text_room, size_t *text_len, struct pkvm_refused *refused);
 
-/* The reply that the model gives to a call of a CPU on a state: 0, and it is in `reply`. Else an error, and `reply` stays:
- * PKVM_BAD_STEP, PKVM_BAD_CPU, PKVM_BAD_LAYOUT, PKVM_BAD_BEFORE, PKVM_LAST_GENERATION, PKVM_NO_MEMORY. */
-int32_t pkvm_predict_reply(const struct pkvm_layout *layout, const struct pkvm_state *before, uint64_t cpu,
-                           const struct pkvm_step *step, struct pkvm_reply *reply, struct pkvm_refused *refused);
+/* The reply that the model gives to a call of a CPU on a state: 0, and it is in `reply`. Else an
+ * error, and `reply` stays: PKVM_BAD_STEP, PKVM_BAD_CPU, PKVM_BAD_LAYOUT, PKVM_BAD_BEFORE,
+ * PKVM_LAST_GENERATION, PKVM_NO_MEMORY. */
+int32_t pkvm_predict_reply(const struct pkvm_layout *layout, const struct pkvm_state *before,
+			   uint64_t cpu, const struct pkvm_step *step, struct pkvm_reply *reply,
+			   struct pkvm_refused *refused);
 
 /* Room for the lists of a state, each for so many members. */
 struct pkvm_room {
-    struct pkvm_run *runs;
-    size_t runs_len;
-    struct pkvm_table *tables;
-    size_t tables_len;
-    struct pkvm_frame *frames;
-    size_t frames_len;
-    struct pkvm_slot *slots;
-    size_t slots_len;
-    struct pkvm_load *loads;
-    size_t loads_len;
-    struct pkvm_guest *guests;
-    size_t guests_len;
-    struct pkvm_cpu *cpus;
-    size_t cpus_len;
-    struct pkvm_row *rows;
-    size_t rows_len;
+	struct pkvm_run *runs;
+	size_t runs_len;
+	struct pkvm_table *tables;
+	size_t tables_len;
+	struct pkvm_frame *frames;
+	size_t frames_len;
+	struct pkvm_slot *slots;
+	size_t slots_len;
+	struct pkvm_load *loads;
+	size_t loads_len;
+	struct pkvm_guest *guests;
+	size_t guests_len;
+	struct pkvm_cpu *cpus;
+	size_t cpus_len;
+	struct pkvm_row *rows;
+	size_t rows_len;
 };
 
 /* How many members the lists of a state have. */
 struct pkvm_sizes {
-    uint64_t runs, tables, frames, slots, loads, guests, cpus, rows;
+	uint64_t runs, tables, frames, slots, loads, guests, cpus, rows;
 };
 
-/* The reply that the model gives to a call of a CPU on a state, and the state after it. 0: `reply` has the first, and the first
- * `sizes->x` members of each list `x` of `room` are the second; all behind them stays. It can be handed in as a state, but may be
- * refused where the one before had a frame in two places or a slot of more than 8 vCPUs. It has all 64 slots and guests and all CPUs,
- * the fewest runs of each map, and the rows that were handed in, with those of all frames that the call touched. PKVM_NO_ROOM: a list
- * has room for fewer members than `sizes` tells. Else an error, as of pkvm_predict_reply, and `sizes` is all 0. Below 0 `reply` and all
- * lists stay. The pointers and lengths in `room` stay in any case. No list may share memory with another one, or with what else is
- * handed in. */
-int32_t pkvm_predict(const struct pkvm_layout *layout, const struct pkvm_state *before, uint64_t cpu, const struct pkvm_step *step,
-                     struct pkvm_reply *reply, struct pkvm_room *room, struct pkvm_sizes *sizes, struct pkvm_refused *refused);
+/* The reply that the model gives to a call of a CPU on a state, and the state after it. 0: `reply`
+ * has the first, and the first `sizes->x` members of each list `x` of `room` are the second; all
+ * behind them stays. It can be handed in as a state, but may be refused where the one before had a
+ * frame in two places or a slot of more than 8 vCPUs. It has all 64 slots and guests and all CPUs,
+ * the fewest runs of each map, and the rows that were handed in, with those of all frames that the
+ * call touched. PKVM_NO_ROOM: a list has room for fewer members than `sizes` tells. Else an error,
+ * as of pkvm_predict_reply, and `sizes` is all 0. Below 0 `reply` and all lists stay. The pointers
+ * and lengths in `room` stay in any case. No list may share memory with another one, or with what
+ * else is handed in. */
+int32_t pkvm_predict(const struct pkvm_layout *layout, const struct pkvm_state *before,
+		     uint64_t cpu, const struct pkvm_step *step, struct pkvm_reply *reply,
+		     struct pkvm_room *room, struct pkvm_sizes *sizes,
+		     struct pkvm_refused *refused);
 
 /* --- Tables in memory --- */
 
 /* A page with a table, as it lies in memory. */
 struct pkvm_page {
-    uint64_t frame;
-    const uint64_t *words;
-    size_t words_len; /* 512 */
+	uint64_t frame;
+	const uint64_t *words;
+	size_t words_len; /* 512 */
 };
 
 /* The frame of a tree's root table. A tree without a root has no table, and maps nothing. */
 struct pkvm_root {
-    uint64_t tree, frame;
+	uint64_t tree, frame;
 };
 
-/* Compares a kept state with what the tables say. The library walks `pages`, in any order, from `roots` by frame numbers, as
- * hardware does: a table word leads on to the page of its frame, and where no page has that frame the word is malformed. It
- * finds the runs and the tables of each tree, and the owner rows that follow from them and from the kept pools and hands.
- * PKVM_AGREES: maps, rows and tables are the kept ones, and the maps are sound. PKVM_DISAGREES: the first `*text_len` bytes of
- * `text` tell the first difference: in a map, in the rows, or in the tables; without one, why the maps aren't sound, the first that is
- * so: two entries are leaves of a frame in states PKVM_OWNED or PKVM_SHARED_OWNED (`two owners 0x40100: host 0x40100, hyp 0x4040100`),
- * two are in state PKVM_SHARED_BORROWED (`two borrowers ..`), or one is and none is in PKVM_SHARED_OWNED (`no share 0x40100: hyp
- * 0x4040100`). Else an error: PKVM_NO_ROOM (`*text_len` is what the text needs, and `text` stays), PKVM_BAD_LAYOUT, PKVM_BAD_BEFORE
- * (the kept state), PKVM_BAD_TABLES, PKVM_NO_MEMORY. */
-int32_t pkvm_audit(const struct pkvm_layout *layout, const struct pkvm_state *kept, const struct pkvm_page *pages, size_t pages_len,
-                   const struct pkvm_root *roots, size_t roots_len, uint8_t *text, size_t text_room, size_t *text_len,
-                   struct pkvm_refused *refused);
+/* Compares a kept state with what the tables say. The library walks `pages`, in any order, from
+ * `roots` by frame numbers, as hardware does: a table word leads on to the page of its frame, and
+ * where no page has that frame the word is malformed. It finds the runs and the tables of each
+ * tree, and the owner rows that follow from them and from the kept pools and hands. PKVM_AGREES:
+ * maps, rows and tables are the kept ones, and the maps are sound. PKVM_DISAGREES: the first
+ * `*text_len` bytes of `text` tell the first difference: in a map, in the rows, or in the tables;
+ * without one, why the maps aren't sound, the first that is so: two entries are leaves of a frame
+ * in states PKVM_OWNED or PKVM_SHARED_OWNED (`two owners 0x40100: host 0x40100, hyp 0x4040100`),
+ * two are in state PKVM_SHARED_BORROWED (`two borrowers ..`), or one is and none is in
+ * PKVM_SHARED_OWNED (`no share 0x40100: hyp 0x4040100`). Else an error: PKVM_NO_ROOM (`*text_len`
+ * is what the text needs, and `text` stays), PKVM_BAD_LAYOUT, PKVM_BAD_BEFORE (the kept state),
+ * PKVM_BAD_TABLES, PKVM_NO_MEMORY. */
+int32_t pkvm_audit(const struct pkvm_layout *layout, const struct pkvm_state *kept,
+		   const struct pkvm_page *pages, size_t pages_len, const struct pkvm_root *roots,
+		   size_t roots_len, uint8_t *text, size_t text_room, size_t *text_len,
+		   struct pkvm_refused *refused);
 
 #ifdef __cplusplus
 }
