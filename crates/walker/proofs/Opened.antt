@@ -1,21 +1,17 @@
 -- What a slot needs by a change, and what a change finds in its child.
-use Rattle.std.proofs.Common.{◌≡◌, ◌≢◌, ℕ, zero, suc, ◌+◌, ◌-◌, ◌*◌, ◌%◌, ◌^◌, ◌<◌, ◌≤◌, refl, sym, ap, subst, arith, ◌∙◌, cond, true, false, ◌==◌, Option, Some, None, List, [], ◌∷◌, length, add-one}
+use Rattle.std.proofs.Common.{◌≡◌, ◌≢◌, ℕ, zero, suc, ◌+◌, ◌-◌, ◌%◌, ◌^◌, ◌<◌, ◌≤◌, refl, sym, ap, subst, arith, ◌∙◌, cond, true, false, ◌==◌, Option, Some, None, List, [], ◌∷◌, length, add-one}
 use Rattle.std.specs.Prelude.{Bool}
 use Rattle.std.specs.Option.{MatchOption, IsSome, IfSome, is_some}
 use Rattle.std.proofs.lemmas.Bool.Decides.{nat_tests}
-use Rattle.std.proofs.Math.Nat.{mod-eq_of_lt}
 use Rattle.std.proofs.Math.ListN.{set}
 use Rattle.std.specs.declared.boxed.Box.{Box}
 use Rattle.descriptor.specs.Word.{desc_of}
 use Rattle.page_state.specs.declared.entry.Entry.{Entry}
 use Rattle.page_state.specs.declared.entry.Entry.TheVariants.{Malformed, Unmapped, Annotated, Leaf}
 use Rattle.page_state.specs.Entries.{advance, IsRangeEntry, entry_of_word}
-use Rattle.page_state.specs.EntryTests.{entry_eq}
 use Rattle.page_state.specs.Blocks.{fits_word}
 use Rattle.page_state.specs.Geometries.{block_pages}
-use Rattle.page_state.proofs.Sizes.{size_some}
-use Rattle.page_state.proofs.Cases.{by_eq}
-use Rattle.page_state.proofs.Common.{or-neither, eq-made, eq-other}
+use Rattle.page_state.proofs.Common.{eq-made, eq-other}
 use Rattle.table_tree.specs.declared.table.Table.{Table}
 use Rattle.table_tree.specs.declared.table.Slot.{Slot}
 use Rattle.table_tree.specs.declared.table.Slot.TheVariants.{Word, Child}
@@ -29,7 +25,7 @@ use Rattle.table_tree.proofs.Standing.{table_top}
 use Rattle.table_tree.proofs.Words.{zero_said}
 use Rattle.table_tree.proofs.Sums.{fresh_word, fresh_child}
 use Rattle.walk_plan.specs.declared.change.Change.{Change}
-use Rattle.walk_plan.specs.Changes.{IsChange, changed_entry, is_whole, stays_one_word}
+use Rattle.walk_plan.specs.Changes.{IsChange, changed_entry, stays_one_word}
 use Rattle.walk_plan.specs.inner.Needs.{block_need}
 use Rattle.walk_plan.specs.inner.Ranks.{given_rank, later, block_rank, parts_rank, slot_rank}
 use Rattle.walk_plan.proofs.Ranges.{block_one, block_split, slot_word, slot_child}
@@ -157,8 +153,8 @@ module _ {A : Type 0} where
         slots = slots;
         shape = rest.shape (suc d) shape;
         tight = rest.tight (suc d) tight;
-        other = λ q x. sym (map q ∙ ap (λ a. cond a (entry_at d b.value q) (entry_at (suc d) u q)) (eq-other (index_at (suc d) q) i x));
-        stand = λ low q l x. sym (stand low q (let l' : low < suc d = l in omega arith) ∙ ap (λ a. cond a (table_in d b.value low q) (table_in (suc d) u low q)) (eq-other (index_at (suc d) q) i x));
+        map_elsewhere = λ q x. sym (map q ∙ ap (λ a. cond a (entry_at d b.value q) (entry_at (suc d) u q)) (eq-other (index_at (suc d) q) i x));
+        tables_elsewhere = λ low q l x. sym (stand low q (let l' : low < suc d = l in omega arith) ∙ ap (λ a. cond a (table_in d b.value low q) (table_in (suc d) u low q)) (eq-other (index_at (suc d) q) i x));
         child_shape = h.child d (subst (λ n. IsShaped n t) (sym o) shape);
         child_tight = h.child_tight d (subst (λ n. IsTight n t) (sym o) tight);
         map = λ q x. sym (map q ∙ ap (λ a. cond a (entry_at d b.value q) (entry_at (suc d) u q)) (eq-made (index_at (suc d) q) i x));
@@ -205,8 +201,8 @@ module _ {A : Type 0} where
         slots = slots;
         shape = h.shape (suc d) shape (zero_said (suc d));
         tight = h.tight (suc d) tight;
-        other = λ q y. h.map (suc d) q ∙ ap (λ a. cond a (word_entry (suc d) q 0) (entry_at (suc d) t q)) (eq-other (index_at (suc d) q) i y);
-        stand = λ low q l y. h.standing (suc d) low q;
+        map_elsewhere = λ q y. h.map (suc d) q ∙ ap (λ a. cond a (word_entry (suc d) q 0) (entry_at (suc d) t q)) (eq-other (index_at (suc d) q) i y);
+        tables_elsewhere = λ low q l y. h.standing (suc d) low q;
         child_shape = filled.shape;
         child_tight = filled.tight;
         map = λ q y. filled.map q ∙ ap (λ m. advance x (q % block_pages m)) (sym n) ∙ ap (λ a. advance a (q % block_pages (suc d))) k ∙ sym (seen.word w (suc d) q e y);

@@ -130,10 +130,10 @@ module _ {A : Type 0} where
       slot_map q x = elim k [ inl y ↦ fold_map v before after y q x | inr y ↦ back_map v before after y q x ]
 
       pub slot_other : (q : ℕ) → (index_at (d + 1) q ≡ i → ⊥) → entry_at (d + 1) v q ≡ entry_at (d + 1) t q
-      slot_other q x = elim k [ inl y ↦ written_other (d + 1) i y.word u v y.written q x | inr y ↦ put_other d i u v b' y.attached q x ] ∙ o.other q x
+      slot_other q x = elim k [ inl y ↦ written_other (d + 1) i y.word u v y.written q x | inr y ↦ put_other d i u v b' y.attached q x ] ∙ o.map_elsewhere q x
 
       pub slot_stand : (low q : ℕ) → low < d + 1 → (index_at (d + 1) q ≡ i → ⊥) → table_in (d + 1) v low q ≡ table_in (d + 1) t low q
-      slot_stand low q l x = elim k [ inl y ↦ y.written.standing (d + 1) low q | inr y ↦ put_stand d i u v b' y.attached low q l x ] ∙ o.stand low q l x
+      slot_stand low q l x = elim k [ inl y ↦ y.written.standing (d + 1) low q | inr y ↦ put_stand d i u v b' y.attached low q l x ] ∙ o.tables_elsewhere low q l x
 
       pub slot_kept : (low q : ℕ) → low < d + 1 → index_at (d + 1) q ≡ i → (IsOneWordAt (low + 1) (entry_at (d + 1) v) q → ⊥)
           → table_in (d + 1) v low q ≡ given_rank fs (table_in (d + 1) t low q) (slot_rank (d + 1) (slot_at t i) c low q)

@@ -1,7 +1,6 @@
 -- A table as a change goes on, slot by slot.
-use Rattle.std.proofs.Common.{◌≡◌, ◌≢◌, ℕ, ◌+◌, ◌-◌, ◌*◌, ◌/◌, ◌%◌, ◌^◌, ◌<◌, ◌≤◌, refl, sym, ap, arith, ◌∙◌, List, drop, take}
+use Rattle.std.proofs.Common.{◌≡◌, ◌≢◌, ℕ, ◌+◌, ◌-◌, ◌*◌, ◌/◌, ◌^◌, ◌<◌, ◌≤◌, refl, sym, ap, arith, ◌∙◌, List, drop, take}
 use Rattle.std.proofs.lemmas.List.{drop-drop}
-use Rattle.page_state.specs.Geometries.{block_pages}
 use Rattle.page_state.specs.Counts.{frame_count}
 use Rattle.page_state.proofs.Counts.{count_split}
 use Rattle.page_state.proofs.Cases.{by_eq, by_lt}
@@ -11,7 +10,7 @@ use Rattle.table_tree.specs.Tables.{table_in}
 use Rattle.table_tree.specs.Tight.{IsOneWordAt}
 use Rattle.table_tree.proofs.PathNumbers.{index_same}
 use Rattle.walk_plan.specs.declared.change.Change.{Change}
-use Rattle.walk_plan.specs.Changes.{IsChange, changed_entry, part}
+use Rattle.walk_plan.specs.Changes.{IsChange, part}
 use Rattle.walk_plan.specs.inner.Needs.{sum_to, met, slot_need, table_parts}
 use Rattle.walk_plan.specs.inner.Ranks.{given_rank, later, slot_rank, table_rank, slot_gone, gone_parts}
 use Rattle.walk_plan.proofs.Ranges.{met_some, sum_next, table_parts_is}

@@ -1,5 +1,5 @@
 -- A table after a write of one slot.
-use Rattle.std.proofs.Common.{◌≡◌, ℕ, ◌+◌, ◌*◌, ◌/◌, ◌%◌, ◌<◌, ◌≢◌, sym, ap, arith, refl, ◌∙◌, cond, List, Option, Some, None, take}
+use Rattle.std.proofs.Common.{◌≡◌, ℕ, ◌+◌, ◌*◌, ◌%◌, ◌<◌, ◌≢◌, sym, ap, arith, refl, ◌∙◌, cond, List, Option, Some, None, take}
 use Rattle.std.proofs.Math.ListN.{set}
 use Rattle.descriptor.specs.Word.{desc_of}
 use Rattle.page_state.specs.declared.entry.Entry.{Entry}

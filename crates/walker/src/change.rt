@@ -8,10 +8,11 @@ ghost use Rattle.table_tree.specs.Stocks.{frames_of};
 ghost use Rattle.table_tree.specs.View.{meaning, tree_of};
 ghost use Rattle.walk_plan.specs.Hands.{AreApart, FitsTree, IsChanged, IsEdited, IsRefused, KeepsFrames, Stays, edit_on, need_in};
 
-use crate::walk::set_all;
+use crate::walk::{Walk, set_all};
 use hyp_pool::{Pool, PoolFault, laws};
 use page_state::{Entry, PageRange};
 use std::alloc::Allocator;
+use std::mem;
 use table_tree::{Reads, Stock, Tree};
 use walk_plan::{Change, Spare, drain, reserve};
 
@@ -40,11 +41,21 @@ pub fn set_with<A: Allocator>(
     };
     let depth = tree.geometry().depth();
     let Spare { stock } = spare;
-    let mut stock = stock;
-    let mut freed = Stock::new();
+    let freed = Stock::new();
+    let mut walk = Walk {
+        spare: stock,
+        freed,
+        reads: mem::replace(reads, Reads::new()),
+    };
     let table = &mut tree.table;
-    set_all(table, depth, change, &mut stock, &mut freed, reads);
-    stock.close();
+    set_all(table, depth, change, &mut walk);
+    let Walk {
+        spare,
+        freed,
+        reads: looked,
+    } = walk;
+    *reads = looked;
+    spare.close();
     drain(freed, tree, pool);
 }
 

@@ -212,7 +212,7 @@ pub(crate) fn put_back<A: Allocator>(
     requires holds { HoldsWord (slot_at table.old i) }
     requires child_wide { IsWide child.value }
     ensures frame { frame_of table.new ≡ frame_of table.old }
-    ensures others { (j : ℕ) → j ≢ i → slot_at table.new j ≡ slot_at table.old j }
+    ensures slots_elsewhere { (j : ℕ) → j ≢ i → slot_at table.new j ≡ slot_at table.old j }
     ensures put { IsPutBack depth i table.old table.new child.value (frames_of freed.old) (frames_of freed.new) }
     ensures reads { count_of reads.new ≤ count_of reads.old + 512 }
 {

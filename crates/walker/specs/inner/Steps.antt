@@ -66,8 +66,8 @@ pub record IsOpened {A : Type 0} (n d i : ℕ) (t u child : Table A) (before aft
   pub slots : slots_of u ≡ slice_set (slots_of t) i (Word 0)
   pub shape : IsShaped n u
   pub tight : IsTight n u
-  pub other : (q : ℕ) → index_at n q ≢ i → entry_at n u q ≡ entry_at n t q
-  pub stand : (low q : ℕ) → low < n → index_at n q ≢ i → table_in n u low q ≡ table_in n t low q
+  pub map_elsewhere : (q : ℕ) → index_at n q ≢ i → entry_at n u q ≡ entry_at n t q
+  pub tables_elsewhere : (low q : ℕ) → low < n → index_at n q ≢ i → table_in n u low q ≡ table_in n t low q
   pub child_shape : IsShaped d child
   pub child_tight : IsTight d child
   pub map : (q : ℕ) → index_at n q ≡ i → entry_at d child q ≡ entry_at n t q

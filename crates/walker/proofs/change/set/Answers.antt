@@ -1,4 +1,4 @@
-use Rattle.std.proofs.Common.{◌≡◌, Result, Ok, Err, ap, arith, sym, ◌∙◌, length, take, drop}
+use Rattle.std.proofs.Common.{◌≡◌, Result, Ok, Err, ap, arith, sym, ◌∙◌, length}
 use Rattle.std.specs.Result.{IsErrAnd}
 use Rattle.hyp_pool.specs.declared.PoolFault.{PoolFault}
 use Rattle.page_state.specs.Counts.{frame_count}

@@ -1,4 +1,4 @@
-use Rattle.std.proofs.Common.{◌≡◌, ℕ, ◌+◌, suc, sym, ap, arith, ◌∙◌, true, false, add-one}
+use Rattle.std.proofs.Common.{◌≡◌, ◌+◌, suc, sym, ap, ◌∙◌, true, false, add-one}
 use Rattle.page_state.specs.Blocks.{fits_word}
 use Rattle.walker.proofs.Says.{says_first, says_parts, says_made}
 use Rattle.walker.proofs.open.folded.Goals as goal

@@ -1,4 +1,4 @@
-use Rattle.std.proofs.Common.{◌≡◌, ℕ, ◌*◌, sym, ap, arith, ◌∙◌, true}
+use Rattle.std.proofs.Common.{◌≡◌, ◌*◌, sym, ap, arith, ◌∙◌, true}
 use Rattle.page_state.specs.Entries.{advance}
 use Rattle.page_state.specs.Geometries.{block_pages}
 use Rattle.page_state.proofs.Cases.{by_eq}

@@ -1,4 +1,4 @@
-use Rattle.std.proofs.Common.{◌≡◌, ℕ, ◌+◌, ◌*◌, ◌<◌, ◌≤◌}
+use Rattle.std.proofs.Common.{ℕ, ◌+◌, ◌*◌, ◌<◌, ◌≤◌}
 use Rattle.page_state.specs.Entries.{advance}
 use Rattle.page_state.specs.Geometries.{block_pages}
 use Rattle.table_tree.specs.Meaning.{slot_at}
