@@ -1,0 +1,4 @@
+pub mod Profiles
+pub mod Said
+pub mod Decoding
+pub mod Entries

@@ -1,0 +1,9 @@
+pub mod MetTables
+pub mod Passed
+pub mod Laid
+pub mod Slots
+pub mod Pushed
+pub mod WalkedSlots
+pub mod FromRoots
+pub mod OwnPages
+pub mod OwnOrder

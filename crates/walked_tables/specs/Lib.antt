@@ -1,0 +1,9 @@
+pub mod Values
+pub mod ByFrames
+pub mod Laid
+pub mod Reached
+pub mod Equality
+pub mod Advancing
+pub mod Roots
+pub mod Walks
+pub mod Own
