@@ -1,5 +1,5 @@
 -- Pools of frames.
-use Rattle.std.specs.Prelude.{ℕ, ◌≤◌, List, length, map, reverse}
+use Rattle.std.specs.Prelude.{◌≡◌, ℕ, ◌<◌, ◌≤◌, List, length, map, reverse, take, drop, All}
 use Rattle.std.specs.List.Sorted.{IsStrictlyIncreasing}
 use Rattle.page_state.specs.declared.Frame.{Frame}
 use Rattle.page_state.specs.Trees.{Pool}
@@ -21,3 +21,11 @@ numbers fs = map (λ f. f.0) fs
 -- the numbers of frames that are kept with the highest first, the lowest first
 abbrev pub lowest_first : List Frame → List ℕ
 lowest_first fs = numbers (reverse fs)
+
+-- the `n` lowest frames of pool `p` were taken, the lowest first: pool `q` is left, whose frames are all greater
+pub record AreTaken (n : ℕ) (p q : StoredFrames) (fs : List Frame) : Type 0 where
+  pub frames : numbers fs ≡ take n p.frames
+  pub left : q.frames ≡ drop n p.frames
+  pub least : All (λ f. All (λ other. f.0 < other) q.frames) fs
+  pub count : length fs ≡ n
+  pub enough : n ≤ length p.frames

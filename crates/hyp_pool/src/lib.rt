@@ -5,7 +5,7 @@ ghost use Rattle.std.specs.Prelude.{◌≡◌, ℕ, ◌+◌, ◌-◌, ◌^◌, �
 ghost use Rattle.std.specs.Vec.{vec_capacity};
 ghost use Rattle.page_state.specs.Trees.{frames_from};
 ghost use Rattle.page_state.specs.Tables.{given};
-ghost use Rattle.hyp_pool.specs.Pools.{IsPool, numbers};
+ghost use Rattle.hyp_pool.specs.Pools.{IsPool, AreTaken, numbers};
 
 mod frames;
 pub mod laws;
@@ -109,11 +109,7 @@ impl Pool {
 
     /// Takes the `n` lowest frames, all or none. None at all are taken without memory.
     pub fn take_many(&mut self, alloc: Global, n: usize) -> Result<Vec<Frame>, PoolFault>
-        ensures taken { IfOk result (λ v. numbers v.items ≡ take n self.old.frames) }
-        ensures left { OnOk result (self.new.frames ≡ drop n self.old.frames) }
-        ensures least { IfOk result (λ v. All (λ f. All (λ other. f.0 < other) self.new.frames) v.items) }
-        ensures count { IfOk result (λ v. vec_len v ≡ n) }
-        ensures enough { OnOk result (n ≤ length self.old.frames) }
+        ensures taken { IfOk result (λ v. AreTaken n self.old self.new v.items) }
         ensures no_pool { (result ≡ Err PoolFault.NoPool) ↔ (length self.old.frames < n) }
         ensures nothing { n ≡ 0 → IsOk result }
         ensures err { OnErr result (self.new ≡ self.old) }

@@ -19,13 +19,15 @@ pub returns-clause-pool : goal.returns-clause-pool
 returns-clause-pool c = (invariant_of-self c).0
 
 pub returns-clause-taken : goal.returns-clause-taken
-returns-clause-taken c = rw (c.move_last.ensures.moved, ← c.self.view_is) (lowest_first-drop (vec_len c.self.inside.frames - c.args.n) c.args.n c.self.inside.frames.items (all_frames c))
-
-pub returns-clause-left : goal.returns-clause-left
-returns-clause-left c = rw (c.move_last.ensures.left, ← c.self.view_is) (lowest_first-take (vec_len c.self.inside.frames - c.args.n) c.args.n c.self.inside.frames.items (all_frames c))
-
-pub returns-clause-least : goal.returns-clause-least
-returns-clause-least c = rw (c.move_last.ensures.moved, c.move_last.ensures.left) (least_moved (vec_len c.self.inside.frames - c.args.n) c.args.n c.self.inside.frames.items (all_frames c) c.self.invariant.0.rising)
+returns-clause-taken c =
+    let k = vec_len c.self.inside.frames - c.args.n in
+    record {
+      frames = rw (c.move_last.ensures.moved, ← c.self.view_is) (lowest_first-drop k c.args.n c.self.inside.frames.items (all_frames c));
+      left = rw (c.move_last.ensures.left, ← c.self.view_is) (lowest_first-take k c.args.n c.self.inside.frames.items (all_frames c));
+      least = rw (c.move_last.ensures.moved, c.move_last.ensures.left) (least_moved k c.args.n c.self.inside.frames.items (all_frames c) c.self.invariant.0.rising);
+      count = grind (arith, common_steps);
+      enough = grind (arith, common_steps);
+    }
 
 pub returns-then-n-free-clause-no_pool : goal.returns-then-n-free-clause-no_pool
 returns-then-n-free-clause-no_pool c = grind (arith, common_steps)
