@@ -6,7 +6,8 @@ use Rattle.page_state.specs.declared.entry.Entry.{Entry}
 use Rattle.page_state.specs.declared.entry.Entry.TheVariants.{Unmapped, Malformed, Annotated, Leaf}
 use Rattle.page_state.specs.declared.layout.Geometry.{Geometry}
 use Rattle.page_state.specs.Entries.{advance}
-use Rattle.page_state.specs.Map.{empty_map}
+use Rattle.page_state.specs.Map.{Map, empty_map}
+use Rattle.page_state.specs.Trees.{Block, Tree as ReferenceTree, root_tree}
 use Rattle.page_state.specs.Geometries.{levels_below, input_pages, block_pages}
 use Rattle.page_state.proofs.Sizes.{size_some}
 use Rattle.page_state.proofs.Cases.{by_eq}
@@ -16,7 +17,7 @@ use Rattle.table_tree.specs.declared.tree.Tree.{Tree}
 use Rattle.table_tree.specs.Meaning.{frame_of, entry_at}
 use Rattle.table_tree.specs.Shape.{IsBlank}
 use Rattle.table_tree.specs.Tables.{table_in}
-use Rattle.table_tree.specs.View.{meaning, table_at}
+use Rattle.table_tree.specs.View.{meaning, table_at, tree_of}
 use Rattle.table_tree.proofs.Steps.{blank_entries, blank_words}
 use Rattle.table_tree.proofs.Standing.{words_standing, by_lt}
 use Rattle.table_tree.specs.Roots.{map_under, table_under}
@@ -60,6 +61,10 @@ quotient_some q s h n e =
 unfoldable pub map_of : {A : Type 0} → Geometry → Table A → ℕ → Entry
 map_of g t page = cond (ltb page (input_pages g)) (entry_at (levels_below g) t page) Unmapped
 
+-- a tree by its parts
+abbrev tree : Map → (Block → Option ℕ) → ReferenceTree
+tree m t = record { map = m; table = t }
+
 module _ {A : Type 0} where
   pub meaning_is : (t : Tree A) → meaning t ≡ map_of t.geometry t.table
   unfolding meaning map_of map_under
@@ -89,10 +94,10 @@ module _ {A : Type 0} where
   pub meaning_over : (t : Tree A) (d page : ℕ) → d ≡ levels_below t.geometry → (page / 2 ^ (9 * (d + 1)) ≡ 0 → ⊥) → Unmapped ≡ meaning t page
   meaning_over t d page e h = map_over t.geometry t.table d page e h ∙ sym (ap (λ m. m page) (meaning_is t))
 
-  pub map_blank : (g : Geometry) (t : Table A) → IsBlank t → map_of g t ≡ empty_map
+  map_blank : (g : Geometry) (t : Table A) → IsBlank t → map_of g t ≡ empty_map
   map_blank g t h = fun_ext (λ q. by_lt q (input_pages g) (λ l. map_inside g t q l ∙ blank_entries (levels_below g) t h q) (λ l. map_outside g t q l))
 
-  pub standing_blank : (t : Tree A) (root depth number : ℕ) → IsBlank t.table → frame_of t.table ≡ root → table_at t depth number ≡ cond (depth == levels_below t.geometry + 1 && number == 0) (Some root) None
+  standing_blank : (t : Tree A) (root depth number : ℕ) → IsBlank t.table → frame_of t.table ≡ root → table_at t depth number ≡ cond (depth == levels_below t.geometry + 1 && number == 0) (Some root) None
   unfolding table_at table_under
   standing_blank t root zero number h e = let z : (0 == levels_below t.geometry + 1) ≡ false = eq-other 0 (levels_below t.geometry + 1) (λ y. omega arith) in rw z refl
   standing_blank t root (suc low) number h e =
@@ -111,3 +116,7 @@ module _ {A : Type 0} where
       ap (λ v. cond v (table_in n t.table low (number * s)) None) (more_test _ _ l) ∙ sym (left_right _ _ _ _ b)))
       (λ z. let a : (suc low == levels_below t.geometry + 1) ≡ false = eq-other (suc low) (levels_below t.geometry + 1) (λ y. z (omega arith)) in
       none_cond (ltb (number * s) (input_pages t.geometry)) (table_in n t.table low (number * s)) (first ∙ ap (λ v. cond v (Some (frame_of t.table)) None) (eq-other low n z)) ∙ sym (left_out _ _ _ _ a))
+
+  pub tree_blank : (t : Tree A) (root : ℕ) → IsBlank t.table → frame_of t.table ≡ root → tree_of t ≡ root_tree (levels_below t.geometry) root
+  tree_blank t root h e =
+      ap (λ m. tree m (λ b. table_at t b.0 b.1)) (meaning_is t ∙ map_blank t.geometry t.table h) ∙ ap (tree empty_map) (fun_ext (λ (b : Block). standing_blank t root b.0 b.1 h e))

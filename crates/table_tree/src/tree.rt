@@ -1,6 +1,6 @@
 //! A tree: its root table, and how many levels are below it.
-ghost use Rattle.std.specs.Prelude.{◌≡◌, ℕ, ◌+◌, ◌-◌, ◌<◌, ◌≤◌, ◌==◌, ◌&&◌, ◌↔◌, length, map, slice_get, if◌then◌else◌, Some, None, IsSome, IsOk, IfSome, IfOk, IfErr, MatchOption, OnOk, max, min};
-ghost use Rattle.page_state.specs.Map.{empty_map};
+ghost use Rattle.std.specs.Prelude.{◌≡◌, ℕ, ◌+◌, ◌-◌, ◌<◌, ◌≤◌, ◌↔◌, length, map, slice_get, Some, IsSome, IsOk, IfSome, IfOk, IfErr, MatchOption, OnOk, max, min};
+ghost use Rattle.page_state.specs.Trees.{root_tree};
 ghost use Rattle.page_state.specs.Geometries.{levels_below};
 ghost use Rattle.page_state.specs.Counts.{is_one};
 ghost use Rattle.table_tree.specs.Meaning.{frame_of};
@@ -28,7 +28,7 @@ pub struct Tree<A: Allocator> {
 }
 
 impl<A: Allocator> Tree<A> {
-    ghost use Rattle.table_tree.specs.View.{meaning, word_of as word_at_path, table_at, uses, tables_of, root_of, spares_of, tree_of};
+    ghost use Rattle.table_tree.specs.View.{meaning, word_of as word_at_path, uses, tables_of, root_of, spares_of, tree_of};
     ghost use Rattle.page_state.specs.Blocks.{block_at, is_empty as is_empty_block};
     ghost use Rattle.table_tree.specs.OnPage.{word_on as word_on_page};
     ghost use Rattle.table_tree.specs.AllBlocks.{table_count, table_frames};
@@ -36,13 +36,12 @@ impl<A: Allocator> Tree<A> {
 
     /// A tree of one table, with nothing mapped.
     pub fn new(alloc: A, root: Frame, geometry: Geometry) -> Result<Tree<A>, AllocError>
-        ensures map { IfOk result (λ t. meaning t ≡ empty_map) }
+        ensures tree { IfOk result (λ t. tree_of t ≡ root_tree (levels_below geometry) root.0) }
         ensures root { IfOk result (λ t. root_of t ≡ root.0) }
         ensures geometry { IfOk result (λ t. t.geometry ≡ geometry) }
         ensures uses { IfOk result (λ t. (f : ℕ) → uses t f ≡ is_one root.0 f) }
         ensures tables { IfOk result (λ t. tables_of t ≡ 1) }
         ensures spares { IfOk result (λ t. spares_of t ≡ 0) }
-        ensures standing { IfOk result (λ t. (depth number : ℕ) → table_at t depth number ≡ (if depth == levels_below geometry + 1 && number == 0 then Some root.0 else None)) }
     {
         let table = Table::new(alloc, root)?;
         Ok(Tree {

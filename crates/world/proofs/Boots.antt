@@ -74,14 +74,6 @@ two_taken first (suc (suc n)) a b once twice h p q =
     let again = sym q ∙ rest in
     (sym (ap (λ xs. slice_index_or xs 0 0) p), ap (λ xs. slice_index_or xs 0 0) again, ap (drop 1) again)
 
--- a tree by its parts
-abbrev tree : Map → (Block → Option ℕ) → Tree
-tree m t = record { map = m; table = t }
-
--- a tree without an entry, whose one table is the root's, is a new one
-pub new_is : {A : Type 0} (d : ℕ) (t : TableTree A) (root : ℕ) → meaning t ≡ empty_map → ((depth number : ℕ) → table_at t depth number ≡ (if depth == d + 1 && number == 0 then Some root else None)) → tree_of t ≡ root_tree d root
-new_is d t root m h = ap (λ x. tree x (λ b. table_at t b.0 b.1)) m ∙ ap (tree empty_map) (fun_ext (λ (b : Block). h b.0 b.1))
-
 -- the Shared part after the changes of boot
 module _ (meet : BlocksMeet) (m : Memory) (c : Config) (g : Geometry) (h : Changes) (host_is : edit_of h.host ≡ host_edit (layout_for m c g)) (hyp_is : edit_of h.hyp ≡ hyp_edit (layout_for m c g)) where
   abbrev l : Layout

@@ -6,7 +6,7 @@ use Rattle.page_state.specs.declared.entry.PageRange.{PageRange}
 use Rattle.page_state.specs.Geometries.{levels_below}
 use Rattle.page_state.specs.Counts.{frame_count}
 use Rattle.table_tree.specs.View.{tree_of, uses, tables_of}
-use Rattle.world.proofs.Boots.{two_taken, new_is}
+use Rattle.world.proofs.Boots.{two_taken}
 use Rattle.page_state.proofs.Counts.{count_next}
 use Rattle.world.proofs.boot.roots.Given.{Over}
 use Rattle.world.proofs.boot.roots.Goals as goal
@@ -27,11 +27,11 @@ taken g c =
 
 pub returns-clause-host : goal.returns-clause-host
 returns-clause-host g c =
-    ap tree_of c.new-host.ensures ∙ new_is (levels_below c.args.geometry) c.in_ok-new.field-0 c.take_root-host_root.result.0 c.in_ok-new.ensures.map c.in_ok-new.ensures.standing ∙ ap (root_tree (levels_below c.args.geometry)) ((taken g c).0 ∙ ap (λ (r : PageRange). r.first.0) c.carve-carve.ensures.value)
+    ap tree_of c.new-host.ensures ∙ c.in_ok-new.ensures.tree ∙ ap (root_tree (levels_below c.args.geometry)) ((taken g c).0 ∙ ap (λ (r : PageRange). r.first.0) c.carve-carve.ensures.value)
 
 pub returns-clause-hyp : goal.returns-clause-hyp
 returns-clause-hyp g c =
-    ap tree_of c.new-hyp.ensures ∙ new_is (levels_below c.args.geometry) c.in-Ok.tree c.take_root-hyp_root.result.0 c.in-Ok.ensures.map c.in-Ok.ensures.standing ∙ ap (root_tree (levels_below c.args.geometry)) ((taken g c).1 ∙ ap (λ (r : PageRange). r.first.0 + 1) c.carve-carve.ensures.value)
+    ap tree_of c.new-hyp.ensures ∙ c.in-Ok.ensures.tree ∙ ap (root_tree (levels_below c.args.geometry)) ((taken g c).1 ∙ ap (λ (r : PageRange). r.first.0 + 1) c.carve-carve.ensures.value)
 
 pub returns-clause-pool : goal.returns-clause-pool
 returns-clause-pool g c =
