@@ -1,14 +1,11 @@
 -- Frames that come to a guest.
 use Rattle.std.proofs.Common.{◌≡◌, ℕ, suc, ◌+◌, ◌-◌, ◌≤◌, ◌<◌, ◌∷◌, sym, ap, ◌∙◌, arith, true, length}
 use Rattle.std.proofs.lemmas.Bool.Decides.{nat_tests}
-use mathlib.Core.Path.{fun_ext}
-use Rattle.std.specs.Prelude.{◌&&◌, ◌==◌, Option, Some, None, if◌then◌else◌}
 use Rattle.page_state.specs.declared.entry.PageRange.{PageRange}
 use Rattle.page_state.specs.Counts.{frame_count, is_one}
-use Rattle.page_state.specs.Map.{Map, empty_map}
 use Rattle.page_state.specs.Regions.{is_in_range}
 use Rattle.page_state.specs.Tables.{given, all_given}
-use Rattle.page_state.specs.Trees.{Block, Pool, Tree, frames_from, root_tree}
+use Rattle.page_state.specs.Trees.{Pool, frames_from}
 use Rattle.page_state.proofs.Counts.{count_next}
 use Rattle.page_state.proofs.Cases.{by_lt, by_test}
 use Rattle.hyp_pool.specs.Pools.{StoredFrames}
@@ -17,7 +14,7 @@ use Rattle.hyp_pool.proofs.Order.{rising_frames, length-frames_from}
 use Rattle.reference_model.specs.Changes.{frames_in}
 use Rattle.reference_model.proofs.Frames.{contains-frames}
 use Rattle.table_tree.specs.declared.tree.Tree.{Tree as TableTree}
-use Rattle.table_tree.specs.View.{meaning, table_at, tree_of, uses, tables_of}
+use Rattle.table_tree.specs.View.{uses, tables_of}
 use Rattle.guest_component.specs.Changing.{CanGainFrames}
 use Rattle.guest_component.specs.Own.{HoldsOwn}
 
@@ -71,11 +68,3 @@ parted t p root first n all used one few room = (
   λ f. let a = ap (frame_count f) all ∙ count_next f root p.frames in omega (arith, a, used f, count_frames first n f),
   (let a = ap length (sym all) in omega (arith, a, one, few, length-frames_from first n), room),
 )
-
-told : Map → (Block → Option ℕ) → Tree
-told m t = record { map = m; table = t }
-
--- a tree without an entry, whose one table is the root's, is a new one
-pub new_tree : {A : Type 0} (d : ℕ) (t : TableTree A) (root : ℕ) → meaning t ≡ empty_map → ((depth number : ℕ) → table_at t depth number ≡ (if depth == d + 1 && number == 0 then Some root else None)) → tree_of t ≡ root_tree d root
-unfolding told
-new_tree d t root m h = ap (λ x. told x (λ b. table_at t b.0 b.1)) m ∙ ap (told empty_map) (fun_ext (λ (b : Block). h b.0 b.1))

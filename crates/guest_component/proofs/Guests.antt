@@ -27,7 +27,6 @@ use Rattle.table_tree.specs.declared.tree.Tree.{Tree as TableTree}
 use Rattle.table_tree.specs.View.{tree_of}
 use Rattle.table_tree.proofs.Same.{same_uses, same_count}
 use Rattle.guest_component.specs.declared.body.Body.{Body}
-use Rattle.guest_component.specs.Bodies.{body_of}
 use Rattle.guest_component.specs.Changing.{CanGainFrames, CanTake, GuestCanChange, PartFits, StaysMade, map_changed}
 use Rattle.guest_component.specs.Own.{HoldsOwn}
 use Rattle.guest_component.specs.Plans.{IsMadeFor, IsMapInHand, map_with}

@@ -5,7 +5,7 @@ use Rattle.reference_model.specs.Changes.{frames_in, rest}
 use Rattle.reference_model.specs.State.{live}
 use Rattle.table_tree.specs.View.{tree_of}
 use Rattle.guest_component.specs.Own.{HoldsOwn}
-use Rattle.guest_component.proofs.Gains.{new_tree, parted}
+use Rattle.guest_component.proofs.Gains.{parted}
 use Rattle.guest_component.proofs.Guests.{same_parts}
 use Rattle.guest_component.proofs.body.Body.install.Goals as goal
 
@@ -23,5 +23,5 @@ returns-clause-made g c x =
     let d = levels_below c.args.geometry in
     let t = c.in_ok-tree.tree in
     let p = c.in_ok-root.pool in
-    let tree = ap tree_of c.new-2.ensures ∙ new_tree d t c.in_ok-root.root.0 c.in_ok-tree.ensures.map c.in_ok-tree.ensures.standing ∙ ap (root_tree d) c.in_ok-root.ensures.first in
+    let tree = ap tree_of c.new-2.ensures ∙ c.in_ok-tree.ensures.tree ∙ ap (root_tree d) c.in_ok-root.ensures.first in
     same_parts live c.args.generation c.args.kind (tree_of c.new-2.result.tree) (root_tree d r.first.0) p.frames (rest (frames_in r)) tree (sym (ap rest c.in_ok-root.ensures.frames))

@@ -1,4 +1,4 @@
-use Rattle.std.proofs.Common.{◌≡◌, ℕ, ◌+◌, ◌*◌, ◌/◌, ◌%◌, ◌^◌, ◌<◌, ◌≤◌, sym, ap, ◌∙◌, arith, true, false}
+use Rattle.std.proofs.Common.{◌≡◌, ◌+◌, ◌*◌, ◌≤◌, sym, ap, ◌∙◌, arith, false}
 use Rattle.std.proofs.Math.Nat.{mul-le-mul_right}
 use Rattle.page_state.specs.Blocks.{is_empty}
 use Rattle.page_state.specs.Geometries.{levels_below, input_pages, block_pages}

@@ -1,5 +1,4 @@
-use Rattle.std.proofs.Common.{sym, ap, length}
-use Rattle.guest_component.specs.View.{guest_depth, guest_in}
+use Rattle.guest_component.specs.View.{guest_depth}
 use Rattle.guest_component.proofs.Guests.{no_need, none_short}
 use Rattle.guest_component.proofs.guest.Guest.reserve_map.Goals as goal
 
