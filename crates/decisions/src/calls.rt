@@ -1,8 +1,9 @@
 //! What each call decides: the first of its tests that fails, or all that it changes. Nothing is changed here.
-ghost use Rattle.std.specs.Prelude.{◌≡◌, ◌<◌, ℕ, true, false, not, ◌||◌, Some, None, Err, IfOk, if◌then◌else◌};
+ghost use Rattle.std.specs.Prelude.{◌≡◌, ◌<◌, ℕ, true, false, not, ◌||◌, Some, None, Err, IfOk};
 ghost use Rattle.guest_component.specs.View.{guest_depth, guest_of};
 ghost use Rattle.guest_steps.specs.Lent.{SharedSuits};
 ghost use Rattle.guest_steps.specs.View.{cpu_of, shared_of, vm_slots};
+ghost use Rattle.decisions.specs.Decided.{unloaded_why, used_with};
 ghost use Rattle.decisions.specs.Grows.{GrowsOnly};
 ghost use Rattle.page_state.specs.LayoutView.{layout_of};
 ghost use Rattle.reference_model.specs.Decides.{decides};
@@ -12,7 +13,7 @@ ghost use Rattle.reference_model.specs.Parts.{guest as just_guest, shared_and_gu
 ghost use Rattle.reference_model.specs.Rules.{guest_slot, names};
 ghost use Rattle.reference_model.specs.Rely.{CanRely};
 ghost use Rattle.reference_model.specs.State.{Cpu, no_guest};
-ghost use Rattle.reference_model.specs.Used.{guest_alone, used_alone, vms_alone, with_guest};
+ghost use Rattle.reference_model.specs.Used.{guest_alone, used_alone, vms_alone};
 
 mod abort;
 mod asks;
@@ -117,8 +118,8 @@ pub fn decide_with_guest<A: Allocator>(
     requires names { names step ≡ shared_and_guest }
     requires slot { slot < 64 }
     requires depth { guest_depth guest.now ≡ (layout_of layout.now).depth }
-    requires rely { CanRely (layout_of layout.now) cpu.now.id (Some slot) step (with_guest (shared_of shared.now) (guest_of guest.now) (cpu_of cpu.now)) }
-    ensures decided { result ≡ decides (layout_of layout.now) cpu.now.id (Some slot) step (with_guest (shared_of shared.now) (guest_of guest.now) (cpu_of cpu.now)) }
+    requires rely { CanRely (layout_of layout.now) cpu.now.id (Some slot) step (used_with shared.now guest.now cpu.now) }
+    ensures decided { result ≡ decides (layout_of layout.now) cpu.now.id (Some slot) step (used_with shared.now guest.now cpu.now) }
     ensures grows { IfOk result (GrowsOnly step) }
 {
     match step {
@@ -164,7 +165,7 @@ pub fn decide_guest<A: Allocator>(
 /// The refusal of a call on a guest that there is none of: Invalid where the frames aren't a good range, or the pages not all
 /// input pages.
 fn unloaded(layout: &Layout, pfn: u64, gfn: u64, n: u64) -> Refusal
-    ensures { result ≡ (if not (is_good_range (layout_of layout.now) pfn n) || not (are_good_pages_of (layout_of layout.now) gfn n) then Refusal.Invalid else Refusal.NoVm) }
+    ensures { result ≡ unloaded_why (not (is_good_range (layout_of layout.now) pfn n) || not (are_good_pages_of (layout_of layout.now) gfn n)) }
 {
     if !layout.is_good_range(Page(pfn), n) || !are_good_pages(layout, gfn, n) {
         return Refusal::Invalid;
@@ -174,7 +175,7 @@ fn unloaded(layout: &Layout, pfn: u64, gfn: u64, n: u64) -> Refusal
 
 /// The same of a call that names no frame.
 fn unloaded_page(layout: &Layout, gfn: u64) -> Refusal
-    ensures { result ≡ (if not (is_good_page (layout_of layout.now) gfn) then Refusal.Invalid else Refusal.NoVm) }
+    ensures { result ≡ unloaded_why (not (is_good_page (layout_of layout.now) gfn)) }
 {
     if gfn >= layout.geometry.pages() {
         return Refusal::Invalid;

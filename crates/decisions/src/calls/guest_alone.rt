@@ -1,13 +1,13 @@
 //! Calls on a guest alone.
 ghost use Rattle.std.specs.Prelude.{◌≡◌, ℕ, Some, IfOk};
-ghost use Rattle.guest_component.specs.View.{guest_of};
 ghost use Rattle.guest_steps.specs.View.{cpu_of};
 ghost use Rattle.page_state.specs.LayoutView.{layout_of};
 ghost use Rattle.reference_model.specs.Decides.{decides};
 ghost use Rattle.page_state.specs.Layouts.{Layout as ReferenceLayout};
-ghost use Rattle.reference_model.specs.State.{Cpu, Guest as ReferenceGuest};
+ghost use Rattle.reference_model.specs.State.{Guest as ReferenceGuest};
 ghost use Rattle.reference_model.specs.Used.{guest_alone};
 ghost use Rattle.step_reply.specs.declared.step.Step.TheVariants.{GuestRelax, GuestTranslate, MarkDying};
+ghost use Rattle.decisions.specs.Decided.{IsDecidedByGuest};
 ghost use Rattle.decisions.specs.Grows.{GrowsOnly};
 
 use super::change;
@@ -29,7 +29,7 @@ pub(crate) fn decide_guest_relax<A: Allocator>(
     gfn: u64,
     prot: Prot,
 ) -> Result<Changes, Refusal>
-    ensures decided { (id slot : ℕ) (k : Cpu) → result ≡ decides (layout_of layout.now) id (Some slot) (GuestRelax gfn prot) (guest_alone (guest_of guest.now) k) }
+    ensures decided { IsDecidedByGuest (layout_of layout.now) guest.now (GuestRelax gfn prot) result }
 {
     if gfn >= layout.geometry.pages() {
         return Err(Refusal::Invalid);
@@ -52,7 +52,7 @@ pub(crate) fn decide_guest_translate<A: Allocator>(
     vm: VmId,
     gfn: u64,
 ) -> Result<Changes, Refusal>
-    ensures decided { (id slot : ℕ) (k : Cpu) → result ≡ decides (layout_of layout.now) id (Some slot) (GuestTranslate vm gfn) (guest_alone (guest_of guest.now) k) }
+    ensures decided { IsDecidedByGuest (layout_of layout.now) guest.now (GuestTranslate vm gfn) result }
     ensures grows { IfOk result (GrowsOnly (GuestTranslate vm gfn)) }
 {
     if vm.slot >= SLOTS || gfn >= layout.geometry.pages() {

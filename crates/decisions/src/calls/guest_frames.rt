@@ -1,19 +1,15 @@
 //! Calls that give frames to a guest, or take them back.
-ghost use Rattle.std.specs.Prelude.{◌≡◌, ◌+◌, ◌<◌, ◌^◌, ◌||◌, ℕ, Some, length, nat_lt, not};
+ghost use Rattle.std.specs.Prelude.{◌≡◌, ◌<◌, ◌^◌, ◌||◌, Some};
 ghost use Rattle.guest_component.specs.View.{guest_depth, guest_of};
-ghost use Rattle.guest_steps.specs.View.{cpu_of, shared_of};
-ghost use Rattle.page_state.specs.EntryTests.{is_unmapped as is_unmapped_entry};
-ghost use Rattle.page_state.specs.Geometries.{pages_below};
+ghost use Rattle.guest_steps.specs.View.{cpu_of};
 ghost use Rattle.page_state.specs.LayoutView.{layout_of};
-ghost use Rattle.page_state.specs.Layouts.{Layout as ReferenceLayout};
-ghost use Rattle.page_state.specs.Search.{all_below};
+ghost use Rattle.decisions.specs.Decided.{IsDecidedByCpu, IsDecidedByHolder, has_left, used_with};
 ghost use Rattle.step_reply.specs.declared.step.Step.TheVariants.{FinishGuest, Install, ReclaimPool, Topup};
 ghost use Rattle.reference_model.specs.Decides.{decides};
 ghost use Rattle.reference_model.specs.GuestRules.{is_guest, moved_on as moved_on_of, ticket_kind as ticket_kind_of, ticket_vm as ticket_vm_of};
 ghost use Rattle.reference_model.specs.Rely.{CanRely};
 ghost use Rattle.reference_model.specs.SharedRules.{hand_becomes as hand_becomes_of, to_host as to_host_of};
-ghost use Rattle.reference_model.specs.State.{Guest as ReferenceGuest, Shared, live, dying};
-ghost use Rattle.reference_model.specs.Used.{with_guest};
+ghost use Rattle.reference_model.specs.State.{live, dying};
 
 use super::change;
 use super::vms::{SLOTS, ticket_becomes};
@@ -87,7 +83,7 @@ fn to_host(frame: u64) -> Changes
 /// The guest of the CPU's Booked ticket becomes Live, with the hand as its root and pool.
 #[tactic(auto, unfolding(reference_model::specs::Rules::rule))]
 pub(crate) fn decide_install(cpu: &CpuState) -> Result<Changes, Refusal>
-    ensures decided { (l : ReferenceLayout) (id slot : ℕ) (s : Shared) (g : ReferenceGuest) → result ≡ decides l id (Some slot) Install (with_guest s g (cpu_of cpu.now)) }
+    ensures decided { IsDecidedByCpu cpu.now Install result }
 {
     let Some(hand) = cpu.hand else {
         return Err(Refusal::Perm);
@@ -123,7 +119,7 @@ pub(crate) fn decide_topup<A: Allocator>(
     vm: VmId,
 ) -> Result<Changes, Refusal>
     requires depth { guest_depth guest.now ≡ (layout_of layout.now).depth }
-    ensures decided { (id slot : ℕ) (s : Shared) → result ≡ decides (layout_of layout.now) id (Some slot) (Topup vm) (with_guest s (guest_of guest.now) (cpu_of cpu.now)) }
+    ensures decided { IsDecidedByHolder (layout_of layout.now) guest.now cpu.now (Topup vm) result }
 {
     if vm.slot >= SLOTS {
         return Err(Refusal::Invalid);
@@ -156,8 +152,8 @@ pub(crate) fn decide_reclaim_pool<A: Allocator>(
     cpu: &CpuState,
     vm: VmId,
 ) -> Result<Changes, Refusal>
-    requires rely { CanRely (layout_of layout.now) cpu.now.id (Some slot) (ReclaimPool vm) (with_guest (shared_of shared.now) (guest_of guest.now) (cpu_of cpu.now)) }
-    ensures decided { result ≡ decides (layout_of layout.now) cpu.now.id (Some slot) (ReclaimPool vm) (with_guest (shared_of shared.now) (guest_of guest.now) (cpu_of cpu.now)) }
+    requires rely { CanRely (layout_of layout.now) cpu.now.id (Some slot) (ReclaimPool vm) (used_with shared.now guest.now cpu.now) }
+    ensures decided { result ≡ decides (layout_of layout.now) cpu.now.id (Some slot) (ReclaimPool vm) (used_with shared.now guest.now cpu.now) }
 {
     if vm.slot >= SLOTS {
         return Err(Refusal::Invalid);
@@ -178,7 +174,7 @@ pub(crate) fn decide_reclaim_pool<A: Allocator>(
 
 /// Whether a guest maps a page or its pool has a frame.
 fn holds_any<A: Allocator>(guest: &Guest<A>) -> bool
-    ensures { result ≡ not (all_below (pages_below (guest_depth guest.now)) (λ p. is_unmapped_entry ((guest_of guest.now).tree.map p))) || nat_lt 0 (length (guest_of guest.now).free) }
+    ensures { result ≡ has_left (guest_depth guest.now) (guest_of guest.now) }
 {
     !guest.is_unmapped() || guest.free() > 0
 }
@@ -194,8 +190,8 @@ pub(crate) fn decide_finish_guest<A: Allocator>(
     cpu: &CpuState,
 ) -> Result<Changes, Refusal>
     requires depth { guest_depth guest.now ≡ (layout_of layout.now).depth }
-    requires rely { CanRely (layout_of layout.now) cpu.now.id (Some slot) FinishGuest (with_guest (shared_of shared.now) (guest_of guest.now) (cpu_of cpu.now)) }
-    ensures decided { result ≡ decides (layout_of layout.now) cpu.now.id (Some slot) FinishGuest (with_guest (shared_of shared.now) (guest_of guest.now) (cpu_of cpu.now)) }
+    requires rely { CanRely (layout_of layout.now) cpu.now.id (Some slot) FinishGuest (used_with shared.now guest.now cpu.now) }
+    ensures decided { result ≡ decides (layout_of layout.now) cpu.now.id (Some slot) FinishGuest (used_with shared.now guest.now cpu.now) }
 {
     if holds_any(guest) {
         return Err(Refusal::Perm);

@@ -4,7 +4,7 @@ ghost use Rattle.guest_component.specs.View.{guest_of};
 ghost use Rattle.guest_steps.specs.View.{shared_of};
 ghost use Rattle.page_state.specs.EntryTests.{annotation, entry_frame as frame_of_entry, is_free_page as is_free_entry, is_in as is_entry_in, is_unmapped, leaf as leaf_of};
 ghost use Rattle.page_state.specs.LayoutView.{layout_of};
-ghost use Rattle.reference_model.specs.Decides.{decides};
+ghost use Rattle.decisions.specs.Decided.{IsDecidedByParts};
 ghost use Rattle.reference_model.specs.State.{Cpu};
 ghost use Rattle.reference_model.specs.Used.{with_guest};
 ghost use Rattle.step_reply.specs.declared.step.Step.TheVariants.{ShareGuest, UnshareGuest, DonateGuest, GuestShareHost, GuestUnshareHost, ReclaimPage};
@@ -100,7 +100,7 @@ pub(crate) fn decide_share_guest<A: Allocator>(
     prot: Prot,
     n: u64,
 ) -> Result<Changes, Refusal>
-    ensures decided { (id slot : ℕ) (k : Cpu) → result ≡ decides (layout_of layout.now) id (Some slot) (ShareGuest pfn gfn prot n) (with_guest (shared_of shared.now) (guest_of guest.now) k) }
+    ensures decided { (slot : ℕ) → IsDecidedByParts (layout_of layout.now) slot shared.now guest.now (ShareGuest pfn gfn prot n) result }
 {
     if !layout.is_good_range(Page(pfn), n) || !are_good_pages(layout, gfn, n) {
         return Err(Refusal::Invalid);
@@ -126,7 +126,7 @@ pub(crate) fn decide_unshare_guest<A: Allocator>(
     vm: VmId,
     gfn: u64,
 ) -> Result<Changes, Refusal>
-    ensures decided { (id slot : ℕ) (k : Cpu) → result ≡ decides (layout_of layout.now) id (Some slot) (UnshareGuest vm gfn) (with_guest (shared_of shared.now) (guest_of guest.now) k) }
+    ensures decided { (slot : ℕ) → IsDecidedByParts (layout_of layout.now) slot shared.now guest.now (UnshareGuest vm gfn) result }
 {
     if vm.slot >= SLOTS || gfn >= layout.geometry.pages() {
         return Err(Refusal::Invalid);
@@ -159,7 +159,7 @@ pub(crate) fn decide_donate_guest<A: Allocator>(
     n: u64,
 ) -> Result<Changes, Refusal>
     requires { slot < 64 }
-    ensures decided { (id : ℕ) (k : Cpu) → result ≡ decides (layout_of layout.now) id (Some slot) (DonateGuest pfn gfn n) (with_guest (shared_of shared.now) (guest_of guest.now) k) }
+    ensures decided { IsDecidedByParts (layout_of layout.now) slot shared.now guest.now (DonateGuest pfn gfn n) result }
 {
     if !layout.is_good_range(Page(pfn), n) || !are_good_pages(layout, gfn, n) {
         return Err(Refusal::Invalid);
@@ -179,7 +179,7 @@ pub(crate) fn decide_guest_share_host<A: Allocator>(
     guest: &Guest<A>,
     gfn: u64,
 ) -> Result<Changes, Refusal>
-    ensures decided { (id slot : ℕ) (k : Cpu) → result ≡ decides (layout_of layout.now) id (Some slot) (GuestShareHost gfn) (with_guest (shared_of shared.now) (guest_of guest.now) k) }
+    ensures decided { (slot : ℕ) → IsDecidedByParts (layout_of layout.now) slot shared.now guest.now (GuestShareHost gfn) result }
 {
     if gfn >= layout.geometry.pages() {
         return Err(Refusal::Invalid);
@@ -207,7 +207,7 @@ pub(crate) fn decide_guest_unshare_host<A: Allocator>(
     gfn: u64,
 ) -> Result<Changes, Refusal>
     requires { slot < 64 }
-    ensures decided { (id : ℕ) (k : Cpu) → result ≡ decides (layout_of layout.now) id (Some slot) (GuestUnshareHost gfn) (with_guest (shared_of shared.now) (guest_of guest.now) k) }
+    ensures decided { IsDecidedByParts (layout_of layout.now) slot shared.now guest.now (GuestUnshareHost gfn) result }
 {
     if gfn >= layout.geometry.pages() {
         return Err(Refusal::Invalid);
@@ -245,7 +245,7 @@ pub(crate) fn decide_reclaim_page<A: Allocator>(
     vm: VmId,
     gfn: u64,
 ) -> Result<Changes, Refusal>
-    ensures decided { (id slot : ℕ) (k : Cpu) → result ≡ decides (layout_of layout.now) id (Some slot) (ReclaimPage vm gfn) (with_guest (shared_of shared.now) (guest_of guest.now) k) }
+    ensures decided { (slot : ℕ) → IsDecidedByParts (layout_of layout.now) slot shared.now guest.now (ReclaimPage vm gfn) result }
 {
     if vm.slot >= SLOTS || gfn >= layout.geometry.pages() {
         return Err(Refusal::Invalid);

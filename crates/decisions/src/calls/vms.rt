@@ -1,6 +1,7 @@
 //! The calls on the VM part: a slot is reserved, opened, closed and released, and vCPUs are loaded and put back.
-ghost use Rattle.std.specs.Prelude.{◌≡◌, ℕ, ◌||◌, true, false, None, Some, IfOk, MatchOption};
+ghost use Rattle.std.specs.Prelude.{◌≡◌, ℕ, ◌||◌, None, IfOk};
 ghost use Rattle.guest_steps.specs.View.{cpu_of};
+ghost use Rattle.decisions.specs.Decided.{IsTicketIf};
 ghost use Rattle.decisions.specs.Grows.{GrowsOnly};
 ghost use Rattle.page_state.specs.Layouts.{Layout as ReferenceLayout};
 ghost use Rattle.reference_model.specs.Decides.{decides};
@@ -25,7 +26,7 @@ pub(crate) const SLOTS: u64 = 64;
 
 /// The CPU's ticket, where it is of the stage.
 fn ticket_at(stage: Stage, cpu: &CpuState) -> Option<Ticket>
-    ensures { MatchOption result (has_stage stage (cpu_of cpu.now) ≡ false) (λ t. (has_stage stage (cpu_of cpu.now) ≡ true) × (cpu.now.ticket ≡ Some t)) }
+    ensures { IsTicketIf (has_stage stage (cpu_of cpu.now)) cpu.now result }
 {
     match cpu.ticket {
         Some(ticket) => {
@@ -41,7 +42,7 @@ fn ticket_at(stage: Stage, cpu: &CpuState) -> Option<Ticket>
 
 /// The CPU's ticket, where nothing of its VM is installed, or everything given back.
 fn ticket_at_end(cpu: &CpuState) -> Option<Ticket>
-    ensures { MatchOption result ((has_stage Stage.Booked (cpu_of cpu.now) || has_stage Stage.Finished (cpu_of cpu.now)) ≡ false) (λ t. ((has_stage Stage.Booked (cpu_of cpu.now) || has_stage Stage.Finished (cpu_of cpu.now)) ≡ true) × (cpu.now.ticket ≡ Some t)) }
+    ensures { IsTicketIf (has_stage Stage.Booked (cpu_of cpu.now) || has_stage Stage.Finished (cpu_of cpu.now)) cpu.now result }
 {
     match ticket_at(Stage::Booked, cpu) {
         Some(ticket) => Some(ticket),

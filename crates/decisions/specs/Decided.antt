@@ -1,0 +1,52 @@
+-- What a call on a guest is decided on.
+use Rattle.std.specs.Prelude.{◌≡◌, ℕ, true, false, Bool, not, ◌||◌, nat_lt, length, Option, Some, Result, MatchOption, if◌then◌else◌}
+use Rattle.guest_component.specs.declared.Guest.{Guest}
+use Rattle.guest_component.specs.View.{guest_of}
+use Rattle.guest_steps.specs.declared.parts.CpuState.{CpuState}
+use Rattle.guest_steps.specs.declared.parts.SharedPart.{SharedPart}
+use Rattle.guest_steps.specs.View.{cpu_of, shared_of}
+use Rattle.page_state.specs.EntryTests.{is_unmapped}
+use Rattle.page_state.specs.Geometries.{pages_below}
+use Rattle.page_state.specs.Layouts.{Layout}
+use Rattle.page_state.specs.Search.{all_below}
+use Rattle.reference_model.specs.declared.changes.Changes.{Changes}
+use Rattle.reference_model.specs.declared.changes.Ticket.{Ticket}
+use Rattle.reference_model.specs.Decides.{decides}
+use Rattle.reference_model.specs.State.{Cpu, Guest as ReferenceGuest, Shared}
+use Rattle.reference_model.specs.Used.{Used, guest_alone, with_guest}
+use Rattle.step_reply.specs.declared.reply.Refusal.{Refusal}
+use Rattle.step_reply.specs.declared.reply.Refusal.TheVariants.{Invalid, NoVm}
+use Rattle.step_reply.specs.declared.step.Step.{Step}
+
+module _ {A : Type 0} where
+  -- what a call on the Shared part and a guest uses
+  abbrev pub used_with : SharedPart A → Guest A → CpuState → Used
+  used_with s g k = with_guest (shared_of s) (guest_of g) (cpu_of k)
+
+  -- the result is what a call on the Shared part and the guest of a slot decides, whichever CPU makes it
+  abbrev pub IsDecidedByParts : Layout → ℕ → SharedPart A → Guest A → Step → Result Changes Refusal → Type 0
+  IsDecidedByParts l slot s g step r = (id : ℕ) (k : Cpu) → r ≡ decides l id (Some slot) step (with_guest (shared_of s) (guest_of g) k)
+
+  -- it is that of a call on a guest alone, whichever CPU makes it, and whichever slot the guest is of
+  abbrev pub IsDecidedByGuest : Layout → Guest A → Step → Result Changes Refusal → Type 0
+  IsDecidedByGuest l g step r = (id slot : ℕ) (k : Cpu) → r ≡ decides l id (Some slot) step (guest_alone (guest_of g) k)
+
+  -- it is that of a call that looks at a guest and at what its CPU holds, whatever the Shared part is
+  abbrev pub IsDecidedByHolder : Layout → Guest A → CpuState → Step → Result Changes Refusal → Type 0
+  IsDecidedByHolder l g k step r = (id slot : ℕ) (s : Shared) → r ≡ decides l id (Some slot) step (with_guest s (guest_of g) (cpu_of k))
+
+-- it is that of a call that looks at what its CPU holds, whatever the parts are
+abbrev pub IsDecidedByCpu : CpuState → Step → Result Changes Refusal → Type 0
+IsDecidedByCpu k step r = (l : Layout) (id slot : ℕ) (s : Shared) (g : ReferenceGuest) → r ≡ decides l id (Some slot) step (with_guest s g (cpu_of k))
+
+-- why a call on a guest that there is none of is refused, by the test of its arguments
+abbrev pub unloaded_why : Bool → Refusal
+unloaded_why invalid = if invalid then Invalid else NoVm
+
+-- the ticket that the CPU has, where it passes a test; none where it doesn't
+abbrev pub IsTicketIf : Bool → CpuState → Option Ticket → Type 0
+IsTicketIf passes k r = MatchOption r (passes ≡ false) (λ t. (passes ≡ true) × (k.ticket ≡ Some t))
+
+-- a guest maps a page, or its pool has a frame
+abbrev pub has_left : ℕ → ReferenceGuest → Bool
+has_left depth g = not (all_below (pages_below depth) (λ p. is_unmapped (g.tree.map p))) || nat_lt 0 (length g.free)
