@@ -1,5 +1,5 @@
 -- How many blocks a range meets.
-use Rattle.std.proofs.Common.{◌≡◌, ◌∙◌, ◌≢◌, ℕ, zero, suc, ◌+◌, ◌*◌, ◌/◌, ◌%◌, ◌<◌, ◌≤◌, refl, ap, sym, arith, List, [], ◌∷◌, ◌++◌, length, length-append}
+use Rattle.std.proofs.Common.{◌≡◌, ◌∙◌, ◌≢◌, ℕ, zero, suc, ◌+◌, ◌*◌, ◌/◌, ◌%◌, ◌<◌, ◌≤◌, refl, ap, sym, arith, List, [], ◌∷◌, length, length-append}
 use Rattle.std.specs.Prelude.{Bool, true, false, ◌==◌, filter, if◌then◌else◌}
 use Rattle.page_state.specs.Blocks.{block_at, blocks_along, blocks_from, blocks_on, blocks_with, first_page}
 use Rattle.page_state.specs.Geometries.{block_pages}

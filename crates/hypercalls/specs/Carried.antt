@@ -1,20 +1,22 @@
 -- How changes are carried out on parts.
-use Rattle.std.specs.Prelude.{◌≡◌, ◌≤◌, ℕ, Bool, true, false, ◌&&◌, ◌||◌, nat_lt, length, Option, None, Result, Ok, Err}
+use Rattle.std.specs.Prelude.{◌≡◌, ◌<◌, ℕ, Bool, true, false, ◌&&◌, ◌||◌, nat_lt, length, Option, None, Result, Ok, Err, OnErr, OnOk}
 use Rattle.page_state.specs.Layouts.{Layout, is_memory}
-use Rattle.component.specs.View.{HasRoomFor, need_for}
-use Rattle.table_tree.specs.View.{spares_of}
 use Rattle.hyp_pool.specs.declared.PoolFault.{PoolFault}
 use Rattle.hyp_pool.specs.declared.PoolFault.TheVariants.{NoPool, NoMemory}
 use Rattle.step_reply.specs.declared.reply.Refusal.TheVariants.{NoMemory as NoMemoryReply, NoPool as NoPoolReply}
 use Rattle.step_reply.specs.declared.reply.Reply.{Reply}
 use Rattle.step_reply.specs.declared.reply.Reply.TheVariants.{Done, Refused}
+use Rattle.guest_steps.specs.declared.parts.GuestPart.{GuestPart}
 use Rattle.guest_steps.specs.declared.parts.SharedPart.{SharedPart}
+use Rattle.guest_steps.specs.Lent.{GuestSuits, SharedSuits}
+use Rattle.guest_steps.specs.View.{guest_held, shared_of}
+use Rattle.reference_model.specs.ChangeLaws.{AllFit, PartsFit, TouchedFits}
 use Rattle.reference_model.specs.declared.changes.Changes.{Changes}
 use Rattle.reference_model.specs.declared.changes.GuestChange.TheVariants.{Keep as KeepGuest}
 use Rattle.reference_model.specs.Changes.{touched, cpu_by}
 use Rattle.reference_model.specs.RowChanges.{first_of, told_row}
 use Rattle.reference_model.specs.State.{Shared, Guest, Cpu}
-use Rattle.reference_model.specs.Step.{is_touched, shared_need, guest_need}
+use Rattle.reference_model.specs.Step.{is_touched, guest_after, guest_need, shared_after, shared_need}
 
 -- nothing changes of the guest
 pub record LeavesGuest (h : Changes) : Type 0 where
@@ -40,3 +42,40 @@ is_either_short depth h x g = nat_lt (length x.free) (shared_need depth h x) || 
 -- the Shared part with the told rows at the touched range, where that is memory
 abbrev pub rows_told : Layout → ℕ → Option ℕ → Changes → Shared → Shared
 rows_told l cpu slot h x = record x { row = λ f. elim (is_memory l (first_of (touched h)) && is_touched h f) [ true ↦ told_row cpu slot h f | false ↦ x.row f ] }
+
+module _ {A : Type 0} (l : Layout) (h : Changes) where
+  -- the changes can be made of the Shared part by a call of the CPU on the slot: they fit, and so do the frames that they touch
+  pub record CanChangeShared (id : ℕ) (slot : Option ℕ) (s : SharedPart A) : Type 0 where
+    pub fit : AllFit l.depth h
+    pub touched : TouchedFits l id slot h
+    pub suits : SharedSuits l s
+
+  -- they can be made of the Guest part
+  pub record CanChangeGuest (p : GuestPart A) : Type 0 where
+    pub fit : AllFit l.depth h
+    pub parts : PartsFit l h (guest_held p)
+    pub suits : GuestSuits l p
+
+  -- the Shared part after they were asked for, `s` before: made, with the rows that they tell, or none of them
+  pub record IsSharedChanged (id : ℕ) (slot : Option ℕ) (r : Result (Unit {0}) PoolFault) (s t : SharedPart A) : Type 0 where
+    pub made : OnOk r (shared_of t ≡ rows_told l id slot h (shared_after l.depth h (shared_of s)))
+    pub err : OnErr r (shared_of t ≡ shared_of s)
+    pub suits : SharedSuits l t
+    pub log : t.log ≡ s.log
+
+  -- the Guest part after they were asked for, `p` before: made, or none of them
+  pub record IsGuestChanged (r : Result (Unit {0}) PoolFault) (p q : GuestPart A) : Type 0 where
+    pub made : OnOk r (guest_held q ≡ guest_after l.depth h (guest_held p))
+    pub err : OnErr r (guest_held q ≡ guest_held p)
+    pub suits : GuestSuits l q
+    pub log : q.log ≡ p.log
+
+  -- a part's pool has fewer free frames than they need tables
+  abbrev pub IsSharedShort : SharedPart A → Type 0
+  IsSharedShort s = length (shared_of s).free < shared_need l.depth h (shared_of s)
+
+  abbrev pub IsGuestShort : GuestPart A → Type 0
+  IsGuestShort p = length (guest_held p).free < guest_need l.depth h (guest_held p)
+
+  abbrev pub IsEitherShort : SharedPart A → GuestPart A → Type 0
+  IsEitherShort s p = is_either_short l.depth h (shared_of s) (guest_held p) ≡ true

@@ -1,13 +1,12 @@
 //! Changes of parts are carried out, for all calls in one place.
-ghost use Rattle.std.specs.Prelude.{◌≡◌, ◌<◌, ◌^◌, ◌↔◌, true, length, Err, OnOk, OnErr, Some, unwrap_or};
+ghost use Rattle.std.specs.Prelude.{◌≡◌, ◌<◌, ◌^◌, ◌↔◌, Err, Some, unwrap_or};
 ghost use Rattle.guest_component.specs.Wants.{WantsNoMemory};
-ghost use Rattle.guest_steps.specs.Lent.{GuestSuits, SharedSuits};
-ghost use Rattle.guest_steps.specs.View.{cpu_of, guest_held, shared_of};
-ghost use Rattle.hypercalls.specs.Carried.{Ends, is_either_short, rows_told};
+ghost use Rattle.guest_steps.specs.Lent.{SharedSuits};
+ghost use Rattle.guest_steps.specs.View.{cpu_of, shared_of};
+ghost use Rattle.hypercalls.specs.Carried.{CanChangeGuest, CanChangeShared, Ends, IsEitherShort, IsGuestChanged, IsGuestShort, IsSharedChanged, IsSharedShort, rows_told};
 ghost use Rattle.guest_steps.specs.Roomy.{IsRoomy};
 ghost use Rattle.page_state.specs.LayoutView.{layout_of};
-ghost use Rattle.reference_model.specs.ChangeLaws.{AllFit, PartsFit, TouchedFits};
-ghost use Rattle.reference_model.specs.Step.{guest_after, guest_need, shared_after, shared_need};
+ghost use Rattle.reference_model.specs.ChangeLaws.{TouchedFits};
 
 use crate::rows::{first_row, touched};
 use guest_steps::{CpuState, GuestPart, SharedPart};
@@ -49,15 +48,10 @@ pub(crate) fn change_shared<A: Allocator + Copy>(
     shared: &mut SharedPart<A>,
 ) -> Result<(), PoolFault>
     requires slot { unwrap_or slot 0 < 2 ^ 32 }
-    requires fit { AllFit (layout_of layout.now).depth changes.now }
-    requires touched { TouchedFits (layout_of layout.now) id slot changes.now }
-    requires suits { SharedSuits (layout_of layout.now) shared.old }
-    ensures made { OnOk result (shared_of shared.new ≡ rows_told (layout_of layout.now) id slot changes.now (shared_after (layout_of layout.now).depth changes.now (shared_of shared.old))) }
-    ensures no_pool { (result ≡ Err PoolFault.NoPool) ↔ (length (shared_of shared.old).free < shared_need (layout_of layout.now).depth changes.now (shared_of shared.old)) }
+    requires can { CanChangeShared (layout_of layout.now) changes.now id slot shared.old }
+    ensures shared { IsSharedChanged (layout_of layout.now) changes.now id slot result shared.old shared.new }
+    ensures no_pool { (result ≡ Err PoolFault.NoPool) ↔ IsSharedShort (layout_of layout.now) changes.now shared.old }
     ensures no_memory { result ≡ Err PoolFault.NoMemory → IsRoomy changes.now shared.old → ⊥ }
-    ensures err { OnErr result (shared_of shared.new ≡ shared_of shared.old) }
-    ensures suits { SharedSuits (layout_of layout.now) shared.new }
-    ensures log { shared.new.log ≡ shared.old.log }
 {
     shared.change(alloc, changes)?;
     write_rows(layout, id, slot, changes, shared);
@@ -71,15 +65,10 @@ pub(crate) fn change_guest<A: Allocator + Copy>(
     changes: &Changes,
     part: &mut GuestPart<A>,
 ) -> Result<(), PoolFault>
-    requires fit { AllFit (layout_of layout.now).depth changes.now }
-    requires suits { GuestSuits (layout_of layout.now) part.old }
-    requires parts { PartsFit (layout_of layout.now) changes.now (guest_held part.old) }
-    ensures made { OnOk result (guest_held part.new ≡ guest_after (layout_of layout.now).depth changes.now (guest_held part.old)) }
-    ensures no_pool { (result ≡ Err PoolFault.NoPool) ↔ (length (guest_held part.old).free < guest_need (layout_of layout.now).depth changes.now (guest_held part.old)) }
+    requires { CanChangeGuest (layout_of layout.now) changes.now part.old }
+    ensures guest { IsGuestChanged (layout_of layout.now) changes.now result part.old part.new }
+    ensures no_pool { (result ≡ Err PoolFault.NoPool) ↔ IsGuestShort (layout_of layout.now) changes.now part.old }
     ensures no_memory { result ≡ Err PoolFault.NoMemory → WantsNoMemory changes.now part.old.guest → ⊥ }
-    ensures err { OnErr result (guest_held part.new ≡ guest_held part.old) }
-    ensures suits { GuestSuits (layout_of layout.now) part.new }
-    ensures log { part.new.log ≡ part.old.log }
 {
     part.guest.change(alloc, changes)
 }
@@ -96,21 +85,12 @@ pub(crate) fn change_both<A: Allocator + Copy>(
     part: &mut GuestPart<A>,
 ) -> Result<(), PoolFault>
     requires slot { slot < 64 }
-    requires fit { AllFit (layout_of layout.now).depth changes.now }
-    requires touched { TouchedFits (layout_of layout.now) id (Some slot) changes.now }
-    requires suits { SharedSuits (layout_of layout.now) shared.old }
-    requires guest_suits { GuestSuits (layout_of layout.now) part.old }
-    requires parts { PartsFit (layout_of layout.now) changes.now (guest_held part.old) }
-    ensures made { OnOk result (shared_of shared.new ≡ rows_told (layout_of layout.now) id (Some slot) changes.now (shared_after (layout_of layout.now).depth changes.now (shared_of shared.old))) }
-    ensures made_guest { OnOk result (guest_held part.new ≡ guest_after (layout_of layout.now).depth changes.now (guest_held part.old)) }
-    ensures no_pool { (result ≡ Err PoolFault.NoPool) ↔ (is_either_short (layout_of layout.now).depth changes.now (shared_of shared.old) (guest_held part.old) ≡ true) }
+    requires can { CanChangeShared (layout_of layout.now) changes.now id (Some slot) shared.old }
+    requires can_guest { CanChangeGuest (layout_of layout.now) changes.now part.old }
+    ensures shared { IsSharedChanged (layout_of layout.now) changes.now id (Some slot) result shared.old shared.new }
+    ensures guest { IsGuestChanged (layout_of layout.now) changes.now result part.old part.new }
+    ensures no_pool { (result ≡ Err PoolFault.NoPool) ↔ IsEitherShort (layout_of layout.now) changes.now shared.old part.old }
     ensures no_memory { result ≡ Err PoolFault.NoMemory → IsRoomy changes.now shared.old → WantsNoMemory changes.now part.old.guest → ⊥ }
-    ensures err { OnErr result (shared_of shared.new ≡ shared_of shared.old) }
-    ensures err_guest { OnErr result (guest_held part.new ≡ guest_held part.old) }
-    ensures suits { SharedSuits (layout_of layout.now) shared.new }
-    ensures guest_suits { GuestSuits (layout_of layout.now) part.new }
-    ensures log { shared.new.log ≡ shared.old.log }
-    ensures guest_log { part.new.log ≡ part.old.log }
 {
     let need = shared.need(changes);
     if shared.is_short(need) {

@@ -1,6 +1,6 @@
 //! The step by its kind of use: it tests the logs, decides, carries out and stores.
 ghost use Rattle.std.specs.Prelude.{◌≡◌, ◌<◌, None, Some};
-ghost use Rattle.guest_steps.specs.Lent.{GuestSuits, SharedSuits, lent_alone, lent_both, lent_guest, lent_shared, lent_vms};
+ghost use Rattle.guest_steps.specs.Lent.{GuestSuits, SharedSuits, Suits, lent_alone, lent_both, lent_guest, lent_shared, lent_vms, used_in};
 ghost use Rattle.guest_steps.specs.Logs.{IsOfSize};
 ghost use Rattle.guest_steps.specs.View.{cpu_of, guest_held, shared_of, vm_slots};
 ghost use Rattle.hypercalls.specs.Steps.{IsStepOn, reply_in};
@@ -8,7 +8,7 @@ ghost use Rattle.hypercalls.specs.Uses.{uses_of};
 ghost use Rattle.page_state.specs.LayoutView.{layout_of};
 ghost use Rattle.reference_model.specs.Rules.{names};
 ghost use Rattle.reference_model.specs.Reached.{IsReached};
-ghost use Rattle.reference_model.specs.Used.{guest_alone, used_alone, vms_alone, with_guest};
+ghost use Rattle.reference_model.specs.Used.{guest_alone, used_alone, vms_alone};
 
 use crate::carry::{change_both, change_guest, change_shared, ended};
 use crate::used_parts::UsedParts;
@@ -187,14 +187,10 @@ pub fn step_on_both<A: Allocator + Copy>(
 ) -> Option<Call>
     requires known { cpu.old.id < layout.now.config.cpus }
     requires uses { uses_of (cpu_of cpu.old) step ≡ UsedParts.Both slot }
-    requires suits { SharedSuits (layout_of layout.now) shared.old }
-    requires guest_suits { GuestSuits (layout_of layout.now) part.old }
-    requires own { IsOfSize layout.now.config.log cpu.old.log }
-    requires reached { ∥ IsReached (layout_of layout.now) (names step) (Some slot) cpu.old.id (with_guest (shared_of shared.old) (guest_held part.old) (cpu_of cpu.old)) ∥₁ }
+    requires suits { Suits (layout_of layout.now) (lent_both shared.old part.old cpu.old) }
+    requires reached { ∥ IsReached (layout_of layout.now) (names step) (Some slot) cpu.old.id (used_in (lent_both shared.old part.old cpu.old)) ∥₁ }
     ensures step { IsStepOn (layout_of layout.now) step (lent_both shared.old part.old cpu.old) result (lent_both shared.new part.new cpu.new) }
-    ensures suits { SharedSuits (layout_of layout.now) shared.new }
-    ensures guest_suits { GuestSuits (layout_of layout.now) part.new }
-    ensures own { IsOfSize layout.now.config.log cpu.new.log }
+    ensures suits { Suits (layout_of layout.now) (lent_both shared.new part.new cpu.new) }
 {
     laws::change_laws();
     laws::relies();

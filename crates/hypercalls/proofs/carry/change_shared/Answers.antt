@@ -1,5 +1,5 @@
 use Rattle.std.proofs.Common.{rules}
 use Rattle.hypercalls.proofs.carry.change_shared.Goals as goal
 
-pub returns-clause-made : goal.returns-clause-made
-returns-clause-made g c = search rules
+pub returns-clause-shared : goal.returns-clause-shared
+returns-clause-shared g c = record { made = search rules; err = tt; suits = search rules; log = search rules }

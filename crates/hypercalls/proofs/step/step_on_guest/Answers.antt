@@ -24,11 +24,11 @@ returns-then-is_full-clause-step g c =
 pub decide_guest-requires : goal.decide_guest-requires
 decide_guest-requires g c = let is = guest (cpu_of c.args.cpu.now) c.args.step c.args.slot c.requires.uses in record { names = named_alone (cpu_of c.args.cpu.now) c.args.slot c.args.step is.slot is.shared }
 
-pub change_guest-made-requires-clause-fit : goal.change_guest-made-requires-clause-fit
-change_guest-made-requires-clause-fit g c = (c.relies.ensures.relies (layout_of c.args.layout.now) c.args.cpu.now.id _ c.args.step _ c.requires.known (sym (guest (cpu_of c.args.cpu.now) c.args.step c.args.slot c.requires.uses).slot) c.requires.reached).fit c.in-Ok.changes (sym (c.in-Ok.ensures.decided c.args.cpu.now.id c.args.slot))
-
-pub change_guest-made-requires-clause-parts : goal.change_guest-made-requires-clause-parts
-change_guest-made-requires-clause-parts g c = (c.relies.ensures.relies (layout_of c.args.layout.now) c.args.cpu.now.id _ c.args.step _ c.requires.known (sym (guest (cpu_of c.args.cpu.now) c.args.step c.args.slot c.requires.uses).slot) c.requires.reached).parts c.in-Ok.changes (sym (c.in-Ok.ensures.decided c.args.cpu.now.id c.args.slot))
+pub change_guest-made-requires : goal.change_guest-made-requires
+change_guest-made-requires g c =
+    let rely = c.relies.ensures.relies (layout_of c.args.layout.now) c.args.cpu.now.id _ c.args.step _ c.requires.known (sym (guest (cpu_of c.args.cpu.now) c.args.step c.args.slot c.requires.uses).slot) c.requires.reached in
+    let lets = sym (c.in-Ok.ensures.decided c.args.cpu.now.id c.args.slot) in
+    record { fit = rely.fit c.in-Ok.changes lets; parts = rely.parts c.in-Ok.changes lets; suits = c.requires.suits }
 
 pub returns-clause-step : goal.returns-clause-step
 returns-clause-step g c =
@@ -45,9 +45,9 @@ returns-clause-step g c =
           let lets = sym (w.in-Ok.ensures.decided c.args.cpu.now.id c.args.slot) in
           let only = c.change_laws.ensures.used l c.args.cpu.now.id (Some c.args.slot) c.args.step (used_in x) h lets in
           done_step l c.args.step x (Some c.args.slot) is refl c.requires.own c.answers.ensures.steps room c.len.result c.len.ensures.value c.match-decide_guest.reply _
-          (same_logs _ _ _ _ _ _ _ _ refl refl (ap Some (eq_with _ p.log c.match-decide_guest.part.log c.store.new.self (ap (λ p. p.log) w.part-is ∙ w.change_guest-made.ensures.log) c.store.ensures.calls c.store.ensures.room)) (eq_with _ k.log c.match-decide_guest.cpu.log c.store-2.new.self (ap (λ p. p.log) w.cpu-is ∙ w.ended-reply.ensures.log) c.store-2.ensures.calls c.store-2.ensures.room))
+          (same_logs _ _ _ _ _ _ _ _ refl refl (ap Some (eq_with _ p.log c.match-decide_guest.part.log c.store.new.self (ap (λ p. p.log) w.part-is ∙ w.change_guest-made.ensures.guest.log) c.store.ensures.calls c.store.ensures.room)) (eq_with _ k.log c.match-decide_guest.cpu.log c.store-2.new.self (ap (λ p. p.log) w.cpu-is ∙ w.ended-reply.ensures.log) c.store-2.ensures.calls c.store-2.ensures.room))
           (ap (λ (j : CpuState). j.id) w.cpu-is ∙ w.ended-reply.ensures.id) c.relies.ensures.answers rely h lets w.in-Ok.ensures.grows w.change_guest-made.result
-          (comes_guest l c.args.cpu.now.id (Some c.args.slot) h p _ k _ w.change_guest-made.result (only.vms is.vms) (leaves_shared (names c.args.step) (Some c.args.slot) h only is.shared) (ok_at w.change_guest-made.result guest_held _ w.part-is w.change_guest-made.ensures.made) (err_at w.change_guest-made.result guest_held _ w.part-is w.change_guest-made.ensures.err) w.change_guest-made.ensures.no_pool w.change_guest-made.ensures.no_memory)
+          (comes_guest l c.args.cpu.now.id (Some c.args.slot) h p _ k _ w.change_guest-made.result (only.vms is.vms) (leaves_shared (names c.args.step) (Some c.args.slot) h only is.shared) (ok_at w.change_guest-made.result guest_held _ w.part-is w.change_guest-made.ensures.guest.made) (err_at w.change_guest-made.result guest_held _ w.part-is w.change_guest-made.ensures.guest.err) w.change_guest-made.ensures.no_pool w.change_guest-made.ensures.no_memory)
           (ends_at w.change_guest-made.result h (cpu_of k) w.reply-is w.cpu-is w.ended-reply.ensures.ends)
       | in-Err w ↦ barred_step l c.args.step x (Some c.args.slot) is refl c.requires.own c.answers.ensures.steps room c.len.result c.len.ensures.value c.match-decide_guest.reply _
           (same_logs _ _ _ _ _ _ _ _ refl refl (ap Some (eq_with _ p.log c.match-decide_guest.part.log c.store.new.self (ap (λ p. p.log) w.part-is) c.store.ensures.calls c.store.ensures.room)) (eq_with _ k.log c.match-decide_guest.cpu.log c.store-2.new.self (ap (λ p. p.log) w.cpu-is) c.store-2.ensures.calls c.store-2.ensures.room))

@@ -26,11 +26,10 @@ decide_shared-requires-clause-names g c = (shared (cpu_of c.args.cpu.now) c.args
 pub decide_shared-requires-clause-rely : goal.decide_shared-requires-clause-rely
 decide_shared-requires-clause-rely g c = c.relies.ensures.relies (layout_of c.args.layout.now) c.args.cpu.now.id _ c.args.step _ c.requires.known (sym (shared (cpu_of c.args.cpu.now) c.args.step c.requires.uses).slot) c.requires.reached
 
-pub change_shared-made-requires-clause-fit : goal.change_shared-made-requires-clause-fit
-change_shared-made-requires-clause-fit g c = (c.relies.ensures.relies (layout_of c.args.layout.now) c.args.cpu.now.id _ c.args.step _ c.requires.known (sym (shared (cpu_of c.args.cpu.now) c.args.step c.requires.uses).slot) c.requires.reached).fit c.in-Ok.changes (sym c.in-Ok.ensures.decided)
-
-pub change_shared-made-requires-clause-touched : goal.change_shared-made-requires-clause-touched
-change_shared-made-requires-clause-touched g c = (c.relies.ensures.relies (layout_of c.args.layout.now) c.args.cpu.now.id _ c.args.step _ c.requires.known (sym (shared (cpu_of c.args.cpu.now) c.args.step c.requires.uses).slot) c.requires.reached).touched c.in-Ok.changes (sym c.in-Ok.ensures.decided)
+pub change_shared-made-requires-clause-can : goal.change_shared-made-requires-clause-can
+change_shared-made-requires-clause-can g c =
+    let rely = c.relies.ensures.relies (layout_of c.args.layout.now) c.args.cpu.now.id _ c.args.step _ c.requires.known (sym (shared (cpu_of c.args.cpu.now) c.args.step c.requires.uses).slot) c.requires.reached in
+    record { fit = rely.fit c.in-Ok.changes (sym c.in-Ok.ensures.decided); touched = rely.touched c.in-Ok.changes (sym c.in-Ok.ensures.decided); suits = c.requires.suits }
 
 pub returns-clause-step : goal.returns-clause-step
 returns-clause-step g c =
@@ -47,9 +46,9 @@ returns-clause-step g c =
           let lets = sym w.in-Ok.ensures.decided in
           let only = c.change_laws.ensures.used l c.args.cpu.now.id None c.args.step (used_in x) h lets in
           done_step l c.args.step x None is refl c.requires.own c.answers.ensures.steps room c.len.result c.len.ensures.value c.match-decide_shared.reply _
-          (same_logs _ _ _ _ _ _ _ _ refl (ap Some (eq_with _ s.log c.match-decide_shared.shared.log c.store.new.self (ap (λ p. p.log) w.shared-is ∙ w.change_shared-made.ensures.log) c.store.ensures.calls c.store.ensures.room)) refl (eq_with _ k.log c.match-decide_shared.cpu.log c.store-2.new.self (ap (λ p. p.log) w.cpu-is ∙ w.ended-reply.ensures.log) c.store-2.ensures.calls c.store-2.ensures.room))
+          (same_logs _ _ _ _ _ _ _ _ refl (ap Some (eq_with _ s.log c.match-decide_shared.shared.log c.store.new.self (ap (λ p. p.log) w.shared-is ∙ w.change_shared-made.ensures.shared.log) c.store.ensures.calls c.store.ensures.room)) refl (eq_with _ k.log c.match-decide_shared.cpu.log c.store-2.new.self (ap (λ p. p.log) w.cpu-is ∙ w.ended-reply.ensures.log) c.store-2.ensures.calls c.store-2.ensures.room))
           (ap (λ (j : CpuState). j.id) w.cpu-is ∙ w.ended-reply.ensures.id) c.relies.ensures.answers rely h lets w.in-Ok.ensures.grows w.change_shared-made.result
-          (comes_shared l c.args.cpu.now.id None h s _ k _ w.change_shared-made.result (only.vms is.vms) (leaves_guest (names c.args.step) None h only refl) (ok_at w.change_shared-made.result shared_of _ w.shared-is w.change_shared-made.ensures.made) (err_at w.change_shared-made.result shared_of _ w.shared-is w.change_shared-made.ensures.err) w.change_shared-made.ensures.no_pool w.change_shared-made.ensures.no_memory)
+          (comes_shared l c.args.cpu.now.id None h s _ k _ w.change_shared-made.result (only.vms is.vms) (leaves_guest (names c.args.step) None h only refl) (ok_at w.change_shared-made.result shared_of _ w.shared-is w.change_shared-made.ensures.shared.made) (err_at w.change_shared-made.result shared_of _ w.shared-is w.change_shared-made.ensures.shared.err) w.change_shared-made.ensures.no_pool w.change_shared-made.ensures.no_memory)
           (ends_at w.change_shared-made.result h (cpu_of k) w.reply-is w.cpu-is w.ended-reply.ensures.ends)
       | in-Err w ↦ barred_step l c.args.step x None is refl c.requires.own c.answers.ensures.steps room c.len.result c.len.ensures.value c.match-decide_shared.reply _
           (same_logs _ _ _ _ _ _ _ _ refl (ap Some (eq_with _ s.log c.match-decide_shared.shared.log c.store.new.self (ap (λ p. p.log) w.shared-is) c.store.ensures.calls c.store.ensures.room)) refl (eq_with _ k.log c.match-decide_shared.cpu.log c.store-2.new.self (ap (λ p. p.log) w.cpu-is) c.store-2.ensures.calls c.store-2.ensures.room))

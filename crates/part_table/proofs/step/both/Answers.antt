@@ -21,13 +21,7 @@ pub unreachable-requires-in_default-guest : goal.unreachable-requires-in_default
 unreachable-requires-in_default-guest g c = is_guest (layout_of c.args.layout.now) c.args.cpu.now.id c.args.cpu.now c.args.v c.args.shared c.args.guest c.requires.left c.in_default-guest.not-Guest
 
 pub step_on_both-requires-clause-suits : goal.step_on_both-requires-clause-suits
-step_on_both-requires-clause-suits g c = (asks_suits (both_as (layout_of c.args.layout.now) c.args.step c.args.cpu.now c.args.v c.in-Shared.s c.in-Guest.g (both_used (uses_of (cpu_of c.args.cpu.now) c.args.step) c.args.v c.requires.uses) (subst (λ (z : Slot g.row.A.Denot × Slot g.row.A.Denot). ∥ IsLeft (layout_of c.args.layout.now) c.args.cpu.now.id c.args.cpu.now (both_at (c.args.v + 2) z.1 1 z.0) ∥₁) (λ i. (c.in-Shared.is i, c.in-Guest.is i)) c.requires.left))).shared
-
-pub step_on_both-requires-clause-guest_suits : goal.step_on_both-requires-clause-guest_suits
-step_on_both-requires-clause-guest_suits g c = (asks_suits (both_as (layout_of c.args.layout.now) c.args.step c.args.cpu.now c.args.v c.in-Shared.s c.in-Guest.g (both_used (uses_of (cpu_of c.args.cpu.now) c.args.step) c.args.v c.requires.uses) (subst (λ (z : Slot g.row.A.Denot × Slot g.row.A.Denot). ∥ IsLeft (layout_of c.args.layout.now) c.args.cpu.now.id c.args.cpu.now (both_at (c.args.v + 2) z.1 1 z.0) ∥₁) (λ i. (c.in-Shared.is i, c.in-Guest.is i)) c.requires.left))).guest
-
-pub step_on_both-requires-clause-own : goal.step_on_both-requires-clause-own
-step_on_both-requires-clause-own g c = (asks_suits (both_as (layout_of c.args.layout.now) c.args.step c.args.cpu.now c.args.v c.in-Shared.s c.in-Guest.g (both_used (uses_of (cpu_of c.args.cpu.now) c.args.step) c.args.v c.requires.uses) (subst (λ (z : Slot g.row.A.Denot × Slot g.row.A.Denot). ∥ IsLeft (layout_of c.args.layout.now) c.args.cpu.now.id c.args.cpu.now (both_at (c.args.v + 2) z.1 1 z.0) ∥₁) (λ i. (c.in-Shared.is i, c.in-Guest.is i)) c.requires.left))).cpu
+step_on_both-requires-clause-suits g c = asks_suits (both_as (layout_of c.args.layout.now) c.args.step c.args.cpu.now c.args.v c.in-Shared.s c.in-Guest.g (both_used (uses_of (cpu_of c.args.cpu.now) c.args.step) c.args.v c.requires.uses) (subst (λ (z : Slot g.row.A.Denot × Slot g.row.A.Denot). ∥ IsLeft (layout_of c.args.layout.now) c.args.cpu.now.id c.args.cpu.now (both_at (c.args.v + 2) z.1 1 z.0) ∥₁) (λ i. (c.in-Shared.is i, c.in-Guest.is i)) c.requires.left))
 
 pub step_on_both-requires-clause-uses : goal.step_on_both-requires-clause-uses
 step_on_both-requires-clause-uses g c = (both_used (uses_of (cpu_of c.args.cpu.now) c.args.step) c.args.v c.requires.uses)
@@ -49,4 +43,4 @@ returns-clause-does g c =
     subst (λ (z : Slot g.row.A.Denot × Slot g.row.A.Denot). Does (layout_of c.args.layout.now) c.unwrap-call.result (both_at (c.args.v + 2) z.1 1 z.0) c.args.cpu.now (both_at (c.args.v + 2) (GuestSlot c.step_on_both.new.part) 1 (SharedSlot c.step_on_both.new.shared)) c.step_on_both.new.cpu) (λ i. (sym c.in-Shared.is i, sym c.in-Guest.is i))
     (gives (both_as (layout_of c.args.layout.now) c.args.step c.args.cpu.now c.args.v c.in-Shared.s c.in-Guest.g (both_used (uses_of (cpu_of c.args.cpu.now) c.args.step) c.args.v c.requires.uses) (subst (λ (z : Slot g.row.A.Denot × Slot g.row.A.Denot). ∥ IsLeft (layout_of c.args.layout.now) c.args.cpu.now.id c.args.cpu.now (both_at (c.args.v + 2) z.1 1 z.0) ∥₁) (λ i. (c.in-Shared.is i, c.in-Guest.is i)) c.requires.left)) c.step_on_both.result (lent_both c.step_on_both.new.shared c.step_on_both.new.part c.step_on_both.new.cpu)
     (none_full (logs_in (lent_both c.in-Shared.s c.in-Guest.g c.args.cpu.now)) (not_full c.args.cpu.now.log.room c.requires.own_room) refl (not_full c.in-Shared.s.log.room (subst (λ (x : Slot g.row.A.Denot). (log_of x).room ≢ 0) c.in-Shared.is c.requires.shared_room)) (not_full c.in-Guest.g.log.room (subst (λ (x : Slot g.row.A.Denot). (log_of x).room ≢ 0) c.in-Guest.is c.requires.guest_room))) c.step_on_both.ensures.step
-    c.unwrap-call.result c.unwrap-call.ensures (both_at (c.args.v + 2) (GuestSlot c.step_on_both.new.part) 1 (SharedSlot c.step_on_both.new.shared)) (record { vms = tt; shared = c.step_on_both.ensures.suits; guest = c.step_on_both.ensures.guest_suits; cpu = c.step_on_both.ensures.own }) (both_is (guest_slot (cpu_of c.args.cpu.now) c.args.step) c.step_on_both.new.cpu c.args.v c.step_on_both.new.shared c.step_on_both.new.part (both (cpu_of c.args.cpu.now) c.args.step c.args.v (both_used (uses_of (cpu_of c.args.cpu.now) c.args.step) c.args.v c.requires.uses)).slot))
+    c.unwrap-call.result c.unwrap-call.ensures (both_at (c.args.v + 2) (GuestSlot c.step_on_both.new.part) 1 (SharedSlot c.step_on_both.new.shared)) c.step_on_both.ensures.suits (both_is (guest_slot (cpu_of c.args.cpu.now) c.args.step) c.step_on_both.new.cpu c.args.v c.step_on_both.new.shared c.step_on_both.new.part (both (cpu_of c.args.cpu.now) c.args.step c.args.v (both_used (uses_of (cpu_of c.args.cpu.now) c.args.step) c.args.v c.requires.uses)).slot))

@@ -108,12 +108,7 @@ returns-in-Some-guest-clause-suits g c =
 pub step_on_both-requires-clause-suits : goal.step_on_both-requires-clause-suits
 step_on_both-requires-clause-suits g c =
     let uses = sym c.uses.ensures ∙ c.in-Both.is in
-    (subst (λ (z : Lent g.row.A.Denot). Suits (layout_of c.args.layout.now) z) (both_given c.args.vms c.args.shared c.args.guest c.args.cpu.now c.args.step.now c.requires.lent c.in-Both.slot uses c.in-Some-shared-2.shared c.in-Some-shared-2.is c.in-Some-guest-2.guest c.in-Some-guest-2.is) c.requires.suits).shared
-
-pub step_on_both-requires-clause-guest_suits : goal.step_on_both-requires-clause-guest_suits
-step_on_both-requires-clause-guest_suits g c =
-    let uses = sym c.uses.ensures ∙ c.in-Both.is in
-    (subst (λ (z : Lent g.row.A.Denot). Suits (layout_of c.args.layout.now) z) (both_given c.args.vms c.args.shared c.args.guest c.args.cpu.now c.args.step.now c.requires.lent c.in-Both.slot uses c.in-Some-shared-2.shared c.in-Some-shared-2.is c.in-Some-guest-2.guest c.in-Some-guest-2.is) c.requires.suits).guest
+    subst (λ (z : Lent g.row.A.Denot). Suits (layout_of c.args.layout.now) z) (both_given c.args.vms c.args.shared c.args.guest c.args.cpu.now c.args.step.now c.requires.lent c.in-Both.slot uses c.in-Some-shared-2.shared c.in-Some-shared-2.is c.in-Some-guest-2.guest c.in-Some-guest-2.is) c.requires.suits
 
 pub step_on_both-requires-clause-reached : goal.step_on_both-requires-clause-reached
 step_on_both-requires-clause-reached g c =
@@ -135,4 +130,4 @@ pub returns-in-Some-guest-2-clause-suits : goal.returns-in-Some-guest-2-clause-s
 returns-in-Some-guest-2-clause-suits g c =
     let uses = sym c.uses.ensures ∙ c.in-Both.is in
     subst (λ (z : Lent g.row.A.Denot). Suits (layout_of c.args.layout.now) z) (sym (both_left c.args.vms c.args.shared c.args.guest c.args.cpu.now c.args.step.now c.requires.lent c.in-Both.slot uses c.in-Some-shared-2.shared c.in-Some-shared-2.is c.in-Some-guest-2.guest c.in-Some-guest-2.is c.step_on_both.new.shared c.step_on_both.new.part c.step_on_both.new.cpu _))
-    (record { vms = tt; shared = c.step_on_both.ensures.suits; guest = c.step_on_both.ensures.guest_suits; cpu = c.step_on_both.ensures.own })
+    c.step_on_both.ensures.suits

@@ -1,4 +1,4 @@
-use Rattle.std.proofs.Common.{arith, ◌≡◌, ◌∙◌, refl, sym, ap, true, false, Option, Some, None}
+use Rattle.std.proofs.Common.{arith, rules, ◌≡◌, ◌∙◌, refl, sym, ap, true, false, Option, Some, None}
 use Rattle.std.proofs.lemmas.List.Elements.{All-set}
 use Rattle.page_state.specs.Geometries.{levels_below}
 use Rattle.guest_steps.specs.declared.parts.GuestPart.{GuestPart}
@@ -47,8 +47,15 @@ step_on_both-made-requires-clause-reached g c = stands c.args.self.now c.args.cp
 pub index_mut-requires-in-Both : goal.index_mut-requires-in-Both
 index_mut-requires-in-Both g c = let p = c.args.self.now in let within = (slot_inside c.args.self.now c.args.cpu c.args.step c.index_mut-own.result.now (own_at c.args.self.now c.args.cpu c.index_mut-own.result.now c.requires.known c.index_mut-own.ensures.value) c.requires.known c.requires.history false true (Some c.in-Both.v) (both (cpu_of c.index_mut-own.result.now) c.args.step c.in-Both.v (sym c.uses.ensures ∙ c.in-Both.is)) c.in-Both.v refl) in omega (arith, within, p.guests.ok.0)
 
-pub step_on_both-made-requires-clause-guest_suits : goal.step_on_both-made-requires-clause-guest_suits
-step_on_both-made-requires-clause-guest_suits g c = guest_suits c.args.self.now c.in-Both.v c.index_mut-in-Both.result.now (guest_at c.args.self.now c.in-Both.v c.index_mut-in-Both.result.now (slot_inside c.args.self.now c.args.cpu c.args.step c.index_mut-own.result.now (own_at c.args.self.now c.args.cpu c.index_mut-own.result.now c.requires.known c.index_mut-own.ensures.value) c.requires.known c.requires.history false true (Some c.in-Both.v) (both (cpu_of c.index_mut-own.result.now) c.args.step c.in-Both.v (sym c.uses.ensures ∙ c.in-Both.is)) c.in-Both.v refl) c.index_mut-in-Both.ensures.value)
+pub step_on_both-made-requires-clause-suits : goal.step_on_both-made-requires-clause-suits
+step_on_both-made-requires-clause-suits g c =
+    let p = c.args.self.now in
+    record {
+      vms = tt;
+      shared = record { depth = p.depth; rows = p.rows; log = p.shared_log };
+      guest = guest_suits c.args.self.now c.in-Both.v c.index_mut-in-Both.result.now (guest_at c.args.self.now c.in-Both.v c.index_mut-in-Both.result.now (slot_inside c.args.self.now c.args.cpu c.args.step c.index_mut-own.result.now (own_at c.args.self.now c.args.cpu c.index_mut-own.result.now c.requires.known c.index_mut-own.ensures.value) c.requires.known c.requires.history false true (Some c.in-Both.v) (both (cpu_of c.index_mut-own.result.now) c.args.step c.in-Both.v (sym c.uses.ensures ∙ c.in-Both.is)) c.in-Both.v refl) c.index_mut-in-Both.ensures.value);
+      cpu = search rules;
+    }
 
 pub invariant_of-self : goal.invariant_of-self
 invariant_of-self g c =
@@ -121,13 +128,13 @@ invariant_of-self-in-Both g c =
       slots = p.slots;
       counted = p.counted;
       vm_log = p.vm_log;
-      shared_log = c.step_on_both-made.ensures.suits.log;
-      depth = c.step_on_both-made.ensures.suits.depth;
-      rows = c.step_on_both-made.ensures.suits.rows;
-      guest_depth = All-set (λ (v : GuestPart _). levels_below v.guest.geometry ≡ levels_below p.layout.geometry) p.guests.items c.in-Both.v c.step_on_both-made.new.part c.step_on_both-made.ensures.guest_suits.depth p.guest_depth;
-      guest_logs = All-set (λ (v : GuestPart _). IsOfSize p.layout.config.log v.log) p.guests.items c.in-Both.v c.step_on_both-made.new.part c.step_on_both-made.ensures.guest_suits.log p.guest_logs;
+      shared_log = c.step_on_both-made.ensures.suits.shared.log;
+      depth = c.step_on_both-made.ensures.suits.shared.depth;
+      rows = c.step_on_both-made.ensures.suits.shared.rows;
+      guest_depth = All-set (λ (v : GuestPart _). levels_below v.guest.geometry ≡ levels_below p.layout.geometry) p.guests.items c.in-Both.v c.step_on_both-made.new.part c.step_on_both-made.ensures.suits.guest.depth p.guest_depth;
+      guest_logs = All-set (λ (v : GuestPart _). IsOfSize p.layout.config.log v.log) p.guests.items c.in-Both.v c.step_on_both-made.new.part c.step_on_both-made.ensures.suits.guest.log p.guest_logs;
       numbers = numbered c.args.self.now.cpus.items c.args.cpu c.index_mut-own.result.now c.step_on_both-made.new.cpu c.args.self.now.numbers (own_at c.args.self.now c.args.cpu c.index_mut-own.result.now c.requires.known c.index_mut-own.ensures.value) c.step_on_both-made.ensures.step.id;
-      own_logs = All-set (λ (j : CpuState). IsOfSize p.layout.config.log j.log) p.cpus.items c.args.cpu c.step_on_both-made.new.cpu c.step_on_both-made.ensures.own p.own_logs;
+      own_logs = All-set (λ (j : CpuState). IsOfSize p.layout.config.log j.log) p.cpus.items c.args.cpu c.step_on_both-made.new.cpu c.step_on_both-made.ensures.suits.cpu p.own_logs;
     }
 
 -- both at once
