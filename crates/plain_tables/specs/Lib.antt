@@ -3,3 +3,4 @@ pub mod Given
 pub mod Laid
 pub mod Reached
 pub mod Laws
+pub mod Walks

@@ -1,15 +1,11 @@
 //! The walk of a tree.
-ghost use Rattle.std.specs.Prelude.{◌≡◌, ◌+◌, ◌*◌, ◌^◌, ◌<◌, ◌≤◌, ◌++◌, All, AllPairs, IfErr, IfOk, OnOk, length, map};
-ghost use Rattle.page_state.specs.Entries.{advance_target};
+ghost use Rattle.std.specs.Prelude.{◌≡◌, ◌+◌, ◌*◌, ◌^◌, ◌≤◌, ◌++◌, All, AllPairs, IfErr, IfOk, OnOk, map};
 ghost use Rattle.page_state.specs.Geometries.{block_pages, levels_below};
-ghost use Rattle.run_list.specs.Targets.{HasFrameBelow};
-ghost use Rattle.run_list.specs.Runs.{EndBefore};
-ghost use Rattle.run_list.specs.View.{IsKept};
 ghost use Rattle.ghost_trees.specs.KeptTrees.{IsKeptTree};
 ghost use Rattle.ghost_trees.specs.Trees.{tree_in_lists};
-ghost use Rattle.plain_tables.specs.ByFrames.{entry_by, IsWhole, tables_under, tree_by_frames};
-ghost use Rattle.plain_tables.specs.Laid.{laid, target_map};
+ghost use Rattle.plain_tables.specs.ByFrames.{IsWhole, tables_under, tree_by_frames};
 ghost use Rattle.plain_tables.specs.Reached.{AreOtherFrames, IsStopped};
+ghost use Rattle.plain_tables.specs.Walks.{HasComeTo, IsTableLaid};
 
 use crate::follow::{PlainPage, entry_of, next_page};
 use crate::reached::{Reached, Stopped, reach};
@@ -34,14 +30,10 @@ fn walk_table(
     requires whole { All IsWhole pages.now }
     requires page { IsWhole page }
     requires place { (number + 1) * block_pages (depth + 1) ≤ 2 ^ 36 }
-    requires kept { IsKept advance_target HasFrameBelow runs.old.items }
-    requires behind { EndBefore (number * block_pages (depth + 1) + 1) runs.old.items }
-    requires apart { AllPairs AreOtherFrames met.old.items }
+    requires before { HasComeTo (number * block_pages (depth + 1)) met.old.items runs.old.items }
     ensures met { OnOk result (met.new.items ≡ met.old.items ++ tables_under pages.now tree depth number page.entry) }
-    ensures apart { OnOk result (AllPairs AreOtherFrames met.new.items) }
-    ensures map { OnOk result (target_map runs.new.items ≡ laid (number * block_pages (depth + 1)) (block_pages (depth + 1)) (entry_by pages.now depth page.entry) (target_map runs.old.items)) }
-    ensures kept { OnOk result (IsKept advance_target HasFrameBelow runs.new.items) }
-    ensures behind { OnOk result (EndBefore ((number + 1) * block_pages (depth + 1) + 1) runs.new.items) }
+    ensures map { OnOk result (IsTableLaid pages.now depth number page.entry runs.old.items runs.new.items) }
+    ensures after { OnOk result (HasComeTo ((number + 1) * block_pages (depth + 1)) met.new.items runs.new.items) }
     ensures stopped { IfErr result (IsStopped (met.old.items ++ tables_under pages.now tree depth number page.entry)) }
 {
     let table = Table {

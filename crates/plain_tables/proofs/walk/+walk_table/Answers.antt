@@ -11,7 +11,7 @@ pub returns-in_err-reach-clause-stopped : goal.returns-in_err-reach-clause-stopp
 returns-in_err-reach-clause-stopped t c = passed_on _ _ c.from_residual.result c.reach.result c.in_err-reach.field-0.0 c.in_err-reach.was c.from_residual.ensures.1 (stopped_first c.args.pages.now c.args.tree c.args.depth c.args.number c.args.page c.args.met.now.items c.args.runs.now.items) c.reach.ensures.stopped
 
 pub loop-i-init : goal.loop-i-init
-loop-i-init t c = begun c.args.pages.now c.args.tree c.args.depth c.args.number c.args.page c.args.met.now.items c.args.runs.now.items c.reach.new.met.items c.in_ok-reach.ensures.met (apart_more c.args.met.now.items c.reach.new.met.items (reached_at c.args.tree c.args.depth c.args.number c.args.page) c.requires.apart c.in_ok-reach.ensures.fresh c.in_ok-reach.ensures.met) c.requires.kept c.requires.behind
+loop-i-init t c = begun c.args.pages.now c.args.tree c.args.depth c.args.number c.args.page c.args.met.now.items c.args.runs.now.items c.reach.new.met.items c.in_ok-reach.ensures.met (apart_more c.args.met.now.items c.reach.new.met.items (reached_at c.args.tree c.args.depth c.args.number c.args.page) c.requires.before.apart c.in_ok-reach.ensures.fresh c.in_ok-reach.ensures.met) c.requires.before.kept c.requires.before.behind
 
 pub walk_table-requires : goal.walk_table-requires
 walk_table-requires t c =
@@ -27,10 +27,11 @@ walk_table-requires t c =
             led_whole c.args.pages.now c.args.depth _ c.in-Some.next led c.requires.whole,
             (
               place_below c.args.pages.now c.args.tree c.args.depth c.args.number c.args.page c.args.met.now.items c.args.runs.now.items c.loop-i.i c.loop-i.met.items c.loop-i.runs.items c.loop-i.invariant c.loop-i-test.true c.requires.page _ refl c.in-Some.next led c.requires.place,
-              (
-                c.loop-i.invariant.kept,
-                (behind_below c.args.pages.now c.args.tree c.args.depth c.args.number c.args.page c.args.met.now.items c.args.runs.now.items c.loop-i.i c.loop-i.met.items c.loop-i.runs.items c.loop-i.invariant c.loop-i-test.true c.requires.page _ refl c.in-Some.next led, c.loop-i.invariant.apart),
-              ),
+              record {
+                apart = c.loop-i.invariant.apart;
+                kept = c.loop-i.invariant.kept;
+                behind = behind_below c.args.pages.now c.args.tree c.args.depth c.args.number c.args.page c.args.met.now.items c.args.runs.now.items c.loop-i.i c.loop-i.met.items c.loop-i.runs.items c.loop-i.invariant c.loop-i-test.true c.requires.page _ refl c.in-Some.next led;
+              },
             ),
           ),
         ),
@@ -45,7 +46,7 @@ pub loop-i-preserved : goal.loop-i-preserved
 loop-i-preserved t c = elim c.match-next_page.branch [
   | in-Some+in_ok-walk_table-in-Some w ↦ rw (w.met-is, w.runs-is)
       (more_below c.args.pages.now c.args.tree c.args.depth c.args.number c.args.page c.args.met.now.items c.args.runs.now.items c.loop-i.i c.loop-i.met.items c.loop-i.runs.items c.loop-i.invariant c.loop-i-test.true c.requires.page _ refl w.in-Some.next (sym c.next_page.ensures ∙ w.in-Some.is) w.walk_table.new.met.items w.walk_table.new.runs.items
-      w.in_ok-walk_table-in-Some.ensures.met w.in_ok-walk_table-in-Some.ensures.apart w.in_ok-walk_table-in-Some.ensures.map w.in_ok-walk_table-in-Some.ensures.kept w.in_ok-walk_table-in-Some.ensures.behind)
+      w.in_ok-walk_table-in-Some.ensures.met w.in_ok-walk_table-in-Some.ensures.after.apart w.in_ok-walk_table-in-Some.ensures.map w.in_ok-walk_table-in-Some.ensures.after.kept w.in_ok-walk_table-in-Some.ensures.after.behind)
   | in-None+in_ok-put-in-None w ↦ rw (w.met-is, w.runs-is)
       (more_word c.args.pages.now c.args.tree c.args.depth c.args.number c.args.page c.args.met.now.items c.args.runs.now.items c.loop-i.i c.loop-i.met.items c.loop-i.runs.items c.loop-i.invariant c.loop-i-test.true c.requires.page _ refl w.entry_of.result c.pages_under-each.result w.put.new.runs.items (sym c.next_page.ensures ∙ w.in-None.is) c.pages_under-each.ensures.value w.entry_of.ensures.value
       w.in_ok-put-in-None.ensures.map w.in_ok-put-in-None.ensures.kept w.in_ok-put-in-None.ensures.behind)
@@ -57,5 +58,9 @@ returns-clause-met t c = all_met c.args.pages.now c.args.tree c.args.depth c.arg
 pub returns-clause-map : goal.returns-clause-map
 returns-clause-map t c = all_map c.args.pages.now c.args.tree c.args.depth c.args.number c.args.page c.args.met.now.items c.args.runs.now.items c.loop-i.i c.loop-i.met.items c.loop-i.runs.items c.loop-i.invariant (omega (arith, c.loop-i.auto.i-end)) (omega (arith, c.loop-i-test.false)) c.requires.page
 
-pub returns-clause-behind : goal.returns-clause-behind
-returns-clause-behind t c = all_behind c.args.pages.now c.args.tree c.args.depth c.args.number c.args.page c.args.met.now.items c.args.runs.now.items c.loop-i.i c.loop-i.met.items c.loop-i.runs.items c.loop-i.invariant (omega (arith, c.loop-i.auto.i-end)) (omega (arith, c.loop-i-test.false)) c.requires.page
+pub returns-clause-after : goal.returns-clause-after
+returns-clause-after t c = record {
+  apart = c.loop-i.invariant.apart;
+  kept = c.loop-i.invariant.kept;
+  behind = all_behind c.args.pages.now c.args.tree c.args.depth c.args.number c.args.page c.args.met.now.items c.args.runs.now.items c.loop-i.i c.loop-i.met.items c.loop-i.runs.items c.loop-i.invariant (omega (arith, c.loop-i.auto.i-end)) (omega (arith, c.loop-i-test.false)) c.requires.page;
+}

@@ -13,4 +13,4 @@ returns-clause-tree c = found_tree c.args.geometry c.args.pages.now c.args.root 
     c.in_ok-walk_table.ensures.map c.in_ok-walk_table.ensures.met (c.in_ok-runs.ensures ∙ ap target_runs c.as_slice.ensures.value) (c.in_ok-tables.ensures ∙ ap (map (λ r. r.table)) (to_end c.deref.result.now c.len-start.result) ∙ ap (λ m. map (λ r. r.table) (drop c.len-start.result m)) c.deref.ensures.value)
 
 pub returns-clause-kept : goal.returns-clause-kept
-returns-clause-kept c = kept_tree (record { runs = c.in_ok-runs.runs; tables = c.in_ok-tables.tables }) c.walk_table.new.runs.items (c.in_ok-runs.ensures ∙ ap target_runs c.as_slice.ensures.value) c.in_ok-walk_table.ensures.kept
+returns-clause-kept c = kept_tree (record { runs = c.in_ok-runs.runs; tables = c.in_ok-tables.tables }) c.walk_table.new.runs.items (c.in_ok-runs.ensures ∙ ap target_runs c.as_slice.ensures.value) c.in_ok-walk_table.ensures.after.kept
