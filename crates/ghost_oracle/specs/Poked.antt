@@ -2,11 +2,13 @@
 use Rattle.std.specs.Prelude.{◌≡◌, ℕ, List, [], Option, Some, None, slice_get}
 use Rattle.hyp_pool.specs.Pools.{StoredFrames}
 use Rattle.maplets.specs.View.{KeptMaplets}
+use Rattle.page_state.specs.declared.layout.Geometry.{Geometry}
 use Rattle.page_state.specs.declared.layout.Layout.{Layout}
 use Rattle.page_state.specs.declared.row.Row.{Row}
 use Rattle.page_state.specs.Trees.{Block}
 use Rattle.run_list.specs.declared.run.Run.{Run}
 use Rattle.table_tree.specs.Raw.{IsPoked, IsPokedMap}
+use Rattle.table_tree.specs.Said.{block_of}
 use Rattle.guest_steps.specs.declared.parts.CpuState.{CpuState}
 use Rattle.guest_steps.specs.declared.parts.GuestPart.{GuestPart}
 use Rattle.guest_steps.specs.declared.parts.SharedPart.{SharedPart}
@@ -19,7 +21,7 @@ use Rattle.ghost_oracle.specs.declared.raw.RawParts.{RawParts}
 use Rattle.ghost_oracle.specs.declared.raw.RawShared.{RawShared}
 use Rattle.ghost_oracle.specs.declared.raw.Which.{Which}
 use Rattle.ghost_oracle.specs.declared.raw.Which.TheVariants.{Host, Hyp, Guest}
-use Rattle.ghost_oracle.specs.Beside.{SlotBeside, slot_beside}
+use Rattle.ghost_oracle.specs.Beside.{AreSlotsOf, IsSlotOf, SlotBeside, slot_beside}
 use Rattle.ghost_oracle.specs.Seen.{SeenTree, nothing_seen, tree_seen, raw_seen, slot_seen}
 
 -- one tree was poked
@@ -90,3 +92,20 @@ module _ {A : Type 0} where
     pub shared : x.shared ≡ part_beside p.shared
     pub guest : (v : ℕ) → x.guest v ≡ guest_beside p.guests.items [] v
     pub cpus : x.cpus ≡ p.cpus.items
+
+  -- a tree of a slot was poked, whatever geometry it is of
+  abbrev pub IsSlotPoked : GuestPart A → Option (RawGuest A) → GuestPart A → Option (RawGuest A) → List ℕ → ℕ → Type 0
+  IsSlotPoked part held new_part new_held path word = (g : Geometry) → IsSlotOf g part held → IsPokedSeen (block_of g path) (slot_seen part held) (slot_seen new_part new_held) path word
+
+  -- so it was of the slot of a number
+  abbrev pub IsPlacePoked : ℕ → List (GuestPart A) → List (Option (RawGuest A)) → List (GuestPart A) → List (Option (RawGuest A)) → List ℕ → ℕ → Type 0
+  IsPlacePoked slot guests poked new_guests new_poked path word =
+      (g : Geometry) → AreSlotsOf g guests poked → IsPokedSeen (block_of g path) (guest_seen guests poked slot) (guest_seen new_guests new_poked slot) path word
+
+  -- one of all trees of parts was poked
+  abbrev pub IsRawPoked : RawParts A → RawParts A → Which → List ℕ → ℕ → Type 0
+  IsRawPoked p q which path word = IsPokedTree (block_of p.layout.geometry path) (raw_trees p) (raw_trees q) which path word
+
+  -- so it was of parts of which none was poked before
+  abbrev pub ArePartsPoked : Parts A → RawParts A → Which → List ℕ → ℕ → Type 0
+  ArePartsPoked p q which path word = IsPokedTree (block_of p.layout.geometry path) (parts_trees p) (raw_trees q) which path word

@@ -1,9 +1,13 @@
 -- The state that a record of given parts tells: what they hold stands in it, and all else is empty.
-use Rattle.std.specs.Prelude.{◌≡◌, ℕ, Option, Some, None, is_some, option_map}
+use Rattle.std.specs.Borrow.{Bor}
+use Rattle.std.specs.Option.{option_copied}
+use Rattle.std.specs.Prelude.{◌≡◌, ℕ, List, get_or, map, Option, Some, None, is_some, option_map}
 use Rattle.page_state.specs.Layouts.{Layout}
 use Rattle.reference_model.specs.Parts.{Names, uses_shared, uses_vms}
-use Rattle.reference_model.specs.State.{Contents, Rooms, Reference, all_rooms, blank, no_guest, no_shared, no_vms, put_at}
+use Rattle.reference_model.specs.State.{Contents, Rooms, Reference, all_rooms, blank, no_guest, no_shared, no_slot, no_vms, put_at}
 use Rattle.reference_model.specs.Used.{Used, UsedRooms, put_back, put_rooms}
+use Rattle.ghost_spec.specs.declared.parts.GhostSlot.{GhostSlot}
+use Rattle.ghost_spec.specs.States.{slot_in}
 use Rattle.guest_steps.specs.declared.parts.CpuState.{CpuState}
 use Rattle.guest_steps.specs.declared.parts.GuestPart.{GuestPart}
 use Rattle.guest_steps.specs.declared.parts.SharedPart.{SharedPart}
@@ -21,6 +25,14 @@ pub record Given (A : Type 0) : Type 0 where
 -- these
 abbrev pub given : {A : Type 0} → Option VmPart → Option (SharedPart A) → Option (ℕ × GuestPart A) → CpuState → Given A
 given v s g k = record { vms = v; shared = s; guest = g; own = k }
+
+-- the same of parts behind references
+abbrev pub given_by : {A : Type 0} → Option (Bor VmPart) → Option (Bor (SharedPart A)) → Option (ℕ × Bor (GuestPart A)) → CpuState → Given A
+given_by v s g k = given (option_copied v) (option_copied s) (option_map (λ p. (p.0, p.1.now)) g) k
+
+-- slots in a list are those of the VM part, where one is given, and else Empty
+abbrev pub AreSlotsGiven : Option (Bor VmPart) → List GhostSlot → Type 0
+AreSlotsGiven v slots = (slot : ℕ) → get_or (map slot_in slots) slot (no_slot 1) ≡ (at_place blank.vms vm_slots (option_copied v)).slot slot
 
 -- a function with what the given part stands for at its number, where one is given
 abbrev pub put_given : {P X : Type 0} → (ℕ → X) → (P → X) → Option (ℕ × P) → ℕ → X

@@ -1,8 +1,8 @@
 //! Slots of a table, eight at a time, and how far their words continue a run.
-ghost use Rattle.std.specs.Prelude.{◌≡◌, ◌+◌, ◌-◌, ◌*◌, ◌^◌, ◌<◌, ◌≤◌, min, IfSome, IsTrue, MatchOption};
+ghost use Rattle.std.specs.Prelude.{◌≡◌, ◌+◌, ◌-◌, ◌*◌, ◌^◌, ◌<◌, ◌≤◌, min, IsTrue};
 ghost use Rattle.table_tree.specs.Reading.{count_of};
 ghost use Rattle.table_tree.specs.Shape.{IsWide};
-ghost use Rattle.ghost_oracle.specs.inner.Eights.{AreSlots, AreNext, GoesTo, HasLooked, nth};
+ghost use Rattle.ghost_oracle.specs.inner.Eights.{AreSlotsFrom, GoesToFound, HasLookedToFound, HoldNext, IsFoundIn, nth_of};
 
 use crate::pending::Pending;
 use std::alloc::Allocator;
@@ -26,7 +26,7 @@ pub(crate) type Eight<'a, A> = (
 fn eight_at<'a, A: Allocator>(table: &'a Table<A>, i: usize, reads: &mut Reads) -> Eight<'a, A>
     requires within { i + 8 ≤ 512 }
     requires wide { IsWide table.now }
-    ensures slots { AreSlots table.now i result.0.now result.1.now result.2.now result.3.now result.4.now result.5.now result.6.now result.7.now }
+    ensures slots { AreSlotsFrom table.now i result }
     ensures reads { count_of reads.new ≡ min (count_of reads.old + 8) 18446744073709551615 }
 {
     let mut looked = mem::replace(reads, Reads::new());
@@ -68,7 +68,7 @@ fn is_word<A: Allocator>(slot: &Slot<A>) -> bool {
 #[inline(always)]
 fn are_next<A: Allocator>(slots: Eight<'_, A>, next: u64, step: u64) -> bool
     requires { next + 8 * step < 2 ^ 64 }
-    ensures { IsTrue result → AreNext next step slots.entry.0.now slots.entry.1.now slots.entry.2.now slots.entry.3.now slots.entry.4.now slots.entry.5.now slots.entry.6.now slots.entry.7.now }
+    ensures { IsTrue result → HoldNext next step slots.entry }
 {
     let (a, b, c, d, e, f, g, h) = slots;
     let all = is_word(a)
@@ -100,7 +100,7 @@ fn are_next<A: Allocator>(slots: Eight<'_, A>, next: u64, step: u64) -> bool
 #[inline(always)]
 pub(crate) fn one_of<'a, A: Allocator>(slots: Eight<'a, A>, k: usize) -> &'a Slot<A>
     requires { k < 8 }
-    ensures { result.now ≡ nth k slots.entry.0.now slots.entry.1.now slots.entry.2.now slots.entry.3.now slots.entry.4.now slots.entry.5.now slots.entry.6.now slots.entry.7.now }
+    ensures { result.now ≡ nth_of k slots.entry }
 {
     let (a, b, c, d, e, f, g, h) = slots;
     match k {
@@ -128,9 +128,9 @@ fn go_on_by<'a, A: Allocator>(
     requires step { step ≡ pending.old.step }
     requires wide { IsWide table.now }
     requires room { IsTrue pending.old.goes_on → pending.old.next + (512 - 8 * from) * step < 2 ^ 64 }
-    ensures words { MatchOption result (GoesTo table.now (8 * from) 512 pending.old pending.new) (λ r. GoesTo table.now (8 * from) (8 * r.0) pending.old pending.new) }
-    ensures reads { MatchOption result (HasLooked (count_of reads.old) (512 - 8 * from) (count_of reads.new)) (λ r. HasLooked (count_of reads.old) (8 * r.0 + 8 - 8 * from) (count_of reads.new)) }
-    ensures slots { IfSome result (λ r. (from ≤ r.0) × (r.0 < 64) × AreSlots table.now (8 * r.0) r.1.0.now r.1.1.now r.1.2.now r.1.3.now r.1.4.now r.1.5.now r.1.6.now r.1.7.now) }
+    ensures words { GoesToFound table.now from result pending.old pending.new }
+    ensures reads { HasLookedToFound table.now from result (count_of reads.old) (count_of reads.new) }
+    ensures slots { IsFoundIn table.now from result }
 {
     let goes_on = pending.goes_on;
     let mut next = pending.next;
@@ -162,9 +162,9 @@ pub(crate) fn go_on<'a, A: Allocator>(
     requires within { from ≤ 64 }
     requires wide { IsWide table.now }
     requires room { IsTrue pending.old.goes_on → pending.old.next + (512 - 8 * from) * pending.old.step < 2 ^ 64 }
-    ensures words { MatchOption result (GoesTo table.now (8 * from) 512 pending.old pending.new) (λ r. GoesTo table.now (8 * from) (8 * r.0) pending.old pending.new) }
-    ensures reads { MatchOption result (HasLooked (count_of reads.old) (512 - 8 * from) (count_of reads.new)) (λ r. HasLooked (count_of reads.old) (8 * r.0 + 8 - 8 * from) (count_of reads.new)) }
-    ensures slots { IfSome result (λ r. (from ≤ r.0) × (r.0 < 64) × AreSlots table.now (8 * r.0) r.1.0.now r.1.1.now r.1.2.now r.1.3.now r.1.4.now r.1.5.now r.1.6.now r.1.7.now) }
+    ensures words { GoesToFound table.now from result pending.old pending.new }
+    ensures reads { HasLookedToFound table.now from result (count_of reads.old) (count_of reads.new) }
+    ensures slots { IsFoundIn table.now from result }
 {
     // Most words are 0: with a known step of 0 there is no addition for each of them.
     if pending.step == 0 {

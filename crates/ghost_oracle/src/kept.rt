@@ -1,6 +1,6 @@
 //! The reference state of all parts on lists: what is kept, and what walking every word finds. What walks for a caller adds to a
 //! count each word that it reads, and so shows that it looks.
-ghost use Rattle.std.specs.Prelude.{◌≡◌, ℕ, ◌∷◌, [], All, IfOk, OnOk, map};
+ghost use Rattle.std.specs.Prelude.{◌≡◌, [], All, IfOk, OnOk, map};
 ghost use Rattle.page_state.specs.LayoutView.{layout_of};
 ghost use Rattle.page_state.specs.Rows.{HasPageBelow};
 ghost use Rattle.run_list.specs.Runs.{AreInReach};
@@ -17,7 +17,7 @@ ghost use Rattle.ghost_oracle.specs.Compared.{walked_in};
 ghost use Rattle.ghost_oracle.specs.Counted.{HasRead, shared_tables, tables_of_parts};
 ghost use Rattle.ghost_oracle.specs.Found.{found_state, walked_state, with_row, HasRowsOf, SaysMaplets, SaysRows};
 ghost use Rattle.ghost_oracle.specs.Low.{IsLowCpu};
-ghost use Rattle.ghost_oracle.specs.inner.Trees.{AreTreesKept};
+ghost use Rattle.ghost_oracle.specs.inner.Trees.{AreTreesKept, IsFoundWith};
 
 use crate::both::compared;
 use crate::compared::Compared;
@@ -85,12 +85,8 @@ fn ghost_with<A: Allocator>(
     requires guests { map guest_in guests.items ≡ map guest_held parts.now.guests.items }
     requires shared_kept { IsKeptShared shared }
     requires trees { All (λ g. IsKeptTree g.tree) guests.items }
-    ensures state { IfOk result (λ g. ghost_state g ≡ found_state (shared_in_lists shared).row (state_of parts.now)) }
-    ensures layout { IfOk result (λ g. layout_of g.layout ≡ parts_layout parts.now) }
-    ensures trees { IfOk result AreTreesKept }
+    ensures with { IfOk result (IsFoundWith parts.now shared guests) }
     ensures kept { AreKeptGuests guests.items → All (λ k. IsLowCpu (cpu_of k)) parts.now.cpus.items → IfOk result IsKept }
-    ensures shared { IfOk result (λ g. g.shared ≡ shared) }
-    ensures guests { IfOk result (λ g. g.guests ≡ guests) }
 {
     // One call gives both back, however many lists they hold.
     let Ok(layout) = copied_layout(&parts.layout) else {

@@ -1,14 +1,12 @@
 //! The run that a walk is still extending, before it goes to the end of a list.
-ghost use Rattle.std.specs.Prelude.{◌≡◌, ℕ, ◌+◌, ◌-◌, ◌*◌, ◌^◌, ◌<◌, ◌≤◌, IfSome, IsTrue, OnOk};
-ghost use Rattle.page_state.specs.Entries.{advance};
+ghost use Rattle.std.specs.Prelude.{◌≡◌, ℕ, ◌+◌, ◌^◌, ◌<◌, ◌≤◌, IfSome, IsTrue, OnOk};
 ghost use Rattle.page_state.specs.Geometries.{block_pages};
 ghost use Rattle.page_state.specs.Map.{Map};
-ghost use Rattle.page_state.specs.Runs.{map_of};
 ghost use Rattle.table_tree.specs.Meaning.{IsDepth};
 ghost use Rattle.table_tree.specs.Shape.{HasSmallFrame};
 ghost use Rattle.table_tree.specs.Ahead.{gives, GoesAhead};
-ghost use Rattle.ghost_oracle.specs.inner.Pending.{ComesNext, IsPending, IsGiven};
-ghost use Rattle.ghost_oracle.specs.inner.Walking.{AreRunsTo, GoesOn};
+ghost use Rattle.ghost_oracle.specs.inner.Pending.{BeginsWith, CanTake, ComesNext, IsPending, IsPut, TakesWord};
+ghost use Rattle.ghost_oracle.specs.inner.Walking.{AreRunsTo};
 
 use crate::found::put_block;
 use page_state::{Entry, Run};
@@ -94,7 +92,7 @@ pub(crate) fn put_pending(runs: &mut Vec<Run>, pending: Pending, end: u64) -> Re
     requires small { HasSmallFrame pending.entry }
     requires before { AreRunsTo pending.first runs.old.items }
     ensures runs { OnOk result (AreRunsTo end runs.new.items) }
-    ensures map { OnOk result (GoesOn (λ page. advance pending.entry (page - pending.first)) pending.first end (map_of runs.old.items) (map_of runs.new.items)) }
+    ensures map { OnOk result (IsPut pending end runs.old.items runs.new.items) }
 {
     if pending.first < end {
         put_block(runs, pending.first, end - pending.first, pending.entry)?;
@@ -112,16 +110,11 @@ fn begin_pending(
     end: u64,
     word: u64,
 ) -> Result<(), AllocError>
-    requires depth_in { IsDepth depth }
-    requires pages { pages ≡ block_pages depth }
-    requires place { end + pages ≤ 2 ^ 36 }
-    requires order { pending.old.first ≤ end }
-    requires small { HasSmallFrame pending.old.entry }
-    requires before { AreRunsTo pending.old.first runs.old.items }
+    requires can { CanTake depth pages end runs.old.items pending.old }
     ensures runs { OnOk result (AreRunsTo end runs.new.items) }
-    ensures map { OnOk result (GoesOn (λ page. advance pending.old.entry (page - pending.old.first)) pending.old.first end (map_of runs.old.items) (map_of runs.new.items)) }
+    ensures map { OnOk result (IsPut pending.old end runs.old.items runs.new.items) }
     ensures first { OnOk result (pending.new.first ≡ end) }
-    ensures pending { OnOk result ((m : Map) (left : ℕ) → left < 512 → IsGiven m depth end word → IsPending m depth (end + pages) left pending.new) }
+    ensures pending { OnOk result (BeginsWith depth pages end word pending.new) }
 {
     put_pending(runs, *pending, end)?;
     *pending = pending_of(depth, pages, end, word);
@@ -138,17 +131,12 @@ pub(crate) fn take_word(
     end: u64,
     word: u64,
 ) -> Result<(), AllocError>
-    requires depth_in { IsDepth depth }
-    requires pages { pages ≡ block_pages depth }
-    requires place { end + pages ≤ 2 ^ 36 }
-    requires order { pending.old.first ≤ end }
-    requires small { HasSmallFrame pending.old.entry }
+    requires can { CanTake depth pages end runs.old.items pending.old }
     requires room { IsTrue pending.old.goes_on → pending.old.next + pending.old.step < 2 ^ 64 }
-    requires before { AreRunsTo pending.old.first runs.old.items }
     ensures runs { OnOk result (AreRunsTo pending.new.first runs.new.items) }
-    ensures map { OnOk result (GoesOn (λ page. advance pending.old.entry (page - pending.old.first)) pending.old.first pending.new.first (map_of runs.old.items) (map_of runs.new.items)) }
+    ensures map { OnOk result (IsPut pending.old pending.new.first runs.old.items runs.new.items) }
     ensures order { OnOk result ((pending.old.first ≤ pending.new.first) × (pending.new.first ≤ end)) }
-    ensures pending { OnOk result ((m : Map) (left : ℕ) → left < 512 → IsPending m depth end (left + 1) pending.old → IsGiven m depth end word → IsPending m depth (end + pages) left pending.new) }
+    ensures pending { OnOk result (TakesWord depth pages end word pending.old pending.new) }
 {
     if pending.goes_on && word == pending.next {
         pending.next += pending.step;

@@ -5,7 +5,7 @@ ghost use Rattle.page_state.specs.Geometries.{levels_below};
 ghost use Rattle.table_tree.specs.Said.{block_of};
 ghost use Rattle.ghost_oracle.specs.declared.raw.Which.{Which as WhichTree};
 ghost use Rattle.ghost_oracle.specs.Beside.{body_beside, raw_beside, slot_guest, slot_beside, taken_beside, IsSlotOf, AreSlotsOf};
-ghost use Rattle.ghost_oracle.specs.Poked.{IsBeside, IsPokedSeen, IsPokedTree, parts_trees, part_beside, raw_beside_of, raw_trees, shared_beside, guest_seen, guest_beside};
+ghost use Rattle.ghost_oracle.specs.Poked.{ArePartsPoked, IsBeside, IsPlacePoked, IsPokedSeen, IsRawPoked, IsSlotPoked, parts_trees, part_beside, raw_beside_of, raw_trees, shared_beside, guest_seen, guest_beside};
 ghost use Rattle.ghost_oracle.specs.Seen.{raw_seen, slot_seen, taken_seen, tree_seen};
 
 use crate::raw::{RawComponent, RawGuest, RawParts, RawShared, Which};
@@ -155,7 +155,7 @@ fn set_slot<A: Allocator>(
     word: u64,
 )
     requires there { IsSome ((slot_seen part.old held.old).words path.now) }
-    ensures poked { (g : TreeGeometry) → IsSlotOf g part.old held.old → IsPokedSeen (block_of g path.now) (slot_seen part.old held.old) (slot_seen part.new held.new) path.now word }
+    ensures poked { IsSlotPoked part.old held.old part.new held.new path.now word }
     ensures beside { slot_beside part.new held.new ≡ slot_beside part.old held.old }
     ensures depth { (g : TreeGeometry) → IsSlotOf g part.old held.old → IsSlotOf g part.new held.new }
 {
@@ -177,7 +177,7 @@ fn set_place<A: Allocator>(
     requires slots { vec_len guests.old ≡ 64 }
     requires places { vec_len poked.old ≡ 64 }
     requires there { IsSome ((guest_seen guests.old.items poked.old.items slot).words path.now) }
-    ensures poked { (g : TreeGeometry) → AreSlotsOf g guests.old.items poked.old.items → IsPokedSeen (block_of g path.now) (guest_seen guests.old.items poked.old.items slot) (guest_seen guests.new.items poked.new.items slot) path.now word }
+    ensures poked { IsPlacePoked slot guests.old.items poked.old.items guests.new.items poked.new.items path.now word }
     ensures others { (v : ℕ) → (v ≡ slot → ⊥) → guest_seen guests.new.items poked.new.items v ≡ guest_seen guests.old.items poked.old.items v }
     ensures beside { (v : ℕ) → guest_beside guests.new.items poked.new.items v ≡ guest_beside guests.old.items poked.old.items v }
     ensures depth { (g : TreeGeometry) → AreSlotsOf g guests.old.items poked.old.items → AreSlotsOf g guests.new.items poked.new.items }
@@ -234,7 +234,7 @@ impl<A: Allocator> RawParts<A> {
     ) -> Result<RawParts<A>, (RawParts<A>, PathFault)>
         ensures fault { IsOk result ↔ IsSome ((raw_trees self which).words path.now) }
         ensures kept { IfErr result (λ e. e.0 ≡ self) }
-        ensures poked { IfOk result (λ p. IsPokedTree (block_of self.layout.geometry path.now) (raw_trees self) (raw_trees p) which path.now word) }
+        ensures poked { IfOk result (λ p. IsRawPoked self p which path.now word) }
         ensures beside { IfOk result (λ p. raw_beside_of p ≡ raw_beside_of self) }
     {
         if self.word_at(which, path).is_none() {
@@ -248,7 +248,7 @@ impl<A: Allocator> RawParts<A> {
     /// The same in place, where there is a word.
     pub fn set(&mut self, which: Which, path: &[u16], word: u64)
         requires there { IsSome ((raw_trees self.old which).words path.now) }
-        ensures poked { IsPokedTree (block_of self.old.layout.geometry path.now) (raw_trees self.old) (raw_trees self.new) which path.now word }
+        ensures poked { IsRawPoked self.old self.new which path.now word }
         ensures beside { raw_beside_of self.new ≡ raw_beside_of self.old }
     {
         match which {
@@ -260,7 +260,7 @@ impl<A: Allocator> RawParts<A> {
 
     fn set_host(&mut self, path: &[u16], word: u64)
         requires there { IsSome ((raw_seen self.old.shared.host.tree).words path.now) }
-        ensures poked { IsPokedTree (block_of self.old.layout.geometry path.now) (raw_trees self.old) (raw_trees self.new) WhichTree.Host path.now word }
+        ensures poked { IsRawPoked self.old self.new WhichTree.Host path.now word }
         ensures beside { raw_beside_of self.new ≡ raw_beside_of self.old }
     {
         let shared = &mut self.shared;
@@ -269,7 +269,7 @@ impl<A: Allocator> RawParts<A> {
 
     fn set_hyp(&mut self, path: &[u16], word: u64)
         requires there { IsSome ((raw_seen self.old.shared.hyp.tree).words path.now) }
-        ensures poked { IsPokedTree (block_of self.old.layout.geometry path.now) (raw_trees self.old) (raw_trees self.new) WhichTree.Hyp path.now word }
+        ensures poked { IsRawPoked self.old self.new WhichTree.Hyp path.now word }
         ensures beside { raw_beside_of self.new ≡ raw_beside_of self.old }
     {
         let shared = &mut self.shared;
@@ -278,7 +278,7 @@ impl<A: Allocator> RawParts<A> {
 
     fn set_guest(&mut self, slot: u64, path: &[u16], word: u64)
         requires there { IsSome ((guest_seen self.old.guests.items self.old.poked.items slot).words path.now) }
-        ensures poked { IsPokedTree (block_of self.old.layout.geometry path.now) (raw_trees self.old) (raw_trees self.new) (WhichTree.Guest slot) path.now word }
+        ensures poked { IsRawPoked self.old self.new (WhichTree.Guest slot) path.now word }
         ensures beside { raw_beside_of self.new ≡ raw_beside_of self.old }
     {
         set_place(&mut self.guests, &mut self.poked, slot, path, word);
@@ -316,7 +316,7 @@ pub fn poke<A: Allocator>(
     requires nothing { poked.items ≡ replicate 64 None }
     ensures fault { IsOk result ↔ IsSome ((parts_trees parts which).words path.now) }
     ensures kept { IfErr result (λ e. e.0 ≡ parts) }
-    ensures poked { IfOk result (λ p. IsPokedTree (block_of parts.layout.geometry path.now) (parts_trees parts) (raw_trees p) which path.now word) }
+    ensures poked { IfOk result (λ p. ArePartsPoked parts p which path.now word) }
     ensures beside { IfOk result (λ p. IsBeside parts (raw_beside_of p)) }
 {
     if parts_word(&parts, which, path).is_none() {

@@ -2,17 +2,17 @@
 ghost use Rattle.std.specs.Prelude.{◌≡◌, ℕ, ◌*◌, ◌<◌, IfOk, IfSome, OnOk, get_or, length, map};
 ghost use Rattle.std.specs.Option.{option_copied, option_map};
 ghost use Rattle.page_state.specs.LayoutView.{layout_of};
-ghost use Rattle.reference_model.specs.State.{blank, no_cpu, no_slot, put_at};
-ghost use Rattle.guest_steps.specs.View.{cpu_of, guest_held, shared_of, vm_slots};
+ghost use Rattle.reference_model.specs.State.{blank, no_cpu, put_at};
+ghost use Rattle.guest_steps.specs.View.{cpu_of, guest_held, shared_of};
 ghost use Rattle.hypercalls.specs.Stands.{at_place};
 ghost use Rattle.ghost_spec.specs.Kept.{IsKeptGuest, IsKeptShared};
-ghost use Rattle.ghost_spec.specs.States.{ghost_state, guest_in, slot_in, AreKeptCpus, AreKeptGuests, IsKept};
+ghost use Rattle.ghost_spec.specs.States.{ghost_state, guest_in, AreKeptCpus, AreKeptGuests, IsKept};
 ghost use Rattle.ghost_spec.specs.Used.{guests_in, rooms_of};
 ghost use Rattle.ghost_spec.specs.Views.{cpu_in, shared_in_lists};
 ghost use Rattle.table_tree.specs.Reading.{count_of};
 ghost use Rattle.ghost_oracle.specs.Counted.{HasRead, shared_tables, slot_tables, tables_given};
 ghost use Rattle.ghost_oracle.specs.Low.{IsLowCpu, IsLowGuest};
-ghost use Rattle.ghost_oracle.specs.Recorded.{given, put_given, recorded};
+ghost use Rattle.ghost_oracle.specs.Recorded.{AreSlotsGiven, given_by, put_given, recorded};
 ghost use Rattle.ghost_oracle.specs.inner.Eights.{HasLooked};
 
 use crate::kept::shared_from;
@@ -31,7 +31,7 @@ use table_tree::Reads;
 
 /// The slots of the VM part, or Empty ones.
 fn slots_given(alloc: Global, vms: Option<&VmPart>) -> Result<Vec<GhostSlot>, AllocError>
-    ensures slots { IfOk result (λ v. (slot : ℕ) → get_or (map slot_in v.items) slot (no_slot 1) ≡ (at_place blank.vms vm_slots (option_copied vms.entry)).slot slot) }
+    ensures slots { IfOk result (λ v. AreSlotsGiven vms.entry v.items) }
     ensures count { IfOk result (λ v. length v.items ≡ 64) }
 {
     match vms {
@@ -178,7 +178,7 @@ fn slots_and_cpus_given(
 ) -> Result<SlotsAndCpus, AllocError>
     requires { state.now.id < layout.now.config.cpus }
     ensures layout { IfOk result (λ b. layout_of b.layout ≡ layout_of layout.now) }
-    ensures slots { IfOk result (λ b. (slot : ℕ) → get_or (map slot_in b.vms.items) slot (no_slot 1) ≡ (at_place blank.vms vm_slots (option_copied vms.entry)).slot slot) }
+    ensures slots { IfOk result (λ b. AreSlotsGiven vms.entry b.vms.items) }
     ensures slots_count { IfOk result (λ b. length b.vms.items ≡ 64) }
     ensures cpus { IfOk result (λ b. (c : ℕ) → get_or (map cpu_in b.cpus.items) c no_cpu ≡ put_at blank.cpu state.now.id (cpu_of state.now) c) }
     ensures cpus_count { IfOk result (λ b. length b.cpus.items ≡ layout.now.config.cpus) }
@@ -208,10 +208,10 @@ pub fn record<A: Allocator>(
 ) -> Result<GhostLists, AllocError>
     requires cpu { state.now.id < layout.now.config.cpus }
     requires slot { IfSome guest (λ g. g.0 < 64) }
-    ensures state { IfOk result (λ g. ghost_state g ≡ recorded (given (option_copied vms.entry) (option_copied shared.entry) (option_map (λ g. (g.0, g.1.now)) guest.entry) state.now) (layout_of layout.now)) }
+    ensures state { IfOk result (λ g. ghost_state g ≡ recorded (given_by vms.entry shared.entry guest.entry state.now) (layout_of layout.now)) }
     ensures layout { IfOk result (λ g. layout_of g.layout ≡ layout_of layout.now) }
     ensures kept { IfSome guest.entry (λ g. IsLowGuest (guest_held g.1.now)) → IsLowCpu (cpu_of state.now) → IfOk result IsKept }
-    ensures reads { OnOk result (HasRead (count_of reads.old) (tables_given (given (option_copied vms.entry) (option_copied shared.entry) (option_map (λ g. (g.0, g.1.now)) guest.entry) state.now)) (count_of reads.new)) }
+    ensures reads { OnOk result (HasRead (count_of reads.old) (tables_given (given_by vms.entry shared.entry guest.entry state.now)) (count_of reads.new)) }
 {
     // For its contract alone: a count is at most the greatest u64.
     let _count = reads.count();

@@ -1,15 +1,14 @@
 //! Walks a tree from scratch: reads its words, by page.
-ghost use Rattle.std.specs.Prelude.{◌≡◌, ◌+◌, ◌*◌, ◌^◌, ◌<◌, ◌≤◌, ◌++◌, min, IfOk, OnOk};
+ghost use Rattle.std.specs.Prelude.{◌≡◌, ◌+◌, ◌*◌, ◌^◌, ◌≤◌, ◌++◌, min, IfOk, OnOk};
 ghost use Rattle.page_state.specs.Geometries.{levels_below, block_pages};
-ghost use Rattle.page_state.specs.Runs.{map_of};
-ghost use Rattle.table_tree.specs.Meaning.{IsDepth, entry_at};
+ghost use Rattle.table_tree.specs.Meaning.{IsDepth};
 ghost use Rattle.table_tree.specs.Reading.{count_of};
 ghost use Rattle.table_tree.specs.Tables.{tables_in};
 ghost use Rattle.ghost_trees.specs.KeptTrees.{IsKeptTree};
 ghost use Rattle.ghost_trees.specs.Trees.{tree_in_lists};
 ghost use Rattle.table_tree.specs.Raw.{IsRaw};
 ghost use Rattle.table_tree.specs.Roots.{tree_under};
-ghost use Rattle.ghost_oracle.specs.inner.Walking.{AreRunsTo, GoesOn, found_under};
+ghost use Rattle.ghost_oracle.specs.inner.Walking.{AreRunsTo, GoesOnBy, found_under};
 
 use crate::eight::{go_on, one_of};
 use crate::pending::{nothing_pending, put_pending, take_word};
@@ -53,7 +52,7 @@ fn walk_table<A: Allocator>(
     requires place { (number + 1) * block_pages (depth + 1) ≤ 2 ^ 36 }
     requires before { AreRunsTo (number * block_pages (depth + 1)) found.old.runs.items }
     ensures runs { OnOk result (AreRunsTo ((number + 1) * block_pages (depth + 1)) found.new.runs.items) }
-    ensures map { OnOk result (GoesOn (entry_at depth table.now) (number * block_pages (depth + 1)) ((number + 1) * block_pages (depth + 1)) (map_of found.old.runs.items) (map_of found.new.runs.items)) }
+    ensures map { OnOk result (GoesOnBy depth number table.now found.old.runs.items found.new.runs.items) }
     ensures tables { OnOk result (found.new.tables.items ≡ found.old.tables.items ++ found_under depth number table.now) }
     ensures reads { OnOk result (count_of reads.new ≡ min (count_of reads.old + 512 * tables_in depth table.now) 18446744073709551615) }
 {

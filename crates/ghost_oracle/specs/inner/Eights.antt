@@ -1,5 +1,6 @@
 -- Eight slots of a table in a row.
-use Rattle.std.specs.Prelude.{◌≡◌, ℕ, zero, suc, ◌+◌, ◌-◌, ◌*◌, ◌<◌, ◌≤◌, min, IsTrue}
+use Rattle.std.specs.Borrow.{Bor}
+use Rattle.std.specs.Prelude.{◌≡◌, ℕ, zero, suc, ◌+◌, ◌-◌, ◌*◌, ◌<◌, ◌≤◌, min, IfSome, IsTrue, MatchOption, Option}
 use Rattle.table_tree.specs.declared.table.Table.{Table}
 use Rattle.table_tree.specs.declared.table.Slot.{Slot}
 use Rattle.table_tree.specs.declared.table.Slot.TheVariants.{Word}
@@ -51,3 +52,34 @@ pub record HasLooked (old more new : ℕ) : Type 0 where
   pub count : min new 18446744073709551615 ≡ min (old + more) 18446744073709551615
   pub fits : 1 ≤ more → new ≤ 18446744073709551615
   pub kept : old ≤ 18446744073709551615 → new ≤ 18446744073709551615
+
+-- eight slots, behind references
+abbrev pub EightSlots : Type 0 → Type 0
+EightSlots A = Bor (Slot A) × Bor (Slot A) × Bor (Slot A) × Bor (Slot A) × Bor (Slot A) × Bor (Slot A) × Bor (Slot A) × Bor (Slot A)
+
+module _ {A : Type 0} where
+  -- they are those of a table from `i` on
+  abbrev pub AreSlotsFrom : Table A → ℕ → EightSlots A → Type 0
+  AreSlotsFrom t i x = AreSlots t i x.0.now x.1.now x.2.now x.3.now x.4.now x.5.now x.6.now x.7.now
+
+  -- they hold `next`, `next + step`, and so on
+  abbrev pub HoldNext : ℕ → ℕ → EightSlots A → Type 0
+  HoldNext next step x = AreNext next step x.0.now x.1.now x.2.now x.3.now x.4.now x.5.now x.6.now x.7.now
+
+  -- slot `k` of them
+  abbrev pub nth_of : ℕ → EightSlots A → Slot A
+  nth_of k x = nth k x.0.now x.1.now x.2.now x.3.now x.4.now x.5.now x.6.now x.7.now
+
+  -- what is found of the slots of a table, eight at a time from slot `8 * from` on: the number and the slots of the first eight that don't all extend the pending run; none where each does
+  module _ (t : Table A) (from : ℕ) (found : Option (ℕ × EightSlots A)) where
+    -- the words before them extend the run, which has been extended by them
+    abbrev pub GoesToFound : Pending → Pending → Type 0
+    GoesToFound old new = MatchOption found (GoesTo t (8 * from) 512 old new) (λ r. GoesTo t (8 * from) (8 * r.0) old new)
+
+    -- each slot to the last of them was looked at once
+    abbrev pub HasLookedToFound : ℕ → ℕ → Type 0
+    HasLookedToFound old new = MatchOption found (HasLooked old (512 - 8 * from) new) (λ r. HasLooked old (8 * r.0 + 8 - 8 * from) new)
+
+    -- they are slots of the table
+    abbrev pub IsFoundIn : Type 0
+    IsFoundIn = IfSome found (λ r. (from ≤ r.0) × (r.0 < 64) × AreSlotsFrom t (8 * r.0) r.1)

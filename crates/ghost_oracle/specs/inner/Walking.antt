@@ -1,11 +1,12 @@
 -- How a walk goes on: the runs and the tables that it has found so far.
 use Rattle.std.specs.Prelude.{◌≡◌, ℕ, zero, suc, ◌+◌, ◌*◌, ◌<◌, ◌≤◌, nat_lt, List, [], ◌∷◌, if◌then◌else◌}
 use Rattle.page_state.specs.declared.entry.Run.{Run}
+use Rattle.page_state.specs.Geometries.{block_pages}
 use Rattle.page_state.specs.Map.{Map}
-use Rattle.page_state.specs.Runs.{run_end, IsCoarsest}
+use Rattle.page_state.specs.Runs.{map_of, run_end, IsCoarsest}
 use Rattle.table_tree.specs.declared.table.Table.{Table}
 use Rattle.table_tree.specs.AllBlocks.{gathered}
-use Rattle.table_tree.specs.Meaning.{slot_at, slot_case, frame_of}
+use Rattle.table_tree.specs.Meaning.{entry_at, slot_at, slot_case, frame_of}
 use Rattle.ghost_trees.specs.declared.tree.Table.{Table as FoundTable}
 use Rattle.ghost_trees.specs.Joins.{joined}
 use Rattle.ghost_trees.specs.Small.{AreSmall}
@@ -30,6 +31,10 @@ joined_last (n ∷ (m ∷ rs)) r = n ∷ joined_last (m ∷ rs) r
 -- a map that went on, from a page to another, as `m` says
 abbrev pub GoesOn : Map → ℕ → ℕ → Map → Map → Type 0
 GoesOn m from to old new = (page : ℕ) → page < to → new page ≡ (if nat_lt page from then old page else m page)
+
+-- a list of runs went on by what a table at block `number` says, with `depth` levels below it
+abbrev pub GoesOnBy : {A : Type 0} → ℕ → ℕ → Table A → List Run → List Run → Type 0
+GoesOnBy depth number t old new = GoesOn (entry_at depth t) (number * block_pages (depth + 1)) ((number + 1) * block_pages (depth + 1)) (map_of old) (map_of new)
 
 -- a table at a block with `depth` levels below it, where it is found
 abbrev pub found_at : {A : Type 0} → ℕ → ℕ → Table A → FoundTable

@@ -27,11 +27,14 @@ pub returns-clause-kept : goal.returns-clause-kept
 returns-clause-kept g c = λ past.
     c.ghost_with.ensures.kept (c.in_ok-guests.ensures.kept (subst (All (λ p. IsLowGuest (guest_held p))) (sym c.as_slice.ensures.value) (low_guests c.args.parts.now past))) (low_cpus c.args.parts.now past)
 
+pub returns-clause-layout : goal.returns-clause-layout
+returns-clause-layout g c = if_ok _ _ c.ghost_with.result (λ x e. e.layout) c.ghost_with.ensures.with
+
 pub returns-clause-trees : goal.returns-clause-trees
-returns-clause-trees g c = c.ghost_with.ensures.trees
+returns-clause-trees g c = if_ok _ _ c.ghost_with.result (λ x e. e.trees) c.ghost_with.ensures.with
 
 pub returns-clause-state : goal.returns-clause-state
-returns-clause-state g c = if_ok _ _ c.ghost_with.result (λ x e. e ∙ ap (λ (s : Shared). found_state s.row (state_of c.args.parts.now)) c.in_ok-shared.ensures.shared ∙ ap (λ rs. found_state (row_in rs) (state_of c.args.parts.now)) c.new.ensures) c.ghost_with.ensures.state
+returns-clause-state g c = if_ok _ _ c.ghost_with.result (λ x e. e.state ∙ ap (λ (s : Shared). found_state s.row (state_of c.args.parts.now)) c.in_ok-shared.ensures.shared ∙ ap (λ rs. found_state (row_in rs) (state_of c.args.parts.now)) c.new.ensures) c.ghost_with.ensures.with
 
 pub returns-clause-reads : goal.returns-clause-reads
 returns-clause-reads g c =

@@ -1,4 +1,4 @@
-use Rattle.std.proofs.Common.{◌≡◌, ◌∙◌, ap, arith, length, map}
+use Rattle.std.proofs.Common.{◌≡◌, ◌∙◌, ap, arith, length, map, refl}
 use Rattle.guest_steps.specs.View.{guest_held, cpu_of}
 use Rattle.ghost_spec.specs.States.{guest_in}
 use Rattle.ghost_spec.specs.Views.{cpu_in, shared_in_lists}
@@ -8,22 +8,6 @@ use Rattle.ghost_oracle.specs.inner.Trees.{AreTreesKept}
 use Rattle.ghost_oracle.proofs.LowKept.{all_kept, low_cpus_kept}
 use Rattle.ghost_oracle.proofs.kept.ghost_with.Goals as goal
 use Rattle.ghost_oracle.proofs.kept.ghost_with.Given as Given
-
-pub returns-clause-state : goal.returns-clause-state
-returns-clause-state g c = is_found c.args.parts.now (record { layout = c.in-Ok.layout; vms = c.in-Ok-slots_from.vms; shared = c.args.shared; guests = c.args.guests; cpus = c.in-Ok-cpus_from.cpus; rooms = c.in-Ok-rooms_from.rooms }) (shared_in_lists c.args.shared).row (record {
-  layout = c.in-Ok.ensures;
-  slots = λ v. c.in-Ok-slots_from.ensures.slots v;
-  shared = c.requires.shared;
-  guests = c.requires.guests;
-  cpus = c.in-Ok-cpus_from.ensures ∙ ap (map cpu_of) c.as_slice.ensures.value;
-  vms_room = c.in-Ok-rooms_from.ensures.vms;
-  shared_room = c.in-Ok-rooms_from.ensures.shared;
-  guest_rooms = c.in-Ok-rooms_from.ensures.guests;
-  cpu_rooms = c.in-Ok-rooms_from.ensures.cpus;
-})
-
-pub returns-clause-layout : goal.returns-clause-layout
-returns-clause-layout g c = c.in-Ok.ensures
 
 counted : (g : Given.Over) (c : goal.In-Ok-rooms_from g) → length c.args.parts.now.cpus.items ≡ c.in-Ok.layout.config.cpus
 counted g c = let told = ap (λ l. l.config.cpus) c.in-Ok.ensures in omega (arith, told, c.args.parts.now.counted, c.args.parts.now.cpus.ok.0)
@@ -39,8 +23,24 @@ trees g c = record {
   cpu_rooms_count = ap length c.in-Ok-rooms_from.ensures.cpus ∙ length-map c.args.parts.now.cpus.items (λ k. k.log.room) ∙ counted g c;
 }
 
-pub returns-clause-trees : goal.returns-clause-trees
-returns-clause-trees g c = trees g c
+pub returns-clause-with : goal.returns-clause-with
+returns-clause-with g c = record {
+  state = is_found c.args.parts.now (record { layout = c.in-Ok.layout; vms = c.in-Ok-slots_from.vms; shared = c.args.shared; guests = c.args.guests; cpus = c.in-Ok-cpus_from.cpus; rooms = c.in-Ok-rooms_from.rooms }) (shared_in_lists c.args.shared).row (record {
+    layout = c.in-Ok.ensures;
+    slots = λ v. c.in-Ok-slots_from.ensures.slots v;
+    shared = c.requires.shared;
+    guests = c.requires.guests;
+    cpus = c.in-Ok-cpus_from.ensures ∙ ap (map cpu_of) c.as_slice.ensures.value;
+    vms_room = c.in-Ok-rooms_from.ensures.vms;
+    shared_room = c.in-Ok-rooms_from.ensures.shared;
+    guest_rooms = c.in-Ok-rooms_from.ensures.guests;
+    cpu_rooms = c.in-Ok-rooms_from.ensures.cpus;
+  });
+  layout = c.in-Ok.ensures;
+  trees = trees g c;
+  shared = refl;
+  guests = refl;
+}
 
 pub returns-clause-kept : goal.returns-clause-kept
 returns-clause-kept g c = λ guests low. all_kept (trees g c) guests (low_cpus_kept c.in-Ok-cpus_from.cpus.items c.args.parts.now.cpus.items (c.in-Ok-cpus_from.ensures ∙ ap (map cpu_of) c.as_slice.ensures.value) low)

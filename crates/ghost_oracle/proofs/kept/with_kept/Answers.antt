@@ -10,7 +10,7 @@ use Rattle.ghost_oracle.specs.Found.{found_state}
 use Rattle.ghost_oracle.specs.Low.{IsLowGuest}
 use Rattle.ghost_oracle.proofs.Founds.{own_row}
 use Rattle.ghost_oracle.proofs.LowParts.{low_guests, low_cpus}
-use Rattle.ghost_oracle.proofs.Scratch.{kept_frames, if_ok, if_ok2}
+use Rattle.ghost_oracle.proofs.Scratch.{kept_frames, if_ok}
 use Rattle.ghost_oracle.proofs.kept.with_kept.Goals as goal
 
 pub shared_with_maplets-requires-clause-host : goal.shared_with_maplets-requires-clause-host
@@ -40,23 +40,23 @@ ghost_with-requires g c = record {
 }
 
 pub returns-clause-state : goal.returns-clause-state
-returns-clause-state g c = if_ok _ _ c.ghost_with.result (λ x e. e ∙ ap (λ (s : Shared). found_state s.row (state_of c.args.parts.now)) c.in_ok-shared.ensures.shared) c.ghost_with.ensures.state
+returns-clause-state g c = if_ok _ _ c.ghost_with.result (λ x e. e.state ∙ ap (λ (s : Shared). found_state s.row (state_of c.args.parts.now)) c.in_ok-shared.ensures.shared) c.ghost_with.ensures.with
 
 pub returns-clause-layout : goal.returns-clause-layout
-returns-clause-layout g c = c.ghost_with.ensures.layout
+returns-clause-layout g c = if_ok _ _ c.ghost_with.result (λ x e. e.layout) c.ghost_with.ensures.with
 
 pub returns-clause-kept : goal.returns-clause-kept
 returns-clause-kept g c = c.ghost_with.ensures.kept c.in_ok-guests.ensures.kept (low_cpus c.args.parts.now c.requires.history)
 
 pub returns-clause-maplets : goal.returns-clause-maplets
-returns-clause-maplets g c = if_ok2 _ _ _ c.ghost_with.result (λ x e f. record {
-  host = ap (λ s. s.host.runs.items) e ∙ c.in_ok-shared.ensures.host;
-  hyp = ap (λ s. s.hyp.runs.items) e ∙ c.in_ok-shared.ensures.hyp;
-  guests = ap (λ xs. map (λ x. x.tree.runs.items) xs.items) f ∙ c.in_ok-guests.ensures.runs ∙ ap (map (λ x. runs_of x.guest.body)) c.as_slice-2.ensures.value;
-}) c.ghost_with.ensures.shared c.ghost_with.ensures.guests
+returns-clause-maplets g c = if_ok _ _ c.ghost_with.result (λ x e. record {
+  host = ap (λ s. s.host.runs.items) e.shared ∙ c.in_ok-shared.ensures.host;
+  hyp = ap (λ s. s.hyp.runs.items) e.shared ∙ c.in_ok-shared.ensures.hyp;
+  guests = ap (λ xs. map (λ x. x.tree.runs.items) xs.items) e.guests ∙ c.in_ok-guests.ensures.runs ∙ ap (map (λ x. runs_of x.guest.body)) c.as_slice-2.ensures.value;
+}) c.ghost_with.ensures.with
 
 pub returns-clause-rows : goal.returns-clause-rows
-returns-clause-rows g c = if_ok _ _ c.ghost_with.result (λ x e. ap (λ s. run_map advance_row s.rows.runs) e ∙ ap (run_map advance_row) c.in_ok-shared.ensures.rows) c.ghost_with.ensures.shared
+returns-clause-rows g c = if_ok _ _ c.ghost_with.result (λ x e. ap (λ s. run_map advance_row s.rows.runs) e.shared ∙ ap (run_map advance_row) c.in_ok-shared.ensures.rows) c.ghost_with.ensures.with
 
 pub returns-clause-frames : goal.returns-clause-frames
-returns-clause-frames g c = if_ok _ _ c.ghost_with.result (λ x e. kept_frames c.args.parts.now x.shared.rows.runs (ap (λ s. run_map advance_row s.rows.runs) e ∙ ap (run_map advance_row) c.in_ok-shared.ensures.rows)) c.ghost_with.ensures.shared
+returns-clause-frames g c = if_ok _ _ c.ghost_with.result (λ x e. kept_frames c.args.parts.now x.shared.rows.runs (ap (λ s. run_map advance_row s.rows.runs) e.shared ∙ ap (run_map advance_row) c.in_ok-shared.ensures.rows)) c.ghost_with.ensures.with

@@ -1,4 +1,4 @@
-use Rattle.std.proofs.Common.{◌≡◌, ◌+◌, ◌-◌, ◌*◌, ◌≤◌, ◌<◌, ◌++◌, sym, ap, subst, ◌∙◌, arith}
+use Rattle.std.proofs.Common.{◌≡◌, ◌+◌, ◌-◌, ◌*◌, ◌≤◌, ◌<◌, ◌++◌, sym, ap, subst, ◌∙◌, arith, rules}
 use Rattle.page_state.specs.Geometries.{block_pages}
 use Rattle.table_tree.specs.Reading.{count_of}
 use Rattle.table_tree.specs.Tables.{tables_in}
@@ -41,8 +41,18 @@ loop-k-init g t c =
 pub overflow_mul-part-in-Word : goal.overflow_mul-part-in-Word
 overflow_mul-part-in-Word g t c = let x = part_small c.args.depth c.args.number (8 * c.in-Some.c + c.loop-k.k) c.pages_under-pages.result (omega (arith, c.in-Some.ensures.slots.1, c.loop-k-test.true)) c.pages_under-pages.ensures.value c.requires.place in omega (arith, x)
 
-pub take_word-requires-clause-place : goal.take_word-requires-clause-place
-take_word-requires-clause-place g t c = part_small c.args.depth c.args.number (8 * c.in-Some.c + c.loop-k.k) c.pages_under-pages.result (omega (arith, c.in-Some.ensures.slots.1, c.loop-k-test.true)) c.pages_under-pages.ensures.value c.requires.place
+pub take_word-requires-clause-can : goal.take_word-requires-clause-can
+take_word-requires-clause-can g t c =
+    let pages = c.pages_under-pages.ensures.value in
+    let pending = c.loop-k.invariant.pending in
+    record {
+      depth_in = c.requires.depth_in;
+      pages = pages;
+      place = part_small c.args.depth c.args.number (8 * c.in-Some.c + c.loop-k.k) c.pages_under-pages.result (omega (arith, c.in-Some.ensures.slots.1, c.loop-k-test.true)) pages c.requires.place;
+      order = search rules;
+      small = pending.small;
+      before = c.loop-k.invariant.runs;
+    }
 
 pub overflow_mul-part-in-Child : goal.overflow_mul-part-in-Child
 overflow_mul-part-in-Child g t c = let x = part_small c.args.depth c.args.number (8 * c.in-Some.c + c.loop-k.k) c.pages_under-pages.result (omega (arith, c.in-Some.ensures.slots.1, c.loop-k-test.true)) c.pages_under-pages.ensures.value c.requires.place in omega (arith, x)
