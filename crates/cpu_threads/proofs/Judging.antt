@@ -20,6 +20,7 @@ use Rattle.guest_steps.specs.declared.parts.CpuState.{CpuState}
 use Rattle.guest_steps.specs.Logs.{IsOfSize}
 use Rattle.guest_steps.specs.View.{cpu_of, guest_held, shared_of, vm_slots}
 use Rattle.hypercalls.specs.Stands.{at_place}
+use Rattle.part_table.proofs.Left.{own_left, part_left}
 use Rattle.part_table.specs.declared.slot.Slot.{Slot}
 use Rattle.part_table.specs.declared.slot.Slot.TheVariants.{Vm as VmSlot, Shared as SharedSlot, Guest as GuestSlot}
 use Rattle.part_table.specs.Does.{Does, IsLeft, both_at, none_at, only_at}
@@ -155,10 +156,10 @@ module _ {A : Type 0} (l : Layout) where
       let x : Given A = first.parts in
       let y : Given A = last.parts in
       let s : Reference = recorded x l in
-      let x_by : x.own.id ≡ c.cpu = ap (λ (k : CpuState). k.id) first.own_is ∙ (left.own.id ∙ sym by) in
-      let sized : IsOfSize l.config.log x.own.log = subst (λ (k : CpuState). IsOfSize l.config.log k.log) (sym first.own_is) left.own.size in
+      let x_by : x.own.id ≡ c.cpu = ap (λ (k : CpuState). k.id) first.own_is ∙ ((own_left cpu own left).id ∙ sym by) in
+      let sized : IsOfSize l.config.log x.own.log = subst (λ (k : CpuState). IsOfSize l.config.log k.log) (sym first.own_is) (own_left cpu own left).size in
       let mine : IsOwn l s c.cpu own = subst (λ (k : CpuState). IsOwn l s c.cpu k) first.own_is (own_stands x c.cpu x_by sized) in
-      let t = does.goes s (λ k z e. stands x left.state k z (first.all k ∙ e) (left.parts k z e)) mine in
+      let t = does.goes s (λ k z e. stands x left.state k z (first.all k ∙ e) (part_left left k z e)) mine in
       let same : t.0.contents ≡ (recorded y l).contents = left_same c x y t.0 (step_changes l s t.0 c t.1) x_by (λ k z e. t.2 k z (sym (last.all k) ∙ e)) (subst (λ (k : CpuState). IsOwn l t.0 c.cpu k) (sym last.own_is) t.3)
       (λ k u. first.all k ∙ not_held c before only k (before k) refl u) (λ k e. not_used c before after own owned does k (uses c k) refl (sym (last.all k) ∙ e)) in
       let post_is : contents_in post ≡ t.0.contents = ap (λ (r : Reference). r.contents) last.state ∙ sym same in

@@ -14,6 +14,7 @@ use Rattle.reference_model.proofs.conditions.RunsLegal.{ready-usable, run_legal}
 use Rattle.guest_steps.specs.declared.parts.CpuState.{CpuState}
 use Rattle.guest_steps.specs.declared.parts.GuestPart.{GuestPart}
 use Rattle.guest_steps.specs.View.{cpu_of, guest_held}
+use Rattle.part_table.proofs.Left.{own_left, part_left}
 use Rattle.part_table.specs.declared.slot.Slot.{Slot}
 use Rattle.part_table.specs.declared.slot.Slot.TheVariants.{Vm as VmSlot, Shared as SharedSlot, Guest as GuestSlot}
 use Rattle.part_table.specs.Does.{Does, IsLeft}
@@ -76,17 +77,17 @@ module _ {A : Type 0} where
 
   module _ (l : Layout) (cpu : ℕ) (own : CpuState) (before : ℕ → Option (Slot A)) (left : ∥ IsLeft l cpu own before ∥₁) where
     pub can_before : CanRecord before own
-    can_before = untold_run before own (∥∥₁_map left (λ h. can_record l h.ready h.state (run_legal l h.log h.state h.ready h.run) before cpu own h.parts h.own))
+    can_before = untold_run before own (∥∥₁_map left (λ h. can_record l h.ready h.state (run_legal l h.log h.state h.ready h.run) before cpu own (part_left h) (own_left cpu own h)))
 
     pub can_after : (c : Call) (after : ℕ → Option (Slot A)) (owned : CpuState) → cpu < l.config.cpus → c.cpu ≡ cpu → Does l c before own after owned → CanRecord after owned
     can_after c after owned known by does = untold_run after owned (∥∥₁_map left (λ h.
-        let t = does.goes h.state h.parts (subst (λ n. IsOwn l h.state n own) (sym by) h.own) in
+        let t = does.goes h.state (part_left h) (subst (λ n. IsOwn l h.state n own) (sym by) (own_left cpu own h)) in
         can_record l h.ready t.0 (legal_keeps l h.state t.0 c (ready-usable l h.ready) (subst (λ n. n < l.config.cpus) (sym by) known) (run_legal l h.log h.state h.ready h.run) t.1) after c.cpu owned t.2 t.3))
 
     -- its CPU's number stays
     pub id_after : (c : Call) (after : ℕ → Option (Slot A)) (owned : CpuState) → c.cpu ≡ cpu → Does l c before own after owned → owned.id ≡ c.cpu
-    id_after c after owned by does = ∥∥₁_elim left (nat_prop owned.id c.cpu) (λ h. let t = does.goes h.state h.parts (subst (λ n. IsOwn l h.state n own) (sym by) h.own) in t.3.id)
+    id_after c after owned by does = ∥∥₁_elim left (nat_prop owned.id c.cpu) (λ h. let t = does.goes h.state (part_left h) (subst (λ n. IsOwn l h.state n own) (sym by) (own_left cpu own h)) in t.3.id)
 
     -- and its next generation is a number of 64 bits
     pub next_before : (step : Step) → HasNextGeneration (cpu_of own).ticket step
-    next_before step = untold_next (cpu_of own).ticket step (∥∥₁_map left (λ h. subst (λ (k : Cpu). HasNextGeneration k.ticket step) (sym h.own.content) (run_has_next l h.log h.state h.ready h.run cpu step)))
+    next_before step = untold_next (cpu_of own).ticket step (∥∥₁_map left (λ h. subst (λ (k : Cpu). HasNextGeneration k.ticket step) (sym (own_left cpu own h).content) (run_has_next l h.log h.state h.ready h.run cpu step)))

@@ -18,7 +18,7 @@ use Rattle.guest_steps.specs.Logs.{StoredCalls}
 use Rattle.ghost_spec.specs.States.{contents_in}
 use Rattle.ghost_judge.specs.Judgements.{IsAsTold, told_of}
 use Rattle.part_table.specs.declared.slot.Slot.{Slot}
-use Rattle.part_table.specs.Answered.{FindsAway, FindsLogFull, MeetsAnother, StoresCall, used_by}
+use Rattle.part_table.specs.Answered.{FindsAway, FindsLogFull, MeetsAnother, MakesCall, used_by}
 use Rattle.part_table.specs.Endings.{IsEndOf, KeepsSeen, KeepsTried}
 use Rattle.part_table.specs.Parts.{parts, part_of, uses}
 use Rattle.part_table.specs.Passes.{Pass}
@@ -39,8 +39,8 @@ pub record IsHistoryOf (l : TheLayout) (log : List Call) (p : Pass) : Type 0 whe
 -- There is one legal history at whose end the parts and the CPUs are. It is each given pass's, and has no call of a CPU whose pass was never handed out
 pub record OneHistory {A : Type 0} (l : TheLayout) (found : List (Slot A)) (cpus : List CpuState) (passes : List (Option Pass)) (given : List Pass) : Type 0 where
   pub end : IsEndOf l found cpus
-  pub each : OfGiven given (IsHistoryOf l end.log)
-  pub idle : (c : ℕ) → IsAtHome passes c → calls_by c end.log ≡ []
+  pub each : OfGiven given (IsHistoryOf l end.left.log)
+  pub idle : (c : ℕ) → IsAtHome passes c → calls_by c end.left.log ≡ []
 
 -- so it is where the parts and the CPUs are what a shutdown gives: the end of a legal history, which keeps each CPU's state, and what each given pass has seen and tried
 abbrev pub EndsInOne : Type 0 → Type 0
@@ -50,16 +50,16 @@ EndsInOne A = (l : TheLayout) (found : List (Slot A)) (cpus : List CpuState) (pa
 -- where a try of a given pass found a part's log full, it is full at the end
 abbrev pub FullLogsStay : Type 0 → Type 0
 FullLogsStay A = (l : TheLayout) (found : List (Slot A)) (cpus : List CpuState) (passes : List (Option Pass)) (given : List Pass) (h : OneHistory l found cpus passes given)
-    → OfGiven given (λ p. All (λ t. FoundFull t.1 → length (calls_on (part_of t.0) h.end.log) ≡ l.config.log) p.knows.tries)
+    → OfGiven given (λ p. All (λ t. FoundFull t.1 → length (calls_on (part_of t.0) h.end.left.log) ≡ l.config.log) p.knows.tries)
 
 -- what a pass has seen of a part only grows, and of a part that its call used it ends with the call
 abbrev pub SeenGrows : Type 0
-SeenGrows = (step : Step) (reply : Reply) (v w : Known) (s : StoresCall step reply v w) (k : ℕ)
+SeenGrows = (step : Step) (reply : Reply) (v w : Known) (s : MakesCall step reply v w) (k : ℕ)
     → StartsWith (seen_at w.seen k) (seen_at v.seen k) × (uses s.call k ≡ true → (before : List Call) × (seen_at w.seen k ≡ before ++ s.call ∷ []))
 
 -- a stored call tried just the parts that its step uses, in their order and each once, and took each with room in its log
 abbrev pub TakesEach : Type 0
-TakesEach = (step : Step) (reply : Reply) (v w : Known) (s : StoresCall step reply v w)
+TakesEach = (step : Step) (reply : Reply) (v w : Known) (s : MakesCall step reply v w)
     → (map (λ t. t.0) s.tries ≡ used_by step v) × All (λ t. FoundRoom t.1) s.tries
 
 -- tries of the first of these parts, in their order and each once: the last one found this, and each before it took its part with room in its log

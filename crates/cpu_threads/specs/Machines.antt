@@ -8,7 +8,7 @@ use Rattle.page_state.specs.LayoutFaults.{IsAccepted}
 use Rattle.page_state.specs.LayoutView.{layout_of}
 use Rattle.page_state.specs.Regions.{Memory}
 use Rattle.reference_model.specs.Boot.{IsCarveEnough}
-use Rattle.part_table.specs.Answered.{FindsLogFull, StoresCall, used_by}
+use Rattle.part_table.specs.Answered.{FindsLogFull, MakesCall, used_by}
 use Rattle.part_table.specs.Passes.{AreFirst, IsPassOf, Opened, Pass, first_pass}
 use Rattle.part_table.specs.Known.{IsSame, Known}
 use Rattle.part_table.specs.Tried.{EndsIn, FoundAway, Try}
@@ -64,7 +64,7 @@ pub record MeetsOnly (step : Step) (v w : Known) : Type 0 where
 pub record StoresInTheEnd (step : Step) (reply : Reply) (v w : Known) : Type 0 where
   pub last : Known
   pub met : MeetsOnly step v last
-  pub stores : StoresCall step reply last w
+  pub stores : MakesCall step reply last w
 
 -- a step is tried while another pass is in its way, and then a log is found full
 pub record FullInTheEnd (step : Step) (v w : Known) : Type 0 where

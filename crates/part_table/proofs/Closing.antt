@@ -10,12 +10,12 @@ use Rattle.atomic_table.specs.Table.{Final, Seen}
 use Rattle.page_state.specs.declared.layout.Layout.{Layout as TheLayout}
 use Rattle.step_reply.specs.declared.reply.Call.{Call}
 use Rattle.page_state.specs.LayoutView.{layout_of}
-use Rattle.reference_model.specs.History.{calls_by}
+use Rattle.reference_model.specs.History.{calls_by, calls_on}
 use Rattle.guest_steps.specs.declared.parts.CpuState.{CpuState}
 use Rattle.part_table.specs.declared.rule.View.{View}
 use Rattle.part_table.specs.declared.slot.Slot.{Slot}
 use Rattle.part_table.specs.Endings.{ForEach, Gives, HasEnd, HaveEnded, IsEndOf, KeepsOwn, KeepsSeen, KeepsTried}
-use Rattle.part_table.specs.Parts.{parts, log_of, IsOwn}
+use Rattle.part_table.specs.Parts.{parts, part_of, log_of, IsPart, IsOwn}
 use Rattle.part_table.specs.Passes.{AreHomeFrom, Pass}
 use Rattle.part_table.specs.Rule.{Ended, IsLawful}
 use Rattle.part_table.specs.Known.{StartsWith, seen_at}
@@ -34,20 +34,26 @@ module _ {A : Type 0} (key : TheLayout) (table : TableId) (n : ℕ) (ended : Lis
     (f : Ends A key ended xs) (have : HaveEnded n passes ended cpus) (gives : Gives parts xs found) (home : AreHomeFrom table n 0 passes) (all : n ≡ key.config.cpus) (long : length passes ≡ n) where
   pub is_end : IsEndOf key found cpus
   is_end = record {
-    ready = f.ready;
-    log = f.log;
-    state = f.state;
-    run = f.run;
-    stored = f.stored;
     all = gives.0;
-    each_part = λ k lt. let h = f.each_part k lt in (h.0, gives.1 k h.0 lt h.1, h.2, h.3);
     count = have.1 ∙ all;
-    each_cpu = λ k e at.
-        let less : k < n = bound cpus k e n have.1 at in
-        let h = home k (omega arith) less in
-        let b = have.2 k h.0 less h.1 in
-        let same : h.0.knows.own ≡ e = ap (from h.0.knows.own) (sym b.1 ∙ at) in
-        subst (λ (z : CpuState). (z.log.calls ≡ calls_by k f.log) × IsOwn (layout_of key) f.state k z) same (f.each_cpu k (h.0.knows.own, h.0.knows.seen, h.0.knows.tries) b.0);
+    left = record {
+      ready = f.ready;
+      log = f.log;
+      state = f.state;
+      run = f.run;
+      stored = f.stored;
+      cpus = λ k e at.
+          let less : k < n = bound cpus k e n have.1 at in
+          let h = home k (omega arith) less in
+          let b = have.2 k h.0 less h.1 in
+          let same : h.0.knows.own ≡ e = ap (from h.0.knows.own) (sym b.1 ∙ at) in
+          subst (λ (z : CpuState). (z.log.calls ≡ calls_by k f.log) × IsOwn (layout_of key) f.state k z) same (f.each_cpu k (h.0.knows.own, h.0.knows.seen, h.0.knows.tries) b.0);
+      parts = λ k x at.
+          let less : k < parts = bound found k x parts gives.0 at in
+          let h = f.each_part k less in
+          let same : h.0 ≡ x = part_same h.0 x (sym (gives.1 k h.0 less h.1) ∙ at) in
+          subst (λ (z : Slot A). IsPart (layout_of key) f.state k z × ((log_of z).calls ≡ calls_on (part_of k) f.log)) same (h.2, h.3);
+    };
   }
 
   pub keeps_own : ForEach passes (KeepsOwn cpus)

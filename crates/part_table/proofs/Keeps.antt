@@ -25,6 +25,7 @@ use Rattle.part_table.specs.declared.rule.View.{View}
 use Rattle.part_table.specs.declared.slot.Slot.{Slot}
 use Rattle.part_table.specs.Parts.{parts, part_of, uses, log_of, IsPart, IsOwn}
 use Rattle.part_table.specs.Does.{Does}
+use Rattle.part_table.proofs.Left.{one_cpu}
 use Rattle.part_table.proofs.Fronts.{fronts_longer, fronts_missed, fronts_took}
 use Rattle.part_table.specs.Rule.{AreFrontsIn, Hands, held_at, seen_with, StandsAfter, Knows, Rooted, IsLawful, taking, missing, releasing, took, Standing, returned, stored, entered, storing, tail, known_of}
 use Rattle.part_table.specs.Known.{at, seen_at, StartsWith, Extends, own_at_boot}
@@ -277,13 +278,16 @@ module _ (A : Type 0) (key : TheLayout) where
 
       extends_it : Extends c (known_of w)
       extends_it = let same : key ≡ m.0.layout = sym (mine.layout on) in record {
-        ready = subst (λ (l : TheLayout). CanBoot (layout_of l)) same r.ready;
-        log = r.log;
-        state = gone.0;
-        run = subst (λ (l : TheLayout). IsRun (layout_of l) log' gone.0) same runs;
-        stored = all_stored;
-        mine = own_list;
-        own = subst (λ (z : TheLayout × ℕ). IsOwn (layout_of z.0) gone.0 z.1 owned) (λ i. (same i, by i)) gone.3;
+        left = record {
+          ready = subst (λ (l : TheLayout). CanBoot (layout_of l)) same r.ready;
+          log = log';
+          state = gone.0;
+          run = subst (λ (l : TheLayout). IsRun (layout_of l) log' gone.0) same runs;
+          stored = all_stored;
+          cpus = one_cpu (λ n k. (k.log.calls ≡ calls_by n log') × IsOwn (layout_of m.0.layout) gone.0 n k) m.0.cpu owned (own_list, subst (λ (z : TheLayout × ℕ). IsOwn (layout_of z.0) gone.0 z.1 owned) (λ i. (same i, by i)) gone.3);
+          parts = λ j x q. absurd cc;
+        };
+        ends = (r.log, refl);
         seen = λ j yes. let u = does.used j yes in after_seen after m.0.seen j u.1 u.3 ∙ (steps j u.1 u.3).1;
       }
 
@@ -394,10 +398,9 @@ module _ (A : Type 0) (key : TheLayout) where
         log = new.log;
         state = new.state;
         run = subst (λ (l : TheLayout). IsRun (layout_of l) new.log new.state) same new.run;
-        own = subst (λ (l : TheLayout). IsOwn (layout_of l) new.state w.cpu w.own) same (f.own on);
-        mine = f.mine on;
-        parts = λ j y e. let a = f.held j y e in subst (λ (l : TheLayout). IsPart (layout_of l) new.state j y) same a.4.0;
-        logs = λ j y e. (f.held j y e).4.1;
+        stored = new.stored;
+        cpus = one_cpu (λ c k. (k.log.calls ≡ calls_by c new.log) × IsOwn (layout_of m.0.layout) new.state c k) w.cpu w.own (f.mine on, subst (λ (l : TheLayout). IsOwn (layout_of l) new.state w.cpu w.own) same (f.own on));
+        parts = λ j y e. let a = f.held j y e in (subst (λ (l : TheLayout). IsPart (layout_of l) new.state j y) same a.4.0, a.4.1);
       } in
       (w, takes k (Some x), h.1, new, ((λ _. (x, refl, subst (λ l. StartsWith l (seen_at m.0.seen k)) (sym h.2.1) (mine.seen on k), stands)), λ nz. absurd (nz home))))
       (λ away. (missing m.0 k, keeps, tt, misses_it s r id k m on inside here away, ((λ z. absurd (away z)), λ _. refl)))

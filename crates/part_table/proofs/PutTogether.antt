@@ -2,6 +2,7 @@
 use Rattle.std.proofs.Common.{◌≡◌, ◌∙◌, ℕ, zero, suc, ◌<◌, ◌==◌, false, List, [], ◌∷◌, ◌++◌, length, map, drop, slice_get, slice_index_or, All, Some, refl, sym, ap, subst, arith, append_assoc, append-nil}
 use Rattle.std.proofs.lemmas.List.{map-append}
 use Rattle.std.proofs.lemmas.Bool.Decides.{nat_tests}
+use Rattle.part_table.proofs.Left.{each_part}
 use Rattle.part_table.specs.declared.slot.Slot.{Slot}
 use Rattle.part_table.specs.declared.slot.Slot.TheVariants.{Vm as VmSlot, Shared as SharedSlot, Guest as GuestSlot}
 use Rattle.guest_steps.specs.declared.parts.VmPart.{VmPart}
@@ -116,13 +117,13 @@ module _ {A : Type 0} where
   end_parts l (x ∷ []) cpus h = absurd (let n = h.all in omega (arith, n))
   end_parts l (x ∷ (y ∷ xs)) cpus h =
       let many = h.all in
-      let a = h.each_part 0 (omega arith) in
-      let b = h.each_part 1 (omega arith) in
-      let v = vms_front (layout_of l) h.state a.0 a.2 in
-      let s = shared_front (layout_of l) h.state b.0 b.2 in
+      let a = each_part h 0 (omega arith) in
+      let b = each_part h 1 (omega arith) in
+      let v = vms_front (layout_of l) h.left.state a.0 a.2 in
+      let s = shared_front (layout_of l) h.left.state b.0 b.2 in
       let ex : x ≡ VmSlot v.0 = some_same x a.0 a.1 ∙ v.1 in
       let ey : y ≡ SharedSlot s.0 = some_same y b.0 b.1 ∙ s.1 in
-      let guests = guests_from (λ k z. IsPart (layout_of l) h.state (suc (suc k)) z) (guest_of (layout_of l) h.state) xs (λ k less. let t = h.each_part (suc (suc k)) (omega (arith, less, many)) in (t.0, t.1, t.2)) in
+      let guests = guests_from (λ k z. IsPart (layout_of l) h.left.state (suc (suc k)) z) (guest_of (layout_of l) h.left.state) xs (λ k less. let t = each_part h (suc (suc k)) (omega (arith, less, many)) in (t.0, t.1, t.2)) in
       subst (λ z. AreParts (z ∷ (y ∷ xs))) (sym ex) (subst (λ z. AreParts (VmSlot v.0 ∷ (z ∷ xs))) (sym ey) guests)
 
   get_guest : (gs : List (GuestPart A)) (j : ℕ) (g : GuestPart A) → slice_get gs j ≡ Some g → slice_get (map (λ (h : GuestPart A). GuestSlot h) gs) j ≡ Some (GuestSlot g)
@@ -141,25 +142,25 @@ module _ {A : Type 0} where
     pub guests_count : length gs ≡ 64
     guests_count = let n = ap length is in let many = end.all in let m = length_guests gs in omega (arith, n, many, m)
 
-    pub vms_end : IsVms at end.state v × (v.log.calls ≡ calls_on vm_part end.log)
+    pub vms_end : IsVms at end.left.state v × (v.log.calls ≡ calls_on vm_part end.left.log)
     vms_end =
-        let t = end.each_part 0 (omega arith) in
+        let t = each_part end 0 (omega arith) in
         let e : t.0 ≡ VmSlot v = sym (some_same (VmSlot v) t.0 (sym (ap (λ (xs : List (Slot A)). slice_get xs 0) is) ∙ t.1)) in
-        (subst (IsPart at end.state 0) e t.2, sym (ap (λ (x : Slot A). (log_of x).calls) e) ∙ t.3)
+        (subst (IsPart at end.left.state 0) e t.2, sym (ap (λ (x : Slot A). (log_of x).calls) e) ∙ t.3)
 
-    pub shared_end : IsShared at end.state s × (s.log.calls ≡ calls_on shared_part end.log)
+    pub shared_end : IsShared at end.left.state s × (s.log.calls ≡ calls_on shared_part end.left.log)
     shared_end =
-        let t = end.each_part 1 (omega arith) in
+        let t = each_part end 1 (omega arith) in
         let e : t.0 ≡ SharedSlot s = sym (some_same (SharedSlot s) t.0 (sym (ap (λ (xs : List (Slot A)). slice_get xs 1) is) ∙ t.1)) in
-        (subst (IsPart at end.state 1) e t.2, sym (ap (λ (x : Slot A). (log_of x).calls) e) ∙ t.3)
+        (subst (IsPart at end.left.state 1) e t.2, sym (ap (λ (x : Slot A). (log_of x).calls) e) ∙ t.3)
 
-    pub guest_end : (j : ℕ) (g : GuestPart A) → slice_get gs j ≡ Some g → IsGuest at end.state j g × (g.log.calls ≡ calls_on (guest_part j) end.log)
+    pub guest_end : (j : ℕ) (g : GuestPart A) → slice_get gs j ≡ Some g → IsGuest at end.left.state j g × (g.log.calls ≡ calls_on (guest_part j) end.left.log)
     guest_end j g here =
         let less = get_below gs j g here in
         let many = guests_count in
-        let t = end.each_part (suc (suc j)) (omega (arith, less, many)) in
+        let t = each_part end (suc (suc j)) (omega (arith, less, many)) in
         let e : t.0 ≡ GuestSlot g = sym (some_same (GuestSlot g) t.0 (sym (ap (λ (xs : List (Slot A)). slice_get xs (suc (suc j))) is ∙ get_guest gs j g here) ∙ t.1)) in
-        (subst (IsPart at end.state (suc (suc j))) e t.2, sym (ap (λ (x : Slot A). (log_of x).calls) e) ∙ t.3)
+        (subst (IsPart at end.left.state (suc (suc j))) e t.2, sym (ap (λ (x : Slot A). (log_of x).calls) e) ∙ t.3)
 
   -- parts that are put together so stand at the end of the history
   pub has_history : (q : Parts A) (found : List (Slot A)) (end : IsEndOf q.layout found q.cpus.items) → found ≡ VmSlot q.vms ∷ (SharedSlot q.shared ∷ map (λ (h : GuestPart A). GuestSlot h) q.guests.items) → HasHistory q
@@ -172,23 +173,23 @@ module _ {A : Type 0} where
       let ss = shared_end l found q.cpus.items end v s gs is in
       let count = end.count in
       record {
-        ready = end.ready;
-        log = end.log;
+        ready = end.left.ready;
+        log = end.left.log;
         history = record {
-          end = end.state;
-          run = end.run;
-          stored = end.stored;
+          end = end.left.state;
+          run = end.left.run;
+          stored = end.left.stored;
           vms = pair _ _ _ _ vs.0.content vs.1;
           shared = pair _ _ _ _ ss.0.content ss.1;
           guest = λ j less. let g = got gs j (let many = guests_count l found q.cpus.items end v s gs is in omega (arith, less, many)) in
               let t = guest_end l found q.cpus.items end v s gs is j g.0 g.1 in
               pair _ _ _ _ (ap (at_place no_guest guest_held) g.1 ∙ t.0.content) (ap (at_place [] (λ (w : GuestPart A). w.log.calls)) g.1 ∙ t.1);
           cpu = λ c less. let k = got q.cpus.items c (let less' : c < l.config.cpus = less in omega (arith, less', count)) in
-              let t = end.each_cpu c k.0 k.1 in
+              let t = end.left.cpus c k.0 k.1 in
               pair _ _ _ _ (ap (at_place no_cpu cpu_of) k.1 ∙ t.1.content) (ap (at_place [] (λ (w : CpuState). w.log.calls)) k.1 ∙ t.0);
         };
       }
 
   -- and the CPUs' own states are by number
   pub numbers : (l : TheLayout) (found : List (Slot A)) (cpus : List CpuState) → IsEndOf l found cpus → AreNumbered cpus
-  numbers l found cpus end c k there = (end.each_cpu c k there).1.id
+  numbers l found cpus end c k there = (end.left.cpus c k there).1.id

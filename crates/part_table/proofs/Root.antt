@@ -21,6 +21,7 @@ use Rattle.part_table.specs.declared.slot.Slot.{Slot}
 use Rattle.part_table.specs.Parts.{parts, part_of, log_of, IsPart, IsOwn}
 use Rattle.part_table.specs.Does.{IsLeft, none_at}
 use Rattle.part_table.proofs.Fronts.{fronts_none}
+use Rattle.part_table.proofs.Left.{one_cpu}
 use Rattle.part_table.specs.Rule.{AreFrontsIn, Ended, held_at, Knows, Rooted, IsLawful, IsIdle, nobody, rooted, one_more, newcomer, with_end}
 use Rattle.part_table.specs.Known.{StartsWith, seen_at, own_at_boot}
 use Rattle.part_table.proofs.Pairs.{set_at, at_bound, at_end, seats, still_held}
@@ -40,10 +41,9 @@ fresh_rest A key c can = record {
   log = [];
   state = boot (layout_of key);
   run = record { cpus = All-nil (λ (d : Call). d.cpu < key.config.cpus); leads = refl };
-  own = fresh_stands key c;
-  mine = refl;
+  stored = All-nil (λ (d : Call). IsStored d.reply);
+  cpus = one_cpu (λ n k. (k.log.calls ≡ calls_by n []) × IsOwn (layout_of key) (boot (layout_of key)) n k) c (own_at_boot key c) (refl, fresh_stands key c);
   parts = λ j x q. absurd cc;
-  logs = λ j x q. absurd cc;
 }
 
 module _ (A : Type 0) (key : TheLayout) where

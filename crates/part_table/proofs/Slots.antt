@@ -13,6 +13,7 @@ use Rattle.guest_steps.specs.declared.parts.CpuState.{CpuState}
 use Rattle.guest_steps.specs.View.{cpu_of}
 use Rattle.hypercalls.specs.declared.used_parts.UsedParts.TheVariants.{Guest, Both}
 use Rattle.hypercalls.specs.Uses.{parts_of, or_vms, by_slot}
+use Rattle.part_table.proofs.Left.{own_left}
 use Rattle.part_table.specs.Does.{IsLeft, none_at}
 
 guest_found : (b s : Bool) (slot : Option ℕ) (v : ℕ) → or_vms b (by_slot s slot) ≡ Guest v → slot ≡ Some v
@@ -38,7 +39,7 @@ module _ {A : Type 0} (key : TheLayout) (cpu : ℕ) (own : CpuState) (step : Ste
   slot_low v e =
       let slot : Option ℕ = guest_slot (cpu_of own) step in
       let x = used_of (names step) slot cpu left.state.contents in
-      let is : slot ≡ guest_slot x.cpu step = ap (λ (k : Cpu). guest_slot k step) (left.own.content ∙ sym (used_cpu (names step) slot cpu left.state.contents)) in
+      let is : slot ≡ guest_slot x.cpu step = ap (λ (k : Cpu). guest_slot k step) ((own_left cpu own left).content ∙ sym (used_cpu (names step) slot cpu left.state.contents)) in
       (reached_relies (layout_of key) cpu slot step x known is ∣ record { ready = left.ready; log = left.log; state = left.state; run = left.run; used = refl } ∣₁).slot_low v e
 
   pub guest_low : (v : ℕ) → parts_of (names step) (guest_slot (cpu_of own) step) ≡ Guest v → v < 64

@@ -29,6 +29,7 @@ use Rattle.guest_component.specs.Wants.{WantsNoMemory}
 use Rattle.guest_steps.specs.Roomy.{IsRoomy}
 use Rattle.reference_model.specs.declared.changes.Changes.{Changes}
 use Rattle.reference_model.specs.Decides.{decides}
+use Rattle.part_table.proofs.Left.{own_left, part_left}
 use Rattle.part_table.specs.Parts.{uses, log_of, IsPart, IsOwn, IsVms, IsShared, IsGuest}
 
 module _ {A : Type 0} where
@@ -205,18 +206,18 @@ module _ {A : Type 0} (l : Layout) (step : Step) (x : Lent A) (fits : Fits (name
 
   -- what a run leaves, as a step asks it
   pub reached : ∥ IsLeft l id x.cpu here ∥₁ → ∥ IsReached l n slot id (used_in x) ∥₁
-  reached left = ∥∥₁_map left (λ h. record { ready = h.ready; log = h.log; state = h.state; run = h.run; used = used_is h.state h.parts h.own })
+  reached left = ∥∥₁_map left (λ h. record { ready = h.ready; log = h.log; state = h.state; run = h.run; used = used_is h.state (part_left h) (own_left id x.cpu h) })
 
   pub suits : ∥ IsLeft l id x.cpu here ∥₁ → Suits l x
   suits left = record {
-    vms = some_one VmSlot (λ p. p.log) (λ p. refl) (λ v. IsOfSize l.config.log v.log) x.vms (λ p e. ∥∥₁_elim left (nat_prop _ _) (λ h. let is : IsVms l h.state p = h.parts 0 (VmSlot p) e in is.size));
+    vms = some_one VmSlot (λ p. p.log) (λ p. refl) (λ v. IsOfSize l.config.log v.log) x.vms (λ p e. ∥∥₁_elim left (nat_prop _ _) (λ h. let is : IsVms l h.state p = part_left h 0 (VmSlot p) e in is.size));
     shared = some_one SharedSlot (λ p. p.log) (λ p. refl) (λ s. SharedSuits l s) x.shared (λ p e.
-        let is : IsLeft l id x.cpu here → SharedSuits l p = (λ h. let i : IsShared l h.state p = h.parts 1 (SharedSlot p) e in i.suits) in
+        let is : IsLeft l id x.cpu here → SharedSuits l p = (λ h. let i : IsShared l h.state p = part_left h 1 (SharedSlot p) e in i.suits) in
         record { depth = ∥∥₁_elim left (nat_prop _ _) (λ h. (is h).depth); rows = λ f. ∥∥₁_elim left (bool_prop _ _) (λ h. (is h).rows f); log = ∥∥₁_elim left (nat_prop _ _) (λ h. (is h).log) });
     guest = some_guest slot x.guest fits.guest (λ v p is e.
-        let suit : IsLeft l id x.cpu here → GuestSuits l p = (λ h. let i : IsGuest l h.state v p = h.parts (suc (suc v)) (GuestSlot p) (ap (λ o. cond (is_slot o v) (option_map GuestSlot x.guest) None) is ∙ ap (λ b. cond b (option_map GuestSlot x.guest) None) (eq-self v) ∙ e) in i.suits) in
+        let suit : IsLeft l id x.cpu here → GuestSuits l p = (λ h. let i : IsGuest l h.state v p = part_left h (suc (suc v)) (GuestSlot p) (ap (λ o. cond (is_slot o v) (option_map GuestSlot x.guest) None) is ∙ ap (λ b. cond b (option_map GuestSlot x.guest) None) (eq-self v) ∙ e) in i.suits) in
         record { depth = ∥∥₁_elim left (nat_prop _ _) (λ h. (suit h).depth); log = ∥∥₁_elim left (nat_prop _ _) (λ h. (suit h).log) });
-    cpu = ∥∥₁_elim left (nat_prop _ _) (λ h. h.own.size);
+    cpu = ∥∥₁_elim left (nat_prop _ _) (λ h. (own_left id x.cpu h).size);
   }
     where
       some_guest : (o : Option ℕ) (q : Option (GuestPart A)) → is_some q ≡ is_some o → ((v : ℕ) (p : GuestPart A) → o ≡ Some v → option_map GuestSlot q ≡ Some (GuestSlot p) → GuestSuits l p) → IfSome q (λ g. GuestSuits l g)

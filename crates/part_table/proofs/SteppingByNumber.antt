@@ -131,10 +131,9 @@ module _ {A : Type 0} where
     log = h.log;
     state = h.state;
     run = h.run;
-    own = h.own;
-    mine = h.mine;
+    stored = h.stored;
+    cpus = h.cpus;
     parts = λ j x q. h.parts j x (sym (e j) ∙ q);
-    logs = λ j x q. h.logs j x (sym (e j) ∙ q);
   }
 
   pub does_as : (l : Layout) (c : Call) (b b' : ℕ → Option (Slot A)) (own : CpuState) (a a' : ℕ → Option (Slot A)) (owned : CpuState) → ((k : ℕ) → b k ≡ b' k) → ((k : ℕ) → a k ≡ a' k)

@@ -23,6 +23,7 @@ use Rattle.hypercalls.proofs.Stepping.{Fits, fits_of}
 use Rattle.hypercalls.proofs.Using.{nothing, vms, shared, guest, both}
 use Rattle.part_table.specs.declared.slot.Slot.{Slot}
 use Rattle.part_table.specs.declared.slot.Slot.TheVariants.{Vm as VmSlot, Shared as SharedSlot, Guest as GuestSlot}
+use Rattle.part_table.proofs.Left.{part_left}
 use Rattle.part_table.specs.Does.{Does, IsCalled, IsLeft, none_at, only_at, both_at}
 use Rattle.part_table.specs.Parts.{IsPart}
 use Rattle.part_table.proofs.Stepping.{lent_at, reached, suits, does, nat_prop}
@@ -38,7 +39,7 @@ not_full n h = grind (arith, nat_tests)
 -- the number of a part that is told by number, by its kind
 module _ {A : Type 0} (l : Layout) (id : ℕ) (own : CpuState) (k : ℕ) (x : Slot A) where
   part_here : (h : IsLeft l id own (only_at k x)) → IsPart l h.state k x
-  part_here h = h.parts k x (ap (λ b. cond b (Some x) None) (eq-eqb k k refl))
+  part_here h = part_left h k x (ap (λ b. cond b (Some x) None) (eq-eqb k k refl))
 
   vms_here : (p : VmPart) → x ≡ VmSlot p → ∥ IsLeft l id own (only_at k x) ∥₁ → k ≡ 0
   vms_here p e left = ∥∥₁_elim left (nat_prop k 0) (λ h. vms_number l h.state k x p e (part_here h))
@@ -57,7 +58,7 @@ module _ {A : Type 0} (l : Layout) (id : ℕ) (own : CpuState) (k : ℕ) (x : Sl
   does_for j y e is c z owned d = subst (λ (w : Slot A). Does l c (only_at j w) own (only_at j z) owned) is (subst (λ n. Does l c (only_at n x) own (only_at n z) owned) e d)
 
 -- a part alone that is lent by its kind: its number, what is left with it, and what a call did to it
-module _ {A : Type 0} {l : Layout} {id : ℕ} {own : CpuState} (k : ℕ) {x : Slot A} (left : ∥ IsLeft l id own (only_at k x) ∥₁) where
+module _ {A : Type 0} {l : Layout} (id : ℕ) (own : CpuState) (k : ℕ) {x : Slot A} (left : ∥ IsLeft l id own (only_at k x) ∥₁) where
   module _ {p : VmPart} (is : x ≡ VmSlot p) where
     pub vms_at : k ≡ 0
     vms_at = vms_here l id own k x p is left
@@ -96,13 +97,13 @@ module _ {A : Type 0} where
   module _ (l : Layout) (id : ℕ) (own : CpuState) (v : ℕ) (x y : Slot A) (left : ∥ IsLeft l id own (both_at (v + 2) y 1 x) ∥₁) where
     pub is_shared : ((p : SharedPart A) → x ≡ SharedSlot p → ⊥) → ⊥
     is_shared never = ∥∥₁_elim left no_proof (λ h.
-        let t = shared_kind l h.state x (h.parts 1 x (ap (λ b. cond b (Some y) (Some x)) (ne_eqb 1 (v + 2) (λ e. omega (arith, e))))) in
+        let t = shared_kind l h.state x (part_left h 1 x (ap (λ b. cond b (Some y) (Some x)) (ne_eqb 1 (v + 2) (λ e. omega (arith, e))))) in
         never t.0 t.1)
 
     pub is_guest : ((p : GuestPart A) → y ≡ GuestSlot p → ⊥) → ⊥
     is_guest never = ∥∥₁_elim left no_proof (λ h.
         let two : v + 2 ≡ suc (suc v) = omega arith in
-        let part = h.parts (v + 2) y (ap (λ b. cond b (Some y) (cond (eqb (v + 2) 1) (Some x) None)) (eq-eqb (v + 2) (v + 2) refl)) in
+        let part = part_left h (v + 2) y (ap (λ b. cond b (Some y) (cond (eqb (v + 2) 1) (Some x) None)) (eq-eqb (v + 2) (v + 2) refl)) in
         let t = guest_kind l h.state v y (subst (λ k. IsPart l h.state k y) two part) in
         never t.0 t.1)
 

@@ -25,10 +25,11 @@ use Rattle.guest_steps.specs.View.{cpu_of}
 use Rattle.hypercalls.specs.Uses.{parts_of}
 use Rattle.part_table.specs.Parts.{in_order, uses, log_of, IsPart, IsOwn}
 use Rattle.part_table.specs.Does.{Does, IsCalled, IsLeft, none_at, only_at, both_at}
+use Rattle.part_table.proofs.Left.{list_left, one_cpu, own_left}
 use Rattle.part_table.specs.Rule.{Hands, IsIdle, Seated, tail, held_at, seen_with, taking, missing, releasing, storing, known_of, Standing, AtRest}
 use Rattle.part_table.specs.Known.{seen_at, StartsWith, IsSame, Adds, Extends, Known}
 use Rattle.part_table.specs.Tried.{AllTaken, EndsIn, FoundFull, FoundRoom, Tells, TriesOf, Try, WhereStored, reply_of}
-use Rattle.part_table.specs.Answered.{Answers, FindsAway, FindsLogFull, MeetsAnother, StoresCall, TellsOf, used_by}
+use Rattle.part_table.specs.Answered.{Answers, FindsAway, FindsLogFull, MeetsAnother, MakesCall, TellsOf, used_by}
 use Rattle.part_table.proofs.Holding.{only_here, at_first, at_second}
 use Rattle.part_table.proofs.Pairs.{at_same, at_other, unused_seen, part_same}
 
@@ -164,15 +165,17 @@ module _ {A : Type 0} where
   -- what a step may rely on, from what the last take told
   pub left_of : {l : TheLayout} {cpu : ℕ} {own : CpuState} {f : ℕ → Option (Slot A)} (w : View A) → Standing w → w.layout ≡ l → w.cpu ≡ cpu → w.own ≡ own → ((j : ℕ) → f j ≡ held_at w.held j)
       → IsLeft (layout_of l) cpu own f
-  left_of w s a b d h = record {
+  left_of {l = l} {cpu = cpu} {own = own} w s a b d h = record {
     ready = subst (λ (z : TheLayout). CanBoot (layout_of z)) a s.ready;
     log = s.log;
     state = s.state;
     run = subst (λ (z : TheLayout). IsRun (layout_of z) s.log s.state) a s.run;
-    own = subst (λ (z : TheLayout × (ℕ × CpuState)). IsOwn (layout_of z.0) s.state z.1.0 z.1.1) (λ i. (a i, (b i, d i))) s.own;
-    mine = ap (λ (z : CpuState). z.log.calls) (sym d) ∙ (s.mine ∙ ap (λ n. calls_by n s.log) b);
-    parts = λ j x q. subst (λ (z : TheLayout). IsPart (layout_of z) s.state j x) a (s.parts j x (sym (h j) ∙ q));
-    logs = λ j x q. s.logs j x (sym (h j) ∙ q);
+    stored = s.stored;
+    cpus = one_cpu (λ c k. (k.log.calls ≡ calls_by c s.log) × IsOwn (layout_of l) s.state c k) cpu own (
+      ap (λ (z : CpuState). z.log.calls) (sym d) ∙ (list_left w.cpu w.own s ∙ ap (λ n. calls_by n s.log) b),
+      subst (λ (z : TheLayout × (ℕ × CpuState)). IsOwn (layout_of z.0) s.state z.1.0 z.1.1) (λ i. (a i, (b i, d i))) (own_left w.cpu w.own s),
+    );
+    parts = λ j x q. let t = s.parts j x (sym (h j) ∙ q) in (subst (λ (z : TheLayout). IsPart (layout_of z) s.state j x) a t.0, t.1);
   }
 
   -- the same of a pass that holds nothing
@@ -182,35 +185,31 @@ module _ {A : Type 0} where
     log = s.log;
     state = s.state;
     run = subst (λ (z : TheLayout). IsRun (layout_of z) s.log s.state) a s.run;
-    own = subst (λ (z : TheLayout × (ℕ × CpuState)). IsOwn (layout_of z.0) s.state z.1.0 z.1.1) (λ i. (a i, (b i, d i))) s.own;
-    mine = ap (λ (z : CpuState). z.log.calls) (sym d) ∙ (s.mine ∙ ap (λ n. calls_by n s.log) b);
+    stored = s.stored;
+    cpus = one_cpu (λ c k. (k.log.calls ≡ calls_by c s.log) × IsOwn (layout_of l) s.state c k) cpu own (
+      ap (λ (z : CpuState). z.log.calls) (sym d) ∙ (list_left w.cpu w.own s ∙ ap (λ n. calls_by n s.log) b),
+      subst (λ (z : TheLayout × (ℕ × CpuState)). IsOwn (layout_of z.0) s.state z.1.0 z.1.1) (λ i. (a i, (b i, d i))) (own_left w.cpu w.own s),
+    );
     parts = λ j x q. absurd cc;
-    logs = λ j x q. absurd cc;
   }
 
   -- after a stored call a pass's own state is as a run leaves it
   pub rest_added : (c : Call) (w : View A) → Extends c (known_of w) → AtRest w
   rest_added c w h = record {
-    ready = h.ready;
-    log = h.log ++ c ∷ [];
-    state = h.state;
-    run = h.run;
-    own = h.own;
-    mine = h.mine;
+    ready = h.left.ready;
+    log = h.left.log;
+    state = h.left.state;
+    run = h.left.run;
+    stored = h.left.stored;
+    cpus = h.left.cpus;
     parts = λ j x q. absurd cc;
-    logs = λ j x q. absurd cc;
   }
 
   -- what a call left of a seat's view stands after a further part went home
   pub rest_home : {c : Call} {n : Seated A} (m : Seated A) → n ≡ with_home m 1 → Extends c (known_of m.0) → Extends c (known_of n.0)
   rest_home {c = c} m e h = subst (λ (z : Seated A). Extends c (known_of z.0)) (sym e) record {
-    ready = h.ready;
-    log = h.log;
-    state = h.state;
-    run = h.run;
-    stored = h.stored;
-    mine = h.mine;
-    own = h.own;
+    left = h.left;
+    ends = h.ends;
     seen = h.seen;
   }
 
@@ -280,10 +279,10 @@ where_stored LogFull reply e h s = absurd (subst IsStored e s)
 
 module _ (step : Step) (reply : Reply) (v w : Known) where
   -- what a stored call's reply tells
-  pub stores_of : Answers step reply v w → IsStored reply → StoresCall step reply v w
+  pub stores_of : Answers step reply v w → IsStored reply → MakesCall step reply v w
   stores_of a s = of a.0 a.1 a.2
     where
-      of : (t : Tried) → reply ≡ reply_of t → TellsOf step t v w → StoresCall step reply v w
+      of : (t : Tried) → reply ≡ reply_of t → TellsOf step t v w → MakesCall step reply v w
       of (Stored c) e h = record { call = c; called = h.1.0; reply_is = sym e; room = h.0; added = h.1.2; tries = h.1.3.0; tried = h.1.3.1; taken = h.1.3.2 }
       of Contended e h = absurd (subst IsStored e s)
       of LogFull e h = absurd (subst IsStored e s)

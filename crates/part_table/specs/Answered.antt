@@ -28,7 +28,7 @@ abbrev pub Answers : Step → Reply → Known → Known → Type 0
 Answers step reply v w = (t : Tried) × (reply ≡ reply_of t) × TellsOf step t v w
 
 -- a stored call: it is the step's, with the reply, and is added to the pass's own list. Each part that it used was tried once and taken
-pub record StoresCall (step : Step) (reply : Reply) (v w : Known) : Type 0 where
+pub record MakesCall (step : Step) (reply : Reply) (v w : Known) : Type 0 where
   pub call : Call
   pub called : IsCalled v.cpu v.own step call
   pub reply_is : call.reply ≡ reply

@@ -1,5 +1,5 @@
 -- What one call does to the parts that it uses and to its CPU's own state, whatever else stands beside them.
-use Rattle.std.specs.Prelude.{◌≡◌, ◌≢◌, ℕ, ◌+◌, false, true, cond, eqb, length, List, Option, Some, None, Ok}
+use Rattle.std.specs.Prelude.{◌≡◌, ◌≢◌, ℕ, ◌+◌, false, true, cond, eqb, length, All, List, Option, Some, None, Ok}
 use Rattle.step_reply.specs.declared.reply.Call.{Call}
 use Rattle.step_reply.specs.declared.reply.Refusal.TheVariants.{NoMemory}
 use Rattle.step_reply.specs.declared.reply.Reply.TheVariants.{Refused}
@@ -23,6 +23,10 @@ use Rattle.part_table.specs.declared.slot.Slot.{Slot}
 use Rattle.part_table.specs.declared.slot.Slot.TheVariants.{Vm as VmSlot, Shared as SharedSlot, Guest as GuestSlot}
 use Rattle.guest_steps.specs.Roomy.{IsRoomy}
 
+-- the CPU's own state alone
+abbrev pub only_cpu : ℕ → CpuState → ℕ → Option CpuState
+only_cpu cpu own c = cond (eqb c cpu) (Some own) None
+
 module _ {A : Type 0} where
   -- no part
   abbrev pub none_at : ℕ → Option (Slot A)
@@ -36,16 +40,19 @@ module _ {A : Type 0} where
   abbrev pub both_at : ℕ → Slot A → ℕ → Slot A → ℕ → Option (Slot A)
   both_at k x i y j = cond (eqb j k) (Some x) (cond (eqb j i) (Some y) None)
 
-  -- some run leaves a state in which these parts and the CPU's own state stand, with their logs: what a step may rely on
-  pub record IsLeft (l : Layout) (cpu : ℕ) (owned : CpuState) (lent : ℕ → Option (Slot A)) : Type 0 where
+  -- There is one legal history, and what is kept is as at its end: CPUs' own states by number, each with its calls, and parts by number, each with the calls on it. What isn't kept may be anything
+  pub record AreLeft (l : Layout) (owns : ℕ → Option CpuState) (kept : ℕ → Option (Slot A)) : Type 0 where
     pub ready : CanBoot l
     pub log : List Call
     pub state : Reference
     pub run : IsRun l log state
-    pub own : IsOwn l state cpu owned
-    pub mine : owned.log.calls ≡ calls_by cpu log
-    pub parts : (k : ℕ) (x : Slot A) → lent k ≡ Some x → IsPart l state k x
-    pub logs : (k : ℕ) (x : Slot A) → lent k ≡ Some x → (log_of x).calls ≡ calls_on (part_of k) log
+    pub stored : All (λ c. IsStored c.reply) log
+    pub cpus : (c : ℕ) (k : CpuState) → owns c ≡ Some k → (k.log.calls ≡ calls_by c log) × IsOwn l state c k
+    pub parts : (k : ℕ) (x : Slot A) → kept k ≡ Some x → IsPart l state k x × ((log_of x).calls ≡ calls_on (part_of k) log)
+
+  -- what a step may rely on: a run leaves these parts and the CPU's own state
+  abbrev pub IsLeft : Layout → ℕ → CpuState → (ℕ → Option (Slot A)) → Type 0
+  IsLeft l cpu owned lent = AreLeft l (only_cpu cpu owned) lent
 
   -- memory for the changes is there already with a part
   abbrev pub HasMemoryFor : Changes → Slot A → Type 0

@@ -12,6 +12,7 @@ use Rattle.reference_model.specs.State.{Reference}
 use Rattle.guest_steps.specs.declared.parts.CpuState.{CpuState}
 use Rattle.part_table.specs.declared.slot.Slot.{Slot}
 use Rattle.part_table.specs.Parts.{parts, part_of, log_of, IsPart, IsOwn}
+use Rattle.part_table.specs.Does.{AreLeft}
 use Rattle.part_table.specs.Passes.{Pass}
 use Rattle.part_table.specs.Rule.{Ended}
 use Rattle.part_table.specs.Known.{AreFronts, StartsWith, seen_at}
@@ -21,17 +22,11 @@ pub record IsRow {A : Type 0} (l : TheLayout) (xs : List (Option (Slot A))) : Ty
   pub all : length xs ≡ parts
   pub each : (k : ℕ) → k < parts → (x : Slot A) × (get_elem? xs k ≡ some (Some x)) × IsPart (layout_of l) (boot (layout_of l)) k x × ((log_of x).calls ≡ [])
 
--- There is one legal history: the 66 parts, by number, and the CPUs' own states, by number, stand at its end, each part's log is the history's part of it, and each CPU's list is its calls of it
+-- one legal history leaves all: the 66 parts, by number, and the CPUs' own states, by number
 pub record IsEndOf {A : Type 0} (l : TheLayout) (found : List (Slot A)) (cpus : List CpuState) : Type 0 where
-  pub ready : CanBoot (layout_of l)
-  pub log : List Call
-  pub state : Reference
-  pub run : IsRun (layout_of l) log state
-  pub stored : All (λ c. IsStored c.reply) log
   pub all : length found ≡ parts
-  pub each_part : (k : ℕ) → k < parts → (x : Slot A) × (slice_get found k ≡ Some x) × IsPart (layout_of l) state k x × ((log_of x).calls ≡ calls_on (part_of k) log)
   pub count : length cpus ≡ l.config.cpus
-  pub each_cpu : (c : ℕ) (e : CpuState) → slice_get cpus c ≡ Some e → (e.log.calls ≡ calls_by c log) × IsOwn (layout_of l) state c e
+  pub left : AreLeft (layout_of l) (λ c. slice_get cpus c) (λ k. slice_get found k)
 
 -- at its CPU's place of the list stands the state in which the pass ends, with all its calls
 abbrev pub KeepsOwn : List CpuState → Pass → Type 0

@@ -10,6 +10,7 @@ use Rattle.reference_model.specs.State.{Reference}
 use Rattle.guest_steps.specs.declared.parts.CpuState.{CpuState}
 use Rattle.guest_steps.specs.Lent.{with_call}
 use Rattle.guest_steps.specs.Logs.{StoredCalls, IsOfSize}
+use Rattle.part_table.specs.Does.{IsLeft, none_at}
 use Rattle.part_table.specs.Parts.{parts, part_of, uses, IsOwn}
 
 -- a list of pairs as a function: the first pair of a number counts
@@ -45,16 +46,11 @@ own_at_boot l cpu = record { id = cpu; loaded = None; hand = None; ticket = None
 abbrev pub AreOwnAtBoot : TheLayout → List CpuState → Type 0
 AreOwnAtBoot l ks = (cpu : ℕ) (k : CpuState) → slice_get ks cpu ≡ Some k → k ≡ own_at_boot l cpu
 
--- there is a legal history that ends with the call. The pass's own calls are those of its CPU in it, its own state is as after it, and what it has seen of the parts that the call used are the history's parts of them
+-- there is a legal history that ends with the call. The pass's own state, with its list, is left by it, and what it has seen of the parts that the call used are the history's parts of them
 pub record Extends (c : Call) (w : Known) : Type 0 where
-  pub ready : CanBoot (layout_of w.layout)
-  pub log : List Call
-  pub state : Reference
-  pub run : IsRun (layout_of w.layout) (log ++ c ∷ []) state
-  pub stored : All (λ d. IsStored d.reply) (log ++ c ∷ [])
-  pub mine : w.own.log.calls ≡ calls_by w.cpu (log ++ c ∷ [])
-  pub own : IsOwn (layout_of w.layout) state w.cpu w.own
-  pub seen : (k : ℕ) → uses c k ≡ true → seen_at w.seen k ≡ calls_on (part_of k) (log ++ c ∷ [])
+  pub left : IsLeft {A = Unit {0}} (layout_of w.layout) w.cpu w.own none_at
+  pub ends : (before : List Call) × (left.log ≡ before ++ c ∷ [])
+  pub seen : (k : ℕ) → uses c k ≡ true → seen_at w.seen k ≡ calls_on (part_of k) left.log
 
 -- what a call that isn't stored leaves of what a pass knows: all but what was tried
 pub record IsSame (v w : Known) : Type 0 where

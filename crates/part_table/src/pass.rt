@@ -3,7 +3,7 @@ ghost use Rattle.std.specs.Prelude.{◌≡◌, ◌+◌, ◌<◌, [], length};
 ghost use Rattle.step_reply.specs.declared.reply.Reply.TheVariants.{Refused};
 ghost use Rattle.step_reply.specs.declared.reply.Refusal.TheVariants.{Contended, LogFull};
 ghost use Rattle.reference_model.specs.History.{IsStored};
-ghost use Rattle.part_table.specs.Answered.{Answers, FindsAway, FindsLogFull, StoresCall};
+ghost use Rattle.part_table.specs.Answered.{Answers, FindsAway, FindsLogFull, MakesCall};
 ghost use Rattle.part_table.specs.Made.{MakesFor};
 ghost use Rattle.part_table.specs.Parts.{parts};
 

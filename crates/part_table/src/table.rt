@@ -194,7 +194,7 @@ impl<A: Allocator + Copy> PartTable<A> {
     ghost use Rattle.step_reply.specs.declared.reply.Refusal.TheVariants.{Contended, LogFull};
     ghost use Rattle.step_reply.specs.declared.reply.Reply.TheVariants.{Refused};
     ghost use Rattle.reference_model.specs.History.{IsStored};
-    ghost use Rattle.part_table.specs.Answered.{FindsAway, FindsLogFull, MeetsAnother, StoresCall};
+    ghost use Rattle.part_table.specs.Answered.{FindsAway, FindsLogFull, MeetsAnother, MakesCall};
     ghost use Rattle.part_table.specs.Made.{IsMade};
     ghost use Rattle.part_table.specs.Passes.{IsPassOf};
 
@@ -204,7 +204,7 @@ impl<A: Allocator + Copy> PartTable<A> {
         ensures pass { IsPassOf self.now pass.new }
         ensures cpu { pass.new.knows.cpu ≡ pass.old.knows.cpu }
         ensures rest { pass.new.holds ≡ [] }
-        ensures stored { IsStored result → StoresCall step result pass.old.knows pass.new.knows }
+        ensures stored { IsStored result → MakesCall step result pass.old.knows pass.new.knows }
         ensures contended { result ≡ Refused Contended → FindsAway step pass.old.knows pass.new.knows }
         ensures met { MeetsAnother pass.old.knows pass.new.knows → result ≡ Refused Contended }
         ensures log_full { result ≡ Refused LogFull → FindsLogFull step pass.old.knows pass.new.knows }
@@ -226,7 +226,7 @@ impl<A: Allocator + Copy> PartTable<A> {
         ensures pass { IsPassOf self.now pass.new }
         ensures cpu { pass.new.knows.cpu ≡ pass.old.knows.cpu }
         ensures rest { pass.new.holds ≡ [] }
-        ensures stored { IsStored result → StoresCall step result pass.old.knows pass.new.knows }
+        ensures stored { IsStored result → MakesCall step result pass.old.knows pass.new.knows }
         ensures contended { result ≡ Refused Contended → FindsAway step pass.old.knows pass.new.knows }
         ensures met { MeetsAnother pass.old.knows pass.new.knows → result ≡ Refused Contended }
         ensures log_full { result ≡ Refused LogFull → FindsLogFull step pass.old.knows pass.new.knows }

@@ -69,19 +69,19 @@ pub one_history : {A : Type 0} (t : Opened) (steps : List Asked) (replies : List
 one_history t steps replies out passes parts cpus done end own tried = record {
   key = t.layout;
   key_is = refl;
-  log = end.log;
-  end = end.state;
-  run = end.run;
-  stored = end.stored;
+  log = end.left.log;
+  end = end.left.state;
+  run = end.left.run;
+  stored = end.left.stored;
   each = λ cpu less. each cpu (at_place passes cpu (let n = done.count in omega (arith, n, less)));
 }
   where
-    each : (cpu : ℕ) → (p : Pass) × (slice_get passes cpu ≡ Some p) → IsCpus t.layout cpu (answers_of cpu steps replies) end.log
+    each : (cpu : ℕ) → (p : Pass) × (slice_get passes cpu ≡ Some p) → IsCpus t.layout cpu (answers_of cpu steps replies) end.left.log
     each cpu found =
         let p = found.0 in
         let one = done.each cpu p found.1 in
         let state : slice_get cpus cpu ≡ Some p.knows.own = subst (λ (c : ℕ). slice_get cpus c ≡ Some p.knows.own) one.cpu_is (own.ended cpu p found.1) in
-        let calls = (end.each_cpu cpu p.knows.own state).0 in
+        let calls = (end.left.cpus cpu p.knows.own state).0 in
         record {
           calls = ap (map told) (sym calls) ∙ made_calls (first_known t.layout cpu) p.knows (answers_of cpu steps replies) one.makes;
           last = p.knows;

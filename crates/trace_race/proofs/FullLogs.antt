@@ -106,18 +106,18 @@ full_at (k ∷ ks) ts e = subst (FoundAt (k ∷ ks)) (sym e.2) (⊎_elim
     e.3)
 
 module _ {A : Type 0} (l : TheLayout) (found : List (Slot A)) (cpus : List CpuState) (end : IsEndOf l found cpus) (cpu : ℕ) (last : Known)
-    (here : slice_get cpus cpu ≡ Some last.own) (fronts : AreFronts l.config.log (λ k. calls_on (part_of k) end.log) last.tries) where
+    (here : slice_get cpus cpu ≡ Some last.own) (fronts : AreFronts l.config.log (λ k. calls_on (part_of k) end.left.log) last.tries) where
   abbrev Full : Step → Known → Type 0
-  Full step v = FindsFull (layout_of l) end.log step v
+  Full step v = FindsFull (layout_of l) end.left.log step v
 
   -- the CPU's own log was full
   own_full : (step : Step) (v : Known) → v.cpu ≡ cpu → IsOfSize l.config.log v.own.log → IsLater l.config.log v last → v.own.log.room ≡ 0 → Full step v
   own_full step v is size later none =
-      let e = end.each_cpu cpu last.own here in
+      let e = end.left.cpus cpu last.own here in
       let now : length last.own.log.calls + last.own.log.room ≡ l.config.log = e.1.size in
       let was : length v.own.log.calls + v.own.log.room ≡ l.config.log = size in
       let more : length last.own.log.calls ≡ length v.own.log.calls + length later.calls.0 = ap (λ (cs : List Call). length cs) later.calls.1 ∙ length-append v.own.log.calls later.calls.0 in
-      let all : length last.own.log.calls ≡ length (calls_by v.cpu end.log) = ap (λ (cs : List Call). length cs) e.0 ∙ ap (λ (c : ℕ). length (calls_by c end.log)) (sym is) in
+      let all : length last.own.log.calls ≡ length (calls_by v.cpu end.left.log) = ap (λ (cs : List Call). length cs) e.0 ∙ ap (λ (c : ℕ). length (calls_by c end.left.log)) (sym is) in
       inl (omega (arith, now, was, more, all, none))
 
   -- a part's log was
@@ -127,14 +127,14 @@ module _ {A : Type 0} (l : TheLayout) (found : List (Slot A)) (cpus : List CpuSt
       let there : Contains last.tries (f.0, Some f.1) =
       subst (λ (xs : List Try). Contains xs (f.0, Some f.1)) (sym later.tried.1)
       (Contains-append_left w.tries later.tried.0 (f.0, Some f.1) (subst (λ (xs : List Try). Contains xs (f.0, Some f.1)) (sym tried) (Contains-append_right u.tries ts (f.0, Some f.1) f.3))) in
-      let one = All-contains (λ (t : Try). (g : StoredCalls) → t.1 ≡ Some g → (t.0 < parts) × IsOfSize l.config.log g × StartsWith (calls_on (part_of t.0) end.log) g.calls) last.tries (f.0, Some f.1) fronts there f.1 refl in
+      let one = All-contains (λ (t : Try). (g : StoredCalls) → t.1 ≡ Some g → (t.0 < parts) × IsOfSize l.config.log g × StartsWith (calls_on (part_of t.0) end.left.log) g.calls) last.tries (f.0, Some f.1) fronts there f.1 refl in
       inr (
         f.0,
         subst (λ (k : CpuState). Contains (in_order (parts_of (names step) (guest_slot (cpu_of k) step))) f.0) same f.2,
         full_stays l found cpus end f.0 f.1 one f.4,
       )
 
-  call_in : (step : Step) (reply : Reply) (v w : Known) → v.cpu ≡ cpu → IsOfSize l.config.log v.own.log → IsLater l.config.log w last → Calls step reply v w → CallsIn (layout_of l) end.log step reply v w
+  call_in : (step : Step) (reply : Reply) (v w : Known) → v.cpu ≡ cpu → IsOfSize l.config.log v.own.log → IsLater l.config.log w last → Calls step reply v w → CallsIn (layout_of l) end.left.log step reply v w
   call_in step reply v w is size later c = record {
     answered = c.answered;
     stored = c.stored;
@@ -147,7 +147,7 @@ module _ {A : Type 0} (l : TheLayout) (found : List (Slot A)) (cpus : List CpuSt
     );
   }
 
-  all_in : (v : Known) (answers : List (Step × Reply)) → v.cpu ≡ cpu → IsOfSize l.config.log v.own.log → Makes v answers last → MakeAll (CallsIn (layout_of l) end.log) v answers last
+  all_in : (v : Known) (answers : List (Step × Reply)) → v.cpu ≡ cpu → IsOfSize l.config.log v.own.log → Makes v answers last → MakeAll (CallsIn (layout_of l) end.left.log) v answers last
   all_in v [] is size made = made
   all_in v (a ∷ more) is size made =
       let one = call_later l.config.log a.0 a.1 v made.0 made.1 in (
@@ -158,5 +158,5 @@ module _ {A : Type 0} (l : TheLayout) (found : List (Slot A)) (cpus : List CpuSt
 
 -- the calls of a pass, in the history at whose end it is
 pub made_in : {A : Type 0} (l : TheLayout) (found : List (Slot A)) (cpus : List CpuState) (end : IsEndOf l found cpus) (cpu : ℕ) (last : Known) (answers : List (Step × Reply)) → Makes (first_known l cpu) answers last
-    → slice_get cpus cpu ≡ Some last.own → AreFronts l.config.log (λ k. calls_on (part_of k) end.log) last.tries → MakeAll (CallsIn (layout_of l) end.log) (first_known l cpu) answers last
+    → slice_get cpus cpu ≡ Some last.own → AreFronts l.config.log (λ k. calls_on (part_of k) end.left.log) last.tries → MakeAll (CallsIn (layout_of l) end.left.log) (first_known l cpu) answers last
 made_in l found cpus end cpu last answers made here fronts = all_in l found cpus end cpu last here fronts (first_known l cpu) answers refl (omega arith) made

@@ -2,6 +2,7 @@ use Rattle.std.proofs.Common.{List, sym, subst}
 use Rattle.page_state.specs.declared.layout.Layout.{Layout as TheLayout}
 use Rattle.step_reply.specs.declared.reply.Call.{Call}
 use Rattle.guest_steps.specs.declared.parts.CpuState.{CpuState}
+use Rattle.part_table.proofs.Left.{each_part}
 use Rattle.part_table.specs.declared.slot.Slot.{Slot}
 use Rattle.part_table.specs.Endings.{IsEndOf, KeepsOwn, KeepsSeen, KeepsTried}
 use Rattle.part_table.specs.Passes.{Pass}
@@ -11,10 +12,10 @@ use Rattle.cpu_threads.specs.Laws.{EndsInOne, IsHistoryOf}
 use Rattle.cpu_threads.proofs.laws.one_history.Goals as goal
 
 -- the end's history is that of a pass whose state and whose logs stand there
-of_kept : {A : Type 0} (l : TheLayout) (found : List (Slot A)) (cpus : List CpuState) (e : IsEndOf l found cpus) (p : Pass) → KeepsOwn cpus p → KeepsSeen found p → KeepsTried l found p → IsHistoryOf l e.log p
+of_kept : {A : Type 0} (l : TheLayout) (found : List (Slot A)) (cpus : List CpuState) (e : IsEndOf l found cpus) (p : Pass) → KeepsOwn cpus p → KeepsSeen found p → KeepsTried l found p → IsHistoryOf l e.left.log p
 of_kept l found cpus e p own seen tried = record {
-  calls = sym (e.each_cpu p.knows.cpu p.knows.own own).0;
-  seen = λ j less. let h = e.each_part j less in subst (λ (cs : List Call). StartsWith cs (seen_at p.knows.seen j)) h.3 (seen j h.0 h.1);
+  calls = sym (e.left.cpus p.knows.cpu p.knows.own own).0;
+  seen = λ j less. let h = each_part e j less in subst (λ (cs : List Call). StartsWith cs (seen_at p.knows.seen j)) h.3 (seen j h.0 h.1);
   tried = end_fronts l found cpus e p.knows.tries tried;
 }
 
@@ -22,7 +23,7 @@ ends_in_one : (A : Type 0) → EndsInOne A
 ends_in_one A l found cpus passes given e own seen tried = record {
   end = e;
   each = λ j p there. of_kept l found cpus e p (own.ended j p there) (seen j p there) (tried j p there);
-  idle = λ c home. sym (e.each_cpu c (own_at_boot l c) (own.fresh c home)).0;
+  idle = λ c home. sym (e.left.cpus c (own_at_boot l c) (own.fresh c home)).0;
 }
 
 pub returns : goal.returns

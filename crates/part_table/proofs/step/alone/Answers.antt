@@ -16,36 +16,36 @@ use Rattle.part_table.proofs.SteppingOn.{asks_reached, asks_suits, gives, guest_
 use Rattle.part_table.proofs.step.alone.Goals as goal
 
 pub step_on_vms-requires-clause-uses : goal.step_on_vms-requires-clause-uses
-step_on_vms-requires-clause-uses g c = (vms_used (uses_of (cpu_of c.args.cpu.now) c.args.step) (c.requires.uses ∙ ap (λ n. n ∷ []) (vms_at c.args.k c.requires.left c.in-Vm.is)))
+step_on_vms-requires-clause-uses g c = (vms_used (uses_of (cpu_of c.args.cpu.now) c.args.step) (c.requires.uses ∙ ap (λ n. n ∷ []) (vms_at c.args.cpu.now.id c.args.cpu.now c.args.k c.requires.left c.in-Vm.is)))
 
 pub step_on_vms-requires-clause-suits : goal.step_on_vms-requires-clause-suits
-step_on_vms-requires-clause-suits g c = (asks_suits (vms_as (layout_of c.args.layout.now) c.args.step c.args.cpu.now c.in-Vm.part (vms_used (uses_of (cpu_of c.args.cpu.now) c.args.step) (c.requires.uses ∙ ap (λ n. n ∷ []) (vms_at c.args.k c.requires.left c.in-Vm.is))) (vms_left c.args.k c.requires.left c.in-Vm.is))).vms
+step_on_vms-requires-clause-suits g c = (asks_suits (vms_as (layout_of c.args.layout.now) c.args.step c.args.cpu.now c.in-Vm.part (vms_used (uses_of (cpu_of c.args.cpu.now) c.args.step) (c.requires.uses ∙ ap (λ n. n ∷ []) (vms_at c.args.cpu.now.id c.args.cpu.now c.args.k c.requires.left c.in-Vm.is))) (vms_left c.args.cpu.now.id c.args.cpu.now c.args.k c.requires.left c.in-Vm.is))).vms
 
 pub step_on_vms-requires-clause-own : goal.step_on_vms-requires-clause-own
-step_on_vms-requires-clause-own g c = (asks_suits (vms_as (layout_of c.args.layout.now) c.args.step c.args.cpu.now c.in-Vm.part (vms_used (uses_of (cpu_of c.args.cpu.now) c.args.step) (c.requires.uses ∙ ap (λ n. n ∷ []) (vms_at c.args.k c.requires.left c.in-Vm.is))) (vms_left c.args.k c.requires.left c.in-Vm.is))).cpu
+step_on_vms-requires-clause-own g c = (asks_suits (vms_as (layout_of c.args.layout.now) c.args.step c.args.cpu.now c.in-Vm.part (vms_used (uses_of (cpu_of c.args.cpu.now) c.args.step) (c.requires.uses ∙ ap (λ n. n ∷ []) (vms_at c.args.cpu.now.id c.args.cpu.now c.args.k c.requires.left c.in-Vm.is))) (vms_left c.args.cpu.now.id c.args.cpu.now c.args.k c.requires.left c.in-Vm.is))).cpu
 
 pub step_on_vms-requires-clause-reached : goal.step_on_vms-requires-clause-reached
-step_on_vms-requires-clause-reached g c = asks_reached (vms_as (layout_of c.args.layout.now) c.args.step c.args.cpu.now c.in-Vm.part (vms_used (uses_of (cpu_of c.args.cpu.now) c.args.step) (c.requires.uses ∙ ap (λ n. n ∷ []) (vms_at c.args.k c.requires.left c.in-Vm.is))) (vms_left c.args.k c.requires.left c.in-Vm.is)) None (vms (cpu_of c.args.cpu.now) c.args.step (vms_used (uses_of (cpu_of c.args.cpu.now) c.args.step) (c.requires.uses ∙ ap (λ n. n ∷ []) (vms_at c.args.k c.requires.left c.in-Vm.is)))).slot
+step_on_vms-requires-clause-reached g c = asks_reached (vms_as (layout_of c.args.layout.now) c.args.step c.args.cpu.now c.in-Vm.part (vms_used (uses_of (cpu_of c.args.cpu.now) c.args.step) (c.requires.uses ∙ ap (λ n. n ∷ []) (vms_at c.args.cpu.now.id c.args.cpu.now c.args.k c.requires.left c.in-Vm.is))) (vms_left c.args.cpu.now.id c.args.cpu.now c.args.k c.requires.left c.in-Vm.is)) None (vms (cpu_of c.args.cpu.now) c.args.step (vms_used (uses_of (cpu_of c.args.cpu.now) c.args.step) (c.requires.uses ∙ ap (λ n. n ∷ []) (vms_at c.args.cpu.now.id c.args.cpu.now c.args.k c.requires.left c.in-Vm.is)))).slot
 
 pub returns-in-Vm-clause-does : goal.returns-in-Vm-clause-does
-returns-in-Vm-clause-does g c = vms_did c.args.k c.requires.left c.in-Vm.is (VmSlot c.step_on_vms.new.vms) (gives (vms_as (layout_of c.args.layout.now) c.args.step c.args.cpu.now c.in-Vm.part (vms_used (uses_of (cpu_of c.args.cpu.now) c.args.step) (c.requires.uses ∙ ap (λ n. n ∷ []) (vms_at c.args.k c.requires.left c.in-Vm.is))) (vms_left c.args.k c.requires.left c.in-Vm.is)) c.step_on_vms.result (lent_vms {A = g.row.A.Denot} c.step_on_vms.new.vms c.step_on_vms.new.cpu)
+returns-in-Vm-clause-does g c = vms_did c.args.cpu.now.id c.args.cpu.now c.args.k c.requires.left c.in-Vm.is (VmSlot c.step_on_vms.new.vms) (gives (vms_as (layout_of c.args.layout.now) c.args.step c.args.cpu.now c.in-Vm.part (vms_used (uses_of (cpu_of c.args.cpu.now) c.args.step) (c.requires.uses ∙ ap (λ n. n ∷ []) (vms_at c.args.cpu.now.id c.args.cpu.now c.args.k c.requires.left c.in-Vm.is))) (vms_left c.args.cpu.now.id c.args.cpu.now c.args.k c.requires.left c.in-Vm.is)) c.step_on_vms.result (lent_vms {A = g.row.A.Denot} c.step_on_vms.new.vms c.step_on_vms.new.cpu)
     (none_full (logs_in (lent_vms {A = g.row.A.Denot} c.in-Vm.part c.args.cpu.now)) (not_full c.args.cpu.now.log.room c.requires.own_room) (not_full c.in-Vm.part.log.room (subst (λ (x : Slot g.row.A.Denot). (log_of x).room ≢ 0) c.in-Vm.is c.requires.room)) refl refl) (vms_anywhere (layout_of c.args.layout.now) c.args.step c.in-Vm.part c.step_on_vms.new.vms c.args.cpu.now c.step_on_vms.new.cpu c.step_on_vms.result c.step_on_vms.ensures.step)
     c.unwrap-call.result c.unwrap-call.ensures (only_at 0 (VmSlot c.step_on_vms.new.vms)) (record { vms = c.step_on_vms.ensures.suits; shared = tt; guest = tt; cpu = c.step_on_vms.ensures.own }) (vms_only (guest_slot (cpu_of c.args.cpu.now) c.args.step) c.step_on_vms.new.cpu c.step_on_vms.new.vms))
 
 pub step_on_shared-requires-clause-uses : goal.step_on_shared-requires-clause-uses
-step_on_shared-requires-clause-uses g c = (shared_used (uses_of (cpu_of c.args.cpu.now) c.args.step) (c.requires.uses ∙ ap (λ n. n ∷ []) (shared_at c.args.k c.requires.left c.in-Shared.is)))
+step_on_shared-requires-clause-uses g c = (shared_used (uses_of (cpu_of c.args.cpu.now) c.args.step) (c.requires.uses ∙ ap (λ n. n ∷ []) (shared_at c.args.cpu.now.id c.args.cpu.now c.args.k c.requires.left c.in-Shared.is)))
 
 pub step_on_shared-requires-clause-suits : goal.step_on_shared-requires-clause-suits
-step_on_shared-requires-clause-suits g c = (asks_suits (shared_as (layout_of c.args.layout.now) c.args.step c.args.cpu.now c.in-Shared.part (shared_used (uses_of (cpu_of c.args.cpu.now) c.args.step) (c.requires.uses ∙ ap (λ n. n ∷ []) (shared_at c.args.k c.requires.left c.in-Shared.is))) (shared_left c.args.k c.requires.left c.in-Shared.is))).shared
+step_on_shared-requires-clause-suits g c = (asks_suits (shared_as (layout_of c.args.layout.now) c.args.step c.args.cpu.now c.in-Shared.part (shared_used (uses_of (cpu_of c.args.cpu.now) c.args.step) (c.requires.uses ∙ ap (λ n. n ∷ []) (shared_at c.args.cpu.now.id c.args.cpu.now c.args.k c.requires.left c.in-Shared.is))) (shared_left c.args.cpu.now.id c.args.cpu.now c.args.k c.requires.left c.in-Shared.is))).shared
 
 pub step_on_shared-requires-clause-own : goal.step_on_shared-requires-clause-own
-step_on_shared-requires-clause-own g c = (asks_suits (shared_as (layout_of c.args.layout.now) c.args.step c.args.cpu.now c.in-Shared.part (shared_used (uses_of (cpu_of c.args.cpu.now) c.args.step) (c.requires.uses ∙ ap (λ n. n ∷ []) (shared_at c.args.k c.requires.left c.in-Shared.is))) (shared_left c.args.k c.requires.left c.in-Shared.is))).cpu
+step_on_shared-requires-clause-own g c = (asks_suits (shared_as (layout_of c.args.layout.now) c.args.step c.args.cpu.now c.in-Shared.part (shared_used (uses_of (cpu_of c.args.cpu.now) c.args.step) (c.requires.uses ∙ ap (λ n. n ∷ []) (shared_at c.args.cpu.now.id c.args.cpu.now c.args.k c.requires.left c.in-Shared.is))) (shared_left c.args.cpu.now.id c.args.cpu.now c.args.k c.requires.left c.in-Shared.is))).cpu
 
 pub step_on_shared-requires-clause-reached : goal.step_on_shared-requires-clause-reached
-step_on_shared-requires-clause-reached g c = asks_reached (shared_as (layout_of c.args.layout.now) c.args.step c.args.cpu.now c.in-Shared.part (shared_used (uses_of (cpu_of c.args.cpu.now) c.args.step) (c.requires.uses ∙ ap (λ n. n ∷ []) (shared_at c.args.k c.requires.left c.in-Shared.is))) (shared_left c.args.k c.requires.left c.in-Shared.is)) None (shared (cpu_of c.args.cpu.now) c.args.step (shared_used (uses_of (cpu_of c.args.cpu.now) c.args.step) (c.requires.uses ∙ ap (λ n. n ∷ []) (shared_at c.args.k c.requires.left c.in-Shared.is)))).slot
+step_on_shared-requires-clause-reached g c = asks_reached (shared_as (layout_of c.args.layout.now) c.args.step c.args.cpu.now c.in-Shared.part (shared_used (uses_of (cpu_of c.args.cpu.now) c.args.step) (c.requires.uses ∙ ap (λ n. n ∷ []) (shared_at c.args.cpu.now.id c.args.cpu.now c.args.k c.requires.left c.in-Shared.is))) (shared_left c.args.cpu.now.id c.args.cpu.now c.args.k c.requires.left c.in-Shared.is)) None (shared (cpu_of c.args.cpu.now) c.args.step (shared_used (uses_of (cpu_of c.args.cpu.now) c.args.step) (c.requires.uses ∙ ap (λ n. n ∷ []) (shared_at c.args.cpu.now.id c.args.cpu.now c.args.k c.requires.left c.in-Shared.is)))).slot
 
 pub returns-in-Shared-clause-does : goal.returns-in-Shared-clause-does
-returns-in-Shared-clause-does g c = shared_did c.args.k c.requires.left c.in-Shared.is (SharedSlot c.step_on_shared.new.shared) (gives (shared_as (layout_of c.args.layout.now) c.args.step c.args.cpu.now c.in-Shared.part (shared_used (uses_of (cpu_of c.args.cpu.now) c.args.step) (c.requires.uses ∙ ap (λ n. n ∷ []) (shared_at c.args.k c.requires.left c.in-Shared.is))) (shared_left c.args.k c.requires.left c.in-Shared.is)) c.step_on_shared.result (lent_shared c.step_on_shared.new.shared c.step_on_shared.new.cpu)
+returns-in-Shared-clause-does g c = shared_did c.args.cpu.now.id c.args.cpu.now c.args.k c.requires.left c.in-Shared.is (SharedSlot c.step_on_shared.new.shared) (gives (shared_as (layout_of c.args.layout.now) c.args.step c.args.cpu.now c.in-Shared.part (shared_used (uses_of (cpu_of c.args.cpu.now) c.args.step) (c.requires.uses ∙ ap (λ n. n ∷ []) (shared_at c.args.cpu.now.id c.args.cpu.now c.args.k c.requires.left c.in-Shared.is))) (shared_left c.args.cpu.now.id c.args.cpu.now c.args.k c.requires.left c.in-Shared.is)) c.step_on_shared.result (lent_shared c.step_on_shared.new.shared c.step_on_shared.new.cpu)
     (none_full (logs_in (lent_shared c.in-Shared.part c.args.cpu.now)) (not_full c.args.cpu.now.log.room c.requires.own_room) refl (not_full c.in-Shared.part.log.room (subst (λ (x : Slot g.row.A.Denot). (log_of x).room ≢ 0) c.in-Shared.is c.requires.room)) refl) c.step_on_shared.ensures.step
     c.unwrap-call-in-Shared.result c.unwrap-call-in-Shared.ensures (only_at 1 (SharedSlot c.step_on_shared.new.shared)) (record { vms = tt; shared = c.step_on_shared.ensures.suits; guest = tt; cpu = c.step_on_shared.ensures.own }) (shared_only (guest_slot (cpu_of c.args.cpu.now) c.args.step) c.step_on_shared.new.cpu c.step_on_shared.new.shared))
 

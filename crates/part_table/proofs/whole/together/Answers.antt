@@ -43,7 +43,7 @@ invariant_of-result g c =
       guest_depth = all_got (λ (w : GuestPart g.row.A.Denot). levels_below w.guest.geometry ≡ levels_below l.geometry) gs (λ j w e. (guest_end l c.args.found.items c.args.cpus.items end v s gs is j w e).0.suits.depth);
       guest_logs = all_got (λ (w : GuestPart g.row.A.Denot). IsOfSize l.config.log w.log) gs (λ j w e. (guest_end l c.args.found.items c.args.cpus.items end v s gs is j w e).0.suits.log);
       numbers = numbers l c.args.found.items c.args.cpus.items end;
-      own_logs = all_got (λ (k : CpuState). IsOfSize l.config.log k.log) c.args.cpus.items (λ j k e. (end.each_cpu j k e).1.size);
+      own_logs = all_got (λ (k : CpuState). IsOfSize l.config.log k.log) c.args.cpus.items (λ j k e. (end.left.cpus j k e).1.size);
     }
 
 pub returns-clause-parts : goal.returns-clause-parts

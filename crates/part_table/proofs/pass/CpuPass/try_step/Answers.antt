@@ -6,6 +6,7 @@ use Rattle.part_table.specs.declared.tries.Tried.TheVariants.{LogFull}
 use Rattle.part_table.specs.Passes.{Pass}
 use Rattle.part_table.specs.Rule.{known_of}
 use Rattle.part_table.specs.Known.{Known}
+use Rattle.part_table.proofs.Left.{own_left}
 use Rattle.part_table.proofs.Making.{makes_for}
 use Rattle.part_table.proofs.Rests.{none_held}
 use Rattle.part_table.proofs.Telling.{answers_of, where_stored}
@@ -26,7 +27,7 @@ invariant_of-self g c =
     let old : View g.row.A.Denot = c.self.inside.seat.me.0 in
     let same : old.layout ≡ c.args.layout.now = ap (λ (p : Pass). p.knows.layout) c.self.view_is ∙ c.requires.layout in
     let few : c.any.new.seat.me.0.cpu < c.any.new.seat.me.0.layout.config.cpus = subst (λ (z : ℕ × TheLayout). z.0 < z.1.config.cpus) (λ j. ((i.3 ∙ sym a.1) j, (same ∙ sym a.0) j)) i.5 in
-    (c.any.ensures.rest.0, c.any.ensures.rest.1, a.3, sym c.any.ensures.left.own.id ∙ ap (λ (k : CpuState). k.id) a.2, a.2, few, c.any.ensures.left)
+    (c.any.ensures.rest.0, c.any.ensures.rest.1, a.3, sym (own_left c.any.new.seat.me.0.cpu c.any.new.seat.me.0.own c.any.ensures.left).id ∙ ap (λ (k : CpuState). k.id) a.2, a.2, few, c.any.ensures.left)
 
 pub returns-clause-rest : goal.returns-clause-rest
 returns-clause-rest g c = none_held c.any.new.seat.me.0.held c.any.ensures.rest.1
