@@ -6,9 +6,12 @@ use native.Mathlib.Decide.{ℕ_discrete}
 use Rattle.step_reply.specs.declared.reply.Call.{Call}
 use Rattle.part_table.specs.Passes.{AreHomeFrom, IsPassOf, Opened, Pass}
 use Rattle.part_table.proofs.Lists.{from, get_front, get_last, get_set_else}
-use Rattle.part_table.specs.Endings.{ForEach}
-use Rattle.cpu_threads.specs.Ends.{AreOf, HasAll, IsBack, IsOut, OfGiven}
-use Rattle.cpu_threads.specs.Machines.{AreTheirs}
+use Rattle.page_state.specs.declared.layout.Layout.{Layout as TheLayout}
+use Rattle.guest_steps.specs.declared.parts.CpuState.{CpuState}
+use Rattle.part_table.specs.declared.slot.Slot.{Slot}
+use Rattle.part_table.specs.Endings.{ForEach, IsEndFor, KeepsOwn, KeepsSeen, KeepsTried}
+use Rattle.cpu_threads.specs.Ends.{AreFreshAt, AreOf, HasAll, IsBack, IsOut, OfGiven}
+use Rattle.cpu_threads.specs.Machines.{AreFresh, AreTheirs}
 use Rattle.cpu_threads.specs.Rooms.{total, total_given}
 use Rattle.cpu_threads.proofs.Totals.{given_end, total_set}
 
@@ -118,5 +121,21 @@ pub backs_all : (first passes : List (Option Pass)) (all : List Pass) → Backs 
 backs_all first passes all b j p e = ⊎_elim (λ (w : slice_get [] j ≡ Some p). absurd cc) (λ (w : IsBack passes p). w) (b.each j p e)
 
 -- what holds of each pass at its place holds of each given one, once it is back
-pub of_given_back : (passes : List (Option Pass)) (given : List Pass) (F : Pass → Type 0) → OfGiven given (IsBack passes) → ForEach passes F → OfGiven given F
+of_given_back : (passes : List (Option Pass)) (given : List Pass) (F : Pass → Type 0) → OfGiven given (IsBack passes) → ForEach passes F → OfGiven given F
 of_given_back passes given F back each j p e = each p.knows.cpu p (back j p e)
+
+-- so the end that a table has for its passes is one for the given ones
+pub end_given : {A : Type 0} {l : TheLayout} {found : List (Slot A)} {cpus : List CpuState} (passes : List (Option Pass)) (given : List Pass) → OfGiven given (IsBack passes) → IsEndFor l found cpus (ForEach passes) → IsEndFor l found cpus (OfGiven given)
+end_given {l = l} {found = found} {cpus = cpus} passes given back e = record {
+  end = e.end;
+  own = of_given_back passes given (KeepsOwn cpus) back e.own;
+  seen = of_given_back passes given (KeepsSeen found) back e.seen;
+  tried = of_given_back passes given (KeepsTried l found) back e.tried;
+}
+
+-- and a CPU whose pass was never handed out is as at boot
+pub end_fresh : (t : Opened) (first passes : List (Option Pass)) (cpus : List CpuState) → AreFresh t first → ForEach first (IsBack passes) → ForEach passes (KeepsOwn cpus) → AreFreshAt t.layout first cpus
+end_fresh t first passes cpus fresh stays own c home =
+    let p = home.0 in
+    let is = fresh c p home.1 in
+    ap (slice_get cpus) (sym (ap (λ (q : Pass). q.knows.cpu) is)) ∙ (own p.knows.cpu p (stays c p home.1) ∙ ap (λ (q : Pass). Some q.knows.own) is)

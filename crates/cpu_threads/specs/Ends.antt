@@ -3,7 +3,7 @@ use Rattle.std.specs.Prelude.{◌≡◌, ◌≢◌, ℕ, ◌<◌, List, length, 
 use Rattle.page_state.specs.declared.layout.Layout.{Layout as TheLayout}
 use Rattle.guest_steps.specs.declared.parts.CpuState.{CpuState}
 use Rattle.part_table.specs.declared.slot.Slot.{Slot}
-use Rattle.part_table.specs.Endings.{IsEndOf, KeepsOwn, KeepsSeen, KeepsTried}
+use Rattle.part_table.specs.Endings.{IsEndFor}
 use Rattle.part_table.specs.Passes.{IsPassOf, Opened, Pass}
 use Rattle.part_table.specs.Known.{own_at_boot}
 
@@ -45,18 +45,17 @@ HasAll passes given = (c : ℕ) → c < length passes → IsOut passes c → IsG
 abbrev pub IsAtHome : List (Option Pass) → ℕ → Type 0
 IsAtHome passes c = (p : Pass) × (slice_get passes c ≡ Some (Some p))
 
--- the CPU of each given pass has the state in which the pass ends, with all its calls; a CPU whose pass was never handed out is as at boot, with no call
-pub record KeepsStates (l : TheLayout) (passes : List (Option Pass)) (given : List Pass) (cpus : List CpuState) : Type 0 where
-  pub ended : OfGiven given (KeepsOwn cpus)
-  pub fresh : (c : ℕ) → IsAtHome passes c → slice_get cpus c ≡ Some (own_at_boot l c)
+-- a CPU whose pass was never handed out is as at boot, with no call
+abbrev pub AreFreshAt : TheLayout → List (Option Pass) → List CpuState → Type 0
+AreFreshAt l passes cpus = (c : ℕ) → IsAtHome passes c → slice_get cpus c ≡ Some (own_at_boot l c)
 
 -- a pass of each CPU is given
 abbrev pub AllGiven : TheLayout → List Pass → Type 0
 AllGiven l given = (c : ℕ) → c < l.config.cpus → IsGiven given c
 
--- there is one legal history, at whose end parts and CPUs stand: it keeps each CPU's state, and what each given pass has seen and tried
+-- there are parts and CPUs' own states that are the end of one legal history, which is each given pass's, and in which the other CPUs made no call
 abbrev pub HasEndOf : Type 0 → TheLayout → List (Option Pass) → List Pass → Type 0
-HasEndOf A l passes given = (found : List (Slot A)) × (cpus : List CpuState) × IsEndOf l found cpus × KeepsStates l passes given cpus × OfGiven given (KeepsSeen found) × OfGiven given (KeepsTried l found)
+HasEndOf A l passes given = (found : List (Slot A)) × (cpus : List CpuState) × IsEndFor l found cpus (OfGiven given) × AreFreshAt l passes cpus
 
 -- the pass is at its CPU's place
 abbrev pub IsBack : List (Option Pass) → Pass → Type 0

@@ -1,5 +1,5 @@
 -- Making a VM by four calls.
-use Rattle.std.specs.Prelude.{◌≡◌, ◌≢◌, ℕ, Result, Ok, Err}
+use Rattle.std.specs.Prelude.{◌≡◌, ◌≢◌, ℕ, Result, Ok, Err, MatchResult}
 use Rattle.step_reply.specs.declared.reply.Refusal.{Refusal}
 use Rattle.step_reply.specs.declared.reply.Refusal.TheVariants.{Contended, LogFull}
 use Rattle.step_reply.specs.declared.reply.Reply.{Reply}
@@ -21,6 +21,10 @@ pub record IsCallOf (step : Step) (reply : Reply) (v w : Known) : Type 0 where
   pub answered : reply ≢ Refused Contended
   pub stored : IsStored reply → StoresInTheEnd step reply v w
   pub log_full : reply ≡ Refused LogFull → FullInTheEnd step v w
+
+-- what making a step comes to: its value or its refusal
+abbrev pub ComesTo : Step → Result Value Refusal → Known → Known → Type 0
+ComesTo step result v w = MatchResult result (λ value. IsCallOf step (Done value) v w) (λ why. IsCallOf step (Refused why) v w)
 
 -- the step is made
 abbrev pub IsMade : Step → Known → Known → Type 0

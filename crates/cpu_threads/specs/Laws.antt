@@ -19,12 +19,12 @@ use Rattle.ghost_spec.specs.States.{contents_in}
 use Rattle.ghost_judge.specs.Judgements.{IsAsTold, told_of}
 use Rattle.part_table.specs.declared.slot.Slot.{Slot}
 use Rattle.part_table.specs.Answered.{FindsAway, FindsLogFull, MeetsAnother, MakesCall, used_by}
-use Rattle.part_table.specs.Endings.{IsEndOf, KeepsSeen, KeepsTried}
+use Rattle.part_table.specs.Endings.{IsEndFor, IsEndOf}
 use Rattle.part_table.specs.Parts.{parts, part_of, uses}
 use Rattle.part_table.specs.Passes.{Pass}
 use Rattle.part_table.specs.Known.{AreFronts, Known, StartsWith, seen_at}
 use Rattle.part_table.specs.Tried.{FoundAway, FoundFull, FoundRoom, Try}
-use Rattle.cpu_threads.specs.Ends.{HasAll, IsAtHome, KeepsStates, LacksOne, OfGiven}
+use Rattle.cpu_threads.specs.Ends.{AreFreshAt, HasAll, IsAtHome, LacksOne, OfGiven}
 use Rattle.cpu_threads.specs.Inits.{InitsVm}
 use Rattle.cpu_threads.specs.Judged.{Asked, IsJudged}
 use Rattle.cpu_threads.specs.declared.init.InitStage.{InitStage}
@@ -42,9 +42,9 @@ pub record OneHistory {A : Type 0} (l : TheLayout) (found : List (Slot A)) (cpus
   pub each : OfGiven given (IsHistoryOf l end.left.log)
   pub idle : (c : ℕ) → IsAtHome passes c → calls_by c end.left.log ≡ []
 
--- so it is where the parts and the CPUs are what a shutdown gives: the end of a legal history, which keeps each CPU's state, and what each given pass has seen and tried
+-- so it is where the parts and the CPUs are what a shutdown gives: the end of a legal history, which is each given pass's, and in which the other CPUs made no call
 abbrev pub EndsInOne : Type 0 → Type 0
-EndsInOne A = (l : TheLayout) (found : List (Slot A)) (cpus : List CpuState) (passes : List (Option Pass)) (given : List Pass) → IsEndOf l found cpus → KeepsStates l passes given cpus → OfGiven given (KeepsSeen found) → OfGiven given (KeepsTried l found)
+EndsInOne A = (l : TheLayout) (found : List (Slot A)) (cpus : List CpuState) (passes : List (Option Pass)) (given : List Pass) → IsEndFor l found cpus (OfGiven given) → AreFreshAt l passes cpus
     → OneHistory l found cpus passes given
 
 -- where a try of a given pass found a part's log full, it is full at the end

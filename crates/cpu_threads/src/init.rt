@@ -1,10 +1,9 @@
 //! Making a VM by four calls.
-ghost use Rattle.std.specs.Prelude.{◌≡◌, [], MatchResult};
-ghost use Rattle.step_reply.specs.declared.reply.Reply.TheVariants.{Done, Refused};
+ghost use Rattle.std.specs.Prelude.{◌≡◌, []};
 ghost use Rattle.step_reply.specs.declared.reply.Value.TheVariants.{Vm};
 ghost use Rattle.step_reply.specs.declared.step.VmId.{VmId as VmIdOf};
 ghost use Rattle.part_table.specs.Passes.{IsPassOf};
-ghost use Rattle.cpu_threads.specs.Inits.{InitsVm, IsCallOf};
+ghost use Rattle.cpu_threads.specs.Inits.{ComesTo, InitsVm};
 
 use crate::machine::Machine;
 use part_table::CpuPass;
@@ -46,7 +45,7 @@ impl<A: Allocator + Copy> Machine<A> {
         ensures pass { IsPassOf self.now.table pass.new }
         ensures cpu { pass.new.knows.cpu ≡ pass.old.knows.cpu }
         ensures rest { pass.new.holds ≡ [] }
-        ensures made { MatchResult result (λ value. IsCallOf step (Done value) pass.old.knows pass.new.knows) (λ why. IsCallOf step (Refused why) pass.old.knows pass.new.knows) }
+        ensures made { ComesTo step result pass.old.knows pass.new.knows }
     {
         match self.call(rt, pass, step) {
             Reply::Done(value) => Ok(value),

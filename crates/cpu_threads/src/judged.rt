@@ -1,13 +1,12 @@
 //! The oracle at the locks: while a call's parts are held, they are recorded before and after its step, and a judge is asked.
-ghost use Rattle.std.specs.Prelude.{◌≡◌, ◌≢◌, ◌<◌, ◌+◌, ◌∷◌, [], IfOk, IfSome};
+ghost use Rattle.std.specs.Prelude.{◌≡◌, ◌<◌, ◌+◌, ◌∷◌, [], IfOk, IfSome};
 ghost use Rattle.std.specs.Option.{option_copied, option_map};
 ghost use Rattle.ghost_spec.specs.Kept.{HasNextGeneration};
 ghost use Rattle.ghost_spec.specs.States.{contents_in};
-ghost use Rattle.guest_steps.specs.View.{cpu_of};
-ghost use Rattle.hypercalls.specs.Uses.{uses_of};
 ghost use Rattle.page_state.specs.LayoutView.{layout_of};
-ghost use Rattle.part_table.specs.Does.{both_at, Does, IsCalled, IsLeft, none_at, only_at};
-ghost use Rattle.part_table.specs.Parts.{in_order, log_of, parts};
+ghost use Rattle.part_table.specs.Does.{Does, IsCalled, none_at, only_at, pair_at};
+ghost use Rattle.part_table.specs.Parts.{parts};
+ghost use Rattle.part_table.specs.Trying.{CanMake};
 ghost use Rattle.cpu_threads.specs.Judged.{AsksOnce, CanRecord, IsRecordOf, both_in, lent_guest, lent_shared, lent_vms, shown, untold};
 
 use ghost_oracle::record::record;
@@ -123,8 +122,8 @@ fn record_both<A: Allocator>(
 ) -> Result<Ghost, AllocError>
     requires known { cpu.now.id < layout.now.config.cpus }
     requires part { v + 2 < parts }
-    requires low { CanRecord (both_at (v + 2) guest.now 1 shared.now) cpu.now }
-    ensures { IfOk result (IsRecordOf (layout_of layout.now) (both_at (v + 2) guest.now 1 shared.now) cpu.now) }
+    requires low { CanRecord (pair_at v shared.now guest.now) cpu.now }
+    ensures { IfOk result (IsRecordOf (layout_of layout.now) (pair_at v shared.now guest.now) cpu.now) }
 {
     let lists = record(
         global,
@@ -184,12 +183,8 @@ impl<J: Judge, G: Gate> Maker<J, G> for Recorder {
         step: Step,
         told: &mut J,
     ) -> (Slot<A>, Call)
-        requires known { cpu.old.id < layout.now.config.cpus }
+        requires can { CanMake layout.now cpu.old step (k ∷ []) (only_at k slot) }
         requires part { k < parts }
-        requires left { ∥ IsLeft (layout_of layout.now) cpu.old.id cpu.old (only_at k slot) ∥₁ }
-        requires uses { in_order (uses_of (cpu_of cpu.old) step) ≡ k ∷ [] }
-        requires room { (log_of slot).room ≢ 0 }
-        requires own_room { cpu.old.log.room ≢ 0 }
         ensures call { IsCalled cpu.old.id cpu.old step result.1 }
         ensures does { Does (layout_of layout.now) result.1 (only_at k slot) cpu.old (only_at k result.0) cpu.new }
         ensures told { AsksOnce J.takes layout.now (only_at k slot) cpu.old result.1 (only_at k result.0) cpu.new told.old told.new }
@@ -213,16 +208,11 @@ impl<J: Judge, G: Gate> Maker<J, G> for Recorder {
         step: Step,
         told: &mut J,
     ) -> (Slot<A>, Slot<A>, Call)
-        requires known { cpu.old.id < layout.now.config.cpus }
+        requires can { CanMake layout.now cpu.old step (1 ∷ (v + 2) ∷ []) (pair_at v shared guest) }
         requires part { v + 2 < parts }
-        requires left { ∥ IsLeft (layout_of layout.now) cpu.old.id cpu.old (both_at (v + 2) guest 1 shared) ∥₁ }
-        requires uses { in_order (uses_of (cpu_of cpu.old) step) ≡ 1 ∷ (v + 2) ∷ [] }
-        requires shared_room { (log_of shared).room ≢ 0 }
-        requires guest_room { (log_of guest).room ≢ 0 }
-        requires own_room { cpu.old.log.room ≢ 0 }
         ensures call { IsCalled cpu.old.id cpu.old step result.2 }
-        ensures does { Does (layout_of layout.now) result.2 (both_at (v + 2) guest 1 shared) cpu.old (both_at (v + 2) result.1 1 result.0) cpu.new }
-        ensures told { AsksOnce J.takes layout.now (both_at (v + 2) guest 1 shared) cpu.old result.2 (both_at (v + 2) result.1 1 result.0) cpu.new told.old told.new }
+        ensures does { Does (layout_of layout.now) result.2 (pair_at v shared guest) cpu.old (pair_at v result.0 result.1) cpu.new }
+        ensures told { AsksOnce J.takes layout.now (pair_at v shared guest) cpu.old result.2 (pair_at v result.0 result.1) cpu.new told.old told.new }
     {
         let pre = record_both(self.global, layout, &shared, &guest, v, cpu);
         let (shared, guest, call) = part_table::both(alloc, layout, shared, guest, v, cpu, step);

@@ -4,7 +4,7 @@ ghost use Rattle.cpu_threads.specs.Laws.{AskedOnce, EndsInOne, FullLogsStay, Ini
 use crate::judged::Judge;
 use std::alloc::Allocator;
 
-/// Once a machine is shut down (`Machine::shutdown`: `end`, `own`, `seen`, `tried`), there is one legal history at whose end the
+/// Once a machine is shut down (`Machine::shutdown`: `end`, `fresh`), there is one legal history at whose end the
 /// world is. The calls of each CPU in it are those of its given pass's list, each once, in that order and with the replies
 /// that were answered; a CPU whose pass was never handed out has none. At each part the history begins with what each
 /// given pass had seen there, and with each log that it took.

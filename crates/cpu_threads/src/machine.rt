@@ -3,7 +3,7 @@ ghost use Rattle.std.specs.Prelude.{◌≡◌, ◌≢◌, ◌+◌, ◌<◌, ◌�
 ghost use Rattle.step_reply.specs.declared.reply.Refusal.TheVariants.{Contended, LogFull};
 ghost use Rattle.step_reply.specs.declared.reply.Reply.TheVariants.{Refused};
 ghost use Rattle.reference_model.specs.History.{IsStored};
-ghost use Rattle.part_table.specs.Answered.{FindsAway, FindsLogFull, MeetsAnother, MakesCall};
+ghost use Rattle.part_table.specs.Answered.{Answers};
 ghost use Rattle.part_table.specs.Passes.{IsPassOf};
 ghost use Rattle.cpu_threads.specs.Judged.{IsJudged};
 ghost use Rattle.cpu_threads.specs.Machines.{FullInTheEnd, HandsOut, StoresInTheEnd};
@@ -61,10 +61,7 @@ impl<A: Allocator + Copy> Machine<A> {
         ensures pass { IsPassOf self.now.table pass.new }
         ensures cpu { pass.new.knows.cpu ≡ pass.old.knows.cpu }
         ensures rest { pass.new.holds ≡ [] }
-        ensures stored { IsStored result → MakesCall step result pass.old.knows pass.new.knows }
-        ensures contended { result ≡ Refused Contended → FindsAway step pass.old.knows pass.new.knows }
-        ensures met { MeetsAnother pass.old.knows pass.new.knows → result ≡ Refused Contended }
-        ensures log_full { result ≡ Refused LogFull → FindsLogFull step pass.old.knows pass.new.knows }
+        ensures answers { Answers step result pass.old.knows pass.new.knows }
     {
         self.try_call_gated(&Open, pass, step)
     }
@@ -76,10 +73,7 @@ impl<A: Allocator + Copy> Machine<A> {
         ensures pass { IsPassOf self.now.table pass.new }
         ensures cpu { pass.new.knows.cpu ≡ pass.old.knows.cpu }
         ensures rest { pass.new.holds ≡ [] }
-        ensures stored { IsStored result → MakesCall step result pass.old.knows pass.new.knows }
-        ensures contended { result ≡ Refused Contended → FindsAway step pass.old.knows pass.new.knows }
-        ensures met { MeetsAnother pass.old.knows pass.new.knows → result ≡ Refused Contended }
-        ensures log_full { result ≡ Refused LogFull → FindsLogFull step pass.old.knows pass.new.knows }
+        ensures answers { Answers step result pass.old.knows pass.new.knows }
         ensures gate_taken { IsStored result → G.heard_taken gate.now pass.old.knows.cpu (length pass.old.knows.own.log.calls + 1) }
         ensures gate_answered { G.heard_answered gate.now pass.old.knows.cpu (length pass.old.knows.own.log.calls + 1) }
     {
@@ -102,10 +96,7 @@ impl<A: Allocator + Copy> Machine<A> {
         ensures pass { IsPassOf self.now.table pass.new }
         ensures cpu { pass.new.knows.cpu ≡ pass.old.knows.cpu }
         ensures rest { pass.new.holds ≡ [] }
-        ensures stored { IsStored result → MakesCall step result pass.old.knows pass.new.knows }
-        ensures contended { result ≡ Refused Contended → FindsAway step pass.old.knows pass.new.knows }
-        ensures met { MeetsAnother pass.old.knows pass.new.knows → result ≡ Refused Contended }
-        ensures log_full { result ≡ Refused LogFull → FindsLogFull step pass.old.knows pass.new.knows }
+        ensures answers { Answers step result pass.old.knows pass.new.knows }
         ensures judged { IsStored result → IsJudged A J.takes step result pass.old.knows pass.new.knows judge.old judge.new }
         ensures silent { (IsStored result → ⊥) → judge.new ≡ judge.old }
     {

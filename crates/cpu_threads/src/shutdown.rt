@@ -1,10 +1,10 @@
 //! Shutting a machine down.
 ghost use Rattle.std.specs.Prelude.{◌≡◌, ◌≤◌, [], IfOk, IfErr};
 ghost use Rattle.std.specs.Vec.{vec_capacity, vec_len};
-ghost use Rattle.part_table.specs.Endings.{ForEach, IsEndOf, KeepsOwn, KeepsSeen, KeepsTried};
+ghost use Rattle.part_table.specs.Endings.{ForEach, IsEndFor};
 ghost use Rattle.part_table.specs.Passes.{AreHomeFrom};
 ghost use Rattle.part_table.specs.Slots.{slots_of};
-ghost use Rattle.cpu_threads.specs.Ends.{AllGiven, AreOf, HasAll, HasEndOf, KeepsStates, LacksOne, OfGiven};
+ghost use Rattle.cpu_threads.specs.Ends.{AllGiven, AreFreshAt, AreOf, HasAll, HasEndOf, LacksOne, OfGiven};
 ghost use Rattle.cpu_threads.specs.Rooms.{AreHistories};
 ghost use Rattle.cpu_threads.specs.declared.shutdown.ShutdownFault.TheVariants.{Missing, NoMemory};
 
@@ -65,10 +65,7 @@ fn ended<A: Allocator>(
     requires cpus { (rooms.cpus.items ≡ []) × (vec_len passes ≤ vec_capacity rooms.cpus) }
     requires guests { (rooms.guests.items ≡ []) × (64 ≤ vec_capacity rooms.guests) }
     ensures layout { result.parts.layout ≡ table.layout }
-    ensures end { IsEndOf table.layout (slots_of result.parts) result.parts.cpus.items }
-    ensures own { ForEach passes.items (KeepsOwn result.parts.cpus.items) }
-    ensures seen { ForEach passes.items (KeepsSeen (slots_of result.parts)) }
-    ensures tried { ForEach passes.items (KeepsTried table.layout (slots_of result.parts)) }
+    ensures end { IsEndFor table.layout (slots_of result.parts) result.parts.cpus.items (ForEach passes.items) }
 {
     let Rooms {
         found,
@@ -92,10 +89,8 @@ impl<A: Allocator> Machine<A> {
     ) -> Result<(World<A>, Histories), (Machine<A>, Vec<CpuPass<A>>, ShutdownFault)>
         requires pass { AreOf self.table given.items }
         ensures layout { IfOk result (λ r. r.0.parts.layout ≡ self.table.layout) }
-        ensures end { IfOk result (λ r. IsEndOf self.table.layout (slots_of r.0.parts) r.0.parts.cpus.items) }
-        ensures own { IfOk result (λ r. KeepsStates self.table.layout self.passes given.items r.0.parts.cpus.items) }
-        ensures seen { IfOk result (λ r. OfGiven given.items (KeepsSeen (slots_of r.0.parts))) }
-        ensures tried { IfOk result (λ r. OfGiven given.items (KeepsTried self.table.layout (slots_of r.0.parts))) }
+        ensures end { IfOk result (λ r. IsEndFor self.table.layout (slots_of r.0.parts) r.0.parts.cpus.items (OfGiven given.items)) }
+        ensures fresh { IfOk result (λ r. AreFreshAt self.table.layout self.passes r.0.parts.cpus.items) }
         ensures logs { IfOk result (λ r. AreHistories r.0.parts r.1) }
         ensures all { IfOk result (λ _. HasAll self.passes given.items) }
         ensures missing { IfErr result (λ e. e.2 ≡ Missing → LacksOne self.passes given.items) }

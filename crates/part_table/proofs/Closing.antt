@@ -14,7 +14,7 @@ use Rattle.reference_model.specs.History.{calls_by, calls_on}
 use Rattle.guest_steps.specs.declared.parts.CpuState.{CpuState}
 use Rattle.part_table.specs.declared.rule.View.{View}
 use Rattle.part_table.specs.declared.slot.Slot.{Slot}
-use Rattle.part_table.specs.Endings.{ForEach, Gives, HasEnd, HaveEnded, IsEndOf, KeepsOwn, KeepsSeen, KeepsTried}
+use Rattle.part_table.specs.Endings.{ForEach, Gives, HasEnd, HaveEnded, IsEndFor, IsEndOf, KeepsOwn, KeepsSeen, KeepsTried, ended_of}
 use Rattle.part_table.specs.Parts.{parts, part_of, log_of, IsPart, IsOwn}
 use Rattle.part_table.specs.Passes.{AreHomeFrom, Pass}
 use Rattle.part_table.specs.Rule.{Ended, IsLawful}
@@ -32,7 +32,7 @@ bound l c x n long e = subst (λ (m : ℕ). c < m) long (at_bound l c x (elem_of
 
 module _ {A : Type 0} (key : TheLayout) (table : TableId) (n : ℕ) (ended : List Ended) (xs : List (Option (Slot A))) (passes : List (Option Pass)) (cpus : List CpuState) (found : List (Slot A))
     (f : Ends A key ended xs) (have : HaveEnded n passes ended cpus) (gives : Gives parts xs found) (home : AreHomeFrom table n 0 passes) (all : n ≡ key.config.cpus) (long : length passes ≡ n) where
-  pub is_end : IsEndOf key found cpus
+  is_end : IsEndOf key found cpus
   is_end = record {
     all = gives.0;
     count = have.1 ∙ all;
@@ -47,7 +47,7 @@ module _ {A : Type 0} (key : TheLayout) (table : TableId) (n : ℕ) (ended : Lis
           let h = home k (omega arith) less in
           let b = have.2 k h.0 less h.1 in
           let same : h.0.knows.own ≡ e = ap (from h.0.knows.own) (sym b.1 ∙ at) in
-          subst (λ (z : CpuState). (z.log.calls ≡ calls_by k f.log) × IsOwn (layout_of key) f.state k z) same (f.each_cpu k (h.0.knows.own, h.0.knows.seen, h.0.knows.tries) b.0);
+          subst (λ (z : CpuState). (z.log.calls ≡ calls_by k f.log) × IsOwn (layout_of key) f.state k z) same (f.each_cpu k (ended_of h.0) b.0);
       parts = λ k x at.
           let less : k < parts = bound found k x parts gives.0 at in
           let h = f.each_part k less in
@@ -56,7 +56,7 @@ module _ {A : Type 0} (key : TheLayout) (table : TableId) (n : ℕ) (ended : Lis
     };
   }
 
-  pub keeps_own : ForEach passes (KeepsOwn cpus)
+  keeps_own : ForEach passes (KeepsOwn cpus)
   keeps_own c p there =
       let inside : c < n = bound passes c (Some p) n long there in
       let h = home c (omega arith) inside in
@@ -64,19 +64,22 @@ module _ {A : Type 0} (key : TheLayout) (table : TableId) (n : ℕ) (ended : Lis
       let cpu : p.knows.cpu ≡ c = ap (λ (z : Pass). z.knows.cpu) (sym same) ∙ h.3 in
       ap (slice_get cpus) cpu ∙ (have.2 c p inside there).1
 
-  pub keeps_seen : ForEach passes (KeepsSeen found)
+  keeps_seen : ForEach passes (KeepsSeen found)
   keeps_seen c p there k x at =
       let ends = (have.2 c p (bound passes c (Some p) n long there) there).0 in
       let less : k < parts = bound found k x parts gives.0 at in
       let h = f.each_part k less in
       let same : h.0 ≡ x = part_same h.0 x (sym (gives.1 k h.0 less h.1) ∙ at) in
       let log : (log_of x).calls ≡ _ = ap (λ (z : Slot A). (log_of z).calls) (sym same) ∙ h.3 in
-      subst (λ (l : List Call). StartsWith l (seen_at p.knows.seen k)) (sym log) (f.seen c (p.knows.own, p.knows.seen, p.knows.tries) ends k)
+      subst (λ (l : List Call). StartsWith l (seen_at p.knows.seen k)) (sym log) (f.seen c (ended_of p) ends k)
 
-  pub keeps_tried : ForEach passes (KeepsTried key found)
+  keeps_tried : ForEach passes (KeepsTried key found)
   keeps_tried c p there =
       let ends = (have.2 c p (bound passes c (Some p) n long there) there).0 in
-      found_fronts key found f.log p.knows.tries (λ k less. let h = f.each_part k less in (h.0, gives.1 k h.0 less h.1, h.3)) (f.tried c (p.knows.own, p.knows.seen, p.knows.tries) ends)
+      found_fronts key found f.log p.knows.tries (λ k less. let h = f.each_part k less in (h.0, gives.1 k h.0 less h.1, h.3)) (f.tried c (ended_of p) ends)
+
+  pub end_for : IsEndFor key found cpus (ForEach passes)
+  end_for = record { end = is_end; own = keeps_own; seen = keeps_seen; tried = keeps_tried }
 
 -- the parts of the first n places
 parts_of : {A : Type 0} (xs : List (Option (Slot A))) (n : ℕ) → ((k : ℕ) → k < n → (x : Slot A) × (get_elem? xs k ≡ some (Some x))) → (found : List (Slot A)) × Gives n xs found
@@ -99,8 +102,5 @@ has_end key table n ended xs passes cpus f have home all long =
     let found = parts_of xs parts (λ k lt. let h = f.each_part k lt in (h.0, h.1)) in (
       found.0,
       cpus,
-      is_end key table n ended xs passes cpus found.0 f have found.1 home all long,
-      keeps_own key table n ended xs passes cpus found.0 f have found.1 home all long,
-      keeps_seen key table n ended xs passes cpus found.0 f have found.1 home all long,
-      keeps_tried key table n ended xs passes cpus found.0 f have found.1 home all long,
+      end_for key table n ended xs passes cpus found.0 f have found.1 home all long,
     )

@@ -1,10 +1,10 @@
 -- Parts as a view holds them, and as they are lent.
-use Rattle.std.proofs.Common.{◌≡◌, ◌≢◌, ℕ, ◌∷◌, Bool, true, false, cond, eqb, refl, sym, ap, ◌∙◌, eq-eqb, ne_eqb}
+use Rattle.std.proofs.Common.{◌≡◌, ◌≢◌, ℕ, ◌∷◌, Bool, true, false, cond, eqb, refl, sym, ap, ◌∙◌, subst, eq-eqb, ne_eqb}
 use Rattle.std.specs.Prelude.{Option, Some, None}
 use Rattle.part_table.specs.declared.slot.Slot.{Slot}
 use Rattle.part_table.specs.Rule.{Hands, held_at}
 use Rattle.part_table.specs.Does.{only_at, both_at}
-use Rattle.part_table.proofs.Pairs.{at_same, at_other}
+use Rattle.part_table.proofs.Pairs.{at_same, at_other, part_same}
 
 module _ {A : Type 0} where
   -- what an idle pass holds once it has taken a part, or two
@@ -45,6 +45,22 @@ module _ {A : Type 0} where
       go : (b d : Bool) → cond b (Some x) (cond d (Some y) None) ≡ Some z → (w : Slot A) × (cond b (Some x') (cond d (Some y') None) ≡ Some w)
       go true d e = (x', refl)
       go false true e = (y', refl)
+      go false false e = absurd cc
+
+  -- what holds of one part, or of two, holds of each that is lent
+  pub only_each : (F : Slot A → Type 0) (k : ℕ) (x : Slot A) → F x → (j : ℕ) (y : Slot A) → only_at k x j ≡ Some y → F y
+  only_each F k x here j y = go (eqb j k)
+    where
+      go : (b : Bool) → cond b (Some x) None ≡ Some y → F y
+      go true e = subst F (part_same x y e) here
+      go false e = absurd cc
+
+  pub both_each : (F : Slot A → Type 0) (k i : ℕ) (x y : Slot A) → F x → F y → (j : ℕ) (z : Slot A) → both_at k x i y j ≡ Some z → F z
+  both_each F k i x y first second j z = go (eqb j k) (eqb j i)
+    where
+      go : (b d : Bool) → cond b (Some x) (cond d (Some y) None) ≡ Some z → F z
+      go true d e = subst F (part_same x z e) first
+      go false true e = subst F (part_same y z e) second
       go false false e = absurd cc
 
   pub only_here : (k : ℕ) (x : Slot A) → only_at k x k ≡ Some x

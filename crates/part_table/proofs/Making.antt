@@ -9,19 +9,16 @@ use Rattle.step_reply.specs.declared.step.Step.{Step}
 use Rattle.reference_model.specs.History.{IsStored}
 use Rattle.guest_steps.specs.declared.parts.CpuState.{CpuState}
 use Rattle.guest_steps.specs.Logs.{StoredCalls}
-use Rattle.guest_steps.specs.View.{cpu_of}
-use Rattle.hypercalls.specs.Uses.{parts_of}
-use Rattle.reference_model.specs.Rules.{guest_slot, names}
 use Rattle.part_table.specs.declared.slot.Slot.{Slot}
 use Rattle.part_table.specs.declared.tries.Tried.{Tried}
 use Rattle.part_table.specs.declared.tries.Tried.TheVariants.{Stored, Contended, LogFull}
 use Rattle.part_table.specs.Answered.{used_by}
 use Rattle.part_table.specs.Does.{Does, IsCalled, IsLeft, both_at, only_at}
-use Rattle.part_table.specs.Made.{IsMade, Makes, MakesFor, MakesOf}
-use Rattle.part_table.specs.Parts.{in_order, log_of, uses}
+use Rattle.part_table.specs.Made.{IsMade, Makes}
+use Rattle.part_table.specs.Parts.{numbers_for, log_of, uses}
 use Rattle.part_table.specs.Rule.{Seated, known_of}
 use Rattle.part_table.specs.Known.{Known}
-use Rattle.part_table.specs.Tried.{reply_of}
+use Rattle.part_table.specs.Trying.{MakesFor, MakesOf, reply_of}
 use Rattle.part_table.proofs.Holding.{only_here, at_first, at_second}
 
 module _ {A T : Type 0} (tells : TheLayout → (ℕ → Option (Slot A)) → CpuState → Call → (ℕ → Option (Slot A)) → CpuState → T → T → Type 0) where
@@ -44,10 +41,10 @@ module _ {A T : Type 0} (tells : TheLayout → (ℕ → Option (Slot A)) → Cpu
       }
 
   pub makes_for : (step : Step) (t : Tried) (reply : Reply) (u v w : Known) (own : CpuState) (from to : T) → u ≡ v → v.own ≡ own → reply ≡ reply_of t
-      → MakesOf tells step (in_order (parts_of (names step) (guest_slot (cpu_of own) step))) t v w from to → MakesFor tells step reply u w from to
+      → MakesOf tells step (numbers_for own step) t v w from to → MakesFor tells step reply u w from to
   makes_for step t reply u v w own from to same is told makes =
       let at : own ≡ u.own = sym is ∙ ap (λ (z : Known). z.own) (sym same) in
-      (t, told, subst (λ (z : Known × CpuState). MakesOf tells step (in_order (parts_of (names step) (guest_slot (cpu_of z.1) step))) t z.0 w from to) (λ i. (sym same i, at i)) makes)
+      (t, told, subst (λ (z : Known × CpuState). MakesOf tells step (numbers_for z.1 step) t z.0 w from to) (λ i. (sym same i, at i)) makes)
 
   -- what the reply of a try tells of the maker
   pub made_of : (step : Step) (reply : Reply) (v w : Known) (from to : T) → MakesFor tells step reply v w from to → IsStored reply → IsMade tells step reply v w from to

@@ -2,6 +2,7 @@
 use Rattle.std.proofs.Common.{◌≡◌, ◌≢◌, ◌⊎◌, ℕ, List, [], ◌∷◌, ◌++◌, true, false, true≢false, refl, sym, ap, ◌∙◌, subst, ⊎_elim, inl, inr, append_assoc}
 use Rattle.std.specs.Prelude.{Option, Some, None}
 use Rattle.std.proofs.lemmas.List.{append_cancel_left}
+use Rattle.atomic_table.specs.Seated.{TableId}
 use Rattle.page_state.specs.declared.layout.Layout.{Layout as TheLayout}
 use Rattle.step_reply.specs.declared.reply.Call.{Call}
 use Rattle.page_state.specs.LayoutView.{layout_of}
@@ -20,16 +21,14 @@ use Rattle.step_reply.specs.declared.reply.Refusal.TheVariants.{Contended as con
 use Rattle.step_reply.specs.declared.reply.Reply.{Reply}
 use Rattle.step_reply.specs.declared.reply.Reply.TheVariants.{Refused}
 use Rattle.step_reply.specs.declared.step.Step.{Step}
-use Rattle.reference_model.specs.Rules.{guest_slot, names}
-use Rattle.guest_steps.specs.View.{cpu_of}
-use Rattle.hypercalls.specs.Uses.{parts_of}
-use Rattle.part_table.specs.Parts.{in_order, uses, log_of, IsPart, IsOwn}
+use Rattle.part_table.specs.Parts.{numbers_for, uses, log_of, IsPart, IsOwn}
 use Rattle.part_table.specs.Does.{Does, IsCalled, IsLeft, none_at, only_at, both_at}
 use Rattle.part_table.proofs.Left.{list_left, one_cpu, own_left}
 use Rattle.part_table.specs.Rule.{Hands, IsIdle, Seated, tail, held_at, seen_with, taking, missing, releasing, storing, known_of, Standing, AtRest}
 use Rattle.part_table.specs.Known.{seen_at, StartsWith, IsSame, Adds, Extends, Known}
-use Rattle.part_table.specs.Tried.{AllTaken, EndsIn, FoundFull, FoundRoom, Tells, TriesOf, Try, WhereStored, reply_of}
-use Rattle.part_table.specs.Answered.{Answers, FindsAway, FindsLogFull, MeetsAnother, MakesCall, TellsOf, used_by}
+use Rattle.part_table.specs.Tried.{AllTaken, EndsIn, FoundFull, FoundRoom, Try}
+use Rattle.part_table.specs.Answered.{Answers, FindsAway, FindsLogFull, MeetsAnother, MakesCall, used_by}
+use Rattle.part_table.specs.Trying.{CanTry, IsAtRest, Tells, TriesOf, WhereStored, reply_of}
 use Rattle.part_table.proofs.Holding.{only_here, at_first, at_second}
 use Rattle.part_table.proofs.Pairs.{at_same, at_other, unused_seen, part_same}
 
@@ -152,15 +151,13 @@ module _ {A : Type 0} where
         ),
       )
 
+  -- what a pass that can try has of its CPU
+  pub cpu_at : {table seat : TableId} {l : TheLayout} {own : CpuState} {m : Seated A} → CanTry table l own seat m → (m.0.layout ≡ l) × (m.0.cpu ≡ own.id) × (m.0.own ≡ own)
+  cpu_at h = (h.rest.layout, h.rest.cpu_is, h.rest.own_is)
+
   -- what a seat keeps of its CPU and holds of the table, from the seat that it is
   pub cpu_told : {l : TheLayout} {id : ℕ} {own : CpuState} {m n : Seated A} → n ≡ m → (m.0.layout ≡ l) × (m.0.cpu ≡ id) × (m.0.own ≡ own) → m.0.on ≡ true → (n.0.layout ≡ l) × (n.0.cpu ≡ id) × (n.0.own ≡ own) × (n.0.on ≡ true)
   cpu_told {l = l} {id = id} {own = own} e q on = subst (λ (z : Seated A). (z.0.layout ≡ l) × (z.0.cpu ≡ id) × (z.0.own ≡ own) × (z.0.on ≡ true)) (sym e) (q.0, q.1, q.2, on)
-
-  pub left_told : {m n : Seated A} → n ≡ m → AtRest m.0 → AtRest n.0
-  left_told e r = subst (λ (z : Seated A). AtRest z.0) (sym e) r
-
-  pub rest_told : {m n : Seated A} → n ≡ m → m.1 ≡ [] → IsIdle m.0 → (n.1 ≡ []) × IsIdle n.0
-  rest_told e none idle = subst (λ (z : Seated A). (z.1 ≡ []) × IsIdle z.0) (sym e) (none, idle)
 
   -- what a step may rely on, from what the last take told
   pub left_of : {l : TheLayout} {cpu : ℕ} {own : CpuState} {f : ℕ → Option (Slot A)} (w : View A) → Standing w → w.layout ≡ l → w.cpu ≡ cpu → w.own ≡ own → ((j : ℕ) → f j ≡ held_at w.held j)
@@ -205,6 +202,33 @@ module _ {A : Type 0} where
     parts = λ j x q. absurd cc;
   }
 
+  -- a pass that could try is at rest again, where it stored no call and where it stored one
+  pub rests : {table old seat : TableId} {l : TheLayout} {own : CpuState} {m n : Seated A} → CanTry table l own old m → (hs : Hands A) (ts : List Try) → n ≡ (record m.0 { held = hs; tries = ts }, m.1) → seat ≡ old
+      → ((j : ℕ) → held_at hs j ≡ None) → IsAtRest table l own.id own seat n
+  rests {table = table} {seat = seat} {l = l} {own = own} h hs ts e same idle = subst (IsAtRest table l own.id own seat) (sym e) record {
+    same = same ∙ h.rest.same;
+    on = h.rest.on;
+    layout = h.rest.layout;
+    cpu_is = h.rest.cpu_is;
+    own_is = h.rest.own_is;
+    empty = h.rest.empty;
+    idle = idle;
+    left = h.rest.left;
+  }
+
+  pub rests_stored : {table old seat : TableId} {l : TheLayout} {own owned : CpuState} {m n : Seated A} {cs : Hands A} → CanTry table l own old m → (c : Call) (seen : List (ℕ × List Call)) (hs : Hands A) (ts : List Try)
+      → n ≡ (record m.0 { own = owned; seen = seen; held = hs; tries = ts }, cs) → cs ≡ [] → seat ≡ old → ((j : ℕ) → held_at hs j ≡ None) → Extends c (known_of n.0) → IsAtRest table l own.id owned seat n
+  rests_stored {n = n} h c seen hs ts e none same idle ends = record {
+    same = same ∙ h.rest.same;
+    on = ap (λ (z : Seated A). z.0.on) e ∙ h.rest.on;
+    layout = ap (λ (z : Seated A). z.0.layout) e ∙ h.rest.layout;
+    cpu_is = ap (λ (z : Seated A). z.0.cpu) e ∙ h.rest.cpu_is;
+    own_is = ap (λ (z : Seated A). z.0.own) e;
+    empty = ap (λ (z : Seated A). z.1) e ∙ none;
+    idle = λ j. ap (λ (z : Seated A). held_at z.0.held j) e ∙ idle j;
+    left = rest_added c n.0 ends;
+  }
+
   -- what a call left of a seat's view stands after a further part went home
   pub rest_home : {c : Call} {n : Seated A} (m : Seated A) → n ≡ with_home m 1 → Extends c (known_of m.0) → Extends c (known_of n.0)
   rest_home {c = c} m e h = subst (λ (z : Seated A). Extends c (known_of z.0)) (sym e) record {
@@ -225,10 +249,20 @@ module _ {A : Type 0} where
     wants = λ why s ps o change made has. d.wants why s (λ k x e. ps k x (sym (h k) ∙ e)) o change made (λ k x e. has k x (sym (h k) ∙ e));
   }
 
--- the answer to a try, where the CPU's own log had room
-pub answers_of : (step : Step) (t : Tried) (reply : Reply) (u v w : Known) (own : CpuState) → u ≡ v → v.own ≡ own → reply ≡ reply_of t → own.log.room ≢ 0
-    → Tells step (in_order (parts_of (names step) (guest_slot (cpu_of own) step))) t v w → Answers step reply u w
-answers_of step t reply u v w own same is told room tells = (t, told, of t (subst (λ (z : Known × CpuState). Tells step (in_order (parts_of (names step) (guest_slot (cpu_of z.1) step))) t z.0 w) (λ i. (sym same i, at i)) tells))
+-- what one try of a step comes to, where the CPU's own log is tested first
+abbrev ComesTo : Step → Tried → Known → Known → Type 0
+ComesTo step LogFull v w = ((v.own.log.room ≡ 0) × IsSame v w × (w.tries ≡ v.tries)) ⊎ ((v.own.log.room ≢ 0) × Tells step (used_by step v) LogFull v w)
+ComesTo step (Stored c) v w = (v.own.log.room ≢ 0) × Tells step (used_by step v) (Stored c) v w
+ComesTo step Contended v w = (v.own.log.room ≢ 0) × Tells step (used_by step v) Contended v w
+
+-- the same with its reply
+abbrev pub Replies : Step → Reply → Known → Known → Type 0
+Replies step reply v w = (t : Tried) × (reply ≡ reply_of t) × ComesTo step t v w
+
+-- the reply to a try, where the CPU's own log had room
+pub replies_of : (step : Step) (t : Tried) (reply : Reply) (u v w : Known) (own : CpuState) → u ≡ v → v.own ≡ own → reply ≡ reply_of t → own.log.room ≢ 0
+    → Tells step (numbers_for own step) t v w → Replies step reply u w
+replies_of step t reply u v w own same is told room tells = (t, told, of t (subst (λ (z : Known × CpuState). Tells step (numbers_for z.1 step) t z.0 w) (λ i. (sym same i, at i)) tells))
   where
     at : own ≡ u.own
     at = sym is ∙ ap (λ (z : Known). z.own) (sym same)
@@ -236,7 +270,7 @@ answers_of step t reply u v w own same is told room tells = (t, told, of t (subs
     roomy : u.own.log.room ≢ 0
     roomy = subst (λ (k : CpuState). k.log.room ≢ 0) at room
 
-    of : (t : Tried) → Tells step (used_by step u) t u w → TellsOf step t u w
+    of : (t : Tried) → Tells step (used_by step u) t u w → ComesTo step t u w
     of (Stored c) h = (roomy, h)
     of Contended h = (roomy, h)
     of LogFull h = inr (roomy, h)
@@ -279,31 +313,31 @@ where_stored LogFull reply e h s = absurd (subst IsStored e s)
 
 module _ (step : Step) (reply : Reply) (v w : Known) where
   -- what a stored call's reply tells
-  pub stores_of : Answers step reply v w → IsStored reply → MakesCall step reply v w
+  stores_of : Replies step reply v w → IsStored reply → MakesCall step reply v w
   stores_of a s = of a.0 a.1 a.2
     where
-      of : (t : Tried) → reply ≡ reply_of t → TellsOf step t v w → MakesCall step reply v w
+      of : (t : Tried) → reply ≡ reply_of t → ComesTo step t v w → MakesCall step reply v w
       of (Stored c) e h = record { call = c; called = h.1.0; reply_is = sym e; room = h.0; added = h.1.2; tries = h.1.3.0; tried = h.1.3.1; taken = h.1.3.2 }
       of Contended e h = absurd (subst IsStored e s)
       of LogFull e h = absurd (subst IsStored e s)
 
   -- what Contended tells
-  pub away_of : Answers step reply v w → reply ≡ Refused contended → FindsAway step v w
+  away_of : Replies step reply v w → reply ≡ Refused contended → FindsAway step v w
   away_of a s = of a.0 a.1 a.2
     where
-      of : (t : Tried) → reply ≡ reply_of t → TellsOf step t v w → FindsAway step v w
+      of : (t : Tried) → reply ≡ reply_of t → ComesTo step t v w → FindsAway step v w
       of (Stored c) e h = absurd (subst IsStored (sym e ∙ s) h.1.1)
       of Contended e h = record { same = h.1.0; room = h.0; tries = h.1.1.0; tried = h.1.1.1; away = h.1.1.2 }
       of LogFull e h = let never : Refused contended ≡ Refused log_full = sym s ∙ e in cc
 
   -- a part that another pass has is told by Contended alone
-  pub met_of : Answers step reply v w → MeetsAnother v w → reply ≡ Refused contended
+  met_of : Replies step reply v w → MeetsAnother v w → reply ≡ Refused contended
   met_of a m = of a.0 a.1 a.2
     where
       apart : (ts : List Try) → w.tries ≡ v.tries ++ ts → NoneAway ts → ⊥
       apart ts is none = none m.part m.before m.after (append_cancel_left v.tries ts (m.before ++ (m.part, None) ∷ m.after) (sym is ∙ m.tried))
 
-      of : (t : Tried) → reply ≡ reply_of t → TellsOf step t v w → reply ≡ Refused contended
+      of : (t : Tried) → reply ≡ reply_of t → ComesTo step t v w → reply ≡ Refused contended
       of (Stored c) e h = absurd (apart h.1.3.0 h.1.3.1 (taken_none_away c v w (used_by step v) h.1.3.0 h.1.3.2))
       of Contended e h = e
       of LogFull e h = absurd (⊎_elim by_own by_part h)
@@ -315,7 +349,7 @@ module _ (step : Step) (reply : Reply) (v w : Known) where
           by_part part = apart part.1.1.0 part.1.1.1 (full_none_away (used_by step v) part.1.1.0 part.1.1.2)
 
   -- what LogFull tells
-  pub full_of : Answers step reply v w → reply ≡ Refused log_full → FindsLogFull step v w
+  full_of : Replies step reply v w → reply ≡ Refused log_full → FindsLogFull step v w
   full_of a s = of a.0 a.1 a.2
     where
       by_own : (v.own.log.room ≡ 0) × IsSame v w × (w.tries ≡ v.tries) → FindsLogFull step v w
@@ -324,19 +358,11 @@ module _ (step : Step) (reply : Reply) (v w : Known) where
       by_part : (v.own.log.room ≢ 0) × Tells step (used_by step v) LogFull v w → FindsLogFull step v w
       by_part h = record { same = h.1.0; tries = h.1.1.0; tried = h.1.1.1; full = inr (h.0, h.1.1.2) }
 
-      of : (t : Tried) → reply ≡ reply_of t → TellsOf step t v w → FindsLogFull step v w
+      of : (t : Tried) → reply ≡ reply_of t → ComesTo step t v w → FindsLogFull step v w
       of (Stored c) e h = absurd (subst IsStored (sym e ∙ s) h.1.1)
       of Contended e h = let never : Refused log_full ≡ Refused contended = sym s ∙ e in cc
       of LogFull e h = ⊎_elim by_own by_part h
 
-  -- the pass stays that of its CPU and its table
-  pub stays_of : Answers step reply v w → (w.layout ≡ v.layout) × (w.cpu ≡ v.cpu)
-  stays_of a = of a.0 a.2
-    where
-      by_same : IsSame v w → (w.layout ≡ v.layout) × (w.cpu ≡ v.cpu)
-      by_same s = (s.layout, s.cpu)
-
-      of : (t : Tried) → TellsOf step t v w → (w.layout ≡ v.layout) × (w.cpu ≡ v.cpu)
-      of (Stored c) h = let a = h.1.2 in (a.layout, a.cpu)
-      of Contended h = by_same h.1.0
-      of LogFull h = ⊎_elim (λ (own : (v.own.log.room ≡ 0) × IsSame v w × (w.tries ≡ v.tries)). by_same own.1) (λ (part : (v.own.log.room ≢ 0) × Tells step (used_by step v) LogFull v w). by_same part.1.0) h
+  -- what the reply tells
+  pub answers_of : Replies step reply v w → Answers step reply v w
+  answers_of a = record { stored = stores_of a; contended = away_of a; met = met_of a; log_full = full_of a }

@@ -1,31 +1,19 @@
 -- What the answer to a call tells.
 use Rattle.std.specs.Prelude.{◌≡◌, ◌≢◌, ◌⊎◌, ℕ, List, [], ◌∷◌, ◌++◌, None}
 use Rattle.step_reply.specs.declared.reply.Call.{Call}
+use Rattle.step_reply.specs.declared.reply.Refusal.TheVariants.{Contended, LogFull}
 use Rattle.step_reply.specs.declared.reply.Reply.{Reply}
+use Rattle.step_reply.specs.declared.reply.Reply.TheVariants.{Refused}
 use Rattle.step_reply.specs.declared.step.Step.{Step}
-use Rattle.reference_model.specs.Rules.{guest_slot, names}
-use Rattle.guest_steps.specs.View.{cpu_of}
-use Rattle.hypercalls.specs.Uses.{parts_of}
-use Rattle.part_table.specs.declared.tries.Tried.{Tried}
-use Rattle.part_table.specs.declared.tries.Tried.TheVariants.{Stored, Contended, LogFull}
-use Rattle.part_table.specs.Parts.{in_order}
+use Rattle.reference_model.specs.History.{IsStored}
+use Rattle.part_table.specs.Parts.{numbers_for}
 use Rattle.part_table.specs.Does.{IsCalled}
 use Rattle.part_table.specs.Known.{Adds, IsSame, Known}
-use Rattle.part_table.specs.Tried.{Try, AllTaken, EndsIn, FoundAway, FoundFull, Tells, reply_of}
+use Rattle.part_table.specs.Tried.{Try, AllTaken, EndsIn, FoundAway, FoundFull}
 
 -- the parts that a step of the pass uses, in the order in which they are tried
 abbrev pub used_by : Step → Known → List ℕ
-used_by step v = in_order (parts_of (names step) (guest_slot (cpu_of v.own) step))
-
--- the CPU's own log is tested first
-abbrev pub TellsOf : Step → Tried → Known → Known → Type 0
-TellsOf step LogFull v w = ((v.own.log.room ≡ 0) × IsSame v w × (w.tries ≡ v.tries)) ⊎ ((v.own.log.room ≢ 0) × Tells step (used_by step v) LogFull v w)
-TellsOf step (Stored c) v w = (v.own.log.room ≢ 0) × Tells step (used_by step v) (Stored c) v w
-TellsOf step Contended v w = (v.own.log.room ≢ 0) × Tells step (used_by step v) Contended v w
-
--- what one try of a step comes to, and the reply
-abbrev pub Answers : Step → Reply → Known → Known → Type 0
-Answers step reply v w = (t : Tried) × (reply ≡ reply_of t) × TellsOf step t v w
+used_by step v = numbers_for v.own step
 
 -- a stored call: it is the step's, with the reply, and is added to the pass's own list. Each part that it used was tried once and taken
 pub record MakesCall (step : Step) (reply : Reply) (v w : Known) : Type 0 where
@@ -59,3 +47,10 @@ pub record FindsLogFull (step : Step) (v w : Known) : Type 0 where
   pub tries : List Try
   pub tried : w.tries ≡ v.tries ++ tries
   pub full : ((v.own.log.room ≡ 0) × (tries ≡ [])) ⊎ ((v.own.log.room ≢ 0) × EndsIn FoundFull (used_by step v) tries)
+
+-- What the reply to one try tells: a stored call was made; with Contended another pass has a part that the step uses, and no other reply was given where one was met so; with LogFull a log that would store the call is full
+pub record Answers (step : Step) (reply : Reply) (v w : Known) : Type 0 where
+  pub stored : IsStored reply → MakesCall step reply v w
+  pub contended : reply ≡ Refused Contended → FindsAway step v w
+  pub met : MeetsAnother v w → reply ≡ Refused Contended
+  pub log_full : reply ≡ Refused LogFull → FindsLogFull step v w

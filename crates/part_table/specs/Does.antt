@@ -40,6 +40,10 @@ module _ {A : Type 0} where
   abbrev pub both_at : ℕ → Slot A → ℕ → Slot A → ℕ → Option (Slot A)
   both_at k x i y j = cond (eqb j k) (Some x) (cond (eqb j i) (Some y) None)
 
+  -- the Shared part and the guest of slot v
+  abbrev pub pair_at : ℕ → Slot A → Slot A → ℕ → Option (Slot A)
+  pair_at v shared guest = both_at (v + 2) guest 1 shared
+
   -- There is one legal history, and what is kept is as at its end: CPUs' own states by number, each with its calls, and parts by number, each with the calls on it. What isn't kept may be anything
   pub record AreLeft (l : Layout) (owns : ℕ → Option CpuState) (kept : ℕ → Option (Slot A)) : Type 0 where
     pub ready : CanBoot l

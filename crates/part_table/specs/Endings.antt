@@ -1,5 +1,5 @@
 -- What a table begins with, and what is left at the end.
-use Rattle.std.specs.Prelude.{◌≡◌, ℕ, ◌<◌, Bool, false, List, [], length, map, All, Option, Some, option_map, slice_get, slice_index_or, unwrap_or}
+use Rattle.std.specs.Prelude.{◌≡◌, ℕ, ◌<◌, Bool, false, List, [], ◌∷◌, ◌++◌, length, map, All, Option, Some, option_map, slice_get, slice_index_or, unwrap_or}
 use mathlib.Core.Option.{some}
 use lib.ListN.{get_elem?}
 use Rattle.page_state.specs.declared.layout.Layout.{Layout as TheLayout}
@@ -48,9 +48,24 @@ KeepsTried l found p = AreFronts l.config.log (calls_at found) p.knows.tries
 abbrev pub ForEach : List (Option Pass) → (Pass → Type 0) → Type 0
 ForEach passes F = (c : ℕ) (p : Pass) → slice_get passes c ≡ Some (Some p) → F p
 
--- There is one legal history, at whose end parts and CPUs stand as the passes know them
+-- The parts and the CPUs' own states are the end of one legal history, and it is each pass's: its CPU has the state in which it ends, with all its calls, and each part's log begins with what it has seen of the part and with each log of it that it took
+pub record IsEndFor {A : Type 0} (l : TheLayout) (found : List (Slot A)) (cpus : List CpuState) (Each : (Pass → Type 0) → Type 0) : Type 0 where
+  pub end : IsEndOf l found cpus
+  pub own : Each (KeepsOwn cpus)
+  pub seen : Each (KeepsSeen found)
+  pub tried : Each (KeepsTried l found)
+
+-- there are such parts and states
 abbrev pub HasEnd : Type 0 → TheLayout → List (Option Pass) → Type 0
-HasEnd A l passes = (found : List (Slot A)) × (cpus : List CpuState) × IsEndOf l found cpus × ForEach passes (KeepsOwn cpus) × ForEach passes (KeepsSeen found) × ForEach passes (KeepsTried l found)
+HasEnd A l passes = (found : List (Slot A)) × (cpus : List CpuState) × IsEndFor l found cpus (ForEach passes)
+
+-- what the root keeps of a pass that ends
+abbrev pub ended_of : Pass → Ended
+ended_of p = (p.knows.own, p.knows.seen, p.knows.tries)
+
+-- the root has taken in a pass that ends, whose own state is this one
+abbrev pub HasJoined : Pass → List Ended → List Ended → CpuState → Type 0
+HasJoined p before after own = (after ≡ before ++ ended_of p ∷ []) × (own ≡ p.knows.own)
 
 -- the states in which passes end
 abbrev pub owns_of : List Ended → List CpuState
@@ -59,7 +74,7 @@ owns_of ended = map (λ e. e.0) ended
 -- the first n passes have ended: the root has the state in which each ends, what it has seen and what it tried, and the list has the states
 abbrev pub HaveEnded : ℕ → List (Option Pass) → List Ended → List CpuState → Type 0
 HaveEnded n passes ended cpus = (length ended ≡ n) × (length cpus ≡ n)
-    × ((c : ℕ) (p : Pass) → c < n → slice_get passes c ≡ Some (Some p) → (get_elem? ended c ≡ some (p.knows.own, p.knows.seen, p.knows.tries)) × (slice_get cpus c ≡ Some p.knows.own))
+    × ((c : ℕ) (p : Pass) → c < n → slice_get passes c ≡ Some (Some p) → (get_elem? ended c ≡ some (ended_of p)) × (slice_get cpus c ≡ Some p.knows.own))
 
 -- each slot has its part
 abbrev pub AllHome : {A : Type 0} → List (Option (Slot A)) → Type 0

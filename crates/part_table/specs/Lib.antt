@@ -6,6 +6,7 @@ pub mod Rule
 pub mod Tried
 pub mod Answered
 pub mod Made
+pub mod Trying
 pub mod Laws
 pub mod Passes
 pub mod Endings

@@ -7,13 +7,10 @@ use Rattle.page_state.specs.declared.layout.Layout.{Layout as TheLayout}
 use Rattle.page_state.specs.LayoutView.{layout_of}
 use Rattle.guest_steps.specs.declared.parts.CpuState.{CpuState}
 use Rattle.part_table.specs.declared.slot.Slot.{Slot}
-use Rattle.part_table.specs.declared.tries.Tried.{Tried}
-use Rattle.part_table.specs.declared.tries.Tried.TheVariants.{Stored, Contended, LogFull}
 use Rattle.part_table.specs.Answered.{used_by}
 use Rattle.part_table.specs.Does.{Does, IsCalled, IsLeft}
 use Rattle.part_table.specs.Parts.{log_of, uses}
 use Rattle.part_table.specs.Known.{Known}
-use Rattle.part_table.specs.Tried.{reply_of}
 
 module _ {A T : Type 0} (tells : TheLayout → (ℕ → Option (Slot A)) → CpuState → Call → (ℕ → Option (Slot A)) → CpuState → T → T → Type 0) (step : Step) where
   -- The step of the call was made once, on the parts that it uses, by number, as they were taken, with the logs that the tries tell, and on the pass's own state. They stand where a run ends, and the call is the reference step on them. The maker told of it, and of the parts and of the state as the call left them
@@ -26,16 +23,6 @@ module _ {A T : Type 0} (tells : TheLayout → (ℕ → Option (Slot A)) → Cpu
     pub does : Does (layout_of v.layout) c before v.own after w.own
     pub tried : w.tries ≡ v.tries ++ map (λ k. (k, option_map log_of (before k))) ks
     pub told : tells v.layout before v.own c after w.own from to
-
-  -- what a try comes to: a call that is stored was made, and else nothing was told
-  abbrev pub MakesOf : List ℕ → Tried → Known → Known → T → T → Type 0
-  MakesOf ks (Stored c) v w from to = Makes ks v w c from to
-  MakesOf ks Contended v w from to = to ≡ from
-  MakesOf ks LogFull v w from to = to ≡ from
-
-  -- the same of a reply
-  abbrev pub MakesFor : Reply → Known → Known → T → T → Type 0
-  MakesFor reply v w from to = (t : Tried) × (reply ≡ reply_of t) × MakesOf (used_by step v) t v w from to
 
   -- the call of this reply was made
   pub record IsMade (reply : Reply) (v w : Known) (from to : T) : Type 0 where

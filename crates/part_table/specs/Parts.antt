@@ -1,6 +1,7 @@
 -- The 66 parts by number, and how what a slot of the table holds stands in a reference state.
 use Rattle.std.specs.Prelude.{◌≡◌, ℕ, zero, suc, ◌+◌, Bool, List, [], ◌∷◌}
 use Rattle.step_reply.specs.declared.reply.Call.{Call}
+use Rattle.step_reply.specs.declared.step.Step.{Step}
 use Rattle.page_state.specs.Layouts.{Layout}
 use Rattle.reference_model.specs.Parts.{Part, vm_part, shared_part, guest_part}
 use Rattle.reference_model.specs.Rules.{call_uses}
@@ -12,6 +13,7 @@ use Rattle.guest_steps.specs.declared.parts.CpuState.{CpuState}
 use Rattle.guest_steps.specs.Lent.{SharedSuits, GuestSuits}
 use Rattle.guest_steps.specs.Logs.{StoredCalls, IsOfSize}
 use Rattle.guest_steps.specs.View.{vm_slots, shared_of, guest_held, cpu_of}
+use Rattle.hypercalls.specs.Uses.{uses_of}
 use Rattle.hypercalls.specs.declared.used_parts.UsedParts.{UsedParts}
 use Rattle.hypercalls.specs.declared.used_parts.UsedParts.TheVariants.{Nothing, Vms, Shared, Guest, Both}
 use Rattle.part_table.specs.declared.slot.Slot.{Slot}
@@ -38,6 +40,10 @@ in_order Vms = 0 ∷ []
 in_order Shared = 1 ∷ []
 in_order (Guest v) = (v + 2) ∷ []
 in_order (Both v) = 1 ∷ (v + 2) ∷ []
+
+-- the parts by number that a step of a CPU in this state uses, in that order
+abbrev pub numbers_for : CpuState → Step → List ℕ
+numbers_for own step = in_order (uses_of (cpu_of own) step)
 
 module _ {A : Type 0} where
   -- the log of a part

@@ -3,6 +3,7 @@ use Rattle.std.specs.Prelude.{◌≡◌, ◌≢◌, ℕ, ◌+◌, ◌<◌, ◌�
 use Rattle.std.proofs.Common.{refl}
 use mathlib.Core.Option.{some}
 use lib.ListN.{get_elem?}
+use Rattle.atomic_table.specs.Seated.{TableId}
 use Rattle.atomic_table.specs.Table.{State, Me, Step}
 use Rattle.page_state.specs.declared.layout.Layout.{Layout as TheLayout}
 use Rattle.page_state.specs.declared.layout.Geometry.TheVariants.{Bits39}
@@ -119,6 +120,18 @@ Seated A = Me (Option (Slot A)) (View A)
 -- a view that no seat has under the rule: it is a CPU's, of a layout without CPUs
 abbrev pub nowhere : {A : Type 0} → View A
 nowhere = record nobody { on = true }
+
+-- the root's, once each CPU has a seat
+abbrev pub all_made : {A : Type 0} → TheLayout → View A
+all_made key = record (rooted key) { made = key.config.cpus }
+
+-- the root's seat before a pass is joined: of n CPUs with a seat, of which none has ended, and nothing is in hand
+abbrev pub IsRootOf : {A : Type 0} → ℕ → ℕ → Seated A → Type 0
+IsRootOf n id me = (id ≡ 0) × (me.0.root ≡ true) × (me.0.ended ≡ []) × (me.0.made ≡ n) × (me.1 ≡ [])
+
+-- a seat is the root's as before, of the same table and of as many CPUs
+abbrev pub StaysRoot : {A : Type 0} → TableId → Seated A → TableId → ℕ → Seated A → Type 0
+StaysRoot table m same id n = (same ≡ table) × (id ≡ 0) × (n.0.root ≡ true) × (n.0.made ≡ m.0.made)
 
 -- what two seats of one CPU would come to
 abbrev pub clash : {A : Type 0} → View A → View A → View A

@@ -1,11 +1,9 @@
 //! The exchanges: a part is taken, goes home as it is recorded, or goes home with a call stored.
-ghost use Rattle.std.specs.Prelude.{◌≡◌, ℕ, ◌<◌, ◌∷◌, [], true, None, Some, IfSome, IfNone};
-ghost use Rattle.page_state.specs.LayoutView.{layout_of};
-ghost use Rattle.reference_model.specs.History.{IsStored};
-ghost use Rattle.part_table.specs.Does.{Does};
-ghost use Rattle.part_table.specs.Parts.{log_of, parts, uses};
-ghost use Rattle.part_table.specs.Rule.{IsInHand, IsInSlot, IsInSlotAsHeld, Standing, held_at, known_of, releasing, missing, storing, tail, taking};
-ghost use Rattle.part_table.specs.Known.{Extends, StartsWith, seen_at};
+ghost use Rattle.std.specs.Prelude.{◌≡◌, ◌<◌, ◌∷◌, [], true, None, Some, IfSome, IfNone};
+ghost use Rattle.part_table.specs.Known.{Extends};
+ghost use Rattle.part_table.specs.Parts.{parts};
+ghost use Rattle.part_table.specs.Rule.{IsInHand, IsInSlot, IsInSlotAsHeld, held_at, known_of, releasing, missing, storing, tail};
+ghost use Rattle.part_table.specs.Trying.{CanStore, HasTaken};
 
 use crate::rule::{Deed, Enter, Law, Return, Store, Take, View};
 use crate::slot::Slot;
@@ -28,7 +26,7 @@ pub fn take<A: Allocator>(table: &SlotTable<A>, seat: &mut PartSeat<A>, k: usize
     requires on { seat.old.me.0.on ≡ true }
     requires part { k < parts }
     ensures table { seat.new.table_id ≡ seat.old.table_id }
-    ensures taken { IfSome result (λ x. (seat.new.me ≡ (taking seat.old.me.0 k x, (k, None) ∷ seat.old.me.1)) × StartsWith (log_of x).calls (seen_at seat.old.me.0.seen k) × Standing seat.new.me.0) }
+    ensures taken { IfSome result (λ x. HasTaken k x seat.old.me seat.new.me) }
     ensures missed { IfNone result (seat.new.me ≡ (missing seat.old.me.0 k, seat.old.me.1)) }
 {
     if table.shared.swap::<Take>(seat, k, 1) != 0 {
@@ -86,9 +84,7 @@ fn store<A: Allocator, J: Deed>(
     requires on { seat.old.me.0.on ≡ true }
     requires part { k < parts }
     requires in_slot { IsInSlot seat.old.me.1 k }
-    requires used { (j : ℕ) (x : _) → held_at seat.old.me.0.held j ≡ Some x → uses J.call j ≡ true }
-    requires by { J.call.cpu ≡ seat.old.me.0.cpu }
-    requires does { Does (layout_of seat.old.me.0.layout) J.call (held_at seat.old.me.0.held) seat.old.me.0.own (held_at seat.old.me.1) J.own }
+    requires call { CanStore J.call J.own seat.old.me.0 seat.old.me.1 }
     ensures table { seat.new.table_id ≡ seat.old.table_id }
     ensures history { Extends J.call (known_of seat.new.me.0) }
     ensures home { seat.new.me ≡ (storing J.own seat.old.me.1 seat.old.me.0 k, tail seat.old.me.1) }
@@ -109,9 +105,7 @@ pub fn commit<A: Allocator>(
     requires on { seat.old.me.0.on ≡ true }
     requires part { k < parts }
     requires hand { seat.old.me.1 ≡ (k, None) ∷ [] }
-    requires used { (j : ℕ) (x : _) → held_at seat.old.me.0.held j ≡ Some x → uses call.now j ≡ true }
-    requires by { call.now.cpu ≡ seat.old.me.0.cpu }
-    requires does { Does (layout_of seat.old.me.0.layout) call.now (held_at seat.old.me.0.held) seat.old.me.0.own (held_at ((k, Some part) ∷ [])) own.now }
+    requires call { CanStore call.now own.now seat.old.me.0 ((k, Some part) ∷ []) }
     ensures table { seat.new.table_id ≡ seat.old.table_id }
     ensures history { Extends call.now (known_of seat.new.me.0) }
     ensures home { seat.new.me ≡ (storing own.now ((k, Some part) ∷ []) seat.old.me.0 k, []) }
@@ -134,9 +128,7 @@ pub fn commit_first<A: Allocator>(
     requires on { seat.old.me.0.on ≡ true }
     requires part { guest < parts }
     requires hand { seat.old.me.1 ≡ (guest, None) ∷ (1, None) ∷ [] }
-    requires used { (j : ℕ) (x : _) → held_at seat.old.me.0.held j ≡ Some x → uses call.now j ≡ true }
-    requires by { call.now.cpu ≡ seat.old.me.0.cpu }
-    requires does { Does (layout_of seat.old.me.0.layout) call.now (held_at seat.old.me.0.held) seat.old.me.0.own (held_at ((guest, Some part) ∷ (1, Some shared) ∷ [])) own.now }
+    requires call { CanStore call.now own.now seat.old.me.0 ((guest, Some part) ∷ (1, Some shared) ∷ []) }
     ensures table { seat.new.table_id ≡ seat.old.table_id }
     ensures history { Extends call.now (known_of seat.new.me.0) }
     ensures home { seat.new.me ≡ (storing own.now ((guest, Some part) ∷ (1, Some shared) ∷ []) seat.old.me.0 guest, (1, Some shared) ∷ []) }
@@ -157,9 +149,7 @@ fn load_entry<A: Allocator, J: Deed>(
 )
     requires table { (seat.old.table_id ≡ table.now.shared.table_id) × (table.now.shared.table_id.words ≡ parts) }
     requires on { seat.old.me.0.on ≡ true }
-    requires used { (j : ℕ) (x : _) → held_at seat.old.me.0.held j ≡ Some x → uses J.call j ≡ true }
-    requires by { J.call.cpu ≡ seat.old.me.0.cpu }
-    requires does { Does (layout_of seat.old.me.0.layout) J.call (held_at seat.old.me.0.held) seat.old.me.0.own (held_at []) J.own }
+    requires call { CanStore J.call J.own seat.old.me.0 [] }
     ensures table { seat.new.table_id ≡ seat.old.table_id }
     ensures history { Extends J.call (known_of seat.new.me.0) }
     ensures entered { seat.new.me ≡ (storing J.own [] seat.old.me.0 0, seat.old.me.1) }
@@ -176,9 +166,7 @@ pub fn enter<A: Allocator>(
 )
     requires table { (seat.old.table_id ≡ table.now.shared.table_id) × (table.now.shared.table_id.words ≡ parts) }
     requires on { seat.old.me.0.on ≡ true }
-    requires used { (j : ℕ) (x : _) → held_at seat.old.me.0.held j ≡ Some x → uses call.now j ≡ true }
-    requires by { call.now.cpu ≡ seat.old.me.0.cpu }
-    requires does { Does (layout_of seat.old.me.0.layout) call.now (held_at seat.old.me.0.held) seat.old.me.0.own (held_at []) own.now }
+    requires call { CanStore call.now own.now seat.old.me.0 [] }
     ensures table { seat.new.table_id ≡ seat.old.table_id }
     ensures history { Extends call.now (known_of seat.new.me.0) }
     ensures entered { seat.new.me ≡ (storing own.now [] seat.old.me.0 0, seat.old.me.1) }

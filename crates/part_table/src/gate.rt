@@ -1,8 +1,6 @@
 //! What is called in the middle of a call.
 ghost use Rattle.std.specs.Prelude.{◌≡◌, ◌≢◌, ◌+◌, ◌∷◌, [], length};
-ghost use Rattle.guest_steps.specs.View.{cpu_of};
-ghost use Rattle.hypercalls.specs.Uses.{uses_of};
-ghost use Rattle.part_table.specs.Parts.{in_order, log_of};
+ghost use Rattle.part_table.specs.Parts.{log_of, numbers_for};
 
 use crate::slot::Slot;
 use guest_steps::CpuState;
@@ -73,7 +71,7 @@ impl<'a, G: Gate> TryGate<'a, G> {
 
     /// A step comes next that uses no part.
     pub(crate) fn taken_none(&self, cpu: &CpuState, step: &Step)
-        requires uses { in_order (uses_of (cpu_of cpu.now) step.now) ≡ [] }
+        requires uses { numbers_for cpu.now step.now ≡ [] }
         requires own_room { cpu.now.log.room ≢ 0 }
         ensures { G.heard_taken self.now.gate.now cpu.now.id (length cpu.now.log.calls + 1) }
     {
@@ -89,7 +87,7 @@ impl<'a, G: Gate> TryGate<'a, G> {
         k: u64,
         part: &Slot<A>,
     )
-        requires uses { in_order (uses_of (cpu_of cpu.now) step.now) ≡ k ∷ [] }
+        requires uses { numbers_for cpu.now step.now ≡ k ∷ [] }
         requires room { (log_of part.now).room ≢ 0 }
         requires own_room { cpu.now.log.room ≢ 0 }
         ensures { G.heard_taken self.now.gate.now cpu.now.id (length cpu.now.log.calls + 1) }
@@ -109,7 +107,7 @@ impl<'a, G: Gate> TryGate<'a, G> {
         shared: &Slot<A>,
         guest: &Slot<A>,
     )
-        requires uses { in_order (uses_of (cpu_of cpu.now) step.now) ≡ 1 ∷ (v + 2) ∷ [] }
+        requires uses { numbers_for cpu.now step.now ≡ 1 ∷ (v + 2) ∷ [] }
         requires shared_room { (log_of shared.now).room ≢ 0 }
         requires guest_room { (log_of guest.now).room ≢ 0 }
         requires own_room { cpu.now.log.room ≢ 0 }

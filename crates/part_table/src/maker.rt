@@ -1,10 +1,9 @@
 //! What makes the step of a call while its pass holds the parts that the call uses.
-ghost use Rattle.std.specs.Prelude.{◌≡◌, ◌≢◌, ◌<◌, ◌+◌, ◌∷◌, [], length};
-ghost use Rattle.guest_steps.specs.View.{cpu_of};
-ghost use Rattle.hypercalls.specs.Uses.{uses_of};
+ghost use Rattle.std.specs.Prelude.{◌<◌, ◌+◌, ◌∷◌, [], length};
 ghost use Rattle.page_state.specs.LayoutView.{layout_of};
-ghost use Rattle.part_table.specs.Does.{both_at, Does, IsCalled, IsLeft, none_at, only_at};
-ghost use Rattle.part_table.specs.Parts.{in_order, log_of, parts};
+ghost use Rattle.part_table.specs.Does.{Does, IsCalled, none_at, only_at, pair_at};
+ghost use Rattle.part_table.specs.Parts.{parts};
+ghost use Rattle.part_table.specs.Trying.{CanMake};
 
 use crate::gate::{Gate, TryGate};
 use crate::slot::Slot;
@@ -36,10 +35,7 @@ pub trait Maker<T, G: Gate> {
         step: Step,
         told: &mut T,
     ) -> Call
-        requires known { cpu.old.id < layout.now.config.cpus }
-        requires left { ∥ IsLeft {A = A} (layout_of layout.now) cpu.old.id cpu.old none_at ∥₁ }
-        requires uses { in_order (uses_of (cpu_of cpu.old) step) ≡ [] }
-        requires own_room { cpu.old.log.room ≢ 0 }
+        requires can { CanMake {A = A} layout.now cpu.old step [] none_at }
         requires heard { G.heard_taken gate.now.gate.now cpu.old.id (length cpu.old.log.calls + 1) }
         ensures call { IsCalled cpu.old.id cpu.old step result }
         ensures does { Does {A = A} (layout_of layout.now) result none_at cpu.old none_at cpu.new }
@@ -57,12 +53,8 @@ pub trait Maker<T, G: Gate> {
         step: Step,
         told: &mut T,
     ) -> (Slot<A>, Call)
-        requires known { cpu.old.id < layout.now.config.cpus }
+        requires can { CanMake layout.now cpu.old step (k ∷ []) (only_at k slot) }
         requires part { k < parts }
-        requires left { ∥ IsLeft (layout_of layout.now) cpu.old.id cpu.old (only_at k slot) ∥₁ }
-        requires uses { in_order (uses_of (cpu_of cpu.old) step) ≡ k ∷ [] }
-        requires room { (log_of slot).room ≢ 0 }
-        requires own_room { cpu.old.log.room ≢ 0 }
         requires heard { G.heard_taken gate.now.gate.now cpu.old.id (length cpu.old.log.calls + 1) }
         ensures call { IsCalled cpu.old.id cpu.old step result.1 }
         ensures does { Does (layout_of layout.now) result.1 (only_at k slot) cpu.old (only_at k result.0) cpu.new }
@@ -81,17 +73,12 @@ pub trait Maker<T, G: Gate> {
         step: Step,
         told: &mut T,
     ) -> (Slot<A>, Slot<A>, Call)
-        requires known { cpu.old.id < layout.now.config.cpus }
+        requires can { CanMake layout.now cpu.old step (1 ∷ (v + 2) ∷ []) (pair_at v shared guest) }
         requires part { v + 2 < parts }
-        requires left { ∥ IsLeft (layout_of layout.now) cpu.old.id cpu.old (both_at (v + 2) guest 1 shared) ∥₁ }
-        requires uses { in_order (uses_of (cpu_of cpu.old) step) ≡ 1 ∷ (v + 2) ∷ [] }
-        requires shared_room { (log_of shared).room ≢ 0 }
-        requires guest_room { (log_of guest).room ≢ 0 }
-        requires own_room { cpu.old.log.room ≢ 0 }
         requires heard { G.heard_taken gate.now.gate.now cpu.old.id (length cpu.old.log.calls + 1) }
         ensures call { IsCalled cpu.old.id cpu.old step result.2 }
-        ensures does { Does (layout_of layout.now) result.2 (both_at (v + 2) guest 1 shared) cpu.old (both_at (v + 2) result.1 1 result.0) cpu.new }
-        ensures told { tells layout.now (both_at (v + 2) guest 1 shared) cpu.old result.2 (both_at (v + 2) result.1 1 result.0) cpu.new told.old told.new };
+        ensures does { Does (layout_of layout.now) result.2 (pair_at v shared guest) cpu.old (pair_at v result.0 result.1) cpu.new }
+        ensures told { tells layout.now (pair_at v shared guest) cpu.old result.2 (pair_at v result.0 result.1) cpu.new told.old told.new };
 }
 
 /// Makes the step, and tells nothing.
@@ -122,12 +109,8 @@ impl<T, G: Gate> Maker<T, G> for Plain {
         step: Step,
         _told: &mut T,
     ) -> (Slot<A>, Call)
-        requires known { cpu.old.id < layout.now.config.cpus }
+        requires can { CanMake layout.now cpu.old step (k ∷ []) (only_at k slot) }
         requires part { k < parts }
-        requires left { ∥ IsLeft (layout_of layout.now) cpu.old.id cpu.old (only_at k slot) ∥₁ }
-        requires uses { in_order (uses_of (cpu_of cpu.old) step) ≡ k ∷ [] }
-        requires room { (log_of slot).room ≢ 0 }
-        requires own_room { cpu.old.log.room ≢ 0 }
         ensures call { IsCalled cpu.old.id cpu.old step result.1 }
         ensures does { Does (layout_of layout.now) result.1 (only_at k slot) cpu.old (only_at k result.0) cpu.new }
         ensures told { Unit {0} }
@@ -147,15 +130,10 @@ impl<T, G: Gate> Maker<T, G> for Plain {
         step: Step,
         _told: &mut T,
     ) -> (Slot<A>, Slot<A>, Call)
-        requires known { cpu.old.id < layout.now.config.cpus }
+        requires can { CanMake layout.now cpu.old step (1 ∷ (v + 2) ∷ []) (pair_at v shared guest) }
         requires part { v + 2 < parts }
-        requires left { ∥ IsLeft (layout_of layout.now) cpu.old.id cpu.old (both_at (v + 2) guest 1 shared) ∥₁ }
-        requires uses { in_order (uses_of (cpu_of cpu.old) step) ≡ 1 ∷ (v + 2) ∷ [] }
-        requires shared_room { (log_of shared).room ≢ 0 }
-        requires guest_room { (log_of guest).room ≢ 0 }
-        requires own_room { cpu.old.log.room ≢ 0 }
         ensures call { IsCalled cpu.old.id cpu.old step result.2 }
-        ensures does { Does (layout_of layout.now) result.2 (both_at (v + 2) guest 1 shared) cpu.old (both_at (v + 2) result.1 1 result.0) cpu.new }
+        ensures does { Does (layout_of layout.now) result.2 (pair_at v shared guest) cpu.old (pair_at v result.0 result.1) cpu.new }
         ensures told { Unit {0} }
     {
         step::both(alloc, layout, shared, guest, v, cpu, step)

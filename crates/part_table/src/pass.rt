@@ -1,11 +1,9 @@
 //! What a CPU carries.
 ghost use Rattle.std.specs.Prelude.{◌≡◌, ◌+◌, ◌<◌, [], length};
-ghost use Rattle.step_reply.specs.declared.reply.Reply.TheVariants.{Refused};
-ghost use Rattle.step_reply.specs.declared.reply.Refusal.TheVariants.{Contended, LogFull};
 ghost use Rattle.reference_model.specs.History.{IsStored};
-ghost use Rattle.part_table.specs.Answered.{Answers, FindsAway, FindsLogFull, MakesCall};
-ghost use Rattle.part_table.specs.Made.{MakesFor};
+ghost use Rattle.part_table.specs.Answered.{Answers};
 ghost use Rattle.part_table.specs.Parts.{parts};
+ghost use Rattle.part_table.specs.Trying.{MakesFor};
 
 use crate::exchanges::{PartSeat, SlotTable};
 use crate::gate::{Gate, TryGate};
@@ -79,6 +77,7 @@ impl<A: Allocator + Copy> CpuPass<A> {
         requires layout { self.old.knows.layout ≡ layout.now }
         ensures table { self.new.table ≡ self.old.table }
         ensures rest { self.new.holds ≡ [] }
+        ensures stays { (self.new.knows.layout ≡ self.old.knows.layout) × (self.new.knows.cpu ≡ self.old.knows.cpu) }
         ensures answers { Answers step result self.old.knows self.new.knows }
         ensures heard { IsStored result → G.heard_taken gate.now self.old.knows.cpu (length self.old.knows.own.log.calls + 1) }
         ensures made { MakesFor {A = A} M.tells step result self.old.knows self.new.knows told.old told.new }

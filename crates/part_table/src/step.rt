@@ -1,10 +1,8 @@
 //! A step on parts as slots of the table hold them.
-ghost use Rattle.std.specs.Prelude.{◌≡◌, ◌≢◌, ◌<◌, ◌+◌, ◌∷◌, []};
-ghost use Rattle.guest_steps.specs.View.{cpu_of};
-ghost use Rattle.hypercalls.specs.Uses.{uses_of};
+ghost use Rattle.std.specs.Prelude.{◌+◌, ◌∷◌, []};
 ghost use Rattle.page_state.specs.LayoutView.{layout_of};
-ghost use Rattle.part_table.specs.Does.{both_at, Does, IsCalled, IsLeft, none_at, only_at};
-ghost use Rattle.part_table.specs.Parts.{in_order, log_of};
+ghost use Rattle.part_table.specs.Does.{Does, IsCalled, none_at, only_at, pair_at};
+ghost use Rattle.part_table.specs.Trying.{CanMake};
 
 use crate::slot::Slot;
 use guest_steps::CpuState;
@@ -15,10 +13,7 @@ use step_reply::{Call, Step};
 
 /// The step on no part, on the CPU's own state alone.
 pub fn idle<A: Allocator>(layout: &Layout, cpu: &mut CpuState, step: Step) -> Call
-    requires known { cpu.old.id < layout.now.config.cpus }
-    requires left { ∥ IsLeft {A = A} (layout_of layout.now) cpu.old.id cpu.old none_at ∥₁ }
-    requires uses { in_order (uses_of (cpu_of cpu.old) step) ≡ [] }
-    requires own_room { cpu.old.log.room ≢ 0 }
+    requires can { CanMake {A = A} layout.now cpu.old step [] none_at }
     ensures call { IsCalled cpu.old.id cpu.old step result }
     ensures does { Does {A = A} (layout_of layout.now) result none_at cpu.old none_at cpu.new }
 {
@@ -34,11 +29,7 @@ pub fn alone<A: Allocator + Copy>(
     cpu: &mut CpuState,
     step: Step,
 ) -> (Slot<A>, Call)
-    requires known { cpu.old.id < layout.now.config.cpus }
-    requires left { ∥ IsLeft (layout_of layout.now) cpu.old.id cpu.old (only_at k slot) ∥₁ }
-    requires uses { in_order (uses_of (cpu_of cpu.old) step) ≡ k ∷ [] }
-    requires room { (log_of slot).room ≢ 0 }
-    requires own_room { cpu.old.log.room ≢ 0 }
+    requires can { CanMake layout.now cpu.old step (k ∷ []) (only_at k slot) }
     ensures call { IsCalled cpu.old.id cpu.old step result.1 }
     ensures does { Does (layout_of layout.now) result.1 (only_at k slot) cpu.old (only_at k result.0) cpu.new }
 {
@@ -68,14 +59,9 @@ pub fn both<A: Allocator + Copy>(
     cpu: &mut CpuState,
     step: Step,
 ) -> (Slot<A>, Slot<A>, Call)
-    requires known { cpu.old.id < layout.now.config.cpus }
-    requires left { ∥ IsLeft (layout_of layout.now) cpu.old.id cpu.old (both_at (v + 2) guest 1 shared) ∥₁ }
-    requires uses { in_order (uses_of (cpu_of cpu.old) step) ≡ 1 ∷ (v + 2) ∷ [] }
-    requires shared_room { (log_of shared).room ≢ 0 }
-    requires guest_room { (log_of guest).room ≢ 0 }
-    requires own_room { cpu.old.log.room ≢ 0 }
+    requires can { CanMake layout.now cpu.old step (1 ∷ (v + 2) ∷ []) (pair_at v shared guest) }
     ensures call { IsCalled cpu.old.id cpu.old step result.2 }
-    ensures does { Does (layout_of layout.now) result.2 (both_at (v + 2) guest 1 shared) cpu.old (both_at (v + 2) result.1 1 result.0) cpu.new }
+    ensures does { Does (layout_of layout.now) result.2 (pair_at v shared guest) cpu.old (pair_at v result.0 result.1) cpu.new }
 {
     let Slot::Shared(mut s) = shared else {
         unreachable!()

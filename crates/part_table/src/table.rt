@@ -4,10 +4,10 @@ ghost use Rattle.std.specs.Vec.{vec_capacity, vec_len};
 ghost use Rattle.std.specs.Slots.{slots_items, slots_filled, slots_len, IsFull};
 ghost use Rattle.page_state.specs.LayoutView.{layout_of};
 ghost use Rattle.reference_model.specs.Boot.{CanBoot};
-ghost use Rattle.part_table.specs.Endings.{AllHome, ForEach, Gives, HasEnd, HaveEnded, IsEndOf, IsRow, KeepsOwn, KeepsSeen, KeepsTried, emptied_to, owns_of};
+ghost use Rattle.part_table.specs.Endings.{AllHome, ForEach, Gives, HasEnd, HasJoined, HaveEnded, IsEndFor, IsRow, emptied_to, owns_of};
 ghost use Rattle.part_table.specs.Parts.{parts};
 ghost use Rattle.part_table.specs.Passes.{AreFirst, AreHomeFrom, IsPassOf, IsThere, Pass, first_pass};
-ghost use Rattle.part_table.specs.Rule.{one_more, rooted};
+ghost use Rattle.part_table.specs.Rule.{IsRootOf, StaysRoot, all_made, one_more, rooted};
 ghost use Rattle.part_table.specs.Known.{AreOwnAtBoot, own_at_boot};
 
 use crate::exchanges::{PartSeat, SlotTable};
@@ -88,7 +88,7 @@ fn new_passes<A: Allocator>(
     requires count { vec_len owns ≡ table.now.shared.key.config.cpus }
     requires owns { AreOwnAtBoot table.now.shared.key owns.items }
     requires room { (passes.items ≡ []) × (vec_len owns ≤ vec_capacity passes) }
-    ensures root { (root.new.table_id ≡ root.old.table_id) × (root.new.id ≡ 0) × (root.new.me ≡ (record (rooted table.now.shared.key) { made = table.now.shared.key.config.cpus }, [])) }
+    ensures root { (root.new.table_id ≡ root.old.table_id) × (root.new.id ≡ 0) × (root.new.me ≡ (all_made table.now.shared.key, [])) }
     ensures passes { AreFirst (record { table = root.old.table_id; layout = table.now.shared.key }) (vec_len owns) result.items }
 {
     let count = owns.len();
@@ -155,10 +155,7 @@ impl<A: Allocator> PartTable<A> {
         requires home { AreHomeFrom self.table (vec_len passes) 0 passes.items }
         requires room { (cpus.items ≡ []) × (vec_len passes ≤ vec_capacity cpus) × (found.items ≡ []) × (parts ≤ vec_capacity found) }
         ensures layout { result.1 ≡ self.layout }
-        ensures end { IsEndOf self.layout result.2.items result.3.items }
-        ensures own { ForEach passes.items (KeepsOwn result.3.items) }
-        ensures seen { ForEach passes.items (KeepsSeen result.2.items) }
-        ensures tried { ForEach passes.items (KeepsTried self.layout result.2.items) }
+        ensures end { IsEndFor self.layout result.2.items result.3.items (ForEach passes.items) }
     {
         let PartTable {
             table,
@@ -191,10 +188,8 @@ impl<A: Allocator> PartTable<A> {
 
 impl<A: Allocator + Copy> PartTable<A> {
     ghost use Rattle.std.specs.Prelude.{◌≡◌, ◌+◌, [], length};
-    ghost use Rattle.step_reply.specs.declared.reply.Refusal.TheVariants.{Contended, LogFull};
-    ghost use Rattle.step_reply.specs.declared.reply.Reply.TheVariants.{Refused};
     ghost use Rattle.reference_model.specs.History.{IsStored};
-    ghost use Rattle.part_table.specs.Answered.{FindsAway, FindsLogFull, MeetsAnother, MakesCall};
+    ghost use Rattle.part_table.specs.Answered.{Answers};
     ghost use Rattle.part_table.specs.Made.{IsMade};
     ghost use Rattle.part_table.specs.Passes.{IsPassOf};
 
@@ -204,10 +199,7 @@ impl<A: Allocator + Copy> PartTable<A> {
         ensures pass { IsPassOf self.now pass.new }
         ensures cpu { pass.new.knows.cpu ≡ pass.old.knows.cpu }
         ensures rest { pass.new.holds ≡ [] }
-        ensures stored { IsStored result → MakesCall step result pass.old.knows pass.new.knows }
-        ensures contended { result ≡ Refused Contended → FindsAway step pass.old.knows pass.new.knows }
-        ensures met { MeetsAnother pass.old.knows pass.new.knows → result ≡ Refused Contended }
-        ensures log_full { result ≡ Refused LogFull → FindsLogFull step pass.old.knows pass.new.knows }
+        ensures answers { Answers step result pass.old.knows pass.new.knows }
         ensures heard { IsStored result → G.heard_taken gate.now pass.old.knows.cpu (length pass.old.knows.own.log.calls + 1) }
     {
         self.try_step_by(gate, &Plain, pass, step, &mut ())
@@ -226,10 +218,7 @@ impl<A: Allocator + Copy> PartTable<A> {
         ensures pass { IsPassOf self.now pass.new }
         ensures cpu { pass.new.knows.cpu ≡ pass.old.knows.cpu }
         ensures rest { pass.new.holds ≡ [] }
-        ensures stored { IsStored result → MakesCall step result pass.old.knows pass.new.knows }
-        ensures contended { result ≡ Refused Contended → FindsAway step pass.old.knows pass.new.knows }
-        ensures met { MeetsAnother pass.old.knows pass.new.knows → result ≡ Refused Contended }
-        ensures log_full { result ≡ Refused LogFull → FindsLogFull step pass.old.knows pass.new.knows }
+        ensures answers { Answers step result pass.old.knows pass.new.knows }
         ensures heard { IsStored result → G.heard_taken gate.now pass.old.knows.cpu (length pass.old.knows.own.log.calls + 1) }
         ensures made { IsStored result → IsMade {A = A} M.tells step result pass.old.knows pass.new.knows told.old told.new }
         ensures untold { (IsStored result → ⊥) → told.new ≡ told.old }
@@ -272,8 +261,9 @@ fn join_one<A: Allocator>(
     requires root { (root.old.id ≡ 0) × (root.old.me.0.root ≡ true) × (length root.old.me.0.ended ≡ cpu) × (cpu < root.old.me.0.made) }
     requires inside { cpu < vec_len passes.old }
     requires there { IsThere root.old.table_id passes.old.items cpu }
-    ensures root { (root.new.table_id ≡ root.old.table_id) × (root.new.id ≡ 0) × (root.new.me.0.root ≡ true) × (root.new.me.0.made ≡ root.old.me.0.made) × (root.new.me.1 ≡ root.old.me.1) }
-    ensures ended { (p : Pass) → slice_get passes.old.items cpu ≡ Some (Some p) → (root.new.me.0.ended ≡ root.old.me.0.ended ++ (p.knows.own, p.knows.seen, p.knows.tries) ∷ []) × (result ≡ p.knows.own) }
+    ensures root { StaysRoot root.old.table_id root.old.me root.new.table_id root.new.id root.new.me }
+    ensures hand { root.new.me.1 ≡ root.old.me.1 }
+    ensures ended { (p : Pass) → slice_get passes.old.items cpu ≡ Some (Some p) → HasJoined p root.old.me.0.ended root.new.me.0.ended result }
     ensures others { (j : ℕ) → j ≢ cpu → slice_get passes.new.items j ≡ slice_get passes.old.items j }
     ensures count { vec_len passes.new ≡ vec_len passes.old }
 {
@@ -291,10 +281,10 @@ fn join_all<A: Allocator>(
     mut cpus: Vec<CpuState>,
 ) -> Vec<CpuState>
     requires table { (root.old.table_id ≡ table.now.shared.table_id) × (table.now.shared.table_id.words ≡ parts) }
-    requires root { (root.old.id ≡ 0) × (root.old.me.0.root ≡ true) × (root.old.me.0.ended ≡ []) × (root.old.me.0.made ≡ vec_len passes) × (root.old.me.1 ≡ []) }
+    requires root { IsRootOf (vec_len passes) root.old.id root.old.me }
     requires home { AreHomeFrom root.old.table_id (vec_len passes) 0 passes.items }
     requires room { (cpus.items ≡ []) × (vec_len passes ≤ vec_capacity cpus) }
-    ensures root { (root.new.table_id ≡ root.old.table_id) × (root.new.id ≡ 0) × (root.new.me.0.root ≡ true) × (root.new.me.0.made ≡ root.old.me.0.made) }
+    ensures root { StaysRoot root.old.table_id root.old.me root.new.table_id root.new.id root.new.me }
     ensures ended { HaveEnded root.old.me.0.made passes.items root.new.me.0.ended result.items }
 {
     let count = passes.len();
@@ -312,9 +302,9 @@ fn join_each<A: Allocator>(
     mut passes: Vec<Option<CpuPass<A>>>,
 )
     requires table { (root.old.table_id ≡ table.now.shared.table_id) × (table.now.shared.table_id.words ≡ parts) }
-    requires root { (root.old.id ≡ 0) × (root.old.me.0.root ≡ true) × (root.old.me.0.ended ≡ []) × (root.old.me.0.made ≡ vec_len passes) × (root.old.me.1 ≡ []) }
+    requires root { IsRootOf (vec_len passes) root.old.id root.old.me }
     requires home { AreHomeFrom root.old.table_id (vec_len passes) 0 passes.items }
-    ensures root { (root.new.table_id ≡ root.old.table_id) × (root.new.id ≡ 0) × (root.new.me.0.root ≡ true) × (root.new.me.0.made ≡ root.old.me.0.made) }
+    ensures root { StaysRoot root.old.table_id root.old.me root.new.table_id root.new.id root.new.me }
     ensures ended { HaveEnded root.old.me.0.made passes.items root.new.me.0.ended (owns_of root.new.me.0.ended) }
 {
     let count = passes.len();
@@ -358,7 +348,7 @@ fn drop_all<A: Allocator>(
     passes: Vec<Option<CpuPass<A>>>,
 )
     requires table { (root.table_id ≡ table.shared.table_id) × (table.shared.table_id.words ≡ parts) × (table.shared.table_id.slots ≡ parts) }
-    requires root { (root.id ≡ 0) × (root.me.0.root ≡ true) × (root.me.0.ended ≡ []) × (root.me.0.made ≡ vec_len passes) × (root.me.1 ≡ []) }
+    requires root { IsRootOf (vec_len passes) root.id root.me }
     requires all { vec_len passes ≡ table.shared.key.config.cpus }
     requires home { AreHomeFrom root.table_id (vec_len passes) 0 passes.items }
     ensures { HasEnd A table.shared.key passes.items }
@@ -378,14 +368,11 @@ fn end<A: Allocator>(
     cpus: Vec<CpuState>,
 ) -> (Vec<Slot<A>>, Vec<CpuState>)
     requires table { (root.table_id ≡ table.shared.table_id) × (table.shared.table_id.words ≡ parts) × (table.shared.table_id.slots ≡ parts) }
-    requires root { (root.id ≡ 0) × (root.me.0.root ≡ true) × (root.me.0.ended ≡ []) × (root.me.0.made ≡ vec_len passes) × (root.me.1 ≡ []) }
+    requires root { IsRootOf (vec_len passes) root.id root.me }
     requires all { vec_len passes ≡ table.shared.key.config.cpus }
     requires home { AreHomeFrom root.table_id (vec_len passes) 0 passes.items }
     requires room { (cpus.items ≡ []) × (vec_len passes ≤ vec_capacity cpus) × (found.items ≡ []) × (parts ≤ vec_capacity found) }
-    ensures end { IsEndOf table.shared.key result.0.items result.1.items }
-    ensures own { ForEach passes.items (KeepsOwn result.1.items) }
-    ensures seen { ForEach passes.items (KeepsSeen result.0.items) }
-    ensures tried { ForEach passes.items (KeepsTried table.shared.key result.0.items) }
+    ensures { IsEndFor table.shared.key result.0.items result.1.items (ForEach passes.items) }
 {
     let cpus = join_all(&table, &mut root, passes, cpus);
     let mut closed = table.close_with(root);

@@ -1,11 +1,8 @@
 //! One try of a call.
-ghost use Rattle.std.specs.Prelude.{◌≡◌, ◌≢◌, ◌+◌, ◌<◌, ◌∷◌, [], length, true};
-ghost use Rattle.guest_steps.specs.View.{cpu_of};
-ghost use Rattle.hypercalls.specs.Uses.{uses_of};
-ghost use Rattle.part_table.specs.Made.{MakesOf};
-ghost use Rattle.part_table.specs.Parts.{in_order, parts};
-ghost use Rattle.part_table.specs.Rule.{AtRest, IsIdle, known_of};
-ghost use Rattle.part_table.specs.Tried.{Tells, WhereStored};
+ghost use Rattle.std.specs.Prelude.{◌≡◌, ◌+◌, ◌<◌, ◌∷◌, [], length};
+ghost use Rattle.part_table.specs.Parts.{numbers_for, parts};
+ghost use Rattle.part_table.specs.Rule.{known_of};
+ghost use Rattle.part_table.specs.Trying.{CanTry, IsAtRest, MakesOf, Tells, WhereStored};
 
 use crate::exchanges::{PartSeat, SlotTable, commit, commit_first, enter, put_back, release, take};
 use crate::gate::{Gate, TryGate};
@@ -38,18 +35,9 @@ pub fn none<A: Allocator + Copy, T, G: Gate, M: Maker<T, G>>(
     step: Step,
     told: &mut T,
 ) -> Tried
-    requires table { (seat.old.table_id ≡ table.now.shared.table_id) × (table.now.shared.table_id.words ≡ parts) }
-    requires on { seat.old.me.0.on ≡ true }
-    requires cpu { (seat.old.me.0.layout ≡ layout.now) × (seat.old.me.0.cpu ≡ cpu.old.id) × (seat.old.me.0.own ≡ cpu.old) }
-    requires known { cpu.old.id < layout.now.config.cpus }
-    requires own_room { cpu.old.log.room ≢ 0 }
-    requires rest { (seat.old.me.1 ≡ []) × IsIdle seat.old.me.0 }
-    requires left { AtRest seat.old.me.0 }
-    requires uses { in_order (uses_of (cpu_of cpu.old) step) ≡ [] }
-    ensures table { seat.new.table_id ≡ seat.old.table_id }
-    ensures rest { (seat.new.me.1 ≡ []) × IsIdle seat.new.me.0 }
-    ensures cpu { (seat.new.me.0.layout ≡ layout.now) × (seat.new.me.0.cpu ≡ cpu.old.id) × (seat.new.me.0.own ≡ cpu.new) × (seat.new.me.0.on ≡ true) }
-    ensures left { AtRest seat.new.me.0 }
+    requires can { CanTry table.now.shared.table_id layout.now cpu.old seat.old.table_id seat.old.me }
+    requires uses { numbers_for cpu.old step ≡ [] }
+    ensures rest { IsAtRest table.now.shared.table_id layout.now cpu.old.id cpu.new seat.new.table_id seat.new.me }
     ensures tells { Tells step [] result (known_of seat.old.me.0) (known_of seat.new.me.0) }
     ensures made { MakesOf {A = A} M.tells step [] result (known_of seat.old.me.0) (known_of seat.new.me.0) told.old told.new }
     ensures heard { WhereStored result (G.heard_taken gate.now.gate.now cpu.old.id (length cpu.old.log.calls + 1)) }
@@ -73,19 +61,10 @@ pub fn one<A: Allocator + Copy, T, G: Gate, M: Maker<T, G>>(
     step: Step,
     told: &mut T,
 ) -> Tried
-    requires table { (seat.old.table_id ≡ table.now.shared.table_id) × (table.now.shared.table_id.words ≡ parts) }
-    requires on { seat.old.me.0.on ≡ true }
-    requires cpu { (seat.old.me.0.layout ≡ layout.now) × (seat.old.me.0.cpu ≡ cpu.old.id) × (seat.old.me.0.own ≡ cpu.old) }
-    requires known { cpu.old.id < layout.now.config.cpus }
-    requires own_room { cpu.old.log.room ≢ 0 }
-    requires rest { (seat.old.me.1 ≡ []) × IsIdle seat.old.me.0 }
-    requires left { AtRest seat.old.me.0 }
+    requires can { CanTry table.now.shared.table_id layout.now cpu.old seat.old.table_id seat.old.me }
     requires part { k < parts }
-    requires uses { in_order (uses_of (cpu_of cpu.old) step) ≡ k ∷ [] }
-    ensures table { seat.new.table_id ≡ seat.old.table_id }
-    ensures rest { (seat.new.me.1 ≡ []) × IsIdle seat.new.me.0 }
-    ensures cpu { (seat.new.me.0.layout ≡ layout.now) × (seat.new.me.0.cpu ≡ cpu.old.id) × (seat.new.me.0.own ≡ cpu.new) × (seat.new.me.0.on ≡ true) }
-    ensures left { AtRest seat.new.me.0 }
+    requires uses { numbers_for cpu.old step ≡ k ∷ [] }
+    ensures rest { IsAtRest table.now.shared.table_id layout.now cpu.old.id cpu.new seat.new.table_id seat.new.me }
     ensures tells { Tells step (k ∷ []) result (known_of seat.old.me.0) (known_of seat.new.me.0) }
     ensures made { MakesOf {A = A} M.tells step (k ∷ []) result (known_of seat.old.me.0) (known_of seat.new.me.0) told.old told.new }
     ensures heard { WhereStored result (G.heard_taken gate.now.gate.now cpu.old.id (length cpu.old.log.calls + 1)) }
@@ -122,19 +101,10 @@ pub fn two<A: Allocator + Copy, T, G: Gate, M: Maker<T, G>>(
     step: Step,
     told: &mut T,
 ) -> Tried
-    requires table { (seat.old.table_id ≡ table.now.shared.table_id) × (table.now.shared.table_id.words ≡ parts) }
-    requires on { seat.old.me.0.on ≡ true }
-    requires cpu { (seat.old.me.0.layout ≡ layout.now) × (seat.old.me.0.cpu ≡ cpu.old.id) × (seat.old.me.0.own ≡ cpu.old) }
-    requires known { cpu.old.id < layout.now.config.cpus }
-    requires own_room { cpu.old.log.room ≢ 0 }
-    requires rest { (seat.old.me.1 ≡ []) × IsIdle seat.old.me.0 }
-    requires left { AtRest seat.old.me.0 }
+    requires can { CanTry table.now.shared.table_id layout.now cpu.old seat.old.table_id seat.old.me }
     requires part { v + 2 < parts }
-    requires uses { in_order (uses_of (cpu_of cpu.old) step) ≡ 1 ∷ (v + 2) ∷ [] }
-    ensures table { seat.new.table_id ≡ seat.old.table_id }
-    ensures rest { (seat.new.me.1 ≡ []) × IsIdle seat.new.me.0 }
-    ensures cpu { (seat.new.me.0.layout ≡ layout.now) × (seat.new.me.0.cpu ≡ cpu.old.id) × (seat.new.me.0.own ≡ cpu.new) × (seat.new.me.0.on ≡ true) }
-    ensures left { AtRest seat.new.me.0 }
+    requires uses { numbers_for cpu.old step ≡ 1 ∷ (v + 2) ∷ [] }
+    ensures rest { IsAtRest table.now.shared.table_id layout.now cpu.old.id cpu.new seat.new.table_id seat.new.me }
     ensures tells { Tells step (1 ∷ (v + 2) ∷ []) result (known_of seat.old.me.0) (known_of seat.new.me.0) }
     ensures made { MakesOf {A = A} M.tells step (1 ∷ (v + 2) ∷ []) result (known_of seat.old.me.0) (known_of seat.new.me.0) told.old told.new }
     ensures heard { WhereStored result (G.heard_taken gate.now.gate.now cpu.old.id (length cpu.old.log.calls + 1)) }
@@ -186,19 +156,10 @@ pub fn any<A: Allocator + Copy, T, G: Gate, M: Maker<T, G>>(
     step: Step,
     told: &mut T,
 ) -> Tried
-    requires table { (seat.old.table_id ≡ table.now.shared.table_id) × (table.now.shared.table_id.words ≡ parts) }
-    requires on { seat.old.me.0.on ≡ true }
-    requires cpu { (seat.old.me.0.layout ≡ layout.now) × (seat.old.me.0.cpu ≡ cpu.old.id) × (seat.old.me.0.own ≡ cpu.old) }
-    requires known { cpu.old.id < layout.now.config.cpus }
-    requires own_room { cpu.old.log.room ≢ 0 }
-    requires rest { (seat.old.me.1 ≡ []) × IsIdle seat.old.me.0 }
-    requires left { AtRest seat.old.me.0 }
-    ensures table { seat.new.table_id ≡ seat.old.table_id }
-    ensures rest { (seat.new.me.1 ≡ []) × IsIdle seat.new.me.0 }
-    ensures cpu { (seat.new.me.0.layout ≡ layout.now) × (seat.new.me.0.cpu ≡ cpu.old.id) × (seat.new.me.0.own ≡ cpu.new) × (seat.new.me.0.on ≡ true) }
-    ensures left { AtRest seat.new.me.0 }
-    ensures tells { Tells step (in_order (uses_of (cpu_of cpu.old) step)) result (known_of seat.old.me.0) (known_of seat.new.me.0) }
-    ensures made { MakesOf {A = A} M.tells step (in_order (uses_of (cpu_of cpu.old) step)) result (known_of seat.old.me.0) (known_of seat.new.me.0) told.old told.new }
+    requires can { CanTry table.now.shared.table_id layout.now cpu.old seat.old.table_id seat.old.me }
+    ensures rest { IsAtRest table.now.shared.table_id layout.now cpu.old.id cpu.new seat.new.table_id seat.new.me }
+    ensures tells { Tells step (numbers_for cpu.old step) result (known_of seat.old.me.0) (known_of seat.new.me.0) }
+    ensures made { MakesOf {A = A} M.tells step (numbers_for cpu.old step) result (known_of seat.old.me.0) (known_of seat.new.me.0) told.old told.new }
     ensures heard { WhereStored result (G.heard_taken gate.now.gate.now cpu.old.id (length cpu.old.log.calls + 1)) }
 {
     match uses(cpu, &step) {
@@ -223,7 +184,7 @@ pub fn any<A: Allocator + Copy, T, G: Gate, M: Maker<T, G>>(
 
 impl Tried {
     ghost use Rattle.std.specs.Prelude.{◌≡◌};
-    ghost use Rattle.part_table.specs.Tried.{reply_of};
+    ghost use Rattle.part_table.specs.Trying.{reply_of};
 
     /// The reply.
     pub fn reply(self) -> Reply

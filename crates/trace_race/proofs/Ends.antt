@@ -7,10 +7,10 @@ use Rattle.step_reply.specs.declared.reply.Reply.{Reply}
 use Rattle.step_reply.specs.declared.step.Step.{Step}
 use Rattle.guest_steps.specs.declared.parts.CpuState.{CpuState}
 use Rattle.part_table.specs.declared.slot.Slot.{Slot}
-use Rattle.part_table.specs.Endings.{IsEndOf, KeepsTried}
+use Rattle.part_table.specs.Endings.{IsEndFor}
 use Rattle.part_table.specs.Passes.{Opened, Pass}
 use Rattle.part_table.specs.Known.{Known}
-use Rattle.cpu_threads.specs.Ends.{AllGiven, AreOf, KeepsStates, OfGiven}
+use Rattle.cpu_threads.specs.Ends.{AllGiven, AreOf, OfGiven}
 use Rattle.cpu_threads.specs.Machines.{FullInTheEnd, StoresInTheEnd}
 use Rattle.trace_race.proofs.FullLogs.{made_in}
 use Rattle.trace_race.proofs.Kept.{kept_cases}
@@ -64,27 +64,27 @@ all_of t steps replies passes done cpu less =
     record { place = cpu; pass = there.0; there = there.1; cpu = (done.each cpu there.0 there.1).cpu_is }
 
 -- the one history
-pub one_history : {A : Type 0} (t : Opened) (steps : List Asked) (replies : List Reply) (out : List (Option Pass)) (passes : List Pass) (found : List (Slot A)) (cpus : List CpuState)
-    → AreDone t steps replies passes → IsEndOf t.layout found cpus → KeepsStates t.layout out passes cpus → OfGiven passes (KeepsTried t.layout found) → OneHistory (layout_of t.layout) steps replies
-one_history t steps replies out passes parts cpus done end own tried = record {
+pub one_history : {A : Type 0} (t : Opened) (steps : List Asked) (replies : List Reply) (passes : List Pass) (found : List (Slot A)) (cpus : List CpuState)
+    → AreDone t steps replies passes → IsEndFor t.layout found cpus (OfGiven passes) → OneHistory (layout_of t.layout) steps replies
+one_history t steps replies passes parts cpus done end = record {
   key = t.layout;
   key_is = refl;
-  log = end.left.log;
-  end = end.left.state;
-  run = end.left.run;
-  stored = end.left.stored;
+  log = end.end.left.log;
+  end = end.end.left.state;
+  run = end.end.left.run;
+  stored = end.end.left.stored;
   each = λ cpu less. each cpu (at_place passes cpu (let n = done.count in omega (arith, n, less)));
 }
   where
-    each : (cpu : ℕ) → (p : Pass) × (slice_get passes cpu ≡ Some p) → IsCpus t.layout cpu (answers_of cpu steps replies) end.left.log
+    each : (cpu : ℕ) → (p : Pass) × (slice_get passes cpu ≡ Some p) → IsCpus t.layout cpu (answers_of cpu steps replies) end.end.left.log
     each cpu found =
         let p = found.0 in
         let one = done.each cpu p found.1 in
-        let state : slice_get cpus cpu ≡ Some p.knows.own = subst (λ (c : ℕ). slice_get cpus c ≡ Some p.knows.own) one.cpu_is (own.ended cpu p found.1) in
-        let calls = (end.left.cpus cpu p.knows.own state).0 in
+        let state : slice_get cpus cpu ≡ Some p.knows.own = subst (λ (c : ℕ). slice_get cpus c ≡ Some p.knows.own) one.cpu_is (end.own cpu p found.1) in
+        let calls = (end.end.left.cpus cpu p.knows.own state).0 in
         record {
           calls = ap (map told) (sym calls) ∙ made_calls (first_known t.layout cpu) p.knows (answers_of cpu steps replies) one.makes;
           last = p.knows;
-          makes = made_in t.layout parts cpus end cpu p.knows (answers_of cpu steps replies) one.makes state (end_fronts t.layout parts cpus end p.knows.tries (tried cpu p found.1));
+          makes = made_in t.layout parts cpus end.end cpu p.knows (answers_of cpu steps replies) one.makes state (end_fronts t.layout parts cpus end.end p.knows.tries (end.tried cpu p found.1));
           own = sym calls;
         }

@@ -1,5 +1,5 @@
 -- A booted machine beside the model's boot state (profile).
-use Rattle.std.specs.Prelude.{◌≡◌, ⊤}
+use Rattle.std.specs.Prelude.{◌≡◌, ⊤, Result, MatchResult}
 use Rattle.page_state.specs.declared.layout.Config.{Config}
 use Rattle.page_state.specs.LayoutView.{layout_of}
 use Rattle.page_state.specs.Regions.{Memory}
@@ -34,3 +34,7 @@ pub record IsBootedOf (memory : Memory) (config : Config) (b : Booted) : Type 0 
   pub line : b.line ≡ boot_told (machine_in b.state)
   pub layout : layout_of b.machine.table.layout ≡ layout_of b.state.layout
   pub first : AreFirst b.machine.table config.cpus b.machine.passes
+
+-- what booting on them comes to
+abbrev pub BootsTo : Memory → Config → Result Booted Stop → Type 0
+BootsTo memory config result = MatchResult result (IsBootedOf memory config) (StopsBoot memory config)

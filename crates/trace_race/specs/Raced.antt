@@ -16,6 +16,7 @@ use Rattle.trace_text.specs.declared.report.ReportLine.TheVariants as report
 use Rattle.trace_text.specs.declared.session.Stop.TheVariants as stops
 use Rattle.trace_text.specs.Oracles.{audited_lines}
 use Rattle.trace_text.specs.Played.{WritesFront}
+use Rattle.trace_text.specs.Replay.{outcome_of}
 use Rattle.trace_text.specs.Session.{IsNoWorld}
 use Rattle.trace_text.specs.Texts.{text_of_report}
 use Rattle.trace_text.specs.Worlds.{IsBootOf, Machine}
@@ -33,6 +34,10 @@ step_lines (a ∷ more) (reply ∷ replies) = report.Response (responses.Step a.
 -- the lines of what comparing found, and the last, with the numbers of steps and of disagreements
 abbrev pub found_lines : List Disagreement → Option Disagreement → ℕ → List ReportLine
 found_lines judged audited steps = map report.Judged judged ++ (audited_lines audited ++ report.End steps (length judged + length (audited_lines audited)) ∷ [])
+
+-- and the outcome
+abbrev pub found_outcome : List Disagreement → Option Disagreement → Outcome
+found_outcome judged audited = outcome_of (length judged + length (audited_lines audited))
 
 -- the lines behind the boot line: those of the steps, and the last. No line disagrees
 abbrev pub lines_behind : List Asked → List Reply → List ReportLine

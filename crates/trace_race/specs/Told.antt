@@ -26,6 +26,10 @@ use Rattle.trace_race.specs.Raced.{HasOneHistory, IsBegunOf, IsRead, lines_behin
 abbrev pub IsBootedRun : Asking → Booted → Type 0
 IsBootedRun a b = (memory : Memory) × IsBootedOf memory (config_of a.told) b
 
+-- these lines were written, and the outcome is this one
+abbrev pub EndsWith : Outcome → List ReportLine → Option (List ℕ) → Option (List ℕ) → Outcome → Type 0
+EndsWith is lines old new outcome = (outcome ≡ is) × Appends old new (text_of_report lines)
+
 -- behind the boot line the whole report of steps that were made, in one legal history
 abbrev pub StepsEnd : Layout → List Asked → List Reply → Option (List ℕ) → Option (List ℕ) → Outcome → Type 0
 StepsEnd l steps replies old new outcome = (outcome ≡ outcomes.Clean) × OneHistory l steps replies × Appends old new (text_of_report (lines_behind steps replies))

@@ -1,8 +1,7 @@
 //! Booting the machine of a trace.
-ghost use Rattle.std.specs.Prelude.{MatchResult};
 ghost use Rattle.page_state.specs.Regions.{memory_of};
 ghost use Rattle.trace_lines.specs.Settings.{config_of, told_of};
-ghost use Rattle.trace_race.specs.Booted.{IsBootedOf, StopsBoot};
+ghost use Rattle.trace_race.specs.Booted.{BootsTo};
 
 use cpu_threads::Machine;
 use ghost_spec::state::Ghost;
@@ -26,7 +25,7 @@ pub(crate) fn boot_machine(
     settings: &Settings,
     carve: PageRange,
 ) -> Result<Booted, Stop>
-    ensures { let memory = memory_of settings.now.regions.items carve in MatchResult result (IsBootedOf memory (config_of (told_of settings.now))) (StopsBoot memory (config_of (told_of settings.now))) }
+    ensures { BootsTo (memory_of settings.now.regions.items carve) (config_of (told_of settings.now)) result }
 {
     let map = match told_memory(global, settings.regions.as_slice(), carve) {
         Ok(map) => map,

@@ -1,6 +1,5 @@
 //! A whole race: read, made, merged, judged, audited, reported.
 ghost use Rattle.std.specs.Prelude.{◌≡◌, ◌<◌, ◌^◌, ◌∷◌, [], IfOk, OnErr, MatchResult, Ok, Err};
-ghost use Rattle.std.specs.Io.KnownBytes.{Appends};
 ghost use Rattle.page_state.specs.LayoutView.{layout_of};
 ghost use Rattle.reference_model.specs.Boot.{boot};
 ghost use Rattle.ghost_spec.specs.States.{ghost_state};
@@ -10,10 +9,9 @@ ghost use Rattle.trace_race.specs.Failures.{RaceReads, RaceTells, RaceWrites};
 ghost use Rattle.trace_race.specs.Made.{IsMadeOf, OneHistory};
 ghost use Rattle.trace_race.specs.Raced.{IsRaceBegun, IsRaced, lines_behind};
 ghost use Rattle.trace_race.specs.Readings.{IsSoundRead, asked_in};
-ghost use Rattle.trace_race.specs.Told.{BeginsStop, IsBootedRun, RunBegins, RunEnds, StepsEnd, TellsBegun, TellsRace, TellsStop};
+ghost use Rattle.trace_race.specs.Told.{BeginsStop, EndsWith, IsBootedRun, RunBegins, RunEnds, StepsEnd, TellsBegun, TellsRace, TellsStop};
 ghost use Rattle.trace_text.specs.Failures.{TellsWrite};
 ghost use Rattle.trace_text.specs.Played.{WritesFront};
-ghost use Rattle.trace_text.specs.Texts.{text_of_report};
 
 use crate::booting::{Booted, boot_machine};
 use crate::course::{Asked, Course};
@@ -122,7 +120,7 @@ fn tell_stop<K: Sink>(
 
 /// Writes the report of a trace that boots nothing.
 fn tell_idle<K: Sink>(sink: &mut K, text: &mut String) -> Result<Outcome, RaceFault>
-    ensures ok { IfOk result (λ outcome. (outcome ≡ Outcome.Clean) × Appends (K.contents sink.old) (K.contents sink.new) (text_of_report (ReportLine.End 0 0 ∷ []))) }
+    ensures ok { IfOk result (EndsWith Outcome.Clean (ReportLine.End 0 0 ∷ []) (K.contents sink.old) (K.contents sink.new)) }
     ensures front { OnErr result (WritesFront (ReportLine.End 0 0 ∷ []) (K.contents sink.old) (K.contents sink.new)) }
     ensures counted { RaceTells (K.failures sink.old) (K.failures sink.new) result }
 {
@@ -183,7 +181,7 @@ fn tell_made<K: Sink>(
     requires made { IsMadeOf steps.now made }
     requires layout { layout_of made.machine.table.layout ≡ layout_of state.layout }
     requires boot { ghost_state state ≡ boot (layout_of state.layout) }
-    ensures report { IfOk result (λ outcome. StepsEnd (layout_of state.layout) steps.now made.replies.items (K.contents sink.old) (K.contents sink.new) outcome) }
+    ensures report { IfOk result (StepsEnd (layout_of state.layout) steps.now made.replies.items (K.contents sink.old) (K.contents sink.new)) }
     ensures begun { OnErr result (WritesFront (lines_behind steps.now made.replies.items) (K.contents sink.old) (K.contents sink.new)) }
     ensures history { OneHistory (layout_of state.layout) steps.now made.replies.items }
     ensures counted { TellsWrite (K.failures sink.old) (K.failures sink.new) result }

@@ -1,11 +1,10 @@
 //! The lines of a race's report.
 ghost use Rattle.std.specs.Prelude.{◌≡◌, ◌<◌, ◌^◌, ◌+◌, ◌++◌, ◌∷◌, [], IfOk, OnOk, OnErr, length, map};
 ghost use Rattle.std.specs.Io.KnownBytes.{Appends};
-ghost use Rattle.trace_race.specs.Raced.{found_lines, step_lines as step_lines_of};
+ghost use Rattle.trace_race.specs.Raced.{found_lines, found_outcome, step_lines as step_lines_of};
+ghost use Rattle.trace_race.specs.Told.{EndsWith};
 ghost use Rattle.trace_text.specs.Failures.{TellsWrite};
-ghost use Rattle.trace_text.specs.Oracles.{audited_lines};
 ghost use Rattle.trace_text.specs.Played.{WritesFront};
-ghost use Rattle.trace_text.specs.Replay.{outcome_of};
 ghost use Rattle.trace_text.specs.Texts.{text_of_report};
 
 use crate::course::Asked;
@@ -73,7 +72,7 @@ pub(crate) fn tell_found<K: Sink>(
     audited: Option<Disagreement>,
     steps: u64,
 ) -> Result<Outcome, EngineFault>
-    ensures ok { IfOk result (λ outcome. (outcome ≡ outcome_of (length judged.now + length (audited_lines audited))) × Appends (K.contents sink.old) (K.contents sink.new) (text_of_report (found_lines judged.now audited steps))) }
+    ensures ok { IfOk result (EndsWith (found_outcome judged.now audited) (found_lines judged.now audited steps) (K.contents sink.old) (K.contents sink.new)) }
     ensures front { OnErr result (WritesFront (found_lines judged.now audited steps) (K.contents sink.old) (K.contents sink.new)) }
     ensures counted { TellsWrite (K.failures sink.old) (K.failures sink.new) result }
 {

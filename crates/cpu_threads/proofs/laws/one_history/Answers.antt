@@ -20,10 +20,10 @@ of_kept l found cpus e p own seen tried = record {
 }
 
 ends_in_one : (A : Type 0) → EndsInOne A
-ends_in_one A l found cpus passes given e own seen tried = record {
-  end = e;
-  each = λ j p there. of_kept l found cpus e p (own.ended j p there) (seen j p there) (tried j p there);
-  idle = λ c home. sym (e.left.cpus c (own_at_boot l c) (own.fresh c home)).0;
+ends_in_one A l found cpus passes given e fresh = record {
+  end = e.end;
+  each = λ j p there. of_kept l found cpus e.end p (e.own j p there) (e.seen j p there) (e.tried j p there);
+  idle = λ c home. sym (e.end.left.cpus c (own_at_boot l c) (fresh c home)).0;
 }
 
 pub returns : goal.returns

@@ -1,7 +1,6 @@
 use Rattle.std.proofs.Common.{◌≡◌, [], ◌∷◌, Some, ap, sym, subst, ◌∙◌}
-use Rattle.page_state.specs.LayoutView.{layout_of}
-use Rattle.part_table.specs.Does.{Does}
-use Rattle.part_table.specs.Rule.{Hands, Seated, held_at, storing, tail}
+use Rattle.part_table.specs.Rule.{Hands, Seated, storing, tail}
+use Rattle.part_table.specs.Trying.{CanStore}
 use Rattle.part_table.proofs.Pairs.{by_front}
 use Rattle.part_table.proofs.exchanges.commit.Goals as goal
 use Rattle.part_table.proofs.exchanges.commit.Goals.{After-put}
@@ -12,14 +11,6 @@ in_slot g c = c.put.ensures.in_slot ∙ ap (λ (l : Hands g.row.A.Denot). (c.arg
 
 pub store-requires-clause-in_slot : goal.store-requires-clause-in_slot
 store-requires-clause-in_slot g c = (c.args.part, by_front (ap (λ m. m.1) c.put.ensures.in_slot))
-
-pub store-requires-clause-used : goal.store-requires-clause-used
-store-requires-clause-used g c j x h = c.requires.used j x (ap (λ m. held_at m.0.held j) (sym c.put.ensures.in_slot) ∙ h)
-
-pub store-requires-clause-does : goal.store-requires-clause-does
-store-requires-clause-does g c =
-    subst (λ (m : Seated g.row.A.Denot). Does (layout_of m.0.layout) c.args.call.now (held_at m.0.held) m.0.own (held_at m.1) c.args.own.now)
-    (sym (in_slot g (goal.at.store-requires-clause-does g c).After-put)) c.requires.does
 
 pub returns-clause-home : goal.returns-clause-home
 returns-clause-home g c =
@@ -41,11 +32,11 @@ store-requires-clause-on g c = ap (λ m. m.0.on) c.put.ensures.in_slot ∙ c.req
 pub store-requires-clause-part : goal.store-requires-clause-part
 store-requires-clause-part g c = c.requires.part
 
-pub store-requires-clause-by : goal.store-requires-clause-by
-store-requires-clause-by g c = c.requires.by ∙ ap (λ m. m.0.cpu) (sym c.put.ensures.in_slot)
-
 pub returns-clause-table : goal.returns-clause-table
 returns-clause-table g c = c.store.ensures.table ∙ c.put.ensures.table
 
 pub returns-clause-history : goal.returns-clause-history
 returns-clause-history g c = c.store.ensures.history
+
+pub store-requires-clause-call : goal.store-requires-clause-call
+store-requires-clause-call g c = subst (λ (m : Seated g.row.A.Denot). CanStore c.args.call.now c.args.own.now m.0 m.1) (sym (in_slot g (goal.at.store-requires-clause-call g c).After-put)) c.requires.call

@@ -1,9 +1,8 @@
 use Rattle.std.proofs.Common.{◌≡◌, ℕ, ◌∷◌, [], Some, None, ap, sym, subst, ◌∙◌}
 use Rattle.atomic_table.specs.Table.{turned}
-use Rattle.page_state.specs.LayoutView.{layout_of}
 use Rattle.part_table.specs.declared.slot.Slot.{Slot}
-use Rattle.part_table.specs.Does.{Does}
-use Rattle.part_table.specs.Rule.{Hands, Seated, held_at, storing, tail}
+use Rattle.part_table.specs.Rule.{Hands, Seated, storing, tail}
+use Rattle.part_table.specs.Trying.{CanStore}
 use Rattle.part_table.proofs.Pairs.{by_front}
 use Rattle.part_table.proofs.exchanges.commit_first.Goals as goal
 use Rattle.part_table.proofs.exchanges.commit_first.Goals.{After-turn, After-turn-2}
@@ -36,17 +35,6 @@ store-requires-clause-in_slot g c =
     let at = goal.at.store-requires-clause-in_slot g c in
     (c.args.part, by_front (ap (λ m. m.1) (both_in_slot g at.After-turn-2 (one_in_slot g at.After-turn))))
 
-pub store-requires-clause-used : goal.store-requires-clause-used
-store-requires-clause-used g c j x h =
-    let at = goal.at.store-requires-clause-used g c in
-    c.requires.used j x (ap (λ m. held_at m.0.held j) (sym (both_in_slot g at.After-turn-2 (one_in_slot g at.After-turn))) ∙ h)
-
-pub store-requires-clause-does : goal.store-requires-clause-does
-store-requires-clause-does g c =
-    let at = goal.at.store-requires-clause-does g c in
-    subst (λ (m : Seated g.row.A.Denot). Does (layout_of m.0.layout) c.args.call.now (held_at m.0.held) m.0.own (held_at m.1) c.args.own.now)
-    (sym (both_in_slot g at.After-turn-2 (one_in_slot g at.After-turn))) c.requires.does
-
 pub returns-clause-home : goal.returns-clause-home
 returns-clause-home g c =
     let at = goal.at.returns-clause-home g c in
@@ -75,11 +63,6 @@ store-requires-clause-on g c =
 pub store-requires-clause-part : goal.store-requires-clause-part
 store-requires-clause-part g c = c.requires.part
 
-pub store-requires-clause-by : goal.store-requires-clause-by
-store-requires-clause-by g c =
-    let at = goal.at.store-requires-clause-by g c in
-    c.requires.by ∙ ap (λ m. m.0.cpu) (sym (both_in_slot g at.After-turn-2 (one_in_slot g at.After-turn)))
-
 pub returns-clause-table : goal.returns-clause-table
 returns-clause-table g c =
     let at = goal.at.returns-clause-table g c in
@@ -87,3 +70,8 @@ returns-clause-table g c =
 
 pub returns-clause-history : goal.returns-clause-history
 returns-clause-history g c = c.store.ensures.history
+
+pub store-requires-clause-call : goal.store-requires-clause-call
+store-requires-clause-call g c =
+    let at = goal.at.store-requires-clause-call g c in
+    subst (λ (m : Seated g.row.A.Denot). CanStore c.args.call.now c.args.own.now m.0 m.1) (sym (both_in_slot g at.After-turn-2 (one_in_slot g at.After-turn))) c.requires.call

@@ -3,9 +3,8 @@ use Rattle.std.specs.Prelude.{Option}
 use Rattle.atomic_table.specs.Table.{rest}
 use Rattle.part_table.specs.declared.rule.View.{View}
 use Rattle.part_table.specs.declared.slot.Slot.{Slot}
-use Rattle.part_table.specs.Parts.{log_of}
-use Rattle.part_table.specs.Rule.{taking, Standing}
-use Rattle.part_table.specs.Known.{seen_at, StartsWith}
+use Rattle.part_table.specs.Rule.{Standing}
+use Rattle.part_table.specs.Trying.{HasTaken}
 use Rattle.part_table.proofs.Keeps.{take_keeps}
 use Rattle.part_table.proofs.Pairs.{first_of}
 use Rattle.part_table.proofs.exchanges.take.Goals as goal
@@ -22,10 +21,9 @@ exchange-requires g c =
 pub returns-clause-taken : goal.returns-clause-taken
 returns-clause-taken g c =
     let t = c.swap.ensures.2.0 c.if-swap-ne0.false in
-    let v : View g.row.A.Denot = c.args.seat.now.me.0 in
     let k : ℕ = c.args.k in
     let e : c.swap.new.seat.me.1 ≡ (k, Some t.0) ∷ c.args.seat.now.me.1 = ap (λ z. z.1) t.1 in
     let r : Some t.0 ≡ c.exchange.result = ap (first_of None) (sym e ∙ c.exchange.ensures.2) in
     let n = c.exchange.ensures.3 in
-    subst (λ (o : Option (Slot g.row.A.Denot)). IfSome o (λ x. (c.exchange.new.seat.me ≡ (taking v k x, (k, None) ∷ c.args.seat.now.me.1)) × StartsWith (log_of x).calls (seen_at v.seen k) × Standing c.exchange.new.seat.me.0)) r
-    (n ∙ ap (λ m. (m.0, (k, None) ∷ rest m.1)) t.1, t.2, subst (λ (w : View g.row.A.Denot). Standing w) (sym (ap (λ m. m.0) n)) t.3)
+    subst (λ (o : Option (Slot g.row.A.Denot)). IfSome o (λ x. HasTaken k x c.args.seat.now.me c.exchange.new.seat.me)) r
+    record { is = n ∙ ap (λ m. (m.0, (k, None) ∷ rest m.1)) t.1; begun = t.2; left = subst (λ (w : View g.row.A.Denot). Standing w) (sym (ap (λ m. m.0) n)) t.3 }

@@ -2,7 +2,7 @@ use Rattle.std.proofs.Common.{◌≡◌, ℕ, ◌+◌, ◌<◌, ◌≤◌, lengt
 use Rattle.std.specs.Prelude.{Option, List}
 use Rattle.std.specs.Vec.{vec_capacity, vec_len}
 use Rattle.guest_steps.specs.declared.parts.CpuState.{CpuState}
-use Rattle.part_table.specs.Endings.{HaveEnded}
+use Rattle.part_table.specs.Endings.{HaveEnded, ended_of}
 use Rattle.part_table.specs.Passes.{Pass}
 use Rattle.part_table.specs.Rule.{Ended}
 use Rattle.part_table.proofs.Lists.{one_more_ended}
@@ -45,9 +45,9 @@ loop-cpu-preserved g c =
       e.root.1,
       e.root.2,
       e.root.3 ∙ i.3,
-      e.root.4 ∙ i.4,
+      e.hand ∙ i.4,
       subst (λ (z : List Ended × List CpuState). HaveEnded (n + 1) ps z.0 z.1) (λ k. (sym d.0 k, sym items k))
-          (one_more_ended n ps c.loop-cpu.root.me.0.ended c.loop-cpu.cpus.items h.0 (h.0.knows.own, h.0.knows.seen, h.0.knows.tries) c.join_one-own.result i.5 h.1 refl d.1),
+          (one_more_ended n ps c.loop-cpu.root.me.0.ended c.loop-cpu.cpus.items h.0 (ended_of h.0) c.join_one-own.result i.5 h.1 refl d.1),
       c.push_in_room.ensures.len ∙ ap (λ m. m + 1) i.6,
       le_le _ _ _ i.7 c.push_in_room.ensures.room,
       e.count ∙ i.8,

@@ -1,7 +1,7 @@
 use Rattle.std.proofs.Common.{◌≡◌, ℕ, ◌+◌, ◌<◌, [], ◌∷◌, ◌++◌, length, arith, sym, ap, ◌∙◌, refl, subst, le_refl}
 use Rattle.std.specs.Prelude.{Option, List}
 use Rattle.std.proofs.lemmas.List.{map-append}
-use Rattle.part_table.specs.Endings.{HaveEnded, owns_of}
+use Rattle.part_table.specs.Endings.{HaveEnded, ended_of, owns_of}
 use Rattle.part_table.specs.Passes.{Pass}
 use Rattle.part_table.specs.Rule.{Ended}
 use Rattle.part_table.proofs.Lists.{one_more_ended}
@@ -37,13 +37,13 @@ loop-cpu-preserved g c =
     let h = c.requires.home n (omega arith) (less_all _ _ _ c.loop-cpu-test.true c.len-count.ensures) in
     let d = e.ended h.0 (i.7 n (le_refl n) ∙ h.1) in
     let old : List Ended = c.loop-cpu.root.me.0.ended in
-    let last : Ended = (h.0.knows.own, h.0.knows.seen, h.0.knows.tries) in
+    let last : Ended = ended_of h.0 in
     let owns : owns_of (old ++ last ∷ []) ≡ owns_of old ++ h.0.knows.own ∷ [] = map-append (λ (z : Ended). z.0) old (last ∷ []) in (
       e.root.0 ∙ i.0,
       e.root.1,
       e.root.2,
       e.root.3 ∙ i.3,
-      e.root.4 ∙ i.4,
+      e.hand ∙ i.4,
       subst (λ (z : List Ended). HaveEnded (n + 1) ps z (owns_of z)) (sym d.0)
           (subst (HaveEnded (n + 1) ps (old ++ last ∷ [])) (sym owns) (one_more_ended n ps old (owns_of old) h.0 last h.0.knows.own i.5 h.1 refl refl)),
       e.count ∙ i.6,

@@ -3,6 +3,7 @@ use Rattle.std.specs.Prelude.{Option, Some, None, IsSome, slice_get, slice_set}
 use Rattle.atomic_table.specs.Table.{Joins}
 use Rattle.page_state.specs.declared.layout.Layout.{Layout as TheLayout}
 use Rattle.part_table.specs.declared.rule.View.{View}
+use Rattle.part_table.specs.Endings.{ended_of}
 use Rattle.part_table.specs.Passes.{Pass}
 use Rattle.part_table.specs.Rule.{IsLawful, with_end, nobody}
 use Rattle.part_table.proofs.Lists.{from, or_of_get, get_set_else}
@@ -47,7 +48,10 @@ join_seat-requires g c =
 pub returns-clause-root : goal.returns-clause-root
 returns-clause-root g c =
     let e = c.join_seat.ensures in
-    (e.0, e.1 ∙ c.requires.root.0, ap (λ m. m.0.root) e.2 ∙ c.requires.root.1, ap (λ m. m.0.made) e.2, ap (λ m. m.1) e.2)
+    (e.0, e.1 ∙ c.requires.root.0, ap (λ m. m.0.root) e.2 ∙ c.requires.root.1, ap (λ m. m.0.made) e.2)
+
+pub returns-clause-hand : goal.returns-clause-hand
+returns-clause-hand g c = ap (λ m. m.1) c.join_seat.ensures.2
 
 pub returns-clause-ended : goal.returns-clause-ended
 returns-clause-ended g c p there =
@@ -56,7 +60,7 @@ returns-clause-ended g c p there =
     let q = c.pass.invariant in
     let given : h.0 ≡ p = ap (from p) (ap (from (Some p)) (sym h.1 ∙ there)) in
     let see = c.pass.view_is ∙ (same ∙ given) in (
-      ap (λ m. m.0.ended) c.join_seat.ensures.2 ∙ ap (λ (z : Pass). c.args.root.now.me.0.ended ++ (z.knows.own, z.knows.seen, z.knows.tries) ∷ []) see,
+      ap (λ m. m.0.ended) c.join_seat.ensures.2 ∙ ap (λ (z : Pass). c.args.root.now.me.0.ended ++ ended_of z ∷ []) see,
       sym q.4 ∙ ap (λ (z : Pass). z.knows.own) see,
     )
 

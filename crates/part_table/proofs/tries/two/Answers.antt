@@ -1,13 +1,14 @@
-use Rattle.std.proofs.Common.{◌≡◌, ℕ, ◌+◌, ◌<◌, ◌∷◌, [], sym, ap, ◌∙◌, refl, subst, arith}
+use Rattle.std.proofs.Common.{◌≡◌, ◌≢◌, ℕ, ◌+◌, ◌<◌, ◌∷◌, [], sym, ap, ◌∙◌, refl, subst, arith}
 use Rattle.std.specs.Prelude.{Some, None}
+use Rattle.part_table.specs.declared.slot.Slot.{Slot}
 use Rattle.part_table.specs.Parts.{log_of, parts}
 use Rattle.part_table.specs.Does.{both_at}
 use Rattle.part_table.specs.Rule.{Seated, held_at, known_of}
 use Rattle.part_table.specs.Known.{Extends, StartsWith, seen_at}
-use Rattle.part_table.proofs.Holding.{one_gone, two_gone, two_held, both_like, second_held}
+use Rattle.part_table.proofs.Holding.{one_gone, two_gone, two_held, both_each, both_like, second_held}
 use Rattle.part_table.proofs.Making.{made_by, tried_two}
 use Rattle.part_table.proofs.Pairs.{at_same, by_front}
-use Rattle.part_table.proofs.Telling.{with_taken, with_both, with_missed, with_home, with_stored, home_of, cpu_told, left_told, rest_told, does_for, left_of, away_first, full_first, away_second, full_second, stored_second, rest_added, rest_home, two_tries}
+use Rattle.part_table.proofs.Telling.{with_taken, with_both, with_missed, with_home, with_stored, home_of, cpu_at, cpu_told, does_for, left_of, away_first, full_first, away_second, full_second, stored_second, rest_home, rests, rests_stored, two_tries}
 use Rattle.part_table.proofs.tries.two.Goals.{In-Some-take, After-put_back, After-put_back-in_default-take, After-put_back-then-room-eq0-2, After-put_back-then-room-eq0-2-2, After-release}
 use Rattle.part_table.proofs.tries.two.Goals as goal
 
@@ -17,19 +18,19 @@ low = omega arith
 
 -- the seat with both parts, the guest in front
 both : (g : _) (c : In-Some-take g) → c.take-2.new.seat.me ≡ with_both c.args.seat.now.me c.in-Some.shared (c.args.v + 2) c.in-Some-take.guest
-both g c = c.in-Some-take.ensures.taken.0 ∙ ap (λ (m : Seated g.row.A.Denot). with_taken m (c.args.v + 2) c.in-Some-take.guest) c.in-Some.ensures.taken.0
+both g c = c.in-Some-take.ensures.taken.is ∙ ap (λ (m : Seated g.row.A.Denot). with_taken m (c.args.v + 2) c.in-Some-take.guest) c.in-Some.ensures.taken.is
 
 -- its view holds these two
 held : (g : _) (c : In-Some-take g) (j : ℕ) → both_at (c.args.v + 2) c.in-Some-take.guest 1 c.in-Some.shared j ≡ held_at c.take-2.new.seat.me.0.held j
 held g c j =
-    two_held c.args.seat.now.me.0.held (c.args.v + 2) 1 c.in-Some-take.guest c.in-Some.shared c.requires.rest.1 j ∙ ap (λ (m : Seated g.row.A.Denot). held_at m.0.held j) (sym (both g c))
+    two_held c.args.seat.now.me.0.held (c.args.v + 2) 1 c.in-Some-take.guest c.in-Some.shared c.requires.can.rest.idle j ∙ ap (λ (m : Seated g.row.A.Denot). held_at m.0.held j) (sym (both g c))
 
 -- the seat where the Shared part is home again, unused: its log was full, or another pass had the guest
 back : (g : _) (c : After-put_back g) → c.put_back.new.seat.me ≡ with_home (with_taken c.args.seat.now.me 1 c.in-Some.shared) 1
-back g c = home_of 1 c.in-Some.ensures.taken.0 c.put_back.ensures.home
+back g c = home_of 1 c.in-Some.ensures.taken.is c.put_back.ensures.home
 
 back_away : (g : _) (c : After-put_back-in_default-take g) → c.put_back-in_default-take.new.seat.me ≡ with_home (with_missed (with_taken c.args.seat.now.me 1 c.in-Some.shared) (c.args.v + 2)) 1
-back_away g c = home_of 1 (c.in_default-take.ensures.missed ∙ ap (λ (m : Seated g.row.A.Denot). with_missed m (c.args.v + 2)) c.in-Some.ensures.taken.0) c.put_back-in_default-take.ensures.home
+back_away g c = home_of 1 (c.in_default-take.ensures.missed ∙ ap (λ (m : Seated g.row.A.Denot). with_missed m (c.args.v + 2)) c.in-Some.ensures.taken.is) c.put_back-in_default-take.ensures.home
 
 -- where the guest is home again, and both are
 guest_back : (g : _) (c : After-put_back-then-room-eq0-2 g) → c.put_back-then-room-eq0-2.new.seat.me ≡ with_home (with_both c.args.seat.now.me c.in-Some.shared (c.args.v + 2) c.in-Some-take.guest) (c.args.v + 2)
@@ -49,23 +50,6 @@ stored g c =
 history : (g : _) (c : After-release g) → Extends c.both-shared.result.2 (known_of c.release.new.seat.me.0)
 history g c = rest_home c.commit_first.new.seat.me c.release.ensures.home c.commit_first.ensures.history
 
-pub both-shared-requires-clause-left : goal.both-shared-requires-clause-left
-both-shared-requires-clause-left g c =
-    let at = goal.at.both-shared-requires-clause-left g c in
-    let q = cpu_told (both g at.In-Some-take) c.requires.cpu c.requires.on in
-    ∣ left_of c.take-2.new.seat.me.0 c.in-Some-take.ensures.taken.2 q.0 q.1 q.2 (held g at.In-Some-take) ∣₁
-
-pub commit_first-requires-clause-used : goal.commit_first-requires-clause-used
-commit_first-requires-clause-used g c j z h =
-    let there = both_like (c.args.v + 2) 1 j c.in-Some-take.guest c.in-Some.shared c.both-shared.result.1 c.both-shared.result.0 z (held g (goal.at.commit_first-requires-clause-used g c).In-Some-take j ∙ h) in
-    c.both-shared.ensures.does.only j there.0 there.1
-
-pub commit_first-requires-clause-does : goal.commit_first-requires-clause-does
-commit_first-requires-clause-does g c =
-    let at = goal.at.commit_first-requires-clause-does g c in
-    let q = cpu_told (both g at.In-Some-take) c.requires.cpu c.requires.on in
-    does_for c.take-2.new.seat.me.0 q.0 q.2 (held g at.In-Some-take) c.both-shared.ensures.does
-
 pub release-requires-clause-held : goal.release-requires-clause-held
 release-requires-clause-held g c =
     let home = c.commit_first.ensures.home in
@@ -78,14 +62,11 @@ returns-then-room-eq0-2-clause-tells g c =
 pub returns-clause-tells : goal.returns-clause-tells
 returns-clause-tells g c =
     let at = goal.at.returns-clause-tells g c in
-    let q = c.requires.cpu in
+    let q = cpu_at c.requires.can in
     let m = c.args.seat.now.me in
-    let begun = subst (λ (n : Seated g.row.A.Denot). StartsWith (log_of c.in-Some-take.guest).calls (seen_at n.0.seen (c.args.v + 2))) c.in-Some.ensures.taken.0 c.in-Some-take.ensures.taken.1 in
+    let begun = subst (λ (n : Seated g.row.A.Denot). StartsWith (log_of c.in-Some-take.guest).calls (seen_at n.0.seen (c.args.v + 2))) c.in-Some.ensures.taken.is c.in-Some-take.ensures.taken.begun in
     stored_second m (c.args.v + 2) c.in-Some.shared c.in-Some-take.guest c.both-shared.result.0 c.both-shared.result.1 (stored g at.After-release) (λ e. omega arith) q.1 q.2
-    (λ e. c.if-room-eq0.false (c.room.ensures ∙ e)) (λ e. c.if-room-eq0-2.false (c.room-2.ensures ∙ e)) c.in-Some.ensures.taken.1 begun c.both-shared.ensures.call c.both-shared.ensures.does (history g at.After-release)
-
-pub returns-clause-left : goal.returns-clause-left
-returns-clause-left g c = rest_added c.both-shared.result.2 c.release.new.seat.me.0 (history g (goal.at.returns-clause-left g c).After-release)
+    (λ e. c.if-room-eq0.false (c.room.ensures ∙ e)) (λ e. c.if-room-eq0-2.false (c.room-2.ensures ∙ e)) c.in-Some.ensures.taken.begun begun c.both-shared.ensures.call c.both-shared.ensures.does (history g at.After-release)
 
 pub returns-in_default-clause-tells : goal.returns-in_default-clause-tells
 returns-in_default-clause-tells g c = away_first c.args.seat.now.me 1 ((c.args.v + 2) ∷ []) c.in_default.ensures.missed
@@ -97,164 +78,88 @@ pub returns-in_default-take-clause-tells : goal.returns-in_default-take-clause-t
 returns-in_default-take-clause-tells g c = away_second c.args.seat.now.me (c.args.v + 2) c.in-Some.shared (back_away g (goal.at.returns-in_default-take-clause-tells g c).After-put_back-in_default-take) (λ e. c.if-room-eq0.false (c.room.ensures ∙ e))
 
 pub take-requires-clause-table : goal.take-requires-clause-table
-take-requires-clause-table g c = c.requires.table
+take-requires-clause-table g c = (c.requires.can.rest.same, c.requires.can.words)
 
 pub take-requires-clause-on : goal.take-requires-clause-on
-take-requires-clause-on g c = c.requires.on
+take-requires-clause-on g c = c.requires.can.rest.on
 
 pub take-requires-2-clause-table : goal.take-requires-2-clause-table
-take-requires-2-clause-table g c = (c.take.ensures.table ∙ c.requires.table.0, c.requires.table.1)
+take-requires-2-clause-table g c = (c.take.ensures.table ∙ c.requires.can.rest.same, c.requires.can.words)
 
 pub take-requires-2-clause-on : goal.take-requires-2-clause-on
-take-requires-2-clause-on g c = ap (λ (z : Seated g.row.A.Denot). z.0.on) c.in-Some.ensures.taken.0 ∙ c.requires.on
+take-requires-2-clause-on g c = ap (λ (z : Seated g.row.A.Denot). z.0.on) c.in-Some.ensures.taken.is ∙ c.requires.can.rest.on
 
 pub commit_first-requires-clause-table : goal.commit_first-requires-clause-table
-commit_first-requires-clause-table g c = (c.take-2.ensures.table ∙ (c.take.ensures.table ∙ c.requires.table.0), c.requires.table.1)
+commit_first-requires-clause-table g c = (c.take-2.ensures.table ∙ (c.take.ensures.table ∙ c.requires.can.rest.same), c.requires.can.words)
 
 pub commit_first-requires-clause-part : goal.commit_first-requires-clause-part
 commit_first-requires-clause-part g c = c.requires.part
 
 pub commit_first-requires-clause-hand : goal.commit_first-requires-clause-hand
-commit_first-requires-clause-hand g c = ap (λ (m : Seated g.row.A.Denot). m.1) (both g (goal.at.commit_first-requires-clause-hand g c).In-Some-take) ∙ ap (λ h. (c.args.v + 2, None) ∷ (1, None) ∷ h) c.requires.rest.0
-
-pub returns-clause-table : goal.returns-clause-table
-returns-clause-table g c = c.release.ensures.table ∙ (c.commit_first.ensures.table ∙ (c.take-2.ensures.table ∙ c.take.ensures.table))
-
-pub returns-in_default-clause-table : goal.returns-in_default-clause-table
-returns-in_default-clause-table g c = c.take.ensures.table
-
-pub returns-in_default-clause-cpu : goal.returns-in_default-clause-cpu
-returns-in_default-clause-cpu g c = cpu_told c.in_default.ensures.missed c.requires.cpu c.requires.on
-
-pub returns-in_default-clause-left : goal.returns-in_default-clause-left
-returns-in_default-clause-left g c = left_told c.in_default.ensures.missed c.requires.left
-
-pub returns-in_default-clause-rest : goal.returns-in_default-clause-rest
-returns-in_default-clause-rest g c = rest_told c.in_default.ensures.missed c.requires.rest.0 c.requires.rest.1
-
-pub returns-then-room-eq0-clause-table : goal.returns-then-room-eq0-clause-table
-returns-then-room-eq0-clause-table g c = c.put_back.ensures.table ∙ c.take.ensures.table
-
-pub returns-in_default-take-clause-table : goal.returns-in_default-take-clause-table
-returns-in_default-take-clause-table g c = c.put_back-in_default-take.ensures.table ∙ (c.take-2.ensures.table ∙ c.take.ensures.table)
-
-pub returns-then-room-eq0-2-clause-table : goal.returns-then-room-eq0-2-clause-table
-returns-then-room-eq0-2-clause-table g c =
-    c.put_back-then-room-eq0-2-2.ensures.table ∙ (c.put_back-then-room-eq0-2.ensures.table ∙ (c.take-2.ensures.table ∙ c.take.ensures.table))
+commit_first-requires-clause-hand g c = ap (λ (m : Seated g.row.A.Denot). m.1) (both g (goal.at.commit_first-requires-clause-hand g c).In-Some-take) ∙ ap (λ h. (c.args.v + 2, None) ∷ (1, None) ∷ h) c.requires.can.rest.empty
 
 pub put_back-requires-clause-table : goal.put_back-requires-clause-table
-put_back-requires-clause-table g c = (c.take.ensures.table ∙ c.requires.table.0, c.requires.table.1)
+put_back-requires-clause-table g c = (c.take.ensures.table ∙ c.requires.can.rest.same, c.requires.can.words)
 
 pub put_back-requires-clause-on : goal.put_back-requires-clause-on
-put_back-requires-clause-on g c = ap (λ (z : Seated g.row.A.Denot). z.0.on) c.in-Some.ensures.taken.0 ∙ c.requires.on
+put_back-requires-clause-on g c = ap (λ (z : Seated g.row.A.Denot). z.0.on) c.in-Some.ensures.taken.is ∙ c.requires.can.rest.on
 
 pub put_back-requires-clause-hand : goal.put_back-requires-clause-hand
-put_back-requires-clause-hand g c = by_front (ap (λ (z : Seated g.row.A.Denot). z.1) c.in-Some.ensures.taken.0)
+put_back-requires-clause-hand g c = by_front (ap (λ (z : Seated g.row.A.Denot). z.1) c.in-Some.ensures.taken.is)
 
 pub put_back-requires-clause-held : goal.put_back-requires-clause-held
-put_back-requires-clause-held g c = ap (λ (z : Seated g.row.A.Denot). held_at z.0.held 1) c.in-Some.ensures.taken.0
+put_back-requires-clause-held g c = ap (λ (z : Seated g.row.A.Denot). held_at z.0.held 1) c.in-Some.ensures.taken.is
 
 pub put_back-requires-in_default-take-clause-table : goal.put_back-requires-in_default-take-clause-table
-put_back-requires-in_default-take-clause-table g c = (c.take-2.ensures.table ∙ (c.take.ensures.table ∙ c.requires.table.0), c.requires.table.1)
+put_back-requires-in_default-take-clause-table g c = (c.take-2.ensures.table ∙ (c.take.ensures.table ∙ c.requires.can.rest.same), c.requires.can.words)
 
 pub put_back-requires-in_default-take-clause-on : goal.put_back-requires-in_default-take-clause-on
-put_back-requires-in_default-take-clause-on g c = ap (λ (z : Seated g.row.A.Denot). z.0.on) c.in_default-take.ensures.missed ∙ (ap (λ (z : Seated g.row.A.Denot). z.0.on) c.in-Some.ensures.taken.0 ∙ c.requires.on)
+put_back-requires-in_default-take-clause-on g c = ap (λ (z : Seated g.row.A.Denot). z.0.on) c.in_default-take.ensures.missed ∙ (ap (λ (z : Seated g.row.A.Denot). z.0.on) c.in-Some.ensures.taken.is ∙ c.requires.can.rest.on)
 
 pub put_back-requires-in_default-take-clause-hand : goal.put_back-requires-in_default-take-clause-hand
-put_back-requires-in_default-take-clause-hand g c = by_front (ap (λ (z : Seated g.row.A.Denot). z.1) c.in_default-take.ensures.missed ∙ ap (λ (z : Seated g.row.A.Denot). z.1) c.in-Some.ensures.taken.0)
+put_back-requires-in_default-take-clause-hand g c = by_front (ap (λ (z : Seated g.row.A.Denot). z.1) c.in_default-take.ensures.missed ∙ ap (λ (z : Seated g.row.A.Denot). z.1) c.in-Some.ensures.taken.is)
 
 pub put_back-requires-in_default-take-clause-held : goal.put_back-requires-in_default-take-clause-held
-put_back-requires-in_default-take-clause-held g c = ap (λ (z : Seated g.row.A.Denot). held_at z.0.held 1) c.in_default-take.ensures.missed ∙ ap (λ (z : Seated g.row.A.Denot). held_at z.0.held 1) c.in-Some.ensures.taken.0
+put_back-requires-in_default-take-clause-held g c = ap (λ (z : Seated g.row.A.Denot). held_at z.0.held 1) c.in_default-take.ensures.missed ∙ ap (λ (z : Seated g.row.A.Denot). held_at z.0.held 1) c.in-Some.ensures.taken.is
 
 pub release-requires-clause-table : goal.release-requires-clause-table
-release-requires-clause-table g c = (c.commit_first.ensures.table ∙ (c.take-2.ensures.table ∙ (c.take.ensures.table ∙ c.requires.table.0)), c.requires.table.1)
+release-requires-clause-table g c = (c.commit_first.ensures.table ∙ (c.take-2.ensures.table ∙ (c.take.ensures.table ∙ c.requires.can.rest.same)), c.requires.can.words)
 
 pub release-requires-clause-on : goal.release-requires-clause-on
-release-requires-clause-on g c = ap (λ (m : Seated g.row.A.Denot). m.0.on) c.commit_first.ensures.home ∙ (ap (λ (m : Seated g.row.A.Denot). m.0.on) (both g (goal.at.release-requires-clause-on g c).In-Some-take) ∙ c.requires.on)
-
-pub returns-then-room-eq0-clause-cpu : goal.returns-then-room-eq0-clause-cpu
-returns-then-room-eq0-clause-cpu g c = cpu_told (back g (goal.at.returns-then-room-eq0-clause-cpu g c).After-put_back) c.requires.cpu c.requires.on
-
-pub returns-then-room-eq0-clause-left : goal.returns-then-room-eq0-clause-left
-returns-then-room-eq0-clause-left g c = left_told (back g (goal.at.returns-then-room-eq0-clause-left g c).After-put_back) c.requires.left
-
-pub returns-then-room-eq0-clause-rest : goal.returns-then-room-eq0-clause-rest
-returns-then-room-eq0-clause-rest g c = rest_told (back g (goal.at.returns-then-room-eq0-clause-rest g c).After-put_back) c.requires.rest.0 (one_gone c.args.seat.now.me.0.held 1 (Some c.in-Some.shared) c.requires.rest.1)
-
-pub returns-in_default-take-clause-cpu : goal.returns-in_default-take-clause-cpu
-returns-in_default-take-clause-cpu g c = cpu_told (back_away g (goal.at.returns-in_default-take-clause-cpu g c).After-put_back-in_default-take) c.requires.cpu c.requires.on
-
-pub returns-in_default-take-clause-left : goal.returns-in_default-take-clause-left
-returns-in_default-take-clause-left g c = left_told (back_away g (goal.at.returns-in_default-take-clause-left g c).After-put_back-in_default-take) c.requires.left
-
-pub returns-in_default-take-clause-rest : goal.returns-in_default-take-clause-rest
-returns-in_default-take-clause-rest g c = rest_told (back_away g (goal.at.returns-in_default-take-clause-rest g c).After-put_back-in_default-take) c.requires.rest.0 (one_gone c.args.seat.now.me.0.held 1 (Some c.in-Some.shared) c.requires.rest.1)
-
-pub returns-then-room-eq0-2-clause-cpu : goal.returns-then-room-eq0-2-clause-cpu
-returns-then-room-eq0-2-clause-cpu g c = cpu_told (both_back g (goal.at.returns-then-room-eq0-2-clause-cpu g c).After-put_back-then-room-eq0-2-2) c.requires.cpu c.requires.on
-
-pub returns-then-room-eq0-2-clause-left : goal.returns-then-room-eq0-2-clause-left
-returns-then-room-eq0-2-clause-left g c = left_told (both_back g (goal.at.returns-then-room-eq0-2-clause-left g c).After-put_back-then-room-eq0-2-2) c.requires.left
-
-pub returns-then-room-eq0-2-clause-rest : goal.returns-then-room-eq0-2-clause-rest
-returns-then-room-eq0-2-clause-rest g c = rest_told (both_back g (goal.at.returns-then-room-eq0-2-clause-rest g c).After-put_back-then-room-eq0-2-2) c.requires.rest.0 (two_gone c.args.seat.now.me.0.held (c.args.v + 2) 1 (Some c.in-Some-take.guest) (Some c.in-Some.shared) c.requires.rest.1)
-
-pub returns-clause-cpu : goal.returns-clause-cpu
-returns-clause-cpu g c = cpu_told (stored g (goal.at.returns-clause-cpu g c).After-release) (c.requires.cpu.0, c.requires.cpu.1, refl) c.requires.on
-
-pub returns-clause-rest : goal.returns-clause-rest
-returns-clause-rest g c = rest_told (stored g (goal.at.returns-clause-rest g c).After-release) refl (two_gone [] (c.args.v + 2) 1 (Some c.both-shared.result.1) (Some c.both-shared.result.0) (λ j. refl))
-
-pub both-shared-requires-clause-known : goal.both-shared-requires-clause-known
-both-shared-requires-clause-known g c = c.requires.known
-
-pub both-shared-requires-clause-uses : goal.both-shared-requires-clause-uses
-both-shared-requires-clause-uses g c = c.requires.uses
-
-pub both-shared-requires-clause-own_room : goal.both-shared-requires-clause-own_room
-both-shared-requires-clause-own_room g c = c.requires.own_room
-
-pub both-shared-requires-clause-shared_room : goal.both-shared-requires-clause-shared_room
-both-shared-requires-clause-shared_room g c = λ e. c.if-room-eq0.false (c.room.ensures ∙ e)
-
-pub both-shared-requires-clause-guest_room : goal.both-shared-requires-clause-guest_room
-both-shared-requires-clause-guest_room g c = λ e. c.if-room-eq0-2.false (c.room-2.ensures ∙ e)
+release-requires-clause-on g c = ap (λ (m : Seated g.row.A.Denot). m.0.on) c.commit_first.ensures.home ∙ (ap (λ (m : Seated g.row.A.Denot). m.0.on) (both g (goal.at.release-requires-clause-on g c).In-Some-take) ∙ c.requires.can.rest.on)
 
 pub take-requires-2-clause-part : goal.take-requires-2-clause-part
 take-requires-2-clause-part g c = c.requires.part
 
 pub commit_first-requires-clause-on : goal.commit_first-requires-clause-on
-commit_first-requires-clause-on g c = ap (λ (m : Seated g.row.A.Denot). m.0.on) (both g (goal.at.commit_first-requires-clause-on g c).In-Some-take) ∙ c.requires.on
+commit_first-requires-clause-on g c = ap (λ (m : Seated g.row.A.Denot). m.0.on) (both g (goal.at.commit_first-requires-clause-on g c).In-Some-take) ∙ c.requires.can.rest.on
 
 pub put_back-requires-then-room-eq0-2-clause-table : goal.put_back-requires-then-room-eq0-2-clause-table
-put_back-requires-then-room-eq0-2-clause-table g c = (c.take-2.ensures.table ∙ (c.take.ensures.table ∙ c.requires.table.0), c.requires.table.1)
+put_back-requires-then-room-eq0-2-clause-table g c = (c.take-2.ensures.table ∙ (c.take.ensures.table ∙ c.requires.can.rest.same), c.requires.can.words)
 
 pub put_back-requires-then-room-eq0-2-clause-on : goal.put_back-requires-then-room-eq0-2-clause-on
-put_back-requires-then-room-eq0-2-clause-on g c = ap (λ (m : Seated g.row.A.Denot). m.0.on) (both g (goal.at.put_back-requires-then-room-eq0-2-clause-on g c).In-Some-take) ∙ c.requires.on
+put_back-requires-then-room-eq0-2-clause-on g c = ap (λ (m : Seated g.row.A.Denot). m.0.on) (both g (goal.at.put_back-requires-then-room-eq0-2-clause-on g c).In-Some-take) ∙ c.requires.can.rest.on
 
 pub put_back-requires-then-room-eq0-2-clause-part : goal.put_back-requires-then-room-eq0-2-clause-part
 put_back-requires-then-room-eq0-2-clause-part g c = c.requires.part
 
 pub put_back-requires-then-room-eq0-2-clause-hand : goal.put_back-requires-then-room-eq0-2-clause-hand
-put_back-requires-then-room-eq0-2-clause-hand g c = by_front (ap (λ (z : Seated g.row.A.Denot). z.1) c.in-Some-take.ensures.taken.0)
+put_back-requires-then-room-eq0-2-clause-hand g c = by_front (ap (λ (z : Seated g.row.A.Denot). z.1) c.in-Some-take.ensures.taken.is)
 
 pub put_back-requires-then-room-eq0-2-2-clause-table : goal.put_back-requires-then-room-eq0-2-2-clause-table
-put_back-requires-then-room-eq0-2-2-clause-table g c = (c.put_back-then-room-eq0-2.ensures.table ∙ (c.take-2.ensures.table ∙ (c.take.ensures.table ∙ c.requires.table.0)), c.requires.table.1)
+put_back-requires-then-room-eq0-2-2-clause-table g c = (c.put_back-then-room-eq0-2.ensures.table ∙ (c.take-2.ensures.table ∙ (c.take.ensures.table ∙ c.requires.can.rest.same)), c.requires.can.words)
 
 pub put_back-requires-then-room-eq0-2-2-clause-on : goal.put_back-requires-then-room-eq0-2-2-clause-on
-put_back-requires-then-room-eq0-2-2-clause-on g c = ap (λ (m : Seated g.row.A.Denot). m.0.on) (guest_back g (goal.at.put_back-requires-then-room-eq0-2-2-clause-on g c).After-put_back-then-room-eq0-2) ∙ c.requires.on
+put_back-requires-then-room-eq0-2-2-clause-on g c = ap (λ (m : Seated g.row.A.Denot). m.0.on) (guest_back g (goal.at.put_back-requires-then-room-eq0-2-2-clause-on g c).After-put_back-then-room-eq0-2) ∙ c.requires.can.rest.on
 
 pub put_back-requires-then-room-eq0-2-clause-held : goal.put_back-requires-then-room-eq0-2-clause-held
-put_back-requires-then-room-eq0-2-clause-held g c = ap (λ (z : Seated g.row.A.Denot). held_at z.0.held (c.args.v + 2)) c.in-Some-take.ensures.taken.0 ∙ at_same c.take.new.seat.me.0.held (c.args.v + 2) (Some c.in-Some-take.guest) None
+put_back-requires-then-room-eq0-2-clause-held g c = ap (λ (z : Seated g.row.A.Denot). held_at z.0.held (c.args.v + 2)) c.in-Some-take.ensures.taken.is ∙ at_same c.take.new.seat.me.0.held (c.args.v + 2) (Some c.in-Some-take.guest) None
 
 pub put_back-requires-then-room-eq0-2-2-clause-hand : goal.put_back-requires-then-room-eq0-2-2-clause-hand
 put_back-requires-then-room-eq0-2-2-clause-hand g c = by_front (ap (λ (m : Seated g.row.A.Denot). m.1) (guest_back g (goal.at.put_back-requires-then-room-eq0-2-2-clause-hand g c).After-put_back-then-room-eq0-2))
 
 pub put_back-requires-then-room-eq0-2-2-clause-held : goal.put_back-requires-then-room-eq0-2-2-clause-held
 put_back-requires-then-room-eq0-2-2-clause-held g c = ap (λ (m : Seated g.row.A.Denot). held_at m.0.held 1) (guest_back g (goal.at.put_back-requires-then-room-eq0-2-2-clause-held g c).After-put_back-then-room-eq0-2) ∙ second_held (c.args.v + 2) c.in-Some-take.guest c.in-Some.shared c.args.seat.now.me.0.held (λ e. omega arith)
-
-pub commit_first-requires-clause-by : goal.commit_first-requires-clause-by
-commit_first-requires-clause-by g c = c.both-shared.ensures.call.by ∙ sym (ap (λ (m : Seated g.row.A.Denot). m.0.cpu) (both g (goal.at.commit_first-requires-clause-by g c).In-Some-take) ∙ c.requires.cpu.1)
 
 pub take-requires-clause-part : goal.take-requires-clause-part
 take-requires-clause-part g c = low
@@ -276,9 +181,9 @@ returns-clause-made g c =
     let at = goal.at.returns-clause-made g c in
     let m = c.args.seat.now.me in
     let k = c.args.v + 2 in
-    let q = cpu_told (both g at.In-Some-take) c.requires.cpu c.requires.on in
-    made_by g.M.Maker.tells (1 ∷ k ∷ []) m (stored g at.After-release) refl (two_tries m.0 k c.in-Some.shared c.in-Some-take.guest ∙ tried_two m.0.tries k c.in-Some.shared c.in-Some-take.guest (λ e. omega arith)) c.requires.cpu
-    (left_of c.take-2.new.seat.me.0 c.in-Some-take.ensures.taken.2 q.0 q.1 q.2 (held g at.In-Some-take))
+    let q = cpu_told (both g at.In-Some-take) (cpu_at c.requires.can) c.requires.can.rest.on in
+    made_by g.M.Maker.tells (1 ∷ k ∷ []) m (stored g at.After-release) refl (two_tries m.0 k c.in-Some.shared c.in-Some-take.guest ∙ tried_two m.0.tries k c.in-Some.shared c.in-Some-take.guest (λ e. omega arith)) (cpu_at c.requires.can)
+    (left_of c.take-2.new.seat.me.0 c.in-Some-take.ensures.taken.left q.0 q.1 q.2 (held g at.In-Some-take))
     (λ j z h. let there = both_like k 1 j c.in-Some-take.guest c.in-Some.shared c.both-shared.result.1 c.both-shared.result.0 z h in c.both-shared.ensures.does.only j there.0 there.1)
     c.both-shared.ensures.call c.both-shared.ensures.does c.both-shared.ensures.told
 
@@ -311,3 +216,50 @@ returns-then-room-eq0-clause-heard g c = tt
 
 pub returns-then-room-eq0-2-clause-heard : goal.returns-then-room-eq0-2-clause-heard
 returns-then-room-eq0-2-clause-heard g c = tt
+
+pub both-shared-requires-clause-can : goal.both-shared-requires-clause-can
+both-shared-requires-clause-can g c =
+    let at = goal.at.both-shared-requires-clause-can g c in
+    let q = cpu_told (both g at.In-Some-take) (cpu_at c.requires.can) c.requires.can.rest.on in record {
+      known = c.requires.can.known;
+      left = ∣ left_of c.take-2.new.seat.me.0 c.in-Some-take.ensures.taken.left q.0 q.1 q.2 (held g at.In-Some-take) ∣₁;
+      uses = c.requires.uses;
+      own_room = c.requires.can.room;
+      rooms = both_each (λ (x : Slot g.row.A.Denot). (log_of x).room ≢ 0) (c.args.v + 2) 1 c.in-Some-take.guest c.in-Some.shared (λ e. c.if-room-eq0-2.false (c.room-2.ensures ∙ e)) (λ e. c.if-room-eq0.false (c.room.ensures ∙ e));
+    }
+
+pub commit_first-requires-clause-call : goal.commit_first-requires-clause-call
+commit_first-requires-clause-call g c =
+    let at = goal.at.commit_first-requires-clause-call g c in
+    let q = cpu_told (both g at.In-Some-take) (cpu_at c.requires.can) c.requires.can.rest.on in record {
+      by = c.both-shared.ensures.call.by ∙ sym q.1;
+      used = λ j z h.
+          let there = both_like (c.args.v + 2) 1 j c.in-Some-take.guest c.in-Some.shared c.both-shared.result.1 c.both-shared.result.0 z (held g at.In-Some-take j ∙ h) in
+          c.both-shared.ensures.does.only j there.0 there.1;
+      does = does_for c.take-2.new.seat.me.0 q.0 q.2 (held g at.In-Some-take) c.both-shared.ensures.does;
+    }
+
+pub returns-in_default-clause-rest : goal.returns-in_default-clause-rest
+returns-in_default-clause-rest g c = rests c.requires.can _ _ c.in_default.ensures.missed c.take.ensures.table c.requires.can.rest.idle
+
+pub returns-then-room-eq0-clause-rest : goal.returns-then-room-eq0-clause-rest
+returns-then-room-eq0-clause-rest g c =
+    rests c.requires.can _ _ (back g (goal.at.returns-then-room-eq0-clause-rest g c).After-put_back) (c.put_back.ensures.table ∙ c.take.ensures.table)
+    (one_gone c.args.seat.now.me.0.held 1 (Some c.in-Some.shared) c.requires.can.rest.idle)
+
+pub returns-in_default-take-clause-rest : goal.returns-in_default-take-clause-rest
+returns-in_default-take-clause-rest g c =
+    rests c.requires.can _ _ (back_away g (goal.at.returns-in_default-take-clause-rest g c).After-put_back-in_default-take) (c.put_back-in_default-take.ensures.table ∙ (c.take-2.ensures.table ∙ c.take.ensures.table))
+    (one_gone c.args.seat.now.me.0.held 1 (Some c.in-Some.shared) c.requires.can.rest.idle)
+
+pub returns-then-room-eq0-2-clause-rest : goal.returns-then-room-eq0-2-clause-rest
+returns-then-room-eq0-2-clause-rest g c =
+    rests c.requires.can _ _ (both_back g (goal.at.returns-then-room-eq0-2-clause-rest g c).After-put_back-then-room-eq0-2-2)
+    (c.put_back-then-room-eq0-2-2.ensures.table ∙ (c.put_back-then-room-eq0-2.ensures.table ∙ (c.take-2.ensures.table ∙ c.take.ensures.table)))
+    (two_gone c.args.seat.now.me.0.held (c.args.v + 2) 1 (Some c.in-Some-take.guest) (Some c.in-Some.shared) c.requires.can.rest.idle)
+
+pub returns-clause-rest : goal.returns-clause-rest
+returns-clause-rest g c =
+    let at = goal.at.returns-clause-rest g c in
+    rests_stored c.requires.can c.both-shared.result.2 _ _ _ (stored g at.After-release) refl (c.release.ensures.table ∙ (c.commit_first.ensures.table ∙ (c.take-2.ensures.table ∙ c.take.ensures.table)))
+    (two_gone [] (c.args.v + 2) 1 (Some c.both-shared.result.1) (Some c.both-shared.result.0) (λ j. refl)) (history g at.After-release)

@@ -10,4 +10,4 @@ drop_with-requires c = record {
 pub returns : goal.returns
 returns c =
     let e = c.drop_with.ensures in
-    one_history c.args.machine.table c.args.steps.now c.args.replies.now c.args.machine.passes c.args.passes.items e.0 e.1 c.requires e.2 e.3 e.5
+    one_history c.args.machine.table c.args.steps.now c.args.replies.now c.args.passes.items e.0 e.1 c.requires e.2

@@ -6,4 +6,4 @@ shutdown-requires c = record { pass = are_of c.args.machine.table c.args.steps.n
 
 pub returns-in-Ok-clause-history : goal.returns-in-Ok-clause-history
 returns-in-Ok-clause-history c =
-    one_history c.args.machine.table c.args.steps.now c.args.replies.now c.args.machine.passes c.args.passes.items _ _ c.requires c.in-Ok.ensures.end c.in-Ok.ensures.own c.in-Ok.ensures.tried
+    one_history c.args.machine.table c.args.steps.now c.args.replies.now c.args.passes.items _ _ c.requires c.in-Ok.ensures.end

@@ -18,16 +18,16 @@ pub returns-then-not-is_contended-clause-cpu : goal.returns-then-not-is_contende
 returns-then-not-is_contended-clause-cpu g c = c.try_step-reply.ensures.cpu ∙ c.loop.invariant.1.same.cpu
 
 pub returns-then-not-is_contended-clause-stored : goal.returns-then-not-is_contended-clause-stored
-returns-then-not-is_contended-clause-stored g c s = record { last = c.loop.pass.knows; met = c.loop.invariant.1; stores = c.try_step-reply.ensures.stored s }
+returns-then-not-is_contended-clause-stored g c s = record { last = c.loop.pass.knows; met = c.loop.invariant.1; stores = c.try_step-reply.ensures.answers.stored s }
 
 pub returns-then-not-is_contended-clause-log_full : goal.returns-then-not-is_contended-clause-log_full
-returns-then-not-is_contended-clause-log_full g c s = record { last = c.loop.pass.knows; met = c.loop.invariant.1; full = c.try_step-reply.ensures.log_full s }
+returns-then-not-is_contended-clause-log_full g c s = record { last = c.loop.pass.knows; met = c.loop.invariant.1; full = c.try_step-reply.ensures.answers.log_full s }
 
 pub loop-preserved : goal.loop-preserved
 loop-preserved g c =
     let e : c.try_step-reply.result ≡ Refused Contended = c.is_contended.ensures.0 c.if-not-is_contended.false in (
       subst (λ (t : Opened). IsPassOf t c.try_step-reply.new.pass) (ap (λ (m : Machine). m.table) c.self.view_is) c.try_step-reply.ensures.pass,
-      meets_more c.args.step c.args.pass.now.knows c.loop.pass.knows c.try_step-reply.new.pass.knows c.loop.invariant.1 (c.try_step-reply.ensures.contended e),
+      meets_more c.args.step c.args.pass.now.knows c.loop.pass.knows c.try_step-reply.new.pass.knows c.loop.invariant.1 (c.try_step-reply.ensures.answers.contended e),
     )
 
 pub returns-then-not-is_contended-clause-pass : goal.returns-then-not-is_contended-clause-pass

@@ -1,12 +1,8 @@
-use Rattle.std.proofs.Common.{ℕ, ◌<◌, sym, ap, ◌∙◌, subst, arith}
-use Rattle.std.specs.Prelude.{List, Some, slice_get}
-use Rattle.guest_steps.specs.declared.parts.CpuState.{CpuState}
-use Rattle.page_state.specs.declared.layout.Layout.{Layout as TheLayout}
-use Rattle.part_table.specs.Endings.{KeepsOwn, KeepsSeen, KeepsTried}
-use Rattle.part_table.specs.Passes.{AreHomeFrom, Opened, Pass}
+use Rattle.std.proofs.Common.{ℕ, ◌<◌, sym, ap, subst, arith}
+use Rattle.part_table.specs.Passes.{AreHomeFrom, Opened}
 use Rattle.cpu_threads.specs.Ends.{AreOf, AllGiven, HasEndOf}
 use Rattle.cpu_threads.specs.Machines.{Machine}
-use Rattle.cpu_threads.proofs.Ends.{of_given_back}
+use Rattle.cpu_threads.proofs.Ends.{end_fresh, end_given}
 use Rattle.cpu_threads.proofs.Tries.{fresh_theirs}
 use Rattle.cpu_threads.proofs.machine.Machine.drop_with.Goals as goal
 
@@ -32,19 +28,11 @@ drop_with-requires-clause-home g c = subst (λ (n : ℕ). AreHomeFrom c.self.ins
 
 pub returns : goal.returns
 returns g c =
-    let l : TheLayout = c.self.inside.table.layout in
     let b = c.all_back-passes.ensures in
     let e = c.drop_with.ensures in
-    let cpus : List CpuState = e.1 in
     subst (λ (m : Machine). HasEndOf g.row.A.Denot m.table.layout m.passes c.args.given.items) c.self.view_is (
       e.0,
-      cpus,
-      e.2,
-      record {
-        ended = of_given_back c.all_back-passes.result.items c.args.given.items (KeepsOwn cpus) b.back e.3;
-        fresh = λ n home. let is = c.self.invariant.fresh n home.0 home.1 in
-            ap (slice_get cpus) (sym (ap (λ (p : Pass). p.knows.cpu) is)) ∙ (e.3 home.0.knows.cpu home.0 (b.stays n home.0 home.1) ∙ ap (λ (p : Pass). Some p.knows.own) is);
-      },
-      of_given_back c.all_back-passes.result.items c.args.given.items (KeepsSeen e.0) b.back e.4,
-      of_given_back c.all_back-passes.result.items c.args.given.items (KeepsTried l e.0) b.back e.5,
+      e.1,
+      end_given c.all_back-passes.result.items c.args.given.items b.back e.2,
+      end_fresh c.self.inside.table c.self.inside.passes.items c.all_back-passes.result.items e.1 c.self.invariant.fresh b.stays e.2.own,
     )

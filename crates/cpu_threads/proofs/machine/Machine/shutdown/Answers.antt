@@ -1,9 +1,9 @@
 use Rattle.std.proofs.Common.{◌≡◌, ℕ, [], length, refl, sym, ap, ◌∙◌, subst, arith}
-use Rattle.std.specs.Prelude.{List, Option, Some, slice_get}
+use Rattle.std.specs.Prelude.{List, Option}
 use Rattle.std.specs.Vec.{vec_len}
 use Rattle.std.proofs.Math.Logic.{∥∥₁_map}
 use Rattle.guest_steps.specs.declared.parts.CpuState.{CpuState}
-use Rattle.part_table.specs.Endings.{IsEndOf, KeepsOwn, KeepsTried}
+use Rattle.part_table.specs.Endings.{IsEndFor}
 use Rattle.part_table.specs.Slots.{slots_of}
 use Rattle.part_table.specs.Passes.{AreHomeFrom, Opened, Pass}
 use Rattle.page_state.specs.declared.layout.Layout.{Layout as TheLayout}
@@ -13,10 +13,10 @@ use Rattle.world.specs.declared.merge.Histories.{Histories}
 use Rattle.world.specs.Merges.{AreLogsOf, IsOfHistory}
 use Rattle.cpu_threads.specs.Rooms.{CanHold, HaveRoom}
 use Rattle.cpu_threads.proofs.Bounds.{can_hold, room_back}
-use Rattle.cpu_threads.specs.Ends.{AreOf, HasAll, KeepsStates, LacksOne, OfGiven}
+use Rattle.cpu_threads.specs.Ends.{AreFreshAt, AreOf, HasAll, LacksOne, OfGiven}
 use Rattle.cpu_threads.specs.declared.shutdown.ShutdownFault.TheVariants.{Missing, NoMemory}
 use Rattle.cpu_threads.specs.Machines.{Machine}
-use Rattle.cpu_threads.proofs.Ends.{of_given_back}
+use Rattle.cpu_threads.proofs.Ends.{end_fresh, end_given}
 use Rattle.cpu_threads.proofs.Tries.{fresh_theirs}
 use Rattle.cpu_threads.proofs.machine.Machine.shutdown.Goals as goal
 
@@ -89,7 +89,15 @@ pub ended-world-requires-clause-guests : goal.ended-world-requires-clause-guests
 ended-world-requires-clause-guests g c = c.in-Ok.ensures.guests
 
 pub returns-clause-end : goal.returns-clause-end
-returns-clause-end g c = subst (λ (t : Opened). IsEndOf {A = g.row.A.Denot} t.layout (slots_of c.ended-world.result.parts) c.ended-world.result.parts.cpus.items) (ap (λ (m : Machine). m.table) c.self.view_is) c.ended-world.ensures.end
+returns-clause-end g c =
+    subst (λ (t : Opened). IsEndFor {A = g.row.A.Denot} t.layout (slots_of c.ended-world.result.parts) c.ended-world.result.parts.cpus.items (OfGiven c.args.given.items)) (ap (λ (m : Machine). m.table) c.self.view_is)
+    (end_given c.all_back-passes.result.items c.args.given.items c.all_back-passes.ensures.back c.ended-world.ensures.end)
+
+pub returns-clause-fresh : goal.returns-clause-fresh
+returns-clause-fresh g c =
+    let cpus : List CpuState = c.ended-world.result.parts.cpus.items in
+    subst (λ (m : Machine). AreFreshAt m.table.layout m.passes cpus) c.self.view_is
+    (end_fresh c.self.inside.table c.self.inside.passes.items c.all_back-passes.result.items cpus c.self.invariant.fresh c.all_back-passes.ensures.stays c.ended-world.ensures.end.own)
 
 pub returns-clause-missing : goal.returns-clause-missing
 returns-clause-missing g c = tt
@@ -103,48 +111,17 @@ returns-clause-same g c = tt
 pub returns-clause-layout : goal.returns-clause-layout
 returns-clause-layout g c = c.ended-world.ensures.layout ∙ ap (λ (m : Machine). m.table.layout) c.self.view_is
 
-pub returns-clause-own : goal.returns-clause-own
-returns-clause-own g c =
-    let l : TheLayout = c.self.inside.table.layout in
-    let cpus : List CpuState = c.ended-world.result.parts.cpus.items in
-    let e = c.all_back-passes.ensures in
-    subst (λ (m : Machine). KeepsStates m.table.layout m.passes c.args.given.items cpus) c.self.view_is record {
-      ended = of_given_back c.all_back-passes.result.items c.args.given.items (KeepsOwn cpus) e.back c.ended-world.ensures.own;
-      fresh = λ n home. let is = c.self.invariant.fresh n home.0 home.1 in
-          ap (slice_get cpus) (sym (ap (λ (p : Pass). p.knows.cpu) is)) ∙ (c.ended-world.ensures.own home.0.knows.cpu home.0 (e.stays n home.0 home.1) ∙ ap (λ (p : Pass). Some p.knows.own) is);
-    }
-
-pub returns-clause-seen : goal.returns-clause-seen
-returns-clause-seen g c = of_given_back c.all_back-passes.result.items c.args.given.items _ c.all_back-passes.ensures.back c.ended-world.ensures.seen
-
-pub returns-clause-tried : goal.returns-clause-tried
-returns-clause-tried g c =
-    subst (λ (t : Opened). OfGiven c.args.given.items (KeepsTried {A = g.row.A.Denot} t.layout (slots_of c.ended-world.result.parts))) (ap (λ (m : Machine). m.table) c.self.view_is)
-    (of_given_back c.all_back-passes.result.items c.args.given.items _ c.all_back-passes.ensures.back c.ended-world.ensures.tried)
-
-pub returns-then-lacks-clause-tried : goal.returns-then-lacks-clause-tried
-returns-then-lacks-clause-tried g c = tt
-
-pub returns-in_default-clause-tried : goal.returns-in_default-clause-tried
-returns-in_default-clause-tried g c = tt
-
 pub returns-then-lacks-clause-layout : goal.returns-then-lacks-clause-layout
 returns-then-lacks-clause-layout g c = tt
 
-pub returns-then-lacks-clause-own : goal.returns-then-lacks-clause-own
-returns-then-lacks-clause-own g c = tt
+pub returns-then-lacks-clause-fresh : goal.returns-then-lacks-clause-fresh
+returns-then-lacks-clause-fresh g c = tt
 
 pub returns-in_default-clause-layout : goal.returns-in_default-clause-layout
 returns-in_default-clause-layout g c = tt
 
-pub returns-in_default-clause-own : goal.returns-in_default-clause-own
-returns-in_default-clause-own g c = tt
-
-pub returns-then-lacks-clause-seen : goal.returns-then-lacks-clause-seen
-returns-then-lacks-clause-seen g c = tt
-
-pub returns-in_default-clause-seen : goal.returns-in_default-clause-seen
-returns-in_default-clause-seen g c = tt
+pub returns-in_default-clause-fresh : goal.returns-in_default-clause-fresh
+returns-in_default-clause-fresh g c = tt
 
 pub returns-then-lacks-clause-logs : goal.returns-then-lacks-clause-logs
 returns-then-lacks-clause-logs g c = tt
@@ -161,7 +138,7 @@ copied-histories-requires g c =
     let all : vec_len c.self.inside.passes ≡ length c.all_back-passes.result.items = omega (arith, long, c.self.inside.passes.ok.0) in
     let home = subst (λ (n : ℕ). AreHomeFrom c.self.inside.table.table n 0 c.all_back-passes.result.items) all k.home in
     let room = room_back c.self.inside.passes.items c.all_back-passes.result.items c.args.given.items _ c.in-Ok-log_rooms.logs k.few c.in-Ok-log_rooms.ensures in
-    let there : CanHold (kept_of w) w.layout.config.cpus c.in-Ok-log_rooms.logs = can_hold w c.self.inside.table.table c.all_back-passes.result.items c.in-Ok-log_rooms.logs count home c.ended-world.ensures.own c.ended-world.result.history (subst (λ (n : ℕ). HaveRoom c.all_back-passes.result.items [] n c.in-Ok-log_rooms.logs) all room) in
+    let there : CanHold (kept_of w) w.layout.config.cpus c.in-Ok-log_rooms.logs = can_hold w c.self.inside.table.table c.all_back-passes.result.items c.in-Ok-log_rooms.logs count home c.ended-world.ensures.end.own c.ended-world.result.history (subst (λ (n : ℕ). HaveRoom c.all_back-passes.result.items [] n c.in-Ok-log_rooms.logs) all room) in
     record { room = subst (λ (q : Parts g.row.A.Denot). CanHold (kept_of q) q.layout.config.cpus c.in-Ok-log_rooms.logs) (sym c.parts.ensures) there }
 
 pub returns-clause-logs : goal.returns-clause-logs

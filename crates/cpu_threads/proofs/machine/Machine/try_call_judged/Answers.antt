@@ -1,17 +1,8 @@
 use Rattle.cpu_threads.proofs.Judging.{judged_of}
 use Rattle.cpu_threads.proofs.machine.Machine.try_call_judged.Goals as goal
 
-pub returns-clause-stored : goal.returns-clause-stored
-returns-clause-stored g c = c.try_step_by.ensures.stored
-
-pub returns-clause-contended : goal.returns-clause-contended
-returns-clause-contended g c = c.try_step_by.ensures.contended
-
-pub returns-clause-met : goal.returns-clause-met
-returns-clause-met g c = c.try_step_by.ensures.met
-
-pub returns-clause-log_full : goal.returns-clause-log_full
-returns-clause-log_full g c = c.try_step_by.ensures.log_full
+pub returns-clause-answers : goal.returns-clause-answers
+returns-clause-answers g c = c.try_step_by.ensures.answers
 
 pub returns-clause-silent : goal.returns-clause-silent
 returns-clause-silent g c = c.try_step_by.ensures.untold

@@ -1,6 +1,6 @@
 use Rattle.std.proofs.Common.{sym, ap, subst, ◌∙◌}
 use Rattle.page_state.specs.declared.layout.Layout.{Layout as TheLayout}
-use Rattle.part_table.specs.Endings.{ForEach, IsEndOf, KeepsTried}
+use Rattle.part_table.specs.Endings.{ForEach, IsEndFor}
 use Rattle.part_table.specs.Passes.{Opened}
 use Rattle.part_table.proofs.table.PartTable.close.Goals as goal
 
@@ -29,13 +29,4 @@ pub returns-clause-layout : goal.returns-clause-layout
 returns-clause-layout g c = ap (λ (o : Opened). o.layout) c.self.view_is
 
 pub returns-clause-end : goal.returns-clause-end
-returns-clause-end g c = subst (λ (l : TheLayout). IsEndOf l c.end-found.result.0.items c.end-found.result.1.items) (c.self.invariant.key_is ∙ ap (λ (o : Opened). o.layout) c.self.view_is) c.end-found.ensures.end
-
-pub returns-clause-own : goal.returns-clause-own
-returns-clause-own g c = c.end-found.ensures.own
-
-pub returns-clause-seen : goal.returns-clause-seen
-returns-clause-seen g c = c.end-found.ensures.seen
-
-pub returns-clause-tried : goal.returns-clause-tried
-returns-clause-tried g c = subst (λ (l : TheLayout). ForEach c.args.passes.items (KeepsTried {A = g.row.A.Denot} l c.end-found.result.0.items)) (c.self.invariant.key_is ∙ ap (λ (o : Opened). o.layout) c.self.view_is) c.end-found.ensures.tried
+returns-clause-end g c = subst (λ (l : TheLayout). IsEndFor l c.end-found.result.0.items c.end-found.result.1.items (ForEach c.args.passes.items)) (c.self.invariant.key_is ∙ ap (λ (o : Opened). o.layout) c.self.view_is) c.end-found.ensures
