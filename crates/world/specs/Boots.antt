@@ -1,16 +1,22 @@
 -- Booting: when a boot fails, and what the parts of a booted world are made of.
 use Rattle.std.specs.Prelude.{◌≡◌, ℕ, ◌+◌, drop}
+use Rattle.descriptor.specs.declared.Prot.TheVariants.{RW}
+use Rattle.descriptor.specs.declared.State.TheVariants.{Owned}
+use Rattle.page_state.specs.declared.entry.PageRange.{PageRange}
 use Rattle.page_state.specs.declared.layout.Config.{Config}
 use Rattle.page_state.specs.declared.layout.Geometry.{Geometry}
 use Rattle.reference_model.specs.Boot.{IsCarveEnough}
 use Rattle.page_state.specs.Accepted.{IsAcceptedConfig}
+use Rattle.page_state.specs.EntryTests.{leaf}
 use Rattle.page_state.specs.Geometries.{levels_below}
+use Rattle.page_state.specs.Layouts.{hyp_page}
 use Rattle.page_state.specs.Regions.{Memory}
 use Rattle.page_state.specs.Trees.{frames_from, root_tree}
 use Rattle.hyp_pool.specs.declared.PoolFault.{PoolFault}
 use Rattle.hyp_pool.specs.declared.PoolFault.TheVariants as pools
 use Rattle.world.specs.declared.boot.BootFault.{BootFault}
 use Rattle.world.specs.declared.boot.BootFault.TheVariants.{Config as config_fault, CarveSmall, NoMemory}
+use Rattle.reference_model.specs.declared.changes.MapChange.{MapChange}
 use Rattle.reference_model.specs.State.{Shared, no_cpu, no_guest, plain_row}
 use Rattle.guest_component.specs.View.{guest_depth}
 use Rattle.guest_steps.specs.declared.parts.CpuState.{CpuState}
@@ -38,6 +44,10 @@ new_shared_of m g = record {
   free = drop 2 (frames_from m.carve.first.0 m.carve.count);
   row = λ f. plain_row;
 }
+
+-- the change of the hypervisor's map: its pages of the carve-out become RW Normal Owned
+abbrev pub hyp_change : PageRange → MapChange
+hyp_change carve = record { range = record { first = record { 0 = hyp_page carve.first.0 }; count = carve.count }; entry = leaf RW carve.first.0 Owned }
 
 -- why a world doesn't boot: the first test that fails, or, where none does, that memory was refused
 abbrev pub IsNoBoot : BootFault → Memory → Config → Type 0

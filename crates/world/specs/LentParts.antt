@@ -5,7 +5,9 @@ use Rattle.std.specs.Borrow.{MutBor}
 use Rattle.step_reply.specs.declared.reply.Call.{Call}
 use Rattle.step_reply.specs.declared.reply.Reply.{Reply}
 use Rattle.step_reply.specs.declared.step.Step.{Step}
+use Rattle.page_state.specs.declared.layout.Layout.{Layout as TheLayout}
 use Rattle.page_state.specs.Layouts.{Layout}
+use Rattle.page_state.specs.LayoutView.{layout_of}
 use Rattle.reference_model.specs.Rules.{names}
 use Rattle.reference_model.specs.Reached.{IsReached}
 use Rattle.guest_steps.specs.declared.parts.VmPart.{VmPart}
@@ -16,7 +18,7 @@ use Rattle.guest_steps.specs.Lent.{Lent, used_in, slot_in, logs_in, call_in}
 use Rattle.guest_steps.specs.View.{cpu_of}
 use Rattle.hypercalls.specs.declared.used_parts.UsedParts.{UsedParts}
 use Rattle.hypercalls.specs.declared.used_parts.UsedParts.TheVariants.{Nothing, Vms, Shared, Guest, Both}
-use Rattle.hypercalls.specs.Steps.{any_full}
+use Rattle.hypercalls.specs.Steps.{IsStepOn, any_full}
 use Rattle.hypercalls.specs.Uses.{uses_of}
 
 -- an option of a reference as a function leaves it: None, or the reference
@@ -61,3 +63,7 @@ module _ {A : Type 0} where
   -- the call that a step stores, by its reply: none where a log is full
   abbrev pub call_stored : Lent A → Step → Reply → Option Call
   call_stored x step reply = if any_full (logs_in x) then None else Some (call_in x step reply)
+
+  -- the step that gave the reply is the reference step on what is lent
+  abbrev pub StepsLent : TheLayout → Step → Lent A → Reply → Lent A → Type 0
+  StepsLent l step x reply y = IsStepOn (layout_of l) step x (call_stored x step reply) y

@@ -1,5 +1,5 @@
 //! Booting a world.
-ghost use Rattle.std.specs.Prelude.{◌≡◌, ◌+◌, ◌<◌, ◌≤◌, ◌^◌, ◌↔◌, [], ◌∷◌, All, IsTrue, IfOk, OnErr, MatchOption, MatchResult, vec_len, length, drop};
+ghost use Rattle.std.specs.Prelude.{◌≡◌, ◌+◌, ◌<◌, ◌≤◌, ◌^◌, ◌↔◌, ◌∷◌, All, IsTrue, IfOk, OnErr, MatchOption, MatchResult, vec_len, length, drop};
 ghost use Rattle.hyp_pool.specs.Pools.{IsPool};
 ghost use Rattle.page_state.specs.Trees.{frames_from, root_tree};
 ghost use Rattle.reference_model.specs.Boot.{IsCarveEnough, booted as booted_of, pool_row as pool_row_of};
@@ -12,12 +12,11 @@ ghost use Rattle.guest_steps.specs.MemoryRows.{HasMemoryRows};
 ghost use Rattle.guest_steps.specs.Numbers.{AreNumbered};
 ghost use Rattle.guest_steps.specs.View.{depth_of, shared_of, vm_slots};
 ghost use Rattle.page_state.specs.Accepted.{IsAcceptedConfig};
-ghost use Rattle.page_state.specs.EntryTests.{leaf as leaf_of, annotation};
-ghost use Rattle.page_state.specs.Layouts.{hyp_page as hyp_page_of};
+ghost use Rattle.page_state.specs.EntryTests.{annotation};
 ghost use Rattle.page_state.specs.Regions.{end_of};
 ghost use Rattle.page_state.specs.Geometries.{levels_below};
 ghost use Rattle.hypercalls.specs.Booted.{IsBooted, IsConfig, layout_for};
-ghost use Rattle.world.specs.Boots.{IsIdle, IsNoBoot, IsVacant, boot_number, new_shared_of};
+ghost use Rattle.world.specs.Boots.{IsIdle, IsNoBoot, IsVacant, boot_number, new_shared_of, hyp_change as hyp_change_of};
 ghost use Rattle.table_tree.specs.View.{tree_of};
 
 use component::Component;
@@ -133,7 +132,7 @@ fn host_change(carve: PageRange) -> MapChange
 fn hyp_change(carve: PageRange) -> MapChange
     requires low { end_of carve ≤ 2 ^ 26 }
     requires some { 1 ≤ carve.count }
-    ensures value { result ≡ record { range = record { first = record { 0 = hyp_page_of carve.first.0 }; count = carve.count }; entry = leaf_of Prot.RW carve.first.0 State.Owned } }
+    ensures value { result ≡ hyp_change_of carve }
     ensures fits { (g : Geometry) → Fits (levels_below g) result }
 {
     MapChange {

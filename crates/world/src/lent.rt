@@ -1,9 +1,9 @@
 //! A step on parts that are lent.
 ghost use Rattle.std.specs.Prelude.{◌≡◌, ◌<◌};
 ghost use Rattle.guest_steps.specs.Lent.{Suits};
-ghost use Rattle.hypercalls.specs.Steps.{IsStepOn, reply_in};
+ghost use Rattle.hypercalls.specs.Steps.{reply_in};
 ghost use Rattle.page_state.specs.LayoutView.{layout_of};
-ghost use Rattle.world.specs.LentParts.{AreLent, IsLentReached, call_stored, left_of, lent_of};
+ghost use Rattle.world.specs.LentParts.{AreLent, IsLentReached, StepsLent, call_stored, left_of, lent_of};
 
 use guest_steps::{CpuState, GuestPart, SharedPart, VmPart};
 use hypercalls::{
@@ -29,7 +29,7 @@ pub fn step_on<A: Allocator + Copy>(
     requires lent { AreLent step.now (lent_of vms shared guest cpu.old) }
     requires suits { Suits (layout_of layout.now) (lent_of vms shared guest cpu.old) }
     requires reached { IsLentReached (layout_of layout.now) step.now (lent_of vms shared guest cpu.old) }
-    ensures step { IsStepOn (layout_of layout.now) step.now (lent_of vms.entry shared.entry guest.entry cpu.old) (call_stored (lent_of vms.entry shared.entry guest.entry cpu.old) step.now result) (left_of vms.exit shared.exit guest.exit cpu.new) }
+    ensures step { StepsLent layout.now step.now (lent_of vms.entry shared.entry guest.entry cpu.old) result (left_of vms.exit shared.exit guest.exit cpu.new) }
     ensures reply { result ≡ reply_in (call_stored (lent_of vms.entry shared.entry guest.entry cpu.old) step.now result) }
     ensures suits { Suits (layout_of layout.now) (left_of vms.exit shared.exit guest.exit cpu.new) }
 {

@@ -1,11 +1,11 @@
 //! Logs of a world become one list of calls: the call that is next in all its logs, again and again.
 ghost use Rattle.std.specs.Prelude.{◌≡◌, ◌<◌, ◌↔◌, ◌==◌, ℕ, true, IsTrue, IfErr, IfNone, IfOk, IfSome, List, Some, [], drop, length, slice_index, if◌then◌else◌};
 ghost use Rattle.step_reply.specs.declared.reply.Call.{Call};
-ghost use Rattle.reference_model.specs.Parts.{is_slot, Part};
+ghost use Rattle.reference_model.specs.Parts.{is_slot, Part, guest_part};
 ghost use Rattle.reference_model.specs.Rules.{call_uses};
-ghost use Rattle.world.specs.Merges.{IsMerged, IsOfHistory, TellsMerged, log_at, merge_number};
+ghost use Rattle.world.specs.Merges.{IsMerged, TellsMerged, log_at, merge_number};
 ghost use Rattle.world.specs.declared.merge.MergeFault.TheVariants.{NoOrder};
-ghost use Rattle.world.specs.inner.Merging.{after_call, first_of, left, on, rest_of, whole, IsNext, IsPlaced, LogName};
+ghost use Rattle.world.specs.inner.Merging.{after_call, first_of, left, on, rest_of, whole, IsNext, IsPlaced, LogName, left_at, IsAdvanced};
 
 use hypercalls::{uses_shared, uses_vms};
 use std::alloc::{AllocError, Global};
@@ -102,7 +102,7 @@ fn is_next_where(used: bool, log: &[Call], place: usize, call: &Call) -> bool
 /// Whether a call is next in the log of a number, in a list of logs.
 fn is_next_at(logs: &[Vec<Call>], places: &[usize], i: u64, call: &Call) -> bool
     requires { length places.now ≡ length logs.now }
-    ensures { IsTrue result ↔ (first_of (drop (slice_index places.now i) (log_at logs.now i)) ≡ Some call.now) }
+    ensures { IsTrue result ↔ (first_of (left_at logs.now places.now i) ≡ Some call.now) }
 {
     let i = i as usize;
     if i < logs.len() {
@@ -115,7 +115,7 @@ fn is_next_at(logs: &[Vec<Call>], places: &[usize], i: u64, call: &Call) -> bool
 /// Whether a call is next in the log of the guest that it uses, if any.
 fn is_next_on_guest(histories: &Histories, places: &Places, call: &Call) -> bool
     requires { IsPlaced histories.now places.now }
-    ensures { IsTrue result ↔ ((v : ℕ) → is_slot call.now.slot v ≡ true → first_of (drop (slice_index places.now.guests.items v) (log_at histories.now.guests.items v)) ≡ Some call.now) }
+    ensures { IsTrue result ↔ ((v : ℕ) → is_slot call.now.slot v ≡ true → first_of (left histories.now places.now (on (guest_part v))) ≡ Some call.now) }
 {
     match call.slot {
         Some(v) => is_next_at(
@@ -201,7 +201,7 @@ fn place_after(given: bool, log: &[Call], place: usize) -> usize
 fn advance_at(logs: &[Vec<Call>], places: &mut Vec<usize>, i: u64)
     requires { length places.old.items ≡ length logs.now }
     ensures count { length places.new.items ≡ length places.old.items }
-    ensures left { (k : ℕ) → drop (slice_index places.new.items k) (log_at logs.now k) ≡ (if k == i then rest_of (drop (slice_index places.old.items k) (log_at logs.now k)) else drop (slice_index places.old.items k) (log_at logs.now k)) }
+    ensures left { IsAdvanced (λ k. k == i) logs.now places.old.items places.new.items }
 {
     let i = i as usize;
     if i < logs.len() {
@@ -213,7 +213,7 @@ fn advance_at(logs: &[Vec<Call>], places: &mut Vec<usize>, i: u64)
 fn advance_on_guest(logs: &[Vec<Call>], places: &mut Vec<usize>, slot: Option<u64>)
     requires { length places.old.items ≡ length logs.now }
     ensures count { length places.new.items ≡ length places.old.items }
-    ensures left { (k : ℕ) → drop (slice_index places.new.items k) (log_at logs.now k) ≡ (if is_slot slot k then rest_of (drop (slice_index places.old.items k) (log_at logs.now k)) else drop (slice_index places.old.items k) (log_at logs.now k)) }
+    ensures left { IsAdvanced (is_slot slot) logs.now places.old.items places.new.items }
 {
     if let Some(v) = slot {
         advance_at(logs, places, v);

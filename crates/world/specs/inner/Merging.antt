@@ -1,11 +1,11 @@
 -- How logs are merged: from each the calls that were given are its first, and what is left of it goes on from there.
-use Rattle.std.specs.Prelude.{◌≡◌, ℕ, zero, suc, ◌+◌, Bool, true, ◌==◌, if◌then◌else◌, List, [], ◌∷◌, Option, Some, None, drop, length, slice_index}
+use Rattle.std.specs.Prelude.{◌≡◌, ℕ, zero, suc, ◌+◌, Bool, true, ◌==◌, if◌then◌else◌, List, [], ◌∷◌, Option, Some, None, Vec, drop, length, slice_index}
 use Rattle.step_reply.specs.declared.reply.Call.{Call}
 use Rattle.reference_model.specs.Parts.{Part, vm_part, shared_part, guest_part}
 use Rattle.reference_model.specs.Rules.{call_uses}
 use Rattle.world.specs.declared.merge.Histories.{Histories}
 use Rattle.world.specs.declared.merge.Places.{Places}
-use Rattle.world.specs.Merges.{log_on, log_by}
+use Rattle.world.specs.Merges.{log_at, log_on, log_by}
 
 -- a log: that of a part, or a CPU's own list
 pub data LogName : Type 0 where
@@ -58,3 +58,11 @@ after_call rests c x = if has x c then rest_of (rests x) else rests x
 abbrev pub left_by : (LogName → List Call) → ℕ → ℕ
 left_by rests zero = 0
 left_by rests (suc n) = left_by rests n + length (rests (by n))
+
+-- what is left of the log of a number, in a list of logs
+abbrev pub left_at : {Z : Type 0} → List (Vec Call Z) → List ℕ → ℕ → List Call
+left_at logs places k = drop (slice_index places k) (log_at logs k)
+
+-- the next call was given in each log whose number passes a test
+abbrev pub IsAdvanced : {Z : Type 0} → (ℕ → Bool) → List (Vec Call Z) → List ℕ → List ℕ → Type 0
+IsAdvanced passes logs old new = (k : ℕ) → left_at logs new k ≡ (if passes k then rest_of (left_at logs old k) else left_at logs old k)
