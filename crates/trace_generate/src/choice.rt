@@ -7,6 +7,7 @@ use crate::seen::{
     SLOTS, guest_of, own_state, picked_hosts, picked_open, picked_page, picked_part, picked_rights,
     picked_rows, picked_run, vm_of,
 };
+use crate::wanting::{Made, wanting};
 use ghost_spec::cpu::GhostCpu;
 use ghost_spec::lists::GhostLists;
 use ghost_spec::parts::{GhostGuest, GhostStand};
@@ -24,9 +25,21 @@ const GUEST_PAGES: u64 = 96;
 /// The hypervisor's page of frame 0.
 const HYP_PAGE: u64 = 0x400_0000;
 
-/// A call that is mostly made: of the life of a VM, on pages of the host, or one that looks.
-pub(crate) fn likely(lists: &GhostLists, memory: PageRange, cpu: u64, chance: &mut Pcg32) -> Step {
+/// A call that is mostly made: of the life of a VM, on pages of the host, or one that looks. Half of them lead to those that the
+/// trace hasn't made yet.
+pub(crate) fn likely(
+    lists: &GhostLists,
+    memory: PageRange,
+    cpu: u64,
+    made: Made,
+    chance: &mut Pcg32,
+) -> Step {
     let own = own_state(lists, cpu);
+    if below(chance, 2) == 0 {
+        if let Some(step) = wanting(lists, memory, own, made, chance) {
+            return step;
+        }
+    }
     match below(chance, 16) {
         0..=8 => of_life(lists, memory, own, chance),
         9..=14 => of_pages(lists, memory, own, chance),
@@ -68,7 +81,7 @@ fn of_life(lists: &GhostLists, memory: PageRange, own: GhostCpu, chance: &mut Pc
 }
 
 /// The next call for a VM that the CPU is making or ending.
-fn with_ticket(
+pub(crate) fn with_ticket(
     lists: &GhostLists,
     memory: PageRange,
     own: GhostCpu,
@@ -87,7 +100,12 @@ fn with_ticket(
 }
 
 /// Frames into the CPU's hand, at most `most`.
-fn funding(lists: &GhostLists, memory: PageRange, most: u64, chance: &mut Pcg32) -> Step {
+pub(crate) fn funding(
+    lists: &GhostLists,
+    memory: PageRange,
+    most: u64,
+    chance: &mut Pcg32,
+) -> Step {
     match picked_hosts(lists, chance) {
         Some(run) => {
             let part = picked_part(run, most, chance);
@@ -130,7 +148,7 @@ fn with_loaded(lists: &GhostLists, memory: PageRange, loaded: Loaded, chance: &m
 }
 
 /// Frames of the host for a guest: shared with a plain VM, donated to a protected one.
-fn onto_guest(
+pub(crate) fn onto_guest(
     lists: &GhostLists,
     memory: PageRange,
     guest: &GhostGuest,
@@ -216,7 +234,7 @@ fn with_nothing(lists: &GhostLists, memory: PageRange, own: GhostCpu, chance: &m
 }
 
 /// A kind of VMs.
-fn picked_kind(chance: &mut Pcg32) -> VmKind {
+pub(crate) fn picked_kind(chance: &mut Pcg32) -> VmKind {
     if below(chance, 2) == 0 {
         VmKind::Protected
     } else {

@@ -12,6 +12,7 @@ mod seen;
 #[cfg(test)]
 mod tests;
 mod walk;
+mod wanting;
 
 pub use line::StepLine;
 pub use made::generate;

@@ -10,6 +10,7 @@ use crate::chance::seeded;
 use crate::line::{SettingLines, StepLine};
 use crate::options::{GenerateFault, Options, carve, config, memory, tested};
 use crate::walk::{booted, is_hostile, next_call};
+use crate::wanting::Made;
 use ghost_spec::state::Ghost;
 use std::alloc::{AllocError, Global};
 use std::fmt::Write;
@@ -71,10 +72,14 @@ fn walked(
     ensures { OnOk result (IsSoFar (layout_of state.old.layout) options.hostile (ghost_state state.old) (string_bytes text.old) steps (ghost_state state.new) (string_bytes text.new)) }
 {
     let mut chance = seeded(seed);
+    let mut made = Made::NONE;
     for number in 0..steps {
         let hostile = is_hostile(options.hostile, number);
-        let call = next_call(global, state, memory(options), hostile, &mut chance)?;
+        let call = next_call(global, state, memory(options), hostile, made, &mut chance)?;
         write_call(text, call)?;
+        if !hostile {
+            made.note(call.step);
+        }
     }
     Ok(())
 }

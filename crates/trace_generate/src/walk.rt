@@ -14,6 +14,7 @@ use crate::choice::{likely, sure};
 use crate::line::StepLine;
 use crate::options::{GenerateFault, Options, carve, config, memory};
 use crate::refusal::{refused, unlikely};
+use crate::wanting::Made;
 use ghost_spec::start::start;
 use ghost_spec::state::{Ghost, has_next_generation, predict};
 use page_state::{Geometry, Layout, LayoutFault, MemoryMap, PageRange, Region, RegionKind};
@@ -102,12 +103,13 @@ fn candidate(
     memory: PageRange,
     hostile: bool,
     cpu: u64,
+    made: Made,
     chance: &mut Pcg32,
 ) -> Step {
     if hostile {
         unlikely(state.lists(), memory, cpu, chance)
     } else {
-        likely(state.lists(), memory, cpu, chance)
+        likely(state.lists(), memory, cpu, made, chance)
     }
 }
 
@@ -117,6 +119,7 @@ fn tried(
     state: &mut Ghost,
     memory: PageRange,
     hostile: bool,
+    made: Made,
     chance: &mut Pcg32,
 ) -> Result<Option<StepLine>, AllocError>
     requires { 0 < state.old.layout.config.cpus }
@@ -127,7 +130,7 @@ fn tried(
     ensures layout { OnOk result (layout_of state.new.layout ≡ layout_of state.old.layout) }
 {
     let cpu = below(chance, state.lists().layout.config.cpus);
-    let step = candidate(state, memory, hostile, cpu, chance);
+    let step = candidate(state, memory, hostile, cpu, made, chance);
     let call = StepLine { cpu, step };
     if goes_on(global, state, call, hostile)? {
         return Ok(Some(call));
@@ -165,12 +168,13 @@ fn sure_step(hostile: bool) -> Step
     if hostile { refused() } else { sure() }
 }
 
-/// The next call of the walk.
+/// The next call of the walk, by what was made before it.
 pub(crate) fn next_call(
     global: Global,
     state: &mut Ghost,
     memory: PageRange,
     hostile: bool,
+    made: Made,
     chance: &mut Pcg32,
 ) -> Result<StepLine, AllocError>
     requires { 0 < state.old.layout.config.cpus }
@@ -179,7 +183,7 @@ pub(crate) fn next_call(
     ensures layout { OnOk result (layout_of state.new.layout ≡ layout_of state.old.layout) }
 {
     for _ in 0..TRIES {
-        if let Some(call) = tried(global, state, memory, hostile, chance)? {
+        if let Some(call) = tried(global, state, memory, hostile, made, chance)? {
             return Ok(call);
         }
     }
