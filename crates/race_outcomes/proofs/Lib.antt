@@ -1,0 +1,14 @@
+pub mod Counts
+pub mod Crowded
+pub mod Found
+pub mod Histories
+pub mod Indexed
+pub mod Layers
+pub mod Members
+pub mod Orders
+pub mod Places
+pub mod Replies
+pub mod Runs
+pub mod States
+pub mod Told
+pub mod Wanted

@@ -1,0 +1,26 @@
+use Rattle.std.proofs.Common.{◌≡◌, ap}
+use Rattle.std.specs.Prelude.{List, Option}
+use Rattle.reference_model.specs.State.{Reference}
+use Rattle.ghost_spec.specs.States.{ghost_state}
+use Rattle.step_reply.specs.declared.reply.Reply.{Reply}
+use Rattle.race_outcomes.specs.Orders.{Point}
+use Rattle.race_outcomes.proofs.Replies.{told_same}
+use Rattle.race_outcomes.proofs.layer.is_same_point.Goals as goal
+
+same_point : (s t : Reference) (a b : List (Option Reply)) → s ≡ t → a ≡ b → ◌≡◌ {A = Point} (record { state = s; told = a }) (record { state = t; told = b })
+same_point s t a b e f = cc
+
+pub returns-then-eq-clause-same : goal.returns-then-eq-clause-same
+returns-then-eq-clause-same c h =
+    let a = c.args.a.now in
+    let b = c.args.b.now in
+    same_point (ghost_state a.state) (ghost_state b.state) a.told.items b.told.items (c.is_same_state.ensures.same h) ((told_same a.told.items b.told.items c.eq.result c.eq.ensures).0 c.if-eq.true)
+
+pub returns-then-eq-clause-apart : goal.returns-then-eq-clause-apart
+returns-then-eq-clause-apart c e layouts same = c.is_same_state.ensures.apart e layouts (ap (λ (p : Point). p.state) same)
+
+pub returns-clause-apart : goal.returns-clause-apart
+returns-clause-apart c e layouts same =
+    let told = (told_same c.args.a.now.told.items c.args.b.now.told.items c.eq.result c.eq.ensures).1 (ap (λ (p : Point). p.told) same) in
+    let tested = c.if-eq.false in
+    absurd (cc)

@@ -1,0 +1,10 @@
+use Rattle.std.proofs.Common.{ℕ, ◌<◌}
+use Rattle.race_outcomes.specs.Layers.{HasStep, IsIndexed, IsSpread}
+use Rattle.race_outcomes.proofs.layer.spread.Given as goal
+
+abbrev pub invariant-loop-place : goal.invariant-loop-place
+invariant-loop-place l = record {
+  spread : IsSpread l.turns l.wanted l.node l.initial.layer.nodes.items l.layer.nodes.items;
+  indexed : IsIndexed l.layer;
+  has : (k : ℕ) → k < l.place → HasStep l.turns l.wanted l.node l.layer.nodes.items k;
+}

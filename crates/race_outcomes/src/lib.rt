@@ -1,0 +1,12 @@
+//! What CPUs may be told that make their steps at once: all replies that some order of the steps gives, by the model.
+#![tactic(auto)]
+
+mod answer;
+mod finding;
+pub mod laws;
+mod layer;
+mod node;
+mod same;
+
+pub use finding::{Outcome, OutcomesFault, explained, first_steps, outcomes};
+pub use node::Turn;
