@@ -1,0 +1,4 @@
+//! Races and outcomes: no code.
+#![tactic(auto)]
+
+pub mod laws;
