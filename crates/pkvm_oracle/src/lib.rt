@@ -2,7 +2,7 @@
 //! takes and answers is written down in include/pkvm_oracle.h too.
 #![tactic(auto)]
 
-ghost use Rattle.std.specs.Prelude.{◌≡◌};
+ghost use Rattle.std.specs.Prelude.{◌≡◌, pos};
 
 mod audited;
 mod judged;
@@ -12,13 +12,25 @@ mod replayed;
 mod statuses;
 mod words;
 
-/// The version of these functions and structs: the first 32 bits change where a program that uses them has to.
-pub const VERSION: u64 = 2 << 32;
+/// The version of these functions and structs, 2.1.0: the first 32 bits change where a program that uses them has to, the next 16 where
+/// something is added, and the last 16 else.
+pub const VERSION: u64 = 0x200010000;
+
+/// 1, since the toolchain builds only what is proved. An unproved build is made of these sources with 0 here.
+const IS_PROVED: i32 = 1;
 
 /// The version.
 #[unsafe(no_mangle)]
 pub extern "C" fn pkvm_version() -> u64
-    ensures { result ≡ 0x200000000 }
+    ensures { result ≡ 0x200010000 }
 {
     VERSION
+}
+
+/// Whether this library is a proved build.
+#[unsafe(no_mangle)]
+pub extern "C" fn pkvm_is_proved() -> i32
+    ensures { result ≡ pos 1 }
+{
+    IS_PROVED
 }
