@@ -1,15 +1,47 @@
-/* The oracle of protected KVM's page ownership, for C. Link with
- * crates/pkvm_oracle/out/libpkvm_oracle.a and the toolchain's c/liblibc_c.a; docs/C_LIBRARY.md says
- * how, and where in a hypervisor to call it.
+/* The oracle of protected KVM's page ownership, for C. The judging of one call:
  *
- * The functions keep nothing between two calls, write to what is handed to them alone, and may be
- * called from several threads at once, but not from a signal handler. No pointer may be NULL, also
- * where its length is 0. All other values are answered: a number that stands for nothing is refused
- * by name.
+ *	#include <pkvm_oracle.h>
+ *	#include <stdio.h>
  *
- * A page is an input address divided by 4,096, a frame a physical address divided by it. An owner,
- * a tree and a pool have the numbers 0 for the host, 1 for the hypervisor (the shared pool is its),
- * and 2 + v for the guest in slot v.
+ *	int main(void)
+ *	{
+ *		struct pkvm_region memory = {PKVM_MEMORY, 0x40000, 0x800};	// 8 MiB at 1 GiB
+ *		struct pkvm_layout layout = {39, 1, 0x40600, 0x40, &memory, 1};
+ *		struct pkvm_state before = {0}, after = {0};	// what your hypervisor has
+ *		struct pkvm_call call = {
+ *			.cpu = 0,
+ *			.step = {PKVM_SHARE_HYP, {0x1000}},	// a frame that isn't memory,
+ *			.reply = {.refusal = 0},		// and yet it said ok
+ *		};
+ *		uint8_t text[256];
+ *		size_t length;
+ *		struct pkvm_refused refused;
+ *		int32_t status = pkvm_judge(&layout, &before, &call, &after, text, sizeof text,
+ *					    &length, &refused);
+ *		if (status == PKVM_DISAGREES)	// disagree reply said ok spec invalid
+ *			printf("%.*s\n", (int)length, (const char *)text);
+ *		return status == PKVM_DISAGREES ? 0 : 1;
+ *	}
+ *
+ * The order of calls. Once: compare pkvm_version() and PKVM_VERSION, ask pkvm_is_proved(). Then, of
+ * each call of your hypervisor:
+ *
+ *   1. decode    pkvm_decode says what the words of your tables say, where you keep no records
+ *   2. record    fill a struct pkvm_state while the call holds its locks, before and after it
+ *   3. judge     pkvm_judge compares the two with the model's step; pkvm_predict and
+ *                pkvm_predict_reply tell what the model does
+ *   4. audit     pkvm_audit compares a state that is kept with the tables as they lie in memory
+ *
+ * docs/C_LIBRARY.md is a walk through them. pkvm_replay needs no hypervisor: it runs a trace.
+ *
+ * The functions keep nothing between two calls and write to what is handed to them alone. Several
+ * threads may be in them at once, if each writes to its own memory; a signal handler may not. A
+ * pointer may be NULL where its length is 0, so {0} is the empty state; no other may. What is
+ * written may not lie in what is read. All values are answered: a number that stands for nothing is
+ * refused by name. Of several errors the first in the order of a function's list is told.
+ *
+ * Units. A page is an input address divided by 4,096, a frame a physical address divided by it. An
+ * owner, a tree and a pool have these numbers; the shared pool is the hypervisor's.
  */
 #ifndef PKVM_ORACLE_H
 #define PKVM_ORACLE_H
@@ -21,10 +53,22 @@
 extern "C" {
 #endif
 
-/* The version of this header; pkvm_version() tells that of the library. The upper 32 bits change
- * where a program has to. */
-#define PKVM_VERSION 0x200000000ull
+enum { PKVM_HOST = 0, PKVM_HYP = 1, PKVM_GUEST = 2 }; /* PKVM_GUEST + v: the guest in slot v */
+
+/* The version of this header, 2.1.0: 32 bits that change where a program has to, 16 that change
+ * where something is added, and 16 that change else. */
+#define PKVM_VERSION 0x200010000ull
+
+/* The version of the library, in that form. A program fits where the upper 32 bits are equal and
+ * the rest isn't less than PKVM_VERSION's. */
 uint64_t pkvm_version(void);
+
+/* Whether the library was built of sources that were proved.
+ *
+ * Answers:
+ *   1    it was
+ *   0    it is an unproved build, for a first try */
+int32_t pkvm_is_proved(void);
 
 /* --- Words of tables (4 KiB granule, Arm DDI 0487 D8.3, narrowed to the profile) --- */
 
@@ -62,29 +106,57 @@ enum {
 	PKVM_BAD_TABLES = -13	    /* the pages of tables and their roots make no trees */
 };
 
-/* What a word of a table of a level says, with 0 in each field that isn't named for it. 0; or
- * PKVM_NO_LEVEL, and `out` stays. */
+/* What a word of a table says.
+ *
+ *   level    the table's, by the architecture's number: 0 to 3
+ *   word     the 64 bits
+ *   out      written: what it says, with 0 in each field that isn't named for it
+ *
+ * Answers:
+ *   0                 it is written
+ *   PKVM_NO_LEVEL     and `out` stays */
 int32_t pkvm_decode(uint64_t level, uint64_t word, struct pkvm_word *out);
 
-/* The one word that says this in a table of a level. 0; or PKVM_NO_LEVEL, PKVM_BAD_NUMBER,
- * PKVM_NO_WORD, and `out` stays. */
+/* The one word of a table that says this.
+ *
+ *   level    0 to 3
+ *   says     what is to be said; fields that aren't named for it aren't read
+ *   out      written: the 64 bits
+ *
+ * Answers:
+ *   0                  it is written
+ *   PKVM_NO_LEVEL      and in all that follow `out` stays
+ *   PKVM_BAD_NUMBER
+ *   PKVM_NO_WORD */
 int32_t pkvm_encode(uint64_t level, const struct pkvm_word *says, uint64_t *out);
 
 /* --- Traces --- */
 
 enum { PKVM_CLEAN = 0, PKVM_DISAGREED = 1, PKVM_FAULT = 2 };
 
-/* Replays a whole trace (docs/TRACES.md), each step judged and audited, and writes its report.
- * PKVM_CLEAN, PKVM_DISAGREED or PKVM_FAULT: the first `*written` bytes of `report` are the report,
- * and all behind them stays. PKVM_NO_ROOM: the report has `*written` bytes, more than there is room
- * for, and the room has its front. PKVM_NO_MEMORY: the first `*written` bytes are a beginning. */
+/* Replays a whole trace, each step judged and audited, and writes its report.
+ *
+ *   trace         trace_len bytes in the language of docs/TRACES.md
+ *   report        written: no more than report_len bytes, and not ended by a 0
+ *   written       written: a number of bytes, as below
+ *
+ * Answers:
+ *   PKVM_CLEAN        the first `*written` bytes of `report` are the report, and what is behind
+ *                     them stays; nothing disagreed
+ *   PKVM_DISAGREED    the same; something disagreed
+ *   PKVM_FAULT        the same; a line of the trace is wrong, and the report ends there
+ *   PKVM_NO_ROOM      the report has `*written` bytes, and `report` has its front
+ *   PKVM_NO_MEMORY    the first `*written` bytes of `report` are a beginning of it */
 int32_t pkvm_replay(const uint8_t *trace, size_t trace_len, uint8_t *report, size_t report_len,
 		    size_t *written);
 
 /* --- States --- */
 
+enum { PKVM_MEMORY = 0, PKVM_REGISTERS = 1 }; /* kind; all but 0 are device registers */
+
+/* A range of frames. */
 struct pkvm_region {
-	uint64_t kind; /* 0 memory, any other number device registers */
+	uint64_t kind;
 	uint64_t first, count;
 };
 
@@ -329,19 +401,50 @@ struct pkvm_call {
 
 enum { PKVM_AGREES = 0, PKVM_DISAGREES = 1 };
 
-/* Judges a call by the state before it, its reply and the state after it. PKVM_AGREES: both are
- * those that the model says, or the call was refused for want of memory and changed nothing.
- * PKVM_DISAGREES: the first `*text_len` bytes of `text` tell the first difference. Else an error:
- * PKVM_NO_ROOM (`*text_len` is what the text needs, and `text` stays), PKVM_BAD_STEP,
- * PKVM_BAD_REPLY, PKVM_BAD_CPU, PKVM_BAD_LAYOUT, PKVM_BAD_BEFORE, PKVM_LAST_GENERATION,
- * PKVM_BAD_AFTER, PKVM_NO_MEMORY. */
+/* Judges a call by the states before and after it and by its reply.
+ *
+ *   layout      what the hypervisor runs on
+ *   before      the state when the call had taken its last lock
+ *   call        its CPU, its arguments and its reply
+ *   after       the state before it let its first lock go
+ *   text        written: no more than text_room bytes, and not ended by a 0
+ *   text_len    written: the number of bytes; 0 where no text is told
+ *   refused     written: what of a layout or a state is refused
+ *
+ * Answers:
+ *   PKVM_AGREES             reply and state are the model's, or the call was refused for want of
+ *                           memory and changed nothing
+ *   PKVM_DISAGREES          the first `*text_len` bytes of `text` tell the first difference
+ *   PKVM_BAD_STEP           and in all that follow `text` stays
+ *   PKVM_BAD_REPLY
+ *   PKVM_BAD_CPU
+ *   PKVM_BAD_LAYOUT         `refused` says why
+ *   PKVM_BAD_BEFORE         `refused` says why
+ *   PKVM_LAST_GENERATION
+ *   PKVM_BAD_AFTER          `refused` says why
+ *   PKVM_NO_MEMORY          at any point
+ *   PKVM_NO_ROOM            there is a difference, whose text needs `*text_len` bytes */
 int32_t pkvm_judge(const struct pkvm_layout *layout, const struct pkvm_state *before,
 		   const struct pkvm_call *call, const struct pkvm_state *after, uint8_t *text,
 		   size_t text_room, size_t *text_len, struct pkvm_refused *refused);
 
-/* The reply that the model gives to a call of a CPU on a state: 0, and it is in `reply`. Else an
- * error, and `reply` stays: PKVM_BAD_STEP, PKVM_BAD_CPU, PKVM_BAD_LAYOUT, PKVM_BAD_BEFORE,
- * PKVM_LAST_GENERATION, PKVM_NO_MEMORY. */
+/* The reply that the model gives to a call.
+ *
+ *   layout     what the hypervisor runs on
+ *   before     the state before the call
+ *   cpu        the CPU that makes it
+ *   step       the call and its arguments
+ *   reply      written: the reply
+ *   refused    written: what of a layout or a state is refused
+ *
+ * Answers:
+ *   0                       it is written
+ *   PKVM_BAD_STEP           and in all that follow `reply` stays
+ *   PKVM_BAD_CPU
+ *   PKVM_BAD_LAYOUT         `refused` says why
+ *   PKVM_BAD_BEFORE         `refused` says why
+ *   PKVM_LAST_GENERATION
+ *   PKVM_NO_MEMORY          at any point */
 int32_t pkvm_predict_reply(const struct pkvm_layout *layout, const struct pkvm_state *before,
 			   uint64_t cpu, const struct pkvm_step *step, struct pkvm_reply *reply,
 			   struct pkvm_refused *refused);
@@ -371,15 +474,34 @@ struct pkvm_sizes {
 	uint64_t runs, tables, frames, slots, loads, guests, cpus, rows;
 };
 
-/* The reply that the model gives to a call of a CPU on a state, and the state after it. 0: `reply`
- * has the first, and the first `sizes->x` members of each list `x` of `room` are the second; all
- * behind them stays. It can be handed in as a state, but may be refused where the one before had a
- * frame in two places or a slot of more than 8 vCPUs. It has all 64 slots and guests and all CPUs,
- * the fewest runs of each map, and the rows that were handed in, with those of all frames that the
- * call touched. PKVM_NO_ROOM: a list has room for fewer members than `sizes` tells. Else an error,
- * as of pkvm_predict_reply, and `sizes` is all 0. Below 0 `reply` and all lists stay. The pointers
- * and lengths in `room` stay in any case. No list may share memory with another one, or with what
- * else is handed in. */
+/* The reply that the model gives to a call, and the state after it.
+ *
+ *   layout     what the hypervisor runs on
+ *   before     the state before the call
+ *   cpu        the CPU that makes it
+ *   step       the call and its arguments
+ *   reply      written: the reply
+ *   room       its lists are written; its pointers and lengths stay. No list may share memory with
+ *              another one, or with what else is handed in
+ *   sizes      written: how many members each list has
+ *   refused    written: what of a layout or a state is refused
+ *
+ * Answers:
+ *   0                       the first `sizes->x` members of each list `x` are the state; all behind
+ *                           them stays
+ *   PKVM_BAD_STEP           and in all that follow `reply` and all lists stay
+ *   PKVM_BAD_CPU
+ *   PKVM_BAD_LAYOUT         `refused` says why
+ *   PKVM_BAD_BEFORE         `refused` says why
+ *   PKVM_LAST_GENERATION
+ *   PKVM_NO_MEMORY          at any point
+ *   PKVM_NO_ROOM            a list has room for fewer members than `sizes` tells; in the errors
+ *                           above `sizes` is all 0
+ *
+ * The state can be handed in as one, but may be refused where the one before had a frame in two
+ * places or a slot of more than 8 vCPUs. It has all 64 slots and guests and all CPUs, the fewest
+ * runs of each map, and the rows that were handed in, with those of all frames that the call
+ * touched. */
 int32_t pkvm_predict(const struct pkvm_layout *layout, const struct pkvm_state *before,
 		     uint64_t cpu, const struct pkvm_step *step, struct pkvm_reply *reply,
 		     struct pkvm_room *room, struct pkvm_sizes *sizes,
@@ -399,18 +521,32 @@ struct pkvm_root {
 	uint64_t tree, frame;
 };
 
-/* Compares a kept state with what the tables say. The library walks `pages`, in any order, from
- * `roots` by frame numbers, as hardware does: a table word leads on to the page of its frame, and
- * where no page has that frame the word is malformed. It finds the runs and the tables of each
- * tree, and the owner rows that follow from them and from the kept pools and hands. PKVM_AGREES:
- * maps, rows and tables are the kept ones, and the maps are sound. PKVM_DISAGREES: the first
- * `*text_len` bytes of `text` tell the first difference: in a map, in the rows, or in the tables;
- * without one, why the maps aren't sound, the first that is so: two entries are leaves of a frame
- * in states PKVM_OWNED or PKVM_SHARED_OWNED (`two owners 0x40100: host 0x40100, hyp 0x4040100`),
- * two are in state PKVM_SHARED_BORROWED (`two borrowers ..`), or one is and none is in
- * PKVM_SHARED_OWNED (`no share 0x40100: hyp 0x4040100`). Else an error: PKVM_NO_ROOM (`*text_len`
- * is what the text needs, and `text` stays), PKVM_BAD_LAYOUT, PKVM_BAD_BEFORE (the kept state),
- * PKVM_BAD_TABLES, PKVM_NO_MEMORY. */
+/* Compares a kept state with what the tables say. The library walks from the roots by frame
+ * numbers, as hardware does: a table word leads on to the page of its frame, and where no page has
+ * that frame the word is malformed. It finds the runs and the tables of each tree, and the owner
+ * rows that follow from them and from the kept pools and hands.
+ *
+ *   layout      what the hypervisor runs on
+ *   kept        the state that it keeps
+ *   pages       its pages of tables, pages_len of them in any order
+ *   roots       the roots of its trees, roots_len of them in any order
+ *   text        written: no more than text_room bytes, and not ended by a 0
+ *   text_len    written: the number of bytes; 0 where no text is told
+ *   refused     written: what of the layout, the state, pages or roots is refused
+ *
+ * Answers:
+ *   PKVM_AGREES        maps, rows and tables are the kept ones, and the maps are sound
+ *   PKVM_DISAGREES     the first `*text_len` bytes of `text` tell the first difference: in a map,
+ *                      in the rows, or in the tables; without one, why the maps aren't sound. Two
+ *                      entries are leaves of a frame in states PKVM_OWNED or PKVM_SHARED_OWNED
+ *                      (`two owners 0x40100: host 0x40100, hyp 0x4040100`), else two are in state
+ *                      PKVM_SHARED_BORROWED (`two borrowers ..`), else one is and none is in
+ *                      PKVM_SHARED_OWNED (`no share 0x40100: hyp 0x4040100`)
+ *   PKVM_BAD_LAYOUT    `refused` says why; in this and all that follow `text` stays
+ *   PKVM_BAD_BEFORE    the kept state is refused, and `refused` says why
+ *   PKVM_BAD_TABLES    `refused` says why
+ *   PKVM_NO_MEMORY     at any point
+ *   PKVM_NO_ROOM       there is a difference, whose text needs `*text_len` bytes */
 int32_t pkvm_audit(const struct pkvm_layout *layout, const struct pkvm_state *kept,
 		   const struct pkvm_page *pages, size_t pages_len, const struct pkvm_root *roots,
 		   size_t roots_len, uint8_t *text, size_t text_room, size_t *text_len,

@@ -1,7 +1,7 @@
 // What C sees of the oracle: `replay FILE` writes a trace's report and ends with its status;
 // `random COUNT` hands random bytes to each function; `judge COUNT` and `predict COUNT` judge and
 // predict one call so many times; `audit COUNT` walks so many trees of 100 tables; `words` writes
-// what some words say.
+// what some words say; `empty` hands in lists of length 0 that are NULL.
 #include "pkvm_oracle.h"
 #include <inttypes.h>
 #include <stdbool.h>
@@ -37,10 +37,12 @@ static uint64_t number(void)
 	}
 }
 
-// A block of just so many bytes, so that a tool that watches memory sees each access behind it. It
-// isn't NULL.
+// A block of just so many bytes, so that a tool that watches memory sees each access behind it. One
+// of none is NULL now and then.
 static void *block(size_t size)
 {
+	if (!size && next() % 2)
+		return NULL;
 	void *made = malloc(size ? size : 1);
 	if (!made)
 		abort();
@@ -782,10 +784,65 @@ static int audit(long count)
 	return 0;
 }
 
+// States of nothing, whose pointers are NULL.
+static int empty(void)
+{
+	struct pkvm_region memory = {PKVM_MEMORY, 0x40000, 0x800};
+	struct pkvm_layout layout = {39, 1, 0x40600, 0x40, &memory, 1};
+	struct pkvm_state none = {0};
+	struct pkvm_call call = {0, {PKVM_SHARE_HYP, {0x1000}}, {.refusal = PKVM_EINVALID}};
+	struct pkvm_refused refused;
+	struct pkvm_room room = {0};
+	struct pkvm_sizes sizes;
+	struct pkvm_reply reply;
+	size_t length = 99;
+	if (pkvm_judge(&layout, &none, &call, &none, NULL, 0, &length, &refused) != PKVM_AGREES ||
+	    length != 0)
+		return 1;
+	call.reply.refusal = 0;
+	if (pkvm_judge(&layout, &none, &call, &none, NULL, 0, &length, &refused) != PKVM_NO_ROOM ||
+	    length != strlen("disagree reply said ok spec invalid"))
+		return 2;
+	call.step.arguments[0] = 0x40100;
+	if (pkvm_predict_reply(&layout, &none, 0, &call.step, &reply, &refused) != 0 ||
+	    reply.refusal != PKVM_ENOPOOL)
+		return 3;
+	if (pkvm_predict(&layout, &none, 0, &call.step, &reply, &room, &sizes, &refused) !=
+		    PKVM_NO_ROOM ||
+	    sizes.runs != 0 || sizes.slots != 64 || sizes.guests != 64 || sizes.cpus != 1)
+		return 4;
+	struct pkvm_slot slots[64];
+	struct pkvm_guest guests[64];
+	struct pkvm_cpu cpu;
+	room = (struct pkvm_room){.slots = slots,
+				  .slots_len = 64,
+				  .guests = guests,
+				  .guests_len = 64,
+				  .cpus = &cpu,
+				  .cpus_len = 1};
+	if (pkvm_predict(&layout, &none, 0, &call.step, &reply, &room, &sizes, &refused) != 0)
+		return 5;
+	if (pkvm_audit(&layout, &none, NULL, 0, NULL, 0, NULL, 0, &length, &refused) !=
+		    PKVM_AGREES ||
+	    length != 0)
+		return 6;
+	layout.regions = NULL;
+	layout.regions_len = 0;
+	if (pkvm_judge(&layout, &none, &call, &none, NULL, 0, &length, &refused) !=
+		    PKVM_BAD_LAYOUT ||
+	    refused.fault != PKVM_FAULT_CARVE_OUTSIDE)
+		return 7;
+	if (pkvm_replay(NULL, 0, NULL, 0, &length) != PKVM_NO_ROOM || length == 0)
+		return 8;
+	return 0;
+}
+
 int main(int argc, char **argv)
 {
 	if (pkvm_version() != PKVM_VERSION || argc < 2)
 		return 9;
+	if (!strcmp(argv[1], "empty"))
+		return empty();
 	if (!strcmp(argv[1], "words"))
 		return words();
 	if (argc < 3)
