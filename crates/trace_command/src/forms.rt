@@ -24,7 +24,7 @@ use clap::{Arg, ArgAction, Command, Error};
 use std::alloc::{AllocError, Global};
 
 /// What `--version` shows.
-const VERSION: &str = "1.0.0 (rattle-kit-13f)";
+const VERSION: &str = "2.1.0 (rattle-kit-13f)";
 
 /// What help shows after the words.
 const HELP: &str =
