@@ -1,15 +1,17 @@
 // What C sees of the oracle: `replay FILE` writes a trace's report and ends with its status;
 // `random COUNT` hands random bytes to each function; `judge COUNT` and `predict COUNT` judge and
 // predict one call so many times; `audit COUNT` walks so many trees of 100 tables; `words` writes
-// what some words say; `empty` hands in lists of length 0 that are NULL.
+// what some words say; `empty` hands in lists of length 0 that are NULL; `threads COUNT` does all
+// of it in four threads at once.
 #include "pkvm_oracle.h"
 #include <inttypes.h>
+#include <pthread.h>
 #include <stdbool.h>
 #include <stdio.h>
 #include <stdlib.h>
 #include <string.h>
 
-static uint64_t seed = 0x9e3779b97f4a7c15u;
+static _Thread_local uint64_t seed = 0x9e3779b97f4a7c15u;
 
 // xorshift
 static uint64_t next(void)
@@ -449,7 +451,7 @@ static int words(void)
 // A share of a page, on a state with a blank table of VMs, so many times: judged, or predicted.
 static int share(bool is_judged, long count)
 {
-	static struct pkvm_frame frames[58], later[56];
+	static _Thread_local struct pkvm_frame frames[58], later[56];
 	for (uint64_t i = 0; i < 58; i++)
 		frames[i] = (struct pkvm_frame){1, 0x40606 + i};
 	memcpy(later, frames + 2, sizeof later);
@@ -483,14 +485,14 @@ static int share(bool is_judged, long count)
 	struct pkvm_refused refused;
 	if (predict(&layout, &before, 0, &call.step, 0))
 		return 2;
-	static struct pkvm_run new_runs[8];
-	static struct pkvm_table new_tables[8];
-	static struct pkvm_frame new_frames[58];
-	static struct pkvm_slot new_slots[64];
-	static struct pkvm_load new_loads[1];
-	static struct pkvm_guest new_guests[64];
-	static struct pkvm_cpu new_cpus[1];
-	static struct pkvm_row new_rows[8];
+	static _Thread_local struct pkvm_run new_runs[8];
+	static _Thread_local struct pkvm_table new_tables[8];
+	static _Thread_local struct pkvm_frame new_frames[58];
+	static _Thread_local struct pkvm_slot new_slots[64];
+	static _Thread_local struct pkvm_load new_loads[1];
+	static _Thread_local struct pkvm_guest new_guests[64];
+	static _Thread_local struct pkvm_cpu new_cpus[1];
+	static _Thread_local struct pkvm_row new_rows[8];
 	struct pkvm_room room = {new_runs,  8, new_tables, 8,  new_frames, 58, new_slots, 64,
 				 new_loads, 1, new_guests, 64, new_cpus,   1,  new_rows,  8};
 	struct pkvm_sizes sizes;
@@ -537,9 +539,11 @@ static void blank(struct kept *k)
 // state that is kept. Then what is told when words, pages, roots and lists are wrong.
 static int shared_tables(void)
 {
-	static uint64_t words[8][512];
-	static struct kept k;
-	static struct pkvm_frame frames[56];
+	static _Thread_local uint64_t(*words)[512];
+	if (!words && !(words = calloc(8, sizeof *words)))
+		abort();
+	static _Thread_local struct kept k;
+	static _Thread_local struct pkvm_frame frames[56];
 	blank(&k);
 	for (uint64_t i = 0; i < 56; i++)
 		frames[i] = (struct pkvm_frame){1, 0x40608 + i};
@@ -673,7 +677,7 @@ static int shared_tables(void)
 // kind.
 static int random_tables(long count)
 {
-	static struct kept k;
+	static _Thread_local struct kept k;
 	blank(&k);
 	long walked = 0, met[32] = {0};
 	struct pkvm_region regions[] = {{0, 0x40000, 0x800}};
@@ -743,10 +747,12 @@ static int random_tables(long count)
 // A tree of 100 tables, whose last 98 have a leaf in each word, walked so many times.
 static int audit(long count)
 {
-	static uint64_t words[100][512];
-	static struct kept k;
-	static struct pkvm_page pages[100];
-	static struct pkvm_table tables[100];
+	static _Thread_local uint64_t(*words)[512];
+	if (!words && !(words = calloc(100, sizeof *words)))
+		abort();
+	static _Thread_local struct kept k;
+	static _Thread_local struct pkvm_page pages[100];
+	static _Thread_local struct pkvm_table tables[100];
 	blank(&k);
 	for (uint64_t t = 0; t < 100; t++) {
 		pages[t] = (struct pkvm_page){0x40600 + t, words[t], 512};
@@ -837,6 +843,54 @@ static int empty(void)
 	return 0;
 }
 
+// Random byte strings for each function. 0, or what went wrong.
+static int random_all(long count)
+{
+	int wrong = random_words(count);
+	if (!wrong && (wrong = random_traces(count)))
+		wrong += 10;
+	if (!wrong && (wrong = random_calls(count)))
+		wrong += 20;
+	if (!wrong && (wrong = shared_tables()))
+		wrong += 30;
+	if (!wrong && (wrong = random_tables(count)))
+		wrong += 50;
+	return wrong;
+}
+
+struct worker {
+	pthread_t thread;
+	uint64_t seed;
+	long count;
+	int wrong;
+};
+
+static void *works(void *of)
+{
+	struct worker *worker = of;
+	seed = worker->seed;
+	worker->wrong = random_all(worker->count) || share(true, 3) || share(false, 3) || audit(1);
+	return NULL;
+}
+
+// Four threads at once, each with numbers of its own.
+static int threads(long count)
+{
+	struct worker workers[4];
+	int wrong = 0;
+	for (uint64_t i = 0; i < 4; i++) {
+		workers[i] = (struct worker){.seed = 0x9e3779b97f4a7c15u + i, .count = count};
+		if (pthread_create(&workers[i].thread, NULL, works, &workers[i]))
+			return 9;
+	}
+	for (int i = 0; i < 4; i++) {
+		if (pthread_join(workers[i].thread, NULL))
+			return 9;
+		wrong |= workers[i].wrong;
+	}
+	return wrong;
+}
+
 int main(int argc, char **argv)
 {
 	if (pkvm_version() != PKVM_VERSION || argc < 2)
@@ -854,14 +908,7 @@ int main(int argc, char **argv)
 		return share(argv[1][0] == 'j', count);
 	if (!strcmp(argv[1], "audit"))
 		return audit(count);
-	int wrong = random_words(count);
-	if (!wrong && (wrong = random_traces(count)))
-		wrong += 10;
-	if (!wrong && (wrong = random_calls(count)))
-		wrong += 20;
-	if (!wrong && (wrong = shared_tables()))
-		wrong += 30;
-	if (!wrong && (wrong = random_tables(count)))
-		wrong += 50;
-	return wrong;
+	if (!strcmp(argv[1], "threads"))
+		return threads(count);
+	return random_all(count);
 }

@@ -1,0 +1,291 @@
+// Each function of the library with arbitrary structs, for libFuzzer: the first byte of an input
+// chooses the function, and the rest are the numbers of what it is handed. Each list is a block of
+// just its length, so that AddressSanitizer sees what is read or written behind it. What an answer
+// promises of outputs is looked at too.
+#include "pkvm_oracle.h"
+#include <stdlib.h>
+#include <string.h>
+
+int LLVMFuzzerTestOneInput(const uint8_t *data, size_t size);
+
+static const uint8_t *input;
+static size_t left;
+
+static uint8_t byte(void)
+{
+	return left ? (left--, *input++) : 0;
+}
+
+static uint64_t wide(void)
+{
+	uint64_t number = 0;
+
+	for (int i = 0; i < 8; i++)
+		number = number << 8 | byte();
+	return number;
+}
+
+// A number, mostly one that stands for something.
+static uint64_t number(void)
+{
+	static const uint64_t some[] = {4,	    7,	       8,	   22,	       39,
+					48,	    63,	       64,	   66,	       512,
+					0x9000,	    0x40000,   0x40600,	   0x4040100,  0x4040600,
+					1ull << 26, 1u << 30,  1ull << 36, 1ull << 61, 1ull << 62,
+					1ull << 63, UINT64_MAX};
+	uint8_t how = byte();
+
+	if (how < 96)
+		return how % 6;
+	if (how < 160)
+		return 0x40000 + (how % 8 ? byte() : 0x600 + byte() % 64);
+	if (how < 192)
+		return 0x4040000 + byte() * 8u;
+	if (how < 224)
+		return some[how % (sizeof some / sizeof *some)];
+	return how < 240 ? byte() : wide();
+}
+
+static void *block(size_t count, size_t of)
+{
+	void *made = count ? malloc(count * of) : NULL;
+
+	if (count && !made)
+		abort();
+	return made;
+}
+
+// A list whose members have so many numbers.
+static void *list(size_t *count, size_t most, size_t of)
+{
+	*count = byte() % (most + 1);
+	uint64_t *made = block(*count, of);
+
+	for (size_t i = 0; i < *count * of / sizeof *made; i++)
+		made[i] = number();
+	return made;
+}
+
+static struct pkvm_region *regions;
+
+static struct pkvm_layout layout(void)
+{
+	struct pkvm_layout made = {39, 2, 0x40600, 0x40, NULL, 2};
+	uint8_t how = byte();
+
+	if (how < 128) {
+		regions = block(2, sizeof *regions);
+		regions[0] = (struct pkvm_region){PKVM_MEMORY, 0x40000, 0x800};
+		regions[1] = (struct pkvm_region){PKVM_REGISTERS, 0x9000, 0x10};
+		made.address_bits = how % 2 ? 48 : 39;
+	} else {
+		made.address_bits = number();
+		made.cpus = number();
+		made.carve_first = number();
+		made.carve_count = number();
+		regions = list(&made.regions_len, 18, sizeof *regions);
+	}
+	made.regions = regions;
+	return made;
+}
+
+static struct pkvm_state state(void)
+{
+	struct pkvm_state made;
+
+	made.runs = list(&made.runs_len, 8, sizeof *made.runs);
+	made.tables = list(&made.tables_len, 8, sizeof *made.tables);
+	made.frames = list(&made.frames_len, 16, sizeof *made.frames);
+	made.slots = list(&made.slots_len, 4, sizeof *made.slots);
+	made.loads = list(&made.loads_len, 4, sizeof *made.loads);
+	made.guests = list(&made.guests_len, 4, sizeof *made.guests);
+	made.cpus = list(&made.cpus_len, 2, sizeof *made.cpus);
+	made.rows = list(&made.rows_len, 8, sizeof *made.rows);
+	return made;
+}
+
+static void clear(struct pkvm_state *state)
+{
+	free((void *)state->runs);
+	free((void *)state->tables);
+	free((void *)state->frames);
+	free((void *)state->slots);
+	free((void *)state->loads);
+	free((void *)state->guests);
+	free((void *)state->cpus);
+	free((void *)state->rows);
+}
+
+static struct pkvm_step step(void)
+{
+	struct pkvm_step made = {.call = byte() % 31};
+
+	for (int i = 0; i < 4; i++)
+		made.arguments[i] = number();
+	return made;
+}
+
+static void must(int holds)
+{
+	if (!holds)
+		abort();
+}
+
+static void words(void)
+{
+	uint64_t level = number() % 6, word = wide(), again = 1;
+	struct pkvm_word says = {9, 9, 9, 9, 9, 9};
+	int32_t status = pkvm_decode(level, word, &says);
+
+	must(status == (level <= 3 ? 0 : PKVM_NO_LEVEL));
+	must(!status || says.says == 9);
+	if (!status && says.says != PKVM_MALFORMED)
+		must(pkvm_encode(level, &says, &again) == 0 && again == word);
+	says = (struct pkvm_word){number(), number(), number(), number(), number(), number()};
+	again = 77;
+	status = pkvm_encode(level, &says, &again);
+	must(status <= 0 && status >= PKVM_NO_WORD && (!status || again == 77));
+	if (!status) {
+		struct pkvm_word read;
+		must(pkvm_decode(level, again, &read) == 0 && read.says == says.says);
+	}
+}
+
+static void traces(void)
+{
+	size_t room = byte() * 8u, written = 0, length = left;
+	uint8_t *trace = block(length, 1), *report = block(room, 1);
+
+	for (size_t i = 0; i < length; i++)
+		trace[i] = byte();
+	int32_t status = pkvm_replay(trace, length, report, room, &written);
+	must((status >= 0 && status <= PKVM_FAULT) || status == PKVM_NO_ROOM ||
+	     status == PKVM_NO_MEMORY);
+	must((status == PKVM_NO_ROOM) == (written > room));
+	free(trace);
+	free(report);
+}
+
+// What is told of a text.
+static void must_fit(int32_t status, size_t length, size_t room, const struct pkvm_refused *refused)
+{
+	must(status <= PKVM_DISAGREES && status >= PKVM_BAD_TABLES);
+	must(status != PKVM_DISAGREES || (length > 0 && length <= room));
+	must(status != PKVM_NO_ROOM || length > room);
+	must(status == PKVM_DISAGREES || status == PKVM_NO_ROOM || length == 0);
+	must((status == PKVM_BAD_LAYOUT || status == PKVM_BAD_BEFORE || status == PKVM_BAD_AFTER ||
+	      status == PKVM_BAD_TABLES) == (refused->fault != PKVM_FAULT_NONE));
+	must(refused->fault <= PKVM_FAULT_REACHED_TWICE && refused->list <= 65);
+}
+
+static void judge(void)
+{
+	struct pkvm_layout on = layout();
+	struct pkvm_call call = {byte() % 3, step(), {.refusal = byte() % 2 ? 0 : number()}};
+
+	if (!call.reply.refusal) {
+		uint64_t *numbers = &call.reply.gives;
+		for (size_t i = 0; i < sizeof call.reply / sizeof *numbers - 1; i++)
+			numbers[i] = number();
+	}
+	int is_other = byte() % 2;
+	struct pkvm_state before = state(), after = is_other ? state() : before;
+	size_t room = byte(), length = 99;
+	uint8_t *text = block(room, 1);
+	struct pkvm_refused refused;
+	int32_t status = pkvm_judge(&on, &before, &call, &after, text, room, &length, &refused);
+
+	must_fit(status, length, room, &refused);
+	if (is_other)
+		clear(&after);
+	clear(&before);
+	free(text);
+	free(regions);
+}
+
+// The state that is predicted agrees, and where it can be handed in, it can be predicted from.
+static void predict(void)
+{
+	struct pkvm_layout on = layout();
+	struct pkvm_step made = step();
+	uint64_t cpu = byte() % 3;
+	struct pkvm_state before = state(), after;
+	struct pkvm_room room = {0};
+	struct pkvm_reply reply = {.refusal = 77}, told = {.refusal = 77};
+	struct pkvm_sizes sizes;
+	struct pkvm_refused refused, other;
+	int32_t status = pkvm_predict(&on, &before, cpu, &made, &reply, &room, &sizes, &refused);
+	int32_t alone = pkvm_predict_reply(&on, &before, cpu, &made, &told, &other);
+
+	must(status == (alone ? alone : PKVM_NO_ROOM) && reply.refusal == 77);
+	must(refused.fault == other.fault && (alone == 0 || told.refusal == 77));
+	if (!alone) {
+		room.runs = block(room.runs_len = sizes.runs, sizeof *room.runs);
+		room.tables = block(room.tables_len = sizes.tables, sizeof *room.tables);
+		room.frames = block(room.frames_len = sizes.frames, sizeof *room.frames);
+		room.slots = block(room.slots_len = sizes.slots, sizeof *room.slots);
+		room.loads = block(room.loads_len = sizes.loads, sizeof *room.loads);
+		room.guests = block(room.guests_len = sizes.guests, sizeof *room.guests);
+		room.cpus = block(room.cpus_len = sizes.cpus, sizeof *room.cpus);
+		room.rows = block(room.rows_len = sizes.rows, sizeof *room.rows);
+		must(pkvm_predict(&on, &before, cpu, &made, &reply, &room, &sizes, &refused) == 0);
+		must(memcmp(&reply, &told, sizeof reply) == 0);
+		after = (struct pkvm_state){
+			room.runs,   room.runs_len,   room.tables, room.tables_len,
+			room.frames, room.frames_len, room.slots,  room.slots_len,
+			room.loads,  room.loads_len,  room.guests, room.guests_len,
+			room.cpus,   room.cpus_len,   room.rows,   room.rows_len};
+		struct pkvm_call call = {cpu, made, reply};
+		size_t length = 0;
+		status = pkvm_judge(&on, &before, &call, &after, NULL, 0, &length, &refused);
+		must(status == PKVM_AGREES || status == PKVM_BAD_AFTER);
+		clear(&after);
+	}
+	clear(&before);
+	free(regions);
+}
+
+static void audit(void)
+{
+	struct pkvm_layout on = layout();
+	struct pkvm_state kept = state();
+	size_t pages_len = byte() % 6, roots_len, room = byte(), length = 99;
+	struct pkvm_page *pages = block(pages_len, sizeof *pages);
+	struct pkvm_root *roots = list(&roots_len, 4, sizeof *roots);
+	uint8_t *text = block(room, 1);
+	struct pkvm_refused refused;
+
+	for (size_t i = 0; i < pages_len; i++) {
+		size_t words_len = byte() % 32 ? 512 : byte();
+		uint64_t *of = block(words_len, sizeof *of);
+		if (words_len)
+			memset(of, 0, words_len * sizeof *of);
+		for (size_t n = byte() % 8; n-- && words_len;) {
+			size_t at = byte() * 2u % words_len;
+			of[at] = byte() % 2 ? (0x40600ull + byte() % 8) << 12 | 3 : wide();
+		}
+		pages[i] = (struct pkvm_page){byte() % 8 ? 0x40600 + i : number(), of, words_len};
+	}
+	for (size_t i = 0; i < roots_len && byte() % 4; i++)
+		roots[i] = (struct pkvm_root){i, 0x40600 + byte() % 6};
+	int32_t status = pkvm_audit(&on, &kept, pages, pages_len, roots, roots_len, text, room,
+				    &length, &refused);
+	must_fit(status, length, room, &refused);
+	for (size_t i = 0; i < pages_len; i++)
+		free((void *)pages[i].words);
+	free(pages);
+	free(roots);
+	free(text);
+	clear(&kept);
+	free(regions);
+}
+
+int LLVMFuzzerTestOneInput(const uint8_t *data, size_t size)
+{
+	static void (*const each[])(void) = {words, traces, judge, predict, audit};
+
+	input = data;
+	left = size;
+	each[byte() % (sizeof each / sizeof *each)]();
+	return 0;
+}
