@@ -12,11 +12,17 @@
 u64 shim_parange;
 bool shim_is_up;
 char *shim_image, *shim_percpu;
-struct kvm_host_data kvm_host_data;
-struct kvm_nvhe_init_params kvm_init_params;
-unsigned long kvm_hyp_vector;
+_Thread_local unsigned int shim_cpu;
+struct kvm_host_data kvm_host_data[SHIM_CPUS];
+struct kvm_nvhe_init_params kvm_init_params[SHIM_CPUS];
+unsigned long kvm_hyp_vector[SHIM_CPUS];
 
 const bool linux_has_guests = LINUX_HAS_GUESTS;
+
+void linux_cpu(uint64_t cpu)
+{
+	shim_cpu = (unsigned int)cpu;
+}
 
 int kvm_check_pvm_sysreg_table(void)
 {
@@ -130,19 +136,22 @@ void linux_boot(void)
 {
 	u32 va_bits = (u32)machine.layout.address_bits;
 	int file = map_memory(), ret, how;
-	unsigned long percpu;
+	unsigned long percpu[SHIM_CPUS];
 
 	shim_parange = va_bits == 48 ? ID_AA64MMFR0_EL1_PARANGE_48 : ID_AA64MMFR0_EL1_PARANGE_36;
 	shim_image = va_of(machine.image);
 	shim_percpu = va_of(machine.percpu);
-	kvm_init_params.stack_pa = machine.stack << PAGE_SHIFT;
-	percpu = (unsigned long)shim_percpu;
-	hyp_nr_cpus = 1;
+	for (u64 cpu = 0; cpu < machine.cpus; cpu++) {
+		kvm_init_params[cpu].stack_pa = (machine.stack + cpu) << PAGE_SHIFT;
+		percpu[cpu] = (unsigned long)shim_percpu +
+			      cpu * (unsigned long)(__per_cpu_end - __per_cpu_start);
+	}
+	hyp_nr_cpus = machine.cpus;
 	hyp_spin_lock_init(&pkvm_pgd_lock);
 	ret = divide_memory_pool(va_of(machine.pool), machine.pool_count << PAGE_SHIFT);
 	if (!ret)
 		ret = recreate_hyp_mappings(machine.pool << PAGE_SHIFT,
-					    machine.pool_count << PAGE_SHIFT, &percpu, va_bits);
+					    machine.pool_count << PAGE_SHIFT, percpu, va_bits);
 	if (ret)
 		refuse("Linux doesn't boot: error %d", -ret);
 	map_vmemmap(file);
@@ -155,7 +164,7 @@ void linux_boot(void)
 	if (!how)
 		__pkvm_init_finalise();
 	side_is_in_call = false;
-	ret = (int)cpu_reg(&kvm_host_data.host_ctxt, 1);
+	ret = (int)cpu_reg(host_data_ptr(host_ctxt), 1);
 	if (how != 1 || ret)
 		refuse("Linux doesn't boot: %s", how != 1 ? shim_where : strerror(-ret));
 	shim_is_up = true;

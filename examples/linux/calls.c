@@ -8,11 +8,11 @@
 #include <stdio.h>
 #include <stdlib.h>
 
-u64 shim_fault;
-bool shim_is_injected;
-char shim_where[96];
-jmp_buf side_back;
-bool side_is_in_call;
+_Thread_local u64 shim_fault;
+_Thread_local bool shim_is_injected;
+_Thread_local char shim_where[96];
+_Thread_local jmp_buf side_back;
+_Thread_local bool side_is_in_call;
 
 /* --- How a call ends --- */
 
@@ -45,12 +45,69 @@ static void catch_faults(void)
 	sigaction(SIGBUS, &action, NULL);
 }
 
-static void let_go_of(hyp_spinlock_t *lock)
+/* --- Locks --- */
+
+enum { MOST_HELD = 8 };
+struct held {
+	hyp_spinlock_t *lock;
+	bool is_taken, is_told; /* each but where a bug is planted */
+};
+static _Thread_local struct held held[MOST_HELD];
+static _Thread_local unsigned int held_len;
+
+bool shim_has(const hyp_spinlock_t *lock)
 {
-	lock->held = false;
+	for (unsigned int i = 0; i < held_len; i++)
+		if (held[i].lock == lock)
+			return true;
+	return false;
 }
 
-static void let_go_of_all(void);
+/* The tree that the lock guards: that of a pool, or of the table of VMs, guards none. */
+static bool is_tree_of(const hyp_spinlock_t *lock, uint64_t *tree);
+
+static void note(struct held it)
+{
+	uint64_t tree;
+
+	BUG_ON(held_len == MOST_HELD);
+	held[held_len++] = it;
+	if (shim_is_up && it.is_told && is_tree_of(it.lock, &tree))
+		tree_taken(tree);
+}
+
+void shim_take(hyp_spinlock_t *lock)
+{
+	pthread_mutex_lock(&lock->lock);
+	note((struct held){lock, true, true});
+}
+
+void shim_leave_free(hyp_spinlock_t *lock, bool is_told)
+{
+	note((struct held){lock, false, is_told});
+}
+
+void shim_let_go(hyp_spinlock_t *lock)
+{
+	unsigned int i = 0;
+	uint64_t tree;
+
+	while (held[i].lock != lock)
+		i++;
+	if (shim_is_up && held[i].is_told && is_tree_of(lock, &tree))
+		tree_let_go(tree);
+	if (held[i].is_taken)
+		pthread_mutex_unlock(&lock->lock);
+	held[i] = held[--held_len];
+}
+
+static void let_go_of_all(void)
+{
+	while (held_len)
+		shim_let_go(held[held_len - 1].lock);
+}
+
+/* --- A call --- */
 
 static struct ended ended_with(int result)
 {
@@ -94,17 +151,35 @@ bool linux_is_text(uint64_t frame)
 	return frame >= text >> PAGE_SHIFT && frame < end >> PAGE_SHIFT;
 }
 
-struct linux_page linux_page(uint64_t frame)
+const uint64_t *linux_table(uint64_t frame)
 {
-	struct hyp_page *page = hyp_phys_to_page(frame << PAGE_SHIFT);
-	struct linux_page it = {.pins = page->refcount};
+	return __hyp_va(frame << PAGE_SHIFT);
+}
 
+unsigned int linux_pins(uint64_t frame)
+{
+	return hyp_phys_to_page(frame << PAGE_SHIFT)->refcount;
+}
+
+void linux_pages(uint64_t tree, struct linux_page *pages, size_t len)
+{
 #if LINUX_HAS_GUESTS
-	it.host = get_host_state(page);
-	it.hyp = get_hyp_state(page);
-	it.borrowers = page->host_share_guest_count;
+	for (size_t r = 0, i = 0; r < machine.regions_len; r++) {
+		const struct pkvm_region *it = &machine.regions[r];
+		struct hyp_page *page = hyp_phys_to_page(it->first << PAGE_SHIFT);
+
+		for (u64 k = 0; !it->kind && k < it->count && i < len; k++, i++, page++) {
+			if (tree == HYP)
+				pages[i] = (struct linux_page){.hyp = get_hyp_state(page)};
+			else
+				pages[i] = (struct linux_page){
+					.host = get_host_state(page),
+					.borrowers = page->host_share_guest_count};
+		}
+	}
+#else
+	(void)tree, (void)pages, (void)len;
 #endif
-	return it;
 }
 
 static size_t free_of(struct hyp_pool *pool, uint64_t *frames, size_t room)
@@ -136,12 +211,10 @@ static struct ended abort_of(uint64_t page)
 
 #if !LINUX_HAS_GUESTS
 
-static void let_go_of_all(void)
+static bool is_tree_of(const hyp_spinlock_t *lock, uint64_t *tree)
 {
-	let_go_of(&host_mmu.lock);
-	let_go_of(&pkvm_pgd_lock);
-	let_go_of(&host_s2_pool.lock);
-	let_go_of(&side_hyp_pool()->lock);
+	*tree = lock == &host_mmu.lock ? HOST : HYP;
+	return lock == &host_mmu.lock || lock == &pkvm_pgd_lock;
 }
 
 struct linux_tree linux_tree(uint64_t tree)
@@ -151,14 +224,9 @@ struct linux_tree linux_tree(uint64_t tree)
 	return (struct linux_tree){__hyp_pa(it->pgd) >> PAGE_SHIFT, (uint64_t)it->start_level};
 }
 
-size_t linux_free_frames(uint64_t pool, uint64_t *frames, size_t room)
+size_t linux_free_frames(uint64_t tree, uint64_t *frames, size_t room)
 {
-	size_t len;
-
-	if (pool != HYP)
-		return 0;
-	len = free_of(&host_s2_pool, frames, room);
-	return len + free_of(side_hyp_pool(), frames + len, room - len);
+	return free_of(tree == HOST ? &host_s2_pool : side_hyp_pool(), frames, room);
 }
 
 struct ended linux_call(const struct pkvm_step *step, uint64_t slot)
@@ -236,24 +304,20 @@ struct pkvm_hyp_vm *get_vm_by_handle(pkvm_handle_t handle)
 	return slot < SLOTS ? vm_of[slot] : NULL;
 }
 
-static void let_go_of_all(void)
+static bool is_tree_of(const hyp_spinlock_t *lock, uint64_t *tree)
 {
-	let_go_of(&host_mmu.lock);
-	let_go_of(&pkvm_pgd_lock);
-	let_go_of(&host_s2_pool.lock);
-	let_go_of(&side_hyp_pool()->lock);
-	let_go_of(&vm_table_lock);
-	for (int slot = 0; slot < SLOTS; slot++) {
-		if (!vm_of[slot])
-			continue;
-		let_go_of(&vm_of[slot]->lock);
-		let_go_of(&vm_of[slot]->pool.lock);
-	}
+	*tree = lock == &host_mmu.lock ? HOST : HYP;
+	if (lock == &host_mmu.lock || lock == &pkvm_pgd_lock)
+		return true;
+	for (*tree = GUEST; *tree < TREES; ++*tree)
+		if (vm_of[*tree - GUEST] && lock == &vm_of[*tree - GUEST]->lock)
+			return true;
+	return false;
 }
 
 struct linux_tree linux_tree(uint64_t tree)
 {
-	struct kvm_pgtable *it = tree == HOST  ? &host_mmu.pgt
+	struct kvm_pgtable *it = tree == HOST ? &host_mmu.pgt
 				 : tree == HYP ? &pkvm_pgtable
 					       : &vm_of[tree - GUEST]->pgt;
 
@@ -265,20 +329,18 @@ static struct kvm_hyp_memcache *list_of(uint64_t slot)
 	return &vcpu_of[slot].vcpu.arch.pkvm_memcache;
 }
 
-size_t linux_free_frames(uint64_t pool, uint64_t *frames, size_t room)
+size_t linux_free_frames(uint64_t tree, uint64_t *frames, size_t room)
 {
 	size_t len = 0;
 
-	if (pool == HYP) {
-		len = free_of(&host_s2_pool, frames, room);
-		return len + free_of(side_hyp_pool(), frames + len, room - len);
-	}
-	if (pool < GUEST || !vm_of[pool - GUEST])
+	if (tree < GUEST)
+		return free_of(tree == HOST ? &host_s2_pool : side_hyp_pool(), frames, room);
+	if (!vm_of[tree - GUEST])
 		return 0;
-	len = free_of(&vm_of[pool - GUEST]->pool, frames, room);
-	phys_addr_t at = list_of(pool - GUEST)->head;
+	len = free_of(&vm_of[tree - GUEST]->pool, frames, room);
+	phys_addr_t at = list_of(tree - GUEST)->head;
 
-	for (unsigned long n = list_of(pool - GUEST)->nr_pages; n && len < room; n--) {
+	for (unsigned long n = list_of(tree - GUEST)->nr_pages; n && len < room; n--) {
 		frames[len++] = at >> PAGE_SHIFT;
 		at = *(phys_addr_t *)__hyp_va(at);
 	}

@@ -17,6 +17,7 @@ enum {
 	HYP = 1,
 	GUEST = 2,
 	SLOTS = 64,
+	TREES = GUEST + SLOTS,
 	MAX_CPUS = 64,
 	REGIONS = 16
 };
@@ -26,14 +27,19 @@ enum {
  */
 #define LINEAR 0x4000000ull
 
+/* A CPU is a thread: what is there once for each. */
+#define PER_CPU _Thread_local
+
 /* --- machine.c: what it runs on --- */
 
 struct machine {
 	struct pkvm_region regions[REGIONS]; /* the last is memory for Linux itself */
 	size_t regions_len;
 	struct pkvm_layout layout;
-	/* Frames of Linux itself: its image, its CPU's data and stack, EL2's pool, and pages that a
-	 * guest's list is filled up with.
+	uint64_t linear;  /* EL2's own page of frame 0 */
+	uint64_t cpus;	  /* that run it at once */
+	/* Frames of Linux itself: its image, its CPUs' data and stacks, EL2's pool, and pages that
+	 * a guest's list is filled up with.
 	 */
 	uint64_t image, percpu, stack;
 	uint64_t pool, pool_count;
@@ -66,7 +72,6 @@ enum { NO_PAGE = 3 };
 struct linux_page {
 	unsigned int host, hyp;
 	unsigned int borrowers; /* pages of plain guests that have it */
-	unsigned int pins;	/* its count of references */
 };
 
 /* How a call of Linux ended. */
@@ -78,12 +83,20 @@ struct ended {
 
 extern const bool linux_has_guests;
 void linux_boot(void);
+/* This thread stands for a CPU from now on. */
+void linux_cpu(uint64_t cpu);
 /* Frames that EL2 needs for its pools. */
 uint64_t linux_pool_pages(void);
 bool linux_is_text(uint64_t frame);
 struct linux_tree linux_tree(uint64_t tree);
-size_t linux_free_frames(uint64_t pool, uint64_t *frames, size_t room);
-struct linux_page linux_page(uint64_t frame);
+/* A table's words. */
+const uint64_t *linux_table(uint64_t frame);
+/* Free frames of the pools of a tree's tables. */
+size_t linux_free_frames(uint64_t tree, uint64_t *frames, size_t room);
+/* The frame's count of references. */
+unsigned int linux_pins(uint64_t frame);
+/* Of each page of memory what the tree's lock guards. */
+void linux_pages(uint64_t tree, struct linux_page *pages, size_t len);
 
 /* Makes a call. `slot` has the guest where the call is on one. */
 struct ended linux_call(const struct pkvm_step *step, uint64_t slot);
@@ -113,7 +126,12 @@ struct pkvm_word said_by_guest(uint64_t level, uint64_t word);
 struct pkvm_word leaf(uint64_t frame, uint64_t rights, uint64_t kind, uint64_t state);
 bool same_word(const struct pkvm_word *a, const struct pkvm_word *b);
 /* The word of the k-th page of a run. */
-struct pkvm_word word_after(struct pkvm_word word, uint64_t k);
+static inline struct pkvm_word word_after(struct pkvm_word word, uint64_t k)
+{
+	if (word.says == PKVM_LEAF)
+		word.frame += k;
+	return word;
+}
 
 /* --- vms.c: the table of VMs, which the harness keeps --- */
 
@@ -135,6 +153,24 @@ void vms_sweep(uint64_t slot);
 
 /* --- record.c: a state as the library wants it --- */
 
+/* What one of Linux' locks guards: the host's, the hypervisor's, a VM's. */
+struct part {
+	uint64_t tree;
+	struct pkvm_run *runs; /* as the words say; of EL2 those of its linear map */
+	size_t runs_len, runs_room;
+	struct pkvm_table *tables;
+	size_t tables_len, tables_room;
+	uint64_t *free;
+	size_t free_len, free_room;
+	struct linux_page *pages; /* by memory index, where hyp_vmemmap has states */
+	size_t pages_len;
+	unsigned int users;
+};
+void record_part(struct part *to, uint64_t tree);
+/* Apart from free frames. */
+bool same_part(const struct part *a, const struct part *b);
+void free_part(struct part *it);
+
 struct recorded {
 	struct pkvm_run *runs;
 	size_t runs_len, runs_room;
@@ -150,6 +186,9 @@ struct recorded {
 	char misfit[160]; /* where tables and hyp_vmemmap don't fit each other, or nothing */
 	struct pkvm_state state;
 };
+/* The state that parts are together: by tree, NULL where there is no such guest. */
+void join(struct recorded *to, struct part *const parts[TREES]);
+/* The state now. */
 void record(struct recorded *to);
 /* Adds a run, joined to the last one where it goes on. */
 void add_run(struct recorded *to, uint64_t tree, uint64_t page, uint64_t count,
@@ -171,6 +210,8 @@ struct made {
  * anew.
  */
 struct made make_step(uint64_t cpu, const struct pkvm_step *step, struct recorded *before);
+/* A call of Linux, which has it: `slot` has the guest where the call is on one. */
+struct made make_on_linux(const struct pkvm_step *step, uint64_t slot);
 /* To be called between two steps, before a state is recorded. */
 void make_ready(void);
 
@@ -202,21 +243,33 @@ struct call {
 extern const struct call calls[30];
 void text_of_step(const struct pkvm_step *step, char *text, size_t room);
 const char *refusal_name(uint64_t refusal);
+/* The model's name of an error: docs/LINUX.md has this table. A number that isn't paired stays a
+ * number.
+ */
+uint64_t refusal_of(const struct pkvm_step *step, int error);
 void text_of_reply(const struct made *made, char *text, size_t room);
 void text_of_word(const struct pkvm_word *word, char *text, size_t room);
 void text_of_row(const struct pkvm_owner *row, char *text, size_t room);
+/* A line that tells a difference. */
+void tell(uint64_t number, uint64_t cpu, const struct pkvm_step *step, const struct made *made,
+	  const struct judgement *judgement);
 void count_step(const struct pkvm_step *step, const struct made *made,
 		const struct judgement *judgement);
 void count_other(void);
 /* Writes the summary. Whether no difference is unknown. */
 bool print_summary(FILE *to);
 
-/* --- trace.c, random.c: where steps come from --- */
+/* --- trace.c, random.c, cpus.c: where steps come from --- */
 
 int run_trace(const char *path);
 /* Until so many calls are made by Linux; or, where `is_first`, until one differs that isn't known.
  */
 int run_random(uint64_t seed, uint64_t steps, uint64_t hostile, bool is_printed, bool is_first);
+/* On several CPUs at once. */
+int run_cpus(uint64_t cpus, uint64_t seed, uint64_t steps, uint64_t hostile, bool is_first);
+/* Linux took the lock of a tree on this CPU; it is about to let it go. */
+void tree_taken(uint64_t tree);
+void tree_let_go(uint64_t tree);
 
 /* Ends the program with status 2 and a line on standard error. */
 void refuse(const char *format, ...) __attribute__((noreturn, format(printf, 1, 2)));

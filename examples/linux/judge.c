@@ -10,8 +10,8 @@
 
 /* --- What the model foretells --- */
 
-static struct pkvm_room room;
-static struct pkvm_sizes sizes;
+static PER_CPU struct pkvm_room room;
+static PER_CPU struct pkvm_sizes sizes;
 
 static void *grown(void *list, uint64_t wanted, size_t *len, size_t size)
 {
@@ -27,9 +27,8 @@ static void *grown(void *list, uint64_t wanted, size_t *len, size_t size)
 #define GROWN(list) room.list = grown(room.list, sizes.list, &room.list##_len, sizeof(*room.list))
 
 int32_t foretold(const struct pkvm_state *before, uint64_t cpu, const struct pkvm_step *step,
-		 struct pkvm_reply *reply, struct pkvm_state *after)
+		 struct pkvm_reply *reply, struct pkvm_state *after, struct pkvm_refused *why)
 {
-	struct pkvm_refused why = {0};
 	int32_t status;
 
 	do {
@@ -41,8 +40,8 @@ int32_t foretold(const struct pkvm_state *before, uint64_t cpu, const struct pkv
 		GROWN(guests);
 		GROWN(cpus);
 		GROWN(rows);
-		status = pkvm_predict(&machine.layout, before, cpu, step, reply, &room, &sizes,
-				      &why);
+		status =
+			pkvm_predict(&machine.layout, before, cpu, step, reply, &room, &sizes, why);
 	} while (status == PKVM_NO_ROOM);
 	*after = (struct pkvm_state){
 		.runs = room.runs,
@@ -70,9 +69,10 @@ int32_t foretold(const struct pkvm_state *before, uint64_t cpu, const struct pkv
 const struct pkvm_state *predicted_state(const struct recorded *state, uint64_t cpu,
 					 const struct pkvm_step *step, struct pkvm_reply *reply)
 {
-	static struct pkvm_state after;
+	static PER_CPU struct pkvm_state after;
+	struct pkvm_refused why;
 
-	if (foretold(&state->state, cpu, step, reply, &after))
+	if (foretold(&state->state, cpu, step, reply, &after, &why))
 		refuse("the library doesn't foretell a step of the harness");
 	return &after;
 }
@@ -168,9 +168,9 @@ static uint64_t end_of_region(uint64_t page)
 static const struct pkvm_state *chosen(const struct pkvm_state *linux_has,
 				       const struct pkvm_state *model_has)
 {
-	static struct recorded to;
-	static struct runs theirs, ours;
-	static struct pkvm_state state;
+	static PER_CPU struct recorded to;
+	static PER_CPU struct runs theirs, ours;
+	static PER_CPU struct pkvm_state state;
 	size_t i = 0, k = 0;
 	uint64_t page = 0;
 
@@ -220,7 +220,7 @@ int32_t judged(const struct pkvm_state *before, uint64_t cpu, const struct pkvm_
 	struct pkvm_state model_has;
 	struct pkvm_refused why = {0};
 	size_t len = 0;
-	int32_t status = foretold(before, cpu, step, &spec, &model_has);
+	int32_t status = foretold(before, cpu, step, &spec, &model_has, &why);
 
 	if (!status)
 		status = pkvm_judge(&machine.layout, before, &call, chosen(after, &model_has),

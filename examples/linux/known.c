@@ -43,7 +43,7 @@ struct copy {
 static void with_words(struct copy *copy, const struct pkvm_state *from, uint64_t tree,
 		       uint64_t page, uint64_t count, struct pkvm_word word)
 {
-	static struct recorded next;
+	static PER_CPU struct recorded next;
 	struct recorded last = copy->to;
 	bool is_done = !count || word.says == PKVM_UNMAPPED;
 
@@ -207,19 +207,20 @@ static void keep(struct pkvm_state *to, const struct pkvm_state *from)
  */
 static bool is_in_parts(const struct difference *it, int count_at, uint64_t size, bool is_any)
 {
-	static struct pkvm_state state;
+	static PER_CPU struct pkvm_state state;
 	struct pkvm_state next;
 	struct pkvm_step step = *it->step;
 	uint64_t left = step.arguments[count_at];
 	struct numbers at = numbers_of(step.call);
 	struct pkvm_reply reply;
+	struct pkvm_refused why;
 
 	keep(&state, &it->before->state);
 	for (;;) {
 
 		step.arguments[count_at] = left < size ? left : size;
 		left -= step.arguments[count_at];
-		if (foretold(&state, it->cpu, &step, &reply, &next))
+		if (foretold(&state, it->cpu, &step, &reply, &next, &why))
 			return false;
 		if (reply.refusal || !left)
 			break;
@@ -380,7 +381,7 @@ static bool text_is_readable(const struct difference *it)
  */
 static bool firmware_page_taken(const struct difference *it)
 {
-	static struct copy after;
+	static PER_CPU struct copy after;
 	uint64_t frame = it->step->arguments[0];
 	struct pkvm_word shared = leaf(frame, PKVM_RWX, PKVM_NORMAL, PKVM_SHARED_OWNED);
 	struct pkvm_word now = entry_at(&it->after->state, HOST, frame);
@@ -398,7 +399,7 @@ static bool firmware_page_taken(const struct difference *it)
 static bool pinned(const struct difference *it)
 {
 	return it->step->call == PKVM_UNSHARE_HYP && says(it, PKVM_EBUSY, 0) &&
-	       linux_page(it->step->arguments[0]).pins && is_unchanged(it);
+	       linux_pins(it->step->arguments[0]) && is_unchanged(it);
 }
 
 /* The state without a frame's other pages in plain guests: the model has one borrower at most. */
@@ -427,7 +428,7 @@ static void without_others(struct copy *to, const struct pkvm_state *from, uint6
  */
 static bool lent_again(const struct difference *it)
 {
-	static struct copy before, after;
+	static PER_CPU struct copy before, after;
 	uint64_t frame = it->step->arguments[0], page = it->step->arguments[1], slot;
 
 	if (it->step->call != PKVM_SHARE_GUEST || !says(it, 0, PKVM_EPERM) ||
@@ -449,7 +450,7 @@ static bool lent_again(const struct difference *it)
 /* And takes back one loan of several: the host's page stays shared. */
 static bool lent_still(const struct difference *it)
 {
-	static struct copy before, after;
+	static PER_CPU struct copy before, after;
 	uint64_t tree = GUEST + it->step->arguments[0], page = it->step->arguments[2];
 	struct pkvm_word word;
 
@@ -484,10 +485,10 @@ static bool lent_not_reclaimed(const struct difference *it)
 
 static bool unshared_while_dying(const struct difference *it)
 {
-	static struct vms alive_before, alive_after;
+	static PER_CPU struct vms alive_before, alive_after;
 	uint64_t slot = it->step->arguments[0];
 	struct difference alive = *it;
-	static struct recorded as_before, as_after;
+	static PER_CPU struct recorded as_before, as_after;
 	struct made made = *it->made;
 
 	if (it->step->call != PKVM_UNSHARE_GUEST || it->spec.refusal != PKVM_ENOVM ||
@@ -530,7 +531,7 @@ static bool whole_block(const struct difference *it)
 /* And gets more rights as a whole: apart from the block's other pages the call is the model's. */
 static bool whole_block_relaxed(const struct difference *it)
 {
-	static struct copy after;
+	static PER_CPU struct copy after;
 	uint64_t page = it->step->arguments[0], slot, size, first;
 
 	if (it->step->call != PKVM_GUEST_RELAX || !says(it, 0, 0) || !vms_loaded(it->cpu, &slot))

@@ -3,13 +3,13 @@
 #include <stdlib.h>
 #include <string.h>
 
-struct machine machine;
+struct machine machine = {.linear = LINEAR, .cpus = 1};
 
 /* The host's input addresses have 36 bits where the root is at level 1, as with 39 bits in the
  * model.
  */
 enum { BLOCK = 512, HOST_PAGES_39 = 1 << 24, LAST_PAGE = 1 << 26 };
-enum { IMAGE = 32, PERCPU_AT = 24, STACK_AT = 28, RESERVE = 512 };
+enum { IMAGE = 32, PERCPU_AT = 24, PERCPU = 2, STACK_AT = 28, RESERVE = 512 };
 
 static int by_first(const void *a, const void *b)
 {
@@ -50,6 +50,15 @@ const char *machine_make(uint64_t address_bits, uint64_t cpus, uint64_t carve_fi
 	machine.reserve_count = RESERVE;
 	machine.pool = own->first + IMAGE + RESERVE;
 	machine.pool_count = linux_pool_pages();
+	if (machine.cpus > 1) {
+		machine.percpu = machine.pool;
+		machine.stack = machine.percpu + machine.cpus * PERCPU;
+		machine.pool = machine.stack + machine.cpus;
+		/* No page that isn't used: all are recorded at each call. */
+		end = machine.pool + machine.pool_count - own->first;
+		if (end < own->count)
+			own->count = (end + BLOCK - 1) / BLOCK * BLOCK;
+	}
 	if (machine.pool + machine.pool_count > own->first + own->count)
 		return "too much memory for the region of Linux itself";
 	machine.layout = (struct pkvm_layout){

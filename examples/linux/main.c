@@ -1,5 +1,5 @@
-/* run VERSION hands the words over: TRACE, or --seed N --calls N [--hostile PERCENT] [--print]
- * [--first].
+/* run VERSION hands the words over: TRACE, or --seed N --calls N [--cpus N] [--hostile PERCENT]
+ * [--print] [--first].
  */
 #include "harness.h"
 #include <errno.h>
@@ -21,7 +21,7 @@ static uint64_t number_of(const char *name, const char *word)
 
 int main(int argc, char **argv)
 {
-	uint64_t seed = 1, steps = UINT64_MAX, hostile = 10;
+	uint64_t seed = 1, steps = UINT64_MAX, hostile = 10, cpus = 1;
 	const char *trace = NULL;
 	bool is_printed = false, is_first = false;
 
@@ -32,6 +32,8 @@ int main(int argc, char **argv)
 			seed = number_of("--seed", argv[++i]);
 		else if (!strcmp(argv[i], "--calls"))
 			steps = number_of("--calls", argv[++i]);
+		else if (!strcmp(argv[i], "--cpus"))
+			cpus = number_of("--cpus", argv[++i]);
 		else if (!strcmp(argv[i], "--hostile"))
 			hostile = number_of("--hostile", argv[++i]);
 		else if (!strcmp(argv[i], "--print"))
@@ -47,5 +49,11 @@ int main(int argc, char **argv)
 		refuse("--hostile wants 0 to 100");
 	if (!trace == (steps == UINT64_MAX))
 		refuse("a TRACE, or --seed N --calls N");
+	if (cpus < 1 || cpus > 8)
+		refuse("--cpus wants 1 to 8");
+	if (cpus > 1 && (trace || is_printed))
+		refuse("--cpus wants random calls, and none of them is printed");
+	if (cpus > 1)
+		return run_cpus(cpus, seed, steps, hostile, is_first);
 	return trace ? run_trace(trace) : run_random(seed, steps, hostile, is_printed, is_first);
 }

@@ -2,34 +2,13 @@
  * harness' own: it answers them as the model does, and does on Linux what they mean there.
  */
 #include "harness.h"
-#include <errno.h>
 
 static struct made by_harness(struct pkvm_reply reply)
 {
 	return (struct made){.maker = BY_HARNESS, .reply = reply};
 }
 
-/* The model's name of an error: docs/LINUX.md has this table. A number that isn't paired stays a
- * number.
- */
-static uint64_t refusal_of(const struct pkvm_step *step, int error)
-{
-	bool is_of_page = step->call == PKVM_UNSHARE_GUEST || step->call == PKVM_RECLAIM_PAGE ||
-			  step->call == PKVM_GUEST_SHARE_HOST ||
-			  step->call == PKVM_GUEST_UNSHARE_HOST;
-
-	if (error == ERANGE)
-		return PKVM_EINVALID;
-	if (error == ENOENT && is_of_page)
-		return PKVM_EPERM;
-	if (error == EHWPOISON && is_of_page)
-		return PKVM_EPERM;
-	if (error == EAGAIN && step->call == PKVM_GUEST_RELAX)
-		return PKVM_EPERM;
-	return (uint64_t)error;
-}
-
-static struct made on_linux(const struct pkvm_step *step, uint64_t slot)
+struct made make_on_linux(const struct pkvm_step *step, uint64_t slot)
 {
 	struct made made = {.maker = BY_LINUX, .ended = linux_call(step, slot)};
 
@@ -43,7 +22,7 @@ static struct made as_call(uint64_t call, uint64_t frame, uint64_t count)
 {
 	const struct pkvm_step step = {call, {frame, count}};
 
-	return on_linux(&step, 0);
+	return make_on_linux(&step, 0);
 }
 
 /* Linux maps one page, or one block; a longer range is one call for each page. */
@@ -60,10 +39,10 @@ static struct made page_by_page(const struct pkvm_step *step, uint64_t slot)
 	if (!is_share && (!count || count > 512))
 		return by_harness((struct pkvm_reply){.refusal = PKVM_EINVALID});
 	if (count < 2 || count > 512 || is_block)
-		return on_linux(step, slot);
+		return make_on_linux(step, slot);
 	one.arguments[is_share ? 3 : 2] = 1;
 	do {
-		made = on_linux(&one, slot);
+		made = make_on_linux(&one, slot);
 		one.arguments[0]++;
 		one.arguments[1]++;
 	} while (!made.reply.refusal && !made.ended.is_stopped && --count);
@@ -104,7 +83,7 @@ static struct made on_guest(uint64_t cpu, const struct pkvm_step *step, struct r
 		record(before);
 		made = page_by_page(step, slot);
 	} else {
-		made = on_linux(step, slot);
+		made = make_on_linux(step, slot);
 	}
 	return made;
 }
@@ -236,16 +215,16 @@ struct made make_step(uint64_t cpu, const struct pkvm_step *step, struct recorde
 		 */
 		if (is_in_use(step, before))
 			return by_harness(predicted_reply(before, cpu, step));
-		return on_linux(step, 0);
+		return make_on_linux(step, 0);
 	case PKVM_SHARE_HYP:
 	case PKVM_UNSHARE_HYP:
 	case PKVM_DONATE_HYP:
-		return on_linux(step, 0);
+		return make_on_linux(step, 0);
 	case PKVM_HOST_ABORT:
 		/* A fault tells 40 bits of the page's number. */
 		if (step->arguments[0] >> 40)
 			return by_harness(predicted_reply(before, cpu, step));
-		return on_linux(step, 0);
+		return make_on_linux(step, 0);
 	case PKVM_HOST_TRANSLATE:
 	case PKVM_HYP_TRANSLATE:
 	case PKVM_GUEST_TRANSLATE:

@@ -1,22 +1,10 @@
 /* Random calls, chosen on the state: most succeed, and a given share of them is refused. The same
  * seed gives the same calls, as long as Linux answers the same.
  */
-#include "harness.h"
+#include "life.h"
 #include <inttypes.h>
 #include <stdio.h>
 #include <string.h>
-
-static uint64_t random_state;
-
-static uint64_t any(uint64_t below)
-{
-	random_state += 0x9e3779b97f4a7c15ull;
-	uint64_t z = random_state;
-
-	z = (z ^ z >> 30) * 0xbf58476d1ce4e5b9ull;
-	z = (z ^ z >> 27) * 0x94d049bb133111ebull;
-	return (z ^ z >> 31) % below;
-}
 
 /* --- The machine: two regions of memory, of which the second isn't whole blocks, and devices ---
  */
@@ -27,7 +15,6 @@ enum {
 	CARVE = 0x43e00,
 	CARVE_COUNT = 0x40,
 	HANDS = 0x43800, /* what guests' tables are made of */
-	HAND_COUNT = 0x10,
 	MORE_MEMORY = 0x48000,
 	MORE_COUNT = 0x5e0,
 	GUEST_PAGES = 0x80000
@@ -82,123 +69,10 @@ static uint64_t some_guest_page(void)
 	return GUEST_PAGES + blocks[any(3)] + any(10);
 }
 
-static uint64_t some_rights(void)
-{
-	static const uint64_t rights[] = {PKVM_R, PKVM_RX, PKVM_RW, PKVM_RWX};
-
-	return rights[any(4)];
-}
-
 /* --- Lives of two VMs, the first protected and on CPU 0, the second plain and on CPU 1 --- */
 
-enum stage {
-	RESERVE,
-	FUND,
-	INSTALL,
-	OPEN,
-	LOAD,
-	LIVE,
-	PUT,
-	TEARDOWN,
-	DIE,
-	RECLAIM,
-	POOL,
-	FINISH,
-	RELEASE
-};
-
-struct life {
-	enum stage stage;
-	uint64_t kind, slot, generation;
-};
-static struct life lives[2] = {{.kind = PKVM_PROTECTED}, {.kind = PKVM_PLAIN}};
-
-/* A page that the guest has mapped. */
-static bool mapped_page(uint64_t slot, uint64_t *page)
-{
-	size_t runs = 0, chosen;
-
-	for (size_t i = 0; i < before.runs_len; i++)
-		runs += before.runs[i].tree == GUEST + slot;
-	if (!runs)
-		return false;
-	chosen = any(runs);
-	for (size_t i = 0; i < before.runs_len; i++) {
-		const struct pkvm_run *it = &before.runs[i];
-
-		if (it->tree == GUEST + slot && !chosen--)
-			*page = it->page + any(it->count);
-	}
-	return true;
-}
-
-/* The step that a VM's life asks for. */
-static struct pkvm_step next_of(uint64_t cpu)
-{
-	struct life *life = &lives[cpu];
-	const uint64_t hand = HANDS + cpu * 0x40;
-	uint64_t page = 0;
-	struct pkvm_step step;
-
-	switch (life->stage) {
-	case RESERVE:
-		return (struct pkvm_step){PKVM_VM_RESERVE, {life->kind, 2}};
-	case FUND:
-		return (struct pkvm_step){PKVM_FUND, {hand, HAND_COUNT}};
-	case INSTALL:
-		return (struct pkvm_step){PKVM_INSTALL, {0}};
-	case OPEN:
-		return (struct pkvm_step){PKVM_VM_OPEN, {0}};
-	case LOAD:
-		return (struct pkvm_step){PKVM_VCPU_LOAD, {life->slot, life->generation, 0}};
-	case PUT:
-		return (struct pkvm_step){PKVM_VCPU_PUT, {0}};
-	case TEARDOWN:
-		return (struct pkvm_step){PKVM_TEARDOWN, {life->slot, life->generation}};
-	case DIE:
-		return (struct pkvm_step){PKVM_MARK_DYING, {0}};
-	case RECLAIM:
-		if (mapped_page(life->slot, &page)) {
-			step = (struct pkvm_step){PKVM_RECLAIM_PAGE,
-						  {life->slot, life->generation, page}};
-			/* A plain guest's pages come back by the other call; sometimes this one is
-			 * tried.
-			 */
-			if (life->kind == PKVM_PLAIN && any(6))
-				step.call = PKVM_UNSHARE_GUEST;
-			return step;
-		}
-		life->stage = POOL;
-		/* fallthrough */
-	case POOL:
-		step = (struct pkvm_step){PKVM_RECLAIM_POOL, {life->slot, life->generation}};
-		if (!predicted_reply(&before, cpu, &step).refusal)
-			return step;
-		life->stage = FINISH;
-		/* fallthrough */
-	case FINISH:
-		return (struct pkvm_step){PKVM_FINISH_GUEST, {0}};
-	default:
-		return (struct pkvm_step){PKVM_VM_RELEASE, {0}};
-	}
-}
-
-static void went_on(uint64_t cpu, const struct made *made)
-{
-	struct life *life = &lives[cpu];
-
-	if (made->reply.refusal && life->stage != RECLAIM)
-		refuse("a VM's life stands still: stage %d, %s", (int)life->stage,
-		       refusal_name(made->reply.refusal));
-	if (life->stage == RESERVE) {
-		life->slot = made->reply.slot;
-		life->generation = made->reply.generation;
-	}
-	if (life->stage == RELEASE)
-		life->stage = RESERVE;
-	else if (life->stage != RECLAIM && life->stage != POOL)
-		life->stage++;
-}
+static struct life lives[2] = {{.kind = PKVM_PROTECTED, .vcpus = 2, .hand = HANDS},
+			       {.kind = PKVM_PLAIN, .vcpus = 2, .hand = HANDS + 0x40}};
 
 /* --- Steps --- */
 
@@ -238,7 +112,7 @@ static struct pkvm_step guest_step(uint64_t cpu, bool is_odd)
 
 	if (is_odd && !any(6))
 		page += 1ull << (any(2) ? 52 : 25);
-	if (is_odd && any(2) && mapped_page(life->slot, &other))
+	if (is_odd && any(2) && mapped_page(&before, life->slot, &other))
 		frame = entry_at(&before.state, GUEST + life->slot, other).frame; /* lent already */
 	step.arguments[0] = page;
 	switch (step.call) {
@@ -272,17 +146,6 @@ static struct pkvm_step drawn(uint64_t *cpu, bool is_hostile)
 	return step;
 }
 
-static void tell(uint64_t number, uint64_t cpu, const struct pkvm_step *step,
-		 const struct made *made, const struct judgement *judgement)
-{
-	char call[160], reply[256];
-
-	text_of_step(step, call, sizeof(call));
-	text_of_reply(made, reply, sizeof(reply));
-	printf("%" PRIu64 ": %" PRIu64 " %s -> %s: %s\n", number, cpu, call, reply,
-	       judgement->text);
-}
-
 static void print_settings(void)
 {
 	for (size_t i = 0; i < sizeof(regions) / sizeof(*regions); i++)
@@ -299,7 +162,7 @@ static void start(uint64_t seed, bool is_printed)
 
 	if (why)
 		refuse("the machine has %s", why);
-	random_state = seed;
+	any_from(seed);
 	linux_boot();
 	vms_make();
 	if (linux_call(&donate, 0).error)
@@ -325,7 +188,7 @@ int run_random(uint64_t seed, uint64_t steps, uint64_t hostile, bool is_printed,
 		if (linux_has_guests && lives[cpu].stage == LIVE && !any(120))
 			lives[cpu].stage = PUT, is_life = true;
 		if (is_life)
-			step = next_of(cpu);
+			step = next_of(&lives[cpu], cpu, &before);
 		else
 			step = drawn(&cpu, any(100) < hostile);
 		made = make_step(cpu, &step, &before);
@@ -342,7 +205,7 @@ int run_random(uint64_t seed, uint64_t steps, uint64_t hostile, bool is_printed,
 		if (is_first && judgement.verdict == DIFFERS)
 			return 1;
 		if (is_life)
-			went_on(cpu, &made);
+			went_on(&lives[cpu], &made);
 	}
 	return print_summary(is_printed ? stderr : stdout) ? 0 : 1;
 }

@@ -1,5 +1,6 @@
 /* Names of calls and replies, a report's lines, and the summary at the end. */
 #include "harness.h"
+#include <errno.h>
 #include <inttypes.h>
 #include <stdarg.h>
 #include <stdio.h>
@@ -86,7 +87,7 @@ void text_of_step(const struct pkvm_step *step, char *text, size_t room)
 
 const char *refusal_name(uint64_t refusal)
 {
-	static char number[24];
+	static PER_CPU char number[24];
 
 	switch (refusal) {
 	case 0:
@@ -111,6 +112,23 @@ const char *refusal_name(uint64_t refusal)
 		snprintf(number, sizeof(number), "%" PRIu64, refusal);
 		return number;
 	}
+}
+
+uint64_t refusal_of(const struct pkvm_step *step, int error)
+{
+	bool is_of_page = step->call == PKVM_UNSHARE_GUEST || step->call == PKVM_RECLAIM_PAGE ||
+			  step->call == PKVM_GUEST_SHARE_HOST ||
+			  step->call == PKVM_GUEST_UNSHARE_HOST;
+
+	if (error == ERANGE)
+		return PKVM_EINVALID;
+	if (error == ENOENT && is_of_page)
+		return PKVM_EPERM;
+	if (error == EHWPOISON && is_of_page)
+		return PKVM_EPERM;
+	if (error == EAGAIN && step->call == PKVM_GUEST_RELAX)
+		return PKVM_EPERM;
+	return (uint64_t)error;
 }
 
 void text_of_word(const struct pkvm_word *word, char *text, size_t room)
@@ -169,6 +187,17 @@ void text_of_reply(const struct made *made, char *text, size_t room)
 	} else {
 		snprintf(text, room, "ok");
 	}
+}
+
+void tell(uint64_t number, uint64_t cpu, const struct pkvm_step *step, const struct made *made,
+	  const struct judgement *judgement)
+{
+	char call[160], reply[256];
+
+	text_of_step(step, call, sizeof(call));
+	text_of_reply(made, reply, sizeof(reply));
+	printf("%" PRIu64 ": %" PRIu64 " %s -> %s: %s\n", number, cpu, call, reply,
+	       judgement->text);
 }
 
 /* --- The summary --- */

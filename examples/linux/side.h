@@ -5,8 +5,9 @@
 #include <setjmp.h>
 
 struct hyp_pool;
-extern jmp_buf side_back;    /* where a call goes on that EL2 ends by stopping the machine */
-extern bool side_is_in_call; /* whether it is set */
+/* Where a CPU's call goes on that EL2 ends by stopping the machine, and whether this is set. */
+extern _Thread_local jmp_buf side_back;
+extern _Thread_local bool side_is_in_call;
 struct hyp_pool *side_hyp_pool(void);
 
 #endif

@@ -17,12 +17,24 @@ struct pkvm_word leaf(uint64_t frame, uint64_t rights, uint64_t kind, uint64_t s
 		.says = PKVM_LEAF, .frame = frame, .rights = rights, .kind = kind, .state = state};
 }
 
+/* The library's answers are kept: tables are recorded at each call, and few of their words are new.
+ */
 static struct pkvm_word decoded(uint64_t level, uint64_t word)
 {
-	struct pkvm_word out = {.says = PKVM_MALFORMED};
+	enum { KEPT = 1 << 13 };
+	static PER_CPU struct {
+		uint64_t level, word;
+		struct pkvm_word out;
+	} kept[KEPT];
+	uint64_t at = (word >> 12 ^ word >> 55 ^ word >> 6 ^ level << 11) % KEPT;
 
-	pkvm_decode(level, word, &out);
-	return out;
+	if (kept[at].word != word || kept[at].level != level) {
+		kept[at].level = level;
+		kept[at].word = word;
+		kept[at].out = (struct pkvm_word){.says = PKVM_MALFORMED};
+		pkvm_decode(level, word, &kept[at].out);
+	}
+	return kept[at].out;
 }
 
 struct pkvm_word said_by_guest(uint64_t level, uint64_t word)
@@ -83,11 +95,4 @@ bool same_word(const struct pkvm_word *a, const struct pkvm_word *b)
 		return a->frame == b->frame && a->rights == b->rights && a->kind == b->kind &&
 		       a->state == b->state;
 	return a->says != PKVM_TABLE || a->frame == b->frame;
-}
-
-struct pkvm_word word_after(struct pkvm_word word, uint64_t k)
-{
-	if (word.says == PKVM_LEAF)
-		word.frame += k;
-	return word;
 }

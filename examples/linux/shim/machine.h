@@ -112,8 +112,8 @@ struct arm_smccc_res {
 #define hyp_smccc_1_1_smc(f, res) ((void)(res))
 
 /* A fault of the host: the harness says where, and sees whether an abort is injected. */
-extern u64 shim_fault;
-extern bool shim_is_injected;
+extern _Thread_local u64 shim_fault;
+extern _Thread_local bool shim_is_injected;
 struct kvm_vcpu_fault_info {
 	u64 hpfar_el2;
 };
@@ -159,7 +159,7 @@ enum arm64_hyp_spectre_vector {
 #define __bp_harden_hyp_vecs ((void *)shim_image)
 #define __BP_HARDEN_HYP_VECS_SZ PAGE_SIZE
 #define __kvm_vector_slot2addr(base, slot) ((void)(slot), (base))
-extern unsigned long kvm_hyp_vector;
+extern unsigned long kvm_hyp_vector[SHIM_CPUS];
 #define kvm_system_needs_idmapped_vectors() false
 #define NVHE_STACK_SIZE PAGE_SIZE
 struct kvm_nvhe_init_params {
@@ -167,6 +167,6 @@ struct kvm_nvhe_init_params {
 	phys_addr_t pgd_pa, stack_pa;
 	unsigned long stack_hyp_va;
 };
-extern struct kvm_nvhe_init_params kvm_init_params;
+extern struct kvm_nvhe_init_params kvm_init_params[SHIM_CPUS];
 
 #endif

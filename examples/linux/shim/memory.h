@@ -46,16 +46,18 @@ extern char *shim_image;
 #define __hyp_data_end (shim_image + 19 * PAGE_SIZE)
 #define kvm_nvhe_sym(name) name
 
-/* One CPU: what is per CPU is there once. Only its pages are needed, for the hypervisor to own
- * them.
+/* What is per CPU is an array, and a CPU a thread that knows its number. The pages of the kernel's
+ * own per-CPU areas are only needed for the hypervisor to own them.
  */
+#define SHIM_CPUS 8
+extern _Thread_local unsigned int shim_cpu;
 extern char *shim_percpu;
 #define __per_cpu_start shim_percpu
 #define __per_cpu_end (shim_percpu + 2 * PAGE_SIZE)
-#define DEFINE_PER_CPU(type, name) type name
-#define DECLARE_PER_CPU(type, name) extern type name
-#define this_cpu_ptr(p) (p)
-#define per_cpu_ptr(p, cpu) ((void)(cpu), (p))
+#define DEFINE_PER_CPU(type, name) __typeof__(type) name[SHIM_CPUS]
+#define DECLARE_PER_CPU(type, name) extern __typeof__(type) name[SHIM_CPUS]
+#define this_cpu_ptr(p) per_cpu_ptr(p, shim_cpu)
+#define per_cpu_ptr(p, cpu) (&(*(p))[cpu])
 
 #define MEMBLOCK_NOMAP 4
 struct memblock_region {

@@ -3,7 +3,7 @@
 #define SHIM_STOP_H
 
 void shim_stop(const char *file, int line, const char *what) __noreturn;
-extern char shim_where[96]; /* where the last stop was */
+extern _Thread_local char shim_where[96]; /* where the last stop was */
 
 #define BUG() shim_stop(__FILE__, __LINE__, "BUG")
 #define BUG_ON(x)                                                                                  \

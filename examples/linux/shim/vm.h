@@ -133,8 +133,8 @@ struct kvm_host_data {
 	struct cpu_sve_state *sve_state;
 	struct arm64_sve_state *sve_regs;
 };
-extern struct kvm_host_data kvm_host_data;
-#define host_data_ptr(member) (&kvm_host_data.member)
+extern struct kvm_host_data kvm_host_data[SHIM_CPUS];
+#define host_data_ptr(member) (&this_cpu_ptr(&kvm_host_data)->member)
 
 void __host_enter(struct kvm_cpu_context *context) __noreturn;
 void __pkvm_init_switch_pgd(phys_addr_t pgd, unsigned long sp, void (*fn)(void));

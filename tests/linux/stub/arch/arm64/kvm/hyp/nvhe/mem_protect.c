@@ -5,6 +5,37 @@ struct host_mmu host_mmu;
 static struct hyp_pool host_s2_pool;
 static struct hyp_pool *hyp_pool = &host_s2_pool; /* one for both */
 
+/* --- Locks: the host's before the others --- */
+
+static void lock_host(void)
+{
+#ifndef STUB_UNLOCKED
+	hyp_spin_lock(&host_mmu.lock);
+#endif
+}
+
+static int unlock_host(int result)
+{
+#ifndef STUB_UNLOCKED
+	hyp_spin_unlock(&host_mmu.lock);
+#endif
+	return result;
+}
+
+static void lock_both(void)
+{
+	lock_host();
+	hyp_spin_lock(&pkvm_pgd_lock);
+}
+
+static int unlock_both(int result)
+{
+	hyp_spin_unlock(&pkvm_pgd_lock);
+	return unlock_host(result);
+}
+
+/* --- Pages --- */
+
 static void set_host(u64 phys, u64 word, int state)
 {
 	*stub_word(&host_mmu.pgt, &host_s2_pool, phys) = word;
@@ -63,7 +94,7 @@ int stub_protect_init(void *first, unsigned long pages)
 	return stub_own(__hyp_pa(first), pages);
 }
 
-int __pkvm_host_share_hyp(u64 pfn)
+static int host_share_hyp(u64 pfn)
 {
 	u64 phys = pfn << PAGE_SHIFT;
 #ifdef STUB_BUG
@@ -79,7 +110,13 @@ int __pkvm_host_share_hyp(u64 pfn)
 	return 0;
 }
 
-int __pkvm_host_unshare_hyp(u64 pfn)
+int __pkvm_host_share_hyp(u64 pfn)
+{
+	lock_both();
+	return unlock_both(host_share_hyp(pfn));
+}
+
+static int host_unshare_hyp(u64 pfn)
 {
 	u64 phys = pfn << PAGE_SHIFT;
 
@@ -90,7 +127,13 @@ int __pkvm_host_unshare_hyp(u64 pfn)
 	return 0;
 }
 
-int __pkvm_host_donate_hyp(u64 pfn, u64 pages)
+int __pkvm_host_unshare_hyp(u64 pfn)
+{
+	lock_both();
+	return unlock_both(host_unshare_hyp(pfn));
+}
+
+static int host_donate_hyp(u64 pfn, u64 pages)
 {
 	u64 phys = pfn << PAGE_SHIFT;
 
@@ -101,7 +144,13 @@ int __pkvm_host_donate_hyp(u64 pfn, u64 pages)
 	return stub_own(phys, pages);
 }
 
-int __pkvm_hyp_donate_host(u64 pfn, u64 pages)
+int __pkvm_host_donate_hyp(u64 pfn, u64 pages)
+{
+	lock_both();
+	return unlock_both(host_donate_hyp(pfn, pages));
+}
+
+static int hyp_donate_host(u64 pfn, u64 pages)
 {
 	u64 phys = pfn << PAGE_SHIFT;
 
@@ -116,11 +165,16 @@ int __pkvm_hyp_donate_host(u64 pfn, u64 pages)
 	return 0;
 }
 
-void handle_host_mem_abort(struct kvm_cpu_context *host)
+int __pkvm_hyp_donate_host(u64 pfn, u64 pages)
+{
+	lock_both();
+	return unlock_both(hyp_donate_host(pfn, pages));
+}
+
+static void touch(void)
 {
 	u64 phys = shim_fault;
 
-	(void)host;
 	if (!stub_is_memory(phys))
 		*stub_word(&host_mmu.pgt, &host_s2_pool, phys) = BIT(54) | HOST_PAGE | phys;
 	else if (host_state(phys) == NONE && LINUX_HAS_GUESTS)
@@ -129,6 +183,14 @@ void handle_host_mem_abort(struct kvm_cpu_context *host)
 		BUG();
 	else if (host_state(phys) == OWNED)
 		set_host(phys, HOST_PAGE | phys, OWNED);
+}
+
+void handle_host_mem_abort(struct kvm_cpu_context *host)
+{
+	(void)host;
+	lock_host();
+	touch();
+	unlock_host(0);
 }
 
 int __pkvm_host_share_ffa(u64 pfn, u64 pages)
@@ -168,8 +230,8 @@ static inline void kvm_guest_destroy_stage2(struct pkvm_hyp_vm *vm)
 }
 
 /* One page; its tables come from the vCPU's list. */
-int __pkvm_host_share_guest(u64 pfn, u64 gfn, u64 pages, struct pkvm_hyp_vcpu *vcpu,
-			    enum kvm_pgtable_prot prot)
+static int share_guest(u64 pfn, u64 gfn, u64 pages, struct pkvm_hyp_vcpu *vcpu,
+		       enum kvm_pgtable_prot prot)
 {
 	struct pkvm_hyp_vm *vm = container_of(vcpu->vcpu.kvm, struct pkvm_hyp_vm, kvm);
 	struct kvm_hyp_memcache *list = &vcpu->vcpu.arch.pkvm_memcache;
@@ -188,7 +250,20 @@ int __pkvm_host_share_guest(u64 pfn, u64 gfn, u64 pages, struct pkvm_hyp_vcpu *v
 	return 0;
 }
 
-int __pkvm_host_unshare_guest(u64 gfn, u64 pages, struct pkvm_hyp_vm *vm)
+int __pkvm_host_share_guest(u64 pfn, u64 gfn, u64 pages, struct pkvm_hyp_vcpu *vcpu,
+			    enum kvm_pgtable_prot prot)
+{
+	struct pkvm_hyp_vm *vm = container_of(vcpu->vcpu.kvm, struct pkvm_hyp_vm, kvm);
+	int result;
+
+	lock_host();
+	hyp_spin_lock(&vm->lock);
+	result = share_guest(pfn, gfn, pages, vcpu, prot);
+	hyp_spin_unlock(&vm->lock);
+	return unlock_host(result);
+}
+
+static int unshare_guest(u64 gfn, u64 pages, struct pkvm_hyp_vm *vm)
 {
 	kvm_pte_t *at = stub_word(&vm->pgt, &vm->pool, gfn << PAGE_SHIFT);
 	u64 phys = *at & ADDRESS;
@@ -199,6 +274,17 @@ int __pkvm_host_unshare_guest(u64 gfn, u64 pages, struct pkvm_hyp_vm *vm)
 	set_host(phys, HOST_PAGE | phys, OWNED);
 	hyp_phys_to_page(phys)->host_share_guest_count = 0;
 	return 0;
+}
+
+int __pkvm_host_unshare_guest(u64 gfn, u64 pages, struct pkvm_hyp_vm *vm)
+{
+	int result;
+
+	lock_host();
+	hyp_spin_lock(&vm->lock);
+	result = unshare_guest(gfn, pages, vm);
+	hyp_spin_unlock(&vm->lock);
+	return unlock_host(result);
 }
 
 int __pkvm_host_donate_guest(u64 pfn, u64 gfn, struct pkvm_hyp_vcpu *vcpu)

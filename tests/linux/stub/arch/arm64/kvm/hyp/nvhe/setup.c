@@ -47,7 +47,7 @@ static void __noreturn __pkvm_init_finalise(void)
 	stub_protect_init(pool_base, POOL_PAGES);
 	stub_own(__hyp_pa(vmemmap_base), (pool_base - vmemmap_base) / PAGE_SIZE);
 	stub_own(__hyp_pa(__hyp_text_start), 19);
-	stub_own(kvm_init_params.stack_pa, 1);
-	cpu_reg(&kvm_host_data.host_ctxt, 1) = 0;
-	__host_enter(&kvm_host_data.host_ctxt);
+	stub_own(kvm_init_params[0].stack_pa, hyp_nr_cpus);
+	cpu_reg(host_data_ptr(host_ctxt), 1) = 0;
+	__host_enter(host_data_ptr(host_ctxt));
 }
