@@ -221,7 +221,7 @@ struct linux_tree linux_tree(uint64_t tree)
 {
 	struct kvm_pgtable *it = tree == HOST ? &host_mmu.pgt : &pkvm_pgtable;
 
-	return (struct linux_tree){__hyp_pa(it->pgd) >> PAGE_SHIFT, (uint64_t)it->start_level};
+	return (struct linux_tree){__hyp_pa(it->pgd) >> PAGE_SHIFT, (uint64_t)it->start_level, 1};
 }
 
 size_t linux_free_frames(uint64_t tree, uint64_t *frames, size_t room)
@@ -321,7 +321,7 @@ struct linux_tree linux_tree(uint64_t tree)
 				 : tree == HYP ? &pkvm_pgtable
 					       : &vm_of[tree - GUEST]->pgt;
 
-	return (struct linux_tree){__hyp_pa(it->pgd) >> PAGE_SHIFT, (uint64_t)it->start_level};
+	return (struct linux_tree){__hyp_pa(it->pgd) >> PAGE_SHIFT, (uint64_t)it->start_level, 1};
 }
 
 static struct kvm_hyp_memcache *list_of(uint64_t slot)

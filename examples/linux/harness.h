@@ -37,6 +37,8 @@ struct machine {
 	size_t regions_len;
 	struct pkvm_layout layout;
 	uint64_t linear;  /* EL2's own page of frame 0 */
+	bool is_hvhe;	  /* the words of its tables */
+	bool lacks_lists; /* where guests' tables come from isn't known */
 	uint64_t cpus;	  /* that run it at once */
 	/* Frames of Linux itself: its image, its CPUs' data and stacks, EL2's pool, and pages that
 	 * a guest's list is filled up with.
@@ -63,6 +65,7 @@ bool is_in_region(uint64_t page);
 struct linux_tree {
 	uint64_t root;	/* the frame of its root */
 	uint64_t level; /* of the root's words */
+	uint64_t pages; /* of the root, one after another */
 };
 
 /* A page as hyp_vmemmap has it, where the release keeps states there: PKVM_OWNED to
@@ -190,6 +193,8 @@ struct recorded {
 void join(struct recorded *to, struct part *const parts[TREES]);
 /* The state now. */
 void record(struct recorded *to);
+/* How many free frames of the shared pool the library is told. */
+extern size_t frames_told;
 /* Adds a run, joined to the last one where it goes on. */
 void add_run(struct recorded *to, uint64_t tree, uint64_t page, uint64_t count,
 	     struct pkvm_word word);

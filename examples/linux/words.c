@@ -65,7 +65,8 @@ struct pkvm_word said_by_host(uint64_t level, uint64_t word)
 struct pkvm_word said_by_hyp(uint64_t level, uint64_t word)
 {
 	enum { TABLE = 3, AP_RW = 1, AP_RO = 3, NORMAL = 0, DEVICE = 4, INNER_SHAREABLE = 3 };
-	uint64_t ap = bits(word, 7, 6), attributes = bits(word, 4, 2);
+	/* Where EL2 runs as a host would (hVHE), the lower bit of AP is 0. */
+	uint64_t ap = bits(word, 7, 6) ^ machine.is_hvhe, attributes = bits(word, 4, 2);
 	struct pkvm_word out = {.says = PKVM_MALFORMED};
 
 	if (!(word & 1)) {
@@ -76,7 +77,7 @@ struct pkvm_word said_by_hyp(uint64_t level, uint64_t word)
 	} else if ((ap == AP_RW || ap == AP_RO) && (attributes == NORMAL || attributes == DEVICE) &&
 		   bits(word, 9, 8) == INNER_SHAREABLE && bits(word, 10, 10) &&
 		   bits(word, 1, 1) == (level == 3) && bits(word, 58, 55) <= PKVM_SHARED_BORROWED) {
-		bool is_executable = !bits(word, 54, 54);
+		bool is_executable = !(word >> (machine.is_hvhe ? 53 : 54) & 1);
 
 		out = leaf(bits(word, 47, 12),
 			   PKVM_R | (ap == AP_RW ? 2u : 0u) | (is_executable ? 1u : 0u),

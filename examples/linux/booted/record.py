@@ -1,0 +1,292 @@
+#!/usr/bin/env python3
+"""record.py KERNEL INITRD FOLDER CPU MEGABYTES CALLS WORDS..: boots a kernel under QEMU and records its hypervisor's calls from outside.
+
+KERNEL has `Image` and `names` (see `kernel`). QEMU's gdb stub stops the machine where a call begins and where it returns; nothing is
+changed in it. FOLDER gets `calls`, lines of text, and `pages`, the pages that they name:
+
+  name NAME VALUE              what is known of the machine: addresses are physical
+  page FRAME INDEX             from here on the frame has the INDEX-th page of `pages`
+  call NUMBER NAME ARGUMENTS   a call begins, in the state of all pages so far
+  return NUMBER VALUE          it ends, in the state of all pages so far
+
+What is recorded: EL2's pool, its variables, and tables of guests and the pages of their VMs' structs. It ends after CALLS calls, when
+the machine is off, or when `pages` has a gigabyte.
+"""
+import hashlib
+import mmap
+import os
+import re
+import socket
+import struct
+import subprocess
+import sys
+import time
+
+BASE, PAGE, MOST_PAGES, PATIENCE = 0x40000000, 4096, 1 << 18, 120
+# The calls, and what each argument is: a number, a vCPU or a VM, of which the VM's physical address is told, or a place.
+CALLS = {
+    "__pkvm_host_share_hyp": "n",
+    "__pkvm_host_unshare_hyp": "n",
+    "__pkvm_host_donate_hyp": "nn",
+    "__pkvm_hyp_donate_host": "nn",
+    "handle_host_mem_abort": "",
+    "__pkvm_host_share_guest": "nnncn",
+    "__pkvm_host_unshare_guest": "nnv",
+    "__pkvm_host_donate_guest": "nnc",
+    "__pkvm_guest_share_host": "cn",
+    "__pkvm_guest_unshare_host": "cn",
+    "__pkvm_host_relax_perms_guest": "ncn",
+    "__pkvm_host_reclaim_page_guest": "nv",
+    "kvm_guest_prepare_stage2": "vp",
+    "__pkvm_start_teardown_vm": "n",
+    "__pkvm_finalize_teardown_vm": "n",
+}
+VARIABLES = ["host_mmu", "pkvm_pgtable", "host_s2_pool", "hpool", "hyp_memory", "hyp_memblock_nr", "__hyp_vmemmap"]
+
+
+def refuse(why):
+    print(f"examples/linux/live: {why}", file=sys.stderr)
+    sys.exit(2)
+
+
+class Gdb:
+    """The stub's protocol: packets, registers and breakpoints."""
+
+    def __init__(self, path):
+        self.socket = socket.socket(socket.AF_UNIX)
+        self.socket.connect(path)
+        self.socket.settimeout(PATIENCE)
+        self.buffer = b""
+        self.here = None  # a breakpoint where the machine stands
+        self.ask("qSupported:multiprocess+")
+        self.registers = {}
+        number = 0
+        for include in re.findall(r'href="([^"]+)"', self.xml("target.xml")):
+            for it in re.findall(r"<reg ([^>]*)/?>", self.xml(include)):
+                own = re.search(r'regnum="(\d+)"', it)
+                number = int(own.group(1)) if own else number
+                self.registers[re.search(r'name="([^"]+)"', it).group(1)] = number
+                number += 1
+
+    def ask(self, words):
+        data = words.encode()
+        self.socket.sendall(b"$%s#%02x" % (data, sum(data) & 255))
+        while True:
+            start = self.buffer.find(b"$")
+            end = self.buffer.find(b"#", start + 1)
+            if start >= 0 and end >= 0 and len(self.buffer) >= end + 3:
+                packet = self.buffer[start + 1 : end].decode()
+                self.buffer = self.buffer[end + 3 :]
+                self.socket.sendall(b"+")
+                return packet
+            more = self.socket.recv(65536)
+            if not more:
+                raise EOFError
+            self.buffer += more
+
+    def xml(self, name):
+        text = ""
+        while True:
+            part = self.ask(f"qXfer:features:read:{name}:{len(text):x},ffb")
+            text += part[1:]
+            if part[0] == "l":
+                return text
+
+    def register(self, name):
+        return int.from_bytes(bytes.fromhex(self.ask(f"p{self.registers[name]:x}")), "little")
+
+    def number_at(self, address):
+        return int.from_bytes(bytes.fromhex(self.ask(f"m{address:x},8")), "little")
+
+    def stop_at(self, address):
+        assert self.ask(f"Z0,{address:x},4") == "OK"
+
+    def stop_no_more_at(self, address):
+        assert self.ask(f"z0,{address:x},4") == "OK"
+        if self.here == address:
+            self.here = None
+
+    def go_on(self, stops):
+        """Until a breakpoint. It would stop where it stands: so that one is taken out for a step."""
+        if self.here is not None:
+            here = self.here
+            self.stop_no_more_at(here)
+            self.ask("s")
+            while self.register("pc") == here:
+                self.ask("s")
+            self.stop_at(here)
+        pc = self.register("pc")
+        if self.here is None or pc not in stops:
+            if self.ask("c")[0] in "WX":
+                raise EOFError
+            pc = self.register("pc")
+        self.here = pc if pc in stops else None
+        return pc
+
+
+class Record:
+    """Pages as they change, each content once."""
+
+    def __init__(self, folder, memory):
+        self.calls = open(f"{folder}/calls", "w", encoding="ascii")
+        self.pages = open(f"{folder}/pages", "wb")
+        self.memory = memory
+        self.now, self.index_of = {}, {}
+
+    def line(self, *words):
+        print(*words, file=self.calls)
+
+    def see(self, frames):
+        for frame in frames:
+            at = frame * PAGE - BASE
+            page = self.memory[at : at + PAGE]
+            if self.now.get(frame) == page:
+                continue
+            self.now[frame] = page
+            digest = hashlib.sha1(page).digest()
+            if digest not in self.index_of:
+                self.index_of[digest] = len(self.index_of)
+                self.pages.write(page)
+            self.line("page", hex(frame), self.index_of[digest])
+        if len(self.index_of) > MOST_PAGES:
+            raise EOFError
+
+    def close(self):
+        self.calls.close()
+        self.pages.close()
+
+
+def tables(memory, frame, level, found):
+    """The frames of a tree's tables."""
+    found.add(frame)
+    if level == 3:
+        return
+    at = frame * PAGE - BASE
+    for word in struct.unpack("<512Q", memory[at : at + PAGE]):
+        below = (word >> 12) & ((1 << 36) - 1)
+        if word & 3 == 3 and below not in found and 0 <= below * PAGE - BASE < len(memory):
+            tables(memory, below, level + 1, found)
+
+
+def main():
+    kernel, initrd, folder, cpu, megabytes, most, *words = sys.argv[1:]
+    size, most = int(megabytes) << 20, int(most)
+    with open(f"{kernel}/names", encoding="ascii") as file:
+        names = {name: int(value, 0) for name, value in (line.split() for line in file)}
+    # 6.12 leaves the tables of guests to the host: those calls of theirs aren't there, or don't matter.
+    calls = {name: kinds for name, kinds in CALLS.items() if name in names and (kinds.strip("n") == "" or "pkvm_hyp_vm.pgt" in names)}
+    with open(f"{folder}/memory", "w+b") as file:
+        file.truncate(size)
+        memory = mmap.mmap(file.fileno(), size)
+    machine = ["-M", "virt,virtualization=on,gic-version=3,memory-backend=memory", "-cpu", cpu, "-smp", "1", "-m", megabytes]
+    with subprocess.Popen(
+        ["qemu-system-aarch64", *machine, "-display", "none", "-nic", "none", "-no-reboot", "-S", "-kernel", f"{kernel}/Image"]
+        + ["-object", f"memory-backend-file,id=memory,size={megabytes}M,mem-path={folder}/memory,share=on", "-initrd", initrd]
+        + ["-append", "console=ttyAMA0 kvm-arm.mode=protected nokaslr rdinit=/init panic=-1 " + " ".join(words)]
+        + ["-serial", f"file:{folder}/console", "-monitor", "none"]
+        + ["-chardev", f"socket,path={folder}/gdb,server=on,wait=off,id=gdb", "-gdb", "chardev:gdb"]
+    ) as qemu:
+        try:
+            for _ in range(100):
+                if os.path.exists(f"{folder}/gdb"):
+                    break
+                time.sleep(0.1)
+            record = Record(folder, memory)
+            number = run(Gdb(f"{folder}/gdb"), names, calls, memory, record, most)
+            record.close()
+        finally:
+            qemu.terminate()
+            os.unlink(f"{folder}/memory")
+    print(f"recorded {number} calls and {len(record.index_of)} pages", file=sys.stderr)
+
+
+def run(gdb, names, calls, memory, record, most):
+    # The host's kernel, before it starts EL2: it knows by now where all lies.
+    gdb.stop_at(names["kernel.kvm_arm_init"])
+    gdb.go_on([names["kernel.kvm_arm_init"]])
+    to_physical = gdb.number_at(names["kernel.kimage_voffset"])
+    offset = gdb.number_at(names["hyp_physvirt_offset"])
+    pool = gdb.number_at(names["kernel.hyp_mem_base"]) // PAGE
+    pool_pages = gdb.number_at(names["kernel.hyp_mem_size"]) // PAGE
+    gdb.stop_no_more_at(names["kernel.kvm_arm_init"])
+
+    def physical(name):
+        return (names[name] - to_physical) % (1 << 64)
+
+    for name, value in [("hyp_physvirt_offset", offset), ("pool", pool), ("pool_pages", pool_pages)]:
+        record.line("name", name, hex(value))
+    for name in VARIABLES + ["__hyp_text_start", "__hyp_text_end"]:
+        if name in names:
+            record.line("name", name, hex(physical(name)))
+    for name, value in names.items():
+        if "." in name and not name.startswith("kernel.") or name in ("hyp_page", "memblock_region"):
+            record.line("name", name, hex(value))
+
+    at = {(physical(name) - offset) % (1 << 64): name for name in calls}
+    for address in at:
+        gdb.stop_at(address)
+    first = min(physical(name) for name in VARIABLES) // PAGE
+    last = (max(physical(name) for name in VARIABLES) + 8191) // PAGE
+    fixed = list(range(first, last + 1)) + list(range(pool, pool + pool_pages))
+    vms = {}  # a VM's struct, and the frame of its root
+
+    def frames():
+        found = set()
+        for vm, root in vms.items():
+            pgt = vm - BASE + names["pkvm_hyp_vm.pgt"]
+            level = memory[pgt + names["kvm_pgtable.start_level"]]
+            for page in range(1 << max(0, memory[pgt + names["kvm_pgtable.ia_bits"]] - 48 + 9 * level)):
+                tables(memory, root + page, level, found)
+            found.update(range(vm // PAGE, vm // PAGE + 3))
+        return fixed + sorted(found)
+
+    def handle_of(vm):
+        place = vm - BASE + names["pkvm_hyp_vm.kvm.arch.pkvm.handle"]
+        return int.from_bytes(memory[place : place + 2], "little")
+
+    def told(kind, value):
+        value = value if kind == "n" else (value + offset) % (1 << 64)
+        if kind == "c":
+            place = value - BASE + names["kvm_vcpu.kvm"]
+            value = (int.from_bytes(memory[place : place + 8], "little") + offset) % (1 << 64)
+        return value
+
+    number, open_calls = 0, []
+    try:
+        while number < most or open_calls:
+            pc = gdb.go_on(set(at) | {it[1] for it in open_calls})
+            if open_calls and pc == open_calls[-1][1]:
+                own, back, name, arguments = open_calls.pop()
+                gdb.stop_no_more_at(back)
+                value = gdb.register("x0")
+                if name == "kvm_guest_prepare_stage2" and value == 0:
+                    vms[arguments[0]] = arguments[1] // PAGE
+                record.see(frames())
+                record.line("return", own, hex(value))
+            elif pc in at:
+                name = at[pc]
+                arguments = [told(kind, gdb.register(f"x{i}")) for i, kind in enumerate(calls[name])]
+                if name == "handle_host_mem_abort":
+                    arguments = [gdb.register("HPFAR_EL2")]
+                if number == 0:
+                    record.line("name", "is_hvhe", hex(gdb.register("HCR_EL2") >> 34 & 1))
+                back = gdb.register("x30")
+                if name == "__pkvm_finalize_teardown_vm":
+                    vms = {vm: root for vm, root in vms.items() if handle_of(vm) != arguments[0]}
+                record.see(frames())
+                record.line("call", number, name, *map(hex, arguments))
+                open_calls.append((number, back, name, arguments))
+                gdb.stop_at(back)
+                number += 1
+                if len(open_calls) > 8:
+                    refuse("calls lie in each other without end")
+            else:
+                refuse(f"the machine stopped at {pc:#x}")
+    except (EOFError, ConnectionResetError, BrokenPipeError):
+        pass
+    except socket.timeout:
+        print(f"examples/linux/live: the machine says nothing for {PATIENCE} seconds", file=sys.stderr)
+    return number
+
+
+main()
