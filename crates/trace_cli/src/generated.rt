@@ -27,11 +27,11 @@ fn written<R: Eprint, W: Write>(rt: &R, writer: &mut W, answer: Result<String, G
     match answer {
         Ok(text) => put(rt, writer, text.as_bytes()),
         Err(GenerateFault::NoMemory) => {
-            let _ = eprintln!(rt; "trace_cli: out of memory");
+            let _ = eprintln!(rt; "./run: out of memory");
             FAILED
         }
         Err(fault) => {
-            let _ = eprintln!(rt; "trace_cli: {fault}");
+            let _ = eprintln!(rt; "./run: {fault}");
             REFUSED
         }
     }
@@ -52,7 +52,7 @@ fn told<R: Eprint>(rt: &R, outcome: io::Result<()>) -> u8
     match outcome {
         Ok(()) => 0,
         Err(error) => {
-            let _ = eprintln!(rt; "trace_cli: standard output: {error}");
+            let _ = eprintln!(rt; "./run: standard output: {error}");
             FAILED
         }
     }

@@ -148,7 +148,7 @@ fn main(rt: HostRuntime) -> ExitCode {
     match run(&rt, &HostFiles { rt: &rt, shows }) {
         Ok(status) => ExitCode::from(status),
         Err(error) => {
-            let _ = eprintln!(rt; "trace_cli: {error}");
+            let _ = eprintln!(rt; "./run: {error}");
             ExitCode::from(FAILED)
         }
     }

@@ -47,7 +47,7 @@ impl<'a, R: Clock + Eprint, F> Watched<'a, R, F> {
         self.shown = Some(now);
         self.is_shown = true;
         let lines = self.lines;
-        let _ = eprint!(self.rt; "\rtrace_cli: {lines} lines read");
+        let _ = eprint!(self.rt; "\r./run: {lines} lines read");
     }
 
     /// Counts the lines of what was read, and wipes what is shown where nothing was.

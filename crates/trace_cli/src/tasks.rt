@@ -71,7 +71,7 @@ pub fn status_of<R: AllocGlobal + Print + Eprint + Threads + Wait + Sync, F: io:
             told(rt, path, answer)
         }
         Err(error) => {
-            let _ = eprintln!(rt; "trace_cli: {path}: {error}");
+            let _ = eprintln!(rt; "./run: {path}: {error}");
             REFUSED
         }
     }

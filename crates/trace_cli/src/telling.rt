@@ -29,7 +29,7 @@ pub fn refused<R: Print + Eprint>(rt: &R, fault: UsageFault) -> u8
             REFUSED
         }
         UsageFault::NoMemory => {
-            let _ = eprintln!(rt; "trace_cli: out of memory");
+            let _ = eprintln!(rt; "./run: out of memory");
             FAILED
         }
     }
@@ -38,12 +38,12 @@ pub fn refused<R: Print + Eprint>(rt: &R, fault: UsageFault) -> u8
 /// Tells why no whole report was written.
 pub fn tell<R: Eprint>(rt: &R, path: &str, halted: &Halted) {
     let _ = match halted.fault {
-        RaceFault::Start => eprintln!(rt; "trace_cli: {path}: a thread could not be started"),
+        RaceFault::Start => eprintln!(rt; "./run: {path}: a thread could not be started"),
         RaceFault::Engine(fault) => {
             let place = place_of(fault, path);
             match &halted.cause {
-                Some(cause) => eprintln!(rt; "trace_cli: {place}: {cause}"),
-                None => eprintln!(rt; "trace_cli: {place}: {fault}"),
+                Some(cause) => eprintln!(rt; "./run: {place}: {cause}"),
+                None => eprintln!(rt; "./run: {place}: {fault}"),
             }
         }
     };

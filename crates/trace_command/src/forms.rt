@@ -26,6 +26,9 @@ use std::alloc::{AllocError, Global};
 /// What `--version` shows.
 const VERSION: &str = "2.1.0 (rattle-kit-13f)";
 
+/// What usage texts call the program.
+const PROGRAM: &str = "./run";
+
 /// What help shows after the words.
 const HELP: &str =
     "Examples:\n  ./run replay examples/first_share.trace\n  ./run replay examples/first_share.trace --heap 262144\n  ./run race examples/raced/one_vcpu.trace\n  ./run audit examples/audited/broken_word.trace\n  ./run check examples/expected_replies.trace\n  ./run explain examples/first_share.trace\n  ./run generate 1 1000 --cpus 4 --hostile 10\n  ./run draw examples/protected_vm.trace\n\nFILE is a path, or - for standard input.\n\nExit status:\n  0  the report ends without a fault or a disagreement; what a trace expects is met\n  1  the report has a fault or a disagreement, an expectation is missed, or reading, writing, memory or the start of a thread failed\n  2  FILE can't be opened, the words are refused, or help was asked for\n\nThe lines of a trace, its report and each fault are explained in docs/TRACES.md.";
@@ -265,7 +268,8 @@ fn draw<'a>(global: Global) -> Result<Command<'a>, AllocError>
 pub(crate) fn form<'a>(global: Global) -> Result<Command<'a>, AllocError>
     ensures { IfOk result (λ form. app_of form ≡ program) }
 {
-    let form = Command::new(global, "trace_cli")
+    let named = Command::new(global, "trace_cli").bin_name(PROGRAM)?;
+    let form = named
         .about("Runs traces of hypercalls on a model of protected KVM's page ownership")
         .version(VERSION)
         .after_help(HELP)

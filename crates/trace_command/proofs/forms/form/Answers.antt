@@ -10,7 +10,7 @@ returns c =
     let needs : App → App = λ a. record a { top = record a.top { subcommand_required = true } } in
     let helps : App → App = λ a. record a { top = record a.top { arg_required_else_help = true } } in
     let has : App → App = λ a. record a { top = record a.top { has_version = true } } in
-    let plain = ap app_of_fields c.about.ensures ∙ c.new.ensures.app in
+    let plain = ap app_of_fields c.about.ensures ∙ ap app_of_fields c.in_ok-named.ensures.0 ∙ c.new.ensures.app in
     let versioned = ap app_of_fields c.version.ensures ∙ ap has plain in
     let needed = ap app_of_fields c.subcommand_required.ensures ∙ ap needs (ap app_of_fields c.after_help.ensures ∙ versioned) in
     let start = ap app_of_fields c.arg_required_else_help-form.ensures ∙ ap helps needed in
