@@ -1,15 +1,16 @@
 -- What `check` says of a trace (profile).
-use Rattle.std.specs.Prelude.{◌≡◌, ℕ, ◌-◌, List, [], ◌∷◌, ◌++◌, codes, length, Bool, ◌&&◌, not, ◌==◌, Option, Some, None, slice_get, if◌then◌else◌}
+use Rattle.std.specs.Prelude.{◌≡◌, ℕ, ◌+◌, ◌-◌, List, [], ◌∷◌, ◌++◌, codes, length, Bool, ◌&&◌, not, ◌==◌, Option, Some, None, slice_get, if◌then◌else◌}
 use Rattle.std.specs.Fmt.{decimal}
 use Rattle.std.specs.List.{list_any}
 use Rattle.trace_reader.specs.Reading.{lines_of}
-use Rattle.trace_faults.specs.Spots.{spot_line, spot_of}
+use Rattle.trace_faults.specs.Beside.{file_line}
+use Rattle.trace_faults.specs.Spots.{place_line}
 use Rattle.trace_text.specs.declared.fault.Fault.{Fault}
 use Rattle.trace_text.specs.declared.report.ReportLine.{ReportLine}
 use Rattle.trace_text.specs.declared.report.ReportLine.TheVariants as report
 use Rattle.trace_text.specs.Session.{at_start}
 use Rattle.trace_check.specs.declared.checking.Checked.{Checked}
-use Rattle.trace_check.specs.Expectations.{count_expected}
+use Rattle.trace_check.specs.Expectations.{count_expected, count_mistaken, is_mistaken}
 use Rattle.trace_check.specs.Misses.{Miss, misses}
 use Rattle.trace_check.specs.Runs.{Runs}
 use Rattle.trace_check.specs.Shown.{is_boot_or_fault}
@@ -18,10 +19,6 @@ use Rattle.trace_check.specs.Shown.{is_boot_or_fault}
 abbrev pub has_begun : List (List ReportLine) → Bool
 has_begun told = list_any (list_any is_boot_or_fault) told
 
--- a line of what is said of a file
-abbrev pub file_line : List ℕ → List ℕ → List ℕ
-file_line name said = name ++ codes ": " ++ said ++ 10 ∷ []
-
 -- a miss, with its file and line
 abbrev pub miss_line : List ℕ → Miss → List ℕ
 miss_line name miss = name ++ codes ":" ++ decimal miss.0 ++ codes ": " ++ miss.1 ++ 10 ∷ []
@@ -29,6 +26,23 @@ miss_line name miss = name ++ codes ":" ++ decimal miss.0 ++ codes ": " ++ miss.
 abbrev pub miss_lines : List ℕ → List Miss → List ℕ
 miss_lines name [] = []
 miss_lines name (miss ∷ more) = miss_line name miss ++ miss_lines name more
+
+-- what is wrong at the first byte of the line of a number
+abbrev pub first_line : List ℕ → ℕ → List ℕ → List ℕ
+first_line name number said = name ++ codes ":" ++ decimal number ++ codes ":1: " ++ said ++ 10 ∷ []
+
+-- what is wrong with a comment that is like an expectation, and none
+unfoldable pub mistaken_said : List ℕ → List ℕ
+mistaken_said line = codes "no expectation: found `" ++ line ++ codes "`, wanted `#= ` and what is expected"
+
+-- the line for it
+abbrev pub mistaken_line : List ℕ → ℕ → List ℕ → List ℕ
+mistaken_line name number line = first_line name number (mistaken_said line)
+
+-- all of those of the lines from a number on
+abbrev pub mistaken_lines : List ℕ → ℕ → List (List ℕ) → List ℕ
+mistaken_lines name number [] = []
+mistaken_lines name number (line ∷ rest) = (if is_mistaken line then mistaken_line name number line else []) ++ mistaken_lines name (number + 1) rest
 
 -- the fault that ended the run, where one did: its line reports it alone
 abbrev pub fault_in : List ReportLine → Option Fault
@@ -41,7 +55,7 @@ last_fault told = elim (slice_get told (length told - 1)) [ Some reported ↦ fa
 -- where the fault is that ended the run, where something is missed
 abbrev pub spot_said : List ℕ → List (List ℕ) → List (List ReportLine) → ℕ → List ℕ
 spot_said name lines told missed =
-    if missed == 0 then [] else elim (last_fault told) [ Some fault ↦ spot_line name (spot_of lines (length told - 1) fault) | None ↦ [] ]
+    if missed == 0 then [] else elim (last_fault told) [ Some fault ↦ place_line name lines (length told - 1) fault | None ↦ [] ]
 
 -- what is said of a whole file
 abbrev pub boot_said : List ℕ → Bool → List ℕ
@@ -53,16 +67,21 @@ none_said name expected = if expected == 0 then file_line name (codes "nothing i
 abbrev pub sum_said : List ℕ → ℕ → ℕ → List ℕ
 sum_said name expected wrong = file_line name (decimal expected ++ codes " expected, " ++ decimal wrong ++ codes " wrong")
 
--- all that is said
-abbrev pub said_of : List ℕ → List Miss → List ℕ → Bool → ℕ → List ℕ
-said_of name missed spot begun expected = miss_lines name missed ++ spot ++ boot_said name begun ++ none_said name expected ++ sum_said name expected (length missed)
+-- all that is said of lines that report this and miss that
+abbrev pub said_of : List ℕ → List (List ℕ) → List (List ReportLine) → List Miss → ℕ → ℕ → List ℕ
+said_of name lines told missed expected wrong =
+    miss_lines name missed ++ mistaken_lines name 1 lines ++ spot_said name lines told (length missed) ++ boot_said name (has_begun told) ++ none_said name expected ++ sum_said name expected wrong
+
+-- how many misses and comments that are like an expectation a trace has
+abbrev pub count_wrong : List (List ℕ) → List (List ReportLine) → ℕ
+count_wrong lines told = length (misses lines told) + count_mistaken lines
 
 -- the answer to a trace whose lines report this
 pub record Checks (name : List ℕ) (lines : List (List ℕ)) (told : List (List ReportLine)) (checked : Checked) : Type 0 where
-  pub text : checked.text.items ≡ said_of name (misses lines told) (spot_said name lines told (length (misses lines told))) (has_begun told) (count_expected lines)
+  pub text : checked.text.items ≡ said_of name lines told (misses lines told) (count_expected lines) (count_wrong lines told)
   pub expected : checked.expected ≡ count_expected lines
-  pub wrong : checked.wrong ≡ length (misses lines told)
-  pub clean : checked.clean ≡ (has_begun told && not (count_expected lines == 0) && length (misses lines told) == 0)
+  pub wrong : checked.wrong ≡ count_wrong lines told
+  pub clean : checked.clean ≡ (has_begun told && not (count_expected lines == 0) && count_wrong lines told == 0)
 
 -- the answer to the bytes of a trace: there is a run of its lines
 pub record IsChecked (name trace : List ℕ) (checked : Checked) : Type 0 where

@@ -7,7 +7,7 @@ use Rattle.trace_text.specs.Oracles.{agreed}
 use Rattle.trace_text.specs.Replay.{IsReport}
 use Rattle.trace_text.specs.Session.{Standing, at_start}
 use Rattle.trace_check.specs.declared.checking.Checked.{Checked}
-use Rattle.trace_check.specs.Checks.{IsChecked, has_begun, sum_said}
+use Rattle.trace_check.specs.Checks.{IsChecked, count_wrong, has_begun, sum_said}
 use Rattle.trace_check.specs.Expectations.{count_expected}
 use Rattle.trace_check.specs.Misses.{misses, rest_missed}
 use Rattle.trace_check.specs.Records.{IsRecord, recorded, recorded_text}
@@ -59,18 +59,18 @@ pub record IsReplayTold (number : ℕ) (old : Standing) (lines : List (List ℕ)
 abbrev pub ToldIsReplayed : Type 0
 ToldIsReplayed = (lines : List (List ℕ)) (told : List (List ReportLine)) → Runs 1 at_start lines told → IsReplayTold 1 at_start lines told
 
--- a trace is clean: its machine booted, or a fault says why not, something is expected, and nothing is missed
+-- a trace is clean: its machine booted, or a fault says why not, something is expected, and nothing is wrong
 pub record IsClean (told : List (List ReportLine)) (expected wrong : ℕ) : Type 0 where
   pub begun : has_begun told ≡ true
   pub some : 0 < expected
   pub none : wrong ≡ 0
 
--- a check counts the expectations of a trace and what a run of its lines misses of them; its last line has these numbers, and they say whether the trace is clean
+-- a check counts the expectations of a trace, and what a run of its lines misses of them with the comments that are like one; its last line has these numbers, and they say whether the trace is clean
 pub record CountsMisses (name trace : List ℕ) (checked : Checked) : Type 0 where
   pub told : List (List ReportLine)
   pub runs : Runs 1 at_start (lines_of trace) told
   pub expected : checked.expected ≡ count_expected (lines_of trace)
-  pub wrong : checked.wrong ≡ length (misses (lines_of trace) told)
+  pub wrong : checked.wrong ≡ count_wrong (lines_of trace) told
   pub front : List ℕ
   pub last : checked.text.items ≡ front ++ sum_said name checked.expected checked.wrong
   pub clean : (checked.clean ≡ true) ↔ IsClean told checked.expected checked.wrong

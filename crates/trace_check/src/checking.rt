@@ -1,30 +1,34 @@
 //! Checking what a trace expects.
 ghost use Rattle.std.specs.Prelude.{◌≡◌, ◌≤◌, ◌∷◌, ◌++◌, IfOk, codes, length, map};
-ghost use Rattle.trace_check.specs.Checks.{Checks, IsChecked, has_begun as has_begun_of, said_of, spot_said};
+ghost use Rattle.trace_check.specs.Checks.{Checks, IsChecked, said_of};
 ghost use Rattle.trace_check.specs.View.{misses_in, told_in};
 
 use crate::carrying::{Carried, Watch, carry_out};
-use crate::expecting::count_expected;
+use crate::expecting::{count_expected, count_mistaken};
 use crate::missing::{Miss, misses};
 use crate::shown::has_begun;
-use crate::writing::{add_boot, add_file_line, add_misses, add_none, add_place, add_sum};
+use crate::writing::{add_boot, add_fault, add_misses, add_mistaken, add_none, add_sum};
 use ghost_judge::disagreement::Disagreement;
 use std::alloc::{AllocError, Allocator, Global};
+use trace_faults::add_file_line;
 use trace_reader::lines;
 use trace_text::ReportLine;
 
 /// What a check of a trace comes to.
 #[derive(Drop)]
 pub struct Checked {
-    /// A line for each miss, `NAME:LINE: ..`, and the numbers of expectations and misses at the end.
+    /// A line for each miss, `NAME:LINE: ..`, one for each comment that is like an expectation and none, and the numbers of
+    /// expectations and of what is wrong at the end.
     pub text: Vec<u8>,
     pub expected: u64,
+    /// Misses, and comments that are like an expectation and none.
     pub wrong: u64,
-    /// Whether the machine booted or a fault says why it didn't, something is expected, and all is as expected.
+    /// Whether the machine booted or a fault says why it didn't, something is expected, and nothing is wrong.
     pub clean: bool,
 }
 
-/// Carries a trace out, and says where its lines don't report what the expectations after them have. `name` is its file's,
+/// Carries a trace out, and says where its lines don't report what the expectations after them have, and which comments are like
+/// an expectation, as `#=ok`, and none. `name` is its file's,
 /// for the text. `alloc` is where the tables of the trees lie. Err where memory was refused.
 pub fn check<A: Allocator + Copy>(
     global: Global,
@@ -73,13 +77,22 @@ fn check_told(
 {
     let missed = misses(global, lines, told)?;
     let expected = count_expected(lines);
+    let wrong = missed.len() + count_mistaken(lines);
     let begun = has_begun(told);
-    let text = written(global, name, missed.as_slice(), lines, told, expected)?;
+    let text = written(
+        global,
+        name,
+        missed.as_slice(),
+        lines,
+        told,
+        expected,
+        wrong,
+    )?;
     Ok(Checked {
         text,
         expected: expected as u64,
-        wrong: missed.len() as u64,
-        clean: begun && expected != 0 && missed.is_empty(),
+        wrong: wrong as u64,
+        clean: begun && expected != 0 && wrong == 0,
     })
 }
 
@@ -90,15 +103,17 @@ fn written(
     lines: &[&[u8]],
     told: &[Vec<ReportLine>],
     expected: usize,
+    wrong: usize,
 ) -> Result<Vec<u8>, AllocError>
     requires { length told.now ≤ length lines.now }
-    ensures { IfOk result (λ text. text.items ≡ said_of name.now (misses_in missed.now) (spot_said name.now (map (λ line. line.now) lines.now) (told_in told.now) (length missed.now)) (has_begun_of (told_in told.now)) expected) }
+    ensures { IfOk result (λ text. text.items ≡ said_of name.now (map (λ line. line.now) lines.now) (told_in told.now) (misses_in missed.now) expected wrong) }
 {
     let mut text = Vec::new(global);
     add_misses(&mut text, global, name, missed)?;
-    add_place(&mut text, global, name, lines, told, missed.len())?;
+    add_mistaken(&mut text, global, name, lines)?;
+    add_fault(&mut text, global, name, lines, told, missed.len())?;
     add_boot(&mut text, name, has_begun(told))?;
     add_none(&mut text, name, expected)?;
-    add_sum(&mut text, global, name, expected, missed.len())?;
+    add_sum(&mut text, global, name, expected, wrong)?;
     Ok(text)
 }

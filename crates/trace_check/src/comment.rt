@@ -1,6 +1,6 @@
 //! Comments that say what is expected.
 ghost use Rattle.std.specs.Prelude.{◌≡◌, is_some, option_copied};
-ghost use Rattle.trace_check.specs.Expectations.{expectation as expectation_in};
+ghost use Rattle.trace_check.specs.Expectations.{expectation as expectation_in, is_marked as is_marked_line, is_mistaken as is_mistaken_line, leads_to_mark};
 
 use trace_reader::MOST_BYTES;
 use trace_words::{has_stray_byte, is_name};
@@ -24,6 +24,42 @@ pub fn expectation(line: &[u8]) -> Option<&[u8]>
         return None;
     }
     Some(&line[3..])
+}
+
+/// Whether a line is a comment that is like an expectation, and is none: after `#` and any number of spaces comes `=`. One of
+/// over 256 bytes, or with a byte that no line may have, is a fault of every run, and not told here.
+pub(crate) fn is_mistaken(line: &[u8]) -> bool
+    ensures { result ≡ is_mistaken_line line.now }
+{
+    if line.len() > MOST_BYTES {
+        return false;
+    }
+    if has_stray_byte(line) {
+        return false;
+    }
+    is_marked(line) && !is_expectation(line)
+}
+
+/// Whether a line is a comment that begins with `=`, after any number of spaces.
+fn is_marked(line: &[u8]) -> bool
+    ensures { result ≡ is_marked_line line.now }
+{
+    match line {
+        [b'#', rest @ ..] => leads_to(rest),
+        _ => false,
+    }
+}
+
+/// Whether the first byte that is no space is `=`.
+fn leads_to(rest: &[u8]) -> bool
+    ensures { result ≡ leads_to_mark rest.now }
+{
+    for byte in rest {
+        if *byte != b' ' {
+            return *byte == b'=';
+        }
+    }
+    false
 }
 
 /// Whether a line is an expectation.

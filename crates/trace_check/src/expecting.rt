@@ -1,8 +1,8 @@
 //! The expectations of a trace.
 ghost use Rattle.std.specs.Prelude.{◌≡◌, ◌≤◌, IfOk, length, map};
-ghost use Rattle.trace_check.specs.Expectations.{count_expected as count_expected_in, expected_first as expected_first_in};
+ghost use Rattle.trace_check.specs.Expectations.{count_expected as count_expected_in, count_mistaken as count_mistaken_in, expected_first as expected_first_in};
 
-use crate::comment::{expectation, is_expectation};
+use crate::comment::{expectation, is_expectation, is_mistaken};
 use std::alloc::{AllocError, Global};
 
 /// What the expectations at the front of lines expect.
@@ -28,4 +28,11 @@ pub(crate) fn count_expected(lines: &[&[u8]]) -> usize
     ensures { result ≡ count_expected_in (map (λ line. line.now) lines.now) }
 {
     lines.iter().filter(|line| is_expectation(line)).count()
+}
+
+/// How many lines are comments like an expectation, and none.
+pub(crate) fn count_mistaken(lines: &[&[u8]]) -> usize
+    ensures { result ≡ count_mistaken_in (map (λ line. line.now) lines.now) }
+{
+    lines.iter().filter(|line| is_mistaken(line)).count()
 }

@@ -14,7 +14,7 @@ pub fn told_is_replayed()
     ensures { ToldIsReplayed }
 {}
 
-/// The numbers of a check are those of its expectations and misses: they are told in its last line, and say whether a trace is clean.
+/// The numbers of a check are those of its expectations, and of its misses with the comments that are like one: they are told in its last line, and say whether a trace is clean.
 pub fn check_counts()
     ensures { CheckCounts }
 {}

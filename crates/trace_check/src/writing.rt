@@ -1,21 +1,25 @@
 //! The text of a check.
-ghost use Rattle.std.specs.Prelude.{◌≡◌, ◌<◌, ◌≤◌, ◌∷◌, ◌++◌, IfSome, OnOk, codes, length, map};
+ghost use Rattle.std.specs.Prelude.{◌≡◌, ◌+◌, ◌<◌, ◌≤◌, ◌∷◌, ◌++◌, IfOk, IfSome, OnOk, codes, length, map};
 ghost use Rattle.trace_check.specs.Checks.{
   boot_said,
   fault_in as fault_in_line,
-  file_line,
+  first_line,
   last_fault as last_fault_of,
   miss_line,
   miss_lines,
+  mistaken_line,
+  mistaken_lines as mistaken_lines_by,
+  mistaken_said as mistaken_said_by,
   none_said,
   spot_said,
   sum_said,
 };
 ghost use Rattle.trace_check.specs.View.{misses_in, told_in};
 
+use crate::comment::is_mistaken;
 use crate::missing::Miss;
 use std::alloc::{AllocError, Global};
-use trace_faults::spot;
+use trace_faults::{add_file_line, add_place};
 use trace_text::{Fault, ReportLine};
 
 /// A line for each miss.
@@ -50,8 +54,68 @@ fn add_miss(
     Ok(())
 }
 
+/// A line for each comment that is like an expectation, and is none.
+pub(crate) fn add_mistaken(
+    text: &mut Vec<u8>,
+    global: Global,
+    name: &str,
+    lines: &[&[u8]],
+) -> Result<(), AllocError>
+    ensures { OnOk result (text.new.items ≡ text.old.items ++ mistaken_lines_by name.now 1 (map (λ line. line.now) lines.now)) }
+{
+    for (place, line) in lines.iter().enumerate() {
+        let number = place as u64 + 1;
+        if is_mistaken(line) {
+            add_mistaken_at(text, global, name, number, line)?;
+        }
+    }
+    Ok(())
+}
+
+fn add_mistaken_at(
+    text: &mut Vec<u8>,
+    global: Global,
+    name: &str,
+    number: u64,
+    line: &[u8],
+) -> Result<(), AllocError>
+    ensures { OnOk result (text.new.items ≡ text.old.items ++ mistaken_line name.now number line.now) }
+{
+    let said = mistaken_said(global, line)?;
+    add_first(text, global, name, number, said.as_slice())
+}
+
+/// What is wrong with such a comment.
+#[tactic(auto, unfolding(crate::specs::Checks::mistaken_said))]
+fn mistaken_said(global: Global, line: &[u8]) -> Result<Vec<u8>, AllocError>
+    ensures { IfOk result (λ said. said.items ≡ mistaken_said_by line.now) }
+{
+    let mut said = Vec::from_slice(global, b"no expectation: found `")?;
+    said.extend_from_slice(line)?;
+    said.extend_from_slice(b"`, wanted `#= ` and what is expected")?;
+    Ok(said)
+}
+
+/// What is wrong at the first byte of a line.
+fn add_first(
+    text: &mut Vec<u8>,
+    global: Global,
+    name: &str,
+    line: u64,
+    said: &[u8],
+) -> Result<(), AllocError>
+    ensures { OnOk result (text.new.items ≡ text.old.items ++ first_line name.now line said.now) }
+{
+    let place = format!(in global; ":{line}:1: ")?;
+    text.extend_from_slice(name.as_bytes())?;
+    text.extend_from_slice(place.as_bytes())?;
+    text.extend_from_slice(said)?;
+    text.extend_from_slice(b"\n")?;
+    Ok(())
+}
+
 /// A line for the place of the fault that ended the run, where one did and something is missed.
-pub(crate) fn add_place(
+pub(crate) fn add_fault(
     text: &mut Vec<u8>,
     global: Global,
     name: &str,
@@ -68,8 +132,7 @@ pub(crate) fn add_place(
     let Some(fault) = last_fault(told) else {
         return Ok(());
     };
-    let spot = spot(global, lines, told.len() - 1, fault)?;
-    trace_faults::add_spot(text, global, name, &spot)
+    add_place(text, global, name, lines, told.len() - 1, fault)
 }
 
 /// The fault that ended the run, where one did.
@@ -91,17 +154,6 @@ fn fault_in(reported: &[ReportLine]) -> Option<Fault>
         [ReportLine::Fault { line: _, fault }] => Some(*fault),
         _ => None,
     }
-}
-
-/// A line of what is said of the whole file.
-pub(crate) fn add_file_line(text: &mut Vec<u8>, name: &str, said: &[u8]) -> Result<(), AllocError>
-    ensures { OnOk result (text.new.items ≡ text.old.items ++ file_line name.now said.now) }
-{
-    text.extend_from_slice(name.as_bytes())?;
-    text.extend_from_slice(b": ")?;
-    text.extend_from_slice(said)?;
-    text.extend_from_slice(b"\n")?;
-    Ok(())
 }
 
 pub(crate) fn add_boot(text: &mut Vec<u8>, name: &str, begun: bool) -> Result<(), AllocError>

@@ -24,6 +24,7 @@ ghost use Rattle.trace_command.specs.Asked.{asking_of};
 
 mod files;
 mod generated;
+mod kept;
 mod progress;
 mod reports;
 mod tasks;

@@ -2,6 +2,8 @@
 ghost use Rattle.std.specs.Prelude.{◌≡◌, IfOk};
 ghost use Rattle.trace_cli.specs.Status.{HasAuditReport, HasRaceReport, HasReplayReport};
 
+use crate::kept::{KeptReader, KeptWriter};
+use crate::telling::{no_memory, tell_beside};
 use cpu_threads::Open;
 use linked_list_allocator::LocalHeap;
 use std::alloc::Allocator;
@@ -10,13 +12,15 @@ use std::sync::Wait;
 use std::thread::Threads;
 use trace_audit::audit_buffered;
 use trace_command::Looks;
+use trace_faults::fault_told;
 use trace_race::{Halted, RaceFault, race_buffered};
-use trace_reader::{EngineFault, Outcome};
+use trace_reader::Outcome;
 use trace_text::{Stopped, replay_at_end_buffered, replay_buffered};
 
 /// Replays a trace with the trees' tables in a heap of this size, or in the machine's memory.
-pub fn replayed<R: AllocGlobal + Print, F: io::Read + Drop>(
+pub fn replayed<R: AllocGlobal + Print + Eprint, F: io::Read + Drop>(
     rt: &R,
+    path: &str,
     heap: Option<usize>,
     looks: Looks,
     quiet: bool,
@@ -25,20 +29,18 @@ pub fn replayed<R: AllocGlobal + Print, F: io::Read + Drop>(
     ensures { IfOk result (HasReplayReport (F.remaining file)) }
 {
     let Some(bytes) = heap else {
-        return replayed_in(rt, rt.alloc(), looks, quiet, file);
+        return replayed_in(rt, path, rt.alloc(), looks, quiet, file);
     };
     match LocalHeap::new(rt.alloc(), bytes) {
-        Ok(heap) => replayed_in(rt, &heap, looks, quiet, file),
-        Err(_) => Err(Halted {
-            fault: RaceFault::Engine(EngineFault::NoMemory),
-            cause: None,
-        }),
+        Ok(heap) => replayed_in(rt, path, &heap, looks, quiet, file),
+        Err(_) => Err(no_memory()),
     }
 }
 
 /// Replays a trace with the trees' tables in this memory.
-fn replayed_in<R: AllocGlobal + Print, A: Allocator + Copy, F: io::Read + Drop>(
+fn replayed_in<R: AllocGlobal + Print + Eprint, A: Allocator + Copy, F: io::Read + Drop>(
     rt: &R,
+    path: &str,
     alloc: A,
     looks: Looks,
     quiet: bool,
@@ -47,80 +49,109 @@ fn replayed_in<R: AllocGlobal + Print, A: Allocator + Copy, F: io::Read + Drop>(
     ensures { IfOk result (HasReplayReport (F.remaining file)) }
 {
     if quiet {
-        return replayed_to(rt, alloc, looks, file, io::sink());
+        return replayed_to(rt, path, alloc, looks, file, io::sink());
     }
-    replayed_to(rt, alloc, looks, file, io::writer(rt))
+    replayed_to(rt, path, alloc, looks, file, io::writer(rt))
 }
 
-fn replayed_to<R: AllocGlobal, A: Allocator + Copy, F: io::Read + Drop, W: io::Write + Drop>(
-    rt: &R,
-    alloc: A,
-    looks: Looks,
-    file: F,
-    writer: W,
-) -> Result<Outcome, Halted>
+fn replayed_to<
+    R: AllocGlobal + Eprint,
+    A: Allocator + Copy,
+    F: io::Read + Drop,
+    W: io::Write + Drop,
+>(rt: &R, path: &str, alloc: A, looks: Looks, file: F, writer: W) -> Result<Outcome, Halted>
     ensures { IfOk result (HasReplayReport (F.remaining file)) }
 {
+    let Ok(writer) = KeptWriter::new(rt.alloc(), writer) else {
+        return Err(no_memory());
+    };
+    let mut trace = Vec::new(rt.alloc());
+    let file = KeptReader::new(file, &mut trace);
     let answer = match looks {
         Looks::Each => replay_buffered(rt.alloc(), alloc, file, writer),
         Looks::End => replay_at_end_buffered(rt.alloc(), alloc, file, writer),
     };
     match answer {
-        Ok((outcome, _writer)) => Ok(outcome),
+        Ok((outcome, writer)) => {
+            let fault = fault_told(writer.last_line());
+            tell_beside(rt, path, trace.as_slice(), fault, false)?;
+            Ok(outcome)
+        }
         Err(stopped) => Err(halted(stopped)),
     }
 }
 
 /// Races a trace.
-pub fn raced<R: AllocGlobal + Print + Threads + Wait + Sync, F: io::Read + Drop>(
+pub fn raced<R: AllocGlobal + Print + Eprint + Threads + Wait + Sync, F: io::Read + Drop>(
     rt: &R,
+    path: &str,
     quiet: bool,
     file: F,
 ) -> Result<Outcome, Halted>
     ensures { IfOk result (HasRaceReport (F.remaining file)) }
 {
     if quiet {
-        return raced_to(rt, file, io::sink());
+        return raced_to(rt, path, file, io::sink());
     }
-    raced_to(rt, file, io::writer(rt))
+    raced_to(rt, path, file, io::writer(rt))
 }
 
-fn raced_to<R: AllocGlobal + Threads + Wait + Sync, F: io::Read + Drop, W: io::Write + Drop>(
-    rt: &R,
-    file: F,
-    writer: W,
-) -> Result<Outcome, Halted>
+fn raced_to<
+    R: AllocGlobal + Eprint + Threads + Wait + Sync,
+    F: io::Read + Drop,
+    W: io::Write + Drop,
+>(rt: &R, path: &str, file: F, writer: W) -> Result<Outcome, Halted>
     ensures { IfOk result (HasRaceReport (F.remaining file)) }
 {
+    let Ok(writer) = KeptWriter::new(rt.alloc(), writer) else {
+        return Err(no_memory());
+    };
+    let mut trace = Vec::new(rt.alloc());
+    let file = KeptReader::new(file, &mut trace);
     match race_buffered(rt, rt.alloc(), file, writer, &Open) {
-        Ok((outcome, _writer)) => Ok(outcome),
+        Ok((outcome, writer)) => {
+            let fault = fault_told(writer.last_line());
+            tell_beside(rt, path, trace.as_slice(), fault, true)?;
+            Ok(outcome)
+        }
         Err((halted, _writer)) => Err(halted),
     }
 }
 
 /// Audits a trace.
-pub fn audited<R: AllocGlobal + Print, F: io::Read + Drop>(
+pub fn audited<R: AllocGlobal + Print + Eprint, F: io::Read + Drop>(
     rt: &R,
+    path: &str,
     quiet: bool,
     file: F,
 ) -> Result<Outcome, Halted>
     ensures { IfOk result (HasAuditReport (F.remaining file)) }
 {
     if quiet {
-        return audited_to(rt, file, io::sink());
+        return audited_to(rt, path, file, io::sink());
     }
-    audited_to(rt, file, io::writer(rt))
+    audited_to(rt, path, file, io::writer(rt))
 }
 
-fn audited_to<R: AllocGlobal, F: io::Read + Drop, W: io::Write + Drop>(
+fn audited_to<R: AllocGlobal + Eprint, F: io::Read + Drop, W: io::Write + Drop>(
     rt: &R,
+    path: &str,
     file: F,
     writer: W,
 ) -> Result<Outcome, Halted>
     ensures { IfOk result (HasAuditReport (F.remaining file)) }
 {
+    let Ok(writer) = KeptWriter::new(rt.alloc(), writer) else {
+        return Err(no_memory());
+    };
+    let mut trace = Vec::new(rt.alloc());
+    let file = KeptReader::new(file, &mut trace);
     match audit_buffered(rt.alloc(), rt.alloc(), file, writer) {
-        Ok((outcome, _writer)) => Ok(outcome),
+        Ok((outcome, writer)) => {
+            let fault = fault_told(writer.last_line());
+            tell_beside(rt, path, trace.as_slice(), fault, false)?;
+            Ok(outcome)
+        }
         Err(stopped) => Err(halted(stopped)),
     }
 }

@@ -91,8 +91,9 @@ fn told<R: Eprint>(rt: &R, path: &str, answer: Result<Outcome, Halted>) -> u8
     exit_status(Ok(outcome))
 }
 
-/// Does the task with an opened file, and writes the report to standard output, whose bytes no contract knows.
-fn answered<R: AllocGlobal + Print + Threads + Wait + Sync, F: io::Read + Drop>(
+/// Does the task with an opened file, writes the report to standard output, whose bytes no contract knows, and what is said
+/// beside it to standard error.
+fn answered<R: AllocGlobal + Print + Eprint + Threads + Wait + Sync, F: io::Read + Drop>(
     rt: &R,
     task: Task,
     path: &str,
@@ -101,12 +102,12 @@ fn answered<R: AllocGlobal + Print + Threads + Wait + Sync, F: io::Read + Drop>(
     ensures { IfOk result (HasReport task path.now (F.remaining file)) }
 {
     match task {
-        Task::Replay { heap, looks, quiet } => replayed(rt, heap, looks, quiet, file),
-        Task::Race { quiet } => raced(rt, quiet, file),
-        Task::Audit { quiet } => audited(rt, quiet, file),
+        Task::Replay { heap, looks, quiet } => replayed(rt, path, heap, looks, quiet, file),
+        Task::Race { quiet } => raced(rt, path, quiet, file),
+        Task::Audit { quiet } => audited(rt, path, quiet, file),
         Task::Check { looks, quiet } => checked(rt, path, looks, quiet, file),
         Task::Record => recorded(rt, file),
         Task::Explain => explained(rt, path, file),
-        Task::Draw { text } => drawn(rt, text, file),
+        Task::Draw { text } => drawn(rt, path, text, file),
     }
 }

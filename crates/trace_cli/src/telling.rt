@@ -3,9 +3,12 @@ ghost use Rattle.std.specs.Prelude.{◌≡◌};
 ghost use Rattle.trace_cli.specs.Status.{IsRefused, place_in};
 
 use clap::error::ErrorKind;
+use std::str::from_utf8;
 use trace_command::UsageFault;
+use trace_faults::said_beside;
 use trace_race::{Halted, RaceFault};
 use trace_reader::EngineFault;
+use trace_text::Fault;
 
 /// The status where the words are refused or a file can't be opened.
 pub const REFUSED: u8 = 2;
@@ -56,5 +59,31 @@ fn place_of<'a>(fault: EngineFault, path: &'a str) -> &'a str
     match fault {
         EngineFault::Write => "standard output",
         EngineFault::Read | EngineFault::NoMemory => path,
+    }
+}
+
+/// Writes to standard error what is said beside the report of a trace, if anything: where its fault is, or why it makes no step,
+/// or no race. Err where memory was refused.
+pub fn tell_beside<R: AllocGlobal + Eprint>(
+    rt: &R,
+    path: &str,
+    trace: &[u8],
+    fault: Option<(u64, Fault)>,
+    races: bool,
+) -> Result<(), Halted> {
+    let Ok(text) = said_beside(rt.alloc(), path, trace, fault, races) else {
+        return Err(no_memory());
+    };
+    if let Ok(said) = from_utf8(text.as_slice()) {
+        let _ = eprint!(rt; "{said}");
+    }
+    Ok(())
+}
+
+/// That memory was refused.
+pub fn no_memory() -> Halted {
+    Halted {
+        fault: RaceFault::Engine(EngineFault::NoMemory),
+        cause: None,
     }
 }

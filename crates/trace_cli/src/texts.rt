@@ -2,6 +2,7 @@
 ghost use Rattle.std.specs.Prelude.{◌≡◌, IfOk, IfSome};
 ghost use Rattle.trace_cli.specs.Status.{EndsAsDrawn, EndsAsTold, HasChecked, HasDrawn, HasExplained, outcome_of_check as outcome_of_clean, outcome_of_end};
 
+use crate::telling::{no_memory, tell_beside};
 use std::io::{self, ErrorKind, Write};
 use trace_check::{Watch, check, record};
 use trace_command::Looks;
@@ -9,6 +10,7 @@ use trace_draw::{Ended, draw, draw_text};
 use trace_explain::explain;
 use trace_race::{Halted, RaceFault};
 use trace_reader::{EngineFault, Outcome};
+use trace_text::Fault;
 
 /// Checks a trace, and writes its misses.
 pub fn checked<R: AllocGlobal + Print, F: io::Read + Drop>(
@@ -61,7 +63,7 @@ pub fn recorded<R: AllocGlobal + Print, F: io::Read + Drop>(
 }
 
 /// Explains a trace.
-pub fn explained<R: AllocGlobal + Print, F: io::Read + Drop>(
+pub fn explained<R: AllocGlobal + Print + Eprint, F: io::Read + Drop>(
     rt: &R,
     path: &str,
     file: F,
@@ -73,12 +75,17 @@ pub fn explained<R: AllocGlobal + Print, F: io::Read + Drop>(
         return Err(no_memory());
     };
     write(rt, explained.text.as_slice())?;
+    // The text tells the place of a fault itself.
+    if explained.outcome == Outcome::Clean {
+        tell_beside(rt, path, trace.as_slice(), None, false)?;
+    }
     Ok(explained.outcome)
 }
 
 /// Draws a trace, or writes the state at its end.
-pub fn drawn<R: AllocGlobal + Print, F: io::Read + Drop>(
+pub fn drawn<R: AllocGlobal + Print + Eprint, F: io::Read + Drop>(
     rt: &R,
+    path: &str,
     text: bool,
     file: F,
 ) -> Result<Outcome, Halted>
@@ -86,30 +93,40 @@ pub fn drawn<R: AllocGlobal + Print, F: io::Read + Drop>(
 {
     let trace = whole(rt, file)?;
     if text {
-        return written_out(rt, trace.as_slice());
+        return written_out(rt, path, trace.as_slice());
     }
-    pictured(rt, trace.as_slice())
+    pictured(rt, path, trace.as_slice())
 }
 
 /// Writes the state at the end of a trace.
-fn written_out<R: AllocGlobal + Print>(rt: &R, trace: &[u8]) -> Result<Outcome, Halted>
+fn written_out<R: AllocGlobal + Print + Eprint>(
+    rt: &R,
+    path: &str,
+    trace: &[u8],
+) -> Result<Outcome, Halted>
     ensures { IfOk result (EndsAsTold trace.now) }
 {
     let Ok(drawing) = draw_text(rt.alloc(), rt.alloc(), trace) else {
         return Err(no_memory());
     };
     write(rt, drawing.text.as_bytes())?;
+    tell_beside(rt, path, trace, fault_of(drawing.ended), false)?;
     Ok(outcome_of(drawing.ended))
 }
 
 /// Writes the picture of a trace.
-fn pictured<R: AllocGlobal + Print>(rt: &R, trace: &[u8]) -> Result<Outcome, Halted>
+fn pictured<R: AllocGlobal + Print + Eprint>(
+    rt: &R,
+    path: &str,
+    trace: &[u8],
+) -> Result<Outcome, Halted>
     ensures { IfOk result (EndsAsDrawn trace.now) }
 {
     let Ok(drawing) = draw(rt.alloc(), rt.alloc(), trace) else {
         return Err(no_memory());
     };
     write(rt, drawing.svg.as_bytes())?;
+    tell_beside(rt, path, trace, fault_of(drawing.ended), false)?;
     Ok(outcome_of(drawing.ended))
 }
 
@@ -144,10 +161,11 @@ fn write<R: Print>(rt: &R, text: &[u8]) -> Result<(), Halted> {
     }
 }
 
-fn no_memory() -> Halted {
-    Halted {
-        fault: RaceFault::Engine(EngineFault::NoMemory),
-        cause: None,
+/// The fault of a run that ended so.
+fn fault_of(ended: Ended) -> Option<(u64, Fault)> {
+    match ended {
+        Ended::Clean => None,
+        Ended::Fault { line, fault } => Some((line, fault)),
     }
 }
 

@@ -5,7 +5,7 @@ use Rattle.step_reply.specs.declared.step.Step.{Step}
 use Rattle.trace_check.specs.Shown.{shown}
 use Rattle.trace_explain.specs.Causes.{cause_of}
 use Rattle.trace_explain.specs.Looks.{Look, looked, seen}
-use Rattle.trace_faults.specs.Spots.{spot_line, spot_of}
+use Rattle.trace_faults.specs.Spots.{place_line}
 use Rattle.trace_lines.specs.declared.fault.LineFault.{LineFault}
 use Rattle.trace_lines.specs.declared.line.Line.{Line}
 use Rattle.trace_lines.specs.declared.line.Line.TheVariants as lines
@@ -64,7 +64,7 @@ explained line old reported new = line_with line (step_at old line) (seen old.ma
 
 -- the line of a trace, by its place, with a fault, and where that is
 abbrev pub faulty : List ℕ → List (List ℕ) → ℕ → List ℕ → Fault → List ℕ
-faulty name all place line fault = ended line ++ codes "    fault " ++ text_of_fault fault ++ 10 ∷ codes "    " ++ spot_line name (spot_of all place fault)
+faulty name all place line fault = ended line ++ codes "    fault " ++ text_of_fault fault ++ 10 ∷ codes "    " ++ place_line name all place fault
 
 -- what is said from a line on that answers so: the line, and then what is said of the lines after it. A fault is the end
 abbrev pub Says : List ℕ → List (List ℕ) → ℕ → List ℕ → Standing → Answer → Standing → (List ℕ → Outcome → Type 0) → List ℕ → Outcome → Type 0

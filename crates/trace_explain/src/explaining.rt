@@ -19,7 +19,7 @@ use std::alloc::{AllocError, Allocator, Global};
 use step_reply::{Reply, Step};
 use trace_check::shown::shown;
 use trace_check::told_lines;
-use trace_faults::{add_spot, spot};
+use trace_faults::add_place;
 use trace_lines::{Allows, Line, Response, said};
 use trace_reader::{Outcome, lines};
 use trace_text::{Fault, MOST_LINES, ReportLine, Reported, Session, Stop};
@@ -229,8 +229,7 @@ fn add_fault(
     add_ended(text, lines[place])?;
     let said = format!(in global; "    fault {fault}\n    ")?;
     text.extend_from_slice(said.as_bytes())?;
-    let spot = spot(global, lines, place, fault)?;
-    add_spot(text, global, name, &spot)
+    add_place(text, global, name, lines, place, fault)
 }
 
 fn add_report(

@@ -1,14 +1,16 @@
 //! Where in a line of a trace a fault is: what was found there, and what was wanted.
 #![tactic(auto)]
 
+mod beside;
 mod blame;
 mod column;
 mod form;
 pub mod laws;
 mod line;
+mod names;
 mod placing;
 mod saying;
 mod wanted;
 
-pub use placing::spot;
-pub use saying::{Spot, add_spot};
+pub use beside::{add_file_line, fault_told, said_beside};
+pub use placing::add_place;

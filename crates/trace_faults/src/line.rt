@@ -1,9 +1,10 @@
 //! Faults of a line by itself.
-ghost use Rattle.std.specs.Prelude.{◌≡◌, IfOk};
-ghost use Rattle.trace_faults.specs.Spots.{byte_found as byte_found_by, byte_said as byte_said_by, counted_spot, line_spot as line_spot_by, spot_in, unknown_spot, wrong_spot};
+ghost use Rattle.std.specs.Prelude.{◌≡◌, ◌++◌, IfOk, OnOk};
+ghost use Rattle.trace_faults.specs.Spots.{asked, byte_found as byte_found_by, byte_said as byte_said_by, counted_spot, line_spot as line_spot_by, meant, spot_in, unknown_at as unknown_at_by, unknown_said as unknown_said_by, unknown_spot, wanted_at as wanted_at_by, wrong_spot};
 
 use crate::column::{space_column, stray_column};
-use crate::form::{first_wrong, forms};
+use crate::form::{Form, first_wrong, forms};
+use crate::names::{names_of, nearest, number_wanted};
 use crate::saying::{Spot, at, at_word};
 use crate::wanted::{place_wanted, unknown_place, unknown_wanted};
 use std::alloc::{AllocError, Global};
@@ -72,15 +73,66 @@ fn byte_said(byte: u8) -> &'static [u8]
 fn unknown(global: Global, number: u64, line: &[u8]) -> Result<Spot, AllocError>
     ensures { IfOk result (λ spot. spot_in spot ≡ unknown_spot number line.now) }
 {
-    let words = Words::of(line);
+    let first = Words::of(line).get(0).unwrap_or(b"");
+    unknown_at(global, number, line, first, unknown_place(first))
+}
+
+/// The same by the line's first word, and the place of the word.
+fn unknown_at(
+    global: Global,
+    number: u64,
+    line: &[u8],
+    first: &[u8],
+    place: usize,
+) -> Result<Spot, AllocError>
+    ensures { IfOk result (λ spot. spot_in spot ≡ unknown_at_by number line.now first.now place) }
+{
+    let word = Words::of(line).get(place).unwrap_or(b"");
+    let wanted = unknown_said(global, first, word)?;
+    at_word(global, number, line, place, wanted.as_slice())
+}
+
+/// What is wanted of an unknown word, and the name that it may be meant for.
+#[tactic(auto, unfolding(crate::specs::Spots::unknown_said))]
+fn unknown_said(global: Global, first: &[u8], word: &[u8]) -> Result<Vec<u8>, AllocError>
+    ensures { IfOk result (λ said. said.items ≡ unknown_said_by first.now word.now) }
+{
+    let mut said = Vec::from_slice(global, unknown_wanted(first))?;
+    let name = nearest(global, word, names_of(first))?;
+    add_meant(&mut said, global, name)?;
+    Ok(said)
+}
+
+/// Adds the question whether a name was meant.
+fn add_meant(said: &mut Vec<u8>, global: Global, name: &[u8]) -> Result<(), AllocError>
+    ensures { OnOk result (said.new.items ≡ said.old.items ++ meant name.now) }
+{
+    if name.is_empty() {
+        return Ok(());
+    }
+    let question = question(global, name)?;
+    said.extend_from_slice(question.as_slice())
+}
+
+fn question(global: Global, name: &[u8]) -> Result<Vec<u8>, AllocError>
+    ensures { IfOk result (λ said. said.items ≡ asked name.now) }
+{
+    let mut said = Vec::from_slice(global, b"; did you mean ")?;
+    said.extend_from_slice(name)?;
+    said.extend_from_slice(b"?")?;
+    Ok(said)
+}
+
+/// What is wanted of the word at a place of a line, by its form.
+fn wanted_at(words: &Words<'_>, place: usize, form: Form) -> &'static [u8]
+    ensures { result.now ≡ wanted_at_by words.now place form }
+{
     let first = words.get(0).unwrap_or(b"");
-    at_word(
-        global,
-        number,
-        line,
-        unknown_place(first),
-        unknown_wanted(first),
-    )
+    let second = words.get(1).unwrap_or(b"");
+    match form {
+        Form::Number => number_wanted(first, second, place),
+        other => other.wanted(),
+    }
 }
 
 /// The word that is missing, or the first that is too many.
@@ -91,7 +143,7 @@ fn counted(global: Global, number: u64, line: &[u8]) -> Result<Spot, AllocError>
     let forms = forms(&words);
     let count = words.count();
     match forms.get(count) {
-        Some(form) => at_word(global, number, line, count, form.wanted()),
+        Some(form) => at_word(global, number, line, count, wanted_at(&words, count, *form)),
         None => at_word(global, number, line, forms.len(), b"the line's end"),
     }
 }
@@ -104,7 +156,7 @@ fn wrong(global: Global, number: u64, line: &[u8]) -> Result<Spot, AllocError>
     let forms = forms(&words);
     let place = first_wrong(&words, forms);
     match forms.get(place) {
-        Some(form) => at_word(global, number, line, place, form.wanted()),
+        Some(form) => at_word(global, number, line, place, wanted_at(&words, place, *form)),
         None => at_word(global, number, line, place, b"the line's end"),
     }
 }

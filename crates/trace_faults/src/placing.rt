@@ -1,18 +1,36 @@
 //! Where the fault of a trace is.
-ghost use Rattle.std.specs.Prelude.{◌≡◌, ◌<◌, [], IfOk, length, map, slice_index_or, take};
-ghost use Rattle.trace_faults.specs.Spots.{boot_spot as boot_spot_by, cpus_word as cpus_word_by, first_word as first_word_by, has_booted as has_booted_by, page_place as page_place_by, spot_in, spot_of};
+ghost use Rattle.std.specs.Prelude.{◌≡◌, ◌<◌, [], ◌++◌, IfOk, OnOk, length, map, slice_index_or, take};
+ghost use Rattle.trace_faults.specs.Spots.{boot_spot as boot_spot_by, cpus_word as cpus_word_by, first_word as first_word_by, has_booted as has_booted_by, page_place as page_place_by, place_line, spot_in, spot_of};
 
 use crate::blame::{blamed, blamed_wanted, unblamed_found, unblamed_wanted};
 use crate::line::line_spot;
-use crate::saying::{Spot, at, at_word, of_line};
+use crate::saying::{Spot, add_spot, at, at_word, of_line, with_fault};
 use std::alloc::{AllocError, Global};
 use trace_text::Fault;
 use trace_words::{Words, is_name};
 
+/// Adds a line for the place of the fault of the line at a place, counted from 0, by the lines of its trace up to it:
+/// `NAME:LINE:COLUMN: fault FAULT: found .., wanted ..`.
+pub fn add_place(
+    text: &mut Vec<u8>,
+    global: Global,
+    name: &str,
+    lines: &[&[u8]],
+    place: usize,
+    fault: Fault,
+) -> Result<(), AllocError>
+    requires { place < length lines.now }
+    ensures { OnOk result (text.new.items ≡ text.old.items ++ place_line name.now (map (λ line. line.now) lines.now) place fault) }
+{
+    let spot = spot(global, lines, place, fault)?;
+    let named = with_fault(global, fault, &spot)?;
+    add_spot(text, global, name, &named)
+}
+
 /// Where the fault of the line at a place is, what was found there and what was wanted, by the lines of its trace up to it.
 /// Of a refused boot it is the setting that the fault blames.
 #[tactic(auto, unfolding(crate::specs::Spots::spot_of))]
-pub fn spot(global: Global, lines: &[&[u8]], place: usize, fault: Fault) -> Result<Spot, AllocError>
+fn spot(global: Global, lines: &[&[u8]], place: usize, fault: Fault) -> Result<Spot, AllocError>
     requires { place < length lines.now }
     ensures { IfOk result (λ spot. spot_in spot ≡ spot_of (map (λ line. line.now) lines.now) place fault) }
 {
@@ -97,7 +115,7 @@ fn cpus_before<'a>(lines: &[&'a [u8]], place: usize) -> &'a [u8]
 }
 
 /// Whether one of these lines is `boot`.
-fn has_booted(lines: &[&[u8]]) -> bool
+pub(crate) fn has_booted(lines: &[&[u8]]) -> bool
     ensures { result ≡ has_booted_by (map (λ line. line.now) lines.now) }
 {
     for line in lines {

@@ -1,14 +1,15 @@
 //! A spot, with its words.
 ghost use Rattle.std.specs.Prelude.{◌≡◌, ◌++◌, IfOk, OnOk};
-ghost use Rattle.trace_faults.specs.Spots.{at as at_by, at_word as at_word_by, of_line as of_line_by, said_of, spot_in, spot_line, word_said};
+ghost use Rattle.trace_faults.specs.Spots.{at as at_by, at_word as at_word_by, of_line as of_line_by, said_of, spot_in, spot_line, with_fault as with_fault_by, word_said};
 
 use crate::column::word_column;
 use std::alloc::{AllocError, Global};
+use trace_text::Fault;
 use trace_words::Words;
 
 /// Where a fault is, and what is wrong there.
 #[derive(Drop)]
-pub struct Spot {
+pub(crate) struct Spot {
     /// The number of its line, from 1. Of a refused boot it is that of the setting at fault, where there is one.
     pub line: u64,
     /// Its column in bytes, from 1.
@@ -17,8 +18,22 @@ pub struct Spot {
     pub said: Vec<u8>,
 }
 
-/// Adds a line for a spot to a text: `NAME:LINE:COLUMN: found .., wanted ..`.
-pub fn add_spot(
+/// The same spot, with the fault's name before what is wrong there.
+pub(crate) fn with_fault(global: Global, fault: Fault, spot: &Spot) -> Result<Spot, AllocError>
+    ensures { IfOk result (λ named. spot_in named ≡ with_fault_by fault (spot_in spot.now)) }
+{
+    let head = format!(in global; "fault {fault}: ")?;
+    let mut said = Vec::from_slice(global, head.as_bytes())?;
+    said.extend_from_slice(spot.said.as_slice())?;
+    Ok(Spot {
+        line: spot.line,
+        column: spot.column,
+        said,
+    })
+}
+
+/// Adds a line for a spot to a text: `NAME:LINE:COLUMN: ..`.
+pub(crate) fn add_spot(
     text: &mut Vec<u8>,
     global: Global,
     name: &str,
