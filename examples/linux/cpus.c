@@ -11,6 +11,7 @@
 #include <stdio.h>
 #include <stdlib.h>
 #include <string.h>
+#include <unistd.h>
 
 /* --- What each lock guards, as it last was --- */
 
@@ -256,11 +257,17 @@ static void count(uint64_t cpu, const struct pkvm_step *step, const struct made 
 		  const struct judgement *judgement)
 {
 	pthread_mutex_lock(&telling);
-	if (judgement->verdict == DIFFERS && !(wanted.is_first && is_different))
+	if (judgement->verdict == DIFFERS)
 		tell(made_len, cpu, step, made, judgement);
 	count_step(step, made, judgement);
 	made_len += made->maker == BY_LINUX;
 	is_different = is_different || judgement->verdict == DIFFERS;
+	/* At once: after a bug another CPU may never end its call. */
+	if (wanted.is_first && is_different) {
+		print_summary(stdout);
+		fflush(stdout);
+		_exit(1);
+	}
 	pthread_mutex_unlock(&telling);
 }
 
@@ -269,7 +276,7 @@ static bool is_over(void)
 	bool is;
 
 	pthread_mutex_lock(&telling);
-	is = made_len >= wanted.steps || (wanted.is_first && is_different);
+	is = made_len >= wanted.steps;
 	pthread_mutex_unlock(&telling);
 	return is;
 }
