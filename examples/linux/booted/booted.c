@@ -481,7 +481,10 @@ static void tell_step(struct pkvm_step step, const char *reply)
 		break;
 	}
 	text_of_step(&step, call, sizeof(call));
-	printf("0 %s\n#= %s\n", call, reply);
+	printf("0 %s\n", call);
+	/* An abort answers nothing. */
+	if (step.call != PKVM_HOST_ABORT)
+		printf("#= %s\n", reply);
 }
 
 /* --- A call that is over --- */
