@@ -26,7 +26,7 @@ boot
     free shared: 56
 no <line>
     fault word
-    a.trace:6:1: found `no`, wanted a setting, boot, start, a query or a CPU
+    a.trace:6:1: fault word: found `no`, wanted a setting, boot, start, a query or a CPU
 ";
     assert!(rt; told.text.as_slice() == text.as_bytes());
     assert!(rt; told.outcome == Outcome::Fault);
