@@ -1,18 +1,18 @@
 -- The boot state, from what the changes of both new trees did.
-use Rattle.std.proofs.Common.{◌≡◌, ℕ, ◌+◌, ◌≤◌, ◌<◌, Bool, true, false, ◌==◌, ◌++◌, [], ◌∷◌, List, length, drop, filter, filter_map, is_some, All, zero, suc, ◌-◌, ◌&&◌, if◌then◌else◌, slice_index_or, length-drop, Option, Some, None, IsSome, Contains, refl, ap, sym, subst, ◌∙◌, arith}
+use Rattle.std.proofs.Common.{◌≡◌, ℕ, ◌+◌, ◌≤◌, ◌<◌, Bool, true, false, ◌==◌, ◌++◌, [], ◌∷◌, List, length, drop, filter, filter_map, is_some, All, zero, suc, ◌-◌, slice_index_or, length-drop, Option, Some, None, IsSome, Contains, refl, ap, sym, subst, ◌∙◌, arith}
 use Rattle.std.proofs.lemmas.Bool.Decides.{nat_tests}
 use Rattle.std.proofs.lemmas.List.Elements.{All-weaker, All-contains_itself}
 use mathlib.Core.Path.{fun_ext}
 use Rattle.page_state.specs.Blocks.{blocks_on, is_one_word}
 use Rattle.descriptor.specs.declared.Prot.TheVariants.{RW}
 use Rattle.descriptor.specs.declared.State.TheVariants.{Owned}
-use Rattle.page_state.specs.Trees.{frames_from, root_tree, Block, Tree}
+use Rattle.page_state.specs.Trees.{frames_from, root_tree, Block}
 use Rattle.reference_model.specs.Boot.{carve_first, host_root, host_edit, host_need, hyp_root, hyp_edit, hyp_need, spare, boot_shared, booted, pool_row, IsCarveEnough}
 use Rattle.page_state.specs.EntryTests.{annotation, leaf}
 use Rattle.page_state.specs.declared.entry.Entry.{Entry}
 use Rattle.page_state.specs.Laws.{BlocksMeet}
 use Rattle.page_state.specs.Layouts.{Layout, hyp_page}
-use Rattle.page_state.specs.Map.{Map, empty_map, is_within}
+use Rattle.page_state.specs.Map.{empty_map, is_within}
 use Rattle.reference_model.specs.declared.changes.Changes.{Changes}
 use Rattle.reference_model.specs.Changes.{edit_of}
 use Rattle.reference_model.specs.Conditions.{IsUsable}
@@ -37,9 +37,7 @@ use Rattle.world.specs.declared.boot.BootFault.TheVariants.{NoMemory}
 use Rattle.hypercalls.specs.Booted.{layout_for}
 use Rattle.world.specs.Boots.{fault_of_pool, new_shared_of}
 use Rattle.hyp_pool.proofs.Order.{length-frames_from}
-use Rattle.table_tree.specs.declared.tree.Tree.{Tree as TableTree}
 use Rattle.page_state.specs.Geometries.{levels_below}
-use Rattle.table_tree.specs.View.{meaning, table_at, tree_of}
 use Rattle.page_state.specs.declared.row.Row.{Row}
 
 -- a test that no element passes

@@ -1,5 +1,5 @@
 -- What follows from the headline, and that a boot has one fault.
-use Rattle.std.proofs.Common.{◌≡◌, ◌≢◌, Bool, true, ℕ, ◌+◌, zero, suc, refl, ap, sym, ◌∙◌, subst, arith, inl, inr, List, [], ◌∷◌, ◌++◌, map, append_assoc, All, Some}
+use Rattle.std.proofs.Common.{◌≡◌, ◌≢◌, Bool, ℕ, ◌+◌, zero, suc, refl, ap, sym, ◌∙◌, subst, arith, inl, inr, List, [], ◌∷◌, ◌++◌, map, append_assoc, All, Some}
 use Rattle.std.proofs.Math.Logic.{∥∥₁_elim, ∥∥₁_map}
 use Rattle.std.proofs.Props.{props}
 use Rattle.page_state.specs.declared.entry.Entry.{Entry}
@@ -13,7 +13,7 @@ use Rattle.step_reply.specs.declared.step.Step.{Step}
 use Rattle.step_reply.specs.declared.step.Step.TheVariants.{GuestShareHost, GuestUnshareHost}
 use Rattle.reference_model.specs.Boot.{IsCarveEnough, boot}
 use Rattle.reference_model.specs.HeldFrames.{GivesHandOn, IsHeldFor}
-use Rattle.reference_model.specs.Isolation.{FrameStays, PageStays, guest_entry_at}
+use Rattle.reference_model.specs.Isolation.{PageStays, guest_entry_at}
 use Rattle.reference_model.specs.Run.{Runs}
 use Rattle.reference_model.specs.Sound.{IsHeld, hand, owner}
 use Rattle.reference_model.specs.State.{Contents, Reference, dying, live}

@@ -3,15 +3,20 @@ use Rattle.std.proofs.Common.{◌≡◌, ◌∙◌, ◌<◌, zero, suc, List, []
 use Rattle.step_reply.specs.declared.reply.Call.{Call}
 use Rattle.page_state.specs.Layouts.{Layout}
 use Rattle.reference_model.specs.Run.{Runs}
+use Rattle.reference_model.specs.Sound.{Sound}
 use Rattle.reference_model.specs.State.{Reference}
 use Rattle.reference_model.proofs.conditions.Isolates.{run_isolated, run_kept_out}
+use Rattle.reference_model.proofs.conditions.Canonical.{run_canonical}
 use Rattle.reference_model.proofs.conditions.RunsLegal.{run_sound, run_rows}
 use Rattle.reference_model.specs.Step.{Steps}
+use Rattle.reference_model.specs.TreeLaws.{AreCanonical}
 use Rattle.component.specs.declared.Component.{Component}
 use Rattle.guest_component.specs.declared.body.Body.{Body}
 use Rattle.hypercalls.specs.declared.parts.Parts.{Parts}
 use Rattle.hypercalls.specs.Stands.{parts_layout, state_of}
-use Rattle.world.specs.Laws.{Goes, StepsRun, StepsSound, StepsRows, StepsAgree, StepsIsolate, StepsKeepOut, Agrees, GuestAgrees, AllAgree}
+use Rattle.world.specs.Headline.{KeepsOut, RowsAgree}
+use Rattle.world.specs.HeadlineLaws.{StepsRight}
+use Rattle.world.specs.Laws.{Goes, StepsRun, StepsIsolate, Agrees, GuestAgrees, AllAgree}
 use Rattle.hypercalls.proofs.AtBoot.{ready}
 
 module _ {A : Type 0} where
@@ -33,12 +38,6 @@ module _ {A : Type 0} where
   pub steps_run : StepsRun A
   steps_run m config p q cs booted h = record { cpus = known cs p q h; leads = subst (λ (s : Reference). Runs (Steps (parts_layout p)) s cs (state_of q)) (sym booted.stands) (runs_from cs p q h) }
 
-  pub steps_sound : StepsSound A
-  steps_sound m config p q cs booted h = run_sound (parts_layout p) cs (state_of q) (ready m config p booted) (steps_run m config p q cs booted h)
-
-  pub steps_rows : StepsRows A
-  steps_rows m config p q cs f booted h memory = run_rows (parts_layout p) cs (state_of q) (ready m config p booted) (steps_run m config p q cs booted h) f memory
-
   agrees : (c : Component A) → Agrees c
   agrees c = record { walk = c.agree; coarsest = c.coarsest }
 
@@ -49,9 +48,6 @@ module _ {A : Type 0} where
   -- all trees of some parts agree with their maplets
   pub all_of_parts : (q : Parts A) → AllAgree q
   all_of_parts q = record { shared = (agrees q.shared.host, agrees q.shared.hyp); guests = λ k d less. guest_agrees (slice_index_or q.guests.items k d).guest.body }
-
-  pub steps_agree : StepsAgree A
-  steps_agree m config p q cs booted h = all_of_parts q
 
   -- the layout stays
   pub layout_stays : (cs : List Call) (p q : Parts A) → Runs Goes p cs q → parts_layout q ≡ parts_layout p
@@ -69,5 +65,17 @@ module _ {A : Type 0} where
       let step = step_from p q r c (layout_stays cs p q h) go in
       run_isolated (parts_layout p) cs (state_of q) (state_of r) c v f (ready m config p booted) step.0 (steps_run m config p q cs booted h) step.1 alive owned
 
-  pub steps_keep_out : StepsKeepOut A
-  steps_keep_out m config p q cs v f component page state booted h owned maps = run_kept_out (parts_layout p) cs (state_of q) v f component page state (ready m config p booted) (steps_run m config p q cs booted h) owned maps
+  pub steps_right : StepsRight A
+  steps_right m config p q cs booted h =
+      let l : Layout = parts_layout p in
+      let s : Reference = state_of q in
+      let same = sym (layout_stays cs p q h) in
+      let from_boot = ready m config p booted in
+      let run = steps_run m config p q cs booted h in
+      record {
+        agree = all_of_parts q;
+        rows = subst (λ (k : Layout). RowsAgree k s.contents) same (λ f memory. run_rows l cs s from_boot run f memory);
+        sound = subst (λ (k : Layout). Sound k s.contents) same (run_sound l cs s from_boot run);
+        kept_out = subst (λ (k : Layout). KeepsOut k s.contents) same (λ v f component page state owned maps. run_kept_out l cs s v f component page state from_boot run owned maps);
+        trees = subst (λ (k : Layout). AreCanonical k s.contents) same (run_canonical l cs s from_boot run);
+      }

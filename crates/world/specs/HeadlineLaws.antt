@@ -3,6 +3,7 @@ use Rattle.std.specs.Prelude.{◌≡◌, ◌≢◌, ℕ, ◌+◌, List, [], ◌�
 use Rattle.page_state.specs.declared.layout.Config.{Config}
 use Rattle.page_state.specs.Layouts.{Layout}
 use Rattle.page_state.specs.Regions.{Memory}
+use Rattle.step_reply.specs.declared.reply.Call.{Call}
 use Rattle.step_reply.specs.declared.reply.Refusal.{Refusal}
 use Rattle.step_reply.specs.declared.reply.Reply.{Reply}
 use Rattle.step_reply.specs.declared.reply.Reply.TheVariants.{Refused}
@@ -10,6 +11,7 @@ use Rattle.step_reply.specs.declared.step.Step.{Step}
 use Rattle.step_reply.specs.declared.step.Step.TheVariants.{GuestShareHost, GuestUnshareHost}
 use Rattle.reference_model.specs.HeldFrames.{GivesHandOn, IsHeldFor}
 use Rattle.reference_model.specs.Isolation.{guest_entry_at}
+use Rattle.reference_model.specs.Run.{Runs}
 use Rattle.reference_model.specs.Sound.{Sound, Holds, IsHeld, hand, owner}
 use Rattle.reference_model.specs.State.{Contents, dying, live}
 use Rattle.hypercalls.specs.Booted.{IsBooted}
@@ -18,7 +20,12 @@ use Rattle.hypercalls.specs.Stands.{parts_layout, state_of}
 use Rattle.world.specs.Boots.{IsNoBoot}
 use Rattle.world.specs.declared.boot.BootFault.{BootFault}
 use Rattle.world.specs.declared.boot.BootFault.TheVariants.{NoMemory}
-use Rattle.world.specs.Headline.{Headline, RowsAgree}
+use Rattle.world.specs.Headline.{Headline, IsRight, RowsAgree}
+use Rattle.world.specs.Laws.{Goes}
+
+-- what the parts stand for after any list of steps from a boot on is right
+abbrev pub StepsRight : Type 0 → Type 0
+StepsRight A = (m : Memory) (config : Config) (p q : Parts A) (cs : List Call) → IsBooted m config p → Runs Goes p cs q → IsRight q
 
 -- a refusal, want of memory included
 abbrev pub IsRefusal : Reply → Type 0

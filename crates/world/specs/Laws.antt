@@ -1,15 +1,13 @@
 -- Laws over lists of steps, each proved on the contract of the function of its name.
-use Rattle.std.specs.Prelude.{◌≡◌, ℕ, ◌+◌, ◌<◌, ◌⊎◌, true, List, Option, Some, None, All}
-use Rattle.descriptor.specs.declared.State.{State}
+use Rattle.std.specs.Prelude.{◌≡◌, ℕ, ◌+◌, ◌<◌, List, Option, Some, None, All}
 use Rattle.page_state.specs.declared.layout.Config.{Config}
 use Rattle.step_reply.specs.declared.reply.Call.{Call}
-use Rattle.page_state.specs.Layouts.{Layout, is_memory}
+use Rattle.page_state.specs.Layouts.{Layout}
 use Rattle.page_state.specs.Regions.{Memory}
 use Rattle.page_state.specs.Runs.{map_of, IsCoarsest}
-use Rattle.reference_model.specs.Isolation.{FrameStays, SharesWithHost}
-use Rattle.reference_model.specs.Owner.{row_of}
+use Rattle.reference_model.specs.Isolation.{FrameStays}
 use Rattle.reference_model.specs.Run.{Runs, IsRun}
-use Rattle.reference_model.specs.Sound.{Sound, Maps, owner}
+use Rattle.reference_model.specs.Sound.{owner}
 use Rattle.reference_model.specs.State.{live}
 use Rattle.component.specs.declared.Component.{Component}
 use Rattle.guest_component.specs.declared.body.Body.{Body}
@@ -33,14 +31,6 @@ EndsRun l cs q = IsRun l cs (state_of q)
 abbrev pub StepsRun : Type 0 → Type 0
 StepsRun A = (m : Memory) (config : Config) (p q : Parts A) (cs : List Call) → IsBooted m config p → Runs Goes p cs q → EndsRun (parts_layout p) cs q
 
--- and the state that they stand for is sound
-abbrev pub StepsSound : Type 0 → Type 0
-StepsSound A = (m : Memory) (config : Config) (p q : Parts A) (cs : List Call) → IsBooted m config p → Runs Goes p cs q → Sound (parts_layout p) (state_of q).contents
-
--- and their owner row of each memory frame is the one that looking through all tables finds
-abbrev pub StepsRows : Type 0 → Type 0
-StepsRows A = (m : Memory) (config : Config) (p q : Parts A) (cs : List Call) (f : ℕ) → IsBooted m config p → Runs Goes p cs q → is_memory (parts_layout p) f ≡ true → (state_of q).contents.shared.row f ≡ row_of (parts_layout p) (state_of q).contents f
-
 -- a walk of a component's tree finds just what its maplets say, and these are the coarsest list
 pub record Agrees {A : Type 0} (c : Component A) : Type 0 where
   pub walk : meaning c.tree ≡ map_of c.maplets.runs
@@ -56,16 +46,7 @@ pub record AllAgree {A : Type 0} (p : Parts A) : Type 0 where
   pub shared : Agrees p.shared.host × Agrees p.shared.hyp
   pub guests : All (λ g. GuestAgrees g.guest.body) p.guests.items
 
--- and so it is after any list of steps
-abbrev pub StepsAgree : Type 0 → Type 0
-StepsAgree A = (m : Memory) (config : Config) (p q : Parts A) (cs : List Call) → IsBooted m config p → Runs Goes p cs q → AllAgree q
-
 -- the step after any list of steps takes no frame from a Live guest, and its page of it stays, or the guest itself shares it or takes it back
 abbrev pub StepsIsolate : Type 0 → Type 0
 StepsIsolate A = (m : Memory) (config : Config) (p q r : Parts A) (cs : List Call) (c : Call) (v f : ℕ) → IsBooted m config p → Runs Goes p cs q → Goes q c r
     → ((state_of q).contents.guest v).phase ≡ live → owner (parts_layout p) (state_of q).contents f ≡ 2 + v → FrameStays (parts_layout p) (state_of q).contents (state_of r).contents c v f
-
--- after any list of steps nobody maps a guest's frame but the guest, and the host while the guest's entry of it is SharedOwned
-abbrev pub StepsKeepOut : Type 0 → Type 0
-StepsKeepOut A = (m : Memory) (config : Config) (p q : Parts A) (cs : List Call) (v f component page : ℕ) (state : State) → IsBooted m config p → Runs Goes p cs q
-    → owner (parts_layout p) (state_of q).contents f ≡ 2 + v → Maps (state_of q).contents component page f state → (component ≡ 2 + v) ⊎ ((component ≡ 0) × SharesWithHost (state_of q).contents v f)

@@ -1,7 +1,7 @@
 //! Laws over lists of steps. Each function does nothing, and its contract is the law.
-ghost use Rattle.world.specs.HeadlineLaws.{BeginsRight, BootedElse, FaultOnce, RefusalsLeave, StepKeepsFrames, StepKeepsHand, StepKeepsHeld};
+ghost use Rattle.world.specs.HeadlineLaws.{BeginsRight, BootedElse, FaultOnce, RefusalsLeave, StepKeepsFrames, StepKeepsHand, StepKeepsHeld, StepsRight};
 ghost use Rattle.world.specs.Merges.{HistoryMerges, MergedHistory, MergedRun};
-ghost use Rattle.world.specs.Laws.{StepsAgree, StepsIsolate, StepsKeepOut, StepsRun, StepsRows, StepsSound};
+ghost use Rattle.world.specs.Laws.{StepsIsolate, StepsRun};
 
 use std::alloc::Allocator;
 
@@ -11,25 +11,19 @@ pub fn steps_run<A: Allocator>()
     ensures { StepsRun A }
 {}
 
-/// After any list of steps of any CPUs the state that the world represents is sound: each memory frame has one owner,
-/// each frame at most one borrower, and what is in use is held once. Its owner rows are those from scratch.
-pub fn steps_sound<A: Allocator>()
-    ensures sound { StepsSound A }
-    ensures rows { StepsRows A }
-{}
-
-/// After any list of steps of any CPUs a walk of each tree's words finds just what its maplets say, and the maplets are
-/// the coarsest list of runs of that map: the host's tree, the hypervisor's, and each guest's.
-pub fn steps_agree<A: Allocator>()
-    ensures { StepsAgree A }
+/// After any list of steps of any CPUs what the world represents is right: a walk of each tree's words finds just what its
+/// maplets say, and these are the coarsest list of runs of that map; the owner rows are those from scratch; each memory frame
+/// has one owner, each frame at most one borrower, and what is in use is held once; and nobody else maps a guest's frame but
+/// the host, while the guest's entry is SharedOwned.
+pub fn steps_right<A: Allocator>()
+    ensures { StepsRight A }
 {}
 
 /// No step takes a frame from a Live guest: it stays the frame's owner, and its page of it stays, but where the guest itself
 /// shares it with the host or takes it back, on a CPU that has a vCPU of that guest loaded; then the entry's state alone
-/// changes. Nobody else maps such a frame but the host, while the guest's entry is SharedOwned.
+/// changes.
 pub fn steps_isolate<A: Allocator>()
-    ensures isolated { StepsIsolate A }
-    ensures kept_out { StepsKeepOut A }
+    ensures { StepsIsolate A }
 {}
 
 /// The calls of one legal history are a merged list of its logs. Each merged list of these is a legal history that leaves
