@@ -1,1 +1,6 @@
 pub mod Histories
+pub mod Noting
+pub mod Taken
+pub mod Tells
+pub mod Texting
+pub mod Turns
