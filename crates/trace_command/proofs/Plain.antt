@@ -1,5 +1,5 @@
 -- The words that are taken, where a word that is no option begins with no hyphen.
-use Rattle.std.proofs.Common.{◌≡◌, ◌≢◌, ℕ, ◌==◌, ◌∙◌, arith, Result, Ok, Err, slice_get, ap, subst, refl, sym, true≢false, cond, Bool, true, false, codes, List, [], ◌∷◌, Option, Some, None, is_some, option_map, option_and_then, inl, inr}
+use Rattle.std.proofs.Common.{◌≡◌, ℕ, ◌==◌, ◌∙◌, arith, Result, Ok, Err, ap, subst, refl, sym, true≢false, cond, Bool, true, false, codes, List, [], ◌∷◌, Option, Some, None, is_some, option_map, option_and_then, inl, inr}
 use Rattle.std.specs.Prelude.{◌⊎◌}
 use Rattle.std.specs.Option.{option_map_or}
 use Rattle.std.specs.Str.{bytes_eq}
@@ -9,12 +9,12 @@ use Rattle.clap.proofs.OnLiterals.{clap_on_literals}
 use Rattle.clap.specs.Faults.{bundle_fault, check_fault, defaults_fault, fault_of, flag_word_fault, level_fault, other_fault, settle_fault, step_fault, turn_fault, walk_fault}
 use Rattle.clap.specs.Kinds.{IsAmong, Kinds, or_else}
 use Rattle.clap.specs.Lexer.{long_of, long_of_rest, short_of, short_of_rest, strip_byte}
-use Rattle.clap.specs.Simple.{Shape, built_leaf, inherited, marked_built, subcommand_of, with_leaf_noted}
-use Rattle.clap.specs.Walk.{Held, Row, Rule, Step, Text, Waiting, Walk, after_step, arg_by_index, finished, idle, long_or_other, nothing_held, plain_word, settled, short_or_plain, subcommand_or_other, to_positional, trailing, value, walk, walk_from, walked}
+use Rattle.clap.specs.Simple.{Shape, built_leaf, inherited, marked_built, with_leaf_noted}
+use Rattle.clap.specs.Walk.{Held, Rule, Step, Text, Waiting, Walk, after_step, arg_by_index, finished, idle, long_or_other, nothing_held, plain_word, settled, short_or_plain, subcommand_or_other, to_positional, trailing, value, walk, walk_from, walked}
 use Rattle.clap.specs.Words.{App, is_simple_and_free, kind_of}
 use Rattle.trace_words.specs.Numbers.{number_of}
-use Rattle.trace_command.specs.Words.{audit, check, draw, explain, generate, program, race, replay}
-use Rattle.trace_command.specs.Asked.{Asking, Auditing, Checking, Drawing, Explaining, Generating, Gives, IsPlain, IsRead, IsRefused, Racing, Replaying, Takes, asked_by, asked_in, asking_of, heap_size, heap_told, number_told}
+use Rattle.trace_command.specs.Words.{audit, check, draw, explain, generate, outcomes, program, race, replay}
+use Rattle.trace_command.specs.Asked.{Asking, Auditing, Checking, Drawing, Explaining, Finding, Generating, Gives, IsPlain, IsRead, IsRefused, Racing, Replaying, Takes, asked_by, asked_in, heap_told}
 use Rattle.trace_command.specs.declared.words.Invocation.{Invocation}
 use Rattle.trace_command.specs.declared.words.Looks.TheVariants.{Each}
 use Rattle.trace_command.specs.declared.words.UsageFault.{UsageFault}
@@ -127,6 +127,14 @@ module _ (name file : Text) (plain : strip_byte 45 file ≡ None) where
   unfolding clap_on_literals
   audit_asked = ap (λ (w : Walk). asked_in (codes "audit", finished (leaf audit).rules w.held)) (one_walk (leaf audit) refl file plain)
 
+  outcomes_none : fault_of program (name ∷ codes "outcomes" ∷ file ∷ []) ≡ []
+  unfolding clap_on_literals
+  outcomes_none = ap (λ k. or_else k []) (one_none (leaf outcomes) refl file plain refl)
+
+  outcomes_asked : asked_by (name ∷ codes "outcomes" ∷ file ∷ []) ≡ Some (Finding file 100000 None false)
+  unfolding clap_on_literals
+  outcomes_asked = ap (λ (w : Walk). asked_in (codes "outcomes", finished (leaf outcomes).rules w.held)) (one_walk (leaf outcomes) refl file plain)
+
   check_none : fault_of program (name ∷ codes "check" ∷ file ∷ []) ≡ []
   unfolding clap_on_literals
   check_none = ap (λ k. or_else k []) (one_none (leaf check) refl file plain refl)
@@ -139,7 +147,7 @@ module _ (name file : Text) (plain : strip_byte 45 file ≡ None) where
   unfolding clap_on_literals
   explain_none = ap (λ k. or_else k []) (one_none (leaf explain) refl file plain refl)
 
-  explain_asked : asked_by (name ∷ codes "explain" ∷ file ∷ []) ≡ Some (Explaining file)
+  explain_asked : asked_by (name ∷ codes "explain" ∷ file ∷ []) ≡ Some (Explaining file None)
   unfolding clap_on_literals
   explain_asked = ap (λ (w : Walk). asked_in (codes "explain", finished (leaf explain).rules w.held)) (one_walk (leaf explain) refl file plain)
 
@@ -353,6 +361,7 @@ takes_of words r read = record {
       let plain_bytes = plain_of bytes other_bytes in
       unasked words r (ap asked_by is ∙ heap_asked name file bytes plain plain_bytes ∙ ap (λ o. option_map (λ heap. Replaying file heap Each false) (option_map (λ size. Some size) o)) says) read;
   race = λ name file is other. let plain = plain_of file other in taken words _ r _ is (race_none name file plain) (race_asked name file plain) read;
+  outcomes = λ name file is other. let plain = plain_of file other in taken words _ r _ is (outcomes_none name file plain) (outcomes_asked name file plain) read;
   audit = λ name file is other. let plain = plain_of file other in taken words _ r _ is (audit_none name file plain) (audit_asked name file plain) read;
   no_heap = λ name subcommand file bytes which is other. heapless words r name subcommand file bytes which is (plain_of file other) read;
   check = λ name file is other. let plain = plain_of file other in taken words _ r _ is (check_none name file plain) (check_asked name file plain) read;

@@ -1,9 +1,9 @@
 -- What was read, by what clap answers.
-use Rattle.std.proofs.Common.{◌≡◌, ◌∙◌, Result, Ok, Err, List, [], Option, Some, None, sym, ap, subst, inl, inr, option_and_then}
-use Rattle.std.specs.Prelude.{⊤, ◌⊎◌}
+use Rattle.std.proofs.Common.{◌≡◌, ◌∙◌, Result, Ok, Err, List, [], Some, None, sym, ap, subst, inl, inr, option_and_then}
+use Rattle.std.specs.Prelude.{⊤}
 use Rattle.clap.specs.Kinds.{HasKind, IsAmong, Kinds}
 use Rattle.clap.specs.Simple.{subcommand_rows_of}
-use Rattle.clap.specs.Words.{App, Row, Text, fault_of, kind_of, subcommand_of}
+use Rattle.clap.specs.Words.{App, Text, fault_of, kind_of, subcommand_of}
 use Rattle.clap.specs.declared.error.Error.{Error}
 use Rattle.clap.specs.declared.error.kind.ErrorKind.TheVariants.{OutOfMemory}
 use Rattle.clap.specs.declared.parser.matches.ArgMatches.{ArgMatches}

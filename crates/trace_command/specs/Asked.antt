@@ -1,5 +1,5 @@
 -- What the words of the program ask for.
-use Rattle.std.specs.Prelude.{◌≡◌, ◌≢◌, ◌&&◌, ◌⊎◌, ⊤, ℕ, Bool, true, false, List, [], ◌∷◌, map, Option, Result, Some, None, Ok, Err, MatchResult, codes, if◌then◌else◌, nat_le, nat_lt, option_and_then, option_map, slice_get, slice_index}
+use Rattle.std.specs.Prelude.{◌≡◌, ◌≢◌, ◌&&◌, ◌⊎◌, ⊤, ℕ, Bool, false, List, [], ◌∷◌, map, Option, Result, Some, None, Ok, Err, codes, if◌then◌else◌, nat_le, nat_lt, option_and_then, option_map, slice_get, slice_index}
 use Rattle.std.specs.Option.{option_map_or}
 use Rattle.std.specs.Str.{all_ascii_digits, bytes_eq}
 use Rattle.std.specs.Str.Parse.{digits_value}
@@ -23,9 +23,12 @@ pub data Asking : Type 0 where
   Replaying : Text → Option ℕ → Looks → Bool → Asking
   Racing : Text → Bool → Asking
   Auditing : Text → Bool → Asking
+  -- the file, the points of a step, the report that was observed, and whether the report is left out
+  Finding : Text → ℕ → Option Text → Bool → Asking
   Checking : List Text → Looks → Bool → Asking
   Recording : Text → Asking
-  Explaining : Text → Asking
+  -- the line that is shown, where it is one
+  Explaining : Text → Option ℕ → Asking
   -- the seed, the steps, the CPUs, the pages, the geometry, and the calls in a hundred that are to be refused
   Generating : ℕ → ℕ → ℕ → ℕ → ℕ → ℕ → Asking
   -- whether as text
@@ -35,9 +38,10 @@ abbrev pub asking_of : Invocation → Asking
 asking_of (invocation.Replay file heap looks quiet) = Replaying file.now heap looks quiet
 asking_of (invocation.Race file quiet) = Racing file.now quiet
 asking_of (invocation.Audit file quiet) = Auditing file.now quiet
+asking_of (invocation.Outcomes file limit observed quiet) = Finding file.now limit (option_map (λ report. report.now) observed) quiet
 asking_of (invocation.Check files looks quiet) = Checking (map (λ file. file.now) files.items) looks quiet
 asking_of (invocation.Record file) = Recording file.now
-asking_of (invocation.Explain file) = Explaining file.now
+asking_of (invocation.Explain file line) = Explaining file.now line
 asking_of (invocation.Generate seed steps cpus pages geometry hostile) = Generating seed steps cpus pages geometry hostile
 asking_of (invocation.Draw file text) = Drawing file.now text
 
@@ -64,6 +68,20 @@ abbrev pub number_told : ℕ → Option Text → Option ℕ
 number_told otherwise None = Some otherwise
 number_told otherwise (Some word) = number_of word
 
+-- a number as a trace writes it, from the least to the most
+abbrev pub number_within : ℕ → ℕ → Text → Option ℕ
+number_within least most word = option_and_then (λ n. if nat_le least n && nat_le n most then Some n else None) (number_of word)
+
+-- the points of a step that the search for outcomes may come to, from 1 to 4,294,967,296: 100,000 where no word says it
+abbrev pub limit_told : Option Text → Option ℕ
+limit_told None = Some 100000
+limit_told (Some word) = number_within 1 4294967296 word
+
+-- the one line that is shown: none without a word, else its number, from 1 on and below 2^64
+abbrev pub line_told : Option Text → Option (Option ℕ)
+line_told None = Some None
+line_told (Some word) = option_map (λ line. Some line) (number_within 1 18446744073709551615 word)
+
 -- a flag is given
 abbrev pub is_set : Text → List Row → Bool
 is_set id rows = option_map_or (λ word. bytes_eq word (codes "true")) (first_of id rows) false
@@ -81,6 +99,19 @@ racing rows = option_map (λ file. Racing file (is_set (codes "quiet") rows)) (f
 abbrev pub auditing : List Row → Option Asking
 auditing rows = option_map (λ file. Auditing file (is_set (codes "quiet") rows)) (first_of (codes "FILE") rows)
 
+-- a trace and a report that are both standard input
+abbrev pub are_both_input : Text → Option Text → Bool
+are_both_input file observed = option_map_or (λ report. bytes_eq file (codes "-") && bytes_eq report (codes "-")) observed false
+
+-- one of the two at most is standard input
+abbrev pub finding_in : Text → Option Text → ℕ → Bool → Option Asking
+finding_in file observed limit quiet = if are_both_input file observed then None else Some (Finding file limit observed quiet)
+
+abbrev pub finding : List Row → Option Asking
+finding rows =
+    option_and_then (λ file. option_and_then (λ limit. finding_in file (first_of (codes "observed") rows) limit (is_set (codes "quiet") rows)) (limit_told (first_of (codes "limit") rows)))
+    (first_of (codes "FILE") rows)
+
 -- `check --record` takes one file
 abbrev pub recording : List Text → Option Asking
 recording [] = None
@@ -93,7 +124,7 @@ checking rows =
     (looks_told (first_of (codes "oracle") rows))) (all_of (codes "FILE") rows)
 
 abbrev pub explaining : List Row → Option Asking
-explaining rows = option_map Explaining (first_of (codes "FILE") rows)
+explaining rows = option_and_then (λ file. option_map (Explaining file) (line_told (first_of (codes "line") rows))) (first_of (codes "FILE") rows)
 
 abbrev pub generating : List Row → Option Asking
 generating rows =
@@ -110,11 +141,12 @@ asked_in (name, rows) =
     if bytes_eq name (codes "replay") then replaying rows
     else (if bytes_eq name (codes "race") then racing rows
     else (if bytes_eq name (codes "audit") then auditing rows
+    else (if bytes_eq name (codes "outcomes") then finding rows
     else (if bytes_eq name (codes "check") then checking rows
     else (if bytes_eq name (codes "explain") then explaining rows
     else (if bytes_eq name (codes "generate") then generating rows
     else (if bytes_eq name (codes "draw") then drawing rows
-    else None))))))
+    else None)))))))
 
 -- what words ask for, where clap finds no fault in them
 abbrev pub asked_by : List Text → Option Asking
@@ -150,10 +182,11 @@ pub record Takes (words : List Text) (r : Result Invocation UsageFault) : Type 0
       → Gives (Replaying file (Some size) Each false) r
   pub no_size : (name file bytes : Text) → words ≡ name ∷ codes "replay" ∷ file ∷ codes "--heap" ∷ bytes ∷ [] → IsPlain file → IsPlain bytes → heap_size bytes ≡ None → IsRefused r
   pub race : (name file : Text) → words ≡ name ∷ codes "race" ∷ file ∷ [] → IsPlain file → Gives (Racing file false) r
+  pub outcomes : (name file : Text) → words ≡ name ∷ codes "outcomes" ∷ file ∷ [] → IsPlain file → Gives (Finding file 100000 None false) r
   pub audit : (name file : Text) → words ≡ name ∷ codes "audit" ∷ file ∷ [] → IsPlain file → Gives (Auditing file false) r
   pub no_heap : (name subcommand file bytes : Text) → (subcommand ≡ codes "race") ⊎ (subcommand ≡ codes "audit") → words ≡ name ∷ subcommand ∷ file ∷ codes "--heap" ∷ bytes ∷ [] → IsPlain file → IsRefused r
   pub check : (name file : Text) → words ≡ name ∷ codes "check" ∷ file ∷ [] → IsPlain file → Gives (Checking (file ∷ []) Each false) r
-  pub explain : (name file : Text) → words ≡ name ∷ codes "explain" ∷ file ∷ [] → IsPlain file → Gives (Explaining file) r
+  pub explain : (name file : Text) → words ≡ name ∷ codes "explain" ∷ file ∷ [] → IsPlain file → Gives (Explaining file None) r
   pub generate : (name seed steps : Text) (n count : ℕ) → words ≡ name ∷ codes "generate" ∷ seed ∷ steps ∷ [] → IsPlain seed → IsPlain steps → number_of seed ≡ Some n → number_of steps ≡ Some count
       → Gives (Generating n count 4 2048 39 0) r
   pub draw : (name file : Text) → words ≡ name ∷ codes "draw" ∷ file ∷ [] → IsPlain file → Gives (Drawing file false) r

@@ -1,5 +1,5 @@
 -- The words of the program, as clap reads them.
-use Rattle.std.specs.Prelude.{true, ◌∷◌, [], Some, codes}
+use Rattle.std.specs.Prelude.{true, Some, codes}
 use Rattle.clap.specs.Lexer.{usize_max}
 use Rattle.clap.specs.declared.builder.action.ArgAction.TheVariants.{Append, Set, SetTrue}
 use Rattle.clap.specs.Words.{App, Rule, Text, new_app, new_rule, with_rule, with_subcommand}
@@ -40,11 +40,14 @@ race = with_rule (with_rule (new_app (codes "race")) file) quiet
 abbrev pub audit : App
 audit = with_rule (with_rule (new_app (codes "audit")) file) quiet
 
+abbrev pub outcomes : App
+outcomes = with_rule (with_rule (with_rule (with_rule (new_app (codes "outcomes")) file) (option (codes "limit"))) (option (codes "observed"))) quiet
+
 abbrev pub check : App
 check = with_rule (with_rule (with_rule (with_rule (new_app (codes "check")) files) (flag (codes "record"))) oracle) quiet
 
 abbrev pub explain : App
-explain = with_rule (new_app (codes "explain")) file
+explain = with_rule (with_rule (new_app (codes "explain")) file) (option (codes "line"))
 
 abbrev pub generate : App
 generate =
@@ -60,4 +63,5 @@ named = record (new_app (codes "trace_cli")) { top = record (new_app (codes "tra
 
 abbrev pub program : App
 program =
-    with_subcommand (with_subcommand (with_subcommand (with_subcommand (with_subcommand (with_subcommand (with_subcommand named replay.top) race.top) audit.top) check.top) explain.top) generate.top) draw.top
+    with_subcommand (with_subcommand (with_subcommand (with_subcommand (with_subcommand (with_subcommand (with_subcommand (with_subcommand named replay.top) race.top) audit.top) outcomes.top) check.top) explain.top)
+    generate.top) draw.top

@@ -6,14 +6,18 @@ ghost use Rattle.trace_command.specs.Asked.{
   HasAsked,
   IsReadAs,
   IsReadUnlessMemory,
+  are_both_input as are_both_in,
   asked_in,
   auditing,
   checking,
   drawing,
   explaining,
+  finding,
   generating,
   heap_told,
   is_set as is_set_in,
+  limit_told,
+  line_told,
   looks_told,
   number_told,
   racing,
@@ -39,6 +43,12 @@ const GEOMETRY: u64 = 39;
 /// Of a hundred of its calls, those that are to be refused.
 const HOSTILE: u64 = 0;
 
+/// The most points of a step that the search for outcomes comes to, where no word says it.
+const POINTS: u64 = 100_000;
+
+/// The greatest number of them that can be asked for.
+const MOST_POINTS: u64 = 4_294_967_296;
+
 /// A value that isn't of its form.
 #[derive(Clone, Copy, PartialEq)]
 pub(crate) enum Wanted {
@@ -48,6 +58,9 @@ pub(crate) enum Wanted {
     Bytes,
     When,
     Number,
+    Limit,
+    Line,
+    OneInput,
 }
 
 /// Why what clap has read asks for nothing.
@@ -93,6 +106,9 @@ fn asked_of<'a>(
     }
     if name == "audit" {
         return audit_asked(inner);
+    }
+    if name == "outcomes" {
+        return outcomes_asked(inner);
     }
     if name == "check" {
         return check_asked(global, inner);
@@ -191,6 +207,32 @@ fn number_or(inner: &ArgMatches<'_>, id: &str, otherwise: u64) -> Result<u64, Un
     }
 }
 
+/// The points that `--limit` allows.
+fn limit(inner: &ArgMatches<'_>) -> Result<u64, Unread>
+    ensures { IsReadAs (limit_told (first_of (codes "limit") (rows_of (found_of inner.now)))) (λ limit. limit) result }
+{
+    let Some(word) = value(inner, "limit") else {
+        return Ok(POINTS);
+    };
+    match number(word.as_bytes()) {
+        Some(limit) if 1 <= limit && limit <= MOST_POINTS => Ok(limit),
+        _ => Err(Unread::Word(Wanted::Limit)),
+    }
+}
+
+/// The line that is given as `--line`.
+fn line(inner: &ArgMatches<'_>) -> Result<Option<u64>, Unread>
+    ensures { IsReadAs (line_told (first_of (codes "line") (rows_of (found_of inner.now)))) (λ line. line) result }
+{
+    let Some(word) = value(inner, "line") else {
+        return Ok(None);
+    };
+    match number(word.as_bytes()) {
+        Some(line) if 1 <= line => Ok(Some(line)),
+        _ => Err(Unread::Word(Wanted::Line)),
+    }
+}
+
 /// All that is given as FILE.
 fn files<'a>(global: Global, inner: &ArgMatches<'a>) -> Result<Vec<&'a str>, Unread>
     ensures { IsReadUnlessMemory (all_of (codes "FILE") (rows_of (found_of inner.now))) (λ files. map (λ path. path.now) files.items) result }
@@ -235,6 +277,33 @@ fn audit_asked<'a>(inner: &ArgMatches<'a>) -> Result<Invocation<'a>, Unread>
     })
 }
 
+fn outcomes_asked<'a>(inner: &ArgMatches<'a>) -> Result<Invocation<'a>, Unread>
+    ensures { HasAsked (finding (rows_of (found_of inner.now))) result }
+{
+    let file = file(inner)?;
+    let limit = limit(inner)?;
+    let observed = value(inner, "observed");
+    if are_both_input(file, observed) {
+        return Err(Unread::Word(Wanted::OneInput));
+    }
+    Ok(Invocation::Outcomes {
+        file,
+        limit,
+        observed,
+        quiet: is_set(inner, "quiet"),
+    })
+}
+
+/// Whether a trace and a report are both standard input.
+fn are_both_input(file: &str, observed: Option<&str>) -> bool
+    ensures { result ≡ are_both_in file.now (option_map (λ report. report.now) observed.entry) }
+{
+    match observed {
+        Some(report) => file == "-" && report == "-",
+        None => false,
+    }
+}
+
 fn check_asked<'a>(global: Global, inner: &ArgMatches<'a>) -> Result<Invocation<'a>, Unread>
     ensures { HasAsked (checking (rows_of (found_of inner.now))) result }
 {
@@ -263,7 +332,9 @@ fn record_asked<'a>(files: &[&'a str]) -> Result<Invocation<'a>, Unread>
 fn explain_asked<'a>(inner: &ArgMatches<'a>) -> Result<Invocation<'a>, Unread>
     ensures { HasAsked (explaining (rows_of (found_of inner.now))) result }
 {
-    Ok(Invocation::Explain { file: file(inner)? })
+    let file = file(inner)?;
+    let line = line(inner)?;
+    Ok(Invocation::Explain { file, line })
 }
 
 fn generate_asked<'a>(inner: &ArgMatches<'a>) -> Result<Invocation<'a>, Unread>

@@ -12,6 +12,7 @@ ghost use Rattle.trace_command.specs.Words.{
   generate as generate_app,
   needed as needed_rule,
   option as option_rule,
+  outcomes as outcomes_app,
   program,
   race as race_app,
   replay as replay_app,
@@ -31,7 +32,7 @@ const PROGRAM: &str = "./run";
 
 /// What help shows after the words.
 const HELP: &str =
-    "Examples:\n  ./run replay examples/first_share.trace\n  ./run replay examples/first_share.trace --heap 262144\n  ./run race examples/raced/one_vcpu.trace\n  ./run audit examples/audited/broken_word.trace\n  ./run check examples/expected_replies.trace\n  ./run explain examples/first_share.trace\n  ./run generate 1 1000 --cpus 4 --hostile 10\n  ./run draw examples/protected_vm.trace\n\nFILE is a path, or - for standard input.\n\nExit status:\n  0  the report ends without a fault or a disagreement; what a trace expects is met\n  1  the report has a fault or a disagreement, an expectation is missed, or reading, writing, memory or the start of a thread failed\n  2  FILE can't be opened, the words are refused, or help was asked for\n\nThe lines of a trace, its report and each fault are explained in docs/TRACES.md.";
+    "Examples:\n  ./run replay examples/first_share.trace\n  ./run replay examples/first_share.trace --heap 262144\n  ./run race examples/raced/one_vcpu.trace\n  ./run outcomes examples/raced/one_vcpu.trace\n  ./run audit examples/audited/broken_word.trace\n  ./run check examples/expected_replies.trace\n  ./run explain examples/first_share.trace\n  ./run generate 1 1000 --cpus 4 --hostile 10\n  ./run draw examples/protected_vm.trace\n\nFILE is a path, or - for standard input.\n\nExit status:\n  0  the report ends without a fault or a disagreement; what a trace expects is met\n  1  the report has a fault or a disagreement, an expectation is missed, or reading, writing, memory or the start of a thread failed\n  2  FILE can't be opened, the words are refused, or help was asked for\n\nThe lines of a trace, its report and each fault are explained in docs/TRACES.md.";
 
 /// A value that must be given, by its place.
 fn needed<'a>(global: Global, id: &'a str, help: &'a str) -> Arg<'a>
@@ -178,6 +179,33 @@ fn audit<'a>(global: Global) -> Result<Command<'a>, AllocError>
     with(form, quiet(global))
 }
 
+fn outcomes<'a>(global: Global) -> Result<Command<'a>, AllocError>
+    ensures app { IfOk result (λ form. app_of form ≡ outcomes_app) }
+    ensures local { IfOk result (λ form. (fields_of form).has_globals ≡ false) }
+{
+    let form = subcommand(
+        global,
+        "outcomes",
+        "Finds all replies that the steps after 'start' may have, in any order of the CPUs",
+    );
+    let form = with(form, file(global))?;
+    let limit = option(
+        global,
+        "limit",
+        "N",
+        "gives up where more than N points have to be kept at once, 1 to 4294967296; without it 100000",
+    );
+    let form = with(form, limit)?;
+    let observed = option(
+        global,
+        "observed",
+        "REPORT",
+        "tells whether some order gives the replies of this report",
+    );
+    let form = with(form, observed)?;
+    with(form, quiet(global))
+}
+
 fn check<'a>(global: Global) -> Result<Command<'a>, AllocError>
     ensures app { IfOk result (λ form. app_of form ≡ check_app) }
     ensures local { IfOk result (λ form. (fields_of form).has_globals ≡ false) }
@@ -207,7 +235,11 @@ fn explain<'a>(global: Global) -> Result<Command<'a>, AllocError>
         "explain",
         "Shows a trace line by line, with its report, and what each step looked at and changed",
     );
-    with(form, file(global))
+    let form = with(form, file(global))?;
+    with(
+        form,
+        option(global, "line", "N", "shows the Nth line alone"),
+    )
 }
 
 fn generate<'a>(global: Global) -> Result<Command<'a>, AllocError>
@@ -278,6 +310,7 @@ pub(crate) fn form<'a>(global: Global) -> Result<Command<'a>, AllocError>
     let form = with_form(form, replay(global)?)?;
     let form = with_form(form, race(global)?)?;
     let form = with_form(form, audit(global)?)?;
+    let form = with_form(form, outcomes(global)?)?;
     let form = with_form(form, check(global)?)?;
     let form = with_form(form, explain(global)?)?;
     let form = with_form(form, generate(global)?)?;
@@ -299,5 +332,10 @@ fn text_of(wanted: Wanted) -> &'static str {
         Wanted::When => "WHEN must be each or end",
         Wanted::Number =>
             "SEED, STEPS and each N must be numbers below 2^64, decimal or 0x and hexadecimal",
+        Wanted::Limit =>
+            "N of --limit must be a number from 1 to 4294967296, decimal or 0x and hexadecimal",
+        Wanted::OneInput => "FILE and REPORT can't both be standard input",
+        Wanted::Line =>
+            "N of --line must be a number from 1 on and below 2^64, decimal or 0x and hexadecimal",
     }
 }

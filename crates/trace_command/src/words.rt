@@ -40,6 +40,15 @@ pub enum Invocation<'a> {
         file: &'a str,
         quiet: bool,
     },
+    /// Find all that the steps after `start` may reply, in any order of the CPUs.
+    Outcomes {
+        file: &'a str,
+        /// Of a step, how many points the search may come to.
+        limit: u64,
+        /// A report of which it is asked whether some order gives its replies.
+        observed: Option<&'a str>,
+        quiet: bool,
+    },
     /// Compare what the lines of traces report with what their comments expect.
     Check {
         files: Vec<&'a str>,
@@ -53,6 +62,8 @@ pub enum Invocation<'a> {
     /// Show a trace line by line, with what each step looked at and changed.
     Explain {
         file: &'a str,
+        /// The one line to show, counted from 1; without it all are shown.
+        line: Option<u64>,
     },
     /// Make a trace.
     Generate {
