@@ -16,7 +16,10 @@ use Rattle.trace_text.specs.Reports as reports
 use Rattle.trace_text.specs.Session.{at_start}
 use Rattle.trace_audit.specs.Audited.{Ends, RunsLine, nothing_audited}
 use Rattle.trace_race.specs.declared.buffered.Halted.{Halted}
+use Rattle.trace_race.specs.Courses.{course_of, nothing_asked}
 use Rattle.trace_race.specs.Raced.{HasOneHistory, IsRaceReport}
+use Rattle.trace_outcomes.specs.Told.{TellsOutcomes, TellsReported}
+use Rattle.trace_outcomes.specs.declared.telling.Told.{Told as OutcomesTold}
 use Rattle.trace_check.specs.Checks.{IsChecked}
 use Rattle.trace_check.specs.declared.checking.Checked.{Checked}
 use Rattle.trace_draw.specs.declared.course.Ended.{Ended}
@@ -29,7 +32,7 @@ use Rattle.trace_generate.specs.declared.options.GenerateFault.TheVariants as ge
 use Rattle.trace_generate.specs.declared.options.Options.{Options}
 use Rattle.trace_generate.specs.Machine.{IsFault}
 use Rattle.trace_generate.specs.Made.{IsTrace}
-use Rattle.trace_command.specs.Asked.{Asking, Replaying, Racing, Auditing, Checking, Recording, Explaining, Generating, Drawing, IsRead, asking_of}
+use Rattle.trace_command.specs.Asked.{Asking, Replaying, Racing, Auditing, Finding, Checking, Recording, Explaining, Generating, Drawing, IsRead, asking_of}
 use Rattle.trace_command.specs.declared.words.Invocation.{Invocation}
 use Rattle.trace_command.specs.declared.words.UsageFault.{UsageFault}
 use Rattle.trace_command.specs.declared.words.UsageFault.TheVariants.{NoMemory, Usage}
@@ -48,6 +51,24 @@ HasRaceReport bytes outcome = IfSome bytes (λ all. (lines : List ReportLine) ×
 abbrev pub HasAuditReport : Option (List ℕ) → Outcome → Type 0
 HasAuditReport bytes outcome = IfSome bytes (λ all. (lines : List ReportLine) × reports.IsReport (RunsLine {A = Global}) Ends 1 nothing_audited (lines_of all) lines outcome)
 
+-- all that the steps after `start` of a trace of these bytes may be told
+pub record FindsOutcomes (limit : ℕ) (all : List ℕ) (outcome : Outcome) : Type 0 where
+  pub told : OutcomesTold
+  pub tells : TellsOutcomes limit (course_of 1 nothing_asked (lines_of all)) told
+  pub ends : outcome ≡ told.outcome
+
+abbrev pub HasOutcomes : ℕ → Option (List ℕ) → Outcome → Type 0
+HasOutcomes limit bytes outcome = IfSome bytes (λ all. FindsOutcomes limit all outcome)
+
+-- whether some order of them gives the replies of the report of this name and of these bytes
+pub record FindsOrder (name : List ℕ) (limit : ℕ) (all report : List ℕ) (outcome : Outcome) : Type 0 where
+  pub told : OutcomesTold
+  pub tells : TellsReported name (lines_of report) limit (course_of 1 nothing_asked (lines_of all)) told
+  pub ends : outcome ≡ told.outcome
+
+abbrev pub HasOrder : List ℕ → ℕ → Option (List ℕ) → Option (List ℕ) → Outcome → Type 0
+HasOrder name limit bytes report outcome = IfSome bytes (λ all. IfSome report (λ reported. FindsOrder name limit all reported outcome))
+
 -- a check of these bytes is clean, or has a miss
 abbrev pub outcome_of_check : Bool → Outcome
 outcome_of_check clean = if clean then Clean else Disagreed
@@ -55,9 +76,9 @@ outcome_of_check clean = if clean then Clean else Disagreed
 abbrev pub HasChecked : List ℕ → Option (List ℕ) → Outcome → Type 0
 HasChecked path bytes outcome = IfSome bytes (λ all. (checked : Checked) × IsChecked path all checked × (outcome ≡ outcome_of_check checked.clean))
 
--- a trace of these bytes is explained
-abbrev pub HasExplained : List ℕ → Option (List ℕ) → Outcome → Type 0
-HasExplained path bytes outcome = IfSome bytes (λ all. (text : List ℕ) × ExplainsAll path (lines_of all) text outcome)
+-- a trace of these bytes is explained, or one line of it
+abbrev pub HasExplained : List ℕ → Option ℕ → Option (List ℕ) → Outcome → Type 0
+HasExplained path line bytes outcome = IfSome bytes (λ all. (text : List ℕ) × ExplainsAll path (lines_of all) text outcome)
 
 -- how a run of these bytes ends
 abbrev pub outcome_of_end : Ended → Outcome
@@ -82,9 +103,10 @@ abbrev pub HasReport : Task → List ℕ → Option (List ℕ) → Outcome → T
 HasReport (tasks.Replay heap looks quiet) path bytes outcome = HasReplayReport bytes outcome
 HasReport (tasks.Race quiet) path bytes outcome = HasRaceReport bytes outcome
 HasReport (tasks.Audit quiet) path bytes outcome = HasAuditReport bytes outcome
+HasReport (tasks.Outcomes limit quiet) path bytes outcome = HasOutcomes limit bytes outcome
 HasReport (tasks.Check looks quiet) path bytes outcome = HasChecked path bytes outcome
 HasReport tasks.Record path bytes outcome = outcome ≡ Clean
-HasReport tasks.Explain path bytes outcome = HasExplained path bytes outcome
+HasReport (tasks.Explain line) path bytes outcome = HasExplained path line bytes outcome
 HasReport (tasks.Draw text) path bytes outcome = HasDrawn text bytes outcome
 
 -- what a fault is blamed on
@@ -104,6 +126,12 @@ status_told (Err halted) = 1
 pub record HasAnswer (task : Task) (path : List ℕ) (bytes : Option (List ℕ)) (status : ℕ) : Type 0 where
   pub answer : Result Outcome Halted
   pub report : IfOk answer (HasReport task path bytes)
+  pub told : status ≡ status_told answer
+
+-- and the status of whether some order gives the replies of a report, of both files' bytes
+pub record HasOrderAnswer (name : List ℕ) (limit : ℕ) (bytes report : Option (List ℕ)) (status : ℕ) : Type 0 where
+  pub answer : Result Outcome Halted
+  pub order : IfOk answer (HasOrder name limit bytes report)
   pub told : status ≡ status_told answer
 
 -- the status of a task, by what came of opening its file: 2 where that was refused
@@ -148,6 +176,15 @@ module _ {F E : Type 0} (bytes : F → Option (List ℕ)) (opens : List ℕ → 
   abbrev pub HasFileStatus : Task → List ℕ → ℕ → Type 0
   HasFileStatus task path status = (opened : Result F E) × opens path opened × IsStatusOf bytes task path opened status
 
+  -- of a trace and a report, the trace opened first; 2 where one of them can't be
+  abbrev pub HasReportStatus : List ℕ → ℕ → F → ℕ → Type 0
+  HasReportStatus report limit file status =
+      (opened : Result F E) × opens report opened × MatchResult opened (λ observed. HasOrderAnswer report limit (bytes file) (bytes observed) status) (λ _. status ≡ 2)
+
+  abbrev pub HasOrderStatus : List ℕ → List ℕ → ℕ → ℕ → Type 0
+  HasOrderStatus path report limit status =
+      (opened : Result F E) × opens path opened × MatchResult opened (λ file. HasReportStatus report limit file status) (λ _. status ≡ 2)
+
   -- of a task with several files the greatest of theirs, and of none 0
   abbrev pub HasGreatestStatus : Task → List (List ℕ) → ℕ → Type 0
   HasGreatestStatus task [] status = status ≡ 0
@@ -159,9 +196,11 @@ module _ {F E : Type 0} (bytes : F → Option (List ℕ)) (opens : List ℕ → 
   HasAskedStatus (Replaying file heap looks quiet) status = HasFileStatus (tasks.Replay heap looks quiet) file status
   HasAskedStatus (Racing file quiet) status = HasFileStatus (tasks.Race quiet) file status
   HasAskedStatus (Auditing file quiet) status = HasFileStatus (tasks.Audit quiet) file status
+  HasAskedStatus (Finding file limit None quiet) status = HasFileStatus (tasks.Outcomes limit quiet) file status
+  HasAskedStatus (Finding file limit (Some report) quiet) status = HasOrderStatus file report limit status
   HasAskedStatus (Checking files looks quiet) status = HasGreatestStatus (tasks.Check looks quiet) files status
   HasAskedStatus (Recording file) status = HasFileStatus tasks.Record file status
-  HasAskedStatus (Explaining file) status = HasFileStatus tasks.Explain file status
+  HasAskedStatus (Explaining file line) status = HasFileStatus (tasks.Explain line) file status
   HasAskedStatus (Generating seed steps cpus pages geometry hostile) status =
       (old : Option (List ℕ)) × (new : Option (List ℕ)) × IsMade steps (record { cpus = cpus; pages = pages; geometry = geometry; hostile = hostile }) old new status
   HasAskedStatus (Drawing file text) status = HasFileStatus (tasks.Draw text) file status

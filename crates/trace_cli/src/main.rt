@@ -2,7 +2,8 @@
 //!
 //! `trace_cli replay FILE [--heap BYTES]` carries the lines of FILE out in order and writes the report to standard output.
 //! The tables of the trees lie in a heap of BYTES (4,096 to 1,073,741,824), or in the machine's memory. `trace_cli race FILE`
-//! makes the steps after `start` on one thread for each CPU; `trace_cli audit FILE` sets words and audits once.
+//! makes the steps after `start` on one thread for each CPU, and `trace_cli outcomes FILE` finds all that they may be told;
+//! `trace_cli audit FILE` sets words and audits once.
 //! `trace_cli check FILE..` compares what lines report with what comments after them expect, `explain FILE` shows what each
 //! step looked at, `generate SEED STEPS` makes a trace, and `draw FILE` a picture of who owns what. The lines of a trace, its
 //! reports and each fault are explained in docs/TRACES.md.
@@ -19,7 +20,7 @@
 #![tactic(auto)]
 
 ghost use Rattle.std.specs.Prelude.{ℕ, IfOk, List, map};
-ghost use Rattle.trace_cli.specs.Status.{HasAskedStatus, HasFileStatus, HasGreatestStatus, HasWordsStatus};
+ghost use Rattle.trace_cli.specs.Status.{HasAskedStatus, HasFileStatus, HasGreatestStatus, HasOrderStatus, HasWordsStatus};
 ghost use Rattle.trace_command.specs.Asked.{asking_of};
 
 mod files;
@@ -39,7 +40,7 @@ use std::rt::Env;
 use std::sync::Wait;
 use std::thread::Threads;
 use std::{env, io};
-use tasks::{Opened, Task, status_of};
+use tasks::{Opened, Task, order_status, status_of, unopened};
 use telling::{FAILED, refused};
 use trace_command::{Invocation, command};
 use trace_generate::Options;
@@ -87,13 +88,25 @@ fn done<R: AllocGlobal + Print + Eprint + Threads + Wait + Sync, F: io::Read + D
         } => done_with(rt, files, file, Task::Replay { heap, looks, quiet }),
         Invocation::Race { file, quiet } => done_with(rt, files, file, Task::Race { quiet }),
         Invocation::Audit { file, quiet } => done_with(rt, files, file, Task::Audit { quiet }),
+        Invocation::Outcomes {
+            file,
+            limit,
+            observed: None,
+            quiet,
+        } => done_with(rt, files, file, Task::Outcomes { limit, quiet }),
+        Invocation::Outcomes {
+            file,
+            limit,
+            observed: Some(report),
+            quiet,
+        } => done_with_both(rt, files, file, report, limit, quiet),
         Invocation::Check {
             files: paths,
             looks,
             quiet,
         } => done_with_each(rt, files, paths.as_slice(), Task::Check { looks, quiet }),
         Invocation::Record { file } => done_with(rt, files, file, Task::Record),
-        Invocation::Explain { file } => done_with(rt, files, file, Task::Explain),
+        Invocation::Explain { file, line } => done_with(rt, files, file, Task::Explain { line }),
         Invocation::Generate {
             seed,
             steps,
@@ -142,6 +155,30 @@ fn done_with<
 {
     let file = files.open(path, task.is_run());
     status_of(rt, Opened { task, path, file })
+}
+
+/// Tells whether some order gives the replies of the report at a path, and gives the exit status.
+fn done_with_both<R: AllocGlobal + Print + Eprint, F: io::Read + Drop, O: Opens<F>>(
+    rt: &R,
+    files: &O,
+    path: &str,
+    report: &str,
+    limit: u64,
+    quiet: bool,
+) -> u8
+    ensures { HasOrderStatus F.remaining (O.opens files.now) path.now report.now limit result }
+{
+    let file = match files.open(path, false) {
+        Ok(file) => file,
+        Err(error) => return unopened(rt, path, error),
+    };
+    match files.open(report, false) {
+        Ok(observed) => order_status(rt, path, report, limit, quiet, file, observed),
+        Err(error) => {
+            drop(file);
+            unopened(rt, report, error)
+        }
+    }
 }
 
 fn main(rt: HostRuntime) -> ExitCode {

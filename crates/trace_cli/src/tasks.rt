@@ -1,10 +1,10 @@
 //! What is done with a file of a trace, once it is opened; the exit status.
 ghost use Rattle.std.specs.Prelude.{◌≡◌, IfOk};
-ghost use Rattle.trace_cli.specs.Status.{HasReport, HasStatus, status_told};
+ghost use Rattle.trace_cli.specs.Status.{HasOrderAnswer, HasReport, HasStatus, status_told};
 
 use crate::reports::{audited, raced, replayed};
 use crate::telling::{FAILED, REFUSED, tell};
-use crate::texts::{checked, drawn, explained, recorded};
+use crate::texts::{checked, drawn, explained, order_told, outcomes_told, recorded};
 use std::io;
 use std::sync::Wait;
 use std::thread::Threads;
@@ -26,14 +26,21 @@ pub enum Task {
     Audit {
         quiet: bool,
     },
+    /// Find all that the steps after `start` may be told, where no step has more points than this.
+    Outcomes {
+        limit: u64,
+        quiet: bool,
+    },
     Check {
         looks: Looks,
         quiet: bool,
     },
     /// Write the trace with its expectations filled in.
     Record,
-    /// Show what each step looked at and changed.
-    Explain,
+    /// Show what each step looked at and changed, or that of one line.
+    Explain {
+        line: Option<u64>,
+    },
     Draw {
         text: bool,
     },
@@ -70,11 +77,32 @@ pub fn status_of<R: AllocGlobal + Print + Eprint + Threads + Wait + Sync, F: io:
             let answer = answered(rt, task, path, file);
             told(rt, path, answer)
         }
-        Err(error) => {
-            let _ = eprintln!(rt; "./run: {path}: {error}");
-            REFUSED
-        }
+        Err(error) => unopened(rt, path, error),
     }
+}
+
+/// Tells that a file can't be opened, and gives the exit status.
+pub fn unopened<R: Eprint>(rt: &R, path: &str, error: io::Error) -> u8
+    ensures { result ≡ 2 }
+{
+    let _ = eprintln!(rt; "./run: {path}: {error}");
+    REFUSED
+}
+
+/// Tells whether some order of a trace's steps gives the replies of a report, and gives the exit status.
+pub fn order_status<R: AllocGlobal + Print + Eprint, F: io::Read + Drop>(
+    rt: &R,
+    path: &str,
+    name: &str,
+    limit: u64,
+    quiet: bool,
+    file: F,
+    report: F,
+) -> u8
+    ensures { HasOrderAnswer name.now limit (F.remaining file) (F.remaining report) result }
+{
+    let answer = order_told(rt, path, name, limit, quiet, file, report);
+    told(rt, path, answer)
 }
 
 /// Tells on standard error why there is no whole report, if there is none, and gives the exit status.
@@ -105,9 +133,10 @@ fn answered<R: AllocGlobal + Print + Eprint + Threads + Wait + Sync, F: io::Read
         Task::Replay { heap, looks, quiet } => replayed(rt, path, heap, looks, quiet, file),
         Task::Race { quiet } => raced(rt, path, quiet, file),
         Task::Audit { quiet } => audited(rt, path, quiet, file),
+        Task::Outcomes { limit, quiet } => outcomes_told(rt, path, limit, quiet, file),
         Task::Check { looks, quiet } => checked(rt, path, looks, quiet, file),
         Task::Record => recorded(rt, file),
-        Task::Explain => explained(rt, path, file),
+        Task::Explain { line } => explained(rt, path, line, file),
         Task::Draw { text } => drawn(rt, path, text, file),
     }
 }

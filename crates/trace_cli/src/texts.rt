@@ -1,6 +1,6 @@
-//! The texts of `check`, `explain` and `draw`, which are made of a whole trace in memory.
+//! The texts of `outcomes`, `check`, `explain` and `draw`, which are made of a whole trace in memory.
 ghost use Rattle.std.specs.Prelude.{◌≡◌, IfOk, IfSome};
-ghost use Rattle.trace_cli.specs.Status.{EndsAsDrawn, EndsAsTold, HasChecked, HasDrawn, HasExplained, outcome_of_check as outcome_of_clean, outcome_of_end};
+ghost use Rattle.trace_cli.specs.Status.{EndsAsDrawn, EndsAsTold, HasChecked, HasDrawn, HasExplained, HasOrder, HasOutcomes, outcome_of_check as outcome_of_clean, outcome_of_end};
 
 use crate::telling::{no_memory, tell_beside};
 use std::io::{self, ErrorKind, Write};
@@ -8,9 +8,62 @@ use trace_check::{Watch, check, record};
 use trace_command::Looks;
 use trace_draw::{Ended, draw, draw_text};
 use trace_explain::explain;
+use trace_outcomes::{tell_order, tell_outcomes};
 use trace_race::{Halted, RaceFault};
 use trace_reader::{EngineFault, Outcome};
 use trace_text::Fault;
+
+/// Finds all that the steps after `start` may be told, and writes it.
+pub fn outcomes_told<R: AllocGlobal + Print + Eprint, F: io::Read + Drop>(
+    rt: &R,
+    path: &str,
+    limit: u64,
+    quiet: bool,
+    file: F,
+) -> Result<Outcome, Halted>
+    ensures { IfOk result (HasOutcomes limit (F.remaining file)) }
+{
+    let trace = whole(rt, file)?;
+    let Ok(told) = tell_outcomes(rt.alloc(), trace.as_slice(), limit as usize) else {
+        return Err(no_memory());
+    };
+    if !quiet {
+        write(rt, told.text.as_slice())?;
+    }
+    tell_beside(rt, path, trace.as_slice(), told.fault, true)?;
+    Ok(told.outcome)
+}
+
+/// Tells whether some order of the steps after `start` gives the replies of a report.
+pub fn order_told<R: AllocGlobal + Print + Eprint, F: io::Read + Drop>(
+    rt: &R,
+    path: &str,
+    name: &str,
+    limit: u64,
+    quiet: bool,
+    file: F,
+    report: F,
+) -> Result<Outcome, Halted>
+    ensures { IfOk result (HasOrder name.now limit (F.remaining file) (F.remaining report)) }
+{
+    let trace = whole(rt, file)?;
+    let report = whole(rt, report)?;
+    let Ok(told) = tell_order(
+        rt.alloc(),
+        name,
+        trace.as_slice(),
+        report.as_slice(),
+        limit as usize,
+    )
+    else {
+        return Err(no_memory());
+    };
+    if !quiet {
+        write(rt, told.text.as_slice())?;
+    }
+    tell_beside(rt, path, trace.as_slice(), told.fault, true)?;
+    Ok(told.outcome)
+}
 
 /// Checks a trace, and writes its misses.
 pub fn checked<R: AllocGlobal + Print, F: io::Read + Drop>(
@@ -66,12 +119,13 @@ pub fn recorded<R: AllocGlobal + Print, F: io::Read + Drop>(
 pub fn explained<R: AllocGlobal + Print + Eprint, F: io::Read + Drop>(
     rt: &R,
     path: &str,
+    line: Option<u64>,
     file: F,
 ) -> Result<Outcome, Halted>
-    ensures { IfOk result (HasExplained path.now (F.remaining file)) }
+    ensures { IfOk result (HasExplained path.now line (F.remaining file)) }
 {
     let trace = whole(rt, file)?;
-    let Ok(explained) = explain(rt.alloc(), rt.alloc(), path, trace.as_slice()) else {
+    let Ok(explained) = explain(rt.alloc(), rt.alloc(), path, trace.as_slice(), line) else {
         return Err(no_memory());
     };
     write(rt, explained.text.as_slice())?;
