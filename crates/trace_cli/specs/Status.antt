@@ -78,7 +78,7 @@ HasChecked path bytes outcome = IfSome bytes (λ all. (checked : Checked) × IsC
 
 -- a trace of these bytes is explained, or one line of it
 abbrev pub HasExplained : List ℕ → Option ℕ → Option (List ℕ) → Outcome → Type 0
-HasExplained path line bytes outcome = IfSome bytes (λ all. (text : List ℕ) × ExplainsAll path (lines_of all) text outcome)
+HasExplained path line bytes outcome = IfSome bytes (λ all. (text : List ℕ) × ExplainsAll line path (lines_of all) text outcome)
 
 -- how a run of these bytes ends
 abbrev pub outcome_of_end : Ended → Outcome
