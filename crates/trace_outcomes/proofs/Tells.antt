@@ -1,0 +1,115 @@
+-- What is told of a race whose first steps are made.
+use Rattle.std.proofs.Common.{◌≡◌, ℕ, ◌+◌, ◌<◌, arith, ap, refl, subst, sym, true, ◌∙◌, inl, inr, ◌⊎◌, List, ◌∷◌, drop, get_or, length, take, Option, Some, None, Vec, Global}
+use Rattle.std.specs.Prelude.{MatchOption, option_map}
+use Rattle.std.proofs.lemmas.List.{drop_more}
+use Rattle.page_state.specs.declared.entry.PageRange.{PageRange}
+use Rattle.page_state.specs.LayoutView.{layout_of}
+use Rattle.step_reply.specs.declared.reply.Reply.{Reply}
+use Rattle.step_reply.specs.Texts.{text_of_reply}
+use Rattle.reference_model.specs.State.{Reference}
+use Rattle.ghost_spec.specs.States.{ghost_state}
+use Rattle.race_outcomes.specs.declared.finding.Outcome.{Outcome}
+use Rattle.race_outcomes.specs.declared.finding.OutcomesFault.{OutcomesFault}
+use Rattle.race_outcomes.specs.declared.finding.OutcomesFault.TheVariants.{TooMany}
+use Rattle.race_outcomes.specs.declared.node.Turn.{Turn}
+use Rattle.race_outcomes.specs.Orders.{AllOutcomes, GivesWanted, HasMorePoints, IsOutcomesFault, NoneWanted}
+use Rattle.trace_race.specs.Courses.{Asking, in_order_of}
+use Rattle.trace_text.specs.Worlds.{Machine}
+use Rattle.trace_race.specs.declared.course.Asked.{Asked}
+use Rattle.trace_outcomes.specs.declared.making.Race.{Race}
+use Rattle.trace_outcomes.specs.declared.telling.Told.{Told}
+use Rattle.trace_outcomes.specs.Races.{HasMade, Texts, first_of, nothing_told, nothing_wanted, raced_of, texts_in, told_first, turns_raced}
+use Rattle.trace_outcomes.specs.Texts.{all_said, none_said, order_said, otherwise_said, too_many_said}
+use Rattle.trace_outcomes.specs.Told.{OnBoot, TellsAll, TellsBehind, TellsClean, TellsObserved, TellsOrder, TellsRaced, TellsTooMany, TellsUnclean, first_apart, is_read}
+use Rattle.trace_outcomes.proofs.Noting.{no_step}
+use Rattle.trace_outcomes.proofs.Turns.{moved, texts_before, texts_behind, texts_nothing, wanted_behind}
+
+module _ (m : Machine) (a : Asking) (r : Race) (turns : List Turn) (same : turns ≡ r.turns.items) where
+  many : (texts : Texts) (wanted : List (Option (Vec ℕ Global))) (limit : ℕ) (fault : OutcomesFault) (t : Told) → HasMade m a texts r → IsOutcomesFault (layout_of r.state.layout) (ghost_state r.state) turns wanted limit fault
+      → (made : ℕ) × (fault ≡ TooMany made) × TellsUnclean (too_many_said made) t → TellsTooMany m a texts wanted limit t
+  many texts wanted limit fault t made why (n, is, tells) = record {
+    made = n;
+    more = moved (λ l s ts. HasMorePoints l s ts wanted limit n) m a texts r made (subst (λ ts. HasMorePoints (layout_of r.state.layout) (ghost_state r.state) ts wanted limit n) same
+        (subst (IsOutcomesFault (layout_of r.state.layout) (ghost_state r.state) turns wanted limit) is why));
+    tells = tells;
+  }
+
+  module _ (texts : List (Option (Vec ℕ Global))) (n : ℕ) (order : n ≡ in_order_of a) where
+    module _ (nothing : texts ≡ nothing_wanted a.steps) (made : HasMade m a (texts_in texts) r) where
+      none_made : HasMade m a (nothing_told a.steps) r
+      none_made = subst (λ ts. HasMade m a ts r) (ap texts_in nothing ∙ texts_nothing a.steps) made
+
+      none_wanted : drop n texts ≡ nothing_wanted (raced_of a)
+      none_wanted = ap (drop n) nothing ∙ wanted_behind n a.steps ∙ ap (λ k. nothing_wanted (drop k a.steps)) order
+
+      pub all_tells : (limit : ℕ) (found seen : List Outcome) (t : Told) → seen ≡ found → AllOutcomes (layout_of r.state.layout) (ghost_state r.state) turns (drop n texts) found
+          → TellsClean (all_said (first_of a) r.replies.items (raced_of a) seen) t → TellsRaced limit a m t
+      all_tells limit found seen t is all tells = inl (record {
+        found = found;
+        all = moved (λ l s ts. AllOutcomes l s ts (nothing_wanted (raced_of a)) found) m a (nothing_told a.steps) r none_made
+            (subst (λ w. AllOutcomes (layout_of r.state.layout) (ghost_state r.state) r.turns.items w found) none_wanted
+            (subst (λ ts. AllOutcomes (layout_of r.state.layout) (ghost_state r.state) ts (drop n texts) found) same all));
+        tells = subst (λ rs. TellsClean (all_said (first_of a) rs (raced_of a) found) t) (ap (λ (x : List Reply × Reference). x.0) none_made.told)
+            (subst (λ xs. TellsClean (all_said (first_of a) r.replies.items (raced_of a) xs) t) is tells);
+      })
+
+      pub many_tells : (limit : ℕ) (fault : OutcomesFault) (t : Told) → IsOutcomesFault (layout_of r.state.layout) (ghost_state r.state) turns (drop n texts) limit fault
+          → (k : ℕ) × (fault ≡ TooMany k) × TellsUnclean (too_many_said k) t → TellsRaced limit a m t
+      many_tells limit fault t why tells = inr (subst (λ w. TellsTooMany m a (nothing_told a.steps) w limit t) none_wanted (many (nothing_told a.steps) (drop n texts) limit fault t none_made why tells))
+
+    module _ (made : HasMade m a (texts_in texts) r) (limit : ℕ) (t : Told) where
+      behind : texts_in (drop n texts) ≡ drop (in_order_of a) (texts_in texts)
+      behind = texts_behind n texts ∙ ap (λ k. drop k (texts_in texts)) order
+
+      pub order_tells : (found seen : List ℕ) → seen ≡ found → GivesWanted (layout_of r.state.layout) (ghost_state r.state) turns (drop n texts) found → TellsClean (order_said (raced_of a) seen) t → TellsBehind m a (texts_in texts) limit t
+      order_tells found seen is gives tells = record {
+        wanted = drop n texts;
+        wanted_is = behind;
+        tells = inl (inl (
+          found,
+          moved (λ l s ts. GivesWanted l s ts (drop n texts) found) m a (texts_in texts) r made (subst (λ ts. GivesWanted (layout_of r.state.layout) (ghost_state r.state) ts (drop n texts) found) same gives),
+          subst (λ xs. TellsClean (order_said (raced_of a) xs) t) is tells,
+        ));
+      }
+
+      pub none_tells : NoneWanted (layout_of r.state.layout) (ghost_state r.state) turns (drop n texts) → TellsUnclean none_said t → TellsBehind m a (texts_in texts) limit t
+      none_tells none tells = record {
+        wanted = drop n texts;
+        wanted_is = behind;
+        tells = inl (inr (moved (λ l s ts. NoneWanted l s ts (drop n texts)) m a (texts_in texts) r made (subst (λ ts. NoneWanted (layout_of r.state.layout) (ghost_state r.state) ts (drop n texts)) same none), tells));
+      }
+
+      pub behind_many : (fault : OutcomesFault) → IsOutcomesFault (layout_of r.state.layout) (ghost_state r.state) turns (drop n texts) limit fault
+          → (k : ℕ) × (fault ≡ TooMany k) × TellsUnclean (too_many_said k) t → TellsBehind m a (texts_in texts) limit t
+      behind_many fault why tells = record { wanted = drop n texts; wanted_is = behind; tells = inr (many (texts_in texts) (drop n texts) limit fault t made why tells) }
+
+-- what the report tells of the steps before `start`, beside their replies
+module _ (m : Machine) (a : Asking) (r : Race) (texts : List (Option (Vec ℕ Global))) (n : ℕ) (order : n ≡ in_order_of a) (made : HasMade m a (texts_in texts) r) where
+  apart : first_apart (take n a.steps) r.replies.items (texts_in (take n texts)) ≡ first_apart (first_of a) (told_first m a (texts_in texts)).0 (take (in_order_of a) (texts_in texts))
+  apart = ap (λ rs. first_apart (take n a.steps) rs (texts_in (take n texts))) (ap (λ (x : List Reply × Reference). x.0) made.told)
+      ∙ ap (first_apart (take n a.steps) (told_first m a (texts_in texts)).0) (texts_before n texts)
+      ∙ ap (λ k. first_apart (take k a.steps) (told_first m a (texts_in texts)).0 (take k (texts_in texts))) order
+
+  pub observed : (limit : ℕ) (t : Told) (o : Option (ℕ × Reply)) → o ≡ first_apart (take n a.steps) r.replies.items (texts_in (take n texts))
+      → MatchOption o (TellsBehind m a (texts_in texts) limit t) (λ x. TellsUnclean (otherwise_said x.0 (text_of_reply x.1)) t) → TellsObserved m a (texts_in texts) limit t
+  observed limit t o e h = subst (λ (x : Option (ℕ × Reply)). MatchOption x (TellsBehind m a (texts_in texts) limit t) (λ x. TellsUnclean (otherwise_said x.0 (text_of_reply x.1)) t)) (e ∙ apart) h
+
+-- nothing boots, or a machine does
+pub on_none : (X : Type 0) (Y : ℕ → PageRange → Type 0) (b : Option ℕ) (k : Option PageRange) → (b ≡ None) ⊎ (k ≡ None) → X → MatchOption b X (λ number. MatchOption k X (λ carve. Y number carve))
+on_none X Y None k none x = x
+on_none X Y (Some number) None none x = x
+on_none X Y (Some number) (Some carve) (inl e) x = cc
+on_none X Y (Some number) (Some carve) (inr e) x = cc
+
+pub on_some : (X : Type 0) (Y : ℕ → PageRange → Type 0) (b : Option ℕ) (k : Option PageRange) (number : ℕ) (carve : PageRange) → b ≡ Some number → k ≡ Some carve → Y number carve → MatchOption b X (λ number. MatchOption k X (λ carve. Y number carve))
+on_some X Y b k number carve e f y = subst (λ o. MatchOption o X (λ number. MatchOption k X (λ carve. Y number carve))) (sym e) (subst (λ o. MatchOption o X (λ carve. Y number carve)) (sym f) y)
+
+-- a step that reads as it was told
+pub apart_next : (steps : List Asked) (replies : List Reply) (texts : List (Option (Vec ℕ Global))) (place : ℕ) (d : Reply) (o : Option (Vec ℕ Global)) → place < length steps → length replies ≡ length steps → length texts ≡ length steps
+    → o ≡ get_or texts place o → is_read (text_of_reply (get_or replies place d)) (option_map (λ (v : Vec ℕ Global). v.items) o) ≡ true
+    → first_apart (drop place steps) (drop place replies) (texts_in (drop place texts)) ≡ first_apart (drop (place + 1) steps) (drop (place + 1) replies) (texts_in (drop (place + 1) texts))
+apart_next steps replies texts place d o less r t at e =
+    ap (λ x. first_apart x (drop place replies) (texts_in (drop place texts))) (drop_more steps place no_step less)
+    ∙ ap (λ x. first_apart (get_or steps place no_step ∷ drop (place + 1) steps) x (texts_in (drop place texts))) (drop_more replies place d (omega (arith, less, r)))
+    ∙ ap (λ x. first_apart (get_or steps place no_step ∷ drop (place + 1) steps) (get_or replies place d ∷ drop (place + 1) replies) (texts_in x)) (drop_more texts place o (omega (arith, less, t)) ∙ ap (λ x. x ∷ drop (place + 1) texts) (sym at))
+    ∙ rw e refl

@@ -1,0 +1,382 @@
+//! All outcomes of a trace, and whether a report is one of them.
+ghost use Rattle.std.specs.Prelude.{◌≡◌, ℕ, [], IfOk, Ok, drop, length, option_map};
+ghost use Rattle.step_reply.specs.Texts.{text_of_reply};
+ghost use Rattle.trace_lines.specs.Settings.{config_of};
+ghost use Rattle.trace_reader.specs.Reading.{lines_of};
+ghost use Rattle.ghost_spec.specs.States.{contents_in};
+ghost use Rattle.trace_race.specs.Booted.{machine_in};
+ghost use Rattle.trace_race.specs.Judged.{HasGenerationsTo};
+ghost use Rattle.trace_race.specs.Courses.{IsSound, course_in, course_of, in_order_of, nothing_asked};
+ghost use Rattle.trace_outcomes.specs.Races.{IsNoGeneration, IsReady, first_of, nothing_wanted, raced_of, texts_in};
+ghost use Rattle.trace_outcomes.specs.Texts.{all_said, end_said, none_said, order_said, otherwise_said, too_many_said};
+ghost use Rattle.trace_outcomes.specs.Told.{OnMade, TellsBehind, TellsBy, TellsClean, TellsFault, TellsObserved, TellsOutcomes, TellsRaced, TellsReported, TellsUnclean, first_apart as first_apart_of, is_read};
+
+use crate::booting::boot_state;
+use crate::making::{Race, first_made, nothing_told};
+use crate::observed::{Report, read_report};
+use crate::reading::{Read, read_trace};
+use crate::writing::{
+    add_all, add_end, add_fault, add_order, add_otherwise, add_too_many, text_of,
+};
+use ghost_spec::state::Ghost;
+use race_outcomes::{OutcomesFault, explained, outcomes};
+use std::alloc::{AllocError, Global};
+use step_reply::Reply;
+use trace_race::{Asked, Course};
+use trace_reader::Outcome;
+use trace_text::{Fault, Stop};
+
+/// What is told of a trace whose steps are made at once.
+#[derive(Drop)]
+pub struct Told {
+    pub text: Vec<u8>,
+    pub outcome: Outcome,
+    /// The trace's fault, and the number of its line.
+    pub fault: Option<(u64, Fault)>,
+}
+
+fn faulty(global: Global, line: u64, fault: Fault) -> Result<Told, AllocError>
+    ensures { IfOk result (TellsFault line fault) }
+{
+    let mut text = Vec::new(global);
+    add_fault(&mut text, global, line, fault)?;
+    Ok(Told {
+        text,
+        outcome: Outcome::Fault,
+        fault: Some((line, fault)),
+    })
+}
+
+fn clean(text: Vec<u8>) -> Told
+    ensures { TellsClean text.items result }
+{
+    Told {
+        text,
+        outcome: Outcome::Clean,
+        fault: None,
+    }
+}
+
+fn unclean(text: Vec<u8>) -> Told
+    ensures { TellsUnclean text.items result }
+{
+    Told {
+        text,
+        outcome: Outcome::Disagreed,
+        fault: None,
+    }
+}
+
+fn too_many(global: Global, fault: OutcomesFault) -> Result<Told, AllocError>
+    requires { IsNoGeneration fault }
+    ensures { IfOk result (λ t. (made : ℕ) × (fault ≡ OutcomesFault.TooMany made) × TellsUnclean (too_many_said made) t) }
+{
+    match fault {
+        OutcomesFault::TooMany(made) => {
+            let mut text = Vec::new(global);
+            add_too_many(&mut text, global, made)?;
+            Ok(unclean(text))
+        }
+        OutcomesFault::NoMemory => Err(AllocError),
+        OutcomesFault::Generation => unreachable!(),
+    }
+}
+
+/// Tells all outcomes of a trace.
+pub fn tell_outcomes(global: Global, trace: &[u8], limit: usize) -> Result<Told, AllocError>
+    ensures { IfOk result (TellsOutcomes limit (course_of 1 nothing_asked (lines_of trace.now))) }
+{
+    match read_trace(global, trace)? {
+        Read::Whole(course) => outcomes_of(global, &course, limit),
+        Read::Fault(line, fault) => faulty(global, line, fault),
+    }
+}
+
+fn idle(global: Global) -> Result<Told, AllocError>
+    ensures { IfOk result (TellsClean (end_said 0 0)) }
+{
+    let mut text = Vec::new(global);
+    add_end(&mut text, global, 0, 0)?;
+    Ok(clean(text))
+}
+
+fn outcomes_of(global: Global, course: &Course, limit: usize) -> Result<Told, AllocError>
+    requires { IsSound (course_in course.now) }
+    ensures { IfOk result (TellsOutcomes limit (Ok (course_in course.now))) }
+{
+    let boot = match course.boot {
+        Some(boot) => boot,
+        None => return idle(global),
+    };
+    let carve = match course.settings.carve {
+        Some(carve) => carve,
+        None => return idle(global),
+    };
+    match boot_state(global, &course.settings, carve) {
+        Ok(state) => all_from(global, state, course, limit),
+        Err(Stop::Fault(fault)) => faulty(global, boot, fault),
+        Err(Stop::NoMemory) => Err(AllocError),
+    }
+}
+
+fn all_from(global: Global, state: Ghost, course: &Course, limit: usize) -> Result<Told, AllocError>
+    requires sound { IsSound (course_in course.now) }
+    requires config { state.layout.config ≡ config_of (course_in course.now).told }
+    requires low { HasGenerationsTo 1 (contents_in state) }
+    ensures { IfOk result (TellsRaced limit (course_in course.now) (machine_in state)) }
+{
+    let texts = nothing_told(global, course.steps.as_slice())?;
+    match first_made(global, state, course, texts.as_slice()) {
+        Ok(race) => all_of(global, &race, course, texts.as_slice(), limit),
+        Err(_) => Err(AllocError),
+    }
+}
+
+fn all_of(
+    global: Global,
+    race: &Race,
+    course: &Course,
+    texts: &[Option<Vec<u8>>],
+    limit: usize,
+) -> Result<Told, AllocError>
+    requires sound { IsSound (course_in course.now) }
+    requires ready { IsReady (course_in course.now) (drop (in_order_of (course_in course.now)) texts.now) race.now }
+    requires nothing { texts.now ≡ nothing_wanted course.now.steps.items }
+    ensures { IfOk result (OnMade (λ m a _. TellsRaced limit a m) (course_in course.now) (texts_in texts.now) race.now) }
+{
+    let count = course.in_order();
+    match outcomes(
+        global,
+        &race.state,
+        race.turns.as_slice(),
+        &texts[count..],
+        limit,
+    ) {
+        Ok(found) => all_told(global, race, course, found.as_slice()),
+        Err(fault) => too_many(global, fault),
+    }
+}
+
+fn all_told(
+    global: Global,
+    race: &Race,
+    course: &Course,
+    found: &[race_outcomes::Outcome],
+) -> Result<Told, AllocError>
+    requires sound { IsSound (course_in course.now) }
+    requires count { length race.now.replies.items ≡ length (first_of (course_in course.now)) }
+    ensures { IfOk result (TellsClean (all_said (first_of (course_in course.now)) race.now.replies.items (raced_of (course_in course.now)) found.now)) }
+{
+    let count = course.in_order();
+    let steps = course.steps.as_slice();
+    let mut text = Vec::new(global);
+    add_all(
+        &mut text,
+        global,
+        &steps[..count],
+        race.replies.as_slice(),
+        &steps[count..],
+        found,
+    )?;
+    Ok(clean(text))
+}
+
+/// Tells whether some order of a trace's steps gives the replies of a report.
+pub fn tell_order(
+    global: Global,
+    trace: &[u8],
+    name: &str,
+    report: &[u8],
+    limit: usize,
+) -> Result<Told, AllocError>
+    ensures { IfOk result (TellsReported name.now (lines_of report.now) limit (course_of 1 nothing_asked (lines_of trace.now))) }
+{
+    match read_trace(global, trace)? {
+        Read::Whole(course) => order_of(global, &course, name, report, limit),
+        Read::Fault(line, fault) => faulty(global, line, fault),
+    }
+}
+
+fn order_of(
+    global: Global,
+    course: &Course,
+    name: &str,
+    report: &[u8],
+    limit: usize,
+) -> Result<Told, AllocError>
+    requires { IsSound (course_in course.now) }
+    ensures { IfOk result (TellsReported name.now (lines_of report.now) limit (Ok (course_in course.now))) }
+{
+    let texts = nothing_told(global, course.steps.as_slice())?;
+    match read_report(global, name, report, course.steps.as_slice(), texts)? {
+        Report::Texts(texts) => order_by(global, course, texts.as_slice(), limit),
+        Report::Fault(text) => Ok(Told {
+            text,
+            outcome: Outcome::Fault,
+            fault: None,
+        }),
+    }
+}
+
+fn idle_order(global: Global) -> Result<Told, AllocError>
+    ensures { IfOk result (TellsClean (order_said [] [])) }
+{
+    let mut text = Vec::new(global);
+    add_order(&mut text, global, &[], &[])?;
+    Ok(clean(text))
+}
+
+fn order_by(
+    global: Global,
+    course: &Course,
+    texts: &[Option<Vec<u8>>],
+    limit: usize,
+) -> Result<Told, AllocError>
+    requires sound { IsSound (course_in course.now) }
+    requires count { length texts.now ≡ length course.now.steps.items }
+    ensures { IfOk result (TellsBy limit (course_in course.now) (Ok (texts_in texts.now))) }
+{
+    let boot = match course.boot {
+        Some(boot) => boot,
+        None => return idle_order(global),
+    };
+    let carve = match course.settings.carve {
+        Some(carve) => carve,
+        None => return idle_order(global),
+    };
+    match boot_state(global, &course.settings, carve) {
+        Ok(state) => order_from(global, state, course, texts, limit),
+        Err(Stop::Fault(fault)) => faulty(global, boot, fault),
+        Err(Stop::NoMemory) => Err(AllocError),
+    }
+}
+
+fn order_from(
+    global: Global,
+    state: Ghost,
+    course: &Course,
+    texts: &[Option<Vec<u8>>],
+    limit: usize,
+) -> Result<Told, AllocError>
+    requires sound { IsSound (course_in course.now) }
+    requires config { state.layout.config ≡ config_of (course_in course.now).told }
+    requires low { HasGenerationsTo 1 (contents_in state) }
+    requires count { length texts.now ≡ length course.now.steps.items }
+    ensures { IfOk result (TellsObserved (machine_in state) (course_in course.now) (texts_in texts.now) limit) }
+{
+    match first_made(global, state, course, texts) {
+        Ok(race) => order_in(global, &race, course, texts, limit),
+        Err(_) => Err(AllocError),
+    }
+}
+
+fn otherwise(global: Global, line: u64, reply: Reply) -> Result<Told, AllocError>
+    ensures { IfOk result (TellsUnclean (otherwise_said line (text_of_reply reply))) }
+{
+    let reply = text_of(global, reply)?;
+    let mut text = Vec::new(global);
+    add_otherwise(&mut text, global, line, reply.as_slice())?;
+    Ok(unclean(text))
+}
+
+fn order_in(
+    global: Global,
+    race: &Race,
+    course: &Course,
+    texts: &[Option<Vec<u8>>],
+    limit: usize,
+) -> Result<Told, AllocError>
+    requires sound { IsSound (course_in course.now) }
+    requires count { length texts.now ≡ length course.now.steps.items }
+    requires ready { IsReady (course_in course.now) (drop (in_order_of (course_in course.now)) texts.now) race.now }
+    ensures { IfOk result (OnMade (λ m a texts. TellsObserved m a texts limit) (course_in course.now) (texts_in texts.now) race.now) }
+{
+    let count = course.in_order();
+    let steps = course.steps.as_slice();
+    match first_apart(
+        global,
+        &steps[..count],
+        race.replies.as_slice(),
+        &texts[..count],
+    )? {
+        Some((line, reply)) => otherwise(global, line, reply),
+        None => order_behind(global, race, course, texts, limit),
+    }
+}
+
+/// Tells an order of the steps after `start` that gives what is told of them, or that none does.
+fn order_behind(
+    global: Global,
+    race: &Race,
+    course: &Course,
+    texts: &[Option<Vec<u8>>],
+    limit: usize,
+) -> Result<Told, AllocError>
+    requires sound { IsSound (course_in course.now) }
+    requires count { length texts.now ≡ length course.now.steps.items }
+    requires ready { IsReady (course_in course.now) (drop (in_order_of (course_in course.now)) texts.now) race.now }
+    ensures { IfOk result (OnMade (λ m a texts. TellsBehind m a texts limit) (course_in course.now) (texts_in texts.now) race.now) }
+{
+    let count = course.in_order();
+    match explained(
+        global,
+        &race.state,
+        race.turns.as_slice(),
+        &texts[count..],
+        limit,
+    ) {
+        Ok(Some(order)) => order_told(global, course, order.as_slice()),
+        Ok(None) => none_told(global),
+        Err(fault) => too_many(global, fault),
+    }
+}
+
+fn order_told(global: Global, course: &Course, order: &[usize]) -> Result<Told, AllocError>
+    requires { IsSound (course_in course.now) }
+    ensures { IfOk result (TellsClean (order_said (raced_of (course_in course.now)) order.now)) }
+{
+    let count = course.in_order();
+    let steps = course.steps.as_slice();
+    let mut text = Vec::new(global);
+    add_order(&mut text, global, &steps[count..], order)?;
+    Ok(clean(text))
+}
+
+fn none_told(global: Global) -> Result<Told, AllocError>
+    ensures { IfOk result (TellsUnclean none_said) }
+{
+    let text = Vec::from_slice(global, b"no order gives these replies\n")?;
+    Ok(unclean(text))
+}
+
+/// Whether a reply reads as it was told, where anything was.
+fn reads(global: Global, reply: Reply, text: &Option<Vec<u8>>) -> Result<bool, AllocError>
+    ensures { IfOk result (λ b. b ≡ is_read (text_of_reply reply) (option_map (λ v. v.items) text.now)) }
+{
+    match text {
+        Some(text) => {
+            let said = text_of(global, reply)?;
+            Ok(said.as_slice() == text.as_slice())
+        }
+        None => Ok(true),
+    }
+}
+
+/// The first step that was told something else than its reply.
+fn first_apart(
+    global: Global,
+    steps: &[Asked],
+    replies: &[Reply],
+    texts: &[Option<Vec<u8>>],
+) -> Result<Option<(u64, Reply)>, AllocError>
+    requires replies { length replies.now ≡ length steps.now }
+    requires texts { length texts.now ≡ length steps.now }
+    ensures { IfOk result (λ o. o ≡ first_apart_of steps.now replies.now (texts_in texts.now)) }
+{
+    for place in 0..steps.len() {
+        if !reads(global, replies[place], &texts[place])? {
+            return Ok(Some((steps[place].line, replies[place])));
+        }
+    }
+    Ok(None)
+}
