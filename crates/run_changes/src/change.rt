@@ -20,8 +20,6 @@ impl<V: Advance> Advance for Change<V> {
 
     ghost laws = { change_laws V.advance V.CanAdvance V.eq V.Advance.laws };
 
-
-
     fn advanced(self, pages: u64) -> Change<V> {
         Change {
             before: later(self.before, pages),

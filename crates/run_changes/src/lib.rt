@@ -6,4 +6,3 @@ mod finding;
 
 pub use change::Change;
 pub use finding::changes;
-

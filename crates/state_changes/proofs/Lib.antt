@@ -1,0 +1,4 @@
+pub mod Differences
+pub mod Lists
+pub mod Read
+pub mod Together

@@ -1,0 +1,6 @@
+pub mod Changed
+pub mod Heads
+pub mod Labels
+pub mod Lists
+pub mod Texts
+pub mod Together
