@@ -24,7 +24,7 @@ none_apart Malformed e = cc
 none_apart (Annotated owner) e = cc
 none_apart (Leaf frame prot kind state) e = cc
 
-options_same : (x y : Option Target) → entry_of x ≡ entry_of y → x ≡ y
+pub options_same : (x y : Option Target) → entry_of x ≡ entry_of y → x ≡ y
 options_same None None e = refl
 options_same None (Some t) e = absurd (none_apart t e)
 options_same (Some t) None e = absurd (none_apart t (sym e))

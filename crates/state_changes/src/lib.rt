@@ -2,6 +2,7 @@
 #![tactic(auto)]
 
 mod heads;
+pub mod laws;
 mod lines;
 mod maps;
 mod own;

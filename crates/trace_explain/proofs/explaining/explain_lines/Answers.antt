@@ -6,5 +6,5 @@ use Rattle.trace_text.specs.View.{standing_of}
 
 pub returns : goal.returns
 returns g c =
-    ends_clean c.args.name.now (map (λ line. line.now) c.args.lines.now) c.loop-place.place (standing_of c.loop-place.session) c.loop-place.text.items
+    ends_clean c.args.only c.args.name.now (map (λ line. line.now) c.args.lines.now) c.loop-place.place (standing_of c.loop-place.session) c.loop-place.text.items
     (omega (arith, length-map c.args.lines.now (λ line. line.now), c.loop-place-test.false)) c.loop-place.invariant.ahead
