@@ -1,11 +1,11 @@
 -- What changed on a piece of pages along which both maps go on.
-use Rattle.std.proofs.Common.{◌≡◌, ℕ, ◌+◌, ◌-◌, ◌^◌, ◌<◌, ◌≤◌, Bool, true, false, List, [], ◌∷◌, Option, Some, None, refl, sym, ap, subst, ◌∙◌, arith}
+use Rattle.std.proofs.Common.{◌≡◌, ℕ, ◌+◌, ◌-◌, ◌^◌, ◌<◌, ◌≤◌, true, false, List, [], ◌∷◌, Option, Some, None, refl, sym, ap, subst, ◌∙◌, arith}
 use Rattle.std.proofs.lemmas.Bool.Decides.{nat_tests}
 use Rattle.page_state.proofs.Cases.{by_lt}
 use Rattle.page_state.proofs.Common.{if-true, if-false}
 use Rattle.page_state.specs.Map.{is_within}
 use Rattle.run_list.specs.declared.run.Run.{Run}
-use Rattle.run_list.specs.Runs.{run_end, AreInReach, run_map, map_updated, option_advance}
+use Rattle.run_list.specs.Runs.{AreInReach, run_map, map_updated, option_advance}
 use Rattle.run_list.proofs.Maps.{run_high}
 use Rattle.run_changes.specs.declared.change.Change.{Change}
 use Rattle.run_changes.specs.Changes.{advance_change, AdvancesApart, IsDifference}

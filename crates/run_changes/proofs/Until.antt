@@ -1,9 +1,9 @@
 -- How far a map of runs goes on as it does at a page.
-use Rattle.std.proofs.Common.{◌≡◌, ℕ, zero, suc, ◌+◌, ◌-◌, ◌^◌, ◌<◌, ◌≤◌, Bool, List, [], ◌∷◌, take, drop, length, get_or, Option, Some, None, refl, sym, ap, subst, ◌∙◌, arith}
+use Rattle.std.proofs.Common.{◌≡◌, ℕ, zero, suc, ◌+◌, ◌-◌, ◌<◌, ◌≤◌, Bool, List, [], ◌∷◌, take, drop, length, get_or, Some, None, sym, ap, subst, ◌∙◌, arith}
 use Rattle.std.specs.Option.{ForSome}
 use Rattle.run_list.specs.declared.run.Run.{Run}
 use Rattle.run_list.specs.Advance.{AdvanceLaws}
-use Rattle.run_list.specs.Runs.{run_end, StartsFrom, IsCoarsest, InReach, AreInReach, run_map, value_on, option_advance}
+use Rattle.run_list.specs.Runs.{run_end, StartsFrom, IsCoarsest, AreInReach, run_map, value_on, option_advance}
 use Rattle.run_list.specs.Parts.{BeginBy, IsBegunAt}
 use Rattle.run_list.proofs.Maps.{starts_behind, starts_later}
 use Rattle.run_list.proofs.Found.{begun_read, map_first, map_on, map_off, reach_read}

@@ -1,7 +1,8 @@
 -- What changed between two maps from pages to values that advance.
-use Rattle.std.specs.Prelude.{◌≡◌, ℕ, Option, Some, None}
+use Rattle.std.specs.Prelude.{◌≡◌, ℕ, List, Option, Some, None}
 use Rattle.std.specs.Option.{ForSome}
-use Rattle.run_list.specs.Runs.{option_advance}
+use Rattle.run_list.specs.declared.run.Run.{Run}
+use Rattle.run_list.specs.Runs.{option_advance, run_map}
 use Rattle.run_changes.specs.declared.change.Change.{Change}
 
 -- what changed between a value and another: nothing where they are the same, and else both
@@ -20,3 +21,7 @@ CanBoth can c n = ForSome c.before (λ v. can v n) × ForSome c.after (λ v. can
 -- two values that differ also differ further on
 abbrev pub AdvancesApart : {V : Type 0} → (V → ℕ → V) → Type 0
 AdvancesApart {V} advance = (v w : V) (n : ℕ) → advance v n ≡ advance w n → v ≡ w
+
+-- what changed between the maps of two lists of runs: of each page at which they differ both values, of no other page
+abbrev pub AreChanges : {V : Type 0} → (V → ℕ → V) → List (Run V) → List (Run V) → List (Run (Change V)) → Type 0
+AreChanges advance before after found = (p : ℕ) → IsDifference (run_map advance before p) (run_map advance after p) (run_map (advance_change advance) found p)

@@ -3,7 +3,7 @@ ghost use Rattle.std.specs.Prelude.{◌≡◌, ℕ, ◌+◌, ◌-◌, ◌^◌, �
 ghost use Rattle.std.specs.Option.{ForSome};
 ghost use Rattle.run_list.specs.Runs.{run_map, option_advance, AreInReach, IsCoarsest, StartsFrom};
 ghost use Rattle.run_list.specs.Parts.{IsBegunAt};
-ghost use Rattle.run_changes.specs.Changes.{advance_change, AdvancesApart, CanBoth, IsDifference};
+ghost use Rattle.run_changes.specs.Changes.{AdvancesApart, AreChanges, IsDifference};
 
 use crate::change::Change;
 use page_state::{Page, PageRange};
@@ -20,7 +20,7 @@ pub fn changes<V: Advance>(
     after: &RunList<V>,
 ) -> Result<RunList<Change<V>>, AllocError>
     requires apart { AdvancesApart V.advance }
-    ensures { IfOk result (λ found. (p : ℕ) → IsDifference (run_map V.advance before.now.runs p) (run_map V.advance after.now.runs p) (run_map (advance_change V.advance) found.runs p)) }
+    ensures { IfOk result (λ found. AreChanges V.advance before.now.runs after.now.runs found.runs) }
 {
     let old = before.runs();
     let new = after.runs();

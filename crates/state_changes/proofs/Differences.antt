@@ -1,5 +1,5 @@
 -- What changed of entries and of owner rows, by what changed between lists of runs.
-use Rattle.std.proofs.Common.{◌≡◌, ℕ, ◌+◌, Bool, true, false, List, Option, Some, None, refl, sym, ap, subst, ◌∙◌, arith}
+use Rattle.std.proofs.Common.{◌≡◌, ℕ, ◌+◌, true, false, List, Option, Some, None, refl, sym, ap, subst, ◌∙◌, arith}
 use Rattle.std.specs.Prelude.{is_some, unwrap_or}
 use Rattle.page_state.specs.declared.entry.Entry.{Entry}
 use Rattle.page_state.specs.declared.entry.Run.{Run as PageRun}
@@ -7,7 +7,7 @@ use Rattle.page_state.specs.declared.entry.Target.{Target}
 use Rattle.page_state.specs.declared.entry.Target.TheVariants.{Malformed, Annotated, Leaf}
 use Rattle.page_state.specs.declared.row.Lent.{Lent}
 use Rattle.page_state.specs.declared.row.Row.{Row}
-use Rattle.page_state.specs.Entries.{advance_target, entry_of, entry_of_target}
+use Rattle.page_state.specs.Entries.{advance_target, entry_of}
 use Rattle.page_state.specs.Rows.{advance_lent, advance_row, plain_row}
 use Rattle.page_state.specs.Runs.{map_of}
 use Rattle.page_state.proofs.Entries.{target-same}

@@ -1,6 +1,6 @@
 -- Runs of targets in a list of runs, and as runs of a map.
-use Rattle.std.proofs.Common.{◌≡◌, ℕ, suc, ◌+◌, ◌-◌, ◌≤◌, Bool, true, false, List, [], ◌∷◌, map, Option, Some, None, refl, sym, ap, ◌∙◌, arith}
-use Rattle.std.specs.Prelude.{if◌then◌else◌, All}
+use Rattle.std.proofs.Common.{◌≡◌, ℕ, suc, ◌-◌, Bool, true, false, List, [], ◌∷◌, Option, Some, refl, sym, ap, ◌∙◌, arith}
+use Rattle.std.specs.Prelude.{if◌then◌else◌}
 use Rattle.page_state.specs.declared.entry.Entry.{Entry}
 use Rattle.page_state.specs.declared.entry.Run.{Run as PageRun}
 use Rattle.page_state.specs.declared.entry.Target.{Target}
@@ -10,7 +10,6 @@ use Rattle.page_state.specs.Regions.{is_in_range}
 use Rattle.page_state.specs.Runs.{map_of, run_end, entry_on, PrecedesFirst, IsCoarsest}
 use Rattle.page_state.proofs.Entries.{entry_advanced}
 use Rattle.ghost_trees.specs.Small.{AreSmall, HasLowFrames, IsSmall}
-use Rattle.run_list.specs.declared.run.Run.{Run}
 use Rattle.run_list.specs.Runs.{run_map, value_on, PrecedesFirst as ListPrecedesFirst, IsCoarsest as IsCoarsestList, AreInReach}
 use Rattle.run_list.specs.Targets.{HasFrameBelow}
 use Rattle.state_changes.specs.Lists.{list_run, list_runs}

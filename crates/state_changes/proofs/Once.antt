@@ -2,14 +2,12 @@
 use Rattle.std.proofs.Common.{◌≡◌, ℕ, Bool, List, codes, Option, Some, None, refl, sym, ap, ◌∙◌}
 use Rattle.std.specs.Fmt.{decimal}
 use Rattle.page_state.specs.declared.entry.Entry.{Entry}
-use Rattle.page_state.specs.declared.entry.Target.{Target}
 use Rattle.page_state.specs.declared.row.Row.{Row}
 use Rattle.page_state.specs.Entries.{advance_target}
 use Rattle.page_state.specs.Rows.{advance_row, HasPageBelow}
 use Rattle.reference_model.specs.State.{Contents, Slot}
 use Rattle.run_list.specs.Advance.{AdvanceLaws}
 use Rattle.run_list.specs.OwnerRows.{row_laws}
-use Rattle.run_list.specs.Runs.{run_map}
 use Rattle.run_list.specs.Targets.{HasFrameBelow, target_laws}
 use Rattle.run_list.proofs.Once.{once}
 use Rattle.run_changes.specs.declared.change.Change.{Change}

@@ -5,3 +5,4 @@ pub mod Laws
 pub mod Lists
 pub mod Texts
 pub mod Together
+pub mod Told

@@ -9,10 +9,11 @@ ghost use Rattle.ghost_spec.specs.Views.{row_in};
 ghost use Rattle.run_list.specs.Runs.{AreInReach, InReach, run_map};
 ghost use Rattle.run_list.specs.Targets.{HasFrameBelow};
 ghost use Rattle.run_changes.specs.Changes.{CanBoth};
-ghost use Rattle.state_changes.specs.Changed.{change_line, guest_name, pages_name, run_lines, text_of_some_row, text_of_target, TellsEntries, TellsRows};
+ghost use Rattle.state_changes.specs.Changed.{change_line, guest_name, pages_name, run_lines, text_of_some_row, text_of_target, TellsRows};
 ghost use Rattle.state_changes.specs.Labels.{text_of_label};
 ghost use Rattle.state_changes.specs.Lists.{list_runs};
 ghost use Rattle.state_changes.specs.Together.{Adds};
+ghost use Rattle.state_changes.specs.Told.{TellsTree};
 
 use crate::lines::add_change;
 use ghost_trees::tree::Tree;
@@ -79,7 +80,7 @@ pub(crate) fn add_entries(
 ) -> Result<(), AllocError>
     requires kept { IsKeptTree before.now }
     requires next { IsKeptTree after.now }
-    ensures { OnOk result (Adds (TellsEntries (text_of_label label) (map_of before.now.runs.items) (map_of after.now.runs.items)) text.old.items text.new.items) }
+    ensures { OnOk result (Adds (TellsTree label before.now after.now) text.old.items text.new.items) }
 {
     let old = listed(global, before)?;
     let new = listed(global, after)?;

@@ -6,7 +6,8 @@ ghost use Rattle.run_list.specs.Runs.{run_map};
 ghost use Rattle.ghost_spec.specs.States.{contents_in, guest_in, slot_in, AreKeptGuests, IsKept};
 ghost use Rattle.ghost_spec.specs.Views.{cpu_in};
 ghost use Rattle.state_changes.specs.Changed.{guest_name, TellsAll, TellsCpu, TellsEntries, TellsGuest, TellsMaps, TellsRest, TellsSlot};
-ghost use Rattle.state_changes.specs.Together.{Adds, Each};
+ghost use Rattle.state_changes.specs.Together.{Adds};
+ghost use Rattle.state_changes.specs.Told.{TellsGuestMaps, TellsGuests, TellsSlots};
 
 use crate::heads::{add_guest, add_slot};
 use crate::lines::add_count;
@@ -73,7 +74,7 @@ fn add_guest_maps(
     requires next { AreKeptGuests after.now.items }
     requires count { length before.now.items ≡ 64 }
     requires as_many { length after.now.items ≡ 64 }
-    ensures { OnOk result (Adds (Each 64 (λ v. TellsEntries (guest_name v) (get_or (map guest_in before.now.items) v no_guest).tree.map (get_or (map guest_in after.now.items) v no_guest).tree.map)) text.old.items text.new.items) }
+    ensures { OnOk result (Adds (TellsGuestMaps before.now.items after.now.items) text.old.items text.new.items) }
 {
     for slot in 0..SLOTS {
         add_entries(
@@ -139,7 +140,7 @@ fn add_guests(
 ) -> Result<(), AllocError>
     requires count { length before.now.items ≡ 64 }
     requires as_many { length after.now.items ≡ 64 }
-    ensures { OnOk result (Adds (Each 64 (λ v. TellsGuest (get_or (map guest_in before.now.items) v no_guest) (get_or (map guest_in after.now.items) v no_guest) v)) text.old.items text.new.items) }
+    ensures { OnOk result (Adds (TellsGuests before.now.items after.now.items) text.old.items text.new.items) }
 {
     for slot in 0..SLOTS {
         add_guest(text, global, slot as u64, &before[slot], &after[slot])?;
@@ -156,7 +157,7 @@ fn add_slots(
 ) -> Result<(), AllocError>
     requires count { length before.now.items ≡ 64 }
     requires as_many { length after.now.items ≡ 64 }
-    ensures { OnOk result (Adds (Each 64 (λ v. TellsSlot (get_or (map slot_in before.now.items) v (no_slot 1)) (get_or (map slot_in after.now.items) v (no_slot 1)) v)) text.old.items text.new.items) }
+    ensures { OnOk result (Adds (TellsSlots before.now.items after.now.items) text.old.items text.new.items) }
 {
     for slot in 0..SLOTS {
         add_slot(text, global, slot as u64, &before[slot], &after[slot])?;

@@ -1,5 +1,5 @@
 -- The exit status of the program (profile).
-use Rattle.std.specs.Prelude.{◌≡◌, ◌≢◌, ◌≤◌, ◌⊎◌, ℕ, max, List, [], ◌∷◌, Bool, true, false, Option, Result, Ok, Err, IfOk, IfSome, MatchResult, codes, if◌then◌else◌}
+use Rattle.std.specs.Prelude.{◌≡◌, ◌≢◌, ◌≤◌, ◌⊎◌, ℕ, max, List, [], ◌∷◌, Bool, true, false, Option, Result, Ok, Err, IfOk, IfSome, MatchResult, None, codes, if◌then◌else◌}
 use Rattle.std.specs.Global.{Global}
 use Rattle.std.specs.Io.KnownBytes.{Appends}
 use Rattle.clap.specs.Words.{kind_of}
@@ -57,7 +57,7 @@ HasChecked path bytes outcome = IfSome bytes (λ all. (checked : Checked) × IsC
 
 -- a trace of these bytes is explained
 abbrev pub HasExplained : List ℕ → Option (List ℕ) → Outcome → Type 0
-HasExplained path bytes outcome = IfSome bytes (λ all. (text : List ℕ) × ExplainsAll path (lines_of all) text outcome)
+HasExplained path bytes outcome = IfSome bytes (λ all. (text : List ℕ) × ExplainsAll None path (lines_of all) text outcome)
 
 -- how a run of these bytes ends
 abbrev pub outcome_of_end : Ended → Outcome

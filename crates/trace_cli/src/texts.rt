@@ -71,7 +71,7 @@ pub fn explained<R: AllocGlobal + Print + Eprint, F: io::Read + Drop>(
     ensures { IfOk result (HasExplained path.now (F.remaining file)) }
 {
     let trace = whole(rt, file)?;
-    let Ok(explained) = explain(rt.alloc(), rt.alloc(), path, trace.as_slice()) else {
+    let Ok(explained) = explain(rt.alloc(), rt.alloc(), path, trace.as_slice(), None) else {
         return Err(no_memory());
     };
     write(rt, explained.text.as_slice())?;

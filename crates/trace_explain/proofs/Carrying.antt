@@ -1,5 +1,5 @@
 -- What a step changed, from the state before it.
-use Rattle.std.proofs.Common.{◌≡◌, ℕ, ◌+◌, ◌<◌, ◌≤◌, Bool, true, false, List, [], ◌++◌, Option, Some, None, Result, Ok, Err, refl, sym, ap, subst, ◌∙◌, inl, inr, arith}
+use Rattle.std.proofs.Common.{◌≡◌, ℕ, true, List, ◌++◌, Option, Some, None, Result, Ok, Err, refl, sym, ap, subst, ◌∙◌, inl, inr}
 use Rattle.std.specs.Prelude.{◌⊎◌, MatchOption}
 use Rattle.std.proofs.lemmas.List.{append_assoc}
 use Rattle.ghost_oracle.specs.Found.{HasRowsOf}
@@ -36,6 +36,9 @@ told_step None asked None new a b is t = t
 told_step (Some m) None (Some g) new a b is t = absurd is
 told_step None asked (Some g) new a b is t = absurd is
 
+pair_same : (a b : ℕ × Step) → ◌≡◌ {A = Option (ℕ × Step)} (Some a) (Some b) → a ≡ b
+pair_same a b e = cc
+
 -- a line that says a step is of a step
 step_said : (r : Result (Option Line) LineFault) (cpu : ℕ) (step : Step) → Some (cpu, step) ≡ step_of r → r ≡ Ok (Some (lines.Step cpu step))
 step_said (Err fault) cpu step e = absurd (let f : ◌≡◌ {A = Option (ℕ × Step)} (Some (cpu, step)) None = e in cc)
@@ -43,7 +46,7 @@ step_said (Ok None) cpu step e = absurd (let f : ◌≡◌ {A = Option (ℕ × S
 step_said (Ok (Some (lines.Step c s))) cpu step e = said_same c s cpu step e
   where
     said_same : (c : ℕ) (s : Step) (cpu : ℕ) (step : Step) → ◌≡◌ {A = Option (ℕ × Step)} (Some (cpu, step)) (Some (c, s)) → ◌≡◌ {A = Result (Option Line) LineFault} (Ok (Some (lines.Step c s))) (Ok (Some (lines.Step cpu step)))
-    said_same c s cpu step e = cc
+    said_same c s cpu step e = ap (λ (x : ℕ × Step). Ok (Some (lines.Step x.0 x.1))) (sym (pair_same (cpu, step) (c, s) e))
 step_said (Ok (Some (lines.Setting setting))) cpu step e = absurd (let f : ◌≡◌ {A = Option (ℕ × Step)} (Some (cpu, step)) None = e in cc)
 step_said (Ok (Some lines.Boot)) cpu step e = absurd (let f : ◌≡◌ {A = Option (ℕ × Step)} (Some (cpu, step)) None = e in cc)
 step_said (Ok (Some (lines.Query query))) cpu step e = absurd (let f : ◌≡◌ {A = Option (ℕ × Step)} (Some (cpu, step)) None = e in cc)
@@ -95,8 +98,7 @@ pub block_made : (line : List ℕ) (old : Standing) (reported : List ReportLine)
     → b ≡ a ++ line_with line asked looks reported new.machine → Adds (TellsStep old.machine asked new.machine) b c → Adds (IsBlock true line old reported new) a c
 block_made line old reported new asked looks a b c asks sees is (changed, t, e) =
     let all : b ≡ a ++ explained line old reported new =
-    is ∙ ap (λ (x : List Look). a ++ line_with line asked x reported new.machine) sees ∙ ap (λ (x : Option (ℕ × Step)). a ++ line_with line x (seen old.machine x) reported new.machine) asks in
-    (
+    is ∙ ap (λ (x : List Look). a ++ line_with line asked x reported new.machine) sees ∙ ap (λ (x : Option (ℕ × Step)). a ++ line_with line x (seen old.machine x) reported new.machine) asks in (
       explained line old reported new ++ changed,
       (changed, subst (λ (x : Option (ℕ × Step)). TellsStep old.machine x new.machine changed) asks t, refl),
       e ∙ ap (λ x. x ++ changed) all ∙ append_assoc a (explained line old reported new) changed,

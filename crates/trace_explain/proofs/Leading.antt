@@ -1,13 +1,11 @@
 -- A text that goes on by a line.
 use Rattle.std.proofs.Common.{◌≡◌, ℕ, ◌+◌, ◌<◌, ◌≤◌, List, [], ◌++◌, length, get_or, drop, refl, sym, ap, ◌∙◌, subst, Option, Some, None, Ok, Err}
 use Rattle.std.proofs.lemmas.List.{append_assoc, append-nil, drop_all, drop_more}
-use Rattle.state_changes.specs.Together.{Adds}
 use Rattle.trace_explain.specs.Carried.{IsCarried}
-use Rattle.trace_explain.specs.Explained.{Explains, IsBlock, Says, faulty, is_shown}
+use Rattle.trace_explain.specs.Explained.{Explains, Says, faulty, is_shown}
 use Rattle.trace_reader.specs.declared.outcome.Outcome.{Outcome}
 use Rattle.trace_reader.specs.declared.outcome.Outcome.TheVariants.{Clean, Fault}
 use Rattle.trace_text.specs.declared.fault.Fault.{Fault as LineFault}
-use Rattle.trace_text.specs.declared.report.ReportLine.{ReportLine}
 use Rattle.trace_text.specs.declared.session.Stop.TheVariants as stops
 use Rattle.trace_text.specs.Oracles.{agreed}
 use Rattle.trace_text.specs.Replay.{IsPlayed}

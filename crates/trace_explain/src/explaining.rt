@@ -1,20 +1,18 @@
 //! Explaining a trace.
-ghost use Rattle.std.specs.Prelude.{◌≡◌, ℕ, ◌+◌, ◌^◌, ◌<◌, ◌≤◌, ◌∷◌, [], ◌++◌, List, IfOk, OnOk, is_some, length, map, slice_index_or, string_bytes, true, false};
+ghost use Rattle.std.specs.Prelude.{◌≡◌, ℕ, ◌+◌, ◌<◌, ◌≤◌, [], ◌++◌, List, IfOk, OnOk, is_some, length, true, false};
 ghost use Rattle.ghost_oracle.specs.Found.{HasRowsOf};
 ghost use Rattle.ghost_spec.specs.States.{contents_in};
 ghost use Rattle.state_changes.specs.Changed.{TellsAll};
 ghost use Rattle.state_changes.specs.Together.{Adds};
-ghost use Rattle.trace_explain.specs.Carried.{HasFrames, IsBefore, IsCarried, TellsFrom};
-ghost use Rattle.trace_explain.specs.Explained.{ExplainsAll, caused_line, ended, faulty, is_shown, line_with, plain_line, report_line, report_lines, step_at};
+ghost use Rattle.trace_explain.specs.Carried.{HasFrames, IsBefore, TellsFrom};
+ghost use Rattle.trace_explain.specs.Explained.{ExplainsAll, caused_line, ended, is_shown, plain_line, report_line, report_lines, step_at};
 ghost use Rattle.trace_explain.specs.Looks.{look_lines, looked, seen, seen_at, seen_by};
 ghost use Rattle.trace_explain.specs.Texts.{look_line, name_of};
-ghost use Rattle.trace_explain.specs.View.{looks_in};
+ghost use Rattle.trace_explain.specs.View.{line_at, lines_in, looks_in, IsCarriedAt, IsPlayedAt, told_fault, told_line};
 ghost use Rattle.trace_reader.specs.Reading.{lines_of};
-ghost use Rattle.trace_text.specs.Oracles.{agreed};
 ghost use Rattle.trace_text.specs.Ready.{IsReady};
-ghost use Rattle.trace_text.specs.Reports.{IsPlayed};
-ghost use Rattle.trace_text.specs.Session.{RunsLine, allowed as allowed_by, at_start};
-ghost use Rattle.trace_text.specs.View.{answer_of, lines_reported, machine_of, standing_of};
+ghost use Rattle.trace_text.specs.Session.{allowed as allowed_by, at_start};
+ghost use Rattle.trace_text.specs.View.{lines_reported, machine_of, standing_of};
 
 use crate::causes::cause_of;
 use crate::looking::told_at;
@@ -63,7 +61,14 @@ pub fn explain<A: Allocator + Copy>(
     let lines = lines(global, trace)?;
     let mut text = Vec::new(global);
     let mut session = Session::new(global, alloc);
-    let ran = explain_lines(global, &mut session, name, lines.as_slice(), only, &mut text);
+    let ran = explain_lines(
+        global,
+        &mut session,
+        name,
+        lines.as_slice(),
+        only,
+        &mut text,
+    );
     // The proof of a scope's end would go through all parts.
     drop(session);
     let outcome = ran?;
@@ -81,7 +86,7 @@ fn explain_lines<A: Allocator + Copy>(
     requires start { standing_of session.old ≡ at_start }
     requires ready { IsReady session.old }
     requires empty { text.old.items ≡ [] }
-    ensures { IfOk result (ExplainsAll only name.now (map (λ line. line.now) lines.now) text.new.items) }
+    ensures { IfOk result (ExplainsAll only name.now (lines_in lines.now) text.new.items) }
 {
     for place in 0..lines.len() {
         let stopped = carry_line(global, session, lines, place, only, text)?;
@@ -105,7 +110,7 @@ fn carry_line<A: Allocator + Copy>(
     requires place { place < length lines.now }
     requires few { (standing_of session.old).steps ≤ place }
     requires ready { IsReady session.old }
-    ensures done { IfOk result (IsCarried (is_shown only (place + 1)) (place + 1) (slice_index_or (map (λ line. line.now) lines.now) place []) (standing_of session.old) text.old.items (standing_of session.new) text.new.items) }
+    ensures done { IfOk result (IsCarriedAt (is_shown only (place + 1)) lines.now place session.old text.old.items session.new text.new.items) }
     ensures steps { (standing_of session.new).steps ≤ place + 1 }
     ensures ready { IsReady session.new }
 {
@@ -135,7 +140,7 @@ fn pass_line<A: Allocator + Copy>(
     requires place { place < length lines.now }
     requires few { (standing_of session.old).steps ≤ place }
     requires ready { IsReady session.old }
-    ensures done { (text : List ℕ) → IfOk result (IsCarried false (place + 1) (slice_index_or (map (λ line. line.now) lines.now) place []) (standing_of session.old) text (standing_of session.new) text) }
+    ensures done { (text : List ℕ) → IfOk result (IsCarriedAt false lines.now place session.old text session.new text) }
     ensures steps { (standing_of session.new).steps ≤ place + 1 }
     ensures ready { IsReady session.new }
 {
@@ -157,7 +162,7 @@ fn show_line<A: Allocator + Copy>(
     requires place { place < length lines.now }
     requires few { (standing_of session.old).steps ≤ place }
     requires ready { IsReady session.old }
-    ensures done { IfOk result (IsCarried true (place + 1) (slice_index_or (map (λ line. line.now) lines.now) place []) (standing_of session.old) text.old.items (standing_of session.new) text.new.items) }
+    ensures done { IfOk result (IsCarriedAt true lines.now place session.old text.old.items session.new text.new.items) }
     ensures steps { (standing_of session.new).steps ≤ place + 1 }
     ensures ready { IsReady session.new }
 {
@@ -192,10 +197,10 @@ fn show_run<A: Allocator + Copy>(
     requires place { place < length lines.now }
     requires few { (standing_of session.old).steps ≤ place }
     requires ready { IsReady session.old }
-    requires asked { asked ≡ step_at (standing_of session.old) (slice_index_or (map (λ line. line.now) lines.now) place []) }
+    requires asked { asked ≡ step_at (standing_of session.old) (line_at lines.now place) }
     requires looks { looks_in looks.now ≡ seen (standing_of session.old).machine asked }
     requires before { IsBefore (standing_of session.old).machine asked before.now }
-    ensures done { IfOk result (IsCarried true (place + 1) (slice_index_or (map (λ line. line.now) lines.now) place []) (standing_of session.old) text.old.items (standing_of session.new) text.new.items) }
+    ensures done { IfOk result (IsCarriedAt true lines.now place session.old text.old.items session.new text.new.items) }
     ensures steps { (standing_of session.new).steps ≤ place + 1 }
     ensures ready { IsReady session.new }
 {
@@ -277,7 +282,7 @@ fn line_run<A: Allocator + Copy>(
     requires place { place < length lines.now }
     requires few { (standing_of session.old).steps ≤ place }
     requires ready { IsReady session.old }
-    ensures done { IsPlayed (RunsLine agreed) (place + 1) (slice_index_or (map (λ line. line.now) lines.now) place []) (standing_of session.old) (answer_of session.new result) (standing_of session.new) }
+    ensures done { IsPlayedAt lines.now place session.old result session.new }
     ensures steps { (standing_of session.new).steps ≤ place + 1 }
     ensures ready { IsReady session.new }
 {
@@ -368,7 +373,7 @@ fn add_line<A: Allocator + Copy>(
     looks: &[Look],
     reported: Reported,
 ) -> Result<(), AllocError>
-    ensures { OnOk result (text.new.items ≡ text.old.items ++ line_with line.now asked (looks_in looks.now) (lines_reported session.now reported) (standing_of session.now).machine) }
+    ensures { OnOk result (text.new.items ≡ text.old.items ++ told_line session.now line.now asked looks.now reported) }
 {
     add_ended(text, line)?;
     let told = told_lines(global, session, reported)?;
@@ -394,7 +399,7 @@ fn add_fault(
     fault: Fault,
 ) -> Result<(), AllocError>
     requires { place < length lines.now }
-    ensures { OnOk result (text.new.items ≡ text.old.items ++ faulty name.now (map (λ line. line.now) lines.now) place (slice_index_or (map (λ line. line.now) lines.now) place []) fault) }
+    ensures { OnOk result (text.new.items ≡ text.old.items ++ told_fault name.now lines.now place fault) }
 {
     add_ended(text, lines[place])?;
     let said = format!(in global; "    fault {fault}\n    ")?;

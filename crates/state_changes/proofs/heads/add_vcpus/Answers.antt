@@ -1,4 +1,4 @@
-use Rattle.std.proofs.Common.{◌≡◌, ◌<◌, ℕ, Option, get_or, map, subst, arith}
+use Rattle.std.proofs.Common.{◌≡◌, ℕ, Option, subst, arith}
 use Rattle.ghost_spec.specs.States.{slot_in}
 use Rattle.state_changes.specs.Texts.{text_of_holder}
 use Rattle.state_changes.specs.Changed.{TellsValue, TellsVcpu, vcpu_name}

@@ -1,4 +1,4 @@
-use Rattle.std.proofs.Common.{◌≤◌, get_or, map}
+use Rattle.std.proofs.Common.{◌≤◌}
 use Rattle.ghost_spec.specs.States.{slot_in}
 use Rattle.state_changes.specs.Changed.{TellsVcpu}
 use Rattle.state_changes.specs.Together.{Adds, Each}

@@ -1,4 +1,4 @@
-use Rattle.std.proofs.Common.{◌≡◌, ◌<◌, ℕ, Option, get_or, map, subst, arith}
+use Rattle.std.proofs.Common.{◌≡◌, ◌<◌, get_or, map, subst, arith}
 use Rattle.ghost_spec.specs.States.{slot_in}
 use Rattle.reference_model.specs.State.{Slot, no_slot}
 use Rattle.state_changes.specs.Changed.{TellsSlot}
