@@ -1,3 +1,4 @@
 mod Checked
 mod Greatest
 mod Made
+mod Outcomes

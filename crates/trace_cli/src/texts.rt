@@ -50,12 +50,11 @@ pub fn order_told<R: AllocGlobal + Print + Eprint, F: io::Read + Drop>(
     let report = whole(rt, report)?;
     let Ok(told) = tell_order(
         rt.alloc(),
-        name,
         trace.as_slice(),
+        name,
         report.as_slice(),
         limit as usize,
-    )
-    else {
+    ) else {
         return Err(no_memory());
     };
     if !quiet {

@@ -1,3 +1,4 @@
 pub mod Alike
+pub mod Carrying
 pub mod Held
 pub mod Leading

@@ -1,5 +1,6 @@
 -- What `explain` says of a trace (profile).
-use Rattle.std.specs.Prelude.{◌≡◌, ℕ, ◌+◌, List, [], ◌∷◌, ◌++◌, codes, Option, Some, None, Result, Ok, Err, is_some}
+use Rattle.std.specs.Prelude.{◌≡◌, ℕ, ◌+◌, ◌==◌, Bool, true, false, List, [], ◌∷◌, ◌++◌, codes, Option, Some, None, Result, Ok, Err, is_some}
+use Rattle.state_changes.specs.Changed.{TellsAll}
 use Rattle.step_reply.specs.declared.reply.Reply.TheVariants.{Refused}
 use Rattle.step_reply.specs.declared.step.Step.{Step}
 use Rattle.trace_check.specs.Shown.{shown}
@@ -54,7 +55,7 @@ report_lines asked (told ∷ more) = report_line asked told ++ report_lines aske
 abbrev pub ended : List ℕ → List ℕ
 ended line = line ++ 10 ∷ []
 
--- a line that was carried out: itself, its report, and what its step saw, before it and in the machine after it
+-- a line that was carried out: itself, its report, and of what its step saw before it what is so in the machine after it
 abbrev pub line_with : List ℕ → Option (ℕ × Step) → List Look → List ReportLine → Option Machine → List ℕ
 line_with line asked looks reported machine = ended line ++ report_lines asked reported ++ looked machine asked looks
 
@@ -66,18 +67,35 @@ explained line old reported new = line_with line (step_at old line) (seen old.ma
 abbrev pub faulty : List ℕ → List (List ℕ) → ℕ → List ℕ → Fault → List ℕ
 faulty name all place line fault = ended line ++ codes "    fault " ++ text_of_fault fault ++ 10 ∷ codes "    " ++ place_line name all place fault
 
--- what is said from a line on that answers so: the line, and then what is said of the lines after it. A fault is the end
-abbrev pub Says : List ℕ → List (List ℕ) → ℕ → List ℕ → Standing → Answer → Standing → (List ℕ → Outcome → Type 0) → List ℕ → Outcome → Type 0
-Says name all place line old (Err (stops.Fault fault)) new follows text outcome = (text ≡ faulty name all place line fault) × (outcome ≡ outcomes.Fault)
-Says name all place line old (Err stops.NoMemory) new follows text outcome = ⊥
-Says name all place line old (Ok reported) new follows text outcome = (more : List ℕ) × (text ≡ explained line old reported new ++ more) × follows more outcome
+-- what a step changed: all that differs between the machine before it and the one after it. Without a step or a machine nothing is told
+abbrev pub TellsStep : Option Machine → Option (ℕ × Step) → Option Machine → List ℕ → Type 0
+TellsStep (Some m) (Some (cpu, step)) (Some n) text = TellsAll m.state.contents n.state.contents cpu text
+TellsStep old asked new text = text ≡ []
 
--- the text explains the lines of a trace, from a place on, which are carried out as a replay does, up to the first that has a fault; `name` is the trace's file
-abbrev pub Explains : List ℕ → List (List ℕ) → ℕ → Standing → List (List ℕ) → List ℕ → Outcome → Type 0
-Explains name all place old [] text outcome = (text ≡ []) × (outcome ≡ outcomes.Clean)
-Explains name all place old (line ∷ rest) text outcome =
-    (answer : Answer) × (new : Standing) × IsPlayed agreed (place + 1) line old answer new × Says name all place line old answer new (Explains name all (place + 1) new rest) text outcome
+-- whether a line is shown, by its number: each one, or the one that is asked for
+abbrev pub is_shown : Option ℕ → ℕ → Bool
+is_shown None number = true
+is_shown (Some only) number = number == only
 
--- so of all lines of a trace
-abbrev pub ExplainsAll : List ℕ → List (List ℕ) → List ℕ → Outcome → Type 0
-ExplainsAll name all = Explains name all 0 at_start all
+-- the lines of one that was carried out, if it is shown: what is explained of it, and then what its step changed
+abbrev pub IsBlock : Bool → List ℕ → Standing → List ReportLine → Standing → List ℕ → Type 0
+IsBlock false line old reported new text = text ≡ []
+IsBlock true line old reported new text = (changed : List ℕ) × TellsStep old.machine (step_at old line) new.machine changed × (text ≡ explained line old reported new ++ changed)
+
+module _ (only : Option ℕ) (name : List ℕ) (all : List (List ℕ)) where
+  -- what is said from a line on that answers so: the line, and then what is said of the lines after it. A fault is the end, and is always told
+  abbrev pub Says : ℕ → List ℕ → Standing → Answer → Standing → (List ℕ → Outcome → Type 0) → List ℕ → Outcome → Type 0
+  Says place line old (Err (stops.Fault fault)) new follows text outcome = (text ≡ faulty name all place line fault) × (outcome ≡ outcomes.Fault)
+  Says place line old (Err stops.NoMemory) new follows text outcome = ⊥
+  Says place line old (Ok reported) new follows text outcome =
+      (block : List ℕ) × (more : List ℕ) × IsBlock (is_shown only (place + 1)) line old reported new block × (text ≡ block ++ more) × follows more outcome
+
+  -- the text explains the lines of a trace, from a place on, which are carried out as a replay does, up to the first that has a fault; `name` is the trace's file
+  abbrev pub Explains : ℕ → Standing → List (List ℕ) → List ℕ → Outcome → Type 0
+  Explains place old [] text outcome = (text ≡ []) × (outcome ≡ outcomes.Clean)
+  Explains place old (line ∷ rest) text outcome =
+      (answer : Answer) × (new : Standing) × IsPlayed agreed (place + 1) line old answer new × Says place line old answer new (Explains (place + 1) new rest) text outcome
+
+  -- so of all lines of a trace
+  abbrev pub ExplainsAll : List ℕ → Outcome → Type 0
+  ExplainsAll = Explains 0 at_start all

@@ -1,17 +1,18 @@
 -- Laws of explanations.
-use Rattle.std.specs.Prelude.{◌≡◌, ℕ, ◌+◌, List, [], ◌∷◌, Ok, Err}
+use Rattle.std.specs.Prelude.{◌≡◌, ℕ, ◌+◌, List, [], ◌∷◌, Option, Ok, Err}
 use Rattle.trace_reader.specs.declared.outcome.Outcome.{Outcome}
 use Rattle.trace_text.specs.Session.{Answer, Standing}
 use Rattle.trace_explain.specs.Explained.{Explains}
 
--- the run of an explanation: what each line that was carried out answered, and where the trace stood then
-abbrev pub run_of : (name : List ℕ) (all : List (List ℕ)) (place : ℕ) (old : Standing) (lines : List (List ℕ)) (text : List ℕ) (outcome : Outcome) → Explains name all place old lines text outcome → List (Answer × Standing)
-run_of name all place old [] text outcome ended = []
-run_of name all place old (line ∷ rest) text outcome (Err stop, new, played, said) = (Err stop, new) ∷ []
-run_of name all place old (line ∷ rest) text outcome (Ok told, new, played, (more, is, follows)) = (Ok told, new) ∷ run_of name all (place + 1) new rest more outcome follows
+module _ (only : Option ℕ) (name : List ℕ) (all : List (List ℕ)) where
+  -- the run of an explanation: what each line that was carried out answered, and where the trace stood then
+  abbrev pub run_of : (place : ℕ) (old : Standing) (lines : List (List ℕ)) (text : List ℕ) (outcome : Outcome) → Explains only name all place old lines text outcome → List (Answer × Standing)
+  run_of place old [] text outcome ended = []
+  run_of place old (line ∷ rest) text outcome (Err stop, new, played, said) = (Err stop, new) ∷ []
+  run_of place old (line ∷ rest) text outcome (Ok told, new, played, (block, more, made, is, follows)) = (Ok told, new) ∷ run_of (place + 1) new rest more outcome follows
 
 -- two texts that explain the same run of the same lines are one, and so are their outcomes
 abbrev pub OneText : Type 0
-OneText = (name : List ℕ) (all : List (List ℕ)) (place : ℕ) (old : Standing) (lines : List (List ℕ)) (text other : List ℕ) (outcome end : Outcome)
-    (e : Explains name all place old lines text outcome) (f : Explains name all place old lines other end)
-    → run_of name all place old lines text outcome e ≡ run_of name all place old lines other end f → (text ≡ other) × (outcome ≡ end)
+OneText = (only : Option ℕ) (name : List ℕ) (all : List (List ℕ)) (place : ℕ) (old : Standing) (lines : List (List ℕ)) (text other : List ℕ) (outcome end : Outcome)
+    (e : Explains only name all place old lines text outcome) (f : Explains only name all place old lines other end)
+    → run_of only name all place old lines text outcome e ≡ run_of only name all place old lines other end f → (text ≡ other) × (outcome ≡ end)

@@ -124,12 +124,19 @@ module _ (m : Machine) (cpu : ℕ) where
 abbrev pub Look : Type 0
 Look = Place × List ℕ
 
+-- places, with what is there for a step of a CPU, and so those that a step looks at
+abbrev pub seen_at : Machine → ℕ → List Place → List Look
+seen_at m cpu places = map (λ place. (place, told_at m cpu place)) places
+
+abbrev pub seen_by : Machine → ℕ → Step → List Look
+seen_by m cpu step = seen_at m cpu (places_of m cpu step)
+
 -- what a step of a CPU sees before it; where nothing has booted, nothing
 abbrev pub seen : Option Machine → Option (ℕ × Step) → List Look
-seen (Some m) (Some (cpu, step)) = map (λ place. (place, told_at m cpu place)) (places_of m cpu step)
+seen (Some m) (Some (cpu, step)) = seen_by m cpu step
 seen machine asked = []
 
--- a line for each of these, with what is there in a machine after it
+-- a line for each of these that is so in a machine after it
 abbrev pub look_lines : Machine → ℕ → List Look → List ℕ
 look_lines m cpu [] = []
 look_lines m cpu ((place, before) ∷ more) = look_line (name_of place) before (told_at m cpu place) ++ look_lines m cpu more

@@ -1,20 +1,25 @@
 //! Explaining a trace.
-ghost use Rattle.std.specs.Prelude.{◌≡◌, ◌+◌, ◌^◌, ◌<◌, ◌≤◌, ◌∷◌, [], ◌++◌, IfOk, OnOk, is_some, length, map, slice_index_or, string_bytes};
-ghost use Rattle.trace_explain.specs.Explained.{ExplainsAll, caused_line, ended, faulty, line_with, plain_line, report_line, report_lines, step_at};
-ghost use Rattle.trace_explain.specs.Looks.{look_lines, looked, places_of, seen, told_at as told_by};
+ghost use Rattle.std.specs.Prelude.{◌≡◌, ℕ, ◌+◌, ◌<◌, ◌≤◌, [], ◌++◌, List, IfOk, OnOk, is_some, length, true, false};
+ghost use Rattle.ghost_oracle.specs.Found.{HasRowsOf};
+ghost use Rattle.ghost_spec.specs.States.{contents_in};
+ghost use Rattle.state_changes.specs.Changed.{TellsAll};
+ghost use Rattle.state_changes.specs.Together.{Adds};
+ghost use Rattle.trace_explain.specs.Carried.{HasFrames, IsBefore, TellsFrom};
+ghost use Rattle.trace_explain.specs.Explained.{ExplainsAll, caused_line, ended, is_shown, plain_line, report_line, report_lines, step_at};
+ghost use Rattle.trace_explain.specs.Looks.{look_lines, looked, seen, seen_at, seen_by};
 ghost use Rattle.trace_explain.specs.Texts.{look_line, name_of};
-ghost use Rattle.trace_explain.specs.View.{looks_in};
+ghost use Rattle.trace_explain.specs.View.{line_at, lines_in, looks_in, IsCarriedAt, IsPlayedAt, told_fault, told_line};
 ghost use Rattle.trace_reader.specs.Reading.{lines_of};
-ghost use Rattle.trace_text.specs.Oracles.{agreed};
 ghost use Rattle.trace_text.specs.Ready.{IsReady};
-ghost use Rattle.trace_text.specs.Reports.{IsPlayed};
-ghost use Rattle.trace_text.specs.Session.{RunsLine, allowed as allowed_by, at_start};
-ghost use Rattle.trace_text.specs.View.{answer_of, lines_reported, machine_of, standing_of};
+ghost use Rattle.trace_text.specs.Session.{allowed as allowed_by, at_start};
+ghost use Rattle.trace_text.specs.View.{lines_reported, machine_of, standing_of};
 
 use crate::causes::cause_of;
 use crate::looking::told_at;
 use crate::place::Place;
 use crate::places::add_places;
+use ghost_spec::state::Ghost;
+use state_changes::add_changes;
 use std::alloc::{AllocError, Allocator, Global};
 use step_reply::{Reply, Step};
 use trace_check::shown::shown;
@@ -28,8 +33,8 @@ use world::World;
 /// A trace that was explained.
 #[derive(Drop)]
 pub struct Explained {
-    /// Each line that was carried out; after it, indented, its report, and what its step looked at: `NAME: BEFORE` where it
-    /// stayed, `NAME: BEFORE -> AFTER` where it changed.
+    /// Each line that was carried out; after it, indented, its report, what its step looked at and left as it was, and all that
+    /// it changed: `NAME: BEFORE -> AFTER`.
     pub text: Vec<u8>,
     pub outcome: Outcome,
 }
@@ -41,20 +46,29 @@ pub(crate) struct Look {
     pub(crate) before: String,
 }
 
-/// Carries a trace out up to its first fault, and explains each line. `name` is its file's, for the place of a fault. `alloc` is where the tables of the trees lie. Err where
-/// memory was refused.
+/// Carries a trace out up to its first fault, and explains each line, or `only` the one of this number, counted from 1. A fault
+/// is always told. `name` is the trace's file, for the place of a fault. `alloc` is where the tables of the trees lie. Err
+/// where memory was refused.
 pub fn explain<A: Allocator + Copy>(
     global: Global,
     alloc: A,
     name: &str,
     trace: &[u8],
+    only: Option<u64>,
 ) -> Result<Explained, AllocError>
-    ensures { IfOk result (λ explained. ExplainsAll name.now (lines_of trace.now) explained.text.items explained.outcome) }
+    ensures { IfOk result (λ explained. ExplainsAll only name.now (lines_of trace.now) explained.text.items explained.outcome) }
 {
     let lines = lines(global, trace)?;
     let mut text = Vec::new(global);
     let mut session = Session::new(global, alloc);
-    let ran = explain_lines(global, &mut session, name, lines.as_slice(), &mut text);
+    let ran = explain_lines(
+        global,
+        &mut session,
+        name,
+        lines.as_slice(),
+        only,
+        &mut text,
+    );
     // The proof of a scope's end would go through all parts.
     drop(session);
     let outcome = ran?;
@@ -66,36 +80,197 @@ fn explain_lines<A: Allocator + Copy>(
     session: &mut Session<A>,
     name: &str,
     lines: &[&[u8]],
+    only: Option<u64>,
     text: &mut Vec<u8>,
 ) -> Result<Outcome, AllocError>
     requires start { standing_of session.old ≡ at_start }
     requires ready { IsReady session.old }
     requires empty { text.old.items ≡ [] }
-    ensures { IfOk result (ExplainsAll name.now (map (λ line. line.now) lines.now) text.new.items) }
+    ensures { IfOk result (ExplainsAll only name.now (lines_in lines.now) text.new.items) }
 {
     for place in 0..lines.len() {
-        let asked = step_said(session, lines[place]);
-        let looks = looks_before(global, session, asked)?;
-        match line_run(session, lines, place) {
-            Ok(reported) => {
-                add_line(
-                    text,
-                    global,
-                    session,
-                    lines[place],
-                    asked,
-                    looks.as_slice(),
-                    reported,
-                )?;
-            }
-            Err(Stop::Fault(fault)) => {
-                add_fault(text, global, name, lines, place, fault)?;
-                return Ok(Outcome::Fault);
-            }
-            Err(Stop::NoMemory) => return Err(AllocError),
+        let stopped = carry_line(global, session, lines, place, only, text)?;
+        if let Some(fault) = stopped {
+            add_fault(text, global, name, lines, place, fault)?;
+            return Ok(Outcome::Fault);
         }
     }
     Ok(Outcome::Clean)
+}
+
+/// Carries out a line of a trace, by its place from 0 on, and explains it where it is to be shown. A fault isn't told yet.
+fn carry_line<A: Allocator + Copy>(
+    global: Global,
+    session: &mut Session<A>,
+    lines: &[&[u8]],
+    place: usize,
+    only: Option<u64>,
+    text: &mut Vec<u8>,
+) -> Result<Option<Fault>, AllocError>
+    requires place { place < length lines.now }
+    requires few { (standing_of session.old).steps ≤ place }
+    requires ready { IsReady session.old }
+    ensures done { IfOk result (IsCarriedAt (is_shown only (place + 1)) lines.now place session.old text.old.items session.new text.new.items) }
+    ensures steps { (standing_of session.new).steps ≤ place + 1 }
+    ensures ready { IsReady session.new }
+{
+    if is_wanted(only, place as u64 + 1) {
+        show_line(global, session, lines, place, text)
+    } else {
+        pass_line(session, lines, place)
+    }
+}
+
+/// Whether the line of a number is to be shown.
+fn is_wanted(only: Option<u64>, number: u64) -> bool
+    ensures { result ≡ is_shown only number }
+{
+    match only {
+        Some(only) => number == only,
+        None => true,
+    }
+}
+
+/// Carries out a line that isn't shown.
+fn pass_line<A: Allocator + Copy>(
+    session: &mut Session<A>,
+    lines: &[&[u8]],
+    place: usize,
+) -> Result<Option<Fault>, AllocError>
+    requires place { place < length lines.now }
+    requires few { (standing_of session.old).steps ≤ place }
+    requires ready { IsReady session.old }
+    ensures done { (text : List ℕ) → IfOk result (IsCarriedAt false lines.now place session.old text session.new text) }
+    ensures steps { (standing_of session.new).steps ≤ place + 1 }
+    ensures ready { IsReady session.new }
+{
+    match line_run(session, lines, place) {
+        Ok(_) => Ok(None),
+        Err(Stop::Fault(fault)) => Ok(Some(fault)),
+        Err(Stop::NoMemory) => Err(AllocError),
+    }
+}
+
+/// Carries out a line, and explains it.
+fn show_line<A: Allocator + Copy>(
+    global: Global,
+    session: &mut Session<A>,
+    lines: &[&[u8]],
+    place: usize,
+    text: &mut Vec<u8>,
+) -> Result<Option<Fault>, AllocError>
+    requires place { place < length lines.now }
+    requires few { (standing_of session.old).steps ≤ place }
+    requires ready { IsReady session.old }
+    ensures done { IfOk result (IsCarriedAt true lines.now place session.old text.old.items session.new text.new.items) }
+    ensures steps { (standing_of session.new).steps ≤ place + 1 }
+    ensures ready { IsReady session.new }
+{
+    let asked = step_said(session, lines[place]);
+    let looks = looks_before(global, session, asked)?;
+    let before = state_before(global, session, asked)?;
+    let shown = show_run(
+        global,
+        session,
+        lines,
+        place,
+        asked,
+        looks.as_slice(),
+        &before,
+        text,
+    );
+    drop(before);
+    shown
+}
+
+/// Carries out a line, and explains it by what its step looks at and by the state before it.
+fn show_run<A: Allocator + Copy>(
+    global: Global,
+    session: &mut Session<A>,
+    lines: &[&[u8]],
+    place: usize,
+    asked: Option<(u64, Step)>,
+    looks: &[Look],
+    before: &Option<Ghost>,
+    text: &mut Vec<u8>,
+) -> Result<Option<Fault>, AllocError>
+    requires place { place < length lines.now }
+    requires few { (standing_of session.old).steps ≤ place }
+    requires ready { IsReady session.old }
+    requires asked { asked ≡ step_at (standing_of session.old) (line_at lines.now place) }
+    requires looks { looks_in looks.now ≡ seen (standing_of session.old).machine asked }
+    requires before { IsBefore (standing_of session.old).machine asked before.now }
+    ensures done { IfOk result (IsCarriedAt true lines.now place session.old text.old.items session.new text.new.items) }
+    ensures steps { (standing_of session.new).steps ≤ place + 1 }
+    ensures ready { IsReady session.new }
+{
+    match line_run(session, lines, place) {
+        Ok(reported) => {
+            add_line(text, global, session, lines[place], asked, looks, reported)?;
+            add_changed(text, global, session, asked, before)?;
+            Ok(None)
+        }
+        Err(Stop::Fault(fault)) => Ok(Some(fault)),
+        Err(Stop::NoMemory) => Err(AllocError),
+    }
+}
+
+/// The state before a step.
+fn state_before<A: Allocator + Copy>(
+    global: Global,
+    session: &Session<A>,
+    asked: Option<(u64, Step)>,
+) -> Result<Option<Ghost>, AllocError>
+    ensures { IfOk result (IsBefore (standing_of session.now).machine asked) }
+{
+    let Some(world) = session.world() else {
+        return Ok(None);
+    };
+    if asked.is_none() {
+        return Ok(None);
+    }
+    let state = world.to_ghost(global)?;
+    Ok(Some(state))
+}
+
+/// All that changed from the state before a step.
+fn add_changed<A: Allocator + Copy>(
+    text: &mut Vec<u8>,
+    global: Global,
+    session: &Session<A>,
+    asked: Option<(u64, Step)>,
+    before: &Option<Ghost>,
+) -> Result<(), AllocError>
+    requires frames { HasFrames before.now (standing_of session.now).machine }
+    ensures { OnOk result (Adds (TellsFrom before.now asked (standing_of session.now).machine) text.old.items text.new.items) }
+{
+    let Some(before) = before else {
+        return Ok(());
+    };
+    let Some((cpu, _)) = asked else {
+        return Ok(());
+    };
+    let Some(world) = session.world() else {
+        return Ok(());
+    };
+    add_changed_to(text, global, cpu, before, world)
+}
+
+/// All that changed up to the state of a world.
+fn add_changed_to<A: Allocator>(
+    text: &mut Vec<u8>,
+    global: Global,
+    cpu: u64,
+    before: &Ghost,
+    world: &World<A>,
+) -> Result<(), AllocError>
+    requires frames { HasRowsOf (machine_of world.now).layout before.now }
+    ensures { OnOk result (Adds (TellsAll (contents_in before.now) (machine_of world.now).state.contents cpu) text.old.items text.new.items) }
+{
+    let after = world.to_ghost(global)?;
+    let told = add_changes(text, global, cpu, before, &after);
+    drop(after);
+    told
 }
 
 /// Carries out a line of a trace, by its place from 0 on.
@@ -107,7 +282,7 @@ fn line_run<A: Allocator + Copy>(
     requires place { place < length lines.now }
     requires few { (standing_of session.old).steps ≤ place }
     requires ready { IsReady session.old }
-    ensures done { IsPlayed (RunsLine agreed) (place + 1) (slice_index_or (map (λ line. line.now) lines.now) place []) (standing_of session.old) (answer_of session.new result) (standing_of session.new) }
+    ensures done { IsPlayedAt lines.now place session.old result session.new }
     ensures steps { (standing_of session.new).steps ≤ place + 1 }
     ensures ready { IsReady session.new }
 {
@@ -162,7 +337,7 @@ fn looks_in_world<A: Allocator>(
     cpu: u64,
     step: Step,
 ) -> Result<Vec<Look>, AllocError>
-    ensures { IfOk result (λ looks. looks_in looks.items ≡ map (λ place. (place, told_by (machine_of world.now) cpu place)) (places_of (machine_of world.now) cpu step)) }
+    ensures { IfOk result (λ looks. looks_in looks.items ≡ seen_by (machine_of world.now) cpu step) }
 {
     let mut places = Vec::new(global);
     add_places(&mut places, world, cpu, step)?;
@@ -175,7 +350,7 @@ fn looks_at<A: Allocator>(
     cpu: u64,
     places: &[Place],
 ) -> Result<Vec<Look>, AllocError>
-    ensures { IfOk result (λ looks. looks_in looks.items ≡ map (λ place. (place, told_by (machine_of world.now) cpu place)) places.now) }
+    ensures { IfOk result (λ looks. looks_in looks.items ≡ seen_at (machine_of world.now) cpu places.now) }
 {
     let mut looks = Vec::new(global);
     for place in places {
@@ -198,7 +373,7 @@ fn add_line<A: Allocator + Copy>(
     looks: &[Look],
     reported: Reported,
 ) -> Result<(), AllocError>
-    ensures { OnOk result (text.new.items ≡ text.old.items ++ line_with line.now asked (looks_in looks.now) (lines_reported session.now reported) (standing_of session.now).machine) }
+    ensures { OnOk result (text.new.items ≡ text.old.items ++ told_line session.now line.now asked looks.now reported) }
 {
     add_ended(text, line)?;
     let told = told_lines(global, session, reported)?;
@@ -224,7 +399,7 @@ fn add_fault(
     fault: Fault,
 ) -> Result<(), AllocError>
     requires { place < length lines.now }
-    ensures { OnOk result (text.new.items ≡ text.old.items ++ faulty name.now (map (λ line. line.now) lines.now) place (slice_index_or (map (λ line. line.now) lines.now) place []) fault) }
+    ensures { OnOk result (text.new.items ≡ text.old.items ++ told_fault name.now lines.now place fault) }
 {
     add_ended(text, lines[place])?;
     let said = format!(in global; "    fault {fault}\n    ")?;
@@ -290,7 +465,7 @@ fn add_caused(text: &mut Vec<u8>, said: &[u8], cause: &str) -> Result<(), AllocE
     Ok(())
 }
 
-/// What a step looked at, with what is there now.
+/// What a step looked at, where it is as before.
 fn add_looked<A: Allocator + Copy>(
     text: &mut Vec<u8>,
     global: Global,
@@ -331,7 +506,7 @@ fn add_looks<A: Allocator>(
     Ok(())
 }
 
-/// A place, with what was there and what is there now.
+/// A place, with what was there, where that is there now.
 fn add_look(
     text: &mut Vec<u8>,
     global: Global,
@@ -341,13 +516,12 @@ fn add_look(
 ) -> Result<(), AllocError>
     ensures { OnOk result (text.new.items ≡ text.old.items ++ look_line (name_of place) before.now after.now) }
 {
+    if before != after {
+        return Ok(());
+    }
     let name = format!(in global; "    {place}: ")?;
     text.extend_from_slice(name.as_bytes())?;
     text.extend_from_slice(before)?;
-    if before != after {
-        text.extend_from_slice(b" -> ")?;
-        text.extend_from_slice(after)?;
-    }
     text.extend_from_slice(b"\n")?;
     Ok(())
 }

@@ -1,4 +1,4 @@
-//! A trace, line by line, with what each step looked at and changed, and why it was refused.
+//! A trace, line by line, with what each step looked at, all that it changed, and why it was refused.
 #![tactic(auto)]
 
 mod causes;

@@ -6,10 +6,11 @@ ghost use Rattle.trace_text.specs.View.{body_at, machine_of};
 ghost use Rattle.vm_table.specs.View.{slot_of};
 
 use crate::place::Place;
-use crate::words::{told_body, told_cpu, told_entry, told_hand, told_loaded, told_ticket};
+use crate::words::{told_body, told_entry};
 use guest_component::Body;
 use page_state::{Entry, Frame, Page, PageRange};
 use reference_model::{Loaded, Ticket};
+use state_changes::{told_cpu, told_hand, told_loaded, told_ticket};
 use std::alloc::{AllocError, Allocator, Global};
 use vm_table::Slot;
 use world::World;

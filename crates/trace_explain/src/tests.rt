@@ -7,7 +7,7 @@ use trace_reader::Outcome;
 fn a_page_is_shared_and_then_refused(rt: HostRuntime) -> Result<(), Fail> {
     let trace =
         b"memory 0x40000 0x800\ncarve 0x40600 0x40\nboot\n0 share_hyp 0x40100\n0 share_hyp 0x40100\nno <line>\n";
-    let told = explain(rt.alloc(), rt.alloc(), "a.trace", trace)?;
+    let told = explain(rt.alloc(), rt.alloc(), "a.trace", trace, None)?;
     let text = "memory 0x40000 0x800
 carve 0x40600 0x40
 boot

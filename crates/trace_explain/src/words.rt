@@ -2,12 +2,11 @@
 ghost use Rattle.std.specs.Prelude.{◌≡◌, IfOk, Some, string_bytes};
 ghost use Rattle.guest_component.specs.Bodies.{phase_of};
 ghost use Rattle.guest_component.specs.View.{guest_in};
-ghost use Rattle.trace_explain.specs.Texts.{guest_line, text_of_guest, text_of_hand, text_of_holder, text_of_kind, text_of_loaded, text_of_phase, text_of_slot, text_of_stage, text_of_stand, text_of_ticket};
+ghost use Rattle.trace_explain.specs.Texts.{guest_line, text_of_guest, text_of_phase, text_of_slot, text_of_stand};
 ghost use Rattle.vm_table.specs.View.{slot_of, stand_of};
 
 use guest_component::{Body, Phase};
-use page_state::PageRange;
-use reference_model::{Loaded, Stage, Ticket};
+use state_changes::kind_word;
 use std::alloc::{AllocError, Allocator, Global};
 use std::fmt;
 use step_reply::VmKind;
@@ -32,55 +31,6 @@ pub(crate) fn told_entry(global: Global, slot: Slot) -> Result<String, AllocErro
 {
     let line = SlotLine(slot);
     format!(in global; "{line}")
-}
-
-/// The CPU that has a vCPU loaded.
-pub(crate) fn told_cpu(global: Global, holder: Option<u64>) -> Result<String, AllocError>
-    ensures { IfOk result (λ text. string_bytes text ≡ text_of_holder holder) }
-{
-    match holder {
-        Some(cpu) => format!(in global; "cpu {cpu}"),
-        None => String::from_str(global, "no cpu"),
-    }
-}
-
-/// The vCPU that a CPU has loaded.
-pub(crate) fn told_loaded(global: Global, loaded: Option<Loaded>) -> Result<String, AllocError>
-    ensures { IfOk result (λ text. string_bytes text ≡ text_of_loaded loaded) }
-{
-    match loaded {
-        Some(loaded) => {
-            let line = LoadedLine(loaded);
-            format!(in global; "{line}")
-        }
-        None => String::from_str(global, "nothing"),
-    }
-}
-
-/// Its hand.
-pub(crate) fn told_hand(global: Global, hand: Option<PageRange>) -> Result<String, AllocError>
-    ensures { IfOk result (λ text. string_bytes text ≡ text_of_hand hand) }
-{
-    match hand {
-        Some(frames) => {
-            let line = HandLine(frames);
-            format!(in global; "{line}")
-        }
-        None => String::from_str(global, "empty"),
-    }
-}
-
-/// Its ticket.
-pub(crate) fn told_ticket(global: Global, ticket: Option<Ticket>) -> Result<String, AllocError>
-    ensures { IfOk result (λ text. string_bytes text ≡ text_of_ticket ticket) }
-{
-    match ticket {
-        Some(ticket) => {
-            let line = TicketLine(ticket);
-            format!(in global; "{line}")
-        }
-        None => String::from_str(global, "none"),
-    }
 }
 
 /// What is told of a guest that isn't Empty.
@@ -120,59 +70,12 @@ impl fmt::Display for SlotLine {
     }
 }
 
-/// A vCPU that is loaded.
-#[derive(Clone, Copy)]
-struct LoadedLine(Loaded);
-
-impl fmt::Display for LoadedLine {
-    ghost output = { λ line. Some (text_of_loaded (Some line.0)) };
-
-    fn fmt<W: fmt::Write>(&self, f: &mut fmt::Formatter<W>) -> fmt::Result {
-        write!(f, "{} vcpu {}", self.0.vm, self.0.vcpu)
-    }
-}
-
-/// A hand that isn't empty.
-#[derive(Clone, Copy)]
-struct HandLine(PageRange);
-
-impl fmt::Display for HandLine {
-    ghost output = { λ line. Some (text_of_hand (Some line.0)) };
-
-    fn fmt<W: fmt::Write>(&self, f: &mut fmt::Formatter<W>) -> fmt::Result {
-        write!(f, "0x{:x} {}", self.0.first.0, self.0.count)
-    }
-}
-
-/// A ticket that a CPU has.
-#[derive(Clone, Copy)]
-struct TicketLine(Ticket);
-
-impl fmt::Display for TicketLine {
-    ghost output = { λ line. Some (text_of_ticket (Some line.0)) };
-
-    fn fmt<W: fmt::Write>(&self, f: &mut fmt::Formatter<W>) -> fmt::Result {
-        let kind = kind_word(self.0.kind);
-        let stage = stage_word(self.0.stage);
-        write!(f, "{} {kind} {stage}", self.0.vm)
-    }
-}
-
 fn phase_word(phase: Phase) -> &'static str
     ensures { result.now ≡ text_of_phase (phase_of phase) }
 {
     match phase {
         Phase::Live => "live",
         Phase::Dying => "dying",
-    }
-}
-
-fn kind_word(kind: VmKind) -> &'static str
-    ensures { result.now ≡ text_of_kind kind }
-{
-    match kind {
-        VmKind::Protected => "protected",
-        VmKind::Plain => "plain",
     }
 }
 
@@ -184,17 +87,5 @@ fn state_word(state: SlotState) -> &'static str
         SlotState::Reserved => "reserved",
         SlotState::Open => "open",
         SlotState::Closing => "closing",
-    }
-}
-
-fn stage_word(stage: Stage) -> &'static str
-    ensures { result.now ≡ text_of_stage stage }
-{
-    match stage {
-        Stage::Booked => "booked",
-        Stage::Installed => "installed",
-        Stage::ClosingVm => "closing",
-        Stage::DyingVm => "dying",
-        Stage::Finished => "finished",
     }
 }

@@ -1,3 +1,4 @@
+pub mod Generated
 pub mod Histories
 pub mod Noting
 pub mod Taken

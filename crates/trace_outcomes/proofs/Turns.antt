@@ -1,5 +1,5 @@
 -- The steps of a trace before `start` and those after it.
-use Rattle.std.proofs.Common.{◌≡◌, ℕ, suc, ◌<◌, refl, sym, ap, subst, ◌∙◌, arith, List, [], ◌∷◌, length, map, take, drop, Option, None, Vec, Global}
+use Rattle.std.proofs.Common.{◌≡◌, ℕ, suc, ◌+◌, ◌<◌, ◌^◌, refl, sym, ap, subst, ◌∙◌, arith, List, [], ◌∷◌, length, map, take, drop, Option, None, Vec, Global}
 use Rattle.std.specs.Prelude.{All, option_map, slice_range}
 use Rattle.std.proofs.lemmas.List.{drop-map, length-drop, length-map, length-take, take-map}
 use Rattle.std.proofs.Math.Seq.{take-length}
@@ -17,9 +17,11 @@ use Rattle.trace_lines.specs.Settings.{config_of}
 use Rattle.trace_race.specs.Booted.{machine_in}
 use Rattle.trace_race.specs.declared.course.Asked.{Asked}
 use Rattle.trace_race.specs.Courses.{Asking, IsSound, in_order_of}
+use Rattle.trace_race.specs.Judged.{HasGenerationsTo}
 use Rattle.trace_text.specs.Worlds.{Machine}
 use Rattle.trace_outcomes.specs.declared.making.Race.{Race}
 use Rattle.trace_outcomes.specs.Races.{HasMade, IsReady, Texts, first_of, nothing_told, nothing_wanted, raced_of, texts_in, told_first, turns_of, turns_raced, wants}
+use Rattle.trace_outcomes.proofs.Generated.{along_low}
 
 pub turns_below : (n : ℕ) (steps : List Asked) (texts : Texts) → All (λ a. a.cpu < n) steps → All (λ t. t.cpu < n) (turns_of steps texts)
 turns_below n [] texts h = λ k d less. absurd (omega (arith, less))
@@ -52,6 +54,9 @@ length-texts texts = length-map texts (option_map (λ (v : Vec ℕ Global). v.it
 pub wanted_behind : (n : ℕ) (steps : List Asked) → drop n (nothing_wanted steps) ≡ nothing_wanted (drop n steps)
 wanted_behind n steps = drop-map (λ (a : Asked). None) n steps
 
+pub texts_few : (n : ℕ) (texts : List (Option (Vec ℕ Global))) (steps : List Asked) → length texts ≡ length steps → length (texts_in (take n texts)) ≡ length (take n steps)
+texts_few n texts steps count = length-texts (take n texts) ∙ omega (arith, length-take n texts, length-take n steps, count)
+
 -- what is left of a list, as code takes it
 pub rest_is : {X : Type 0} (n : ℕ) (xs : List X) → slice_range xs n (length xs) ≡ drop n xs
 rest_is n xs = ap (λ k. take k (drop n xs)) (sym (length-drop n xs)) ∙ take-length (drop n xs)
@@ -79,15 +84,24 @@ module _ (a : Asking) (g : Ghost) (r : Race) (steps : List Asked) (is : steps �
     turns = behind ∙ ap (turns_of (drop n a.steps)) (texts_behind n texts) ∙ ap (λ k. turns_of (drop k a.steps) (drop k (texts_in texts))) order;
   }
 
-  pub made_ready : IsSound a → g.layout.config ≡ config_of a.told → length texts ≡ length a.steps → IsReady a (drop (in_order_of a) texts) r
-  made_ready sound config count = record {
+  pub made_ready : IsSound a → g.layout.config ≡ config_of a.told → length texts ≡ length a.steps → length a.steps < 2 ^ 63 → HasGenerationsTo 1 (ghost_state g).contents → IsReady a (drop (in_order_of a) texts) r
+  made_ready sound config count few low = record {
     cpus = subst (λ ts. All (λ t. t.cpu < r.state.layout.config.cpus) ts) (sym behind)
         (subst (λ k. All (λ t. t.cpu < k) (turns_of (drop n a.steps) (texts_in (drop n texts)))) (sym (ap (λ (l : Layout). l.config.cpus) layout ∙ ap (λ (k : Config). k.cpus) config))
         (turns_below (config_of a.told).cpus (drop n a.steps) (texts_in (drop n texts)) (All-drop (λ (s : Asked). s.cpu < (config_of a.told).cpus) n a.steps sound.below)));
     count = subst (λ k. length (drop k texts) ≡ length r.turns.items) order (sym (ap length behind ∙ turns_count (drop n a.steps) (texts_in (drop n texts)) (length-texts (drop n texts) ∙ both_behind) ∙ sym both_behind));
     replies = ap length (ap (λ (x : List Reply × Reference). x.0) told) ∙ along_count (layout_of g.layout) (ghost_state g) first ∙ ap length before ∙ turns_count (take n a.steps) (texts_in (take n texts)) (length-texts (take n texts) ∙ both_before) ∙ ap (λ k. length (take k a.steps)) order;
+    few = omega (arith, few, sym (ap (λ k. length (take k a.steps)) order), length-take n a.steps, length-drop n a.steps, count_behind);
+    low = subst (λ (s : Reference). HasGenerationsTo (1 + length (first_of a)) s.contents) (sym (ap (λ (x : List Reply × Reference). x.1) told))
+        (subst (λ k. HasGenerationsTo (1 + k) (told_along (layout_of g.layout) (ghost_state g) first).1.contents) count_before (along_low (layout_of g.layout) 1 (ghost_state g) first (omega arith) low));
   }
     where
+      count_behind : length r.turns.items ≡ length (drop n a.steps)
+      count_behind = ap length behind ∙ turns_count (drop n a.steps) (texts_in (drop n texts)) (length-texts (drop n texts) ∙ omega (arith, length-drop n texts, length-drop n a.steps, count))
+
+      count_before : length first ≡ length (first_of a)
+      count_before = ap length before ∙ turns_count (take n a.steps) (texts_in (take n texts)) (length-texts (take n texts) ∙ omega (arith, length-take n texts, length-take n a.steps, count)) ∙ ap (λ k. length (take k a.steps)) order
+
       both_behind : length (drop n texts) ≡ length (drop n a.steps)
       both_behind = omega (arith, length-drop n texts, length-drop n a.steps, count)
 

@@ -1,8 +1,12 @@
 //! The steps of a trace before `start`, made in order, and those after it.
-ghost use Rattle.std.specs.Prelude.{◌≡◌, IfOk, drop, length, option_map};
+ghost use Rattle.std.specs.Prelude.{◌≡◌, ◌<◌, ◌^◌, All, IfOk, drop, length, option_map};
+ghost use Rattle.page_state.specs.LayoutView.{layout_of};
+ghost use Rattle.ghost_spec.specs.States.{contents_in, ghost_state};
+ghost use Rattle.race_outcomes.specs.Orders.{told_along};
 ghost use Rattle.trace_lines.specs.Settings.{config_of};
 ghost use Rattle.trace_race.specs.Booted.{machine_in};
 ghost use Rattle.trace_race.specs.Courses.{IsSound, course_in, in_order_of};
+ghost use Rattle.trace_race.specs.Judged.{HasGenerationsTo};
 ghost use Rattle.trace_outcomes.specs.Races.{HasMade, IsReady, nothing_wanted, texts_in, turns_of as turns_by, wants as wants_by};
 
 use ghost_spec::state::Ghost;
@@ -72,9 +76,10 @@ pub(crate) fn first_made(
     state: Ghost,
     course: &Course,
     texts: &[Option<Vec<u8>>],
-) -> Result<Race, OutcomesFault>
+) -> Result<Race, AllocError>
     requires sound { IsSound (course_in course.now) }
     requires config { state.layout.config ≡ config_of (course_in course.now).told }
+    requires low { HasGenerationsTo 1 (contents_in state) }
     requires count { length texts.now ≡ length course.now.steps.items }
     ensures ready { IfOk result (IsReady (course_in course.now) (drop (in_order_of (course_in course.now)) texts.now)) }
     ensures made { IfOk result (HasMade (machine_in state) (course_in course.now) (texts_in texts.now)) }
@@ -83,16 +88,42 @@ pub(crate) fn first_made(
     let steps = course.steps.as_slice();
     let Ok(first) = turns_of(global, &steps[..count], &texts[..count]) else {
         drop(state);
-        return Err(OutcomesFault::NoMemory);
+        return Err(AllocError);
     };
     let Ok(turns) = turns_of(global, &steps[count..], &texts[count..]) else {
         drop(state);
-        return Err(OutcomesFault::NoMemory);
+        return Err(AllocError);
     };
-    let (replies, state) = first_steps(global, state, first.as_slice())?;
+    let (replies, state) = steps_made(global, state, first.as_slice())?;
     Ok(Race {
         replies,
         state,
         turns,
     })
+}
+
+/// Makes steps in order, from a state none of whose generations is near the last: their replies, and the state after them.
+fn steps_made(
+    global: Global,
+    state: Ghost,
+    turns: &[Turn],
+) -> Result<(Vec<Reply>, Ghost), AllocError>
+    requires cpus { All (λ t. t.cpu < state.layout.config.cpus) turns.now }
+    requires few { length turns.now < 2 ^ 63 }
+    requires low { HasGenerationsTo 1 (contents_in state) }
+    ensures told { IfOk result (λ r. (r.0.items, ghost_state r.1) ≡ told_along (layout_of state.layout) (ghost_state state) turns.now) }
+    ensures layout { IfOk result (λ r. layout_of r.1.layout ≡ layout_of state.layout) }
+{
+    match first_steps(global, state, turns) {
+        Ok(made) => Ok(made),
+        Err(fault) => Err(refused(fault)),
+    }
+}
+
+/// Memory was refused.
+fn refused(fault: OutcomesFault) -> AllocError
+    requires { fault ≡ OutcomesFault.NoMemory }
+{
+    let _ = fault;
+    AllocError
 }

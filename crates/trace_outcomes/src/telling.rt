@@ -3,12 +3,13 @@ ghost use Rattle.std.specs.Prelude.{◌≡◌, ℕ, [], IfOk, Ok, drop, length, 
 ghost use Rattle.step_reply.specs.Texts.{text_of_reply};
 ghost use Rattle.trace_lines.specs.Settings.{config_of};
 ghost use Rattle.trace_reader.specs.Reading.{lines_of};
+ghost use Rattle.ghost_spec.specs.States.{contents_in};
 ghost use Rattle.trace_race.specs.Booted.{machine_in};
+ghost use Rattle.trace_race.specs.Judged.{HasGenerationsTo};
 ghost use Rattle.trace_race.specs.Courses.{IsSound, course_in, course_of, in_order_of, nothing_asked};
-ghost use Rattle.trace_text.specs.Worlds.{Machine};
-ghost use Rattle.trace_outcomes.specs.Races.{HasMade, IsReady, first_of, nothing_wanted, raced_of, texts_in};
+ghost use Rattle.trace_outcomes.specs.Races.{IsNoGeneration, IsReady, first_of, nothing_wanted, raced_of, texts_in};
 ghost use Rattle.trace_outcomes.specs.Texts.{all_said, end_said, none_said, order_said, otherwise_said, too_many_said};
-ghost use Rattle.trace_outcomes.specs.Told.{TellsBehind, TellsBy, TellsClean, TellsFault, TellsObserved, TellsOutcomes, TellsRaced, TellsReported, TellsUnclean, first_apart as first_apart_of, is_read};
+ghost use Rattle.trace_outcomes.specs.Told.{OnMade, TellsBehind, TellsBy, TellsClean, TellsFault, TellsObserved, TellsOutcomes, TellsRaced, TellsReported, TellsUnclean, first_apart as first_apart_of, is_read};
 
 use crate::booting::boot_state;
 use crate::making::{Race, first_made, nothing_told};
@@ -67,6 +68,7 @@ fn unclean(text: Vec<u8>) -> Told
 }
 
 fn too_many(global: Global, fault: OutcomesFault) -> Result<Told, AllocError>
+    requires { IsNoGeneration fault }
     ensures { IfOk result (λ t. (made : ℕ) × (fault ≡ OutcomesFault.TooMany made) × TellsUnclean (too_many_said made) t) }
 {
     match fault {
@@ -75,7 +77,8 @@ fn too_many(global: Global, fault: OutcomesFault) -> Result<Told, AllocError>
             add_too_many(&mut text, global, made)?;
             Ok(unclean(text))
         }
-        _ => Err(AllocError),
+        OutcomesFault::NoMemory => Err(AllocError),
+        OutcomesFault::Generation => unreachable!(),
     }
 }
 
@@ -119,6 +122,7 @@ fn outcomes_of(global: Global, course: &Course, limit: usize) -> Result<Told, Al
 fn all_from(global: Global, state: Ghost, course: &Course, limit: usize) -> Result<Told, AllocError>
     requires sound { IsSound (course_in course.now) }
     requires config { state.layout.config ≡ config_of (course_in course.now).told }
+    requires low { HasGenerationsTo 1 (contents_in state) }
     ensures { IfOk result (TellsRaced limit (course_in course.now) (machine_in state)) }
 {
     let texts = nothing_told(global, course.steps.as_slice())?;
@@ -138,7 +142,7 @@ fn all_of(
     requires sound { IsSound (course_in course.now) }
     requires ready { IsReady (course_in course.now) (drop (in_order_of (course_in course.now)) texts.now) race.now }
     requires nothing { texts.now ≡ nothing_wanted course.now.steps.items }
-    ensures { IfOk result (λ t. (m : Machine) → HasMade m (course_in course.now) (texts_in texts.now) race.now → TellsRaced limit (course_in course.now) m t) }
+    ensures { IfOk result (OnMade (λ m a _. TellsRaced limit a m) (course_in course.now) (texts_in texts.now) race.now) }
 {
     let count = course.in_order();
     match outcomes(
@@ -256,6 +260,7 @@ fn order_from(
 ) -> Result<Told, AllocError>
     requires sound { IsSound (course_in course.now) }
     requires config { state.layout.config ≡ config_of (course_in course.now).told }
+    requires low { HasGenerationsTo 1 (contents_in state) }
     requires count { length texts.now ≡ length course.now.steps.items }
     ensures { IfOk result (TellsObserved (machine_in state) (course_in course.now) (texts_in texts.now) limit) }
 {
@@ -284,7 +289,7 @@ fn order_in(
     requires sound { IsSound (course_in course.now) }
     requires count { length texts.now ≡ length course.now.steps.items }
     requires ready { IsReady (course_in course.now) (drop (in_order_of (course_in course.now)) texts.now) race.now }
-    ensures { IfOk result (λ t. (m : Machine) → HasMade m (course_in course.now) (texts_in texts.now) race.now → TellsObserved m (course_in course.now) (texts_in texts.now) limit t) }
+    ensures { IfOk result (OnMade (λ m a texts. TellsObserved m a texts limit) (course_in course.now) (texts_in texts.now) race.now) }
 {
     let count = course.in_order();
     let steps = course.steps.as_slice();
@@ -310,7 +315,7 @@ fn order_behind(
     requires sound { IsSound (course_in course.now) }
     requires count { length texts.now ≡ length course.now.steps.items }
     requires ready { IsReady (course_in course.now) (drop (in_order_of (course_in course.now)) texts.now) race.now }
-    ensures { IfOk result (λ t. (m : Machine) → HasMade m (course_in course.now) (texts_in texts.now) race.now → TellsBehind m (course_in course.now) (texts_in texts.now) limit t) }
+    ensures { IfOk result (OnMade (λ m a texts. TellsBehind m a texts limit) (course_in course.now) (texts_in texts.now) race.now) }
 {
     let count = course.in_order();
     match explained(

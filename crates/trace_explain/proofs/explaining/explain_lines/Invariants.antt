@@ -6,7 +6,7 @@ use Rattle.trace_explain.proofs.explaining.explain_lines.Given as goal
 
 abbrev pub invariant-loop-place : goal.invariant-loop-place
 invariant-loop-place g l = record {
-  ahead : IsAhead l.name (map (λ line. line.now) l.lines) l.place (standing_of l.session) l.text.items;
+  ahead : IsAhead l.only l.name (map (λ line. line.now) l.lines) l.place (standing_of l.session) l.text.items;
   few : (standing_of l.session).steps ≤ l.place;
   ready : IsReady l.session;
 }

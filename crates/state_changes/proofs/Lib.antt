@@ -1,0 +1,5 @@
+pub mod Differences
+pub mod Lists
+pub mod Once
+pub mod Read
+pub mod Together

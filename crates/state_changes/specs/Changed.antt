@@ -1,0 +1,113 @@
+-- What changed from one state to another, line by line: all that differs, and nothing else.
+use Rattle.std.specs.Prelude.{◌≡◌, ◌⊎◌, ℕ, ◌+◌, ◌-◌, ◌==◌, List, [], ◌∷◌, ◌++◌, codes, Option, Some, None, if◌then◌else◌, length, unwrap_or}
+use Rattle.std.specs.Fmt.{decimal}
+use Rattle.page_state.specs.declared.entry.Entry.{Entry}
+use Rattle.page_state.specs.declared.entry.Target.{Target}
+use Rattle.page_state.specs.declared.row.Row.{Row}
+use Rattle.page_state.specs.Entries.{advance_target, entry_of}
+use Rattle.page_state.specs.Rows.{advance_row, plain_row}
+use Rattle.page_state.specs.Texts.{text_of_entry, text_of_page, text_of_row}
+use Rattle.reference_model.specs.State.{Contents, Cpu, Guest, Slot}
+use Rattle.run_list.specs.declared.run.Run.{Run}
+use Rattle.run_list.specs.Runs.{IsCoarsest, run_map}
+use Rattle.run_changes.specs.declared.change.Change.{Change}
+use Rattle.run_changes.specs.Changes.{advance_change}
+use Rattle.state_changes.specs.Texts.{guest_head, slot_head, text_of_guest_head, text_of_hand, text_of_holder, text_of_loaded, text_of_slot_head, text_of_ticket}
+use Rattle.state_changes.specs.Together.{Each, Then}
+
+-- a line: what changed, what it was, and what it is
+abbrev pub change_line : List ℕ → List ℕ → List ℕ → List ℕ
+change_line name before after = codes "    " ++ name ++ codes ": " ++ before ++ codes " -> " ++ after ++ 10 ∷ []
+
+-- a value: where it is as before, nothing is told, and else a line
+abbrev pub TellsValue : {X : Type 0} → List ℕ → (X → List ℕ) → X → X → List ℕ → Type 0
+TellsValue name text_of before after text = ((before ≡ after) × (text ≡ [])) ⊎ ((before ≡ after → ⊥) × (text ≡ change_line name (text_of before) (text_of after)))
+
+-- the pages from one to another
+abbrev pub pages_name : List ℕ → ℕ → ℕ → List ℕ
+pages_name label first last = if first == last then label ++ codes " " ++ text_of_page first else label ++ codes " " ++ text_of_page first ++ codes ".." ++ text_of_page last
+
+-- a line for each run of pages: what the first had and has, which goes on along the run
+abbrev pub run_lines : {V : Type 0} → (Option V → List ℕ) → List ℕ → List (Run (Change V)) → List ℕ
+run_lines text_of label [] = []
+run_lines text_of label (r ∷ rs) =
+    change_line (pages_name label r.pages.first.0 (r.pages.first.0 + (r.pages.count - 1))) (text_of r.value.before) (text_of r.value.after) ++ run_lines text_of label rs
+
+-- what is told of a page: nothing where it is as before, and else both; `is`: what a value in a run stands for
+abbrev pub IsChange : {V X : Type 0} → (X → Option V → Type 0) → X → X → Option (Change V) → Type 0
+IsChange is before after None = before ≡ after
+IsChange is before after (Some c) = is before c.before × is after c.after × (before ≡ after → ⊥)
+
+-- a map: the coarsest runs of just the pages that changed
+pub record TellsMap {V X : Type 0} (advance : V → ℕ → V) (is : X → Option V → Type 0) (text_of : Option V → List ℕ) (label : List ℕ) (before after : ℕ → X) (text : List ℕ) : Type 0 where
+  pub runs : List (Run (Change V))
+  pub coarsest : IsCoarsest (advance_change advance) runs
+  pub changes : (p : ℕ) → IsChange is (before p) (after p) (run_map (advance_change advance) runs p)
+  pub lines : text ≡ run_lines text_of label runs
+
+-- entries of pages
+abbrev pub IsEntry : Entry → Option Target → Type 0
+IsEntry entry o = entry_of o ≡ entry
+
+abbrev pub text_of_target : Option Target → List ℕ
+text_of_target o = text_of_entry (entry_of o)
+
+abbrev pub TellsEntries : List ℕ → (ℕ → Entry) → (ℕ → Entry) → List ℕ → Type 0
+TellsEntries = TellsMap advance_target IsEntry text_of_target
+
+-- owner rows of frames
+abbrev pub IsRow : Row → Option Row → Type 0
+IsRow row o = o ≡ Some row
+
+abbrev pub text_of_some_row : Option Row → List ℕ
+text_of_some_row o = text_of_row (unwrap_or o plain_row)
+
+abbrev pub TellsRows : (ℕ → Row) → (ℕ → Row) → List ℕ → Type 0
+TellsRows = TellsMap advance_row IsRow text_of_some_row (codes "owner")
+
+-- the names of guests, VM slots and vCPUs
+abbrev pub guest_name : ℕ → List ℕ
+guest_name v = codes "guest " ++ decimal v
+
+abbrev pub slot_name : ℕ → List ℕ
+slot_name v = codes "vm " ++ decimal v
+
+abbrev pub vcpu_name : ℕ → ℕ → List ℕ
+vcpu_name v i = codes "vm " ++ decimal v ++ codes " vcpu " ++ decimal i
+
+-- a guest: its phase, generation, kind and number of free frames
+abbrev pub TellsGuest : Guest → Guest → ℕ → List ℕ → Type 0
+TellsGuest before after v = TellsValue (guest_name v) text_of_guest_head (guest_head before) (guest_head after)
+
+-- a VM slot, and the CPU that has each of its vCPUs loaded
+abbrev pub TellsVcpu : Slot → Slot → ℕ → ℕ → List ℕ → Type 0
+TellsVcpu before after v i = TellsValue (vcpu_name v i) text_of_holder (before.loaded i) (after.loaded i)
+
+abbrev pub TellsSlot : Slot → Slot → ℕ → List ℕ → Type 0
+TellsSlot before after v = Then (TellsValue (slot_name v) text_of_slot_head (slot_head before) (slot_head after)) (Each 8 (TellsVcpu before after v))
+
+-- a CPU's own state
+abbrev pub TellsCpu : Cpu → Cpu → List ℕ → Type 0
+TellsCpu before after =
+    Then (TellsValue (codes "loaded") text_of_loaded before.loaded after.loaded)
+    (Then (TellsValue (codes "hand") text_of_hand before.hand after.hand) (TellsValue (codes "ticket") text_of_ticket before.ticket after.ticket))
+
+-- two states
+module _ (before after : Contents) where
+  -- the maps of all trees, and the owner rows
+  abbrev pub TellsMaps : List ℕ → Type 0
+  TellsMaps =
+      Then (TellsEntries (codes "host") before.shared.host.map after.shared.host.map)
+      (Then (TellsEntries (codes "hyp") before.shared.hyp.map after.shared.hyp.map)
+      (Then (Each 64 (λ v. TellsEntries (guest_name v) (before.guest v).tree.map (after.guest v).tree.map)) (TellsRows before.shared.row after.shared.row)))
+
+  -- all else: the number of free frames, the guests, the VM slots, and the state of a CPU
+  abbrev pub TellsRest : ℕ → List ℕ → Type 0
+  TellsRest cpu =
+      Then (TellsValue (codes "free shared") decimal (length before.shared.free) (length after.shared.free))
+      (Then (Each 64 (λ v. TellsGuest (before.guest v) (after.guest v) v))
+      (Then (Each 64 (λ v. TellsSlot (before.vms.slot v) (after.vms.slot v) v)) (TellsCpu (before.cpu cpu) (after.cpu cpu))))
+
+  -- all that changed
+  abbrev pub TellsAll : ℕ → List ℕ → Type 0
+  TellsAll cpu = Then TellsMaps (TellsRest cpu)

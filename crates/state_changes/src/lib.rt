@@ -1,0 +1,13 @@
+//! What changed from one state to another, as text: a line for each thing that differs, and none for any other.
+#![tactic(auto)]
+
+mod heads;
+pub mod laws;
+mod lines;
+mod maps;
+mod own;
+mod told;
+mod words;
+
+pub use told::add_changes;
+pub use words::{kind_word, told_cpu, told_hand, told_loaded, told_ticket};

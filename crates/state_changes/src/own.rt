@@ -1,0 +1,79 @@
+//! A CPU's own state.
+ghost use Rattle.std.specs.Prelude.{OnOk, codes};
+ghost use Rattle.ghost_spec.specs.Views.{cpu_in};
+ghost use Rattle.state_changes.specs.Changed.{TellsCpu, TellsValue};
+ghost use Rattle.state_changes.specs.Texts.{text_of_hand, text_of_loaded, text_of_ticket};
+ghost use Rattle.state_changes.specs.Together.{Adds};
+
+use crate::lines::add_change;
+use crate::words::{told_hand, told_loaded, told_ticket};
+use ghost_spec::cpu::GhostCpu;
+use page_state::PageRange;
+use reference_model::{Loaded, Ticket};
+use std::alloc::{AllocError, Global};
+
+/// What changed of a CPU's own state.
+pub(crate) fn add_cpu(
+    text: &mut Vec<u8>,
+    global: Global,
+    before: GhostCpu,
+    after: GhostCpu,
+) -> Result<(), AllocError>
+    ensures { OnOk result (Adds (TellsCpu (cpu_in before) (cpu_in after)) text.old.items text.new.items) }
+{
+    add_loaded(text, global, before.loaded, after.loaded)?;
+    add_hand(text, global, before.hand, after.hand)?;
+    add_ticket(text, global, before.ticket, after.ticket)?;
+    Ok(())
+}
+
+fn add_loaded(
+    text: &mut Vec<u8>,
+    global: Global,
+    before: Option<Loaded>,
+    after: Option<Loaded>,
+) -> Result<(), AllocError>
+    ensures { OnOk result (Adds (TellsValue (codes "loaded") text_of_loaded before after) text.old.items text.new.items) }
+{
+    if before == after {
+        return Ok(());
+    }
+    let was = told_loaded(global, before)?;
+    let is = told_loaded(global, after)?;
+    add_change(text, b"loaded", was.as_bytes(), is.as_bytes())?;
+    Ok(())
+}
+
+fn add_hand(
+    text: &mut Vec<u8>,
+    global: Global,
+    before: Option<PageRange>,
+    after: Option<PageRange>,
+) -> Result<(), AllocError>
+    ensures { OnOk result (Adds (TellsValue (codes "hand") text_of_hand before after) text.old.items text.new.items) }
+{
+    if before == after {
+        return Ok(());
+    }
+    let was = told_hand(global, before)?;
+    let is = told_hand(global, after)?;
+    add_change(text, b"hand", was.as_bytes(), is.as_bytes())?;
+    Ok(())
+}
+
+fn add_ticket(
+    text: &mut Vec<u8>,
+    global: Global,
+    before: Option<Ticket>,
+    after: Option<Ticket>,
+) -> Result<(), AllocError>
+    ensures { OnOk result (Adds (TellsValue (codes "ticket") text_of_ticket before after) text.old.items text.new.items) }
+{
+    if before == after {
+        return Ok(());
+    }
+    let was = told_ticket(global, before)?;
+    let is = told_ticket(global, after)?;
+    add_change(text, b"ticket", was.as_bytes(), is.as_bytes())?;
+    Ok(())
+}

@@ -1,0 +1,118 @@
+//! How what CPUs hold is written.
+ghost use Rattle.std.specs.Prelude.{◌≡◌, IfOk, Some, string_bytes};
+ghost use Rattle.state_changes.specs.Texts.{text_of_hand, text_of_holder, text_of_kind, text_of_loaded, text_of_stage, text_of_ticket};
+
+use page_state::PageRange;
+use reference_model::{Loaded, Stage, Ticket};
+use std::alloc::{AllocError, Global};
+use std::fmt;
+use step_reply::VmKind;
+
+/// The CPU that has a vCPU loaded.
+pub fn told_cpu(global: Global, holder: Option<u64>) -> Result<String, AllocError>
+    ensures { IfOk result (λ text. string_bytes text ≡ text_of_holder holder) }
+{
+    match holder {
+        Some(cpu) => format!(in global; "cpu {cpu}"),
+        None => String::from_str(global, "no cpu"),
+    }
+}
+
+/// The vCPU that a CPU has loaded.
+pub fn told_loaded(global: Global, loaded: Option<Loaded>) -> Result<String, AllocError>
+    ensures { IfOk result (λ text. string_bytes text ≡ text_of_loaded loaded) }
+{
+    match loaded {
+        Some(loaded) => {
+            let line = LoadedLine(loaded);
+            format!(in global; "{line}")
+        }
+        None => String::from_str(global, "nothing"),
+    }
+}
+
+/// Its hand.
+pub fn told_hand(global: Global, hand: Option<PageRange>) -> Result<String, AllocError>
+    ensures { IfOk result (λ text. string_bytes text ≡ text_of_hand hand) }
+{
+    match hand {
+        Some(frames) => {
+            let line = HandLine(frames);
+            format!(in global; "{line}")
+        }
+        None => String::from_str(global, "empty"),
+    }
+}
+
+/// Its ticket.
+pub fn told_ticket(global: Global, ticket: Option<Ticket>) -> Result<String, AllocError>
+    ensures { IfOk result (λ text. string_bytes text ≡ text_of_ticket ticket) }
+{
+    match ticket {
+        Some(ticket) => {
+            let line = TicketLine(ticket);
+            format!(in global; "{line}")
+        }
+        None => String::from_str(global, "none"),
+    }
+}
+
+/// A vCPU that is loaded.
+#[derive(Clone, Copy)]
+struct LoadedLine(Loaded);
+
+impl fmt::Display for LoadedLine {
+    ghost output = { λ line. Some (text_of_loaded (Some line.0)) };
+
+    fn fmt<W: fmt::Write>(&self, f: &mut fmt::Formatter<W>) -> fmt::Result {
+        write!(f, "{} vcpu {}", self.0.vm, self.0.vcpu)
+    }
+}
+
+/// A hand that isn't empty.
+#[derive(Clone, Copy)]
+struct HandLine(PageRange);
+
+impl fmt::Display for HandLine {
+    ghost output = { λ line. Some (text_of_hand (Some line.0)) };
+
+    fn fmt<W: fmt::Write>(&self, f: &mut fmt::Formatter<W>) -> fmt::Result {
+        write!(f, "0x{:x} {}", self.0.first.0, self.0.count)
+    }
+}
+
+/// A ticket that a CPU has.
+#[derive(Clone, Copy)]
+struct TicketLine(Ticket);
+
+impl fmt::Display for TicketLine {
+    ghost output = { λ line. Some (text_of_ticket (Some line.0)) };
+
+    fn fmt<W: fmt::Write>(&self, f: &mut fmt::Formatter<W>) -> fmt::Result {
+        let kind = kind_word(self.0.kind);
+        let stage = stage_word(self.0.stage);
+        write!(f, "{} {kind} {stage}", self.0.vm)
+    }
+}
+
+/// The word of a kind of VM.
+pub fn kind_word(kind: VmKind) -> &'static str
+    ensures { result.now ≡ text_of_kind kind }
+{
+    match kind {
+        VmKind::Protected => "protected",
+        VmKind::Plain => "plain",
+    }
+}
+
+fn stage_word(stage: Stage) -> &'static str
+    ensures { result.now ≡ text_of_stage stage }
+{
+    match stage {
+        Stage::Booked => "booked",
+        Stage::Installed => "installed",
+        Stage::ClosingVm => "closing",
+        Stage::DyingVm => "dying",
+        Stage::Finished => "finished",
+    }
+}
