@@ -32,6 +32,13 @@ code_of Black = codes "212529"
 code_of Pale = codes "e9ecef"
 code_of White = codes "ffffff"
 
+-- by how many degrees upright lines of a colour are turned: the host's rise, the hypervisor's fall, guests' are upright, and white ones rise
+abbrev pub angle_of : Colour → List ℕ
+angle_of Ice = codes "45"
+angle_of Orange = codes "-45"
+angle_of White = codes "45"
+angle_of other = codes "0"
+
 -- a paint: a colour, or a pattern by its name
 abbrev pub text_of_paint : Paint → List ℕ
 text_of_paint (Plain c) = codes "#" ++ code_of c
@@ -42,7 +49,8 @@ text_of_paint (Bars c) = codes "url(#bars" ++ code_of c ++ codes ")"
 -- the pattern of a paint; a plain one needs none
 abbrev pub text_of_pattern : Paint → List ℕ
 text_of_pattern (Plain c) = []
-text_of_pattern (Lines c) = codes "<pattern id='lines" ++ code_of c ++ codes "' width='5' height='5' patternUnits='userSpaceOnUse' patternTransform='rotate(45)'><rect width='2.4' height='5' fill='#" ++ code_of c ++ codes "'/></pattern>"
+text_of_pattern (Lines c) =
+    codes "<pattern id='lines" ++ code_of c ++ codes "' width='8' height='8' patternUnits='userSpaceOnUse' patternTransform='rotate(" ++ angle_of c ++ codes ")'><rect width='1.3' height='8' fill='#" ++ code_of c ++ codes "'/></pattern>"
 text_of_pattern (Dots c) = codes "<pattern id='dots" ++ code_of c ++ codes "' width='4' height='4' patternUnits='userSpaceOnUse'><circle cx='2' cy='2' r='1.2' fill='#" ++ code_of c ++ codes "'/></pattern>"
 text_of_pattern (Bars c) = codes "<pattern id='bars" ++ code_of c ++ codes "' width='4' height='4' patternUnits='userSpaceOnUse'><rect width='4' height='1.6' fill='#" ++ code_of c ++ codes "'/></pattern>"
 

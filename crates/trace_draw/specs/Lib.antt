@@ -3,5 +3,6 @@ pub mod Courses
 pub mod Items
 pub mod Laws
 pub mod Pictures
+pub mod Played
 pub mod Snapshots
 pub mod Texts

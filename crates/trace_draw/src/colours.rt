@@ -1,6 +1,6 @@
 //! The colours of owners.
 ghost use Rattle.std.specs.Prelude.{◌≡◌};
-ghost use Rattle.trace_draw.specs.Items.{code_of};
+ghost use Rattle.trace_draw.specs.Items.{angle_of, code_of};
 
 /// A colour of a picture.
 #[derive(Clone, Copy, PartialEq)]
@@ -43,6 +43,18 @@ impl Colour {
             Colour::Black => "212529",
             Colour::Pale => "e9ecef",
             Colour::White => "ffffff",
+        }
+    }
+
+    /// By how many degrees upright lines of a colour are turned: the host's rise, the hypervisor's fall, guests' are upright, and
+    /// white ones rise.
+    pub(crate) fn angle(self) -> &'static str
+        ensures { result.now ≡ angle_of self }
+    {
+        match self {
+            Colour::Ice | Colour::White => "45",
+            Colour::Orange => "-45",
+            _ => "0",
         }
     }
 }

@@ -1,11 +1,10 @@
 //! A trace that is run, and what is kept of it for a picture.
-ghost use Rattle.std.specs.Prelude.{◌≡◌, ◌+◌, ◌^◌, ◌<◌, ◌≤◌, IfOk, [], length, map, slice_index_or};
+ghost use Rattle.std.specs.Prelude.{◌≡◌, ◌+◌, ◌^◌, ◌<◌, ◌≤◌, IfOk, length, map};
 ghost use Rattle.trace_draw.specs.Courses.{Leads};
-ghost use Rattle.trace_text.specs.Oracles.{agreed};
+ghost use Rattle.trace_draw.specs.Played.{IsPlayedAt};
 ghost use Rattle.trace_text.specs.Ready.{IsReady};
-ghost use Rattle.trace_text.specs.Reports.{IsPlayed};
-ghost use Rattle.trace_text.specs.Session.{RunsLine, at_start};
-ghost use Rattle.trace_text.specs.View.{answer_of, standing_of};
+ghost use Rattle.trace_text.specs.Session.{at_start};
+ghost use Rattle.trace_text.specs.View.{standing_of};
 
 use crate::bands::{Band, bands_of};
 use std::alloc::{AllocError, Allocator, Global};
@@ -123,7 +122,7 @@ pub(crate) fn line_run<A: Allocator + Copy>(
     requires place { place < length lines.now }
     requires few { (standing_of session.old).steps ≤ place }
     requires ready { IsReady session.old }
-    ensures done { IsPlayed (RunsLine agreed) (place + 1) (slice_index_or (map (λ line. line.now) lines.now) place []) (standing_of session.old) (answer_of session.new result) (standing_of session.new) }
+    ensures done { IsPlayedAt lines.now place session.old result session.new }
     ensures steps { (standing_of session.new).steps ≤ place + 1 }
     ensures ready { IsReady session.new }
 {

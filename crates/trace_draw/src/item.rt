@@ -9,7 +9,7 @@ use std::fmt;
 #[derive(Clone, Copy)]
 pub enum Paint {
     Plain(Colour),
-    /// Lines from corner to corner: lent.
+    /// Thin lines: lent. How they are turned tells to whom.
     Lines(Colour),
     /// Dots: in the shared pool, or in a hand.
     Dots(Colour),
@@ -184,9 +184,10 @@ impl fmt::Display for Pattern {
             Paint::Plain(_) => Ok(()),
             Paint::Lines(colour) => {
                 let code = colour.code();
+                let angle = colour.angle();
                 write!(
                     f,
-                    "<pattern id='lines{code}' width='5' height='5' patternUnits='userSpaceOnUse' patternTransform='rotate(45)'><rect width='2.4' height='5' fill='#{code}'/></pattern>"
+                    "<pattern id='lines{code}' width='8' height='8' patternUnits='userSpaceOnUse' patternTransform='rotate({angle})'><rect width='1.3' height='8' fill='#{code}'/></pattern>"
                 )
             }
             Paint::Dots(colour) => {

@@ -255,9 +255,9 @@ fn add_legend(global: Global, items: &mut Vec<Item>, slots: &[u64]) -> Result<()
         MARGIN,
         54,
         lent,
-        b"the owner's colour, with lines in the borrower's: lent",
+        b"lent: thin lines, \\ to the hypervisor, / to the host, | to a guest",
     )?;
-    let mut x = 430;
+    let mut x = 520;
     for slot in slots {
         let name = format!(in global; "guest {slot}")?;
         entry(items, x, 54, owned(slot.saturating_add(2)), name.as_bytes())?;
