@@ -1,5 +1,5 @@
 -- No step of a trace releases a VM whose generation is the greatest u64.
-use Rattle.std.proofs.Common.{◌≡◌, ℕ, suc, ◌+◌, ◌<◌, ◌≤◌, ◌^◌, arith, false, inl, inr, refl, subst, sym, true, ◌⊎◌, List, [], ◌∷◌, length, take}
+use Rattle.std.proofs.Common.{◌≡◌, ℕ, ◌+◌, ◌<◌, ◌≤◌, ◌^◌, arith, false, inl, inr, refl, subst, sym, true, ◌⊎◌, List, [], ◌∷◌, length, take}
 use Rattle.std.proofs.lemmas.List.{length-take}
 use Rattle.page_state.proofs.Common.{both}
 use Rattle.page_state.specs.Layouts.{Layout}
@@ -14,7 +14,7 @@ use Rattle.race_outcomes.proofs.Counts.{order_few}
 use Rattle.race_outcomes.proofs.Told.{told_plain, told_want}
 use Rattle.trace_race.specs.Judged.{HasGenerationsTo}
 use Rattle.trace_race.proofs.Generations.{foretold_to, next_to, stays_to}
-use Rattle.trace_outcomes.specs.Races.{IsNoGeneration}
+use Rattle.trace_outcomes.specs.Made.{IsNoGeneration}
 use Rattle.std.specs.Prelude.{Option, Vec}
 use Rattle.std.specs.Global.{Global}
 

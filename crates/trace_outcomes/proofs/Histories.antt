@@ -1,10 +1,9 @@
 -- One legal history gives an outcome.
-use Rattle.std.proofs.Common.{◌≡◌, ◌≢◌, ℕ, suc, ◌<◌, ◌≤◌, ◌==◌, Bool, true, false, refl, sym, ap, subst, ◌∙◌, arith, inl, inr, ◌⊎◌, List, [], ◌∷◌, length, map, filter}
-use Rattle.std.specs.Prelude.{All, if◌then◌else◌}
+use Rattle.std.proofs.Common.{◌≡◌, ℕ, suc, ◌<◌, ◌≤◌, ◌==◌, true, false, refl, sym, ap, ◌∙◌, arith, inl, inr, ◌⊎◌, List, [], ◌∷◌, length, map, filter}
+use Rattle.std.specs.Prelude.{All}
 use Rattle.std.proofs.lemmas.Bool.{cases_lt}
 use Rattle.std.proofs.lemmas.List.Elements.{All-head, All-tail}
-use Rattle.page_state.proofs.Common.{both, eq-same, if-false, if-true}
-use Rattle.page_state.specs.Layouts.{Layout}
+use Rattle.page_state.proofs.Common.{both, eq-same}
 use Rattle.step_reply.specs.declared.reply.Call.{Call}
 use Rattle.step_reply.specs.declared.reply.Refusal.TheVariants as refusals
 use Rattle.step_reply.specs.declared.reply.Reply.{Reply}
@@ -12,10 +11,10 @@ use Rattle.step_reply.specs.declared.reply.Reply.TheVariants.{Done, Refused}
 use Rattle.step_reply.specs.declared.step.Step.{Step}
 use Rattle.reference_model.specs.Boot.{boot}
 use Rattle.reference_model.specs.History.{calls_by}
-use Rattle.race_outcomes.specs.Laws.{AreCalls, AreTheirs, IsPlain, answers_of}
+use Rattle.race_outcomes.specs.Laws.{AreTheirs, IsPlain, answers_of}
 use Rattle.race_outcomes.proofs.Runs.{runs_are_outcomes}
 use Rattle.trace_race.specs.declared.course.Asked.{Asked}
-use Rattle.trace_race.specs.Made.{OneHistory, answers_of as answers_asked, is_stored}
+use Rattle.trace_race.specs.Made.{answers_of as answers_asked, is_stored}
 use Rattle.trace_outcomes.specs.Laws.{HistoriesAreOutcomes, turns_told}
 
 -- a plain reply is stored

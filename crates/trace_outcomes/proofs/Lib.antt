@@ -1,6 +1,7 @@
 pub mod Generated
 pub mod Histories
 pub mod Noting
+pub mod Replies
 pub mod Taken
 pub mod Tells
 pub mod Texting

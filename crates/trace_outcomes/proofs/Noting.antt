@@ -1,12 +1,12 @@
 -- What is told of one step more.
-use Rattle.std.proofs.Common.{◌≡◌, ℕ, ◌<◌, List, ◌∙◌, refl, sym, ap, true, false, get_or, is_some, Vec, Global, Option, Some, None, Ok, map, length}
+use Rattle.std.proofs.Common.{◌≡◌, ℕ, ◌<◌, List, ◌∙◌, refl, sym, ap, true, false, get_or, is_some, Vec, Global, Option, Some, None, Ok, length}
 use Rattle.std.specs.Prelude.{option_map, slice_get, slice_set}
 use Rattle.std.proofs.lemmas.List.{map-set}
 use Rattle.std.proofs.lemmas.Option.{slice_get-map, slice_get_read}
 use Rattle.step_reply.specs.declared.step.Step.TheVariants.{Unfund}
 use Rattle.trace_race.specs.declared.course.Asked.{Asked}
 use Rattle.trace_outcomes.specs.Races.{texts_in}
-use Rattle.trace_outcomes.specs.Reports.{is_reply, put, put_at}
+use Rattle.trace_outcomes.specs.Reports.{is_reply, put}
 
 one_text : (texts : List (Option (Vec ℕ Global))) (place : ℕ) (v : Vec ℕ Global) → texts_in (slice_set texts place (Some v)) ≡ slice_set (texts_in texts) place (Some v.items)
 one_text texts place v = map-set (option_map (λ (x : Vec ℕ Global). x.items)) texts place (Some v)

@@ -18,9 +18,10 @@ use Rattle.trace_text.specs.Worlds.{Machine}
 use Rattle.trace_race.specs.declared.course.Asked.{Asked}
 use Rattle.trace_outcomes.specs.declared.making.Race.{Race}
 use Rattle.trace_outcomes.specs.declared.telling.Told.{Told}
-use Rattle.trace_outcomes.specs.Races.{HasMade, Texts, first_of, nothing_told, nothing_wanted, raced_of, texts_in, told_first, turns_raced}
+use Rattle.trace_outcomes.specs.Made.{HasMade}
+use Rattle.trace_outcomes.specs.Races.{Texts, first_of, nothing_told, nothing_wanted, raced_of, texts_in, told_first}
 use Rattle.trace_outcomes.specs.Texts.{all_said, none_said, order_said, otherwise_said, too_many_said}
-use Rattle.trace_outcomes.specs.Told.{OnBoot, TellsAll, TellsBehind, TellsClean, TellsObserved, TellsOrder, TellsRaced, TellsTooMany, TellsUnclean, first_apart, is_read}
+use Rattle.trace_outcomes.specs.Told.{TellsBehind, TellsClean, TellsObserved, TellsRaced, TellsTooMany, TellsUnclean, first_apart, is_read}
 use Rattle.trace_outcomes.proofs.Noting.{no_step}
 use Rattle.trace_outcomes.proofs.Turns.{moved, texts_before, texts_behind, texts_nothing, wanted_behind}
 

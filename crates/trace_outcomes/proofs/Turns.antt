@@ -1,5 +1,5 @@
 -- The steps of a trace before `start` and those after it.
-use Rattle.std.proofs.Common.{◌≡◌, ℕ, suc, ◌+◌, ◌<◌, ◌^◌, refl, sym, ap, subst, ◌∙◌, arith, List, [], ◌∷◌, length, map, take, drop, Option, None, Vec, Global}
+use Rattle.std.proofs.Common.{◌≡◌, ℕ, suc, ◌+◌, ◌<◌, ◌^◌, refl, sym, ap, subst, ◌∙◌, arith, List, [], ◌∷◌, length, take, drop, Option, None, Vec, Global}
 use Rattle.std.specs.Prelude.{All, option_map, slice_range}
 use Rattle.std.proofs.lemmas.List.{drop-map, length-drop, length-map, length-take, take-map}
 use Rattle.std.proofs.Math.Seq.{take-length}
@@ -20,7 +20,8 @@ use Rattle.trace_race.specs.Courses.{Asking, IsSound, in_order_of}
 use Rattle.trace_race.specs.Judged.{HasGenerationsTo}
 use Rattle.trace_text.specs.Worlds.{Machine}
 use Rattle.trace_outcomes.specs.declared.making.Race.{Race}
-use Rattle.trace_outcomes.specs.Races.{HasMade, IsReady, Texts, first_of, nothing_told, nothing_wanted, raced_of, texts_in, told_first, turns_of, turns_raced, wants}
+use Rattle.trace_outcomes.specs.Made.{HasMade, IsReady}
+use Rattle.trace_outcomes.specs.Races.{Texts, first_of, nothing_told, nothing_wanted, texts_in, told_first, turns_of, turns_raced, wants}
 use Rattle.trace_outcomes.proofs.Generated.{along_low}
 
 pub turns_below : (n : ℕ) (steps : List Asked) (texts : Texts) → All (λ a. a.cpu < n) steps → All (λ t. t.cpu < n) (turns_of steps texts)

@@ -1,13 +1,16 @@
--- What a race tells is an outcome (profile).
-use Rattle.std.specs.Prelude.{◌≡◌, ◌<◌, List, [], ◌∷◌, All, length}
+-- What a race tells is an outcome, and its replies are read (profile).
+use Rattle.std.specs.Prelude.{◌≡◌, ◌<◌, true, List, [], ◌∷◌, All, length, Some}
 use Rattle.page_state.specs.Layouts.{Layout}
 use Rattle.step_reply.specs.declared.reply.Reply.{Reply}
+use Rattle.step_reply.specs.Texts.{text_of_reply}
 use Rattle.reference_model.specs.Boot.{boot}
 use Rattle.race_outcomes.specs.declared.node.Turn.{Turn}
 use Rattle.race_outcomes.specs.Laws.{IsPlain, is_want}
 use Rattle.race_outcomes.specs.Orders.{IsOutcome}
 use Rattle.trace_race.specs.declared.course.Asked.{Asked}
 use Rattle.trace_race.specs.Made.{OneHistory}
+use Rattle.trace_outcomes.specs.Races.{wants}
+use Rattle.trace_outcomes.specs.Reports.{is_reply}
 
 -- steps with their replies, of which just those find no memory that are told `nomemory`
 abbrev pub turns_told : List Asked → List Reply → List Turn
@@ -18,3 +21,7 @@ turns_told (a ∷ more) (reply ∷ replies) = record { cpu = a.cpu; step = a.ste
 -- Replies of which there is one legal history are an outcome of all steps from the boot state on, in any order of the CPUs, unless one tells of a full log or of a part that was taken
 abbrev pub HistoriesAreOutcomes : Type 0
 HistoriesAreOutcomes = (l : Layout) (steps : List Asked) (replies : List Reply) → length replies ≡ length steps → All (λ a. a.cpu < l.config.cpus) steps → OneHistory l steps replies → All IsPlain replies → IsOutcome l (boot l) (turns_told steps replies) replies
+
+-- The text of each reply is read as that of a reply, and just `nomemory` as that of a step that finds no memory
+abbrev pub RepliesAreRead : Type 0
+RepliesAreRead = (r : Reply) → (is_reply (text_of_reply r) ≡ true) × (wants (Some (text_of_reply r)) ≡ is_want r)

@@ -1,20 +1,14 @@
 -- The steps of a trace before `start` and those after it (profile).
-use Rattle.std.specs.Prelude.{◌≡◌, ◌<◌, ℕ, ◌+◌, ◌^◌, Bool, false, List, [], ◌∷◌, All, codes, drop, length, map, take, Option, Some, None, option_map, Vec}
+use Rattle.std.specs.Prelude.{ℕ, Bool, false, List, [], ◌∷◌, codes, drop, map, take, Option, Some, None, option_map, Vec}
 use Rattle.std.specs.Global.{Global}
 use Rattle.std.specs.Str.{bytes_eq}
-use Rattle.page_state.specs.LayoutView.{layout_of}
 use Rattle.step_reply.specs.declared.reply.Reply.{Reply}
 use Rattle.reference_model.specs.State.{Reference}
-use Rattle.ghost_spec.specs.States.{contents_in, ghost_state}
-use Rattle.race_outcomes.specs.declared.finding.OutcomesFault.{OutcomesFault}
-use Rattle.race_outcomes.specs.declared.finding.OutcomesFault.TheVariants.{Generation}
 use Rattle.race_outcomes.specs.declared.node.Turn.{Turn}
 use Rattle.race_outcomes.specs.Orders.{told_along}
 use Rattle.trace_race.specs.declared.course.Asked.{Asked}
 use Rattle.trace_race.specs.Courses.{Asking, in_order_of}
-use Rattle.trace_race.specs.Judged.{HasGenerationsTo}
 use Rattle.trace_text.specs.Worlds.{Machine}
-use Rattle.trace_outcomes.specs.declared.making.Race.{Race}
 
 -- what is told of each step of a trace, where anything is: the text of its reply
 abbrev pub Texts : Type 0
@@ -56,22 +50,3 @@ turns_raced a texts = turns_of (raced_of a) (drop (in_order_of a) texts)
 -- what the model tells the steps before `start`, made in order, and the state after them
 abbrev pub told_first : Machine → Asking → Texts → List Reply × Reference
 told_first m a texts = told_along m.layout m.state (turns_of (first_of a) (take (in_order_of a) texts))
-
--- the steps that are to be made at once are of CPUs that there are, something or nothing is wanted of each, each before them has its reply, and no generation is near the last
-pub record IsReady (a : Asking) (wanted : List (Option (Vec ℕ Global))) (r : Race) : Type 0 where
-  pub cpus : All (λ t. t.cpu < r.state.layout.config.cpus) r.turns.items
-  pub count : length wanted ≡ length r.turns.items
-  pub replies : length r.replies.items ≡ length (first_of a)
-  pub few : length (first_of a) + length r.turns.items < 2 ^ 63
-  pub low : HasGenerationsTo (1 + length (first_of a)) (contents_in r.state)
-
--- why outcomes aren't told, but for a generation that would be no number of 64 bits
-abbrev pub IsNoGeneration : OutcomesFault → Type 0
-IsNoGeneration Generation = ⊥
-IsNoGeneration other = Unit {0}
-
--- they are made, and those after `start` are to be made now
-pub record HasMade (m : Machine) (a : Asking) (texts : Texts) (r : Race) : Type 0 where
-  pub told : (r.replies.items, ghost_state r.state) ≡ told_first m a texts
-  pub layout : layout_of r.state.layout ≡ m.layout
-  pub turns : r.turns.items ≡ turns_raced a texts

@@ -19,9 +19,8 @@ use Rattle.trace_text.specs.declared.session.Stop.TheVariants as stops
 use Rattle.trace_text.specs.Session.{IsNoWorld}
 use Rattle.trace_text.specs.Texts.{text_of_report}
 use Rattle.trace_text.specs.Worlds.{IsBootOf, Machine}
-use Rattle.trace_outcomes.specs.declared.making.Race.{Race}
 use Rattle.trace_outcomes.specs.declared.telling.Told.{Told}
-use Rattle.trace_outcomes.specs.Races.{HasMade, Texts, first_of, nothing_told, nothing_wanted, raced_of, texts_in, told_first, turns_raced}
+use Rattle.trace_outcomes.specs.Races.{Texts, first_of, nothing_told, nothing_wanted, raced_of, texts_in, told_first, turns_raced}
 use Rattle.trace_outcomes.specs.Reports.{told_in}
 use Rattle.trace_outcomes.specs.Texts.{all_said, end_said, none_said, order_said, otherwise_said, too_many_said}
 
@@ -115,10 +114,6 @@ module _ (m : Machine) (a : Asking) (texts : Texts) where
   abbrev pub TellsObserved : ℕ → Told → Type 0
   TellsObserved limit t =
       MatchOption (first_apart (first_of a) (told_first m a texts).0 (take (in_order_of a) texts)) (TellsBehind limit t) (λ x. TellsUnclean (otherwise_said x.0 (text_of_reply x.1)) t)
-
--- what is told of each machine at whose state before the steps after `start` a race stands
-abbrev pub OnMade : (Machine → Asking → Texts → Told → Type 0) → Asking → Texts → Race → Told → Type 0
-OnMade Tells a texts r t = (m : Machine) → HasMade m a texts r → Tells m a texts t
 
 -- what is told of what a report tells, or the place of its fault
 abbrev pub TellsBy : ℕ → Asking → Result Texts (List ℕ) → Told → Type 0

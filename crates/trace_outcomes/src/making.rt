@@ -7,7 +7,8 @@ ghost use Rattle.trace_lines.specs.Settings.{config_of};
 ghost use Rattle.trace_race.specs.Booted.{machine_in};
 ghost use Rattle.trace_race.specs.Courses.{IsSound, course_in, in_order_of};
 ghost use Rattle.trace_race.specs.Judged.{HasGenerationsTo};
-ghost use Rattle.trace_outcomes.specs.Races.{HasMade, IsReady, nothing_wanted, texts_in, turns_of as turns_by, wants as wants_by};
+ghost use Rattle.trace_outcomes.specs.Made.{HasMade, IsReady};
+ghost use Rattle.trace_outcomes.specs.Races.{nothing_wanted, texts_in, turns_of as turns_by, wants as wants_by};
 
 use ghost_spec::state::Ghost;
 use race_outcomes::{OutcomesFault, Turn, first_steps};

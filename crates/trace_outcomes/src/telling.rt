@@ -7,9 +7,10 @@ ghost use Rattle.ghost_spec.specs.States.{contents_in};
 ghost use Rattle.trace_race.specs.Booted.{machine_in};
 ghost use Rattle.trace_race.specs.Judged.{HasGenerationsTo};
 ghost use Rattle.trace_race.specs.Courses.{IsSound, course_in, course_of, in_order_of, nothing_asked};
-ghost use Rattle.trace_outcomes.specs.Races.{IsNoGeneration, IsReady, first_of, nothing_wanted, raced_of, texts_in};
+ghost use Rattle.trace_outcomes.specs.Made.{IsNoGeneration, IsReady, OnMade};
+ghost use Rattle.trace_outcomes.specs.Races.{first_of, nothing_wanted, raced_of, texts_in};
 ghost use Rattle.trace_outcomes.specs.Texts.{all_said, end_said, none_said, order_said, otherwise_said, too_many_said};
-ghost use Rattle.trace_outcomes.specs.Told.{OnMade, TellsBehind, TellsBy, TellsClean, TellsFault, TellsObserved, TellsOutcomes, TellsRaced, TellsReported, TellsUnclean, first_apart as first_apart_of, is_read};
+ghost use Rattle.trace_outcomes.specs.Told.{TellsBehind, TellsBy, TellsClean, TellsFault, TellsObserved, TellsOutcomes, TellsRaced, TellsReported, TellsUnclean, first_apart as first_apart_of, is_read};
 
 use crate::booting::boot_state;
 use crate::making::{Race, first_made, nothing_told};
@@ -26,15 +27,17 @@ use trace_race::{Asked, Course};
 use trace_reader::Outcome;
 use trace_text::{Fault, Stop};
 
-/// What is told of a trace whose steps are made at once.
+/// What is told of a trace whose steps after `start` are made at once.
 #[derive(Drop)]
 pub struct Told {
     pub text: Vec<u8>,
+    /// Clean where all outcomes are told, or an order; Fault where the trace or the report has a fault; Disagreed otherwise.
     pub outcome: Outcome,
-    /// The trace's fault, and the number of its line.
+    /// The trace's fault, and the number of its line, where it has one.
     pub fault: Option<(u64, Fault)>,
 }
 
+/// A fault of the trace.
 fn faulty(global: Global, line: u64, fault: Fault) -> Result<Told, AllocError>
     ensures { IfOk result (TellsFault line fault) }
 {
@@ -47,6 +50,7 @@ fn faulty(global: Global, line: u64, fault: Fault) -> Result<Told, AllocError>
     })
 }
 
+/// A text that is clean.
 fn clean(text: Vec<u8>) -> Told
     ensures { TellsClean text.items result }
 {
@@ -57,6 +61,7 @@ fn clean(text: Vec<u8>) -> Told
     }
 }
 
+/// A text that isn't.
 fn unclean(text: Vec<u8>) -> Told
     ensures { TellsUnclean text.items result }
 {
@@ -67,6 +72,7 @@ fn unclean(text: Vec<u8>) -> Told
     }
 }
 
+/// Why outcomes aren't told.
 fn too_many(global: Global, fault: OutcomesFault) -> Result<Told, AllocError>
     requires { IsNoGeneration fault }
     ensures { IfOk result (λ t. (made : ℕ) × (fault ≡ OutcomesFault.TooMany made) × TellsUnclean (too_many_said made) t) }
@@ -82,7 +88,9 @@ fn too_many(global: Global, fault: OutcomesFault) -> Result<Told, AllocError>
     }
 }
 
-/// Tells all outcomes of a trace.
+/// Tells what the steps of a trace may be told: those before `start` in order, and those after it in any order that keeps each
+/// CPU's own. Each list of replies is told once, with an order that gives it. Where orders of some number of steps lead to more
+/// points than `limit`, which are states with the replies so far, that is the whole text. Err where memory was refused.
 pub fn tell_outcomes(global: Global, trace: &[u8], limit: usize) -> Result<Told, AllocError>
     ensures { IfOk result (TellsOutcomes limit (course_of 1 nothing_asked (lines_of trace.now))) }
 {
@@ -92,6 +100,7 @@ pub fn tell_outcomes(global: Global, trace: &[u8], limit: usize) -> Result<Told,
     }
 }
 
+/// Nothing boots.
 fn idle(global: Global) -> Result<Told, AllocError>
     ensures { IfOk result (TellsClean (end_said 0 0)) }
 {
@@ -100,6 +109,7 @@ fn idle(global: Global) -> Result<Told, AllocError>
     Ok(clean(text))
 }
 
+/// All outcomes of what a trace asks for.
 fn outcomes_of(global: Global, course: &Course, limit: usize) -> Result<Told, AllocError>
     requires { IsSound (course_in course.now) }
     ensures { IfOk result (TellsOutcomes limit (Ok (course_in course.now))) }
@@ -119,6 +129,7 @@ fn outcomes_of(global: Global, course: &Course, limit: usize) -> Result<Told, Al
     }
 }
 
+/// The same from the boot state.
 fn all_from(global: Global, state: Ghost, course: &Course, limit: usize) -> Result<Told, AllocError>
     requires sound { IsSound (course_in course.now) }
     requires config { state.layout.config ≡ config_of (course_in course.now).told }
@@ -132,6 +143,7 @@ fn all_from(global: Global, state: Ghost, course: &Course, limit: usize) -> Resu
     }
 }
 
+/// The same once the steps before `start` are made.
 fn all_of(
     global: Global,
     race: &Race,
@@ -157,6 +169,7 @@ fn all_of(
     }
 }
 
+/// Tells all outcomes.
 fn all_told(
     global: Global,
     race: &Race,
@@ -181,7 +194,9 @@ fn all_told(
     Ok(clean(text))
 }
 
-/// Tells whether some order of a trace's steps gives the replies of a report.
+/// Tells an order of a trace's steps after `start` that gives the replies of a report, or that none does, or the first step before
+/// `start` of which the report tells something else than the model. `name` is the report's file, for the place of its first fault.
+/// A step of which it tells nothing may be told anything but `nomemory`. Too many points, and Err, are as for all outcomes.
 pub fn tell_order(
     global: Global,
     trace: &[u8],
@@ -197,6 +212,7 @@ pub fn tell_order(
     }
 }
 
+/// An order of what a trace asks for that gives the replies of a report.
 fn order_of(
     global: Global,
     course: &Course,
@@ -218,6 +234,7 @@ fn order_of(
     }
 }
 
+/// Nothing boots, so no step is made.
 fn idle_order(global: Global) -> Result<Told, AllocError>
     ensures { IfOk result (TellsClean (order_said [] [])) }
 {
@@ -226,6 +243,7 @@ fn idle_order(global: Global) -> Result<Told, AllocError>
     Ok(clean(text))
 }
 
+/// An order that gives what is told of each step.
 fn order_by(
     global: Global,
     course: &Course,
@@ -251,6 +269,7 @@ fn order_by(
     }
 }
 
+/// The same from the boot state.
 fn order_from(
     global: Global,
     state: Ghost,
@@ -270,6 +289,7 @@ fn order_from(
     }
 }
 
+/// Tells that a step before `start` was told something else.
 fn otherwise(global: Global, line: u64, reply: Reply) -> Result<Told, AllocError>
     ensures { IfOk result (TellsUnclean (otherwise_said line (text_of_reply reply))) }
 {
@@ -279,6 +299,7 @@ fn otherwise(global: Global, line: u64, reply: Reply) -> Result<Told, AllocError
     Ok(unclean(text))
 }
 
+/// The same once the steps before `start` are made.
 fn order_in(
     global: Global,
     race: &Race,
@@ -331,6 +352,7 @@ fn order_behind(
     }
 }
 
+/// Tells an order.
 fn order_told(global: Global, course: &Course, order: &[usize]) -> Result<Told, AllocError>
     requires { IsSound (course_in course.now) }
     ensures { IfOk result (TellsClean (order_said (raced_of (course_in course.now)) order.now)) }
@@ -342,6 +364,7 @@ fn order_told(global: Global, course: &Course, order: &[usize]) -> Result<Told, 
     Ok(clean(text))
 }
 
+/// Tells that there is none.
 fn none_told(global: Global) -> Result<Told, AllocError>
     ensures { IfOk result (TellsUnclean none_said) }
 {

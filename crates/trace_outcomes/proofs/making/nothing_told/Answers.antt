@@ -1,4 +1,4 @@
-use Rattle.std.proofs.Common.{◌≡◌, ◌+◌, ◌++◌, ◌∙◌, ◌∷◌, [], None, ap, drop, sym, rules}
+use Rattle.std.proofs.Common.{◌+◌, ◌++◌, ◌∙◌, ◌∷◌, [], None, ap, drop, sym, rules}
 use Rattle.std.proofs.lemmas.List.{append_assoc, at_drop_more}
 use Rattle.trace_outcomes.specs.Races.{nothing_wanted}
 use Rattle.trace_outcomes.proofs.Noting.{no_step}

@@ -1,4 +1,4 @@
-use Rattle.std.proofs.Common.{◌≡◌, ◌∙◌, rules, sym, subst, true, Option, Some, None, Ok, List, ℕ, Vec, Global}
+use Rattle.std.proofs.Common.{◌≡◌, ◌∙◌, rules, sym, subst, true, Option, Some, None, Ok, ℕ, Vec, Global}
 use Rattle.std.specs.Prelude.{slice_get, slice_set}
 use Rattle.trace_outcomes.specs.Races.{texts_in}
 use Rattle.trace_outcomes.specs.Reports.{is_reply, put}

@@ -1,7 +1,7 @@
 use Rattle.std.proofs.Common.{◌+◌, ◌∙◌, [], ap, arith, map, refl, sym, Err}
 use Rattle.std.proofs.lemmas.List.{get_or-map, length-map}
 use Rattle.trace_race.specs.Courses.{course_in}
-use Rattle.trace_race.proofs.Readings.{takes_fault, takes_line}
+use Rattle.trace_race.proofs.Readings.{takes_fault}
 use Rattle.trace_outcomes.proofs.Taken.{fault_line, one_line, past_line}
 use Rattle.trace_outcomes.proofs.reading.read_lines.Goals as goal
 

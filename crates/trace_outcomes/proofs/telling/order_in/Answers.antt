@@ -1,4 +1,4 @@
-use Rattle.std.proofs.Common.{◌≡◌, ◌∙◌, ap, sym, take, Some, None}
+use Rattle.std.proofs.Common.{◌∙◌, ap, sym, take, Some, None}
 use Rattle.trace_text.proofs.ReplayLemmas.{mapped}
 use Rattle.trace_race.specs.Courses.{course_in}
 use Rattle.trace_outcomes.specs.Races.{texts_in}
