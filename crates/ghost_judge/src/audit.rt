@@ -1,13 +1,12 @@
 //! Compares what is kept with what was found from scratch. It takes no memory.
 ghost use Rattle.std.specs.Prelude.{◌≡◌, ℕ, ◌↔◌, All, None, IfSome, length};
 ghost use Rattle.page_state.specs.Rows.{HasPageBelow};
-ghost use Rattle.page_state.specs.Runs.{map_of};
 ghost use Rattle.run_list.specs.Runs.{AreInReach};
 ghost use Rattle.ghost_trees.specs.KeptTrees.{IsKeptTree};
 ghost use Rattle.ghost_spec.specs.States.{contents_in};
 ghost use Rattle.ghost_spec.specs.Views.{row_in};
 ghost use Rattle.ghost_judge.specs.Audits.{AreMapsKept, AuditAgrees, IsFirstDifference};
-ghost use Rattle.ghost_judge.specs.inner.Found.{IsFound, IsMapDifference, IsRowDifference, IsGuestDifference, guest_map};
+ghost use Rattle.ghost_judge.specs.inner.Found.{IsFound, IsFoundInTrees, IsRowDifference, IsGuestDifference, guest_map};
 
 use crate::difference::first_apart;
 use crate::disagreement::{Disagreement, TreeOf};
@@ -57,7 +56,7 @@ pub fn audit_lists(kept: &GhostLists, walked: &GhostLists) -> Option<Disagreemen
 pub(crate) fn in_trees(tree: TreeOf, kept: &Tree, walked: &Tree) -> Option<Disagreement>
     requires kept { IsKeptTree kept.now }
     requires walked { IsKeptTree walked.now }
-    ensures { IsFound (map_of kept.now.runs.items ≡ map_of walked.now.runs.items) (IsMapDifference tree (map_of kept.now.runs.items) (map_of walked.now.runs.items)) result }
+    ensures { IsFoundInTrees tree kept.now walked.now result }
 {
     if kept.runs.is_empty() && walked.runs.is_empty() {
         return None;

@@ -13,7 +13,7 @@ ghost use Rattle.table_tree.specs.Reading.{count_of};
 ghost use Rattle.table_tree.specs.View.{tree_of};
 ghost use Rattle.ghost_spec.specs.Views.{row_in, shared_in_lists};
 ghost use Rattle.hypercalls.specs.Stands.{parts_layout, state_of, HasHistory};
-ghost use Rattle.ghost_oracle.specs.Compared.{walked_in};
+ghost use Rattle.ghost_oracle.specs.Compared.{IsCompared};
 ghost use Rattle.ghost_oracle.specs.Counted.{HasRead, shared_tables, tables_of_parts};
 ghost use Rattle.ghost_oracle.specs.Found.{found_state, walked_state, with_row, HasRowsOf, SaysMaplets, SaysRows};
 ghost use Rattle.ghost_oracle.specs.Low.{IsLowCpu};
@@ -242,14 +242,7 @@ pub fn kept_and_walked<A: Allocator>(
     reads: &mut Reads,
 ) -> Result<Compared, AllocError>
     requires history { ∥ HasHistory parts.now ∥₁ }
-    ensures state { IfOk result (λ c. ghost_state c.kept ≡ state_of parts.now) }
-    ensures layout { IfOk result (λ c. layout_of c.kept.layout ≡ parts_layout parts.now) }
-    ensures maplets { IfOk result (λ c. SaysMaplets parts.now c.kept) }
-    ensures rows { IfOk result (λ c. SaysRows parts.now c.kept) }
-    ensures frames { IfOk result (λ c. HasRowsOf (parts_layout parts.now) c.kept) }
-    ensures walked { IfOk result (λ c. ghost_state (walked_in c) ≡ walked_state (parts_layout parts.now) (state_of parts.now)) }
-    ensures walked_layout { IfOk result (λ c. layout_of (walked_in c).layout ≡ parts_layout parts.now) }
-    ensures walked_frames { IfOk result (λ c. HasRowsOf (parts_layout parts.now) (walked_in c)) }
+    ensures compared { IfOk result (IsCompared parts.now) }
     ensures reads { OnOk result (HasRead (count_of reads.old) (tables_of_parts parts.now) (count_of reads.new)) }
 {
     let found = found(alloc, parts, reads)?;

@@ -20,6 +20,7 @@ use Rattle.ghost_spec.specs.declared.lists.GhostLists.{GhostLists}
 use Rattle.ghost_spec.specs.RowsFound.{owner_or}
 use Rattle.ghost_spec.specs.States.{contents_in}
 use Rattle.ghost_trees.specs.Trees.{tree_in_lists}
+use Rattle.ghost_spec.specs.Views.{shared_in_lists}
 use Rattle.ghost_rows.specs.RowsLaid.{first_some, guests_in, cpus_in, annotated_row, loan_at, guest_loan, guests_loan, any_loan, used_row, used_if, guest_use, hand_use, guests_use, hands_use, any_use}
 use Rattle.ghost_rows.specs.RowsTold.{lent_told, usage_told, number_told, is_of_host, owner_told, row_told}
 
@@ -165,7 +166,7 @@ module _ (l : Layout) (g : GhostLists) (f : ℕ) (guests : length g.guests.items
       ∙ owner-by l (contents_in g) f (map_of g.shared.host.runs.items f)
 
   abbrev used : Option Row
-  used = any_use l g.shared.free.items (tree_in_lists g.shared.host) (tree_in_lists g.shared.hyp) g.guests.items g.cpus.items f
+  used = any_use l (shared_in_lists g.shared) g.guests.items g.cpus.items f
 
   abbrev in_pool : ℕ → Bool
   in_pool v = is_free (guests_in g.guests.items v).free f || is_table_frame l (guests_in g.guests.items v).tree f

@@ -35,7 +35,7 @@ use Rattle.ghost_spec.specs.States.{guest_in}
 use Rattle.ghost_spec.specs.Views.{cpu_in}
 use Rattle.ghost_trees.proofs.Overlaid.{within_means}
 use Rattle.ghost_spec.proofs.RowsKept.{reach-by, reach-set, small-map, none-some, some-same}
-use Rattle.ghost_rows.specs.RowsLaid.{first_some, guests_in, cpus_in, annotated_row, annotation_on, loan_row, loan_at, target_frames, run_frames, guest_loan, used_row, used_if, guest_use, hand_use}
+use Rattle.ghost_rows.specs.RowsLaid.{first_some, guests_in, cpus_in, annotated_row, annotation_on, loan_row, loan_at, low_page, run_below, target_frames, run_frames, guest_loan, used_row, used_if, guest_use, hand_use}
 
 pub reach-laid : (rs ss : List (Run Row)) (first count : ℕ) (row : Option Row) → run_map advance_row ss ≡ map_updated advance_row (run_map advance_row rs) first count row → IsCoarsest advance_row ss → AreInReach HasPageBelow rs → first + count ≤ 2 ^ 63 → ForSome row (λ r. HasPageBelow r count) → AreInReach HasPageBelow ss
 reach-laid rs ss first count (Some row) e c h low small = reach-set rs ss first count row e c h low (small row refl)
@@ -133,6 +133,19 @@ lent-one number f m n row r s frames some is laid =
 pub loan-or : (number : ℕ) (a b : Option ℕ) (o : Option Row) → option_or (loan_at number a) (option_or (loan_at number b) o) ≡ option_or (loan_at number (option_or a b)) o
 loan-or number None b o = refl
 loan-or number (Some a) b o = refl
+
+-- the loans of one run more, written over those of the runs behind it
+pub back-more : (number limit : ℕ) (s : State) (f : ℕ) (rs : List PageRun) (i : ℕ) (d : PageRun) (new before old : Option Row) → 0 < i → i ≤ length rs
+    → new ≡ option_or (loan_at number (run_page f s (run_below limit (get_or rs (i - 1) d)))) before → before ≡ option_or (loan_at number (low_page limit s f (drop i rs))) old
+    → new ≡ option_or (loan_at number (low_page limit s f (drop (i - 1) rs))) old
+back-more number limit s f rs i d new before old some within h k =
+    let r : PageRun = get_or rs (i - 1) d in
+    h ∙ ap (λ o. option_or (loan_at number (run_page f s (run_below limit r))) o) k ∙ either (run_page f s (run_below limit r)) (low_page limit s f (drop i rs))
+    ∙ ap (λ (ps : List PageRun). option_or (loan_at number (low_page limit s f ps)) old) (sym (drop-back rs i d some within))
+  where
+    either : (a b : Option ℕ) → option_or (loan_at number a) (option_or (loan_at number b) old) ≡ option_or (loan_at number (option_or a b)) old
+    either None b = refl
+    either (Some a) b = refl
 
 -- the guests and the CPUs of lists
 

@@ -1,5 +1,5 @@
 -- What lists of rows tell of frames, each of one thing: annotations, loans or uses.
-use Rattle.std.specs.Prelude.{ℕ, zero, suc, ◌+◌, ◌-◌, ◌||◌, Bool, false, nat_lt, min, List, [], ◌∷◌, get_or, map, length, All, Option, Some, None, option_map, if◌then◌else◌}
+use Rattle.std.specs.Prelude.{◌≡◌, ℕ, zero, suc, ◌+◌, ◌-◌, ◌<◌, ◌^◌, ◌||◌, Bool, true, false, nat_lt, min, List, [], ◌∷◌, drop, get_or, map, length, slice_index, All, Option, Some, None, option_map, if◌then◌else◌}
 use Rattle.std.specs.Option.{option_or}
 use Rattle.descriptor.specs.declared.State.{State}
 use Rattle.descriptor.specs.declared.State.TheVariants.{SharedBorrowed}
@@ -14,19 +14,43 @@ use Rattle.page_state.specs.declared.row.Usage.{Usage}
 use Rattle.page_state.specs.declared.row.Usage.TheVariants.{Plain, SharedPool, VmPool, InHand}
 use Rattle.page_state.specs.Entries.{entry_of_target}
 use Rattle.page_state.specs.EntryTests.{state_eq}
-use Rattle.page_state.specs.Layouts.{Layout}
+use Rattle.page_state.specs.Geometries.{pages_below}
+use Rattle.page_state.specs.Layouts.{Layout, is_memory}
 use Rattle.page_state.specs.Regions.{end_of, is_in_range}
+use Rattle.page_state.specs.Rows.{advance_row}
 use Rattle.page_state.specs.Runs.{entry_on, run_end}
-use Rattle.page_state.specs.Map.{Map}
+use Rattle.page_state.specs.Map.{Map, is_within}
 use Rattle.page_state.specs.Trees.{Tree, Pool}
-use Rattle.reference_model.specs.Owner.{page_of, lent_at, is_free, is_table_frame, is_in_hand}
-use Rattle.reference_model.specs.State.{Guest, Cpu, no_guest, no_cpu}
+use Rattle.reference_model.specs.Owner.{page_of, lent_at, is_free, is_table_frame, is_in_hand, row_of}
+use Rattle.reference_model.specs.State.{Contents, Shared, Guest, Cpu, no_guest, no_cpu}
+use Rattle.run_list.specs.declared.run.Run.{Run as RowRun}
+use Rattle.run_list.specs.Runs.{run_map}
 use Rattle.ghost_spec.specs.declared.cpu.GhostCpu.{GhostCpu}
 use Rattle.ghost_spec.specs.declared.parts.GhostGuest.{GhostGuest}
 use Rattle.ghost_spec.specs.Found.{run_page}
 use Rattle.ghost_trees.specs.KeptTrees.{IsKeptTree}
 use Rattle.ghost_spec.specs.States.{guest_in}
 use Rattle.ghost_spec.specs.Views.{cpu_in}
+
+-- a list tells these rows of the frames
+abbrev pub HasRows : List (RowRun Row) → (ℕ → Option Row) → Type 0
+HasRows runs row = (f : ℕ) → run_map advance_row runs f ≡ row f
+
+-- it does of the frames that may be memory
+abbrev pub HasLowRows : List (RowRun Row) → (ℕ → Option Row) → Type 0
+HasLowRows runs row = (f : ℕ) → f < 2 ^ 26 → run_map advance_row runs f ≡ row f
+
+-- rows are written over those of a list: where there are none, the list's stay
+abbrev pub IsLaidOver : List (RowRun Row) → List (RowRun Row) → (ℕ → Option Row) → Type 0
+IsLaidOver old new row = HasRows new (λ f. option_or (row f) (run_map advance_row old f))
+
+-- so it is of the frames that may be memory
+abbrev pub IsLaidOverLow : List (RowRun Row) → List (RowRun Row) → (ℕ → Option Row) → Type 0
+IsLaidOverLow old new row = HasLowRows new (λ f. option_or (row f) (run_map advance_row old f))
+
+-- the row from scratch of each memory frame, and none of others
+abbrev pub rows_of : Layout → Contents → ℕ → Option Row
+rows_of l s f = elim (is_memory l f) [ true ↦ Some (row_of l s f) | false ↦ None ]
 
 -- the first of the `n` options from a number on that has a value
 unfoldable pub first_some : {X : Type 0} → ℕ → ℕ → (ℕ → Option X) → Option X
@@ -75,6 +99,18 @@ abbrev pub low_page : ℕ → State → ℕ → List Run → Option ℕ
 low_page limit s f [] = None
 low_page limit s f (r ∷ rs) = option_or (run_page f s (run_below limit r)) (low_page limit s f rs)
 
+-- lent to the component of a number, at the input page of a run that maps the frame in the state
+abbrev pub run_loan : Layout → ℕ → State → Run → ℕ → Option Row
+run_loan l number s r f = loan_at number (run_page f s (run_below (pages_below l.depth) r))
+
+-- lent so at that of the first of runs that has one
+abbrev pub runs_loan : Layout → ℕ → State → List Run → ℕ → Option Row
+runs_loan l number s rs f = loan_at number (low_page (pages_below l.depth) s f rs)
+
+-- lent so at the first page that maps the frame in the state
+abbrev pub map_loan : Layout → ℕ → State → Map → ℕ → Option Row
+map_loan l number s m f = loan_at number (page_of l m s f)
+
 -- a target is a leaf in the state
 abbrev pub is_leaf_in : State → Target → Bool
 is_leaf_in s (Leaf frame prot kind own) = state_eq own s
@@ -105,7 +141,7 @@ last_above limit s high (r ∷ rs) = elim (next_above high (run_frames s (run_be
 
 -- lent to a guest, where it maps the frame in the state
 abbrev pub guest_loan : Layout → (ℕ → Guest) → State → ℕ → ℕ → Option Row
-guest_loan l guest s f v = loan_at (2 + v) (page_of l (guest v).tree.map s f)
+guest_loan l guest s f v = map_loan l (2 + v) s (guest v).tree.map f
 
 -- lent to the first of the guests that maps the frame in the state
 abbrev pub guests_loan : Layout → List GhostGuest → State → ℕ → Option Row
@@ -113,7 +149,7 @@ guests_loan l gs s f = first_some 0 (length gs) (guest_loan l (guests_in gs) s f
 
 -- lent to the first of the host, the hypervisor and the guests that borrows the frame
 abbrev pub any_loan : Layout → Map → Map → List GhostGuest → ℕ → Option Row
-any_loan l host hyp gs f = option_or (loan_at 0 (page_of l host SharedBorrowed f)) (option_or (loan_at 1 (page_of l hyp SharedBorrowed f)) (guests_loan l gs SharedBorrowed f))
+any_loan l host hyp gs f = option_or (map_loan l 0 SharedBorrowed host f) (option_or (map_loan l 1 SharedBorrowed hyp f) (guests_loan l gs SharedBorrowed f))
 
 -- a use, as a row
 abbrev pub used_row : Usage → Row
@@ -123,9 +159,25 @@ used_row u = record { owner = record { 0 = 0 }; lent = None; usage = u }
 abbrev pub used_if : Bool → Usage → Option Row
 used_if test u = if test then Some (used_row u) else None
 
+-- the frames that may be memory and pass a test get a use, and the others keep what they had
+abbrev pub AreUsed : List (RowRun Row) → List (RowRun Row) → (ℕ → Bool) → Usage → Type 0
+AreUsed old new picks u = IsLaidOverLow old new (λ f. used_if (picks f) u)
+
+-- the frames of a list from a place up to another are that of the first place and those right after it
+abbrev pub AreTogether : List ℕ → ℕ → ℕ → Type 0
+AreTogether frames start end = (f : ℕ) → is_free (drop start frames) f ≡ (is_within (slice_index frames start) (end - start) f || is_free (drop end frames) f)
+
+-- free in a pool, or a table of its tree
+abbrev pub is_pool_frame : Layout → Pool → Tree → ℕ → Bool
+is_pool_frame l free tree f = is_free free f || is_table_frame l tree f
+
+-- free in the shared pool, or a table of the host's tree or the hypervisor's
+abbrev pub is_shared_frame : Layout → Shared → ℕ → Bool
+is_shared_frame l s f = is_free s.free f || is_table_frame l s.host f || is_table_frame l s.hyp f
+
 -- free in the guest's pool, or a table of its tree
 abbrev pub guest_use : Layout → (ℕ → Guest) → ℕ → ℕ → Option Row
-guest_use l guest f v = used_if (is_free (guest v).free f || is_table_frame l (guest v).tree f) (VmPool v)
+guest_use l guest f v = used_if (is_pool_frame l (guest v).free (guest v).tree f) (VmPool v)
 
 -- in the hand of a CPU
 abbrev pub hand_use : (ℕ → Cpu) → ℕ → ℕ → Option Row
@@ -140,5 +192,5 @@ abbrev pub guests_use : Layout → List GhostGuest → ℕ → Option Row
 guests_use l gs f = first_some 0 (length gs) (guest_use l (guests_in gs) f)
 
 -- in the shared pool, in a guest's, or in a hand
-abbrev pub any_use : Layout → Pool → Tree → Tree → List GhostGuest → List GhostCpu → ℕ → Option Row
-any_use l free host hyp gs ks f = option_or (used_if (is_free free f || is_table_frame l host f || is_table_frame l hyp f) SharedPool) (option_or (guests_use l gs f) (hands_use ks f))
+abbrev pub any_use : Layout → Shared → List GhostGuest → List GhostCpu → ℕ → Option Row
+any_use l s gs ks f = option_or (used_if (is_shared_frame l s f) SharedPool) (option_or (guests_use l gs f) (hands_use ks f))

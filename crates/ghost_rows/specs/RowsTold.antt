@@ -1,13 +1,15 @@
 -- The row of a frame by four lists, and pieces of frames along which they go on.
-use Rattle.std.specs.Prelude.{◌≡◌, ℕ, ◌+◌, ◌<◌, ◌≤◌, Bool, true, false, ◌==◌, List, take, length, get_or, Option, Some, None, ◌&&◌}
+use Rattle.std.specs.Prelude.{◌≡◌, ℕ, ◌+◌, ◌-◌, ◌<◌, ◌≤◌, Bool, true, false, ◌==◌, List, take, length, get_or, Option, Some, None, ◌&&◌, if◌then◌else◌}
 use Rattle.page_state.specs.declared.entry.PageRange.{PageRange}
+use Rattle.page_state.specs.declared.layout.Region.{Region}
 use Rattle.page_state.specs.declared.row.Lent.{Lent}
 use Rattle.page_state.specs.declared.row.Row.{Row}
 use Rattle.page_state.specs.declared.row.Usage.{Usage}
 use Rattle.page_state.specs.declared.row.Usage.TheVariants.{Plain}
+use Rattle.page_state.specs.Regions.{is_in_range, is_memory_kind}
 use Rattle.page_state.specs.Rows.{advance_row, HasPageBelow}
 use Rattle.run_list.specs.declared.run.Run.{Run}
-use Rattle.run_list.specs.Runs.{run_end, run_map, value_on, EndBefore, AreInReach}
+use Rattle.run_list.specs.Runs.{run_end, run_map, option_advance, value_on, EndBefore, AreInReach}
 use Rattle.run_list.specs.Parts.{IsEndedAt}
 use Rattle.ghost_rows.specs.declared.rows.kept.Near.{Near}
 use Rattle.ghost_rows.specs.declared.rows.pieces.Lists.{Lists}
@@ -51,6 +53,15 @@ told x f = row_told (run_map advance_row x.annotated.runs f) (run_map advance_ro
 -- the lists tell of each frame of a run what the run has there
 abbrev pub IsTold : Lists → Run Row → Type 0
 IsTold x r = (f : ℕ) → r.pages.first.0 ≤ f → f < run_end r → told x f ≡ value_on advance_row r f
+
+-- the frames of a region have the rows that the lists tell where it is one of memory, and else none; the others have what they had
+abbrev pub IsRegionAdded : Lists → Region → List (Run Row) → List (Run Row) → Type 0
+IsRegionAdded x region old new =
+    (f : ℕ) → run_map advance_row new f ≡ (if is_in_range region.pages f then (if is_memory_kind region.kind then Some (told x f) else None) else run_map advance_row old f)
+
+-- from a frame up to another a list goes on as it begins
+abbrev pub GoesOn : List (Run Row) → ℕ → ℕ → Type 0
+GoesOn runs low high = (f : ℕ) → low ≤ f → f < high → run_map advance_row runs f ≡ option_advance advance_row (run_map advance_row runs low) (f - low)
 
 -- a row of an owner, a loan and a use
 abbrev pub row_with : ℕ → Option Lent → Usage → Row

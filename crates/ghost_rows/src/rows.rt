@@ -5,17 +5,17 @@ mod overlay;
 mod pieces;
 mod uses;
 
-ghost use Rattle.std.specs.Prelude.{◌≡◌, ℕ, ◌≤◌, ◌<◌, ◌^◌, ◌↔◌, true, false, IfOk, IsTrue, OnOk, Some, None, is_some, length, if◌then◌else◌};
+ghost use Rattle.std.specs.Prelude.{◌≡◌, ℕ, ◌≤◌, ◌<◌, ◌^◌, ◌↔◌, true, IfOk, IsTrue, OnOk, Some, None, is_some, length, if◌then◌else◌};
 ghost use Rattle.page_state.specs.Layouts.{is_memory};
 ghost use Rattle.page_state.specs.LayoutView.{layout_of};
-ghost use Rattle.page_state.specs.Regions.{end_of, is_in_range, is_memory_kind};
+ghost use Rattle.page_state.specs.Regions.{end_of, is_in_range};
 ghost use Rattle.page_state.specs.Rows.{advance_row, HasPageBelow};
 ghost use Rattle.reference_model.specs.Owner.{row_of};
 ghost use Rattle.run_list.specs.Runs.{run_map, IsCoarsest, AreInReach};
 ghost use Rattle.ghost_trees.specs.KeptTrees.{IsKeptTree};
 ghost use Rattle.ghost_spec.specs.States.{contents_in};
-ghost use Rattle.ghost_rows.specs.RowsLaid.{HaveKeptTrees};
-ghost use Rattle.ghost_rows.specs.RowsTold.{told, AreReached};
+ghost use Rattle.ghost_rows.specs.RowsLaid.{HaveKeptTrees, HasRows, rows_of};
+ghost use Rattle.ghost_rows.specs.RowsTold.{told, AreReached, IsRegionAdded};
 
 use ghost_spec::lists::GhostLists;
 use kept::are_told;
@@ -53,7 +53,7 @@ fn lists_of(alloc: Global, state: &GhostLists) -> Result<Lists, AllocError>
 fn range_rows(alloc: Global, lists: &Lists, pages: PageRange) -> Result<RunList<Row>, AllocError>
     requires low { end_of pages ≤ 2 ^ 26 }
     requires lists { AreReached lists.now }
-    ensures map { IfOk result (λ r. (f : ℕ) → run_map advance_row r.runs f ≡ (if is_in_range pages f then Some (told lists.now f) else None)) }
+    ensures map { IfOk result (λ r. HasRows r.runs (λ f. if is_in_range pages f then Some (told lists.now f) else None)) }
     ensures reach { IfOk result (λ r. AreInReach HasPageBelow r.runs) }
 {
     let end = pages.first.0 + pages.count;
@@ -82,7 +82,7 @@ fn add_region(
     requires low { end_of region.pages ≤ 2 ^ 26 }
     requires lists { AreReached lists.now }
     requires reach { AreInReach HasPageBelow rows.old.runs }
-    ensures map { OnOk result ((f : ℕ) → run_map advance_row rows.new.runs f ≡ (if is_in_range region.pages f then (if is_memory_kind region.kind then Some (told lists.now f) else None) else run_map advance_row rows.old.runs f)) }
+    ensures map { OnOk result (IsRegionAdded lists.now region rows.old.runs rows.new.runs) }
     ensures reach { AreInReach HasPageBelow rows.new.runs }
 {
     match region.kind {
@@ -105,7 +105,7 @@ pub fn rows_from_scratch(alloc: Global, state: &GhostLists) -> Result<RunList<Ro
     requires guests { HaveKeptTrees state.now.guests.items }
     requires guests_count { length state.now.guests.items ≡ 64 }
     requires cpus_count { length state.now.cpus.items ≡ state.now.layout.config.cpus }
-    ensures rows { IfOk result (λ r. (f : ℕ) → run_map advance_row r.runs f ≡ elim (is_memory (layout_of state.now.layout) f) [ true ↦ Some (row_of (layout_of state.now.layout) (contents_in state.now) f) | false ↦ None ]) }
+    ensures rows { IfOk result (λ r. HasRows r.runs (rows_of (layout_of state.now.layout) (contents_in state.now))) }
     ensures reach { IfOk result (λ r. AreInReach HasPageBelow r.runs) }
 {
     let lists = lists_of(alloc, state)?;
@@ -139,7 +139,7 @@ pub fn are_from_scratch(
     requires coarsest { IsCoarsest advance_row rows.now }
     requires reach { AreInReach HasPageBelow rows.now }
     requires frames { (f : ℕ) → is_some (run_map advance_row rows.now f) ≡ is_memory (layout_of state.now.layout) f }
-    ensures { IfOk result (λ b. IsTrue b ↔ ((f : ℕ) → run_map advance_row rows.now f ≡ elim (is_memory (layout_of state.now.layout) f) [ true ↦ Some (row_of (layout_of state.now.layout) (contents_in state.now) f) | false ↦ None ])) }
+    ensures { IfOk result (λ b. IsTrue b ↔ HasRows rows.now (rows_of (layout_of state.now.layout) (contents_in state.now))) }
 {
     is_low_memory(&state.layout);
     let lists = lists_of(alloc, state)?;

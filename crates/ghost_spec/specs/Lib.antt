@@ -2,6 +2,7 @@ pub mod Changed
 pub mod Filled
 pub mod Found
 pub mod Kept
+pub mod RowChanges
 pub mod RowsFound
 pub mod States
 pub mod Used

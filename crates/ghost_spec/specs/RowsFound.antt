@@ -9,8 +9,11 @@ use Rattle.page_state.specs.declared.row.Row.{Row}
 use Rattle.page_state.specs.declared.row.Usage.{Usage}
 use Rattle.page_state.specs.declared.row.Usage.TheVariants.{Plain, SharedPool, VmPool, InHand}
 use Rattle.page_state.specs.Layouts.{Layout, is_memory}
+use Rattle.reference_model.specs.declared.changes.Changes.{Changes}
+use Rattle.reference_model.specs.Changes.{touched}
 use Rattle.reference_model.specs.Owner.{page_of, lent_at, is_free, is_table_frame, is_in_hand}
 use Rattle.reference_model.specs.State.{Shared, Guest, Cpu}
+use Rattle.reference_model.specs.Step.{changed}
 use Rattle.reference_model.specs.Used.{Used}
 
 -- the owner by the host's entry of the frame's page: the number of its annotation, and else this one
@@ -63,3 +66,7 @@ rows_found l touched slot g cpu k s = record s { row = λ f. elim (is_memory l f
 -- what a call uses once the rows of the touched memory frames are found again
 abbrev pub used_found : Layout → Option PageRange → Option ℕ → ℕ → Used → Used
 used_found l touched slot cpu x = record x { shared = rows_found l touched slot x.guest cpu x.cpu x.shared }
+
+-- what a call uses once its changes are made, and the rows of the frames that they touch found again
+abbrev pub used_made : Layout → Option ℕ → ℕ → Changes → Used → Used
+used_made l slot cpu h x = used_found l (touched h) slot cpu (changed l.depth h x)

@@ -1,19 +1,24 @@
 -- What a call uses, on lists.
-use Rattle.std.specs.Prelude.{ℕ, Bool, ◌&&◌, ◌==◌, List, get_or, map, if◌then◌else◌}
+use Rattle.std.specs.Prelude.{◌≡◌, ℕ, Bool, true, ◌&&◌, ◌==◌, List, Option, get_or, length, map, if◌then◌else◌}
 use Rattle.descriptor.specs.declared.State.TheVariants.{Owned}
 use Rattle.descriptor.specs.declared.Prot.TheVariants.{RWX}
 use Rattle.page_state.specs.declared.entry.Entry.{Entry}
 use Rattle.page_state.specs.declared.entry.Entry.TheVariants.{Unmapped}
-use Rattle.page_state.specs.EntryTests.{is_in, entry_frame, leaf}
+use Rattle.page_state.specs.EntryTests.{is_in, is_free_page, is_unmapped, entry_frame, leaf}
 use Rattle.page_state.specs.Layouts.{hyp_page}
+use Rattle.reference_model.specs.Parts.{uses_vms}
+use Rattle.reference_model.specs.Rules.{names}
 use Rattle.reference_model.specs.SharedRules.{is_plain}
-use Rattle.reference_model.specs.State.{Vms, Shared, Guest, no_slot, no_guest}
-use Rattle.reference_model.specs.Used.{Used}
+use Rattle.reference_model.specs.State.{Vms, Shared, Guest, Contents, Rooms, no_slot, no_guest}
+use Rattle.reference_model.specs.Step.{stored}
+use Rattle.reference_model.specs.Used.{Used, put_back, put_rooms, rooms_of as used_rooms_of, used_of}
+use Rattle.step_reply.specs.declared.step.Step.{Step}
+use Rattle.ghost_spec.specs.declared.lists.GhostLists.{GhostLists}
 use Rattle.ghost_spec.specs.declared.parts.GhostGuest.{GhostGuest}
 use Rattle.ghost_spec.specs.declared.parts.GhostSlot.{GhostSlot}
 use Rattle.ghost_spec.specs.declared.used.GhostUsed.{GhostUsed}
 use Rattle.ghost_spec.specs.Kept.{IsKeptShared, IsKeptGuest, IsKeptCpu}
-use Rattle.ghost_spec.specs.States.{slot_in, guest_in}
+use Rattle.ghost_spec.specs.States.{contents_in, slot_in, guest_in}
 use Rattle.ghost_spec.specs.Views.{cpu_in, shared_in_lists}
 
 -- the VM part; past the list's end slots are Empty
@@ -37,6 +42,28 @@ pub record IsKeptUsed (u : GhostUsed) : Type 0 where
   pub shared : IsKeptShared u.shared
   pub guest : IsKeptGuest u.guest
   pub own : IsKeptCpu u.own
+
+-- what a call uses was taken from lists: it is what they have of it, and kept
+pub record IsTaken (step : Step) (slot : Option ℕ) (cpu : ℕ) (g : GhostLists) (u : GhostUsed) : Type 0 where
+  pub used : used_in u ≡ used_of (names step) slot cpu (contents_in g)
+  pub kept : IsKeptUsed u
+  pub count : uses_vms (names step) ≡ true → length u.vms.items ≡ 64
+
+-- but for what a call uses, which is put back, two contents are the same
+abbrev pub IsSameElsewhere : Step → Option ℕ → ℕ → Contents → Contents → Type 0
+IsSameElsewhere step slot cpu s t = (x : Used) → put_back (names step) slot cpu t x ≡ put_back (names step) slot cpu s x
+
+-- the rooms once the log of each part that a call uses has stored it
+abbrev pub rooms_after : Step → Option ℕ → ℕ → Rooms → Rooms
+rooms_after step slot cpu r = put_rooms (names step) slot cpu r (stored (used_rooms_of (names step) slot cpu r))
+
+-- the host's page of the frame is free to give, and the hypervisor's page of it unmapped
+abbrev pub may_donate_frame : Shared → ℕ → Bool
+may_donate_frame s f = is_free_page (s.host.map f) && is_unmapped (s.hyp.map (hyp_page f))
+
+-- the host's page of the frame is free to give, and a page of the guest unmapped
+abbrev pub may_give_frame : Shared → Guest → ℕ → ℕ → Bool
+may_give_frame s g f page = is_free_page (s.host.map f) && is_unmapped (g.tree.map page)
 
 -- the hypervisor owns the frame, and it is in no other use
 abbrev pub may_return_frame : Shared → ℕ → Bool

@@ -6,7 +6,7 @@ ghost use Rattle.reference_model.specs.Parts.{uses_vms as uses_vms_of};
 ghost use Rattle.reference_model.specs.Rules.{names};
 ghost use Rattle.reference_model.specs.Step.{answer as answer_of, changed as changed_of, is_short as is_short_of};
 ghost use Rattle.ghost_spec.specs.Kept.{AreSmallChanges, FitsSlots, HasNextGeneration, IsLowSlot};
-ghost use Rattle.ghost_spec.specs.RowsFound.{used_found};
+ghost use Rattle.ghost_spec.specs.RowsFound.{used_made};
 ghost use Rattle.ghost_spec.specs.Used.{IsKeptUsed, used_in};
 
 use crate::decide::decide;
@@ -88,7 +88,7 @@ fn make(
     requires slot { IsLowSlot slot }
     requires small { AreSmallChanges changes.now }
     requires slots { FitsSlots (length used.old.vms.items) changes.now.slot }
-    ensures used { OnOk result (used_in used.new ≡ used_found (layout_of layout.now) (touched_of changes.now) slot cpu (changed_of (layout_of layout.now).depth changes.now (used_in used.old))) }
+    ensures used { OnOk result (used_in used.new ≡ used_made (layout_of layout.now) slot cpu changes.now (used_in used.old)) }
     ensures kept { OnOk result (IsKeptUsed used.new) }
     ensures count { OnOk result (length used.new.vms.items ≡ length used.old.vms.items) }
 {

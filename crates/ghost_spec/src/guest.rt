@@ -2,9 +2,9 @@
 ghost use Rattle.std.specs.Prelude.{◌≡◌, ◌≤◌, ◌^◌, IfOk, OnOk, length, nat_lt};
 ghost use Rattle.page_state.specs.Regions.{end_of};
 ghost use Rattle.page_state.specs.Tables.{all_given};
-ghost use Rattle.page_state.specs.Trees.{root_tree as root_tree_of};
 ghost use Rattle.reference_model.specs.Changes.{frames_in, guest_by, rest as rest_of};
-ghost use Rattle.reference_model.specs.State.{live};
+ghost use Rattle.reference_model.specs.declared.changes.GuestChange.TheVariants.{Install};
+ghost use Rattle.reference_model.specs.State.{no_guest};
 ghost use Rattle.reference_model.specs.Step.{guest_after, guest_need};
 ghost use Rattle.ghost_spec.specs.Changed.{mapped_guest};
 ghost use Rattle.ghost_spec.specs.Kept.{IsKeptGuest, IsSmallChange, IsSmallPart};
@@ -50,7 +50,7 @@ fn installed(
 ) -> Result<GhostGuest, AllocError>
     requires depth { depth ≤ 3 }
     requires hand { end_of hand ≤ 2 ^ 62 }
-    ensures guest { IfOk result (λ g. guest_in g ≡ record { phase = live; generation = generation; kind = kind; tree = root_tree_of depth hand.first.0; free = rest_of (frames_in hand) }) }
+    ensures guest { IfOk result (λ g. guest_in g ≡ guest_by depth (Install kind generation hand) no_guest) }
     ensures kept { IfOk result IsKeptGuest }
 {
     let frames = frames_from(alloc, hand.first.0, hand.count)?;

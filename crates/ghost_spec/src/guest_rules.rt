@@ -2,7 +2,7 @@
 //! changes.
 ghost use Rattle.std.specs.Prelude.{◌≡◌, ℕ, ◌+◌, ◌<◌, ◌≤◌, ◌^◌, ◌&&◌, Option, Some, IfOk, IsTrue, ◌||◌, nat_lt, unwrap_or};
 ghost use Rattle.step_reply.specs.declared.step.Step.TheVariants.{ShareGuest, UnshareGuest, DonateGuest, GuestShareHost, GuestUnshareHost, Install, Topup, ReclaimPage, ReclaimPool, FinishGuest, GuestRelax, GuestTranslate, MarkDying};
-ghost use Rattle.page_state.specs.EntryTests.{entry_frame as entry_frame_of, is_free_page as is_free_page_of, is_unmapped as is_unmapped_of, join as join_of, with_rights as with_rights_of, with_state as with_state_of};
+ghost use Rattle.page_state.specs.EntryTests.{entry_frame as entry_frame_of, is_unmapped as is_unmapped_of, join as join_of, with_rights as with_rights_of, with_state as with_state_of};
 ghost use Rattle.page_state.specs.Layouts.{Layout as ReferenceLayout, is_good_page as is_good_page_of};
 ghost use Rattle.page_state.specs.LayoutView.{layout_of};
 ghost use Rattle.page_state.specs.Runs.{map_of};
@@ -17,8 +17,8 @@ ghost use Rattle.ghost_trees.specs.KeptTrees.{IsKeptTree};
 ghost use Rattle.ghost_trees.specs.Small.{HasLowFrames};
 ghost use Rattle.ghost_spec.specs.States.{guest_in};
 ghost use Rattle.ghost_trees.specs.Trees.{table_of, tree_in_lists};
-ghost use Rattle.ghost_spec.specs.Used.{IsKeptUsed, reclaimed as reclaimed_of, used_in};
-ghost use Rattle.ghost_spec.specs.Views.{cpu_in};
+ghost use Rattle.ghost_spec.specs.Used.{IsKeptUsed, may_give_frame as may_give_frame_of, reclaimed as reclaimed_of, used_in};
+ghost use Rattle.ghost_spec.specs.Views.{cpu_in, shared_in_lists};
 
 use crate::answer::depth;
 use crate::cpu::GhostCpu;
@@ -189,7 +189,7 @@ fn two_pages(frame: u64, entry: Entry, page: u64, guest_entry: Entry) -> Changes
 fn may_give_frame(shared: &Shared, guest: &GhostGuest, frame: u64, page: u64) -> bool
     requires kept { IsKeptShared shared.now }
     requires guest { IsKeptGuest guest.now }
-    ensures { result ≡ (is_free_page_of (map_of shared.now.host.runs.items frame) && is_unmapped_of (map_of guest.now.tree.runs.items page)) }
+    ensures { result ≡ may_give_frame_of (shared_in_lists shared.now) (guest_in guest.now) frame page }
 {
     is_free_page(host_entry(shared, frame)) && is_unmapped(guest_entry(guest, page))
 }
@@ -200,7 +200,7 @@ fn may_give(shared: &Shared, guest: &GhostGuest, pfn: u64, gfn: u64, n: u64) -> 
     requires guest { IsKeptGuest guest.now }
     requires frames { pfn + n ≤ 2 ^ 62 }
     requires pages { gfn + n ≤ 2 ^ 62 }
-    ensures { result ≡ all_below n (λ i. is_free_page_of (map_of shared.now.host.runs.items (pfn + i)) && is_unmapped_of (map_of guest.now.tree.runs.items (gfn + i))) }
+    ensures { result ≡ all_below n (λ i. may_give_frame_of (shared_in_lists shared.now) (guest_in guest.now) (pfn + i) (gfn + i)) }
 {
     for i in 0..n {
         if !may_give_frame(shared, guest, pfn + i, gfn + i) {

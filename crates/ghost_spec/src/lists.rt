@@ -115,12 +115,12 @@ impl GhostLists {
     ghost use Rattle.page_state.specs.LayoutView.{layout_of};
     ghost use Rattle.reference_model.specs.Parts.{uses_vms as uses_vms_of};
     ghost use Rattle.reference_model.specs.Rules.{names};
-    ghost use Rattle.reference_model.specs.Step.{foretell, is_full as is_full_of, stored};
-    ghost use Rattle.reference_model.specs.Used.{put_back as put_back_of, put_rooms, rooms_of as rooms_of_state, used_of, Used};
+    ghost use Rattle.reference_model.specs.Step.{foretell, is_full as is_full_of};
+    ghost use Rattle.reference_model.specs.Used.{put_back as put_back_of, rooms_of as rooms_of_state};
     ghost use Rattle.std.specs.Prelude.{length, true};
     ghost use Rattle.ghost_spec.specs.Kept.{HasNextGeneration, IsLowSlot};
     ghost use Rattle.ghost_spec.specs.States.{contents_in, ghost_state, IsKept};
-    ghost use Rattle.ghost_spec.specs.Used.{IsKeptUsed, used_in};
+    ghost use Rattle.ghost_spec.specs.Used.{IsKeptUsed, IsSameElsewhere, IsTaken, rooms_after, used_in};
 
     /// The same state once more.
     pub(crate) fn copied(&self, alloc: Global) -> Result<GhostLists, AllocError>
@@ -177,10 +177,8 @@ impl GhostLists {
         requires cpu { cpu < length self.old.cpus.items }
         requires kept { IsKept self.old }
         requires slot { IsLowSlot slot }
-        ensures used { IfOk result (λ u. used_in u ≡ used_of (names step) slot cpu (contents_in self.old)) }
-        ensures kept { IfOk result IsKeptUsed }
-        ensures count { uses_vms_of (names step) ≡ true → IfOk result (λ u. length u.vms.items ≡ 64) }
-        ensures others { OnOk result ((x : Used) → put_back_of (names step) slot cpu (contents_in self.new) x ≡ put_back_of (names step) slot cpu (contents_in self.old) x) }
+        ensures taken { IfOk result (IsTaken step slot cpu self.old) }
+        ensures others { OnOk result (IsSameElsewhere step slot cpu (contents_in self.old) (contents_in self.new)) }
         ensures layout { self.new.layout ≡ self.old.layout }
         ensures rooms { self.new.rooms ≡ self.old.rooms }
         ensures left { OnOk result (IsKept self.new) }
@@ -223,7 +221,7 @@ impl GhostLists {
         requires kept { IsKept self.old }
         requires slot { IsLowSlot slot }
         ensures contents { contents_in self.new ≡ contents_in self.old }
-        ensures rooms { (ghost_state self.new).rooms ≡ put_rooms (names step) slot cpu (ghost_state self.old).rooms (stored (rooms_of_state (names step) slot cpu (ghost_state self.old).rooms)) }
+        ensures rooms { (ghost_state self.new).rooms ≡ rooms_after step slot cpu (ghost_state self.old).rooms }
         ensures layout { self.new.layout ≡ self.old.layout }
         ensures kept { IsKept self.new }
     {

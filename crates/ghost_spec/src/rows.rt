@@ -1,15 +1,15 @@
 //! Owner rows from scratch.
-ghost use Rattle.std.specs.Prelude.{◌≡◌, ◌+◌, ◌<◌, ◌≤◌, ◌^◌, ◌&&◌, true, false, ℕ, IfOk, OnOk, Some, None};
+ghost use Rattle.std.specs.Prelude.{◌≡◌, ◌+◌, ◌<◌, ◌≤◌, ◌^◌, IfOk, OnOk, Some, None};
 ghost use Rattle.page_state.specs.declared.entry.PageRange.{PageRange as PageRangeOf};
 ghost use Rattle.page_state.specs.Layouts.{is_memory};
 ghost use Rattle.page_state.specs.LayoutView.{layout_of};
-ghost use Rattle.page_state.specs.Map.{is_within};
-ghost use Rattle.page_state.specs.Regions.{end_of, is_in_range};
+ghost use Rattle.page_state.specs.Regions.{end_of};
 ghost use Rattle.page_state.specs.Rows.{advance_row, HasLentBelow, HasPageBelow};
 ghost use Rattle.reference_model.specs.State.{no_cpu, no_guest};
-ghost use Rattle.run_list.specs.Runs.{InReach, AreInReach, IsCoarsest, map_updated, run_map};
+ghost use Rattle.run_list.specs.Runs.{InReach, AreInReach, IsCoarsest};
 ghost use Rattle.ghost_spec.specs.Kept.{IsKeptGuest, IsKeptShared, IsLowSlot};
-ghost use Rattle.ghost_spec.specs.RowsFound.{guest_lent as guest_lent_of, lender_found as lender_found_of, lent_found as lent_found_of, owner_or as owner_or_of, pool_found as pool_found_of, row_found as row_found_of, rows_found as rows_found_of, sharer_found as sharer_found_of, usage_found as usage_found_of};
+ghost use Rattle.ghost_spec.specs.RowChanges.{AreFoundAfter, AreFoundIn, AreFoundWhere, IsFoundAt, IsFrameSet, IsRangeSet};
+ghost use Rattle.ghost_spec.specs.RowsFound.{guest_lent as guest_lent_of, lender_found as lender_found_of, lent_found as lent_found_of, owner_or as owner_or_of, pool_found as pool_found_of, row_found as row_found_of, sharer_found as sharer_found_of, usage_found as usage_found_of};
 ghost use Rattle.ghost_spec.specs.States.{guest_in};
 ghost use Rattle.ghost_spec.specs.Views.{cpu_in, row_in, shared_in_lists};
 
@@ -227,7 +227,7 @@ fn set_row(rows: &mut RunList<Row>, frame: u64, row: Row) -> Result<(), AllocErr
     requires frame { frame < 2 ^ 63 }
     requires small { HasPageBelow row 1 }
     requires reach { AreInReach HasPageBelow rows.old.runs }
-    ensures row { OnOk result ((f : ℕ) → row_in rows.new.runs f ≡ elim (is_in_range (record { first = record { 0 = frame }; count = 1 }) f) [ true ↦ row | false ↦ row_in rows.old.runs f ]) }
+    ensures row { OnOk result (IsFrameSet rows.old.runs rows.new.runs frame row) }
     ensures reach { AreInReach HasPageBelow rows.new.runs }
 {
     let pages = PageRange {
@@ -241,7 +241,7 @@ fn set_row(rows: &mut RunList<Row>, frame: u64, row: Row) -> Result<(), AllocErr
 fn set_run(rows: &mut RunList<Row>, run: Run<Row>) -> Result<(), AllocError>
     requires run { InReach HasPageBelow run }
     requires reach { AreInReach HasPageBelow rows.old.runs }
-    ensures map { OnOk result (run_map advance_row rows.new.runs ≡ map_updated advance_row (run_map advance_row rows.old.runs) run.pages.first.0 run.pages.count (Some run.value)) }
+    ensures map { OnOk result (IsRangeSet rows.old.runs rows.new.runs run.pages (Some run.value)) }
     ensures reach { AreInReach HasPageBelow rows.new.runs }
 {
     rows.reserve(2)?;
@@ -262,7 +262,7 @@ fn find_row(
     requires kept { IsKeptShared shared.old }
     requires slot { IsLowSlot slot }
     requires guest { IsKeptGuest guest.now }
-    ensures rows { OnOk result ((f : ℕ) → row_in shared.new.rows.runs f ≡ elim (is_memory (layout_of layout.now) f && is_within frame 1 f) [ true ↦ row_found_of (layout_of layout.now) (shared_in_lists shared.old) slot (guest_in guest.now) frame cpu (cpu_in own.now) | false ↦ row_in shared.old.rows.runs f ]) }
+    ensures rows { OnOk result (IsFoundAt layout.now shared.old shared.new frame slot (guest_in guest.now) cpu (cpu_in own.now)) }
     ensures host { shared.new.host ≡ shared.old.host }
     ensures hyp { shared.new.hyp ≡ shared.old.hyp }
     ensures free { shared.new.free ≡ shared.old.free }
@@ -290,7 +290,7 @@ pub(crate) fn find_range(
     requires slot { IsLowSlot slot }
     requires guest { IsKeptGuest guest.now }
     requires range { end_of range ≤ 2 ^ 63 }
-    ensures rows { OnOk result ((f : ℕ) → row_in shared.new.rows.runs f ≡ elim (is_memory (layout_of layout.now) f && is_in_range range f) [ true ↦ row_found_of (layout_of layout.now) (shared_in_lists shared.old) slot (guest_in guest.now) f cpu (cpu_in own.now) | false ↦ row_in shared.old.rows.runs f ]) }
+    ensures rows { OnOk result (AreFoundIn layout.now shared.old shared.new range slot (guest_in guest.now) cpu (cpu_in own.now)) }
     ensures host { shared.new.host ≡ shared.old.host }
     ensures hyp { shared.new.hyp ≡ shared.old.hyp }
     ensures free { shared.new.free ≡ shared.old.free }
@@ -317,7 +317,7 @@ pub(crate) fn find_rows(
     requires slot { IsLowSlot slot }
     requires guest { IsKeptGuest guest.now }
     requires touched { (range : PageRangeOf) → touched ≡ Some range → end_of range ≤ 2 ^ 63 }
-    ensures found { OnOk result (shared_in_lists shared.new ≡ rows_found_of (layout_of layout.now) touched slot (guest_in guest.now) cpu (cpu_in own.now) (shared_in_lists shared.old)) }
+    ensures found { OnOk result (AreFoundAfter layout.now shared.old shared.new touched slot (guest_in guest.now) cpu (cpu_in own.now)) }
     ensures kept { IsKeptShared shared.new }
 {
     match touched {
@@ -349,7 +349,7 @@ fn find_first(
 ) -> Result<(), AllocError>
     requires kept { IsKeptShared shared.old }
     requires range { end_of range ≤ 2 ^ 63 }
-    ensures rows { OnOk result ((f : ℕ) → row_in shared.new.rows.runs f ≡ elim (is_memory (layout_of layout.now) f && is_in_range range f) [ true ↦ row_found_of (layout_of layout.now) (shared_in_lists shared.old) None no_guest f 0 no_cpu | false ↦ row_in shared.old.rows.runs f ]) }
+    ensures rows { OnOk result (AreFoundIn layout.now shared.old shared.new range None no_guest 0 no_cpu) }
     ensures host { shared.new.host ≡ shared.old.host }
     ensures hyp { shared.new.hyp ≡ shared.old.hyp }
     ensures free { shared.new.free ≡ shared.old.free }
@@ -367,7 +367,7 @@ pub(crate) fn find_all(
     shared: &mut Shared,
 ) -> Result<(), AllocError>
     requires kept { IsKeptShared shared.old }
-    ensures rows { OnOk result ((f : ℕ) → row_in shared.new.rows.runs f ≡ elim (is_memory (layout_of layout.now) f) [ true ↦ row_found_of (layout_of layout.now) (shared_in_lists shared.old) None no_guest f 0 no_cpu | false ↦ row_in shared.old.rows.runs f ]) }
+    ensures rows { OnOk result (AreFoundWhere layout.now shared.old shared.new (is_memory (layout_of layout.now)) None no_guest 0 no_cpu) }
     ensures host { shared.new.host ≡ shared.old.host }
     ensures hyp { shared.new.hyp ≡ shared.old.hyp }
     ensures free { shared.new.free ≡ shared.old.free }

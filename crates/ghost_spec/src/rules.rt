@@ -2,7 +2,6 @@
 ghost use Rattle.std.specs.Prelude.{◌≡◌, ℕ, ◌+◌, ◌<◌, ◌≤◌, ◌^◌, ◌&&◌, Option, IfOk};
 ghost use Rattle.step_reply.specs.declared.step.Step.TheVariants.{ShareHyp, UnshareHyp, DonateHyp, HypDonateHost, HostAbort, HostTranslate, HypTranslate, OwnerOf, Fund, Unfund};
 ghost use Rattle.page_state.specs.Blocks.{block_at, first_page as first_page_of, span as span_of};
-ghost use Rattle.page_state.specs.EntryTests.{is_free_page as is_free_page_of, is_unmapped as is_unmapped_of};
 ghost use Rattle.page_state.specs.Layouts.{hyp_page as hyp_page_of};
 ghost use Rattle.page_state.specs.LayoutView.{layout_of};
 ghost use Rattle.page_state.specs.Runs.{map_of};
@@ -12,7 +11,7 @@ ghost use Rattle.reference_model.specs.Changes.{change as change_of};
 ghost use Rattle.reference_model.specs.SharedRules.{abort_depth as abort_depth_of, abort_leaf as abort_leaf_of, is_plain as is_plain_of, may_map as may_map_of};
 ghost use Rattle.ghost_spec.specs.Kept.{AreSmallChanges, IsKeptShared};
 ghost use Rattle.ghost_trees.specs.Small.{HasLowFrames};
-ghost use Rattle.ghost_spec.specs.Used.{IsKeptUsed, may_return_frame, used_in};
+ghost use Rattle.ghost_spec.specs.Used.{IsKeptUsed, may_donate_frame as may_donate_frame_of, may_return_frame, used_in};
 ghost use Rattle.ghost_spec.specs.Views.{shared_in_lists};
 
 use crate::found::pages;
@@ -109,7 +108,7 @@ pub(crate) fn unshare_hyp(layout: &Layout, used: &GhostUsed, pfn: u64) -> Result
 fn may_donate_frame(shared: &Shared, frame: u64) -> bool
     requires kept { IsKeptShared shared.now }
     requires low { frame < 2 ^ 63 }
-    ensures { result ≡ (is_free_page_of (map_of shared.now.host.runs.items frame) && is_unmapped_of (map_of shared.now.hyp.runs.items (hyp_page_of frame))) }
+    ensures { result ≡ may_donate_frame_of (shared_in_lists shared.now) frame }
 {
     is_free_page(host_entry(shared, frame)) && is_unmapped(hyp_entry(shared, frame))
 }
@@ -118,7 +117,7 @@ fn may_donate_frame(shared: &Shared, frame: u64) -> bool
 fn may_donate(shared: &Shared, pfn: u64, n: u64) -> bool
     requires kept { IsKeptShared shared.now }
     requires low { pfn + n ≤ 2 ^ 62 }
-    ensures { result ≡ all_below n (λ i. is_free_page_of (map_of shared.now.host.runs.items (pfn + i)) && is_unmapped_of (map_of shared.now.hyp.runs.items (hyp_page_of (pfn + i)))) }
+    ensures { result ≡ all_below n (λ i. may_donate_frame_of (shared_in_lists shared.now) (pfn + i)) }
 {
     for i in 0..n {
         if !may_donate_frame(shared, pfn + i) {

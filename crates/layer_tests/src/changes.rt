@@ -1,13 +1,13 @@
 //! Changes of ranges.
 ghost use Rattle.std.specs.Prelude.{◌≡◌, ℕ, ◌+◌, ◌≤◌, ◌^◌, length, IfOk};
 ghost use Rattle.page_state.specs.Entries.{IsRangeEntry};
-ghost use Rattle.page_state.specs.Tables.{put, need as need_of};
 ghost use Rattle.page_state.specs.declared.layout.Geometry.TheVariants.{Bits39};
-ghost use Rattle.page_state.specs.Geometries.{levels_below};
 ghost use Rattle.page_state.specs.Counts.{frame_count};
 ghost use Rattle.table_tree.specs.Stocks.{frames_of};
-ghost use Rattle.table_tree.specs.View.{tree_of, uses, tables_of};
+ghost use Rattle.table_tree.specs.View.{uses, tables_of};
 ghost use Rattle.walk_plan.specs.Changes.{CanBeSaidOn};
+ghost use Rattle.walk_plan.specs.Hands.{edit_on};
+ghost use Rattle.layer_tests.specs.InHand.{AreInHand};
 
 use super::expect::{expect_entry, expect_number, expect_same, expect_word};
 use super::sample::{leaf, pages};
@@ -386,10 +386,7 @@ fn in_hand<A: Allocator + Copy>(
     requires entry_in { IsRangeEntry range.count entry }
     ensures bits { bench.new.tree.geometry ≡ Bits39 }
     ensures said { CanBeSaidOn range.count entry }
-    ensures just { IfOk result (λ s. length (frames_of s.stock) ≡ need_of (levels_below bench.new.tree.geometry) (tree_of bench.new.tree) (put range.first.0 range.count entry)) }
-    ensures distinct { IfOk result (λ s. (f : ℕ) → uses bench.new.tree f + frame_count f (frames_of s.stock) + frame_count f bench.new.pool.frames ≤ 1) }
-    ensures covered { IfOk result (λ s. tables_of bench.new.tree + length (frames_of s.stock) + length bench.new.pool.frames ≤ bench.new.pool.room + 1) }
-    ensures room { IfOk result (λ s. length (frames_of s.stock) + length bench.new.pool.frames ≤ bench.new.pool.room) }
+    ensures hand { IfOk result (λ s. AreInHand (edit_on range entry) bench.new.tree bench.new.pool (frames_of s.stock)) }
 {
     let mut reads = Reads::new();
     let spare = reserve(

@@ -8,8 +8,10 @@ use Rattle.plain_ghost.specs.declared.judge.PlainCall.{PlainCall}
 use Rattle.plain_ghost.specs.declared.judge.Unjudged.{Unjudged}
 use Rattle.plain_ghost.specs.declared.layout.PlainLayout.{PlainLayout}
 use Rattle.plain_ghost.specs.declared.layout.PlainRegion.{PlainRegion}
+use Rattle.plain_ghost.specs.declared.state.PlainState.{PlainState}
 use Rattle.plain_ghost.specs.Judged.{IsForetold, IsJudged, IsUnjudged, IsUntold}
 use Rattle.plain_ghost.specs.States.{Lists}
+use Rattle.plain_ghost.specs.Views.{lists_told}
 use Rattle.pkvm_oracle.specs.declared.judged.PlainRefused.{PlainRefused}
 use Rattle.pkvm_oracle.specs.Refusals.{of_fault, refused_by, status_by}
 
@@ -55,6 +57,10 @@ module _ (layout : PlainLayout) (regions : List PlainRegion) (before : Lists) (c
   abbrev pub IsAnswered : List ℕ → List ℕ → ℕ → PlainRefused → ℤ → Type 0
   IsAnswered old new count refused status =
       Agrees old new count refused status ⊎ (Differs old new count refused status ⊎ (HasNoRoom old new count refused status ⊎ IsRefused old new count refused status))
+
+-- the judgement of a call, by what its layout and the states before and after it list
+abbrev pub IsCallJudged : PlainLayout → PlainState → PlainCall → PlainState → List ℕ → List ℕ → ℕ → PlainRefused → ℤ → Type 0
+IsCallJudged layout before call after = IsAnswered layout layout.regions.now (lists_told before) call (lists_told after)
 
 module _ (layout : PlainLayout) (regions : List PlainRegion) (before : Lists) (cpu : ℕ) (step : PlainStep) where
   -- the reply is written

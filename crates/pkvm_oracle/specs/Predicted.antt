@@ -5,8 +5,10 @@ use Rattle.plain_words.specs.declared.step.PlainStep.{PlainStep}
 use Rattle.plain_ghost.specs.declared.judge.Unjudged.{Unjudged}
 use Rattle.plain_ghost.specs.declared.layout.PlainLayout.{PlainLayout}
 use Rattle.plain_ghost.specs.declared.layout.PlainRegion.{PlainRegion}
+use Rattle.plain_ghost.specs.declared.state.PlainState.{PlainState}
 use Rattle.plain_ghost.specs.Judged.{IsForetoldState, IsUntold}
 use Rattle.plain_ghost.specs.States.{Lists}
+use Rattle.plain_ghost.specs.Views.{lists_told}
 use Rattle.pkvm_oracle.specs.declared.judged.PlainRefused.{PlainRefused}
 use Rattle.pkvm_oracle.specs.declared.predicted.PlainRoom.{PlainRoom}
 use Rattle.pkvm_oracle.specs.declared.predicted.PlainSizes.{PlainSizes}
@@ -52,8 +54,8 @@ pub record IsPut {X : Type 0} (members old new : List X) : Type 0 where
   pub front : take (length members) new ≡ members
   pub behind : drop (length members) new ≡ drop (length members) old
 
--- the lists are written, each into its room, and the rooms lie where they did
-pub record AreWritten (p : Lists) (old new : PlainRoom) : Type 0 where
+-- the lists are put into the fronts of the rooms
+pub record ArePut (p : Lists) (old new : PlainRoom) : Type 0 where
   pub runs : IsPut p.runs old.runs.now new.runs.now
   pub tables : IsPut p.tables old.tables.now new.tables.now
   pub frames : IsPut p.frames old.frames.now new.frames.now
@@ -62,6 +64,9 @@ pub record AreWritten (p : Lists) (old new : PlainRoom) : Type 0 where
   pub guests : IsPut p.guests old.guests.now new.guests.now
   pub cpus : IsPut p.cpus old.cpus.now new.cpus.now
   pub rows : IsPut p.rows old.rows.now new.rows.now
+
+-- the rooms lie where they did
+pub record AreInPlace (old new : PlainRoom) : Type 0 where
   pub runs_at : new.runs.ref_ptr ≡ old.runs.ref_ptr
   pub tables_at : new.tables.ref_ptr ≡ old.tables.ref_ptr
   pub frames_at : new.frames.ref_ptr ≡ old.frames.ref_ptr
@@ -70,6 +75,11 @@ pub record AreWritten (p : Lists) (old new : PlainRoom) : Type 0 where
   pub guests_at : new.guests.ref_ptr ≡ old.guests.ref_ptr
   pub cpus_at : new.cpus.ref_ptr ≡ old.cpus.ref_ptr
   pub rows_at : new.rows.ref_ptr ≡ old.rows.ref_ptr
+
+-- the lists are written, each into its room, and the rooms lie where they did
+pub record AreWritten (p : Lists) (old new : PlainRoom) : Type 0 where
+  pub lists : ArePut p old new
+  pub rooms : AreInPlace old new
 
 module _ (layout : PlainLayout) (regions : List PlainRegion) (before : Lists) (cpu : ℕ) (step : PlainStep) where
   -- the reply and the state after it are written
@@ -108,3 +118,7 @@ module _ (layout : PlainLayout) (regions : List PlainRegion) (before : Lists) (c
   IsPredictedState old new old_room new_room sizes refused status =
       TellsState new old_room new_room sizes refused status
       ⊎ (HasNoRoom old new old_room new_room sizes refused status ⊎ HasNoState old new old_room new_room sizes refused status)
+
+-- the prediction of a call, by what its layout and the state before it list
+abbrev pub IsCallPredicted : PlainLayout → PlainState → ℕ → PlainStep → PlainReply → PlainReply → PlainRoom → PlainRoom → PlainSizes → PlainRefused → ℤ → Type 0
+IsCallPredicted layout before cpu step = IsPredictedState layout layout.regions.now (lists_told before) cpu step

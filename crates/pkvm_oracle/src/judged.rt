@@ -1,7 +1,7 @@
 //! A call judged, and its reply predicted.
 ghost use Rattle.std.specs.Prelude.{◌≡◌, Err, length};
 ghost use Rattle.plain_ghost.specs.Views.{lists_told};
-ghost use Rattle.pkvm_oracle.specs.Judged.{IsAnswered, IsPredicted};
+ghost use Rattle.pkvm_oracle.specs.Judged.{IsCallJudged, IsPredicted};
 ghost use Rattle.pkvm_oracle.specs.Refusals.{fault_of_layout, fault_of_lists, fault_of_rows, number_of_list, of_fault as of_fault_of, refused_by, refused_by_made, refused_by_state, status_by, status_by_made};
 
 use crate::statuses::{
@@ -189,7 +189,7 @@ pub extern "C" fn pkvm_judge(
     text_len: &mut usize,
     refused: &mut PlainRefused,
 ) -> i32
-    ensures { IsAnswered layout.now layout.now.regions.now (lists_told before.now) call.now (lists_told after.now) text.old text.new text_len.new refused.new result }
+    ensures { IsCallJudged layout.now before.now call.now after.now text.old text.new text_len.new refused.new result }
 {
     *text_len = 0;
     *refused = NOTHING;

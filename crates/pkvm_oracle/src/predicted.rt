@@ -1,8 +1,7 @@
 //! The reply to a call, and the state after it.
 ghost use Rattle.std.specs.Prelude.{◌≡◌, ◌≤◌, length};
 ghost use Rattle.plain_ghost.specs.Told.{lists_owned};
-ghost use Rattle.plain_ghost.specs.Views.{lists_told};
-ghost use Rattle.pkvm_oracle.specs.Predicted.{fits as fits_in, no_sizes, room_of as room_of_lists, sizes_of as sizes_of_lists, AreWritten, IsPredictedState, IsPut};
+ghost use Rattle.pkvm_oracle.specs.Predicted.{fits as fits_in, no_sizes, room_of as room_of_lists, sizes_of as sizes_of_lists, AreWritten, IsCallPredicted, IsPut};
 
 use crate::judged::{NOTHING, PlainRefused, unjudged_refused, unjudged_status};
 use crate::statuses::NO_ROOM;
@@ -141,7 +140,7 @@ pub extern "C" fn pkvm_predict(
     sizes: &mut PlainSizes,
     refused: &mut PlainRefused,
 ) -> i32
-    ensures { IsPredictedState layout.now layout.now.regions.now (lists_told before.now) cpu step.now reply.old reply.new room.old room.new sizes.new refused.new result }
+    ensures { IsCallPredicted layout.now before.now cpu step.now reply.old reply.new room.old room.new sizes.new refused.new result }
 {
     *refused = NOTHING;
     *sizes = NO_SIZES;

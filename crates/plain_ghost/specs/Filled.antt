@@ -55,6 +55,10 @@ guest_lists_said p slot g = record {
   free = frames_said p.frames (2 + slot);
 }
 
+-- the guests, by slot
+abbrev pub AreFilledGuests : Lists → List GhostGuest → Type 0
+AreFilledGuests p guests = map lists_in guests ≡ map (λ v. guest_lists_said p v (guest_listed p.guests v)) (range_with_len 0 64)
+
 -- each log has room for one call
 pub record IsRoomy (r : GhostRooms) : Type 0 where
   pub vms : r.vms ≡ 1
@@ -70,7 +74,7 @@ slot_filled loads v s = let said = slot_said loads v s in record said { loaded =
 pub record IsFilled (count : ℕ) (p : Lists) (l : GhostLists) : Type 0 where
   pub shared : IsFilledShared p l.shared
   pub slots : map slot_in l.vms.items ≡ map (λ v. slot_filled p.loads v (slot_listed p.slots v)) (range_with_len 0 64)
-  pub guests : map lists_in l.guests.items ≡ map (λ v. guest_lists_said p v (guest_listed p.guests v)) (range_with_len 0 64)
+  pub guests : AreFilledGuests p l.guests.items
   pub cpus : map cpu_in l.cpus.items ≡ map (λ c. cpu_said (cpu_listed p.cpus c)) (range_with_len 0 count)
   pub rooms : IsRoomy l.rooms
   pub log : l.layout.config.log ≡ 1

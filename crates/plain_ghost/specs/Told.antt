@@ -1,5 +1,6 @@
 -- The lists that are told of a state.
-use Rattle.std.specs.Prelude.{ℕ, ◌&&◌, ◌<◌, nat_lt, Bool, IsTrue, List, All}
+use Rattle.std.specs.Prelude.{◌≡◌, ℕ, ◌+◌, ◌&&◌, ◌<◌, nat_lt, Bool, IsTrue, List, [], Option, All, get_or, map}
+use Rattle.std.specs.Option.{option_or}
 use Rattle.step_reply.specs.declared.step.VmKind.{VmKind}
 use Rattle.reference_model.specs.State.{Contents, Phase, Stand}
 use Rattle.ghost_spec.specs.declared.parts.GhostGuest.{GhostGuest}
@@ -14,7 +15,7 @@ use Rattle.plain_ghost.specs.declared.members.PlainSlot.{PlainSlot}
 use Rattle.plain_ghost.specs.declared.told.PlainLists.{PlainLists}
 use Rattle.plain_ghost.specs.Faults.{AreOnce}
 use Rattle.plain_ghost.specs.Known.{has_known_ticket, is_frame, is_guest, is_row, is_run, is_slot, is_table}
-use Rattle.plain_ghost.specs.Lists.{kind_said, phase_said, stand_said}
+use Rattle.plain_ghost.specs.Lists.{kind_said, loader_said, phase_said, stand_said}
 use Rattle.plain_ghost.specs.States.{Lists}
 
 -- the lists
@@ -24,6 +25,14 @@ lists_owned p = record { runs = p.runs.items; tables = p.tables.items; frames = 
 -- members whose numbers all stand for something
 abbrev pub AreKnown : {X : Type 0} → (X → Bool) → List X → Type 0
 AreKnown known xs = All (λ x. IsTrue (known x)) xs
+
+-- of each guest is told, by the number of its tree, what it has
+abbrev pub TellsGuests : {X : Type 0} → (ℕ → List X) → (GhostGuest → List X) → List GhostGuest → Type 0
+TellsGuests told has guests = (v : ℕ) → told (2 + v) ≡ get_or (map has guests) v []
+
+-- these loads are added: a vCPU's loader is the first that is told of it
+abbrev pub AreLoadsAdded : List PlainLoad → List PlainLoad → (ℕ → ℕ → Option ℕ) → Type 0
+AreLoadsAdded old new loader = (slot vcpu : ℕ) → loader_said new slot vcpu ≡ option_or (loader_said old slot vcpu) (loader slot vcpu)
 
 -- loads, whatever the numbers of their vCPUs
 abbrev pub AreLoads : List PlainLoad → Type 0

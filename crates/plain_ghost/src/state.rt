@@ -7,7 +7,7 @@ ghost use Rattle.run_list.specs.Runs.{run_map};
 ghost use Rattle.ghost_spec.specs.declared.lists.GhostLists.{GhostLists};
 ghost use Rattle.ghost_spec.specs.Filled.{state_filled, AreLowRows, AreRowsApart, IsFirstFault, IsFirstRowFault, MakesState};
 ghost use Rattle.ghost_spec.specs.States.{ghost_state, slot_in};
-ghost use Rattle.plain_ghost.specs.Filled.{IsFilled, IsFilledShared, IsFilledTree, IsRoomy, guest_lists_said, lists_in, slot_filled};
+ghost use Rattle.plain_ghost.specs.Filled.{AreFilledGuests, IsFilled, IsFilledShared, IsFilledTree, IsRoomy, guest_lists_said, lists_in, slot_filled};
 ghost use Rattle.plain_ghost.specs.Faults.{
   first_unknown_later,
   first_unknown_of,
@@ -21,7 +21,7 @@ ghost use Rattle.plain_ghost.specs.Faults.{
   IsPlainFault,
   IsTwice,
 };
-ghost use Rattle.plain_ghost.specs.Lists.{guest_listed, rows_said, slot_listed};
+ghost use Rattle.plain_ghost.specs.Lists.{rows_said, slot_listed};
 ghost use Rattle.plain_ghost.specs.States.{state_said};
 ghost use Rattle.plain_ghost.specs.Views.{lists_told};
 
@@ -124,7 +124,7 @@ fn slots_of(
 
 /// The guests.
 fn guests_of(alloc: Global, state: &PlainState<'_>) -> Result<Vec<GhostGuest>, AllocError>
-    ensures { IfOk result (λ v. map lists_in v.items ≡ map (λ n. guest_lists_said (lists_told state.now) n (guest_listed state.now.guests.now n)) (range_with_len 0 64)) }
+    ensures { IfOk result (λ v. AreFilledGuests (lists_told state.now) v.items) }
 {
     let mut made = Vec::new(alloc);
     for slot in 0..SLOTS {

@@ -1,7 +1,6 @@
 //! A state as lists: what `made` reads, written.
 ghost use Rattle.std.specs.Prelude.{◌≡◌, ℕ, ◌+◌, ◌<◌, ◌≤◌, ◌++◌, ◌==◌, ◌&&◌, [], IfOk, IsTrue, None, OnOk, Some, if◌then◌else◌, get_or, length, map};
 ghost use Rattle.std.specs.List.{range_with_len};
-ghost use Rattle.std.specs.Option.{option_or};
 ghost use Rattle.ghost_spec.specs.States.{contents_in, phase_in, stand_in};
 ghost use Rattle.ghost_spec.specs.Views.{cpu_in};
 ghost use Rattle.plain_ghost.specs.Lists.{
@@ -25,7 +24,7 @@ ghost use Rattle.plain_ghost.specs.Lists.{
 };
 ghost use Rattle.plain_ghost.specs.States.{contents_said};
 ghost use Rattle.plain_ghost.specs.Known.{has_known_ticket, is_frame, is_guest, is_row, is_run, is_slot, is_table};
-ghost use Rattle.plain_ghost.specs.Told.{guest_head_in, guest_head_said, in_pool_order, is_cpu_told, lists_owned, slot_head_in, slot_head_said, AreKnown, AreLoads, AreTold};
+ghost use Rattle.plain_ghost.specs.Told.{guest_head_in, guest_head_said, in_pool_order, is_cpu_told, lists_owned, slot_head_in, slot_head_said, TellsGuests, AreKnown, AreLoads, AreLoadsAdded, AreTold};
 ghost use Rattle.plain_ghost.specs.Views.{lists_told};
 
 use crate::members::{
@@ -125,7 +124,7 @@ fn runs_told(alloc: Global, lists: &GhostLists) -> Result<Vec<PlainRun>, AllocEr
     requires { length lists.now.guests.items ≡ 64 }
     ensures host { IfOk result (λ v. runs_said v.items 0 ≡ lists.now.shared.host.runs.items) }
     ensures hyp { IfOk result (λ v. runs_said v.items 1 ≡ lists.now.shared.hyp.runs.items) }
-    ensures guests { IfOk result (λ v. (n : ℕ) → runs_said v.items (2 + n) ≡ get_or (map (λ (g : GhostGuest). g.tree.runs.items) lists.now.guests.items) n []) }
+    ensures guests { IfOk result (λ v. TellsGuests (runs_said v.items) (λ (g : GhostGuest). g.tree.runs.items) lists.now.guests.items) }
     ensures known { IfOk result (λ v. AreKnown is_run v.items) }
 {
     let mut told = Vec::new(alloc);
@@ -146,7 +145,7 @@ fn tables_told(alloc: Global, lists: &GhostLists) -> Result<Vec<PlainTable>, All
     requires { length lists.now.guests.items ≡ 64 }
     ensures host { IfOk result (λ v. tables_said v.items 0 ≡ lists.now.shared.host.tables.items) }
     ensures hyp { IfOk result (λ v. tables_said v.items 1 ≡ lists.now.shared.hyp.tables.items) }
-    ensures guests { IfOk result (λ v. (n : ℕ) → tables_said v.items (2 + n) ≡ get_or (map (λ (g : GhostGuest). g.tree.tables.items) lists.now.guests.items) n []) }
+    ensures guests { IfOk result (λ v. TellsGuests (tables_said v.items) (λ (g : GhostGuest). g.tree.tables.items) lists.now.guests.items) }
     ensures known { IfOk result (λ v. AreKnown is_table v.items) }
 {
     let mut told = Vec::new(alloc);
@@ -166,7 +165,7 @@ fn tables_told(alloc: Global, lists: &GhostLists) -> Result<Vec<PlainTable>, All
 fn frames_told(alloc: Global, lists: &GhostLists) -> Result<Vec<PlainFrame>, AllocError>
     requires { length lists.now.guests.items ≡ 64 }
     ensures shared { IfOk result (λ v. frames_said v.items 1 ≡ lists.now.shared.free.items) }
-    ensures guests { IfOk result (λ v. (n : ℕ) → frames_said v.items (2 + n) ≡ get_or (map (λ (g : GhostGuest). g.free.items) lists.now.guests.items) n []) }
+    ensures guests { IfOk result (λ v. TellsGuests (frames_said v.items) (λ (g : GhostGuest). g.free.items) lists.now.guests.items) }
     ensures known { IfOk result (λ v. AreKnown is_frame v.items) }
 {
     let mut told = Vec::new(alloc);
@@ -266,7 +265,7 @@ fn tell_load(
     vcpu: u64,
     cpu: Option<u64>,
 ) -> Result<(), AllocError>
-    ensures said { OnOk result ((s k : ℕ) → loader_said told.new.items s k ≡ option_or (loader_said told.old.items s k) (if slot == s && vcpu == k then cpu else None)) }
+    ensures said { OnOk result (AreLoadsAdded told.old.items told.new.items (λ s k. if slot == s && vcpu == k then cpu else None)) }
     ensures known { OnOk result (slot < 64 → AreLoads told.old.items → AreLoads told.new.items) }
 {
     if let Some(cpu) = cpu {
@@ -281,7 +280,7 @@ fn tell_loads(
     slot: u64,
     loaded: &[Option<u64>],
 ) -> Result<(), AllocError>
-    ensures said { OnOk result ((s k : ℕ) → loader_said told.new.items s k ≡ option_or (loader_said told.old.items s k) (if slot == s then get_or loaded.now k None else None)) }
+    ensures said { OnOk result (AreLoadsAdded told.old.items told.new.items (λ s k. if slot == s then get_or loaded.now k None else None)) }
     ensures known { OnOk result (slot < 64 → AreLoads told.old.items → AreLoads told.new.items) }
 {
     for i in 0..loaded.len() {

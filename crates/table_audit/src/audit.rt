@@ -1,10 +1,9 @@
 //! The audit.
 ghost use Rattle.std.specs.Prelude.{◌≡◌, ◌↔◌, ℕ, None, All, IfOk, IfSome, MatchOption, length};
-ghost use Rattle.page_state.specs.LayoutView.{layout_of};
 ghost use Rattle.ghost_trees.specs.KeptTrees.{IsKeptTree};
 ghost use Rattle.ghost_judge.specs.Audits.{AreMapsKept};
 ghost use Rattle.ghost_spec.specs.States.{contents_in};
-ghost use Rattle.table_audit.specs.Found.{found, trees_in};
+ghost use Rattle.table_audit.specs.Found.{found_with};
 ghost use Rattle.table_audit.specs.Audited.{guest_table, AgreesWith, IsFirstFinding, IsFirstTable, IsGuestTable, IsWell, TablesAgree};
 
 use crate::finding::Finding;
@@ -25,8 +24,8 @@ use std::alloc::{AllocError, Global};
 pub fn audited(alloc: Global, kept: &Ghost, trees: &[Tree]) -> Result<Option<Finding>, AllocError>
     requires count { length trees.now ≡ 66 }
     requires trees { All IsKeptTree trees.now }
-    ensures none { IfOk result (λ o. (o ≡ None) ↔ IsWell (contents_in kept.now) (found (layout_of kept.now.layout) (contents_in kept.now) (trees_in trees.now))) }
-    ensures first { IfOk result (λ o. IfSome o (IsFirstFinding (contents_in kept.now) (found (layout_of kept.now.layout) (contents_in kept.now) (trees_in trees.now)))) }
+    ensures none { IfOk result (λ o. (o ≡ None) ↔ IsWell (contents_in kept.now) (found_with kept.now trees.now)) }
+    ensures first { IfOk result (λ o. IfSome o (IsFirstFinding (contents_in kept.now) (found_with kept.now trees.now))) }
 {
     let walked = walked_lists(alloc, kept, trees)?;
     let found = compared(kept.lists(), &walked);

@@ -1,12 +1,11 @@
 //! The kept state with the trees that were found, and the owner rows that follow from them.
 ghost use Rattle.std.specs.Prelude.{◌≡◌, ◌+◌, ◌<◌, ℕ, All, IfOk, get_or, length, map};
-ghost use Rattle.page_state.specs.LayoutView.{layout_of};
 ghost use Rattle.page_state.specs.Trees.{no_tree};
 ghost use Rattle.ghost_trees.specs.KeptTrees.{IsKeptTree};
 ghost use Rattle.ghost_trees.specs.Trees.{tree_in_lists};
 ghost use Rattle.ghost_judge.specs.Audits.{AreMapsKept};
 ghost use Rattle.ghost_spec.specs.States.{contents_in, guest_in, ghost_state};
-ghost use Rattle.table_audit.specs.Found.{found, guest_with, trees_in, AreTreesOf};
+ghost use Rattle.table_audit.specs.Found.{found_with, guest_with, AreTreesFrom, AreTreesKept, AreTreesOf};
 
 use ghost_rows::rows_from_scratch;
 use ghost_spec::lists::GhostLists;
@@ -63,13 +62,8 @@ fn all_trees(alloc: Global, guests: &[GhostGuest], trees: &[Tree]) -> Result<Tre
     requires guests { length guests.now ≡ 64 }
     requires trees { length trees.now ≡ 66 }
     requires kept { All IsKeptTree trees.now }
-    ensures host { IfOk result (λ t. tree_in_lists t.host ≡ trees_in trees.now 0) }
-    ensures hyp { IfOk result (λ t. tree_in_lists t.hyp ≡ trees_in trees.now 1) }
-    ensures host_kept { IfOk result (λ t. IsKeptTree t.host) }
-    ensures hyp_kept { IfOk result (λ t. IsKeptTree t.hyp) }
-    ensures guests { IfOk result (λ t. AreTreesOf guests.now trees.now 64 t.guests.items) }
-    ensures guests_kept { IfOk result (λ t. All (λ g. IsKeptTree g.tree) t.guests.items) }
-    ensures count { IfOk result (λ t. length t.guests.items ≡ 64) }
+    ensures found { IfOk result (AreTreesFrom guests.now trees.now) }
+    ensures kept { IfOk result AreTreesKept }
 {
     Ok(Trees {
         host: trees[0].copied(alloc)?,
@@ -86,7 +80,7 @@ pub(crate) fn walked_lists(
 ) -> Result<GhostLists, AllocError>
     requires trees { length trees.now ≡ 66 }
     requires kept { All IsKeptTree trees.now }
-    ensures contents { IfOk result (λ g. contents_in g ≡ found (layout_of kept.now.layout) (contents_in kept.now) (trees_in trees.now)) }
+    ensures contents { IfOk result (λ g. contents_in g ≡ found_with kept.now trees.now) }
     ensures ready { IfOk result AreMapsKept }
 {
     let copy = kept.copied(alloc)?;

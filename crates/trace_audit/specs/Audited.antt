@@ -42,6 +42,10 @@ pub record Audited (A : Type 0) : Type 0 where
   pub session : Standing
   pub poked : Option (RawWorld A)
 
+-- the lines that end a report of so many step lines: the difference, if there is one, and the numbers of step lines and of differences
+abbrev pub found_lines : ℕ → Option Disagreement → List ReportLine
+found_lines steps found = audited_lines found ++ report.End steps (length (audited_lines found)) ∷ []
+
 module _ {A : Type 0} where
   -- before the first line
   abbrev pub nothing_audited : Audited A
@@ -123,9 +127,9 @@ module _ {A : Type 0} where
   abbrev pub IsAudited : Audited A → Option Disagreement → Type 0
   IsAudited a found = MatchOption a.poked (found ≡ None) (λ world. ComparesWalk world.parts found)
 
-  -- the lines that end a report: the difference, if there is one, and the numbers of step lines and of differences
+  -- the lines that end its report
   abbrev pub end_lines : Audited A → Option Disagreement → List ReportLine
-  end_lines a found = audited_lines found ++ report.End a.session.steps (length (audited_lines found)) ∷ []
+  end_lines a found = found_lines a.session.steps found
 
   abbrev pub Ends : Audited A → List ReportLine → Outcome → Type 0
   Ends a lines outcome = (found : Option Disagreement) × IsAudited a found × (lines ≡ end_lines a found) × (outcome ≡ outcome_of (length (audited_lines found)))

@@ -1,14 +1,12 @@
 //! Auditing a trace.
-ghost use Rattle.std.specs.Prelude.{◌≡◌, ◌<◌, ◌^◌, ◌++◌, ◌∷◌, [], IfOk, OnErr, length};
-ghost use Rattle.std.specs.Io.KnownBytes.{Appends};
-ghost use Rattle.trace_audit.specs.Audited.{Ends, IsAuditBegun, IsAuditTold, RunsLine};
+ghost use Rattle.std.specs.Prelude.{◌<◌, ◌^◌, IfOk, OnErr, length};
+ghost use Rattle.trace_audit.specs.Audited.{Ends, IsAuditBegun, IsAuditTold, RunsLine, found_lines};
 ghost use Rattle.trace_audit.specs.View.{audited_of};
 ghost use Rattle.trace_text.specs.Failures.{CountsReads, CountsWrites, TellsWrite};
 ghost use Rattle.trace_text.specs.Oracles.{audited_lines};
-ghost use Rattle.trace_text.specs.Played.{WritesFront};
+ghost use Rattle.trace_text.specs.Played.{EndsWith, WritesFront};
 ghost use Rattle.trace_text.specs.Ready.{IsReady};
 ghost use Rattle.trace_text.specs.Replay.{outcome_of};
-ghost use Rattle.trace_text.specs.Texts.{text_of_report};
 ghost use Rattle.trace_text.specs.View.{standing_of};
 
 use crate::poked::Audit;
@@ -73,8 +71,8 @@ fn tell_found<K: Sink>(
     steps: u64,
     found: Option<Disagreement>,
 ) -> Result<Outcome, EngineFault>
-    ensures ok { IfOk result (λ outcome. (outcome ≡ outcome_of (length (audited_lines found))) × Appends (K.contents sink.old) (K.contents sink.new) (text_of_report (audited_lines found ++ ReportLine.End steps (length (audited_lines found)) ∷ []))) }
-    ensures front { OnErr result (WritesFront (audited_lines found ++ ReportLine.End steps (length (audited_lines found)) ∷ []) (K.contents sink.old) (K.contents sink.new)) }
+    ensures ok { IfOk result (EndsWith (found_lines steps found) (outcome_of (length (audited_lines found))) (K.contents sink.old) (K.contents sink.new)) }
+    ensures front { OnErr result (WritesFront (found_lines steps found) (K.contents sink.old) (K.contents sink.new)) }
     ensures counted { TellsWrite (K.failures sink.old) (K.failures sink.new) result }
 {
     tell_audited(sink, text, found)?;

@@ -24,7 +24,7 @@ ghost use Rattle.trace_check.specs.Misses.{
 };
 ghost use Rattle.trace_check.specs.Shown.{shown as shown_by};
 ghost use Rattle.trace_words.specs.Words.{is_silent as is_silent_line};
-ghost use Rattle.trace_check.specs.View.{misses_in, told_in};
+ghost use Rattle.trace_check.specs.View.{AddsMisses, misses_in, told_in};
 
 use crate::comment::{expectation, is_expectation};
 use crate::expecting::expected_first;
@@ -66,7 +66,7 @@ fn add_rest(
     told: &[Vec<ReportLine>],
 ) -> Result<(), AllocError>
     requires { length told.now ≤ length lines.now }
-    ensures { OnOk result (misses_in found.new.items ≡ misses_in found.old.items ++ rest_by (map (λ line. line.now) lines.now) (told_in told.now)) }
+    ensures { OnOk result (AddsMisses found.old found.new (rest_by (map (λ line. line.now) lines.now) (told_in told.now))) }
 {
     let count = told.len();
     add_unreached(global, found, count as u64, &lines[count..])?;
@@ -75,7 +75,7 @@ fn add_rest(
 
 /// The expectations before the first line.
 fn add_early(global: Global, found: &mut Vec<Miss>, lines: &[&[u8]]) -> Result<(), AllocError>
-    ensures { OnOk result (misses_in found.new.items ≡ misses_in found.old.items ++ early_by (map (λ line. line.now) lines.now)) }
+    ensures { OnOk result (AddsMisses found.old found.new (early_by (map (λ line. line.now) lines.now))) }
 {
     let texts = expected_first(global, lines)?;
     add_unmet(
@@ -96,7 +96,7 @@ fn add_missed(
     told: &[Vec<ReportLine>],
 ) -> Result<(), AllocError>
     requires { length told.now ≤ length lines.now }
-    ensures { OnOk result (misses_in found.new.items ≡ misses_in found.old.items ++ missed_by_all 1 (map (λ line. line.now) lines.now) (told_in told.now)) }
+    ensures { OnOk result (AddsMisses found.old found.new (missed_by_all 1 (map (λ line. line.now) lines.now) (told_in told.now))) }
 {
     for (place, reported) in told.iter().enumerate() {
         let number = place as u64 + 1;
@@ -122,7 +122,7 @@ fn add_missed_at(
     rest: &[&[u8]],
 ) -> Result<(), AllocError>
     requires { number + length rest.now < 2 ^ 64 }
-    ensures { OnOk result (misses_in found.new.items ≡ misses_in found.old.items ++ missed_at_by number line.now reported.now (map (λ line. line.now) rest.now)) }
+    ensures { OnOk result (AddsMisses found.old found.new (missed_at_by number line.now reported.now (map (λ line. line.now) rest.now))) }
 {
     if is_expectation(line) {
         return add_unexpected(global, found, number, reported);
@@ -141,7 +141,7 @@ fn add_missed_by(
     texts: &[&[u8]],
 ) -> Result<(), AllocError>
     requires { number + length texts.now < 2 ^ 64 }
-    ensures { OnOk result (misses_in found.new.items ≡ misses_in found.old.items ++ missed_by_line number line.now reported.now (map (λ text. text.now) texts.now)) }
+    ensures { OnOk result (AddsMisses found.old found.new (missed_by_line number line.now reported.now (map (λ text. text.now) texts.now))) }
 {
     if texts.is_empty() {
         return add_unexpected(global, found, number, reported);
@@ -169,7 +169,7 @@ fn add_against(
     texts: &[&[u8]],
 ) -> Result<(), AllocError>
     requires { number + length texts.now < 2 ^ 64 }
-    ensures { OnOk result (misses_in found.new.items ≡ misses_in found.old.items ++ against_by number (map string_bytes got.now) (map (λ text. text.now) texts.now)) }
+    ensures { OnOk result (AddsMisses found.old found.new (against_by number (map string_bytes got.now) (map (λ text. text.now) texts.now))) }
 {
     add_unmet(global, found, number, b"got no more", got, texts)?;
     add_past(global, found, number, got, texts.len())?;
@@ -184,7 +184,7 @@ fn add_past(
     got: &[String],
     count: usize,
 ) -> Result<(), AllocError>
-    ensures { OnOk result (misses_in found.new.items ≡ misses_in found.old.items ++ extra_by number (drop count (map string_bytes got.now))) }
+    ensures { OnOk result (AddsMisses found.old found.new (extra_by number (drop count (map string_bytes got.now)))) }
 {
     if got.len() <= count {
         return Ok(());
@@ -220,7 +220,7 @@ fn add_unmet(
     texts: &[&[u8]],
 ) -> Result<(), AllocError>
     requires { number + length texts.now < 2 ^ 64 }
-    ensures { OnOk result (misses_in found.new.items ≡ misses_in found.old.items ++ unmet_by (number + 1) why.now (map string_bytes got.now) (map (λ text. text.now) texts.now)) }
+    ensures { OnOk result (AddsMisses found.old found.new (unmet_by (number + 1) why.now (map string_bytes got.now) (map (λ text. text.now) texts.now))) }
 {
     for (place, text) in texts.iter().enumerate() {
         let at = number + place as u64 + 1;
@@ -238,7 +238,7 @@ fn add_unmet_at(
     got: Option<&String>,
     text: &[u8],
 ) -> Result<(), AllocError>
-    ensures { OnOk result (misses_in found.new.items ≡ misses_in found.old.items ++ unmet_at_by number why.now (option_map string_bytes (option_copied got.entry)) text.now) }
+    ensures { OnOk result (AddsMisses found.old found.new (unmet_at_by number why.now (option_map string_bytes (option_copied got.entry)) text.now)) }
 {
     match got {
         Some(got) => add_other(global, found, number, got, text),
@@ -254,7 +254,7 @@ fn add_expected(
     text: &[u8],
     why: &[u8],
 ) -> Result<(), AllocError>
-    ensures { OnOk result (misses_in found.new.items ≡ misses_in found.old.items ++ (number, unmet_words text.now why.now) ∷ []) }
+    ensures { OnOk result (AddsMisses found.old found.new ((number, unmet_words text.now why.now) ∷ [])) }
 {
     add(found, number, unmet_said(global, text, why)?)
 }
@@ -267,7 +267,7 @@ fn add_other(
     got: &String,
     text: &[u8],
 ) -> Result<(), AllocError>
-    ensures { OnOk result (misses_in found.new.items ≡ misses_in found.old.items ++ other_at_by number (string_bytes got.now) text.now) }
+    ensures { OnOk result (AddsMisses found.old found.new (other_at_by number (string_bytes got.now) text.now)) }
 {
     if got.as_bytes() == text {
         return Ok(());
@@ -282,7 +282,7 @@ fn add_extra(
     number: u64,
     got: &[String],
 ) -> Result<(), AllocError>
-    ensures { OnOk result (misses_in found.new.items ≡ misses_in found.old.items ++ extra_by number (map string_bytes got.now)) }
+    ensures { OnOk result (AddsMisses found.old found.new (extra_by number (map string_bytes got.now))) }
 {
     for text in got {
         add_extra_at(global, found, number, text.as_bytes())?;
@@ -296,7 +296,7 @@ fn add_extra_at(
     number: u64,
     got: &[u8],
 ) -> Result<(), AllocError>
-    ensures { OnOk result (misses_in found.new.items ≡ misses_in found.old.items ++ (number, extra_words got.now) ∷ []) }
+    ensures { OnOk result (AddsMisses found.old found.new ((number, extra_words got.now) ∷ [])) }
 {
     add(found, number, extra_said(global, got)?)
 }
@@ -308,7 +308,7 @@ fn add_unexpected(
     number: u64,
     reported: &[ReportLine],
 ) -> Result<(), AllocError>
-    ensures { OnOk result (misses_in found.new.items ≡ misses_in found.old.items ++ unexpected_by number reported.now) }
+    ensures { OnOk result (AddsMisses found.old found.new (unexpected_by number reported.now)) }
 {
     for told in reported {
         add_unexpected_at(global, found, number, *told)?;
@@ -322,7 +322,7 @@ fn add_unexpected_at(
     number: u64,
     told: ReportLine,
 ) -> Result<(), AllocError>
-    ensures { OnOk result (misses_in found.new.items ≡ misses_in found.old.items ++ unexpected_at_by number told) }
+    ensures { OnOk result (AddsMisses found.old found.new (unexpected_at_by number told)) }
 {
     if is_plain(told) {
         return Ok(());
@@ -338,7 +338,7 @@ fn add_unreached(
     lines: &[&[u8]],
 ) -> Result<(), AllocError>
     requires { number + length lines.now < 2 ^ 64 }
-    ensures { OnOk result (misses_in found.new.items ≡ misses_in found.old.items ++ unreached_by (number + 1) (map (λ line. line.now) lines.now)) }
+    ensures { OnOk result (AddsMisses found.old found.new (unreached_by (number + 1) (map (λ line. line.now) lines.now))) }
 {
     for (place, line) in lines.iter().enumerate() {
         if !is_expectation(line) {
@@ -356,7 +356,7 @@ fn add_left(
     lines: &[&[u8]],
 ) -> Result<(), AllocError>
     requires { number + length lines.now < 2 ^ 64 }
-    ensures { OnOk result (misses_in found.new.items ≡ misses_in found.old.items ++ left_by (number + 1) (map (λ line. line.now) lines.now)) }
+    ensures { OnOk result (AddsMisses found.old found.new (left_by (number + 1) (map (λ line. line.now) lines.now))) }
 {
     for (place, line) in lines.iter().enumerate() {
         add_left_at(global, found, number + place as u64 + 1, line)?;
@@ -370,7 +370,7 @@ fn add_left_at(
     number: u64,
     line: &[u8],
 ) -> Result<(), AllocError>
-    ensures { OnOk result (misses_in found.new.items ≡ misses_in found.old.items ++ left_at_by number line.now) }
+    ensures { OnOk result (AddsMisses found.old found.new (left_at_by number line.now)) }
 {
     match expectation(line) {
         Some(text) => add_expected(global, found, number, text, b"not reached"),
@@ -379,7 +379,7 @@ fn add_left_at(
 }
 
 fn add_not_reached(global: Global, found: &mut Vec<Miss>, number: u64) -> Result<(), AllocError>
-    ensures { OnOk result (misses_in found.new.items ≡ misses_in found.old.items ++ (number, codes "not reached") ∷ []) }
+    ensures { OnOk result (AddsMisses found.old found.new ((number, codes "not reached") ∷ [])) }
 {
     add(found, number, not_reached(global)?)
 }
@@ -397,7 +397,7 @@ fn add_unsilent(
     number: u64,
     line: &[u8],
 ) -> Result<(), AllocError>
-    ensures { OnOk result (misses_in found.new.items ≡ misses_in found.old.items ++ (if is_silent_line line.now then [] else (number, codes "not reached") ∷ [])) }
+    ensures { OnOk result (AddsMisses found.old found.new (if is_silent_line line.now then [] else (number, codes "not reached") ∷ [])) }
 {
     if is_silent(line) {
         return Ok(());
@@ -406,7 +406,7 @@ fn add_unsilent(
 }
 
 fn add(found: &mut Vec<Miss>, line: u64, said: Vec<u8>) -> Result<(), AllocError>
-    ensures { OnOk result (misses_in found.new.items ≡ misses_in found.old.items ++ (line, said.items) ∷ []) }
+    ensures { OnOk result (AddsMisses found.old found.new ((line, said.items) ∷ [])) }
 {
     found.push(Miss { line, said })?;
     Ok(())

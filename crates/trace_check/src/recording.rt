@@ -16,7 +16,7 @@ ghost use Rattle.trace_check.specs.Records.{
   recorded_at as recorded_at_by,
   without_own,
 };
-ghost use Rattle.trace_check.specs.View.{lines_in, told_in};
+ghost use Rattle.trace_check.specs.View.{AddsLines, lines_in, told_in};
 
 use crate::carrying::{Carried, Watch, carry_out};
 use crate::comment::is_expectation;
@@ -62,7 +62,7 @@ fn recorded(
 
 /// The lines after the one that ended the run, without its expectations.
 fn add_rest(recorded: &mut Vec<Vec<u8>>, global: Global, lines: &[&[u8]]) -> Result<(), AllocError>
-    ensures { OnOk result (lines_in recorded.new.items ≡ lines_in recorded.old.items ++ without_own (map (λ line. line.now) lines.now)) }
+    ensures { OnOk result (AddsLines recorded.old recorded.new (without_own (map (λ line. line.now) lines.now))) }
 {
     for (place, line) in lines.iter().enumerate() {
         if !is_expectation(line) {
@@ -78,7 +78,7 @@ fn add_copies(
     global: Global,
     lines: &[&[u8]],
 ) -> Result<(), AllocError>
-    ensures { OnOk result (lines_in recorded.new.items ≡ lines_in recorded.old.items ++ map (λ line. line.now) lines.now) }
+    ensures { OnOk result (AddsLines recorded.old recorded.new (map (λ line. line.now) lines.now)) }
 {
     for line in lines {
         recorded.push(Vec::from_slice(global, line)?)?;
@@ -93,7 +93,7 @@ fn add_recorded(
     line: &[u8],
     reported: &[ReportLine],
 ) -> Result<(), AllocError>
-    ensures { OnOk result (lines_in recorded.new.items ≡ lines_in recorded.old.items ++ recorded_at_by line.now reported.now) }
+    ensures { OnOk result (AddsLines recorded.old recorded.new (recorded_at_by line.now reported.now)) }
 {
     if is_expectation(line) {
         return Ok(());
@@ -108,7 +108,7 @@ fn add_noted(
     global: Global,
     reported: &[ReportLine],
 ) -> Result<(), AllocError>
-    ensures { OnOk result (lines_in recorded.new.items ≡ lines_in recorded.old.items ++ noted_by reported.now) }
+    ensures { OnOk result (AddsLines recorded.old recorded.new (noted_by reported.now)) }
 {
     let notes = notes(global, reported)?;
     add_expected(recorded, notes)?;
@@ -125,7 +125,7 @@ fn notes(global: Global, reported: &[ReportLine]) -> Result<Vec<Vec<u8>>, AllocE
 
 /// Lines, where all of them are expectations.
 fn add_expected(recorded: &mut Vec<Vec<u8>>, lines: Vec<Vec<u8>>) -> Result<(), AllocError>
-    ensures { OnOk result (lines_in recorded.new.items ≡ lines_in recorded.old.items ++ (if can_expect_by (lines_in lines.items) then lines_in lines.items else [])) }
+    ensures { OnOk result (AddsLines recorded.old recorded.new (if can_expect_by (lines_in lines.items) then lines_in lines.items else [])) }
 {
     if !can_expect(lines.as_slice()) {
         return Ok(());
@@ -166,7 +166,7 @@ fn can_expect(comments: &[Vec<u8>]) -> bool
 }
 
 fn add_all(recorded: &mut Vec<Vec<u8>>, lines: Vec<Vec<u8>>) -> Result<(), AllocError>
-    ensures { OnOk result (lines_in recorded.new.items ≡ lines_in recorded.old.items ++ lines_in lines.items) }
+    ensures { OnOk result (AddsLines recorded.old recorded.new (lines_in lines.items)) }
 {
     for line in lines {
         recorded.push(line)?;

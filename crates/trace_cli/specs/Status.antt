@@ -165,6 +165,10 @@ status_written (Err error) = 1
 abbrev pub IsPut : List ℕ → Option (List ℕ) → Option (List ℕ) → ℕ → Type 0
 IsPut text old new status = ((status ≡ 0) × Appends old new text) ⊎ (status ≡ 1)
 
+-- a text that was made is put so, and where none was the status says why
+abbrev pub IsAnswerPut : {X : Type 0} → (X → List ℕ) → Result X GenerateFault → Option (List ℕ) → Option (List ℕ) → ℕ → Type 0
+IsAnswerPut bytes answer old new status = MatchResult answer (λ text. IsPut (bytes text) old new status) (λ fault. status ≡ status_of_fault fault)
+
 -- a trace of these options was made, and put so; or why none was
 abbrev pub IsMade : ℕ → Options → Option (List ℕ) → Option (List ℕ) → ℕ → Type 0
 IsMade steps options old new status =

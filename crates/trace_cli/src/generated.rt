@@ -1,6 +1,6 @@
 //! Making a trace.
-ghost use Rattle.std.specs.Prelude.{◌≡◌, MatchResult, string_bytes};
-ghost use Rattle.trace_cli.specs.Status.{IsMade, IsPut, status_of_fault, status_written};
+ghost use Rattle.std.specs.Prelude.{◌≡◌, string_bytes};
+ghost use Rattle.trace_cli.specs.Status.{IsAnswerPut, IsMade, IsPut, status_written};
 
 use crate::telling::{FAILED, REFUSED};
 use std::io::{self, Write};
@@ -22,7 +22,7 @@ pub fn made<R: AllocGlobal + Eprint, W: Write>(
 
 /// Writes a trace that was made, or tells why none was, and gives the exit status.
 fn written<R: Eprint, W: Write>(rt: &R, writer: &mut W, answer: Result<String, GenerateFault>) -> u8
-    ensures { MatchResult answer (λ text. IsPut (string_bytes text) (W.contents writer.old) (W.contents writer.new) result) (λ fault. result ≡ status_of_fault fault) }
+    ensures { IsAnswerPut string_bytes answer (W.contents writer.old) (W.contents writer.new) result }
 {
     match answer {
         Ok(text) => put(rt, writer, text.as_bytes()),

@@ -1,8 +1,11 @@
 -- What a generated trace is (profile).
 use Rattle.std.specs.Prelude.{◌≡◌, ℕ, List, [], ◌∷◌, ◌++◌, codes, length}
 use Rattle.page_state.specs.Layouts.{Layout}
+use Rattle.page_state.specs.LayoutView.{layout_of}
 use Rattle.reference_model.specs.Boot.{boot}
 use Rattle.reference_model.specs.State.{Reference}
+use Rattle.ghost_spec.specs.declared.lists.GhostLists.{GhostLists}
+use Rattle.ghost_spec.specs.States.{ghost_state}
 use Rattle.trace_generate.specs.declared.line.StepLine.{StepLine}
 use Rattle.trace_generate.specs.declared.options.Options.{Options}
 use Rattle.trace_generate.specs.Lines.{text_of_line, text_of_settings}
@@ -20,6 +23,10 @@ pub record IsSoFar (l : Layout) (hostile : ℕ) (start : Reference) (begun : Lis
   pub count : length calls ≡ number
   pub walk : IsWalk l hostile 0 start calls state
   pub text : bytes ≡ begun ++ text_of_calls calls
+
+-- just so many calls were made, from lists that say a state to others, and their lines written behind bytes
+abbrev pub AreCallsMade : ℕ → ℕ → GhostLists → GhostLists → List ℕ → List ℕ → Type 0
+AreCallsMade hostile count old new begun bytes = IsSoFar (layout_of old.layout) hostile (ghost_state old) begun count (ghost_state new) bytes
 
 -- the bytes of a trace of these options: the settings, and then just as many calls, which are a walk of the model from the boot of these settings
 pub record IsTrace (steps : ℕ) (o : Options) (bytes : List ℕ) : Type 0 where

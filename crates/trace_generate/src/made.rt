@@ -1,10 +1,9 @@
 //! A trace that is made.
 ghost use Rattle.std.specs.Prelude.{◌≡◌, ◌++◌, ◌≤◌, codes, IfOk, IfErr, OnOk, string_bytes};
 ghost use Rattle.page_state.specs.LayoutView.{layout_of};
-ghost use Rattle.ghost_spec.specs.States.{ghost_state};
 ghost use Rattle.trace_generate.specs.Lines.{text_of_line, text_of_settings};
 ghost use Rattle.trace_generate.specs.Machine.{IsFault, IsInRange, IsLayoutOf, settings_of};
-ghost use Rattle.trace_generate.specs.Made.{IsSoFar, IsTrace};
+ghost use Rattle.trace_generate.specs.Made.{AreCallsMade, IsTrace};
 
 use crate::chance::seeded;
 use crate::line::{SettingLines, StepLine};
@@ -69,7 +68,7 @@ fn walked(
 ) -> Result<(), AllocError>
     requires range { IsInRange steps options }
     requires layout { IsLayoutOf steps options (layout_of state.old.layout) }
-    ensures { OnOk result (IsSoFar (layout_of state.old.layout) options.hostile (ghost_state state.old) (string_bytes text.old) steps (ghost_state state.new) (string_bytes text.new)) }
+    ensures { OnOk result (AreCallsMade options.hostile steps state.old state.new (string_bytes text.old) (string_bytes text.new)) }
 {
     let mut chance = seeded(seed);
     let mut made = Made::NONE;

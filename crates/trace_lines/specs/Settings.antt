@@ -3,6 +3,7 @@ use Rattle.std.specs.Prelude.{ℕ, List, [], ◌∷◌, ◌++◌, Option, Some, 
 use Rattle.page_state.specs.declared.entry.PageRange.{PageRange}
 use Rattle.page_state.specs.declared.layout.Config.{Config}
 use Rattle.page_state.specs.declared.layout.Region.{Region}
+use Rattle.page_state.specs.declared.layout.RegionKind.{RegionKind}
 use Rattle.page_state.specs.declared.layout.RegionKind.TheVariants as kinds
 use Rattle.trace_lines.specs.declared.line.Setting.{Setting}
 use Rattle.trace_lines.specs.declared.line.Setting.TheVariants as settings
@@ -24,13 +25,17 @@ told_of s = record { geometry = s.geometry; cpus = s.cpus; log = s.log; regions 
 abbrev pub nothing_told : Told
 nothing_told = record { geometry = None; cpus = None; log = None; regions = []; carve = None }
 
+-- what is told with one more region, after the others
+abbrev pub with_region : RegionKind → PageRange → Told → Told
+with_region kind pages told = record told { regions = told.regions ++ record { kind = kind; pages = pages } ∷ [] }
+
 -- what is told after a setting
 abbrev pub told_after : Setting → Told → Told
 told_after (settings.Geometry bits) told = record told { geometry = Some bits }
 told_after (settings.Cpus cpus) told = record told { cpus = Some cpus }
 told_after (settings.Log calls) told = record told { log = Some calls }
-told_after (settings.Memory pages) told = record told { regions = told.regions ++ record { kind = kinds.Memory; pages = pages } ∷ [] }
-told_after (settings.Device pages) told = record told { regions = told.regions ++ record { kind = kinds.Device; pages = pages } ∷ [] }
+told_after (settings.Memory pages) told = with_region kinds.Memory pages told
+told_after (settings.Device pages) told = with_region kinds.Device pages told
 told_after (settings.Carve pages) told = record told { carve = Some pages }
 
 -- the configuration that was told: where nothing was, one CPU, logs of 1,024 calls, and 39 bits

@@ -1,6 +1,6 @@
 //! What a trace says before its boot.
-ghost use Rattle.std.specs.Prelude.{◌≡◌, [], ◌∷◌, ◌++◌, OnOk, OnErr};
-ghost use Rattle.trace_lines.specs.Settings.{config_of, nothing_told, told_after, told_of};
+ghost use Rattle.std.specs.Prelude.{◌≡◌, OnOk, OnErr};
+ghost use Rattle.trace_lines.specs.Settings.{config_of, nothing_told, told_after, told_of, with_region};
 
 use crate::line::Setting;
 use page_state::{Config, PageRange, Region, RegionKind};
@@ -47,7 +47,7 @@ impl Settings {
     }
 
     fn add_region(&mut self, kind: RegionKind, pages: PageRange) -> Result<(), AllocError>
-        ensures ok { OnOk result (told_of self.new ≡ record (told_of self.old) { regions = self.old.regions.items ++ record { kind = kind; pages = pages } ∷ [] }) }
+        ensures ok { OnOk result (told_of self.new ≡ with_region kind pages (told_of self.old)) }
         ensures err { OnErr result (told_of self.new ≡ told_of self.old) }
     {
         self.regions.push(Region { kind, pages })?;

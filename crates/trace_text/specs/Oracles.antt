@@ -7,8 +7,11 @@ use Rattle.page_state.specs.LayoutView.{layout_of}
 use Rattle.reference_model.specs.State.{Reference}
 use Rattle.reference_model.specs.Step.{Steps}
 use Rattle.ghost_spec.specs.declared.state.Ghost.{Ghost}
-use Rattle.ghost_spec.specs.States.{ghost_state}
+use Rattle.ghost_spec.specs.States.{contents_in, ghost_state}
 use Rattle.ghost_judge.specs.declared.disagreement.Disagreement.{Disagreement}
+use Rattle.ghost_judge.specs.Judgements.{IsFirstJudged, JudgeAgrees, told_of}
+use Rattle.ghost_oracle.specs.declared.compared.Compared.{Compared}
+use Rattle.ghost_oracle.specs.Compared.{walked_in}
 use Rattle.trace_text.specs.declared.oracle.Verdict.{Verdict}
 use Rattle.trace_text.specs.declared.report.ReportLine.{ReportLine}
 use Rattle.trace_text.specs.declared.report.ReportLine.TheVariants as report
@@ -37,6 +40,18 @@ pub record IsShown (m : Machine) (c : Call) (t : Reference) (before : Ghost) (cp
   pub made : Steps m.layout m.state c t
   pub after_is : ghost_state after ≡ t
   pub walked_is : ghost_state walked ≡ t
+
+-- a verdict may be told of each call of which these are the states
+abbrev pub TellsShown : Gives → Ghost → ℕ → Step → Reply → Compared → Verdict → Type 0
+TellsShown gives before cpu step reply after v = (m : Machine) (c : Call) (t : Reference) → IsShown m c t before cpu step reply after.kept (walked_in after) → gives m c t v
+
+-- the reply of a step, and the state that is kept after it, are what the model says by the state before it
+abbrev pub StepAgrees : Ghost → ℕ → Step → Reply → Ghost → Type 0
+StepAgrees before cpu step reply after = JudgeAgrees (contents_in before) step reply (contents_in after) (told_of before cpu step)
+
+-- they differ from it, and first so
+abbrev pub IsFirstOfStep : Ghost → ℕ → Step → Reply → Ghost → Disagreement → Type 0
+IsFirstOfStep before cpu step reply after = IsFirstJudged (contents_in before) step reply (contents_in after) (told_of before cpu step)
 
 -- the line of the report that tells what a judgement found, if anything
 abbrev pub judged_lines : Option Disagreement → List ReportLine

@@ -26,6 +26,10 @@ lines_told number (Ok told) = told
 abbrev pub WritesFront : List ReportLine → Option (List ℕ) → Option (List ℕ) → Type 0
 WritesFront lines old new = (count : ℕ) × Appends old new (take count (text_of_report lines))
 
+-- lines were written, and the run ends with an outcome
+abbrev pub EndsWith : List ReportLine → Outcome → Option (List ℕ) → Option (List ℕ) → Outcome → Type 0
+EndsWith lines ended old new outcome = (outcome ≡ ended) × Appends old new (text_of_report lines)
+
 -- of what lines do
 module _ {S : Type 0} (does : Doing S) where
   -- a line that was carried out, from one standing to another, and reported

@@ -9,6 +9,8 @@ use Rattle.step_reply.specs.declared.reply.Call.{Call}
 use Rattle.page_state.specs.LayoutFaults.{IsAccepted, IsFirstFault}
 use Rattle.page_state.specs.Regions.{Memory, memory_of}
 use Rattle.step_reply.specs.declared.step.Step.{Step}
+use Rattle.hypercalls.specs.Booted.{IsBooted}
+use Rattle.world.specs.declared.World.{World}
 use Rattle.world.specs.Boots.{IsNoBoot}
 use Rattle.reference_model.specs.State.{Reference}
 use Rattle.reference_model.specs.Step.{Steps}
@@ -81,6 +83,14 @@ abbrev pub IsNoWorld : Stop → Memory → Config → Type 0
 IsNoWorld (stops.Fault (faults.Layout fault)) memory config = IsNoLayout fault memory
 IsNoWorld (stops.Fault (faults.Boot fault)) memory config = IsAccepted memory × IsNoBoot fault memory config
 IsNoWorld stop memory config = ⊥
+
+-- a world that booted, or why there is none
+abbrev pub IsWorldOf : {A : Type 0} → Memory → Config → Result (World A) Stop → Type 0
+IsWorldOf memory config answer = MatchResult answer (λ w. IsBooted memory config w.parts) (λ stop. IsNoWorld stop memory config)
+
+-- the memory, where it makes a layout, or else why no world has it
+abbrev pub IsMemoryOf : Memory → Result Memory Stop → Type 0
+IsMemoryOf memory answer = MatchResult answer (λ m. (m ≡ memory) × IsAccepted memory) (λ stop. (config : Config) → IsNoWorld stop memory config)
 
 -- the machine of what was told has booted, and the line tells its tables and free frames
 pub record HasBooted (carve : PageRange) (old : Standing) (m : Machine) (reported : Response) (new : Standing) : Type 0 where

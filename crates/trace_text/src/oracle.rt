@@ -1,13 +1,12 @@
 //! What judges and audits the steps of a replay.
 ghost use Rattle.std.specs.Prelude.{◌≡◌, ◌<◌, ◌≤◌, ◌↔◌, IfOk, IfSome, None, length};
 ghost use Rattle.ghost_judge.specs.Audits.{AuditAgrees, IsFirstDifference};
-ghost use Rattle.ghost_judge.specs.Judgements.{IsFirstJudged, JudgeAgrees, told_of};
 ghost use Rattle.ghost_oracle.specs.Compared.{walked_in};
 ghost use Rattle.ghost_spec.specs.Kept.{HasNextGeneration};
 ghost use Rattle.ghost_spec.specs.States.{contents_in};
 ghost use Rattle.step_reply.specs.declared.reply.Call.{Call};
 ghost use Rattle.reference_model.specs.State.{Reference};
-ghost use Rattle.trace_text.specs.Oracles.{IsAgreed, IsShown, audited_lines, judged_lines, verdict_lines};
+ghost use Rattle.trace_text.specs.Oracles.{IsAgreed, IsFirstOfStep, StepAgrees, TellsShown, agreed, audited_lines, judged_lines, verdict_lines};
 ghost use Rattle.trace_text.specs.Worlds.{Machine};
 
 use ghost_judge::disagreement::Disagreement;
@@ -68,7 +67,7 @@ pub trait Oracle {
     ) -> Result<Verdict, AllocError>
         requires cpu { cpu < before.layout.config.cpus }
         requires generation { HasNextGeneration ((contents_in before).cpu cpu).ticket step }
-        ensures told { IfOk result (λ v. (m : Machine) (c : Call) (t : Reference) → IsShown m c t before cpu step reply after.now.kept (walked_in after.now) → gives m c t v) };
+        ensures told { IfOk result (TellsShown gives before cpu step reply after.now) };
 }
 
 /// The oracle of `replay`: it judges each step by the model, and audits what is kept by the walk. In a replay it finds no
@@ -90,9 +89,9 @@ impl Oracle for GhostOracle {
     ) -> Result<Verdict, AllocError>
         requires cpu { cpu < before.layout.config.cpus }
         requires generation { HasNextGeneration ((contents_in before).cpu cpu).ticket step }
-        ensures told { IfOk result (λ v. (m : Machine) (c : Call) (t : Reference) → IsShown m c t before cpu step reply after.now.kept (walked_in after.now) → IsAgreed v) }
-        ensures judged { IfOk result (λ v. (v.judged ≡ None) ↔ JudgeAgrees (contents_in before) step reply (contents_in after.now.kept) (told_of before cpu step)) }
-        ensures first_judged { IfOk result (λ v. IfSome v.judged (IsFirstJudged (contents_in before) step reply (contents_in after.now.kept) (told_of before cpu step))) }
+        ensures told { IfOk result (TellsShown agreed before cpu step reply after.now) }
+        ensures judged { IfOk result (λ v. (v.judged ≡ None) ↔ StepAgrees before cpu step reply after.now.kept) }
+        ensures first_judged { IfOk result (λ v. IfSome v.judged (IsFirstOfStep before cpu step reply after.now.kept)) }
         ensures audited { IfOk result (λ v. (v.audited ≡ None) ↔ AuditAgrees (contents_in after.now.kept) (contents_in (walked_in after.now))) }
         ensures first_audited { IfOk result (λ v. IfSome v.audited (IsFirstDifference (contents_in after.now.kept) (contents_in (walked_in after.now)))) }
     {

@@ -1,9 +1,7 @@
 //! What a trace has said so far, and what a line does.
-ghost use Rattle.std.specs.Prelude.{◌≡◌, ◌+◌, ◌<◌, ◌≤◌, ◌^◌, List, [], Option, Some, None, is_some, option_copied, option_map, IfOk, IfSome, OnOk, OnErr, MatchOption, MatchResult};
-ghost use Rattle.page_state.specs.declared.layout.Config.{Config};
-ghost use Rattle.page_state.specs.LayoutFaults.{IsAccepted};
+ghost use Rattle.std.specs.Prelude.{◌≡◌, ◌+◌, ◌<◌, ◌≤◌, ◌^◌, List, [], Option, Some, None, is_some, option_copied, option_map, IfOk, IfSome, OnOk, OnErr, MatchOption};
 ghost use Rattle.page_state.specs.Regions.{memory_of};
-ghost use Rattle.trace_text.specs.Session.{Answers, Boots, DoesLine, IsNoWorld, MakesStep, OnMachine, RunsLine, Starts, Tells, allowed, at_start};
+ghost use Rattle.trace_text.specs.Session.{Answers, Boots, DoesLine, IsMemoryOf, IsWorldOf, MakesStep, OnMachine, RunsLine, Starts, Tells, allowed, at_start};
 ghost use Rattle.hypercalls.specs.Stands.{state_of};
 ghost use Rattle.hypercalls.specs.Whole.{call_of, IsStep};
 ghost use Rattle.trace_text.specs.Looks.{Looks, session_tables, world_tables};
@@ -13,7 +11,6 @@ ghost use Rattle.table_tree.specs.Reading.{count_of};
 ghost use Rattle.ghost_oracle.specs.Counted.{HasRead};
 ghost use Rattle.trace_text.specs.View.{answer_of, body_at, kept_runs, machine_of, standing_of};
 ghost use Rattle.trace_lines.specs.Settings.{config_of, told_of};
-ghost use Rattle.hypercalls.specs.Booted.{IsBooted};
 ghost use Rattle.trace_text.specs.Worlds.{IsWordOn, free_told, guest_free_told, tables_told, tree_told};
 
 use crate::fault::Fault;
@@ -293,7 +290,7 @@ impl<A: Allocator + Copy> Session<A> {
 
     /// The world of the settings, with this carve-out.
     fn booted(&self, carve: PageRange) -> Result<World<A>, Stop>
-        ensures { let told = told_of self.now.settings in MatchResult result (λ w. IsBooted (memory_of told.regions carve) (config_of told) w.parts) (λ stop. IsNoWorld stop (memory_of told.regions carve) (config_of told)) }
+        ensures { let told = told_of self.now.settings in IsWorldOf (memory_of told.regions carve) (config_of told) result }
     {
         let map = told_memory(self.global, self.settings.regions.as_slice(), carve)?;
         match World::boot(self.global, self.alloc, &map, self.settings.config()) {
@@ -516,7 +513,7 @@ pub fn boot_line<A: Allocator>(world: &World<A>) -> Response
 
 /// The memory of the regions and the carve-out that were given.
 pub fn told_memory(global: Global, regions: &[Region], carve: PageRange) -> Result<MemoryMap, Stop>
-    ensures { let memory = memory_of regions.now carve in MatchResult result (λ map. (map ≡ memory) × IsAccepted memory) (λ stop. (config : Config) → IsNoWorld stop memory config) }
+    ensures { IsMemoryOf (memory_of regions.now carve) result }
 {
     match MemoryMap::new(global, regions, carve) {
         Ok(map) => Ok(map),

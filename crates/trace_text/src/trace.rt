@@ -6,7 +6,7 @@ ghost use Rattle.trace_text.specs.Session.{RunsLine, at_start};
 ghost use Rattle.std.specs.Io.KnownBytes.{Appends};
 ghost use Rattle.trace_text.specs.Failures.{CountsReads, CountsWrites, TellsWrite};
 ghost use Rattle.trace_text.specs.Replay.{Ends, IsBegun, IsReplayed, outcome_of};
-ghost use Rattle.trace_text.specs.Played.{Writes, WritesFront, lines_told};
+ghost use Rattle.trace_text.specs.Played.{EndsWith, Writes, WritesFront, lines_told};
 ghost use Rattle.trace_text.specs.Texts.{text_of_report};
 ghost use Rattle.trace_text.specs.View.{answer_of, lines_reported, standing_of};
 
@@ -250,7 +250,7 @@ pub fn tell_end<K: Sink>(
     steps: u64,
     disagreements: u64,
 ) -> Result<Outcome, EngineFault>
-    ensures ok { IfOk result (λ outcome. (outcome ≡ outcome_of disagreements) × Appends (K.contents sink.old) (K.contents sink.new) (text_of_report (ReportLine.End steps disagreements ∷ []))) }
+    ensures ok { IfOk result (EndsWith (ReportLine.End steps disagreements ∷ []) (outcome_of disagreements) (K.contents sink.old) (K.contents sink.new)) }
     ensures front { OnErr result (WritesFront (ReportLine.End steps disagreements ∷ []) (K.contents sink.old) (K.contents sink.new)) }
     ensures counted { TellsWrite (K.failures sink.old) (K.failures sink.new) result }
 {
@@ -273,7 +273,7 @@ pub fn faulted<K: Sink>(
     line: u64,
     fault: Fault,
 ) -> Result<Outcome, EngineFault>
-    ensures ok { IfOk result (λ outcome. (outcome ≡ Outcome.Fault) × Appends (K.contents sink.old) (K.contents sink.new) (text_of_report (ReportLine.Fault line fault ∷ []))) }
+    ensures ok { IfOk result (EndsWith (ReportLine.Fault line fault ∷ []) Outcome.Fault (K.contents sink.old) (K.contents sink.new)) }
     ensures front { OnErr result (WritesFront (ReportLine.Fault line fault ∷ []) (K.contents sink.old) (K.contents sink.new)) }
     ensures counted { TellsWrite (K.failures sink.old) (K.failures sink.new) result }
 {

@@ -96,11 +96,10 @@ impl<A: Allocator + Copy> World<A> {
 impl<A: Allocator> World<A> {
     ghost use Rattle.std.specs.Prelude.{◌↔◌, IfErr, IsOk, IsSome, List, None, OnOk, replicate};
     ghost use Rattle.page_state.specs.LayoutView.{layout_of};
-    ghost use Rattle.table_tree.specs.Said.{block_of};
     ghost use Rattle.table_tree.specs.Reading.{count_of};
-    ghost use Rattle.ghost_oracle.specs.Compared.{walked_in};
+    ghost use Rattle.ghost_oracle.specs.Compared.{IsCompared, walked_in};
     ghost use Rattle.ghost_oracle.specs.Counted.{HasRead, tables_of_parts};
-    ghost use Rattle.ghost_oracle.specs.Poked.{IsBeside, IsPokedTree, parts_trees, raw_beside_of, raw_trees};
+    ghost use Rattle.ghost_oracle.specs.Poked.{ArePartsPoked, IsBeside, parts_trees, raw_beside_of};
     ghost use Rattle.ghost_spec.specs.States.{ghost_state};
     ghost use Rattle.ghost_oracle.specs.Found.{walked_state, HasRowsOf, SaysMaplets, SaysRows};
     ghost use Rattle.hypercalls.specs.Stands.{kept_of, parts_layout, state_of};
@@ -186,15 +185,8 @@ impl<A: Allocator> World<A> {
     /// Both: what `to_ghost` gives, and what `recompute` gives. By the headline they are the same, and then one walk
     /// serves both, and one state is both. It adds to `reads` each word that it reads.
     pub fn kept_and_walked(&self, global: Global, reads: &mut Reads) -> Result<Compared, AllocError>
-        ensures state { IfOk result (λ c. ghost_state c.kept ≡ state_of self.now.parts) }
-        ensures layout { IfOk result (λ c. layout_of c.kept.layout ≡ parts_layout self.now.parts) }
-        ensures maplets { IfOk result (λ c. SaysMaplets self.now.parts c.kept) }
-        ensures rows { IfOk result (λ c. SaysRows self.now.parts c.kept) }
-        ensures frames { IfOk result (λ c. HasRowsOf (parts_layout self.now.parts) c.kept) }
-        ensures walked { IfOk result (λ c. ghost_state (walked_in c) ≡ walked_state (parts_layout self.now.parts) (state_of self.now.parts)) }
+        ensures compared { IfOk result (IsCompared self.now.parts) }
         ensures same { IfOk result (λ c. ghost_state (walked_in c) ≡ ghost_state c.kept) }
-        ensures walked_layout { IfOk result (λ c. layout_of (walked_in c).layout ≡ parts_layout self.now.parts) }
-        ensures walked_frames { IfOk result (λ c. HasRowsOf (parts_layout self.now.parts) (walked_in c)) }
         ensures reads { OnOk result (HasRead (count_of reads.old) (tables_of_parts self.now.parts) (count_of reads.new)) }
     {
         kept_and_walked(global, &self.parts, reads)
@@ -237,7 +229,7 @@ impl<A: Allocator> World<A> {
         requires nothing { places.items ≡ replicate 64 None }
         ensures fault { IsOk result ↔ IsSome ((parts_trees self.parts which).words path.now) }
         ensures kept { IfErr result (λ e. e.0.parts ≡ self.parts) }
-        ensures poked { IfOk result (λ w. IsPokedTree (block_of self.parts.layout.geometry path.now) (parts_trees self.parts) (raw_trees w.parts) which path.now word) }
+        ensures poked { IfOk result (λ w. ArePartsPoked self.parts w.parts which path.now word) }
         ensures beside { IfOk result (λ w. IsBeside self.parts (raw_beside_of w.parts)) }
     {
         let World { alloc, parts } = self;

@@ -1,11 +1,10 @@
 //! A world some of whose words were poked. It makes no step any more.
 ghost use Rattle.std.specs.Prelude.{◌≡◌, ◌↔◌, ℕ, IfErr, IfOk, IsOk, IsSome};
 ghost use Rattle.page_state.specs.LayoutView.{layout_of};
-ghost use Rattle.table_tree.specs.Said.{block_of};
 ghost use Rattle.ghost_spec.specs.States.{contents_in};
 ghost use Rattle.ghost_judge.specs.Audits.{AreMapsKept};
 ghost use Rattle.ghost_oracle.specs.Found.{scratch_rows, HasRowsOf};
-ghost use Rattle.ghost_oracle.specs.Poked.{IsPokedTree, raw_beside_of, raw_trees};
+ghost use Rattle.ghost_oracle.specs.Poked.{IsRawPoked, raw_beside_of, raw_trees};
 ghost use Rattle.ghost_oracle.specs.RawFound.{IsRawFound, SaysRawRows};
 ghost use Rattle.ghost_oracle.specs.declared.trees.Source.TheVariants.{Maplets, Words};
 
@@ -39,7 +38,7 @@ impl<A: Allocator> RawWorld<A> {
     ) -> Result<RawWorld<A>, (RawWorld<A>, PathFault)>
         ensures fault { IsOk result ↔ IsSome ((raw_trees self.parts which).words path.now) }
         ensures kept { IfErr result (λ e. e.0 ≡ self) }
-        ensures poked { IfOk result (λ w. IsPokedTree (block_of self.parts.layout.geometry path.now) (raw_trees self.parts) (raw_trees w.parts) which path.now word) }
+        ensures poked { IfOk result (λ w. IsRawPoked self.parts w.parts which path.now word) }
         ensures beside { IfOk result (λ w. raw_beside_of w.parts ≡ raw_beside_of self.parts) }
     {
         let RawWorld { parts } = self;

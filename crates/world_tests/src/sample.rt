@@ -1,6 +1,7 @@
 //! What tests begin with: memory, a configuration, and the boot state on lists.
-ghost use Rattle.std.specs.Prelude.{◌≡◌, ◌<◌, ◌↔◌, [], ◌∷◌, IfOk, IfSome, IsSome};
+ghost use Rattle.std.specs.Prelude.{◌≡◌, ◌<◌, ◌↔◌, IfOk, IfSome, IsSome};
 ghost use Rattle.reference_model.specs.Boot.{IsCarveEnough};
+ghost use Rattle.world_tests.specs.Samples.{config_39, region as region_of, sample_regions};
 
 use ghost_spec::start::start;
 use ghost_spec::state::Ghost;
@@ -11,7 +12,7 @@ use std::alloc::{AllocError, Global};
 
 /// A region of `count` pages.
 pub(crate) fn region(kind: RegionKind, first: u64, count: u64) -> Region
-    ensures { result ≡ record { kind = kind; pages = record { first = record { 0 = first }; count = count } } }
+    ensures { result ≡ region_of kind first count }
 {
     let pages = PageRange {
         first: Page(first),
@@ -23,7 +24,7 @@ pub(crate) fn region(kind: RegionKind, first: u64, count: u64) -> Region
 /// 16 pages of a device from page 0x9000 on, and 2,048 of memory from 0x40000 on, with a carve-out of `frames` frames at
 /// 0x40600. Refused where the carve-out is empty or ends past the memory.
 pub(crate) fn memory(alloc: Global, frames: u64) -> Result<MemoryMap, LayoutFault>
-    ensures regions { IfOk result (λ m. m.regions ≡ record { kind = RegionKind.Device; pages = record { first = record { 0 = 0x9000 }; count = 16 } } ∷ record { kind = RegionKind.Memory; pages = record { first = record { 0 = 0x40000 }; count = 0x800 } } ∷ []) }
+    ensures regions { IfOk result (λ m. m.regions ≡ sample_regions) }
     ensures carve { IfOk result (λ m. m.carve ≡ record { first = record { 0 = 0x40600 }; count = frames }) }
 {
     let regions = [
@@ -39,7 +40,7 @@ pub(crate) fn memory(alloc: Global, frames: u64) -> Result<MemoryMap, LayoutFaul
 
 /// A configuration of 39 bits.
 pub(crate) fn config(cpus: u64, log: u64) -> Config
-    ensures { result ≡ record { cpus = cpus; log = log; geometry = 39 } }
+    ensures { result ≡ config_39 cpus log }
 {
     Config {
         cpus,
@@ -56,8 +57,8 @@ pub(crate) fn started(
     log: u64,
 ) -> Result<Option<Ghost>, AllocError>
     requires { 0 < cpus }
-    ensures enough { IfOk result (λ o. IsSome o ↔ IsCarveEnough (record { memory = map; config = record { cpus = cpus; log = log; geometry = 39 }; depth = 2 })) }
-    ensures config { IfOk result (λ o. IfSome o (λ g. g.layout.config ≡ record { cpus = cpus; log = log; geometry = 39 })) }
+    ensures enough { IfOk result (λ o. IsSome o ↔ IsCarveEnough (record { memory = map; config = config_39 cpus log; depth = 2 })) }
+    ensures config { IfOk result (λ o. IfSome o (λ g. g.layout.config ≡ config_39 cpus log)) }
     ensures memory { IfOk result (λ o. IfSome o (λ g. g.layout.map ≡ map)) }
 {
     let layout = Layout {

@@ -2,9 +2,11 @@
 use Rattle.std.specs.Prelude.{◌≡◌, ℕ, ◌<◌, List, Option, map, get_or, MatchOption}
 use Rattle.page_state.specs.declared.row.Row.{Row}
 use Rattle.page_state.specs.Map.{Map}
+use Rattle.page_state.specs.Runs.{map_of}
 use Rattle.reference_model.specs.State.{no_guest}
 use Rattle.ghost_spec.specs.declared.parts.GhostGuest.{GhostGuest}
 use Rattle.ghost_spec.specs.States.{guest_in}
+use Rattle.ghost_trees.specs.declared.tree.Tree.{Tree}
 use Rattle.ghost_judge.specs.declared.disagreement.Disagreement.{Disagreement}
 use Rattle.ghost_judge.specs.declared.disagreement.Disagreement.TheVariants.{Map as MapDiffers, Owner as OwnerDiffers}
 use Rattle.ghost_judge.specs.declared.disagreement.TreeOf.{TreeOf}
@@ -30,3 +32,7 @@ IsGuestDifference gs hs d = (v : ℕ) × ((u : ℕ) → u < v → guest_map gs u
 -- what is found, or that two things are equal
 abbrev pub IsFound : Type 0 → (Disagreement → Type 0) → Option Disagreement → Type 0
 IsFound alike differ o = MatchOption o alike differ
+
+-- the first difference of two trees' maps, or that they are equal
+abbrev pub IsFoundInTrees : TreeOf → Tree → Tree → Option Disagreement → Type 0
+IsFoundInTrees tree kept walked o = IsFound (map_of kept.runs.items ≡ map_of walked.runs.items) (IsMapDifference tree (map_of kept.runs.items) (map_of walked.runs.items)) o

@@ -1,21 +1,19 @@
 //! Annotations of frames, and loans: which component maps a frame first, and at which page.
 ghost use Rattle.std.specs.Prelude.{◌≡◌, ℕ, ◌+◌, ◌-◌, ◌<◌, ◌≤◌, ◌^◌, IfOk, IfSome, OnOk, is_some, length, min};
 ghost use Rattle.std.specs.List.{list_any};
-ghost use Rattle.std.specs.Option.{option_or, ForSome};
+ghost use Rattle.std.specs.Option.{ForSome};
 ghost use Rattle.page_state.specs.Entries.{entry_of_target};
 ghost use Rattle.page_state.specs.Geometries.{pages_below};
 ghost use Rattle.page_state.specs.LayoutView.{layout_of};
 ghost use Rattle.page_state.specs.Regions.{end_of};
 ghost use Rattle.page_state.specs.Rows.{advance_row, HasPageBelow};
-ghost use Rattle.page_state.specs.Runs.{map_of, run_end, IsCoarsest};
-ghost use Rattle.reference_model.specs.Owner.{page_of};
+ghost use Rattle.page_state.specs.Runs.{map_of, IsCoarsest};
 ghost use Rattle.run_list.specs.Runs.{run_map, AreInReach, EndBefore};
 ghost use Rattle.run_list.specs.View.{IsKept};
-ghost use Rattle.ghost_spec.specs.Found.{run_page};
 ghost use Rattle.ghost_trees.specs.KeptTrees.{IsKeptTree};
 ghost use Rattle.ghost_trees.specs.Small.{IsSmall, AreSmall};
 ghost use Rattle.ghost_trees.specs.Trees.{tree_in_lists};
-ghost use Rattle.ghost_rows.specs.RowsLaid.{annotated_row, annotated_end, annotation_on, loan_row, loan_at, low_page, maps_in, run_below, guests_loan, any_loan, run_frames, next_above, last_above, HaveKeptTrees};
+ghost use Rattle.ghost_rows.specs.RowsLaid.{HasRows, IsLaidOver, run_loan, runs_loan, map_loan, annotated_row, annotated_end, annotation_on, loan_row, maps_in, run_below, guests_loan, any_loan, run_frames, next_above, last_above, HaveKeptTrees};
 
 use super::overlay::{lay, lay_all, put_behind};
 use ghost_spec::parts::GhostGuest;
@@ -48,7 +46,7 @@ fn annotate(rows: &mut Vec<RowRun<Row>>, high: u64, run: Run) -> Result<u64, All
     requires behind { EndBefore (high + 1) rows.old.items }
     requires order { high ≤ run.pages.first.0 }
     ensures end { IfOk result (λ n. n ≡ annotated_end high run) }
-    ensures map { IfOk result (λ n. (f : ℕ) → run_map advance_row rows.new.items f ≡ option_or (annotation_on run f) (run_map advance_row rows.old.items f)) }
+    ensures map { IfOk result (λ n. IsLaidOver rows.old.items rows.new.items (annotation_on run)) }
     ensures kept { IfOk result (λ n. IsKept advance_row HasPageBelow rows.new.items) }
     ensures behind { IfOk result (λ n. EndBefore (n + 1) rows.new.items) }
 {
@@ -130,7 +128,7 @@ fn lend_run(
 ) -> Result<(), AllocError>
     requires run { IsSmall run }
     requires reach { AreInReach HasPageBelow rows.old.runs }
-    ensures map { OnOk result ((f : ℕ) → run_map advance_row rows.new.runs f ≡ option_or (loan_at number (run_page f state (run_below (pages_below (layout_of layout.now).depth) run))) (run_map advance_row rows.old.runs f)) }
+    ensures map { OnOk result (IsLaidOver rows.old.runs rows.new.runs (run_loan (layout_of layout.now) number state run)) }
     ensures reach { AreInReach HasPageBelow rows.new.runs }
 {
     if let Some(frames) = frames_of(layout, state, run) {
@@ -150,7 +148,7 @@ fn lend_back(
 ) -> Result<(), AllocError>
     requires small { AreSmall runs.now }
     requires reach { AreInReach HasPageBelow rows.old.runs }
-    ensures map { OnOk result ((f : ℕ) → run_map advance_row rows.new.runs f ≡ option_or (loan_at number (low_page (pages_below (layout_of layout.now).depth) state f runs.now)) (run_map advance_row rows.old.runs f)) }
+    ensures map { OnOk result (IsLaidOver rows.old.runs rows.new.runs (runs_loan (layout_of layout.now) number state runs.now)) }
     ensures reach { AreInReach HasPageBelow rows.new.runs }
 {
     for i in (0..runs.len()).rev() {
@@ -173,7 +171,7 @@ fn lend_next(
     requires kept { IsKept advance_row HasPageBelow rows.old.items }
     requires behind { EndBefore (high + 1) rows.old.items }
     ensures end { IfOk result (λ o. o ≡ next_above high (run_frames state (run_below (pages_below (layout_of layout.now).depth) run))) }
-    ensures map { IfOk result (λ o. IfSome o (λ end. (f : ℕ) → run_map advance_row rows.new.items f ≡ option_or (loan_at number (run_page f state (run_below (pages_below (layout_of layout.now).depth) run))) (run_map advance_row rows.old.items f))) }
+    ensures map { IfOk result (λ o. IfSome o (λ end. IsLaidOver rows.old.items rows.new.items (run_loan (layout_of layout.now) number state run))) }
     ensures kept { IfOk result (λ o. IsKept advance_row HasPageBelow rows.new.items) }
     ensures behind { IfOk result (λ o. IfSome o (λ end. EndBefore (end + 1) rows.new.items)) }
 {
@@ -201,7 +199,7 @@ fn rising_loans(
 ) -> Result<Option<RunList<Row>>, AllocError>
     requires small { AreSmall runs.now }
     requires coarsest { IsCoarsest runs.now }
-    ensures map { IfOk result (λ o. IfSome o (λ r. (f : ℕ) → run_map advance_row r.runs f ≡ loan_at number (page_of (layout_of layout.now) (map_of runs.now) state f))) }
+    ensures map { IfOk result (λ o. IfSome o (λ r. HasRows r.runs (map_loan (layout_of layout.now) number state (map_of runs.now)))) }
     ensures reach { IfOk result (λ o. IfSome o (λ r. AreInReach HasPageBelow r.runs)) }
     ensures rises { IfOk result (λ o. is_some o ≡ is_some (last_above (pages_below (layout_of layout.now).depth) state 0 runs.now)) }
 {
@@ -229,7 +227,7 @@ fn lend_runs(
     requires small { AreSmall runs.now }
     requires coarsest { IsCoarsest runs.now }
     requires reach { AreInReach HasPageBelow rows.old.runs }
-    ensures map { OnOk result ((f : ℕ) → run_map advance_row rows.new.runs f ≡ option_or (loan_at number (page_of (layout_of layout.now) (map_of runs.now) state f)) (run_map advance_row rows.old.runs f)) }
+    ensures map { OnOk result (IsLaidOver rows.old.runs rows.new.runs (map_loan (layout_of layout.now) number state (map_of runs.now))) }
     ensures reach { AreInReach HasPageBelow rows.new.runs }
 {
     match rising_loans(alloc, layout, number, runs, state)? {
@@ -270,7 +268,7 @@ fn lend_tree(
 ) -> Result<(), AllocError>
     requires kept { IsKeptTree tree.now }
     requires reach { AreInReach HasPageBelow rows.old.runs }
-    ensures map { OnOk result ((f : ℕ) → run_map advance_row rows.new.runs f ≡ option_or (loan_at number (page_of (layout_of layout.now) (tree_in_lists tree.now).map state f)) (run_map advance_row rows.old.runs f)) }
+    ensures map { OnOk result (IsLaidOver rows.old.runs rows.new.runs (map_loan (layout_of layout.now) number state (tree_in_lists tree.now).map)) }
     ensures reach { AreInReach HasPageBelow rows.new.runs }
 {
     let runs = tree.runs.as_slice();
@@ -290,7 +288,7 @@ pub(crate) fn guest_loans(
 ) -> Result<RunList<Row>, AllocError>
     requires count { length guests.now ≤ 64 }
     requires kept { HaveKeptTrees guests.now }
-    ensures map { IfOk result (λ r. (f : ℕ) → run_map advance_row r.runs f ≡ guests_loan (layout_of layout.now) guests.now state f) }
+    ensures map { IfOk result (λ r. HasRows r.runs (guests_loan (layout_of layout.now) guests.now state)) }
     ensures reach { IfOk result (λ r. AreInReach HasPageBelow r.runs) }
 {
     let mut rows = RunList::new(alloc);
@@ -319,7 +317,7 @@ pub(crate) fn all_loans(
     requires hyp { IsKeptTree hyp.now }
     requires count { length guests.now ≤ 64 }
     requires guests { HaveKeptTrees guests.now }
-    ensures map { IfOk result (λ r. (f : ℕ) → run_map advance_row r.runs f ≡ any_loan (layout_of layout.now) (tree_in_lists host.now).map (tree_in_lists hyp.now).map guests.now f) }
+    ensures map { IfOk result (λ r. HasRows r.runs (any_loan (layout_of layout.now) (tree_in_lists host.now).map (tree_in_lists hyp.now).map guests.now)) }
     ensures reach { IfOk result (λ r. AreInReach HasPageBelow r.runs) }
 {
     let borrowed = State::SharedBorrowed;

@@ -1,10 +1,12 @@
 //! Lists of rows that are written range by range: what is written last counts.
 ghost use Rattle.std.specs.Prelude.{◌≡◌, ℕ, ◌+◌, ◌<◌, ◌≤◌, ◌^◌, true, Some, None, OnOk};
-ghost use Rattle.std.specs.Option.{option_or, ForSome};
+ghost use Rattle.std.specs.Option.{ForSome};
 ghost use Rattle.page_state.specs.Regions.{end_of};
 ghost use Rattle.page_state.specs.Rows.{advance_row, HasPageBelow};
-ghost use Rattle.run_list.specs.Runs.{run_map, map_updated, AreInReach, EndBefore};
+ghost use Rattle.run_list.specs.Runs.{run_map, AreInReach, EndBefore};
 ghost use Rattle.run_list.specs.View.{IsKept};
+ghost use Rattle.ghost_spec.specs.RowChanges.{IsRangeSet};
+ghost use Rattle.ghost_rows.specs.RowsLaid.{IsLaidOver};
 
 use page_state::{PageRange, Row};
 use run_list::{Run, RunList, push_run};
@@ -27,7 +29,7 @@ pub(crate) fn lay(
     requires frames { end_of frames ≤ 2 ^ 63 }
     requires small { ForSome row (λ r. HasPageBelow r frames.count) }
     requires reach { AreInReach HasPageBelow rows.old.runs }
-    ensures map { OnOk result (run_map advance_row rows.new.runs ≡ map_updated advance_row (run_map advance_row rows.old.runs) frames.first.0 frames.count row) }
+    ensures map { OnOk result (IsRangeSet rows.old.runs rows.new.runs frames row) }
     ensures reach { AreInReach HasPageBelow rows.new.runs }
 {
     if row.is_none() && begins_from(rows, frames.first.0 + frames.count) {
@@ -42,7 +44,7 @@ pub(crate) fn lay(
 pub(crate) fn lay_all(rows: &mut RunList<Row>, over: RunList<Row>) -> Result<(), AllocError>
     requires reach { AreInReach HasPageBelow rows.old.runs }
     requires over { AreInReach HasPageBelow over.runs }
-    ensures map { OnOk result ((f : ℕ) → run_map advance_row rows.new.runs f ≡ option_or (run_map advance_row over.runs f) (run_map advance_row rows.old.runs f)) }
+    ensures map { OnOk result (IsLaidOver rows.old.runs rows.new.runs (run_map advance_row over.runs)) }
     ensures reach { AreInReach HasPageBelow rows.new.runs }
 {
     if rows.runs().is_empty() {
@@ -68,7 +70,7 @@ pub(crate) fn put_last(
     requires small { HasPageBelow row frames.count }
     requires kept { IsKept advance_row HasPageBelow rows.old.items }
     requires behind { EndBefore (frames.first.0 + 1) rows.old.items }
-    ensures map { OnOk result (run_map advance_row rows.new.items ≡ map_updated advance_row (run_map advance_row rows.old.items) frames.first.0 frames.count (Some row)) }
+    ensures map { OnOk result (IsRangeSet rows.old.items rows.new.items frames (Some row)) }
     ensures kept { OnOk result (IsKept advance_row HasPageBelow rows.new.items) }
     ensures behind { OnOk result (EndBefore (end_of frames + 1) rows.new.items) }
 {
@@ -98,7 +100,7 @@ pub(crate) fn put_behind(
     requires kept { IsKept advance_row HasPageBelow rows.old.items }
     requires behind { EndBefore (high + 1) rows.old.items }
     requires order { high ≤ frames.first.0 }
-    ensures map { OnOk result (run_map advance_row rows.new.items ≡ map_updated advance_row (run_map advance_row rows.old.items) frames.first.0 frames.count (Some row)) }
+    ensures map { OnOk result (IsRangeSet rows.old.items rows.new.items frames (Some row)) }
     ensures kept { OnOk result (IsKept advance_row HasPageBelow rows.new.items) }
     ensures behind { OnOk result (EndBefore (end_of frames + 1) rows.new.items) }
 {

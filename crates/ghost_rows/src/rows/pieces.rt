@@ -1,9 +1,9 @@
 //! Pieces of frames along which all lists go on as they begin.
 ghost use Rattle.std.specs.Prelude.{◌≡◌, ℕ, ◌+◌, ◌-◌, ◌^◌, ◌≤◌, ◌<◌, nat_lt, if◌then◌else◌};
 ghost use Rattle.page_state.specs.Rows.{advance_row, HasPageBelow};
-ghost use Rattle.run_list.specs.Runs.{run_end, run_map, option_advance, IsCoarsest, AreInReach};
+ghost use Rattle.run_list.specs.Runs.{run_end, run_map, IsCoarsest, AreInReach};
 ghost use Rattle.run_list.specs.Parts.{IsEndedAt};
-ghost use Rattle.ghost_rows.specs.RowsTold.{lent_told, usage_told, number_told, is_of_host as is_of_host_told, is_plain as is_plain_use, is_quiet, owner_told, quiet_to, IsNear, IsStanding, IsCarried};
+ghost use Rattle.ghost_rows.specs.RowsTold.{lent_told, usage_told, number_told, is_of_host as is_of_host_told, is_plain as is_plain_use, is_quiet, owner_told, quiet_to, GoesOn, IsNear, IsStanding, IsCarried};
 
 use page_state::{Lent, Owner, Row, Usage};
 use run_list::{Advance, Run, RunList};
@@ -249,7 +249,7 @@ fn look(runs: &[Run<Row>], stand: &mut Stand, low: u64, high: u64) -> u64
     ensures standing { IsStanding low stand.new runs.now }
     ensures above { low < result }
     ensures below { result ≤ high }
-    ensures goes_on { (f : ℕ) → low ≤ f → f < result → run_map advance_row runs.now f ≡ option_advance advance_row (run_map advance_row runs.now low) (f - low) }
+    ensures goes_on { GoesOn runs.now low result }
 {
     go_to(runs, stand, low);
     high.min(stand.until)

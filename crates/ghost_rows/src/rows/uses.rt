@@ -1,15 +1,14 @@
 //! Uses of frames: pools, tables and hands.
-ghost use Rattle.std.specs.Prelude.{◌≡◌, ℕ, ◌+◌, ◌-◌, ◌<◌, ◌≤◌, ◌^◌, ◌||◌, ◌==◌, Decides, IfOk, OnOk, None, drop, length, slice_index, if◌then◌else◌};
-ghost use Rattle.page_state.specs.Map.{is_within};
-ghost use Rattle.std.specs.Option.{option_or};
+ghost use Rattle.std.specs.Prelude.{◌≡◌, ℕ, ◌+◌, ◌-◌, ◌<◌, ◌≤◌, ◌||◌, ◌==◌, Decides, IfOk, OnOk, None, length, if◌then◌else◌};
 ghost use Rattle.page_state.specs.LayoutView.{layout_of};
 ghost use Rattle.page_state.specs.Regions.{is_in_range};
-ghost use Rattle.page_state.specs.Rows.{advance_row, HasPageBelow};
+ghost use Rattle.page_state.specs.Rows.{HasPageBelow};
 ghost use Rattle.reference_model.specs.Owner.{is_frame, is_free, is_in_hand, is_table_frame};
-ghost use Rattle.run_list.specs.Runs.{run_map, AreInReach};
+ghost use Rattle.run_list.specs.Runs.{AreInReach};
 ghost use Rattle.ghost_spec.specs.Found.{has_place as has_place_of, any_table_with};
 ghost use Rattle.ghost_trees.specs.Trees.{table_of, tree_in_lists};
-ghost use Rattle.ghost_rows.specs.RowsLaid.{used_if, hands_use, guests_use, any_use};
+ghost use Rattle.ghost_rows.specs.RowsLaid.{HasLowRows, IsLaidOverLow, AreUsed, AreTogether, is_pool_frame, is_shared_frame, hands_use, guests_use, any_use};
+ghost use Rattle.ghost_spec.specs.Views.{shared_in_lists};
 
 use super::overlay::lay;
 use ghost_spec::cpu::GhostCpu;
@@ -27,7 +26,7 @@ const FRAMES: u64 = 1 << 26;
 /// The frames of a range that may be memory get a use.
 fn use_range(rows: &mut RunList<Row>, frames: PageRange, usage: Usage) -> Result<(), AllocError>
     requires reach { AreInReach HasPageBelow rows.old.runs }
-    ensures map { OnOk result ((f : ℕ) → f < 2 ^ 26 → run_map advance_row rows.new.runs f ≡ option_or (used_if (is_in_range frames f) usage) (run_map advance_row rows.old.runs f)) }
+    ensures map { OnOk result (AreUsed rows.old.runs rows.new.runs (is_in_range frames) usage) }
     ensures reach { AreInReach HasPageBelow rows.new.runs }
 {
     if frames.first.0 >= FRAMES {
@@ -58,7 +57,7 @@ fn start_of(frames: &[u64], end: usize) -> usize
     requires some { 0 < end }
     requires within { end ≤ length frames.now }
     ensures before { result < end }
-    ensures together { (f : ℕ) → is_free (drop result frames.now) f ≡ (is_within (slice_index frames.now result) (end - result) f || is_free (drop end frames.now) f) }
+    ensures together { AreTogether frames.now result end }
 {
     let mut start = end - 1;
     while start > 0 && follows(frames[start - 1], frames[start]) {
@@ -70,7 +69,7 @@ fn start_of(frames: &[u64], end: usize) -> usize
 /// The frames of a list get a use. Those that follow one another get it together.
 fn use_frames(rows: &mut RunList<Row>, frames: &[u64], usage: Usage) -> Result<(), AllocError>
     requires reach { AreInReach HasPageBelow rows.old.runs }
-    ensures map { OnOk result ((f : ℕ) → f < 2 ^ 26 → run_map advance_row rows.new.runs f ≡ option_or (used_if (is_free frames.now f) usage) (run_map advance_row rows.old.runs f)) }
+    ensures map { OnOk result (AreUsed rows.old.runs rows.new.runs (is_free frames.now) usage) }
     ensures reach { AreInReach HasPageBelow rows.new.runs }
 {
     let mut end = frames.len();
@@ -128,7 +127,7 @@ fn add_tables(frames: &mut Vec<u64>, layout: &Layout, tables: &[Table]) -> Resul
 /// The frames of a list get a use. They are put in order first, so that those that follow one another get it together.
 fn use_sorted(rows: &mut RunList<Row>, frames: Vec<u64>, usage: Usage) -> Result<(), AllocError>
     requires reach { AreInReach HasPageBelow rows.old.runs }
-    ensures map { OnOk result ((f : ℕ) → f < 2 ^ 26 → run_map advance_row rows.new.runs f ≡ option_or (used_if (is_free frames.items f) usage) (run_map advance_row rows.old.runs f)) }
+    ensures map { OnOk result (AreUsed rows.old.runs rows.new.runs (is_free frames.items) usage) }
     ensures reach { AreInReach HasPageBelow rows.new.runs }
 {
     let mut frames = frames;
@@ -147,7 +146,7 @@ fn use_tables(
     usage: Usage,
 ) -> Result<(), AllocError>
     requires reach { AreInReach HasPageBelow rows.old.runs }
-    ensures map { OnOk result ((f : ℕ) → f < 2 ^ 26 → run_map advance_row rows.new.runs f ≡ option_or (used_if (any_table_with (layout_of layout.now).depth tables.now f) usage) (run_map advance_row rows.old.runs f)) }
+    ensures map { OnOk result (AreUsed rows.old.runs rows.new.runs (any_table_with (layout_of layout.now).depth tables.now) usage) }
     ensures reach { AreInReach HasPageBelow rows.new.runs }
 {
     if tables.is_empty() {
@@ -169,7 +168,7 @@ fn use_tree(
     usage: Usage,
 ) -> Result<(), AllocError>
     requires reach { AreInReach HasPageBelow rows.old.runs }
-    ensures map { OnOk result ((f : ℕ) → f < 2 ^ 26 → run_map advance_row rows.new.runs f ≡ option_or (used_if (is_table_frame (layout_of layout.now) (tree_in_lists tree.now) f) usage) (run_map advance_row rows.old.runs f)) }
+    ensures map { OnOk result (AreUsed rows.old.runs rows.new.runs (is_table_frame (layout_of layout.now) (tree_in_lists tree.now)) usage) }
     ensures reach { AreInReach HasPageBelow rows.new.runs }
 {
     use_tables(alloc, layout, rows, tree.tables.as_slice(), usage)?;
@@ -187,7 +186,7 @@ fn use_pool(
     usage: Usage,
 ) -> Result<(), AllocError>
     requires reach { AreInReach HasPageBelow rows.old.runs }
-    ensures map { OnOk result ((f : ℕ) → f < 2 ^ 26 → run_map advance_row rows.new.runs f ≡ option_or (used_if (is_free free.now f || is_table_frame (layout_of layout.now) (tree_in_lists tree.now) f) usage) (run_map advance_row rows.old.runs f)) }
+    ensures map { OnOk result (AreUsed rows.old.runs rows.new.runs (is_pool_frame (layout_of layout.now) free.now (tree_in_lists tree.now)) usage) }
     ensures reach { AreInReach HasPageBelow rows.new.runs }
 {
     use_tree(alloc, layout, rows, tree, usage)?;
@@ -201,7 +200,7 @@ fn use_hand(
     usage: Usage,
 ) -> Result<(), AllocError>
     requires reach { AreInReach HasPageBelow rows.old.runs }
-    ensures map { OnOk result ((f : ℕ) → f < 2 ^ 26 → run_map advance_row rows.new.runs f ≡ option_or (used_if (is_in_hand hand f) usage) (run_map advance_row rows.old.runs f)) }
+    ensures map { OnOk result (AreUsed rows.old.runs rows.new.runs (is_in_hand hand) usage) }
     ensures reach { AreInReach HasPageBelow rows.new.runs }
 {
     match hand {
@@ -212,7 +211,7 @@ fn use_hand(
 
 /// The frames of hands are in the hand of the first CPU that has them.
 fn hands(alloc: Global, cpus: &[GhostCpu]) -> Result<RunList<Row>, AllocError>
-    ensures map { IfOk result (λ r. (f : ℕ) → f < 2 ^ 26 → run_map advance_row r.runs f ≡ hands_use cpus.now f) }
+    ensures map { IfOk result (λ r. HasLowRows r.runs (hands_use cpus.now)) }
     ensures reach { IfOk result (λ r. AreInReach HasPageBelow r.runs) }
 {
     let mut rows = RunList::new(alloc);
@@ -230,7 +229,7 @@ fn use_pools(
     guests: &[GhostGuest],
 ) -> Result<(), AllocError>
     requires reach { AreInReach HasPageBelow rows.old.runs }
-    ensures map { OnOk result ((f : ℕ) → f < 2 ^ 26 → run_map advance_row rows.new.runs f ≡ option_or (guests_use (layout_of layout.now) guests.now f) (run_map advance_row rows.old.runs f)) }
+    ensures map { OnOk result (IsLaidOverLow rows.old.runs rows.new.runs (guests_use (layout_of layout.now) guests.now)) }
     ensures reach { AreInReach HasPageBelow rows.new.runs }
 {
     for v in (0..guests.len()).rev() {
@@ -255,7 +254,7 @@ fn use_shared(
     shared: &Shared,
 ) -> Result<(), AllocError>
     requires reach { AreInReach HasPageBelow rows.old.runs }
-    ensures map { OnOk result ((f : ℕ) → f < 2 ^ 26 → run_map advance_row rows.new.runs f ≡ option_or (used_if (is_free shared.now.free.items f || is_table_frame (layout_of layout.now) (tree_in_lists shared.now.host) f || is_table_frame (layout_of layout.now) (tree_in_lists shared.now.hyp) f) Usage.SharedPool) (run_map advance_row rows.old.runs f)) }
+    ensures map { OnOk result (AreUsed rows.old.runs rows.new.runs (is_shared_frame (layout_of layout.now) (shared_in_lists shared.now)) Usage.SharedPool) }
     ensures reach { AreInReach HasPageBelow rows.new.runs }
 {
     let mut frames = Vec::new(alloc);
@@ -274,7 +273,7 @@ pub(crate) fn all_uses(
     guests: &[GhostGuest],
     cpus: &[GhostCpu],
 ) -> Result<RunList<Row>, AllocError>
-    ensures map { IfOk result (λ r. (f : ℕ) → f < 2 ^ 26 → run_map advance_row r.runs f ≡ any_use (layout_of layout.now) shared.now.free.items (tree_in_lists shared.now.host) (tree_in_lists shared.now.hyp) guests.now cpus.now f) }
+    ensures map { IfOk result (λ r. HasLowRows r.runs (any_use (layout_of layout.now) (shared_in_lists shared.now) guests.now cpus.now)) }
     ensures reach { IfOk result (λ r. AreInReach HasPageBelow r.runs) }
 {
     let mut rows = hands(alloc, cpus)?;

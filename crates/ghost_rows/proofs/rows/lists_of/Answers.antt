@@ -6,7 +6,7 @@ use Rattle.page_state.specs.Runs.{map_of}
 use Rattle.page_state.proofs.Common.{same2, same4}
 use Rattle.ghost_spec.specs.declared.cpu.GhostCpu.{GhostCpu}
 use Rattle.ghost_spec.specs.declared.parts.GhostGuest.{GhostGuest}
-use Rattle.ghost_trees.specs.Trees.{tree_in_lists}
+use Rattle.ghost_spec.specs.Views.{shared_in_lists}
 use Rattle.ghost_rows.specs.RowsLaid.{annotated_row, any_loan, guests_loan, any_use}
 use Rattle.ghost_rows.specs.RowsTold.{row_told}
 use Rattle.ghost_rows.proofs.RowsFound.{told-is}
@@ -20,5 +20,5 @@ returns-clause-told c = λ f less.
     (c.in_ok-all_loans.ensures.map f ∙ ap (λ (gs : List GhostGuest). any_loan (layout_of s.layout) (map_of s.shared.host.runs.items) (map_of s.shared.hyp.runs.items) gs f) c.as_slice-guests.ensures.value)
     (c.in_ok-guest_loans.ensures.map f ∙ ap (λ (gs : List GhostGuest). guests_loan (layout_of s.layout) gs SharedOwned f) c.as_slice-guests.ensures.value)
     (c.in_ok-all_uses.ensures.map f less
-    ∙ same2 (λ (gs : List GhostGuest) (ks : List GhostCpu). any_use (layout_of s.layout) s.shared.free.items (tree_in_lists s.shared.host) (tree_in_lists s.shared.hyp) gs ks f) c.as_slice-guests.ensures.value c.as_slice-2.ensures.value)
+    ∙ same2 (λ (gs : List GhostGuest) (ks : List GhostCpu). any_use (layout_of s.layout) (shared_in_lists s.shared) gs ks f) c.as_slice-guests.ensures.value c.as_slice-2.ensures.value)
     ∙ told-is (layout_of s.layout) s f c.requires.guests_count c.requires.cpus_count

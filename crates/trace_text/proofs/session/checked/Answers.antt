@@ -20,15 +20,15 @@ returns-clause-given g c = c.in-Ok-verdict.ensures.told (machine_of c.args.world
   step_is = refl;
   reply_is = refl;
   made = c.step-reply.ensures.step.steps;
-  after_is = c.in-Ok.ensures.state;
-  walked_is = c.in-Ok.ensures.same ∙ c.in-Ok.ensures.state;
+  after_is = c.in-Ok.ensures.compared.state;
+  walked_is = c.in-Ok.ensures.same ∙ c.in-Ok.ensures.compared.state;
 })
 
 pub returns-clause-step : goal.returns-clause-step
 returns-clause-step g c = c.step-reply.ensures.step
 
 pub returns-clause-after : goal.returns-clause-after
-returns-clause-after g c = record { state = c.in-Ok.ensures.state; layout = c.in-Ok.ensures.layout }
+returns-clause-after g c = record { state = c.in-Ok.ensures.compared.state; layout = c.in-Ok.ensures.compared.layout }
 
 pub returns-in_err-before-clause-step : goal.returns-in_err-before-clause-step
 returns-in_err-before-clause-step g c = failed _ _ c.from_residual.result c.from_residual.ensures.1

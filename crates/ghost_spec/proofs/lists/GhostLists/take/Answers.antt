@@ -14,11 +14,19 @@ use Rattle.ghost_spec.proofs.lists.GhostLists.take.Goals as goal
 make : Vms → Shared → Guest → Cpu → Used
 make v s g k = record { vms = v; shared = s; guest = g; cpu = k }
 
-pub returns-clause-used : goal.returns-clause-used
+pub returns-clause-taken : goal.returns-clause-taken
 unfolding used_of make
-returns-clause-used c =
+returns-clause-taken c =
     let own = get_or-map cpu_in c.args.self.now.cpus.items c.args.cpu c.index.result.now no_cpu c.requires.cpu ∙ ap cpu_in (sym c.index.ensures) in
-    same4 make (rw c.as_slice.ensures.value at c.in_ok-used_vms.ensures.vms) c.take_shared.ensures.shared c.take_guest.ensures.guest (sym own)
+    record {
+      used = same4 make (rw c.as_slice.ensures.value at c.in_ok-used_vms.ensures.vms) c.take_shared.ensures.shared c.take_guest.ensures.guest (sym own);
+      kept = record {
+        shared = c.take_shared.ensures.kept;
+        guest = c.take_guest.ensures.kept;
+        own = subst IsKeptCpu (sym c.index.ensures) (c.requires.kept.cpus c.args.cpu c.index.result.now c.requires.cpu);
+      };
+      count = λ t. rw c.as_slice.ensures.value at (c.in_ok-used_vms.ensures.count t) ∙ c.requires.kept.vms_count;
+    }
 
 pub returns-clause-others : goal.returns-clause-others
 unfolding put_back
@@ -36,20 +44,14 @@ returns-clause-left c = record {
   cpu_rooms_count = c.requires.kept.cpu_rooms_count;
 }
 
-pub returns-in_err-used_vms-clause-used : goal.returns-in_err-used_vms-clause-used
-returns-in_err-used_vms-clause-used c = IfOk-from_err _ _ c.from_residual.ensures.0
-
-pub returns-in_err-used_vms-clause-kept : goal.returns-in_err-used_vms-clause-kept
-returns-in_err-used_vms-clause-kept c = IfOk-from_err _ _ c.from_residual.ensures.0
+pub returns-in_err-used_vms-clause-taken : goal.returns-in_err-used_vms-clause-taken
+returns-in_err-used_vms-clause-taken c = IfOk-from_err _ _ c.from_residual.ensures.0
 
 pub returns-in_err-used_vms-clause-others : goal.returns-in_err-used_vms-clause-others
 returns-in_err-used_vms-clause-others c = IfOk-from_err _ _ c.from_residual.ensures.0
 
 pub returns-in_err-used_vms-clause-left : goal.returns-in_err-used_vms-clause-left
 returns-in_err-used_vms-clause-left c = IfOk-from_err _ _ c.from_residual.ensures.0
-
-pub returns-in_err-used_vms-clause-count : goal.returns-in_err-used_vms-clause-count
-returns-in_err-used_vms-clause-count c t = IfOk-from_err _ _ c.from_residual.ensures.0
 
 pub returns-in_err-used_vms-clause-layout : goal.returns-in_err-used_vms-clause-layout
 returns-in_err-used_vms-clause-layout c = refl
@@ -74,13 +76,3 @@ take_guest-requires-clause-kept c = c.requires.kept.guests
 
 pub take_guest-requires-clause-slot : goal.take_guest-requires-clause-slot
 take_guest-requires-clause-slot c = c.requires.slot
-
-pub returns-clause-kept : goal.returns-clause-kept
-returns-clause-kept c = record {
-  shared = c.take_shared.ensures.kept;
-  guest = c.take_guest.ensures.kept;
-  own = subst IsKeptCpu (sym c.index.ensures) (c.requires.kept.cpus c.args.cpu c.index.result.now c.requires.cpu);
-}
-
-pub returns-clause-count : goal.returns-clause-count
-returns-clause-count c t = rw c.as_slice.ensures.value at (c.in_ok-used_vms.ensures.count t) ∙ c.requires.kept.vms_count
