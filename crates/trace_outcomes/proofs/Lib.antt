@@ -1,5 +1,7 @@
+pub mod Decimals
 pub mod Generated
 pub mod Histories
+pub mod Lines
 pub mod Noting
 pub mod Replies
 pub mod Taken
