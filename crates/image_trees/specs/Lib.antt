@@ -1,0 +1,5 @@
+pub mod KeptPages
+pub mod InImage
+pub mod Stops
+pub mod Unwalked
+pub mod Trees
