@@ -1,4 +1,6 @@
 //! A raw image of five pages with a tree of the host under Linux 7.3.
+ghost use Rattle.std.specs.Prelude.{◌≤◌, ◌<◌, ◌+◌, ◌^◌};
+
 use crate::{Root, Unwalked, walk_tree};
 use descriptor::{Frame, Owner};
 use memory_image::raw_segments;
@@ -63,7 +65,12 @@ fn run(first: u64, count: u64, decoded: Decoded) -> Run<Said> {
     }
 }
 
-fn root(count: u64) -> Root {
+fn root(count: u64) -> Root
+    requires { count ≤ 16 }
+    ensures depth { result.depth ≤ 3 }
+    ensures few { result.count ≤ 16 }
+    ensures frames { result.frame + result.count < 2 ^ 64 }
+{
     Root {
         tree: 0,
         frame: 0x50000,
