@@ -1,0 +1,4 @@
+pub mod Texts
+pub mod Skips
+pub mod Collecting
+pub mod Dumped

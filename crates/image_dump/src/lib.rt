@@ -1,0 +1,15 @@
+//! The dump of a memory image: its trees as runs, and what isn't sound in them, as text.
+#![tactic(auto)]
+
+mod collect;
+mod dump;
+mod line;
+mod skip;
+mod texts;
+
+pub use dump::{Dumped, NotDumped, dump_trees};
+pub use line::DumpLine;
+pub use skip::Skip;
+
+#[cfg(test)]
+mod tests;
