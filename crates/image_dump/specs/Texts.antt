@@ -86,11 +86,11 @@ abbrev pub text_of_claim : Claim → List ℕ
 text_of_claim c = if c.named then text_of_tree c.tree ++ codes " by host " ++ text_of_page c.page else text_of_tree c.tree ++ codes " " ++ text_of_page c.page
 
 abbrev pub text_of_root : Root → List ℕ
-text_of_root r = text_of_tree r.tree ++ codes " root " ++ text_of_page r.frame ++ codes " depth " ++ decimal r.depth ++ codes " pages " ++ decimal r.count
+text_of_root r = text_of_tree r.tree ++ codes " root " ++ text_of_page r.frame ++ codes " level " ++ decimal (3 - r.depth) ++ codes " pages " ++ decimal r.count
 
--- how many levels are below a table, and its number among those of its level
+-- the level of a table, and its number among those of its level
 abbrev pub text_of_place : Reached → List ℕ
-text_of_place r = decimal r.depth ++ codes ":" ++ text_of_page r.number
+text_of_place r = decimal (3 - r.depth) ++ codes ":" ++ text_of_page r.number
 
 abbrev pub text_of_states : Bool → List ℕ
 text_of_states true = codes ""

@@ -36,8 +36,9 @@ impl fmt::Display for RootText {
     fn fmt<W: fmt::Write>(&self, f: &mut fmt::Formatter<W>) -> fmt::Result {
         let tree = TreeName(self.0.tree);
         let frame = self.0.frame;
-        let (depth, pages) = (self.0.depth, self.0.count);
-        write!(f, "{tree} root 0x{frame:x} depth {depth} pages {pages}")
+        let level = 3u32.saturating_sub(self.0.depth);
+        let pages = self.0.count;
+        write!(f, "{tree} root 0x{frame:x} level {level} pages {pages}")
     }
 }
 
@@ -51,8 +52,9 @@ impl fmt::Display for PlaceText {
     ghost output = { λ reached. Some (text_of_place reached.0) };
 
     fn fmt<W: fmt::Write>(&self, f: &mut fmt::Formatter<W>) -> fmt::Result {
-        let (depth, number) = (self.0.depth, self.0.number);
-        write!(f, "{depth}:0x{number:x}")
+        let level = 3u64.saturating_sub(self.0.depth);
+        let number = self.0.number;
+        write!(f, "{level}:0x{number:x}")
     }
 }
 
