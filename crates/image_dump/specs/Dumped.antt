@@ -9,7 +9,7 @@ use Rattle.run_list.specs.declared.run.Run.{Run}
 use Rattle.walked_tables.specs.declared.reached.Reached.{Reached}
 use Rattle.walked_tables.specs.declared.said.Said.{Said}
 use Rattle.image_trees.specs.Trees.{IsTreeIn}
-use Rattle.image_trees.specs.Unwalked.{IsUnwalked}
+use Rattle.image_trees.specs.Unwalked.{IsFailed, IsUnwalked}
 use Rattle.image_trees.specs.declared.root.Root.{Root}
 use Rattle.image_trees.specs.declared.root.Unwalked.{Unwalked}
 use Rattle.image_findings.specs.declared.finding.Finding.{Finding}
@@ -18,6 +18,8 @@ use Rattle.image_dump.specs.Texts.{text_of_line}
 use Rattle.image_dump.specs.declared.collect.Collected.{Collected}
 use Rattle.image_dump.specs.declared.dump.Dumped.{Dumped}
 use Rattle.image_dump.specs.declared.dump.Dumped.TheVariants.{Sound, Unsound}
+use Rattle.image_dump.specs.declared.dump.NotDumped.{NotDumped}
+use Rattle.image_dump.specs.declared.dump.NotDumped.TheVariants.{Refused, Unwritten}
 use Rattle.image_dump.specs.declared.line.DumpLine.{DumpLine}
 use Rattle.image_dump.specs.declared.line.DumpLine.TheVariants as line
 use Rattle.image_dump.specs.declared.skip.Skip.{Skip}
@@ -94,3 +96,8 @@ pub record IsDumped (known : Option (List ℕ)) (may_fail : ℕ → ℕ → Type
   pub each : All (IsFoundIn known may_fail segments) trees
   pub written : Appends before after (text_of_lines (report_of skips roots trees))
   pub outcome_is : outcome ≡ outcome_of (faults_in trees + length (findings_of skips roots trees))
+
+-- there is no report: the image could not be read, the report not written, or memory was refused
+abbrev pub IsFault : (ℕ → ℕ → Type 0) → NotDumped → Type 0
+IsFault may_fail (Refused refused) = IsFailed may_fail refused
+IsFault may_fail Unwritten = Unit {0}

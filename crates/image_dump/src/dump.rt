@@ -1,9 +1,9 @@
 //! The dump.
-ghost use Rattle.std.specs.Prelude.{◌≡◌, ◌≤◌, ◌<◌, ◌^◌, [], ◌∷◌, All, IfOk, OnOk, length};
+ghost use Rattle.std.specs.Prelude.{◌≡◌, ◌≤◌, ◌<◌, ◌^◌, [], ◌∷◌, All, IfErr, IfOk, OnOk, Ok, Err, length};
 ghost use Rattle.std.specs.List.{list_all};
 ghost use Rattle.std.specs.Io.KnownBytes.{Appends};
 ghost use Rattle.memory_image.specs.CoreFile.{IsPlaced};
-ghost use Rattle.image_dump.specs.Dumped.{outcome_of, says_states, text_of_lines, AreCollected, IsDumped, IsRoot, IsAdded};
+ghost use Rattle.image_dump.specs.Dumped.{outcome_of, says_states, text_of_lines, AreCollected, IsAdded, IsDumped, IsFault, IsRoot};
 
 use crate::collect::{Collected, add_findings, add_line, add_tree, add_unsound};
 use crate::line::DumpLine;
@@ -60,7 +60,8 @@ fn add_root<I: ImageBytes>(
 ) -> Result<u64, NotDumped>
     requires placed { All IsPlaced segments.now }
     requires root { IsRoot root }
-    ensures { IfOk result (IsAdded (I.bytes image.now) (I.may_fail image.now) segments.now root skips.now all.old all.new) }
+    ensures added { IfOk result (IsAdded (I.bytes image.now) (I.may_fail image.now) segments.now root skips.now all.old all.new) }
+    ensures fault { IfErr result (IsFault (I.may_fail image.now)) }
 {
     match walk_tree(alloc, image, segments, &root) {
         Ok(tree) => {
@@ -76,19 +77,42 @@ fn add_root<I: ImageBytes>(
     }
 }
 
+/// Why a line isn't written.
+#[derive(Clone, Copy, PartialEq, Eq)]
+enum WriteFault {
+    /// The writer failed.
+    Unwritten,
+    /// Memory was refused.
+    NoMemory,
+}
+
+impl From<AllocError> for WriteFault {
+    ghost use Rattle.image_dump.specs.declared.dump.WriteFault.TheVariants.{NoMemory};
+
+    ghost from_gives = { λ _ fault. fault ≡ NoMemory };
+
+    fn from(_error: AllocError) -> WriteFault {
+        WriteFault::NoMemory
+    }
+}
+
 /// Writes a line.
-fn write_line<W: Write>(alloc: Global, line: DumpLine, writer: &mut W) -> Result<(), NotDumped>
+fn write_line<W: Write>(alloc: Global, line: DumpLine, writer: &mut W) -> Result<(), WriteFault>
     ensures { OnOk result (Appends (W.contents writer.old) (W.contents writer.new) (text_of_lines (line ∷ []))) }
 {
     let text = format!(in alloc; "{line}\n")?;
     match writer.write_all(text.as_bytes()) {
         Ok(()) => Ok(()),
-        Err(_) => Err(NotDumped::Unwritten),
+        Err(_) => Err(WriteFault::Unwritten),
     }
 }
 
 /// Writes lines.
-fn write_lines<W: Write>(alloc: Global, lines: &[DumpLine], writer: &mut W) -> Result<(), NotDumped>
+fn write_lines<W: Write>(
+    alloc: Global,
+    lines: &[DumpLine],
+    writer: &mut W,
+) -> Result<(), WriteFault>
     ensures { OnOk result (Appends (W.contents writer.old) (W.contents writer.new) (text_of_lines lines.now)) }
 {
     for i in 0..lines.len() {
@@ -111,6 +135,7 @@ fn collect<I: ImageBytes>(
     requires few { length roots.now < 2 ^ 32 }
     ensures collected { IfOk result (AreCollected (I.bytes image.now) (I.may_fail image.now) segments.now roots.now skips.now all.old all.new) }
     ensures few { IfOk result (λ n. n ≤ length roots.now) }
+    ensures fault { IfErr result (IsFault (I.may_fail image.now)) }
 {
     let mut unwalked = 0u64;
     for i in 0..roots.len() {
@@ -142,7 +167,8 @@ pub fn dump_trees<I: ImageBytes, W: Write>(
     requires placed { All IsPlaced segments.now }
     requires roots { All IsRoot roots.now }
     requires few { length roots.now < 2 ^ 32 }
-    ensures { IfOk result (IsDumped (I.bytes image.now) (I.may_fail image.now) segments.now roots.now skips.now (W.contents writer.old) (W.contents writer.new)) }
+    ensures dumped { IfOk result (IsDumped (I.bytes image.now) (I.may_fail image.now) segments.now roots.now skips.now (W.contents writer.old) (W.contents writer.new)) }
+    ensures fault { IfErr result (IsFault (I.may_fail image.now)) }
 {
     let mut all = Collected {
         lines: Vec::new(alloc),
@@ -163,6 +189,9 @@ pub fn dump_trees<I: ImageBytes, W: Write>(
     let findings = unwalked + words.len() as u64;
     let trees = roots.len() as u64;
     add_line(&mut lines, DumpLine::End { trees, findings })?;
-    write_lines(alloc, lines.as_slice(), writer)?;
-    Ok(outcome(findings))
+    match write_lines(alloc, lines.as_slice(), writer) {
+        Ok(()) => Ok(outcome(findings)),
+        Err(WriteFault::Unwritten) => Err(NotDumped::Unwritten),
+        Err(WriteFault::NoMemory) => Err(NotDumped::Refused(Refused::NoMemory)),
+    }
 }

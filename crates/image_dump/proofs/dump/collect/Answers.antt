@@ -5,7 +5,7 @@ use Rattle.image_dump.proofs.dump.collect.Goals as goal
 
 pub overflow_add-unwalked : goal.overflow_add-unwalked
 overflow_add-unwalked g c =
-    let one = one_fault (g.I.ImageBytes.bytes c.args.image.now) (g.I.ImageBytes.may_fail c.args.image.now) c.args.segments.now c.args.skips.now _ c.loop-i.all c.add_root.new.all c.in_ok-unwalked.field-0 c.in_ok-unwalked.ensures in
+    let one = one_fault (g.I.ImageBytes.bytes c.args.image.now) (g.I.ImageBytes.may_fail c.args.image.now) c.args.segments.now c.args.skips.now _ c.loop-i.all c.add_root.new.all c.in_ok-unwalked.field-0 c.in_ok-unwalked.ensures.added in
     omega (arith, one, c.loop-i.invariant.few, c.loop-i-test.true, c.requires.few)
 
 pub loop-i-init : goal.loop-i-init
@@ -16,9 +16,9 @@ loop-i-init g c = record {
 
 pub loop-i-preserved : goal.loop-i-preserved
 loop-i-preserved g c =
-    let one = one_fault (g.I.ImageBytes.bytes c.args.image.now) (g.I.ImageBytes.may_fail c.args.image.now) c.args.segments.now c.args.skips.now _ c.loop-i.all c.add_root.new.all c.in_ok-unwalked.field-0 c.in_ok-unwalked.ensures in
+    let one = one_fault (g.I.ImageBytes.bytes c.args.image.now) (g.I.ImageBytes.may_fail c.args.image.now) c.args.segments.now c.args.skips.now _ c.loop-i.all c.add_root.new.all c.in_ok-unwalked.field-0 c.in_ok-unwalked.ensures.added in
     record {
-      all_so_far = more_collected (g.I.ImageBytes.bytes c.args.image.now) (g.I.ImageBytes.may_fail c.args.image.now) c.args.segments.now c.args.skips.now c.args.roots.now c.loop-i.i _ c.args.all.now c.loop-i.all c.add_root.new.all c.loop-i.unwalked c.in_ok-unwalked.field-0 c.loop-i-test.true c.loop-i.invariant.all_so_far c.in_ok-unwalked.ensures;
+      all_so_far = more_collected (g.I.ImageBytes.bytes c.args.image.now) (g.I.ImageBytes.may_fail c.args.image.now) c.args.segments.now c.args.skips.now c.args.roots.now c.loop-i.i _ c.args.all.now c.loop-i.all c.add_root.new.all c.loop-i.unwalked c.in_ok-unwalked.field-0 c.loop-i-test.true c.loop-i.invariant.all_so_far c.in_ok-unwalked.ensures.added;
       few = omega (arith, one, c.loop-i.invariant.few);
     }
 
