@@ -2,3 +2,4 @@ pub mod Texts
 pub mod Skips
 pub mod Collecting
 pub mod Dumped
+pub mod Images

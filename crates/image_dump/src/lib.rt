@@ -3,11 +3,13 @@
 
 mod collect;
 mod dump;
+mod image;
 mod line;
 mod skip;
 mod texts;
 
 pub use dump::{Dumped, NotDumped, dump_trees};
+pub use image::{Form, dump_image, dump_status};
 pub use line::DumpLine;
 pub use skip::Skip;
 
