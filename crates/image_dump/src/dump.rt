@@ -167,7 +167,8 @@ pub fn dump_trees<I: ImageBytes, W: Write>(
     requires placed { All IsPlaced segments.now }
     requires roots { All IsRoot roots.now }
     requires few { length roots.now < 2 ^ 32 }
-    ensures dumped { IfOk result (IsDumped (I.bytes image.now) (I.may_fail image.now) segments.now roots.now skips.now (W.contents writer.old) (W.contents writer.new)) }
+    ensures dumped { IfOk result
+        (IsDumped (I.bytes image.now) (I.may_fail image.now) segments.now roots.now skips.now (W.contents writer.old) (W.contents writer.new)) }
     ensures fault { IfErr result (IsFault (I.may_fail image.now)) }
 {
     let mut all = Collected {

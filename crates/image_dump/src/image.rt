@@ -43,7 +43,8 @@ pub fn dump_image<I: ImageBytes, W: Write>(
 ) -> Result<Dumped, NotDumped>
     requires roots { All IsRoot roots.now }
     requires few { length roots.now < 2 ^ 32 }
-    ensures dumped { IfOk result (IsImageDumped (I.bytes image.now) (I.may_fail image.now) form roots.now skips.now (W.contents writer.old) (W.contents writer.new)) }
+    ensures dumped { IfOk result
+        (IsImageDumped (I.bytes image.now) (I.may_fail image.now) form roots.now skips.now (W.contents writer.old) (W.contents writer.new)) }
     ensures refused { IfErr result (IsImageRefused (I.bytes image.now) (I.may_fail image.now) form) }
 {
     match open(alloc, image, form) {

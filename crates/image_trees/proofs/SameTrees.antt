@@ -1,7 +1,7 @@
 -- The tree by pages of the image is the tree in the image, where no value names a table that is there.
 use mathlib.Core.Path.{fun_ext}
-use Rattle.std.proofs.Common.{◌≡◌, ℕ, zero, suc, ◌+◌, ◌-◌, ◌/◌, ◌%◌, ◌<◌, ◌≤◌, Bool, true, false, List, [], ◌∷◌, length, map, take, get_or, Option, Some, None, cond, refl, sym, ap, subst, ◌∙◌, arith}
-use Rattle.std.specs.Prelude.{All, find, nat_lt, slice_get, option_map, ◌==◌, if◌then◌else◌}
+use Rattle.std.proofs.Common.{◌≡◌, ℕ, zero, suc, ◌+◌, ◌-◌, ◌/◌, ◌%◌, true, false, List, [], ◌∷◌, length, map, take, Option, Some, None, refl, sym, ap, subst, ◌∙◌, arith}
+use Rattle.std.specs.Prelude.{All, find, nat_lt, slice_get, option_map, ◌==◌}
 use Rattle.std.proofs.lemmas.Bool.Decides.{nat_tests}
 use Rattle.std.proofs.lemmas.List.Elements.{All-head, All-tail}
 use Rattle.std.proofs.lemmas.List.{length-take}
@@ -16,13 +16,13 @@ use Rattle.table_words.specs.Decoding.{decoded_of}
 use Rattle.table_words.specs.declared.profile.Profile.{Profile}
 use Rattle.table_words.specs.declared.word.Decoded.{Decoded}
 use Rattle.table_words.specs.declared.word.Decoded.TheVariants.{Malformed, Unmapped, Annotated, Poisoned, Locked, Cleared, Leaf, Table}
-use Rattle.walked_tables.specs.ByFrames.{index_at, led, led_case, level_at, map_by_frames, page_of, said_by, word_on, words_of}
+use Rattle.walked_tables.specs.ByFrames.{led, led_case, level_at, map_by_frames, page_of, said_by, word_on, words_of}
 use Rattle.walked_tables.specs.Values.{advance_decoded, advance_said, value_of}
 use Rattle.walked_tables.specs.declared.follow.TablePage.{TablePage}
 use Rattle.walked_tables.specs.declared.said.Said.{Said}
 use Rattle.image_trees.specs.InImage.{below_case, image_map, image_said, leads, root_words}
 use Rattle.walked_tables.specs.declared.reached.Reached.{Reached}
-use Rattle.image_trees.specs.KeptPages.{page_at, told, AreAbsent, AreMore, AreRead, Given, IsAbsent, IsWalkedBy}
+use Rattle.image_trees.specs.KeptPages.{told, AreAbsent, AreMore, AreRead, Given, IsAbsent, IsWalkedBy}
 use Rattle.image_trees.specs.Trees.{IsTreeIn}
 use Rattle.image_trees.specs.declared.root.Root.{Root}
 use Rattle.image_trees.proofs.Reading.{get_taken}

@@ -1,6 +1,6 @@
 -- What a tree says whose tables lie in memory: a table word leads on to the page of its frame, where there is one. Depths count
 -- the levels below.
-use Rattle.std.specs.Prelude.{ℕ, zero, suc, ◌+◌, ◌/◌, ◌%◌, nat_lt, List, get_or, Option, Some, None, if◌then◌else◌}
+use Rattle.std.specs.Prelude.{ℕ, zero, suc, ◌+◌, ◌/◌, nat_lt, List, get_or, Option, Some, None, if◌then◌else◌}
 use Rattle.page_state.specs.Geometries.{block_pages}
 use Rattle.table_words.specs.declared.profile.Profile.{Profile}
 use Rattle.table_words.specs.declared.word.Decoded.{Decoded}

@@ -1,5 +1,5 @@
 -- Pages that were read.
-use Rattle.std.specs.Prelude.{◌≡◌, ℕ, ◌+◌, ◌<◌, ◌≤◌, Bool, List, [], ◌∷◌, ◌++◌, All, length, map, take, slice_get, Option, Some, None, option_map, option_to_list}
+use Rattle.std.specs.Prelude.{◌≡◌, ℕ, ◌+◌, ◌<◌, Bool, List, [], ◌++◌, All, length, map, take, slice_get, Option, Some, None, option_map, option_to_list}
 use Rattle.std.specs.Option.{is_some}
 use Rattle.run_list.specs.declared.run.Run.{Run}
 use Rattle.table_words.specs.declared.word.Decoded.{Decoded}

@@ -1,4 +1,5 @@
 pub mod KeptPages
+pub mod Kept
 pub mod InImage
 pub mod Stops
 pub mod Unwalked

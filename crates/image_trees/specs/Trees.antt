@@ -1,5 +1,8 @@
 -- A tree in an image.
-use Rattle.std.specs.Prelude.{◌≡◌, ℕ, List, [], ◌++◌, All, AllPairs, map, take, Option}
+use Rattle.std.specs.Prelude.{◌≡◌, ℕ, List, AllPairs, map, take, Option}
+use Rattle.std.specs.Option.{ForSome}
+use Rattle.memory_image.specs.Pages.{page_words}
+use Rattle.memory_image.specs.declared.segment.Segment.{Segment}
 use Rattle.run_list.specs.Runs.{IsCoarsest, run_map}
 use Rattle.run_list.specs.declared.run.Run.{Run}
 use Rattle.walked_tables.specs.ByFrames.{tables_by_frames}
@@ -20,3 +23,7 @@ pub record IsTreeIn (read : ℕ → Option (List ℕ)) (root : Root) (runs : Lis
   pub read_from : AreRead read root root.count (map told pages)
   pub tables_are : tables ≡ tables_by_frames root.profile pages root.tree root.depth (take root.count pages)
   pub apart : AllPairs AreOtherFrames tables
+
+-- the same by a file's bytes, where they are known
+abbrev pub IsTreeOf : Option (List ℕ) → List Segment → Root → List (Run Said) → List Reached → Type 0
+IsTreeOf known segments root runs tables = ForSome known (λ all. IsTreeIn (page_words all segments) root runs tables)

@@ -1,9 +1,8 @@
 //! Pages that were read from the image.
 ghost use Rattle.std.specs.Prelude.{◌≡◌, ◌≤◌, ◌<◌, ◌^◌, ◌+◌, [], ◌∷◌, ◌++◌, if◌then◌else◌, All, IfOk, OnOk, IfErr, length, map};
-ghost use Rattle.std.specs.Option.{ForSome};
 ghost use Rattle.memory_image.specs.CoreFile.{IsPlaced};
-ghost use Rattle.memory_image.specs.Pages.{page_words};
-ghost use Rattle.image_trees.specs.KeptPages.{kept_told, told, AreMore, AreRead, HasWords, IsAdded, IsNamed};
+ghost use Rattle.image_trees.specs.KeptPages.{kept_told, told, HasWords};
+ghost use Rattle.image_trees.specs.Kept.{WasAdded, WasNamed, WereNamed, WereRead};
 ghost use Rattle.image_trees.specs.Unwalked.{IsPageFailed, IsUnwalked};
 
 use crate::root::{Root, Unwalked};
@@ -57,7 +56,7 @@ fn add_page<I: ImageBytes>(
     requires placed { All IsPlaced segments.now }
     requires room { length buffer.old ≡ 4096 }
     requires whole { All HasWords kept.old.items }
-    ensures added { IfOk result (λ found. ForSome (I.bytes image.now) (λ all. IsAdded (page_words all segments.now) frame (map kept_told kept.old.items) (map kept_told kept.new.items) found)) }
+    ensures added { IfOk result (WasAdded (I.bytes image.now) segments.now frame kept.old.items kept.new.items) }
     ensures whole { OnOk result (All HasWords kept.new.items) }
     ensures count { IfOk result (λ found. length kept.new.items ≡ (if found then length kept.old.items + 1 else length kept.old.items)) }
     ensures failed { IfErr result (IsPageFailed (I.may_fail image.now)) }
@@ -82,7 +81,7 @@ pub(crate) fn read_root<I: ImageBytes>(
     requires placed { All IsPlaced segments.now }
     requires room { length buffer.old ≡ 4096 }
     requires frames { root.now.frame + root.now.count < 2 ^ 64 }
-    ensures read { IfOk result (λ kept. ForSome (I.bytes image.now) (λ all. AreRead (page_words all segments.now) root.now root.now.count (map kept_told kept.items))) }
+    ensures read { IfOk result (λ kept. WereRead (I.bytes image.now) segments.now root.now kept.items) }
     ensures whole { IfOk result (λ kept. All HasWords kept.items) }
     ensures count { IfOk result (λ kept. length kept.items ≡ root.now.count) }
     ensures unwalked { IfErr result (IsUnwalked (I.bytes image.now) (I.may_fail image.now) segments.now root.now) }
@@ -109,7 +108,7 @@ fn add_named<I: ImageBytes>(
     requires placed { All IsPlaced segments.now }
     requires room { length buffer.old ≡ 4096 }
     requires whole { All HasWords kept.old.items }
-    ensures more { OnOk result (ForSome (I.bytes image.now) (λ all. IsNamed (page_words all segments.now) decoded.now (map kept_told kept.old.items) (map kept_told kept.new.items))) }
+    ensures more { OnOk result (WasNamed (I.bytes image.now) segments.now decoded.now kept.old.items kept.new.items) }
     ensures whole { OnOk result (All HasWords kept.new.items) }
     ensures count { OnOk result (length kept.old.items ≤ length kept.new.items) }
     ensures failed { IfErr result (IsPageFailed (I.may_fail image.now)) }
@@ -132,7 +131,7 @@ pub(crate) fn add_missing<I: ImageBytes>(
     requires placed { All IsPlaced segments.now }
     requires room { length buffer.old ≡ 4096 }
     requires whole { All HasWords kept.old.items }
-    ensures more { OnOk result (ForSome (I.bytes image.now) (λ all. AreMore (page_words all segments.now) runs.now (map kept_told kept.old.items) (map kept_told kept.new.items))) }
+    ensures more { OnOk result (WereNamed (I.bytes image.now) segments.now runs.now kept.old.items kept.new.items) }
     ensures whole { OnOk result (All HasWords kept.new.items) }
     ensures count { OnOk result (length kept.old.items ≤ length kept.new.items) }
     ensures failed { IfErr result (IsPageFailed (I.may_fail image.now)) }

@@ -1,10 +1,8 @@
 //! The walk.
 ghost use Rattle.std.specs.Prelude.{◌≡◌, ◌≤◌, ◌<◌, ◌^◌, ◌+◌, All, IfOk, IfErr, length, map};
-ghost use Rattle.std.specs.Option.{ForSome};
 ghost use Rattle.memory_image.specs.CoreFile.{IsPlaced};
-ghost use Rattle.memory_image.specs.Pages.{page_words};
 ghost use Rattle.image_trees.specs.KeptPages.{kept_told, HasWords, IsWalkedBy};
-ghost use Rattle.image_trees.specs.Trees.{IsTreeIn};
+ghost use Rattle.image_trees.specs.Trees.{IsTreeOf};
 ghost use Rattle.image_trees.specs.Unwalked.{IsStoppedBy, IsUnwalked};
 
 use crate::kept::{KeptPage, add_missing, lent, read_root};
@@ -51,7 +49,7 @@ pub fn walk_tree<I: ImageBytes>(
     requires depth { root.now.depth ≤ 3 }
     requires few { root.now.count ≤ 16 }
     requires frames { root.now.frame + root.now.count < 2 ^ 64 }
-    ensures tree { IfOk result (λ tree. ForSome (I.bytes image.now) (λ all. IsTreeIn (page_words all segments.now) root.now tree.runs.items tree.tables.items)) }
+    ensures tree { IfOk result (λ tree. IsTreeOf (I.bytes image.now) segments.now root.now tree.runs.items tree.tables.items) }
     ensures unwalked { IfErr result (IsUnwalked (I.bytes image.now) (I.may_fail image.now) segments.now root.now) }
 {
     let mut buffer = page_buffer(alloc)?;

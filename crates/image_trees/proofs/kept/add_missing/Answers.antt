@@ -1,4 +1,4 @@
-use Rattle.std.proofs.Common.{map, subst, arith, take, ◌+◌, refl}
+use Rattle.std.proofs.Common.{map, subst, arith}
 use Rattle.memory_image.specs.Pages.{page_words}
 use Rattle.image_trees.specs.KeptPages.{kept_told, AreMore}
 use Rattle.image_trees.proofs.Reading.{more_named, taken_all}

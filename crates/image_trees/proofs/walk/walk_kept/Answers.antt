@@ -1,4 +1,4 @@
-use Rattle.std.proofs.Common.{sym, subst, ◌∙◌, All, ap, map}
+use Rattle.std.proofs.Common.{◌∙◌, ap, map}
 use Rattle.std.proofs.lemmas.List.Elements.{All-take}
 use Rattle.walked_tables.specs.ByFrames.{IsWhole}
 use Rattle.image_trees.specs.KeptPages.{told}

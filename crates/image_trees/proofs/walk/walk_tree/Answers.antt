@@ -1,4 +1,4 @@
-use Rattle.std.proofs.Common.{◌≡◌, ◌∙◌, length, map, sym, subst, arith}
+use Rattle.std.proofs.Common.{◌≡◌, length, map, subst, arith}
 use Rattle.std.proofs.lemmas.List.{length-map}
 use Rattle.memory_image.specs.Pages.{page_words}
 use Rattle.image_trees.specs.KeptPages.{kept_told, AreMore, IsWalkedBy}

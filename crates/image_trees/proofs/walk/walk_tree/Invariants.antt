@@ -1,4 +1,4 @@
-use Rattle.std.proofs.Common.{ℕ, ◌≡◌, ◌≤◌, ◌-◌, All, length, map, vec_len}
+use Rattle.std.proofs.Common.{◌≡◌, ◌≤◌, ◌-◌, All, length, map, vec_len}
 use Rattle.std.specs.Option.{ForSome}
 use Rattle.memory_image.specs.Pages.{page_words}
 use Rattle.image_trees.specs.KeptPages.{kept_told, AreRead, HasWords}
