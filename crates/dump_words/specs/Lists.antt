@@ -1,4 +1,5 @@
 -- What all words of a dump say together.
+use Rattle.std.specs.Borrow.{Bor}
 use Rattle.std.specs.Global.{Global}
 use Rattle.std.specs.Prelude.{◌≡◌, ℕ, ◌+◌, ◌-◌, ◌≤◌, ◌==◌, nat_lt, All, Vec, List, [], ◌∷◌, ◌++◌, find, length, map, Option, Some, None, Result, Ok, Err, if◌then◌else◌}
 use Rattle.table_words.specs.Profiles.{model_profile}
@@ -12,6 +13,10 @@ use Rattle.dump_words.specs.declared.given.NotGiven.{NotGiven}
 use Rattle.dump_words.specs.declared.given.NotGiven.TheVariants.{Bad, NoMemory}
 use Rattle.dump_words.specs.declared.roots.RootWord.{RootWord}
 use Rattle.dump_words.specs.Words.{IsLowGuest, from, guest_of, profile_of_word, root_of_word, skip_of}
+
+-- texts as they are
+abbrev pub texts_in : List (Bor (List ℕ)) → List (List ℕ)
+texts_in words = map (λ word. word.now) words
 
 -- what each of some words says, behind what those before them said; None where one says nothing
 abbrev pub read_behind : {X : Type 0} → (List ℕ → Option X) → List X → List (List ℕ) → Option (List X)

@@ -1,6 +1,6 @@
 //! All words of a dump: its roots, and the pages that are skipped.
 ghost use Rattle.std.specs.Prelude.{◌≡◌, ◌≤◌, ◌<◌, ◌^◌, ◌+◌, ℕ, ◌∷◌, [], ◌++◌, All, IfOk, List, length, map, take};
-ghost use Rattle.dump_words.specs.Lists.{AreAllLow, AreRead, IsGiven, given_by, profile_for as profile_for_tree, read_all, root_by, roots_by};
+ghost use Rattle.dump_words.specs.Lists.{AreAllLow, AreRead, IsGiven, given_by, profile_for as profile_for_tree, read_all, root_by, roots_by, texts_in};
 ghost use Rattle.dump_words.specs.Words.{IsLowGuest, IsLowRoot, guest_of, profile_of_word, skip_of};
 ghost use Rattle.image_dump.specs.Dumped.{IsRoot};
 
@@ -158,7 +158,7 @@ pub fn read_words(
     profiles: &[&str],
     skips: &[&str],
 ) -> Result<Given, NotGiven>
-    ensures read { IsGiven (given_by host.now hyp.now (map (λ word. word.now) guests.now) (map (λ word. word.now) profiles.now) (map (λ word. word.now) skips.now)) result }
+    ensures read { IsGiven (given_by host.now hyp.now (texts_in guests.now) (texts_in profiles.now) (texts_in skips.now)) result }
     ensures roots { IfOk result (λ given. All IsRoot given.roots.items) }
     ensures few { IfOk result (λ given. length given.roots.items ≤ 66) }
 {
