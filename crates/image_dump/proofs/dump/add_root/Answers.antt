@@ -1,0 +1,17 @@
+use Rattle.std.proofs.Common.{Err, refl, sym}
+use Rattle.image_dump.proofs.Collected.{append_nil}
+use Rattle.image_dump.proofs.dump.add_root.Goals as goal
+
+pub returns-in_ok-add_line-in-Err-clause-added : goal.returns-in_ok-add_line-in-Err-clause-added
+returns-in_ok-add_line-in-Err-clause-added g c = record {
+  found = record { root = c.args.root; walked = Err c.in-Err.why };
+  root_is = refl;
+  found_in = c.in-Err.ensures.unwalked;
+  grows = record {
+    lines_are = c.in_ok-add_line-in-Err.ensures;
+    words_are = sym (append_nil _);
+    claims_are = sym (append_nil _);
+    tables_are = sym (append_nil _);
+  };
+  faults_are = refl;
+}

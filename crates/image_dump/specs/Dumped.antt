@@ -1,0 +1,103 @@
+-- The dump of an image.
+use Rattle.std.specs.Prelude.{◌≡◌, ℕ, ◌+◌, ◌^◌, ◌≤◌, ◌<◌, ◌==◌, Bool, List, [], ◌∷◌, ◌++◌, All, length, map, Option, Result, Ok, Err, if◌then◌else◌}
+use Rattle.std.specs.List.{list_all, flat_map}
+use Rattle.std.specs.Option.{ForSome}
+use Rattle.std.specs.Io.KnownBytes.{Appends}
+use Rattle.memory_image.specs.Pages.{page_words}
+use Rattle.memory_image.specs.declared.segment.Segment.{Segment}
+use Rattle.run_list.specs.declared.run.Run.{Run}
+use Rattle.walked_tables.specs.declared.reached.Reached.{Reached}
+use Rattle.walked_tables.specs.declared.said.Said.{Said}
+use Rattle.image_trees.specs.Trees.{IsTreeIn}
+use Rattle.image_trees.specs.Unwalked.{IsFailed, IsUnwalked}
+use Rattle.image_trees.specs.declared.root.Root.{Root}
+use Rattle.image_trees.specs.declared.root.Unwalked.{Unwalked}
+use Rattle.image_findings.specs.declared.finding.Finding.{Finding}
+use Rattle.image_dump.specs.Collecting.{claims_of, findings_by, lines_of, tables_of, words_of, Found, Grows}
+use Rattle.image_dump.specs.Texts.{text_of_line}
+use Rattle.image_dump.specs.declared.collect.Collected.{Collected}
+use Rattle.image_dump.specs.declared.dump.Dumped.{Dumped}
+use Rattle.image_dump.specs.declared.dump.Dumped.TheVariants.{Sound, Unsound}
+use Rattle.image_dump.specs.declared.dump.NotDumped.{NotDumped}
+use Rattle.image_dump.specs.declared.dump.NotDumped.TheVariants.{Refused, Unwritten}
+use Rattle.image_dump.specs.declared.line.DumpLine.{DumpLine}
+use Rattle.image_dump.specs.declared.line.DumpLine.TheVariants as line
+use Rattle.image_dump.specs.declared.skip.Skip.{Skip}
+
+-- a root that can be walked
+pub record IsRoot (root : Root) : Type 0 where
+  pub depth : root.depth ≤ 3
+  pub few : root.count ≤ 16
+  pub frames : root.frame + root.count < 2 ^ 64
+
+-- the words of a root's tree say states
+abbrev pub says_states : Root → Bool
+says_states root = root.profile.has_states
+
+-- lines, each with its end
+unfoldable pub text_of_lines : List DumpLine → List ℕ
+text_of_lines [] = []
+text_of_lines (l ∷ ls) = (text_of_line l ++ 10 ∷ []) ++ text_of_lines ls
+
+-- what was found is the tree in the image, or it isn't walked for that reason
+abbrev pub IsWalkOf : Option (List ℕ) → (ℕ → ℕ → Type 0) → List Segment → Root → Result (List (Run Said) × List Reached) Unwalked → Type 0
+IsWalkOf known may_fail segments root (Ok w) = ForSome known (λ all. IsTreeIn (page_words all segments) root w.0 w.1)
+IsWalkOf known may_fail segments root (Err why) = IsUnwalked known may_fail segments root why
+
+abbrev pub IsFoundIn : Option (List ℕ) → (ℕ → ℕ → Type 0) → List Segment → Found → Type 0
+IsFoundIn known may_fail segments f = IsWalkOf known may_fail segments f.root f.walked
+
+-- 1 for a tree that isn't walked
+abbrev pub fault_count : {X Y : Type 0} → Result X Y → ℕ
+fault_count (Ok x) = 0
+fault_count (Err y) = 1
+
+abbrev pub faults_in : List Found → ℕ
+faults_in [] = 0
+faults_in (f ∷ fs) = fault_count f.walked + faults_in fs
+
+-- a root was added, with a line of its own where it isn't walked
+pub record IsAdded (known : Option (List ℕ)) (may_fail : ℕ → ℕ → Type 0) (segments : List Segment) (root : Root) (skips : List Skip) (before after : Collected) (faults : ℕ) : Type 0 where
+  pub found : Found
+  pub root_is : found.root ≡ root
+  pub found_in : IsFoundIn known may_fail segments found
+  pub grows : Grows skips found before after
+  pub faults_are : faults ≡ fault_count found.walked
+
+-- roots were added
+pub record AreCollected (known : Option (List ℕ)) (may_fail : ℕ → ℕ → Type 0) (segments : List Segment) (roots : List Root) (skips : List Skip) (before after : Collected) (faults : ℕ) : Type 0 where
+  pub trees : List Found
+  pub roots_are : map (λ f. f.root) trees ≡ roots
+  pub each : All (IsFoundIn known may_fail segments) trees
+  pub lines_are : after.lines.items ≡ before.lines.items ++ flat_map (lines_of skips) trees
+  pub words_are : after.words.items ≡ before.words.items ++ flat_map (words_of skips) trees
+  pub claims_are : after.claims.items ≡ before.claims.items ++ flat_map (claims_of skips) trees
+  pub tables_are : after.tables.items ≡ before.tables.items ++ flat_map tables_of trees
+  pub faults_are : faults ≡ faults_in trees
+
+-- what isn't sound in trees
+abbrev pub findings_of : List Skip → List Root → List Found → List Finding
+findings_of skips roots trees = flat_map (words_of skips) trees ++ findings_by (list_all says_states roots) (flat_map (claims_of skips) trees) (flat_map tables_of trees)
+
+-- the lines of the report
+abbrev pub report_of : List Skip → List Root → List Found → List DumpLine
+report_of skips roots trees =
+    let findings = findings_of skips roots trees in
+    (flat_map (lines_of skips) trees ++ map (λ finding. line.Finding finding) findings) ++ line.End (length roots) (faults_in trees + length findings) ∷ []
+
+-- sound where nothing is named
+abbrev pub outcome_of : ℕ → Dumped
+outcome_of faults = if faults == 0 then Sound else Unsound
+
+-- the report of the trees in the image was written
+pub record IsDumped (known : Option (List ℕ)) (may_fail : ℕ → ℕ → Type 0) (segments : List Segment) (roots : List Root) (skips : List Skip) (before after : Option (List ℕ)) (outcome : Dumped) : Type 0 where
+  pub trees : List Found
+  pub roots_are : map (λ f. f.root) trees ≡ roots
+  pub each : All (IsFoundIn known may_fail segments) trees
+  pub written : Appends before after (text_of_lines (report_of skips roots trees))
+  pub outcome_is : outcome ≡ outcome_of (faults_in trees + length (findings_of skips roots trees))
+
+-- there is no report: the image could not be read, the report not written, or memory was refused
+abbrev pub IsFault : (ℕ → ℕ → Type 0) → NotDumped → Type 0
+IsFault may_fail (Refused refused) = IsFailed may_fail refused
+IsFault may_fail Unwritten = Unit {0}

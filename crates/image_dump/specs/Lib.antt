@@ -1,0 +1,5 @@
+pub mod Texts
+pub mod Skips
+pub mod Collecting
+pub mod Dumped
+pub mod Images

@@ -1,0 +1,198 @@
+//! The dump.
+ghost use Rattle.std.specs.Prelude.{◌≡◌, ◌≤◌, ◌<◌, ◌^◌, [], ◌∷◌, All, IfErr, IfOk, OnOk, Ok, Err, length};
+ghost use Rattle.std.specs.List.{list_all};
+ghost use Rattle.std.specs.Io.KnownBytes.{Appends};
+ghost use Rattle.memory_image.specs.CoreFile.{IsPlaced};
+ghost use Rattle.image_dump.specs.Dumped.{outcome_of, says_states, text_of_lines, AreCollected, IsAdded, IsDumped, IsFault, IsRoot};
+
+use crate::collect::{Collected, add_findings, add_line, add_tree, add_unsound};
+use crate::line::DumpLine;
+use crate::skip::Skip;
+use image_trees::{Root, Unwalked, walk_tree};
+use memory_image::{ImageBytes, Refused, Segment};
+use std::alloc::{AllocError, Global};
+use std::io::Write;
+
+/// How a dump ends.
+#[derive(Clone, Copy, PartialEq, Eq, Debug)]
+pub enum Dumped {
+    /// Nothing is named.
+    Sound,
+    /// Something is.
+    Unsound,
+}
+
+/// Why there is no dump.
+#[derive(Clone, Copy, PartialEq, Eq, Debug)]
+pub enum NotDumped {
+    /// The image is refused.
+    Refused(Refused),
+    /// The report could not be written.
+    Unwritten,
+}
+
+impl From<AllocError> for NotDumped {
+    ghost use Rattle.image_dump.specs.declared.dump.NotDumped.TheVariants.{Refused};
+    ghost use Rattle.memory_image.specs.declared.refused.Refused.TheVariants.{NoMemory};
+
+    ghost from_gives = { λ _ fault. fault ≡ Refused NoMemory };
+
+    fn from(_error: AllocError) -> NotDumped {
+        NotDumped::Refused(Refused::NoMemory)
+    }
+}
+
+/// Whether words of all trees say states.
+fn all_say_states(roots: &[Root]) -> bool
+    ensures { result ≡ list_all says_states roots.now }
+{
+    roots.iter().all(|root| root.profile.has_states)
+}
+
+/// Adds what is found from a root.
+fn add_root<I: ImageBytes>(
+    alloc: Global,
+    image: &I,
+    segments: &[Segment],
+    root: Root,
+    skips: &[Skip],
+    all: &mut Collected,
+) -> Result<u64, NotDumped>
+    requires placed { All IsPlaced segments.now }
+    requires root { IsRoot root }
+    ensures added { IfOk result (IsAdded (I.bytes image.now) (I.may_fail image.now) segments.now root skips.now all.old all.new) }
+    ensures fault { IfErr result (IsFault (I.may_fail image.now)) }
+{
+    match walk_tree(alloc, image, segments, &root) {
+        Ok(tree) => {
+            add_tree(alloc, root, &tree, skips, all)?;
+            Ok(0)
+        }
+        Err(Unwalked::Failed(refused)) => Err(NotDumped::Refused(refused)),
+        Err(why) => {
+            let tree = root.tree;
+            add_line(&mut all.lines, DumpLine::Unwalked { tree, why })?;
+            Ok(1)
+        }
+    }
+}
+
+/// Why a line isn't written.
+#[derive(Clone, Copy, PartialEq, Eq)]
+enum WriteFault {
+    /// The writer failed.
+    Unwritten,
+    /// Memory was refused.
+    NoMemory,
+}
+
+impl From<AllocError> for WriteFault {
+    ghost use Rattle.image_dump.specs.declared.dump.WriteFault.TheVariants.{NoMemory};
+
+    ghost from_gives = { λ _ fault. fault ≡ NoMemory };
+
+    fn from(_error: AllocError) -> WriteFault {
+        WriteFault::NoMemory
+    }
+}
+
+/// Writes a line.
+fn write_line<W: Write>(alloc: Global, line: DumpLine, writer: &mut W) -> Result<(), WriteFault>
+    ensures { OnOk result (Appends (W.contents writer.old) (W.contents writer.new) (text_of_lines (line ∷ []))) }
+{
+    let text = format!(in alloc; "{line}\n")?;
+    match writer.write_all(text.as_bytes()) {
+        Ok(()) => Ok(()),
+        Err(_) => Err(WriteFault::Unwritten),
+    }
+}
+
+/// Writes lines.
+fn write_lines<W: Write>(
+    alloc: Global,
+    lines: &[DumpLine],
+    writer: &mut W,
+) -> Result<(), WriteFault>
+    ensures { OnOk result (Appends (W.contents writer.old) (W.contents writer.new) (text_of_lines lines.now)) }
+{
+    for i in 0..lines.len() {
+        write_line(alloc, lines[i], writer)?;
+    }
+    Ok(())
+}
+
+/// Finds what the roots have.
+fn collect<I: ImageBytes>(
+    alloc: Global,
+    image: &I,
+    segments: &[Segment],
+    roots: &[Root],
+    skips: &[Skip],
+    all: &mut Collected,
+) -> Result<u64, NotDumped>
+    requires placed { All IsPlaced segments.now }
+    requires roots { All IsRoot roots.now }
+    requires few { length roots.now < 2 ^ 32 }
+    ensures collected { IfOk result (AreCollected (I.bytes image.now) (I.may_fail image.now) segments.now roots.now skips.now all.old all.new) }
+    ensures few { IfOk result (λ n. n ≤ length roots.now) }
+    ensures fault { IfErr result (IsFault (I.may_fail image.now)) }
+{
+    let mut unwalked = 0u64;
+    for i in 0..roots.len() {
+        unwalked += add_root(alloc, image, segments, roots[i], skips, all)?;
+    }
+    Ok(unwalked)
+}
+
+/// How a dump ends in which so many lines name what isn't sound.
+fn outcome(findings: u64) -> Dumped
+    ensures { result ≡ outcome_of findings }
+{
+    if findings == 0 {
+        Dumped::Sound
+    } else {
+        Dumped::Unsound
+    }
+}
+
+/// Dumps the trees of an image: a line for each tree and each of its runs, then what isn't sound, and an end line.
+pub fn dump_trees<I: ImageBytes, W: Write>(
+    alloc: Global,
+    image: &I,
+    segments: &[Segment],
+    roots: &[Root],
+    skips: &[Skip],
+    writer: &mut W,
+) -> Result<Dumped, NotDumped>
+    requires placed { All IsPlaced segments.now }
+    requires roots { All IsRoot roots.now }
+    requires few { length roots.now < 2 ^ 32 }
+    ensures dumped { IfOk result
+        (IsDumped (I.bytes image.now) (I.may_fail image.now) segments.now roots.now skips.now (W.contents writer.old) (W.contents writer.new)) }
+    ensures fault { IfErr result (IsFault (I.may_fail image.now)) }
+{
+    let mut all = Collected {
+        lines: Vec::new(alloc),
+        words: Vec::new(alloc),
+        claims: Vec::new(alloc),
+        tables: Vec::new(alloc),
+    };
+    let unwalked = collect(alloc, image, segments, roots, skips, &mut all)?;
+    let states = all_say_states(roots);
+    let Collected {
+        mut lines,
+        mut words,
+        claims,
+        tables,
+    } = all;
+    add_unsound(states, claims.as_slice(), tables.as_slice(), &mut words)?;
+    add_findings(words.as_slice(), &mut lines)?;
+    let findings = unwalked + words.len() as u64;
+    let trees = roots.len() as u64;
+    add_line(&mut lines, DumpLine::End { trees, findings })?;
+    match write_lines(alloc, lines.as_slice(), writer) {
+        Ok(()) => Ok(outcome(findings)),
+        Err(WriteFault::Unwritten) => Err(NotDumped::Unwritten),
+        Err(WriteFault::NoMemory) => Err(NotDumped::Refused(Refused::NoMemory)),
+    }
+}

@@ -1,0 +1,12 @@
+//! Trees whose tables lie in an image of memory: what each page has, by the words that the image's pages have.
+#![tactic(auto)]
+
+mod kept;
+mod root;
+mod walk;
+
+pub use root::{Root, Tree, Unwalked};
+pub use walk::walk_tree;
+
+#[cfg(test)]
+mod tests;

@@ -1,0 +1,4 @@
+pub mod Pieces
+pub mod CoreFile
+pub mod Opened
+pub mod Pages
