@@ -1,5 +1,5 @@
 -- The words of the command that dumps an image. Frames and pages are numbers as a trace writes them, all else is decimal.
-use Rattle.std.specs.Prelude.{ℕ, ◌+◌, ◌^◌, ◌==◌, ◌&&◌, ◌||◌, nat_le, nat_lt, Bool, true, false, List, length, take, drop, codes, position, Option, Some, None, if◌then◌else◌}
+use Rattle.std.specs.Prelude.{ℕ, ◌+◌, ◌<◌, ◌≤◌, ◌^◌, ◌==◌, ◌&&◌, ◌||◌, nat_le, nat_lt, Bool, true, false, List, length, take, drop, codes, position, Option, Some, None, if◌then◌else◌}
 use Rattle.std.specs.Str.{bytes_eq}
 use Rattle.trace_words.specs.Numbers.{decimal_of, number_of}
 use Rattle.table_words.specs.Profiles.{guest_profile, host_profile, hypervisor_profile, model_profile}
@@ -27,6 +27,15 @@ place_of mark word = position (λ b. b == mark) word
 abbrev pub made_of : Option ℕ → Option ℕ → Option ℕ → Option RootWord
 made_of (Some frame) (Some level) (Some pages) = if ((nat_lt 3 level || nat_lt pages 1) || nat_lt 16 pages) || nat_le (2 ^ 40) frame then None else Some (record { frame = frame; level = level; pages = pages })
 made_of frame level pages = None
+
+-- its numbers are small
+pub record IsLowRoot (root : RootWord) : Type 0 where
+  pub frame : root.frame < 2 ^ 40
+  pub level : root.level ≤ 3
+  pub pages : root.pages ≤ 16
+
+abbrev pub IsLowGuest : ℕ × RootWord → Type 0
+IsLowGuest g = (g.0 ≤ 63) × IsLowRoot g.1
 
 -- FRAME and LEVEL[:PAGES]
 abbrev pub below_frame : Option ℕ → List ℕ → Option RootWord

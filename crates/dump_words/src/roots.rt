@@ -1,6 +1,6 @@
 //! Roots: `FRAME[:LEVEL[:PAGES]]`.
-ghost use Rattle.std.specs.Prelude.{◌≡◌};
-ghost use Rattle.dump_words.specs.Words.{below_frame, guest_of, made_of, root_of_word};
+ghost use Rattle.std.specs.Prelude.{◌≡◌, IfSome};
+ghost use Rattle.dump_words.specs.Words.{IsLowGuest, IsLowRoot, below_frame, guest_of, made_of, root_of_word};
 
 use crate::cut::mark_at;
 use trace_words::{decimal, number};
@@ -15,7 +15,8 @@ pub struct RootWord {
 
 /// A root of these numbers: of 1 to 16 pages below frame 2^40, at a level from 0 to 3.
 fn made(frame: Option<u64>, level: Option<u64>, pages: Option<u64>) -> Option<RootWord>
-    ensures { result ≡ made_of frame level pages }
+    ensures is { result ≡ made_of frame level pages }
+    ensures low { IfSome result IsLowRoot }
 {
     match (frame, level, pages) {
         (Some(frame), Some(level), Some(pages)) => {
@@ -35,7 +36,8 @@ fn made(frame: Option<u64>, level: Option<u64>, pages: Option<u64>) -> Option<Ro
 
 /// The root of a frame, and of what follows the first colon.
 fn below(frame: Option<u64>, rest: &[u8]) -> Option<RootWord>
-    ensures { result ≡ below_frame frame rest.now }
+    ensures is { result ≡ below_frame frame rest.now }
+    ensures low { IfSome result IsLowRoot }
 {
     match mark_at(rest, b':') {
         None => made(frame, decimal(rest), Some(1)),
@@ -45,7 +47,8 @@ fn below(frame: Option<u64>, rest: &[u8]) -> Option<RootWord>
 
 /// The root that a word is. The level is 0 where it isn't said, and there is one page.
 pub fn root_word(word: &[u8]) -> Option<RootWord>
-    ensures { result ≡ root_of_word word.now }
+    ensures is { result ≡ root_of_word word.now }
+    ensures low { IfSome result IsLowRoot }
 {
     match mark_at(word, b':') {
         None => made(number(word), Some(0), Some(1)),
@@ -55,7 +58,8 @@ pub fn root_word(word: &[u8]) -> Option<RootWord>
 
 /// The guest and its root that a word is: `N=ROOT`, N below 64.
 pub fn guest_word(word: &[u8]) -> Option<(u64, RootWord)>
-    ensures { result ≡ guest_of word.now }
+    ensures is { result ≡ guest_of word.now }
+    ensures low { IfSome result IsLowGuest }
 {
     let Some(at) = mark_at(word, b'=') else {
         return None;

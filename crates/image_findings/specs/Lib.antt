@@ -1,3 +1,4 @@
 pub mod Claims
 pub mod Findings
 pub mod Unborrowed
+pub mod Laws

@@ -4,6 +4,7 @@
 mod claim;
 mod clashes;
 mod finding;
+pub mod laws;
 mod tables;
 mod unborrowed;
 mod words;

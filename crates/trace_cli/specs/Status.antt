@@ -32,10 +32,11 @@ use Rattle.trace_generate.specs.declared.options.GenerateFault.TheVariants as ge
 use Rattle.trace_generate.specs.declared.options.Options.{Options}
 use Rattle.trace_generate.specs.Machine.{IsFault}
 use Rattle.trace_generate.specs.Made.{IsTrace}
-use Rattle.trace_command.specs.Asked.{Asking, Replaying, Racing, Auditing, Finding, Checking, Recording, Explaining, Generating, Drawing, IsRead, asking_of}
+use Rattle.trace_command.specs.Asked.{Asking, Replaying, Racing, Auditing, Finding, Checking, Recording, Explaining, Generating, Drawing, Dumping, IsRead, asking_of}
 use Rattle.trace_command.specs.declared.words.Invocation.{Invocation}
 use Rattle.trace_command.specs.declared.words.UsageFault.{UsageFault}
 use Rattle.trace_command.specs.declared.words.UsageFault.TheVariants.{NoMemory, Usage}
+use Rattle.trace_cli.specs.Dumping.{HasDumpStatus}
 use Rattle.trace_cli.specs.declared.tasks.Opened.{Opened}
 use Rattle.trace_cli.specs.declared.tasks.Task.{Task}
 use Rattle.trace_cli.specs.declared.tasks.Task.TheVariants as tasks
@@ -195,19 +196,23 @@ module _ {F E : Type 0} (bytes : F → Option (List ℕ)) (opens : List ℕ → 
   HasGreatestStatus task (path ∷ more) status =
       (own : ℕ) × (others : ℕ) × HasFileStatus task path own × HasGreatestStatus task more others × (status ≡ max own others)
 
+-- and of the program, by what opening an image may come to as well
+module _ {F I E : Type 0} (bytes : F → Option (List ℕ)) (opens : List ℕ → Result F E → Type 0)
+    (known : I → Option (List ℕ)) (may_fail : I → ℕ → ℕ → Type 0) (opens_image : List ℕ → Result I E → Type 0) where
   -- of what is asked
   abbrev pub HasAskedStatus : Asking → ℕ → Type 0
-  HasAskedStatus (Replaying file heap looks quiet) status = HasFileStatus (tasks.Replay heap looks quiet) file status
-  HasAskedStatus (Racing file quiet) status = HasFileStatus (tasks.Race quiet) file status
-  HasAskedStatus (Auditing file quiet) status = HasFileStatus (tasks.Audit quiet) file status
-  HasAskedStatus (Finding file limit None quiet) status = HasFileStatus (tasks.Outcomes limit quiet) file status
-  HasAskedStatus (Finding file limit (Some report) quiet) status = HasOrderStatus file report limit status
-  HasAskedStatus (Checking files looks quiet) status = HasGreatestStatus (tasks.Check looks quiet) files status
-  HasAskedStatus (Recording file) status = HasFileStatus tasks.Record file status
-  HasAskedStatus (Explaining file line) status = HasFileStatus (tasks.Explain line) file status
+  HasAskedStatus (Replaying file heap looks quiet) status = HasFileStatus bytes opens (tasks.Replay heap looks quiet) file status
+  HasAskedStatus (Racing file quiet) status = HasFileStatus bytes opens (tasks.Race quiet) file status
+  HasAskedStatus (Auditing file quiet) status = HasFileStatus bytes opens (tasks.Audit quiet) file status
+  HasAskedStatus (Finding file limit None quiet) status = HasFileStatus bytes opens (tasks.Outcomes limit quiet) file status
+  HasAskedStatus (Finding file limit (Some report) quiet) status = HasOrderStatus bytes opens file report limit status
+  HasAskedStatus (Checking files looks quiet) status = HasGreatestStatus bytes opens (tasks.Check looks quiet) files status
+  HasAskedStatus (Recording file) status = HasFileStatus bytes opens tasks.Record file status
+  HasAskedStatus (Explaining file line) status = HasFileStatus bytes opens (tasks.Explain line) file status
   HasAskedStatus (Generating seed steps cpus pages geometry hostile) status =
       (old : Option (List ℕ)) × (new : Option (List ℕ)) × IsMade steps (record { cpus = cpus; pages = pages; geometry = geometry; hostile = hostile }) old new status
-  HasAskedStatus (Drawing file text) status = HasFileStatus (tasks.Draw text) file status
+  HasAskedStatus (Drawing file text) status = HasFileStatus bytes opens (tasks.Draw text) file status
+  HasAskedStatus (Dumping dump) status = HasDumpStatus known may_fail opens_image dump status
 
   -- of what words were read as
   abbrev pub HasReadStatus : Result Invocation UsageFault → ℕ → Type 0

@@ -21,6 +21,19 @@ pub trait Opens<F> {
         ensures { opens self.now path.now result };
 }
 
+/// What opens images of memory by their paths.
+pub trait OpensImage<I> {
+    ghost use Rattle.std.specs.Prelude.{ℕ, List, Result};
+    ghost use Rattle.std.specs.declared.io.Error.{Error};
+
+    /// What opening a path may come to.
+    ghost opens_image: { Self → List ℕ → Result I Error → Type 0 };
+
+    /// Opens the image at a path.
+    fn open_image(&self, path: &str) -> Result<I, io::Error>
+        ensures { opens_image self.now path.now result };
+}
+
 /// The machine's own files, and standard input under the path `-`.
 #[derive(Drop)]
 pub struct HostFiles<'a, R> {
@@ -47,5 +60,13 @@ impl<'a, R: Files + Input + Clock + Eprint> Opens<Watched<'a, R, Either<R::Reade
             Ok(file) => Ok(Watched::new(self.rt, Either::Right(file), shows)),
             Err(error) => Err(error),
         }
+    }
+}
+
+impl<'a, R: Files> OpensImage<R::File> for HostFiles<'a, R> {
+    ghost opens_image = { λ files path file. ⊤ };
+
+    fn open_image(&self, path: &str) -> Result<R::File, io::Error> {
+        fs::open(self.rt, path)
     }
 }

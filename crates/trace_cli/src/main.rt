@@ -5,7 +5,8 @@
 //! makes the steps after `start` on one thread for each CPU, and `trace_cli outcomes FILE` finds all that they may be told;
 //! `trace_cli audit FILE` sets words and audits once.
 //! `trace_cli check FILE..` compares what lines report with what comments after them expect, `explain FILE` shows what each
-//! step looked at, `generate SEED STEPS` makes a trace, and `draw FILE` a picture of who owns what. The lines of a trace, its
+//! step looked at, `generate SEED STEPS` makes a trace, and `draw FILE` a picture of who
+//! owns what; `dump IMAGE` tells who owns what in an image of memory. The lines of a trace, its
 //! reports and each fault are explained in docs/TRACES.md.
 //!
 //! The exit status:
@@ -23,6 +24,7 @@ ghost use Rattle.std.specs.Prelude.{ℕ, IfOk, List, map};
 ghost use Rattle.trace_cli.specs.Status.{HasAskedStatus, HasFileStatus, HasGreatestStatus, HasOrderStatus, HasWordsStatus};
 ghost use Rattle.trace_command.specs.Asked.{asking_of};
 
+mod dumping;
 mod files;
 mod generated;
 mod kept;
@@ -32,8 +34,10 @@ mod tasks;
 mod telling;
 mod texts;
 
-use files::{HostFiles, Opens};
+use dumping::dumped;
+use files::{HostFiles, Opens, OpensImage};
 use generated::made;
+use memory_image::ImageBytes;
 use std::io::IsTerminal;
 use std::process::ExitCode;
 use std::rt::Env;
@@ -49,9 +53,10 @@ use trace_generate::Options;
 fn run<
     R: AllocGlobal + Env + Print + Eprint + Threads + Wait + Sync,
     F: io::Read + Drop,
-    O: Opens<F>,
+    I: ImageBytes + Drop,
+    O: Opens<F> + OpensImage<I>,
 >(rt: &R, files: &O) -> Result<u8, io::Error>
-    ensures { IfOk result (λ status. (words : List (List ℕ)) × HasWordsStatus F.remaining (O.opens files.now) words status) }
+    ensures { IfOk result (λ status. (words : List (List ℕ)) × HasWordsStatus F.remaining (O.opens files.now) I.bytes I.may_fail (O.opens_image files.now) words status) }
 {
     let words: Vec<String> = env::args(rt)?.collect(rt.alloc())?;
     Ok(done_by_words(rt, files, words.as_slice()))
@@ -61,9 +66,10 @@ fn run<
 fn done_by_words<
     R: AllocGlobal + Print + Eprint + Threads + Wait + Sync,
     F: io::Read + Drop,
-    O: Opens<F>,
+    I: ImageBytes + Drop,
+    O: Opens<F> + OpensImage<I>,
 >(rt: &R, files: &O, words: &[String]) -> u8
-    ensures { HasWordsStatus F.remaining (O.opens files.now) (map (λ w. w.bytes.items) words.now) result }
+    ensures { HasWordsStatus F.remaining (O.opens files.now) I.bytes I.may_fail (O.opens_image files.now) (map (λ w. w.bytes.items) words.now) result }
 {
     match command(rt.alloc(), words) {
         Ok(asked) => done(rt, files, asked),
@@ -72,12 +78,13 @@ fn done_by_words<
 }
 
 /// Does what was asked, and gives the exit status.
-fn done<R: AllocGlobal + Print + Eprint + Threads + Wait + Sync, F: io::Read + Drop, O: Opens<F>>(
-    rt: &R,
-    files: &O,
-    asked: Invocation<'_>,
-) -> u8
-    ensures { HasAskedStatus F.remaining (O.opens files.now) (asking_of asked.entry) result }
+fn done<
+    R: AllocGlobal + Print + Eprint + Threads + Wait + Sync,
+    F: io::Read + Drop,
+    I: ImageBytes + Drop,
+    O: Opens<F> + OpensImage<I>,
+>(rt: &R, files: &O, asked: Invocation<'_>) -> u8
+    ensures { HasAskedStatus F.remaining (O.opens files.now) I.bytes I.may_fail (O.opens_image files.now) (asking_of asked.entry) result }
 {
     match asked {
         Invocation::Replay {
@@ -127,6 +134,7 @@ fn done<R: AllocGlobal + Print + Eprint + Threads + Wait + Sync, F: io::Read + D
             },
         ),
         Invocation::Draw { file, text } => done_with(rt, files, file, Task::Draw { text }),
+        Invocation::Dump(dump) => dumped(rt, files, dump),
     }
 }
 

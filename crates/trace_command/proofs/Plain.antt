@@ -13,8 +13,8 @@ use Rattle.clap.specs.Simple.{Shape, built_leaf, inherited, marked_built, with_l
 use Rattle.clap.specs.Walk.{Held, Rule, Step, Text, Waiting, Walk, after_step, arg_by_index, finished, idle, long_or_other, nothing_held, plain_word, settled, short_or_plain, subcommand_or_other, to_positional, trailing, value, walk, walk_from, walked}
 use Rattle.clap.specs.Words.{App, is_simple_and_free, kind_of}
 use Rattle.trace_words.specs.Numbers.{number_of}
-use Rattle.trace_command.specs.Words.{audit, check, draw, explain, generate, outcomes, program, race, replay}
-use Rattle.trace_command.specs.Asked.{Asking, Auditing, Checking, Drawing, Explaining, Finding, Generating, Gives, IsPlain, IsRead, IsRefused, Racing, Replaying, Takes, asked_by, asked_in, heap_told}
+use Rattle.trace_command.specs.Words.{audit, check, draw, dump, explain, generate, outcomes, program, race, replay}
+use Rattle.trace_command.specs.Asked.{Asking, Auditing, Checking, Drawing, Dumping, Explaining, Finding, Generating, Gives, IsPlain, IsRead, IsRefused, Racing, Replaying, Takes, asked_by, asked_in, heap_told, of_core}
 use Rattle.trace_command.specs.declared.words.Invocation.{Invocation}
 use Rattle.trace_command.specs.declared.words.Looks.TheVariants.{Each}
 use Rattle.trace_command.specs.declared.words.UsageFault.{UsageFault}
@@ -319,6 +319,98 @@ module _ (name seed steps : Text) (plain : strip_byte 45 seed ≡ None) (plain_s
       ∙ ap (option_and_then (λ n. option_and_then (λ count. Some (Generating n count 4 2048 39 0)) (number_of steps))) is_seed
       ∙ ap (option_and_then (λ count. Some (Generating n count 4 2048 39 0))) is_steps
 
+-- ---- `dump IMAGE --host ROOT --hyp ROOT`
+
+-- the walk after `--host`, after its word, after `--hyp`, and after that word
+abbrev awaits_host : Text → Walk
+awaits_host image = walked (leaf dump).rules [] (after (leaf dump) image) (codes "--host")
+
+abbrev with_value : Walk → Text → Walk
+with_value w word =
+    let met = plain_word (leaf dump).rules w.waiting word w.held in
+    after_step (leaf dump).rules word w met.0 met.1
+
+abbrev awaits_hyp : Text → Text → Walk
+awaits_hyp image host = walked (leaf dump).rules [] (with_value (awaits_host image) host) (codes "--hyp")
+
+abbrev rooted : Text → Text → Text → Walk
+rooted image host hyp = with_value (awaits_hyp image host) hyp
+
+module _ (name image host hyp : Text) (plain : strip_byte 45 image ≡ None) (plain_host : strip_byte 45 host ≡ None) (plain_hyp : strip_byte 45 hyp ≡ None) where
+  abbrev image_given : List Text
+  image_given = image ∷ codes "--host" ∷ host ∷ codes "--hyp" ∷ hyp ∷ []
+
+  host_walked : walked (leaf dump).rules [] (awaits_host image) host ≡ with_value (awaits_host image) host
+  unfolding clap_on_literals
+  host_walked =
+      let w = awaits_host image in
+      ap (λ (m : Held × Step). after_step (leaf dump).rules host w m.0 m.1) (met_is host plain_host (leaf dump).rules w.waiting w.position w.held)
+
+  hyp_walked : walked (leaf dump).rules [] (awaits_hyp image host) hyp ≡ rooted image host hyp
+  unfolding clap_on_literals
+  hyp_walked =
+      let w = awaits_hyp image host in
+      ap (λ (m : Held × Step). after_step (leaf dump).rules hyp w m.0 m.1) (met_is hyp plain_hyp (leaf dump).rules w.waiting w.position w.held)
+
+  no_host_fault : turn_fault (leaf dump) [] (awaits_host image) host ≡ []
+  unfolding clap_on_literals
+  no_host_fault =
+      let w = awaits_host image in
+      let met = subcommand_or_other (leaf dump).rules None w.waiting w.position host w.held in
+      ap (λ k. or_else k (step_fault (leaf dump) w.position met.0 met.1)) (no_flag_fault host plain_host (leaf dump) w.held)
+      ∙ ap (λ (m : Held × Step). step_fault (leaf dump) w.position m.0 m.1) (met_is host plain_host (leaf dump).rules w.waiting w.position w.held)
+
+  no_hyp_fault : turn_fault (leaf dump) [] (awaits_hyp image host) hyp ≡ []
+  unfolding clap_on_literals
+  no_hyp_fault =
+      let w = awaits_hyp image host in
+      let met = subcommand_or_other (leaf dump).rules None w.waiting w.position hyp w.held in
+      ap (λ k. or_else k (step_fault (leaf dump) w.position met.0 met.1)) (no_flag_fault hyp plain_hyp (leaf dump) w.held)
+      ∙ ap (λ (m : Held × Step). step_fault (leaf dump) w.position m.0 m.1) (met_is hyp plain_hyp (leaf dump).rules w.waiting w.position w.held)
+
+  image_walk : walk (leaf dump).rules [] nothing_held image_given ≡ rooted image host hyp
+  unfolding clap_on_literals
+  image_walk =
+      ap (λ w. walked (leaf dump).rules [] (walked (leaf dump).rules [] (walked (leaf dump).rules [] (walked (leaf dump).rules [] w (codes "--host")) host) (codes "--hyp")) hyp) (first_walked (leaf dump) refl image plain)
+      ∙ ap (λ w. walked (leaf dump).rules [] (walked (leaf dump).rules [] w (codes "--hyp")) hyp) host_walked
+      ∙ hyp_walked
+
+  no_host_word_fault : turn_fault (leaf dump) [] (after (leaf dump) image) (codes "--host") ≡ []
+  unfolding clap_on_literals
+  no_host_word_fault = refl
+
+  no_hyp_word_fault : turn_fault (leaf dump) [] (with_value (awaits_host image) host) (codes "--hyp") ≡ []
+  unfolding clap_on_literals
+  no_hyp_word_fault = refl
+
+  no_image_fault : walk_fault (leaf dump) [] (walk_from nothing_held) image_given ≡ []
+  unfolding clap_on_literals
+  no_image_fault =
+      let behind_hyp = hyp ∷ [] in
+      let behind_host = host ∷ codes "--hyp" ∷ behind_hyp in
+      ap (λ k. or_else k (walk_fault (leaf dump) [] (walked (leaf dump).rules [] (walk_from nothing_held) image) (codes "--host" ∷ behind_host))) (no_first_fault (leaf dump) refl image plain)
+      ∙ ap (λ w. walk_fault (leaf dump) [] w (codes "--host" ∷ behind_host)) (first_walked (leaf dump) refl image plain)
+      ∙ ap (λ k. or_else k (walk_fault (leaf dump) [] (awaits_host image) behind_host)) no_host_word_fault
+      ∙ ap (λ k. or_else k (walk_fault (leaf dump) [] (walked (leaf dump).rules [] (awaits_host image) host) (codes "--hyp" ∷ behind_hyp))) no_host_fault
+      ∙ ap (λ w. walk_fault (leaf dump) [] w (codes "--hyp" ∷ behind_hyp)) host_walked
+      ∙ ap (λ k. or_else k (walk_fault (leaf dump) [] (awaits_hyp image host) behind_hyp)) no_hyp_word_fault
+      ∙ ap (λ k. or_else k []) no_hyp_fault
+
+  no_rooted_fault : ended (leaf dump) (rooted image host hyp) ≡ []
+  unfolding clap_on_literals
+  no_rooted_fault = refl
+
+  dump_level : level_fault (leaf dump) [] nothing_held image_given false [] ≡ []
+  dump_level = ap (λ k. or_else k (ended (leaf dump) (walk (leaf dump).rules [] nothing_held image_given))) no_image_fault ∙ ap (ended (leaf dump)) image_walk ∙ no_rooted_fault
+
+  dump_none : fault_of program (name ∷ codes "dump" ∷ image_given) ≡ []
+  unfolding clap_on_literals
+  dump_none = ap (λ k. or_else k []) dump_level
+
+  dump_taken : asked_by (name ∷ codes "dump" ∷ image_given) ≡ Some (Dumping (of_core image host hyp))
+  unfolding clap_on_literals
+  dump_taken = ap (λ (w : Walk). asked_in (codes "dump", finished (leaf dump).rules w.held)) image_walk
+
 -- ---- all of them
 
 gives : (words : List Text) (r : Result Invocation UsageFault) (asking : Asking) → fault_of program words ≡ [] → asked_by words ≡ Some asking → IsRead words r → Gives asking r
@@ -370,5 +462,10 @@ takes_of words r read = record {
       let plain = plain_of seed other in
       let plain_steps = plain_of steps other_steps in
       taken words _ r _ is (generate_none name seed steps plain plain_steps) (generate_asked name seed steps plain plain_steps n count is_seed is_steps) read;
+  dump = λ name image host hyp is other other_host other_hyp.
+      let plain = plain_of image other in
+      let plain_host = plain_of host other_host in
+      let plain_hyp = plain_of hyp other_hyp in
+      taken words _ r _ is (dump_none name image host hyp plain plain_host plain_hyp) (dump_taken name image host hyp plain plain_host plain_hyp) read;
   draw = λ name file is other. let plain = plain_of file other in taken words _ r _ is (draw_none name file plain) (draw_asked name file plain) read;
 }

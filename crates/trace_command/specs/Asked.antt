@@ -1,5 +1,5 @@
 -- What the words of the program ask for.
-use Rattle.std.specs.Prelude.{◌≡◌, ◌≢◌, ◌&&◌, ◌⊎◌, ⊤, ℕ, Bool, false, List, [], ◌∷◌, map, Option, Result, Some, None, Ok, Err, codes, if◌then◌else◌, nat_le, nat_lt, option_and_then, option_map, slice_get, slice_index}
+use Rattle.std.specs.Prelude.{◌≡◌, ◌≢◌, ◌&&◌, ◌⊎◌, ⊤, ℕ, Bool, false, List, [], ◌∷◌, map, Option, Result, Some, None, Ok, Err, codes, if◌then◌else◌, nat_le, nat_lt, option_and_then, option_map, slice_get, slice_index, unwrap_or}
 use Rattle.std.specs.Option.{option_map_or}
 use Rattle.std.specs.Str.{all_ascii_digits, bytes_eq}
 use Rattle.std.specs.Str.Parse.{digits_value}
@@ -9,6 +9,7 @@ use Rattle.clap.specs.Words.{IsAmong, Row, Text, all_of, fault_of, first_of, kin
 use Rattle.trace_words.specs.Numbers.{number_of}
 use Rattle.trace_command.specs.declared.asked.Unread.{Unread}
 use Rattle.trace_command.specs.declared.asked.Unread.TheVariants as unread
+use Rattle.trace_command.specs.declared.words.Dump.{Dump}
 use Rattle.trace_command.specs.declared.words.Invocation.{Invocation}
 use Rattle.trace_command.specs.declared.words.Invocation.TheVariants as invocation
 use Rattle.trace_command.specs.declared.words.Looks.{Looks}
@@ -16,6 +17,18 @@ use Rattle.trace_command.specs.declared.words.Looks.TheVariants.{Each, End}
 use Rattle.trace_command.specs.declared.words.UsageFault.{UsageFault}
 use Rattle.trace_command.specs.declared.words.UsageFault.TheVariants.{NoMemory, Usage}
 use Rattle.trace_command.specs.Words.{program}
+
+-- an image of memory and what is known of it, in the words that were given
+pub record DumpAsked : Type 0 where
+  pub image : Text
+  pub host : Text
+  pub hyp : Text
+  pub guests : List Text
+  pub profiles : List Text
+  pub skips : List Text
+  -- the physical address of a raw image's first byte
+  pub base : Option ℕ
+  pub quiet : Bool
 
 -- what may be asked for
 pub data Asking : Type 0 where
@@ -33,6 +46,19 @@ pub data Asking : Type 0 where
   Generating : ℕ → ℕ → ℕ → ℕ → ℕ → ℕ → Asking
   -- whether as text
   Drawing : Text → Bool → Asking
+  Dumping : DumpAsked → Asking
+
+abbrev pub dump_asked : Dump → DumpAsked
+dump_asked d = record {
+  image = d.image.now;
+  host = d.host.now;
+  hyp = d.hyp.now;
+  guests = map (λ word. word.now) d.guests.items;
+  profiles = map (λ word. word.now) d.profiles.items;
+  skips = map (λ word. word.now) d.skips.items;
+  base = d.base;
+  quiet = d.quiet;
+}
 
 abbrev pub asking_of : Invocation → Asking
 asking_of (invocation.Replay file heap looks quiet) = Replaying file.now heap looks quiet
@@ -44,6 +70,7 @@ asking_of (invocation.Record file) = Recording file.now
 asking_of (invocation.Explain file line) = Explaining file.now line
 asking_of (invocation.Generate seed steps cpus pages geometry hostile) = Generating seed steps cpus pages geometry hostile
 asking_of (invocation.Draw file text) = Drawing file.now text
+asking_of (invocation.Dump dump) = Dumping (dump_asked dump)
 
 -- ---- values
 
@@ -81,6 +108,11 @@ limit_told (Some word) = number_within 1 4294967296 word
 abbrev pub line_told : Option Text → Option (Option ℕ)
 line_told None = Some None
 line_told (Some word) = option_map (λ line. Some line) (number_within 1 18446744073709551615 word)
+
+-- an address that is a number; none without a word
+abbrev pub base_told : Option Text → Option (Option ℕ)
+base_told None = Some None
+base_told (Some word) = option_map (λ base. Some base) (number_of word)
 
 -- a flag is given
 abbrev pub is_set : Text → List Row → Bool
@@ -135,6 +167,27 @@ generating rows =
 abbrev pub drawing : List Row → Option Asking
 drawing rows = option_map (λ file. Drawing file (is_set (codes "text") rows)) (first_of (codes "FILE") rows)
 
+-- all words that are given as this; none where nothing is
+abbrev pub words_given : Text → List Row → List Text
+words_given id rows = unwrap_or (all_of id rows) []
+
+abbrev pub dump_in : List Row → Text → Text → Text → Option ℕ → DumpAsked
+dump_in rows image host hyp base = record {
+  image = image;
+  host = host;
+  hyp = hyp;
+  guests = words_given (codes "guest") rows;
+  profiles = words_given (codes "profile") rows;
+  skips = words_given (codes "skip") rows;
+  base = base;
+  quiet = is_set (codes "quiet") rows;
+}
+
+abbrev pub dumping : List Row → Option Asking
+dumping rows =
+    option_and_then (λ image. option_and_then (λ host. option_and_then (λ hyp. option_map (λ base. Dumping (dump_in rows image host hyp base)) (base_told (first_of (codes "base") rows)))
+    (first_of (codes "hyp") rows)) (first_of (codes "host") rows)) (first_of (codes "IMAGE") rows)
+
 -- what is asked for by a subcommand's name and its values
 abbrev pub asked_in : Text × List Row → Option Asking
 asked_in (name, rows) =
@@ -146,7 +199,8 @@ asked_in (name, rows) =
     else (if bytes_eq name (codes "explain") then explaining rows
     else (if bytes_eq name (codes "generate") then generating rows
     else (if bytes_eq name (codes "draw") then drawing rows
-    else None)))))))
+    else (if bytes_eq name (codes "dump") then dumping rows
+    else None))))))))
 
 -- what words ask for, where clap finds no fault in them
 abbrev pub asked_by : List Text → Option Asking
@@ -174,6 +228,10 @@ IsRefused (Err fault) = ⊤
 abbrev pub IsPlain : Text → Type 0
 IsPlain word = slice_get word 0 ≢ Some 45
 
+-- an ELF core, of which nothing is known but both roots
+abbrev pub of_core : Text → Text → Text → DumpAsked
+of_core image host hyp = record { image = image; host = host; hyp = hyp; guests = []; profiles = []; skips = []; base = None; quiet = false }
+
 -- the words that are taken, the program's name first, and what they ask for
 pub record Takes (words : List Text) (r : Result Invocation UsageFault) : Type 0 where
   pub replay : (name file : Text) → words ≡ name ∷ codes "replay" ∷ file ∷ [] → IsPlain file → Gives (Replaying file None Each false) r
@@ -189,6 +247,8 @@ pub record Takes (words : List Text) (r : Result Invocation UsageFault) : Type 0
   pub explain : (name file : Text) → words ≡ name ∷ codes "explain" ∷ file ∷ [] → IsPlain file → Gives (Explaining file None) r
   pub generate : (name seed steps : Text) (n count : ℕ) → words ≡ name ∷ codes "generate" ∷ seed ∷ steps ∷ [] → IsPlain seed → IsPlain steps → number_of seed ≡ Some n → number_of steps ≡ Some count
       → Gives (Generating n count 4 2048 39 0) r
+  pub dump : (name image host hyp : Text) → words ≡ name ∷ codes "dump" ∷ image ∷ codes "--host" ∷ host ∷ codes "--hyp" ∷ hyp ∷ [] → IsPlain image → IsPlain host → IsPlain hyp
+      → Gives (Dumping (of_core image host hyp)) r
   pub draw : (name file : Text) → words ≡ name ∷ codes "draw" ∷ file ∷ [] → IsPlain file → Gives (Drawing file false) r
 
 -- ---- parts of it

@@ -16,6 +16,14 @@ files = record (new_rule (codes "FILE")) { required = true; range = Some (record
 abbrev pub option : Text → Rule
 option id = record (new_rule id) { long = Some id; value_names = 1; action = Some Set }
 
+-- `--ID VALUE` that must be given
+abbrev pub needed_option : Text → Rule
+needed_option id = record (new_rule id) { long = Some id; value_names = 1; required = true; action = Some Set }
+
+-- `--ID VALUE`, as often as it is given
+abbrev pub options : Text → Rule
+options id = record (new_rule id) { long = Some id; value_names = 1; action = Some Append }
+
 -- `--ID`
 abbrev pub flag : Text → Rule
 flag id = record (new_rule id) { long = Some id; action = Some SetTrue }
@@ -57,11 +65,17 @@ generate =
 abbrev pub draw : App
 draw = with_rule (with_rule (new_app (codes "draw")) file) (flag (codes "text"))
 
+abbrev pub roots : App
+roots = with_rule (with_rule (with_rule (with_rule (new_app (codes "dump")) (needed (codes "IMAGE"))) (needed_option (codes "host"))) (needed_option (codes "hyp"))) (options (codes "guest"))
+
+abbrev pub dump : App
+dump = with_rule (with_rule (with_rule (with_rule roots (options (codes "profile"))) (options (codes "skip"))) (option (codes "base"))) quiet
+
 -- the program: it needs a subcommand, shows help without words, and has a version
 abbrev pub named : App
 named = record (new_app (codes "trace_cli")) { top = record (new_app (codes "trace_cli")).top { has_version = true; subcommand_required = true; arg_required_else_help = true } }
 
 abbrev pub program : App
 program =
-    with_subcommand (with_subcommand (with_subcommand (with_subcommand (with_subcommand (with_subcommand (with_subcommand (with_subcommand named replay.top) race.top) audit.top) outcomes.top) check.top) explain.top)
-    generate.top) draw.top
+    with_subcommand (with_subcommand (with_subcommand (with_subcommand (with_subcommand (with_subcommand (with_subcommand (with_subcommand (with_subcommand named replay.top) race.top) audit.top) outcomes.top)
+    check.top) explain.top) generate.top) draw.top) dump.top

@@ -1,5 +1,5 @@
 //! What the words ask for, once clap has read them.
-ghost use Rattle.std.specs.Prelude.{◌≡◌, codes, map, option_and_then, option_map};
+ghost use Rattle.std.specs.Prelude.{◌≡◌, [], IfOk, codes, map, option_and_then, option_map, unwrap_or};
 ghost use Rattle.clap.specs.Words.{all_of, first_of, found_of, rows_of, subcommand_rows_of};
 ghost use Rattle.trace_words.specs.Numbers.{number_of as number_said};
 ghost use Rattle.trace_command.specs.Asked.{
@@ -10,7 +10,9 @@ ghost use Rattle.trace_command.specs.Asked.{
   asked_in,
   auditing,
   checking,
+  base_told,
   drawing,
+  dumping,
   explaining,
   finding,
   generating,
@@ -26,7 +28,7 @@ ghost use Rattle.trace_command.specs.Asked.{
 };
 
 use crate::heap_size::heap_size;
-use crate::words::{Invocation, Looks};
+use crate::words::{Dump, Invocation, Looks};
 use clap::ArgMatches;
 use std::alloc::{AllocError, Global};
 use trace_words::number;
@@ -61,6 +63,8 @@ pub(crate) enum Wanted {
     Limit,
     Line,
     OneInput,
+    Root,
+    Address,
 }
 
 /// Why what clap has read asks for nothing.
@@ -118,6 +122,9 @@ fn asked_of<'a>(
     }
     if name == "generate" {
         return generate_asked(inner);
+    }
+    if name == "dump" {
+        return dump_asked(global, inner);
     }
     if name == "draw" {
         return draw_asked(inner);
@@ -231,6 +238,41 @@ fn line(inner: &ArgMatches<'_>) -> Result<Option<u64>, Unread>
         Some(line) if 1 <= line => Ok(Some(line)),
         _ => Err(Unread::Word(Wanted::Line)),
     }
+}
+
+/// The address that is given as `--base`.
+fn base(inner: &ArgMatches<'_>) -> Result<Option<u64>, Unread>
+    ensures { IsReadAs (base_told (first_of (codes "base") (rows_of (found_of inner.now)))) (λ base. base) result }
+{
+    let Some(word) = value(inner, "base") else {
+        return Ok(None);
+    };
+    match number(word.as_bytes()) {
+        Some(base) => Ok(Some(base)),
+        None => Err(Unread::Word(Wanted::Address)),
+    }
+}
+
+/// A word that must be given.
+fn word<'a>(inner: &ArgMatches<'a>, id: &str) -> Result<&'a str, Unread>
+    ensures { IsReadAs (first_of id.now (rows_of (found_of inner.now))) (λ word. word.now) result }
+{
+    match value(inner, id) {
+        Some(word) => Ok(word),
+        None => Err(Unread::Word(Wanted::Root)),
+    }
+}
+
+/// All words that are given as this; none where nothing is.
+fn words<'a>(global: Global, inner: &ArgMatches<'a>, id: &str) -> Result<Vec<&'a str>, AllocError>
+    ensures { IfOk result (λ words. map (λ word. word.now) words.items ≡ unwrap_or (all_of id.now (rows_of (found_of inner.now))) []) }
+{
+    let Some(given) = inner.get_strs(id) else {
+        return Ok(Vec::new(global));
+    };
+    let mut words = Vec::with_capacity(global, given.len())?;
+    words.extend_from_slice(given)?;
+    Ok(words)
 }
 
 /// All that is given as FILE.
@@ -354,6 +396,28 @@ fn generate_asked<'a>(inner: &ArgMatches<'a>) -> Result<Invocation<'a>, Unread>
         geometry,
         hostile,
     })
+}
+
+fn dump_asked<'a>(global: Global, inner: &ArgMatches<'a>) -> Result<Invocation<'a>, Unread>
+    ensures { HasAsked (dumping (rows_of (found_of inner.now))) result }
+{
+    let image = word(inner, "IMAGE")?;
+    let host = word(inner, "host")?;
+    let hyp = word(inner, "hyp")?;
+    let base = base(inner)?;
+    let guests = words(global, inner, "guest")?;
+    let profiles = words(global, inner, "profile")?;
+    let skips = words(global, inner, "skip")?;
+    Ok(Invocation::Dump(Dump {
+        image,
+        host,
+        hyp,
+        guests,
+        profiles,
+        skips,
+        base,
+        quiet: is_set(inner, "quiet"),
+    }))
 }
 
 fn draw_asked<'a>(inner: &ArgMatches<'a>) -> Result<Invocation<'a>, Unread>

@@ -6,12 +6,15 @@ ghost use Rattle.trace_command.specs.Words.{
   audit as audit_app,
   check as check_app,
   draw as draw_app,
+  dump as dump_app,
   explain as explain_app,
   files as files_rule,
   flag as flag_rule,
   generate as generate_app,
   needed as needed_rule,
+  needed_option as needed_option_rule,
   option as option_rule,
+  options as options_rule,
   outcomes as outcomes_app,
   program,
   race as race_app,
@@ -66,6 +69,31 @@ fn option<'a>(global: Global, id: &'a str, name: &'a str, help: &'a str) -> Arg<
         .long(id)
         .value_name(name)
         .action(ArgAction::Set)
+        .help(help)
+}
+
+/// `--ID NAME` that must be given.
+fn needed_option<'a>(global: Global, id: &'a str, name: &'a str, help: &'a str) -> Arg<'a>
+    ensures rule { rule_of result ≡ needed_option_rule id.now }
+    ensures local { result.global ≡ false }
+{
+    Arg::new(global, id)
+        .long(id)
+        .value_name(name)
+        .required(true)
+        .action(ArgAction::Set)
+        .help(help)
+}
+
+/// `--ID NAME`, as often as it is given.
+fn options<'a>(global: Global, id: &'a str, name: &'a str, help: &'a str) -> Arg<'a>
+    ensures rule { rule_of result ≡ options_rule id.now }
+    ensures local { result.global ≡ false }
+{
+    Arg::new(global, id)
+        .long(id)
+        .value_name(name)
+        .action(ArgAction::Append)
         .help(help)
 }
 
@@ -296,6 +324,69 @@ fn draw<'a>(global: Global) -> Result<Command<'a>, AllocError>
     with(form, text)
 }
 
+fn dump<'a>(global: Global) -> Result<Command<'a>, AllocError>
+    ensures app { IfOk result (λ form. app_of form ≡ dump_app) }
+    ensures local { IfOk result (λ form. (fields_of form).has_globals ≡ false) }
+{
+    let form = subcommand(
+        global,
+        "dump",
+        "Finds in an image of a machine's memory who owns what, and what isn't sound",
+    );
+    let image = needed(
+        global,
+        "IMAGE",
+        "an ELF core of physical memory, or with --base its raw bytes",
+    );
+    let form = with(form, image)?;
+    let host = needed_option(
+        global,
+        "host",
+        "ROOT",
+        "the host's root table: FRAME[:LEVEL[:PAGES]]; without them level 0 and 1 page",
+    );
+    let form = with(form, host)?;
+    let form = with(
+        form,
+        needed_option(global, "hyp", "ROOT", "the hypervisor's root table"),
+    )?;
+    let form = with(
+        form,
+        options(
+            global,
+            "guest",
+            "N=ROOT",
+            "the root table of the guest in slot N, 0 to 63",
+        ),
+    )?;
+    let form = with(
+        form,
+        options(
+            global,
+            "profile",
+            "TREE=NAME",
+            "how the words of a tree are written: model, or 6.12 or 7.3, then -fwb or -hvhe or nothing, then -lpa2 or nothing; TREE is host, hyp or a guest's number",
+        ),
+    )?;
+    let form = with(
+        form,
+        options(
+            global,
+            "skip",
+            "TREE=FIRST-LAST",
+            "pages of a tree that are left out",
+        ),
+    )?;
+    let base = option(
+        global,
+        "base",
+        "ADDRESS",
+        "the image is raw, and its first byte lies at this physical address",
+    );
+    let form = with(form, base)?;
+    with(form, quiet(global))
+}
+
 /// The form of the words: the program's name and one subcommand.
 pub(crate) fn form<'a>(global: Global) -> Result<Command<'a>, AllocError>
     ensures { IfOk result (λ form. app_of form ≡ program) }
@@ -314,7 +405,8 @@ pub(crate) fn form<'a>(global: Global) -> Result<Command<'a>, AllocError>
     let form = with_form(form, check(global)?)?;
     let form = with_form(form, explain(global)?)?;
     let form = with_form(form, generate(global)?)?;
-    with_form(form, draw(global)?)
+    let form = with_form(form, draw(global)?)?;
+    with_form(form, dump(global)?)
 }
 
 /// The error for a value that isn't of its form.
@@ -334,6 +426,8 @@ fn text_of(wanted: Wanted) -> &'static str {
             "SEED, STEPS and each N must be numbers below 2^64, decimal or 0x and hexadecimal",
         Wanted::Limit =>
             "N of --limit must be a number from 1 to 4294967296, decimal or 0x and hexadecimal",
+        Wanted::Root => "IMAGE, --host and --hyp are needed",
+        Wanted::Address => "ADDRESS must be a number below 2^64, decimal or 0x and hexadecimal",
         Wanted::OneInput => "FILE and REPORT can't both be standard input",
         Wanted::Line =>
             "N of --line must be a number from 1 on and below 2^64, decimal or 0x and hexadecimal",

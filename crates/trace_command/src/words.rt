@@ -76,12 +76,34 @@ pub enum Invocation<'a> {
         /// Of a hundred calls, how many are to be refused.
         hostile: u64,
     },
+    /// Find who owns what in an image of memory, and what isn't sound.
+    Dump(Dump<'a>),
     /// Draw who owns what.
     Draw {
         file: &'a str,
         /// Whether the state at the end is written as text in place of a picture.
         text: bool,
     },
+}
+
+/// An image of memory, and what is known of it, in the words that were given.
+#[derive(Drop)]
+pub struct Dump<'a> {
+    /// The path of the image.
+    pub image: &'a str,
+    /// The roots of the host's tree and of the hypervisor's.
+    pub host: &'a str,
+    pub hyp: &'a str,
+    /// The roots of guests.
+    pub guests: Vec<&'a str>,
+    /// The profiles of trees.
+    pub profiles: Vec<&'a str>,
+    /// The pages of trees that are left out.
+    pub skips: Vec<&'a str>,
+    /// The physical address of a raw image's first byte; without it the image is an ELF core.
+    pub base: Option<u64>,
+    /// Whether the report is left out.
+    pub quiet: bool,
 }
 
 /// Why the words were refused.

@@ -21,4 +21,5 @@ returns c =
     let five = c.in_ok-form-5.ensures.app ∙ ap₂ with_subcommand four (ap top_of c.in_ok-check.ensures.app) in
     let six = c.in_ok-form-6.ensures.app ∙ ap₂ with_subcommand five (ap top_of c.in_ok-explain.ensures.app) in
     let seven = c.in_ok-form-7.ensures.app ∙ ap₂ with_subcommand six (ap top_of c.in_ok-generate.ensures.app) in
-    IfOk-weaker c.with_form-8.result _ _ (λ r h. h ∙ ap₂ with_subcommand seven (ap top_of c.in_ok-draw.ensures.app)) c.with_form-8.ensures.app
+    let eight = c.in_ok-form-8.ensures.app ∙ ap₂ with_subcommand seven (ap top_of c.in_ok-draw.ensures.app) in
+    IfOk-weaker c.with_form-9.result _ _ (λ r h. h ∙ ap₂ with_subcommand eight (ap top_of c.in_ok-dump.ensures.app)) c.with_form-9.ensures.app

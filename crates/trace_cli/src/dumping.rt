@@ -1,0 +1,113 @@
+//! The dump of an image of memory.
+ghost use Rattle.std.specs.Prelude.{◌≡◌, ◌<◌, ◌^◌, All, length};
+ghost use Rattle.image_dump.specs.Dumped.{IsRoot};
+ghost use Rattle.trace_command.specs.Asked.{dump_asked};
+ghost use Rattle.trace_cli.specs.Dumping.{HasDumpStatus, IsDumpAnswer, form_by};
+
+use crate::files::OpensImage;
+use crate::tasks::unopened;
+use crate::telling::REFUSED;
+use dump_words::{Given, NotGiven, read_words};
+use image_dump::{Dumped, Form, NotDumped, dump_image, dump_status};
+use memory_image::{ImageBytes, Refused};
+use std::io;
+use trace_command::Dump;
+
+/// The form of an image, by the address that `--base` gives.
+fn form_of(base: Option<u64>) -> Form
+    ensures { result ≡ form_by base }
+{
+    match base {
+        Some(base) => Form::Raw { base },
+        None => Form::Core,
+    }
+}
+
+/// Dumps the image at a path, and gives the exit status.
+pub fn dumped<R: AllocGlobal + Print + Eprint, I: ImageBytes + Drop, O: OpensImage<I>>(
+    rt: &R,
+    files: &O,
+    dump: Dump<'_>,
+) -> u8
+    ensures { HasDumpStatus I.bytes I.may_fail (O.opens_image files.now) (dump_asked dump.entry) result }
+{
+    let Dump {
+        image: path,
+        host,
+        hyp,
+        guests,
+        profiles,
+        skips,
+        base,
+        quiet,
+    } = dump;
+    let given = match read_words(
+        rt.alloc(),
+        host.as_bytes(),
+        hyp.as_bytes(),
+        guests.as_slice(),
+        profiles.as_slice(),
+        skips.as_slice(),
+    ) {
+        Ok(given) => given,
+        Err(fault) => return not_given(rt, fault),
+    };
+    match files.open_image(path) {
+        Ok(image) => {
+            let answer = written(rt, &image, form_of(base), &given, quiet);
+            told(rt, path, answer);
+            dump_status(answer)
+        }
+        Err(error) => unopened(rt, path, error),
+    }
+}
+
+/// Tells which words ask for no dump, and gives the exit status.
+fn not_given<R: Eprint>(rt: &R, fault: NotGiven) -> u8
+    ensures { result ≡ 2 }
+{
+    let _ = match fault {
+        NotGiven::Bad(word) => eprintln!(rt; "./run: {word}"),
+        NotGiven::NoMemory => eprintln!(rt; "./run: out of memory"),
+    };
+    REFUSED
+}
+
+/// Writes the report of an image to standard output, or to nothing.
+fn written<R: AllocGlobal + Print, I: ImageBytes>(
+    rt: &R,
+    image: &I,
+    form: Form,
+    given: &Given,
+    quiet: bool,
+) -> Result<Dumped, NotDumped>
+    requires roots { All IsRoot given.now.roots.items }
+    requires few { length given.now.roots.items < 2 ^ 32 }
+    ensures { IsDumpAnswer (I.bytes image.now) (I.may_fail image.now) form given.now.roots.items given.now.skips.items result }
+{
+    let roots = given.roots.as_slice();
+    let skips = given.skips.as_slice();
+    if quiet {
+        return dump_image(rt.alloc(), image, form, roots, skips, &mut io::sink());
+    }
+    dump_image(rt.alloc(), image, form, roots, skips, &mut io::writer(rt))
+}
+
+/// Tells on standard error why there is no report, where there is none.
+fn told<R: Eprint>(rt: &R, path: &str, answer: Result<Dumped, NotDumped>) {
+    let _ = match answer {
+        Ok(_) => Ok(()),
+        Err(NotDumped::Refused(Refused::Wrong(fault))) => {
+            let at = fault.at;
+            let why = fault.why;
+            eprintln!(rt; "./run: {path}: byte {at}: {why}")
+        }
+        Err(NotDumped::Refused(Refused::Unread { at })) => eprintln!(rt;
+            "./run: {path}: byte {at}: it could not be read"
+        ),
+        Err(NotDumped::Refused(Refused::NoMemory)) => eprintln!(rt; "./run: {path}: out of memory"),
+        Err(NotDumped::Unwritten) => eprintln!(rt;
+            "./run: standard output: it could not be written"
+        ),
+    };
+}
