@@ -1,0 +1,4 @@
+mod Behind
+mod Listing
+mod Placed
+mod Along

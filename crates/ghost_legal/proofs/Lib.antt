@@ -1,0 +1,13 @@
+pub mod AllCounts
+pub mod Counted
+pub mod Counts
+pub mod GuestPieces
+pub mod InOrder
+pub mod Later
+pub mod Listed
+pub mod Lows
+pub mod Past
+pub mod Pointwise
+pub mod Steady
+pub mod Whole
+pub mod WholeGuests
