@@ -1,4 +1,4 @@
-mod Behind
-mod Listing
-mod Placed
-mod Along
+pub mod Behind
+pub mod Listing
+pub mod Placed
+pub mod Along

@@ -1,6 +1,8 @@
 pub mod AllCounts
+pub mod Contradicted
 pub mod Counted
 pub mod Counts
+pub mod Found
 pub mod GuestPieces
 pub mod InOrder
 pub mod Later
@@ -9,5 +11,6 @@ pub mod Lows
 pub mod Past
 pub mod Pointwise
 pub mod Steady
+pub mod Twice
 pub mod Whole
 pub mod WholeGuests

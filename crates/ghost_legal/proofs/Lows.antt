@@ -27,7 +27,8 @@ use Rattle.ghost_legal.specs.AllHeld.{IsGuestPage}
 use Rattle.coarse_trees.specs.Coarsest.{IsInTree}
 use Rattle.ghost_trees.specs.declared.tree.Table.{Table}
 use Rattle.ghost_spec.specs.declared.lists.GhostLists.{GhostLists}
-use Rattle.ghost_legal.specs.Blocks.{AreInside, HasFirstBlocks, HasOwnBlocks, HaveOwnBlocks, TreesHaveFirstBlocks, TreesHaveOwnBlocks}
+use Rattle.ghost_coarse.specs.Misfits.{AreInside}
+use Rattle.ghost_legal.specs.Blocks.{HasFirstBlocks, HasOwnBlocks, HaveOwnBlocks, TreesHaveFirstBlocks, TreesHaveOwnBlocks}
 use Rattle.ghost_legal.specs.Pages.{AreNormal, HaveGoodRuns, IsGoodRun, IsNormal}
 
 pub begins-low : (rs : List Run) (least : ℕ) (d : Run) → IsCoarsest rs → 0 < length rs → (least ≤ (get_or rs 0 d).pages.first.0) ↔ ((p : ℕ) → p < least → map_of rs p ≡ Unmapped)

@@ -31,7 +31,7 @@ use Rattle.ghost_legal.proofs.Counted.{counted, found-held, held-found, passes}
 
 -- conditions
 
-is-guest : (h : Holder) (v g : ℕ) (s : State) → held_in h ≡ guest_condition s v g → h ≡ Guest v g s
+pub is-guest : (h : Holder) (v g : ℕ) (s : State) → held_in h ≡ guest_condition s v g → h ≡ Guest v g s
 is-guest SharedPoolHolder v g Owned e = cc
 is-guest SharedPoolHolder v g SharedOwned e = cc
 is-guest SharedPoolHolder v g SharedBorrowed e = cc
@@ -54,7 +54,7 @@ is-guest (Guest u p SharedBorrowed) v g Owned e = cc
 is-guest (Guest u p SharedBorrowed) v g SharedOwned e = cc
 is-guest (Guest u p SharedBorrowed) v g SharedBorrowed e = cc
 
-held-inside : (h : Holder) → is_inside (held_in h) ≡ true
+pub held-inside : (h : Holder) → is_inside (held_in h) ≡ true
 held-inside SharedPoolHolder = refl
 held-inside (VmPoolHolder u) = refl
 held-inside (Table at) = refl
@@ -136,12 +136,12 @@ one-true : (b : Bool) → one b ≡ 1 → b ≡ true
 one-true true e = refl
 one-true false e = cc
 
-guest-good : (l : _) (s : State) (v p : ℕ) → IsGood l (guest_condition s v p) → (v < 64) × (p < pages_below l.depth)
+pub guest-good : (l : _) (s : State) (v p : ℕ) → IsGood l (guest_condition s v p) → (v < 64) × (p < pages_below l.depth)
 guest-good l Owned v p h = h
 guest-good l SharedOwned v p h = h
 guest-good l SharedBorrowed v p h = h
 
-shared-is : (c : Condition) → one (in_shared c) ≡ 1 → c ≡ hyps SharedPool
+pub shared-is : (c : Condition) → one (in_shared c) ≡ 1 → c ≡ hyps SharedPool
 shared-is outside e = cc
 shared-is hosts e = cc
 shared-is with_hyp e = cc
@@ -153,7 +153,7 @@ shared-is (with_guest v g) e = cc
 shared-is (guests v g) e = cc
 shared-is (lent_back v g) e = cc
 
-vm-is : (c : Condition) (v : ℕ) → one (in_vm v c) ≡ 1 → c ≡ hyps (VmPool v)
+pub vm-is : (c : Condition) (v : ℕ) → one (in_vm v c) ≡ 1 → c ≡ hyps (VmPool v)
 vm-is outside v e = cc
 vm-is hosts v e = cc
 vm-is with_hyp v e = cc
@@ -165,7 +165,7 @@ vm-is (with_guest u g) v e = cc
 vm-is (guests u g) v e = cc
 vm-is (lent_back u g) v e = cc
 
-hand-is : (c : Condition) (k : ℕ) → one (in_hand k c) ≡ 1 → c ≡ hyps (InHand k)
+pub hand-is : (c : Condition) (k : ℕ) → one (in_hand k c) ≡ 1 → c ≡ hyps (InHand k)
 hand-is outside k e = cc
 hand-is hosts k e = cc
 hand-is with_hyp k e = cc

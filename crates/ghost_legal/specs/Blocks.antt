@@ -22,10 +22,6 @@ pub record TreesHaveOwnBlocks (depth : ℕ) (g : GhostLists) : Type 0 where
   pub hyp : HasOwnBlocks depth g.shared.hyp.tables.items
   pub guests : HaveOwnBlocks depth g.guests.items
 
--- each table's block is one of the tree
-abbrev pub AreInside : ℕ → List Table → Type 0
-AreInside depth ts = All (λ t. IsInTree depth t.block) ts
-
 -- no table has the block of an earlier one
 abbrev pub HasFirstBlocks : List Table → Type 0
 HasFirstBlocks [] = Unit {0}

@@ -1,8 +1,8 @@
 -- What the parts of a state and a list of what is held say of each frame.
-use Rattle.std.specs.Prelude.{◌≡◌, ℕ, ◌+◌, ◌-◌, ◌^◌, ◌<◌, ◌≤◌, List, All, Option, Some, None}
+use Rattle.std.specs.Prelude.{◌≡◌, ℕ, ◌+◌, ◌-◌, ◌^◌, ◌<◌, ◌≤◌, true, List, ◌∷◌, All, Option, Some, None, IsPermutation}
 use Rattle.page_state.specs.declared.entry.PageRange.{PageRange}
 use Rattle.page_state.specs.Layouts.{hyp_page}
-use Rattle.page_state.specs.Regions.{end_of, has_memory}
+use Rattle.page_state.specs.Regions.{end_of, has_memory, is_in_range}
 use Rattle.page_state.specs.Runs.{map_of}
 use Rattle.ghost_spec.specs.declared.lists.GhostLists.{GhostLists}
 use Rattle.ghost_spec.specs.Views.{row_in}
@@ -57,3 +57,10 @@ pub record IsHeldList (hs : List Held) : Type 0 where
 pub record IsFrameFault (g : GhostLists) (hs : List Held) (w : ℕ × Facts) : Type 0 where
   pub facts : w.1 ≡ facts_in g hs w.0
   pub none : IsCondition w.0 w.1 → ⊥
+
+-- two pieces of a list have the first frame of the second
+pub record AreTwice (hs : List Held) (a b : Held) : Type 0 where
+  pub rest : List Held
+  pub two : IsPermutation hs (a ∷ (b ∷ rest))
+  pub has : is_in_range a.frames b.frames.first.0 ≡ true
+  pub has_too : is_in_range b.frames b.frames.first.0 ≡ true

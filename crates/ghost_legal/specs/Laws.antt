@@ -3,13 +3,16 @@ use Rattle.std.specs.Prelude.{◌≡◌, ◌↔◌, ℕ, List, All, IsPermutatio
 use Rattle.ghost_trees.specs.declared.tree.Tree.{Tree}
 use Rattle.ghost_trees.specs.Trees.{tree_in_lists}
 use Rattle.reference_model.specs.Conditions.{in_shared, table_uses}
-use Rattle.ghost_legal.specs.Blocks.{TreesHaveOwnBlocks}
+use Rattle.page_state.specs.LayoutFaults.{IsAccepted}
+use Rattle.ghost_legal.specs.declared.finding.Illegal.{Illegal}
+use Rattle.ghost_legal.specs.Illegals.{IsIllegal}
+use Rattle.ghost_legal.specs.Blocks.{TreesHaveFirstBlocks, TreesHaveOwnBlocks}
 use Rattle.ghost_legal.specs.Listed.{all_held_in}
 use Rattle.page_state.specs.LayoutView.{layout_of}
 use Rattle.ghost_spec.specs.declared.lists.GhostLists.{GhostLists}
-use Rattle.ghost_spec.specs.States.{contents_in}
+use Rattle.ghost_spec.specs.States.{contents_in, IsKept}
 use Rattle.descriptor.specs.declared.State.{State}
-use Rattle.reference_model.specs.Conditions.{GuestsFit, IsMemoryLeaf}
+use Rattle.reference_model.specs.Conditions.{GuestsFit, IsMemoryLeaf, Legal}
 use Rattle.ghost_legal.specs.declared.finding.Holder.TheVariants.{Guest}
 use Rattle.ghost_legal.specs.declared.held.Held.{Held}
 use Rattle.ghost_legal.specs.Pages.{HaveGoodRuns, IsWhole}
@@ -37,3 +40,7 @@ GuestsAreHeld = (g : GhostLists) (hs : List Held) → HaveGoodRuns g.guests.item
 -- where each guest is Empty and has nothing, or has a root, all guests fit
 abbrev pub WholeGuestsFit : Type 0
 WholeGuestsFit = (g : GhostLists) → All (IsWhole (layout_of g.layout).depth) g.guests.items → GuestsFit (layout_of g.layout) (contents_in g)
+
+-- what is told of a state isn't so of a legal one
+abbrev pub NoFalseAlarm : Type 0
+NoFalseAlarm = (g : GhostLists) → IsKept g → TreesHaveFirstBlocks g → IsAccepted g.layout.map → (x : Illegal) → IsIllegal g x → Legal (layout_of g.layout) (contents_in g) → ⊥

@@ -2,6 +2,7 @@ pub mod AllHeld
 pub mod Blocks
 pub mod Facts
 pub mod Frames
+pub mod Illegals
 pub mod Laws
 pub mod Listed
 pub mod Pages

@@ -1,6 +1,11 @@
 -- The runs of guests.
-use Rattle.std.specs.Prelude.{◌≡◌, ℕ, ◌+◌, ◌≤◌, List, [], ◌∷◌, length, true, is_some}
+use Rattle.std.specs.Prelude.{◌≡◌, ℕ, ◌+◌, ◌<◌, ◌≤◌, List, [], ◌∷◌, length, true, is_some}
 use Rattle.descriptor.specs.declared.Kind.TheVariants.{Normal}
+use Rattle.descriptor.specs.declared.Prot.{Prot}
+use Rattle.descriptor.specs.declared.State.{State}
+use Rattle.page_state.specs.declared.entry.Entry.{Entry}
+use Rattle.page_state.specs.declared.entry.Entry.TheVariants.{Unmapped}
+use Rattle.page_state.specs.EntryTests.{leaf}
 use Rattle.page_state.specs.declared.entry.Run.{Run}
 use Rattle.page_state.specs.declared.entry.Target.{Target}
 use Rattle.page_state.specs.declared.entry.Target.TheVariants.{Leaf}
@@ -45,3 +50,14 @@ IsWholeIn depth g other = is_some (table_of g.tree.tables.items (depth + 1, 0)) 
 
 abbrev pub IsWhole : ℕ → GhostGuest → Type 0
 IsWhole depth g = IsWholeIn depth g g.phase
+
+-- a page of a run is none of a leaf of memory, or isn't below a page
+pub record IsBadPage (pages : ℕ) (r : Run) (p : ℕ) : Type 0 where
+  pub from : r.pages.first.0 ≤ p
+  pub to : p < run_end r
+  pub bad : IsNormal r.target → pages ≤ p
+
+-- an entry of a page is mapped, and no leaf of memory, or the page isn't below another
+pub record IsBadEntry (pages p : ℕ) (e : Entry) : Type 0 where
+  pub mapped : e ≡ Unmapped → ⊥
+  pub bad : (frame : ℕ) (prot : Prot) (state : State) → e ≡ leaf prot frame state → pages ≤ p

@@ -1,4 +1,6 @@
 //! What is found where a state isn't legal.
+use ghost_coarse::Misfit;
+use ghost_slots::SlotFault;
 use ghost_trees::blocks::Block;
 use page_state::{Entry, Row, State};
 
@@ -40,39 +42,16 @@ pub struct Facts {
     pub holder: Option<Holder>,
 }
 
-/// Why a state isn't legal: the first of these that is so, in the order of the variants, and in each the first by number.
+/// Why a state isn't legal: the first kind of these that is so, in the order of the variants.
 #[derive(Clone, Copy, PartialEq)]
 pub enum Illegal {
-    /// What a CPU has loaded isn't what its slot says.
-    Load {
-        cpu: u64,
-    },
-    /// Its hand is a range without a frame.
-    Hand {
-        cpu: u64,
-    },
-    /// Its ticket isn't of its slot as that is.
-    Ticket {
-        cpu: u64,
-    },
-    /// A slot's vCPU is loaded on a CPU that hasn't it, the slot isn't open, or it is past the eighth.
-    Vcpu {
-        slot: u64,
-        vcpu: u64,
-    },
-    /// A slot and its guest don't agree.
-    Slot {
-        slot: u64,
-    },
-    /// A slot is Reserved or Closing, and no CPU has its ticket, or two have.
-    Tickets {
-        slot: u64,
-    },
-    /// A guest is Empty and has something, or isn't and has no root.
+    /// Slots, loads, tickets, guests and hands don't agree.
+    Slots(SlotFault),
+    /// The guest of a slot is Empty and has something, or isn't and has no root.
     Guest {
         slot: u64,
     },
-    /// A tree has a table where none can be.
+    /// A tree has a table at a block that is none of it.
     Outside(TreeBlock),
     /// A guest's page is no leaf of memory, or past the input pages.
     GuestPage {
@@ -80,13 +59,15 @@ pub enum Illegal {
         page: u64,
     },
     /// The hypervisor maps a page below those of frames.
-    HypPage,
-    /// A frame that is held is no memory: so large is none.
+    HypPage {
+        page: u64,
+    },
+    /// A frame that is held lies where no memory can be.
     FarFrame {
         frame: u64,
         holder: Holder,
     },
-    /// A frame is held at two places.
+    /// A frame is held twice.
     HeldTwice {
         frame: u64,
         one: Holder,
@@ -97,8 +78,9 @@ pub enum Illegal {
         frame: u64,
         facts: Facts,
     },
-    /// A tree has a table where one word would do.
-    Needless(TreeBlock),
-    /// A tree has no table where no word would do.
-    Lacking(TreeBlock),
+    /// A tree isn't the coarsest of its map.
+    Tree {
+        tree: u64,
+        misfit: Misfit,
+    },
 }

@@ -1,16 +1,18 @@
 //! Whether guests are whole: an Empty one has nothing, any other a root, and their pages are leaves of memory.
 ghost use Rattle.std.specs.Prelude.{◌≡◌, ℕ, ◌<◌, ◌≤◌, ◌↔◌, None, IsTrue, All, MatchOption, length};
-ghost use Rattle.page_state.specs.Layouts.{hyp_page};
-ghost use Rattle.page_state.specs.Runs.{run_end, map_of, IsCoarsest};
+ghost use Rattle.page_state.specs.Runs.{map_of, IsCoarsest};
 ghost use Rattle.page_state.specs.declared.entry.Entry.TheVariants.{Unmapped};
-ghost use Rattle.ghost_spec.specs.Kept.{IsKeptShared};
-ghost use Rattle.ghost_spec.specs.States.{contents_in, AreKeptGuests};
+ghost use Rattle.ghost_spec.specs.States.{contents_in, IsKept};
 ghost use Rattle.ghost_trees.specs.Small.{AreSmall, IsSmall};
-ghost use Rattle.ghost_legal.specs.AllHeld.{IsHypBelow};
-ghost use Rattle.ghost_legal.specs.Pages.{IsGoodRun, IsBlank, IsWhole};
+ghost use Rattle.page_state.specs.LayoutView.{layout_of};
+ghost use Rattle.reference_model.specs.Conditions.{SlotsFit};
+ghost use Rattle.ghost_legal.specs.AllHeld.{GuestPagesFit};
+ghost use Rattle.ghost_legal.specs.Illegals.{FitsPages, FitsParts, FitsTables, IsIllegal};
+ghost use Rattle.ghost_legal.specs.Pages.{HaveGoodRuns, IsBadEntry, IsBadPage, IsGoodRun, IsBlank, IsWhole};
 
 use crate::condition::HYP_DISTANCE;
 use crate::finding::Illegal;
+use crate::trees::depth_of;
 use descriptor::Kind;
 use ghost_spec::lists::GhostLists;
 use ghost_spec::parts::{GhostGuest, GhostPhase};
@@ -50,84 +52,97 @@ fn is_whole(guest: &GhostGuest, depth: u64) -> bool
 }
 
 /// The first guest that isn't.
-pub(crate) fn first_guest(guests: &[GhostGuest], depth: u64) -> Option<Illegal>
-    requires { depth ≤ 3 }
-    ensures { (result ≡ None) ↔ All (IsWhole depth) guests.now }
+pub(crate) fn first_guest(state: &GhostLists) -> Option<Illegal>
+    requires kept { IsKept state.now }
+    requires slots { SlotsFit (contents_in state.now) }
+    ensures { MatchOption result (FitsParts state.now) (IsIllegal state.now) }
 {
-    for v in 0..guests.len() {
-        if !is_whole(&guests[v], depth) {
-            return Some(Illegal::Guest { slot: v as u64 });
+    let depth = depth_of(state);
+    let guests = state.guests.as_slice();
+    for slot in 0..guests.len() {
+        if !is_whole(&guests[slot], depth) {
+            return Some(Illegal::Guest { slot: slot as u64 });
         }
     }
     None
 }
 
-/// Whether a run's pages are leaves of memory below a page.
-fn is_memory_run(run: Run, pages: u64) -> bool
-    requires { IsSmall run }
-    ensures { IsTrue result ↔ IsGoodRun pages run }
+/// The first page of a run that is no leaf of memory below a page.
+fn bad_page(run: Run, pages: u64) -> Option<u64>
+    requires small { IsSmall run }
+    requires some { 0 < run.pages.count }
+    ensures { MatchOption result (IsGoodRun pages run) (IsBadPage pages run) }
 {
     match run.target {
         Target::Leaf { kind, .. } => match kind {
-            Kind::Normal => run.pages.first.0 + run.pages.count <= pages,
-            Kind::Device => false,
+            Kind::Normal => {
+                if run.pages.first.0 + run.pages.count <= pages {
+                    return None;
+                }
+                Some(run.pages.first.0.max(pages))
+            }
+            Kind::Device => Some(run.pages.first.0),
         },
-        _ => false,
+        _ => Some(run.pages.first.0),
     }
 }
 
-/// The first page of a guest's runs that isn't.
-fn first_run(slot: u64, runs: &[Run], pages: u64) -> Option<Illegal>
-    requires { AreSmall runs.now }
-    ensures { (result ≡ None) ↔ All (IsGoodRun pages) runs.now }
+/// The first page of a guest's runs that is.
+fn first_run(runs: &[Run], pages: u64) -> Option<u64>
+    requires small { AreSmall runs.now }
+    requires coarsest { IsCoarsest runs.now }
+    ensures { MatchOption result (All (IsGoodRun pages) runs.now) (λ p. IsBadEntry pages p (map_of runs.now p)) }
 {
     for i in 0..runs.len() {
-        let run = runs[i];
-        if !is_memory_run(run, pages) {
-            return Some(Illegal::GuestPage {
-                slot,
-                page: run.pages.first.0.max(pages),
-            });
+        if let Some(page) = bad_page(runs[i], pages) {
+            return Some(page);
         }
     }
     None
 }
 
-/// The first page of a guest that isn't a leaf of memory, or is past the input pages.
-pub(crate) fn first_guest_page(guests: &[GhostGuest], pages: u64) -> Option<Illegal>
-    requires { AreKeptGuests guests.now }
-    ensures { (result ≡ None) ↔ All (λ g. All (IsGoodRun pages) g.tree.runs.items) guests.now }
+/// The first page of a guest that is no leaf of memory, or is past the input pages.
+pub(crate) fn first_guest_page(state: &GhostLists) -> Option<Illegal>
+    requires kept { IsKept state.now }
+    requires tables { FitsTables state.now }
+    ensures { MatchOption result (HaveGoodRuns state.now.guests.items × GuestPagesFit (layout_of state.now.layout) (contents_in state.now)) (IsIllegal state.now) }
 {
+    let pages = state.layout.geometry.pages();
+    let guests = state.guests.as_slice();
     for v in 0..guests.len() {
-        if let Some(found) = first_run(v as u64, guests[v].tree.runs.as_slice(), pages) {
-            return Some(found);
+        if let Some(page) = first_run(guests[v].tree.runs.as_slice(), pages) {
+            let slot = v as u64;
+            return Some(Illegal::GuestPage { slot, page });
         }
     }
     None
 }
 
-/// Whether runs map nothing below a page.
-fn begin_from(runs: &[Run], low: u64) -> bool
+/// The first page that runs map, where it is below a page.
+fn mapped_below(runs: &[Run], low: u64) -> Option<u64>
     requires { IsCoarsest runs.now }
-    ensures { IsTrue result ↔ ((p : ℕ) → p < low → map_of runs.now p ≡ Unmapped) }
+    ensures { MatchOption result ((p : ℕ) → p < low → map_of runs.now p ≡ Unmapped) (λ p. (p < low) × (map_of runs.now p ≡ Unmapped → ⊥)) }
 {
     if runs.len() == 0 {
-        return true;
+        return None;
     }
-    if runs[0].pages.first.0 < low {
-        return false;
+    let first = runs[0].pages.first.0;
+    if first < low {
+        return Some(first);
     }
-    true
+    None
 }
 
 /// The first page of the hypervisor below those of frames.
 pub(crate) fn first_below(state: &GhostLists) -> Option<Illegal>
-    requires { IsKeptShared state.now.shared }
-    ensures { (result ≡ None) ↔ IsHypBelow (contents_in state.now) }
+    requires kept { IsKept state.now }
+    requires tables { FitsTables state.now }
+    requires runs { HaveGoodRuns state.now.guests.items }
+    requires guests { GuestPagesFit (layout_of state.now.layout) (contents_in state.now) }
+    ensures { MatchOption result (FitsPages state.now) (IsIllegal state.now) }
 {
-    let runs = state.shared.hyp.runs.as_slice();
-    if begin_from(runs, HYP_DISTANCE) {
-        return None;
+    match mapped_below(state.shared.hyp.runs.as_slice(), HYP_DISTANCE) {
+        Some(page) => Some(Illegal::HypPage { page }),
+        None => None,
     }
-    Some(Illegal::HypPage)
 }

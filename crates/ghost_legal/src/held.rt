@@ -1,9 +1,11 @@
 //! What has frames beside the host and the hypervisor: pools, tables, hands and guests.
-ghost use Rattle.std.specs.Prelude.{◌≡◌, ◌++◌, ◌<◌, ◌≤◌, ◌↔◌, length, All, IfOk, IsTrue, OnOk, MatchOption, IsPermutation};
+ghost use Rattle.std.specs.Prelude.{◌≡◌, ◌++◌, ◌<◌, ◌≤◌, ◌↔◌, length, All, IfOk, IsTrue, OnOk, Contains, MatchOption, IsPermutation};
+ghost use Rattle.std.specs.List.Sorted.{IsNonDecreasingBy};
 ghost use Rattle.page_state.specs.Regions.{end_of};
 ghost use Rattle.ghost_legal.specs.Facts.{later as later_of, HasLowPage};
 ghost use Rattle.ghost_legal.specs.Frames.{held_frames, IsSmallHeld, IsSmallHolder};
 ghost use Rattle.ghost_legal.specs.Listed.{piece, option_list, hand_held, shared_held, mapped_of, free_held, tables_held, runs_held, guest_held, guests_held, hands_held, all_held_in};
+ghost use Rattle.ghost_legal.specs.Frames.{AreTwice};
 ghost use Rattle.ghost_legal.specs.Ranges.{AreInOrder};
 
 use crate::finding::{Holder, TreeBlock};
@@ -165,11 +167,11 @@ fn all_held(alloc: Global, state: &GhostLists) -> Result<Vec<Held>, AllocError>
 /// All that is held, by frame.
 pub(crate) fn held_in_order(alloc: Global, state: &GhostLists) -> Result<Vec<Held>, AllocError>
     requires { length state.now.guests.items ≡ 64 }
-    ensures { IfOk result (λ v. IsPermutation (all_held_in state.now) v.items) }
+    ensures all { IfOk result (λ v. IsPermutation (all_held_in state.now) v.items) }
+    ensures rise { IfOk result (λ v. IsNonDecreasingBy (λ h. h.frames.first.0) v.items) }
 {
     let mut held = all_held(alloc, state)?;
-    held.as_mut_slice()
-        .sort_by_key(alloc, |h| h.frames.first.0)?;
+    held.sort_by_key(|h| h.frames.first.0)?;
     Ok(held)
 }
 
@@ -211,7 +213,7 @@ fn is_small(held: Held) -> bool
 
 /// The first piece whose numbers aren't small.
 pub(crate) fn first_far(held: &[Held]) -> Option<Held>
-    ensures { MatchOption result (All IsSmallHeld held.now) (λ h. ¬ IsSmallHeld h) }
+    ensures { MatchOption result (All IsSmallHeld held.now) (λ h. Contains held.now h × (IsSmallHeld h → ⊥)) }
 {
     for i in 0..held.len() {
         if !is_small(held[i]) {
@@ -231,8 +233,10 @@ fn ends_before(one: Held, other: Held) -> bool
 
 /// The first two pieces of a list that aren't in order.
 pub(crate) fn first_twice(held: &[Held]) -> Option<(Held, Held)>
-    requires { All IsSmallHeld held.now }
-    ensures { MatchOption result (AreInOrder held_frames held.now) (λ p. ¬ (end_of p.0.frames ≤ p.1.frames.first.0)) }
+    requires small { All IsSmallHeld held.now }
+    requires rise { IsNonDecreasingBy (λ h. h.frames.first.0) held.now }
+    requires some { All (λ h. 0 < h.frames.count) held.now }
+    ensures { MatchOption result (AreInOrder held_frames held.now) (λ p. AreTwice held.now p.0 p.1) }
 {
     for i in 1..held.len() {
         if !ends_before(held[i - 1], held[i]) {

@@ -1,5 +1,5 @@
 //! What holds of every state.
-ghost use Rattle.ghost_legal.specs.Laws.{FramesAreLegal, GuestsAreHeld, HasCounts, LegalFrames, WholeGuestsFit};
+ghost use Rattle.ghost_legal.specs.Laws.{FramesAreLegal, GuestsAreHeld, HasCounts, LegalFrames, NoFalseAlarm, WholeGuestsFit};
 
 /// The frames of a state are legal where each is in its one condition.
 pub fn frames_are_legal()
@@ -24,4 +24,9 @@ pub fn guests_are_held()
 /// Where each guest is whole, all guests fit.
 pub fn whole_guests_fit()
     ensures { WholeGuestsFit }
+{}
+
+/// What is told of a state isn't so of a legal one.
+pub fn no_false_alarm()
+    ensures { NoFalseAlarm }
 {}

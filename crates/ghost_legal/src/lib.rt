@@ -1,7 +1,6 @@
 //! Whether a state is legal: whether each frame is in one condition, and all parts agree.
 #![tactic(auto)]
 
-mod blocks;
 mod condition;
 mod finding;
 mod frames;
@@ -9,9 +8,9 @@ mod guests;
 mod held;
 pub mod laws;
 mod places;
-mod slots;
 mod state;
 mod text;
+mod trees;
 
 pub use finding::{Facts, Holder, Illegal, TreeBlock};
 pub use state::illegal;

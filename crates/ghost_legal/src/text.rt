@@ -1,6 +1,8 @@
 //! How it is written.
 use crate::finding::{Facts, Holder, Illegal, TreeBlock};
+use ghost_coarse::Misfit;
 use ghost_judge::disagreement::TreeOf;
+use ghost_slots::SlotFault;
 use page_state::State;
 use std::fmt;
 
@@ -64,30 +66,68 @@ impl fmt::Display for Facts {
     }
 }
 
+/// A fault of slots.
+#[derive(Clone, Copy)]
+struct SlotText(SlotFault);
+
+impl fmt::Display for SlotText {
+    fn fmt<W: fmt::Write>(&self, f: &mut fmt::Formatter<W>) -> fmt::Result {
+        match self.0 {
+            SlotFault::Load(cpu) => write!(f, "cpu {cpu}: what it has loaded isn't its slot's"),
+            SlotFault::Hand(cpu) => write!(f, "cpu {cpu}: its hand has no frame"),
+            SlotFault::Ticket(cpu) => write!(f, "cpu {cpu}: its ticket isn't its slot's"),
+            SlotFault::Vcpu(slot, vcpu) => write!(
+                f,
+                "slot {slot} vcpu {vcpu}: loaded on no such cpu"
+            ),
+            SlotFault::Guest(slot) => write!(f, "slot {slot}: its guest isn't of it"),
+            SlotFault::Tickets(slot) => write!(f, "slot {slot}: not one ticket"),
+        }
+    }
+}
+
+/// Where a tree isn't the coarsest of its map.
+#[derive(Clone, Copy)]
+struct MisfitText(u64, Misfit);
+
+impl fmt::Display for MisfitText {
+    fn fmt<W: fmt::Write>(&self, f: &mut fmt::Formatter<W>) -> fmt::Result {
+        let tree = self.0;
+        match self.1 {
+            Misfit::Needless(block) => {
+                let at = TreeBlock { tree, block };
+                write!(f, "{at}: could be a block")
+            }
+            Misfit::Lacking(block) => {
+                let at = TreeBlock { tree, block };
+                write!(f, "{at}: lacks")
+            }
+        }
+    }
+}
+
 impl fmt::Display for Illegal {
     fn fmt<W: fmt::Write>(&self, f: &mut fmt::Formatter<W>) -> fmt::Result {
         match *self {
-            Illegal::Load { cpu } => write!(f, "cpu {cpu}: what it has loaded isn't its slot's"),
-            Illegal::Hand { cpu } => write!(f, "cpu {cpu}: its hand has no frame"),
-            Illegal::Ticket { cpu } => write!(f, "cpu {cpu}: its ticket isn't its slot's"),
-            Illegal::Vcpu { slot, vcpu } => {
-                write!(f, "slot {slot} vcpu {vcpu}: loaded on no such cpu")
-            }
-            Illegal::Slot { slot } => write!(f, "slot {slot}: its guest isn't of it"),
-            Illegal::Tickets { slot } => write!(f, "slot {slot}: not one ticket"),
+            Illegal::Slots(fault) => {
+                let fault = SlotText(fault);
+                write!(f, "{fault}")
+            },
             Illegal::Guest { slot } => write!(f, "guest {slot}: Empty with something, or no root"),
             Illegal::Outside(at) => write!(f, "{at}: no such block"),
             Illegal::GuestPage { slot, page } => {
                 write!(f, "guest {slot} 0x{page:x}: no leaf of memory")
             }
-            Illegal::HypPage => f.write_str("hyp: a page below those of frames"),
+            Illegal::HypPage { page } => write!(f, "hyp 0x{page:x}: below the pages of frames"),
             Illegal::FarFrame { frame, holder } => write!(f, "no memory 0x{frame:x}: {holder}"),
             Illegal::HeldTwice { frame, one, other } => {
                 write!(f, "held twice 0x{frame:x}: {one}, {other}")
             }
             Illegal::Frame { frame, facts } => write!(f, "no condition 0x{frame:x}: {facts}"),
-            Illegal::Needless(at) => write!(f, "{at}: could be a block"),
-            Illegal::Lacking(at) => write!(f, "{at}: lacks"),
+            Illegal::Tree { tree, misfit } => {
+                let misfit = MisfitText(tree, misfit);
+                write!(f, "{misfit}")
+            },
         }
     }
 }

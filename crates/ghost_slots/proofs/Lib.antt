@@ -1,2 +1,2 @@
-mod Agreeing
-mod Past
+pub mod Agreeing
+pub mod Past

@@ -1,15 +1,38 @@
-use Rattle.std.proofs.Common.{ℕ, subst}
-use Rattle.ghost_legal.specs.Facts.{IsCondition}
-use Rattle.ghost_legal.specs.Frames.{facts_in, IsFrameFault}
-use Rattle.std.specs.Prelude.{MatchOption}
-use Rattle.ghost_legal.proofs.Pointwise.{frames-legal}
-use Rattle.ghost_legal.proofs.Whole.{all-held}
+use Rattle.std.proofs.Common.{refl, subst, sym, ◌<◌}
+use Rattle.std.specs.Prelude.{All}
+use Rattle.std.proofs.lemmas.List.Sorted.{All-permutation, Contains-permutation, IsPermutation-sym, IsPermutation-trans}
+use Rattle.ghost_spec.specs.States.{contents_in}
+use Rattle.ghost_legal.specs.Frames.{IsSmallHeld}
+use Rattle.ghost_legal.specs.Illegals.{IsIllegal}
+use Rattle.ghost_legal.specs.Listed.{all_held_in}
+use Rattle.ghost_legal.proofs.Found.{all-some}
 use Rattle.ghost_legal.proofs.state.first_of.Goals as goal
 
-pub returns : goal.returns
-returns c = λ e.
+pub returns-in-Some : goal.returns-in-Some
+returns-in-Some c =
     let g = c.args.state.now in
+    let f = c.in-Some.ensures in
+    subst (IsIllegal g) (sym c.far_frame.ensures) (c.requires.pages, record { piece = _; held = Contains-permutation c.args.held.now (all_held_in g) _ (IsPermutation-sym (all_held_in g) c.args.held.now c.requires.all) f.0; frame = refl; holder = refl; far = f.1 })
+
+pub first_twice-requires-clause-some : goal.first_twice-requires-clause-some
+first_twice-requires-clause-some c = All-permutation (λ h. 0 < h.frames.count) (all_held_in c.args.state.now) c.args.held.now c.requires.all (all-some c.args.state.now c.requires.kept c.requires.pages.tables.parts.slots)
+
+pub returns-in-Some-first_twice : goal.returns-in-Some-first_twice
+returns-in-Some-first_twice c =
+    let g = c.args.state.now in
+    let t = c.in-Some-first_twice.ensures in
     let hs = c.args.held.now in
-    let r = c.requires in
-    let order = c.in_default-first_twice.ensures in
-    frames-legal g hs order (all-held g hs order r.guests r.cpus r.own r.runs r.pages r.held) (subst (λ o. MatchOption o ((f : ℕ) → IsCondition f (facts_in g hs f)) (IsFrameFault g hs)) (c.no_condition.ensures e) c.first_frame.ensures) r.pages r.below
+    subst (IsIllegal g) (sym c.held_twice.ensures) (
+      c.requires.pages,
+      All-permutation IsSmallHeld hs (all_held_in g) (IsPermutation-sym (all_held_in g) hs c.requires.all) c.in_default.ensures,
+      record {
+        first = c.in-Some-first_twice.one;
+        second = c.in-Some-first_twice.other;
+        rest = t.rest;
+        held = IsPermutation-trans (all_held_in g) hs _ c.requires.all t.two;
+        has = t.has;
+        has_too = t.has_too;
+        holder = refl;
+        holder_too = refl;
+      },
+    )

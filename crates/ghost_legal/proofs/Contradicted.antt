@@ -1,0 +1,156 @@
+-- What is told of a state isn't so of a legal one.
+use Rattle.std.proofs.Common.{◌≡◌, ℕ, zero, suc, ◌+◌, ◌-◌, ◌^◌, ◌<◌, ◌≤◌, Bool, true, false, ◌==◌, List, [], ◌∷◌, ◌++◌, map, length, get_or, Option, Some, None, Result, Ok, Err, refl, sym, ap, subst, ◌∙◌, inl, inr, arith}
+use Rattle.std.specs.Prelude.{◌⊎◌, ◌&&◌, ◌↔◌, IfOk, MatchOption, not, All, Contains, IsPermutation, is_some}
+use Rattle.std.specs.declared.alloc.AllocError.{AllocError}
+use Rattle.std.proofs.lemmas.List.Elements.{All-append, All-cons, All-contains, All-head, All-nil, All-tail}
+use Rattle.std.proofs.lemmas.List.Sorted.{IsPermutation-refl}
+use Rattle.std.proofs.lemmas.List.Sums.{sum_by-cons}
+use Rattle.descriptor.specs.declared.State.{State}
+use Rattle.descriptor.specs.declared.State.TheVariants.{Owned, SharedOwned, SharedBorrowed}
+use Rattle.page_state.specs.declared.entry.Entry.TheVariants.{Unmapped}
+use Rattle.page_state.specs.declared.entry.PageRange.{PageRange}
+use Rattle.page_state.specs.declared.entry.Run.{Run}
+use Rattle.page_state.specs.declared.entry.Target.{Target}
+use Rattle.page_state.specs.declared.entry.Target.TheVariants.{Malformed, Annotated, Leaf}
+use Rattle.page_state.specs.Geometries.{pages_below}
+use Rattle.page_state.specs.LayoutFaults.{IsAccepted}
+use Rattle.page_state.specs.LayoutView.{layout_of}
+use Rattle.page_state.specs.Layouts.{Layout, is_memory}
+use Rattle.page_state.specs.Regions.{end_of, is_in_range}
+use Rattle.page_state.specs.Runs.{map_of, run_end, IsCoarsest}
+use Rattle.page_state.specs.Trees.{Block, Tree}
+use Rattle.page_state.proofs.Accepted.{memory_below}
+use Rattle.page_state.proofs.Cases.{by_lt, by_test}
+use Rattle.page_state.proofs.Entries.{target-mapped}
+use Rattle.page_state.proofs.Runs.{map_of-first}
+use Rattle.coarse_trees.specs.Coarsest.{IsCoarsest as IsCoarsestTree, IsInTree}
+use Rattle.reference_model.specs.Conditions.{Condition, guest_condition, in_shared, is_inside, one, AreCoarsest, GuestFits, IsGood, Legal}
+use Rattle.reference_model.specs.Sound.{tree_at}
+use Rattle.reference_model.specs.State.{Contents, Guest, empty, live, dying, no_guest}
+use Rattle.ghost_trees.specs.declared.tree.Table.{Table}
+use Rattle.ghost_trees.specs.Small.{AreSmall, HasLowFrames, IsSmall}
+use Rattle.ghost_trees.specs.Trees.{table_of}
+use Rattle.ghost_spec.specs.declared.lists.GhostLists.{GhostLists}
+use Rattle.ghost_spec.specs.declared.parts.GhostGuest.{GhostGuest}
+use Rattle.ghost_spec.specs.declared.parts.GhostPhase.{GhostPhase}
+use Rattle.ghost_spec.specs.declared.parts.GhostPhase.TheVariants.{Empty, Live, Dying}
+use Rattle.ghost_spec.specs.Kept.{IsKeptGuest}
+use Rattle.ghost_spec.specs.States.{contents_in, guest_in, phase_in, IsKept}
+use Rattle.ghost_coarse.specs.Misfits.{IsLacking, IsMisfit, IsNeedless}
+use Rattle.ghost_coarse.specs.declared.misfit.Misfit.{Misfit}
+use Rattle.ghost_coarse.specs.declared.misfit.Misfit.TheVariants.{Needless, Lacking}
+use Rattle.ghost_coarse.proofs.Listing.{there}
+use Rattle.ghost_slots.proofs.Agreeing.{are-real}
+use Rattle.ghost_legal.specs.declared.finding.Illegal.{Illegal}
+use Rattle.ghost_legal.specs.declared.finding.Illegal.TheVariants.{Slots, Guest as GuestFault, Outside, GuestPage, HypPage, FarFrame, HeldTwice, Frame, Tree as TreeFault}
+use Rattle.ghost_legal.specs.declared.finding.Facts.{Facts}
+use Rattle.ghost_legal.specs.AllHeld.{AreFramesLegal, IsGuestPage}
+use Rattle.ghost_legal.specs.Blocks.{TreesHaveFirstBlocks}
+use Rattle.ghost_legal.specs.Facts.{IsCondition}
+use Rattle.ghost_legal.specs.Illegals.{FitsPages, IsIllegal, IsPageFault, IsUnfit}
+use Rattle.ghost_legal.specs.Pages.{IsBlank, IsWhole, IsWholeIn}
+use Rattle.ghost_legal.proofs.Found.{guest-at}
+use Rattle.ghost_legal.proofs.Lows.{trees-own}
+use Rattle.ghost_legal.proofs.Pointwise.{each-condition, guest-good}
+use Rattle.ghost_legal.proofs.Twice.{not-far, not-twice}
+use Rattle.ghost_legal.proofs.Whole.{all-held}
+use Rattle.ghost_legal.proofs.WholeGuests.{guests-fit}
+
+-- a guest that fits is whole
+
+no-runs : (rs : List Run) → IsCoarsest rs → ((p : ℕ) → map_of rs p ≡ Unmapped) → length rs ≡ 0
+no-runs [] c h = refl
+no-runs (r ∷ rs) c h = absurd (target-mapped r.target (r.pages.first.0 - r.pages.first.0) (sym (map_of-first r rs r.pages.first.0 (omega arith) (omega (arith, c.0))) ∙ h r.pages.first.0))
+
+no-tables : (ts : List Table) → ((b : Block) → table_of ts b ≡ None) → length ts ≡ 0
+no-tables [] h = refl
+no-tables (t ∷ ts) h = let bad : true ≡ false = sym (there (t ∷ ts) 0 t (omega arith)) ∙ ap is_some (h t.block) in cc
+
+whole-in : (depth : ℕ) (x : GhostGuest) (ph : GhostPhase) → x.phase ≡ ph → IsKeptGuest x → ((guest_in x).phase ≡ empty → guest_in x ≡ no_guest) → (((guest_in x).phase ≡ empty → ⊥) → (root : ℕ) × ((guest_in x).tree.table (depth + 1, 0) ≡ Some root)) → IsWholeIn depth x ph
+whole-in depth x Empty p k b r =
+    let e = b (ap phase_in p) in
+    record {
+      generation = ap (λ (g : Guest). g.generation) e;
+      kind = ap (λ (g : Guest). g.kind) e;
+      runs = no-runs x.tree.runs.items k.tree.coarsest (λ q. ap (λ (g : Guest). g.tree.map q) e);
+      tables = no-tables x.tree.tables.items (λ b. ap (λ (g : Guest). g.tree.table b) e);
+      free = ap (λ (g : Guest). length g.free) e;
+    }
+whole-in depth x Live p k b r = let root = r (λ e. let bad : live ≡ empty = sym (ap phase_in p) ∙ e in cc) in ap is_some root.1
+whole-in depth x Dying p k b r = let root = r (λ e. let bad : dying ≡ empty = sym (ap phase_in p) ∙ e in cc) in ap is_some root.1
+
+-- trees
+
+coarsest-at : (l : Layout) (s : Contents) → AreCoarsest l s → (t : ℕ) → IsCoarsestTree l.depth (tree_at s t)
+coarsest-at l s h zero = h.host
+coarsest-at l s h (suc zero) = h.hyp
+coarsest-at l s h (suc (suc v)) = h.guest v
+
+some-table : (o : Option ℕ) → is_some o ≡ true → (f : ℕ) × (o ≡ Some f)
+some-table None e = cc
+some-table (Some f) e = (f, refl)
+
+no-misfit : (depth : ℕ) (t : Tree) (m : Misfit) → IsCoarsestTree depth t → IsMisfit depth t m → ⊥
+no-misfit depth t (Needless b) c f = let bad : true ≡ false = sym f.there ∙ c.below b f.inside f.below ∙ ap not f.word in cc
+no-misfit depth t (Lacking b) c f = let bad : false ≡ true = sym f.none ∙ c.below b f.inside f.below ∙ ap not f.no_word in cc
+
+module _ (g : GhostLists) (kept : IsKept g) (first : TreesHaveFirstBlocks g) (accepted : IsAccepted g.layout.map) (l : Legal (layout_of g.layout) (contents_in g)) where
+  frames : AreFramesLegal (layout_of g.layout) (contents_in g)
+  frames = record { condition = l.condition; of_layout = l.of_layout; maps = l.maps; held = l.held; rows = l.rows }
+
+  page-fits : (v p : ℕ) → IsPageFault (layout_of g.layout) v p (((contents_in g).guest v).tree.map p) → ⊥
+  page-fits v p f = by (l.maps.guest v p)
+    where
+      by : GuestFits l.condition v p (((contents_in g).guest v).tree.map p) → ⊥
+      by (inl u) = f.0 u
+      by (inr x) =
+          let is : IsGood (layout_of g.layout) (guest_condition x.state v p) = subst (IsGood (layout_of g.layout)) x.named (l.of_layout.good x.frame) in
+          let good = guest-good (layout_of g.layout) x.state v p is in
+          f.1 (record { frame = x.frame; prot = x.prot; state = x.state; leaf_is = x.leaf_is; slot = good.0; below = good.1 })
+
+  guest-fits : (v : ℕ) (x : GhostGuest) → x ≡ get_or g.guests.items v x → v < 64 → IsWhole (layout_of g.layout).depth x
+  guest-fits v x is less =
+      let n = kept.guests_count in
+      let below : v < length g.guests.items = omega (arith, less, n) in
+      let e : (contents_in g).guest v ≡ guest_in x = guest-at g.guests.items v x below ∙ ap guest_in (sym is) in
+      let blank = subst (λ (y : Guest). y.phase ≡ empty → y ≡ no_guest) e (l.guest_parts.blank v) in
+      let root = subst (λ (y : Guest). (y.phase ≡ empty → ⊥) → (root : ℕ) × (y.tree.table ((layout_of g.layout).depth + 1, 0) ≡ Some root)) e (l.guest_parts.rooted v) in
+      whole-in (layout_of g.layout).depth x x.phase refl (subst IsKeptGuest (sym is) (kept.guests v x below)) blank root
+
+  unfit : (f : ℕ) (x : Facts) → FitsPages g → IsUnfit g f x → ⊥
+  unfit f x p u =
+      let t = p.tables in
+      let own = trees-own (layout_of g.layout).depth g t.host t.hyp t.guests first in
+      let hs = u.held in
+      u.none (subst (IsCondition f) (sym u.facts) (each-condition g hs u.once.order (all-held g hs u.once.order kept.guests_count kept.cpus_count own p.runs p.guests u.all) frames f))
+
+  -- a legal state has no fault
+  pub no-fault : (x : Illegal) → IsIllegal g x → ⊥
+  no-fault (Slots x) f = are-real (contents_in g) x f l.slots
+  no-fault (GuestFault v) f = f.1.not_whole (guest-fits v f.1.guest f.1.is f.1.slot)
+  no-fault (Outside at) f =
+      let o = f.1 in
+      let t = some-table ((tree_at (contents_in g) at.tree).table at.block) o.there in
+      o.outside ((coarsest-at (layout_of g.layout) (contents_in g) l.trees at.tree).inside at.block t.0 t.1)
+  no-fault (GuestPage v p) f = page-fits v p f.1
+  no-fault (HypPage p) f = f.3 (l.maps.hyp_below p f.2)
+  no-fault (FarFrame f h) k = not-far g kept first accepted frames k.0 f h k.1
+  no-fault (HeldTwice f a b) k = not-twice g kept first frames k.0 f a b k.2
+  no-fault (Frame f x) k = unfit f x k.0 k.1
+  no-fault (TreeFault t m) k = no-misfit (layout_of g.layout).depth (tree_at (contents_in g) t) m (coarsest-at (layout_of g.layout) (contents_in g) l.trees t) k.2
+
+-- a state without a fault is legal
+
+pub made-legal : (g : GhostLists) → FitsPages g → AreFramesLegal (layout_of g.layout) (contents_in g) → AreCoarsest (layout_of g.layout) (contents_in g) → Legal (layout_of g.layout) (contents_in g)
+made-legal g p f t = record { condition = f.condition; of_layout = f.of_layout; maps = f.maps; held = f.held; rows = f.rows; trees = t; guest_parts = guests-fit g p.tables.parts.guests; slots = p.tables.parts.slots }
+
+pub none-or-told : (g : GhostLists) → IsKept g → TreesHaveFirstBlocks g → IsAccepted g.layout.map → FitsPages g → AreFramesLegal (layout_of g.layout) (contents_in g) → (o : Option Illegal) → MatchOption o (AreCoarsest (layout_of g.layout) (contents_in g)) (IsIllegal g) → (o ≡ None) ↔ Legal (layout_of g.layout) (contents_in g)
+none-or-told g kept first a p f None h = (λ e. made-legal g p f h, λ l. refl)
+none-or-told g kept first a p f (Some x) h = (λ e. absurd (cc), λ l. absurd (no-fault g kept first a l x h))
+
+pub none-or-told-in : (g : GhostLists) → IsKept g → TreesHaveFirstBlocks g → IsAccepted g.layout.map → FitsPages g → AreFramesLegal (layout_of g.layout) (contents_in g) → (r : Result (Option Illegal) AllocError) → IfOk r (λ o. MatchOption o (AreCoarsest (layout_of g.layout) (contents_in g)) (IsIllegal g)) → IfOk r (λ o. (o ≡ None) ↔ Legal (layout_of g.layout) (contents_in g))
+none-or-told-in g kept first a p f (Ok o) h = none-or-told g kept first a p f o h
+none-or-told-in g kept first a p f (Err e) h = tt
+
+pub some-told : (g : GhostLists) → IsKept g → TreesHaveFirstBlocks g → IsAccepted g.layout.map → (x : Illegal) → IsIllegal g x → (Some x ≡ None) ↔ Legal (layout_of g.layout) (contents_in g)
+some-told g kept first a x h = (λ e. absurd (cc), λ l. absurd (no-fault g kept first a l x h))

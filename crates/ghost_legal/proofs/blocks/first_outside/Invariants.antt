@@ -1,6 +1,0 @@
-use Rattle.std.proofs.Common.{take}
-use Rattle.ghost_legal.specs.Blocks.{AreInside}
-use Rattle.ghost_legal.proofs.blocks.first_outside.Given as goal
-
-abbrev pub invariant-loop-i : goal.invariant-loop-i
-invariant-loop-i l = AreInside l.depth (take l.i l.tables)
