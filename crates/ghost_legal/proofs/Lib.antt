@@ -2,6 +2,7 @@ pub mod AllCounts
 pub mod Contradicted
 pub mod Counted
 pub mod Counts
+pub mod FirstBlocks
 pub mod Found
 pub mod GuestPieces
 pub mod InOrder

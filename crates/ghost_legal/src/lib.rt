@@ -1,6 +1,7 @@
 //! Whether a state is legal: whether each frame is in one condition, and all parts agree.
 #![tactic(auto)]
 
+mod apart;
 mod condition;
 mod finding;
 mod frames;
@@ -12,5 +13,6 @@ mod state;
 mod text;
 mod trees;
 
+pub use apart::have_first_blocks;
 pub use finding::{Facts, Holder, Illegal, TreeBlock};
 pub use state::illegal;
