@@ -8,3 +8,5 @@ pub mod Listed
 pub mod Pages
 pub mod Places
 pub mod Ranges
+pub mod Texts
+pub mod TreeNames
