@@ -8,7 +8,7 @@ ghost use Rattle.ghost_trees.specs.KeptTrees.{IsKeptTree};
 ghost use Rattle.ghost_trees.specs.Small.{AreSmall, IsSmall};
 ghost use Rattle.ghost_trees.specs.Trees.{table_of, tree_in_lists};
 ghost use Rattle.ghost_coarse.specs.Misfits.{IsLacking};
-ghost use Rattle.ghost_coarse.specs.inner.Served.{AreServedOn, Goes, HasAllWanted, HasWanted, IsServed, IsUnserved, IsWanting, index_in, indexes_in};
+ghost use Rattle.ghost_coarse.specs.inner.Served.{AreAllServed, AreServedBetween, AreServedFrom, AreServedOn, CoversBetween, Goes, HasAllWanted, HasWantedAt, IsServed, IsUnserved, IsWantingAt, index_in, indexes_in};
 
 use crate::runs::{is_word, span};
 use ghost_trees::blocks::Block;
@@ -108,7 +108,7 @@ fn first_unserved(runs: &[Run], indexes: &[u64], depth: u64, from: u64, to: u64)
     requires rise { IsNonDecreasing indexes.now }
     requires depth { depth ≤ 3 }
     requires low { to * block_pages depth ≤ 2 ^ 63 }
-    ensures { MatchOption result ((i : ℕ) → from ≤ i → i < to → IsServed (map_of runs.now) indexes.now depth i) (IsUnserved (map_of runs.now) indexes.now depth to) }
+    ensures { MatchOption result (AreServedFrom (map_of runs.now) indexes.now depth from to) (IsUnserved (map_of runs.now) indexes.now depth to) }
 {
     for index in from..to {
         if !is_served(runs, indexes, depth, index) {
@@ -131,14 +131,12 @@ fn first_between(
     requires small { AreSmall runs.now }
     requires coarsest { IsCoarsest runs.now }
     requires rise { IsNonDecreasing indexes.now }
-    requires goes { Goes (map_of runs.now) run }
     requires run { IsSmall run }
     requires depth { depth ≤ 3 }
-    requires first { run.pages.first.0 ≤ (low + 1) * block_pages depth }
-    requires end { high * block_pages depth < run_end run }
+    requires covers { CoversBetween (map_of runs.now) run depth low high }
     requires order { low ≤ high }
     requires small_index { high < 2 ^ 63 }
-    ensures { MatchOption result ((i : ℕ) → low < i → i < high → IsServed (map_of runs.now) indexes.now depth i) (IsUnserved (map_of runs.now) indexes.now depth high) }
+    ensures { MatchOption result (AreServedBetween (map_of runs.now) indexes.now depth low high) (IsUnserved (map_of runs.now) indexes.now depth high) }
 {
     if high <= low + 1 {
         return None;
@@ -199,7 +197,7 @@ fn lacking_of(runs: &[Run], indexes: &[u64], depth: u64, count: u64) -> Option<u
     requires rise { IsNonDecreasing indexes.now }
     requires depth { depth ≤ 3 }
     requires low { count * block_pages depth ≤ 2 ^ 63 }
-    ensures { MatchOption result ((i : ℕ) → i < count → IsServed (map_of runs.now) indexes.now depth i) (IsUnserved (map_of runs.now) indexes.now depth count) }
+    ensures { MatchOption result (AreAllServed (map_of runs.now) indexes.now depth count) (IsUnserved (map_of runs.now) indexes.now depth count) }
 {
     for i in 0..runs.len() {
         if let Some(index) = lacking_on(runs, indexes, runs[i], depth, count) {
@@ -214,7 +212,7 @@ fn lacking_at(alloc: Global, tree: &Tree, depth: u64, count: u64) -> Result<Opti
     requires kept { IsKeptTree tree.now }
     requires depth { depth ≤ 3 }
     requires low { count * block_pages depth ≤ 2 ^ 63 }
-    ensures { IfOk result (λ o. MatchOption o ((i : ℕ) → i < count → HasWanted (tree_in_lists tree.now) (depth, i)) (λ i. (i < count) × IsWanting (tree_in_lists tree.now) (depth, i))) }
+    ensures { IfOk result (λ o. MatchOption o (HasWantedAt (tree_in_lists tree.now) depth count) (IsWantingAt (tree_in_lists tree.now) depth count)) }
 {
     let indexes = indexes_at(alloc, tree.tables.as_slice(), depth)?;
     Ok(lacking_of(tree.runs.as_slice(), indexes.as_slice(), depth, count))

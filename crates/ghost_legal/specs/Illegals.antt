@@ -1,5 +1,6 @@
 -- Why a state isn't legal: what is so, and that what comes before it isn't.
 use Rattle.std.specs.Prelude.{◌≡◌, ℕ, ◌<◌, true, List, ◌∷◌, get_or, All, Contains, IsPermutation}
+use Rattle.coarse_trees.specs.Coarsest.{IsCoarsest}
 use Rattle.page_state.specs.declared.entry.Entry.{Entry}
 use Rattle.page_state.specs.declared.entry.Entry.TheVariants.{Unmapped}
 use Rattle.page_state.specs.Layouts.{Layout, hyp_page}
@@ -7,6 +8,7 @@ use Rattle.page_state.specs.LayoutView.{layout_of}
 use Rattle.page_state.specs.Regions.{is_in_range}
 use Rattle.reference_model.specs.Conditions.{SlotsFit}
 use Rattle.reference_model.specs.Sound.{tree_at}
+use Rattle.ghost_trees.specs.Trees.{tree_in_lists}
 use Rattle.ghost_spec.specs.declared.lists.GhostLists.{GhostLists}
 use Rattle.ghost_spec.specs.declared.parts.GhostGuest.{GhostGuest}
 use Rattle.ghost_spec.specs.States.{contents_in}
@@ -34,6 +36,14 @@ pub record FitsTables (g : GhostLists) : Type 0 where
   pub host : AreInside (layout_of g.layout).depth g.shared.host.tables.items
   pub hyp : AreInside (layout_of g.layout).depth g.shared.hyp.tables.items
   pub guests : All (λ x. AreInside (layout_of g.layout).depth x.tree.tables.items) g.guests.items
+
+-- the runs of guests map leaves of memory, below the input pages
+abbrev pub HaveFittingPages : GhostLists → Type 0
+HaveFittingPages g = HaveGoodRuns g.guests.items × GuestPagesFit (layout_of g.layout) (contents_in g)
+
+-- the trees of guests are the coarsest of their maps
+abbrev pub AreGuestsCoarsest : GhostLists → Type 0
+AreGuestsCoarsest g = All (λ x. IsCoarsest (layout_of g.layout).depth (tree_in_lists x.tree)) g.guests.items
 
 -- guests' pages are leaves of memory, and the hypervisor maps nothing below the pages of frames
 pub record FitsPages (g : GhostLists) : Type 0 where

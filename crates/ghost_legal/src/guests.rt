@@ -7,7 +7,7 @@ ghost use Rattle.ghost_trees.specs.Small.{AreSmall, IsSmall};
 ghost use Rattle.page_state.specs.LayoutView.{layout_of};
 ghost use Rattle.reference_model.specs.Conditions.{SlotsFit};
 ghost use Rattle.ghost_legal.specs.AllHeld.{GuestPagesFit};
-ghost use Rattle.ghost_legal.specs.Illegals.{FitsPages, FitsParts, FitsTables, IsIllegal};
+ghost use Rattle.ghost_legal.specs.Illegals.{FitsPages, FitsParts, FitsTables, HaveFittingPages, IsIllegal};
 ghost use Rattle.ghost_legal.specs.Pages.{HaveGoodRuns, IsBadEntry, IsBadPage, IsGoodRun, IsBlank, IsWhole};
 
 use crate::condition::HYP_DISTANCE;
@@ -105,7 +105,7 @@ fn first_run(runs: &[Run], pages: u64) -> Option<u64>
 pub(crate) fn first_guest_page(state: &GhostLists) -> Option<Illegal>
     requires kept { IsKept state.now }
     requires tables { FitsTables state.now }
-    ensures { MatchOption result (HaveGoodRuns state.now.guests.items × GuestPagesFit (layout_of state.now.layout) (contents_in state.now)) (IsIllegal state.now) }
+    ensures { MatchOption result (HaveFittingPages state.now) (IsIllegal state.now) }
 {
     let pages = state.layout.geometry.pages();
     let guests = state.guests.as_slice();

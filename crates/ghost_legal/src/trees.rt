@@ -1,13 +1,11 @@
 //! Tables at blocks that are none of a tree, and trees that aren't the coarsest of their maps.
 ghost use Rattle.std.specs.Prelude.{◌≡◌, ◌≤◌, All, IfOk, MatchOption};
-ghost use Rattle.coarse_trees.specs.Coarsest.{IsCoarsest};
 ghost use Rattle.page_state.specs.LayoutView.{layout_of};
 ghost use Rattle.reference_model.specs.Conditions.{AreCoarsest};
-ghost use Rattle.ghost_trees.specs.Trees.{tree_in_lists};
 ghost use Rattle.ghost_spec.specs.States.{contents_in, IsKept};
 ghost use Rattle.ghost_coarse.specs.Misfits.{AreInside};
 ghost use Rattle.ghost_legal.specs.AllHeld.{AreFramesLegal};
-ghost use Rattle.ghost_legal.specs.Illegals.{FitsPages, FitsParts, FitsTables, IsIllegal};
+ghost use Rattle.ghost_legal.specs.Illegals.{AreGuestsCoarsest, FitsPages, FitsParts, FitsTables, IsIllegal};
 
 use crate::finding::{Illegal, TreeBlock};
 use ghost_coarse::{first_misfit, first_outside};
@@ -60,7 +58,7 @@ fn first_guest_tree(alloc: Global, state: &GhostLists) -> Result<Option<Illegal>
     requires kept { IsKept state.now }
     requires pages { FitsPages state.now }
     requires frames { AreFramesLegal (layout_of state.now.layout) (contents_in state.now) }
-    ensures { IfOk result (λ o. MatchOption o (All (λ x. IsCoarsest (layout_of state.now.layout).depth (tree_in_lists x.tree)) state.now.guests.items) (IsIllegal state.now)) }
+    ensures { IfOk result (λ o. MatchOption o (AreGuestsCoarsest state.now) (IsIllegal state.now)) }
 {
     let depth = depth_of(state);
     for slot in 0..64 {

@@ -33,6 +33,13 @@ VcpuOn s v i o = (c : ℕ) → o ≡ Some c → (i < 8) × ((s.vms.slot v).stand
 abbrev pub VcpuFits : Contents → ℕ → ℕ → Type 0
 VcpuFits s v i = VcpuOn s v i ((s.vms.slot v).loaded i)
 
+abbrev pub AreVcpusFitting : Contents → ℕ → Type 0
+AreVcpusFitting s v = (i : ℕ) → VcpuFits s v i
+
+-- the first vCPU of the slot that isn't so
+abbrev pub IsFirstVcpu : Contents → ℕ → ℕ → Type 0
+IsFirstVcpu s v i = ((j : ℕ) → j < i → VcpuFits s v j) × (VcpuFits s v i → ⊥)
+
 -- a slot and its guest agree: an Open slot's guest is Live, a vacant slot's Empty, and one that isn't Empty is of the slot
 pub record GuestAgrees (s : Contents) (v : ℕ) : Type 0 where
   pub open_live : (s.vms.slot v).stand ≡ opened → (s.guest v).phase ≡ live

@@ -3,8 +3,8 @@ ghost use Rattle.std.specs.Prelude.{◌≡◌, ℕ, ◌≤◌, ◌<◌, ◌↔�
 ghost use Rattle.reference_model.specs.Sound.{HasLoaded, HasTicket, IsGuestOf, IsOne};
 ghost use Rattle.reference_model.specs.Conditions.{SlotsFit};
 ghost use Rattle.ghost_spec.specs.States.{contents_in, IsKept};
-ghost use Rattle.ghost_slots.specs.Faults.{AreSlotsBelow, CpuFits, GuestAgrees, HasItsTicket, IsSlotFault, SlotFits, VcpuFits, VcpuOn};
-ghost use Rattle.ghost_slots.specs.Tickets.{IsFirstTicket, HasNoTicketFrom};
+ghost use Rattle.ghost_slots.specs.Faults.{AreSlotsBelow, AreVcpusFitting, CpuFits, GuestAgrees, HasItsTicket, IsFirstVcpu, IsSlotFault, SlotFits, VcpuOn};
+ghost use Rattle.ghost_slots.specs.Tickets.{IsFirstTicket, IsTicketFrom};
 
 use crate::fault::SlotFault;
 use crate::places::{
@@ -58,7 +58,7 @@ fn is_vcpu(state: &GhostLists, slot: u64, vcpu: u64, on: Option<u64>) -> bool
 fn first_vcpu(state: &GhostLists, slot: u64) -> Option<u64>
     requires kept { IsKept state.now }
     requires slot { slot < 64 }
-    ensures { MatchOption result ((i : ℕ) → VcpuFits (contents_in state.now) slot i) (λ i. ((j : ℕ) → j < i → VcpuFits (contents_in state.now) slot j) × (VcpuFits (contents_in state.now) slot i → ⊥)) }
+    ensures { MatchOption result (AreVcpusFitting (contents_in state.now) slot) (IsFirstVcpu (contents_in state.now) slot) }
 {
     let loaded = slot_at(state, slot).loaded.as_slice();
     for i in 0..loaded.len() {
@@ -119,7 +119,7 @@ fn has_ticket(state: &GhostLists, cpu: u64, slot: u64) -> bool
 /// The first CPU from one on that has a ticket of a slot.
 fn ticket_from(state: &GhostLists, slot: u64, from: u64) -> Option<u64>
     requires { IsKept state.now }
-    ensures { MatchOption result (HasNoTicketFrom (contents_in state.now) slot from) (IsFirstTicket (contents_in state.now) state.now.layout.config.cpus slot from) }
+    ensures { IsTicketFrom state.now slot from result }
 {
     for cpu in from..state.layout.config.cpus {
         if has_ticket(state, cpu, slot) {

@@ -1,5 +1,5 @@
 -- Blocks that have a table, and those that need none.
-use Rattle.std.specs.Prelude.{◌≡◌, ℕ, ◌/◌, ◌<◌, ◌≤◌, ◌⊎◌, ◌==◌, ◌++◌, true, false, is_some, List, [], ◌∷◌, All, Contains, if◌then◌else◌}
+use Rattle.std.specs.Prelude.{◌≡◌, ℕ, ◌+◌, ◌*◌, ◌/◌, ◌<◌, ◌≤◌, ◌⊎◌, ◌==◌, ◌++◌, true, false, is_some, List, [], ◌∷◌, All, Contains, if◌then◌else◌}
 use Rattle.coarse_trees.specs.Coarsest.{IsInTree}
 use Rattle.page_state.specs.declared.entry.Run.{Run}
 use Rattle.page_state.specs.Blocks.{is_one_word}
@@ -35,6 +35,24 @@ indexes_in depth (t ∷ ts) = index_in depth t.block ++ indexes_in depth ts
 abbrev pub IsServed : Map → List ℕ → ℕ → ℕ → Type 0
 IsServed m indexes depth index = Contains indexes index ⊎ (is_one_word m (depth, index) ≡ true)
 
+-- so is each block of the depth, one of so many
+abbrev pub AreAllServed : Map → List ℕ → ℕ → ℕ → Type 0
+AreAllServed m indexes depth count = (i : ℕ) → i < count → IsServed m indexes depth i
+
+-- so is each from one on and before another
+abbrev pub AreServedFrom : Map → List ℕ → ℕ → ℕ → ℕ → Type 0
+AreServedFrom m indexes depth from to = (i : ℕ) → from ≤ i → i < to → IsServed m indexes depth i
+
+-- so is each behind one and before another
+abbrev pub AreServedBetween : Map → List ℕ → ℕ → ℕ → ℕ → Type 0
+AreServedBetween m indexes depth low high = (i : ℕ) → low < i → i < high → IsServed m indexes depth i
+
+-- a run covers the blocks of the depth behind one and before another
+pub record CoversBetween (m : Map) (r : Run) (depth low high : ℕ) : Type 0 where
+  pub goes : Goes m r
+  pub first : r.pages.first.0 ≤ (low + 1) * block_pages depth
+  pub end : high * block_pages depth < run_end r
+
 -- so is the block of each page of the run, where it is one of so many
 abbrev pub AreServedOn : Map → List ℕ → ℕ → ℕ → Run → Type 0
 AreServedOn m indexes depth count r = (p : ℕ) → r.pages.first.0 ≤ p → p < run_end r → p / block_pages depth < count → IsServed m indexes depth (p / block_pages depth)
@@ -48,6 +66,10 @@ pub record IsUnserved (m : Map) (indexes : List ℕ) (depth count index : ℕ) :
 abbrev pub HasWanted : Tree → Block → Type 0
 HasWanted t b = is_one_word t.map b ≡ false → is_some (t.table b) ≡ true
 
+-- so it is at each block of the depth, one of so many
+abbrev pub HasWantedAt : Tree → ℕ → ℕ → Type 0
+HasWantedAt t depth count = (i : ℕ) → i < count → HasWanted t (depth, i)
+
 -- so it is at each block below the root
 abbrev pub HasAllWanted : ℕ → Tree → Type 0
 HasAllWanted depth t = (b : Block) → IsInTree depth b → b.0 ≤ depth → HasWanted t b
@@ -56,3 +78,7 @@ HasAllWanted depth t = (b : Block) → IsInTree depth b → b.0 ≤ depth → Ha
 pub record IsWanting (t : Tree) (b : Block) : Type 0 where
   pub none : is_some (t.table b) ≡ false
   pub no_word : is_one_word t.map b ≡ false
+
+-- so it is at a block of the depth, one of so many
+abbrev pub IsWantingAt : Tree → ℕ → ℕ → ℕ → Type 0
+IsWantingAt t depth count i = (i < count) × IsWanting t (depth, i)

@@ -6,12 +6,16 @@ use Rattle.page_state.proofs.Sizes.{size_some}
 use Rattle.ghost_coarse.proofs.Along.{ends_joined}
 use Rattle.ghost_coarse.proofs.lacking.lacking_on.Goals as goal
 
-pub first_between-requires-clause-first : goal.first_between-requires-clause-first
-first_between-requires-clause-first c =
+pub first_between-requires-clause-covers : goal.first_between-requires-clause-covers
+first_between-requires-clause-covers c =
     let s = block_pages c.args.depth in
     let some : 0 < s = size_some c.args.depth in
     let x : c.args.run.pages.first.0 < c.args.run.pages.first.0 / s * s + s = lt-div-mul-add some in
-    rw c.span-size.ensures (omega (arith, x))
+    record {
+      goes = c.requires.goes;
+      first = rw c.span-size.ensures (omega (arith, x));
+      end = subst (λ (n : ℕ). c.last_block-high.result * n < run_end c.args.run) c.span-size.ensures c.last_block-high.ensures.end;
+    }
 
 pub returns : goal.returns
 returns c =
