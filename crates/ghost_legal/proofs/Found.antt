@@ -46,7 +46,7 @@ use Rattle.ghost_legal.specs.declared.held.Held.{Held}
 use Rattle.ghost_legal.specs.AllHeld.{IsGuestPage}
 use Rattle.ghost_legal.specs.Frames.{AreTwice}
 use Rattle.ghost_legal.specs.declared.finding.Illegal.{Illegal}
-use Rattle.ghost_legal.specs.Illegals.{FitsParts, FitsTables, IsIllegal, IsPageFault}
+use Rattle.ghost_legal.specs.Illegals.{FitsParts, FitsTables, IsIllegal, IsIllegalButForTrees, IsPageFault}
 use Rattle.ghost_legal.specs.Listed.{all_held_in, free_held, guest_held, guests_held, hand_held, hands_held, mapped_of, option_list, runs_held, tables_held, target_held}
 use Rattle.ghost_legal.specs.Pages.{IsBadEntry, IsBadPage, IsNormal}
 use Rattle.ghost_trees.specs.declared.tree.Table.{Table}
@@ -208,7 +208,7 @@ misfit-guest g v depth x m e n h =
 -- what is told of guests is told of all
 
 pub tables-joined : (g : GhostLists) (o : Option Illegal) → FitsParts g → AreInside (layout_of g.layout).depth g.shared.host.tables.items → AreInside (layout_of g.layout).depth g.shared.hyp.tables.items
-    → MatchOption o (All (λ x. AreInside (layout_of g.layout).depth x.tree.tables.items) g.guests.items) (IsIllegal g) → MatchOption o (FitsTables g) (IsIllegal g)
+    → MatchOption o (All (λ x. AreInside (layout_of g.layout).depth x.tree.tables.items) g.guests.items) (IsIllegalButForTrees g) → MatchOption o (FitsTables g) (IsIllegalButForTrees g)
 tables-joined g None p a b h = record { parts = p; host = a; hyp = b; guests = h }
 tables-joined g (Some x) p a b h = h
 

@@ -1,13 +1,15 @@
 -- Why a state isn't legal: what is so, and that what comes before it isn't.
-use Rattle.std.specs.Prelude.{◌≡◌, ℕ, ◌<◌, true, List, ◌∷◌, get_or, All, Contains, IsPermutation}
-use Rattle.coarse_trees.specs.Coarsest.{IsCoarsest}
+use Rattle.std.specs.Prelude.{◌≡◌, ℕ, ◌<◌, true, List, ◌∷◌, Some, get_or, All, Contains, IsPermutation}
+use Rattle.coarse_trees.specs.Coarsest.{IsCoarsest, IsInTree}
 use Rattle.page_state.specs.declared.entry.Entry.{Entry}
 use Rattle.page_state.specs.declared.entry.Entry.TheVariants.{Unmapped}
 use Rattle.page_state.specs.Layouts.{Layout, hyp_page}
 use Rattle.page_state.specs.LayoutView.{layout_of}
 use Rattle.page_state.specs.Regions.{is_in_range}
-use Rattle.reference_model.specs.Conditions.{SlotsFit}
+use Rattle.reference_model.specs.Conditions.{GuestsFit, SlotsFit}
 use Rattle.reference_model.specs.Sound.{tree_at}
+use Rattle.reference_model.specs.State.{Contents}
+use Rattle.page_state.specs.Trees.{Block}
 use Rattle.ghost_trees.specs.Trees.{tree_in_lists}
 use Rattle.ghost_spec.specs.declared.lists.GhostLists.{GhostLists}
 use Rattle.ghost_spec.specs.declared.parts.GhostGuest.{GhostGuest}
@@ -24,6 +26,13 @@ use Rattle.ghost_legal.specs.Facts.{IsCondition}
 use Rattle.ghost_legal.specs.Frames.{facts_in, IsHeldList, IsSmallHeld}
 use Rattle.ghost_legal.specs.Listed.{all_held_in}
 use Rattle.ghost_legal.specs.Pages.{HaveGoodRuns, IsWhole}
+
+-- the state is legal, but for the tables that its trees need: they are at blocks of the trees, and that is all
+pub record IsLegalButForTrees (l : Layout) (s : Contents) : Type 0 where
+  pub frames : AreFramesLegal l s
+  pub inside : (t : ℕ) (b : Block) (f : ℕ) → (tree_at s t).table b ≡ Some f → IsInTree l.depth b
+  pub guest_parts : GuestsFit l s
+  pub slots : SlotsFit s
 
 -- slots agree, and each guest is Empty and has nothing, or has a root
 pub record FitsParts (g : GhostLists) : Type 0 where
@@ -51,6 +60,11 @@ pub record FitsPages (g : GhostLists) : Type 0 where
   pub runs : HaveGoodRuns g.guests.items
   pub guests : GuestPagesFit (layout_of g.layout) (contents_in g)
   pub hyp : IsHypBelow (contents_in g)
+
+-- and each frame is in its one condition
+pub record FitsFrames (g : GhostLists) : Type 0 where
+  pub pages : FitsPages g
+  pub frames : AreFramesLegal (layout_of g.layout) (contents_in g)
 
 -- the guest of one of the 64 slots is Empty and has something, or isn't and has no root
 pub record IsGuestFault (g : GhostLists) (v : ℕ) : Type 0 where
@@ -90,14 +104,19 @@ pub record IsUnfit (g : GhostLists) (f : ℕ) (x : Facts) : Type 0 where
   pub facts : x ≡ facts_in g held f
   pub none : IsCondition f x → ⊥
 
+-- why a state isn't legal, whatever tables its trees need
+abbrev pub IsIllegalButForTrees : GhostLists → Illegal → Type 0
+IsIllegalButForTrees g (Slots x) = IsSlotFault (contents_in g) x
+IsIllegalButForTrees g (Guest v) = SlotsFit (contents_in g) × IsGuestFault g v
+IsIllegalButForTrees g (Outside at) = FitsParts g × IsOutside (layout_of g.layout).depth (tree_at (contents_in g) at.tree).table at.block
+IsIllegalButForTrees g (GuestPage v p) = FitsTables g × IsPageFault (layout_of g.layout) v p (((contents_in g).guest v).tree.map p)
+IsIllegalButForTrees g (HypPage p) = FitsTables g × GuestPagesFit (layout_of g.layout) (contents_in g) × (p < hyp_page 0) × ((contents_in g).shared.hyp.map p ≡ Unmapped → ⊥)
+IsIllegalButForTrees g (FarFrame f h) = FitsPages g × IsFar g f h
+IsIllegalButForTrees g (HeldTwice f one other) = FitsPages g × All IsSmallHeld (all_held_in g) × IsTwice g f one other
+IsIllegalButForTrees g (Frame f x) = FitsPages g × IsUnfit g f x
+IsIllegalButForTrees g (Tree t m) = ⊥
+
 -- why a state isn't legal
 abbrev pub IsIllegal : GhostLists → Illegal → Type 0
-IsIllegal g (Slots x) = IsSlotFault (contents_in g) x
-IsIllegal g (Guest v) = SlotsFit (contents_in g) × IsGuestFault g v
-IsIllegal g (Outside at) = FitsParts g × IsOutside (layout_of g.layout).depth (tree_at (contents_in g) at.tree).table at.block
-IsIllegal g (GuestPage v p) = FitsTables g × IsPageFault (layout_of g.layout) v p (((contents_in g).guest v).tree.map p)
-IsIllegal g (HypPage p) = FitsTables g × GuestPagesFit (layout_of g.layout) (contents_in g) × (p < hyp_page 0) × ((contents_in g).shared.hyp.map p ≡ Unmapped → ⊥)
-IsIllegal g (FarFrame f h) = FitsPages g × IsFar g f h
-IsIllegal g (HeldTwice f one other) = FitsPages g × All IsSmallHeld (all_held_in g) × IsTwice g f one other
-IsIllegal g (Frame f x) = FitsPages g × IsUnfit g f x
 IsIllegal g (Tree t m) = FitsPages g × AreFramesLegal (layout_of g.layout) (contents_in g) × IsMisfit (layout_of g.layout).depth (tree_at (contents_in g) t) m
+IsIllegal g other = IsIllegalButForTrees g other

@@ -7,7 +7,7 @@ ghost use Rattle.ghost_trees.specs.Small.{AreSmall, IsSmall};
 ghost use Rattle.page_state.specs.LayoutView.{layout_of};
 ghost use Rattle.reference_model.specs.Conditions.{SlotsFit};
 ghost use Rattle.ghost_legal.specs.AllHeld.{GuestPagesFit};
-ghost use Rattle.ghost_legal.specs.Illegals.{FitsPages, FitsParts, FitsTables, HaveFittingPages, IsIllegal};
+ghost use Rattle.ghost_legal.specs.Illegals.{FitsPages, FitsParts, FitsTables, HaveFittingPages, IsIllegalButForTrees};
 ghost use Rattle.ghost_legal.specs.Pages.{HaveGoodRuns, IsBadEntry, IsBadPage, IsGoodRun, IsBlank, IsWhole};
 
 use crate::condition::HYP_DISTANCE;
@@ -55,7 +55,7 @@ fn is_whole(guest: &GhostGuest, depth: u64) -> bool
 pub(crate) fn first_guest(state: &GhostLists) -> Option<Illegal>
     requires kept { IsKept state.now }
     requires slots { SlotsFit (contents_in state.now) }
-    ensures { MatchOption result (FitsParts state.now) (IsIllegal state.now) }
+    ensures { MatchOption result (FitsParts state.now) (IsIllegalButForTrees state.now) }
 {
     let depth = depth_of(state);
     let guests = state.guests.as_slice();
@@ -105,7 +105,7 @@ fn first_run(runs: &[Run], pages: u64) -> Option<u64>
 pub(crate) fn first_guest_page(state: &GhostLists) -> Option<Illegal>
     requires kept { IsKept state.now }
     requires tables { FitsTables state.now }
-    ensures { MatchOption result (HaveFittingPages state.now) (IsIllegal state.now) }
+    ensures { MatchOption result (HaveFittingPages state.now) (IsIllegalButForTrees state.now) }
 {
     let pages = state.layout.geometry.pages();
     let guests = state.guests.as_slice();
@@ -139,7 +139,7 @@ pub(crate) fn first_below(state: &GhostLists) -> Option<Illegal>
     requires tables { FitsTables state.now }
     requires runs { HaveGoodRuns state.now.guests.items }
     requires guests { GuestPagesFit (layout_of state.now.layout) (contents_in state.now) }
-    ensures { MatchOption result (FitsPages state.now) (IsIllegal state.now) }
+    ensures { MatchOption result (FitsPages state.now) (IsIllegalButForTrees state.now) }
 {
     match mapped_below(state.shared.hyp.runs.as_slice(), HYP_DISTANCE) {
         Some(page) => Some(Illegal::HypPage { page }),

@@ -15,4 +15,4 @@ mod trees;
 
 pub use apart::have_first_blocks;
 pub use finding::{Facts, Holder, Illegal, TreeBlock};
-pub use state::illegal;
+pub use state::{illegal, illegal_but_for_trees};

@@ -8,7 +8,7 @@ ghost use Rattle.ghost_legal.specs.AllHeld.{AreFramesLegal};
 ghost use Rattle.ghost_legal.specs.Blocks.{TreesHaveFirstBlocks};
 ghost use Rattle.ghost_legal.specs.Frames.{IsHeldList};
 ghost use Rattle.ghost_legal.specs.declared.finding.Illegal.TheVariants.{FarFrame, HeldTwice};
-ghost use Rattle.ghost_legal.specs.Illegals.{FitsPages, FitsParts, IsIllegal};
+ghost use Rattle.ghost_legal.specs.Illegals.{FitsFrames, FitsPages, FitsParts, IsIllegal, IsIllegalButForTrees, IsLegalButForTrees};
 ghost use Rattle.ghost_legal.specs.Listed.{all_held_in};
 
 use crate::finding::{Facts, Illegal};
@@ -23,7 +23,7 @@ use std::alloc::{AllocError, Global};
 /// What is wrong with slots and guests.
 fn first_part(state: &GhostLists) -> Option<Illegal>
     requires { IsKept state.now }
-    ensures { MatchOption result (FitsParts state.now) (IsIllegal state.now) }
+    ensures { MatchOption result (FitsParts state.now) (IsIllegalButForTrees state.now) }
 {
     match first_slot_fault(state) {
         Some(fault) => Some(Illegal::Slots(fault)),
@@ -35,7 +35,7 @@ fn first_part(state: &GhostLists) -> Option<Illegal>
 fn first_page(state: &GhostLists) -> Option<Illegal>
     requires kept { IsKept state.now }
     requires parts { FitsParts state.now }
-    ensures { MatchOption result (FitsPages state.now) (IsIllegal state.now) }
+    ensures { MatchOption result (FitsPages state.now) (IsIllegalButForTrees state.now) }
 {
     if let Some(found) = first_table(state) {
         return Some(found);
@@ -74,7 +74,7 @@ fn first_unfit(state: &GhostLists, held: &[Held]) -> Option<Illegal>
     requires pages { FitsPages state.now }
     requires all { IsPermutation (all_held_in state.now) held.now }
     requires once { IsHeldList held.now }
-    ensures { MatchOption result (AreFramesLegal (layout_of state.now.layout) (contents_in state.now)) (IsIllegal state.now) }
+    ensures { MatchOption result (AreFramesLegal (layout_of state.now.layout) (contents_in state.now)) (IsIllegalButForTrees state.now) }
 {
     match first_frame(state, held) {
         Some((frame, facts)) => Some(Illegal::Frame { frame, facts }),
@@ -89,7 +89,7 @@ fn first_of(state: &GhostLists, held: &[Held]) -> Option<Illegal>
     requires pages { FitsPages state.now }
     requires all { IsPermutation (all_held_in state.now) held.now }
     requires rise { IsNonDecreasingBy (λ h. h.frames.first.0) held.now }
-    ensures { MatchOption result (AreFramesLegal (layout_of state.now.layout) (contents_in state.now)) (IsIllegal state.now) }
+    ensures { MatchOption result (AreFramesLegal (layout_of state.now.layout) (contents_in state.now)) (IsIllegalButForTrees state.now) }
 {
     if let Some(far) = first_far(held) {
         return Some(far_frame(far));
@@ -105,10 +105,40 @@ fn first_held(alloc: Global, state: &GhostLists) -> Result<Option<Illegal>, Allo
     requires kept { IsKept state.now }
     requires tables { TreesHaveFirstBlocks state.now }
     requires pages { FitsPages state.now }
-    ensures { IfOk result (λ o. MatchOption o (AreFramesLegal (layout_of state.now.layout) (contents_in state.now)) (IsIllegal state.now)) }
+    ensures { IfOk result (λ o. MatchOption o (AreFramesLegal (layout_of state.now.layout) (contents_in state.now)) (IsIllegalButForTrees state.now)) }
 {
     let held = held_in_order(alloc, state)?;
     Ok(first_of(state, held.as_slice()))
+}
+
+/// What is wrong, whatever tables trees need.
+fn first_fault(alloc: Global, state: &GhostLists) -> Result<Option<Illegal>, AllocError>
+    requires kept { IsKept state.now }
+    requires tables { TreesHaveFirstBlocks state.now }
+    ensures { IfOk result (λ o. MatchOption o (FitsFrames state.now) (IsIllegalButForTrees state.now)) }
+{
+    if let Some(found) = first_part(state) {
+        return Ok(Some(found));
+    }
+    if let Some(found) = first_page(state) {
+        return Ok(Some(found));
+    }
+    first_held(alloc, state)
+}
+
+/// Why a state isn't legal, whatever tables its trees need: for a hypervisor whose tables stand elsewhere than the coarsest
+/// trees' do. It takes time by n log n of the number of runs, tables and free frames.
+pub fn illegal_but_for_trees(
+    alloc: Global,
+    state: &GhostLists,
+) -> Result<Option<Illegal>, AllocError>
+    requires kept { IsKept state.now }
+    requires tables { TreesHaveFirstBlocks state.now }
+    ensures legal { IfOk result (λ o. (o ≡ None) ↔ IsLegalButForTrees (layout_of state.now.layout) (contents_in state.now)) }
+    ensures told { IfOk result (λ o. IfSome o (IsIllegalButForTrees state.now)) }
+{
+    let _regions = state.layout.map.regions();
+    first_fault(alloc, state)
 }
 
 /// Why a state isn't legal. It takes time by n log n of the number of runs, tables and free frames.
@@ -119,13 +149,7 @@ pub fn illegal(alloc: Global, state: &GhostLists) -> Result<Option<Illegal>, All
     ensures told { IfOk result (λ o. IfSome o (IsIllegal state.now)) }
 {
     let _regions = state.layout.map.regions();
-    if let Some(found) = first_part(state) {
-        return Ok(Some(found));
-    }
-    if let Some(found) = first_page(state) {
-        return Ok(Some(found));
-    }
-    if let Some(found) = first_held(alloc, state)? {
+    if let Some(found) = first_fault(alloc, state)? {
         return Ok(Some(found));
     }
     first_tree(alloc, state)

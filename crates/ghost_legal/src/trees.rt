@@ -5,7 +5,7 @@ ghost use Rattle.reference_model.specs.Conditions.{AreCoarsest};
 ghost use Rattle.ghost_spec.specs.States.{contents_in, IsKept};
 ghost use Rattle.ghost_coarse.specs.Misfits.{AreInside};
 ghost use Rattle.ghost_legal.specs.AllHeld.{AreFramesLegal};
-ghost use Rattle.ghost_legal.specs.Illegals.{AreGuestsCoarsest, FitsPages, FitsParts, FitsTables, IsIllegal};
+ghost use Rattle.ghost_legal.specs.Illegals.{AreGuestsCoarsest, FitsPages, FitsParts, FitsTables, IsIllegal, IsIllegalButForTrees};
 
 use crate::finding::{Illegal, TreeBlock};
 use ghost_coarse::{first_misfit, first_outside};
@@ -24,7 +24,7 @@ pub(crate) fn depth_of(state: &GhostLists) -> u64
 fn first_guest_table(state: &GhostLists) -> Option<Illegal>
     requires kept { IsKept state.now }
     requires parts { FitsParts state.now }
-    ensures { MatchOption result (All (λ x. AreInside (layout_of state.now.layout).depth x.tree.tables.items) state.now.guests.items) (IsIllegal state.now) }
+    ensures { MatchOption result (All (λ x. AreInside (layout_of state.now.layout).depth x.tree.tables.items) state.now.guests.items) (IsIllegalButForTrees state.now) }
 {
     let depth = depth_of(state);
     for slot in 0..64 {
@@ -41,7 +41,7 @@ fn first_guest_table(state: &GhostLists) -> Option<Illegal>
 pub(crate) fn first_table(state: &GhostLists) -> Option<Illegal>
     requires kept { IsKept state.now }
     requires parts { FitsParts state.now }
-    ensures { MatchOption result (FitsTables state.now) (IsIllegal state.now) }
+    ensures { MatchOption result (FitsTables state.now) (IsIllegalButForTrees state.now) }
 {
     let depth = depth_of(state);
     if let Some(block) = first_outside(state.shared.host.tables.as_slice(), depth) {

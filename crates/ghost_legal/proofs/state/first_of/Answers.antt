@@ -3,7 +3,7 @@ use Rattle.std.specs.Prelude.{All}
 use Rattle.std.proofs.lemmas.List.Sorted.{All-permutation, Contains-permutation, IsPermutation-sym, IsPermutation-trans}
 use Rattle.ghost_spec.specs.States.{contents_in}
 use Rattle.ghost_legal.specs.Frames.{IsSmallHeld}
-use Rattle.ghost_legal.specs.Illegals.{IsIllegal}
+use Rattle.ghost_legal.specs.Illegals.{IsIllegalButForTrees}
 use Rattle.ghost_legal.specs.Listed.{all_held_in}
 use Rattle.ghost_legal.proofs.Found.{all-some}
 use Rattle.ghost_legal.proofs.state.first_of.Goals as goal
@@ -12,7 +12,7 @@ pub returns-in-Some : goal.returns-in-Some
 returns-in-Some c =
     let g = c.args.state.now in
     let f = c.in-Some.ensures in
-    subst (IsIllegal g) (sym c.far_frame.ensures) (c.requires.pages, record { piece = _; held = Contains-permutation c.args.held.now (all_held_in g) _ (IsPermutation-sym (all_held_in g) c.args.held.now c.requires.all) f.0; frame = refl; holder = refl; far = f.1 })
+    subst (IsIllegalButForTrees g) (sym c.far_frame.ensures) (c.requires.pages, record { piece = _; held = Contains-permutation c.args.held.now (all_held_in g) _ (IsPermutation-sym (all_held_in g) c.args.held.now c.requires.all) f.0; frame = refl; holder = refl; far = f.1 })
 
 pub first_twice-requires-clause-some : goal.first_twice-requires-clause-some
 first_twice-requires-clause-some c = All-permutation (λ h. 0 < h.frames.count) (all_held_in c.args.state.now) c.args.held.now c.requires.all (all-some c.args.state.now c.requires.kept c.requires.pages.tables.parts.slots)
@@ -22,7 +22,7 @@ returns-in-Some-first_twice c =
     let g = c.args.state.now in
     let t = c.in-Some-first_twice.ensures in
     let hs = c.args.held.now in
-    subst (IsIllegal g) (sym c.held_twice.ensures) (
+    subst (IsIllegalButForTrees g) (sym c.held_twice.ensures) (
       c.requires.pages,
       All-permutation IsSmallHeld hs (all_held_in g) (IsPermutation-sym (all_held_in g) hs c.requires.all) c.in_default.ensures,
       record {
