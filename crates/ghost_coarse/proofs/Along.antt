@@ -1,5 +1,5 @@
 -- Blocks along a run: each that it covers can be a word where the first and the last can.
-use Rattle.std.proofs.Common.{◌≡◌, ℕ, zero, suc, ◌+◌, ◌-◌, ◌*◌, ◌/◌, ◌%◌, ◌^◌, ◌<◌, ◌≤◌, Bool, true, false, ◌==◌, nat_le, nat_lt, min, List, [], ◌∷◌, length, get_or, refl, sym, ap, subst, ◌∙◌, inl, inr, arith, mul-le-mul_left, mul-le-mul_right, Option, Some, None}
+use Rattle.std.proofs.Common.{◌≡◌, ℕ, zero, suc, ◌+◌, ◌-◌, ◌*◌, ◌/◌, ◌%◌, ◌^◌, ◌<◌, ◌≤◌, true, false, ◌==◌, nat_le, nat_lt, min, List, [], ◌∷◌, length, get_or, refl, sym, ap, subst, ◌∙◌, inl, inr, arith, mul-le-mul_left, mul-le-mul_right, Option, Some, None}
 use Rattle.std.specs.Prelude.{◌&&◌, ◌⊎◌, ◌↔◌, is_some, not, All, Contains, MatchOption}
 use Rattle.std.proofs.Math.Nat.{div-mul-le_self, lt-div-mul-add}
 use Rattle.std.proofs.lemmas.Bool.Decides.{nat_tests}
@@ -7,9 +7,8 @@ use Rattle.std.proofs.lemmas.List.Elements.{All-head, All-tail}
 use Rattle.page_state.specs.declared.entry.Entry.{Entry}
 use Rattle.page_state.specs.declared.entry.Entry.TheVariants.{Unmapped, Malformed, Annotated, Leaf}
 use Rattle.page_state.specs.declared.entry.Run.{Run}
-use Rattle.page_state.specs.Blocks.{block_eq, fits_word, first_page, span, is_one_word, is_empty}
+use Rattle.page_state.specs.Blocks.{block_eq, fits_word, is_one_word}
 use Rattle.page_state.specs.Entries.{advance, entry_of_target}
-use Rattle.page_state.specs.EntryTests.{is_unmapped}
 use Rattle.page_state.specs.Geometries.{block_pages}
 use Rattle.page_state.specs.Map.{Map}
 use Rattle.page_state.specs.Regions.{is_in_range}
@@ -21,7 +20,6 @@ use Rattle.page_state.proofs.Cases.{by_lt, by_test}
 use Rattle.page_state.proofs.Common.{and-both, eq-same, eq-made, not-holds}
 use Rattle.page_state.proofs.Entries.{advance-more}
 use Rattle.page_state.proofs.Runs.{map_of-behind, map_of-first}
-use Rattle.page_state.proofs.Sizes.{size_some}
 use Rattle.ghost_trees.proofs.Coarse.{BeginsFrom, begins_next}
 use Rattle.ghost_trees.proofs.OneWords.{one_entry}
 use Rattle.ghost_trees.proofs.Overlaid.{within_means}

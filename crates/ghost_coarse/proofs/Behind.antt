@@ -1,5 +1,5 @@
 -- What runs that end before a page leave of a map.
-use Rattle.std.proofs.Common.{◌≡◌, ℕ, zero, suc, ◌+◌, ◌<◌, ◌≤◌, List, [], ◌∷◌, drop, take, refl, sym, ◌∙◌, arith}
+use Rattle.std.proofs.Common.{◌≡◌, ℕ, zero, suc, ◌≤◌, List, [], ◌∷◌, drop, take, refl, sym, ◌∙◌, arith}
 use Rattle.page_state.specs.declared.entry.Run.{Run}
 use Rattle.page_state.specs.Runs.{map_of, IsCoarsest}
 use Rattle.page_state.proofs.Runs.{map_of-behind}

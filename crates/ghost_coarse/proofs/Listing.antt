@@ -1,13 +1,13 @@
 -- The indexes of blocks that have a table, and what a search of them tells.
-use Rattle.std.proofs.Common.{◌≡◌, ℕ, zero, suc, ◌+◌, ◌<◌, ◌≤◌, Bool, true, false, List, [], ◌∷◌, ◌++◌, take, length, get_or, Result, Ok, Err, refl, sym, ap, subst, ◌∙◌, inl, inr, arith}
-use Rattle.std.specs.Prelude.{◌==◌, ◌↔◌, ◌⊎◌, ◌&&◌, is_ok, is_some, Contains, MatchResult}
+use Rattle.std.proofs.Common.{◌≡◌, ℕ, zero, suc, ◌+◌, ◌<◌, ◌≤◌, true, false, List, [], ◌∷◌, ◌++◌, take, length, get_or, Result, Ok, Err, refl, sym, ap, subst, ◌∙◌, inl, inr, arith}
+use Rattle.std.specs.Prelude.{◌==◌, ◌↔◌, ◌⊎◌, is_ok, is_some, Contains, MatchResult}
 use Rattle.std.proofs.lemmas.List.{append_assoc, append-nil}
 use Rattle.std.proofs.lemmas.List.Elements.{Contains-append_cases, Contains-append_left, Contains-append_right}
 use Rattle.page_state.specs.Blocks.{block_eq}
 use Rattle.page_state.specs.Trees.{Block}
 use Rattle.page_state.proofs.BlockTests.{block_eq-same}
-use Rattle.page_state.proofs.Cases.{by_eq, by_lt, by_test}
-use Rattle.page_state.proofs.Common.{and-not, eq-same, eq-self, and-both}
+use Rattle.page_state.proofs.Cases.{by_lt, by_test}
+use Rattle.page_state.proofs.Common.{eq-self}
 use Rattle.ghost_trees.specs.declared.tree.Table.{Table}
 use Rattle.ghost_trees.specs.Trees.{table_of}
 use Rattle.ghost_coarse.specs.inner.Served.{index_in, indexes_in}

@@ -1,10 +1,10 @@
 -- Where blocks of a tree are.
-use Rattle.std.proofs.Common.{◌≡◌, ℕ, zero, suc, ◌+◌, ◌-◌, ◌*◌, ◌/◌, ◌^◌, ◌<◌, ◌≤◌, Bool, true, false, List, [], ◌∷◌, take, length, get_or, Some, refl, sym, ap, subst, ◌∙◌, arith, mul-le-mul_right}
-use Rattle.std.specs.Prelude.{All, is_some}
+use Rattle.std.proofs.Common.{◌≡◌, ℕ, zero, suc, ◌+◌, ◌-◌, ◌*◌, ◌^◌, ◌≤◌, List, [], ◌∷◌, take, length, Some, subst, arith, mul-le-mul_right}
+use Rattle.std.specs.Prelude.{All}
 use Rattle.std.proofs.lemmas.List.{take_all}
 use Rattle.std.proofs.lemmas.List.Elements.{All-head, All-tail}
 use Rattle.coarse_trees.specs.Coarsest.{IsInTree}
-use Rattle.page_state.specs.Blocks.{block_eq, first_page}
+use Rattle.page_state.specs.Blocks.{block_eq}
 use Rattle.page_state.specs.Geometries.{block_pages}
 use Rattle.page_state.specs.Trees.{Block}
 use Rattle.page_state.proofs.BlockTests.{block_eq-same}

@@ -1,12 +1,11 @@
 -- All pieces of a state have a frame as often as each part holds it.
-use Rattle.std.proofs.Common.{◌≡◌, ℕ, zero, suc, ◌+◌, ◌-◌, ◌<◌, ◌≤◌, Bool, true, false, ◌==◌, List, [], ◌∷◌, ◌++◌, map, length, get_or, Option, Some, None, refl, sym, ap, subst, ◌∙◌, arith, cond}
+use Rattle.std.proofs.Common.{◌≡◌, ℕ, zero, suc, ◌+◌, ◌<◌, Bool, true, false, ◌==◌, List, [], ◌∷◌, ◌++◌, map, get_or, Option, Some, None, refl, sym, ap, ◌∙◌, arith, cond}
 use Rattle.std.specs.Prelude.{◌&&◌}
 use Rattle.std.proofs.lemmas.Bool.Decides.{nat_tests}
 use Rattle.descriptor.specs.declared.State.{State}
 use Rattle.descriptor.specs.declared.State.TheVariants.{Owned, SharedOwned, SharedBorrowed}
 use Rattle.page_state.specs.declared.entry.PageRange.{PageRange}
 use Rattle.page_state.specs.declared.row.Usage.TheVariants.{VmPool as VmPoolUse}
-use Rattle.page_state.specs.Counts.{frame_count}
 use Rattle.page_state.specs.LayoutView.{layout_of}
 use Rattle.page_state.specs.Regions.{is_in_range}
 use Rattle.page_state.specs.Trees.{no_tree}
@@ -20,13 +19,11 @@ use Rattle.ghost_spec.specs.declared.cpu.GhostCpu.{GhostCpu}
 use Rattle.ghost_spec.specs.declared.lists.GhostLists.{GhostLists}
 use Rattle.ghost_spec.specs.declared.parts.GhostGuest.{GhostGuest}
 use Rattle.ghost_spec.specs.States.{contents_in, guest_in}
-use Rattle.ghost_spec.specs.Views.{cpu_in, shared_in_lists}
+use Rattle.ghost_spec.specs.Views.{cpu_in}
 use Rattle.ghost_legal.specs.declared.finding.Holder.TheVariants.{SharedPool, VmPool, Hand}
-use Rattle.ghost_legal.specs.declared.held.Held.{Held}
 use Rattle.ghost_legal.specs.AllHeld.{held_count}
 use Rattle.ghost_legal.specs.Blocks.{HasOwnBlocks, HaveOwnBlocks, TreesHaveOwnBlocks}
 use Rattle.ghost_legal.specs.Facts.{held_in, table_use}
-use Rattle.ghost_legal.specs.Frames.{holder_on}
 use Rattle.ghost_legal.specs.Listed.{all_held_in, free_held, guest_held, guests_held, hand_held, hands_held, runs_held, shared_held, tables_held}
 use Rattle.ghost_legal.proofs.Counts.{count-append, free-count, free-none, runs-none, tables-count, tables-none}
 

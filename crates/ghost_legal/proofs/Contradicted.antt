@@ -1,34 +1,22 @@
 -- What is told of a state isn't so of a legal one.
-use Rattle.std.proofs.Common.{◌≡◌, ℕ, zero, suc, ◌+◌, ◌-◌, ◌^◌, ◌<◌, ◌≤◌, Bool, true, false, ◌==◌, List, [], ◌∷◌, ◌++◌, map, length, get_or, Option, Some, None, Result, Ok, Err, refl, sym, ap, subst, ◌∙◌, inl, inr, arith}
-use Rattle.std.specs.Prelude.{◌⊎◌, ◌&&◌, ◌↔◌, IfOk, IfSome, MatchOption, not, All, Contains, IsPermutation, is_some}
+use Rattle.std.proofs.Common.{◌≡◌, ℕ, zero, suc, ◌+◌, ◌-◌, ◌<◌, true, false, List, [], ◌∷◌, map, length, get_or, Option, Some, None, Result, Ok, Err, refl, sym, ap, subst, ◌∙◌, inl, inr, arith}
+use Rattle.std.specs.Prelude.{◌↔◌, IfOk, IfSome, MatchOption, not, All, is_some}
 use Rattle.std.specs.declared.alloc.AllocError.{AllocError}
-use Rattle.std.proofs.lemmas.List.Elements.{All-append, All-cons, All-contains, All-head, All-nil, All-tail}
-use Rattle.std.proofs.lemmas.List.Sorted.{IsPermutation-refl}
-use Rattle.std.proofs.lemmas.List.Sums.{sum_by-cons}
-use Rattle.descriptor.specs.declared.State.{State}
-use Rattle.descriptor.specs.declared.State.TheVariants.{Owned, SharedOwned, SharedBorrowed}
+use Rattle.std.proofs.lemmas.List.Elements.{All-head, All-tail}
 use Rattle.page_state.specs.declared.entry.Entry.TheVariants.{Unmapped}
-use Rattle.page_state.specs.declared.entry.PageRange.{PageRange}
 use Rattle.page_state.specs.declared.entry.Run.{Run}
-use Rattle.page_state.specs.declared.entry.Target.{Target}
-use Rattle.page_state.specs.declared.entry.Target.TheVariants.{Malformed, Annotated, Leaf}
-use Rattle.page_state.specs.Geometries.{pages_below}
 use Rattle.page_state.specs.LayoutFaults.{IsAccepted}
 use Rattle.page_state.specs.LayoutView.{layout_of}
-use Rattle.page_state.specs.Layouts.{Layout, is_memory}
-use Rattle.page_state.specs.Regions.{end_of, is_in_range}
-use Rattle.page_state.specs.Runs.{map_of, run_end, IsCoarsest}
+use Rattle.page_state.specs.Layouts.{Layout}
+use Rattle.page_state.specs.Runs.{map_of, IsCoarsest}
 use Rattle.page_state.specs.Trees.{Block, Tree}
-use Rattle.page_state.proofs.Accepted.{memory_below}
-use Rattle.page_state.proofs.Cases.{by_lt, by_test}
 use Rattle.page_state.proofs.Entries.{target-mapped}
 use Rattle.page_state.proofs.Runs.{map_of-first}
 use Rattle.coarse_trees.specs.Coarsest.{IsCoarsest as IsCoarsestTree, IsInTree}
-use Rattle.reference_model.specs.Conditions.{Condition, guest_condition, in_shared, is_inside, one, AreCoarsest, GuestFits, IsGood, Legal}
+use Rattle.reference_model.specs.Conditions.{guest_condition, AreCoarsest, GuestFits, IsGood, Legal}
 use Rattle.reference_model.specs.Sound.{tree_at}
 use Rattle.reference_model.specs.State.{Contents, Guest, empty, live, dying, no_guest}
 use Rattle.ghost_trees.specs.declared.tree.Table.{Table}
-use Rattle.ghost_trees.specs.Small.{AreSmall, HasLowFrames, IsSmall}
 use Rattle.ghost_trees.specs.Trees.{table_of}
 use Rattle.ghost_spec.specs.declared.lists.GhostLists.{GhostLists}
 use Rattle.ghost_spec.specs.declared.parts.GhostGuest.{GhostGuest}
@@ -45,11 +33,11 @@ use Rattle.ghost_slots.proofs.Agreeing.{are-real}
 use Rattle.ghost_legal.specs.declared.finding.Illegal.{Illegal}
 use Rattle.ghost_legal.specs.declared.finding.Illegal.TheVariants.{Slots, Guest as GuestFault, Outside, GuestPage, HypPage, FarFrame, HeldTwice, Frame, Tree as TreeFault}
 use Rattle.ghost_legal.specs.declared.finding.Facts.{Facts}
-use Rattle.ghost_legal.specs.AllHeld.{AreFramesLegal, IsGuestPage}
+use Rattle.ghost_legal.specs.AllHeld.{AreFramesLegal}
 use Rattle.ghost_legal.specs.Blocks.{TreesHaveFirstBlocks}
 use Rattle.ghost_legal.specs.Facts.{IsCondition}
 use Rattle.ghost_legal.specs.Illegals.{FitsFrames, FitsPages, FitsTables, IsIllegal, IsIllegalButForTrees, IsLegalButForTrees, IsPageFault, IsUnfit}
-use Rattle.ghost_legal.specs.Pages.{IsBlank, IsWhole, IsWholeIn}
+use Rattle.ghost_legal.specs.Pages.{IsWhole, IsWholeIn}
 use Rattle.ghost_legal.proofs.Found.{guest-at}
 use Rattle.ghost_legal.proofs.Lows.{trees-own}
 use Rattle.ghost_legal.proofs.Pointwise.{each-condition, guest-good}

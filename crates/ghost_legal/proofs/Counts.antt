@@ -1,9 +1,8 @@
 -- How often the pieces of a state have a frame: as often as a part holds it.
-use Rattle.std.proofs.Common.{◌≡◌, ℕ, zero, suc, ◌+◌, ◌-◌, ◌<◌, ◌≤◌, Bool, true, false, ◌==◌, List, [], ◌∷◌, ◌++◌, map, length, get_or, Option, Some, None, refl, sym, ap, subst, ◌∙◌, arith, cond}
+use Rattle.std.proofs.Common.{◌≡◌, ℕ, ◌+◌, ◌-◌, Bool, true, false, ◌==◌, List, [], ◌∷◌, ◌++◌, Some, None, refl, sym, ap, ◌∙◌, arith}
 use Rattle.std.specs.Prelude.{◌&&◌, sum_by}
 use Rattle.std.proofs.lemmas.Bool.Decides.{nat_tests}
 use Rattle.std.proofs.lemmas.List.Sums.{sum_by-append, sum_by-cons}
-use Rattle.coarse_trees.specs.Coarsest.{IsInTree}
 use Rattle.descriptor.specs.declared.State.{State}
 use Rattle.page_state.specs.declared.entry.PageRange.{PageRange}
 use Rattle.page_state.specs.declared.entry.Run.{Run}
@@ -14,22 +13,22 @@ use Rattle.page_state.specs.Map.{is_within}
 use Rattle.page_state.specs.Regions.{is_in_range}
 use Rattle.page_state.specs.Trees.{Block}
 use Rattle.page_state.proofs.Cases.{by_eq}
-use Rattle.page_state.proofs.Common.{eq-other, eq-self}
+use Rattle.page_state.proofs.Common.{eq-other}
 use Rattle.reference_model.specs.Conditions.{Condition, hyps, guest_condition, one, table_uses}
-use Rattle.reference_model.specs.Owner.{count_blocks, is_frame, is_in_hand}
+use Rattle.reference_model.specs.Owner.{is_frame}
 use Rattle.reference_model.proofs.Frames.{count_blocks-none}
 use Rattle.reference_model.proofs.conditions.Tables.{block-other, block-self, uses-put, uses_of}
 use Rattle.ghost_trees.specs.declared.tree.Table.{Table as TableOf}
 use Rattle.ghost_trees.specs.declared.tree.Tree.{Tree}
 use Rattle.ghost_trees.specs.Trees.{table_of, tree_in_lists}
 use Rattle.ghost_legal.specs.declared.finding.Holder.{Holder}
-use Rattle.ghost_legal.specs.declared.finding.Holder.TheVariants.{SharedPool, VmPool, Table, Hand, Guest}
+use Rattle.ghost_legal.specs.declared.finding.Holder.TheVariants.{Table, Guest}
 use Rattle.ghost_legal.specs.declared.held.Held.{Held}
 use Rattle.ghost_legal.specs.AllHeld.{held_count}
 use Rattle.ghost_legal.specs.Blocks.{HasOwnBlocks}
 use Rattle.ghost_legal.specs.Facts.{held_in, table_use, later}
 use Rattle.ghost_legal.specs.Frames.{holder_on}
-use Rattle.ghost_legal.specs.Listed.{free_held, hand_held, piece, runs_held, mapped_of, option_list, tables_held, target_held}
+use Rattle.ghost_legal.specs.Listed.{free_held, piece, runs_held, mapped_of, option_list, tables_held, target_held}
 
 -- tables
 

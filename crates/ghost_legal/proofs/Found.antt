@@ -1,6 +1,6 @@
 -- What is found where a state isn't legal.
-use Rattle.std.proofs.Common.{◌≡◌, ℕ, zero, suc, ◌+◌, ◌-◌, ◌<◌, ◌≤◌, true, false, List, [], ◌∷◌, ◌++◌, map, take, length, get_or, Option, Some, None, Result, Ok, Err, refl, sym, ap, subst, ◌∙◌, inl, inr, arith}
-use Rattle.std.specs.Prelude.{◌⊎◌, All, Contains, IsPermutation, IfOk, MatchOption, is_some}
+use Rattle.std.proofs.Common.{◌≡◌, ℕ, zero, suc, ◌+◌, ◌-◌, ◌<◌, ◌≤◌, true, List, [], ◌∷◌, ◌++◌, map, take, length, get_or, Option, Some, None, Result, Ok, Err, refl, sym, ap, subst, ◌∙◌, arith}
+use Rattle.std.specs.Prelude.{All, IsPermutation, IfOk, MatchOption}
 use Rattle.std.specs.declared.alloc.AllocError.{AllocError}
 use Rattle.std.specs.List.Sorted.{IsNonDecreasingBy}
 use Rattle.std.proofs.lemmas.Bool.Decides.{nat_tests}
@@ -9,7 +9,6 @@ use Rattle.std.proofs.lemmas.List.Sorted.{IsPermutation-cons, IsPermutation-midd
 use Rattle.descriptor.specs.declared.Kind.TheVariants.{Normal}
 use Rattle.descriptor.specs.declared.Prot.{Prot}
 use Rattle.descriptor.specs.declared.State.{State}
-use Rattle.page_state.specs.declared.entry.Entry.TheVariants.{Unmapped}
 use Rattle.page_state.specs.declared.entry.PageRange.{PageRange}
 use Rattle.page_state.specs.declared.entry.Run.{Run}
 use Rattle.page_state.specs.declared.entry.Target.{Target}
@@ -20,8 +19,8 @@ use Rattle.page_state.specs.Geometries.{pages_below}
 use Rattle.page_state.specs.LayoutView.{layout_of}
 use Rattle.page_state.specs.Layouts.{Layout}
 use Rattle.page_state.specs.Map.{is_within}
-use Rattle.page_state.specs.Regions.{end_of, is_in_range}
-use Rattle.page_state.specs.Runs.{entry_on, map_of, run_end, IsCoarsest}
+use Rattle.page_state.specs.Regions.{end_of}
+use Rattle.page_state.specs.Runs.{entry_on, map_of, IsCoarsest}
 use Rattle.page_state.proofs.Cases.{by_lt}
 use Rattle.page_state.proofs.Entries.{target-mapped}
 use Rattle.coarse_trees.specs.Coarsest.{IsCoarsest as IsCoarsestTree}
@@ -43,7 +42,6 @@ use Rattle.ghost_coarse.proofs.Along.{run-goes}
 use Rattle.ghost_legal.specs.declared.finding.Holder.{Holder}
 use Rattle.ghost_legal.specs.declared.finding.Holder.TheVariants.{VmPool, SharedPool}
 use Rattle.ghost_legal.specs.declared.held.Held.{Held}
-use Rattle.ghost_legal.specs.AllHeld.{IsGuestPage}
 use Rattle.ghost_legal.specs.Frames.{AreTwice}
 use Rattle.ghost_legal.specs.declared.finding.Illegal.{Illegal}
 use Rattle.ghost_legal.specs.Illegals.{FitsParts, FitsTables, IsIllegal, IsIllegalButForTrees, IsPageFault}

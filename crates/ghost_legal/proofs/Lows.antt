@@ -1,28 +1,24 @@
 -- Where runs begin, and what guests' runs and tables come to.
-use Rattle.std.proofs.Common.{◌≡◌, ℕ, zero, suc, ◌+◌, ◌-◌, ◌<◌, ◌≤◌, true, false, List, [], ◌∷◌, map, length, get_or, None, refl, sym, ap, subst, ◌∙◌, inl, inr, arith}
+use Rattle.std.proofs.Common.{◌≡◌, ℕ, zero, suc, ◌+◌, ◌-◌, ◌<◌, ◌≤◌, List, [], ◌∷◌, map, length, get_or, refl, sym, subst, ◌∙◌, inl, inr, arith}
 use Rattle.std.specs.Prelude.{◌⊎◌, ◌↔◌, All}
 use Rattle.std.proofs.lemmas.List.Elements.{All-head, All-tail}
-use Rattle.page_state.specs.declared.entry.Entry.{Entry}
 use Rattle.page_state.specs.declared.entry.Entry.TheVariants.{Unmapped}
 use Rattle.page_state.specs.declared.entry.Run.{Run}
 use Rattle.page_state.specs.declared.entry.Target.{Target}
 use Rattle.page_state.specs.declared.entry.Target.TheVariants.{Malformed, Annotated, Leaf}
-use Rattle.descriptor.specs.declared.Kind.TheVariants.{Normal}
 use Rattle.page_state.specs.Entries.{advance, entry_of_target}
-use Rattle.page_state.specs.EntryTests.{leaf}
 use Rattle.page_state.specs.Geometries.{pages_below}
 use Rattle.page_state.specs.Layouts.{Layout}
 use Rattle.page_state.specs.Regions.{is_in_range}
-use Rattle.page_state.specs.Runs.{map_of, entry_on, run_end, IsCoarsest}
+use Rattle.page_state.specs.Runs.{map_of, IsCoarsest}
 use Rattle.page_state.proofs.Cases.{by_lt, by_test}
 use Rattle.page_state.proofs.Entries.{target-mapped}
-use Rattle.page_state.proofs.Runs.{StartsFrom, low, map_of-first}
+use Rattle.page_state.proofs.Runs.{low, map_of-first}
 use Rattle.reference_model.specs.State.{no_guest}
 use Rattle.ghost_trees.proofs.Overlaid.{within_means}
-use Rattle.ghost_trees.specs.KeptTrees.{IsKeptTree}
 use Rattle.ghost_spec.specs.declared.parts.GhostGuest.{GhostGuest}
 use Rattle.ghost_spec.specs.Kept.{IsKeptGuest}
-use Rattle.ghost_spec.specs.States.{contents_in, guest_in, AreKeptGuests}
+use Rattle.ghost_spec.specs.States.{guest_in, AreKeptGuests}
 use Rattle.ghost_legal.specs.AllHeld.{IsGuestPage}
 use Rattle.coarse_trees.specs.Coarsest.{IsInTree}
 use Rattle.ghost_trees.specs.declared.tree.Table.{Table}

@@ -1,12 +1,12 @@
 -- Past all pages and frames nothing is said, and frames that something has are those of a list.
-use Rattle.std.proofs.Common.{◌≡◌, ℕ, zero, suc, ◌+◌, ◌-◌, ◌^◌, ◌<◌, ◌≤◌, Bool, true, false, List, [], ◌∷◌, Option, Some, None, refl, sym, ap, subst, ◌∙◌, inl, arith}
+use Rattle.std.proofs.Common.{◌≡◌, ℕ, ◌-◌, ◌^◌, ◌≤◌, Bool, true, false, List, [], ◌∷◌, Option, Some, None, refl, ap, inl, arith}
 use Rattle.std.specs.Prelude.{All}
 use Rattle.std.proofs.lemmas.List.Elements.{All-head, All-tail}
 use Rattle.page_state.specs.declared.entry.Entry.TheVariants.{Unmapped}
 use Rattle.page_state.specs.declared.entry.Run.{Run}
 use Rattle.page_state.specs.Layouts.{hyp_page}
-use Rattle.page_state.specs.Regions.{has_memory, is_in_range, end_of}
-use Rattle.page_state.specs.Runs.{map_of, run_end}
+use Rattle.page_state.specs.Regions.{has_memory, is_in_range}
+use Rattle.page_state.specs.Runs.{map_of}
 use Rattle.page_state.proofs.Accepted.{memory_below}
 use Rattle.page_state.proofs.Cases.{by_test}
 use Rattle.page_state.proofs.Common.{not-holds}

@@ -1,27 +1,22 @@
 -- The frames of a state are legal just where each is in its one condition.
-use Rattle.std.proofs.Common.{◌≡◌, ℕ, zero, suc, ◌+◌, ◌<◌, Bool, true, false, ◌==◌, List, Option, Some, None, refl, sym, ap, subst, ◌∙◌, inl, inr, arith, cond}
-use Rattle.std.specs.Prelude.{◌⊎◌, is_some}
+use Rattle.std.proofs.Common.{◌≡◌, ℕ, zero, suc, ◌<◌, Bool, true, false, ◌==◌, List, Option, Some, None, refl, sym, ap, subst, ◌∙◌, inl, inr, arith, cond}
+use Rattle.std.specs.Prelude.{◌⊎◌}
 use Rattle.descriptor.specs.declared.State.{State}
 use Rattle.descriptor.specs.declared.State.TheVariants.{Owned, SharedOwned, SharedBorrowed}
 use Rattle.page_state.specs.declared.row.Row.{Row}
 use Rattle.page_state.specs.declared.row.Lent.{Lent}
-use Rattle.page_state.specs.declared.row.Usage.{Usage}
 use Rattle.page_state.specs.declared.row.Usage.TheVariants.{Plain, SharedPool, VmPool, InHand}
 use Rattle.page_state.specs.declared.entry.Entry.TheVariants.{Unmapped}
 use Rattle.page_state.specs.EntryTests.{leaf, entry_frame}
 use Rattle.page_state.specs.Geometries.{pages_below}
 use Rattle.page_state.specs.Layouts.{is_memory}
 use Rattle.page_state.specs.LayoutView.{layout_of}
-use Rattle.page_state.proofs.Cases.{by_test}
 use Rattle.page_state.proofs.Common.{eq-same, eq-self}
-use Rattle.reference_model.specs.Conditions.{Condition, outside, hosts, with_hyp, hyps, with_guest, guests, lent_back, guest_condition, in_shared, in_vm, in_hand, is_inside, one, row_in, GuestFits, HeldFit, IsGood, IsGuestLeaf, IsMemoryLeaf, MapsFit, IsOfLayout, RowsFit}
-use Rattle.reference_model.specs.Owner.{is_in_hand}
+use Rattle.reference_model.specs.Conditions.{Condition, outside, hosts, with_hyp, hyps, with_guest, guests, lent_back, guest_condition, in_shared, in_vm, in_hand, is_inside, one, row_in, GuestFits, IsGood, IsMemoryLeaf}
 use Rattle.ghost_spec.specs.declared.lists.GhostLists.{GhostLists}
 use Rattle.ghost_spec.specs.States.{contents_in}
-use Rattle.ghost_legal.specs.declared.finding.Facts.{Facts}
 use Rattle.ghost_legal.specs.declared.finding.Holder.{Holder}
 use Rattle.ghost_legal.specs.declared.finding.Holder.TheVariants.{SharedPool as SharedPoolHolder, VmPool as VmPoolHolder, Table, Hand, Guest}
-use Rattle.ghost_legal.specs.declared.finding.TreeBlock.{TreeBlock}
 use Rattle.ghost_legal.specs.declared.held.Held.{Held}
 use Rattle.ghost_legal.specs.AllHeld.{held_count, AreAllHeld, AreFramesLegal, GuestPagesFit, IsGuestPage, IsHypBelow}
 use Rattle.ghost_legal.specs.Facts.{condition_by, held_in, table_use, unheld_in, Fits, IsCondition}

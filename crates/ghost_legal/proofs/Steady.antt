@@ -1,6 +1,6 @@
 -- What lists say of a page by its place, and how it goes on.
-use Rattle.std.proofs.Common.{◌≡◌, ℕ, zero, suc, ◌+◌, ◌-◌, ◌^◌, ◌<◌, ◌≤◌, Bool, true, false, List, [], ◌∷◌, length, take, get_or, Option, Some, None, refl, sym, ap, subst, ◌∙◌, arith, unwrap_or}
-use Rattle.std.specs.Prelude.{All, find}
+use Rattle.std.proofs.Common.{◌≡◌, ℕ, zero, suc, ◌+◌, ◌-◌, ◌^◌, ◌<◌, ◌≤◌, Bool, true, false, List, [], ◌∷◌, length, take, get_or, Option, Some, None, refl, sym, ap, ◌∙◌, arith}
+use Rattle.std.specs.Prelude.{All}
 use Rattle.std.proofs.lemmas.List.Elements.{All-nil, All-cons, All-head, All-tail}
 use Rattle.page_state.specs.declared.entry.Entry.{Entry}
 use Rattle.page_state.specs.declared.entry.Entry.TheVariants.{Unmapped}
@@ -10,14 +10,14 @@ use Rattle.page_state.specs.declared.layout.Region.{Region}
 use Rattle.page_state.specs.declared.row.Row.{Row}
 use Rattle.page_state.specs.declared.row.Lent.{Lent}
 use Rattle.page_state.specs.Entries.{advance, entry_of_target}
-use Rattle.page_state.specs.Regions.{end_of, is_in_range, find_region, region_of, has_memory, is_memory_region, Memory}
+use Rattle.page_state.specs.Regions.{end_of, is_in_range, find_region}
 use Rattle.page_state.specs.Rows.{advance_row, advance_lent, plain_row, HasLentBelow, HasPageBelow}
 use Rattle.page_state.specs.Runs.{map_of, entry_on, run_end, IsCoarsest, PrecedesFirst}
 use Rattle.page_state.proofs.Cases.{by_test}
 use Rattle.page_state.proofs.Entries.{advance-more}
 use Rattle.ghost_trees.proofs.Overlaid.{within_means}
 use Rattle.run_list.specs.declared.run.Run.{Run as RunOf}
-use Rattle.run_list.specs.Runs.{run_map, value_on, AreInReach, IsCoarsest as IsCoarsestList, PrecedesFirst as PrecedesFirstOf}
+use Rattle.run_list.specs.Runs.{value_on, AreInReach, IsCoarsest as IsCoarsestList, PrecedesFirst as PrecedesFirstOf}
 use Rattle.run_list.proofs.Found.{reach_at}
 use Rattle.ghost_spec.specs.Views.{row_in}
 use Rattle.ghost_legal.specs.declared.finding.Facts.{Facts}

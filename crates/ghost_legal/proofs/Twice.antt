@@ -1,6 +1,6 @@
 -- What is held in a legal state is memory, and held once.
-use Rattle.std.proofs.Common.{◌≡◌, ℕ, zero, suc, ◌+◌, ◌-◌, ◌*◌, ◌^◌, ◌<◌, ◌≤◌, Bool, true, false, ◌==◌, List, [], ◌∷◌, ◌++◌, map, length, get_or, Option, Some, None, refl, sym, ap, subst, ◌∙◌, inl, inr, arith}
-use Rattle.std.specs.Prelude.{◌⊎◌, ◌&&◌, All, Contains, IsPermutation, sum_by}
+use Rattle.std.proofs.Common.{◌≡◌, ℕ, zero, suc, ◌+◌, ◌-◌, ◌^◌, ◌<◌, ◌≤◌, Bool, true, false, ◌==◌, List, [], ◌∷◌, ◌++◌, length, get_or, Option, Some, None, refl, sym, ap, subst, ◌∙◌, inl, inr, arith}
+use Rattle.std.specs.Prelude.{◌⊎◌, ◌&&◌, All, IsPermutation}
 use Rattle.std.proofs.lemmas.Bool.Decides.{nat_tests}
 use Rattle.std.proofs.lemmas.List.Elements.{All-append, All-cons, All-contains, All-head, All-nil, All-tail}
 use Rattle.std.proofs.lemmas.List.Sorted.{IsPermutation-refl, sum_by-IsPermutation}
@@ -20,19 +20,18 @@ use Rattle.page_state.specs.declared.entry.PageRange.{PageRange}
 use Rattle.page_state.specs.declared.entry.Run.{Run}
 use Rattle.page_state.specs.declared.entry.Target.{Target}
 use Rattle.page_state.specs.declared.entry.Target.TheVariants.{Malformed, Annotated, Leaf}
-use Rattle.page_state.specs.declared.row.Usage.TheVariants.{SharedPool as SharedPoolUse, VmPool as VmPoolUse, InHand}
+use Rattle.page_state.specs.declared.row.Usage.TheVariants.{SharedPool as SharedPoolUse, InHand}
 use Rattle.page_state.specs.EntryTests.{leaf, entry_frame}
 use Rattle.page_state.specs.LayoutFaults.{IsAccepted}
 use Rattle.page_state.specs.LayoutView.{layout_of}
-use Rattle.page_state.specs.Layouts.{Layout, is_memory}
+use Rattle.page_state.specs.Layouts.{is_memory}
 use Rattle.page_state.specs.Regions.{end_of, is_in_range}
-use Rattle.page_state.specs.Runs.{run_end, IsCoarsest, PrecedesFirst}
+use Rattle.page_state.specs.Runs.{run_end, IsCoarsest}
 use Rattle.page_state.specs.Trees.{Block}
 use Rattle.page_state.proofs.Accepted.{memory_below}
 use Rattle.page_state.proofs.Cases.{by_eq, by_lt, by_test}
-use Rattle.page_state.proofs.Common.{and-both, eq-other, eq-same, eq-self, not-holds}
-use Rattle.reference_model.specs.Conditions.{Condition, hyps, guest_condition, in_shared, in_vm, in_hand, is_inside, one, shared_uses, guest_uses, GuestFits, IsMemoryLeaf}
-use Rattle.reference_model.specs.Owner.{is_in_hand}
+use Rattle.page_state.proofs.Common.{and-both, eq-same, eq-self, not-holds}
+use Rattle.reference_model.specs.Conditions.{Condition, hyps, guest_condition, in_shared, in_vm, in_hand, is_inside, one, GuestFits, IsMemoryLeaf}
 use Rattle.ghost_trees.specs.declared.tree.Table.{Table as TableOf}
 use Rattle.ghost_trees.specs.Small.{AreSmall, HasLowFrames, IsSmall}
 use Rattle.ghost_trees.specs.Trees.{table_of}
@@ -45,14 +44,14 @@ use Rattle.ghost_spec.specs.States.{contents_in, AreKeptCpus, AreKeptGuests, IsK
 use Rattle.ghost_legal.specs.declared.finding.Holder.{Holder}
 use Rattle.ghost_legal.specs.declared.finding.Holder.TheVariants.{SharedPool, VmPool, Table, Hand, Guest}
 use Rattle.ghost_legal.specs.declared.held.Held.{Held}
-use Rattle.ghost_legal.specs.AllHeld.{held_count, AreCounted, AreFramesLegal, IsHeldIn}
+use Rattle.ghost_legal.specs.AllHeld.{held_count, AreCounted, AreFramesLegal}
 use Rattle.ghost_legal.specs.Blocks.{HasFirstBlocks, TreesHaveFirstBlocks, TreesHaveOwnBlocks}
 use Rattle.ghost_legal.specs.Facts.{held_in, later, table_use}
 use Rattle.ghost_legal.specs.Frames.{holder_on, IsSmallHeld, IsSmallHolder}
 use Rattle.ghost_legal.specs.Illegals.{FitsPages, IsFar, IsTwice}
 use Rattle.ghost_legal.specs.Listed.{all_held_in, free_held, guest_held, guests_held, hand_held, hands_held, mapped_of, option_list, runs_held, shared_held, tables_held, target_held}
 use Rattle.ghost_legal.proofs.Lows.{trees-own}
-use Rattle.ghost_legal.proofs.Pointwise.{hand-is, held-inside, is-guest, shared-is, vm-is}
+use Rattle.ghost_legal.proofs.Pointwise.{hand-is, is-guest, shared-is, vm-is}
 use Rattle.ghost_legal.proofs.Whole.{all-counted, all-guests}
 
 -- a piece is small, or one frame of the Shared part

@@ -1,5 +1,5 @@
 -- Whole guests fit.
-use Rattle.std.proofs.Common.{◌≡◌, ℕ, zero, suc, ◌+◌, true, List, [], ◌∷◌, map, length, get_or, Option, Some, None, refl, sym, ap, subst, ◌∙◌, arith}
+use Rattle.std.proofs.Common.{◌≡◌, ℕ, zero, suc, ◌+◌, true, List, [], ◌∷◌, map, length, get_or, Option, Some, None, refl, sym, ap, ◌∙◌, arith}
 use Rattle.std.specs.Prelude.{All, is_some}
 use Rattle.std.proofs.lemmas.List.Elements.{All-head, All-tail}
 use Rattle.page_state.specs.LayoutView.{layout_of}
@@ -16,7 +16,7 @@ use Rattle.ghost_spec.specs.declared.parts.GhostGuest.{GhostGuest}
 use Rattle.ghost_spec.specs.declared.parts.GhostPhase.{GhostPhase}
 use Rattle.ghost_spec.specs.declared.parts.GhostPhase.TheVariants.{Empty, Live, Dying}
 use Rattle.ghost_spec.specs.States.{contents_in, guest_in, phase_in}
-use Rattle.ghost_legal.specs.Pages.{IsBlank, IsWhole, IsWholeIn}
+use Rattle.ghost_legal.specs.Pages.{IsWhole, IsWholeIn}
 
 nil-of : {X : Type 0} (xs : List X) → length xs ≡ 0 → xs ≡ []
 nil-of [] e = refl

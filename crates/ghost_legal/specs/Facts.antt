@@ -1,13 +1,11 @@
 -- What the parts of a state say of a frame, and the condition that it is.
-use Rattle.std.specs.Prelude.{◌≡◌, ℕ, zero, suc, ◌+◌, ◌^◌, ◌<◌, Bool, true, false, ◌==◌, Option, Some, None, if◌then◌else◌}
-use Rattle.descriptor.specs.declared.Prot.TheVariants.{RW}
-use Rattle.descriptor.specs.declared.State.TheVariants.{Owned}
+use Rattle.std.specs.Prelude.{◌≡◌, ℕ, zero, suc, ◌+◌, ◌^◌, ◌<◌, true, ◌==◌, Option, Some, None, if◌then◌else◌}
 use Rattle.page_state.specs.declared.row.Row.{Row}
 use Rattle.page_state.specs.declared.row.Usage.{Usage}
 use Rattle.page_state.specs.declared.row.Usage.TheVariants.{Plain, SharedPool, VmPool, InHand}
 use Rattle.page_state.specs.Entries.{advance}
 use Rattle.page_state.specs.Rows.{advance_row}
-use Rattle.reference_model.specs.Conditions.{Condition, outside, hosts, with_hyp, hyps, with_guest, guests, lent_back, guest_condition, hyp_says, is_inside, row_in, HostFits}
+use Rattle.reference_model.specs.Conditions.{Condition, outside, hosts, with_hyp, hyps, with_guest, guests, lent_back, guest_condition, hyp_says, row_in, HostFits}
 use Rattle.ghost_legal.specs.declared.condition.Condition.{Condition as ConditionOf}
 use Rattle.ghost_legal.specs.declared.condition.Condition.TheVariants.{Outside, Hosts, WithHyp, Hyps, WithGuest, Guests, LentBack}
 use Rattle.ghost_legal.specs.declared.finding.Facts.{Facts}

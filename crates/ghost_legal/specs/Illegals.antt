@@ -46,6 +46,10 @@ pub record FitsTables (g : GhostLists) : Type 0 where
   pub hyp : AreInside (layout_of g.layout).depth g.shared.hyp.tables.items
   pub guests : All (λ x. AreInside (layout_of g.layout).depth x.tree.tables.items) g.guests.items
 
+-- the tables of each guest are at blocks of its tree
+abbrev pub AreGuestTablesInside : GhostLists → Type 0
+AreGuestTablesInside g = All (λ x. AreInside (layout_of g.layout).depth x.tree.tables.items) g.guests.items
+
 -- the runs of guests map leaves of memory, below the input pages
 abbrev pub HaveFittingPages : GhostLists → Type 0
 HaveFittingPages g = HaveGoodRuns g.guests.items × GuestPagesFit (layout_of g.layout) (contents_in g)

@@ -1,8 +1,5 @@
 -- What holds of every state.
-use Rattle.std.specs.Prelude.{◌≡◌, ◌↔◌, ℕ, List, All, IsPermutation}
-use Rattle.ghost_trees.specs.declared.tree.Tree.{Tree}
-use Rattle.ghost_trees.specs.Trees.{tree_in_lists}
-use Rattle.reference_model.specs.Conditions.{in_shared, table_uses}
+use Rattle.std.specs.Prelude.{◌↔◌, ℕ, List, All, IsPermutation}
 use Rattle.page_state.specs.LayoutFaults.{IsAccepted}
 use Rattle.ghost_legal.specs.declared.finding.Illegal.{Illegal}
 use Rattle.ghost_legal.specs.Illegals.{IsIllegal}
@@ -17,7 +14,7 @@ use Rattle.ghost_legal.specs.declared.finding.Holder.TheVariants.{Guest}
 use Rattle.ghost_legal.specs.declared.held.Held.{Held}
 use Rattle.ghost_legal.specs.Pages.{HaveGoodRuns, IsWhole}
 use Rattle.ghost_legal.specs.AllHeld.{AreCounted, IsHeldIn, AreAllHeld, AreFramesLegal, GuestPagesFit, IsHypBelow}
-use Rattle.ghost_legal.specs.Facts.{held_in, IsCondition}
+use Rattle.ghost_legal.specs.Facts.{IsCondition}
 use Rattle.ghost_legal.specs.Frames.{facts_in, held_frames}
 use Rattle.ghost_legal.specs.Ranges.{AreInOrder}
 

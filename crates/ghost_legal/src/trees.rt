@@ -1,11 +1,10 @@
 //! Tables at blocks that are none of a tree, and trees that aren't the coarsest of their maps.
-ghost use Rattle.std.specs.Prelude.{◌≡◌, ◌≤◌, All, IfOk, MatchOption};
+ghost use Rattle.std.specs.Prelude.{◌≡◌, ◌≤◌, IfOk, MatchOption};
 ghost use Rattle.page_state.specs.LayoutView.{layout_of};
 ghost use Rattle.reference_model.specs.Conditions.{AreCoarsest};
 ghost use Rattle.ghost_spec.specs.States.{contents_in, IsKept};
-ghost use Rattle.ghost_coarse.specs.Misfits.{AreInside};
 ghost use Rattle.ghost_legal.specs.AllHeld.{AreFramesLegal};
-ghost use Rattle.ghost_legal.specs.Illegals.{AreGuestsCoarsest, FitsPages, FitsParts, FitsTables, IsIllegal, IsIllegalButForTrees};
+ghost use Rattle.ghost_legal.specs.Illegals.{AreGuestTablesInside, AreGuestsCoarsest, FitsPages, FitsParts, FitsTables, IsIllegal, IsIllegalButForTrees};
 
 use crate::finding::{Illegal, TreeBlock};
 use ghost_coarse::{first_misfit, first_outside};
@@ -24,7 +23,7 @@ pub(crate) fn depth_of(state: &GhostLists) -> u64
 fn first_guest_table(state: &GhostLists) -> Option<Illegal>
     requires kept { IsKept state.now }
     requires parts { FitsParts state.now }
-    ensures { MatchOption result (All (λ x. AreInside (layout_of state.now.layout).depth x.tree.tables.items) state.now.guests.items) (IsIllegalButForTrees state.now) }
+    ensures { MatchOption result (AreGuestTablesInside state.now) (IsIllegalButForTrees state.now) }
 {
     let depth = depth_of(state);
     for slot in 0..64 {

@@ -1,8 +1,7 @@
 -- Slots agree just where each CPU's own state and each slot is right.
-use Rattle.std.proofs.Common.{◌≡◌, ℕ, ◌≤◌, ◌<◌, refl, sym, ap, subst, ◌∙◌}
+use Rattle.std.proofs.Common.{◌≡◌, ℕ, ◌≤◌}
 use Rattle.reference_model.specs.Conditions.{SlotsFit}
 use Rattle.reference_model.specs.State.{Contents, vacant}
-use Rattle.ghost_slots.specs.declared.fault.SlotFault.{SlotFault}
 use Rattle.ghost_slots.specs.declared.fault.SlotFault.TheVariants.{Load, Hand, Ticket, Vcpu, Guest, Tickets}
 use Rattle.ghost_slots.specs.Faults.{CpuFits, SlotFits}
 use Rattle.ghost_slots.specs.Laws.{FaultsAreReal}

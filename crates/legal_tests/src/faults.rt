@@ -1,6 +1,6 @@
 //! What is told of states that no run reaches.
 use crate::changes::{Change, changed, leaf, row};
-use crate::walks::{told, walk};
+use crate::walks::{is_legal_but_for_trees, told, walk};
 use Change::*;
 use descriptor::{Kind, Owner, Prot, State};
 use ghost_spec::state::Ghost;
@@ -35,15 +35,26 @@ boot
 0 host_abort 0x40500
 ";
 
-/// What is told of the state of those lives after a change.
-fn told_of(rt: &impl Abort, alloc: Global, change: Change) -> String {
+/// The state of those lives after a change.
+fn life_with(rt: &impl Abort, alloc: Global, change: Change) -> Ghost {
     let (state, ok) = walk(rt, alloc, LIFE);
     assert!(rt; ok == 19);
     let lists = changed(rt, alloc, state, change);
     let made = Ghost::of(alloc, &lists);
     drop(lists);
-    let state = made.expect(rt, "a state");
+    made.expect(rt, "a state")
+}
+
+/// What is told of it.
+fn told_of(rt: &impl Abort, alloc: Global, change: Change) -> String {
+    let state = life_with(rt, alloc, change);
     told(rt, alloc, &state)
+}
+
+/// Fails where such a state isn't legal, whatever tables its trees need.
+fn expect_legal_but_for_trees(rt: &impl Abort, alloc: Global, change: Change) {
+    let state = life_with(rt, alloc, change);
+    assert!(rt; is_legal_but_for_trees(rt, alloc, &state));
 }
 
 /// Compares what is told of each change, a line each.
@@ -163,5 +174,12 @@ missing table host 1 0x202
 needless table host 1 0x100
 ";
     expect_told(&rt, rt.alloc(), changes.as_slice(), wanted);
+    Ok(())
+}
+
+#[test]
+fn tables_of_another_policy(rt: HostRuntime) -> Result<(), Fail> {
+    expect_legal_but_for_trees(&rt, rt.alloc(), Lacking);
+    expect_legal_but_for_trees(&rt, rt.alloc(), Needless);
     Ok(())
 }

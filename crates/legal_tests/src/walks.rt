@@ -1,5 +1,5 @@
 //! A walk along the lines of a trace.
-use ghost_legal::{have_first_blocks, illegal};
+use ghost_legal::{have_first_blocks, illegal, illegal_but_for_trees};
 use ghost_spec::start::start;
 use ghost_spec::state::{Ghost, has_next_generation, predict_last};
 use page_state::{Geometry, Layout, MemoryMap};
@@ -32,6 +32,15 @@ pub(crate) fn told(rt: &impl Abort, alloc: Global, state: &Ghost) -> String {
         Some(found) => format!(in alloc; "{found}").expect(rt, "memory"),
         None => String::new(alloc),
     }
+}
+
+/// Whether a state is legal, whatever tables its trees need.
+pub(crate) fn is_legal_but_for_trees(rt: &impl Abort, alloc: Global, state: &Ghost) -> bool {
+    let lists = state.lists();
+    assert!(rt; have_first_blocks(lists));
+    illegal_but_for_trees(alloc, lists)
+        .expect(rt, "memory")
+        .is_none()
 }
 
 /// Fails where a state isn't legal.

@@ -1,4 +1,3 @@
-use Rattle.std.proofs.Common.{ap, ◌∙◌}
 use Rattle.std.proofs.lemmas.List.Sorted.{searched}
 use Rattle.ghost_coarse.proofs.Listing.{found-or-not}
 use Rattle.ghost_coarse.proofs.lacking.has.Goals as goal

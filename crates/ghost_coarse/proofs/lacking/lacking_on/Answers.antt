@@ -1,4 +1,4 @@
-use Rattle.std.proofs.Common.{arith, ap, sym, subst, ◌≡◌, ◌∙◌, ℕ, ◌+◌, ◌-◌, ◌*◌, ◌/◌, ◌<◌, min}
+use Rattle.std.proofs.Common.{arith, ap, subst, ◌∙◌, ℕ, ◌+◌, ◌-◌, ◌*◌, ◌/◌, ◌<◌, min}
 use Rattle.std.proofs.Math.Nat.{lt-div-mul-add}
 use Rattle.page_state.specs.Geometries.{block_pages}
 use Rattle.page_state.specs.Runs.{map_of, run_end}

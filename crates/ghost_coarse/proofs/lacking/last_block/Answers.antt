@@ -1,4 +1,4 @@
-use Rattle.std.proofs.Common.{sym, subst, ℕ, ◌+◌, ◌*◌, ◌/◌, ◌^◌, ◌<◌, ◌≤◌}
+use Rattle.std.proofs.Common.{sym, subst, ℕ, ◌*◌, ◌/◌, ◌^◌, ◌<◌, ◌≤◌}
 use Rattle.page_state.specs.Runs.{run_end}
 use Rattle.ghost_coarse.proofs.Along.{last_of}
 use Rattle.ghost_coarse.proofs.lacking.last_block.Goals as goal

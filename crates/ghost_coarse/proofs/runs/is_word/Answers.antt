@@ -1,4 +1,4 @@
-use Rattle.std.proofs.Common.{◌∙◌, ◌+◌, ap, arith}
+use Rattle.std.proofs.Common.{◌∙◌, arith}
 use Rattle.page_state.specs.Runs.{map_of}
 use Rattle.coarse_trees.proofs.OneWord.{one-word-same}
 use Rattle.ghost_coarse.proofs.runs.is_word.Goals as goal

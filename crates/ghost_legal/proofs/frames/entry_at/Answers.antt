@@ -1,5 +1,3 @@
-use Rattle.std.proofs.Common.{◌∙◌, ap, ◌-◌}
-use Rattle.page_state.specs.Entries.{advance}
 use Rattle.ghost_legal.proofs.Steady.{entry-inside, entry-outside}
 use Rattle.ghost_legal.proofs.frames.entry_at.Goals as goal
 

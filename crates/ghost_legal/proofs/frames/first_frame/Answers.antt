@@ -1,7 +1,5 @@
-use Rattle.std.proofs.Common.{arith, ap, sym, subst, ◌∙◌, ◌≡◌, ◌+◌, ◌-◌, ◌^◌, ◌≤◌, ℕ, true, false}
-use Rattle.std.specs.Prelude.{IsTrue}
+use Rattle.std.proofs.Common.{arith, sym, subst, ◌≡◌, ◌+◌, ◌-◌, ◌^◌, ◌≤◌, ℕ}
 use Rattle.page_state.specs.Layouts.{hyp_page}
-use Rattle.page_state.specs.declared.entry.PageRange.{PageRange}
 use Rattle.page_state.proofs.Cases.{by_lt}
 use Rattle.ghost_legal.specs.declared.finding.Facts.{Facts}
 use Rattle.ghost_legal.specs.Facts.{facts_later, IsCondition, IsLowHolder}

@@ -5,7 +5,7 @@ use Rattle.page_state.specs.LayoutView.{layout_of}
 use Rattle.page_state.specs.declared.entry.Run.{Run}
 use Rattle.ghost_spec.specs.declared.parts.GhostGuest.{GhostGuest}
 use Rattle.ghost_legal.specs.Pages.{IsGoodRun}
-use Rattle.ghost_legal.proofs.Found.{below-64, guest-of, page-fault}
+use Rattle.ghost_legal.proofs.Found.{guest-of, page-fault}
 use Rattle.ghost_legal.proofs.Lows.{good-runs, pages-fit}
 use Rattle.ghost_legal.proofs.Steady.{all_taken}
 use Rattle.ghost_legal.proofs.guests.first_guest_page.Goals as goal

@@ -1,5 +1,5 @@
-use Rattle.std.proofs.Common.{ap, sym, subst, arith, ◌∙◌, true}
-use Rattle.std.specs.Prelude.{IsTrue, ◌≤◌}
+use Rattle.std.proofs.Common.{ap, subst, arith, ◌∙◌}
+use Rattle.std.specs.Prelude.{◌≤◌}
 use Rattle.page_state.specs.Regions.{end_of}
 use Rattle.ghost_legal.proofs.InOrder.{one_more}
 use Rattle.ghost_legal.proofs.places.number_from.Goals as goal

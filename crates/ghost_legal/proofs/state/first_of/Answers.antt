@@ -1,7 +1,5 @@
 use Rattle.std.proofs.Common.{refl, subst, sym, ◌<◌}
-use Rattle.std.specs.Prelude.{All}
 use Rattle.std.proofs.lemmas.List.Sorted.{All-permutation, Contains-permutation, IsPermutation-sym, IsPermutation-trans}
-use Rattle.ghost_spec.specs.States.{contents_in}
 use Rattle.ghost_legal.specs.Frames.{IsSmallHeld}
 use Rattle.ghost_legal.specs.Illegals.{IsIllegalButForTrees}
 use Rattle.ghost_legal.specs.Listed.{all_held_in}

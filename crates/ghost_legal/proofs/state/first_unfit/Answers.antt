@@ -1,4 +1,3 @@
-use Rattle.std.proofs.Common.{ℕ, subst}
 use Rattle.page_state.specs.LayoutView.{layout_of}
 use Rattle.ghost_legal.proofs.Lows.{trees-own}
 use Rattle.ghost_legal.proofs.Pointwise.{frames-legal}

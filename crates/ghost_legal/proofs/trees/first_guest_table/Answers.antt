@@ -1,4 +1,4 @@
-use Rattle.std.proofs.Common.{arith, ap, sym, ◌∙◌, subst, length, ◌≤◌, ◌<◌, List, ℕ}
+use Rattle.std.proofs.Common.{arith, ap, sym, ◌∙◌, subst, length, ◌<◌, List, ℕ}
 use Rattle.std.specs.Prelude.{All}
 use Rattle.ghost_trees.specs.declared.tree.Table.{Table}
 use Rattle.ghost_coarse.specs.Misfits.{AreInside}

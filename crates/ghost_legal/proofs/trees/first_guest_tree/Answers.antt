@@ -1,4 +1,4 @@
-use Rattle.std.proofs.Common.{arith, sym, subst, length, ◌≤◌, ◌<◌, List, ℕ}
+use Rattle.std.proofs.Common.{arith, sym, subst, length, ◌<◌, ℕ}
 use Rattle.std.specs.Prelude.{All}
 use Rattle.coarse_trees.specs.Coarsest.{IsCoarsest}
 use Rattle.ghost_trees.specs.Trees.{tree_in_lists}

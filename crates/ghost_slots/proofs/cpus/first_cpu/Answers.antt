@@ -1,4 +1,4 @@
-use Rattle.std.proofs.Common.{◌≡◌, ◌+◌, ◌<◌, subst, arith, ℕ}
+use Rattle.std.proofs.Common.{◌≡◌, subst, arith}
 use Rattle.page_state.proofs.Cases.{by_lt}
 use Rattle.ghost_spec.specs.States.{contents_in}
 use Rattle.ghost_slots.specs.Faults.{CpuFits}

@@ -1,8 +1,6 @@
-use Rattle.std.proofs.Common.{refl, sym, ap, subst, ◌∙◌, ◌≡◌, ◌+◌, ◌<◌, arith, true, false, get_or, List, Option, Some, None, ℕ}
-use Rattle.std.proofs.lemmas.List.{get_or_default}
+use Rattle.std.proofs.Common.{sym, ap, subst, ◌∙◌, ◌≡◌, arith, true, false, get_or, List, Option, None, ℕ}
 use Rattle.page_state.proofs.Cases.{by_lt}
-use Rattle.reference_model.specs.State.{Slot}
-use Rattle.ghost_spec.specs.States.{contents_in, slot_in}
+use Rattle.ghost_spec.specs.States.{contents_in}
 use Rattle.ghost_slots.specs.Faults.{VcpuOn}
 use Rattle.ghost_slots.proofs.Past.{vcpu-at, vcpu-of, vcpu-past}
 use Rattle.ghost_slots.proofs.slots.first_vcpu.Goals as goal

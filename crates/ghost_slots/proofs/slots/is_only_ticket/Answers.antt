@@ -1,6 +1,5 @@
 use Rattle.std.proofs.Common.{refl}
 use Rattle.ghost_spec.specs.States.{contents_in}
-use Rattle.ghost_slots.specs.Tickets.{HasNoTicketFrom, IsFirstTicket}
 use Rattle.ghost_slots.proofs.Past.{one-ticket, two-tickets}
 use Rattle.ghost_slots.proofs.slots.is_only_ticket.Goals as goal
 

@@ -1,5 +1,4 @@
-use Rattle.std.proofs.Common.{refl, sym, ap, subst, ◌∙◌, ◌≡◌, arith, true, false, Some, ℕ}
-use Rattle.std.specs.Prelude.{IsTrue}
+use Rattle.std.proofs.Common.{refl, sym, ap, subst, ◌∙◌, ◌≡◌, arith, true, false}
 use Rattle.reference_model.specs.State.{Slot, opened}
 use Rattle.reference_model.specs.Sound.{HasLoaded}
 use Rattle.ghost_spec.specs.States.{contents_in}

@@ -1,4 +1,4 @@
-use Rattle.std.proofs.Common.{◌≡◌, ◌+◌, ◌≤◌, ◌<◌, ◌∙◌, sym, subst, true, false, arith, ℕ}
+use Rattle.std.proofs.Common.{◌≡◌, ◌∙◌, sym, subst, true, false, arith}
 use Rattle.reference_model.specs.Sound.{HasTicket}
 use Rattle.ghost_spec.specs.States.{contents_in}
 use Rattle.page_state.proofs.Cases.{by_lt}
