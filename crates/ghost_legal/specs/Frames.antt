@@ -53,10 +53,11 @@ pub record IsHeldList (hs : List Held) : Type 0 where
   pub order : AreInOrder held_frames hs
   pub small : All IsSmallHeld hs
 
--- a frame that is in no condition, and what all parts say of it
+-- the first frame that is in no condition, and what all parts say of it
 pub record IsFrameFault (g : GhostLists) (hs : List Held) (w : ℕ × Facts) : Type 0 where
   pub facts : w.1 ≡ facts_in g hs w.0
   pub none : IsCondition w.0 w.1 → ⊥
+  pub before : (f : ℕ) → f < w.0 → IsCondition f (facts_in g hs f)
 
 -- two pieces of a list have the first frame of the second
 pub record AreTwice (hs : List Held) (a b : Held) : Type 0 where

@@ -100,13 +100,14 @@ pub record IsTwice (g : GhostLists) (f : ℕ) (one other : Holder) : Type 0 wher
   pub holder : first.holder ≡ one
   pub holder_too : second.holder ≡ other
 
--- what all parts say of the frame, where each frame is held once at most, is no condition
+-- what all parts say of the frame, where each frame is held once at most, is no condition, and of each frame before it is one
 pub record IsUnfit (g : GhostLists) (f : ℕ) (x : Facts) : Type 0 where
   pub held : List Held
   pub all : IsPermutation (all_held_in g) held
   pub once : IsHeldList held
   pub facts : x ≡ facts_in g held f
   pub none : IsCondition f x → ⊥
+  pub before : (e : ℕ) → e < f → IsCondition e (facts_in g held e)
 
 -- why a state isn't legal, whatever tables its trees need
 abbrev pub IsIllegalButForTrees : GhostLists → Illegal → Type 0
