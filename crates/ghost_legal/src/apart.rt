@@ -38,8 +38,8 @@ fn guests_have_first_blocks(guests: &[GhostGuest]) -> bool
     true
 }
 
-/// Whether no tree has two tables at one block: where lists say so of their tables, they say it of the state. It takes time by
-/// the square of the number of tables of a tree.
+/// Whether no tree has two tables at one block. Of two, the state has the first in the list alone. It takes time by the square
+/// of the number of a tree's tables.
 pub fn have_first_blocks(state: &GhostLists) -> bool
     ensures { IsTrue result ↔ TreesHaveFirstBlocks state.now }
 {
