@@ -1,0 +1,4 @@
+pub mod Behind
+pub mod Listing
+pub mod Placed
+pub mod Along

@@ -1,0 +1,17 @@
+pub mod AllCounts
+pub mod Contradicted
+pub mod Counted
+pub mod Counts
+pub mod FirstBlocks
+pub mod Found
+pub mod GuestPieces
+pub mod InOrder
+pub mod Later
+pub mod Listed
+pub mod Lows
+pub mod Past
+pub mod Pointwise
+pub mod Steady
+pub mod Twice
+pub mod Whole
+pub mod WholeGuests

@@ -1,0 +1,12 @@
+pub mod AllHeld
+pub mod Blocks
+pub mod Facts
+pub mod Frames
+pub mod Illegals
+pub mod Laws
+pub mod Listed
+pub mod Pages
+pub mod Places
+pub mod Ranges
+pub mod Texts
+pub mod TreeNames
