@@ -222,3 +222,7 @@ module _ {F I E : Type 0} (bytes : F → Option (List ℕ)) (opens : List ℕ �
   -- of the program's words, its name first
   abbrev pub HasWordsStatus : List (List ℕ) → ℕ → Type 0
   HasWordsStatus words status = (read : Result Invocation UsageFault) × IsRead words read × HasReadStatus read status
+
+  -- of some words, those with which the system started it
+  abbrev pub HasSomeStatus : ℕ → Type 0
+  HasSomeStatus status = (words : List (List ℕ)) × HasWordsStatus words status

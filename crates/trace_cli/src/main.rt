@@ -20,8 +20,8 @@
 //! what is in no report is written to standard error.
 #![tactic(auto)]
 
-ghost use Rattle.std.specs.Prelude.{ℕ, IfOk, List, map};
-ghost use Rattle.trace_cli.specs.Status.{HasAskedStatus, HasFileStatus, HasGreatestStatus, HasOrderStatus, HasWordsStatus};
+ghost use Rattle.std.specs.Prelude.{IfOk, map};
+ghost use Rattle.trace_cli.specs.Status.{HasAskedStatus, HasFileStatus, HasGreatestStatus, HasOrderStatus, HasSomeStatus, HasWordsStatus};
 ghost use Rattle.trace_command.specs.Asked.{asking_of};
 
 mod dumping;
@@ -56,7 +56,7 @@ fn run<
     I: ImageBytes + Drop,
     O: Opens<F> + OpensImage<I>,
 >(rt: &R, files: &O) -> Result<u8, io::Error>
-    ensures { IfOk result (λ status. (words : List (List ℕ)) × HasWordsStatus F.remaining (O.opens files.now) I.bytes I.may_fail (O.opens_image files.now) words status) }
+    ensures { IfOk result (HasSomeStatus F.remaining (O.opens files.now) I.bytes I.may_fail (O.opens_image files.now)) }
 {
     let words: Vec<String> = env::args(rt)?.collect(rt.alloc())?;
     Ok(done_by_words(rt, files, words.as_slice()))

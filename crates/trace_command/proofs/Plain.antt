@@ -443,19 +443,21 @@ pub takes_of : (words : List Text) (r : Result Invocation UsageFault) → IsRead
 takes_of words r read = record {
   replay = λ name file is other. let plain = plain_of file other in taken words _ r _ is (replay_none name file plain) (replay_asked name file plain) read;
   input = λ name is. taken words _ r _ is (input_none name) (input_asked name) read;
-  heap = λ name file bytes size is other other_bytes says.
-      let plain = plain_of file other in
-      let plain_bytes = plain_of bytes other_bytes in
-      taken words _ r _ is (heap_none name file bytes plain plain_bytes)
-      (heap_asked name file bytes plain plain_bytes ∙ ap (λ o. option_map (λ heap. Replaying file heap Each false) (option_map (λ size. Some size) o)) says) read;
-  no_size = λ name file bytes is other other_bytes says.
-      let plain = plain_of file other in
-      let plain_bytes = plain_of bytes other_bytes in
-      unasked words r (ap asked_by is ∙ heap_asked name file bytes plain plain_bytes ∙ ap (λ o. option_map (λ heap. Replaying file heap Each false) (option_map (λ size. Some size) o)) says) read;
+  heaps = record {
+    heap = λ name file bytes size is other other_bytes says.
+        let plain = plain_of file other in
+        let plain_bytes = plain_of bytes other_bytes in
+        taken words _ r _ is (heap_none name file bytes plain plain_bytes)
+        (heap_asked name file bytes plain plain_bytes ∙ ap (λ o. option_map (λ heap. Replaying file heap Each false) (option_map (λ size. Some size) o)) says) read;
+    no_size = λ name file bytes is other other_bytes says.
+        let plain = plain_of file other in
+        let plain_bytes = plain_of bytes other_bytes in
+        unasked words r (ap asked_by is ∙ heap_asked name file bytes plain plain_bytes ∙ ap (λ o. option_map (λ heap. Replaying file heap Each false) (option_map (λ size. Some size) o)) says) read;
+    no_heap = λ name subcommand file bytes which is other. heapless words r name subcommand file bytes which is (plain_of file other) read;
+  };
   race = λ name file is other. let plain = plain_of file other in taken words _ r _ is (race_none name file plain) (race_asked name file plain) read;
   outcomes = λ name file is other. let plain = plain_of file other in taken words _ r _ is (outcomes_none name file plain) (outcomes_asked name file plain) read;
   audit = λ name file is other. let plain = plain_of file other in taken words _ r _ is (audit_none name file plain) (audit_asked name file plain) read;
-  no_heap = λ name subcommand file bytes which is other. heapless words r name subcommand file bytes which is (plain_of file other) read;
   check = λ name file is other. let plain = plain_of file other in taken words _ r _ is (check_none name file plain) (check_asked name file plain) read;
   explain = λ name file is other. let plain = plain_of file other in taken words _ r _ is (explain_none name file plain) (explain_asked name file plain) read;
   generate = λ name seed steps n count is other other_steps is_seed is_steps.

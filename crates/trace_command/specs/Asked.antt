@@ -232,17 +232,21 @@ IsPlain word = slice_get word 0 ≢ Some 45
 abbrev pub of_core : Text → Text → Text → DumpAsked
 of_core image host hyp = record { image = image; host = host; hyp = hyp; guests = []; profiles = []; skips = []; base = None; quiet = false }
 
+-- the heap that `replay` takes, with its size, and that a race and an audit take none
+pub record TakesHeaps (words : List Text) (r : Result Invocation UsageFault) : Type 0 where
+  pub heap : (name file bytes : Text) (size : ℕ) → words ≡ name ∷ codes "replay" ∷ file ∷ codes "--heap" ∷ bytes ∷ [] → IsPlain file → IsPlain bytes → heap_size bytes ≡ Some size
+      → Gives (Replaying file (Some size) Each false) r
+  pub no_size : (name file bytes : Text) → words ≡ name ∷ codes "replay" ∷ file ∷ codes "--heap" ∷ bytes ∷ [] → IsPlain file → IsPlain bytes → heap_size bytes ≡ None → IsRefused r
+  pub no_heap : (name subcommand file bytes : Text) → (subcommand ≡ codes "race") ⊎ (subcommand ≡ codes "audit") → words ≡ name ∷ subcommand ∷ file ∷ codes "--heap" ∷ bytes ∷ [] → IsPlain file → IsRefused r
+
 -- the words that are taken, the program's name first, and what they ask for
 pub record Takes (words : List Text) (r : Result Invocation UsageFault) : Type 0 where
   pub replay : (name file : Text) → words ≡ name ∷ codes "replay" ∷ file ∷ [] → IsPlain file → Gives (Replaying file None Each false) r
   pub input : (name : Text) → words ≡ name ∷ codes "replay" ∷ codes "-" ∷ [] → Gives (Replaying (codes "-") None Each false) r
-  pub heap : (name file bytes : Text) (size : ℕ) → words ≡ name ∷ codes "replay" ∷ file ∷ codes "--heap" ∷ bytes ∷ [] → IsPlain file → IsPlain bytes → heap_size bytes ≡ Some size
-      → Gives (Replaying file (Some size) Each false) r
-  pub no_size : (name file bytes : Text) → words ≡ name ∷ codes "replay" ∷ file ∷ codes "--heap" ∷ bytes ∷ [] → IsPlain file → IsPlain bytes → heap_size bytes ≡ None → IsRefused r
+  pub heaps : TakesHeaps words r
   pub race : (name file : Text) → words ≡ name ∷ codes "race" ∷ file ∷ [] → IsPlain file → Gives (Racing file false) r
   pub outcomes : (name file : Text) → words ≡ name ∷ codes "outcomes" ∷ file ∷ [] → IsPlain file → Gives (Finding file 100000 None false) r
   pub audit : (name file : Text) → words ≡ name ∷ codes "audit" ∷ file ∷ [] → IsPlain file → Gives (Auditing file false) r
-  pub no_heap : (name subcommand file bytes : Text) → (subcommand ≡ codes "race") ⊎ (subcommand ≡ codes "audit") → words ≡ name ∷ subcommand ∷ file ∷ codes "--heap" ∷ bytes ∷ [] → IsPlain file → IsRefused r
   pub check : (name file : Text) → words ≡ name ∷ codes "check" ∷ file ∷ [] → IsPlain file → Gives (Checking (file ∷ []) Each false) r
   pub explain : (name file : Text) → words ≡ name ∷ codes "explain" ∷ file ∷ [] → IsPlain file → Gives (Explaining file None) r
   pub generate : (name seed steps : Text) (n count : ℕ) → words ≡ name ∷ codes "generate" ∷ seed ∷ steps ∷ [] → IsPlain seed → IsPlain steps → number_of seed ≡ Some n → number_of steps ≡ Some count
