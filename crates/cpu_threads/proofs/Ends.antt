@@ -3,11 +3,11 @@ use Rattle.std.proofs.Common.{◌≡◌, true, false, true≢false, ◌⊎◌, �
 use Rattle.std.specs.Prelude.{Option, Some, None, slice_get, slice_set, slice_index_or, is_none, is_some}
 use mathlib.Core.Logic.{dite}
 use native.Mathlib.Decide.{ℕ_discrete}
-use Rattle.step_reply.specs.declared.reply.Call.{Call}
+use Rattle.call_table.specs.declared.reply.Call.{Call}
 use Rattle.part_table.specs.Passes.{AreHomeFrom, IsPassOf, Opened, Pass}
 use Rattle.part_table.proofs.Lists.{from, get_front, get_last, get_set_else}
 use Rattle.page_state.specs.declared.layout.Layout.{Layout as TheLayout}
-use Rattle.guest_steps.specs.declared.parts.CpuState.{CpuState}
+use Rattle.part_types.specs.declared.parts.CpuState.{CpuState}
 use Rattle.part_table.specs.declared.slot.Slot.{Slot}
 use Rattle.part_table.specs.Endings.{ForEach, IsEndFor, KeepsOwn, KeepsSeen, KeepsTried}
 use Rattle.cpu_threads.specs.Ends.{AreFreshAt, AreOf, HasAll, IsBack, IsOut, OfGiven}

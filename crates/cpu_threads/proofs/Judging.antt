@@ -3,9 +3,9 @@ use Rattle.std.proofs.Common.{◌≡◌, ◌≢◌, ℕ, zero, suc, ◌+◌, ◌
 use Rattle.std.specs.Prelude.{IfOk, IfSome, Result, Ok, Err}
 use Rattle.page_state.proofs.Cases.{by_test}
 use Rattle.page_state.proofs.Common.{eq-same, eq-self}
-use Rattle.step_reply.specs.declared.reply.Call.{Call}
-use Rattle.step_reply.specs.declared.reply.Reply.{Reply}
-use Rattle.step_reply.specs.declared.step.Step.{Step}
+use Rattle.call_table.specs.declared.reply.Call.{Call}
+use Rattle.call_table.specs.declared.reply.Reply.{Reply}
+use Rattle.call_table.specs.declared.step.Step.{Step}
 use Rattle.page_state.specs.declared.layout.Layout.{Layout as TheLayout}
 use Rattle.page_state.specs.LayoutView.{layout_of}
 use Rattle.page_state.specs.Layouts.{Layout}
@@ -13,12 +13,12 @@ use Rattle.reference_model.specs.Laws.{AgreeBeside}
 use Rattle.reference_model.specs.State.{Contents, Cpu, Guest, Reference, no_cpu, no_guest, no_shared, no_vms}
 use Rattle.reference_model.specs.Step.{foretell}
 use Rattle.reference_model.proofs.Steps.{first-same, step_changes}
-use Rattle.guest_steps.specs.declared.parts.VmPart.{VmPart}
-use Rattle.guest_steps.specs.declared.parts.SharedPart.{SharedPart}
-use Rattle.guest_steps.specs.declared.parts.GuestPart.{GuestPart}
-use Rattle.guest_steps.specs.declared.parts.CpuState.{CpuState}
-use Rattle.guest_steps.specs.Logs.{IsOfSize}
-use Rattle.guest_steps.specs.View.{cpu_of, guest_held, shared_of, vm_slots}
+use Rattle.part_types.specs.declared.parts.VmPart.{VmPart}
+use Rattle.part_types.specs.declared.parts.SharedPart.{SharedPart}
+use Rattle.part_types.specs.declared.parts.GuestPart.{GuestPart}
+use Rattle.part_types.specs.declared.parts.CpuState.{CpuState}
+use Rattle.part_types.specs.Logs.{IsOfSize}
+use Rattle.part_types.specs.View.{cpu_of, guest_held, shared_of, vm_slots}
 use Rattle.hypercalls.specs.Stands.{at_place}
 use Rattle.part_table.proofs.Left.{own_left, part_left}
 use Rattle.part_table.specs.declared.slot.Slot.{Slot}

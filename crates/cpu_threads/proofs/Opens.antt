@@ -1,15 +1,15 @@
 -- The call that opens a VM answers its VmId.
 use Rattle.std.proofs.Common.{◌≡◌, ◌⊎◌, ℕ, List, [], ◌∷◌, ◌++◌, refl, sym, ap, ◌∙◌, subst, ⊎_elim}
 use Rattle.std.specs.Prelude.{Option, true}
-use Rattle.step_reply.specs.declared.reply.Call.{Call}
-use Rattle.step_reply.specs.declared.reply.Refusal.TheVariants.{LogFull, NoMemory}
-use Rattle.step_reply.specs.declared.reply.Reply.{Reply}
-use Rattle.step_reply.specs.declared.reply.Reply.TheVariants.{Done, Refused}
-use Rattle.step_reply.specs.declared.reply.Value.{Value}
-use Rattle.step_reply.specs.declared.reply.Value.TheVariants.{Vm}
-use Rattle.step_reply.specs.declared.step.Step.{Step}
-use Rattle.step_reply.specs.declared.step.Step.TheVariants.{VmOpen}
-use Rattle.step_reply.specs.declared.step.VmId.{VmId}
+use Rattle.call_table.specs.declared.reply.Call.{Call}
+use Rattle.call_table.specs.declared.reply.Refusal.TheVariants.{LogFull, NoMemory}
+use Rattle.call_table.specs.declared.reply.Reply.{Reply}
+use Rattle.call_table.specs.declared.reply.Reply.TheVariants.{Done, Refused}
+use Rattle.call_table.specs.declared.reply.Value.{Value}
+use Rattle.call_table.specs.declared.reply.Value.TheVariants.{Vm}
+use Rattle.call_table.specs.declared.step.Step.{Step}
+use Rattle.call_table.specs.declared.step.Step.TheVariants.{VmOpen}
+use Rattle.call_table.specs.declared.step.VmId.{VmId}
 use Rattle.page_state.specs.LayoutView.{layout_of}
 use Rattle.page_state.specs.Layouts.{Layout}
 use Rattle.reference_model.specs.Boot.{boot}

@@ -2,7 +2,7 @@
 use Rattle.std.proofs.Common.{◌≡◌, ◌≢◌, ℕ, List, [], ◌∷◌, ◌++◌, refl, sym, ap, ◌∙◌, subst, ⊎_elim, inl, inr}
 use Rattle.std.specs.Prelude.{Option}
 use Rattle.std.proofs.lemmas.List.Elements.{All-cons, All-nil}
-use Rattle.guest_steps.specs.Logs.{StoredCalls}
+use Rattle.part_types.specs.Logs.{StoredCalls}
 use Rattle.part_table.specs.Answered.{MeetsAnother, used_by}
 use Rattle.part_table.specs.Known.{Known}
 use Rattle.part_table.specs.Tried.{EndsIn, FoundAway, FoundFull, FoundRoom, Try}

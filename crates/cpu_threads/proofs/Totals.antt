@@ -1,7 +1,7 @@
 -- Totals over lists of passes.
 use Rattle.std.proofs.Common.{◌≡◌, ℕ, zero, suc, ◌+◌, List, [], ◌∷◌, ◌++◌, Bool, ap, arith}
 use Rattle.std.specs.Prelude.{Option, Some, None, slice_get, slice_set}
-use Rattle.step_reply.specs.declared.reply.Call.{Call}
+use Rattle.call_table.specs.declared.reply.Call.{Call}
 use Rattle.part_table.specs.Passes.{Pass}
 use Rattle.part_table.proofs.Lists.{from}
 use Rattle.cpu_threads.specs.Rooms.{of_pass, total, total_given}

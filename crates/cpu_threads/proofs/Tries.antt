@@ -6,9 +6,9 @@ use Rattle.std.proofs.lemmas.List.Elements.{All-nil, All-push}
 use Rattle.std.proofs.lemmas.List.Concat.{flat_map-append}
 use mathlib.Core.Logic.{dite}
 use native.Mathlib.Decide.{ℕ_discrete}
-use Rattle.step_reply.specs.declared.step.Step.{Step}
-use Rattle.guest_steps.specs.declared.parts.CpuState.{CpuState}
-use Rattle.guest_steps.specs.View.{cpu_of}
+use Rattle.call_table.specs.declared.step.Step.{Step}
+use Rattle.part_types.specs.declared.parts.CpuState.{CpuState}
+use Rattle.part_types.specs.View.{cpu_of}
 use Rattle.hypercalls.specs.Uses.{uses_of}
 use Rattle.part_table.specs.Answered.{FindsAway, used_by}
 use Rattle.part_table.specs.Parts.{in_order}

@@ -1,15 +1,15 @@
 -- Making a VM by four calls.
 use Rattle.std.specs.Prelude.{◌≡◌, ◌≢◌, ℕ, Result, Ok, Err, MatchResult}
-use Rattle.step_reply.specs.declared.reply.Refusal.{Refusal}
-use Rattle.step_reply.specs.declared.reply.Refusal.TheVariants.{Contended, LogFull}
-use Rattle.step_reply.specs.declared.reply.Reply.{Reply}
-use Rattle.step_reply.specs.declared.reply.Reply.TheVariants.{Done, Refused}
-use Rattle.step_reply.specs.declared.reply.Value.{Value}
-use Rattle.step_reply.specs.declared.reply.Value.TheVariants.{Vm}
-use Rattle.step_reply.specs.declared.step.Step.{Step}
-use Rattle.step_reply.specs.declared.step.Step.TheVariants.{VmReserve, Fund, Install, VmOpen}
-use Rattle.step_reply.specs.declared.step.VmId.{VmId}
-use Rattle.step_reply.specs.declared.step.VmKind.{VmKind}
+use Rattle.call_table.specs.declared.reply.Refusal.{Refusal}
+use Rattle.call_table.specs.declared.reply.Refusal.TheVariants.{Contended, LogFull}
+use Rattle.call_table.specs.declared.reply.Reply.{Reply}
+use Rattle.call_table.specs.declared.reply.Reply.TheVariants.{Done, Refused}
+use Rattle.call_table.specs.declared.reply.Value.{Value}
+use Rattle.call_table.specs.declared.reply.Value.TheVariants.{Vm}
+use Rattle.call_table.specs.declared.step.Step.{Step}
+use Rattle.call_table.specs.declared.step.Step.TheVariants.{VmReserve, Fund, Install, VmOpen}
+use Rattle.call_table.specs.declared.step.VmId.{VmId}
+use Rattle.call_table.specs.declared.step.VmKind.{VmKind}
 use Rattle.reference_model.specs.History.{IsStored}
 use Rattle.part_table.specs.Known.{Known}
 use Rattle.cpu_threads.specs.Machines.{FullInTheEnd, StoresInTheEnd}

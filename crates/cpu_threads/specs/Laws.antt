@@ -1,20 +1,20 @@
 -- What follows from a machine's calls and its end: the laws of this crate.
 use Rattle.std.specs.Prelude.{◌≡◌, ◌≢◌, ◌⊎◌, ℕ, ◌<◌, true, length, map, All, IfSome, List, [], ◌∷◌, ◌++◌, Option, Ok, Err}
 use Rattle.page_state.specs.declared.layout.Layout.{Layout as TheLayout}
-use Rattle.step_reply.specs.declared.reply.Call.{Call}
-use Rattle.step_reply.specs.declared.reply.Refusal.{Refusal}
-use Rattle.step_reply.specs.declared.reply.Refusal.TheVariants.{NoMemory}
-use Rattle.step_reply.specs.declared.reply.Reply.{Reply}
-use Rattle.step_reply.specs.declared.reply.Reply.TheVariants.{Done, Refused}
-use Rattle.step_reply.specs.declared.reply.Value.{Value}
-use Rattle.step_reply.specs.declared.reply.Value.TheVariants.{Vm}
-use Rattle.step_reply.specs.declared.step.Step.{Step}
-use Rattle.step_reply.specs.declared.step.Step.TheVariants.{VmReserve, Fund, Install, VmOpen}
-use Rattle.step_reply.specs.declared.step.VmId.{VmId}
-use Rattle.step_reply.specs.declared.step.VmKind.{VmKind}
+use Rattle.call_table.specs.declared.reply.Call.{Call}
+use Rattle.call_table.specs.declared.reply.Refusal.{Refusal}
+use Rattle.call_table.specs.declared.reply.Refusal.TheVariants.{NoMemory}
+use Rattle.call_table.specs.declared.reply.Reply.{Reply}
+use Rattle.call_table.specs.declared.reply.Reply.TheVariants.{Done, Refused}
+use Rattle.call_table.specs.declared.reply.Value.{Value}
+use Rattle.call_table.specs.declared.reply.Value.TheVariants.{Vm}
+use Rattle.call_table.specs.declared.step.Step.{Step}
+use Rattle.call_table.specs.declared.step.Step.TheVariants.{VmReserve, Fund, Install, VmOpen}
+use Rattle.call_table.specs.declared.step.VmId.{VmId}
+use Rattle.call_table.specs.declared.step.VmKind.{VmKind}
 use Rattle.reference_model.specs.History.{IsStored, calls_by, calls_on}
-use Rattle.guest_steps.specs.declared.parts.CpuState.{CpuState}
-use Rattle.guest_steps.specs.Logs.{StoredCalls}
+use Rattle.part_types.specs.declared.parts.CpuState.{CpuState}
+use Rattle.part_types.specs.Logs.{StoredCalls}
 use Rattle.ghost_spec.specs.States.{contents_in}
 use Rattle.ghost_judge.specs.Judgements.{IsAsTold, told_of}
 use Rattle.part_table.specs.declared.slot.Slot.{Slot}

@@ -1,7 +1,7 @@
 -- Room for the logs of a machine, counted from its passes' lists, and the logs that come of it.
 use Rattle.std.specs.Prelude.{◌≡◌, ℕ, ◌+◌, ◌<◌, ◌≤◌, ◌==◌, Bool, cond, List, [], ◌∷◌, filter, get_or, length, Option, Some, None, slice_get, Vec}
 use Rattle.std.specs.Vec.{vec_capacity}
-use Rattle.step_reply.specs.declared.reply.Call.{Call}
+use Rattle.call_table.specs.declared.reply.Call.{Call}
 use Rattle.reference_model.specs.Parts.{is_slot, vm_part, shared_part, guest_part}
 use Rattle.reference_model.specs.Rules.{call_uses}
 use Rattle.reference_model.specs.History.{Kept}

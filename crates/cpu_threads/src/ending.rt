@@ -4,7 +4,7 @@ ghost use Rattle.std.specs.Vec.{vec_len};
 ghost use Rattle.part_table.specs.Endings.{ForEach};
 ghost use Rattle.part_table.specs.Passes.{AreHomeFrom};
 ghost use Rattle.cpu_threads.specs.Ends.{AreOf, HasAll, IsBack, IsGiven, IsNotGiven, LacksOne, OfGiven};
-ghost use Rattle.step_reply.specs.declared.reply.Call.{Call};
+ghost use Rattle.call_table.specs.declared.reply.Call.{Call};
 ghost use Rattle.cpu_threads.specs.Machines.{AreTheirs};
 ghost use Rattle.cpu_threads.specs.Rooms.{total, total_given};
 

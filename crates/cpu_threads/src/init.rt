@@ -1,15 +1,15 @@
 //! Making a VM by four calls.
 ghost use Rattle.std.specs.Prelude.{◌≡◌, []};
-ghost use Rattle.step_reply.specs.declared.reply.Value.TheVariants.{Vm};
-ghost use Rattle.step_reply.specs.declared.step.VmId.{VmId as VmIdOf};
+ghost use Rattle.call_table.specs.declared.reply.Value.TheVariants.{Vm};
+ghost use Rattle.call_table.specs.declared.step.VmId.{VmId as VmIdOf};
 ghost use Rattle.part_table.specs.Passes.{IsPassOf};
 ghost use Rattle.cpu_threads.specs.Inits.{ComesTo, InitsVm};
 
 use crate::machine::Machine;
+use call_table::{Refusal, Reply, Step, Value, VmId, VmKind};
 use part_table::CpuPass;
 use std::alloc::Allocator;
 use std::sync::Wait;
-use step_reply::{Refusal, Reply, Step, Value, VmId, VmKind};
 
 /// The four calls that make a VM, in their order.
 #[derive(Clone, Copy, PartialEq)]

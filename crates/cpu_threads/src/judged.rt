@@ -9,13 +9,13 @@ ghost use Rattle.part_table.specs.Parts.{parts};
 ghost use Rattle.part_table.specs.Trying.{CanMake};
 ghost use Rattle.cpu_threads.specs.Judged.{AsksOnce, CanRecord, IsRecordOf, both_in, lent_guest, lent_shared, lent_vms, shown, untold};
 
+use call_table::{Call, Reply, Step};
 use ghost_oracle::record::record;
 use ghost_spec::state::Ghost;
-use guest_steps::{CpuState, GuestPart, SharedPart, VmPart};
 use page_state::Layout;
 use part_table::{Gate, Maker, Slot, TryGate};
+use part_types::{CpuState, GuestPart, SharedPart, VmPart};
 use std::alloc::{AllocError, Allocator, Global};
-use step_reply::{Call, Reply, Step};
 use table_tree::Reads;
 
 /// What is asked of each call that is stored.

@@ -1,7 +1,7 @@
 //! The machine: all parts of a world under one table, and the passes of its CPUs.
 ghost use Rattle.std.specs.Prelude.{◌≡◌, ◌≢◌, ◌+◌, ◌<◌, ◌↔◌, [], IsTrue, IfSome, length};
-ghost use Rattle.step_reply.specs.declared.reply.Refusal.TheVariants.{Contended, LogFull};
-ghost use Rattle.step_reply.specs.declared.reply.Reply.TheVariants.{Refused};
+ghost use Rattle.call_table.specs.declared.reply.Refusal.TheVariants.{Contended, LogFull};
+ghost use Rattle.call_table.specs.declared.reply.Reply.TheVariants.{Refused};
 ghost use Rattle.reference_model.specs.History.{IsStored};
 ghost use Rattle.part_table.specs.Answered.{Answers};
 ghost use Rattle.part_table.specs.Passes.{IsPassOf};
@@ -9,12 +9,12 @@ ghost use Rattle.cpu_threads.specs.Judged.{IsJudged};
 ghost use Rattle.cpu_threads.specs.Machines.{FullInTheEnd, HandsOut, StoresInTheEnd};
 
 use crate::judged::{Judge, Recorder};
+use call_table::{Refusal, Reply, Step};
 use ghost_judge::laws;
 use part_table::{CpuPass, Gate, Open, PartTable};
 use std::alloc::{Allocator, Global};
 use std::marker::Model;
 use std::sync::Wait;
-use step_reply::{Refusal, Reply, Step};
 
 /// A booted machine. It may be shared by threads, each with the pass of a CPU. `A` is where the tables of all trees lie.
 #[derive(Drop)]

@@ -5,11 +5,11 @@ ghost use Rattle.hypercalls.specs.Stands.{at_place, kept_of, parts_layout};
 ghost use Rattle.world.specs.Merges.{AreLogsOf};
 ghost use Rattle.cpu_threads.specs.Rooms.{AllHold, AllRoomy, CanHold, Grew, HasOneMore, HaveAll, HaveRoom, IsZero, of_pass, one_if, total, total_given};
 
-use guest_steps::{CpuState, GuestPart};
+use call_table::Call;
 use hypercalls::{Parts, uses_shared, uses_vms};
 use part_table::CpuPass;
+use part_types::{CpuState, GuestPart};
 use std::alloc::{AllocError, Allocator, Global};
-use step_reply::Call;
 use world::Histories;
 
 /// A number of calls for each log.

@@ -11,9 +11,9 @@ ghost use Rattle.cpu_threads.specs.declared.shutdown.ShutdownFault.TheVariants.{
 use crate::ending::{all_back, lacks};
 use crate::machine::Machine;
 use crate::rooms::{copied, log_rooms};
-use guest_steps::{CpuState, GuestPart};
 use part_table::whole::together;
 use part_table::{CpuPass, PartTable, Slot};
+use part_types::{CpuState, GuestPart};
 use std::alloc::{AllocError, Allocator, Global};
 use thiserror::Error;
 use world::{Histories, World};

@@ -4,10 +4,10 @@ use Rattle.std.proofs.lemmas.Bool.{false≢true}
 use Rattle.std.proofs.lemmas.Bool.Decides.{nat_tests}
 use Rattle.page_state.specs.declared.entry.PageRange.{PageRange}
 use Rattle.page_state.specs.declared.layout.Layout.{Layout as TheLayout}
-use Rattle.step_reply.specs.declared.reply.Refusal.TheVariants.{Perm}
-use Rattle.step_reply.specs.declared.step.Step.TheVariants.{FinishGuest, Install, ReclaimPool, Topup}
-use Rattle.step_reply.specs.declared.step.VmId.{VmId}
-use Rattle.step_reply.specs.declared.step.VmKind.{VmKind}
+use Rattle.call_table.specs.declared.reply.Refusal.TheVariants.{Perm}
+use Rattle.call_table.specs.declared.step.Step.TheVariants.{FinishGuest, Install, ReclaimPool, Topup}
+use Rattle.call_table.specs.declared.step.VmId.{VmId}
+use Rattle.call_table.specs.declared.step.VmKind.{VmKind}
 use Rattle.page_state.specs.EntryTests.{is_unmapped}
 use Rattle.page_state.specs.Geometries.{pages_below}
 use Rattle.page_state.specs.Layouts.{Layout}

@@ -2,7 +2,7 @@
 use Rattle.std.proofs.Common.{◌≡◌, ℕ, ◌<◌, ◌^◌, Option, None, Some, refl, subst, arith}
 use Rattle.page_state.specs.declared.entry.PageRange.{PageRange}
 use Rattle.page_state.specs.declared.layout.Layout.{Layout as TheLayout}
-use Rattle.step_reply.specs.declared.step.Step.TheVariants.{Unfund}
+use Rattle.call_table.specs.declared.step.Step.TheVariants.{Unfund}
 use Rattle.page_state.specs.LayoutView.{layout_of}
 use Rattle.page_state.proofs.Geometries.{pages_most}
 use Rattle.reference_model.specs.Rely.{CanRely}

@@ -1,7 +1,7 @@
 -- Tests that hold on a range, page by page.
 use Rattle.std.proofs.Common.{◌≡◌, ℕ, ◌<◌, ◌≤◌, ◌+◌, ◌-◌, ◌&&◌, ◌∙◌, nat_le, nat_lt, Bool, true, false, List, Option, Some, None, IsSome, is_some, sym, arith, rules}
 use Rattle.std.proofs.lemmas.Bool.Decides.{nat_tests}
-use Rattle.guest_steps.specs.MemoryRows.{HasMemoryRows}
+use Rattle.part_types.specs.MemoryRows.{HasMemoryRows}
 use Rattle.owner_table.specs.Rows.{row_at}
 use Rattle.page_state.specs.declared.row.Row.{Row}
 use Rattle.page_state.specs.Layouts.{Layout, is_memory, is_good_range}

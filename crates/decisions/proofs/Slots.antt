@@ -2,7 +2,7 @@
 use Rattle.std.proofs.Common.{◌≡◌, ℕ, true, false, None, nat_lt, nat_le, arith}
 use Rattle.std.proofs.lemmas.Bool.Decides.{nat_tests}
 use Rattle.page_state.proofs.Cases.{by_test}
-use Rattle.step_reply.specs.declared.step.VmId.{VmId}
+use Rattle.call_table.specs.declared.step.VmId.{VmId}
 use Rattle.reference_model.specs.Parts.{slot_of}
 
 -- a number that isn't below the slots is past them

@@ -2,9 +2,9 @@
 use Rattle.std.specs.Prelude.{◌≡◌, ℕ, true, false, Bool, not, ◌||◌, nat_lt, length, Option, Some, Result, MatchOption, if◌then◌else◌}
 use Rattle.guest_component.specs.declared.Guest.{Guest}
 use Rattle.guest_component.specs.View.{guest_of}
-use Rattle.guest_steps.specs.declared.parts.CpuState.{CpuState}
-use Rattle.guest_steps.specs.declared.parts.SharedPart.{SharedPart}
-use Rattle.guest_steps.specs.View.{cpu_of, shared_of}
+use Rattle.part_types.specs.declared.parts.CpuState.{CpuState}
+use Rattle.part_types.specs.declared.parts.SharedPart.{SharedPart}
+use Rattle.part_types.specs.View.{cpu_of, shared_of}
 use Rattle.page_state.specs.EntryTests.{is_unmapped}
 use Rattle.page_state.specs.Geometries.{pages_below}
 use Rattle.page_state.specs.Layouts.{Layout}
@@ -14,9 +14,9 @@ use Rattle.reference_model.specs.declared.changes.Ticket.{Ticket}
 use Rattle.reference_model.specs.Decides.{decides}
 use Rattle.reference_model.specs.State.{Cpu, Guest as ReferenceGuest, Shared}
 use Rattle.reference_model.specs.Used.{Used, guest_alone, with_guest}
-use Rattle.step_reply.specs.declared.reply.Refusal.{Refusal}
-use Rattle.step_reply.specs.declared.reply.Refusal.TheVariants.{Invalid, NoVm}
-use Rattle.step_reply.specs.declared.step.Step.{Step}
+use Rattle.call_table.specs.declared.reply.Refusal.{Refusal}
+use Rattle.call_table.specs.declared.reply.Refusal.TheVariants.{Invalid, NoVm}
+use Rattle.call_table.specs.declared.step.Step.{Step}
 
 module _ {A : Type 0} where
   -- what a call on the Shared part and a guest uses

@@ -1,6 +1,6 @@
 -- What grows no tree.
 use Rattle.std.specs.Prelude.{◌≡◌, false, None}
-use Rattle.step_reply.specs.declared.step.Step.{Step}
+use Rattle.call_table.specs.declared.step.Step.{Step}
 use Rattle.guest_component.specs.Wants.{MakesNone}
 use Rattle.reference_model.specs.declared.changes.Changes.{Changes}
 use Rattle.reference_model.specs.Rules.{may_grow}

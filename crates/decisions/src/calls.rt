@@ -1,8 +1,8 @@
 //! What each call decides: the first of its tests that fails, or all that it changes. Nothing is changed here.
 ghost use Rattle.std.specs.Prelude.{◌≡◌, ◌<◌, ℕ, true, false, not, ◌||◌, Some, None, Err, IfOk};
 ghost use Rattle.guest_component.specs.View.{guest_depth, guest_of};
-ghost use Rattle.guest_steps.specs.Lent.{SharedSuits};
-ghost use Rattle.guest_steps.specs.View.{cpu_of, shared_of, vm_slots};
+ghost use Rattle.part_types.specs.Lent.{SharedSuits};
+ghost use Rattle.part_types.specs.View.{cpu_of, shared_of, vm_slots};
 ghost use Rattle.decisions.specs.Decided.{unloaded_why, used_with};
 ghost use Rattle.decisions.specs.Grows.{GrowsOnly};
 ghost use Rattle.page_state.specs.LayoutView.{layout_of};
@@ -29,6 +29,7 @@ mod vms;
 
 use abort::decide_host_abort;
 use asks::{decide_host_translate, decide_hyp_translate, decide_owner_of};
+use call_table::{Refusal, Step};
 use donate::decide_donate_hyp;
 use give_back::decide_hyp_donate_host;
 use guest_alone::{decide_guest_relax, decide_guest_translate, decide_mark_dying};
@@ -38,13 +39,12 @@ use guest_pages::{
     are_good_pages, decide_donate_guest, decide_guest_share_host, decide_guest_unshare_host,
     decide_reclaim_page, decide_share_guest, decide_unshare_guest,
 };
-use guest_steps::{CpuState, SharedPart, VmPart};
 use hand::{decide_fund, decide_unfund};
 use page_state::{Entry, Layout, Page, PageRange};
+use part_types::{CpuState, SharedPart, VmPart};
 use reference_model::{Changes, MapChange};
 use share::decide_share_hyp;
 use std::alloc::Allocator;
-use step_reply::{Refusal, Step};
 use unshare::decide_unshare_hyp;
 use vms::{
     decide_teardown, decide_vcpu_load, decide_vcpu_put, decide_vm_open, decide_vm_release,

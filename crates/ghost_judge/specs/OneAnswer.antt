@@ -1,8 +1,8 @@
 -- An audit and a judgement have one answer: one disagreement at most is the first, and none is where all agrees. So nothing of
 -- what 'first' says can be left out: two disagreements would be first then, or one where there is none.
 use Rattle.std.specs.Prelude.{◌≡◌}
-use Rattle.step_reply.specs.declared.reply.Reply.{Reply}
-use Rattle.step_reply.specs.declared.step.Step.{Step}
+use Rattle.call_table.specs.declared.reply.Reply.{Reply}
+use Rattle.call_table.specs.declared.step.Step.{Step}
 use Rattle.reference_model.specs.State.{Contents, Reference}
 use Rattle.ghost_judge.specs.declared.disagreement.Disagreement.{Disagreement}
 use Rattle.ghost_judge.specs.Audits.{AuditAgrees, IsFirstDifference}

@@ -2,9 +2,9 @@
 use Rattle.std.specs.Prelude.{◌≡◌, None, codes}
 use Rattle.page_state.specs.declared.entry.Entry.TheVariants.{Annotated, Unmapped}
 use Rattle.page_state.specs.declared.row.Usage.TheVariants.{Plain}
-use Rattle.step_reply.specs.declared.reply.Refusal.TheVariants.{Perm}
-use Rattle.step_reply.specs.declared.reply.Reply.TheVariants.{Done, Refused}
-use Rattle.step_reply.specs.declared.reply.Value.TheVariants.{Nothing}
+use Rattle.call_table.specs.declared.reply.Refusal.TheVariants.{Perm}
+use Rattle.call_table.specs.declared.reply.Reply.TheVariants.{Done, Refused}
+use Rattle.call_table.specs.declared.reply.Value.TheVariants.{Nothing}
 use Rattle.ghost_judge.specs.Texts.{text_of_disagreement, text_of_judgement}
 use Rattle.ghost_judge.specs.declared.disagreement.Disagreement.TheVariants.{Map as MapDiffers, Owner as OwnerDiffers, Reply as ReplyDiffers, GuestFree}
 use Rattle.ghost_judge.specs.declared.disagreement.TreeOf.TheVariants.{Guest}

@@ -3,7 +3,7 @@ use Rattle.std.specs.Prelude.{ℕ, List, ◌++◌, codes}
 use Rattle.std.specs.Fmt.{decimal}
 use Rattle.page_state.specs.declared.row.Row.{Row}
 use Rattle.page_state.specs.Texts.{text_of_page, text_of_entry, text_of_row}
-use Rattle.step_reply.specs.Texts.{text_of_reply}
+use Rattle.call_table.specs.Texts.{text_of_reply}
 use Rattle.ghost_judge.specs.declared.disagreement.Disagreement.{Disagreement}
 use Rattle.ghost_judge.specs.declared.disagreement.Disagreement.TheVariants.{Map as MapDiffers, Owner as OwnerDiffers, Reply as ReplyDiffers, Free, GuestFree, Vm, Cpu}
 use Rattle.ghost_judge.specs.declared.disagreement.TreeOf.{TreeOf}

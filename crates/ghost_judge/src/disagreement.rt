@@ -1,6 +1,6 @@
 //! What the oracle reports where two states disagree.
+use call_table::Reply;
 use page_state::{Entry, Row};
-use step_reply::Reply;
 
 /// Whose tree.
 #[derive(Clone, Copy, PartialEq)]

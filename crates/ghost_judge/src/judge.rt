@@ -14,12 +14,12 @@ ghost use Rattle.ghost_judge.specs.inner.Parted.{IsFoundApart};
 use crate::audit::{in_guests, in_rows, in_trees};
 use crate::disagreement::{Disagreement, TreeOf};
 use crate::same::{is_same_guest, is_same_pool, is_same_slot};
+use call_table::{Refusal, Reply, Step};
 use ghost_spec::cpu::GhostCpu;
 use ghost_spec::lists::GhostLists;
 use ghost_spec::parts::{GhostGuest, GhostSlot};
 use ghost_spec::state::{Ghost, predict_last};
 use std::alloc::{AllocError, Global};
-use step_reply::{Refusal, Reply, Step};
 
 /// The first slot whose guests differ in more than their maps.
 fn guest_apart(post: &[GhostGuest], spec: &[GhostGuest]) -> Option<u64>

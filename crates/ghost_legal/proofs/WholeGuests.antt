@@ -4,8 +4,8 @@ use Rattle.std.specs.Prelude.{All, is_some}
 use Rattle.std.proofs.lemmas.List.Elements.{All-head, All-tail}
 use Rattle.page_state.specs.LayoutView.{layout_of}
 use Rattle.page_state.specs.declared.entry.Run.{Run}
-use Rattle.step_reply.specs.declared.step.VmKind.{VmKind}
-use Rattle.step_reply.specs.declared.step.VmKind.TheVariants.{Plain}
+use Rattle.call_table.specs.declared.step.VmKind.{VmKind}
+use Rattle.call_table.specs.declared.step.VmKind.TheVariants.{Plain}
 use Rattle.reference_model.specs.Conditions.{GuestsFit}
 use Rattle.reference_model.specs.State.{Guest, empty, live, dying, no_guest}
 use Rattle.ghost_trees.specs.declared.tree.Table.{Table}

@@ -10,7 +10,7 @@ use Rattle.page_state.specs.declared.entry.Run.{Run}
 use Rattle.page_state.specs.declared.entry.Target.{Target}
 use Rattle.page_state.specs.declared.entry.Target.TheVariants.{Leaf}
 use Rattle.page_state.specs.Runs.{run_end, IsCoarsest}
-use Rattle.step_reply.specs.declared.step.VmKind.TheVariants.{Plain}
+use Rattle.call_table.specs.declared.step.VmKind.TheVariants.{Plain}
 use Rattle.ghost_trees.specs.Trees.{table_of}
 use Rattle.ghost_spec.specs.declared.parts.GhostGuest.{GhostGuest}
 use Rattle.ghost_spec.specs.declared.parts.GhostPhase.{GhostPhase}

@@ -13,12 +13,12 @@ ghost use Rattle.ghost_legal.specs.Pages.{HaveGoodRuns, IsBadEntry, IsBadPage, I
 use crate::condition::HYP_DISTANCE;
 use crate::finding::Illegal;
 use crate::trees::depth_of;
+use call_table::VmKind;
 use descriptor::Kind;
 use ghost_spec::lists::GhostLists;
 use ghost_spec::parts::{GhostGuest, GhostPhase};
 use ghost_trees::tree::table_at;
 use page_state::{Run, Target};
-use step_reply::VmKind;
 
 /// Whether a guest has nothing.
 fn is_blank(guest: &GhostGuest) -> bool

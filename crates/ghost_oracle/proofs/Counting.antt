@@ -8,7 +8,7 @@ use Rattle.page_state.specs.Geometries.{levels_below}
 use Rattle.table_tree.specs.declared.tree.Tree.{Tree}
 use Rattle.table_tree.specs.Tables.{tables_in}
 use Rattle.table_tree.specs.View.{tables_of}
-use Rattle.guest_steps.specs.declared.parts.SharedPart.{SharedPart}
+use Rattle.part_types.specs.declared.parts.SharedPart.{SharedPart}
 use Rattle.ghost_oracle.specs.Counted.{HasRead, shared_tables}
 use Rattle.ghost_oracle.specs.inner.Eights.{HasLooked}
 

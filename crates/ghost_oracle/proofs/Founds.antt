@@ -5,8 +5,8 @@ use mathlib.Core.Path.{fun_ext}
 use Rattle.page_state.specs.declared.row.Row.{Row}
 use Rattle.reference_model.specs.State.{Guest, Cpu, Shared, Slot, no_guest, no_cpu, no_slot}
 use Rattle.std.proofs.lemmas.List.{get_or-map, length-map}
-use Rattle.guest_steps.specs.Logs.{StoredCalls, IsOfSize}
-use Rattle.guest_steps.specs.View.{vm_slots, shared_of, guest_held, cpu_of}
+use Rattle.part_types.specs.Logs.{StoredCalls, IsOfSize}
+use Rattle.part_types.specs.View.{vm_slots, shared_of, guest_held, cpu_of}
 use Rattle.hypercalls.specs.declared.parts.Parts.{Parts}
 use Rattle.hypercalls.specs.Stands.{at_place, parts_layout, state_of}
 use Rattle.page_state.specs.LayoutView.{layout_of}

@@ -5,7 +5,7 @@ use Rattle.std.specs.List.{Contains}
 use Rattle.std.specs.Prelude.{get_or}
 use Rattle.std.proofs.lemmas.Option.{slice_get-get_or}
 use Rattle.std.proofs.Math.Logic.{∥∥₁_elim, ∥∥₁_map}
-use Rattle.step_reply.specs.declared.step.Step.{Step}
+use Rattle.call_table.specs.declared.step.Step.{Step}
 use Rattle.page_state.specs.declared.entry.PageRange.{PageRange}
 use Rattle.page_state.specs.Geometries.{pages_below}
 use Rattle.page_state.specs.Layouts.{Layout, is_memory, hyp_page}
@@ -21,9 +21,9 @@ use Rattle.reference_model.proofs.conditions.OfLegal.{shared-of, guests-of}
 use Rattle.reference_model.proofs.conditions.RunsLegal.{few-pages, ready-usable, run_legal}
 use Rattle.reference_model.proofs.conditions.Slots.{loaded-open, ticket-slot}
 use Rattle.reference_model.proofs.conditions.SoundOf.{held-use}
-use Rattle.guest_steps.specs.declared.parts.CpuState.{CpuState}
-use Rattle.guest_steps.specs.declared.parts.GuestPart.{GuestPart}
-use Rattle.guest_steps.specs.View.{guest_held, cpu_of}
+use Rattle.part_types.specs.declared.parts.CpuState.{CpuState}
+use Rattle.part_types.specs.declared.parts.GuestPart.{GuestPart}
+use Rattle.part_types.specs.View.{guest_held, cpu_of}
 use Rattle.hypercalls.specs.declared.parts.Parts.{Parts}
 use Rattle.hypercalls.specs.Stands.{at_place, parts_layout, state_of, HasHistory}
 use Rattle.ghost_spec.specs.Kept.{AreLowFrames, HasNextGeneration, IsSmallRange, HasLowLoad, HasLowTicket}

@@ -11,7 +11,7 @@ use Rattle.page_state.specs.declared.layout.Geometry.{Geometry}
 use Rattle.page_state.specs.Geometries.{levels_below}
 use Rattle.page_state.proofs.Cases.{by_eq, by_lt}
 use Rattle.table_tree.specs.Said.{block_number, block_of}
-use Rattle.guest_steps.specs.declared.parts.GuestPart.{GuestPart}
+use Rattle.part_types.specs.declared.parts.GuestPart.{GuestPart}
 use Rattle.hypercalls.specs.Stands.{at_place}
 use Rattle.ghost_oracle.specs.declared.raw.RawGuest.{RawGuest}
 use Rattle.ghost_oracle.specs.declared.raw.Which.{Which}

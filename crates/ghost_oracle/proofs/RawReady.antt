@@ -1,7 +1,7 @@
 -- A state on lists that is that of poked parts can be audited.
 use Rattle.std.proofs.Common.{◌≡◌, List, [], ◌∷◌, length, Option, All, ap, arith}
-use Rattle.guest_steps.specs.declared.parts.GuestPart.{GuestPart}
-use Rattle.guest_steps.specs.View.{cpu_of}
+use Rattle.part_types.specs.declared.parts.GuestPart.{GuestPart}
+use Rattle.part_types.specs.View.{cpu_of}
 use Rattle.page_state.specs.Rows.{HasPageBelow}
 use Rattle.run_list.specs.Runs.{AreInReach}
 use Rattle.ghost_spec.specs.declared.parts.GhostGuest.{GhostGuest}

@@ -10,7 +10,7 @@ use Rattle.page_state.specs.Map.{Map}
 use Rattle.page_state.specs.Trees.{Block}
 use Rattle.table_tree.specs.declared.raw.RawTree.{RawTree}
 use Rattle.table_tree.specs.RawView.{raw_meaning, raw_table_at, raw_tree_of}
-use Rattle.guest_steps.specs.declared.parts.GuestPart.{GuestPart}
+use Rattle.part_types.specs.declared.parts.GuestPart.{GuestPart}
 use Rattle.ghost_spec.specs.declared.parts.GhostGuest.{GhostGuest}
 use Rattle.ghost_oracle.specs.declared.raw.RawGuest.{RawGuest}
 use Rattle.ghost_oracle.specs.declared.trees.Source.{Source}

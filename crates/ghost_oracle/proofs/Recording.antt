@@ -6,8 +6,8 @@ use Rattle.page_state.specs.Layouts.{Layout}
 use Rattle.reference_model.specs.Parts.{uses_shared, uses_vms}
 use Rattle.reference_model.specs.State.{Guest, Slot, all_rooms, blank, put_at, no_cpu, no_guest, no_shared, no_slot, no_vms}
 use Rattle.reference_model.specs.Used.{put_back, put_guest, put_room, put_rooms}
-use Rattle.guest_steps.specs.declared.parts.GuestPart.{GuestPart}
-use Rattle.guest_steps.specs.View.{cpu_of, guest_held, shared_of, vm_slots}
+use Rattle.part_types.specs.declared.parts.GuestPart.{GuestPart}
+use Rattle.part_types.specs.View.{cpu_of, guest_held, shared_of, vm_slots}
 use Rattle.hypercalls.specs.Stands.{at_place}
 use Rattle.ghost_spec.specs.declared.lists.GhostLists.{GhostLists}
 use Rattle.ghost_spec.specs.States.{ghost_state, slot_in}

@@ -9,8 +9,8 @@ use Rattle.reference_model.specs.Owner.{row_of}
 use Rattle.reference_model.specs.State.{Contents, Reference, plain_row}
 use Rattle.run_list.specs.declared.run.Run.{Run}
 use Rattle.run_list.specs.Runs.{run_map}
-use Rattle.guest_steps.specs.declared.parts.SharedPart.{SharedPart}
-use Rattle.guest_steps.specs.View.{shared_of}
+use Rattle.part_types.specs.declared.parts.SharedPart.{SharedPart}
+use Rattle.part_types.specs.View.{shared_of}
 use Rattle.hypercalls.specs.declared.parts.Parts.{Parts}
 use Rattle.hypercalls.specs.Stands.{parts_layout, state_of}
 use Rattle.ghost_spec.specs.Views.{row_in}

@@ -3,12 +3,12 @@ use Rattle.std.specs.Prelude.{◌≡◌, ℕ, List, Option, Some, None, IfSome, 
 use Rattle.hyp_pool.specs.Pools.{StoredFrames}
 use Rattle.maplets.specs.View.{KeptMaplets}
 use Rattle.page_state.specs.declared.layout.Geometry.{Geometry}
-use Rattle.step_reply.specs.declared.step.VmKind.{VmKind}
+use Rattle.call_table.specs.declared.step.VmKind.{VmKind}
 use Rattle.page_state.specs.Geometries.{levels_below}
 use Rattle.guest_component.specs.declared.body.Body.{Body}
 use Rattle.guest_component.specs.declared.body.Phase.{Phase}
-use Rattle.guest_steps.specs.declared.parts.GuestPart.{GuestPart}
-use Rattle.guest_steps.specs.Logs.{StoredCalls}
+use Rattle.part_types.specs.declared.parts.GuestPart.{GuestPart}
+use Rattle.part_types.specs.Logs.{StoredCalls}
 use Rattle.ghost_oracle.specs.declared.raw.RawGuest.{RawGuest}
 
 -- what a guest has beside its tree

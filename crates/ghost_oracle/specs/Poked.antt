@@ -9,11 +9,11 @@ use Rattle.page_state.specs.Trees.{Block}
 use Rattle.run_list.specs.declared.run.Run.{Run}
 use Rattle.table_tree.specs.Raw.{IsPoked, IsPokedMap}
 use Rattle.table_tree.specs.Said.{block_of}
-use Rattle.guest_steps.specs.declared.parts.CpuState.{CpuState}
-use Rattle.guest_steps.specs.declared.parts.GuestPart.{GuestPart}
-use Rattle.guest_steps.specs.declared.parts.SharedPart.{SharedPart}
-use Rattle.guest_steps.specs.declared.parts.VmPart.{VmPart}
-use Rattle.guest_steps.specs.Logs.{StoredCalls}
+use Rattle.part_types.specs.declared.parts.CpuState.{CpuState}
+use Rattle.part_types.specs.declared.parts.GuestPart.{GuestPart}
+use Rattle.part_types.specs.declared.parts.SharedPart.{SharedPart}
+use Rattle.part_types.specs.declared.parts.VmPart.{VmPart}
+use Rattle.part_types.specs.Logs.{StoredCalls}
 use Rattle.hypercalls.specs.declared.parts.Parts.{Parts}
 use Rattle.hypercalls.specs.Stands.{at_place}
 use Rattle.ghost_oracle.specs.declared.raw.RawGuest.{RawGuest}

@@ -4,13 +4,13 @@ use Rattle.page_state.specs.declared.entry.Run.{Run}
 use Rattle.page_state.specs.LayoutView.{layout_of}
 use Rattle.page_state.specs.Rows.{advance_row}
 use Rattle.page_state.specs.Trees.{Pool}
-use Rattle.step_reply.specs.declared.step.VmKind.{VmKind}
+use Rattle.call_table.specs.declared.step.VmKind.{VmKind}
 use Rattle.reference_model.specs.State.{Phase, no_slot}
 use Rattle.run_list.specs.Runs.{run_map}
 use Rattle.guest_component.specs.Bodies.{phase_of}
 use Rattle.guest_component.specs.View.{guest_of, runs_of}
-use Rattle.guest_steps.specs.declared.parts.GuestPart.{GuestPart}
-use Rattle.guest_steps.specs.View.{vm_slots, cpu_of}
+use Rattle.part_types.specs.declared.parts.GuestPart.{GuestPart}
+use Rattle.part_types.specs.View.{vm_slots, cpu_of}
 use Rattle.ghost_spec.specs.declared.parts.GhostGuest.{GhostGuest}
 use Rattle.ghost_spec.specs.declared.lists.GhostLists.{GhostLists}
 use Rattle.ghost_spec.specs.declared.lists.GhostRooms.{GhostRooms}

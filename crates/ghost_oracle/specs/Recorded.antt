@@ -8,11 +8,11 @@ use Rattle.reference_model.specs.State.{Contents, Rooms, Reference, all_rooms, b
 use Rattle.reference_model.specs.Used.{Used, UsedRooms, put_back, put_rooms}
 use Rattle.ghost_spec.specs.declared.parts.GhostSlot.{GhostSlot}
 use Rattle.ghost_spec.specs.States.{slot_in}
-use Rattle.guest_steps.specs.declared.parts.CpuState.{CpuState}
-use Rattle.guest_steps.specs.declared.parts.GuestPart.{GuestPart}
-use Rattle.guest_steps.specs.declared.parts.SharedPart.{SharedPart}
-use Rattle.guest_steps.specs.declared.parts.VmPart.{VmPart}
-use Rattle.guest_steps.specs.View.{cpu_of, guest_held, shared_of, vm_slots}
+use Rattle.part_types.specs.declared.parts.CpuState.{CpuState}
+use Rattle.part_types.specs.declared.parts.GuestPart.{GuestPart}
+use Rattle.part_types.specs.declared.parts.SharedPart.{SharedPart}
+use Rattle.part_types.specs.declared.parts.VmPart.{VmPart}
+use Rattle.part_types.specs.View.{cpu_of, guest_held, shared_of, vm_slots}
 use Rattle.hypercalls.specs.Stands.{at_place}
 
 -- what is given: the VM part, the Shared part and the Guest part of a slot, each or none, and a CPU's own state

@@ -6,7 +6,7 @@ use Rattle.table_tree.specs.declared.tree.Tree.{Tree}
 use Rattle.table_tree.specs.RawView.{raw_word_of, raw_tree_of}
 use Rattle.table_tree.specs.View.{word_of, tree_of}
 use Rattle.guest_component.specs.declared.body.Body.{Body}
-use Rattle.guest_steps.specs.declared.parts.GuestPart.{GuestPart}
+use Rattle.part_types.specs.declared.parts.GuestPart.{GuestPart}
 use Rattle.ghost_oracle.specs.declared.raw.RawGuest.{RawGuest}
 
 -- the word at each path, and the map and the table at each block

@@ -13,10 +13,10 @@ use ghost_spec::parts::GhostGuest;
 use ghost_spec::shared::Shared;
 use ghost_spec::state::Ghost;
 use guest_component::Guest;
-use guest_steps::{GuestPart, SharedPart};
 use hypercalls::Parts;
 use maplets::Maplets;
 use page_state::Run;
+use part_types::{GuestPart, SharedPart};
 use std::alloc::Allocator;
 
 /// What is kept, and what walking every descriptor finds. Mostly one state is both, and then it is here once.

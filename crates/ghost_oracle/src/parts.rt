@@ -1,8 +1,8 @@
 //! What isn't in tables, on lists: the VM part's slots, the CPUs' own states, and the rooms of logs.
 ghost use Rattle.std.specs.Prelude.{◌≡◌, ℕ, ◌-◌, ◌<◌, ◌≤◌, All, IfOk, IsTrue, None, get_or, length, map};
 ghost use Rattle.reference_model.specs.State.{no_cpu, no_slot};
-ghost use Rattle.guest_steps.specs.Logs.{IsOfSize};
-ghost use Rattle.guest_steps.specs.View.{cpu_of};
+ghost use Rattle.part_types.specs.Logs.{IsOfSize};
+ghost use Rattle.part_types.specs.View.{cpu_of};
 ghost use Rattle.vm_table.specs.View.{slot_of, stand_of, vms_of};
 ghost use Rattle.ghost_spec.specs.States.{slot_in, stand_in, AreKeptCpus};
 ghost use Rattle.ghost_spec.specs.Views.{cpu_in};
@@ -11,8 +11,8 @@ ghost use Rattle.ghost_oracle.specs.Low.{IsLowCpu};
 use ghost_spec::cpu::GhostCpu;
 use ghost_spec::lists::GhostRooms;
 use ghost_spec::parts::{GhostSlot, GhostStand};
-use guest_steps::{CpuState, GuestPart};
 use page_state::Layout;
+use part_types::{CpuState, GuestPart};
 use std::alloc::{AllocError, Allocator, Global};
 use vm_table::{Slot, SlotState, VmTable};
 

@@ -11,8 +11,8 @@ ghost use Rattle.ghost_oracle.specs.Seen.{raw_seen, slot_seen, taken_seen, tree_
 use crate::raw::{RawComponent, RawGuest, RawParts, RawShared, Which};
 use component::Component;
 use guest_component::Body;
-use guest_steps::{GuestPart, SharedPart};
 use hypercalls::Parts;
+use part_types::{GuestPart, SharedPart};
 use std::alloc::{AllocError, Allocator, Global};
 use table_tree::PathFault;
 

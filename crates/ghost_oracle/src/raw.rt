@@ -2,16 +2,16 @@
 ghost use Rattle.std.specs.Prelude.{◌≡◌, vec_len, All, IfSome};
 ghost use Rattle.ghost_oracle.specs.Levels.{each_prop};
 ghost use Rattle.page_state.specs.Geometries.{levels_below};
-ghost use Rattle.guest_steps.specs.MemoryRows.{HasMemoryRows};
+ghost use Rattle.part_types.specs.MemoryRows.{HasMemoryRows};
 
+use call_table::VmKind;
 use guest_component::Phase;
-use guest_steps::{CpuState, GuestPart, Log, VmPart};
 use hyp_pool::Pool;
 use maplets::Maplets;
 use owner_table::OwnerTable;
 use page_state::Layout;
+use part_types::{CpuState, GuestPart, Log, VmPart};
 use std::alloc::Allocator;
-use step_reply::VmKind;
 use table_tree::RawTree;
 
 /// Which tree of a world: a guest's by its slot.

@@ -3,7 +3,7 @@ ghost use Rattle.std.specs.Prelude.{◌≡◌, ℕ, All, IfOk, Some, get_or, len
 ghost use Rattle.page_state.specs.LayoutView.{layout_of};
 ghost use Rattle.ghost_trees.specs.KeptTrees.{IsKeptTree};
 ghost use Rattle.reference_model.specs.State.{no_slot};
-ghost use Rattle.guest_steps.specs.View.{cpu_of, vm_slots};
+ghost use Rattle.part_types.specs.View.{cpu_of, vm_slots};
 ghost use Rattle.ghost_spec.specs.States.{contents_in, slot_in};
 ghost use Rattle.ghost_spec.specs.Views.{cpu_in};
 ghost use Rattle.ghost_trees.specs.Trees.{tree_in_lists};
@@ -22,8 +22,8 @@ use ghost_spec::parts::GhostGuest;
 use ghost_spec::rows::copied_rows;
 use ghost_spec::shared::Shared;
 use ghost_trees::tree::Tree;
-use guest_steps::GuestPart;
 use page_state::Row;
+use part_types::GuestPart;
 use run_list::RunList;
 use std::alloc::{AllocError, Allocator, Global};
 use table_tree::Reads;

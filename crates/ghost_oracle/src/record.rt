@@ -3,7 +3,7 @@ ghost use Rattle.std.specs.Prelude.{◌≡◌, ℕ, ◌*◌, ◌<◌, IfOk, IfSo
 ghost use Rattle.std.specs.Option.{option_copied, option_map};
 ghost use Rattle.page_state.specs.LayoutView.{layout_of};
 ghost use Rattle.reference_model.specs.State.{blank, no_cpu, put_at};
-ghost use Rattle.guest_steps.specs.View.{cpu_of, guest_held, shared_of};
+ghost use Rattle.part_types.specs.View.{cpu_of, guest_held, shared_of};
 ghost use Rattle.hypercalls.specs.Stands.{at_place};
 ghost use Rattle.ghost_spec.specs.Kept.{IsKeptGuest, IsKeptShared};
 ghost use Rattle.ghost_spec.specs.States.{ghost_state, guest_in, AreKeptCpus, AreKeptGuests, IsKept};
@@ -24,8 +24,8 @@ use ghost_spec::parts::{GhostGuest, GhostSlot, empty_guests, empty_slots};
 use ghost_spec::rows::copied_rows;
 use ghost_spec::shared::Shared;
 use ghost_spec::start::{equal_rooms, idle_cpus};
-use guest_steps::{CpuState, GuestPart, SharedPart, VmPart};
 use page_state::{Config, Layout};
+use part_types::{CpuState, GuestPart, SharedPart, VmPart};
 use std::alloc::{AllocError, Allocator, Global};
 use table_tree::Reads;
 

@@ -62,7 +62,7 @@ fn has_frame(hand: Option<PageRange>) -> bool
 }
 
 /// Whether a ticket is its slot's.
-#[tactic(auto, using(step_reply::proofs::Equality::kinds_tell))]
+#[tactic(auto, using(call_table::proofs::Equality::kinds_tell))]
 fn is_of_slot(state: &GhostLists, ticket: Ticket) -> bool
     requires kept { IsKept state.now }
     requires slot { ticket.vm.slot < 64 }

@@ -70,7 +70,7 @@ fn first_vcpu(state: &GhostLists, slot: u64) -> Option<u64>
 }
 
 /// Whether a guest is of its slot.
-#[tactic(auto, using(step_reply::proofs::Equality::kinds_tell))]
+#[tactic(auto, using(call_table::proofs::Equality::kinds_tell))]
 fn is_same_vm(state: &GhostLists, slot: u64) -> bool
     requires kept { IsKept state.now }
     requires slot { slot < 64 }

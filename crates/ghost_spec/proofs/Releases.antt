@@ -3,8 +3,8 @@ use Rattle.std.proofs.Common.{◌≡◌, ℕ, ◌+◌, ◌<◌, ◌≤◌, ◌^�
 use Rattle.std.specs.Coded.{Unit-prop, le_prop}
 use Rattle.std.specs.Prelude.{IfSome}
 use Rattle.std.proofs.Math.Logic.{∥∥₁_elim}
-use Rattle.step_reply.specs.declared.reply.Call.{Call}
-use Rattle.step_reply.specs.declared.step.Step.{Step}
+use Rattle.call_table.specs.declared.reply.Call.{Call}
+use Rattle.call_table.specs.declared.step.Step.{Step}
 use Rattle.page_state.specs.Layouts.{Layout}
 use Rattle.reference_model.specs.declared.changes.Ticket.{Ticket}
 use Rattle.reference_model.specs.Boot.{CanBoot}

@@ -2,12 +2,12 @@
 use Rattle.std.proofs.Common.{◌≡◌, ℕ, Bool, true, false, ◌||◌, ◌&&◌, Option, Some, None, Ok, Err, option_map, refl, sym, ap, ◌∙◌}
 use Rattle.std.specs.Prelude.{if◌then◌else◌, is_some, is_none, nat_le, unwrap_or, Result}
 use Rattle.page_state.specs.declared.entry.PageRange.{PageRange}
-use Rattle.step_reply.specs.declared.reply.Refusal.{Refusal}
-use Rattle.step_reply.specs.declared.reply.Refusal.TheVariants.{NoVm, Perm, Busy}
-use Rattle.step_reply.specs.declared.reply.Value.TheVariants.{Vm}
-use Rattle.step_reply.specs.declared.step.Step.TheVariants.{VmReserve, VmOpen, VmRelease, Install}
-use Rattle.step_reply.specs.declared.step.VmId.{VmId}
-use Rattle.step_reply.specs.declared.step.VmKind.{VmKind}
+use Rattle.call_table.specs.declared.reply.Refusal.{Refusal}
+use Rattle.call_table.specs.declared.reply.Refusal.TheVariants.{NoVm, Perm, Busy}
+use Rattle.call_table.specs.declared.reply.Value.TheVariants.{Vm}
+use Rattle.call_table.specs.declared.step.Step.TheVariants.{VmReserve, VmOpen, VmRelease, Install}
+use Rattle.call_table.specs.declared.step.VmId.{VmId}
+use Rattle.call_table.specs.declared.step.VmKind.{VmKind}
 use Rattle.page_state.specs.Layouts.{Layout}
 use Rattle.reference_model.specs.declared.changes.Changes.{Changes}
 use Rattle.reference_model.specs.declared.changes.CpuChange.{CpuChange}

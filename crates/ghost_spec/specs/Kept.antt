@@ -1,7 +1,7 @@
 -- What each state on lists keeps: its runs are the coarsest, and its numbers small, so that sums are numbers of 64 bits.
 use Rattle.std.specs.Prelude.{◌≡◌, ℕ, ◌+◌, ◌^◌, ◌<◌, ◌≤◌, [], ◌∷◌, Option, Some, None, IfSome}
-use Rattle.step_reply.specs.declared.step.Step.{Step}
-use Rattle.step_reply.specs.declared.step.Step.TheVariants.{VmRelease}
+use Rattle.call_table.specs.declared.step.Step.{Step}
+use Rattle.call_table.specs.declared.step.Step.TheVariants.{VmRelease}
 use Rattle.page_state.specs.declared.entry.PageRange.{PageRange}
 use Rattle.page_state.specs.Regions.{end_of}
 use Rattle.page_state.specs.Rows.{HasPageBelow}

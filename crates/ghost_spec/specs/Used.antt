@@ -12,7 +12,7 @@ use Rattle.reference_model.specs.SharedRules.{is_plain}
 use Rattle.reference_model.specs.State.{Vms, Shared, Guest, Contents, Rooms, no_slot, no_guest}
 use Rattle.reference_model.specs.Step.{stored}
 use Rattle.reference_model.specs.Used.{Used, put_back, put_rooms, rooms_of as used_rooms_of, used_of}
-use Rattle.step_reply.specs.declared.step.Step.{Step}
+use Rattle.call_table.specs.declared.step.Step.{Step}
 use Rattle.ghost_spec.specs.declared.lists.GhostLists.{GhostLists}
 use Rattle.ghost_spec.specs.declared.parts.GhostGuest.{GhostGuest}
 use Rattle.ghost_spec.specs.declared.parts.GhostSlot.{GhostSlot}

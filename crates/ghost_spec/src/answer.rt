@@ -13,10 +13,10 @@ use crate::decide::decide;
 use crate::rows::find_rows;
 use crate::used::GhostUsed;
 use crate::{cpu, guest, shared, vms};
+use call_table::{Refusal, Reply, Step};
 use page_state::{Layout, PageRange};
 use reference_model::Changes;
 use std::alloc::{AllocError, Global};
-use step_reply::{Refusal, Reply, Step};
 
 /// The levels below a root's.
 pub(crate) fn depth(layout: &Layout) -> u64

@@ -17,9 +17,9 @@ use crate::rules::{
 };
 use crate::used::GhostUsed;
 use crate::vm_rules::{teardown, vcpu_load, vcpu_put, vm_open, vm_release, vm_reserve};
+use call_table::{Refusal, Step};
 use page_state::Layout;
 use reference_model::Changes;
-use step_reply::{Refusal, Step};
 
 /// What a call decides: the first of its rule's tests that fails, or all that its rule changes.
 pub(crate) fn decide(

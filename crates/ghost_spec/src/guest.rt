@@ -13,11 +13,11 @@ ghost use Rattle.ghost_spec.specs.States.{guest_in};
 use crate::boot::{frames_from, root_tree};
 use crate::parts::{GhostGuest, GhostPhase};
 use crate::shared::{behind, edit, needed};
+use call_table::VmKind;
 use ghost_trees::pool::give_all;
 use page_state::PageRange;
 use reference_model::{Changes, GuestChange, MapChange};
 use std::alloc::{AllocError, Global};
-use step_reply::VmKind;
 
 /// A guest's map changes: new tables get the lowest frames of its own pool, and freed frames come back to it.
 fn change_map(

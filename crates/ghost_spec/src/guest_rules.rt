@@ -1,7 +1,7 @@
 //! The rules of the calls on a guest, alone or with the Shared part: the first of a call's tests that fails, or all that it
 //! changes.
 ghost use Rattle.std.specs.Prelude.{◌≡◌, ℕ, ◌+◌, ◌<◌, ◌≤◌, ◌^◌, ◌&&◌, Option, Some, IfOk, IsTrue, ◌||◌, nat_lt, unwrap_or};
-ghost use Rattle.step_reply.specs.declared.step.Step.TheVariants.{ShareGuest, UnshareGuest, DonateGuest, GuestShareHost, GuestUnshareHost, Install, Topup, ReclaimPage, ReclaimPool, FinishGuest, GuestRelax, GuestTranslate, MarkDying};
+ghost use Rattle.call_table.specs.declared.step.Step.TheVariants.{ShareGuest, UnshareGuest, DonateGuest, GuestShareHost, GuestUnshareHost, Install, Topup, ReclaimPage, ReclaimPool, FinishGuest, GuestRelax, GuestTranslate, MarkDying};
 ghost use Rattle.page_state.specs.EntryTests.{entry_frame as entry_frame_of, is_unmapped as is_unmapped_of, join as join_of, with_rights as with_rights_of, with_state as with_state_of};
 ghost use Rattle.page_state.specs.Layouts.{Layout as ReferenceLayout, is_good_page as is_good_page_of};
 ghost use Rattle.page_state.specs.LayoutView.{layout_of};
@@ -29,11 +29,11 @@ use crate::rules::{change, host_entry};
 use crate::shared::Shared;
 use crate::used::GhostUsed;
 use crate::uses::{ticket_kind, ticket_vm};
+use call_table::{Refusal, Value, VmId, VmKind};
 use ghost_trees::runs::at;
 use ghost_trees::tree::{Tree, table_at};
 use page_state::{Entry, Frame, Layout, Page, Prot, State};
 use reference_model::{Changes, CpuChange, GuestChange, Stage, Ticket, Update};
-use step_reply::{Refusal, Value, VmId, VmKind};
 
 /// The slots of VMs (profile).
 const SLOTS: u64 = 64;

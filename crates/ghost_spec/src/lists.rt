@@ -12,9 +12,9 @@ use crate::used::{
     GhostUsed, put_guest, put_shared, put_vms, store_in, take_guest, take_shared, used_vms,
 };
 use crate::uses::{guest_slot, uses_shared, uses_vms};
+use call_table::{Refusal, Reply, Step};
 use page_state::Layout;
 use std::alloc::{AllocError, Global};
-use step_reply::{Refusal, Reply, Step};
 
 /// How many calls the log of each part and of each CPU can still store.
 #[derive(Drop)]

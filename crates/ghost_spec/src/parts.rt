@@ -2,9 +2,9 @@
 ghost use Rattle.std.specs.Prelude.{◌≡◌, All, IfOk, length, map};
 ghost use Rattle.reference_model.specs.State.{no_guest, no_slot};
 
+use call_table::VmKind;
 use ghost_trees::tree::Tree;
 use std::alloc::{AllocError, Global};
-use step_reply::VmKind;
 
 /// The state of a slot of the VM part.
 #[derive(Clone, Copy, PartialEq)]

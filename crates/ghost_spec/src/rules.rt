@@ -1,6 +1,6 @@
 //! The rules of the calls on the Shared part alone: the first of a call's tests that fails, or all that it changes.
 ghost use Rattle.std.specs.Prelude.{◌≡◌, ℕ, ◌+◌, ◌<◌, ◌≤◌, ◌^◌, ◌&&◌, Option, IfOk};
-ghost use Rattle.step_reply.specs.declared.step.Step.TheVariants.{ShareHyp, UnshareHyp, DonateHyp, HypDonateHost, HostAbort, HostTranslate, HypTranslate, OwnerOf, Fund, Unfund};
+ghost use Rattle.call_table.specs.declared.step.Step.TheVariants.{ShareHyp, UnshareHyp, DonateHyp, HypDonateHost, HostAbort, HostTranslate, HypTranslate, OwnerOf, Fund, Unfund};
 ghost use Rattle.page_state.specs.Blocks.{block_at, first_page as first_page_of, span as span_of};
 ghost use Rattle.page_state.specs.Layouts.{hyp_page as hyp_page_of};
 ghost use Rattle.page_state.specs.LayoutView.{layout_of};
@@ -22,11 +22,11 @@ use crate::leaves::{
 use crate::rows::row_at;
 use crate::shared::Shared;
 use crate::used::GhostUsed;
+use call_table::{Refusal, Value};
 use ghost_trees::blocks::is_empty;
 use ghost_trees::runs::at;
 use page_state::{Entry, Layout, Page, PageRange, Prot, Region, RegionKind, State, Usage};
 use reference_model::{Changes, CpuChange, MapChange, Update};
-use step_reply::{Refusal, Value};
 
 /// A change of a map: `count` pages from the first on.
 pub(crate) fn change(first: u64, count: u64, entry: Entry) -> Option<MapChange>

@@ -6,9 +6,9 @@ ghost use Rattle.ghost_spec.specs.Kept.{HasNextGeneration};
 ghost use Rattle.ghost_spec.specs.States.{contents_in, ghost_state, IsKept};
 
 use crate::lists::GhostLists;
+use call_table::{Reply, Step};
 use std::alloc::{AllocError, Global};
 use std::marker::Model;
-use step_reply::{Reply, Step};
 
 /// The reference state: lists of the layout's lengths, with runs sorted, disjoint and joined, and with small numbers.
 #[derive(Drop)]

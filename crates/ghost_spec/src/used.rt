@@ -13,9 +13,9 @@ use crate::cpu::GhostCpu;
 use crate::parts::{GhostGuest, GhostSlot, copied_slots};
 use crate::shared::Shared;
 use crate::uses::{uses_shared, uses_vms};
+use call_table::Step;
 use std::alloc::{AllocError, Global};
 use std::mem;
-use step_reply::Step;
 
 /// The parts that a call uses, and its CPU's own state. A part that it doesn't use is blank.
 #[derive(Drop)]

@@ -7,8 +7,8 @@ ghost use Rattle.ghost_spec.specs.Kept.{IsKeptCpu, IsLowSlot};
 ghost use Rattle.ghost_spec.specs.Views.{cpu_in};
 
 use crate::cpu::GhostCpu;
+use call_table::{Step, VmId, VmKind};
 use reference_model::Stage;
-use step_reply::{Step, VmId, VmKind};
 
 /// The slot of a VM, where there is such a slot.
 fn slot_of(vm: VmId) -> Option<u64>

@@ -1,6 +1,6 @@
 //! The rules of the calls on the VM part: the first of a call's tests that fails, or all that it changes.
 ghost use Rattle.std.specs.Prelude.{◌≡◌, ℕ, ◌<◌, ◌&&◌, ◌||◌, Option, IfOk, IfSome, is_some, length, nat_le, nat_lt, true};
-ghost use Rattle.step_reply.specs.declared.step.Step.TheVariants.{VmReserve, VmOpen, VcpuLoad, VcpuPut, Teardown, VmRelease};
+ghost use Rattle.call_table.specs.declared.step.Step.TheVariants.{VmReserve, VmOpen, VcpuLoad, VcpuPut, Teardown, VmRelease};
 ghost use Rattle.page_state.specs.Layouts.{Layout as ReferenceLayout};
 ghost use Rattle.reference_model.specs.declared.changes.Update.TheVariants.{Becomes};
 ghost use Rattle.reference_model.specs.Decides.{decides};
@@ -17,8 +17,8 @@ use crate::cpu::GhostCpu;
 use crate::parts::{GhostSlot, GhostStand};
 use crate::used::GhostUsed;
 use crate::uses::{has_stage, ticket_vm};
+use call_table::{Refusal, Value, VmId, VmKind};
 use reference_model::{Changes, CpuChange, Loaded, SlotChange, Stage, Ticket, Update};
-use step_reply::{Refusal, Value, VmId, VmKind};
 
 /// The slots of VMs (profile).
 const SLOTS: u64 = 64;

@@ -7,9 +7,9 @@ ghost use Rattle.ghost_spec.specs.States.{slot_in};
 ghost use Rattle.ghost_spec.specs.Used.{vms_in};
 
 use crate::parts::{GhostSlot, GhostStand};
+use call_table::VmKind;
 use reference_model::SlotChange;
 use std::alloc::{AllocError, Global};
-use step_reply::VmKind;
 
 /// A slot becomes Reserved for a VM of the kind with `vcpus` vCPUs.
 fn reserve(slot: &mut GhostSlot, kind: VmKind, vcpus: u64)

@@ -2,7 +2,7 @@
 use Rattle.std.proofs.Common.{◌≡◌, ◌≢◌, ℕ, ◌+◌, ◌<◌, ◌↔◌, refl, sym, ap, subst, ◌∙◌, arith, true, is_some, Option, Some, None, Result, Ok, Err}
 use Rattle.page_state.specs.declared.layout.Geometry.{Geometry}
 use Rattle.page_state.specs.declared.entry.PageRange.{PageRange}
-use Rattle.step_reply.specs.declared.step.VmKind.{VmKind}
+use Rattle.call_table.specs.declared.step.VmKind.{VmKind}
 use Rattle.page_state.specs.Counts.{frame_count}
 use Rattle.page_state.specs.Geometries.{levels_below}
 use Rattle.page_state.specs.Layouts.{Layout}

@@ -2,12 +2,12 @@
 ghost use Rattle.guest_component.specs.Own.{HoldsOwn, HoldsOwn-prop};
 
 use crate::hand::{give_frames, split_hand};
+use call_table::{VmId, VmKind};
 use component::{Component, Plan};
 use hyp_pool::{Pool, PoolFault};
 use page_state::{Geometry, Page, PageRange};
 use reference_model::{Changes, GuestChange, MapChange};
 use std::alloc::{AllocError, Allocator, Global};
-use step_reply::{VmId, VmKind};
 use table_tree::Tree;
 
 /// The phase of a guest that isn't Empty.

@@ -12,11 +12,11 @@ ghost use Rattle.reference_model.specs.Step.{guest_need};
 
 use crate::body::{Body, Phase};
 use crate::guest::Guest;
+use call_table::{VmId, VmKind};
 use hyp_pool::Pool;
 use page_state::{Entry, Geometry, Page};
 use reference_model::Changes;
 use std::alloc::{Allocator, Global};
-use step_reply::{VmId, VmKind};
 
 impl<A: Allocator> Guest<A> {
     /// An Empty guest; trees have the geometry. It takes no memory.

@@ -2,7 +2,7 @@
 use Rattle.std.proofs.Common.{◌≡◌, ℕ, List, [], sym, ap, subst, ◌∙◌}
 use mathlib.Core.Path.{fun_ext}
 use Rattle.page_state.specs.declared.layout.Config.{Config}
-use Rattle.step_reply.specs.declared.reply.Call.{Call}
+use Rattle.call_table.specs.declared.reply.Call.{Call}
 use Rattle.page_state.specs.Layouts.{HasItsDepth}
 use Rattle.page_state.specs.Regions.{Memory}
 use Rattle.reference_model.specs.Boot.{boot, CanBoot}

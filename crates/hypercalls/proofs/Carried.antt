@@ -5,10 +5,10 @@ use Rattle.hyp_pool.specs.declared.PoolFault.{PoolFault}
 use Rattle.hyp_pool.specs.declared.PoolFault.TheVariants.{NoPool, NoMemory as NoMemoryFault}
 use Rattle.page_state.specs.declared.entry.PageRange.{PageRange}
 use Rattle.page_state.specs.declared.row.Row.{Row}
-use Rattle.step_reply.specs.declared.reply.Refusal.TheVariants.{NoMemory}
-use Rattle.step_reply.specs.declared.reply.Reply.{Reply}
-use Rattle.step_reply.specs.declared.reply.Reply.TheVariants.{Refused}
-use Rattle.step_reply.specs.declared.step.Step.{Step}
+use Rattle.call_table.specs.declared.reply.Refusal.TheVariants.{NoMemory}
+use Rattle.call_table.specs.declared.reply.Reply.{Reply}
+use Rattle.call_table.specs.declared.reply.Reply.TheVariants.{Refused}
+use Rattle.call_table.specs.declared.step.Step.{Step}
 use Rattle.page_state.specs.Layouts.{Layout, is_memory}
 use Rattle.page_state.specs.Tables.{need, needs, edited, freed, returned}
 use Rattle.page_state.proofs.Common.{or-false, not-holds}
@@ -23,8 +23,8 @@ use Rattle.reference_model.specs.RowChanges.{first_of, told_row, with_told}
 use Rattle.reference_model.specs.State.{Vms, Shared, Guest, Cpu, no_vms, no_shared, no_guest}
 use Rattle.reference_model.specs.Step.{shared_need, shared_after, guest_need, guest_after, is_short, changed}
 use Rattle.reference_model.specs.Used.{Used}
-use Rattle.guest_steps.specs.declared.parts.GuestPart.{GuestPart}
-use Rattle.guest_steps.specs.declared.parts.SharedPart.{SharedPart}
+use Rattle.part_types.specs.declared.parts.GuestPart.{GuestPart}
+use Rattle.part_types.specs.declared.parts.SharedPart.{SharedPart}
 use Rattle.std.proofs.lemmas.Bool.{ltb-true, lt-ltb}
 use Rattle.std.proofs.lemmas.Bool.Decides.{nat_tests}
 use Rattle.component.specs.View.{HasRoomFor, need_for}
@@ -37,17 +37,17 @@ use Rattle.guest_component.specs.View.{guest_depth, guest_of}
 use Rattle.component.proofs.Keeps.{need_keep}
 use Rattle.page_state.specs.Geometries.{levels_below}
 use Rattle.table_tree.specs.View.{tree_of}
-use Rattle.guest_steps.specs.declared.parts.CpuState.{CpuState}
-use Rattle.guest_steps.specs.declared.parts.VmPart.{VmPart}
-use Rattle.guest_steps.specs.Lent.{Lent, SharedSuits, lent_both, lent_guest, lent_shared, lent_vms, used_in}
-use Rattle.guest_steps.specs.Logs.{IsOfSize}
-use Rattle.guest_steps.specs.MemoryRows.{HasMemoryRows}
-use Rattle.guest_steps.specs.View.{vm_slots, shared_of, guest_held, cpu_of, depth_of}
+use Rattle.part_types.specs.declared.parts.CpuState.{CpuState}
+use Rattle.part_types.specs.declared.parts.VmPart.{VmPart}
+use Rattle.part_types.specs.Lent.{Lent, SharedSuits, lent_both, lent_guest, lent_shared, lent_vms, used_in}
+use Rattle.part_types.specs.Logs.{IsOfSize}
+use Rattle.part_types.specs.MemoryRows.{HasMemoryRows}
+use Rattle.part_types.specs.View.{vm_slots, shared_of, guest_held, cpu_of, depth_of}
 use Rattle.reference_model.specs.declared.changes.SlotChange.TheVariants.{Keep as KeepSlots}
 use Rattle.reference_model.specs.Parts.{Names, uses_shared}
 use Rattle.decisions.specs.Grows.{GrowsOnly}
 use Rattle.hypercalls.specs.Carried.{Ends, LeavesGuest, LeavesShared, is_either_short, rows_told}
-use Rattle.guest_steps.specs.Roomy.{IsRoomy}
+use Rattle.part_types.specs.Roomy.{IsRoomy}
 
 less_none : (n : ℕ) → nat_lt n 0 ≡ false
 less_none n = grind (arith, nat_tests)

@@ -7,15 +7,15 @@ use Rattle.page_state.specs.Layouts.{Layout}
 use Rattle.reference_model.specs.Parts.{uses_shared}
 use Rattle.reference_model.specs.Rules.{names, guest_slot}
 use Rattle.reference_model.specs.Reached.{IsReached}
-use Rattle.step_reply.specs.declared.reply.Call.{Call}
-use Rattle.step_reply.specs.declared.reply.Reply.{Reply}
-use Rattle.step_reply.specs.declared.step.Step.{Step}
-use Rattle.guest_steps.specs.declared.parts.VmPart.{VmPart}
-use Rattle.guest_steps.specs.declared.parts.GuestPart.{GuestPart}
-use Rattle.guest_steps.specs.declared.parts.CpuState.{CpuState}
-use Rattle.guest_steps.specs.Lent.{Lent, GuestSuits, lent_alone, lent_vms, used_in}
-use Rattle.guest_steps.specs.Logs.{IsOfSize}
-use Rattle.guest_steps.specs.View.{cpu_of}
+use Rattle.call_table.specs.declared.reply.Call.{Call}
+use Rattle.call_table.specs.declared.reply.Reply.{Reply}
+use Rattle.call_table.specs.declared.step.Step.{Step}
+use Rattle.part_types.specs.declared.parts.VmPart.{VmPart}
+use Rattle.part_types.specs.declared.parts.GuestPart.{GuestPart}
+use Rattle.part_types.specs.declared.parts.CpuState.{CpuState}
+use Rattle.part_types.specs.Lent.{Lent, GuestSuits, lent_alone, lent_vms, used_in}
+use Rattle.part_types.specs.Logs.{IsOfSize}
+use Rattle.part_types.specs.View.{cpu_of}
 use Rattle.hypercalls.specs.declared.parts.Parts.{Parts}
 use Rattle.hypercalls.specs.Stands.{parts_layout, HasHistory}
 use Rattle.hypercalls.specs.Steps.{IsStepOn, reply_in}

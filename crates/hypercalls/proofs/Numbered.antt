@@ -1,17 +1,17 @@
 -- A step of a CPU by its number, which its own state has.
 use Rattle.std.proofs.Common.{◌≡◌, ◌∙◌, ◌⊎◌, inl, inr, refl, ◌∷◌, [], ◌++◌, ◌+◌, zero, suc, ℕ, true, false, length, slice_get, slice_set, List, Option, Some, sym, ap, subst, if◌then◌else◌}
 use Rattle.page_state.proofs.Cases.{by_eq}
-use Rattle.step_reply.specs.declared.reply.Call.{Call}
-use Rattle.step_reply.specs.declared.reply.Refusal.TheVariants.{NoMemory}
-use Rattle.step_reply.specs.declared.reply.Reply.{Reply}
-use Rattle.step_reply.specs.declared.reply.Reply.TheVariants.{Refused}
-use Rattle.step_reply.specs.declared.step.Step.{Step}
+use Rattle.call_table.specs.declared.reply.Call.{Call}
+use Rattle.call_table.specs.declared.reply.Refusal.TheVariants.{NoMemory}
+use Rattle.call_table.specs.declared.reply.Reply.{Reply}
+use Rattle.call_table.specs.declared.reply.Reply.TheVariants.{Refused}
+use Rattle.call_table.specs.declared.step.Step.{Step}
 use Rattle.page_state.specs.Layouts.{Layout}
 use Rattle.reference_model.specs.History.{IsStored}
 use Rattle.reference_model.specs.Step.{StepsOn}
-use Rattle.guest_steps.specs.declared.parts.CpuState.{CpuState}
-use Rattle.guest_steps.specs.Lent.{Lent, all_with, logs_in, rooms_in, slot_in, used_in}
-use Rattle.guest_steps.specs.Numbers.{AreNumbered}
+use Rattle.part_types.specs.declared.parts.CpuState.{CpuState}
+use Rattle.part_types.specs.Lent.{Lent, all_with, logs_in, rooms_in, slot_in, used_in}
+use Rattle.part_types.specs.Numbers.{AreNumbered}
 use Rattle.hypercalls.specs.Steps.{CanWantOn, IsStepOn, any_full, reply_in}
 use Rattle.hypercalls.proofs.Places.{kept, written, get_inside}
 

@@ -2,11 +2,11 @@
 use Rattle.std.proofs.Common.{arith, ◌≡◌, ◌∙◌, ℕ, zero, suc, ◌<◌, ◌==◌, is_some, option_map, unwrap_or, Bool, true, false, List, [], ◌∷◌, ◌++◌, length, slice_get, slice_set, Option, Some, None, refl, sym, ap, if◌then◌else◌}
 use Rattle.std.proofs.lemmas.Bool.Decides.{nat_tests}
 use Rattle.page_state.proofs.Cases.{by_test}
-use Rattle.step_reply.specs.declared.reply.Call.{Call}
+use Rattle.call_table.specs.declared.reply.Call.{Call}
 use Rattle.reference_model.specs.Stored.{Stores}
 use Rattle.reference_model.specs.Parts.{is_slot}
-use Rattle.guest_steps.specs.Lent.{with_call}
-use Rattle.guest_steps.specs.Logs.{StoredCalls}
+use Rattle.part_types.specs.Lent.{with_call}
+use Rattle.part_types.specs.Logs.{StoredCalls}
 use Rattle.hypercalls.specs.Stands.{at_place}
 
 -- a part where it is used, and else none

@@ -2,17 +2,17 @@
 use Rattle.std.proofs.Common.{◌≡◌, ℕ, zero, suc, ◌↔◌, IsTrue, ◌+◌, ◌-◌, ◌<◌, ◌==◌, ◌&&◌, ◌||◌, ◌++◌, Bool, true, false, List, [], ◌∷◌, length, is_some, option_map, unwrap_or, IfSome, Option, Some, None, length-append, Result, Ok, Err, refl, ap, sym, ◌∙◌, subst, arith}
 use Rattle.std.proofs.lemmas.Bool.Decides.{nat_tests}
 use Rattle.hyp_pool.specs.declared.PoolFault.{PoolFault}
-use Rattle.step_reply.specs.declared.reply.Call.{Call}
-use Rattle.step_reply.specs.declared.reply.Refusal.{Refusal}
-use Rattle.step_reply.specs.declared.reply.Refusal.TheVariants.{LogFull, NoMemory}
-use Rattle.step_reply.specs.declared.reply.Reply.{Reply}
-use Rattle.step_reply.specs.declared.reply.Reply.TheVariants.{Refused}
-use Rattle.step_reply.specs.declared.step.Step.{Step}
+use Rattle.call_table.specs.declared.reply.Call.{Call}
+use Rattle.call_table.specs.declared.reply.Refusal.{Refusal}
+use Rattle.call_table.specs.declared.reply.Refusal.TheVariants.{LogFull, NoMemory}
+use Rattle.call_table.specs.declared.reply.Reply.{Reply}
+use Rattle.call_table.specs.declared.reply.Reply.TheVariants.{Refused}
+use Rattle.call_table.specs.declared.step.Step.{Step}
 use Rattle.page_state.specs.Layouts.{Layout}
 use Rattle.decisions.specs.Grows.{GrowsOnly}
-use Rattle.guest_steps.specs.Lent.{LentLogs, Lent, with_call, all_with, call_in, rooms_in, logs_in, slot_in, used_in}
-use Rattle.guest_steps.specs.Logs.{StoredCalls, IsOfSize}
-use Rattle.guest_steps.specs.View.{cpu_of}
+use Rattle.part_types.specs.Lent.{LentLogs, Lent, with_call, all_with, call_in, rooms_in, logs_in, slot_in, used_in}
+use Rattle.part_types.specs.Logs.{StoredCalls, IsOfSize}
+use Rattle.part_types.specs.View.{cpu_of}
 use Rattle.reference_model.specs.declared.changes.Changes.{Changes}
 use Rattle.reference_model.specs.Answers.{AnswerSteps, BarredAnswers, FullSteps}
 use Rattle.reference_model.specs.Decides.{decides}
@@ -24,7 +24,7 @@ use Rattle.reference_model.specs.Step.{is_full, stored as stored_rooms, Answered
 use Rattle.reference_model.specs.Used.{Used}
 use Rattle.guest_component.specs.Wants.{WantsNoMemory}
 use Rattle.hypercalls.specs.Carried.{Ends}
-use Rattle.guest_steps.specs.Roomy.{IsRoomy}
+use Rattle.part_types.specs.Roomy.{IsRoomy}
 use Rattle.hypercalls.specs.Steps.{any_full, is_full_in, CanWantOn, IsStepOn}
 use Rattle.hypercalls.proofs.Carried.{Comes, carries, told_memory}
 use Rattle.hypercalls.proofs.Using.{IsKind}

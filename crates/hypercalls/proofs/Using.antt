@@ -3,7 +3,7 @@ use Rattle.std.proofs.Common.{◌≡◌, ◌∙◌, ℕ, Bool, true, false, Opti
 use Rattle.reference_model.specs.Parts.{uses_vms, uses_shared}
 use Rattle.reference_model.specs.Rules.{names, guest_slot}
 use Rattle.reference_model.specs.State.{Cpu}
-use Rattle.step_reply.specs.declared.step.Step.{Step}
+use Rattle.call_table.specs.declared.step.Step.{Step}
 use Rattle.decisions.proofs.Decided.{vms_parts}
 use Rattle.hypercalls.specs.declared.used_parts.UsedParts.TheVariants.{Nothing, Vms, Shared, Guest, Both}
 use Rattle.hypercalls.specs.Uses.{or_vms, by_slot, uses_of}

@@ -2,11 +2,11 @@
 use Rattle.std.proofs.Common.{arith, ◌≡◌, ◌∙◌, ℕ, ◌+◌, ◌-◌, ◌<◌, ◌==◌, ◌++◌, option_map, unwrap_or, Bool, true, false, List, [], ◌∷◌, length, slice_get, slice_set, IfSome, Option, Some, None, refl, sym, ap, subst, ◌⊎◌, inl, inr, if◌then◌else◌}
 use Rattle.std.proofs.lemmas.Bool.Decides.{nat_tests}
 use Rattle.page_state.proofs.Cases.{by_test}
-use Rattle.step_reply.specs.declared.reply.Call.{Call}
-use Rattle.step_reply.specs.declared.reply.Refusal.TheVariants.{LogFull}
-use Rattle.step_reply.specs.declared.reply.Reply.{Reply}
-use Rattle.step_reply.specs.declared.reply.Reply.TheVariants.{Refused}
-use Rattle.step_reply.specs.declared.step.Step.{Step}
+use Rattle.call_table.specs.declared.reply.Call.{Call}
+use Rattle.call_table.specs.declared.reply.Refusal.TheVariants.{LogFull}
+use Rattle.call_table.specs.declared.reply.Reply.{Reply}
+use Rattle.call_table.specs.declared.reply.Reply.TheVariants.{Refused}
+use Rattle.call_table.specs.declared.step.Step.{Step}
 use Rattle.page_state.specs.Layouts.{Layout}
 use Rattle.page_state.specs.LayoutView.{layout_of as layout_told}
 use Rattle.reference_model.specs.Decides.{decides}
@@ -27,15 +27,15 @@ use Rattle.reference_model.proofs.Held.{slot-low, history_steps}
 use Rattle.reference_model.proofs.Steps.{log_full_keeps}
 use Rattle.reference_model.proofs.HeldStored.{held_stored}
 use Rattle.reference_model.proofs.conditions.RunsLegal.{run_legal}
-use Rattle.guest_steps.specs.declared.parts.VmPart.{VmPart}
-use Rattle.guest_steps.specs.declared.parts.SharedPart.{SharedPart}
-use Rattle.guest_steps.specs.declared.parts.GuestPart.{GuestPart}
-use Rattle.guest_steps.specs.declared.parts.CpuState.{CpuState}
+use Rattle.part_types.specs.declared.parts.VmPart.{VmPart}
+use Rattle.part_types.specs.declared.parts.SharedPart.{SharedPart}
+use Rattle.part_types.specs.declared.parts.GuestPart.{GuestPart}
+use Rattle.part_types.specs.declared.parts.CpuState.{CpuState}
 use Rattle.guest_component.specs.Wants.{WantsNoMemory}
-use Rattle.guest_steps.specs.Lent.{Lent, LentLogs, used_in, logs_in, rooms_in, all_with, with_call}
-use Rattle.guest_steps.specs.Logs.{StoredCalls, IsOfSize}
-use Rattle.guest_steps.specs.View.{vm_slots, shared_of, guest_held, cpu_of}
-use Rattle.guest_steps.specs.Roomy.{IsRoomy}
+use Rattle.part_types.specs.Lent.{Lent, LentLogs, used_in, logs_in, rooms_in, all_with, with_call}
+use Rattle.part_types.specs.Logs.{StoredCalls, IsOfSize}
+use Rattle.part_types.specs.View.{vm_slots, shared_of, guest_held, cpu_of}
+use Rattle.part_types.specs.Roomy.{IsRoomy}
 use Rattle.hypercalls.specs.declared.parts.Parts.{Parts}
 use Rattle.hypercalls.specs.Stands.{at_place, parts_layout, kept_of, state_of, HasHistory}
 use Rattle.hypercalls.specs.Steps.{any_full, reply_in}

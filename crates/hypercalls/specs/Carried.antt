@@ -3,13 +3,13 @@ use Rattle.std.specs.Prelude.{◌≡◌, ◌<◌, ℕ, Bool, true, false, ◌&&�
 use Rattle.page_state.specs.Layouts.{Layout, is_memory}
 use Rattle.hyp_pool.specs.declared.PoolFault.{PoolFault}
 use Rattle.hyp_pool.specs.declared.PoolFault.TheVariants.{NoPool, NoMemory}
-use Rattle.step_reply.specs.declared.reply.Refusal.TheVariants.{NoMemory as NoMemoryReply, NoPool as NoPoolReply}
-use Rattle.step_reply.specs.declared.reply.Reply.{Reply}
-use Rattle.step_reply.specs.declared.reply.Reply.TheVariants.{Done, Refused}
-use Rattle.guest_steps.specs.declared.parts.GuestPart.{GuestPart}
-use Rattle.guest_steps.specs.declared.parts.SharedPart.{SharedPart}
-use Rattle.guest_steps.specs.Lent.{GuestSuits, SharedSuits}
-use Rattle.guest_steps.specs.View.{guest_held, shared_of}
+use Rattle.call_table.specs.declared.reply.Refusal.TheVariants.{NoMemory as NoMemoryReply, NoPool as NoPoolReply}
+use Rattle.call_table.specs.declared.reply.Reply.{Reply}
+use Rattle.call_table.specs.declared.reply.Reply.TheVariants.{Done, Refused}
+use Rattle.part_types.specs.declared.parts.GuestPart.{GuestPart}
+use Rattle.part_types.specs.declared.parts.SharedPart.{SharedPart}
+use Rattle.part_types.specs.Lent.{GuestSuits, SharedSuits}
+use Rattle.part_types.specs.View.{guest_held, shared_of}
 use Rattle.reference_model.specs.ChangeLaws.{AllFit, PartsFit, TouchedFits}
 use Rattle.reference_model.specs.declared.changes.Changes.{Changes}
 use Rattle.reference_model.specs.declared.changes.GuestChange.TheVariants.{Keep as KeepGuest}

@@ -1,13 +1,13 @@
 -- The reference state that all parts stand for, and their history.
 use Rattle.std.specs.Prelude.{List, [], Option, Some, None, slice_get}
-use Rattle.step_reply.specs.declared.reply.Call.{Call}
+use Rattle.call_table.specs.declared.reply.Call.{Call}
 use Rattle.page_state.specs.LayoutView.{layout_of as layout_told}
 use Rattle.page_state.specs.Layouts.{Layout}
 use Rattle.reference_model.specs.Boot.{CanBoot}
 use Rattle.reference_model.specs.Stored.{held_state}
 use Rattle.reference_model.specs.History.{Kept, IsHistory}
 use Rattle.reference_model.specs.State.{Reference, no_guest, no_cpu}
-use Rattle.guest_steps.specs.View.{vm_slots, shared_of, guest_held, cpu_of}
+use Rattle.part_types.specs.View.{vm_slots, shared_of, guest_held, cpu_of}
 use Rattle.hypercalls.specs.declared.parts.Parts.{Parts}
 
 -- what stands at a place of a list, or what stands for none

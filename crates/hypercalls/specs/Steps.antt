@@ -1,19 +1,19 @@
 -- What a step on lent parts does.
 use Rattle.std.specs.Prelude.{◌≡◌, ℕ, Bool, true, false, ◌==◌, ◌||◌, option_map, unwrap_or, IfSome, Option, Some, None, Ok, if◌then◌else◌}
-use Rattle.step_reply.specs.declared.reply.Call.{Call}
-use Rattle.step_reply.specs.declared.reply.Refusal.TheVariants.{LogFull, NoMemory}
-use Rattle.step_reply.specs.declared.reply.Reply.{Reply}
-use Rattle.step_reply.specs.declared.reply.Reply.TheVariants.{Refused}
-use Rattle.step_reply.specs.declared.step.Step.{Step}
+use Rattle.call_table.specs.declared.reply.Call.{Call}
+use Rattle.call_table.specs.declared.reply.Refusal.TheVariants.{LogFull, NoMemory}
+use Rattle.call_table.specs.declared.reply.Reply.{Reply}
+use Rattle.call_table.specs.declared.reply.Reply.TheVariants.{Refused}
+use Rattle.call_table.specs.declared.step.Step.{Step}
 use Rattle.page_state.specs.Layouts.{Layout}
 use Rattle.reference_model.specs.declared.changes.Changes.{Changes}
 use Rattle.reference_model.specs.Decides.{decides}
 use Rattle.reference_model.specs.History.{IsStored}
 use Rattle.reference_model.specs.Step.{StepsOn}
 use Rattle.guest_component.specs.Wants.{WantsNoMemory}
-use Rattle.guest_steps.specs.Lent.{Lent, LentLogs, used_in, slot_in, logs_in, rooms_in, call_in, all_with}
-use Rattle.guest_steps.specs.Logs.{StoredCalls}
-use Rattle.guest_steps.specs.Roomy.{IsRoomy}
+use Rattle.part_types.specs.Lent.{Lent, LentLogs, used_in, slot_in, logs_in, rooms_in, call_in, all_with}
+use Rattle.part_types.specs.Logs.{StoredCalls}
+use Rattle.part_types.specs.Roomy.{IsRoomy}
 
 -- a log is lent, and full
 abbrev pub is_full_in : Option StoredCalls → Bool

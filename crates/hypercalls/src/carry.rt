@@ -1,20 +1,20 @@
 //! Changes of parts are carried out, for all calls in one place.
 ghost use Rattle.std.specs.Prelude.{◌≡◌, ◌<◌, ◌^◌, ◌↔◌, Err, Some, unwrap_or};
 ghost use Rattle.guest_component.specs.Wants.{WantsNoMemory};
-ghost use Rattle.guest_steps.specs.Lent.{SharedSuits};
-ghost use Rattle.guest_steps.specs.View.{cpu_of, shared_of};
+ghost use Rattle.part_types.specs.Lent.{SharedSuits};
+ghost use Rattle.part_types.specs.View.{cpu_of, shared_of};
 ghost use Rattle.hypercalls.specs.Carried.{CanChangeGuest, CanChangeShared, Ends, IsEitherShort, IsGuestChanged, IsGuestShort, IsSharedChanged, IsSharedShort, rows_told};
-ghost use Rattle.guest_steps.specs.Roomy.{IsRoomy};
+ghost use Rattle.part_types.specs.Roomy.{IsRoomy};
 ghost use Rattle.page_state.specs.LayoutView.{layout_of};
 ghost use Rattle.reference_model.specs.ChangeLaws.{TouchedFits};
 
 use crate::rows::{first_row, touched};
-use guest_steps::{CpuState, GuestPart, SharedPart};
+use call_table::{Refusal, Reply};
 use hyp_pool::PoolFault;
 use page_state::Layout;
+use part_types::{CpuState, GuestPart, SharedPart};
 use reference_model::Changes;
 use std::alloc::Allocator;
-use step_reply::{Refusal, Reply};
 
 /// Gives the touched frames their row, where they are memory.
 fn write_rows<A: Allocator>(

@@ -1,16 +1,16 @@
 //! All parts, and the step on those that it uses.
 ghost use Rattle.std.specs.Prelude.{◌≡◌, ◌<◌, vec_len, All};
-ghost use Rattle.guest_steps.specs.Logs.{IsOfSize};
-ghost use Rattle.guest_steps.specs.MemoryRows.{HasMemoryRows};
-ghost use Rattle.guest_steps.specs.Numbers.{AreNumbered};
+ghost use Rattle.part_types.specs.Logs.{IsOfSize};
+ghost use Rattle.part_types.specs.MemoryRows.{HasMemoryRows};
+ghost use Rattle.part_types.specs.Numbers.{AreNumbered};
 ghost use Rattle.page_state.specs.Geometries.{levels_below};
 
 use crate::step::{reply_of, step_alone, step_on_both, step_on_guest, step_on_shared, step_on_vms};
 use crate::used_parts::{UsedParts, uses};
-use guest_steps::{CpuState, GuestPart, SharedPart, VmPart};
+use call_table::{Reply, Step};
 use page_state::Layout;
+use part_types::{CpuState, GuestPart, SharedPart, VmPart};
 use std::alloc::Allocator;
-use step_reply::{Reply, Step};
 
 /// The layout, which never changes, the VM part, the Shared part, the Guest parts by slot, and the CPUs by number.
 #[derive(Drop)]

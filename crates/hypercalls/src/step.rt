@@ -1,8 +1,8 @@
 //! The step by its kind of use: it tests the logs, decides, carries out and stores.
 ghost use Rattle.std.specs.Prelude.{◌≡◌, ◌<◌, None, Some};
-ghost use Rattle.guest_steps.specs.Lent.{GuestSuits, SharedSuits, Suits, lent_alone, lent_both, lent_guest, lent_shared, lent_vms, used_in};
-ghost use Rattle.guest_steps.specs.Logs.{IsOfSize};
-ghost use Rattle.guest_steps.specs.View.{cpu_of, guest_held, shared_of, vm_slots};
+ghost use Rattle.part_types.specs.Lent.{GuestSuits, SharedSuits, Suits, lent_alone, lent_both, lent_guest, lent_shared, lent_vms, used_in};
+ghost use Rattle.part_types.specs.Logs.{IsOfSize};
+ghost use Rattle.part_types.specs.View.{cpu_of, guest_held, shared_of, vm_slots};
 ghost use Rattle.hypercalls.specs.Steps.{IsStepOn, reply_in};
 ghost use Rattle.hypercalls.specs.Uses.{uses_of};
 ghost use Rattle.page_state.specs.LayoutView.{layout_of};
@@ -12,12 +12,12 @@ ghost use Rattle.reference_model.specs.Used.{guest_alone, used_alone, vms_alone}
 
 use crate::carry::{change_both, change_guest, change_shared, ended};
 use crate::used_parts::UsedParts;
+use call_table::{Call, Refusal, Reply, Step};
 use decisions::{decide_guest, decide_shared, decide_vms, decide_with_guest, refusal_of_none};
-use guest_steps::{CpuState, GuestPart, SharedPart, VmPart};
 use page_state::Layout;
+use part_types::{CpuState, GuestPart, SharedPart, VmPart};
 use reference_model::laws;
 use std::alloc::Allocator;
-use step_reply::{Call, Refusal, Reply, Step};
 
 /// Makes a step of a CPU that uses no part, and stores the call in the CPU's log. None where that is full.
 pub fn step_alone(layout: &Layout, cpu: &mut CpuState, step: Step) -> Option<Call>

@@ -1,13 +1,13 @@
 //! Which parts a step uses.
 ghost use Rattle.std.specs.Prelude.{◌≡◌};
-ghost use Rattle.guest_steps.specs.View.{cpu_of};
+ghost use Rattle.part_types.specs.View.{cpu_of};
 ghost use Rattle.hypercalls.specs.Uses.{uses_of};
 ghost use Rattle.reference_model.specs.Parts.{slot_of as slot_of_vm, ticket_slot as ticket_slot_of, uses_shared as uses_shared_part, uses_vms as uses_vm_part};
 ghost use Rattle.reference_model.specs.Rules.{guest_slot as guest_slot_of, names};
 
-use guest_steps::CpuState;
+use call_table::{Step, VmId};
+use part_types::CpuState;
 use reference_model::Stage;
-use step_reply::{Step, VmId};
 
 /// The slot of a VM, where there is such a slot.
 fn slot_of(vm: VmId) -> Option<u64>

@@ -4,6 +4,7 @@ ghost use Rattle.page_state.specs.Rows.{HasPageBelow};
 ghost use Rattle.page_state.specs.Runs.{IsCoarsest};
 ghost use Rattle.ghost_trees.specs.Small.{AreSmall, HasLowFrames};
 
+use call_table::VmId;
 use descriptor::{Frame, Kind, Owner, Prot, State};
 use ghost_spec::cpu::GhostCpu;
 use ghost_spec::lists::GhostLists;
@@ -16,7 +17,6 @@ use page_state::{Entry, Page, PageRange, Row, Run, Usage};
 use reference_model::{Loaded, Stage};
 use std::alloc::Global;
 use std::process::Abort;
-use step_reply::VmId;
 
 /// A slot.
 fn slot<'a>(rt: &impl Abort, lists: &'a mut GhostLists, number: usize) -> &'a mut GhostSlot {

@@ -1,11 +1,11 @@
 //! A walk along the lines of a trace.
+use call_table::{Reply, Step};
 use ghost_legal::{have_first_blocks, illegal, illegal_but_for_trees};
 use ghost_spec::start::start;
 use ghost_spec::state::{Ghost, has_next_generation, predict_last};
 use page_state::{Geometry, Layout, MemoryMap};
 use std::alloc::Global;
 use std::process::Abort;
-use step_reply::{Reply, Step};
 use trace_lines::{Allows, Line, Settings, said};
 
 /// The state at boot.

@@ -8,10 +8,10 @@ use lib.ListN.{get_elem?}
 use Rattle.atomic_table.specs.Seated.{TableId}
 use Rattle.atomic_table.specs.Table.{Final, Seen}
 use Rattle.page_state.specs.declared.layout.Layout.{Layout as TheLayout}
-use Rattle.step_reply.specs.declared.reply.Call.{Call}
+use Rattle.call_table.specs.declared.reply.Call.{Call}
 use Rattle.page_state.specs.LayoutView.{layout_of}
 use Rattle.reference_model.specs.History.{calls_by, calls_on}
-use Rattle.guest_steps.specs.declared.parts.CpuState.{CpuState}
+use Rattle.part_types.specs.declared.parts.CpuState.{CpuState}
 use Rattle.part_table.specs.declared.rule.View.{View}
 use Rattle.part_table.specs.declared.slot.Slot.{Slot}
 use Rattle.part_table.specs.Endings.{ForEach, Gives, HasEnd, HaveEnded, IsEndFor, IsEndOf, KeepsOwn, KeepsSeen, KeepsTried, ended_of}

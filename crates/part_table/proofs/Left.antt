@@ -6,10 +6,10 @@ use native.Mathlib.Decide.{ℕ_discrete}
 use Rattle.page_state.specs.declared.layout.Layout.{Layout as TheLayout}
 use Rattle.page_state.specs.LayoutView.{layout_of}
 use Rattle.page_state.specs.Layouts.{Layout}
-use Rattle.step_reply.specs.declared.reply.Call.{Call}
+use Rattle.call_table.specs.declared.reply.Call.{Call}
 use Rattle.reference_model.specs.History.{calls_by, calls_on}
 use Rattle.reference_model.specs.State.{Reference}
-use Rattle.guest_steps.specs.declared.parts.CpuState.{CpuState}
+use Rattle.part_types.specs.declared.parts.CpuState.{CpuState}
 use Rattle.part_table.specs.declared.slot.Slot.{Slot}
 use Rattle.part_table.specs.Does.{AreLeft, IsLeft, only_cpu}
 use Rattle.part_table.specs.Endings.{IsEndOf}

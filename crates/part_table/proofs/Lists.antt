@@ -8,7 +8,7 @@ use lib.ListN.{get_elem?}
 use Rattle.atomic_table.specs.Seated.{TableId}
 use Rattle.page_state.specs.declared.layout.Layout.{Layout as TheLayout}
 use Rattle.atomic_table.proofs.Lists.{at_longer}
-use Rattle.guest_steps.specs.declared.parts.CpuState.{CpuState}
+use Rattle.part_types.specs.declared.parts.CpuState.{CpuState}
 use Rattle.part_table.specs.Endings.{HaveEnded}
 use Rattle.part_table.specs.Passes.{AreFirst, Pass, first_pass}
 use Rattle.part_table.specs.Rule.{Ended}

@@ -2,15 +2,15 @@
 use Rattle.std.proofs.Common.{◌≡◌, ℕ, ◌<◌, Bool, true, false, refl, sym, ap, ◌∙◌}
 use Rattle.std.specs.Prelude.{Option, Some, None}
 use Rattle.page_state.specs.declared.layout.Layout.{Layout as TheLayout}
-use Rattle.step_reply.specs.declared.step.Step.{Step}
+use Rattle.call_table.specs.declared.step.Step.{Step}
 use Rattle.page_state.specs.LayoutView.{layout_of}
 use Rattle.reference_model.specs.Parts.{Names, uses_vms, uses_shared}
 use Rattle.reference_model.specs.Rules.{names, guest_slot}
 use Rattle.reference_model.specs.State.{Contents, Cpu}
 use Rattle.reference_model.specs.Used.{used_of}
 use Rattle.reference_model.proofs.Rely.{reached_relies}
-use Rattle.guest_steps.specs.declared.parts.CpuState.{CpuState}
-use Rattle.guest_steps.specs.View.{cpu_of}
+use Rattle.part_types.specs.declared.parts.CpuState.{CpuState}
+use Rattle.part_types.specs.View.{cpu_of}
 use Rattle.hypercalls.specs.declared.used_parts.UsedParts.TheVariants.{Guest, Both}
 use Rattle.hypercalls.specs.Uses.{parts_of, or_vms, by_slot}
 use Rattle.part_table.proofs.Left.{own_left}

@@ -4,8 +4,8 @@ use Rattle.std.proofs.lemmas.Bool.Decides.{nat_tests}
 use Rattle.std.proofs.Math.Logic.{∥∥₁_elim, ∥∥₁_map}
 use Rattle.std.proofs.Props.{props}
 use Rattle.page_state.proofs.Common.{eq-self}
-use Rattle.step_reply.specs.declared.reply.Call.{Call}
-use Rattle.step_reply.specs.declared.step.Step.{Step}
+use Rattle.call_table.specs.declared.reply.Call.{Call}
+use Rattle.call_table.specs.declared.step.Step.{Step}
 use Rattle.page_state.specs.Layouts.{Layout}
 use Rattle.reference_model.specs.Parts.{Names, is_slot, uses_vms, uses_shared}
 use Rattle.reference_model.specs.Rules.{names}
@@ -13,20 +13,20 @@ use Rattle.reference_model.specs.Reached.{IsReached}
 use Rattle.reference_model.specs.State.{Vms, Shared, Guest, Cpu, Reference, no_vms, no_shared, no_guest}
 use Rattle.reference_model.specs.Step.{Steps, StepsOn, rooms_by, with_used}
 use Rattle.reference_model.specs.Used.{Used, UsedRooms, used_of, put_back, rooms_of, put_rooms, guest_at, put_guest, room_at, put_room}
-use Rattle.guest_steps.specs.declared.parts.VmPart.{VmPart}
-use Rattle.guest_steps.specs.declared.parts.SharedPart.{SharedPart}
-use Rattle.guest_steps.specs.declared.parts.GuestPart.{GuestPart}
-use Rattle.guest_steps.specs.declared.parts.CpuState.{CpuState}
-use Rattle.guest_steps.specs.Lent.{GuestSuits, Lent, LentLogs, SharedSuits, Suits, all_with, call_in, logs_in, rooms_in, slot_in, used_in, with_call}
-use Rattle.guest_steps.specs.Logs.{StoredCalls, IsOfSize}
-use Rattle.guest_steps.specs.View.{vm_slots, shared_of, guest_held, cpu_of}
+use Rattle.part_types.specs.declared.parts.VmPart.{VmPart}
+use Rattle.part_types.specs.declared.parts.SharedPart.{SharedPart}
+use Rattle.part_types.specs.declared.parts.GuestPart.{GuestPart}
+use Rattle.part_types.specs.declared.parts.CpuState.{CpuState}
+use Rattle.part_types.specs.Lent.{GuestSuits, Lent, LentLogs, SharedSuits, Suits, all_with, call_in, logs_in, rooms_in, slot_in, used_in, with_call}
+use Rattle.part_types.specs.Logs.{StoredCalls, IsOfSize}
+use Rattle.part_types.specs.View.{vm_slots, shared_of, guest_held, cpu_of}
 use Rattle.hypercalls.specs.Steps.{IsStepOn, any_full, reply_in}
 use Rattle.hypercalls.proofs.Stepping.{Fits}
 use Rattle.part_table.specs.declared.slot.Slot.{Slot}
 use Rattle.part_table.specs.declared.slot.Slot.TheVariants.{Vm as VmSlot, Shared as SharedSlot, Guest as GuestSlot}
 use Rattle.part_table.specs.Does.{Does, HasMemoryFor, IsLeft}
 use Rattle.guest_component.specs.Wants.{WantsNoMemory}
-use Rattle.guest_steps.specs.Roomy.{IsRoomy}
+use Rattle.part_types.specs.Roomy.{IsRoomy}
 use Rattle.reference_model.specs.declared.changes.Changes.{Changes}
 use Rattle.reference_model.specs.Decides.{decides}
 use Rattle.part_table.proofs.Left.{own_left, part_left}

@@ -4,18 +4,18 @@ use Rattle.std.proofs.Math.Logic.{∥∥₁_elim, ∥∥₁_map}
 use Rattle.std.proofs.Props.{props}
 use Rattle.std.proofs.lemmas.Bool.Decides.{nat_tests}
 use Rattle.std.specs.Coded.{le_prop}
-use Rattle.step_reply.specs.declared.reply.Call.{Call}
-use Rattle.step_reply.specs.declared.step.Step.{Step}
+use Rattle.call_table.specs.declared.reply.Call.{Call}
+use Rattle.call_table.specs.declared.step.Step.{Step}
 use Rattle.page_state.specs.Layouts.{Layout}
 use Rattle.reference_model.specs.Rules.{guest_slot, names}
 use Rattle.reference_model.specs.Reached.{IsReached}
 use Rattle.reference_model.specs.State.{Reference}
-use Rattle.guest_steps.specs.declared.parts.VmPart.{VmPart}
-use Rattle.guest_steps.specs.declared.parts.SharedPart.{SharedPart}
-use Rattle.guest_steps.specs.declared.parts.GuestPart.{GuestPart}
-use Rattle.guest_steps.specs.declared.parts.CpuState.{CpuState}
-use Rattle.guest_steps.specs.Lent.{Lent, Suits, call_in, lent_alone, lent_both, lent_guest, lent_shared, lent_vms, logs_in, slot_in, used_in}
-use Rattle.guest_steps.specs.View.{cpu_of}
+use Rattle.part_types.specs.declared.parts.VmPart.{VmPart}
+use Rattle.part_types.specs.declared.parts.SharedPart.{SharedPart}
+use Rattle.part_types.specs.declared.parts.GuestPart.{GuestPart}
+use Rattle.part_types.specs.declared.parts.CpuState.{CpuState}
+use Rattle.part_types.specs.Lent.{Lent, Suits, call_in, lent_alone, lent_both, lent_guest, lent_shared, lent_vms, logs_in, slot_in, used_in}
+use Rattle.part_types.specs.View.{cpu_of}
 use Rattle.hypercalls.specs.declared.used_parts.UsedParts.TheVariants.{Nothing, Vms, Shared, Guest, Both}
 use Rattle.hypercalls.specs.Steps.{IsStepOn, any_full, reply_in}
 use Rattle.hypercalls.specs.Uses.{uses_of}

@@ -7,13 +7,13 @@ use Rattle.page_state.specs.Layouts.{Layout}
 use Rattle.page_state.specs.Regions.{Memory}
 use Rattle.reference_model.specs.Boot.{boot, booted}
 use Rattle.reference_model.specs.State.{Cpu, Reference, no_cpu, no_guest}
-use Rattle.guest_steps.specs.declared.parts.VmPart.{VmPart}
-use Rattle.guest_steps.specs.declared.parts.SharedPart.{SharedPart}
-use Rattle.guest_steps.specs.declared.parts.GuestPart.{GuestPart}
-use Rattle.guest_steps.specs.declared.parts.CpuState.{CpuState}
-use Rattle.guest_steps.specs.Lent.{GuestSuits}
-use Rattle.guest_steps.specs.Logs.{StoredCalls, IsOfSize}
-use Rattle.guest_steps.specs.View.{guest_held, cpu_of}
+use Rattle.part_types.specs.declared.parts.VmPart.{VmPart}
+use Rattle.part_types.specs.declared.parts.SharedPart.{SharedPart}
+use Rattle.part_types.specs.declared.parts.GuestPart.{GuestPart}
+use Rattle.part_types.specs.declared.parts.CpuState.{CpuState}
+use Rattle.part_types.specs.Lent.{GuestSuits}
+use Rattle.part_types.specs.Logs.{StoredCalls, IsOfSize}
+use Rattle.part_types.specs.View.{guest_held, cpu_of}
 use Rattle.hypercalls.specs.declared.parts.Parts.{Parts}
 use Rattle.hypercalls.specs.Stands.{at_place, parts_layout, state_of}
 use Rattle.hypercalls.proofs.Lends.{all_get, guest_suits}

@@ -1,10 +1,10 @@
 -- What the answer to a call tells.
 use Rattle.std.specs.Prelude.{◌≡◌, ◌≢◌, ◌⊎◌, ℕ, List, [], ◌∷◌, ◌++◌, None}
-use Rattle.step_reply.specs.declared.reply.Call.{Call}
-use Rattle.step_reply.specs.declared.reply.Refusal.TheVariants.{Contended, LogFull}
-use Rattle.step_reply.specs.declared.reply.Reply.{Reply}
-use Rattle.step_reply.specs.declared.reply.Reply.TheVariants.{Refused}
-use Rattle.step_reply.specs.declared.step.Step.{Step}
+use Rattle.call_table.specs.declared.reply.Call.{Call}
+use Rattle.call_table.specs.declared.reply.Refusal.TheVariants.{Contended, LogFull}
+use Rattle.call_table.specs.declared.reply.Reply.{Reply}
+use Rattle.call_table.specs.declared.reply.Reply.TheVariants.{Refused}
+use Rattle.call_table.specs.declared.step.Step.{Step}
 use Rattle.reference_model.specs.History.{IsStored}
 use Rattle.part_table.specs.Parts.{numbers_for}
 use Rattle.part_table.specs.Does.{IsCalled}

@@ -1,15 +1,15 @@
 -- What a pass knows of the table and of its own calls.
 use Rattle.std.specs.Prelude.{◌≡◌, ℕ, ◌<◌, true, false, cond, eqb, List, [], ◌∷◌, ◌++◌, slice_get, All, Option, Some, None}
 use Rattle.page_state.specs.declared.layout.Layout.{Layout as TheLayout}
-use Rattle.step_reply.specs.declared.reply.Call.{Call}
+use Rattle.call_table.specs.declared.reply.Call.{Call}
 use Rattle.page_state.specs.LayoutView.{layout_of}
 use Rattle.reference_model.specs.Boot.{CanBoot}
 use Rattle.reference_model.specs.History.{IsStored, calls_on, calls_by}
 use Rattle.reference_model.specs.Run.{IsRun}
 use Rattle.reference_model.specs.State.{Reference}
-use Rattle.guest_steps.specs.declared.parts.CpuState.{CpuState}
-use Rattle.guest_steps.specs.Lent.{with_call}
-use Rattle.guest_steps.specs.Logs.{StoredCalls, IsOfSize}
+use Rattle.part_types.specs.declared.parts.CpuState.{CpuState}
+use Rattle.part_types.specs.Lent.{with_call}
+use Rattle.part_types.specs.Logs.{StoredCalls, IsOfSize}
 use Rattle.part_table.specs.Does.{IsLeft, none_at}
 use Rattle.part_table.specs.Parts.{parts, part_of, uses, IsOwn}
 

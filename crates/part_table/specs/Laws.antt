@@ -1,10 +1,10 @@
 -- What follows from a call that a maker made.
 use Rattle.std.specs.Prelude.{◌≡◌, ℕ, [], ◌∷◌, ◌++◌, All, Option, Some}
-use Rattle.step_reply.specs.declared.reply.Call.{Call}
-use Rattle.step_reply.specs.declared.reply.Reply.{Reply}
-use Rattle.step_reply.specs.declared.step.Step.{Step}
+use Rattle.call_table.specs.declared.reply.Call.{Call}
+use Rattle.call_table.specs.declared.reply.Reply.{Reply}
+use Rattle.call_table.specs.declared.step.Step.{Step}
 use Rattle.page_state.specs.declared.layout.Layout.{Layout as TheLayout}
-use Rattle.guest_steps.specs.declared.parts.CpuState.{CpuState}
+use Rattle.part_types.specs.declared.parts.CpuState.{CpuState}
 use Rattle.part_table.specs.declared.slot.Slot.{Slot}
 use Rattle.part_table.specs.Answered.{MakesCall, used_by}
 use Rattle.part_table.specs.Known.{Known, seen_at}

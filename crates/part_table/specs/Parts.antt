@@ -1,18 +1,18 @@
 -- The 66 parts by number, and how what a slot of the table holds stands in a reference state.
 use Rattle.std.specs.Prelude.{◌≡◌, ℕ, zero, suc, ◌+◌, Bool, List, [], ◌∷◌}
-use Rattle.step_reply.specs.declared.reply.Call.{Call}
-use Rattle.step_reply.specs.declared.step.Step.{Step}
+use Rattle.call_table.specs.declared.reply.Call.{Call}
+use Rattle.call_table.specs.declared.step.Step.{Step}
 use Rattle.page_state.specs.Layouts.{Layout}
 use Rattle.reference_model.specs.Parts.{Part, vm_part, shared_part, guest_part}
 use Rattle.reference_model.specs.Rules.{call_uses}
 use Rattle.reference_model.specs.State.{Reference}
-use Rattle.guest_steps.specs.declared.parts.VmPart.{VmPart}
-use Rattle.guest_steps.specs.declared.parts.SharedPart.{SharedPart}
-use Rattle.guest_steps.specs.declared.parts.GuestPart.{GuestPart}
-use Rattle.guest_steps.specs.declared.parts.CpuState.{CpuState}
-use Rattle.guest_steps.specs.Lent.{SharedSuits, GuestSuits}
-use Rattle.guest_steps.specs.Logs.{StoredCalls, IsOfSize}
-use Rattle.guest_steps.specs.View.{vm_slots, shared_of, guest_held, cpu_of}
+use Rattle.part_types.specs.declared.parts.VmPart.{VmPart}
+use Rattle.part_types.specs.declared.parts.SharedPart.{SharedPart}
+use Rattle.part_types.specs.declared.parts.GuestPart.{GuestPart}
+use Rattle.part_types.specs.declared.parts.CpuState.{CpuState}
+use Rattle.part_types.specs.Lent.{SharedSuits, GuestSuits}
+use Rattle.part_types.specs.Logs.{StoredCalls, IsOfSize}
+use Rattle.part_types.specs.View.{vm_slots, shared_of, guest_held, cpu_of}
 use Rattle.hypercalls.specs.Uses.{uses_of}
 use Rattle.hypercalls.specs.declared.used_parts.UsedParts.{UsedParts}
 use Rattle.hypercalls.specs.declared.used_parts.UsedParts.TheVariants.{Nothing, Vms, Shared, Guest, Both}

@@ -7,17 +7,17 @@ use Rattle.atomic_table.specs.Seated.{TableId}
 use Rattle.atomic_table.specs.Table.{State, Me, Step}
 use Rattle.page_state.specs.declared.layout.Layout.{Layout as TheLayout}
 use Rattle.page_state.specs.declared.layout.Geometry.TheVariants.{Bits39}
-use Rattle.step_reply.specs.declared.reply.Call.{Call}
-use Rattle.step_reply.specs.declared.reply.Reply.TheVariants.{Done}
-use Rattle.step_reply.specs.declared.reply.Value.TheVariants.{Nothing}
-use Rattle.step_reply.specs.declared.step.Step.TheVariants.{Unfund}
+use Rattle.call_table.specs.declared.reply.Call.{Call}
+use Rattle.call_table.specs.declared.reply.Reply.TheVariants.{Done}
+use Rattle.call_table.specs.declared.reply.Value.TheVariants.{Nothing}
+use Rattle.call_table.specs.declared.step.Step.TheVariants.{Unfund}
 use Rattle.page_state.specs.LayoutView.{layout_of}
 use Rattle.reference_model.specs.Boot.{CanBoot}
 use Rattle.reference_model.specs.History.{IsStored, calls_on, calls_by}
 use Rattle.reference_model.specs.Run.{IsRun}
 use Rattle.reference_model.specs.State.{Reference}
-use Rattle.guest_steps.specs.declared.parts.CpuState.{CpuState}
-use Rattle.guest_steps.specs.Logs.{StoredCalls}
+use Rattle.part_types.specs.declared.parts.CpuState.{CpuState}
+use Rattle.part_types.specs.Logs.{StoredCalls}
 use Rattle.part_table.specs.declared.rule.View.{View}
 use Rattle.part_table.specs.declared.slot.Slot.{Slot}
 use Rattle.part_table.specs.Parts.{parts, part_of, log_of, IsPart, IsOwn}

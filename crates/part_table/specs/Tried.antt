@@ -1,7 +1,7 @@
 -- The parts that a call tries, and how each was found.
 use Rattle.std.specs.Prelude.{◌≡◌, ◌≢◌, ◌⊎◌, ℕ, List, [], ◌∷◌, ◌++◌, Option, Some, None}
-use Rattle.step_reply.specs.declared.reply.Call.{Call}
-use Rattle.guest_steps.specs.Logs.{StoredCalls}
+use Rattle.call_table.specs.declared.reply.Call.{Call}
+use Rattle.part_types.specs.Logs.{StoredCalls}
 use Rattle.part_table.specs.Known.{Known, StartsWith, seen_at}
 
 -- a try of a part: its number, and the log with which it was taken, or none where another pass had it

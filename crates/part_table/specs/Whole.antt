@@ -5,7 +5,7 @@ use Rattle.page_state.specs.declared.layout.Layout.{Layout as TheLayout}
 use Rattle.page_state.specs.LayoutView.{layout_of}
 use Rattle.page_state.specs.Regions.{Memory}
 use Rattle.reference_model.specs.Boot.{CanBoot}
-use Rattle.guest_steps.specs.declared.parts.CpuState.{CpuState}
+use Rattle.part_types.specs.declared.parts.CpuState.{CpuState}
 use Rattle.hypercalls.specs.declared.parts.Parts.{Parts}
 use Rattle.part_table.specs.declared.slot.Slot.{Slot}
 use Rattle.part_table.specs.declared.slot.Slot.TheVariants.{Vm as VmSlot, Shared as SharedSlot, Guest as GuestSlot}

@@ -8,11 +8,11 @@ ghost use Rattle.part_table.specs.Trying.{CanStore, HasTaken};
 use crate::rule::{Deed, Enter, Law, Return, Store, Take, View};
 use crate::slot::Slot;
 use atomic_table::{Seat, Table};
-use guest_steps::CpuState;
+use call_table::Call;
 use page_state::Layout;
+use part_types::CpuState;
 use std::alloc::{Allocator, Global};
 use std::marker::Brand;
-use step_reply::Call;
 
 /// The parts' words, and the parts that are at home.
 pub type SlotTable<A> = Table<Option<Slot<A>>, View<A>, Layout, Law, Global>;

@@ -3,9 +3,9 @@ ghost use Rattle.std.specs.Prelude.{◌≡◌, ◌≢◌, ◌+◌, ◌∷◌, []
 ghost use Rattle.part_table.specs.Parts.{log_of, numbers_for};
 
 use crate::slot::Slot;
-use guest_steps::CpuState;
+use call_table::Step;
+use part_types::CpuState;
 use std::alloc::Allocator;
-use step_reply::Step;
 
 /// What is called in the middle of a call, with the CPU and its number of the call.
 pub trait Gate {

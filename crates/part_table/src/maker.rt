@@ -8,19 +8,19 @@ ghost use Rattle.part_table.specs.Trying.{CanMake};
 use crate::gate::{Gate, TryGate};
 use crate::slot::Slot;
 use crate::step;
-use guest_steps::CpuState;
+use call_table::{Call, Step};
 use page_state::Layout;
+use part_types::CpuState;
 use std::alloc::Allocator;
-use step_reply::{Call, Step};
 
 /// Makes the step of a call while its pass holds the parts that the call uses, once the gate has heard that it does. Whatever
 /// a maker is, the step is the same; what else it does with the parts before and after the step changes what is told alone.
 pub trait Maker<T, G: Gate> {
     ghost use Rattle.std.specs.Prelude.{ℕ, Option};
-    ghost use Rattle.guest_steps.specs.declared.parts.CpuState.{CpuState};
+    ghost use Rattle.part_types.specs.declared.parts.CpuState.{CpuState};
     ghost use Rattle.page_state.specs.declared.layout.Layout.{Layout as TheLayout};
     ghost use Rattle.part_table.specs.declared.slot.Slot.{Slot};
-    ghost use Rattle.step_reply.specs.declared.reply.Call.{Call};
+    ghost use Rattle.call_table.specs.declared.reply.Call.{Call};
 
     /// What is told before and after a call: of the layout, the parts that the call uses, by number, and its CPU's own
     /// state, as they are taken and as they go home.

@@ -9,11 +9,11 @@ use crate::exchanges::{PartSeat, SlotTable};
 use crate::gate::{Gate, TryGate};
 use crate::maker::Maker;
 use crate::tries::any;
-use guest_steps::CpuState;
+use call_table::{Call, Refusal, Reply, Step};
 use page_state::Layout;
+use part_types::CpuState;
 use std::alloc::Allocator;
 use std::marker::Model;
-use step_reply::{Call, Refusal, Reply, Step};
 
 /// A CPU's pass: its own state, and the right to take parts. Contracts see the table that it is of, and what it knows.
 #[derive(Drop)]

@@ -1,12 +1,12 @@
 //! What a pass knows, and the rule of the table.
 use crate::slot::Slot;
 use atomic_table::{Join, Play, Split, TableRule};
-use guest_steps::{CpuState, Log};
+use call_table::Call;
 use page_state::Layout;
+use part_types::{CpuState, Log};
 use std::alloc::Allocator;
 use std::collections::LinkedList;
 use std::marker::{Brand, PhantomData};
-use step_reply::Call;
 
 /// What a pass knows, or the root, from which passes come. No value of it is made. A list of pairs represents a function
 /// of a part's number: the first pair of a number counts.
@@ -67,8 +67,8 @@ impl<A: Allocator> Play<Option<Slot<A>>, View<A>> for Return {
 
 /// A call, and the state in which it leaves its CPU.
 pub trait Deed {
-    ghost use Rattle.step_reply.specs.declared.reply.Call.{Call};
-    ghost use Rattle.guest_steps.specs.declared.parts.CpuState.{CpuState};
+    ghost use Rattle.call_table.specs.declared.reply.Call.{Call};
+    ghost use Rattle.part_types.specs.declared.parts.CpuState.{CpuState};
 
     ghost call: { Call };
 

@@ -1,5 +1,5 @@
 //! What a slot of the table holds.
-use guest_steps::{GuestPart, SharedPart, VmPart};
+use part_types::{GuestPart, SharedPart, VmPart};
 use std::alloc::Allocator;
 
 /// A part, with its log.

@@ -5,11 +5,11 @@ ghost use Rattle.part_table.specs.Does.{Does, IsCalled, none_at, only_at, pair_a
 ghost use Rattle.part_table.specs.Trying.{CanMake};
 
 use crate::slot::Slot;
-use guest_steps::CpuState;
+use call_table::{Call, Step};
 use hypercalls::{step_alone, step_on_both, step_on_guest, step_on_shared, step_on_vms};
 use page_state::Layout;
+use part_types::CpuState;
 use std::alloc::Allocator;
-use step_reply::{Call, Step};
 
 /// The step on no part, on the CPU's own state alone.
 pub fn idle<A: Allocator>(layout: &Layout, cpu: &mut CpuState, step: Step) -> Call

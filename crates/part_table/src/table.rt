@@ -18,11 +18,11 @@ use crate::room::push_in_room;
 use crate::rule::{Clash, Root};
 use crate::slot::Slot;
 use atomic_table::{Closed, Table};
-use guest_steps::CpuState;
+use call_table::{Reply, Step};
 use page_state::Layout;
+use part_types::CpuState;
 use std::alloc::{AllocError, Allocator, Global};
 use std::marker::Model;
-use step_reply::{Reply, Step};
 
 /// The parts of a world under one table of words. Contracts see which table it is, and its layout.
 #[derive(Drop)]

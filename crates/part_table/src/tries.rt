@@ -8,11 +8,11 @@ use crate::exchanges::{PartSeat, SlotTable, commit, commit_first, enter, put_bac
 use crate::gate::{Gate, TryGate};
 use crate::maker::Maker;
 use crate::slot::Slot;
-use guest_steps::CpuState;
+use call_table::{Call, Refusal, Reply, Step};
 use hypercalls::{UsedParts, uses};
 use page_state::Layout;
+use part_types::CpuState;
 use std::alloc::Allocator;
-use step_reply::{Call, Refusal, Reply, Step};
 
 /// What a try of a call comes to.
 pub enum Tried {

@@ -8,9 +8,9 @@ ghost use Rattle.part_table.specs.Whole.{AreGuests, AreParts, BootsAtBoot};
 
 use crate::room::push_in_room;
 use crate::slot::Slot;
-use guest_steps::{CpuState, GuestPart, SharedPart, VmPart};
 use hypercalls::Parts;
 use page_state::Layout;
+use part_types::{CpuState, GuestPart, SharedPart, VmPart};
 use std::alloc::Allocator;
 
 /// Pushes guests, each in a slot, in their order.

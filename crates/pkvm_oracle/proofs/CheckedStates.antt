@@ -10,9 +10,9 @@ use Rattle.page_state.proofs.Common.{if-true, if-false}
 use Rattle.ghost_trees.specs.declared.tree.Tree.{Tree as TreeOfLists}
 use Rattle.ghost_trees.specs.Trees.{tree_in_lists}
 use Rattle.ghost_judge.proofs.Judged.{past_end}
-use Rattle.plain_tables.specs.declared.follow.PlainPage.{PlainPage}
-use Rattle.plain_tables.specs.declared.follow.PlainRoot.{PlainRoot}
-use Rattle.plain_tables.specs.Given.{tree_of, AreTrees}
+use Rattle.c_tables.specs.declared.follow.PlainPage.{PlainPage}
+use Rattle.c_tables.specs.declared.follow.PlainRoot.{PlainRoot}
+use Rattle.c_tables.specs.Given.{tree_of, AreTrees}
 use Rattle.table_audit.specs.Found.{trees_in}
 use Rattle.pkvm_oracle.specs.Audited.{parent, trees_said}
 

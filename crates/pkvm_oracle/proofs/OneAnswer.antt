@@ -1,11 +1,11 @@
 -- What is audited isn't refused, and has one answer; and what is refused has one reason.
 use Rattle.std.proofs.Common.{Some, None, ap, inl, inr, refl}
-use Rattle.plain_ghost.specs.Layouts.{layout_said}
-use Rattle.plain_ghost.specs.States.{contents_said}
-use Rattle.plain_ghost.proofs.NoRefusal.{made_else}
-use Rattle.plain_ghost.proofs.OneReason.{either, next, unmade_once}
-use Rattle.plain_tables.specs.Given.{tree_of}
-use Rattle.plain_tables.proofs.OneAnswer.{fault_once, trees_else}
+use Rattle.c_states.specs.Layouts.{layout_said}
+use Rattle.c_states.specs.States.{contents_said}
+use Rattle.c_states.proofs.NoRefusal.{made_else}
+use Rattle.c_states.proofs.OneReason.{either, next, unmade_once}
+use Rattle.c_tables.specs.Given.{tree_of}
+use Rattle.c_tables.proofs.OneAnswer.{fault_once, trees_else}
 use Rattle.table_audit.proofs.OneAnswer.{finding_once, well_else}
 use Rattle.pkvm_oracle.specs.declared.audited.Unchecked.TheVariants.{Kept, Trees, NoMemory}
 use Rattle.pkvm_oracle.specs.Audited.{found_said, geometry_said}

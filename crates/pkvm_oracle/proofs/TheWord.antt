@@ -4,9 +4,9 @@ use Rattle.std.specs.Prelude.{◌↔◌, MatchOption}
 use Rattle.descriptor.specs.declared.Desc.{Desc}
 use Rattle.descriptor.specs.declared.Level.{Level}
 use Rattle.descriptor.specs.Word.{Says}
-use Rattle.plain_words.specs.declared.word.PlainWord.{PlainWord}
-use Rattle.plain_words.specs.Numbers.{level_said}
-use Rattle.plain_words.specs.Said.{desc_said}
+use Rattle.c_words.specs.declared.word.PlainWord.{PlainWord}
+use Rattle.c_words.specs.Numbers.{level_said}
+use Rattle.c_words.specs.Said.{desc_said}
 use Rattle.pkvm_oracle.specs.Words.{Encodes, IsEncoded, IsTheWord}
 
 the_word : (l : Level) (desc : Desc) (word : ℕ) → word < 2 ^ 64 → ((w : ℕ) → w < 2 ^ 64 → (Some word ≡ Some w) ↔ Says l w desc) → IsTheWord l desc word

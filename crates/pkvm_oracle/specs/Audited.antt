@@ -8,19 +8,19 @@ use Rattle.page_state.specs.Trees.{Block, Tree, no_tree}
 use Rattle.reference_model.specs.State.{Contents}
 use Rattle.ghost_spec.specs.declared.lists.GhostLists.{GhostLists}
 use Rattle.ghost_spec.specs.States.{contents_in}
-use Rattle.plain_ghost.specs.declared.layout.PlainLayout.{PlainLayout}
-use Rattle.plain_ghost.specs.declared.layout.PlainRegion.{PlainRegion}
-use Rattle.plain_ghost.specs.Faults.{AreTaken}
-use Rattle.plain_ghost.specs.Judged.{IsUnmade}
-use Rattle.plain_ghost.specs.Layouts.{layout_said, IsTakenLayout}
-use Rattle.plain_ghost.specs.States.{Lists, contents_said}
-use Rattle.plain_tables.specs.declared.follow.PlainPage.{PlainPage}
-use Rattle.plain_tables.specs.declared.follow.PlainRoot.{PlainRoot}
-use Rattle.plain_tables.specs.declared.reached.Reached.{Reached}
-use Rattle.plain_tables.specs.declared.trees.TreeFault.{TreeFault}
-use Rattle.plain_tables.specs.declared.trees.TreeFault.TheVariants as trees
-use Rattle.plain_tables.specs.Given.{all_tables, tree_of, AreGiven, IsTreeFault}
-use Rattle.plain_tables.specs.Reached.{AreOtherFrames}
+use Rattle.c_states.specs.declared.layout.PlainLayout.{PlainLayout}
+use Rattle.c_states.specs.declared.layout.PlainRegion.{PlainRegion}
+use Rattle.c_states.specs.Faults.{AreTaken}
+use Rattle.c_states.specs.Judged.{IsUnmade}
+use Rattle.c_states.specs.Layouts.{layout_said, IsTakenLayout}
+use Rattle.c_states.specs.States.{Lists, contents_said}
+use Rattle.c_tables.specs.declared.follow.PlainPage.{PlainPage}
+use Rattle.c_tables.specs.declared.follow.PlainRoot.{PlainRoot}
+use Rattle.c_tables.specs.declared.reached.Reached.{Reached}
+use Rattle.c_tables.specs.declared.trees.TreeFault.{TreeFault}
+use Rattle.c_tables.specs.declared.trees.TreeFault.TheVariants as trees
+use Rattle.c_tables.specs.Given.{all_tables, tree_of, AreGiven, IsTreeFault}
+use Rattle.c_tables.specs.Reached.{AreOtherFrames}
 use Rattle.table_audit.specs.declared.finding.Finding.{Finding}
 use Rattle.table_audit.specs.Audited.{IsFirstFinding, IsWell}
 use Rattle.table_audit.specs.Found.{found}

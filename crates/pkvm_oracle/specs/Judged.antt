@@ -2,16 +2,16 @@
 use Rattle.std.specs.Prelude.{◌≡◌, ◌⊎◌, ◌<◌, ℕ, ℤ, pos, negsuc, List, length, take, drop, Some, None}
 use Rattle.ghost_judge.specs.declared.disagreement.Disagreement.{Disagreement}
 use Rattle.ghost_judge.specs.Texts.{text_of_judgement}
-use Rattle.plain_words.specs.declared.reply.PlainReply.{PlainReply}
-use Rattle.plain_words.specs.declared.step.PlainStep.{PlainStep}
-use Rattle.plain_ghost.specs.declared.judge.PlainCall.{PlainCall}
-use Rattle.plain_ghost.specs.declared.judge.Unjudged.{Unjudged}
-use Rattle.plain_ghost.specs.declared.layout.PlainLayout.{PlainLayout}
-use Rattle.plain_ghost.specs.declared.layout.PlainRegion.{PlainRegion}
-use Rattle.plain_ghost.specs.declared.state.PlainState.{PlainState}
-use Rattle.plain_ghost.specs.Judged.{IsForetold, IsJudged, IsUnjudged, IsUntold}
-use Rattle.plain_ghost.specs.States.{Lists}
-use Rattle.plain_ghost.specs.Views.{lists_told}
+use Rattle.c_words.specs.declared.reply.PlainReply.{PlainReply}
+use Rattle.c_words.specs.declared.step.PlainStep.{PlainStep}
+use Rattle.c_states.specs.declared.judge.PlainCall.{PlainCall}
+use Rattle.c_states.specs.declared.judge.Unjudged.{Unjudged}
+use Rattle.c_states.specs.declared.layout.PlainLayout.{PlainLayout}
+use Rattle.c_states.specs.declared.layout.PlainRegion.{PlainRegion}
+use Rattle.c_states.specs.declared.state.PlainState.{PlainState}
+use Rattle.c_states.specs.Judged.{IsForetold, IsJudged, IsUnjudged, IsUntold}
+use Rattle.c_states.specs.States.{Lists}
+use Rattle.c_states.specs.Views.{lists_told}
 use Rattle.pkvm_oracle.specs.declared.judged.PlainRefused.{PlainRefused}
 use Rattle.pkvm_oracle.specs.Refusals.{of_fault, refused_by, status_by}
 

@@ -1,12 +1,12 @@
 -- What is audited isn't refused, and has one answer; and what is refused has one reason.
 use Rattle.std.specs.Prelude.{◌≡◌, ◌⊎◌, List, Option, Some, None}
-use Rattle.plain_ghost.specs.declared.layout.PlainLayout.{PlainLayout}
-use Rattle.plain_ghost.specs.declared.layout.PlainRegion.{PlainRegion}
-use Rattle.plain_ghost.specs.Laws.{MadeLacksMemory}
-use Rattle.plain_ghost.specs.States.{Lists}
-use Rattle.plain_tables.specs.declared.follow.PlainPage.{PlainPage}
-use Rattle.plain_tables.specs.declared.follow.PlainRoot.{PlainRoot}
-use Rattle.plain_tables.specs.declared.trees.TreeFault.TheVariants as trees
+use Rattle.c_states.specs.declared.layout.PlainLayout.{PlainLayout}
+use Rattle.c_states.specs.declared.layout.PlainRegion.{PlainRegion}
+use Rattle.c_states.specs.Laws.{MadeLacksMemory}
+use Rattle.c_states.specs.States.{Lists}
+use Rattle.c_tables.specs.declared.follow.PlainPage.{PlainPage}
+use Rattle.c_tables.specs.declared.follow.PlainRoot.{PlainRoot}
+use Rattle.c_tables.specs.declared.trees.TreeFault.TheVariants as trees
 use Rattle.table_audit.specs.declared.finding.Finding.{Finding}
 use Rattle.table_audit.specs.Laws.{AreAlike}
 use Rattle.pkvm_oracle.specs.declared.audited.Unchecked.{Unchecked}

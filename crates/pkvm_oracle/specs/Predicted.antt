@@ -1,14 +1,14 @@
 -- What the prediction of a call answers C.
 use Rattle.std.specs.Prelude.{◌≡◌, ◌⊎◌, ◌&&◌, ℕ, ℤ, Bool, false, pos, negsuc, nat_le, List, length, take, drop}
-use Rattle.plain_words.specs.declared.reply.PlainReply.{PlainReply}
-use Rattle.plain_words.specs.declared.step.PlainStep.{PlainStep}
-use Rattle.plain_ghost.specs.declared.judge.Unjudged.{Unjudged}
-use Rattle.plain_ghost.specs.declared.layout.PlainLayout.{PlainLayout}
-use Rattle.plain_ghost.specs.declared.layout.PlainRegion.{PlainRegion}
-use Rattle.plain_ghost.specs.declared.state.PlainState.{PlainState}
-use Rattle.plain_ghost.specs.Judged.{IsForetoldState, IsUntold}
-use Rattle.plain_ghost.specs.States.{Lists}
-use Rattle.plain_ghost.specs.Views.{lists_told}
+use Rattle.c_words.specs.declared.reply.PlainReply.{PlainReply}
+use Rattle.c_words.specs.declared.step.PlainStep.{PlainStep}
+use Rattle.c_states.specs.declared.judge.Unjudged.{Unjudged}
+use Rattle.c_states.specs.declared.layout.PlainLayout.{PlainLayout}
+use Rattle.c_states.specs.declared.layout.PlainRegion.{PlainRegion}
+use Rattle.c_states.specs.declared.state.PlainState.{PlainState}
+use Rattle.c_states.specs.Judged.{IsForetoldState, IsUntold}
+use Rattle.c_states.specs.States.{Lists}
+use Rattle.c_states.specs.Views.{lists_told}
 use Rattle.pkvm_oracle.specs.declared.judged.PlainRefused.{PlainRefused}
 use Rattle.pkvm_oracle.specs.declared.predicted.PlainRoom.{PlainRoom}
 use Rattle.pkvm_oracle.specs.declared.predicted.PlainSizes.{PlainSizes}

@@ -3,16 +3,16 @@ use Rattle.std.specs.Prelude.{ℕ, ℤ, Some, None, negsuc}
 use Rattle.page_state.specs.declared.layout.LayoutFault.TheVariants as layouts
 use Rattle.ghost_spec.specs.declared.filled.GhostFault.{GhostFault}
 use Rattle.ghost_spec.specs.declared.filled.GhostFault.TheVariants as ghosts
-use Rattle.plain_ghost.specs.declared.judge.Unjudged.{Unjudged}
-use Rattle.plain_ghost.specs.declared.judge.Unjudged.TheVariants as unjudged
-use Rattle.plain_ghost.specs.declared.judge.Unmade.{Unmade}
-use Rattle.plain_ghost.specs.declared.judge.Unmade.TheVariants as unmade
-use Rattle.plain_ghost.specs.declared.layout.PlainLayoutFault.{PlainLayoutFault}
-use Rattle.plain_ghost.specs.declared.layout.PlainLayoutFault.TheVariants as memories
-use Rattle.plain_ghost.specs.declared.state.PlainFault.{PlainFault}
-use Rattle.plain_ghost.specs.declared.state.PlainFault.TheVariants as faults
-use Rattle.plain_ghost.specs.declared.state.PlainList.{PlainList}
-use Rattle.plain_ghost.specs.declared.state.PlainList.TheVariants as lists
+use Rattle.c_states.specs.declared.judge.Unjudged.{Unjudged}
+use Rattle.c_states.specs.declared.judge.Unjudged.TheVariants as unjudged
+use Rattle.c_states.specs.declared.judge.Unmade.{Unmade}
+use Rattle.c_states.specs.declared.judge.Unmade.TheVariants as unmade
+use Rattle.c_states.specs.declared.layout.PlainLayoutFault.{PlainLayoutFault}
+use Rattle.c_states.specs.declared.layout.PlainLayoutFault.TheVariants as memories
+use Rattle.c_states.specs.declared.state.PlainFault.{PlainFault}
+use Rattle.c_states.specs.declared.state.PlainFault.TheVariants as faults
+use Rattle.c_states.specs.declared.state.PlainList.{PlainList}
+use Rattle.c_states.specs.declared.state.PlainList.TheVariants as lists
 use Rattle.pkvm_oracle.specs.declared.judged.PlainRefused.{PlainRefused}
 
 abbrev pub number_of_list : PlainList → ℕ

@@ -3,10 +3,10 @@ use Rattle.std.specs.Prelude.{◌≡◌, ◌⊎◌, ◌^◌, ◌<◌, ℕ, ℤ, 
 use Rattle.descriptor.specs.declared.Desc.{Desc}
 use Rattle.descriptor.specs.declared.Level.{Level}
 use Rattle.descriptor.specs.Word.{IsSaid, Says}
-use Rattle.plain_words.specs.declared.word.PlainWord.{PlainWord}
-use Rattle.plain_words.specs.Numbers.{level_said}
-use Rattle.plain_words.specs.Said.{desc_said}
-use Rattle.plain_words.specs.Written.{desc_written}
+use Rattle.c_words.specs.declared.word.PlainWord.{PlainWord}
+use Rattle.c_words.specs.Numbers.{level_said}
+use Rattle.c_words.specs.Said.{desc_said}
+use Rattle.c_words.specs.Written.{desc_written}
 
 -- the word of a level is decoded: the one descriptor that it says is written, with 0 in each field that isn't named for it
 pub record Decodes (level : Level) (word : ℕ) (new : PlainWord) (status : ℤ) : Type 0 where

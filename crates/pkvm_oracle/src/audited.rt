@@ -1,14 +1,14 @@
 //! A kept state compared with the tables in memory.
 ghost use Rattle.std.specs.Prelude.{◌≡◌, IfErr, IfOk};
-ghost use Rattle.plain_ghost.specs.Views.{lists_told};
+ghost use Rattle.c_states.specs.Views.{lists_told};
 ghost use Rattle.pkvm_oracle.specs.Audited.{fault_again, is_in_block as is_in_block_of, parent as parent_of, refused_by_audit, refused_by_trees, status_by_audit, status_by_trees, IsAudited, IsChecked, IsCheckedFrom, IsUnchecked, IsUncheckedFrom};
 
 use crate::judged::{NOTHING, PlainRefused, unmade_refused, unmade_status};
 use crate::statuses::{BAD_BEFORE, BAD_TABLES, NO_MEMORY, NO_ROOM};
+use c_states::{PlainLayout, PlainState, Unmade, made};
+use c_tables::{PlainPage, PlainRoot, Reached, TreeFault, trees_of};
 use ghost_spec::state::Ghost;
 use ghost_trees::blocks::Block;
-use plain_ghost::{PlainLayout, PlainState, Unmade, made};
-use plain_tables::{PlainPage, PlainRoot, Reached, TreeFault, trees_of};
 use std::alloc::Global;
 use table_audit::{Finding, audited, write_finding};
 

@@ -1,6 +1,6 @@
 //! A call judged, and its reply predicted.
 ghost use Rattle.std.specs.Prelude.{◌≡◌, Err, length};
-ghost use Rattle.plain_ghost.specs.Views.{lists_told};
+ghost use Rattle.c_states.specs.Views.{lists_told};
 ghost use Rattle.pkvm_oracle.specs.Judged.{IsCallJudged, IsPredicted};
 ghost use Rattle.pkvm_oracle.specs.Refusals.{fault_of_layout, fault_of_lists, fault_of_rows, number_of_list, of_fault as of_fault_of, refused_by, refused_by_made, refused_by_state, status_by, status_by_made};
 
@@ -8,13 +8,13 @@ use crate::statuses::{
     BAD_AFTER, BAD_BEFORE, BAD_CPU, BAD_LAYOUT, BAD_REPLY, BAD_STEP, LAST_GENERATION, NO_MEMORY,
     NO_ROOM,
 };
-use ghost_spec::filled::GhostFault;
-use page_state::LayoutFault;
-use plain_ghost::{
+use c_states::{
     PlainCall, PlainFault, PlainLayout, PlainLayoutFault, PlainList, PlainState, Unjudged, Unmade,
     foretold, judged, write_judgement,
 };
-use plain_words::{PlainReply, PlainStep};
+use c_words::{PlainReply, PlainStep};
+use ghost_spec::filled::GhostFault;
+use page_state::LayoutFault;
 use std::alloc::Global;
 
 /// Why a layout or a state is refused.

@@ -1,15 +1,15 @@
 //! The reply to a call, and the state after it.
 ghost use Rattle.std.specs.Prelude.{◌≡◌, ◌≤◌, length};
-ghost use Rattle.plain_ghost.specs.Told.{lists_owned};
+ghost use Rattle.c_states.specs.Told.{lists_owned};
 ghost use Rattle.pkvm_oracle.specs.Predicted.{fits as fits_in, no_sizes, room_of as room_of_lists, sizes_of as sizes_of_lists, AreWritten, IsCallPredicted, IsPut};
 
 use crate::judged::{NOTHING, PlainRefused, unjudged_refused, unjudged_status};
 use crate::statuses::NO_ROOM;
-use plain_ghost::{
+use c_states::{
     PlainCpu, PlainFrame, PlainGuest, PlainLayout, PlainLists, PlainLoad, PlainRow, PlainRun,
     PlainSlot, PlainState, PlainTable, Predicted, foretold_state,
 };
-use plain_words::{PlainReply, PlainStep};
+use c_words::{PlainReply, PlainStep};
 use std::alloc::Global;
 
 /// Room for the lists of a state.

@@ -2,8 +2,8 @@
 ghost use Rattle.pkvm_oracle.specs.Words.{IsDecoded, IsEncoded};
 
 use crate::statuses::{BAD_NUMBER, NO_LEVEL, NO_WORD};
+use c_words::{PlainWord, desc_of, desc_told, level_of};
 use descriptor::{decode, encode};
-use plain_words::{PlainWord, desc_of, desc_told, level_of};
 
 /// What a word of a table of a level says. 0, or -1 where there is no such level, and then `out` stays.
 #[unsafe(no_mangle)]

@@ -3,7 +3,7 @@ use Rattle.std.proofs.Common.{◌≡◌, ℕ, zero, suc, ◌+◌, ◌≤◌, ref
 use Rattle.std.specs.Prelude.{Option, Some, None, slice_get, slice_set}
 use Rattle.page_state.specs.Layouts.{Layout}
 use Rattle.reference_model.specs.State.{Reference}
-use Rattle.step_reply.specs.declared.reply.Reply.{Reply}
+use Rattle.call_table.specs.declared.reply.Reply.{Reply}
 use Rattle.race_outcomes.specs.declared.node.Turn.{Turn}
 use Rattle.race_outcomes.specs.Orders.{Leads, Point, first_point, none_told, told_to}
 

@@ -9,7 +9,7 @@ use Rattle.std.proofs.lemmas.Option.{slice_get-get_or}
 use Rattle.page_state.specs.Layouts.{Layout}
 use Rattle.reference_model.specs.State.{Reference}
 use Rattle.ghost_spec.specs.States.{ghost_state}
-use Rattle.step_reply.specs.declared.reply.Reply.{Reply}
+use Rattle.call_table.specs.declared.reply.Reply.{Reply}
 use Rattle.race_outcomes.specs.declared.finding.Outcome.{Outcome}
 use Rattle.race_outcomes.specs.declared.finding.OutcomesFault.{OutcomesFault}
 use Rattle.race_outcomes.specs.declared.finding.OutcomesFault.TheVariants.{TooMany, Generation, NoMemory}

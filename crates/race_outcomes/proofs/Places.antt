@@ -4,7 +4,7 @@ use Rattle.std.specs.Prelude.{Option, Some, None, slice_get, slice_set, if◌the
 use Rattle.std.proofs.lemmas.Option.{same_Some}
 use Rattle.page_state.proofs.Common.{both, eq-same, if-false}
 use Rattle.page_state.specs.Layouts.{Layout}
-use Rattle.step_reply.specs.declared.reply.Reply.{Reply}
+use Rattle.call_table.specs.declared.reply.Reply.{Reply}
 use Rattle.race_outcomes.specs.declared.node.Turn.{Turn}
 use Rattle.race_outcomes.specs.Laws.{OrdersKeep, is_of, places_of}
 use Rattle.race_outcomes.specs.Orders.{IsNext, Leads, Point, none_told, first_point, told_to}

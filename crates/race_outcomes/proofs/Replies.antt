@@ -5,10 +5,10 @@ use Rattle.std.specs.Cmp.Lexicographic.{pointwise}
 use Rattle.std.proofs.lemmas.Slice.Eq.{slice_eq-Decides}
 use Rattle.std.specs.contracts.prelude.OptionPartialEq.TheImpl as options
 use Rattle.page_state.proofs.Equality.{Tells, options_tell}
-use Rattle.step_reply.specs.contracts.reply.Reply as reply_type
-use Rattle.step_reply.specs.contracts.reply.ReplyPartialEq.TheImpl as replies
-use Rattle.step_reply.specs.declared.reply.Reply.{Reply}
-use Rattle.step_reply.proofs.Equality.{replies_tell}
+use Rattle.call_table.specs.contracts.reply.Reply as reply_type
+use Rattle.call_table.specs.contracts.reply.ReplyPartialEq.TheImpl as replies
+use Rattle.call_table.specs.declared.reply.Reply.{Reply}
+use Rattle.call_table.proofs.Equality.{replies_tell}
 
 pub told_tell : Tells (options.ghosts reply_type.the_row replies.ghosts replies.dict).eq
 told_tell = options_tell reply_type.the_row replies.ghosts replies.dict replies_tell

@@ -2,7 +2,7 @@
 use Rattle.std.proofs.Common.{◌≡◌, ℕ, zero, suc, ◌<◌, sym, subst, arith, List, [], ◌∷◌, length, get_or}
 use Rattle.std.specs.Prelude.{Option, Some, None, Vec, slice_get, slice_set}
 use Rattle.std.specs.Global.{Global}
-use Rattle.step_reply.specs.declared.reply.Reply.{Reply}
+use Rattle.call_table.specs.declared.reply.Reply.{Reply}
 use Rattle.race_outcomes.specs.declared.node.Turn.{Turn}
 use Rattle.race_outcomes.specs.Orders.{AreWanted, IsWanted, none_told}
 

@@ -6,9 +6,9 @@ use Rattle.page_state.specs.LayoutView.{layout_of}
 use Rattle.reference_model.specs.State.{Reference}
 use Rattle.ghost_spec.specs.declared.lists.GhostRooms.{GhostRooms}
 use Rattle.ghost_spec.specs.States.{ghost_state}
-use Rattle.step_reply.specs.declared.reply.Refusal.TheVariants.{Perm, NoVm, Busy, Invalid, NoPool}
-use Rattle.step_reply.specs.declared.reply.Reply.{Reply}
-use Rattle.step_reply.specs.declared.reply.Reply.TheVariants.{Done, Refused}
+use Rattle.call_table.specs.declared.reply.Refusal.TheVariants.{Perm, NoVm, Busy, Invalid, NoPool}
+use Rattle.call_table.specs.declared.reply.Reply.{Reply}
+use Rattle.call_table.specs.declared.reply.Reply.TheVariants.{Done, Refused}
 use Rattle.race_outcomes.specs.declared.finding.Outcome.{Outcome}
 use Rattle.race_outcomes.specs.declared.finding.OutcomesFault.{OutcomesFault}
 use Rattle.race_outcomes.specs.declared.finding.OutcomesFault.TheVariants.{TooMany, Generation, NoMemory}

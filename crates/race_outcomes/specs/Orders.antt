@@ -2,10 +2,10 @@
 use Rattle.std.specs.Prelude.{◌≡◌, ◌≢◌, ℕ, ◌<◌, List, [], ◌∷◌, All, AllPairs, Contains, length, map, take, Bool, ◌&&◌, Option, Some, None, Vec, slice_get, slice_set, if◌then◌else◌}
 use Rattle.std.specs.Global.{Global}
 use Rattle.page_state.specs.Layouts.{Layout}
-use Rattle.step_reply.specs.declared.reply.Refusal.TheVariants.{NoMemory as WantsMemory}
-use Rattle.step_reply.specs.declared.reply.Reply.{Reply}
-use Rattle.step_reply.specs.declared.reply.Reply.TheVariants.{Refused}
-use Rattle.step_reply.specs.Texts.{text_of_reply}
+use Rattle.call_table.specs.declared.reply.Refusal.TheVariants.{NoMemory as WantsMemory}
+use Rattle.call_table.specs.declared.reply.Reply.{Reply}
+use Rattle.call_table.specs.declared.reply.Reply.TheVariants.{Refused}
+use Rattle.call_table.specs.Texts.{text_of_reply}
 use Rattle.reference_model.specs.Rules.{may_grow}
 use Rattle.reference_model.specs.State.{Reference}
 use Rattle.reference_model.specs.Step.{foretell}

@@ -8,11 +8,11 @@ ghost use Rattle.race_outcomes.specs.Orders.{is_wanting, told_to as told_to_of};
 
 use crate::finding::OutcomesFault;
 use crate::node::Turn;
+use call_table::{Refusal, Reply};
 use ghost_judge::judge::judge;
 use ghost_spec::lists::GhostLists;
 use ghost_spec::state::{Ghost, has_next_generation, predict};
 use std::alloc::{AllocError, Global};
-use step_reply::{Refusal, Reply};
 
 /// What the model says of a step where there is memory.
 fn foretold(alloc: Global, state: &Ghost, turn: Turn) -> Result<(Reply, Ghost), OutcomesFault>

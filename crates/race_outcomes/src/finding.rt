@@ -3,17 +3,17 @@ ghost use Rattle.std.specs.Prelude.{◌≡◌, ◌≢◌, ◌↔◌, ◌<◌, �
 ghost use Rattle.std.specs.Global.{Global};
 ghost use Rattle.page_state.specs.LayoutView.{layout_of};
 ghost use Rattle.ghost_spec.specs.States.{ghost_state};
-ghost use Rattle.step_reply.specs.declared.reply.Reply.{Reply as TheReply};
+ghost use Rattle.call_table.specs.declared.reply.Reply.{Reply as TheReply};
 ghost use Rattle.race_outcomes.specs.Layers.{AreOutcomes, IsFirstLayer, IsLayer, IsOutcomeAdded, IsToldBy, IsTurnFault, TellsMore, replies_of};
 ghost use Rattle.race_outcomes.specs.Orders.{AllOutcomes, IsExplained, IsOutcomesFault, IsStepFault, told_along};
 
 use crate::answer::told_to;
 use crate::layer::next_layer;
 use crate::node::{Node, Turn, first_node};
+use call_table::Reply;
 use ghost_spec::state::Ghost;
 use std::alloc::{AllocError, Global};
 use std::mem;
-use step_reply::Reply;
 
 /// Why outcomes aren't told.
 #[derive(Clone, Copy, PartialEq, Debug)]

@@ -5,8 +5,8 @@ ghost use Rattle.race_outcomes.specs.Layers.{AreApart, AreNext, HasStep, IsAddFa
 use crate::finding::OutcomesFault;
 use crate::node::{Node, Turn, is_next, next_node};
 use crate::same::is_same_state;
+use call_table::{Refusal, Reply};
 use std::alloc::{AllocError, Global};
-use step_reply::{Refusal, Reply};
 
 /// How many keys there are.
 const KEYS: usize = 4093;

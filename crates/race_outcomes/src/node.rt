@@ -2,15 +2,15 @@
 ghost use Rattle.std.specs.Prelude.{◌≡◌, ◌≢◌, ◌↔◌, ℕ, ◌<◌, ◌++◌, ◌∷◌, [], List, IfErr, IfOk, IfSome, IsTrue, None, Ok, Some, length, slice_get, slice_set};
 ghost use Rattle.page_state.specs.LayoutView.{layout_of};
 ghost use Rattle.ghost_spec.specs.States.{ghost_state};
-ghost use Rattle.step_reply.specs.Texts.{text_of_reply};
+ghost use Rattle.call_table.specs.Texts.{text_of_reply};
 ghost use Rattle.race_outcomes.specs.Layers.{HasStep, IsPlaceFault, IsReady, IsStepAt};
 ghost use Rattle.race_outcomes.specs.Orders.{IsNext, IsWanted, none_told};
 
 use crate::answer::told_to;
 use crate::finding::OutcomesFault;
+use call_table::{Reply, Step};
 use ghost_spec::state::Ghost;
 use std::alloc::{AllocError, Global};
-use step_reply::{Reply, Step};
 
 /// A step that a CPU is to make.
 #[derive(Clone, Copy)]

@@ -1,13 +1,13 @@
 -- How code comes to the reference step.
 use Rattle.std.proofs.Common.{◌≡◌, ℕ, refl, sym, ◌∙◌, subst, inl, inr}
 use Rattle.std.specs.Prelude.{Bool, true, false, ◌||◌, if◌then◌else◌, Option, Some, None, Result, Ok, Err}
-use Rattle.step_reply.specs.declared.reply.Refusal.{Refusal}
-use Rattle.step_reply.specs.declared.reply.Refusal.TheVariants.{Perm, NoVm, Busy, Invalid, NoPool}
+use Rattle.call_table.specs.declared.reply.Refusal.{Refusal}
+use Rattle.call_table.specs.declared.reply.Refusal.TheVariants.{Perm, NoVm, Busy, Invalid, NoPool}
 use Rattle.reference_model.specs.declared.changes.Changes.{Changes}
-use Rattle.step_reply.specs.declared.reply.Reply.{Reply}
-use Rattle.step_reply.specs.declared.reply.Reply.TheVariants.{Refused}
+use Rattle.call_table.specs.declared.reply.Reply.{Reply}
+use Rattle.call_table.specs.declared.reply.Reply.TheVariants.{Refused}
 use Rattle.reference_model.specs.History.{IsStored}
-use Rattle.step_reply.specs.declared.step.Step.{Step}
+use Rattle.call_table.specs.declared.step.Step.{Step}
 use Rattle.page_state.specs.Layouts.{Layout}
 use Rattle.reference_model.specs.Parts.{lacks_slot}
 use Rattle.reference_model.specs.Rules.{names}

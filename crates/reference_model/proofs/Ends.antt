@@ -3,7 +3,7 @@ use Rattle.std.proofs.Common.{◌≡◌, ◌≢◌, ℕ, suc, ◌<◌, All, arit
 use Rattle.std.specs.Prelude.{Bool, true, false, ◌==◌, ◌⊎◌, filter}
 use Rattle.std.proofs.lemmas.List.Elements.{All-cons, filter-append}
 use mathlib.Core.Path.{fun_ext}
-use Rattle.step_reply.specs.declared.reply.Call.{Call}
+use Rattle.call_table.specs.declared.reply.Call.{Call}
 use Rattle.reference_model.specs.State.{Reference}
 use Rattle.page_state.specs.Layouts.{Layout}
 use Rattle.reference_model.specs.Parts.{Part, vm_part, shared_part, guest_part}

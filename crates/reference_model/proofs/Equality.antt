@@ -3,9 +3,9 @@ use Rattle.std.proofs.Common.{◌≡◌, refl}
 use Rattle.std.proofs.lemmas.Bool.Decides.{Decides-like}
 use Rattle.std.specs.contracts.prelude.U64PartialEq.TheImpl as numbers
 use Rattle.page_state.proofs.Equality.{Tells, bare_tells, both_tell, one, more, numbers_tell}
-use Rattle.step_reply.specs.contracts.step.VmIdPartialEq.TheImpl as vms
-use Rattle.step_reply.specs.contracts.step.VmKindPartialEq.TheImpl as kinds
-use Rattle.step_reply.proofs.Equality.{vms_tell, kinds_tell}
+use Rattle.call_table.specs.contracts.step.VmIdPartialEq.TheImpl as vms
+use Rattle.call_table.specs.contracts.step.VmKindPartialEq.TheImpl as kinds
+use Rattle.call_table.proofs.Equality.{vms_tell, kinds_tell}
 use Rattle.reference_model.specs.contracts.changes.LoadedPartialEq.TheImpl as loads
 use Rattle.reference_model.specs.contracts.changes.Stage as stage_type
 use Rattle.reference_model.specs.contracts.changes.StagePartialEq.TheImpl as stages

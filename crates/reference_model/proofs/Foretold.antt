@@ -1,8 +1,8 @@
 -- What a step is foretold to do, computed; and a step that is refused leaves all that there is.
 use Rattle.std.proofs.Common.{◌≡◌, ℕ, ◌∙◌}
-use Rattle.step_reply.specs.declared.reply.Refusal.{Refusal}
-use Rattle.step_reply.specs.declared.reply.Reply.TheVariants.{Refused}
-use Rattle.step_reply.specs.declared.step.Step.{Step}
+use Rattle.call_table.specs.declared.reply.Refusal.{Refusal}
+use Rattle.call_table.specs.declared.reply.Reply.TheVariants.{Refused}
+use Rattle.call_table.specs.declared.step.Step.{Step}
 use Rattle.page_state.specs.Blocks.{is_one_word, is_empty, blocks_on}
 use Rattle.page_state.specs.Tables.{needs, freed, returned, edited}
 use Rattle.reference_model.specs.Owner.{row_of}

@@ -6,7 +6,7 @@ use Rattle.std.specs.Coded.{×_prop, le_prop}
 use Rattle.page_state.specs.declared.entry.Entry.{Entry}
 use Rattle.page_state.specs.declared.entry.Entry.TheVariants.{Unmapped, Malformed, Annotated, Leaf}
 use Rattle.page_state.specs.declared.row.Lent.{Lent}
-use Rattle.step_reply.specs.declared.step.Step.{Step}
+use Rattle.call_table.specs.declared.step.Step.{Step}
 use Rattle.page_state.specs.Entries.{IsRangeEntry}
 use Rattle.page_state.specs.Layouts.{Layout}
 use Rattle.page_state.specs.Rows.{HasLentBelow}

@@ -2,10 +2,10 @@
 use Rattle.std.proofs.Common.{◌≡◌, ◌≢◌, ℕ, suc, ◌+◌, ◌-◌, refl, ap, sym, ◌∙◌, subst, arith, inl, inr, List, [], ◌∷◌, filter, length, All}
 use Rattle.std.specs.Prelude.{Bool, true, false, ◌&&◌, ◌||◌, ◌==◌, is_some, Option, Some, None, if◌then◌else◌}
 use Rattle.std.proofs.lemmas.Bool.Decides.{nat_tests}
-use Rattle.step_reply.specs.declared.reply.Call.{Call}
-use Rattle.step_reply.specs.declared.reply.Refusal.TheVariants.{LogFull}
-use Rattle.step_reply.specs.declared.reply.Reply.{Reply}
-use Rattle.step_reply.specs.declared.reply.Reply.TheVariants.{Refused}
+use Rattle.call_table.specs.declared.reply.Call.{Call}
+use Rattle.call_table.specs.declared.reply.Refusal.TheVariants.{LogFull}
+use Rattle.call_table.specs.declared.reply.Reply.{Reply}
+use Rattle.call_table.specs.declared.reply.Reply.TheVariants.{Refused}
 use Rattle.reference_model.specs.Boot.{boot}
 use Rattle.reference_model.specs.Conditions.{one}
 use Rattle.reference_model.specs.History.{IsStored}

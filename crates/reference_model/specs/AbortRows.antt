@@ -4,11 +4,11 @@ use Rattle.descriptor.specs.declared.Prot.TheVariants.{RW, RWX}
 use Rattle.descriptor.specs.declared.State.TheVariants.{Owned, SharedBorrowed}
 use Rattle.page_state.specs.declared.entry.Entry.TheVariants.{Unmapped}
 use Rattle.page_state.specs.declared.layout.RegionKind.TheVariants.{Memory as MemoryKind, Device as DeviceKind}
-use Rattle.step_reply.specs.declared.reply.Refusal.TheVariants.{Perm, Invalid, NoPool}
-use Rattle.step_reply.specs.declared.reply.Reply.TheVariants.{Done}
-use Rattle.step_reply.specs.declared.reply.Value.TheVariants.{Entry as EntryOf, Row as RowOf}
+use Rattle.call_table.specs.declared.reply.Refusal.TheVariants.{Perm, Invalid, NoPool}
+use Rattle.call_table.specs.declared.reply.Reply.TheVariants.{Done}
+use Rattle.call_table.specs.declared.reply.Value.TheVariants.{Entry as EntryOf, Row as RowOf}
 use Rattle.page_state.specs.declared.row.Usage.TheVariants.{InHand}
-use Rattle.step_reply.specs.declared.step.Step.TheVariants.{HostAbort, HostTranslate, HypTranslate, OwnerOf}
+use Rattle.call_table.specs.declared.step.Step.TheVariants.{HostAbort, HostTranslate, HypTranslate, OwnerOf}
 use Rattle.reference_model.specs.Boot.{boot}
 use Rattle.page_state.specs.EntryTests.{leaf, device_leaf, annotation}
 use Rattle.page_state.specs.Layouts.{Layout}

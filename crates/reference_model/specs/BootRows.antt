@@ -4,7 +4,7 @@ use Rattle.descriptor.specs.declared.Prot.TheVariants.{RW, RWX}
 use Rattle.descriptor.specs.declared.State.TheVariants.{Owned, SharedOwned, SharedBorrowed}
 use Rattle.page_state.specs.declared.entry.Entry.TheVariants.{Unmapped}
 use Rattle.page_state.specs.declared.row.Usage.TheVariants.{SharedPool}
-use Rattle.step_reply.specs.declared.step.Step.TheVariants.{ShareHyp, UnshareHyp}
+use Rattle.call_table.specs.declared.step.Step.TheVariants.{ShareHyp, UnshareHyp}
 use Rattle.page_state.specs.Trees.{frames_from}
 use Rattle.reference_model.specs.Boot.{boot}
 use Rattle.page_state.specs.EntryTests.{leaf, annotation}

@@ -1,7 +1,7 @@
 -- Bounds of the numbers in a state of a run.
 use Rattle.std.specs.Prelude.{◌≡◌, ℕ, ◌+◌, ◌≤◌, ◌<◌, List, length, Some}
 use Rattle.page_state.specs.declared.entry.PageRange.{PageRange}
-use Rattle.step_reply.specs.declared.reply.Call.{Call}
+use Rattle.call_table.specs.declared.reply.Call.{Call}
 use Rattle.reference_model.specs.Boot.{CanBoot}
 use Rattle.reference_model.specs.Conditions.{Legal}
 use Rattle.reference_model.specs.GuestRules.{guest_table_count}

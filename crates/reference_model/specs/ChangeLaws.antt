@@ -1,7 +1,7 @@
 -- Laws of a rule's changes: they are of parts that the step uses, and can be written.
 use Rattle.std.specs.Prelude.{◌≡◌, ◌≢◌, ℕ, ◌+◌, ◌^◌, ◌≤◌, ◌<◌, true, false, is_some, length, Option, Some, None, Ok}
 use Rattle.page_state.specs.declared.entry.PageRange.{PageRange}
-use Rattle.step_reply.specs.declared.step.Step.{Step}
+use Rattle.call_table.specs.declared.step.Step.{Step}
 use Rattle.page_state.specs.Accepted.{IsAcceptedLayout}
 use Rattle.page_state.specs.Entries.{IsRangeEntry}
 use Rattle.page_state.specs.Geometries.{pages_below}

@@ -2,7 +2,7 @@
 use Rattle.std.specs.Prelude.{ℕ, ◌+◌, Option, Some, None, [], ◌∷◌}
 use Rattle.page_state.specs.declared.entry.Entry.{Entry}
 use Rattle.page_state.specs.declared.entry.PageRange.{PageRange}
-use Rattle.step_reply.specs.declared.reply.Value.TheVariants.{Nothing}
+use Rattle.call_table.specs.declared.reply.Value.TheVariants.{Nothing}
 use Rattle.reference_model.specs.declared.changes.MapChange.{MapChange}
 use Rattle.reference_model.specs.declared.changes.Update.{Update}
 use Rattle.reference_model.specs.declared.changes.Update.TheVariants.{Keep, Becomes}

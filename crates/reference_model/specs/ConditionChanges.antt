@@ -5,7 +5,7 @@ use Rattle.reference_model.specs.declared.changes.Changes.{Changes}
 use Rattle.page_state.specs.declared.entry.Entry.{Entry}
 use Rattle.page_state.specs.declared.entry.Entry.TheVariants.{Annotated, Leaf}
 use Rattle.page_state.specs.declared.row.Usage.TheVariants.{VmPool}
-use Rattle.step_reply.specs.declared.step.Step.{Step}
+use Rattle.call_table.specs.declared.step.Step.{Step}
 use Rattle.reference_model.specs.Conditions.{Condition, hosts, with_hyp, hyps, with_guest, guests, lent_back, Legal, IsUsable}
 use Rattle.page_state.specs.Layouts.{Layout, is_memory}
 use Rattle.reference_model.specs.Rules.{names, guest_slot}

@@ -4,10 +4,10 @@ use Rattle.descriptor.specs.declared.Prot.TheVariants.{RW, RWX}
 use Rattle.descriptor.specs.declared.State.TheVariants.{Owned, SharedOwned, SharedBorrowed}
 use Rattle.reference_model.specs.declared.changes.Stage.TheVariants.{DyingVm, Finished}
 use Rattle.page_state.specs.declared.entry.Entry.TheVariants.{Unmapped}
-use Rattle.step_reply.specs.declared.reply.Refusal.TheVariants.{Perm, NoVm, Invalid, NoPool}
-use Rattle.step_reply.specs.declared.reply.Reply.TheVariants.{Done}
-use Rattle.step_reply.specs.declared.reply.Value.TheVariants.{Frame as FrameOf}
-use Rattle.step_reply.specs.declared.step.Step.TheVariants.{ReclaimPage, ReclaimPool, FinishGuest, MarkDying}
+use Rattle.call_table.specs.declared.reply.Refusal.TheVariants.{Perm, NoVm, Invalid, NoPool}
+use Rattle.call_table.specs.declared.reply.Reply.TheVariants.{Done}
+use Rattle.call_table.specs.declared.reply.Value.TheVariants.{Frame as FrameOf}
+use Rattle.call_table.specs.declared.step.Step.TheVariants.{ReclaimPage, ReclaimPool, FinishGuest, MarkDying}
 use Rattle.page_state.specs.EntryTests.{leaf, annotation}
 use Rattle.page_state.specs.Trees.{Pool}
 use Rattle.reference_model.specs.State.{dying, Guest, no_guest}

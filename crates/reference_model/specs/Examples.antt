@@ -5,10 +5,10 @@ use Rattle.descriptor.specs.declared.State.TheVariants.{Owned, SharedOwned, Shar
 use Rattle.page_state.specs.declared.entry.Entry.{Entry}
 use Rattle.page_state.specs.declared.entry.Entry.TheVariants.{Unmapped}
 use Rattle.page_state.specs.declared.layout.RegionKind.TheVariants.{Memory as MemoryKind, Device}
-use Rattle.step_reply.specs.declared.reply.Refusal.TheVariants.{Perm, Invalid, NoPool, LogFull}
-use Rattle.step_reply.specs.declared.reply.Reply.{Reply}
-use Rattle.step_reply.specs.declared.reply.Reply.TheVariants.{Refused}
-use Rattle.step_reply.specs.declared.step.Step.TheVariants.{ShareHyp}
+use Rattle.call_table.specs.declared.reply.Refusal.TheVariants.{Perm, Invalid, NoPool, LogFull}
+use Rattle.call_table.specs.declared.reply.Reply.{Reply}
+use Rattle.call_table.specs.declared.reply.Reply.TheVariants.{Refused}
+use Rattle.call_table.specs.declared.step.Step.TheVariants.{ShareHyp}
 use Rattle.page_state.specs.EntryTests.{leaf, annotation}
 use Rattle.page_state.specs.declared.row.Usage.TheVariants.{Plain}
 use Rattle.page_state.specs.Map.{empty_map}

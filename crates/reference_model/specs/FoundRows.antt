@@ -6,9 +6,9 @@ use Rattle.reference_model.specs.declared.changes.Stage.TheVariants.{Booked}
 use Rattle.page_state.specs.declared.layout.RegionKind.TheVariants.{Memory as MemoryKind}
 use Rattle.page_state.specs.declared.row.Row.{Row}
 use Rattle.page_state.specs.declared.row.Usage.TheVariants.{Plain, SharedPool, VmPool, InHand}
-use Rattle.step_reply.specs.declared.step.Step.{Step}
-use Rattle.step_reply.specs.declared.step.Step.TheVariants.{DonateHyp, Fund, Unfund, ShareGuest, DonateGuest, GuestShareHost, GuestUnshareHost, Install, Topup, HostAbort}
-use Rattle.step_reply.specs.declared.step.VmKind.TheVariants.{Protected, Plain as PlainVm}
+use Rattle.call_table.specs.declared.step.Step.{Step}
+use Rattle.call_table.specs.declared.step.Step.TheVariants.{DonateHyp, Fund, Unfund, ShareGuest, DonateGuest, GuestShareHost, GuestUnshareHost, Install, Topup, HostAbort}
+use Rattle.call_table.specs.declared.step.VmKind.TheVariants.{Protected, Plain as PlainVm}
 use Rattle.page_state.specs.EntryTests.{leaf, annotation}
 use Rattle.page_state.specs.Layouts.{Layout}
 use Rattle.reference_model.specs.Owner.{row_of}

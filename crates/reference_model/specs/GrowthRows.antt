@@ -1,8 +1,8 @@
 -- Worked rows of the calls that can be refused for want of memory, and of the number of a call.
 use Rattle.std.specs.Prelude.{◌≡◌, true, false}
 use Rattle.descriptor.specs.declared.Prot.TheVariants.{RW}
-use Rattle.step_reply.specs.declared.step.Step.TheVariants.{ShareHyp, UnshareHyp, DonateHyp, HypDonateHost, HostAbort, HostTranslate, HypTranslate, OwnerOf, Fund, Unfund, ShareGuest, UnshareGuest, DonateGuest, GuestShareHost, GuestUnshareHost, Install, Topup, ReclaimPage, ReclaimPool, FinishGuest, GuestRelax, GuestTranslate, MarkDying, VmReserve, VmOpen, VcpuLoad, VcpuPut, Teardown, VmRelease}
-use Rattle.step_reply.specs.declared.step.VmKind.TheVariants.{Protected}
+use Rattle.call_table.specs.declared.step.Step.TheVariants.{ShareHyp, UnshareHyp, DonateHyp, HypDonateHost, HostAbort, HostTranslate, HypTranslate, OwnerOf, Fund, Unfund, ShareGuest, UnshareGuest, DonateGuest, GuestShareHost, GuestUnshareHost, Install, Topup, ReclaimPage, ReclaimPool, FinishGuest, GuestRelax, GuestTranslate, MarkDying, VmReserve, VmOpen, VcpuLoad, VcpuPut, Teardown, VmRelease}
+use Rattle.call_table.specs.declared.step.VmKind.TheVariants.{Protected}
 use Rattle.reference_model.specs.Rules.{may_grow}
 use Rattle.reference_model.specs.Scene.{vm}
 

@@ -7,10 +7,10 @@ use Rattle.reference_model.specs.declared.changes.Stage.{Stage}
 use Rattle.reference_model.specs.declared.changes.Stage.TheVariants.{Installed as installed, DyingVm as dying_vm, Finished as finished}
 use Rattle.page_state.specs.declared.entry.Entry.{Entry}
 use Rattle.page_state.specs.declared.entry.Entry.TheVariants.{Unmapped}
-use Rattle.step_reply.specs.declared.step.VmId.{VmId}
-use Rattle.step_reply.specs.declared.step.VmKind.{VmKind}
-use Rattle.step_reply.specs.declared.step.VmKind.TheVariants.{Protected, Plain as PlainVm}
-use Rattle.step_reply.specs.declared.reply.Value.TheVariants.{Frame as FrameOf, Entry as EntryOf}
+use Rattle.call_table.specs.declared.step.VmId.{VmId}
+use Rattle.call_table.specs.declared.step.VmKind.{VmKind}
+use Rattle.call_table.specs.declared.step.VmKind.TheVariants.{Protected, Plain as PlainVm}
+use Rattle.call_table.specs.declared.reply.Value.TheVariants.{Frame as FrameOf, Entry as EntryOf}
 use Rattle.page_state.specs.EntryTests.{is_unmapped, is_in, is_free_page, leaf, annotation, entry_frame, with_state, with_rights}
 use Rattle.page_state.specs.Geometries.{pages_below}
 use Rattle.page_state.specs.Layouts.{Layout, is_good_range, is_good_page}

@@ -4,9 +4,9 @@ use Rattle.descriptor.specs.declared.Prot.TheVariants.{RW, RWX}
 use Rattle.descriptor.specs.declared.State.TheVariants.{Owned, SharedOwned}
 use Rattle.reference_model.specs.declared.changes.Stage.TheVariants.{Booked, Installed}
 use Rattle.page_state.specs.declared.entry.Entry.TheVariants.{Unmapped}
-use Rattle.step_reply.specs.declared.reply.Refusal.TheVariants.{Perm, NoVm, Busy, Invalid, NoPool}
-use Rattle.step_reply.specs.declared.step.Step.TheVariants.{Fund, Unfund, Install, Topup}
-use Rattle.step_reply.specs.declared.step.VmKind.TheVariants.{Protected, Plain as PlainVm}
+use Rattle.call_table.specs.declared.reply.Refusal.TheVariants.{Perm, NoVm, Busy, Invalid, NoPool}
+use Rattle.call_table.specs.declared.step.Step.TheVariants.{Fund, Unfund, Install, Topup}
+use Rattle.call_table.specs.declared.step.VmKind.TheVariants.{Protected, Plain as PlainVm}
 use Rattle.page_state.specs.EntryTests.{leaf, annotation}
 use Rattle.reference_model.specs.State.{live, no_cpu}
 use Rattle.page_state.specs.Trees.{root_tree}

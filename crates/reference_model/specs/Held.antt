@@ -1,6 +1,6 @@
 -- From what there is, parts and their logs, to a longer history: the law that code's step ends in.
 use Rattle.std.specs.Prelude.{◌≡◌, ◌+◌, ◌<◌, Bool, false, List, [], ◌∷◌, ◌++◌, length}
-use Rattle.step_reply.specs.declared.reply.Call.{Call}
+use Rattle.call_table.specs.declared.reply.Call.{Call}
 use Rattle.reference_model.specs.Boot.{CanBoot}
 use Rattle.reference_model.specs.History.{IsStored, Kept, IsHistory}
 use Rattle.reference_model.specs.Stored.{StoresCall}

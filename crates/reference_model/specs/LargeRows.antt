@@ -5,8 +5,8 @@ use Rattle.descriptor.specs.declared.State.TheVariants.{Owned}
 use Rattle.page_state.specs.declared.entry.Entry.TheVariants.{Unmapped}
 use Rattle.page_state.specs.declared.layout.Region.{Region}
 use Rattle.page_state.specs.declared.layout.RegionKind.TheVariants.{Memory as MemoryKind}
-use Rattle.step_reply.specs.declared.reply.Refusal.TheVariants.{NoPool}
-use Rattle.step_reply.specs.declared.step.Step.TheVariants.{FinishGuest}
+use Rattle.call_table.specs.declared.reply.Refusal.TheVariants.{NoPool}
+use Rattle.call_table.specs.declared.step.Step.TheVariants.{FinishGuest}
 use Rattle.reference_model.specs.Changes.{change}
 use Rattle.page_state.specs.EntryTests.{leaf, annotation}
 use Rattle.page_state.specs.Map.{Map, empty_map, update}

@@ -1,10 +1,10 @@
 -- Laws of the definitions, each proved on the contract of the function of its name.
 use Rattle.std.specs.Prelude.{◌≡◌, ◌≢◌, ℕ, ◌<◌, false, IsTrue, List, [], ◌∷◌, ◌++◌}
-use Rattle.step_reply.specs.declared.reply.Call.{Call}
-use Rattle.step_reply.specs.declared.reply.Refusal.{Refusal}
-use Rattle.step_reply.specs.declared.reply.Refusal.TheVariants.{LogFull, NoMemory}
-use Rattle.step_reply.specs.declared.reply.Reply.TheVariants.{Refused}
-use Rattle.step_reply.specs.declared.step.Step.{Step}
+use Rattle.call_table.specs.declared.reply.Call.{Call}
+use Rattle.call_table.specs.declared.reply.Refusal.{Refusal}
+use Rattle.call_table.specs.declared.reply.Refusal.TheVariants.{LogFull, NoMemory}
+use Rattle.call_table.specs.declared.reply.Reply.TheVariants.{Refused}
+use Rattle.call_table.specs.declared.step.Step.{Step}
 use Rattle.reference_model.specs.State.{Vms, Shared, Guest, Cpu, Reference}
 use Rattle.page_state.specs.Layouts.{Layout}
 use Rattle.reference_model.specs.Sound.{Sound}

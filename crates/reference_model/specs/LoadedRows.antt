@@ -3,10 +3,10 @@ use Rattle.std.specs.Prelude.{◌≡◌, [], ◌∷◌}
 use Rattle.descriptor.specs.declared.Prot.TheVariants.{R, RW, RX, RWX}
 use Rattle.descriptor.specs.declared.State.TheVariants.{Owned, SharedOwned, SharedBorrowed}
 use Rattle.page_state.specs.declared.entry.Entry.TheVariants.{Unmapped}
-use Rattle.step_reply.specs.declared.reply.Refusal.TheVariants.{Perm, NoVm, Invalid, NoPool}
-use Rattle.step_reply.specs.declared.reply.Reply.TheVariants.{Done}
-use Rattle.step_reply.specs.declared.reply.Value.TheVariants.{Entry as EntryOf}
-use Rattle.step_reply.specs.declared.step.Step.TheVariants.{DonateGuest, GuestShareHost, GuestUnshareHost, GuestRelax, GuestTranslate}
+use Rattle.call_table.specs.declared.reply.Refusal.TheVariants.{Perm, NoVm, Invalid, NoPool}
+use Rattle.call_table.specs.declared.reply.Reply.TheVariants.{Done}
+use Rattle.call_table.specs.declared.reply.Value.TheVariants.{Entry as EntryOf}
+use Rattle.call_table.specs.declared.step.Step.TheVariants.{DonateGuest, GuestShareHost, GuestUnshareHost, GuestRelax, GuestTranslate}
 use Rattle.page_state.specs.EntryTests.{leaf, annotation, join}
 use Rattle.reference_model.specs.Step.{foretell}
 use Rattle.reference_model.specs.Scene.{small, ok, vm, at, Refuses, GuestAlone}

@@ -1,10 +1,10 @@
 -- Worked rows of the number of a call: one more than its CPU's log held.
 use Rattle.std.specs.Prelude.{◌≡◌, ℕ, None}
-use Rattle.step_reply.specs.declared.reply.Call.{Call}
-use Rattle.step_reply.specs.declared.reply.Refusal.TheVariants.{Perm, LogFull}
-use Rattle.step_reply.specs.declared.reply.Reply.{Reply}
-use Rattle.step_reply.specs.declared.reply.Reply.TheVariants.{Refused}
-use Rattle.step_reply.specs.declared.step.Step.TheVariants.{ShareHyp}
+use Rattle.call_table.specs.declared.reply.Call.{Call}
+use Rattle.call_table.specs.declared.reply.Refusal.TheVariants.{Perm, LogFull}
+use Rattle.call_table.specs.declared.reply.Reply.{Reply}
+use Rattle.call_table.specs.declared.reply.Reply.TheVariants.{Refused}
+use Rattle.call_table.specs.declared.step.Step.TheVariants.{ShareHyp}
 use Rattle.reference_model.specs.State.{Reference, put_at, all_rooms}
 use Rattle.reference_model.specs.Step.{Steps, foretell}
 use Rattle.reference_model.specs.Scene.{small, ok}

@@ -1,6 +1,6 @@
 -- Laws of the order of calls: those that share no part and no CPU can be made in either order.
 use Rattle.std.specs.Prelude.{◌≡◌, ℕ, List}
-use Rattle.step_reply.specs.declared.reply.Call.{Call}
+use Rattle.call_table.specs.declared.reply.Call.{Call}
 use Rattle.reference_model.specs.State.{Reference}
 use Rattle.page_state.specs.Layouts.{Layout}
 use Rattle.reference_model.specs.Parts.{Part}

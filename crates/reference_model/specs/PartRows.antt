@@ -1,10 +1,10 @@
 -- Worked rows of the parts that each call uses, told by the logs that store it, and of full logs.
 use Rattle.std.specs.Prelude.{◌≡◌, ℕ, ◌+◌, List, [], ◌∷◌}
 use Rattle.descriptor.specs.declared.Prot.TheVariants.{RW}
-use Rattle.step_reply.specs.declared.reply.Refusal.TheVariants.{NoVm, Invalid, LogFull}
-use Rattle.step_reply.specs.declared.step.Step.{Step}
-use Rattle.step_reply.specs.declared.step.Step.TheVariants.{ShareHyp, UnshareHyp, DonateHyp, HypDonateHost, HostAbort, HostTranslate, HypTranslate, OwnerOf, Fund, Unfund, ShareGuest, UnshareGuest, DonateGuest, GuestShareHost, GuestUnshareHost, Install, Topup, ReclaimPage, ReclaimPool, FinishGuest, GuestRelax, GuestTranslate, MarkDying, VmReserve, VmOpen, VcpuLoad, VcpuPut, Teardown, VmRelease}
-use Rattle.step_reply.specs.declared.step.VmKind.TheVariants.{Protected}
+use Rattle.call_table.specs.declared.reply.Refusal.TheVariants.{NoVm, Invalid, LogFull}
+use Rattle.call_table.specs.declared.step.Step.{Step}
+use Rattle.call_table.specs.declared.step.Step.TheVariants.{ShareHyp, UnshareHyp, DonateHyp, HypDonateHost, HostAbort, HostTranslate, HypTranslate, OwnerOf, Fund, Unfund, ShareGuest, UnshareGuest, DonateGuest, GuestShareHost, GuestUnshareHost, Install, Topup, ReclaimPage, ReclaimPool, FinishGuest, GuestRelax, GuestTranslate, MarkDying, VmReserve, VmOpen, VcpuLoad, VcpuPut, Teardown, VmRelease}
+use Rattle.call_table.specs.declared.step.VmKind.TheVariants.{Protected}
 use Rattle.reference_model.specs.State.{Rooms, Reference, put_at, all_rooms}
 use Rattle.reference_model.specs.Step.{foretell}
 use Rattle.reference_model.specs.Scene.{small, ok, vm, Refuses}

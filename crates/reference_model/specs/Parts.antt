@@ -2,7 +2,7 @@
 use Rattle.std.specs.Prelude.{ℕ, Bool, true, false, ◌==◌, nat_lt, is_some, is_none, option_map, Option, Some, None, if◌then◌else◌}
 use Rattle.reference_model.specs.declared.changes.Stage.{Stage}
 use Rattle.reference_model.specs.declared.changes.Stage.TheVariants.{Booked as booked, Installed as installed, ClosingVm as closing_vm, DyingVm as dying_vm, Finished as finished}
-use Rattle.step_reply.specs.declared.step.VmId.{VmId}
+use Rattle.call_table.specs.declared.step.VmId.{VmId}
 use Rattle.reference_model.specs.State.{Cpu}
 
 -- the parts, which are taken one by one

@@ -1,6 +1,6 @@
 -- The free frames of a pool are in order.
 use Rattle.std.specs.Prelude.{ℕ, ◌<◌, List, AllPairs}
-use Rattle.step_reply.specs.declared.reply.Call.{Call}
+use Rattle.call_table.specs.declared.reply.Call.{Call}
 use Rattle.reference_model.specs.Boot.{CanBoot}
 use Rattle.page_state.specs.Layouts.{Layout}
 use Rattle.reference_model.specs.Run.{IsRun}

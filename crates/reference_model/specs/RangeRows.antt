@@ -4,11 +4,11 @@ use Rattle.descriptor.specs.declared.Prot.TheVariants.{RW, RX, RWX}
 use Rattle.descriptor.specs.declared.State.TheVariants.{Owned, SharedOwned, SharedBorrowed}
 use Rattle.page_state.specs.declared.entry.Entry.TheVariants.{Unmapped}
 use Rattle.page_state.specs.declared.row.Usage.TheVariants.{Plain}
-use Rattle.step_reply.specs.declared.reply.Refusal.TheVariants.{Perm, NoVm, Invalid, NoPool}
-use Rattle.step_reply.specs.declared.reply.Reply.TheVariants.{Done, Refused}
-use Rattle.step_reply.specs.declared.reply.Value.TheVariants.{Entry as EntryOf}
-use Rattle.step_reply.specs.declared.step.Step.TheVariants.{HostTranslate, Fund, ShareGuest, DonateGuest, GuestShareHost, GuestUnshareHost, Install, Topup, ReclaimPage, ReclaimPool, MarkDying, VmReserve, VmOpen, VcpuLoad, VcpuPut, Teardown}
-use Rattle.step_reply.specs.declared.step.VmKind.TheVariants.{Protected}
+use Rattle.call_table.specs.declared.reply.Refusal.TheVariants.{Perm, NoVm, Invalid, NoPool}
+use Rattle.call_table.specs.declared.reply.Reply.TheVariants.{Done, Refused}
+use Rattle.call_table.specs.declared.reply.Value.TheVariants.{Entry as EntryOf}
+use Rattle.call_table.specs.declared.step.Step.TheVariants.{HostTranslate, Fund, ShareGuest, DonateGuest, GuestShareHost, GuestUnshareHost, Install, Topup, ReclaimPage, ReclaimPool, MarkDying, VmReserve, VmOpen, VcpuLoad, VcpuPut, Teardown}
+use Rattle.call_table.specs.declared.step.VmKind.TheVariants.{Protected}
 use Rattle.page_state.specs.EntryTests.{leaf, annotation}
 use Rattle.page_state.specs.Trees.{frames_from}
 use Rattle.reference_model.specs.Boot.{boot}

@@ -1,6 +1,6 @@
 -- What a call uses, where a run leaves it.
 use Rattle.std.specs.Prelude.{◌≡◌, ℕ, List, Option}
-use Rattle.step_reply.specs.declared.reply.Call.{Call}
+use Rattle.call_table.specs.declared.reply.Call.{Call}
 use Rattle.page_state.specs.Layouts.{Layout}
 use Rattle.reference_model.specs.Boot.{CanBoot}
 use Rattle.reference_model.specs.Parts.{Names}

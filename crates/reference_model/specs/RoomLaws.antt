@@ -1,8 +1,8 @@
 -- Laws of the rooms of logs.
 use Rattle.std.specs.Prelude.{◌≡◌, ◌≢◌, ℕ, ◌+◌, ◌==◌, List, length, All}
-use Rattle.step_reply.specs.declared.reply.Call.{Call}
-use Rattle.step_reply.specs.declared.reply.Refusal.TheVariants.{LogFull}
-use Rattle.step_reply.specs.declared.reply.Reply.TheVariants.{Refused}
+use Rattle.call_table.specs.declared.reply.Call.{Call}
+use Rattle.call_table.specs.declared.reply.Refusal.TheVariants.{LogFull}
+use Rattle.call_table.specs.declared.reply.Reply.TheVariants.{Refused}
 use Rattle.reference_model.specs.Conditions.{one}
 use Rattle.reference_model.specs.History.{calls_on, calls_by, IsStored}
 use Rattle.page_state.specs.Layouts.{Layout}

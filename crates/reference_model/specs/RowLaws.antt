@@ -1,7 +1,7 @@
 -- What an owner row says of its frame, in the words of maps and places, and that the kept rows of a run say so.
 use Rattle.std.specs.Prelude.{◌≡◌, ◌≢◌, ℕ, zero, suc, ◌↔◌, true, List, Option, Some, None}
 use Rattle.descriptor.specs.declared.State.TheVariants.{SharedBorrowed}
-use Rattle.step_reply.specs.declared.reply.Call.{Call}
+use Rattle.call_table.specs.declared.reply.Call.{Call}
 use Rattle.page_state.specs.declared.row.Lent.{Lent}
 use Rattle.page_state.specs.declared.row.Row.{Row}
 use Rattle.page_state.specs.declared.row.Usage.{Usage}

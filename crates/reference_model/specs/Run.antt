@@ -1,6 +1,6 @@
 -- Runs of calls.
 use Rattle.std.specs.Prelude.{◌≡◌, ◌<◌, List, [], ◌∷◌, All}
-use Rattle.step_reply.specs.declared.reply.Call.{Call}
+use Rattle.call_table.specs.declared.reply.Call.{Call}
 use Rattle.reference_model.specs.State.{Reference}
 use Rattle.page_state.specs.Layouts.{Layout}
 use Rattle.reference_model.specs.Step.{Steps}

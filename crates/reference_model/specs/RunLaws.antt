@@ -4,9 +4,9 @@ use Rattle.reference_model.specs.State.{Contents, Reference, plain_row}
 use Rattle.page_state.specs.Layouts.{Layout, is_memory}
 use Rattle.reference_model.specs.Owner.{row_of}
 use Rattle.reference_model.specs.Sound.{Sound}
-use Rattle.step_reply.specs.declared.reply.Call.{Call}
+use Rattle.call_table.specs.declared.reply.Call.{Call}
 use Rattle.reference_model.specs.Step.{rule_of, fails, made, changed, Steps}
-use Rattle.step_reply.specs.declared.step.Step.{Step}
+use Rattle.call_table.specs.declared.step.Step.{Step}
 use Rattle.reference_model.specs.Rules.{names, guest_slot}
 use Rattle.reference_model.specs.Used.{used_of}
 use Rattle.reference_model.specs.RowChanges.{with_told}

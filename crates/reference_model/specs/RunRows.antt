@@ -3,13 +3,13 @@ use Rattle.std.specs.Prelude.{◌≡◌, ℕ, List, [], ◌∷◌, Some}
 use Rattle.descriptor.specs.declared.Prot.TheVariants.{RW, RX, RWX}
 use Rattle.descriptor.specs.declared.State.TheVariants.{Owned, SharedBorrowed}
 use Rattle.page_state.specs.declared.entry.Entry.TheVariants.{Unmapped}
-use Rattle.step_reply.specs.declared.reply.Refusal.TheVariants.{Perm, NoVm, Busy, NoPool}
-use Rattle.step_reply.specs.declared.reply.Reply.{Reply}
-use Rattle.step_reply.specs.declared.reply.Reply.TheVariants.{Done, Refused}
-use Rattle.step_reply.specs.declared.reply.Value.TheVariants.{Vm, Frame as FrameOf, Entry as EntryOf, Row as RowOf}
-use Rattle.step_reply.specs.declared.step.Step.{Step}
-use Rattle.step_reply.specs.declared.step.Step.TheVariants.{HostTranslate, OwnerOf, Fund, ShareGuest, DonateGuest, GuestShareHost, Install, Topup, ReclaimPage, ReclaimPool, FinishGuest, GuestRelax, MarkDying, VmReserve, VmOpen, VcpuLoad, VcpuPut, Teardown, VmRelease}
-use Rattle.step_reply.specs.declared.step.VmKind.TheVariants.{Protected, Plain as PlainVm}
+use Rattle.call_table.specs.declared.reply.Refusal.TheVariants.{Perm, NoVm, Busy, NoPool}
+use Rattle.call_table.specs.declared.reply.Reply.{Reply}
+use Rattle.call_table.specs.declared.reply.Reply.TheVariants.{Done, Refused}
+use Rattle.call_table.specs.declared.reply.Value.TheVariants.{Vm, Frame as FrameOf, Entry as EntryOf, Row as RowOf}
+use Rattle.call_table.specs.declared.step.Step.{Step}
+use Rattle.call_table.specs.declared.step.Step.TheVariants.{HostTranslate, OwnerOf, Fund, ShareGuest, DonateGuest, GuestShareHost, Install, Topup, ReclaimPage, ReclaimPool, FinishGuest, GuestRelax, MarkDying, VmReserve, VmOpen, VcpuLoad, VcpuPut, Teardown, VmRelease}
+use Rattle.call_table.specs.declared.step.VmKind.TheVariants.{Protected, Plain as PlainVm}
 use Rattle.page_state.specs.Trees.{frames_from}
 use Rattle.reference_model.specs.Boot.{boot}
 use Rattle.page_state.specs.EntryTests.{leaf}

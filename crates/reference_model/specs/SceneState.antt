@@ -6,8 +6,8 @@ use Rattle.reference_model.specs.declared.changes.Stage.{Stage}
 use Rattle.reference_model.specs.declared.changes.Stage.TheVariants.{Booked, Installed, ClosingVm, DyingVm, Finished}
 use Rattle.page_state.specs.declared.row.Row.{Row}
 use Rattle.page_state.specs.declared.row.Usage.TheVariants.{Plain, SharedPool, VmPool, InHand}
-use Rattle.step_reply.specs.declared.step.VmKind.{VmKind}
-use Rattle.step_reply.specs.declared.step.VmKind.TheVariants.{Protected, Plain as PlainVm}
+use Rattle.call_table.specs.declared.step.VmKind.{VmKind}
+use Rattle.call_table.specs.declared.step.VmKind.TheVariants.{Protected, Plain as PlainVm}
 use Rattle.page_state.specs.EntryTests.{leaf, annotation}
 use Rattle.page_state.specs.Map.{Map, update}
 use Rattle.reference_model.specs.Scene.{range, vm, listed, pages, tables, row}

@@ -8,7 +8,7 @@ use Rattle.page_state.specs.declared.entry.PageRange.{PageRange}
 use Rattle.page_state.specs.declared.layout.Region.{Region}
 use Rattle.page_state.specs.declared.row.Usage.{Usage}
 use Rattle.page_state.specs.declared.row.Usage.TheVariants.{Plain}
-use Rattle.step_reply.specs.declared.reply.Value.TheVariants.{Entry as EntryOf, Row as RowOf}
+use Rattle.call_table.specs.declared.reply.Value.TheVariants.{Entry as EntryOf, Row as RowOf}
 use Rattle.page_state.specs.Blocks.{block_at, first_page, span, is_empty}
 use Rattle.page_state.specs.EntryTests.{is_mapped, is_unmapped, is_annotated, is_in, is_free_page, leaf, device_leaf, annotation}
 use Rattle.page_state.specs.Layouts.{Layout, is_memory, is_good_range, is_good_page, hyp_page}

@@ -2,8 +2,8 @@
 use Rattle.std.specs.Prelude.{[], ◌∷◌}
 use Rattle.descriptor.specs.declared.Prot.TheVariants.{RW, RX}
 use Rattle.descriptor.specs.declared.State.TheVariants.{SharedBorrowed}
-use Rattle.step_reply.specs.declared.reply.Refusal.TheVariants.{NoPool}
-use Rattle.step_reply.specs.declared.step.Step.TheVariants.{UnshareHyp, UnshareGuest, GuestShareHost, GuestUnshareHost, ReclaimPage, GuestRelax}
+use Rattle.call_table.specs.declared.reply.Refusal.TheVariants.{NoPool}
+use Rattle.call_table.specs.declared.step.Step.TheVariants.{UnshareHyp, UnshareGuest, GuestShareHost, GuestUnshareHost, ReclaimPage, GuestRelax}
 use Rattle.page_state.specs.EntryTests.{leaf}
 use Rattle.reference_model.specs.State.{Reference}
 use Rattle.reference_model.specs.Scene.{small, vm, pages, tables, Refuses}

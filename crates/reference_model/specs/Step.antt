@@ -1,12 +1,12 @@
 -- The reference step: the answer of one call, and the state after it.
 use Rattle.std.specs.Prelude.{◌≡◌, ℕ, ◌+◌, ◌-◌, Bool, true, false, ◌&&◌, ◌||◌, ◌==◌, ◌⊎◌, nat_lt, is_some, length, drop, ◌++◌, Option, Some, None, if◌then◌else◌}
-use Rattle.step_reply.specs.declared.reply.Refusal.{Refusal}
-use Rattle.step_reply.specs.declared.reply.Refusal.TheVariants.{Perm, NoVm, NoMemory, Busy, Invalid, NoPool, LogFull}
-use Rattle.step_reply.specs.declared.reply.Reply.{Reply}
-use Rattle.step_reply.specs.declared.reply.Reply.TheVariants.{Done, Refused}
-use Rattle.step_reply.specs.declared.reply.Call.{Call}
+use Rattle.call_table.specs.declared.reply.Refusal.{Refusal}
+use Rattle.call_table.specs.declared.reply.Refusal.TheVariants.{Perm, NoVm, NoMemory, Busy, Invalid, NoPool, LogFull}
+use Rattle.call_table.specs.declared.reply.Reply.{Reply}
+use Rattle.call_table.specs.declared.reply.Reply.TheVariants.{Done, Refused}
+use Rattle.call_table.specs.declared.reply.Call.{Call}
 use Rattle.page_state.specs.declared.row.Row.{Row}
-use Rattle.step_reply.specs.declared.step.Step.{Step}
+use Rattle.call_table.specs.declared.step.Step.{Step}
 use Rattle.reference_model.specs.State.{Shared, Guest, Reference, blank}
 use Rattle.page_state.specs.Layouts.{Layout, is_memory}
 use Rattle.reference_model.specs.Owner.{row_of, is_in_hand}

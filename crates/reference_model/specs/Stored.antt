@@ -1,6 +1,6 @@
 -- What there is, parts and CPUs with their logs, and a call that is stored there.
 use Rattle.std.specs.Prelude.{◌≡◌, ℕ, ◌-◌, Bool, true, false, ◌==◌, List, [], ◌∷◌, ◌++◌, length}
-use Rattle.step_reply.specs.declared.reply.Call.{Call}
+use Rattle.call_table.specs.declared.reply.Call.{Call}
 use Rattle.page_state.specs.Layouts.{Layout}
 use Rattle.reference_model.specs.History.{Kept}
 use Rattle.reference_model.specs.Parts.{vm_part, shared_part, guest_part}

@@ -1,11 +1,11 @@
 -- Worked rows of the calls on the VM part.
 use Rattle.std.specs.Prelude.{◌≡◌, ◌==◌, [], ◌∷◌, Some, None, if◌then◌else◌}
 use Rattle.reference_model.specs.declared.changes.Stage.TheVariants.{Booked, ClosingVm}
-use Rattle.step_reply.specs.declared.reply.Refusal.TheVariants.{Perm, NoVm, Busy, Invalid}
-use Rattle.step_reply.specs.declared.reply.Reply.TheVariants.{Done}
-use Rattle.step_reply.specs.declared.reply.Value.TheVariants.{Vm}
-use Rattle.step_reply.specs.declared.step.Step.TheVariants.{VmReserve, VmOpen, VcpuLoad, VcpuPut, Teardown, VmRelease}
-use Rattle.step_reply.specs.declared.step.VmKind.TheVariants.{Protected, Plain as PlainVm}
+use Rattle.call_table.specs.declared.reply.Refusal.TheVariants.{Perm, NoVm, Busy, Invalid}
+use Rattle.call_table.specs.declared.reply.Reply.TheVariants.{Done}
+use Rattle.call_table.specs.declared.reply.Value.TheVariants.{Vm}
+use Rattle.call_table.specs.declared.step.Step.TheVariants.{VmReserve, VmOpen, VcpuLoad, VcpuPut, Teardown, VmRelease}
+use Rattle.call_table.specs.declared.step.VmKind.TheVariants.{Protected, Plain as PlainVm}
 use Rattle.reference_model.specs.State.{reserved, opened, closing, no_slot, no_cpu}
 use Rattle.reference_model.specs.Step.{foretell}
 use Rattle.reference_model.specs.Scene.{small, ok, range, vm, at, Refuses, SlotsAlone}

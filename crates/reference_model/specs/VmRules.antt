@@ -2,9 +2,9 @@
 use Rattle.std.specs.Prelude.{ℕ, Bool, true, false, not, ◌&&◌, ◌||◌, ◌==◌, nat_le, is_some, is_none, unwrap_or, Option, Some, None}
 use Rattle.reference_model.specs.declared.changes.Loaded.{Loaded}
 use Rattle.reference_model.specs.declared.changes.Stage.TheVariants.{Booked as booked, Installed as installed, ClosingVm as closing_vm, Finished as finished}
-use Rattle.step_reply.specs.declared.step.VmId.{VmId}
-use Rattle.step_reply.specs.declared.step.VmKind.{VmKind}
-use Rattle.step_reply.specs.declared.reply.Value.TheVariants.{Vm}
+use Rattle.call_table.specs.declared.step.VmId.{VmId}
+use Rattle.call_table.specs.declared.step.VmKind.{VmKind}
+use Rattle.call_table.specs.declared.reply.Value.TheVariants.{Vm}
 use Rattle.page_state.specs.Search.{all_below, first_below}
 use Rattle.reference_model.specs.State.{Stand, vacant, reserved, opened, closing, Slot, Vms, Cpu}
 use Rattle.reference_model.specs.declared.changes.Update.TheVariants.{Becomes}

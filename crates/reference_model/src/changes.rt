@@ -1,6 +1,6 @@
 //! What a call changes on Ok, as data.
+use call_table::{Value, VmId, VmKind};
 use page_state::{Entry, PageRange};
-use step_reply::{Value, VmId, VmKind};
 
 /// A change of a map: the pages of a range get an entry, which advances along the range.
 #[derive(Clone, Copy)]

@@ -4,11 +4,11 @@ ghost use Rattle.part_table.specs.Passes.{IsPassOf};
 ghost use Rattle.cpu_threads.specs.Ends.{AreOf};
 
 use crate::refusing::{MOST, has_met, refuse_nth};
+use call_table::{Step, VmKind};
 use cpu_threads::{Machine, ShutdownFault};
 use page_state::{Config, MemoryMap, Page, PageRange, Region, RegionKind};
 use part_table::CpuPass;
 use std::alloc::{AllocError, Global};
-use step_reply::{Step, VmKind};
 use world::{Histories, World};
 
 /// Two CPUs, and room for few calls.

@@ -1,8 +1,8 @@
 //! The plain program of the model along calls.
 use crate::ending::booted_world;
+use call_table::{Refusal, Reply, Step};
 use ghost_spec::state::{Ghost, has_next_generation, predict};
 use std::alloc::{AllocError, Global};
-use step_reply::{Refusal, Reply, Step};
 
 /// Where calls lead.
 #[derive(Drop)]

@@ -3,10 +3,10 @@ ghost use Rattle.std.specs.Prelude.{◌<◌, All, IfSome};
 
 use crate::following::follow;
 use crate::refusing::{MOST, has_met, refuse_nth};
+use call_table::{Reply, Step};
 use ghost_spec::state::Ghost;
 use page_state::{Config, MemoryMap};
 use std::alloc::Global;
-use step_reply::{Reply, Step};
 use trace_race::Course;
 use world::World;
 

@@ -2,8 +2,8 @@
 ghost use Rattle.std.specs.Prelude.{◌≡◌, ◌<◌, OnOk};
 
 use crate::refusing::{MOST, has_met, refuse_all, refuse_nth};
+use call_table::{Refusal, Reply, Step};
 use std::alloc::{AllocError, Global};
-use step_reply::{Refusal, Reply, Step};
 use table_tree::Reads;
 use trace_text::{GhostOracle, Oracle};
 use world::World;

@@ -2,13 +2,13 @@
 ghost use Rattle.std.specs.Prelude.{◌≡◌, ◌<◌};
 
 use crate::refusing::{Came, by_memory, in_turn};
+use call_table::Step;
 use cpu_threads::Machine;
 use ghost_judge::judge::judge;
 use ghost_oracle::record::record;
 use ghost_spec::state::{has_next_generation, predict};
 use page_state::{Config, LayoutFault, MemoryMap, PageRange, Region};
 use std::alloc::{AllocError, Global};
-use step_reply::Step;
 use table_tree::Reads;
 use world::{BootFault, World};
 

@@ -8,9 +8,9 @@ use Rattle.reference_model.specs.declared.changes.Stage.{Stage}
 use Rattle.reference_model.specs.declared.changes.Stage.TheVariants.{Booked, Installed, ClosingVm, DyingVm, Finished}
 use Rattle.reference_model.specs.declared.changes.Ticket.{Ticket as CpuTicket}
 use Rattle.reference_model.specs.State.{Guest as ReferenceGuest, Phase, empty, live, dying, Slot, Stand, vacant, reserved, opened, closing}
-use Rattle.step_reply.specs.declared.step.VmKind.{VmKind}
-use Rattle.step_reply.specs.declared.step.VmKind.TheVariants.{Protected, Plain}
-use Rattle.step_reply.specs.Texts.{text_of_vm}
+use Rattle.call_table.specs.declared.step.VmKind.{VmKind}
+use Rattle.call_table.specs.declared.step.VmKind.TheVariants.{Protected, Plain}
+use Rattle.call_table.specs.Texts.{text_of_vm}
 
 abbrev pub text_of_kind : VmKind → List ℕ
 text_of_kind Protected = codes "protected"

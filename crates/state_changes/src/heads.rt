@@ -8,10 +8,10 @@ ghost use Rattle.state_changes.specs.Together.{Adds, Each};
 
 use crate::lines::add_change;
 use crate::words::{kind_word, told_cpu};
+use call_table::VmKind;
 use ghost_spec::parts::{GhostGuest, GhostPhase, GhostSlot, GhostStand};
 use std::alloc::{AllocError, Global};
 use std::fmt;
-use step_reply::VmKind;
 
 /// The most vCPUs of a VM.
 const VCPUS: usize = 8;

@@ -2,11 +2,11 @@
 ghost use Rattle.std.specs.Prelude.{◌≡◌, IfOk, Some, string_bytes};
 ghost use Rattle.state_changes.specs.Texts.{text_of_hand, text_of_holder, text_of_kind, text_of_loaded, text_of_stage, text_of_ticket};
 
+use call_table::VmKind;
 use page_state::PageRange;
 use reference_model::{Loaded, Stage, Ticket};
 use std::alloc::{AllocError, Global};
 use std::fmt;
-use step_reply::VmKind;
 
 /// The CPU that has a vCPU loaded.
 pub fn told_cpu(global: Global, holder: Option<u64>) -> Result<String, AllocError>

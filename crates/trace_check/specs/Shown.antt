@@ -1,7 +1,7 @@
 -- What a line reports, as an expectation has it (profile).
 use Rattle.std.specs.Prelude.{ℕ, Bool, true, false, List, [], ◌∷◌, ◌++◌, codes, map}
 use Rattle.ghost_judge.specs.Texts.{text_of_disagreement, text_of_judgement}
-use Rattle.step_reply.specs.Texts.{text_of_reply}
+use Rattle.call_table.specs.Texts.{text_of_reply}
 use Rattle.trace_lines.specs.Texts.{text_of_response}
 use Rattle.trace_lines.specs.declared.response.Response.{Response}
 use Rattle.trace_lines.specs.declared.response.Response.TheVariants as responses

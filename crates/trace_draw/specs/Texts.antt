@@ -6,9 +6,9 @@ use Rattle.page_state.specs.declared.row.Row.{Row}
 use Rattle.page_state.specs.Texts.{text_of_page, text_of_row}
 use Rattle.reference_model.specs.State.{Slot, Stand, vacant, reserved, opened, closing}
 use Rattle.run_list.specs.declared.run.Run.{Run}
-use Rattle.step_reply.specs.declared.step.VmKind.{VmKind}
-use Rattle.step_reply.specs.declared.step.VmKind.TheVariants.{Protected, Plain}
-use Rattle.step_reply.specs.Texts.{text_of_vm}
+use Rattle.call_table.specs.declared.step.VmKind.{VmKind}
+use Rattle.call_table.specs.declared.step.VmKind.TheVariants.{Protected, Plain}
+use Rattle.call_table.specs.Texts.{text_of_vm}
 
 -- a run of rows: its first frame, how many frames, and the first one's row
 abbrev pub text_of_run : Run Row → List ℕ

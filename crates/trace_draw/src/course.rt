@@ -7,8 +7,8 @@ ghost use Rattle.trace_text.specs.Session.{at_start};
 ghost use Rattle.trace_text.specs.View.{standing_of};
 
 use crate::bands::{Band, bands_of};
+use call_table::{Reply, VmKind};
 use std::alloc::{AllocError, Allocator, Global};
-use step_reply::{Reply, VmKind};
 use trace_lines::Response;
 use trace_text::{Fault, MOST_LINES, Reported, Session, Stop};
 use vm_table::{Slot, SlotState};

@@ -9,12 +9,12 @@ ghost use Rattle.trace_text.specs.View.{machine_of, standing_of};
 ghost use Rattle.vm_table.specs.View.{slot_of, stand_of, vms_of};
 
 use crate::course::{Ended, line_run};
+use call_table::{VmId, VmKind};
 use page_state::Row;
 use run_list::Run;
 use std::alloc::{AllocError, Allocator, Global};
 use std::fmt;
 use std::fmt::Write;
-use step_reply::{VmId, VmKind};
 use trace_reader::lines;
 use trace_text::{Session, Stop};
 use vm_table::{Slot, SlotState, VmTable};

@@ -7,7 +7,7 @@ use Rattle.trace_text.specs.declared.session.Stop.TheVariants as stops
 use Rattle.trace_text.specs.Session.{Answer, Standing}
 use Rattle.state_changes.proofs.Once.{all_once}
 use Rattle.state_changes.specs.Together.{IsOnce}
-use Rattle.step_reply.specs.declared.step.Step.{Step}
+use Rattle.call_table.specs.declared.step.Step.{Step}
 use Rattle.trace_explain.specs.Explained.{Explains, IsBlock, TellsStep, explained, faulty, is_shown, step_at}
 use Rattle.trace_text.specs.Worlds.{Machine}
 use Rattle.trace_explain.specs.Laws.{OneText, run_of}

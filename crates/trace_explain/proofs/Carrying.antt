@@ -9,7 +9,7 @@ use Rattle.page_state.specs.Layouts.{Layout}
 use Rattle.reference_model.specs.State.{Contents, Reference}
 use Rattle.state_changes.specs.Changed.{TellsAll}
 use Rattle.state_changes.specs.Together.{Adds}
-use Rattle.step_reply.specs.declared.step.Step.{Step}
+use Rattle.call_table.specs.declared.step.Step.{Step}
 use Rattle.trace_explain.specs.Carried.{HasFrames, IsBefore, TellsFrom}
 use Rattle.trace_explain.specs.Explained.{IsBlock, TellsStep, explained, line_with, step_at, step_of}
 use Rattle.trace_explain.specs.Looks.{Look, seen}

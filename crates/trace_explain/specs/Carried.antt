@@ -5,7 +5,7 @@ use Rattle.ghost_spec.specs.declared.lists.GhostLists.{GhostLists}
 use Rattle.ghost_spec.specs.States.{contents_in, ghost_state}
 use Rattle.state_changes.specs.Changed.{TellsAll}
 use Rattle.state_changes.specs.Together.{Adds}
-use Rattle.step_reply.specs.declared.step.Step.{Step}
+use Rattle.call_table.specs.declared.step.Step.{Step}
 use Rattle.trace_explain.specs.Explained.{IsBlock}
 use Rattle.trace_text.specs.declared.fault.Fault.{Fault}
 use Rattle.trace_text.specs.declared.report.ReportLine.{ReportLine}

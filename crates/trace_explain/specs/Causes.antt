@@ -1,9 +1,9 @@
 -- Why a call is refused, in words (profile).
 use Rattle.std.specs.Prelude.{ℕ, List, codes}
-use Rattle.step_reply.specs.declared.reply.Refusal.{Refusal}
-use Rattle.step_reply.specs.declared.reply.Refusal.TheVariants as refusals
-use Rattle.step_reply.specs.declared.step.Step.{Step}
-use Rattle.step_reply.specs.declared.step.Step.TheVariants as steps
+use Rattle.call_table.specs.declared.reply.Refusal.{Refusal}
+use Rattle.call_table.specs.declared.reply.Refusal.TheVariants as refusals
+use Rattle.call_table.specs.declared.step.Step.{Step}
+use Rattle.call_table.specs.declared.step.Step.TheVariants as steps
 
 -- `perm`: the pages or frames
 abbrev pub perm_cause : Step → List ℕ

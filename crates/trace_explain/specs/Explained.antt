@@ -1,8 +1,8 @@
 -- What `explain` says of a trace (profile).
 use Rattle.std.specs.Prelude.{◌≡◌, ℕ, ◌+◌, ◌==◌, Bool, true, false, List, [], ◌∷◌, ◌++◌, codes, Option, Some, None, Result, Ok, Err, is_some}
 use Rattle.state_changes.specs.Changed.{TellsAll}
-use Rattle.step_reply.specs.declared.reply.Reply.TheVariants.{Refused}
-use Rattle.step_reply.specs.declared.step.Step.{Step}
+use Rattle.call_table.specs.declared.reply.Reply.TheVariants.{Refused}
+use Rattle.call_table.specs.declared.step.Step.{Step}
 use Rattle.trace_check.specs.Shown.{shown}
 use Rattle.trace_explain.specs.Causes.{cause_of}
 use Rattle.trace_explain.specs.Looks.{Look, looked, seen}

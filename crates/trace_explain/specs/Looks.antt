@@ -9,8 +9,8 @@ use Rattle.page_state.specs.Regions.{Memory, has_memory}
 use Rattle.page_state.specs.Texts.{text_of_entry, text_of_row}
 use Rattle.reference_model.specs.declared.changes.Loaded.{Loaded}
 use Rattle.reference_model.specs.declared.changes.Ticket.{Ticket as CpuTicket}
-use Rattle.step_reply.specs.declared.step.Step.{Step}
-use Rattle.step_reply.specs.declared.step.Step.TheVariants as steps
+use Rattle.call_table.specs.declared.step.Step.{Step}
+use Rattle.call_table.specs.declared.step.Step.TheVariants as steps
 use Rattle.trace_text.specs.Worlds.{Machine, free_told}
 use Rattle.trace_explain.specs.declared.place.Place.{Place}
 use Rattle.trace_explain.specs.declared.place.Place.TheVariants.{Host, Hyp, GuestPage, Owner, FreeShared, Guest, Vm, Vcpu, Loaded as LoadedPlace, Hand, Ticket}

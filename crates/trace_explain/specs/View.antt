@@ -1,7 +1,7 @@
 -- What code holds, in the words of explanations.
 use Rattle.std.proofs.Common.{Bor}
 use Rattle.std.specs.Prelude.{ℕ, ◌+◌, Bool, List, [], map, slice_index_or, string_bytes, Option, Result}
-use Rattle.step_reply.specs.declared.step.Step.{Step}
+use Rattle.call_table.specs.declared.step.Step.{Step}
 use Rattle.trace_explain.specs.declared.explaining.Look.{Look}
 use Rattle.trace_explain.specs.Carried.{IsCarried}
 use Rattle.trace_explain.specs.Explained.{faulty, line_with}

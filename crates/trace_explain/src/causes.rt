@@ -2,7 +2,7 @@
 ghost use Rattle.std.specs.Prelude.{◌≡◌};
 ghost use Rattle.trace_explain.specs.Causes.{busy_cause as busy_by, cause_of as cause_by, invalid_cause as invalid_by, novm_cause as novm_by, perm_cause as perm_by};
 
-use step_reply::{Refusal, Step};
+use call_table::{Refusal, Step};
 
 /// The tests of the call that answer with the refusal, in words. A refusal that the call never answers has the words of all calls.
 pub fn cause_of(step: Step, refusal: Refusal) -> &'static str

@@ -5,10 +5,10 @@ ghost use Rattle.trace_text.specs.View.{machine_of};
 
 use crate::looking::{SLOTS, guest_entry, own_of};
 use crate::place::Place;
+use call_table::Step;
 use page_state::{Entry, MemoryMap, Page, PageRange};
 use reference_model::{Loaded, Ticket};
 use std::alloc::{AllocError, Allocator};
-use step_reply::Step;
 use world::World;
 
 /// From a frame to the page of the hypervisor that maps it.

@@ -5,11 +5,11 @@ ghost use Rattle.guest_component.specs.View.{guest_in};
 ghost use Rattle.trace_explain.specs.Texts.{guest_line, text_of_guest, text_of_phase, text_of_slot, text_of_stand};
 ghost use Rattle.vm_table.specs.View.{slot_of, stand_of};
 
+use call_table::VmKind;
 use guest_component::{Body, Phase};
 use state_changes::kind_word;
 use std::alloc::{AllocError, Allocator, Global};
 use std::fmt;
-use step_reply::VmKind;
 use vm_table::{Slot, SlotState};
 
 /// A guest that isn't Empty.

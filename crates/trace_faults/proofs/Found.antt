@@ -2,7 +2,7 @@
 use Rattle.std.proofs.Common.{◌≡◌, ◌≢◌, ℕ, ◌+◌, zero, suc, ◌<◌, ◌≤◌, refl, sym, ◌∙◌, ap, subst, arith, ◌==◌, not, Bool, true, false, List, [], ◌∷◌, length, map, Option, Some, None, Ok, Err, nat_lt}
 use Rattle.std.specs.Prelude.{◌&&◌, codes, unwrap_or, is_some, slice_get, option_and_then, option_map, ok_or, if◌then◌else◌}
 use Rattle.std.proofs.lemmas.Bool.Decides.{nat_tests}
-use Rattle.step_reply.specs.declared.step.Step.{Step}
+use Rattle.call_table.specs.declared.step.Step.{Step}
 use Rattle.trace_faults.specs.declared.form.Form.{Form}
 use Rattle.trace_faults.specs.declared.form.Form.TheVariants.{Name, Number, Vm, Kind, Rights, Level, Slot}
 use Rattle.trace_faults.specs.Forms.{first_wrong, form_of, forms, is_of}

@@ -15,7 +15,7 @@ use Rattle.trace_lines.specs.Said.{said, said_by_asked, said_by_words}
 use Rattle.trace_lines.specs.Settings.{Told}
 use Rattle.trace_words.specs.Numbers.{is_decimal_digit}
 use Rattle.trace_words.specs.Words.{has_empty_word, has_stray_byte, is_silent, is_stray, words_of}
-use Rattle.step_reply.specs.declared.step.Step.{Step}
+use Rattle.call_table.specs.declared.step.Step.{Step}
 use Rattle.trace_generate.proofs.Words.{IsWord, and_left, and_right, is_plain}
 
 -- a word and those behind it

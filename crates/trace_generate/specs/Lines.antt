@@ -3,11 +3,11 @@ use Rattle.std.specs.Prelude.{ℕ, List, ◌++◌, codes}
 use Rattle.std.specs.Fmt.{decimal}
 use Rattle.page_state.specs.declared.entry.PageRange.{PageRange}
 use Rattle.page_state.specs.Texts.{text_of_page, text_of_prot}
-use Rattle.step_reply.specs.declared.step.Step.{Step}
-use Rattle.step_reply.specs.declared.step.Step.TheVariants.{ShareHyp, UnshareHyp, DonateHyp, HypDonateHost, HostAbort, HostTranslate, HypTranslate, OwnerOf, Fund, Unfund, ShareGuest, UnshareGuest, DonateGuest, GuestShareHost, GuestUnshareHost, Install, Topup, ReclaimPage, ReclaimPool, FinishGuest, GuestRelax, GuestTranslate, MarkDying, VmReserve, VmOpen, VcpuLoad, VcpuPut, Teardown, VmRelease}
-use Rattle.step_reply.specs.declared.step.VmKind.{VmKind}
-use Rattle.step_reply.specs.declared.step.VmKind.TheVariants.{Protected, Plain}
-use Rattle.step_reply.specs.Texts.{text_of_vm}
+use Rattle.call_table.specs.declared.step.Step.{Step}
+use Rattle.call_table.specs.declared.step.Step.TheVariants.{ShareHyp, UnshareHyp, DonateHyp, HypDonateHost, HostAbort, HostTranslate, HypTranslate, OwnerOf, Fund, Unfund, ShareGuest, UnshareGuest, DonateGuest, GuestShareHost, GuestUnshareHost, Install, Topup, ReclaimPage, ReclaimPool, FinishGuest, GuestRelax, GuestTranslate, MarkDying, VmReserve, VmOpen, VcpuLoad, VcpuPut, Teardown, VmRelease}
+use Rattle.call_table.specs.declared.step.VmKind.{VmKind}
+use Rattle.call_table.specs.declared.step.VmKind.TheVariants.{Protected, Plain}
+use Rattle.call_table.specs.Texts.{text_of_vm}
 use Rattle.trace_generate.specs.declared.line.SettingLines.{SettingLines}
 use Rattle.trace_generate.specs.declared.line.StepLine.{StepLine}
 

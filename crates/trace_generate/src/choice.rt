@@ -8,13 +8,13 @@ use crate::seen::{
     picked_rows, picked_run, vm_of,
 };
 use crate::wanting::{Made, wanting};
+use call_table::{Step, VmId, VmKind};
 use ghost_spec::cpu::GhostCpu;
 use ghost_spec::lists::GhostLists;
 use ghost_spec::parts::{GhostGuest, GhostStand};
 use page_state::{Lent, Owner, PageRange, State, Target, Usage};
 use rand_pcg::Pcg32;
 use reference_model::{Loaded, Stage, Ticket};
-use step_reply::{Step, VmId, VmKind};
 
 /// The first page of guests' memory.
 const GUEST_PAGE: u64 = 0x8_0000;

@@ -3,9 +3,9 @@ ghost use Rattle.std.specs.Prelude.{◌≡◌, ◌++◌, codes, Some};
 ghost use Rattle.page_state.specs.Texts.{text_of_prot};
 ghost use Rattle.trace_generate.specs.Lines.{text_of_call, text_of_line, text_of_numbers, text_of_range, text_of_settings, text_of_vm_kind};
 
+use call_table::{Step, VmKind};
 use page_state::{PageRange, Prot};
 use std::fmt;
-use step_reply::{Step, VmKind};
 
 /// A step line of a trace, without its end: the step of a CPU.
 #[derive(Clone, Copy, PartialEq)]

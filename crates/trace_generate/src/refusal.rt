@@ -5,13 +5,13 @@ use crate::chance::below;
 use crate::seen::{
     SLOTS, guest_of, own_state, picked_hosts, picked_open, picked_page, picked_rights, picked_rows,
 };
+use call_table::{Step, VmId, VmKind};
 use ghost_spec::cpu::GhostCpu;
 use ghost_spec::lists::GhostLists;
 use ghost_spec::parts::GhostPhase;
 use page_state::PageRange;
 use rand_pcg::Pcg32;
 use reference_model::{Loaded, Stage};
-use step_reply::{Step, VmId, VmKind};
 
 /// A page of no region and of no tree.
 const NO_PAGE: u64 = 0xffff_ffff_ffff_ffff;

@@ -1,11 +1,11 @@
 //! What a state holds that calls can use, as chance picks it.
 use crate::chance::below;
+use call_table::VmId;
 use ghost_spec::cpu::GhostCpu;
 use ghost_spec::lists::GhostLists;
 use ghost_spec::parts::{GhostGuest, GhostPhase, GhostSlot, GhostStand};
 use page_state::{Owner, Page, PageRange, Prot, Row, Run, Usage};
 use rand_pcg::Pcg32;
-use step_reply::VmId;
 
 /// How many slots are used at most.
 pub(crate) const SLOTS: u64 = 6;

@@ -15,13 +15,13 @@ use crate::line::StepLine;
 use crate::options::{GenerateFault, Options, carve, config, memory};
 use crate::refusal::{refused, unlikely};
 use crate::wanting::Made;
+use call_table::{Reply, Step};
 use ghost_spec::start::start;
 use ghost_spec::state::{Ghost, has_next_generation, predict};
 use page_state::{Geometry, Layout, LayoutFault, MemoryMap, PageRange, Region, RegionKind};
 use rand_pcg::Pcg32;
 use std::alloc::{AllocError, Global};
 use std::mem;
-use step_reply::{Reply, Step};
 
 /// How many calls are tried before a sure one is taken.
 const TRIES: u64 = 6;

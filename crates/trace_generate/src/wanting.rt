@@ -2,13 +2,13 @@
 use crate::chance::below;
 use crate::choice::{funding, onto_guest, picked_kind, with_ticket};
 use crate::seen::{SLOTS, guest_of, picked_page, picked_rights, vm_of};
+use call_table::{Step, VmId, VmKind};
 use ghost_spec::cpu::GhostCpu;
 use ghost_spec::lists::GhostLists;
 use ghost_spec::parts::{GhostSlot, GhostStand};
 use page_state::{PageRange, State, Target};
 use rand_pcg::Pcg32;
 use reference_model::Loaded;
-use step_reply::{Step, VmId, VmKind};
 
 /// The calls of a trace that it is of use to lead to, those that others come before: a flag for each that was made.
 #[derive(Clone, Copy)]

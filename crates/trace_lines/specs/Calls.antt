@@ -1,11 +1,11 @@
 -- The calls that a step line can name, a row for each (profile).
 use Rattle.std.specs.Prelude.{ℕ, ◌+◌, List, [], ◌∷◌, codes, Option, Some, option_map, option_and_then}
 use Rattle.descriptor.specs.declared.Prot.{Prot}
-use Rattle.step_reply.specs.declared.step.Step.{Step}
-use Rattle.step_reply.specs.declared.step.Step.TheVariants as steps
+use Rattle.call_table.specs.declared.step.Step.{Step}
+use Rattle.call_table.specs.declared.step.Step.TheVariants as steps
 use Rattle.trace_lines.specs.declared.call.Called.{Called}
-use Rattle.step_reply.specs.declared.step.VmId.{VmId}
-use Rattle.step_reply.specs.declared.step.VmKind.{VmKind}
+use Rattle.call_table.specs.declared.step.VmId.{VmId}
+use Rattle.call_table.specs.declared.step.VmKind.{VmKind}
 use Rattle.trace_lines.specs.Arguments.{number_at, vm_word_at, kind_word_at, rights_word_at, count_word_at, one_more}
 use Rattle.trace_words.specs.Words.{named}
 

@@ -3,7 +3,7 @@ use Rattle.std.specs.Prelude.{ℕ, ◌-◌, List, ◌++◌, length, codes, repli
 use Rattle.std.specs.Fmt.{digits, decimal}
 use Rattle.page_state.specs.Entries.{entry_of_target}
 use Rattle.page_state.specs.Texts.{text_of_entry, text_of_page}
-use Rattle.step_reply.specs.Texts.{text_of_reply}
+use Rattle.call_table.specs.Texts.{text_of_reply}
 use Rattle.trace_lines.specs.declared.fault.LineFault.{LineFault}
 use Rattle.trace_lines.specs.declared.fault.LineFault.TheVariants as faults
 use Rattle.trace_lines.specs.declared.response.Response.{Response}

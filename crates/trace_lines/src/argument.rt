@@ -18,8 +18,8 @@ ghost use Rattle.trace_lines.specs.Arguments.{
 };
 ghost use Rattle.trace_words.specs.Words.{named};
 
+use call_table::{VmId, VmKind};
 use page_state::{Page, PageRange, Prot};
-use step_reply::{VmId, VmKind};
 use trace_words::{Words, decimal, is_name, number};
 
 /// The last level of a tree.

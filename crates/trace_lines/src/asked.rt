@@ -21,7 +21,7 @@ use crate::argument::{level_at, number_at, range_of, slot_at};
 use crate::call::Called;
 use crate::line::{Line, Poke, Query, Setting, TreeName};
 use crate::place::{SettingName, Verb};
-use step_reply::Step;
+use call_table::Step;
 use trace_words::{Words, is_name};
 
 /// What a line asks for by its first words, and what all of them say.

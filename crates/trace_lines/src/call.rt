@@ -1,6 +1,6 @@
 //! The calls that a step line can name.
 ghost use Rattle.std.specs.Prelude.{◌≡◌, [], ◌∷◌, Some};
-ghost use Rattle.step_reply.specs.declared.step.Step.TheVariants.{
+ghost use Rattle.call_table.specs.declared.step.Step.TheVariants.{
   DonateGuest,
   DonateHyp,
   Fund,
@@ -16,7 +16,7 @@ ghost use Rattle.step_reply.specs.declared.step.Step.TheVariants.{
 ghost use Rattle.trace_lines.specs.Calls.{called as called_by, called_in, guest_calls, hand_calls, kind, last_number, number, rights, step_from, vm, vm_calls};
 
 use crate::argument::{count_at, kind_at, number_at, one_more, rights_at, vm_at};
-use step_reply::Step;
+use call_table::Step;
 use trace_words::{Words, is_name};
 
 /// What a step line of a call has.

@@ -1,6 +1,6 @@
 //! What a line of a trace can say.
+use call_table::Step;
 use page_state::PageRange;
-use step_reply::Step;
 
 /// A line that can be carried out.
 #[derive(Clone, Copy)]

@@ -2,9 +2,9 @@
 ghost use Rattle.std.specs.Prelude.{Some};
 ghost use Rattle.trace_lines.specs.Texts.{digits_16, text_of_response};
 
+use call_table::Reply;
 use page_state::{Entry, Run};
 use std::fmt;
-use step_reply::Reply;
 
 /// A line of the report that a line of the trace makes, without its end.
 #[derive(Clone, Copy)]

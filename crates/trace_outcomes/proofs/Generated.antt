@@ -3,7 +3,7 @@ use Rattle.std.proofs.Common.{◌≡◌, ℕ, ◌+◌, ◌<◌, ◌≤◌, ◌^�
 use Rattle.std.proofs.lemmas.List.{length-take}
 use Rattle.page_state.proofs.Common.{both}
 use Rattle.page_state.specs.Layouts.{Layout}
-use Rattle.step_reply.specs.declared.reply.Reply.{Reply}
+use Rattle.call_table.specs.declared.reply.Reply.{Reply}
 use Rattle.reference_model.specs.State.{Reference}
 use Rattle.reference_model.specs.Step.{foretell}
 use Rattle.race_outcomes.specs.declared.finding.OutcomesFault.{OutcomesFault}

@@ -7,7 +7,7 @@ use Rattle.std.proofs.lemmas.Fmt.{decimal_nonempty}
 use Rattle.std.proofs.lemmas.List.{append_assoc}
 use Rattle.std.proofs.lemmas.List.Elements.{All-cons}
 use Rattle.std.proofs.lemmas.List.Splits.{slice_split_at}
-use Rattle.step_reply.specs.Texts.{text_of_reply}
+use Rattle.call_table.specs.Texts.{text_of_reply}
 use Rattle.trace_lines.specs.declared.response.Response.TheVariants as responses
 use Rattle.trace_lines.specs.Texts.{text_of_response}
 use Rattle.trace_words.specs.Numbers.{is_decimal_digit}

@@ -3,7 +3,7 @@ use Rattle.std.proofs.Common.{◌≡◌, ℕ, ◌<◌, List, ◌∙◌, refl, sy
 use Rattle.std.specs.Prelude.{option_map, slice_get, slice_set}
 use Rattle.std.proofs.lemmas.List.{map-set}
 use Rattle.std.proofs.lemmas.Option.{slice_get-map, slice_get_read}
-use Rattle.step_reply.specs.declared.step.Step.TheVariants.{Unfund}
+use Rattle.call_table.specs.declared.step.Step.TheVariants.{Unfund}
 use Rattle.trace_race.specs.declared.course.Asked.{Asked}
 use Rattle.trace_outcomes.specs.Races.{texts_in}
 use Rattle.trace_outcomes.specs.Reports.{is_reply, put}

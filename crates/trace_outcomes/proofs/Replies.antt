@@ -1,8 +1,8 @@
 -- The text of a reply is read as one.
 use Rattle.std.proofs.Common.{refl}
-use Rattle.step_reply.specs.declared.reply.Refusal.TheVariants.{Perm, NoVm, Contended, NoMemory, Busy, Invalid, NoPool, LogFull}
-use Rattle.step_reply.specs.declared.reply.Reply.TheVariants.{Done, Refused}
-use Rattle.step_reply.specs.declared.reply.Value.TheVariants.{Nothing, Vm, Frame, Entry, Row}
+use Rattle.call_table.specs.declared.reply.Refusal.TheVariants.{Perm, NoVm, Contended, NoMemory, Busy, Invalid, NoPool, LogFull}
+use Rattle.call_table.specs.declared.reply.Reply.TheVariants.{Done, Refused}
+use Rattle.call_table.specs.declared.reply.Value.TheVariants.{Nothing, Vm, Frame, Entry, Row}
 use Rattle.trace_outcomes.specs.Laws.{RepliesAreRead}
 
 pub replies_are_read : RepliesAreRead

@@ -4,8 +4,8 @@ use Rattle.std.specs.Prelude.{MatchOption, option_map}
 use Rattle.std.proofs.lemmas.List.{drop_more}
 use Rattle.page_state.specs.declared.entry.PageRange.{PageRange}
 use Rattle.page_state.specs.LayoutView.{layout_of}
-use Rattle.step_reply.specs.declared.reply.Reply.{Reply}
-use Rattle.step_reply.specs.Texts.{text_of_reply}
+use Rattle.call_table.specs.declared.reply.Reply.{Reply}
+use Rattle.call_table.specs.Texts.{text_of_reply}
 use Rattle.reference_model.specs.State.{Reference}
 use Rattle.ghost_spec.specs.States.{ghost_state}
 use Rattle.race_outcomes.specs.declared.finding.Outcome.{Outcome}

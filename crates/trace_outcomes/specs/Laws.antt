@@ -1,8 +1,8 @@
 -- What a race tells is an outcome, and its replies are read (profile).
 use Rattle.std.specs.Prelude.{◌≡◌, ◌<◌, ◌^◌, ℕ, true, List, [], ◌∷◌, All, length, Some, None, Ok, slice_get, slice_set}
 use Rattle.page_state.specs.Layouts.{Layout}
-use Rattle.step_reply.specs.declared.reply.Reply.{Reply}
-use Rattle.step_reply.specs.Texts.{text_of_reply}
+use Rattle.call_table.specs.declared.reply.Reply.{Reply}
+use Rattle.call_table.specs.Texts.{text_of_reply}
 use Rattle.reference_model.specs.Boot.{boot}
 use Rattle.race_outcomes.specs.declared.node.Turn.{Turn}
 use Rattle.race_outcomes.specs.Laws.{IsPlain, is_want}

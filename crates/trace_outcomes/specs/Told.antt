@@ -4,8 +4,8 @@ use Rattle.std.specs.Global.{Global}
 use Rattle.std.specs.Str.{bytes_eq}
 use Rattle.page_state.specs.declared.entry.PageRange.{PageRange}
 use Rattle.page_state.specs.Regions.{memory_of}
-use Rattle.step_reply.specs.declared.reply.Reply.{Reply}
-use Rattle.step_reply.specs.Texts.{text_of_reply}
+use Rattle.call_table.specs.declared.reply.Reply.{Reply}
+use Rattle.call_table.specs.Texts.{text_of_reply}
 use Rattle.race_outcomes.specs.declared.finding.Outcome.{Outcome as RaceOutcome}
 use Rattle.race_outcomes.specs.Orders.{AllOutcomes, GivesWanted, HasMorePoints, NoneWanted}
 use Rattle.trace_lines.specs.Settings.{config_of}

@@ -10,10 +10,10 @@ ghost use Rattle.trace_race.specs.Judged.{HasGenerationsTo};
 ghost use Rattle.trace_outcomes.specs.Made.{HasMade, IsReady};
 ghost use Rattle.trace_outcomes.specs.Races.{nothing_wanted, texts_in, turns_of as turns_by, wants as wants_by};
 
+use call_table::Reply;
 use ghost_spec::state::Ghost;
 use race_outcomes::{OutcomesFault, Turn, first_steps};
 use std::alloc::{AllocError, Global};
-use step_reply::Reply;
 use trace_race::{Asked, Course};
 use trace_words::is_name;
 

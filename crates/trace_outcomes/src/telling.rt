@@ -1,6 +1,6 @@
 //! All outcomes of a trace, and whether a report is one of them.
 ghost use Rattle.std.specs.Prelude.{◌≡◌, ℕ, [], IfOk, Ok, drop, length, option_map};
-ghost use Rattle.step_reply.specs.Texts.{text_of_reply};
+ghost use Rattle.call_table.specs.Texts.{text_of_reply};
 ghost use Rattle.trace_lines.specs.Settings.{config_of};
 ghost use Rattle.trace_reader.specs.Reading.{lines_of};
 ghost use Rattle.ghost_spec.specs.States.{contents_in};
@@ -19,10 +19,10 @@ use crate::reading::{Read, read_trace};
 use crate::writing::{
     add_all, add_end, add_fault, add_order, add_otherwise, add_too_many, text_of,
 };
+use call_table::Reply;
 use ghost_spec::state::Ghost;
 use race_outcomes::{OutcomesFault, explained, outcomes};
 use std::alloc::{AllocError, Global};
-use step_reply::Reply;
 use trace_race::{Asked, Course};
 use trace_reader::Outcome;
 use trace_text::{Fault, Stop};

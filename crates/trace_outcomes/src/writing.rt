@@ -1,7 +1,7 @@
 //! The lines of a report of outcomes.
 ghost use Rattle.std.specs.Prelude.{◌≡◌, ◌∷◌, ◌++◌, [], IfOk, OnOk, length, map};
 ghost use Rattle.std.specs.Fmt.{decimal};
-ghost use Rattle.step_reply.specs.Texts.{text_of_reply};
+ghost use Rattle.call_table.specs.Texts.{text_of_reply};
 ghost use Rattle.trace_race.specs.Raced.{step_lines};
 ghost use Rattle.trace_text.specs.Texts.{text_of as text_of_line, text_of_report};
 ghost use Rattle.trace_outcomes.specs.Texts.{
@@ -28,9 +28,9 @@ ghost use Rattle.trace_outcomes.specs.Texts.{
   with_kind,
 };
 
+use call_table::Reply;
 use race_outcomes::Outcome;
 use std::alloc::{AllocError, Global};
-use step_reply::Reply;
 use trace_lines::Response;
 use trace_race::Asked;
 use trace_text::{Fault, ReportLine};

@@ -4,8 +4,8 @@ use denote.Param.Send.{IsSend, IsSync, sendable}
 use denote.Param.SendFields.{declared_sync}
 use denote.Struct.Field.{u64-field}
 use Rattle.std.proofs.Crossing.{crosses}
-use Rattle.step_reply.specs.contracts.Reply as Reply
-use Rattle.step_reply.specs.contracts.Step as Step
+use Rattle.call_table.specs.contracts.Reply as Reply
+use Rattle.call_table.specs.contracts.Step as Step
 use Rattle.cpu_threads.proofs.Crossing.{pass_send}
 use Rattle.trace_race.specs.contracts.course.Asked as Asked
 use Rattle.trace_race.specs.contracts.workers.Done as Done

@@ -5,15 +5,15 @@ use Rattle.std.proofs.lemmas.List.{append_assoc}
 use Rattle.std.proofs.lemmas.List.Elements.{All-contains, Contains-append_left, Contains-append_right}
 use Rattle.page_state.specs.declared.layout.Layout.{Layout as TheLayout}
 use Rattle.page_state.specs.LayoutView.{layout_of}
-use Rattle.step_reply.specs.declared.reply.Call.{Call}
-use Rattle.step_reply.specs.declared.reply.Reply.{Reply}
-use Rattle.step_reply.specs.declared.step.Step.{Step}
+use Rattle.call_table.specs.declared.reply.Call.{Call}
+use Rattle.call_table.specs.declared.reply.Reply.{Reply}
+use Rattle.call_table.specs.declared.step.Step.{Step}
 use Rattle.reference_model.specs.History.{calls_by, calls_on}
 use Rattle.reference_model.specs.Rules.{guest_slot, names}
-use Rattle.guest_steps.specs.declared.parts.CpuState.{CpuState}
-use Rattle.guest_steps.specs.Logs.{IsOfSize, StoredCalls}
-use Rattle.guest_steps.specs.Lent.{with_call}
-use Rattle.guest_steps.specs.View.{cpu_of}
+use Rattle.part_types.specs.declared.parts.CpuState.{CpuState}
+use Rattle.part_types.specs.Logs.{IsOfSize, StoredCalls}
+use Rattle.part_types.specs.Lent.{with_call}
+use Rattle.part_types.specs.View.{cpu_of}
 use Rattle.hypercalls.specs.Uses.{parts_of}
 use Rattle.part_table.specs.declared.slot.Slot.{Slot}
 use Rattle.part_table.specs.Answered.{used_by}

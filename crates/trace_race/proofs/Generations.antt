@@ -2,13 +2,13 @@
 use Rattle.std.proofs.Common.{◌≡◌, ℕ, ◌+◌, ◌≤◌, ◌<◌, ◌^◌, refl, sym, subst, arith, inl, inr}
 use Rattle.std.specs.Prelude.{Bool, true, false, not, ◌==◌, IfSome, Option, Some, None, if◌then◌else◌}
 use Rattle.std.proofs.lemmas.Bool.Decides.{nat_tests}
-use Rattle.step_reply.specs.declared.reply.Refusal.TheVariants.{LogFull}
-use Rattle.step_reply.specs.declared.reply.Refusal.{Refusal}
-use Rattle.step_reply.specs.declared.reply.Reply.{Reply}
-use Rattle.step_reply.specs.declared.reply.Reply.TheVariants.{Done, Refused}
-use Rattle.step_reply.specs.declared.step.Step.{Step}
-use Rattle.step_reply.specs.declared.step.Step.TheVariants.{Install, FinishGuest, MarkDying, VmReserve, VmOpen, Teardown, VmRelease}
-use Rattle.step_reply.specs.declared.step.VmId.{VmId}
+use Rattle.call_table.specs.declared.reply.Refusal.TheVariants.{LogFull}
+use Rattle.call_table.specs.declared.reply.Refusal.{Refusal}
+use Rattle.call_table.specs.declared.reply.Reply.{Reply}
+use Rattle.call_table.specs.declared.reply.Reply.TheVariants.{Done, Refused}
+use Rattle.call_table.specs.declared.step.Step.{Step}
+use Rattle.call_table.specs.declared.step.Step.TheVariants.{Install, FinishGuest, MarkDying, VmReserve, VmOpen, Teardown, VmRelease}
+use Rattle.call_table.specs.declared.step.VmId.{VmId}
 use Rattle.page_state.specs.Layouts.{Layout}
 use Rattle.page_state.proofs.Common.{and-both, not-false}
 use Rattle.reference_model.specs.declared.changes.Changes.{Changes}

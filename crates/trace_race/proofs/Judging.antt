@@ -7,11 +7,11 @@ use Rattle.std.proofs.Props.{props}
 use Rattle.std.proofs.lemmas.Bool.{cases_lt}
 use Rattle.std.specs.Prelude.{Vec, Bool, true, false, ◌&&◌, ◌||◌, ◌==◌, ◌⊎◌, is_some, Option, Some, None, if◌then◌else◌}
 use Rattle.page_state.specs.Layouts.{Layout}
-use Rattle.step_reply.specs.declared.reply.Call.{Call}
-use Rattle.step_reply.specs.declared.reply.Refusal.TheVariants.{LogFull, NoMemory}
-use Rattle.step_reply.specs.declared.reply.Reply.{Reply}
-use Rattle.step_reply.specs.declared.reply.Reply.TheVariants.{Done, Refused}
-use Rattle.step_reply.specs.declared.step.Step.{Step}
+use Rattle.call_table.specs.declared.reply.Call.{Call}
+use Rattle.call_table.specs.declared.reply.Refusal.TheVariants.{LogFull, NoMemory}
+use Rattle.call_table.specs.declared.reply.Reply.{Reply}
+use Rattle.call_table.specs.declared.reply.Reply.TheVariants.{Done, Refused}
+use Rattle.call_table.specs.declared.step.Step.{Step}
 use Rattle.reference_model.specs.History.{IsStored}
 use Rattle.reference_model.specs.Boot.{boot}
 use Rattle.reference_model.specs.Run.{Runs}
@@ -22,7 +22,7 @@ use Rattle.reference_model.specs.Step.{Steps, answer, foretell, is_full, predict
 use Rattle.reference_model.proofs.Steps.{refusal_keeps}
 use Rattle.ghost_judge.specs.Judgements.{JudgeAgrees, is_done}
 use Rattle.reference_model.specs.Rules.{may_grow, names, guest_slot}
-use Rattle.step_reply.specs.declared.reply.Refusal.TheVariants as refusals
+use Rattle.call_table.specs.declared.reply.Refusal.TheVariants as refusals
 use Rattle.ghost_judge.proofs.JudgedSteps.{step_agrees}
 use Rattle.ghost_judge.specs.declared.disagreement.Disagreement.{Disagreement}
 use Rattle.page_state.proofs.Common.{eq-same}

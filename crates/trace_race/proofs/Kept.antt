@@ -1,8 +1,8 @@
 -- Which replies are stored.
 use Rattle.std.proofs.Common.{◌≡◌, ◌≢◌, refl, inl, inr, ◌⊎◌, true, false}
-use Rattle.step_reply.specs.declared.reply.Refusal.TheVariants as refusals
-use Rattle.step_reply.specs.declared.reply.Reply.{Reply}
-use Rattle.step_reply.specs.declared.reply.Reply.TheVariants.{Done, Refused}
+use Rattle.call_table.specs.declared.reply.Refusal.TheVariants as refusals
+use Rattle.call_table.specs.declared.reply.Reply.{Reply}
+use Rattle.call_table.specs.declared.reply.Reply.TheVariants.{Done, Refused}
 use Rattle.reference_model.specs.History.{IsStored}
 use Rattle.trace_race.specs.Made.{is_stored}
 

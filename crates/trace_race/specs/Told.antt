@@ -3,7 +3,7 @@ use Rattle.std.specs.Prelude.{◌≡◌, ◌⊎◌, ℕ, List, [], ◌∷◌, le
 use Rattle.std.specs.Io.KnownBytes.{Appends}
 use Rattle.page_state.specs.Layouts.{Layout}
 use Rattle.page_state.specs.Regions.{Memory}
-use Rattle.step_reply.specs.declared.reply.Reply.{Reply}
+use Rattle.call_table.specs.declared.reply.Reply.{Reply}
 use Rattle.trace_lines.specs.Settings.{config_of}
 use Rattle.trace_reader.specs.declared.outcome.Outcome.{Outcome}
 use Rattle.trace_reader.specs.declared.outcome.Outcome.TheVariants as outcomes

@@ -3,8 +3,8 @@ ghost use Rattle.std.specs.Prelude.{◌≡◌, IsSome, OnOk};
 ghost use Rattle.trace_lines.specs.Places.{IsAllowed};
 ghost use Rattle.trace_race.specs.Courses.{Comes, IsSound, Takes, allowed, course_in, in_order_of, nothing_asked, said_of, step_of};
 
+use call_table::Step;
 use std::alloc::Global;
-use step_reply::Step;
 use trace_lines::{Allows, Line, LineFault, Settings, said};
 use trace_text::{Fault, Stop};
 

@@ -13,11 +13,11 @@ ghost use Rattle.trace_race.specs.Made.{AreDone, OneHistory};
 
 use crate::course::Asked;
 use crate::judged::judge_all;
+use call_table::Reply;
 use cpu_threads::{CpuPass, Machine};
 use ghost_judge::disagreement::Disagreement;
 use ghost_spec::state::Ghost;
 use std::alloc::{AllocError, Global};
-use step_reply::Reply;
 use table_tree::Reads;
 use world::{Histories, World};
 

@@ -1,17 +1,17 @@
 //! Each reply of the merged list, compared with the model's.
 ghost use Rattle.std.specs.Prelude.{◌≡◌, ◌↔◌, ◌^◌, ◌<◌, All, IfOk, IsTrue, length};
-ghost use Rattle.step_reply.specs.declared.reply.Refusal.TheVariants.{NoMemory};
-ghost use Rattle.step_reply.specs.declared.reply.Reply.TheVariants.{Refused};
+ghost use Rattle.call_table.specs.declared.reply.Refusal.TheVariants.{NoMemory};
+ghost use Rattle.call_table.specs.declared.reply.Reply.TheVariants.{Refused};
 ghost use Rattle.page_state.specs.LayoutView.{layout_of};
 ghost use Rattle.ghost_spec.specs.Kept.{HasNextGeneration};
 ghost use Rattle.ghost_spec.specs.States.{contents_in, ghost_state};
 ghost use Rattle.trace_race.specs.Judged.{HasGenerationsTo, IsApart, Judges, JudgesAll};
 
+use call_table::{Refusal, Reply, Step};
 use ghost_judge::disagreement::Disagreement;
 use ghost_judge::judge::judge;
 use ghost_spec::state::{Ghost, predict_last};
 use std::alloc::{AllocError, Global};
-use step_reply::{Refusal, Reply, Step};
 
 /// Where a reply isn't the model's.
 fn differs(said: Reply, spec: Reply) -> Option<Disagreement>

@@ -7,11 +7,11 @@ ghost use Rattle.trace_race.specs.declared.workers.Done.{Done};
 
 use crate::course::Asked;
 use crate::workers::{Done, Worker, call, work_at_once};
+use call_table::{Reply, Step};
 use cpu_threads::{CpuPass, Gate, Machine, Open};
 use std::alloc::{AllocError, Global};
 use std::sync::Wait;
 use std::thread::Threads;
-use step_reply::{Reply, Step};
 
 /// A machine whose CPUs have made all steps: their passes, and the replies in the trace's order.
 #[derive(Drop)]

@@ -8,9 +8,9 @@ ghost use Rattle.trace_text.specs.Played.{WritesFront};
 ghost use Rattle.trace_text.specs.Texts.{text_of_report};
 
 use crate::course::Asked;
+use call_table::Reply;
 use ghost_judge::disagreement::Disagreement;
 use std::alloc::{AllocError, Global};
-use step_reply::Reply;
 use trace_lines::Response;
 use trace_reader::{EngineFault, Outcome};
 use trace_text::{ReportLine, Sink, tell, tell_audited, tell_end};

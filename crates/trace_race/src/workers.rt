@@ -7,13 +7,13 @@ ghost use Rattle.trace_race.specs.Made.{Calls, IsDoneOf, Makes, paired, steps_of
 ghost use Rattle.trace_race.specs.Workers.{AllFinish, HearsEach, IsReady};
 
 use crate::course::Asked;
+use call_table::{Reply, Step};
 use cpu_threads::{CpuPass, Gate, Machine};
 use std::alloc::{AllocError, Global};
 use std::snapshot::Snapshot;
 use std::sync::Wait;
 use std::thread;
 use std::thread::{Promise, Threads};
-use step_reply::{Reply, Step};
 
 /// A CPU's pass, and room for the replies of its steps.
 #[derive(Drop)]

@@ -1,7 +1,7 @@
 -- What a line says before and after the boot, and the step that its bytes ask for.
 use Rattle.std.proofs.Common.{◌≡◌, ℕ, refl, Bool, true, false, not, ◌==◌, List, length, Option, Some, None, Result, Ok, Err, IfSome, option_map}
 use Rattle.std.specs.Prelude.{ok_or, if◌then◌else◌, is_some, nat_lt}
-use Rattle.step_reply.specs.declared.step.Step.{Step}
+use Rattle.call_table.specs.declared.step.Step.{Step}
 use Rattle.trace_lines.specs.declared.asked.Asked.{Asked}
 use Rattle.trace_lines.specs.declared.fault.LineFault.{LineFault}
 use Rattle.trace_lines.specs.declared.fault.LineFault.TheVariants.{Long, Byte, Space, Place, Count, Form}

@@ -16,9 +16,9 @@ use Rattle.page_state.proofs.Geometries.{levels_most}
 use Rattle.guest_component.specs.declared.body.Body.{Body}
 use Rattle.guest_component.specs.Bodies.{IsOfGeometry}
 use Rattle.guest_component.specs.View.{guest_in, runs_of}
-use Rattle.guest_steps.specs.declared.parts.GuestPart.{GuestPart}
-use Rattle.guest_steps.specs.declared.parts.SharedPart.{SharedPart}
-use Rattle.guest_steps.specs.View.{guest_held}
+use Rattle.part_types.specs.declared.parts.GuestPart.{GuestPart}
+use Rattle.part_types.specs.declared.parts.SharedPart.{SharedPart}
+use Rattle.part_types.specs.View.{guest_held}
 use Rattle.hypercalls.specs.Stands.{at_place}
 use Rattle.table_tree.specs.AllBlocks.{blocks_in, table_count}
 use Rattle.table_tree.specs.declared.tree.Tree.{Tree}

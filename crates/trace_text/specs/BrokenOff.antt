@@ -1,7 +1,7 @@
 -- Laws of reports: what a report that broke off says of its trace, and which step lines are answered.
 use Rattle.std.specs.Prelude.{◌≡◌, ◌≤◌, ℕ, List, ◌++◌, length, map, take, Some}
-use Rattle.step_reply.specs.declared.reply.Reply.{Reply}
-use Rattle.step_reply.specs.declared.step.Step.{Step}
+use Rattle.call_table.specs.declared.reply.Reply.{Reply}
+use Rattle.call_table.specs.declared.step.Step.{Step}
 use Rattle.trace_reader.specs.Reading.{lines_of}
 use Rattle.trace_reader.specs.declared.outcome.Outcome.{Outcome}
 use Rattle.trace_reader.specs.declared.outcome.Outcome.TheVariants as outcomes

@@ -5,10 +5,10 @@ use Rattle.page_state.specs.declared.entry.Run.{Run}
 use Rattle.page_state.specs.declared.layout.Config.{Config}
 use Rattle.page_state.specs.declared.layout.LayoutFault.{LayoutFault}
 use Rattle.page_state.specs.declared.layout.LayoutFault.TheVariants as layouts
-use Rattle.step_reply.specs.declared.reply.Call.{Call}
+use Rattle.call_table.specs.declared.reply.Call.{Call}
 use Rattle.page_state.specs.LayoutFaults.{IsAccepted, IsFirstFault}
 use Rattle.page_state.specs.Regions.{Memory, memory_of}
-use Rattle.step_reply.specs.declared.step.Step.{Step}
+use Rattle.call_table.specs.declared.step.Step.{Step}
 use Rattle.hypercalls.specs.Booted.{IsBooted}
 use Rattle.world.specs.declared.World.{World}
 use Rattle.world.specs.Boots.{IsNoBoot}

@@ -2,7 +2,7 @@
 use Rattle.std.specs.Prelude.{ℕ, List, [], ◌∷◌, map, slice_get, Option, Some, None, Result, Ok, Err, option_and_then, option_map}
 use Rattle.guest_component.specs.declared.body.Body.{Body}
 use Rattle.guest_component.specs.View.{runs_of}
-use Rattle.guest_steps.specs.declared.parts.GuestPart.{GuestPart}
+use Rattle.part_types.specs.declared.parts.GuestPart.{GuestPart}
 use Rattle.hypercalls.specs.Stands.{parts_layout, state_of}
 use Rattle.page_state.specs.declared.entry.Run.{Run}
 use Rattle.trace_lines.specs.declared.line.TreeName.{TreeName}

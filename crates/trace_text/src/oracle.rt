@@ -4,17 +4,17 @@ ghost use Rattle.ghost_judge.specs.Audits.{AuditAgrees, IsFirstDifference};
 ghost use Rattle.ghost_oracle.specs.Compared.{walked_in};
 ghost use Rattle.ghost_spec.specs.Kept.{HasNextGeneration};
 ghost use Rattle.ghost_spec.specs.States.{contents_in};
-ghost use Rattle.step_reply.specs.declared.reply.Call.{Call};
+ghost use Rattle.call_table.specs.declared.reply.Call.{Call};
 ghost use Rattle.reference_model.specs.State.{Reference};
 ghost use Rattle.trace_text.specs.Oracles.{IsAgreed, IsFirstOfStep, StepAgrees, TellsShown, agreed, audited_lines, judged_lines, verdict_lines};
 ghost use Rattle.trace_text.specs.Worlds.{Machine};
 
+use call_table::{Reply, Step};
 use ghost_judge::disagreement::Disagreement;
 use ghost_judge::judge::judge_last;
 use ghost_oracle::compared::Compared;
 use ghost_spec::state::Ghost;
 use std::alloc::{AllocError, Global};
-use step_reply::{Reply, Step};
 
 /// What an oracle finds at a step.
 #[derive(Clone, Copy, PartialEq)]

@@ -15,6 +15,7 @@ ghost use Rattle.trace_text.specs.Worlds.{IsWordOn, free_told, guest_free_told, 
 
 use crate::fault::Fault;
 use crate::oracle::{Oracle, Verdict};
+use call_table::{Reply, Step};
 use ghost_judge::disagreement::Disagreement;
 use ghost_oracle::compared::Compared;
 use ghost_spec::state::Ghost;
@@ -22,7 +23,6 @@ use guest_component::Body;
 use maplets::Maplets;
 use page_state::{MemoryMap, Page, PageRange, Region};
 use std::alloc::{AllocError, Allocator, Global};
-use step_reply::{Reply, Step};
 use table_tree::Reads;
 use trace_lines::{Allows, Line, LineFault, Query, Response, Setting, Settings, TreeName, said};
 use world::World;

@@ -1,6 +1,6 @@
 -- What contracts see of the table, in the words of the reference state.
 use Rattle.std.specs.Prelude.{List, [], None, get_or}
-use Rattle.step_reply.specs.declared.step.VmKind.TheVariants.{Plain}
+use Rattle.call_table.specs.declared.step.VmKind.TheVariants.{Plain}
 use Rattle.reference_model.specs.State.{Stand, vacant, reserved, opened, closing, Slot, Vms}
 use Rattle.vm_table.specs.declared.Slot.{Slot as TableSlot}
 use Rattle.vm_table.specs.declared.SlotState.{SlotState}

@@ -9,10 +9,10 @@ ghost use Rattle.reference_model.specs.State.{no_slot, no_vms, put_at, vacant};
 ghost use Rattle.reference_model.specs.VmRules.{is_any_loaded as is_any_loaded_of, is_open as is_open_of, stand_eq, vacant_slot};
 ghost use Rattle.vm_table.specs.View.{slot_of, vms_of};
 
+use call_table::{VmId, VmKind};
 use reference_model::SlotChange;
 use std::alloc::{AllocError, Global};
 use std::marker::Model;
-use step_reply::{VmId, VmKind};
 
 /// The state of a slot.
 #[derive(Clone, Copy, PartialEq)]

@@ -4,9 +4,9 @@ use Rattle.std.specs.Option.{option_map}
 use Rattle.std.proofs.lemmas.List.{append-nil}
 use Rattle.std.proofs.lemmas.List.Elements.{All-head, All-tail}
 use Rattle.page_state.specs.Geometries.{levels_below}
-use Rattle.plain_tables.specs.declared.follow.PlainPage.{PlainPage}
-use Rattle.plain_tables.specs.declared.reached.Reached.{Reached as PlainReached}
-use Rattle.plain_tables.specs.ByFrames as plain
+use Rattle.c_tables.specs.declared.follow.PlainPage.{PlainPage}
+use Rattle.c_tables.specs.declared.reached.Reached.{Reached as PlainReached}
+use Rattle.c_tables.specs.ByFrames as plain
 use Rattle.table_words.specs.Profiles.{model_profile}
 use Rattle.walked_tables.specs.declared.follow.TablePage.{TablePage}
 use Rattle.walked_tables.specs.declared.reached.Reached.{Reached}

@@ -18,8 +18,8 @@ use Rattle.page_state.proofs.Cases.{by_lt}
 use Rattle.page_state.proofs.Common.{if-true, if-false}
 use Rattle.page_state.proofs.Sizes.{size_some}
 use Rattle.run_list.specs.Runs.{option_advance}
-use Rattle.plain_tables.specs.declared.follow.PlainPage.{PlainPage}
-use Rattle.plain_tables.specs.ByFrames as plain
+use Rattle.c_tables.specs.declared.follow.PlainPage.{PlainPage}
+use Rattle.c_tables.specs.ByFrames as plain
 use Rattle.table_words.specs.Decoding.{decoded_of}
 use Rattle.table_words.specs.Entries.{entry_of, kind_of, leaf_entry, prot_of}
 use Rattle.table_words.specs.Profiles.{model_profile}

@@ -1,4 +1,4 @@
--- The walk by the model's profile, and plain_tables' walk.
+-- The walk by the model's profile, and c_tables' walk.
 use Rattle.std.specs.Prelude.{◌≡◌, ℕ, ◌+◌, ◌^◌, ◌<◌, List, [], ◌∷◌, map, All, Option, Some, None}
 use Rattle.descriptor.specs.declared.Desc.{Desc}
 use Rattle.descriptor.specs.declared.State.TheVariants.{Owned}
@@ -7,9 +7,9 @@ use Rattle.page_state.specs.declared.entry.Entry.TheVariants.{Unmapped, Malforme
 use Rattle.page_state.specs.declared.layout.Geometry.{Geometry}
 use Rattle.page_state.specs.Entries.{entry_of_word}
 use Rattle.page_state.specs.Geometries.{levels_below}
-use Rattle.plain_tables.specs.declared.follow.PlainPage.{PlainPage}
-use Rattle.plain_tables.specs.ByFrames.{map_by_frames as plain_map, tables_by_frames as plain_tables}
-use Rattle.plain_tables.specs.declared.reached.Reached.{Reached as PlainReached}
+use Rattle.c_tables.specs.declared.follow.PlainPage.{PlainPage}
+use Rattle.c_tables.specs.ByFrames.{map_by_frames as plain_map, tables_by_frames as c_tables}
+use Rattle.c_tables.specs.declared.reached.Reached.{Reached as PlainReached}
 use Rattle.table_words.specs.Entries.{entry_of}
 use Rattle.table_words.specs.Profiles.{model_profile}
 use Rattle.walked_tables.specs.declared.follow.TablePage.{TablePage}
@@ -35,7 +35,7 @@ abbrev pub entry_said : Option Said → Entry
 entry_said (Some said) = desc_entry (entry_of said.0 Owned)
 entry_said None = Unmapped
 
--- each page has, by the model's profile and a root of one page, what plain_tables gives it
+-- each page has, by the model's profile and a root of one page, what c_tables gives it
 abbrev pub IsPlainWalk : Type 0
 IsPlainWalk = (geometry : Geometry) (pages : List TablePage) (root : TablePage) (page : ℕ) → All HasWords pages → HasWords root → entry_said (map_by_frames model_profile pages (levels_below geometry) (root ∷ []) page) ≡ plain_map geometry (map as_plain pages) (as_plain root) page
 
@@ -45,4 +45,4 @@ as_reached r = record { tree = r.tree; table = record { block = (r.depth + 1, r.
 
 -- both walks reach the same tables in the same order
 abbrev pub IsPlainOrder : Type 0
-IsPlainOrder = (geometry : Geometry) (pages : List TablePage) (tree : ℕ) (root : TablePage) → All HasWords pages → HasWords root → map as_reached (tables_by_frames model_profile pages tree (levels_below geometry) (root ∷ [])) ≡ plain_tables geometry (map as_plain pages) tree (as_plain root)
+IsPlainOrder = (geometry : Geometry) (pages : List TablePage) (tree : ℕ) (root : TablePage) → All HasWords pages → HasWords root → map as_reached (tables_by_frames model_profile pages tree (levels_below geometry) (root ∷ [])) ≡ c_tables geometry (map as_plain pages) tree (as_plain root)

@@ -22,8 +22,8 @@ use Rattle.reference_model.specs.Step.{shared_need, shared_after}
 use Rattle.page_state.specs.declared.layout.Config.{Config}
 use Rattle.page_state.specs.declared.layout.Geometry.{Geometry}
 use Rattle.page_state.specs.Regions.{Memory, end_of}
-use Rattle.guest_steps.specs.MemoryRows.{HasMemoryRows}
-use Rattle.guest_steps.specs.View.{rows_given}
+use Rattle.part_types.specs.MemoryRows.{HasMemoryRows}
+use Rattle.part_types.specs.View.{rows_given}
 use Rattle.owner_table.specs.Rows.{row_at}
 use Rattle.page_state.specs.declared.entry.PageRange.{PageRange}
 use Rattle.reference_model.specs.declared.changes.MapChange.{MapChange}

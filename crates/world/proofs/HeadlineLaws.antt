@@ -7,10 +7,10 @@ use Rattle.page_state.specs.declared.layout.Config.{Config}
 use Rattle.page_state.specs.declared.layout.Geometry.{Geometry}
 use Rattle.page_state.specs.Layouts.{Layout}
 use Rattle.page_state.specs.Regions.{Memory}
-use Rattle.step_reply.specs.declared.reply.Call.{Call}
-use Rattle.step_reply.specs.declared.reply.Reply.{Reply}
-use Rattle.step_reply.specs.declared.step.Step.{Step}
-use Rattle.step_reply.specs.declared.step.Step.TheVariants.{GuestShareHost, GuestUnshareHost}
+use Rattle.call_table.specs.declared.reply.Call.{Call}
+use Rattle.call_table.specs.declared.reply.Reply.{Reply}
+use Rattle.call_table.specs.declared.step.Step.{Step}
+use Rattle.call_table.specs.declared.step.Step.TheVariants.{GuestShareHost, GuestUnshareHost}
 use Rattle.reference_model.specs.Boot.{IsCarveEnough, boot}
 use Rattle.reference_model.specs.HeldFrames.{GivesHandOn, IsHeldFor}
 use Rattle.reference_model.specs.Isolation.{PageStays, guest_entry_at}

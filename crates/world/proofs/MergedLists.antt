@@ -4,7 +4,7 @@ use Rattle.std.specs.Prelude.{IfErr, Result, Ok, Err, Option, Some, None, â—Œ==â
 use Rattle.std.proofs.lemmas.List.Elements.{All-append, All-cons, All-nil}
 use Rattle.page_state.proofs.Cases.{by_lt}
 use Rattle.page_state.proofs.Common.{eq-other}
-use Rattle.step_reply.specs.declared.reply.Call.{Call}
+use Rattle.call_table.specs.declared.reply.Call.{Call}
 use Rattle.page_state.specs.Layouts.{Layout}
 use Rattle.reference_model.proofs.Ends.{filter-false, parts_history, parts_run}
 use Rattle.reference_model.proofs.Rely.{reached_relies}

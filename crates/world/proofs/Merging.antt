@@ -6,9 +6,9 @@ use Rattle.std.proofs.lemmas.List.Elements.{filter-append}
 use Rattle.std.specs.Global.{Global}
 use Rattle.std.proofs.lemmas.Option.{slice_get_past}
 use Rattle.page_state.proofs.Cases.{by_lt}
-use Rattle.step_reply.specs.declared.reply.Call.{Call}
-use Rattle.step_reply.specs.declared.reply.Reply.{Reply}
-use Rattle.step_reply.specs.declared.step.Step.{Step}
+use Rattle.call_table.specs.declared.reply.Call.{Call}
+use Rattle.call_table.specs.declared.reply.Reply.{Reply}
+use Rattle.call_table.specs.declared.step.Step.{Step}
 use Rattle.page_state.proofs.Common.{both, eq-self, eq-same, eq-other, if-true, if-false}
 use Rattle.reference_model.proofs.Ends.{filter-true, filter-false}
 use Rattle.reference_model.specs.Parts.{Part, vm_part, shared_part, guest_part, is_slot}
@@ -18,8 +18,8 @@ use Rattle.world.specs.declared.merge.Histories.{Histories}
 use Rattle.world.specs.declared.merge.Places.{Places}
 use Rattle.world.specs.Merges.{IsMerged, TellsMerged, log_at}
 use Rattle.world.specs.inner.Merging.{LogName, on, by, has, whole, left, first_of, rest_of, IsNext, after_call, left_by}
-use Rattle.step_reply.specs.contracts.reply.CallPartialEq.TheImpl as calls
-use Rattle.step_reply.proofs.Equality.{calls_tell}
+use Rattle.call_table.specs.contracts.reply.CallPartialEq.TheImpl as calls
+use Rattle.call_table.proofs.Equality.{calls_tell}
 
 -- two calls are the same, or not
 same_call : (x y : Call) → (x ≡ y) ⊎ (x ≢ y)

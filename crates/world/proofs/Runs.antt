@@ -1,6 +1,6 @@
 -- Any list of steps is a run of the reference step.
 use Rattle.std.proofs.Common.{◌≡◌, ◌∙◌, ◌<◌, zero, suc, List, [], ◌∷◌, Option, Some, None, All, slice_index_or, ap, sym, subst, arith}
-use Rattle.step_reply.specs.declared.reply.Call.{Call}
+use Rattle.call_table.specs.declared.reply.Call.{Call}
 use Rattle.page_state.specs.Layouts.{Layout}
 use Rattle.reference_model.specs.Run.{Runs}
 use Rattle.reference_model.specs.Sound.{Sound}

@@ -11,9 +11,9 @@ use Rattle.reference_model.specs.Owner.{row_of}
 use Rattle.reference_model.specs.State.{plain_row}
 use Rattle.reference_model.proofs.conditions.RunsLegal.{run_rows}
 use Rattle.owner_table.specs.Rows.{row_at}
-use Rattle.guest_steps.specs.declared.parts.SharedPart.{SharedPart}
-use Rattle.guest_steps.specs.MemoryRows.{HasMemoryRows}
-use Rattle.guest_steps.specs.View.{shared_of}
+use Rattle.part_types.specs.declared.parts.SharedPart.{SharedPart}
+use Rattle.part_types.specs.MemoryRows.{HasMemoryRows}
+use Rattle.part_types.specs.View.{shared_of}
 use Rattle.hypercalls.specs.declared.parts.Parts.{Parts}
 use Rattle.hypercalls.specs.Stands.{parts_layout, state_of, HasHistory}
 use Rattle.ghost_oracle.specs.Found.{found_state, scratch_rows, walked_state}

@@ -19,10 +19,10 @@ use Rattle.world.specs.declared.boot.BootFault.TheVariants.{Config as config_fau
 use Rattle.reference_model.specs.declared.changes.MapChange.{MapChange}
 use Rattle.reference_model.specs.State.{Shared, no_cpu, no_guest, plain_row}
 use Rattle.guest_component.specs.View.{guest_depth}
-use Rattle.guest_steps.specs.declared.parts.CpuState.{CpuState}
-use Rattle.guest_steps.specs.declared.parts.GuestPart.{GuestPart}
-use Rattle.guest_steps.specs.Logs.{IsNewLog}
-use Rattle.guest_steps.specs.View.{cpu_of, guest_held}
+use Rattle.part_types.specs.declared.parts.CpuState.{CpuState}
+use Rattle.part_types.specs.declared.parts.GuestPart.{GuestPart}
+use Rattle.part_types.specs.Logs.{IsNewLog}
+use Rattle.part_types.specs.View.{cpu_of, guest_held}
 use Rattle.hypercalls.specs.Booted.{IsConfig, layout_for}
 
 -- the number of a fault in a report (profile)

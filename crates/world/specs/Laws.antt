@@ -1,7 +1,7 @@
 -- Laws over lists of steps, each proved on the contract of the function of its name.
 use Rattle.std.specs.Prelude.{◌≡◌, ℕ, ◌+◌, ◌<◌, List, Option, Some, None, All}
 use Rattle.page_state.specs.declared.layout.Config.{Config}
-use Rattle.step_reply.specs.declared.reply.Call.{Call}
+use Rattle.call_table.specs.declared.reply.Call.{Call}
 use Rattle.page_state.specs.Layouts.{Layout}
 use Rattle.page_state.specs.Regions.{Memory}
 use Rattle.page_state.specs.Runs.{map_of, IsCoarsest}

@@ -6,11 +6,11 @@ ghost use Rattle.reference_model.specs.Boot.{IsCarveEnough, booted as booted_of,
 ghost use Rattle.reference_model.specs.ChangeLaws.{Fits};
 ghost use Rattle.reference_model.specs.Conditions.{IsUsable};
 ghost use Rattle.reference_model.specs.State.{no_vms};
-ghost use Rattle.guest_steps.specs.Apart.{IsApart};
-ghost use Rattle.guest_steps.specs.Logs.{IsNewLog};
-ghost use Rattle.guest_steps.specs.MemoryRows.{HasMemoryRows};
-ghost use Rattle.guest_steps.specs.Numbers.{AreNumbered};
-ghost use Rattle.guest_steps.specs.View.{depth_of, shared_of, vm_slots};
+ghost use Rattle.part_types.specs.Apart.{IsApart};
+ghost use Rattle.part_types.specs.Logs.{IsNewLog};
+ghost use Rattle.part_types.specs.MemoryRows.{HasMemoryRows};
+ghost use Rattle.part_types.specs.Numbers.{AreNumbered};
+ghost use Rattle.part_types.specs.View.{depth_of, shared_of, vm_slots};
 ghost use Rattle.page_state.specs.Accepted.{IsAcceptedConfig};
 ghost use Rattle.page_state.specs.EntryTests.{annotation};
 ghost use Rattle.page_state.specs.Regions.{end_of};
@@ -22,7 +22,6 @@ ghost use Rattle.table_tree.specs.View.{tree_of};
 use component::Component;
 use decisions::{hyp_page, leaf};
 use guest_component::Guest;
-use guest_steps::{CpuState, GuestPart, Log, SharedPart, VmPart};
 use hyp_pool::{Pool, PoolFault, laws};
 use hypercalls::Parts;
 use owner_table::OwnerTable;
@@ -30,6 +29,7 @@ use page_state::laws::blocks_on_range;
 use page_state::{
     Config, Entry, Frame, Geometry, Layout, MemoryMap, Owner, PageRange, Prot, Row, State, Usage,
 };
+use part_types::{CpuState, GuestPart, Log, SharedPart, VmPart};
 use reference_model::laws::accepted_usable;
 use reference_model::{Changes, MapChange};
 use std::alloc::{AllocError, Allocator, Global};

@@ -4,10 +4,10 @@ ghost use Rattle.hypercalls.specs.Stands.{kept_of, parts_layout};
 ghost use Rattle.world.specs.Merges.{AreLogsOf};
 
 use crate::merge::Histories;
-use guest_steps::{CpuState, GuestPart};
+use call_table::Call;
 use hypercalls::Parts;
+use part_types::{CpuState, GuestPart};
 use std::alloc::{AllocError, Allocator, Global};
-use step_reply::Call;
 
 /// The logs of guests, by slot.
 fn guest_logs<A: Allocator>(

@@ -1,17 +1,17 @@
 //! A step on parts that are lent.
 ghost use Rattle.std.specs.Prelude.{◌≡◌, ◌<◌};
-ghost use Rattle.guest_steps.specs.Lent.{Suits};
+ghost use Rattle.part_types.specs.Lent.{Suits};
 ghost use Rattle.hypercalls.specs.Steps.{reply_in};
 ghost use Rattle.page_state.specs.LayoutView.{layout_of};
 ghost use Rattle.world.specs.LentParts.{AreLent, IsLentReached, StepsLent, call_stored, left_of, lent_of};
 
-use guest_steps::{CpuState, GuestPart, SharedPart, VmPart};
+use call_table::{Reply, Step};
 use hypercalls::{
     UsedParts, reply_of, step_alone, step_on_both, step_on_guest, step_on_shared, step_on_vms, uses,
 };
 use page_state::Layout;
+use part_types::{CpuState, GuestPart, SharedPart, VmPart};
 use std::alloc::Allocator;
-use step_reply::{Reply, Step};
 
 /// Makes a step of a CPU on the parts that it uses, and stores the call in their logs and the CPU's. Where one of these is
 /// full, nothing changes. Each part that `uses` names is given, and no other. Requires parts and a CPU's own state that belong

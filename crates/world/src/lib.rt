@@ -16,6 +16,7 @@ mod merge;
 mod raw;
 
 pub use boot::BootFault;
+use call_table::{Reply, Step};
 use ghost_judge::disagreement::Disagreement;
 use ghost_oracle::compared::Compared;
 use ghost_oracle::kept::{kept, kept_and_walked, recompute};
@@ -30,7 +31,6 @@ pub use merge::{Histories, MergeFault};
 use page_state::{Config, Geometry, MemoryMap};
 pub use raw::RawWorld;
 use std::alloc::{AllocError, Allocator, Global};
-use step_reply::{Reply, Step};
 use table_tree::{PathFault, Reads};
 
 /// A booted world, at the end of one legal history. `A` is where the tables of all trees lie.
@@ -103,7 +103,7 @@ impl<A: Allocator> World<A> {
     ghost use Rattle.ghost_spec.specs.States.{ghost_state};
     ghost use Rattle.ghost_oracle.specs.Found.{walked_state, HasRowsOf, SaysMaplets, SaysRows};
     ghost use Rattle.hypercalls.specs.Stands.{kept_of, parts_layout, state_of};
-    ghost use Rattle.step_reply.specs.declared.reply.Call.{Call};
+    ghost use Rattle.call_table.specs.declared.reply.Call.{Call};
     ghost use Rattle.world.specs.Merges.{AreLogsOf, IsMerged, IsOfHistory, TellsMerged};
     ghost use Rattle.world.specs.declared.merge.MergeFault.TheVariants.{NoOrder};
 

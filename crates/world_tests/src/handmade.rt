@@ -3,6 +3,7 @@ ghost use Rattle.std.specs.Prelude.{◌<◌, ◌^◌};
 
 use crate::expect::expect_told;
 use crate::sample::{config, memory};
+use call_table::{Refusal, Reply, Step, Value, VmId};
 use descriptor::{Frame, Kind, Owner, Prot, State};
 use ghost_judge::disagreement::{Disagreement, TreeOf};
 use ghost_judge::judge::judge;
@@ -18,7 +19,6 @@ use reference_model::Loaded;
 use run_list::RunList;
 use std::alloc::Global;
 use std::process::Abort;
-use step_reply::{Refusal, Reply, Step, Value, VmId};
 
 const CARVE: u64 = 0x40600;
 

@@ -1,12 +1,12 @@
 //! Worlds whose tables lie in a heap of their own, in which there is room for a number of further tables, or in memory of which
 //! one request is refused by its number.
 use crate::sample::{config, memory};
+use call_table::{Refusal, Reply, Step, Value};
 use linked_list_allocator::LocalHeap;
 use page_state::Entry;
 use refusing::Refusing;
 use std::alloc::{Allocator, Global};
 use std::process::Abort;
-use step_reply::{Refusal, Reply, Step, Value};
 use table_tree::Reads;
 use world::World;
 

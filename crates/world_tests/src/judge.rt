@@ -3,6 +3,7 @@ ghost use Rattle.std.specs.Prelude.{◌≡◌, ◌<◌};
 
 use crate::expect::expect_told;
 use crate::sample::{memory, started};
+use call_table::{Refusal, Reply, Step, Value};
 use ghost_judge::disagreement::{Disagreement, TreeOf};
 use ghost_judge::judge::{differs, judge};
 use ghost_spec::lists::GhostLists;
@@ -10,7 +11,6 @@ use ghost_spec::state::{Ghost, has_next_generation};
 use page_state::{Entry, Frame, Kind, Owner, Page, PageRange, Prot, Row, State, Usage};
 use std::alloc::Global;
 use std::process::Abort;
-use step_reply::{Refusal, Reply, Step, Value};
 
 /// The boot state of two CPUs.
 fn booted(rt: &impl Abort, alloc: Global) -> Ghost

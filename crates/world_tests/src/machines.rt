@@ -10,11 +10,11 @@ mod stops;
 mod threads;
 
 use crate::sample::{config, memory};
+use call_table::{Refusal, Reply, Step, Value, VmId, VmKind};
 use cpu_threads::{CpuPass, Gate, InitStage, Machine};
 use std::alloc::Global;
 use std::process::Abort;
 use std::sync::Wait;
-use step_reply::{Refusal, Reply, Step, Value, VmId, VmKind};
 
 /// A machine with a carve-out of 64 frames, `cpus` CPUs and logs of `log` calls. Its tables lie in the same heap as all
 /// else.

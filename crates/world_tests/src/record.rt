@@ -3,8 +3,8 @@ ghost use Rattle.std.specs.Prelude.{◌≡◌, ◌+◌, ◌<◌, ◌≤◌, ◌^
 ghost use Rattle.hyp_pool.specs.Pools.{IsPool};
 ghost use Rattle.page_state.specs.Geometries.{levels_below};
 ghost use Rattle.reference_model.specs.ChangeLaws.{Fits};
-ghost use Rattle.guest_steps.specs.Apart.{IsApart};
-ghost use Rattle.guest_steps.specs.View.{depth_of};
+ghost use Rattle.part_types.specs.Apart.{IsApart};
+ghost use Rattle.part_types.specs.View.{depth_of};
 
 use crate::sample::{config, memory};
 use component::Component;
@@ -15,13 +15,13 @@ use ghost_spec::lists::{GhostLists, GhostRooms};
 use ghost_spec::shared::Shared;
 use ghost_spec::state::Ghost;
 use ghost_trees::tree::Table;
-use guest_steps::{CpuState, Log, SharedPart};
 use hyp_pool::{Pool, laws};
 use owner_table::OwnerTable;
 use page_state::{
     Entry, Frame, Geometry, Kind, Layout, MemoryMap, Owner, Page, PageRange, Prot, Row, Run, State,
     Target, Usage,
 };
+use part_types::{CpuState, Log, SharedPart};
 use reference_model::{Changes, MapChange};
 use run_list::RunList;
 use std::alloc::Global;

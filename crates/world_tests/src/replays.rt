@@ -1,10 +1,10 @@
 //! Replays.
+use call_table::{Reply, Step};
 use ghost_judge::disagreement::Disagreement;
 use ghost_oracle::compared::Compared;
 use ghost_spec::state::Ghost;
 use std::alloc::{AllocError, Global};
 use std::io::{Cursor, Error, ErrorKind, Read, Write};
-use step_reply::{Reply, Step};
 use trace_audit::audit_buffered;
 use trace_text::{
     Counting, EngineFault, Oracle, Outcome, Stopped, Verdict, replay, replay_buffered, replay_with,

@@ -1,22 +1,22 @@
 //! The host touches a page, and gets it mapped where it may.
 ghost use Rattle.std.specs.Prelude.{◌≡◌, ℕ, ◌≤◌, None};
-ghost use Rattle.guest_steps.specs.View.{shared_of};
+ghost use Rattle.part_types.specs.View.{shared_of};
 ghost use Rattle.page_state.specs.LayoutView.{layout_of};
 ghost use Rattle.reference_model.specs.Decides.{decides};
 ghost use Rattle.reference_model.specs.State.{Cpu};
 ghost use Rattle.reference_model.specs.Used.{used_alone};
 ghost use Rattle.page_state.specs.Blocks.{block_at, first_page, span};
-ghost use Rattle.step_reply.specs.declared.step.Step.TheVariants.{HostAbort};
+ghost use Rattle.call_table.specs.declared.step.Step.TheVariants.{HostAbort};
 ghost use Rattle.reference_model.specs.SharedRules.{abort_depth as abort_depth_of, abort_leaf as abort_leaf_of, may_map as may_map_of};
 ghost use Rattle.table_tree.specs.View.{meaning};
 
 use super::change;
 use crate::pages::{device_leaf, leaf};
-use guest_steps::SharedPart;
+use call_table::Refusal;
 use page_state::{Entry, Layout, Page, PageRange, Prot, Region, RegionKind, State, pages_under};
+use part_types::SharedPart;
 use reference_model::Changes;
 use std::alloc::Allocator;
-use step_reply::Refusal;
 
 /// The pages of the block that holds a page and has `depth` levels below it, at most 2.
 fn block(depth: u32, page: u64) -> PageRange

@@ -1,19 +1,19 @@
 //! Calls that answer an entry or an owner row, and change nothing.
 ghost use Rattle.std.specs.Prelude.{◌≡◌, ℕ, None, IfOk};
-ghost use Rattle.guest_steps.specs.Lent.{SharedSuits};
-ghost use Rattle.guest_steps.specs.View.{shared_of};
+ghost use Rattle.part_types.specs.Lent.{SharedSuits};
+ghost use Rattle.part_types.specs.View.{shared_of};
 ghost use Rattle.decisions.specs.Grows.{GrowsOnly};
-ghost use Rattle.step_reply.specs.declared.step.Step.TheVariants.{HostTranslate, HypTranslate, OwnerOf};
+ghost use Rattle.call_table.specs.declared.step.Step.TheVariants.{HostTranslate, HypTranslate, OwnerOf};
 ghost use Rattle.page_state.specs.LayoutView.{layout_of};
 ghost use Rattle.reference_model.specs.Decides.{decides};
 ghost use Rattle.reference_model.specs.State.{Cpu};
 ghost use Rattle.reference_model.specs.Used.{used_alone};
 
-use guest_steps::SharedPart;
+use call_table::{Refusal, Value};
 use page_state::{Frame, Layout, Page};
+use part_types::SharedPart;
 use reference_model::Changes;
 use std::alloc::Allocator;
-use step_reply::{Refusal, Value};
 
 /// The host's entry of an input page.
 #[tactic(auto, unfolding(reference_model::specs::Rules::rule))]

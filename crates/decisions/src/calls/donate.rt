@@ -1,23 +1,23 @@
 //! The host gives a range of frames to the hypervisor.
 ghost use Rattle.std.specs.Prelude.{◌≡◌, ℕ, ◌+◌, ◌<◌, ◌≤◌, ◌^◌, ◌&&◌, None};
-ghost use Rattle.guest_steps.specs.View.{shared_of};
+ghost use Rattle.part_types.specs.View.{shared_of};
 ghost use Rattle.page_state.specs.EntryTests.{is_free_page as is_free_entry, is_unmapped};
 ghost use Rattle.page_state.specs.Layouts.{hyp_page as hyp_page_of};
 ghost use Rattle.page_state.specs.LayoutView.{layout_of};
 ghost use Rattle.reference_model.specs.Decides.{decides};
 ghost use Rattle.reference_model.specs.State.{Cpu};
 ghost use Rattle.reference_model.specs.Used.{used_alone};
-ghost use Rattle.step_reply.specs.declared.step.Step.TheVariants.{DonateHyp};
+ghost use Rattle.call_table.specs.declared.step.Step.TheVariants.{DonateHyp};
 ghost use Rattle.reference_model.specs.SharedRules.{may_donate as may_donate_of};
 ghost use Rattle.table_tree.specs.View.{meaning};
 
 use super::change;
 use crate::pages::{HYPERVISOR, hyp_page, is_free_page, is_mapped, leaf};
-use guest_steps::SharedPart;
+use call_table::Refusal;
 use page_state::{Entry, Layout, Page, Prot, State};
+use part_types::SharedPart;
 use reference_model::Changes;
 use std::alloc::Allocator;
-use step_reply::Refusal;
 
 /// Whether a frame's page is free to give, and the hypervisor's page of the frame unmapped.
 fn may_give<A: Allocator>(shared: &SharedPart<A>, frame: u64) -> bool

@@ -1,23 +1,23 @@
 //! The hypervisor gives a range of frames back to the host.
 ghost use Rattle.std.specs.Prelude.{◌≡◌, ℕ, ◌+◌, ◌<◌, ◌≤◌, ◌^◌, None, IsSome};
-ghost use Rattle.guest_steps.specs.Lent.{SharedSuits};
-ghost use Rattle.guest_steps.specs.View.{shared_of};
+ghost use Rattle.part_types.specs.Lent.{SharedSuits};
+ghost use Rattle.part_types.specs.View.{shared_of};
 ghost use Rattle.page_state.specs.LayoutView.{layout_of};
 ghost use Rattle.reference_model.specs.Decides.{decides};
 ghost use Rattle.reference_model.specs.State.{Cpu};
 ghost use Rattle.reference_model.specs.Used.{used_alone};
 ghost use Rattle.owner_table.specs.Rows.{row_at};
-ghost use Rattle.step_reply.specs.declared.step.Step.TheVariants.{HypDonateHost};
+ghost use Rattle.call_table.specs.declared.step.Step.TheVariants.{HypDonateHost};
 ghost use Rattle.page_state.specs.Search.{all_below};
 ghost use Rattle.reference_model.specs.SharedRules.{is_plain as is_plain_of, may_return as may_return_of};
 
 use super::change;
 use crate::pages::{HYPERVISOR, hyp_page, is_in};
-use guest_steps::SharedPart;
+use call_table::Refusal;
 use page_state::{Entry, Frame, Layout, Page, State, Usage};
+use part_types::SharedPart;
 use reference_model::Changes;
 use std::alloc::Allocator;
-use step_reply::Refusal;
 
 /// Whether a frame is in no other use: in no pool and in no hand, and no table.
 fn is_plain(usage: Usage) -> bool

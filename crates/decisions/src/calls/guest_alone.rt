@@ -1,12 +1,12 @@
 //! Calls on a guest alone.
 ghost use Rattle.std.specs.Prelude.{◌≡◌, ℕ, Some, IfOk};
-ghost use Rattle.guest_steps.specs.View.{cpu_of};
+ghost use Rattle.part_types.specs.View.{cpu_of};
 ghost use Rattle.page_state.specs.LayoutView.{layout_of};
 ghost use Rattle.reference_model.specs.Decides.{decides};
 ghost use Rattle.page_state.specs.Layouts.{Layout as ReferenceLayout};
 ghost use Rattle.reference_model.specs.State.{Guest as ReferenceGuest};
 ghost use Rattle.reference_model.specs.Used.{guest_alone};
-ghost use Rattle.step_reply.specs.declared.step.Step.TheVariants.{GuestRelax, GuestTranslate, MarkDying};
+ghost use Rattle.call_table.specs.declared.step.Step.TheVariants.{GuestRelax, GuestTranslate, MarkDying};
 ghost use Rattle.decisions.specs.Decided.{IsDecidedByGuest};
 ghost use Rattle.decisions.specs.Grows.{GrowsOnly};
 
@@ -14,12 +14,12 @@ use super::change;
 use super::guest_frames::moved_on;
 use super::vms::SLOTS;
 use crate::pages::{is_in, with_rights};
+use call_table::{Refusal, Value, VmId};
 use guest_component::Guest;
-use guest_steps::CpuState;
 use page_state::{Layout, Page, Prot, State};
+use part_types::CpuState;
 use reference_model::{Changes, GuestChange, Stage};
 use std::alloc::Allocator;
-use step_reply::{Refusal, Value, VmId};
 
 /// The guest gets more rights at a page that it borrows.
 #[tactic(auto, unfolding(reference_model::specs::Rules::rule))]

@@ -1,10 +1,10 @@
 //! Calls that give frames to a guest, or take them back.
 ghost use Rattle.std.specs.Prelude.{◌≡◌, ◌<◌, ◌^◌, ◌||◌, Some};
 ghost use Rattle.guest_component.specs.View.{guest_depth, guest_of};
-ghost use Rattle.guest_steps.specs.View.{cpu_of};
+ghost use Rattle.part_types.specs.View.{cpu_of};
 ghost use Rattle.page_state.specs.LayoutView.{layout_of};
 ghost use Rattle.decisions.specs.Decided.{IsDecidedByCpu, IsDecidedByHolder, has_left, used_with};
-ghost use Rattle.step_reply.specs.declared.step.Step.TheVariants.{FinishGuest, Install, ReclaimPool, Topup};
+ghost use Rattle.call_table.specs.declared.step.Step.TheVariants.{FinishGuest, Install, ReclaimPool, Topup};
 ghost use Rattle.reference_model.specs.Decides.{decides};
 ghost use Rattle.reference_model.specs.GuestRules.{is_guest, moved_on as moved_on_of, ticket_kind as ticket_kind_of, ticket_vm as ticket_vm_of};
 ghost use Rattle.reference_model.specs.Rely.{CanRely};
@@ -14,12 +14,12 @@ ghost use Rattle.reference_model.specs.State.{live, dying};
 use super::change;
 use super::vms::{SLOTS, ticket_becomes};
 use crate::pages::hyp_page;
+use call_table::{Refusal, Value, VmId, VmKind};
 use guest_component::Guest;
-use guest_steps::{CpuState, SharedPart};
 use page_state::{Entry, Frame, Layout, Page, PageRange};
+use part_types::{CpuState, SharedPart};
 use reference_model::{Changes, CpuChange, GuestChange, Stage, Ticket, Update};
 use std::alloc::Allocator;
-use step_reply::{Refusal, Value, VmId, VmKind};
 
 /// The most frames that a guest holds (profile).
 const MOST_FRAMES: u64 = 512;

@@ -1,25 +1,25 @@
 //! Calls that change pages of the host and of a guest.
 ghost use Rattle.std.specs.Prelude.{◌≡◌, ◌+◌, ◌<◌, ◌≤◌, ◌^◌, ◌&&◌, ℕ, IsTrue, Some, if◌then◌else◌};
 ghost use Rattle.guest_component.specs.View.{guest_of};
-ghost use Rattle.guest_steps.specs.View.{shared_of};
+ghost use Rattle.part_types.specs.View.{shared_of};
 ghost use Rattle.page_state.specs.EntryTests.{annotation, entry_frame as frame_of_entry, is_free_page as is_free_entry, is_in as is_entry_in, is_unmapped, leaf as leaf_of};
 ghost use Rattle.page_state.specs.LayoutView.{layout_of};
 ghost use Rattle.decisions.specs.Decided.{IsDecidedByParts};
 ghost use Rattle.reference_model.specs.State.{Cpu};
 ghost use Rattle.reference_model.specs.Used.{with_guest};
-ghost use Rattle.step_reply.specs.declared.step.Step.TheVariants.{ShareGuest, UnshareGuest, DonateGuest, GuestShareHost, GuestUnshareHost, ReclaimPage};
+ghost use Rattle.call_table.specs.declared.step.Step.TheVariants.{ShareGuest, UnshareGuest, DonateGuest, GuestShareHost, GuestUnshareHost, ReclaimPage};
 ghost use Rattle.reference_model.specs.GuestRules.{are_good_pages as are_good_pages_of, guest_owner, may_give as may_give_of, two_pages as two_pages_of, two_ranges as two_ranges_of};
 ghost use Rattle.table_tree.specs.View.{meaning};
 
 use super::change;
 use super::vms::SLOTS;
 use crate::pages::{entry_frame, is_free_page, is_in, is_mapped, leaf, with_state};
+use call_table::{Refusal, VmId};
 use guest_component::Guest;
-use guest_steps::SharedPart;
 use page_state::{Entry, Layout, Owner, Page, Prot, State};
+use part_types::SharedPart;
 use reference_model::Changes;
 use std::alloc::Allocator;
-use step_reply::{Refusal, VmId};
 
 /// A range of the host and one of the guest change.
 fn two_ranges(pfn: u64, host: Entry, gfn: u64, guest: Entry, n: u64) -> Changes

@@ -1,20 +1,20 @@
 //! The host funds a CPU: a range of its frames goes into the CPU's hand, and out of it again.
 ghost use Rattle.std.specs.Prelude.{◌≡◌, ℕ, None};
-ghost use Rattle.guest_steps.specs.View.{cpu_of, shared_of};
+ghost use Rattle.part_types.specs.View.{cpu_of, shared_of};
 ghost use Rattle.page_state.specs.LayoutView.{layout_of};
 ghost use Rattle.reference_model.specs.Decides.{decides};
 ghost use Rattle.reference_model.specs.Rely.{CanRely};
 ghost use Rattle.reference_model.specs.Used.{used_alone};
-ghost use Rattle.step_reply.specs.declared.step.Step.TheVariants.{Fund, Unfund};
+ghost use Rattle.call_table.specs.declared.step.Step.TheVariants.{Fund, Unfund};
 
 use super::change;
 use super::donate::may_donate;
 use crate::pages::{HYPERVISOR, hyp_page, leaf};
-use guest_steps::{CpuState, SharedPart};
+use call_table::Refusal;
 use page_state::{Entry, Layout, Page, PageRange, Prot, State};
+use part_types::{CpuState, SharedPart};
 use reference_model::{Changes, CpuChange, Update};
 use std::alloc::Allocator;
-use step_reply::Refusal;
 
 /// The host gives 1 to 512 memory frames into the CPU's hand, which must be empty. The frames go to the hypervisor, as those
 /// of a donation do.

@@ -1,19 +1,19 @@
 //! The host takes back what it shares with the hypervisor.
 ghost use Rattle.std.specs.Prelude.{◌≡◌, ℕ, None};
-ghost use Rattle.guest_steps.specs.View.{shared_of};
+ghost use Rattle.part_types.specs.View.{shared_of};
 ghost use Rattle.page_state.specs.LayoutView.{layout_of};
 ghost use Rattle.reference_model.specs.Decides.{decides};
 ghost use Rattle.reference_model.specs.State.{Cpu};
 ghost use Rattle.reference_model.specs.Used.{used_alone};
-ghost use Rattle.step_reply.specs.declared.step.Step.TheVariants.{UnshareHyp};
+ghost use Rattle.call_table.specs.declared.step.Step.TheVariants.{UnshareHyp};
 
 use super::change;
 use crate::pages::{hyp_page, is_in, leaf};
-use guest_steps::SharedPart;
+use call_table::Refusal;
 use page_state::{Entry, Layout, Page, Prot, State};
+use part_types::SharedPart;
 use reference_model::Changes;
 use std::alloc::Allocator;
-use step_reply::Refusal;
 
 /// The host takes back a frame that it shares with the hypervisor: its page must be shared, and the hypervisor's page of the
 /// frame borrowed.

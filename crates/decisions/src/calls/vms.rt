@@ -1,6 +1,6 @@
 //! The calls on the VM part: a slot is reserved, opened, closed and released, and vCPUs are loaded and put back.
 ghost use Rattle.std.specs.Prelude.{◌≡◌, ℕ, ◌||◌, None, IfOk};
-ghost use Rattle.guest_steps.specs.View.{cpu_of};
+ghost use Rattle.part_types.specs.View.{cpu_of};
 ghost use Rattle.decisions.specs.Decided.{IsTicketIf};
 ghost use Rattle.decisions.specs.Grows.{GrowsOnly};
 ghost use Rattle.page_state.specs.Layouts.{Layout as ReferenceLayout};
@@ -10,12 +10,12 @@ ghost use Rattle.reference_model.specs.Used.{vms_alone};
 ghost use Rattle.reference_model.specs.VmRules.{load_becomes};
 ghost use Rattle.reference_model.specs.declared.changes.Update.TheVariants.{Becomes};
 ghost use Rattle.reference_model.specs.Changes.{same_cpu};
-ghost use Rattle.step_reply.specs.declared.step.Step.TheVariants.{VmReserve, VmOpen, VcpuLoad, VcpuPut, Teardown, VmRelease};
+ghost use Rattle.call_table.specs.declared.step.Step.TheVariants.{VmReserve, VmOpen, VcpuLoad, VcpuPut, Teardown, VmRelease};
 ghost use Rattle.vm_table.specs.View.{vms_of};
 
-use guest_steps::CpuState;
+use call_table::{Refusal, Value, VmId, VmKind};
+use part_types::CpuState;
 use reference_model::{Changes, CpuChange, Loaded, SlotChange, Stage, Ticket, Update};
-use step_reply::{Refusal, Value, VmId, VmKind};
 use vm_table::VmTable;
 
 /// The most vCPUs of a VM (profile).

@@ -7,10 +7,10 @@ use Rattle.descriptor.specs.declared.State.TheVariants.{Owned}
 use Rattle.page_state.specs.declared.entry.Entry.{Entry}
 use Rattle.page_state.specs.declared.entry.Entry.TheVariants.{Unmapped}
 use Rattle.page_state.specs.declared.layout.Region.{Region}
-use Rattle.step_reply.specs.declared.step.Step.{Step}
-use Rattle.step_reply.specs.declared.step.Step.TheVariants.{HostAbort, HostTranslate, HypTranslate, OwnerOf}
-use Rattle.step_reply.specs.declared.reply.Value.{Value}
-use Rattle.step_reply.specs.declared.reply.Value.TheVariants.{Nothing}
+use Rattle.call_table.specs.declared.step.Step.{Step}
+use Rattle.call_table.specs.declared.step.Step.TheVariants.{HostAbort, HostTranslate, HypTranslate, OwnerOf}
+use Rattle.call_table.specs.declared.reply.Value.{Value}
+use Rattle.call_table.specs.declared.reply.Value.TheVariants.{Nothing}
 use Rattle.page_state.specs.Blocks.{block_at, first_page, span, is_empty}
 use Rattle.page_state.specs.Entries.{advance}
 use Rattle.page_state.specs.EntryTests.{is_unmapped, is_annotated, is_free_page, leaf, device_leaf}

@@ -5,8 +5,8 @@ use Rattle.descriptor.specs.declared.Prot.{Prot}
 use Rattle.descriptor.specs.declared.State.{State}
 use Rattle.reference_model.specs.declared.changes.Ticket.{Ticket}
 use Rattle.reference_model.specs.declared.changes.Stage.TheVariants.{ClosingVm as closing_vm, DyingVm as dying_vm}
-use Rattle.step_reply.specs.declared.step.Step.TheVariants.{GuestRelax, GuestTranslate, MarkDying}
-use Rattle.step_reply.specs.declared.step.VmId.{VmId}
+use Rattle.call_table.specs.declared.step.Step.TheVariants.{GuestRelax, GuestTranslate, MarkDying}
+use Rattle.call_table.specs.declared.step.VmId.{VmId}
 use Rattle.page_state.specs.Entries.{advance}
 use Rattle.page_state.specs.EntryTests.{with_rights, join}
 use Rattle.page_state.specs.Geometries.{pages_below}

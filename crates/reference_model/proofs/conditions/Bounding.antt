@@ -10,11 +10,11 @@ use Rattle.reference_model.specs.declared.changes.Ticket.{Ticket}
 use Rattle.reference_model.specs.declared.changes.Update.{Update}
 use Rattle.reference_model.specs.declared.changes.Update.TheVariants.{Keep, Becomes}
 use Rattle.page_state.specs.declared.entry.PageRange.{PageRange}
-use Rattle.step_reply.specs.declared.reply.Call.{Call}
-use Rattle.step_reply.specs.declared.reply.Refusal.TheVariants.{NoMemory}
-use Rattle.step_reply.specs.declared.step.Step.{Step}
-use Rattle.step_reply.specs.declared.step.Step.TheVariants.{Fund, ShareGuest, UnshareGuest, DonateGuest, GuestShareHost, GuestUnshareHost, Install, Topup, ReclaimPage, GuestRelax, VmReserve, VcpuLoad, VmRelease}
-use Rattle.step_reply.specs.declared.step.VmId.{VmId}
+use Rattle.call_table.specs.declared.reply.Call.{Call}
+use Rattle.call_table.specs.declared.reply.Refusal.TheVariants.{NoMemory}
+use Rattle.call_table.specs.declared.step.Step.{Step}
+use Rattle.call_table.specs.declared.step.Step.TheVariants.{Fund, ShareGuest, UnshareGuest, DonateGuest, GuestShareHost, GuestUnshareHost, Install, Topup, ReclaimPage, GuestRelax, VmReserve, VcpuLoad, VmRelease}
+use Rattle.call_table.specs.declared.step.VmId.{VmId}
 use Rattle.page_state.specs.Trees.{frames_from, root_tree, Block, Tree, Pool}
 use Rattle.reference_model.specs.Boot.{boot, booted}
 use Rattle.reference_model.specs.Bounds.{Bounded, BoundedKeeps, RunBounded}

@@ -11,9 +11,9 @@ use Rattle.page_state.specs.Layouts.{Layout}
 use Rattle.page_state.specs.Tables.{keep, put, need}
 use Rattle.page_state.specs.Trees.{Tree}
 use Rattle.page_state.proofs.Common.{same2}
-use Rattle.step_reply.specs.declared.reply.Refusal.{Refusal}
-use Rattle.step_reply.specs.declared.reply.Refusal.TheVariants.{NoPool}
-use Rattle.step_reply.specs.declared.step.Step.{Step}
+use Rattle.call_table.specs.declared.reply.Refusal.{Refusal}
+use Rattle.call_table.specs.declared.reply.Refusal.TheVariants.{NoPool}
+use Rattle.call_table.specs.declared.step.Step.{Step}
 use Rattle.reference_model.specs.declared.changes.Changes.{Changes}
 use Rattle.reference_model.specs.declared.changes.MapChange.{MapChange}
 use Rattle.reference_model.specs.Decides.{decided}

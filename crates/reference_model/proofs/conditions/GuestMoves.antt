@@ -6,7 +6,7 @@ use Rattle.descriptor.specs.declared.State.TheVariants.{Owned, SharedOwned, Shar
 use Rattle.page_state.specs.declared.entry.Entry.{Entry}
 use Rattle.page_state.specs.declared.entry.PageRange.{PageRange}
 use Rattle.page_state.specs.declared.row.Usage.TheVariants.{Plain, SharedPool, VmPool, InHand}
-use Rattle.step_reply.specs.declared.step.Step.{Step}
+use Rattle.call_table.specs.declared.step.Step.{Step}
 use Rattle.page_state.specs.EntryTests.{maps_frame}
 use Rattle.page_state.specs.Map.{is_within}
 use Rattle.reference_model.specs.State.{Guest, Cpu, Contents, empty, put_at, no_guest, blank}

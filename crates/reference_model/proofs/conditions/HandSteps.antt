@@ -7,8 +7,8 @@ use Rattle.reference_model.specs.declared.changes.Stage.TheVariants.{Booked as b
 use Rattle.page_state.specs.declared.entry.Entry.TheVariants.{Unmapped}
 use Rattle.page_state.specs.declared.entry.PageRange.{PageRange}
 use Rattle.page_state.specs.declared.row.Usage.TheVariants.{VmPool, InHand}
-use Rattle.step_reply.specs.declared.step.Step.TheVariants.{Install, Topup}
-use Rattle.step_reply.specs.declared.step.VmId.{VmId}
+use Rattle.call_table.specs.declared.step.Step.TheVariants.{Install, Topup}
+use Rattle.call_table.specs.declared.step.VmId.{VmId}
 use Rattle.page_state.specs.Trees.{frames_from, root_tree}
 use Rattle.page_state.specs.Counts.{is_one, frame_count}
 use Rattle.page_state.specs.EntryTests.{leaf}

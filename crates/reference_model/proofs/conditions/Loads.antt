@@ -5,8 +5,8 @@ use Rattle.std.proofs.lemmas.Bool.Decides.{nat_tests}
 use Rattle.reference_model.specs.declared.changes.Ticket.{Ticket}
 use Rattle.reference_model.specs.declared.changes.Loaded.{Loaded}
 use Rattle.page_state.specs.declared.entry.PageRange.{PageRange}
-use Rattle.step_reply.specs.declared.step.Step.TheVariants.{VcpuLoad, VcpuPut}
-use Rattle.step_reply.specs.declared.step.VmId.{VmId}
+use Rattle.call_table.specs.declared.step.Step.TheVariants.{VcpuLoad, VcpuPut}
+use Rattle.call_table.specs.declared.step.VmId.{VmId}
 use Rattle.reference_model.specs.State.{Cpu, Slot, Contents, empty, opened, put_at}
 use Rattle.page_state.specs.Layouts.{Layout}
 use Rattle.reference_model.specs.Parts.{vms}

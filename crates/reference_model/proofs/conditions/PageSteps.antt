@@ -9,9 +9,9 @@ use Rattle.descriptor.specs.declared.State.TheVariants.{Owned, SharedOwned, Shar
 use Rattle.page_state.specs.declared.entry.Entry.{Entry}
 use Rattle.page_state.proofs.Cases.{by_test}
 use Rattle.page_state.specs.declared.entry.Entry.TheVariants.{Unmapped}
-use Rattle.step_reply.specs.declared.step.Step.{Step}
-use Rattle.step_reply.specs.declared.step.Step.TheVariants.{ShareGuest, UnshareGuest, DonateGuest, GuestShareHost, GuestUnshareHost, ReclaimPage}
-use Rattle.step_reply.specs.declared.step.VmId.{VmId}
+use Rattle.call_table.specs.declared.step.Step.{Step}
+use Rattle.call_table.specs.declared.step.Step.TheVariants.{ShareGuest, UnshareGuest, DonateGuest, GuestShareHost, GuestUnshareHost, ReclaimPage}
+use Rattle.call_table.specs.declared.step.VmId.{VmId}
 use Rattle.page_state.specs.Entries.{advance}
 use Rattle.page_state.specs.EntryTests.{is_unmapped, is_in, is_free_page, leaf, entry_frame, with_state}
 use Rattle.page_state.specs.Geometries.{pages_below}

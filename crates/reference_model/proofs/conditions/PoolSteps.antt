@@ -10,17 +10,17 @@ use Rattle.reference_model.specs.declared.changes.Stage.TheVariants.{DyingVm as 
 use Rattle.page_state.specs.declared.entry.Entry.{Entry}
 use Rattle.page_state.specs.declared.entry.Entry.TheVariants.{Unmapped}
 use Rattle.page_state.specs.declared.row.Usage.TheVariants.{VmPool}
-use Rattle.step_reply.specs.declared.step.Step.TheVariants.{ReclaimPool, FinishGuest}
-use Rattle.step_reply.specs.declared.step.VmId.{VmId}
-use Rattle.step_reply.specs.declared.step.VmKind.TheVariants.{Plain as PlainVm}
+use Rattle.call_table.specs.declared.step.Step.TheVariants.{ReclaimPool, FinishGuest}
+use Rattle.call_table.specs.declared.step.VmId.{VmId}
+use Rattle.call_table.specs.declared.step.VmKind.TheVariants.{Plain as PlainVm}
 use Rattle.page_state.specs.Blocks.{first_page, span}
 use Rattle.page_state.specs.Trees.{frames_from, root_tree, Block, Tree, Pool}
 use Rattle.page_state.specs.Counts.{is_one, frame_count}
 use Rattle.page_state.specs.EntryTests.{is_unmapped, leaf}
 use Rattle.page_state.specs.Geometries.{block_pages, pages_below}
 use Rattle.reference_model.specs.GuestRules.{moved_on, reclaim_pool, finish_guest, is_guest, least}
-use Rattle.step_reply.specs.declared.reply.Value.{Value}
-use Rattle.step_reply.specs.declared.reply.Value.TheVariants.{Nothing, Frame as FrameOf}
+use Rattle.call_table.specs.declared.reply.Value.{Value}
+use Rattle.call_table.specs.declared.reply.Value.TheVariants.{Nothing, Frame as FrameOf}
 use Rattle.reference_model.specs.declared.changes.CpuChange.{CpuChange}
 use Rattle.reference_model.specs.declared.changes.GuestChange.{GuestChange}
 use Rattle.reference_model.specs.declared.changes.GuestChange.TheVariants.{LoseLowest, Empty}

@@ -5,7 +5,7 @@ use Rattle.std.specs.List.{list_any}
 use Rattle.std.proofs.lemmas.Bool.Decides.{nat_tests}
 use Rattle.page_state.specs.declared.entry.PageRange.{PageRange}
 use Rattle.page_state.specs.declared.layout.Region.{Region}
-use Rattle.step_reply.specs.declared.reply.Call.{Call}
+use Rattle.call_table.specs.declared.reply.Call.{Call}
 use Rattle.page_state.specs.declared.layout.Geometry.{Geometry}
 use Rattle.reference_model.specs.Boot.{boot, CanBoot}
 use Rattle.page_state.specs.Accepted.{IsAcceptedLayout}

@@ -2,7 +2,7 @@
 use Rattle.std.proofs.Common.{◌≡◌, ℕ, ◌≤◌, ◌<◌, refl, ap, sym, ◌∙◌, arith, inl, inr, length}
 use Rattle.std.specs.Prelude.{true, false, ◌==◌, Some, None}
 use Rattle.page_state.specs.declared.entry.PageRange.{PageRange}
-use Rattle.step_reply.specs.declared.step.Step.{Step}
+use Rattle.call_table.specs.declared.step.Step.{Step}
 use Rattle.page_state.specs.Geometries.{pages_below}
 use Rattle.page_state.specs.Layouts.{Layout, is_memory, hyp_page}
 use Rattle.page_state.specs.Map.{is_within}

@@ -8,9 +8,9 @@ use Rattle.reference_model.specs.declared.changes.Stage.TheVariants.{Booked as b
 use Rattle.page_state.specs.declared.entry.PageRange.{PageRange}
 use Rattle.reference_model.specs.State.{Guest, Cpu, Contents, Phase, empty, live, Stand, vacant, opened, reserved, closing, put_at}
 use Rattle.reference_model.specs.Sound.{IsOne, TicketsAgree, IsTicketOf, IsGuestOf, HasTicket, StageFits}
-use Rattle.step_reply.specs.declared.step.VmId.{VmId}
-use Rattle.step_reply.specs.declared.step.VmKind.{VmKind}
-use Rattle.step_reply.specs.declared.step.VmKind.TheVariants.{Plain as PlainVm}
+use Rattle.call_table.specs.declared.step.VmId.{VmId}
+use Rattle.call_table.specs.declared.step.VmKind.{VmKind}
+use Rattle.call_table.specs.declared.step.VmKind.TheVariants.{Plain as PlainVm}
 use Rattle.reference_model.specs.Conditions.{SlotsFit}
 use Rattle.reference_model.specs.GuestRules.{ticket_vm, ticket_kind}
 use Rattle.page_state.proofs.Common.{both, eq-same, eq-self, eq-made, if-true, if-false}

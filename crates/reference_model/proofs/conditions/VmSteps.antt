@@ -5,9 +5,9 @@ use Rattle.std.proofs.lemmas.Bool.Decides.{nat_tests}
 use Rattle.reference_model.specs.declared.changes.Ticket.{Ticket}
 use Rattle.reference_model.specs.declared.changes.Stage.{Stage}
 use Rattle.reference_model.specs.declared.changes.Stage.TheVariants.{Booked as booked, Installed as installed, ClosingVm as closing_vm, DyingVm as dying_vm, Finished as finished}
-use Rattle.step_reply.specs.declared.step.Step.TheVariants.{VmReserve, VmOpen, Teardown, VmRelease}
-use Rattle.step_reply.specs.declared.step.VmId.{VmId}
-use Rattle.step_reply.specs.declared.step.VmKind.{VmKind}
+use Rattle.call_table.specs.declared.step.Step.TheVariants.{VmReserve, VmOpen, Teardown, VmRelease}
+use Rattle.call_table.specs.declared.step.VmId.{VmId}
+use Rattle.call_table.specs.declared.step.VmKind.{VmKind}
 use Rattle.reference_model.specs.GuestRules.{ticket_vm}
 use Rattle.page_state.specs.Search.{first_from, all_below}
 use Rattle.reference_model.specs.State.{Cpu, Slot, Contents, empty, live, Stand, vacant, opened, reserved, closing, put_at, no_slot}

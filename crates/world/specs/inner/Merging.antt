@@ -1,6 +1,6 @@
 -- How logs are merged: from each the calls that were given are its first, and what is left of it goes on from there.
 use Rattle.std.specs.Prelude.{◌≡◌, ℕ, zero, suc, ◌+◌, Bool, true, ◌==◌, if◌then◌else◌, List, [], ◌∷◌, Option, Some, None, Vec, drop, length, slice_index}
-use Rattle.step_reply.specs.declared.reply.Call.{Call}
+use Rattle.call_table.specs.declared.reply.Call.{Call}
 use Rattle.reference_model.specs.Parts.{Part, vm_part, shared_part, guest_part}
 use Rattle.reference_model.specs.Rules.{call_uses}
 use Rattle.world.specs.declared.merge.Histories.{Histories}

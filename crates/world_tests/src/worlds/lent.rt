@@ -3,10 +3,10 @@ ghost use Rattle.std.specs.Prelude.{◌<◌};
 ghost use Rattle.hypercalls.specs.Stands.{HasHistory};
 
 use super::booted;
+use call_table::{Refusal, Reply, Step, Value, VmId};
 use hypercalls::Parts;
 use std::alloc::Global;
 use std::process::Abort;
-use step_reply::{Refusal, Reply, Step, Value, VmId};
 use world::{UsedParts, step_on, uses};
 
 /// The reply of a step of a CPU, made on the parts that it uses, and how many calls the CPU's log then has.

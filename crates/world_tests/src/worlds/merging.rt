@@ -3,9 +3,9 @@ ghost use Rattle.std.specs.Prelude.{◌<◌};
 
 use super::world_of;
 use crate::sample::{config, memory};
+use call_table::{Call, Reply, Step, Value, VmId, VmKind};
 use std::alloc::Global;
 use std::process::Abort;
-use step_reply::{Call, Reply, Step, Value, VmId, VmKind};
 use world::{Histories, MergeFault, World};
 
 /// A call of a CPU that was made.

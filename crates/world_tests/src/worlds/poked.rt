@@ -2,6 +2,7 @@
 ghost use Rattle.std.specs.Prelude.{◌≡◌, ◌<◌, None, replicate};
 
 use super::booted;
+use call_table::{Reply, Step, Value};
 use descriptor::{Frame, Kind, Prot, State};
 use ghost_judge::audit::audit_lists;
 use ghost_judge::disagreement::{Disagreement, TreeOf};
@@ -11,7 +12,6 @@ use ghost_trees::runs;
 use page_state::{Entry, Page};
 use std::alloc::Global;
 use std::process::Abort;
-use step_reply::{Reply, Step, Value};
 use table_tree::Reads;
 use world::{RawWorld, World};
 

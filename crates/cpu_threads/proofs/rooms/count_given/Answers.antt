@@ -1,6 +1,6 @@
 use Rattle.std.proofs.Common.{rules, ◌+◌, ℕ, ◌<◌, List, length, subst, take}
 use Rattle.std.specs.Prelude.{Some, filter}
-use Rattle.step_reply.specs.declared.reply.Call.{Call}
+use Rattle.call_table.specs.declared.reply.Call.{Call}
 use Rattle.part_table.specs.Passes.{Pass}
 use Rattle.cpu_threads.specs.Rooms.{Grew, of_pass, total_given}
 use Rattle.cpu_threads.proofs.Ends.{get_of_or}

@@ -1,6 +1,6 @@
 use Rattle.std.proofs.Common.{◌≡◌, sym, ◌∙◌, rules}
 use Rattle.page_state.proofs.Common.{not-false}
-use Rattle.step_reply.proofs.Equality.{replies_tell}
+use Rattle.call_table.proofs.Equality.{replies_tell}
 use Rattle.ghost_judge.proofs.judge.judge_last.Goals as goal
 
 pub returns-clause-none : goal.returns-clause-none

@@ -1,5 +1,5 @@
 use Rattle.std.proofs.Common.{◌≡◌, ◌∙◌, ap, arith, length, map, refl}
-use Rattle.guest_steps.specs.View.{guest_held, cpu_of}
+use Rattle.part_types.specs.View.{guest_held, cpu_of}
 use Rattle.ghost_spec.specs.States.{guest_in}
 use Rattle.ghost_spec.specs.Views.{cpu_in, shared_in_lists}
 use Rattle.std.proofs.lemmas.List.{length-map}

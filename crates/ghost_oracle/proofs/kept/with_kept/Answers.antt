@@ -3,7 +3,7 @@ use Rattle.page_state.specs.Rows.{advance_row}
 use Rattle.reference_model.specs.State.{Reference, Shared}
 use Rattle.run_list.specs.Runs.{run_map}
 use Rattle.guest_component.specs.View.{runs_of}
-use Rattle.guest_steps.specs.View.{shared_of, guest_held}
+use Rattle.part_types.specs.View.{shared_of, guest_held}
 use Rattle.hypercalls.specs.Stands.{state_of}
 use Rattle.ghost_spec.specs.Views.{shared_in_lists}
 use Rattle.ghost_oracle.specs.Found.{found_state}

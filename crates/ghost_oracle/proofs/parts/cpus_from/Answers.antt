@@ -1,6 +1,6 @@
 use Rattle.std.proofs.Common.{◌∙◌, map, ap}
 use Rattle.std.proofs.lemmas.List.{take_all}
-use Rattle.guest_steps.specs.View.{cpu_of}
+use Rattle.part_types.specs.View.{cpu_of}
 use Rattle.ghost_spec.specs.Views.{cpu_in}
 use Rattle.ghost_oracle.proofs.Lists.{mapped_next}
 use Rattle.ghost_oracle.proofs.parts.cpus_from.Goals as goal

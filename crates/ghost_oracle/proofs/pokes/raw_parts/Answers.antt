@@ -1,6 +1,6 @@
 use Rattle.std.proofs.Common.{◌≡◌, ◌∙◌, Option, All, IfSome, ap, arith, length, refl, subst, sym}
 use Rattle.page_state.specs.Geometries.{levels_below}
-use Rattle.guest_steps.specs.MemoryRows.{HasMemoryRows}
+use Rattle.part_types.specs.MemoryRows.{HasMemoryRows}
 use Rattle.ghost_oracle.specs.declared.raw.RawGuest.{RawGuest}
 use Rattle.ghost_oracle.specs.Poked.{guest_seen, guest_beside}
 use Rattle.ghost_oracle.proofs.PokedParts.{all_trees, none_length, unpoked_beside, unpoked_depth, unpoked_seen}

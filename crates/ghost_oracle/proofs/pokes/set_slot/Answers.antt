@@ -4,7 +4,7 @@ use Rattle.page_state.proofs.Common.{same2}
 use Rattle.page_state.specs.Geometries.{levels_below}
 use Rattle.table_tree.specs.Said.{block_of}
 use Rattle.maplets.specs.View.{KeptMaplets}
-use Rattle.guest_steps.specs.Logs.{StoredCalls}
+use Rattle.part_types.specs.Logs.{StoredCalls}
 use Rattle.ghost_oracle.specs.Beside.{GuestBeside}
 use Rattle.ghost_oracle.specs.Poked.{IsPokedSeen}
 use Rattle.ghost_oracle.specs.Seen.{raw_seen, slot_seen}

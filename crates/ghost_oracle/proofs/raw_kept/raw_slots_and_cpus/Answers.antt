@@ -1,5 +1,5 @@
 use Rattle.std.proofs.Common.{◌∙◌, ap, map}
-use Rattle.guest_steps.specs.View.{cpu_of}
+use Rattle.part_types.specs.View.{cpu_of}
 use Rattle.ghost_oracle.proofs.raw_kept.raw_slots_and_cpus.Goals as goal
 
 pub returns-clause-layout : goal.returns-clause-layout

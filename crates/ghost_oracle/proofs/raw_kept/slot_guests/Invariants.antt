@@ -1,5 +1,5 @@
 use Rattle.std.proofs.Common.{◌≡◌, ℕ, ◌<◌, Option, length, get_or}
-use Rattle.guest_steps.specs.declared.parts.GuestPart.{GuestPart}
+use Rattle.part_types.specs.declared.parts.GuestPart.{GuestPart}
 use Rattle.ghost_spec.specs.declared.parts.GhostGuest.{GhostGuest}
 use Rattle.ghost_oracle.specs.declared.raw.RawGuest.{RawGuest}
 use Rattle.ghost_oracle.specs.RawFound.{IsSlotFound}

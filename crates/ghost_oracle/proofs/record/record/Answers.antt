@@ -3,7 +3,7 @@ use Rattle.std.specs.Option.{option_copied, option_map}
 use denote.Bor.{Bor}
 use Rattle.page_state.specs.LayoutView.{layout_of}
 use Rattle.reference_model.specs.State.{put_at}
-use Rattle.guest_steps.specs.declared.parts.GuestPart.{GuestPart}
+use Rattle.part_types.specs.declared.parts.GuestPart.{GuestPart}
 use Rattle.ghost_spec.specs.Used.{rooms_of}
 use Rattle.table_tree.specs.Reading.{count_of}
 use Rattle.ghost_oracle.specs.Recorded.{given}

@@ -1,7 +1,7 @@
 use Rattle.std.proofs.Common.{◌≡◌, ◌∙◌, ap, subst, sym}
 use Rattle.page_state.specs.Rows.{advance_row, HasPageBelow}
 use Rattle.run_list.specs.Runs.{run_map, AreInReach}
-use Rattle.guest_steps.specs.View.{shared_of}
+use Rattle.part_types.specs.View.{shared_of}
 use Rattle.ghost_spec.specs.Views.{row_in, shared_in_lists}
 use Rattle.ghost_oracle.specs.Found.{with_row}
 use Rattle.ghost_oracle.proofs.Scratch.{if_ok, shared_same_rows}

@@ -1,7 +1,7 @@
 use Rattle.std.proofs.Common.{All, map, ap, sym, subst, ◌∙◌}
 use Rattle.std.proofs.lemmas.List.{take_all}
 use Rattle.std.proofs.lemmas.List.Elements.{All-nil}
-use Rattle.guest_steps.specs.View.{guest_held}
+use Rattle.part_types.specs.View.{guest_held}
 use Rattle.ghost_spec.specs.States.{guest_in, AreKeptGuests}
 use Rattle.ghost_spec.specs.Kept.{IsKeptGuest}
 use Rattle.ghost_trees.specs.KeptTrees.{IsKeptTree}

@@ -1,6 +1,6 @@
 use Rattle.std.proofs.Common.{◌≡◌, ◌*◌, All, map, take}
 use Rattle.std.specs.Prelude.{sum_by}
-use Rattle.guest_steps.specs.View.{guest_held}
+use Rattle.part_types.specs.View.{guest_held}
 use Rattle.table_tree.specs.Reading.{count_of}
 use Rattle.ghost_spec.specs.States.{guest_in, AreKeptGuests}
 use Rattle.ghost_trees.specs.KeptTrees.{IsKeptTree}

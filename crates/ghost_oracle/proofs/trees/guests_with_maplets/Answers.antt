@@ -2,7 +2,7 @@ use Rattle.std.proofs.Common.{map, ap, sym, subst, ◌∙◌, arith}
 use Rattle.std.proofs.lemmas.List.{take_all}
 use Rattle.reference_model.specs.State.{no_guest}
 use Rattle.guest_component.specs.View.{runs_of}
-use Rattle.guest_steps.specs.View.{guest_held}
+use Rattle.part_types.specs.View.{guest_held}
 use Rattle.ghost_spec.specs.Kept.{IsKeptGuest}
 use Rattle.ghost_spec.specs.States.{guest_in, AreKeptGuests}
 use Rattle.ghost_oracle.proofs.Founds.{held_at}

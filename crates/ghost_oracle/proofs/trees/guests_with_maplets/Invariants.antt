@@ -1,6 +1,6 @@
 use Rattle.std.proofs.Common.{◌≡◌, map, take}
 use Rattle.guest_component.specs.View.{runs_of}
-use Rattle.guest_steps.specs.View.{guest_held}
+use Rattle.part_types.specs.View.{guest_held}
 use Rattle.ghost_spec.specs.States.{guest_in, AreKeptGuests}
 use Rattle.ghost_oracle.proofs.trees.guests_with_maplets.Given as goal
 

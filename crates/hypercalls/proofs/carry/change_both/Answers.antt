@@ -4,9 +4,9 @@ use Rattle.page_state.specs.LayoutView.{layout_of}
 use Rattle.page_state.proofs.Common.{not-holds}
 use Rattle.guest_component.specs.View.{guest_depth, guest_of}
 use Rattle.reference_model.specs.Step.{guest_need, shared_after, shared_need}
-use Rattle.guest_steps.specs.Planned.{planned, shared_with}
-use Rattle.guest_steps.specs.View.{shared_of}
-use Rattle.guest_steps.proofs.Planned.{after_planned}
+use Rattle.part_types.specs.Planned.{planned, shared_with}
+use Rattle.part_types.specs.View.{shared_of}
+use Rattle.part_types.proofs.Planned.{after_planned}
 use Rattle.hypercalls.specs.Carried.{rows_told}
 use Rattle.hypercalls.proofs.Carried.{can_change, suits_after}
 use Rattle.hypercalls.proofs.carry.change_both.Goals as goal

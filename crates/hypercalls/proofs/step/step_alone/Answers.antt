@@ -1,7 +1,7 @@
 use Rattle.std.proofs.Common.{refl, sym}
 use Rattle.page_state.specs.LayoutView.{layout_of}
-use Rattle.guest_steps.specs.Lent.{lent_alone, logs_in}
-use Rattle.guest_steps.specs.View.{cpu_of}
+use Rattle.part_types.specs.Lent.{lent_alone, logs_in}
+use Rattle.part_types.specs.View.{cpu_of}
 use Rattle.hypercalls.proofs.Stepping.{barred_step, eq_with, full_step, has_room, no_room, none_full, own_full, same_logs}
 use Rattle.hypercalls.proofs.Using.{nothing}
 use Rattle.hypercalls.proofs.step.step_alone.Goals as goal

@@ -1,8 +1,8 @@
 use Rattle.std.proofs.Common.{◌∙◌, Some, refl, sym, ap}
 use Rattle.page_state.specs.LayoutView.{layout_of}
-use Rattle.guest_steps.specs.declared.parts.CpuState.{CpuState}
-use Rattle.guest_steps.specs.Lent.{lent_both, logs_in, used_in}
-use Rattle.guest_steps.specs.View.{cpu_of, shared_of, guest_held}
+use Rattle.part_types.specs.declared.parts.CpuState.{CpuState}
+use Rattle.part_types.specs.Lent.{lent_both, logs_in, used_in}
+use Rattle.part_types.specs.View.{cpu_of, shared_of, guest_held}
 use Rattle.decisions.proofs.Decided.{named_both}
 use Rattle.hypercalls.proofs.Carried.{comes_both, ends_at, err_at, ok_at}
 use Rattle.hypercalls.proofs.Stepping.{barred_step, done_step, eq_with, full_step, guest_full, has_room, no_room, none_full, own_full, same_logs, shared_full}

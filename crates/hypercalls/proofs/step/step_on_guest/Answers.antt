@@ -1,8 +1,8 @@
 use Rattle.std.proofs.Common.{◌∙◌, Some, refl, sym, ap}
 use Rattle.page_state.specs.LayoutView.{layout_of}
-use Rattle.guest_steps.specs.declared.parts.CpuState.{CpuState}
-use Rattle.guest_steps.specs.Lent.{lent_guest, logs_in, used_in}
-use Rattle.guest_steps.specs.View.{cpu_of, guest_held}
+use Rattle.part_types.specs.declared.parts.CpuState.{CpuState}
+use Rattle.part_types.specs.Lent.{lent_guest, logs_in, used_in}
+use Rattle.part_types.specs.View.{cpu_of, guest_held}
 use Rattle.reference_model.specs.Rules.{names}
 use Rattle.decisions.proofs.Decided.{named_alone}
 use Rattle.hypercalls.proofs.Carried.{comes_guest, ends_at, err_at, leaves_shared, ok_at}

@@ -1,6 +1,6 @@
 use Rattle.std.proofs.Common.{sym, ◌∙◌, true, false}
 use Rattle.reference_model.proofs.Equality.{stages_test}
-use Rattle.guest_steps.specs.View.{cpu_of}
+use Rattle.part_types.specs.View.{cpu_of}
 use Rattle.decisions.proofs.Tickets.{ticket_is}
 use Rattle.hypercalls.proofs.used_parts.ticket_slot.Goals as goal
 

@@ -1,7 +1,7 @@
 use Rattle.std.proofs.Common.{◌≡◌, ℕ, ◌+◌, ◌<◌, ◌≤◌, length, arith, sym, ap, ◌∙◌, refl, subst, le_refl}
 use Rattle.std.specs.Prelude.{Option, List}
 use Rattle.std.specs.Vec.{vec_capacity, vec_len}
-use Rattle.guest_steps.specs.declared.parts.CpuState.{CpuState}
+use Rattle.part_types.specs.declared.parts.CpuState.{CpuState}
 use Rattle.part_table.specs.Endings.{HaveEnded, ended_of}
 use Rattle.part_table.specs.Passes.{Pass}
 use Rattle.part_table.specs.Rule.{Ended}

@@ -2,7 +2,7 @@ use Rattle.std.proofs.Common.{◌≡◌, ℕ, ◌<◌, [], true, arith, sym, ap,
 use Rattle.atomic_table.specs.Table.{Splits}
 use Rattle.page_state.specs.declared.layout.Layout.{Layout as TheLayout}
 use Rattle.page_state.specs.LayoutView.{layout_of}
-use Rattle.guest_steps.specs.declared.parts.CpuState.{CpuState}
+use Rattle.part_types.specs.declared.parts.CpuState.{CpuState}
 use Rattle.part_table.specs.declared.rule.View.{View}
 use Rattle.part_table.specs.Does.{IsLeft, none_at}
 use Rattle.part_table.specs.Rule.{AtRest, IsIdle, IsLawful, Seated, held_at, known_of, newcomer, one_more}

@@ -3,7 +3,7 @@ use Rattle.std.specs.Prelude.{Option, Some, List}
 use Rattle.std.specs.Vec.{vec_len}
 use Rattle.atomic_table.specs.Seated.{TableId}
 use Rattle.page_state.specs.declared.layout.Layout.{Layout as TheLayout}
-use Rattle.guest_steps.specs.declared.parts.CpuState.{CpuState}
+use Rattle.part_types.specs.declared.parts.CpuState.{CpuState}
 use Rattle.part_table.specs.Passes.{AreFirst, Pass, first_pass}
 use Rattle.part_table.specs.Rule.{Seated, one_more, rooted}
 use Rattle.part_table.specs.Known.{own_at_boot}

@@ -1,7 +1,7 @@
 use Rattle.std.proofs.Common.{◌≡◌, ◌≤◌, ℕ, [], Some, slice_get, ◌+◌}
 use Rattle.std.specs.Vec.{vec_capacity, vec_len}
 use Rattle.page_state.specs.declared.layout.Layout.{Layout as TheLayout}
-use Rattle.guest_steps.specs.declared.parts.CpuState.{CpuState}
+use Rattle.part_types.specs.declared.parts.CpuState.{CpuState}
 use Rattle.part_table.specs.Passes.{AreFirst}
 use Rattle.part_table.specs.Rule.{rooted}
 use Rattle.part_table.specs.Known.{own_at_boot}

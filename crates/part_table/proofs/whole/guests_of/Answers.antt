@@ -1,7 +1,7 @@
 use Rattle.std.proofs.Common.{◌≡◌, ◌+◌, ◌≤◌, ◌∷◌, ◌∙◌, ap, map, vec_len, sym, arith}
 use Rattle.std.specs.Vec.{vec_capacity}
 use Rattle.page_state.proofs.Common.{eq-same}
-use Rattle.guest_steps.specs.declared.parts.GuestPart.{GuestPart}
+use Rattle.part_types.specs.declared.parts.GuestPart.{GuestPart}
 use Rattle.part_table.specs.declared.slot.Slot.{Slot}
 use Rattle.part_table.specs.declared.slot.Slot.TheVariants.{Guest as GuestSlot}
 use Rattle.part_table.proofs.PutTogether.{first_guest, first_out, moved_back, none_left, rest_guests, some_items}

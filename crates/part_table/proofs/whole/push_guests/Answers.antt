@@ -1,7 +1,7 @@
 use Rattle.std.proofs.Common.{◌≡◌, ◌+◌, ◌≤◌, ◌∙◌, Some, vec_len, sym, arith}
 use Rattle.std.specs.Vec.{vec_capacity}
 use Rattle.page_state.proofs.Common.{eq-same}
-use Rattle.guest_steps.specs.declared.parts.GuestPart.{GuestPart}
+use Rattle.part_types.specs.declared.parts.GuestPart.{GuestPart}
 use Rattle.part_table.specs.declared.slot.Slot.TheVariants.{Guest as GuestSlot}
 use Rattle.part_table.proofs.PutTogether.{first_out, moved, no_more, some_items}
 use Rattle.part_table.proofs.whole.push_guests.Goals as goal

@@ -5,7 +5,7 @@ use Rattle.page_state.specs.Trees.{no_tree, Tree}
 use Rattle.ghost_trees.specs.Trees.{tree_in_lists}
 use Rattle.ghost_spec.specs.declared.lists.GhostLists.{GhostLists}
 use Rattle.ghost_spec.specs.States.{contents_in}
-use Rattle.plain_tables.specs.Given.{AreTrees}
+use Rattle.c_tables.specs.Given.{AreTrees}
 use Rattle.table_audit.specs.Audited.{IsFirstFinding, IsWell}
 use Rattle.table_audit.specs.Found.{found, trees_in}
 use Rattle.pkvm_oracle.specs.Audited.{trees_said}

@@ -1,5 +1,5 @@
 use Rattle.std.proofs.Common.{rules, refl, inr}
-use Rattle.plain_ghost.specs.declared.judge.Unjudged.TheVariants as unjudged
+use Rattle.c_states.specs.declared.judge.Unjudged.TheVariants as unjudged
 use Rattle.pkvm_oracle.proofs.judged.pkvm_judge.Goals as goal
 
 pub returns-in-Err-write_judgement : goal.returns-in-Err-write_judgement

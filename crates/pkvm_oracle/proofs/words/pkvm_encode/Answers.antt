@@ -1,6 +1,6 @@
 use Rattle.std.proofs.Common.{◌≡◌, ◌^◌, ◌<◌, Some, rules}
-use Rattle.plain_words.specs.Numbers.{level_said}
-use Rattle.plain_words.specs.Said.{desc_said}
+use Rattle.c_words.specs.Numbers.{level_said}
+use Rattle.c_words.specs.Said.{desc_said}
 use Rattle.pkvm_oracle.proofs.TheWord.{encoded}
 use Rattle.pkvm_oracle.proofs.words.pkvm_encode.Goals as goal
 

@@ -2,7 +2,7 @@ use Rattle.std.proofs.Common.{◌≡◌, ◌∙◌, ◌∷◌, [], ◌++◌, sym
 use Rattle.std.specs.Prelude.{Contains, MatchOption, Some}
 use Rattle.std.proofs.lemmas.List.{map-append}
 use Rattle.std.proofs.lemmas.List.Elements.{Contains-push}
-use Rattle.step_reply.specs.declared.reply.Reply.{Reply}
+use Rattle.call_table.specs.declared.reply.Reply.{Reply}
 use Rattle.race_outcomes.specs.declared.finding.Outcome.{Outcome}
 use Rattle.race_outcomes.specs.Layers.{IsToldBy, replies_of}
 use Rattle.race_outcomes.proofs.Found.{all_same}

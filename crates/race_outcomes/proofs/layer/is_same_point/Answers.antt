@@ -2,7 +2,7 @@ use Rattle.std.proofs.Common.{◌≡◌, ap}
 use Rattle.std.specs.Prelude.{List, Option}
 use Rattle.reference_model.specs.State.{Reference}
 use Rattle.ghost_spec.specs.States.{ghost_state}
-use Rattle.step_reply.specs.declared.reply.Reply.{Reply}
+use Rattle.call_table.specs.declared.reply.Reply.{Reply}
 use Rattle.race_outcomes.specs.Orders.{Point}
 use Rattle.race_outcomes.proofs.Replies.{told_same}
 use Rattle.race_outcomes.proofs.layer.is_same_point.Goals as goal

@@ -6,7 +6,7 @@ use Rattle.page_state.specs.LayoutView.{layout_of}
 use Rattle.reference_model.specs.State.{Reference}
 use Rattle.ghost_spec.specs.declared.state.Ghost.{Ghost}
 use Rattle.ghost_spec.specs.States.{ghost_state}
-use Rattle.step_reply.specs.declared.reply.Reply.{Reply}
+use Rattle.call_table.specs.declared.reply.Reply.{Reply}
 use Rattle.race_outcomes.specs.declared.node.Turn.{Turn}
 use Rattle.race_outcomes.specs.Layers.{point_of}
 use Rattle.race_outcomes.specs.Orders.{AreWanted, IsWanted, told_to}

@@ -1,7 +1,7 @@
 use Rattle.std.proofs.Common.{◌≡◌, ◌+◌, ◌++◌, ◌∷◌, [], All, Bool, None, true, is_ok, if◌then◌else◌, ap, sym, subst, refl, ◌∙◌, arith}
 use Rattle.std.proofs.lemmas.List.Elements.{All-push}
-use Rattle.guest_steps.specs.declared.parts.CpuState.{CpuState}
-use Rattle.guest_steps.specs.Numbers.{AreNumbered}
+use Rattle.part_types.specs.declared.parts.CpuState.{CpuState}
+use Rattle.part_types.specs.Numbers.{AreNumbered}
 use Rattle.hypercalls.proofs.Numbered.{numbered_more}
 use Rattle.world.specs.Boots.{IsIdle}
 use Rattle.world.proofs.boot.cpus_at_boot.Goals as goal

@@ -1,5 +1,5 @@
 use Rattle.std.proofs.Common.{◌≡◌, vec_len, All}
-use Rattle.guest_steps.specs.Numbers.{AreNumbered}
+use Rattle.part_types.specs.Numbers.{AreNumbered}
 use Rattle.world.specs.Boots.{IsIdle}
 use Rattle.world.proofs.boot.cpus_at_boot.Given as goal
 

@@ -1,6 +1,6 @@
 use Rattle.std.proofs.Common.{◌≡◌, ◌∙◌, ℕ, List, [], ap, sym, map, arith}
 use Rattle.std.specs.Prelude.{get_or, slice_get, Vec}
-use Rattle.step_reply.specs.declared.reply.Call.{Call}
+use Rattle.call_table.specs.declared.reply.Call.{Call}
 use Rattle.hypercalls.specs.Stands.{at_place}
 use Rattle.ghost_oracle.proofs.Founds.{placed, as_long}
 use Rattle.world.specs.Merges.{log_at}

@@ -1,7 +1,7 @@
 use Rattle.std.proofs.Common.{◌∙◌, Some, None, sym, subst}
 use Rattle.page_state.specs.LayoutView.{layout_of}
-use Rattle.guest_steps.specs.Lent.{Lent, Suits, lent_alone, lent_both, lent_guest, lent_shared, lent_vms}
-use Rattle.guest_steps.specs.View.{cpu_of}
+use Rattle.part_types.specs.Lent.{Lent, Suits, lent_alone, lent_both, lent_guest, lent_shared, lent_vms}
+use Rattle.part_types.specs.View.{cpu_of}
 use Rattle.hypercalls.proofs.Lends.{alone_anywhere, vms_anywhere}
 use Rattle.hypercalls.proofs.Using.{both, guest, shared, vms}
 use Rattle.world.proofs.LentSteps.{alone_given, alone_left, both_given, both_left, guest_given, guest_left, reached_there, reply_given, shared_given, shared_left, step_given, vms_given, vms_left}

@@ -3,7 +3,7 @@ use Rattle.std.specs.Prelude.{Vec, ◌==◌, if◌then◌else◌}
 use Rattle.std.proofs.lemmas.List.{get_or-set_same, get_or-set_other}
 use Rattle.page_state.proofs.Cases.{by_eq}
 use Rattle.page_state.proofs.Common.{eq-made, eq-other, if-true, if-false}
-use Rattle.step_reply.specs.declared.reply.Call.{Call}
+use Rattle.call_table.specs.declared.reply.Call.{Call}
 use Rattle.world.specs.Merges.{log_at}
 use Rattle.world.specs.inner.Merging.{rest_of}
 use Rattle.world.proofs.Merging.{drop_past, get_of, index_of, log_here, log_past}

@@ -1,5 +1,5 @@
 use Rattle.std.proofs.Common.{◌<◌}
-use Rattle.step_reply.specs.declared.reply.Call.{Call}
+use Rattle.call_table.specs.declared.reply.Call.{Call}
 use Rattle.world.specs.inner.Merging.{left, IsNext}
 use Rattle.world.proofs.merge.find_next.Given as goal
 

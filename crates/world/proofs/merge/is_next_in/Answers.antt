@@ -1,7 +1,7 @@
 use Rattle.std.proofs.Common.{◌≡◌, ◌<◌, Some, drop, get_or, length, ap, refl, sym, ◌∙◌, rules}
 use Rattle.std.proofs.lemmas.Option.{slice_get_read}
-use Rattle.step_reply.specs.declared.reply.Call.{Call}
-use Rattle.step_reply.proofs.Equality.{calls_tell}
+use Rattle.call_table.specs.declared.reply.Call.{Call}
+use Rattle.call_table.proofs.Equality.{calls_tell}
 use Rattle.world.specs.inner.Merging.{first_of}
 use Rattle.world.proofs.Merging.{first_drop}
 use Rattle.world.proofs.merge.is_next_in.Goals as goal

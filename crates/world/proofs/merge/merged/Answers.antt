@@ -1,7 +1,7 @@
 use Rattle.std.proofs.Common.{rules, ◌≡◌, [], ℕ, length, List, sym, subst}
-use Rattle.step_reply.specs.declared.reply.Call.{Call}
-use Rattle.step_reply.specs.declared.reply.Reply.{Reply}
-use Rattle.step_reply.specs.declared.step.Step.{Step}
+use Rattle.call_table.specs.declared.reply.Call.{Call}
+use Rattle.call_table.specs.declared.reply.Reply.{Reply}
+use Rattle.call_table.specs.declared.step.Step.{Step}
 use Rattle.world.specs.inner.Merging.{left, whole, LogName, IsNext}
 use Rattle.world.proofs.Merging.{IsToldOf, fewer, has_merged, next_inside, no_list, told_all, told_more, told_none}
 use Rattle.world.proofs.merge.merged.Goals as goal

@@ -1,7 +1,7 @@
 use Rattle.std.proofs.Common.{rules, ◌≡◌, ◌≢◌, ◌<◌, ◌≤◌, true, length, sym, ap, ◌∙◌}
 use Rattle.std.specs.Prelude.{Some, None, List}
 use Rattle.std.proofs.lemmas.Option.{slice_get_past}
-use Rattle.step_reply.specs.declared.reply.Call.{Call}
+use Rattle.call_table.specs.declared.reply.Call.{Call}
 use Rattle.reference_model.specs.Parts.{Part}
 use Rattle.reference_model.specs.Rules.{call_uses}
 use Rattle.world.specs.inner.Merging.{by, first_of, left, on}

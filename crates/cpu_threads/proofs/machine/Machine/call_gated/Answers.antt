@@ -1,8 +1,8 @@
 use Rattle.std.proofs.Common.{◌≡◌, ℕ, ◌+◌, length, sym, ap, ◌∙◌, subst}
 use Rattle.std.proofs.lemmas.Bool.{false≢true}
-use Rattle.step_reply.specs.declared.reply.Refusal.TheVariants.{Contended}
-use Rattle.step_reply.specs.declared.reply.Reply.TheVariants.{Refused}
-use Rattle.guest_steps.specs.declared.parts.CpuState.{CpuState}
+use Rattle.call_table.specs.declared.reply.Refusal.TheVariants.{Contended}
+use Rattle.call_table.specs.declared.reply.Reply.TheVariants.{Refused}
+use Rattle.part_types.specs.declared.parts.CpuState.{CpuState}
 use Rattle.part_table.specs.Passes.{IsPassOf, Opened}
 use Rattle.cpu_threads.specs.Machines.{Machine}
 use Rattle.cpu_threads.proofs.Tries.{meets_more, meets_none}

@@ -1,7 +1,7 @@
 use Rattle.std.proofs.Common.{subst}
-use Rattle.step_reply.specs.declared.reply.Reply.TheVariants.{Done}
-use Rattle.step_reply.specs.declared.reply.Value.{Value}
-use Rattle.step_reply.specs.declared.step.Step.TheVariants.{VmOpen}
+use Rattle.call_table.specs.declared.reply.Reply.TheVariants.{Done}
+use Rattle.call_table.specs.declared.reply.Value.{Value}
+use Rattle.call_table.specs.declared.step.Step.TheVariants.{VmOpen}
 use Rattle.part_table.specs.Known.{Known}
 use Rattle.cpu_threads.specs.Inits.{IsCallOf}
 use Rattle.cpu_threads.proofs.Opens.{open_answers}

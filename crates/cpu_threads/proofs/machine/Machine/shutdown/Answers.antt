@@ -2,7 +2,7 @@ use Rattle.std.proofs.Common.{◌≡◌, ℕ, [], length, refl, sym, ap, ◌∙�
 use Rattle.std.specs.Prelude.{List, Option}
 use Rattle.std.specs.Vec.{vec_len}
 use Rattle.std.proofs.Math.Logic.{∥∥₁_map}
-use Rattle.guest_steps.specs.declared.parts.CpuState.{CpuState}
+use Rattle.part_types.specs.declared.parts.CpuState.{CpuState}
 use Rattle.part_table.specs.Endings.{IsEndFor}
 use Rattle.part_table.specs.Slots.{slots_of}
 use Rattle.part_table.specs.Passes.{AreHomeFrom, Opened, Pass}

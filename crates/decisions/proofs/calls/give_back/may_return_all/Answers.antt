@@ -1,5 +1,5 @@
 use Rattle.std.proofs.Common.{◌+◌, sym, arith, ◌∙◌, below_more}
-use Rattle.guest_steps.specs.View.{shared_of}
+use Rattle.part_types.specs.View.{shared_of}
 use Rattle.reference_model.specs.SharedRules.{may_return}
 use Rattle.reference_model.specs.Used.{used_alone}
 use Rattle.decisions.proofs.Ranged.{all_hold, one_fails}

@@ -1,6 +1,6 @@
 use Rattle.std.proofs.Common.{◌∙◌, length, sym}
 use Rattle.guest_component.specs.View.{guest_depth, guest_of}
-use Rattle.guest_steps.specs.View.{cpu_of, shared_of}
+use Rattle.part_types.specs.View.{cpu_of, shared_of}
 use Rattle.decisions.proofs.GuestDecided.{holds_none, root_low}
 use Rattle.decisions.proofs.calls.guest_frames.decide_finish_guest.Goals as goal
 

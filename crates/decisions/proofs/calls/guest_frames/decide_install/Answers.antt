@@ -1,4 +1,4 @@
-use Rattle.guest_steps.specs.View.{cpu_of}
+use Rattle.part_types.specs.View.{cpu_of}
 use Rattle.decisions.proofs.GuestDecided.{installs, installs_none}
 use Rattle.decisions.proofs.calls.guest_frames.decide_install.Goals as goal
 

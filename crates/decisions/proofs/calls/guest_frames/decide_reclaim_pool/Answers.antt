@@ -1,6 +1,6 @@
 use Rattle.std.proofs.Common.{sym, ◌∙◌}
 use Rattle.guest_component.specs.View.{guest_of}
-use Rattle.guest_steps.specs.View.{cpu_of, shared_of}
+use Rattle.part_types.specs.View.{cpu_of, shared_of}
 use Rattle.decisions.proofs.GuestDecided.{least_low}
 use Rattle.decisions.proofs.calls.guest_frames.decide_reclaim_pool.Goals as goal
 

@@ -1,6 +1,6 @@
 use Rattle.reference_model.specs.Rules.{rule}
 use Rattle.std.proofs.Common.{rules}
-use Rattle.guest_steps.specs.View.{cpu_of, shared_of}
+use Rattle.part_types.specs.View.{cpu_of, shared_of}
 use Rattle.decisions.proofs.Hands.{hand_low}
 use Rattle.decisions.proofs.calls.hand.decide_unfund.Goals as goal
 

@@ -1,4 +1,4 @@
-use Rattle.guest_steps.specs.View.{cpu_of}
+use Rattle.part_types.specs.View.{cpu_of}
 use Rattle.vm_table.specs.View.{vms_of}
 use Rattle.decisions.proofs.Tickets.{releases, releases_none}
 use Rattle.decisions.proofs.calls.vms.decide_vm_release.Goals as goal

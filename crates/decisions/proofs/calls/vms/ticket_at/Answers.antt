@@ -1,6 +1,6 @@
 use Rattle.std.proofs.Common.{true, false, sym, ◌∙◌}
 use Rattle.reference_model.proofs.Equality.{stages_test}
-use Rattle.guest_steps.specs.View.{cpu_of}
+use Rattle.part_types.specs.View.{cpu_of}
 use Rattle.decisions.proofs.Tickets.{stage_is}
 use Rattle.decisions.proofs.calls.vms.ticket_at.Goals as goal
 

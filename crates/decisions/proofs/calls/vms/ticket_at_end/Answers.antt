@@ -1,5 +1,5 @@
 use Rattle.std.proofs.Common.{◌≡◌, ◌||◌, Bool, true, false, Some, MatchOption, ap, sym, subst}
-use Rattle.guest_steps.specs.View.{cpu_of}
+use Rattle.part_types.specs.View.{cpu_of}
 use Rattle.reference_model.specs.declared.changes.Stage.TheVariants.{Finished}
 use Rattle.reference_model.specs.declared.changes.Ticket.{Ticket}
 use Rattle.reference_model.specs.Parts.{has_stage}

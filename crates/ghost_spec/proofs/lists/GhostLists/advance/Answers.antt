@@ -1,7 +1,7 @@
 use Rattle.std.proofs.Common.{◌≡◌, ℕ, ◌<◌, Option, length, map, get_or, refl, sym, ap, subst, ◌∙◌}
 use Rattle.std.proofs.lemmas.List.{get_or-map}
 use Rattle.std.proofs.lemmas.Result.{IfOk-from_err, IfOk-at_ok}
-use Rattle.step_reply.specs.declared.reply.Reply.{Reply}
+use Rattle.call_table.specs.declared.reply.Reply.{Reply}
 use Rattle.page_state.specs.LayoutView.{layout_of}
 use Rattle.page_state.proofs.Common.{same2}
 use Rattle.reference_model.specs.Rules.{names, guest_slot}

@@ -1,11 +1,11 @@
 use Rattle.std.proofs.Common.{arith, rules, ◌≡◌, ◌∙◌, refl, sym, ap, true, false, Option, Some, None}
 use Rattle.std.proofs.lemmas.List.Elements.{All-set}
 use Rattle.page_state.specs.Geometries.{levels_below}
-use Rattle.guest_steps.specs.declared.parts.GuestPart.{GuestPart}
-use Rattle.guest_steps.specs.declared.parts.CpuState.{CpuState}
-use Rattle.guest_steps.specs.Lent.{lent_alone, lent_both, lent_guest, lent_shared, lent_vms}
-use Rattle.guest_steps.specs.Logs.{IsOfSize}
-use Rattle.guest_steps.specs.View.{cpu_of}
+use Rattle.part_types.specs.declared.parts.GuestPart.{GuestPart}
+use Rattle.part_types.specs.declared.parts.CpuState.{CpuState}
+use Rattle.part_types.specs.Lent.{lent_alone, lent_both, lent_guest, lent_shared, lent_vms}
+use Rattle.part_types.specs.Logs.{IsOfSize}
+use Rattle.part_types.specs.View.{cpu_of}
 use Rattle.hypercalls.specs.Stands.{HasHistory}
 use Rattle.hypercalls.specs.Whole.{IsStep}
 use Rattle.hypercalls.proofs.Lends.{alone_anywhere, vms_anywhere, guest_at, guest_suits, handed, known_here, own_at, slot_inside, stands, steps}

@@ -1,6 +1,6 @@
 use Rattle.std.proofs.Common.{rules, ◌≡◌, ◌≢◌, ℕ, ◌<◌, ◌+◌, length, sym, ap, ◌∙◌, refl, subst, inl}
 use Rattle.page_state.specs.declared.layout.Layout.{Layout as TheLayout}
-use Rattle.guest_steps.specs.declared.parts.CpuState.{CpuState}
+use Rattle.part_types.specs.declared.parts.CpuState.{CpuState}
 use Rattle.part_table.specs.declared.rule.View.{View}
 use Rattle.part_table.specs.declared.tries.Tried.TheVariants.{LogFull}
 use Rattle.part_table.specs.Passes.{Pass}

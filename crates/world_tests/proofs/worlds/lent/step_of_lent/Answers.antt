@@ -1,12 +1,12 @@
 use Rattle.std.proofs.Common.{arith, ◌≡◌, ◌∙◌, ◌<◌, ℕ, Bool, true, false, Option, Some, None, get_or, length, refl, slice_get, sym, ap, subst, Global}
-use Rattle.step_reply.specs.declared.step.Step.{Step}
+use Rattle.call_table.specs.declared.step.Step.{Step}
 use Rattle.reference_model.specs.Rules.{guest_slot, names}
 use Rattle.reference_model.specs.Reached.{IsReached}
-use Rattle.guest_steps.specs.declared.parts.GuestPart.{GuestPart}
-use Rattle.guest_steps.specs.declared.parts.CpuState.{CpuState}
-use Rattle.guest_steps.specs.Lent.{Lent, lent_alone, lent_both, lent_guest, lent_shared, lent_vms, used_in}
-use Rattle.guest_steps.specs.Logs.{IsOfSize}
-use Rattle.guest_steps.specs.View.{cpu_of}
+use Rattle.part_types.specs.declared.parts.GuestPart.{GuestPart}
+use Rattle.part_types.specs.declared.parts.CpuState.{CpuState}
+use Rattle.part_types.specs.Lent.{Lent, lent_alone, lent_both, lent_guest, lent_shared, lent_vms, used_in}
+use Rattle.part_types.specs.Logs.{IsOfSize}
+use Rattle.part_types.specs.View.{cpu_of}
 use Rattle.hypercalls.specs.declared.parts.Parts.{Parts}
 use Rattle.hypercalls.specs.Stands.{HasHistory, parts_layout}
 use Rattle.hypercalls.proofs.Lends.{all_get, guest_at, guest_suits, known_here, lends, own_at, slot_inside, stands}

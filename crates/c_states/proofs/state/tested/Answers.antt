@@ -1,0 +1,5 @@
+use Rattle.c_states.proofs.FilledStates.{first_fault}
+use Rattle.c_states.proofs.state.tested.Goals as goal
+
+pub returns-clause-fault : goal.returns-clause-fault
+returns-clause-fault c = first_fault c.args.lists.now c.of.result c.of.ensures.wrong_count c.of.ensures.too_large c.of.ensures.overlap c.of.ensures.table_twice c.of.ensures.frame_twice

@@ -1,0 +1,66 @@
+//! The tables that a walk has reached.
+ghost use Rattle.std.specs.Prelude.{◌≡◌, ◌++◌, ◌∷◌, [], ◌==◌, All, AllPairs, IfErr, OnOk, find};
+ghost use Rattle.c_tables.specs.Reached.{AreOtherFrames, IsStopped, IsOfFrame, reached_of};
+
+use ghost_trees::tree::Table;
+use std::alloc::AllocError;
+
+/// A table of a tree.
+#[derive(Clone, Copy, PartialEq)]
+pub struct Reached {
+    pub tree: u64,
+    pub table: Table,
+}
+
+/// Why a walk ends early.
+#[derive(Clone, Copy, PartialEq)]
+pub enum Stopped {
+    /// It comes to the frame of a table that it has been to: where it was then, and where it is now.
+    Again { first: Reached, second: Reached },
+    /// Memory was refused.
+    NoMemory,
+}
+
+impl From<AllocError> for Stopped {
+    ghost use Rattle.c_tables.specs.declared.reached.Stopped.TheVariants.{NoMemory};
+
+    ghost from_gives = { λ _ stopped. stopped ≡ NoMemory };
+
+    fn from(_error: AllocError) -> Stopped {
+        Stopped::NoMemory
+    }
+}
+
+/// The first table that has a frame.
+fn of_frame(met: &[Reached], frame: u64) -> Option<Reached>
+    ensures { result ≡ reached_of met.now frame }
+{
+    met.iter()
+        .copied()
+        .find(|reached| reached.table.frame == frame)
+}
+
+/// Adds a table that a walk comes to, unless it has been to the table's frame.
+pub(crate) fn reach(met: &mut Vec<Reached>, next: Reached) -> Result<(), Stopped>
+    requires apart { AllPairs AreOtherFrames met.old.items }
+    ensures met { OnOk result (met.new.items ≡ met.old.items ++ next ∷ []) }
+    ensures fresh { OnOk result (All (λ r. IsOfFrame next.table.frame r → ⊥) met.old.items) }
+    ensures stopped { IfErr result (IsStopped (met.old.items ++ next ∷ [])) }
+{
+    if let Some(first) = of_frame(met.as_slice(), next.table.frame) {
+        return Err(Stopped::Again {
+            first,
+            second: next,
+        });
+    }
+    add(met, next)?;
+    Ok(())
+}
+
+/// Adds a table.
+fn add(met: &mut Vec<Reached>, next: Reached) -> Result<(), AllocError>
+    ensures { OnOk result (met.new.items ≡ met.old.items ++ next ∷ []) }
+{
+    met.push(next)?;
+    Ok(())
+}

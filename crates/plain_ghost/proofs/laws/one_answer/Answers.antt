@@ -1,5 +1,0 @@
-use Rattle.plain_ghost.proofs.OneAnswer.{foretold_once, judged_once, state_once}
-use Rattle.plain_ghost.proofs.laws.one_answer.Goals as goal
-
-pub returns : goal.returns
-returns c = record { judged = judged_once; foretold = foretold_once; state = state_once }

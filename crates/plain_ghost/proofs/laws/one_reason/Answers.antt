@@ -1,6 +1,0 @@
-use Rattle.plain_ghost.proofs.OneAnswer.{fault_once}
-use Rattle.plain_ghost.proofs.OneReason.{layout_once, unjudged_once, unmade_once, untold_once}
-use Rattle.plain_ghost.proofs.laws.one_reason.Goals as goal
-
-pub returns : goal.returns
-returns c = record { layout = layout_once; lists = fault_once; made = unmade_once; foretold = untold_once; judged = unjudged_once }

@@ -1,6 +1,0 @@
--- The lists of a plain state.
-use Rattle.plain_ghost.specs.declared.state.PlainState.{PlainState}
-use Rattle.plain_ghost.specs.States.{Lists}
-
-abbrev pub lists_told : PlainState → Lists
-lists_told s = record { runs = s.runs.now; tables = s.tables.now; frames = s.frames.now; slots = s.slots.now; loads = s.loads.now; guests = s.guests.now; cpus = s.cpus.now; rows = s.rows.now }

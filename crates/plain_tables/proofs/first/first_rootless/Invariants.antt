@@ -1,6 +1,0 @@
-use Rattle.std.proofs.Common.{All, take}
-use Rattle.plain_tables.specs.Given.{HasPage}
-use Rattle.plain_tables.proofs.first.first_rootless.Given as goal
-
-abbrev pub invariant-loop-i : goal.invariant-loop-i
-invariant-loop-i l = All (HasPage l.pages) (take l.i l.roots)

@@ -1,5 +1,0 @@
-use Rattle.plain_tables.proofs.OneAnswer.{fault_once, trees_else}
-use Rattle.plain_tables.proofs.laws.one_answer.Goals as goal
-
-pub returns : goal.returns
-returns c = record { trees_else = trees_else; fault = fault_once }

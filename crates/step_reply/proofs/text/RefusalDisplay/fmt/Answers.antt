@@ -1,5 +1,0 @@
-use Rattle.std.proofs.Common.{rules}
-use Rattle.step_reply.proofs.text.RefusalDisplay.fmt.Goals as goal
-
-pub returns : goal.returns
-returns c = search rules
