@@ -1,5 +1,5 @@
 -- An object of a line nests no other.
-use Rattle.std.proofs.Common.{◌≡◌, ◌≤◌, ℕ, List, [], ◌∷◌, Option, Some, None, Bool, true, false, max, drop, length, option_map, option_and_then, refl, sym, ap, subst, ◌∙◌, arith, suc}
+use Rattle.std.proofs.Common.{◌≡◌, ℕ, List, [], ◌∷◌, Option, Some, None, Bool, true, false, drop, length, option_map, refl, ap, subst, suc}
 use Rattle.std.specs.Prelude.{⊤, codes, unwrap_or, if◌then◌else◌}
 use Rattle.std.specs.Ordering.{match_ordering, nat_cmp}
 use Rattle.std.specs.Cmp.Lexicographic.{slice_cmp}
@@ -61,8 +61,8 @@ filled_flat [] [] set all flat h = subst AreFlat (some_is h) flat
 filled_flat [] (byte ∷ text) set all flat h = cc
 filled_flat (field ∷ fields) text set all flat h =
     option_and_then_some _ (cut field.stop.now text) all h (λ parts is_cut next. option_and_then_some _ (data_of field.kind parts.0) all next (λ value is_value rest.
-      let low = datum_flat field.kind parts.0 value (if_some (has_kind field.kind parts.0) (datum field.kind parts.0) value is_value) in
-      filled_flat fields parts.1 (put field.name.now value set) all (put_flat field.name.now value low set flat) rest))
+    let low = datum_flat field.kind parts.0 value (if_some (has_kind field.kind parts.0) (datum field.kind parts.0) value is_value) in
+    filled_flat fields parts.1 (put field.name.now value set) all (put_flat field.name.now value low set flat) rest))
 
 -- the member `type` alone
 typed : (kind : List ℕ) → AreFlat (put (codes "type") (string kind) no_members)

@@ -54,7 +54,7 @@ filled [] [] set = Some set
 filled [] (byte ∷ text) set = None
 filled (field ∷ fields) text set =
     option_and_then (λ parts. option_and_then (λ value. filled fields parts.1 (put field.name.now value set)) (data_of field.kind parts.0))
-        (cut field.stop.now text)
+    (cut field.stop.now text)
 
 -- the object of a line of a form: its `type`, and the fields behind the form's start
 abbrev pub form_object : Form → List ℕ → Option Data

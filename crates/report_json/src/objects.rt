@@ -37,7 +37,12 @@ fn bytes_object(global: Global, line: &[u8]) -> Result<Value, AllocError>
 {
     let text = hex::encode(global, line)?;
     let mut members = Map::new(global);
-    put(&mut members, global, "type", Value::try_from_str(global, "bytes")?)?;
+    put(
+        &mut members,
+        global,
+        "type",
+        Value::try_from_str(global, "bytes")?,
+    )?;
     put(&mut members, global, "hexadecimal", Value::String(text))?;
     Ok(Value::Object(members))
 }
@@ -51,7 +56,12 @@ fn form_object(global: Global, form: &Form, line: &[u8]) -> Result<Option<Value>
         return Ok(None);
     }
     let mut members = Map::new(global);
-    put(&mut members, global, "type", Value::try_from_str(global, form.kind)?)?;
+    put(
+        &mut members,
+        global,
+        "type",
+        Value::try_from_str(global, form.kind)?,
+    )?;
     match filled(global, form.fields, &line[start.len()..], members)? {
         Some(members) => Ok(Some(Value::Object(members))),
         None => Ok(None),

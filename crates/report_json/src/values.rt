@@ -15,11 +15,7 @@ use trace_words::{decimal, number};
 const INEXACT: u64 = 1 << 53;
 
 /// The value of a field of this kind. None where the text isn't of the kind.
-pub fn value_of(
-    global: Global,
-    kind: Kind,
-    text: &[u8],
-) -> Result<Option<Value>, AllocError>
+pub fn value_of(global: Global, kind: Kind, text: &[u8]) -> Result<Option<Value>, AllocError>
     ensures { IfOk result (λ value. option_map view value ≡ data_of kind text.now) }
 {
     if !has_kind(kind, text) {

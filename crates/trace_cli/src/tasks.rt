@@ -51,8 +51,8 @@ impl Task {
     /// Whether the lines of the trace are carried out as they are read, which may take a while, and something is to be written.
     pub fn shows(self) -> bool {
         match self {
-            Task::Replay { output, .. } | Task::Race { output } | Task::Audit { output } =>
-                output != Output::Nothing,
+            Task::Replay { output, .. } | Task::Race { output } | Task::Audit { output } => output
+                != Output::Nothing,
             _ => false,
         }
     }
