@@ -101,13 +101,13 @@ HasDrawn false bytes outcome = IfSome bytes (λ all. EndsAsDrawn all outcome)
 
 -- what a task has made of these bytes has this outcome. What is recorded is in no clause here
 abbrev pub HasReport : Task → List ℕ → Option (List ℕ) → Outcome → Type 0
-HasReport (tasks.Replay heap looks quiet) path bytes outcome = HasReplayReport bytes outcome
-HasReport (tasks.Race quiet) path bytes outcome = HasRaceReport bytes outcome
-HasReport (tasks.Audit quiet) path bytes outcome = HasAuditReport bytes outcome
-HasReport (tasks.Outcomes limit quiet) path bytes outcome = HasOutcomes limit bytes outcome
-HasReport (tasks.Check looks quiet) path bytes outcome = HasChecked path bytes outcome
+HasReport (tasks.Replay heap looks output) path bytes outcome = HasReplayReport bytes outcome
+HasReport (tasks.Race output) path bytes outcome = HasRaceReport bytes outcome
+HasReport (tasks.Audit output) path bytes outcome = HasAuditReport bytes outcome
+HasReport (tasks.Outcomes limit output) path bytes outcome = HasOutcomes limit bytes outcome
+HasReport (tasks.Check looks output) path bytes outcome = HasChecked path bytes outcome
 HasReport tasks.Record path bytes outcome = outcome ≡ Clean
-HasReport (tasks.Explain line) path bytes outcome = HasExplained path line bytes outcome
+HasReport (tasks.Explain line output) path bytes outcome = HasExplained path line bytes outcome
 HasReport (tasks.Draw text) path bytes outcome = HasDrawn text bytes outcome
 
 -- what a fault is blamed on
@@ -201,14 +201,14 @@ module _ {F I E : Type 0} (bytes : F → Option (List ℕ)) (opens : List ℕ �
     (known : I → Option (List ℕ)) (may_fail : I → ℕ → ℕ → Type 0) (opens_image : List ℕ → Result I E → Type 0) where
   -- of what is asked
   abbrev pub HasAskedStatus : Asking → ℕ → Type 0
-  HasAskedStatus (Replaying file heap looks quiet) status = HasFileStatus bytes opens (tasks.Replay heap looks quiet) file status
-  HasAskedStatus (Racing file quiet) status = HasFileStatus bytes opens (tasks.Race quiet) file status
-  HasAskedStatus (Auditing file quiet) status = HasFileStatus bytes opens (tasks.Audit quiet) file status
-  HasAskedStatus (Finding file limit None quiet) status = HasFileStatus bytes opens (tasks.Outcomes limit quiet) file status
-  HasAskedStatus (Finding file limit (Some report) quiet) status = HasOrderStatus bytes opens file report limit status
-  HasAskedStatus (Checking files looks quiet) status = HasGreatestStatus bytes opens (tasks.Check looks quiet) files status
+  HasAskedStatus (Replaying file heap looks output) status = HasFileStatus bytes opens (tasks.Replay heap looks output) file status
+  HasAskedStatus (Racing file output) status = HasFileStatus bytes opens (tasks.Race output) file status
+  HasAskedStatus (Auditing file output) status = HasFileStatus bytes opens (tasks.Audit output) file status
+  HasAskedStatus (Finding file limit None output) status = HasFileStatus bytes opens (tasks.Outcomes limit output) file status
+  HasAskedStatus (Finding file limit (Some report) output) status = HasOrderStatus bytes opens file report limit status
+  HasAskedStatus (Checking files looks output) status = HasGreatestStatus bytes opens (tasks.Check looks output) files status
   HasAskedStatus (Recording file) status = HasFileStatus bytes opens tasks.Record file status
-  HasAskedStatus (Explaining file line) status = HasFileStatus bytes opens (tasks.Explain line) file status
+  HasAskedStatus (Explaining file line output) status = HasFileStatus bytes opens (tasks.Explain line output) file status
   HasAskedStatus (Generating seed steps cpus pages geometry hostile) status =
       (old : Option (List ℕ)) × (new : Option (List ℕ)) × IsMade steps (record { cpus = cpus; pages = pages; geometry = geometry; hostile = hostile }) old new status
   HasAskedStatus (Drawing file text) status = HasFileStatus bytes opens (tasks.Draw text) file status

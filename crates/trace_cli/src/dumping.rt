@@ -10,8 +10,9 @@ use crate::telling::REFUSED;
 use dump_words::{Given, NotGiven, read_words};
 use image_dump::{Dumped, Form, NotDumped, dump_image, dump_status};
 use memory_image::{ImageBytes, Refused};
+use report_json::{DUMPS, JsonLines};
 use std::io;
-use trace_command::Dump;
+use trace_command::{Dump, Output};
 
 /// The form of an image, by the address that `--base` gives.
 fn form_of(base: Option<u64>) -> Form
@@ -39,7 +40,7 @@ pub fn dumped<R: AllocGlobal + Print + Eprint, I: ImageBytes + Drop, O: OpensIma
         profiles,
         skips,
         base,
-        quiet,
+        output,
     } = dump;
     let given = match read_words(
         rt.alloc(),
@@ -54,7 +55,7 @@ pub fn dumped<R: AllocGlobal + Print + Eprint, I: ImageBytes + Drop, O: OpensIma
     };
     match files.open_image(path) {
         Ok(image) => {
-            let answer = written(rt, &image, form_of(base), &given, quiet);
+            let answer = written(rt, &image, form_of(base), &given, output);
             told(rt, path, answer);
             dump_status(answer)
         }
@@ -79,7 +80,7 @@ fn written<R: AllocGlobal + Print, I: ImageBytes>(
     image: &I,
     form: Form,
     given: &Given,
-    quiet: bool,
+    output: Output,
 ) -> Result<Dumped, NotDumped>
     requires roots { All IsRoot given.now.roots.items }
     requires few { length given.now.roots.items < 2 ^ 32 }
@@ -87,10 +88,14 @@ fn written<R: AllocGlobal + Print, I: ImageBytes>(
 {
     let roots = given.roots.as_slice();
     let skips = given.skips.as_slice();
-    if quiet {
-        return dump_image(rt.alloc(), image, form, roots, skips, &mut io::sink());
+    match output {
+        Output::Report => dump_image(rt.alloc(), image, form, roots, skips, &mut io::writer(rt)),
+        Output::Json => {
+            let mut lines = JsonLines::new(rt.alloc(), DUMPS, io::writer(rt));
+            dump_image(rt.alloc(), image, form, roots, skips, &mut lines)
+        }
+        Output::Nothing => dump_image(rt.alloc(), image, form, roots, skips, &mut io::sink()),
     }
-    dump_image(rt.alloc(), image, form, roots, skips, &mut io::writer(rt))
 }
 
 /// Tells on standard error why there is no report, where there is none.

@@ -6,8 +6,8 @@
 //! `trace_cli audit FILE` sets words and audits once.
 //! `trace_cli check FILE..` compares what lines report with what comments after them expect, `explain FILE` shows what each
 //! step looked at, `generate SEED STEPS` makes a trace, and `draw FILE` a picture of who
-//! owns what; `dump IMAGE` tells who owns what in an image of memory. The lines of a trace, its
-//! reports and each fault are explained in docs/TRACES.md.
+//! owns what; `dump IMAGE` tells who owns what in an image of memory. With `--json` a report's lines are JSON. The lines of a
+//! trace, its reports and each fault are explained in docs/TRACES.md, the JSON in docs/JSON.md.
 //!
 //! The exit status:
 //!
@@ -46,7 +46,7 @@ use std::thread::Threads;
 use std::{env, io};
 use tasks::{Opened, Task, order_status, status_of, unopened};
 use telling::{FAILED, refused};
-use trace_command::{Invocation, command};
+use trace_command::{Invocation, Output, command};
 use trace_generate::Options;
 
 /// Runs the program, and gives the exit status.
@@ -91,29 +91,43 @@ fn done<
             file,
             heap,
             looks,
-            quiet,
-        } => done_with(rt, files, file, Task::Replay { heap, looks, quiet }),
-        Invocation::Race { file, quiet } => done_with(rt, files, file, Task::Race { quiet }),
-        Invocation::Audit { file, quiet } => done_with(rt, files, file, Task::Audit { quiet }),
+            output,
+        } => done_with(
+            rt,
+            files,
+            file,
+            Task::Replay {
+                heap,
+                looks,
+                output,
+            },
+        ),
+        Invocation::Race { file, output } => done_with(rt, files, file, Task::Race { output }),
+        Invocation::Audit { file, output } => done_with(rt, files, file, Task::Audit { output }),
         Invocation::Outcomes {
             file,
             limit,
             observed: None,
-            quiet,
-        } => done_with(rt, files, file, Task::Outcomes { limit, quiet }),
+            output,
+        } => done_with(rt, files, file, Task::Outcomes { limit, output }),
         Invocation::Outcomes {
             file,
             limit,
             observed: Some(report),
-            quiet,
-        } => done_with_both(rt, files, file, report, limit, quiet),
+            output,
+        } => done_with_both(rt, files, file, report, limit, output),
         Invocation::Check {
             files: paths,
             looks,
-            quiet,
-        } => done_with_each(rt, files, paths.as_slice(), Task::Check { looks, quiet }),
+            output,
+        } => done_with_each(rt, files, paths.as_slice(), Task::Check { looks, output }),
         Invocation::Record { file } => done_with(rt, files, file, Task::Record),
-        Invocation::Explain { file, line } => done_with(rt, files, file, Task::Explain { line }),
+        Invocation::Explain { file, line, output } => done_with(
+            rt,
+            files,
+            file,
+            Task::Explain { line, output },
+        ),
         Invocation::Generate {
             seed,
             steps,
@@ -161,7 +175,7 @@ fn done_with<
 >(rt: &R, files: &O, path: &str, task: Task) -> u8
     ensures { HasFileStatus F.remaining (O.opens files.now) task path.now result }
 {
-    let file = files.open(path, task.is_run());
+    let file = files.open(path, task.shows());
     status_of(rt, Opened { task, path, file })
 }
 
@@ -172,7 +186,7 @@ fn done_with_both<R: AllocGlobal + Print + Eprint, F: io::Read + Drop, O: Opens<
     path: &str,
     report: &str,
     limit: u64,
-    quiet: bool,
+    output: Output,
 ) -> u8
     ensures { HasOrderStatus F.remaining (O.opens files.now) path.now report.now limit result }
 {
@@ -181,7 +195,7 @@ fn done_with_both<R: AllocGlobal + Print + Eprint, F: io::Read + Drop, O: Opens<
         Err(error) => return unopened(rt, path, error),
     };
     match files.open(report, false) {
-        Ok(observed) => order_status(rt, path, report, limit, quiet, file, observed),
+        Ok(observed) => order_status(rt, path, report, limit, output, file, observed),
         Err(error) => {
             drop(file);
             unopened(rt, report, error)

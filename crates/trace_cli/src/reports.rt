@@ -6,16 +6,22 @@ use crate::kept::{KeptReader, KeptWriter};
 use crate::telling::{no_memory, tell_beside};
 use cpu_threads::Open;
 use linked_list_allocator::LocalHeap;
+use report_json::{JsonLines, REPORTS};
 use std::alloc::Allocator;
-use std::io;
+use std::io::{self, Printer};
 use std::sync::Wait;
 use std::thread::Threads;
 use trace_audit::audit_buffered;
-use trace_command::Looks;
+use trace_command::{Looks, Output};
 use trace_faults::fault_told;
 use trace_race::{Halted, RaceFault, race_buffered};
 use trace_reader::Outcome;
 use trace_text::{Stopped, replay_at_end_buffered, replay_buffered};
+
+/// Standard output, to which a report's lines go as JSON.
+fn json_lines<'a, R: AllocGlobal + Print>(rt: &'a R) -> JsonLines<Printer<'a, R>> {
+    JsonLines::new(rt.alloc(), REPORTS, io::writer(rt))
+}
 
 /// Replays a trace with the trees' tables in a heap of this size, or in the machine's memory.
 pub fn replayed<R: AllocGlobal + Print + Eprint, F: io::Read + Drop>(
@@ -23,16 +29,16 @@ pub fn replayed<R: AllocGlobal + Print + Eprint, F: io::Read + Drop>(
     path: &str,
     heap: Option<usize>,
     looks: Looks,
-    quiet: bool,
+    output: Output,
     file: F,
 ) -> Result<Outcome, Halted>
     ensures { IfOk result (HasReplayReport (F.remaining file)) }
 {
     let Some(bytes) = heap else {
-        return replayed_in(rt, path, rt.alloc(), looks, quiet, file);
+        return replayed_in(rt, path, rt.alloc(), looks, output, file);
     };
     match LocalHeap::new(rt.alloc(), bytes) {
-        Ok(heap) => replayed_in(rt, path, &heap, looks, quiet, file),
+        Ok(heap) => replayed_in(rt, path, &heap, looks, output, file),
         Err(_) => Err(no_memory()),
     }
 }
@@ -43,15 +49,16 @@ fn replayed_in<R: AllocGlobal + Print + Eprint, A: Allocator + Copy, F: io::Read
     path: &str,
     alloc: A,
     looks: Looks,
-    quiet: bool,
+    output: Output,
     file: F,
 ) -> Result<Outcome, Halted>
     ensures { IfOk result (HasReplayReport (F.remaining file)) }
 {
-    if quiet {
-        return replayed_to(rt, path, alloc, looks, file, io::sink());
+    match output {
+        Output::Report => replayed_to(rt, path, alloc, looks, file, io::writer(rt)),
+        Output::Json => replayed_to(rt, path, alloc, looks, file, json_lines(rt)),
+        Output::Nothing => replayed_to(rt, path, alloc, looks, file, io::sink()),
     }
-    replayed_to(rt, path, alloc, looks, file, io::writer(rt))
 }
 
 fn replayed_to<
@@ -85,15 +92,16 @@ fn replayed_to<
 pub fn raced<R: AllocGlobal + Print + Eprint + Threads + Wait + Sync, F: io::Read + Drop>(
     rt: &R,
     path: &str,
-    quiet: bool,
+    output: Output,
     file: F,
 ) -> Result<Outcome, Halted>
     ensures { IfOk result (HasRaceReport (F.remaining file)) }
 {
-    if quiet {
-        return raced_to(rt, path, file, io::sink());
+    match output {
+        Output::Report => raced_to(rt, path, file, io::writer(rt)),
+        Output::Json => raced_to(rt, path, file, json_lines(rt)),
+        Output::Nothing => raced_to(rt, path, file, io::sink()),
     }
-    raced_to(rt, path, file, io::writer(rt))
 }
 
 fn raced_to<
@@ -122,15 +130,16 @@ fn raced_to<
 pub fn audited<R: AllocGlobal + Print + Eprint, F: io::Read + Drop>(
     rt: &R,
     path: &str,
-    quiet: bool,
+    output: Output,
     file: F,
 ) -> Result<Outcome, Halted>
     ensures { IfOk result (HasAuditReport (F.remaining file)) }
 {
-    if quiet {
-        return audited_to(rt, path, file, io::sink());
+    match output {
+        Output::Report => audited_to(rt, path, file, io::writer(rt)),
+        Output::Json => audited_to(rt, path, file, json_lines(rt)),
+        Output::Nothing => audited_to(rt, path, file, io::sink()),
     }
-    audited_to(rt, path, file, io::writer(rt))
 }
 
 fn audited_to<R: AllocGlobal + Eprint, F: io::Read + Drop, W: io::Write + Drop>(

@@ -8,7 +8,7 @@ use crate::texts::{checked, drawn, explained, order_told, outcomes_told, recorde
 use std::io;
 use std::sync::Wait;
 use std::thread::Threads;
-use trace_command::Looks;
+use trace_command::{Looks, Output};
 use trace_race::Halted;
 use trace_reader::{Outcome, exit_status};
 
@@ -18,28 +18,29 @@ pub enum Task {
     Replay {
         heap: Option<usize>,
         looks: Looks,
-        quiet: bool,
+        output: Output,
     },
     Race {
-        quiet: bool,
+        output: Output,
     },
     Audit {
-        quiet: bool,
+        output: Output,
     },
     /// Find all that the steps after `start` may be told, where no step has more points than this.
     Outcomes {
         limit: u64,
-        quiet: bool,
+        output: Output,
     },
     Check {
         looks: Looks,
-        quiet: bool,
+        output: Output,
     },
     /// Write the trace with its expectations filled in.
     Record,
     /// Show what each step looked at and changed, or that of one line.
     Explain {
         line: Option<u64>,
+        output: Output,
     },
     Draw {
         text: bool,
@@ -47,12 +48,13 @@ pub enum Task {
 }
 
 impl Task {
-    /// Whether the lines of the trace are carried out as they are read, which may take a while.
-    pub fn is_run(self) -> bool {
-        matches!(
-            self,
-            Task::Replay { .. } | Task::Race { .. } | Task::Audit { .. }
-        )
+    /// Whether the lines of the trace are carried out as they are read, which may take a while, and something is to be written.
+    pub fn shows(self) -> bool {
+        match self {
+            Task::Replay { output, .. } | Task::Race { output } | Task::Audit { output } => output
+                != Output::Nothing,
+            _ => false,
+        }
     }
 }
 
@@ -95,13 +97,13 @@ pub fn order_status<R: AllocGlobal + Print + Eprint, F: io::Read + Drop>(
     path: &str,
     name: &str,
     limit: u64,
-    quiet: bool,
+    output: Output,
     file: F,
     report: F,
 ) -> u8
     ensures { HasOrderAnswer name.now limit (F.remaining file) (F.remaining report) result }
 {
-    let answer = order_told(rt, path, name, limit, quiet, file, report);
+    let answer = order_told(rt, path, name, limit, output, file, report);
     told(rt, path, answer)
 }
 
@@ -130,13 +132,17 @@ fn answered<R: AllocGlobal + Print + Eprint + Threads + Wait + Sync, F: io::Read
     ensures { IfOk result (HasReport task path.now (F.remaining file)) }
 {
     match task {
-        Task::Replay { heap, looks, quiet } => replayed(rt, path, heap, looks, quiet, file),
-        Task::Race { quiet } => raced(rt, path, quiet, file),
-        Task::Audit { quiet } => audited(rt, path, quiet, file),
-        Task::Outcomes { limit, quiet } => outcomes_told(rt, path, limit, quiet, file),
-        Task::Check { looks, quiet } => checked(rt, path, looks, quiet, file),
+        Task::Replay {
+            heap,
+            looks,
+            output,
+        } => replayed(rt, path, heap, looks, output, file),
+        Task::Race { output } => raced(rt, path, output, file),
+        Task::Audit { output } => audited(rt, path, output, file),
+        Task::Outcomes { limit, output } => outcomes_told(rt, path, limit, output, file),
+        Task::Check { looks, output } => checked(rt, path, looks, output, file),
         Task::Record => recorded(rt, file),
-        Task::Explain { line } => explained(rt, path, line, file),
+        Task::Explain { line, output } => explained(rt, path, line, output, file),
         Task::Draw { text } => drawn(rt, path, text, file),
     }
 }

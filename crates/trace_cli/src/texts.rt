@@ -3,9 +3,10 @@ ghost use Rattle.std.specs.Prelude.{◌≡◌, IfOk, IfSome};
 ghost use Rattle.trace_cli.specs.Status.{EndsAsDrawn, EndsAsTold, HasChecked, HasDrawn, HasExplained, HasOrder, HasOutcomes, outcome_of_check as outcome_of_clean, outcome_of_end};
 
 use crate::telling::{no_memory, tell_beside};
+use report_json::{CHECKS, EXPLANATIONS, Form, JsonLines, OUTCOMES};
 use std::io::{self, ErrorKind, Write};
 use trace_check::{Watch, check, record};
-use trace_command::Looks;
+use trace_command::{Looks, Output};
 use trace_draw::{Ended, draw, draw_text};
 use trace_explain::explain;
 use trace_outcomes::{tell_order, tell_outcomes};
@@ -18,7 +19,7 @@ pub fn outcomes_told<R: AllocGlobal + Print + Eprint, F: io::Read + Drop>(
     rt: &R,
     path: &str,
     limit: u64,
-    quiet: bool,
+    output: Output,
     file: F,
 ) -> Result<Outcome, Halted>
     ensures { IfOk result (HasOutcomes limit (F.remaining file)) }
@@ -27,9 +28,7 @@ pub fn outcomes_told<R: AllocGlobal + Print + Eprint, F: io::Read + Drop>(
     let Ok(told) = tell_outcomes(rt.alloc(), trace.as_slice(), limit as usize) else {
         return Err(no_memory());
     };
-    if !quiet {
-        write(rt, told.text.as_slice())?;
-    }
+    show(rt, output, OUTCOMES, told.text.as_slice())?;
     tell_beside(rt, path, trace.as_slice(), told.fault, true)?;
     Ok(told.outcome)
 }
@@ -40,7 +39,7 @@ pub fn order_told<R: AllocGlobal + Print + Eprint, F: io::Read + Drop>(
     path: &str,
     name: &str,
     limit: u64,
-    quiet: bool,
+    output: Output,
     file: F,
     report: F,
 ) -> Result<Outcome, Halted>
@@ -57,9 +56,7 @@ pub fn order_told<R: AllocGlobal + Print + Eprint, F: io::Read + Drop>(
     ) else {
         return Err(no_memory());
     };
-    if !quiet {
-        write(rt, told.text.as_slice())?;
-    }
+    show(rt, output, OUTCOMES, told.text.as_slice())?;
     tell_beside(rt, path, trace.as_slice(), told.fault, true)?;
     Ok(told.outcome)
 }
@@ -69,7 +66,7 @@ pub fn checked<R: AllocGlobal + Print, F: io::Read + Drop>(
     rt: &R,
     path: &str,
     looks: Looks,
-    quiet: bool,
+    output: Output,
     file: F,
 ) -> Result<Outcome, Halted>
     ensures { IfOk result (HasChecked path.now (F.remaining file)) }
@@ -82,9 +79,7 @@ pub fn checked<R: AllocGlobal + Print, F: io::Read + Drop>(
     let Ok(checked) = check(rt.alloc(), rt.alloc(), path, trace.as_slice(), watch) else {
         return Err(no_memory());
     };
-    if !quiet {
-        write(rt, checked.text.as_slice())?;
-    }
+    show(rt, output, CHECKS, checked.text.as_slice())?;
     Ok(outcome_of_check(checked.clean))
 }
 
@@ -119,6 +114,7 @@ pub fn explained<R: AllocGlobal + Print + Eprint, F: io::Read + Drop>(
     rt: &R,
     path: &str,
     line: Option<u64>,
+    output: Output,
     file: F,
 ) -> Result<Outcome, Halted>
     ensures { IfOk result (HasExplained path.now line (F.remaining file)) }
@@ -127,7 +123,7 @@ pub fn explained<R: AllocGlobal + Print + Eprint, F: io::Read + Drop>(
     let Ok(explained) = explain(rt.alloc(), rt.alloc(), path, trace.as_slice(), line) else {
         return Err(no_memory());
     };
-    write(rt, explained.text.as_slice())?;
+    show(rt, output, EXPLANATIONS, explained.text.as_slice())?;
     // The text tells the place of a fault itself.
     if explained.outcome == Outcome::Clean {
         tell_beside(rt, path, trace.as_slice(), None, false)?;
@@ -203,9 +199,28 @@ fn whole<R: AllocGlobal, F: io::Read + Drop>(rt: &R, file: F) -> Result<Vec<u8>,
     }
 }
 
+/// Writes a report whose lines have these forms to standard output, or to nothing.
+fn show<R: AllocGlobal + Print>(
+    rt: &R,
+    output: Output,
+    forms: &'static [Form],
+    text: &[u8],
+) -> Result<(), Halted> {
+    match output {
+        Output::Report => write(rt, text),
+        Output::Json => written(JsonLines::new(rt.alloc(), forms, io::writer(rt)).write_all(text)),
+        Output::Nothing => Ok(()),
+    }
+}
+
 /// Writes to standard output.
 fn write<R: Print>(rt: &R, text: &[u8]) -> Result<(), Halted> {
-    match io::writer(rt).write_all(text) {
+    written(io::writer(rt).write_all(text))
+}
+
+/// What came of a write to standard output.
+fn written(answer: io::Result<()>) -> Result<(), Halted> {
+    match answer {
         Ok(()) => Ok(()),
         Err(error) => Err(Halted {
             fault: RaceFault::Engine(EngineFault::Write),

@@ -13,6 +13,7 @@ use Rattle.clap.specs.Simple.{Shape, built_leaf, inherited, marked_built, with_l
 use Rattle.clap.specs.Walk.{Held, Rule, Step, Text, Waiting, Walk, after_step, arg_by_index, finished, idle, long_or_other, nothing_held, plain_word, settled, short_or_plain, subcommand_or_other, to_positional, trailing, value, walk, walk_from, walked}
 use Rattle.clap.specs.Words.{App, is_simple_and_free, kind_of}
 use Rattle.trace_words.specs.Numbers.{number_of}
+use Rattle.trace_command.specs.declared.words.Output.TheVariants.{Report}
 use Rattle.trace_command.specs.Words.{audit, check, draw, dump, explain, generate, outcomes, program, race, replay}
 use Rattle.trace_command.specs.Asked.{Asking, Auditing, Checking, Drawing, Dumping, Explaining, Finding, Generating, Gives, IsPlain, IsRead, IsRefused, Racing, Replaying, Takes, asked_by, asked_in, heap_told, of_core}
 use Rattle.trace_command.specs.declared.words.Invocation.{Invocation}
@@ -107,7 +108,7 @@ module _ (name file : Text) (plain : strip_byte 45 file ≡ None) where
   unfolding clap_on_literals
   replay_none = ap (λ k. or_else k []) (one_none (leaf replay) refl file plain refl)
 
-  replay_asked : asked_by (name ∷ codes "replay" ∷ file ∷ []) ≡ Some (Replaying file None Each false)
+  replay_asked : asked_by (name ∷ codes "replay" ∷ file ∷ []) ≡ Some (Replaying file None Each Report)
   unfolding clap_on_literals
   replay_asked = ap (λ (w : Walk). asked_in (codes "replay", finished (leaf replay).rules w.held)) (one_walk (leaf replay) refl file plain)
 
@@ -115,7 +116,7 @@ module _ (name file : Text) (plain : strip_byte 45 file ≡ None) where
   unfolding clap_on_literals
   race_none = ap (λ k. or_else k []) (one_none (leaf race) refl file plain refl)
 
-  race_asked : asked_by (name ∷ codes "race" ∷ file ∷ []) ≡ Some (Racing file false)
+  race_asked : asked_by (name ∷ codes "race" ∷ file ∷ []) ≡ Some (Racing file Report)
   unfolding clap_on_literals
   race_asked = ap (λ (w : Walk). asked_in (codes "race", finished (leaf race).rules w.held)) (one_walk (leaf race) refl file plain)
 
@@ -123,7 +124,7 @@ module _ (name file : Text) (plain : strip_byte 45 file ≡ None) where
   unfolding clap_on_literals
   audit_none = ap (λ k. or_else k []) (one_none (leaf audit) refl file plain refl)
 
-  audit_asked : asked_by (name ∷ codes "audit" ∷ file ∷ []) ≡ Some (Auditing file false)
+  audit_asked : asked_by (name ∷ codes "audit" ∷ file ∷ []) ≡ Some (Auditing file Report)
   unfolding clap_on_literals
   audit_asked = ap (λ (w : Walk). asked_in (codes "audit", finished (leaf audit).rules w.held)) (one_walk (leaf audit) refl file plain)
 
@@ -131,7 +132,7 @@ module _ (name file : Text) (plain : strip_byte 45 file ≡ None) where
   unfolding clap_on_literals
   outcomes_none = ap (λ k. or_else k []) (one_none (leaf outcomes) refl file plain refl)
 
-  outcomes_asked : asked_by (name ∷ codes "outcomes" ∷ file ∷ []) ≡ Some (Finding file 100000 None false)
+  outcomes_asked : asked_by (name ∷ codes "outcomes" ∷ file ∷ []) ≡ Some (Finding file 100000 None Report)
   unfolding clap_on_literals
   outcomes_asked = ap (λ (w : Walk). asked_in (codes "outcomes", finished (leaf outcomes).rules w.held)) (one_walk (leaf outcomes) refl file plain)
 
@@ -139,7 +140,7 @@ module _ (name file : Text) (plain : strip_byte 45 file ≡ None) where
   unfolding clap_on_literals
   check_none = ap (λ k. or_else k []) (one_none (leaf check) refl file plain refl)
 
-  check_asked : asked_by (name ∷ codes "check" ∷ file ∷ []) ≡ Some (Checking (file ∷ []) Each false)
+  check_asked : asked_by (name ∷ codes "check" ∷ file ∷ []) ≡ Some (Checking (file ∷ []) Each Report)
   unfolding clap_on_literals
   check_asked = ap (λ (w : Walk). asked_in (codes "check", finished (leaf check).rules w.held)) (one_walk (leaf check) refl file plain)
 
@@ -147,7 +148,7 @@ module _ (name file : Text) (plain : strip_byte 45 file ≡ None) where
   unfolding clap_on_literals
   explain_none = ap (λ k. or_else k []) (one_none (leaf explain) refl file plain refl)
 
-  explain_asked : asked_by (name ∷ codes "explain" ∷ file ∷ []) ≡ Some (Explaining file None)
+  explain_asked : asked_by (name ∷ codes "explain" ∷ file ∷ []) ≡ Some (Explaining file None Report)
   unfolding clap_on_literals
   explain_asked = ap (λ (w : Walk). asked_in (codes "explain", finished (leaf explain).rules w.held)) (one_walk (leaf explain) refl file plain)
 
@@ -166,7 +167,7 @@ module _ (name : Text) where
   unfolding clap_on_literals
   input_none = refl
 
-  input_asked : asked_by (name ∷ codes "replay" ∷ codes "-" ∷ []) ≡ Some (Replaying (codes "-") None Each false)
+  input_asked : asked_by (name ∷ codes "replay" ∷ codes "-" ∷ []) ≡ Some (Replaying (codes "-") None Each Report)
   unfolding clap_on_literals
   input_asked = refl
 
@@ -226,11 +227,11 @@ module _ (name file bytes : Text) (plain : strip_byte 45 file ≡ None) (plain_b
   unfolding clap_on_literals
   heap_none = ap (λ k. or_else k []) heap_level
 
-  heap_asked : asked_by (name ∷ codes "replay" ∷ given) ≡ option_map (λ heap. Replaying file heap Each false) (heap_told (Some bytes))
+  heap_asked : asked_by (name ∷ codes "replay" ∷ given) ≡ option_map (λ heap. Replaying file heap Each Report) (heap_told (Some bytes))
   unfolding clap_on_literals
   heap_asked = ap (λ (w : Walk). asked_in (codes "replay", finished (leaf replay).rules w.held)) heap_walk ∙ always (heap_told (Some bytes))
     where
-      always : (o : Option (Option ℕ)) → option_and_then (λ heap. option_map (λ looks. Replaying file heap looks false) (Some Each)) o ≡ option_map (λ heap. Replaying file heap Each false) o
+      always : (o : Option (Option ℕ)) → option_and_then (λ heap. option_map (λ looks. Replaying file heap looks Report) (Some Each)) o ≡ option_map (λ heap. Replaying file heap Each Report) o
       always None = refl
       always (Some heap) = refl
 
@@ -448,11 +449,11 @@ takes_of words r read = record {
         let plain = plain_of file other in
         let plain_bytes = plain_of bytes other_bytes in
         taken words _ r _ is (heap_none name file bytes plain plain_bytes)
-        (heap_asked name file bytes plain plain_bytes ∙ ap (λ o. option_map (λ heap. Replaying file heap Each false) (option_map (λ size. Some size) o)) says) read;
+        (heap_asked name file bytes plain plain_bytes ∙ ap (λ o. option_map (λ heap. Replaying file heap Each Report) (option_map (λ size. Some size) o)) says) read;
     no_size = λ name file bytes is other other_bytes says.
         let plain = plain_of file other in
         let plain_bytes = plain_of bytes other_bytes in
-        unasked words r (ap asked_by is ∙ heap_asked name file bytes plain plain_bytes ∙ ap (λ o. option_map (λ heap. Replaying file heap Each false) (option_map (λ size. Some size) o)) says) read;
+        unasked words r (ap asked_by is ∙ heap_asked name file bytes plain plain_bytes ∙ ap (λ o. option_map (λ heap. Replaying file heap Each Report) (option_map (λ size. Some size) o)) says) read;
     no_heap = λ name subcommand file bytes which is other. heapless words r name subcommand file bytes which is (plain_of file other) read;
   };
   race = λ name file is other. let plain = plain_of file other in taken words _ r _ is (race_none name file plain) (race_asked name file plain) read;

@@ -14,6 +14,8 @@ use Rattle.trace_command.specs.declared.words.Invocation.{Invocation}
 use Rattle.trace_command.specs.declared.words.Invocation.TheVariants as invocation
 use Rattle.trace_command.specs.declared.words.Looks.{Looks}
 use Rattle.trace_command.specs.declared.words.Looks.TheVariants.{Each, End}
+use Rattle.trace_command.specs.declared.words.Output.{Output}
+use Rattle.trace_command.specs.declared.words.Output.TheVariants.{Report, Json, Nothing}
 use Rattle.trace_command.specs.declared.words.UsageFault.{UsageFault}
 use Rattle.trace_command.specs.declared.words.UsageFault.TheVariants.{NoMemory, Usage}
 use Rattle.trace_command.specs.Words.{program}
@@ -28,20 +30,20 @@ pub record DumpAsked : Type 0 where
   pub skips : List Text
   -- the physical address of a raw image's first byte
   pub base : Option ℕ
-  pub quiet : Bool
+  pub output : Output
 
 -- what may be asked for
 pub data Asking : Type 0 where
-  -- the file, the heap's bytes, when the oracle looks, and whether the report is left out
-  Replaying : Text → Option ℕ → Looks → Bool → Asking
-  Racing : Text → Bool → Asking
-  Auditing : Text → Bool → Asking
-  -- the file, the points of a step, the report that was observed, and whether the report is left out
-  Finding : Text → ℕ → Option Text → Bool → Asking
-  Checking : List Text → Looks → Bool → Asking
+  -- the file, the heap's bytes, when the oracle looks, and how the report is written
+  Replaying : Text → Option ℕ → Looks → Output → Asking
+  Racing : Text → Output → Asking
+  Auditing : Text → Output → Asking
+  -- the file, the points of a step, the report that was observed, and how the own one is written
+  Finding : Text → ℕ → Option Text → Output → Asking
+  Checking : List Text → Looks → Output → Asking
   Recording : Text → Asking
   -- the line that is shown, where it is one
-  Explaining : Text → Option ℕ → Asking
+  Explaining : Text → Option ℕ → Output → Asking
   -- the seed, the steps, the CPUs, the pages, the geometry, and the calls in a hundred that are to be refused
   Generating : ℕ → ℕ → ℕ → ℕ → ℕ → ℕ → Asking
   -- whether as text
@@ -57,17 +59,17 @@ dump_asked d = record {
   profiles = map (λ word. word.now) d.profiles.items;
   skips = map (λ word. word.now) d.skips.items;
   base = d.base;
-  quiet = d.quiet;
+  output = d.output;
 }
 
 abbrev pub asking_of : Invocation → Asking
-asking_of (invocation.Replay file heap looks quiet) = Replaying file.now heap looks quiet
-asking_of (invocation.Race file quiet) = Racing file.now quiet
-asking_of (invocation.Audit file quiet) = Auditing file.now quiet
-asking_of (invocation.Outcomes file limit observed quiet) = Finding file.now limit (option_map (λ report. report.now) observed) quiet
-asking_of (invocation.Check files looks quiet) = Checking (map (λ file. file.now) files.items) looks quiet
+asking_of (invocation.Replay file heap looks output) = Replaying file.now heap looks output
+asking_of (invocation.Race file output) = Racing file.now output
+asking_of (invocation.Audit file output) = Auditing file.now output
+asking_of (invocation.Outcomes file limit observed output) = Finding file.now limit (option_map (λ report. report.now) observed) output
+asking_of (invocation.Check files looks output) = Checking (map (λ file. file.now) files.items) looks output
 asking_of (invocation.Record file) = Recording file.now
-asking_of (invocation.Explain file line) = Explaining file.now line
+asking_of (invocation.Explain file line output) = Explaining file.now line output
 asking_of (invocation.Generate seed steps cpus pages geometry hostile) = Generating seed steps cpus pages geometry hostile
 asking_of (invocation.Draw file text) = Drawing file.now text
 asking_of (invocation.Dump dump) = Dumping (dump_asked dump)
@@ -118,30 +120,34 @@ base_told (Some word) = option_map (λ base. Some base) (number_of word)
 abbrev pub is_set : Text → List Row → Bool
 is_set id rows = option_map_or (λ word. bytes_eq word (codes "true")) (first_of id rows) false
 
+-- how the report is written: not at all under `--quiet`, also where `--json` is given
+abbrev pub output_in : List Row → Output
+output_in rows = if is_set (codes "quiet") rows then Nothing else (if is_set (codes "json") rows then Json else Report)
+
 -- ---- what a subcommand is asked for, by the values that clap has found
 
 abbrev pub replaying : List Row → Option Asking
 replaying rows =
-    option_and_then (λ file. option_and_then (λ heap. option_map (λ looks. Replaying file heap looks (is_set (codes "quiet") rows)) (looks_told (first_of (codes "oracle") rows)))
+    option_and_then (λ file. option_and_then (λ heap. option_map (λ looks. Replaying file heap looks (output_in rows)) (looks_told (first_of (codes "oracle") rows)))
     (heap_told (first_of (codes "heap") rows))) (first_of (codes "FILE") rows)
 
 abbrev pub racing : List Row → Option Asking
-racing rows = option_map (λ file. Racing file (is_set (codes "quiet") rows)) (first_of (codes "FILE") rows)
+racing rows = option_map (λ file. Racing file (output_in rows)) (first_of (codes "FILE") rows)
 
 abbrev pub auditing : List Row → Option Asking
-auditing rows = option_map (λ file. Auditing file (is_set (codes "quiet") rows)) (first_of (codes "FILE") rows)
+auditing rows = option_map (λ file. Auditing file (output_in rows)) (first_of (codes "FILE") rows)
 
 -- a trace and a report that are both standard input
 abbrev pub are_both_input : Text → Option Text → Bool
 are_both_input file observed = option_map_or (λ report. bytes_eq file (codes "-") && bytes_eq report (codes "-")) observed false
 
 -- one of the two at most is standard input
-abbrev pub finding_in : Text → Option Text → ℕ → Bool → Option Asking
-finding_in file observed limit quiet = if are_both_input file observed then None else Some (Finding file limit observed quiet)
+abbrev pub finding_in : Text → Option Text → ℕ → Output → Option Asking
+finding_in file observed limit output = if are_both_input file observed then None else Some (Finding file limit observed output)
 
 abbrev pub finding : List Row → Option Asking
 finding rows =
-    option_and_then (λ file. option_and_then (λ limit. finding_in file (first_of (codes "observed") rows) limit (is_set (codes "quiet") rows)) (limit_told (first_of (codes "limit") rows)))
+    option_and_then (λ file. option_and_then (λ limit. finding_in file (first_of (codes "observed") rows) limit (output_in rows)) (limit_told (first_of (codes "limit") rows)))
     (first_of (codes "FILE") rows)
 
 -- `check --record` takes one file
@@ -152,11 +158,11 @@ recording (file ∷ more ∷ files) = None
 
 abbrev pub checking : List Row → Option Asking
 checking rows =
-    option_and_then (λ files. option_and_then (λ looks. if is_set (codes "record") rows then recording files else Some (Checking files looks (is_set (codes "quiet") rows)))
+    option_and_then (λ files. option_and_then (λ looks. if is_set (codes "record") rows then recording files else Some (Checking files looks (output_in rows)))
     (looks_told (first_of (codes "oracle") rows))) (all_of (codes "FILE") rows)
 
 abbrev pub explaining : List Row → Option Asking
-explaining rows = option_and_then (λ file. option_map (Explaining file) (line_told (first_of (codes "line") rows))) (first_of (codes "FILE") rows)
+explaining rows = option_and_then (λ file. option_map (λ line. Explaining file line (output_in rows)) (line_told (first_of (codes "line") rows))) (first_of (codes "FILE") rows)
 
 abbrev pub generating : List Row → Option Asking
 generating rows =
@@ -180,7 +186,7 @@ dump_in rows image host hyp base = record {
   profiles = words_given (codes "profile") rows;
   skips = words_given (codes "skip") rows;
   base = base;
-  quiet = is_set (codes "quiet") rows;
+  output = output_in rows;
 }
 
 abbrev pub dumping : List Row → Option Asking
@@ -230,25 +236,25 @@ IsPlain word = slice_get word 0 ≢ Some 45
 
 -- an ELF core, of which nothing is known but both roots
 abbrev pub of_core : Text → Text → Text → DumpAsked
-of_core image host hyp = record { image = image; host = host; hyp = hyp; guests = []; profiles = []; skips = []; base = None; quiet = false }
+of_core image host hyp = record { image = image; host = host; hyp = hyp; guests = []; profiles = []; skips = []; base = None; output = Report }
 
 -- the heap that `replay` takes, with its size, and that a race and an audit take none
 pub record TakesHeaps (words : List Text) (r : Result Invocation UsageFault) : Type 0 where
   pub heap : (name file bytes : Text) (size : ℕ) → words ≡ name ∷ codes "replay" ∷ file ∷ codes "--heap" ∷ bytes ∷ [] → IsPlain file → IsPlain bytes → heap_size bytes ≡ Some size
-      → Gives (Replaying file (Some size) Each false) r
+      → Gives (Replaying file (Some size) Each Report) r
   pub no_size : (name file bytes : Text) → words ≡ name ∷ codes "replay" ∷ file ∷ codes "--heap" ∷ bytes ∷ [] → IsPlain file → IsPlain bytes → heap_size bytes ≡ None → IsRefused r
   pub no_heap : (name subcommand file bytes : Text) → (subcommand ≡ codes "race") ⊎ (subcommand ≡ codes "audit") → words ≡ name ∷ subcommand ∷ file ∷ codes "--heap" ∷ bytes ∷ [] → IsPlain file → IsRefused r
 
 -- the words that are taken, the program's name first, and what they ask for
 pub record Takes (words : List Text) (r : Result Invocation UsageFault) : Type 0 where
-  pub replay : (name file : Text) → words ≡ name ∷ codes "replay" ∷ file ∷ [] → IsPlain file → Gives (Replaying file None Each false) r
-  pub input : (name : Text) → words ≡ name ∷ codes "replay" ∷ codes "-" ∷ [] → Gives (Replaying (codes "-") None Each false) r
+  pub replay : (name file : Text) → words ≡ name ∷ codes "replay" ∷ file ∷ [] → IsPlain file → Gives (Replaying file None Each Report) r
+  pub input : (name : Text) → words ≡ name ∷ codes "replay" ∷ codes "-" ∷ [] → Gives (Replaying (codes "-") None Each Report) r
   pub heaps : TakesHeaps words r
-  pub race : (name file : Text) → words ≡ name ∷ codes "race" ∷ file ∷ [] → IsPlain file → Gives (Racing file false) r
-  pub outcomes : (name file : Text) → words ≡ name ∷ codes "outcomes" ∷ file ∷ [] → IsPlain file → Gives (Finding file 100000 None false) r
-  pub audit : (name file : Text) → words ≡ name ∷ codes "audit" ∷ file ∷ [] → IsPlain file → Gives (Auditing file false) r
-  pub check : (name file : Text) → words ≡ name ∷ codes "check" ∷ file ∷ [] → IsPlain file → Gives (Checking (file ∷ []) Each false) r
-  pub explain : (name file : Text) → words ≡ name ∷ codes "explain" ∷ file ∷ [] → IsPlain file → Gives (Explaining file None) r
+  pub race : (name file : Text) → words ≡ name ∷ codes "race" ∷ file ∷ [] → IsPlain file → Gives (Racing file Report) r
+  pub outcomes : (name file : Text) → words ≡ name ∷ codes "outcomes" ∷ file ∷ [] → IsPlain file → Gives (Finding file 100000 None Report) r
+  pub audit : (name file : Text) → words ≡ name ∷ codes "audit" ∷ file ∷ [] → IsPlain file → Gives (Auditing file Report) r
+  pub check : (name file : Text) → words ≡ name ∷ codes "check" ∷ file ∷ [] → IsPlain file → Gives (Checking (file ∷ []) Each Report) r
+  pub explain : (name file : Text) → words ≡ name ∷ codes "explain" ∷ file ∷ [] → IsPlain file → Gives (Explaining file None Report) r
   pub generate : (name seed steps : Text) (n count : ℕ) → words ≡ name ∷ codes "generate" ∷ seed ∷ steps ∷ [] → IsPlain seed → IsPlain steps → number_of seed ≡ Some n → number_of steps ≡ Some count
       → Gives (Generating n count 4 2048 39 0) r
   pub dump : (name image host hyp : Text) → words ≡ name ∷ codes "dump" ∷ image ∷ codes "--host" ∷ host ∷ codes "--hyp" ∷ hyp ∷ [] → IsPlain image → IsPlain host → IsPlain hyp

@@ -28,34 +28,41 @@ options id = record (new_rule id) { long = Some id; value_names = 1; action = So
 abbrev pub flag : Text → Rule
 flag id = record (new_rule id) { long = Some id; action = Some SetTrue }
 
--- `FILE`, `--oracle WHEN` and `--quiet`
+-- `FILE`, `--oracle WHEN`, `--json` and `--quiet`
 abbrev pub file : Rule
 file = needed (codes "FILE")
 
 abbrev pub oracle : Rule
 oracle = option (codes "oracle")
 
+abbrev pub json : Rule
+json = flag (codes "json")
+
 abbrev pub quiet : Rule
 quiet = flag (codes "quiet")
 
+-- a subcommand that also takes how its report is written
+abbrev pub reporting : App → App
+reporting app = with_rule (with_rule app json) quiet
+
 -- the subcommands, by what they take
 abbrev pub replay : App
-replay = with_rule (with_rule (with_rule (with_rule (new_app (codes "replay")) file) (option (codes "heap"))) oracle) quiet
+replay = reporting (with_rule (with_rule (with_rule (new_app (codes "replay")) file) (option (codes "heap"))) oracle)
 
 abbrev pub race : App
-race = with_rule (with_rule (new_app (codes "race")) file) quiet
+race = reporting (with_rule (new_app (codes "race")) file)
 
 abbrev pub audit : App
-audit = with_rule (with_rule (new_app (codes "audit")) file) quiet
+audit = reporting (with_rule (new_app (codes "audit")) file)
 
 abbrev pub outcomes : App
-outcomes = with_rule (with_rule (with_rule (with_rule (new_app (codes "outcomes")) file) (option (codes "limit"))) (option (codes "observed"))) quiet
+outcomes = reporting (with_rule (with_rule (with_rule (new_app (codes "outcomes")) file) (option (codes "limit"))) (option (codes "observed")))
 
 abbrev pub check : App
-check = with_rule (with_rule (with_rule (with_rule (new_app (codes "check")) files) (flag (codes "record"))) oracle) quiet
+check = reporting (with_rule (with_rule (with_rule (new_app (codes "check")) files) (flag (codes "record"))) oracle)
 
 abbrev pub explain : App
-explain = with_rule (with_rule (new_app (codes "explain")) file) (option (codes "line"))
+explain = reporting (with_rule (with_rule (new_app (codes "explain")) file) (option (codes "line")))
 
 abbrev pub generate : App
 generate =
@@ -69,7 +76,7 @@ abbrev pub roots : App
 roots = with_rule (with_rule (with_rule (with_rule (new_app (codes "dump")) (needed (codes "IMAGE"))) (needed_option (codes "host"))) (needed_option (codes "hyp"))) (options (codes "guest"))
 
 abbrev pub dump : App
-dump = with_rule (with_rule (with_rule (with_rule roots (options (codes "profile"))) (options (codes "skip"))) (option (codes "base"))) quiet
+dump = reporting (with_rule (with_rule (with_rule roots (options (codes "profile"))) (options (codes "skip"))) (option (codes "base")))
 
 -- the program: it needs a subcommand, shows help without words, and has a version
 abbrev pub named : App

@@ -22,13 +22,14 @@ ghost use Rattle.trace_command.specs.Asked.{
   line_told,
   looks_told,
   number_told,
+  output_in,
   racing,
   recording,
   replaying,
 };
 
 use crate::heap_size::heap_size;
-use crate::words::{Dump, Invocation, Looks};
+use crate::words::{Dump, Invocation, Looks, Output};
 use clap::ArgMatches;
 use std::alloc::{AllocError, Global};
 use trace_words::number;
@@ -188,6 +189,19 @@ fn is_set(inner: &ArgMatches<'_>, id: &str) -> bool
     }
 }
 
+/// How the report is to be written.
+fn output(inner: &ArgMatches<'_>) -> Output
+    ensures { result ≡ output_in (rows_of (found_of inner.now)) }
+{
+    if is_set(inner, "quiet") {
+        return Output::Nothing;
+    }
+    if is_set(inner, "json") {
+        return Output::Json;
+    }
+    Output::Report
+}
+
 /// A number that must be given.
 fn number_of(inner: &ArgMatches<'_>, id: &str) -> Result<u64, Unread>
     ensures { IsReadAs (option_and_then number_said (first_of id.now (rows_of (found_of inner.now)))) (λ value. value) result }
@@ -297,7 +311,7 @@ fn replay_asked<'a>(inner: &ArgMatches<'a>) -> Result<Invocation<'a>, Unread>
         file,
         heap,
         looks,
-        quiet: is_set(inner, "quiet"),
+        output: output(inner),
     })
 }
 
@@ -306,7 +320,7 @@ fn race_asked<'a>(inner: &ArgMatches<'a>) -> Result<Invocation<'a>, Unread>
 {
     Ok(Invocation::Race {
         file: file(inner)?,
-        quiet: is_set(inner, "quiet"),
+        output: output(inner),
     })
 }
 
@@ -315,7 +329,7 @@ fn audit_asked<'a>(inner: &ArgMatches<'a>) -> Result<Invocation<'a>, Unread>
 {
     Ok(Invocation::Audit {
         file: file(inner)?,
-        quiet: is_set(inner, "quiet"),
+        output: output(inner),
     })
 }
 
@@ -332,7 +346,7 @@ fn outcomes_asked<'a>(inner: &ArgMatches<'a>) -> Result<Invocation<'a>, Unread>
         file,
         limit,
         observed,
-        quiet: is_set(inner, "quiet"),
+        output: output(inner),
     })
 }
 
@@ -357,7 +371,7 @@ fn check_asked<'a>(global: Global, inner: &ArgMatches<'a>) -> Result<Invocation<
     Ok(Invocation::Check {
         files,
         looks,
-        quiet: is_set(inner, "quiet"),
+        output: output(inner),
     })
 }
 
@@ -376,7 +390,8 @@ fn explain_asked<'a>(inner: &ArgMatches<'a>) -> Result<Invocation<'a>, Unread>
 {
     let file = file(inner)?;
     let line = line(inner)?;
-    Ok(Invocation::Explain { file, line })
+    let output = output(inner);
+    Ok(Invocation::Explain { file, line, output })
 }
 
 fn generate_asked<'a>(inner: &ArgMatches<'a>) -> Result<Invocation<'a>, Unread>
@@ -416,7 +431,7 @@ fn dump_asked<'a>(global: Global, inner: &ArgMatches<'a>) -> Result<Invocation<'
         profiles,
         skips,
         base,
-        quiet: is_set(inner, "quiet"),
+        output: output(inner),
     }))
 }
 

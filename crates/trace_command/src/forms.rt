@@ -19,6 +19,7 @@ ghost use Rattle.trace_command.specs.Words.{
   program,
   race as race_app,
   replay as replay_app,
+  reporting as reporting_app,
 };
 ghost use Rattle.clap.specs.Words.{new_app, with_rule, with_subcommand};
 
@@ -35,7 +36,7 @@ const PROGRAM: &str = "./run";
 
 /// What help shows after the words.
 const HELP: &str =
-    "Examples:\n  ./run replay examples/first_share.trace\n  ./run replay examples/first_share.trace --heap 262144\n  ./run race examples/raced/one_vcpu.trace\n  ./run outcomes examples/raced/one_vcpu.trace\n  ./run audit examples/audited/broken_word.trace\n  ./run check examples/expected_replies.trace\n  ./run explain examples/first_share.trace\n  ./run generate 1 1000 --cpus 4 --hostile 10\n  ./run draw examples/protected_vm.trace\n\nFILE is a path, or - for standard input.\n\nExit status:\n  0  the report ends without a fault or a disagreement; what a trace expects is met\n  1  the report has a fault or a disagreement, an expectation is missed, or reading, writing, memory or the start of a thread failed\n  2  FILE can't be opened, the words are refused, or help was asked for\n\nThe lines of a trace, its report and each fault are explained in docs/TRACES.md.";
+    "Examples:\n  ./run replay examples/first_share.trace\n  ./run replay examples/first_share.trace --heap 262144\n  ./run race examples/raced/one_vcpu.trace\n  ./run outcomes examples/raced/one_vcpu.trace\n  ./run audit examples/audited/broken_word.trace\n  ./run check examples/expected_replies.trace\n  ./run explain examples/first_share.trace\n  ./run generate 1 1000 --cpus 4 --hostile 10\n  ./run draw examples/protected_vm.trace\n\nFILE is a path, or - for standard input.\n\nExit status:\n  0  the report ends without a fault or a disagreement; what a trace expects is met\n  1  the report has a fault or a disagreement, an expectation is missed, or reading, writing, memory or the start of a thread failed\n  2  FILE can't be opened, the words are refused, or help was asked for\n\nThe lines of a trace, its report and each fault are explained in docs/TRACES.md, the objects of --json in docs/JSON.md.";
 
 /// A value that must be given, by its place.
 fn needed<'a>(global: Global, id: &'a str, help: &'a str) -> Arg<'a>
@@ -153,6 +154,23 @@ fn oracle<'a>(global: Global) -> Arg<'a>
     )
 }
 
+/// A subcommand that also takes how its report is written.
+fn reporting<'a>(global: Global, form: Command<'a>) -> Result<Command<'a>, AllocError>
+    requires { (fields_of form).has_globals ≡ false }
+    ensures app { IfOk result (λ more. app_of more ≡ reporting_app (app_of form.entry)) }
+    ensures local { IfOk result (λ more. (fields_of more).has_globals ≡ false) }
+{
+    let form = with(form, json(global))?;
+    with(form, quiet(global))
+}
+
+fn json<'a>(global: Global) -> Arg<'a>
+    ensures rule { rule_of result ≡ flag_rule (codes "json") }
+    ensures local { result.global ≡ false }
+{
+    flag(global, "json", "writes each line as a JSON object")
+}
+
 fn quiet<'a>(global: Global) -> Arg<'a>
     ensures rule { rule_of result ≡ flag_rule (codes "quiet") }
     ensures local { result.global ≡ false }
@@ -178,7 +196,7 @@ fn replay<'a>(global: Global) -> Result<Command<'a>, AllocError>
     );
     let form = with(form, heap)?;
     let form = with(form, oracle(global))?;
-    with(form, quiet(global))
+    reporting(global, form)
 }
 
 fn race<'a>(global: Global) -> Result<Command<'a>, AllocError>
@@ -191,7 +209,7 @@ fn race<'a>(global: Global) -> Result<Command<'a>, AllocError>
         "Runs the steps of a trace, those after 'start' on one thread for each CPU, and reports each reply",
     );
     let form = with(form, file(global))?;
-    with(form, quiet(global))
+    reporting(global, form)
 }
 
 fn audit<'a>(global: Global) -> Result<Command<'a>, AllocError>
@@ -204,7 +222,7 @@ fn audit<'a>(global: Global) -> Result<Command<'a>, AllocError>
         "Runs the steps of a trace, sets the words that it pokes, and compares what is kept with a walk of all words",
     );
     let form = with(form, file(global))?;
-    with(form, quiet(global))
+    reporting(global, form)
 }
 
 fn outcomes<'a>(global: Global) -> Result<Command<'a>, AllocError>
@@ -231,7 +249,7 @@ fn outcomes<'a>(global: Global) -> Result<Command<'a>, AllocError>
         "tells whether some order gives the replies of this report",
     );
     let form = with(form, observed)?;
-    with(form, quiet(global))
+    reporting(global, form)
 }
 
 fn check<'a>(global: Global) -> Result<Command<'a>, AllocError>
@@ -251,7 +269,7 @@ fn check<'a>(global: Global) -> Result<Command<'a>, AllocError>
     );
     let form = with(form, record)?;
     let form = with(form, oracle(global))?;
-    with(form, quiet(global))
+    reporting(global, form)
 }
 
 fn explain<'a>(global: Global) -> Result<Command<'a>, AllocError>
@@ -264,10 +282,9 @@ fn explain<'a>(global: Global) -> Result<Command<'a>, AllocError>
         "Shows a trace line by line, with its report, and what each step looked at and changed",
     );
     let form = with(form, file(global))?;
-    with(
-        form,
-        option(global, "line", "N", "shows the Nth line alone"),
-    )
+    let line = option(global, "line", "N", "shows the Nth line alone");
+    let form = with(form, line)?;
+    reporting(global, form)
 }
 
 fn generate<'a>(global: Global) -> Result<Command<'a>, AllocError>
@@ -384,7 +401,7 @@ fn dump<'a>(global: Global) -> Result<Command<'a>, AllocError>
         "the image is raw, and its first byte lies at this physical address",
     );
     let form = with(form, base)?;
-    with(form, quiet(global))
+    reporting(global, form)
 }
 
 /// The form of the words: the program's name and one subcommand.

@@ -6,4 +6,4 @@ mod forms;
 mod heap_size;
 mod words;
 
-pub use words::{Dump, Invocation, Looks, UsageFault, command};
+pub use words::{Dump, Invocation, Looks, Output, UsageFault, command};

@@ -18,6 +18,17 @@ pub enum Looks {
     End,
 }
 
+/// How a report is written.
+#[derive(Clone, Copy, PartialEq)]
+pub enum Output {
+    /// As text.
+    Report,
+    /// As JSON, an object for each line.
+    Json,
+    /// Not at all: the exit status tells.
+    Nothing,
+}
+
 /// What the program is to do. A file is a path, or `-` for standard input.
 #[derive(Drop)]
 pub enum Invocation<'a> {
@@ -27,18 +38,17 @@ pub enum Invocation<'a> {
         /// The size in bytes of the heap in which the trees' tables lie; without one they lie in the machine's memory.
         heap: Option<usize>,
         looks: Looks,
-        /// Whether the report is left out.
-        quiet: bool,
+        output: Output,
     },
     /// Run the steps of a trace, those after `start` on one thread for each CPU.
     Race {
         file: &'a str,
-        quiet: bool,
+        output: Output,
     },
     /// Run the steps of a trace, set the words that it pokes, and audit once.
     Audit {
         file: &'a str,
-        quiet: bool,
+        output: Output,
     },
     /// Find all that the steps after `start` may reply, in any order of the CPUs.
     Outcomes {
@@ -47,13 +57,13 @@ pub enum Invocation<'a> {
         limit: u64,
         /// A report of which it is asked whether some order gives its replies.
         observed: Option<&'a str>,
-        quiet: bool,
+        output: Output,
     },
     /// Compare what the lines of traces report with what their comments expect.
     Check {
         files: Vec<&'a str>,
         looks: Looks,
-        quiet: bool,
+        output: Output,
     },
     /// Write a trace with what its lines report as expectations.
     Record {
@@ -64,6 +74,7 @@ pub enum Invocation<'a> {
         file: &'a str,
         /// The one line to show, counted from 1; without it all are shown.
         line: Option<u64>,
+        output: Output,
     },
     /// Make a trace.
     Generate {
@@ -102,8 +113,7 @@ pub struct Dump<'a> {
     pub skips: Vec<&'a str>,
     /// The physical address of a raw image's first byte; without it the image is an ELF core.
     pub base: Option<u64>,
-    /// Whether the report is left out.
-    pub quiet: bool,
+    pub output: Output,
 }
 
 /// Why the words were refused.

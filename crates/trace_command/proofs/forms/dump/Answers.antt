@@ -1,6 +1,7 @@
-use Rattle.std.proofs.Common.{ap₂, ◌∙◌}
+use Rattle.std.proofs.Common.{ap, ap₂, ◌∙◌}
 use Rattle.std.proofs.lemmas.Result.{IfOk-weaker}
 use Rattle.clap.specs.Words.{with_rule}
+use Rattle.trace_command.specs.Words.{reporting}
 use Rattle.trace_command.proofs.forms.dump.Goals as goal
 
 pub returns-clause-app : goal.returns-clause-app
@@ -12,4 +13,4 @@ returns-clause-app c =
     let five = c.in_ok-form-5.ensures.app ∙ ap₂ with_rule four c.options-2.ensures.rule in
     let six = c.in_ok-form-6.ensures.app ∙ ap₂ with_rule five c.options-3.ensures.rule in
     let seven = c.in_ok-form-7.ensures.app ∙ ap₂ with_rule six c.option-base.ensures.rule in
-    IfOk-weaker c.with-8.result _ _ (λ r h. h ∙ ap₂ with_rule seven c.quiet.ensures.rule) c.with-8.ensures.app
+    IfOk-weaker c.reporting.result _ _ (λ r h. h ∙ ap reporting seven) c.reporting.ensures.app

@@ -1,0 +1,4 @@
+pub mod Flat
+pub mod Parts
+pub mod Rebuilt
+pub mod Texts

@@ -1,0 +1,31 @@
+//! The form of a line.
+
+/// What the text of a field is.
+#[derive(Clone, Copy)]
+pub enum Kind {
+    /// A decimal number below 2^53, which each reader of JSON keeps exactly. It becomes a number, all else a string.
+    Number,
+    /// `0x` and 1 to 16 hexadecimal digits.
+    Hexadecimal,
+    /// One or more bytes without a space.
+    Word,
+    /// One of these words.
+    OneOf(&'static [&'static str]),
+    /// Any text.
+    Text,
+}
+
+/// A field of a line: its text goes on up to the first place of `stop`, or to the line's end where that is empty.
+pub struct Field {
+    pub name: &'static str,
+    pub kind: Kind,
+    pub stop: &'static str,
+}
+
+/// The form of a line: `start`, and then the fields, each with its `stop` behind it.
+pub struct Form {
+    /// The object's member `type`.
+    pub kind: &'static str,
+    pub start: &'static str,
+    pub fields: &'static [Field],
+}
