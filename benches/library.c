@@ -1,9 +1,9 @@
 // Asks the library about a state of many runs, so that its work can be measured.
 //
-// library FUNCTION SHARED TIMES: judges, predicts or audits a state in which the host shares so
-// many pages with the hypervisor, every second one of its memory. So the host has twice as many
-// runs, the hypervisor as many, and there are twice as many owner rows. It does so TIMES times.
-// Status 1 where the library says something else than that all is well, 2 for wrong words.
+// library FUNCTION SHARED TIMES: judges, predicts, audits or checks a state in which the host
+// shares so many pages with the hypervisor, every second one of its memory. So the host has twice
+// as many runs, the hypervisor as many, and there are twice as many owner rows. It does so TIMES
+// times. Status 1 where the library says something else than that all is well, 2 for wrong words.
 #include "pkvm_oracle.h"
 #include <inttypes.h>
 #include <stdio.h>
@@ -166,6 +166,9 @@ int main(int argc, char **argv)
 		else if (!strcmp(argv[1], "audit"))
 			status = pkvm_audit(&m.layout, &m.state, m.pages, m.pages_len, m.roots, 2,
 					    text, sizeof text, &length, &refused);
+		else if (!strcmp(argv[1], "check"))
+			status = pkvm_check(&m.layout, &m.state, PKVM_COARSEST_TREES, text,
+					    sizeof text, &length, &refused);
 		else
 			return 2;
 	}

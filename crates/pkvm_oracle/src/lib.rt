@@ -5,8 +5,10 @@
 ghost use Rattle.std.specs.Prelude.{◌≡◌, pos};
 
 mod audited;
+mod fault_texts;
 mod judged;
 pub mod laws;
+mod legal;
 mod predicted;
 mod replayed;
 mod statuses;
