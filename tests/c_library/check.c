@@ -543,10 +543,11 @@ static int shared_tables(void)
 	if (!words && !(words = calloc(8, sizeof *words)))
 		abort();
 	static _Thread_local struct kept k;
-	static _Thread_local struct pkvm_frame frames[56];
+	static _Thread_local struct pkvm_frame frames[57];
 	blank(&k);
 	for (uint64_t i = 0; i < 56; i++)
 		frames[i] = (struct pkvm_frame){1, 0x40608 + i};
+	frames[56] = (struct pkvm_frame){1, 0x40606};
 	struct pkvm_word annotated = {PKVM_ANNOTATED, 0, 1, 0, 0, 0},
 			 own = {PKVM_LEAF, 0x40600, 0, PKVM_RW, PKVM_NORMAL, PKVM_OWNED};
 	struct pkvm_word lent = {PKVM_LEAF, 0x40100, 0, PKVM_RWX, PKVM_NORMAL, PKVM_SHARED_OWNED},
@@ -670,11 +671,11 @@ static int shared_tables(void)
 	words[6][0x100] = word_of(3, lent);
 	words[7][0x100] = word_of(3, got);
 	kept.rows_len = 2;
-	frames[0].frame = 0x40606; // sound, but a table is free
+	kept.frames_len = 57; // sound, but a table is free
 	if (AUDIT(8, 2) != PKVM_DISAGREES ||
 	    !TELLS("held twice 0x40606: table host 1 0x200, shared pool"))
 		return 17;
-	frames[0].frame = 0x40608;
+	kept.frames_len = 56;
 	return AUDIT(8, 2) == PKVM_AGREES ? 0 : 18;
 }
 
@@ -851,16 +852,14 @@ static int empty(void)
 				  .cpus_len = 1};
 	if (pkvm_predict(&layout, &none, 0, &call.step, &reply, &room, &sizes, &refused) != 0)
 		return 5;
-	// Nothing differs, but the carve-out isn't the hypervisor's.
-	static const char *told =
-		"no condition 0x40600: host unmapped, hyp unmapped, row owner 0 lent - use plain";
 	if (pkvm_audit(&layout, &none, NULL, 0, NULL, 0, NULL, 0, &length, &refused) !=
-		    PKVM_NO_ROOM ||
-	    length != strlen(told))
+		    PKVM_AGREES ||
+	    length != 0)
 		return 6;
-	if (pkvm_check(&layout, &none, PKVM_ANY_TREES, NULL, 0, &length, &refused) !=
-		    PKVM_NO_ROOM ||
-	    length != strlen(told))
+	// The host may have all memory, also the carve-out.
+	if (pkvm_check(&layout, &none, PKVM_COARSEST_TREES, NULL, 0, &length, &refused) !=
+		    PKVM_AGREES ||
+	    length != 0)
 		return 9;
 	layout.regions = NULL;
 	layout.regions_len = 0;

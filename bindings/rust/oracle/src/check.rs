@@ -15,7 +15,7 @@ pub enum Trees {
 /// place.
 ///
 /// ```
-/// use pkvm_oracle::{Layout, Region, RegionKind, State, Trees, Verdict, check};
+/// use pkvm_oracle::{Frame, Layout, Party, Region, RegionKind, State, Trees, Verdict, check};
 ///
 /// let layout = Layout {
 ///     address_bits: 39,
@@ -23,9 +23,11 @@ pub enum Trees {
 ///     carve: 0x40600..0x40640,
 ///     regions: vec![Region { kind: RegionKind::Memory, first: 0x40000, count: 0x800 }],
 /// };
-/// // The host doesn't know that the frames of the carve-out aren't its own.
-/// let verdict = check(&layout, &State::default(), Trees::Any)?;
-/// let told = "no condition 0x40600: host unmapped, hyp unmapped, row owner 0 lent - use plain";
+/// // A free frame of the hypervisor's that the host may map.
+/// let free = Frame { pool: Party::Hyp, frame: 0x40600 };
+/// let state = State { frames: vec![free], ..State::default() };
+/// let verdict = check(&layout, &state, Trees::Any)?;
+/// let told = "no condition 0x40600: host unmapped, hyp unmapped, row owner 0 lent - use plain, shared pool";
 /// assert_eq!(verdict, Verdict::Differs(told.into()));
 /// # Ok::<(), pkvm_oracle::Error>(())
 /// ```
