@@ -67,11 +67,11 @@ static uint64_t table(struct machine *m, uint64_t tree, uint64_t height, uint64_
 	return frame;
 }
 
-// The table of level 3 that has a page, made with the one above it where it isn't there.
-static uint64_t last_table(struct machine *m, uint64_t tree, uint64_t root, uint64_t page)
+// The table of a height that has a page, made with those above it where it isn't there.
+static uint64_t table_over(struct machine *m, uint64_t tree, uint64_t page, uint64_t least)
 {
-	uint64_t frame = root;
-	for (uint64_t height = 2; height >= 1; height--) {
+	uint64_t frame = m->roots[tree].frame;
+	for (uint64_t height = 2; height >= least; height--) {
 		uint64_t index = page >> 9 * height, level = 3 - height;
 		uint64_t *word = words_of(m, frame) + index % TABLE;
 		struct pkvm_word below;
@@ -91,13 +91,14 @@ static void map(struct machine *m, uint64_t tree, uint64_t page, uint64_t count,
 		struct pkvm_word word)
 {
 	m->runs[m->state.runs_len++] = (struct pkvm_run){tree, page, count, word};
-	uint64_t root = m->roots[tree].frame;
-	for (uint64_t i = 0; i < count; i++) {
+	for (uint64_t i = 0, pages; i < count; i += pages) {
+		uint64_t at = page + i, height = at % TABLE || count - i < TABLE ? 1 : 2;
 		struct pkvm_word says = word;
 		if (says.says == PKVM_LEAF)
 			says.frame += i;
-		words_of(m, last_table(m, tree, root, page + i))[(page + i) % TABLE] =
-			encoded(3, &says);
+		pages = height == 2 ? TABLE : 1;
+		words_of(m, table_over(m, tree, at, height))[at / pages % TABLE] =
+			encoded(4 - height, &says);
 	}
 }
 

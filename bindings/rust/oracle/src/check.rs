@@ -1,5 +1,5 @@
 //! Whether a state is legal.
-use crate::{Error, Layout, State, Verdict, verdict};
+use crate::{verdict, Error, Layout, State, Verdict};
 use pkvm_oracle_sys as sys;
 
 /// Which tables the trees of a legal state have.

@@ -35,7 +35,7 @@ mod states;
 mod words;
 
 pub use calls::{Call, Refusal, Reply, Value, Vm, VmKind};
-pub use check::{Trees, check};
+pub use check::{check, Trees};
 pub use errors::{Error, Fault, List, Place, Refused};
 pub use states::{
     Cpu, Frame, Guest, Layout, Load, Owner, Phase, Region, RegionKind, Row, Run, Slot, Stage,

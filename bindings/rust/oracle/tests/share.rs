@@ -1,8 +1,8 @@
 //! A page that the host shares with the hypervisor, from a state after boot.
 use pkvm_oracle::{
-    check, judge, predict, reply_to, Call, Error, Fault, Frame, Kind, Layout, List, Owner, Party, Place,
-    Refusal, Region, RegionKind, Rights, Row, Run, Sharing, State, Table, Trees, Usage, Value,
-    Verdict, Version, Word,
+    check, judge, predict, reply_to, Call, Error, Fault, Frame, Kind, Layout, List, Owner, Party,
+    Place, Refusal, Region, RegionKind, Rights, Row, Run, Sharing, State, Table, Trees, Usage,
+    Value, Verdict, Version, Word,
 };
 
 const CARVE: u64 = 0x40600;
@@ -193,7 +193,9 @@ fn legal_states() {
     let agrees = Ok(Verdict::Agrees);
     assert_eq!(check(&layout(), &booted(), Trees::Coarsest), agrees);
     assert_eq!(check(&layout(), &after, Trees::Coarsest), agrees);
-    after.tables.retain(|it| (it.height, it.index) != (1, 0x200));
+    after
+        .tables
+        .retain(|it| (it.height, it.index) != (1, 0x200));
     let freed = Frame {
         pool: Party::Hyp,
         frame: CARVE + 6,
