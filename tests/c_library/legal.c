@@ -1,6 +1,7 @@
 // States that pkvm_check tells from those that the model's runs lead to: the states along the lives
 // of three VMs are legal, and each change of the last one is refused by name. Then pkvm_fault_text.
-// `legal` ends with 0, or writes what is wrong.
+// `legal COUNT` walks along so many traces of random calls too, half of them of 48 bits, and each
+// state must be legal. It ends with 0, or writes what is wrong.
 #include "pkvm_oracle.h"
 #include <inttypes.h>
 #include <stdbool.h>
@@ -8,7 +9,7 @@
 #include <stdlib.h>
 #include <string.h>
 
-enum { ROOM = 512, GUESTS = 64 };
+enum { ROOM = 512 };
 
 struct machine {
 	struct pkvm_run runs[ROOM];
@@ -23,7 +24,7 @@ struct machine {
 };
 
 static const struct pkvm_region regions[] = {{PKVM_MEMORY, 0x40000, 0x800}};
-static const struct pkvm_layout layout = {39, 3, 0x40600, 0x40, regions, 1};
+static struct pkvm_layout layout = {39, 3, 0x40600, 0x40, regions, 1};
 static struct machine life;
 
 static struct pkvm_state state_of(const struct machine *m)
@@ -62,18 +63,23 @@ static struct pkvm_word annotated(uint64_t owner)
 	return (struct pkvm_word){.says = PKVM_ANNOTATED, .owner = owner};
 }
 
-// The state at boot.
+// The state at boot: the carve-out is the hypervisor's, and its first frames are tables.
 static void boot(struct machine *m)
 {
 	static const struct pkvm_table tables[] = {
-		{PKVM_HOST, 3, 0, 0x40600},	{PKVM_HOST, 2, 1, 0x40601},
-		{PKVM_HOST, 1, 0x203, 0x40602}, {PKVM_HYP, 3, 0, 0x40603},
-		{PKVM_HYP, 2, 0x101, 0x40604},	{PKVM_HYP, 1, 0x20203, 0x40605}};
+		{PKVM_HOST, 4, 0, 0},	  {PKVM_HOST, 3, 0, 0},	    {PKVM_HOST, 2, 1, 0},
+		{PKVM_HOST, 1, 0x203, 0}, {PKVM_HYP, 4, 0, 0},	    {PKVM_HYP, 3, 0, 0},
+		{PKVM_HYP, 2, 0x101, 0},  {PKVM_HYP, 1, 0x20203, 0}};
+	uint64_t frame = 0x40600;
 	memset(m, 0, sizeof *m);
-	memcpy(m->tables, tables, sizeof tables);
-	m->len.tables = 6;
-	for (uint64_t frame = 0x40606; frame < 0x40640; frame++)
-		m->frames[m->len.frames++] = (struct pkvm_frame){PKVM_HYP, frame};
+	for (size_t i = 0; i < sizeof tables / sizeof *tables; i++) {
+		if (layout.address_bits == 39 && tables[i].height == 4)
+			continue;
+		m->tables[m->len.tables] = tables[i];
+		m->tables[m->len.tables++].frame = frame++;
+	}
+	while (frame < 0x40640)
+		m->frames[m->len.frames++] = (struct pkvm_frame){PKVM_HYP, frame++};
 	m->runs[0] = (struct pkvm_run){PKVM_HOST, 0x40600, 0x40, annotated(PKVM_HYP)};
 	m->runs[1] =
 		(struct pkvm_run){PKVM_HYP, 0x4040600, 0x40, leaf(0x40600, PKVM_RW, PKVM_OWNED)};
@@ -482,7 +488,74 @@ static const char *fault(uint64_t number, size_t room)
 	return text;
 }
 
-int main(void)
+static uint64_t seed = 0x9e3779b97f4a7c15u;
+
+// xorshift, below a number
+static uint64_t below(uint64_t most)
+{
+	seed ^= seed << 13;
+	seed ^= seed >> 7;
+	seed ^= seed << 17;
+	return (seed >> 11) % most;
+}
+
+// Arguments that a call of this number may well be made with: F a frame, P a guest's page, R
+// rights, S a slot, 0 one of two numbers, 1 a small count or a generation.
+static struct pkvm_step step_of(uint64_t number)
+{
+	static const char *kinds[] = {"", "F",	  "F",	 "F1",	"F1", "F", "F",	  "F",	"F",   "F1",
+				      "", "FPR1", "S1P", "FP1", "P",  "P", "",	  "S1", "S1P", "S1",
+				      "", "PR",	  "S1P", "",	"01", "",  "S10", "",	"S1",  ""};
+	struct pkvm_step step = {number, {0}};
+	for (size_t i = 0; kinds[number][i]; i++) {
+		uint64_t *it = &step.arguments[i];
+		switch (kinds[number][i]) {
+		case 'F':
+			*it = (below(8) ? 0x40100 : 0x40600) + below(12);
+			break;
+		case 'P':
+			*it = 0x80000 + below(6);
+			break;
+		case 'R':
+			*it = PKVM_R + below(4);
+			break;
+		case '1':
+			*it = 1 + below(3);
+			break;
+		default:
+			*it = below(2);
+		}
+	}
+	return step;
+}
+
+// Traces of random calls: each state of each must be legal.
+static bool walk(long count)
+{
+	static struct machine m;
+	long made = 0, asked = 0;
+	for (long i = 0; i < count; i++) {
+		layout.address_bits = i % 2 ? 48 : 39;
+		if (i % 4)
+			boot(&m);
+		else
+			m = life;
+		for (int steps = 0; steps < 60; steps++, asked++) {
+			if (!call(&m, below(3), step_of(1 + below(29))))
+				continue;
+			made++;
+			if (*told(&m, PKVM_COARSEST_TREES) || *told(&m, PKVM_ANY_TREES)) {
+				fprintf(stderr, "trace %ld: %s\n", i, text);
+				return false;
+			}
+		}
+	}
+	layout.address_bits = 39;
+	fprintf(stderr, "%ld traces: %ld of %ld calls made\n", count, made, asked);
+	return made > asked / 20;
+}
+
+int main(int argc, char **argv)
 {
 	int wrong = 0;
 	if (!live(&life)) {
@@ -504,6 +577,8 @@ int main(void)
 			wrong = 1;
 		}
 	}
+	if (argc > 1 && !walk(atol(argv[1])))
+		wrong = 1;
 	if (strcmp(told(&life, 2), "status -3 fault 0"))
 		wrong = fprintf(stderr, "unknown flags: %s\n", text);
 	life.tables[1] = life.tables[0];
