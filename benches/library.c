@@ -1,9 +1,9 @@
 // Asks the library about a state of many runs, so that its work can be measured.
 //
-// library FUNCTION SHARED TIMES: judges, predicts or audits a state in which the host shares so
-// many pages with the hypervisor, every second one of its memory. So the host has twice as many
-// runs, the hypervisor as many, and there are twice as many owner rows. It does so TIMES times.
-// Status 1 where the library says something else than that all is well, 2 for wrong words.
+// library FUNCTION SHARED TIMES: judges, predicts, audits or checks a state in which the host
+// shares so many pages with the hypervisor, every second one of its memory. So the host has twice
+// as many runs, the hypervisor as many, and there are twice as many owner rows. It does so TIMES
+// times. Status 1 where the library says something else than that all is well, 2 for wrong words.
 #include "pkvm_oracle.h"
 #include <inttypes.h>
 #include <stdio.h>
@@ -67,11 +67,11 @@ static uint64_t table(struct machine *m, uint64_t tree, uint64_t height, uint64_
 	return frame;
 }
 
-// The table of level 3 that has a page, made with the one above it where it isn't there.
-static uint64_t last_table(struct machine *m, uint64_t tree, uint64_t root, uint64_t page)
+// The table of a height that has a page, made with those above it where it isn't there.
+static uint64_t table_over(struct machine *m, uint64_t tree, uint64_t page, uint64_t least)
 {
-	uint64_t frame = root;
-	for (uint64_t height = 2; height >= 1; height--) {
+	uint64_t frame = m->roots[tree].frame;
+	for (uint64_t height = 2; height >= least; height--) {
 		uint64_t index = page >> 9 * height, level = 3 - height;
 		uint64_t *word = words_of(m, frame) + index % TABLE;
 		struct pkvm_word below;
@@ -91,13 +91,14 @@ static void map(struct machine *m, uint64_t tree, uint64_t page, uint64_t count,
 		struct pkvm_word word)
 {
 	m->runs[m->state.runs_len++] = (struct pkvm_run){tree, page, count, word};
-	uint64_t root = m->roots[tree].frame;
-	for (uint64_t i = 0; i < count; i++) {
+	for (uint64_t i = 0, pages; i < count; i += pages) {
+		uint64_t at = page + i, height = at % TABLE || count - i < TABLE ? 1 : 2;
 		struct pkvm_word says = word;
 		if (says.says == PKVM_LEAF)
 			says.frame += i;
-		words_of(m, last_table(m, tree, root, page + i))[(page + i) % TABLE] =
-			encoded(3, &says);
+		pages = height == 2 ? TABLE : 1;
+		words_of(m, table_over(m, tree, at, height))[at / pages % TABLE] =
+			encoded(4 - height, &says);
 	}
 }
 
@@ -166,6 +167,9 @@ int main(int argc, char **argv)
 		else if (!strcmp(argv[1], "audit"))
 			status = pkvm_audit(&m.layout, &m.state, m.pages, m.pages_len, m.roots, 2,
 					    text, sizeof text, &length, &refused);
+		else if (!strcmp(argv[1], "check"))
+			status = pkvm_check(&m.layout, &m.state, PKVM_COARSEST_TREES, text,
+					    sizeof text, &length, &refused);
 		else
 			return 2;
 	}

@@ -31,6 +31,7 @@
  *   3. judge     pkvm_judge compares the two with the model's step; pkvm_predict and
  *                pkvm_predict_reply tell what the model does
  *   4. audit     pkvm_audit compares a state that is kept with the tables as they lie in memory
+ *   5. check     pkvm_check tests whether a state is one that the model's runs may lead to
  *
  * docs/C_LIBRARY.md is a walk through them. pkvm_replay needs no hypervisor: it runs a trace.
  *
@@ -535,13 +536,15 @@ struct pkvm_root {
  *   refused     written: what of the layout, the state, pages or roots is refused
  *
  * Answers:
- *   PKVM_AGREES        maps, rows and tables are the kept ones, and the maps are sound
+ *   PKVM_AGREES        maps, rows and tables are the kept ones, and the state is legal, as
+ *                      pkvm_check has it of PKVM_COARSEST_TREES
  *   PKVM_DISAGREES     the first `*text_len` bytes of `text` tell the first difference: in a map,
  *                      in the rows, or in the tables; without one, why the maps aren't sound. Two
  *                      entries are leaves of a frame in states PKVM_OWNED or PKVM_SHARED_OWNED
  *                      (`two owners 0x40100: host 0x40100, hyp 0x4040100`), else two are in state
  *                      PKVM_SHARED_BORROWED (`two borrowers ..`), else one is and none is in
- *                      PKVM_SHARED_OWNED (`no share 0x40100: hyp 0x4040100`)
+ *                      PKVM_SHARED_OWNED (`no share 0x40100: hyp 0x4040100`). Where they are
+ *                      sound, it tells what pkvm_check does
  *   PKVM_BAD_LAYOUT    `refused` says why; in this and all that follow `text` stays
  *   PKVM_BAD_BEFORE    the kept state is refused, and `refused` says why
  *   PKVM_BAD_TABLES    `refused` says why
@@ -551,6 +554,53 @@ int32_t pkvm_audit(const struct pkvm_layout *layout, const struct pkvm_state *ke
 		   const struct pkvm_page *pages, size_t pages_len, const struct pkvm_root *roots,
 		   size_t roots_len, uint8_t *text, size_t text_room, size_t *text_len,
 		   struct pkvm_refused *refused);
+
+/* --- Legal states --- */
+
+/* What is asked of a state: all, or all but which tables its trees have, for a hypervisor that
+ * splits and folds blocks in another way than the model. */
+enum { PKVM_COARSEST_TREES = 0, PKVM_ANY_TREES = 1 };
+
+/* Whether a state is legal: the model's runs lead to legal states alone. Each frame is in one
+ * condition, which maps, tables, pools, hands and its row agree on; slots, loads, tickets and
+ * guests agree; and each tree has the tables that its map needs.
+ *
+ *   layout      what the hypervisor runs on
+ *   state       the state
+ *   flags       PKVM_COARSEST_TREES or PKVM_ANY_TREES
+ *   text        written: no more than text_room bytes, and not ended by a 0
+ *   text_len    written: the number of bytes; 0 where no text is told
+ *   refused     written: what of the layout or the state is refused
+ *
+ * Answers:
+ *   PKVM_AGREES        the state is legal
+ *   PKVM_DISAGREES     the first `*text_len` bytes of `text` tell a fault of the first kind of
+ *                      these that there is: of CPUs and slots (`slot 1: guest does not fit it`),
+ *                      of a guest's phase and root, of a table's block (`outside table ..`), of a
+ *                      guest's page, of the hypervisor's pages, of a frame that no memory can be
+ *                      (`no memory ..`), of a frame that two have (`held twice 0x40608: table host
+ *                      1 0x200, shared pool`), of what all say of a frame (`no condition 0x40500:
+ *                      host annot 200, hyp unmapped, row owner 0 lent - use plain`), of a tree's
+ *                      tables (`missing table host 1 0x202`, `needless table ..`)
+ *   PKVM_BAD_NUMBER    the flags are neither; in this and all that follow `text` stays
+ *   PKVM_BAD_LAYOUT    `refused` says why
+ *   PKVM_BAD_BEFORE    the state is refused, and `refused` says why
+ *   PKVM_NO_MEMORY     at any point
+ *   PKVM_NO_ROOM       there is a fault, whose text needs `*text_len` bytes */
+int32_t pkvm_check(const struct pkvm_layout *layout, const struct pkvm_state *state, uint64_t flags,
+		   uint8_t *text, size_t text_room, size_t *text_len, struct pkvm_refused *refused);
+
+/* What a fault is called, as `two runs of one tree share a page`.
+ *
+ *   fault       its number, as in struct pkvm_refused
+ *   text        written: no more than text_room bytes, and not ended by a 0
+ *   text_len    written: the number of bytes; 0 where no text is told
+ *
+ * Answers:
+ *   0                  the first `*text_len` bytes of `text` are the words
+ *   PKVM_BAD_NUMBER    no fault has the number; in this and the next `text` stays
+ *   PKVM_NO_ROOM       the words need `*text_len` bytes */
+int32_t pkvm_fault_text(uint64_t fault, uint8_t *text, size_t text_room, size_t *text_len);
 
 #ifdef __cplusplus
 }

@@ -543,10 +543,11 @@ static int shared_tables(void)
 	if (!words && !(words = calloc(8, sizeof *words)))
 		abort();
 	static _Thread_local struct kept k;
-	static _Thread_local struct pkvm_frame frames[56];
+	static _Thread_local struct pkvm_frame frames[57];
 	blank(&k);
 	for (uint64_t i = 0; i < 56; i++)
 		frames[i] = (struct pkvm_frame){1, 0x40608 + i};
+	frames[56] = (struct pkvm_frame){1, 0x40606};
 	struct pkvm_word annotated = {PKVM_ANNOTATED, 0, 1, 0, 0, 0},
 			 own = {PKVM_LEAF, 0x40600, 0, PKVM_RW, PKVM_NORMAL, PKVM_OWNED};
 	struct pkvm_word lent = {PKVM_LEAF, 0x40100, 0, PKVM_RWX, PKVM_NORMAL, PKVM_SHARED_OWNED},
@@ -647,7 +648,7 @@ static int shared_tables(void)
 	    refused.index != 0)
 		return 13;
 	roots[0].frame = 0x40603;
-	// Kept maps and tables say the same from here on, and aren't sound.
+	// Kept maps and tables say the same from here on, and aren't legal: the maps aren't sound.
 	kept.runs_len = 5; // the hypervisor borrows the frame twice
 	words[7][0x101] = word_of(3, got);
 	if (AUDIT(8, 2) != PKVM_DISAGREES ||
@@ -670,7 +671,12 @@ static int shared_tables(void)
 	words[6][0x100] = word_of(3, lent);
 	words[7][0x100] = word_of(3, got);
 	kept.rows_len = 2;
-	return AUDIT(8, 2) == PKVM_AGREES ? 0 : 17;
+	kept.frames_len = 57; // sound, but a table is free
+	if (AUDIT(8, 2) != PKVM_DISAGREES ||
+	    !TELLS("held twice 0x40606: table host 1 0x200, shared pool"))
+		return 17;
+	kept.frames_len = 56;
+	return AUDIT(8, 2) == PKVM_AGREES ? 0 : 18;
 }
 
 // Pages of words of any kind, whose table words lead to one another or to no page, and roots of any
@@ -731,6 +737,21 @@ static int random_tables(long count)
 			return 2;
 		walked += status >= 0 || status == PKVM_NO_ROOM;
 		met[refused.fault]++;
+		uint64_t flags = next() % 3;
+		status = pkvm_check(&layout, &kept, flags, text, room, &length, &refused);
+		if (flags > PKVM_ANY_TREES ? status != PKVM_BAD_NUMBER || length
+					   : (status == PKVM_DISAGREES && length > room) ||
+						     (status == PKVM_NO_ROOM && length <= room) ||
+						     (status < 0 && status != PKVM_NO_ROOM))
+			return 4;
+		uint64_t fault = number();
+		bool is_known = fault - 1 < PKVM_FAULT_REACHED_TWICE;
+		status = pkvm_fault_text(fault, text, room, &length);
+		if (status != (!is_known       ? PKVM_BAD_NUMBER
+			       : length > room ? PKVM_NO_ROOM
+					       : 0) ||
+		    is_known != (length > 0))
+			return 5;
 		for (size_t p = 0; p < pages_len; p++)
 			free((void *)pages[p].words);
 		free(pages);
@@ -781,9 +802,12 @@ static int audit(long count)
 	char text[256];
 	size_t length = 0;
 	struct pkvm_refused refused;
+	// Nothing differs, but the model's hypervisor has no such pages.
+	static const char *told = "hyp 0x0: below the pages of frames";
 	for (long i = 0; i < count; i++)
 		if (pkvm_audit(&layout, &kept, pages, 100, &root, 1, (uint8_t *)text, sizeof text,
-			       &length, &refused) != PKVM_AGREES) {
+			       &length, &refused) != PKVM_DISAGREES ||
+		    length != strlen(told) || memcmp(text, told, length)) {
 			fprintf(stderr, "%.*s\n", (int)length, text);
 			return 1;
 		}
@@ -832,6 +856,11 @@ static int empty(void)
 		    PKVM_AGREES ||
 	    length != 0)
 		return 6;
+	// The host may have all memory, also the carve-out.
+	if (pkvm_check(&layout, &none, PKVM_COARSEST_TREES, NULL, 0, &length, &refused) !=
+		    PKVM_AGREES ||
+	    length != 0)
+		return 9;
 	layout.regions = NULL;
 	layout.regions_len = 0;
 	if (pkvm_judge(&layout, &none, &call, &none, NULL, 0, &length, &refused) !=

@@ -280,9 +280,28 @@ static void audit(void)
 	free(regions);
 }
 
+static void check(void)
+{
+	struct pkvm_layout on = layout();
+	struct pkvm_state told = state();
+	size_t room = byte(), length = 99;
+	uint8_t *text = block(room, 1);
+	struct pkvm_refused refused;
+	int32_t status = pkvm_check(&on, &told, byte() % 3, text, room, &length, &refused);
+
+	must_fit(status, length, room, &refused);
+	status = pkvm_fault_text(byte() % 26, text, room, &length);
+	must(status == 0	      ? length > 0 && length <= room
+	     : status == PKVM_NO_ROOM ? length > room
+				      : status == PKVM_BAD_NUMBER && length == 0);
+	free(text);
+	clear(&told);
+	free(regions);
+}
+
 int LLVMFuzzerTestOneInput(const uint8_t *data, size_t size)
 {
-	static void (*const each[])(void) = {words, traces, judge, predict, audit};
+	static void (*const each[])(void) = {words, traces, judge, predict, audit, check};
 
 	input = data;
 	left = size;

@@ -74,3 +74,9 @@ WRAPPED(pkvm_audit,
 	 size_t roots_len, uint8_t *text, size_t text_room, size_t *text_len,
 	 struct pkvm_refused *refused),
 	(layout, kept, pages, pages_len, roots, roots_len, text, text_room, text_len, refused))
+WRAPPED(pkvm_check,
+	(const struct pkvm_layout *layout, const struct pkvm_state *state, uint64_t flags,
+	 uint8_t *text, size_t text_room, size_t *text_len, struct pkvm_refused *refused),
+	(layout, state, flags, text, text_room, text_len, refused))
+WRAPPED(pkvm_fault_text, (uint64_t fault, uint8_t *text, size_t text_room, size_t *text_len),
+	(fault, text, text_room, text_len))

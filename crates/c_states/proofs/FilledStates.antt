@@ -1,6 +1,6 @@
 -- The state of lists that are filled in as plain lists say, and their faults.
 use Rattle.std.proofs.Common.{◌≡◌, ℕ, zero, suc, List, [], ◌∷◌, All, Option, None, get_or, length, map, refl, sym, ap, subst, inl, inr, ◌∙◌}
-use Rattle.std.specs.Prelude.{◌⊎◌, ◌↔◌, nat_lt, if◌then◌else◌, unwrap_or, IfErr, Result, Ok, Err}
+use Rattle.std.specs.Prelude.{◌⊎◌, ◌↔◌, nat_lt, if◌then◌else◌, unwrap_or, IfErr, IfOk, Result, Ok, Err}
 use Rattle.std.specs.List.{range_with_len}
 use Rattle.std.proofs.lemmas.List.{get_or_past, length-map}
 use Rattle.std.proofs.lemmas.List.FromFn.{length-map-range_with_len}
@@ -160,3 +160,8 @@ first_fault l (Err Overlap) a b c d e = inr (c.0 refl)
 first_fault l (Err TableTwice) a b c d e = inr (d.0 refl)
 first_fault l (Err FrameTwice) a b c d e = inr (e.0 refl)
 first_fault l (Err NoGhostMemory) a b c d e = inl refl
+
+-- what a result's value has in two ways
+pub in_both : {X E : Type 0} (P Q : X → Type 0) (r : Result X E) → IfOk r (λ x. P x × Q x) → IfOk r P × IfOk r Q
+in_both P Q (Ok x) h = h
+in_both P Q (Err e) h = (tt, tt)

@@ -2,6 +2,7 @@
 ghost use Rattle.std.specs.Prelude.{◌≡◌, ◌<◌, ◌↔◌, IfErr, IfOk, IfSome, None, OnOk, Some};
 ghost use Rattle.page_state.specs.LayoutView.{layout_of as layout_of_code};
 ghost use Rattle.ghost_judge.specs.Judgements.{told_of, IsFirstJudged, JudgeAgrees};
+ghost use Rattle.ghost_spec.specs.Filled.{HasTablesApart};
 ghost use Rattle.ghost_spec.specs.Kept.{HasNextGeneration};
 ghost use Rattle.ghost_spec.specs.States.{contents_in, ghost_state};
 ghost use Rattle.c_states.specs.Faults.{AreTaken};
@@ -67,6 +68,7 @@ pub fn made(
     ensures state { IfOk result (λ g. ghost_state g ≡ state_said (lists_told state.now)) }
     ensures layout { IfOk result (λ g. layout_of_code g.layout ≡ layout_said layout.now layout.now.regions.now) }
     ensures cpus { IfOk result (λ g. g.layout.config.cpus ≡ layout.now.cpus) }
+    ensures tables { IfOk result HasTablesApart }
     ensures ready { OnOk result (IsTakenLayout layout.now layout.now.regions.now) }
     ensures taken { OnOk result (AreTaken layout.now.cpus (lists_told state.now)) }
     ensures fault { IfErr result (IsUnmade layout.now layout.now.regions.now (lists_told state.now)) }

@@ -5,7 +5,7 @@ ghost use Rattle.page_state.specs.LayoutView.{layout_of};
 ghost use Rattle.page_state.specs.Rows.{advance_row};
 ghost use Rattle.run_list.specs.Runs.{run_map};
 ghost use Rattle.ghost_spec.specs.declared.lists.GhostLists.{GhostLists};
-ghost use Rattle.ghost_spec.specs.Filled.{state_filled, AreLowRows, AreRowsApart, IsFirstFault, IsFirstRowFault, MakesState};
+ghost use Rattle.ghost_spec.specs.Filled.{state_filled, AreLowRows, AreRowsApart, HasTablesApart, IsFirstFault, IsFirstRowFault, MakesState};
 ghost use Rattle.ghost_spec.specs.States.{ghost_state, slot_in};
 ghost use Rattle.c_states.specs.Filled.{AreFilledGuests, IsFilled, IsFilledShared, IsFilledTree, IsRoomy, guest_lists_said, lists_in, slot_filled};
 ghost use Rattle.c_states.specs.Faults.{
@@ -315,6 +315,7 @@ fn rows_from(alloc: Global, rows: &[PlainRow]) -> Result<RunList<Row>, GhostFaul
 fn tested(alloc: Global, lists: &GhostLists) -> Result<Ghost, GhostFault>
     ensures state { IfOk result (λ g. ghost_state g ≡ state_filled lists.now) }
     ensures layout { IfOk result (λ g. layout_of g.layout ≡ layout_of lists.now.layout) }
+    ensures tables { IfOk result HasTablesApart }
     ensures made { OnOk result (MakesState lists.now) }
     ensures fault { IfErr result (λ f. f ≡ GhostFault.NoMemory ⊎ IsFirstFault f lists.now) }
 {
@@ -365,6 +366,7 @@ fn with_rows(
     requires read { AreRead layout.config.cpus (lists_told state.now) }
     ensures state { IfOk result (λ g. ghost_state g ≡ state_said (lists_told state.now)) }
     ensures layout { IfOk result (λ g. layout_of g.layout ≡ layout_of layout) }
+    ensures tables { IfOk result HasTablesApart }
     ensures taken { OnOk result (AreTaken layout.config.cpus (lists_told state.now)) }
     ensures fault { IfErr result (IsPlainFault layout.config.cpus (lists_told state.now)) }
 {
@@ -384,6 +386,7 @@ pub fn state_of(alloc: Global, layout: Layout, state: &PlainState<'_>) -> Result
     requires { layout.config.log ≡ 1 }
     ensures state { IfOk result (λ g. ghost_state g ≡ state_said (lists_told state.now)) }
     ensures layout { IfOk result (λ g. layout_of g.layout ≡ layout_of layout) }
+    ensures tables { IfOk result HasTablesApart }
     ensures taken { OnOk result (AreTaken layout.config.cpus (lists_told state.now)) }
     ensures fault { IfErr result (IsPlainFault layout.config.cpus (lists_told state.now)) }
 {

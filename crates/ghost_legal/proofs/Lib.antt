@@ -1,4 +1,5 @@
 pub mod AllCounts
+pub mod ApartTables
 pub mod Contradicted
 pub mod Counted
 pub mod Counts

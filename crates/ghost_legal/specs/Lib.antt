@@ -9,4 +9,5 @@ pub mod Pages
 pub mod Places
 pub mod Ranges
 pub mod Texts
+pub mod Told
 pub mod TreeNames

@@ -1,3 +1,4 @@
 pub mod CheckedStates
+mod TestedStates
 mod TheWord
 mod OneAnswer

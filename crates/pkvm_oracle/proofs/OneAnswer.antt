@@ -20,11 +20,11 @@ checked_else l regions kept pages roots told NoMemory c h = tt
 pub checked_once : CheckedOnce
 checked_once l regions kept pages roots None None a b = tt
 checked_once l regions kept pages roots None (Some g) a b =
-    absurd (well_else (contents_said kept) (found_said (layout_said l regions) (contents_said kept) (geometry_said l) pages roots) g (a.checked.none.0 refl) b.checked.first)
+    absurd (well_else (layout_said l regions) (contents_said kept) (found_said (layout_said l regions) (contents_said kept) (geometry_said l) pages roots) g (a.checked.none.0 refl) b.checked.first)
 checked_once l regions kept pages roots (Some f) None a b =
-    absurd (well_else (contents_said kept) (found_said (layout_said l regions) (contents_said kept) (geometry_said l) pages roots) f (b.checked.none.0 refl) a.checked.first)
+    absurd (well_else (layout_said l regions) (contents_said kept) (found_said (layout_said l regions) (contents_said kept) (geometry_said l) pages roots) f (b.checked.none.0 refl) a.checked.first)
 checked_once l regions kept pages roots (Some f) (Some g) a b =
-    finding_once (contents_said kept) (found_said (layout_said l regions) (contents_said kept) (geometry_said l) pages roots) f g a.checked.first b.checked.first
+    finding_once (layout_said l regions) (contents_said kept) (found_said (layout_said l regions) (contents_said kept) (geometry_said l) pages roots) f g a.checked.first b.checked.first
 
 pub unchecked_once : UncheckedOnce
 unchecked_once l regions kept pages roots NoMemory g h k = inl tt

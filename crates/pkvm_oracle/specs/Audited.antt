@@ -42,12 +42,12 @@ trees_said g pages roots n = if nat_lt n 66 then tree_of g pages roots n else no
 abbrev pub found_said : Layout → Contents → Geometry → List PlainPage → List PlainRoot → Contents
 found_said l kept g pages roots = found l kept (trees_said g pages roots)
 
--- a state is checked: no table is reached twice, and nothing is told just where all agrees and what was found is sound; else the first difference, or why it isn't
+-- a state is checked: no table is reached twice, and nothing is told just where all agrees and the state is legal; else the first difference, or why it isn't
 pub record IsCheckedIn (l : Layout) (kept : Contents) (g : Geometry) (pages : List PlainPage) (roots : List PlainRoot) (told : Option Finding) : Type 0 where
   pub given : AreGiven pages roots
   pub once : AllPairs AreOtherFrames (all_tables g pages roots)
-  pub none : (told ≡ None) ↔ IsWell kept (found_said l kept g pages roots)
-  pub first : IfSome told (IsFirstFinding kept (found_said l kept g pages roots))
+  pub none : (told ≡ None) ↔ IsWell l kept (found_said l kept g pages roots)
+  pub first : IfSome told (IsFirstFinding l kept (found_said l kept g pages roots))
 
 -- a state on lists
 abbrev pub IsCheckedFrom : GhostLists → List PlainPage → List PlainRoot → Option Finding → Type 0

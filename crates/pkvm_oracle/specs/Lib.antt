@@ -5,3 +5,5 @@ pub mod Refusals
 pub mod Replayed
 pub mod Words
 pub mod Laws
+pub mod Legal
+pub mod FaultTexts

@@ -1,6 +1,7 @@
 //! A kept state compared with the tables in memory.
 ghost use Rattle.std.specs.Prelude.{◌≡◌, IfErr, IfOk};
 ghost use Rattle.c_states.specs.Views.{lists_told};
+ghost use Rattle.ghost_spec.specs.Filled.{HasTablesApart};
 ghost use Rattle.pkvm_oracle.specs.Audited.{fault_again, is_in_block as is_in_block_of, parent as parent_of, refused_by_audit, refused_by_trees, status_by_audit, status_by_trees, IsAudited, IsChecked, IsCheckedFrom, IsUnchecked, IsUncheckedFrom};
 
 use crate::judged::{NOTHING, PlainRefused, unmade_refused, unmade_status};
@@ -23,8 +24,8 @@ enum Unchecked {
     NoMemory,
 }
 
-/// Compares a kept state with the trees that are found by walking pages from roots: none where all agrees and is sound, and else the
-/// first difference, or why it isn't sound.
+/// Compares a kept state with the trees that are found by walking pages from roots: none where all agrees and is legal, and else the
+/// first difference, or why it isn't legal.
 fn checked(
     alloc: Global,
     layout: &PlainLayout<'_>,
@@ -52,6 +53,7 @@ fn checked_with(
     pages: &[PlainPage<'_>],
     roots: &[PlainRoot],
 ) -> Result<Option<Finding>, Unchecked>
+    requires { HasTablesApart kept.now }
     ensures checked { IfOk result (IsCheckedFrom kept.now pages.now roots.now) }
     ensures unchecked { IfErr result (IsUncheckedFrom kept.now.layout.geometry pages.now roots.now) }
 {
@@ -172,10 +174,10 @@ fn unchecked_status(why: Unchecked) -> i32
 }
 
 /// Compares a kept state with the trees that are found by walking pages of tables from their roots: 0 where the maps, the tables
-/// and the owner rows agree, and the maps are sound; else 1, and the first `text_len` bytes of `text` tell the first difference, or,
-/// where there is none, why the maps aren't sound. Below 0
-/// nothing is written to `text`: -2 it has fewer than `text_len` bytes, which the difference needs; -8, -9 and -13 something is
-/// refused, and `refused` says what; -12 memory was.
+/// and the owner rows agree, and the state is legal; else 1, and the first `text_len` bytes of `text` tell the first difference, or,
+/// where there is none, why the maps aren't sound, or, where they are, what else isn't legal. Below 0 nothing is written to `text`: -2
+/// it has fewer than `text_len` bytes, which the difference needs; -8, -9 and -13 something is refused, and `refused` says what; -12
+/// memory was.
 #[unsafe(no_mangle)]
 pub extern "C" fn pkvm_audit(
     alloc: Global,

@@ -7,9 +7,11 @@ ghost use Rattle.std.specs.Prelude.{◌≡◌, pos};
 mod audited;
 mod judged;
 pub mod laws;
+mod legal;
 mod predicted;
 mod replayed;
 mod statuses;
+mod texts;
 mod words;
 
 /// The version of these functions and structs, 2.1.0: the first 32 bits change where a program that uses them has to, the next 16 where

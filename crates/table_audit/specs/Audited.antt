@@ -1,16 +1,19 @@
 -- What an audit compares, and the first difference in its order: the maps, the owner rows, and then the tables of the host, of the
--- hypervisor and of the guests by slot. Where all agrees, what was found is sound, or why it isn't.
-use Rattle.std.specs.Prelude.{◌≡◌, ℕ, ◌<◌, List, Option, get_or, map}
+-- hypervisor and of the guests by slot. Where all agrees, the state is legal, or why it isn't.
+use Rattle.std.specs.Prelude.{◌≡◌, ℕ, ◌<◌, true, List, Option, get_or, map}
+use Rattle.page_state.specs.Layouts.{Layout}
 use Rattle.page_state.specs.Trees.{Block}
+use Rattle.reference_model.specs.Conditions.{Legal}
 use Rattle.reference_model.specs.State.{Contents, no_guest}
 use Rattle.ghost_judge.specs.Audits.{AuditAgrees, IsFirstDifference}
 use Rattle.ghost_judge.specs.declared.disagreement.TreeOf.{TreeOf}
 use Rattle.ghost_judge.specs.declared.disagreement.TreeOf.TheVariants.{Host, Hyp, Guest}
 use Rattle.ghost_spec.specs.declared.parts.GhostGuest.{GhostGuest}
 use Rattle.ghost_spec.specs.States.{guest_in}
+use Rattle.ghost_legal.specs.Told.{IsToldOf}
 use Rattle.ghost_sound.specs.Sound.{IsSound, IsUnsound}
 use Rattle.table_audit.specs.declared.finding.Finding.{Finding}
-use Rattle.table_audit.specs.declared.finding.Finding.TheVariants.{Differs, Table as TableDiffers, Unsound}
+use Rattle.table_audit.specs.declared.finding.Finding.TheVariants.{Differs, Table as TableDiffers, Unsound, Illegal}
 use Rattle.table_audit.specs.Tables.{IsTableTold}
 
 -- all tables are the same
@@ -24,10 +27,10 @@ pub record AgreesWith (kept walked : Contents) : Type 0 where
   pub audit : AuditAgrees kept walked
   pub tables : TablesAgree kept walked
 
--- all agrees, and the maps that were found are sound
-pub record IsWell (kept walked : Contents) : Type 0 where
+-- all agrees, and the state is legal
+pub record IsWell (l : Layout) (kept walked : Contents) : Type 0 where
   pub agrees : AgreesWith kept walked
-  pub sound : IsSound walked
+  pub legal : Legal l kept
 
 -- a table of this tree differs, and those of the trees before it don't
 abbrev pub IsFirstTableOf : Contents → Contents → TreeOf → ℕ × ℕ → Option ℕ → Option ℕ → Type 0
@@ -40,6 +43,7 @@ IsFirstTableOf kept walked (Guest v) block x y =
 abbrev pub IsFirstTable : Contents → Contents → Finding → Type 0
 IsFirstTable kept walked (Differs d) = ⊥
 IsFirstTable kept walked (Unsound why) = ⊥
+IsFirstTable kept walked (Illegal why) = ⊥
 IsFirstTable kept walked (TableDiffers tree height index x y) = IsFirstTableOf kept walked tree (height, index) x y
 
 -- the tables of the guest at a place of a list
@@ -55,8 +59,14 @@ abbrev pub IsGuestTable : List GhostGuest → List GhostGuest → Finding → Ty
 IsGuestTable kept walked (TableDiffers (Guest v) height index x y) = IsGuestTableOf kept walked v (height, index) x y
 IsGuestTable kept walked other = ⊥
 
--- the first difference: all that comes before it agrees; and why what was found isn't sound, where there is no difference
-abbrev pub IsFirstFinding : Contents → Contents → Finding → Type 0
-IsFirstFinding kept walked (Differs d) = IsFirstDifference kept walked d
-IsFirstFinding kept walked (TableDiffers tree height index x y) = AuditAgrees kept walked × IsFirstTableOf kept walked tree (height, index) x y
-IsFirstFinding kept walked (Unsound why) = AgreesWith kept walked × IsUnsound walked why
+-- why a state isn't legal: its maps aren't sound; and where they are, what is told of it
+abbrev pub IsUnlawful : Layout → Contents → Finding → Type 0
+IsUnlawful l s (Unsound why) = (Legal l s → ⊥) × IsUnsound s why
+IsUnlawful l s (Illegal why) = (Legal l s → ⊥) × IsSound s × IsToldOf true l s why
+IsUnlawful l s other = ⊥
+
+-- the first difference: all that comes before it agrees; and why the state isn't legal, where there is no difference
+abbrev pub IsFirstFinding : Layout → Contents → Contents → Finding → Type 0
+IsFirstFinding l kept walked (Differs d) = IsFirstDifference kept walked d
+IsFirstFinding l kept walked (TableDiffers tree height index x y) = AuditAgrees kept walked × IsFirstTableOf kept walked tree (height, index) x y
+IsFirstFinding l kept walked other = AgreesWith kept walked × IsUnlawful l kept other

@@ -5,7 +5,7 @@ use Rattle.ghost_judge.specs.declared.disagreement.TreeOf.{TreeOf}
 use Rattle.ghost_trees.specs.declared.tree.Table.{Table}
 use Rattle.ghost_trees.specs.Trees.{table_of}
 use Rattle.table_audit.specs.declared.finding.Finding.{Finding}
-use Rattle.table_audit.specs.declared.finding.Finding.TheVariants.{Differs, Table as TableDiffers, Unsound}
+use Rattle.table_audit.specs.declared.finding.Finding.TheVariants.{Differs, Table as TableDiffers, Unsound, Illegal}
 
 -- two lists have other frames at a block
 abbrev pub IsTableApart : List Table → List Table → Block → Type 0
@@ -20,4 +20,5 @@ pub record IsTableTold (kept walked : Block → Option ℕ) (block : Block) (x y
 abbrev pub IsTableFinding : TreeOf → (Block → Option ℕ) → (Block → Option ℕ) → Finding → Type 0
 IsTableFinding tree kept walked (Differs d) = ⊥
 IsTableFinding tree kept walked (Unsound why) = ⊥
+IsTableFinding tree kept walked (Illegal why) = ⊥
 IsTableFinding tree kept walked (TableDiffers of height index x y) = (of ≡ tree) × IsTableTold kept walked (height, index) x y

@@ -3,10 +3,11 @@ ghost use Rattle.std.specs.Prelude.{Some};
 ghost use Rattle.table_audit.specs.Texts.{text_of_finding, text_of_frame_or_none};
 
 use ghost_judge::disagreement::{Disagreement, TreeOf};
+use ghost_legal::Illegal;
 use ghost_sound::Unsound;
 use std::fmt;
 
-/// Where what is kept and the trees that were found disagree, or why both aren't sound.
+/// Where what is kept and the trees that were found disagree, or why both aren't sound or legal.
 #[derive(Clone, Copy, PartialEq)]
 pub enum Finding {
     /// On a page of a map, or on the owner row of a frame.
@@ -21,6 +22,8 @@ pub enum Finding {
     },
     /// Nowhere: what is kept and was found isn't sound.
     Unsound(Unsound),
+    /// Nowhere, and the maps are sound: but no run comes to this state.
+    Illegal(Illegal),
 }
 
 /// A frame, where there is one.
@@ -81,6 +84,7 @@ impl fmt::Display for Finding {
                 write!(f, "disagree table {tree} {sides}")
             }
             Finding::Unsound(why) => fmt::Display::fmt(&why, f),
+            Finding::Illegal(why) => fmt::Display::fmt(&why, f),
         }
     }
 }

@@ -28,12 +28,14 @@ use alloc::vec::Vec;
 use pkvm_oracle_sys as sys;
 
 mod calls;
+mod check;
 mod errors;
 mod numbered;
 mod states;
 mod words;
 
 pub use calls::{Call, Refusal, Reply, Value, Vm, VmKind};
+pub use check::{check, Trees};
 pub use errors::{Error, Fault, List, Place, Refused};
 pub use states::{
     Cpu, Frame, Guest, Layout, Load, Owner, Phase, Region, RegionKind, Row, Run, Slot, Stage,
@@ -394,8 +396,8 @@ pub struct Root {
 }
 
 /// Compares a kept state with the trees that are found by walking pages of tables from their roots, by frame numbers. They agree where
-/// maps, owner rows and tables do, and the maps are sound. Else the first difference is told, or without one, two owners or two
-/// borrowers of a frame, or a borrower of one that nobody shares.
+/// maps, owner rows and tables do, and the state is legal, as [`check`] has it of [`Trees::Coarsest`]. Else the first difference is
+/// told, or without one, two owners or two borrowers of a frame, or a borrower of one that nobody shares, or what [`check`] tells.
 ///
 /// ```
 /// use pkvm_oracle::{

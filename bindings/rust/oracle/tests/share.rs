@@ -1,8 +1,8 @@
 //! A page that the host shares with the hypervisor, from a state after boot.
 use pkvm_oracle::{
-    judge, predict, reply_to, Call, Error, Fault, Frame, Kind, Layout, List, Owner, Party, Place,
-    Refusal, Region, RegionKind, Rights, Row, Run, Sharing, State, Table, Usage, Value, Verdict,
-    Version, Word,
+    check, judge, predict, reply_to, Call, Error, Fault, Frame, Kind, Layout, List, Owner, Party,
+    Place, Refusal, Region, RegionKind, Rights, Row, Run, Sharing, State, Table, Trees, Usage,
+    Value, Verdict, Version, Word,
 };
 
 const CARVE: u64 = 0x40600;
@@ -184,4 +184,41 @@ fn each_number_is_of_one_variant() {
         (Fault::of(0), Fault::of(23), Refusal::of(0)),
         (None, None, None)
     );
+}
+
+#[test]
+fn legal_states() {
+    let share = Call::ShareHyp { frame: 0x40100 };
+    let (_, mut after) = predict(&layout(), &booted(), 1, share).unwrap();
+    let agrees = Ok(Verdict::Agrees);
+    assert_eq!(check(&layout(), &booted(), Trees::Coarsest), agrees);
+    assert_eq!(check(&layout(), &after, Trees::Coarsest), agrees);
+    after
+        .tables
+        .retain(|it| (it.height, it.index) != (1, 0x200));
+    let freed = Frame {
+        pool: Party::Hyp,
+        frame: CARVE + 6,
+    };
+    after.frames.push(freed);
+    assert_eq!(check(&layout(), &after, Trees::Any), agrees);
+    let told = "missing table host 1 0x200";
+    let verdict = check(&layout(), &after, Trees::Coarsest);
+    assert_eq!(verdict, Ok(Verdict::Differs(told.into())));
+    after.frames[0].frame = CARVE;
+    let told = "held twice 0x40600: table host 3 0x0, shared pool";
+    let verdict = check(&layout(), &after, Trees::Any);
+    assert_eq!(verdict, Ok(Verdict::Differs(told.into())));
+}
+
+#[test]
+fn faults_are_called_as_in_the_library() {
+    for fault in Fault::ALL {
+        let (mut text, mut length) = ([0; 128], 0);
+        // SAFETY: the text is written up to its length, and the length alone.
+        let status = unsafe {
+            pkvm_oracle_sys::pkvm_fault_text(fault.number(), text.as_mut_ptr(), 128, &mut length)
+        };
+        assert_eq!((status, &text[..length]), (0, fault.text().as_bytes()));
+    }
 }

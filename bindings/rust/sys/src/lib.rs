@@ -128,6 +128,10 @@ numbers! {
     "Verdicts." i32:
     PKVM_AGREES = 0, PKVM_DISAGREES = 1
 }
+numbers! {
+    "What is asked of the tables of a legal state." u64:
+    PKVM_COARSEST_TREES = 0, PKVM_ANY_TREES = 1
+}
 structs! {
     /// What a word says.
     pkvm_word { says: u64, frame: u64, owner: u64, rights: u64, kind: u64, state: u64 }
@@ -244,5 +248,20 @@ unsafe extern "C" {
         text_room: usize,
         text_len: *mut usize,
         refused: *mut pkvm_refused,
+    ) -> i32;
+    pub fn pkvm_check(
+        layout: *const pkvm_layout,
+        state: *const pkvm_state,
+        flags: u64,
+        text: *mut u8,
+        text_room: usize,
+        text_len: *mut usize,
+        refused: *mut pkvm_refused,
+    ) -> i32;
+    pub fn pkvm_fault_text(
+        fault: u64,
+        text: *mut u8,
+        text_room: usize,
+        text_len: *mut usize,
     ) -> i32;
 }

@@ -19,6 +19,6 @@ returns-in-Ok-found-clause-checked c =
     record {
       given = are.given;
       once = are.once;
-      none = subst (λ (t : ℕ → Tree). (c.in-Ok-found.found ≡ None) ↔ IsWell (contents_in c.args.kept.now) (found (layout_of c.args.kept.now.layout) (contents_in c.args.kept.now) t)) same c.in-Ok-found.ensures.none;
-      first = subst (λ (t : ℕ → Tree). IfSome c.in-Ok-found.found (IsFirstFinding (contents_in c.args.kept.now) (found (layout_of c.args.kept.now.layout) (contents_in c.args.kept.now) t))) same c.in-Ok-found.ensures.first;
+      none = subst (λ (t : ℕ → Tree). (c.in-Ok-found.found ≡ None) ↔ IsWell (layout_of c.args.kept.now.layout) (contents_in c.args.kept.now) (found (layout_of c.args.kept.now.layout) (contents_in c.args.kept.now) t)) same c.in-Ok-found.ensures.none;
+      first = subst (λ (t : ℕ → Tree). IfSome c.in-Ok-found.found (IsFirstFinding (layout_of c.args.kept.now.layout) (contents_in c.args.kept.now) (found (layout_of c.args.kept.now.layout) (contents_in c.args.kept.now) t))) same c.in-Ok-found.ensures.first;
     }
