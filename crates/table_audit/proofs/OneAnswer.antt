@@ -21,8 +21,8 @@ use Rattle.table_audit.proofs.Firsts.{not_first}
 pub well_else : WellElse
 well_else l kept walked (Differs d) w h = audit_else kept walked d w.agrees.audit h
 well_else l kept walked (TableDiffers tree height index x y) w h = not_first kept walked (TableDiffers tree height index x y) h.1 w.agrees.tables
-well_else l kept walked (Unsound why) w h = h.1 w.legal
-well_else l kept walked (Illegal why) w h = h.1 w.legal
+well_else l kept walked (Unsound why) w h = h.1.0 w.legal
+well_else l kept walked (Illegal why) w h = h.1.0 w.legal
 
 told_else : (f g : Block → Option ℕ) (block : Block) (x y : Option ℕ) → f ≡ g → IsTableTold f g block x y → ⊥
 told_else f g block x y e h = h.apart (ap (λ t. t block) e)
@@ -59,18 +59,18 @@ module _ (l : Layout) (kept walked : Contents) where
   one_finding (Unsound why) (Differs e) h k = absurd (audit_else kept walked e h.0.audit k)
   one_finding (Unsound why) (TableDiffers u c n z w) h k = absurd (not_first kept walked (TableDiffers u c n z w) k.1 h.0.tables)
   one_finding (Unsound (TwoOwners f one other)) (Unsound (TwoOwners g two another)) h k = tt
-  one_finding (Unsound (TwoOwners f one other)) (Unsound (TwoBorrowers g two another)) h k = absurd (two_owners kept f one other k.2.0 h.2)
-  one_finding (Unsound (TwoOwners f one other)) (Unsound (NoShare g place)) h k = absurd (two_owners kept f one other k.2.0 h.2)
-  one_finding (Unsound (TwoBorrowers f one other)) (Unsound (TwoOwners g two another)) h k = absurd (two_owners kept g two another h.2.0 k.2)
+  one_finding (Unsound (TwoOwners f one other)) (Unsound (TwoBorrowers g two another)) h k = absurd (two_owners kept f one other k.1.1.0 h.1.1)
+  one_finding (Unsound (TwoOwners f one other)) (Unsound (NoShare g place)) h k = absurd (two_owners kept f one other k.1.1.0 h.1.1)
+  one_finding (Unsound (TwoBorrowers f one other)) (Unsound (TwoOwners g two another)) h k = absurd (two_owners kept g two another h.1.1.0 k.1.1)
   one_finding (Unsound (TwoBorrowers f one other)) (Unsound (TwoBorrowers g two another)) h k = tt
-  one_finding (Unsound (TwoBorrowers f one other)) (Unsound (NoShare g place)) h k = absurd (two_borrowers kept f one other k.2.1 h.2.1)
-  one_finding (Unsound (NoShare f at)) (Unsound (TwoOwners g two another)) h k = absurd (two_owners kept g two another h.2.0 k.2)
-  one_finding (Unsound (NoShare f at)) (Unsound (TwoBorrowers g two another)) h k = absurd (two_borrowers kept g two another h.2.1 k.2.1)
+  one_finding (Unsound (TwoBorrowers f one other)) (Unsound (NoShare g place)) h k = absurd (two_borrowers kept f one other k.1.1.1 h.1.1.1)
+  one_finding (Unsound (NoShare f at)) (Unsound (TwoOwners g two another)) h k = absurd (two_owners kept g two another h.1.1.0 k.1.1)
+  one_finding (Unsound (NoShare f at)) (Unsound (TwoBorrowers g two another)) h k = absurd (two_borrowers kept g two another h.1.1.1 k.1.1.1)
   one_finding (Unsound (NoShare f at)) (Unsound (NoShare g place)) h k = tt
-  one_finding (Unsound why) (Illegal other) h k = absurd (not-sound kept why k.2 h.2)
+  one_finding (Unsound why) (Illegal other) h k = absurd (not-sound kept why h.1.1 k.1.1)
   one_finding (Illegal why) (Differs e) h k = absurd (audit_else kept walked e h.0.audit k)
   one_finding (Illegal why) (TableDiffers u c n z w) h k = absurd (not_first kept walked (TableDiffers u c n z w) k.1 h.0.tables)
-  one_finding (Illegal why) (Unsound other) h k = absurd (not-sound kept other h.2 k.2)
+  one_finding (Illegal why) (Unsound other) h k = absurd (not-sound kept other k.1.1 h.1.1)
   one_finding (Illegal why) (Illegal other) h k = tt
 
 pub finding_once : FindingOnce
