@@ -1,0 +1,5 @@
+pub mod AnyTrees
+pub mod Freedoms
+pub mod Ample
+pub mod Laws
+pub mod OwnTables
