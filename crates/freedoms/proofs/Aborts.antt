@@ -68,7 +68,7 @@ own-seen w l p lazy = ap (view_entry w l p) (sym (unmapped-seen w l p lazy)) ∙
 own-is : (l : Layout) (p : ℕ) (r : Region) → region_of l.memory p ≡ Some r → own_entry l p ≡ abort_leaf r p
 own-is l p r h = ap (λ (o : Option Region). elim o [ Some q ↦ abort_leaf q p | None ↦ Unmapped ]) h
 
-annotated-leaves : (l : Layout) → Leaves l is_annotated
+pub annotated-leaves : (l : Layout) → Leaves l is_annotated
 annotated-leaves l = record { own = own-test l is_annotated false (λ f r. abort-test is_annotated false f r refl refl) refl; kind = go }
   where
     go : (e : Entry) → is_annotated (as_device e) ≡ is_annotated e

@@ -13,3 +13,5 @@ pub mod Views
 pub mod ViewRows
 pub mod ByRows
 pub mod Aborts
+pub mod Seen
+pub mod OtherAborts

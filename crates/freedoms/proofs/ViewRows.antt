@@ -123,19 +123,19 @@ module _ (w : Freedoms) (l : Layout) (cpu : ℕ) (slot : Option ℕ) (step : Ste
   unfolding with_rows changed shared_after
   rows-same h = same2 with_row (changed-alike w l h x z e) (fun_ext (λ f. chosen-same (is_memory l f) (is_touched h f) (own_row l cpu slot step (changed l.depth h x) f) (own_row l cpu slot step (changed l.depth h z) f) (x.shared.row f) (z.shared.row f) (ap (λ (u : Used). u.shared.row f) e) (λ k. own-same h f)))
 
-  made-same : asks_pool step ≡ false → reads_host step ≡ false → view_used w l (made l cpu slot step x) ≡ view_used w l (made l cpu slot step z)
-  unfolding made
-  made-same asks reads = rows-same (rule_of l cpu slot step x).changes ∙ ap (λ (r : Rule). view_used w l (with_rows l cpu slot step r.changes (changed l.depth r.changes z))) (rule-alike w l cpu slot step x z asks reads e)
+  module _ (same : rule_of l cpu slot step x ≡ rule_of l cpu slot step z) where
+    made-same : view_used w l (made l cpu slot step x) ≡ view_used w l (made l cpu slot step z)
+    unfolding made
+    made-same = rows-same (rule_of l cpu slot step x).changes ∙ ap (λ (r : Rule). view_used w l (with_rows l cpu slot step r.changes (changed l.depth r.changes z))) same
 
-  pub twin-view : asks_pool step ≡ false → reads_host step ≡ false → (reply : Reply) (y : Used) → AnswersAmply l cpu slot step x reply y → (u : Used) × AnswersAmply l cpu slot step z reply u × (view_used w l y ≡ view_used w l u)
-  twin-view asks reads reply y p =
-      let same = rule-alike w l cpu slot step x z asks reads e in
-      let fails : rule_fails l cpu slot step x ≡ rule_fails l cpu slot step z = ap (λ (r : Rule). first_test r (lacks_slot (names step) slot)) same in
-      elim p [
-        | inl m ↦ (made l cpu slot step z, inl (record { passes = sym fails ∙ m.passes; reply_is = m.reply_is ∙ ap (λ (r : Rule). Done r.changes.value) same; next = refl }), ap (view_used w l) m.next ∙ made-same asks reads)
-        | inr (inl m) ↦ (z, inr (inl (record { why = m.why; fail = sym fails ∙ m.fail; reply_is = m.reply_is; next = refl })), ap (view_used w l) m.next ∙ e)
-        | inr (inr m) ↦ (z, inr (inr (record { passes = sym fails ∙ m.passes; grows = m.grows; reply_is = m.reply_is; next = refl })), ap (view_used w l) m.next ∙ e)
-      ]
+    pub twin-view : (reply : Reply) (y : Used) → AnswersAmply l cpu slot step x reply y → (u : Used) × AnswersAmply l cpu slot step z reply u × (view_used w l y ≡ view_used w l u)
+    twin-view reply y p =
+        let fails : rule_fails l cpu slot step x ≡ rule_fails l cpu slot step z = ap (λ (r : Rule). first_test r (lacks_slot (names step) slot)) same in
+        elim p [
+          | inl m ↦ (made l cpu slot step z, inl (record { passes = sym fails ∙ m.passes; reply_is = m.reply_is ∙ ap (λ (r : Rule). Done r.changes.value) same; next = refl }), ap (view_used w l) m.next ∙ made-same)
+          | inr (inl m) ↦ (z, inr (inl (record { why = m.why; fail = sym fails ∙ m.fail; reply_is = m.reply_is; next = refl })), ap (view_used w l) m.next ∙ e)
+          | inr (inr m) ↦ (z, inr (inr (record { passes = sym fails ∙ m.passes; grows = m.grows; reply_is = m.reply_is; next = refl })), ap (view_used w l) m.next ∙ e)
+        ]
 
 -- states
 
@@ -188,8 +188,12 @@ module _ (w : Freedoms) (l : Layout) (s : Contents) (n : Names) (slot : Option �
   pub put-alike : (y u : Used) → view_used w l y ≡ view_used w l u → Alike w l (put_back n slot cpu (without_tables s) y) (put_back n slot cpu (view w l s) u)
   put-alike y u e = bare-put y ∙ ap put_seen e ∙ sym (seen-put u)
 
-pub view_steps : ViewSteps
-view_steps w l s cpu step reply asks reads =
+-- a rule reads of what is used only what is seen of it
+abbrev pub RuleIsSeen : Freedoms → Layout → ℕ → Step → Type 0
+RuleIsSeen w l cpu step = (slot : Option ℕ) (x z : Used) → view_used w l x ≡ view_used w l z → rule_of l cpu slot step x ≡ rule_of l cpu slot step z
+
+pub steps-seen : (w : Freedoms) (l : Layout) (s : Contents) (cpu : ℕ) (step : Step) (reply : Reply) → RuleIsSeen w l cpu step → StepsInView w l s cpu step reply
+steps-seen w l s cpu step reply rule =
     let n = names step in
     let slot = guest_slot (s.cpu cpu) step in
     let x = used_of n slot cpu (without_tables s) in
@@ -199,9 +203,12 @@ view_steps w l s cpu step reply asks reads =
     let e = seen w l s n slot cpu in
     record {
       down = λ t p.
-          let k = twin-view w l cpu slot step x z a b e asks reads reply p.after p.answers in
+          let k = twin-view w l cpu slot step x z a b e (rule slot x z e) reply p.after p.answers in
           (put_back n slot cpu (view w l s) k.0, record { after = k.0; answers = k.1; next = refl }, ap (view w l) p.next ∙ put-alike w l s n slot cpu p.after k.0 k.2);
       up = λ u p.
-          let k = twin-view w l cpu slot step z x b a (sym e) asks reads reply p.after p.answers in
+          let k = twin-view w l cpu slot step z x b a (sym e) (rule slot z x (sym e)) reply p.after p.answers in
           (put_back n slot cpu (without_tables s) k.0, record { after = k.0; answers = k.1; next = refl }, put-alike w l s n slot cpu k.0 p.after (sym k.2) ∙ sym (ap (view w l) p.next));
     }
+
+pub view_steps : ViewSteps
+view_steps w l s cpu step reply asks reads = steps-seen w l s cpu step reply (λ slot x z e. rule-alike w l cpu slot step x z asks reads e)

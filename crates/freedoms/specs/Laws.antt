@@ -145,3 +145,8 @@ ReclaimsByRows = (l : Layout) (before legal : Contents) (cpu v root f : ℕ) (fs
 abbrev pub AbortInView : Type 0
 AbortInView = (w : Freedoms) (l : Layout) (before legal : Contents) (cpu p : ℕ) (reply : Reply) (after : Contents) → w.lazy_host ≡ true → IsUsable l → Alike w l before legal → LegalInAnyTrees l legal
     → JudgedWith w l before cpu (HostAbort p) reply after ↔ (IsJudgedInView w l before cpu (HostAbort p) reply after × Touches (HostAbort p) reply after)
+
+-- and that of a host that isn't lazy, whatever the kind of devices' pages
+abbrev pub AbortOfAnyKind : Type 0
+AbortOfAnyKind = (w : Freedoms) (l : Layout) (before legal : Contents) (cpu p : ℕ) (reply : Reply) (after : Contents) → w.lazy_host ≡ false → Alike w l before legal → LegalInAnyTrees l legal
+    → JudgedWith w l before cpu (HostAbort p) reply after ↔ IsJudgedInView w l before cpu (HostAbort p) reply after

@@ -3,3 +3,4 @@ pub mod Freedoms
 pub mod Ample
 pub mod Laws
 pub mod OwnTables
+pub mod Seen
