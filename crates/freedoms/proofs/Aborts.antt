@@ -1,12 +1,11 @@
 -- host_abort of a lazy host: what freedoms leave of the state stays.
 use Rattle.std.proofs.Common.{◌≡◌, ℕ, ◌+◌, ◌-◌, ◌≤◌, refl, ap, sym, ◌∙◌, subst, arith, inl, inr}
-use Rattle.std.specs.Prelude.{Bool, true, false, not, ◌&&◌, ◌||◌, ◌==◌, is_none, Option, Some, None, if◌then◌else◌}
-use Rattle.std.proofs.lemmas.Bool.Decides.{nat_tests}
+use Rattle.std.specs.Prelude.{Bool, true, false, ◌&&◌, ◌==◌, is_none, Option, Some, None, if◌then◌else◌}
 use mathlib.Core.Path.{fun_ext}
 use Rattle.descriptor.specs.declared.Prot.TheVariants.{RWX}
 use Rattle.descriptor.specs.declared.State.{State}
 use Rattle.descriptor.specs.declared.State.TheVariants.{Owned, SharedOwned, SharedBorrowed}
-use Rattle.page_state.proofs.Common.{both, eq-same, and-both, if-true, if-false, same2, not-holds}
+use Rattle.page_state.proofs.Common.{both, eq-same, and-both, if-true, if-false, same2}
 use Rattle.page_state.specs.declared.entry.Entry.{Entry}
 use Rattle.page_state.specs.declared.entry.Entry.TheVariants.{Unmapped, Malformed, Annotated, Leaf}
 use Rattle.page_state.specs.declared.layout.Region.{Region}
@@ -26,28 +25,28 @@ use Rattle.reference_model.proofs.conditions.AbortStep.{abort-edit}
 use Rattle.reference_model.proofs.conditions.FrameMoves.{no-uses}
 use Rattle.reference_model.proofs.conditions.OfLegal.{shared-of}
 use Rattle.reference_model.proofs.conditions.RangeMoves.{within-is, advance-leaf, free-hosts}
-use Rattle.reference_model.proofs.conditions.Stands.{SharedStands, GuestsStand, HandsStand, row-stands}
+use Rattle.reference_model.proofs.conditions.Stands.{SharedStands, GuestsStand, row-stands}
 use Rattle.reference_model.specs.declared.changes.Changes.{Changes}
 use Rattle.reference_model.specs.declared.changes.MapChange.{MapChange}
 use Rattle.reference_model.specs.Changes.{change, edit_of, no_changes, touched}
-use Rattle.reference_model.specs.Conditions.{Condition, hosts, IsUsable, is_inside, in_shared, in_hand, in_vm, one, guest_condition, row_in}
-use Rattle.reference_model.specs.Owner.{is_in_hand, row_of}
+use Rattle.reference_model.specs.Conditions.{hosts, IsUsable, is_inside, in_shared, in_hand, guest_condition, row_in}
+use Rattle.reference_model.specs.Owner.{is_in_hand}
 use Rattle.reference_model.specs.Parts.{shared, lacks_slot}
 use Rattle.reference_model.specs.Rule.{Rule, fine}
-use Rattle.reference_model.specs.Rules.{rule, names}
+use Rattle.reference_model.specs.Rules.{rule}
 use Rattle.reference_model.specs.SharedRules.{abort_edit, abort_leaf}
-use Rattle.reference_model.specs.State.{Shared, Guest, Cpu, Contents, no_cpu, no_guest, blank, put_at}
+use Rattle.reference_model.specs.State.{Cpu, Contents, no_cpu, no_guest, blank, put_at}
 use Rattle.reference_model.specs.Step.{first_test, rule_of, is_touched, own_row, with_rows, changed, made, shared_after, guest_after}
 use Rattle.reference_model.specs.Used.{Used, used_of, put_back}
 use Rattle.freedoms.specs.Ample.{rule_fails, AnswersAmply, StepsAmply}
 use Rattle.freedoms.specs.AnyTrees.{LegalInAnyTrees}
 use Rattle.freedoms.specs.declared.Freedoms.{Freedoms}
-use Rattle.freedoms.specs.Freedoms.{own_entry, touched_entry, is_device, as_device, kind_entry, view_entry, view, Alike}
+use Rattle.freedoms.specs.Freedoms.{own_entry, is_device, as_device, kind_entry, view_entry, view, Alike}
 use Rattle.freedoms.specs.Laws.{AbortInView}
-use Rattle.freedoms.specs.OwnTables.{bare_used, without_tables}
+use Rattle.freedoms.specs.OwnTables.{bare_used}
 use Rattle.freedoms.proofs.Bare.{put-bare}
-use Rattle.freedoms.proofs.Gone.{IsApart, pool_holds, guest_holds, still-apart, after-brings, no-frame, three-false}
-use Rattle.freedoms.proofs.Loose.{range_of, abort-loose, touched-host}
+use Rattle.freedoms.proofs.Gone.{still-apart, after-brings, no-frame, three-false}
+use Rattle.freedoms.proofs.Loose.{range_of, abort-loose}
 use Rattle.freedoms.proofs.OwnRows.{apart-of, nothing-clear, choose}
 use Rattle.freedoms.proofs.Views.{Leaves, view-test, view-twice, view_used, view_shared, own-test, abort-test}
 use Rattle.freedoms.proofs.ViewRows.{own-view, seen, put-alike}

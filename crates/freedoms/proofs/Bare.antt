@@ -1,5 +1,5 @@
 -- Without tables and free frames: rules, changes and parts are the same.
-use Rattle.std.proofs.Common.{◌≡◌, ℕ, refl, ap, sym, ◌∙◌, List, [], ◌∷◌}
+use Rattle.std.proofs.Common.{◌≡◌, ℕ, refl, ap, sym}
 use Rattle.std.specs.Prelude.{Bool, true, false, ◌==◌, Option, Some, None, if◌then◌else◌}
 use mathlib.Core.Path.{fun_ext}
 use Rattle.call_table.specs.declared.step.Step.{Step}
@@ -11,9 +11,9 @@ use Rattle.reference_model.specs.declared.changes.Changes.{Changes}
 use Rattle.reference_model.specs.declared.changes.GuestChange.{GuestChange}
 use Rattle.reference_model.specs.declared.changes.GuestChange.TheVariants.{Keep as KeepGuest, Install, Gain, LoseLowest, Die, Empty}
 use Rattle.reference_model.specs.Changes.{guest_by}
-use Rattle.reference_model.specs.Parts.{Names, uses_vms, uses_shared}
+use Rattle.reference_model.specs.Parts.{Names, uses_shared}
 use Rattle.reference_model.specs.Rules.{rule}
-use Rattle.reference_model.specs.State.{Shared, Guest, Contents, dying, no_shared, put_at}
+use Rattle.reference_model.specs.State.{Shared, Guest, Contents, dying, no_shared}
 use Rattle.reference_model.specs.Step.{rule_of, changed, shared_after, guest_after}
 use Rattle.reference_model.specs.Used.{Used, used_of, put_back, guest_at, put_guest}
 use Rattle.freedoms.specs.Ample.{asks_pool}

@@ -1,23 +1,22 @@
 -- A legal state that has for a guest just the pool that the rows say.
-use Rattle.std.proofs.Common.{◌≡◌, ◌≢◌, ℕ, zero, suc, ◌+◌, ◌≤◌, ◌<◌, refl, ap, sym, ◌∙◌, subst, arith, inl, inr, List, [], ◌∷◌}
+use Rattle.std.proofs.Common.{◌≡◌, ◌≢◌, ℕ, zero, suc, ◌+◌, refl, ap, sym, ◌∙◌, subst, arith, inl, inr, List, ◌∷◌}
 use Rattle.std.specs.Prelude.{Bool, true, false, ◌&&◌, ◌==◌, Option, Some, None, if◌then◌else◌}
-use Rattle.std.proofs.lemmas.Bool.Decides.{nat_tests}
 use mathlib.Core.Path.{fun_ext}
 use Rattle.coarse_trees.specs.Coarsest.{IsInTree}
 use Rattle.page_state.proofs.BlockTests.{block-same}
 use Rattle.page_state.proofs.Common.{both, and-both, eq-self, eq-same, if-true, if-false}
 use Rattle.page_state.proofs.Counts.{count_next}
-use Rattle.page_state.specs.Counts.{is_one, frame_count}
+use Rattle.page_state.specs.Counts.{is_one}
 use Rattle.page_state.specs.Layouts.{Layout, is_memory}
 use Rattle.page_state.specs.Trees.{Block, root_tree}
 use Rattle.page_state.specs.declared.row.Row.{Row}
 use Rattle.reference_model.proofs.Frames.{count_blocks-none}
 use Rattle.reference_model.proofs.PutAt.{put_at-same}
 use Rattle.reference_model.proofs.conditions.Tables.{uses_of, uses-put}
-use Rattle.reference_model.specs.Conditions.{GuestFits, IsMemoryLeaf, guest_condition, in_vm, one, table_uses, guest_uses, is_inside}
+use Rattle.reference_model.specs.Conditions.{GuestFits, IsMemoryLeaf, in_vm, one, table_uses, guest_uses}
 use Rattle.reference_model.specs.Owner.{is_frame}
-use Rattle.reference_model.specs.Sound.{IsGuestOf, IsTicketOf, StageFits, tree_at}
-use Rattle.reference_model.specs.State.{Guest, Contents, Phase, empty, no_guest, put_at}
+use Rattle.reference_model.specs.Sound.{StageFits, tree_at}
+use Rattle.reference_model.specs.State.{Guest, Contents, empty, no_guest, put_at}
 use Rattle.freedoms.specs.AnyTrees.{LegalInAnyTrees, HasRootAlone, IsInside}
 use Rattle.freedoms.specs.Laws.{is_pool_of, IsPoolByRows, with_root, with_pool, PoolsByRows, ReclaimsByRows}
 use Rattle.freedoms.specs.OwnTables.{OwnTables, bare_guest, without_tables}

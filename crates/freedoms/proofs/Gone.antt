@@ -1,14 +1,14 @@
 -- A frame that no pool and no table has is in none after a change, but for those that the change brings.
-use Rattle.std.proofs.Common.{◌≡◌, ℕ, zero, suc, ◌+◌, ◌≤◌, refl, ap, sym, ◌∙◌, arith, inl, inr, List, [], ◌∷◌, ◌++◌, take, drop}
+use Rattle.std.proofs.Common.{◌≡◌, ℕ, ◌+◌, refl, ap, sym, ◌∙◌, arith, inl, inr, List, [], ◌∷◌, ◌++◌, drop}
 use Rattle.std.specs.Prelude.{Bool, true, false, ◌||◌, ◌==◌, nat_lt, filter_map, Option, Some, None}
 use Rattle.std.proofs.lemmas.Bool.Decides.{nat_tests}
 use Rattle.std.proofs.lemmas.List.Sums.{sum_by-append}
 use Rattle.page_state.proofs.Common.{both, eq-made, or-neither, or-false, not-holds}
-use Rattle.page_state.proofs.Counts.{count_next, count_parts}
+use Rattle.page_state.proofs.Counts.{count_parts}
 use Rattle.page_state.specs.Blocks.{block_eq}
 use Rattle.page_state.specs.Counts.{is_one, frame_count}
 use Rattle.page_state.specs.Layouts.{Layout}
-use Rattle.page_state.specs.Tables.{Edit, needs, need, freed, returned, edited, placed, cleared, all_given}
+use Rattle.page_state.specs.Tables.{Edit, needs, need, freed, returned, edited, placed, all_given}
 use Rattle.page_state.specs.Trees.{Block, Tree, Pool, root_tree, no_tree}
 use Rattle.reference_model.proofs.Frames.{cleared-old, is_table_frame-block, is_table_frame-none}
 use Rattle.reference_model.proofs.conditions.Conserved.{all_given-count}

@@ -1,10 +1,9 @@
 -- The laws of a judge with own tables.
-use Rattle.std.proofs.Common.{◌≡◌, ◌≢◌, ℕ, zero, suc, ◌+◌, ◌-◌, ◌<◌, ◌≤◌, refl, ap, sym, ◌∙◌, subst, arith, inl, inr, length}
+use Rattle.std.proofs.Common.{◌≡◌, ℕ, zero, suc, ◌+◌, ◌-◌, ◌<◌, ◌≤◌, refl, ap, sym, ◌∙◌, subst, arith, inl, inr, length}
 use Rattle.std.specs.Prelude.{Bool, true, false, not, is_some, ◌||◌, ◌⊎◌, nat_lt, Option, Some, None, if◌then◌else◌}
 use Rattle.std.proofs.lemmas.Bool.Decides.{nat_tests}
-use Rattle.call_table.specs.declared.reply.Call.{Call}
 use Rattle.call_table.specs.declared.reply.Refusal.{Refusal}
-use Rattle.call_table.specs.declared.reply.Refusal.TheVariants.{NoMemory, NoPool, LogFull}
+use Rattle.call_table.specs.declared.reply.Refusal.TheVariants.{NoPool}
 use Rattle.call_table.specs.declared.reply.Reply.{Reply}
 use Rattle.call_table.specs.declared.reply.Reply.TheVariants.{Done, Refused}
 use Rattle.call_table.specs.declared.step.Step.{Step}
@@ -17,9 +16,9 @@ use Rattle.reference_model.specs.Rule.{Rule}
 use Rattle.reference_model.specs.Rules.{rule, names, guest_slot, may_grow}
 use Rattle.reference_model.specs.Sound.{tree_at}
 use Rattle.reference_model.specs.State.{Contents, Reference}
-use Rattle.reference_model.specs.Step.{first_test, or_else, refusal, fails, is_short, rule_of, made, Answered, Steps, used_by}
+use Rattle.reference_model.specs.Step.{first_test, or_else, refusal, fails, is_short, rule_of, made, Answered, used_by}
 use Rattle.reference_model.specs.Used.{Used, used_of, put_back}
-use Rattle.freedoms.specs.Ample.{asks_pool, IsWant, rule_fails, IsMadeAmply, IsRefusedByRule, IsInWant, AnswersAmply, StepsAmply, JudgedWithOwnTables, IsJudgedByMaps}
+use Rattle.freedoms.specs.Ample.{asks_pool, rule_fails, AnswersAmply, StepsAmply}
 use Rattle.freedoms.specs.AnyTrees.{LegalInAnyTrees, HasRootAlone, IsInside}
 use Rattle.coarse_trees.specs.Coarsest.{IsCoarsest}
 use Rattle.page_state.proofs.BlockTests.{block-same}

@@ -1,19 +1,17 @@
 -- The frames that a made step touches are in no pool before it, where its rule asks none.
-use Rattle.std.proofs.Common.{◌≡◌, ℕ, zero, suc, ◌+◌, ◌-◌, ◌≤◌, ◌<◌, refl, ap, sym, ◌∙◌, subst, arith, inl, inr}
-use Rattle.std.specs.Prelude.{Bool, true, false, not, ◌&&◌, ◌||◌, ◌==◌, is_none, unwrap_or, nat_le, Option, Some, None, if◌then◌else◌}
-use Rattle.std.proofs.lemmas.Bool.Decides.{nat_tests}
+use Rattle.std.proofs.Common.{◌≡◌, ℕ, ◌+◌, ◌-◌, ◌≤◌, ◌<◌, refl, ap, sym, ◌∙◌, subst, arith, inl, inr}
+use Rattle.std.specs.Prelude.{Bool, true, false, not, ◌&&◌, ◌==◌, nat_le, Option, Some, None, if◌then◌else◌}
 use Rattle.descriptor.specs.declared.State.{State}
 use Rattle.descriptor.specs.declared.State.TheVariants.{Owned, SharedOwned, SharedBorrowed}
 use Rattle.page_state.specs.declared.entry.Entry.{Entry}
 use Rattle.page_state.specs.declared.entry.Entry.TheVariants.{Unmapped, Leaf}
 use Rattle.page_state.specs.declared.entry.PageRange.{PageRange}
 use Rattle.page_state.specs.declared.layout.Region.{Region}
-use Rattle.page_state.specs.declared.row.Usage.{Usage}
-use Rattle.page_state.specs.declared.row.Usage.TheVariants.{Plain, SharedPool, VmPool, InHand}
+use Rattle.page_state.specs.declared.row.Usage.TheVariants.{SharedPool, VmPool}
 use Rattle.page_state.proofs.Blocks.{empty_means}
-use Rattle.page_state.proofs.Common.{both, and-both, or-neither, not-false, if-true, if-false}
+use Rattle.page_state.proofs.Common.{both, or-neither, not-false, if-true, if-false}
 use Rattle.page_state.specs.Blocks.{block_at, first_page, span, is_empty}
-use Rattle.page_state.specs.EntryTests.{is_unmapped, is_annotated, is_in, is_free_page, leaf, annotation, entry_frame}
+use Rattle.page_state.specs.EntryTests.{is_unmapped, is_annotated, is_in, is_free_page, entry_frame}
 use Rattle.page_state.specs.Layouts.{Layout, is_memory, hyp_page}
 use Rattle.page_state.specs.declared.row.Row.{Row}
 use Rattle.page_state.specs.Map.{Map, is_within}
@@ -21,17 +19,17 @@ use Rattle.page_state.specs.Regions.{region_of, end_of}
 use Rattle.page_state.specs.Search.{all_below}
 use Rattle.call_table.specs.declared.step.Step.{Step}
 use Rattle.call_table.specs.declared.step.VmId.{VmId}
-use Rattle.call_table.specs.declared.step.Step.TheVariants.{ShareHyp, UnshareHyp, DonateHyp, HypDonateHost, HostAbort, HostTranslate, HypTranslate, OwnerOf, Fund, Unfund, ShareGuest, UnshareGuest, DonateGuest, GuestShareHost, GuestUnshareHost, Install, Topup, ReclaimPage, ReclaimPool, FinishGuest, GuestRelax, GuestTranslate, MarkDying, VmReserve, VmOpen, VcpuLoad, VcpuPut, Teardown, VmRelease}
+use Rattle.call_table.specs.declared.step.Step.TheVariants.{ShareHyp, UnshareHyp, DonateHyp, HypDonateHost, HostAbort, Fund, Unfund, ShareGuest, UnshareGuest, DonateGuest, GuestShareHost, GuestUnshareHost, Install, Topup, ReclaimPage, ReclaimPool, FinishGuest}
 use Rattle.reference_model.proofs.conditions.RangeMoves.{range-all, both-all, one-within, within-is, hand-range, in_hand-hyps}
 use Rattle.reference_model.proofs.conditions.Tests.{Tested, tested}
 use Rattle.reference_model.specs.declared.changes.MapChange.{MapChange}
-use Rattle.reference_model.specs.Changes.{change, touched}
-use Rattle.reference_model.specs.Conditions.{Condition, outside, hosts, with_hyp, hyps, with_guest, guests, lent_back, HostFits, GuestFits, guest_condition, row_in, in_shared, in_vm}
+use Rattle.reference_model.specs.Changes.{change}
+use Rattle.reference_model.specs.Conditions.{Condition, hyps, HostFits, GuestFits, guest_condition, row_in, in_shared, in_vm}
 use Rattle.reference_model.specs.Owner.{is_in_hand}
 use Rattle.reference_model.specs.Parts.{lacks_slot}
 use Rattle.reference_model.specs.Rule.{Rule}
 use Rattle.reference_model.specs.Rules.{rule, names}
-use Rattle.reference_model.specs.SharedRules.{abort_edit, abort_depth, abort_leaf, may_map, may_return, is_plain, no_range}
+use Rattle.reference_model.specs.SharedRules.{abort_edit, abort_depth, abort_leaf, may_map, may_return, is_plain}
 use Rattle.reference_model.specs.State.{Contents}
 use Rattle.reference_model.specs.Step.{first_test, rule_of, is_touched}
 use Rattle.reference_model.specs.Used.{Used, used_of}

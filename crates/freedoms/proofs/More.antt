@@ -1,18 +1,17 @@
 -- A judge with more freedoms than own tables.
-use Rattle.std.proofs.Common.{◌≡◌, ℕ, refl, ap, sym, ◌∙◌, subst, inl, inr}
-use Rattle.std.specs.Prelude.{◌⊎◌, ◌↔◌, Bool, true, false}
+use Rattle.std.proofs.Common.{◌≡◌, refl, ap, sym, ◌∙◌, subst, inl, inr}
+use Rattle.std.specs.Prelude.{true, false}
 use Rattle.call_table.specs.declared.reply.Reply.{Reply}
 use Rattle.call_table.specs.declared.step.Step.{Step}
 use Rattle.freedoms.proofs.Judged.{alike}
 use Rattle.freedoms.proofs.ViewRows.{view_steps}
 use Rattle.page_state.specs.Layouts.{Layout}
-use Rattle.page_state.specs.Trees.{no_tree}
 use Rattle.reference_model.specs.State.{Contents}
-use Rattle.freedoms.specs.Ample.{StepsAmply}
+use Rattle.freedoms.specs.Ample.{is_done, StepsAmply}
 use Rattle.freedoms.specs.declared.Freedoms.{Freedoms}
-use Rattle.freedoms.specs.Freedoms.{view, view_entry, Alike, SaysAs, Touches, reads_host, no_more}
-use Rattle.freedoms.specs.Laws.{NoMoreIsOwn, MoreLetsThrough, JudgedInView}
-use Rattle.freedoms.specs.OwnTables.{OwnTables, without_tables}
+use Rattle.freedoms.specs.Freedoms.{view, Alike, SaysAs, Touches, reads_host, no_more}
+use Rattle.freedoms.specs.Laws.{NoMoreIsOwn, MoreLetsThrough, JudgedInView, RefusalsStay}
+use Rattle.freedoms.specs.OwnTables.{OwnTables}
 
 -- what the freedoms leave of a state is left of it without tables
 pub viewed : (w : Freedoms) (l : Layout) (s t : Contents) → OwnTables s t → Alike w l s t
@@ -46,3 +45,7 @@ judged_in_view w l before legal cpu step reply after begins is asks reads read =
       let u = (alike l legal cpu step j.told is asks).up v.0 v.1 in
       record { state = legal; next = u.0; told = j.told; begins = begins; itself = λ r. let bad : false ≡ true = sym read ∙ r in cc; legal = is; steps = u.1; says = j.says; ends = viewed w l u.0 v.0 u.2 ∙ v.2 ∙ j.ends; mapped = λ lazy. no-abort step reply after reads },
 )
+
+pub refusals_stay : RefusalsStay
+refusals_stay w told said (inl e) = ap is_done e
+refusals_stay w told said (inr h) = ap is_done h.2.1 ∙ sym (ap is_done h.1.1)

@@ -2,7 +2,6 @@
 use Rattle.std.proofs.Common.{◌≡◌, ℕ, ◌+◌, refl, ap, sym, ◌∙◌, subst}
 use Rattle.std.specs.Prelude.{Bool, true, false, ◌&&◌, is_none, nat_le, Option, Some, None, if◌then◌else◌}
 use mathlib.Core.Path.{fun_ext}
-use Rattle.call_table.specs.declared.reply.Reply.{Reply}
 use Rattle.call_table.specs.declared.step.Step.TheVariants.{HostAbort}
 use Rattle.page_state.proofs.Common.{same2}
 use Rattle.page_state.specs.declared.entry.Entry.{Entry}
@@ -20,14 +19,12 @@ use Rattle.reference_model.specs.Changes.{change, no_changes}
 use Rattle.reference_model.specs.Rule.{fine}
 use Rattle.reference_model.specs.Rules.{rule}
 use Rattle.reference_model.specs.SharedRules.{abort_depth, abort_edit, abort_leaf, may_map}
-use Rattle.reference_model.specs.State.{Contents}
-use Rattle.reference_model.specs.Step.{rule_of}
 use Rattle.reference_model.specs.Used.{Used}
 use Rattle.freedoms.proofs.Aborts.{annotated-leaves}
 use Rattle.freedoms.proofs.Judged.{alike}
 use Rattle.freedoms.proofs.More.{viewed}
 use Rattle.freedoms.proofs.ViewRows.{RuleIsSeen, steps-seen}
-use Rattle.freedoms.proofs.Views.{view-test, view_used}
+use Rattle.freedoms.proofs.Views.{view-test}
 use Rattle.freedoms.specs.declared.Freedoms.{Freedoms}
 use Rattle.freedoms.specs.Ample.{StepsAmply}
 use Rattle.freedoms.specs.Freedoms.{as_device, is_device, own_entry, view_entry}

@@ -1,10 +1,8 @@
 -- The rows that a made step finds again, with and without tables and free frames, and so all that it leaves.
-use Rattle.std.proofs.Common.{◌≡◌, ℕ, zero, suc, ◌+◌, ◌≤◌, refl, ap, sym, ◌∙◌, subst, arith, inl, inr}
-use Rattle.std.specs.Prelude.{Bool, true, false, ◌&&◌, ◌||◌, ◌==◌, Option, Some, None, if◌then◌else◌}
-use Rattle.std.proofs.lemmas.Bool.Decides.{nat_tests}
+use Rattle.std.proofs.Common.{◌≡◌, ℕ, zero, suc, refl, ap, sym, ◌∙◌, arith}
+use Rattle.std.specs.Prelude.{Bool, true, false, ◌&&◌, ◌==◌, Option, Some, None, if◌then◌else◌}
 use mathlib.Core.Path.{fun_ext}
-use Rattle.page_state.proofs.Common.{both, and-both, same2, same3}
-use Rattle.page_state.specs.Counts.{frame_count}
+use Rattle.page_state.proofs.Common.{and-both, same2, same3}
 use Rattle.page_state.specs.Layouts.{Layout, is_memory}
 use Rattle.page_state.specs.Search.{first_below}
 use Rattle.page_state.specs.Trees.{Tree}
@@ -14,19 +12,19 @@ use Rattle.page_state.specs.declared.row.Usage.TheVariants.{Plain, SharedPool, V
 use Rattle.call_table.specs.declared.step.Step.{Step}
 use Rattle.reference_model.proofs.conditions.Tables.{uses_of, uses-some}
 use Rattle.reference_model.specs.declared.changes.Changes.{Changes}
-use Rattle.reference_model.specs.Conditions.{in_shared, in_vm, one, table_uses, shared_uses, guest_uses}
+use Rattle.reference_model.specs.Conditions.{in_shared, one, table_uses, shared_uses, guest_uses}
 use Rattle.reference_model.specs.Owner.{owner_by, lent_to, is_in_shared_pool, vm_pool_of, holding_cpu, usage_of, row_of}
-use Rattle.reference_model.specs.Parts.{Names, uses_shared}
+use Rattle.reference_model.specs.Parts.{uses_shared}
 use Rattle.reference_model.specs.Rule.{Rule}
-use Rattle.reference_model.specs.Rules.{rule, names}
-use Rattle.reference_model.specs.State.{Shared, Guest, Contents, no_shared, no_guest, blank, put_at}
-use Rattle.reference_model.specs.Step.{rule_of, is_touched, own_row, with_rows, changed, made, shared_after, guest_after}
+use Rattle.reference_model.specs.Rules.{names}
+use Rattle.reference_model.specs.State.{Shared, Guest, Contents, no_shared, no_guest, blank}
+use Rattle.reference_model.specs.Step.{rule_of, is_touched, own_row, with_rows, changed, made, shared_after}
 use Rattle.reference_model.specs.Used.{Used, used_of, put_back, guest_at, put_guest}
 use Rattle.freedoms.specs.Ample.{asks_pool, rule_fails}
 use Rattle.freedoms.specs.AnyTrees.{LegalInAnyTrees, IsInside}
 use Rattle.freedoms.specs.OwnTables.{bare_used, bare_shared, bare_guest, without_tables}
 use Rattle.freedoms.proofs.Bare.{rule-bare, changed-bare, put-bare}
-use Rattle.freedoms.proofs.Gone.{HasNone, IsApart, IsClear, pool_holds, guest_holds, brings, still-apart, after-brings, count-none}
+use Rattle.freedoms.proofs.Gone.{HasNone, IsApart, IsClear, pool_holds, guest_holds, still-apart, after-brings, count-none}
 use Rattle.freedoms.proofs.Loose.{is_pooled, pooled-shared, pooled-vm, loose}
 
 -- the row from scratch by its parts

@@ -1,16 +1,13 @@
 -- The frames of guests' pools, by the rows.
-use Rattle.std.proofs.Common.{◌≡◌, ◌≢◌, ℕ, zero, suc, ◌+◌, ◌≤◌, refl, ap, sym, ◌∙◌, subst, arith, inl, inr, List, [], ◌∷◌, length}
-use Rattle.std.specs.Prelude.{Bool, true, false, ◌==◌, nat_lt, Option, Some, None}
-use Rattle.std.proofs.lemmas.Bool.Decides.{nat_tests}
+use Rattle.std.proofs.Common.{◌≡◌, ℕ, suc, ◌+◌, ◌≤◌, ap, sym, ◌∙◌, subst, arith, inl, inr, [], ◌∷◌, length}
+use Rattle.std.specs.Prelude.{false, ◌==◌, Option, Some, None}
 use Rattle.page_state.proofs.Common.{eq-self}
 use Rattle.page_state.proofs.Counts.{count_next}
 use Rattle.page_state.specs.Counts.{is_one, frame_count}
-use Rattle.page_state.specs.Layouts.{Layout, is_memory}
+use Rattle.page_state.specs.Layouts.{Layout}
 use Rattle.page_state.specs.Trees.{Pool}
-use Rattle.page_state.specs.declared.row.Usage.TheVariants.{VmPool}
 use Rattle.call_table.specs.declared.reply.Reply.{Reply}
 use Rattle.call_table.specs.declared.reply.Reply.TheVariants.{Done}
-use Rattle.call_table.specs.declared.reply.Value.{Value}
 use Rattle.call_table.specs.declared.reply.Value.TheVariants.{Frame as FrameOf}
 use Rattle.call_table.specs.declared.step.Step.TheVariants.{ReclaimPool}
 use Rattle.call_table.specs.declared.step.VmId.{VmId}
@@ -18,16 +15,16 @@ use Rattle.reference_model.proofs.conditions.SoundOf.{one-true, in_vm-is, one-mo
 use Rattle.reference_model.proofs.conditions.Keeps.{stage-slot}
 use Rattle.reference_model.proofs.conditions.Tables.{uses_of, uses-some}
 use Rattle.reference_model.proofs.conditions.Tests.{tested}
-use Rattle.reference_model.specs.Conditions.{Condition, hyps, is_inside, in_vm, one, table_uses, guest_uses, row_in}
+use Rattle.reference_model.specs.Conditions.{is_inside, in_vm, one, table_uses, guest_uses, row_in}
 use Rattle.reference_model.specs.GuestRules.{least}
-use Rattle.reference_model.specs.Parts.{lacks_slot, slot_of, ticket_slot}
+use Rattle.reference_model.specs.Parts.{lacks_slot, slot_of}
 use Rattle.reference_model.specs.Rules.{rule, names}
 use Rattle.reference_model.specs.Sound.{StageFits}
-use Rattle.reference_model.specs.State.{Contents, Phase, empty, dying}
+use Rattle.reference_model.specs.State.{Contents, empty, dying}
 use Rattle.reference_model.specs.Step.{rule_of}
 use Rattle.reference_model.specs.Used.{used_of}
 use Rattle.reference_model.specs.declared.changes.Stage.TheVariants.{DyingVm as dying_vm}
-use Rattle.freedoms.specs.Ample.{IsWant, AnswersAmply, StepsAmply}
+use Rattle.freedoms.specs.Ample.{AnswersAmply}
 use Rattle.freedoms.specs.AnyTrees.{LegalInAnyTrees}
 use Rattle.freedoms.specs.Laws.{pool_row, IsSpare, ReclaimsSpare, FinishesRoot}
 

@@ -1,6 +1,6 @@
 -- reclaim_pool of two legal states, where the pool of each has the same frame first.
-use Rattle.std.proofs.Common.{◌≡◌, ℕ, zero, suc, ◌+◌, ◌≤◌, refl, ap, sym, ◌∙◌, subst, arith, inl, inr, List, [], ◌∷◌, length}
-use Rattle.std.specs.Prelude.{Bool, true, false, not, ◌&&◌, ◌||◌, ◌==◌, nat_le, Option, Some, None}
+use Rattle.std.proofs.Common.{◌≡◌, ℕ, suc, refl, ap, sym, ◌∙◌, subst, arith, inl, inr, [], ◌∷◌, length}
+use Rattle.std.specs.Prelude.{Bool, true, false, not, ◌||◌, ◌==◌, nat_le, Option, Some, None}
 use Rattle.std.proofs.lemmas.Bool.Decides.{nat_tests}
 use mathlib.Core.Path.{fun_ext}
 use Rattle.page_state.proofs.Common.{eq-self, same2}
@@ -9,7 +9,6 @@ use Rattle.page_state.specs.Counts.{is_one, frame_count}
 use Rattle.page_state.specs.Layouts.{Layout, is_memory}
 use Rattle.page_state.specs.Tables.{needs, freed, returned, edited}
 use Rattle.page_state.specs.Trees.{Pool}
-use Rattle.call_table.specs.declared.reply.Reply.{Reply}
 use Rattle.call_table.specs.declared.reply.Reply.TheVariants.{Done}
 use Rattle.call_table.specs.declared.reply.Value.TheVariants.{Frame as FrameOf}
 use Rattle.call_table.specs.declared.step.Step.TheVariants.{ReclaimPool}
@@ -23,20 +22,20 @@ use Rattle.reference_model.specs.Changes.{rest}
 use Rattle.reference_model.specs.Conditions.{in_shared, in_vm, one, table_uses, guest_uses}
 use Rattle.reference_model.specs.Owner.{is_free, is_table_frame}
 use Rattle.reference_model.specs.GuestRules.{is_guest, least}
-use Rattle.reference_model.specs.Parts.{shared_and_guest, lacks_slot, slot_of, uses_shared}
+use Rattle.reference_model.specs.Parts.{shared_and_guest, lacks_slot, slot_of}
 use Rattle.reference_model.specs.Rule.{Rule, fine}
 use Rattle.reference_model.specs.Rules.{rule}
 use Rattle.reference_model.specs.SharedRules.{to_host}
 use Rattle.reference_model.specs.State.{Guest, Contents, dying}
 use Rattle.reference_model.specs.Step.{first_test, rule_of, is_touched, own_row, with_rows, changed, made, shared_after, guest_after}
 use Rattle.reference_model.specs.Used.{Used, used_of}
-use Rattle.freedoms.specs.Ample.{rule_fails, AnswersAmply, StepsAmply}
+use Rattle.freedoms.specs.Ample.{AnswersAmply}
 use Rattle.freedoms.specs.AnyTrees.{LegalInAnyTrees}
-use Rattle.freedoms.specs.Laws.{LeadsToo, ReclaimsOfAny}
+use Rattle.freedoms.specs.Laws.{ReclaimsOfAny}
 use Rattle.freedoms.specs.OwnTables.{OwnTables, bare_used, bare_guest}
 use Rattle.freedoms.proofs.Bare.{changed-bare}
 use Rattle.freedoms.proofs.Gone.{still-apart, guest_holds, count-none, no-frame, two-false}
-use Rattle.freedoms.proofs.OwnRows.{own-alike, apart-of, used-apart, with_row, none-of}
+use Rattle.freedoms.proofs.OwnRows.{own-alike, apart-of, with_row, none-of}
 use Rattle.freedoms.proofs.Pools.{frame-same}
 use Rattle.freedoms.proofs.Twins.{Twin, twin-by, packed, used-alike, chosen-same}
 

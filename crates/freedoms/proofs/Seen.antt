@@ -1,6 +1,6 @@
 -- The judgement with freedoms, by one step of the model.
 use Rattle.std.proofs.Common.{◌≡◌, ℕ, refl, ap, sym, ◌∙◌, subst, inl, inr}
-use Rattle.std.specs.Prelude.{◌⊎◌, Bool, true, false, Option, Some, None}
+use Rattle.std.specs.Prelude.{Bool, true, false, Option, Some, None}
 use mathlib.Core.Path.{fun_ext}
 use Rattle.call_table.specs.declared.reply.Refusal.{Refusal}
 use Rattle.call_table.specs.declared.reply.Reply.{Reply}
@@ -12,14 +12,13 @@ use Rattle.page_state.specs.Map.{Map}
 use Rattle.page_state.specs.Trees.{no_tree}
 use Rattle.reference_model.proofs.Steps.{used-self}
 use Rattle.reference_model.specs.Rules.{names, guest_slot}
-use Rattle.reference_model.specs.State.{Contents, Reference, all_rooms}
+use Rattle.reference_model.specs.State.{Contents, all_rooms}
 use Rattle.reference_model.specs.Step.{rule_of, made}
 use Rattle.reference_model.specs.Used.{Used, used_of, put_back}
 use Rattle.freedoms.specs.declared.Freedoms.{Freedoms}
 use Rattle.freedoms.specs.Ample.{asks_pool, is_done, IsWant, rule_fails, answer_amply, foretell_amply, StepsAmply}
-use Rattle.freedoms.specs.AnyTrees.{LegalInAnyTrees}
 use Rattle.freedoms.specs.Freedoms.{Alike, SaysAs, Touches, is_read, is_test, view}
-use Rattle.freedoms.specs.OwnTables.{OwnTables, bare_shared, without_tables}
+use Rattle.freedoms.specs.OwnTables.{bare_shared, without_tables}
 use Rattle.freedoms.specs.Seen.{AgreesSeen, SeenByTold, ReadsSeen}
 use Rattle.freedoms.proofs.Judged.{alike}
 use Rattle.freedoms.proofs.More.{viewed}

@@ -1,7 +1,6 @@
 -- The judgement by maps, by one step of the model.
 use Rattle.std.proofs.Common.{◌≡◌, ℕ, refl, ap, sym, ◌∙◌, subst, inl, inr}
-use Rattle.std.specs.Prelude.{◌⊎◌, Bool, true, false, Option, Some, None}
-use Rattle.call_table.specs.declared.reply.Call.{Call}
+use Rattle.std.specs.Prelude.{true, Option, Some, None}
 use Rattle.call_table.specs.declared.reply.Refusal.{Refusal}
 use Rattle.call_table.specs.declared.reply.Reply.{Reply}
 use Rattle.call_table.specs.declared.reply.Reply.TheVariants.{Done, Refused}
@@ -9,12 +8,12 @@ use Rattle.call_table.specs.declared.step.Step.{Step}
 use Rattle.page_state.specs.Layouts.{Layout}
 use Rattle.reference_model.proofs.Steps.{used-self}
 use Rattle.reference_model.specs.Rules.{names, guest_slot}
-use Rattle.reference_model.specs.State.{Contents, Reference, all_rooms}
+use Rattle.reference_model.specs.State.{Contents, all_rooms}
 use Rattle.reference_model.specs.Step.{rule_of, made}
 use Rattle.reference_model.specs.Used.{Used, used_of, put_back}
-use Rattle.freedoms.specs.Ample.{is_done, rule_fails, answer_amply, foretell_amply, StepsAmply, IsJudgedByMaps, told_bare, AgreesBare}
+use Rattle.freedoms.specs.Ample.{is_done, rule_fails, answer_amply, foretell_amply, IsJudgedByMaps, told_bare, AgreesBare}
 use Rattle.freedoms.specs.Laws.{JudgedByTold}
-use Rattle.freedoms.specs.OwnTables.{OwnTables, without_tables}
+use Rattle.freedoms.specs.OwnTables.{without_tables}
 
 refused-done : {P : Type 0} (why : Refusal) → is_done (Refused why) ≡ true → P
 refused-done why h = cc

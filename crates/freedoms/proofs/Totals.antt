@@ -1,17 +1,16 @@
 -- How many frames a guest holds, by the conditions: whatever its tables are, as many as the rows say.
-use Rattle.std.proofs.Common.{◌≡◌, ℕ, zero, suc, ◌+◌, ◌-◌, ◌≤◌, ◌<◌, refl, ap, sym, ◌∙◌, subst, arith, inl, inr, List, [], ◌∷◌, length}
-use Rattle.std.specs.Prelude.{Bool, true, false, ◌==◌, is_some, Option, Some, None, if◌then◌else◌}
+use Rattle.std.proofs.Common.{◌≡◌, ℕ, zero, suc, ◌+◌, ◌-◌, ◌≤◌, ◌<◌, refl, ap, sym, ◌∙◌, arith, inl, inr, [], ◌∷◌, length}
+use Rattle.std.specs.Prelude.{false, ◌==◌, is_some, Option, Some, None}
 use Rattle.std.proofs.lemmas.Bool.Decides.{nat_tests}
 use mathlib.Core.Path.{fun_ext}
 use Rattle.page_state.proofs.Common.{both, eq-self}
 use Rattle.page_state.proofs.Counts.{count_next}
 use Rattle.page_state.specs.Counts.{is_one, frame_count}
 use Rattle.page_state.specs.Geometries.{block_pages, pages_below}
-use Rattle.page_state.specs.Layouts.{Layout, is_memory, hyp_page}
+use Rattle.page_state.specs.Layouts.{Layout, is_memory}
 use Rattle.page_state.specs.Search.{count_below}
 use Rattle.page_state.specs.Trees.{Block, Pool}
 use Rattle.page_state.specs.declared.row.Row.{Row}
-use Rattle.page_state.specs.declared.row.Usage.{Usage}
 use Rattle.page_state.specs.declared.row.Usage.TheVariants.{Plain, SharedPool, VmPool, InHand}
 use Rattle.reference_model.proofs.conditions.SoundOf.{one-true, in_vm-is}
 use Rattle.reference_model.proofs.conditions.Tables.{uses_of, uses-some}

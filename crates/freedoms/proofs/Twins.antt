@@ -1,5 +1,5 @@
 -- Two legal states that differ in tables and free frames alone make the same steps, but for the frame that reclaim_pool gives.
-use Rattle.std.proofs.Common.{◌≡◌, ◌≢◌, ℕ, zero, suc, ◌+◌, ◌≤◌, ◌<◌, refl, ap, sym, ◌∙◌, subst, arith, inl, inr, List, [], ◌∷◌, length}
+use Rattle.std.proofs.Common.{◌≡◌, ◌≢◌, ℕ, suc, ◌+◌, ◌≤◌, ◌<◌, refl, ap, sym, ◌∙◌, subst, arith, inl, inr, [], ◌∷◌, length}
 use Rattle.std.specs.Prelude.{Bool, true, false, not, ◌&&◌, ◌||◌, nat_le, nat_lt, is_none, is_some, unwrap_or, Option, Some, None, if◌then◌else◌}
 use Rattle.std.proofs.lemmas.Bool.Decides.{nat_tests}
 use mathlib.Core.Path.{fun_ext}
@@ -7,17 +7,15 @@ use Rattle.descriptor.specs.declared.State.{State}
 use Rattle.descriptor.specs.declared.State.TheVariants.{Owned, SharedOwned, SharedBorrowed}
 use Rattle.page_state.proofs.Blocks.{all_from-each}
 use Rattle.page_state.proofs.Cases.{by_lt}
-use Rattle.page_state.proofs.Common.{both, and-both, not-false, or-neither, same2}
+use Rattle.page_state.proofs.Common.{both, same2}
 use Rattle.page_state.specs.Counts.{frame_count}
 use Rattle.page_state.specs.EntryTests.{is_unmapped}
 use Rattle.page_state.specs.Geometries.{pages_below}
 use Rattle.page_state.specs.Layouts.{Layout, is_memory}
-use Rattle.page_state.specs.Map.{is_within}
 use Rattle.page_state.specs.Search.{all_below}
 use Rattle.page_state.specs.Trees.{Block, Pool}
 use Rattle.page_state.specs.declared.entry.Entry.TheVariants.{Unmapped}
 use Rattle.page_state.specs.declared.row.Row.{Row}
-use Rattle.page_state.specs.declared.row.Usage.TheVariants.{VmPool}
 use Rattle.call_table.specs.declared.reply.Refusal.{Refusal}
 use Rattle.call_table.specs.declared.reply.Refusal.TheVariants.{Perm}
 use Rattle.call_table.specs.declared.reply.Reply.{Reply}
@@ -36,22 +34,22 @@ use Rattle.reference_model.specs.declared.changes.GuestChange.{GuestChange}
 use Rattle.reference_model.specs.declared.changes.GuestChange.TheVariants.{Gain, Empty}
 use Rattle.reference_model.specs.declared.changes.Stage.TheVariants.{DyingVm as dying_vm, Finished as finished}
 use Rattle.reference_model.specs.Changes.{no_changes}
-use Rattle.reference_model.specs.Conditions.{Condition, hyps, guests, with_guest, lent_back, guest_condition, IsUsable, IsGood, in_shared, in_vm, one, table_uses, guest_uses}
+use Rattle.reference_model.specs.Conditions.{guest_condition, IsUsable, IsGood, in_shared, in_vm, one, table_uses, guest_uses}
 use Rattle.reference_model.specs.GuestRules.{is_guest, guest_table_count, moved_on}
 use Rattle.reference_model.specs.Parts.{Names, shared_and_guest, lacks_slot, slot_of, ticket_slot, uses_shared}
 use Rattle.reference_model.specs.Rule.{Rule, fine}
-use Rattle.reference_model.specs.Rules.{rule, names, guest_slot, may_grow}
+use Rattle.reference_model.specs.Rules.{rule, names, guest_slot}
 use Rattle.reference_model.specs.SharedRules.{hand_of, hand_becomes, to_host}
 use Rattle.reference_model.specs.Sound.{StageFits}
-use Rattle.reference_model.specs.State.{Shared, Guest, Cpu, Contents, empty, live, dying, no_guest, no_shared}
+use Rattle.reference_model.specs.State.{Guest, Cpu, Contents, empty, live, dying, no_guest}
 use Rattle.reference_model.specs.Step.{first_test, rule_of, is_touched, own_row, with_rows, changed, made, shared_after, guest_after}
 use Rattle.reference_model.specs.Used.{Used, used_of, put_back, guest_at}
 use Rattle.freedoms.specs.Ample.{asks_pool, rule_fails, AnswersAmply, StepsAmply}
 use Rattle.freedoms.specs.AnyTrees.{LegalInAnyTrees}
 use Rattle.freedoms.specs.Laws.{LeadsToo, StepsOfAny, JudgedFromAny}
-use Rattle.freedoms.specs.OwnTables.{OwnTables, bare_used, bare_shared, bare_guest, without_tables}
+use Rattle.freedoms.specs.OwnTables.{OwnTables, bare_used, bare_guest, without_tables}
 use Rattle.freedoms.proofs.Bare.{changed-bare, put-bare, used-bare}
-use Rattle.freedoms.proofs.Gone.{IsApart, still-apart, guest_holds}
+use Rattle.freedoms.proofs.Gone.{still-apart, guest_holds}
 use Rattle.reference_model.specs.Changes.{guest_by}
 use Rattle.freedoms.proofs.Judged.{alike, Made}
 use Rattle.freedoms.proofs.Loose.{loose-topup}

@@ -1,9 +1,9 @@
 -- The rows that a step finds again are the same of what freedoms leave of a state, and so is all that the step leaves.
-use Rattle.std.proofs.Common.{◌≡◌, ℕ, ◌+◌, refl, ap, sym, ◌∙◌, subst, inl, inr}
-use Rattle.std.specs.Prelude.{Bool, true, false, ◌&&◌, ◌==◌, is_some, Option, Some, None, if◌then◌else◌}
+use Rattle.std.proofs.Common.{◌≡◌, ℕ, refl, ap, sym, ◌∙◌, inl, inr}
+use Rattle.std.specs.Prelude.{Bool, true, false, is_some, Option, Some, None, if◌then◌else◌}
 use mathlib.Core.Path.{fun_ext}
 use Rattle.descriptor.specs.declared.State.TheVariants.{SharedBorrowed}
-use Rattle.page_state.proofs.Common.{and-both, same2, same3, same4}
+use Rattle.page_state.proofs.Common.{same2, same3}
 use Rattle.page_state.specs.EntryTests.{maps_frame}
 use Rattle.page_state.specs.Layouts.{Layout, is_memory}
 use Rattle.page_state.specs.Map.{Map}
@@ -23,17 +23,17 @@ use Rattle.reference_model.specs.Owner.{page_of, lent_at, lent_to_guest, sharer,
 use Rattle.reference_model.specs.Parts.{Names, lacks_slot, uses_vms, uses_shared}
 use Rattle.reference_model.specs.Rule.{Rule}
 use Rattle.reference_model.specs.Rules.{rule, names, guest_slot}
-use Rattle.reference_model.specs.State.{Vms, Shared, Guest, Cpu, Contents, no_shared, no_guest, blank, put_at}
-use Rattle.reference_model.specs.Step.{first_test, rule_of, is_touched, own_row, with_rows, changed, made, shared_after, guest_after}
+use Rattle.reference_model.specs.State.{Shared, Guest, Contents, no_shared, blank, put_at}
+use Rattle.reference_model.specs.Step.{first_test, rule_of, is_touched, own_row, with_rows, changed, made, shared_after}
 use Rattle.reference_model.specs.Used.{Used, used_of, put_back, guest_at, put_guest}
-use Rattle.freedoms.specs.Ample.{asks_pool, rule_fails, AnswersAmply, StepsAmply}
+use Rattle.freedoms.specs.Ample.{rule_fails, AnswersAmply}
 use Rattle.freedoms.specs.declared.Freedoms.{Freedoms}
-use Rattle.freedoms.specs.Freedoms.{view_entry, view, Alike, reads_host}
+use Rattle.freedoms.specs.Freedoms.{view, Alike}
 use Rattle.freedoms.specs.Laws.{StepsInView, ViewSteps}
 use Rattle.freedoms.specs.OwnTables.{bare_shared, bare_guest, bare_used, without_tables}
-use Rattle.freedoms.proofs.Bare.{if-over, put-over, at-over}
+use Rattle.freedoms.proofs.Bare.{if-over, put-over}
 use Rattle.freedoms.proofs.Gone.{IsApart, IsClear, pool_holds, guest_holds, still-apart, after-brings}
-use Rattle.freedoms.proofs.OwnRows.{use_with, pick-same, put-same, with_row, used-apart, nothing-apart, nothing-clear, bare-apart, bare-clear}
+use Rattle.freedoms.proofs.OwnRows.{use_with, pick-same, put-same, with_row, used-apart, nothing-clear, bare-apart, bare-clear}
 use Rattle.freedoms.proofs.Twins.{chosen-same}
 use Rattle.freedoms.proofs.Views.{Leaves, view-test, borrow-leaves, annot, annot-leaves, view-twice, view_shared, view_used, changed-alike, rule-alike}
 

@@ -1,5 +1,5 @@
 -- What freedoms leave of a state: rules, changes and rows are the same of it, where the step doesn't depend on which of its own pages the host has.
-use Rattle.std.proofs.Common.{◌≡◌, ℕ, ◌+◌, ◌-◌, refl, ap, sym, ◌∙◌, subst, inl, inr}
+use Rattle.std.proofs.Common.{◌≡◌, ℕ, ◌+◌, ◌-◌, refl, ap, sym, ◌∙◌}
 use Rattle.std.specs.Prelude.{Bool, true, false, not, ◌&&◌, ◌||◌, ◌==◌, Option, Some, None, if◌then◌else◌}
 use mathlib.Core.Path.{fun_ext}
 use Rattle.descriptor.specs.declared.Prot.TheVariants.{RWX}
@@ -7,10 +7,10 @@ use Rattle.descriptor.specs.declared.State.TheVariants.{Owned, SharedOwned, Shar
 use Rattle.page_state.specs.declared.entry.Entry.{Entry}
 use Rattle.page_state.specs.declared.entry.Entry.TheVariants.{Unmapped, Malformed, Annotated, Leaf}
 use Rattle.page_state.specs.declared.layout.Region.{Region}
-use Rattle.page_state.proofs.Common.{both, same2}
+use Rattle.page_state.proofs.Common.{same2}
 use Rattle.page_state.specs.Entries.{advance}
-use Rattle.page_state.specs.EntryTests.{is_unmapped, is_in, is_free_page, is_annotated, maps_frame, leaf, device_leaf}
-use Rattle.page_state.specs.Layouts.{Layout, is_memory}
+use Rattle.page_state.specs.EntryTests.{is_unmapped, is_in, is_free_page, maps_frame, leaf, device_leaf}
+use Rattle.page_state.specs.Layouts.{Layout}
 use Rattle.page_state.specs.Map.{Map, is_within}
 use Rattle.page_state.specs.Regions.{region_of, is_memory_kind}
 use Rattle.reference_model.specs.SharedRules.{abort_leaf}

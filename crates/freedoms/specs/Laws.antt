@@ -5,10 +5,9 @@ use Rattle.call_table.specs.declared.reply.Refusal.TheVariants.{LogFull}
 use Rattle.call_table.specs.declared.reply.Reply.{Reply}
 use Rattle.call_table.specs.declared.reply.Reply.TheVariants.{Refused}
 use Rattle.call_table.specs.declared.reply.Reply.TheVariants.{Done}
-use Rattle.call_table.specs.declared.reply.Value.{Value}
 use Rattle.call_table.specs.declared.reply.Value.TheVariants.{Frame as FrameOf}
 use Rattle.call_table.specs.declared.step.Step.{Step}
-use Rattle.call_table.specs.declared.step.Step.TheVariants.{HostAbort, ReclaimPool, FinishGuest}
+use Rattle.call_table.specs.declared.step.Step.TheVariants.{HostAbort, ReclaimPool}
 use Rattle.call_table.specs.declared.step.VmId.{VmId}
 use Rattle.page_state.specs.declared.row.Row.{Row}
 use Rattle.page_state.specs.declared.row.Usage.{Usage}
@@ -22,10 +21,10 @@ use Rattle.reference_model.specs.Parts.{slot_of, ticket_slot}
 use Rattle.reference_model.specs.declared.changes.Stage.TheVariants.{DyingVm as dying_vm}
 use Rattle.reference_model.specs.State.{Guest, Contents, Reference, empty, put_at}
 use Rattle.reference_model.specs.Step.{Steps}
-use Rattle.freedoms.specs.Ample.{asks_pool, is_by_order, StepsAmply, JudgedWithOwnTables, IsJudgedByMaps, told_bare, AgreesBare}
+use Rattle.freedoms.specs.Ample.{is_done, asks_pool, is_by_order, StepsAmply, JudgedWithOwnTables, IsJudgedByMaps, told_bare, AgreesBare}
 use Rattle.freedoms.specs.AnyTrees.{LegalInAnyTrees}
 use Rattle.freedoms.specs.declared.Freedoms.{Freedoms}
-use Rattle.freedoms.specs.Freedoms.{JudgedWith, Touches, no_more, view, Alike, reads_host, is_read, IsJudgedInView}
+use Rattle.freedoms.specs.Freedoms.{SaysAs, JudgedWith, Touches, no_more, view, Alike, reads_host, is_read, IsJudgedInView}
 use Rattle.freedoms.specs.OwnTables.{OwnTables, without_tables}
 
 -- each stored step of the model is a step where the pools aren't asked
@@ -150,3 +149,7 @@ AbortInView = (w : Freedoms) (l : Layout) (before legal : Contents) (cpu p : ℕ
 abbrev pub AbortOfAnyKind : Type 0
 AbortOfAnyKind = (w : Freedoms) (l : Layout) (before legal : Contents) (cpu p : ℕ) (reply : Reply) (after : Contents) → w.lazy_host ≡ false → Alike w l before legal → LegalInAnyTrees l legal
     → JudgedWith w l before cpu (HostAbort p) reply after ↔ IsJudgedInView w l before cpu (HostAbort p) reply after
+
+-- no freedom tells what is refused as made, or what is made as refused
+abbrev pub RefusalsStay : Type 0
+RefusalsStay = (w : Freedoms) (told said : Reply) → SaysAs w told said → is_done said ≡ is_done told

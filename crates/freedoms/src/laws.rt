@@ -1,5 +1,5 @@
 //! Laws of judges with freedoms. Each function does nothing, and its contract is the law.
-ghost use Rattle.freedoms.specs.Laws.{AbortInView, AbortOfAnyKind, AmpleSteps, BareSteps, FinishesRoot, HoldsAsMany, JudgedByMaps, JudgedByTold, JudgedFromAny, JudgedInView, MoreLetsThrough, NoMoreIsOwn, PoolsByRows, ReclaimsByRows, ReclaimsOfAny, ReclaimsSpare, StepsJudged, StepsOfAny, ViewSteps};
+ghost use Rattle.freedoms.specs.Laws.{AbortInView, AbortOfAnyKind, AmpleSteps, BareSteps, FinishesRoot, HoldsAsMany, JudgedByMaps, JudgedByTold, JudgedFromAny, JudgedInView, MoreLetsThrough, NoMoreIsOwn, PoolsByRows, ReclaimsByRows, ReclaimsOfAny, ReclaimsSpare, RefusalsStay, StepsJudged, StepsOfAny, ViewSteps};
 ghost use Rattle.freedoms.specs.Seen.{ReadsSeen, SeenByTold};
 
 /// A step of the model is one whose pools aren't asked, and such a step does the same without tables and free frames.
@@ -41,6 +41,7 @@ pub fn more_freedoms()
     ensures judged { JudgedInView }
     ensures abort { AbortInView }
     ensures kind { AbortOfAnyKind }
+    ensures refusals { RefusalsStay }
 {}
 
 /// A judgement with freedoms is by what the model says of what they leave of the state before, and that of a read by what it says of

@@ -1,4 +1,4 @@
-use Rattle.freedoms.proofs.More.{no_more_is_own, more_lets_through, judged_in_view}
+use Rattle.freedoms.proofs.More.{no_more_is_own, more_lets_through, judged_in_view, refusals_stay}
 use Rattle.freedoms.proofs.ViewRows.{view_steps}
 use Rattle.freedoms.proofs.Aborts.{abort_in_view}
 use Rattle.freedoms.proofs.OtherAborts.{abort_of_any_kind}
@@ -21,3 +21,6 @@ returns-clause-abort c = abort_in_view
 
 pub returns-clause-kind : goal.returns-clause-kind
 returns-clause-kind c = abort_of_any_kind
+
+pub returns-clause-refusals : goal.returns-clause-refusals
+returns-clause-refusals c = refusals_stay
