@@ -16,6 +16,7 @@ use Rattle.coarse_trees.specs.Coarsest.{IsCoarsest as IsCoarsestTree, IsInTree}
 use Rattle.reference_model.specs.Conditions.{guest_condition, AreCoarsest, GuestFits, IsGood, Legal}
 use Rattle.reference_model.specs.Sound.{tree_at}
 use Rattle.reference_model.specs.State.{Contents, Guest, empty, live, dying, no_guest}
+use Rattle.freedoms.specs.AnyTrees.{AreFramesLegal, IsLegalButForTrees}
 use Rattle.ghost_trees.specs.declared.tree.Table.{Table}
 use Rattle.ghost_trees.specs.Trees.{table_of}
 use Rattle.ghost_spec.specs.declared.lists.GhostLists.{GhostLists}
@@ -33,10 +34,9 @@ use Rattle.ghost_slots.proofs.Agreeing.{are-real}
 use Rattle.ghost_legal.specs.declared.finding.Illegal.{Illegal}
 use Rattle.ghost_legal.specs.declared.finding.Illegal.TheVariants.{Slots, Guest as GuestFault, Outside, GuestPage, HypPage, FarFrame, HeldTwice, Frame, Tree as TreeFault}
 use Rattle.ghost_legal.specs.declared.finding.Facts.{Facts}
-use Rattle.ghost_legal.specs.AllHeld.{AreFramesLegal}
 use Rattle.ghost_legal.specs.Blocks.{TreesHaveFirstBlocks}
 use Rattle.ghost_legal.specs.Facts.{IsCondition}
-use Rattle.ghost_legal.specs.Illegals.{FitsFrames, FitsPages, FitsTables, IsIllegal, IsIllegalButForTrees, IsLegalButForTrees, IsPageFault, IsUnfit}
+use Rattle.ghost_legal.specs.Illegals.{FitsFrames, FitsPages, FitsTables, IsIllegal, IsIllegalButForTrees, IsPageFault, IsUnfit}
 use Rattle.ghost_legal.specs.Pages.{IsWhole, IsWholeIn}
 use Rattle.ghost_legal.proofs.Found.{guest-at}
 use Rattle.ghost_legal.proofs.Lows.{trees-own}

@@ -13,12 +13,13 @@ use Rattle.page_state.specs.Layouts.{is_memory}
 use Rattle.page_state.specs.LayoutView.{layout_of}
 use Rattle.page_state.proofs.Common.{eq-same, eq-self}
 use Rattle.reference_model.specs.Conditions.{Condition, outside, hosts, with_hyp, hyps, with_guest, guests, lent_back, guest_condition, in_shared, in_vm, in_hand, is_inside, one, row_in, GuestFits, IsGood, IsMemoryLeaf}
+use Rattle.freedoms.specs.AnyTrees.{AreFramesLegal}
 use Rattle.ghost_spec.specs.declared.lists.GhostLists.{GhostLists}
 use Rattle.ghost_spec.specs.States.{contents_in}
 use Rattle.ghost_legal.specs.declared.finding.Holder.{Holder}
 use Rattle.ghost_legal.specs.declared.finding.Holder.TheVariants.{SharedPool as SharedPoolHolder, VmPool as VmPoolHolder, Table, Hand, Guest}
 use Rattle.ghost_legal.specs.declared.held.Held.{Held}
-use Rattle.ghost_legal.specs.AllHeld.{held_count, AreAllHeld, AreFramesLegal, GuestPagesFit, IsGuestPage, IsHypBelow}
+use Rattle.ghost_legal.specs.AllHeld.{held_count, AreAllHeld, GuestPagesFit, IsGuestPage, IsHypBelow}
 use Rattle.ghost_legal.specs.Facts.{condition_by, held_in, table_use, unheld_in, Fits, IsCondition}
 use Rattle.ghost_legal.specs.Frames.{facts_in, held_at, held_frames}
 use Rattle.ghost_legal.specs.Ranges.{AreInOrder}

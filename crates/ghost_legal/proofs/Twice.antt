@@ -14,6 +14,7 @@ use Rattle.page_state.specs.Entries.{entry_of_target}
 use Rattle.page_state.specs.Map.{is_within}
 use Rattle.page_state.proofs.BlockTests.{block_eq-same}
 use Rattle.page_state.proofs.Runs.{StartsFrom}
+use Rattle.freedoms.specs.AnyTrees.{AreFramesLegal}
 use Rattle.ghost_trees.proofs.Coarse.{BeginsFrom, begins_next}
 use Rattle.std.proofs.lemmas.List.{get_or_default}
 use Rattle.page_state.specs.declared.entry.PageRange.{PageRange}
@@ -44,7 +45,7 @@ use Rattle.ghost_spec.specs.States.{contents_in, AreKeptCpus, AreKeptGuests, IsK
 use Rattle.ghost_legal.specs.declared.finding.Holder.{Holder}
 use Rattle.ghost_legal.specs.declared.finding.Holder.TheVariants.{SharedPool, VmPool, Table, Hand, Guest}
 use Rattle.ghost_legal.specs.declared.held.Held.{Held}
-use Rattle.ghost_legal.specs.AllHeld.{held_count, AreCounted, AreFramesLegal}
+use Rattle.ghost_legal.specs.AllHeld.{held_count, AreCounted}
 use Rattle.ghost_legal.specs.Blocks.{HasFirstBlocks, TreesHaveFirstBlocks, TreesHaveOwnBlocks}
 use Rattle.ghost_legal.specs.Facts.{held_in, later, table_use}
 use Rattle.ghost_legal.specs.Frames.{holder_on, IsSmallHeld, IsSmallHolder}

@@ -9,7 +9,7 @@ use Rattle.page_state.specs.Geometries.{pages_below}
 use Rattle.page_state.specs.Layouts.{Layout, hyp_page}
 use Rattle.page_state.specs.LayoutView.{layout_of}
 use Rattle.page_state.specs.Regions.{is_in_range}
-use Rattle.reference_model.specs.Conditions.{Condition, in_shared, in_vm, in_hand, one, shared_uses, guest_uses, IsGood, IsMemoryLeaf, IsOfLayout, MapsFit, HeldFit, RowsFit}
+use Rattle.reference_model.specs.Conditions.{in_shared, in_vm, in_hand, one, shared_uses, guest_uses, IsGood, IsMemoryLeaf}
 use Rattle.reference_model.specs.Owner.{is_in_hand}
 use Rattle.reference_model.specs.State.{Contents}
 use Rattle.ghost_spec.specs.declared.lists.GhostLists.{GhostLists}
@@ -55,11 +55,3 @@ GuestPagesFit l s = (v page : ℕ) → ((s.guest v).tree.map page ≡ Unmapped) 
 -- the hypervisor maps nothing below the pages of frames
 abbrev pub IsHypBelow : Contents → Type 0
 IsHypBelow s = (p : ℕ) → p < hyp_page 0 → s.shared.hyp.map p ≡ Unmapped
-
--- each frame is in one condition, of which the maps, what is held and the rows say all
-pub record AreFramesLegal (l : Layout) (s : Contents) : Type 0 where
-  pub condition : ℕ → Condition
-  pub of_layout : IsOfLayout l condition
-  pub maps : MapsFit s condition
-  pub held : HeldFit l s condition
-  pub rows : RowsFit l s condition

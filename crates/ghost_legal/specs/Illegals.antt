@@ -1,15 +1,14 @@
 -- Why a state isn't legal: what is so, and that what comes before it isn't.
-use Rattle.std.specs.Prelude.{◌≡◌, ℕ, ◌<◌, true, List, ◌∷◌, Some, get_or, All, Contains, IsPermutation}
-use Rattle.coarse_trees.specs.Coarsest.{IsCoarsest, IsInTree}
+use Rattle.std.specs.Prelude.{◌≡◌, ℕ, ◌<◌, true, List, ◌∷◌, get_or, All, Contains, IsPermutation}
+use Rattle.coarse_trees.specs.Coarsest.{IsCoarsest}
 use Rattle.page_state.specs.declared.entry.Entry.{Entry}
 use Rattle.page_state.specs.declared.entry.Entry.TheVariants.{Unmapped}
 use Rattle.page_state.specs.Layouts.{Layout, hyp_page}
 use Rattle.page_state.specs.LayoutView.{layout_of}
 use Rattle.page_state.specs.Regions.{is_in_range}
-use Rattle.reference_model.specs.Conditions.{GuestsFit, SlotsFit}
+use Rattle.reference_model.specs.Conditions.{SlotsFit}
 use Rattle.reference_model.specs.Sound.{tree_at}
-use Rattle.reference_model.specs.State.{Contents}
-use Rattle.page_state.specs.Trees.{Block}
+use Rattle.freedoms.specs.AnyTrees.{AreFramesLegal}
 use Rattle.ghost_trees.specs.Trees.{tree_in_lists}
 use Rattle.ghost_spec.specs.declared.lists.GhostLists.{GhostLists}
 use Rattle.ghost_spec.specs.declared.parts.GhostGuest.{GhostGuest}
@@ -21,18 +20,11 @@ use Rattle.ghost_legal.specs.declared.finding.Holder.{Holder}
 use Rattle.ghost_legal.specs.declared.finding.Illegal.{Illegal}
 use Rattle.ghost_legal.specs.declared.finding.Illegal.TheVariants.{Slots, Guest, Outside, GuestPage, HypPage, FarFrame, HeldTwice, Frame, Tree}
 use Rattle.ghost_legal.specs.declared.held.Held.{Held}
-use Rattle.ghost_legal.specs.AllHeld.{AreFramesLegal, GuestPagesFit, IsGuestPage, IsHypBelow}
+use Rattle.ghost_legal.specs.AllHeld.{GuestPagesFit, IsGuestPage, IsHypBelow}
 use Rattle.ghost_legal.specs.Facts.{IsCondition}
 use Rattle.ghost_legal.specs.Frames.{facts_in, IsHeldList, IsSmallHeld}
 use Rattle.ghost_legal.specs.Listed.{all_held_in}
 use Rattle.ghost_legal.specs.Pages.{HaveGoodRuns, IsWhole}
-
--- the state is legal, but for the tables that its trees need: they are at blocks of the trees, and that is all
-pub record IsLegalButForTrees (l : Layout) (s : Contents) : Type 0 where
-  pub frames : AreFramesLegal l s
-  pub inside : (t : ℕ) (b : Block) (f : ℕ) → (tree_at s t).table b ≡ Some f → IsInTree l.depth b
-  pub guest_parts : GuestsFit l s
-  pub slots : SlotsFit s
 
 -- slots agree, and each guest is Empty and has nothing, or has a root
 pub record FitsParts (g : GhostLists) : Type 0 where

@@ -1,6 +1,7 @@
 -- What holds of every state.
 use Rattle.std.specs.Prelude.{◌↔◌, ℕ, List, All, IsPermutation}
 use Rattle.page_state.specs.LayoutFaults.{IsAccepted}
+use Rattle.freedoms.specs.AnyTrees.{AreFramesLegal}
 use Rattle.ghost_legal.specs.declared.finding.Illegal.{Illegal}
 use Rattle.ghost_legal.specs.Illegals.{IsIllegal}
 use Rattle.ghost_legal.specs.Blocks.{TreesHaveFirstBlocks, TreesHaveOwnBlocks}
@@ -13,7 +14,7 @@ use Rattle.reference_model.specs.Conditions.{GuestsFit, IsMemoryLeaf, Legal}
 use Rattle.ghost_legal.specs.declared.finding.Holder.TheVariants.{Guest}
 use Rattle.ghost_legal.specs.declared.held.Held.{Held}
 use Rattle.ghost_legal.specs.Pages.{HaveGoodRuns, IsWhole}
-use Rattle.ghost_legal.specs.AllHeld.{AreCounted, IsHeldIn, AreAllHeld, AreFramesLegal, GuestPagesFit, IsHypBelow}
+use Rattle.ghost_legal.specs.AllHeld.{AreCounted, IsHeldIn, AreAllHeld, GuestPagesFit, IsHypBelow}
 use Rattle.ghost_legal.specs.Facts.{IsCondition}
 use Rattle.ghost_legal.specs.Frames.{facts_in, held_frames}
 use Rattle.ghost_legal.specs.Ranges.{AreInOrder}

@@ -3,12 +3,12 @@ ghost use Rattle.std.specs.Prelude.{◌≡◌, ◌↔◌, None, All, IfOk, IfSom
 ghost use Rattle.std.specs.List.Sorted.{IsNonDecreasingBy};
 ghost use Rattle.page_state.specs.LayoutView.{layout_of};
 ghost use Rattle.reference_model.specs.Conditions.{Legal};
+ghost use Rattle.freedoms.specs.AnyTrees.{AreFramesLegal, IsLegalButForTrees};
 ghost use Rattle.ghost_spec.specs.States.{contents_in, IsKept};
-ghost use Rattle.ghost_legal.specs.AllHeld.{AreFramesLegal};
 ghost use Rattle.ghost_legal.specs.Blocks.{TreesHaveFirstBlocks};
 ghost use Rattle.ghost_legal.specs.Frames.{IsHeldList};
 ghost use Rattle.ghost_legal.specs.declared.finding.Illegal.TheVariants.{FarFrame, HeldTwice};
-ghost use Rattle.ghost_legal.specs.Illegals.{FitsFrames, FitsPages, FitsParts, IsIllegal, IsIllegalButForTrees, IsLegalButForTrees};
+ghost use Rattle.ghost_legal.specs.Illegals.{FitsFrames, FitsPages, FitsParts, IsIllegal, IsIllegalButForTrees};
 ghost use Rattle.ghost_legal.specs.Listed.{all_held_in};
 
 use crate::finding::{Facts, Illegal};

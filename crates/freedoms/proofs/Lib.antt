@@ -1,0 +1,17 @@
+pub mod Bare
+pub mod Gone
+pub mod Loose
+pub mod OwnRows
+pub mod Judged
+pub mod Told
+pub mod Pools
+pub mod Totals
+pub mod Twins
+pub mod Reclaims
+pub mod More
+pub mod Views
+pub mod ViewRows
+pub mod ByRows
+pub mod Aborts
+pub mod Seen
+pub mod OtherAborts

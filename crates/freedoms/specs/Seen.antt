@@ -1,0 +1,35 @@
+-- When a judge with freedoms agrees, by what the model says of one state: what a program computes.
+use Rattle.std.specs.Prelude.{◌⊎◌, ◌↔◌, ◌≡◌, ℕ, true}
+use Rattle.call_table.specs.declared.reply.Reply.{Reply}
+use Rattle.call_table.specs.declared.step.Step.{Step}
+use Rattle.page_state.specs.Layouts.{Layout}
+use Rattle.reference_model.specs.State.{Contents}
+use Rattle.freedoms.specs.declared.Freedoms.{Freedoms}
+use Rattle.freedoms.specs.Ample.{WantsAnyMemory, foretell_amply}
+use Rattle.freedoms.specs.AnyTrees.{LegalInAnyTrees}
+use Rattle.freedoms.specs.Freedoms.{Alike, SaysAs, is_read, view, IsJudgedInView, JudgedWith}
+use Rattle.freedoms.specs.OwnTables.{OwnTables, without_tables}
+
+-- the reply stands for the model's, and what the freedoms leave of the state after it is that of the model's
+pub record IsAsSeen (w : Freedoms) (l : Layout) (reply : Reply) (after : Contents) (told : Reply × Contents) : Type 0 where
+  pub says : SaysAs w told.0 reply
+  pub contents_are : Alike w l told.1 after
+
+-- want of memory, and nothing changed but what the freedoms leave to the hypervisor
+pub record IsUnchangedSeen (w : Freedoms) (l : Layout) (before : Contents) (step : Step) (reply : Reply) (after : Contents) (told : Reply × Contents) : Type 0 where
+  pub wants : WantsAnyMemory step reply told.0
+  pub contents_are : Alike w l before after
+
+-- one of both
+abbrev pub AgreesSeen : Freedoms → Layout → Contents → Step → Reply → Contents → Reply × Contents → Type 0
+AgreesSeen w l before step reply after told = IsAsSeen w l reply after told ⊎ IsUnchangedSeen w l before step reply after told
+
+-- the judgement of what the freedoms leave, by what the model says of that
+abbrev pub SeenByTold : Type 0
+SeenByTold = (w : Freedoms) (l : Layout) (before : Contents) (cpu : ℕ) (step : Step) (reply : Reply) (after : Contents)
+    → IsJudgedInView w l before cpu step reply after ↔ AgreesSeen w l before step reply after (foretell_amply l (view w l before) cpu step)
+
+-- where some legal state has all but tables and free frames of the one before, a read is judged by what the model says of that state without them
+abbrev pub ReadsSeen : Type 0
+ReadsSeen = (w : Freedoms) (l : Layout) (before legal : Contents) (cpu : ℕ) (step : Step) (reply : Reply) (after : Contents) → OwnTables before legal → LegalInAnyTrees l legal → is_read step ≡ true
+    → JudgedWith w l before cpu step reply after ↔ AgreesSeen w l before step reply after (foretell_amply l (without_tables before) cpu step)
