@@ -8,7 +8,8 @@ use Rattle.ghost_spec.specs.declared.lists.GhostLists.{GhostLists}
 use Rattle.ghost_spec.specs.States.{contents_in, IsKept}
 use Rattle.ghost_legal.specs.declared.finding.Illegal.{Illegal}
 use Rattle.ghost_legal.specs.Blocks.{TreesHaveFirstBlocks}
-use Rattle.ghost_legal.specs.Illegals.{IsIllegal, IsIllegalButForTrees, IsLegalButForTrees}
+use Rattle.freedoms.specs.AnyTrees.{IsLegalButForTrees}
+use Rattle.ghost_legal.specs.Illegals.{IsIllegal, IsIllegalButForTrees}
 
 -- the state is legal; with false whatever tables its trees need
 abbrev pub IsLegalBy : Bool → Layout → Contents → Type 0
