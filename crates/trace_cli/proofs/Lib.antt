@@ -1,4 +1,5 @@
 mod Checked
+mod Explained
 mod Greatest
 mod Made
 mod Outcomes
