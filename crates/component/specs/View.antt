@@ -4,7 +4,7 @@ use Rattle.component.specs.declared.Plan.{Plan}
 use Rattle.page_state.specs.Trees.{Tree}
 use Rattle.maplets.specs.View.{KeptMaplets}
 use Rattle.reference_model.specs.declared.changes.MapChange.{MapChange}
-use Rattle.reference_model.specs.Changes.{edit_of}
+use Rattle.reference_model.specs.model.Changes.{edit_of}
 use Rattle.table_tree.specs.declared.tree.Tree.{Tree as TableTree}
 use Rattle.walk_plan.specs.Hands.{need_in, after_in, back_in}
 

@@ -9,8 +9,8 @@ ghost use Rattle.page_state.specs.Map.{empty_map};
 ghost use Rattle.page_state.specs.Runs.{map_of, IsCoarsest};
 ghost use Rattle.page_state.specs.Counts.{frame_count};
 ghost use Rattle.page_state.specs.Geometries.{levels_below};
-ghost use Rattle.reference_model.specs.ChangeLaws.{Fits, FitsWhere};
-ghost use Rattle.reference_model.specs.Changes.{edit_of};
+ghost use Rattle.reference_model.specs.help.ChangeLaws.{Fits, FitsWhere};
+ghost use Rattle.reference_model.specs.model.Changes.{edit_of};
 ghost use Rattle.table_tree.specs.Stocks.{frames_of};
 ghost use Rattle.table_tree.specs.View.{meaning, spares_of};
 ghost use Rattle.walk_plan.specs.Hands.{AreApart, IsEdited, IsGivenBack, IsLeft, IsTaken, Stays};
@@ -89,7 +89,7 @@ impl<A: Allocator> Component<A> {
         }
     }
 
-    /// Makes a change in the tree and in the maplets, with what is in hand for just this change. It can't fail.
+    /// Makes a change in the tree and in the maplets, with the tables in hand for exactly this change. It can't fail.
     pub fn commit(&mut self, pool: &mut Pool, plan: Plan<A>)
         requires change { FitsWhere (levels_below self.old.tree.geometry) plan.change }
         requires just { length (frames_of plan.spare.stock) ≡ need_for self.old.tree plan.change }

@@ -2,9 +2,9 @@
 use Rattle.std.proofs.Common.{◌≡◌, ℕ, true, false, Option, Some, None, refl}
 use Rattle.call_table.specs.declared.step.Step.{Step}
 use Rattle.call_table.specs.declared.step.Step.TheVariants.{ShareGuest, UnshareGuest, DonateGuest, GuestShareHost, GuestUnshareHost, Install, Topup, ReclaimPage, ReclaimPool, FinishGuest, GuestRelax, GuestTranslate, MarkDying, VmReserve, VmOpen, VcpuLoad, VcpuPut, Teardown, VmRelease}
-use Rattle.reference_model.specs.Parts.{guest as just_guest, shared_and_guest, uses_shared, uses_vms}
-use Rattle.reference_model.specs.Rules.{names, guest_slot}
-use Rattle.reference_model.specs.State.{Cpu}
+use Rattle.reference_model.specs.model.Parts.{guest as just_guest, shared_and_guest, uses_shared, uses_vms}
+use Rattle.reference_model.specs.model.Rules.{names, guest_slot}
+use Rattle.reference_model.specs.model.State.{Cpu}
 
 -- a call on the VM part uses no other
 pub vms_parts : (k : Cpu) (slot : Option ℕ) (step : Step) → uses_vms (names step) ≡ true → (guest_slot k step ≡ None) × (uses_shared (names step) slot ≡ false)

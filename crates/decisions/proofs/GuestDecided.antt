@@ -1,5 +1,5 @@
 -- What calls on a guest decide, where the CPU's hand or what a run leaves of the guest matters.
-use Rattle.std.proofs.Common.{◌≡◌, ◌≢◌, ℕ, ◌+◌, ◌<◌, ◌≤◌, ◌^◌, ◌==◌, true, false, Bool, Option, None, Some, Ok, Err, unwrap_or, length, nat_lt, nat_le, not, ◌||◌, refl, sym, subst, arith}
+use Rattle.std.proofs.Common.{◌≡◌, ◌≢◌, ℕ, ◌+◌, ◌<◌, ◌≤◌, ◌^◌, ◌==◌, true, false, Bool, Option, None, Some, Ok, Err, unwrap_or, length, nat_lt, nat_le, not, ◌&&◌, ◌||◌, refl, sym, subst, arith}
 use Rattle.std.proofs.lemmas.Bool.{false≢true}
 use Rattle.std.proofs.lemmas.Bool.Decides.{nat_tests}
 use Rattle.page_state.specs.declared.entry.PageRange.{PageRange}
@@ -17,14 +17,15 @@ use Rattle.reference_model.specs.declared.changes.CpuChange.{CpuChange}
 use Rattle.reference_model.specs.declared.changes.GuestChange.TheVariants.{Gain, Install as InstallGuest}
 use Rattle.reference_model.specs.declared.changes.Stage.TheVariants.{Installed as installed}
 use Rattle.reference_model.specs.declared.changes.Update.TheVariants.{Becomes}
-use Rattle.reference_model.specs.Decides.{decides}
-use Rattle.reference_model.specs.Changes.{no_changes}
-use Rattle.reference_model.specs.GuestRules.{finish_guest, guest_table_count, is_guest, least, moved_on, reclaim_pool, ticket_kind, ticket_vm}
-use Rattle.reference_model.specs.Rely.{CanRely}
-use Rattle.reference_model.specs.Rules.{rule}
-use Rattle.reference_model.specs.SharedRules.{hand_becomes}
-use Rattle.reference_model.specs.State.{Cpu, Guest, Shared, dying, live}
-use Rattle.reference_model.specs.Used.{with_guest}
+use Rattle.reference_model.specs.model.Decides.{decides}
+use Rattle.reference_model.specs.model.Changes.{no_changes}
+use Rattle.reference_model.specs.model.GuestRules.{finish_guest, guest_table_count, is_guest, least, moved_on, reclaim_pool, ticket_kind, ticket_vm}
+use Rattle.reference_model.specs.help.Rely.{CanRely}
+use Rattle.reference_model.specs.model.Rule.{reads}
+use Rattle.reference_model.specs.model.Rules.{rule}
+use Rattle.reference_model.specs.model.SharedRules.{hand_becomes}
+use Rattle.reference_model.specs.model.State.{Cpu, Guest, Shared, dying, live}
+use Rattle.reference_model.specs.model.Used.{with_guest}
 use Rattle.page_state.proofs.Geometries.{pages_most}
 
 module _ (l : Layout) (id slot : ℕ) (s : Shared) (g : Guest) (k : Cpu) where
@@ -43,20 +44,20 @@ module _ (l : Layout) (id slot : ℕ) (s : Shared) (g : Guest) (k : Cpu) where
     pub tops_up : (left : CpuChange) → left ≡ hand_becomes None → guest_table_count l g.tree + length g.free + r.count ≤ 512 → Ok (record no_changes { part = Gain r; cpu = left; moved = Some r }) ≡ decides l id (Some slot) (Topup vm) (with_guest s g k)
     unfolding rule
     tops_up left gone few =
-        let is_low : nat_le 64 vm.slot ≡ false = grind (arith, nat_tests) in
-        let fits : nat_lt 512 (guest_table_count l g.tree + length g.free + r.count) ≡ false = grind (arith, nat_tests) in
+        let is_low : nat_lt vm.slot 64 ≡ true = grind (arith, nat_tests) in
+        let fits : nat_le (guest_table_count l g.tree + length g.free + r.count) 512 ≡ true = grind (arith, nat_tests) in
         subst (λ (h : Option PageRange). Ok (record no_changes { part = Gain r; cpu = left; moved = Some r }) ≡ decides l id (Some slot) (Topup vm) (with_guest s g (record k { hand = h }))) (sym held) (rw (gone, is_low, lives, fits) refl)
 
     -- but not past its 512 frames
     pub tops_over : 512 < guest_table_count l g.tree + length g.free + r.count → Err Perm ≡ decides l id (Some slot) (Topup vm) (with_guest s g k)
     unfolding rule
     tops_over many =
-        let is_low : nat_le 64 vm.slot ≡ false = grind (arith, nat_tests) in
-        let over : nat_lt 512 (guest_table_count l g.tree + length g.free + r.count) ≡ true = grind (arith, nat_tests) in
+        let is_low : nat_lt vm.slot 64 ≡ true = grind (arith, nat_tests) in
+        let over : nat_le (guest_table_count l g.tree + length g.free + r.count) 512 ≡ false = grind (arith, nat_tests) in
         subst (λ (h : Option PageRange). Err Perm ≡ decides l id (Some slot) (Topup vm) (with_guest s g (record k { hand = h }))) (sym held) (rw (is_low, lives, over) refl)
 
 -- what holds nothing maps no page and has no free frame
-pub holds_none : (bare : Bool) (n : ℕ) → not bare || nat_lt 0 n ≡ false → (bare ≡ true) × (n ≤ 0)
+pub holds_none : (bare : Bool) (n : ℕ) → not (bare && n == 0) ≡ false → (bare ≡ true) × (n ≤ 0)
 holds_none true n e = (refl, grind (arith, nat_tests))
 holds_none false n e = absurd (false≢true (sym e))
 
@@ -66,9 +67,9 @@ module _ (l : TheLayout) (id slot : ℕ) (s : Shared) (g : Guest) (k : Cpu) wher
   pub least_low : (vm : VmId) (frame : ℕ) → frame ≡ least g.free → vm.slot < 64 → is_guest dying vm g ≡ true → length g.free ≢ 0 → CanRely (layout_of l) id (Some slot) (ReclaimPool vm) (with_guest s g k) → frame < 2 ^ 36
   unfolding rule
   least_low vm frame is low ends some rely =
-      let is_low : nat_le 64 vm.slot ≡ false = grind (arith, nat_tests) in
-      let has : (length g.free == 0) ≡ false = grind (arith, nat_tests) in
-      let fit = (rely.fit (reclaim_pool (layout_of l) (with_guest s g k) vm).changes (rw (is_low, ends, has) refl)).hyp in
+      let is_low : nat_lt vm.slot 64 ≡ true = grind (arith, nat_tests) in
+      let has : nat_lt 0 (length g.free) ≡ true = grind (arith, nat_tests) in
+      let fit = (rely.fit (reclaim_pool vm (reads (layout_of l) id (Some slot) (with_guest s g k))).changes (rw (is_low, ends, has) refl)).hyp in
       let most = pages_most l.geometry in
       let within = fit.within in
       omega (arith, is, within, most)
@@ -78,8 +79,8 @@ module _ (l : TheLayout) (id slot : ℕ) (s : Shared) (g : Guest) (k : Cpu) wher
   unfolding rule
   root_low d root same is bare spent rely =
       let bare_all = subst (λ (n : ℕ). all_below (pages_below n) (λ p. is_unmapped (g.tree.map p)) ≡ true) same bare in
-      let none : nat_lt 0 (length g.free) ≡ false = grind (arith, nat_tests) in
-      let fit = (rely.fit (finish_guest (layout_of l) (with_guest s g k)).changes (rw (bare_all, none) refl)).hyp in
+      let none : (length g.free == 0) ≡ true = grind (arith, nat_tests) in
+      let fit = (rely.fit (finish_guest (reads (layout_of l) id (Some slot) (with_guest s g k))).changes (rw (bare_all, none) refl)).hyp in
       let most = pages_most l.geometry in
       let within = fit.within in
       let is_root = subst (λ (n : ℕ). root ≡ unwrap_or (g.tree.table (n + 1, 0)) 0) same is in

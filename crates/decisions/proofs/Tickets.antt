@@ -8,16 +8,16 @@ use Rattle.page_state.specs.Layouts.{Layout}
 use Rattle.reference_model.specs.declared.changes.CpuChange.{CpuChange}
 use Rattle.reference_model.specs.declared.changes.SlotChange.TheVariants.{Open, Release}
 use Rattle.reference_model.specs.declared.changes.Stage.TheVariants.{Booked, Installed, Finished}
-use Rattle.reference_model.specs.Decides.{decides}
-use Rattle.reference_model.specs.Changes.{no_changes}
-use Rattle.reference_model.specs.GuestRules.{ticket_vm}
-use Rattle.reference_model.specs.Rules.{rule}
-use Rattle.reference_model.specs.Used.{vms_alone}
-use Rattle.reference_model.specs.VmRules.{no_ticket as no_ticket_left}
+use Rattle.reference_model.specs.model.Decides.{decides}
+use Rattle.reference_model.specs.model.Changes.{no_changes}
+use Rattle.reference_model.specs.model.GuestRules.{ticket_vm}
+use Rattle.reference_model.specs.model.Rules.{rule}
+use Rattle.reference_model.specs.model.Used.{vms_alone}
+use Rattle.reference_model.specs.model.VmRules.{no_ticket as no_ticket_left}
 use Rattle.reference_model.specs.declared.changes.Stage.{Stage}
 use Rattle.reference_model.specs.declared.changes.Ticket.{Ticket}
-use Rattle.reference_model.specs.Parts.{stage_eq, has_stage, ticket_slot}
-use Rattle.reference_model.specs.State.{Vms, Cpu}
+use Rattle.reference_model.specs.model.Parts.{stage_eq, has_stage, ticket_slot}
+use Rattle.reference_model.specs.model.State.{Vms, Cpu}
 
 pub ticket_is : (stage : Stage) (k : Cpu) (t : Ticket) (b : Bool) → k.ticket ≡ Some t → stage_eq t.stage stage ≡ b → ticket_slot stage k ≡ (if b then Some t.vm.slot else None)
 ticket_is stage k t b e f =

@@ -1,5 +1,5 @@
 -- What a call on a guest is decided on.
-use Rattle.std.specs.Prelude.{◌≡◌, ℕ, true, false, Bool, not, ◌||◌, nat_lt, length, Option, Some, Result, MatchOption, if◌then◌else◌}
+use Rattle.std.specs.Prelude.{◌≡◌, ℕ, true, false, Bool, not, ◌&&◌, ◌==◌, length, Option, Some, Result, MatchOption, if◌then◌else◌}
 use Rattle.guest_component.specs.declared.Guest.{Guest}
 use Rattle.guest_component.specs.View.{guest_of}
 use Rattle.part_types.specs.declared.parts.CpuState.{CpuState}
@@ -11,9 +11,9 @@ use Rattle.page_state.specs.Layouts.{Layout}
 use Rattle.page_state.specs.Search.{all_below}
 use Rattle.reference_model.specs.declared.changes.Changes.{Changes}
 use Rattle.reference_model.specs.declared.changes.Ticket.{Ticket}
-use Rattle.reference_model.specs.Decides.{decides}
-use Rattle.reference_model.specs.State.{Cpu, Guest as ReferenceGuest, Shared}
-use Rattle.reference_model.specs.Used.{Used, guest_alone, with_guest}
+use Rattle.reference_model.specs.model.Decides.{decides}
+use Rattle.reference_model.specs.model.State.{Cpu, Guest as ReferenceGuest, Shared}
+use Rattle.reference_model.specs.model.Used.{Used, guest_alone, with_guest}
 use Rattle.call_table.specs.declared.reply.Refusal.{Refusal}
 use Rattle.call_table.specs.declared.reply.Refusal.TheVariants.{Invalid, NoVm}
 use Rattle.call_table.specs.declared.step.Step.{Step}
@@ -41,7 +41,7 @@ IsDecidedByCpu k step r = (l : Layout) (id slot : ℕ) (s : Shared) (g : Referen
 
 -- why a call on a guest that there is none of is refused, by the test of its arguments
 abbrev pub unloaded_why : Bool → Refusal
-unloaded_why invalid = if invalid then Invalid else NoVm
+unloaded_why valid = if valid then NoVm else Invalid
 
 -- the ticket that the CPU has, where it passes a test; none where it doesn't
 abbrev pub IsTicketIf : Bool → CpuState → Option Ticket → Type 0
@@ -49,4 +49,4 @@ IsTicketIf passes k r = MatchOption r (passes ≡ false) (λ t. (passes ≡ true
 
 -- a guest maps a page, or its pool has a frame
 abbrev pub has_left : ℕ → ReferenceGuest → Bool
-has_left depth g = not (all_below (pages_below depth) (λ p. is_unmapped (g.tree.map p))) || nat_lt 0 (length g.free)
+has_left depth g = not (all_below (pages_below depth) (λ p. is_unmapped (g.tree.map p)) && length g.free == 0)

@@ -1,19 +1,19 @@
 //! What each call decides: the first of its tests that fails, or all that it changes. Nothing is changed here.
-ghost use Rattle.std.specs.Prelude.{◌≡◌, ◌<◌, ℕ, true, false, not, ◌||◌, Some, None, Err, IfOk};
+ghost use Rattle.std.specs.Prelude.{◌≡◌, ◌<◌, ℕ, true, false, ◌&&◌, Some, None, Err, IfOk};
 ghost use Rattle.guest_component.specs.View.{guest_depth, guest_of};
 ghost use Rattle.part_types.specs.Lent.{SharedSuits};
 ghost use Rattle.part_types.specs.View.{cpu_of, shared_of, vm_slots};
 ghost use Rattle.decisions.specs.Decided.{unloaded_why, used_with};
 ghost use Rattle.decisions.specs.Grows.{GrowsOnly};
 ghost use Rattle.page_state.specs.LayoutView.{layout_of};
-ghost use Rattle.reference_model.specs.Decides.{decides};
+ghost use Rattle.reference_model.specs.model.Decides.{decides};
 ghost use Rattle.page_state.specs.Layouts.{Layout as ReferenceLayout, is_good_page, is_good_range};
-ghost use Rattle.reference_model.specs.GuestRules.{are_good_pages as are_good_pages_of};
-ghost use Rattle.reference_model.specs.Parts.{guest as just_guest, shared_and_guest, uses_shared, uses_vms};
-ghost use Rattle.reference_model.specs.Rules.{guest_slot, names};
-ghost use Rattle.reference_model.specs.Rely.{CanRely};
-ghost use Rattle.reference_model.specs.State.{Cpu, no_guest};
-ghost use Rattle.reference_model.specs.Used.{guest_alone, used_alone, vms_alone};
+ghost use Rattle.reference_model.specs.model.GuestRules.{are_good_pages as are_good_pages_of};
+ghost use Rattle.reference_model.specs.model.Parts.{guest as just_guest, shared_and_guest, uses_shared, uses_vms};
+ghost use Rattle.reference_model.specs.model.Rules.{guest_slot, names};
+ghost use Rattle.reference_model.specs.help.Rely.{CanRely};
+ghost use Rattle.reference_model.specs.model.State.{Cpu, no_guest};
+ghost use Rattle.reference_model.specs.model.Used.{guest_alone, used_alone, vms_alone};
 
 mod abort;
 mod asks;
@@ -165,7 +165,7 @@ pub fn decide_guest<A: Allocator>(
 /// The refusal of a call on a guest that there is none of: Invalid where the frames aren't a good range, or the pages not all
 /// input pages.
 fn unloaded(layout: &Layout, pfn: u64, gfn: u64, n: u64) -> Refusal
-    ensures { result ≡ unloaded_why (not (is_good_range (layout_of layout.now) pfn n) || not (are_good_pages_of (layout_of layout.now) gfn n)) }
+    ensures { result ≡ unloaded_why (is_good_range (layout_of layout.now) pfn n && are_good_pages_of (layout_of layout.now) gfn n) }
 {
     if !layout.is_good_range(Page(pfn), n) || !are_good_pages(layout, gfn, n) {
         return Refusal::Invalid;
@@ -175,7 +175,7 @@ fn unloaded(layout: &Layout, pfn: u64, gfn: u64, n: u64) -> Refusal
 
 /// The same of a call that names no frame.
 fn unloaded_page(layout: &Layout, gfn: u64) -> Refusal
-    ensures { result ≡ unloaded_why (not (is_good_page (layout_of layout.now) gfn)) }
+    ensures { result ≡ unloaded_why (is_good_page (layout_of layout.now) gfn) }
 {
     if gfn >= layout.geometry.pages() {
         return Refusal::Invalid;
@@ -184,7 +184,7 @@ fn unloaded_page(layout: &Layout, gfn: u64) -> Refusal
 }
 
 /// The refusal of a call that uses no part: its VM names no slot, or the CPU has no vCPU loaded, or no ticket of the stage.
-#[tactic(auto, using(crate::proofs::Slots::no_slot, crate::proofs::Slots::not_low), unfolding(reference_model::specs::Rules::rule))]
+#[tactic(auto, using(crate::proofs::Slots::no_slot), unfolding(reference_model::specs::model::Rules::rule))]
 pub fn refusal_of_none(layout: &Layout, step: Step) -> Refusal
     requires vms { uses_vms (names step) ≡ false }
     requires shared { uses_shared (names step) None ≡ false }

@@ -1,6 +1,6 @@
 -- host_abort of a lazy host: what freedoms leave of the state stays.
 use Rattle.std.proofs.Common.{◌≡◌, ℕ, ◌+◌, ◌-◌, ◌≤◌, refl, ap, sym, ◌∙◌, subst, arith, inl, inr}
-use Rattle.std.specs.Prelude.{Bool, true, false, ◌&&◌, ◌==◌, is_none, Option, Some, None, if◌then◌else◌}
+use Rattle.std.specs.Prelude.{Bool, true, false, not, ◌&&◌, ◌==◌, Option, Some, None, if◌then◌else◌}
 use mathlib.Core.Path.{fun_ext}
 use Rattle.descriptor.specs.declared.Prot.TheVariants.{RWX}
 use Rattle.descriptor.specs.declared.State.{State}
@@ -28,16 +28,16 @@ use Rattle.reference_model.proofs.conditions.RangeMoves.{within-is, advance-leaf
 use Rattle.reference_model.proofs.conditions.Stands.{SharedStands, GuestsStand, row-stands}
 use Rattle.reference_model.specs.declared.changes.Changes.{Changes}
 use Rattle.reference_model.specs.declared.changes.MapChange.{MapChange}
-use Rattle.reference_model.specs.Changes.{change, edit_of, no_changes, touched}
-use Rattle.reference_model.specs.Conditions.{hosts, IsUsable, is_inside, in_shared, in_hand, guest_condition, row_in}
-use Rattle.reference_model.specs.Owner.{is_in_hand}
-use Rattle.reference_model.specs.Parts.{shared, lacks_slot}
-use Rattle.reference_model.specs.Rule.{Rule, fine}
-use Rattle.reference_model.specs.Rules.{rule}
-use Rattle.reference_model.specs.SharedRules.{abort_edit, abort_leaf}
-use Rattle.reference_model.specs.State.{Cpu, Contents, no_cpu, no_guest, blank, put_at}
-use Rattle.reference_model.specs.Step.{first_test, rule_of, is_touched, own_row, with_rows, changed, made, shared_after, guest_after}
-use Rattle.reference_model.specs.Used.{Used, used_of, put_back}
+use Rattle.reference_model.specs.model.Changes.{change, edit_of, no_changes, touched}
+use Rattle.reference_model.specs.help.Conditions.{hosts, IsUsable, is_inside, in_shared, in_hand, guest_condition, row_in}
+use Rattle.reference_model.specs.model.Owner.{is_in_hand}
+use Rattle.reference_model.specs.model.Parts.{shared, lacks_slot}
+use Rattle.reference_model.specs.model.Rule.{Rule, reads}
+use Rattle.reference_model.specs.model.Rules.{rule}
+use Rattle.reference_model.specs.model.SharedRules.{abort_edit, abort_leaf, host_abort}
+use Rattle.reference_model.specs.model.State.{Cpu, Contents, no_cpu, no_guest, blank, put_at}
+use Rattle.reference_model.specs.model.Step.{first_test, rule_of, is_touched, own_row, with_rows, changed, made, shared_after, guest_after}
+use Rattle.reference_model.specs.model.Used.{Used, used_of, put_back}
 use Rattle.freedoms.specs.Ample.{rule_fails, AnswersAmply, StepsAmply}
 use Rattle.freedoms.specs.AnyTrees.{LegalInAnyTrees}
 use Rattle.freedoms.specs.declared.Freedoms.{Freedoms}
@@ -170,13 +170,19 @@ module _ (w : Freedoms) (l : Layout) (usable : IsUsable l) (lazy : w.lazy_host �
   abbrev c : Option MapChange
   c = abort_edit s.shared.host.map (region_of l.memory page) page
 
-  x-rule : rule_of l cpu None (HostAbort page) x ≡ record fine { invalid = is_none (region_of l.memory page); perm = is_annotated (s.shared.host.map page); changes = edit c }
-  unfolding rule used_of
+  -- the rule by whether it passes its last test and what it changes
+  by-edit : Bool → Option MapChange → Rule
+  by-edit b o =
+      let r = host_abort page (reads l cpu None x) in
+      record r { allowed = record r.allowed { passes = b }; changes = edit o }
+
+  x-rule : rule_of l cpu None (HostAbort page) x ≡ by-edit (not (is_annotated (s.shared.host.map page))) c
+  unfolding rule used_of by-edit
   x-rule = refl
 
-  z-rule : rule_of l cpu None (HostAbort page) z ≡ record fine { invalid = is_none (region_of l.memory page); perm = is_annotated (s.shared.host.map page); changes = edit None }
-  unfolding rule used_of
-  z-rule = same2 (λ b o. record fine { invalid = is_none (region_of l.memory page); perm = b; changes = edit o }) (view-test w l is_annotated (annotated-leaves l) page (s.shared.host.map page)) (none-edit w l s.shared.host.map page lazy (region_of l.memory page) refl)
+  z-rule : rule_of l cpu None (HostAbort page) z ≡ by-edit (not (is_annotated (s.shared.host.map page))) None
+  unfolding rule used_of by-edit
+  z-rule = same2 (λ b o. by-edit (not b) o) (view-test w l is_annotated (annotated-leaves l) page (s.shared.host.map page)) (none-edit w l s.shared.host.map page lazy (region_of l.memory page) refl)
 
   -- a touched frame is the host's
   host-is : (f : ℕ) → is_memory l f ≡ true → is_in_hand (range_of c) f ≡ true → legal.state.frames.condition f ≡ hosts
@@ -215,14 +221,14 @@ module _ (w : Freedoms) (l : Layout) (usable : IsUsable l) (lazy : w.lazy_host �
   seen-none rows = ap (λ (r : ℕ → Row). record (view_used w l z) { shared = record (view_shared w l z.shared) { row = r } }) rows
 
   x-made : view_used w l (made l cpu None (HostAbort page) x) ≡ view_used w l x
-  unfolding made with_rows used_of
+  unfolding made with_rows used_of by-edit
   x-made =
       let rows = fun_ext (λ f. row-stays (is_memory l f && is_touched (edit c) f) (own_row l cpu None (HostAbort page) (changed l.depth (edit c) x) f) (s.shared.row f) (λ t. let k = and-both (is_memory l f) (is_touched (edit c) f) t in row-found f k.0 (sym (touched-edit c f) ∙ k.1))) in
       ap (λ (r : Rule). view_used w l (with_rows l cpu None (HostAbort page) r.changes (changed l.depth r.changes x))) x-rule
       ∙ seen-rows rows
 
   z-made : view_used w l (made l cpu None (HostAbort page) z) ≡ view_used w l z
-  unfolding made with_rows used_of
+  unfolding made with_rows used_of by-edit
   z-made =
       let rows = fun_ext (λ f. row-stays (is_memory l f && false) (own_row l cpu None (HostAbort page) (changed l.depth (edit None) z) f) (s.shared.row f) (λ t. let k = and-both (is_memory l f) false t in let bad = k.1 in cc)) in
       ap (λ (r : Rule). view_used w l (with_rows l cpu None (HostAbort page) r.changes (changed l.depth r.changes z))) z-rule
@@ -233,9 +239,11 @@ module _ (w : Freedoms) (l : Layout) (usable : IsUsable l) (lazy : w.lazy_host �
   x-seen = seen w l s shared None cpu
 
   fails-same : rule_fails l cpu None (HostAbort page) x ≡ rule_fails l cpu None (HostAbort page) z
+  unfolding by-edit
   fails-same = ap (λ (r : Rule). first_test r (lacks_slot shared None)) x-rule ∙ sym (ap (λ (r : Rule). first_test r (lacks_slot shared None)) z-rule)
 
   value-same : (rule_of l cpu None (HostAbort page) x).changes.value ≡ (rule_of l cpu None (HostAbort page) z).changes.value
+  unfolding by-edit
   value-same = ap (λ (r : Rule). r.changes.value) x-rule ∙ sym (ap (λ (r : Rule). r.changes.value) z-rule)
 
   made-same : view_used w l (made l cpu None (HostAbort page) x) ≡ view_used w l (made l cpu None (HostAbort page) z)

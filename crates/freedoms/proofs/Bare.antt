@@ -10,12 +10,12 @@ use Rattle.page_state.specs.Tables.{edited}
 use Rattle.reference_model.specs.declared.changes.Changes.{Changes}
 use Rattle.reference_model.specs.declared.changes.GuestChange.{GuestChange}
 use Rattle.reference_model.specs.declared.changes.GuestChange.TheVariants.{Keep as KeepGuest, Install, Gain, LoseLowest, Die, Empty}
-use Rattle.reference_model.specs.Changes.{guest_by}
-use Rattle.reference_model.specs.Parts.{Names, uses_shared}
-use Rattle.reference_model.specs.Rules.{rule}
-use Rattle.reference_model.specs.State.{Shared, Guest, Contents, dying, no_shared}
-use Rattle.reference_model.specs.Step.{rule_of, changed, shared_after, guest_after}
-use Rattle.reference_model.specs.Used.{Used, used_of, put_back, guest_at, put_guest}
+use Rattle.reference_model.specs.model.Changes.{guest_by}
+use Rattle.reference_model.specs.model.Parts.{Names, uses_shared}
+use Rattle.reference_model.specs.model.Rules.{rule}
+use Rattle.reference_model.specs.model.State.{Shared, Guest, Contents, dying, no_shared}
+use Rattle.reference_model.specs.model.Step.{rule_of, changed, shared_after, guest_after}
+use Rattle.reference_model.specs.model.Used.{Used, used_of, put_back, guest_at, put_guest}
 use Rattle.freedoms.specs.Ample.{asks_pool}
 use Rattle.freedoms.specs.OwnTables.{bare_shared, bare_guest, bare_used, without_tables}
 

@@ -13,10 +13,10 @@ use Rattle.page_state.specs.declared.row.Row.{Row}
 use Rattle.reference_model.proofs.Frames.{count_blocks-none}
 use Rattle.reference_model.proofs.PutAt.{put_at-same}
 use Rattle.reference_model.proofs.conditions.Tables.{uses_of, uses-put}
-use Rattle.reference_model.specs.Conditions.{GuestFits, IsMemoryLeaf, in_vm, one, table_uses, guest_uses}
-use Rattle.reference_model.specs.Owner.{is_frame}
-use Rattle.reference_model.specs.Sound.{StageFits, tree_at}
-use Rattle.reference_model.specs.State.{Guest, Contents, empty, no_guest, put_at}
+use Rattle.reference_model.specs.help.Conditions.{GuestFits, IsMemoryLeaf, in_vm, one, table_uses, guest_uses}
+use Rattle.reference_model.specs.model.Owner.{is_frame}
+use Rattle.reference_model.specs.claims.Sound.{StageFits, tree_at}
+use Rattle.reference_model.specs.model.State.{Guest, Contents, empty, no_guest, put_at}
 use Rattle.freedoms.specs.AnyTrees.{LegalInAnyTrees, HasRootAlone, IsInside}
 use Rattle.freedoms.specs.Laws.{is_pool_of, IsPoolByRows, with_root, with_pool, PoolsByRows, ReclaimsByRows}
 use Rattle.freedoms.specs.OwnTables.{OwnTables, bare_guest, without_tables}

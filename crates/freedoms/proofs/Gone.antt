@@ -16,10 +16,10 @@ use Rattle.reference_model.proofs.conditions.Stands.{is_free-count}
 use Rattle.reference_model.specs.declared.changes.Changes.{Changes}
 use Rattle.reference_model.specs.declared.changes.GuestChange.{GuestChange}
 use Rattle.reference_model.specs.declared.changes.GuestChange.TheVariants.{Keep as KeepGuest, Install, Gain, LoseLowest, Die, Empty}
-use Rattle.reference_model.specs.Changes.{edit_of, guest_by, frames_in, rest}
-use Rattle.reference_model.specs.Owner.{is_free, is_table_frame}
-use Rattle.reference_model.specs.State.{Shared, Guest}
-use Rattle.reference_model.specs.Step.{shared_after, guest_after, shared_need, guest_need}
+use Rattle.reference_model.specs.model.Changes.{edit_of, guest_by, frames_in, rest}
+use Rattle.reference_model.specs.model.Owner.{is_free, is_table_frame}
+use Rattle.reference_model.specs.model.State.{Shared, Guest}
+use Rattle.reference_model.specs.model.Step.{shared_after, guest_after, shared_need, guest_need}
 
 -- no table of the tree has the frame
 abbrev pub HasNone : Tree → ℕ → Type 0

@@ -10,14 +10,14 @@ use Rattle.call_table.specs.declared.step.Step.{Step}
 use Rattle.call_table.specs.declared.step.Step.TheVariants.{HostTranslate, HypTranslate, OwnerOf, GuestTranslate, MarkDying, VmReserve, VmOpen, VcpuLoad, VcpuPut, Teardown, VmRelease}
 use Rattle.page_state.specs.Layouts.{Layout}
 use Rattle.page_state.specs.Tables.{needs}
-use Rattle.reference_model.specs.Conditions.{Legal}
-use Rattle.reference_model.specs.Parts.{lacks_slot}
-use Rattle.reference_model.specs.Rule.{Rule}
-use Rattle.reference_model.specs.Rules.{rule, names, guest_slot, may_grow}
-use Rattle.reference_model.specs.Sound.{tree_at}
-use Rattle.reference_model.specs.State.{Contents, Reference}
-use Rattle.reference_model.specs.Step.{first_test, or_else, refusal, fails, is_short, rule_of, made, Answered, used_by}
-use Rattle.reference_model.specs.Used.{Used, used_of, put_back}
+use Rattle.reference_model.specs.help.Conditions.{Legal}
+use Rattle.reference_model.specs.model.Parts.{lacks_slot}
+use Rattle.reference_model.specs.model.Rule.{Rule}
+use Rattle.reference_model.specs.model.Rules.{rule, names, guest_slot, may_grow}
+use Rattle.reference_model.specs.claims.Sound.{tree_at}
+use Rattle.reference_model.specs.model.State.{Contents, Reference}
+use Rattle.reference_model.specs.model.Step.{first_test, or_else, refusal, fails, is_short, rule_of, made, Answered, used_by}
+use Rattle.reference_model.specs.model.Used.{Used, used_of, put_back}
 use Rattle.freedoms.specs.Ample.{asks_pool, rule_fails, AnswersAmply, StepsAmply}
 use Rattle.freedoms.specs.AnyTrees.{LegalInAnyTrees, HasRootAlone, IsInside}
 use Rattle.coarse_trees.specs.Coarsest.{IsCoarsest}

@@ -1,6 +1,6 @@
 -- The frames that a made step touches are in no pool before it, where its rule asks none.
 use Rattle.std.proofs.Common.{◌≡◌, ℕ, ◌+◌, ◌-◌, ◌≤◌, ◌<◌, refl, ap, sym, ◌∙◌, subst, arith, inl, inr}
-use Rattle.std.specs.Prelude.{Bool, true, false, not, ◌&&◌, ◌==◌, nat_le, Option, Some, None, if◌then◌else◌}
+use Rattle.std.specs.Prelude.{Bool, true, false, ◌&&◌, ◌==◌, nat_le, Option, Some, None, if◌then◌else◌}
 use Rattle.descriptor.specs.declared.State.{State}
 use Rattle.descriptor.specs.declared.State.TheVariants.{Owned, SharedOwned, SharedBorrowed}
 use Rattle.page_state.specs.declared.entry.Entry.{Entry}
@@ -9,7 +9,7 @@ use Rattle.page_state.specs.declared.entry.PageRange.{PageRange}
 use Rattle.page_state.specs.declared.layout.Region.{Region}
 use Rattle.page_state.specs.declared.row.Usage.TheVariants.{SharedPool, VmPool}
 use Rattle.page_state.proofs.Blocks.{empty_means}
-use Rattle.page_state.proofs.Common.{both, or-neither, not-false, if-true, if-false}
+use Rattle.page_state.proofs.Common.{both, and-left, and-right, not-true, if-true, if-false}
 use Rattle.page_state.specs.Blocks.{block_at, first_page, span, is_empty}
 use Rattle.page_state.specs.EntryTests.{is_unmapped, is_annotated, is_in, is_free_page, entry_frame}
 use Rattle.page_state.specs.Layouts.{Layout, is_memory, hyp_page}
@@ -23,16 +23,16 @@ use Rattle.call_table.specs.declared.step.Step.TheVariants.{ShareHyp, UnshareHyp
 use Rattle.reference_model.proofs.conditions.RangeMoves.{range-all, both-all, one-within, within-is, hand-range, in_hand-hyps}
 use Rattle.reference_model.proofs.conditions.Tests.{Tested, tested}
 use Rattle.reference_model.specs.declared.changes.MapChange.{MapChange}
-use Rattle.reference_model.specs.Changes.{change}
-use Rattle.reference_model.specs.Conditions.{Condition, hyps, HostFits, GuestFits, guest_condition, row_in, in_shared, in_vm}
-use Rattle.reference_model.specs.Owner.{is_in_hand}
-use Rattle.reference_model.specs.Parts.{lacks_slot}
-use Rattle.reference_model.specs.Rule.{Rule}
-use Rattle.reference_model.specs.Rules.{rule, names}
-use Rattle.reference_model.specs.SharedRules.{abort_edit, abort_depth, abort_leaf, may_map, may_return, is_plain}
-use Rattle.reference_model.specs.State.{Contents}
-use Rattle.reference_model.specs.Step.{first_test, rule_of, is_touched}
-use Rattle.reference_model.specs.Used.{Used, used_of}
+use Rattle.reference_model.specs.model.Changes.{change}
+use Rattle.reference_model.specs.help.Conditions.{Condition, hyps, HostFits, GuestFits, guest_condition, row_in, in_shared, in_vm}
+use Rattle.reference_model.specs.model.Owner.{is_in_hand}
+use Rattle.reference_model.specs.model.Parts.{lacks_slot}
+use Rattle.reference_model.specs.model.Rule.{Rule}
+use Rattle.reference_model.specs.model.Rules.{rule, names}
+use Rattle.reference_model.specs.model.SharedRules.{abort_edit, abort_depth, abort_leaf, may_map, may_return, is_plain}
+use Rattle.reference_model.specs.model.State.{Contents}
+use Rattle.reference_model.specs.model.Step.{first_test, rule_of, is_touched}
+use Rattle.reference_model.specs.model.Used.{Used, used_of}
 use Rattle.freedoms.specs.Ample.{asks_pool, rule_fails}
 use Rattle.freedoms.specs.AnyTrees.{LegalInAnyTrees}
 
@@ -154,8 +154,8 @@ module _ (l : Layout) (s : Contents) (legal : LegalInAnyTrees l s) (cpu : ℕ) w
   one-loose : (f q : ℕ) → is_pooled (legal.state.frames.condition f) ≡ false → is_within f 1 q ≡ true → is_pooled (legal.state.frames.condition q) ≡ false
   one-loose f q h w = subst (λ n. is_pooled (legal.state.frames.condition n) ≡ false) (one-within f q w) h
 
-  given-loose : (f g n : ℕ) (b : ℕ → Bool) (q : ℕ) → not (all_below n (λ i. is_free_page (s.shared.host.map (f + i)) && b (g + i))) ≡ false → is_within f n q ≡ true → is_pooled (legal.state.frames.condition q) ≡ false
-  given-loose f g n b q h w = free-loose q (both-all f g n (λ p. is_free_page (s.shared.host.map p)) b (not-false _ h) q w).0
+  given-loose : (f g n : ℕ) (b : ℕ → Bool) (q : ℕ) → all_below n (λ i. is_free_page (s.shared.host.map (f + i)) && b (g + i)) ≡ true → is_within f n q ≡ true → is_pooled (legal.state.frames.condition q) ≡ false
+  given-loose f g n b q h w = free-loose q (both-all f g n (λ p. is_free_page (s.shared.host.map p)) b h q w).0
 
   hand-loose : (q : ℕ) → is_in_hand (s.cpu cpu).hand q ≡ true → is_pooled (legal.state.frames.condition q) ≡ false
   hand-loose q h = ap is_pooled (in_hand-hyps cpu (legal.state.frames.condition q) (sym (legal.state.frames.held.hand cpu q) ∙ h))
@@ -187,20 +187,20 @@ module _ (l : Layout) (s : Contents) (legal : LegalInAnyTrees l s) (cpu : ℕ) w
 
   pub loose : (step : Step) (slot : Option ℕ) → asks_pool step ≡ false → Loose slot step
   unfolding rule used_of
-  loose (ShareHyp f) slot a h q m w = let p = passes slot (ShareHyp f) h in one-loose f q (free-loose f (not-false _ (or-neither _ _ p.perm).0)) w
-  loose (UnshareHyp f) slot a h q m w = let p = passes slot (UnshareHyp f) h in one-loose f q (host-loose f (legal.state.frames.condition f) (s.shared.host.map f) (legal.state.frames.maps.host f) (in-plain SharedOwned (s.shared.host.map f) (not-false _ (or-neither _ _ p.perm).0))) w
-  loose (DonateHyp f n) slot a h q m w = let p = passes slot (DonateHyp f n) h in given-loose f f n (λ i. is_unmapped (s.shared.hyp.map (hyp_page i))) q p.perm w
-  loose (HypDonateHost f n) slot a h q m w = let p = passes slot (HypDonateHost f n) h in returned-loose f n q m (not-false _ p.perm) w
+  loose (ShareHyp f) slot a h q m w = let p = passes slot (ShareHyp f) h in one-loose f q (free-loose f (and-left _ _ p.allowed)) w
+  loose (UnshareHyp f) slot a h q m w = let p = passes slot (UnshareHyp f) h in one-loose f q (host-loose f (legal.state.frames.condition f) (s.shared.host.map f) (legal.state.frames.maps.host f) (in-plain SharedOwned (s.shared.host.map f) (and-left _ _ p.allowed))) w
+  loose (DonateHyp f n) slot a h q m w = let p = passes slot (DonateHyp f n) h in given-loose f f n (λ i. is_unmapped (s.shared.hyp.map (hyp_page i))) q p.allowed w
+  loose (HypDonateHost f n) slot a h q m w = let p = passes slot (HypDonateHost f n) h in returned-loose f n q m p.allowed w
   loose (HostAbort page) slot a h q m w = free-loose q (ap is_free_page (abort-loose s.shared.host.map (region_of l.memory page) page q (sym (touched-host (abort_edit s.shared.host.map (region_of l.memory page) page) q) ∙ w)))
-  loose (Fund f n) slot a h q m w = let p = passes slot (Fund f n) h in given-loose f f n (λ i. is_unmapped (s.shared.hyp.map (hyp_page i))) q p.perm w
-  loose Unfund slot a h q m w = let p = passes slot Unfund h in hand-loose q (hand-range (s.cpu cpu).hand q p.perm ∙ w)
-  loose (ShareGuest f g r n) (Some v) a h q m w = let p = passes (Some v) (ShareGuest f g r n) h in given-loose f g n (λ i. is_unmapped ((s.guest v).tree.map i)) q (or-neither _ _ p.perm).1 w
-  loose (UnshareGuest vm g) (Some v) a h q m w = let p = passes (Some v) (UnshareGuest vm g) h in page-loose v g q (in-mapped SharedBorrowed _ (not-false _ p.perm)) w
-  loose (DonateGuest f g n) (Some v) a h q m w = let p = passes (Some v) (DonateGuest f g n) h in given-loose f g n (λ i. is_unmapped ((s.guest v).tree.map i)) q (or-neither _ _ p.perm).1 w
-  loose (GuestShareHost g) (Some v) a h q m w = let p = passes (Some v) (GuestShareHost g) h in page-loose v g q (in-mapped Owned _ (not-false _ p.perm)) w
-  loose (GuestUnshareHost g) (Some v) a h q m w = let p = passes (Some v) (GuestUnshareHost g) h in page-loose v g q (in-mapped SharedOwned _ (not-false _ p.perm)) w
+  loose (Fund f n) slot a h q m w = let p = passes slot (Fund f n) h in given-loose f f n (λ i. is_unmapped (s.shared.hyp.map (hyp_page i))) q p.allowed w
+  loose Unfund slot a h q m w = let p = passes slot Unfund h in hand-loose q (hand-range (s.cpu cpu).hand q p.allowed ∙ w)
+  loose (ShareGuest f g r n) (Some v) a h q m w = let p = passes (Some v) (ShareGuest f g r n) h in given-loose f g n (λ i. is_unmapped ((s.guest v).tree.map i)) q (and-right _ _ p.allowed) w
+  loose (UnshareGuest vm g) (Some v) a h q m w = let p = passes (Some v) (UnshareGuest vm g) h in page-loose v g q (in-mapped SharedBorrowed _ p.allowed) w
+  loose (DonateGuest f g n) (Some v) a h q m w = let p = passes (Some v) (DonateGuest f g n) h in given-loose f g n (λ i. is_unmapped ((s.guest v).tree.map i)) q (and-right _ _ p.allowed) w
+  loose (GuestShareHost g) (Some v) a h q m w = let p = passes (Some v) (GuestShareHost g) h in page-loose v g q (in-mapped Owned _ p.allowed) w
+  loose (GuestUnshareHost g) (Some v) a h q m w = let p = passes (Some v) (GuestUnshareHost g) h in page-loose v g q (in-mapped SharedOwned _ p.allowed) w
   loose Install (Some v) a h q m w = hand-loose q w
-  loose (ReclaimPage vm g) (Some v) a h q m w = let p = passes (Some v) (ReclaimPage vm g) h in page-loose v g q p.perm w
+  loose (ReclaimPage vm g) (Some v) a h q m w = let p = passes (Some v) (ReclaimPage vm g) h in page-loose v g q (not-true _ p.allowed) w
   loose (Topup vm) slot a h q m w = cc
   loose (ReclaimPool vm) slot a h q m w = cc
   loose FinishGuest slot a h q m w = cc

@@ -6,7 +6,7 @@ use Rattle.call_table.specs.declared.step.Step.{Step}
 use Rattle.freedoms.proofs.Judged.{alike}
 use Rattle.freedoms.proofs.ViewRows.{view_steps}
 use Rattle.page_state.specs.Layouts.{Layout}
-use Rattle.reference_model.specs.State.{Contents}
+use Rattle.reference_model.specs.model.State.{Contents}
 use Rattle.freedoms.specs.Ample.{is_done, StepsAmply}
 use Rattle.freedoms.specs.declared.Freedoms.{Freedoms}
 use Rattle.freedoms.specs.Freedoms.{view, Alike, SaysAs, Touches, reads_host, no_more}

@@ -1,6 +1,6 @@
 -- The abort of a host that isn't lazy: its rule asks which pages are unmapped, and no kind.
 use Rattle.std.proofs.Common.{◌≡◌, ℕ, ◌+◌, refl, ap, sym, ◌∙◌, subst}
-use Rattle.std.specs.Prelude.{Bool, true, false, ◌&&◌, is_none, nat_le, Option, Some, None, if◌then◌else◌}
+use Rattle.std.specs.Prelude.{Bool, true, false, not, ◌&&◌, nat_le, Option, Some, None, if◌then◌else◌}
 use mathlib.Core.Path.{fun_ext}
 use Rattle.call_table.specs.declared.step.Step.TheVariants.{HostAbort}
 use Rattle.page_state.proofs.Common.{same2}
@@ -15,11 +15,11 @@ use Rattle.page_state.specs.Regions.{end_of, region_of}
 use Rattle.page_state.specs.Search.{all_below}
 use Rattle.page_state.specs.Trees.{Block}
 use Rattle.reference_model.specs.declared.changes.MapChange.{MapChange}
-use Rattle.reference_model.specs.Changes.{change, no_changes}
-use Rattle.reference_model.specs.Rule.{fine}
-use Rattle.reference_model.specs.Rules.{rule}
-use Rattle.reference_model.specs.SharedRules.{abort_depth, abort_edit, abort_leaf, may_map}
-use Rattle.reference_model.specs.Used.{Used}
+use Rattle.reference_model.specs.model.Changes.{change, no_changes}
+use Rattle.reference_model.specs.model.Rule.{reads}
+use Rattle.reference_model.specs.model.Rules.{rule}
+use Rattle.reference_model.specs.model.SharedRules.{host_abort, abort_depth, abort_edit, abort_leaf, may_map}
+use Rattle.reference_model.specs.model.Used.{Used}
 use Rattle.freedoms.proofs.Aborts.{annotated-leaves}
 use Rattle.freedoms.proofs.Judged.{alike}
 use Rattle.freedoms.proofs.More.{viewed}
@@ -78,7 +78,7 @@ unfolding rule
 rule-seen w l cpu p lazy slot x z e =
     let at : (q : ℕ) → is_unmapped (x.shared.host.map q) ≡ is_unmapped (z.shared.host.map q) = λ q. sym (unlazy-unmapped w l q (x.shared.host.map q) lazy) ∙ ap (λ (u : Used). is_unmapped (u.shared.host.map q)) e ∙ unlazy-unmapped w l q (z.shared.host.map q) lazy in
     let kept : is_annotated (x.shared.host.map p) ≡ is_annotated (z.shared.host.map p) = sym (view-test w l is_annotated (annotated-leaves l) p (x.shared.host.map p)) ∙ ap (λ (u : Used). is_annotated (u.shared.host.map p)) e ∙ view-test w l is_annotated (annotated-leaves l) p (z.shared.host.map p) in
-    same2 (λ (t : Bool) (c : Option MapChange). record fine { invalid = is_none (region_of l.memory p); perm = t; changes = record no_changes { host = c } }) kept (edit-same x.shared.host.map z.shared.host.map at (region_of l.memory p) p)
+    same2 (λ (t : Bool) (c : Option MapChange). let r = host_abort p (reads l cpu slot x) in record r { allowed = record r.allowed { passes = not t }; changes = record no_changes { host = c } }) kept (edit-same x.shared.host.map z.shared.host.map at (region_of l.memory p) p)
 
 pub abort_of_any_kind : AbortOfAnyKind
 abort_of_any_kind w l before legal cpu p reply after lazy begins is = (

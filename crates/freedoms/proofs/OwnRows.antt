@@ -12,14 +12,14 @@ use Rattle.page_state.specs.declared.row.Usage.TheVariants.{Plain, SharedPool, V
 use Rattle.call_table.specs.declared.step.Step.{Step}
 use Rattle.reference_model.proofs.conditions.Tables.{uses_of, uses-some}
 use Rattle.reference_model.specs.declared.changes.Changes.{Changes}
-use Rattle.reference_model.specs.Conditions.{in_shared, one, table_uses, shared_uses, guest_uses}
-use Rattle.reference_model.specs.Owner.{owner_by, lent_to, is_in_shared_pool, vm_pool_of, holding_cpu, usage_of, row_of}
-use Rattle.reference_model.specs.Parts.{uses_shared}
-use Rattle.reference_model.specs.Rule.{Rule}
-use Rattle.reference_model.specs.Rules.{names}
-use Rattle.reference_model.specs.State.{Shared, Guest, Contents, no_shared, no_guest, blank}
-use Rattle.reference_model.specs.Step.{rule_of, is_touched, own_row, with_rows, changed, made, shared_after}
-use Rattle.reference_model.specs.Used.{Used, used_of, put_back, guest_at, put_guest}
+use Rattle.reference_model.specs.help.Conditions.{in_shared, one, table_uses, shared_uses, guest_uses}
+use Rattle.reference_model.specs.model.Owner.{owner_by, lent_to, is_in_shared_pool, vm_pool_of, holding_cpu, usage_of, row_of}
+use Rattle.reference_model.specs.model.Parts.{uses_shared}
+use Rattle.reference_model.specs.model.Rule.{Rule}
+use Rattle.reference_model.specs.model.Rules.{names}
+use Rattle.reference_model.specs.model.State.{Shared, Guest, Contents, no_shared, no_guest, blank}
+use Rattle.reference_model.specs.model.Step.{rule_of, is_touched, own_row, with_rows, changed, made, shared_after}
+use Rattle.reference_model.specs.model.Used.{Used, used_of, put_back, guest_at, put_guest}
 use Rattle.freedoms.specs.Ample.{asks_pool, rule_fails}
 use Rattle.freedoms.specs.AnyTrees.{LegalInAnyTrees, IsInside}
 use Rattle.freedoms.specs.OwnTables.{bare_used, bare_shared, bare_guest, without_tables}

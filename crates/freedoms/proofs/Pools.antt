@@ -1,6 +1,6 @@
 -- The frames of guests' pools, by the rows.
 use Rattle.std.proofs.Common.{◌≡◌, ℕ, suc, ◌+◌, ◌≤◌, ap, sym, ◌∙◌, subst, arith, inl, inr, [], ◌∷◌, length}
-use Rattle.std.specs.Prelude.{false, ◌==◌, Option, Some, None}
+use Rattle.std.specs.Prelude.{true, nat_lt, Option, Some, None}
 use Rattle.page_state.proofs.Common.{eq-self}
 use Rattle.page_state.proofs.Counts.{count_next}
 use Rattle.page_state.specs.Counts.{is_one, frame_count}
@@ -15,15 +15,15 @@ use Rattle.reference_model.proofs.conditions.SoundOf.{one-true, in_vm-is, one-mo
 use Rattle.reference_model.proofs.conditions.Keeps.{stage-slot}
 use Rattle.reference_model.proofs.conditions.Tables.{uses_of, uses-some}
 use Rattle.reference_model.proofs.conditions.Tests.{tested}
-use Rattle.reference_model.specs.Conditions.{is_inside, in_vm, one, table_uses, guest_uses, row_in}
-use Rattle.reference_model.specs.GuestRules.{least}
-use Rattle.reference_model.specs.Parts.{lacks_slot, slot_of}
-use Rattle.reference_model.specs.Rules.{rule, names}
-use Rattle.reference_model.specs.Sound.{StageFits}
-use Rattle.reference_model.specs.State.{Contents, empty, dying}
-use Rattle.reference_model.specs.Step.{rule_of}
-use Rattle.reference_model.specs.Used.{used_of}
-use Rattle.reference_model.specs.declared.changes.Stage.TheVariants.{DyingVm as dying_vm}
+use Rattle.reference_model.specs.help.Conditions.{is_inside, in_vm, one, table_uses, guest_uses, row_in}
+use Rattle.reference_model.specs.model.GuestRules.{least}
+use Rattle.reference_model.specs.model.Parts.{lacks_slot, slot_of}
+use Rattle.reference_model.specs.model.Rules.{rule, names}
+use Rattle.reference_model.specs.claims.Sound.{StageFits}
+use Rattle.reference_model.specs.model.State.{Contents, empty, dying}
+use Rattle.reference_model.specs.model.Step.{rule_of}
+use Rattle.reference_model.specs.model.Used.{used_of}
+use Rattle.reference_model.specs.declared.changes.Stage.TheVariants.{Dying as dying_vm}
 use Rattle.freedoms.specs.Ample.{AnswersAmply}
 use Rattle.freedoms.specs.AnyTrees.{LegalInAnyTrees}
 use Rattle.freedoms.specs.Laws.{pool_row, IsSpare, ReclaimsSpare, FinishesRoot}
@@ -34,11 +34,11 @@ held-row l s v f legal some =
     let named = in_vm-is v (legal.state.frames.condition f) (one-true (in_vm v (legal.state.frames.condition f)) (guest_uses l.depth (s.guest v) f) some (legal.state.frames.held.vm v f)) in
     legal.state.frames.rows f (sym (legal.state.frames.of_layout.inside f) ∙ ap is_inside named) ∙ ap (row_in f) named
 
-first-some : (fs : Pool) → (length fs == 0) ≡ false → 1 ≤ frame_count (least fs) fs
+first-some : (fs : Pool) → nat_lt 0 (length fs) ≡ true → 1 ≤ frame_count (least fs) fs
 first-some [] h = cc
 first-some (g ∷ gs) h = let n = count_next g g gs in let e : is_one g g ≡ 1 = ap one (eq-self g) in omega arith
 
-spare : (l : Layout) (s : Contents) (v : ℕ) (legal : LegalInAnyTrees l s) → (length (s.guest v).free == 0) ≡ false → IsSpare l s v (least (s.guest v).free)
+spare : (l : Layout) (s : Contents) (v : ℕ) (legal : LegalInAnyTrees l s) → nat_lt 0 (length (s.guest v).free) ≡ true → IsSpare l s v (least (s.guest v).free)
 unfolding table_uses uses_of
 spare l s v legal h =
     let f = least (s.guest v).free in
@@ -66,7 +66,7 @@ by-answer l s cpu v f vm legal (Some u) e y (inl p) =
     let x = used_of (names (ReclaimPool vm)) (Some u) cpu s in
     let t = tested (rule_of l cpu (Some u) (ReclaimPool vm) x) (lacks_slot (names (ReclaimPool vm)) (Some u)) p.passes in
     let same : f ≡ least (s.guest u).free = frame-same p.reply_is in
-    let here = spare l s u legal t.perm in
+    let here = spare l s u legal t.allowed in
     let at : u ≡ v = cc in
     subst (λ w. IsSpare l s w f) at (subst (IsSpare l s u) (sym same) here)
 by-answer l s cpu v f vm legal (Some u) e y (inr (inl p)) = let bad = p.reply_is in cc

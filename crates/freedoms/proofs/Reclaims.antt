@@ -1,6 +1,6 @@
 -- reclaim_pool of two legal states, where the pool of each has the same frame first.
 use Rattle.std.proofs.Common.{◌≡◌, ℕ, suc, refl, ap, sym, ◌∙◌, subst, arith, inl, inr, [], ◌∷◌, length}
-use Rattle.std.specs.Prelude.{Bool, true, false, not, ◌||◌, ◌==◌, nat_le, Option, Some, None}
+use Rattle.std.specs.Prelude.{Bool, true, false, ◌||◌, nat_lt, Option, Some, None}
 use Rattle.std.proofs.lemmas.Bool.Decides.{nat_tests}
 use mathlib.Core.Path.{fun_ext}
 use Rattle.page_state.proofs.Common.{eq-self, same2}
@@ -9,6 +9,7 @@ use Rattle.page_state.specs.Counts.{is_one, frame_count}
 use Rattle.page_state.specs.Layouts.{Layout, is_memory}
 use Rattle.page_state.specs.Tables.{needs, freed, returned, edited}
 use Rattle.page_state.specs.Trees.{Pool}
+use Rattle.call_table.specs.declared.reply.Refusal.{Refusal}
 use Rattle.call_table.specs.declared.reply.Reply.TheVariants.{Done}
 use Rattle.call_table.specs.declared.reply.Value.TheVariants.{Frame as FrameOf}
 use Rattle.call_table.specs.declared.step.Step.TheVariants.{ReclaimPool}
@@ -18,18 +19,18 @@ use Rattle.reference_model.proofs.conditions.SoundOf.{one-true, in_vm-is, one-mo
 use Rattle.reference_model.proofs.conditions.Tests.{tested}
 use Rattle.reference_model.specs.declared.changes.Changes.{Changes}
 use Rattle.reference_model.specs.declared.changes.GuestChange.TheVariants.{LoseLowest}
-use Rattle.reference_model.specs.Changes.{rest}
-use Rattle.reference_model.specs.Conditions.{in_shared, in_vm, one, table_uses, guest_uses}
-use Rattle.reference_model.specs.Owner.{is_free, is_table_frame}
-use Rattle.reference_model.specs.GuestRules.{is_guest, least}
-use Rattle.reference_model.specs.Parts.{shared_and_guest, lacks_slot, slot_of}
-use Rattle.reference_model.specs.Rule.{Rule, fine}
-use Rattle.reference_model.specs.Rules.{rule}
-use Rattle.reference_model.specs.SharedRules.{to_host}
-use Rattle.reference_model.specs.State.{Guest, Contents, dying}
-use Rattle.reference_model.specs.Step.{first_test, rule_of, is_touched, own_row, with_rows, changed, made, shared_after, guest_after}
-use Rattle.reference_model.specs.Used.{Used, used_of}
-use Rattle.freedoms.specs.Ample.{AnswersAmply}
+use Rattle.reference_model.specs.model.Changes.{rest}
+use Rattle.reference_model.specs.help.Conditions.{in_shared, in_vm, one, table_uses, guest_uses}
+use Rattle.reference_model.specs.model.Owner.{is_free, is_table_frame}
+use Rattle.reference_model.specs.model.GuestRules.{is_guest, good_vm, least}
+use Rattle.reference_model.specs.model.Parts.{shared_and_guest, lacks_slot, slot_of}
+use Rattle.reference_model.specs.model.Rule.{fine}
+use Rattle.reference_model.specs.model.Rules.{rule}
+use Rattle.reference_model.specs.model.SharedRules.{to_host}
+use Rattle.reference_model.specs.model.State.{Guest, Contents, dying}
+use Rattle.reference_model.specs.model.Step.{first_test, rule_of, is_touched, own_row, with_rows, changed, made, shared_after, guest_after}
+use Rattle.reference_model.specs.model.Used.{Used, used_of}
+use Rattle.freedoms.specs.Ample.{AnswersAmply, rule_fails}
 use Rattle.freedoms.specs.AnyTrees.{LegalInAnyTrees}
 use Rattle.freedoms.specs.Laws.{ReclaimsOfAny}
 use Rattle.freedoms.specs.OwnTables.{OwnTables, bare_used, bare_guest}
@@ -39,21 +40,26 @@ use Rattle.freedoms.proofs.OwnRows.{own-alike, apart-of, with_row, none-of}
 use Rattle.freedoms.proofs.Pools.{frame-same}
 use Rattle.freedoms.proofs.Twins.{Twin, twin-by, packed, used-alike, chosen-same}
 
-some-first : (xs : Pool) (f : ℕ) → (length xs == 0) ≡ false → f ≡ least xs → (fs : Pool) × (xs ≡ f ∷ fs)
+some-first : (xs : Pool) (f : ℕ) → nat_lt 0 (length xs) ≡ true → f ≡ least xs → (fs : Pool) × (xs ≡ f ∷ fs)
 some-first [] f h e = cc
 some-first (g ∷ gs) f h e = (gs, ap (λ n. n ∷ gs) (sym e))
 
 reclaim-changes : ℕ → Changes
 reclaim-changes f = record (to_host f 1) { part = LoseLowest; value = FrameOf (record { 0 = f }) }
 
-reclaim_by : VmId → Guest → Bool → ℕ → Rule
-reclaim_by vm g none f = record fine { invalid = nat_le 64 vm.slot; no_vm = not (is_guest dying vm g); perm = none; changes = reclaim-changes f }
-
-reclaim-by : (l : Layout) (cpu : ℕ) (slot : Option ℕ) (vm : VmId) (x : Used) → rule_of l cpu slot (ReclaimPool vm) x ≡ reclaim_by vm (bare_guest x.guest) (length x.guest.free == 0) (least x.guest.free)
-unfolding rule reclaim_by reclaim-changes
+reclaim-by : (l : Layout) (cpu : ℕ) (slot : Option ℕ) (vm : VmId) (x : Used) → (rule_of l cpu slot (ReclaimPool vm) x).changes ≡ reclaim-changes (least x.guest.free)
+unfolding rule reclaim-changes
 reclaim-by l cpu slot vm x = refl
 
-not-empty : (f : ℕ) (fs : Pool) → (length (f ∷ fs) == 0) ≡ false
+-- its first test that fails, by the guest without its tables and by whether its pool has a free frame
+fails_by : Option ℕ → VmId → Guest → Bool → Option Refusal
+fails_by slot vm g some = first_test (record fine { valid = good_vm vm; has_vm = record fine.has_vm { passes = is_guest dying vm g }; allowed = record fine.allowed { passes = some } }) (lacks_slot shared_and_guest slot)
+
+reclaim-fails : (l : Layout) (cpu : ℕ) (slot : Option ℕ) (vm : VmId) (x : Used) → rule_fails l cpu slot (ReclaimPool vm) x ≡ fails_by slot vm (bare_guest x.guest) (nat_lt 0 (length x.guest.free))
+unfolding rule fails_by
+reclaim-fails l cpu slot vm x = refl
+
+not-empty : (f : ℕ) (fs : Pool) → nat_lt 0 (length (f ∷ fs)) ≡ true
 not-empty f fs = grind (arith, nat_tests)
 
 touched-is : (f q : ℕ) → is_touched (reclaim-changes f) q ≡ true → f ≡ q
@@ -112,17 +118,19 @@ module _ (l : Layout) (s t : Contents) (a : LegalInAnyTrees l s) (b : LegalInAny
       (λ k. subst (λ n. own_row l cpu (Some v) (ReclaimPool vm) (changed l.depth h x) n ≡ own_row l cpu (Some v) (ReclaimPool vm) (changed l.depth h z) n) (touched-is f q k) (own-same after vm))))
 
   twin : (vm : VmId) → Twin l cpu (Some v) (ReclaimPool vm) (used_of shared_and_guest (Some v) cpu s) (used_of shared_and_guest (Some v) cpu t) (Done (FrameOf (record { 0 = f })))
-  unfolding made used_of reclaim_by reclaim-changes
+  unfolding made used_of reclaim-changes
   twin vm =
       let x = used_of shared_and_guest (Some v) cpu s in
       let z = used_of shared_and_guest (Some v) cpu t in
       let bare = used-alike shared_and_guest (Some v) cpu s t e in
       let guest : bare_guest (s.guest v) ≡ bare_guest (t.guest v) = ap (λ (w : Used). w.guest) bare in
-      let here : rule_of l cpu (Some v) (ReclaimPool vm) x ≡ reclaim_by vm (bare_guest (s.guest v)) false f = reclaim-by l cpu (Some v) vm x ∙ ap (λ xs. reclaim_by vm (bare_guest (s.guest v)) (length xs == 0) (least xs)) first ∙ ap (λ n. reclaim_by vm (bare_guest (s.guest v)) n f) (not-empty f fs) in
-      let there : rule_of l cpu (Some v) (ReclaimPool vm) z ≡ reclaim_by vm (bare_guest (s.guest v)) false f = reclaim-by l cpu (Some v) vm z ∙ ap (λ xs. reclaim_by vm (bare_guest (t.guest v)) (length xs == 0) (least xs)) second ∙ ap (λ n. reclaim_by vm (bare_guest (t.guest v)) n f) (not-empty f gs) ∙ sym (ap (λ g. reclaim_by vm g false f) guest) in
+      let here : (rule_of l cpu (Some v) (ReclaimPool vm) x).changes ≡ reclaim-changes f = reclaim-by l cpu (Some v) vm x ∙ ap (λ xs. reclaim-changes (least xs)) first in
+      let there : (rule_of l cpu (Some v) (ReclaimPool vm) z).changes ≡ reclaim-changes f = reclaim-by l cpu (Some v) vm z ∙ ap (λ xs. reclaim-changes (least xs)) second in
       let same = here ∙ sym there in
-      twin-by l cpu (Some v) (ReclaimPool vm) x z (Done (FrameOf (record { 0 = f }))) bare (ap (λ (r : Rule). first_test r (lacks_slot shared_and_guest (Some v))) same) (ap (λ (r : Rule). r.changes.value) same)
-      (λ passes. ap (λ (r : Rule). bare_used (with_rows l cpu (Some v) (ReclaimPool vm) r.changes (changed l.depth r.changes x))) here ∙ rows-same vm ∙ sym (ap (λ (r : Rule). bare_used (with_rows l cpu (Some v) (ReclaimPool vm) r.changes (changed l.depth r.changes z))) there))
+      let some : nat_lt 0 (length (s.guest v).free) ≡ nat_lt 0 (length (t.guest v).free) = ap (λ xs. nat_lt 0 (length xs)) first ∙ not-empty f fs ∙ sym (ap (λ xs. nat_lt 0 (length xs)) second ∙ not-empty f gs) in
+      let fails : rule_fails l cpu (Some v) (ReclaimPool vm) x ≡ rule_fails l cpu (Some v) (ReclaimPool vm) z = reclaim-fails l cpu (Some v) vm x ∙ same2 (fails_by (Some v) vm) guest some ∙ sym (reclaim-fails l cpu (Some v) vm z) in
+      twin-by l cpu (Some v) (ReclaimPool vm) x z (Done (FrameOf (record { 0 = f }))) bare fails (ap (λ (c : Changes). c.value) same)
+      (λ passes. ap (λ (c : Changes). bare_used (with_rows l cpu (Some v) (ReclaimPool vm) c (changed l.depth c x))) here ∙ rows-same vm ∙ sym (ap (λ (c : Changes). bare_used (with_rows l cpu (Some v) (ReclaimPool vm) c (changed l.depth c z))) there))
 
 -- the frame that is given is the first of the pool
 given-first : (l : Layout) (s : Contents) (cpu v f : ℕ) (vm : VmId) (y : Used) → AnswersAmply l cpu (Some v) (ReclaimPool vm) (used_of shared_and_guest (Some v) cpu s) (Done (FrameOf (record { 0 = f }))) y → (fs : Pool) × ((s.guest v).free ≡ f ∷ fs)
@@ -130,7 +138,7 @@ unfolding rule used_of
 given-first l s cpu v f vm y (inl p) =
     let x = used_of shared_and_guest (Some v) cpu s in
     let t = tested (rule_of l cpu (Some v) (ReclaimPool vm) x) (lacks_slot shared_and_guest (Some v)) p.passes in
-    some-first (s.guest v).free f t.perm (frame-same p.reply_is)
+    some-first (s.guest v).free f t.allowed (frame-same p.reply_is)
 given-first l s cpu v f vm y (inr (inl p)) = let bad = p.reply_is in cc
 given-first l s cpu v f vm y (inr (inr p)) = elim (p.reply_is) [ inl h ↦ cc | inr h ↦ cc ]
 

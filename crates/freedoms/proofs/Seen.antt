@@ -11,10 +11,10 @@ use Rattle.page_state.specs.Layouts.{Layout}
 use Rattle.page_state.specs.Map.{Map}
 use Rattle.page_state.specs.Trees.{no_tree}
 use Rattle.reference_model.proofs.Steps.{used-self}
-use Rattle.reference_model.specs.Rules.{names, guest_slot}
-use Rattle.reference_model.specs.State.{Contents, all_rooms}
-use Rattle.reference_model.specs.Step.{rule_of, made}
-use Rattle.reference_model.specs.Used.{Used, used_of, put_back}
+use Rattle.reference_model.specs.model.Rules.{names, guest_slot}
+use Rattle.reference_model.specs.model.State.{Contents, all_rooms}
+use Rattle.reference_model.specs.model.Step.{rule_of, made}
+use Rattle.reference_model.specs.model.Used.{Used, used_of, put_back}
 use Rattle.freedoms.specs.declared.Freedoms.{Freedoms}
 use Rattle.freedoms.specs.Ample.{asks_pool, is_done, IsWant, rule_fails, answer_amply, foretell_amply, StepsAmply}
 use Rattle.freedoms.specs.Freedoms.{Alike, SaysAs, Touches, is_read, is_test, view}

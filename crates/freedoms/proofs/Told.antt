@@ -7,10 +7,10 @@ use Rattle.call_table.specs.declared.reply.Reply.TheVariants.{Done, Refused}
 use Rattle.call_table.specs.declared.step.Step.{Step}
 use Rattle.page_state.specs.Layouts.{Layout}
 use Rattle.reference_model.proofs.Steps.{used-self}
-use Rattle.reference_model.specs.Rules.{names, guest_slot}
-use Rattle.reference_model.specs.State.{Contents, all_rooms}
-use Rattle.reference_model.specs.Step.{rule_of, made}
-use Rattle.reference_model.specs.Used.{Used, used_of, put_back}
+use Rattle.reference_model.specs.model.Rules.{names, guest_slot}
+use Rattle.reference_model.specs.model.State.{Contents, all_rooms}
+use Rattle.reference_model.specs.model.Step.{rule_of, made}
+use Rattle.reference_model.specs.model.Used.{Used, used_of, put_back}
 use Rattle.freedoms.specs.Ample.{is_done, rule_fails, answer_amply, foretell_amply, IsJudgedByMaps, told_bare, AgreesBare}
 use Rattle.freedoms.specs.Laws.{JudgedByTold}
 use Rattle.freedoms.specs.OwnTables.{without_tables}

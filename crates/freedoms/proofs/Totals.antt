@@ -14,10 +14,10 @@ use Rattle.page_state.specs.declared.row.Row.{Row}
 use Rattle.page_state.specs.declared.row.Usage.TheVariants.{Plain, SharedPool, VmPool, InHand}
 use Rattle.reference_model.proofs.conditions.SoundOf.{one-true, in_vm-is}
 use Rattle.reference_model.proofs.conditions.Tables.{uses_of, uses-some}
-use Rattle.reference_model.specs.Conditions.{Condition, outside, hosts, with_hyp, hyps, with_guest, guests, lent_back, IsUsable, is_inside, in_vm, one, table_uses, guest_uses, row_in}
-use Rattle.reference_model.specs.GuestRules.{guest_table_count}
-use Rattle.reference_model.specs.Owner.{count_blocks, is_frame}
-use Rattle.reference_model.specs.State.{Guest, Contents}
+use Rattle.reference_model.specs.help.Conditions.{Condition, outside, hosts, with_hyp, hyps, with_guest, guests, lent_back, IsUsable, is_inside, in_vm, one, table_uses, guest_uses, row_in}
+use Rattle.reference_model.specs.model.GuestRules.{guest_table_count}
+use Rattle.reference_model.specs.model.Owner.{count_blocks, is_frame}
+use Rattle.reference_model.specs.model.State.{Guest, Contents}
 use Rattle.freedoms.specs.AnyTrees.{LegalInAnyTrees}
 use Rattle.freedoms.specs.Laws.{is_pool_of}
 

@@ -1,6 +1,6 @@
 -- Two legal states that differ in tables and free frames alone make the same steps, but for the frame that reclaim_pool gives.
 use Rattle.std.proofs.Common.{◌≡◌, ◌≢◌, ℕ, suc, ◌+◌, ◌≤◌, ◌<◌, refl, ap, sym, ◌∙◌, subst, arith, inl, inr, [], ◌∷◌, length}
-use Rattle.std.specs.Prelude.{Bool, true, false, not, ◌&&◌, ◌||◌, nat_le, nat_lt, is_none, is_some, unwrap_or, Option, Some, None, if◌then◌else◌}
+use Rattle.std.specs.Prelude.{Bool, true, false, not, ◌&&◌, ◌==◌, nat_le, is_some, unwrap_or, Option, Some, None, if◌then◌else◌}
 use Rattle.std.proofs.lemmas.Bool.Decides.{nat_tests}
 use mathlib.Core.Path.{fun_ext}
 use Rattle.descriptor.specs.declared.State.{State}
@@ -31,26 +31,25 @@ use Rattle.reference_model.proofs.conditions.Stands.{is_table_frame-uses}
 use Rattle.reference_model.proofs.conditions.Tables.{uses_of, uses-some, some_of, some-put}
 use Rattle.reference_model.specs.declared.changes.Changes.{Changes}
 use Rattle.reference_model.specs.declared.changes.GuestChange.{GuestChange}
-use Rattle.reference_model.specs.declared.changes.GuestChange.TheVariants.{Gain, Empty}
-use Rattle.reference_model.specs.declared.changes.Stage.TheVariants.{DyingVm as dying_vm, Finished as finished}
-use Rattle.reference_model.specs.Changes.{no_changes}
-use Rattle.reference_model.specs.Conditions.{guest_condition, IsUsable, IsGood, in_shared, in_vm, one, table_uses, guest_uses}
-use Rattle.reference_model.specs.GuestRules.{is_guest, guest_table_count, moved_on}
-use Rattle.reference_model.specs.Parts.{Names, shared_and_guest, lacks_slot, slot_of, ticket_slot, uses_shared}
-use Rattle.reference_model.specs.Rule.{Rule, fine}
-use Rattle.reference_model.specs.Rules.{rule, names, guest_slot}
-use Rattle.reference_model.specs.SharedRules.{hand_of, hand_becomes, to_host}
-use Rattle.reference_model.specs.Sound.{StageFits}
-use Rattle.reference_model.specs.State.{Guest, Cpu, Contents, empty, live, dying, no_guest}
-use Rattle.reference_model.specs.Step.{first_test, rule_of, is_touched, own_row, with_rows, changed, made, shared_after, guest_after}
-use Rattle.reference_model.specs.Used.{Used, used_of, put_back, guest_at}
+use Rattle.reference_model.specs.declared.changes.GuestChange.TheVariants.{Empty}
+use Rattle.reference_model.specs.declared.changes.Stage.TheVariants.{Dying as dying_vm, Finished as finished}
+use Rattle.reference_model.specs.help.Conditions.{guest_condition, IsUsable, IsGood, in_shared, in_vm, one, table_uses, guest_uses}
+use Rattle.reference_model.specs.model.GuestRules.{topup, guest_table_count, moved_on}
+use Rattle.reference_model.specs.model.Parts.{Names, shared_and_guest, lacks_slot, slot_of, ticket_slot, uses_shared}
+use Rattle.reference_model.specs.model.Rule.{Rule, fine, reads}
+use Rattle.reference_model.specs.model.Rules.{rule, names, guest_slot}
+use Rattle.reference_model.specs.model.SharedRules.{hand_of, to_host}
+use Rattle.reference_model.specs.claims.Sound.{StageFits}
+use Rattle.reference_model.specs.model.State.{Guest, Cpu, Contents, empty, dying, no_guest}
+use Rattle.reference_model.specs.model.Step.{first_test, rule_of, is_touched, own_row, with_rows, changed, made, shared_after, guest_after}
+use Rattle.reference_model.specs.model.Used.{Used, used_of, put_back, guest_at}
 use Rattle.freedoms.specs.Ample.{asks_pool, rule_fails, AnswersAmply, StepsAmply}
 use Rattle.freedoms.specs.AnyTrees.{LegalInAnyTrees}
 use Rattle.freedoms.specs.Laws.{LeadsToo, StepsOfAny, JudgedFromAny}
 use Rattle.freedoms.specs.OwnTables.{OwnTables, bare_used, bare_guest, without_tables}
 use Rattle.freedoms.proofs.Bare.{changed-bare, put-bare, used-bare}
 use Rattle.freedoms.proofs.Gone.{still-apart, guest_holds}
-use Rattle.reference_model.specs.Changes.{guest_by}
+use Rattle.reference_model.specs.model.Changes.{guest_by}
 use Rattle.freedoms.proofs.Judged.{alike, Made}
 use Rattle.freedoms.proofs.Loose.{loose-topup}
 use Rattle.freedoms.proofs.OwnRows.{rows-bare, own-alike, apart-of, used-apart, with_row, choose}
@@ -87,15 +86,12 @@ rows-of s t e = ap (λ (c : Contents). c.shared.row) e
 
 -- topup
 
-topup_by : VmId → Used → ℕ → Rule
-topup_by vm z n = record fine {
-  invalid = nat_le 64 vm.slot;
-  no_vm = not (is_guest live vm z.guest || is_guest dying vm z.guest);
-  perm = is_none z.cpu.hand || nat_lt 512 (n + (hand_of z.cpu).count);
-  changes = record no_changes { part = Gain (hand_of z.cpu); cpu = hand_becomes None; moved = z.cpu.hand };
-}
+topup_by : Layout → ℕ → Option ℕ → VmId → Used → ℕ → Rule
+topup_by l cpu slot vm z n =
+    let r = topup vm (reads l cpu slot z) in
+    record r { allowed = record r.allowed { passes = is_some z.cpu.hand && nat_le (n + (hand_of z.cpu).count) 512 } }
 
-rule-by : (l : Layout) (cpu : ℕ) (slot : Option ℕ) (vm : VmId) (x : Used) → rule_of l cpu slot (Topup vm) x ≡ topup_by vm (bare_used x) (total l x.guest)
+rule-by : (l : Layout) (cpu : ℕ) (slot : Option ℕ) (vm : VmId) (x : Used) → rule_of l cpu slot (Topup vm) x ≡ topup_by l cpu slot vm (bare_used x) (total l x.guest)
 unfolding rule topup_by
 rule-by l cpu slot vm x = refl
 
@@ -112,31 +108,28 @@ finish-changes k root = record (to_host root 1) { part = Empty; cpu = moved_on f
 is-clean : Layout → Guest → Bool
 is-clean l g = all_below (pages_below l.depth) (λ p. is_unmapped (g.tree.map p))
 
-finish_by : Bool → ℕ → Cpu → ℕ → Rule
-finish_by clean n k root = record fine { perm = not clean || nat_lt 0 n; changes = finish-changes k root }
-
 root-of : Layout → Guest → ℕ
 root-of l g = unwrap_or (g.tree.table (l.depth + 1, 0)) 0
 
-finish-by : (l : Layout) (cpu : ℕ) (slot : Option ℕ) (x : Used) → rule_of l cpu slot FinishGuest x ≡ finish_by (is-clean l x.guest) (length x.guest.free) x.cpu (root-of l x.guest)
-unfolding rule finish_by is-clean root-of finish-changes
+finish-by : (l : Layout) (cpu : ℕ) (slot : Option ℕ) (x : Used) → (rule_of l cpu slot FinishGuest x).changes ≡ finish-changes x.cpu (root-of l x.guest)
+unfolding rule root-of finish-changes
 finish-by l cpu slot x = refl
 
 fails_by : Option ℕ → Bool → ℕ → Option Refusal
-fails_by slot clean n = first_test (record fine { perm = not clean || nat_lt 0 n }) (lacks_slot shared_and_guest slot)
+fails_by slot clean n = first_test (record fine { allowed = record fine.allowed { passes = clean && n == 0 } }) (lacks_slot shared_and_guest slot)
 
 finish-fails : (l : Layout) (cpu : ℕ) (slot : Option ℕ) (x : Used) → rule_fails l cpu slot FinishGuest x ≡ fails_by slot (is-clean l x.guest) (length x.guest.free)
 unfolding rule fails_by is-clean
 finish-fails l cpu slot x = refl
 
-chosen-none : (b : Bool) (why : Refusal) → (if b then Some why else None) ≡ None → b ≡ false
-chosen-none true why h = cc
-chosen-none false why h = refl
+chosen-none : (b : Bool) (why : Refusal) → (if not b then Some why else None) ≡ None → b ≡ true
+chosen-none true why h = refl
+chosen-none false why h = cc
 
 -- passes where the guest is there, clean, and has no free frame
 passes-by : (v : ℕ) (clean : Bool) (n : ℕ) → fails_by (Some v) clean n ≡ None → (clean ≡ true) × (n ≡ 0)
 unfolding fails_by
-passes-by v true n h = let none = chosen-none (nat_lt 0 n) Perm h in (refl, grind (arith, nat_tests))
+passes-by v true n h = let none = chosen-none (n == 0) Perm h in (refl, grind (arith, nat_tests))
 passes-by v false n h = cc
 
 dirty : (v : ℕ) (p q : Bool) (m n : ℕ) → p ≡ false → q ≡ false → fails_by (Some v) p m ≡ fails_by (Some v) q n
@@ -228,7 +221,7 @@ module _ (l : Layout) (usable : IsUsable l) (s t : Contents) (a : LegalInAnyTree
       let x = used_of shared_and_guest slot cpu s in
       let z = used_of shared_and_guest slot cpu t in
       let bare = used-alike shared_and_guest slot cpu s t e in
-      let same : rule_of l cpu slot (Topup vm) x ≡ rule_of l cpu slot (Topup vm) z = rule-by l cpu slot vm x ∙ same2 (topup_by vm) bare (total-at slot) ∙ sym (rule-by l cpu slot vm z) in
+      let same : rule_of l cpu slot (Topup vm) x ≡ rule_of l cpu slot (Topup vm) z = rule-by l cpu slot vm x ∙ same2 (topup_by l cpu slot vm) bare (total-at slot) ∙ sym (rule-by l cpu slot vm z) in
       let fails : rule_fails l cpu slot (Topup vm) x ≡ rule_fails l cpu slot (Topup vm) z = ap (λ (r : Rule). first_test r (lacks_slot shared_and_guest slot)) same in
       twin-by l cpu slot (Topup vm) x z reply bare fails (ap (λ (r : Rule). r.changes.value) same)
       (λ passes. topup-made l s a cpu slot vm passes ∙ ap (λ (w : Used). bare_used (made l cpu slot (Topup vm) w)) bare ∙ sym (topup-made l t b cpu slot vm (sym fails ∙ passes)))
@@ -312,7 +305,7 @@ module _ (l : Layout) (usable : IsUsable l) (s t : Contents) (a : LegalInAnyTree
 
   finish-made : (v : ℕ) → (s.guest v).phase ≢ empty → rule_fails l cpu (Some v) FinishGuest (used_of shared_and_guest (Some v) cpu s) ≡ None
       → bare_used (made l cpu (Some v) FinishGuest (used_of shared_and_guest (Some v) cpu s)) ≡ bare_used (made l cpu (Some v) FinishGuest (used_of shared_and_guest (Some v) cpu t))
-  unfolding made used_of finish_by
+  unfolding made used_of
   finish-made v alive passes =
       let x = used_of shared_and_guest (Some v) cpu s in
       let z = used_of shared_and_guest (Some v) cpu t in
@@ -320,8 +313,8 @@ module _ (l : Layout) (usable : IsUsable l) (s t : Contents) (a : LegalInAnyTree
       let root = root-same v alive p.0 p.1 in
       let own : s.cpu cpu ≡ t.cpu cpu = ap (λ (c : Contents). c.cpu cpu) e in
       let h = finish-changes (s.cpu cpu) (root-of l (s.guest v)) in
-      let here : (rule_of l cpu (Some v) FinishGuest x).changes ≡ h = ap (λ (r : Rule). r.changes) (finish-by l cpu (Some v) x) in
-      let there : (rule_of l cpu (Some v) FinishGuest z).changes ≡ h = ap (λ (r : Rule). r.changes) (finish-by l cpu (Some v) z) ∙ sym (same2 finish-changes own root) in
+      let here : (rule_of l cpu (Some v) FinishGuest x).changes ≡ h = finish-by l cpu (Some v) x in
+      let there : (rule_of l cpu (Some v) FinishGuest z).changes ≡ h = finish-by l cpu (Some v) z ∙ sym (same2 finish-changes own root) in
       ap (λ (c : Changes). bare_used (with_rows l cpu (Some v) FinishGuest c (changed l.depth c x))) here
       ∙ finish-rows (Some v) h (finish-part (s.cpu cpu) (root-of l (s.guest v))) (touched-root v alive p.0 p.1)
       ∙ sym (ap (λ (c : Changes). bare_used (with_rows l cpu (Some v) FinishGuest c (changed l.depth c z))) there)

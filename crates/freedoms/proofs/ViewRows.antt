@@ -19,13 +19,13 @@ use Rattle.call_table.specs.declared.reply.Reply.{Reply}
 use Rattle.call_table.specs.declared.reply.Reply.TheVariants.{Done}
 use Rattle.call_table.specs.declared.step.Step.{Step}
 use Rattle.reference_model.specs.declared.changes.Changes.{Changes}
-use Rattle.reference_model.specs.Owner.{page_of, lent_at, lent_to_guest, sharer, owner_by, lent_to, is_lent_to_host, is_in_shared_pool, vm_pool_of, holding_cpu, usage_of, row_of}
-use Rattle.reference_model.specs.Parts.{Names, lacks_slot, uses_vms, uses_shared}
-use Rattle.reference_model.specs.Rule.{Rule}
-use Rattle.reference_model.specs.Rules.{rule, names, guest_slot}
-use Rattle.reference_model.specs.State.{Shared, Guest, Contents, no_shared, blank, put_at}
-use Rattle.reference_model.specs.Step.{first_test, rule_of, is_touched, own_row, with_rows, changed, made, shared_after}
-use Rattle.reference_model.specs.Used.{Used, used_of, put_back, guest_at, put_guest}
+use Rattle.reference_model.specs.model.Owner.{page_of, lent_at, lent_to_guest, sharer, owner_by, lent_to, is_lent_to_host, is_in_shared_pool, vm_pool_of, holding_cpu, usage_of, row_of}
+use Rattle.reference_model.specs.model.Parts.{Names, lacks_slot, uses_vms, uses_shared}
+use Rattle.reference_model.specs.model.Rule.{Rule}
+use Rattle.reference_model.specs.model.Rules.{rule, names, guest_slot}
+use Rattle.reference_model.specs.model.State.{Shared, Guest, Contents, no_shared, blank, put_at}
+use Rattle.reference_model.specs.model.Step.{first_test, rule_of, is_touched, own_row, with_rows, changed, made, shared_after}
+use Rattle.reference_model.specs.model.Used.{Used, used_of, put_back, guest_at, put_guest}
 use Rattle.freedoms.specs.Ample.{rule_fails, AnswersAmply}
 use Rattle.freedoms.specs.declared.Freedoms.{Freedoms}
 use Rattle.freedoms.specs.Freedoms.{view, Alike}

@@ -1,6 +1,6 @@
 -- What freedoms leave of a state: rules, changes and rows are the same of it, where the step doesn't depend on which of its own pages the host has.
 use Rattle.std.proofs.Common.{◌≡◌, ℕ, ◌+◌, ◌-◌, refl, ap, sym, ◌∙◌}
-use Rattle.std.specs.Prelude.{Bool, true, false, not, ◌&&◌, ◌||◌, ◌==◌, Option, Some, None, if◌then◌else◌}
+use Rattle.std.specs.Prelude.{Bool, true, false, not, ◌&&◌, ◌==◌, Option, Some, None, if◌then◌else◌}
 use mathlib.Core.Path.{fun_ext}
 use Rattle.descriptor.specs.declared.Prot.TheVariants.{RWX}
 use Rattle.descriptor.specs.declared.State.TheVariants.{Owned, SharedOwned, SharedBorrowed}
@@ -13,8 +13,7 @@ use Rattle.page_state.specs.EntryTests.{is_unmapped, is_in, is_free_page, maps_f
 use Rattle.page_state.specs.Layouts.{Layout}
 use Rattle.page_state.specs.Map.{Map, is_within}
 use Rattle.page_state.specs.Regions.{region_of, is_memory_kind}
-use Rattle.reference_model.specs.SharedRules.{abort_leaf}
-use Rattle.page_state.specs.EntryTests.{is_mapped}
+use Rattle.reference_model.specs.model.SharedRules.{abort_leaf}
 use Rattle.page_state.specs.Layouts.{hyp_page}
 use Rattle.page_state.specs.Search.{all_below}
 use Rattle.page_state.specs.Tables.{Edit, keep, put, edited_map, edited}
@@ -22,12 +21,12 @@ use Rattle.page_state.specs.Trees.{no_tree}
 use Rattle.call_table.specs.declared.step.Step.{Step}
 use Rattle.call_table.specs.declared.step.Step.TheVariants.{ShareHyp, UnshareHyp, DonateHyp, Fund, ShareGuest, DonateGuest, HostAbort, HostTranslate, Topup, ReclaimPool, FinishGuest}
 use Rattle.reference_model.specs.declared.changes.Changes.{Changes}
-use Rattle.reference_model.specs.Changes.{edit_of}
-use Rattle.reference_model.specs.GuestRules.{is_protected}
-use Rattle.reference_model.specs.Rules.{rule}
-use Rattle.reference_model.specs.State.{Shared, Guest}
-use Rattle.reference_model.specs.Step.{rule_of, changed, shared_after}
-use Rattle.reference_model.specs.Used.{Used}
+use Rattle.reference_model.specs.model.Changes.{edit_of}
+use Rattle.reference_model.specs.model.GuestRules.{is_protected}
+use Rattle.reference_model.specs.model.Rules.{rule}
+use Rattle.reference_model.specs.model.State.{Shared, Guest}
+use Rattle.reference_model.specs.model.Step.{rule_of, changed, shared_after}
+use Rattle.reference_model.specs.model.Used.{Used}
 use Rattle.freedoms.proofs.Bare.{changed-bare}
 use Rattle.freedoms.specs.Ample.{asks_pool}
 use Rattle.freedoms.specs.OwnTables.{bare_shared, bare_used}
@@ -223,12 +222,12 @@ all-at w l x f n b = ap (all_below n) (fun_ext (λ i. ap (λ t. t && b i) (host-
 
 rule-view : (w : Freedoms) (l : Layout) (cpu : ℕ) (slot : Option ℕ) (step : Step) (x : Used) → asks_pool step ≡ false → reads_host step ≡ false → rule_of l cpu slot step (view_used w l x) ≡ rule_of l cpu slot step x
 unfolding rule
-rule-view w l cpu slot (ShareHyp f) x a b = ap (λ t. record (rule_of l cpu slot (ShareHyp f) x) { perm = not t || is_mapped (x.shared.hyp.map (hyp_page f)) }) (host-at w l x is_free_page (free-leaves l) f)
-rule-view w l cpu slot (UnshareHyp f) x a b = ap (λ t. record (rule_of l cpu slot (UnshareHyp f) x) { perm = not t || not (is_in SharedBorrowed (x.shared.hyp.map (hyp_page f))) }) (host-at w l x (is_in SharedOwned) (shared-leaves l) f)
-rule-view w l cpu slot (DonateHyp f n) x a b = ap (λ t. record (rule_of l cpu slot (DonateHyp f n) x) { perm = not t }) (all-at w l x f n (λ i. is_unmapped (x.shared.hyp.map (hyp_page (f + i)))))
-rule-view w l cpu slot (Fund f n) x a b = ap (λ t. record (rule_of l cpu slot (Fund f n) x) { perm = not t }) (all-at w l x f n (λ i. is_unmapped (x.shared.hyp.map (hyp_page (f + i)))))
-rule-view w l cpu slot (ShareGuest f g r n) x a b = ap (λ t. record (rule_of l cpu slot (ShareGuest f g r n) x) { perm = is_protected x.guest.kind || not t }) (all-at w l x f n (λ i. is_unmapped (x.guest.tree.map (g + i))))
-rule-view w l cpu slot (DonateGuest f g n) x a b = ap (λ t. record (rule_of l cpu slot (DonateGuest f g n) x) { perm = not (is_protected x.guest.kind) || not t }) (all-at w l x f n (λ i. is_unmapped (x.guest.tree.map (g + i))))
+rule-view w l cpu slot (ShareHyp f) x a b = ap (λ t. record (rule_of l cpu slot (ShareHyp f) x) { allowed = record (rule_of l cpu slot (ShareHyp f) x).allowed { passes = t && is_unmapped (x.shared.hyp.map (hyp_page f)) } }) (host-at w l x is_free_page (free-leaves l) f)
+rule-view w l cpu slot (UnshareHyp f) x a b = ap (λ t. record (rule_of l cpu slot (UnshareHyp f) x) { allowed = record (rule_of l cpu slot (UnshareHyp f) x).allowed { passes = t && is_in SharedBorrowed (x.shared.hyp.map (hyp_page f)) } }) (host-at w l x (is_in SharedOwned) (shared-leaves l) f)
+rule-view w l cpu slot (DonateHyp f n) x a b = ap (λ t. record (rule_of l cpu slot (DonateHyp f n) x) { allowed = record (rule_of l cpu slot (DonateHyp f n) x).allowed { passes = t } }) (all-at w l x f n (λ i. is_unmapped (x.shared.hyp.map (hyp_page (f + i)))))
+rule-view w l cpu slot (Fund f n) x a b = ap (λ t. record (rule_of l cpu slot (Fund f n) x) { allowed = record (rule_of l cpu slot (Fund f n) x).allowed { passes = t } }) (all-at w l x f n (λ i. is_unmapped (x.shared.hyp.map (hyp_page (f + i)))))
+rule-view w l cpu slot (ShareGuest f g r n) x a b = ap (λ t. record (rule_of l cpu slot (ShareGuest f g r n) x) { allowed = record (rule_of l cpu slot (ShareGuest f g r n) x).allowed { passes = not (is_protected x.guest.kind) && t } }) (all-at w l x f n (λ i. is_unmapped (x.guest.tree.map (g + i))))
+rule-view w l cpu slot (DonateGuest f g n) x a b = ap (λ t. record (rule_of l cpu slot (DonateGuest f g n) x) { allowed = record (rule_of l cpu slot (DonateGuest f g n) x).allowed { passes = is_protected x.guest.kind && t } }) (all-at w l x f n (λ i. is_unmapped (x.guest.tree.map (g + i))))
 rule-view w l cpu slot (HostAbort p) x a b = cc
 rule-view w l cpu slot (HostTranslate p) x a b = cc
 rule-view w l cpu slot (Topup vm) x a b = cc

@@ -7,11 +7,11 @@ use Rattle.call_table.specs.declared.reply.Reply.TheVariants.{Done, Refused}
 use Rattle.call_table.specs.declared.step.Step.{Step}
 use Rattle.call_table.specs.declared.step.Step.TheVariants.{Topup, ReclaimPool, FinishGuest}
 use Rattle.page_state.specs.Layouts.{Layout}
-use Rattle.reference_model.specs.Parts.{lacks_slot}
-use Rattle.reference_model.specs.Rules.{names, guest_slot, may_grow}
-use Rattle.reference_model.specs.State.{Contents}
-use Rattle.reference_model.specs.Step.{first_test, rule_of, made}
-use Rattle.reference_model.specs.Used.{Used, used_of, put_back}
+use Rattle.reference_model.specs.model.Parts.{lacks_slot}
+use Rattle.reference_model.specs.model.Rules.{names, guest_slot, may_grow}
+use Rattle.reference_model.specs.model.State.{Contents}
+use Rattle.reference_model.specs.model.Step.{first_test, rule_of, made}
+use Rattle.reference_model.specs.model.Used.{Used, used_of, put_back}
 use Rattle.freedoms.specs.AnyTrees.{LegalInAnyTrees}
 use Rattle.freedoms.specs.OwnTables.{OwnTables, without_tables}
 

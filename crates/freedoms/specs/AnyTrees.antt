@@ -4,15 +4,15 @@ use Rattle.page_state.specs.declared.entry.Entry.TheVariants.{Unmapped}
 use Rattle.coarse_trees.specs.Coarsest.{IsInTree}
 use Rattle.page_state.specs.Layouts.{Layout}
 use Rattle.page_state.specs.Trees.{Block, Tree}
-use Rattle.reference_model.specs.Conditions.{Condition, IsOfLayout, MapsFit, HeldFit, RowsFit, GuestsFit, SlotsFit}
-use Rattle.reference_model.specs.Sound.{tree_at}
-use Rattle.reference_model.specs.State.{Contents}
+use Rattle.reference_model.specs.help.Conditions.{Condition, IsOfLayout, MapsFit, HeldFit, RowsFit, GuestsFit, SlotsFit}
+use Rattle.reference_model.specs.claims.Sound.{tree_at}
+use Rattle.reference_model.specs.model.State.{Contents}
 
 -- tables are at blocks of the tree alone
 abbrev pub IsInside : ℕ → Tree → Type 0
 IsInside depth t = (b : Block) (f : ℕ) → t.table b ≡ Some f → IsInTree depth b
 
--- each frame is in one condition, of which the maps, what is held and the rows say all
+-- each frame is in one condition, which decides all that the maps, the holders and the rows say of it
 pub record AreFramesLegal (l : Layout) (s : Contents) : Type 0 where
   pub condition : ℕ → Condition
   pub of_layout : IsOfLayout l condition

@@ -13,8 +13,8 @@ use Rattle.page_state.specs.EntryTests.{is_unmapped}
 use Rattle.page_state.specs.Layouts.{Layout}
 use Rattle.page_state.specs.Regions.{region_of, is_memory_kind}
 use Rattle.page_state.specs.Trees.{no_tree}
-use Rattle.reference_model.specs.SharedRules.{abort_leaf}
-use Rattle.reference_model.specs.State.{Contents}
+use Rattle.reference_model.specs.model.SharedRules.{abort_leaf}
+use Rattle.reference_model.specs.model.State.{Contents}
 use Rattle.freedoms.specs.declared.Freedoms.{Freedoms}
 use Rattle.freedoms.specs.Ample.{is_done, StepsAmply}
 use Rattle.freedoms.specs.AnyTrees.{LegalInAnyTrees}

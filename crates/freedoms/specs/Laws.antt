@@ -15,12 +15,12 @@ use Rattle.page_state.specs.declared.row.Usage.TheVariants.{VmPool}
 use Rattle.page_state.specs.Counts.{frame_count}
 use Rattle.page_state.specs.Trees.{root_tree}
 use Rattle.page_state.specs.Layouts.{Layout, is_memory}
-use Rattle.reference_model.specs.Conditions.{Legal, IsUsable, one}
-use Rattle.reference_model.specs.GuestRules.{guest_table_count}
-use Rattle.reference_model.specs.Parts.{slot_of, ticket_slot}
-use Rattle.reference_model.specs.declared.changes.Stage.TheVariants.{DyingVm as dying_vm}
-use Rattle.reference_model.specs.State.{Guest, Contents, Reference, empty, put_at}
-use Rattle.reference_model.specs.Step.{Steps}
+use Rattle.reference_model.specs.help.Conditions.{Legal, IsUsable, one}
+use Rattle.reference_model.specs.model.GuestRules.{guest_table_count}
+use Rattle.reference_model.specs.model.Parts.{slot_of, ticket_slot}
+use Rattle.reference_model.specs.declared.changes.Stage.TheVariants.{Dying as dying_vm}
+use Rattle.reference_model.specs.model.State.{Guest, Contents, Reference, empty, put_at}
+use Rattle.reference_model.specs.model.Step.{Steps}
 use Rattle.freedoms.specs.Ample.{is_done, asks_pool, is_by_order, StepsAmply, JudgedWithOwnTables, IsJudgedByMaps, told_bare, AgreesBare}
 use Rattle.freedoms.specs.AnyTrees.{LegalInAnyTrees}
 use Rattle.freedoms.specs.declared.Freedoms.{Freedoms}

@@ -1,8 +1,8 @@
 -- The freedom of own tables: two states that differ in tables and free frames alone.
 use Rattle.std.specs.Prelude.{◌≡◌, []}
 use Rattle.page_state.specs.Trees.{Tree, no_tree}
-use Rattle.reference_model.specs.State.{Shared, Guest, Contents}
-use Rattle.reference_model.specs.Used.{Used}
+use Rattle.reference_model.specs.model.State.{Shared, Guest, Contents}
+use Rattle.reference_model.specs.model.Used.{Used}
 
 -- a tree without its tables
 abbrev pub bare_tree : Tree → Tree

@@ -15,7 +15,7 @@ use Rattle.page_state.specs.Rows.{advance_row, HasPageBelow}
 use Rattle.page_state.specs.Runs.{map_of, entry_on, run_end, PrecedesFirst, IsCoarsest}
 use Rattle.page_state.proofs.Cases.{by_lt}
 use Rattle.page_state.proofs.Entries.{entry_advanced}
-use Rattle.reference_model.specs.State.{Contents, plain_row, no_guest}
+use Rattle.reference_model.specs.model.State.{Contents, plain_row, no_guest}
 use Rattle.run_list.specs.declared.run.Run.{Run as ListRun}
 use Rattle.run_list.specs.Runs.{run_map, value_on, PrecedesFirst as ListPrecedesFirst, IsCoarsest as IsCoarsestList, AreInReach}
 use Rattle.run_list.specs.Targets.{HasFrameBelow}

@@ -7,7 +7,7 @@ use Rattle.page_state.specs.Blocks.{block_eq}
 use Rattle.page_state.specs.Trees.{Block}
 use Rattle.page_state.proofs.BlockTests.{block_eq-same}
 use Rattle.page_state.proofs.Cases.{by_lt, by_test}
-use Rattle.reference_model.specs.State.{Contents, Guest, Shared, Slot}
+use Rattle.reference_model.specs.model.State.{Contents, Guest, Shared, Slot}
 use Rattle.ghost_trees.specs.declared.tree.Table.{Table}
 use Rattle.ghost_trees.specs.Trees.{table_of}
 use Rattle.page_state.specs.declared.entry.Entry.{Entry}

@@ -9,10 +9,10 @@ use Rattle.call_table.specs.declared.reply.Reply.{Reply}
 use Rattle.call_table.specs.declared.reply.Reply.TheVariants.{Done, Refused}
 use Rattle.call_table.specs.declared.step.Step.{Step}
 use Rattle.page_state.specs.Layouts.{Layout}
-use Rattle.reference_model.specs.Rules.{names, guest_slot}
-use Rattle.reference_model.specs.State.{Reference}
-use Rattle.reference_model.specs.Step.{is_full, fails, rule_of, made, answer, stored, foretell, used_by, rooms_by, with_used, FindsFull, IsWanting, IsStoredAnswer, Steps}
-use Rattle.reference_model.specs.Used.{Used, used_of}
+use Rattle.reference_model.specs.model.Rules.{names, guest_slot}
+use Rattle.reference_model.specs.model.State.{Reference}
+use Rattle.reference_model.specs.model.Step.{is_full, fails, rule_of, made, answer, stored, foretell, used_by, rooms_by, with_used, FindsFull, IsWanting, IsStoredAnswer, Steps}
+use Rattle.reference_model.specs.model.Used.{Used, used_of}
 use Rattle.reference_model.proofs.Steps.{log_full_keeps, refusal_keeps}
 use Rattle.ghost_spec.proofs.Foretold.{foretold-full, foretold-answer}
 use Rattle.ghost_judge.specs.Judgements.{is_done, IsAsTold, IsUnchanged, JudgeAgrees, StepsAgree}

@@ -6,7 +6,7 @@ use Rattle.call_table.specs.declared.step.Step.{Step}
 use Rattle.page_state.specs.declared.entry.Entry.{Entry}
 use Rattle.page_state.specs.declared.row.Row.{Row}
 use Rattle.page_state.proofs.Cases.{by_lt}
-use Rattle.reference_model.specs.State.{Contents, Reference}
+use Rattle.reference_model.specs.model.State.{Contents, Reference}
 use Rattle.ghost_judge.specs.declared.disagreement.Disagreement.{Disagreement}
 use Rattle.ghost_judge.specs.declared.disagreement.Disagreement.TheVariants.{Map as MapDiffers, Owner as OwnerDiffers, Reply as ReplyDiffers, Free, GuestFree, Vm, Cpu}
 use Rattle.ghost_judge.specs.declared.disagreement.TreeOf.{TreeOf}

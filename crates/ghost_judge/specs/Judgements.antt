@@ -10,9 +10,9 @@ use Rattle.call_table.specs.declared.step.Step.{Step}
 use Rattle.page_state.specs.Layouts.{Layout}
 use Rattle.page_state.specs.LayoutView.{layout_of}
 use Rattle.page_state.specs.Trees.{no_tree}
-use Rattle.reference_model.specs.Rules.{may_grow}
-use Rattle.reference_model.specs.State.{Contents, Guest, Reference, Shared}
-use Rattle.reference_model.specs.Step.{foretell, Steps}
+use Rattle.reference_model.specs.model.Rules.{may_grow}
+use Rattle.reference_model.specs.model.State.{Contents, Guest, Reference, Shared}
+use Rattle.reference_model.specs.model.Step.{foretell, Steps}
 use Rattle.ghost_spec.specs.declared.state.Ghost.{Ghost}
 use Rattle.ghost_spec.specs.States.{ghost_state}
 use Rattle.ghost_judge.specs.declared.disagreement.Disagreement.{Disagreement}

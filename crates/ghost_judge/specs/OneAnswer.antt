@@ -3,7 +3,7 @@
 use Rattle.std.specs.Prelude.{◌≡◌}
 use Rattle.call_table.specs.declared.reply.Reply.{Reply}
 use Rattle.call_table.specs.declared.step.Step.{Step}
-use Rattle.reference_model.specs.State.{Contents, Reference}
+use Rattle.reference_model.specs.model.State.{Contents, Reference}
 use Rattle.ghost_judge.specs.declared.disagreement.Disagreement.{Disagreement}
 use Rattle.ghost_judge.specs.Audits.{AuditAgrees, IsFirstDifference}
 use Rattle.ghost_judge.specs.Judgements.{IsFirstJudged, IsFirstOfState, JudgeAgrees}

@@ -18,7 +18,7 @@ text_of_tree (Guest slot) = codes "guest " ++ decimal slot
 unfoldable pub text_of_told_row : Row → List ℕ
 text_of_told_row row = text_of_row row
 
--- a disagreement, with what stands before its first side and before its second
+-- a disagreement, with the words before its first side and before its second
 abbrev pub text_of_sides : List ℕ → List ℕ → Disagreement → List ℕ
 text_of_sides first second (MapDiffers tree page one other) =
     codes "disagree " ++ text_of_tree tree ++ codes " " ++ text_of_page page ++ first ++ text_of_entry one ++ second ++ text_of_entry other
@@ -30,10 +30,10 @@ text_of_sides _ _ (GuestFree slot) = codes "disagree guest_free " ++ decimal slo
 text_of_sides _ _ (Vm slot) = codes "disagree vm " ++ decimal slot
 text_of_sides _ _ (Cpu cpu) = codes "disagree cpu " ++ decimal cpu
 
--- of an audit: what is kept, and what the walk found
+-- of an audit: the kept side, and the side that the walk found
 abbrev pub text_of_disagreement : Disagreement → List ℕ
 text_of_disagreement d = text_of_sides (codes " kept ") (codes " walked ") d
 
--- of a judgement: what stands after the step, and what the model says
+-- of a judgement: the state after the step, and the model's
 abbrev pub text_of_judgement : Disagreement → List ℕ
 text_of_judgement d = text_of_sides (codes " post ") (codes " spec ") d

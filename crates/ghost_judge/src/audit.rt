@@ -1,4 +1,4 @@
-//! Compares what is kept with what was found from scratch. It takes no memory.
+//! Compares the kept state with the one found from scratch. It takes no memory.
 ghost use Rattle.std.specs.Prelude.{◌≡◌, ℕ, ◌↔◌, All, None, IfSome, length};
 ghost use Rattle.page_state.specs.Rows.{HasPageBelow};
 ghost use Rattle.run_list.specs.Runs.{AreInReach};

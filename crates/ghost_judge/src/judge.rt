@@ -1,7 +1,7 @@
 //! Judges a call: its reply and the whole state after it against what the model says. Rooms of logs aren't compared.
 ghost use Rattle.std.specs.Prelude.{◌≡◌, ◌<◌, ◌↔◌, None, IfOk, IfSome, IsTrue, get_or, length, map};
-ghost use Rattle.reference_model.specs.Rules.{may_grow as may_grow_of};
-ghost use Rattle.reference_model.specs.State.{no_cpu};
+ghost use Rattle.reference_model.specs.model.Rules.{may_grow as may_grow_of};
+ghost use Rattle.reference_model.specs.model.State.{no_cpu};
 ghost use Rattle.ghost_spec.specs.Kept.{HasNextGeneration};
 ghost use Rattle.ghost_spec.specs.States.{contents_in, IsKept};
 ghost use Rattle.ghost_spec.specs.Used.{guests_in, vms_in};

@@ -82,7 +82,7 @@ fn has_same_loads(a: &GhostSlot, b: &GhostSlot) -> bool
     is_same_load(a.loaded.as_slice(), b.loaded.as_slice())
 }
 
-/// Whether two slots are the same but for what is loaded.
+/// Whether two slots are the same but for their loaded vCPUs.
 fn is_same_unloaded(a: &GhostSlot, b: &GhostSlot) -> bool
     ensures { IsTrue result ↔ (unloaded (slot_in a.now) ≡ unloaded (slot_in b.now)) }
 {

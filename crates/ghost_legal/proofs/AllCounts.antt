@@ -11,9 +11,9 @@ use Rattle.page_state.specs.Regions.{is_in_range}
 use Rattle.page_state.specs.Trees.{no_tree}
 use Rattle.page_state.proofs.Cases.{by_eq}
 use Rattle.page_state.proofs.Common.{eq-other, eq-self}
-use Rattle.reference_model.specs.Conditions.{Condition, hyps, guest_condition, in_shared, in_vm, in_hand, one, table_uses, shared_uses, guest_uses}
-use Rattle.reference_model.specs.Owner.{is_frame, is_in_hand}
-use Rattle.reference_model.specs.State.{no_guest, no_cpu}
+use Rattle.reference_model.specs.help.Conditions.{Condition, hyps, guest_condition, in_shared, in_vm, in_hand, one, table_uses, shared_uses, guest_uses}
+use Rattle.reference_model.specs.model.Owner.{is_frame, is_in_hand}
+use Rattle.reference_model.specs.model.State.{no_guest, no_cpu}
 use Rattle.reference_model.proofs.Frames.{count_blocks-none}
 use Rattle.ghost_spec.specs.declared.cpu.GhostCpu.{GhostCpu}
 use Rattle.ghost_spec.specs.declared.lists.GhostLists.{GhostLists}

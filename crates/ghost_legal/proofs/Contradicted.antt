@@ -13,9 +13,9 @@ use Rattle.page_state.specs.Trees.{Block, Tree}
 use Rattle.page_state.proofs.Entries.{target-mapped}
 use Rattle.page_state.proofs.Runs.{map_of-first}
 use Rattle.coarse_trees.specs.Coarsest.{IsCoarsest as IsCoarsestTree, IsInTree}
-use Rattle.reference_model.specs.Conditions.{guest_condition, AreCoarsest, GuestFits, IsGood, Legal}
-use Rattle.reference_model.specs.Sound.{tree_at}
-use Rattle.reference_model.specs.State.{Contents, Guest, empty, live, dying, no_guest}
+use Rattle.reference_model.specs.help.Conditions.{guest_condition, AreCoarsest, GuestFits, IsGood, Legal}
+use Rattle.reference_model.specs.claims.Sound.{tree_at}
+use Rattle.reference_model.specs.model.State.{Contents, Guest, empty, live, dying, no_guest}
 use Rattle.freedoms.specs.AnyTrees.{AreFramesLegal, IsLegalButForTrees}
 use Rattle.ghost_trees.specs.declared.tree.Table.{Table}
 use Rattle.ghost_trees.specs.Trees.{table_of}

@@ -5,7 +5,7 @@ use Rattle.std.proofs.lemmas.List.Sums.{sum_by-cons}
 use Rattle.page_state.specs.Regions.{end_of, is_in_range}
 use Rattle.page_state.proofs.Cases.{by_test}
 use Rattle.ghost_trees.proofs.Overlaid.{within_means}
-use Rattle.reference_model.specs.Conditions.{one}
+use Rattle.reference_model.specs.help.Conditions.{one}
 use Rattle.ghost_legal.specs.declared.finding.Holder.{Holder}
 use Rattle.ghost_legal.specs.declared.held.Held.{Held}
 use Rattle.ghost_legal.specs.AllHeld.{held_count, IsHeldIn}

@@ -14,8 +14,8 @@ use Rattle.page_state.specs.Regions.{is_in_range}
 use Rattle.page_state.specs.Trees.{Block}
 use Rattle.page_state.proofs.Cases.{by_eq}
 use Rattle.page_state.proofs.Common.{eq-other}
-use Rattle.reference_model.specs.Conditions.{Condition, hyps, guest_condition, one, table_uses}
-use Rattle.reference_model.specs.Owner.{is_frame}
+use Rattle.reference_model.specs.help.Conditions.{Condition, hyps, guest_condition, one, table_uses}
+use Rattle.reference_model.specs.model.Owner.{is_frame}
 use Rattle.reference_model.proofs.Frames.{count_blocks-none}
 use Rattle.reference_model.proofs.conditions.Tables.{block-other, block-self, uses-put, uses_of}
 use Rattle.ghost_trees.specs.declared.tree.Table.{Table as TableOf}

@@ -25,9 +25,9 @@ use Rattle.page_state.proofs.Cases.{by_lt}
 use Rattle.page_state.proofs.Entries.{target-mapped}
 use Rattle.coarse_trees.specs.Coarsest.{IsCoarsest as IsCoarsestTree}
 use Rattle.coarse_trees.proofs.Stays.{none_is_coarsest}
-use Rattle.reference_model.specs.Conditions.{AreCoarsest, SlotsFit}
-use Rattle.reference_model.specs.Sound.{tree_at}
-use Rattle.reference_model.specs.State.{Contents, Guest, no_cpu, no_guest}
+use Rattle.reference_model.specs.help.Conditions.{AreCoarsest, SlotsFit}
+use Rattle.reference_model.specs.claims.Sound.{tree_at}
+use Rattle.reference_model.specs.model.State.{Contents, Guest, no_cpu, no_guest}
 use Rattle.page_state.specs.Trees.{Block, Tree, no_tree}
 use Rattle.ghost_trees.specs.Trees.{table_of, tree_in_lists}
 use Rattle.ghost_spec.specs.declared.cpu.GhostCpu.{GhostCpu}

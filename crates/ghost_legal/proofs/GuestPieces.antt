@@ -17,8 +17,8 @@ use Rattle.page_state.specs.Regions.{is_in_range}
 use Rattle.page_state.specs.Runs.{map_of, entry_on, run_end, IsCoarsest, PrecedesFirst}
 use Rattle.page_state.proofs.Cases.{by_lt, by_test}
 use Rattle.page_state.proofs.Runs.{StartsFrom, low, map_of-first, map_of-behind}
-use Rattle.reference_model.specs.Conditions.{IsMemoryLeaf}
-use Rattle.reference_model.specs.State.{no_guest}
+use Rattle.reference_model.specs.help.Conditions.{IsMemoryLeaf}
+use Rattle.reference_model.specs.model.State.{no_guest}
 use Rattle.ghost_trees.proofs.Overlaid.{within_means}
 use Rattle.ghost_trees.specs.declared.tree.Table.{Table as TableOf}
 use Rattle.ghost_spec.specs.declared.cpu.GhostCpu.{GhostCpu}

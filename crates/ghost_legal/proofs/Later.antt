@@ -7,7 +7,7 @@ use Rattle.page_state.specs.declared.row.Row.{Row}
 use Rattle.page_state.specs.declared.row.Usage.TheVariants.{Plain}
 use Rattle.page_state.specs.Entries.{advance}
 use Rattle.page_state.specs.Rows.{advance_row, advance_lent}
-use Rattle.reference_model.specs.Conditions.{Condition, outside, hosts, with_hyp, hyps, with_guest, guests, lent_back, hyp_says, row_in, HostFits}
+use Rattle.reference_model.specs.help.Conditions.{Condition, outside, hosts, with_hyp, hyps, with_guest, guests, lent_back, hyp_says, row_in, HostFits}
 use Rattle.ghost_legal.specs.declared.finding.Facts.{Facts}
 use Rattle.ghost_legal.specs.declared.finding.Holder.{Holder}
 use Rattle.ghost_legal.specs.declared.finding.Holder.TheVariants.{SharedPool, VmPool, Table, Hand, Guest}

@@ -14,7 +14,7 @@ use Rattle.page_state.specs.Runs.{map_of, IsCoarsest}
 use Rattle.page_state.proofs.Cases.{by_lt, by_test}
 use Rattle.page_state.proofs.Entries.{target-mapped}
 use Rattle.page_state.proofs.Runs.{low, map_of-first}
-use Rattle.reference_model.specs.State.{no_guest}
+use Rattle.reference_model.specs.model.State.{no_guest}
 use Rattle.ghost_trees.proofs.Overlaid.{within_means}
 use Rattle.ghost_spec.specs.declared.parts.GhostGuest.{GhostGuest}
 use Rattle.ghost_spec.specs.Kept.{IsKeptGuest}

@@ -12,7 +12,7 @@ use Rattle.page_state.specs.Geometries.{pages_below}
 use Rattle.page_state.specs.Layouts.{is_memory}
 use Rattle.page_state.specs.LayoutView.{layout_of}
 use Rattle.page_state.proofs.Common.{eq-same, eq-self}
-use Rattle.reference_model.specs.Conditions.{Condition, outside, hosts, with_hyp, hyps, with_guest, guests, lent_back, guest_condition, in_shared, in_vm, in_hand, is_inside, one, row_in, GuestFits, IsGood, IsMemoryLeaf}
+use Rattle.reference_model.specs.help.Conditions.{Condition, outside, hosts, with_hyp, hyps, with_guest, guests, lent_back, guest_condition, in_shared, in_vm, in_hand, is_inside, one, row_in, GuestFits, IsGood, IsMemoryLeaf}
 use Rattle.freedoms.specs.AnyTrees.{AreFramesLegal}
 use Rattle.ghost_spec.specs.declared.lists.GhostLists.{GhostLists}
 use Rattle.ghost_spec.specs.States.{contents_in}

@@ -32,7 +32,7 @@ use Rattle.page_state.specs.Trees.{Block}
 use Rattle.page_state.proofs.Accepted.{memory_below}
 use Rattle.page_state.proofs.Cases.{by_eq, by_lt, by_test}
 use Rattle.page_state.proofs.Common.{and-both, eq-same, eq-self, not-holds}
-use Rattle.reference_model.specs.Conditions.{Condition, hyps, guest_condition, in_shared, in_vm, in_hand, is_inside, one, GuestFits, IsMemoryLeaf}
+use Rattle.reference_model.specs.help.Conditions.{Condition, hyps, guest_condition, in_shared, in_vm, in_hand, is_inside, one, GuestFits, IsMemoryLeaf}
 use Rattle.ghost_trees.specs.declared.tree.Table.{Table as TableOf}
 use Rattle.ghost_trees.specs.Small.{AreSmall, HasLowFrames, IsSmall}
 use Rattle.ghost_trees.specs.Trees.{table_of}

@@ -12,9 +12,9 @@ use Rattle.page_state.specs.Geometries.{pages_below}
 use Rattle.page_state.specs.Layouts.{Layout}
 use Rattle.page_state.proofs.Cases.{by_lt}
 use Rattle.page_state.proofs.Common.{eq-self}
-use Rattle.reference_model.specs.Conditions.{Condition, hyps, guest_condition, in_shared, in_vm, in_hand, one, guest_uses, IsGood, IsMemoryLeaf}
-use Rattle.reference_model.specs.Owner.{is_in_hand}
-use Rattle.reference_model.specs.State.{Guest as GuestOf, Cpu, no_guest, no_cpu}
+use Rattle.reference_model.specs.help.Conditions.{Condition, hyps, guest_condition, in_shared, in_vm, in_hand, one, guest_uses, IsGood, IsMemoryLeaf}
+use Rattle.reference_model.specs.model.Owner.{is_in_hand}
+use Rattle.reference_model.specs.model.State.{Guest as GuestOf, Cpu, no_guest, no_cpu}
 use Rattle.ghost_spec.specs.declared.cpu.GhostCpu.{GhostCpu}
 use Rattle.ghost_spec.specs.declared.lists.GhostLists.{GhostLists}
 use Rattle.ghost_spec.specs.declared.parts.GhostGuest.{GhostGuest}

@@ -6,8 +6,8 @@ use Rattle.page_state.specs.LayoutView.{layout_of}
 use Rattle.page_state.specs.declared.entry.Run.{Run}
 use Rattle.call_table.specs.declared.step.VmKind.{VmKind}
 use Rattle.call_table.specs.declared.step.VmKind.TheVariants.{Plain}
-use Rattle.reference_model.specs.Conditions.{GuestsFit}
-use Rattle.reference_model.specs.State.{Guest, empty, live, dying, no_guest}
+use Rattle.reference_model.specs.help.Conditions.{GuestsFit}
+use Rattle.reference_model.specs.model.State.{Guest, empty, live, dying, no_guest}
 use Rattle.ghost_trees.specs.declared.tree.Table.{Table}
 use Rattle.ghost_trees.specs.Trees.{table_of}
 use Rattle.page_state.specs.Runs.{map_of}

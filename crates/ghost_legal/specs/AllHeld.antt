@@ -9,9 +9,9 @@ use Rattle.page_state.specs.Geometries.{pages_below}
 use Rattle.page_state.specs.Layouts.{Layout, hyp_page}
 use Rattle.page_state.specs.LayoutView.{layout_of}
 use Rattle.page_state.specs.Regions.{is_in_range}
-use Rattle.reference_model.specs.Conditions.{in_shared, in_vm, in_hand, one, shared_uses, guest_uses, IsGood, IsMemoryLeaf}
-use Rattle.reference_model.specs.Owner.{is_in_hand}
-use Rattle.reference_model.specs.State.{Contents}
+use Rattle.reference_model.specs.help.Conditions.{in_shared, in_vm, in_hand, one, shared_uses, guest_uses, IsGood, IsMemoryLeaf}
+use Rattle.reference_model.specs.model.Owner.{is_in_hand}
+use Rattle.reference_model.specs.model.State.{Contents}
 use Rattle.ghost_spec.specs.declared.lists.GhostLists.{GhostLists}
 use Rattle.ghost_spec.specs.States.{contents_in}
 use Rattle.ghost_legal.specs.declared.finding.Holder.{Holder}

@@ -5,7 +5,7 @@ use Rattle.page_state.specs.declared.row.Usage.{Usage}
 use Rattle.page_state.specs.declared.row.Usage.TheVariants.{Plain, SharedPool, VmPool, InHand}
 use Rattle.page_state.specs.Entries.{advance}
 use Rattle.page_state.specs.Rows.{advance_row}
-use Rattle.reference_model.specs.Conditions.{Condition, outside, hosts, with_hyp, hyps, with_guest, guests, lent_back, guest_condition, hyp_says, row_in, HostFits}
+use Rattle.reference_model.specs.help.Conditions.{Condition, outside, hosts, with_hyp, hyps, with_guest, guests, lent_back, guest_condition, hyp_says, row_in, HostFits}
 use Rattle.ghost_legal.specs.declared.condition.Condition.{Condition as ConditionOf}
 use Rattle.ghost_legal.specs.declared.condition.Condition.TheVariants.{Outside, Hosts, WithHyp, Hyps, WithGuest, Guests, LentBack}
 use Rattle.ghost_legal.specs.declared.finding.Facts.{Facts}

@@ -1,4 +1,4 @@
--- What the parts of a state and a list of what is held say of each frame.
+-- What the parts of a state and a list of held frames say of each frame.
 use Rattle.std.specs.Prelude.{◌≡◌, ℕ, ◌+◌, ◌-◌, ◌^◌, ◌<◌, ◌≤◌, true, List, ◌∷◌, All, Option, Some, None, IsPermutation}
 use Rattle.page_state.specs.declared.entry.PageRange.{PageRange}
 use Rattle.page_state.specs.Layouts.{hyp_page}

@@ -1,4 +1,4 @@
--- Why a state isn't legal: what is so, and that what comes before it isn't.
+-- Why a state isn't legal: the fault, and that no earlier fault is there.
 use Rattle.std.specs.Prelude.{◌≡◌, ℕ, ◌<◌, true, List, ◌∷◌, get_or, All, Contains, IsPermutation}
 use Rattle.coarse_trees.specs.Coarsest.{IsCoarsest}
 use Rattle.page_state.specs.declared.entry.Entry.{Entry}
@@ -6,8 +6,8 @@ use Rattle.page_state.specs.declared.entry.Entry.TheVariants.{Unmapped}
 use Rattle.page_state.specs.Layouts.{Layout, hyp_page}
 use Rattle.page_state.specs.LayoutView.{layout_of}
 use Rattle.page_state.specs.Regions.{is_in_range}
-use Rattle.reference_model.specs.Conditions.{SlotsFit}
-use Rattle.reference_model.specs.Sound.{tree_at}
+use Rattle.reference_model.specs.help.Conditions.{SlotsFit}
+use Rattle.reference_model.specs.claims.Sound.{tree_at}
 use Rattle.freedoms.specs.AnyTrees.{AreFramesLegal}
 use Rattle.ghost_trees.specs.Trees.{tree_in_lists}
 use Rattle.ghost_spec.specs.declared.lists.GhostLists.{GhostLists}

@@ -10,7 +10,7 @@ use Rattle.page_state.specs.LayoutView.{layout_of}
 use Rattle.ghost_spec.specs.declared.lists.GhostLists.{GhostLists}
 use Rattle.ghost_spec.specs.States.{contents_in, IsKept}
 use Rattle.descriptor.specs.declared.State.{State}
-use Rattle.reference_model.specs.Conditions.{GuestsFit, IsMemoryLeaf, Legal}
+use Rattle.reference_model.specs.help.Conditions.{GuestsFit, IsMemoryLeaf, Legal}
 use Rattle.ghost_legal.specs.declared.finding.Holder.TheVariants.{Guest}
 use Rattle.ghost_legal.specs.declared.held.Held.{Held}
 use Rattle.ghost_legal.specs.Pages.{HaveGoodRuns, IsWhole}
@@ -39,6 +39,6 @@ GuestsAreHeld = (g : GhostLists) (hs : List Held) → HaveGoodRuns g.guests.item
 abbrev pub WholeGuestsFit : Type 0
 WholeGuestsFit = (g : GhostLists) → All (IsWhole (layout_of g.layout).depth) g.guests.items → GuestsFit (layout_of g.layout) (contents_in g)
 
--- what is told of a state isn't so of a legal one
+-- the fault of a state isn't there in a legal one
 abbrev pub NoFalseAlarm : Type 0
 NoFalseAlarm = (g : GhostLists) → IsKept g → TreesHaveFirstBlocks g → IsAccepted g.layout.map → (x : Illegal) → IsIllegal g x → Legal (layout_of g.layout) (contents_in g) → ⊥

@@ -1,9 +1,7 @@
 -- How it is written why a state isn't legal: frames, pages and blocks in hexadecimal.
 use Rattle.std.specs.Prelude.{ℕ, List, ◌++◌, codes, Option, Some, None, if◌then◌else◌}
 use Rattle.std.specs.Fmt.{decimal}
-use Rattle.descriptor.specs.declared.State.{State}
-use Rattle.descriptor.specs.declared.State.TheVariants.{Owned, SharedOwned, SharedBorrowed}
-use Rattle.page_state.specs.Texts.{text_of_page, text_of_entry, text_of_row}
+use Rattle.page_state.specs.Texts.{text_of_page, text_of_entry, text_of_row, text_of_state}
 use Rattle.ghost_judge.specs.Texts.{text_of_tree}
 use Rattle.ghost_coarse.specs.declared.misfit.Misfit.{Misfit}
 use Rattle.ghost_coarse.specs.declared.misfit.Misfit.TheVariants.{Needless, Lacking}
@@ -20,11 +18,6 @@ use Rattle.ghost_legal.specs.TreeNames.{tree_named}
 -- a table: whose tree, the block's depth, and its index there
 abbrev pub text_of_block : TreeBlock → List ℕ
 text_of_block at = codes "table " ++ text_of_tree (tree_named at.tree) ++ codes " " ++ decimal at.block.0 ++ codes " " ++ text_of_page at.block.1
-
-abbrev pub text_of_state : State → List ℕ
-text_of_state Owned = codes "owned"
-text_of_state SharedOwned = codes "shared_owned"
-text_of_state SharedBorrowed = codes "shared_borrowed"
 
 -- a page of a guest
 abbrev pub text_of_guest_page : ℕ → ℕ → List ℕ

@@ -2,8 +2,8 @@
 use Rattle.std.specs.Prelude.{◌≡◌, Bool, true, false}
 use Rattle.page_state.specs.Layouts.{Layout}
 use Rattle.page_state.specs.LayoutView.{layout_of}
-use Rattle.reference_model.specs.Conditions.{Legal}
-use Rattle.reference_model.specs.State.{Contents}
+use Rattle.reference_model.specs.help.Conditions.{Legal}
+use Rattle.reference_model.specs.model.State.{Contents}
 use Rattle.ghost_spec.specs.declared.lists.GhostLists.{GhostLists}
 use Rattle.ghost_spec.specs.States.{contents_in, IsKept}
 use Rattle.ghost_legal.specs.declared.finding.Illegal.{Illegal}

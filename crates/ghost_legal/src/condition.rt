@@ -1,7 +1,7 @@
 //! The condition of a frame, by what the parts say of it.
 ghost use Rattle.std.specs.Prelude.{◌≡◌, ◌+◌, ◌<◌, ◌^◌, ◌↔◌, IsTrue, Some};
 ghost use Rattle.page_state.specs.EntryTests.{leaf as leaf_of};
-ghost use Rattle.reference_model.specs.Conditions.{row_in as row_in_of, hyp_says as hyp_says_of, HostFits};
+ghost use Rattle.reference_model.specs.help.Conditions.{row_in as row_in_of, hyp_says as hyp_says_of, HostFits};
 ghost use Rattle.page_state.specs.declared.row.Usage.TheVariants.{Plain};
 ghost use Rattle.ghost_legal.specs.Facts.{IsLowCondition, IsLowHolder, condition_in, condition_by, held_in, unheld_in, Fits, IsCondition};
 

@@ -5,7 +5,7 @@ ghost use Rattle.page_state.specs.declared.entry.Entry.TheVariants.{Unmapped};
 ghost use Rattle.ghost_spec.specs.States.{contents_in, IsKept};
 ghost use Rattle.ghost_trees.specs.Small.{AreSmall, IsSmall};
 ghost use Rattle.page_state.specs.LayoutView.{layout_of};
-ghost use Rattle.reference_model.specs.Conditions.{SlotsFit};
+ghost use Rattle.reference_model.specs.help.Conditions.{SlotsFit};
 ghost use Rattle.ghost_legal.specs.AllHeld.{GuestPagesFit};
 ghost use Rattle.ghost_legal.specs.Illegals.{FitsPages, FitsParts, FitsTables, HaveFittingPages, IsIllegalButForTrees};
 ghost use Rattle.ghost_legal.specs.Pages.{HaveGoodRuns, IsBadEntry, IsBadPage, IsGoodRun, IsBlank, IsWhole};

@@ -26,7 +26,7 @@ pub fn whole_guests_fit()
     ensures { WholeGuestsFit }
 {}
 
-/// What is told of a state isn't so of a legal one.
+/// The fault of a state isn't there in a legal one.
 pub fn no_false_alarm()
     ensures { NoFalseAlarm }
 {}

@@ -2,7 +2,7 @@
 ghost use Rattle.std.specs.Prelude.{◌≡◌, ◌↔◌, None, All, IfOk, IfSome, IsPermutation, MatchOption};
 ghost use Rattle.std.specs.List.Sorted.{IsNonDecreasingBy};
 ghost use Rattle.page_state.specs.LayoutView.{layout_of};
-ghost use Rattle.reference_model.specs.Conditions.{Legal};
+ghost use Rattle.reference_model.specs.help.Conditions.{Legal};
 ghost use Rattle.freedoms.specs.AnyTrees.{AreFramesLegal, IsLegalButForTrees};
 ghost use Rattle.ghost_spec.specs.States.{contents_in, IsKept};
 ghost use Rattle.ghost_legal.specs.Blocks.{TreesHaveFirstBlocks};
@@ -82,7 +82,7 @@ fn first_unfit(state: &GhostLists, held: &[Held]) -> Option<Illegal>
     }
 }
 
-/// What is wrong with what is held, in order, and with frames.
+/// The faults of holders, in order, and of frames.
 fn first_of(state: &GhostLists, held: &[Held]) -> Option<Illegal>
     requires kept { IsKept state.now }
     requires tables { TreesHaveFirstBlocks state.now }
@@ -100,7 +100,7 @@ fn first_of(state: &GhostLists, held: &[Held]) -> Option<Illegal>
     first_unfit(state, held)
 }
 
-/// What is wrong with what is held, and with frames.
+/// The faults of holders and of frames.
 fn first_held(alloc: Global, state: &GhostLists) -> Result<Option<Illegal>, AllocError>
     requires kept { IsKept state.now }
     requires tables { TreesHaveFirstBlocks state.now }

@@ -1,13 +1,13 @@
 //! How it is written.
 ghost use Rattle.std.specs.Prelude.{◌≡◌, Some};
-ghost use Rattle.ghost_legal.specs.Texts.{text_of_block, text_of_facts, text_of_guest_page, text_of_had, text_of_holder, text_of_illegal, text_of_memory, text_of_misfit, text_of_slot_fault, text_of_state, text_of_vcpu};
+ghost use Rattle.ghost_legal.specs.Texts.{text_of_block, text_of_facts, text_of_guest_page, text_of_had, text_of_holder, text_of_illegal, text_of_memory, text_of_misfit, text_of_slot_fault, text_of_vcpu};
 ghost use Rattle.ghost_legal.specs.TreeNames.{tree_named};
 
 use crate::finding::{Facts, Holder, Illegal, TreeBlock};
 use ghost_coarse::Misfit;
 use ghost_judge::disagreement::TreeOf;
 use ghost_slots::SlotFault;
-use page_state::State;
+use page_state::state_word;
 use std::fmt;
 
 /// Whose tree has a number.
@@ -46,22 +46,6 @@ impl fmt::Display for PageOfGuest {
     }
 }
 
-/// A state of an entry.
-#[derive(Clone, Copy)]
-struct StateWord(State);
-
-impl fmt::Display for StateWord {
-    ghost output = { λ word. Some (text_of_state word.0) };
-
-    fn fmt<W: fmt::Write>(&self, f: &mut fmt::Formatter<W>) -> fmt::Result {
-        match self.0 {
-            State::Owned => f.write_str("owned"),
-            State::SharedOwned => f.write_str("shared_owned"),
-            State::SharedBorrowed => f.write_str("shared_borrowed"),
-        }
-    }
-}
-
 impl fmt::Display for Holder {
     ghost output = { λ holder. Some (text_of_holder holder) };
 
@@ -73,7 +57,7 @@ impl fmt::Display for Holder {
             Holder::Hand(cpu) => write!(f, "hand of cpu {cpu}"),
             Holder::Guest { slot, page, state } => {
                 let at = PageOfGuest(slot, page);
-                let word = StateWord(state);
+                let word = state_word(state);
                 write!(f, "{at} {word}")
             }
         }

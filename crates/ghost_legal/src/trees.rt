@@ -1,7 +1,7 @@
 //! Tables at blocks that are none of a tree, and trees that aren't the coarsest of their maps.
 ghost use Rattle.std.specs.Prelude.{◌≡◌, ◌≤◌, IfOk, MatchOption};
 ghost use Rattle.page_state.specs.LayoutView.{layout_of};
-ghost use Rattle.reference_model.specs.Conditions.{AreCoarsest};
+ghost use Rattle.reference_model.specs.help.Conditions.{AreCoarsest};
 ghost use Rattle.freedoms.specs.AnyTrees.{AreFramesLegal};
 ghost use Rattle.ghost_spec.specs.States.{contents_in, IsKept};
 ghost use Rattle.ghost_legal.specs.Illegals.{AreGuestTablesInside, AreGuestsCoarsest, FitsPages, FitsParts, FitsTables, IsIllegal, IsIllegalButForTrees};

@@ -14,8 +14,8 @@ use Rattle.page_state.specs.Layouts.{Layout}
 use Rattle.page_state.specs.Runs.{map_of}
 use Rattle.page_state.specs.Search.{first_from}
 use Rattle.page_state.proofs.Common.{eq-other, same3}
-use Rattle.reference_model.specs.Owner.{page_of, lent_at, is_free, is_table_frame, is_in_hand, is_lent_to_host, sharer, owner_by, lent_to, usage_of, row_of}
-use Rattle.reference_model.specs.State.{Contents}
+use Rattle.reference_model.specs.model.Owner.{page_of, lent_at, is_free, is_table_frame, is_in_hand, is_lent_to_host, sharer, owner_by, lent_to, usage_of, row_of}
+use Rattle.reference_model.specs.model.State.{Contents}
 use Rattle.ghost_spec.specs.declared.lists.GhostLists.{GhostLists}
 use Rattle.ghost_spec.specs.RowsFound.{owner_or}
 use Rattle.ghost_spec.specs.States.{contents_in}

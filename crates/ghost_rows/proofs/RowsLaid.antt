@@ -24,8 +24,8 @@ use Rattle.run_list.proofs.Maps.{none_low}
 use Rattle.std.proofs.lemmas.Bool.Decides.{nat_tests}
 use Rattle.page_state.proofs.Common.{not-holds}
 use Rattle.page_state.proofs.Updates.{within_test}
-use Rattle.reference_model.specs.Owner.{page_of, is_free, is_table_frame, is_in_hand}
-use Rattle.reference_model.specs.State.{no_guest, no_cpu}
+use Rattle.reference_model.specs.model.Owner.{page_of, is_free, is_table_frame, is_in_hand}
+use Rattle.reference_model.specs.model.State.{no_guest, no_cpu}
 use Rattle.run_list.specs.declared.run.Run.{Run}
 use Rattle.run_list.specs.Runs.{run_map, map_updated, option_advance, IsCoarsest, AreInReach}
 use Rattle.ghost_spec.specs.declared.cpu.GhostCpu.{GhostCpu}

@@ -19,7 +19,7 @@ use Rattle.page_state.proofs.Cases.{by_test, by_lt}
 use Rattle.page_state.proofs.Common.{not-holds}
 use Rattle.page_state.proofs.Runs.{StartsFrom}
 use Rattle.page_state.proofs.Updates.{within_test}
-use Rattle.reference_model.specs.Owner.{page_of}
+use Rattle.reference_model.specs.model.Owner.{page_of}
 use Rattle.ghost_spec.specs.Found.{target_page, run_page, first_page_in}
 use Rattle.ghost_spec.proofs.FoundPages.{page-is, page-past, page-none}
 use Rattle.ghost_trees.proofs.Overlaid.{within_means}

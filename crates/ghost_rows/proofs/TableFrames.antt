@@ -7,7 +7,7 @@ use Rattle.std.proofs.lemmas.List.Sorted.{list_any-IsPermutation}
 use Rattle.std.specs.Option.{option_or}
 use Rattle.page_state.specs.declared.row.Row.{Row}
 use Rattle.page_state.specs.declared.row.Usage.{Usage}
-use Rattle.reference_model.specs.Owner.{is_frame, is_free}
+use Rattle.reference_model.specs.model.Owner.{is_frame, is_free}
 use Rattle.ghost_rows.specs.RowsLaid.{used_if}
 
 or_none : (b : Bool) → b || false ≡ b

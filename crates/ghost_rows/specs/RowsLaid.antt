@@ -21,8 +21,8 @@ use Rattle.page_state.specs.Rows.{advance_row}
 use Rattle.page_state.specs.Runs.{entry_on, run_end}
 use Rattle.page_state.specs.Map.{Map, is_within}
 use Rattle.page_state.specs.Trees.{Tree, Pool}
-use Rattle.reference_model.specs.Owner.{page_of, lent_at, is_free, is_table_frame, is_in_hand, row_of}
-use Rattle.reference_model.specs.State.{Contents, Shared, Guest, Cpu, no_guest, no_cpu}
+use Rattle.reference_model.specs.model.Owner.{page_of, lent_at, is_free, is_table_frame, is_in_hand, row_of}
+use Rattle.reference_model.specs.model.State.{Contents, Shared, Guest, Cpu, no_guest, no_cpu}
 use Rattle.run_list.specs.declared.run.Run.{Run as RowRun}
 use Rattle.run_list.specs.Runs.{run_map}
 use Rattle.ghost_spec.specs.declared.cpu.GhostCpu.{GhostCpu}
@@ -32,7 +32,7 @@ use Rattle.ghost_trees.specs.KeptTrees.{IsKeptTree}
 use Rattle.ghost_spec.specs.States.{guest_in}
 use Rattle.ghost_spec.specs.Views.{cpu_in}
 
--- a list tells these rows of the frames
+-- a list gives these rows to the frames
 abbrev pub HasRows : List (RowRun Row) → (ℕ → Option Row) → Type 0
 HasRows runs row = (f : ℕ) → run_map advance_row runs f ≡ row f
 

@@ -42,7 +42,7 @@ abbrev pub owner_told : Option Row → Option Row → Option Row → ℕ
 owner_told (Some r) lent shared = r.owner.0
 owner_told None lent shared = elim (is_of_host (lent_told lent)) [ true ↦ number_told (lent_told shared) | false ↦ 0 ]
 
--- the row by what is annotated, lent, shared and used
+-- the row of a frame by how it is annotated, lent, shared and used
 abbrev pub row_told : Option Row → Option Row → Option Row → Option Row → Row
 row_told annotated lent shared used = record { owner = record { 0 = owner_told annotated lent shared }; lent = lent_told lent; usage = usage_told used }
 
@@ -110,7 +110,7 @@ pub record HasNoBound (low high : ℕ) (r : Run Row) : Type 0 where
   pub begins : r.pages.first.0 < high → r.pages.first.0 ≤ low
   pub ends : run_end r < high → run_end r ≤ low
 
--- where a list stands at a frame
+-- the place of a list at a frame
 pub record IsStanding (frame : ℕ) (s : Stand) (rs : List (Run Row)) : Type 0 where
   pub at : IsEndedAt (frame + 1) s.place rs
   pub more : frame < s.until
@@ -119,19 +119,19 @@ pub record IsStanding (frame : ℕ) (s : Stand) (rs : List (Run Row)) : Type 0 w
   pub begun : s.inside ≡ true → (d : Run Row) → (get_or rs s.place d).pages.first.0 ≤ frame
   pub outside : s.inside ≡ false → (d : Run Row) → s.place < length rs → frame < (get_or rs s.place d).pages.first.0
 
--- the same, if the list goes on so far from where it stood before
+-- the same, if the list goes on so far from its place before
 pub record IsCarried (frame : ℕ) (s : Stand) (rs : List (Run Row)) : Type 0 where
   pub near : IsNear (frame + 1) s.place rs
   pub stays : frame < s.until → IsStanding frame s rs
 
--- where each list stands at a frame
+-- the place of each list at a frame
 pub record AreStanding (frame : ℕ) (s : Stands) (x : Lists) : Type 0 where
   pub annotated : IsStanding frame s.annotated x.annotated.runs
   pub lent : IsStanding frame s.lent x.lent.runs
   pub shared : IsStanding frame s.shared x.shared.runs
   pub used : IsStanding frame s.used x.used.runs
 
--- where each stood at a frame before
+-- the place of each at a frame before
 pub record AreCarried (frame : ℕ) (s : Stands) (x : Lists) : Type 0 where
   pub annotated : IsCarried frame s.annotated x.annotated.runs
   pub lent : IsCarried frame s.lent x.lent.runs
@@ -144,22 +144,22 @@ pub record IsOn (pages : PageRange) (place : ℕ) (rs : List (Run Row)) : Type 0
   pub first : (d : Run Row) → (get_or rs place d).pages.first.0 ≡ pages.first.0
   pub count : (d : Run Row) → (get_or rs place d).pages.count ≡ pages.count
 
--- a run has just the frames of the annotation at a place, and what is told of them
+-- a run has exactly the frames of the annotation at a place, and its value
 pub record IsAnnotatedOn (r : Run Row) (s : Steady) (place : ℕ) (rs : List (Run Row)) : Type 0 where
   pub on : IsOn r.pages place rs
   pub same : (d : Run Row) → r.value ≡ row_with (get_or rs place d).value.owner.0 None s.usage
 
--- a run has just the frames of the loan at a place, and what is told of them
+-- a run has exactly the frames of the loan at a place, and its value
 pub record IsLentOn (r : Run Row) (s : Steady) (place : ℕ) (rs : List (Run Row)) : Type 0 where
   pub on : IsOn r.pages place rs
   pub same : (d : Run Row) → r.value ≡ row_with (lender (get_or rs place d).value.lent s.sharer.0) (get_or rs place d).value.lent s.usage
 
--- a run that the lists tell as a whole: where they stand goes on to its end
+-- a run that the lists give as a whole: their places go on to its end
 pub record IsPassed (x : Lists) (r : Run Row) (s : Stands) : Type 0 where
   pub told : IsTold x r
   pub carried : AreCarried (run_end r) s x
 
--- where each list stood at a frame before, and how far from there on none is shared and none used
+-- the place of each list at a frame before, and how far from there on no frame is shared and none used
 pub record AreNear (frame : ℕ) (n : Near) (x : Lists) : Type 0 where
   pub carried : AreCarried frame n.stands x
   pub quiet : AreSteady frame (quiet_to n.quiet) x

@@ -10,7 +10,7 @@ ghost use Rattle.page_state.specs.Layouts.{is_memory};
 ghost use Rattle.page_state.specs.LayoutView.{layout_of};
 ghost use Rattle.page_state.specs.Regions.{end_of, is_in_range};
 ghost use Rattle.page_state.specs.Rows.{advance_row, HasPageBelow};
-ghost use Rattle.reference_model.specs.Owner.{row_of};
+ghost use Rattle.reference_model.specs.model.Owner.{row_of};
 ghost use Rattle.run_list.specs.Runs.{run_map, IsCoarsest, AreInReach};
 ghost use Rattle.ghost_trees.specs.KeptTrees.{IsKeptTree};
 ghost use Rattle.ghost_spec.specs.States.{contents_in};

@@ -1,7 +1,7 @@
 -- Slots agree just where each CPU's own state and each slot is right.
 use Rattle.std.proofs.Common.{◌≡◌, ℕ, ◌≤◌}
-use Rattle.reference_model.specs.Conditions.{SlotsFit}
-use Rattle.reference_model.specs.State.{Contents, vacant}
+use Rattle.reference_model.specs.help.Conditions.{SlotsFit}
+use Rattle.reference_model.specs.model.State.{Contents, vacant}
 use Rattle.ghost_slots.specs.declared.fault.SlotFault.TheVariants.{Load, Hand, Ticket, Vcpu, Guest, Tickets}
 use Rattle.ghost_slots.specs.Faults.{CpuFits, SlotFits}
 use Rattle.ghost_slots.specs.Laws.{FaultsAreReal}

@@ -1,9 +1,9 @@
 -- Past the lists' ends slots are vacant, guests Empty, and CPUs have nothing.
 use Rattle.std.proofs.Common.{◌≡◌, ℕ, zero, suc, ◌+◌, ◌≤◌, ◌<◌, List, [], ◌∷◌, map, length, get_or, Option, Some, None, refl, sym, ap, subst, ◌∙◌, arith}
 use Rattle.page_state.proofs.Cases.{by_lt}
-use Rattle.reference_model.specs.State.{Contents, Cpu, Guest, Slot, no_cpu, no_guest, no_slot, empty, vacant, reserved, opened, closing}
-use Rattle.reference_model.specs.Conditions.{SlotsFit}
-use Rattle.reference_model.specs.Sound.{HasLoaded, HasTicket, IsOne}
+use Rattle.reference_model.specs.model.State.{Contents, Cpu, Guest, Slot, no_cpu, no_guest, no_slot, empty, vacant, reserved, opened, closing}
+use Rattle.reference_model.specs.help.Conditions.{SlotsFit}
+use Rattle.reference_model.specs.claims.Sound.{HasLoaded, HasTicket, IsOne}
 use Rattle.ghost_spec.specs.declared.lists.GhostLists.{GhostLists}
 use Rattle.ghost_spec.specs.States.{contents_in, guest_in, slot_in, IsKept}
 use Rattle.ghost_spec.specs.Views.{cpu_in}

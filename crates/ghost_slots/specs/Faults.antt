@@ -3,8 +3,8 @@ use Rattle.std.specs.Prelude.{◌≡◌, ◌≢◌, ℕ, ◌≤◌, ◌<◌, Opt
 use Rattle.page_state.specs.declared.entry.PageRange.{PageRange}
 use Rattle.reference_model.specs.declared.changes.Loaded.{Loaded}
 use Rattle.reference_model.specs.declared.changes.Ticket.{Ticket}
-use Rattle.reference_model.specs.Sound.{HasLoaded, HasTicket, IsGuestOf, IsOne, IsTicketOf}
-use Rattle.reference_model.specs.State.{Contents, empty, live, vacant, reserved, opened, closing}
+use Rattle.reference_model.specs.claims.Sound.{HasLoaded, HasTicket, IsGuestOf, IsOne, IsTicketOf}
+use Rattle.reference_model.specs.model.State.{Contents, empty, live, vacant, reserved, opened, closing}
 use Rattle.ghost_slots.specs.declared.fault.SlotFault.{SlotFault}
 use Rattle.ghost_slots.specs.declared.fault.SlotFault.TheVariants.{Load, Hand, Ticket as TicketFault, Vcpu, Guest, Tickets}
 
@@ -16,7 +16,7 @@ LoadOn s c o = (k : Loaded) → o ≡ Some k → ((s.vms.slot k.vm.slot).loaded 
 abbrev pub HandOn : Option PageRange → Type 0
 HandOn o = (r : PageRange) → o ≡ Some r → 1 ≤ r.count
 
--- a ticket's slot stands as its stage says, with its generation and kind
+-- a ticket's slot is in the stage that the ticket says, with its generation and kind
 abbrev pub TicketOn : Contents → Option Ticket → Type 0
 TicketOn s o = (t : Ticket) → o ≡ Some t → IsTicketOf s t
 

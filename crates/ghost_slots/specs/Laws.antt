@@ -1,6 +1,6 @@
 -- What holds of every state.
-use Rattle.reference_model.specs.Conditions.{SlotsFit}
-use Rattle.reference_model.specs.State.{Contents}
+use Rattle.reference_model.specs.help.Conditions.{SlotsFit}
+use Rattle.reference_model.specs.model.State.{Contents}
 use Rattle.ghost_slots.specs.declared.fault.SlotFault.{SlotFault}
 use Rattle.ghost_slots.specs.Faults.{IsSlotFault}
 

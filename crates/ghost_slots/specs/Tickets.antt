@@ -1,7 +1,7 @@
 -- The tickets of a slot, by CPU.
 use Rattle.std.specs.Prelude.{ℕ, ◌≤◌, ◌<◌, Option, MatchOption}
-use Rattle.reference_model.specs.Sound.{HasTicket}
-use Rattle.reference_model.specs.State.{Contents}
+use Rattle.reference_model.specs.claims.Sound.{HasTicket}
+use Rattle.reference_model.specs.model.State.{Contents}
 use Rattle.ghost_spec.specs.declared.lists.GhostLists.{GhostLists}
 use Rattle.ghost_spec.specs.States.{contents_in}
 

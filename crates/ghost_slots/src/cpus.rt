@@ -1,6 +1,6 @@
-//! CPUs' own states: what is loaded, hands and tickets.
+//! CPUs' own states: loads, hands and tickets.
 ghost use Rattle.std.specs.Prelude.{◌≡◌, ℕ, ◌<◌, ◌↔◌, IsTrue, MatchOption, Some};
-ghost use Rattle.reference_model.specs.Sound.{IsTicketOf};
+ghost use Rattle.reference_model.specs.claims.Sound.{IsTicketOf};
 ghost use Rattle.ghost_spec.specs.Kept.{HasLowLoad, HasLowTicket};
 ghost use Rattle.ghost_spec.specs.States.{contents_in, slot_in, IsKept};
 ghost use Rattle.ghost_slots.specs.Faults.{CpuFits, HandOn, IsSlotFault, LoadOn, TicketOn};

@@ -1,6 +1,6 @@
 //! Where slots, loads, tickets, guests and hands don't agree.
 ghost use Rattle.std.specs.Prelude.{MatchOption};
-ghost use Rattle.reference_model.specs.Conditions.{SlotsFit};
+ghost use Rattle.reference_model.specs.help.Conditions.{SlotsFit};
 ghost use Rattle.ghost_spec.specs.States.{contents_in, IsKept};
 ghost use Rattle.ghost_slots.specs.Faults.{IsSlotFault};
 
@@ -15,7 +15,7 @@ pub enum SlotFault {
     Load(u64),
     /// The CPU's hand is a range without a frame.
     Hand(u64),
-    /// The CPU's ticket isn't of its slot as that stands.
+    /// The CPU's ticket doesn't fit the stage of its slot.
     Ticket(u64),
     /// The vCPU of the slot is loaded on a CPU that hasn't it, or in a slot that isn't Open, or isn't one of eight.
     Vcpu(u64, u64),

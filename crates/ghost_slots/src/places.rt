@@ -1,7 +1,7 @@
 //! A slot, a guest and a CPU's own state by number.
 ghost use Rattle.std.specs.Prelude.{◌≡◌, ◌<◌, ◌↔◌, IsTrue};
-ghost use Rattle.reference_model.specs.Sound.{StageFits};
-ghost use Rattle.reference_model.specs.State.{empty, live, dying, vacant, reserved, opened, closing};
+ghost use Rattle.reference_model.specs.claims.Sound.{StageFits};
+ghost use Rattle.reference_model.specs.model.State.{empty, live, dying, vacant, reserved, opened, closing};
 ghost use Rattle.ghost_spec.specs.Kept.{IsKeptCpu};
 ghost use Rattle.ghost_spec.specs.States.{contents_in, guest_in, phase_in, slot_in, stand_in, IsKept};
 ghost use Rattle.ghost_spec.specs.Views.{cpu_in};
@@ -120,26 +120,26 @@ fn fits_phase(stage: Stage, phase: GhostPhase) -> bool
     match stage {
         Stage::Booked => is_empty(phase),
         Stage::Installed => is_live(phase),
-        Stage::ClosingVm => is_live(phase),
-        Stage::DyingVm => is_dying(phase),
+        Stage::Closing => is_live(phase),
+        Stage::Dying => is_dying(phase),
         Stage::Finished => is_empty(phase),
     }
 }
 
-/// Whether a slot stands as a ticket's stage says.
+/// Whether a slot is in the stage that a ticket says.
 fn fits_stand(stage: Stage, stand: GhostStand) -> bool
     ensures { IsTrue result ↔ StandOn stage (stand_in stand) }
 {
     match stage {
         Stage::Booked => is_reserved(stand),
         Stage::Installed => is_reserved(stand),
-        Stage::ClosingVm => is_closing(stand),
-        Stage::DyingVm => is_closing(stand),
+        Stage::Closing => is_closing(stand),
+        Stage::Dying => is_closing(stand),
         Stage::Finished => is_closing(stand),
     }
 }
 
-/// Whether a slot stands as a ticket's stage says, and its guest.
+/// Whether a slot is in the stage that a ticket says, and its guest too.
 pub(crate) fn fits_stage(stage: Stage, stand: GhostStand, phase: GhostPhase) -> bool
     ensures { IsTrue result ↔ StageFits stage (stand_in stand) (phase_in phase) }
 {

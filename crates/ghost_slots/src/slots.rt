@@ -1,7 +1,7 @@
 //! Slots: their vCPUs, guests and tickets.
 ghost use Rattle.std.specs.Prelude.{◌≡◌, ℕ, ◌≤◌, ◌<◌, ◌↔◌, IsTrue, MatchOption, Some};
-ghost use Rattle.reference_model.specs.Sound.{HasLoaded, HasTicket, IsGuestOf, IsOne};
-ghost use Rattle.reference_model.specs.Conditions.{SlotsFit};
+ghost use Rattle.reference_model.specs.claims.Sound.{HasLoaded, HasTicket, IsGuestOf, IsOne};
+ghost use Rattle.reference_model.specs.help.Conditions.{SlotsFit};
 ghost use Rattle.ghost_spec.specs.States.{contents_in, IsKept};
 ghost use Rattle.ghost_slots.specs.Faults.{AreSlotsBelow, AreVcpusFitting, CpuFits, GuestAgrees, HasItsTicket, IsFirstVcpu, IsSlotFault, SlotFits, VcpuOn};
 ghost use Rattle.ghost_slots.specs.Tickets.{IsFirstTicket, IsTicketFrom};

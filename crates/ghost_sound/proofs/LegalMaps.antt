@@ -4,9 +4,9 @@ use Rattle.descriptor.specs.declared.State.{State}
 use Rattle.page_state.specs.declared.entry.Entry.{Entry}
 use Rattle.page_state.specs.Layouts.{Layout}
 use Rattle.page_state.proofs.Cases.{by_eq}
-use Rattle.reference_model.specs.Conditions.{Condition, outside, hosts, with_hyp, hyps, with_guest, guests, lent_back, HostFits, row_in, IsUsable, Legal}
-use Rattle.reference_model.specs.Sound.{owner, Holds, IsLeafOf, Sound}
-use Rattle.reference_model.specs.State.{Contents}
+use Rattle.reference_model.specs.help.Conditions.{Condition, outside, hosts, with_hyp, hyps, with_guest, guests, lent_back, HostFits, row_in, IsUsable, Legal}
+use Rattle.reference_model.specs.claims.Sound.{owner, Holds, IsLeafOf, Sound}
+use Rattle.reference_model.specs.model.State.{Contents}
 use Rattle.reference_model.proofs.conditions.OfLegal.{guests-of, shared-of}
 use Rattle.reference_model.proofs.conditions.SoundOf.{holds-state, legal_sound, own-one, owner-of}
 use Rattle.ghost_sound.specs.Laws.{LegalIsSound}

@@ -5,7 +5,7 @@ use Rattle.descriptor.specs.declared.State.{State}
 use Rattle.descriptor.specs.declared.State.TheVariants.{Owned, SharedOwned, SharedBorrowed}
 use Rattle.page_state.specs.declared.entry.Entry.{Entry}
 use Rattle.page_state.specs.declared.entry.Entry.TheVariants.{Unmapped, Malformed, Annotated, Leaf}
-use Rattle.reference_model.specs.Sound.{IsLeafOf}
+use Rattle.reference_model.specs.claims.Sound.{IsLeafOf}
 use Rattle.ghost_sound.specs.declared.leaves.Side.TheVariants.{Owns, Borrows, Shares}
 use Rattle.ghost_sound.specs.inner.Leaves.{counts, HasLeaf}
 

@@ -1,7 +1,7 @@
 -- What is told isn't sound, and nothing is told of what is.
 use Rattle.std.proofs.Common.{◌≡◌, ℕ, Some, None}
 use Rattle.std.specs.Prelude.{◌↔◌}
-use Rattle.reference_model.specs.State.{Contents}
+use Rattle.reference_model.specs.model.State.{Contents}
 use Rattle.ghost_sound.specs.declared.finding.Place.{Place}
 use Rattle.ghost_sound.specs.declared.finding.Unsound.{Unsound}
 use Rattle.ghost_sound.specs.declared.finding.Unsound.TheVariants.{TwoOwners, TwoBorrowers, NoShare}

@@ -11,8 +11,8 @@ use Rattle.page_state.specs.Regions.{is_in_range}
 use Rattle.page_state.specs.Runs.{map_of, entry_on, run_end, PrecedesFirst, IsCoarsest}
 use Rattle.page_state.proofs.Cases.{by_test, by_lt}
 use Rattle.page_state.proofs.Runs.{StartsFrom, low, map_of-first, map_of-behind}
-use Rattle.reference_model.specs.Sound.{tree_at}
-use Rattle.reference_model.specs.State.{no_guest}
+use Rattle.reference_model.specs.claims.Sound.{tree_at}
+use Rattle.reference_model.specs.model.State.{no_guest}
 use Rattle.ghost_spec.specs.declared.lists.GhostLists.{GhostLists}
 use Rattle.ghost_spec.specs.declared.parts.GhostGuest.{GhostGuest}
 use Rattle.ghost_spec.specs.States.{contents_in, guest_in}

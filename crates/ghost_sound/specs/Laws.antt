@@ -1,7 +1,7 @@
 -- What holds of legal states, and of sound ones.
 use Rattle.page_state.specs.Layouts.{Layout}
-use Rattle.reference_model.specs.Conditions.{IsUsable, Legal}
-use Rattle.reference_model.specs.State.{Contents}
+use Rattle.reference_model.specs.help.Conditions.{IsUsable, Legal}
+use Rattle.reference_model.specs.model.State.{Contents}
 use Rattle.ghost_sound.specs.declared.finding.Unsound.{Unsound}
 use Rattle.ghost_sound.specs.Sound.{IsSound, IsUnsound}
 
@@ -9,6 +9,6 @@ use Rattle.ghost_sound.specs.Sound.{IsSound, IsUnsound}
 abbrev pub LegalIsSound : Type 0
 LegalIsSound = (l : Layout) (s : Contents) → Legal l s → IsUsable l → IsSound s
 
--- nothing is told of a sound state
+-- a sound state has no finding
 abbrev pub SoundElse : Type 0
 SoundElse = (s : Contents) (why : Unsound) → IsSound s → IsUnsound s why → ⊥

@@ -1,8 +1,8 @@
 -- What makes a state sound, by its maps alone, and why it isn't. Frames that are no memory count too.
 use Rattle.std.specs.Prelude.{◌≡◌, ℕ}
 use Rattle.descriptor.specs.declared.State.TheVariants.{SharedOwned, SharedBorrowed}
-use Rattle.reference_model.specs.Sound.{Holds, Maps}
-use Rattle.reference_model.specs.State.{Contents}
+use Rattle.reference_model.specs.claims.Sound.{Holds, Maps}
+use Rattle.reference_model.specs.model.State.{Contents}
 use Rattle.ghost_sound.specs.declared.finding.Place.{Place}
 use Rattle.ghost_sound.specs.declared.finding.Unsound.{Unsound}
 use Rattle.ghost_sound.specs.declared.finding.Unsound.TheVariants.{TwoOwners, TwoBorrowers, NoShare}
@@ -47,7 +47,7 @@ module _ (s : Contents) where
     pub borrowed : Maps s at.tree at.page.0 f SharedBorrowed
     pub unshared : IsShared f → ⊥
 
-  -- what is told is so, and what is told before it isn't
+  -- the fault is there, and no earlier one is
   abbrev pub IsUnsound : Unsound → Type 0
   IsUnsound (TwoOwners f one other) = AreTwoOwners f one other
   IsUnsound (TwoBorrowers f one other) = HasOneOwner × AreTwoBorrowers f one other

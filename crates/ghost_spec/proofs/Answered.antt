@@ -9,13 +9,13 @@ use Rattle.call_table.specs.declared.step.Step.{Step}
 use Rattle.page_state.specs.Layouts.{Layout}
 use Rattle.page_state.proofs.Cases.{by_test}
 use Rattle.reference_model.specs.declared.changes.Changes.{Changes}
-use Rattle.reference_model.specs.Decides.{decides}
-use Rattle.reference_model.specs.ChangeLaws.{OnlyUses}
-use Rattle.reference_model.specs.Changes.{touched}
-use Rattle.reference_model.specs.Parts.{uses_vms, lacks_slot}
-use Rattle.reference_model.specs.Rules.{names}
-use Rattle.reference_model.specs.Step.{or_else, first_test, is_short, changed, rule_of, refusal, fails, with_rows, made, answer}
-use Rattle.reference_model.specs.Used.{Used}
+use Rattle.reference_model.specs.model.Decides.{decides}
+use Rattle.reference_model.specs.help.ChangeLaws.{OnlyUses}
+use Rattle.reference_model.specs.model.Changes.{touched}
+use Rattle.reference_model.specs.model.Parts.{uses_vms, lacks_slot}
+use Rattle.reference_model.specs.model.Rules.{names}
+use Rattle.reference_model.specs.model.Step.{or_else, first_test, is_short, changed, rule_of, refusal, fails, with_rows, made, answer}
+use Rattle.reference_model.specs.model.Used.{Used}
 use Rattle.reference_model.proofs.Answers.{told-err, told-ok}
 use Rattle.reference_model.proofs.ChangesUsed.{changes_used}
 use Rattle.ghost_spec.specs.Kept.{FitsSlots, IsLowSlot}

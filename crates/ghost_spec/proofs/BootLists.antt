@@ -4,7 +4,7 @@ use Rattle.std.proofs.lemmas.List.{drop-drop}
 use Rattle.page_state.specs.Layouts.{Layout}
 use Rattle.page_state.specs.Tables.{edited}
 use Rattle.page_state.specs.Trees.{frames_from}
-use Rattle.reference_model.specs.Boot.{host_root, host_edit, host_need, hyp_root, hyp_edit, hyp_need, spare, boot_shared}
+use Rattle.reference_model.specs.model.Boot.{host_root, host_edit, host_need, hyp_root, hyp_edit, hyp_need, spare, boot_shared}
 use Rattle.ghost_spec.specs.declared.shared.Shared.{Shared as SharedOfLists}
 use Rattle.ghost_spec.specs.Views.{shared_in_lists}
 use Rattle.ghost_trees.specs.Trees.{tree_in_lists}

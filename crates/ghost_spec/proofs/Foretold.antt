@@ -10,11 +10,11 @@ use Rattle.call_table.specs.declared.step.Step.{Step}
 use Rattle.page_state.specs.Layouts.{Layout}
 use Rattle.page_state.proofs.Cases.{by_test, by_eq}
 use Rattle.page_state.proofs.Common.{eq-self, eq-same, eq-other, same2}
-use Rattle.reference_model.specs.Parts.{uses_vms, uses_shared}
-use Rattle.reference_model.specs.Rules.{names, guest_slot}
-use Rattle.reference_model.specs.State.{Vms, Shared, Guest, Cpu, Contents, Rooms, Reference, put_at, no_vms, no_shared}
-use Rattle.reference_model.specs.Step.{is_full, stored, answer, predict, foretell}
-use Rattle.reference_model.specs.Used.{Used, UsedRooms, used_of, put_back, guest_at, put_guest, room_at, put_room, rooms_of, put_rooms}
+use Rattle.reference_model.specs.model.Parts.{uses_vms, uses_shared}
+use Rattle.reference_model.specs.model.Rules.{names, guest_slot}
+use Rattle.reference_model.specs.model.State.{Vms, Shared, Guest, Cpu, Contents, Rooms, Reference, put_at, no_vms, no_shared}
+use Rattle.reference_model.specs.model.Step.{is_full, stored, answer, predict, foretell}
+use Rattle.reference_model.specs.model.Used.{Used, UsedRooms, used_of, put_back, guest_at, put_guest, room_at, put_room, rooms_of, put_rooms}
 
 abbrev pair : Reply → Reference → Reply × Reference
 pair a b = (a, b)

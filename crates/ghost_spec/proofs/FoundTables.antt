@@ -11,7 +11,7 @@ use Rattle.page_state.specs.Trees.{Block, Tree}
 use Rattle.page_state.proofs.BlockTests.{block_eq-same}
 use Rattle.page_state.proofs.Cases.{by_test, by_eq}
 use Rattle.page_state.proofs.Common.{and-both, eq-same, same-tests, or-neither}
-use Rattle.reference_model.specs.Owner.{count_blocks, is_frame, is_table_frame}
+use Rattle.reference_model.specs.model.Owner.{count_blocks, is_frame, is_table_frame}
 use Rattle.ghost_trees.specs.declared.tree.Table.{Table}
 use Rattle.ghost_spec.specs.Found.{has_place, is_table_with, any_table_with}
 use Rattle.ghost_trees.specs.Trees.{table_of}

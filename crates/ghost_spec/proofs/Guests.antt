@@ -5,7 +5,7 @@ use Rattle.page_state.specs.Blocks.{block_eq}
 use Rattle.page_state.specs.Tables.{Edit, edited, returned, needs, freed, placed, cleared, given, all_given}
 use Rattle.page_state.specs.Trees.{Block, Tree, Pool, frames_from, root_tree}
 use Rattle.page_state.proofs.Cases.{by_test}
-use Rattle.reference_model.specs.Changes.{rest}
+use Rattle.reference_model.specs.model.Changes.{rest}
 use Rattle.ghost_spec.specs.Kept.{AreLowFrames, HasLowTables}
 
 -- pools

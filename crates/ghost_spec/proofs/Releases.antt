@@ -7,11 +7,11 @@ use Rattle.call_table.specs.declared.reply.Call.{Call}
 use Rattle.call_table.specs.declared.step.Step.{Step}
 use Rattle.page_state.specs.Layouts.{Layout}
 use Rattle.reference_model.specs.declared.changes.Ticket.{Ticket}
-use Rattle.reference_model.specs.Boot.{CanBoot}
-use Rattle.reference_model.specs.Bounds.{Bounded}
-use Rattle.reference_model.specs.Conditions.{Legal}
-use Rattle.reference_model.specs.Run.{IsRun}
-use Rattle.reference_model.specs.State.{Reference}
+use Rattle.reference_model.specs.model.Boot.{CanBoot}
+use Rattle.reference_model.specs.claims.Bounds.{Bounded}
+use Rattle.reference_model.specs.help.Conditions.{Legal}
+use Rattle.reference_model.specs.model.Run.{IsRun}
+use Rattle.reference_model.specs.model.State.{Reference}
 use Rattle.reference_model.proofs.conditions.Bounding.{run_bounded}
 use Rattle.reference_model.proofs.conditions.RunsLegal.{run_legal}
 use Rattle.ghost_spec.specs.Kept.{HasNextGeneration}

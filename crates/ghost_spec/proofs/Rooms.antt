@@ -2,11 +2,11 @@
 use Rattle.std.proofs.Common.{◌≡◌, ℕ, ◌-◌, ◌&&◌, ◌||◌, ◌==◌, Bool, true, false, Option, refl, ◌∙◌}
 use Rattle.std.specs.Prelude.{if◌then◌else◌, is_some}
 use Rattle.page_state.proofs.Common.{same2}
-use Rattle.reference_model.specs.Parts.{Names, uses_vms, uses_shared}
-use Rattle.reference_model.specs.State.{Rooms}
-use Rattle.reference_model.specs.Step.{is_full, stored}
-use Rattle.reference_model.specs.Used.{put_rooms, put_room, room_at, rooms_of}
-use Rattle.reference_model.specs.State.{put_at}
+use Rattle.reference_model.specs.model.Parts.{Names, uses_vms, uses_shared}
+use Rattle.reference_model.specs.model.State.{Rooms}
+use Rattle.reference_model.specs.model.Step.{is_full, stored}
+use Rattle.reference_model.specs.model.Used.{put_rooms, put_room, room_at, rooms_of}
+use Rattle.reference_model.specs.model.State.{put_at}
 use Rattle.ghost_spec.proofs.Foretold.{rooms-same}
 
 full-used : (u : Bool) (n : ℕ) → (u && (if u then n else 0) == 0) ≡ (u && n == 0)

@@ -19,13 +19,13 @@ use Rattle.page_state.specs.Trees.{no_tree}
 use Rattle.page_state.proofs.Cases.{by_test}
 use Rattle.page_state.proofs.Common.{and-right, eq-self, eq-other, same2, same3}
 use Rattle.reference_model.specs.declared.changes.Changes.{Changes}
-use Rattle.reference_model.specs.Changes.{touched}
-use Rattle.reference_model.specs.Owner.{page_of, is_in_hand, is_free, is_table_frame, row_of, owner_by, sharer, lent_to, lent_at, usage_of, is_in_shared_pool, guest_with, vm_pool_of, holding_cpu}
-use Rattle.reference_model.specs.Parts.{uses_vms, uses_shared}
-use Rattle.reference_model.specs.Rules.{names}
-use Rattle.reference_model.specs.State.{Vms, Shared, Guest, Cpu, Contents, put_at, no_vms, no_guest, no_cpu}
-use Rattle.reference_model.specs.Step.{own_row, with_rows}
-use Rattle.reference_model.specs.Used.{Used, put_back, put_guest}
+use Rattle.reference_model.specs.model.Changes.{touched}
+use Rattle.reference_model.specs.model.Owner.{page_of, is_in_hand, is_free, is_table_frame, row_of, owner_by, sharer, lent_to, lent_at, usage_of, is_in_shared_pool, guest_with, vm_pool_of, holding_cpu}
+use Rattle.reference_model.specs.model.Parts.{uses_vms, uses_shared}
+use Rattle.reference_model.specs.model.Rules.{names}
+use Rattle.reference_model.specs.model.State.{Vms, Shared, Guest, Cpu, Contents, put_at, no_vms, no_guest, no_cpu}
+use Rattle.reference_model.specs.model.Step.{own_row, with_rows}
+use Rattle.reference_model.specs.model.Used.{Used, put_back, put_guest}
 use Rattle.reference_model.proofs.Frames.{is_table_frame-none}
 use Rattle.ghost_spec.specs.Kept.{IsLowSlot}
 use Rattle.ghost_spec.specs.RowsFound.{owner_or, sharer_found, lender_found, guest_lent, lent_found, pool_found, usage_found, row_found, used_found}

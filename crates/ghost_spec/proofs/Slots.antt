@@ -2,8 +2,8 @@
 use Rattle.std.proofs.Common.{◌≡◌, ℕ, zero, suc, ◌<◌, List, [], ◌∷◌, ◌++◌, Option, None, length, get_or, set, refl, sym, ap, ◌∙◌}
 use Rattle.std.proofs.lemmas.List.{get_or-map}
 use mathlib.Core.Path.{fun_ext}
-use Rattle.reference_model.specs.Changes.{with_slot}
-use Rattle.reference_model.specs.State.{Slot, put_at, no_slot}
+use Rattle.reference_model.specs.model.Changes.{with_slot}
+use Rattle.reference_model.specs.model.State.{Slot, put_at, no_slot}
 use Rattle.ghost_spec.specs.declared.parts.GhostSlot.{GhostSlot}
 use Rattle.ghost_spec.specs.States.{slot_in}
 use Rattle.ghost_spec.specs.Used.{vms_in}

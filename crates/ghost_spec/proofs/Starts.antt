@@ -7,9 +7,9 @@ use Rattle.page_state.specs.Layouts.{Layout, is_memory}
 use Rattle.page_state.specs.Regions.{Memory, is_in_range, region_of, is_memory_region, has_memory}
 use Rattle.page_state.proofs.Common.{same2}
 use Rattle.page_state.proofs.Regions.{found-in, find-holds}
-use Rattle.reference_model.specs.Boot.{boot, booted, boot_shared, boot_without_rows}
-use Rattle.reference_model.specs.Owner.{row_of}
-use Rattle.reference_model.specs.State.{Slot, Vms, Shared, Cpu, Contents, no_vms, no_slot, no_guest, no_cpu, plain_row}
+use Rattle.reference_model.specs.model.Boot.{boot, booted, boot_shared, boot_without_rows}
+use Rattle.reference_model.specs.model.Owner.{row_of}
+use Rattle.reference_model.specs.model.State.{Slot, Vms, Shared, Cpu, Contents, no_vms, no_slot, no_guest, no_cpu, plain_row}
 use Rattle.ghost_spec.specs.declared.shared.Shared.{Shared as SharedOfLists}
 use Rattle.ghost_spec.specs.declared.lists.GhostLists.{GhostLists}
 use Rattle.ghost_spec.specs.RowsFound.{row_found}

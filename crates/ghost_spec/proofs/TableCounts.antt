@@ -10,7 +10,7 @@ use Rattle.page_state.specs.Blocks.{block_eq}
 use Rattle.page_state.specs.Trees.{Block}
 use Rattle.page_state.proofs.Cases.{by_eq, by_test}
 use Rattle.page_state.proofs.Common.{eq-other, eq-self}
-use Rattle.reference_model.specs.Owner.{count_blocks}
+use Rattle.reference_model.specs.model.Owner.{count_blocks}
 use Rattle.ghost_trees.specs.declared.tree.Table.{Table}
 use Rattle.ghost_trees.specs.Trees.{table_of}
 use Rattle.ghost_spec.specs.Found.{has_place}

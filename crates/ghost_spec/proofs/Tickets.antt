@@ -5,27 +5,27 @@ use Rattle.page_state.specs.declared.entry.PageRange.{PageRange}
 use Rattle.call_table.specs.declared.reply.Refusal.{Refusal}
 use Rattle.call_table.specs.declared.reply.Refusal.TheVariants.{NoVm, Perm, Busy}
 use Rattle.call_table.specs.declared.reply.Value.TheVariants.{Vm}
-use Rattle.call_table.specs.declared.step.Step.TheVariants.{VmReserve, VmOpen, VmRelease, Install}
+use Rattle.call_table.specs.declared.step.Step.TheVariants.{VmReserve, VmOpen, VmRelease, Install, MarkDying}
 use Rattle.call_table.specs.declared.step.VmId.{VmId}
 use Rattle.call_table.specs.declared.step.VmKind.{VmKind}
 use Rattle.page_state.specs.Layouts.{Layout}
 use Rattle.reference_model.specs.declared.changes.Changes.{Changes}
 use Rattle.reference_model.specs.declared.changes.CpuChange.{CpuChange}
-use Rattle.reference_model.specs.declared.changes.GuestChange.TheVariants.{Install as InstallGuest}
+use Rattle.reference_model.specs.declared.changes.GuestChange.TheVariants.{Install as InstallGuest, Die}
 use Rattle.reference_model.specs.declared.changes.SlotChange.TheVariants.{Reserve, Open, Release}
 use Rattle.reference_model.specs.declared.changes.Stage.{Stage}
-use Rattle.reference_model.specs.declared.changes.Stage.TheVariants.{Booked, Installed, Finished}
+use Rattle.reference_model.specs.declared.changes.Stage.TheVariants.{Booked, Installed, Dying, Finished}
 use Rattle.reference_model.specs.declared.changes.Ticket.{Ticket}
 use Rattle.reference_model.specs.declared.changes.Update.TheVariants.{Becomes}
-use Rattle.reference_model.specs.Decides.{decides}
-use Rattle.reference_model.specs.Changes.{no_changes}
-use Rattle.reference_model.specs.GuestRules.{ticket_vm, ticket_kind, ticket_becomes, moved_on}
-use Rattle.reference_model.specs.Parts.{stage_eq, has_stage, ticket_slot}
-use Rattle.reference_model.specs.Rules.{rule}
-use Rattle.reference_model.specs.SharedRules.{no_range, hand_of}
-use Rattle.reference_model.specs.State.{Cpu}
-use Rattle.reference_model.specs.Used.{Used}
-use Rattle.reference_model.specs.VmRules.{no_ticket, vacant_slot, next_slot}
+use Rattle.reference_model.specs.model.Decides.{decides}
+use Rattle.reference_model.specs.model.Changes.{no_changes}
+use Rattle.reference_model.specs.model.GuestRules.{ticket_vm, ticket_kind, ticket_becomes, moved_on}
+use Rattle.reference_model.specs.model.Parts.{stage_eq, has_stage, ticket_slot}
+use Rattle.reference_model.specs.model.Rules.{rule}
+use Rattle.reference_model.specs.model.SharedRules.{no_range, hand_of}
+use Rattle.reference_model.specs.model.State.{Cpu}
+use Rattle.reference_model.specs.model.Used.{Used}
+use Rattle.reference_model.specs.model.VmRules.{no_ticket, vacant_slot, next_slot}
 
 -- the slot of a ticket
 
@@ -68,6 +68,16 @@ module _ (l : Layout) (cpu : ℕ) (slot : Option ℕ) (x : Used) where
   pub releases-not : (has_stage Booked x.cpu || has_stage Finished x.cpu) ≡ false → Err NoVm ≡ decides l cpu slot VmRelease x
   unfolding rule
   releases-not h = rw h refl
+
+  -- a Live guest becomes Dying
+
+  pub dies-nowhere : is_none slot ≡ true → Err NoVm ≡ decides l cpu slot MarkDying x
+  unfolding rule
+  dies-nowhere h = rw h refl
+
+  pub dies : (on : CpuChange) → on ≡ moved_on Dying x.cpu → is_none slot ≡ false → Ok (record no_changes { part = Die; cpu = on }) ≡ decides l cpu slot MarkDying x
+  unfolding rule
+  dies on m h = rw (m, h) refl
 
   -- a guest becomes Live
   pub installs-nowhere : is_none slot ≡ true → Err NoVm ≡ decides l cpu slot Install x

@@ -2,8 +2,8 @@
 use Rattle.std.specs.Prelude.{ℕ, drop, Option}
 use Rattle.page_state.specs.Tables.{need, returned, edited, all_given}
 use Rattle.reference_model.specs.declared.changes.MapChange.{MapChange}
-use Rattle.reference_model.specs.Changes.{edit_of}
-use Rattle.reference_model.specs.State.{Guest}
+use Rattle.reference_model.specs.model.Changes.{edit_of}
+use Rattle.reference_model.specs.model.State.{Guest}
 
 -- the guest with its map changed from its own pool
 abbrev pub mapped_guest : ℕ → Option MapChange → Guest → Guest

@@ -10,7 +10,7 @@ use Rattle.page_state.specs.EntryTests.{state_eq}
 use Rattle.page_state.specs.Geometries.{block_pages}
 use Rattle.page_state.specs.Map.{is_within}
 use Rattle.page_state.specs.Trees.{Block}
-use Rattle.reference_model.specs.Owner.{is_frame}
+use Rattle.reference_model.specs.model.Owner.{is_frame}
 use Rattle.ghost_trees.specs.declared.tree.Table.{Table}
 use Rattle.ghost_trees.specs.Trees.{table_of}
 
@@ -32,7 +32,7 @@ first_page_in f s (r ∷ rs) = elim (run_page f s r) [ Some page ↦ Some page |
 abbrev pub has_place : ℕ → Block → Bool
 has_place depth b = nat_le 1 b.0 && nat_le b.0 (depth + 1) && nat_lt b.1 (block_pages (depth + 1 - b.0))
 
--- a table that counts stands at such a block and has the frame
+-- a table that counts is at such a block and has the frame
 abbrev pub is_table_with : ℕ → List Table → ℕ → Table → Bool
 is_table_with depth ts f t = has_place depth t.block && is_frame f (table_of ts t.block)
 

@@ -14,7 +14,7 @@ use Rattle.reference_model.specs.declared.changes.MapChange.{MapChange}
 use Rattle.reference_model.specs.declared.changes.SlotChange.{SlotChange}
 use Rattle.reference_model.specs.declared.changes.SlotChange.TheVariants.{Keep as KeepSlots, Reserve, Open, Close, Release, Load, Unload}
 use Rattle.reference_model.specs.declared.changes.Ticket.{Ticket}
-use Rattle.reference_model.specs.Changes.{updated, touched}
+use Rattle.reference_model.specs.model.Changes.{updated, touched}
 use Rattle.run_list.specs.Runs.{AreInReach}
 use Rattle.ghost_spec.specs.declared.cpu.GhostCpu.{GhostCpu}
 use Rattle.ghost_spec.specs.declared.parts.GhostGuest.{GhostGuest}
@@ -54,7 +54,7 @@ abbrev pub IsLowSlot : Option ℕ → Type 0
 IsLowSlot None = Unit {0}
 IsLowSlot (Some v) = v < 64
 
--- what is loaded is of one of the 64 slots
+-- each load is of one of the 64 slots
 abbrev pub HasLowLoad : Option Loaded → Type 0
 HasLowLoad None = Unit {0}
 HasLowLoad (Some x) = x.vm.slot < 64

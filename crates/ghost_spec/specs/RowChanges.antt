@@ -8,7 +8,7 @@ use Rattle.page_state.specs.LayoutView.{layout_of}
 use Rattle.page_state.specs.Map.{is_within}
 use Rattle.page_state.specs.Regions.{is_in_range}
 use Rattle.page_state.specs.Rows.{advance_row}
-use Rattle.reference_model.specs.State.{Guest, Cpu}
+use Rattle.reference_model.specs.model.State.{Guest, Cpu}
 use Rattle.run_list.specs.declared.run.Run.{Run}
 use Rattle.run_list.specs.Runs.{map_updated, run_map}
 use Rattle.ghost_spec.specs.declared.shared.Shared.{Shared}

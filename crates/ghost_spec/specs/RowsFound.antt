@@ -10,11 +10,11 @@ use Rattle.page_state.specs.declared.row.Usage.{Usage}
 use Rattle.page_state.specs.declared.row.Usage.TheVariants.{Plain, SharedPool, VmPool, InHand}
 use Rattle.page_state.specs.Layouts.{Layout, is_memory}
 use Rattle.reference_model.specs.declared.changes.Changes.{Changes}
-use Rattle.reference_model.specs.Changes.{touched}
-use Rattle.reference_model.specs.Owner.{page_of, lent_at, is_free, is_table_frame, is_in_hand}
-use Rattle.reference_model.specs.State.{Shared, Guest, Cpu}
-use Rattle.reference_model.specs.Step.{changed}
-use Rattle.reference_model.specs.Used.{Used}
+use Rattle.reference_model.specs.model.Changes.{touched}
+use Rattle.reference_model.specs.model.Owner.{page_of, lent_at, is_free, is_table_frame, is_in_hand}
+use Rattle.reference_model.specs.model.State.{Shared, Guest, Cpu}
+use Rattle.reference_model.specs.model.Step.{changed}
+use Rattle.reference_model.specs.model.Used.{Used}
 
 -- the owner by the host's entry of the frame's page: the number of its annotation, and else this one
 abbrev pub owner_or : ℕ → Entry → ℕ

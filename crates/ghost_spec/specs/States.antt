@@ -1,6 +1,6 @@
--- The reference state that a Ghost stands for.
+-- The reference state that a Ghost represents.
 use Rattle.std.specs.Prelude.{◌≡◌, ℕ, List, All, None, get_or, map, length}
-use Rattle.reference_model.specs.State.{Phase, empty, live, dying, Guest, no_guest, Stand, vacant, reserved, opened, closing, Slot, no_slot, no_cpu, Contents, Rooms, Reference}
+use Rattle.reference_model.specs.model.State.{Phase, empty, live, dying, Guest, no_guest, Stand, vacant, reserved, opened, closing, Slot, no_slot, no_cpu, Contents, Rooms, Reference}
 use Rattle.ghost_spec.specs.declared.cpu.GhostCpu.{GhostCpu}
 use Rattle.ghost_spec.specs.declared.lists.GhostLists.{GhostLists}
 use Rattle.ghost_spec.specs.declared.lists.GhostRooms.{GhostRooms}
@@ -14,7 +14,7 @@ use Rattle.ghost_spec.specs.Kept.{IsKeptShared, IsKeptGuest, IsKeptCpu}
 use Rattle.ghost_trees.specs.Trees.{tree_in_lists}
 use Rattle.ghost_spec.specs.Views.{cpu_in, shared_in_lists}
 
--- how a slot stands
+-- the stage of a slot
 abbrev pub stand_in : GhostStand → Stand
 stand_in Vacant = vacant
 stand_in Reserved = reserved

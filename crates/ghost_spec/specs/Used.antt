@@ -6,12 +6,12 @@ use Rattle.page_state.specs.declared.entry.Entry.{Entry}
 use Rattle.page_state.specs.declared.entry.Entry.TheVariants.{Unmapped}
 use Rattle.page_state.specs.EntryTests.{is_in, is_free_page, is_unmapped, entry_frame, leaf}
 use Rattle.page_state.specs.Layouts.{hyp_page}
-use Rattle.reference_model.specs.Parts.{uses_vms}
-use Rattle.reference_model.specs.Rules.{names}
-use Rattle.reference_model.specs.SharedRules.{is_plain}
-use Rattle.reference_model.specs.State.{Vms, Shared, Guest, Contents, Rooms, no_slot, no_guest}
-use Rattle.reference_model.specs.Step.{stored}
-use Rattle.reference_model.specs.Used.{Used, put_back, put_rooms, rooms_of as used_rooms_of, used_of}
+use Rattle.reference_model.specs.model.Parts.{uses_vms}
+use Rattle.reference_model.specs.model.Rules.{names}
+use Rattle.reference_model.specs.model.SharedRules.{is_plain}
+use Rattle.reference_model.specs.model.State.{Vms, Shared, Guest, Contents, Rooms, no_slot, no_guest}
+use Rattle.reference_model.specs.model.Step.{stored}
+use Rattle.reference_model.specs.model.Used.{Used, put_back, put_rooms, rooms_of as used_rooms_of, used_of}
 use Rattle.call_table.specs.declared.step.Step.{Step}
 use Rattle.ghost_spec.specs.declared.lists.GhostLists.{GhostLists}
 use Rattle.ghost_spec.specs.declared.parts.GhostGuest.{GhostGuest}

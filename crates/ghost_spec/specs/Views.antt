@@ -1,11 +1,11 @@
--- What parts of lists stand for, in the words of the reference state.
+-- What parts on lists represent, in the words of the reference state.
 use Rattle.std.specs.Prelude.{ℕ, List, unwrap_or}
 use Rattle.page_state.specs.declared.layout.Config.{Config}
 use Rattle.page_state.specs.declared.row.Row.{Row}
 use Rattle.page_state.specs.Layouts.{Layout}
 use Rattle.page_state.specs.Regions.{Memory}
 use Rattle.page_state.specs.Rows.{advance_row}
-use Rattle.reference_model.specs.State.{Shared, Cpu, plain_row}
+use Rattle.reference_model.specs.model.State.{Shared, Cpu, plain_row}
 use Rattle.run_list.specs.declared.run.Run.{Run}
 use Rattle.run_list.specs.Runs.{run_map}
 use Rattle.ghost_spec.specs.declared.cpu.GhostCpu.{GhostCpu}

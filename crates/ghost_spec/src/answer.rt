@@ -1,10 +1,10 @@
-//! The answer of a call, and what is used after it, logs apart.
+//! The answer of a call, and the used parts after it, logs apart.
 ghost use Rattle.std.specs.Prelude.{◌≡◌, ◌<◌, ◌≤◌, true, IfOk, OnOk, length};
 ghost use Rattle.page_state.specs.LayoutView.{layout_of};
-ghost use Rattle.reference_model.specs.Changes.{touched as touched_of};
-ghost use Rattle.reference_model.specs.Parts.{uses_vms as uses_vms_of};
-ghost use Rattle.reference_model.specs.Rules.{names};
-ghost use Rattle.reference_model.specs.Step.{answer as answer_of, changed as changed_of, is_short as is_short_of};
+ghost use Rattle.reference_model.specs.model.Changes.{touched as touched_of};
+ghost use Rattle.reference_model.specs.model.Parts.{uses_vms as uses_vms_of};
+ghost use Rattle.reference_model.specs.model.Rules.{names};
+ghost use Rattle.reference_model.specs.model.Step.{answer as answer_of, changed as changed_of, is_short as is_short_of};
 ghost use Rattle.ghost_spec.specs.Kept.{AreSmallChanges, FitsSlots, HasNextGeneration, IsLowSlot};
 ghost use Rattle.ghost_spec.specs.RowsFound.{used_made};
 ghost use Rattle.ghost_spec.specs.Used.{IsKeptUsed, used_in};

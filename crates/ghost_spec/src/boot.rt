@@ -1,7 +1,7 @@
 //! The Shared part at boot, on lists.
 ghost use Rattle.std.specs.Prelude.{◌≡◌, ℕ, ◌+◌, ◌^◌, ◌<◌, ◌≤◌, ◌↔◌, IsTrue, IfOk, IfSome, IsSome};
 ghost use Rattle.page_state.specs.Trees.{frames_from as frames_of, root_tree as root_tree_of};
-ghost use Rattle.reference_model.specs.Boot.{boot_shared, IsCarveEnough};
+ghost use Rattle.reference_model.specs.model.Boot.{boot_shared, IsCarveEnough};
 ghost use Rattle.page_state.specs.EntryTests.{annotation, leaf};
 ghost use Rattle.page_state.specs.Layouts.{hyp_page as hyp_page_of};
 ghost use Rattle.page_state.specs.Regions.{end_of};

@@ -1,6 +1,6 @@
 //! A CPU's own state.
 ghost use Rattle.std.specs.Prelude.{◌≡◌};
-ghost use Rattle.reference_model.specs.Changes.{cpu_by};
+ghost use Rattle.reference_model.specs.model.Changes.{cpu_by};
 
 use page_state::PageRange;
 use reference_model::{CpuChange, Loaded, Ticket, Update};

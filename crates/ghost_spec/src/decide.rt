@@ -1,9 +1,9 @@
 //! What a call decides.
 ghost use Rattle.std.specs.Prelude.{◌≡◌, IfOk, length, true};
 ghost use Rattle.page_state.specs.LayoutView.{layout_of};
-ghost use Rattle.reference_model.specs.Decides.{decides};
-ghost use Rattle.reference_model.specs.Parts.{uses_vms as uses_vms_of};
-ghost use Rattle.reference_model.specs.Rules.{names};
+ghost use Rattle.reference_model.specs.model.Decides.{decides};
+ghost use Rattle.reference_model.specs.model.Parts.{uses_vms as uses_vms_of};
+ghost use Rattle.reference_model.specs.model.Rules.{names};
 ghost use Rattle.ghost_spec.specs.Kept.{AreSmallChanges, HasNextGeneration, IsLowSlot};
 ghost use Rattle.ghost_spec.specs.Used.{IsKeptUsed, used_in};
 

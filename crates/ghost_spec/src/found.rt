@@ -3,7 +3,7 @@ ghost use Rattle.std.specs.Prelude.{◌≡◌, ◌<◌, ◌≤◌, ◌^◌, IfSo
 ghost use Rattle.page_state.specs.Geometries.{pages_below};
 ghost use Rattle.page_state.specs.LayoutView.{layout_of};
 ghost use Rattle.page_state.specs.Runs.{map_of};
-ghost use Rattle.reference_model.specs.Owner.{is_free as is_free_of, is_in_hand as is_in_hand_of, is_table_frame as is_table_frame_of, page_of as page_of_map};
+ghost use Rattle.reference_model.specs.model.Owner.{is_free as is_free_of, is_in_hand as is_in_hand_of, is_table_frame as is_table_frame_of, page_of as page_of_map};
 ghost use Rattle.ghost_spec.specs.Found.{run_page as run_page_of, first_page_in, has_place as has_place_of, is_table_with as is_table_with_of, any_table_with};
 ghost use Rattle.ghost_trees.specs.KeptTrees.{IsKeptTree};
 ghost use Rattle.ghost_trees.specs.Small.{AreSmall, IsSmall};
@@ -82,7 +82,7 @@ pub(crate) fn has_place(layout: &Layout, block: Block) -> bool
     block.0 >= 1 && block.0 <= root && block.1 < 1 << (9 * (root - block.0))
 }
 
-/// Whether a table that counts stands in its place and has the frame.
+/// Whether a table that counts is in its place and has the frame.
 fn is_table_with(layout: &Layout, tables: &[Table], frame: u64, table: Table) -> bool
     ensures { result ≡ is_table_with_of (layout_of layout.now).depth tables.now frame table }
 {

@@ -2,10 +2,10 @@
 ghost use Rattle.std.specs.Prelude.{◌≡◌, ◌≤◌, ◌^◌, IfOk, OnOk, length, nat_lt};
 ghost use Rattle.page_state.specs.Regions.{end_of};
 ghost use Rattle.page_state.specs.Tables.{all_given};
-ghost use Rattle.reference_model.specs.Changes.{frames_in, guest_by, rest as rest_of};
+ghost use Rattle.reference_model.specs.model.Changes.{frames_in, guest_by, rest as rest_of};
 ghost use Rattle.reference_model.specs.declared.changes.GuestChange.TheVariants.{Install};
-ghost use Rattle.reference_model.specs.State.{no_guest};
-ghost use Rattle.reference_model.specs.Step.{guest_after, guest_need};
+ghost use Rattle.reference_model.specs.model.State.{no_guest};
+ghost use Rattle.reference_model.specs.model.Step.{guest_after, guest_need};
 ghost use Rattle.ghost_spec.specs.Changed.{mapped_guest};
 ghost use Rattle.ghost_spec.specs.Kept.{IsKeptGuest, IsSmallChange, IsSmallPart};
 ghost use Rattle.ghost_spec.specs.States.{guest_in};

@@ -1,6 +1,6 @@
 //! The rules of the calls on a guest, alone or with the Shared part: the first of a call's tests that fails, or all that it
 //! changes.
-ghost use Rattle.std.specs.Prelude.{◌≡◌, ℕ, ◌+◌, ◌<◌, ◌≤◌, ◌^◌, ◌&&◌, Option, Some, IfOk, IsTrue, ◌||◌, nat_lt, unwrap_or};
+ghost use Rattle.std.specs.Prelude.{◌≡◌, ℕ, ◌+◌, ◌<◌, ◌≤◌, ◌^◌, ◌&&◌, Option, Some, IfOk, IsTrue, ◌||◌, nat_le, not, unwrap_or};
 ghost use Rattle.call_table.specs.declared.step.Step.TheVariants.{ShareGuest, UnshareGuest, DonateGuest, GuestShareHost, GuestUnshareHost, Install, Topup, ReclaimPage, ReclaimPool, FinishGuest, GuestRelax, GuestTranslate, MarkDying};
 ghost use Rattle.page_state.specs.EntryTests.{entry_frame as entry_frame_of, is_unmapped as is_unmapped_of, join as join_of, with_rights as with_rights_of, with_state as with_state_of};
 ghost use Rattle.page_state.specs.Layouts.{Layout as ReferenceLayout, is_good_page as is_good_page_of};
@@ -8,10 +8,10 @@ ghost use Rattle.page_state.specs.LayoutView.{layout_of};
 ghost use Rattle.page_state.specs.Runs.{map_of};
 ghost use Rattle.page_state.specs.Search.{all_below};
 ghost use Rattle.reference_model.specs.declared.changes.Update.TheVariants.{Becomes};
-ghost use Rattle.reference_model.specs.Decides.{decides};
-ghost use Rattle.reference_model.specs.GuestRules.{are_good_pages as are_good_pages_of, guest_table_count as guest_table_count_of, is_guest as is_guest_of, is_protected as is_protected_of, least as least_of, moved_on as moved_on_of, two_pages as two_pages_of, two_ranges as two_ranges_of};
-ghost use Rattle.reference_model.specs.SharedRules.{to_host as to_host_of};
-ghost use Rattle.reference_model.specs.State.{live, dying};
+ghost use Rattle.reference_model.specs.model.Decides.{decides};
+ghost use Rattle.reference_model.specs.model.GuestRules.{are_good_pages as are_good_pages_of, guest_table_count as guest_table_count_of, is_guest as is_guest_of, is_protected as is_protected_of, least as least_of, moved_on as moved_on_of, two_pages as two_pages_of, two_ranges as two_ranges_of};
+ghost use Rattle.reference_model.specs.model.SharedRules.{to_host as to_host_of};
+ghost use Rattle.reference_model.specs.model.State.{live, dying};
 ghost use Rattle.ghost_spec.specs.Kept.{AreSmallChanges, IsKeptCpu, IsKeptGuest, IsKeptShared, IsLowSlot};
 ghost use Rattle.ghost_trees.specs.KeptTrees.{IsKeptTree};
 ghost use Rattle.ghost_trees.specs.Small.{HasLowFrames};
@@ -238,7 +238,7 @@ fn moved_on(stage: Stage, own: &GhostCpu) -> CpuChange
 }
 
 /// The host shares a range with the guest.
-#[tactic(auto, unfolding(reference_model::specs::Rules::rule))]
+#[tactic(auto, unfolding(reference_model::specs::model::Rules::rule))]
 pub(crate) fn share_guest(
     layout: &Layout,
     used: &GhostUsed,
@@ -271,7 +271,7 @@ pub(crate) fn share_guest(
 }
 
 /// The host takes back what it shared with the guest.
-#[tactic(auto, unfolding(reference_model::specs::Rules::rule))]
+#[tactic(auto, unfolding(reference_model::specs::model::Rules::rule))]
 pub(crate) fn unshare_guest(
     layout: &Layout,
     used: &GhostUsed,
@@ -303,7 +303,7 @@ pub(crate) fn unshare_guest(
 }
 
 /// The host gives a range to the guest.
-#[tactic(auto, unfolding(reference_model::specs::Rules::rule))]
+#[tactic(auto, unfolding(reference_model::specs::model::Rules::rule))]
 pub(crate) fn donate_guest(
     layout: &Layout,
     used: &GhostUsed,
@@ -336,7 +336,7 @@ pub(crate) fn donate_guest(
 }
 
 /// The guest shares a page with the host.
-#[tactic(auto, unfolding(reference_model::specs::Rules::rule))]
+#[tactic(auto, unfolding(reference_model::specs::model::Rules::rule))]
 pub(crate) fn guest_share_host(
     layout: &Layout,
     used: &GhostUsed,
@@ -367,7 +367,7 @@ pub(crate) fn guest_share_host(
 }
 
 /// The guest takes back a page that it shared.
-#[tactic(auto, unfolding(reference_model::specs::Rules::rule))]
+#[tactic(auto, unfolding(reference_model::specs::model::Rules::rule))]
 pub(crate) fn guest_unshare_host(
     layout: &Layout,
     used: &GhostUsed,
@@ -398,7 +398,7 @@ pub(crate) fn guest_unshare_host(
 }
 
 /// The guest becomes Live, with the hand as its root and pool.
-#[tactic(auto, unfolding(reference_model::specs::Rules::rule))]
+#[tactic(auto, unfolding(reference_model::specs::model::Rules::rule))]
 pub(crate) fn install(used: &GhostUsed, slot: Option<u64>) -> Result<Changes, Refusal>
     requires { IsKeptUsed used.now }
     ensures decided { (l : ReferenceLayout) (cpu : ℕ) → result ≡ decides l cpu slot Install (used_in used.now) }
@@ -443,7 +443,7 @@ fn table_count(layout: &Layout, tree: &Tree) -> u64
 
 /// Whether tables, free frames and more of them are more than a guest may have.
 fn are_many(tables: u64, free: usize, more: u64) -> bool
-    ensures { result ≡ nat_lt 512 (tables + free + more) }
+    ensures { result ≡ not (nat_le (tables + free + more) 512) }
 {
     tables > MOST_FRAMES
         || free as u64 > MOST_FRAMES
@@ -452,7 +452,7 @@ fn are_many(tables: u64, free: usize, more: u64) -> bool
 }
 
 /// The guest's pool gets the hand.
-#[tactic(auto, unfolding(reference_model::specs::Rules::rule))]
+#[tactic(auto, unfolding(reference_model::specs::model::Rules::rule))]
 pub(crate) fn topup(
     layout: &Layout,
     used: &GhostUsed,
@@ -505,7 +505,7 @@ fn reclaimed(entry: Entry) -> Entry
 }
 
 /// The host gets a page of a Dying guest back.
-#[tactic(auto, unfolding(reference_model::specs::Rules::rule))]
+#[tactic(auto, unfolding(reference_model::specs::model::Rules::rule))]
 pub(crate) fn reclaim_page(
     layout: &Layout,
     used: &GhostUsed,
@@ -543,7 +543,7 @@ fn least(guest: &GhostGuest) -> u64
 }
 
 /// The host gets a frame of a Dying guest's pool back.
-#[tactic(auto, unfolding(reference_model::specs::Rules::rule))]
+#[tactic(auto, unfolding(reference_model::specs::model::Rules::rule))]
 pub(crate) fn reclaim_pool(
     used: &GhostUsed,
     slot: Option<u64>,
@@ -594,7 +594,7 @@ fn root_of(layout: &Layout, guest: &GhostGuest) -> u64
 }
 
 /// The host gets the root of a Dying guest back, which is then Empty.
-#[tactic(auto, unfolding(reference_model::specs::Rules::rule))]
+#[tactic(auto, unfolding(reference_model::specs::model::Rules::rule))]
 pub(crate) fn finish_guest(
     layout: &Layout,
     used: &GhostUsed,
@@ -618,7 +618,7 @@ pub(crate) fn finish_guest(
 }
 
 /// The guest may do more with a page that it borrows.
-#[tactic(auto, unfolding(reference_model::specs::Rules::rule))]
+#[tactic(auto, unfolding(reference_model::specs::model::Rules::rule))]
 pub(crate) fn guest_relax(
     layout: &Layout,
     used: &GhostUsed,
@@ -647,7 +647,7 @@ pub(crate) fn guest_relax(
 }
 
 /// The guest's entry of a page.
-#[tactic(auto, unfolding(reference_model::specs::Rules::rule))]
+#[tactic(auto, unfolding(reference_model::specs::model::Rules::rule))]
 pub(crate) fn guest_translate(
     layout: &Layout,
     used: &GhostUsed,
@@ -672,7 +672,7 @@ pub(crate) fn guest_translate(
 }
 
 /// A Live guest becomes Dying.
-#[tactic(auto, unfolding(reference_model::specs::Rules::rule))]
+#[tactic(auto, unfolding(reference_model::specs::model::Rules::rule))]
 pub(crate) fn mark_dying(used: &GhostUsed, slot: Option<u64>) -> Result<Changes, Refusal>
     requires { IsKeptUsed used.now }
     ensures decided { (l : ReferenceLayout) (cpu : ℕ) → result ≡ decides l cpu slot MarkDying (used_in used.now) }
@@ -683,7 +683,7 @@ pub(crate) fn mark_dying(used: &GhostUsed, slot: Option<u64>) -> Result<Changes,
     }
     Ok(Changes {
         part: GuestChange::Die,
-        cpu: moved_on(Stage::DyingVm, &used.own),
+        cpu: moved_on(Stage::Dying, &used.own),
         ..Changes::NONE
     })
 }

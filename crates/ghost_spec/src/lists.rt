@@ -1,7 +1,7 @@
 //! What a reference state is made of, as plain lists, and the reference step on them.
 ghost use Rattle.std.specs.Prelude.{◌≡◌, ℕ, ◌-◌, ◌<◌, ◌&&◌, ◌||◌, ◌==◌, IfOk, OnOk, if◌then◌else◌, is_some, length};
 ghost use Rattle.page_state.specs.LayoutView.{layout_of};
-ghost use Rattle.reference_model.specs.Step.{foretell};
+ghost use Rattle.reference_model.specs.model.Step.{foretell};
 
 use crate::answer::answer;
 use crate::both::both;
@@ -39,7 +39,7 @@ pub struct GhostLists {
     pub rooms: GhostRooms,
 }
 
-ghost use Rattle.reference_model.specs.Used.{room_at};
+ghost use Rattle.reference_model.specs.model.Used.{room_at};
 ghost use Rattle.ghost_spec.specs.Kept.{IsLowSlot};
 ghost use Rattle.ghost_spec.specs.States.{ghost_state, rooms_in, IsKept};
 ghost use Rattle.ghost_spec.specs.Used.{rooms_of};
@@ -113,10 +113,10 @@ impl GhostRooms {
 
 impl GhostLists {
     ghost use Rattle.page_state.specs.LayoutView.{layout_of};
-    ghost use Rattle.reference_model.specs.Parts.{uses_vms as uses_vms_of};
-    ghost use Rattle.reference_model.specs.Rules.{names};
-    ghost use Rattle.reference_model.specs.Step.{foretell, is_full as is_full_of};
-    ghost use Rattle.reference_model.specs.Used.{put_back as put_back_of, rooms_of as rooms_of_state};
+    ghost use Rattle.reference_model.specs.model.Parts.{uses_vms as uses_vms_of};
+    ghost use Rattle.reference_model.specs.model.Rules.{names};
+    ghost use Rattle.reference_model.specs.model.Step.{foretell, is_full as is_full_of};
+    ghost use Rattle.reference_model.specs.model.Used.{put_back as put_back_of, rooms_of as rooms_of_state};
     ghost use Rattle.std.specs.Prelude.{length, true};
     ghost use Rattle.ghost_spec.specs.Kept.{HasNextGeneration, IsLowSlot};
     ghost use Rattle.ghost_spec.specs.States.{contents_in, ghost_state, IsKept};

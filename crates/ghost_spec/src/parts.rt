@@ -1,6 +1,6 @@
 //! The VM part's slots and the Guest parts on lists.
 ghost use Rattle.std.specs.Prelude.{◌≡◌, All, IfOk, length, map};
-ghost use Rattle.reference_model.specs.State.{no_guest, no_slot};
+ghost use Rattle.reference_model.specs.model.State.{no_guest, no_slot};
 
 use call_table::VmKind;
 use ghost_trees::tree::Tree;
@@ -66,7 +66,7 @@ impl GhostSlot {
 
 impl GhostGuest {
     ghost use Rattle.std.specs.Prelude.{[]};
-    ghost use Rattle.reference_model.specs.State.{no_guest};
+    ghost use Rattle.reference_model.specs.model.State.{no_guest};
     ghost use Rattle.ghost_spec.specs.Kept.{IsKeptGuest};
     ghost use Rattle.ghost_spec.specs.States.{guest_in};
 

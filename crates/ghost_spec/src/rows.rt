@@ -5,7 +5,7 @@ ghost use Rattle.page_state.specs.Layouts.{is_memory};
 ghost use Rattle.page_state.specs.LayoutView.{layout_of};
 ghost use Rattle.page_state.specs.Regions.{end_of};
 ghost use Rattle.page_state.specs.Rows.{advance_row, HasLentBelow, HasPageBelow};
-ghost use Rattle.reference_model.specs.State.{no_cpu, no_guest};
+ghost use Rattle.reference_model.specs.model.State.{no_cpu, no_guest};
 ghost use Rattle.run_list.specs.Runs.{InReach, AreInReach, IsCoarsest};
 ghost use Rattle.ghost_spec.specs.Kept.{IsKeptGuest, IsKeptShared, IsLowSlot};
 ghost use Rattle.ghost_spec.specs.RowChanges.{AreFoundAfter, AreFoundIn, AreFoundWhere, IsFoundAt, IsFrameSet, IsRangeSet};

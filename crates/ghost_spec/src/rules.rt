@@ -6,9 +6,9 @@ ghost use Rattle.page_state.specs.Layouts.{hyp_page as hyp_page_of};
 ghost use Rattle.page_state.specs.LayoutView.{layout_of};
 ghost use Rattle.page_state.specs.Runs.{map_of};
 ghost use Rattle.page_state.specs.Search.{all_below};
-ghost use Rattle.reference_model.specs.Decides.{decides};
-ghost use Rattle.reference_model.specs.Changes.{change as change_of};
-ghost use Rattle.reference_model.specs.SharedRules.{abort_depth as abort_depth_of, abort_leaf as abort_leaf_of, is_plain as is_plain_of, may_map as may_map_of};
+ghost use Rattle.reference_model.specs.model.Decides.{decides};
+ghost use Rattle.reference_model.specs.model.Changes.{change as change_of};
+ghost use Rattle.reference_model.specs.model.SharedRules.{abort_depth as abort_depth_of, abort_leaf as abort_leaf_of, is_plain as is_plain_of, may_map as may_map_of};
 ghost use Rattle.ghost_spec.specs.Kept.{AreSmallChanges, IsKeptShared};
 ghost use Rattle.ghost_trees.specs.Small.{HasLowFrames};
 ghost use Rattle.ghost_spec.specs.Used.{IsKeptUsed, may_donate_frame as may_donate_frame_of, may_return_frame, used_in};
@@ -61,7 +61,7 @@ fn hyp_entry(shared: &Shared, frame: u64) -> Entry
 }
 
 /// The host shares a frame with the hypervisor.
-#[tactic(auto, unfolding(reference_model::specs::Rules::rule))]
+#[tactic(auto, unfolding(reference_model::specs::model::Rules::rule))]
 pub(crate) fn share_hyp(layout: &Layout, used: &GhostUsed, pfn: u64) -> Result<Changes, Refusal>
     requires { IsKeptUsed used.now }
     ensures decided { (cpu : ℕ) (slot : Option ℕ) → result ≡ decides (layout_of layout.now) cpu slot (ShareHyp pfn) (used_in used.now) }
@@ -82,7 +82,7 @@ pub(crate) fn share_hyp(layout: &Layout, used: &GhostUsed, pfn: u64) -> Result<C
 }
 
 /// The host takes back what it shared with the hypervisor.
-#[tactic(auto, unfolding(reference_model::specs::Rules::rule))]
+#[tactic(auto, unfolding(reference_model::specs::model::Rules::rule))]
 pub(crate) fn unshare_hyp(layout: &Layout, used: &GhostUsed, pfn: u64) -> Result<Changes, Refusal>
     requires { IsKeptUsed used.now }
     ensures decided { (cpu : ℕ) (slot : Option ℕ) → result ≡ decides (layout_of layout.now) cpu slot (UnshareHyp pfn) (used_in used.now) }
@@ -128,7 +128,7 @@ fn may_donate(shared: &Shared, pfn: u64, n: u64) -> bool
 }
 
 /// The host gives a range to the hypervisor.
-#[tactic(auto, unfolding(reference_model::specs::Rules::rule))]
+#[tactic(auto, unfolding(reference_model::specs::model::Rules::rule))]
 pub(crate) fn donate_hyp(
     layout: &Layout,
     used: &GhostUsed,
@@ -188,7 +188,7 @@ fn may_return_all(shared: &Shared, pfn: u64, n: u64) -> bool
 }
 
 /// The hypervisor gives a range back.
-#[tactic(auto, unfolding(reference_model::specs::Rules::rule))]
+#[tactic(auto, unfolding(reference_model::specs::model::Rules::rule))]
 pub(crate) fn hyp_donate_host(
     layout: &Layout,
     used: &GhostUsed,
@@ -273,7 +273,7 @@ fn abort_leaf(region: Region, first: u64) -> Entry
 }
 
 /// The host touches a page that may be unmapped.
-#[tactic(auto, unfolding(reference_model::specs::Rules::rule, reference_model::specs::SharedRules::abort_edit))]
+#[tactic(auto, unfolding(reference_model::specs::model::Rules::rule, reference_model::specs::model::SharedRules::abort_edit))]
 pub(crate) fn host_abort(layout: &Layout, used: &GhostUsed, page: u64) -> Result<Changes, Refusal>
     requires { IsKeptUsed used.now }
     ensures decided { (cpu : ℕ) (slot : Option ℕ) → result ≡ decides (layout_of layout.now) cpu slot (HostAbort page) (used_in used.now) }
@@ -303,7 +303,7 @@ pub(crate) fn host_abort(layout: &Layout, used: &GhostUsed, page: u64) -> Result
 }
 
 /// The host's entry of a page.
-#[tactic(auto, unfolding(reference_model::specs::Rules::rule))]
+#[tactic(auto, unfolding(reference_model::specs::model::Rules::rule))]
 pub(crate) fn host_translate(
     layout: &Layout,
     used: &GhostUsed,
@@ -324,7 +324,7 @@ pub(crate) fn host_translate(
 }
 
 /// The hypervisor's entry of a page.
-#[tactic(auto, unfolding(reference_model::specs::Rules::rule))]
+#[tactic(auto, unfolding(reference_model::specs::model::Rules::rule))]
 pub(crate) fn hyp_translate(
     layout: &Layout,
     used: &GhostUsed,
@@ -345,7 +345,7 @@ pub(crate) fn hyp_translate(
 }
 
 /// The row of a frame.
-#[tactic(auto, unfolding(reference_model::specs::Rules::rule))]
+#[tactic(auto, unfolding(reference_model::specs::model::Rules::rule))]
 pub(crate) fn owner_of(layout: &Layout, used: &GhostUsed, pfn: u64) -> Result<Changes, Refusal>
     ensures decided { (cpu : ℕ) (slot : Option ℕ) → result ≡ decides (layout_of layout.now) cpu slot (OwnerOf pfn) (used_in used.now) }
     ensures small { IfOk result AreSmallChanges }
@@ -361,7 +361,7 @@ pub(crate) fn owner_of(layout: &Layout, used: &GhostUsed, pfn: u64) -> Result<Ch
 }
 
 /// The host gives a range into the CPU's hand.
-#[tactic(auto, unfolding(reference_model::specs::Rules::rule))]
+#[tactic(auto, unfolding(reference_model::specs::model::Rules::rule))]
 pub(crate) fn fund(layout: &Layout, used: &GhostUsed, pfn: u64, n: u64) -> Result<Changes, Refusal>
     requires { IsKeptUsed used.now }
     ensures decided { (cpu : ℕ) (slot : Option ℕ) → result ≡ decides (layout_of layout.now) cpu slot (Fund pfn n) (used_in used.now) }
@@ -394,7 +394,7 @@ pub(crate) fn fund(layout: &Layout, used: &GhostUsed, pfn: u64, n: u64) -> Resul
 }
 
 /// The CPU's hand goes back to the host.
-#[tactic(auto, unfolding(reference_model::specs::Rules::rule))]
+#[tactic(auto, unfolding(reference_model::specs::model::Rules::rule))]
 pub(crate) fn unfund(layout: &Layout, used: &GhostUsed) -> Result<Changes, Refusal>
     requires { IsKeptUsed used.now }
     ensures decided { (cpu : ℕ) (slot : Option ℕ) → result ≡ decides (layout_of layout.now) cpu slot Unfund (used_in used.now) }

@@ -1,8 +1,8 @@
 //! The Shared part on lists: its state, and what a change does to it.
 ghost use Rattle.std.specs.Prelude.{◌≡◌, ◌+◌, ◌≤◌, ◌||◌, IfOk, OnOk, drop, length, nat_lt};
 ghost use Rattle.page_state.specs.Tables.{need as need_of, returned as returned_of, edited as edited_of};
-ghost use Rattle.reference_model.specs.Changes.{edit_of};
-ghost use Rattle.reference_model.specs.Step.{shared_after, shared_need};
+ghost use Rattle.reference_model.specs.model.Changes.{edit_of};
+ghost use Rattle.reference_model.specs.model.Step.{shared_after, shared_need};
 
 use crate::both::both;
 use crate::rows::copied_rows;
@@ -33,7 +33,7 @@ ghost use Rattle.ghost_trees.specs.Trees.{tree_in_lists};
 ghost use Rattle.ghost_spec.specs.Views.{shared_in_lists};
 
 impl Shared {
-    ghost use Rattle.reference_model.specs.State.{no_shared};
+    ghost use Rattle.reference_model.specs.model.State.{no_shared};
     ghost use Rattle.ghost_spec.specs.Kept.{IsKeptShared};
     ghost use Rattle.ghost_spec.specs.Views.{shared_in_lists};
 

@@ -1,8 +1,8 @@
 //! The state at boot.
 ghost use Rattle.std.specs.Prelude.{◌≡◌, ◌<◌, ◌↔◌, All, IfOk, IfSome, IsSome, length};
 ghost use Rattle.page_state.specs.LayoutView.{layout_of};
-ghost use Rattle.reference_model.specs.Boot.{boot as boot_of, booted, IsCarveEnough};
-ghost use Rattle.reference_model.specs.State.{no_cpu};
+ghost use Rattle.reference_model.specs.model.Boot.{boot as boot_of, booted, IsCarveEnough};
+ghost use Rattle.reference_model.specs.model.State.{no_cpu};
 ghost use Rattle.ghost_spec.specs.Kept.{IsKeptShared};
 ghost use Rattle.ghost_spec.specs.States.{ghost_state, AreKeptCpus};
 ghost use Rattle.ghost_spec.specs.Views.{cpu_in, shared_in_lists};

@@ -1,9 +1,9 @@
 //! What a call uses, on lists.
 ghost use Rattle.std.specs.Prelude.{◌≡◌, ℕ, ◌-◌, IfOk, if◌then◌else◌, length, false, true};
-ghost use Rattle.reference_model.specs.Parts.{uses_shared as uses_shared_of, uses_vms as uses_vms_of};
-ghost use Rattle.reference_model.specs.Rules.{names};
-ghost use Rattle.reference_model.specs.State.{no_shared, no_vms, Guest};
-ghost use Rattle.reference_model.specs.Used.{guest_at, put_guest as put_guest_of, put_room, room_at};
+ghost use Rattle.reference_model.specs.model.Parts.{uses_shared as uses_shared_of, uses_vms as uses_vms_of};
+ghost use Rattle.reference_model.specs.model.Rules.{names};
+ghost use Rattle.reference_model.specs.model.State.{no_shared, no_vms, Guest};
+ghost use Rattle.reference_model.specs.model.Used.{guest_at, put_guest as put_guest_of, put_room, room_at};
 ghost use Rattle.ghost_spec.specs.Kept.{IsKeptGuest, IsKeptShared, IsLowSlot};
 ghost use Rattle.ghost_spec.specs.States.{guest_in, AreKeptGuests};
 ghost use Rattle.ghost_spec.specs.Used.{guests_in, rooms_of, vms_in};
@@ -42,7 +42,7 @@ pub(crate) fn used_vms(
     }
 }
 
-/// The Shared part is taken out where a call uses it, and else left: what is taken is blank then.
+/// The Shared part is taken out if a call uses it, otherwise left: the taken one is blank then.
 pub(crate) fn take_shared(
     alloc: Global,
     shared: &mut Shared,

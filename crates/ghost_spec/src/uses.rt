@@ -1,8 +1,8 @@
 //! What a step uses: the slot of its guest, and whether it uses the VM part and the Shared part.
 ghost use Rattle.std.specs.Prelude.{◌≡◌, ◌<◌};
-ghost use Rattle.reference_model.specs.GuestRules.{ticket_kind as ticket_kind_of, ticket_vm as ticket_vm_of};
-ghost use Rattle.reference_model.specs.Parts.{has_stage as has_stage_of, loaded_slot as loaded_slot_of, slot_of as slot_of_vm, ticket_slot as ticket_slot_of, uses_shared as uses_shared_of, uses_vms as uses_vms_of};
-ghost use Rattle.reference_model.specs.Rules.{guest_slot as guest_slot_of, names};
+ghost use Rattle.reference_model.specs.model.GuestRules.{ticket_kind as ticket_kind_of, ticket_vm as ticket_vm_of};
+ghost use Rattle.reference_model.specs.model.Parts.{has_stage as has_stage_of, loaded_slot as loaded_slot_of, slot_of as slot_of_vm, ticket_slot as ticket_slot_of, uses_shared as uses_shared_of, uses_vms as uses_vms_of};
+ghost use Rattle.reference_model.specs.model.Rules.{guest_slot as guest_slot_of, names};
 ghost use Rattle.ghost_spec.specs.Kept.{IsKeptCpu, IsLowSlot};
 ghost use Rattle.ghost_spec.specs.Views.{cpu_in};
 
@@ -99,8 +99,8 @@ pub(crate) fn guest_slot(own: &GhostCpu, step: Step) -> Option<u64>
         | Step::ReclaimPool { vm }
         | Step::GuestTranslate { vm, .. } => slot_of(vm),
         Step::Install => ticket_slot(Stage::Booked, own),
-        Step::MarkDying => ticket_slot(Stage::ClosingVm, own),
-        Step::FinishGuest => ticket_slot(Stage::DyingVm, own),
+        Step::MarkDying => ticket_slot(Stage::Closing, own),
+        Step::FinishGuest => ticket_slot(Stage::Dying, own),
         _ => None,
     }
 }

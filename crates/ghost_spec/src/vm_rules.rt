@@ -3,11 +3,11 @@ ghost use Rattle.std.specs.Prelude.{◌≡◌, ℕ, ◌<◌, ◌&&◌, ◌||◌,
 ghost use Rattle.call_table.specs.declared.step.Step.TheVariants.{VmReserve, VmOpen, VcpuLoad, VcpuPut, Teardown, VmRelease};
 ghost use Rattle.page_state.specs.Layouts.{Layout as ReferenceLayout};
 ghost use Rattle.reference_model.specs.declared.changes.Update.TheVariants.{Becomes};
-ghost use Rattle.reference_model.specs.Decides.{decides};
-ghost use Rattle.reference_model.specs.Changes.{same_cpu};
-ghost use Rattle.reference_model.specs.Parts.{has_stage as has_stage_of};
-ghost use Rattle.reference_model.specs.State.{vacant};
-ghost use Rattle.reference_model.specs.VmRules.{is_any_loaded as is_any_loaded_of, is_open as is_open_of, load_becomes, load_of as load_of_cpu, stand_eq, vacant_slot as vacant_slot_of};
+ghost use Rattle.reference_model.specs.model.Decides.{decides};
+ghost use Rattle.reference_model.specs.model.Changes.{same_cpu};
+ghost use Rattle.reference_model.specs.model.Parts.{has_stage as has_stage_of};
+ghost use Rattle.reference_model.specs.model.State.{vacant};
+ghost use Rattle.reference_model.specs.model.VmRules.{is_any_loaded as is_any_loaded_of, is_open as is_open_of, load_becomes, load_of as load_of_cpu, stand_eq, vacant_slot as vacant_slot_of};
 ghost use Rattle.ghost_spec.specs.Kept.{AreSmallChanges, HasNextGeneration, IsKeptCpu};
 ghost use Rattle.ghost_spec.specs.States.{slot_in};
 ghost use Rattle.ghost_spec.specs.Used.{IsKeptUsed, used_in, vms_in};
@@ -130,7 +130,7 @@ fn is_good_count(vcpus: u64) -> bool
 }
 
 /// A slot is reserved: the lowest Empty one.
-#[tactic(auto, unfolding(reference_model::specs::Rules::rule))]
+#[tactic(auto, unfolding(reference_model::specs::model::Rules::rule))]
 pub(crate) fn vm_reserve(used: &GhostUsed, kind: VmKind, vcpus: u64) -> Result<Changes, Refusal>
     requires { length used.now.vms.items ≡ 64 }
     ensures decided { (l : ReferenceLayout) (cpu : ℕ) (slot : Option ℕ) → result ≡ decides l cpu slot (VmReserve kind vcpus) (used_in used.now) }
@@ -162,7 +162,7 @@ pub(crate) fn vm_reserve(used: &GhostUsed, kind: VmKind, vcpus: u64) -> Result<C
 }
 
 /// An installed VM opens.
-#[tactic(auto, unfolding(reference_model::specs::Rules::rule))]
+#[tactic(auto, unfolding(reference_model::specs::model::Rules::rule))]
 pub(crate) fn vm_open(used: &GhostUsed) -> Result<Changes, Refusal>
     requires { IsKeptUsed used.now }
     ensures decided { (l : ReferenceLayout) (cpu : ℕ) (slot : Option ℕ) → result ≡ decides l cpu slot VmOpen (used_in used.now) }
@@ -181,7 +181,7 @@ pub(crate) fn vm_open(used: &GhostUsed) -> Result<Changes, Refusal>
 }
 
 /// The CPU loads a vCPU.
-#[tactic(auto, unfolding(reference_model::specs::Rules::rule))]
+#[tactic(auto, unfolding(reference_model::specs::model::Rules::rule))]
 pub(crate) fn vcpu_load(used: &GhostUsed, cpu: u64, vm: VmId, vcpu: u64) -> Result<Changes, Refusal>
     requires { nat_lt vm.slot 64 ≡ true → length used.now.vms.items ≡ 64 }
     ensures decided { (l : ReferenceLayout) (slot : Option ℕ) → result ≡ decides l cpu slot (VcpuLoad vm vcpu) (used_in used.now) }
@@ -212,7 +212,7 @@ pub(crate) fn vcpu_load(used: &GhostUsed, cpu: u64, vm: VmId, vcpu: u64) -> Resu
 }
 
 /// The CPU puts its vCPU back.
-#[tactic(auto, unfolding(reference_model::specs::Rules::rule))]
+#[tactic(auto, unfolding(reference_model::specs::model::Rules::rule))]
 pub(crate) fn vcpu_put(used: &GhostUsed) -> Result<Changes, Refusal>
     requires { IsKeptUsed used.now }
     ensures decided { (l : ReferenceLayout) (cpu : ℕ) (slot : Option ℕ) → result ≡ decides l cpu slot VcpuPut (used_in used.now) }
@@ -233,7 +233,7 @@ pub(crate) fn vcpu_put(used: &GhostUsed) -> Result<Changes, Refusal>
 }
 
 /// An Open VM closes.
-#[tactic(auto, unfolding(reference_model::specs::Rules::rule))]
+#[tactic(auto, unfolding(reference_model::specs::model::Rules::rule))]
 pub(crate) fn teardown(used: &GhostUsed, vm: VmId) -> Result<Changes, Refusal>
     requires { nat_lt vm.slot 64 ≡ true → length used.now.vms.items ≡ 64 }
     ensures decided { (l : ReferenceLayout) (cpu : ℕ) (slot : Option ℕ) → result ≡ decides l cpu slot (Teardown vm) (used_in used.now) }
@@ -254,7 +254,7 @@ pub(crate) fn teardown(used: &GhostUsed, vm: VmId) -> Result<Changes, Refusal>
         cpu: ticket_becomes(Some(Ticket {
             vm,
             kind: slot.kind,
-            stage: Stage::ClosingVm,
+            stage: Stage::Closing,
         })),
         ..Changes::NONE
     })
@@ -268,7 +268,7 @@ fn is_at_end(own: &GhostCpu) -> bool
 }
 
 /// The slot of a ticket becomes Empty.
-#[tactic(auto, unfolding(reference_model::specs::Rules::rule))]
+#[tactic(auto, unfolding(reference_model::specs::model::Rules::rule))]
 pub(crate) fn vm_release(used: &GhostUsed) -> Result<Changes, Refusal>
     requires kept { IsKeptUsed used.now }
     requires generation { HasNextGeneration used.now.own.ticket VmRelease }

@@ -1,7 +1,7 @@
 //! What a change does to the slots of the VM part.
 ghost use Rattle.std.specs.Prelude.{◌≡◌, ℕ, ◌+◌, ◌^◌, ◌<◌, None, OnOk, length, get_or};
-ghost use Rattle.reference_model.specs.Changes.{vms_by};
-ghost use Rattle.reference_model.specs.State.{closing, no_slot, opened, put_at, reserved};
+ghost use Rattle.reference_model.specs.model.Changes.{vms_by};
+ghost use Rattle.reference_model.specs.model.State.{closing, no_slot, opened, put_at, reserved};
 ghost use Rattle.ghost_spec.specs.Kept.{FitsSlots};
 ghost use Rattle.ghost_spec.specs.States.{slot_in};
 ghost use Rattle.ghost_spec.specs.Used.{vms_in};

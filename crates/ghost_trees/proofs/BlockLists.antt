@@ -1,5 +1,5 @@
 -- The blocks that meet a range, page by page.
-use Rattle.std.proofs.Common.{◌≡◌, ℕ, zero, suc, ◌+◌, ◌-◌, ◌/◌, ◌^◌, ◌<◌, ◌≤◌, Bool, true, false, ◌==◌, ◌||◌, List, [], ◌∷◌, ◌++◌, filter, All, refl, sym, ap, ◌∙◌, arith, append_assoc, append-nil}
+use Rattle.std.proofs.Common.{◌≡◌, ℕ, zero, suc, ◌+◌, ◌-◌, ◌*◌, ◌/◌, ◌%◌, ◌^◌, ◌<◌, ◌≤◌, min, Bool, true, false, ◌==◌, ◌||◌, List, [], ◌∷◌, ◌++◌, filter, All, refl, sym, ap, ◌∙◌, arith, append_assoc, append-nil}
 use Rattle.std.proofs.lemmas.List.Elements.{All-append, All-nil, All-cons, All-filter}
 use Rattle.std.proofs.lemmas.Bool.Decides.{nat_tests}
 use Rattle.std.proofs.Math.Nat.{div-mul-le_self}
@@ -31,6 +31,56 @@ on_more top first (suc n) =
     let f : suc n + 1 ≡ suc (n + 1) = omega arith in
     let z : (suc n == 0) ≡ false = grind (arith, nat_tests) in
     rw (e, f, z) (append_assoc (blocks_with top first) (blocks_along top (first + 1) n) (blocks_from top (first + 1 + n)) ∙ ap (λ xs. blocks_with top first ++ xs) (along_more top (first + 1) n))
+
+-- between multiples of 512 no block begins
+aligned : (d page : ℕ) → d < 3 → page / block_pages (suc d) * block_pages (suc d) ≡ page → page % 512 ≡ 0
+aligned zero page h e = omega arith
+aligned (suc zero) page h e = omega arith
+aligned (suc (suc zero)) page h e = omega arith
+aligned (suc (suc (suc d))) page h e = omega arith
+
+none_begins : (d page : ℕ) → d < 3 → 0 < page % 512 → (false || first_page (block_at (suc d) page) == page) ≡ false
+none_begins d page h k = grind (arith, nat_tests, aligned d page h)
+
+none_met : (top page : ℕ) → top ≤ 3 → 0 < page % 512 → met false top page ≡ []
+none_met zero page h k = refl
+none_met (suc d) page h k = rw (none_begins d page (omega arith) k) (none_met d page (omega arith) k)
+
+on_skip : (top first n m : ℕ) → top ≤ 3 → 0 < n → ((k : ℕ) → k < m → 0 < (first + n + k) % 512) → blocks_on top first (n + m) ≡ blocks_on top first n
+on_skip top first n zero h some off = let e : n + 0 ≡ n = omega arith in rw e refl
+on_skip top first n (suc m) h some off =
+    let e : n + suc m ≡ n + 1 + m = omega arith in
+    let z : (n == 0) ≡ false = grind (arith, nat_tests) in
+    let a : first + n + 0 ≡ first + n = omega arith in
+    let one : 0 < (first + n) % 512 = rw a at (off 0 (omega arith)) in
+    let more = on_more top first n in
+    let same : blocks_on top first n ≡ blocks_on top first (n + 1) = sym (append-nil (blocks_on top first n)) ∙ (rw (z, none_met top (first + n) h one) at more) in
+    let rest : (k : ℕ) → k < m → 0 < (first + (n + 1) + k) % 512 = λ k less. (let b : first + n + suc k ≡ first + (n + 1) + k = omega arith in rw b at (off (suc k) (omega arith))) in
+    rw e (on_skip top first (n + 1) m h (omega arith) rest ∙ sym same)
+
+-- the first page, and what begins at the next multiples of 512
+
+pub on_first : (top first count : ℕ) → top ≤ 3 → 0 < count → met true top first ≡ blocks_on top first (min ((first / 512 + 1) * 512 - first) count)
+unfolding blocks_on
+on_first top first count h some =
+    let n : ℕ = min ((first / 512 + 1) * 512 - first) count in
+    let e : 1 + (n - 1) ≡ n = omega arith in
+    let off : (k : ℕ) → k < n - 1 → 0 < (first + 1 + k) % 512 = λ k less. omega arith in
+    let one = on_more top first 0 in
+    let a : first + 0 ≡ first = omega arith in
+    (rw a at one) ∙ sym (on_skip top first 1 (n - 1) h (omega arith) off) ∙ ap (λ x. blocks_on top first x) e
+
+pub on_next : (top first count i : ℕ) → top ≤ 3 → first / 512 + 1 ≤ i → i * 512 < first + count → blocks_on top first (min (i * 512 - first) count) ++ met false top (i * 512) ≡ blocks_on top first (min ((i + 1) * 512 - first) count)
+on_next top first count i h after less =
+    let n : ℕ = i * 512 - first in
+    let m : ℕ = min ((i + 1) * 512 - first) count in
+    let a : min (i * 512 - first) count ≡ n = omega arith in
+    let b : first + n ≡ i * 512 = omega arith in
+    let z : (n == 0) ≡ false = grind (arith, nat_tests) in
+    let e : n + 1 + (m - (n + 1)) ≡ m = omega arith in
+    let off : (k : ℕ) → k < m - (n + 1) → 0 < (first + (n + 1) + k) % 512 = λ k less. omega arith in
+    let more = on_more top first n in
+    rw a ((rw (b, z) at more) ∙ sym (on_skip top first (n + 1) (m - (n + 1)) h (omega arith) off) ∙ ap (λ x. blocks_on top first x) e)
 
 -- one depth more
 module _ (all : Bool) (page top i : ℕ) (within : i < top) (items : List Block) where

@@ -1,4 +1,4 @@
--- The tree that lists of runs and of tables stand for.
+-- The tree that lists of runs and of tables represent.
 use Rattle.std.specs.Prelude.{ℕ, Bool, true, false, not, is_some, ◌^◌, ◌≤◌, List, [], ◌∷◌, Option, Some, None, if◌then◌else◌}
 use Rattle.std.specs.List.{list_any}
 use Rattle.page_state.specs.Trees.{Block, Tree}

@@ -23,8 +23,15 @@ pub(crate) fn blocks_on(alloc: Global, top: u64, range: PageRange) -> Result<Vec
     ensures low { IfOk result (λ v. All IsLowBlock v.items) }
 {
     let mut blocks = Vec::new(alloc);
-    for i in 0..range.count {
-        push_blocks(&mut blocks, top, range.first.0 + i, i == 0)?;
+    if range.count == 0 {
+        return Ok(blocks);
+    }
+    let first = range.first.0;
+    push_blocks(&mut blocks, top, first, true)?;
+    // After the first page, blocks begin only at multiples of 512 pages.
+    let last = (first + range.count - 1) / 512;
+    for i in first / 512 + 1..last + 1 {
+        push_blocks(&mut blocks, top, i * 512, false)?;
     }
     Ok(blocks)
 }

@@ -7,7 +7,7 @@ use Rattle.page_state.specs.Geometries.{block_pages}
 use Rattle.page_state.specs.Search.{count_below}
 use Rattle.page_state.specs.Trees.{Block}
 use Rattle.page_state.proofs.Sizes.{size_step}
-use Rattle.reference_model.specs.Owner.{count_blocks}
+use Rattle.reference_model.specs.model.Owner.{count_blocks}
 use Rattle.table_tree.specs.AllBlocks.{gathered, blocks_in}
 use Rattle.table_tree.proofs.Joined.{joined_start, joined_more, joined_none}
 

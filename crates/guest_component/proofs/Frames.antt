@@ -6,8 +6,8 @@ use Rattle.std.specs.declared.boxed.Box.{Box}
 use Rattle.page_state.specs.Counts.{frame_count, is_one}
 use Rattle.page_state.specs.Geometries.{levels_below}
 use Rattle.page_state.proofs.Counts.{count_next}
-use Rattle.reference_model.specs.Conditions.{table_uses}
-use Rattle.reference_model.specs.Owner.{count_blocks, is_frame}
+use Rattle.reference_model.specs.help.Conditions.{table_uses}
+use Rattle.reference_model.specs.model.Owner.{count_blocks, is_frame}
 use Rattle.table_tree.specs.AllBlocks.{all_blocks}
 use Rattle.table_tree.specs.declared.table.Table.{Table}
 use Rattle.table_tree.specs.declared.table.Slot.TheVariants.{Child}

@@ -11,7 +11,7 @@ use Rattle.page_state.proofs.Cases.{by_lt, by_test}
 use Rattle.hyp_pool.specs.Pools.{StoredFrames}
 use Rattle.hyp_pool.proofs.Counts.{count_contains, count_once, all_given_count, all_given_length}
 use Rattle.hyp_pool.proofs.Order.{rising_frames, length-frames_from}
-use Rattle.reference_model.specs.Changes.{frames_in}
+use Rattle.reference_model.specs.model.Changes.{frames_in}
 use Rattle.reference_model.proofs.Frames.{contains-frames}
 use Rattle.table_tree.specs.declared.tree.Tree.{Tree as TableTree}
 use Rattle.table_tree.specs.View.{uses, tables_of}

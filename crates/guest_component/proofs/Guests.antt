@@ -17,12 +17,12 @@ use Rattle.reference_model.specs.declared.changes.Changes.{Changes}
 use Rattle.reference_model.specs.declared.changes.GuestChange.{GuestChange}
 use Rattle.reference_model.specs.declared.changes.GuestChange.TheVariants.{Keep, Install, Gain, LoseLowest, Die, Empty}
 use Rattle.reference_model.specs.declared.changes.MapChange.{MapChange}
-use Rattle.reference_model.specs.ChangeLaws.{CanGain}
-use Rattle.reference_model.specs.Changes.{edit_of, guest_by}
-use Rattle.reference_model.specs.Conditions.{table_uses}
-use Rattle.reference_model.specs.Owner.{count_blocks}
-use Rattle.reference_model.specs.State.{Guest, Phase, empty, no_guest}
-use Rattle.reference_model.specs.Step.{guest_after, guest_need}
+use Rattle.reference_model.specs.help.ChangeLaws.{CanGain}
+use Rattle.reference_model.specs.model.Changes.{edit_of, guest_by}
+use Rattle.reference_model.specs.help.Conditions.{table_uses}
+use Rattle.reference_model.specs.model.Owner.{count_blocks}
+use Rattle.reference_model.specs.model.State.{Guest, Phase, empty, no_guest}
+use Rattle.reference_model.specs.model.Step.{guest_after, guest_need}
 use Rattle.table_tree.specs.declared.tree.Tree.{Tree as TableTree}
 use Rattle.table_tree.specs.View.{tree_of}
 use Rattle.table_tree.proofs.Same.{same_uses, same_count}

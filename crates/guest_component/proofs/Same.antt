@@ -4,7 +4,7 @@ use Rattle.page_state.specs.Tables.{need, returned, edited}
 use Rattle.page_state.specs.Geometries.{levels_below}
 use Rattle.page_state.proofs.Edits.{edited_take}
 use Rattle.reference_model.specs.declared.changes.MapChange.{MapChange}
-use Rattle.reference_model.specs.Changes.{edit_of}
+use Rattle.reference_model.specs.model.Changes.{edit_of}
 use Rattle.table_tree.specs.declared.tree.Tree.{Tree as TableTree}
 use Rattle.table_tree.specs.View.{tree_of}
 use Rattle.table_tree.proofs.Same.{by_views}

@@ -3,7 +3,7 @@ use Rattle.std.specs.Prelude.{◌≡◌, Option, Some, None}
 use Rattle.std.specs.Coded.{Unit-prop}
 use Rattle.std.proofs.Props.{props}
 use Rattle.page_state.specs.declared.layout.Geometry.{Geometry}
-use Rattle.reference_model.specs.State.{Guest, Phase, live, dying}
+use Rattle.reference_model.specs.model.State.{Guest, Phase, live, dying}
 use Rattle.table_tree.specs.View.{tree_of}
 use Rattle.guest_component.specs.declared.body.Body.{Body}
 use Rattle.guest_component.specs.declared.body.Phase.{Phase as BodyPhase}

@@ -10,9 +10,9 @@ use Rattle.reference_model.specs.declared.changes.Changes.{Changes}
 use Rattle.reference_model.specs.declared.changes.GuestChange.{GuestChange}
 use Rattle.reference_model.specs.declared.changes.GuestChange.TheVariants.{Install, Gain, Empty}
 use Rattle.reference_model.specs.declared.changes.MapChange.{MapChange}
-use Rattle.reference_model.specs.ChangeLaws.{FitsWhere, FitsPart}
-use Rattle.reference_model.specs.Changes.{edit_of}
-use Rattle.reference_model.specs.State.{Guest, empty}
+use Rattle.reference_model.specs.help.ChangeLaws.{FitsWhere, FitsPart}
+use Rattle.reference_model.specs.model.Changes.{edit_of}
+use Rattle.reference_model.specs.model.State.{Guest, empty}
 use Rattle.table_tree.specs.declared.tree.Tree.{Tree as TableTree}
 use Rattle.table_tree.specs.View.{uses, tables_of}
 

@@ -4,7 +4,7 @@ use Rattle.component.specs.declared.Plan.{Plan}
 use Rattle.component.specs.View.{HasRoomFor, need_for}
 use Rattle.hyp_pool.specs.Pools.{StoredFrames, IsPool}
 use Rattle.reference_model.specs.declared.changes.MapChange.{MapChange}
-use Rattle.reference_model.specs.State.{Guest}
+use Rattle.reference_model.specs.model.State.{Guest}
 use Rattle.table_tree.specs.Stocks.{frames_of}
 use Rattle.guest_component.specs.declared.body.Body.{Body}
 use Rattle.guest_component.specs.Bodies.{body_of}

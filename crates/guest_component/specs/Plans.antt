@@ -1,4 +1,4 @@
--- What a change of a guest needs, and what is ready for it.
+-- The tables that a change of a guest needs, and those that are ready for it.
 use Rattle.std.specs.Prelude.{◌≡◌, Option, Some, None}
 use Rattle.component.specs.declared.Plan.{Plan}
 use Rattle.page_state.specs.declared.layout.Geometry.{Geometry}
@@ -7,8 +7,8 @@ use Rattle.reference_model.specs.declared.changes.Changes.{Changes}
 use Rattle.reference_model.specs.declared.changes.GuestChange.{GuestChange}
 use Rattle.reference_model.specs.declared.changes.GuestChange.TheVariants.{Install}
 use Rattle.reference_model.specs.declared.changes.MapChange.{MapChange}
-use Rattle.reference_model.specs.Changes.{guest_by}
-use Rattle.reference_model.specs.State.{Guest, no_guest}
+use Rattle.reference_model.specs.model.Changes.{guest_by}
+use Rattle.reference_model.specs.model.State.{Guest, no_guest}
 use Rattle.guest_component.specs.declared.body.Body.{Body}
 use Rattle.guest_component.specs.declared.guest.Guest.{Guest as GuestComponent}
 use Rattle.guest_component.specs.declared.guest.GuestPlan.{GuestPlan}
@@ -23,7 +23,7 @@ IsMadeFor geometry (Install kind generation hand) None = ⊥
 IsMadeFor geometry (Install kind generation hand) (Some b) = (body_of b ≡ guest_by (levels_below geometry) (Install kind generation hand) no_guest) × (b.map.tree.geometry ≡ geometry)
 IsMadeFor geometry other o = Unit {0}
 
--- a plan of the map's change is there just where a guest is, and is for it as it stands
+-- there is a plan of the map's change exactly if there is a guest, and it is for its present tree
 abbrev pub IsMapInHand : {A : Type 0} → Option (Body A) → Option (Plan A) → Type 0
 IsMapInHand None None = Unit {0}
 IsMapInHand (Some b) (Some p) = IsInHand p.change b p

@@ -2,7 +2,7 @@
 use Rattle.std.specs.Prelude.{ℕ, List, [], Option, Some, None}
 use Rattle.page_state.specs.declared.entry.Run.{Run}
 use Rattle.page_state.specs.Geometries.{levels_below}
-use Rattle.reference_model.specs.State.{Guest, no_guest}
+use Rattle.reference_model.specs.model.State.{Guest, no_guest}
 use Rattle.table_tree.specs.View.{spares_of}
 use Rattle.guest_component.specs.declared.body.Body.{Body}
 use Rattle.guest_component.specs.declared.guest.Guest.{Guest as GuestComponent}

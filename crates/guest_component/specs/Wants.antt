@@ -5,7 +5,7 @@ use Rattle.reference_model.specs.declared.changes.Changes.{Changes}
 use Rattle.reference_model.specs.declared.changes.GuestChange.{GuestChange}
 use Rattle.reference_model.specs.declared.changes.GuestChange.TheVariants.{Install}
 use Rattle.reference_model.specs.declared.changes.MapChange.{MapChange}
-use Rattle.reference_model.specs.Step.{guest_need}
+use Rattle.reference_model.specs.model.Step.{guest_need}
 use Rattle.table_tree.specs.View.{spares_of}
 use Rattle.guest_component.specs.declared.body.Body.{Body}
 use Rattle.guest_component.specs.declared.guest.Guest.{Guest as GuestComponent}

@@ -45,9 +45,9 @@ impl<A: Allocator> Body<A> {
     ghost use Rattle.page_state.specs.Layouts.{Layout};
     ghost use Rattle.page_state.specs.Regions.{end_of, is_in_range};
     ghost use Rattle.page_state.specs.Search.{all_below};
-    ghost use Rattle.reference_model.specs.Changes.{guest_by};
-    ghost use Rattle.reference_model.specs.GuestRules.{guest_table_count, is_guest};
-    ghost use Rattle.reference_model.specs.State.{Guest as ReferenceGuest};
+    ghost use Rattle.reference_model.specs.model.Changes.{guest_by};
+    ghost use Rattle.reference_model.specs.model.GuestRules.{guest_table_count, is_guest};
+    ghost use Rattle.reference_model.specs.model.State.{Guest as ReferenceGuest};
     ghost use Rattle.reference_model.specs.declared.changes.GuestChange.TheVariants.{Die, Gain, Install, LoseLowest};
     ghost use Rattle.table_tree.specs.View.{tables_of, uses};
 
@@ -143,8 +143,8 @@ impl<A: Allocator> Body<A> {
     ghost use Rattle.guest_component.specs.InHand.{IsInHand, body_with, pool_with};
     ghost use Rattle.page_state.specs.Counts.{frame_count};
     ghost use Rattle.page_state.specs.Geometries.{levels_below};
-    ghost use Rattle.reference_model.specs.ChangeLaws.{FitsWhere};
-    ghost use Rattle.reference_model.specs.Step.{guest_after};
+    ghost use Rattle.reference_model.specs.help.ChangeLaws.{FitsWhere};
+    ghost use Rattle.reference_model.specs.model.Step.{guest_after};
     ghost use Rattle.table_tree.specs.Stocks.{frames_of};
     ghost use Rattle.table_tree.specs.View.{spares_of};
     ghost use Rattle.walk_plan.specs.Hands.{KeepsFrames};
@@ -162,7 +162,7 @@ impl<A: Allocator> Body<A> {
         map.release(pool, plan);
     }
 
-    /// Changes the map, with what is in hand for it.
+    /// Changes the map, with the tables in hand for it.
     fn set(&mut self, plan: Plan<A>)
         requires change { FitsWhere (levels_below self.old.map.tree.geometry) plan.change }
         requires in_hand { IsInHand plan.change self.old plan }
@@ -174,7 +174,7 @@ impl<A: Allocator> Body<A> {
         map.commit(pool, plan);
     }
 
-    /// Changes the map, with what is in hand for it, and then what else changes of a guest that doesn't become Empty.
+    /// Changes the map, with the tables in hand for it, and then the rest of a guest that doesn't become Empty.
     pub(crate) fn change(&mut self, changes: &Changes, plan: Plan<A>)
         requires stays { StaysMade changes.now.part }
         requires part { CanTake self.old.map.tree (pool_with plan self.old) changes.now.part }
@@ -200,7 +200,7 @@ impl<A: Allocator + Copy> Body<A> {
     ghost use Rattle.guest_component.specs.InHand.{IsInHand, body_with};
     ghost use Rattle.guest_component.specs.Wants.{HasReadyMap};
     ghost use Rattle.page_state.specs.Geometries.{levels_below};
-    ghost use Rattle.reference_model.specs.ChangeLaws.{FitsWhere};
+    ghost use Rattle.reference_model.specs.help.ChangeLaws.{FitsWhere};
     ghost use Rattle.table_tree.specs.View.{spares_of};
 
     /// Takes what a change of the map needs in hand. NoPool is answered exactly where the pool has fewer frames than it needs

@@ -5,7 +5,7 @@ ghost use Rattle.guest_component.specs.Changing.{CanInstallFrom, GuestCanChange,
 ghost use Rattle.guest_component.specs.Plans.{IsMadeFor, IsMapInHand, IsMapPlanned, IsReadyFor, PlansFor, guest_with, map_with};
 ghost use Rattle.guest_component.specs.Wants.{HasReadyMap, MakesNone, WantsNoMemory, need_of};
 ghost use Rattle.guest_component.specs.View.{guest_of, guest_depth, guest_in, guest_spares, runs_of};
-ghost use Rattle.reference_model.specs.Step.{guest_after};
+ghost use Rattle.reference_model.specs.model.Step.{guest_after};
 
 use crate::body::Body;
 use crate::guest::{Guest, GuestPlan};
@@ -44,7 +44,7 @@ fn installed<A: Allocator>(
 }
 
 impl<A: Allocator> Guest<A> {
-    /// Gives what is in hand for a change of its map back.
+    /// Gives the tables in hand for a change of its map back.
     fn release_map(&mut self, plan: Option<Plan<A>>)
         requires { IsMapInHand self.old.body plan }
         ensures same { guest_of self.new ≡ map_with plan self.old.body }

@@ -4,7 +4,7 @@ ghost use Rattle.guest_component.specs.Changing.{IsHand};
 ghost use Rattle.page_state.specs.Counts.{frame_count};
 ghost use Rattle.page_state.specs.Regions.{end_of, is_in_range};
 ghost use Rattle.page_state.specs.Tables.{all_given};
-ghost use Rattle.reference_model.specs.Changes.{frames_in};
+ghost use Rattle.reference_model.specs.model.Changes.{frames_in};
 
 use hyp_pool::Pool;
 use page_state::{Frame, PageRange};

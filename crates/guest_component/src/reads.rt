@@ -5,10 +5,10 @@ ghost use Rattle.page_state.specs.EntryTests.{is_unmapped as is_unmapped_entry};
 ghost use Rattle.page_state.specs.Geometries.{levels_below, pages_below};
 ghost use Rattle.page_state.specs.Layouts.{Layout};
 ghost use Rattle.page_state.specs.Search.{all_below};
-ghost use Rattle.reference_model.specs.ChangeLaws.{FitsWhere};
-ghost use Rattle.reference_model.specs.GuestRules.{guest_table_count, is_guest, is_protected as is_protected_kind, least as least_free};
-ghost use Rattle.reference_model.specs.State.{dying, empty, live, no_guest};
-ghost use Rattle.reference_model.specs.Step.{guest_need};
+ghost use Rattle.reference_model.specs.help.ChangeLaws.{FitsWhere};
+ghost use Rattle.reference_model.specs.model.GuestRules.{guest_table_count, is_guest, is_protected as is_protected_kind, least as least_free};
+ghost use Rattle.reference_model.specs.model.State.{dying, empty, live, no_guest};
+ghost use Rattle.reference_model.specs.model.Step.{guest_need};
 
 use crate::body::{Body, Phase};
 use crate::guest::Guest;

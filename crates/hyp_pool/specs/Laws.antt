@@ -41,10 +41,10 @@ AllGivenCount = (f : ℕ) (fs : List ℕ) (p : Pool) → frame_count f (all_give
 abbrev pub GivenContains : Type 0
 GivenContains = (f g : ℕ) (p : Pool) → Contains (given f p) g ↔ ((f ≡ g) ⊎ Contains p g)
 
--- a frame stands in a list where its count isn't 0
+-- a frame is in a list if its count isn't 0
 abbrev pub CountContains : Type 0
 CountContains = (f : ℕ) (fs : List ℕ) → Contains fs f ↔ (0 < frame_count f fs)
 
--- in a pool each frame stands once at most
+-- a pool has each frame at most once
 abbrev pub CountOnce : Type 0
 CountOnce = (f : ℕ) (p : Pool) → IsStrictlyIncreasing p → frame_count f p ≤ 1

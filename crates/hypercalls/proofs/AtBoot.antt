@@ -5,9 +5,9 @@ use Rattle.page_state.specs.declared.layout.Config.{Config}
 use Rattle.call_table.specs.declared.reply.Call.{Call}
 use Rattle.page_state.specs.Layouts.{HasItsDepth}
 use Rattle.page_state.specs.Regions.{Memory}
-use Rattle.reference_model.specs.Boot.{boot, CanBoot}
-use Rattle.reference_model.specs.History.{Kept, IsHistory}
-use Rattle.reference_model.specs.State.{Reference}
+use Rattle.reference_model.specs.model.Boot.{boot, CanBoot}
+use Rattle.reference_model.specs.model.History.{Kept, IsHistory}
+use Rattle.reference_model.specs.model.State.{Reference}
 use Rattle.reference_model.proofs.History.{history_begins}
 use Rattle.hypercalls.specs.declared.parts.Parts.{Parts}
 use Rattle.hypercalls.specs.Stands.{parts_layout, kept_of, state_of, HasHistory}

@@ -14,15 +14,15 @@ use Rattle.page_state.specs.Tables.{need, needs, edited, freed, returned}
 use Rattle.page_state.proofs.Common.{or-false, not-holds}
 use Rattle.reference_model.specs.declared.changes.Changes.{Changes}
 use Rattle.reference_model.specs.declared.changes.MapChange.{MapChange}
-use Rattle.reference_model.specs.Answers.{CarriesOut}
-use Rattle.reference_model.specs.ChangeLaws.{AllFit, FitsWhere, OnlyUses, PartsFit}
-use Rattle.reference_model.specs.Rules.{may_grow}
-use Rattle.reference_model.specs.Changes.{edit_of, touched, cpu_by, vms_by}
-use Rattle.reference_model.specs.Owner.{is_in_hand}
-use Rattle.reference_model.specs.RowChanges.{first_of, told_row, with_told}
-use Rattle.reference_model.specs.State.{Vms, Shared, Guest, Cpu, no_vms, no_shared, no_guest}
-use Rattle.reference_model.specs.Step.{shared_need, shared_after, guest_need, guest_after, is_short, changed}
-use Rattle.reference_model.specs.Used.{Used}
+use Rattle.reference_model.specs.help.Answers.{CarriesOut}
+use Rattle.reference_model.specs.help.ChangeLaws.{AllFit, FitsWhere, OnlyUses, PartsFit}
+use Rattle.reference_model.specs.model.Rules.{may_grow}
+use Rattle.reference_model.specs.model.Changes.{edit_of, touched, cpu_by, vms_by}
+use Rattle.reference_model.specs.model.Owner.{is_in_hand}
+use Rattle.reference_model.specs.help.RowChanges.{first_of, told_row, with_told}
+use Rattle.reference_model.specs.model.State.{Vms, Shared, Guest, Cpu, no_vms, no_shared, no_guest}
+use Rattle.reference_model.specs.model.Step.{shared_need, shared_after, guest_need, guest_after, is_short, changed}
+use Rattle.reference_model.specs.model.Used.{Used}
 use Rattle.part_types.specs.declared.parts.GuestPart.{GuestPart}
 use Rattle.part_types.specs.declared.parts.SharedPart.{SharedPart}
 use Rattle.std.proofs.lemmas.Bool.{ltb-true, lt-ltb}
@@ -44,7 +44,7 @@ use Rattle.part_types.specs.Logs.{IsOfSize}
 use Rattle.part_types.specs.MemoryRows.{HasMemoryRows}
 use Rattle.part_types.specs.View.{vm_slots, shared_of, guest_held, cpu_of, depth_of}
 use Rattle.reference_model.specs.declared.changes.SlotChange.TheVariants.{Keep as KeepSlots}
-use Rattle.reference_model.specs.Parts.{Names, uses_shared}
+use Rattle.reference_model.specs.model.Parts.{Names, uses_shared}
 use Rattle.decisions.specs.Grows.{GrowsOnly}
 use Rattle.hypercalls.specs.Carried.{Ends, LeavesGuest, LeavesShared, is_either_short, rows_told}
 use Rattle.part_types.specs.Roomy.{IsRoomy}

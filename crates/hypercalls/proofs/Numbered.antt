@@ -7,8 +7,8 @@ use Rattle.call_table.specs.declared.reply.Reply.{Reply}
 use Rattle.call_table.specs.declared.reply.Reply.TheVariants.{Refused}
 use Rattle.call_table.specs.declared.step.Step.{Step}
 use Rattle.page_state.specs.Layouts.{Layout}
-use Rattle.reference_model.specs.History.{IsStored}
-use Rattle.reference_model.specs.Step.{StepsOn}
+use Rattle.reference_model.specs.model.History.{IsStored}
+use Rattle.reference_model.specs.model.Step.{StepsOn}
 use Rattle.part_types.specs.declared.parts.CpuState.{CpuState}
 use Rattle.part_types.specs.Lent.{Lent, all_with, logs_in, rooms_in, slot_in, used_in}
 use Rattle.part_types.specs.Numbers.{AreNumbered}

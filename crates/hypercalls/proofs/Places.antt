@@ -3,8 +3,8 @@ use Rattle.std.proofs.Common.{arith, ◌≡◌, ◌∙◌, ℕ, zero, suc, ◌<�
 use Rattle.std.proofs.lemmas.Bool.Decides.{nat_tests}
 use Rattle.page_state.proofs.Cases.{by_test}
 use Rattle.call_table.specs.declared.reply.Call.{Call}
-use Rattle.reference_model.specs.Stored.{Stores}
-use Rattle.reference_model.specs.Parts.{is_slot}
+use Rattle.reference_model.specs.model.Stored.{Stores}
+use Rattle.reference_model.specs.model.Parts.{is_slot}
 use Rattle.part_types.specs.Lent.{with_call}
 use Rattle.part_types.specs.Logs.{StoredCalls}
 use Rattle.hypercalls.specs.Stands.{at_place}

@@ -14,14 +14,14 @@ use Rattle.part_types.specs.Lent.{LentLogs, Lent, with_call, all_with, call_in, 
 use Rattle.part_types.specs.Logs.{StoredCalls, IsOfSize}
 use Rattle.part_types.specs.View.{cpu_of}
 use Rattle.reference_model.specs.declared.changes.Changes.{Changes}
-use Rattle.reference_model.specs.Answers.{AnswerSteps, BarredAnswers, FullSteps}
-use Rattle.reference_model.specs.Decides.{decides}
+use Rattle.reference_model.specs.help.Answers.{AnswerSteps, BarredAnswers, FullSteps}
+use Rattle.reference_model.specs.model.Decides.{decides}
 use Rattle.reference_model.proofs.Answers.{answer-stored}
-use Rattle.reference_model.specs.Parts.{Names, uses_vms, uses_shared}
-use Rattle.reference_model.specs.Rules.{names}
-use Rattle.reference_model.specs.Rely.{CanRely, RelyingAnswers}
-use Rattle.reference_model.specs.Step.{is_full, stored as stored_rooms, Answered, StepsOn}
-use Rattle.reference_model.specs.Used.{Used}
+use Rattle.reference_model.specs.model.Parts.{Names, uses_vms, uses_shared}
+use Rattle.reference_model.specs.model.Rules.{names}
+use Rattle.reference_model.specs.help.Rely.{CanRely, RelyingAnswers}
+use Rattle.reference_model.specs.model.Step.{is_full, stored as stored_rooms, Answered, StepsOn}
+use Rattle.reference_model.specs.model.Used.{Used}
 use Rattle.guest_component.specs.Wants.{WantsNoMemory}
 use Rattle.hypercalls.specs.Carried.{Ends}
 use Rattle.part_types.specs.Roomy.{IsRoomy}

@@ -1,8 +1,8 @@
 -- What a step names and which slot it finds, by its kind of use.
 use Rattle.std.proofs.Common.{◌≡◌, ◌∙◌, ℕ, Bool, true, false, Option, Some, None, refl, sym, ap}
-use Rattle.reference_model.specs.Parts.{uses_vms, uses_shared}
-use Rattle.reference_model.specs.Rules.{names, guest_slot}
-use Rattle.reference_model.specs.State.{Cpu}
+use Rattle.reference_model.specs.model.Parts.{uses_vms, uses_shared}
+use Rattle.reference_model.specs.model.Rules.{names, guest_slot}
+use Rattle.reference_model.specs.model.State.{Cpu}
 use Rattle.call_table.specs.declared.step.Step.{Step}
 use Rattle.decisions.proofs.Decided.{vms_parts}
 use Rattle.hypercalls.specs.declared.used_parts.UsedParts.TheVariants.{Nothing, Vms, Shared, Guest, Both}

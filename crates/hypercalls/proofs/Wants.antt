@@ -1,7 +1,7 @@
 -- A step that changes a range isn't refused for memory where its trees keep spares and its maplets have room.
 use Rattle.std.proofs.Common.{◌≡◌, ◌≤◌, ◌∙◌, ◌*◌, ℕ, refl, ap, sym, subst, arith, inl, inr, length, Option, Some, None}
 use Rattle.std.proofs.Math.Nat.{mul-le-mul_right}
-use Rattle.std.specs.Prelude.{Bool, true, false, not, ◌==◌, ◌||◌, ◌⊎◌, Ok, Err, Result, if◌then◌else◌}
+use Rattle.std.specs.Prelude.{Bool, true, false, not, ◌==◌, ◌&&◌, ◌||◌, ◌⊎◌, Ok, Err, Result, if◌then◌else◌}
 use Rattle.call_table.specs.declared.reply.Refusal.{Refusal}
 use Rattle.call_table.specs.declared.reply.Refusal.TheVariants.{Invalid, NoVm, Busy, Perm, NoPool, NoMemory}
 use Rattle.call_table.specs.declared.reply.Reply.TheVariants.{Refused}
@@ -10,20 +10,20 @@ use Rattle.call_table.specs.declared.step.Step.TheVariants.{ShareHyp, UnshareHyp
 use Rattle.page_state.specs.declared.entry.Entry.{Entry}
 use Rattle.page_state.specs.Blocks.{blocks_on}
 use Rattle.page_state.proofs.Cases.{by_test}
-use Rattle.page_state.proofs.Common.{eq-same, not-false, or-neither}
+use Rattle.page_state.proofs.Common.{and-left, eq-same}
 use Rattle.page_state.specs.Geometries.{levels_below}
 use Rattle.page_state.specs.Layouts.{Layout, is_good_range}
 use Rattle.page_state.specs.Tables.{need, needs, put}
 use Rattle.page_state.specs.Trees.{Tree}
 use Rattle.reference_model.specs.declared.changes.Changes.{Changes}
 use Rattle.reference_model.specs.declared.changes.MapChange.{MapChange}
-use Rattle.reference_model.specs.Decides.{decided, decides}
-use Rattle.reference_model.specs.Changes.{edit_of}
-use Rattle.reference_model.specs.Parts.{lacks_slot}
-use Rattle.reference_model.specs.Rule.{Rule}
-use Rattle.reference_model.specs.Rules.{rule, names}
-use Rattle.reference_model.specs.Step.{fails, first_test, or_else, refusal, rule_of}
-use Rattle.reference_model.specs.Used.{Used, used_of}
+use Rattle.reference_model.specs.model.Decides.{decided, decides}
+use Rattle.reference_model.specs.model.Changes.{edit_of}
+use Rattle.reference_model.specs.model.Parts.{lacks_slot}
+use Rattle.reference_model.specs.model.Rule.{Rule}
+use Rattle.reference_model.specs.model.Rules.{rule, names}
+use Rattle.reference_model.specs.model.Step.{fails, first_test, or_else, refusal, rule_of}
+use Rattle.reference_model.specs.model.Used.{Used, used_of}
 use Rattle.component.specs.declared.Component.{Component}
 use Rattle.component.specs.View.{HasRoomFor, need_for}
 use Rattle.guest_component.specs.declared.body.Body.{Body}
@@ -53,7 +53,7 @@ none_else : None ≡ Some NoMemory → ⊥
 none_else e = cc
 
 tests_else : (r : Rule) (lacks : Bool) → first_test r lacks ≡ Some NoMemory → ⊥
-tests_else r lacks = test_else r.invalid Invalid _ (λ e. cc) (test_else (lacks || r.no_vm) NoVm _ (λ e. cc) (test_else r.busy Busy _ (λ e. cc) (test_else r.perm Perm None (λ e. cc) none_else)))
+tests_else r lacks = test_else (not r.valid.passes) Invalid _ (λ e. cc) (test_else (lacks || not r.has_vm.passes) NoVm _ (λ e. cc) (test_else (not r.ready.passes) Busy _ (λ e. cc) (test_else (not r.allowed.passes) Perm None (λ e. cc) none_else)))
 
 or_else_else : (o : Option Refusal) (short : Bool) → (o ≡ Some NoMemory → ⊥) → or_else o (if short then Some NoPool else None) ≡ Some NoMemory → ⊥
 or_else_else (Some why) short h e = h e
@@ -76,9 +76,9 @@ decides_ok : (l : Layout) (cpu : ℕ) (slot : Option ℕ) (step : Step) (x : Use
 unfolding fails refusal
 decides_ok l cpu slot step x e = decided_ok (rule_of l cpu slot step x) (lacks_slot (names step) slot) (first_none _ _ e)
 
-passed_valid : (l : Layout) (cpu : ℕ) (slot : Option ℕ) (step : Step) (x : Used) → fails l cpu slot step x ≡ None → (rule_of l cpu slot step x).invalid ≡ false
+passed_valid : (l : Layout) (cpu : ℕ) (slot : Option ℕ) (step : Step) (x : Used) → fails l cpu slot step x ≡ None → (rule_of l cpu slot step x).valid.passes ≡ true
 unfolding fails refusal
-passed_valid l cpu slot step x e = (tested (rule_of l cpu slot step x) (lacks_slot (names step) slot) (first_none _ _ e)).invalid
+passed_valid l cpu slot step x e = (tested (rule_of l cpu slot step x) (lacks_slot (names step) slot) (first_none _ _ e)).valid
 
 -- changes of one page, or of a range of up to 512
 
@@ -98,15 +98,15 @@ record HaveFewPages (k : ℕ) (h : Changes) : Type 0 where
 page_alone : FewPages 1 1
 page_alone = inl (omega arith, refl)
 
-few_pages : (l : Layout) (f n : ℕ) (other : Bool) → (not (is_good_range l f n) || other) ≡ false → FewPages (if n == 1 then 1 else 2) n
+few_pages : (l : Layout) (f n : ℕ) (other : Bool) → (is_good_range l f n && other) ≡ true → FewPages (if n == 1 then 1 else 2) n
 few_pages l f n other h = by_test (n == 1)
     (λ e. ap_few (n == 1) true e (inl (omega arith, eq-same n 1 e)))
-    (λ e. ap_few (n == 1) false e (inr (omega arith, good-count l f n (not-false (is_good_range l f n) (or-neither (not (is_good_range l f n)) other h).0))))
+    (λ e. ap_few (n == 1) false e (inr (omega arith, good-count l f n (and-left (is_good_range l f n) other h))))
   where
     ap_few : (b t : Bool) → b ≡ t → FewPages (if t then 1 else 2) n → FewPages (if b then 1 else 2) n
     ap_few b t e k = subst (λ (a : Bool). FewPages (if a then 1 else 2) n) (sym e) k
 
-range_few : (l : Layout) (cpu : ℕ) (slot : Option ℕ) (step : Step) (x : Used) → changes_a_range step ≡ true → (rule l cpu slot step x).invalid ≡ false → HaveFewPages (blocks_met step) (rule l cpu slot step x).changes
+range_few : (l : Layout) (cpu : ℕ) (slot : Option ℕ) (step : Step) (x : Used) → changes_a_range step ≡ true → (rule l cpu slot step x).valid.passes ≡ true → HaveFewPages (blocks_met step) (rule l cpu slot step x).changes
 unfolding rule
 range_few l cpu slot (ShareHyp f) x h i = record { host = page_alone; hyp = page_alone; guest = tt; part = tt }
 range_few l cpu slot (UnshareHyp f) x h i = record { host = page_alone; hyp = page_alone; guest = tt; part = tt }

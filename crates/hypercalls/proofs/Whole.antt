@@ -9,17 +9,17 @@ use Rattle.call_table.specs.declared.reply.Reply.TheVariants.{Refused}
 use Rattle.call_table.specs.declared.step.Step.{Step}
 use Rattle.page_state.specs.Layouts.{Layout}
 use Rattle.page_state.specs.LayoutView.{layout_of as layout_told}
-use Rattle.reference_model.specs.Decides.{decides}
-use Rattle.reference_model.specs.Boot.{CanBoot}
-use Rattle.reference_model.specs.Stored.{held_state}
-use Rattle.reference_model.specs.History.{Kept, IsHistory}
-use Rattle.reference_model.specs.Stored.{Stores, StoresCall}
-use Rattle.reference_model.specs.Parts.{Names, is_slot, uses_vms, uses_shared}
-use Rattle.reference_model.specs.Rules.{names, guest_slot}
-use Rattle.reference_model.specs.Reached.{IsReached}
-use Rattle.reference_model.specs.State.{Vms, Shared, Guest, Cpu, Reference, no_vms, no_shared, no_guest, no_cpu, put_at}
-use Rattle.reference_model.specs.Step.{Steps, StepsOn, FindsFull, IsStoredAnswer, is_full as has_full_log, stored, used_by, rooms_by, with_used}
-use Rattle.reference_model.specs.Used.{Used, UsedRooms, used_of, put_back, rooms_of, guest_at, put_guest, room_at}
+use Rattle.reference_model.specs.model.Decides.{decides}
+use Rattle.reference_model.specs.model.Boot.{CanBoot}
+use Rattle.reference_model.specs.model.Stored.{held_state}
+use Rattle.reference_model.specs.model.History.{Kept, IsHistory}
+use Rattle.reference_model.specs.model.Stored.{Stores, StoresCall}
+use Rattle.reference_model.specs.model.Parts.{Names, is_slot, uses_vms, uses_shared}
+use Rattle.reference_model.specs.model.Rules.{names, guest_slot}
+use Rattle.reference_model.specs.model.Reached.{IsReached}
+use Rattle.reference_model.specs.model.State.{Vms, Shared, Guest, Cpu, Reference, no_vms, no_shared, no_guest, no_cpu, put_at}
+use Rattle.reference_model.specs.model.Step.{Steps, StepsOn, FindsFull, IsStoredAnswer, is_full as has_full_log, stored, used_by, rooms_by, with_used}
+use Rattle.reference_model.specs.model.Used.{Used, UsedRooms, used_of, put_back, rooms_of, guest_at, put_guest, room_at}
 use Rattle.reference_model.proofs.Answers.{used_steps}
 use Rattle.std.proofs.Math.Logic.{∥∥₁_elim}
 use Rattle.std.specs.Coded.{le_prop}

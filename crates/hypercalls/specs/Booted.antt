@@ -7,7 +7,7 @@ use Rattle.page_state.specs.Geometries.{geometry_of, levels_below}
 use Rattle.page_state.specs.LayoutFaults.{IsAccepted}
 use Rattle.page_state.specs.Layouts.{Layout, HasItsDepth}
 use Rattle.page_state.specs.Regions.{Memory}
-use Rattle.reference_model.specs.Boot.{boot, IsCarveEnough}
+use Rattle.reference_model.specs.model.Boot.{boot, IsCarveEnough}
 use Rattle.hypercalls.specs.declared.parts.Parts.{Parts}
 use Rattle.hypercalls.specs.Stands.{parts_layout, kept_of, state_of}
 
@@ -27,7 +27,7 @@ pub record HasNoCalls {A : Type 0} (p : Parts A) : Type 0 where
   pub guests : (v : ℕ) → ((kept_of p).guest v).1 ≡ []
   pub cpus : (cpu : ℕ) → ((kept_of p).cpu cpu).1 ≡ []
 
--- the parts of a world that has booted, where no test failed: they stand for the boot state, and all logs are empty
+-- the parts of a world that has booted, if no test failed: they represent the boot state, and all logs are empty
 pub record IsBooted {A : Type 0} (m : Memory) (c : Config) (p : Parts A) : Type 0 where
   pub geometry : Geometry
   pub memory : IsAccepted m

@@ -10,13 +10,13 @@ use Rattle.part_types.specs.declared.parts.GuestPart.{GuestPart}
 use Rattle.part_types.specs.declared.parts.SharedPart.{SharedPart}
 use Rattle.part_types.specs.Lent.{GuestSuits, SharedSuits}
 use Rattle.part_types.specs.View.{guest_held, shared_of}
-use Rattle.reference_model.specs.ChangeLaws.{AllFit, PartsFit, TouchedFits}
+use Rattle.reference_model.specs.help.ChangeLaws.{AllFit, PartsFit, TouchedFits}
 use Rattle.reference_model.specs.declared.changes.Changes.{Changes}
 use Rattle.reference_model.specs.declared.changes.GuestChange.TheVariants.{Keep as KeepGuest}
-use Rattle.reference_model.specs.Changes.{touched, cpu_by}
-use Rattle.reference_model.specs.RowChanges.{first_of, told_row}
-use Rattle.reference_model.specs.State.{Shared, Guest, Cpu}
-use Rattle.reference_model.specs.Step.{is_touched, guest_after, guest_need, shared_after, shared_need}
+use Rattle.reference_model.specs.model.Changes.{touched, cpu_by}
+use Rattle.reference_model.specs.help.RowChanges.{first_of, told_row}
+use Rattle.reference_model.specs.model.State.{Shared, Guest, Cpu}
+use Rattle.reference_model.specs.model.Step.{is_touched, guest_after, guest_need, shared_after, shared_need}
 
 -- nothing changes of the guest
 pub record LeavesGuest (h : Changes) : Type 0 where
@@ -29,7 +29,7 @@ pub record LeavesShared (h : Changes) : Type 0 where
   pub hyp : h.hyp ≡ None
   pub moved : touched h ≡ None
 
--- how a call ends whose changes of parts were made or weren't: its CPU's own state changes with them, or the refusal tells why
+-- how a call ends whose changes of parts were made or weren't: its CPU's own state changes with them, or the refusal says why
 abbrev pub Ends : Result (Unit {0}) PoolFault → Changes → Cpu → Reply → Cpu → Type 0
 Ends (Ok u) h before reply after = (reply ≡ Done h.value) × (after ≡ cpu_by h.cpu before)
 Ends (Err NoPool) h before reply after = (reply ≡ Refused NoPoolReply) × (after ≡ before)
@@ -39,7 +39,7 @@ Ends (Err NoMemory) h before reply after = (reply ≡ Refused NoMemoryReply) × 
 abbrev pub is_either_short : ℕ → Changes → Shared → Guest → Bool
 is_either_short depth h x g = nat_lt (length x.free) (shared_need depth h x) || nat_lt (length g.free) (guest_need depth h g)
 
--- the Shared part with the told rows at the touched range, where that is memory
+-- the Shared part with the given rows at the touched range, if that is memory
 abbrev pub rows_told : Layout → ℕ → Option ℕ → Changes → Shared → Shared
 rows_told l cpu slot h x = record x { row = λ f. elim (is_memory l (first_of (touched h)) && is_touched h f) [ true ↦ told_row cpu slot h f | false ↦ x.row f ] }
 

@@ -1,16 +1,16 @@
--- The reference state that all parts stand for, and their history.
+-- The reference state that all parts represent, and their history.
 use Rattle.std.specs.Prelude.{List, [], Option, Some, None, slice_get}
 use Rattle.call_table.specs.declared.reply.Call.{Call}
 use Rattle.page_state.specs.LayoutView.{layout_of as layout_told}
 use Rattle.page_state.specs.Layouts.{Layout}
-use Rattle.reference_model.specs.Boot.{CanBoot}
-use Rattle.reference_model.specs.Stored.{held_state}
-use Rattle.reference_model.specs.History.{Kept, IsHistory}
-use Rattle.reference_model.specs.State.{Reference, no_guest, no_cpu}
+use Rattle.reference_model.specs.model.Boot.{CanBoot}
+use Rattle.reference_model.specs.model.Stored.{held_state}
+use Rattle.reference_model.specs.model.History.{Kept, IsHistory}
+use Rattle.reference_model.specs.model.State.{Reference, no_guest, no_cpu}
 use Rattle.part_types.specs.View.{vm_slots, shared_of, guest_held, cpu_of}
 use Rattle.hypercalls.specs.declared.parts.Parts.{Parts}
 
--- what stands at a place of a list, or what stands for none
+-- the item at a place of a list, or a default if there is none
 abbrev pub at_place : {P X : Type 0} → X → (P → X) → Option P → X
 at_place blank f None = blank
 at_place blank f (Some p) = f p
@@ -33,7 +33,7 @@ module _ {A : Type 0} (p : Parts A) where
   abbrev pub state_of : Reference
   state_of = held_state parts_layout kept_of
 
-  -- one legal history: the parts stand at the end of a run of the reference step from the boot state, and its calls are those of their logs
+  -- one legal history: the parts are at the end of a run of the reference step from the boot state, and its calls are those of their logs
   pub record HasHistory : Type 0 where
     pub ready : CanBoot parts_layout
     pub log : List Call

@@ -7,9 +7,9 @@ use Rattle.call_table.specs.declared.reply.Reply.TheVariants.{Refused}
 use Rattle.call_table.specs.declared.step.Step.{Step}
 use Rattle.page_state.specs.Layouts.{Layout}
 use Rattle.reference_model.specs.declared.changes.Changes.{Changes}
-use Rattle.reference_model.specs.Decides.{decides}
-use Rattle.reference_model.specs.History.{IsStored}
-use Rattle.reference_model.specs.Step.{StepsOn}
+use Rattle.reference_model.specs.model.Decides.{decides}
+use Rattle.reference_model.specs.model.History.{IsStored}
+use Rattle.reference_model.specs.model.Step.{StepsOn}
 use Rattle.guest_component.specs.Wants.{WantsNoMemory}
 use Rattle.part_types.specs.Lent.{Lent, LentLogs, used_in, slot_in, logs_in, rooms_in, call_in, all_with}
 use Rattle.part_types.specs.Logs.{StoredCalls}
@@ -28,11 +28,11 @@ abbrev pub reply_in : Option Call → Reply
 reply_in None = Refused LogFull
 reply_in (Some c) = c.reply
 
--- memory can be wanted: what is decided can need a growth
+-- memory may run out: the decided changes may need a growth
 abbrev pub CanWantOn : {A : Type 0} → Layout → ℕ → Option ℕ → Step → Lent A → Type 0
 CanWantOn l id slot step x = (h : Changes) → decides l id slot step (used_in x) ≡ Ok h → IfSome x.shared (λ s. IsRoomy h s) → IfSome x.guest (λ g. WantsNoMemory h g.guest) → ⊥
 
--- the step of a CPU on what is lent, by the call that it stored: it is the reference step there, and the call is stored in each log where none is full, and else nothing changes. Memory is wanted only where it can be. The CPU's number stays
+-- the step of a CPU on the lent parts, by the call that it stored: it is the reference step there, and the call is stored in each log if none is full; otherwise nothing changes. Memory runs out only where it may. The CPU's number stays
 pub record IsStepOn {A : Type 0} (l : Layout) (step : Step) (x : Lent A) (made : Option Call) (y : Lent A) : Type 0 where
   pub on : StepsOn l (call_in x step (reply_in made)) (used_in x) (rooms_in (logs_in x)) (used_in y) (rooms_in (logs_in y))
   pub told : made ≡ (if any_full (logs_in x) then None else Some (call_in x step (reply_in made)))

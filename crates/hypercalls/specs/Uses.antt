@@ -1,9 +1,9 @@
 -- The parts that a step uses, as they are taken.
 use Rattle.std.specs.Prelude.{ℕ, Bool, true, false, Option, Some, None}
 use Rattle.call_table.specs.declared.step.Step.{Step}
-use Rattle.reference_model.specs.Parts.{Names, uses_vms, uses_shared}
-use Rattle.reference_model.specs.Rules.{names, guest_slot}
-use Rattle.reference_model.specs.State.{Cpu}
+use Rattle.reference_model.specs.model.Parts.{Names, uses_vms, uses_shared}
+use Rattle.reference_model.specs.model.Rules.{names, guest_slot}
+use Rattle.reference_model.specs.model.State.{Cpu}
 use Rattle.hypercalls.specs.declared.used_parts.UsedParts.{UsedParts}
 use Rattle.hypercalls.specs.declared.used_parts.UsedParts.TheVariants.{Nothing, Vms, Shared, Guest, Both}
 

@@ -6,12 +6,12 @@ use Rattle.call_table.specs.declared.reply.Reply.{Reply}
 use Rattle.call_table.specs.declared.reply.Reply.TheVariants.{Refused}
 use Rattle.call_table.specs.declared.step.Step.{Step}
 use Rattle.reference_model.specs.declared.changes.Changes.{Changes}
-use Rattle.reference_model.specs.Decides.{decides}
-use Rattle.reference_model.specs.History.{IsStored}
-use Rattle.reference_model.specs.Stored.{StoresCall}
-use Rattle.reference_model.specs.Rules.{names, guest_slot}
-use Rattle.reference_model.specs.Step.{Steps, is_full as has_full_log}
-use Rattle.reference_model.specs.Used.{used_of, rooms_of}
+use Rattle.reference_model.specs.model.Decides.{decides}
+use Rattle.reference_model.specs.model.History.{IsStored}
+use Rattle.reference_model.specs.model.Stored.{StoresCall}
+use Rattle.reference_model.specs.model.Rules.{names, guest_slot}
+use Rattle.reference_model.specs.model.Step.{Steps, is_full as has_full_log}
+use Rattle.reference_model.specs.model.Used.{used_of, rooms_of}
 use Rattle.guest_component.specs.Wants.{WantsNoMemory}
 use Rattle.part_types.specs.declared.parts.GuestPart.{GuestPart}
 use Rattle.part_types.specs.Roomy.{IsRoomy}
@@ -35,7 +35,7 @@ module _ {A : Type 0} (p : Parts A) (cpu : ℕ) (step : Step) where
   abbrev pub HasRoomyGuest : Changes → Type 0
   HasRoomyGuest h = (v : ℕ) (g : GuestPart A) → slot_here ≡ Some v → slice_get p.guests.items v ≡ Some g → WantsNoMemory h g.guest
 
-  -- memory can be wanted: what is decided can need a growth
+  -- memory may run out: the decided changes may need a growth
   abbrev pub CanWant : Type 0
   CanWant = (h : Changes) → decides (parts_layout p) cpu slot_here step (used_of (names step) slot_here cpu (state_of p).contents) ≡ Ok h → IsRoomy h p.shared → HasRoomyGuest h → ⊥
 

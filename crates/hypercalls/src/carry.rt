@@ -6,7 +6,7 @@ ghost use Rattle.part_types.specs.View.{cpu_of, shared_of};
 ghost use Rattle.hypercalls.specs.Carried.{CanChangeGuest, CanChangeShared, Ends, IsEitherShort, IsGuestChanged, IsGuestShort, IsSharedChanged, IsSharedShort, rows_told};
 ghost use Rattle.part_types.specs.Roomy.{IsRoomy};
 ghost use Rattle.page_state.specs.LayoutView.{layout_of};
-ghost use Rattle.reference_model.specs.ChangeLaws.{TouchedFits};
+ghost use Rattle.reference_model.specs.help.ChangeLaws.{TouchedFits};
 
 use crate::rows::{first_row, touched};
 use call_table::{Refusal, Reply};

@@ -1,4 +1,4 @@
-//! The step by its kind of use, and on all parts: which parts it uses, and how what is decided is carried out.
+//! The step by its kind of use, and on all parts: which parts it uses, and how a decision is carried out.
 #![tactic(auto)]
 
 mod carry;

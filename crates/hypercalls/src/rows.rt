@@ -1,9 +1,9 @@
 //! The owner row that a call's changes give to the frames that they touch.
 ghost use Rattle.std.specs.Prelude.{◌≡◌, ◌+◌, ◌<◌, ◌^◌, option_map, unwrap_or};
 ghost use Rattle.page_state.specs.Rows.{plain_row};
-ghost use Rattle.reference_model.specs.Changes.{touched as touched_by};
-ghost use Rattle.reference_model.specs.GuestRules.{guest_owner as owner_of_guest};
-ghost use Rattle.reference_model.specs.RowChanges.{borrower as borrower_of, first_row as first_row_of, row_by, use_by};
+ghost use Rattle.reference_model.specs.model.Changes.{touched as touched_by};
+ghost use Rattle.reference_model.specs.model.GuestRules.{guest_owner as owner_of_guest};
+ghost use Rattle.reference_model.specs.help.RowChanges.{borrower as borrower_of, first_row as first_row_of, row_by, use_by};
 
 use decisions::{HOST, HYPERVISOR};
 use page_state::{Entry, Lent, Owner, Page, PageRange, Row, State, Usage};

@@ -6,9 +6,9 @@ ghost use Rattle.part_types.specs.View.{cpu_of, guest_held, shared_of, vm_slots}
 ghost use Rattle.hypercalls.specs.Steps.{IsStepOn, reply_in};
 ghost use Rattle.hypercalls.specs.Uses.{uses_of};
 ghost use Rattle.page_state.specs.LayoutView.{layout_of};
-ghost use Rattle.reference_model.specs.Rules.{names};
-ghost use Rattle.reference_model.specs.Reached.{IsReached};
-ghost use Rattle.reference_model.specs.Used.{guest_alone, used_alone, vms_alone};
+ghost use Rattle.reference_model.specs.model.Rules.{names};
+ghost use Rattle.reference_model.specs.model.Reached.{IsReached};
+ghost use Rattle.reference_model.specs.model.Used.{guest_alone, used_alone, vms_alone};
 
 use crate::carry::{change_both, change_guest, change_shared, ended};
 use crate::used_parts::UsedParts;

@@ -2,8 +2,8 @@
 ghost use Rattle.std.specs.Prelude.{◌≡◌};
 ghost use Rattle.part_types.specs.View.{cpu_of};
 ghost use Rattle.hypercalls.specs.Uses.{uses_of};
-ghost use Rattle.reference_model.specs.Parts.{slot_of as slot_of_vm, ticket_slot as ticket_slot_of, uses_shared as uses_shared_part, uses_vms as uses_vm_part};
-ghost use Rattle.reference_model.specs.Rules.{guest_slot as guest_slot_of, names};
+ghost use Rattle.reference_model.specs.model.Parts.{slot_of as slot_of_vm, ticket_slot as ticket_slot_of, uses_shared as uses_shared_part, uses_vms as uses_vm_part};
+ghost use Rattle.reference_model.specs.model.Rules.{guest_slot as guest_slot_of, names};
 
 use call_table::{Step, VmId};
 use part_types::CpuState;
@@ -49,8 +49,8 @@ pub fn guest_slot(cpu: &CpuState, step: Step) -> Option<u64>
         | Step::ReclaimPool { vm }
         | Step::GuestTranslate { vm, .. } => slot_of(vm),
         Step::Install => ticket_slot(Stage::Booked, cpu),
-        Step::MarkDying => ticket_slot(Stage::ClosingVm, cpu),
-        Step::FinishGuest => ticket_slot(Stage::DyingVm, cpu),
+        Step::MarkDying => ticket_slot(Stage::Closing, cpu),
+        Step::FinishGuest => ticket_slot(Stage::Dying, cpu),
         _ => None,
     }
 }

@@ -1,4 +1,4 @@
-//! What is told of states that no run reaches.
+//! The faults of states that no run reaches.
 use crate::changes::{Change, changed, leaf, row};
 use crate::walks::{is_legal_but_for_trees, told, walk};
 use Change::*;
@@ -45,7 +45,7 @@ fn life_with(rt: &impl Abort, alloc: Global, change: Change) -> Ghost {
     made.expect(rt, "a state")
 }
 
-/// What is told of it.
+/// Its report.
 fn told_of(rt: &impl Abort, alloc: Global, change: Change) -> String {
     let state = life_with(rt, alloc, change);
     told(rt, alloc, &state)
@@ -57,7 +57,7 @@ fn expect_legal_but_for_trees(rt: &impl Abort, alloc: Global, change: Change) {
     assert!(rt; is_legal_but_for_trees(rt, alloc, &state));
 }
 
-/// Compares what is told of each change, a line each.
+/// Compares the text of each change, a line each.
 fn expect_told(rt: &impl Abort, alloc: Global, changes: &[Change], wanted: &str) {
     let mut text = String::new(alloc);
     for change in changes {

@@ -2,6 +2,7 @@
 use crate::walks::walk;
 use std::test::Fail;
 use trace_generate::{Options, generate};
+use trace_reader::Silent;
 
 #[test]
 fn states_of_runs_are_legal(rt: HostRuntime) -> Result<(), Fail> {
@@ -13,7 +14,7 @@ fn states_of_runs_are_legal(rt: HostRuntime) -> Result<(), Fail> {
             geometry: if seed % 2 == 0 { 39 } else { 48 },
             hostile: if seed % 3 == 0 { 30 } else { 0 },
         };
-        let text = generate(rt.alloc(), seed, 150, &options)?;
+        let text = generate(rt.alloc(), seed, 150, &options, &Silent)?;
         let (state, ok) = walk(&rt, rt.alloc(), text.as_str());
         drop(state);
         made = made.saturating_add(ok);

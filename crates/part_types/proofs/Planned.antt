@@ -14,9 +14,9 @@ use Rattle.page_state.specs.Trees.{Pool}
 use Rattle.page_state.proofs.Counts.{count_parts}
 use Rattle.reference_model.specs.declared.changes.Changes.{Changes}
 use Rattle.reference_model.specs.declared.changes.MapChange.{MapChange}
-use Rattle.reference_model.specs.Changes.{edit_of}
-use Rattle.reference_model.specs.State.{Shared}
-use Rattle.reference_model.specs.Step.{shared_after}
+use Rattle.reference_model.specs.model.Changes.{edit_of}
+use Rattle.reference_model.specs.model.State.{Shared}
+use Rattle.reference_model.specs.model.Step.{shared_after}
 use Rattle.table_tree.specs.declared.tree.Tree.{Tree as TableTree}
 use Rattle.table_tree.specs.Stocks.{frames_of}
 use Rattle.table_tree.specs.View.{tree_of}

@@ -9,9 +9,9 @@ use Rattle.page_state.specs.Rows.{advance_row}
 use Rattle.page_state.specs.Tables.{need, edited, returned, all_given}
 use Rattle.page_state.specs.Trees.{Tree}
 use Rattle.reference_model.specs.declared.changes.Changes.{Changes}
-use Rattle.reference_model.specs.Changes.{edit_of}
-use Rattle.reference_model.specs.State.{Shared, plain_row}
-use Rattle.reference_model.specs.Step.{shared_after}
+use Rattle.reference_model.specs.model.Changes.{edit_of}
+use Rattle.reference_model.specs.model.State.{Shared, plain_row}
+use Rattle.reference_model.specs.model.Step.{shared_after}
 use Rattle.run_list.specs.declared.run.Run.{Run}
 use Rattle.table_tree.specs.declared.tree.Tree.{Tree as TableTree}
 use Rattle.table_tree.specs.View.{tree_of}

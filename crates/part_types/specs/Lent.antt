@@ -4,9 +4,9 @@ use Rattle.call_table.specs.declared.reply.Call.{Call}
 use Rattle.call_table.specs.declared.reply.Reply.{Reply}
 use Rattle.call_table.specs.declared.step.Step.{Step}
 use Rattle.page_state.specs.Layouts.{Layout}
-use Rattle.reference_model.specs.Rules.{guest_slot}
-use Rattle.reference_model.specs.State.{no_vms, no_shared, no_guest}
-use Rattle.reference_model.specs.Used.{Used, UsedRooms}
+use Rattle.reference_model.specs.model.Rules.{guest_slot}
+use Rattle.reference_model.specs.model.State.{no_vms, no_shared, no_guest}
+use Rattle.reference_model.specs.model.Used.{Used, UsedRooms}
 use Rattle.guest_component.specs.View.{guest_depth}
 use Rattle.part_types.specs.declared.parts.VmPart.{VmPart}
 use Rattle.part_types.specs.declared.parts.SharedPart.{SharedPart}
@@ -23,7 +23,7 @@ pub record Lent (A : Type 0) : Type 0 where
   pub guest : Option (GuestPart A)
   pub cpu : CpuState
 
--- what is lent by the kind of use
+-- the lent part by the kind of use
 module _ {A : Type 0} where
   abbrev pub lent_alone : CpuState → Lent A
   lent_alone k = record { vms = None; shared = None; guest = None; cpu = k }
@@ -40,7 +40,7 @@ module _ {A : Type 0} where
   abbrev pub lent_both : SharedPart A → GuestPart A → CpuState → Lent A
   lent_both s g k = record { vms = None; shared = Some s; guest = Some g; cpu = k }
 
--- what is lent, as what a call uses
+-- the lent parts, as those that a call uses
 abbrev pub used_in : {A : Type 0} → Lent A → Used
 used_in x = record { vms = unwrap_or (option_map vm_slots x.vms) no_vms; shared = unwrap_or (option_map shared_of x.shared) no_shared; guest = unwrap_or (option_map guest_held x.guest) no_guest; cpu = cpu_of x.cpu }
 
@@ -59,14 +59,14 @@ pub record GuestSuits {A : Type 0} (l : Layout) (g : GuestPart A) : Type 0 where
   pub depth : guest_depth g.guest ≡ l.depth
   pub log : IsOfSize l.config.log g.log
 
--- what is lent is of the layout
+-- the lent parts are of the layout
 pub record Suits {A : Type 0} (l : Layout) (x : Lent A) : Type 0 where
   pub vms : IfSome x.vms (λ v. IsOfSize l.config.log v.log)
   pub shared : IfSome x.shared (λ s. SharedSuits l s)
   pub guest : IfSome x.guest (λ g. GuestSuits l g)
   pub cpu : IsOfSize l.config.log x.cpu.log
 
--- the logs of what is lent
+-- the logs of the lent parts
 pub record LentLogs : Type 0 where
   pub vms : Option StoredCalls
   pub shared : Option StoredCalls

@@ -3,9 +3,9 @@ use Rattle.std.specs.Prelude.{◌≡◌, ℕ, ◌+◌, ◌-◌, ◌^◌, ◌≤�
 use Rattle.component.specs.View.{HasRoomFor, need_for, back_from}
 use Rattle.hyp_pool.specs.Pools.{StoredFrames, IsPool}
 use Rattle.reference_model.specs.declared.changes.Changes.{Changes}
-use Rattle.reference_model.specs.Changes.{no_changes}
-use Rattle.reference_model.specs.State.{Shared}
-use Rattle.reference_model.specs.Step.{shared_after}
+use Rattle.reference_model.specs.model.Changes.{no_changes}
+use Rattle.reference_model.specs.model.State.{Shared}
+use Rattle.reference_model.specs.model.Step.{shared_after}
 use Rattle.table_tree.specs.Stocks.{frames_of}
 use Rattle.table_tree.specs.View.{spares_of}
 use Rattle.part_types.specs.declared.parts.SharedPart.{SharedPart}

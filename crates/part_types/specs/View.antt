@@ -6,7 +6,7 @@ use Rattle.page_state.specs.declared.row.Row.{Row}
 use Rattle.page_state.specs.Geometries.{levels_below}
 use Rattle.page_state.specs.Regions.{is_in_range}
 use Rattle.page_state.specs.Rows.{advance_row}
-use Rattle.reference_model.specs.State.{Vms, Shared, Guest, Cpu, plain_row}
+use Rattle.reference_model.specs.model.State.{Vms, Shared, Guest, Cpu, plain_row}
 use Rattle.table_tree.specs.View.{tree_of}
 use Rattle.guest_component.specs.View.{guest_of}
 use Rattle.part_types.specs.declared.parts.GuestPart.{GuestPart}

@@ -1,7 +1,7 @@
 //! Changes of a CPU's own state.
 ghost use Rattle.std.specs.Prelude.{◌≡◌};
 ghost use Rattle.part_types.specs.View.{cpu_of};
-ghost use Rattle.reference_model.specs.Changes.{cpu_by, updated as updated_by};
+ghost use Rattle.reference_model.specs.model.Changes.{cpu_by, updated as updated_by};
 
 use crate::parts::CpuState;
 use reference_model::{CpuChange, Update};

@@ -7,8 +7,8 @@ ghost use Rattle.part_types.specs.Roomy.{IsRoomy};
 ghost use Rattle.part_types.specs.View.{shared_of, depth_of, rows_given};
 ghost use Rattle.owner_table.specs.Rows.{HasRows, HasSameFrames};
 ghost use Rattle.page_state.specs.Regions.{end_of};
-ghost use Rattle.reference_model.specs.ChangeLaws.{FitsWhere};
-ghost use Rattle.reference_model.specs.Step.{shared_need, shared_after};
+ghost use Rattle.reference_model.specs.help.ChangeLaws.{FitsWhere};
+ghost use Rattle.reference_model.specs.model.Step.{shared_need, shared_after};
 ghost use Rattle.page_state.specs.Rows.{HasPageBelow};
 ghost use Rattle.table_tree.specs.View.{spares_of};
 
@@ -57,7 +57,7 @@ impl<A: Allocator> SharedPart<A> {
         self.pool.free() < need.host + need.hyp
     }
 
-    /// Makes the changes of both maps, with what is in hand for them. It takes no memory and can't fail. Rows and log stay.
+    /// Makes the changes of both maps, with the tables in hand for them. It takes no memory and can't fail. Rows and log stay.
     pub fn commit(&mut self, plan: SharedPlan<A>)
         requires host_change { FitsWhere (depth_of self.old) plan.host.change }
         requires hyp_change { FitsWhere (depth_of self.old) plan.hyp.change }

@@ -3,7 +3,7 @@ use Rattle.std.proofs.Common.{◌≡◌, ℕ, Bool, List, Option, Some, None, Re
 use Rattle.std.specs.Prelude.{◌↔◌, IfErr, IfOk, IfSome}
 use Rattle.page_state.specs.LayoutView.{layout_of}
 use Rattle.page_state.specs.Layouts.{Layout}
-use Rattle.reference_model.specs.State.{Contents, Reference}
+use Rattle.reference_model.specs.model.State.{Contents, Reference}
 use Rattle.ghost_spec.specs.declared.lists.GhostLists.{GhostLists}
 use Rattle.ghost_spec.specs.States.{contents_in, ghost_state, IsKept}
 use Rattle.ghost_legal.specs.declared.finding.Illegal.{Illegal}

@@ -5,7 +5,7 @@ use Rattle.page_state.specs.declared.layout.Geometry.TheVariants.{Bits39, Bits48
 use Rattle.page_state.specs.LayoutView.{layout_of}
 use Rattle.page_state.specs.Layouts.{Layout}
 use Rattle.page_state.specs.Trees.{Block, Tree, no_tree}
-use Rattle.reference_model.specs.State.{Contents}
+use Rattle.reference_model.specs.model.State.{Contents}
 use Rattle.ghost_spec.specs.declared.lists.GhostLists.{GhostLists}
 use Rattle.ghost_spec.specs.States.{contents_in}
 use Rattle.c_states.specs.declared.layout.PlainLayout.{PlainLayout}
@@ -38,7 +38,7 @@ geometry_said l = if l.address_bits == 48 then Bits48 else Bits39
 abbrev pub trees_said : Geometry → List PlainPage → List PlainRoot → ℕ → Tree
 trees_said g pages roots n = if nat_lt n 66 then tree_of g pages roots n else no_tree
 
--- what is found: the kept contents with these trees, and the owner rows that follow
+-- the state found: the kept contents with these trees, and the owner rows that follow
 abbrev pub found_said : Layout → Contents → Geometry → List PlainPage → List PlainRoot → Contents
 found_said l kept g pages roots = found l kept (trees_said g pages roots)
 

@@ -1,4 +1,4 @@
--- What is audited isn't refused, and has one answer; and what is refused has one reason.
+-- An audited state isn't refused, and has one answer; a refused one has one reason.
 use Rattle.std.specs.Prelude.{◌≡◌, ◌⊎◌, List, Option, Some, None}
 use Rattle.c_states.specs.declared.layout.PlainLayout.{PlainLayout}
 use Rattle.c_states.specs.declared.layout.PlainRegion.{PlainRegion}
@@ -30,7 +30,7 @@ AreAlikeIn None None = Unit {0}
 AreAlikeIn (Some f) (Some g) = AreAlike f g
 AreAlikeIn found other = ⊥
 
--- an audit has one answer, but for which block of a tree or which places it tells
+-- an audit has one answer, but for which block of a tree or which places it names
 abbrev pub CheckedOnce : Type 0
 CheckedOnce = (l : PlainLayout) (regions : List PlainRegion) (kept : Lists) (pages : List PlainPage) (roots : List PlainRoot) (f g : Option Finding)
     → IsChecked l regions kept pages roots f → IsChecked l regions kept pages roots g → AreAlikeIn f g

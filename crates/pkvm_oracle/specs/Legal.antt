@@ -2,7 +2,7 @@
 use Rattle.std.specs.Prelude.{◌≡◌, ◌⊎◌, ◌↔◌, ◌<◌, ◌==◌, ℕ, ℤ, pos, negsuc, Bool, true, false, List, length, take, drop, IfSome, IsSome, Option, Some, None, if◌then◌else◌}
 use Rattle.page_state.specs.Layouts.{Layout}
 use Rattle.page_state.specs.LayoutView.{layout_of}
-use Rattle.reference_model.specs.State.{Contents}
+use Rattle.reference_model.specs.model.State.{Contents}
 use Rattle.ghost_spec.specs.declared.lists.GhostLists.{GhostLists}
 use Rattle.ghost_spec.specs.States.{contents_in}
 use Rattle.ghost_legal.specs.declared.finding.Illegal.{Illegal}

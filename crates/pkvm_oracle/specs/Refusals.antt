@@ -1,4 +1,4 @@
--- The numbers of what is refused.
+-- The numbers of refused inputs.
 use Rattle.std.specs.Prelude.{ℕ, ℤ, Some, None, negsuc}
 use Rattle.page_state.specs.declared.layout.LayoutFault.TheVariants as layouts
 use Rattle.ghost_spec.specs.declared.filled.GhostFault.{GhostFault}

@@ -19,7 +19,7 @@ pub record Replays (trace old new : List ℕ) (written : ℕ) (status : ℤ) : T
   pub inside : written ≤ length new
   pub behind : drop written new ≡ drop written old
 
--- the report has no room: its front was written, and how many bytes it has is told
+-- the report has no room: its front was written, and the answer has its length in bytes
 pub record HasNoRoom (trace old new : List ℕ) (written : ℕ) (status : ℤ) : Type 0 where
   pub outcome : Outcome
   pub all : List ℕ

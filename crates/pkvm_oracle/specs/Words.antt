@@ -29,7 +29,7 @@ abbrev pub Encodes : Level → Desc → ℕ → ℕ → ℤ → Type 0
 Encodes level desc old new status =
     ((status ≡ pos 0) × IsTheWord level desc new) ⊎ ((status ≡ negsuc 3) × (new ≡ old) × ((w : ℕ) → w < 2 ^ 64 → Says level w desc → ⊥))
 
--- or there is no such level, or a number stands for nothing
+-- or there is no such level, or a number is unknown
 abbrev pub IsEncoded : ℕ → PlainWord → ℕ → ℕ → ℤ → Type 0
 IsEncoded level says old new status =
     MatchOption (level_said level) ((status ≡ negsuc 0) × (new ≡ old)) (λ l.

@@ -122,7 +122,7 @@ fn of_root(fault: u64, at: usize) -> PlainRefused
     }
 }
 
-/// Why pages and roots make no trees, in numbers. Of a walk, the tree and the frame are told.
+/// Why pages and roots make no trees, in numbers. Of a walk, with the tree and the frame.
 fn trees_refused(fault: TreeFault) -> PlainRefused
     ensures { result ≡ refused_by_trees fault }
 {

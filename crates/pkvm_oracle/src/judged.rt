@@ -23,7 +23,7 @@ use std::alloc::Global;
 pub struct PlainRefused {
     /// The fault's number; 0 for none.
     pub fault: u64,
-    /// The number of the list whose member is at fault, where one is told, and the member's index. 0 else.
+    /// The number of the list whose member is at fault, if one is named, and the member's index. Otherwise 0.
     pub list: u64,
     pub index: u64,
 }

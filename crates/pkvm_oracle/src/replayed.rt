@@ -7,7 +7,7 @@ use std::alloc::Global;
 use trace_bytes::{Replayed, replay_bytes};
 use trace_reader::Outcome;
 
-/// Writes as many bytes as there is room for, and tells how many.
+/// Writes as many bytes as there is room for, and returns how many.
 fn put(bytes: &[u8], room: &mut [u8]) -> usize
     ensures count { result ≡ min (length bytes.now) (length room.old) }
     ensures front { take result room.new ≡ take result bytes.now }

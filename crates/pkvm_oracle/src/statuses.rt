@@ -6,7 +6,7 @@ pub(crate) const NO_LEVEL: i32 = -1;
 /// What is written needs more room than there is.
 pub(crate) const NO_ROOM: i32 = -2;
 
-/// A number stands for nothing.
+/// A number is unknown.
 pub(crate) const BAD_NUMBER: i32 = -3;
 
 /// No word of the level says it.
@@ -15,7 +15,7 @@ pub(crate) const NO_WORD: i32 = -4;
 /// The call, its rights or its kind of VMs is unknown.
 pub(crate) const BAD_STEP: i32 = -5;
 
-/// A number of the reply stands for nothing.
+/// A number of the reply is unknown.
 pub(crate) const BAD_REPLY: i32 = -6;
 
 /// The layout hasn't the CPU.

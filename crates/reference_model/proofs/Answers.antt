@@ -1,22 +1,22 @@
 -- How code comes to the reference step.
 use Rattle.std.proofs.Common.{◌≡◌, ℕ, refl, sym, ◌∙◌, subst, inl, inr}
-use Rattle.std.specs.Prelude.{Bool, true, false, ◌||◌, if◌then◌else◌, Option, Some, None, Result, Ok, Err}
+use Rattle.std.specs.Prelude.{Bool, true, false, ◌||◌, if◌then◌else◌, Option, Some, None, Result, Ok, Err, not}
 use Rattle.call_table.specs.declared.reply.Refusal.{Refusal}
 use Rattle.call_table.specs.declared.reply.Refusal.TheVariants.{Perm, NoVm, Busy, Invalid, NoPool}
 use Rattle.reference_model.specs.declared.changes.Changes.{Changes}
 use Rattle.call_table.specs.declared.reply.Reply.{Reply}
 use Rattle.call_table.specs.declared.reply.Reply.TheVariants.{Refused}
-use Rattle.reference_model.specs.History.{IsStored}
+use Rattle.reference_model.specs.model.History.{IsStored}
 use Rattle.call_table.specs.declared.step.Step.{Step}
 use Rattle.page_state.specs.Layouts.{Layout}
-use Rattle.reference_model.specs.Parts.{lacks_slot}
-use Rattle.reference_model.specs.Rules.{names}
-use Rattle.reference_model.specs.RowChanges.{with_told}
-use Rattle.reference_model.specs.Rule.{Rule}
-use Rattle.reference_model.specs.Used.{Used, used_of}
-use Rattle.reference_model.specs.Answers.{CarriesOut, BarredAnswers, CarriedAnswers, AnswerSteps, FullSteps, UsedSteps}
-use Rattle.reference_model.specs.Decides.{decided}
-use Rattle.reference_model.specs.Step.{or_else, first_test, refusal, rule_of, fails, made, changed, Answered}
+use Rattle.reference_model.specs.model.Parts.{lacks_slot}
+use Rattle.reference_model.specs.model.Rules.{names}
+use Rattle.reference_model.specs.help.RowChanges.{with_told}
+use Rattle.reference_model.specs.model.Rule.{Rule}
+use Rattle.reference_model.specs.model.Used.{Used, used_of}
+use Rattle.reference_model.specs.help.Answers.{CarriesOut, BarredAnswers, CarriedAnswers, AnswerSteps, FullSteps, UsedSteps}
+use Rattle.reference_model.specs.model.Decides.{decided}
+use Rattle.reference_model.specs.model.Step.{or_else, first_test, refusal, rule_of, fails, made, changed, Answered}
 use Rattle.reference_model.proofs.conditions.Keeps.{rows_told}
 use Rattle.page_state.proofs.Common.{if-true, if-false}
 
@@ -87,7 +87,7 @@ none-stored w e = cc
 
 -- the refusals of tests are stored
 pub test-stored : (r : Rule) (lacks : Bool) (w : Refusal) → first_test r lacks ≡ Some w → IsStored (Refused w)
-test-stored r lacks = stored-test r.invalid Invalid _ tt (stored-test (lacks || r.no_vm) NoVm _ tt (stored-test r.busy Busy _ tt (stored-test r.perm Perm None tt none-stored)))
+test-stored r lacks = stored-test (not r.valid.passes) Invalid _ tt (stored-test (lacks || not r.has_vm.passes) NoVm _ tt (stored-test (not r.ready.passes) Busy _ tt (stored-test (not r.allowed.passes) Perm None tt none-stored)))
 
 fail-stored : (o : Option Refusal) (short : Bool) (w : Refusal) → ((v : Refusal) → o ≡ Some v → IsStored (Refused v)) → or_else o (if short then Some NoPool else None) ≡ Some w → IsStored (Refused w)
 fail-stored (Some found) short w h e = h w e

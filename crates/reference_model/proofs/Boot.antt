@@ -13,13 +13,13 @@ use Rattle.page_state.specs.Map.{is_within}
 use Rattle.page_state.specs.EntryTests.{annotation, maps_frame}
 use Rattle.page_state.specs.Geometries.{pages_below}
 use Rattle.page_state.specs.Trees.{Block, Tree, no_tree, frames_from}
-use Rattle.reference_model.specs.State.{vacant, reserved, opened, closing}
+use Rattle.reference_model.specs.model.State.{vacant, reserved, opened, closing}
 use Rattle.page_state.specs.Layouts.{Layout, is_memory, hyp_page}
-use Rattle.reference_model.specs.Owner.{row_of, is_free, is_table_frame, is_in_hand, is_in_shared_pool, vm_pool_of, holding_cpu, is_lent_to_host, sharer, owner_by}
+use Rattle.reference_model.specs.model.Owner.{row_of, is_free, is_table_frame, is_in_hand, is_in_shared_pool, vm_pool_of, holding_cpu, is_lent_to_host, sharer, owner_by}
 use Rattle.page_state.specs.Tables.{needs, edited}
-use Rattle.reference_model.specs.Sound.{IsOne, IsLeafOf, Maps, Holds, IsHostsOwn, owner, usage, OneOwner, OneBorrower, Place, shared_pool, vm_pool, table_of, hand, IsHeld, HeldOnce, SlotsAgree}
-use Rattle.reference_model.specs.Boot.{carve_first, host_edit, hyp_edit, host_root, hyp_root, spare, host_need, hyp_need, IsCarveEnough, booted}
-use Rattle.reference_model.specs.Laws.{BootSound}
+use Rattle.reference_model.specs.claims.Sound.{IsOne, IsLeafOf, Maps, Holds, IsHostsOwn, owner, usage, OneOwner, OneBorrower, Place, shared_pool, vm_pool, table_of, hand, IsHeld, HeldOnce, SlotsAgree}
+use Rattle.reference_model.specs.model.Boot.{carve_first, host_edit, hyp_edit, host_root, hyp_root, spare, host_need, hyp_need, IsCarveEnough, booted}
+use Rattle.reference_model.specs.claims.Laws.{BootSound}
 use Rattle.page_state.proofs.Common.{both, if-true, if-false}
 use Rattle.reference_model.proofs.Frames.{first_from-none, is_table_frame-none, is_table_frame-block, is_free-contains, drop-frames, contains-frames, nth, tables-of}
 use Rattle.reference_model.proofs.conditions.Stands.{when-not}

@@ -1,6 +1,6 @@
 -- The rows of BootRows, computed.
 use Rattle.std.proofs.Common.{refl}
-use Rattle.reference_model.specs.BootRows.{BootTables, BootMaps, BootBlock, BootOwners, ShareTables, UnshareTables, ShareEnough}
+use Rattle.reference_model.specs.rows.BootRows.{BootTables, BootMaps, BootBlock, BootOwners, ShareTables, UnshareTables, ShareEnough}
 use Rattle.reference_model.proofs.Foretold.{computing}
 
 pub boot_tables : BootTables

@@ -1,6 +1,6 @@
 -- What a rule changes is of parts that its step uses.
 use Rattle.std.proofs.Common.{◌≡◌, ℕ, refl, sym, ◌∙◌, subst, arith}
-use Rattle.std.specs.Prelude.{true, false, nat_le, nat_lt, Option, Some, None}
+use Rattle.std.specs.Prelude.{true, false, nat_lt, Option, Some, None}
 use Rattle.std.proofs.lemmas.Bool.Decides.{nat_tests}
 use Rattle.call_table.specs.declared.step.Step.{Step}
 use Rattle.call_table.specs.declared.step.Step.TheVariants.{ShareHyp, UnshareHyp, DonateHyp, HypDonateHost, HostAbort, HostTranslate, HypTranslate, OwnerOf, Fund, Unfund, GuestRelax, GuestTranslate, MarkDying, VmReserve, VmOpen, VcpuLoad, VcpuPut, Teardown, VmRelease}
@@ -8,15 +8,15 @@ use Rattle.page_state.specs.Layouts.{Layout}
 use Rattle.reference_model.specs.declared.changes.Changes.{Changes}
 use Rattle.reference_model.specs.declared.changes.GuestChange.TheVariants.{Keep as KeepGuest}
 use Rattle.reference_model.specs.declared.changes.SlotChange.TheVariants.{Keep as KeepSlots}
-use Rattle.reference_model.specs.ChangeLaws.{OnlyUses, ChangesUsed}
-use Rattle.reference_model.specs.Changes.{touched}
-use Rattle.reference_model.specs.Parts.{Names, shared, shared_and_guest, guest, lacks_slot, uses_vms}
-use Rattle.reference_model.specs.Rule.{Rule}
-use Rattle.reference_model.specs.Rules.{rule, names}
-use Rattle.reference_model.specs.Step.{first_test}
-use Rattle.reference_model.specs.Used.{Used}
-use Rattle.reference_model.specs.VmRules.{vcpu_load, teardown}
-use Rattle.page_state.proofs.Common.{or-neither}
+use Rattle.reference_model.specs.help.ChangeLaws.{OnlyUses, ChangesUsed}
+use Rattle.reference_model.specs.model.Changes.{touched}
+use Rattle.reference_model.specs.model.Parts.{Names, shared, shared_and_guest, guest, is_good_vm, lacks_slot, uses_vms}
+use Rattle.reference_model.specs.model.Rule.{Rule, reads}
+use Rattle.reference_model.specs.model.Rules.{rule, names}
+use Rattle.reference_model.specs.model.Step.{first_test}
+use Rattle.reference_model.specs.model.Used.{Used}
+use Rattle.reference_model.specs.model.VmRules.{vcpu_load, teardown}
+use Rattle.page_state.proofs.Common.{and-left}
 use Rattle.reference_model.proofs.Answers.{told-ok}
 use Rattle.reference_model.proofs.conditions.Tests.{tested}
 
@@ -33,9 +33,6 @@ of-guest v h a b c d = record { vms = λ e. a; host = λ e. b; hyp = λ e. c; mo
 
 of-vms : (n : Names) (slot : Option ℕ) (h : Changes) → uses_vms n ≡ true → h.host ≡ None → h.hyp ≡ None → touched h ≡ None → h.guest ≡ None → h.part ≡ KeepGuest → OnlyUses n slot h
 of-vms n slot h u a b c d e = record { vms = λ w. let bad : true ≡ false = sym u ∙ w in cc; host = λ w. a; hyp = λ w. b; moved = λ w. c; guest = λ w. d; part = λ w. e }
-
-in-slots : (n : ℕ) → nat_le 64 n ≡ false → nat_lt n 64 ≡ true
-in-slots n h = grind (arith, nat_tests)
 
 -- a step that lacks its slot decides nothing
 pub lacking : {P : Type 0} (r : Rule) → first_test r true ≡ None → P
@@ -55,9 +52,9 @@ each l cpu slot (Fund f n) x h = of-shared slot _ refl refl refl
 each l cpu slot Unfund x h = of-shared slot _ refl refl refl
 each l cpu slot (VmReserve kind vcpus) x h = of-vms _ slot _ refl refl refl refl refl refl
 each l cpu slot VmOpen x h = of-vms _ slot _ refl refl refl refl refl refl
-each l cpu slot (VcpuLoad vm i) x h = of-vms _ slot _ (in-slots vm.slot (or-neither (nat_le 64 vm.slot) (nat_le 8 i) (tested (vcpu_load cpu x vm i) false h).invalid).0) refl refl refl refl refl
+each l cpu slot (VcpuLoad vm i) x h = of-vms _ slot _ (and-left (is_good_vm vm) (nat_lt i 8) (tested (vcpu_load vm i (reads l cpu slot x)) false h).valid) refl refl refl refl refl
 each l cpu slot VcpuPut x h = of-vms _ slot _ refl refl refl refl refl refl
-each l cpu slot (Teardown vm) x h = of-vms _ slot _ (in-slots vm.slot (tested (teardown x vm) false h).invalid) refl refl refl refl refl
+each l cpu slot (Teardown vm) x h = of-vms _ slot _ (tested (teardown vm (reads l cpu slot x)) false h).valid refl refl refl refl refl
 each l cpu slot VmRelease x h = of-vms _ slot _ refl refl refl refl refl refl
 each l cpu (Some v) (GuestRelax g p) x h = of-guest v _ refl refl refl refl
 each l cpu (Some v) (GuestTranslate vm g) x h = of-guest v _ refl refl refl refl

@@ -4,7 +4,7 @@ use Rattle.std.specs.Prelude.{◌⊎◌}
 use Rattle.page_state.specs.declared.entry.Entry.{Entry}
 use Rattle.page_state.specs.declared.entry.Entry.TheVariants.{Annotated}
 use Rattle.page_state.specs.EntryTests.{entry_frame, annotation}
-use Rattle.reference_model.specs.ConditionRows.{HostAloneRow, HostSharedRow, HypRow, GuestRow, RowsOfEach, KeepersRow, MovesRow}
+use Rattle.reference_model.specs.rows.ConditionRows.{HostAloneRow, HostSharedRow, HypRow, GuestRow, RowsOfEach, KeepersRow, MovesRow}
 
 -- an entry that is neither of two
 neither : {e a b : Entry} → (e ≡ a → ⊥) → (e ≡ b → ⊥) → (e ≡ a) ⊎ (e ≡ b) → ⊥

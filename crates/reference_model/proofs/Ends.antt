@@ -4,16 +4,16 @@ use Rattle.std.specs.Prelude.{Bool, true, false, ◌==◌, ◌⊎◌, filter}
 use Rattle.std.proofs.lemmas.List.Elements.{All-cons, filter-append}
 use mathlib.Core.Path.{fun_ext}
 use Rattle.call_table.specs.declared.reply.Call.{Call}
-use Rattle.reference_model.specs.State.{Reference}
+use Rattle.reference_model.specs.model.State.{Reference}
 use Rattle.page_state.specs.Layouts.{Layout}
-use Rattle.reference_model.specs.Parts.{Part, vm_part, shared_part, guest_part}
-use Rattle.reference_model.specs.Rules.{call_uses}
-use Rattle.reference_model.specs.Step.{Steps}
-use Rattle.reference_model.specs.Boot.{boot}
-use Rattle.reference_model.specs.Run.{Runs}
-use Rattle.reference_model.specs.History.{calls_on, calls_by, IsStored}
-use Rattle.reference_model.specs.Laws.{Agree, AgreeBeside, PartsEnd, vms_in, shared_in, guest_in, cpu_in}
-use Rattle.reference_model.specs.OrderLaws.{PartsRun, PartsHistory}
+use Rattle.reference_model.specs.model.Parts.{Part, vm_part, shared_part, guest_part}
+use Rattle.reference_model.specs.model.Rules.{call_uses}
+use Rattle.reference_model.specs.model.Step.{Steps}
+use Rattle.reference_model.specs.model.Boot.{boot}
+use Rattle.reference_model.specs.model.Run.{Runs}
+use Rattle.reference_model.specs.model.History.{calls_on, calls_by, IsStored}
+use Rattle.reference_model.specs.claims.Laws.{Agree, AgreeBeside, PartsEnd, vms_in, shared_in, guest_in, cpu_in}
+use Rattle.reference_model.specs.claims.OrderLaws.{PartsRun, PartsHistory}
 use Rattle.page_state.proofs.Common.{both, eq-self, eq-same, eq-other, same2, same4}
 use Rattle.reference_model.proofs.Steps.{state_of, all_of, whole, first-same, second-same, step_changes, step_reads, step_once}
 

@@ -11,8 +11,8 @@ use Rattle.reference_model.specs.contracts.changes.Stage as stage_type
 use Rattle.reference_model.specs.contracts.changes.StagePartialEq.TheImpl as stages
 use Rattle.reference_model.specs.contracts.changes.TicketPartialEq.TheImpl as tickets
 use Rattle.reference_model.specs.declared.changes.Stage.{Stage}
-use Rattle.reference_model.specs.declared.changes.Stage.TheVariants.{Booked as booked, Installed as installed, ClosingVm as closing_vm, DyingVm as dying_vm, Finished as finished}
-use Rattle.reference_model.specs.Parts.{stage_eq}
+use Rattle.reference_model.specs.declared.changes.Stage.TheVariants.{Booked as booked, Installed as installed, Closing as closing_vm, Dying as dying_vm, Finished as finished}
+use Rattle.reference_model.specs.model.Parts.{stage_eq}
 
 pub stages_tell : Tells stages.ghosts.eq
 stages_tell = bare_tells stage_type.the_type tt

@@ -17,7 +17,7 @@ use Rattle.page_state.specs.Tables.{put, edit_blocks, needs}
 use Rattle.page_state.specs.Trees.{Block, root_tree}
 use Rattle.page_state.proofs.Blocks.{one_word_means}
 use Rattle.page_state.proofs.Cases.{by_test}
-use Rattle.reference_model.specs.Examples.{layout, need_of, NeedRow, SplitRow, RemovalRow, FoldRow, UnalignedRow, CanBootRow, BootRow, WideBootRow, ShareRow, BesideRow, NearRow, AgainRow, CarveRow, DeviceRow, PastRow, NoFrameRow, OneFrameRow, FullLogRow, FullSharedRow, RoomRow, OwnerRow}
+use Rattle.reference_model.specs.rows.Examples.{layout, need_of, NeedRow, SplitRow, RemovalRow, FoldRow, UnalignedRow, CanBootRow, BootRow, WideBootRow, ShareRow, BesideRow, NearRow, AgainRow, CarveRow, DeviceRow, PastRow, NoFrameRow, OneFrameRow, FullLogRow, FullSharedRow, RoomRow, OwnerRow}
 use Rattle.reference_model.proofs.Foretold.{computing}
 
 -- where nothing is mapped, no block needs a table

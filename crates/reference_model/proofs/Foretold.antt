@@ -5,16 +5,16 @@ use Rattle.call_table.specs.declared.reply.Reply.TheVariants.{Refused}
 use Rattle.call_table.specs.declared.step.Step.{Step}
 use Rattle.page_state.specs.Blocks.{is_one_word, is_empty, blocks_on}
 use Rattle.page_state.specs.Tables.{needs, freed, returned, edited}
-use Rattle.reference_model.specs.Owner.{row_of}
-use Rattle.reference_model.specs.Used.{used_of, put_back, rooms_of, put_rooms}
+use Rattle.reference_model.specs.model.Owner.{row_of}
+use Rattle.reference_model.specs.model.Used.{used_of, put_back, rooms_of, put_rooms}
 use Rattle.page_state.specs.Layouts.{Layout}
-use Rattle.reference_model.specs.Rules.{rule}
-use Rattle.reference_model.specs.SharedRules.{abort_edit}
-use Rattle.reference_model.specs.RowChanges.{with_told}
-use Rattle.reference_model.specs.State.{Reference}
-use Rattle.reference_model.specs.Step.{stored, is_full, is_short, refusal, shared_after, guest_after, changed, own_row, with_rows, fails, made, answer, predict, foretell}
-use Rattle.reference_model.specs.Boot.{booted}
-use Rattle.reference_model.specs.Scene.{Refuses}
+use Rattle.reference_model.specs.model.Rules.{rule}
+use Rattle.reference_model.specs.model.SharedRules.{abort_edit}
+use Rattle.reference_model.specs.help.RowChanges.{with_told}
+use Rattle.reference_model.specs.model.State.{Reference}
+use Rattle.reference_model.specs.model.Step.{stored, is_full, is_short, refusal, shared_after, guest_after, changed, own_row, with_rows, fails, made, answer, predict, foretell}
+use Rattle.reference_model.specs.model.Boot.{booted}
+use Rattle.reference_model.specs.rows.Scene.{Refuses}
 use Rattle.reference_model.proofs.Steps.{refusal_keeps, step_exists}
 
 -- where this stands on a line of unfolding, a foretold step computes

@@ -1,6 +1,6 @@
 -- The rows of FoundRows, computed.
 use Rattle.std.proofs.Common.{refl}
-use Rattle.reference_model.specs.FoundRows.{OwnersFound, FirstFound, UsesFound, GuestKept, HypKept}
+use Rattle.reference_model.specs.rows.FoundRows.{OwnersFound, FirstFound, UsesFound, GuestKept, HypKept}
 use Rattle.reference_model.proofs.Foretold.{computing}
 
 pub owners_found : OwnersFound

@@ -8,7 +8,7 @@ use Rattle.page_state.specs.Layouts.{Layout}
 use Rattle.page_state.specs.Search.{count_below, first_from}
 use Rattle.page_state.specs.Blocks.{block_eq}
 use Rattle.page_state.specs.Tables.{Edit, needs, need, freed, placed, cleared, edited}
-use Rattle.reference_model.specs.Owner.{count_blocks, is_frame, is_table_frame, is_free}
+use Rattle.reference_model.specs.model.Owner.{count_blocks, is_frame, is_table_frame, is_free}
 use Rattle.page_state.proofs.Common.{both, eq-same, and-both}
 use Rattle.page_state.proofs.BlockTests.{block-same, block_eq-same}
 

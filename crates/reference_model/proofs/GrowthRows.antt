@@ -1,6 +1,6 @@
 -- The rows of GrowthRows, computed.
 use Rattle.std.proofs.Common.{refl}
-use Rattle.reference_model.specs.GrowthRows.{Grows, NeverGrows}
+use Rattle.reference_model.specs.rows.GrowthRows.{Grows, NeverGrows}
 use Rattle.reference_model.proofs.Foretold.{computing}
 
 pub grows : Grows

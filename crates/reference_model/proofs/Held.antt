@@ -6,21 +6,21 @@ use Rattle.call_table.specs.declared.reply.Call.{Call}
 use Rattle.call_table.specs.declared.reply.Reply.{Reply}
 use Rattle.call_table.specs.declared.reply.Reply.TheVariants.{Refused}
 use Rattle.call_table.specs.declared.step.Step.{Step}
-use Rattle.reference_model.specs.Answers.{Does}
+use Rattle.reference_model.specs.help.Answers.{Does}
 use Rattle.call_table.specs.declared.step.Step.TheVariants.{ShareHyp, UnshareHyp, DonateHyp, HypDonateHost, HostAbort, HostTranslate, HypTranslate, OwnerOf, Fund, Unfund, ShareGuest, UnshareGuest, DonateGuest, GuestShareHost, GuestUnshareHost, Install, Topup, ReclaimPage, ReclaimPool, FinishGuest, GuestRelax, GuestTranslate, MarkDying, VmReserve, VmOpen, VcpuLoad, VcpuPut, Teardown, VmRelease}
-use Rattle.reference_model.specs.declared.changes.Stage.TheVariants.{Booked, ClosingVm, DyingVm}
-use Rattle.reference_model.specs.Conditions.{Legal, IsUsable}
-use Rattle.reference_model.specs.Held.{HistorySteps, CallGrows}
-use Rattle.reference_model.specs.Stored.{held_state}
-use Rattle.reference_model.specs.History.{calls_by, Kept, IsHistory, IsStored}
-use Rattle.reference_model.specs.Laws.{Agree}
-use Rattle.reference_model.specs.Stored.{Stores, StoresCall}
+use Rattle.reference_model.specs.declared.changes.Stage.TheVariants.{Booked, Closing, Dying}
+use Rattle.reference_model.specs.help.Conditions.{Legal, IsUsable}
+use Rattle.reference_model.specs.help.Held.{HistorySteps, CallGrows}
+use Rattle.reference_model.specs.model.Stored.{held_state}
+use Rattle.reference_model.specs.model.History.{calls_by, Kept, IsHistory, IsStored}
+use Rattle.reference_model.specs.claims.Laws.{Agree}
+use Rattle.reference_model.specs.model.Stored.{Stores, StoresCall}
 use Rattle.page_state.specs.Layouts.{Layout}
-use Rattle.reference_model.specs.Parts.{lacks_slot, vm_part, shared_part, guest_part, loaded_slot, ticket_slot, is_slot}
-use Rattle.reference_model.specs.Rules.{names, call_uses, guest_slot}
-use Rattle.reference_model.specs.State.{Contents, Reference}
-use Rattle.reference_model.specs.Step.{rule_of, stored, Answered, StepsOn, used_by, rooms_by, with_used}
-use Rattle.reference_model.specs.Used.{Used, used_of, rooms_of}
+use Rattle.reference_model.specs.model.Parts.{lacks_slot, vm_part, shared_part, guest_part, loaded_slot, ticket_slot, is_slot}
+use Rattle.reference_model.specs.model.Rules.{names, call_uses, guest_slot}
+use Rattle.reference_model.specs.model.State.{Contents, Reference}
+use Rattle.reference_model.specs.model.Step.{rule_of, stored, Answered, StepsOn, used_by, rooms_by, with_used}
+use Rattle.reference_model.specs.model.Used.{Used, used_of, rooms_of}
 use Rattle.reference_model.proofs.Answers.{used_steps, told-err, test-stored, barred_answers, carried_answers, answer_steps}
 use Rattle.page_state.proofs.Common.{same2, eq-same}
 use Rattle.reference_model.proofs.History.{history_grows}
@@ -53,8 +53,8 @@ module _ (l : Layout) (s : Contents) (legal : Legal l s) (cpu v : ℕ) where
   slot-low (ReclaimPool vm) h = named-slot vm v h
   slot-low (GuestTranslate vm g) h = named-slot vm v h
   slot-low Install h = by-ticket Booked h
-  slot-low MarkDying h = by-ticket ClosingVm h
-  slot-low FinishGuest h = by-ticket DyingVm h
+  slot-low MarkDying h = by-ticket Closing h
+  slot-low FinishGuest h = by-ticket Dying h
   slot-low (ShareHyp f) h = none-some h
   slot-low (UnshareHyp f) h = none-some h
   slot-low (DonateHyp f n) h = none-some h

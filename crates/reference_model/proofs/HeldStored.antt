@@ -6,14 +6,14 @@ use mathlib.Core.Path.{fun_ext}
 use Rattle.call_table.specs.declared.reply.Call.{Call}
 use Rattle.page_state.specs.Layouts.{Layout}
 use Rattle.page_state.proofs.Common.{eq-same}
-use Rattle.reference_model.specs.Held.{HeldStored}
-use Rattle.reference_model.specs.Stored.{left_of}
-use Rattle.reference_model.specs.Stored.{Stores}
-use Rattle.reference_model.specs.Parts.{uses_vms, uses_shared, is_slot}
-use Rattle.reference_model.specs.Rules.{names}
-use Rattle.reference_model.specs.State.{Vms, Shared, Guest, Cpu, Contents, Rooms, Reference, put_at}
-use Rattle.reference_model.specs.Step.{stored}
-use Rattle.reference_model.specs.Used.{put_guest, room_at, put_room, put_back, rooms_of, put_rooms}
+use Rattle.reference_model.specs.help.Held.{HeldStored}
+use Rattle.reference_model.specs.model.Stored.{left_of}
+use Rattle.reference_model.specs.model.Stored.{Stores}
+use Rattle.reference_model.specs.model.Parts.{uses_vms, uses_shared, is_slot}
+use Rattle.reference_model.specs.model.Rules.{names}
+use Rattle.reference_model.specs.model.State.{Vms, Shared, Guest, Cpu, Contents, Rooms, Reference, put_at}
+use Rattle.reference_model.specs.model.Step.{stored}
+use Rattle.reference_model.specs.model.Used.{put_guest, room_at, put_room, put_back, rooms_of, put_rooms}
 
 -- a part that stores the call where it is used has the next content there
 content-is : {X : Type 0} (used : Bool) (c : Call) (y : X) (before after : X × List Call) → Stores used c (if used then y else before.0) before after → after.0 ≡ (if used then y else before.0)

@@ -3,14 +3,14 @@ use Rattle.std.proofs.Common.{◌≡◌, ◌<◌, refl, ap, sym, ◌∙◌, subs
 use Rattle.std.specs.Prelude.{Bool, true, false, ◌==◌}
 use Rattle.std.proofs.lemmas.List.Elements.{All-nil, All-push, filter-append}
 use Rattle.call_table.specs.declared.reply.Call.{Call}
-use Rattle.reference_model.specs.Parts.{vm_part, shared_part, guest_part}
-use Rattle.reference_model.specs.Rules.{call_uses}
-use Rattle.reference_model.specs.Step.{Steps}
-use Rattle.reference_model.specs.Boot.{boot}
-use Rattle.reference_model.specs.Run.{Runs}
-use Rattle.reference_model.specs.History.{IsStored}
-use Rattle.reference_model.specs.Laws.{AgreeBeside, HistoryBegins, HistoryGrows}
-use Rattle.reference_model.specs.Stored.{Stores}
+use Rattle.reference_model.specs.model.Parts.{vm_part, shared_part, guest_part}
+use Rattle.reference_model.specs.model.Rules.{call_uses}
+use Rattle.reference_model.specs.model.Step.{Steps}
+use Rattle.reference_model.specs.model.Boot.{boot}
+use Rattle.reference_model.specs.model.Run.{Runs}
+use Rattle.reference_model.specs.model.History.{IsStored}
+use Rattle.reference_model.specs.claims.Laws.{AgreeBeside, HistoryBegins, HistoryGrows}
+use Rattle.reference_model.specs.model.Stored.{Stores}
 use Rattle.reference_model.proofs.Steps.{step_changes, first-same}
 use Rattle.reference_model.proofs.Ends.{filter-true, filter-false, eq-unlike}
 

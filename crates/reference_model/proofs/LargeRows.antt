@@ -1,6 +1,7 @@
 -- The rows of LargeRows. The emptiness of a block of 262,144 pages isn't searched, but follows from the update that lies behind it, and that of such a guest's map from the map.
+use Rattle.reference_model.specs.model.Rule.{reads}
 use Rattle.std.proofs.Common.{◌≡◌, ℕ, ◌+◌, refl, ap, ◌∙◌, arith, inl}
-use Rattle.std.specs.Prelude.{Bool, true, false, not, ◌||◌, nat_lt, List, [], ◌∷◌, length, Option, Some, None, if◌then◌else◌}
+use Rattle.std.specs.Prelude.{Bool, true, false, not, ◌||◌, List, [], ◌∷◌, length, Option, Some, None, if◌then◌else◌, ◌&&◌, ◌==◌}
 use Rattle.page_state.specs.declared.entry.Entry.{Entry}
 use Rattle.page_state.specs.declared.entry.Entry.TheVariants.{Unmapped}
 use Rattle.call_table.specs.declared.reply.Refusal.{Refusal}
@@ -13,16 +14,16 @@ use Rattle.page_state.specs.EntryTests.{annotation, is_unmapped}
 use Rattle.page_state.specs.Geometries.{pages_below}
 use Rattle.page_state.specs.Map.{empty_map}
 use Rattle.page_state.specs.Search.{all_below}
-use Rattle.reference_model.specs.GuestRules.{finish_guest}
-use Rattle.reference_model.specs.Parts.{lacks_slot}
-use Rattle.reference_model.specs.Rules.{rule, names, guest_slot}
-use Rattle.reference_model.specs.Scene.{small, at}
-use Rattle.reference_model.specs.SceneState.{scene, with_free}
-use Rattle.reference_model.specs.SharedRules.{abort_edit}
-use Rattle.reference_model.specs.State.{Reference}
-use Rattle.reference_model.specs.Step.{stored, is_full, refusal, fails, made, answer, predict, foretell}
-use Rattle.reference_model.specs.Used.{Used, UsedRooms, used_of, rooms_of, put_back, put_rooms}
-use Rattle.reference_model.specs.LargeRows.{behind, HostAbortLargest, HostAbortSmaller, FinishGuestShort, FinishGuestSplits}
+use Rattle.reference_model.specs.model.GuestRules.{finish_guest}
+use Rattle.reference_model.specs.model.Parts.{lacks_slot}
+use Rattle.reference_model.specs.model.Rules.{rule, names, guest_slot}
+use Rattle.reference_model.specs.rows.Scene.{small, at}
+use Rattle.reference_model.specs.rows.SceneState.{scene, with_free}
+use Rattle.reference_model.specs.model.SharedRules.{abort_edit}
+use Rattle.reference_model.specs.model.State.{Reference}
+use Rattle.reference_model.specs.model.Step.{stored, is_full, refusal, fails, made, answer, predict, foretell}
+use Rattle.reference_model.specs.model.Used.{Used, UsedRooms, used_of, rooms_of, put_back, put_rooms}
+use Rattle.reference_model.specs.rows.LargeRows.{behind, HostAbortLargest, HostAbortSmaller, FinishGuestShort, FinishGuestSplits}
 use Rattle.page_state.proofs.Blocks.{all_from-by, empty_means}
 use Rattle.reference_model.proofs.Foretold.{computing, refuses}
 use Rattle.page_state.proofs.Updates.{update_outside}
@@ -62,20 +63,20 @@ module _ (s : Reference) where
       (r.0, record { contents = put_back (names FinishGuest) slot 6 s.contents r.1; rooms = put_rooms (names FinishGuest) slot 6 s.rooms r.2 })
 
   refusal_by : Bool → Option Refusal
-  refusal_by perm = refusal 1 (record (finish_guest (small 1) x) { perm = perm }) (lacks_slot (names FinishGuest) slot) x
+  refusal_by allowed = refusal 1 (record (finish_guest (reads (small 1) 6 slot x)) { allowed = record (finish_guest (reads (small 1) 6 slot x)).allowed { passes = allowed } }) (lacks_slot (names FinishGuest) slot) x
 
   by_fail : foretell (small 1) s 6 FinishGuest ≡ foretold_by (fails (small 1) 6 slot FinishGuest x)
   unfolding foretell predict answer foretold_by
   by_fail = refl
 
-  by_perm : fails (small 1) 6 slot FinishGuest x ≡ refusal_by (not (all_below (pages_below 1) (λ g. is_unmapped (entry g))) || nat_lt 0 (length x.guest.free))
+  by_perm : fails (small 1) 6 slot FinishGuest x ≡ refusal_by (all_below (pages_below 1) (λ g. is_unmapped (entry g)) && length x.guest.free == 0)
   unfolding fails rule refusal_by
   by_perm = refl
 
-  foretold : ((g : ℕ) → entry g ≡ Unmapped) → x.guest.free ≡ [] → (o : Option Refusal) → refusal_by false ≡ o → foretell (small 1) s 6 FinishGuest ≡ foretold_by o
+  foretold : ((g : ℕ) → entry g ≡ Unmapped) → x.guest.free ≡ [] → (o : Option Refusal) → refusal_by true ≡ o → foretell (small 1) s 6 FinishGuest ≡ foretold_by o
   foretold none free o h =
       let empty : all_below (pages_below 1) (λ g. is_unmapped (entry g)) ≡ true = all_from-by 0 (pages_below 1) (λ g. is_unmapped (entry g)) (λ i low high. ap is_unmapped (none i)) in
-      let passes = ap (λ b. not b || nat_lt 0 (length x.guest.free)) empty ∙ ap (λ (fs : List ℕ). nat_lt 0 (length fs)) free in
+      let passes = ap (λ b. b && length x.guest.free == 0) empty ∙ ap (λ (fs : List ℕ). length fs == 0) free in
       by_fail ∙ ap foretold_by (by_perm ∙ ap refusal_by passes ∙ h)
 
 abbrev short : Reference
@@ -89,7 +90,7 @@ short-pool : (x short).guest.free ≡ []
 unfolding used_of
 short-pool = refl
 
-short-fails : refusal_by short false ≡ Some NoPool
+short-fails : refusal_by short true ≡ Some NoPool
 unfolding computing refusal_by
 short-fails = refl
 
@@ -111,7 +112,7 @@ splits-pool : (x scene).guest.free ≡ []
 unfolding used_of
 splits-pool = refl
 
-splits-fails : refusal_by scene false ≡ None
+splits-fails : refusal_by scene true ≡ None
 unfolding computing refusal_by
 splits-fails = refl
 

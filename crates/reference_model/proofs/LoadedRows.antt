@@ -1,6 +1,6 @@
 -- The rows of LoadedRows, computed.
 use Rattle.std.proofs.Common.{refl}
-use Rattle.reference_model.specs.LoadedRows.{DonateGuestRefused, GuestShareHostMade, GuestShareHostRefused, GuestUnshareHostMade, GuestUnshareHostRefused, GuestRelaxMade, RightsJoined, GuestRelaxRefused, GuestTranslateMade, GuestTranslateRefused}
+use Rattle.reference_model.specs.rows.LoadedRows.{DonateGuestRefused, GuestShareHostMade, GuestShareHostRefused, GuestUnshareHostMade, GuestUnshareHostRefused, GuestRelaxMade, RightsJoined, GuestRelaxRefused, GuestTranslateMade, GuestTranslateRefused}
 use Rattle.reference_model.proofs.Foretold.{computing, refuses}
 
 pub donate_guest_refused : DonateGuestRefused

@@ -1,6 +1,6 @@
 -- The rows of NumberRows, computed.
 use Rattle.std.proofs.Common.{refl, inl, inr}
-use Rattle.reference_model.specs.NumberRows.{NumbersMade, NumbersOnly}
+use Rattle.reference_model.specs.rows.NumberRows.{NumbersMade, NumbersOnly}
 use Rattle.reference_model.proofs.Foretold.{computing}
 
 pub numbers_made : NumbersMade

@@ -1,6 +1,6 @@
 -- The rows of PartRows, computed.
 use Rattle.std.proofs.Common.{refl}
-use Rattle.reference_model.specs.PartRows.{SharedUses, GuestUses, GuestAloneUses, VmsUses, NoneUsed, OwnLogFull, SharedLogFull, GuestLogFull, VmsLogFull}
+use Rattle.reference_model.specs.rows.PartRows.{SharedUses, GuestUses, GuestAloneUses, VmsUses, NoneUsed, OwnLogFull, SharedLogFull, GuestLogFull, VmsLogFull}
 use Rattle.reference_model.proofs.Foretold.{computing, refuses}
 
 pub shared_uses : SharedUses

@@ -1,7 +1,7 @@
 -- A function with another value at one number.
 use Rattle.std.proofs.Common.{◌≡◌, ℕ, inl, inr}
 use Rattle.std.specs.Prelude.{◌==◌}
-use Rattle.reference_model.specs.State.{put_at}
+use Rattle.reference_model.specs.model.State.{put_at}
 use Rattle.page_state.proofs.Common.{both, eq-self, eq-same}
 
 -- a function keeps its value at the number where that is put, as far as `g` sees it

@@ -16,16 +16,16 @@ use Rattle.reference_model.specs.declared.changes.GuestChange.TheVariants.{Keep 
 use Rattle.reference_model.specs.declared.changes.MapChange.{MapChange}
 use Rattle.reference_model.specs.declared.changes.SlotChange.{SlotChange}
 use Rattle.reference_model.specs.declared.changes.SlotChange.TheVariants.{Keep as KeepSlots, Reserve, Open, Close, Release, Load, Unload}
-use Rattle.reference_model.specs.Answers.{CarriesOut}
-use Rattle.reference_model.specs.ChangeLaws.{FitsPart, FitsTable, FitsWhere, AllFit, PartsFit, TouchedFits}
-use Rattle.reference_model.specs.Parts.{lacks_slot}
-use Rattle.reference_model.specs.Rules.{names, guest_slot}
-use Rattle.reference_model.specs.Rely.{CanRely, ReachedRelies, RelyingAnswers}
-use Rattle.reference_model.specs.Reached.{IsReached}
-use Rattle.reference_model.specs.RowChanges.{first_row}
-use Rattle.reference_model.specs.State.{Contents, Guest}
-use Rattle.reference_model.specs.Step.{rule_of}
-use Rattle.reference_model.specs.Used.{Used, used_of}
+use Rattle.reference_model.specs.help.Answers.{CarriesOut}
+use Rattle.reference_model.specs.help.ChangeLaws.{FitsPart, FitsTable, FitsWhere, AllFit, PartsFit, TouchedFits}
+use Rattle.reference_model.specs.model.Parts.{lacks_slot}
+use Rattle.reference_model.specs.model.Rules.{names, guest_slot}
+use Rattle.reference_model.specs.help.Rely.{CanRely, ReachedRelies, RelyingAnswers}
+use Rattle.reference_model.specs.model.Reached.{IsReached}
+use Rattle.reference_model.specs.help.RowChanges.{first_row}
+use Rattle.reference_model.specs.model.State.{Contents, Guest}
+use Rattle.reference_model.specs.model.Step.{rule_of}
+use Rattle.reference_model.specs.model.Used.{Used, used_of}
 use Rattle.reference_model.proofs.Answers.{told-ok, carried-by}
 use Rattle.reference_model.proofs.Held.{slot-low}
 use Rattle.reference_model.proofs.conditions.ChangesFit.{changes_fit, touched_whole}

@@ -6,17 +6,17 @@ use Rattle.call_table.specs.declared.reply.Call.{Call}
 use Rattle.call_table.specs.declared.reply.Refusal.TheVariants.{LogFull}
 use Rattle.call_table.specs.declared.reply.Reply.{Reply}
 use Rattle.call_table.specs.declared.reply.Reply.TheVariants.{Refused}
-use Rattle.reference_model.specs.Boot.{boot}
-use Rattle.reference_model.specs.Conditions.{one}
-use Rattle.reference_model.specs.History.{IsStored}
+use Rattle.reference_model.specs.model.Boot.{boot}
+use Rattle.reference_model.specs.help.Conditions.{one}
+use Rattle.reference_model.specs.model.History.{IsStored}
 use Rattle.page_state.specs.Layouts.{Layout}
-use Rattle.reference_model.specs.Parts.{vm_part, shared_part, guest_part, uses_vms, uses_shared, is_slot}
-use Rattle.reference_model.specs.Rules.{names, call_uses}
-use Rattle.reference_model.specs.Used.{rooms_of, put_rooms, room_at, put_room}
-use Rattle.reference_model.specs.RoomLaws.{RoomsFall, StoredFalls, RunRooms}
-use Rattle.reference_model.specs.Run.{Runs}
-use Rattle.reference_model.specs.State.{Reference, Rooms}
-use Rattle.reference_model.specs.Step.{is_full, stored, Steps}
+use Rattle.reference_model.specs.model.Parts.{vm_part, shared_part, guest_part, uses_vms, uses_shared, is_slot}
+use Rattle.reference_model.specs.model.Rules.{names, call_uses}
+use Rattle.reference_model.specs.model.Used.{rooms_of, put_rooms, room_at, put_room}
+use Rattle.reference_model.specs.help.RoomLaws.{RoomsFall, StoredFalls, RunRooms}
+use Rattle.reference_model.specs.model.Run.{Runs}
+use Rattle.reference_model.specs.model.State.{Reference, Rooms}
+use Rattle.reference_model.specs.model.Step.{is_full, stored, Steps}
 use Rattle.page_state.proofs.Common.{both, or-neither, eq-same}
 use Rattle.reference_model.proofs.Ends.{filter-true, filter-false}
 

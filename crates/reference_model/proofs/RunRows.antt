@@ -1,6 +1,6 @@
 -- The rows of RunRows, computed.
 use Rattle.std.proofs.Common.{refl}
-use Rattle.reference_model.specs.RunRows.{LifeBegins, LifeEnds, LifeTables, PlainLife}
+use Rattle.reference_model.specs.rows.RunRows.{LifeBegins, LifeEnds, LifeTables, PlainLife}
 use Rattle.reference_model.proofs.Foretold.{computing}
 
 pub life_begins : LifeBegins

@@ -1,6 +1,6 @@
 -- The rows of ShortRows, computed.
 use Rattle.std.proofs.Common.{refl}
-use Rattle.reference_model.specs.ShortRows.{TablesShort}
+use Rattle.reference_model.specs.rows.ShortRows.{TablesShort}
 use Rattle.reference_model.proofs.Foretold.{computing, refuses}
 
 pub tables_short : TablesShort

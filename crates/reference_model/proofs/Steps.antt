@@ -1,6 +1,6 @@
 -- Laws of the reference step: the frame rule, that it is defined, and what a refusal leaves.
 use Rattle.std.proofs.Common.{◌≡◌, ◌≢◌, ℕ, ◌+◌, ◌-◌, refl, ap, sym, ◌∙◌, subst, inl, inr, List, [], ◌∷◌}
-use Rattle.std.specs.Prelude.{Bool, true, false, ◌||◌, ◌==◌, ◌⊎◌, Option, Some, None, if◌then◌else◌}
+use Rattle.std.specs.Prelude.{Bool, true, false, ◌||◌, ◌==◌, ◌⊎◌, Option, Some, None, if◌then◌else◌, not}
 use mathlib.Core.Path.{fun_ext}
 use Rattle.call_table.specs.declared.step.Step.{Step}
 use Rattle.call_table.specs.declared.reply.Call.{Call}
@@ -8,15 +8,15 @@ use Rattle.call_table.specs.declared.reply.Refusal.{Refusal}
 use Rattle.call_table.specs.declared.reply.Refusal.TheVariants.{LogFull, Invalid, NoVm, Busy, Perm, NoPool, NoMemory}
 use Rattle.call_table.specs.declared.reply.Reply.{Reply}
 use Rattle.call_table.specs.declared.reply.Reply.TheVariants.{Refused}
-use Rattle.reference_model.specs.State.{Vms, Shared, Guest, Cpu, Contents, Rooms, Reference, no_vms, no_shared}
+use Rattle.reference_model.specs.model.State.{Vms, Shared, Guest, Cpu, Contents, Rooms, Reference, no_vms, no_shared}
 use Rattle.page_state.specs.Layouts.{Layout}
-use Rattle.reference_model.specs.Parts.{uses_vms, uses_shared, is_slot}
-use Rattle.reference_model.specs.Rules.{names, guest_slot}
-use Rattle.reference_model.specs.Used.{Used, UsedRooms, used_of, put_back, guest_at, put_guest, room_at, put_room, rooms_of, put_rooms}
-use Rattle.reference_model.specs.Rule.{Rule}
-use Rattle.reference_model.specs.Step.{stored, is_full, is_short, first_test, or_else, refusal, fails, answer, Answered, FindsFull, IsStoredAnswer, StepsOn, used_by, rooms_by, with_used, Steps, predict, foretell}
-use Rattle.reference_model.specs.Run.{Runs}
-use Rattle.reference_model.specs.Laws.{Agree, AgreeBeside, StepChanges, StepReads, StepAgrees, StepExists, StepOnce, ReplyOnce, EndOnce, RefusalKeeps, LogFullKeeps}
+use Rattle.reference_model.specs.model.Parts.{uses_vms, uses_shared, is_slot}
+use Rattle.reference_model.specs.model.Rules.{names, guest_slot}
+use Rattle.reference_model.specs.model.Used.{Used, UsedRooms, used_of, put_back, guest_at, put_guest, room_at, put_room, rooms_of, put_rooms}
+use Rattle.reference_model.specs.model.Rule.{Rule}
+use Rattle.reference_model.specs.model.Step.{stored, is_full, is_short, first_test, or_else, refusal, fails, answer, Answered, FindsFull, IsStoredAnswer, StepsOn, used_by, rooms_by, with_used, Steps, predict, foretell}
+use Rattle.reference_model.specs.model.Run.{Runs}
+use Rattle.reference_model.specs.claims.Laws.{Agree, AgreeBeside, StepChanges, StepReads, StepAgrees, StepExists, StepOnce, ReplyOnce, EndOnce, RefusalKeeps, LogFullKeeps}
 use Rattle.page_state.proofs.Common.{both, eq-self, eq-other, if-false, if-same, if-either, same2, same3, same4}
 use Rattle.reference_model.proofs.PutAt.{put_at-same}
 
@@ -288,7 +288,7 @@ either-room None rest p q = q
 refusal-room : (depth : ℕ) (r : Rule) (lacks : Bool) (x : Used) → refusal depth r lacks x ≢ Some LogFull
 unfolding refusal
 refusal-room depth r lacks x = either-room (first_test r lacks) (if is_short depth r.changes x then Some NoPool else None)
-    (test-room r.invalid Invalid _ (λ h. cc) (test-room (lacks || r.no_vm) NoVm _ (λ h. cc) (test-room r.busy Busy _ (λ h. cc) (test-room r.perm Perm None (λ h. cc) (λ h. cc)))))
+    (test-room (not r.valid.passes) Invalid _ (λ h. cc) (test-room (lacks || not r.has_vm.passes) NoVm _ (λ h. cc) (test-room (not r.ready.passes) Busy _ (λ h. cc) (test-room (not r.allowed.passes) Perm None (λ h. cc) (λ h. cc)))))
     (test-room (is_short depth r.changes x) NoPool None (λ h. cc) (λ h. cc))
 
 -- an answer isn't LogFull

@@ -68,9 +68,9 @@ pub enum Stage {
     /// The guest is Live.
     Installed,
     /// The slot is Closing.
-    ClosingVm,
+    Closing,
     /// The guest is Dying.
-    DyingVm,
+    Dying,
     /// The guest is Empty again.
     Finished,
 }

@@ -1,20 +1,20 @@
 //! Laws of the reference model. Each function does nothing, and its contract is the law.
-ghost use Rattle.reference_model.specs.Laws.{RefusalKeeps, LogFullKeeps, StepExists, StepOnce, ReplyOnce, EndOnce, PartsEnd, StepChanges, StepReads, StepAgrees, HistoryBegins, HistoryGrows, BootSound};
-ghost use Rattle.reference_model.specs.Answers.{BarredAnswers, CarriedAnswers, AnswerSteps, FullSteps, UsedSteps};
-ghost use Rattle.reference_model.specs.ChangeLaws.{ChangesUsed, ChangesFit, PartChangesFit, TouchedWhole};
-ghost use Rattle.reference_model.specs.Held.{HistorySteps, CallGrows, HeldStored};
-ghost use Rattle.reference_model.specs.Rely.{ReachedRelies, RelyingAnswers};
-ghost use Rattle.reference_model.specs.RoomLaws.{StoredFalls, RunRooms};
-ghost use Rattle.reference_model.specs.Examples.{NeedRow, SplitRow, RemovalRow, FoldRow, UnalignedRow, CanBootRow, BootRow, WideBootRow, ShareRow, BesideRow, NearRow, AgainRow, CarveRow, DeviceRow, PastRow, NoFrameRow, OneFrameRow, FullLogRow, FullSharedRow, RoomRow, OwnerRow};
-ghost use Rattle.reference_model.specs.RunLaws.{LegalRows, LegalSound, KnownLegalSound, BootLegal, BootRowsTold, LegalKeeps, RunLegal, RunSound, RunRows, AcceptedUsable, AcceptedDepth, AcceptedMade, RowsTold};
-ghost use Rattle.reference_model.specs.RowLaws.{LegalRowsTrue, RunRowsTrue, RowOnce};
-ghost use Rattle.reference_model.specs.ConditionChanges.{ConditionOnce, ConditionsMove};
-ghost use Rattle.reference_model.specs.OrderLaws.{PartsRun, PartsHistory};
-ghost use Rattle.reference_model.specs.PoolOrder.{RunInOrder};
-ghost use Rattle.reference_model.specs.Bounds.{BoundedKeeps, RunBounded};
-ghost use Rattle.reference_model.specs.Isolation.{Isolated, RunIsolated, OthersKeptOut, RunKeptOut};
-ghost use Rattle.reference_model.specs.HeldFrames.{HandStays, HeldStays, RunHeldStays};
-ghost use Rattle.reference_model.specs.TreeLaws.{RunCanonical, RunFailsByMaps};
+ghost use Rattle.reference_model.specs.claims.Laws.{RefusalKeeps, LogFullKeeps, StepExists, StepOnce, ReplyOnce, EndOnce, PartsEnd, StepChanges, StepReads, StepAgrees, HistoryBegins, HistoryGrows, BootSound};
+ghost use Rattle.reference_model.specs.help.Answers.{BarredAnswers, CarriedAnswers, AnswerSteps, FullSteps, UsedSteps};
+ghost use Rattle.reference_model.specs.help.ChangeLaws.{ChangesUsed, ChangesFit, PartChangesFit, TouchedWhole};
+ghost use Rattle.reference_model.specs.help.Held.{HistorySteps, CallGrows, HeldStored};
+ghost use Rattle.reference_model.specs.help.Rely.{ReachedRelies, RelyingAnswers};
+ghost use Rattle.reference_model.specs.help.RoomLaws.{StoredFalls, RunRooms};
+ghost use Rattle.reference_model.specs.rows.Examples.{NeedRow, SplitRow, RemovalRow, FoldRow, UnalignedRow, CanBootRow, BootRow, WideBootRow, ShareRow, BesideRow, NearRow, AgainRow, CarveRow, DeviceRow, PastRow, NoFrameRow, OneFrameRow, FullLogRow, FullSharedRow, RoomRow, OwnerRow};
+ghost use Rattle.reference_model.specs.claims.RunLaws.{LegalRows, LegalSound, KnownLegalSound, BootLegal, BootRowsTold, LegalKeeps, RunLegal, RunSound, RunRows, AcceptedUsable, AcceptedDepth, AcceptedMade, RowsTold};
+ghost use Rattle.reference_model.specs.claims.RowLaws.{LegalRowsTrue, RunRowsTrue, RowOnce};
+ghost use Rattle.reference_model.specs.help.ConditionChanges.{ConditionOnce, ConditionsMove};
+ghost use Rattle.reference_model.specs.claims.OrderLaws.{PartsRun, PartsHistory};
+ghost use Rattle.reference_model.specs.help.PoolOrder.{RunInOrder};
+ghost use Rattle.reference_model.specs.claims.Bounds.{BoundedKeeps, RunBounded};
+ghost use Rattle.reference_model.specs.claims.Isolation.{Isolated, RunIsolated, OthersKeptOut, RunKeptOut};
+ghost use Rattle.reference_model.specs.claims.HeldFrames.{HandStays, HeldStays, RunHeldStays};
+ghost use Rattle.reference_model.specs.claims.TreeLaws.{RunCanonical, RunFailsByMaps};
 
 /// A step that refuses leaves the state but for the rooms of logs, and with LogFull these too.
 pub fn refusal_keeps()
@@ -184,7 +184,7 @@ pub fn bounds()
     ensures run { RunBounded }
 {}
 
-/// A kept row says of its frame what is so: who owns it, who borrows it and where, and which place holds it.
+/// A kept row is true of its frame: who owns it, who borrows it and where, and which place holds it.
 /// No other row does.
 pub fn row_laws()
     ensures legal { LegalRowsTrue }

@@ -1,22 +1,22 @@
 //! Worked rows: what the definitions answer on small states. Each function does nothing, and its contract is the rows.
-ghost use Rattle.reference_model.specs.SharedRows.{ShareHypMade, ShareHypNear, ShareHypEnough, ShareHypRefused, UnshareHypMade, UnshareHypRemoves, UnshareHypRefused, DonateHypMade, DonateHypBlock, DonateHypRefused, HypDonateHostMade, HypDonateHostSplits, HypDonateHostRemoves, HypDonateHostRefused};
-ghost use Rattle.reference_model.specs.HandRows.{FundMade, FundRefused, UnfundMade, UnfundSplits, UnfundRefused, InstallMade, InstallPlain, InstallRefused, TopupMade, TopupDying, TopupEnough, TopupRefused};
-ghost use Rattle.reference_model.specs.GuestRows.{ShareGuestMade, ShareGuestNear, ShareGuestRefused, UnshareGuestMade, UnshareGuestRefused, DonateGuestMade, DonateGuestNear};
-ghost use Rattle.reference_model.specs.LoadedRows.{DonateGuestRefused, GuestShareHostMade, GuestShareHostRefused, GuestUnshareHostMade, GuestUnshareHostRefused, GuestRelaxMade, RightsJoined, GuestRelaxRefused, GuestTranslateMade, GuestTranslateRefused};
-ghost use Rattle.reference_model.specs.ShortRows.{TablesShort};
-ghost use Rattle.reference_model.specs.EndRows.{MarkDyingMade, MarkDyingRefused, ReclaimPageOwned, ReclaimPageShared, ReclaimPageRemoves, ReclaimPageRefused, ReclaimPoolMade, ReclaimPoolRefused, FinishGuestMade, FinishGuestRefused};
-ghost use Rattle.reference_model.specs.VmRows.{VmReserveMade, VmReservePlain, VmReserveRefused, VmOpenMade, VmOpenRefused, VcpuLoadMade, VcpuLoadRefused, VcpuPutMade, VcpuPutRefused, TeardownMade, TeardownRefused, VmReleaseMade, VmReleaseRefused};
-ghost use Rattle.reference_model.specs.AbortRows.{HostAbortBlock, HostAbortPage, HostAbortKeeps, HostAbortDevice, HostAbortDeviceBlock, HostAbortRegions, HostAbortTable, HostAbortRefused, HostTranslateMade, HypTranslateMade, TranslateRefused, OwnerOfMade, OwnerOfRefused};
-ghost use Rattle.reference_model.specs.BootRows.{BootTables, BootMaps, BootBlock, BootOwners, ShareTables, UnshareTables, ShareEnough};
-ghost use Rattle.reference_model.specs.PartRows.{SharedUses, GuestUses, GuestAloneUses, VmsUses, NoneUsed, OwnLogFull, SharedLogFull, GuestLogFull, VmsLogFull};
-ghost use Rattle.reference_model.specs.GrowthRows.{Grows, NeverGrows};
-ghost use Rattle.reference_model.specs.NumberRows.{NumbersMade, NumbersOnly};
-ghost use Rattle.reference_model.specs.OwnerRows.{ShareRows, DonateRows, FundRows, MapRows, LendRows, GuestOwns, PoolRows, EndedRows, RowAdvances};
-ghost use Rattle.reference_model.specs.FoundRows.{OwnersFound, FirstFound, UsesFound, GuestKept, HypKept};
-ghost use Rattle.reference_model.specs.LargeRows.{HostAbortLargest, HostAbortSmaller, FinishGuestShort, FinishGuestSplits};
-ghost use Rattle.reference_model.specs.ConditionRows.{HostAloneRow, HostSharedRow, HypRow, GuestRow, RowsOfEach, KeepersRow, MovesRow};
-ghost use Rattle.reference_model.specs.RunRows.{LifeBegins, LifeEnds, LifeTables, PlainLife};
-ghost use Rattle.reference_model.specs.RangeRows.{BlockGiven, BlockSplit, BlockRefused, BlockReclaimed, RangeAcross, RangeRefused, RangeShared, RangeKept, RangeMoves};
+ghost use Rattle.reference_model.specs.rows.SharedRows.{ShareHypMade, ShareHypNear, ShareHypEnough, ShareHypRefused, UnshareHypMade, UnshareHypRemoves, UnshareHypRefused, DonateHypMade, DonateHypBlock, DonateHypRefused, HypDonateHostMade, HypDonateHostSplits, HypDonateHostRemoves, HypDonateHostRefused};
+ghost use Rattle.reference_model.specs.rows.HandRows.{FundMade, FundRefused, UnfundMade, UnfundSplits, UnfundRefused, InstallMade, InstallPlain, InstallRefused, TopupMade, TopupDying, TopupEnough, TopupRefused};
+ghost use Rattle.reference_model.specs.rows.GuestRows.{ShareGuestMade, ShareGuestNear, ShareGuestRefused, UnshareGuestMade, UnshareGuestRefused, DonateGuestMade, DonateGuestNear};
+ghost use Rattle.reference_model.specs.rows.LoadedRows.{DonateGuestRefused, GuestShareHostMade, GuestShareHostRefused, GuestUnshareHostMade, GuestUnshareHostRefused, GuestRelaxMade, RightsJoined, GuestRelaxRefused, GuestTranslateMade, GuestTranslateRefused};
+ghost use Rattle.reference_model.specs.rows.ShortRows.{TablesShort};
+ghost use Rattle.reference_model.specs.rows.EndRows.{MarkDyingMade, MarkDyingRefused, ReclaimPageOwned, ReclaimPageShared, ReclaimPageRemoves, ReclaimPageRefused, ReclaimPoolMade, ReclaimPoolRefused, FinishGuestMade, FinishGuestRefused};
+ghost use Rattle.reference_model.specs.rows.VmRows.{VmReserveMade, VmReservePlain, VmReserveRefused, VmOpenMade, VmOpenRefused, VcpuLoadMade, VcpuLoadRefused, VcpuPutMade, VcpuPutRefused, TeardownMade, TeardownRefused, VmReleaseMade, VmReleaseRefused};
+ghost use Rattle.reference_model.specs.rows.AbortRows.{HostAbortBlock, HostAbortPage, HostAbortKeeps, HostAbortDevice, HostAbortDeviceBlock, HostAbortRegions, HostAbortTable, HostAbortRefused, HostTranslateMade, HypTranslateMade, TranslateRefused, OwnerOfMade, OwnerOfRefused};
+ghost use Rattle.reference_model.specs.rows.BootRows.{BootTables, BootMaps, BootBlock, BootOwners, ShareTables, UnshareTables, ShareEnough};
+ghost use Rattle.reference_model.specs.rows.PartRows.{SharedUses, GuestUses, GuestAloneUses, VmsUses, NoneUsed, OwnLogFull, SharedLogFull, GuestLogFull, VmsLogFull};
+ghost use Rattle.reference_model.specs.rows.GrowthRows.{Grows, NeverGrows};
+ghost use Rattle.reference_model.specs.rows.NumberRows.{NumbersMade, NumbersOnly};
+ghost use Rattle.reference_model.specs.rows.OwnerRows.{ShareRows, DonateRows, FundRows, MapRows, LendRows, GuestOwns, PoolRows, EndedRows, RowAdvances};
+ghost use Rattle.reference_model.specs.rows.FoundRows.{OwnersFound, FirstFound, UsesFound, GuestKept, HypKept};
+ghost use Rattle.reference_model.specs.rows.LargeRows.{HostAbortLargest, HostAbortSmaller, FinishGuestShort, FinishGuestSplits};
+ghost use Rattle.reference_model.specs.rows.ConditionRows.{HostAloneRow, HostSharedRow, HypRow, GuestRow, RowsOfEach, KeepersRow, MovesRow};
+ghost use Rattle.reference_model.specs.rows.RunRows.{LifeBegins, LifeEnds, LifeTables, PlainLife};
+ghost use Rattle.reference_model.specs.rows.RangeRows.{BlockGiven, BlockSplit, BlockRefused, BlockReclaimed, RangeAcross, RangeRefused, RangeShared, RangeKept, RangeMoves};
 
 /// The rows of the calls between the host and the hypervisor.
 pub fn shared_rows()

@@ -4,7 +4,7 @@
 use std::alloc::{AllocError, Allocator};
 use std::cell::Cell;
 
-/// An allocator that can be told to refuse one request. Collections hold a `&` to it.
+/// An allocator that refuses one request when asked to. Collections hold a `&` to it.
 pub struct Refusing<B: Allocator> {
     inner: B,
     /// The number of the request that is refused, where 1 is the next one. 0 once it was, and where none is to be.
@@ -37,7 +37,7 @@ impl<B: Allocator> Drop for Refusing<B> {
     }
 }
 
-/// Counts a request, and tells whether it is the one that is refused.
+/// Counts a request, and returns whether it is the one that is refused.
 fn is_refused(left: &Cell<u64>) -> bool {
     let number = left.get();
     left.set(number.saturating_sub(1));

@@ -5,8 +5,8 @@ use Rattle.std.specs.declared.alloc.AllocError.{AllocError}
 use Rattle.std.proofs.lemmas.List.{get_or-map}
 use Rattle.page_state.specs.Layouts.{Layout}
 use Rattle.page_state.specs.Trees.{Block}
-use Rattle.reference_model.specs.Conditions.{Legal}
-use Rattle.reference_model.specs.State.{Contents, no_guest}
+use Rattle.reference_model.specs.help.Conditions.{Legal}
+use Rattle.reference_model.specs.model.State.{Contents, no_guest}
 use Rattle.ghost_trees.specs.Trees.{table_of}
 use Rattle.ghost_spec.specs.declared.lists.GhostLists.{GhostLists}
 use Rattle.ghost_spec.specs.declared.parts.GhostGuest.{GhostGuest}

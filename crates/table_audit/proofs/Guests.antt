@@ -7,8 +7,8 @@ use Rattle.page_state.specs.declared.row.Row.{Row}
 use Rattle.page_state.specs.Layouts.{Layout, is_memory}
 use Rattle.page_state.specs.Trees.{no_tree, Tree}
 use Rattle.page_state.proofs.Cases.{by_lt}
-use Rattle.reference_model.specs.Owner.{row_of}
-use Rattle.reference_model.specs.State.{Contents, Guest, no_guest, plain_row}
+use Rattle.reference_model.specs.model.Owner.{row_of}
+use Rattle.reference_model.specs.model.State.{Contents, Guest, no_guest, plain_row}
 use Rattle.ghost_trees.specs.declared.tree.Tree.{Tree as TreeOfLists}
 use Rattle.ghost_trees.specs.Trees.{tree_in_lists}
 use Rattle.ghost_spec.specs.declared.parts.GhostGuest.{GhostGuest}

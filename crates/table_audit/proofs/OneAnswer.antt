@@ -3,7 +3,7 @@ use Rattle.std.proofs.Common.{◌≡◌, ℕ, Option, refl, ap, arith}
 use Rattle.page_state.proofs.Cases.{by_lt}
 use Rattle.page_state.specs.Layouts.{Layout}
 use Rattle.page_state.specs.Trees.{Block}
-use Rattle.reference_model.specs.State.{Contents}
+use Rattle.reference_model.specs.model.State.{Contents}
 use Rattle.ghost_judge.specs.declared.disagreement.TreeOf.{TreeOf}
 use Rattle.ghost_judge.specs.declared.disagreement.TreeOf.TheVariants.{Host, Hyp, Guest}
 use Rattle.ghost_judge.proofs.OneAnswer.{audit_else, audit_once}

@@ -3,8 +3,8 @@
 use Rattle.std.specs.Prelude.{◌≡◌, ℕ, ◌<◌, true, List, Option, get_or, map}
 use Rattle.page_state.specs.Layouts.{Layout}
 use Rattle.page_state.specs.Trees.{Block}
-use Rattle.reference_model.specs.Conditions.{Legal}
-use Rattle.reference_model.specs.State.{Contents, no_guest}
+use Rattle.reference_model.specs.help.Conditions.{Legal}
+use Rattle.reference_model.specs.model.State.{Contents, no_guest}
 use Rattle.ghost_judge.specs.Audits.{AuditAgrees, IsFirstDifference}
 use Rattle.ghost_judge.specs.declared.disagreement.TreeOf.{TreeOf}
 use Rattle.ghost_judge.specs.declared.disagreement.TreeOf.TheVariants.{Host, Hyp, Guest}

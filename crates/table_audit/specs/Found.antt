@@ -4,8 +4,8 @@ use Rattle.page_state.specs.declared.row.Row.{Row}
 use Rattle.page_state.specs.Layouts.{Layout, is_memory}
 use Rattle.page_state.specs.LayoutView.{layout_of}
 use Rattle.page_state.specs.Trees.{no_tree, Tree}
-use Rattle.reference_model.specs.Owner.{row_of}
-use Rattle.reference_model.specs.State.{Contents, Guest, no_guest, plain_row}
+use Rattle.reference_model.specs.model.Owner.{row_of}
+use Rattle.reference_model.specs.model.State.{Contents, Guest, no_guest, plain_row}
 use Rattle.ghost_trees.specs.declared.tree.Tree.{Tree as TreeOfLists}
 use Rattle.ghost_trees.specs.KeptTrees.{IsKeptTree}
 use Rattle.ghost_trees.specs.Trees.{tree_in_lists}
@@ -43,11 +43,11 @@ rows_by l s f = elim (is_memory l f) [ true ↦ row_of l s f | false ↦ plain_r
 abbrev pub with_rows : Contents → (ℕ → Row) → Contents
 with_rows s row = record { vms = s.vms; shared = record { host = s.shared.host; hyp = s.shared.hyp; free = s.shared.free; row = row }; guest = s.guest; cpu = s.cpu }
 
--- what is found: a kept state with the trees, and the rows that follow from it then
+-- the state found: a kept state with the trees, and the rows that follow from it then
 abbrev pub found : Layout → Contents → (ℕ → Tree) → Contents
 found l s trees = with_rows (with_trees s trees) (rows_by l (with_trees s trees))
 
--- what is found with the trees of a list
+-- the state found with the trees of a list
 abbrev pub found_with : GhostLists → List TreeOfLists → Contents
 found_with kept trees = found (layout_of kept.layout) (contents_in kept) (trees_in trees)
 

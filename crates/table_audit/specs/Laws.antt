@@ -1,7 +1,7 @@
 -- What agrees has no finding, and all else one.
 use Rattle.std.specs.Prelude.{◌≡◌}
 use Rattle.page_state.specs.Layouts.{Layout}
-use Rattle.reference_model.specs.State.{Contents}
+use Rattle.reference_model.specs.model.State.{Contents}
 use Rattle.ghost_sound.specs.declared.finding.Unsound.TheVariants.{TwoOwners, TwoBorrowers, NoShare}
 use Rattle.table_audit.specs.declared.finding.Finding.{Finding}
 use Rattle.table_audit.specs.declared.finding.Finding.TheVariants.{Differs, Table as TableDiffers, Unsound, Illegal}

@@ -1,7 +1,7 @@
 //! The audit.
 ghost use Rattle.std.specs.Prelude.{◌≡◌, ◌↔◌, ℕ, None, All, IfOk, IfSome, MatchOption, length};
 ghost use Rattle.page_state.specs.LayoutView.{layout_of};
-ghost use Rattle.reference_model.specs.Conditions.{Legal};
+ghost use Rattle.reference_model.specs.help.Conditions.{Legal};
 ghost use Rattle.ghost_trees.specs.KeptTrees.{IsKeptTree};
 ghost use Rattle.ghost_judge.specs.Audits.{AreMapsKept};
 ghost use Rattle.ghost_spec.specs.Filled.{HasTablesApart};

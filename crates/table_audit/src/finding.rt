@@ -20,7 +20,7 @@ pub enum Finding {
         kept: Option<u64>,
         walked: Option<u64>,
     },
-    /// Nowhere: what is kept and was found isn't sound.
+    /// Nowhere: the kept state, which is the found one, isn't sound.
     Unsound(Unsound),
     /// Nowhere, and the maps are sound: but no run comes to this state.
     Illegal(Illegal),

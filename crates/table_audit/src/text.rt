@@ -5,7 +5,7 @@ ghost use Rattle.table_audit.specs.Texts.{text_of_finding};
 use crate::finding::Finding;
 use std::alloc::{AllocError, Global};
 
-/// Writes a finding into the front of `text`, where that has room for all of it, and tells how many bytes it has.
+/// Writes a finding into the front of `text`, if that has room for all of it, and returns its length in bytes.
 pub fn write_finding(alloc: Global, finding: Finding, text: &mut [u8]) -> Result<usize, AllocError>
     ensures count { IfOk result (λ n. n ≡ length (text_of_finding finding)) }
     ensures written { IfOk result (λ n. n ≤ length text.old → take n text.new ≡ text_of_finding finding) }

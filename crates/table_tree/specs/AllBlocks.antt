@@ -1,4 +1,4 @@
--- All blocks of a tree, and the tables that stand at them.
+-- All blocks of a tree, and the tables at them.
 use Rattle.std.specs.Prelude.{ℕ, zero, suc, ◌+◌, ◌*◌, List, [], ◌∷◌, ◌++◌, length, filter, filter_map, is_some}
 use Rattle.page_state.specs.declared.layout.Geometry.{Geometry}
 use Rattle.page_state.specs.Trees.{Block, Tree as ReferenceTree}
@@ -14,7 +14,7 @@ unfoldable pub blocks_in : ℕ → ℕ → List Block
 blocks_in zero number = []
 blocks_in (suc depth) number = (suc depth, number) ∷ gathered (λ i. blocks_in depth (512 * number + i)) 512
 
--- all blocks at which a table may stand, the root's first
+-- all blocks at which a table may be, the root's first
 abbrev pub all_blocks : Geometry → List Block
 all_blocks geometry = blocks_in (levels_below geometry + 1) 0
 
@@ -22,6 +22,6 @@ all_blocks geometry = blocks_in (levels_below geometry + 1) 0
 abbrev pub table_count : Geometry → ReferenceTree → ℕ
 table_count geometry tree = length (filter (λ b. is_some (tree.table b)) (all_blocks geometry))
 
--- the frames of the tables that stand at the blocks, in the order of the blocks
+-- the frames of the tables at the blocks, in the order of the blocks
 abbrev pub table_frames : Geometry → ReferenceTree → List ℕ
 table_frames geometry tree = filter_map tree.table (all_blocks geometry)

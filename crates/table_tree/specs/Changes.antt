@@ -40,12 +40,12 @@ pub record IsNew {A : Type 0} (t : Table A) : Type 0 where
   pub shape : (depth : ℕ) → IsShaped depth t
   pub tight : (depth : ℕ) → IsTight depth t
 
--- the table loses what slot `i` held: the word 0 stands there
+-- the table loses what slot `i` held: its word becomes 0
 pub record IsCleared {A : Type 0} (t u : Table A) : Type 0 where
   pub shape : (depth : ℕ) → IsShaped depth t → IsShaped depth u
   pub tight : (depth : ℕ) → IsTight depth t → IsTight depth u
 
--- what slot `i` of a table tells of it: `s` is that slot
+-- what slot `i` of a table says of it: `s` is that slot
 pub record IsSeen {A : Type 0} (i : ℕ) (t : Table A) (s : Slot A) : Type 0 where
   pub word : (w depth q : ℕ) → s ≡ Word w → index_at depth q ≡ i → entry_at depth t q ≡ word_entry depth q w
   pub word_shape : (w depth : ℕ) → s ≡ Word w → IsShaped depth t → IsEntryWord depth w

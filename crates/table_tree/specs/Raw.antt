@@ -23,8 +23,8 @@ IsRaw-prop (suc n) t = ×_prop (ℕ_set _ _) (Π_prop (λ i. Π_prop (λ _. Meet
 abbrev pub BeginsWith : List ℕ → List ℕ → Type 0
 BeginsWith path q = (rest : List ℕ) × (q ≡ path ++ rest)
 
--- the words at all paths, after the word at one path was poked. Where that word stood there, all stay. Any other word takes
--- out what stood behind it: no path leads on through it
+-- the words at all paths, after the word at one path was poked. If that word was there before, all stay. Any other word takes
+-- out what was behind it: no path leads on through it
 pub record IsPoked (before after : List ℕ → Option ℕ) (path : List ℕ) (word : ℕ) : Type 0 where
   pub there : after path ≡ Some word
   pub elsewhere : (q : List ℕ) → (BeginsWith path q → ⊥) → after q ≡ before q
@@ -35,7 +35,7 @@ pub record IsPoked (before after : List ℕ → Option ℕ) (path : List ℕ) (w
 abbrev pub IsInBlock : Block → ℕ → Type 0
 IsInBlock b page = page / span b ≡ b.1
 
--- the map after a poke of a block's word: pages outside of the block keep their entry, and where the same word stood all do; of
+-- the map after a poke of a block's word: pages outside of the block keep their entry, and if the word is the same, all do; of
 -- another word each page of the block has what the word gives it, so a table word makes the whole block malformed
 pub record IsPokedMap (b : Block) (words : List ℕ → Option ℕ) (before after : Map) (path : List ℕ) (word : ℕ) : Type 0 where
   pub outside : (page : ℕ) → (IsInBlock b page → ⊥) → after page ≡ before page

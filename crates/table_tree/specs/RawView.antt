@@ -14,7 +14,7 @@ raw_meaning t = map_under t.geometry t.table
 unfoldable pub raw_word_of : {A : Type 0} → RawTree A → List ℕ → Option ℕ
 raw_word_of t path = word_at t.table path
 
--- the frame of the table that stands at a block
+-- the frame of the table at a block
 unfoldable pub raw_table_at : {A : Type 0} → RawTree A → ℕ → ℕ → Option ℕ
 raw_table_at t = table_under t.geometry t.table
 

@@ -1,4 +1,4 @@
--- What a root table says, with the tables below it. They may be any, also those of no tree that stands.
+-- What a root table says, with the tables below it. They may be any, also those of no valid tree.
 use Rattle.std.specs.Prelude.{ℕ, zero, suc, ◌*◌, nat_lt, Option, None, if◌then◌else◌}
 use Rattle.page_state.specs.declared.entry.Entry.TheVariants.{Unmapped}
 use Rattle.page_state.specs.declared.layout.Geometry.{Geometry}
@@ -13,7 +13,7 @@ use Rattle.table_tree.specs.Tables.{table_in}
 unfoldable pub map_under : {A : Type 0} → Geometry → Table A → Map
 map_under geometry root page = if nat_lt page (input_pages geometry) then entry_at (levels_below geometry) root page else Unmapped
 
--- the frame of the table that stands at a block: `number` of the blocks of 512 ^ `depth` pages
+-- the frame of the table at a block: `number` of the blocks of 512 ^ `depth` pages
 unfoldable pub table_under : {A : Type 0} → Geometry → Table A → ℕ → ℕ → Option ℕ
 table_under geometry root zero number = None
 table_under geometry root (suc low) number =

@@ -1,4 +1,4 @@
--- The words of a tree, told by its map and its tables.
+-- The words of a tree, by its map and its tables.
 use Rattle.std.specs.Prelude.{◌≡◌, ℕ, ◌+◌, ◌-◌, ◌*◌, ◌/◌, ◌^◌, ◌<◌, ◌≤◌, List, length, All, IsSome, MatchOption}
 use Rattle.std.specs.List.{fold}
 use Rattle.descriptor.specs.Word.{desc_of}
@@ -22,7 +22,7 @@ block_of geometry path = (levels_below geometry + 1 - length path, block_number 
 abbrev pub block_above : Block → Block
 block_above b = (b.0 + 1, b.1 / 512)
 
--- a word is at the path: the table stands that the indices before the last one lead to, for one index the root
+-- a word is at the path: there is the table that the indices before the last one lead to, for one index the root
 pub record HasWord (geometry : Geometry) (tree : ReferenceTree) (path : List ℕ) : Type 0 where
   pub some : 1 ≤ length path
   pub no_deeper : length path ≤ levels_below geometry + 1
@@ -35,7 +35,7 @@ pub record IsOnlyWord (depth : ℕ) (entry : Entry) (word : ℕ) : Type 0 where
   pub gives : entry_of_word (desc_of (level_at depth) word) ≡ entry
   pub alone : (other : ℕ) → other < 2 ^ 64 → entry_of_word (desc_of (level_at depth) other) ≡ entry → other ≡ word
 
--- the word of a block: that of the table that stands there, and without one that of the first page's entry
+-- the word of a block: that of the table there, and without one that of the first page's entry
 abbrev pub IsWordOf : ReferenceTree → Block → ℕ → Type 0
 IsWordOf tree b word = MatchOption (tree.table b) (IsOnlyWord b.0 (tree.map (first_page b)) word) (λ frame. word ≡ table_word frame)
 

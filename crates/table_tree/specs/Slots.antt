@@ -32,7 +32,7 @@ unfoldable pub slot_frames : {A : Type 0} → ℕ → Slot A → List ℕ
 slot_frames zero s = []
 slot_frames (suc depth) s = slot_case (λ _. []) (all_frames_in depth) s
 
--- the frame of the table with `low` levels below it that stands below a slot on a page's path
+-- the frame of the table with `low` levels below it that is below a slot on a page's path
 unfoldable pub slot_table : {A : Type 0} → ℕ → Slot A → ℕ → ℕ → Option ℕ
 slot_table zero s low page = None
 slot_table (suc depth) s low page = slot_case (λ _. None) (λ c. table_in depth c low page) s

@@ -1,4 +1,4 @@
--- The tables of a tree: their number, their frames and where they stand.
+-- The tables of a tree: their number, their frames and their places.
 use Rattle.std.specs.Prelude.{ℕ, zero, suc, ◌+◌, ◌≤◌, ◌==◌, List, [], ◌∷◌, Option, Some, None, if◌then◌else◌, sum_by}
 use Rattle.std.specs.Coded.{le_prop, Π_prop}
 use Rattle.descriptor.specs.declared.Frame.{Frame}
@@ -21,7 +21,7 @@ unfoldable pub uses_in : {A : Type 0} → ℕ → Table A → ℕ → ℕ
 uses_in zero t frame = is_one (frame_of t) frame
 uses_in (suc depth) t frame = is_one (frame_of t) frame + sum_below (λ c. uses_in depth c frame) t
 
--- the frame of the table with `low` levels below it on a page's path, where one stands
+-- the frame of the table with `low` levels below it on a page's path, if there is one
 unfoldable pub table_in : {A : Type 0} → ℕ → Table A → ℕ → ℕ → Option ℕ
 table_in zero t low page = if low == zero then Some (frame_of t) else None
 table_in (suc depth) t low page = if low == suc depth then Some (frame_of t) else slot_case (λ _. None) (λ c. table_in depth c low page) (slot_at t (index_at (suc depth) page))
@@ -38,6 +38,6 @@ unfoldable pub all_frames_in : {A : Type 0} → ℕ → Table A → List ℕ
 all_frames_in zero t = frame_of t ∷ []
 all_frames_in (suc depth) t = frame_of t ∷ gathered (λ i. slot_case (λ _. []) (all_frames_in depth) (slot_at t i)) 512
 
--- how often a frame stands in a list of frames
+-- how often a list of frames has a frame
 abbrev pub frame_times : ℕ → List Frame → ℕ
 frame_times f frames = sum_by (λ g. is_one g.0 f) frames

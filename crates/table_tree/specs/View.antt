@@ -17,7 +17,7 @@ meaning t = map_under t.geometry t.table
 unfoldable pub word_of : {A : Type 0} → Tree A → List ℕ → Option ℕ
 word_of t path = word_at t.table path
 
--- the frame of the table that stands at a block: `number` of the blocks of 512 ^ `depth` pages
+-- the frame of the table at a block: `number` of the blocks of 512 ^ `depth` pages
 unfoldable pub table_at : {A : Type 0} → Tree A → ℕ → ℕ → Option ℕ
 table_at t = table_under t.geometry t.table
 
@@ -33,7 +33,7 @@ tables_of t = tables_in (levels_below t.geometry) t.table
 unfoldable pub root_of : {A : Type 0} → Tree A → ℕ
 root_of t = frame_of t.table
 
--- the number of spares: tables without a frame, which stand at no block
+-- the number of spares: tables without a frame, which are at no block
 unfoldable pub spares_of : {A : Type 0} → Tree A → ℕ
 spares_of t = kept_in t.spares
 

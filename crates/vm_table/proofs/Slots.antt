@@ -3,8 +3,8 @@ use Rattle.std.proofs.Common.{◌≡◌, ◌∙◌, ℕ, replicate, ap, arith}
 use Rattle.std.proofs.lemmas.List.{get_or-replicate, get_or_past, length-replicate}
 use mathlib.Core.Path.{fun_ext}
 use Rattle.page_state.proofs.Cases.{by_lt}
-use Rattle.reference_model.specs.Changes.{with_slot}
-use Rattle.reference_model.specs.State.{Slot, Vms, put_at, no_slot, no_vms}
+use Rattle.reference_model.specs.model.Changes.{with_slot}
+use Rattle.reference_model.specs.model.State.{Slot, Vms, put_at, no_slot, no_vms}
 use Rattle.vm_table.specs.declared.Slot.{Slot as TableSlot}
 use Rattle.vm_table.specs.View.{slot_of, vms_of, no_entry}
 

@@ -1,12 +1,12 @@
 -- What contracts see of the table, in the words of the reference state.
 use Rattle.std.specs.Prelude.{List, [], None, get_or}
 use Rattle.call_table.specs.declared.step.VmKind.TheVariants.{Plain}
-use Rattle.reference_model.specs.State.{Stand, vacant, reserved, opened, closing, Slot, Vms}
+use Rattle.reference_model.specs.model.State.{Stand, vacant, reserved, opened, closing, Slot, Vms}
 use Rattle.vm_table.specs.declared.Slot.{Slot as TableSlot}
 use Rattle.vm_table.specs.declared.SlotState.{SlotState}
 use Rattle.vm_table.specs.declared.SlotState.TheVariants.{Vacant, Reserved, Open, Closing}
 
--- how a slot stands
+-- the stage of a slot
 abbrev pub stand_of : SlotState → Stand
 stand_of Vacant = vacant
 stand_of Reserved = reserved
@@ -17,10 +17,10 @@ stand_of Closing = closing
 abbrev pub slot_of : TableSlot → Slot
 slot_of s = record { stand = stand_of s.state; generation = s.generation; kind = s.kind; vcpus = s.vcpus; loaded = λ i. get_or s.loaded i None }
 
--- what stands in place of a slot that the table doesn't have
+-- the value in place of a slot that the table doesn't have
 abbrev pub no_entry : TableSlot
 no_entry = record { state = Vacant; generation = 1; kind = Plain; vcpus = 0; loaded = [] }
 
--- the VM part that the slots stand for; from their number on all slots are Empty
+-- the VM part that the slots represent; from their number on all slots are Empty
 abbrev pub vms_of : List TableSlot → Vms
 vms_of slots = record { slot = λ v. slot_of (get_or slots v no_entry) }

@@ -2,11 +2,11 @@
 #![tactic(auto)]
 
 ghost use Rattle.std.specs.Prelude.{◌≡◌, ℕ, ◌+◌, ◌<◌, ◌≤◌, ◌^◌, IfOk, IfSome, Some, is_some};
-ghost use Rattle.reference_model.specs.ChangeLaws.{FitsTable};
-ghost use Rattle.reference_model.specs.Changes.{vms_by};
+ghost use Rattle.reference_model.specs.help.ChangeLaws.{FitsTable};
+ghost use Rattle.reference_model.specs.model.Changes.{vms_by};
 ghost use Rattle.reference_model.specs.declared.changes.SlotChange.TheVariants.{Close, Load, Open as OpenSlot, Release, Reserve, Unload};
-ghost use Rattle.reference_model.specs.State.{no_slot, no_vms, put_at, vacant};
-ghost use Rattle.reference_model.specs.VmRules.{is_any_loaded as is_any_loaded_of, is_open as is_open_of, stand_eq, vacant_slot};
+ghost use Rattle.reference_model.specs.model.State.{no_slot, no_vms, put_at, vacant};
+ghost use Rattle.reference_model.specs.model.VmRules.{is_any_loaded as is_any_loaded_of, is_open as is_open_of, stand_eq, vacant_slot};
 ghost use Rattle.vm_table.specs.View.{slot_of, vms_of};
 
 use call_table::{VmId, VmKind};

@@ -1,4 +1,4 @@
--- A change of a tree with tables in hand: what it needs, what is taken for it, what it leaves, and what comes back. `t` and `p` are the tree and the pool before, `u` and `q` afterwards.
+-- A change of a tree with tables in hand: the tables that it needs, takes, leaves and gives back. `t` and `p` are the tree and the pool before, `u` and `q` afterwards.
 use Rattle.std.specs.Prelude.{◌≡◌, ℕ, ◌+◌, ◌-◌, ◌<◌, ◌≤◌, ◌↔◌, List, length, take, drop}
 use Rattle.hyp_pool.specs.Pools.{StoredFrames}
 use Rattle.hyp_pool.specs.declared.PoolFault.{PoolFault}

@@ -2,12 +2,12 @@
 ghost use Rattle.std.specs.Prelude.{◌≡◌, ℕ, ◌≤◌, None};
 ghost use Rattle.part_types.specs.View.{shared_of};
 ghost use Rattle.page_state.specs.LayoutView.{layout_of};
-ghost use Rattle.reference_model.specs.Decides.{decides};
-ghost use Rattle.reference_model.specs.State.{Cpu};
-ghost use Rattle.reference_model.specs.Used.{used_alone};
+ghost use Rattle.reference_model.specs.model.Decides.{decides};
+ghost use Rattle.reference_model.specs.model.State.{Cpu};
+ghost use Rattle.reference_model.specs.model.Used.{used_alone};
 ghost use Rattle.page_state.specs.Blocks.{block_at, first_page, span};
 ghost use Rattle.call_table.specs.declared.step.Step.TheVariants.{HostAbort};
-ghost use Rattle.reference_model.specs.SharedRules.{abort_depth as abort_depth_of, abort_leaf as abort_leaf_of, may_map as may_map_of};
+ghost use Rattle.reference_model.specs.model.SharedRules.{abort_depth as abort_depth_of, abort_leaf as abort_leaf_of, may_map as may_map_of};
 ghost use Rattle.table_tree.specs.View.{meaning};
 
 use super::change;
@@ -65,7 +65,7 @@ fn abort_leaf(region: Region, first: u64) -> Entry
 
 /// The host touches a page of a region. One that is annotated is somebody else's. One that is unmapped gets mapped, with the
 /// largest aligned block around it that lies in one region and is all unmapped. What is mapped already stays.
-#[tactic(auto, unfolding(reference_model::specs::Rules::rule, reference_model::specs::SharedRules::abort_edit))]
+#[tactic(auto, unfolding(reference_model::specs::model::Rules::rule, reference_model::specs::model::SharedRules::abort_edit))]
 pub(crate) fn decide_host_abort<A: Allocator>(
     layout: &Layout,
     shared: &SharedPart<A>,

@@ -5,9 +5,9 @@ ghost use Rattle.part_types.specs.View.{shared_of};
 ghost use Rattle.decisions.specs.Grows.{GrowsOnly};
 ghost use Rattle.call_table.specs.declared.step.Step.TheVariants.{HostTranslate, HypTranslate, OwnerOf};
 ghost use Rattle.page_state.specs.LayoutView.{layout_of};
-ghost use Rattle.reference_model.specs.Decides.{decides};
-ghost use Rattle.reference_model.specs.State.{Cpu};
-ghost use Rattle.reference_model.specs.Used.{used_alone};
+ghost use Rattle.reference_model.specs.model.Decides.{decides};
+ghost use Rattle.reference_model.specs.model.State.{Cpu};
+ghost use Rattle.reference_model.specs.model.Used.{used_alone};
 
 use call_table::{Refusal, Value};
 use page_state::{Frame, Layout, Page};
@@ -16,7 +16,7 @@ use reference_model::Changes;
 use std::alloc::Allocator;
 
 /// The host's entry of an input page.
-#[tactic(auto, unfolding(reference_model::specs::Rules::rule))]
+#[tactic(auto, unfolding(reference_model::specs::model::Rules::rule))]
 pub(crate) fn decide_host_translate<A: Allocator>(
     layout: &Layout,
     shared: &SharedPart<A>,
@@ -35,7 +35,7 @@ pub(crate) fn decide_host_translate<A: Allocator>(
 }
 
 /// The hypervisor's entry of an input page.
-#[tactic(auto, unfolding(reference_model::specs::Rules::rule))]
+#[tactic(auto, unfolding(reference_model::specs::model::Rules::rule))]
 pub(crate) fn decide_hyp_translate<A: Allocator>(
     layout: &Layout,
     shared: &SharedPart<A>,
@@ -54,7 +54,7 @@ pub(crate) fn decide_hyp_translate<A: Allocator>(
 }
 
 /// The owner row of a memory frame. Requires a Shared part of the layout.
-#[tactic(auto, unfolding(reference_model::specs::Rules::rule))]
+#[tactic(auto, unfolding(reference_model::specs::model::Rules::rule))]
 pub(crate) fn decide_owner_of<A: Allocator>(
     layout: &Layout,
     shared: &SharedPart<A>,

@@ -4,11 +4,11 @@ ghost use Rattle.part_types.specs.View.{shared_of};
 ghost use Rattle.page_state.specs.EntryTests.{is_free_page as is_free_entry, is_unmapped};
 ghost use Rattle.page_state.specs.Layouts.{hyp_page as hyp_page_of};
 ghost use Rattle.page_state.specs.LayoutView.{layout_of};
-ghost use Rattle.reference_model.specs.Decides.{decides};
-ghost use Rattle.reference_model.specs.State.{Cpu};
-ghost use Rattle.reference_model.specs.Used.{used_alone};
+ghost use Rattle.reference_model.specs.model.Decides.{decides};
+ghost use Rattle.reference_model.specs.model.State.{Cpu};
+ghost use Rattle.reference_model.specs.model.Used.{used_alone};
 ghost use Rattle.call_table.specs.declared.step.Step.TheVariants.{DonateHyp};
-ghost use Rattle.reference_model.specs.SharedRules.{may_donate as may_donate_of};
+ghost use Rattle.reference_model.specs.model.SharedRules.{may_donate as may_donate_of};
 ghost use Rattle.table_tree.specs.View.{meaning};
 
 use super::change;
@@ -43,7 +43,7 @@ pub(crate) fn may_donate<A: Allocator>(shared: &SharedPart<A>, pfn: u64, n: u64)
 
 /// The host gives 1 to 512 memory frames to the hypervisor. The pages of the host are annotated with the hypervisor's owner
 /// number, and the hypervisor's pages of the frames map them.
-#[tactic(auto, unfolding(reference_model::specs::Rules::rule))]
+#[tactic(auto, unfolding(reference_model::specs::model::Rules::rule))]
 pub(crate) fn decide_donate_hyp<A: Allocator>(
     layout: &Layout,
     shared: &SharedPart<A>,

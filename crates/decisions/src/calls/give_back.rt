@@ -3,13 +3,13 @@ ghost use Rattle.std.specs.Prelude.{◌≡◌, ℕ, ◌+◌, ◌<◌, ◌≤◌,
 ghost use Rattle.part_types.specs.Lent.{SharedSuits};
 ghost use Rattle.part_types.specs.View.{shared_of};
 ghost use Rattle.page_state.specs.LayoutView.{layout_of};
-ghost use Rattle.reference_model.specs.Decides.{decides};
-ghost use Rattle.reference_model.specs.State.{Cpu};
-ghost use Rattle.reference_model.specs.Used.{used_alone};
+ghost use Rattle.reference_model.specs.model.Decides.{decides};
+ghost use Rattle.reference_model.specs.model.State.{Cpu};
+ghost use Rattle.reference_model.specs.model.Used.{used_alone};
 ghost use Rattle.owner_table.specs.Rows.{row_at};
 ghost use Rattle.call_table.specs.declared.step.Step.TheVariants.{HypDonateHost};
 ghost use Rattle.page_state.specs.Search.{all_below};
-ghost use Rattle.reference_model.specs.SharedRules.{is_plain as is_plain_of, may_return as may_return_of};
+ghost use Rattle.reference_model.specs.model.SharedRules.{is_plain as is_plain_of, may_return as may_return_of};
 
 use super::change;
 use crate::pages::{HYPERVISOR, hyp_page, is_in};
@@ -54,7 +54,7 @@ fn may_return_all<A: Allocator>(shared: &SharedPart<A>, pfn: u64, n: u64) -> boo
 
 /// The hypervisor gives 1 to 512 memory frames back to the host: it must own each of them, and none may be in a pool, in a
 /// hand or a table. Afterwards neither maps them. Requires a Shared part of the layout.
-#[tactic(auto, unfolding(reference_model::specs::Rules::rule))]
+#[tactic(auto, unfolding(reference_model::specs::model::Rules::rule))]
 pub(crate) fn decide_hyp_donate_host<A: Allocator>(
     layout: &Layout,
     shared: &SharedPart<A>,

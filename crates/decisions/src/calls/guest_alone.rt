@@ -2,10 +2,10 @@
 ghost use Rattle.std.specs.Prelude.{◌≡◌, ℕ, Some, IfOk};
 ghost use Rattle.part_types.specs.View.{cpu_of};
 ghost use Rattle.page_state.specs.LayoutView.{layout_of};
-ghost use Rattle.reference_model.specs.Decides.{decides};
+ghost use Rattle.reference_model.specs.model.Decides.{decides};
 ghost use Rattle.page_state.specs.Layouts.{Layout as ReferenceLayout};
-ghost use Rattle.reference_model.specs.State.{Guest as ReferenceGuest};
-ghost use Rattle.reference_model.specs.Used.{guest_alone};
+ghost use Rattle.reference_model.specs.model.State.{Guest as ReferenceGuest};
+ghost use Rattle.reference_model.specs.model.Used.{guest_alone};
 ghost use Rattle.call_table.specs.declared.step.Step.TheVariants.{GuestRelax, GuestTranslate, MarkDying};
 ghost use Rattle.decisions.specs.Decided.{IsDecidedByGuest};
 ghost use Rattle.decisions.specs.Grows.{GrowsOnly};
@@ -22,7 +22,7 @@ use reference_model::{Changes, GuestChange, Stage};
 use std::alloc::Allocator;
 
 /// The guest gets more rights at a page that it borrows.
-#[tactic(auto, unfolding(reference_model::specs::Rules::rule))]
+#[tactic(auto, unfolding(reference_model::specs::model::Rules::rule))]
 pub(crate) fn decide_guest_relax<A: Allocator>(
     layout: &Layout,
     guest: &Guest<A>,
@@ -45,7 +45,7 @@ pub(crate) fn decide_guest_relax<A: Allocator>(
 }
 
 /// The entry of an input page of a guest that isn't Empty.
-#[tactic(auto, unfolding(reference_model::specs::Rules::rule))]
+#[tactic(auto, unfolding(reference_model::specs::model::Rules::rule))]
 pub(crate) fn decide_guest_translate<A: Allocator>(
     layout: &Layout,
     guest: &Guest<A>,
@@ -68,14 +68,14 @@ pub(crate) fn decide_guest_translate<A: Allocator>(
 }
 
 /// The Live guest of the CPU's Closing ticket becomes Dying.
-#[tactic(auto, unfolding(reference_model::specs::Rules::rule))]
+#[tactic(auto, unfolding(reference_model::specs::model::Rules::rule))]
 pub(crate) fn decide_mark_dying(cpu: &CpuState) -> Result<Changes, Refusal>
     ensures decided { (l : ReferenceLayout) (id slot : ℕ) (g : ReferenceGuest) → result ≡ decides l id (Some slot) MarkDying (guest_alone g (cpu_of cpu.now)) }
     ensures grows { IfOk result (GrowsOnly MarkDying) }
 {
     Ok(Changes {
         part: GuestChange::Die,
-        cpu: moved_on(Stage::DyingVm, cpu),
+        cpu: moved_on(Stage::Dying, cpu),
         ..Changes::NONE
     })
 }

@@ -5,11 +5,11 @@ ghost use Rattle.part_types.specs.View.{cpu_of};
 ghost use Rattle.page_state.specs.LayoutView.{layout_of};
 ghost use Rattle.decisions.specs.Decided.{IsDecidedByCpu, IsDecidedByHolder, has_left, used_with};
 ghost use Rattle.call_table.specs.declared.step.Step.TheVariants.{FinishGuest, Install, ReclaimPool, Topup};
-ghost use Rattle.reference_model.specs.Decides.{decides};
-ghost use Rattle.reference_model.specs.GuestRules.{is_guest, moved_on as moved_on_of, ticket_kind as ticket_kind_of, ticket_vm as ticket_vm_of};
-ghost use Rattle.reference_model.specs.Rely.{CanRely};
-ghost use Rattle.reference_model.specs.SharedRules.{hand_becomes as hand_becomes_of, to_host as to_host_of};
-ghost use Rattle.reference_model.specs.State.{live, dying};
+ghost use Rattle.reference_model.specs.model.Decides.{decides};
+ghost use Rattle.reference_model.specs.model.GuestRules.{is_guest, moved_on as moved_on_of, ticket_kind as ticket_kind_of, ticket_vm as ticket_vm_of};
+ghost use Rattle.reference_model.specs.help.Rely.{CanRely};
+ghost use Rattle.reference_model.specs.model.SharedRules.{hand_becomes as hand_becomes_of, to_host as to_host_of};
+ghost use Rattle.reference_model.specs.model.State.{live, dying};
 
 use super::change;
 use super::vms::{SLOTS, ticket_becomes};
@@ -81,7 +81,7 @@ fn to_host(frame: u64) -> Changes
 }
 
 /// The guest of the CPU's Booked ticket becomes Live, with the hand as its root and pool.
-#[tactic(auto, unfolding(reference_model::specs::Rules::rule))]
+#[tactic(auto, unfolding(reference_model::specs::model::Rules::rule))]
 pub(crate) fn decide_install(cpu: &CpuState) -> Result<Changes, Refusal>
     ensures decided { IsDecidedByCpu cpu.now Install result }
 {
@@ -111,7 +111,7 @@ fn is_live_or_dying<A: Allocator>(guest: &Guest<A>, vm: VmId) -> bool
 }
 
 /// A Live or Dying guest's pool gets the hand: it holds at most 512 frames with it, its tables among them.
-#[tactic(auto, unfolding(reference_model::specs::Rules::rule))]
+#[tactic(auto, unfolding(reference_model::specs::model::Rules::rule))]
 pub(crate) fn decide_topup<A: Allocator>(
     layout: &Layout,
     guest: &Guest<A>,
@@ -143,7 +143,7 @@ pub(crate) fn decide_topup<A: Allocator>(
 }
 
 /// The host gets the least free frame of a Dying guest's pool back. Requires a guest that some run can reach.
-#[tactic(auto, unfolding(reference_model::specs::Rules::rule))]
+#[tactic(auto, unfolding(reference_model::specs::model::Rules::rule))]
 pub(crate) fn decide_reclaim_pool<A: Allocator>(
     layout: &Layout,
     shared: &SharedPart<A>,
@@ -181,7 +181,7 @@ fn holds_any<A: Allocator>(guest: &Guest<A>) -> bool
 
 /// The host gets the root of the Dying guest of the CPU's ticket back, of which nothing else is left, and the guest is Empty.
 /// Requires a guest that some run can reach.
-#[tactic(auto, unfolding(reference_model::specs::Rules::rule))]
+#[tactic(auto, unfolding(reference_model::specs::model::Rules::rule))]
 pub(crate) fn decide_finish_guest<A: Allocator>(
     layout: &Layout,
     shared: &SharedPart<A>,

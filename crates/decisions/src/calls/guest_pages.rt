@@ -5,10 +5,10 @@ ghost use Rattle.part_types.specs.View.{shared_of};
 ghost use Rattle.page_state.specs.EntryTests.{annotation, entry_frame as frame_of_entry, is_free_page as is_free_entry, is_in as is_entry_in, is_unmapped, leaf as leaf_of};
 ghost use Rattle.page_state.specs.LayoutView.{layout_of};
 ghost use Rattle.decisions.specs.Decided.{IsDecidedByParts};
-ghost use Rattle.reference_model.specs.State.{Cpu};
-ghost use Rattle.reference_model.specs.Used.{with_guest};
+ghost use Rattle.reference_model.specs.model.State.{Cpu};
+ghost use Rattle.reference_model.specs.model.Used.{with_guest};
 ghost use Rattle.call_table.specs.declared.step.Step.TheVariants.{ShareGuest, UnshareGuest, DonateGuest, GuestShareHost, GuestUnshareHost, ReclaimPage};
-ghost use Rattle.reference_model.specs.GuestRules.{are_good_pages as are_good_pages_of, guest_owner, may_give as may_give_of, two_pages as two_pages_of, two_ranges as two_ranges_of};
+ghost use Rattle.reference_model.specs.model.GuestRules.{are_good_pages as are_good_pages_of, guest_owner, may_give as may_give_of, two_pages as two_pages_of, two_ranges as two_ranges_of};
 ghost use Rattle.table_tree.specs.View.{meaning};
 
 use super::change;
@@ -90,7 +90,7 @@ fn owned_by_guest(slot: u64) -> Entry
 }
 
 /// The host shares 1 to 512 memory frames with a plain VM: their pages must be free to give, and the guest's pages unmapped.
-#[tactic(auto, unfolding(reference_model::specs::Rules::rule))]
+#[tactic(auto, unfolding(reference_model::specs::model::Rules::rule))]
 pub(crate) fn decide_share_guest<A: Allocator>(
     layout: &Layout,
     shared: &SharedPart<A>,
@@ -118,7 +118,7 @@ pub(crate) fn decide_share_guest<A: Allocator>(
 }
 
 /// The host takes back a frame that it shares with a Live guest.
-#[tactic(auto, unfolding(reference_model::specs::Rules::rule))]
+#[tactic(auto, unfolding(reference_model::specs::model::Rules::rule))]
 pub(crate) fn decide_unshare_guest<A: Allocator>(
     layout: &Layout,
     shared: &SharedPart<A>,
@@ -148,7 +148,7 @@ pub(crate) fn decide_unshare_guest<A: Allocator>(
 }
 
 /// The host gives 1 to 512 memory frames to a protected VM: their pages must be free to give, and the guest's pages unmapped.
-#[tactic(auto, unfolding(reference_model::specs::Rules::rule))]
+#[tactic(auto, unfolding(reference_model::specs::model::Rules::rule))]
 pub(crate) fn decide_donate_guest<A: Allocator>(
     layout: &Layout,
     shared: &SharedPart<A>,
@@ -172,7 +172,7 @@ pub(crate) fn decide_donate_guest<A: Allocator>(
 }
 
 /// The guest shares a page that it owns with the host.
-#[tactic(auto, unfolding(reference_model::specs::Rules::rule))]
+#[tactic(auto, unfolding(reference_model::specs::model::Rules::rule))]
 pub(crate) fn decide_guest_share_host<A: Allocator>(
     layout: &Layout,
     shared: &SharedPart<A>,
@@ -198,7 +198,7 @@ pub(crate) fn decide_guest_share_host<A: Allocator>(
 }
 
 /// The guest takes back a page that it shares with the host.
-#[tactic(auto, unfolding(reference_model::specs::Rules::rule))]
+#[tactic(auto, unfolding(reference_model::specs::model::Rules::rule))]
 pub(crate) fn decide_guest_unshare_host<A: Allocator>(
     layout: &Layout,
     shared: &SharedPart<A>,
@@ -237,7 +237,7 @@ fn reclaimed(entry: Entry) -> Entry
 }
 
 /// The host gets the frame of a page of a Dying guest back.
-#[tactic(auto, unfolding(reference_model::specs::Rules::rule))]
+#[tactic(auto, unfolding(reference_model::specs::model::Rules::rule))]
 pub(crate) fn decide_reclaim_page<A: Allocator>(
     layout: &Layout,
     shared: &SharedPart<A>,

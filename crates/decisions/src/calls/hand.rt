@@ -2,9 +2,9 @@
 ghost use Rattle.std.specs.Prelude.{◌≡◌, ℕ, None};
 ghost use Rattle.part_types.specs.View.{cpu_of, shared_of};
 ghost use Rattle.page_state.specs.LayoutView.{layout_of};
-ghost use Rattle.reference_model.specs.Decides.{decides};
-ghost use Rattle.reference_model.specs.Rely.{CanRely};
-ghost use Rattle.reference_model.specs.Used.{used_alone};
+ghost use Rattle.reference_model.specs.model.Decides.{decides};
+ghost use Rattle.reference_model.specs.help.Rely.{CanRely};
+ghost use Rattle.reference_model.specs.model.Used.{used_alone};
 ghost use Rattle.call_table.specs.declared.step.Step.TheVariants.{Fund, Unfund};
 
 use super::change;
@@ -18,7 +18,7 @@ use std::alloc::Allocator;
 
 /// The host gives 1 to 512 memory frames into the CPU's hand, which must be empty. The frames go to the hypervisor, as those
 /// of a donation do.
-#[tactic(auto, unfolding(reference_model::specs::Rules::rule))]
+#[tactic(auto, unfolding(reference_model::specs::model::Rules::rule))]
 pub(crate) fn decide_fund<A: Allocator>(
     layout: &Layout,
     shared: &SharedPart<A>,
@@ -52,7 +52,7 @@ pub(crate) fn decide_fund<A: Allocator>(
 }
 
 /// The frames of the CPU's hand go back to the host, and the hand is empty afterwards. Requires a hand that some run can reach.
-#[tactic(auto, unfolding(reference_model::specs::Rules::rule))]
+#[tactic(auto, unfolding(reference_model::specs::model::Rules::rule))]
 pub(crate) fn decide_unfund<A: Allocator>(
     layout: &Layout,
     shared: &SharedPart<A>,

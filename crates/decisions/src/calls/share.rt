@@ -2,9 +2,9 @@
 ghost use Rattle.std.specs.Prelude.{◌≡◌, ℕ, None};
 ghost use Rattle.part_types.specs.View.{shared_of};
 ghost use Rattle.page_state.specs.LayoutView.{layout_of};
-ghost use Rattle.reference_model.specs.Decides.{decides};
-ghost use Rattle.reference_model.specs.State.{Cpu};
-ghost use Rattle.reference_model.specs.Used.{used_alone};
+ghost use Rattle.reference_model.specs.model.Decides.{decides};
+ghost use Rattle.reference_model.specs.model.State.{Cpu};
+ghost use Rattle.reference_model.specs.model.Used.{used_alone};
 ghost use Rattle.call_table.specs.declared.step.Step.TheVariants.{ShareHyp};
 
 use super::change;
@@ -17,7 +17,7 @@ use std::alloc::Allocator;
 
 /// The host shares a frame with the hypervisor: its page must be free to give, and the hypervisor's page of the frame
 /// unmapped.
-#[tactic(auto, unfolding(reference_model::specs::Rules::rule))]
+#[tactic(auto, unfolding(reference_model::specs::model::Rules::rule))]
 pub(crate) fn decide_share_hyp<A: Allocator>(
     layout: &Layout,
     shared: &SharedPart<A>,

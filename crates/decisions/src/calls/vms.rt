@@ -4,12 +4,12 @@ ghost use Rattle.part_types.specs.View.{cpu_of};
 ghost use Rattle.decisions.specs.Decided.{IsTicketIf};
 ghost use Rattle.decisions.specs.Grows.{GrowsOnly};
 ghost use Rattle.page_state.specs.Layouts.{Layout as ReferenceLayout};
-ghost use Rattle.reference_model.specs.Decides.{decides};
-ghost use Rattle.reference_model.specs.Parts.{has_stage};
-ghost use Rattle.reference_model.specs.Used.{vms_alone};
-ghost use Rattle.reference_model.specs.VmRules.{load_becomes};
+ghost use Rattle.reference_model.specs.model.Decides.{decides};
+ghost use Rattle.reference_model.specs.model.Parts.{has_stage};
+ghost use Rattle.reference_model.specs.model.Used.{vms_alone};
+ghost use Rattle.reference_model.specs.model.VmRules.{load_becomes};
 ghost use Rattle.reference_model.specs.declared.changes.Update.TheVariants.{Becomes};
-ghost use Rattle.reference_model.specs.Changes.{same_cpu};
+ghost use Rattle.reference_model.specs.model.Changes.{same_cpu};
 ghost use Rattle.call_table.specs.declared.step.Step.TheVariants.{VmReserve, VmOpen, VcpuLoad, VcpuPut, Teardown, VmRelease};
 ghost use Rattle.vm_table.specs.View.{vms_of};
 
@@ -71,7 +71,7 @@ fn loaded_becomes(loaded: Option<Loaded>) -> CpuChange
 }
 
 /// The lowest Empty slot is reserved for a VM of 1 to 8 vCPUs, and the CPU, which must have no ticket, gets one of it.
-#[tactic(auto, unfolding(reference_model::specs::Rules::rule))]
+#[tactic(auto, unfolding(reference_model::specs::model::Rules::rule))]
 pub(crate) fn decide_vm_reserve(
     table: &VmTable,
     cpu: &CpuState,
@@ -107,7 +107,7 @@ pub(crate) fn decide_vm_reserve(
 }
 
 /// The installed VM of the CPU's ticket opens, and the CPU gives its ticket up.
-#[tactic(auto, unfolding(reference_model::specs::Rules::rule))]
+#[tactic(auto, unfolding(reference_model::specs::model::Rules::rule))]
 pub(crate) fn decide_vm_open(table: &VmTable, cpu: &CpuState) -> Result<Changes, Refusal>
     ensures decided { (l : ReferenceLayout) (id : ℕ) → result ≡ decides l id None VmOpen (vms_alone (vms_of table.now) (cpu_of cpu.now)) }
     ensures grows { IfOk result (GrowsOnly VmOpen) }
@@ -126,7 +126,7 @@ pub(crate) fn decide_vm_open(table: &VmTable, cpu: &CpuState) -> Result<Changes,
 }
 
 /// The CPU, which must have nothing loaded, loads a vCPU of an Open VM that no CPU has loaded.
-#[tactic(auto, unfolding(reference_model::specs::Rules::rule))]
+#[tactic(auto, unfolding(reference_model::specs::model::Rules::rule))]
 pub(crate) fn decide_vcpu_load(
     table: &VmTable,
     cpu: &CpuState,
@@ -160,7 +160,7 @@ pub(crate) fn decide_vcpu_load(
 }
 
 /// The CPU puts back the vCPU that it has loaded.
-#[tactic(auto, unfolding(reference_model::specs::Rules::rule))]
+#[tactic(auto, unfolding(reference_model::specs::model::Rules::rule))]
 pub(crate) fn decide_vcpu_put(table: &VmTable, cpu: &CpuState) -> Result<Changes, Refusal>
     ensures decided { (l : ReferenceLayout) (id : ℕ) → result ≡ decides l id None VcpuPut (vms_alone (vms_of table.now) (cpu_of cpu.now)) }
     ensures grows { IfOk result (GrowsOnly VcpuPut) }
@@ -179,7 +179,7 @@ pub(crate) fn decide_vcpu_put(table: &VmTable, cpu: &CpuState) -> Result<Changes
 }
 
 /// An Open VM of which no CPU has a vCPU loaded closes, and the CPU, which must have no ticket, gets one of it.
-#[tactic(auto, unfolding(reference_model::specs::Rules::rule))]
+#[tactic(auto, unfolding(reference_model::specs::model::Rules::rule))]
 pub(crate) fn decide_teardown(table: &VmTable, cpu: &CpuState, vm: VmId) -> Result<Changes, Refusal>
     ensures decided { (l : ReferenceLayout) (id : ℕ) → result ≡ decides l id None (Teardown vm) (vms_alone (vms_of table.now) (cpu_of cpu.now)) }
     ensures grows { IfOk result (GrowsOnly (Teardown vm)) }
@@ -198,7 +198,7 @@ pub(crate) fn decide_teardown(table: &VmTable, cpu: &CpuState, vm: VmId) -> Resu
         cpu: ticket_becomes(Some(Ticket {
             vm,
             kind: table.slot(vm.slot).kind,
-            stage: Stage::ClosingVm,
+            stage: Stage::Closing,
         })),
         ..Changes::NONE
     })
@@ -206,7 +206,7 @@ pub(crate) fn decide_teardown(table: &VmTable, cpu: &CpuState, vm: VmId) -> Resu
 
 /// The slot of the CPU's ticket, of which nothing is installed or everything given back, becomes Empty, with the next
 /// generation, and the CPU gives its ticket up.
-#[tactic(auto, unfolding(reference_model::specs::Rules::rule))]
+#[tactic(auto, unfolding(reference_model::specs::model::Rules::rule))]
 pub(crate) fn decide_vm_release(table: &VmTable, cpu: &CpuState) -> Result<Changes, Refusal>
     ensures decided { (l : ReferenceLayout) (id : ℕ) → result ≡ decides l id None VmRelease (vms_alone (vms_of table.now) (cpu_of cpu.now)) }
     ensures grows { IfOk result (GrowsOnly VmRelease) }

@@ -3,7 +3,7 @@ use Rattle.std.specs.Prelude.{◌≡◌, ℕ, ◌<◌, List, Option, map, get_or
 use Rattle.page_state.specs.declared.row.Row.{Row}
 use Rattle.page_state.specs.Map.{Map}
 use Rattle.page_state.specs.Runs.{map_of}
-use Rattle.reference_model.specs.State.{no_guest}
+use Rattle.reference_model.specs.model.State.{no_guest}
 use Rattle.ghost_spec.specs.declared.parts.GhostGuest.{GhostGuest}
 use Rattle.ghost_spec.specs.States.{guest_in}
 use Rattle.ghost_trees.specs.declared.tree.Tree.{Tree}
@@ -29,7 +29,7 @@ guest_map gs v = (get_or (map guest_in gs) v no_guest).tree.map
 abbrev pub IsGuestDifference : List GhostGuest → List GhostGuest → Disagreement → Type 0
 IsGuestDifference gs hs d = (v : ℕ) × ((u : ℕ) → u < v → guest_map gs u ≡ guest_map hs u) × IsMapDifference (Guest v) (guest_map gs v) (guest_map hs v) d
 
--- what is found, or that two things are equal
+-- the finding, or that two things are equal
 abbrev pub IsFound : Type 0 → (Disagreement → Type 0) → Option Disagreement → Type 0
 IsFound alike differ o = MatchOption o alike differ
 

@@ -4,7 +4,7 @@ use Rattle.page_state.specs.declared.row.Row.{Row}
 use Rattle.page_state.specs.Rows.{plain_row}
 use Rattle.run_list.specs.declared.run.Run.{Run}
 use Rattle.run_list.specs.OwnerRows.{row_eq}
-use Rattle.reference_model.specs.State.{Slot}
+use Rattle.reference_model.specs.model.State.{Slot}
 use Rattle.ghost_trees.specs.declared.tree.Table.{Table}
 use Rattle.ghost_trees.specs.Trees.{table_of}
 

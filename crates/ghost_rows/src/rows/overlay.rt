@@ -1,4 +1,4 @@
-//! Lists of rows that are written range by range: what is written last counts.
+//! Lists of rows that are written range by range: the last write counts.
 ghost use Rattle.std.specs.Prelude.{◌≡◌, ℕ, ◌+◌, ◌<◌, ◌≤◌, ◌^◌, true, Some, None, OnOk};
 ghost use Rattle.std.specs.Option.{ForSome};
 ghost use Rattle.page_state.specs.Regions.{end_of};

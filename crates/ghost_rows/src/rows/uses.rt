@@ -3,7 +3,7 @@ ghost use Rattle.std.specs.Prelude.{◌≡◌, ℕ, ◌+◌, ◌-◌, ◌<◌, �
 ghost use Rattle.page_state.specs.LayoutView.{layout_of};
 ghost use Rattle.page_state.specs.Regions.{is_in_range};
 ghost use Rattle.page_state.specs.Rows.{HasPageBelow};
-ghost use Rattle.reference_model.specs.Owner.{is_frame, is_free, is_in_hand, is_table_frame};
+ghost use Rattle.reference_model.specs.model.Owner.{is_frame, is_free, is_in_hand, is_table_frame};
 ghost use Rattle.run_list.specs.Runs.{AreInReach};
 ghost use Rattle.ghost_spec.specs.Found.{has_place as has_place_of, any_table_with};
 ghost use Rattle.ghost_trees.specs.Trees.{table_of, tree_in_lists};

@@ -1,7 +1,7 @@
 -- Two entries of one frame.
 use Rattle.std.specs.Prelude.{◌≡◌, ℕ, ◌<◌, All, Any}
 use Rattle.page_state.specs.declared.entry.Run.{Run}
-use Rattle.reference_model.specs.State.{Contents}
+use Rattle.reference_model.specs.model.State.{Contents}
 use Rattle.ghost_spec.specs.declared.lists.GhostLists.{GhostLists}
 use Rattle.ghost_sound.specs.declared.leaves.Side.{Side}
 use Rattle.ghost_sound.specs.declared.pairs.Pair.{Pair}

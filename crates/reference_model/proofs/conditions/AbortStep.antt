@@ -1,6 +1,6 @@
 -- host_abort, and the steps that only read the Shared part, keep the invariant.
 use Rattle.std.proofs.Common.{◌≡◌, ℕ, ◌+◌, ◌-◌, ◌≤◌, ◌<◌, refl, ap, sym, ◌∙◌, subst, arith, inl, inr}
-use Rattle.std.specs.Prelude.{Bool, true, false, ◌&&◌, nat_le, is_none, Option, Some, None, if◌then◌else◌}
+use Rattle.std.specs.Prelude.{Bool, true, false, ◌&&◌, nat_le, Option, Some, None, if◌then◌else◌, is_some, not}
 use Rattle.std.proofs.lemmas.Bool.Decides.{nat_tests}
 use Rattle.descriptor.specs.declared.Prot.TheVariants.{RWX}
 use Rattle.descriptor.specs.declared.State.TheVariants.{Owned}
@@ -18,21 +18,21 @@ use Rattle.page_state.specs.Geometries.{pages_below}
 use Rattle.page_state.specs.Map.{Map, is_within}
 use Rattle.page_state.specs.Regions.{region_of, is_memory_kind, is_memory_region, end_of, is_in_range}
 use Rattle.page_state.specs.Trees.{Block}
-use Rattle.reference_model.specs.State.{Contents}
+use Rattle.reference_model.specs.model.State.{Contents}
 use Rattle.page_state.proofs.Sizes.{size_some}
 use Rattle.page_state.specs.Layouts.{Layout, is_memory}
-use Rattle.reference_model.specs.Parts.{shared}
-use Rattle.reference_model.specs.Rules.{names}
-use Rattle.reference_model.specs.Used.{used_of}
-use Rattle.reference_model.specs.Rule.{Rule, fine}
-use Rattle.reference_model.specs.SharedRules.{host_abort, host_translate, hyp_translate, owner_of, abort_edit, abort_leaf, abort_depth, may_map}
-use Rattle.reference_model.specs.Step.{refusal, is_touched}
+use Rattle.reference_model.specs.model.Parts.{shared}
+use Rattle.reference_model.specs.model.Rules.{names}
+use Rattle.reference_model.specs.model.Used.{used_of}
+use Rattle.reference_model.specs.model.Rule.{Rule, Test, fine, reads}
+use Rattle.reference_model.specs.model.SharedRules.{host_abort, host_translate, hyp_translate, owner_of, abort_edit, abort_leaf, abort_depth, may_map}
+use Rattle.reference_model.specs.model.Step.{refusal, is_touched}
 use Rattle.page_state.specs.Tables.{edited_map}
 use Rattle.reference_model.specs.declared.changes.MapChange.{MapChange}
-use Rattle.reference_model.specs.Changes.{change, edit_of, same_cpu, no_changes}
-use Rattle.reference_model.specs.RowChanges.{told_row}
-use Rattle.reference_model.specs.ConditionChanges.{told_condition}
-use Rattle.reference_model.specs.Conditions.{row_in, Condition, outside, hosts, HostFits, hyp_says, Legal, IsUsable, in_shared, in_hand, is_inside, IsGood}
+use Rattle.reference_model.specs.model.Changes.{change, edit_of, same_cpu, no_changes}
+use Rattle.reference_model.specs.help.RowChanges.{told_row}
+use Rattle.reference_model.specs.help.ConditionChanges.{told_condition}
+use Rattle.reference_model.specs.help.Conditions.{row_in, Condition, outside, hosts, HostFits, hyp_says, Legal, IsUsable, in_shared, in_hand, is_inside, IsGood}
 use Rattle.page_state.proofs.Blocks.{empty_means}
 use Rattle.page_state.proofs.Common.{both, if-true, if-false}
 use Rattle.coarse_trees.specs.Coarsest.{IsInRange}
@@ -43,23 +43,23 @@ use Rattle.reference_model.proofs.conditions.SharedMoves.{x_of, shared-keeps}
 use Rattle.reference_model.proofs.conditions.Tests.{Passed, passed}
 
 -- a rule that changes the host's map alone
-abbrev pub host_rule : Bool → Bool → Option MapChange → Value → Rule
-host_rule invalid perm e value = record fine { invalid = invalid; perm = perm; changes = record no_changes { host = e; value = value } }
+abbrev pub host_rule : Test → Test → Option MapChange → Value → Rule
+host_rule valid allowed e value = record fine { valid = valid; allowed = allowed; changes = record no_changes { host = e; value = value } }
 
 none-within : (q : ℕ) → is_within 0 0 q ≡ false
 none-within q = grind (arith, nat_tests)
 
-module _ (l : Layout) (s : Contents) (legal : Legal l s) (usable : IsUsable l) (cpu : ℕ) (invalid perm : Bool) (value : Value) where
+module _ (l : Layout) (s : Contents) (legal : Legal l s) (usable : IsUsable l) (cpu : ℕ) (valid allowed : Test) (value : Value) where
   -- what a step with this edit leaves is legal
   abbrev IsKept : Step → Option MapChange → Type 0
-  IsKept step e = Passed l.depth (host_rule invalid perm e value) false (x_of cpu s) → StepKept l s legal.condition shared None cpu step (host_rule invalid perm e value).changes
+  IsKept step e = Passed l.depth (host_rule valid allowed e value) false (x_of cpu s) → StepKept l s legal.condition shared None cpu step (host_rule valid allowed e value).changes
 
   -- frames of one condition keep it, where the host's map changes or stays
-  same-keeps : (step : Step) → names step ≡ shared → (e : Option MapChange) (first n : ℕ) (c : Condition) → is_calm c ≡ true → in_shared c ≡ false → ((d : ℕ) → in_hand d c ≡ false) → IsGood l c → IsInRange l.depth (edit_of e) → ((q : ℕ) → is_touched (host_rule invalid perm e value).changes q ≡ is_within first n q)
+  same-keeps : (step : Step) → names step ≡ shared → (e : Option MapChange) (first n : ℕ) (c : Condition) → is_calm c ≡ true → in_shared c ≡ false → ((d : ℕ) → in_hand d c ≡ false) → IsGood l c → IsInRange l.depth (edit_of e) → ((q : ℕ) → is_touched (host_rule valid allowed e value).changes q ≡ is_within first n q)
       → ((q : ℕ) → is_within first n q ≡ true → legal.condition q ≡ c) → ((q : ℕ) → HostFits q (moved_to (always c) first n legal.condition q) (edited_map s.shared.host.map (edit_of e) q))
-      → ((q : ℕ) → is_within first n q ≡ true → row_in q c ≡ told_row cpu None (host_rule invalid perm e value).changes q) → ((q : ℕ) → is_within first n q ≡ true → is_memory l q ≡ true → c ≡ told_condition cpu None (host_rule invalid perm e value).changes q) → IsKept step e
+      → ((q : ℕ) → is_within first n q ≡ true → row_in q c ≡ told_row cpu None (host_rule valid allowed e value).changes q) → ((q : ℕ) → is_within first n q ≡ true → is_memory l q ≡ true → c ≡ told_condition cpu None (host_rule valid allowed e value).changes q) → IsKept step e
   unfolding used_of
-  same-keeps step named e first n c calm unused hand good range touched was fits told goes p = shared-keeps l s legal usable cpu step named (host_rule invalid perm e value).changes first n c (record {
+  same-keeps step named e first n c calm unused hand good range touched was fits told goes p = shared-keeps l s legal usable cpu step named (host_rule valid allowed e value).changes first n c (record {
     frames = record {
       inside = λ q w. sym (legal.of_layout.inside q) ∙ ap is_inside (was q w);
       alike = λ q k w z. refl;
@@ -197,20 +197,19 @@ module _ (l : Layout) (s : Contents) (legal : Legal l s) (usable : IsUsable l) (
   abbrev After : Step → Rule → Type 0
   After step r = StepKept l s legal.condition shared None cpu step r.changes
 
-  pub host_abort-keeps : refusal l.depth (host_abort l (x_of cpu s) page) false (x_of cpu s) ≡ None → After (HostAbort page) (host_abort l (x_of cpu s) page)
+  pub host_abort-keeps : refusal l.depth (host_abort page (reads l cpu None (x_of cpu s))) false (x_of cpu s) ≡ None → After (HostAbort page) (host_abort page (reads l cpu None (x_of cpu s)))
   unfolding used_of
   host_abort-keeps h =
       let m = s.shared.host.map in
-      let invalid = is_none (region_of l.memory page) in
-      let perm = is_annotated (m page) in
-      abort-edit l usable m page (IsKept l s legal usable cpu invalid perm Nothing (HostAbort page)) (still-keeps l s legal usable cpu invalid perm Nothing (HostAbort page) refl) (block-keeps l s legal usable cpu invalid perm Nothing page) (device-keeps l s legal usable cpu invalid perm Nothing page)
-      (region_of l.memory page) refl (passed l.depth (host_abort l (x_of cpu s) page) false (x_of cpu s) h)
+      let r = host_abort page (reads l cpu None (x_of cpu s)) in
+      abort-edit l usable m page (IsKept l s legal usable cpu r.valid r.allowed Nothing (HostAbort page)) (still-keeps l s legal usable cpu r.valid r.allowed Nothing (HostAbort page) refl) (block-keeps l s legal usable cpu r.valid r.allowed Nothing page) (device-keeps l s legal usable cpu r.valid r.allowed Nothing page)
+      (region_of l.memory page) refl (passed l.depth (host_abort page (reads l cpu None (x_of cpu s))) false (x_of cpu s) h)
 
-  pub host_translate-keeps : refusal l.depth (host_translate l (x_of cpu s) page) false (x_of cpu s) ≡ None → After (HostTranslate page) (host_translate l (x_of cpu s) page)
-  host_translate-keeps h = still-keeps l s legal usable cpu _ _ _ (HostTranslate page) refl (passed l.depth (host_translate l (x_of cpu s) page) false (x_of cpu s) h)
+  pub host_translate-keeps : refusal l.depth (host_translate page (reads l cpu None (x_of cpu s))) false (x_of cpu s) ≡ None → After (HostTranslate page) (host_translate page (reads l cpu None (x_of cpu s)))
+  host_translate-keeps h = still-keeps l s legal usable cpu _ _ _ (HostTranslate page) refl (passed l.depth (host_translate page (reads l cpu None (x_of cpu s))) false (x_of cpu s) h)
 
-  pub hyp_translate-keeps : refusal l.depth (hyp_translate l (x_of cpu s) page) false (x_of cpu s) ≡ None → After (HypTranslate page) (hyp_translate l (x_of cpu s) page)
-  hyp_translate-keeps h = still-keeps l s legal usable cpu _ _ _ (HypTranslate page) refl (passed l.depth (hyp_translate l (x_of cpu s) page) false (x_of cpu s) h)
+  pub hyp_translate-keeps : refusal l.depth (hyp_translate page (reads l cpu None (x_of cpu s))) false (x_of cpu s) ≡ None → After (HypTranslate page) (hyp_translate page (reads l cpu None (x_of cpu s)))
+  hyp_translate-keeps h = still-keeps l s legal usable cpu _ _ _ (HypTranslate page) refl (passed l.depth (hyp_translate page (reads l cpu None (x_of cpu s))) false (x_of cpu s) h)
 
-  pub owner_of-keeps : refusal l.depth (owner_of l (x_of cpu s) page) false (x_of cpu s) ≡ None → After (OwnerOf page) (owner_of l (x_of cpu s) page)
-  owner_of-keeps h = still-keeps l s legal usable cpu _ _ _ (OwnerOf page) refl (passed l.depth (owner_of l (x_of cpu s) page) false (x_of cpu s) h)
+  pub owner_of-keeps : refusal l.depth (owner_of page (reads l cpu None (x_of cpu s))) false (x_of cpu s) ≡ None → After (OwnerOf page) (owner_of page (reads l cpu None (x_of cpu s)))
+  owner_of-keeps h = still-keeps l s legal usable cpu _ _ _ (OwnerOf page) refl (passed l.depth (owner_of page (reads l cpu None (x_of cpu s))) false (x_of cpu s) h)

@@ -3,23 +3,24 @@ use Rattle.std.proofs.Common.{◌≡◌, ◌≢◌, ℕ, ◌+◌, ◌-◌, ◌�
 use Rattle.std.specs.Prelude.{false, Some, None}
 use Rattle.descriptor.specs.declared.Prot.{Prot}
 use Rattle.descriptor.specs.declared.State.{State}
+use Rattle.reference_model.specs.model.Rule.{reads}
 use Rattle.reference_model.specs.declared.changes.Ticket.{Ticket}
-use Rattle.reference_model.specs.declared.changes.Stage.TheVariants.{ClosingVm as closing_vm, DyingVm as dying_vm}
+use Rattle.reference_model.specs.declared.changes.Stage.TheVariants.{Closing as closing_vm, Dying as dying_vm}
 use Rattle.call_table.specs.declared.step.Step.TheVariants.{GuestRelax, GuestTranslate, MarkDying}
 use Rattle.call_table.specs.declared.step.VmId.{VmId}
 use Rattle.page_state.specs.Entries.{advance}
 use Rattle.page_state.specs.EntryTests.{with_rights, join}
 use Rattle.page_state.specs.Geometries.{pages_below}
-use Rattle.reference_model.specs.GuestRules.{guest_relax, guest_translate, mark_dying}
+use Rattle.reference_model.specs.model.GuestRules.{guest_relax, guest_translate, mark_dying}
 use Rattle.page_state.specs.Map.{Map, update, is_within}
-use Rattle.reference_model.specs.State.{Guest, Cpu, Contents, empty, live, put_at, no_guest}
+use Rattle.reference_model.specs.model.State.{Guest, Cpu, Contents, empty, live, put_at, no_guest}
 use Rattle.page_state.specs.Layouts.{Layout}
-use Rattle.reference_model.specs.Owner.{is_in_hand}
-use Rattle.reference_model.specs.Parts.{guest}
-use Rattle.reference_model.specs.Used.{Used, used_of, put_back}
-use Rattle.reference_model.specs.Step.{refusal, changed, with_rows, guest_after}
+use Rattle.reference_model.specs.model.Owner.{is_in_hand}
+use Rattle.reference_model.specs.model.Parts.{guest}
+use Rattle.reference_model.specs.model.Used.{Used, used_of, put_back}
+use Rattle.reference_model.specs.model.Step.{refusal, changed, with_rows, guest_after}
 use Rattle.page_state.specs.Tables.{put, needs, freed, returned, edited}
-use Rattle.reference_model.specs.Conditions.{guest_condition, GuestFits, IsMemoryLeaf, Legal, IsUsable, in_vm, one, guest_uses, SlotsFit}
+use Rattle.reference_model.specs.help.Conditions.{guest_condition, GuestFits, IsMemoryLeaf, Legal, IsUsable, in_vm, one, guest_uses, SlotsFit}
 use Rattle.page_state.proofs.Common.{both, if-true, if-false}
 use Rattle.coarse_trees.specs.Coarsest.{IsCoarsest}
 use Rattle.coarse_trees.proofs.Stays.{edit_keeps_coarsest}
@@ -99,14 +100,14 @@ module _ (l : Layout) (s : Contents) (legal : Legal l s) (usable : IsUsable l) (
         | inr w ↦ (old.0, if-false (is_within g 1 p) (advance (with_rights rights (m g)) (p - g)) (m p) w ∙ old.1)
       ]
 
-  pub guest_relax-keeps : (g : ℕ) (rights : Prot) → (s.guest v).phase ≢ empty → refusal l.depth (guest_relax l x g rights) false x ≡ None → LegalAlone l s legal (put_back guest (Some v) cpu s (with_rows l cpu (Some v) (GuestRelax g rights) (guest_relax l x g rights).changes (changed l.depth (guest_relax l x g rights).changes x)))
+  pub guest_relax-keeps : (g : ℕ) (rights : Prot) → (s.guest v).phase ≢ empty → refusal l.depth (guest_relax g rights (reads l cpu (Some v) x)) false x ≡ None → LegalAlone l s legal (put_back guest (Some v) cpu s (with_rows l cpu (Some v) (GuestRelax g rights) (guest_relax g rights (reads l cpu (Some v) x)).changes (changed l.depth (guest_relax g rights (reads l cpu (Some v) x)).changes x)))
   unfolding used_of put_back with_rows changed guest_after edited
   guest_relax-keeps g rights alive h =
-      let p = passed l.depth (guest_relax l x g rights) false x h in
-      let less = good-page l g p.invalid in
+      let p = passed l.depth (guest_relax g rights (reads l cpu (Some v) x)) false x h in
+      let less = good-page l g p.valid in
       let range : g + 1 ≤ pages_below l.depth = omega arith in
       let e = with_rights rights ((s.guest v).tree.map g) in
-      let r = guest_relax l x g rights in
+      let r = guest_relax g rights (reads l cpu (Some v) x) in
       alone-legal l s legal cpu v (new_guest l s v r.changes) (new_cpu s cpu r.changes)
       (relaxed g rights) (relaxed-has g rights)
       (λ f. tree-conserved l.depth (put g 1 e) (s.guest v).tree (s.guest v).free f range p.guest_enough ∙ legal.held.vm v f)
@@ -116,20 +117,20 @@ module _ (l : Layout) (s : Contents) (legal : Legal l s) (usable : IsUsable l) (
       refl
       (slots-stay legal cpu v (new_guest l s v r.changes) (new_cpu s cpu r.changes) refl refl refl refl refl (legal.slots.some_hand cpu))
 
-  pub guest_translate-keeps : (vm : VmId) (g : ℕ) → refusal l.depth (guest_translate l x vm g) false x ≡ None → LegalAlone l s legal (put_back guest (Some v) cpu s (with_rows l cpu (Some v) (GuestTranslate vm g) (guest_translate l x vm g).changes (changed l.depth (guest_translate l x vm g).changes x)))
+  pub guest_translate-keeps : (vm : VmId) (g : ℕ) → refusal l.depth (guest_translate vm g (reads l cpu (Some v) x)) false x ≡ None → LegalAlone l s legal (put_back guest (Some v) cpu s (with_rows l cpu (Some v) (GuestTranslate vm g) (guest_translate vm g (reads l cpu (Some v) x)).changes (changed l.depth (guest_translate vm g (reads l cpu (Some v) x)).changes x)))
   unfolding used_of put_back with_rows changed guest_after edited needs freed returned
   guest_translate-keeps vm g h =
-      let r = guest_translate l x vm g in
+      let r = guest_translate vm g (reads l cpu (Some v) x) in
       alone-legal l s legal cpu v (new_guest l s v r.changes) (new_cpu s cpu r.changes) (legal.maps.guest v) (legal.maps.guest_has v) (legal.held.vm v) (legal.trees.guest v)
       (legal.guest_parts.blank v) (legal.guest_parts.rooted v) refl
       (slots-stay legal cpu v (new_guest l s v r.changes) (new_cpu s cpu r.changes) refl refl refl refl refl (legal.slots.some_hand cpu))
 
-  pub mark_dying-keeps : (t : Ticket) → (s.cpu cpu).ticket ≡ Some t → t.vm.slot ≡ v → t.stage ≡ closing_vm → refusal l.depth (mark_dying x) false x ≡ None → LegalAlone l s legal (put_back guest (Some v) cpu s (with_rows l cpu (Some v) MarkDying (mark_dying x).changes (changed l.depth (mark_dying x).changes x)))
+  pub mark_dying-keeps : (t : Ticket) → (s.cpu cpu).ticket ≡ Some t → t.vm.slot ≡ v → t.stage ≡ closing_vm → refusal l.depth (mark_dying (reads l cpu (Some v) x)) false x ≡ None → LegalAlone l s legal (put_back guest (Some v) cpu s (with_rows l cpu (Some v) MarkDying (mark_dying (reads l cpu (Some v) x)).changes (changed l.depth (mark_dying (reads l cpu (Some v) x)).changes x)))
   unfolding used_of put_back with_rows changed guest_after edited needs freed returned
   mark_dying-keeps t has at-slot stage h =
       let here = ticket-fits s legal.slots cpu v closing_vm t has at-slot stage in
       let alive : (s.guest v).phase ≢ empty = λ e. (let z : live ≡ empty = sym here.1 ∙ e in cc) in
       let of = legal.slots.agree.guests.same_vm v alive in
-      alone-legal l s legal cpu v (new_guest l s v (mark_dying x).changes) (new_cpu s cpu (mark_dying x).changes) (legal.maps.guest v) (legal.maps.guest_has v) (legal.held.vm v) (legal.trees.guest v)
+      alone-legal l s legal cpu v (new_guest l s v (mark_dying (reads l cpu (Some v) x)).changes) (new_cpu s cpu (mark_dying (reads l cpu (Some v) x)).changes) (legal.maps.guest v) (legal.maps.guest_has v) (legal.held.vm v) (legal.trees.guest v)
       (λ k. cc) (λ k. legal.guest_parts.rooted v alive) refl
-      (slots-turn s legal.slots cpu v t (new_guest l s v (mark_dying x).changes) (new_cpu s cpu (mark_dying x).changes) dying_vm has at-slot (here.0, refl) (λ k. (of.generation, of.kind)) refl (turned (s.cpu cpu).ticket t dying_vm has) (legal.slots.some_hand cpu))
+      (slots-turn s legal.slots cpu v t (new_guest l s v (mark_dying (reads l cpu (Some v) x)).changes) (new_cpu s cpu (mark_dying (reads l cpu (Some v) x)).changes) dying_vm has at-slot (here.0, refl) (λ k. (of.generation, of.kind)) refl (turned (s.cpu cpu).ticket t dying_vm has) (legal.slots.some_hand cpu))

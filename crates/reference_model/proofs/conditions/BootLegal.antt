@@ -11,18 +11,18 @@ use Rattle.page_state.specs.declared.entry.Entry.{Entry}
 use Rattle.page_state.specs.declared.entry.Entry.TheVariants.{Unmapped, Leaf}
 use Rattle.page_state.specs.declared.row.Usage.TheVariants.{SharedPool}
 use Rattle.page_state.specs.Trees.{frames_from, root_tree, Block}
-use Rattle.reference_model.specs.Boot.{pool_row, carve_first, host_edit, hyp_edit, host_root, hyp_root, spare, host_need, hyp_need, IsCarveEnough, boot_without_rows, booted}
+use Rattle.reference_model.specs.model.Boot.{pool_row, carve_first, host_edit, hyp_edit, host_root, hyp_root, spare, host_need, hyp_need, IsCarveEnough, boot_without_rows, booted}
 use Rattle.page_state.specs.Counts.{is_one, frame_count}
 use Rattle.page_state.specs.EntryTests.{annotation, leaf}
 use Rattle.page_state.specs.Geometries.{pages_below}
 use Rattle.page_state.specs.Map.{is_within}
-use Rattle.reference_model.specs.State.{Contents, plain_row}
+use Rattle.reference_model.specs.model.State.{Contents, plain_row}
 use Rattle.page_state.specs.declared.row.Row.{Row}
 use Rattle.page_state.specs.Layouts.{Layout, is_memory, hyp_page}
-use Rattle.reference_model.specs.Owner.{row_of}
+use Rattle.reference_model.specs.model.Owner.{row_of}
 use Rattle.page_state.specs.Tables.{Edit, freed, returned, edited}
-use Rattle.reference_model.specs.Conditions.{Condition, outside, hosts, hyps, HostFits, hyp_says, MapsFit, HeldFit, Legal, IsUsable, row_in, in_shared, in_vm, in_hand, one, table_uses, is_inside, IsGood}
-use Rattle.reference_model.specs.RunLaws.{BootLegal, BootRowsTold}
+use Rattle.reference_model.specs.help.Conditions.{Condition, outside, hosts, hyps, HostFits, hyp_says, MapsFit, HeldFit, Legal, IsUsable, row_in, in_shared, in_vm, in_hand, one, table_uses, is_inside, IsGood}
+use Rattle.reference_model.specs.claims.RunLaws.{BootLegal, BootRowsTold}
 use Rattle.reference_model.proofs.Boot.{spare-frames, boot_sound}
 use Rattle.page_state.proofs.Common.{both, if-true, if-false}
 use Rattle.page_state.proofs.Counts.{count_next, count_parts, count_split}

@@ -16,32 +16,32 @@ use Rattle.call_table.specs.declared.step.Step.{Step}
 use Rattle.call_table.specs.declared.step.Step.TheVariants.{Fund, ShareGuest, UnshareGuest, DonateGuest, GuestShareHost, GuestUnshareHost, Install, Topup, ReclaimPage, GuestRelax, VmReserve, VcpuLoad, VmRelease}
 use Rattle.call_table.specs.declared.step.VmId.{VmId}
 use Rattle.page_state.specs.Trees.{frames_from, root_tree, Block, Tree, Pool}
-use Rattle.reference_model.specs.Boot.{boot, booted}
-use Rattle.reference_model.specs.Bounds.{Bounded, BoundedKeeps, RunBounded}
+use Rattle.reference_model.specs.model.Boot.{boot, booted}
+use Rattle.reference_model.specs.claims.Bounds.{Bounded, BoundedKeeps, RunBounded}
 use Rattle.reference_model.specs.declared.changes.GuestChange.{GuestChange}
 use Rattle.reference_model.specs.declared.changes.GuestChange.TheVariants.{Keep as KeepGuest, Install as Begin, Gain as Grow, LoseLowest, Die, Empty}
-use Rattle.reference_model.specs.Changes.{updated, vms_by, cpu_by, guest_by, edit_of, rest, frames_in}
+use Rattle.reference_model.specs.model.Changes.{updated, vms_by, cpu_by, guest_by, edit_of, rest, frames_in}
 use Rattle.page_state.specs.Geometries.{pages_below}
-use Rattle.reference_model.specs.SharedRules.{hand_of, no_range}
+use Rattle.reference_model.specs.model.SharedRules.{hand_of, no_range}
 use Rattle.page_state.specs.Tables.{Edit, need, returned, edited, given, all_given}
 use Rattle.reference_model.proofs.Frames.{count_blocks-none}
 use Rattle.reference_model.proofs.conditions.Conserved.{length-drop}
 use Rattle.reference_model.proofs.conditions.PageSteps.{good-page}
 use Rattle.reference_model.proofs.conditions.PoolSteps.{root_block, root-inside, root-none, root-here}
 use Rattle.reference_model.proofs.conditions.Tables.{some_of, some-put, edited-some}
-use Rattle.reference_model.specs.Conditions.{Legal, IsUsable, one}
-use Rattle.reference_model.specs.GuestRules.{ticket_vm, guest_table_count, are_good_pages}
+use Rattle.reference_model.specs.help.Conditions.{Legal, IsUsable, one}
+use Rattle.reference_model.specs.model.GuestRules.{ticket_vm, guest_table_count, are_good_pages}
 use Rattle.page_state.specs.Layouts.{Layout, is_memory, is_good_range, is_good_page}
-use Rattle.reference_model.specs.Parts.{lacks_slot, uses_vms, has_stage}
-use Rattle.reference_model.specs.Rules.{rule, names}
-use Rattle.reference_model.specs.Rule.{Rule}
-use Rattle.reference_model.specs.Run.{Runs}
+use Rattle.reference_model.specs.model.Parts.{lacks_slot, uses_vms, has_stage, is_good_vm}
+use Rattle.reference_model.specs.model.Rules.{rule, names}
+use Rattle.reference_model.specs.model.Rule.{Rule}
+use Rattle.reference_model.specs.model.Run.{Runs}
 use Rattle.page_state.specs.Search.{all_below}
-use Rattle.reference_model.specs.State.{Guest, no_guest, Cpu, Slot, Vms, vacant, reserved, opened, closing, Contents, Rooms, Reference, put_at, no_vms, no_slot}
-use Rattle.reference_model.specs.Step.{guest_need, guest_after, fails, made, changed, with_rows, used_by, Steps}
-use Rattle.reference_model.specs.Used.{Used, used_of, put_back, guest_at, put_guest}
-use Rattle.reference_model.specs.VmRules.{vacant_slot, stand_eq}
-use Rattle.page_state.proofs.Common.{both, or-neither, and-both, not-false, if-true, if-false}
+use Rattle.reference_model.specs.model.State.{Guest, no_guest, Cpu, Slot, Vms, vacant, reserved, opened, closing, Contents, Rooms, Reference, put_at, no_vms, no_slot}
+use Rattle.reference_model.specs.model.Step.{guest_need, guest_after, fails, made, changed, with_rows, used_by, Steps}
+use Rattle.reference_model.specs.model.Used.{Used, used_of, put_back, guest_at, put_guest}
+use Rattle.reference_model.specs.model.VmRules.{vacant_slot, stand_eq}
+use Rattle.page_state.proofs.Common.{both, and-both, if-true, if-false, and-right}
 use Rattle.coarse_trees.specs.Coarsest.{IsInRange}
 use Rattle.reference_model.proofs.RoomLaws.{stored_falls}
 use Rattle.reference_model.proofs.Steps.{refusal_keeps, log_full_keeps, answered-room}
@@ -185,13 +185,13 @@ record Modest (l : Layout) (x : Used) (h : Changes) : Type 0 where
   hand : ModestHand h.cpu.hand
   part : ModestPart h.part (frames l x.guest)
 
-page-range : (l : Layout) (g : ℕ) → not (is_good_page l g) ≡ false → g + 1 ≤ pages_below l.depth
+page-range : (l : Layout) (g : ℕ) → is_good_page l g ≡ true → g + 1 ≤ pages_below l.depth
 page-range l g h = let less = good-page l g h in omega arith
 
-pages-range : (l : Layout) (f g n : ℕ) → (not (is_good_range l f n) || not (are_good_pages l g n)) ≡ false → g + n ≤ pages_below l.depth
-pages-range l f g n h = let a = or-neither (not (is_good_range l f n)) (not (are_good_pages l g n)) h in good-pages l g n (good-range l f n (not-false (is_good_range l f n) a.0)).0 a.1
+pages-range : (l : Layout) (f g n : ℕ) → (is_good_range l f n && are_good_pages l g n) ≡ true → g + n ≤ pages_below l.depth
+pages-range l f g n h = let a = and-both (is_good_range l f n) (are_good_pages l g n) h in good-pages l g n (good-range l f n a.0).0 a.1
 
-pub hand-few : (o : Option PageRange) → is_none o ≡ false → ((r : PageRange) → o ≡ Some r → r.count ≤ 512) → (unwrap_or o no_range).count ≤ 512
+pub hand-few : (o : Option PageRange) → is_some o ≡ true → ((r : PageRange) → o ≡ Some r → r.count ≤ 512) → (unwrap_or o no_range).count ≤ 512
 hand-few (Some r) h k = k r refl
 hand-few None h k = cc
 
@@ -217,13 +217,13 @@ module _ (l : Layout) (s : Contents) (cpu : ℕ) where
   -- the pages of a guest's tree that a step changes are pages of a tree
   pub guest-range : (step : Step) (slot : Option ℕ) → fails l cpu slot step (x_at slot step) ≡ None → IsInRange l.depth (edit_of (h_at slot step).changes.guest)
   unfolding rule used_of
-  guest-range (ShareGuest f g p n) o h = pages-range l f g n (pass o (ShareGuest f g p n) h).invalid
-  guest-range (UnshareGuest vm g) o h = page-range l g (or-neither (nat_le 64 vm.slot) (not (is_good_page l g)) (pass o (UnshareGuest vm g) h).invalid).1
-  guest-range (DonateGuest f g n) o h = pages-range l f g n (pass o (DonateGuest f g n) h).invalid
-  guest-range (GuestShareHost g) o h = page-range l g (pass o (GuestShareHost g) h).invalid
-  guest-range (GuestUnshareHost g) o h = page-range l g (pass o (GuestUnshareHost g) h).invalid
-  guest-range (ReclaimPage vm g) o h = page-range l g (or-neither (nat_le 64 vm.slot) (not (is_good_page l g)) (pass o (ReclaimPage vm g) h).invalid).1
-  guest-range (GuestRelax g p) o h = page-range l g (pass o (GuestRelax g p) h).invalid
+  guest-range (ShareGuest f g p n) o h = pages-range l f g n (pass o (ShareGuest f g p n) h).valid
+  guest-range (UnshareGuest vm g) o h = page-range l g (and-right (is_good_vm vm) (is_good_page l g) (pass o (UnshareGuest vm g) h).valid)
+  guest-range (DonateGuest f g n) o h = pages-range l f g n (pass o (DonateGuest f g n) h).valid
+  guest-range (GuestShareHost g) o h = page-range l g (pass o (GuestShareHost g) h).valid
+  guest-range (GuestUnshareHost g) o h = page-range l g (pass o (GuestUnshareHost g) h).valid
+  guest-range (ReclaimPage vm g) o h = page-range l g (and-right (is_good_vm vm) (is_good_page l g) (pass o (ReclaimPage vm g) h).valid)
+  guest-range (GuestRelax g p) o h = page-range l g (pass o (GuestRelax g p) h).valid
   guest-range step o h = tt
 
 module _ (l : Layout) (s : Contents) (legal : Legal l s) (cpu : ℕ) (hands : (r : PageRange) → (s.cpu cpu).hand ≡ Some r → r.count ≤ 512) where
@@ -235,30 +235,30 @@ module _ (l : Layout) (s : Contents) (legal : Legal l s) (cpu : ℕ) (hands : (r
   released false true p q h = let t = has_stage-is Finished (s.cpu cpu) q in held t.0 t.1
   released false false p q h = cc
 
-  none-loaded : is_none (vacant_slot s.vms) ≡ false → (i c : ℕ) → (s.vms.slot (unwrap_or (vacant_slot s.vms) 0)).loaded i ≡ Some c → ⊥
+  none-loaded : is_some (vacant_slot s.vms) ≡ true → (i c : ℕ) → (s.vms.slot (unwrap_or (vacant_slot s.vms) 0)).loaded i ≡ Some c → ⊥
   none-loaded free i c e =
       let v = unwrap_or (vacant_slot s.vms) 0 in
       let found = first-spec 0 64 v (λ u. stand_eq (s.vms.slot u).stand vacant) (some-is (vacant_slot s.vms) free) in
       let stands : (s.vms.slot v).stand ≡ vacant = stand_eq-same (s.vms.slot v).stand vacant found.0 in
       let bad : vacant ≡ opened = sym stands ∙ (legal.slots.agree.loads.loads v i c e).0 in cc
 
-  at-least : (m n : ℕ) → nat_le m n ≡ false → n < m
+  at-least : (m n : ℕ) → nat_lt n m ≡ true → n < m
   at-least m n h = grind (arith, nat_tests)
 
-  at-most : (m n : ℕ) → nat_lt m n ≡ false → n ≤ m
+  at-most : (m n : ℕ) → nat_le n m ≡ true → n ≤ m
   at-most m n h = grind (arith, nat_tests)
 
-  few : (n : ℕ) → not (nat_le 1 n && nat_le n 8) ≡ false → n ≤ 8
-  few n h = let t = (and-both (nat_le 1 n) (nat_le n 8) (not-false (nat_le 1 n && nat_le n 8) h)).1 in grind (arith, nat_tests)
+  few : (n : ℕ) → (nat_le 1 n && nat_le n 8) ≡ true → n ≤ 8
+  few n h = let t = and-right (nat_le 1 n) (nat_le n 8) h in grind (arith, nat_tests)
 
   modest : (step : Step) (slot : Option ℕ) → fails l cpu slot step (x_at l s cpu slot step) ≡ None → Modest l (x_at l s cpu slot step) (h_at l s cpu slot step).changes
   unfolding rule ModestSlot ModestHand ModestPart used_of
-  modest (Fund f n) o h = record { slot = tt; hand = good-count l f n (not-false (is_good_range l f n) (pass l s cpu o (Fund f n) h).invalid); part = tt }
-  modest Install o h = record { slot = tt; hand = tt; part = (hand-some (s.cpu cpu).hand (pass l s cpu o Install h).perm (legal.slots.some_hand cpu), hand-few (s.cpu cpu).hand (pass l s cpu o Install h).perm hands) }
-  modest (Topup vm) o h = record { slot = tt; hand = tt; part = at-most 512 (frames l (x_at l s cpu o (Topup vm)).guest + (hand_of (s.cpu cpu)).count) (or-neither (is_none (s.cpu cpu).hand) (nat_lt 512 (frames l (x_at l s cpu o (Topup vm)).guest + (hand_of (s.cpu cpu)).count)) (pass l s cpu o (Topup vm) h).perm).1 }
-  modest (VmReserve kind n) o h = let p = pass l s cpu o (VmReserve kind n) h in record { slot = (few n p.invalid, none-loaded (or-neither (is_some (s.cpu cpu).ticket) (is_none (vacant_slot s.vms)) p.busy).1); hand = tt; part = tt }
-  modest (VcpuLoad vm i) o h = record { slot = at-least ((x_at l s cpu o (VcpuLoad vm i)).vms.slot vm.slot).vcpus i (pass l s cpu o (VcpuLoad vm i) h).perm; hand = tt; part = tt }
-  modest VmRelease o h = record { slot = released (has_stage Booked (s.cpu cpu)) (has_stage Finished (s.cpu cpu)) refl refl (not-false (has_stage Booked (s.cpu cpu) || has_stage Finished (s.cpu cpu)) (pass l s cpu o VmRelease h).no_vm); hand = tt; part = tt }
+  modest (Fund f n) o h = record { slot = tt; hand = good-count l f n (pass l s cpu o (Fund f n) h).valid; part = tt }
+  modest Install o h = record { slot = tt; hand = tt; part = (hand-some (s.cpu cpu).hand (pass l s cpu o Install h).allowed (legal.slots.some_hand cpu), hand-few (s.cpu cpu).hand (pass l s cpu o Install h).allowed hands) }
+  modest (Topup vm) o h = record { slot = tt; hand = tt; part = at-most 512 (frames l (x_at l s cpu o (Topup vm)).guest + (hand_of (s.cpu cpu)).count) (and-right (is_some (s.cpu cpu).hand) (nat_le (frames l (x_at l s cpu o (Topup vm)).guest + (hand_of (s.cpu cpu)).count) 512) (pass l s cpu o (Topup vm) h).allowed) }
+  modest (VmReserve kind n) o h = let p = pass l s cpu o (VmReserve kind n) h in record { slot = (few n p.valid, none-loaded (and-right (is_none (s.cpu cpu).ticket) (is_some (vacant_slot s.vms)) p.ready)); hand = tt; part = tt }
+  modest (VcpuLoad vm i) o h = record { slot = at-least ((x_at l s cpu o (VcpuLoad vm i)).vms.slot vm.slot).vcpus i (pass l s cpu o (VcpuLoad vm i) h).allowed; hand = tt; part = tt }
+  modest VmRelease o h = record { slot = released (has_stage Booked (s.cpu cpu)) (has_stage Finished (s.cpu cpu)) refl refl (pass l s cpu o VmRelease h).has_vm; hand = tt; part = tt }
   modest step o h = record { slot = tt; hand = tt; part = tt }
 
 -- the VM part where a call may use it

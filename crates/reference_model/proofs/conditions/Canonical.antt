@@ -16,17 +16,17 @@ use Rattle.call_table.specs.declared.reply.Refusal.TheVariants.{NoPool}
 use Rattle.call_table.specs.declared.step.Step.{Step}
 use Rattle.reference_model.specs.declared.changes.Changes.{Changes}
 use Rattle.reference_model.specs.declared.changes.MapChange.{MapChange}
-use Rattle.reference_model.specs.Decides.{decided}
-use Rattle.reference_model.specs.ChangeLaws.{FitsWhere, AllFit}
-use Rattle.reference_model.specs.Changes.{edit_of}
-use Rattle.reference_model.specs.Conditions.{Legal}
-use Rattle.reference_model.specs.Parts.{lacks_slot, uses_shared}
-use Rattle.reference_model.specs.Rules.{names, guest_slot}
-use Rattle.reference_model.specs.Rule.{Rule}
-use Rattle.reference_model.specs.State.{Contents, no_shared}
-use Rattle.reference_model.specs.Step.{rule_of, first_test, or_else, is_short, refusal, fails}
-use Rattle.reference_model.specs.TreeLaws.{AreCanonical, RunCanonical, is_short_by_maps, fails_by_maps, RunFailsByMaps}
-use Rattle.reference_model.specs.Used.{Used, used_of, guest_at}
+use Rattle.reference_model.specs.model.Decides.{decided}
+use Rattle.reference_model.specs.help.ChangeLaws.{FitsWhere, AllFit}
+use Rattle.reference_model.specs.model.Changes.{edit_of}
+use Rattle.reference_model.specs.help.Conditions.{Legal}
+use Rattle.reference_model.specs.model.Parts.{lacks_slot, uses_shared}
+use Rattle.reference_model.specs.model.Rules.{names, guest_slot}
+use Rattle.reference_model.specs.model.Rule.{Rule}
+use Rattle.reference_model.specs.model.State.{Contents, no_shared}
+use Rattle.reference_model.specs.model.Step.{rule_of, first_test, or_else, is_short, refusal, fails}
+use Rattle.reference_model.specs.claims.TreeLaws.{AreCanonical, RunCanonical, is_short_by_maps, fails_by_maps, RunFailsByMaps}
+use Rattle.reference_model.specs.model.Used.{Used, used_of, guest_at}
 use Rattle.reference_model.proofs.conditions.ChangesFit.{changes_fit}
 use Rattle.reference_model.proofs.conditions.RunsLegal.{run_legal}
 

@@ -1,6 +1,6 @@
 -- What a step decides to change in a legal state can be written, and touches memory frames alone or none.
 use Rattle.std.proofs.Common.{◌≡◌, ℕ, ◌+◌, ◌-◌, ◌^◌, ◌≤◌, ◌<◌, refl, ap, sym, ◌∙◌, subst, arith}
-use Rattle.std.specs.Prelude.{Bool, true, false, not, ◌||◌, nat_le, is_none, unwrap_or, Option, Some, None, Ok, if◌then◌else◌}
+use Rattle.std.specs.Prelude.{Bool, true, false, not, ◌||◌, unwrap_or, Option, Some, None, Ok, if◌then◌else◌, is_some, ◌&&◌}
 use Rattle.descriptor.specs.declared.Prot.{Prot}
 use Rattle.descriptor.specs.declared.Prot.TheVariants.{RWX}
 use Rattle.descriptor.specs.declared.State.{State}
@@ -26,21 +26,21 @@ use Rattle.reference_model.specs.declared.changes.CpuChange.{CpuChange}
 use Rattle.reference_model.specs.declared.changes.GuestChange.{GuestChange}
 use Rattle.reference_model.specs.declared.changes.MapChange.{MapChange}
 use Rattle.reference_model.specs.declared.changes.SlotChange.{SlotChange}
-use Rattle.reference_model.specs.declared.changes.Stage.TheVariants.{DyingVm as dying_vm}
-use Rattle.reference_model.specs.Decides.{decides}
-use Rattle.reference_model.specs.ChangeLaws.{FitsWhere, AllFit, ChangesFit, TouchedFits, TouchedWhole}
-use Rattle.reference_model.specs.Changes.{change, no_changes}
-use Rattle.reference_model.specs.Conditions.{hyps, Legal, IsUsable}
-use Rattle.reference_model.specs.GuestRules.{are_good_pages}
-use Rattle.reference_model.specs.Parts.{lacks_slot}
-use Rattle.reference_model.specs.Rule.{Rule}
-use Rattle.reference_model.specs.Rules.{rule, names, guest_slot}
-use Rattle.reference_model.specs.RowChanges.{borrower, row_by}
-use Rattle.reference_model.specs.SharedRules.{hand_of, no_range, abort_edit}
-use Rattle.reference_model.specs.State.{Contents}
-use Rattle.reference_model.specs.Step.{first_test}
-use Rattle.reference_model.specs.Used.{Used, used_of}
-use Rattle.page_state.proofs.Common.{or-neither, not-false}
+use Rattle.reference_model.specs.declared.changes.Stage.TheVariants.{Dying as dying_vm}
+use Rattle.reference_model.specs.model.Decides.{decides}
+use Rattle.reference_model.specs.help.ChangeLaws.{FitsWhere, AllFit, ChangesFit, TouchedFits, TouchedWhole}
+use Rattle.reference_model.specs.model.Changes.{change, no_changes}
+use Rattle.reference_model.specs.help.Conditions.{hyps, Legal, IsUsable}
+use Rattle.reference_model.specs.model.GuestRules.{are_good_pages}
+use Rattle.reference_model.specs.model.Parts.{lacks_slot, is_good_vm}
+use Rattle.reference_model.specs.model.Rule.{Rule}
+use Rattle.reference_model.specs.model.Rules.{rule, names, guest_slot}
+use Rattle.reference_model.specs.help.RowChanges.{borrower, row_by}
+use Rattle.reference_model.specs.model.SharedRules.{hand_of, no_range, abort_edit}
+use Rattle.reference_model.specs.model.State.{Contents}
+use Rattle.reference_model.specs.model.Step.{first_test}
+use Rattle.reference_model.specs.model.Used.{Used, used_of}
+use Rattle.page_state.proofs.Common.{and-left, and-right, and-both, not-true}
 use Rattle.reference_model.proofs.Answers.{told-ok}
 use Rattle.reference_model.proofs.ChangesUsed.{lacking}
 use Rattle.reference_model.proofs.conditions.AbortStep.{abort-edit}
@@ -105,9 +105,9 @@ module _ (l : Layout) (usable : IsUsable l) (few : pages_below l.depth ≤ 2 ^ 3
   frame-writes f e e' memory = range-writes f 1 e e' (omega arith) (one-frame f (λ q. is_memory l q ≡ true) memory)
 
   -- a good range and its pages of the hypervisor
-  good-writes : (f n : ℕ) (e e' : Entry) → not (is_good_range l f n) ≡ false → (f + n ≤ 2 ^ 36 → IsRangeEntry n e) → (f + n ≤ 2 ^ 36 → IsRangeEntry n e')
+  good-writes : (f n : ℕ) (e e' : Entry) → is_good_range l f n ≡ true → (f + n ≤ 2 ^ 36 → IsRangeEntry n e) → (f + n ≤ 2 ^ 36 → IsRangeEntry n e')
       → Writes l cpu slot (changing (change f n e) (change (hyp_page f) n e') None None part slots k value)
-  good-writes f n e e' good = let g = good-range l f n (not-false (is_good_range l f n) good) in range-writes f n e e' g.0 g.1
+  good-writes f n e e' good = let g = good-range l f n good in range-writes f n e e' g.0 g.1
 
   -- a range of memory and as many pages of the guest
   ranges-writes : (f n : ℕ) (e : Entry) (g : ℕ) (e' : Entry) → 1 ≤ n → ((q : ℕ) → is_within f n q ≡ true → is_memory l q ≡ true) → g + n ≤ pages_below l.depth → (f + n ≤ 2 ^ 36 → IsRangeEntry n e) → (f + n ≤ 2 ^ 36 → IsRangeEntry n e')
@@ -123,11 +123,11 @@ module _ (l : Layout) (usable : IsUsable l) (few : pages_below l.depth ≤ 2 ^ 3
   pages-writes f e g e' memory page = ranges-writes f 1 e g e' (omega arith) (one-frame f (λ q. is_memory l q ≡ true) memory) (omega arith)
 
   -- a good range and as many good pages of the guest
-  given-writes : (f n : ℕ) (e : Entry) (g : ℕ) (e' : Entry) → (not (is_good_range l f n) || not (are_good_pages l g n)) ≡ false → (f + n ≤ 2 ^ 36 → IsRangeEntry n e) → (f + n ≤ 2 ^ 36 → IsRangeEntry n e')
+  given-writes : (f n : ℕ) (e : Entry) (g : ℕ) (e' : Entry) → (is_good_range l f n && are_good_pages l g n) ≡ true → (f + n ≤ 2 ^ 36 → IsRangeEntry n e) → (f + n ≤ 2 ^ 36 → IsRangeEntry n e')
       → Writes l cpu slot (changing (change f n e) None (change g n e') None part slots k value)
   given-writes f n e g e' args =
-      let a = or-neither (not (is_good_range l f n)) (not (are_good_pages l g n)) args in
-      let good = good-range l f n (not-false (is_good_range l f n) a.0) in
+      let a = and-both (is_good_range l f n) (are_good_pages l g n) args in
+      let good = good-range l f n a.0 in
       ranges-writes f n e g e' good.0 good.1 (good-pages l g n good.0 a.1)
 
   -- the host's map stays
@@ -178,10 +178,10 @@ module _ (l : Layout) (s : Contents) (legal : Legal l s) (usable : IsUsable l) (
   turned v g turn says h low = let at = mapped-named l s legal v g h in subst (λ e. IsRangeEntry 1 (turn e)) (sym at.1.is_leaf.1) (says at.1.is_leaf.0 (frame_at v g) at.0 low)
 
   -- the hand's frames are memory
-  hand-memory : is_none (s.cpu cpu).hand ≡ false → (q : ℕ) → is_within (hand_of (s.cpu cpu)).first.0 (hand_of (s.cpu cpu)).count q ≡ true → is_memory l q ≡ true
+  hand-memory : is_some (s.cpu cpu).hand ≡ true → (q : ℕ) → is_within (hand_of (s.cpu cpu)).first.0 (hand_of (s.cpu cpu)).count q ≡ true → is_memory l q ≡ true
   hand-memory some = memory-of legal (hyps (InHand cpu)) refl (hand_of (s.cpu cpu)).first.0 (hand_of (s.cpu cpu)).count (hand-was legal cpu some)
 
-  hand-count : is_none (s.cpu cpu).hand ≡ false → 1 ≤ (hand_of (s.cpu cpu)).count
+  hand-count : is_some (s.cpu cpu).hand ≡ true → 1 ≤ (hand_of (s.cpu cpu)).count
   hand-count some = hand-some (s.cpu cpu).hand some (legal.slots.some_hand cpu)
 
   -- what the host gives to a guest
@@ -218,10 +218,10 @@ module _ (l : Layout) (s : Contents) (legal : Legal l s) (usable : IsUsable l) (
   pass slot step h = tested (r_at slot step) (lacks_slot (names step) slot) h
 
   -- the page of a guest's frame in a state, and the guest's page
-  guest-writes : {part : GuestChange} {slots : SlotChange} {k : CpuChange} {value : Value} (v g : ℕ) (e e' : Entry) (state : State) → not (is_in state (entry_at v g)) ≡ false → not (is_good_page l g) ≡ false
+  guest-writes : {part : GuestChange} {slots : SlotChange} {k : CpuChange} {value : Value} (v g : ℕ) (e e' : Entry) (state : State) → is_in state (entry_at v g) ≡ true → is_good_page l g ≡ true
       → (frame_at v g + 1 ≤ 2 ^ 36 → IsRangeEntry 1 e) → (frame_at v g + 1 ≤ 2 ^ 36 → IsRangeEntry 1 e')
       → Writes l cpu (Some v) (changing (change (frame_at v g) 1 e) None (change g 1 e') None part slots k value)
-  guest-writes v g e e' state perm good = pages-writes l usable few cpu (Some v) (frame_at v g) e g e' (mapped-memory v g (in-mapped state (entry_at v g) (not-false (is_in state (entry_at v g)) perm))) (good-page l g good)
+  guest-writes v g e e' state allowed good = pages-writes l usable few cpu (Some v) (frame_at v g) e g e' (mapped-memory v g (in-mapped state (entry_at v g) allowed)) (good-page l g good)
 
   -- a frame that a guest's pool or root gives back
   held-writes : {part : GuestChange} {slots : SlotChange} {k : CpuChange} {value : Value} (v f : ℕ) → legal.condition f ≡ hyps (VmPool v) → Writes l cpu (Some v) (changing (change f 1 Unmapped) (change (hyp_page f) 1 Unmapped) None None part slots k value)
@@ -229,40 +229,40 @@ module _ (l : Layout) (s : Contents) (legal : Legal l s) (usable : IsUsable l) (
 
   each : (step : Step) (o : Option ℕ) → o ≡ guest_slot (s.cpu cpu) step → WritesAt o step
   unfolding rule used_of
-  each (ShareHyp f) o e h = frame-writes l usable few cpu o f _ _ (not-false (is_memory l f) (pass o (ShareHyp f) h).invalid) (λ k. k) (λ k. k)
-  each (UnshareHyp f) o e h = frame-writes l usable few cpu o f _ _ (not-false (is_memory l f) (pass o (UnshareHyp f) h).invalid) (λ k. k) (λ k. tt)
-  each (DonateHyp f n) o e h = good-writes l usable few cpu o f n _ _ (pass o (DonateHyp f n) h).invalid (for-hyp f n) (λ k. k)
-  each (HypDonateHost f n) o e h = good-writes l usable few cpu o f n _ _ (pass o (HypDonateHost f n) h).invalid (λ k. tt) (λ k. tt)
-  each (Fund f n) o e h = good-writes l usable few cpu o f n _ _ (pass o (Fund f n) h).invalid (for-hyp f n) (λ k. k)
-  each Unfund o e h = let some = (pass o Unfund h).perm in range-writes l usable few cpu o _ _ _ _ (hand-count some) (hand-memory some) (λ k. tt) (λ k. tt)
+  each (ShareHyp f) o e h = frame-writes l usable few cpu o f _ _ (pass o (ShareHyp f) h).valid (λ k. k) (λ k. k)
+  each (UnshareHyp f) o e h = frame-writes l usable few cpu o f _ _ (pass o (UnshareHyp f) h).valid (λ k. k) (λ k. tt)
+  each (DonateHyp f n) o e h = good-writes l usable few cpu o f n _ _ (pass o (DonateHyp f n) h).valid (for-hyp f n) (λ k. k)
+  each (HypDonateHost f n) o e h = good-writes l usable few cpu o f n _ _ (pass o (HypDonateHost f n) h).valid (λ k. tt) (λ k. tt)
+  each (Fund f n) o e h = good-writes l usable few cpu o f n _ _ (pass o (Fund f n) h).valid (for-hyp f n) (λ k. k)
+  each Unfund o e h = let some = (pass o Unfund h).allowed in range-writes l usable few cpu o _ _ _ _ (hand-count some) (hand-memory some) (λ k. tt) (λ k. tt)
   each (HostAbort p) o e h = abort-writes p o (region_of l.memory p) refl
-  each (ShareGuest f g p n) (Some v) e h = given-writes l usable few cpu (Some v) f n _ g _ (pass (Some v) (ShareGuest f g p n) h).invalid (λ k. k) (λ k. k)
-  each (DonateGuest f g n) (Some v) e h = given-writes l usable few cpu (Some v) f n _ g _ (pass (Some v) (DonateGuest f g n) h).invalid (for-guests v f n (loaded-at l usable s legal cpu known v (sym e)).0) (λ k. k)
+  each (ShareGuest f g p n) (Some v) e h = given-writes l usable few cpu (Some v) f n _ g _ (pass (Some v) (ShareGuest f g p n) h).valid (λ k. k) (λ k. k)
+  each (DonateGuest f g n) (Some v) e h = given-writes l usable few cpu (Some v) f n _ g _ (pass (Some v) (DonateGuest f g n) h).valid (for-guests v f n (loaded-at l usable s legal cpu known v (sym e)).0) (λ k. k)
   each (UnshareGuest vm g) (Some v) e h =
       let p = pass (Some v) (UnshareGuest vm g) h in
-      guest-writes v g _ _ SharedBorrowed p.perm (or-neither (nat_le 64 vm.slot) (not (is_good_page l g)) p.invalid).1 (λ k. k) (λ k. tt)
+      guest-writes v g _ _ SharedBorrowed p.allowed (and-right (is_good_vm vm) (is_good_page l g) p.valid) (λ k. k) (λ k. tt)
   each (GuestShareHost g) (Some v) e h =
       let p = pass (Some v) (GuestShareHost g) h in
-      guest-writes v g _ _ Owned p.perm p.invalid (λ k. k) (turned v g (with_state SharedOwned) (λ p n state k. k) (in-mapped Owned _ (not-false (is_in Owned (entry_at v g)) p.perm)))
+      guest-writes v g _ _ Owned p.allowed p.valid (λ k. k) (turned v g (with_state SharedOwned) (λ p n state k. k) (in-mapped Owned _ p.allowed))
   each (GuestUnshareHost g) (Some v) e h =
       let p = pass (Some v) (GuestUnshareHost g) h in
-      guest-writes v g _ _ SharedOwned p.perm p.invalid (for-guest v _ (loaded-at l usable s legal cpu known v (sym e)).0) (turned v g (with_state Owned) (λ p n state k. k) (in-mapped SharedOwned _ (not-false (is_in SharedOwned (entry_at v g)) p.perm)))
+      guest-writes v g _ _ SharedOwned p.allowed p.valid (for-guest v _ (loaded-at l usable s legal cpu known v (sym e)).0) (turned v g (with_state Owned) (λ p n state k. k) (in-mapped SharedOwned _ p.allowed))
   each (ReclaimPage vm g) (Some v) e h =
       let p = pass (Some v) (ReclaimPage vm g) h in
-      pages-writes l usable few cpu (Some v) _ _ g _ (mapped-memory v g p.perm) (good-page l g (or-neither (nat_le 64 vm.slot) (not (is_good_page l g)) p.invalid).1) (reclaimed (is_in Owned (entry_at v g)) (frame_at v g)) (λ k. tt)
-  each Install (Some v) e h = let some = (pass (Some v) Install h).perm in moved-writes l usable few cpu (Some v) (s.cpu cpu).hand (hand-count some) (hand-memory some)
-  each (Topup vm) (Some v) e h = let some = (or-neither (is_none (s.cpu cpu).hand) _ (pass (Some v) (Topup vm) h).perm).0 in moved-writes l usable few cpu (Some v) (s.cpu cpu).hand (hand-count some) (hand-memory some)
+      pages-writes l usable few cpu (Some v) _ _ g _ (mapped-memory v g (not-true (is_unmapped (entry_at v g)) p.allowed)) (good-page l g (and-right (is_good_vm vm) (is_good_page l g) p.valid)) (reclaimed (is_in Owned (entry_at v g)) (frame_at v g)) (λ k. tt)
+  each Install (Some v) e h = let some = (pass (Some v) Install h).allowed in moved-writes l usable few cpu (Some v) (s.cpu cpu).hand (hand-count some) (hand-memory some)
+  each (Topup vm) (Some v) e h = let some = and-left (is_some (s.cpu cpu).hand) _ (pass (Some v) (Topup vm) h).allowed in moved-writes l usable few cpu (Some v) (s.cpu cpu).hand (hand-count some) (hand-memory some)
   each (ReclaimPool vm) (Some v) e h =
       let slot = named-slot vm v (sym e) in
-      held-writes v _ (least-was l s legal usable cpu v slot (pass (Some v) (ReclaimPool vm) h).perm)
+      held-writes v _ (least-was l s legal usable cpu v slot (pass (Some v) (ReclaimPool vm) h).allowed)
   each FinishGuest (Some v) e h =
       let a = staged-at l usable s legal cpu known dying_vm v (sym e) in
       let here = ticket-fits s legal.slots cpu v dying_vm a.1.0 a.1.1 a.1.2 a.1.3 in
-      held-writes v _ (root-left l s legal usable cpu v a.0 here.1 (pass (Some v) FinishGuest h).perm).was
+      held-writes v _ (root-left l s legal usable cpu v a.0 here.1 (pass (Some v) FinishGuest h).allowed).was
   each (GuestRelax g p) (Some v) e h =
       let t = pass (Some v) (GuestRelax g p) h in
-      let low = good-page l g t.invalid in
-      let mapped = in-mapped SharedBorrowed (entry_at v g) (not-false (is_in SharedBorrowed (entry_at v g)) t.perm) in
+      let low = good-page l g t.valid in
+      let mapped = in-mapped SharedBorrowed (entry_at v g) t.allowed in
       let memory = usable.pages (frame_at v g) (mapped-memory v g mapped) in
       still-writes l usable few cpu (Some v) _ (record { some = omega arith; within = omega arith; entry = turned v g (with_rights p) (λ p n state k. k) mapped (omega arith) })
   each (GuestTranslate vm g) (Some v) e h = still-writes l usable few cpu (Some v) None tt

@@ -4,12 +4,12 @@ use Rattle.std.specs.Prelude.{Bool, true}
 use Rattle.descriptor.specs.declared.State.{State}
 use Rattle.descriptor.specs.declared.State.TheVariants.{Owned, SharedOwned, SharedBorrowed}
 use Rattle.page_state.specs.declared.row.Usage.TheVariants.{Plain, SharedPool, VmPool, InHand}
-use Rattle.reference_model.specs.ConditionChanges.{ConditionOnce, ConditionsMove}
-use Rattle.reference_model.specs.Conditions.{Condition, outside, hosts, with_hyp, hyps, with_guest, guests, lent_back, hyp_says, guest_condition, Legal, in_shared, in_vm, in_hand, one, shared_uses, guest_uses, is_inside}
+use Rattle.reference_model.specs.help.ConditionChanges.{ConditionOnce, ConditionsMove}
+use Rattle.reference_model.specs.help.Conditions.{Condition, outside, hosts, with_hyp, hyps, with_guest, guests, lent_back, hyp_says, guest_condition, Legal, in_shared, in_vm, in_hand, one, shared_uses, guest_uses, is_inside}
 use Rattle.page_state.specs.Layouts.{Layout}
-use Rattle.reference_model.specs.State.{Contents}
-use Rattle.reference_model.specs.Step.{made}
-use Rattle.reference_model.specs.Used.{used_of}
+use Rattle.reference_model.specs.model.State.{Contents}
+use Rattle.reference_model.specs.model.Step.{made}
+use Rattle.reference_model.specs.model.Used.{used_of}
 use Rattle.page_state.proofs.Common.{eq-self}
 use Rattle.reference_model.proofs.conditions.Keeps.{each}
 use Rattle.reference_model.proofs.conditions.OfLegal.{guest_alone, guest_has}

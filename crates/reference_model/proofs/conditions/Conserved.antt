@@ -6,13 +6,13 @@ use Rattle.page_state.specs.declared.entry.Entry.TheVariants.{Unmapped}
 use Rattle.page_state.specs.Counts.{is_one, frame_count}
 use Rattle.page_state.specs.Map.{Map}
 use Rattle.page_state.specs.Trees.{Block, Tree, Pool}
-use Rattle.reference_model.specs.State.{Shared}
+use Rattle.reference_model.specs.model.State.{Shared}
 use Rattle.page_state.specs.Blocks.{first_page, span, is_empty, is_one_word, fits_word}
 use Rattle.page_state.specs.Tables.{Edit, needs, need, freed, returned, edited, given, all_given, placed}
 use Rattle.reference_model.specs.declared.changes.Changes.{Changes}
-use Rattle.reference_model.specs.Changes.{edit_of}
-use Rattle.reference_model.specs.Step.{shared_after, shared_need}
-use Rattle.reference_model.specs.Conditions.{table_uses, shared_uses}
+use Rattle.reference_model.specs.model.Changes.{edit_of}
+use Rattle.reference_model.specs.model.Step.{shared_after, shared_need}
+use Rattle.reference_model.specs.help.Conditions.{table_uses, shared_uses}
 use Rattle.page_state.proofs.Blocks.{empty_means, one_word_means}
 use Rattle.page_state.proofs.Common.{both, if-true, if-false}
 use Rattle.page_state.proofs.Counts.{count_next, count_parts, count_split}

@@ -11,15 +11,15 @@ use Rattle.page_state.specs.Map.{is_within}
 use Rattle.page_state.specs.Tables.{edited_map, need}
 use Rattle.page_state.specs.Trees.{no_tree}
 use Rattle.reference_model.specs.declared.changes.Changes.{Changes}
-use Rattle.reference_model.specs.Changes.{edit_of, cpu_by, touched}
-use Rattle.reference_model.specs.ConditionChanges.{conditions_after, told_condition}
-use Rattle.reference_model.specs.Conditions.{Condition, HostFits, hyp_says, MapsFit, HeldFit, IsOfLayout, Legal, row_in, in_shared, in_hand, one, shared_uses, table_uses, is_inside, IsGood}
-use Rattle.reference_model.specs.Owner.{is_in_hand, is_frame}
-use Rattle.reference_model.specs.Parts.{Names}
-use Rattle.reference_model.specs.RowChanges.{told_row, first_of}
-use Rattle.reference_model.specs.State.{Cpu, Contents, put_at, no_cpu}
-use Rattle.reference_model.specs.Step.{is_touched, changed, with_rows, own_row, shared_after, shared_need}
-use Rattle.reference_model.specs.Used.{used_of, put_back}
+use Rattle.reference_model.specs.model.Changes.{edit_of, cpu_by, touched}
+use Rattle.reference_model.specs.help.ConditionChanges.{conditions_after, told_condition}
+use Rattle.reference_model.specs.help.Conditions.{Condition, HostFits, hyp_says, MapsFit, HeldFit, IsOfLayout, Legal, row_in, in_shared, in_hand, one, shared_uses, table_uses, is_inside, IsGood}
+use Rattle.reference_model.specs.model.Owner.{is_in_hand, is_frame}
+use Rattle.reference_model.specs.model.Parts.{Names}
+use Rattle.reference_model.specs.help.RowChanges.{told_row, first_of}
+use Rattle.reference_model.specs.model.State.{Cpu, Contents, put_at, no_cpu}
+use Rattle.reference_model.specs.model.Step.{is_touched, changed, with_rows, own_row, shared_after, shared_need}
+use Rattle.reference_model.specs.model.Used.{used_of, put_back}
 use Rattle.page_state.proofs.Common.{both, eq-self, if-true, if-false}
 use Rattle.coarse_trees.specs.Coarsest.{IsCoarsest, IsInRange}
 use Rattle.coarse_trees.proofs.Stays.{edit_keeps_coarsest}

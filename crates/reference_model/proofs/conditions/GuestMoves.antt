@@ -9,17 +9,17 @@ use Rattle.page_state.specs.declared.row.Usage.TheVariants.{Plain, SharedPool, V
 use Rattle.call_table.specs.declared.step.Step.{Step}
 use Rattle.page_state.specs.EntryTests.{maps_frame}
 use Rattle.page_state.specs.Map.{is_within}
-use Rattle.reference_model.specs.State.{Guest, Cpu, Contents, empty, put_at, no_guest, blank}
+use Rattle.reference_model.specs.model.State.{Guest, Cpu, Contents, empty, put_at, no_guest, blank}
 use Rattle.page_state.specs.Layouts.{Layout, is_memory}
-use Rattle.reference_model.specs.Owner.{row_of}
-use Rattle.reference_model.specs.Parts.{shared_and_guest}
-use Rattle.reference_model.specs.Rules.{names}
-use Rattle.reference_model.specs.Used.{Used, used_of, put_back}
+use Rattle.reference_model.specs.model.Owner.{row_of}
+use Rattle.reference_model.specs.model.Parts.{shared_and_guest}
+use Rattle.reference_model.specs.model.Rules.{names}
+use Rattle.reference_model.specs.model.Used.{Used, used_of, put_back}
 use Rattle.reference_model.specs.declared.changes.Changes.{Changes}
-use Rattle.reference_model.specs.Changes.{cpu_by}
-use Rattle.reference_model.specs.Step.{changed, with_rows, own_row, shared_after, shared_need, guest_after}
+use Rattle.reference_model.specs.model.Changes.{cpu_by}
+use Rattle.reference_model.specs.model.Step.{changed, with_rows, own_row, shared_after, shared_need, guest_after}
 use Rattle.page_state.specs.Tables.{edited}
-use Rattle.reference_model.specs.Conditions.{Condition, outside, hosts, with_hyp, hyps, with_guest, guests, lent_back, guest_condition, GuestFits, IsMemoryLeaf, MapsFit, HeldFit, Legal, IsUsable, row_in, in_vm, one, guest_uses, AreCoarsest, GuestsFit, SlotsFit, RowsFit}
+use Rattle.reference_model.specs.help.Conditions.{Condition, outside, hosts, with_hyp, hyps, with_guest, guests, lent_back, guest_condition, GuestFits, IsMemoryLeaf, MapsFit, HeldFit, Legal, IsUsable, row_in, in_vm, one, guest_uses, AreCoarsest, GuestsFit, SlotsFit, RowsFit}
 use Rattle.page_state.proofs.Common.{both, eq-same, eq-self, if-true, if-false}
 use Rattle.coarse_trees.specs.Coarsest.{IsCoarsest}
 use Rattle.reference_model.proofs.Steps.{state_of}

@@ -1,7 +1,8 @@
 -- The made steps that move a CPU's hand into a guest keep the invariant.
 use Rattle.std.proofs.Common.{◌≡◌, ℕ, zero, suc, ◌+◌, ◌≤◌, ◌<◌, refl, ap, sym, ◌∙◌, subst, arith, inl, inr, length}
-use Rattle.std.specs.Prelude.{true, false, nat_lt, is_none, Some, None}
+use Rattle.std.specs.Prelude.{true, false, Some, None, is_some, nat_le}
 use Rattle.descriptor.specs.declared.State.{State}
+use Rattle.reference_model.specs.model.Rule.{reads}
 use Rattle.reference_model.specs.declared.changes.Ticket.{Ticket}
 use Rattle.reference_model.specs.declared.changes.Stage.TheVariants.{Booked as booked, Installed as installed}
 use Rattle.page_state.specs.declared.entry.Entry.TheVariants.{Unmapped}
@@ -12,22 +13,22 @@ use Rattle.call_table.specs.declared.step.VmId.{VmId}
 use Rattle.page_state.specs.Trees.{frames_from, root_tree}
 use Rattle.page_state.specs.Counts.{is_one, frame_count}
 use Rattle.page_state.specs.EntryTests.{leaf}
-use Rattle.reference_model.specs.GuestRules.{moved_on, install, topup, guest_table_count, ticket_vm, ticket_kind}
+use Rattle.reference_model.specs.model.GuestRules.{moved_on, install, topup, guest_table_count, ticket_vm, ticket_kind}
 use Rattle.reference_model.specs.declared.changes.CpuChange.{CpuChange}
 use Rattle.reference_model.specs.declared.changes.GuestChange.{GuestChange}
 use Rattle.reference_model.specs.declared.changes.GuestChange.TheVariants.{Install as Begin, Gain}
 use Rattle.reference_model.specs.declared.changes.Update.TheVariants.{Becomes}
-use Rattle.reference_model.specs.Changes.{cpu_by, no_changes, rest, frames_in}
+use Rattle.reference_model.specs.model.Changes.{cpu_by, no_changes, rest, frames_in}
 use Rattle.page_state.specs.Map.{is_within}
-use Rattle.reference_model.specs.SharedRules.{hand_of, hand_becomes}
-use Rattle.reference_model.specs.State.{Guest, Contents, no_guest}
+use Rattle.reference_model.specs.model.SharedRules.{hand_of, hand_becomes}
+use Rattle.reference_model.specs.model.State.{Guest, Contents, no_guest}
 use Rattle.page_state.specs.Layouts.{Layout}
-use Rattle.reference_model.specs.Parts.{shared_and_guest}
-use Rattle.reference_model.specs.Used.{Used, used_of}
-use Rattle.reference_model.specs.Step.{refusal, guest_after}
+use Rattle.reference_model.specs.model.Parts.{shared_and_guest}
+use Rattle.reference_model.specs.model.Used.{Used, used_of}
+use Rattle.reference_model.specs.model.Step.{refusal, guest_after}
 use Rattle.page_state.specs.Tables.{all_given, needs, freed, returned, edited}
-use Rattle.reference_model.specs.Conditions.{Condition, hyps, HostFits, hyp_says, guest_condition, Legal, IsUsable, in_shared, in_vm, one, table_uses, guest_uses}
-use Rattle.page_state.proofs.Common.{both, eq-self, or-neither}
+use Rattle.reference_model.specs.help.Conditions.{Condition, hyps, HostFits, hyp_says, guest_condition, Legal, IsUsable, in_shared, in_vm, one, table_uses, guest_uses}
+use Rattle.page_state.proofs.Common.{both, eq-self, and-left}
 use Rattle.page_state.proofs.Counts.{count_next}
 use Rattle.coarse_trees.proofs.Stays.{root_is_coarsest}
 use Rattle.reference_model.proofs.conditions.Conserved.{all_given-count}
@@ -60,7 +61,7 @@ module _ (l : Layout) (s : Contents) (legal : Legal l s) (usable : IsUsable l) (
   abbrev after : ℕ → Condition
   after = moved_to (always (hyps (VmPool v))) hand.first.0 hand.count legal.condition
 
-  module _ (some : is_none (s.cpu cpu).hand ≡ false) where
+  module _ (some : is_some (s.cpu cpu).hand ≡ true) where
     was : (q : ℕ) → is_within hand.first.0 hand.count q ≡ true → legal.condition q ≡ hyps (InHand cpu)
     was = hand-was legal cpu some
 
@@ -111,11 +112,11 @@ module _ (l : Layout) (s : Contents) (legal : Legal l s) (usable : IsUsable l) (
           omega arith
     ]
 
-  topup-move : (vm : VmId) → Passed l.depth (topup l x vm) false x → GuestMove l s legal.condition cpu v (topup l x vm).changes hand.first.0 hand.count (always (hyps (VmPool v)))
+  topup-move : (vm : VmId) → Passed l.depth (topup vm (reads l cpu (Some v) x)) false x → GuestMove l s legal.condition cpu v (topup vm (reads l cpu (Some v) x)).changes hand.first.0 hand.count (always (hyps (VmPool v)))
   unfolding used_of guest_after edited freed needs returned
   topup-move vm p =
-      let some : is_none (s.cpu cpu).hand ≡ false = (or-neither (is_none (s.cpu cpu).hand) (nat_lt 512 (guest_table_count l (s.guest v).tree + length (s.guest v).free + hand.count)) p.perm).0 in
-      let alive = stands-alive vm (s.guest v) p.no_vm in
+      let some : is_some (s.cpu cpu).hand ≡ true = and-left (is_some (s.cpu cpu).hand) (nat_le (guest_table_count l (s.guest v).tree + length (s.guest v).free + hand.count) 512) p.allowed in
+      let alive = stands-alive vm (s.guest v) p.has_vm in
       record {
         frames = hand-frames some (Gain hand) (hand_becomes None) refl;
         only_new = λ q w. eq-self v;
@@ -126,26 +127,26 @@ module _ (l : Layout) (s : Contents) (legal : Legal l s) (usable : IsUsable l) (
         coarse = legal.trees.guest v;
         blank = λ k. absurd (alive k);
         rooted = legal.guest_parts.rooted v;
-        slots = slots-stay legal cpu v (new_guest l s v (topup l x vm).changes) (new_cpu s cpu (topup l x vm).changes) refl refl refl refl refl (λ h e. cc);
+        slots = slots-stay legal cpu v (new_guest l s v (topup vm (reads l cpu (Some v) x)).changes) (new_cpu s cpu (topup vm (reads l cpu (Some v) x)).changes) refl refl refl refl refl (λ h e. cc);
       }
     where
-      filled : (q : ℕ) → is_none (s.cpu cpu).hand ≡ false → frame_count q (all_given (frames_in hand) (s.guest v).free) + table_uses l.depth (s.guest v).tree q ≡ one (in_vm v (after q))
+      filled : (q : ℕ) → is_some (s.cpu cpu).hand ≡ true → frame_count q (all_given (frames_in hand) (s.guest v).free) + table_uses l.depth (s.guest v).tree q ≡ one (in_vm v (after q))
       filled q some =
           let a = all_given-count q (frames_in hand) (s.guest v).free in
           let b = count-frames hand.first.0 hand.count q in
           let c = grown some q in
           omega arith
 
-  pub topup-keeps : (vm : VmId) → refusal l.depth (topup l x vm) false x ≡ None → StepKept l s legal.condition shared_and_guest (Some v) cpu (Topup vm) (topup l x vm).changes
+  pub topup-keeps : (vm : VmId) → refusal l.depth (topup vm (reads l cpu (Some v) x)) false x ≡ None → StepKept l s legal.condition shared_and_guest (Some v) cpu (Topup vm) (topup vm (reads l cpu (Some v) x)).changes
   unfolding used_of
   topup-keeps vm h =
-      let p = passed l.depth (topup l x vm) false x h in
-      guest-keeps l s legal usable cpu v (Topup vm) refl (topup l x vm).changes hand.first.0 hand.count (always (hyps (VmPool v))) (topup-move vm p) p.shared_enough
+      let p = passed l.depth (topup vm (reads l cpu (Some v) x)) false x h in
+      guest-keeps l s legal usable cpu v (Topup vm) refl (topup vm (reads l cpu (Some v) x)).changes hand.first.0 hand.count (always (hyps (VmPool v))) (topup-move vm p) p.shared_enough
 
-  install-move : (t : Ticket) → (s.cpu cpu).ticket ≡ Some t → t.vm.slot ≡ v → t.stage ≡ booked → Passed l.depth (install l x) false x → GuestMove l s legal.condition cpu v (install l x).changes hand.first.0 hand.count (always (hyps (VmPool v)))
+  install-move : (t : Ticket) → (s.cpu cpu).ticket ≡ Some t → t.vm.slot ≡ v → t.stage ≡ booked → Passed l.depth (install (reads l cpu (Some v) x)) false x → GuestMove l s legal.condition cpu v (install (reads l cpu (Some v) x)).changes hand.first.0 hand.count (always (hyps (VmPool v)))
   unfolding used_of guest_after edited freed needs returned
   install-move t has at-slot stage p =
-      let some : is_none (s.cpu cpu).hand ≡ false = p.perm in
+      let some : is_some (s.cpu cpu).hand ≡ true = p.allowed in
       let fits = legal.slots.agree.tickets.ticket cpu t has in
       let here = ticket-fits s legal.slots cpu v booked t has at-slot stage in
       let blank = legal.guest_parts.blank v here.1 in
@@ -161,7 +162,7 @@ module _ (l : Layout) (s : Contents) (legal : Legal l s) (usable : IsUsable l) (
         coarse = root_is_coarsest l.depth hand.first.0;
         blank = λ k. cc;
         rooted = λ k. (hand.first.0, root-here l.depth hand.first.0);
-        slots = slots-turn s legal.slots cpu v t (new_guest l s v (install l x).changes) (new_cpu s cpu (install l x).changes) installed has at-slot (here.0, refl) (λ k. (generation, kind)) refl (turned (s.cpu cpu).ticket t installed has) (λ h e. cc);
+        slots = slots-turn s legal.slots cpu v t (new_guest l s v (install (reads l cpu (Some v) x)).changes) (new_cpu s cpu (install (reads l cpu (Some v) x)).changes) installed has at-slot (here.0, refl) (λ k. (generation, kind)) refl (turned (s.cpu cpu).ticket t installed has) (λ h e. cc);
       }
     where
       unnamed : (q w : ℕ) (state : State) → s.guest v ≡ no_guest → legal.condition w ≡ guest_condition state v q → ⊥
@@ -170,7 +171,7 @@ module _ (l : Layout) (s : Contents) (legal : Legal l s) (usable : IsUsable l) (
           let z : Unmapped ≡ leaf k.0 w state = sym (ap (λ (g : Guest). g.tree.map q) blank) ∙ k.1 in
           cc
 
-      rooted : (q : ℕ) → is_none (s.cpu cpu).hand ≡ false → s.guest v ≡ no_guest → frame_count q (rest (frames_in hand)) + table_uses l.depth (root_tree l.depth hand.first.0) q ≡ one (in_vm v (after q))
+      rooted : (q : ℕ) → is_some (s.cpu cpu).hand ≡ true → s.guest v ≡ no_guest → frame_count q (rest (frames_in hand)) + table_uses l.depth (root_tree l.depth hand.first.0) q ≡ one (in_vm v (after q))
       rooted q some blank =
           let a = root-table-uses l.depth hand.first.0 q in
           let b = rest-count hand.first.0 hand.count q (hand-some (s.cpu cpu).hand some (legal.slots.some_hand cpu)) in
@@ -179,8 +180,8 @@ module _ (l : Layout) (s : Contents) (legal : Legal l s) (usable : IsUsable l) (
           let e = no-uses l.depth q in
           omega arith
 
-  pub install-keeps : (t : Ticket) → (s.cpu cpu).ticket ≡ Some t → t.vm.slot ≡ v → t.stage ≡ booked → refusal l.depth (install l x) false x ≡ None → StepKept l s legal.condition shared_and_guest (Some v) cpu Install (install l x).changes
+  pub install-keeps : (t : Ticket) → (s.cpu cpu).ticket ≡ Some t → t.vm.slot ≡ v → t.stage ≡ booked → refusal l.depth (install (reads l cpu (Some v) x)) false x ≡ None → StepKept l s legal.condition shared_and_guest (Some v) cpu Install (install (reads l cpu (Some v) x)).changes
   unfolding used_of
   install-keeps t has at stage h =
-      let p = passed l.depth (install l x) false x h in
-      guest-keeps l s legal usable cpu v Install refl (install l x).changes hand.first.0 hand.count (always (hyps (VmPool v))) (install-move t has at stage p) p.shared_enough
+      let p = passed l.depth (install (reads l cpu (Some v) x)) false x h in
+      guest-keeps l s legal usable cpu v Install refl (install (reads l cpu (Some v) x)).changes hand.first.0 hand.count (always (hyps (VmPool v))) (install-move t has at stage p) p.shared_enough

@@ -1,10 +1,10 @@
 -- Frames that are held for a guest, and a CPU's hand.
 use Rattle.std.proofs.Common.{◌≡◌, ℕ, zero, suc, ◌≤◌, refl, ap, sym, ◌∙◌, subst, arith, inl, inr, length, drop}
-use Rattle.std.specs.Prelude.{true, false, ◌⊎◌, ◌==◌, is_some, nat_lt, Option, Some, None}
+use Rattle.std.specs.Prelude.{true, false, ◌⊎◌, ◌==◌, is_some, nat_lt, Option, Some, None, is_none}
 use Rattle.reference_model.specs.declared.changes.Changes.{Changes}
 use Rattle.reference_model.specs.declared.changes.GuestChange.{GuestChange}
 use Rattle.reference_model.specs.declared.changes.GuestChange.TheVariants.{Keep as KeepGuest, Install as Begin, Gain, LoseLowest, Die, Empty}
-use Rattle.reference_model.specs.declared.changes.Stage.TheVariants.{Booked, DyingVm}
+use Rattle.reference_model.specs.declared.changes.Stage.TheVariants.{Booked, Dying}
 use Rattle.page_state.specs.declared.entry.PageRange.{PageRange}
 use Rattle.page_state.specs.declared.row.Usage.TheVariants.{Plain, VmPool}
 use Rattle.call_table.specs.declared.reply.Call.{Call}
@@ -15,20 +15,20 @@ use Rattle.call_table.specs.declared.step.VmId.{VmId}
 use Rattle.coarse_trees.specs.Coarsest.{IsInRange}
 use Rattle.page_state.specs.Layouts.{Layout}
 use Rattle.page_state.specs.Tables.{all_given, edited, returned, need}
-use Rattle.reference_model.specs.Changes.{cpu_by, edit_of, frames_in, guest_by}
-use Rattle.reference_model.specs.Conditions.{Condition, hyps, Legal, in_vm, one, row_in, guest_uses}
-use Rattle.reference_model.specs.GuestRules.{is_guest, phase_eq}
-use Rattle.reference_model.specs.HeldFrames.{GivesHandOn, HandStays, HeldStays, IsHeldFor, RunHeldStays, TakesBack, name_of}
-use Rattle.reference_model.specs.Owner.{is_in_hand}
-use Rattle.reference_model.specs.Parts.{slot_of}
-use Rattle.reference_model.specs.RowLaws.{use_of}
-use Rattle.reference_model.specs.Rule.{Rule}
-use Rattle.reference_model.specs.Rules.{guest_slot, names, rule}
-use Rattle.reference_model.specs.Sound.{Place, shared_pool, vm_pool, table_of, hand, IsHeld}
-use Rattle.reference_model.specs.State.{Contents, Cpu, Guest, Phase, Reference, dying, no_guest, put_at}
-use Rattle.reference_model.specs.Step.{Answered, Steps, changed, fails, guest_after, guest_need, made, used_by, with_rows}
-use Rattle.reference_model.specs.Used.{Used, put_back, used_of}
-use Rattle.page_state.proofs.Common.{and-both, both, eq-same, eq-self, if-false, if-true, not-false, same2}
+use Rattle.reference_model.specs.model.Changes.{cpu_by, edit_of, frames_in, guest_by}
+use Rattle.reference_model.specs.help.Conditions.{Condition, hyps, Legal, in_vm, one, row_in, guest_uses}
+use Rattle.reference_model.specs.model.GuestRules.{is_guest, phase_eq}
+use Rattle.reference_model.specs.claims.HeldFrames.{GivesHandOn, HandStays, HeldStays, IsHeldFor, RunHeldStays, TakesBack, name_of}
+use Rattle.reference_model.specs.model.Owner.{is_in_hand}
+use Rattle.reference_model.specs.model.Parts.{slot_of}
+use Rattle.reference_model.specs.claims.RowLaws.{use_of}
+use Rattle.reference_model.specs.model.Rule.{Rule}
+use Rattle.reference_model.specs.model.Rules.{guest_slot, names, rule}
+use Rattle.reference_model.specs.claims.Sound.{Place, shared_pool, vm_pool, table_of, hand, IsHeld}
+use Rattle.reference_model.specs.model.State.{Contents, Cpu, Guest, Phase, Reference, dying, no_guest, put_at}
+use Rattle.reference_model.specs.model.Step.{Answered, Steps, changed, fails, guest_after, guest_need, made, used_by, with_rows}
+use Rattle.reference_model.specs.model.Used.{Used, put_back, used_of}
+use Rattle.page_state.proofs.Common.{and-both, both, eq-same, eq-self, if-false, if-true, same2}
 use Rattle.reference_model.proofs.conditions.Bounding.{guest-range, pass}
 use Rattle.reference_model.proofs.conditions.Conserved.{all_given-count, tree-conserved}
 use Rattle.reference_model.proofs.conditions.FrameMoves.{no-uses}
@@ -118,12 +118,12 @@ module _ (l : Layout) (s : Contents) (legal : Legal l s) (cpu v : ℕ) where
   takes Install at h = let t = stage-slot Booked (s.cpu cpu) v (sym at) in inr (inl (legal.guest_parts.blank v (ticket-fits s legal.slots cpu v Booked t.0 t.1 t.2 t.3).1))
   takes (ReclaimPool vm) at h =
       let p = pass l s cpu (Some v) (ReclaimPool vm) h in
-      let is = and-both (phase_eq (s.guest v).phase dying) ((s.guest v).generation == vm.generation) (not-false (is_guest dying vm (s.guest v)) p.no_vm) in
+      let is = and-both (phase_eq (s.guest v).phase dying) ((s.guest v).generation == vm.generation) p.has_vm in
       let slot : vm.slot ≡ v = named-slot vm v (sym at) in
       inr (inr (record { is_dying = phase-is (s.guest v).phase is.0; step_is = inl (ap ReclaimPool (same-name vm (name_of s v) slot (sym (eq-same (s.guest v).generation vm.generation is.1)))) }))
   takes FinishGuest at h =
-      let t = stage-slot DyingVm (s.cpu cpu) v (sym at) in
-      inr (inr (record { is_dying = (ticket-fits s legal.slots cpu v DyingVm t.0 t.1 t.2 t.3).1; step_is = inr (refl, (t.0, t.1, t.2)) }))
+      let t = stage-slot Dying (s.cpu cpu) v (sym at) in
+      inr (inr (record { is_dying = (ticket-fits s legal.slots cpu v Dying t.0 t.1 t.2 t.3).1; step_is = inr (refl, (t.0, t.1, t.2)) }))
   takes step at h = inl tt
 
   module _ (f : ℕ) where
@@ -191,9 +191,9 @@ module _ (l : Layout) (s : Contents) (cpu : ℕ) (slot : Option ℕ) where
 
   hand-after : (step : Step) (f : ℕ) → fails l cpu slot step (x_by step) ≡ None → is_in_hand (s.cpu cpu).hand f ≡ true → (is_in_hand (cpu_by (rule l cpu slot step (x_by step)).changes.cpu (s.cpu cpu)).hand f ≡ true) ⊎ GivesHandOn step
   unfolding rule used_of
-  hand-after (Fund first n) f h had = absurd (empty-hand (s.cpu cpu).hand f (pass l s cpu slot (Fund first n) h).busy had)
+  hand-after (Fund first n) f h had = absurd (empty-hand (s.cpu cpu).hand f (pass l s cpu slot (Fund first n) h).ready had)
     where
-      empty-hand : (o : Option PageRange) (f : ℕ) → is_some o ≡ false → is_in_hand o f ≡ true → ⊥
+      empty-hand : (o : Option PageRange) (f : ℕ) → is_none o ≡ true → is_in_hand o f ≡ true → ⊥
       empty-hand None f h k = cc
       empty-hand (Some r) f h k = cc
   hand-after Unfund f h had = inr (inl refl)

@@ -8,19 +8,19 @@ use Rattle.reference_model.specs.declared.changes.GuestChange.TheVariants.{Keep 
 use Rattle.call_table.specs.declared.reply.Call.{Call}
 use Rattle.call_table.specs.declared.step.Step.{Step}
 use Rattle.page_state.specs.Trees.{frames_from, Pool}
-use Rattle.reference_model.specs.Boot.{boot, booted}
-use Rattle.reference_model.specs.Changes.{edit_of, guest_by, rest, frames_in}
-use Rattle.reference_model.specs.Conditions.{one, in_shared, in_vm}
+use Rattle.reference_model.specs.model.Boot.{boot, booted}
+use Rattle.reference_model.specs.model.Changes.{edit_of, guest_by, rest, frames_in}
+use Rattle.reference_model.specs.help.Conditions.{one, in_shared, in_vm}
 use Rattle.page_state.specs.Counts.{is_one, frame_count}
 use Rattle.page_state.specs.Layouts.{Layout}
-use Rattle.reference_model.specs.Parts.{uses_shared}
-use Rattle.reference_model.specs.Rules.{names}
-use Rattle.reference_model.specs.PoolOrder.{IsInOrder, RunInOrder}
-use Rattle.reference_model.specs.Run.{Runs}
-use Rattle.reference_model.specs.State.{Shared, Guest, Contents, Reference, no_shared}
-use Rattle.reference_model.specs.Step.{shared_need, guest_need, shared_after, guest_after, changed, with_rows, made, rule_of, Answered, used_by, Steps}
+use Rattle.reference_model.specs.model.Parts.{uses_shared}
+use Rattle.reference_model.specs.model.Rules.{names}
+use Rattle.reference_model.specs.help.PoolOrder.{IsInOrder, RunInOrder}
+use Rattle.reference_model.specs.model.Run.{Runs}
+use Rattle.reference_model.specs.model.State.{Shared, Guest, Contents, Reference, no_shared}
+use Rattle.reference_model.specs.model.Step.{shared_need, guest_need, shared_after, guest_after, changed, with_rows, made, rule_of, Answered, used_by, Steps}
 use Rattle.page_state.specs.Tables.{returned, given, all_given}
-use Rattle.reference_model.specs.Used.{Used, used_of, put_back, guest_at, put_guest}
+use Rattle.reference_model.specs.model.Used.{Used, used_of, put_back, guest_at, put_guest}
 use Rattle.page_state.proofs.Common.{both, eq-self}
 use Rattle.page_state.proofs.Counts.{count_next}
 use Rattle.reference_model.proofs.Steps.{used-self}

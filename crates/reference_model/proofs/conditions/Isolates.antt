@@ -5,7 +5,7 @@ use Rattle.descriptor.specs.declared.Prot.{Prot}
 use Rattle.descriptor.specs.declared.Prot.TheVariants.{RWX}
 use Rattle.descriptor.specs.declared.State.{State}
 use Rattle.descriptor.specs.declared.State.TheVariants.{Owned, SharedOwned, SharedBorrowed}
-use Rattle.reference_model.specs.declared.changes.Stage.TheVariants.{Booked, DyingVm}
+use Rattle.reference_model.specs.declared.changes.Stage.TheVariants.{Booked, Dying}
 use Rattle.reference_model.specs.declared.changes.Ticket.{Ticket}
 use Rattle.page_state.specs.declared.entry.Entry.{Entry}
 use Rattle.page_state.specs.declared.entry.Entry.TheVariants.{Unmapped, Leaf}
@@ -14,24 +14,24 @@ use Rattle.page_state.specs.declared.row.Row.{Row}
 use Rattle.call_table.specs.declared.step.Step.{Step}
 use Rattle.call_table.specs.declared.step.Step.TheVariants.{ShareHyp, UnshareHyp, DonateHyp, HypDonateHost, HostAbort, HostTranslate, HypTranslate, OwnerOf, Fund, Unfund, ShareGuest, UnshareGuest, DonateGuest, GuestShareHost, GuestUnshareHost, Install, Topup, ReclaimPage, ReclaimPool, FinishGuest, GuestRelax, GuestTranslate, MarkDying, VmReserve, VmOpen, VcpuLoad, VcpuPut, Teardown, VmRelease}
 use Rattle.call_table.specs.declared.step.VmId.{VmId}
-use Rattle.reference_model.specs.Conditions.{Condition, outside, hosts, with_hyp, hyps, with_guest, guests, lent_back, HostFits, hyp_says, guest_condition, Legal, IsUsable, row_in}
+use Rattle.reference_model.specs.help.Conditions.{Condition, outside, hosts, with_hyp, hyps, with_guest, guests, lent_back, HostFits, hyp_says, guest_condition, Legal, IsUsable, row_in}
 use Rattle.page_state.specs.Entries.{advance}
 use Rattle.page_state.specs.EntryTests.{is_in, is_free_page, with_rights, is_unmapped, leaf, entry_frame, state_eq, with_state}
-use Rattle.reference_model.specs.GuestRules.{is_guest, phase_eq, is_protected}
-use Rattle.reference_model.specs.Isolation.{PageStays, Isolated, RunIsolated, OthersKeptOut, RunKeptOut, SharesWithHost}
+use Rattle.reference_model.specs.model.GuestRules.{is_guest, phase_eq, is_protected}
+use Rattle.reference_model.specs.claims.Isolation.{PageStays, Isolated, RunIsolated, OthersKeptOut, RunKeptOut, SharesWithHost}
 use Rattle.page_state.specs.Layouts.{Layout, hyp_page}
 use Rattle.page_state.specs.Map.{Map, update, is_within}
 use Rattle.page_state.specs.Search.{all_below}
-use Rattle.reference_model.specs.Parts.{loaded_slot, lacks_slot}
-use Rattle.reference_model.specs.Rules.{rule, names, guest_slot}
-use Rattle.reference_model.specs.Rule.{Rule}
-use Rattle.reference_model.specs.Sound.{owner, IsLeafOf, Maps, Holds, HasLoaded}
-use Rattle.reference_model.specs.State.{Guest, empty, live, dying, Contents, Reference}
-use Rattle.reference_model.specs.Step.{fails, made, Answered, guest_after, changed, with_rows, used_by}
+use Rattle.reference_model.specs.model.Parts.{loaded_slot, lacks_slot}
+use Rattle.reference_model.specs.model.Rules.{rule, names, guest_slot}
+use Rattle.reference_model.specs.model.Rule.{Rule}
+use Rattle.reference_model.specs.claims.Sound.{owner, IsLeafOf, Maps, Holds, HasLoaded}
+use Rattle.reference_model.specs.model.State.{Guest, empty, live, dying, Contents, Reference}
+use Rattle.reference_model.specs.model.Step.{fails, made, Answered, guest_after, changed, with_rows, used_by}
 use Rattle.page_state.specs.Tables.{edited}
-use Rattle.reference_model.specs.Used.{Used, used_of, put_back, put_guest}
+use Rattle.reference_model.specs.model.Used.{Used, used_of, put_back, put_guest}
 use Rattle.page_state.proofs.Cases.{by_lt}
-use Rattle.page_state.proofs.Common.{both, if-true, if-false, and-both, or-neither, not-false, eq-same, eq-self, same2}
+use Rattle.page_state.proofs.Common.{both, if-true, if-false, and-both, eq-same, eq-self, same2, and-right}
 use Rattle.reference_model.proofs.conditions.Keeps.{legal_keeps, loaded-slot, stage-slot}
 use Rattle.reference_model.proofs.conditions.OfLegal.{legal_rows, leaf-maps}
 use Rattle.reference_model.proofs.conditions.PageMoves.{advance-none}
@@ -96,26 +96,25 @@ module _ (l : Layout) (s : Contents) (legal : Legal l s) (cpu v g f : ℕ) (aliv
   given_at q p n = all_below n (λ i. is_free_page (s.shared.host.map (q + i)) && is_unmapped ((s.guest v).tree.map (p + i)))
 
   -- the page isn't one of the unmapped ones, nor one that is borrowed
-  not-given : (kind : Bool) (q p n : ℕ) → (kind || not (given_at q p n)) ≡ false → is_within p n g ≡ true → ⊥
+  not-given : (kind : Bool) (q p n : ℕ) → (kind && given_at q p n) ≡ true → is_within p n g ≡ true → ⊥
   not-given kind q p n h w =
-      let t : is_unmapped ((s.guest v).tree.map g) ≡ true = second-all q p n (λ k. is_free_page (s.shared.host.map k)) (λ k. is_unmapped ((s.guest v).tree.map k)) (not-false (given_at q p n) (or-neither kind (not (given_at q p n)) h).1) g w in
+      let t : is_unmapped ((s.guest v).tree.map g) ≡ true = second-all q p n (λ k. is_free_page (s.shared.host.map k)) (λ k. is_unmapped ((s.guest v).tree.map k)) (and-right kind (given_at q p n) h) g w in
       let bad : false ≡ true = sym (ap is_unmapped owns.leaf_is) ∙ t in cc
 
-  not-borrowed : (p : ℕ) → not (is_in SharedBorrowed ((s.guest v).tree.map p)) ≡ false → p ≡ g → ⊥
+  not-borrowed : (p : ℕ) → is_in SharedBorrowed ((s.guest v).tree.map p) ≡ true → p ≡ g → ⊥
   not-borrowed p h same =
-      let t = not-false (is_in SharedBorrowed ((s.guest v).tree.map p)) h in
-      owns.own (state_eq-is owns.state SharedBorrowed (sym (ap (is_in SharedBorrowed) (ap (s.guest v).tree.map same ∙ owns.leaf_is)) ∙ t))
+      owns.own (state_eq-is owns.state SharedBorrowed (sym (ap (is_in SharedBorrowed) (ap (s.guest v).tree.map same ∙ owns.leaf_is)) ∙ h))
 
-  not-dying : (vm : VmId) → not (is_guest dying vm (s.guest v)) ≡ false → ⊥
+  not-dying : (vm : VmId) → is_guest dying vm (s.guest v) ≡ true → ⊥
   not-dying vm h =
-      let t = (and-both (phase_eq (s.guest v).phase dying) ((s.guest v).generation == vm.generation) (not-false (is_guest dying vm (s.guest v)) h)).0 in
+      let t = (and-both (phase_eq (s.guest v).phase dying) ((s.guest v).generation == vm.generation) h).0 in
       let bad : false ≡ true = sym (ap (λ p. phase_eq p dying) alive) ∙ t in cc
 
   not-booked : (t : Ticket) → (s.cpu cpu).ticket ≡ Some t → t.vm.slot ≡ v → t.stage ≡ Booked → ⊥
   not-booked t has at stage = let bad : live ≡ empty = sym alive ∙ (ticket-fits s legal.slots cpu v Booked t has at stage).1 in cc
 
-  not-ending : (t : Ticket) → (s.cpu cpu).ticket ≡ Some t → t.vm.slot ≡ v → t.stage ≡ DyingVm → ⊥
-  not-ending t has at stage = let bad : live ≡ dying = sym alive ∙ (ticket-fits s legal.slots cpu v DyingVm t has at stage).1 in cc
+  not-ending : (t : Ticket) → (s.cpu cpu).ticket ≡ Some t → t.vm.slot ≡ v → t.stage ≡ Dying → ⊥
+  not-ending t has at stage = let bad : live ≡ dying = sym alive ∙ (ticket-fits s legal.slots cpu v Dying t has at stage).1 in cc
 
   abbrev x_at : Step → Used
   x_at step = used_of (names step) (Some v) cpu s
@@ -137,9 +136,9 @@ module _ (l : Layout) (s : Contents) (legal : Legal l s) (cpu v g f : ℕ) (aliv
 
   page-after : (step : Step) → Some v ≡ guest_slot (s.cpu cpu) step → fails l cpu (Some v) step (x_at step) ≡ None → Stands step
   unfolding rule guest_after edited used_of e
-  page-after (ShareGuest q p r n) at h = inl (off-range (s.guest v).tree.map p n g (leaf r q SharedBorrowed) (not-given (is_protected (s.guest v).kind) q p n (pass (ShareGuest q p r n) h).perm))
-  page-after (UnshareGuest vm p) at h = inl (off-page (s.guest v).tree.map p g Unmapped (not-borrowed p (pass (UnshareGuest vm p) h).perm))
-  page-after (DonateGuest q p n) at h = inl (off-range (s.guest v).tree.map p n g (leaf RWX q Owned) (not-given (not (is_protected (s.guest v).kind)) q p n (pass (DonateGuest q p n) h).perm))
+  page-after (ShareGuest q p r n) at h = inl (off-range (s.guest v).tree.map p n g (leaf r q SharedBorrowed) (not-given (not (is_protected (s.guest v).kind)) q p n (pass (ShareGuest q p r n) h).allowed))
+  page-after (UnshareGuest vm p) at h = inl (off-page (s.guest v).tree.map p g Unmapped (not-borrowed p (pass (UnshareGuest vm p) h).allowed))
+  page-after (DonateGuest q p n) at h = inl (off-range (s.guest v).tree.map p n g (leaf RWX q Owned) (not-given (is_protected (s.guest v).kind) q p n (pass (DonateGuest q p n) h).allowed))
   page-after (GuestShareHost p) at h = elim (both (is_within p 1 g)) [
     | inl w ↦ inr (inl (ap GuestShareHost (one-within p g w), on-page (s.guest v).tree.map p g (with_state SharedOwned ((s.guest v).tree.map p)) w ∙ ap (λ n. with_state SharedOwned ((s.guest v).tree.map n)) (one-within p g w)))
     | inr w ↦ inl (if-false (is_within p 1 g) (advance (with_state SharedOwned ((s.guest v).tree.map p)) (g - p)) ((s.guest v).tree.map g) w)
@@ -150,10 +149,10 @@ module _ (l : Layout) (s : Contents) (legal : Legal l s) (cpu v g f : ℕ) (aliv
   ]
   page-after Install at h = let t = stage-slot Booked (s.cpu cpu) v (sym at) in absurd (not-booked t.0 t.1 t.2 t.3)
   page-after (Topup vm) at h = inl refl
-  page-after (ReclaimPage vm p) at h = absurd (not-dying vm (pass (ReclaimPage vm p) h).no_vm)
+  page-after (ReclaimPage vm p) at h = absurd (not-dying vm (pass (ReclaimPage vm p) h).has_vm)
   page-after (ReclaimPool vm) at h = inl refl
-  page-after FinishGuest at h = let t = stage-slot DyingVm (s.cpu cpu) v (sym at) in absurd (not-ending t.0 t.1 t.2 t.3)
-  page-after (GuestRelax p r) at h = inl (off-page (s.guest v).tree.map p g (with_rights r ((s.guest v).tree.map p)) (not-borrowed p (pass (GuestRelax p r) h).perm))
+  page-after FinishGuest at h = let t = stage-slot Dying (s.cpu cpu) v (sym at) in absurd (not-ending t.0 t.1 t.2 t.3)
+  page-after (GuestRelax p r) at h = inl (off-page (s.guest v).tree.map p g (with_rights r ((s.guest v).tree.map p)) (not-borrowed p (pass (GuestRelax p r) h).allowed))
   page-after (GuestTranslate vm p) at h = inl refl
   page-after MarkDying at h = inl refl
   page-after (ShareHyp q) at h = no-slot (sym at)

@@ -1,32 +1,32 @@
 -- Each reference step keeps the invariant, and so each state of a run is legal and sound.
 use Rattle.std.proofs.Common.{◌≡◌, ◌≢◌, ℕ, ◌<◌, refl, ap, sym, ◌∙◌, subst, arith, inl, inr}
-use Rattle.std.specs.Prelude.{Bool, true, false, ◌&&◌, nat_le, nat_lt, option_map, Option, Some, None, if◌then◌else◌}
+use Rattle.std.specs.Prelude.{Bool, true, false, ◌&&◌, nat_lt, option_map, Option, Some, None, if◌then◌else◌}
 use Rattle.std.proofs.lemmas.Bool.Decides.{nat_tests}
 use Rattle.reference_model.specs.declared.changes.Loaded.{Loaded}
 use Rattle.reference_model.specs.declared.changes.Ticket.{Ticket}
 use Rattle.reference_model.specs.declared.changes.Stage.{Stage}
-use Rattle.reference_model.specs.declared.changes.Stage.TheVariants.{Booked as booked, ClosingVm as closing_vm, DyingVm as dying_vm}
+use Rattle.reference_model.specs.declared.changes.Stage.TheVariants.{Booked as booked, Closing as closing_vm, Dying as dying_vm}
 use Rattle.call_table.specs.declared.reply.Call.{Call}
 use Rattle.call_table.specs.declared.step.Step.{Step}
 use Rattle.call_table.specs.declared.step.Step.TheVariants.{ShareHyp, UnshareHyp, DonateHyp, HypDonateHost, HostAbort, HostTranslate, HypTranslate, OwnerOf, Fund, Unfund, ShareGuest, UnshareGuest, DonateGuest, GuestShareHost, GuestUnshareHost, Install, Topup, ReclaimPage, ReclaimPool, FinishGuest, GuestRelax, GuestTranslate, MarkDying, VmReserve, VmOpen, VcpuLoad, VcpuPut, Teardown, VmRelease}
 use Rattle.call_table.specs.declared.step.VmId.{VmId}
-use Rattle.reference_model.specs.State.{Cpu, Contents, Reference, empty, put_at, no_vms, no_shared, no_guest}
+use Rattle.reference_model.specs.model.State.{Cpu, Contents, Reference, empty, put_at, no_vms, no_shared, no_guest}
 use Rattle.page_state.specs.Layouts.{Layout, is_memory}
-use Rattle.reference_model.specs.Parts.{Names, slot_of, loaded_slot, ticket_slot, has_stage}
-use Rattle.reference_model.specs.Used.{Used, used_of, put_back}
-use Rattle.reference_model.specs.Rule.{Rule}
-use Rattle.reference_model.specs.Rules.{rule, names, guest_slot}
-use Rattle.reference_model.specs.VmRules.{teardown, vcpu_load}
-use Rattle.reference_model.specs.Step.{refusal, changed, with_rows, is_touched, own_row, fails, made, Answered, used_by}
-use Rattle.reference_model.specs.ConditionChanges.{told_condition}
-use Rattle.reference_model.specs.RowChanges.{told_row, with_told, first_of}
-use Rattle.reference_model.specs.Changes.{touched}
+use Rattle.reference_model.specs.model.Parts.{Names, slot_of, loaded_slot, ticket_slot, has_stage, is_good_vm}
+use Rattle.reference_model.specs.model.Used.{Used, used_of, put_back}
+use Rattle.reference_model.specs.model.Rule.{Rule, reads}
+use Rattle.reference_model.specs.model.Rules.{rule, names, guest_slot}
+use Rattle.reference_model.specs.model.VmRules.{teardown, vcpu_load}
+use Rattle.reference_model.specs.model.Step.{refusal, changed, with_rows, is_touched, own_row, fails, made, Answered, used_by}
+use Rattle.reference_model.specs.help.ConditionChanges.{told_condition}
+use Rattle.reference_model.specs.help.RowChanges.{told_row, with_told, first_of}
+use Rattle.reference_model.specs.model.Changes.{touched}
 use Rattle.reference_model.specs.declared.changes.Changes.{Changes}
 use Rattle.page_state.specs.declared.row.Row.{Row}
 use mathlib.Core.Path.{fun_ext}
-use Rattle.reference_model.specs.Conditions.{Legal, IsUsable}
-use Rattle.reference_model.specs.RunLaws.{LegalKeeps, RowsTold}
-use Rattle.page_state.proofs.Common.{both, or-neither}
+use Rattle.reference_model.specs.help.Conditions.{Legal, IsUsable}
+use Rattle.reference_model.specs.claims.RunLaws.{LegalKeeps, RowsTold}
+use Rattle.page_state.proofs.Common.{both, and-left}
 use Rattle.reference_model.proofs.Steps.{used-self}
 use Rattle.reference_model.proofs.conditions.Moves.{LegalAlone, moved-none}
 use Rattle.reference_model.proofs.conditions.FrameMoves.{StepKept}
@@ -104,15 +104,15 @@ module _ (l : Layout) (usable : IsUsable l) (s : Contents) (legal : Legal l s) (
   KeepsIf : Step → (Used → Rule) → Bool → Type 0
   KeepsIf step r b = refusal l.depth (r (used_if b)) false (used_if b) ≡ None → LegalAlone l s legal (back_if b (with_rows l cpu None step (r (used_if b)).changes (changed l.depth (r (used_if b)).changes (used_if b))))
 
-  keeps-if : (step : Step) (r : Used → Rule) (vm : VmId) → ((x : Used) → (r x).invalid ≡ false → nat_le 64 vm.slot ≡ false) → KeepsIf step r true → KeepsIf step r (nat_lt vm.slot 64)
+  keeps-if : (step : Step) (r : Used → Rule) (vm : VmId) → ((x : Used) → (r x).valid.passes ≡ true → nat_lt vm.slot 64 ≡ true) → KeepsIf step r true → KeepsIf step r (nat_lt vm.slot 64)
   unfolding KeepsIf
   keeps-if step r vm low made h = elim (both (nat_lt vm.slot 64)) [
     | inl e ↦ subst (λ b. refusal l.depth (r (used_if b)) false (used_if b) ≡ None → LegalAlone l s legal (back_if b (with_rows l cpu None step (r (used_if b)).changes (changed l.depth (r (used_if b)).changes (used_if b))))) (sym e) made h
-    | inr e ↦ absurd (let p = passed l.depth (r (used_if (nat_lt vm.slot 64))) false (used_if (nat_lt vm.slot 64)) h in let le = low (used_if (nat_lt vm.slot 64)) p.invalid in go le e)
+    | inr e ↦ absurd (let p = passed l.depth (r (used_if (nat_lt vm.slot 64))) false (used_if (nat_lt vm.slot 64)) h in let le = low (used_if (nat_lt vm.slot 64)) p.valid in go le e)
   ]
     where
-      go : nat_le 64 vm.slot ≡ false → nat_lt vm.slot 64 ≡ false → ⊥
-      go a b = grind (arith, nat_tests)
+      go : nat_lt vm.slot 64 ≡ true → nat_lt vm.slot 64 ≡ false → ⊥
+      go a b = let bad : true ≡ false = sym a ∙ b in cc
 
   -- a step that touches no frame
   alone : {n : Names} {slot : Option ℕ} {step : Step} {h : Changes} → LegalAlone l s legal (put_back n slot cpu s (with_rows l cpu slot step h (changed l.depth h (used_of n slot cpu s)))) → ((f : ℕ) → is_touched h f ≡ true → ⊥) → StepKept l s legal.condition n slot cpu step h
@@ -145,9 +145,9 @@ module _ (l : Layout) (usable : IsUsable l) (s : Contents) (legal : Legal l s) (
   each MarkDying (Some v) e h = alone (let a = staged-at closing_vm v (sym e) in mark_dying-keeps l s legal usable cpu v a.0 a.1.0 a.1.1 a.1.2 a.1.3 h) (λ f k. differ k)
   each (VmReserve kind vcpus) None e h = alone (vm_reserve-keeps l s legal cpu kind vcpus h) (λ f k. differ k)
   each VmOpen None e h = alone (vm_open-keeps l s legal cpu h) (λ f k. differ k)
-  each (VcpuLoad vm i) None e h = alone (keeps-if (VcpuLoad vm i) (λ x. vcpu_load cpu x vm i) vm (λ x k. (or-neither (nat_le 64 vm.slot) (nat_le 8 i) k).0) (vcpu_load-made l s legal cpu vm i) h) (λ f k. differ k)
+  each (VcpuLoad vm i) None e h = alone (keeps-if (VcpuLoad vm i) (λ x. vcpu_load vm i (reads l cpu None x)) vm (λ x k. and-left (is_good_vm vm) (nat_lt i 8) k) (vcpu_load-made l s legal cpu vm i) h) (λ f k. differ k)
   each VcpuPut None e h = alone (vcpu_put-keeps l s legal cpu h) (λ f k. differ k)
-  each (Teardown vm) None e h = alone (keeps-if (Teardown vm) (λ x. teardown x vm) vm (λ x k. k) (teardown-made l s legal cpu vm) h) (λ f k. differ k)
+  each (Teardown vm) None e h = alone (keeps-if (Teardown vm) (λ x. teardown vm (reads l cpu None x)) vm (λ x k. k) (teardown-made l s legal cpu vm) h) (λ f k. differ k)
   each VmRelease None e h = alone (vm_release-keeps l s legal cpu h) (λ f k. differ k)
   each step None e h = lacking (rule l cpu None step (x_at None step)) (x_at None step) h
   each step (Some v) e h = absurd (no-slot v e)

@@ -1,22 +1,23 @@
 -- Loading a vCPU and putting it back keep the invariant.
 use Rattle.std.proofs.Common.{◌≡◌, ◌≢◌, ℕ, ◌≤◌, ◌<◌, refl, ap, sym, ◌∙◌, subst, arith, inl, inr}
-use Rattle.std.specs.Prelude.{false, ◌==◌, ◌⊎◌, nat_le, is_some, is_none, unwrap_or, Option, Some, None}
+use Rattle.std.specs.Prelude.{false, ◌==◌, ◌⊎◌, is_some, is_none, unwrap_or, Option, Some, None, nat_lt, true}
 use Rattle.std.proofs.lemmas.Bool.Decides.{nat_tests}
+use Rattle.reference_model.specs.model.Rule.{reads}
 use Rattle.reference_model.specs.declared.changes.Ticket.{Ticket}
 use Rattle.reference_model.specs.declared.changes.Loaded.{Loaded}
 use Rattle.page_state.specs.declared.entry.PageRange.{PageRange}
 use Rattle.call_table.specs.declared.step.Step.TheVariants.{VcpuLoad, VcpuPut}
 use Rattle.call_table.specs.declared.step.VmId.{VmId}
-use Rattle.reference_model.specs.State.{Cpu, Slot, Contents, empty, opened, put_at}
+use Rattle.reference_model.specs.model.State.{Cpu, Slot, Contents, empty, opened, put_at}
 use Rattle.page_state.specs.Layouts.{Layout}
-use Rattle.reference_model.specs.Parts.{vms}
-use Rattle.reference_model.specs.Used.{Used, used_of, put_back}
-use Rattle.reference_model.specs.Sound.{IsOne, LoadsAgree, IsTicketOf, IsGuestOf, HasTicket, StageFits}
-use Rattle.reference_model.specs.Step.{refusal, changed, with_rows}
-use Rattle.reference_model.specs.VmRules.{vcpu_load, vcpu_put, stand_eq, is_open, load_of}
-use Rattle.reference_model.specs.Conditions.{Legal, SlotsFit}
+use Rattle.reference_model.specs.model.Parts.{vms, is_good_vm}
+use Rattle.reference_model.specs.model.Used.{Used, used_of, put_back}
+use Rattle.reference_model.specs.claims.Sound.{IsOne, LoadsAgree, IsTicketOf, IsGuestOf, HasTicket, StageFits}
+use Rattle.reference_model.specs.model.Step.{refusal, changed, with_rows}
+use Rattle.reference_model.specs.model.VmRules.{vcpu_load, vcpu_put, stand_eq, is_open, load_of}
+use Rattle.reference_model.specs.help.Conditions.{Legal, SlotsFit}
 use Rattle.reference_model.proofs.conditions.Moves.{LegalAlone}
-use Rattle.page_state.proofs.Common.{both, eq-same, if-true, if-false, and-both, or-neither, not-false}
+use Rattle.page_state.proofs.Common.{both, eq-same, if-true, if-false, and-both}
 use Rattle.reference_model.proofs.conditions.Tests.{passed}
 use Rattle.reference_model.proofs.conditions.Slots.{put-fact, put-here, put-there, apart}
 use Rattle.reference_model.proofs.conditions.VmSteps.{vm-legal, stand_eq-same, none-is}
@@ -150,17 +151,17 @@ module _ (l : Layout) (s : Contents) (legal : Legal l s) (cpu : ℕ) where
     loaded-fit = loads-changed s legal.slots cpu z k stand generation kind refl refl loads (λ u j c h. elim (was-loaded u j c h) [ inl o ↦ legal.slots.few_vcpus u j c o | inr o ↦ subst (λ n. n < 8) (sym o.1) few ])
 
   -- as if the VM part is used: a VmId's slot is one of the 64
-  pub vcpu_load-made : (vm : VmId) (i : ℕ) → refusal l.depth (vcpu_load cpu x vm i) false x ≡ None → LegalAlone l s legal (put_back vms None cpu s (with_rows l cpu None (VcpuLoad vm i) (vcpu_load cpu x vm i).changes (changed l.depth (vcpu_load cpu x vm i).changes x)))
+  pub vcpu_load-made : (vm : VmId) (i : ℕ) → refusal l.depth (vcpu_load vm i (reads l cpu None x)) false x ≡ None → LegalAlone l s legal (put_back vms None cpu s (with_rows l cpu None (VcpuLoad vm i) (vcpu_load vm i (reads l cpu None x)).changes (changed l.depth (vcpu_load vm i (reads l cpu None x)).changes x)))
   unfolding used_of put_back with_rows changed
   vcpu_load-made vm i h =
-      let p = passed l.depth (vcpu_load cpu x vm i) false x h in
-      let args = or-neither (nat_le 64 vm.slot) (nat_le 8 i) p.invalid in
-      let up = and-both (stand_eq (s.vms.slot vm.slot).stand opened) ((s.vms.slot vm.slot).generation == vm.generation) (not-false (is_open vm (s.vms.slot vm.slot)) p.no_vm) in
-      let busy = or-neither (is_some (s.cpu cpu).loaded) (is_some ((s.vms.slot vm.slot).loaded i)) p.busy in
+      let p = passed l.depth (vcpu_load vm i (reads l cpu None x)) false x h in
+      let args = and-both (is_good_vm vm) (nat_lt i 8) p.valid in
+      let up = and-both (stand_eq (s.vms.slot vm.slot).stand opened) ((s.vms.slot vm.slot).generation == vm.generation) p.has_vm in
+      let ready = and-both (is_none (s.cpu cpu).loaded) (is_none ((s.vms.slot vm.slot).loaded i)) p.ready in
       vm-legal l s legal cpu (put_at s.vms.slot vm.slot (record (s.vms.slot vm.slot) { loaded = put_at (s.vms.slot vm.slot).loaded i (Some cpu) })) (record (s.cpu cpu) { loaded = Some (record { vm = vm; vcpu = i }) }) refl
-      (loaded-fit vm i (below i args.1) (stand_eq-same (s.vms.slot vm.slot).stand opened up.0) (eq-same (s.vms.slot vm.slot).generation vm.generation up.1) (none-is (s.cpu cpu).loaded busy.0) (none-is ((s.vms.slot vm.slot).loaded i) busy.1))
+      (loaded-fit vm i (below i args.1) (stand_eq-same (s.vms.slot vm.slot).stand opened up.0) (eq-same (s.vms.slot vm.slot).generation vm.generation up.1) (none-is (s.cpu cpu).loaded ready.0) (none-is ((s.vms.slot vm.slot).loaded i) ready.1))
     where
-      below : (i : ℕ) → nat_le 8 i ≡ false → i < 8
+      below : (i : ℕ) → nat_lt i 8 ≡ true → i < 8
       below i h = grind (arith, nat_tests)
 
   module _ (j : Loaded) (has : (s.cpu cpu).loaded ≡ Some j) where
@@ -235,12 +236,12 @@ module _ (l : Layout) (s : Contents) (legal : Legal l s) (cpu : ℕ) where
     put-legal : LegalAlone l s legal (record { vms = record { slot = z' }; shared = s.shared; guest = s.guest; cpu = put_at s.cpu cpu k' })
     put-legal = vm-legal l s legal cpu z' k' refl put-fit
 
-  loaded-is : (o : Option Loaded) (d : Loaded) → is_none o ≡ false → o ≡ Some (unwrap_or o d)
+  loaded-is : (o : Option Loaded) (d : Loaded) → is_some o ≡ true → o ≡ Some (unwrap_or o d)
   loaded-is (Some w) d h = refl
   loaded-is None d h = cc
 
-  pub vcpu_put-keeps : refusal l.depth (vcpu_put x) false x ≡ None → LegalAlone l s legal (put_back vms None cpu s (with_rows l cpu None VcpuPut (vcpu_put x).changes (changed l.depth (vcpu_put x).changes x)))
+  pub vcpu_put-keeps : refusal l.depth (vcpu_put (reads l cpu None x)) false x ≡ None → LegalAlone l s legal (put_back vms None cpu s (with_rows l cpu None VcpuPut (vcpu_put (reads l cpu None x)).changes (changed l.depth (vcpu_put (reads l cpu None x)).changes x)))
   unfolding used_of put_back with_rows changed
   vcpu_put-keeps h =
-      let p = passed l.depth (vcpu_put x) false x h in
-      put-legal (load_of (s.cpu cpu)) (loaded-is (s.cpu cpu).loaded _ p.no_vm)
+      let p = passed l.depth (vcpu_put (reads l cpu None x)) false x h in
+      put-legal (load_of (s.cpu cpu)) (loaded-is (s.cpu cpu).loaded _ p.has_vm)

@@ -11,10 +11,10 @@ use Rattle.page_state.specs.declared.row.Row.{Row}
 use Rattle.page_state.specs.declared.row.Usage.TheVariants.{Plain, SharedPool, VmPool, InHand}
 use Rattle.page_state.specs.Entries.{advance}
 use Rattle.page_state.specs.Map.{Map, update, is_within}
-use Rattle.reference_model.specs.State.{Cpu, Slot, Contents, put_at, empty}
+use Rattle.reference_model.specs.model.State.{Cpu, Slot, Contents, put_at, empty}
 use Rattle.page_state.specs.Layouts.{Layout, is_memory, hyp_page}
-use Rattle.reference_model.specs.Sound.{IsOne, SlotsAgree, LoadsAgree, GuestsAgree, TicketsAgree, IsTicketOf, IsGuestOf, HasTicket, StageFits}
-use Rattle.reference_model.specs.Conditions.{Condition, outside, hosts, with_hyp, hyps, with_guest, guests, lent_back, HostFits, hyp_says, guest_condition, GuestFits, row_in, in_vm, is_inside, Legal}
+use Rattle.reference_model.specs.claims.Sound.{IsOne, SlotsAgree, LoadsAgree, GuestsAgree, TicketsAgree, IsTicketOf, IsGuestOf, HasTicket, StageFits}
+use Rattle.reference_model.specs.help.Conditions.{Condition, outside, hosts, with_hyp, hyps, with_guest, guests, lent_back, HostFits, hyp_says, guest_condition, GuestFits, row_in, in_vm, is_inside, Legal}
 use Rattle.page_state.proofs.Common.{both, eq-same, if-true, if-false}
 
 -- the conditions with others on a range, each told by its frame

@@ -8,10 +8,10 @@ use Rattle.descriptor.specs.declared.State.TheVariants.{Owned, SharedOwned, Shar
 use Rattle.page_state.specs.declared.entry.Entry.{Entry}
 use Rattle.page_state.specs.declared.entry.Entry.TheVariants.{Unmapped}
 use Rattle.page_state.specs.EntryTests.{maps_frame, state_eq, leaf, annotation}
-use Rattle.reference_model.specs.State.{Contents}
+use Rattle.reference_model.specs.model.State.{Contents}
 use Rattle.page_state.specs.Layouts.{Layout, hyp_page}
-use Rattle.reference_model.specs.Conditions.{Condition, outside, hosts, with_hyp, hyps, with_guest, guests, lent_back, HostFits, hyp_says, guest_condition, MapsFit, HeldFit}
-use Rattle.reference_model.specs.RunLaws.{LegalRows}
+use Rattle.reference_model.specs.help.Conditions.{Condition, outside, hosts, with_hyp, hyps, with_guest, guests, lent_back, HostFits, hyp_says, guest_condition, MapsFit, HeldFit}
+use Rattle.reference_model.specs.claims.RunLaws.{LegalRows}
 use Rattle.page_state.proofs.Cases.{by_lt}
 use Rattle.page_state.proofs.Common.{eq-same, eq-self, and-left, and-right}
 use Rattle.reference_model.proofs.conditions.Stands.{SharedStands, GuestsStand, row-stands}

@@ -9,16 +9,16 @@ use Rattle.page_state.specs.Entries.{advance}
 use Rattle.page_state.specs.EntryTests.{leaf}
 use Rattle.page_state.specs.Geometries.{pages_below}
 use Rattle.page_state.specs.Map.{update, is_within}
-use Rattle.reference_model.specs.State.{Contents, empty}
+use Rattle.reference_model.specs.model.State.{Contents, empty}
 use Rattle.page_state.specs.Layouts.{Layout, is_memory}
-use Rattle.reference_model.specs.GuestRules.{two_ranges}
+use Rattle.reference_model.specs.model.GuestRules.{two_ranges}
 use Rattle.reference_model.specs.declared.changes.Changes.{Changes}
-use Rattle.reference_model.specs.Changes.{same_cpu}
-use Rattle.reference_model.specs.Step.{guest_after, guest_need}
+use Rattle.reference_model.specs.model.Changes.{same_cpu}
+use Rattle.reference_model.specs.model.Step.{guest_after, guest_need}
 use Rattle.page_state.specs.Tables.{put, edited}
-use Rattle.reference_model.specs.ConditionChanges.{told_condition}
-use Rattle.reference_model.specs.RowChanges.{told_row}
-use Rattle.reference_model.specs.Conditions.{row_in, Condition, HostFits, hyp_says, guest_condition, GuestFits, IsMemoryLeaf, Legal, IsUsable, in_shared, in_vm, in_hand, one, is_inside, IsGood}
+use Rattle.reference_model.specs.help.ConditionChanges.{told_condition}
+use Rattle.reference_model.specs.help.RowChanges.{told_row}
+use Rattle.reference_model.specs.help.Conditions.{row_in, Condition, HostFits, hyp_says, guest_condition, GuestFits, IsMemoryLeaf, Legal, IsUsable, in_shared, in_vm, in_hand, one, is_inside, IsGood}
 use Rattle.page_state.proofs.Common.{both, if-true, if-false}
 use Rattle.coarse_trees.proofs.Stays.{edit_keeps_coarsest}
 use Rattle.reference_model.proofs.conditions.Moves.{moved_to, host-moved, moved-in, moved-out, moved-fact}

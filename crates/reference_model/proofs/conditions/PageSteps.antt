@@ -1,6 +1,6 @@
 -- The made steps that change pages of the host and of a guest keep the invariant.
 use Rattle.std.proofs.Common.{◌≤◌, length, ◌≡◌, ◌≢◌, ℕ, ◌+◌, ◌-◌, ◌<◌, refl, ap, sym, ◌∙◌, subst, arith, inl, inr}
-use Rattle.std.specs.Prelude.{Bool, true, false, not, ◌||◌, ◌==◌, ◌⊎◌, nat_le, Some, None, if◌then◌else◌}
+use Rattle.std.specs.Prelude.{Bool, true, false, not, ◌||◌, ◌==◌, ◌⊎◌, Some, None, if◌then◌else◌, ◌&&◌}
 use Rattle.std.proofs.lemmas.Bool.Decides.{nat_tests}
 use Rattle.descriptor.specs.declared.Prot.{Prot}
 use Rattle.descriptor.specs.declared.Prot.TheVariants.{RWX}
@@ -15,21 +15,22 @@ use Rattle.call_table.specs.declared.step.VmId.{VmId}
 use Rattle.page_state.specs.Entries.{advance}
 use Rattle.page_state.specs.EntryTests.{is_unmapped, is_in, is_free_page, leaf, entry_frame, with_state}
 use Rattle.page_state.specs.Geometries.{pages_below}
-use Rattle.reference_model.specs.GuestRules.{share_guest, unshare_guest, donate_guest, guest_share_host, guest_unshare_host, reclaim_page, is_guest, phase_eq, is_protected, two_ranges, are_good_pages, may_give}
+use Rattle.reference_model.specs.model.Rule.{reads}
+use Rattle.reference_model.specs.model.GuestRules.{share_guest, unshare_guest, donate_guest, guest_share_host, guest_unshare_host, reclaim_page, is_guest, phase_eq, is_protected, two_ranges, are_good_pages, may_give, is_alive}
 use Rattle.page_state.specs.Map.{is_within}
-use Rattle.reference_model.specs.State.{Guest, Contents, empty, live, dying}
+use Rattle.reference_model.specs.model.State.{Guest, Contents, empty, live, dying}
 use Rattle.page_state.specs.Layouts.{Layout, is_memory, is_good_range, is_good_page}
-use Rattle.reference_model.specs.Parts.{shared_and_guest}
-use Rattle.reference_model.specs.Rules.{names}
-use Rattle.reference_model.specs.Used.{Used, used_of}
-use Rattle.reference_model.specs.Step.{refusal, shared_need, guest_need}
-use Rattle.reference_model.specs.ConditionChanges.{told_condition}
-use Rattle.reference_model.specs.RowChanges.{told_row}
+use Rattle.reference_model.specs.model.Parts.{shared_and_guest, is_good_vm}
+use Rattle.reference_model.specs.model.Rules.{names}
+use Rattle.reference_model.specs.model.Used.{Used, used_of}
+use Rattle.reference_model.specs.model.Step.{refusal, shared_need, guest_need}
+use Rattle.reference_model.specs.help.ConditionChanges.{told_condition}
+use Rattle.reference_model.specs.help.RowChanges.{told_row}
 use Rattle.page_state.specs.declared.row.Usage.TheVariants.{Plain}
-use Rattle.reference_model.specs.Owner.{lent_at}
-use Rattle.reference_model.specs.Conditions.{row_in, Condition, hosts, with_guest, guests, lent_back, HostFits, hyp_says, guest_condition, IsGuestLeaf, IsMemoryLeaf, Legal, IsUsable, in_shared, in_vm, in_hand, is_inside, IsGood}
+use Rattle.reference_model.specs.model.Owner.{lent_at}
+use Rattle.reference_model.specs.help.Conditions.{row_in, Condition, hosts, with_guest, guests, lent_back, HostFits, hyp_says, guest_condition, IsGuestLeaf, IsMemoryLeaf, Legal, IsUsable, in_shared, in_vm, in_hand, is_inside, IsGood}
 use Rattle.reference_model.proofs.conditions.FrameMoves.{StepKept}
-use Rattle.page_state.proofs.Common.{eq-self, and-both, or-neither, not-false}
+use Rattle.page_state.proofs.Common.{eq-self, and-both, and-right, not-true}
 use Rattle.reference_model.proofs.conditions.GuestMoves.{only, g_of, guest-keeps}
 use Rattle.reference_model.proofs.conditions.OfLegal.{state_eq-same}
 use Rattle.reference_model.proofs.conditions.PageMoves.{PagesMove, advance-none, within-turned, turned-back, pages-move}
@@ -233,8 +234,8 @@ mapped-named l s legal v g t = elim (legal.maps.guest v g) [
 pub named-memory : (l : Layout) (s : Contents) (legal : Legal l s) (f v g : ℕ) (state : State) → legal.condition f ≡ guest_condition state v g → is_memory l f ≡ true
 named-memory l s legal f v g state h = sym (legal.of_layout.inside f) ∙ ap is_inside h ∙ gc-inside state v g
 
-pub good-page : (l : Layout) (g : ℕ) → not (is_good_page l g) ≡ false → g < pages_below l.depth
-good-page l g h = let t : is_good_page l g ≡ true = not-false (is_good_page l g) h in grind (arith, nat_tests)
+pub good-page : (l : Layout) (g : ℕ) → is_good_page l g ≡ true → g < pages_below l.depth
+good-page l g h = grind (arith, nat_tests)
 
 unmapped-entry : (e : Entry) → is_unmapped e ≡ true → e ≡ Unmapped
 unmapped-entry Unmapped h = refl
@@ -247,8 +248,8 @@ live-alive vm g h e = let t = (and-both (phase_eq g.phase live) (g.generation ==
 pub dying-alive : (vm : VmId) (g : Guest) → is_guest dying vm g ≡ true → g.phase ≢ empty
 dying-alive vm g h e = let t = (and-both (phase_eq g.phase dying) (g.generation == vm.generation) h).0 in let bad : false ≡ true = sym (ap (λ p. phase_eq p dying) e) ∙ t in cc
 
-pub stands-alive : (vm : VmId) (g : Guest) → not (is_guest live vm g || is_guest dying vm g) ≡ false → g.phase ≢ empty
-stands-alive vm g h = by_test (is_guest live vm g) (λ a. live-alive vm g a) (λ a. dying-alive vm g (second (is_guest live vm g) (is_guest dying vm g) a (not-false (is_guest live vm g || is_guest dying vm g) h)))
+pub stands-alive : (vm : VmId) (g : Guest) → is_alive vm g ≡ true → g.phase ≢ empty
+stands-alive vm g h = by_test (is_guest live vm g) (λ a. live-alive vm g a) (λ a. dying-alive vm g (second (is_guest live vm g) (is_guest dying vm g) a h))
   where
     second : (a b : Bool) → a ≡ false → a || b ≡ true → b ≡ true
     second false b h k = k
@@ -276,12 +277,12 @@ module _ (l : Layout) (s : Contents) (legal : Legal l s) (usable : IsUsable l) (
   frame_at g = entry_frame (entry_at g)
 
   -- free frames of the host and unmapped pages
-  free-before : (f g n : ℕ) (kind : Bool) → (s.guest v).phase ≢ empty → (not (is_good_range l f n) || not (are_good_pages l g n)) ≡ false → (kind || not (may_give x f g n)) ≡ false → SideBefore l s legal.condition v f g n apart
+  free-before : (f g n : ℕ) (kind : Bool) → (s.guest v).phase ≢ empty → (is_good_range l f n && are_good_pages l g n) ≡ true → (kind && may_give x f g n) ≡ true → SideBefore l s legal.condition v f g n apart
   unfolding used_of
-  free-before f g n kind alive args perm =
-      let a = or-neither (not (is_good_range l f n)) (not (are_good_pages l g n)) args in
-      let good = good-range l f n (not-false (is_good_range l f n) a.0) in
-      let t = both-all f g n (λ q. is_free_page (s.shared.host.map q)) (λ p. is_unmapped (entry_at p)) (not-false (may_give x f g n) (or-neither kind (not (may_give x f g n)) perm).1) in
+  free-before f g n kind alive args allowed =
+      let a = and-both (is_good_range l f n) (are_good_pages l g n) args in
+      let good = good-range l f n a.0 in
+      let t = both-all f g n (λ q. is_free_page (s.shared.host.map q)) (λ p. is_unmapped (entry_at p)) (and-right kind (may_give x f g n) allowed) in
       record {
         some = good.0;
         memory = good.1;
@@ -292,7 +293,7 @@ module _ (l : Layout) (s : Contents) (legal : Legal l s) (usable : IsUsable l) (
       }
 
   -- a page and the frame that it maps
-  named-before : (g : ℕ) (state : State) → (s.guest v).phase ≢ empty → not (is_good_page l g) ≡ false → Named s legal.condition v g state → SideBefore l s legal.condition v (frame_at g) g 1 (joined state)
+  named-before : (g : ℕ) (state : State) → (s.guest v).phase ≢ empty → is_good_page l g ≡ true → Named s legal.condition v g state → SideBefore l s legal.condition v (frame_at g) g 1 (joined state)
   named-before g state alive good at = record {
     some = omega arith;
     memory = one-frame (frame_at g) (λ q. is_memory l q ≡ true) (named-memory l s legal (frame_at g) v g state at.named);
@@ -302,8 +303,8 @@ module _ (l : Layout) (s : Contents) (legal : Legal l s) (usable : IsUsable l) (
     stood = one-page (frame_at g) g (λ q p. IsMemoryLeaf q state (entry_at p)) at.is_leaf;
   }
 
-  in-state : (g : ℕ) (state : State) → not (is_in state (entry_at g)) ≡ false → Named s legal.condition v g state
-  in-state g state t = in-named l s legal v g state (not-false (is_in state (entry_at g)) t)
+  in-state : (g : ℕ) (state : State) → is_in state (entry_at g) ≡ true → Named s legal.condition v g state
+  in-state g state t = in-named l s legal v g state t
 
   -- such frames and pages change, where the pools have the frames that are needed
   side-keeps : (step : Step) → names step ≡ shared_and_guest → {f : ℕ} {e : Entry} {g : ℕ} {e' : Entry} {n : ℕ} {old new : Side} → SideBefore l s legal.condition v f g n old → SideAfter v f e g e' n new
@@ -312,52 +313,52 @@ module _ (l : Layout) (s : Contents) (legal : Legal l s) (usable : IsUsable l) (
       guest-keeps l s legal usable cpu v step named (two_ranges f e g e' n) f n (λ q. side_condition new v (g + (q - f))) (pages-move l s legal usable cpu v f e g e' n (λ q. side_condition new v (g + (q - f))) (side-move l s legal slot b m) own) enough
 
   module _ (alive : (s.guest v).phase ≢ empty) where
-    pub donate_guest-keeps : (f g n : ℕ) → refusal l.depth (donate_guest l (Some v) x f g n) false x ≡ None → StepKept l s legal.condition shared_and_guest (Some v) cpu (DonateGuest f g n) (donate_guest l (Some v) x f g n).changes
+    pub donate_guest-keeps : (f g n : ℕ) → refusal l.depth (donate_guest f g n (reads l cpu (Some v) x)) false x ≡ None → StepKept l s legal.condition shared_and_guest (Some v) cpu (DonateGuest f g n) (donate_guest f g n (reads l cpu (Some v) x)).changes
     unfolding used_of
     donate_guest-keeps f g n h =
-        let p = passed l.depth (donate_guest l (Some v) x f g n) false x h in
-        side-keeps (DonateGuest f g n) refl {new = joined Owned} (free-before f g n (not (is_protected (s.guest v).kind)) alive p.invalid p.perm) (record {
+        let p = passed l.depth (donate_guest f g n (reads l cpu (Some v) x)) false x h in
+        side-keeps (DonateGuest f g n) refl {new = joined Owned} (free-before f g n (is_protected (s.guest v).kind) alive p.valid p.allowed) (record {
           stands = λ q w. (RWX, advance-leaf RWX f n q Owned w);
           host = λ q w. refl;
           told = λ d q w. refl;
           goes = λ d q w. refl;
         }) p.shared_enough p.guest_enough
 
-    pub share_guest-keeps : (f g : ℕ) (rights : Prot) (n : ℕ) → refusal l.depth (share_guest l x f g rights n) false x ≡ None → StepKept l s legal.condition shared_and_guest (Some v) cpu (ShareGuest f g rights n) (share_guest l x f g rights n).changes
+    pub share_guest-keeps : (f g : ℕ) (rights : Prot) (n : ℕ) → refusal l.depth (share_guest f g rights n (reads l cpu (Some v) x)) false x ≡ None → StepKept l s legal.condition shared_and_guest (Some v) cpu (ShareGuest f g rights n) (share_guest f g rights n (reads l cpu (Some v) x)).changes
     unfolding used_of
     share_guest-keeps f g rights n h =
-        let p = passed l.depth (share_guest l x f g rights n) false x h in
-        side-keeps (ShareGuest f g rights n) refl {new = joined SharedBorrowed} (free-before f g n (is_protected (s.guest v).kind) alive p.invalid p.perm) (record {
+        let p = passed l.depth (share_guest f g rights n (reads l cpu (Some v) x)) false x h in
+        side-keeps (ShareGuest f g rights n) refl {new = joined SharedBorrowed} (free-before f g n (not (is_protected (s.guest v).kind)) alive p.valid p.allowed) (record {
           stands = λ q w. (rights, advance-leaf rights f n q SharedBorrowed w);
           host = λ q w. advance-leaf RWX f n q SharedOwned w;
           told = λ d q w. refl;
           goes = λ d q w. refl;
         }) p.shared_enough p.guest_enough
 
-    pub guest_share_host-keeps : (g : ℕ) → refusal l.depth (guest_share_host l x g) false x ≡ None → StepKept l s legal.condition shared_and_guest (Some v) cpu (GuestShareHost g) (guest_share_host l x g).changes
+    pub guest_share_host-keeps : (g : ℕ) → refusal l.depth (guest_share_host g (reads l cpu (Some v) x)) false x ≡ None → StepKept l s legal.condition shared_and_guest (Some v) cpu (GuestShareHost g) (guest_share_host g (reads l cpu (Some v) x)).changes
     unfolding used_of
     guest_share_host-keeps g h =
-        let p = passed l.depth (guest_share_host l x g) false x h in
-        let at = in-state g Owned p.perm in
-        side-keeps (GuestShareHost g) refl {new = joined SharedOwned} (named-before g Owned alive p.invalid at) (record {
+        let p = passed l.depth (guest_share_host g (reads l cpu (Some v) x)) false x h in
+        let at = in-state g Owned p.allowed in
+        side-keeps (GuestShareHost g) refl {new = joined SharedOwned} (named-before g Owned alive p.valid at) (record {
           stands = one-stands (joined SharedOwned) (frame_at g) (with_state SharedOwned (entry_at g)) (at.is_leaf.0, ap (with_state SharedOwned) at.is_leaf.1);
           host = λ q w. advance-leaf RWX (frame_at g) 1 q SharedBorrowed w;
           told = λ d q w. ap (λ p. record { owner = record { 0 = 2 + v }; lent = Some (lent_at 0 p); usage = Plain }) (range-advance (frame_at g) 1 q w);
           goes = λ d q w. refl;
         }) p.shared_enough p.guest_enough
 
-    pub guest_unshare_host-keeps : (g : ℕ) → refusal l.depth (guest_unshare_host l (Some v) x g) false x ≡ None → StepKept l s legal.condition shared_and_guest (Some v) cpu (GuestUnshareHost g) (guest_unshare_host l (Some v) x g).changes
+    pub guest_unshare_host-keeps : (g : ℕ) → refusal l.depth (guest_unshare_host g (reads l cpu (Some v) x)) false x ≡ None → StepKept l s legal.condition shared_and_guest (Some v) cpu (GuestUnshareHost g) (guest_unshare_host g (reads l cpu (Some v) x)).changes
     unfolding used_of
     guest_unshare_host-keeps g h =
-        let p = passed l.depth (guest_unshare_host l (Some v) x g) false x h in
-        let at = in-state g SharedOwned p.perm in
-        side-keeps (GuestUnshareHost g) refl {new = joined Owned} (named-before g SharedOwned alive p.invalid at) (record { stands = one-stands (joined Owned) (frame_at g) (with_state Owned (entry_at g)) (at.is_leaf.0, ap (with_state Owned) at.is_leaf.1); host = λ q w. refl; told = λ d q w. refl; goes = λ d q w. refl }) p.shared_enough p.guest_enough
+        let p = passed l.depth (guest_unshare_host g (reads l cpu (Some v) x)) false x h in
+        let at = in-state g SharedOwned p.allowed in
+        side-keeps (GuestUnshareHost g) refl {new = joined Owned} (named-before g SharedOwned alive p.valid at) (record { stands = one-stands (joined Owned) (frame_at g) (with_state Owned (entry_at g)) (at.is_leaf.0, ap (with_state Owned) at.is_leaf.1); host = λ q w. refl; told = λ d q w. refl; goes = λ d q w. refl }) p.shared_enough p.guest_enough
 
-  pub unshare_guest-keeps : (vm : VmId) (g : ℕ) → refusal l.depth (unshare_guest l x vm g) false x ≡ None → StepKept l s legal.condition shared_and_guest (Some v) cpu (UnshareGuest vm g) (unshare_guest l x vm g).changes
+  pub unshare_guest-keeps : (vm : VmId) (g : ℕ) → refusal l.depth (unshare_guest vm g (reads l cpu (Some v) x)) false x ≡ None → StepKept l s legal.condition shared_and_guest (Some v) cpu (UnshareGuest vm g) (unshare_guest vm g (reads l cpu (Some v) x)).changes
   unfolding used_of
   unshare_guest-keeps vm g h =
-      let p = passed l.depth (unshare_guest l x vm g) false x h in
-      let b = named-before g SharedBorrowed (live-alive vm (s.guest v) (not-false (is_guest live vm (s.guest v)) p.no_vm)) (or-neither (nat_le 64 vm.slot) (not (is_good_page l g)) p.invalid).1 (in-state g SharedBorrowed p.perm) in
+      let p = passed l.depth (unshare_guest vm g (reads l cpu (Some v) x)) false x h in
+      let b = named-before g SharedBorrowed (live-alive vm (s.guest v) p.has_vm) (and-right (is_good_vm vm) (is_good_page l g) p.valid) (in-state g SharedBorrowed p.allowed) in
       side-keeps (UnshareGuest vm g) refl {new = apart} b (record { stands = λ q w. refl; host = λ q w. inr (advance-leaf RWX (frame_at g) 1 q Owned w); told = λ d q w. refl; goes = λ d q w. refl }) p.shared_enough p.guest_enough
 
   -- what the host gets back
@@ -365,10 +366,10 @@ module _ (l : Layout) (s : Contents) (legal : Legal l s) (usable : IsUsable l) (
   reclaimed true f g = record { stands = λ q w. refl; host = λ q w. inl refl; told = λ d q w. refl; goes = λ d q w. refl }
   reclaimed false f g = record { stands = λ q w. refl; host = λ q w. inr (advance-leaf RWX f 1 q Owned w); told = λ d q w. refl; goes = λ d q w. refl }
 
-  pub reclaim_page-keeps : (vm : VmId) (g : ℕ) → refusal l.depth (reclaim_page l x vm g) false x ≡ None → StepKept l s legal.condition shared_and_guest (Some v) cpu (ReclaimPage vm g) (reclaim_page l x vm g).changes
+  pub reclaim_page-keeps : (vm : VmId) (g : ℕ) → refusal l.depth (reclaim_page vm g (reads l cpu (Some v) x)) false x ≡ None → StepKept l s legal.condition shared_and_guest (Some v) cpu (ReclaimPage vm g) (reclaim_page vm g (reads l cpu (Some v) x)).changes
   unfolding used_of
   reclaim_page-keeps vm g h =
-      let p = passed l.depth (reclaim_page l x vm g) false x h in
-      let found = mapped-named l s legal v g p.perm in
-      let b = named-before g found.0 (dying-alive vm (s.guest v) (not-false (is_guest dying vm (s.guest v)) p.no_vm)) (or-neither (nat_le 64 vm.slot) (not (is_good_page l g)) p.invalid).1 found.1 in
+      let p = passed l.depth (reclaim_page vm g (reads l cpu (Some v) x)) false x h in
+      let found = mapped-named l s legal v g (not-true (is_unmapped (entry_at g)) p.allowed) in
+      let b = named-before g found.0 (dying-alive vm (s.guest v) p.has_vm) (and-right (is_good_vm vm) (is_good_page l g) p.valid) found.1 in
       side-keeps (ReclaimPage vm g) refl b (reclaimed (is_in Owned (entry_at g)) (frame_at g) g) p.shared_enough p.guest_enough

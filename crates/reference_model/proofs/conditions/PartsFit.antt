@@ -12,21 +12,21 @@ use Rattle.page_state.specs.Map.{is_within}
 use Rattle.page_state.specs.Regions.{end_of}
 use Rattle.reference_model.specs.declared.changes.Changes.{Changes}
 use Rattle.reference_model.specs.declared.changes.Loaded.{Loaded}
-use Rattle.reference_model.specs.declared.changes.Stage.TheVariants.{Booked as booked, Installed as installed, ClosingVm as closing_vm, Finished as finished}
+use Rattle.reference_model.specs.declared.changes.Stage.TheVariants.{Booked as booked, Installed as installed, Closing as closing_vm, Finished as finished}
 use Rattle.reference_model.specs.declared.changes.Ticket.{Ticket}
-use Rattle.reference_model.specs.Bounds.{Bounded}
-use Rattle.reference_model.specs.ChangeLaws.{PartsFit, PartChangesFit}
-use Rattle.reference_model.specs.Conditions.{hyps, Legal, IsUsable, one, in_vm, guest_uses}
-use Rattle.reference_model.specs.GuestRules.{ticket_vm, guest_table_count, is_guest}
-use Rattle.reference_model.specs.Parts.{lacks_slot, has_stage}
-use Rattle.reference_model.specs.Rule.{Rule}
-use Rattle.reference_model.specs.Rules.{rule, names, guest_slot}
-use Rattle.reference_model.specs.SharedRules.{hand_of}
-use Rattle.reference_model.specs.State.{Reference, empty, live, dying, vacant}
-use Rattle.reference_model.specs.Step.{first_test}
-use Rattle.reference_model.specs.Used.{Used, used_of}
-use Rattle.reference_model.specs.VmRules.{vacant_slot, load_of, stand_eq}
-use Rattle.page_state.proofs.Common.{or-neither, not-false}
+use Rattle.reference_model.specs.claims.Bounds.{Bounded}
+use Rattle.reference_model.specs.help.ChangeLaws.{PartsFit, PartChangesFit}
+use Rattle.reference_model.specs.help.Conditions.{hyps, Legal, IsUsable, one, in_vm, guest_uses}
+use Rattle.reference_model.specs.model.GuestRules.{ticket_vm, guest_table_count, is_guest}
+use Rattle.reference_model.specs.model.Parts.{lacks_slot, has_stage, is_good_vm}
+use Rattle.reference_model.specs.model.Rule.{Rule}
+use Rattle.reference_model.specs.model.Rules.{rule, names, guest_slot}
+use Rattle.reference_model.specs.model.SharedRules.{hand_of}
+use Rattle.reference_model.specs.model.State.{Reference, empty, live, dying, vacant}
+use Rattle.reference_model.specs.model.Step.{first_test}
+use Rattle.reference_model.specs.model.Used.{Used, used_of}
+use Rattle.reference_model.specs.model.VmRules.{vacant_slot, load_of, stand_eq}
+use Rattle.page_state.proofs.Common.{and-both}
 use Rattle.reference_model.proofs.Answers.{told-ok}
 use Rattle.reference_model.proofs.ChangesUsed.{lacking}
 use Rattle.reference_model.proofs.conditions.Bounding.{hand-few}
@@ -39,7 +39,7 @@ use Rattle.reference_model.proofs.conditions.Tests.{Tested, tested}
 use Rattle.reference_model.proofs.conditions.VmSteps.{has_stage-is, first-spec, some-is}
 
 -- what a CPU has loaded, where it has something loaded
-load-is : (o : Option Loaded) (d : Loaded) → is_none o ≡ false → o ≡ Some (unwrap_or o d)
+load-is : (o : Option Loaded) (d : Loaded) → is_some o ≡ true → o ≡ Some (unwrap_or o d)
 load-is (Some w) d h = refl
 load-is None d h = cc
 
@@ -60,20 +60,20 @@ module _ (l : Layout) (accepted : IsAcceptedLayout l) (s : Reference) (legal : L
   pass : (slot : Option ℕ) (step : Step) → first_test (r_at slot step) (lacks_slot (names step) slot) ≡ None → Tested (r_at slot step) (lacks_slot (names step) slot)
   pass slot step h = tested (r_at slot step) (lacks_slot (names step) slot) h
 
-  below : (m n : ℕ) → nat_le m n ≡ false → n < m
+  below : (m n : ℕ) → nat_lt n m ≡ true → n < m
   below m n h = grind (arith, nat_tests)
 
-  at-most : (m n : ℕ) → nat_lt m n ≡ false → n ≤ m
+  at-most : (m n : ℕ) → nat_le n m ≡ true → n ≤ m
   at-most m n h = grind (arith, nat_tests)
 
   -- the CPU's hand has 1 to 512 frames, which are low
-  hand-count : is_none (s.contents.cpu cpu).hand ≡ false → 1 ≤ (hand_of (s.contents.cpu cpu)).count
+  hand-count : is_some (s.contents.cpu cpu).hand ≡ true → 1 ≤ (hand_of (s.contents.cpu cpu)).count
   hand-count some = hand-some (s.contents.cpu cpu).hand some (legal.slots.some_hand cpu)
 
-  hand-most : is_none (s.contents.cpu cpu).hand ≡ false → (hand_of (s.contents.cpu cpu)).count ≤ 512
+  hand-most : is_some (s.contents.cpu cpu).hand ≡ true → (hand_of (s.contents.cpu cpu)).count ≤ 512
   hand-most some = hand-few (s.contents.cpu cpu).hand some (bounded.hands cpu)
 
-  hand-low : is_none (s.contents.cpu cpu).hand ≡ false → end_of (hand_of (s.contents.cpu cpu)) ≤ 2 ^ 36
+  hand-low : is_some (s.contents.cpu cpu).hand ≡ true → end_of (hand_of (s.contents.cpu cpu)) ≤ 2 ^ 36
   hand-low some =
       let hand = hand_of (s.contents.cpu cpu) in
       let all = memory-of legal (hyps (InHand cpu)) refl hand.first.0 hand.count (hand-was legal cpu some) in
@@ -82,7 +82,7 @@ module _ (l : Layout) (accepted : IsAcceptedLayout l) (s : Reference) (legal : L
       omega arith
 
   -- no guest holds a frame of the hand
-  hand-apart : (v : ℕ) → is_none (s.contents.cpu cpu).hand ≡ false → (f : ℕ) → is_within (hand_of (s.contents.cpu cpu)).first.0 (hand_of (s.contents.cpu cpu)).count f ≡ true → guest_uses l.depth (s.contents.guest v) f ≡ 0
+  hand-apart : (v : ℕ) → is_some (s.contents.cpu cpu).hand ≡ true → (f : ℕ) → is_within (hand_of (s.contents.cpu cpu)).first.0 (hand_of (s.contents.cpu cpu)).count f ≡ true → guest_uses l.depth (s.contents.guest v) f ≡ 0
   hand-apart v some f w = legal.held.vm v f ∙ ap (λ c. one (in_vm v c)) (hand-was legal cpu some f w)
 
   -- the CPU's ticket is of a slot of the 64, of its generation
@@ -103,7 +103,7 @@ module _ (l : Layout) (accepted : IsAcceptedLayout l) (s : Reference) (legal : L
   released false false p q h = cc
 
   -- the vCPU that the CPU has loaded is one of a slot's
-  loaded-low : is_none (s.contents.cpu cpu).loaded ≡ false → ((load_of (s.contents.cpu cpu)).vm.slot < 64) × ((load_of (s.contents.cpu cpu)).vcpu < 8)
+  loaded-low : is_some (s.contents.cpu cpu).loaded ≡ true → ((load_of (s.contents.cpu cpu)).vm.slot < 64) × ((load_of (s.contents.cpu cpu)).vcpu < 8)
   loaded-low some =
       let k = load_of (s.contents.cpu cpu) in
       let has : (s.contents.cpu cpu).loaded ≡ Some k = load-is (s.contents.cpu cpu).loaded _ some in
@@ -114,21 +114,21 @@ module _ (l : Layout) (accepted : IsAcceptedLayout l) (s : Reference) (legal : L
   each : (step : Step) (o : Option ℕ) → o ≡ guest_slot (s.contents.cpu cpu) step → FitsAt o step
   unfolding rule used_of
   each (ShareGuest f g p n) (Some v) e h = record { slot = tt; mapped = λ k. (loaded-at l usable s.contents legal cpu known v (sym e)).1; part = tt }
-  each (UnshareGuest vm g) (Some v) e h = record { slot = tt; mapped = λ k. live-alive vm (s.contents.guest v) (not-false (is_guest live vm (s.contents.guest v)) (pass (Some v) (UnshareGuest vm g) h).no_vm); part = tt }
+  each (UnshareGuest vm g) (Some v) e h = record { slot = tt; mapped = λ k. live-alive vm (s.contents.guest v) (pass (Some v) (UnshareGuest vm g) h).has_vm; part = tt }
   each (DonateGuest f g n) (Some v) e h = record { slot = tt; mapped = λ k. (loaded-at l usable s.contents legal cpu known v (sym e)).1; part = tt }
   each (GuestShareHost g) (Some v) e h = record { slot = tt; mapped = λ k. (loaded-at l usable s.contents legal cpu known v (sym e)).1; part = tt }
   each (GuestUnshareHost g) (Some v) e h = record { slot = tt; mapped = λ k. (loaded-at l usable s.contents legal cpu known v (sym e)).1; part = tt }
   each (GuestRelax g p) (Some v) e h = record { slot = tt; mapped = λ k. (loaded-at l usable s.contents legal cpu known v (sym e)).1; part = tt }
   each Install (Some v) e h =
-      let some = (pass (Some v) Install h).perm in
+      let some = (pass (Some v) Install h).allowed in
       let a = staged-at l usable s.contents legal cpu known booked v (sym e) in
       let fits = ticket-fits s.contents legal.slots cpu v booked a.1.0 a.1.1 a.1.2 a.1.3 in
       record { slot = tt; mapped = λ k. cc; part = record { vacant = fits.1; some = hand-count some; few = hand-most some; low = hand-low some } }
   each (Topup vm) (Some v) e h =
       let p = pass (Some v) (Topup vm) h in
-      let t = or-neither (is_none (s.contents.cpu cpu).hand) (nat_lt 512 (guest_table_count l (s.contents.guest v).tree + length (s.contents.guest v).free + (hand_of (s.contents.cpu cpu)).count)) p.perm in
-      record { slot = tt; mapped = λ k. cc; part = record { made = stands-alive vm (s.contents.guest v) p.no_vm; apart = hand-apart v t.0; few = at-most 512 _ t.1; low = hand-low t.0 } }
-  each (ReclaimPage vm g) (Some v) e h = record { slot = tt; mapped = λ k. dying-alive vm (s.contents.guest v) (not-false (is_guest dying vm (s.contents.guest v)) (pass (Some v) (ReclaimPage vm g) h).no_vm); part = tt }
+      let t = and-both (is_some (s.contents.cpu cpu).hand) (nat_le (guest_table_count l (s.contents.guest v).tree + length (s.contents.guest v).free + (hand_of (s.contents.cpu cpu)).count) 512) p.allowed in
+      record { slot = tt; mapped = λ k. cc; part = record { made = stands-alive vm (s.contents.guest v) p.has_vm; apart = hand-apart v t.0; few = at-most 512 _ t.1; low = hand-low t.0 } }
+  each (ReclaimPage vm g) (Some v) e h = record { slot = tt; mapped = λ k. dying-alive vm (s.contents.guest v) (pass (Some v) (ReclaimPage vm g) h).has_vm; part = tt }
   each (ReclaimPool vm) (Some v) e h = record { slot = tt; mapped = λ k. cc; part = tt }
   each FinishGuest (Some v) e h = record { slot = tt; mapped = λ k. cc; part = tt }
   each (GuestTranslate vm g) (Some v) e h = record { slot = tt; mapped = λ k. cc; part = tt }
@@ -137,16 +137,16 @@ module _ (l : Layout) (accepted : IsAcceptedLayout l) (s : Reference) (legal : L
       let fits = ticket-fits s.contents legal.slots cpu v closing_vm a.1.0 a.1.1 a.1.2 a.1.3 in
       record { slot = tt; mapped = λ k. cc; part = λ k. (let bad : live ≡ empty = sym fits.1 ∙ k in cc) }
   each (VmReserve kind vcpus) o e h =
-      let busy = or-neither (is_some (s.contents.cpu cpu).ticket) (is_none (vacant_slot s.contents.vms)) (pass o (VmReserve kind vcpus) h).busy in
-      let found = first-spec 0 64 (unwrap_or (vacant_slot s.contents.vms) 0) (λ u. stand_eq (s.contents.vms.slot u).stand vacant) (some-is (vacant_slot s.contents.vms) busy.1) in
+      let ready = and-both (is_none (s.contents.cpu cpu).ticket) (is_some (vacant_slot s.contents.vms)) (pass o (VmReserve kind vcpus) h).ready in
+      let found = first-spec 0 64 (unwrap_or (vacant_slot s.contents.vms) 0) (λ u. stand_eq (s.contents.vms.slot u).stand vacant) (some-is (vacant_slot s.contents.vms) ready.1) in
       let low = found.1 in
       record { slot = omega arith; mapped = λ k. cc; part = tt }
-  each VmOpen o e h = let t = has_stage-is installed (s.contents.cpu cpu) (not-false (has_stage installed (s.contents.cpu cpu)) (pass o VmOpen h).no_vm) in record { slot = ticket-low t.0 t.1; mapped = λ k. cc; part = tt }
-  each (VcpuLoad vm i) o e h = let t = or-neither (nat_le 64 vm.slot) (nat_le 8 i) (pass o (VcpuLoad vm i) h).invalid in record { slot = (below 64 vm.slot t.0, below 8 i t.1); mapped = λ k. cc; part = tt }
-  each VcpuPut o e h = record { slot = loaded-low (pass o VcpuPut h).no_vm; mapped = λ k. cc; part = tt }
-  each (Teardown vm) o e h = record { slot = below 64 vm.slot (pass o (Teardown vm) h).invalid; mapped = λ k. cc; part = tt }
+  each VmOpen o e h = let t = has_stage-is installed (s.contents.cpu cpu) (pass o VmOpen h).has_vm in record { slot = ticket-low t.0 t.1; mapped = λ k. cc; part = tt }
+  each (VcpuLoad vm i) o e h = let t = and-both (is_good_vm vm) (nat_lt i 8) (pass o (VcpuLoad vm i) h).valid in record { slot = (below 64 vm.slot t.0, below 8 i t.1); mapped = λ k. cc; part = tt }
+  each VcpuPut o e h = record { slot = loaded-low (pass o VcpuPut h).has_vm; mapped = λ k. cc; part = tt }
+  each (Teardown vm) o e h = record { slot = below 64 vm.slot (pass o (Teardown vm) h).valid; mapped = λ k. cc; part = tt }
   each VmRelease o e h =
-      let t = released (has_stage booked (s.contents.cpu cpu)) (has_stage finished (s.contents.cpu cpu)) refl refl (not-false (has_stage booked (s.contents.cpu cpu) || has_stage finished (s.contents.cpu cpu)) (pass o VmRelease h).no_vm) in
+      let t = released (has_stage booked (s.contents.cpu cpu)) (has_stage finished (s.contents.cpu cpu)) refl refl (pass o VmRelease h).has_vm in
       record { slot = (ticket-low t.0 t.1, ticket-few t.0 t.1); mapped = λ k. cc; part = tt }
   each (ShareHyp f) o e h = record { slot = tt; mapped = λ k. cc; part = tt }
   each (UnshareHyp f) o e h = record { slot = tt; mapped = λ k. cc; part = tt }

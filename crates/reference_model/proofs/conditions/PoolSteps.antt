@@ -4,9 +4,10 @@ use Rattle.std.specs.Prelude.{Bool, true, false, not, ◌&&◌, ◌==◌, nat_lt
 use Rattle.std.proofs.lemmas.Bool.Decides.{nat_tests}
 use Rattle.descriptor.specs.declared.State.{State}
 use Rattle.descriptor.specs.declared.State.TheVariants.{Owned, SharedOwned, SharedBorrowed}
+use Rattle.reference_model.specs.model.Rule.{reads}
 use Rattle.reference_model.specs.declared.changes.Ticket.{Ticket}
 use Rattle.reference_model.specs.declared.changes.Stage.{Stage}
-use Rattle.reference_model.specs.declared.changes.Stage.TheVariants.{DyingVm as dying_vm, Finished as finished}
+use Rattle.reference_model.specs.declared.changes.Stage.TheVariants.{Dying as dying_vm, Finished as finished}
 use Rattle.page_state.specs.declared.entry.Entry.{Entry}
 use Rattle.page_state.specs.declared.entry.Entry.TheVariants.{Unmapped}
 use Rattle.page_state.specs.declared.row.Usage.TheVariants.{VmPool}
@@ -18,29 +19,29 @@ use Rattle.page_state.specs.Trees.{frames_from, root_tree, Block, Tree, Pool}
 use Rattle.page_state.specs.Counts.{is_one, frame_count}
 use Rattle.page_state.specs.EntryTests.{is_unmapped, leaf}
 use Rattle.page_state.specs.Geometries.{block_pages, pages_below}
-use Rattle.reference_model.specs.GuestRules.{moved_on, reclaim_pool, finish_guest, is_guest, least}
+use Rattle.reference_model.specs.model.GuestRules.{moved_on, reclaim_pool, finish_guest, is_guest, least}
 use Rattle.call_table.specs.declared.reply.Value.{Value}
 use Rattle.call_table.specs.declared.reply.Value.TheVariants.{Nothing, Frame as FrameOf}
 use Rattle.reference_model.specs.declared.changes.CpuChange.{CpuChange}
 use Rattle.reference_model.specs.declared.changes.GuestChange.{GuestChange}
 use Rattle.reference_model.specs.declared.changes.GuestChange.TheVariants.{LoseLowest, Empty}
-use Rattle.reference_model.specs.Changes.{cpu_by, same_cpu, rest}
+use Rattle.reference_model.specs.model.Changes.{cpu_by, same_cpu, rest}
 use Rattle.page_state.specs.Map.{is_within}
 use Rattle.page_state.specs.Search.{all_below}
-use Rattle.reference_model.specs.State.{Guest, Contents, empty, dying, no_guest}
+use Rattle.reference_model.specs.model.State.{Guest, Contents, empty, dying, no_guest}
 use Rattle.page_state.specs.Layouts.{Layout}
-use Rattle.reference_model.specs.Owner.{is_frame}
-use Rattle.reference_model.specs.Parts.{shared_and_guest}
-use Rattle.reference_model.specs.Used.{Used, used_of}
-use Rattle.reference_model.specs.Step.{refusal, guest_after}
+use Rattle.reference_model.specs.model.Owner.{is_frame}
+use Rattle.reference_model.specs.model.Parts.{shared_and_guest}
+use Rattle.reference_model.specs.model.Used.{Used, used_of}
+use Rattle.reference_model.specs.model.Step.{refusal, guest_after}
 use Rattle.page_state.specs.Tables.{needs, freed, returned, edited}
 use Rattle.page_state.specs.Blocks.{is_one_word}
 use Rattle.coarse_trees.proofs.Stays.{none_is_coarsest}
 use Rattle.reference_model.proofs.conditions.Conserved.{empty-one_word}
-use Rattle.reference_model.specs.Conditions.{Condition, hosts, hyps, guest_condition, GuestFits, Legal, IsUsable, in_vm, in_hand, one, table_uses, guest_uses, IsGood}
+use Rattle.reference_model.specs.help.Conditions.{Condition, hosts, hyps, guest_condition, GuestFits, Legal, IsUsable, in_vm, in_hand, one, table_uses, guest_uses, IsGood}
 use Rattle.page_state.proofs.Blocks.{all_from-each, empty_means, is_unmapped-same}
 use Rattle.page_state.proofs.Cases.{by_eq, by_lt}
-use Rattle.page_state.proofs.Common.{both, eq-same, eq-self, eq-made, if-true, if-false, and-both, or-neither, not-false}
+use Rattle.page_state.proofs.Common.{both, eq-same, eq-self, eq-made, if-true, if-false, and-both}
 use Rattle.page_state.proofs.Counts.{count_next}
 use Rattle.page_state.proofs.BlockTests.{block-same}
 use Rattle.reference_model.proofs.Frames.{count_blocks-none}
@@ -142,11 +143,11 @@ bare-tree depth t coarse bare b off = go (t.table b) refl
 
 -- pools
 
-no-pool : (free : Pool) → nat_lt 0 (length free) ≡ false → free ≡ []
+no-pool : (free : Pool) → (length free == 0) ≡ true → free ≡ []
 no-pool [] h = refl
-no-pool (g ∷ gs) h = absurd (let z : nat_lt 0 (length (g ∷ gs)) ≡ true = grind (arith, nat_tests) in let w : true ≡ false = sym z ∙ h in cc)
+no-pool (g ∷ gs) h = absurd (let z : (length (g ∷ gs) == 0) ≡ false = grind (arith, nat_tests) in let w : false ≡ true = sym z ∙ h in cc)
 
-pool-some : (free : Pool) → (length free == 0) ≡ false → free ≡ least free ∷ rest free
+pool-some : (free : Pool) → nat_lt 0 (length free) ≡ true → free ≡ least free ∷ rest free
 pool-some [] h = cc
 pool-some (f ∷ fs) h = refl
 
@@ -200,20 +201,20 @@ module _ (l : Layout) (s : Contents) (legal : Legal l s) (usable : IsUsable l) (
     pool-has p q state = has-kept hosts f 1 legal.condition refl v p q state
 
   -- the least free frame of the guest's pool
-  pub least-was : (length (s.guest v).free == 0) ≡ false → legal.condition (least (s.guest v).free) ≡ hyps (VmPool v)
+  pub least-was : nat_lt 0 (length (s.guest v).free) ≡ true → legal.condition (least (s.guest v).free) ≡ hyps (VmPool v)
   least-was some =
       let f = least (s.guest v).free in
       let next : frame_count f (s.guest v).free ≡ is_one f f + frame_count f (rest (s.guest v).free) = ap (frame_count f) (pool-some (s.guest v).free some) ∙ count_next f f (rest (s.guest v).free) in
       let mine : is_one f f ≡ 1 = ap one (eq-self f) in
       in_vm-hyps v (legal.condition f) (one-some (in_vm v (legal.condition f)) (guest_uses l.depth (s.guest v) f) (legal.held.vm v f) (omega arith))
 
-  reclaim_pool-move : (vm : VmId) → Passed l.depth (reclaim_pool l x vm) false x → GuestMove l s legal.condition cpu v (reclaim_pool l x vm).changes (least (s.guest v).free) 1 (always hosts)
+  reclaim_pool-move : (vm : VmId) → Passed l.depth (reclaim_pool vm (reads l cpu (Some v) x)) false x → GuestMove l s legal.condition cpu v (reclaim_pool vm (reads l cpu (Some v) x)).changes (least (s.guest v).free) 1 (always hosts)
   unfolding used_of guest_after edited freed needs returned
   reclaim_pool-move vm p =
       let f = least (s.guest v).free in
-      let alive = dying-alive vm (s.guest v) (not-false (is_guest dying vm (s.guest v)) p.no_vm) in
-      let next : (q : ℕ) → frame_count q (s.guest v).free ≡ is_one f q + frame_count q (rest (s.guest v).free) = λ q. ap (frame_count q) (pool-some (s.guest v).free p.perm) ∙ count_next q f (rest (s.guest v).free) in
-      let was = least-was p.perm in
+      let alive = dying-alive vm (s.guest v) p.has_vm in
+      let next : (q : ℕ) → frame_count q (s.guest v).free ≡ is_one f q + frame_count q (rest (s.guest v).free) = λ q. ap (frame_count q) (pool-some (s.guest v).free p.allowed) ∙ count_next q f (rest (s.guest v).free) in
+      let was = least-was p.allowed in
       record {
         frames = root-frames f was LoseLowest same_cpu (FrameOf (record { 0 = f })) refl;
         only_new = λ q w. refl;
@@ -224,7 +225,7 @@ module _ (l : Layout) (s : Contents) (legal : Legal l s) (usable : IsUsable l) (
         coarse = legal.trees.guest v;
         blank = λ k. absurd (alive k);
         rooted = legal.guest_parts.rooted v;
-        slots = slots-stay legal cpu v (new_guest l s v (reclaim_pool l x vm).changes) (new_cpu s cpu (reclaim_pool l x vm).changes) refl refl refl refl refl (legal.slots.some_hand cpu);
+        slots = slots-stay legal cpu v (new_guest l s v (reclaim_pool vm (reads l cpu (Some v) x)).changes) (new_cpu s cpu (reclaim_pool vm (reads l cpu (Some v) x)).changes) refl refl refl refl refl (legal.slots.some_hand cpu);
       }
     where
       pool-held : (f : ℕ) → legal.condition f ≡ hyps (VmPool v) → (q : ℕ) → frame_count q (s.guest v).free ≡ is_one f q + frame_count q (rest (s.guest v).free) → is_one f f ≡ 1 → frame_count q (rest (s.guest v).free) + table_uses l.depth (s.guest v).tree q ≡ one (in_vm v (moved_to (always hosts) f 1 legal.condition q))
@@ -243,11 +244,11 @@ module _ (l : Layout) (s : Contents) (legal : Legal l s) (usable : IsUsable l) (
             omega arith
       ]
 
-  pub reclaim_pool-keeps : (vm : VmId) → refusal l.depth (reclaim_pool l x vm) false x ≡ None → StepKept l s legal.condition shared_and_guest (Some v) cpu (ReclaimPool vm) (reclaim_pool l x vm).changes
+  pub reclaim_pool-keeps : (vm : VmId) → refusal l.depth (reclaim_pool vm (reads l cpu (Some v) x)) false x ≡ None → StepKept l s legal.condition shared_and_guest (Some v) cpu (ReclaimPool vm) (reclaim_pool vm (reads l cpu (Some v) x)).changes
   unfolding used_of
   reclaim_pool-keeps vm h =
-      let p = passed l.depth (reclaim_pool l x vm) false x h in
-      guest-keeps l s legal usable cpu v (ReclaimPool vm) refl (reclaim_pool l x vm).changes (least (s.guest v).free) 1 (always hosts) (reclaim_pool-move vm p) p.shared_enough
+      let p = passed l.depth (reclaim_pool vm (reads l cpu (Some v) x)) false x h in
+      guest-keeps l s legal usable cpu v (ReclaimPool vm) refl (reclaim_pool vm (reads l cpu (Some v) x)).changes (least (s.guest v).free) 1 (always hosts) (reclaim_pool-move vm p) p.shared_enough
 
   -- finish_guest: the root goes back
 
@@ -257,26 +258,26 @@ module _ (l : Layout) (s : Contents) (legal : Legal l s) (usable : IsUsable l) (
     pub uses : (q : ℕ) → guest_uses l.depth (s.guest v) q ≡ is_one f q
     pub was : legal.condition f ≡ hyps (VmPool v)
 
-  pub root-left : (s.guest v).phase ≡ dying → (finish_guest l x).perm ≡ false → IsRootLeft (unwrap_or ((s.guest v).tree.table (l.depth + 1, 0)) 0)
+  pub root-left : (s.guest v).phase ≡ dying → (finish_guest (reads l cpu (Some v) x)).allowed.passes ≡ true → IsRootLeft (unwrap_or ((s.guest v).tree.table (l.depth + 1, 0)) 0)
   unfolding used_of
-  root-left here perm =
+  root-left here allowed =
       let f = unwrap_or ((s.guest v).tree.table (l.depth + 1, 0)) 0 in
       let alive : (s.guest v).phase ≢ empty = λ e. (let z : dying ≡ empty = sym here ∙ e in cc) in
       let root = legal.guest_parts.rooted v alive in
       let is : f ≡ root.0 = ap (λ o. unwrap_or o 0) root.1 in
-      let tests = or-neither (not (all_below (pages_below l.depth) (λ g. is_unmapped ((s.guest v).tree.map g)))) (nat_lt 0 (length (s.guest v).free)) perm in
-      let bare : (q : ℕ) → q < pages_below l.depth → (s.guest v).tree.map q ≡ Unmapped = λ q less. is_unmapped-same ((s.guest v).tree.map q) (all_from-each 0 (pages_below l.depth) (λ g. is_unmapped ((s.guest v).tree.map g)) (not-false (all_below (pages_below l.depth) (λ g. is_unmapped ((s.guest v).tree.map g))) tests.0) q (omega arith) (omega arith)) in
+      let tests = and-both (all_below (pages_below l.depth) (λ g. is_unmapped ((s.guest v).tree.map g))) (length (s.guest v).free == 0) allowed in
+      let bare : (q : ℕ) → q < pages_below l.depth → (s.guest v).tree.map q ≡ Unmapped = λ q less. is_unmapped-same ((s.guest v).tree.map q) (all_from-each 0 (pages_below l.depth) (λ g. is_unmapped ((s.guest v).tree.map g)) tests.0 q (omega arith) (omega arith)) in
       let uses : (q : ℕ) → guest_uses l.depth (s.guest v) q ≡ is_one f q = λ q. empty-uses l.depth q f root.0 (s.guest v) is (no-pool (s.guest v).free tests.1) (bare-tree l.depth (s.guest v).tree (legal.trees.guest v) bare) root.1 in
       let mine : is_one f f ≡ 1 = ap one (eq-self f) in
       let n = uses f in
       record { bare = bare; uses = uses; was = in_vm-hyps v (legal.condition f) (one-some (in_vm v (legal.condition f)) (guest_uses l.depth (s.guest v) f) (legal.held.vm v f) (omega arith)) }
 
-  finish_guest-move : (t : Ticket) → (s.cpu cpu).ticket ≡ Some t → t.vm.slot ≡ v → t.stage ≡ dying_vm → Passed l.depth (finish_guest l x) false x → GuestMove l s legal.condition cpu v (finish_guest l x).changes (unwrap_or ((s.guest v).tree.table (l.depth + 1, 0)) 0) 1 (always hosts)
+  finish_guest-move : (t : Ticket) → (s.cpu cpu).ticket ≡ Some t → t.vm.slot ≡ v → t.stage ≡ dying_vm → Passed l.depth (finish_guest (reads l cpu (Some v) x)) false x → GuestMove l s legal.condition cpu v (finish_guest (reads l cpu (Some v) x)).changes (unwrap_or ((s.guest v).tree.table (l.depth + 1, 0)) 0) 1 (always hosts)
   unfolding used_of guest_after edited freed needs returned
   finish_guest-move t has at-slot stage p =
       let f = unwrap_or ((s.guest v).tree.table (l.depth + 1, 0)) 0 in
       let here = ticket-fits s legal.slots cpu v dying_vm t has at-slot stage in
-      let left = root-left here.1 p.perm in
+      let left = root-left here.1 p.allowed in
       record {
         frames = root-frames f left.was Empty (moved_on finished (s.cpu cpu)) Nothing refl;
         only_new = λ q w. refl;
@@ -287,7 +288,7 @@ module _ (l : Layout) (s : Contents) (legal : Legal l s) (usable : IsUsable l) (
         coarse = none_is_coarsest l.depth;
         blank = λ k. refl;
         rooted = λ k. absurd (k refl);
-        slots = slots-turn s legal.slots cpu v t (new_guest l s v (finish_guest l x).changes) (new_cpu s cpu (finish_guest l x).changes) finished has at-slot (here.0, refl) (λ k. absurd (k refl)) refl (turned (s.cpu cpu).ticket t finished has) (legal.slots.some_hand cpu);
+        slots = slots-turn s legal.slots cpu v t (new_guest l s v (finish_guest (reads l cpu (Some v) x)).changes) (new_cpu s cpu (finish_guest (reads l cpu (Some v) x)).changes) finished has at-slot (here.0, refl) (λ k. absurd (k refl)) refl (turned (s.cpu cpu).ticket t finished has) (legal.slots.some_hand cpu);
       }
     where
       none-left : (f q : ℕ) → guest_uses l.depth (s.guest v) q ≡ is_one f q → one (in_vm v (moved_to (always hosts) f 1 legal.condition q)) ≡ 0
@@ -309,8 +310,8 @@ module _ (l : Layout) (s : Contents) (legal : Legal l s) (usable : IsUsable l) (
       blank-uses : (q : ℕ) → guest_uses l.depth no_guest q ≡ 0
       blank-uses q = let e = no-uses l.depth q in omega arith
 
-  pub finish_guest-keeps : (t : Ticket) → (s.cpu cpu).ticket ≡ Some t → t.vm.slot ≡ v → t.stage ≡ dying_vm → refusal l.depth (finish_guest l x) false x ≡ None → StepKept l s legal.condition shared_and_guest (Some v) cpu FinishGuest (finish_guest l x).changes
+  pub finish_guest-keeps : (t : Ticket) → (s.cpu cpu).ticket ≡ Some t → t.vm.slot ≡ v → t.stage ≡ dying_vm → refusal l.depth (finish_guest (reads l cpu (Some v) x)) false x ≡ None → StepKept l s legal.condition shared_and_guest (Some v) cpu FinishGuest (finish_guest (reads l cpu (Some v) x)).changes
   unfolding used_of
   finish_guest-keeps t has at stage h =
-      let p = passed l.depth (finish_guest l x) false x h in
-      guest-keeps l s legal usable cpu v FinishGuest refl (finish_guest l x).changes (unwrap_or ((s.guest v).tree.table (l.depth + 1, 0)) 0) 1 (always hosts) (finish_guest-move t has at stage p) p.shared_enough
+      let p = passed l.depth (finish_guest (reads l cpu (Some v) x)) false x h in
+      guest-keeps l s legal usable cpu v FinishGuest refl (finish_guest (reads l cpu (Some v) x)).changes (unwrap_or ((s.guest v).tree.table (l.depth + 1, 0)) 0) 1 (always hosts) (finish_guest-move t has at stage p) p.shared_enough

@@ -1,6 +1,6 @@
 -- A range of frames that a call moves to one condition, by the entries that its pages get.
 use Rattle.std.proofs.Common.{◌≡◌, ℕ, ◌+◌, ◌-◌, ◌≤◌, ◌<◌, refl, ap, sym, ◌∙◌, subst, arith, inl, inr}
-use Rattle.std.specs.Prelude.{Bool, true, false, not, ◌&&◌, ◌==◌, nat_le, is_none, unwrap_or, Option, Some, None}
+use Rattle.std.specs.Prelude.{Bool, true, false, not, ◌&&◌, ◌==◌, nat_le, unwrap_or, Option, Some, None, is_some}
 use Rattle.std.proofs.lemmas.Bool.Decides.{nat_tests}
 use Rattle.descriptor.specs.declared.Prot.{Prot}
 use Rattle.descriptor.specs.declared.Prot.TheVariants.{RW}
@@ -21,16 +21,16 @@ use Rattle.page_state.specs.Search.{all_below}
 use Rattle.reference_model.specs.declared.changes.Changes.{Changes}
 use Rattle.reference_model.specs.declared.changes.CpuChange.{CpuChange}
 use Rattle.reference_model.specs.declared.changes.GuestChange.{GuestChange}
-use Rattle.reference_model.specs.Changes.{cpu_by, change, no_changes}
-use Rattle.reference_model.specs.ConditionChanges.{told_condition}
-use Rattle.reference_model.specs.Conditions.{Condition, outside, hosts, with_hyp, hyps, with_guest, guests, lent_back, HostFits, hyp_says, Legal, IsUsable, row_in, in_shared, in_hand, is_inside, IsGood}
-use Rattle.reference_model.specs.GuestRules.{are_good_pages}
-use Rattle.reference_model.specs.Owner.{is_in_hand}
-use Rattle.reference_model.specs.RowChanges.{told_row, use_by}
-use Rattle.reference_model.specs.SharedRules.{hand_of, no_range}
-use Rattle.reference_model.specs.State.{Cpu, Contents, put_at}
+use Rattle.reference_model.specs.model.Changes.{cpu_by, change, no_changes}
+use Rattle.reference_model.specs.help.ConditionChanges.{told_condition}
+use Rattle.reference_model.specs.help.Conditions.{Condition, outside, hosts, with_hyp, hyps, with_guest, guests, lent_back, HostFits, hyp_says, Legal, IsUsable, row_in, in_shared, in_hand, is_inside, IsGood}
+use Rattle.reference_model.specs.model.GuestRules.{are_good_pages}
+use Rattle.reference_model.specs.model.Owner.{is_in_hand}
+use Rattle.reference_model.specs.help.RowChanges.{told_row, use_by}
+use Rattle.reference_model.specs.model.SharedRules.{hand_of, no_range}
+use Rattle.reference_model.specs.model.State.{Cpu, Contents, put_at}
 use Rattle.page_state.proofs.Blocks.{all_from-each}
-use Rattle.page_state.proofs.Common.{both, eq-same, if-true, if-false, and-both, not-false}
+use Rattle.page_state.proofs.Common.{both, eq-same, if-true, if-false, and-both}
 use Rattle.reference_model.proofs.conditions.FrameMoves.{FramesMove}
 use Rattle.reference_model.proofs.conditions.Moves.{moved_to, always, host-moved, hyp-moved, hyp-below, moved-in, moved-out, moved-fact, cpu-fact}
 
@@ -85,9 +85,9 @@ good-range l f n h = let a = go (nat_le 1 n) (nat_le n 512) (all_below n (λ i. 
     some h = grind (arith, nat_tests)
 
 -- good pages of a guest lie in its tree
-pub good-pages : (l : Layout) (g n : ℕ) → 1 ≤ n → not (are_good_pages l g n) ≡ false → g + n ≤ pages_below l.depth
+pub good-pages : (l : Layout) (g n : ℕ) → 1 ≤ n → are_good_pages l g n ≡ true → g + n ≤ pages_below l.depth
 good-pages l g n some h =
-    let t : is_good_page l (g + (n - 1)) ≡ true = all_from-each 0 n (λ i. is_good_page l (g + i)) (not-false (are_good_pages l g n) h) (n - 1) (omega arith) (omega arith) in
+    let t : is_good_page l (g + (n - 1)) ≡ true = all_from-each 0 n (λ i. is_good_page l (g + i)) h (n - 1) (omega arith) (omega arith) in
     let less : g + (n - 1) < pages_below l.depth = grind (arith, nat_tests) in
     omega arith
 
@@ -125,11 +125,11 @@ pub in_hand-hyps : (d : ℕ) (c : Condition) → in_hand d c ≡ true → c ≡ 
 in_hand-hyps d (hyps (InHand u)) h = ap (λ n. hyps (InHand n)) (eq-same u d h)
 in_hand-hyps d c h = cc
 
-pub hand-range : (o : Option PageRange) (q : ℕ) → is_none o ≡ false → is_in_hand o q ≡ is_within (unwrap_or o no_range).first.0 (unwrap_or o no_range).count q
+pub hand-range : (o : Option PageRange) (q : ℕ) → is_some o ≡ true → is_in_hand o q ≡ is_within (unwrap_or o no_range).first.0 (unwrap_or o no_range).count q
 hand-range (Some r) q h = refl
 hand-range None q h = cc
 
-pub hand-some : (o : Option PageRange) → is_none o ≡ false → ((r : PageRange) → o ≡ Some r → 1 ≤ r.count) → 1 ≤ (unwrap_or o no_range).count
+pub hand-some : (o : Option PageRange) → is_some o ≡ true → ((r : PageRange) → o ≡ Some r → 1 ≤ r.count) → 1 ≤ (unwrap_or o no_range).count
 hand-some (Some r) h k = k r refl
 hand-some None h k = cc
 
@@ -138,7 +138,7 @@ module _ {l : Layout} {s : Contents} (legal : Legal l s) where
   free-is f m h = free-hosts f (legal.condition f) (s.shared.host.map f) (legal.of_layout.inside f ∙ m) (legal.maps.host f) h
 
   -- the frames of a CPU's hand
-  pub hand-was : (cpu : ℕ) → is_none (s.cpu cpu).hand ≡ false → (q : ℕ) → is_within (hand_of (s.cpu cpu)).first.0 (hand_of (s.cpu cpu)).count q ≡ true → legal.condition q ≡ hyps (InHand cpu)
+  pub hand-was : (cpu : ℕ) → is_some (s.cpu cpu).hand ≡ true → (q : ℕ) → is_within (hand_of (s.cpu cpu)).first.0 (hand_of (s.cpu cpu)).count q ≡ true → legal.condition q ≡ hyps (InHand cpu)
   hand-was cpu some q w = in_hand-hyps cpu (legal.condition q) (sym (legal.held.hand cpu q) ∙ hand-range (s.cpu cpu).hand q some ∙ w)
 
   -- frames of a condition that is a memory frame's
@@ -151,7 +151,7 @@ module _ {l : Layout} {s : Contents} (legal : Legal l s) where
   hands-stay cpu k c first n same stay d q = ap (λ h. is_in_hand h q) (cpu-fact (λ (j : Cpu). j.hand) s.cpu cpu (cpu_by k (s.cpu cpu)) d same) ∙ legal.held.hand d q ∙ moved-fact (in_hand d) c first n legal.condition q (stay d q)
 
   -- the hands after the CPU's was emptied
-  pub hands-emptied : (cpu : ℕ) (k : CpuChange) (c : Condition) → (cpu_by k (s.cpu cpu)).hand ≡ None → is_none (s.cpu cpu).hand ≡ false → ((d : ℕ) → in_hand d c ≡ false)
+  pub hands-emptied : (cpu : ℕ) (k : CpuChange) (c : Condition) → (cpu_by k (s.cpu cpu)).hand ≡ None → is_some (s.cpu cpu).hand ≡ true → ((d : ℕ) → in_hand d c ≡ false)
       → (d q : ℕ) → is_in_hand (put_at s.cpu cpu (cpu_by k (s.cpu cpu)) d).hand q ≡ in_hand d (moved_to (always c) (hand_of (s.cpu cpu)).first.0 (hand_of (s.cpu cpu)).count legal.condition q)
   hands-emptied cpu k c none some free d q =
       let hand = hand_of (s.cpu cpu) in

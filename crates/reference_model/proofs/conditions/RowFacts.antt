@@ -7,12 +7,12 @@ use Rattle.page_state.specs.declared.row.Lent.{Lent}
 use Rattle.page_state.specs.declared.row.Row.{Row}
 use Rattle.page_state.specs.declared.row.Usage.{Usage}
 use Rattle.page_state.specs.declared.row.Usage.TheVariants.{Plain, SharedPool, VmPool, InHand}
-use Rattle.reference_model.specs.Conditions.{Condition, outside, hosts, with_hyp, hyps, with_guest, guests, lent_back, Legal, row_in}
+use Rattle.reference_model.specs.help.Conditions.{Condition, outside, hosts, with_hyp, hyps, with_guest, guests, lent_back, Legal, row_in}
 use Rattle.page_state.specs.EntryTests.{leaf}
 use Rattle.page_state.specs.Layouts.{Layout, is_memory, hyp_page}
-use Rattle.reference_model.specs.RowLaws.{IsOwner, IsLentTo, use_of, IsUse, IsRowOf, LegalRowsTrue, RunRowsTrue, RowOnce}
-use Rattle.reference_model.specs.Sound.{Place, shared_pool, vm_pool, table_of, hand, IsHeld}
-use Rattle.reference_model.specs.State.{Contents}
+use Rattle.reference_model.specs.claims.RowLaws.{IsOwner, IsLentTo, use_of, IsUse, IsRowOf, LegalRowsTrue, RunRowsTrue, RowOnce}
+use Rattle.reference_model.specs.claims.Sound.{Place, shared_pool, vm_pool, table_of, hand, IsHeld}
+use Rattle.reference_model.specs.model.State.{Contents}
 use Rattle.page_state.proofs.Common.{same2, same3}
 use Rattle.reference_model.proofs.conditions.OfLegal.{shared-of, guests-of, leaf-maps}
 use Rattle.reference_model.proofs.conditions.RunsLegal.{run_legal, ready-usable}

@@ -7,17 +7,17 @@ use Rattle.page_state.specs.declared.entry.PageRange.{PageRange}
 use Rattle.page_state.specs.declared.layout.Region.{Region}
 use Rattle.call_table.specs.declared.reply.Call.{Call}
 use Rattle.page_state.specs.declared.layout.Geometry.{Geometry}
-use Rattle.reference_model.specs.Boot.{boot, CanBoot}
+use Rattle.reference_model.specs.model.Boot.{boot, CanBoot}
 use Rattle.page_state.specs.Accepted.{IsAcceptedLayout}
 use Rattle.page_state.specs.Geometries.{geometry_of, block_pages, pages_below}
 use Rattle.page_state.specs.LayoutFaults.{IsAccepted, AreDisjoint, is_memory_around}
 use Rattle.page_state.specs.Regions.{is_in_range, end_of, is_memory_kind, is_memory_region, find_region, region_of}
-use Rattle.reference_model.specs.State.{Reference}
+use Rattle.reference_model.specs.model.State.{Reference}
 use Rattle.page_state.specs.Layouts.{Layout}
-use Rattle.reference_model.specs.Run.{Runs}
-use Rattle.reference_model.specs.Step.{Steps}
-use Rattle.reference_model.specs.Conditions.{Legal, IsUsable}
-use Rattle.reference_model.specs.RunLaws.{RunLegal, RunSound, RunRows, AcceptedUsable, AcceptedDepth, AcceptedMade}
+use Rattle.reference_model.specs.model.Run.{Runs}
+use Rattle.reference_model.specs.model.Step.{Steps}
+use Rattle.reference_model.specs.help.Conditions.{Legal, IsUsable}
+use Rattle.reference_model.specs.claims.RunLaws.{RunLegal, RunSound, RunRows, AcceptedUsable, AcceptedDepth, AcceptedMade}
 use Rattle.page_state.proofs.Accepted.{memory_below}
 use Rattle.page_state.proofs.Geometries.{levels_least, pages_most, width_is}
 use Rattle.page_state.proofs.Regions.{found-in, same-region, find-holds}

@@ -8,14 +8,14 @@ use Rattle.page_state.specs.Layouts.{Layout, is_memory, hyp_page}
 use Rattle.page_state.specs.Map.{is_within}
 use Rattle.page_state.specs.Tables.{edited}
 use Rattle.reference_model.specs.declared.changes.Changes.{Changes}
-use Rattle.reference_model.specs.Changes.{cpu_by}
-use Rattle.reference_model.specs.Conditions.{Condition, MapsFit, HeldFit, Legal, IsUsable, row_in, in_vm, one, AreCoarsest, GuestsFit, SlotsFit, RowsFit, IsGood}
-use Rattle.reference_model.specs.Owner.{row_of}
-use Rattle.reference_model.specs.Parts.{shared}
-use Rattle.reference_model.specs.Rules.{names}
-use Rattle.reference_model.specs.State.{Cpu, Contents, put_at, no_guest, no_cpu, blank}
-use Rattle.reference_model.specs.Step.{changed, with_rows, own_row, shared_after, shared_need}
-use Rattle.reference_model.specs.Used.{Used, used_of, put_back}
+use Rattle.reference_model.specs.model.Changes.{cpu_by}
+use Rattle.reference_model.specs.help.Conditions.{Condition, MapsFit, HeldFit, Legal, IsUsable, row_in, in_vm, one, AreCoarsest, GuestsFit, SlotsFit, RowsFit, IsGood}
+use Rattle.reference_model.specs.model.Owner.{row_of}
+use Rattle.reference_model.specs.model.Parts.{shared}
+use Rattle.reference_model.specs.model.Rules.{names}
+use Rattle.reference_model.specs.model.State.{Cpu, Contents, put_at, no_guest, no_cpu, blank}
+use Rattle.reference_model.specs.model.Step.{changed, with_rows, own_row, shared_after, shared_need}
+use Rattle.reference_model.specs.model.Used.{Used, used_of, put_back}
 use Rattle.page_state.proofs.Common.{both, if-true, if-false}
 use Rattle.reference_model.proofs.conditions.FrameMoves.{StepKept, FramesMove, no-uses, layout-after, held-after, host-coarsest, hyp-coarsest, rows-after, shared-stands, hand-stands, kept-after}
 use Rattle.reference_model.proofs.conditions.Moves.{moved_to, always, pageless-named, guest-kept, has-kept, is_calm, calm-pageless, calm-vm, CalmMove, moved-fact, SameSlots, same-agree, cpu-fact}

@@ -4,15 +4,15 @@ use Rattle.std.specs.Prelude.{true, false, ◌==◌, ◌⊎◌, Option, Some, No
 use Rattle.reference_model.specs.declared.changes.Ticket.{Ticket}
 use Rattle.reference_model.specs.declared.changes.Stage.{Stage}
 use Rattle.reference_model.specs.declared.changes.Loaded.{Loaded}
-use Rattle.reference_model.specs.declared.changes.Stage.TheVariants.{Booked as booked, Installed as installed, ClosingVm as closing_vm, DyingVm as dying_vm, Finished as finished}
+use Rattle.reference_model.specs.declared.changes.Stage.TheVariants.{Booked as booked, Installed as installed, Closing as closing_vm, Dying as dying_vm, Finished as finished}
 use Rattle.page_state.specs.declared.entry.PageRange.{PageRange}
-use Rattle.reference_model.specs.State.{Guest, Cpu, Contents, Phase, empty, live, Stand, vacant, opened, reserved, closing, put_at}
-use Rattle.reference_model.specs.Sound.{IsOne, TicketsAgree, IsTicketOf, IsGuestOf, HasTicket, StageFits}
+use Rattle.reference_model.specs.model.State.{Guest, Cpu, Contents, Phase, empty, live, Stand, vacant, opened, reserved, closing, put_at}
+use Rattle.reference_model.specs.claims.Sound.{IsOne, TicketsAgree, IsTicketOf, IsGuestOf, HasTicket, StageFits}
 use Rattle.call_table.specs.declared.step.VmId.{VmId}
 use Rattle.call_table.specs.declared.step.VmKind.{VmKind}
 use Rattle.call_table.specs.declared.step.VmKind.TheVariants.{Plain as PlainVm}
-use Rattle.reference_model.specs.Conditions.{SlotsFit}
-use Rattle.reference_model.specs.GuestRules.{ticket_vm, ticket_kind}
+use Rattle.reference_model.specs.help.Conditions.{SlotsFit}
+use Rattle.reference_model.specs.model.GuestRules.{ticket_vm, ticket_kind}
 use Rattle.page_state.proofs.Common.{both, eq-same, eq-self, eq-made, if-true, if-false}
 use Rattle.page_state.proofs.Cases.{by_lt}
 use Rattle.reference_model.proofs.Steps.{state_of}

@@ -12,14 +12,14 @@ use Rattle.page_state.specs.declared.row.Usage.{Usage}
 use Rattle.page_state.specs.declared.row.Usage.TheVariants.{Plain, SharedPool, VmPool, InHand}
 use Rattle.page_state.specs.EntryTests.{maps_frame, state_eq, leaf, device_leaf}
 use Rattle.page_state.specs.Trees.{Block, Tree}
-use Rattle.reference_model.specs.State.{Contents}
+use Rattle.reference_model.specs.model.State.{Contents}
 use Rattle.page_state.specs.Layouts.{Layout, is_memory, hyp_page}
-use Rattle.reference_model.specs.Owner.{lent_at}
+use Rattle.reference_model.specs.model.Owner.{lent_at}
 use Rattle.page_state.specs.Counts.{is_one, frame_count}
-use Rattle.reference_model.specs.Sound.{IsOne, IsLeafOf, Maps, Holds, IsHostsOwn, owner, usage, OneOwner, IsBorrowed, OneBorrower, Place, shared_pool, vm_pool, table_of, hand, IsHeld, HeldOnce, Sound}
-use Rattle.reference_model.specs.Conditions.{Condition, outside, hosts, with_hyp, hyps, with_guest, guests, lent_back, HostFits, hyp_says, guest_condition, Legal, IsUsable, row_in, in_shared, in_vm, in_hand, one, table_uses, shared_uses, guest_uses, is_inside}
-use Rattle.reference_model.specs.RowLaws.{use_of}
-use Rattle.reference_model.specs.RunLaws.{LegalSound}
+use Rattle.reference_model.specs.claims.Sound.{IsOne, IsLeafOf, Maps, Holds, IsHostsOwn, owner, usage, OneOwner, IsBorrowed, OneBorrower, Place, shared_pool, vm_pool, table_of, hand, IsHeld, HeldOnce, Sound}
+use Rattle.reference_model.specs.help.Conditions.{Condition, outside, hosts, with_hyp, hyps, with_guest, guests, lent_back, HostFits, hyp_says, guest_condition, Legal, IsUsable, row_in, in_shared, in_vm, in_hand, one, table_uses, shared_uses, guest_uses, is_inside}
+use Rattle.reference_model.specs.claims.RowLaws.{use_of}
+use Rattle.reference_model.specs.claims.RunLaws.{LegalSound}
 use Rattle.page_state.proofs.Cases.{by_lt}
 use Rattle.page_state.proofs.Common.{eq-same, eq-made, eq-self, and-both}
 use Rattle.page_state.proofs.Counts.{count_next}

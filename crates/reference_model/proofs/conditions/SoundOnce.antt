@@ -14,11 +14,11 @@ use Rattle.page_state.specs.Layouts.{Layout}
 use Rattle.page_state.proofs.Common.{eq-made}
 use Rattle.page_state.proofs.Counts.{count_next}
 use Rattle.reference_model.specs.declared.changes.Stage.{Stage}
-use Rattle.reference_model.specs.declared.changes.Stage.TheVariants.{Booked as booked, Installed as installed, ClosingVm as closing_vm, DyingVm as dying_vm, Finished as finished}
-use Rattle.reference_model.specs.Conditions.{Legal, IsUsable, one, in_shared, in_vm}
-use Rattle.reference_model.specs.Isolation.{SharesWithHost}
-use Rattle.reference_model.specs.Sound.{IsOne, IsLeafOf, Maps, IsHostsOwn, owner, OneOwner, IsBorrowed, OneBorrower, Place, shared_pool, vm_pool, table_of, hand, IsHeld, HeldOnce, HasLoaded, HasTicket, StageFits, LoadsAgree, GuestsAgree, TicketsAgree, Sound}
-use Rattle.reference_model.specs.State.{Contents, Phase, Stand}
+use Rattle.reference_model.specs.declared.changes.Stage.TheVariants.{Booked as booked, Installed as installed, Closing as closing_vm, Dying as dying_vm, Finished as finished}
+use Rattle.reference_model.specs.help.Conditions.{Legal, IsUsable, one, in_shared, in_vm}
+use Rattle.reference_model.specs.claims.Isolation.{SharesWithHost}
+use Rattle.reference_model.specs.claims.Sound.{IsOne, IsLeafOf, Maps, IsHostsOwn, owner, OneOwner, IsBorrowed, OneBorrower, Place, shared_pool, vm_pool, table_of, hand, IsHeld, HeldOnce, HasLoaded, HasTicket, StageFits, LoadsAgree, GuestsAgree, TicketsAgree, Sound}
+use Rattle.reference_model.specs.model.State.{Contents, Phase, Stand}
 use Rattle.reference_model.proofs.conditions.Isolates.{others_kept_out}
 use Rattle.reference_model.proofs.conditions.OfLegal.{shared-of, guests-of}
 use Rattle.reference_model.proofs.conditions.SoundOf.{contains-count, legal_sound, maps-once, one-most}

@@ -15,10 +15,10 @@ use Rattle.page_state.specs.EntryTests.{maps_frame}
 use Rattle.page_state.specs.Geometries.{pages_below}
 use Rattle.page_state.specs.Search.{first_from, first_below}
 use Rattle.page_state.specs.Trees.{Tree}
-use Rattle.reference_model.specs.State.{Shared, Guest, Cpu, Contents}
+use Rattle.reference_model.specs.model.State.{Shared, Guest, Cpu, Contents}
 use Rattle.page_state.specs.Layouts.{Layout, hyp_page}
-use Rattle.reference_model.specs.Owner.{page_of, is_free, is_in_hand, is_table_frame, guest_with, is_lent_to_host, sharer, owner_by, lent_to, lent_at, is_in_shared_pool, vm_pool_of, holding_cpu, usage_of, row_of}
-use Rattle.reference_model.specs.Conditions.{Condition, outside, hosts, with_hyp, hyps, with_guest, guests, lent_back, HostFits, hyp_says, guest_condition, IsGood, in_shared, in_vm, in_hand, one, is_inside, table_uses, shared_uses, guest_uses, row_in}
+use Rattle.reference_model.specs.model.Owner.{page_of, is_free, is_in_hand, is_table_frame, guest_with, is_lent_to_host, sharer, owner_by, lent_to, lent_at, is_in_shared_pool, vm_pool_of, holding_cpu, usage_of, row_of}
+use Rattle.reference_model.specs.help.Conditions.{Condition, outside, hosts, with_hyp, hyps, with_guest, guests, lent_back, HostFits, hyp_says, guest_condition, IsGood, in_shared, in_vm, in_hand, one, is_inside, table_uses, shared_uses, guest_uses, row_in}
 use Rattle.page_state.proofs.Common.{both, eq-same, eq-made, eq-self, same3}
 use Rattle.page_state.proofs.Counts.{count_next}
 use Rattle.reference_model.proofs.Frames.{first_from-none}

@@ -16,9 +16,9 @@ use Rattle.page_state.specs.Counts.{is_one, frame_count}
 use Rattle.page_state.specs.Geometries.{block_pages}
 use Rattle.page_state.specs.Search.{count_below}
 use Rattle.page_state.specs.Trees.{Block, Tree}
-use Rattle.reference_model.specs.Owner.{count_blocks, is_frame}
+use Rattle.reference_model.specs.model.Owner.{count_blocks, is_frame}
 use Rattle.coarse_trees.specs.Coarsest.{IsInTree, IsInRange}
-use Rattle.reference_model.specs.Conditions.{one, table_uses}
+use Rattle.reference_model.specs.help.Conditions.{one, table_uses}
 use Rattle.page_state.proofs.Common.{both, eq-self, if-true, if-false}
 use Rattle.page_state.proofs.Counts.{count_next}
 use Rattle.page_state.proofs.BlockTests.{block-same, block_eq-same}

@@ -1,29 +1,29 @@
 -- What a step's tests say where they pass.
 use Rattle.std.proofs.Common.{◌≡◌, ℕ, ◌≤◌, refl, arith, length}
-use Rattle.std.specs.Prelude.{Bool, true, false, ◌||◌, nat_lt, Option, Some, None, if◌then◌else◌}
+use Rattle.std.specs.Prelude.{Bool, true, false, not, ◌||◌, nat_lt, Option, Some, None, if◌then◌else◌}
 use Rattle.std.proofs.lemmas.Bool.Decides.{nat_tests}
 use Rattle.call_table.specs.declared.reply.Refusal.{Refusal}
 use Rattle.call_table.specs.declared.reply.Refusal.TheVariants.{NoPool}
-use Rattle.reference_model.specs.Rule.{Rule}
-use Rattle.reference_model.specs.Step.{first_test, or_else, refusal, is_short, shared_need, guest_need}
-use Rattle.reference_model.specs.Used.{Used}
-use Rattle.page_state.proofs.Common.{or-neither}
+use Rattle.reference_model.specs.model.Rule.{Rule}
+use Rattle.reference_model.specs.model.Step.{first_test, or_else, refusal, is_short, shared_need, guest_need}
+use Rattle.reference_model.specs.model.Used.{Used}
+use Rattle.page_state.proofs.Common.{not-false, or-neither}
 
 -- what a step that decides to change has passed
 pub record Tested (r : Rule) (lacks : Bool) : Type 0 where
-  pub invalid : r.invalid ≡ false
+  pub valid : r.valid.passes ≡ true
   pub lacks_none : lacks ≡ false
-  pub no_vm : r.no_vm ≡ false
-  pub busy : r.busy ≡ false
-  pub perm : r.perm ≡ false
+  pub has_vm : r.has_vm.passes ≡ true
+  pub ready : r.ready.passes ≡ true
+  pub allowed : r.allowed.passes ≡ true
 
 -- and what a call that isn't refused has
 pub record Passed (depth : ℕ) (r : Rule) (lacks : Bool) (x : Used) : Type 0 where
-  pub invalid : r.invalid ≡ false
+  pub valid : r.valid.passes ≡ true
   pub lacks_none : lacks ≡ false
-  pub no_vm : r.no_vm ≡ false
-  pub busy : r.busy ≡ false
-  pub perm : r.perm ≡ false
+  pub has_vm : r.has_vm.passes ≡ true
+  pub ready : r.ready.passes ≡ true
+  pub allowed : r.allowed.passes ≡ true
   pub shared_enough : shared_need depth r.changes x.shared ≤ length x.shared.free
   pub guest_enough : guest_need depth r.changes x.guest ≤ length x.guest.free
 
@@ -37,12 +37,12 @@ pass-both None rest h = (refl, h)
 
 pub tested : (r : Rule) (lacks : Bool) → first_test r lacks ≡ None → Tested r lacks
 tested r lacks h =
-    let a = pass-test r.invalid _ _ h in
-    let b = pass-test (lacks || r.no_vm) _ _ a.1 in
-    let vm = or-neither lacks r.no_vm b.0 in
-    let c = pass-test r.busy _ _ b.1 in
-    let d = pass-test r.perm _ _ c.1 in
-    record { invalid = a.0; lacks_none = vm.0; no_vm = vm.1; busy = c.0; perm = d.0 }
+    let a = pass-test (not r.valid.passes) _ _ h in
+    let b = pass-test (lacks || not r.has_vm.passes) _ _ a.1 in
+    let vm = or-neither lacks (not r.has_vm.passes) b.0 in
+    let c = pass-test (not r.ready.passes) _ _ b.1 in
+    let d = pass-test (not r.allowed.passes) _ _ c.1 in
+    record { valid = not-false r.valid.passes a.0; lacks_none = vm.0; has_vm = not-false r.has_vm.passes vm.1; ready = not-false r.ready.passes c.0; allowed = not-false r.allowed.passes d.0 }
 
 pub passed : (depth : ℕ) (r : Rule) (lacks : Bool) (x : Used) → refusal depth r lacks x ≡ None → Passed depth r lacks x
 unfolding refusal is_short
@@ -51,7 +51,7 @@ passed depth r lacks x h =
     let t = tested r lacks all.0 in
     let e = pass-test (is_short depth r.changes x) _ _ all.1 in
     let n = or-neither (nat_lt (length x.shared.free) (shared_need depth r.changes x.shared)) (nat_lt (length x.guest.free) (guest_need depth r.changes x.guest)) e.0 in
-    record { invalid = t.invalid; lacks_none = t.lacks_none; no_vm = t.no_vm; busy = t.busy; perm = t.perm; shared_enough = enough (length x.shared.free) (shared_need depth r.changes x.shared) n.0; guest_enough = enough (length x.guest.free) (guest_need depth r.changes x.guest) n.1 }
+    record { valid = t.valid; lacks_none = t.lacks_none; has_vm = t.has_vm; ready = t.ready; allowed = t.allowed; shared_enough = enough (length x.shared.free) (shared_need depth r.changes x.shared) n.0; guest_enough = enough (length x.guest.free) (guest_need depth r.changes x.guest) n.1 }
   where
     enough : (m n : ℕ) → nat_lt m n ≡ false → n ≤ m
     enough m n h = grind (arith, nat_tests)

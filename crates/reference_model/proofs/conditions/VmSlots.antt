@@ -4,9 +4,9 @@ use Rattle.std.specs.Prelude.{true, false, ◌==◌, ◌⊎◌, Some}
 use Rattle.reference_model.specs.declared.changes.Ticket.{Ticket}
 use Rattle.reference_model.specs.declared.changes.Loaded.{Loaded}
 use Rattle.page_state.specs.declared.entry.PageRange.{PageRange}
-use Rattle.reference_model.specs.State.{Cpu, Vms, Slot, Contents, empty, live, vacant, opened, reserved, closing, put_at}
-use Rattle.reference_model.specs.Sound.{IsOne, IsTicketOf, IsGuestOf, HasLoaded, HasTicket, StageFits}
-use Rattle.reference_model.specs.Conditions.{SlotsFit}
+use Rattle.reference_model.specs.model.State.{Cpu, Vms, Slot, Contents, empty, live, vacant, opened, reserved, closing, put_at}
+use Rattle.reference_model.specs.claims.Sound.{IsOne, IsTicketOf, IsGuestOf, HasLoaded, HasTicket, StageFits}
+use Rattle.reference_model.specs.help.Conditions.{SlotsFit}
 use Rattle.page_state.proofs.Common.{both, eq-same, if-true}
 use Rattle.reference_model.proofs.conditions.Slots.{put-fact, put-here, put-there, apart}
 

@@ -1,26 +1,27 @@
 -- The made steps on the VM part keep the invariant.
 use Rattle.std.proofs.Common.{◌≡◌, ◌≢◌, ℕ, zero, suc, ◌+◌, ◌<◌, refl, ap, sym, ◌∙◌, subst, arith, inl, inr}
-use Rattle.std.specs.Prelude.{Bool, true, false, ◌||◌, ◌==◌, ◌⊎◌, nat_le, is_some, is_none, unwrap_or, Option, Some, None}
+use Rattle.std.specs.Prelude.{Bool, true, false, ◌||◌, ◌==◌, ◌⊎◌, is_some, is_none, unwrap_or, Option, Some, None, nat_lt, not}
 use Rattle.std.proofs.lemmas.Bool.Decides.{nat_tests}
+use Rattle.reference_model.specs.model.Rule.{reads}
 use Rattle.reference_model.specs.declared.changes.Ticket.{Ticket}
 use Rattle.reference_model.specs.declared.changes.Stage.{Stage}
-use Rattle.reference_model.specs.declared.changes.Stage.TheVariants.{Booked as booked, Installed as installed, ClosingVm as closing_vm, DyingVm as dying_vm, Finished as finished}
+use Rattle.reference_model.specs.declared.changes.Stage.TheVariants.{Booked as booked, Installed as installed, Closing as closing_vm, Dying as dying_vm, Finished as finished}
 use Rattle.call_table.specs.declared.step.Step.TheVariants.{VmReserve, VmOpen, Teardown, VmRelease}
 use Rattle.call_table.specs.declared.step.VmId.{VmId}
 use Rattle.call_table.specs.declared.step.VmKind.{VmKind}
-use Rattle.reference_model.specs.GuestRules.{ticket_vm}
+use Rattle.reference_model.specs.model.GuestRules.{ticket_vm}
 use Rattle.page_state.specs.Search.{first_from, all_below}
-use Rattle.reference_model.specs.State.{Cpu, Slot, Contents, empty, live, Stand, vacant, opened, reserved, closing, put_at, no_slot}
+use Rattle.reference_model.specs.model.State.{Cpu, Slot, Contents, empty, live, Stand, vacant, opened, reserved, closing, put_at, no_slot}
 use Rattle.page_state.specs.Layouts.{Layout}
-use Rattle.reference_model.specs.Owner.{is_in_hand}
-use Rattle.reference_model.specs.Parts.{vms, has_stage, stage_eq}
-use Rattle.reference_model.specs.Used.{Used, used_of, put_back}
-use Rattle.reference_model.specs.Sound.{HasTicket, StageFits}
-use Rattle.reference_model.specs.Step.{refusal, changed, with_rows}
-use Rattle.reference_model.specs.VmRules.{vm_reserve, vm_open, teardown, vm_release, stand_eq, is_open, is_any_loaded, vacant_slot}
-use Rattle.reference_model.specs.Conditions.{Legal, SlotsFit}
+use Rattle.reference_model.specs.model.Owner.{is_in_hand}
+use Rattle.reference_model.specs.model.Parts.{vms, has_stage, stage_eq}
+use Rattle.reference_model.specs.model.Used.{Used, used_of, put_back}
+use Rattle.reference_model.specs.claims.Sound.{HasTicket, StageFits}
+use Rattle.reference_model.specs.model.Step.{refusal, changed, with_rows}
+use Rattle.reference_model.specs.model.VmRules.{vm_reserve, vm_open, teardown, vm_release, stand_eq, is_open, is_any_loaded, vacant_slot}
+use Rattle.reference_model.specs.help.Conditions.{Legal, SlotsFit}
 use Rattle.page_state.proofs.Blocks.{all_from-each}
-use Rattle.page_state.proofs.Common.{both, eq-same, and-both, or-neither, not-false}
+use Rattle.page_state.proofs.Common.{both, eq-same, and-both, not-false, not-true}
 use Rattle.reference_model.proofs.conditions.Moves.{LegalAlone, same-agree, cpu-fact}
 use Rattle.reference_model.proofs.conditions.Tests.{passed}
 use Rattle.reference_model.proofs.conditions.Slots.{ticket-told, ticket-fits, ticket-once, ticket-open, ticket-vacant, ticket-slot, apart}
@@ -76,11 +77,11 @@ first-spec from (suc n) k test h = elim (both (test from)) [
   | inr e ↦ let more : first_from (suc from) n test ≡ Some k = rw (e, first_from) at h in let x = first-spec (suc from) n k test more in let less = x.1 in (x.0, omega arith)
 ]
 
-pub none-is : {X : Type 0} (o : Option X) → is_some o ≡ false → o ≡ None
+pub none-is : {X : Type 0} (o : Option X) → is_none o ≡ true → o ≡ None
 none-is None h = refl
 none-is (Some x) h = cc
 
-pub some-is : (o : Option ℕ) → is_none o ≡ false → o ≡ Some (unwrap_or o 0)
+pub some-is : (o : Option ℕ) → is_some o ≡ true → o ≡ Some (unwrap_or o 0)
 some-is (Some n) h = refl
 some-is None h = cc
 
@@ -139,11 +140,11 @@ module _ (l : Layout) (s : Contents) (legal : Legal l s) (cpu : ℕ) where
   unloaded : (t : Ticket) → (s.cpu cpu).ticket ≡ Some t → (i c : ℕ) → (s.vms.slot t.vm.slot).loaded i ≡ Some c → ⊥
   unloaded t has i c h = ticket-open s legal.slots.agree.tickets cpu t has (legal.slots.agree.loads.loads t.vm.slot i c h).0
 
-  pub vm_open-keeps : refusal l.depth (vm_open x) false x ≡ None → LegalAlone l s legal (put_back vms None cpu s (with_rows l cpu None VmOpen (vm_open x).changes (changed l.depth (vm_open x).changes x)))
+  pub vm_open-keeps : refusal l.depth (vm_open (reads l cpu None x)) false x ≡ None → LegalAlone l s legal (put_back vms None cpu s (with_rows l cpu None VmOpen (vm_open (reads l cpu None x)).changes (changed l.depth (vm_open (reads l cpu None x)).changes x)))
   unfolding used_of put_back with_rows changed
   vm_open-keeps h =
-      let p = passed l.depth (vm_open x) false x h in
-      let found = has_stage-is installed (s.cpu cpu) (not-false (has_stage installed (s.cpu cpu)) p.no_vm) in
+      let p = passed l.depth (vm_open (reads l cpu None x)) false x h in
+      let found = has_stage-is installed (s.cpu cpu) p.has_vm in
       let t = found.0 in
       let has = found.1 in
       let here = ticket-fits s legal.slots cpu t.vm.slot installed t has refl found.2 in
@@ -155,11 +156,11 @@ module _ (l : Layout) (s : Contents) (legal : Legal l s) (cpu : ℕ) where
       let moved : SlotMove s cpu v (record (s.vms.slot v) { stand = opened }) k = subst (λ n. SlotMove s cpu n (record (s.vms.slot n) { stand = opened }) k) at move in
       vm-legal l s legal cpu (put_at s.vms.slot v (record (s.vms.slot v) { stand = opened })) k refl (slots-moved s legal.slots cpu v (record (s.vms.slot v) { stand = opened }) k moved)
 
-  pub vm_release-keeps : refusal l.depth (vm_release x) false x ≡ None → LegalAlone l s legal (put_back vms None cpu s (with_rows l cpu None VmRelease (vm_release x).changes (changed l.depth (vm_release x).changes x)))
+  pub vm_release-keeps : refusal l.depth (vm_release (reads l cpu None x)) false x ≡ None → LegalAlone l s legal (put_back vms None cpu s (with_rows l cpu None VmRelease (vm_release (reads l cpu None x)).changes (changed l.depth (vm_release (reads l cpu None x)).changes x)))
   unfolding used_of put_back with_rows changed
   vm_release-keeps h =
-      let p = passed l.depth (vm_release x) false x h in
-      let found = elim (one-of (has_stage booked (s.cpu cpu)) (has_stage finished (s.cpu cpu)) (not-false (has_stage booked (s.cpu cpu) || has_stage finished (s.cpu cpu)) p.no_vm)) as (λ _. (t : Ticket) × ((s.cpu cpu).ticket ≡ Some t) × ((s.guest t.vm.slot).phase ≡ empty)) [
+      let p = passed l.depth (vm_release (reads l cpu None x)) false x h in
+      let found = elim (one-of (has_stage booked (s.cpu cpu)) (has_stage finished (s.cpu cpu)) p.has_vm) as (λ _. (t : Ticket) × ((s.cpu cpu).ticket ≡ Some t) × ((s.guest t.vm.slot).phase ≡ empty)) [
         | inl e ↦ (let f = has_stage-is booked (s.cpu cpu) e in (f.0, f.1, (ticket-fits s legal.slots cpu f.0.vm.slot booked f.0 f.1 refl f.2).1))
         | inr e ↦ (let f = has_stage-is finished (s.cpu cpu) e in (f.0, f.1, (ticket-fits s legal.slots cpu f.0.vm.slot finished f.0 f.1 refl f.2).1))
       ] in
@@ -177,14 +178,14 @@ module _ (l : Layout) (s : Contents) (legal : Legal l s) (cpu : ℕ) where
       one-of true b h = inl refl
       one-of false b h = inr h
 
-  pub vm_reserve-keeps : (kind : VmKind) (vcpus : ℕ) → refusal l.depth (vm_reserve x kind vcpus) false x ≡ None → LegalAlone l s legal (put_back vms None cpu s (with_rows l cpu None (VmReserve kind vcpus) (vm_reserve x kind vcpus).changes (changed l.depth (vm_reserve x kind vcpus).changes x)))
+  pub vm_reserve-keeps : (kind : VmKind) (vcpus : ℕ) → refusal l.depth (vm_reserve kind vcpus (reads l cpu None x)) false x ≡ None → LegalAlone l s legal (put_back vms None cpu s (with_rows l cpu None (VmReserve kind vcpus) (vm_reserve kind vcpus (reads l cpu None x)).changes (changed l.depth (vm_reserve kind vcpus (reads l cpu None x)).changes x)))
   unfolding used_of put_back with_rows changed
   vm_reserve-keeps kind vcpus h =
-      let p = passed l.depth (vm_reserve x kind vcpus) false x h in
-      let busy = or-neither (is_some (s.cpu cpu).ticket) (is_none (vacant_slot s.vms)) p.busy in
-      let free : (s.cpu cpu).ticket ≡ None = none-is (s.cpu cpu).ticket busy.0 in
+      let p = passed l.depth (vm_reserve kind vcpus (reads l cpu None x)) false x h in
+      let ready = and-both (is_none (s.cpu cpu).ticket) (is_some (vacant_slot s.vms)) p.ready in
+      let free : (s.cpu cpu).ticket ≡ None = none-is (s.cpu cpu).ticket ready.0 in
       let v = unwrap_or (vacant_slot s.vms) 0 in
-      let found = first-spec 0 64 v (λ u. stand_eq (s.vms.slot u).stand vacant) (some-is (vacant_slot s.vms) busy.1) in
+      let found = first-spec 0 64 v (λ u. stand_eq (s.vms.slot u).stand vacant) (some-is (vacant_slot s.vms) ready.1) in
       let stands : (s.vms.slot v).stand ≡ vacant = stand_eq-same (s.vms.slot v).stand vacant found.0 in
       let less = found.1 in
       let none : (i c : ℕ) → (s.vms.slot v).loaded i ≡ Some c → ⊥ = λ i c e. (let bad : vacant ≡ opened = sym stands ∙ (legal.slots.agree.loads.loads v i c e).0 in cc) in
@@ -196,25 +197,25 @@ module _ (l : Layout) (s : Contents) (legal : Legal l s) (cpu : ℕ) where
       vm-legal l s legal cpu (put_at s.vms.slot v y) k refl (slots-moved s legal.slots cpu v y k move)
 
   -- as if the VM part is used: a VmId's slot is one of the 64
-  pub teardown-made : (vm : VmId) → refusal l.depth (teardown x vm) false x ≡ None → LegalAlone l s legal (put_back vms None cpu s (with_rows l cpu None (Teardown vm) (teardown x vm).changes (changed l.depth (teardown x vm).changes x)))
+  pub teardown-made : (vm : VmId) → refusal l.depth (teardown vm (reads l cpu None x)) false x ≡ None → LegalAlone l s legal (put_back vms None cpu s (with_rows l cpu None (Teardown vm) (teardown vm (reads l cpu None x)).changes (changed l.depth (teardown vm (reads l cpu None x)).changes x)))
   unfolding used_of put_back with_rows changed
   teardown-made vm h =
-      let p = passed l.depth (teardown x vm) false x h in
+      let p = passed l.depth (teardown vm (reads l cpu None x)) false x h in
       let v = vm.slot in
-      let up = and-both (stand_eq (s.vms.slot v).stand opened) ((s.vms.slot v).generation == vm.generation) (not-false (is_open vm (s.vms.slot v)) p.no_vm) in
+      let up = and-both (stand_eq (s.vms.slot v).stand opened) ((s.vms.slot v).generation == vm.generation) p.has_vm in
       let stands : (s.vms.slot v).stand ≡ opened = stand_eq-same (s.vms.slot v).stand opened up.0 in
-      let busy = or-neither (is_some (s.cpu cpu).ticket) (is_any_loaded (s.vms.slot v)) p.busy in
-      let free : (s.cpu cpu).ticket ≡ None = none-is (s.cpu cpu).ticket busy.0 in
-      let idle : all_below 8 (λ i. is_none ((s.vms.slot v).loaded i)) ≡ true = not-false (all_below 8 (λ i. is_none ((s.vms.slot v).loaded i))) busy.1 in
+      let ready = and-both (is_none (s.cpu cpu).ticket) (not (is_any_loaded (s.vms.slot v))) p.ready in
+      let free : (s.cpu cpu).ticket ≡ None = none-is (s.cpu cpu).ticket ready.0 in
+      let idle : all_below 8 (λ i. is_none ((s.vms.slot v).loaded i)) ≡ true = not-false (all_below 8 (λ i. is_none ((s.vms.slot v).loaded i))) (not-true (is_any_loaded (s.vms.slot v)) ready.1) in
       let none : (i c : ℕ) → (s.vms.slot v).loaded i ≡ Some c → ⊥ = λ i c e. (let less = legal.slots.few_vcpus v i c e in let bad : false ≡ true = sym (ap is_none e) ∙ all_from-each 0 8 (λ j. is_none ((s.vms.slot v).loaded j)) idle i (omega arith) (omega arith) in cc) in
       let y : Slot = record (s.vms.slot v) { stand = closing } in
       let t : Ticket = record { vm = vm; kind = (s.vms.slot v).kind; stage = closing_vm } in
       let k : Cpu = record (s.cpu cpu) { ticket = Some t } in
       let phase = legal.slots.agree.guests.open_live v stands in
-      let low : v < 64 = below (nat_le 64 v) p.invalid refl in
+      let low : v < 64 = below v p.valid in
       let same : (s.guest v).phase ≢ empty → ((s.guest v).generation ≡ y.generation) × ((s.guest v).kind ≡ y.kind) = λ n. (let o = legal.slots.agree.guests.same_vm v n in (o.generation, o.kind)) in
       let move = given v y t k low free none none (λ c j. ticket-open s legal.slots.agree.tickets c j.0 j.1 (ap (λ u. (s.vms.slot u).stand) j.2 ∙ stands)) same (λ e. phase) (λ e. cc) (refl, (refl, phase), sym (eq-same (s.vms.slot v).generation vm.generation up.1), refl) refl refl refl in
       vm-legal l s legal cpu (put_at s.vms.slot v y) k refl (slots-moved s legal.slots cpu v y k move)
     where
-      below : (b : Bool) → b ≡ false → nat_le 64 vm.slot ≡ b → vm.slot < 64
-      below b h e = let z : nat_le 64 vm.slot ≡ false = e ∙ h in grind (arith, nat_tests)
+      below : (n : ℕ) → nat_lt n 64 ≡ true → n < 64
+      below n h = grind (arith, nat_tests)

@@ -1,4 +1,4 @@
--- Which of the tables that a change makes stands at a block, and which tables of a tree go.
+-- Which of the tables that a change makes is at a block, and which tables of a tree go.
 use Rattle.std.specs.Prelude.{ℕ, zero, suc, ◌+◌, ◌*◌, ◌==◌, ◌&&◌, Bool, nat_lt, Option, Some, None, if◌then◌else◌, List, slice_index_or}
 use Rattle.descriptor.specs.Word.{desc_of}
 use Rattle.page_state.specs.declared.entry.Entry.{Entry}
@@ -15,7 +15,7 @@ use Rattle.walk_plan.specs.declared.change.Change.{Change}
 use Rattle.walk_plan.specs.Changes.{part, stays_one_word, changed_entry}
 use Rattle.walk_plan.specs.inner.Needs.{sum_to, met, block_parts, table_parts}
 
--- the table that stood, or the one that was made
+-- the old table, or the one that was made
 abbrev pub given_rank : List ℕ → Option ℕ → Option ℕ → Option ℕ
 given_rank frames (Some f) rank = Some f
 given_rank frames None None = None

@@ -41,7 +41,7 @@ pub record IsOpening {A : Type 0} (depth : ℕ) (s : Slot A) (c : Change) : Type
   pub split : (w : ℕ) → s ≡ Word w → stays_one_word depth (entry_of_word (desc_of (level_at depth) w)) c ≡ false
   pub need : fresh s ≤ slot_need depth s c
 
--- what the word of a slot gives the first page of its block; None where a child stands
+-- the entry that the word of a slot gives the first page of its block; None if the slot has a child
 pub record IsFirst {A : Type 0} (depth : ℕ) (s : Slot A) (first : Option Entry) : Type 0 where
   pub word : IfSome first (λ x. (w : ℕ) × (s ≡ Word w) × (x ≡ entry_of_word (desc_of (level_at depth) w)))
   pub said : IfSome first (λ x. CanBeSaid (level_at depth) (word_of_entry x))
@@ -92,7 +92,7 @@ pub record IsSaidBy {A : Type 0} (depth : ℕ) (t : Table A) (word : ℕ) : Type
   pub fits : fits_word (depth + 1) (entry_of_word (desc_of (level_at (depth + 1)) word)) ≡ true
   pub parts : (k : ℕ) → k < 512 → HasEntry depth (advance (entry_of_word (desc_of (level_at (depth + 1)) word)) (k * block_pages depth)) (slot_at t k)
 
--- the word that says what the child says stands in slot `i` of `u`, which is `t` but for it; the child's frame is in front
+-- slot `i` of `u`, which is otherwise `t`, has the word that says what the child says; the child's frame is in front
 pub record IsFoldedIn {A : Type 0} (depth i : ℕ) (t u child : Table A) (before after : List ℕ) : Type 0 where
   pub word : ℕ
   pub says : IsSaidBy depth child word
@@ -100,7 +100,7 @@ pub record IsFoldedIn {A : Type 0} (depth i : ℕ) (t u child : Table A) (before
   pub here : slot_at u i ≡ Word word
   pub freed : after ≡ frame_of child ∷ before
 
--- no word says it, and the child stands there
+-- no word says it, and the child is there
 pub record IsPutIn {A : Type 0} (depth i : ℕ) (t u child : Table A) (before after : List ℕ) : Type 0 where
   pub none : IsOneWord depth child → ⊥
   pub attached : IsAttached i t u child

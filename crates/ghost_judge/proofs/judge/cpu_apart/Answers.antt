@@ -1,5 +1,5 @@
 use Rattle.std.proofs.Common.{get_or, map, sym, ◌∙◌, arith}
-use Rattle.reference_model.specs.State.{no_cpu}
+use Rattle.reference_model.specs.model.State.{no_cpu}
 use Rattle.ghost_spec.specs.Views.{cpu_in}
 use Rattle.std.proofs.lemmas.Bool.Decides.{not_from_Decides}
 use Rattle.page_state.proofs.Common.{not-false, not-true}

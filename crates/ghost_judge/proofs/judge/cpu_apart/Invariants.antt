@@ -1,5 +1,5 @@
 use Rattle.std.proofs.Common.{◌≡◌, ℕ, ◌<◌, map, get_or}
-use Rattle.reference_model.specs.State.{no_cpu}
+use Rattle.reference_model.specs.model.State.{no_cpu}
 use Rattle.ghost_spec.specs.Views.{cpu_in}
 use Rattle.ghost_judge.proofs.judge.cpu_apart.Given as goal
 

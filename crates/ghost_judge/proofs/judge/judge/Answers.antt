@@ -1,5 +1,5 @@
 use Rattle.std.proofs.Common.{rules, subst, sym}
-use Rattle.reference_model.specs.State.{Reference}
+use Rattle.reference_model.specs.model.State.{Reference}
 use Rattle.ghost_spec.specs.Kept.{HasNextGeneration}
 use Rattle.ghost_judge.proofs.judge.judge.Goals as goal
 

@@ -1,5 +1,5 @@
 use Rattle.std.proofs.Common.{ap}
-use Rattle.reference_model.specs.State.{Slot}
+use Rattle.reference_model.specs.model.State.{Slot}
 use Rattle.ghost_spec.specs.States.{slot_in}
 use Rattle.ghost_judge.specs.inner.Same.{unloaded}
 use Rattle.ghost_judge.proofs.Judged.{slot_same, not_both}

@@ -1,7 +1,7 @@
 use Rattle.std.proofs.Common.{◌≡◌, ◌∙◌, ℕ, true, sym}
 use Rattle.page_state.specs.Layouts.{is_memory}
 use Rattle.page_state.specs.LayoutView.{layout_of}
-use Rattle.reference_model.specs.Owner.{row_of}
+use Rattle.reference_model.specs.model.Owner.{row_of}
 use Rattle.ghost_spec.specs.States.{contents_in}
 use Rattle.ghost_rows.specs.RowsTold.{told}
 use Rattle.ghost_rows.proofs.RowsKept.{map-told, told-map, rows-from, told-from}

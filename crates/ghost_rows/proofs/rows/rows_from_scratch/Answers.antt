@@ -6,7 +6,7 @@ use Rattle.page_state.specs.declared.row.Row.{Row}
 use Rattle.page_state.specs.LayoutView.{layout_of}
 use Rattle.page_state.specs.Regions.{find_region}
 use Rattle.page_state.specs.Rows.{advance_row}
-use Rattle.reference_model.specs.Owner.{row_of}
+use Rattle.reference_model.specs.model.Owner.{row_of}
 use Rattle.run_list.specs.Runs.{run_map}
 use Rattle.ghost_spec.specs.States.{contents_in}
 use Rattle.ghost_rows.specs.RowsTold.{told}

@@ -1,6 +1,6 @@
 use Rattle.std.proofs.Common.{refl, sym, ap, subst, ◌∙◌, ◌≡◌, arith, true, false}
-use Rattle.reference_model.specs.State.{Slot, opened}
-use Rattle.reference_model.specs.Sound.{HasLoaded}
+use Rattle.reference_model.specs.model.State.{Slot, opened}
+use Rattle.reference_model.specs.claims.Sound.{HasLoaded}
 use Rattle.ghost_spec.specs.States.{contents_in}
 use Rattle.ghost_slots.proofs.Past.{no-load}
 use Rattle.ghost_slots.proofs.slots.is_vcpu_on.Goals as goal

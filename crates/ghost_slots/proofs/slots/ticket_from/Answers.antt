@@ -1,5 +1,5 @@
 use Rattle.std.proofs.Common.{◌≡◌, ◌∙◌, sym, subst, true, false, arith}
-use Rattle.reference_model.specs.Sound.{HasTicket}
+use Rattle.reference_model.specs.claims.Sound.{HasTicket}
 use Rattle.ghost_spec.specs.States.{contents_in}
 use Rattle.page_state.proofs.Cases.{by_lt}
 use Rattle.ghost_slots.proofs.Past.{no-ticket}

@@ -1,5 +1,5 @@
 use Rattle.std.proofs.Common.{ℕ, ◌<◌, ◌≤◌}
-use Rattle.reference_model.specs.Sound.{HasTicket}
+use Rattle.reference_model.specs.claims.Sound.{HasTicket}
 use Rattle.ghost_spec.specs.States.{contents_in}
 use Rattle.ghost_slots.proofs.slots.ticket_from.Given as goal
 

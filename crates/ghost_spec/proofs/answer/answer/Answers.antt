@@ -1,7 +1,7 @@
 use Rattle.std.proofs.Common.{◌≡◌, true, false, Ok, Err, length, sym, ◌∙◌}
 use Rattle.page_state.specs.LayoutView.{layout_of}
-use Rattle.reference_model.specs.Decides.{decides}
-use Rattle.reference_model.specs.Step.{is_short}
+use Rattle.reference_model.specs.model.Decides.{decides}
+use Rattle.reference_model.specs.model.Step.{is_short}
 use Rattle.ghost_spec.specs.Used.{used_in}
 use Rattle.ghost_spec.proofs.Answered.{barred, lacking, done, fits}
 use Rattle.ghost_spec.proofs.answer.answer.Goals as goal

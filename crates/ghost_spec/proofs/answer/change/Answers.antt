@@ -1,7 +1,7 @@
 use Rattle.page_state.proofs.Common.{same4}
-use Rattle.reference_model.specs.State.{Vms, Shared, Guest, Cpu}
-use Rattle.reference_model.specs.Step.{changed}
-use Rattle.reference_model.specs.Used.{Used}
+use Rattle.reference_model.specs.model.State.{Vms, Shared, Guest, Cpu}
+use Rattle.reference_model.specs.model.Step.{changed}
+use Rattle.reference_model.specs.model.Used.{Used}
 use Rattle.ghost_spec.proofs.answer.change.Goals as goal
 
 make : Vms → Shared → Guest → Cpu → Used

@@ -1,5 +1,5 @@
 use Rattle.std.proofs.Common.{sym, ◌∙◌}
-use Rattle.reference_model.specs.Step.{is_short}
+use Rattle.reference_model.specs.model.Step.{is_short}
 use Rattle.ghost_spec.proofs.answer.is_short.Goals as goal
 
 pub returns-then-is_shared_short : goal.returns-then-is_shared_short

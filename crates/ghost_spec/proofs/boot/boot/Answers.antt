@@ -9,7 +9,7 @@ use Rattle.page_state.specs.Layouts.{Layout, hyp_page}
 use Rattle.page_state.specs.Regions.{end_of}
 use Rattle.page_state.specs.Rows.{HasPageBelow}
 use Rattle.page_state.specs.Tables.{edited}
-use Rattle.reference_model.specs.Boot.{host_root, host_edit, host_need, hyp_root, hyp_edit, hyp_need, spare}
+use Rattle.reference_model.specs.model.Boot.{host_root, host_edit, host_need, hyp_root, hyp_edit, hyp_need, spare}
 use Rattle.run_list.specs.Runs.{AreInReach}
 use Rattle.ghost_trees.specs.Small.{HasLowFrames}
 use Rattle.ghost_trees.specs.Trees.{tree_in_lists}

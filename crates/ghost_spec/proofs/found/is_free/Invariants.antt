@@ -1,5 +1,5 @@
 use Rattle.std.proofs.Common.{◌≡◌, drop}
-use Rattle.reference_model.specs.Owner.{is_free}
+use Rattle.reference_model.specs.model.Owner.{is_free}
 use Rattle.ghost_spec.proofs.found.is_free.Given as goal
 
 abbrev pub invariant-loop-own : goal.invariant-loop-own

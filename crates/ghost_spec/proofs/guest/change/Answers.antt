@@ -1,4 +1,4 @@
-use Rattle.reference_model.specs.Step.{guest_after}
+use Rattle.reference_model.specs.model.Step.{guest_after}
 use Rattle.ghost_spec.proofs.guest.change.Goals as goal
 
 pub returns-clause-after : goal.returns-clause-after

@@ -2,7 +2,7 @@ use Rattle.std.proofs.Common.{◌≡◌, drop, sym, ap, subst, ◌∙◌}
 use Rattle.page_state.specs.Tables.{edited, need, returned, all_given}
 use Rattle.page_state.specs.Trees.{Tree, Pool}
 use Rattle.page_state.proofs.Common.{same2}
-use Rattle.reference_model.specs.Changes.{edit_of}
+use Rattle.reference_model.specs.model.Changes.{edit_of}
 use Rattle.ghost_spec.specs.Kept.{AreLowFrames}
 use Rattle.ghost_trees.specs.Trees.{tree_in_lists}
 use Rattle.ghost_spec.proofs.Guests.{low-all_given, low-drop, low-edited, low-returned}

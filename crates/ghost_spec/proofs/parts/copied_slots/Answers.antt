@@ -2,7 +2,7 @@ use Rattle.std.proofs.Common.{◌≡◌, ℕ, suc, ◌+◌, ◌<◌, List, [], �
 use Rattle.std.proofs.lemmas.List.{map_push}
 use Rattle.std.proofs.Math.Seq.{take-suc}
 use Rattle.page_state.proofs.Common.{same2}
-use Rattle.reference_model.specs.State.{Slot}
+use Rattle.reference_model.specs.model.State.{Slot}
 use Rattle.ghost_spec.specs.declared.parts.GhostSlot.{GhostSlot}
 use Rattle.ghost_spec.specs.States.{slot_in}
 use Rattle.ghost_spec.proofs.parts.copied_slots.Goals as goal

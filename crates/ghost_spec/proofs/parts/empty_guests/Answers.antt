@@ -1,5 +1,5 @@
 use Rattle.std.proofs.Common.{◌≡◌}
-use Rattle.reference_model.specs.State.{no_guest}
+use Rattle.reference_model.specs.model.State.{no_guest}
 use Rattle.ghost_spec.specs.declared.parts.GhostGuest.{GhostGuest}
 use Rattle.ghost_spec.specs.Kept.{IsKeptGuest}
 use Rattle.ghost_spec.specs.States.{guest_in}

@@ -1,5 +1,5 @@
 use Rattle.std.proofs.Common.{◌≡◌, All, length}
-use Rattle.reference_model.specs.State.{no_guest}
+use Rattle.reference_model.specs.model.State.{no_guest}
 use Rattle.ghost_spec.specs.States.{guest_in, AreKeptGuests}
 use Rattle.ghost_spec.proofs.parts.empty_guests.Given as goal
 

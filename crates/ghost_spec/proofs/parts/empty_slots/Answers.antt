@@ -1,6 +1,6 @@
 use Rattle.std.proofs.Common.{◌≡◌, ℕ, List, Option, None, get_or, ap}
 use Rattle.call_table.specs.declared.step.VmKind.TheVariants.{Plain}
-use Rattle.reference_model.specs.State.{no_slot, vacant}
+use Rattle.reference_model.specs.model.State.{no_slot, vacant}
 use Rattle.ghost_spec.specs.declared.parts.GhostSlot.{GhostSlot}
 use Rattle.ghost_spec.specs.declared.parts.GhostStand.TheVariants.{Vacant}
 use Rattle.ghost_spec.specs.States.{slot_in}

@@ -1,5 +1,5 @@
 use Rattle.std.proofs.Common.{◌≡◌, All, length}
-use Rattle.reference_model.specs.State.{no_slot}
+use Rattle.reference_model.specs.model.State.{no_slot}
 use Rattle.ghost_spec.specs.States.{slot_in}
 use Rattle.ghost_spec.proofs.parts.empty_slots.Given as goal
 

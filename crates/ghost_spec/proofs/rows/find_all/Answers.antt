@@ -8,7 +8,7 @@ use Rattle.page_state.specs.Layouts.{Layout, is_memory}
 use Rattle.page_state.specs.LayoutView.{layout_of}
 use Rattle.page_state.specs.Regions.{is_in_range}
 use Rattle.page_state.proofs.Cases.{by_lt, by_test}
-use Rattle.reference_model.specs.State.{no_cpu, no_guest}
+use Rattle.reference_model.specs.model.State.{no_cpu, no_guest}
 use Rattle.ghost_trees.specs.KeptTrees.{IsKeptTree}
 use Rattle.ghost_spec.specs.declared.shared.Shared.{Shared as SharedOfLists}
 use Rattle.ghost_spec.specs.RowsFound.{row_found}

@@ -4,7 +4,7 @@ use Rattle.page_state.specs.Layouts.{is_memory}
 use Rattle.page_state.specs.LayoutView.{layout_of}
 use Rattle.page_state.specs.Regions.{is_in_range}
 use Rattle.page_state.specs.Rows.{HasPageBelow}
-use Rattle.reference_model.specs.State.{no_cpu, no_guest}
+use Rattle.reference_model.specs.model.State.{no_cpu, no_guest}
 use Rattle.run_list.specs.Runs.{AreInReach}
 use Rattle.ghost_spec.specs.RowsFound.{row_found}
 use Rattle.ghost_spec.specs.Views.{row_in, shared_in_lists}

@@ -2,7 +2,7 @@ use Rattle.std.proofs.Common.{◌&&◌, true, false, None, ap, ◌∙◌}
 use Rattle.page_state.specs.LayoutView.{layout_of}
 use Rattle.page_state.specs.Layouts.{is_memory}
 use Rattle.page_state.specs.Regions.{is_in_range}
-use Rattle.reference_model.specs.State.{Guest, no_cpu}
+use Rattle.reference_model.specs.model.State.{Guest, no_cpu}
 use Rattle.ghost_spec.specs.RowsFound.{row_found}
 use Rattle.ghost_spec.specs.Views.{row_in, shared_in_lists}
 use Rattle.ghost_spec.proofs.rows.find_first.Goals as goal

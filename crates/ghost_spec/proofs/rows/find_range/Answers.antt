@@ -3,7 +3,7 @@ use Rattle.page_state.specs.declared.row.Row.{Row}
 use Rattle.page_state.specs.LayoutView.{layout_of}
 use Rattle.page_state.specs.Layouts.{Layout, is_memory}
 use Rattle.page_state.specs.Map.{is_within}
-use Rattle.reference_model.specs.State.{Guest, Cpu}
+use Rattle.reference_model.specs.model.State.{Guest, Cpu}
 use Rattle.ghost_spec.specs.declared.shared.Shared.{Shared as SharedOfLists}
 use Rattle.ghost_spec.specs.RowsFound.{row_found}
 use Rattle.ghost_spec.specs.States.{guest_in}

@@ -7,9 +7,9 @@ use Rattle.page_state.specs.Map.{Map}
 use Rattle.page_state.specs.Regions.{region_of}
 use Rattle.page_state.specs.Runs.{map_of}
 use Rattle.reference_model.specs.declared.changes.MapChange.{MapChange}
-use Rattle.reference_model.specs.Changes.{change, no_changes}
-use Rattle.reference_model.specs.Rules.{rule}
-use Rattle.reference_model.specs.SharedRules.{abort_depth, abort_edit, abort_leaf}
+use Rattle.reference_model.specs.model.Changes.{change, no_changes}
+use Rattle.reference_model.specs.model.Rules.{rule}
+use Rattle.reference_model.specs.model.SharedRules.{abort_depth, abort_edit, abort_leaf}
 use Rattle.page_state.proofs.Regions.{region_low, region_holds}
 use Rattle.ghost_spec.proofs.rules.host_abort.Goals as goal
 

@@ -1,5 +1,5 @@
 use Rattle.std.proofs.Common.{sym, ◌∙◌, refl, rules}
-use Rattle.reference_model.specs.Rules.{rule}
+use Rattle.reference_model.specs.model.Rules.{rule}
 use Rattle.ghost_spec.proofs.rules.hyp_donate_host.Goals as goal
 
 pub returns-then-not-may_return_all-clause-decided : goal.returns-then-not-may_return_all-clause-decided

@@ -2,7 +2,7 @@ use Rattle.std.proofs.Common.{◌≡◌, ◌+◌, drop, ◌∙◌, sym, refl}
 use Rattle.std.proofs.lemmas.List.{drop-drop}
 use Rattle.std.proofs.lemmas.Result.{IfOk-from_err}
 use Rattle.page_state.specs.Tables.{edited, need, returned}
-use Rattle.reference_model.specs.Changes.{edit_of}
+use Rattle.reference_model.specs.model.Changes.{edit_of}
 use Rattle.ghost_trees.specs.Trees.{tree_in_lists}
 use Rattle.ghost_spec.proofs.Changed.{all_changed}
 use Rattle.ghost_trees.proofs.TreeLists.{all_given-append}

@@ -1,5 +1,5 @@
 use Rattle.std.proofs.Common.{◌≡◌, refl}
-use Rattle.reference_model.specs.State.{no_cpu}
+use Rattle.reference_model.specs.model.State.{no_cpu}
 use Rattle.ghost_spec.specs.declared.cpu.GhostCpu.{GhostCpu}
 use Rattle.ghost_spec.specs.Kept.{IsKeptCpu}
 use Rattle.ghost_spec.specs.Views.{cpu_in}

@@ -1,5 +1,5 @@
 use Rattle.std.proofs.Common.{◌≡◌, All, length}
-use Rattle.reference_model.specs.State.{no_cpu}
+use Rattle.reference_model.specs.model.State.{no_cpu}
 use Rattle.ghost_spec.specs.Views.{cpu_in}
 use Rattle.ghost_spec.specs.States.{AreKeptCpus}
 use Rattle.ghost_spec.proofs.start.idle_cpus.Given as goal

@@ -1,7 +1,7 @@
 use Rattle.std.proofs.Common.{◌≡◌}
 use Rattle.std.proofs.lemmas.Result.{IfOk-from_err, IfOk-at_ok}
 use Rattle.page_state.specs.LayoutView.{layout_of}
-use Rattle.reference_model.specs.Boot.{boot_shared}
+use Rattle.reference_model.specs.model.Boot.{boot_shared}
 use Rattle.ghost_spec.specs.Views.{shared_in_lists}
 use Rattle.ghost_spec.proofs.Starts.{shared-booted}
 use Rattle.ghost_spec.proofs.start.shared_at_boot.Goals as goal

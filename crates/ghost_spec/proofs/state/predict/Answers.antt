@@ -4,8 +4,8 @@ use Rattle.call_table.specs.declared.reply.Reply.{Reply}
 use Rattle.call_table.specs.declared.step.Step.{Step}
 use Rattle.page_state.specs.LayoutView.{layout_of}
 use Rattle.page_state.specs.Layouts.{Layout}
-use Rattle.reference_model.specs.State.{Reference}
-use Rattle.reference_model.specs.Step.{foretell}
+use Rattle.reference_model.specs.model.State.{Reference}
+use Rattle.reference_model.specs.model.Step.{foretell}
 use Rattle.ghost_spec.specs.Kept.{HasNextGeneration}
 use Rattle.ghost_spec.specs.States.{ghost_state}
 use Rattle.ghost_spec.proofs.state.predict.Goals as goal

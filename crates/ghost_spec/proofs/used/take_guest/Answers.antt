@@ -1,7 +1,7 @@
 use Rattle.std.proofs.Common.{◌<◌, length, refl, sym, ap, subst, ◌∙◌, arith}
 use Rattle.std.proofs.lemmas.List.{get_or-map, length-set}
 use Rattle.std.proofs.lemmas.List.Elements.{All-set}
-use Rattle.reference_model.specs.State.{put_at, no_guest}
+use Rattle.reference_model.specs.model.State.{put_at, no_guest}
 use Rattle.ghost_spec.specs.Kept.{IsKeptGuest}
 use Rattle.ghost_spec.specs.States.{guest_in}
 use Rattle.ghost_spec.proofs.Foretold.{put-again, put-list}

@@ -1,6 +1,6 @@
 use Rattle.std.proofs.Common.{◌≡◌, List, get_or, map, sym, ap, ◌∙◌}
 use Rattle.std.proofs.lemmas.Result.{IfOk-weaker}
-use Rattle.reference_model.specs.State.{Slot, Vms, no_slot}
+use Rattle.reference_model.specs.model.State.{Slot, Vms, no_slot}
 use Rattle.ghost_spec.specs.States.{slot_in}
 use Rattle.ghost_spec.specs.Used.{vms_in}
 use Rattle.ghost_spec.proofs.used.used_vms.Goals as goal

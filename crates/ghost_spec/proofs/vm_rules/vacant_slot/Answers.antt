@@ -1,6 +1,6 @@
 use Rattle.std.proofs.Common.{ap, sym, ◌∙◌, arith, below_more}
-use Rattle.reference_model.specs.State.{Slot, vacant}
-use Rattle.reference_model.specs.VmRules.{stand_eq}
+use Rattle.reference_model.specs.model.State.{Slot, vacant}
+use Rattle.reference_model.specs.model.VmRules.{stand_eq}
 use Rattle.ghost_spec.specs.Used.{vms_in}
 use Rattle.ghost_spec.proofs.FoundPages.{first-is, first-none}
 use Rattle.ghost_spec.proofs.vm_rules.vacant_slot.Goals as goal

@@ -1,6 +1,6 @@
 use Rattle.std.proofs.Common.{◌≡◌, ℕ, ◌<◌, false}
-use Rattle.reference_model.specs.State.{vacant}
-use Rattle.reference_model.specs.VmRules.{stand_eq}
+use Rattle.reference_model.specs.model.State.{vacant}
+use Rattle.reference_model.specs.model.VmRules.{stand_eq}
 use Rattle.ghost_spec.specs.Used.{vms_in}
 use Rattle.ghost_spec.proofs.vm_rules.vacant_slot.Given as goal
 

@@ -1,6 +1,6 @@
 use Rattle.std.proofs.Common.{◌≡◌, List, Some, None, ap, sym, ◌∙◌}
-use Rattle.reference_model.specs.State.{Slot}
-use Rattle.reference_model.specs.VmRules.{vacant_slot}
+use Rattle.reference_model.specs.model.State.{Slot}
+use Rattle.reference_model.specs.model.VmRules.{vacant_slot}
 use Rattle.ghost_spec.specs.declared.parts.GhostSlot.{GhostSlot}
 use Rattle.ghost_spec.specs.Used.{used_in, vms_in}
 use Rattle.ghost_spec.proofs.Tickets.{reserves, reserves-none}

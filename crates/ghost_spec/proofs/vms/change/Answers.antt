@@ -1,6 +1,6 @@
 use Rattle.std.proofs.Common.{◌<◌, ◌+◌, Some, None, length}
 use Rattle.std.proofs.lemmas.Result.{IfOk-weaker}
-use Rattle.reference_model.specs.State.{Slot, closing, no_slot, opened, put_at, reserved}
+use Rattle.reference_model.specs.model.State.{Slot, closing, no_slot, opened, put_at, reserved}
 use Rattle.ghost_spec.proofs.Slots.{slot-by, slot-changed}
 use Rattle.ghost_spec.proofs.vms.change.Goals as goal
 

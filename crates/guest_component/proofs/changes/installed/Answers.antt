@@ -1,5 +1,5 @@
 use Rattle.std.proofs.Common.{sym, subst, Some}
-use Rattle.reference_model.specs.State.{no_guest}
+use Rattle.reference_model.specs.model.State.{no_guest}
 use Rattle.guest_component.specs.Plans.{IsMadeFor}
 use Rattle.guest_component.proofs.changes.installed.Goals as goal
 

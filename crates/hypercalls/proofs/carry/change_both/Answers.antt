@@ -3,7 +3,7 @@ use Rattle.std.proofs.lemmas.Bool.{false≢true, lt-ltb, ltb-true}
 use Rattle.page_state.specs.LayoutView.{layout_of}
 use Rattle.page_state.proofs.Common.{not-holds}
 use Rattle.guest_component.specs.View.{guest_depth, guest_of}
-use Rattle.reference_model.specs.Step.{guest_need, shared_after, shared_need}
+use Rattle.reference_model.specs.model.Step.{guest_need, shared_after, shared_need}
 use Rattle.part_types.specs.Planned.{planned, shared_with}
 use Rattle.part_types.specs.View.{shared_of}
 use Rattle.part_types.proofs.Planned.{after_planned}

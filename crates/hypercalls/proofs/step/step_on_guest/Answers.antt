@@ -3,7 +3,7 @@ use Rattle.page_state.specs.LayoutView.{layout_of}
 use Rattle.part_types.specs.declared.parts.CpuState.{CpuState}
 use Rattle.part_types.specs.Lent.{lent_guest, logs_in, used_in}
 use Rattle.part_types.specs.View.{cpu_of, guest_held}
-use Rattle.reference_model.specs.Rules.{names}
+use Rattle.reference_model.specs.model.Rules.{names}
 use Rattle.decisions.proofs.Decided.{named_alone}
 use Rattle.hypercalls.proofs.Carried.{comes_guest, ends_at, err_at, leaves_shared, ok_at}
 use Rattle.hypercalls.proofs.Stepping.{barred_step, done_step, eq_with, full_step, guest_full, has_room, no_room, none_full, own_full, same_logs}

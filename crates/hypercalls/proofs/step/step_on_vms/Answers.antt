@@ -3,7 +3,7 @@ use Rattle.page_state.specs.LayoutView.{layout_of}
 use Rattle.part_types.specs.declared.parts.CpuState.{CpuState}
 use Rattle.part_types.specs.Lent.{lent_vms, logs_in, used_in}
 use Rattle.part_types.specs.View.{cpu_of, vm_slots}
-use Rattle.reference_model.specs.Rules.{names}
+use Rattle.reference_model.specs.model.Rules.{names}
 use Rattle.hypercalls.proofs.Carried.{comes_vms, ends_at, leaves_guest, leaves_shared}
 use Rattle.hypercalls.proofs.Stepping.{barred_step, done_step, eq_with, full_step, has_room, no_room, none_full, own_full, same_logs, vms_full}
 use Rattle.hypercalls.proofs.Using.{vms}

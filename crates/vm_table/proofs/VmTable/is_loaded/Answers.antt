@@ -1,5 +1,5 @@
 use Rattle.std.proofs.Common.{◌∙◌, ap, is_some}
-use Rattle.reference_model.specs.State.{Slot}
+use Rattle.reference_model.specs.model.State.{Slot}
 use Rattle.vm_table.proofs.VmTable.is_loaded.Goals as goal
 
 pub returns : goal.returns

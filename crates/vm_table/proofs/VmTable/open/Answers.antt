@@ -1,4 +1,4 @@
-use Rattle.reference_model.specs.State.{Slot, opened}
+use Rattle.reference_model.specs.model.State.{Slot, opened}
 use Rattle.vm_table.specs.View.{slot_of, vms_of}
 use Rattle.vm_table.proofs.Slots.{changed_at}
 use Rattle.vm_table.proofs.VmTable.open.Goals as goal

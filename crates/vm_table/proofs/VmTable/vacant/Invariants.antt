@@ -1,6 +1,6 @@
 use Rattle.std.proofs.Common.{◌≡◌, ℕ, ◌<◌, false}
-use Rattle.reference_model.specs.State.{vacant}
-use Rattle.reference_model.specs.VmRules.{stand_eq}
+use Rattle.reference_model.specs.model.State.{vacant}
+use Rattle.reference_model.specs.model.VmRules.{stand_eq}
 use Rattle.vm_table.specs.View.{vms_of}
 use Rattle.vm_table.proofs.VmTable.vacant.Given as goal
 

@@ -1,6 +1,6 @@
 use Rattle.std.proofs.Common.{rules}
-use Rattle.reference_model.specs.Rules.{rule}
-use Rattle.reference_model.specs.SharedRules.{abort_edit}
+use Rattle.reference_model.specs.model.Rules.{rule}
+use Rattle.reference_model.specs.model.SharedRules.{abort_edit}
 use Rattle.decisions.proofs.calls.abort.decide_host_abort.Goals as goal
 
 pub returns-in-Annotated : goal.returns-in-Annotated

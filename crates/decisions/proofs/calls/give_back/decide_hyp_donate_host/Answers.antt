@@ -1,6 +1,6 @@
 use Rattle.std.proofs.Common.{sym, ◌∙◌, refl, rules}
 use Rattle.page_state.specs.LayoutView.{layout_of}
-use Rattle.reference_model.specs.Rules.{rule}
+use Rattle.reference_model.specs.model.Rules.{rule}
 use Rattle.decisions.proofs.Ranged.{rows_of_range}
 use Rattle.decisions.proofs.calls.give_back.decide_hyp_donate_host.Goals as goal
 

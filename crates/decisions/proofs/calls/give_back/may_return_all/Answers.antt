@@ -1,7 +1,7 @@
 use Rattle.std.proofs.Common.{◌+◌, sym, arith, ◌∙◌, below_more}
 use Rattle.part_types.specs.View.{shared_of}
-use Rattle.reference_model.specs.SharedRules.{may_return}
-use Rattle.reference_model.specs.Used.{used_alone}
+use Rattle.reference_model.specs.model.SharedRules.{may_return}
+use Rattle.reference_model.specs.model.Used.{used_alone}
 use Rattle.decisions.proofs.Ranged.{all_hold, one_fails}
 use Rattle.decisions.proofs.calls.give_back.may_return_all.Goals as goal
 

@@ -1,8 +1,8 @@
 use Rattle.std.proofs.Common.{◌≡◌, ℕ, ◌+◌, ◌<◌, true}
 use Rattle.part_types.specs.View.{shared_of}
-use Rattle.reference_model.specs.SharedRules.{may_return}
-use Rattle.reference_model.specs.State.{Cpu}
-use Rattle.reference_model.specs.Used.{used_alone}
+use Rattle.reference_model.specs.model.SharedRules.{may_return}
+use Rattle.reference_model.specs.model.State.{Cpu}
+use Rattle.reference_model.specs.model.Used.{used_alone}
 use Rattle.decisions.proofs.calls.give_back.may_return_all.Given as goal
 
 abbrev pub invariant-loop-i : goal.invariant-loop-i

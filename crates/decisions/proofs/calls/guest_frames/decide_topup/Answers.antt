@@ -2,7 +2,7 @@ use Rattle.std.proofs.Common.{◌+◌, ◌<◌, ◌≤◌, length, sym, arith, �
 use Rattle.page_state.specs.LayoutView.{layout_of}
 use Rattle.guest_component.specs.View.{guest_of}
 use Rattle.part_types.specs.View.{cpu_of}
-use Rattle.reference_model.specs.GuestRules.{guest_table_count}
+use Rattle.reference_model.specs.model.GuestRules.{guest_table_count}
 use Rattle.decisions.proofs.GuestDecided.{tops_over, tops_up}
 use Rattle.decisions.proofs.calls.guest_frames.decide_topup.Goals as goal
 

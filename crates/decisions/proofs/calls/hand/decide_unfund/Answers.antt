@@ -1,4 +1,4 @@
-use Rattle.reference_model.specs.Rules.{rule}
+use Rattle.reference_model.specs.model.Rules.{rule}
 use Rattle.std.proofs.Common.{rules}
 use Rattle.part_types.specs.View.{cpu_of, shared_of}
 use Rattle.decisions.proofs.Hands.{hand_low}

@@ -1,5 +1,5 @@
 use Rattle.std.proofs.Common.{rules}
-use Rattle.reference_model.specs.Rules.{rule}
+use Rattle.reference_model.specs.model.Rules.{rule}
 use Rattle.decisions.proofs.calls.share.decide_share_hyp.Goals as goal
 
 pub returns : goal.returns

@@ -1,5 +1,5 @@
 use Rattle.std.proofs.Common.{rules}
-use Rattle.reference_model.specs.Rules.{rule}
+use Rattle.reference_model.specs.model.Rules.{rule}
 use Rattle.decisions.proofs.calls.vms.decide_vcpu_load.Goals as goal
 
 pub returns-then-vcpu-slot-clause-decided : goal.returns-then-vcpu-slot-clause-decided

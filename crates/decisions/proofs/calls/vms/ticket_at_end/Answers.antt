@@ -2,7 +2,7 @@ use Rattle.std.proofs.Common.{◌≡◌, ◌||◌, Bool, true, false, Some, Matc
 use Rattle.part_types.specs.View.{cpu_of}
 use Rattle.reference_model.specs.declared.changes.Stage.TheVariants.{Finished}
 use Rattle.reference_model.specs.declared.changes.Ticket.{Ticket}
-use Rattle.reference_model.specs.Parts.{has_stage}
+use Rattle.reference_model.specs.model.Parts.{has_stage}
 use Rattle.decisions.proofs.calls.vms.ticket_at_end.Goals as goal
 
 pub returns-in-Some : goal.returns-in-Some

@@ -1,7 +1,7 @@
 use Rattle.std.proofs.Common.{◌≡◌, ◌||◌, ℕ, take}
 use Rattle.std.specs.List.{list_any}
 use Rattle.page_state.specs.LayoutView.{layout_of}
-use Rattle.reference_model.specs.Owner.{is_free}
+use Rattle.reference_model.specs.model.Owner.{is_free}
 use Rattle.ghost_spec.specs.Found.{is_table_with}
 use Rattle.ghost_rows.proofs.rows.uses.add_tables.Given as goal
 

@@ -1,5 +1,5 @@
 use Rattle.std.proofs.Common.{◌||◌, ap, sym, ◌∙◌}
-use Rattle.reference_model.specs.Owner.{is_frame, is_free}
+use Rattle.reference_model.specs.model.Owner.{is_frame, is_free}
 use Rattle.ghost_rows.proofs.TableFrames.{free_push}
 use Rattle.ghost_rows.proofs.rows.uses.push_found.Goals as goal
 

@@ -1,6 +1,6 @@
 use Rattle.std.proofs.Common.{◌≡◌, ◌<◌, ◌-◌, ◌||◌, ℕ, drop, slice_index}
 use Rattle.page_state.specs.Map.{is_within}
-use Rattle.reference_model.specs.Owner.{is_free}
+use Rattle.reference_model.specs.model.Owner.{is_free}
 use Rattle.ghost_rows.proofs.rows.uses.start_of.Given as goal
 
 abbrev pub invariant-loop-start : goal.invariant-loop-start

@@ -1,7 +1,7 @@
 use Rattle.std.proofs.Common.{◌≡◌, ◌<◌, ◌≤◌, ◌^◌, ℕ, drop, length}
 use Rattle.std.specs.Option.{option_or}
 use Rattle.page_state.specs.Rows.{advance_row, HasPageBelow}
-use Rattle.reference_model.specs.Owner.{is_free}
+use Rattle.reference_model.specs.model.Owner.{is_free}
 use Rattle.run_list.specs.Runs.{run_map, AreInReach}
 use Rattle.ghost_rows.specs.RowsLaid.{used_if}
 use Rattle.ghost_rows.proofs.rows.uses.use_frames.Given as goal

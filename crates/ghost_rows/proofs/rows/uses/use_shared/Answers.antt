@@ -5,7 +5,7 @@ use Rattle.page_state.specs.declared.row.Row.{Row}
 use Rattle.page_state.specs.declared.row.Usage.TheVariants.{SharedPool}
 use Rattle.page_state.specs.LayoutView.{layout_of}
 use Rattle.page_state.specs.Rows.{advance_row}
-use Rattle.reference_model.specs.Owner.{is_free, is_table_frame}
+use Rattle.reference_model.specs.model.Owner.{is_free, is_table_frame}
 use Rattle.run_list.specs.Runs.{run_map}
 use Rattle.ghost_trees.specs.declared.tree.Table.{Table}
 use Rattle.ghost_trees.specs.Trees.{tree_in_lists}

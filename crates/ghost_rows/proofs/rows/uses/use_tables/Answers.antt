@@ -2,7 +2,7 @@ use Rattle.std.proofs.Common.{◌∙◌, ◌||◌, ap, Bool}
 use Rattle.std.specs.Option.{option_or}
 use Rattle.page_state.specs.LayoutView.{layout_of}
 use Rattle.page_state.specs.Rows.{advance_row}
-use Rattle.reference_model.specs.Owner.{is_free}
+use Rattle.reference_model.specs.model.Owner.{is_free}
 use Rattle.run_list.specs.Runs.{run_map}
 use Rattle.ghost_spec.specs.Found.{any_table_with}
 use Rattle.ghost_rows.specs.RowsLaid.{used_if}

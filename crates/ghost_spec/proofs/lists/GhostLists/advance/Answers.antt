@@ -4,10 +4,10 @@ use Rattle.std.proofs.lemmas.Result.{IfOk-from_err, IfOk-at_ok}
 use Rattle.call_table.specs.declared.reply.Reply.{Reply}
 use Rattle.page_state.specs.LayoutView.{layout_of}
 use Rattle.page_state.proofs.Common.{same2}
-use Rattle.reference_model.specs.Rules.{names, guest_slot}
-use Rattle.reference_model.specs.State.{Cpu, Contents, Rooms, Reference, no_cpu}
-use Rattle.reference_model.specs.Step.{answer, stored}
-use Rattle.reference_model.specs.Used.{Used, put_rooms, rooms_of, used_of}
+use Rattle.reference_model.specs.model.Rules.{names, guest_slot}
+use Rattle.reference_model.specs.model.State.{Cpu, Contents, Rooms, Reference, no_cpu}
+use Rattle.reference_model.specs.model.Step.{answer, stored}
+use Rattle.reference_model.specs.model.Used.{Used, put_rooms, rooms_of, used_of}
 use Rattle.ghost_spec.specs.declared.lists.GhostLists.{GhostLists}
 use Rattle.ghost_spec.specs.States.{ghost_state, rooms_in}
 use Rattle.ghost_spec.specs.Kept.{HasNextGeneration}

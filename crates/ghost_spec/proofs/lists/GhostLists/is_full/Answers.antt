@@ -1,7 +1,7 @@
 use Rattle.std.proofs.Common.{◌≡◌, ◌||◌, ◌==◌, ℕ, Bool, get_or, sym, ap, ◌∙◌}
 use Rattle.std.proofs.lemmas.List.{get_or_default}
 use Rattle.page_state.proofs.Common.{same4}
-use Rattle.reference_model.specs.Rules.{names}
+use Rattle.reference_model.specs.model.Rules.{names}
 use Rattle.ghost_spec.specs.States.{rooms_in}
 use Rattle.ghost_spec.proofs.Rooms.{full-is}
 use Rattle.ghost_spec.proofs.lists.GhostLists.is_full.Goals as goal

@@ -1,8 +1,8 @@
 use Rattle.std.proofs.Common.{sym, ◌∙◌}
 use Rattle.std.proofs.lemmas.List.{length-set}
 use Rattle.std.proofs.lemmas.List.Elements.{All-set}
-use Rattle.reference_model.specs.State.{no_cpu}
-use Rattle.reference_model.specs.Used.{put_back}
+use Rattle.reference_model.specs.model.State.{no_cpu}
+use Rattle.reference_model.specs.model.Used.{put_back}
 use Rattle.ghost_spec.specs.Kept.{IsKeptCpu}
 use Rattle.ghost_spec.specs.Views.{cpu_in}
 use Rattle.ghost_spec.proofs.Foretold.{contents-same, put-list}

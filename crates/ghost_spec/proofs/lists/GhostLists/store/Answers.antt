@@ -1,7 +1,7 @@
 use Rattle.std.proofs.Common.{◌≡◌, ◌-◌, ℕ, get_or, ap, ◌∙◌}
 use Rattle.std.proofs.lemmas.List.{get_or_default}
-use Rattle.reference_model.specs.Rules.{names}
-use Rattle.reference_model.specs.State.{put_at}
+use Rattle.reference_model.specs.model.Rules.{names}
+use Rattle.reference_model.specs.model.State.{put_at}
 use Rattle.ghost_spec.specs.declared.lists.GhostRooms.{GhostRooms}
 use Rattle.ghost_spec.specs.States.{rooms_in}
 use Rattle.ghost_spec.proofs.Foretold.{put-items}

@@ -2,10 +2,10 @@ use Rattle.std.proofs.Common.{refl, sym, ap, subst, ◌∙◌}
 use Rattle.std.proofs.lemmas.List.{get_or-map}
 use Rattle.std.proofs.lemmas.Result.{IfOk-from_err}
 use Rattle.page_state.proofs.Common.{same4}
-use Rattle.reference_model.specs.Parts.{uses_shared}
-use Rattle.reference_model.specs.Rules.{names}
-use Rattle.reference_model.specs.State.{Vms, Shared, Guest, Cpu, no_cpu}
-use Rattle.reference_model.specs.Used.{Used, used_of, put_back}
+use Rattle.reference_model.specs.model.Parts.{uses_shared}
+use Rattle.reference_model.specs.model.Rules.{names}
+use Rattle.reference_model.specs.model.State.{Vms, Shared, Guest, Cpu, no_cpu}
+use Rattle.reference_model.specs.model.Used.{Used, used_of, put_back}
 use Rattle.ghost_spec.specs.Kept.{IsKeptCpu}
 use Rattle.ghost_spec.specs.Views.{cpu_in, shared_in_lists}
 use Rattle.ghost_spec.proofs.Foretold.{contents-same, if-stays}

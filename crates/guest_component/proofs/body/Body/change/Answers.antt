@@ -3,7 +3,7 @@ use Rattle.page_state.specs.Geometries.{levels_below}
 use Rattle.reference_model.specs.declared.changes.GuestChange.TheVariants.{Keep, Gain, LoseLowest, Die}
 use Rattle.guest_component.specs.Bodies.{body_of}
 use Rattle.reference_model.specs.declared.changes.MapChange.{MapChange}
-use Rattle.reference_model.specs.State.{Guest}
+use Rattle.reference_model.specs.model.State.{Guest}
 use Rattle.guest_component.specs.Changing.{StaysMade, map_changed}
 use Rattle.guest_component.specs.InHand.{body_with}
 use Rattle.guest_component.proofs.Guests.{after_both}

@@ -1,8 +1,8 @@
 use Rattle.std.proofs.Common.{sym, ap, subst, ◌∙◌}
 use Rattle.page_state.specs.Geometries.{levels_below}
 use Rattle.page_state.specs.Trees.{root_tree}
-use Rattle.reference_model.specs.Changes.{frames_in, rest}
-use Rattle.reference_model.specs.State.{live}
+use Rattle.reference_model.specs.model.Changes.{frames_in, rest}
+use Rattle.reference_model.specs.model.State.{live}
 use Rattle.table_tree.specs.View.{tree_of}
 use Rattle.guest_component.specs.Own.{HoldsOwn}
 use Rattle.guest_component.proofs.Gains.{parted}

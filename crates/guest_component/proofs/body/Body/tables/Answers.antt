@@ -1,5 +1,5 @@
 use Rattle.std.proofs.Common.{ℕ, ◌+◌, is_some, sym, ap, ◌∙◌}
-use Rattle.reference_model.specs.Owner.{count_blocks}
+use Rattle.reference_model.specs.model.Owner.{count_blocks}
 use Rattle.table_tree.specs.View.{tables_of, tree_of}
 use Rattle.guest_component.proofs.Frames.{tables_counted}
 use Rattle.guest_component.proofs.body.Body.tables.Goals as goal

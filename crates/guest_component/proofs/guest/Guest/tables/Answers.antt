@@ -1,6 +1,6 @@
 use Rattle.std.proofs.Common.{◌+◌, is_some, refl, sym, ap, ◌∙◌}
-use Rattle.reference_model.specs.State.{no_guest}
-use Rattle.reference_model.specs.GuestRules.{guest_table_count}
+use Rattle.reference_model.specs.model.State.{no_guest}
+use Rattle.reference_model.specs.model.GuestRules.{guest_table_count}
 use Rattle.reference_model.proofs.Frames.{count_blocks-none}
 use Rattle.guest_component.specs.View.{guest_in}
 use Rattle.guest_component.proofs.guest.Guest.tables.Goals as goal

@@ -1,5 +1,5 @@
 use Rattle.std.proofs.Common.{ap, arith, ◌∙◌, length}
-use Rattle.reference_model.specs.Step.{shared_after}
+use Rattle.reference_model.specs.model.Step.{shared_after}
 use Rattle.part_types.specs.Planned.{planned, shared_with}
 use Rattle.part_types.specs.View.{depth_of}
 use Rattle.part_types.proofs.Planned.{after_planned, host_back, hyp_back}

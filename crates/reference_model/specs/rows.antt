@@ -1,0 +1,22 @@
+-- Worked rows: answers of the definitions on small states.
+pub mod AbortRows
+pub mod BootRows
+pub mod ConditionRows
+pub mod EndRows
+pub mod Examples
+pub mod FoundRows
+pub mod GrowthRows
+pub mod GuestRows
+pub mod HandRows
+pub mod LargeRows
+pub mod LoadedRows
+pub mod NumberRows
+pub mod OwnerRows
+pub mod PartRows
+pub mod RangeRows
+pub mod RunRows
+pub mod ShortRows
+pub mod SharedRows
+pub mod VmRows
+pub mod Scene
+pub mod SceneState
