@@ -5,7 +5,7 @@ use Rattle.std.specs.List.{range_with_len}
 use Rattle.std.proofs.lemmas.List.{length-map}
 use Rattle.std.proofs.lemmas.List.FromFn.{get_or-map-range_with_len, length-map-range_with_len}
 use Rattle.std.proofs.lemmas.Option.{slice_get_cases}
-use Rattle.reference_model.specs.State.{Cpu}
+use Rattle.reference_model.specs.model.State.{Cpu}
 use Rattle.ghost_trees.specs.declared.tree.Table.{Table}
 use Rattle.ghost_trees.specs.Apart.{AreFramesApart, AreRunsApart, AreTablesApart}
 use Rattle.ghost_trees.specs.Small.{AreSmall}

@@ -12,7 +12,7 @@ use Rattle.page_state.specs.declared.row.Row.{Row}
 use Rattle.page_state.specs.Rows.{plain_row}
 use Rattle.page_state.specs.Runs.{map_of}
 use Rattle.page_state.specs.Trees.{Tree, Pool}
-use Rattle.reference_model.specs.State.{Cpu, Guest, Reference, Rooms, Slot, no_cpu, no_guest, no_slot}
+use Rattle.reference_model.specs.model.State.{Cpu, Guest, Reference, Rooms, Slot, no_cpu, no_guest, no_slot}
 use Rattle.ghost_trees.specs.declared.tree.Table.{Table}
 use Rattle.ghost_trees.specs.declared.tree.Tree.{Tree as TreeOfLists}
 use Rattle.ghost_trees.specs.Pools.{in_order}

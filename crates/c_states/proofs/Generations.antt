@@ -3,8 +3,8 @@ use Rattle.std.proofs.Common.{◌≡◌, ℕ, Bool, true, false, List, None, Opt
 use Rattle.std.specs.Prelude.{◌↔◌, IfErr, IfOk, IfSome, IsSome, IsTrue, OnOk, Result, Ok, Err}
 use Rattle.page_state.proofs.Common.{same2}
 use Rattle.page_state.specs.Layouts.{Layout}
-use Rattle.reference_model.specs.State.{Reference}
-use Rattle.reference_model.specs.Step.{foretell}
+use Rattle.reference_model.specs.model.State.{Reference}
+use Rattle.reference_model.specs.model.Step.{foretell}
 use Rattle.call_table.specs.declared.reply.Reply.{Reply}
 use Rattle.call_table.specs.declared.step.Step.{Step}
 use Rattle.ghost_spec.specs.Kept.{HasNextGeneration}

@@ -6,7 +6,7 @@ use Rattle.std.proofs.lemmas.Iterator.Adapters.{position_from-zero}
 use Rattle.std.proofs.lemmas.Bool.Decides.{nat_tests}
 use mathlib.Core.Path.{fun_ext}
 use Rattle.page_state.proofs.Cases.{by_test}
-use Rattle.reference_model.specs.State.{no_cpu}
+use Rattle.reference_model.specs.model.State.{no_cpu}
 use Rattle.c_states.specs.declared.members.PlainCpu.{PlainCpu}
 use Rattle.c_states.specs.declared.members.PlainLoad.{PlainLoad}
 use Rattle.c_states.specs.declared.members.PlainSlot.{PlainSlot}

@@ -11,7 +11,7 @@ use Rattle.page_state.specs.declared.entry.Run.{Run}
 use Rattle.page_state.specs.declared.row.Row.{Row}
 use Rattle.page_state.specs.Runs.{map_of}
 use Rattle.page_state.specs.Trees.{Tree, Pool}
-use Rattle.reference_model.specs.State.{Contents, Cpu, Guest, Slot, no_cpu, no_guest, no_slot}
+use Rattle.reference_model.specs.model.State.{Contents, Cpu, Guest, Slot, no_cpu, no_guest, no_slot}
 use Rattle.ghost_trees.specs.declared.tree.Table.{Table}
 use Rattle.ghost_trees.specs.Pools.{in_order}
 use Rattle.ghost_trees.specs.Trees.{table_of, tree_in_lists}

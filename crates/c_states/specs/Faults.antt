@@ -1,6 +1,6 @@
 -- Which plain lists make a state, and why others don't.
 use Rattle.std.specs.Prelude.{◌≡◌, ◌<◌, ◌≤◌, ◌^◌, ℕ, Bool, not, All, List, Option, Some, None, position}
-use Rattle.reference_model.specs.State.{Cpu}
+use Rattle.reference_model.specs.model.State.{Cpu}
 use Rattle.ghost_trees.specs.Apart.{AreFramesApart, AreRunsApart, AreTablesApart}
 use Rattle.ghost_trees.specs.Small.{AreSmall}
 use Rattle.ghost_spec.specs.declared.filled.GhostFault.{GhostFault}
@@ -94,7 +94,7 @@ IsFirstOfLists cpus p TableTwice = HaveLowNumbers cpus p × HaveRunsApart p × �
 IsFirstOfLists cpus p FrameTwice = HaveLowNumbers cpus p × HaveRunsApart p × HaveTablesApart p × ¬ HaveFramesApart p
 IsFirstOfLists cpus p other = ⊥
 
--- the member that is told is the first of its list that can't be there with an earlier one. Of numbers that are too large none is told
+-- the named member is the first of its list that can't be there with an earlier one. Of numbers that are too large none is named
 abbrev pub IsCulprit : Lists → GhostFault → Option (PlainList × ℕ) → Type 0
 IsCulprit p TooLarge None = Unit {0}
 IsCulprit p Overlap (Some told) = (told.0 ≡ lists.Runs) × IsFirstClash do_runs_clash p.runs told.1
@@ -102,7 +102,7 @@ IsCulprit p TableTwice (Some told) = (told.0 ≡ lists.Tables) × IsFirstClash d
 IsCulprit p FrameTwice (Some told) = (told.0 ≡ lists.Frames) × IsFirstClash do_frames_clash p.frames told.1
 IsCulprit p other culprit = ⊥
 
--- a fault of lists that are read, with what is told of it
+-- a fault of lists that are read, with its place
 abbrev pub IsListsFault : ℕ → Lists → PlainFault → Type 0
 IsListsFault cpus p (ListsFault fault culprit) = IsFirstOfLists cpus p fault × IsCulprit p fault culprit
 IsListsFault cpus p NoMemory = Unit {0}

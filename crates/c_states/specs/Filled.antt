@@ -5,7 +5,7 @@ use Rattle.page_state.specs.declared.entry.Run.{Run}
 use Rattle.page_state.specs.Rows.{advance_row}
 use Rattle.run_list.specs.Runs.{run_map}
 use Rattle.call_table.specs.declared.step.VmKind.{VmKind}
-use Rattle.reference_model.specs.State.{Phase, Slot}
+use Rattle.reference_model.specs.model.State.{Phase, Slot}
 use Rattle.ghost_trees.specs.declared.tree.Table.{Table}
 use Rattle.ghost_trees.specs.declared.tree.Tree.{Tree}
 use Rattle.ghost_spec.specs.declared.lists.GhostLists.{GhostLists}

@@ -2,8 +2,8 @@
 use Rattle.std.specs.Prelude.{◌≡◌, ◌<◌, ◌≤◌, ◌↔◌, ℕ, List, Option, Some, None, IfSome, IsSome}
 use Rattle.call_table.specs.declared.reply.Reply.{Reply}
 use Rattle.call_table.specs.declared.step.Step.{Step}
-use Rattle.reference_model.specs.State.{Reference}
-use Rattle.reference_model.specs.Step.{foretell}
+use Rattle.reference_model.specs.model.State.{Reference}
+use Rattle.reference_model.specs.model.Step.{foretell}
 use Rattle.ghost_spec.specs.Kept.{HasNextGeneration}
 use Rattle.ghost_judge.specs.declared.disagreement.Disagreement.{Disagreement}
 use Rattle.ghost_judge.specs.Judgements.{JudgeAgrees, IsFirstJudged}

@@ -1,4 +1,4 @@
--- What is judged and foretold isn't refused, and has one answer; and what is refused has one reason.
+-- A call that is judged or predicted isn't refused, and has one answer; a refused one has one reason.
 use Rattle.std.specs.Prelude.{◌≡◌, ◌⊎◌, ℕ, ◌<◌, ◌==◌, ◌||◌, nat_lt, All, IsTrue, List, None, Option}
 use Rattle.ghost_judge.specs.declared.disagreement.Disagreement.{Disagreement}
 use Rattle.c_words.specs.declared.reply.PlainReply.{PlainReply}
@@ -71,7 +71,7 @@ abbrev pub LayoutFaultOnce : Type 0
 LayoutFaultOnce = (l : PlainLayout) (regions : List PlainRegion) (f g : PlainLayoutFault) → IsLayoutFault l regions f → IsLayoutFault l regions g
     → (f ≡ layouts.NoMemory) ⊎ ((g ≡ layouts.NoMemory) ⊎ (f ≡ g))
 
--- so have lists, with one member that is told
+-- so have lists, with one member that is named
 abbrev pub PlainFaultOnce : Type 0
 PlainFaultOnce = (cpus : ℕ) (p : Lists) (f g : PlainFault) → IsPlainFault cpus p f → IsPlainFault cpus p g → (f ≡ faults.NoMemory) ⊎ ((g ≡ faults.NoMemory) ⊎ (f ≡ g))
 

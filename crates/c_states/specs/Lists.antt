@@ -6,11 +6,11 @@ use Rattle.page_state.specs.declared.row.Row.{Row}
 use Rattle.run_list.specs.declared.run.Run.{Run as RowRun}
 use Rattle.call_table.specs.declared.step.VmKind.{VmKind}
 use Rattle.call_table.specs.declared.step.VmKind.TheVariants.{Plain, Protected}
-use Rattle.reference_model.specs.State.{Cpu, Slot, Stand, vacant, reserved, opened, closing, Phase, empty, live, dying}
+use Rattle.reference_model.specs.model.State.{Cpu, Slot, Stand, vacant, reserved, opened, closing, Phase, empty, live, dying}
 use Rattle.reference_model.specs.declared.changes.Loaded.{Loaded}
 use Rattle.reference_model.specs.declared.changes.Ticket.{Ticket}
 use Rattle.reference_model.specs.declared.changes.Stage.{Stage}
-use Rattle.reference_model.specs.declared.changes.Stage.TheVariants.{Booked, Installed, ClosingVm, DyingVm, Finished}
+use Rattle.reference_model.specs.declared.changes.Stage.TheVariants.{Booked, Installed, Closing, Dying, Finished}
 use Rattle.ghost_trees.specs.declared.tree.Table.{Table}
 use Rattle.c_words.specs.Said.{target_said, row_said as owner_said}
 use Rattle.c_states.specs.declared.members.PlainRun.{PlainRun}
@@ -86,7 +86,7 @@ is_load slot vcpu l = l.slot == slot && l.vcpu == vcpu
 abbrev pub loader_said : List PlainLoad → ℕ → ℕ → Option ℕ
 loader_said loads slot vcpu = option_map (λ l. l.cpu) (find (is_load slot vcpu) loads)
 
--- how a slot stands, the phase of a guest, the kind of a VM, and the stage of a ticket: the last for each number that isn't known
+-- the stage of a slot, the phase of a guest, the kind of a VM, and the stage of a ticket: the last for each number that isn't known
 abbrev pub stand_said : ℕ → Stand
 stand_said n = if n == 1 then reserved else if n == 2 then opened else if n == 3 then closing else vacant
 
@@ -97,7 +97,7 @@ abbrev pub kind_said : ℕ → VmKind
 kind_said n = if n == 1 then Protected else Plain
 
 abbrev pub stage_said : ℕ → Stage
-stage_said n = if n == 0 then Booked else if n == 1 then Installed else if n == 2 then ClosingVm else if n == 3 then DyingVm else Finished
+stage_said n = if n == 0 then Booked else if n == 1 then Installed else if n == 2 then Closing else if n == 3 then Dying else Finished
 
 -- a slot, by its number
 abbrev pub slot_said : List PlainLoad → ℕ → PlainSlot → Slot

@@ -2,7 +2,7 @@
 use Rattle.std.specs.Prelude.{ℕ, ◌+◌, List, nat_lt, if◌then◌else◌}
 use Rattle.page_state.specs.Runs.{map_of}
 use Rattle.page_state.specs.Trees.{Tree}
-use Rattle.reference_model.specs.State.{Contents, Guest, Reference, Rooms, no_guest, no_slot}
+use Rattle.reference_model.specs.model.State.{Contents, Guest, Reference, Rooms, no_guest, no_slot}
 use Rattle.ghost_spec.specs.Views.{row_in}
 use Rattle.ghost_trees.specs.Pools.{in_order}
 use Rattle.ghost_trees.specs.Trees.{table_of}

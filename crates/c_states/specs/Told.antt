@@ -1,8 +1,8 @@
--- The lists that are told of a state.
+-- The lists of a state.
 use Rattle.std.specs.Prelude.{◌≡◌, ℕ, ◌+◌, ◌&&◌, ◌<◌, nat_lt, Bool, IsTrue, List, [], Option, All, get_or, map}
 use Rattle.std.specs.Option.{option_or}
 use Rattle.call_table.specs.declared.step.VmKind.{VmKind}
-use Rattle.reference_model.specs.State.{Contents, Phase, Stand}
+use Rattle.reference_model.specs.model.State.{Contents, Phase, Stand}
 use Rattle.ghost_spec.specs.declared.parts.GhostGuest.{GhostGuest}
 use Rattle.ghost_spec.specs.declared.parts.GhostSlot.{GhostSlot}
 use Rattle.ghost_spec.specs.Filled.{ordered}
@@ -22,15 +22,15 @@ use Rattle.c_states.specs.States.{Lists}
 abbrev pub lists_owned : PlainLists → Lists
 lists_owned p = record { runs = p.runs.items; tables = p.tables.items; frames = p.frames.items; slots = p.slots.items; loads = p.loads.items; guests = p.guests.items; cpus = p.cpus.items; rows = p.rows.items }
 
--- members whose numbers all stand for something
+-- members whose numbers are all known
 abbrev pub AreKnown : {X : Type 0} → (X → Bool) → List X → Type 0
 AreKnown known xs = All (λ x. IsTrue (known x)) xs
 
--- of each guest is told, by the number of its tree, what it has
+-- each guest is given by the number of its tree, with what it has
 abbrev pub TellsGuests : {X : Type 0} → (ℕ → List X) → (GhostGuest → List X) → List GhostGuest → Type 0
 TellsGuests told has guests = (v : ℕ) → told (2 + v) ≡ get_or (map has guests) v []
 
--- these loads are added: a vCPU's loader is the first that is told of it
+-- these loads are added: a vCPU's loader is the first that is given for it
 abbrev pub AreLoadsAdded : List PlainLoad → List PlainLoad → (ℕ → ℕ → Option ℕ) → Type 0
 AreLoadsAdded old new loader = (slot vcpu : ℕ) → loader_said new slot vcpu ≡ option_or (loader_said old slot vcpu) (loader slot vcpu)
 
@@ -42,7 +42,7 @@ AreLoads xs = All (λ l. l.slot < 64) xs
 abbrev pub is_cpu_told : ℕ → PlainCpu → Bool
 is_cpu_told cpus k = nat_lt k.cpu cpus && has_known_ticket k
 
--- lists that are told have known numbers, but for those of vCPUs, and no slot, guest or CPU is there twice. A vCPU may be past the
+-- given lists have known numbers, but for those of vCPUs, and no slot, guest or CPU is there twice. A vCPU may be past the
 -- eighth where its slot has more than 8
 pub record AreTold (cpus : ℕ) (p : Lists) : Type 0 where
   pub runs : AreKnown is_run p.runs
@@ -59,7 +59,7 @@ pub record AreTold (cpus : ℕ) (p : Lists) : Type 0 where
 abbrev pub in_pool_order : Contents → Contents
 in_pool_order x = record x { shared = record x.shared { free = in_order x.shared.free }; guest = λ v. ordered (x.guest v) }
 
--- a slot but for what is loaded
+-- a slot but for its loaded vCPUs
 pub record SlotHead : Type 0 where
   pub stand : Stand
   pub generation : ℕ

@@ -140,7 +140,7 @@ pub(crate) fn row_runs_of(
     rows.iter().filter_map(|row| row_of(*row)).collect(alloc)
 }
 
-/// How a slot stands.
+/// The stage of a slot.
 fn stand_of(number: u64) -> GhostStand
     ensures { stand_in result ≡ stand_said number }
 {
@@ -181,8 +181,8 @@ fn stage_of(number: u64) -> Stage
     match number {
         0 => Stage::Booked,
         1 => Stage::Installed,
-        2 => Stage::ClosingVm,
-        3 => Stage::DyingVm,
+        2 => Stage::Closing,
+        3 => Stage::Dying,
         _ => Stage::Finished,
     }
 }

@@ -245,7 +245,7 @@ pub enum PlainFault {
     NoMemory,
 }
 
-/// The first member with a number that stands for nothing, in the order of the lists.
+/// The first member with an unknown number, in the order of the lists.
 fn unknown(state: &PlainState<'_>, cpus: u64) -> Option<(PlainList, usize)>
     ensures { result ≡ first_unknown_of cpus (lists_told state.now) }
 {

@@ -6,7 +6,7 @@ use ghost_judge::disagreement::Disagreement;
 use ghost_judge::text::Judgement;
 use std::alloc::{AllocError, Global};
 
-/// Writes what a judgement found into the front of `text`, where that has room for all of it, and tells how many bytes it has.
+/// Writes a judgement's finding into the front of `text`, if that has room for all of it, and returns its length in bytes.
 pub fn write_judgement(
     alloc: Global,
     found: Disagreement,

@@ -180,7 +180,7 @@ fn frames_told(alloc: Global, lists: &GhostLists) -> Result<Vec<PlainFrame>, All
     Ok(told)
 }
 
-/// The number of how a slot stands.
+/// The number of a slot's stage.
 fn stand_number(stand: GhostStand) -> u64
     ensures said { stand_said result ≡ stand_in stand }
     ensures known { result < 4 }
@@ -224,13 +224,13 @@ fn stage_number(stage: Stage) -> u64
     match stage {
         Stage::Booked => 0,
         Stage::Installed => 1,
-        Stage::ClosingVm => 2,
-        Stage::DyingVm => 3,
+        Stage::Closing => 2,
+        Stage::Dying => 3,
         Stage::Finished => 4,
     }
 }
 
-/// The slot of a number, but for what is loaded.
+/// The slot of a number, but for its loaded vCPUs.
 fn slot_told(number: u64, slot: &GhostSlot) -> PlainSlot
     ensures number { result.slot ≡ number }
     ensures known { number < 64 → IsTrue (is_slot result) }
@@ -245,7 +245,7 @@ fn slot_told(number: u64, slot: &GhostSlot) -> PlainSlot
     }
 }
 
-/// All slots, but for what is loaded.
+/// All slots, but for their loaded vCPUs.
 fn slots_told(alloc: Global, slots: &[GhostSlot]) -> Result<Vec<PlainSlot>, AllocError>
     ensures numbers { IfOk result (λ v. map (λ (s : PlainSlot). s.slot) v.items ≡ map (λ n. n) (range_with_len 0 (length slots.now))) }
     ensures heads { IfOk result (λ v. map slot_head_said v.items ≡ map slot_head_in slots.now) }

@@ -1,4 +1,4 @@
--- Which numbers stand for which rights, kinds of memory, states, kinds of VMs and refusals, and the number of each.
+-- The numbers of rights, kinds of memory, states, kinds of VMs and refusals.
 use Rattle.std.specs.Prelude.{ℕ, ◌==◌, Option, Some, None, if◌then◌else◌}
 use Rattle.descriptor.specs.declared.Prot.{Prot}
 use Rattle.descriptor.specs.declared.Prot.TheVariants.{R, RW, RX, RWX}

@@ -1,60 +1,37 @@
--- Which steps plain steps say: a call's number and its arguments, in order. A VM is two of them, its slot and its generation.
-use Rattle.std.specs.Prelude.{◌==◌, Option, Some, None, option_map, if◌then◌else◌}
+-- Which steps plain steps say: a call's number and its arguments, in the order of the call's forms. A VM is two numbers, its slot and its generation.
+use Rattle.std.specs.Prelude.{List, [], ◌∷◌, Option, Some, option_map, option_and_then}
+use Rattle.call_table.specs.declared.argument.Arguments.{Arguments}
+use Rattle.call_table.specs.declared.argument.Form.{Form}
+use Rattle.call_table.specs.declared.argument.Form.TheVariants.{Frame, Page, Count, LastCount, Vcpus, Vcpu, Vm, Kind, Rights}
 use Rattle.call_table.specs.declared.step.Step.{Step}
-use Rattle.call_table.specs.declared.step.Step.TheVariants as steps
-use Rattle.call_table.specs.declared.step.VmId.{VmId}
+use Rattle.call_table.specs.Made.{step_by}
+use Rattle.call_table.specs.Named.{blank}
+use Rattle.call_table.specs.Rows.{numbered, row}
 use Rattle.c_words.specs.declared.step.PlainStep.{PlainStep}
 use Rattle.c_words.specs.Numbers.{rights_said, vm_kind_said}
 
--- the VM that the first two arguments name
-abbrev pub vm_said : PlainStep → VmId
-vm_said s = record { slot = s.first; generation = s.second }
+-- arguments, of which that of a form is what the first number says, of a VM the first two
+abbrev pub argument_said : Form → PlainStep → Arguments → Option Arguments
+argument_said Frame s a = Some (record a { frame = s.first })
+argument_said Page s a = Some (record a { page = s.first })
+argument_said Count s a = Some (record a { count = s.first })
+argument_said LastCount s a = Some (record a { count = s.first })
+argument_said Vcpus s a = Some (record a { vcpus = s.first })
+argument_said Vcpu s a = Some (record a { vcpu = s.first })
+argument_said Vm s a = Some (record a { vm = record { slot = s.first; generation = s.second } })
+argument_said Kind s a = option_map (λ k. record a { kind = k }) (vm_kind_said s.first)
+argument_said Rights s a = option_map (λ r. record a { rights = r }) (rights_said s.first)
 
--- the calls on VM slots
-unfoldable pub vm_step_said : PlainStep → Option Step
-vm_step_said s =
-    if s.call == 24 then option_map (λ kind. steps.VmReserve kind s.second) (vm_kind_said s.first)
-    else if s.call == 25 then Some steps.VmOpen
-    else if s.call == 26 then Some (steps.VcpuLoad (vm_said s) s.third)
-    else if s.call == 27 then Some steps.VcpuPut
-    else if s.call == 28 then Some (steps.Teardown (vm_said s))
-    else if s.call == 29 then Some steps.VmRelease
-    else None
+-- the numbers behind those of such an argument
+abbrev pub numbers_behind : Form → PlainStep → PlainStep
+numbers_behind Vm s = record s { first = s.third; second = s.fourth; third = 0; fourth = 0 }
+numbers_behind other s = record s { first = s.second; second = s.third; third = s.fourth; fourth = 0 }
 
--- those on guests and their pools, and these
-unfoldable pub guest_step_said : PlainStep → Option Step
-guest_step_said s =
-    if s.call == 16 then Some steps.Install
-    else if s.call == 17 then Some (steps.Topup (vm_said s))
-    else if s.call == 18 then Some (steps.ReclaimPage (vm_said s) s.third)
-    else if s.call == 19 then Some (steps.ReclaimPool (vm_said s))
-    else if s.call == 20 then Some steps.FinishGuest
-    else if s.call == 21 then option_map (λ prot. steps.GuestRelax s.first prot) (rights_said s.second)
-    else if s.call == 22 then Some (steps.GuestTranslate (vm_said s) s.third)
-    else if s.call == 23 then Some steps.MarkDying
-    else vm_step_said s
+-- arguments, of which those of these forms are what the numbers say in order
+abbrev pub arguments_said : List Form → PlainStep → Arguments → Option Arguments
+arguments_said [] s a = Some a
+arguments_said (form ∷ more) s a = option_and_then (arguments_said more (numbers_behind form s)) (argument_said form s a)
 
--- those of hands and of what host and guests share and donate, and these
-unfoldable pub hand_step_said : PlainStep → Option Step
-hand_step_said s =
-    if s.call == 9 then Some (steps.Fund s.first s.second)
-    else if s.call == 10 then Some steps.Unfund
-    else if s.call == 11 then option_map (λ prot. steps.ShareGuest s.first s.second prot s.fourth) (rights_said s.third)
-    else if s.call == 12 then Some (steps.UnshareGuest (vm_said s) s.third)
-    else if s.call == 13 then Some (steps.DonateGuest s.first s.second s.third)
-    else if s.call == 14 then Some (steps.GuestShareHost s.first)
-    else if s.call == 15 then Some (steps.GuestUnshareHost s.first)
-    else guest_step_said s
-
--- all calls
+-- the step of the call of a number
 unfoldable pub step_said : PlainStep → Option Step
-step_said s =
-    if s.call == 1 then Some (steps.ShareHyp s.first)
-    else if s.call == 2 then Some (steps.UnshareHyp s.first)
-    else if s.call == 3 then Some (steps.DonateHyp s.first s.second)
-    else if s.call == 4 then Some (steps.HypDonateHost s.first s.second)
-    else if s.call == 5 then Some (steps.HostAbort s.first)
-    else if s.call == 6 then Some (steps.HostTranslate s.first)
-    else if s.call == 7 then Some (steps.HypTranslate s.first)
-    else if s.call == 8 then Some (steps.OwnerOf s.first)
-    else hand_step_said s
+step_said s = option_and_then (λ call. option_map (step_by call) (arguments_said (row call).forms s blank)) (numbered s.call)

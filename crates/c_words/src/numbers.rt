@@ -1,4 +1,4 @@
-//! Which numbers stand for which variants.
+//! The numbers of the variants.
 ghost use Rattle.std.specs.Prelude.{◌≡◌, Some};
 ghost use Rattle.c_words.specs.Numbers.{
   kind_said,

@@ -1,1 +1,3 @@
+pub mod CallsNamed
 pub mod Equality
+pub mod StepsMade

@@ -56,6 +56,6 @@ BlocksMeet = (top first count : ℕ) (b : Block) → 0 < count → Contains (blo
 abbrev pub ComesBefore : Block → Block → Type 0
 ComesBefore a b = (first_page a < first_page b) ⊎ ((first_page a ≡ first_page b) × (b.0 < a.0))
 
--- they are told by page, the parent before the child, and so each once
+-- they come by page, the parent before the child, and so each once
 abbrev pub BlocksOrdered : Type 0
 BlocksOrdered = (top first count : ℕ) → AllPairs ComesBefore (blocks_on top first count)

@@ -13,3 +13,4 @@ pub use layout::{
     Config, Geometry, Layout, LayoutFault, MemoryMap, Region, RegionKind, pages_under,
 };
 pub use row::{Lent, Row, Usage};
+pub use text::{kind_word, rights_word, state_word};

@@ -5,7 +5,7 @@ use Rattle.page_state.specs.declared.entry.Entry.{Entry}
 use Rattle.page_state.specs.declared.row.Row.{Row}
 use Rattle.page_state.specs.Entries.{advance_target}
 use Rattle.page_state.specs.Rows.{advance_row, HasPageBelow}
-use Rattle.reference_model.specs.State.{Contents, Slot}
+use Rattle.reference_model.specs.model.State.{Contents, Slot}
 use Rattle.run_list.specs.Advance.{AdvanceLaws}
 use Rattle.run_list.specs.OwnerRows.{row_laws}
 use Rattle.run_list.specs.Targets.{HasFrameBelow, target_laws}

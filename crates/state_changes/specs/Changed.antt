@@ -7,7 +7,7 @@ use Rattle.page_state.specs.declared.row.Row.{Row}
 use Rattle.page_state.specs.Entries.{advance_target, entry_of}
 use Rattle.page_state.specs.Rows.{advance_row, plain_row}
 use Rattle.page_state.specs.Texts.{text_of_entry, text_of_page, text_of_row}
-use Rattle.reference_model.specs.State.{Contents, Cpu, Guest, Slot}
+use Rattle.reference_model.specs.model.State.{Contents, Cpu, Guest, Slot}
 use Rattle.run_list.specs.declared.run.Run.{Run}
 use Rattle.run_list.specs.Runs.{IsCoarsest, run_map}
 use Rattle.run_changes.specs.declared.change.Change.{Change}
@@ -19,7 +19,7 @@ use Rattle.state_changes.specs.Together.{Each, Then}
 abbrev pub change_line : List ℕ → List ℕ → List ℕ → List ℕ
 change_line name before after = codes "    " ++ name ++ codes ": " ++ before ++ codes " -> " ++ after ++ 10 ∷ []
 
--- a value: where it is as before, nothing is told, and else a line
+-- a value: no line if it is as before, otherwise one
 abbrev pub TellsValue : {X : Type 0} → List ℕ → (X → List ℕ) → X → X → List ℕ → Type 0
 TellsValue name text_of before after text = ((before ≡ after) × (text ≡ [])) ⊎ ((before ≡ after → ⊥) × (text ≡ change_line name (text_of before) (text_of after)))
 
@@ -33,7 +33,7 @@ run_lines text_of label [] = []
 run_lines text_of label (r ∷ rs) =
     change_line (pages_name label r.pages.first.0 (r.pages.first.0 + (r.pages.count - 1))) (text_of r.value.before) (text_of r.value.after) ++ run_lines text_of label rs
 
--- what is told of a page: nothing where it is as before, and else both; `is`: what a value in a run stands for
+-- the change of a page: none if it is as before, otherwise both values; `is`: what a value in a run represents
 abbrev pub IsChange : {V X : Type 0} → (X → Option V → Type 0) → X → X → Option (Change V) → Type 0
 IsChange is before after None = before ≡ after
 IsChange is before after (Some c) = is before c.before × is after c.after × (before ≡ after → ⊥)

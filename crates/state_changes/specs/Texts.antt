@@ -5,16 +5,12 @@ use Rattle.page_state.specs.declared.entry.PageRange.{PageRange}
 use Rattle.page_state.specs.Texts.{text_of_page}
 use Rattle.reference_model.specs.declared.changes.Loaded.{Loaded}
 use Rattle.reference_model.specs.declared.changes.Stage.{Stage}
-use Rattle.reference_model.specs.declared.changes.Stage.TheVariants.{Booked, Installed, ClosingVm, DyingVm, Finished}
+use Rattle.reference_model.specs.declared.changes.Stage.TheVariants.{Booked, Installed, Closing, Dying, Finished}
 use Rattle.reference_model.specs.declared.changes.Ticket.{Ticket as CpuTicket}
-use Rattle.reference_model.specs.State.{Guest as ReferenceGuest, Phase, empty, live, dying, Slot, Stand, vacant, reserved, opened, closing}
+use Rattle.reference_model.specs.model.State.{Guest as ReferenceGuest, Phase, empty, live, dying, Slot, Stand, vacant, reserved, opened, closing}
 use Rattle.call_table.specs.declared.step.VmKind.{VmKind}
-use Rattle.call_table.specs.declared.step.VmKind.TheVariants.{Protected, Plain}
 use Rattle.call_table.specs.Texts.{text_of_vm}
-
-abbrev pub text_of_kind : VmKind → List ℕ
-text_of_kind Protected = codes "protected"
-text_of_kind Plain = codes "plain"
+use Rattle.call_table.specs.Words.{text_of_vm_kind}
 
 abbrev pub text_of_stand : Stand → List ℕ
 text_of_stand vacant = codes "empty"
@@ -22,7 +18,7 @@ text_of_stand reserved = codes "reserved"
 text_of_stand opened = codes "open"
 text_of_stand closing = codes "closing"
 
--- a VM slot: how it stands, its generation, the kind of its VM, and how many vCPUs this has
+-- a VM slot: its stage, its generation, the kind of its VM, and how many vCPUs this has
 pub record SlotHead : Type 0 where
   pub stand : Stand
   pub generation : ℕ
@@ -33,7 +29,7 @@ abbrev pub slot_head : Slot → SlotHead
 slot_head s = record { stand = s.stand; generation = s.generation; kind = s.kind; vcpus = s.vcpus }
 
 abbrev pub text_of_slot_head : SlotHead → List ℕ
-text_of_slot_head s = text_of_stand s.stand ++ codes " generation " ++ decimal s.generation ++ codes " " ++ text_of_kind s.kind ++ codes " vcpus " ++ decimal s.vcpus
+text_of_slot_head s = text_of_stand s.stand ++ codes " generation " ++ decimal s.generation ++ codes " " ++ text_of_vm_kind s.kind ++ codes " vcpus " ++ decimal s.vcpus
 
 abbrev pub text_of_slot : Slot → List ℕ
 text_of_slot s = text_of_slot_head (slot_head s)
@@ -54,7 +50,7 @@ abbrev pub guest_head : ReferenceGuest → GuestHead
 guest_head g = record { phase = g.phase; generation = g.generation; kind = g.kind; free = length g.free }
 
 abbrev pub guest_line : Phase → ℕ → VmKind → ℕ → List ℕ
-guest_line phase generation kind free = text_of_phase phase ++ codes " generation " ++ decimal generation ++ codes " " ++ text_of_kind kind ++ codes " free " ++ decimal free
+guest_line phase generation kind free = text_of_phase phase ++ codes " generation " ++ decimal generation ++ codes " " ++ text_of_vm_kind kind ++ codes " free " ++ decimal free
 
 -- of an Empty one the phase alone
 abbrev pub guest_in_phase : Phase → ℕ → VmKind → ℕ → List ℕ
@@ -89,11 +85,11 @@ text_of_hand (Some frames) = text_of_page frames.first.0 ++ codes " " ++ decimal
 abbrev pub text_of_stage : Stage → List ℕ
 text_of_stage Booked = codes "booked"
 text_of_stage Installed = codes "installed"
-text_of_stage ClosingVm = codes "closing"
-text_of_stage DyingVm = codes "dying"
+text_of_stage Closing = codes "closing"
+text_of_stage Dying = codes "dying"
 text_of_stage Finished = codes "finished"
 
 -- its ticket: the VM, its kind, and how far it has come
 abbrev pub text_of_ticket : Option CpuTicket → List ℕ
 text_of_ticket None = codes "none"
-text_of_ticket (Some t) = text_of_vm t.vm ++ codes " " ++ text_of_kind t.kind ++ codes " " ++ text_of_stage t.stage
+text_of_ticket (Some t) = text_of_vm t.vm ++ codes " " ++ text_of_vm_kind t.kind ++ codes " " ++ text_of_stage t.stage

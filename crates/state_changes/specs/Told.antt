@@ -1,11 +1,11 @@
--- What is told of lists.
+-- The changes of lists.
 use Rattle.std.specs.Prelude.{ℕ, List, get_or, map}
 use Rattle.ghost_spec.specs.declared.parts.GhostGuest.{GhostGuest}
 use Rattle.ghost_spec.specs.declared.parts.GhostSlot.{GhostSlot}
 use Rattle.ghost_spec.specs.States.{guest_in, slot_in}
 use Rattle.ghost_trees.specs.declared.tree.Tree.{Tree}
 use Rattle.page_state.specs.Runs.{map_of}
-use Rattle.reference_model.specs.State.{Guest, Slot, no_guest, no_slot}
+use Rattle.reference_model.specs.model.State.{Guest, Slot, no_guest, no_slot}
 use Rattle.state_changes.specs.declared.maps.Label.{Label}
 use Rattle.state_changes.specs.Changed.{TellsEntries, TellsGuest, TellsSlot, guest_name}
 use Rattle.state_changes.specs.Labels.{text_of_label}

@@ -7,8 +7,8 @@ ghost use Rattle.state_changes.specs.Texts.{guest_head, slot_head, text_of_guest
 ghost use Rattle.state_changes.specs.Together.{Adds, Each};
 
 use crate::lines::add_change;
-use crate::words::{kind_word, told_cpu};
-use call_table::VmKind;
+use crate::words::told_cpu;
+use call_table::{VmKind, vm_kind_word};
 use ghost_spec::parts::{GhostGuest, GhostPhase, GhostSlot, GhostStand};
 use std::alloc::{AllocError, Global};
 use std::fmt;
@@ -16,7 +16,7 @@ use std::fmt;
 /// The most vCPUs of a VM.
 const VCPUS: usize = 8;
 
-/// What is told of a guest.
+/// The texts of a guest.
 #[derive(Clone, Copy, PartialEq)]
 struct GuestHead {
     phase: GhostPhase,
@@ -33,7 +33,7 @@ impl fmt::Display for GuestHead {
     fn fmt<W: fmt::Write>(&self, f: &mut fmt::Formatter<W>) -> fmt::Result {
         let phase = phase_word(self.phase);
         let generation = self.generation;
-        let kind = kind_word(self.kind);
+        let kind = vm_kind_word(self.kind);
         let free = self.free;
         match self.phase {
             GhostPhase::Empty => f.write_str("empty"),
@@ -44,7 +44,7 @@ impl fmt::Display for GuestHead {
     }
 }
 
-/// What is told of a VM slot, vCPUs apart.
+/// The text of a VM slot, vCPUs apart.
 #[derive(Clone, Copy, PartialEq)]
 struct SlotHead {
     stand: GhostStand,
@@ -61,13 +61,14 @@ impl fmt::Display for SlotHead {
     fn fmt<W: fmt::Write>(&self, f: &mut fmt::Formatter<W>) -> fmt::Result {
         let stand = stand_word(self.stand);
         let generation = self.generation;
-        let kind = kind_word(self.kind);
+        let kind = vm_kind_word(self.kind);
         let vcpus = self.vcpus;
         write!(f, "{stand} generation {generation} {kind} vcpus {vcpus}")
     }
 }
 
-fn phase_word(phase: GhostPhase) -> &'static str
+/// The word of a guest's phase.
+pub fn phase_word(phase: GhostPhase) -> &'static str
     ensures { result.now ≡ text_of_phase (phase_in phase) }
 {
     match phase {
@@ -77,7 +78,8 @@ fn phase_word(phase: GhostPhase) -> &'static str
     }
 }
 
-fn stand_word(stand: GhostStand) -> &'static str
+/// The word of a slot's stage.
+pub fn stand_word(stand: GhostStand) -> &'static str
     ensures { result.now ≡ text_of_stand (stand_in stand) }
 {
     match stand {

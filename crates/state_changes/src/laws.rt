@@ -1,4 +1,4 @@
-//! The law of what is told. The function does nothing, and its contract is the law.
+//! The law of the report. The function does nothing, and its contract is the law.
 ghost use Rattle.state_changes.specs.Laws.{OneText};
 
 /// Two states determine the text of what changed.

@@ -9,5 +9,6 @@ mod own;
 mod told;
 mod words;
 
+pub use heads::{phase_word, stand_word};
 pub use told::add_changes;
-pub use words::{kind_word, told_cpu, told_hand, told_loaded, told_ticket};
+pub use words::{told_cpu, told_hand, told_loaded, told_ticket};

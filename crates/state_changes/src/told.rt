@@ -1,7 +1,7 @@
 //! Two states.
 ghost use Rattle.std.specs.Prelude.{◌≡◌, ℕ, OnOk, get_or, is_some, length, map};
 ghost use Rattle.page_state.specs.Rows.{advance_row};
-ghost use Rattle.reference_model.specs.State.{no_guest, no_slot};
+ghost use Rattle.reference_model.specs.model.State.{no_guest, no_slot};
 ghost use Rattle.run_list.specs.Runs.{run_map};
 ghost use Rattle.ghost_spec.specs.States.{contents_in, guest_in, slot_in, AreKeptGuests, IsKept};
 ghost use Rattle.ghost_spec.specs.Views.{cpu_in};

@@ -1,8 +1,8 @@
 //! How what CPUs hold is written.
 ghost use Rattle.std.specs.Prelude.{◌≡◌, IfOk, Some, string_bytes};
-ghost use Rattle.state_changes.specs.Texts.{text_of_hand, text_of_holder, text_of_kind, text_of_loaded, text_of_stage, text_of_ticket};
+ghost use Rattle.state_changes.specs.Texts.{text_of_hand, text_of_holder, text_of_loaded, text_of_stage, text_of_ticket};
 
-use call_table::VmKind;
+use call_table::vm_kind_word;
 use page_state::PageRange;
 use reference_model::{Loaded, Stage, Ticket};
 use std::alloc::{AllocError, Global};
@@ -89,19 +89,9 @@ impl fmt::Display for TicketLine {
     ghost output = { λ line. Some (text_of_ticket (Some line.0)) };
 
     fn fmt<W: fmt::Write>(&self, f: &mut fmt::Formatter<W>) -> fmt::Result {
-        let kind = kind_word(self.0.kind);
+        let kind = vm_kind_word(self.0.kind);
         let stage = stage_word(self.0.stage);
         write!(f, "{} {kind} {stage}", self.0.vm)
-    }
-}
-
-/// The word of a kind of VM.
-pub fn kind_word(kind: VmKind) -> &'static str
-    ensures { result.now ≡ text_of_kind kind }
-{
-    match kind {
-        VmKind::Protected => "protected",
-        VmKind::Plain => "plain",
     }
 }
 
@@ -111,8 +101,8 @@ fn stage_word(stage: Stage) -> &'static str
     match stage {
         Stage::Booked => "booked",
         Stage::Installed => "installed",
-        Stage::ClosingVm => "closing",
-        Stage::DyingVm => "dying",
+        Stage::Closing => "closing",
+        Stage::Dying => "dying",
         Stage::Finished => "finished",
     }
 }

@@ -48,7 +48,7 @@ cut now [] k j d less e = absurd (omega (arith, less))
 cut now (x ∷ xs) zero j d less e = rw e refl
 cut now (x ∷ xs) (suc k) j d less e = rw e (cut now xs k (suc k) d (omega (arith, less)) refl)
 
-some_first : {X Y : Type 0} (now : X → Y) (xs : List X) (k j : ℕ) → k < length xs → j ≡ suc k → (first : Y) × (map now (drop k xs) ≡ first ∷ map now (drop j xs))
+pub some_first : {X Y : Type 0} (now : X → Y) (xs : List X) (k j : ℕ) → k < length xs → j ≡ suc k → (first : Y) × (map now (drop k xs) ≡ first ∷ map now (drop j xs))
 some_first now [] k j less e = absurd (omega (arith, less))
 some_first now (x ∷ xs) zero j less e = (now x, rw e refl)
 some_first now (x ∷ xs) (suc k) j less e = rw e (some_first now xs k (suc k) (omega (arith, less)) refl)

@@ -27,11 +27,11 @@ abbrev pub miss_lines : List ℕ → List Miss → List ℕ
 miss_lines name [] = []
 miss_lines name (miss ∷ more) = miss_line name miss ++ miss_lines name more
 
--- what is wrong at the first byte of the line of a number
+-- the fault at the first byte of the line of a number
 abbrev pub first_line : List ℕ → ℕ → List ℕ → List ℕ
 first_line name number said = name ++ codes ":" ++ decimal number ++ codes ":1: " ++ said ++ 10 ∷ []
 
--- what is wrong with a comment that is like an expectation, and none
+-- the mistake of a comment that is like an expectation but isn't one
 unfoldable pub mistaken_said : List ℕ → List ℕ
 mistaken_said line = codes "no expectation: found `" ++ line ++ codes "`, wanted `#= ` and what is expected"
 
@@ -57,7 +57,7 @@ abbrev pub spot_said : List ℕ → List (List ℕ) → List (List ReportLine) �
 spot_said name lines told missed =
     if missed == 0 then [] else elim (last_fault told) [ Some fault ↦ place_line name lines (length told - 1) fault | None ↦ [] ]
 
--- what is said of a whole file
+-- the report of a whole file
 abbrev pub boot_said : List ℕ → Bool → List ℕ
 boot_said name begun = if begun then [] else file_line name (codes "no boot")
 
@@ -76,12 +76,16 @@ said_of name lines told missed expected wrong =
 abbrev pub count_wrong : List (List ℕ) → List (List ReportLine) → ℕ
 count_wrong lines told = length (misses lines told) + count_mistaken lines
 
--- the answer to a trace whose lines report this
-pub record Checks (name : List ℕ) (lines : List (List ℕ)) (told : List (List ReportLine)) (checked : Checked) : Type 0 where
-  pub text : checked.text.items ≡ said_of name lines told (misses lines told) (count_expected lines) (count_wrong lines told)
+-- the answer to a trace whose lines report this, and of which that is missed
+pub record ChecksMissed (name : List ℕ) (lines : List (List ℕ)) (told : List (List ReportLine)) (missed : List Miss) (checked : Checked) : Type 0 where
+  pub text : checked.text.items ≡ said_of name lines told missed (count_expected lines) (length missed + count_mistaken lines)
   pub expected : checked.expected ≡ count_expected lines
-  pub wrong : checked.wrong ≡ count_wrong lines told
-  pub clean : checked.clean ≡ (has_begun told && not (count_expected lines == 0) && count_wrong lines told == 0)
+  pub wrong : checked.wrong ≡ length missed + count_mistaken lines
+  pub clean : checked.clean ≡ (has_begun told && not (count_expected lines == 0) && length missed + count_mistaken lines == 0)
+
+-- the answer to a trace whose lines report this
+abbrev pub Checks : List ℕ → List (List ℕ) → List (List ReportLine) → Checked → Type 0
+Checks name lines told = ChecksMissed name lines told (misses lines told)
 
 -- the answer to the bytes of a trace: there is a run of its lines
 pub record IsChecked (name trace : List ℕ) (checked : Checked) : Type 0 where

@@ -48,14 +48,14 @@ abbrev pub reported_by : List (List ReportLine) → List ReportLine
 reported_by [] = []
 reported_by (reported ∷ more) = reported ++ reported_by more
 
--- what is told is the report of a replay of these lines from a number on, but for one last line at most
+-- the text is the report of a replay of these lines from a number on, but for at most one last line
 pub record IsReplayTold (number : ℕ) (old : Standing) (lines : List (List ℕ)) (told : List (List ReportLine)) : Type 0 where
   pub last : List ReportLine
   pub few : length last ≤ 1
   pub outcome : Outcome
   pub report : IsReport agreed number old lines (reported_by told ++ last) outcome
 
--- so is all that is told of a trace
+-- so is the whole report of a trace
 abbrev pub ToldIsReplayed : Type 0
 ToldIsReplayed = (lines : List (List ℕ)) (told : List (List ReportLine)) → Runs 1 at_start lines told → IsReplayTold 1 at_start lines told
 

@@ -6,11 +6,11 @@ use Rattle.trace_text.specs.declared.report.ReportLine.{ReportLine}
 use Rattle.trace_check.specs.Expectations.{expectation, expected_first}
 use Rattle.trace_check.specs.Shown.{is_plain, shown, shown_all}
 
--- a miss: the number of a line, and what is wrong there
+-- a miss: the number of a line, and the mistake there
 abbrev pub Miss : Type 0
 Miss = ℕ × List ℕ
 
--- what is wrong where another text was expected, where none was, and where none came
+-- the mistake if another text was expected, if none was, and if none came
 abbrev pub other_words : List ℕ → List ℕ → List ℕ
 other_words text got = codes "expected " ++ text ++ codes ", got " ++ got
 

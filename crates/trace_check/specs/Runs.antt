@@ -7,7 +7,7 @@ use Rattle.trace_text.specs.Oracles.{agreed}
 use Rattle.trace_text.specs.Replay.{IsPlayed}
 use Rattle.trace_text.specs.Session.{Answer, Standing}
 
--- what is told from a line on that answers so: its report, and then what is told of the lines after it. A fault is told last
+-- the report from a line on that answers so: its own, and then that of the lines after it. A fault comes last
 abbrev pub Tells : ℕ → Answer → (List (List ReportLine) → Type 0) → List (List ReportLine) → Type 0
 Tells number (Err (stops.Fault fault)) follows told = told ≡ (report.Fault number fault ∷ []) ∷ []
 Tells number (Err stops.NoMemory) follows told = ⊥

@@ -30,7 +30,7 @@ abbrev pub shown_all : List ReportLine → List (List ℕ)
 shown_all [] = codes "nothing" ∷ []
 shown_all (told ∷ more) = map shown (told ∷ more)
 
--- a line of a report that tells of no fault and no disagreement
+-- a line of a report that is neither a fault nor a disagreement
 abbrev pub is_plain : ReportLine → Bool
 is_plain (report.Response response) = true
 is_plain (report.Judged found) = false

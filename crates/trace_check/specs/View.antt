@@ -9,7 +9,7 @@ use Rattle.trace_check.specs.declared.missing.Miss.{Miss}
 abbrev pub told_in : List (Vec ReportLine Global) → List (List ReportLine)
 told_in told = map (λ reported. reported.items) told
 
--- misses: the number of a line, and what is wrong there
+-- misses: the number of a line, and the mistake there
 abbrev pub misses_in : List Miss → List (ℕ × List ℕ)
 misses_in misses = map (λ miss. (miss.line, miss.said.items)) misses
 

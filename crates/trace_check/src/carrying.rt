@@ -16,7 +16,7 @@ use table_tree::Reads;
 use trace_lines::Response;
 use trace_text::{Fault, GhostOracle, MOST_LINES, ReportLine, Reported, Session, Stop, Verdict};
 
-/// When an oracle looks at what is kept.
+/// When an oracle looks at the kept state.
 #[derive(Clone, Copy, PartialEq)]
 pub enum Watch {
     /// After each step, as in `replay`.
@@ -27,15 +27,15 @@ pub enum Watch {
 
 /// What the lines of a trace reported.
 #[derive(Drop)]
-pub(crate) struct Carried {
+pub struct Carried {
     /// Of each line that was carried out. A fault is the last.
     pub told: Vec<Vec<ReportLine>>,
-    /// Where what is kept at the end isn't what a walk of all words finds.
+    /// Where the kept state at the end isn't what a walk of all words finds.
     pub found: Option<Disagreement>,
 }
 
 /// Carries the lines of a trace out. `alloc` is where the tables of the trees lie.
-pub(crate) fn carry_out<A: Allocator + Copy>(
+pub fn carry_out<A: Allocator + Copy>(
     global: Global,
     alloc: A,
     lines: &[&[u8]],
@@ -131,7 +131,7 @@ fn run_line<A: Allocator + Copy>(
 }
 
 /// The fault of the line of a number.
-fn told_fault(global: Global, number: u64, fault: Fault) -> Result<Vec<ReportLine>, AllocError>
+pub fn told_fault(global: Global, number: u64, fault: Fault) -> Result<Vec<ReportLine>, AllocError>
     ensures { IfOk result (λ told. told.items ≡ ReportLine.Fault number fault ∷ []) }
 {
     let line = number;

@@ -1,6 +1,6 @@
 //! Checking what a trace expects.
-ghost use Rattle.std.specs.Prelude.{◌≡◌, ◌≤◌, ◌∷◌, ◌++◌, IfOk, codes, length, map};
-ghost use Rattle.trace_check.specs.Checks.{Checks, IsChecked, said_of};
+ghost use Rattle.std.specs.Prelude.{◌≡◌, ◌≤◌, ◌∷◌, ◌++◌, IfOk, length, map};
+ghost use Rattle.trace_check.specs.Checks.{Checks, ChecksMissed, IsChecked, said_of};
 ghost use Rattle.trace_check.specs.View.{misses_in, told_in};
 
 use crate::carrying::{Carried, Watch, carry_out};
@@ -66,7 +66,7 @@ fn with_found(
 }
 
 /// The check of lines, by what those that were carried out report.
-fn check_told(
+pub fn check_told(
     global: Global,
     name: &str,
     lines: &[&[u8]],
@@ -76,18 +76,24 @@ fn check_told(
     ensures { IfOk result (Checks name.now (map (λ line. line.now) lines.now) (told_in told.now)) }
 {
     let missed = misses(global, lines, told)?;
+    check_missed(global, name, lines, told, missed.as_slice())
+}
+
+/// The check of lines, by what those that were carried out report, and by what is missed of them.
+pub fn check_missed(
+    global: Global,
+    name: &str,
+    lines: &[&[u8]],
+    told: &[Vec<ReportLine>],
+    missed: &[Miss],
+) -> Result<Checked, AllocError>
+    requires { length told.now ≤ length lines.now }
+    ensures { IfOk result (ChecksMissed name.now (map (λ line. line.now) lines.now) (told_in told.now) (misses_in missed.now)) }
+{
     let expected = count_expected(lines);
     let wrong = missed.len() + count_mistaken(lines);
     let begun = has_begun(told);
-    let text = written(
-        global,
-        name,
-        missed.as_slice(),
-        lines,
-        told,
-        expected,
-        wrong,
-    )?;
+    let text = written(global, name, missed, lines, told, expected, wrong)?;
     Ok(Checked {
         text,
         expected: expected as u64,

@@ -1,4 +1,4 @@
-//! Comments that say what is expected.
+//! Comments that say what a line should report.
 ghost use Rattle.std.specs.Prelude.{◌≡◌, is_some, option_copied};
 ghost use Rattle.trace_check.specs.Expectations.{expectation as expectation_in, is_marked as is_marked_line, is_mistaken as is_mistaken_line, leads_to_mark};
 

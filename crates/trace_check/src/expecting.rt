@@ -24,7 +24,7 @@ pub(crate) fn expected_first<'a>(
 }
 
 /// How many lines are expectations.
-pub(crate) fn count_expected(lines: &[&[u8]]) -> usize
+pub fn count_expected(lines: &[&[u8]]) -> usize
     ensures { result ≡ count_expected_in (map (λ line. line.now) lines.now) }
 {
     lines.iter().filter(|line| is_expectation(line)).count()

@@ -11,7 +11,9 @@ mod recording;
 pub mod shown;
 mod writing;
 
-pub use carrying::{Watch, told_lines};
-pub use checking::{Checked, check};
+pub use carrying::{Carried, Watch, carry_out, told_fault, told_lines};
+pub use checking::{Checked, check, check_missed, check_told};
 pub use comment::expectation;
-pub use recording::record;
+pub use expecting::count_expected;
+pub use missing::{Miss, misses};
+pub use recording::{add_recorded, add_rest, record, record_told, text_of_lines};

@@ -34,7 +34,7 @@ use trace_text::ReportLine;
 
 /// Something that isn't as expected.
 #[derive(Drop)]
-pub(crate) struct Miss {
+pub struct Miss {
     /// The number of its line.
     pub line: u64,
     /// What is wrong there.
@@ -43,7 +43,7 @@ pub(crate) struct Miss {
 
 /// All misses of a trace, by the lines that were carried out.
 #[tactic(auto, unfolding(crate::specs::Misses::misses))]
-pub(crate) fn misses(
+pub fn misses(
     global: Global,
     lines: &[&[u8]],
     told: &[Vec<ReportLine>],

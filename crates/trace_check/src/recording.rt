@@ -1,6 +1,7 @@
 //! Filling a trace's expectations in.
 ghost use Rattle.std.specs.Prelude.{◌≡◌, ◌≤◌, [], ◌∷◌, ◌++◌, IfOk, OnOk, length, map, string_bytes, if◌then◌else◌};
 ghost use Rattle.trace_check.specs.Expectations.{comment as comment_of};
+ghost use Rattle.trace_reader.specs.Reading.{lines_of};
 ghost use Rattle.trace_check.specs.Records.{
   IsRecord,
   bytes_of as bytes_of_by,
@@ -14,6 +15,7 @@ ghost use Rattle.trace_check.specs.Records.{
   noted as noted_by,
   recorded as recorded_by,
   recorded_at as recorded_at_by,
+  recorded_text,
   without_own,
 };
 ghost use Rattle.trace_check.specs.View.{AddsLines, lines_in, told_in};
@@ -38,9 +40,34 @@ pub fn record<A: Allocator + Copy>(
     let lines = lines(global, trace)?;
     let carried = carry_out(global, alloc, lines.as_slice(), Watch::AtEnd)?;
     let Carried { told, found: _ } = carried;
-    let recorded = recorded(global, lines.as_slice(), told.as_slice())?;
-    let lacking = is_lacking(trace, recorded.as_slice());
-    joined(global, recorded.as_slice(), lacking)
+    record_told(global, trace, lines.as_slice(), told.as_slice())
+}
+
+/// The trace of these lines with its expectations filled in, by what those that were carried out report.
+pub fn record_told(
+    global: Global,
+    trace: &[u8],
+    lines: &[&[u8]],
+    told: &[Vec<ReportLine>],
+) -> Result<Vec<u8>, AllocError>
+    requires few { length told.now ≤ length lines.now }
+    requires lines { map (λ line. line.now) lines.now ≡ lines_of trace.now }
+    ensures { IfOk result (λ text. text.items ≡ recorded_text trace.now (told_in told.now)) }
+{
+    let recorded = recorded(global, lines, told)?;
+    text_of_lines(global, trace, recorded.as_slice())
+}
+
+/// The bytes of the lines that a trace is recorded as.
+pub fn text_of_lines(
+    global: Global,
+    trace: &[u8],
+    recorded: &[Vec<u8>],
+) -> Result<Vec<u8>, AllocError>
+    ensures { IfOk result (λ text. text.items ≡ joined_by (is_lacking_by trace.now (lines_in recorded.now)) (lines_in recorded.now)) }
+{
+    let lacking = is_lacking(trace, recorded);
+    joined(global, recorded, lacking)
 }
 
 /// The lines of the recorded trace.
@@ -61,7 +88,11 @@ fn recorded(
 }
 
 /// The lines after the one that ended the run, without its expectations.
-fn add_rest(recorded: &mut Vec<Vec<u8>>, global: Global, lines: &[&[u8]]) -> Result<(), AllocError>
+pub fn add_rest(
+    recorded: &mut Vec<Vec<u8>>,
+    global: Global,
+    lines: &[&[u8]],
+) -> Result<(), AllocError>
     ensures { OnOk result (AddsLines recorded.old recorded.new (without_own (map (λ line. line.now) lines.now))) }
 {
     for (place, line) in lines.iter().enumerate() {
@@ -87,7 +118,7 @@ fn add_copies(
 }
 
 /// A line, and its expectations.
-fn add_recorded(
+pub fn add_recorded(
     recorded: &mut Vec<Vec<u8>>,
     global: Global,
     line: &[u8],

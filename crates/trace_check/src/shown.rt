@@ -94,7 +94,7 @@ pub(crate) fn shown_each(global: Global, reported: &[ReportLine]) -> Result<Vec<
     Ok(texts)
 }
 
-/// Whether a line of a report tells of no fault and no disagreement.
+/// Whether a line of a report is neither a fault nor a disagreement.
 pub(crate) fn is_plain(told: ReportLine) -> bool
     ensures { result ≡ is_plain_line told }
 {

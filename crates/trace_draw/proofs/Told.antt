@@ -3,7 +3,7 @@ use Rattle.std.proofs.Common.{◌≡◌, ℕ, ◌+◌, Bool, true, false, List, 
 use Rattle.std.specs.Prelude.{is_some, unwrap_or, if◌then◌else◌}
 use Rattle.std.proofs.lemmas.List.{append_assoc, append-nil}
 use Rattle.page_state.specs.declared.row.Row.{Row}
-use Rattle.reference_model.specs.State.{Slot}
+use Rattle.reference_model.specs.model.State.{Slot}
 use Rattle.trace_draw.specs.Texts.{line_by, text_of_slot, text_of_slots}
 
 -- a row where a frame is memory, and none elsewhere

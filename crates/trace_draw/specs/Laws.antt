@@ -17,7 +17,7 @@ use Rattle.trace_draw.specs.Snapshots.{TellsMachine}
 abbrev pub OneText : Type 0
 OneText = (machine : Option Machine) (text other : List ℕ) → TellsMachine machine text → TellsMachine machine other → text ≡ other
 
--- the outcome of a report, where no disagreement is told, by how the run ends
+-- the outcome of a report without a disagreement, by how the run ends
 abbrev pub outcome_by : Ended → Outcome
 outcome_by Clean = outcomes.Clean
 outcome_by (Fault line fault) = outcomes.Fault

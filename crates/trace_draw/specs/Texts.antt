@@ -4,11 +4,11 @@ use Rattle.std.specs.Fmt.{decimal}
 use Rattle.std.specs.List.{flat_map}
 use Rattle.page_state.specs.declared.row.Row.{Row}
 use Rattle.page_state.specs.Texts.{text_of_page, text_of_row}
-use Rattle.reference_model.specs.State.{Slot, Stand, vacant, reserved, opened, closing}
+use Rattle.reference_model.specs.model.State.{Slot, Stand, vacant}
 use Rattle.run_list.specs.declared.run.Run.{Run}
-use Rattle.call_table.specs.declared.step.VmKind.{VmKind}
-use Rattle.call_table.specs.declared.step.VmKind.TheVariants.{Protected, Plain}
 use Rattle.call_table.specs.Texts.{text_of_vm}
+use Rattle.call_table.specs.Words.{text_of_vm_kind}
+use Rattle.state_changes.specs.Texts.{text_of_stand}
 
 -- a run of rows: its first frame, how many frames, and the first one's row
 abbrev pub text_of_run : Run Row → List ℕ
@@ -21,19 +21,9 @@ line_of_run run = text_of_run run ++ codes "\n"
 abbrev pub text_of_runs : List (Run Row) → List ℕ
 text_of_runs runs = flat_map line_of_run runs
 
-abbrev pub text_of_kind : VmKind → List ℕ
-text_of_kind Protected = codes "protected"
-text_of_kind Plain = codes "plain"
-
-abbrev pub text_of_stand : Stand → List ℕ
-text_of_stand vacant = codes "empty"
-text_of_stand reserved = codes "reserved"
-text_of_stand opened = codes "open"
-text_of_stand closing = codes "closing"
-
--- a slot: its VM, how it stands, the kind, and how many vCPUs
+-- a slot: its VM, its stage, the kind, and how many vCPUs
 abbrev pub text_of_slot : ℕ → Slot → List ℕ
-text_of_slot v s = codes "vm " ++ text_of_vm (record { slot = v; generation = s.generation }) ++ codes " " ++ text_of_stand s.stand ++ codes " " ++ text_of_kind s.kind ++ codes " vcpus " ++ decimal s.vcpus
+text_of_slot v s = codes "vm " ++ text_of_vm (record { slot = v; generation = s.generation }) ++ codes " " ++ text_of_stand s.stand ++ codes " " ++ text_of_vm_kind s.kind ++ codes " vcpus " ++ decimal s.vcpus
 
 -- the line of a slot: none of one that is Empty
 abbrev pub line_by : Stand → List ℕ → List ℕ

@@ -1,4 +1,4 @@
-//! A trace that is run, and what is kept of it for a picture.
+//! A trace that is run, and the states kept of it for a picture.
 ghost use Rattle.std.specs.Prelude.{◌≡◌, ◌+◌, ◌^◌, ◌<◌, ◌≤◌, IfOk, length, map};
 ghost use Rattle.trace_draw.specs.Courses.{Leads};
 ghost use Rattle.trace_draw.specs.Played.{IsPlayedAt};
@@ -53,7 +53,7 @@ pub(crate) struct Scene {
     pub(crate) slots: Vec<SlotLook>,
 }
 
-/// A row of a picture: a step, and what is there after it.
+/// A row of a picture: a step, and the state after it.
 #[derive(Clone, Copy)]
 pub(crate) struct Moment {
     /// The place of its line, counted from 0.
@@ -72,7 +72,7 @@ pub(crate) struct Course {
     pub(crate) ended: Ended,
 }
 
-/// Runs a trace up to its end or its first fault, and keeps what is drawn.
+/// Runs a trace up to its end or its first fault, and keeps the states to draw.
 pub(crate) fn made<A: Allocator + Copy>(
     global: Global,
     session: &mut Session<A>,

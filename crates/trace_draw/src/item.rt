@@ -9,7 +9,7 @@ use std::fmt;
 #[derive(Clone, Copy)]
 pub enum Paint {
     Plain(Colour),
-    /// Thin lines: lent. How they are turned tells to whom.
+    /// Thin lines: lent. Their slope says to whom.
     Lines(Colour),
     /// Dots: in the shared pool, or in a hand.
     Dots(Colour),

@@ -2,16 +2,18 @@
 ghost use Rattle.std.specs.Prelude.{◌≡◌, [], ◌++◌, codes, IfOk, OnOk, Some, map, string_bytes};
 ghost use Rattle.trace_draw.specs.Courses.{Leads};
 ghost use Rattle.trace_draw.specs.Snapshots.{IsSnapshot, IsTextOf, TellsMachine};
-ghost use Rattle.trace_draw.specs.Texts.{line_by, line_of_run, text_of_kind, text_of_run, text_of_runs, text_of_slot, text_of_slots, text_of_stand};
+ghost use Rattle.trace_draw.specs.Texts.{line_by, line_of_run, text_of_run, text_of_runs, text_of_slot, text_of_slots};
 ghost use Rattle.trace_text.specs.Ready.{IsReady};
 ghost use Rattle.trace_text.specs.Session.{at_start};
 ghost use Rattle.trace_text.specs.View.{machine_of, standing_of};
-ghost use Rattle.vm_table.specs.View.{slot_of, stand_of, vms_of};
+ghost use Rattle.vm_table.specs.View.{slot_of, vms_of};
 
 use crate::course::{Ended, line_run};
-use call_table::{VmId, VmKind};
+use call_table::{VmId, vm_kind_word};
+use ghost_oracle::stand_from;
 use page_state::Row;
 use run_list::Run;
+use state_changes::stand_word;
 use std::alloc::{AllocError, Allocator, Global};
 use std::fmt;
 use std::fmt::Write;
@@ -45,7 +47,7 @@ pub fn draw_text<A: Allocator + Copy>(
     Ok(TextDrawing { text, ended })
 }
 
-/// Runs a trace, and writes what is there at its end.
+/// Runs a trace, and writes the state at its end.
 fn end_of<A: Allocator + Copy>(
     session: &mut Session<A>,
     lines: &[&[u8]],
@@ -81,7 +83,7 @@ fn run_all<A: Allocator + Copy>(
     Ok(Ended::Clean)
 }
 
-/// Writes what is there where a run ended.
+/// Writes the state at the end of a run.
 fn write_end<A: Allocator + Copy>(session: &Session<A>, text: &mut String) -> Result<(), AllocError>
     requires { string_bytes text.old ≡ [] }
     ensures { OnOk result (TellsMachine (standing_of session.now).machine (string_bytes text.new)) }
@@ -93,7 +95,7 @@ fn write_end<A: Allocator + Copy>(session: &Session<A>, text: &mut String) -> Re
     Ok(())
 }
 
-/// Writes what is there in a world.
+/// Writes the state of a world.
 fn write_world<A: Allocator>(world: &World<A>, text: &mut String) -> Result<(), AllocError>
     requires { string_bytes text.old ≡ [] }
     ensures { OnOk result (IsTextOf (machine_of world.now) (string_bytes text.new)) }
@@ -165,26 +167,6 @@ struct SlotLine {
     entry: Slot,
 }
 
-fn kind_word(kind: VmKind) -> &'static str
-    ensures { result.now ≡ text_of_kind kind }
-{
-    match kind {
-        VmKind::Protected => "protected",
-        VmKind::Plain => "plain",
-    }
-}
-
-fn state_word(state: SlotState) -> &'static str
-    ensures { result.now ≡ text_of_stand (stand_of state) }
-{
-    match state {
-        SlotState::Vacant => "empty",
-        SlotState::Reserved => "reserved",
-        SlotState::Open => "open",
-        SlotState::Closing => "closing",
-    }
-}
-
 impl fmt::Display for SlotLine {
     ghost output = { λ line. Some (text_of_slot line.slot (slot_of line.entry)) };
 
@@ -193,9 +175,9 @@ impl fmt::Display for SlotLine {
             slot: self.slot,
             generation: self.entry.generation,
         };
-        let state = state_word(self.entry.state);
-        let kind = kind_word(self.entry.kind);
+        let stand = stand_word(stand_from(self.entry.state));
+        let kind = vm_kind_word(self.entry.kind);
         let vcpus = self.entry.vcpus;
-        write!(f, "vm {vm} {state} {kind} vcpus {vcpus}")
+        write!(f, "vm {vm} {stand} {kind} vcpus {vcpus}")
     }
 }

@@ -6,7 +6,7 @@ use Rattle.ghost_oracle.specs.Found.{HasRowsOf}
 use Rattle.ghost_spec.specs.declared.lists.GhostLists.{GhostLists}
 use Rattle.page_state.proofs.Cases.{by_lt}
 use Rattle.page_state.specs.Layouts.{Layout}
-use Rattle.reference_model.specs.State.{Contents, Reference}
+use Rattle.reference_model.specs.model.State.{Contents, Reference}
 use Rattle.state_changes.specs.Changed.{TellsAll}
 use Rattle.state_changes.specs.Together.{Adds}
 use Rattle.call_table.specs.declared.step.Step.{Step}

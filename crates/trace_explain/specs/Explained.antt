@@ -29,7 +29,7 @@ abbrev pub step_of : Result (Option Line) LineFault → Option (ℕ × Step)
 step_of (Ok (Some (lines.Step cpu step))) = Some (cpu, step)
 step_of other = None
 
--- that of a line which comes where a trace stands so
+-- that of a line at this point of a trace
 abbrev pub step_at : Standing → List ℕ → Option (ℕ × Step)
 step_at old line = step_of (said (allowed (is_some old.machine) old.started) old.told line)
 
@@ -55,11 +55,11 @@ report_lines asked (told ∷ more) = report_line asked told ++ report_lines aske
 abbrev pub ended : List ℕ → List ℕ
 ended line = line ++ 10 ∷ []
 
--- a line that was carried out: itself, its report, and of what its step saw before it what is so in the machine after it
+-- a line that was carried out: itself, its report, and the contents, after it, of the places that its step looked at
 abbrev pub line_with : List ℕ → Option (ℕ × Step) → List Look → List ReportLine → Option Machine → List ℕ
 line_with line asked looks reported machine = ended line ++ report_lines asked reported ++ looked machine asked looks
 
--- the same by how the trace stands before the line and after it
+-- the same by the trace's progress before the line and after it
 abbrev pub explained : List ℕ → Standing → List ReportLine → Standing → List ℕ
 explained line old reported new = line_with line (step_at old line) (seen old.machine (step_at old line)) reported new.machine
 
@@ -67,7 +67,7 @@ explained line old reported new = line_with line (step_at old line) (seen old.ma
 abbrev pub faulty : List ℕ → List (List ℕ) → ℕ → List ℕ → Fault → List ℕ
 faulty name all place line fault = ended line ++ codes "    fault " ++ text_of_fault fault ++ 10 ∷ codes "    " ++ place_line name all place fault
 
--- what a step changed: all that differs between the machine before it and the one after it. Without a step or a machine nothing is told
+-- the changes of a step: all that differs between the machine before it and the one after it. Without a step or a machine there are none
 abbrev pub TellsStep : Option Machine → Option (ℕ × Step) → Option Machine → List ℕ → Type 0
 TellsStep (Some m) (Some (cpu, step)) (Some n) text = TellsAll m.state.contents n.state.contents cpu text
 TellsStep old asked new text = text ≡ []
@@ -77,13 +77,13 @@ abbrev pub is_shown : Option ℕ → ℕ → Bool
 is_shown None number = true
 is_shown (Some only) number = number == only
 
--- the lines of one that was carried out, if it is shown: what is explained of it, and then what its step changed
+-- the lines of one that was carried out, if it is shown: its explanation, and then the changes of its step
 abbrev pub IsBlock : Bool → List ℕ → Standing → List ReportLine → Standing → List ℕ → Type 0
 IsBlock false line old reported new text = text ≡ []
 IsBlock true line old reported new text = (changed : List ℕ) × TellsStep old.machine (step_at old line) new.machine changed × (text ≡ explained line old reported new ++ changed)
 
 module _ (only : Option ℕ) (name : List ℕ) (all : List (List ℕ)) where
-  -- what is said from a line on that answers so: the line, and then what is said of the lines after it. A fault is the end, and is always told
+  -- the report from a line on that answers so: the line, and then the report of the lines after it. A fault is the end, and is always reported
   abbrev pub Says : ℕ → List ℕ → Standing → Answer → Standing → (List ℕ → Outcome → Type 0) → List ℕ → Outcome → Type 0
   Says place line old (Err (stops.Fault fault)) new follows text outcome = (text ≡ faulty name all place line fault) × (outcome ≡ outcomes.Fault)
   Says place line old (Err stops.NoMemory) new follows text outcome = ⊥

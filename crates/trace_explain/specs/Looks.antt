@@ -1,4 +1,4 @@
--- What a step looks at, and what is there (profile).
+-- The places that a step looks at, and their contents (profile).
 use Rattle.std.specs.Prelude.{ℕ, nat_lt, List, [], ◌∷◌, ◌++◌, codes, Option, Some, None, if◌then◌else◌, map}
 use Rattle.std.specs.Fmt.{decimal}
 use Rattle.page_state.specs.declared.entry.Entry.{Entry}
@@ -16,7 +16,7 @@ use Rattle.trace_explain.specs.declared.place.Place.{Place}
 use Rattle.trace_explain.specs.declared.place.Place.TheVariants.{Host, Hyp, GuestPage, Owner, FreeShared, Guest, Vm, Vcpu, Loaded as LoadedPlace, Hand, Ticket}
 use Rattle.trace_explain.specs.Texts.{look_line, name_of, text_of_guest, text_of_hand, text_of_loaded, text_of_slot, text_of_ticket, text_of_vcpu}
 
--- what is there in a machine, for a step of this CPU
+-- the contents in a machine, for a step of this CPU
 abbrev pub told_at : Machine → ℕ → Place → List ℕ
 told_at m cpu (Host page) = text_of_entry (m.state.contents.shared.host.map page)
 told_at m cpu (Hyp page) = text_of_entry (m.state.contents.shared.hyp.map page)
@@ -124,7 +124,7 @@ module _ (m : Machine) (cpu : ℕ) where
 abbrev pub Look : Type 0
 Look = Place × List ℕ
 
--- places, with what is there for a step of a CPU, and so those that a step looks at
+-- places, with their contents for a step of a CPU, and so those that a step looks at
 abbrev pub seen_at : Machine → ℕ → List Place → List Look
 seen_at m cpu places = map (λ place. (place, told_at m cpu place)) places
 

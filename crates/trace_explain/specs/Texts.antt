@@ -5,9 +5,9 @@ use Rattle.std.specs.Str.{bytes_eq}
 use Rattle.page_state.specs.Texts.{text_of_page}
 use Rattle.trace_explain.specs.declared.place.Place.{Place}
 use Rattle.trace_explain.specs.declared.place.Place.TheVariants as places
-pub use Rattle.state_changes.specs.Texts.{guest_line, text_of_guest, text_of_hand, text_of_holder, text_of_kind, text_of_loaded, text_of_phase, text_of_slot, text_of_stage, text_of_stand, text_of_ticket, text_of_vcpu}
+pub use Rattle.state_changes.specs.Texts.{guest_line, text_of_guest, text_of_hand, text_of_holder, text_of_loaded, text_of_slot, text_of_ticket, text_of_vcpu}
 
--- the name of what is looked at
+-- the name of an item that a step looks at
 abbrev pub name_of : Place → List ℕ
 name_of (places.Host page) = codes "host " ++ text_of_page page
 name_of (places.Hyp page) = codes "hyp " ++ text_of_page page
@@ -21,6 +21,6 @@ name_of places.Loaded = codes "loaded"
 name_of places.Hand = codes "hand"
 name_of places.Ticket = codes "ticket"
 
--- a line of what is looked at, where it is as before
+-- a line of an item that a step looks at, if it is as before
 abbrev pub look_line : List ℕ → List ℕ → List ℕ → List ℕ
 look_line name before after = if bytes_eq before after then codes "    " ++ name ++ codes ": " ++ before ++ 10 ∷ [] else []

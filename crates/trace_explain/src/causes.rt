@@ -1,6 +1,7 @@
 //! Why a call is refused, in words.
-ghost use Rattle.std.specs.Prelude.{◌≡◌};
-ghost use Rattle.trace_explain.specs.Causes.{busy_cause as busy_by, cause_of as cause_by, invalid_cause as invalid_by, novm_cause as novm_by, perm_cause as perm_by};
+ghost use Rattle.std.specs.Prelude.{◌≡◌, unwrap_or};
+ghost use Rattle.reference_model.specs.model.Rules.{step_rule};
+ghost use Rattle.trace_explain.specs.Causes.{cause_of as cause_by, tests_of};
 
 use call_table::{Refusal, Step};
 
@@ -22,7 +23,7 @@ pub fn cause_of(step: Step, refusal: Refusal) -> &'static str
 
 /// `perm`: the pages or frames.
 fn perm_cause(step: Step) -> &'static str
-    ensures { result.now ≡ perm_by step }
+    ensures { result.now ≡ (tests_of step).allowed.failing }
 {
     match step {
         Step::ShareHyp { .. } =>
@@ -55,7 +56,7 @@ fn perm_cause(step: Step) -> &'static str
 
 /// `invalid`: the arguments.
 fn invalid_cause(step: Step) -> &'static str
-    ensures { result.now ≡ invalid_by step }
+    ensures { result.now ≡ (tests_of step).valid.failing }
 {
     match step {
         Step::ShareHyp { .. } | Step::UnshareHyp { .. } | Step::OwnerOf { .. } =>
@@ -82,7 +83,7 @@ fn invalid_cause(step: Step) -> &'static str
 
 /// `novm`: the VM, the vCPU or the ticket.
 fn novm_cause(step: Step) -> &'static str
-    ensures { result.now ≡ novm_by step }
+    ensures { result.now ≡ unwrap_or (step_rule step).lacking (tests_of step).has_vm.failing }
 {
     match step {
         Step::VmOpen => "the CPU has no Installed ticket",
@@ -107,7 +108,7 @@ fn novm_cause(step: Step) -> &'static str
 
 /// `busy`: what is in use.
 fn busy_cause(step: Step) -> &'static str
-    ensures { result.now ≡ busy_by step }
+    ensures { result.now ≡ (tests_of step).ready.failing }
 {
     match step {
         Step::Fund { .. } => "the CPU's hand isn't empty",

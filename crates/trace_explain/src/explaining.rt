@@ -98,7 +98,7 @@ fn explain_lines<A: Allocator + Copy>(
     Ok(Outcome::Clean)
 }
 
-/// Carries out a line of a trace, by its place from 0 on, and explains it where it is to be shown. A fault isn't told yet.
+/// Carries out a line of a trace, by its place from 0 on, and explains it if it is to be shown. A fault isn't reported yet.
 fn carry_line<A: Allocator + Copy>(
     global: Global,
     session: &mut Session<A>,
@@ -314,7 +314,7 @@ fn allowed<A: Allocator + Copy>(session: &Session<A>) -> Allows
     }
 }
 
-/// What a step looks at, with what is there before it.
+/// The places that a step looks at, with their contents before it.
 fn looks_before<A: Allocator + Copy>(
     global: Global,
     session: &Session<A>,

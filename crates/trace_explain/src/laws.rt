@@ -1,7 +1,12 @@
-//! The law of explanations. The function does nothing, and its contract is the law.
-ghost use Rattle.trace_explain.specs.Laws.{OneText};
+//! The laws of explanations. Each function does nothing, and its contract is the law.
+ghost use Rattle.trace_explain.specs.Laws.{OneText, SameWords};
 
 /// The bytes of a trace and what a run of its lines answers determine the text of an explanation.
 pub fn one_text()
     ensures { OneText }
+{}
+
+/// What is said of a refusal is said of the test of the step's rule that failed, whatever the rule read.
+pub fn same_words()
+    ensures { SameWords }
 {}

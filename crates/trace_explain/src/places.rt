@@ -14,7 +14,7 @@ use world::World;
 /// From a frame to the page of the hypervisor that maps it.
 const HYP_OFFSET: u64 = 0x400_0000;
 
-/// What a step of a CPU looks at, by what is there before it.
+/// The places that a step of a CPU looks at, by the state before it.
 pub(crate) fn add_places<A: Allocator>(
     places: &mut Vec<Place>,
     world: &World<A>,

@@ -1,16 +1,17 @@
-//! How what is there is written.
+//! How the contents are written.
 ghost use Rattle.std.specs.Prelude.{◌≡◌, IfOk, Some, string_bytes};
 ghost use Rattle.guest_component.specs.Bodies.{phase_of};
 ghost use Rattle.guest_component.specs.View.{guest_in};
-ghost use Rattle.trace_explain.specs.Texts.{guest_line, text_of_guest, text_of_phase, text_of_slot, text_of_stand};
-ghost use Rattle.vm_table.specs.View.{slot_of, stand_of};
+ghost use Rattle.trace_explain.specs.Texts.{guest_line, text_of_guest, text_of_slot};
+ghost use Rattle.vm_table.specs.View.{slot_of};
 
-use call_table::VmKind;
+use call_table::{VmKind, vm_kind_word};
+use ghost_oracle::{phase_from, stand_from};
 use guest_component::{Body, Phase};
-use state_changes::kind_word;
+use state_changes::{phase_word, stand_word};
 use std::alloc::{AllocError, Allocator, Global};
 use std::fmt;
-use vm_table::{Slot, SlotState};
+use vm_table::Slot;
 
 /// A guest that isn't Empty.
 pub(crate) fn told_body<A: Allocator>(global: Global, body: &Body<A>) -> Result<String, AllocError>
@@ -33,7 +34,7 @@ pub(crate) fn told_entry(global: Global, slot: Slot) -> Result<String, AllocErro
     format!(in global; "{line}")
 }
 
-/// What is told of a guest that isn't Empty.
+/// The texts of a guest that isn't Empty.
 #[derive(Clone, Copy)]
 struct GuestLine {
     phase: Phase,
@@ -46,9 +47,9 @@ impl fmt::Display for GuestLine {
     ghost output = { λ line. Some (guest_line (phase_of line.phase) line.generation line.kind line.free) };
 
     fn fmt<W: fmt::Write>(&self, f: &mut fmt::Formatter<W>) -> fmt::Result {
-        let phase = phase_word(self.phase);
+        let phase = phase_word(phase_from(self.phase));
         let generation = self.generation;
-        let kind = kind_word(self.kind);
+        let kind = vm_kind_word(self.kind);
         let free = self.free;
         write!(f, "{phase} generation {generation} {kind} free {free}")
     }
@@ -62,30 +63,10 @@ impl fmt::Display for SlotLine {
     ghost output = { λ line. Some (text_of_slot (slot_of line.0)) };
 
     fn fmt<W: fmt::Write>(&self, f: &mut fmt::Formatter<W>) -> fmt::Result {
-        let state = state_word(self.0.state);
+        let stand = stand_word(stand_from(self.0.state));
         let generation = self.0.generation;
-        let kind = kind_word(self.0.kind);
+        let kind = vm_kind_word(self.0.kind);
         let vcpus = self.0.vcpus;
-        write!(f, "{state} generation {generation} {kind} vcpus {vcpus}")
-    }
-}
-
-fn phase_word(phase: Phase) -> &'static str
-    ensures { result.now ≡ text_of_phase (phase_of phase) }
-{
-    match phase {
-        Phase::Live => "live",
-        Phase::Dying => "dying",
-    }
-}
-
-fn state_word(state: SlotState) -> &'static str
-    ensures { result.now ≡ text_of_stand (stand_of state) }
-{
-    match state {
-        SlotState::Vacant => "empty",
-        SlotState::Reserved => "reserved",
-        SlotState::Open => "open",
-        SlotState::Closing => "closing",
+        write!(f, "{stand} generation {generation} {kind} vcpus {vcpus}")
     }
 }

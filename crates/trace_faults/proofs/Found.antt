@@ -2,13 +2,20 @@
 use Rattle.std.proofs.Common.{◌≡◌, ◌≢◌, ℕ, ◌+◌, zero, suc, ◌<◌, ◌≤◌, refl, sym, ◌∙◌, ap, subst, arith, ◌==◌, not, Bool, true, false, List, [], ◌∷◌, length, map, Option, Some, None, Ok, Err, nat_lt}
 use Rattle.std.specs.Prelude.{◌&&◌, codes, unwrap_or, is_some, slice_get, option_and_then, option_map, ok_or, if◌then◌else◌}
 use Rattle.std.proofs.lemmas.Bool.Decides.{nat_tests}
+use Rattle.call_table.specs.declared.argument.Arguments.{Arguments}
+use Rattle.call_table.specs.declared.argument.Form.{Form as ArgumentForm}
+use Rattle.call_table.specs.declared.argument.Form.TheVariants.{Frame, Page, Count as CountForm, LastCount, Vcpus, Vcpu, Vm, Kind, Rights}
+use Rattle.call_table.specs.declared.row.CallName.{CallName}
 use Rattle.call_table.specs.declared.step.Step.{Step}
+use Rattle.call_table.specs.Made.{step_by}
+use Rattle.call_table.specs.Named.{blank}
+use Rattle.call_table.specs.Rows.{named as call_named, row}
 use Rattle.trace_faults.specs.declared.form.Form.{Form}
-use Rattle.trace_faults.specs.declared.form.Form.TheVariants.{Name, Number, Vm, Kind, Rights, Level, Slot}
-use Rattle.trace_faults.specs.Forms.{first_wrong, form_of, forms, is_of}
+use Rattle.trace_faults.specs.declared.form.Form.TheVariants.{Name, Cpu, Number, Word, Level, Slot, Argument}
+use Rattle.trace_faults.specs.Forms.{first_wrong, forms, is_of}
 use Rattle.std.specs.Str.{bytes_eq}
 use Rattle.page_state.specs.declared.entry.PageRange.{PageRange}
-use Rattle.trace_faults.specs.Forms.{call_forms, called_forms, forms_from, header_forms, pool_forms, tree_forms}
+use Rattle.trace_faults.specs.Forms.{call_forms, forms_from, header_forms, pool_forms, range_forms, tree_forms}
 use Rattle.trace_faults.specs.Laws.{FormIsFound}
 use Rattle.trace_lines.specs.declared.asked.Asked.{Asked}
 use Rattle.trace_lines.specs.declared.fault.LineFault.TheVariants.{Long, Byte, Space, Place, Count, Form as WrongForm}
@@ -23,13 +30,13 @@ use Rattle.trace_lines.specs.declared.place.SettingName.{SettingName}
 use Rattle.trace_lines.specs.declared.place.SettingName.TheVariants as names
 use Rattle.trace_lines.specs.declared.place.Verb.TheVariants as verbs
 use Rattle.trace_lines.specs.declared.place.Allows.{Allows}
-use Rattle.trace_lines.specs.Arguments.{count_word_at, level_word_at, number_at, one_more, slot_word_at, vm_word_at, kind_word_at, rights_word_at}
+use Rattle.trace_lines.specs.Arguments.{count_word_at, level_word_at, number_at, slot_word_at, vm_word_at, kind_word_at, rights_word_at}
 use Rattle.trace_lines.specs.Asked.{asked, asked_from, begins_with_digit, headers, of_call, of_number, of_poke, of_range, of_show, of_tree, pools, tree_names}
 use Rattle.trace_lines.specs.Places.{may_stand}
 use Rattle.trace_lines.specs.Said.{said, said_by_asked, said_by_words}
 use Rattle.trace_lines.specs.Settings.{Told}
 use Rattle.trace_words.specs.Words.{has_stray_byte, has_stray_space, is_silent, named, words_of}
-use Rattle.trace_lines.specs.Calls.{Argument, Shape, called, called_in, calls, number, vm, kind, rights, last_number, StepMaker, step_from, words_from}
+use Rattle.trace_lines.specs.Calls.{argument_at, arguments_from, called, words_of as words_for, words_from}
 
 off : {P : Type 0} → true ≡ false → P
 off h = cc
@@ -70,59 +77,76 @@ none_past [] place h = refl
 none_past (x ∷ xs) zero h = absurd (omega (arith, h))
 none_past (x ∷ xs) (suc place) h = none_past xs place (omega (arith, h))
 
+-- whether an argument can be read depends on no other
+put_some : {X : Type 0} (f g : X → Arguments) (o : Option X) → is_some (option_map f o) ≡ is_some (option_map g o)
+put_some f g None = refl
+put_some f g (Some x) = refl
+
+same_read : (form : ArgumentForm) (words : List (List ℕ)) (place : ℕ) (a b : Arguments) → is_some (argument_at form words place a) ≡ is_some (argument_at form words place b)
+same_read Frame words place a b = put_some (λ n. record a { frame = n }) (λ n. record b { frame = n }) (number_at words place)
+same_read Page words place a b = put_some (λ n. record a { page = n }) (λ n. record b { page = n }) (number_at words place)
+same_read CountForm words place a b = put_some (λ n. record a { count = n }) (λ n. record b { count = n }) (number_at words place)
+same_read LastCount words place a b = put_some (λ n. record a { count = n }) (λ n. record b { count = n }) (count_word_at words place)
+same_read Vcpus words place a b = put_some (λ n. record a { vcpus = n }) (λ n. record b { vcpus = n }) (number_at words place)
+same_read Vcpu words place a b = put_some (λ n. record a { vcpu = n }) (λ n. record b { vcpu = n }) (number_at words place)
+same_read Vm words place a b = put_some (λ v. record a { vm = v }) (λ v. record b { vm = v }) (vm_word_at words place)
+same_read Kind words place a b = put_some (λ k. record a { kind = k }) (λ k. record b { kind = k }) (kind_word_at words place)
+same_read Rights words place a b = put_some (λ r. record a { rights = r }) (λ r. record b { rights = r }) (rights_word_at words place)
+
+-- for an argument a line has one word, or none where a last count is missing
+data WordsFor (words : List (List ℕ)) (form : ArgumentForm) (place : ℕ) : Type 0 where
+  one_word : words_for form words place ≡ 1 → WordsFor words form place
+  missing : words_for form words place ≡ 0 → slice_get words place ≡ None → ((a : Arguments) → is_some (argument_at form words place a) ≡ true) → WordsFor words form place
+
+last_words : (words : List (List ℕ)) (place : ℕ) (word : Option (List ℕ)) → slice_get words place ≡ word → WordsFor words LastCount place
+last_words words place None w =
+    let one : count_word_at words place ≡ Some 1 = rw (w, count_word_at) refl in
+    missing (rw w refl) w (λ a. ap (λ o. is_some (option_map (λ n. record a { count = n }) o)) one)
+last_words words place (Some word) w = one_word (rw w refl)
+
+words_for_each : (words : List (List ℕ)) (form : ArgumentForm) (place : ℕ) → WordsFor words form place
+words_for_each words LastCount place = last_words words place (slice_get words place) refl
+words_for_each words Frame place = one_word refl
+words_for_each words Page place = one_word refl
+words_for_each words CountForm place = one_word refl
+words_for_each words Vcpus place = one_word refl
+words_for_each words Vcpu place = one_word refl
+words_for_each words Vm place = one_word refl
+words_for_each words Kind place = one_word refl
+words_for_each words Rights place = one_word refl
+
 module _ (words : List (List ℕ)) where
-  -- an argument that can't be missing: its value is none, or the step goes on with it
-  one : {X : Type 0} (form : Form) (more : List Form) (place rest : ℕ) (value : Option X) (make : X → Option Step) → is_of words place form ≡ is_some value → length words ≡ place + (1 + rest)
-      → ((x : X) → length words ≡ place + 1 + rest → make x ≡ None → IsWrongFrom words more (place + 1)) → option_and_then make value ≡ None → IsWrongFrom words (form ∷ more) place
-  one form more place rest None make tells count next e = here words form more place tells (omega (arith, count))
-  one form more place rest (Some x) make tells count next e = further words form more place tells (next x (omega (arith, count)) e)
+  -- arguments of which all are missing, and may be, are read
+  none_missing : (arguments : List ArgumentForm) (place : ℕ) (a : Arguments) → words_from arguments words place ≡ 0 → length words ≤ place → arguments_from arguments words place a ≢ None
+  none_missing [] place a e h n = let c : Some a ≡ None = n in cc
+  none_missing (form ∷ more) place a e h n = by_words (none_missing more (place + 1)) (words_for_each words form place) (argument_at form words place a) refl
+    where
+      by_words : ((b : Arguments) → words_from more words (place + 1) ≡ 0 → length words ≤ place + 1 → arguments_from more words (place + 1) b ≢ None)
+          → WordsFor words form place → (read : Option Arguments) → argument_at form words place a ≡ read → ⊥
+      by_words rest (one_word one) read r = omega (arith, e, one)
+      by_words rest (missing none w some) None r = let c = sym (some a) ∙ ap is_some r in cc
+      by_words rest (missing none w some) (Some b) r = rest b (omega (arith, e, none)) (omega (arith, h)) (sym (ap (option_and_then (arguments_from more words (place + 1))) r) ∙ n)
 
-  -- the step of a last number that is missing or there
-  counted : (more : List Argument) (make : ℕ → StepMaker more) (place x : ℕ) → count_word_at words place ≡ Some x → step_from (last_number ∷ more) make words place ≡ step_from more (make x) words (place + 1)
-  counted more make place x e = ap (option_and_then (λ n. step_from more (make n) words (place + 1))) e
+  -- a step line whose words are as many as its call has, and whose arguments can't be read
+  step_wrong : (arguments : List ArgumentForm) (place : ℕ) (a : Arguments) → length words ≡ place + words_from arguments words place → arguments_from arguments words place a ≡ None
+      → IsWrongFrom words (map Argument arguments) place
+  step_wrong [] place a count n = let c : Some a ≡ None = n in absurd cc
+  step_wrong (form ∷ more) place a count n = by_words (step_wrong more (place + 1)) (words_for_each words form place) (argument_at form words place a) refl
+    where
+      onward : (b : Arguments) → argument_at form words place a ≡ Some b → arguments_from more words (place + 1) b ≡ None
+      onward b r = sym (ap (option_and_then (arguments_from more words (place + 1))) r) ∙ n
 
-  without : (a b : ℕ) → a + b ≡ 0 → b ≡ 0
-  without a b e = omega (arith, e)
+      reads : (read : Option Arguments) → argument_at form words place a ≡ read → is_of words place (Argument form) ≡ is_some read
+      reads read r = same_read form words place blank a ∙ ap is_some r
 
-  -- arguments of which all are missing, and may be, make a step
-  none_missing : (arguments : List Argument) (make : StepMaker arguments) (place : ℕ) → words_from arguments words place ≡ 0 → length words ≤ place → step_from arguments make words place ≢ None
-  none_missing [] make place e h n = let c : Some make ≡ None = n in cc
-  none_missing (number ∷ more) make place e h n = absurd (omega (arith, e))
-  none_missing (vm ∷ more) make place e h n = absurd (omega (arith, e))
-  none_missing (kind ∷ more) make place e h n = absurd (omega (arith, e))
-  none_missing (rights ∷ more) make place e h n = absurd (omega (arith, e))
-  none_missing (last_number ∷ more) make place e h n =
-      let none = none_past words place h in
-      none_missing more (make 1) (place + 1) (without (one_more words place) (words_from more words (place + 1)) e) (omega (arith, h)) (sym (counted more make place 1 (rw (none, count_word_at) refl)) ∙ n)
-
-  last : (more : List Argument) (make : ℕ → StepMaker more) (place : ℕ) (word : Option (List ℕ)) → slice_get words place ≡ word → length words ≡ place + words_from (last_number ∷ more) words place
-      → step_from (last_number ∷ more) make words place ≡ None
-      → ((x : ℕ) → length words ≡ place + 1 + words_from more words (place + 1) → step_from more (make x) words (place + 1) ≡ None → IsWrongFrom words (map form_of more) (place + 1))
-      → IsWrongFrom words (Number ∷ map form_of more) place
-  last more make place None w count n next =
-      let past = past_end words place w in
-      let zero_more : one_more words place ≡ 0 = rw w refl in
-      let few : words_from more words (place + 1) ≡ 0 = omega (arith, count, past, zero_more) in
-      absurd (none_missing more (make 1) (place + 1) few (omega (arith, past)) (sym (counted more make place 1 (rw (w, count_word_at) refl)) ∙ n))
-  last more make place (Some word) w count n next =
-      let one_here : one_more words place ≡ 1 = rw w refl in
-      let same : count_word_at words place ≡ number_at words place = rw (w, count_word_at) refl in
-      one Number (map form_of more) place (words_from more words (place + 1)) (number_at words place) (λ x. step_from more (make x) words (place + 1)) refl (omega (arith, count, one_here)) next
-      (sym (ap (option_and_then (λ x. step_from more (make x) words (place + 1))) same) ∙ n)
-
-  -- a step line whose words are as many as its call has, and make no step
-  step_wrong : (arguments : List Argument) (make : StepMaker arguments) (place : ℕ) → length words ≡ place + words_from arguments words place → step_from arguments make words place ≡ None
-      → IsWrongFrom words (map form_of arguments) place
-  step_wrong [] make place count n = let c : Some make ≡ None = n in absurd cc
-  step_wrong (number ∷ more) make place count n =
-      one Number (map form_of more) place (words_from more words (place + 1)) (number_at words place) (λ x. step_from more (make x) words (place + 1)) refl count (λ x c e. step_wrong more (make x) (place + 1) c e) n
-  step_wrong (vm ∷ more) make place count n =
-      one Vm (map form_of more) place (words_from more words (place + 1)) (vm_word_at words place) (λ x. step_from more (make x) words (place + 1)) refl count (λ x c e. step_wrong more (make x) (place + 1) c e) n
-  step_wrong (kind ∷ more) make place count n =
-      one Kind (map form_of more) place (words_from more words (place + 1)) (kind_word_at words place) (λ x. step_from more (make x) words (place + 1)) refl count (λ x c e. step_wrong more (make x) (place + 1) c e) n
-  step_wrong (rights ∷ more) make place count n =
-      one Rights (map form_of more) place (words_from more words (place + 1)) (rights_word_at words place) (λ x. step_from more (make x) words (place + 1)) refl count (λ x c e. step_wrong more (make x) (place + 1) c e) n
-  step_wrong (last_number ∷ more) make place count n = last more make place (slice_get words place) refl count n (λ x c e. step_wrong more (make x) (place + 1) c e)
+      by_words : ((b : Arguments) → length words ≡ place + 1 + words_from more words (place + 1) → arguments_from more words (place + 1) b ≡ None → IsWrongFrom words (map Argument more) (place + 1))
+          → WordsFor words form place → (read : Option Arguments) → argument_at form words place a ≡ read → IsWrongFrom words (Argument form ∷ map Argument more) place
+      by_words rest (one_word one) None r = here words (Argument form) (map Argument more) place (reads None r) (omega (arith, count, one))
+      by_words rest (one_word one) (Some b) r = further words (Argument form) (map Argument more) place (reads (Some b) r) (rest b (omega (arith, count, one)) (onward b r))
+      by_words rest (missing none w some) None r = absurd (let c = sym (some a) ∙ ap is_some r in cc)
+      by_words rest (missing none w some) (Some b) r =
+          let past = past_end words place w in
+          absurd (none_missing more (place + 1) b (omega (arith, count, none, past)) (omega (arith, past)) (onward b r))
 
 -- what a line whose fault is one of form asks for
 pub record AsksFor (words : List (List ℕ)) : Type 0 where
@@ -179,13 +203,13 @@ one_none : {X Y : Type 0} (f : X → Y) (a : Option X) → option_map f a ≡ No
 one_none f None h = refl
 one_none f (Some x) h = absurd cc
 
-two_none : {X Y Z : Type 0} (f : X → Y → Z) (a : Option X) (b : Option Y) → option_and_then (λ x. option_map (f x) b) a ≡ None → (is_some a && (is_some b && true)) ≡ false
+two_none : {Y Z : Type 0} (f : ℕ → Y → Z) (a : Option ℕ) (b : Option Y) → option_and_then (λ x. option_map (f x) b) a ≡ None → (is_some (option_map (λ n. record blank { page = n }) a) && (is_some b && true)) ≡ false
 two_none f None b h = refl
 two_none f (Some x) None h = refl
 two_none f (Some x) (Some y) h = absurd cc
 
-three_none : {X Y Z V : Type 0} (f : X → Y → Z → V) (a : Option X) (b : Option Y) (c : Option Z) → option_and_then (λ x. option_and_then (λ y. option_map (f x y) c) b) a ≡ None
-    → (is_some a && (is_some b && (is_some c && true))) ≡ false
+three_none : {Y Z V : Type 0} (f : ℕ → Y → Z → V) (a : Option ℕ) (b : Option Y) (c : Option Z) → option_and_then (λ x. option_and_then (λ y. option_map (f x y) c) b) a ≡ None
+    → (is_some (option_map (λ n. record blank { page = n }) a) && (is_some b && (is_some c && true))) ≡ false
 three_none f None b c h = refl
 three_none f (Some x) None c h = refl
 three_none f (Some x) (Some y) None h = refl
@@ -209,13 +233,13 @@ module _ (words : List (List ℕ)) where
   number_ask name make = the_ask words (Name ∷ Number ∷ []) (of_number words name make) refl (λ none. one_none (λ n. lines.Setting (make n)) (number_at words 1) none)
 
   range_none : (a b : Option ℕ) (make : PageRange → Setting) → option_map (λ r. lines.Setting (make r)) (option_and_then (λ first. option_map (λ count. record { first = record { 0 = first }; count = count }) b) a) ≡ None
-      → (is_some a && (is_some b && true)) ≡ false
+      → (is_some (option_map (λ n. record blank { page = n }) a) && (is_some (option_map (λ n. record blank { count = n }) b) && true)) ≡ false
   range_none None b make h = refl
   range_none (Some x) None make h = refl
   range_none (Some x) (Some y) make h = absurd cc
 
-  range_ask : (name : SettingName) (make : PageRange → Setting) → IsAsk words (Name ∷ Number ∷ Number ∷ []) (Some (of_range words name make))
-  range_ask name make = the_ask words (Name ∷ Number ∷ Number ∷ []) (of_range words name make) refl (λ none. range_none (number_at words 1) (number_at words 2) make none)
+  range_ask : (name : SettingName) (make : PageRange → Setting) → IsAsk words range_forms (Some (of_range words name make))
+  range_ask name make = the_ask words range_forms (of_range words name make) refl (λ none. range_none (number_at words 1) (number_at words 2) make none)
 
   -- a line without a word that could be wrong
   sure_ask : (forms : List Form) (a : Asked) (line : Line) → a.line ≡ Some line → a.words ≡ length forms → IsAsk words forms (Some a)
@@ -224,8 +248,8 @@ module _ (words : List (List ℕ)) where
   -- the lines that the first word tells
   header_ask : (first : List ℕ) (a b c d e f g h : Bool)
       → IsAsk words
-      (unwrap_or (if a then Some (Name ∷ Number ∷ []) else (if b then Some (Name ∷ Number ∷ []) else (if c then Some (Name ∷ Number ∷ []) else (if d then Some (Name ∷ Number ∷ Number ∷ [])
-      else (if e then Some (Name ∷ Number ∷ Number ∷ []) else (if f then Some (Name ∷ Number ∷ Number ∷ []) else (if g then Some (Name ∷ []) else (if h then Some (Name ∷ []) else None)))))))) [])
+      (unwrap_or (if a then Some (Name ∷ Number ∷ []) else (if b then Some (Name ∷ Number ∷ []) else (if c then Some (Name ∷ Number ∷ []) else (if d then Some range_forms
+      else (if e then Some range_forms else (if f then Some range_forms else (if g then Some (Name ∷ []) else (if h then Some (Name ∷ []) else None)))))))) [])
       (if a then Some (of_number words names.Geometry settings.Geometry) else (if b then Some (of_number words names.Cpus settings.Cpus) else (if c then Some (of_number words names.Log settings.Log)
       else (if d then Some (of_range words names.Memory settings.Memory) else (if e then Some (of_range words names.Device settings.Device) else (if f then Some (of_range words names.Carve settings.Carve)
       else (if g then Some (record { verb = verbs.Boot; words = 1; line = Some lines.Boot }) else (if h then Some (record { verb = verbs.Start; words = 1; line = Some lines.Start }) else None))))))))
@@ -268,27 +292,27 @@ module _ (words : List (List ℕ)) where
   show_asks (Some name) = show_ask (bytes_eq name (codes "host")) (bytes_eq name (codes "hyp")) (bytes_eq name (codes "guest"))
 
   -- `word`
-  path_none : (f : TreeName → ℕ → ℕ → Line) (s p l : Option ℕ) → option_and_then (λ tree. option_and_then (λ page. option_map (f tree page) l) p) (option_map Guest s) ≡ None → (is_some s && (is_some p && (is_some l && true))) ≡ false
+  path_none : (f : TreeName → ℕ → ℕ → Line) (s p l : Option ℕ) → option_and_then (λ tree. option_and_then (λ page. option_map (f tree page) l) p) (option_map Guest s) ≡ None → (is_some s && (is_some (option_map (λ n. record blank { page = n }) p) && (is_some l && true))) ≡ false
   path_none f None p l h = refl
   path_none f (Some s) None l h = refl
   path_none f (Some s) (Some p) None h = refl
   path_none f (Some s) (Some p) (Some l) h = absurd cc
 
   word_ask : (a b c : Bool) → IsAsk words
-      (unwrap_or (if a then Some (Name ∷ Name ∷ Number ∷ Level ∷ []) else (if b then Some (Name ∷ Name ∷ Number ∷ Level ∷ []) else (if c then Some (Name ∷ Name ∷ Slot ∷ Number ∷ Level ∷ []) else None))) [])
+      (unwrap_or (if a then Some (Name ∷ Name ∷ Argument Page ∷ Level ∷ []) else (if b then Some (Name ∷ Name ∷ Argument Page ∷ Level ∷ []) else (if c then Some (Name ∷ Name ∷ Slot ∷ Argument Page ∷ Level ∷ []) else None))) [])
       (option_map (of_tree words) (if a then Some (record { words = 1; tree = Some Host }) else (if b then Some (record { words = 1; tree = Some Hyp }) else (if c then Some (record { words = 2; tree = option_map Guest (slot_word_at words 2) }) else None))))
-  word_ask true b c = the_ask words (Name ∷ Name ∷ Number ∷ Level ∷ []) _ refl (λ none. two_none (λ page level. lines.Query (queries.Word Host page level)) (number_at words 2) (level_word_at words 3) none)
-  word_ask false true c = the_ask words (Name ∷ Name ∷ Number ∷ Level ∷ []) _ refl (λ none. two_none (λ page level. lines.Query (queries.Word Hyp page level)) (number_at words 2) (level_word_at words 3) none)
-  word_ask false false true = the_ask words (Name ∷ Name ∷ Slot ∷ Number ∷ Level ∷ []) _ refl (λ none. path_none (λ tree page level. lines.Query (queries.Word tree page level)) (slot_word_at words 2) (number_at words 3) (level_word_at words 4) none)
+  word_ask true b c = the_ask words (Name ∷ Name ∷ Argument Page ∷ Level ∷ []) _ refl (λ none. two_none (λ page level. lines.Query (queries.Word Host page level)) (number_at words 2) (level_word_at words 3) none)
+  word_ask false true c = the_ask words (Name ∷ Name ∷ Argument Page ∷ Level ∷ []) _ refl (λ none. two_none (λ page level. lines.Query (queries.Word Hyp page level)) (number_at words 2) (level_word_at words 3) none)
+  word_ask false false true = the_ask words (Name ∷ Name ∷ Slot ∷ Argument Page ∷ Level ∷ []) _ refl (λ none. path_none (λ tree page level. lines.Query (queries.Word tree page level)) (slot_word_at words 2) (number_at words 3) (level_word_at words 4) none)
   word_ask false false false = no_ask words []
 
-  word_asks : (second : Option (List ℕ)) → IsAsk words (tree_forms (Name ∷ Name ∷ Number ∷ Level ∷ []) (Name ∷ Name ∷ Slot ∷ Number ∷ Level ∷ []) (unwrap_or second [])) (option_map (of_tree words) (option_and_then (named (tree_names words)) second))
+  word_asks : (second : Option (List ℕ)) → IsAsk words (tree_forms (Name ∷ Name ∷ Argument Page ∷ Level ∷ []) (Name ∷ Name ∷ Slot ∷ Argument Page ∷ Level ∷ []) (unwrap_or second [])) (option_map (of_tree words) (option_and_then (named (tree_names words)) second))
   word_asks None = λ a e. absurd cc
   word_asks (Some name) = word_ask (bytes_eq name (codes "host")) (bytes_eq name (codes "hyp")) (bytes_eq name (codes "guest"))
 
   -- `poke`
   poke_none : (f : TreeName → ℕ → ℕ → ℕ → Line) (s p l w : Option ℕ) → option_and_then (λ tree. option_and_then (λ page. option_and_then (λ level. option_map (f tree page level) w) l) p) (option_map Guest s) ≡ None
-      → (is_some s && (is_some p && (is_some l && (is_some w && true)))) ≡ false
+      → (is_some s && (is_some (option_map (λ n. record blank { page = n }) p) && (is_some l && (is_some w && true)))) ≡ false
   poke_none f None p l w h = refl
   poke_none f (Some s) None l w h = refl
   poke_none f (Some s) (Some p) None w h = refl
@@ -299,62 +323,66 @@ module _ (words : List (List ℕ)) where
   poked tree page level word = lines.Poke (record { tree = tree; page = page; level = level; word = word })
 
   poke_ask : (a b c : Bool) → IsAsk words
-      (unwrap_or (if a then Some (Name ∷ Name ∷ Number ∷ Level ∷ Number ∷ []) else (if b then Some (Name ∷ Name ∷ Number ∷ Level ∷ Number ∷ []) else (if c then Some (Name ∷ Name ∷ Slot ∷ Number ∷ Level ∷ Number ∷ []) else None))) [])
+      (unwrap_or (if a then Some (Name ∷ Name ∷ Argument Page ∷ Level ∷ Word ∷ []) else (if b then Some (Name ∷ Name ∷ Argument Page ∷ Level ∷ Word ∷ []) else (if c then Some (Name ∷ Name ∷ Slot ∷ Argument Page ∷ Level ∷ Word ∷ []) else None))) [])
       (option_map (of_poke words) (if a then Some (record { words = 1; tree = Some Host }) else (if b then Some (record { words = 1; tree = Some Hyp }) else (if c then Some (record { words = 2; tree = option_map Guest (slot_word_at words 2) }) else None))))
-  poke_ask true b c = the_ask words (Name ∷ Name ∷ Number ∷ Level ∷ Number ∷ []) _ refl (λ none. three_none (poked Host) (number_at words 2) (level_word_at words 3) (number_at words 4) none)
-  poke_ask false true c = the_ask words (Name ∷ Name ∷ Number ∷ Level ∷ Number ∷ []) _ refl (λ none. three_none (poked Hyp) (number_at words 2) (level_word_at words 3) (number_at words 4) none)
-  poke_ask false false true = the_ask words (Name ∷ Name ∷ Slot ∷ Number ∷ Level ∷ Number ∷ []) _ refl (λ none. poke_none poked (slot_word_at words 2) (number_at words 3) (level_word_at words 4) (number_at words 5) none)
+  poke_ask true b c = the_ask words (Name ∷ Name ∷ Argument Page ∷ Level ∷ Word ∷ []) _ refl (λ none. three_none (poked Host) (number_at words 2) (level_word_at words 3) (number_at words 4) none)
+  poke_ask false true c = the_ask words (Name ∷ Name ∷ Argument Page ∷ Level ∷ Word ∷ []) _ refl (λ none. three_none (poked Hyp) (number_at words 2) (level_word_at words 3) (number_at words 4) none)
+  poke_ask false false true = the_ask words (Name ∷ Name ∷ Slot ∷ Argument Page ∷ Level ∷ Word ∷ []) _ refl (λ none. poke_none poked (slot_word_at words 2) (number_at words 3) (level_word_at words 4) (number_at words 5) none)
   poke_ask false false false = no_ask words []
 
-  poke_asks : (second : Option (List ℕ)) → IsAsk words (tree_forms (Name ∷ Name ∷ Number ∷ Level ∷ Number ∷ []) (Name ∷ Name ∷ Slot ∷ Number ∷ Level ∷ Number ∷ []) (unwrap_or second [])) (option_map (of_poke words) (option_and_then (named (tree_names words)) second))
+  poke_asks : (second : Option (List ℕ)) → IsAsk words (tree_forms (Name ∷ Name ∷ Argument Page ∷ Level ∷ Word ∷ []) (Name ∷ Name ∷ Slot ∷ Argument Page ∷ Level ∷ Word ∷ []) (unwrap_or second [])) (option_map (of_poke words) (option_and_then (named (tree_names words)) second))
   poke_asks None = λ a e. absurd cc
   poke_asks (Some name) = poke_ask (bytes_eq name (codes "host")) (bytes_eq name (codes "hyp")) (bytes_eq name (codes "guest"))
 
-  -- a step line, by what its call's name stands for
-  shape_ask : (shape : Shape) (first : List ℕ) → slice_get words 0 ≡ Some first
-      → IsAsk words (Number ∷ Name ∷ map form_of shape.arguments) (Some (of_call words (record { words = 2 + words_from shape.arguments words 2; step = step_from shape.arguments shape.step words 2 })))
-  shape_ask shape first is a e count none =
-      let same : of_call words (record { words = 2 + words_from shape.arguments words 2; step = step_from shape.arguments shape.step words 2 }) ≡ a = cc in
+  -- a step line, by its call
+  row_ask : (call : CallName) (first : List ℕ) → slice_get words 0 ≡ Some first
+      → IsAsk words (Cpu ∷ Name ∷ map Argument (row call).forms)
+      (Some (of_call words (record { words = 2 + words_from (row call).forms words 2; step = option_map (step_by call) (arguments_from (row call).forms words 2 blank) })))
+  row_ask call first is a e count none =
+      let same : of_call words (record { words = 2 + words_from forms_of words 2; step = step }) ≡ a = cc in
       by_cpu (number_at words 0) refl (count ∙ ap (λ x. x.words) (sym same)) (ap (λ x. x.line) same ∙ none)
     where
+      forms_of : List ArgumentForm
+      forms_of = (row call).forms
+
+      step : Option Step
+      step = option_map (step_by call) (arguments_from forms_of words 2 blank)
+
       some_words : (words : List (List ℕ)) (first : List ℕ) → slice_get words 0 ≡ Some first → 0 < length words
       some_words [] first is = absurd (let c : None ≡ Some first = is in cc)
       some_words (x ∷ xs) first is = omega arith
 
-      by_step : (step : Option Step) (cpu : ℕ) → option_and_then (λ c. option_map (lines.Step c) step) (Some cpu) ≡ None → step ≡ None
+      by_step : (read : Option Arguments) (cpu : ℕ) → option_and_then (λ c. option_map (lines.Step c) (option_map (step_by call) read)) (Some cpu) ≡ None → read ≡ None
       by_step None cpu h = refl
-      by_step (Some step) cpu h = absurd cc
+      by_step (Some arguments) cpu h = absurd cc
 
-      by_cpu : (cpu : Option ℕ) → number_at words 0 ≡ cpu → length words ≡ 2 + words_from shape.arguments words 2 → option_and_then (λ c. option_map (lines.Step c) (step_from shape.arguments shape.step words 2)) (number_at words 0) ≡ None
-          → IsWrongFrom words (Number ∷ Name ∷ map form_of shape.arguments) 0
-      by_cpu None c count h = here words Number (Name ∷ map form_of shape.arguments) 0 (ap is_some c) (some_words words first is)
+      by_cpu : (cpu : Option ℕ) → number_at words 0 ≡ cpu → length words ≡ 2 + words_from forms_of words 2 → option_and_then (λ c. option_map (lines.Step c) step) (number_at words 0) ≡ None
+          → IsWrongFrom words (Cpu ∷ Name ∷ map Argument forms_of) 0
+      by_cpu None c count h = here words Cpu (Name ∷ map Argument forms_of) 0 (ap is_some c) (some_words words first is)
       by_cpu (Some cpu) c count h =
-          further words Number (Name ∷ map form_of shape.arguments) 0 (ap is_some c)
-          (further words Name (map form_of shape.arguments) 1 refl
-          (step_wrong words shape.arguments shape.step 2 count (by_step (step_from shape.arguments shape.step words 2) cpu (sym (ap (option_and_then (λ c. option_map (lines.Step c) (step_from shape.arguments shape.step words 2))) c) ∙ h))))
+          further words Cpu (Name ∷ map Argument forms_of) 0 (ap is_some c)
+          (further words Name (map Argument forms_of) 1 refl
+          (step_wrong words forms_of 2 blank count (by_step (arguments_from forms_of words 2 blank) cpu (sym (ap (option_and_then (λ c. option_map (lines.Step c) step)) c) ∙ h))))
 
-  named_ask : (first : List ℕ) → slice_get words 0 ≡ Some first → (shape : Option Shape)
-      → IsAsk words (elim shape [ Some s ↦ Number ∷ Name ∷ map form_of s.arguments | None ↦ [] ])
-      (option_map (of_call words) (option_map (λ s. record { words = 2 + words_from s.arguments words 2; step = step_from s.arguments s.step words 2 }) shape))
-  named_ask first is None = no_ask words []
-  named_ask first is (Some shape) = shape_ask shape first is
-
-  call_asks : (first : List ℕ) → slice_get words 0 ≡ Some first → (rows : List (List ℕ × Shape)) (name : List ℕ) → IsAsk words (called_forms rows name) (option_map (of_call words) (called_in rows words name))
-  unfolding called_in
-  call_asks first is rows name = named_ask first is (named rows name)
+  call_ask : (first : List ℕ) → slice_get words 0 ≡ Some first → (call : Option CallName)
+      → IsAsk words (elim call [ Some c ↦ Cpu ∷ Name ∷ map Argument (row c).forms | None ↦ [] ])
+      (option_map (of_call words) (option_map (λ c. record { words = 2 + words_from (row c).forms words 2; step = option_map (step_by c) (arguments_from (row c).forms words 2 blank) }) call))
+  call_ask first is None = no_ask words []
+  call_ask first is (Some call) = row_ask call first is
 
   step_asks : (first : List ℕ) → slice_get words 0 ≡ Some first → (second : Option (List ℕ)) → IsAsk words (call_forms (unwrap_or second [])) (option_map (of_call words) (option_and_then (called words) second))
+  unfolding called
   step_asks first is None = λ a e. absurd cc
-  step_asks first is (Some name) = call_asks first is calls name
+  step_asks first is (Some name) = call_ask first is (call_named name)
 
   -- any line, by its first words
   first_ask : (first : List ℕ) → slice_get words 0 ≡ Some first → (second : Option (List ℕ)) (digit word free show poke : Bool)
       → IsAsk words
       (if digit then call_forms (unwrap_or second [])
-      else (if word then tree_forms (Name ∷ Name ∷ Number ∷ Level ∷ []) (Name ∷ Name ∷ Slot ∷ Number ∷ Level ∷ []) (unwrap_or second [])
+      else (if word then tree_forms (Name ∷ Name ∷ Argument Page ∷ Level ∷ []) (Name ∷ Name ∷ Slot ∷ Argument Page ∷ Level ∷ []) (unwrap_or second [])
       else (if free then pool_forms (unwrap_or second [])
       else (if show then tree_forms (Name ∷ Name ∷ []) (Name ∷ Name ∷ Slot ∷ []) (unwrap_or second [])
-      else (if poke then tree_forms (Name ∷ Name ∷ Number ∷ Level ∷ Number ∷ []) (Name ∷ Name ∷ Slot ∷ Number ∷ Level ∷ Number ∷ []) (unwrap_or second [])
+      else (if poke then tree_forms (Name ∷ Name ∷ Argument Page ∷ Level ∷ Word ∷ []) (Name ∷ Name ∷ Slot ∷ Argument Page ∷ Level ∷ Word ∷ []) (unwrap_or second [])
       else header_forms first)))))
       (if digit then option_map (of_call words) (option_and_then (called words) second)
       else (if word then option_map (of_tree words) (option_and_then (named (tree_names words)) second)

@@ -12,11 +12,11 @@ use Rattle.trace_words.specs.Numbers.{decimal_of}
 use Rattle.trace_words.specs.Words.{is_silent, named, words_of}
 use Rattle.world.specs.declared.boot.BootFault.TheVariants as boots
 
--- a line of what is said of a whole file
+-- a line of the report of a whole file
 abbrev pub file_line : List ℕ → List ℕ → List ℕ
 file_line name said = name ++ codes ": " ++ said ++ 10 ∷ []
 
--- what is said of lines without a fault: that none says anything, that there is no boot, or of a race that there is no start
+-- the text for lines without a fault: that none says anything, that there is no boot, or of a race that there is no start
 abbrev pub remark : List ℕ → List (List ℕ) → Bool → List ℕ
 remark name lines races =
     if list_all is_silent lines then file_line name (codes "the trace says nothing")
@@ -28,7 +28,7 @@ remark name lines races =
 abbrev pub place_of : List ℕ → List (List ℕ) → ℕ → Fault → List ℕ
 place_of name lines number fault = if number == 0 || nat_lt (length lines) number then [] else place_line name lines (number - 1) fault
 
--- what is said beside the report of these lines, whose run had this fault at the line of this number, or none
+-- the text beside the report of these lines, whose run had this fault at the line of this number, or none
 abbrev pub said_beside : List ℕ → List (List ℕ) → Option (ℕ × Fault) → Bool → List ℕ
 said_beside name lines (Some (number, fault)) races = place_of name lines number fault
 said_beside name lines None races = remark name lines races
@@ -71,7 +71,7 @@ abbrev pub fault_named : List ℕ → Option (List ℕ) → Option Fault
 fault_named name None = plain_fault name
 fault_named name (Some number) = option_and_then (numbered_fault name) (decimal_of number)
 
--- the fault that a line of a report tells, and the number of the trace's line
+-- the fault of a report's line, and the number of the trace's line
 abbrev pub fault_in_words : List (List ℕ) → Option (ℕ × Fault)
 fault_in_words words =
     option_and_then (λ number. option_and_then (λ name. option_map (λ fault. (number, fault)) (fault_named name (slice_get words 3))) (slice_get words 2))

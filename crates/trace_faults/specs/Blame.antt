@@ -74,13 +74,13 @@ abbrev pub blamed : Fault → List (List ℕ) → List (List ℕ) → Option ℕ
 blamed fault earlier [] = None
 blamed fault earlier (line ∷ rest) = if is_blamed fault earlier line then Some (length earlier) else blamed fault (earlier ++ line ∷ []) rest
 
--- what is wanted of a number of the machine, by its name
+-- the form wanted of a number of the machine, by its name
 abbrev pub config_wanted : List ℕ → List ℕ
 config_wanted first =
     if bytes_eq first (codes "geometry") then codes "39 or 48"
     else (if bytes_eq first (codes "cpus") then codes "1 to 64" else codes "1 to 1048576")
 
--- what is wanted of the setting that is blamed, by its first word
+-- the form wanted of the setting that is blamed, by its first word
 abbrev pub blamed_wanted : Fault → List ℕ → List ℕ
 blamed_wanted (Layout TooMany) first = codes "16 regions at most"
 blamed_wanted (Layout Empty) first = codes "a page or more"

@@ -1,15 +1,14 @@
 -- Where the fault of a line is, and what was found and wanted there (profile).
-use Rattle.std.specs.Prelude.{ℕ, ◌+◌, ◌/◌, Bool, ◌==◌, List, [], ◌∷◌, ◌++◌, codes, length, take, Some, None, slice_get, slice_index_or, unwrap_or, if◌then◌else◌}
+use Rattle.std.specs.Prelude.{ℕ, ◌+◌, Bool, ◌==◌, List, [], ◌∷◌, ◌++◌, codes, length, take, Some, None, slice_get, slice_index_or, unwrap_or, if◌then◌else◌}
 use Rattle.std.specs.Fmt.{decimal}
 use Rattle.std.specs.List.{list_any}
 use Rattle.std.specs.Str.{bytes_eq}
 use Rattle.trace_faults.specs.declared.form.Form.{Form}
-use Rattle.trace_faults.specs.declared.form.Form.TheVariants.{Number}
 use Rattle.trace_faults.specs.declared.saying.Spot.{Spot}
 use Rattle.trace_faults.specs.Blame.{blamed, blamed_wanted, unblamed_found, unblamed_wanted}
 use Rattle.trace_faults.specs.Columns.{word_column, stray_column, space_column}
 use Rattle.trace_faults.specs.Forms.{forms, first_wrong, wanted_form}
-use Rattle.trace_faults.specs.Names.{names_of, nearest, number_wanted}
+use Rattle.trace_faults.specs.Names.{names_of, nearest_of}
 use Rattle.trace_faults.specs.Wanted.{unknown_place, unknown_wanted, place_wanted}
 use Rattle.trace_lines.specs.declared.fault.LineFault.{LineFault}
 use Rattle.trace_lines.specs.declared.fault.LineFault.TheVariants.{Long, Byte, Space, Word, Place, Count, Form as WrongForm}
@@ -24,7 +23,7 @@ pub record Told : Type 0 where
   pub column : ℕ
   pub said : List ℕ
 
--- what a spot tells
+-- the text of a spot
 abbrev pub spot_in : Spot → Told
 spot_in spot = record { line = spot.line; column = spot.column; said = spot.said.items }
 
@@ -68,9 +67,9 @@ asked name = codes "; did you mean " ++ name ++ codes "?"
 abbrev pub meant : List ℕ → List ℕ
 meant name = if length name == 0 then [] else asked name
 
--- what is wanted of an unknown word, by the line's first, and the name that it may be meant for: a third of its bytes may be wrong
+-- what is wanted of an unknown word, by the line's first, and the name that it may be meant for
 unfoldable pub unknown_said : List ℕ → List ℕ → List ℕ
-unknown_said first word = unknown_wanted first ++ meant (nearest word (length word / 3 + 1) [] (names_of first))
+unknown_said first word = unknown_wanted first ++ meant (nearest_of word (names_of first))
 
 -- the word that is unknown or missing
 abbrev pub unknown_at : ℕ → List ℕ → List ℕ → ℕ → Told
@@ -79,22 +78,17 @@ unknown_at number line first place = at_word number line place (unknown_said fir
 abbrev pub unknown_spot : ℕ → List ℕ → Told
 unknown_spot number line = unknown_at number line (first_word line) (unknown_place (first_word line))
 
--- what is wanted of the word at a place, by its form
-abbrev pub wanted_at : List (List ℕ) → ℕ → Form → List ℕ
-wanted_at words place Number = number_wanted (unwrap_or (slice_get words 0) []) (unwrap_or (slice_get words 1) []) place
-wanted_at words place other = wanted_form other
-
 -- the word that is missing, with its form, or the first that is too many
 abbrev pub counted_spot : ℕ → List ℕ → Told
 counted_spot number line =
     elim (slice_get (forms (words_of line)) (length (words_of line))) [
-      | Some form ↦ at_word number line (length (words_of line)) (wanted_at (words_of line) (length (words_of line)) form)
+      | Some form ↦ at_word number line (length (words_of line)) (wanted_form form)
       | None ↦ at_word number line (length (forms (words_of line))) (codes "the line's end")
     ]
 
 -- the first word that isn't of its form
 abbrev pub wrong_at : ℕ → List ℕ → List Form → ℕ → Told
-wrong_at number line forms place = at_word number line place (elim (slice_get forms place) [ Some form ↦ wanted_at (words_of line) place form | None ↦ codes "the line's end" ])
+wrong_at number line forms place = at_word number line place (elim (slice_get forms place) [ Some form ↦ wanted_form form | None ↦ codes "the line's end" ])
 
 abbrev pub wrong_spot : ℕ → List ℕ → Told
 wrong_spot number line = wrong_at number line (forms (words_of line)) (first_wrong (words_of line) (forms (words_of line)) 0)

@@ -8,7 +8,7 @@ abbrev pub unknown_place : List ℕ → ℕ
 unknown_place first =
     if begins_with_digit first || bytes_eq first (codes "word") || bytes_eq first (codes "free") || bytes_eq first (codes "show") || bytes_eq first (codes "poke") then 1 else 0
 
--- and what is wanted there
+-- and the form wanted there
 abbrev pub unknown_wanted : List ℕ → List ℕ
 unknown_wanted first =
     if begins_with_digit first then codes "a call"
@@ -22,7 +22,7 @@ is_header first =
     bytes_eq first (codes "geometry") || bytes_eq first (codes "cpus") || bytes_eq first (codes "log")
     || bytes_eq first (codes "memory") || bytes_eq first (codes "device") || bytes_eq first (codes "carve")
 
--- what is wanted of a line that may not be where it is; `booted`: a line before it is `boot`
+-- the place wanted of a line that may not be where it is; `booted`: a line before it is `boot`
 abbrev pub place_wanted : List ℕ → Bool → List ℕ
 place_wanted first booted =
     if is_header first then (if booted then codes "settings before boot" else codes "each setting once")

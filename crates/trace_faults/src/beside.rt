@@ -65,7 +65,7 @@ fn add_fault(
     add_place(text, global, name, lines, number as usize - 1, fault)
 }
 
-/// Adds what is to be said of a trace without a fault.
+/// Adds the text for a trace without a fault.
 fn add_remark(
     text: &mut Vec<u8>,
     name: &str,
@@ -86,7 +86,7 @@ fn add_remark(
     Ok(())
 }
 
-/// Adds a line of what is said of a whole file.
+/// Adds a line of the report of a whole file.
 pub fn add_file_line(text: &mut Vec<u8>, name: &str, said: &[u8]) -> Result<(), AllocError>
     ensures { OnOk result (text.new.items ≡ text.old.items ++ file_line name.now said.now) }
 {
@@ -128,7 +128,7 @@ fn has_started(lines: &[&[u8]]) -> bool
     false
 }
 
-/// The fault that a line of a report tells, and the number of the trace's line. None of a line that tells none.
+/// The fault of a report's line, and the number of the trace's line. None of a line without a fault.
 pub fn fault_told(told: &[u8]) -> Option<(u64, Fault)>
     ensures { result ≡ fault_told_by told.now }
 {

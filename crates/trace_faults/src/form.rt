@@ -1,22 +1,43 @@
 //! The forms that the words of a line must have.
-ghost use Rattle.std.specs.Prelude.{◌≡◌};
-ghost use Rattle.trace_lines.specs.Calls.{guest_calls, hand_calls, vm_calls};
-ghost use Rattle.trace_faults.specs.Forms.{call_forms, called_forms, first_wrong as first_wrong_by, forms as forms_by, header_forms, is_of as is_of_by, pool_forms, tree_forms, wanted_form as form_words};
+ghost use Rattle.std.specs.Prelude.{◌≡◌, length, slice_get};
+ghost use Rattle.trace_faults.specs.Forms.{
+  all_forms,
+  call_forms,
+  first_wrong as first_wrong_by,
+  forms as forms_by,
+  header_forms,
+  is_of as is_of_by,
+  is_right as is_right_by,
+  own_forms,
+  pool_forms,
+  tree_forms,
+  wanted_argument as argument_words,
+  wanted_form as form_words,
+};
 
-use trace_lines::argument::{kind_at, level_at, number_at, rights_at, slot_at, vm_at};
+use call_table::{Arguments, CallName, Form as ArgumentForm};
+use trace_lines::argument::{level_at, number_at, slot_at};
+use trace_lines::argument_at;
 use trace_words::{Words, is_name};
+
+/// A page, and a count of pages, as a call has them too.
+const PAGE: Form = Form::Argument(ArgumentForm::Page);
+
+const COUNT: Form = Form::Argument(ArgumentForm::Count);
 
 /// What a word must be.
 #[derive(Clone, Copy)]
 pub(crate) enum Form {
     /// A name that the grammar knows.
     Name,
+    Cpu,
     Number,
-    Vm,
-    Kind,
-    Rights,
+    /// A word of a table.
+    Word,
     Level,
     Slot,
+    /// What a call has as an argument.
+    Argument(ArgumentForm),
 }
 
 impl Form {
@@ -26,12 +47,12 @@ impl Form {
     {
         match self {
             Form::Name => b"a name",
+            Form::Cpu => b"CPU, a number",
             Form::Number => b"a number",
-            Form::Vm => b"a VM, as 0.1",
-            Form::Kind => b"protected or plain",
-            Form::Rights => b"r, rw, rx or rwx",
+            Form::Word => b"WORD, a number",
             Form::Level => b"a level, 0 to 3",
             Form::Slot => b"a slot, 0 to 63",
+            Form::Argument(form) => wanted_argument(form),
         }
     }
 
@@ -41,39 +62,103 @@ impl Form {
     {
         match self {
             Form::Name => true,
-            Form::Number => number_at(words, place).is_some(),
-            Form::Vm => vm_at(words, place).is_some(),
-            Form::Kind => kind_at(words, place).is_some(),
-            Form::Rights => rights_at(words, place).is_some(),
+            Form::Cpu | Form::Number | Form::Word => number_at(words, place).is_some(),
             Form::Level => level_at(words, place).is_some(),
             Form::Slot => slot_at(words, place).is_some(),
+            Form::Argument(form) => argument_at(form, words, place, Arguments::BLANK).is_some(),
         }
+    }
+}
+
+fn wanted_argument(form: ArgumentForm) -> &'static [u8]
+    ensures { result.now ≡ argument_words form }
+{
+    match form {
+        ArgumentForm::Frame => b"FRAME, a number",
+        ArgumentForm::Page => b"PAGE, a number",
+        ArgumentForm::Count | ArgumentForm::LastCount => b"COUNT, a number",
+        ArgumentForm::Vcpus => b"VCPUS, a number",
+        ArgumentForm::Vcpu => b"VCPU, a number",
+        ArgumentForm::Vm => b"a VM, as 0.1",
+        ArgumentForm::Kind => b"protected or plain",
+        ArgumentForm::Rights => b"r, rw, rx or rwx",
+    }
+}
+
+/// The forms of the words of a line: the line's own, and those of a call's arguments after them.
+#[derive(Clone, Copy)]
+pub(crate) struct LineForms {
+    pub(crate) own: &'static [Form],
+    pub(crate) arguments: &'static [ArgumentForm],
+}
+
+impl LineForms {
+    /// How many there are.
+    pub(crate) fn count(self) -> usize
+        ensures { result ≡ length (all_forms self) }
+    {
+        self.own.len() + self.arguments.len()
+    }
+
+    /// That of the word at a place, counted from 0.
+    pub(crate) fn get(self, place: usize) -> Option<Form>
+        ensures { result ≡ slice_get (all_forms self) place }
+    {
+        if place < self.own.len() {
+            return self.own.get(place).copied();
+        }
+        let form = self.arguments.get(place - self.own.len())?;
+        Some(Form::Argument(*form))
     }
 }
 
 /// The forms of the words of a line, by its first words. None of a line whose words ask for nothing.
 #[tactic(auto, unfolding(crate::specs::Forms::forms))]
-pub(crate) fn forms(words: &Words<'_>) -> &'static [Form]
-    ensures { result.now ≡ forms_by words.now }
+pub(crate) fn forms(words: &Words<'_>) -> LineForms
+    ensures { all_forms result ≡ forms_by words.now }
 {
     let Some(first) = words.get(0) else {
-        return &[];
+        return of_line(&[]);
     };
     let second = words.get(1).unwrap_or(b"");
     if matches!(first, [b'0'..=b'9', ..]) {
         return call(second);
     }
+    of_line(own(first, second))
+}
+
+/// Those of a line without a call's arguments.
+fn of_line(own: &'static [Form]) -> LineForms
+    ensures { all_forms result ≡ own.now }
+{
+    LineForms {
+        own,
+        arguments: &[],
+    }
+}
+
+/// Those of a step line whose call has this name.
+fn call(name: &[u8]) -> LineForms
+    ensures { all_forms result ≡ call_forms name.now }
+{
+    match CallName::of_word(name) {
+        Some(call) => LineForms {
+            own: &[Form::Cpu, Form::Name],
+            arguments: call.row().forms,
+        },
+        None => of_line(&[]),
+    }
+}
+
+/// Those of a line that is no step line, by its first words.
+fn own(first: &[u8], second: &[u8]) -> &'static [Form]
+    ensures { result.now ≡ own_forms first.now second.now }
+{
     if is_name(first, b"word") {
         return tree(
             second,
-            &[Form::Name, Form::Name, Form::Number, Form::Level],
-            &[
-                Form::Name,
-                Form::Name,
-                Form::Slot,
-                Form::Number,
-                Form::Level,
-            ],
+            &[Form::Name, Form::Name, PAGE, Form::Level],
+            &[Form::Name, Form::Name, Form::Slot, PAGE, Form::Level],
         );
     }
     if is_name(first, b"free") {
@@ -89,20 +174,14 @@ pub(crate) fn forms(words: &Words<'_>) -> &'static [Form]
     if is_name(first, b"poke") {
         return tree(
             second,
-            &[
-                Form::Name,
-                Form::Name,
-                Form::Number,
-                Form::Level,
-                Form::Number,
-            ],
+            &[Form::Name, Form::Name, PAGE, Form::Level, Form::Word],
             &[
                 Form::Name,
                 Form::Name,
                 Form::Slot,
-                Form::Number,
+                PAGE,
                 Form::Level,
-                Form::Number,
+                Form::Word,
             ],
         );
     }
@@ -138,7 +217,7 @@ fn pool(name: &[u8]) -> &'static [Form]
     &[]
 }
 
-/// The forms of a line whose first word says all of what is asked.
+/// The forms of a line whose first word says the whole request.
 fn header(name: &[u8]) -> &'static [Form]
     ensures { result.now ≡ header_forms name.now }
 {
@@ -146,7 +225,7 @@ fn header(name: &[u8]) -> &'static [Form]
         return &[Form::Name, Form::Number];
     }
     if is_name(name, b"memory") || is_name(name, b"device") || is_name(name, b"carve") {
-        return &[Form::Name, Form::Number, Form::Number];
+        return &[Form::Name, PAGE, COUNT];
     }
     if is_name(name, b"boot") || is_name(name, b"start") {
         return &[Form::Name];
@@ -154,142 +233,24 @@ fn header(name: &[u8]) -> &'static [Form]
     &[]
 }
 
-/// The forms of a step line of a call: of its CPU, the call's name, and the arguments.
-fn call(name: &[u8]) -> &'static [Form]
-    ensures { result.now ≡ call_forms name.now }
+/// The first place whose word isn't of its form. As many as there are forms where each is.
+pub(crate) fn first_wrong(words: &Words<'_>, forms: LineForms) -> usize
+    ensures { result ≡ first_wrong_by words.now (all_forms forms) 0 }
 {
-    if is_name(name, b"share_hyp") {
-        return &[Form::Number, Form::Name, Form::Number];
-    }
-    if is_name(name, b"unshare_hyp") {
-        return &[Form::Number, Form::Name, Form::Number];
-    }
-    if is_name(name, b"donate_hyp") {
-        return &[Form::Number, Form::Name, Form::Number, Form::Number];
-    }
-    if is_name(name, b"hyp_donate_host") {
-        return &[Form::Number, Form::Name, Form::Number, Form::Number];
-    }
-    if is_name(name, b"host_abort") {
-        return &[Form::Number, Form::Name, Form::Number];
-    }
-    if is_name(name, b"host_translate") {
-        return &[Form::Number, Form::Name, Form::Number];
-    }
-    if is_name(name, b"hyp_translate") {
-        return &[Form::Number, Form::Name, Form::Number];
-    }
-    if is_name(name, b"owner_of") {
-        return &[Form::Number, Form::Name, Form::Number];
-    }
-    hand_call(name)
-}
-
-/// The calls from `fund` on.
-fn hand_call(name: &[u8]) -> &'static [Form]
-    ensures { result.now ≡ called_forms hand_calls name.now }
-{
-    if is_name(name, b"fund") {
-        return &[Form::Number, Form::Name, Form::Number, Form::Number];
-    }
-    if is_name(name, b"unfund") {
-        return &[Form::Number, Form::Name];
-    }
-    if is_name(name, b"share_guest") {
-        return &[
-            Form::Number,
-            Form::Name,
-            Form::Number,
-            Form::Number,
-            Form::Rights,
-            Form::Number,
-        ];
-    }
-    if is_name(name, b"unshare_guest") {
-        return &[Form::Number, Form::Name, Form::Vm, Form::Number];
-    }
-    if is_name(name, b"donate_guest") {
-        return &[
-            Form::Number,
-            Form::Name,
-            Form::Number,
-            Form::Number,
-            Form::Number,
-        ];
-    }
-    if is_name(name, b"guest_share_host") {
-        return &[Form::Number, Form::Name, Form::Number];
-    }
-    if is_name(name, b"guest_unshare_host") {
-        return &[Form::Number, Form::Name, Form::Number];
-    }
-    guest_call(name)
-}
-
-/// The calls from `install` on.
-fn guest_call(name: &[u8]) -> &'static [Form]
-    ensures { result.now ≡ called_forms guest_calls name.now }
-{
-    if is_name(name, b"install") {
-        return &[Form::Number, Form::Name];
-    }
-    if is_name(name, b"topup") {
-        return &[Form::Number, Form::Name, Form::Vm];
-    }
-    if is_name(name, b"reclaim_page") {
-        return &[Form::Number, Form::Name, Form::Vm, Form::Number];
-    }
-    if is_name(name, b"reclaim_pool") {
-        return &[Form::Number, Form::Name, Form::Vm];
-    }
-    if is_name(name, b"finish_guest") {
-        return &[Form::Number, Form::Name];
-    }
-    if is_name(name, b"guest_relax") {
-        return &[Form::Number, Form::Name, Form::Number, Form::Rights];
-    }
-    if is_name(name, b"guest_translate") {
-        return &[Form::Number, Form::Name, Form::Vm, Form::Number];
-    }
-    if is_name(name, b"mark_dying") {
-        return &[Form::Number, Form::Name];
-    }
-    vm_call(name)
-}
-
-/// The calls on VM slots.
-fn vm_call(name: &[u8]) -> &'static [Form]
-    ensures { result.now ≡ called_forms vm_calls name.now }
-{
-    if is_name(name, b"vm_reserve") {
-        return &[Form::Number, Form::Name, Form::Kind, Form::Number];
-    }
-    if is_name(name, b"vm_open") {
-        return &[Form::Number, Form::Name];
-    }
-    if is_name(name, b"vcpu_load") {
-        return &[Form::Number, Form::Name, Form::Vm, Form::Number];
-    }
-    if is_name(name, b"vcpu_put") {
-        return &[Form::Number, Form::Name];
-    }
-    if is_name(name, b"teardown") {
-        return &[Form::Number, Form::Name, Form::Vm];
-    }
-    if is_name(name, b"vm_release") {
-        return &[Form::Number, Form::Name];
-    }
-    &[]
-}
-
-/// The first place from one on whose word isn't of its form. As many as there are forms where each is.
-pub(crate) fn first_wrong(words: &Words<'_>, forms: &[Form]) -> usize
-    ensures { result ≡ first_wrong_by words.now forms.now 0 }
-{
-    for (place, form) in forms.iter().enumerate() {
-        if !form.is_of(words, place) {
+    for place in 0..forms.count() {
+        if !is_right(words, forms, place) {
             return place;
         }
     }
-    forms.len()
+    forms.count()
+}
+
+/// Whether the word at a place is of its form.
+fn is_right(words: &Words<'_>, forms: LineForms, place: usize) -> bool
+    ensures { result ≡ is_right_by words.now (all_forms forms) place place }
+{
+    match forms.get(place) {
+        Some(form) => form.is_of(words, place),
+        None => true,
+    }
 }

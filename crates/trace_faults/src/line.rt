@@ -1,10 +1,10 @@
 //! Faults of a line by itself.
 ghost use Rattle.std.specs.Prelude.{◌≡◌, ◌++◌, IfOk, OnOk};
-ghost use Rattle.trace_faults.specs.Spots.{asked, byte_found as byte_found_by, byte_said as byte_said_by, counted_spot, line_spot as line_spot_by, meant, spot_in, unknown_at as unknown_at_by, unknown_said as unknown_said_by, unknown_spot, wanted_at as wanted_at_by, wrong_spot};
+ghost use Rattle.trace_faults.specs.Spots.{asked, byte_found as byte_found_by, byte_said as byte_said_by, counted_spot, line_spot as line_spot_by, meant, spot_in, unknown_at as unknown_at_by, unknown_said as unknown_said_by, unknown_spot, wrong_spot};
 
 use crate::column::{space_column, stray_column};
-use crate::form::{Form, first_wrong, forms};
-use crate::names::{names_of, nearest, number_wanted};
+use crate::form::{first_wrong, forms};
+use crate::names::meant_name;
 use crate::saying::{Spot, at, at_word};
 use crate::wanted::{place_wanted, unknown_place, unknown_wanted};
 use std::alloc::{AllocError, Global};
@@ -98,7 +98,7 @@ fn unknown_said(global: Global, first: &[u8], word: &[u8]) -> Result<Vec<u8>, Al
     ensures { IfOk result (λ said. said.items ≡ unknown_said_by first.now word.now) }
 {
     let mut said = Vec::from_slice(global, unknown_wanted(first))?;
-    let name = nearest(global, word, names_of(first))?;
+    let name = meant_name(global, first, word)?;
     add_meant(&mut said, global, name)?;
     Ok(said)
 }
@@ -123,18 +123,6 @@ fn question(global: Global, name: &[u8]) -> Result<Vec<u8>, AllocError>
     Ok(said)
 }
 
-/// What is wanted of the word at a place of a line, by its form.
-fn wanted_at(words: &Words<'_>, place: usize, form: Form) -> &'static [u8]
-    ensures { result.now ≡ wanted_at_by words.now place form }
-{
-    let first = words.get(0).unwrap_or(b"");
-    let second = words.get(1).unwrap_or(b"");
-    match form {
-        Form::Number => number_wanted(first, second, place),
-        other => other.wanted(),
-    }
-}
-
 /// The word that is missing, or the first that is too many.
 fn counted(global: Global, number: u64, line: &[u8]) -> Result<Spot, AllocError>
     ensures { IfOk result (λ spot. spot_in spot ≡ counted_spot number line.now) }
@@ -143,8 +131,8 @@ fn counted(global: Global, number: u64, line: &[u8]) -> Result<Spot, AllocError>
     let forms = forms(&words);
     let count = words.count();
     match forms.get(count) {
-        Some(form) => at_word(global, number, line, count, wanted_at(&words, count, *form)),
-        None => at_word(global, number, line, forms.len(), b"the line's end"),
+        Some(form) => at_word(global, number, line, count, form.wanted()),
+        None => at_word(global, number, line, forms.count(), b"the line's end"),
     }
 }
 
@@ -156,7 +144,7 @@ fn wrong(global: Global, number: u64, line: &[u8]) -> Result<Spot, AllocError>
     let forms = forms(&words);
     let place = first_wrong(&words, forms);
     match forms.get(place) {
-        Some(form) => at_word(global, number, line, place, wanted_at(&words, place, *form)),
+        Some(form) => at_word(global, number, line, place, form.wanted()),
         None => at_word(global, number, line, place, b"the line's end"),
     }
 }

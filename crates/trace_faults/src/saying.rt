@@ -7,7 +7,7 @@ use std::alloc::{AllocError, Global};
 use trace_text::Fault;
 use trace_words::Words;
 
-/// Where a fault is, and what is wrong there.
+/// Where a fault is, and what it is.
 #[derive(Drop)]
 pub(crate) struct Spot {
     /// The number of its line, from 1. Of a refused boot it is that of the setting at fault, where there is one.
@@ -18,7 +18,7 @@ pub(crate) struct Spot {
     pub said: Vec<u8>,
 }
 
-/// The same spot, with the fault's name before what is wrong there.
+/// The same spot, with the fault's name in front of its text.
 pub(crate) fn with_fault(global: Global, fault: Fault, spot: &Spot) -> Result<Spot, AllocError>
     ensures { IfOk result (λ named. spot_in named ≡ with_fault_by fault (spot_in spot.now)) }
 {

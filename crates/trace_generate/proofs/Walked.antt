@@ -6,11 +6,11 @@ use Rattle.page_state.proofs.Accepted.{memory_below}
 use Rattle.page_state.proofs.Cases.{by_test}
 use Rattle.page_state.specs.LayoutFaults.{IsAccepted}
 use Rattle.page_state.specs.Layouts.{Layout, is_memory}
-use Rattle.reference_model.specs.Rules.{rule, guest_slot, names}
-use Rattle.reference_model.specs.Step.{answer, fails, foretell, is_full, predict, refusal}
+use Rattle.reference_model.specs.model.Rules.{rule, guest_slot, names}
+use Rattle.reference_model.specs.model.Step.{answer, fails, foretell, is_full, predict, refusal}
 use Rattle.reference_model.specs.declared.changes.Ticket.{Ticket}
-use Rattle.reference_model.specs.State.{Reference}
-use Rattle.reference_model.specs.Used.{Used, UsedRooms, rooms_of, used_of}
+use Rattle.reference_model.specs.model.State.{Reference}
+use Rattle.reference_model.specs.model.Used.{Used, UsedRooms, rooms_of, used_of}
 use Rattle.call_table.specs.declared.reply.Refusal.{Refusal}
 use Rattle.call_table.specs.declared.reply.Refusal.TheVariants.{Invalid}
 use Rattle.call_table.specs.declared.reply.Reply.{Reply}
@@ -84,8 +84,8 @@ no_memory : (l : Layout) → IsAccepted l.memory → is_memory l 0xffff_ffff_fff
 no_memory l a = by_test (is_memory l 0xffff_ffff_ffff_ffff) (λ t. absurd (omega (arith, memory_below l.memory 0xffff_ffff_ffff_ffff a t))) (λ f. f)
 
 sure_numbers : (hostile : Bool) → IsIn64Bits (if hostile then ShareHyp 0xffff_ffff_ffff_ffff else OwnerOf 0x40000)
-sure_numbers true = omega arith
-sure_numbers false = omega arith
+sure_numbers true = (omega arith, tt)
+sure_numbers false = (omega arith, tt)
 
 sure_wanted : (l : Layout) (s : Reference) (cpu : ℕ) (hostile : Bool) → IsAccepted l.memory → IsAsWanted l hostile s (record { cpu = cpu; step = if hostile then ShareHyp 0xffff_ffff_ffff_ffff else OwnerOf 0x40000 })
 sure_wanted l s cpu true a = share_refused l s cpu 0xffff_ffff_ffff_ffff (no_memory l a)

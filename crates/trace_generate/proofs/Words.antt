@@ -12,16 +12,16 @@ use Rattle.page_state.proofs.Cases.{by_lt}
 use Rattle.page_state.specs.Texts.{text_of_page, text_of_prot}
 use Rattle.call_table.specs.declared.step.VmId.{VmId}
 use Rattle.call_table.specs.Texts.{text_of_vm}
+use Rattle.call_table.specs.Words.{rights_named, text_of_vm_kind, vm_kind_named}
+use Rattle.call_table.proofs.CallsNamed.{words_read}
 use Rattle.call_table.specs.declared.step.VmKind.{VmKind}
 use Rattle.call_table.specs.declared.step.VmKind.TheVariants.{Protected, Plain}
 use Rattle.descriptor.specs.declared.Prot.{Prot}
 use Rattle.descriptor.specs.declared.Prot.TheVariants.{R, RW, RX, RWX}
-use Rattle.trace_lines.specs.Arguments.{dotted, vm_of, kinds, rights_names}
+use Rattle.trace_lines.specs.Arguments.{dotted, vm_of}
 use Rattle.trace_lines.specs.Asked.{begins_with_digit}
 use Rattle.trace_words.specs.Numbers.{is_decimal, is_decimal_digit, is_hexadecimal, is_hexadecimal_digit, in_64_bits, decimal_of, number_of}
-use Rattle.trace_words.specs.Words.{named}
 use Rattle.trace_generate.proofs.Spelled.{IsSpelled, digits_of_all}
-use Rattle.trace_generate.specs.Lines.{text_of_vm_kind}
 use Rattle.trace_generate.specs.Reading.{Fits, FitsVm}
 
 -- a byte of a word: printable, and no space
@@ -180,9 +180,8 @@ pub word_of-kind : (kind : VmKind) → IsWord (text_of_vm_kind kind)
 word_of-kind Protected = record { some = omega arith; short = omega arith; plain = refl }
 word_of-kind Plain = record { some = omega arith; short = omega arith; plain = refl }
 
-pub named-kind : (kind : VmKind) → named kinds (text_of_vm_kind kind) ≡ Some kind
-named-kind Protected = refl
-named-kind Plain = refl
+pub named-kind : (kind : VmKind) → vm_kind_named (text_of_vm_kind kind) ≡ Some kind
+named-kind = words_read.0
 
 pub word_of-rights : (prot : Prot) → IsWord (text_of_prot prot)
 word_of-rights R = record { some = omega arith; short = omega arith; plain = refl }
@@ -190,8 +189,5 @@ word_of-rights RW = record { some = omega arith; short = omega arith; plain = re
 word_of-rights RX = record { some = omega arith; short = omega arith; plain = refl }
 word_of-rights RWX = record { some = omega arith; short = omega arith; plain = refl }
 
-pub named-rights : (prot : Prot) → named rights_names (text_of_prot prot) ≡ Some prot
-named-rights R = refl
-named-rights RW = refl
-named-rights RX = refl
-named-rights RWX = refl
+pub named-rights : (prot : Prot) → rights_named (text_of_prot prot) ≡ Some prot
+named-rights = words_read.1

@@ -6,7 +6,7 @@ use Rattle.page_state.specs.declared.layout.RegionKind.TheVariants as kinds
 use Rattle.page_state.specs.LayoutFaults.{IsAccepted}
 use Rattle.page_state.specs.Layouts.{HasItsDepth, Layout}
 use Rattle.page_state.specs.Regions.{Memory}
-use Rattle.reference_model.specs.Boot.{IsCarveEnough}
+use Rattle.reference_model.specs.model.Boot.{IsCarveEnough}
 use Rattle.trace_generate.specs.declared.line.SettingLines.{SettingLines}
 use Rattle.trace_generate.specs.declared.options.GenerateFault.{GenerateFault}
 use Rattle.trace_generate.specs.declared.options.GenerateFault.TheVariants.{Steps, Cpus, Geometry, Hostile, Pages, NoBoot, NoMemory}
@@ -54,7 +54,7 @@ HasCpus o = (1 ≤ o.cpus) × (o.cpus ≤ 64)
 abbrev pub HasGeometry : Options → Type 0
 HasGeometry o = (o.geometry ≡ 39) ⊎ (o.geometry ≡ 48)
 
--- what is tested before a machine is booted, in order
+-- the tests before a machine is booted, in order
 pub record IsInRange (steps : ℕ) (o : Options) : Type 0 where
   pub few : HasFewSteps steps
   pub cpus : HasCpus o

@@ -2,8 +2,8 @@
 use Rattle.std.specs.Prelude.{◌≡◌, ℕ, List, [], ◌∷◌, ◌++◌, codes, length}
 use Rattle.page_state.specs.Layouts.{Layout}
 use Rattle.page_state.specs.LayoutView.{layout_of}
-use Rattle.reference_model.specs.Boot.{boot}
-use Rattle.reference_model.specs.State.{Reference}
+use Rattle.reference_model.specs.model.Boot.{boot}
+use Rattle.reference_model.specs.model.State.{Reference}
 use Rattle.ghost_spec.specs.declared.lists.GhostLists.{GhostLists}
 use Rattle.ghost_spec.specs.States.{ghost_state}
 use Rattle.trace_generate.specs.declared.line.StepLine.{StepLine}

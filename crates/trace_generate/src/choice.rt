@@ -93,8 +93,8 @@ pub(crate) fn with_ticket(
         Stage::Booked if below(chance, 24) == 0 => Step::VmRelease,
         Stage::Booked => funding(lists, memory, 12, chance),
         Stage::Installed => Step::VmOpen,
-        Stage::ClosingVm => Step::MarkDying,
-        Stage::DyingVm => dismantling(lists, ticket.vm, chance),
+        Stage::Closing => Step::MarkDying,
+        Stage::Dying => dismantling(lists, ticket.vm, chance),
         Stage::Finished => Step::VmRelease,
     }
 }

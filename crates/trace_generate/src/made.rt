@@ -13,14 +13,16 @@ use crate::wanting::Made;
 use ghost_spec::state::Ghost;
 use std::alloc::{AllocError, Global};
 use std::fmt::Write;
+use trace_reader::Progress;
 
 /// A trace of `steps` calls on the machine of these options: its settings, its boot and the steps. The same seed gives the
-/// same bytes.
-pub fn generate(
+/// same bytes. `progress` is told of each call that is made.
+pub fn generate<P: Progress>(
     global: Global,
     seed: u64,
     steps: u64,
     options: &Options,
+    progress: &P,
 ) -> Result<String, GenerateFault>
     ensures trace { IfOk result (λ text. IsTrace steps options.now (string_bytes text)) }
     ensures in_range { OnOk result (IsInRange steps options.now) }
@@ -30,7 +32,9 @@ pub fn generate(
     tested(steps, options)?;
     let mut text = settings(global, steps, options)?;
     let mut state = booted(global, steps, options)?;
-    let made = walked(global, &mut state, seed, steps, options, &mut text);
+    let made = walked(
+        global, &mut state, seed, steps, options, &mut text, progress,
+    );
     drop(state);
     match made {
         Ok(()) => Ok(text),
@@ -58,13 +62,14 @@ fn settings(global: Global, steps: u64, options: Options) -> Result<String, Gene
 }
 
 /// Writes the lines of the calls.
-fn walked(
+fn walked<P: Progress>(
     global: Global,
     state: &mut Ghost,
     seed: u64,
     steps: u64,
     options: Options,
     text: &mut String,
+    progress: &P,
 ) -> Result<(), AllocError>
     requires range { IsInRange steps options }
     requires layout { IsLayoutOf steps options (layout_of state.old.layout) }
@@ -76,6 +81,7 @@ fn walked(
         let hostile = is_hostile(options.hostile, number);
         let call = next_call(global, state, memory(options), hostile, made, &mut chance)?;
         write_call(text, call)?;
+        progress.advance(1);
         if !hostile {
             made.note(call.step);
         }

@@ -53,7 +53,7 @@ pub enum GenerateFault {
     NoMemory,
 }
 
-/// The first fault of what is given, if there is one; too few pages are found at boot.
+/// The first fault of the settings, if there is one; too few pages are found at boot.
 pub(crate) fn tested(steps: u64, options: Options) -> Result<(), GenerateFault>
     ensures ok { OnOk result (IsInRange steps options) }
     ensures fault { IfErr result (λ f. IsFault f steps options) }

@@ -195,8 +195,8 @@ fn in_wrong_state(
     if let Some(ticket) = own.ticket {
         match ticket.stage {
             Stage::Booked if own.hand.is_none() => return Step::Install,
-            Stage::DyingVm if below(chance, 2) == 0 => return Step::FinishGuest,
-            Stage::DyingVm => return Step::ReclaimPool { vm: ticket.vm },
+            Stage::Dying if below(chance, 2) == 0 => return Step::FinishGuest,
+            Stage::Dying => return Step::ReclaimPool { vm: ticket.vm },
             _ => {}
         }
     }
@@ -259,7 +259,7 @@ fn dying(lists: &GhostLists) -> Option<VmId> {
     None
 }
 
-/// A call on what is in use.
+/// A call on an object in use.
 fn in_use(lists: &GhostLists, own: GhostCpu, chance: &mut Pcg32) -> Step {
     if own.ticket.is_some() && below(chance, 2) == 0 {
         return Step::VmReserve {

@@ -146,7 +146,7 @@ fn toward(lists: &GhostLists, kind: VmKind, chance: &mut Pcg32) -> Option<Step> 
     Some(Step::VmReserve { kind, vcpus })
 }
 
-/// That of a CPU that has a vCPU loaded: what is next on a page of its guest, which is mapped first.
+/// That of a CPU that has a vCPU loaded: the next step on a page of its guest, which is mapped first.
 fn with_loaded(
     lists: &GhostLists,
     memory: PageRange,

@@ -3,11 +3,8 @@ use Rattle.std.proofs.Common.{ℕ, ◌+◌, refl, Bool, true, false, not, cond, 
 use Rattle.std.specs.Prelude.{ok_or, if◌then◌else◌, slice_get, codes, ◌==◌, ◌&&◌, IsTrue, is_some}
 use Rattle.std.specs.Str.{bytes_eq}
 use Rattle.std.specs.Map.{lookup}
-use Rattle.descriptor.specs.declared.Prot.{Prot}
 use Rattle.page_state.specs.declared.entry.PageRange.{PageRange}
 use Rattle.call_table.specs.declared.step.Step.{Step}
-use Rattle.call_table.specs.declared.step.VmId.{VmId}
-use Rattle.call_table.specs.declared.step.VmKind.{VmKind}
 use Rattle.trace_lines.specs.declared.asked.Asked.{Asked}
 use Rattle.trace_lines.specs.declared.asked.NamedTree.{NamedTree}
 use Rattle.trace_lines.specs.declared.call.Called.{Called}
@@ -25,9 +22,9 @@ use Rattle.trace_lines.specs.declared.place.SettingName.{SettingName}
 use Rattle.trace_lines.specs.declared.place.SettingName.TheVariants as names
 use Rattle.trace_lines.specs.declared.place.Verb.{Verb}
 use Rattle.trace_lines.specs.declared.place.Verb.TheVariants as verbs
-use Rattle.trace_lines.specs.Arguments.{number_at, range_of, level_word_at, slot_word_at, vm_word_at, kind_word_at, rights_word_at, count_word_at}
+use Rattle.trace_lines.specs.Arguments.{number_at, range_of, level_word_at, slot_word_at}
 use Rattle.trace_lines.specs.Asked.{asked, asked_from, begins_with_digit, headers, of_call, of_number, of_range, of_tree, of_poke, of_show, poke_of, pools, tree_names, word_of}
-use Rattle.trace_lines.specs.Calls.{Argument, number, vm, kind, rights, last_number, StepMaker, Shape, calls, called as called_by, called_in, step_from, words_from}
+use Rattle.trace_lines.specs.Calls.{called as called_by}
 use Rattle.trace_lines.specs.Places.{IsAllowed, may_stand, may_tell}
 use Rattle.trace_lines.specs.Said.{said_by_asked, said_by_words}
 use Rattle.trace_lines.specs.Settings.{Told}
@@ -52,59 +49,9 @@ found P (name ∷ names) word h =
     elim (bytes_eq word name.0) as (λ b. IfSome (cond b (Some name.1) (lookup (bytes_eq word) names)) P)
     [ true ↦ h.0 | false ↦ found P names word h.1 ]
 
--- a property of each step that arguments make
-abbrev pub OfEach : (Step → Type 0) → (arguments : List Argument) → StepMaker arguments → Type 0
-OfEach P [] step = P step
-OfEach P (number ∷ more) make = (n : ℕ) → OfEach P more (make n)
-OfEach P (vm ∷ more) make = (v : VmId) → OfEach P more (make v)
-OfEach P (kind ∷ more) make = (k : VmKind) → OfEach P more (make k)
-OfEach P (rights ∷ more) make = (r : Prot) → OfEach P more (make r)
-OfEach P (last_number ∷ more) make = (n : ℕ) → OfEach P more (make n)
-
--- a property of each step that a call of the grammar makes
-abbrev pub OfCalls : (Step → Type 0) → Type 0
-OfCalls P = Each (λ (shape : Shape). OfEach P shape.arguments shape.step) calls
-
--- what holds of every step
-module _ (P : Step → Type 0) (h : (step : Step) → P step) where
-  of_each : (arguments : List Argument) (make : StepMaker arguments) → OfEach P arguments make
-  of_each [] step = h step
-  of_each (number ∷ more) make = λ n. of_each more (make n)
-  of_each (vm ∷ more) make = λ v. of_each more (make v)
-  of_each (kind ∷ more) make = λ k. of_each more (make k)
-  of_each (rights ∷ more) make = λ r. of_each more (make r)
-  of_each (last_number ∷ more) make = λ n. of_each more (make n)
-
-  of_names : (names : List (List ℕ × Shape)) → Each (λ (shape : Shape). OfEach P shape.arguments shape.step) names
-  of_names [] = tt
-  of_names (name ∷ names) = (of_each name.1.arguments name.1.step, of_names names)
-
-from_words : (P : Step → Type 0) (arguments : List Argument) (make : StepMaker arguments) (words : List (List ℕ)) (place : ℕ)
-    → OfEach P arguments make → IfSome (step_from arguments make words place) P
-from_words P [] step words place h = h
-from_words P (number ∷ more) make words place h =
-    chained P (λ n. step_from more (make n) words (place + 1)) (λ n. from_words P more (make n) words (place + 1) (h n)) (number_at words place)
-from_words P (vm ∷ more) make words place h =
-    chained P (λ v. step_from more (make v) words (place + 1)) (λ v. from_words P more (make v) words (place + 1) (h v)) (vm_word_at words place)
-from_words P (kind ∷ more) make words place h =
-    chained P (λ k. step_from more (make k) words (place + 1)) (λ k. from_words P more (make k) words (place + 1) (h k)) (kind_word_at words place)
-from_words P (rights ∷ more) make words place h =
-    chained P (λ r. step_from more (make r) words (place + 1)) (λ r. from_words P more (make r) words (place + 1) (h r)) (rights_word_at words place)
-from_words P (last_number ∷ more) make words place h =
-    chained P (λ n. step_from more (make n) words (place + 1)) (λ n. from_words P more (make n) words (place + 1) (h n)) (count_word_at words place)
-
-called_has : (P : Step → Type 0) → OfCalls P → (words : List (List ℕ)) (name : List ℕ) → IfSome (called_by words name) (λ called. IfSome called.step P)
-unfolding called_in
-called_has P h words name = onward (named calls name) (found _ calls name h)
-  where
-    onward : (o : Option Shape) → IfSome o (λ shape. OfEach P shape.arguments shape.step)
-        → IfSome (option_map (λ shape. record { words = 2 + words_from shape.arguments words 2; step = step_from shape.arguments shape.step words 2 }) o) (λ (called : Called). IfSome called.step P)
-    onward None k = tt
-    onward (Some shape) k = from_words P shape.arguments shape.step words 2 k
-
 -- what holds of the lines of each row, by their verb
 module _ (R : Verb → Line → Type 0) (of_setting : (name : SettingName) (setting : Setting) → R (verbs.Setting name) (lines.Setting setting)) (of_boot : R verbs.Boot lines.Boot)
-    (of_step : OfCalls (λ step. (cpu : ℕ) → R verbs.Step (lines.Step cpu step))) (of_query : (query : Query) → R verbs.Query (lines.Query query)) (of_poke_line : (poke : Poke) → R verbs.Poke (lines.Poke poke))
+    (of_step : (cpu : ℕ) (step : Step) → R verbs.Step (lines.Step cpu step)) (of_query : (query : Query) → R verbs.Query (lines.Query query)) (of_poke_line : (poke : Poke) → R verbs.Poke (lines.Poke poke))
     (of_start : R verbs.Start lines.Start) (words : List (List ℕ)) where
   abbrev Holds : Asked → Type 0
   Holds a = IfSome a.line (R a.verb)
@@ -127,17 +74,8 @@ module _ (R : Verb → Line → Type 0) (of_setting : (name : SettingName) (sett
     ),
   )
 
-  call_row : (o : Option Called) → IfSome o (λ called. IfSome called.step (λ step. (cpu : ℕ) → R verbs.Step (lines.Step cpu step))) → IfSome (option_map (of_call words) o) Holds
-  call_row None h = tt
-  call_row (Some called) h = chained _ (λ cpu. option_map (lines.Step cpu) called.step) (λ cpu. turned cpu called.step h) (number_at words 0)
-    where
-      turned : (cpu : ℕ) (o : Option Step) → IfSome o (λ step. (cpu : ℕ) → R verbs.Step (lines.Step cpu step)) → IfSome (option_map (lines.Step cpu) o) (R verbs.Step)
-      turned cpu None k = tt
-      turned cpu (Some step) k = k cpu
-
-  by_call : (second : Option (List ℕ)) → IfSome (option_map (of_call words) (option_and_then (called_by words) second)) Holds
-  by_call None = tt
-  by_call (Some name) = call_row (called_by words name) (called_has (λ step. (cpu : ℕ) → R verbs.Step (lines.Step cpu step)) of_step words name)
+  call_row : (called : Called) → Holds (of_call words called)
+  call_row called = chained _ (λ cpu. option_map (lines.Step cpu) called.step) (λ cpu. mapped _ (lines.Step cpu) (of_step cpu) called.step) (number_at words 0)
 
   word_row : (place : ℕ) (tree : TreeName) → IfSome (word_of words place tree) (R verbs.Query)
   word_row place tree =
@@ -167,7 +105,7 @@ module _ (R : Verb → Line → Type 0) (of_setting : (name : SettingName) (sett
 
   by_first : (first : List ℕ) (second : Option (List ℕ)) → IfSome (asked_from words first second) Holds
   by_first first second =
-      either (begins_with_digit first) _ _ (by_call second)
+      either (begins_with_digit first) _ _ (mapped Holds (of_call words) call_row (option_and_then (called_by words) second))
       (either (bytes_eq first (codes "word")) _ _ (mapped Holds (of_tree words) tree_row (option_and_then (named (tree_names words)) second))
       (either (bytes_eq first (codes "free")) _ _ (chained Holds (named (pools words)) (λ name. found Holds (pools words) name pool_rows) second)
       (either (bytes_eq first (codes "show")) _ _ (mapped Holds of_show show_row (option_and_then (named (tree_names words)) second))
@@ -193,7 +131,7 @@ IsOf verbs.Start lines.Start = Unit {0}
 IsOf verb line = ⊥
 
 pub asked_suits : (words : List (List ℕ)) → IfSome (asked words) (λ a. IfSome a.line (IsOf a.verb))
-asked_suits words = of_asked IsOf (λ name setting. tt) tt (of_names (λ step. (cpu : ℕ) → Unit {0}) (λ step cpu. tt) calls) (λ query. tt) (λ poke. tt) tt words
+asked_suits words = of_asked IsOf (λ name setting. tt) tt (λ cpu step. tt) (λ query. tt) (λ poke. tt) tt words
 
 -- the line that words say has a property, where that of what they ask for has it in its place
 module _ (Q : Line → Type 0) (allows : Allows) (told : Told) where

@@ -1,16 +1,14 @@
--- Words that stand for numbers, ranges, levels, slots, VMs, their kinds, and rights (profile).
-use Rattle.std.specs.Prelude.{ℕ, ◌==◌, nat_le, List, [], ◌∷◌, codes, is_some, Option, Some, None, option_map, option_and_then, slice_get, if◌then◌else◌}
+-- The words of numbers, ranges, levels, slots, VMs, their kinds, and rights (profile).
+use Rattle.std.specs.Prelude.{ℕ, ◌==◌, nat_le, List, is_some, Option, Some, None, option_map, option_and_then, slice_get, if◌then◌else◌}
 use Rattle.std.specs.List.{slice_split}
 use Rattle.descriptor.specs.declared.Prot.{Prot}
-use Rattle.descriptor.specs.declared.Prot.TheVariants.{R, RW, RX, RWX}
 use Rattle.page_state.specs.declared.entry.PageRange.{PageRange}
 use Rattle.call_table.specs.declared.step.VmId.{VmId}
 use Rattle.call_table.specs.declared.step.VmKind.{VmKind}
-use Rattle.call_table.specs.declared.step.VmKind.TheVariants.{Protected, Plain}
+use Rattle.call_table.specs.Words.{rights_named, vm_kind_named}
 use Rattle.trace_words.specs.Numbers.{number_of, decimal_of}
-use Rattle.trace_words.specs.Words.{named}
 
--- the number that stands at a place, the first place being 0
+-- the number at a place, the first place being 0
 abbrev pub number_at : List (List ℕ) → ℕ → Option ℕ
 number_at words place = option_and_then number_of (slice_get words place)
 
@@ -31,7 +29,7 @@ range_of words =
 abbrev pub in_levels : ℕ → Option ℕ
 in_levels level = if nat_le level 3 then Some level else None
 
--- the level that stands at a place
+-- the level at a place
 abbrev pub level_word_at : List (List ℕ) → ℕ → Option ℕ
 level_word_at words place = option_and_then in_levels (number_at words place)
 
@@ -39,7 +37,7 @@ level_word_at words place = option_and_then in_levels (number_at words place)
 abbrev pub in_slots : ℕ → Option ℕ
 in_slots slot = if nat_le slot 63 then Some slot else None
 
--- the slot that stands at a place
+-- the slot at a place
 abbrev pub slot_word_at : List (List ℕ) → ℕ → Option ℕ
 slot_word_at words place = option_and_then in_slots (number_at words place)
 
@@ -57,22 +55,14 @@ vm_of word =
     if is_some (slice_get (dotted word) 2) then None
     else option_and_then (λ slot. option_map (λ generation. record { slot = slot; generation = generation }) (decimal_part word 1)) (decimal_part word 0)
 
--- the VM that stands at a place
+-- the VM at a place
 abbrev pub vm_word_at : List (List ℕ) → ℕ → Option VmId
 vm_word_at words place = option_and_then vm_of (slice_get words place)
 
--- the kinds of VMs
-abbrev pub kinds : List (List ℕ × VmKind)
-kinds = (codes "protected", Protected) ∷ (codes "plain", Plain) ∷ []
-
--- the kind that stands at a place
+-- the kind at a place
 abbrev pub kind_word_at : List (List ℕ) → ℕ → Option VmKind
-kind_word_at words place = option_and_then (named kinds) (slice_get words place)
+kind_word_at words place = option_and_then vm_kind_named (slice_get words place)
 
--- rights: to read, to write, to execute
-abbrev pub rights_names : List (List ℕ × Prot)
-rights_names = (codes "r", R) ∷ (codes "rw", RW) ∷ (codes "rx", RX) ∷ (codes "rwx", RWX) ∷ []
-
--- the rights that stand at a place
+-- the rights at a place
 abbrev pub rights_word_at : List (List ℕ) → ℕ → Option Prot
-rights_word_at words place = option_and_then (named rights_names) (slice_get words place)
+rights_word_at words place = option_and_then rights_named (slice_get words place)

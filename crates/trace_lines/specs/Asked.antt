@@ -37,7 +37,7 @@ module _ (words : List (List ℕ)) where
   abbrev pub of_range : SettingName → (PageRange → Setting) → Asked
   of_range name make = record { verb = verbs.Setting name; words = 3; line = option_map (λ r. lines.Setting (make r)) (range_of words) }
 
-  -- the lines whose first word says all of what is asked
+  -- the lines whose first word says the whole request
   abbrev pub headers : List (List ℕ × Asked)
   headers =
       (codes "geometry", of_number names.Geometry settings.Geometry) ∷ (codes "cpus", of_number names.Cpus settings.Cpus)
@@ -56,7 +56,7 @@ module _ (words : List (List ℕ)) where
       (codes "host", record { words = 1; tree = Some Host }) ∷ (codes "hyp", record { words = 1; tree = Some Hyp })
       ∷ (codes "guest", record { words = 2; tree = option_map Guest (slot_word_at words 2) }) ∷ []
 
-  -- the word on a path that a line asks for whose page stands at a place
+  -- the word on a path that a line asks for whose page is at a place
   abbrev pub word_of : ℕ → TreeName → Option Line
   word_of place tree = option_and_then (λ page. option_map (λ level. lines.Query (queries.Word tree page level)) (level_word_at words (place + 1))) (number_at words place)
 
@@ -64,7 +64,7 @@ module _ (words : List (List ℕ)) where
   abbrev pub of_tree : NamedTree → Asked
   of_tree named = record { verb = verbs.Query; words = 3 + named.words; line = option_and_then (word_of (1 + named.words)) named.tree }
 
-  -- the poke whose page stands at a place
+  -- the poke whose page is at a place
   abbrev pub poke_of : ℕ → TreeName → Option Line
   poke_of place tree = option_and_then (λ page. option_and_then (λ level. option_map (λ word. lines.Poke (record { tree = tree; page = page; level = level; word = word })) (number_at words (place + 2))) (level_word_at words (place + 1))) (number_at words place)
 

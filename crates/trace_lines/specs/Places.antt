@@ -1,4 +1,4 @@
--- Where a line may stand (profile).
+-- Where a line may come (profile).
 use Rattle.std.specs.Prelude.{Bool, true, false, not, ◌&&◌, is_some, is_none, IsTrue}
 use Rattle.trace_lines.specs.declared.line.Line.{Line}
 use Rattle.trace_lines.specs.declared.line.Line.TheVariants as lines
@@ -13,7 +13,7 @@ use Rattle.trace_lines.specs.Settings.{Told}
 abbrev pub before_boot : Allows
 before_boot = record { settings = true; boot = true; steps = false; queries = false; pokes = false; start = false }
 
--- what `replay` allows after it, and whether it was told already that the CPUs go on at once, which is told once at most
+-- what `replay` allows after it, and whether `start` came already, which comes at most once
 abbrev pub of_replay : Bool → Allows
 of_replay started = record { settings = false; boot = false; steps = true; queries = true; pokes = false; start = not started }
 
@@ -29,7 +29,7 @@ of_audit started = record { settings = false; boot = false; steps = true; querie
 abbrev pub after_poke : Allows
 after_poke = record { settings = false; boot = false; steps = false; queries = false; pokes = true; start = false }
 
--- whether a setting may be told after these: any number of regions, and all else once
+-- whether a setting may come after these: any number of regions, and all else once
 abbrev pub may_tell : Told → SettingName → Bool
 may_tell told Geometry = is_none told.geometry
 may_tell told Cpus = is_none told.cpus
@@ -38,7 +38,7 @@ may_tell told Memory = true
 may_tell told Device = true
 may_tell told Carve = is_none told.carve
 
--- whether a line may stand after these settings where the program allows these lines: the boot after the carve-out
+-- whether a line may come after these settings where the program allows these lines: the boot after the carve-out
 abbrev pub may_stand : Allows → Told → Verb → Bool
 may_stand allows told (Setting name) = allows.settings && may_tell told name
 may_stand allows told Boot = allows.boot && is_some told.carve

@@ -9,7 +9,7 @@ use Rattle.trace_lines.specs.declared.line.Setting.{Setting}
 use Rattle.trace_lines.specs.declared.line.Setting.TheVariants as settings
 use Rattle.trace_lines.specs.declared.settings.Settings.{Settings}
 
--- what was told: the width of input addresses, the CPUs, the calls of a log, the regions in order, and the carve-out
+-- the settings: the width of input addresses, the CPUs, the calls of a log, the regions in order, and the carve-out
 pub record Told : Type 0 where
   pub geometry : Option ℕ
   pub cpus : Option ℕ
@@ -21,15 +21,15 @@ pub record Told : Type 0 where
 abbrev pub told_of : Settings → Told
 told_of s = record { geometry = s.geometry; cpus = s.cpus; log = s.log; regions = s.regions.items; carve = s.carve }
 
--- nothing told
+-- no settings
 abbrev pub nothing_told : Told
 nothing_told = record { geometry = None; cpus = None; log = None; regions = []; carve = None }
 
--- what is told with one more region, after the others
+-- the settings with one more region, after the others
 abbrev pub with_region : RegionKind → PageRange → Told → Told
 with_region kind pages told = record told { regions = told.regions ++ record { kind = kind; pages = pages } ∷ [] }
 
--- what is told after a setting
+-- the settings after one more
 abbrev pub told_after : Setting → Told → Told
 told_after (settings.Geometry bits) told = record told { geometry = Some bits }
 told_after (settings.Cpus cpus) told = record told { cpus = Some cpus }
@@ -38,6 +38,6 @@ told_after (settings.Memory pages) told = with_region kinds.Memory pages told
 told_after (settings.Device pages) told = with_region kinds.Device pages told
 told_after (settings.Carve pages) told = record told { carve = Some pages }
 
--- the configuration that was told: where nothing was, one CPU, logs of 1,024 calls, and 39 bits
+-- the given configuration: by default one CPU, logs of 1,024 calls, and 39 bits
 abbrev pub config_of : Told → Config
 config_of told = record { cpus = unwrap_or told.cpus 1; log = unwrap_or told.log 1024; geometry = unwrap_or told.geometry 39 }

@@ -5,22 +5,19 @@ ghost use Rattle.trace_lines.specs.Arguments.{
   decimal_part as decimal_of_part,
   dotted,
   kind_word_at,
-  kinds,
   level_word_at as level_at_place,
   number_at as number_at_place,
   one_more as one_more_by,
   range_of as range_by,
-  rights_names,
   rights_word_at,
   slot_word_at,
   vm_of,
   vm_word_at,
 };
-ghost use Rattle.trace_words.specs.Words.{named};
 
-use call_table::{VmId, VmKind};
+use call_table::{VmId, VmKind, rights_named, vm_kind_named};
 use page_state::{Page, PageRange, Prot};
-use trace_words::{Words, decimal, is_name, number};
+use trace_words::{Words, decimal, number};
 
 /// The last level of a tree.
 const LAST_LEVEL: u64 = 3;
@@ -118,48 +115,16 @@ pub fn vm_at(words: &Words<'_>, place: usize) -> Option<VmId>
     vm(words.get(place)?)
 }
 
-/// The kind of VMs that a word is.
-fn kind(word: &[u8]) -> Option<VmKind>
-    ensures { result ≡ named kinds word.now }
-{
-    if is_name(word, b"protected") {
-        return Some(VmKind::Protected);
-    }
-    if is_name(word, b"plain") {
-        return Some(VmKind::Plain);
-    }
-    None
-}
-
 /// The kind of VMs at a place, counted from 0.
 pub fn kind_at(words: &Words<'_>, place: usize) -> Option<VmKind>
     ensures { result ≡ kind_word_at words.now place }
 {
-    kind(words.get(place)?)
-}
-
-/// The rights that a word is.
-fn rights(word: &[u8]) -> Option<Prot>
-    ensures { result ≡ named rights_names word.now }
-{
-    if is_name(word, b"r") {
-        return Some(Prot::R);
-    }
-    if is_name(word, b"rw") {
-        return Some(Prot::RW);
-    }
-    if is_name(word, b"rx") {
-        return Some(Prot::RX);
-    }
-    if is_name(word, b"rwx") {
-        return Some(Prot::RWX);
-    }
-    None
+    vm_kind_named(words.get(place)?)
 }
 
 /// The rights at a place, counted from 0.
 pub fn rights_at(words: &Words<'_>, place: usize) -> Option<Prot>
     ensures { result ≡ rights_word_at words.now place }
 {
-    rights(words.get(place)?)
+    rights_named(words.get(place)?)
 }

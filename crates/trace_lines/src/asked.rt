@@ -76,7 +76,7 @@ fn begins_with_digit(word: &[u8]) -> bool
     matches!(word, [b'0'..=b'9', ..])
 }
 
-/// The lines whose first word says all of what is asked.
+/// The lines whose first word says the whole request.
 fn header(first: &[u8], words: &Words<'_>) -> Option<Asked>
     ensures { result ≡ named (headers words.now) first.now }
 {

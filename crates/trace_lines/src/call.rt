@@ -1,23 +1,15 @@
-//! The calls that a step line can name.
-ghost use Rattle.std.specs.Prelude.{◌≡◌, [], ◌∷◌, Some};
-ghost use Rattle.call_table.specs.declared.step.Step.TheVariants.{
-  DonateGuest,
-  DonateHyp,
-  Fund,
-  GuestRelax,
-  GuestTranslate,
-  HypDonateHost,
-  ReclaimPage,
-  ShareGuest,
-  UnshareGuest,
-  VcpuLoad,
-  VmReserve,
-};
-ghost use Rattle.trace_lines.specs.Calls.{called as called_by, called_in, guest_calls, hand_calls, kind, last_number, number, rights, step_from, vm, vm_calls};
+//! What a step line of a call has, by the table of calls.
+ghost use Rattle.std.specs.Prelude.{◌≡◌, ◌≤◌, length, option_map};
+ghost use Rattle.call_table.specs.Made.{step_by};
+ghost use Rattle.call_table.specs.Named.{blank};
+ghost use Rattle.trace_lines.specs.Calls.{argument_at as argument_by, arguments_from, called as called_by, words_from, words_of as words_by};
 
 use crate::argument::{count_at, kind_at, number_at, one_more, rights_at, vm_at};
-use call_table::Step;
-use trace_words::{Words, is_name};
+use call_table::{Arguments, CallName, Form, Step, step_of};
+use trace_words::Words;
+
+/// The place of a call's first argument, after its CPU and its name.
+const FIRST: usize = 2;
 
 /// What a step line of a call has.
 #[derive(Clone, Copy)]
@@ -29,242 +21,76 @@ pub struct Called {
 }
 
 impl Called {
-    /// The calls of the grammar, a row for each: its name, the number of its words, and the step that they make.
-    #[tactic(auto, unfolding(crate::specs::Calls::called_in))]
+    /// What the line of the call of this name has. None where no call has the name.
+    #[tactic(auto, unfolding(crate::specs::Calls::called))]
     pub fn of(name: &[u8], words: &Words<'_>) -> Option<Called>
         ensures { result ≡ called_by words.now name.now }
     {
-        if is_name(name, b"share_hyp") {
-            return row(3, number_at(words, 2).map(|pfn| Step::ShareHyp { pfn }));
-        }
-        if is_name(name, b"unshare_hyp") {
-            return row(3, number_at(words, 2).map(|pfn| Step::UnshareHyp { pfn }));
-        }
-        if is_name(name, b"donate_hyp") {
-            return row(4, donate_hyp(words));
-        }
-        if is_name(name, b"hyp_donate_host") {
-            return row(4, hyp_donate_host(words));
-        }
-        if is_name(name, b"host_abort") {
-            return row(3, number_at(words, 2).map(|page| Step::HostAbort { page }));
-        }
-        if is_name(name, b"host_translate") {
-            return row(
-                3,
-                number_at(words, 2).map(|page| Step::HostTranslate { page }),
-            );
-        }
-        if is_name(name, b"hyp_translate") {
-            return row(
-                3,
-                number_at(words, 2).map(|page| Step::HypTranslate { page }),
-            );
-        }
-        if is_name(name, b"owner_of") {
-            return row(3, number_at(words, 2).map(|pfn| Step::OwnerOf { pfn }));
-        }
-        hand_call(name, words)
+        let call = CallName::of_word(name)?;
+        let forms = call.row().forms;
+        Some(Called {
+            words: FIRST + words_of(forms, words),
+            step: arguments_of(forms, words).map(|arguments| step_of(call, arguments)),
+        })
     }
 }
 
-/// The rows from `fund` on.
-#[tactic(auto, unfolding(crate::specs::Calls::called_in))]
-fn hand_call(name: &[u8], words: &Words<'_>) -> Option<Called>
-    ensures { result ≡ called_in hand_calls words.now name.now }
+/// How many words the line has for arguments of these forms.
+fn words_of(forms: &[Form], words: &Words<'_>) -> usize
+    ensures value { result ≡ words_from forms.now words.now 2 }
+    ensures few { result ≤ length forms.now }
 {
-    if is_name(name, b"fund") {
-        return row(4, fund(words));
+    let mut count = 0;
+    let mut place = FIRST;
+    for form in forms {
+        count += words_for(*form, words, place);
+        place += 1;
     }
-    if is_name(name, b"unfund") {
-        return row(2, Some(Step::Unfund));
-    }
-    if is_name(name, b"share_guest") {
-        return row(5 + one_more(words, 5), share_guest(words));
-    }
-    if is_name(name, b"unshare_guest") {
-        return row(4, unshare_guest(words));
-    }
-    if is_name(name, b"donate_guest") {
-        return row(4 + one_more(words, 4), donate_guest(words));
-    }
-    if is_name(name, b"guest_share_host") {
-        return row(
-            3,
-            number_at(words, 2).map(|gfn| Step::GuestShareHost { gfn }),
-        );
-    }
-    if is_name(name, b"guest_unshare_host") {
-        return row(
-            3,
-            number_at(words, 2).map(|gfn| Step::GuestUnshareHost { gfn }),
-        );
-    }
-    guest_call(name, words)
+    count
 }
 
-/// The rows from `install` on.
-#[tactic(auto, unfolding(crate::specs::Calls::called_in))]
-fn guest_call(name: &[u8], words: &Words<'_>) -> Option<Called>
-    ensures { result ≡ called_in guest_calls words.now name.now }
+/// The arguments of these forms.
+fn arguments_of(forms: &[Form], words: &Words<'_>) -> Option<Arguments>
+    ensures { result ≡ arguments_from forms.now words.now 2 blank }
 {
-    if is_name(name, b"install") {
-        return row(2, Some(Step::Install));
+    let mut arguments = Arguments::BLANK;
+    let mut place = FIRST;
+    for form in forms {
+        arguments = argument_at(*form, words, place, arguments)?;
+        place += 1;
     }
-    if is_name(name, b"topup") {
-        return row(3, vm_at(words, 2).map(|vm| Step::Topup { vm }));
-    }
-    if is_name(name, b"reclaim_page") {
-        return row(4, reclaim_page(words));
-    }
-    if is_name(name, b"reclaim_pool") {
-        return row(3, vm_at(words, 2).map(|vm| Step::ReclaimPool { vm }));
-    }
-    if is_name(name, b"finish_guest") {
-        return row(2, Some(Step::FinishGuest));
-    }
-    if is_name(name, b"guest_relax") {
-        return row(4, guest_relax(words));
-    }
-    if is_name(name, b"guest_translate") {
-        return row(4, guest_translate(words));
-    }
-    if is_name(name, b"mark_dying") {
-        return row(2, Some(Step::MarkDying));
-    }
-    vm_call(name, words)
+    Some(arguments)
 }
 
-/// The rows of VM slots.
-#[tactic(auto, unfolding(crate::specs::Calls::called_in))]
-fn vm_call(name: &[u8], words: &Words<'_>) -> Option<Called>
-    ensures { result ≡ called_in vm_calls words.now name.now }
+/// How many words the line has for an argument of this form at a place.
+fn words_for(form: Form, words: &Words<'_>, place: usize) -> usize
+    ensures value { result ≡ words_by form words.now place }
+    ensures few { result ≤ 1 }
 {
-    if is_name(name, b"vm_reserve") {
-        return row(4, vm_reserve(words));
+    match form {
+        Form::LastCount => one_more(words, place),
+        _ => 1,
     }
-    if is_name(name, b"vm_open") {
-        return row(2, Some(Step::VmOpen));
+}
+
+/// Others, with the argument of this form that stands at a place. None where the word there isn't of the form.
+pub fn argument_at(
+    form: Form,
+    words: &Words<'_>,
+    place: usize,
+    others: Arguments,
+) -> Option<Arguments>
+    ensures { result ≡ argument_by form words.now place others }
+{
+    match form {
+        Form::Frame => number_at(words, place).map(|frame| Arguments { frame, ..others }),
+        Form::Page => number_at(words, place).map(|page| Arguments { page, ..others }),
+        Form::Count => number_at(words, place).map(|count| Arguments { count, ..others }),
+        Form::LastCount => count_at(words, place).map(|count| Arguments { count, ..others }),
+        Form::Vcpus => number_at(words, place).map(|vcpus| Arguments { vcpus, ..others }),
+        Form::Vcpu => number_at(words, place).map(|vcpu| Arguments { vcpu, ..others }),
+        Form::Vm => vm_at(words, place).map(|vm| Arguments { vm, ..others }),
+        Form::Kind => kind_at(words, place).map(|kind| Arguments { kind, ..others }),
+        Form::Rights => rights_at(words, place).map(|rights| Arguments { rights, ..others }),
     }
-    if is_name(name, b"vcpu_load") {
-        return row(4, vcpu_load(words));
-    }
-    if is_name(name, b"vcpu_put") {
-        return row(2, Some(Step::VcpuPut));
-    }
-    if is_name(name, b"teardown") {
-        return row(3, vm_at(words, 2).map(|vm| Step::Teardown { vm }));
-    }
-    if is_name(name, b"vm_release") {
-        return row(2, Some(Step::VmRelease));
-    }
-    None
-}
-
-fn row(words: usize, step: Option<Step>) -> Option<Called>
-    ensures { result ≡ Some (record { words = words; step = step }) }
-{
-    Some(Called { words, step })
-}
-
-/// A donation of frames to the hypervisor.
-fn donate_hyp(words: &Words<'_>) -> Option<Step>
-    ensures { result ≡ step_from (number ∷ number ∷ []) DonateHyp words.now 2 }
-{
-    let pfn = number_at(words, 2)?;
-    let n = number_at(words, 3)?;
-    Some(Step::DonateHyp { pfn, n })
-}
-
-/// A donation of frames to the host.
-fn hyp_donate_host(words: &Words<'_>) -> Option<Step>
-    ensures { result ≡ step_from (number ∷ number ∷ []) HypDonateHost words.now 2 }
-{
-    let pfn = number_at(words, 2)?;
-    let n = number_at(words, 3)?;
-    Some(Step::HypDonateHost { pfn, n })
-}
-
-/// A funding by frames.
-fn fund(words: &Words<'_>) -> Option<Step>
-    ensures { result ≡ step_from (number ∷ number ∷ []) Fund words.now 2 }
-{
-    let pfn = number_at(words, 2)?;
-    let n = number_at(words, 3)?;
-    Some(Step::Fund { pfn, n })
-}
-
-/// A share of frames with the guest, from a page on and with rights.
-fn share_guest(words: &Words<'_>) -> Option<Step>
-    ensures { result ≡ step_from (number ∷ number ∷ rights ∷ last_number ∷ []) ShareGuest words.now 2 }
-{
-    let pfn = number_at(words, 2)?;
-    let gfn = number_at(words, 3)?;
-    let prot = rights_at(words, 4)?;
-    let n = count_at(words, 5)?;
-    Some(Step::ShareGuest { pfn, gfn, prot, n })
-}
-
-/// The end of a share with a VM's guest at a page.
-fn unshare_guest(words: &Words<'_>) -> Option<Step>
-    ensures { result ≡ step_from (vm ∷ number ∷ []) UnshareGuest words.now 2 }
-{
-    let vm = vm_at(words, 2)?;
-    let gfn = number_at(words, 3)?;
-    Some(Step::UnshareGuest { vm, gfn })
-}
-
-/// A donation of frames to the guest, from a page on.
-fn donate_guest(words: &Words<'_>) -> Option<Step>
-    ensures { result ≡ step_from (number ∷ number ∷ last_number ∷ []) DonateGuest words.now 2 }
-{
-    let pfn = number_at(words, 2)?;
-    let gfn = number_at(words, 3)?;
-    let n = count_at(words, 4)?;
-    Some(Step::DonateGuest { pfn, gfn, n })
-}
-
-/// The reclaim of a page of a VM.
-fn reclaim_page(words: &Words<'_>) -> Option<Step>
-    ensures { result ≡ step_from (vm ∷ number ∷ []) ReclaimPage words.now 2 }
-{
-    let vm = vm_at(words, 2)?;
-    let gfn = number_at(words, 3)?;
-    Some(Step::ReclaimPage { vm, gfn })
-}
-
-/// More rights for the guest at a page.
-fn guest_relax(words: &Words<'_>) -> Option<Step>
-    ensures { result ≡ step_from (number ∷ rights ∷ []) GuestRelax words.now 2 }
-{
-    let gfn = number_at(words, 2)?;
-    let prot = rights_at(words, 3)?;
-    Some(Step::GuestRelax { gfn, prot })
-}
-
-/// The call that answers a VM's entry of a page.
-fn guest_translate(words: &Words<'_>) -> Option<Step>
-    ensures { result ≡ step_from (vm ∷ number ∷ []) GuestTranslate words.now 2 }
-{
-    let vm = vm_at(words, 2)?;
-    let gfn = number_at(words, 3)?;
-    Some(Step::GuestTranslate { vm, gfn })
-}
-
-/// A reservation of a slot for a VM of a kind and a number of vCPUs.
-fn vm_reserve(words: &Words<'_>) -> Option<Step>
-    ensures { result ≡ step_from (kind ∷ number ∷ []) VmReserve words.now 2 }
-{
-    let kind = kind_at(words, 2)?;
-    let vcpus = number_at(words, 3)?;
-    Some(Step::VmReserve { kind, vcpus })
-}
-
-/// A load of a vCPU of a VM.
-fn vcpu_load(words: &Words<'_>) -> Option<Step>
-    ensures { result ≡ step_from (vm ∷ number ∷ []) VcpuLoad words.now 2 }
-{
-    let vm = vm_at(words, 2)?;
-    let vcpu = number_at(words, 3)?;
-    Some(Step::VcpuLoad { vm, vcpu })
 }

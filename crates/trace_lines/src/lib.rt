@@ -12,6 +12,7 @@ mod response;
 mod settings;
 
 pub use asked::Asked;
+pub use call::argument_at;
 pub use fault::LineFault;
 pub use grammar::said;
 pub use line::{Line, Poke, Query, Setting, TreeName};

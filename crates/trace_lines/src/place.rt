@@ -39,7 +39,7 @@ impl Allows {
         }
     }
 
-    /// What `replay` allows after it. `started`: `start` was told.
+    /// What `replay` allows after it. `started`: `start` came.
     pub fn of_replay(started: bool) -> Allows
         ensures { result ≡ of_replay_by started }
     {

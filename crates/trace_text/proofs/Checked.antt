@@ -4,8 +4,8 @@ use Rattle.call_table.specs.declared.reply.Call.{Call}
 use Rattle.call_table.specs.declared.reply.Reply.{Reply}
 use Rattle.call_table.specs.declared.step.Step.{Step}
 use Rattle.page_state.specs.Layouts.{Layout}
-use Rattle.reference_model.specs.State.{Reference}
-use Rattle.reference_model.specs.Step.{foretell}
+use Rattle.reference_model.specs.model.State.{Reference}
+use Rattle.reference_model.specs.model.Step.{foretell}
 use Rattle.ghost_spec.specs.declared.state.Ghost.{Ghost}
 use Rattle.ghost_spec.specs.States.{contents_in}
 use Rattle.ghost_judge.specs.Audits.{AuditAgrees}

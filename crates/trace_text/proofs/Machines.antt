@@ -10,8 +10,8 @@ use Rattle.page_state.specs.Trees.{Tree as ReferenceTree}
 use Rattle.page_state.specs.Accepted.{IsAcceptedConfig}
 use Rattle.page_state.specs.LayoutFaults.{IsAccepted}
 use Rattle.page_state.specs.Layouts.{Layout}
-use Rattle.reference_model.specs.Boot.{IsCarveEnough}
-use Rattle.reference_model.specs.State.{Guest as ReferenceGuest, no_guest}
+use Rattle.reference_model.specs.model.Boot.{IsCarveEnough}
+use Rattle.reference_model.specs.model.State.{Guest as ReferenceGuest, no_guest}
 use Rattle.page_state.proofs.Geometries.{levels_most}
 use Rattle.guest_component.specs.declared.body.Body.{Body}
 use Rattle.guest_component.specs.Bodies.{IsOfGeometry}

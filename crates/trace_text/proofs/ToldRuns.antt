@@ -7,10 +7,10 @@ use Rattle.page_state.specs.declared.entry.PageRange.{PageRange}
 use Rattle.call_table.specs.declared.reply.Call.{Call}
 use Rattle.call_table.specs.declared.reply.Reply.{Reply}
 use Rattle.page_state.specs.Regions.{memory_of}
-use Rattle.reference_model.specs.Boot.{boot as boot_state}
-use Rattle.reference_model.specs.Run.{IsRun, Runs as RunsBy}
-use Rattle.reference_model.specs.State.{Reference}
-use Rattle.reference_model.specs.Step.{Steps}
+use Rattle.reference_model.specs.model.Boot.{boot as boot_state}
+use Rattle.reference_model.specs.model.Run.{IsRun, Runs as RunsBy}
+use Rattle.reference_model.specs.model.State.{Reference}
+use Rattle.reference_model.specs.model.Step.{Steps}
 use Rattle.trace_text.specs.declared.fault.Fault.{Fault}
 use Rattle.trace_lines.specs.declared.fault.LineFault.{LineFault}
 use Rattle.trace_lines.specs.declared.fault.LineFault.TheVariants.{Place}

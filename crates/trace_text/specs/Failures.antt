@@ -9,14 +9,14 @@ use Rattle.trace_reader.specs.declared.outcome.EngineFault.TheVariants.{Read, Wr
 abbrev pub WritesAll : {X E : Type 0} → Option (List ℕ) → Option (List ℕ) → Result X E → List ℕ → Type 0
 WritesAll old new r bytes = MatchResult r (λ _. Appends old new bytes) (λ _. (count : ℕ) × Appends old new (take count bytes))
 
--- a failed write is told just where the sink has failed, which was once; no read is made
+-- a failed write is reported exactly if the sink has failed, which was once; no read is made
 abbrev pub TellsWrite : {X : Type 0} → ℕ → ℕ → Result X EngineFault → Type 0
 TellsWrite before after (Ok x) = after ≡ before
 TellsWrite before after (Err Read) = ⊥
 TellsWrite before after (Err Write) = after ≡ one_more before
 TellsWrite before after (Err NoMemory) = after ≡ before
 
--- a failed read is told just where the source has failed, which was once
+-- a failed read is reported exactly if the source has failed, which was once
 abbrev pub CountsReads : {X : Type 0} → ℕ → ℕ → Result X EngineFault → Type 0
 CountsReads before after (Ok x) = after ≡ before
 CountsReads before after (Err Read) = after ≡ one_more before

@@ -4,9 +4,9 @@ use Rattle.page_state.specs.declared.entry.PageRange.{PageRange}
 use Rattle.call_table.specs.declared.reply.Call.{Call}
 use Rattle.call_table.specs.declared.reply.Reply.{Reply}
 use Rattle.call_table.specs.declared.step.Step.{Step}
-use Rattle.reference_model.specs.Run.{IsRun, Runs}
-use Rattle.reference_model.specs.State.{Reference}
-use Rattle.reference_model.specs.Step.{Steps}
+use Rattle.reference_model.specs.model.Run.{IsRun, Runs}
+use Rattle.reference_model.specs.model.State.{Reference}
+use Rattle.reference_model.specs.model.Step.{Steps}
 use Rattle.trace_text.specs.declared.fault.Fault.{Fault}
 use Rattle.trace_lines.specs.declared.fault.LineFault.{LineFault}
 use Rattle.trace_lines.specs.declared.line.Line.{Line}
@@ -25,7 +25,7 @@ use Rattle.trace_text.specs.Session.{Standing, HasBooted, at_start}
 use Rattle.trace_text.specs.Worlds.{Machine, in_state}
 use Rattle.trace_lines.specs.Settings.{nothing_told}
 
--- the CPU and the reply that a response tells, if it is a step's
+-- the CPU and the reply of a response, if it is a step's
 abbrev pub reply_of : Response → Option (ℕ × Reply)
 reply_of (responses.Boot host hyp free) = None
 reply_of (responses.Step number cpu reply) = Some (cpu, reply)
@@ -33,7 +33,7 @@ reply_of (responses.Word word) = None
 reply_of (responses.Free free) = None
 reply_of (responses.Run run) = None
 
--- those that a line of a report tells
+-- those of a line of a report
 abbrev pub reply_told : ReportLine → Option (ℕ × Reply)
 reply_told (report.Response response) = reply_of response
 reply_told (report.Judged found) = None
@@ -56,7 +56,7 @@ step_said (Ok (Some (lines.Query query))) = None
 step_said (Ok (Some (lines.Poke poke))) = None
 step_said (Ok (Some lines.Start)) = None
 
--- the CPU and the step that the bytes of a line ask for; what was told before has no part in it
+-- the CPU and the step that the bytes of a line ask for, whatever came before
 abbrev pub step_asked : List ℕ → Option (ℕ × Step)
 step_asked line = step_said (said (of_replay false) nothing_told line)
 
@@ -69,7 +69,7 @@ pub record Leads (m : Machine) (cs : List Call) (t : Reference) : Type 0 where
   pub cpus : All (λ c. c.cpu < m.layout.config.cpus) cs
   pub runs : Runs (Steps m.layout) m.state cs t
 
--- a report tells a run of the reference step from a machine's state: of the steps that the trace asks for those before its first
+-- a report is that of a run of the reference step from a machine's state: of the steps that the trace asks for those before its first
 -- fault, which are all where the report ends without one, are made, and what its step lines tell are their CPUs and replies
 pub record TellsRun (m : Machine) (trace : List (List ℕ)) (reported : List ReportLine) (outcome : Outcome) : Type 0 where
   pub calls : List Call
@@ -103,7 +103,7 @@ module _ (gives : Gives) where
   Prepares number old [] new = new ≡ old
   Prepares number old (line ∷ rest) new = (next : Standing) × IsPlayed gives number line old (Ok []) next × Prepares (number + 1) next rest new
 
-  -- a boot line of a trace, from a line of the trace on: the lines in front of it have told its settings, a carve-out among them
+  -- a boot line of a trace, from a line of the trace on: the lines in front of it have given its settings, a carve-out among them
   pub record BootLine (number : ℕ) (start : Standing) (trace : List (List ℕ)) : Type 0 where
     pub front : List (List ℕ)
     pub boot : List ℕ
@@ -114,7 +114,7 @@ module _ (gives : Gives) where
     pub carve : PageRange
     pub carved : old.told.carve ≡ Some carve
 
-  -- a report, from a line of the trace on, whose first line tells of a boot, and the other lines of a run of the booted machine from the boot state
+  -- a report, from a line of the trace on, whose first line is that of a boot, and the other lines those of a run of the booted machine from the boot state
   pub record TellsBoot (number : ℕ) (start : Standing) (trace : List (List ℕ)) (reported : List ReportLine) (outcome : Outcome) : Type 0 where
     pub at : BootLine number start trace
     pub machine : Machine
@@ -127,7 +127,7 @@ module _ (gives : Gives) where
     pub run : TellsRun machine trace more outcome
     pub ends : IsRun machine.layout run.calls run.last
 
-  -- where a machine stands, the report of the lines from there on tells a run of the reference step
+  -- if there is a machine, the report of the lines from there on is that of a run of the reference step
   abbrev pub MachineRuns : Type 0
   MachineRuns = (number : ℕ) (old : Standing) (m : Machine) (trace : List (List ℕ)) (reported : List ReportLine) (outcome : Outcome)
       → old.machine ≡ Some m → IsReport gives number old trace reported outcome → TellsRun m trace reported outcome
@@ -152,12 +152,12 @@ module _ (gives : Gives) where
   MachineReaches = (number : ℕ) (old : Standing) (m : Machine) (front rest : List (List ℕ)) (reported : List ReportLine) (outcome : Outcome)
       → old.machine ≡ Some m → IsReport gives number old (front ++ rest) reported outcome → StopsIn number front reported outcome ⊎ Reaches number m front rest reported outcome
 
-  -- the report of a trace tells of no boot, or of one and then of a run from there
+  -- the report of a trace has no boot, or one and then a run from there
   abbrev pub TraceRuns : Type 0
   TraceRuns = (trace : List (List ℕ)) (reported : List ReportLine) (outcome : Outcome)
       → IsReport gives 1 at_start trace reported outcome → TellsNoBoot trace reported outcome ⊎ TellsBoot 1 at_start trace reported outcome
 
--- a line that tells of no disagreement
+-- a line without a disagreement
 abbrev pub IsAgreeing : ReportLine → Type 0
 IsAgreeing (report.Response response) = ⊤
 IsAgreeing (report.Judged found) = ⊥
@@ -170,7 +170,7 @@ pub record HasNoDisagreement (reported : List ReportLine) (outcome : Outcome) : 
   pub lines : All IsAgreeing reported
   pub outcome_is : outcome ≡ outcomes.Disagreed → ⊥
 
--- a replay whose oracle finds no disagreement tells of none
+-- a replay whose oracle finds no disagreement reports none
 abbrev pub TraceAgrees : Type 0
 TraceAgrees = (trace : List (List ℕ)) (reported : List ReportLine) (outcome : Outcome)
     → IsReport agreed 1 at_start trace reported outcome → HasNoDisagreement reported outcome

@@ -4,8 +4,8 @@ use Rattle.call_table.specs.declared.reply.Call.{Call}
 use Rattle.call_table.specs.declared.reply.Reply.{Reply}
 use Rattle.call_table.specs.declared.step.Step.{Step}
 use Rattle.page_state.specs.LayoutView.{layout_of}
-use Rattle.reference_model.specs.State.{Reference}
-use Rattle.reference_model.specs.Step.{Steps}
+use Rattle.reference_model.specs.model.State.{Reference}
+use Rattle.reference_model.specs.model.Step.{Steps}
 use Rattle.ghost_spec.specs.declared.state.Ghost.{Ghost}
 use Rattle.ghost_spec.specs.States.{contents_in, ghost_state}
 use Rattle.ghost_judge.specs.declared.disagreement.Disagreement.{Disagreement}
@@ -21,7 +21,7 @@ use Rattle.trace_text.specs.Worlds.{Machine}
 abbrev pub Gives : Type 1
 Gives = Machine → Call → Reference → Verdict → Type 0
 
--- it tells of no disagreement
+-- it reports no disagreement
 pub record IsAgreed (v : Verdict) : Type 0 where
   pub judged : v.judged ≡ None
   pub audited : v.audited ≡ None
@@ -30,7 +30,7 @@ pub record IsAgreed (v : Verdict) : Type 0 where
 abbrev pub agreed : Gives
 agreed m c t v = IsAgreed v
 
--- states are those of a call that leads from a machine's state to another, in which what is kept is what walks find
+-- states are those of a call that leads from a machine's state to another, in which the kept state is what walks find
 pub record IsShown (m : Machine) (c : Call) (t : Reference) (before : Ghost) (cpu : ℕ) (step : Step) (reply : Reply) (after walked : Ghost) : Type 0 where
   pub layout : layout_of before.layout ≡ m.layout
   pub before_is : ghost_state before ≡ m.state
@@ -41,7 +41,7 @@ pub record IsShown (m : Machine) (c : Call) (t : Reference) (before : Ghost) (cp
   pub after_is : ghost_state after ≡ t
   pub walked_is : ghost_state walked ≡ t
 
--- a verdict may be told of each call of which these are the states
+-- a verdict may be given of each call with these states
 abbrev pub TellsShown : Gives → Ghost → ℕ → Step → Reply → Compared → Verdict → Type 0
 TellsShown gives before cpu step reply after v = (m : Machine) (c : Call) (t : Reference) → IsShown m c t before cpu step reply after.kept (walked_in after) → gives m c t v
 
@@ -53,7 +53,7 @@ StepAgrees before cpu step reply after = JudgeAgrees (contents_in before) step r
 abbrev pub IsFirstOfStep : Ghost → ℕ → Step → Reply → Ghost → Disagreement → Type 0
 IsFirstOfStep before cpu step reply after = IsFirstJudged (contents_in before) step reply (contents_in after) (told_of before cpu step)
 
--- the line of the report that tells what a judgement found, if anything
+-- the line of the report with a judgement's finding, if there is one
 abbrev pub judged_lines : Option Disagreement → List ReportLine
 judged_lines None = []
 judged_lines (Some d) = report.Judged d ∷ []

@@ -12,7 +12,7 @@ pub record IsStateAt {A : Type 0} (w : World A) (g : Ghost) : Type 0 where
   pub state : ghost_state g ≡ state_of w.parts
   pub layout : layout_of g.layout ≡ parts_layout w.parts
 
--- what is remembered is the world's state, and no step had more than two disagreements
+-- the remembered state is the world's, and no step had more than two disagreements
 pub record IsReady {A : Type 0} (s : Session A) : Type 0 where
   pub remembered : IfSome s.world (λ w. IfSome s.state (IsStateAt w))
   pub few : s.disagreements ≤ 2 * s.steps

@@ -11,7 +11,7 @@ use Rattle.trace_text.specs.declared.session.Stop.TheVariants as stops
 use Rattle.trace_text.specs.Session.{Answer}
 use Rattle.trace_text.specs.Texts.{text_of_report}
 
--- the lines of a report that an answer begins: a fault ends it, else the report of what follows stands behind it
+-- the lines of a report that an answer begins: a fault ends it, otherwise the report of the rest follows
 abbrev pub Begins : ℕ → Answer → (List ReportLine → Outcome → Type 0) → List ReportLine → Outcome → Type 0
 Begins number (Err (stops.Fault fault)) follows lines outcome = (lines ≡ report.Fault number fault ∷ []) × (outcome ≡ outcomes.Fault)
 Begins number (Err stops.NoMemory) follows lines outcome = ⊥

@@ -12,8 +12,8 @@ use Rattle.call_table.specs.declared.step.Step.{Step}
 use Rattle.hypercalls.specs.Booted.{IsBooted}
 use Rattle.world.specs.declared.World.{World}
 use Rattle.world.specs.Boots.{IsNoBoot}
-use Rattle.reference_model.specs.State.{Reference}
-use Rattle.reference_model.specs.Step.{Steps}
+use Rattle.reference_model.specs.model.State.{Reference}
+use Rattle.reference_model.specs.model.Step.{Steps}
 use Rattle.trace_text.specs.declared.fault.Fault.{Fault}
 use Rattle.trace_text.specs.declared.fault.Fault.TheVariants as faults
 use Rattle.trace_lines.specs.declared.fault.LineFault.{LineFault}
@@ -38,8 +38,8 @@ use Rattle.trace_lines.specs.Settings.{Told, nothing_told, told_after, config_of
 use Rattle.trace_text.specs.Oracles.{Gives, verdict_lines}
 use Rattle.trace_text.specs.Worlds.{Machine, HasMaplets, IsBootOf, IsWordOn, in_state, tree_told, tables_told, free_told, guest_free_told}
 
--- where a trace stands: what was told, the machine once it is booted, whether `start` was told, how many step lines were carried out, and how many
--- disagreements were told
+-- the progress of a trace: the settings, the machine once it is booted, whether `start` came, how many step lines were carried out, and how many
+-- disagreements were reported
 pub record Standing : Type 0 where
   pub told : Told
   pub machine : Option Machine
@@ -64,7 +64,7 @@ Answer = Result (List ReportLine) Stop
 abbrev pub Faults : Fault → Standing → Answer → Standing → Type 0
 Faults fault old answer new = (answer ≡ Err (stops.Fault fault)) × (new ≡ old)
 
--- a setting is told, and reports nothing; only memory can be wanting
+-- a setting is taken up, and reports nothing; only memory can run out
 abbrev pub Tells : Setting → Standing → Answer → Standing → Type 0
 Tells setting old answer new =
     MatchResult answer (λ reported. (reported ≡ []) × (new ≡ record old { told = told_after setting old.told })) (λ stop. (stop ≡ stops.NoMemory) × (new ≡ old))
@@ -92,7 +92,7 @@ IsWorldOf memory config answer = MatchResult answer (λ w. IsBooted memory confi
 abbrev pub IsMemoryOf : Memory → Result Memory Stop → Type 0
 IsMemoryOf memory answer = MatchResult answer (λ m. (m ≡ memory) × IsAccepted memory) (λ stop. (config : Config) → IsNoWorld stop memory config)
 
--- the machine of what was told has booted, and the line tells its tables and free frames
+-- the machine of the settings has booted, and the line has its tables and free frames
 pub record HasBooted (carve : PageRange) (old : Standing) (m : Machine) (reported : Response) (new : Standing) : Type 0 where
   pub booted : IsBootOf (memory_of old.told.regions carve) (config_of old.told) m
   pub line : reported ≡ responses.Boot (tables_told m Host) (tables_told m Hyp) (free_told m)
@@ -127,7 +127,7 @@ Answers (queries.Show tree) m old answer new = (runs : List Run) × HasMaplets (
 
 -- what lines do where an oracle is asked after each step
 module _ (gives : Gives) where
-  -- a step of a CPU: a call of it leads by the reference step to the next state; its reply is told, and then what the oracle tells of it
+  -- a step of a CPU: a call of it leads by the reference step to the next state; its reply is reported, and then the oracle's finding
   pub record IsStepped (number cpu : ℕ) (step : Step) (m : Machine) (old : Standing) (answer : Answer) (new : Standing) : Type 0 where
     pub call : Call
     pub next : Reference

@@ -1,4 +1,4 @@
--- Where a session of code stands.
+-- The progress of a session of code.
 use Rattle.std.specs.Prelude.{ℕ, List, [], ◌∷◌, map, slice_get, Option, Some, None, Result, Ok, Err, option_and_then, option_map}
 use Rattle.guest_component.specs.declared.body.Body.{Body}
 use Rattle.guest_component.specs.View.{runs_of}
@@ -20,11 +20,11 @@ use Rattle.trace_text.specs.Session.{Answer, Standing}
 use Rattle.trace_text.specs.Worlds.{Machine}
 use Rattle.world.specs.declared.World.{World}
 
--- the machine that a world stands for
+-- the machine that a world represents
 abbrev pub machine_of : {A : Type 0} → World A → Machine
 machine_of w = record { layout = parts_layout w.parts; state = state_of w.parts }
 
--- where a session stands
+-- the progress of a session
 abbrev pub standing_of : {A : Type 0} → Session A → Standing
 standing_of s = record { told = told_of s.settings; machine = option_map machine_of s.world; started = s.started; steps = s.steps; disagreements = s.disagreements }
 

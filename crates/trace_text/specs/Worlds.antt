@@ -1,4 +1,4 @@
--- A booted machine, and what a report tells of it, in the words of the reference state (profile).
+-- A booted machine, and what a report says of it, in the words of the reference state (profile).
 use Rattle.std.specs.Prelude.{◌≡◌, ℕ, ◌+◌, ◌-◌, ◌<◌, ◌≤◌, Option, Some, None, IsSome, is_some, filter, length, List}
 use Rattle.page_state.specs.Blocks.{block_at}
 use Rattle.page_state.specs.Geometries.{pages_below}
@@ -8,8 +8,8 @@ use Rattle.page_state.specs.declared.entry.Run.{Run}
 use Rattle.page_state.specs.Regions.{Memory}
 use Rattle.page_state.specs.Runs.{IsCoarsest, map_of}
 use Rattle.page_state.specs.Trees.{Tree}
-use Rattle.reference_model.specs.Boot.{CanBoot, boot}
-use Rattle.reference_model.specs.State.{Reference}
+use Rattle.reference_model.specs.model.Boot.{CanBoot, boot}
+use Rattle.reference_model.specs.model.State.{Reference}
 use Rattle.table_tree.specs.AllBlocks.{blocks_in}
 use Rattle.table_tree.specs.Said.{block_above, IsWordOf, IsRunOrTable}
 use Rattle.trace_lines.specs.declared.line.TreeName.{TreeName}
@@ -37,7 +37,7 @@ tree_told m Host = m.state.contents.shared.host
 tree_told m Hyp = m.state.contents.shared.hyp
 tree_told m (Guest slot) = (m.state.contents.guest slot).tree
 
--- the number of a tree's tables: that of the blocks, from the one of all pages down, at which one stands
+-- the number of a tree's tables: that of the blocks, from the one of all pages down, that have one
 abbrev pub tables_told : Machine → TreeName → ℕ
 tables_told m tree = length (filter (λ b. is_some ((tree_told m tree).table b)) (blocks_in (m.layout.depth + 1) 0))
 
@@ -49,7 +49,7 @@ free_told m = length m.state.contents.shared.free
 abbrev pub guest_free_told : Machine → ℕ → ℕ
 guest_free_told m slot = length (m.state.contents.guest slot).free
 
--- a tree with that many levels below its root's has a word on a page's path at a level: it has a root, which an Empty guest's tree hasn't, the page is good, the level is none above the root's, and below the root's the table stands that has the word
+-- a tree with that many levels below its root's has a word on a page's path at a level: it has a root, which an Empty guest's tree hasn't, the page is good, the level is none above the root's, and below the root's there is the table that has the word
 pub record HasWordOn (depth : ℕ) (tree : Tree) (page level : ℕ) : Type 0 where
   pub root : IsSome (tree.table (depth + 1, 0))
   pub good : page < pages_below depth

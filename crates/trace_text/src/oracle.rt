@@ -5,7 +5,7 @@ ghost use Rattle.ghost_oracle.specs.Compared.{walked_in};
 ghost use Rattle.ghost_spec.specs.Kept.{HasNextGeneration};
 ghost use Rattle.ghost_spec.specs.States.{contents_in};
 ghost use Rattle.call_table.specs.declared.reply.Call.{Call};
-ghost use Rattle.reference_model.specs.State.{Reference};
+ghost use Rattle.reference_model.specs.model.State.{Reference};
 ghost use Rattle.trace_text.specs.Oracles.{IsAgreed, IsFirstOfStep, StepAgrees, TellsShown, agreed, audited_lines, judged_lines, verdict_lines};
 ghost use Rattle.trace_text.specs.Worlds.{Machine};
 
@@ -21,7 +21,7 @@ use std::alloc::{AllocError, Global};
 pub struct Verdict {
     /// Where its reply, or the state after it, is not what the model says.
     pub judged: Option<Disagreement>,
-    /// Where what is kept after it is not what walking every word finds.
+    /// Where the kept state after it is not what walking every word finds.
     pub audited: Option<Disagreement>,
 }
 

@@ -56,7 +56,7 @@ pub struct Session<A: Allocator> {
     world: Option<World<A>>,
     /// What the world keeps, where a step was made: the state before the next one.
     state: Option<Ghost>,
-    /// Whether `start` was told.
+    /// Whether `start` came.
     started: bool,
     steps: u64,
     disagreements: u64,
@@ -83,7 +83,7 @@ impl<A: Allocator + Copy> Session<A> {
         }
     }
 
-    /// What was told before the boot.
+    /// The settings before the boot.
     pub fn settings(&self) -> &Settings
         ensures { told_of result.now ≡ (standing_of self.now).told }
     {
@@ -97,7 +97,7 @@ impl<A: Allocator + Copy> Session<A> {
         self.world.is_some()
     }
 
-    /// Whether `start` was told.
+    /// Whether `start` came.
     pub fn has_started(&self) -> bool
         ensures { result ≡ (standing_of self.now).started }
     {
@@ -239,7 +239,7 @@ impl<A: Allocator + Copy> Session<A> {
         }
     }
 
-    /// Takes up that `start` was told.
+    /// Takes up that `start` came.
     fn start(&mut self) -> Result<Reported, Stop>
         requires ready { IsReady self.old }
         ensures done { OnMachine Starts (standing_of self.old) (answer_of self.new result) (standing_of self.new) }

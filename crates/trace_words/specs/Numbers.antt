@@ -19,7 +19,7 @@ abbrev pub value_of : ℕ → List ℕ → ℕ
 value_of base [] = 0
 value_of base (digit ∷ digits) = digit_of digit * base ^ length digits + value_of base digits
 
--- decimal digits, of which the first isn't 0 unless it stands alone
+-- decimal digits, of which the first isn't 0 unless it is the only one
 abbrev pub is_decimal : List ℕ → Bool
 is_decimal [] = false
 is_decimal (digit ∷ digits) = (nat_lt 48 digit || length digits == 0) && list_all is_decimal_digit (digit ∷ digits)

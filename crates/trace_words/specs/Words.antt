@@ -17,7 +17,7 @@ abbrev pub is_silent : List ℕ → Bool
 is_silent [] = true
 is_silent (first ∷ rest) = first == 0x23
 
--- the words of a line: what stands before, between and behind its spaces
+-- the words of a line: the bytes before, between and behind its spaces
 abbrev pub words_of : List ℕ → List (List ℕ)
 words_of line = slice_split (λ byte. byte == 0x20) line
 
@@ -29,7 +29,7 @@ has_empty_word words = list_any (λ word. length word == 0) words
 abbrev pub has_stray_space : List ℕ → Bool
 has_stray_space line = has_empty_word (words_of line)
 
--- what is kept of words: the first eight, how many they are, and whether one has no byte
+-- the kept words: the first eight, how many there are, and whether one has no byte
 pub record AreKept {X : Type 0} (now : X → List ℕ) (kept : List X) (count : ℕ) (has_empty : Bool) (words : List (List ℕ)) : Type 0 where
   pub first : map now kept ≡ take 8 words
   pub number : count ≡ length words

@@ -1,6 +1,6 @@
 use Rattle.std.proofs.Common.{◌≤◌, get_or, map}
 use Rattle.ghost_spec.specs.States.{guest_in}
-use Rattle.reference_model.specs.State.{no_guest}
+use Rattle.reference_model.specs.model.State.{no_guest}
 use Rattle.state_changes.specs.Changed.{guest_name, TellsEntries}
 use Rattle.state_changes.specs.Together.{Adds, Each}
 use Rattle.state_changes.proofs.told.add_guest_maps.Given as goal

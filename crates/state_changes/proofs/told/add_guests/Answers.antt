@@ -1,6 +1,6 @@
 use Rattle.std.proofs.Common.{◌≡◌, ◌<◌, get_or, map, subst, arith}
 use Rattle.ghost_spec.specs.States.{guest_in}
-use Rattle.reference_model.specs.State.{Guest, no_guest}
+use Rattle.reference_model.specs.model.State.{Guest, no_guest}
 use Rattle.state_changes.specs.Changed.{TellsGuest}
 use Rattle.state_changes.specs.Together.{Adds, Each}
 use Rattle.state_changes.proofs.Read.{read_view}

@@ -1,7 +1,7 @@
 use Rattle.std.proofs.Common.{subst}
 use Rattle.ghost_spec.specs.States.{contents_in}
 use Rattle.ghost_spec.specs.Views.{cpu_in}
-use Rattle.reference_model.specs.State.{Cpu}
+use Rattle.reference_model.specs.model.State.{Cpu}
 use Rattle.state_changes.specs.Changed.{TellsCpu}
 use Rattle.state_changes.specs.Together.{Adds}
 use Rattle.state_changes.proofs.told.add_own.Goals as goal

@@ -1,6 +1,6 @@
 use Rattle.std.proofs.Common.{◌≤◌, get_or, map}
 use Rattle.ghost_spec.specs.States.{slot_in}
-use Rattle.reference_model.specs.State.{no_slot}
+use Rattle.reference_model.specs.model.State.{no_slot}
 use Rattle.state_changes.specs.Changed.{TellsSlot}
 use Rattle.state_changes.specs.Together.{Adds, Each}
 use Rattle.state_changes.proofs.told.add_slots.Given as goal

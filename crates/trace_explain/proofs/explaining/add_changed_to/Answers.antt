@@ -1,6 +1,6 @@
 use Rattle.std.proofs.Common.{OnOk, ap, subst}
 use Rattle.ghost_spec.specs.States.{contents_in}
-use Rattle.reference_model.specs.State.{Contents, Reference}
+use Rattle.reference_model.specs.model.State.{Contents, Reference}
 use Rattle.state_changes.specs.Changed.{TellsAll}
 use Rattle.state_changes.specs.Together.{Adds}
 use Rattle.trace_explain.proofs.explaining.add_changed_to.Goals as goal

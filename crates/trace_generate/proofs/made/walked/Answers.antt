@@ -7,7 +7,7 @@ use Rattle.trace_generate.proofs.Walked.{one_more}
 use Rattle.trace_generate.proofs.made.walked.Goals as goal
 
 pub loop-number-preserved : goal.loop-number-preserved
-loop-number-preserved c =
+loop-number-preserved g c =
     let kept = c.loop-number.invariant.layout in
     let l = layout_of c.args.state.now.layout in
     let s = ghost_state c.loop-number.state in
